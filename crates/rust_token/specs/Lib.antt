@@ -1,0 +1,10 @@
+pub mod Chars
+pub mod Places
+pub mod Piece
+pub mod Cover
+pub mod Token
+pub mod Groups
+pub mod Forest
+pub mod Spacing
+pub mod Printed
+pub mod Lexemes
