@@ -1,7 +1,6 @@
 -- The pieces of a text. Each class is a set of texts, with a condition on what follows.
 use Rattle.std.specs.Prelude.{◌≡◌, ℕ, Bool, true, false, ◌&&◌, ◌||◌, ◌==◌, not, List, [], ◌∷◌, ◌++◌, ◌⊎◌}
 use Rattle.rust_token.specs.Chars.{is_white, is_first, is_next, is_mark, begins, passes}
-
 pub use Rattle.rust_token.specs.declared.delimiter.Delimiter.{Delimiter}
 pub use Rattle.rust_token.specs.declared.delimiter.Delimiter.TheVariants.{Parenthesis, Brace, Bracket}
 pub use Rattle.rust_token.specs.declared.piece.PieceKind.{PieceKind}

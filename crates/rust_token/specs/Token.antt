@@ -3,7 +3,6 @@
 use Rattle.std.specs.Prelude.{ℕ, ◌+◌, Bool, cond, List, [], ◌∷◌, ◌++◌, length, map}
 use Rattle.rust_token.specs.Piece.{Delimiter, PieceKind, White, Open, Close, Mark, Ident, Piece, begins_mark}
 use Rattle.rust_token.specs.Cover.{onto}
-
 pub use Rattle.rust_token.specs.declared.lexeme.Spacing.{Spacing}
 pub use Rattle.rust_token.specs.declared.lexeme.Spacing.TheVariants.{Alone, Joint}
 

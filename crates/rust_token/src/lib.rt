@@ -9,7 +9,7 @@
 //! - `lexeme`: a token of a text, by where it stands.
 #![tactic(auto)]
 
-pub mod place;
 pub mod delimiter;
-pub mod piece;
 pub mod lexeme;
+pub mod piece;
+pub mod place;

@@ -1,0 +1,34 @@
+-- What the program says of a fault, and the status with which it ends.
+use Rattle.std.specs.Prelude.{ℕ, List, [], ◌∷◌, ◌++◌, Option, Some, None, Result, Ok, Err, codes}
+use Rattle.std.specs.Fmt.{decimal}
+use Rattle.rust_token.specs.declared.place.LineColumn.{LineColumn}
+use Rattle.canon.specs.declared.fault.Fault.{Fault}
+use Rattle.canon.specs.declared.fault.Fault.TheVariants.{NotUtf8, Lexical, Syntax, MapFull, Memory, Reading, Writing}
+
+-- a place as its line, a colon and its column
+abbrev pub shown_place : LineColumn → List ℕ
+shown_place p = decimal p.line ++ codes ":" ++ decimal p.column
+
+abbrev pub syntax_message : Option LineColumn → List ℕ
+syntax_message None = codes "syntax fault at end of input: unexpected token"
+syntax_message (Some p) = codes "syntax fault at " ++ shown_place p ++ codes ": unexpected token"
+
+abbrev pub message : Fault → List ℕ
+message NotUtf8 = codes "not UTF-8"
+message (Lexical p) = codes "lexical fault at " ++ shown_place p
+message (Syntax p) = syntax_message p
+message MapFull = codes "source map full"
+message Memory = codes "out of memory"
+message Reading = codes "reading failed"
+message Writing = codes "writing failed"
+
+-- 0 where the text was written; 1 where it is at fault; 3 where something else failed
+abbrev pub status_of : Result (Unit {0}) Fault → ℕ
+status_of (Ok _) = 0
+status_of (Err NotUtf8) = 1
+status_of (Err (Lexical p)) = 1
+status_of (Err (Syntax p)) = 1
+status_of (Err MapFull) = 3
+status_of (Err Memory) = 3
+status_of (Err Reading) = 3
+status_of (Err Writing) = 3
