@@ -1,0 +1,3 @@
+pub mod Watch
+pub mod Answers
+pub mod Watched
