@@ -1,1 +1,3 @@
 -- The proofs of this crate.
+pub mod Retries
+pub mod Fronts

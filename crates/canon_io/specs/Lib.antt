@@ -1,3 +1,4 @@
 pub mod Watch
 pub mod Answers
 pub mod Watched
+pub mod Bytes

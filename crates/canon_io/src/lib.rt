@@ -8,3 +8,5 @@
 
 pub mod watch;
 pub mod watched;
+pub mod reading;
+pub mod writing;
