@@ -1,0 +1,16 @@
+-- Places in the bytes of a text, and the characters from a place on.
+use Rattle.std.specs.Prelude.{ℕ, ◌<◌, ◌≤◌, List, length, drop, Option, MatchOption, ◌≡◌}
+use Rattle.std.specs.Str.{chars, IsUtf8}
+
+abbrev pub rest_at : List ℕ → ℕ → List ℕ
+rest_at bytes at = chars (drop at bytes)
+
+-- a character begins there, or the text ends
+pub record IsPlace (bytes : List ℕ) (at : ℕ) : Type 0 where
+  pub within : at ≤ length bytes
+  pub cut : IsUtf8 (drop at bytes)
+
+-- a place behind another
+pub record IsBehind (bytes : List ℕ) (start at : ℕ) : Type 0 where
+  pub place : IsPlace bytes at
+  pub on : start < at
