@@ -6,3 +6,6 @@ pub mod Raw
 pub mod Complete
 pub mod Sound
 pub mod OneCover
+pub mod Within
+pub mod Covering
+pub mod Reading

@@ -1,2 +1,4 @@
 pub mod Places
 pub mod Scan
+pub mod Opened
+pub mod Faults

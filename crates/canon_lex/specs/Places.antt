@@ -1,5 +1,5 @@
 -- Places in the bytes of a text, and the characters from a place on.
-use Rattle.std.specs.Prelude.{ℕ, ◌<◌, ◌≤◌, List, length, drop, Option, MatchOption, ◌≡◌}
+use Rattle.std.specs.Prelude.{ℕ, ◌<◌, ◌≤◌, List, length, take, drop}
 use Rattle.std.specs.Str.{chars, IsUtf8}
 
 abbrev pub rest_at : List ℕ → ℕ → List ℕ
@@ -14,3 +14,7 @@ pub record IsPlace (bytes : List ℕ) (at : ℕ) : Type 0 where
 pub record IsBehind (bytes : List ℕ) (start at : ℕ) : Type 0 where
   pub place : IsPlace bytes at
   pub on : start < at
+
+-- the number of characters before a place
+abbrev pub count_before : List ℕ → ℕ → ℕ
+count_before bytes at = length (chars (take at bytes))

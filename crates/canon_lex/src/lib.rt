@@ -16,3 +16,5 @@
 
 pub mod text;
 pub mod scan;
+pub mod groups;
+pub mod lex;

@@ -5,7 +5,7 @@ use Rattle.rust_token.specs.declared.place.LineColumn.{LineColumn}
 use Rattle.rust_token.specs.Places.{place_of}
 use Rattle.rust_token.specs.Piece.{Delimiter, Piece, closing}
 use Rattle.rust_token.specs.Cover.{onto, Covers, IsCover, NoPiece}
-use Rattle.rust_token.specs.Token.{Spanned, tokens_of}
+use Rattle.rust_token.specs.Token.{Token, Spanned, tokens_of, plain}
 use Rattle.rust_token.specs.Groups.{Group, closed, groups_open, IsMatched}
 
 -- the tokens of the text's cover, each group of which is closed by its own mark
@@ -14,6 +14,12 @@ pub record IsForest (text : List ℕ) (tokens : List Spanned) : Type 0 where
   pub cover : IsCover text pieces
   pub tokens_are : tokens_of 0 pieces [] ≡ tokens
   pub matched : IsMatched tokens
+
+-- the text has a forest, whose tokens these are, wherever they stand
+pub record HasForest (text : List ℕ) (tokens : List Token) : Type 0 where
+  pub spanned : List Spanned
+  pub forest : IsForest text spanned
+  pub plain_are : plain spanned ≡ tokens
 
 -- pieces cover the text up to a rest, before which these groups are open
 pub record Reaches (text : List ℕ) (pieces : List Piece) (rest : List ℕ) (groups : List Group) : Type 0 where

@@ -1,7 +1,7 @@
 -- Groups: which of them are open after some tokens.
 use Rattle.std.specs.Prelude.{◌≡◌, ℕ, Bool, true, false, cond, List, [], ◌∷◌, Option, Some, None}
 use Rattle.rust_token.specs.Piece.{Delimiter, Parenthesis, Brace, Bracket}
-use Rattle.rust_token.specs.Token.{Token, Opens, Closes, Word, Sign, Spanned}
+use Rattle.rust_token.specs.Token.{Token, Opens, Closes, Word, Sign, Spanned, placed}
 
 abbrev pub same_delimiter : Delimiter → Delimiter → Bool
 same_delimiter Parenthesis Parenthesis = true
@@ -34,3 +34,7 @@ groups_open gs (s ∷ ss) = elim (groups_behind gs s.token s.at) [ None ↦ None
 -- each group is closed by its own mark
 abbrev pub IsMatched : List Spanned → Type 0
 IsMatched ts = groups_open [] ts ≡ Some []
+
+-- the same of tokens alone: where they stand does not matter
+abbrev pub AreMatched : List Token → Type 0
+AreMatched ts = IsMatched (placed 0 ts)

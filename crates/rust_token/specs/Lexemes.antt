@@ -1,6 +1,6 @@
 -- The tokens that lexemes stand for, in the bytes of a text.
 use Rattle.std.specs.Prelude.{ℕ, ◌-◌, ◌≤◌, List, [], ◌∷◌, length, take, drop, map}
-use Rattle.std.specs.Str.{chars, IsUtf8}
+use Rattle.std.specs.Str.{chars, IsCharBoundary}
 use Rattle.rust_token.specs.Token.{Token, Opens, Closes, Word, Sign, Spanned, head}
 use Rattle.rust_token.specs.declared.lexeme.LexemeKind.{LexemeKind}
 use Rattle.rust_token.specs.declared.lexeme.LexemeKind.TheVariants.{Open, Close, Mark, Ident}
@@ -30,13 +30,8 @@ tokens_at bytes ls = map (token_at bytes) ls
 abbrev pub spanned_tokens : List ℕ → List Lexeme → List Spanned
 spanned_tokens bytes ls = map (spanned_at bytes) ls
 
--- a character begins at the place, in bytes, or the text ends there
-pub record IsPlace (bytes : List ℕ) (at : ℕ) : Type 0 where
-  pub within : at ≤ length bytes
-  pub cut : IsUtf8 (drop at bytes)
-
--- the lexeme lies between two places of the text
+-- a lexeme stands between two places of a text: a character begins at each, or the text ends there
 pub record IsWithin (bytes : List ℕ) (l : Lexeme) : Type 0 where
-  pub ordered : l.start ≤ l.«end»
-  pub start : IsPlace bytes l.start
-  pub «end» : IsPlace bytes l.«end»
+  pub order : l.start ≤ l.«end»
+  pub starts : IsCharBoundary bytes l.start
+  pub ends : IsCharBoundary bytes l.«end»
