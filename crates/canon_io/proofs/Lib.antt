@@ -1,3 +1,4 @@
 -- The proofs of this crate.
 pub mod Retries
 pub mod Fronts
+pub mod Runs

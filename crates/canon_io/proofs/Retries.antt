@@ -1,8 +1,6 @@
 -- How often a call may still be interrupted.
-use Rattle.std.proofs.Common.{◌≡◌, ◌≢◌, ℕ, ◌+◌, ◌-◌, ◌<◌, Bool, true, false, refl, nat_lt, if◌then◌else◌, arith, Result, Ok, Err, List}
+use Rattle.std.proofs.Common.{◌≡◌, ◌≢◌, ℕ, ◌+◌, ◌-◌, ◌<◌, false, refl, arith, Ok, List}
 use Rattle.std.proofs.lemmas.Grind.{common_steps}
-use Rattle.std.specs.IoError.{error_kind}
-use Rattle.std.specs.declared.io.Error.{Error}
 use Rattle.std.specs.declared.io.ErrorKind.{ErrorKind}
 use Rattle.std.specs.declared.io.ErrorKind.TheVariants.{Interrupted}
 use Rattle.canon_io.specs.declared.watch.Answer.{Answer}
@@ -10,7 +8,7 @@ use Rattle.canon_io.specs.declared.watch.Answer.TheVariants.{Normal, Interruptio
 use Rattle.canon_io.specs.declared.watch.Watch.{Watch}
 use Rattle.canon_io.specs.declared.watch.Watch.TheVariants.{Sound, Failed}
 use Rattle.canon_io.specs.Watch.{after, failed}
-use Rattle.canon_io.specs.Answers.{answer_of_kind, answer_of, write_answer}
+use Rattle.canon_io.specs.Answers.{answer_of_kind, write_answer}
 
 -- how many calls may still be interrupted in a row, and one more; 0 where one failed
 abbrev pub retries_left : Watch → ℕ

@@ -2,3 +2,4 @@ pub mod Watch
 pub mod Answers
 pub mod Watched
 pub mod Bytes
+pub mod Runs

@@ -1,5 +1,5 @@
 -- What is remembered of the calls of a reader or a writer, and how each answer changes it.
-use Rattle.std.specs.Prelude.{ℕ, ◌+◌, Bool, true, false, List, [], ◌∷◌, nat_lt, if◌then◌else◌}
+use Rattle.std.specs.Prelude.{◌+◌, Bool, true, false, List, [], ◌∷◌, nat_lt, if◌then◌else◌}
 use Rattle.canon_io.specs.declared.watch.Answer.{Answer}
 use Rattle.canon_io.specs.declared.watch.Answer.TheVariants.{Normal, Interruption, Failure}
 use Rattle.canon_io.specs.declared.watch.Watch.{Watch}

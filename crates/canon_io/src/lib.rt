@@ -4,9 +4,11 @@
 //! - `watched`: a reader or a writer with that memory, itself a reader or a writer.
 //! - `reading`: reads a reader to its end, within a limit.
 //! - `writing`: writes bytes whole, and flushes.
+//! - `laws`: what the memory of the calls says of all of them.
 #![tactic(auto)]
 
+pub mod laws;
+pub mod reading;
 pub mod watch;
 pub mod watched;
-pub mod reading;
 pub mod writing;

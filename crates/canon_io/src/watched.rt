@@ -48,12 +48,14 @@ impl<T> Watched<T> {
         self.watch
     }
 
+    /// The reader or the writer itself.
     pub fn get_ref(&self) -> &T
         ensures { result.now ≡ inner_of self.now }
     {
         &self.inner
     }
 
+    /// The reader or the writer itself, which is watched no longer.
     pub fn into_inner(self) -> T
         ensures { result ≡ inner_of self }
     {

@@ -1,7 +1,8 @@
 //! Writes whole.
 ghost use Rattle.std.specs.Prelude.{◌≡◌, ◌↔◌, false, IsTrue, IsErr, OnOk, OnErr};
 ghost use Rattle.std.specs.Io.KnownBytes.{Appends, Keeps};
-ghost use Rattle.canon_io.specs.Watched.{inner_of, has_failed};
+ghost use Rattle.canon_io.specs.Watch.{fresh};
+ghost use Rattle.canon_io.specs.Watched.{inner_of, watch_of, has_failed};
 ghost use Rattle.canon_io.specs.Bytes.{AppendsFront};
 
 use crate::watched::Watched;
@@ -17,10 +18,7 @@ pub struct WriteFailed;
 ///
 /// `WriteFailed` where the writer failed, as `Watched` counts it. A front of the bytes was written
 /// then, and not all of them.
-pub fn write_all_watched<W: Write>(
-    writer: &mut Watched<W>,
-    bytes: &[u8],
-) -> Result<(), WriteFailed>
+pub fn write_all_watched<W: Write>(writer: &mut Watched<W>, bytes: &[u8]) -> Result<(), WriteFailed>
     requires { has_failed writer.old ≡ false }
     ensures ok { OnOk result (Appends (W.contents (inner_of writer.old))
         (W.contents (inner_of writer.new)) bytes.now) }
@@ -48,6 +46,9 @@ pub fn write_all_watched<W: Write>(
 pub fn flush_watched<W: Write>(writer: &mut Watched<W>) -> Result<(), WriteFailed>
     requires { has_failed writer.old ≡ false }
     ensures bytes { Keeps (W.contents (inner_of writer.old)) (W.contents (inner_of writer.new)) }
+
+    // The last answer is that of a flush that went well.
+    ensures ok { OnOk result (watch_of writer.new ≡ fresh) }
     ensures failed { IsTrue (has_failed writer.new) ↔ IsErr result }
 {
     while !writer.failed() {

@@ -14,9 +14,13 @@ pub loop-rest-preserved-in-Ok : goal.loop-rest-preserved-in-Ok
 loop-rest-preserved-in-Ok g c =
     let (done, split, appended, sound) = c.loop-rest.invariant in
     let rest = c.loop-rest.rest.now in
-    let count = c.in-Ok.count in
-    (done ++ take count rest, done_more _ done rest count split, Appends-trans _ _ _ _ _ appended c.in-Ok.ensures.bytes, λ none.
-      let some : 0 < count = some_done rest count (search rules) none in
-      let before : has_failed c.loop-rest.writer ≡ false = search rules in
-      let behind = failed-after_taken (watch_of c.loop-rest.writer) count rest before some in
-      search (rules, behind))
+    let count = c.in-Ok.count in (
+      done ++ take count rest,
+      done_more _ done rest count split,
+      Appends-trans _ _ _ _ _ appended c.in-Ok.ensures.bytes,
+      λ none.
+          let some : 0 < count = some_done rest count (search rules) none in
+          let before : has_failed c.loop-rest.writer ≡ false = search rules in
+          let behind = failed-after_taken (watch_of c.loop-rest.writer) count rest before some in
+          search (rules, behind),
+    )

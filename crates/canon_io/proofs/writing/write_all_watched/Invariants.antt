@@ -1,5 +1,5 @@
 -- What is gone from the rest was written, and where nothing is left no write failed.
-use Rattle.std.proofs.Common.{◌≡◌, ℕ, ◌+◌, ◌*◌, List, [], ◌++◌, length, false}
+use Rattle.std.proofs.Common.{◌≡◌, ℕ, ◌+◌, ◌*◌, List, ◌++◌, length, false}
 use Rattle.std.specs.Io.KnownBytes.{Appends}
 use Rattle.canon_io.specs.Watched.{inner_of, watch_of, has_failed}
 use Rattle.canon_io.proofs.Retries.{retries_left}
