@@ -14,6 +14,10 @@ use Rattle.canon_print.specs.declared.printer.Edge.TheVariants as edge
 use Rattle.canon_print.specs.declared.printer.Printer.{Printer}
 use Rattle.canon_print.specs.Printing.{Prints, edge_of, edge_behind, is_spaced, shown_token}
 
+or_false : (b : Bool) → ((false || b) || false) ≡ b
+or_false true = refl
+or_false false = refl
+
 -- a space stands between two tokens as the edge of the first says
 apart_edge : (t u : Token) → is_apart t u ≡ is_spaced (edge_behind t) u
 apart_edge (Opens Parenthesis) u = or_false (closes_brace u)
