@@ -9,3 +9,6 @@ pub mod OneCover
 pub mod Within
 pub mod Covering
 pub mod Reading
+pub mod Halts
+pub mod Plain
+pub mod Spaced

@@ -18,3 +18,4 @@ pub mod text;
 pub mod scan;
 pub mod groups;
 pub mod lex;
+pub mod laws;
