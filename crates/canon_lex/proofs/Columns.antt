@@ -1,5 +1,5 @@
 -- The line and the column, one character on.
-use Rattle.std.proofs.Common.{◌≡◌, ℕ, suc, ◌+◌, ◌≤◌, ◌<◌, arith, List, [], ◌∷◌, ◌++◌, refl, sym, ap, ap₂, ◌∙◌, subst, length, take, add-one}
+use Rattle.std.proofs.Common.{◌≡◌, ℕ, suc, ◌+◌, ◌≤◌, arith, List, [], ◌∷◌, ◌++◌, refl, sym, ap, ap₂, ◌∙◌, length, take, add-one}
 use Rattle.std.specs.Prelude.{Bool, true, false, cond, ◌==◌, not, count_by, reverse}
 use Rattle.std.specs.List.{take_while, prefix_len}
 use Rattle.std.specs.Str.{chars, IsUtf8}
@@ -23,20 +23,20 @@ count_more front c = sum_by_push (λ d. cond (is_line_feed d) 1 0) front c
 column_more : (front : List ℕ) (c : ℕ) → length (take_while (λ d. not (is_line_feed d)) (reverse (front ++ c ∷ []))) ≡ cond (c == 10) 0 (length (take_while (λ d. not (is_line_feed d)) (reverse front)) + 1)
 column_more front c = rw (reverse-append front (c ∷ [])) (here (c == 10))
   where
-  here : (b : Bool) → length (take (cond (not b) (1 + prefix_len (λ d. not (is_line_feed d)) (reverse front)) 0) (c ∷ reverse front)) ≡ cond b 0 (length (take_while (λ d. not (is_line_feed d)) (reverse front)) + 1)
-  here true = refl
-  here false =
-      let n = prefix_len (λ d. not (is_line_feed d)) (reverse front) in
-      let e : 1 + n ≡ suc n = omega arith in
-      ap (λ m. length (take m (c ∷ reverse front))) e ∙ sym (add-one (length (take n (reverse front))))
+    here : (b : Bool) → length (take (cond (not b) (1 + prefix_len (λ d. not (is_line_feed d)) (reverse front)) 0) (c ∷ reverse front)) ≡ cond b 0 (length (take_while (λ d. not (is_line_feed d)) (reverse front)) + 1)
+    here true = refl
+    here false =
+        let n = prefix_len (λ d. not (is_line_feed d)) (reverse front) in
+        let e : 1 + n ≡ suc n = omega arith in
+        ap (λ m. length (take m (c ∷ reverse front))) e ∙ sym (add-one (length (take n (reverse front))))
 
 place_more : (front : List ℕ) (c : ℕ) → place_behind (front ++ c ∷ []) ≡ cond (c == 10) (line_column ((place_behind front).line + 1) 0) (line_column (place_behind front).line ((place_behind front).column + 1))
 place_more front c =
     ap₂ line_column (ap (λ n. 1 + n) (count_more front c)) (column_more front c) ∙ here (c == 10)
   where
-  here : (b : Bool) → line_column (1 + (count_by is_line_feed front + cond b 1 0)) (cond b 0 ((place_behind front).column + 1)) ≡ cond b (line_column ((place_behind front).line + 1) 0) (line_column (place_behind front).line ((place_behind front).column + 1))
-  here true = ap (λ n. line_column n 0) (omega arith)
-  here false = ap (λ n. line_column n ((place_behind front).column + 1)) (omega arith)
+    here : (b : Bool) → line_column (1 + (count_by is_line_feed front + cond b 1 0)) (cond b 0 ((place_behind front).column + 1)) ≡ cond b (line_column ((place_behind front).line + 1) 0) (line_column (place_behind front).line ((place_behind front).column + 1))
+    here true = ap (λ n. line_column n 0) (omega arith)
+    here false = ap (λ n. line_column n ((place_behind front).column + 1)) (omega arith)
 
 pub counts_none : (bytes : List ℕ) → IsPlace bytes 0 → Counts bytes 0 1 0
 counts_none bytes p = record { there = ap place_behind chars-nil; place = p; few_lines = omega arith; few_columns = omega arith }

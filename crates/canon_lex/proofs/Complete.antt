@@ -1,14 +1,12 @@
 -- A piece of a class at the front of a text is what a scan finds there.
 use Rattle.std.proofs.Common.{◌≡◌, ℕ, List, [], ◌∷◌, ◌++◌, refl, ap}
-use Rattle.std.specs.Prelude.{Bool, true, false, ◌&&◌, ◌==◌, not}
+use Rattle.std.specs.Prelude.{true, ◌&&◌, ◌==◌, not}
 use Rattle.std.proofs.lemmas.Bool.{and_parts, not-true}
-use Rattle.rust_token.specs.Chars.{is_first, is_next, is_white, is_mark, begins, passes}
+use Rattle.rust_token.specs.Chars.{is_next, is_mark, begins}
 use Rattle.rust_token.specs.Piece.{Fits, begins_mark, is_slash_or_star}
-use Rattle.rust_token.specs.declared.delimiter.Delimiter.{Delimiter}
-use Rattle.rust_token.specs.declared.delimiter.Delimiter.TheVariants.{Parenthesis, Brace, Bracket}
 use Rattle.rust_token.specs.declared.piece.PieceKind.{PieceKind}
 use Rattle.rust_token.specs.declared.piece.PieceKind.TheVariants.{White, Open, Close, Mark, Ident}
-use Rattle.canon_lex.specs.Scan.{Scanned, Nowhere, Ends, scan, front_of}
+use Rattle.canon_lex.specs.Scan.{Ends, scan}
 use Rattle.canon_lex.proofs.Fronts.{front-first, front-white, front-mark, front-opening, front-closing}
 use Rattle.canon_lex.proofs.Raw.{past_all, raw_same}
 

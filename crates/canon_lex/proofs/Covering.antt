@@ -1,7 +1,7 @@
 -- Pieces one behind the other: their text, their tokens, and the groups that are open behind them.
 use Rattle.std.proofs.Common.{◌≡◌, ℕ, ◌+◌, arith, List, [], ◌∷◌, ◌++◌, refl, sym, ap, ap₂, ◌∙◌, subst, length, append_assoc}
 use Rattle.std.specs.Prelude.{Option, Some, None}
-use Rattle.std.proofs.lemmas.List.{append-nil, length-append}
+use Rattle.std.proofs.lemmas.List.{length-append}
 use Rattle.rust_token.specs.Piece.{Piece, Fits}
 use Rattle.rust_token.specs.Cover.{onto, AreFit}
 use Rattle.rust_token.specs.Token.{Spanned, token_of, tokens_of, placed}
@@ -39,6 +39,6 @@ pub groups_append : (gs hs : List Group) (xs ys : List Spanned) → groups_open 
 groups_append gs hs [] ys e = let same : gs ≡ hs = cc in ap (λ ks. groups_open ks ys) same
 groups_append gs hs (x ∷ xs) ys e = after (groups_behind gs x.token x.at) (λ ks. groups_append ks hs xs ys) e
   where
-  after : (o : Option (List Group)) → ((ks : List Group) → groups_open ks xs ≡ Some hs → groups_open ks (xs ++ ys) ≡ groups_open hs ys) → behind o xs ≡ Some hs → behind o (xs ++ ys) ≡ groups_open hs ys
-  after None h q = cc
-  after (Some ks) h q = h ks q
+    after : (o : Option (List Group)) → ((ks : List Group) → groups_open ks xs ≡ Some hs → groups_open ks (xs ++ ys) ≡ groups_open hs ys) → behind o xs ≡ Some hs → behind o (xs ++ ys) ≡ groups_open hs ys
+    after None h q = cc
+    after (Some ks) h q = h ks q

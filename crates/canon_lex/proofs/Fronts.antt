@@ -1,7 +1,7 @@
 -- What each character begins.
-use Rattle.std.proofs.Common.{◌≡◌, ℕ, zero, suc, ◌+◌, ◌≤◌, ◌<◌, arith, lit<, List, [], ◌∷◌, refl, sym, ap, ap₂, ◌∙◌, subst, ⊎_elim}
-use Rattle.std.specs.Prelude.{Bool, true, false, ◌⊎◌, ◌||◌, ◌&&◌, ◌==◌, nat_le}
-use Rattle.std.proofs.lemmas.Bool.{or_cases, eqb-true, cond_both, or_right, or_from, eq-eqb, ne_eqb, cases_eq, false_from_ne_true, and_parts, lt-leb, leb-true, and_right}
+use Rattle.std.proofs.Common.{◌≡◌, ℕ, zero, suc, ◌+◌, ◌≤◌, ◌<◌, arith, List, [], ◌∷◌, refl, sym, ap, subst, ⊎_elim}
+use Rattle.std.specs.Prelude.{Bool, true, false, ◌||◌, ◌==◌, nat_le}
+use Rattle.std.proofs.lemmas.Bool.{or_cases, eqb-true, cond_both, or_right, eq-eqb, cases_eq, false_from_ne_true, and_parts, leb-true}
 use Rattle.std.specs.Char.{is_ascii_alphabetic}
 use Rattle.std.specs.Int.{is_in_range}
 use Rattle.rust_token.specs.Chars.{is_among, whites, marks, is_white, is_first, is_next, is_mark, passes}
@@ -236,9 +236,9 @@ begins_small (closes Bracket) c h n = omega arith
 begins_small first c h n =
     ⊎_elim
     (λ a. ⊎_elim
-      (λ u. let k : c ≤ 90 = leb-true c 90 (and_parts (nat_le 65 c) (nat_le c 90) u).1 in omega arith)
-      (λ l. let k : c ≤ 122 = leb-true c 122 (and_parts (nat_le 97 c) (nat_le c 122) l).1 in omega arith)
-      (or_cases _ _ a))
+    (λ u. let k : c ≤ 90 = leb-true c 90 (and_parts (nat_le 65 c) (nat_le c 90) u).1 in omega arith)
+    (λ l. let k : c ≤ 122 = leb-true c 122 (and_parts (nat_le 97 c) (nat_le c 122) l).1 in omega arith)
+    (or_cases _ _ a))
     (λ e. let k : c ≡ 95 = eqb-true c 95 e in omega arith)
     (or_cases (is_ascii_alphabetic c) (c == 95) h)
 begins_small mark c h n = among_small marks refl c h
@@ -247,9 +247,9 @@ begins_small other c h n = absurd (n refl)
 pub front-wide : (c : ℕ) → 128 ≤ c → front_of c ≡ other
 front-wide c h = at_front (front_of c) (front_says c)
   where
-  at_front : (f : Front) → Says f c → f ≡ other
-  at_front other s = refl
-  at_front f s = (let k : c ≤ 127 = begins_small f c s (λ e. cc) in absurd (omega arith))
+    at_front : (f : Front) → Says f c → f ≡ other
+    at_front other s = refl
+    at_front f s = (let k : c ≤ 127 = begins_small f c s (λ e. cc) in absurd (omega arith))
 
 pub ruleset fronts = (front-97, front-65, front-95, front-9, front-32, front-40, front-41, front-123, front-125, front-91, front-93, front-33, front-35, front-42, front-58, front-94, front-124, front-126, front-0, front-14, front-34, front-39, front-48, front-92, front-96, front-127, front-wide)
 
@@ -266,9 +266,9 @@ unfolding is_first is_next
 first-next c h =
     ⊎_elim
     (λ a. ⊎_elim
-      (λ u. rw u (ap (λ b. b || (c == 95)) (ap (λ b. b || is_in_range 97 122 c) (or_right (is_in_range 48 57 c) true refl))))
-      (λ l. rw l (ap (λ b. b || (c == 95)) (or_right _ true refl)))
-      (or_cases (is_in_range 65 90 c) (is_in_range 97 122 c) a))
+    (λ u. rw u (ap (λ b. b || (c == 95)) (ap (λ b. b || is_in_range 97 122 c) (or_right (is_in_range 48 57 c) true refl))))
+    (λ l. rw l (ap (λ b. b || (c == 95)) (or_right _ true refl)))
+    (or_cases (is_in_range 65 90 c) (is_in_range 97 122 c) a))
     (λ e. or_right _ _ e)
     (or_cases (is_ascii_alphabetic c) (c == 95) h)
 

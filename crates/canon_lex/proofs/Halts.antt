@@ -1,16 +1,16 @@
 -- Where reading a text halts: it halts at one place alone.
-use Rattle.std.proofs.Common.{◌≡◌, ◌≢◌, ℕ, ◌+◌, List, [], ◌∷◌, ◌++◌, refl, sym, ap, ◌∙◌, subst, inl, inr, ⊎_elim}
-use Rattle.std.specs.Prelude.{Option, Some, None, ◌⊎◌}
+use Rattle.std.proofs.Common.{◌≡◌, ◌≢◌, ℕ, ◌+◌, List, [], ◌∷◌, ◌++◌, refl, sym, ap, ◌∙◌, subst, ⊎_elim}
+use Rattle.std.specs.Prelude.{Some, None}
 use Rattle.std.proofs.lemmas.List.{append-nil}
 use Rattle.rust_token.specs.declared.place.LineColumn.{LineColumn}
 use Rattle.rust_token.specs.declared.delimiter.Delimiter.{Delimiter}
 use Rattle.rust_token.specs.declared.piece.PieceKind.TheVariants.{Close}
 use Rattle.rust_token.specs.Places.{place_of}
-use Rattle.rust_token.specs.Piece.{Piece, Fits, closing}
-use Rattle.rust_token.specs.Cover.{onto, AreFit, Covers}
+use Rattle.rust_token.specs.Piece.{Piece, closing}
+use Rattle.rust_token.specs.Cover.{onto, AreFit}
 use Rattle.rust_token.specs.Token.{Spanned, tokens_of}
 use Rattle.rust_token.specs.Groups.{Group, closed, groups_open}
-use Rattle.rust_token.specs.Forest.{IsForest, Reaches, count, IsStray, IsUnmatched, IsUnclosed, IsLexicalFault}
+use Rattle.rust_token.specs.Forest.{IsForest, Reaches, count, IsStray, IsUnmatched, IsLexicalFault}
 use Rattle.canon_lex.proofs.OneCover.{one_piece, none_at_end, one_goes_on, one_cover, GoesOn}
 use Rattle.canon_lex.proofs.Covering.{behind, tokens_append, groups_append}
 
@@ -29,15 +29,15 @@ pub record IsSame (ps : List Piece) (r : List ℕ) (gs : List Group) (qs : List 
 no_further : (text : List ℕ) (ps qs : List Piece) (r s : List ℕ) (gs hs : List Group) → Halts text ps r gs → Reaches text qs s hs → GoesOn ps r qs s → IsSame ps r gs qs s hs
 no_further text ps qs r s gs hs h k g = by_more g.more g.pieces g.rest g.fit
   where
-  by_more : (more : List Piece) → qs ≡ ps ++ more → r ≡ onto more s → AreFit more s → IsSame ps r gs qs s hs
-  by_more [] e q f =
-      let same : ps ≡ qs = sym (e ∙ append-nil ps) in
-      let both : Some gs ≡ Some hs = sym h.reaches.opened ∙ ap (λ x. groups_open [] (tokens_of 0 x r)) same ∙ ap (λ x. groups_open [] (tokens_of 0 qs x)) q ∙ k.opened in
-      record { pieces = same; rest = q; groups = cc }
-  by_more (p ∷ more) e q f =
-      let whole : groups_open [] (tokens_of 0 ps r ++ tokens_of (count ps) (p ∷ more) s) ≡ Some hs =
-          ap (λ x. groups_open [] (tokens_of 0 ps x ++ tokens_of (count ps) (p ∷ more) s)) q ∙ ap (groups_open []) (sym (tokens_append ps (p ∷ more) s)) ∙ ap (λ x. groups_open [] (tokens_of 0 x s)) (sym e) ∙ k.opened in
-      absurd (h.stuck p more s hs f q (sym (groups_append [] gs (tokens_of 0 ps r) (tokens_of (count ps) (p ∷ more) s) h.reaches.opened) ∙ whole))
+    by_more : (more : List Piece) → qs ≡ ps ++ more → r ≡ onto more s → AreFit more s → IsSame ps r gs qs s hs
+    by_more [] e q f =
+        let same : ps ≡ qs = sym (e ∙ append-nil ps) in
+        let both : Some gs ≡ Some hs = sym h.reaches.opened ∙ ap (λ x. groups_open [] (tokens_of 0 x r)) same ∙ ap (λ x. groups_open [] (tokens_of 0 qs x)) q ∙ k.opened in
+        record { pieces = same; rest = q; groups = cc }
+    by_more (p ∷ more) e q f =
+        let whole : groups_open [] (tokens_of 0 ps r ++ tokens_of (count ps) (p ∷ more) s) ≡ Some hs =
+        ap (λ x. groups_open [] (tokens_of 0 ps x ++ tokens_of (count ps) (p ∷ more) s)) q ∙ ap (groups_open []) (sym (tokens_append ps (p ∷ more) s)) ∙ ap (λ x. groups_open [] (tokens_of 0 x s)) (sym e) ∙ k.opened in
+        absurd (h.stuck p more s hs f q (sym (groups_append [] gs (tokens_of 0 ps r) (tokens_of (count ps) (p ∷ more) s) h.reaches.opened) ∙ whole))
 
 pub one_halt : (text : List ℕ) (ps qs : List Piece) (r s : List ℕ) (gs hs : List Group) → Halts text ps r gs → Halts text qs s hs → IsSame ps r gs qs s hs
 one_halt text ps qs r s gs hs h k =
@@ -62,11 +62,11 @@ closes_none d gs hs ts w g = let wrong : None ≡ Some hs = sym (ap (λ o. behin
 pub unmatched_halts : (text : List ℕ) (place : LineColumn) (i : IsUnmatched text place) → Halts text i.pieces (closing i.delimiter ∷ i.rest) i.groups
 unmatched_halts text place i = record { reaches = i.reaches; stuck = stuck }
   where
-  stuck : (p : Piece) (more : List Piece) (s : List ℕ) (hs : List Group) → AreFit (p ∷ more) s → closing i.delimiter ∷ i.rest ≡ onto (p ∷ more) s → groups_open i.groups (tokens_of (count i.pieces) (p ∷ more) s) ≡ Some hs → ⊥
-  stuck p more s hs f e g =
-      let same = (one_piece p (closing_piece i.delimiter) (onto more s) i.rest f.0 refl (sym e)).0 in
-      let there : groups_open i.groups (tokens_of (count i.pieces) (closing_piece i.delimiter ∷ more) s) ≡ Some hs = subst (λ x. groups_open i.groups (tokens_of (count i.pieces) (x ∷ more) s) ≡ Some hs) same g in
-      closes_none i.delimiter i.groups hs (tokens_of (count i.pieces + 1) more s) i.wrong there
+    stuck : (p : Piece) (more : List Piece) (s : List ℕ) (hs : List Group) → AreFit (p ∷ more) s → closing i.delimiter ∷ i.rest ≡ onto (p ∷ more) s → groups_open i.groups (tokens_of (count i.pieces) (p ∷ more) s) ≡ Some hs → ⊥
+    stuck p more s hs f e g =
+        let same = (one_piece p (closing_piece i.delimiter) (onto more s) i.rest f.0 refl (sym e)).0 in
+        let there : groups_open i.groups (tokens_of (count i.pieces) (closing_piece i.delimiter ∷ more) s) ≡ Some hs = subst (λ x. groups_open i.groups (tokens_of (count i.pieces) (x ∷ more) s) ≡ Some hs) same g in
+        closes_none i.delimiter i.groups hs (tokens_of (count i.pieces + 1) more s) i.wrong there
 
 -- the place of a fault, by where reading halts: there, or at the end the innermost open group
 abbrev fault_place : List ℕ → List Piece → List ℕ → List Group → LineColumn
@@ -91,9 +91,9 @@ faulted text place f =
     ⊎_elim
     (λ i. record { pieces = i.pieces; rest = i.rest; groups = i.groups; halts = stray_halts text place i; more = λ e g. i.more e; there = i.there ∙ stray_place text i.pieces i.rest i.groups i.more })
     (λ o. ⊎_elim
-      (λ i. record { pieces = i.pieces; rest = closing i.delimiter ∷ i.rest; groups = i.groups; halts = unmatched_halts text place i; more = λ e g. cc; there = i.there })
-      (λ i. record { pieces = i.pieces; rest = []; groups = i.innermost ∷ i.others; halts = end_halts text i.pieces (i.innermost ∷ i.others) i.reaches; more = λ e g. cc; there = i.there })
-      o)
+    (λ i. record { pieces = i.pieces; rest = closing i.delimiter ∷ i.rest; groups = i.groups; halts = unmatched_halts text place i; more = λ e g. cc; there = i.there })
+    (λ i. record { pieces = i.pieces; rest = []; groups = i.innermost ∷ i.others; halts = end_halts text i.pieces (i.innermost ∷ i.others) i.reaches; more = λ e g. cc; there = i.there })
+    o)
     f
 
 pub one_fault : (text : List ℕ) (p q : LineColumn) → IsLexicalFault text p → IsLexicalFault text q → p ≡ q

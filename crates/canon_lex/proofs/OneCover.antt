@@ -1,11 +1,11 @@
 -- A text has at most one cover: of two covers up to some rests, one goes on where the other ends.
-use Rattle.std.proofs.Common.{◌≡◌, ℕ, List, [], ◌∷◌, ◌++◌, refl, sym, ap, ap₂, ◌∙◌, subst, inl, inr, ⊎_elim}
+use Rattle.std.proofs.Common.{◌≡◌, ℕ, List, [], ◌∷◌, ◌++◌, refl, sym, ap, ap₂, ◌∙◌, inl, inr, ⊎_elim}
 use Rattle.std.specs.Prelude.{◌⊎◌}
 use Rattle.std.proofs.lemmas.List.{append_cancel_right, append-nil}
 use Rattle.rust_token.specs.declared.piece.PieceKind.{PieceKind}
 use Rattle.rust_token.specs.Piece.{Piece, Fits}
-use Rattle.rust_token.specs.Cover.{onto, AreFit, Covers, IsCover}
-use Rattle.canon_lex.specs.Scan.{Scanned, Nowhere, Ends, scan}
+use Rattle.rust_token.specs.Cover.{onto, AreFit, IsCover}
+use Rattle.canon_lex.specs.Scan.{Ends, scan}
 use Rattle.canon_lex.proofs.Complete.{complete}
 
 abbrev piece : PieceKind → List ℕ → Piece

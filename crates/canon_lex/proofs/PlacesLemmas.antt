@@ -1,5 +1,5 @@
 -- One character on from a place.
-use Rattle.std.proofs.Common.{◌≡◌, ℕ, zero, suc, ◌+◌, ◌-◌, ◌≤◌, ◌<◌, arith, List, [], ◌∷◌, ◌++◌, refl, sym, ap, ◌∙◌, subst, length, take, drop, get_or, append_assoc, zero-le}
+use Rattle.std.proofs.Common.{◌≡◌, ℕ, ◌+◌, ◌-◌, ◌≤◌, ◌<◌, arith, List, [], ◌∷◌, ◌++◌, sym, ap, ◌∙◌, subst, length, take, drop, get_or, append_assoc, zero-le}
 use Rattle.std.specs.Prelude.{encode_utf8}
 use Rattle.std.specs.Str.{chars, IsUtf8, IsCharBoundary}
 use Rattle.std.specs.Char.{len_utf8}
@@ -65,4 +65,4 @@ chars_before bytes front at u p e = append_cancel_right front (chars (take at by
 pub chars_more : (bytes : List ℕ) (at c next : ℕ) → IsUtf8 bytes → IsPlace bytes at → rest_at bytes at ≡ c ∷ rest_at bytes next → IsPlace bytes next → chars (take next bytes) ≡ chars (take at bytes) ++ c ∷ []
 chars_more bytes at c next u p e q =
     sym (chars_before bytes (chars (take at bytes) ++ c ∷ []) next u q
-      (split bytes at u p ∙ ap (λ r. chars (take at bytes) ++ r) e ∙ sym (append_assoc (chars (take at bytes)) (c ∷ []) (rest_at bytes next))))
+    (split bytes at u p ∙ ap (λ r. chars (take at bytes) ++ r) e ∙ sym (append_assoc (chars (take at bytes)) (c ∷ []) (rest_at bytes next))))

@@ -5,7 +5,7 @@ use Rattle.rust_token.specs.declared.delimiter.Delimiter.{Delimiter}
 use Rattle.rust_token.specs.Piece.{Piece}
 use Rattle.rust_token.specs.Cover.{onto}
 use Rattle.rust_token.specs.Token.{Token, Opens, Closes, Word, Sign, Spanned, token_of, tokens_of, placed, plain}
-use Rattle.rust_token.specs.Groups.{Group, same_delimiter, closed, groups_behind, groups_open, IsMatched, AreMatched}
+use Rattle.rust_token.specs.Groups.{Group, same_delimiter, groups_behind, groups_open, IsMatched, AreMatched}
 use Rattle.canon_lex.proofs.Covering.{behind}
 
 pub plain_append : (xs ys : List Spanned) → plain (xs ++ ys) ≡ plain xs ++ plain ys
@@ -54,9 +54,9 @@ turn_same gs (Opens d) n = refl
 turn_same [] (Closes d) n = refl
 turn_same (g ∷ gs) (Closes d) n = chosen (same_delimiter g.delimiter d)
   where
-  chosen : (b : Bool) → their_delimiters (cond b (Some gs) None) ≡ cond b (Some (delimiters gs)) None
-  chosen true = refl
-  chosen false = refl
+    chosen : (b : Bool) → their_delimiters (cond b (Some gs) None) ≡ cond b (Some (delimiters gs)) None
+    chosen true = refl
+    chosen false = refl
 turn_same gs (Word cs) n = refl
 turn_same gs (Sign c spacing) n = refl
 
@@ -67,9 +67,9 @@ nested_same : (gs : List Group) (ts : List Spanned) → their_delimiters (groups
 nested_same gs [] = refl
 nested_same gs (t ∷ ts) = after (groups_behind gs t.token t.at) (λ hs. nested_same hs ts) ∙ ap (λ o. nested_behind o (plain ts)) (turn_same gs t.token t.at)
   where
-  after : (o : Option (List Group)) → ((hs : List Group) → their_delimiters (groups_open hs ts) ≡ nested (delimiters hs) (plain ts)) → their_delimiters (behind o ts) ≡ nested_behind (their_delimiters o) (plain ts)
-  after None h = refl
-  after (Some hs) h = h hs
+    after : (o : Option (List Group)) → ((hs : List Group) → their_delimiters (groups_open hs ts) ≡ nested (delimiters hs) (plain ts)) → their_delimiters (behind o ts) ≡ nested_behind (their_delimiters o) (plain ts)
+    after None h = refl
+    after (Some hs) h = h hs
 
 none_open : (o : Option (List Group)) → their_delimiters o ≡ Some [] → o ≡ Some []
 none_open None e = cc

@@ -1,7 +1,7 @@
 -- Words: where they end, and which of them begin a raw string or a raw identifier.
 use Rattle.std.proofs.Common.{◌≡◌, ℕ, List, [], ◌∷◌, ◌++◌, refl, ap, ⊎_elim}
-use Rattle.std.specs.Prelude.{Bool, true, false, ◌⊎◌, ◌||◌, ◌&&◌, ◌==◌}
-use Rattle.std.proofs.lemmas.Bool.{and_parts, and_from, and_right, cases_Bool, or_from, false_from_ne_true, eqb-true}
+use Rattle.std.specs.Prelude.{Bool, true, false, ◌||◌, ◌&&◌, ◌==◌}
+use Rattle.std.proofs.lemmas.Bool.{and_parts, and_from, and_right, cases_Bool, false_from_ne_true, eqb-true}
 use Rattle.rust_token.specs.Chars.{is_next, begins, passes}
 use Rattle.rust_token.specs.Piece.{is_hash, is_raw_prefix}
 use Rattle.canon_lex.specs.Scan.{past, begins_r_hash, begins_raw}
@@ -48,16 +48,16 @@ r_hash_none (c ∷ cs) h =
 pub raw_same : (c : ℕ) (cs rest : List ℕ) → passes is_next cs ≡ true → begins is_next rest ≡ false → begins_raw (c ∷ cs ++ rest) ≡ (is_raw_prefix (c ∷ cs) && begins is_hash rest)
 raw_same c [] rest h s = rw (r_hash_none rest s, and_right (c == 98 || c == 99) false refl) (or_false (c == 114 && begins is_hash rest))
   where
-  or_false : (b : Bool) → (b || false) ≡ b
-  or_false true = refl
-  or_false false = refl
+    or_false : (b : Bool) → (b || false) ≡ b
+    or_false true = refl
+    or_false false = refl
 raw_same c (d ∷ []) rest h s =
     let (a, _) = and_parts (is_next d) true h in
     rw (hash_not_next d a, and_right (c == 114) false refl) (and_assoc (c == 98 || c == 99) (d == 114) (begins is_hash rest))
   where
-  and_assoc : (a b e : Bool) → (a && (b && e)) ≡ ((a && b) && e)
-  and_assoc true b e = refl
-  and_assoc false b e = refl
+    and_assoc : (a b e : Bool) → (a && (b && e)) ≡ ((a && b) && e)
+    and_assoc true b e = refl
+    and_assoc false b e = refl
 raw_same c (d ∷ e ∷ es) rest h s =
     let (a, more) = and_parts (is_next d) (is_next e && passes is_next es) h in
     let (b, _) = and_parts (is_next e) (passes is_next es) more in

@@ -1,6 +1,6 @@
 -- What is read of a text, up to a place: one piece on, to its end, and to its fault.
-use Rattle.std.proofs.Common.{◌≡◌, ◌≢◌, ℕ, ◌+◌, ◌≤◌, ◌<◌, arith, List, [], ◌∷◌, ◌++◌, refl, sym, ap, ap₂, ◌∙◌, subst, length, take, drop, map}
-use Rattle.std.specs.Prelude.{Option, Some, None, reverse, encode_utf8_all}
+use Rattle.std.proofs.Common.{◌≡◌, ◌≢◌, ℕ, ◌≤◌, ◌<◌, arith, List, [], ◌∷◌, ◌++◌, refl, sym, ap, ap₂, ◌∙◌, subst, length, drop, map}
+use Rattle.std.specs.Prelude.{Option, Some, None, encode_utf8_all}
 use Rattle.std.specs.List.{All}
 use Rattle.std.specs.Str.{chars, IsUtf8}
 use Rattle.std.proofs.lemmas.List.{append-nil, length-drop, reverse-append}
@@ -12,17 +12,17 @@ use Rattle.rust_token.specs.declared.piece.PieceKind.TheVariants.{White, Open, C
 use Rattle.rust_token.specs.declared.lexeme.Lexeme.{Lexeme}
 use Rattle.rust_token.specs.Places.{place_of}
 use Rattle.rust_token.specs.Piece.{Piece, Fits, closing}
-use Rattle.rust_token.specs.Cover.{onto, AreFit, Covers, NoPiece}
+use Rattle.rust_token.specs.Cover.{onto, AreFit, Covers}
 use Rattle.rust_token.specs.Token.{token_of, tokens_of, placed}
 use Rattle.rust_token.specs.Groups.{Group, closed, groups_open}
 use Rattle.rust_token.specs.Forest.{IsForest, Reaches, count, IsStray, IsUnmatched, IsUnclosed}
 use Rattle.rust_token.specs.Lexemes.{between, spanned_tokens, IsWithin}
 use Rattle.canon_lex.specs.declared.groups.Frame.{Frame}
 use Rattle.canon_lex.specs.Places.{rest_at, IsPlace, IsBehind, count_before}
-use Rattle.canon_lex.specs.Scan.{Scanned, Nowhere, Ends, scan}
+use Rattle.canon_lex.specs.Scan.{Nowhere, Ends, scan}
 use Rattle.canon_lex.specs.Opened.{group_at, groups_at, turned, IsFrameOf}
 use Rattle.canon_lex.proofs.Complete.{complete}
-use Rattle.canon_lex.proofs.Sound.{Found, sound}
+use Rattle.canon_lex.proofs.Sound.{sound}
 use Rattle.canon_lex.proofs.PlacesLemmas.{rest_end, first_place, chars_between, chars_before}
 use Rattle.canon_lex.proofs.Covering.{onto_rest, onto_append, fit_append, tokens_append, groups_append}
 
@@ -58,9 +58,9 @@ turned_groups gs White n cs rest = refl
 turned_groups gs (Open d) n cs rest = refl
 turned_groups gs (Close d) n cs rest = whole (closed gs d)
   where
-  whole : (o : Option (List Group)) → ◌≡◌ {A = Option (List Group)} (elim o [ None ↦ None | Some hs ↦ Some hs ]) o
-  whole None = refl
-  whole (Some hs) = refl
+    whole : (o : Option (List Group)) → ◌≡◌ {A = Option (List Group)} (elim o [ None ↦ None | Some hs ↦ Some hs ]) o
+    whole None = refl
+    whole (Some hs) = refl
 turned_groups gs Mark n cs rest = refl
 turned_groups gs Ident n cs rest = refl
 
@@ -79,7 +79,7 @@ read_on bytes at end k old new before after u r e b t g w f =
     let p : Piece = record { kind = k; chars = cs } in
     let one : tokens_of (count r.pieces) (p ∷ []) rest ≡ placed n (token_of k cs rest) = append-nil (placed (count r.pieces) (token_of k cs rest)) ∙ ap (λ m. placed m (token_of k cs rest)) (counted bytes at old before r u) in
     let more : tokens_of 0 (r.pieces ++ p ∷ []) rest ≡ tokens_of 0 r.pieces (rest_at bytes at) ++ placed n (token_of k cs rest) =
-        tokens_append r.pieces (p ∷ []) rest ∙ ap₂ (λ x y. tokens_of 0 r.pieces x ++ y) (sym joined) one in
+    tokens_append r.pieces (p ∷ []) rest ∙ ap₂ (λ x y. tokens_of 0 r.pieces x ++ y) (sym joined) one in
     record {
       pieces = r.pieces ++ p ∷ [];
       covers = record {

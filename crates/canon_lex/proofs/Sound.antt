@@ -3,13 +3,11 @@ use Rattle.std.proofs.Common.{◌≡◌, ℕ, List, [], ◌∷◌, ◌++◌, ref
 use Rattle.std.specs.Prelude.{Bool, true, false, cond, ◌⊎◌, ◌&&◌, ◌==◌}
 use Rattle.rust_token.specs.Chars.{is_next, begins}
 use Rattle.rust_token.specs.Piece.{Fits, is_slash_or_star}
-use Rattle.rust_token.specs.declared.delimiter.Delimiter.{Delimiter}
-use Rattle.rust_token.specs.declared.delimiter.Delimiter.TheVariants.{Parenthesis, Brace, Bracket}
 use Rattle.rust_token.specs.declared.piece.PieceKind.{PieceKind}
 use Rattle.rust_token.specs.declared.piece.PieceKind.TheVariants.{White, Open, Close, Mark, Ident}
 use Rattle.canon_lex.specs.Scan.{Front, white, opens, closes, first, mark, other, front_of, Scanned, Nowhere, Ends, past, begins_raw, at_front, scan}
 use Rattle.canon_lex.proofs.Fronts.{Says, front_says}
-use Rattle.canon_lex.proofs.Raw.{Passed, passed, raw_same}
+use Rattle.canon_lex.proofs.Raw.{passed, raw_same}
 
 pub record Found (k : PieceKind) (text rest : List ℕ) : Type 0 where
   pub chars : List ℕ

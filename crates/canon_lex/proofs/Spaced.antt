@@ -1,6 +1,6 @@
 -- What is printed of well spaced tokens is read back, and what is read is well spaced.
 use Rattle.std.proofs.Common.{◌≡◌, ℕ, List, [], ◌∷◌, ◌++◌, refl, sym, ap, ap₂, ◌∙◌, subst, ⊎_elim}
-use Rattle.std.specs.Prelude.{Bool, true, false, cond, ◌⊎◌, ◌||◌, ◌&&◌, ◌==◌, not}
+use Rattle.std.specs.Prelude.{Bool, true, false, cond, ◌||◌, ◌&&◌, ◌==◌, not}
 use Rattle.std.proofs.lemmas.Bool.{and_parts, and_from, cases_Bool, and_right, or_parts, not-false}
 use Rattle.std.proofs.lemmas.List.{append-nil}
 use Rattle.rust_token.specs.declared.delimiter.Delimiter.{Delimiter}
@@ -11,13 +11,13 @@ use Rattle.rust_token.specs.declared.lexeme.Spacing.{Spacing}
 use Rattle.rust_token.specs.declared.lexeme.Spacing.TheVariants.{Alone, Joint}
 use Rattle.rust_token.specs.Chars.{is_next, is_mark, begins}
 use Rattle.rust_token.specs.Piece.{Piece, Fits, opening, closing, is_hash, is_raw_prefix, is_slash_or_star, begins_mark}
-use Rattle.rust_token.specs.Cover.{onto, AreFit, IsCover}
+use Rattle.rust_token.specs.Cover.{onto, AreFit}
 use Rattle.rust_token.specs.Token.{Token, Opens, Closes, Word, Sign, Spanned, token_of, tokens_of, plain, head, spacing_before}
 use Rattle.rust_token.specs.Spacing.{IsToken, AreTokens, MayStand, IsWellSpaced}
 use Rattle.rust_token.specs.Printed.{shown, hugs, is_hugged, opens_brace, closes_brace, is_apart, space, text}
 use Rattle.rust_token.specs.Groups.{AreMatched}
 use Rattle.rust_token.specs.Forest.{IsForest, HasForest}
-use Rattle.canon_lex.specs.Scan.{Scanned, Nowhere, Ends, scan}
+use Rattle.canon_lex.specs.Scan.{Ends, scan}
 use Rattle.canon_lex.proofs.Fronts.{space-white}
 use Rattle.canon_lex.proofs.Complete.{complete, mark_scanned}
 use Rattle.canon_lex.proofs.Plain.{plain_of, plain_tokens, matched_plain, plain_matched}
@@ -102,10 +102,10 @@ calm_behind t (u ∷ us) h =
     ⊎_elim
     (λ y. subst (λ b. IsCalm (space b ++ text (u ∷ us))) (sym y) (calm_space (text (u ∷ us))))
     (λ n.
-      let (_, m) = or_parts (opens_brace t || closes_brace u) (not (hugs t) && not (is_hugged u)) n in
-      let k : not (is_hugged u) ≡ false = rw h at m in
-      let (d, e) = hugged_closes u (not-false _ k) in
-      subst (λ b. IsCalm (space b ++ text (u ∷ us))) (sym n) (subst (λ u. IsCalm (text (u ∷ us))) (sym e) (calm_text d us)))
+    let (_, m) = or_parts (opens_brace t || closes_brace u) (not (hugs t) && not (is_hugged u)) n in
+    let k : not (is_hugged u) ≡ false = rw h at m in
+    let (d, e) = hugged_closes u (not-false _ k) in
+    subst (λ b. IsCalm (space b ++ text (u ∷ us))) (sym n) (subst (λ u. IsCalm (text (u ∷ us))) (sym e) (calm_text d us)))
     (cases_Bool (is_apart t u))
 
 word_before : (cs rest : List ℕ) → Fits Ident cs [] → IsCalm rest → Fits Ident cs rest
@@ -167,9 +167,10 @@ laid_fit [] a w = (tt, refl)
 laid_fit (t ∷ ts) a w =
     let s = stands t ts a.0 w.0 a.1 w.1 in
     let (fit, same) = laid_fit ts a.1 w.1 in
-    let rest : onto (gap (apart t ts) (laid ts)) [] ≡ behind t ts = onto_gap (apart t ts) (laid ts) ∙ ap (λ x. space (apart t ts) ++ x) (onto_laid ts) in
-    ((subst (λ r. Fits (piece_of t).kind (piece_of t).chars r) (sym rest) s.fits, fit_gap _ _ fit),
-     ap₂ (λ x y. x ++ y) (ap (λ r. token_of (piece_of t).kind (piece_of t).chars r) rest ∙ s.token) (plain_gap (apart t ts) (laid ts) ∙ same))
+    let rest : onto (gap (apart t ts) (laid ts)) [] ≡ behind t ts = onto_gap (apart t ts) (laid ts) ∙ ap (λ x. space (apart t ts) ++ x) (onto_laid ts) in (
+      (subst (λ r. Fits (piece_of t).kind (piece_of t).chars r) (sym rest) s.fits, fit_gap _ _ fit),
+      ap₂ (λ x y. x ++ y) (ap (λ r. token_of (piece_of t).kind (piece_of t).chars r) rest ∙ s.token) (plain_gap (apart t ts) (laid ts) ∙ same),
+    )
 
 -- the text of well spaced tokens has a forest, whose tokens they are
 pub reads_back : (ts : List Token) → AreTokens ts → AreMatched ts → IsWellSpaced ts → HasForest (text ts) ts
@@ -185,9 +186,9 @@ reads_back ts a m w =
 mark_kind : (k : PieceKind) (cs rest : List ℕ) → Fits k cs rest → begins_mark (cs ++ rest) ≡ true → k ≡ Mark
 mark_kind k cs rest f h = at_text (cs ++ rest) (complete k cs rest f) h
   where
-  at_text : (text : List ℕ) → scan text ≡ Ends k rest → begins_mark text ≡ true → k ≡ Mark
-  at_text [] e h = cc
-  at_text (c ∷ ds) e h = let m = mark_scanned c ds h in cc
+    at_text : (text : List ℕ) → scan text ≡ Ends k rest → begins_mark text ≡ true → k ≡ Mark
+    at_text [] e h = cc
+    at_text (c ∷ ds) e h = let m = mark_scanned c ds h in cc
 
 -- a sign of the text's first mark is the first token
 record MarkNext (tokens : List Token) (text : List ℕ) : Type 0 where
@@ -202,10 +203,16 @@ next_mark : (ps : List Piece) → AreFit ps [] → begins_mark (onto ps []) ≡ 
 next_mark [] f h = cc
 next_mark (p ∷ ps) f h = marked p.kind p.chars f.0 h
   where
-  marked : (k : PieceKind) (cs : List ℕ) → Fits k cs (onto ps []) → begins_mark (cs ++ onto ps []) ≡ true → MarkNext (token_of k cs (onto ps []) ++ plain_of ps []) (cs ++ onto ps [])
-  marked Mark cs (c, e, m) h = record { char = c; spacing = spacing_before (onto ps []); others = plain_of ps []; rest = onto ps [];
-    tokens_are = ap (λ d. Sign (head d) (spacing_before (onto ps [])) ∷ plain_of ps []) e; text_is = ap (λ d. d ++ onto ps []) e }
-  marked k cs f h = let e = mark_kind k cs (onto ps []) f h in cc
+    marked : (k : PieceKind) (cs : List ℕ) → Fits k cs (onto ps []) → begins_mark (cs ++ onto ps []) ≡ true → MarkNext (token_of k cs (onto ps []) ++ plain_of ps []) (cs ++ onto ps [])
+    marked Mark cs (c, e, m) h = record {
+      char = c;
+      spacing = spacing_before (onto ps []);
+      others = plain_of ps [];
+      rest = onto ps [];
+      tokens_are = ap (λ d. Sign (head d) (spacing_before (onto ps [])) ∷ plain_of ps []) e;
+      text_is = ap (λ d. d ++ onto ps []) e;
+    }
+    marked k cs f h = let e = mark_kind k cs (onto ps []) f h in cc
 
 begins_both : (c d : ℕ) (rest more : List ℕ) → rest ≡ d ∷ more → begins_mark (c ∷ rest) ≡ true → begins_mark (c ∷ d ∷ []) ≡ true
 begins_both c d rest more e h = rw e at h
@@ -218,9 +225,9 @@ sign_read : (c : ℕ) (ps : List Piece) → AreFit ps [] → begins_mark (c ∷ 
 sign_read c ps f m r =
     ⊎_elim
     (λ y.
-      let n = next_mark ps f y in
-      let stand : MayStand (Sign c Joint) (Sign n.char n.spacing ∷ n.others) = begins_both c n.char _ n.rest n.text_is m in
-      rw y (record { spaced = (subst (λ x. MayStand (Sign c Joint) x) (sym n.tokens_are) stand, r.spaced); tokens = (mark_alone c (onto ps []) m, r.tokens) }))
+    let n = next_mark ps f y in
+    let stand : MayStand (Sign c Joint) (Sign n.char n.spacing ∷ n.others) = begins_both c n.char _ n.rest n.text_is m in
+    rw y (record { spaced = (subst (λ x. MayStand (Sign c Joint) x) (sym n.tokens_are) stand, r.spaced); tokens = (mark_alone c (onto ps []) m, r.tokens) }))
     (λ n. rw n (record { spaced = (tt, r.spaced); tokens = (mark_alone c (onto ps []) m, r.tokens) }))
     (cases_Bool (begins_mark (onto ps [])))
 

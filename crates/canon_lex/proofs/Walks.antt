@@ -1,8 +1,7 @@
 -- What loops over the characters of a text keep.
-use Rattle.std.proofs.Common.{◌≡◌, ℕ, ◌+◌, ◌≤◌, List, length, take}
+use Rattle.std.proofs.Common.{◌≡◌, ℕ, ◌+◌, ◌≤◌, List, take}
 use Rattle.std.specs.Str.{chars}
 use Rattle.rust_token.specs.Places.{place_behind}
-use Rattle.rust_token.specs.declared.place.LineColumn.{LineColumn}
 use Rattle.canon_lex.specs.Places.{rest_at, IsPlace}
 
 -- from the place on the answer is what it was from the start on

@@ -1,5 +1,5 @@
 -- Lexemes that stand within a text.
-use Rattle.std.proofs.Common.{arith, ℕ, ◌≡◌, ◌≤◌, List, [], ◌∷◌, ◌++◌, sym, subst}
+use Rattle.std.proofs.Common.{arith, ℕ, ◌≡◌, List, [], ◌∷◌, ◌++◌, sym, subst}
 use Rattle.std.specs.List.{All}
 use Rattle.std.proofs.lemmas.List.Elements.{All-push}
 use Rattle.rust_token.specs.Lexemes.{IsWithin}

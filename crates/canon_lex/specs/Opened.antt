@@ -1,5 +1,5 @@
 -- The stack of open groups, and how a piece changes which groups are open.
-use Rattle.std.specs.Prelude.{ℕ, List, [], ◌∷◌, Option, Some, None, map, reverse}
+use Rattle.std.specs.Prelude.{ℕ, List, ◌∷◌, Option, Some, map, reverse}
 use Rattle.rust_token.specs.Groups.{Group, closed}
 use Rattle.rust_token.specs.declared.piece.PieceKind.{PieceKind}
 use Rattle.rust_token.specs.declared.piece.PieceKind.TheVariants.{White, Open, Close, Mark, Ident}

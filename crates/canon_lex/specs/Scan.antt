@@ -2,12 +2,10 @@
 use Rattle.std.specs.Prelude.{◌≡◌, ℕ, Bool, false, ◌&&◌, ◌||◌, ◌==◌, List, [], ◌∷◌, Option, MatchOption, if◌then◌else◌}
 use Rattle.rust_token.specs.Chars.{is_white, is_first, is_next, is_mark, begins}
 use Rattle.rust_token.specs.Piece.{is_hash, is_slash_or_star}
-use Rattle.rust_token.specs.declared.delimiter.Delimiter.{Delimiter}
 use Rattle.rust_token.specs.declared.delimiter.Delimiter.TheVariants.{Parenthesis, Brace, Bracket}
 use Rattle.rust_token.specs.declared.piece.PieceKind.{PieceKind}
 use Rattle.rust_token.specs.declared.piece.PieceKind.TheVariants.{White, Open, Close, Mark, Ident}
 use Rattle.canon_lex.specs.Places.{rest_at, IsBehind}
-
 pub use Rattle.canon_lex.specs.declared.scan.Front.{Front}
 pub use Rattle.canon_lex.specs.declared.scan.Front.TheVariants.{White as white, Opens as opens, Closes as closes, First as first, Mark as mark, Other as other}
 

@@ -42,12 +42,22 @@ fn spacing_at(text: &str, end: usize) -> Spacing
     requires { IsPlace text.now end }
     ensures { result ≡ spacing_before (rest_at text.now end) }
 {
-    if begins_mark(text, end) { Spacing::Joint } else { Spacing::Alone }
+    if begins_mark(text, end) {
+        Spacing::Joint
+    } else {
+        Spacing::Alone
+    }
 }
 
 // Adds the token of a piece, if it has one.
 #[inline(always)]
-fn put(out: &mut Vec<Lexeme>, text: &str, piece: PieceKind, at: usize, end: usize) -> Result<(), AllocError>
+fn put(
+    out: &mut Vec<Lexeme>,
+    text: &str,
+    piece: PieceKind,
+    at: usize,
+    end: usize,
+) -> Result<(), AllocError>
     requires short { length text.now < 2 ^ 32 }
     requires place { IsPlace text.now at }
     requires behind { IsBehind text.now at end }

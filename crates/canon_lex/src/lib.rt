@@ -14,8 +14,8 @@
 //! 0, in characters.
 #![tactic(auto)]
 
-pub mod text;
-pub mod scan;
-pub mod groups;
-pub mod lex;
+mod groups;
 pub mod laws;
+pub mod lex;
+mod scan;
+pub mod text;

@@ -37,7 +37,8 @@ fn front_of(c: char) -> Front
         '[' => Front::Opens(Delimiter::Bracket),
         ']' => Front::Closes(Delimiter::Bracket),
         '!' | '#'..='&' | '*'..='/' | ':'..='@' | '^' | '|' | '~' => Front::Mark,
-        '\0'..='\u{8}' | '\u{e}'..='\u{1f}' | '"' | '\'' | '0'..='9' | '\\' | '`' | '\u{7f}' => Front::Other,
+        '\0'..='\u{8}' | '\u{e}'..='\u{1f}' | '"' | '\'' | '0'..='9' | '\\' | '`' | '\u{7f}' =>
+            Front::Other,
         _ => Front::Other,
     }
 }
@@ -133,10 +134,10 @@ fn begins_slash_or_star(text: &str, at: usize) -> bool
     (c == '/') | (c == '*')
 }
 
-/// Whether a mark stands at a place, in bytes from 0: not a slash that begins a comment.
+// Whether a mark stands at a place, in bytes from 0: not a slash that begins a comment.
 #[tactic(auto, using(crate::proofs::PlacesLemmas::rest_end))]
 #[inline(always)]
-pub fn begins_mark(text: &str, at: usize) -> bool
+pub(crate) fn begins_mark(text: &str, at: usize) -> bool
     requires { IsPlace text.now at }
     ensures { result ≡ piece.begins_mark (rest_at text.now at) }
 {
@@ -148,12 +149,12 @@ pub fn begins_mark(text: &str, at: usize) -> bool
     is_mark(c) & !comment
 }
 
-/// The class of the piece that begins at a place, and the place behind it, both in bytes from 0.
-///
-/// `None`: no piece begins there.
+// The class of the piece that begins at a place, and the place behind it, both in bytes from 0.
+//
+// `None`: no piece begins there.
 #[tactic(auto, using(crate::proofs::PlacesLemmas::rest_end))]
 #[inline(always)]
-pub fn scan(text: &str, at: usize) -> Option<(PieceKind, usize)>
+pub(crate) fn scan(text: &str, at: usize) -> Option<(PieceKind, usize)>
     requires place { IsPlace text.now at }
     requires more { at < length text.now }
     ensures { IsScanned text.now at result (scan.scan (rest_at text.now at)) }

@@ -1,5 +1,5 @@
-use Rattle.std.proofs.Common.{◌≡◌, ap, subst, sym, ◌∙◌, arith, inl, inr}
-use Rattle.std.specs.Prelude.{if◌then◌else◌, Option, Some, None}
+use Rattle.std.proofs.Common.{◌≡◌, ◌∙◌, arith, inl, inr}
+use Rattle.std.specs.Prelude.{Some, None}
 use Rattle.std.proofs.lemmas.List.{append-nil, nil_from_length}
 use Rattle.std.proofs.lemmas.List.Elements.{All-pop}
 use Rattle.canon_lex.specs.Opened.{groups_at, turned, IsFrameOf}
@@ -32,7 +32,7 @@ loop-at-preserved c =
     let turn = c.in_ok-turn.ensures.turned c.args.text.now in
     let on : turned (groups_at c.args.text.now c.loop-at.stack.items) c.in-Some.kind (count_before c.args.text.now c.loop-at.at) ≡ Some (groups_at c.args.text.now c.turn.new.stack.items) = rw c.if-not-branch.false at turn in
     read_on _ _ _ _ _ _ _ _ c.utf8.text now c.in-Some.ensures.0 c.in-Some.ensures.1 c.in_ok-put.ensures.tokens on
-      (c.in_ok-put.ensures.within now.within) (c.in_ok-turn.ensures.places c.args.text.now now.place now.frames_at)
+    (c.in_ok-put.ensures.within now.within) (c.in_ok-turn.ensures.places c.args.text.now now.place now.frames_at)
 
 pub place_at-requires-in-Some-pop : goal.place_at-requires-in-Some-pop
 place_at-requires-in-Some-pop c = place_boundary _ _ (All-pop (IsFrameOf c.args.text.now) c.loop-at.stack.items c.pop.new.self.items (Some c.in-Some-pop.frame) c.in-Some-pop.ensures.items c.loop-at.invariant.frames_at).1
@@ -40,7 +40,7 @@ place_at-requires-in-Some-pop c = place_boundary _ _ (All-pop (IsFrameOf c.args.
 pub returns-in-None-clause-forest : goal.returns-in-None-clause-forest
 returns-in-None-clause-forest c =
     read_all _ _ _ _ c.loop-at.invariant (omega arith)
-      (c.in-None.ensures.items ∙ append-nil _ ∙ nil_from_length _ (let none = c.in-None.ensures.cases.1 in omega arith))
+    (c.in-None.ensures.items ∙ append-nil _ ∙ nil_from_length _ (let none = c.in-None.ensures.cases.1 in omega arith))
 
 pub returns-in-Some-pop-clause-fault : goal.returns-in-Some-pop-clause-fault
 returns-in-Some-pop-clause-fault c =

@@ -1,5 +1,5 @@
-use Rattle.std.proofs.Common.{arith, sym, ap, subst, ◌≡◌, ◌∙◌, get_or, ◌<◌}
-use Rattle.canon_lex.proofs.PlacesLemmas.{IsStep, ascii_step}
+use Rattle.std.proofs.Common.{ap, ◌≡◌, ◌∙◌, get_or}
+use Rattle.canon_lex.proofs.PlacesLemmas.{ascii_step}
 use Rattle.canon_lex.proofs.text.char_at.Goals as goal
 
 pub returns-then-byte-lt128-clause-rest : goal.returns-then-byte-lt128-clause-rest
