@@ -41,13 +41,6 @@ impl<T> Watched<T> {
         self.watch.failed()
     }
 
-    /// What the calls up to now answered.
-    pub fn watch(&self) -> Watch
-        ensures { result ≡ watch_of self.now }
-    {
-        self.watch
-    }
-
     /// The reader or the writer itself.
     pub fn get_ref(&self) -> &T
         ensures { result.now ≡ inner_of self.now }
