@@ -8,8 +8,9 @@ abbrev pub HasFailure : List Answer → Type 0
 HasFailure answers = (front : List Answer) × (back : List Answer) × (answers ≡ front ++ Failure ∷ back)
 
 -- 1,000 calls in a row were interrupted
-abbrev pub IsInterrupted : List Answer → Type 0
-IsInterrupted answers = (front : List Answer) × (back : List Answer) × (answers ≡ front ++ (replicate 1000 Interruption ++ back))
+abbrev pub HasThousandInterruptions : List Answer → Type 0
+HasThousandInterruptions answers = (front : List Answer) × (back : List Answer) × (answers ≡ front ++ (replicate 1000 Interruption ++ back))
 
+-- the run of calls failed
 abbrev pub IsFailedRun : List Answer → Type 0
-IsFailedRun answers = HasFailure answers ⊎ IsInterrupted answers
+IsFailedRun answers = HasFailure answers ⊎ HasThousandInterruptions answers

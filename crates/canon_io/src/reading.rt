@@ -23,13 +23,13 @@ pub enum ReadFault {
 const LEAST_GROWTH: usize = 64 * 1024;
 
 /// Reads the reader to its end, at most `limit` bytes and one more. An interrupted read is tried
-/// again. The memory is at most a quarter more than the bytes that were read, or 64 KiB more.
+/// again. The vector has room for a quarter more than the bytes that were read at most, or for 64 KiB
+/// more.
 ///
 /// # Errors
 ///
-/// `Memory` where a growth was refused: no byte is lost by that which the reader gave. `Failed` where
-/// the reader failed, as `Watched` counts it. `TooLong` where it gave more than `limit` bytes. What
-/// was read before an error is lost.
+/// `Memory` where a growth was refused. `Failed` where the reader failed, as `Watched` counts it.
+/// `TooLong` where it gave more than `limit` bytes. What was read before an error is lost.
 pub fn read_within<R: Read>(
     alloc: Global,
     limit: usize,
@@ -46,9 +46,12 @@ pub fn read_within<R: Read>(
     ensures end { OnOk result (IsAtEnd (R.remaining (inner_of reader.new))) }
     ensures fits { IfOk result (λ v. vec_len v ≤ limit) }
 
+    // One byte past the limit shows that there are more.
     ensures too_long { result ≡ Err ReadFault.TooLong
         → ConsumesExactly (R.remaining (inner_of reader.old))
         (R.remaining (inner_of reader.new)) (limit + 1) }
+    ensures longer { result ≡ Err ReadFault.TooLong
+        → IfSome (R.remaining (inner_of reader.old)) (λ xs. limit < length xs) }
     ensures within { ConsumesAtMost (R.remaining (inner_of reader.old))
         (R.remaining (inner_of reader.new)) (limit + 1) }
     ensures failed { IsTrue (has_failed reader.new) ↔ (result ≡ Err ReadFault.Failed) }
