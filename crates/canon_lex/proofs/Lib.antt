@@ -12,3 +12,5 @@ pub mod Reading
 pub mod Halts
 pub mod Plain
 pub mod Spaced
+pub mod Reaching
+pub mod Total

@@ -1,20 +1,19 @@
 -- What is read of a text, up to a place: one piece on, to its end, and to its fault.
 use Rattle.std.proofs.Common.{◌≡◌, ◌≢◌, ℕ, ◌≤◌, ◌<◌, arith, List, [], ◌∷◌, ◌++◌, refl, sym, ap, ap₂, ◌∙◌, subst, length, drop, map}
-use Rattle.std.specs.Prelude.{Option, Some, None, encode_utf8_all}
+use Rattle.std.specs.Prelude.{Some, None, encode_utf8_all}
 use Rattle.std.specs.List.{All}
 use Rattle.std.specs.Str.{chars, IsUtf8}
-use Rattle.std.proofs.lemmas.List.{append-nil, length-drop, reverse-append}
+use Rattle.std.proofs.lemmas.List.{length-drop, reverse-append}
 use Rattle.std.proofs.lemmas.List.Elements.{All-nil}
 use Rattle.std.proofs.lemmas.Str.{encodes-chars}
-use Rattle.rust_token.specs.declared.delimiter.Delimiter.{Delimiter}
 use Rattle.rust_token.specs.declared.piece.PieceKind.{PieceKind}
-use Rattle.rust_token.specs.declared.piece.PieceKind.TheVariants.{White, Open, Close, Mark, Ident}
+use Rattle.rust_token.specs.declared.piece.PieceKind.TheVariants.{Close}
 use Rattle.rust_token.specs.declared.lexeme.Lexeme.{Lexeme}
 use Rattle.rust_token.specs.Places.{place_of}
 use Rattle.rust_token.specs.Piece.{Piece, Fits, closing}
-use Rattle.rust_token.specs.Cover.{onto, AreFit, Covers}
+use Rattle.rust_token.specs.Cover.{onto, Covers}
 use Rattle.rust_token.specs.Token.{token_of, tokens_of, placed}
-use Rattle.rust_token.specs.Groups.{Group, closed, groups_open}
+use Rattle.rust_token.specs.Groups.{Group, groups_open}
 use Rattle.rust_token.specs.Forest.{IsForest, Reaches, count, IsStray, IsUnmatched, IsUnclosed}
 use Rattle.rust_token.specs.Lexemes.{between, spanned_tokens, IsWithin}
 use Rattle.canon_lex.specs.declared.groups.Frame.{Frame}
@@ -24,14 +23,14 @@ use Rattle.canon_lex.specs.Opened.{group_at, groups_at, turned, IsFrameOf}
 use Rattle.canon_lex.proofs.Complete.{complete}
 use Rattle.canon_lex.proofs.Sound.{sound}
 use Rattle.canon_lex.proofs.PlacesLemmas.{rest_end, first_place, chars_between, chars_before}
-use Rattle.canon_lex.proofs.Covering.{onto_rest, onto_append, fit_append, tokens_append, groups_append}
+use Rattle.canon_lex.proofs.Covering.{onto_rest}
+use Rattle.canon_lex.proofs.Reaching.{piece, tokens_on, reach_on, closes_nothing}
 
--- the text is covered up to the place, by the pieces of these lexemes; these groups are open
+-- reading reaches the place, by the pieces of these lexemes, and these groups are open
 pub record ReadTo (bytes : List ℕ) (at : ℕ) (lexemes : List Lexeme) (frames : List Frame) : Type 0 where
   pub pieces : List Piece
-  pub covers : Covers (chars bytes) pieces (rest_at bytes at)
+  pub reaches : Reaches (chars bytes) pieces (rest_at bytes at) (groups_at bytes frames)
   pub tokens : tokens_of 0 pieces (rest_at bytes at) ≡ spanned_tokens bytes lexemes
-  pub opened : groups_open [] (tokens_of 0 pieces (rest_at bytes at)) ≡ Some (groups_at bytes frames)
   pub place : IsPlace bytes at
   pub within : All (IsWithin bytes) lexemes
   pub frames_at : All (IsFrameOf bytes) frames
@@ -39,9 +38,8 @@ pub record ReadTo (bytes : List ℕ) (at : ℕ) (lexemes : List Lexeme) (frames 
 pub read_none : (bytes : List ℕ) → IsUtf8 bytes → ReadTo bytes 0 [] []
 read_none bytes u = record {
   pieces = [];
-  covers = record { joined = refl; fit = tt };
+  reaches = record { covers = record { joined = refl; fit = tt }; opened = refl };
   tokens = refl;
-  opened = refl;
   place = first_place bytes u;
   within = All-nil (IsWithin bytes);
   frames_at = All-nil (IsFrameOf bytes);
@@ -50,19 +48,7 @@ read_none bytes u = record {
 -- the number of characters of the pieces is that of the characters before the place
 counted : (bytes : List ℕ) (at : ℕ) (lexemes : List Lexeme) (frames : List Frame) (r : ReadTo bytes at lexemes frames) → IsUtf8 bytes → count r.pieces ≡ count_before bytes at
 counted bytes at lexemes frames r u =
-    ap length (chars_before bytes (onto r.pieces []) at u r.place (r.covers.joined ∙ onto_rest r.pieces (rest_at bytes at)))
-
--- a piece opens or closes what its token does
-turned_groups : (gs : List Group) (k : PieceKind) (n : ℕ) (cs rest : List ℕ) → groups_open gs (placed n (token_of k cs rest)) ≡ turned gs k n
-turned_groups gs White n cs rest = refl
-turned_groups gs (Open d) n cs rest = refl
-turned_groups gs (Close d) n cs rest = whole (closed gs d)
-  where
-    whole : (o : Option (List Group)) → ◌≡◌ {A = Option (List Group)} (elim o [ None ↦ None | Some hs ↦ Some hs ]) o
-    whole None = refl
-    whole (Some hs) = refl
-turned_groups gs Mark n cs rest = refl
-turned_groups gs Ident n cs rest = refl
+    ap length (chars_before bytes (onto r.pieces []) at u r.place (r.reaches.covers.joined ∙ onto_rest r.pieces (rest_at bytes at)))
 
 pub read_on : (bytes : List ℕ) (at end : ℕ) (k : PieceKind) (old new : List Lexeme) (before after : List Frame) → IsUtf8 bytes → ReadTo bytes at old before →
     scan (rest_at bytes at) ≡ Ends k (rest_at bytes end) → IsBehind bytes at end →
@@ -72,22 +58,15 @@ pub read_on : (bytes : List ℕ) (at end : ℕ) (k : PieceKind) (old new : List 
 read_on bytes at end k old new before after u r e b t g w f =
     let rest = rest_at bytes end in
     let cs = between bytes at end in
-    let n = count_before bytes at in
     let found = sound (rest_at bytes at) rest k e in
     let same : found.chars ≡ cs = chars_between bytes found.chars at end r.place b found.joined in
     let joined : rest_at bytes at ≡ cs ++ rest = found.joined ∙ ap (λ x. x ++ rest) same in
-    let p : Piece = record { kind = k; chars = cs } in
-    let one : tokens_of (count r.pieces) (p ∷ []) rest ≡ placed n (token_of k cs rest) = append-nil (placed (count r.pieces) (token_of k cs rest)) ∙ ap (λ m. placed m (token_of k cs rest)) (counted bytes at old before r u) in
-    let more : tokens_of 0 (r.pieces ++ p ∷ []) rest ≡ tokens_of 0 r.pieces (rest_at bytes at) ++ placed n (token_of k cs rest) =
-    tokens_append r.pieces (p ∷ []) rest ∙ ap₂ (λ x y. tokens_of 0 r.pieces x ++ y) (sym joined) one in
+    let fits : Fits k cs rest = subst (λ x. Fits k x rest) same found.fits in
+    let n : count r.pieces ≡ count_before bytes at = counted bytes at old before r u in
     record {
-      pieces = r.pieces ++ p ∷ [];
-      covers = record {
-        joined = r.covers.joined ∙ ap (onto r.pieces) joined ∙ sym (onto_append r.pieces (p ∷ []) rest);
-        fit = fit_append r.pieces (p ∷ []) rest (subst (λ x. AreFit r.pieces x) joined r.covers.fit) (subst (λ x. Fits k x rest) same found.fits, tt);
-      };
-      tokens = more ∙ ap (λ ts. ts ++ placed n (token_of k cs rest)) r.tokens ∙ sym t;
-      opened = ap (groups_open []) more ∙ groups_append [] (groups_at bytes before) (tokens_of 0 r.pieces (rest_at bytes at)) (placed n (token_of k cs rest)) r.opened ∙ turned_groups (groups_at bytes before) k n cs rest ∙ g;
+      pieces = r.pieces ++ piece k cs ∷ [];
+      reaches = reach_on (chars bytes) r.pieces (rest_at bytes at) rest (groups_at bytes before) (groups_at bytes after) k cs r.reaches joined fits (ap (turned (groups_at bytes before) k) n ∙ g);
+      tokens = tokens_on r.pieces k cs (rest_at bytes at) rest joined ∙ ap₂ (λ ts m. ts ++ placed m (token_of k cs rest)) r.tokens n ∙ sym t;
       place = b.place;
       within = w;
       frames_at = f;
@@ -96,8 +75,8 @@ read_on bytes at end k old new before after u r e b t g w f =
 -- pieces and a rest that is known
 reached : (bytes rest : List ℕ) (at : ℕ) (lexemes : List Lexeme) (frames : List Frame) (groups : List Group) (r : ReadTo bytes at lexemes frames) → rest_at bytes at ≡ rest → groups_at bytes frames ≡ groups → Reaches (chars bytes) r.pieces rest groups
 reached bytes rest at lexemes frames groups r e g = record {
-  covers = subst (λ x. Covers (chars bytes) r.pieces x) e r.covers;
-  opened = ap (λ x. groups_open [] (tokens_of 0 r.pieces x)) (sym e) ∙ r.opened ∙ ap (λ x. Some x) g;
+  covers = subst (λ x. Covers (chars bytes) r.pieces x) e r.reaches.covers;
+  opened = ap (λ x. groups_open [] (tokens_of 0 r.pieces x)) (sym e) ∙ r.reaches.opened ∙ ap (λ x. Some x) g;
 }
 
 pub read_all : (bytes : List ℕ) (at : ℕ) (lexemes : List Lexeme) (frames : List Frame) → ReadTo bytes at lexemes frames → length bytes ≤ at → frames ≡ [] → IsForest (chars bytes) (spanned_tokens bytes lexemes)
@@ -122,19 +101,6 @@ stray_at bytes at lexemes frames u r h e = record {
   none = λ k cs rest s f. (let wrong : Nowhere ≡ Ends k rest = sym e ∙ ap scan s ∙ complete k cs rest f in cc);
   there = ap (place_of (chars bytes)) (sym (counted bytes at lexemes frames r u));
 }
-
--- only a closing mark closes nothing
-record ClosesNothing (gs : List Group) (k : PieceKind) : Type 0 where
-  delimiter : Delimiter
-  is : k ≡ Close delimiter
-  wrong : closed gs delimiter ≡ None
-
-closes_nothing : (gs : List Group) (k : PieceKind) (n : ℕ) → turned gs k n ≡ None → ClosesNothing gs k
-closes_nothing gs White n e = cc
-closes_nothing gs (Open d) n e = cc
-closes_nothing gs (Close d) n e = record { delimiter = d; is = refl; wrong = e }
-closes_nothing gs Mark n e = cc
-closes_nothing gs Ident n e = cc
 
 pub unmatched_at : (bytes : List ℕ) (at end : ℕ) (k : PieceKind) (lexemes : List Lexeme) (frames : List Frame) → IsUtf8 bytes → ReadTo bytes at lexemes frames → scan (rest_at bytes at) ≡ Ends k (rest_at bytes end) → turned (groups_at bytes frames) k (count_before bytes at) ≡ None → IsUnmatched (chars bytes) (place_of (chars bytes) (count_before bytes at))
 unmatched_at bytes at end k lexemes frames u r e t =

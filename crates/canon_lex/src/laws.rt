@@ -10,7 +10,7 @@ ghost use Rattle.rust_token.specs.Printed.{text};
 ghost use Rattle.rust_token.specs.Spacing.{AreTokens, IsWellSpaced};
 ghost use Rattle.rust_token.specs.Token.{Spanned, Token, plain};
 ghost use Rattle.rust_token.specs.declared.place.LineColumn.{LineColumn};
-ghost use Rattle.std.specs.Prelude.{ℕ, ◌≡◌, ◌↔◌, List};
+ghost use Rattle.std.specs.Prelude.{ℕ, ◌≡◌, ◌↔◌, ◌⊎◌, List};
 
 /// A text has at most one cover by pieces.
 pub fn one_cover()
@@ -20,6 +20,11 @@ pub fn one_cover()
 /// A text has at most one forest: its tokens and their places are determined.
 pub fn one_forest()
     ensures { (cs : List ℕ) (ts us : List Spanned) → IsForest cs ts → IsForest cs us → ts ≡ us }
+{}
+
+/// Each text has a forest or a lexical fault.
+pub fn forest_or_fault()
+    ensures { (cs : List ℕ) → ((ts : List Spanned) × IsForest cs ts) ⊎ ((place : LineColumn) × IsLexicalFault cs place) }
 {}
 
 /// A text with a lexical fault has no forest.
