@@ -1,7 +1,8 @@
--- Places in the bytes of a text, and the characters from a place on.
+-- Places in the bytes of a text: between characters, in bytes from 0.
 use Rattle.std.specs.Prelude.{ℕ, ◌<◌, ◌≤◌, List, length, take, drop}
 use Rattle.std.specs.Str.{chars, IsUtf8}
 
+-- the characters from a place on
 abbrev pub rest_at : List ℕ → ℕ → List ℕ
 rest_at bytes at = chars (drop at bytes)
 
