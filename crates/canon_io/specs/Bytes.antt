@@ -12,4 +12,5 @@ ConsumesAtMost old new most = (bs : List ℕ) × Consumes old new bs × (length 
 
 -- known bytes grow by the first of these bytes, and not by all of them
 abbrev pub AppendsFront : Option (List ℕ) → Option (List ℕ) → List ℕ → Type 0
-AppendsFront old new bytes = (count : ℕ) × (count < length bytes) × Appends old new (take count bytes)
+AppendsFront old new bytes =
+    (count : ℕ) × (count < length bytes) × Appends old new (take count bytes)

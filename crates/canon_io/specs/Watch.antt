@@ -14,7 +14,8 @@ fresh = Sound 0
 abbrev pub after : Watch → Answer → Watch
 after Failed answer = Failed
 after (Sound interrupted) Normal = Sound 0
-after (Sound interrupted) Interruption = if nat_lt (interrupted + 1) 1000 then Sound (interrupted + 1) else Failed
+after (Sound interrupted) Interruption =
+    if nat_lt (interrupted + 1) 1000 then Sound (interrupted + 1) else Failed
 after (Sound interrupted) Failure = Failed
 
 -- behind some answers, the first of them first
@@ -22,6 +23,7 @@ abbrev pub after_all : Watch → List Answer → Watch
 after_all watch [] = watch
 after_all watch (answer ∷ answers) = after_all (after watch answer) answers
 
+-- one of the calls failed
 abbrev pub failed : Watch → Bool
 failed (Sound interrupted) = false
 failed Failed = true

@@ -23,8 +23,8 @@ pub enum ReadFault {
 const LEAST_GROWTH: usize = 64 * 1024;
 
 /// Reads the reader to its end, at most `limit` bytes and one more. An interrupted read is tried
-/// again. The vector has room for a quarter more than the bytes that were read at most, or for 64 KiB
-/// more.
+/// again. The vector has room for at most a quarter more than the bytes that were read, or for
+/// 64 KiB more.
 ///
 /// # Errors
 ///
@@ -125,7 +125,8 @@ fn make_room(bytes: &mut Vec<u8>, filled: usize, most: usize) -> Result<(), Allo
     bytes.resize(end, 0)
 }
 
-// One read into `buf` from `at` on, tried again where it is interrupted. None where the reader failed.
+// One read into `buf` from `at` on, tried again where it is interrupted. None where the reader
+// failed.
 fn read_at<R: Read>(reader: &mut Watched<R>, buf: &mut [u8], at: usize) -> Option<usize>
     requires room { at < length buf.old }
     requires sound { has_failed reader.old ≡ false }
