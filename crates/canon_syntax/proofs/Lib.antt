@@ -1,0 +1,10 @@
+pub mod Sound
+pub mod Whole
+pub mod Within
+pub mod Agree
+pub mod Normals
+pub mod Texts
+pub mod Raws
+pub mod Steps
+pub mod Turns
+pub mod Resumes

@@ -1,0 +1,14 @@
+pub mod Words
+pub mod Kind
+pub mod Tree
+pub mod Gram
+pub mod Tests
+pub mod Table
+pub mod Derives
+pub mod Normal
+pub mod File
+pub mod Run
+pub mod Fuel
+pub mod Turns
+pub mod Views
+pub mod Gives
