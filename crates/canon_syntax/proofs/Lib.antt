@@ -8,3 +8,5 @@ pub mod Raws
 pub mod Steps
 pub mod Turns
 pub mod Resumes
+pub mod Begun
+pub mod Public

@@ -1,6 +1,8 @@
 -- Files, and where tokens are none.
 use Rattle.std.specs.Prelude.{◌≡◌, ℕ, suc, ◌<◌, List, [], ◌++◌, length, take, Option, Some, None}
 use Rattle.rust_token.specs.Token.{Token}
+use Rattle.canon_syntax.specs.declared.fault.ParseFault.{ParseFault}
+use Rattle.canon_syntax.specs.declared.fault.ParseFault.TheVariants.{Memory, Syntax}
 use Rattle.canon_syntax.specs.Kind.{AFile}
 use Rattle.canon_syntax.specs.Tree.{Tree, flat}
 use Rattle.canon_syntax.specs.Gram.{ref}
@@ -43,3 +45,8 @@ StopsAt tokens (Some i) = TurnsWrong tokens i
 pub record IsSyntaxFault (tokens : List Token) (place : Option ℕ) : Type 0 where
   pub none : NoFile tokens
   pub stops : StopsAt tokens place
+
+-- what a fault of reading says of the tokens: that memory ran out says nothing of them
+abbrev pub IsFault : List Token → ParseFault → Type 0
+IsFault tokens Memory = Unit {0}
+IsFault tokens (Syntax place) = IsSyntaxFault tokens place

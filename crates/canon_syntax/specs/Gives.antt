@@ -1,5 +1,5 @@
 -- What a reader of the code answers: a tool of the proofs, for the functions behind parse_file.
-use Rattle.std.specs.Prelude.{◌≡◌, ℕ, zero, suc, ◌-◌, Bool, List, length, take, drop, Result, Ok, Err, Option, Some, None, ◌==◌, if◌then◌else◌}
+use Rattle.std.specs.Prelude.{◌≡◌, ℕ, zero, suc, ◌-◌, Bool, List, length, take, drop, Result, Ok, Err, Option, Some, None}
 use Rattle.rust_token.specs.Token.{Token}
 use Rattle.rust_token.specs.Lexemes.{tokens_at}
 use Rattle.rust_token.specs.declared.lexeme.Lexeme.{Lexeme}
@@ -27,6 +27,7 @@ abbrev pub RawEnds : List ℕ → List Lexeme → Option ℕ → Type 0
 RawEnds bytes ls None = raw_at 0 (tokens_at bytes ls) ≡ Refused 0
 RawEnds bytes ls (Some n) = raw_at 0 (tokens_at bytes ls) ≡ Got (Raw (tokens_at bytes (take n ls))) (tokens_at bytes (drop n ls))
 
--- where so many tokens of all are left, by the index of the first of these
+-- where so many tokens of all are left: the index of the first of these, or the end
 abbrev pub place_where : ℕ → ℕ → Option ℕ
-place_where all left = (if left == 0 then None else Some (all - left))
+place_where all zero = None
+place_where all (suc n) = Some (all - suc n)
