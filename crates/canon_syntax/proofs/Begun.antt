@@ -63,10 +63,10 @@ unfolding table
 macro_free = ref_free AMacro (seq_free ident macro_end (one_free is_ident) (seq_free (last 33) (seq (one (is_open Brace)) body) (last_free 33) (seq_free (one (is_open Brace)) body (one_free (is_open Brace)) body_free)))
 
 -- a sequence begins with the token that its first entry tests
-begins_with : (p q : Token → Bool) (b : Bool) → ((t : Token) → p t ≡ true → q t ≡ b) → (g : Gram) → Tells (first_is q) b (seq (one p) g)
-begins_with p q b h g (Pair (Leaf t) y) r d = h t d.0
-begins_with p q b h g (Pair _ y) r d = absurd d.0
-begins_with p q b h g _ r d = absurd d
+pub begins_one : (p q : Token → Bool) (b : Bool) → ((t : Token) → p t ≡ true → q t ≡ b) → (g : Gram) → Tells (first_is q) b (seq (one p) g)
+begins_one p q b h g (Pair (Leaf t) y) r d = h t d.0
+begins_one p q b h g (Pair _ y) r d = absurd d.0
+begins_one p q b h g _ r d = absurd d
 
 false_from : (b : Bool) → (b ≡ true → ⊥) → b ≡ false
 false_from true h = absurd (h refl)
@@ -81,11 +81,11 @@ ident_keyword t e =
 
 struct_tells : Tells (first_is (is_keyword struct_text)) true (ref AStruct)
 unfolding table
-struct_tells = ref_tells (first_is (is_keyword struct_text)) true AStruct (begins_with (is_keyword struct_text) (is_keyword struct_text) true (λ t h. h) (seq ident (last 59)))
+struct_tells = ref_tells (first_is (is_keyword struct_text)) true AStruct (begins_one (is_keyword struct_text) (is_keyword struct_text) true (λ t h. h) (seq ident (last 59)))
 
 macro_tells : Tells (first_is (is_keyword struct_text)) false (ref AMacro)
 unfolding table
-macro_tells = ref_tells (first_is (is_keyword struct_text)) false AMacro (begins_with is_ident (is_keyword struct_text) false ident_keyword macro_end)
+macro_tells = ref_tells (first_is (is_keyword struct_text)) false AMacro (begins_one is_ident (is_keyword struct_text) false ident_keyword macro_end)
 
 item_resumed : AreResumed (ref AnItem)
 unfolding table

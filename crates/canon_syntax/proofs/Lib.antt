@@ -10,3 +10,5 @@ pub mod Turns
 pub mod Resumes
 pub mod Begun
 pub mod Public
+pub mod Keeps
+pub mod FileLaws

@@ -12,3 +12,4 @@ pub mod Fuel
 pub mod Turns
 pub mod Views
 pub mod Gives
+pub mod Laws

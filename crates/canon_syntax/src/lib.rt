@@ -16,6 +16,7 @@
 
 pub mod fault;
 mod items;
+pub mod laws;
 pub mod parse;
 mod refusal;
 mod tokens;
