@@ -1,1 +1,5 @@
 pub mod Message
+pub mod Program
+pub mod Faults
+pub mod Run
+pub mod Causes

@@ -41,8 +41,8 @@ unfolding table
 struct_resumed =
     ref_resumed AStruct
     (seq_resumed (keyword struct_text) (seq ident (last 59)) (one_resumed (is_keyword struct_text) keyword_example) (one_free (is_keyword struct_text))
-      (seq_resumed ident (last 59) (one_resumed is_ident ident_example) (one_free is_ident) (last_resumed 59) (last_example 59))
-      (seq_example ident (last 59) ident_example (last_example 59)))
+    (seq_resumed ident (last 59) (one_resumed is_ident ident_example) (one_free is_ident) (last_resumed 59) (last_example 59))
+    (seq_example ident (last 59) ident_example (last_example 59)))
 
 struct_free : IsFree (ref AStruct)
 unfolding table
@@ -53,10 +53,10 @@ unfolding table
 macro_resumed =
     ref_resumed AMacro
     (seq_resumed ident macro_end (one_resumed is_ident ident_example) (one_free is_ident)
-      (seq_resumed (last 33) (seq (one (is_open Brace)) body) (last_resumed 33) (last_free 33)
-        (seq_resumed (one (is_open Brace)) body (one_resumed (is_open Brace) open_example) (one_free (is_open Brace)) body_resumed body_example)
-        (seq_example (one (is_open Brace)) body open_example body_example))
-      (seq_example (last 33) (seq (one (is_open Brace)) body) (last_example 33) (seq_example (one (is_open Brace)) body open_example body_example)))
+    (seq_resumed (last 33) (seq (one (is_open Brace)) body) (last_resumed 33) (last_free 33)
+    (seq_resumed (one (is_open Brace)) body (one_resumed (is_open Brace) open_example) (one_free (is_open Brace)) body_resumed body_example)
+    (seq_example (one (is_open Brace)) body open_example body_example))
+    (seq_example (last 33) (seq (one (is_open Brace)) body) (last_example 33) (seq_example (one (is_open Brace)) body open_example body_example)))
 
 macro_free : IsFree (ref AMacro)
 unfolding table

@@ -162,13 +162,13 @@ struct_settled : AreSettled (ref AStruct)
 unfolding table
 struct_settled =
     ref_settled AStruct (first_fixed (keyword struct_text) (seq ident (last 59)) (one_fixed (is_keyword struct_text))
-      (first_fixed ident (last 59) (one_fixed is_ident) (last_settled 59)))
+    (first_fixed ident (last 59) (one_fixed is_ident) (last_settled 59)))
 
 macro_settled : AreSettled (ref AMacro)
 unfolding table
 macro_settled =
     ref_settled AMacro (first_fixed ident (seq (last 33) braces) (one_fixed is_ident)
-      (second_calm (last 33) braces (last_settled 33) braces_calm (fixed_settled braces braces_fixed)))
+    (second_calm (last 33) braces (last_settled 33) braces_calm (fixed_settled braces braces_fixed)))
 
 item_settled : AreSettled (ref AnItem)
 unfolding table
@@ -178,8 +178,8 @@ item_calm : Tells (first_is is_sign) false (ref AnItem)
 unfolding table
 item_calm =
     ref_tells (first_is is_sign) false AnItem (alt_tells (first_is is_sign) false (first_is (is_keyword struct_text)) (ref AStruct) (ref AMacro)
-      (ref_tells (first_is is_sign) false AStruct (begins_one (is_keyword struct_text) is_sign false (word_calm (is_keyword struct_text) (λ c s. refl)) (seq ident (last 59))))
-      (ref_tells (first_is is_sign) false AMacro (begins_one is_ident is_sign false (word_calm is_ident (λ c s. refl)) (seq (last 33) braces))))
+    (ref_tells (first_is is_sign) false AStruct (begins_one (is_keyword struct_text) is_sign false (word_calm (is_keyword struct_text) (λ c s. refl)) (seq ident (last 59))))
+    (ref_tells (first_is is_sign) false AMacro (begins_one is_ident is_sign false (word_calm is_ident (λ c s. refl)) (seq (last 33) braces))))
 
 -- items begin with no mark
 items_calm : (x : Tree) → Derives x (star is_more (ref AnItem)) [] → ask (first_is is_sign) (flat x ++ []) ≡ false

@@ -64,11 +64,13 @@ flat_normal (Second x) = flat_normal x
 flat_normal (Node k x) = flat_normal x
 
 alike_behind : (x : Tree) (r s : List Token) → Alike r s → Alike (flat x ++ r) (flat (normal x) ++ s)
-alike_behind x r s a = record { same =
-    map-append unspaced (flat x) r
-    ∙ ap (λ us. us ++ map unspaced r) (flat_normal x)
-    ∙ ap (λ us. map unspaced (flat (normal x)) ++ us) a.same
-    ∙ sym (map-append unspaced (flat (normal x)) s) }
+alike_behind x r s a = record {
+  same =
+      map-append unspaced (flat x) r
+      ∙ ap (λ us. us ++ map unspaced r) (flat_normal x)
+      ∙ ap (λ us. map unspaced (flat (normal x)) ++ us) a.same
+      ∙ sym (map-append unspaced (flat (normal x)) s);
+}
 
 module _ (all : (k : Kind) → AllBlind (table k)) where
   pub keeps : (x : Tree) (g : Gram) → AllBlind g → (r s : List Token) → Alike r s → Derives x g r → Derives (normal x) g s

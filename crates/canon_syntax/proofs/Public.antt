@@ -61,7 +61,7 @@ pub read_all : (bytes : List ℕ) (all rest : List Lexeme) (items : List Items.I
 read_all bytes all rest items r h =
     let ts : List Token = tokens_at bytes all in
     let e : normals items_loop ts ≡ Got (items_tree bytes items) [] =
-        turn_none is_more (ref AnItem) items_fit (item_tree bytes) items [] _ (ap (λ ls. in_front (item_tree bytes) items (normals items_loop (tokens_at bytes ls))) (sym (asks_none bytes rest h)) ∙ r.same) refl in
+    turn_none is_more (ref AnItem) items_fit (item_tree bytes) items [] _ (ap (λ ls. in_front (item_tree bytes) items (normals items_loop (tokens_at bytes ls))) (sym (asks_none bytes rest h)) ∙ r.same) refl in
     let f : normals (kind AFile) ts ≡ Got (Node AFile (items_tree bytes items)) [] = read_file ts ∙ ap (wrap (Node AFile)) e in
     let (x, g, i) = got_normal (reads (kind AFile) ts) _ _ f in
     let own = reads_sound all_founded (kind AFile) ts x [] g in

@@ -60,6 +60,7 @@ raw_start ls bytes = sym (onto_none (raw_at 0 (tokens_at bytes ls)))
     none (First _) = refl
     none (Second _) = refl
     none (Node _ _) = refl
+
     onto_none : (o : Out) → wrap (raw_onto []) o ≡ o
     onto_none Late = refl
     onto_none (Refused l) = refl
@@ -72,7 +73,7 @@ raw_step ls n m at d h e read bytes =
     let front : List Token = tokens_at bytes (take at ls) in
     let rest : List Lexeme = drop (suc at) ls in
     let f : tokens_at bytes (take (at + 1) ls) ≡ front ++ t ∷ [] =
-        ap (λ i. tokens_at bytes (take i ls)) (add-one at) ∙ ap (tokens_at bytes) (take-suc ls at d h) ∙ map-append (token_at bytes) (take at ls) (l ∷ []) in
+    ap (λ i. tokens_at bytes (take i ls)) (add-one at) ∙ ap (tokens_at bytes) (take-suc ls at d h) ∙ map-append (token_at bytes) (take at ls) (l ∷ []) in
     read bytes
     ∙ ap (λ us. wrap (raw_onto front) (raw_at n (tokens_at bytes us))) (drop-cons ls at d h)
     ∙ ap (wrap (raw_onto front)) (step_more n m l.kind (between bytes l.start l.«end») (tokens_at bytes rest) (sym e))

@@ -126,9 +126,9 @@ pub alt_resumed : (t : List Token → Bool) (a b : Gram) → AreResumed a → Te
 alt_resumed t a b ra ta rb tb ts l e =
     ⊎_elim
     (λ h. let r = ra ts l (wrap_refused First (interp Last reads a ts) l h.1) in
-        record { tree = First r.tree; front = r.front; back = r.back; more = r.more; derived = λ s. (ta r.tree s (r.derived s), r.derived s); spelled = r.spelled; tokens = r.tokens; count = r.count })
+    record { tree = First r.tree; front = r.front; back = r.back; more = r.more; derived = λ s. (ta r.tree s (r.derived s), r.derived s); spelled = r.spelled; tokens = r.tokens; count = r.count })
     (λ h. let r = rb ts l (wrap_refused Second (interp Last reads b ts) l h.1) in
-        record { tree = Second r.tree; front = r.front; back = r.back; more = r.more; derived = λ s. (tb r.tree s (r.derived s), r.derived s); spelled = r.spelled; tokens = r.tokens; count = r.count })
+    record { tree = Second r.tree; front = r.front; back = r.back; more = r.more; derived = λ s. (tb r.tree s (r.derived s), r.derived s); spelled = r.spelled; tokens = r.tokens; count = r.count })
     (chosen (ask t ts) _ _ _ e)
 
 pub alt_free : (t : List Token → Bool) (a b : Gram) → IsFree a → Tells t true a → IsFree b → Tells t false b → IsFree (alt t a b)

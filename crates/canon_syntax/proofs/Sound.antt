@@ -132,11 +132,11 @@ interp_sound call s (seq a b) ts x r e =
 interp_sound call s (alt t a b) ts x r e =
     ⊎_elim
     (λ h. let (y, us, e1, e2) = bind_got (interp Last call a ts) _ x r h.1 in
-        let inner = interp_sound call s a ts y us e1 in
-        got_as (Reads (alt t a b) ts) _ _ _ _ e2 (record { tree = (subst (λ w. ask t w ≡ true) inner.tokens h.0, inner.tree); tokens = inner.tokens }))
+    let inner = interp_sound call s a ts y us e1 in
+    got_as (Reads (alt t a b) ts) _ _ _ _ e2 (record { tree = (subst (λ w. ask t w ≡ true) inner.tokens h.0, inner.tree); tokens = inner.tokens }))
     (λ h. let (y, us, e1, e2) = bind_got (interp Last call b ts) _ x r h.1 in
-        let inner = interp_sound call s b ts y us e1 in
-        got_as (Reads (alt t a b) ts) _ _ _ _ e2 (record { tree = (subst (λ w. ask t w ≡ false) inner.tokens h.0, inner.tree); tokens = inner.tokens }))
+    let inner = interp_sound call s b ts y us e1 in
+    got_as (Reads (alt t a b) ts) _ _ _ _ e2 (record { tree = (subst (λ w. ask t w ≡ false) inner.tokens h.0, inner.tree); tokens = inner.tokens }))
     (chosen (ask t ts) _ _ _ e)
 interp_sound call s (star t g) ts x r e = s (loop t g) ts x r e
 interp_sound call s (ref k) ts x r e = s (kind k) ts x r e

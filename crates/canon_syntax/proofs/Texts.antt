@@ -37,9 +37,9 @@ pub ascii_same : (w bs : List ℕ) → IsAscii w → IsUtf8 bs → bytes_eq w bs
 ascii_same w bs a u =
     both_ways _ _
     (λ e. let h = (bytes_eq-Decides w bs).0 e in
-        (bytes_eq-Decides w (chars bs)).1 (sym (chars-IsAscii w a) ∙ ap chars h))
+    (bytes_eq-Decides w (chars bs)).1 (sym (chars-IsAscii w a) ∙ ap chars h))
     (λ e. let h = (bytes_eq-Decides w (chars bs)).0 e in
-        (bytes_eq-Decides w bs).1 (sym (encodes-IsAscii w a) ∙ ap encodes h ∙ encodes-chars bs u))
+    (bytes_eq-Decides w bs).1 (sym (encodes-IsAscii w a) ∙ ap encodes h ∙ encodes-chars bs u))
 
 pub word_same : (w bs : List ℕ) → IsAscii w → IsUtf8 bs → bytes_eq bs w ≡ bytes_eq w (chars bs)
 word_same w bs a u = flipped bs w ∙ ascii_same w bs a u

@@ -196,6 +196,7 @@ module _ (all : (k : Kind) → is_founded k ≡ true) where
       where
         w' : (turns_take a ≡ true) × (turns_take b ≡ true)
         w' = and_true _ _ w
+
         go : (o : Out) → interp Last call a ts ≡ o → IsOver o → ((us : List Token) → length us * suc top + level b ≤ n → IsOver (interp Last call b us)) → IsOver (o >>= λ x us. interp Last call b us >>= λ y vs. Got (Pair x y) vs)
         go Late e i rest = i
         go (Refused m) e i rest = tt
@@ -206,8 +207,8 @@ module _ (all : (k : Kind) → is_founded k ≡ true) where
     interp_over (alt t a b) ts w h l =
         let w' = and_true _ _ w in
         over_cond (ask t ts) _ _
-          (over_wrap First (interp Last call a ts) (interp_over a ts w'.0 (omega arith) (omega arith)))
-          (over_wrap Second (interp Last call b ts) (interp_over b ts w'.1 (omega arith) (omega arith)))
+        (over_wrap First (interp Last call a ts) (interp_over a ts w'.0 (omega arith) (omega arith)))
+        (over_wrap Second (interp Last call b ts) (interp_over b ts w'.1 (omega arith) (omega arith)))
     interp_over (star t g) ts w h l = let f = guarded (nullable g) (turns_take g) w in over (loop t g) ts (f.0, f.1, omega arith) (omega arith)
     interp_over (ref k) ts w h l = over (kind k) ts tt (omega arith)
 
@@ -245,12 +246,12 @@ module _ (all : (k : Kind) → is_founded k ≡ true) where
   interp_below call other ext (seq a b) ts w h =
       let w' = and_true _ _ w in
       below_bind (interp Last call a ts) (interp Last other a ts) _ _ (interp_below call other ext a ts w'.0 (omega arith))
-        (λ x us. below_wrap (Pair x) (interp Last call b us) (interp Last other b us) (interp_below call other ext b us w'.1 (omega arith)))
+      (λ x us. below_wrap (Pair x) (interp Last call b us) (interp Last other b us) (interp_below call other ext b us w'.1 (omega arith)))
   interp_below call other ext (alt t a b) ts w h =
       let w' = and_true _ _ w in
       below_cond (ask t ts) _ _ _ _
-        (below_wrap First (interp Last call a ts) (interp Last other a ts) (interp_below call other ext a ts w'.0 (omega arith)))
-        (below_wrap Second (interp Last call b ts) (interp Last other b ts) (interp_below call other ext b ts w'.1 (omega arith)))
+      (below_wrap First (interp Last call a ts) (interp Last other a ts) (interp_below call other ext a ts w'.0 (omega arith)))
+      (below_wrap Second (interp Last call b ts) (interp Last other b ts) (interp_below call other ext b ts w'.1 (omega arith)))
   interp_below call other ext (star t g) ts w h = let f = guarded (nullable g) (turns_take g) w in ext (loop t g) ts (f.0, f.1, h)
   interp_below call other ext (ref k) ts w h = ext (kind k) ts tt
 
@@ -269,7 +270,7 @@ module _ (all : (k : Kind) → is_founded k ≡ true) where
       ⊎_elim
       (λ lt. run_below n m (omega arith) c ts f)
       (λ le. let e : run m c ts ≡ run n c ts = below_over _ _ (run_below m n le c ts f) (reads_over c ts f) in
-          subst (λ o. Below (run n c ts) o) (sym e) (below_same (run n c ts)))
+      subst (λ o. Below (run n c ts) o) (sym e) (below_same (run n c ts)))
       (cases_lt n m)
 
   -- what each call reads, by one step of the table

@@ -1,7 +1,8 @@
 -- What each value of the code is as a tree, in normal form, where its lexemes lie in the bytes of a text.
 use Rattle.std.specs.Prelude.{ℕ, List, []}
 use Rattle.rust_token.specs.Token.{Token, Opens, Closes, Word}
-use Rattle.rust_token.specs.Lexemes.{token_at, tokens_at}
+use Rattle.std.specs.List.{All}
+use Rattle.rust_token.specs.Lexemes.{token_at, tokens_at, IsWithin}
 use Rattle.rust_token.specs.declared.delimiter.Delimiter.TheVariants.{Brace}
 use Rattle.rust_token.specs.declared.lexeme.Lexeme.{Lexeme}
 use Rattle.rust_token.specs.declared.lexeme.Spacing.TheVariants.{Alone}
@@ -36,3 +37,12 @@ items_tree bytes items = chain (item_tree bytes) items (Second Nil)
 
 abbrev pub file_tree : List ℕ → Files.File → Tree
 file_tree bytes f = Node AFile (items_tree bytes f.items.items)
+
+-- the lexemes of an item lie within the text
+abbrev pub IsItemWithin : List ℕ → Items.Item → Type 0
+IsItemWithin bytes (Struct s) = IsWithin bytes s.ident
+IsItemWithin bytes (Macro m) = IsWithin bytes m.ident × All (IsWithin bytes) m.tokens.now
+
+-- and so do those of each item of a file
+abbrev pub IsFileWithin : List ℕ → Files.File → Type 0
+IsFileWithin bytes f = All (IsItemWithin bytes) f.items.items

@@ -2,7 +2,7 @@
 
 ghost use Rattle.canon_syntax.specs.File.{IsFault, IsParsed};
 ghost use Rattle.canon_syntax.specs.Gives.{place_where};
-ghost use Rattle.canon_syntax.specs.Views.{file_tree};
+ghost use Rattle.canon_syntax.specs.Views.{IsFileWithin, file_tree};
 ghost use Rattle.rust_token.specs.Lexemes.{IsWithin, tokens_at};
 ghost use Rattle.std.specs.List.{All};
 ghost use Rattle.std.specs.Prelude.{◌≡◌, ◌≤◌, IfErr, IfOk};
@@ -32,9 +32,14 @@ fn place_where(all: usize, left: usize) -> Option<usize>
 /// the first lexeme with which the lexemes up to it begin no file, and there is none where all of them
 /// begin one. [`ParseFault::Memory`] where the list of items could not grow. Nothing is left of what was
 /// read.
-pub fn parse_file<'a>(alloc: Global, text: &str, lexemes: &'a [Lexeme]) -> Result<File<'a>, ParseFault>
+pub fn parse_file<'a>(
+    alloc: Global,
+    text: &str,
+    lexemes: &'a [Lexeme],
+) -> Result<File<'a>, ParseFault>
     requires { All (IsWithin text.now) lexemes.now }
     ensures parsed { IfOk result (λ f. IsParsed (tokens_at text.now lexemes.now) (file_tree text.now f)) }
+    ensures within { IfOk result (IsFileWithin text.now) }
     ensures refused { IfErr result (λ e. IsFault (tokens_at text.now lexemes.now) e) }
 {
     let mut items = Vec::new(alloc);
@@ -45,7 +50,10 @@ pub fn parse_file<'a>(alloc: Global, text: &str, lexemes: &'a [Lexeme]) -> Resul
                 items.push(item)?;
                 rest = after;
             }
-            Err(refusal) => return Err(ParseFault::Syntax(place_where(lexemes.len(), refusal.left))),
+            Err(refusal) => return Err(ParseFault::Syntax(place_where(
+                lexemes.len(),
+                refusal.left,
+            ))),
         }
     }
     Ok(File { items })

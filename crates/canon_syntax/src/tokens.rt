@@ -61,6 +61,7 @@ fn is_mark(text: &str, lexeme: &Lexeme, c: char) -> bool
 pub(crate) fn ident<'a>(text: &str, tokens: &'a [Lexeme]) -> Result<(Lexeme, &'a [Lexeme]), Refusal>
     requires { All (IsWithin text.now) tokens.now }
     ensures value { Gives (λ x. Leaf (token_at text.now x.0)) (λ x. tokens_at text.now x.1.now) result (one_at is_ident (tokens_at text.now tokens.now)) }
+    ensures name { IfOk result (λ x. IsWithin text.now x.0) }
     ensures within { IfOk result (λ x. All (IsWithin text.now) x.1.now) }
 {
     match tokens {
@@ -71,7 +72,11 @@ pub(crate) fn ident<'a>(text: &str, tokens: &'a [Lexeme]) -> Result<(Lexeme, &'a
 
 /// What follows the keyword that stands first.
 #[tactic(auto, unfolding(crate::specs::Run::one_at), using(crate::proofs::Texts::keyword_token))]
-pub(crate) fn keyword<'a>(text: &str, tokens: &'a [Lexeme], keyword: &str) -> Result<&'a [Lexeme], Refusal>
+pub(crate) fn keyword<'a>(
+    text: &str,
+    tokens: &'a [Lexeme],
+    keyword: &str,
+) -> Result<&'a [Lexeme], Refusal>
     requires within { All (IsWithin text.now) tokens.now }
     requires ascii { IsAscii keyword.now }
     ensures value { Gives (λ x. Leaf (Word keyword.now)) (λ x. tokens_at text.now x.now) result (one_at (is_keyword keyword.now) (tokens_at text.now tokens.now)) }
@@ -111,26 +116,46 @@ pub(crate) fn last<'a>(text: &str, tokens: &'a [Lexeme], c: char) -> Result<&'a 
 
 /// What follows the opening mark of a group, which stands first.
 #[tactic(auto, unfolding(crate::specs::Run::one_at))]
-pub(crate) fn open<'a>(text: &str, tokens: &'a [Lexeme], delimiter: Delimiter) -> Result<&'a [Lexeme], Refusal>
+pub(crate) fn open<'a>(
+    text: &str,
+    tokens: &'a [Lexeme],
+    delimiter: Delimiter,
+) -> Result<&'a [Lexeme], Refusal>
     requires { All (IsWithin text.now) tokens.now }
     ensures value { Gives (λ x. Leaf (Opens delimiter)) (λ x. tokens_at text.now x.now) result (one_at (is_open delimiter) (tokens_at text.now tokens.now)) }
     ensures within { IfOk result (λ x. All (IsWithin text.now) x.now) }
 {
     match tokens {
-        [Lexeme { kind: LexemeKind::Open(d), .. }, rest @ ..] if *d == delimiter => Ok(rest),
+        [
+            Lexeme {
+                kind: LexemeKind::Open(d),
+                ..
+            },
+            rest @ ..,
+        ] if *d == delimiter => Ok(rest),
         _ => Err(Refusal { left: tokens.len() }),
     }
 }
 
 /// What follows the closing mark of a group, which stands first.
 #[tactic(auto, unfolding(crate::specs::Run::one_at))]
-pub(crate) fn close<'a>(text: &str, tokens: &'a [Lexeme], delimiter: Delimiter) -> Result<&'a [Lexeme], Refusal>
+pub(crate) fn close<'a>(
+    text: &str,
+    tokens: &'a [Lexeme],
+    delimiter: Delimiter,
+) -> Result<&'a [Lexeme], Refusal>
     requires { All (IsWithin text.now) tokens.now }
     ensures value { Gives (λ x. Leaf (Closes delimiter)) (λ x. tokens_at text.now x.now) result (one_at (is_close delimiter) (tokens_at text.now tokens.now)) }
     ensures within { IfOk result (λ x. All (IsWithin text.now) x.now) }
 {
     match tokens {
-        [Lexeme { kind: LexemeKind::Close(d), .. }, rest @ ..] if *d == delimiter => Ok(rest),
+        [
+            Lexeme {
+                kind: LexemeKind::Close(d),
+                ..
+            },
+            rest @ ..,
+        ] if *d == delimiter => Ok(rest),
         _ => Err(Refusal { left: tokens.len() }),
     }
 }
@@ -168,9 +193,13 @@ fn raw_end(tokens: &[Lexeme]) -> Option<usize>
 }
 
 /// The tokens up to the closing mark of the group in which they stand, and what follows them.
-pub(crate) fn raw<'a>(text: &str, tokens: &'a [Lexeme]) -> Result<(&'a [Lexeme], &'a [Lexeme]), Refusal>
+pub(crate) fn raw<'a>(
+    text: &str,
+    tokens: &'a [Lexeme],
+) -> Result<(&'a [Lexeme], &'a [Lexeme]), Refusal>
     requires { All (IsWithin text.now) tokens.now }
     ensures value { Gives (λ x. Raw (tokens_at text.now x.0.now)) (λ x. tokens_at text.now x.1.now) result (raw_at 0 (tokens_at text.now tokens.now)) }
+    ensures inside { IfOk result (λ x. All (IsWithin text.now) x.0.now) }
     ensures within { IfOk result (λ x. All (IsWithin text.now) x.1.now) }
 {
     match raw_end(tokens) {

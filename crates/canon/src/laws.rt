@@ -1,0 +1,31 @@
+//! Laws of programs and their canonical forms. The functions do nothing: their contracts are the laws.
+
+ghost use Rattle.canon.specs.Faults.{IsSyntaxFault};
+ghost use Rattle.canon.specs.Program.{IsOutput, IsProgram, written};
+ghost use Rattle.canon_syntax.specs.Normal.{normal};
+ghost use Rattle.canon_syntax.specs.Tree.{Tree};
+ghost use Rattle.rust_token.specs.Forest.{IsLexicalFault};
+ghost use Rattle.rust_token.specs.declared.place.LineColumn.{LineColumn};
+ghost use Rattle.std.specs.Prelude.{ℕ, ◌≡◌, ◌↔◌, List, Option};
+
+/// A text has at most one program.
+pub fn one_program()
+    ensures { (text : List ℕ) (t u : Tree) → IsProgram text t → IsProgram text u → t ≡ u }
+{}
+
+/// An output is accepted, and is its own output.
+pub fn output_is_fixed()
+    ensures { (text output : List ℕ) → IsOutput text output → IsOutput output output }
+{}
+
+/// Two accepted texts have one output exactly if their programs have the same normal form.
+pub fn one_output_for_one_form()
+    ensures { (a b : List ℕ) (t u : Tree) → IsProgram a t → IsProgram b u →
+        (written t ≡ written u) ↔ (normal t ≡ normal u) }
+{}
+
+/// A text that is at fault has no program.
+pub fn faults_have_no_program()
+    ensures lexical { (text : List ℕ) (place : LineColumn) (t : Tree) → IsLexicalFault text place → IsProgram text t → ⊥ }
+    ensures syntax { (text : List ℕ) (place : Option LineColumn) (t : Tree) → IsSyntaxFault text place → IsProgram text t → ⊥ }
+{}

@@ -1,0 +1,102 @@
+//! Texts, and what `run` reads and writes.
+
+use crate::streams::{Plan, Sink, Source};
+use canon::fault::{Fault, status};
+use canon::run::run;
+use canon_io::watched::Watched;
+use std::test::Fail;
+
+const TEXT: &[u8] = b"struct  S ;m!{a+-b}";
+
+const PAGE: &[u8] = b"struct S ; m ! { a +- b }\n";
+
+#[test]
+fn whole_streams_and_slow_ones_write_the_page(rt: HostRuntime) -> Result<(), Fail> {
+    for plan in [Plan::by(usize::MAX), Plan::by(1), Plan::by(2), Plan::interrupted(999)] {
+        let mut reader = Watched::new(Source::new(TEXT, plan));
+        let mut writer = Watched::new(Sink::new(rt.alloc(), plan));
+        let outcome = run(rt.alloc(), &mut reader, &mut writer);
+        assert_eq!(rt; outcome, Ok(()));
+        assert_eq!(rt; status(&outcome), 0);
+        assert_eq!(rt; writer.get_ref().taken.as_slice(), PAGE);
+    }
+    Ok(())
+}
+
+#[test]
+fn a_thousand_interruptions_are_a_failure(rt: HostRuntime) {
+    let mut reader = Watched::new(Source::new(TEXT, Plan::interrupted(1000)));
+    let mut writer = Watched::new(Sink::new(rt.alloc(), Plan::by(1)));
+    let outcome = run(rt.alloc(), &mut reader, &mut writer);
+    assert_eq!(rt; outcome, Err(Fault::Reading));
+    assert_eq!(rt; status(&outcome), 3);
+    assert!(rt; reader.failed());
+    assert!(rt; writer.get_ref().taken.is_empty());
+
+    let mut reader = Watched::new(Source::new(TEXT, Plan::by(1)));
+    let mut writer = Watched::new(Sink::new(rt.alloc(), Plan::interrupted(1000)));
+    let outcome = run(rt.alloc(), &mut reader, &mut writer);
+    assert_eq!(rt; outcome, Err(Fault::Writing));
+    assert!(rt; writer.failed());
+    assert!(rt; writer.get_ref().taken.is_empty());
+}
+
+#[test]
+fn each_failing_read_writes_nothing(rt: HostRuntime) {
+    for calls in 0..20u32 {
+        let mut reader = Watched::new(Source::new(TEXT, Plan::failing(calls)));
+        let mut writer = Watched::new(Sink::new(rt.alloc(), Plan::by(1)));
+        let outcome = run(rt.alloc(), &mut reader, &mut writer);
+        assert_eq!(rt; outcome, Err(Fault::Reading), "after {calls} calls");
+        assert!(rt; writer.get_ref().taken.is_empty());
+    }
+}
+
+#[test]
+fn each_failing_write_leaves_a_front(rt: HostRuntime) {
+    for calls in 0..26u32 {
+        let mut reader = Watched::new(Source::new(TEXT, Plan::by(usize::MAX)));
+        let mut writer = Watched::new(Sink::new(rt.alloc(), Plan::failing(calls)));
+        let outcome = run(rt.alloc(), &mut reader, &mut writer);
+        assert_eq!(rt; outcome, Err(Fault::Writing), "after {calls} calls");
+        let taken = writer.get_ref().taken.as_slice();
+        assert_eq!(rt; taken.len(), calls as usize);
+        assert!(rt; PAGE.starts_with(taken));
+    }
+}
+
+#[test]
+fn five_bytes_are_struc(rt: HostRuntime) {
+    let mut reader = Watched::new(Source::new(TEXT, Plan::by(usize::MAX)));
+    let mut writer = Watched::new(Sink::new(rt.alloc(), Plan::failing(5)));
+    assert_eq!(rt; run(rt.alloc(), &mut reader, &mut writer), Err(Fault::Writing));
+    assert_eq!(rt; writer.get_ref().taken.as_slice(), b"struc".as_slice());
+}
+
+#[test]
+fn a_write_that_takes_no_byte_is_a_failure(rt: HostRuntime) {
+    let mut reader = Watched::new(Source::new(TEXT, Plan::by(usize::MAX)));
+    let mut writer = Watched::new(Sink::new(rt.alloc(), Plan::by(0)));
+    assert_eq!(rt; run(rt.alloc(), &mut reader, &mut writer), Err(Fault::Writing));
+    assert!(rt; writer.failed());
+}
+
+#[test]
+fn refused_texts_write_nothing(rt: HostRuntime) {
+    let texts: [(&[u8], u8); 4] = [(b"\xff", 1), (b"m!{", 1), (b"struct S;struct", 1), (b"fn f(){}", 1)];
+    for (text, end) in texts {
+        let mut reader = Watched::new(Source::new(text, Plan::by(usize::MAX)));
+        let mut writer = Watched::new(Sink::new(rt.alloc(), Plan::by(1)));
+        let outcome = run(rt.alloc(), &mut reader, &mut writer);
+        assert_eq!(rt; status(&outcome), end);
+        assert!(rt; writer.get_ref().taken.is_empty());
+        assert!(rt; !writer.failed());
+    }
+}
+
+#[test]
+fn a_byte_that_is_no_text_is_said_so(rt: HostRuntime) {
+    let mut reader = Watched::new(Source::new(b"\xff", Plan::by(usize::MAX)));
+    let mut writer = Watched::new(Sink::new(rt.alloc(), Plan::by(1)));
+    assert_eq!(rt; run(rt.alloc(), &mut reader, &mut writer), Err(Fault::NotUtf8));
+}
