@@ -6,7 +6,7 @@ use canon::source_map::SourceMap;
 use rust_token::place::LineColumn;
 use std::test::Fail;
 
-/// Accepted texts and their outputs.
+// Accepted texts and their outputs.
 const ACCEPTED: [(&str, &str); 13] = [
     ("", ""),
     ("struct  S ;m!{a+-b}", "struct S ; m ! { a +- b }"),
@@ -23,37 +23,39 @@ const ACCEPTED: [(&str, &str); 13] = [
     ("struct r;struct _9;", "struct r ; struct _9 ;"),
 ];
 
-/// Texts that are refused, with their faults.
-const REFUSED: [(&str, Fault); 22] = [
-    ("m!{", lexical(1, 2)),
-    ("}", lexical(1, 0)),
-    ("m!{(}", lexical(1, 4)),
-    ("m!{(]", lexical(1, 4)),
-    ("m!{[(", lexical(1, 4)),
-    ("m!{[()", lexical(1, 3)),
-    ("struct 9;", lexical(1, 7)),
-    ("struct S;//c", lexical(1, 9)),
-    ("m!{a/*c*/}", lexical(1, 4)),
-    ("struct S;\n é", lexical(2, 1)),
-    ("struct S;\r\n\n  \"", lexical(3, 2)),
-    ("m!{'a}", lexical(1, 3)),
-    ("m!{r#a}", lexical(1, 3)),
-    ("m!{br#a}", lexical(1, 3)),
-    ("m!{cr#a}", lexical(1, 3)),
-    ("struct S m!{}", syntax(1, 9)),
-    ("struct S;struct", Fault::Syntax { place: None }),
-    ("fn f(){}", syntax(1, 0)),
-    ("struct S;\n m!(a)", syntax(2, 3)),
-    ("m!{};", syntax(1, 4)),
-    ("struct fn;", syntax(1, 7)),
-    ("m", Fault::Syntax { place: None }),
-];
+// Texts that are refused, with their faults.
+fn refused() -> [(&'static str, Fault); 22] {
+    [
+        ("m!{", lexical(1, 2)),
+        ("}", lexical(1, 0)),
+        ("m!{(}", lexical(1, 4)),
+        ("m!{(]", lexical(1, 4)),
+        ("m!{[(", lexical(1, 4)),
+        ("m!{[()", lexical(1, 3)),
+        ("struct 9;", lexical(1, 7)),
+        ("struct S;//c", lexical(1, 9)),
+        ("m!{a/*c*/}", lexical(1, 4)),
+        ("struct S;\n é", lexical(2, 1)),
+        ("struct S;\r\n\n  \"", lexical(3, 2)),
+        ("m!{'a}", lexical(1, 3)),
+        ("m!{r#a}", lexical(1, 3)),
+        ("m!{br#a}", lexical(1, 3)),
+        ("m!{cr#a}", lexical(1, 3)),
+        ("struct S m!{}", syntax(1, 9)),
+        ("struct S;struct", Fault::Syntax { place: None }),
+        ("fn f(){}", syntax(1, 0)),
+        ("struct S;\n m!(a)", syntax(2, 3)),
+        ("m!{};", syntax(1, 4)),
+        ("struct fn;", syntax(1, 7)),
+        ("m", Fault::Syntax { place: None }),
+    ]
+}
 
-const fn lexical(line: usize, column: usize) -> Fault {
+fn lexical(line: usize, column: usize) -> Fault {
     Fault::Lexical(LineColumn { line, column })
 }
 
-const fn syntax(line: usize, column: usize) -> Fault {
+fn syntax(line: usize, column: usize) -> Fault {
     Fault::Syntax {
         place: Some(LineColumn { line, column }),
     }
@@ -81,7 +83,7 @@ fn outputs_are_their_own(rt: HostRuntime) -> Result<(), Fail> {
 
 #[test]
 fn refused_texts_have_their_fault(rt: HostRuntime) {
-    for (text, fault) in REFUSED {
+    for (text, fault) in refused() {
         let mut map = SourceMap::new();
         match canonical(rt.alloc(), text, &mut map) {
             Ok(answer) => panic!(rt; "{text} gave {answer}"),

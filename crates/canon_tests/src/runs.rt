@@ -12,7 +12,12 @@ const PAGE: &[u8] = b"struct S ; m ! { a +- b }\n";
 
 #[test]
 fn whole_streams_and_slow_ones_write_the_page(rt: HostRuntime) -> Result<(), Fail> {
-    for plan in [Plan::by(usize::MAX), Plan::by(1), Plan::by(2), Plan::interrupted(999)] {
+    for plan in [
+        Plan::by(usize::MAX),
+        Plan::by(1),
+        Plan::by(2),
+        Plan::interrupted(999),
+    ] {
         let mut reader = Watched::new(Source::new(TEXT, plan));
         let mut writer = Watched::new(Sink::new(rt.alloc(), plan));
         let outcome = run(rt.alloc(), &mut reader, &mut writer);
@@ -69,7 +74,10 @@ fn each_failing_write_leaves_a_front(rt: HostRuntime) {
 fn five_bytes_are_struc(rt: HostRuntime) {
     let mut reader = Watched::new(Source::new(TEXT, Plan::by(usize::MAX)));
     let mut writer = Watched::new(Sink::new(rt.alloc(), Plan::failing(5)));
-    assert_eq!(rt; run(rt.alloc(), &mut reader, &mut writer), Err(Fault::Writing));
+    assert_eq!(rt;
+        run(rt.alloc(), &mut reader, &mut writer),
+        Err(Fault::Writing)
+    );
     assert_eq!(rt; writer.get_ref().taken.as_slice(), b"struc".as_slice());
 }
 
@@ -77,13 +85,21 @@ fn five_bytes_are_struc(rt: HostRuntime) {
 fn a_write_that_takes_no_byte_is_a_failure(rt: HostRuntime) {
     let mut reader = Watched::new(Source::new(TEXT, Plan::by(usize::MAX)));
     let mut writer = Watched::new(Sink::new(rt.alloc(), Plan::by(0)));
-    assert_eq!(rt; run(rt.alloc(), &mut reader, &mut writer), Err(Fault::Writing));
+    assert_eq!(rt;
+        run(rt.alloc(), &mut reader, &mut writer),
+        Err(Fault::Writing)
+    );
     assert!(rt; writer.failed());
 }
 
 #[test]
 fn refused_texts_write_nothing(rt: HostRuntime) {
-    let texts: [(&[u8], u8); 4] = [(b"\xff", 1), (b"m!{", 1), (b"struct S;struct", 1), (b"fn f(){}", 1)];
+    let texts: [(&[u8], u8); 4] = [
+        (b"\xff", 1),
+        (b"m!{", 1),
+        (b"struct S;struct", 1),
+        (b"fn f(){}", 1),
+    ];
     for (text, end) in texts {
         let mut reader = Watched::new(Source::new(text, Plan::by(usize::MAX)));
         let mut writer = Watched::new(Sink::new(rt.alloc(), Plan::by(1)));
@@ -98,5 +114,8 @@ fn refused_texts_write_nothing(rt: HostRuntime) {
 fn a_byte_that_is_no_text_is_said_so(rt: HostRuntime) {
     let mut reader = Watched::new(Source::new(b"\xff", Plan::by(usize::MAX)));
     let mut writer = Watched::new(Sink::new(rt.alloc(), Plan::by(1)));
-    assert_eq!(rt; run(rt.alloc(), &mut reader, &mut writer), Err(Fault::NotUtf8));
+    assert_eq!(rt;
+        run(rt.alloc(), &mut reader, &mut writer),
+        Err(Fault::NotUtf8)
+    );
 }

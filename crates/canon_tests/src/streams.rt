@@ -78,16 +78,10 @@ impl<'a> Source<'a> {
 
 impl Read for Source<'_> {
     fn read(&mut self, buf: &mut [u8]) -> io::Result<usize> {
-        let most = self.plan.turn()?;
-        let mut count = 0usize;
-        for slot in buf.iter_mut().take(most) {
-            let Some((first, rest)) = self.bytes.split_first() else {
-                break;
-            };
-            *slot = *first;
-            self.bytes = rest;
-            count = count.saturating_add(1);
-        }
+        let count = self.plan.turn()?.min(buf.len()).min(self.bytes.len());
+        let (front, rest) = self.bytes.split_at(count);
+        buf[..count].copy_from_slice(front);
+        self.bytes = rest;
         Ok(count)
     }
 }
