@@ -1,14 +1,13 @@
 -- Where each test sees one token, tokens that are refused stay refused whatever stands behind the one that is wrong.
-use Rattle.std.proofs.Common.{◌≡◌, ℕ, zero, suc, ◌+◌, ◌<◌, ◌≤◌, List, [], ◌∷◌, ◌++◌, length, refl, sym, ap, ◌∙◌, subst, ⊎_elim, arith}
+use Rattle.std.proofs.Common.{◌≡◌, ℕ, zero, suc, ◌<◌, ◌≤◌, List, [], ◌∷◌, ◌++◌, length, refl, sym, ap, ◌∙◌, subst, ⊎_elim, arith}
 use Rattle.std.specs.Prelude.{Bool, true, false, cond, ◌==◌, take}
 use Rattle.std.proofs.lemmas.Bool.{cases_lt}
 use Rattle.rust_token.specs.Token.{Token, Opens, Closes, Word, Sign}
-use Rattle.rust_token.specs.declared.lexeme.Spacing.{Spacing}
 use Rattle.canon_syntax.specs.Kind.{Kind}
-use Rattle.canon_syntax.specs.Tree.{Tree, Leaf, Last, Raw, Nil, Pair, First, Second, Node}
+use Rattle.canon_syntax.specs.Tree.{Tree, Leaf, Last, Pair, First, Second}
 use Rattle.canon_syntax.specs.Gram.{Gram, one, last, raw, nothing, never, seq, alt, star, ref, ask}
 use Rattle.canon_syntax.specs.Table.{table}
-use Rattle.canon_syntax.specs.Run.{Out, Late, Refused, Got, ◌>>=◌, wrap, Call, kind, loop, one_at, last_at, raw_onto, raw_at, interp, body, made, run, reads}
+use Rattle.canon_syntax.specs.Run.{Out, Late, Refused, Got, ◌>>=◌, wrap, Call, kind, loop, one_at, last_at, raw_onto, raw_at, interp, body, made, run}
 use Rattle.canon_syntax.proofs.Within.{LeavesAtMost, CallLeaves, most_wrap, raw_most, interp_most, run_most}
 
 -- a test that sees one token

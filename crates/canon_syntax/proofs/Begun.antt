@@ -1,27 +1,28 @@
 -- The tokens before a fault of a file begin a file.
-use Rattle.std.proofs.Common.{◌≡◌, ◌≢◌, ℕ, zero, suc, ◌+◌, ◌*◌, ◌-◌, ◌<◌, ◌≤◌, List, [], ◌∷◌, ◌++◌, length, take, refl, sym, ap, ◌∙◌, subst, ⊎_elim, append_assoc, add-one, length-append, lit≤, arith}
-use Rattle.std.specs.Prelude.{Bool, true, false, cond, Option, Some, None}
+use Rattle.std.proofs.Common.{◌≡◌, ℕ, zero, suc, ◌+◌, ◌*◌, ◌-◌, ◌<◌, ◌≤◌, List, [], ◌∷◌, ◌++◌, length, take, refl, sym, ap, ◌∙◌, subst, ⊎_elim, append_assoc, add-one, length-append, lit≤, arith}
+use Rattle.std.specs.Prelude.{Bool, true, false}
 use Rattle.std.proofs.lemmas.List.{append-nil}
 use Rattle.std.proofs.Math.Seq.{take-append_seam, take-append-add}
-use Rattle.rust_token.specs.declared.delimiter.Delimiter.TheVariants.{Parenthesis, Brace, Bracket}
-use Rattle.rust_token.specs.Token.{Token, Opens, Closes, Word, Sign}
+use Rattle.rust_token.specs.declared.delimiter.Delimiter.TheVariants.{Brace}
+use Rattle.rust_token.specs.Token.{Token, Opens, Word}
 use Rattle.canon_syntax.specs.Words.{is_reserved}
 use Rattle.canon_syntax.specs.Kind.{Kind, AFile, AnItem, AStruct, AMacro}
-use Rattle.canon_syntax.specs.Tree.{Tree, Leaf, Last, Raw, Nil, Pair, First, Second, Node, flat}
-use Rattle.canon_syntax.specs.Gram.{Gram, one, last, raw, nothing, never, seq, alt, star, ref, ask}
-use Rattle.canon_syntax.specs.Tests.{is_keyword, is_ident, is_open, is_close, first_is, is_more}
-use Rattle.canon_syntax.specs.Table.{table, rank, skips, top, keyword, ident, struct_text}
+use Rattle.canon_syntax.specs.Tree.{Tree, Leaf, Nil, Pair, First, Second, Node, flat}
+use Rattle.canon_syntax.specs.Gram.{Gram, one, last, seq, star, ref, ask}
+use Rattle.canon_syntax.specs.Tests.{is_keyword, is_ident, is_open, first_is, is_more}
+use Rattle.canon_syntax.specs.Table.{table, keyword, ident, struct_text}
+use Rattle.canon_syntax.specs.Ranks.{rank, skips, top}
 use Rattle.canon_syntax.specs.Derives.{Derives}
-use Rattle.canon_syntax.specs.File.{IsFile, NoFile, Begins, TurnsWrong, StopsAt, IsSyntaxFault}
+use Rattle.canon_syntax.specs.File.{IsFile, Begins, TurnsWrong, StopsAt, IsSyntaxFault}
 use Rattle.canon_syntax.specs.Gives.{place_where}
-use Rattle.canon_syntax.specs.Run.{Out, Late, Refused, Got, ◌>>=◌, wrap, Call, kind, loop, run, reads, interp}
-use Rattle.canon_syntax.proofs.Sound.{chosen, Reads}
+use Rattle.canon_syntax.specs.Run.{Out, Late, Refused, Got, ◌>>=◌, wrap, Call, kind, loop, run, reads}
+use Rattle.canon_syntax.proofs.Sound.{chosen}
 use Rattle.canon_syntax.proofs.Whole.{Below, CallFits, takes, run_reads, reads_step, reads_sound, reads_shorter, reads_complete}
-use Rattle.canon_syntax.proofs.Agree.{SeesOne, AllSee, CallSees, Parted, Agrees, run_agrees}
+use Rattle.canon_syntax.proofs.Agree.{SeesOne, AllSee, Parted, Agrees, run_agrees}
 use Rattle.canon_syntax.proofs.Texts.{keyword_token}
 use Rattle.canon_syntax.proofs.Steps.{all_founded}
 use Rattle.canon_syntax.proofs.Turns.{star_step}
-use Rattle.canon_syntax.proofs.Resumes.{Resumes, AreResumed, Example, IsFree, Tells, one_example, one_resumed, one_free, last_example, last_resumed, last_free, seq_example, seq_resumed, seq_free, alt_resumed, alt_free, ref_resumed, ref_free, ref_tells, body, body_example, body_resumed, body_free}
+use Rattle.canon_syntax.proofs.Resumes.{AreResumed, Example, IsFree, Tells, one_example, one_resumed, one_free, last_example, last_resumed, last_free, seq_example, seq_resumed, seq_free, alt_resumed, alt_free, ref_resumed, ref_free, ref_tells, body, body_example, body_resumed, body_free}
 
 ident_example : Example ident
 unfolding is_reserved

@@ -1,5 +1,5 @@
 -- The laws of files.
-use Rattle.std.proofs.Common.{◌≡◌, ℕ, zero, suc, List, [], ◌∷◌, ◌++◌, map, refl, sym, ap, ◌∙◌, subst, append_assoc}
+use Rattle.std.proofs.Common.{◌≡◌, ℕ, List, [], ◌∷◌, ◌++◌, map, refl, sym, ap, ◌∙◌, subst, append_assoc}
 use Rattle.std.specs.Prelude.{Bool, true, false}
 use Rattle.std.proofs.lemmas.List.{append-nil}
 use Rattle.rust_token.specs.declared.delimiter.Delimiter.TheVariants.{Brace}
@@ -9,18 +9,17 @@ use Rattle.rust_token.specs.Token.{Token, Opens, Closes, Word, Sign}
 use Rattle.rust_token.specs.Spacing.{MayStand, IsWellSpaced}
 use Rattle.canon_syntax.specs.Kind.{Kind, AFile, AnItem, AStruct, AMacro}
 use Rattle.canon_syntax.specs.Tree.{Tree, Leaf, Last, Raw, Nil, Pair, First, Second, Node, flat}
-use Rattle.canon_syntax.specs.Gram.{Gram, one, last, raw, nothing, never, seq, alt, star, ref, ask}
+use Rattle.canon_syntax.specs.Gram.{Gram, one, last, raw, seq, alt, star, ref, ask}
 use Rattle.canon_syntax.specs.Tests.{is_keyword, is_ident, is_open, is_close, first_is, is_more}
 use Rattle.canon_syntax.specs.Table.{table, keyword, ident, struct_text}
 use Rattle.canon_syntax.specs.Derives.{Derives}
 use Rattle.canon_syntax.specs.Normal.{normal}
-use Rattle.canon_syntax.specs.File.{IsFile}
 use Rattle.canon_syntax.specs.Laws.{OneTree, NormalTwice, Settled, ReadBack}
 use Rattle.canon_syntax.specs.Run.{Got}
 use Rattle.canon_syntax.proofs.Sound.{one_tree}
 use Rattle.canon_syntax.proofs.Resumes.{Tells, ref_tells}
 use Rattle.canon_syntax.proofs.Begun.{begins_one}
-use Rattle.canon_syntax.proofs.Keeps.{unspaced, Alike, IsBlind, AllBlind, keeps}
+use Rattle.canon_syntax.proofs.Keeps.{unspaced, IsBlind, AllBlind, keeps}
 
 pub one_file : OneTree
 one_file ts x y f g =

@@ -1,12 +1,12 @@
 -- A tree in normal form is read back: no test sees how marks are spaced.
-use Rattle.std.proofs.Common.{◌≡◌, ℕ, zero, suc, List, [], ◌∷◌, ◌++◌, map, take, refl, sym, ap, ◌∙◌, subst}
-use Rattle.std.specs.Prelude.{Bool, true, false}
+use Rattle.std.proofs.Common.{◌≡◌, ℕ, zero, suc, List, [], ◌∷◌, ◌++◌, map, take, refl, sym, ap, ◌∙◌}
+use Rattle.std.specs.Prelude.{Bool}
 use Rattle.std.proofs.lemmas.List.{map-append}
 use Rattle.rust_token.specs.declared.lexeme.Spacing.TheVariants.{Alone}
 use Rattle.rust_token.specs.Token.{Token, Opens, Closes, Word, Sign}
 use Rattle.canon_syntax.specs.Kind.{Kind}
 use Rattle.canon_syntax.specs.Tree.{Tree, Leaf, Last, Raw, Nil, Pair, First, Second, Node, flat}
-use Rattle.canon_syntax.specs.Gram.{Gram, one, last, raw, nothing, never, seq, alt, star, ref, ask, at_end}
+use Rattle.canon_syntax.specs.Gram.{Gram, one, last, raw, nothing, seq, alt, star, ref, ask, at_end}
 use Rattle.canon_syntax.specs.Table.{table}
 use Rattle.canon_syntax.specs.Derives.{Derives}
 use Rattle.canon_syntax.specs.Normal.{normal}

@@ -1,13 +1,11 @@
 -- What is read, in normal form.
-use Rattle.std.proofs.Common.{◌≡◌, ℕ, zero, suc, List, [], ◌∷◌, ◌++◌, length, refl, sym, ap, ◌∙◌, subst}
+use Rattle.std.proofs.Common.{◌≡◌, ℕ, zero, suc, List, [], ◌∷◌, refl, ap, ◌∙◌}
 use Rattle.std.specs.Prelude.{Bool, true, false, cond, ◌==◌}
 use Rattle.rust_token.specs.Token.{Token, Opens, Closes, Word, Sign}
-use Rattle.rust_token.specs.declared.lexeme.Spacing.{Spacing}
-use Rattle.canon_syntax.specs.Kind.{Kind}
 use Rattle.canon_syntax.specs.Tree.{Tree, Leaf, Last, Raw, Nil, Pair, First, Second, Node}
 use Rattle.canon_syntax.specs.Gram.{Gram, one, last, raw, nothing, never, seq, alt, star, ref, ask}
 use Rattle.canon_syntax.specs.Normal.{normal}
-use Rattle.canon_syntax.specs.Run.{Out, Late, Refused, Got, ◌>>=◌, wrap, Call, kind, loop, one_at, last_at, raw_onto, raw_at, interp, reads, normals, alone, reads_normal}
+use Rattle.canon_syntax.specs.Run.{Out, Late, Refused, Got, ◌>>=◌, wrap, one_at, last_at, raw_onto, raw_at, interp, reads, alone, reads_normal}
 
 normal_cond : (b : Bool) (o p : Out) → wrap normal (cond b o p) ≡ cond b (wrap normal o) (wrap normal p)
 normal_cond true o p = refl

@@ -1,19 +1,19 @@
 -- What parse_file answers.
-use Rattle.std.proofs.Common.{◌≡◌, ℕ, zero, suc, ◌+◌, ◌<◌, ◌≤◌, List, [], ◌∷◌, ◌++◌, length, map, refl, sym, ap, ◌∙◌, subst, arith}
+use Rattle.std.proofs.Common.{◌≡◌, ℕ, zero, suc, ◌<◌, ◌≤◌, List, [], ◌∷◌, ◌++◌, length, refl, sym, ap, ◌∙◌, subst, arith}
 use Rattle.std.specs.Prelude.{Bool, true, false, ◌==◌}
 use Rattle.std.proofs.lemmas.Bool.{eqb-true}
 use Rattle.std.proofs.lemmas.List.{append-nil}
 use Rattle.rust_token.specs.Token.{Token}
-use Rattle.rust_token.specs.Lexemes.{token_at, tokens_at}
+use Rattle.rust_token.specs.Lexemes.{tokens_at}
 use Rattle.rust_token.specs.declared.lexeme.Lexeme.{Lexeme}
 use Rattle.canon_syntax.specs.declared.tree.Item as Items
 use Rattle.canon_syntax.specs.Kind.{AFile, AnItem}
-use Rattle.canon_syntax.specs.Tree.{Tree, Nil, Second, Node, flat}
+use Rattle.canon_syntax.specs.Tree.{Tree, Node, flat}
 use Rattle.canon_syntax.specs.Gram.{ask, ref}
 use Rattle.canon_syntax.specs.Tests.{is_more}
-use Rattle.canon_syntax.specs.File.{IsFile, IsParsed, IsSyntaxFault}
+use Rattle.canon_syntax.specs.File.{IsParsed, IsSyntaxFault}
 use Rattle.canon_syntax.specs.Gives.{place_where}
-use Rattle.canon_syntax.specs.Turns.{chain, in_front}
+use Rattle.canon_syntax.specs.Turns.{in_front}
 use Rattle.canon_syntax.specs.Views.{item_tree, items_tree}
 use Rattle.canon_syntax.specs.Run.{Out, Late, Refused, Got, wrap, kind, reads, normals}
 use Rattle.canon_syntax.proofs.Whole.{reads_sound}

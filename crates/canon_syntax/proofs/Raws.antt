@@ -1,16 +1,16 @@
 -- Raw tokens, read one by one.
-use Rattle.std.proofs.Common.{◌≡◌, ◌≢◌, ℕ, zero, suc, ◌+◌, ◌<◌, ◌≤◌, List, [], ◌∷◌, ◌++◌, length, get_or, take, drop, map, refl, sym, ap, ◌∙◌, subst, append_assoc, add-one, arith, drop-cons}
+use Rattle.std.proofs.Common.{◌≡◌, ◌≢◌, ℕ, zero, suc, ◌+◌, ◌<◌, ◌≤◌, List, [], ◌∷◌, ◌++◌, length, get_or, take, drop, refl, sym, ap, ◌∙◌, append_assoc, add-one, drop-cons}
 use Rattle.std.proofs.Math.Seq.{take-suc}
 use Rattle.std.proofs.Math.ListN.{drop_of_length-le}
 use Rattle.std.proofs.lemmas.List.{append-nil, map-append}
-use Rattle.std.specs.Prelude.{Bool, true, false, Option, Some, None}
-use Rattle.rust_token.specs.Token.{Token, Opens, Closes, Word, Sign}
+use Rattle.std.specs.Prelude.{Some, None}
+use Rattle.rust_token.specs.Token.{Token, Opens, Closes, Word}
 use Rattle.rust_token.specs.Lexemes.{token_at, tokens_at, kind_token, between}
 use Rattle.rust_token.specs.declared.lexeme.Lexeme.{Lexeme}
 use Rattle.rust_token.specs.declared.lexeme.LexemeKind.{LexemeKind}
 use Rattle.rust_token.specs.declared.lexeme.LexemeKind.TheVariants.{Open, Close, Mark, Ident}
 use Rattle.canon_syntax.specs.Tree.{Tree, Leaf, Last, Raw, Nil, Pair, First, Second, Node}
-use Rattle.canon_syntax.specs.Run.{Out, Late, Refused, Got, ◌>>=◌, wrap, raw_onto, raw_at}
+use Rattle.canon_syntax.specs.Run.{Out, Late, Refused, Got, wrap, raw_onto, raw_at}
 use Rattle.canon_syntax.specs.Gives.{open_behind, RawEnds}
 
 onto_twice : (xs : List Token) (t : Token) (x : Tree) → raw_onto xs (raw_onto (t ∷ []) x) ≡ raw_onto (xs ++ t ∷ []) x

@@ -1,18 +1,18 @@
 -- Tokens that are refused at a place: those before it begin what was to be read.
-use Rattle.std.proofs.Common.{◌≡◌, ℕ, zero, suc, ◌+◌, ◌<◌, ◌≤◌, List, [], ◌∷◌, ◌++◌, length, refl, sym, ap, ◌∙◌, subst, ⊎_elim, append_assoc, arith}
-use Rattle.std.specs.Prelude.{Bool, true, false, cond, ◌==◌}
+use Rattle.std.proofs.Common.{◌≡◌, ℕ, zero, suc, List, [], ◌∷◌, ◌++◌, length, refl, sym, ap, ◌∙◌, subst, ⊎_elim, append_assoc}
+use Rattle.std.specs.Prelude.{Bool, true, false, ◌==◌}
 use Rattle.std.proofs.lemmas.List.{append-nil}
 use Rattle.rust_token.specs.declared.delimiter.Delimiter.TheVariants.{Brace}
 use Rattle.rust_token.specs.declared.lexeme.Spacing.TheVariants.{Alone}
 use Rattle.rust_token.specs.Token.{Token, Opens, Closes, Word, Sign}
 use Rattle.canon_syntax.specs.Kind.{Kind}
-use Rattle.canon_syntax.specs.Tree.{Tree, Leaf, Last, Raw, Nil, Pair, First, Second, Node, flat}
-use Rattle.canon_syntax.specs.Gram.{Gram, one, last, raw, nothing, never, seq, alt, star, ref, ask, closes_all, at_end}
+use Rattle.canon_syntax.specs.Tree.{Tree, Leaf, Last, Raw, Pair, First, Second, Node, flat}
+use Rattle.canon_syntax.specs.Gram.{Gram, one, last, raw, seq, alt, ref, ask, closes_all}
 use Rattle.canon_syntax.specs.Tests.{is_close}
 use Rattle.canon_syntax.specs.Table.{table}
 use Rattle.canon_syntax.specs.Derives.{Derives}
-use Rattle.canon_syntax.specs.Run.{Out, Late, Refused, Got, ◌>>=◌, wrap, Call, kind, loop, one_at, last_at, raw_onto, raw_at, interp, reads}
-use Rattle.canon_syntax.proofs.Sound.{chosen, Reads, interp_sound, RawTo, raw_sound}
+use Rattle.canon_syntax.specs.Run.{Out, Late, Refused, Got, ◌>>=◌, wrap, kind, one_at, last_at, raw_at, interp, reads}
+use Rattle.canon_syntax.proofs.Sound.{chosen, interp_sound, raw_sound}
 use Rattle.canon_syntax.proofs.Whole.{reads_step, reads_sound}
 use Rattle.canon_syntax.proofs.Steps.{all_founded}
 

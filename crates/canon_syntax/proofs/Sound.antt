@@ -1,16 +1,15 @@
 -- A run gives the trees of the grammar, and no others.
-use Rattle.std.proofs.Common.{◌≡◌, ℕ, zero, suc, ◌+◌, ◌<◌, ◌≤◌, List, [], ◌∷◌, ◌++◌, refl, sym, ap, ◌∙◌, subst, ⊎_elim, inl, inr, arith, append_assoc}
-use Rattle.std.specs.Prelude.{Bool, true, false, cond, ◌⊎◌, ◌==◌, take, length}
+use Rattle.std.proofs.Common.{◌≡◌, ℕ, zero, suc, ◌+◌, ◌≤◌, List, [], ◌∷◌, ◌++◌, refl, sym, ap, ◌∙◌, subst, ⊎_elim, inl, inr, arith, append_assoc}
+use Rattle.std.specs.Prelude.{Bool, true, false, cond, ◌⊎◌, ◌==◌, length}
 use Rattle.std.proofs.lemmas.Bool.{eqb-true, eq-eqb}
 use Rattle.rust_token.specs.Token.{Token}
 use Rattle.rust_token.specs.Token.{Opens, Closes, Word, Sign}
 use Rattle.rust_token.specs.declared.lexeme.Spacing.{Spacing}
-use Rattle.canon_syntax.specs.Kind.{Kind}
 use Rattle.canon_syntax.specs.Tree.{Tree, Leaf, Last, Raw, Nil, Pair, First, Second, Node, flat}
 use Rattle.canon_syntax.specs.Gram.{Gram, one, last, raw, nothing, never, seq, alt, star, ref, ask, closes_all, at_end}
 use Rattle.canon_syntax.specs.Table.{table}
 use Rattle.canon_syntax.specs.Derives.{Derives}
-use Rattle.canon_syntax.specs.Run.{Out, Late, Refused, Got, ◌>>=◌, wrap, Call, kind, loop, one_at, last_at, raw_onto, raw_at, interp, body, made, run, entry}
+use Rattle.canon_syntax.specs.Run.{Out, Late, Refused, Got, ◌>>=◌, wrap, Call, kind, loop, one_at, last_at, raw_onto, raw_at, interp, made, run, entry}
 
 -- what a step that goes on gave
 pub bind_got : (o : Out) (f : Tree → List Token → Out) (z : Tree) (r : List Token) → (o >>= f) ≡ Got z r → (x : Tree) × (us : List Token) × (o ≡ Got x us) × (f x us ≡ Got z r)

@@ -1,17 +1,18 @@
 -- What each kind reads, by its entry.
-use Rattle.std.proofs.Common.{◌≡◌, ℕ, ◌<◌, List, length, refl, sym, ap, ◌∙◌}
-use Rattle.std.specs.Prelude.{Bool, true}
+use Rattle.std.proofs.Common.{◌≡◌, ◌<◌, List, length, refl, ap, ◌∙◌}
+use Rattle.std.specs.Prelude.{true}
 use Rattle.std.specs.Str.{IsAscii}
 use Rattle.rust_token.specs.Token.{Token}
 use Rattle.rust_token.specs.declared.delimiter.Delimiter.TheVariants.{Brace}
 use Rattle.canon_syntax.specs.Kind.{Kind, AFile, AnItem, AStruct, AMacro}
 use Rattle.canon_syntax.specs.Tree.{Tree, Last, Node}
-use Rattle.canon_syntax.specs.Gram.{Gram, one, last, raw, nothing, never, seq, alt, star, ref}
-use Rattle.canon_syntax.specs.Tests.{is_keyword, is_ident, is_open, is_close, first_is, is_more}
-use Rattle.canon_syntax.specs.Table.{table, rank, skips, top, keyword, ident, struct_text}
+use Rattle.canon_syntax.specs.Gram.{one, last, raw, seq, alt, ref}
+use Rattle.canon_syntax.specs.Tests.{is_keyword, is_open, is_close, first_is, is_more}
+use Rattle.canon_syntax.specs.Table.{table, keyword, ident, struct_text}
+use Rattle.canon_syntax.specs.Ranks.{rank, skips, top}
 use Rattle.canon_syntax.specs.Fuel.{is_founded}
 use Rattle.canon_syntax.specs.Normal.{normal}
-use Rattle.canon_syntax.specs.Run.{Out, Got, wrap, Call, kind, loop, interp, reads, normals, reads_normal}
+use Rattle.canon_syntax.specs.Run.{Got, wrap, kind, loop, interp, reads, normals, reads_normal}
 use Rattle.canon_syntax.proofs.Whole.{reads_step, reads_shorter}
 use Rattle.canon_syntax.proofs.Normals.{normal_wrap, normal_interp, got_normal}
 use Rattle.canon_syntax.proofs.Texts.{ascii_from}

@@ -1,5 +1,5 @@
 -- Words by their bytes and by their characters.
-use Rattle.std.proofs.Common.{◌≡◌, ℕ, zero, suc, ◌-◌, ◌<◌, ◌≤◌, length, get_or, take, drop, arith, List, [], ◌∷◌, refl, sym, ap, ◌∙◌, subst}
+use Rattle.std.proofs.Common.{◌≡◌, ℕ, zero, suc, ◌-◌, ◌≤◌, length, get_or, take, drop, arith, List, [], ◌∷◌, refl, sym, ap, ◌∙◌}
 use Rattle.std.specs.Prelude.{Bool, true, false, ◌&&◌, ◌||◌, nat_lt, cond}
 use Rattle.std.specs.List.{All}
 use Rattle.std.proofs.lemmas.List.{take_all}
@@ -13,7 +13,6 @@ use Rattle.rust_token.specs.Chars.{passes}
 use Rattle.canon_syntax.proofs.Whole.{and_true}
 use Rattle.std.specs.List.{list_any}
 use Rattle.std.specs.Str.{bytes_eq, chars, IsUtf8, IsAscii}
-use Rattle.std.specs.Bool.{Decides}
 use Rattle.std.proofs.lemmas.Str.{encodes-chars, encodes-IsAscii, chars-IsAscii}
 use lib.Utf8.{encodes}
 use Rattle.std.proofs.lemmas.Slice.Eq.{bytes_eq-Decides}

@@ -1,11 +1,11 @@
 -- A star is read turn by turn.
-use Rattle.std.proofs.Common.{◌≡◌, List, [], ◌∷◌, ◌++◌, refl, ap, sym, ◌∙◌, subst}
+use Rattle.std.proofs.Common.{◌≡◌, List, [], ◌∷◌, ◌++◌, refl, ap, sym, ◌∙◌}
 use Rattle.std.specs.Prelude.{ℕ, Bool, true, false, cond}
 use Rattle.rust_token.specs.Token.{Token}
 use Rattle.canon_syntax.specs.Tree.{Tree, Last, First, Second, Pair, Nil}
 use Rattle.canon_syntax.specs.Gram.{Gram, ask, seq, star, alt, nothing}
 use Rattle.canon_syntax.specs.Normal.{normal}
-use Rattle.canon_syntax.specs.Run.{Out, Late, Refused, Got, ◌>>=◌, wrap, Call, loop, interp, reads, normals, reads_normal}
+use Rattle.canon_syntax.specs.Run.{Out, Late, Refused, Got, ◌>>=◌, wrap, loop, interp, reads, normals, reads_normal}
 use Rattle.canon_syntax.specs.Turns.{chain, in_front}
 use Rattle.canon_syntax.proofs.Whole.{reads_step, CallFits}
 use Rattle.canon_syntax.proofs.Normals.{normal_interp}

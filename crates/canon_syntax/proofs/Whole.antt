@@ -1,17 +1,18 @@
 -- A well-founded table is read to an end, with fuel by the count of tokens.
-use Rattle.std.proofs.Common.{◌≡◌, ℕ, zero, suc, ◌+◌, ◌*◌, ◌<◌, ◌≤◌, List, [], ◌∷◌, ◌++◌, length, refl, sym, ap, ◌∙◌, subst, ⊎_elim, inl, inr, arith, append_assoc, length-append}
-use Rattle.std.specs.Prelude.{Bool, true, false, cond, ◌&&◌, ◌||◌, ◌⊎◌, ◌==◌, take, max, nat_le}
+use Rattle.std.proofs.Common.{◌≡◌, ℕ, zero, suc, ◌+◌, ◌*◌, ◌<◌, ◌≤◌, List, [], ◌∷◌, ◌++◌, length, refl, sym, ap, ◌∙◌, subst, ⊎_elim, inl, inr, arith, length-append}
+use Rattle.std.specs.Prelude.{Bool, true, false, cond, ◌&&◌, ◌||◌, ◌⊎◌, ◌==◌, max}
 use Rattle.std.proofs.lemmas.Bool.{leb-true, cases_lt}
 use Rattle.rust_token.specs.Token.{Token}
 use Rattle.rust_token.specs.Token.{Opens, Closes, Word, Sign}
 use Rattle.canon_syntax.specs.Kind.{Kind}
 use Rattle.canon_syntax.specs.Tree.{Tree, Leaf, Last, Raw, Nil, Pair, First, Second, Node, flat}
 use Rattle.canon_syntax.specs.Gram.{Gram, one, last, raw, nothing, never, seq, alt, star, ref, ask}
-use Rattle.canon_syntax.specs.Table.{table, rank, skips, top}
+use Rattle.canon_syntax.specs.Table.{table}
+use Rattle.canon_syntax.specs.Ranks.{rank, skips, top}
 use Rattle.canon_syntax.specs.Derives.{Derives}
 use Rattle.canon_syntax.specs.Fuel.{nullable, height, level, turns_take, same, is_founded}
-use Rattle.canon_syntax.specs.Run.{Out, Late, Refused, Got, ◌>>=◌, wrap, Call, kind, loop, one_at, last_at, raw_at, raw_onto, interp, body, made, run, entry, reads}
-use Rattle.canon_syntax.proofs.Sound.{bind_got, chosen, got_as, Reads, IsSound, interp_sound, run_sound, complete, size}
+use Rattle.canon_syntax.specs.Run.{Out, Late, Refused, Got, ◌>>=◌, wrap, Call, kind, loop, one_at, last_at, raw_at, interp, body, made, run, entry, reads}
+use Rattle.canon_syntax.proofs.Sound.{IsSound, interp_sound, run_sound, complete, size}
 
 pub and_true : (a b : Bool) → (a && b) ≡ true → (a ≡ true) × (b ≡ true)
 and_true true b e = (refl, e)

@@ -1,10 +1,9 @@
 -- What is left is never more than there was.
-use Rattle.std.proofs.Common.{◌≡◌, ℕ, zero, suc, ◌+◌, ◌*◌, ◌<◌, ◌≤◌, List, [], ◌∷◌, ◌++◌, length, refl, sym, ap, ◌∙◌, arith}
-use Rattle.canon_syntax.specs.Table.{top}
+use Rattle.std.proofs.Common.{ℕ, zero, suc, ◌+◌, ◌*◌, ◌≤◌, List, [], ◌∷◌, length, arith}
+use Rattle.canon_syntax.specs.Ranks.{top}
 use Rattle.std.specs.Prelude.{Bool, true, false, cond, ◌==◌}
 use Rattle.rust_token.specs.Token.{Token, Opens, Closes, Word, Sign}
-use Rattle.canon_syntax.specs.Kind.{Kind}
-use Rattle.canon_syntax.specs.Tree.{Tree, Leaf, Last, Raw, Nil, Pair, First, Second, Node}
+use Rattle.canon_syntax.specs.Tree.{Tree, Leaf, Last, Pair, First, Second}
 use Rattle.canon_syntax.specs.Gram.{Gram, one, last, raw, nothing, never, seq, alt, star, ref, ask}
 use Rattle.canon_syntax.specs.Run.{Out, Late, Refused, Got, ◌>>=◌, wrap, Call, kind, loop, one_at, last_at, raw_onto, raw_at, interp, body, made, run, reads}
 

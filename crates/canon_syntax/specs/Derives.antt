@@ -1,9 +1,8 @@
--- The grammar: which trees an entry has, before which rest.
-use Rattle.std.specs.Prelude.{◌≡◌, Bool, true, false, List, [], ◌∷◌, ◌++◌}
+-- The grammar: which trees an entry has, and before which rest.
+use Rattle.std.specs.Prelude.{◌≡◌, true, false, List, ◌++◌}
 use Rattle.rust_token.specs.Token.{Token}
-use Rattle.canon_syntax.specs.Kind.{Kind}
 use Rattle.canon_syntax.specs.Tree.{Tree, Leaf, Last, Raw, Nil, Pair, First, Second, Node, flat}
-use Rattle.canon_syntax.specs.Gram.{Gram, one, last, raw, nothing, never, seq, alt, star, ref, ask, is_balanced, at_end}
+use Rattle.canon_syntax.specs.Gram.{Gram, one, last, raw, nothing, seq, alt, star, ref, ask, is_balanced, at_end}
 use Rattle.canon_syntax.specs.Table.{table}
 
 -- The tree is one of the entry where the rest follows it:
@@ -20,7 +19,8 @@ Derives Nil nothing rest = Unit {0}
 Derives (Pair x y) (seq a b) rest = Derives x a (flat y ++ rest) × Derives y b rest
 Derives (First x) (alt t a b) rest = (ask t (flat x ++ rest) ≡ true) × Derives x a rest
 Derives (Second x) (alt t a b) rest = (ask t (flat x ++ rest) ≡ false) × Derives x b rest
-Derives (First (Pair x y)) (star t g) rest = (ask t (flat x ++ flat y ++ rest) ≡ true) × Derives x g (flat y ++ rest) × Derives y (star t g) rest
+Derives (First (Pair x y)) (star t g) rest =
+    (ask t (flat x ++ flat y ++ rest) ≡ true) × Derives x g (flat y ++ rest) × Derives y (star t g) rest
 Derives (Second Nil) (star t g) rest = ask t rest ≡ false
 Derives (Node k x) (ref l) rest = (k ≡ l) × Derives x (table k) rest
 Derives _ _ rest = ⊥

@@ -1,8 +1,9 @@
 -- When a table is well founded: what a kind begins with is of lower rank, and each turn of a star takes a token.
-use Rattle.std.specs.Prelude.{ℕ, zero, suc, Bool, true, false, ◌&&◌, ◌||◌, cond, max, nat_le}
+use Rattle.std.specs.Prelude.{ℕ, suc, Bool, true, false, ◌&&◌, ◌||◌, cond, max, nat_le}
 use Rattle.canon_syntax.specs.Kind.{Kind}
 use Rattle.canon_syntax.specs.Gram.{Gram, one, last, raw, nothing, never, seq, alt, star, ref}
-use Rattle.canon_syntax.specs.Table.{table, rank, skips, top}
+use Rattle.canon_syntax.specs.Table.{table}
+use Rattle.canon_syntax.specs.Ranks.{rank, skips, top}
 
 -- it may take no token
 abbrev pub nullable : Gram → Bool
@@ -44,4 +45,6 @@ same true b = b
 same false b = cond b false true
 
 abbrev pub is_founded : Kind → Bool
-is_founded k = nat_le (level (table k)) (rank k) && (nat_le (max (height (table k)) (rank k)) top && (same (nullable (table k)) (skips k) && turns_take (table k)))
+is_founded k =
+    nat_le (level (table k)) (rank k) && (nat_le (max (height (table k)) (rank k)) top
+    && (same (nullable (table k)) (skips k) && turns_take (table k)))

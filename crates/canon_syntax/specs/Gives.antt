@@ -1,5 +1,5 @@
 -- What a reader of the code answers: a tool of the proofs, for the functions behind parse_file.
-use Rattle.std.specs.Prelude.{◌≡◌, ℕ, zero, suc, ◌-◌, Bool, List, length, take, drop, Result, Ok, Err, Option, Some, None}
+use Rattle.std.specs.Prelude.{◌≡◌, ℕ, zero, suc, ◌-◌, List, take, drop, Result, Ok, Err, Option, Some, None}
 use Rattle.rust_token.specs.Token.{Token}
 use Rattle.rust_token.specs.Lexemes.{tokens_at}
 use Rattle.rust_token.specs.declared.lexeme.Lexeme.{Lexeme}

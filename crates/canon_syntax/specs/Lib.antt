@@ -4,6 +4,7 @@ pub mod Tree
 pub mod Gram
 pub mod Tests
 pub mod Table
+pub mod Ranks
 pub mod Derives
 pub mod Normal
 pub mod File

@@ -1,5 +1,5 @@
 -- A run of the grammar on tokens: a tool of the proofs. What a tree is, the grammar says.
-use Rattle.std.specs.Prelude.{ℕ, zero, suc, ◌+◌, ◌*◌, Bool, true, false, ◌==◌, cond, List, [], ◌∷◌, ◌++◌, length}
+use Rattle.std.specs.Prelude.{ℕ, zero, suc, ◌+◌, ◌*◌, Bool, ◌==◌, cond, List, [], ◌∷◌, ◌++◌, length}
 use Rattle.rust_token.specs.Token.{Token, Opens, Closes, Word, Sign}
 use Rattle.rust_token.specs.declared.lexeme.Spacing.{Spacing}
 use Rattle.rust_token.specs.declared.lexeme.Spacing.TheVariants.{Alone}
@@ -7,7 +7,8 @@ use Rattle.canon_syntax.specs.Kind.{Kind}
 use Rattle.canon_syntax.specs.Tree.{Tree, Leaf, Last, Raw, Nil, Pair, First, Second, Node}
 use Rattle.canon_syntax.specs.Gram.{Gram, one, last, raw, nothing, never, seq, alt, star, ref, ask}
 use Rattle.canon_syntax.specs.Normal.{normal}
-use Rattle.canon_syntax.specs.Table.{table, top}
+use Rattle.canon_syntax.specs.Table.{table}
+use Rattle.canon_syntax.specs.Ranks.{top}
 
 pub data Out : Type 0 where
   -- out of fuel

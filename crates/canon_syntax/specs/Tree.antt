@@ -4,6 +4,7 @@ use Rattle.rust_token.specs.Token.{Token, Sign}
 use Rattle.rust_token.specs.declared.lexeme.Spacing.{Spacing}
 use Rattle.canon_syntax.specs.Kind.{Kind}
 
+-- what an entry of the grammar has read
 pub data Tree : Type 0 where
   -- a token
   Leaf : (token : Token) → Tree

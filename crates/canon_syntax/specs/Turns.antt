@@ -1,7 +1,7 @@
 -- The turns of a star, of which some have been read.
 use Rattle.std.specs.Prelude.{List, [], ◌∷◌}
 use Rattle.canon_syntax.specs.Tree.{Tree, First, Pair}
-use Rattle.canon_syntax.specs.Run.{Out, ◌>>=◌, Got, wrap}
+use Rattle.canon_syntax.specs.Run.{Out, wrap}
 
 -- the tree of these turns, and then of the others
 abbrev pub chain : {A : Type 0} → (A → Tree) → List A → Tree → Tree

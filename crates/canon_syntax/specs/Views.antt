@@ -1,6 +1,6 @@
 -- What each value of the code is as a tree, in normal form, where its lexemes lie in the bytes of a text.
-use Rattle.std.specs.Prelude.{ℕ, List, []}
-use Rattle.rust_token.specs.Token.{Token, Opens, Closes, Word}
+use Rattle.std.specs.Prelude.{ℕ, List}
+use Rattle.rust_token.specs.Token.{Opens, Closes, Word}
 use Rattle.std.specs.List.{All}
 use Rattle.rust_token.specs.Lexemes.{token_at, tokens_at, IsWithin}
 use Rattle.rust_token.specs.declared.delimiter.Delimiter.TheVariants.{Brace}
@@ -24,17 +24,25 @@ ident_tree bytes ident = Leaf (token_at bytes ident)
 abbrev pub struct_tree : List ℕ → ItemStruct → Tree
 struct_tree bytes s = Node AStruct (Pair (Leaf (Word struct_text)) (Pair (ident_tree bytes s.ident) (Last 59 Alone)))
 
+-- { inside }
+abbrev pub braces_tree : Tree → Tree
+braces_tree inside = Pair (Leaf (Opens Brace)) (Pair inside (Leaf (Closes Brace)))
+
 -- name ! { tokens }
 abbrev pub macro_tree : List ℕ → ItemMacro → Tree
-macro_tree bytes m = Node AMacro (Pair (ident_tree bytes m.ident) (Pair (Last 33 Alone) (Pair (Leaf (Opens Brace)) (Pair (Raw (tokens_at bytes m.tokens.now)) (Leaf (Closes Brace))))))
+macro_tree bytes m =
+    Node AMacro (Pair (ident_tree bytes m.ident) (Pair (Last 33 Alone) (braces_tree (Raw (tokens_at bytes m.tokens.now)))))
 
+-- an item
 abbrev pub item_tree : List ℕ → Items.Item → Tree
 item_tree bytes (Struct s) = Node AnItem (First (struct_tree bytes s))
 item_tree bytes (Macro m) = Node AnItem (Second (macro_tree bytes m))
 
+-- items, to the end
 abbrev pub items_tree : List ℕ → List Items.Item → Tree
 items_tree bytes items = chain (item_tree bytes) items (Second Nil)
 
+-- a file
 abbrev pub file_tree : List ℕ → Files.File → Tree
 file_tree bytes f = Node AFile (items_tree bytes f.items.items)
 

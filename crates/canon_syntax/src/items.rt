@@ -19,7 +19,8 @@ const STRUCT: &str = "struct";
 #[tactic(auto, using(crate::proofs::Steps::read_struct, crate::proofs::Steps::ascii_struct))]
 fn item_struct<'a>(text: &str, tokens: &'a [Lexeme]) -> Result<(ItemStruct, &'a [Lexeme]), Refusal>
     requires { All (IsWithin text.now) tokens.now }
-    ensures value { Gives (λ x. struct_tree text.now x.0) (λ x. tokens_at text.now x.1.now) result (normals (kind AStruct) (tokens_at text.now tokens.now)) }
+    ensures value { Gives (λ x. struct_tree text.now x.0) (λ x. tokens_at text.now x.1.now) result
+        (normals (kind AStruct) (tokens_at text.now tokens.now)) }
     ensures inside { IfOk result (λ x. IsWithin text.now x.0.ident) }
     ensures within { IfOk result (λ x. All (IsWithin text.now) x.1.now) }
 {
@@ -35,7 +36,8 @@ fn item_macro<'a>(
     tokens: &'a [Lexeme],
 ) -> Result<(ItemMacro<'a>, &'a [Lexeme]), Refusal>
     requires { All (IsWithin text.now) tokens.now }
-    ensures value { Gives (λ x. macro_tree text.now x.0) (λ x. tokens_at text.now x.1.now) result (normals (kind AMacro) (tokens_at text.now tokens.now)) }
+    ensures value { Gives (λ x. macro_tree text.now x.0) (λ x. tokens_at text.now x.1.now) result
+        (normals (kind AMacro) (tokens_at text.now tokens.now)) }
     ensures inside { IfOk result (λ x. IsWithin text.now x.0.ident × All (IsWithin text.now) x.0.tokens.now) }
     ensures within { IfOk result (λ x. All (IsWithin text.now) x.1.now) }
 {
@@ -60,7 +62,8 @@ pub(crate) fn item<'a>(
     tokens: &'a [Lexeme],
 ) -> Result<(Item<'a>, &'a [Lexeme]), Refusal>
     requires { All (IsWithin text.now) tokens.now }
-    ensures value { Gives (λ x. item_tree text.now x.0) (λ x. tokens_at text.now x.1.now) result (normals (kind AnItem) (tokens_at text.now tokens.now)) }
+    ensures value { Gives (λ x. item_tree text.now x.0) (λ x. tokens_at text.now x.1.now) result
+        (normals (kind AnItem) (tokens_at text.now tokens.now)) }
     ensures inside { IfOk result (λ x. IsItemWithin text.now x.0) }
     ensures within { IfOk result (λ x. All (IsWithin text.now) x.1.now) }
 {

@@ -50,10 +50,10 @@ pub fn parse_file<'a>(
                 items.push(item)?;
                 rest = after;
             }
-            Err(refusal) => return Err(ParseFault::Syntax(place_where(
-                lexemes.len(),
-                refusal.left,
-            ))),
+            Err(refusal) => {
+                let place = place_where(lexemes.len(), refusal.left);
+                return Err(ParseFault::Syntax(place));
+            }
         }
     }
     Ok(File { items })

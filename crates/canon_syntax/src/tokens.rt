@@ -60,7 +60,8 @@ fn is_mark(text: &str, lexeme: &Lexeme, c: char) -> bool
 #[tactic(auto, unfolding(crate::specs::Run::one_at))]
 pub(crate) fn ident<'a>(text: &str, tokens: &'a [Lexeme]) -> Result<(Lexeme, &'a [Lexeme]), Refusal>
     requires { All (IsWithin text.now) tokens.now }
-    ensures value { Gives (λ x. Leaf (token_at text.now x.0)) (λ x. tokens_at text.now x.1.now) result (one_at is_ident (tokens_at text.now tokens.now)) }
+    ensures value { Gives (λ x. Leaf (token_at text.now x.0)) (λ x. tokens_at text.now x.1.now) result
+        (one_at is_ident (tokens_at text.now tokens.now)) }
     ensures name { IfOk result (λ x. IsWithin text.now x.0) }
     ensures within { IfOk result (λ x. All (IsWithin text.now) x.1.now) }
 {
@@ -79,7 +80,8 @@ pub(crate) fn keyword<'a>(
 ) -> Result<&'a [Lexeme], Refusal>
     requires within { All (IsWithin text.now) tokens.now }
     requires ascii { IsAscii keyword.now }
-    ensures value { Gives (λ x. Leaf (Word keyword.now)) (λ x. tokens_at text.now x.now) result (one_at (is_keyword keyword.now) (tokens_at text.now tokens.now)) }
+    ensures value { Gives (λ x. Leaf (Word keyword.now)) (λ x. tokens_at text.now x.now) result
+        (one_at (is_keyword keyword.now) (tokens_at text.now tokens.now)) }
     ensures within { IfOk result (λ x. All (IsWithin text.now) x.now) }
 {
     match tokens {
@@ -105,7 +107,8 @@ pub(crate) fn is_keyword_next(text: &str, tokens: &[Lexeme], keyword: &str) -> b
 pub(crate) fn last<'a>(text: &str, tokens: &'a [Lexeme], c: char) -> Result<&'a [Lexeme], Refusal>
     requires within { All (IsWithin text.now) tokens.now }
     requires some { 0 < c }
-    ensures value { Gives (λ x. Last c Alone) (λ x. tokens_at text.now x.now) result (last_at alone c (tokens_at text.now tokens.now)) }
+    ensures value { Gives (λ x. Last c Alone) (λ x. tokens_at text.now x.now) result
+        (last_at alone c (tokens_at text.now tokens.now)) }
     ensures within { IfOk result (λ x. All (IsWithin text.now) x.now) }
 {
     match tokens {
@@ -122,17 +125,14 @@ pub(crate) fn open<'a>(
     delimiter: Delimiter,
 ) -> Result<&'a [Lexeme], Refusal>
     requires { All (IsWithin text.now) tokens.now }
-    ensures value { Gives (λ x. Leaf (Opens delimiter)) (λ x. tokens_at text.now x.now) result (one_at (is_open delimiter) (tokens_at text.now tokens.now)) }
+    ensures value { Gives (λ x. Leaf (Opens delimiter)) (λ x. tokens_at text.now x.now) result
+        (one_at (is_open delimiter) (tokens_at text.now tokens.now)) }
     ensures within { IfOk result (λ x. All (IsWithin text.now) x.now) }
 {
     match tokens {
-        [
-            Lexeme {
-                kind: LexemeKind::Open(d),
-                ..
-            },
-            rest @ ..,
-        ] if *d == delimiter => Ok(rest),
+        [first, rest @ ..] if matches!(first.kind, LexemeKind::Open(d) if d == delimiter) => Ok(
+            rest,
+        ),
         _ => Err(Refusal { left: tokens.len() }),
     }
 }
@@ -145,17 +145,14 @@ pub(crate) fn close<'a>(
     delimiter: Delimiter,
 ) -> Result<&'a [Lexeme], Refusal>
     requires { All (IsWithin text.now) tokens.now }
-    ensures value { Gives (λ x. Leaf (Closes delimiter)) (λ x. tokens_at text.now x.now) result (one_at (is_close delimiter) (tokens_at text.now tokens.now)) }
+    ensures value { Gives (λ x. Leaf (Closes delimiter)) (λ x. tokens_at text.now x.now) result
+        (one_at (is_close delimiter) (tokens_at text.now tokens.now)) }
     ensures within { IfOk result (λ x. All (IsWithin text.now) x.now) }
 {
     match tokens {
-        [
-            Lexeme {
-                kind: LexemeKind::Close(d),
-                ..
-            },
-            rest @ ..,
-        ] if *d == delimiter => Ok(rest),
+        [first, rest @ ..] if matches!(first.kind, LexemeKind::Close(d) if d == delimiter) => Ok(
+            rest,
+        ),
         _ => Err(Refusal { left: tokens.len() }),
     }
 }
@@ -175,7 +172,7 @@ fn open_behind(n: usize, kind: LexemeKind) -> Option<usize>
 
 // How many tokens stand before the closing mark of the group in which they stand, or before the end;
 // none where a group in them does not end.
-#[tactic(auto, using(crate::proofs::Raws::raw_start, crate::proofs::Raws::raw_stops, crate::proofs::Raws::raw_over, crate::proofs::Raws::raw_unclosed))]
+#[tactic(auto, using(crate::proofs::Raws::raw_start))]
 fn raw_end(tokens: &[Lexeme]) -> Option<usize>
     ensures ends { (bytes : List ℕ) → RawEnds bytes tokens.now result }
     ensures within { IfSome result (λ n. n ≤ length tokens.now) }
@@ -198,7 +195,8 @@ pub(crate) fn raw<'a>(
     tokens: &'a [Lexeme],
 ) -> Result<(&'a [Lexeme], &'a [Lexeme]), Refusal>
     requires { All (IsWithin text.now) tokens.now }
-    ensures value { Gives (λ x. Raw (tokens_at text.now x.0.now)) (λ x. tokens_at text.now x.1.now) result (raw_at 0 (tokens_at text.now tokens.now)) }
+    ensures value { Gives (λ x. Raw (tokens_at text.now x.0.now)) (λ x. tokens_at text.now x.1.now) result
+        (raw_at 0 (tokens_at text.now tokens.now)) }
     ensures inside { IfOk result (λ x. All (IsWithin text.now) x.0.now) }
     ensures within { IfOk result (λ x. All (IsWithin text.now) x.1.now) }
 {

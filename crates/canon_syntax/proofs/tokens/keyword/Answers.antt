@@ -1,4 +1,4 @@
-use Rattle.std.proofs.Common.{◌≡◌, ◌∙◌, sym}
+use Rattle.std.proofs.Common.{◌∙◌, sym}
 use Rattle.rust_token.specs.Lexemes.{IsWithin}
 use Rattle.canon_syntax.proofs.Texts.{keyword_read, all_rest}
 use Rattle.canon_syntax.proofs.tokens.keyword.Goals as goal

@@ -1,4 +1,4 @@
-use Rattle.std.proofs.Common.{◌≡◌, ◌∙◌, sym, arith}
+use Rattle.std.proofs.Common.{◌∙◌, sym, arith}
 use Rattle.canon_syntax.proofs.Raws.{raw_step, raw_stops, raw_over, raw_unclosed}
 use Rattle.canon_syntax.proofs.tokens.raw_end.Goals as goal
 

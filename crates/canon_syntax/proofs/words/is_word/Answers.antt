@@ -1,4 +1,4 @@
-use Rattle.std.proofs.Common.{◌≡◌, ◌∙◌}
+use Rattle.std.proofs.Common.{◌∙◌}
 use Rattle.canon_syntax.proofs.Texts.{word_same}
 use Rattle.canon_syntax.proofs.words.is_word.Goals as goal
 
