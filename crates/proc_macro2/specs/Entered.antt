@@ -1,0 +1,28 @@
+-- How a tree stands in a stream that it is put into: a literal that begins with a minus as an
+-- Alone - and the rest, both with its span, anything else as it is.
+use Rattle.std.specs.Prelude.{ℕ, Bool, false, ◌==◌, if◌then◌else◌, List, [], ◌∷◌, drop}
+use Rattle.rust_map.specs.declared.span.Span.{Span}
+use Rattle.rust_leaf.specs.Leaf.{literal_span, literal_text}
+use Rattle.proc_macro2.specs.Token.{Quoted, Sign, Alone, Spanned}
+use Rattle.proc_macro2.specs.Flat.{spanned, tree_tokens}
+use Rattle.proc_macro2.specs.declared.tree.TokenTree.{TokenTree}
+use Rattle.proc_macro2.specs.declared.tree.TokenTree.TheVariants as tree
+
+-- -
+abbrev pub minus : ℕ
+minus = 45
+
+abbrev pub starts_with_minus : List ℕ → Bool
+starts_with_minus [] = false
+starts_with_minus (c ∷ cs) = c == minus
+
+abbrev pub literal_entered : List ℕ → Span → List Spanned
+literal_entered cs span = if starts_with_minus cs
+    then spanned (Sign minus Alone) span ∷ spanned (Quoted (drop 1 cs)) span ∷ []
+    else spanned (Quoted cs) span ∷ []
+
+abbrev pub entered : TokenTree → List Spanned
+entered (tree.Literal l) = literal_entered (literal_text l) (literal_span l)
+entered (tree.Group g) = tree_tokens (tree.Group g)
+entered (tree.Ident i) = tree_tokens (tree.Ident i)
+entered (tree.Punct p) = tree_tokens (tree.Punct p)

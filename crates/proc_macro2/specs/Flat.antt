@@ -1,0 +1,25 @@
+-- A token tree as the list of its tokens. A group's stream is seen as its list already, and a
+-- group's span stands at its opening and at its closing token.
+use Rattle.std.specs.Prelude.{List, [], ◌∷◌, ◌++◌}
+use Rattle.std.specs.List.{flat_map}
+use Rattle.rust_map.specs.declared.span.Span.{Span}
+use Rattle.rust_leaf.specs.Leaf.{ident_span, ident_text, literal_span, literal_text, punct_char, punct_spacing, punct_span}
+use Rattle.proc_macro2.specs.Token.{Token, Opens, Closes, Word, Quoted, Sign, Spanned}
+use Rattle.proc_macro2.specs.declared.tree.Group.{Group}
+use Rattle.proc_macro2.specs.declared.tree.TokenTree.{TokenTree}
+use Rattle.proc_macro2.specs.declared.tree.TokenTree.TheVariants as tree
+
+abbrev pub spanned : Token → Span → Spanned
+spanned t span = record { token = t; span = span }
+
+abbrev pub group_tokens : Group → List Spanned
+group_tokens g = spanned (Opens g.delimiter) g.span ∷ g.stream ++ spanned (Closes g.delimiter) g.span ∷ []
+
+abbrev pub tree_tokens : TokenTree → List Spanned
+tree_tokens (tree.Group g) = group_tokens g
+tree_tokens (tree.Ident i) = spanned (Word (ident_text i)) (ident_span i) ∷ []
+tree_tokens (tree.Punct p) = spanned (Sign (punct_char p) (punct_spacing p)) (punct_span p) ∷ []
+tree_tokens (tree.Literal l) = spanned (Quoted (literal_text l)) (literal_span l) ∷ []
+
+abbrev pub trees_tokens : List TokenTree → List Spanned
+trees_tokens ts = flat_map tree_tokens ts

@@ -1,0 +1,11 @@
+pub mod Token
+pub mod Groups
+pub mod Flat
+pub mod Falls
+pub mod Trees
+pub mod Entered
+pub mod Left
+pub mod Printed
+pub mod Examples
+pub mod Shown
+pub mod Spacing

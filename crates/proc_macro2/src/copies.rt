@@ -1,0 +1,107 @@
+//! Copies of streams and trees. Each shows what was copied, spans included.
+
+ghost use Rattle.proc_macro2.specs.Flat.{tree_tokens};
+ghost use Rattle.std.specs.Prelude.{◌≡◌, IfOk, List};
+
+use crate::delimiter::Delimiter;
+use crate::group::DelimSpan;
+use crate::tree::{Group, TokenStream, TokenTree};
+use std::alloc::AllocError;
+use try_clone::TryClone;
+
+// A copy of a stream: the same trees, which share nothing with those of the stream.
+#[cycle(copying)]
+pub(crate) fn copied_stream(stream: &TokenStream) -> Result<TokenStream, AllocError>
+    ensures { IfOk result (λ s. s ≡ stream.now) }
+{
+    let mut trees = Vec::new(*stream.trees.allocator());
+    for tree in &stream.trees {
+        trees.push(copied_tree(tree)?)?;
+    }
+    Ok(TokenStream { trees })
+}
+
+// A copy of a tree, which shares nothing with it.
+#[cycle(copying)]
+pub(crate) fn copied_tree(tree: &TokenTree) -> Result<TokenTree, AllocError>
+    ensures { IfOk result (λ t. tree_tokens t ≡ tree_tokens tree.now) }
+{
+    match tree {
+        TokenTree::Group(group) => Ok(TokenTree::Group(copied_group(group)?)),
+        TokenTree::Ident(ident) => Ok(TokenTree::Ident(ident.try_clone()?)),
+        TokenTree::Punct(punct) => Ok(TokenTree::Punct(*punct)),
+        TokenTree::Literal(literal) => Ok(TokenTree::Literal(literal.try_clone()?)),
+    }
+}
+
+// A copy of a group, which shares nothing with it.
+#[cycle(copying)]
+fn copied_group(group: &Group) -> Result<Group, AllocError>
+    ensures { IfOk result (λ g. g ≡ group.now) }
+{
+    Ok(Group {
+        delimiter: group.delimiter,
+        stream: copied_stream(&group.stream)?,
+        span: group.span,
+    })
+}
+
+impl TryClone for TokenStream {
+    ghost use Rattle.proc_macro2.specs.Token.{Spanned};
+
+    ghost Shown = { List Spanned };
+
+    ghost shown = { λ stream. stream };
+
+    fn try_clone(&self) -> Result<TokenStream, AllocError> {
+        copied_stream(self)
+    }
+}
+
+impl TryClone for TokenTree {
+    ghost use Rattle.proc_macro2.specs.Token.{Spanned};
+
+    ghost Shown = { List Spanned };
+
+    ghost shown = { tree_tokens };
+
+    fn try_clone(&self) -> Result<TokenTree, AllocError> {
+        copied_tree(self)
+    }
+}
+
+impl TryClone for Group {
+    ghost use Rattle.proc_macro2.specs.declared.tree.Group.{Group};
+
+    ghost Shown = { Group };
+
+    ghost shown = { λ group. group };
+
+    fn try_clone(&self) -> Result<Group, AllocError> {
+        copied_group(self)
+    }
+}
+
+impl TryClone for Delimiter {
+    ghost use Rattle.proc_macro2.specs.declared.delimiter.Delimiter.{Delimiter};
+
+    ghost Shown = { Delimiter };
+
+    ghost shown = { λ delimiter. delimiter };
+
+    fn try_clone(&self) -> Result<Delimiter, AllocError> {
+        Ok(*self)
+    }
+}
+
+impl TryClone for DelimSpan {
+    ghost use Rattle.proc_macro2.specs.declared.group.DelimSpan.{DelimSpan};
+
+    ghost Shown = { DelimSpan };
+
+    ghost shown = { λ spans. spans };
+
+    fn try_clone(&self) -> Result<DelimSpan, AllocError> {
+        Ok(*self)
+    }
+}

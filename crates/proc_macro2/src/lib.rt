@@ -1,0 +1,22 @@
+//! Token streams: lists of token trees, and how they are built, taken apart, copied and printed.
+//!
+//! To a contract a stream is ONE flat list of tokens, each with its span: a group is its opening
+//! token, its inside and its closing token. Trees are seen so too, one level at a time.
+//!
+//! - `delimiter`: what encloses a group.
+//! - `tree`: the types of streams, groups and trees; spans of trees.
+//! - `group`: groups, and the spans of their delimiters.
+//! - `stream`: building streams.
+//! - `into_iter`: taking streams apart.
+//! - `copies`: copies of streams and trees.
+//! - `print`: the printed text.
+#![tactic(auto)]
+
+pub mod copies;
+pub mod delimiter;
+pub mod group;
+pub mod into_iter;
+pub mod laws;
+pub mod print;
+pub mod stream;
+pub mod tree;

@@ -1,0 +1,148 @@
+//! Building token streams.
+//!
+//! A literal that begins with a minus stands in a stream as an `Alone` `-` and the rest, both
+//! with the literal's span.
+
+ghost use Rattle.proc_macro2.specs.Entered.{entered, literal_entered, minus, starts_with_minus};
+ghost use Rattle.proc_macro2.specs.Flat.{trees_tokens};
+ghost use Rattle.rust_leaf.specs.Leaf.{literal_span, literal_text};
+ghost use Rattle.std.specs.List.{flat_map};
+ghost use Rattle.std.specs.Prelude.{[], ◌∷◌, ◌++◌, ◌≡◌, ◌↔◌, IfNone, IfOk, IfSome, IsTrue, OnErr, OnOk, false};
+ghost use Rattle.std.specs.Str.{chars};
+
+use crate::tree::{TokenStream, TokenTree};
+use rust_leaf::literal::Literal;
+use rust_leaf::punct::{Punct, Spacing};
+use std::alloc::{AllocError, Global};
+
+impl TokenStream {
+    /// The stream of no trees.
+    pub fn new(alloc: Global) -> TokenStream
+        ensures { result ≡ [] }
+    {
+        TokenStream {
+            trees: Vec::new(alloc),
+        }
+    }
+
+    /// Whether the stream has no trees.
+    pub fn is_empty(&self) -> bool
+        ensures { IsTrue result ↔ (self.now ≡ []) }
+    {
+        self.trees.is_empty()
+    }
+
+    /// The stream of one tree.
+    pub fn from_tree(alloc: Global, tree: TokenTree) -> Result<TokenStream, AllocError>
+        ensures { IfOk result (λ s. s ≡ entered tree) }
+    {
+        let mut trees = Vec::new(alloc);
+        enter(alloc, &mut trees, tree)?;
+        Ok(TokenStream { trees })
+    }
+
+    /// The stream of the trees, in their order.
+    pub fn from_trees(alloc: Global, trees: Vec<TokenTree>) -> Result<TokenStream, AllocError>
+        ensures { IfOk result (λ s. s ≡ flat_map entered trees.items) }
+    {
+        let mut all = Vec::new(alloc);
+        for tree in trees {
+            enter(alloc, &mut all, tree)?;
+        }
+        Ok(TokenStream { trees: all })
+    }
+
+    /// The streams one behind the other.
+    pub fn from_streams(alloc: Global, streams: Vec<TokenStream>) -> Result<TokenStream, AllocError>
+        ensures { IfOk result (λ s. s ≡ flat_map (λ t. t) streams.items) }
+    {
+        let mut all = TokenStream::new(alloc);
+        for stream in streams {
+            all.append(stream)?;
+        }
+        Ok(all)
+    }
+
+    /// Adds the trees at the end. If memory is refused, the stream is as before.
+    pub fn extend_trees(&mut self, trees: Vec<TokenTree>) -> Result<(), AllocError>
+        ensures ok { OnOk result (self.new ≡ self.old ++ flat_map entered trees.items) }
+        ensures err { OnErr result (self.new ≡ self.old) }
+    {
+        let alloc = *self.trees.allocator();
+        let added = TokenStream::from_trees(alloc, trees)?;
+        self.append(added)?;
+        Ok(())
+    }
+
+    /// Adds the streams at the end. If memory is refused, the stream is as before.
+    pub fn extend_streams(&mut self, streams: Vec<TokenStream>) -> Result<(), AllocError>
+        ensures ok { OnOk result (self.new ≡ self.old ++ flat_map (λ t. t) streams.items) }
+        ensures err { OnErr result (self.new ≡ self.old) }
+    {
+        let alloc = *self.trees.allocator();
+        let added = TokenStream::from_streams(alloc, streams)?;
+        self.append(added)?;
+        Ok(())
+    }
+
+    // Moves the trees of the other stream to the end.
+    fn append(&mut self, other: TokenStream) -> Result<(), AllocError>
+        ensures ok { OnOk result (self.new ≡ self.old ++ other) }
+        ensures err { OnErr result (self.new ≡ self.old) }
+    {
+        let TokenStream { mut trees } = other;
+        self.trees.append(&mut trees)?;
+        Ok(())
+    }
+}
+
+// Adds a tree as it stands in a stream.
+fn enter(alloc: Global, trees: &mut Vec<TokenTree>, tree: TokenTree) -> Result<(), AllocError>
+    ensures { OnOk result (trees_tokens trees.new.items ≡ trees_tokens trees.old.items ++ entered tree) }
+{
+    match tree {
+        TokenTree::Literal(literal) => enter_literal(alloc, trees, literal),
+        TokenTree::Group(group) => {
+            trees.push(TokenTree::Group(group))?;
+            Ok(())
+        }
+        TokenTree::Ident(ident) => {
+            trees.push(TokenTree::Ident(ident))?;
+            Ok(())
+        }
+        TokenTree::Punct(punct) => {
+            trees.push(TokenTree::Punct(punct))?;
+            Ok(())
+        }
+    }
+}
+
+// Adds a literal as it stands in a stream.
+#[tactic(auto, unfolding(rust_leaf::specs::Mark::is_mark))]
+fn enter_literal(
+    alloc: Global,
+    trees: &mut Vec<TokenTree>,
+    literal: Literal,
+) -> Result<(), AllocError>
+    ensures { OnOk result (trees_tokens trees.new.items
+        ≡ trees_tokens trees.old.items ++ literal_entered (literal_text literal) (literal_span literal)) }
+{
+    let Some(digits) = behind_minus(literal.as_str()) else {
+        trees.push(TokenTree::Literal(literal))?;
+        return Ok(());
+    };
+    let mut minus = Punct::new('-', Spacing::Alone);
+    minus.set_span(literal.span());
+    let rest = Literal::from_text(alloc, digits, literal.span())?;
+    trees.push(TokenTree::Punct(minus))?;
+    trees.push(TokenTree::Literal(rest))?;
+    Ok(())
+}
+
+// What stands behind the minus that the text begins with.
+fn behind_minus(text: &str) -> Option<&str>
+    ensures none { IfNone result (starts_with_minus (chars text.now) ≡ false) }
+    ensures some { IfSome result (λ rest. chars text.now ≡ minus ∷ chars rest.now) }
+{
+    text.strip_prefix('-')
+}

@@ -1,0 +1,5 @@
+pub mod Mark
+pub mod Leaf
+pub mod Identifier
+pub mod Escaped
+pub mod CString

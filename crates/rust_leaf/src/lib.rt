@@ -1,0 +1,19 @@
+//! Leaves of token trees: identifiers, punctuation marks and literals.
+//!
+//! A leaf is its printed text and its span. Contracts see the text as characters, by the words
+//! `ident_text` and `literal_text`.
+//!
+//! - `ident`: identifiers, and the faults of a text that is none.
+//! - `punct`: punctuation marks.
+//! - `literal`: literals, and their constructors.
+//! - `escape`: how characters and bytes are written inside quotes.
+//! - `integer`: the constructors of integer literals.
+//! - `laws`: laws of equality, order and hash.
+#![tactic(auto)]
+
+mod escape;
+pub mod ident;
+mod integer;
+pub mod laws;
+pub mod literal;
+pub mod punct;

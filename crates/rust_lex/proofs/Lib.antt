@@ -1,0 +1,15 @@
+pub mod Fronts
+pub mod PlacesLemmas
+pub mod Walks
+pub mod Taken
+pub mod Units
+pub mod Ends
+pub mod Openers
+pub mod Complete
+pub mod Sound
+pub mod OneCover
+pub mod Steps
+pub mod Scans
+pub mod Pieces
+pub mod Covering
+pub mod Examples

@@ -1,0 +1,39 @@
+-- The piece at a place, in the bytes of a text.
+use Rattle.std.proofs.Common.{◌≡◌, ℕ, ◌-◌, ◌+◌, ◌≤◌, arith, List, ◌++◌, sym, ap, ◌∙◌, subst, length, take, drop}
+use Rattle.std.specs.Prelude.{Option, Some, None}
+use Rattle.std.specs.Str.{chars, IsUtf8}
+use Rattle.std.proofs.lemmas.List.{append_cancel_right, take-append-drop, drop-drop, length-drop}
+use Rattle.std.proofs.lemmas.Str.{chars-append, IsUtf8-take, IsCharBoundary-from_drop}
+use Rattle.rust_lex.specs.Piece.{PieceKind, FitsAt}
+use Rattle.rust_lex.specs.Cover.{NoPieceAt}
+use Rattle.rust_lex.specs.Ended.{IsScanned}
+use Rattle.rust_lex.specs.Places.{rest_at, between, IsPlace, IsBehind, IsPieceAt}
+use Rattle.rust_lex.specs.Scan.{Nowhere, Ends, scan_at}
+use Rattle.rust_lex.proofs.Sound.{sound_at}
+use Rattle.rust_lex.proofs.Complete.{complete_at}
+
+-- the characters between two places, and then the rest
+pub between_joined : (bytes : List ℕ) (at end : ℕ) → IsPlace bytes at → IsBehind bytes at end → rest_at bytes at ≡ between bytes at end ++ rest_at bytes end
+between_joined bytes at end p b =
+    let m = end - at in
+    let ends : at + m ≡ end = (let h = b.on in omega arith) in
+    let rest : drop m (drop at bytes) ≡ drop end bytes = drop-drop m at bytes ∙ ap (λ n. drop n bytes) ends in
+    let fits : m ≤ length (drop at bytes) = (let h = b.place.within in omega (arith, length-drop at bytes)) in
+    let utf8 : IsUtf8 (take m (drop at bytes)) = IsUtf8-take (drop at bytes) m p.cut (IsCharBoundary-from_drop (drop at bytes) m fits (subst IsUtf8 (sym rest) b.place.cut)) in
+    ap chars (sym (take-append-drop m (drop at bytes))) ∙ chars-append (take m (drop at bytes)) (drop m (drop at bytes)) utf8 ∙ ap (λ r. between bytes at end ++ chars r) rest
+
+-- and so those of what was scanned
+pub chars_between : (bytes cs : List ℕ) (at end : ℕ) → IsPlace bytes at → IsBehind bytes at end → rest_at bytes at ≡ cs ++ rest_at bytes end → cs ≡ between bytes at end
+chars_between bytes cs at end p b e = append_cancel_right cs (between bytes at end) (rest_at bytes end) (sym e ∙ between_joined bytes at end p b)
+
+no_piece : (at : ℕ) (text : List ℕ) → scan_at at text ≡ Nowhere → NoPieceAt at text
+no_piece at text e = λ k cs rest s f. (let h = complete_at at k cs rest f in let g : Nowhere ≡ Ends k rest = sym e ∙ ap (scan_at at) s ∙ h in cc)
+
+some_piece : (bytes : List ℕ) (at end : ℕ) (k : PieceKind) → IsPlace bytes at → scan_at at (rest_at bytes at) ≡ Ends k (rest_at bytes end) → IsBehind bytes at end → FitsAt at k (between bytes at end) (rest_at bytes end)
+some_piece bytes at end k p e b =
+    let f = sound_at at (rest_at bytes at) (rest_at bytes end) k e in
+    subst (λ x. FitsAt at k x (rest_at bytes end)) (chars_between bytes f.chars at end p b f.joined) f.fits
+
+pub piece_at : (bytes : List ℕ) (at : ℕ) (result : Option (PieceKind × ℕ)) → IsPlace bytes at → IsScanned bytes at result (scan_at at (rest_at bytes at)) → IsPieceAt bytes at result
+piece_at bytes at None p h = no_piece at (rest_at bytes at) h
+piece_at bytes at (Some q) p h = (some_piece bytes at q.1 q.0 p h.0 h.1, h.1)

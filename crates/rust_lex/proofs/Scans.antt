@@ -1,0 +1,92 @@
+-- What a scan finds, case by case.
+use Rattle.std.proofs.Common.{◌≡◌, ℕ, List, [], ◌∷◌, ◌++◌, arith, length, length-append, drop, refl, sym, ap, ◌∙◌, subst, ⊎_elim}
+use Rattle.std.specs.Prelude.{true, false, ◌&&◌, Some, None}
+use Rattle.std.proofs.lemmas.Bool.{cases_eq}
+use Rattle.rust_lex.specs.Chars.{is_next, is_digit, is_mark, begins}
+use Rattle.rust_lex.specs.Ends.{past}
+use Rattle.rust_lex.specs.Escape.{Characters}
+use Rattle.rust_lex.specs.Quoted.{Opener, literal_kind, opening_of, opener_of, past_char}
+use Rattle.rust_lex.specs.Word.{begins_raw_mark, begins_raw_name, begins_lifetime}
+use Rattle.rust_lex.specs.Number.{past_number}
+use Rattle.rust_lex.specs.Ended.{IsFrom}
+use Rattle.rust_lex.specs.Places.{rest_at, IsBehind}
+use Rattle.rust_lex.specs.Piece.{Mark, Ident}
+use Rattle.rust_lex.specs.Scan.{Front, first, digit, front_of, Nowhere, Ends, suffixed, past_inside, ticked, word}
+use Rattle.rust_lex.proofs.PlacesLemmas.{rest_end}
+use Rattle.rust_lex.proofs.Fronts.{Says, front_says}
+use Rattle.rust_lex.proofs.Ends.{past_word, number_found}
+use Rattle.rust_lex.proofs.Sound.{ticked_none, ticked_some, word_none, word_some, word_raw}
+
+-- behind '
+pub ticked_mark : (cs : List ℕ) → past_char Characters cs ≡ None → begins_lifetime cs ≡ true → ticked cs ≡ Ends Mark cs
+ticked_mark cs e h = ticked_none cs e ∙ rw h refl
+
+pub ticked_nowhere : (cs : List ℕ) → past_char Characters cs ≡ None → begins_lifetime cs ≡ false → ticked cs ≡ Nowhere
+ticked_nowhere cs e h = ticked_none cs e ∙ rw h refl
+
+pub ruleset ticks = (ticked_some, ticked_mark, ticked_nowhere)
+
+-- words
+pub word_is_raw : (cs : List ℕ) → begins_raw_mark cs ≡ true → begins_raw_name (drop 2 cs) ≡ true → word cs ≡ Ends Ident (past is_next (drop 2 cs))
+word_is_raw cs h k = word_raw cs (rw (h, k) refl)
+
+no_mark : (cs : List ℕ) → begins_raw_mark cs ≡ false → (begins_raw_mark cs && begins_raw_name (drop 2 cs)) ≡ false
+no_mark cs h = rw h refl
+
+no_name : (cs : List ℕ) → begins_raw_name (drop 2 cs) ≡ false → begins_raw_mark cs ≡ true → (begins_raw_mark cs && begins_raw_name (drop 2 cs)) ≡ false
+no_name cs h k = rw (k, h) refl
+
+pub word_plain : (cs : List ℕ) → begins_raw_mark cs ≡ false → opener_of cs ≡ None → word cs ≡ Ends Ident (past is_next cs)
+word_plain cs h e = word_none cs (no_mark cs h) e
+
+pub word_no_name : (cs : List ℕ) → begins_raw_mark cs ≡ true → begins_raw_name (drop 2 cs) ≡ false → opener_of cs ≡ None → word cs ≡ Ends Ident (past is_next cs)
+word_no_name cs k h e = word_none cs (no_name cs h k) e
+
+pub word_opener : (cs : List ℕ) (o : Opener) → begins_raw_mark cs ≡ false → opener_of cs ≡ Some o → word cs ≡ suffixed (literal_kind o) (past_inside o (drop (length (opening_of o)) cs))
+word_opener cs o h e = word_some cs o (no_mark cs h) e
+
+pub word_raw_opener : (cs : List ℕ) (o : Opener) → begins_raw_mark cs ≡ true → begins_raw_name (drop 2 cs) ≡ false → opener_of cs ≡ Some o → word cs ≡ suffixed (literal_kind o) (past_inside o (drop (length (opening_of o)) cs))
+word_raw_opener cs o k h e = word_some cs o (no_name cs h k) e
+
+pub ruleset words = (word_is_raw, word_plain, word_no_name, word_opener, word_raw_opener)
+
+-- a word's first character is of the word
+pub first_next : (c : ℕ) (cs : List ℕ) → front_of c ≡ first → past is_next (c ∷ cs) ≡ past is_next cs
+first_next c cs e = let P : Front → Type 0 = λ f. Says f c in past_word c cs (subst P e (front_says c))
+
+pub digit_begins : (c : ℕ) (cs : List ℕ) → front_of c ≡ digit → is_digit c ≡ true
+digit_begins c cs e = let P : Front → Type 0 = λ f. Says f c in subst P e (front_says c)
+
+pub ruleset scans = (rest_end, first_next, digit_begins)
+
+pub ruleset fronts = (rest_end)
+
+pub ruleset characters = (rest_end)
+
+-- a number has a digit at least
+longer : (front rest : List ℕ) (c : ℕ) → c ∷ (front ++ rest) ≡ rest → ⊥
+longer front rest c e = let l = ap length e in let m = length-append front rest in omega arith
+
+number_moves : (cs rest : List ℕ) → begins is_digit cs ≡ true → past_number cs ≡ Some rest → cs ≡ rest → ⊥
+number_moves [] rest h e s = cc
+number_moves (c ∷ cs) rest h e s = let t = number_found c cs rest h e in longer t.front rest c (ap (λ x. c ∷ x) (sym t.joined) ∙ s)
+
+pub number_behind : (bytes : List ℕ) (at end : ℕ) → begins is_digit (rest_at bytes at) ≡ true → past_number (rest_at bytes at) ≡ Some (rest_at bytes end) → IsFrom bytes at end → IsBehind bytes at end
+number_behind bytes at end h e f =
+    let on = f.on in
+    ⊎_elim
+    (λ same. absurd (number_moves (rest_at bytes at) (rest_at bytes end) h e (ap (rest_at bytes) same)))
+    (λ other. record { place = f.place; on = omega arith })
+    (cases_eq at end)
+
+pub ruleset numbers = (number_behind)
+
+-- a quote isn't one of the other marks
+tick_mark : is_mark 39 ≡ false
+unfolding is_mark
+tick_mark = refl
+
+pub tick_no_mark : (c : ℕ) → c ≡ 39 → is_mark c ≡ false
+tick_no_mark c e = rw e tick_mark
+
+pub ruleset marks = (rest_end, tick_no_mark)

@@ -1,0 +1,38 @@
+-- What loops over the characters of a text keep.
+use Rattle.std.proofs.Common.{◌≡◌, ℕ, ◌≤◌, ◌<◌, ◌^◌, List, drop}
+use Rattle.rust_lex.specs.Escape.{Alphabet, past_code}
+use Rattle.rust_lex.specs.Word.{begins_word}
+use Rattle.rust_lex.specs.Places.{rest_at, IsPlace}
+
+-- from the place on the answer is what it was from the start on
+pub record Walks {X : Type 0} (find : List ℕ → X) (bytes : List ℕ) (start at : ℕ) : Type 0 where
+  pub same : find (rest_at bytes at) ≡ find (rest_at bytes start)
+  pub place : IsPlace bytes at
+  pub on : start ≤ at
+
+-- the same, within n more comments
+pub record WalksIn {X : Type 0} (find : ℕ → List ℕ → X) (n : ℕ) (bytes : List ℕ) (start at : ℕ) : Type 0 where
+  pub same : find n (rest_at bytes at) ≡ find 0 (rest_at bytes start)
+  pub place : IsPlace bytes at
+  pub on : start ≤ at
+  pub few : n ≤ at
+
+-- the same, with n more to come of the m at the start
+pub record WalksDown {X : Type 0} (find : ℕ → List ℕ → X) (m n : ℕ) (bytes : List ℕ) (start at : ℕ) : Type 0 where
+  pub same : find n (rest_at bytes at) ≡ find m (rest_at bytes start)
+  pub place : IsPlace bytes at
+  pub on : start ≤ at
+
+-- the same, n hex digits having made a value
+pub record WalksCode (a : Alphabet) (n v : ℕ) (bytes : List ℕ) (start at : ℕ) : Type 0 where
+  pub same : past_code a n v (rest_at bytes at) ≡ past_code a 0 0 (rest_at bytes start)
+  pub place : IsPlace bytes at
+  pub on : start ≤ at
+  pub few : n ≤ 6
+  pub small : v < 16 ^ n
+
+-- the same, i characters of a word having been read
+pub record WalksWord (word : List ℕ) (i : ℕ) (bytes : List ℕ) (start at : ℕ) : Type 0 where
+  pub same : begins_word (drop i word) (rest_at bytes at) ≡ begins_word word (rest_at bytes start)
+  pub place : IsPlace bytes at
+  pub on : start ≤ at

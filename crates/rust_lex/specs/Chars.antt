@@ -1,0 +1,73 @@
+-- Characters, as numbers, and texts as lists of them.
+use Rattle.std.specs.Prelude.{ℕ, Bool, true, false, ◌&&◌, ◌||◌, ◌==◌, not, List, [], ◌∷◌}
+use Rattle.std.specs.List.{list_any}
+use Rattle.std.specs.Char.{is_ascii_digit}
+use Rattle.unicode_ident.specs.Ident.{is_xid_start, is_xid_continue}
+
+abbrev pub is_among : List ℕ → ℕ → Bool
+is_among ds c = list_any (λ d. d == c) ds
+
+-- the white characters of Unicode, and the marks U+200E and U+200F of a text's direction
+abbrev pub whites : List ℕ
+whites = 9 ∷ 10 ∷ 11 ∷ 12 ∷ 13 ∷ 32 ∷ 133 ∷ 160 ∷ 5760 ∷ 8192 ∷ 8193 ∷ 8194 ∷ 8195 ∷ 8196 ∷ 8197 ∷ 8198 ∷ 8199 ∷ 8200 ∷ 8201 ∷ 8202 ∷ 8206 ∷ 8207 ∷ 8232 ∷ 8233 ∷ 8239 ∷ 8287 ∷ 12288 ∷ []
+
+unfoldable pub is_white : ℕ → Bool
+is_white c = is_among whites c
+
+-- an identifier begins with XID_Start or _
+unfoldable pub is_first : ℕ → Bool
+is_first c = is_xid_start c || c == 95
+
+-- and goes on with XID_Continue
+unfoldable pub is_next : ℕ → Bool
+is_next c = is_xid_continue c
+
+unfoldable pub is_digit : ℕ → Bool
+is_digit c = is_ascii_digit c
+
+-- ~ ! @ # $ % ^ & * - = + | ; : , < . > / ?, which with ' are the 22 marks
+abbrev pub marks : List ℕ
+marks = 126 ∷ 33 ∷ 64 ∷ 35 ∷ 36 ∷ 37 ∷ 94 ∷ 38 ∷ 42 ∷ 45 ∷ 61 ∷ 43 ∷ 124 ∷ 59 ∷ 58 ∷ 44 ∷ 60 ∷ 46 ∷ 62 ∷ 47 ∷ 63 ∷ []
+
+unfoldable pub is_mark : ℕ → Bool
+is_mark c = is_among marks c
+
+-- a text begins with a character that passes
+abbrev pub begins : (ℕ → Bool) → List ℕ → Bool
+begins p [] = false
+begins p (c ∷ cs) = p c
+
+-- each character of a text passes
+abbrev pub passes : (ℕ → Bool) → List ℕ → Bool
+passes p [] = true
+passes p (c ∷ cs) = p c && passes p cs
+
+-- a text begins with another
+abbrev pub begins_with : List ℕ → List ℕ → Bool
+begins_with [] cs = true
+begins_with (d ∷ ds) [] = false
+begins_with (d ∷ ds) (c ∷ cs) = c == d && begins_with ds cs
+
+abbrev pub is_feed : ℕ → Bool
+is_feed c = c == 10
+
+abbrev pub is_not_feed : ℕ → Bool
+is_not_feed c = not (c == 10)
+
+abbrev pub is_slash : ℕ → Bool
+is_slash c = c == 47
+
+abbrev pub is_slash_or_star : ℕ → Bool
+is_slash_or_star c = c == 47 || c == 42
+
+abbrev pub is_quote_or_hash : ℕ → Bool
+is_quote_or_hash c = c == 34 || c == 35
+
+abbrev pub is_tick : ℕ → Bool
+is_tick c = c == 39
+
+abbrev pub is_tick_or_hash : ℕ → Bool
+is_tick_or_hash c = c == 39 || c == 35
+
+abbrev pub is_underscore : ℕ → Bool
+is_underscore c = c == 95

@@ -1,0 +1,12 @@
+pub mod Chars
+pub mod Ends
+pub mod Comment
+pub mod Escape
+pub mod Quoted
+pub mod Number
+pub mod Word
+pub mod Piece
+pub mod Cover
+pub mod Scan
+pub mod Places
+pub mod Ended

@@ -1,0 +1,94 @@
+-- Which piece a text begins with: what the code computes. That it is the one piece that fits is proved.
+use Rattle.std.specs.Prelude.{ℕ, zero, suc, ◌-◌, true, false, ◌&&◌, ◌==◌, List, [], ◌∷◌, Option, Some, None, if◌then◌else◌, drop, length}
+use Rattle.rust_lex.specs.Chars.{is_white, is_first, is_next, is_digit, is_mark, is_not_feed}
+use Rattle.rust_lex.specs.Ends.{past, past_suffix}
+use Rattle.rust_lex.specs.Comment.{OuterLine, InnerLine, OuterBlock, InnerBlock, is_plain_line, is_plain_block, past_comment, is_within_line, ends_line}
+use Rattle.rust_lex.specs.Escape.{Alphabet, Characters, Bytes}
+use Rattle.rust_lex.specs.Quoted.{Opener, Cooked, Raw, ByteOpener, CharOpener, LiteralKind, Str, Char, literal_kind, opening_of, opener_of, past_unit, past_hashes, past_char}
+use Rattle.rust_lex.specs.Number.{past_number, number_kind}
+use Rattle.rust_lex.specs.Word.{begins_raw_mark, begins_raw_name, begins_lifetime}
+use Rattle.rust_lex.specs.Piece.{Parenthesis, Brace, Bracket, PieceKind, FrontMark, White, Comment, Doc, Open, Close, Mark, Ident, Literal}
+-- what begins with a character
+pub use Rattle.rust_lex.specs.declared.front.Front.{Front}
+pub use Rattle.rust_lex.specs.declared.front.Front.TheVariants.{White as white, Opens as opens, Closes as closes, Quote as quote, Tick as tick, Digit as digit, First as first, Mark as mark, Other as other}
+
+unfoldable pub front_of : ℕ → Front
+front_of c = if is_first c then first else (if is_white c then white else (if is_mark c then mark else (if is_digit c then digit else
+    (if c == 34 then quote else (if c == 39 then tick else (if c == 40 then opens Parenthesis else (if c == 41 then closes Parenthesis else (if c == 91 then opens Bracket else
+    (if c == 93 then closes Bracket else (if c == 123 then opens Brace else (if c == 125 then closes Brace else other)))))))))))
+
+-- a piece, and what stands behind it
+pub data Scanned : Type 0 where
+  Nowhere : Scanned
+  Ends : PieceKind → List ℕ → Scanned
+
+-- behind the closing quote of a string, the first n characters being of one unit
+unfoldable pub past_units : Alphabet → ℕ → List ℕ → Option (List ℕ)
+past_units a n [] = None
+past_units a zero (c ∷ cs) = if c == 34 then Some cs else (elim (past_unit a (c ∷ cs)) [ None ↦ None | Some rest ↦ past_units a (length cs - length rest) cs ])
+past_units a (suc n) (c ∷ cs) = past_units a n cs
+
+abbrev pub past_inside : Opener → List ℕ → Option (List ℕ)
+past_inside (Cooked a) cs = past_units a 0 cs
+past_inside (Raw a) cs = past_hashes a 0 cs
+past_inside ByteOpener cs = past_char Bytes cs
+past_inside CharOpener cs = past_char Characters cs
+
+abbrev pub suffixed : LiteralKind → Option (List ℕ) → Scanned
+suffixed k None = Nowhere
+suffixed k (Some cs) = Ends (Literal k) (past_suffix cs)
+
+abbrev pub ended : PieceKind → Option (List ℕ) → Scanned
+ended k None = Nowhere
+ended k (Some cs) = Ends k cs
+
+-- behind the second slash
+unfoldable pub line : List ℕ → Scanned
+line [] = Ends Comment []
+line (c ∷ cs) = if is_plain_line (c ∷ cs) then Ends Comment (past is_not_feed (c ∷ cs))
+    else (if ends_line (past is_within_line cs) then Ends (Doc (if c == 33 then InnerLine else OuterLine)) (past is_within_line cs) else Nowhere)
+
+-- behind /*
+unfoldable pub block : List ℕ → Scanned
+block [] = Nowhere
+block (c ∷ cs) = if is_plain_block (c ∷ cs) then ended Comment (past_comment false 0 (c ∷ cs))
+    else ended (Doc (if c == 33 then InnerBlock else OuterBlock)) (past_comment true 0 cs)
+
+-- behind a slash
+unfoldable pub slash : List ℕ → Scanned
+slash [] = Ends Mark []
+slash (c ∷ cs) = if c == 47 then line cs else (if c == 42 then block cs else Ends Mark (c ∷ cs))
+
+-- behind '
+unfoldable pub ticked : List ℕ → Scanned
+ticked cs = elim (past_char Characters cs) [ Some rest ↦ Ends (Literal Char) (past_suffix rest) | None ↦ if begins_lifetime cs then Ends Mark cs else Nowhere ]
+
+-- a text that begins with a letter or _
+unfoldable pub word : List ℕ → Scanned
+word cs = if begins_raw_mark cs && begins_raw_name (drop 2 cs) then Ends Ident (past is_next (drop 2 cs))
+    else (elim (opener_of cs) [ None ↦ Ends Ident (past is_next cs) | Some o ↦ suffixed (literal_kind o) (past_inside o (drop (length (opening_of o)) cs)) ])
+
+abbrev pub at_front : Front → ℕ → List ℕ → Scanned
+at_front white c cs = Ends White cs
+at_front (opens d) c cs = Ends (Open d) cs
+at_front (closes d) c cs = Ends (Close d) cs
+at_front quote c cs = suffixed Str (past_units Characters 0 cs)
+at_front tick c cs = ticked cs
+at_front digit c cs = suffixed (number_kind (c ∷ cs)) (past_number (c ∷ cs))
+at_front first c cs = word (c ∷ cs)
+at_front mark c cs = if c == 47 then slash cs else Ends Mark cs
+at_front other c cs = Nowhere
+
+abbrev pub scan : List ℕ → Scanned
+scan [] = Nowhere
+scan (c ∷ cs) = at_front (front_of c) c cs
+
+-- the same at the front of a text
+abbrev pub scan_front : List ℕ → Scanned
+scan_front [] = Nowhere
+scan_front (c ∷ cs) = if c == 65279 then Ends FrontMark cs else scan (c ∷ cs)
+
+-- the same behind some number of characters or bytes
+abbrev pub scan_at : ℕ → List ℕ → Scanned
+scan_at zero cs = scan_front cs
+scan_at (suc n) cs = scan cs

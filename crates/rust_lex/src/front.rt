@@ -1,0 +1,82 @@
+//! What a character begins.
+
+ghost use Rattle.rust_lex.specs.Chars as chars;
+ghost use Rattle.rust_lex.specs.Scan as scan;
+ghost use Rattle.std.specs.Prelude.{◌≡◌, ◌≤◌};
+
+use crate::delimiter::Delimiter;
+use unicode_ident::is_xid_start;
+
+/// What a character may begin.
+#[derive(Clone, Copy, Debug)]
+pub enum Front {
+    /// A white character.
+    White,
+    /// The opening mark of a group.
+    Opens(Delimiter),
+    /// The closing mark of a group.
+    Closes(Delimiter),
+    /// A string.
+    Quote,
+    /// A character, or the mark of a lifetime.
+    Tick,
+    /// A number.
+    Digit,
+    /// An identifier, or a literal with a prefix.
+    First,
+    /// A mark, a comment or a doc.
+    Mark,
+    /// Nothing.
+    Other,
+}
+
+const WHITES: [char; 27] = [
+    '\u{9}', '\u{a}', '\u{b}', '\u{c}', '\u{d}', '\u{20}', '\u{85}', '\u{a0}', '\u{1680}',
+    '\u{2000}', '\u{2001}', '\u{2002}', '\u{2003}', '\u{2004}', '\u{2005}', '\u{2006}', '\u{2007}',
+    '\u{2008}', '\u{2009}', '\u{200a}', '\u{200e}', '\u{200f}', '\u{2028}', '\u{2029}', '\u{202f}',
+    '\u{205f}', '\u{3000}',
+];
+
+#[tactic(auto, using(crate::proofs::Fronts::fronts))]
+fn wide_front(c: char) -> Front
+    requires { 128 ≤ c }
+    ensures { result ≡ scan.front_of c }
+{
+    if is_xid_start(c) {
+        Front::First
+    } else if is_wide_white(c) {
+        Front::White
+    } else {
+        Front::Other
+    }
+}
+
+#[tactic(auto, unfolding(crate::specs::Chars::is_white))]
+fn is_wide_white(c: char) -> bool
+    ensures { result ≡ chars.is_white c }
+{
+    WHITES.contains(&c)
+}
+
+#[tactic(auto, using(crate::proofs::Fronts::fronts))]
+#[inline(always)]
+pub(crate) fn front_of(c: char) -> Front
+    ensures { result ≡ scan.front_of c }
+{
+    match c {
+        'a'..='z' | 'A'..='Z' | '_' => Front::First,
+        '\t'..='\r' | ' ' => Front::White,
+        '0'..='9' => Front::Digit,
+        '(' => Front::Opens(Delimiter::Parenthesis),
+        ')' => Front::Closes(Delimiter::Parenthesis),
+        '[' => Front::Opens(Delimiter::Bracket),
+        ']' => Front::Closes(Delimiter::Bracket),
+        '{' => Front::Opens(Delimiter::Brace),
+        '}' => Front::Closes(Delimiter::Brace),
+        '"' => Front::Quote,
+        '\'' => Front::Tick,
+        '!' | '#'..='&' | '*'..='/' | ':'..='@' | '^' | '|' | '~' => Front::Mark,
+        '\0'..='\u{8}' | '\u{e}'..='\u{1f}' | '\\' | '`' | '\u{7f}' => Front::Other,
+        _ => wide_front(c),
+    }
+}

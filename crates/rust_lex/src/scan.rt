@@ -1,0 +1,234 @@
+//! The piece at a place of a text.
+
+ghost use Rattle.rust_lex.specs.Chars as chars;
+ghost use Rattle.rust_lex.specs.Ends as ends;
+ghost use Rattle.rust_lex.specs.Number as number;
+ghost use Rattle.rust_lex.specs.Piece as piece;
+ghost use Rattle.rust_lex.specs.Ended.{IsEnd, IsScanned};
+ghost use Rattle.rust_lex.specs.Places.{IsBehind, IsPieceAt, IsPlace, rest_at};
+ghost use Rattle.rust_lex.specs.Quoted as quoted;
+ghost use Rattle.rust_lex.specs.Scan as scan;
+ghost use Rattle.std.specs.Prelude.{◌≡◌, ◌&&◌, ◌==◌, not, true};
+
+use crate::comment::slash;
+use crate::cooked::{char_end, string_end};
+use crate::front::{Front, front_of};
+use crate::number::number_end;
+use crate::opener::{Alphabet, Opener};
+use crate::piece::{LiteralKind, PieceKind};
+use crate::raw::hashes_end;
+use crate::walk::{Next, SlashOrStar, begins, char_at, past, suffix_end};
+use crate::word::{begins_lifetime, begins_raw_name, opener_end, raw_mark_end};
+
+// The place behind the inside of a literal in quotes.
+fn inside_end(text: &str, start: usize, opener: Opener) -> Option<usize>
+    requires { IsPlace text.now start }
+    ensures { IsEnd text.now start result (scan.past_inside opener (rest_at text.now start)) }
+{
+    match opener {
+        Opener::Cooked(alphabet) => string_end(text, start, alphabet),
+        Opener::Raw(alphabet) => hashes_end(text, start, alphabet),
+        Opener::Byte => char_end(text, start, Alphabet::Bytes),
+        Opener::Char => char_end(text, start, Alphabet::Characters),
+    }
+}
+
+fn string_kind(alphabet: Alphabet) -> LiteralKind
+    ensures { result ≡ quoted.string_kind alphabet }
+{
+    match alphabet {
+        Alphabet::Characters => LiteralKind::Str,
+        Alphabet::Bytes => LiteralKind::ByteStr,
+        Alphabet::NoZero => LiteralKind::CStr,
+    }
+}
+
+fn literal_kind(opener: Opener) -> LiteralKind
+    ensures { result ≡ quoted.literal_kind opener }
+{
+    match opener {
+        Opener::Cooked(alphabet) => string_kind(alphabet),
+        Opener::Raw(alphabet) => string_kind(alphabet),
+        Opener::Byte => LiteralKind::Byte,
+        Opener::Char => LiteralKind::Char,
+    }
+}
+
+// A literal in quotes, whose inside begins at a place.
+fn quoted(text: &str, start: usize, at: usize, opener: Opener) -> Option<(PieceKind, usize)>
+    requires { IsBehind text.now start at }
+    ensures { IsScanned text.now start result (scan.suffixed (quoted.literal_kind opener) (scan.past_inside opener (rest_at text.now at))) }
+{
+    let Some(end) = inside_end(text, at, opener) else {
+        return None;
+    };
+    Some((
+        PieceKind::Literal(literal_kind(opener)),
+        suffix_end(text, end),
+    ))
+}
+
+// What a quote begins, which ends at a place.
+#[tactic(auto, using(crate::proofs::Scans::ticks))]
+fn ticked(text: &str, start: usize, at: usize) -> Option<(PieceKind, usize)>
+    requires { IsBehind text.now start at }
+    ensures { IsScanned text.now start result (scan.ticked (rest_at text.now at)) }
+{
+    if let Some(end) = char_end(text, at, Alphabet::Characters) {
+        return Some((PieceKind::Literal(LiteralKind::Char), suffix_end(text, end)));
+    }
+    if begins_lifetime(text, at) {
+        return Some((PieceKind::Mark, at));
+    }
+    None
+}
+
+// What a letter or an underscore begins.
+#[tactic(auto, using(crate::proofs::Scans::words))]
+fn word(text: &str, at: usize, next: usize) -> Option<(PieceKind, usize)>
+    requires place { IsPlace text.now at }
+    requires behind { IsBehind text.now at next }
+    requires first { ends.past chars.is_next (rest_at text.now at) ≡ ends.past chars.is_next (rest_at text.now next) }
+    ensures { IsScanned text.now at result (scan.word (rest_at text.now at)) }
+{
+    if let Some(name) = raw_mark_end(text, at) {
+        if begins_raw_name(text, name) {
+            return Some((PieceKind::Ident, past::<Next>(text, name)));
+        }
+    }
+    match opener_end(text, at) {
+        Some((opener, inside)) => quoted(text, at, inside, opener),
+        None => Some((PieceKind::Ident, past::<Next>(text, next))),
+    }
+}
+
+// A number, whose first digit stands at a place.
+#[tactic(auto, using(crate::proofs::Scans::numbers))]
+fn number(text: &str, at: usize) -> Option<(PieceKind, usize)>
+    requires place { IsPlace text.now at }
+    requires digit { chars.begins chars.is_digit (rest_at text.now at) ≡ true }
+    ensures { IsScanned text.now at result (scan.suffixed (number.number_kind (rest_at text.now at)) (number.past_number (rest_at text.now at))) }
+{
+    let Some((kind, end)) = number_end(text, at) else {
+        return None;
+    };
+    Some((PieceKind::Literal(kind), suffix_end(text, end)))
+}
+
+// The piece at a place within a text, and the place behind it.
+#[tactic(auto, using(crate::proofs::Scans::scans))]
+fn scan(text: &str, at: usize) -> Option<(PieceKind, usize)>
+    requires { IsPlace text.now at }
+    ensures { IsScanned text.now at result (scan.scan (rest_at text.now at)) }
+{
+    if at >= text.len() {
+        return None;
+    }
+    let (c, next) = char_at(text, at);
+    match front_of(c) {
+        Front::White => Some((PieceKind::White, next)),
+        Front::Opens(delimiter) => Some((PieceKind::Open(delimiter), next)),
+        Front::Closes(delimiter) => Some((PieceKind::Close(delimiter), next)),
+        Front::Quote => quoted(text, at, next, Opener::Cooked(Alphabet::Characters)),
+        Front::Tick => ticked(text, at, next),
+        Front::Digit => number(text, at),
+        Front::First => word(text, at, next),
+        Front::Mark => {
+            if c == '/' {
+                slash(text, at, next)
+            } else {
+                Some((PieceKind::Mark, next))
+            }
+        }
+        Front::Other => None,
+    }
+}
+
+// The same at any place, the front of the text included.
+#[tactic(auto, using(crate::proofs::Scans::fronts))]
+fn scan_at(text: &str, at: usize) -> Option<(PieceKind, usize)>
+    requires { IsPlace text.now at }
+    ensures { IsScanned text.now at result (scan.scan_at at (rest_at text.now at)) }
+{
+    if at == 0 {
+        if text.is_empty() {
+            return None;
+        }
+        let (c, next) = char_at(text, at);
+        if c == '\u{feff}' {
+            return Some((PieceKind::FrontMark, next));
+        }
+    }
+    scan(text, at)
+}
+
+/// The piece of a text at a place, which is in bytes from 0, and the place behind it; none where no
+/// piece begins, as at the text's end. The place is the text's front or one behind a piece.
+pub fn next_piece(text: &str, at: usize) -> Option<(PieceKind, usize)>
+    requires { IsPlace text.now at }
+    ensures { IsPieceAt text.now at result }
+{
+    scan_at(text, at)
+}
+
+// Whether a mark other than `'` begins with a character, before a place.
+#[tactic(auto, using(crate::proofs::Fronts::marking))]
+#[inline(always)]
+fn is_mark(text: &str, c: char, next: usize) -> bool
+    requires { IsPlace text.now next }
+    ensures { result ≡ (chars.is_mark c && not (c == 47 && chars.begins chars.is_slash_or_star (rest_at text.now next))) }
+{
+    match front_of(c) {
+        Front::Mark => (c != '/') | !begins::<SlashOrStar>(text, next),
+        _ => false,
+    }
+}
+
+/// Whether a mark stands at a place of a text, which is in bytes from 0.
+#[tactic(auto, using(crate::proofs::Scans::marks))]
+pub fn begins_mark(text: &str, at: usize) -> bool
+    requires { IsPlace text.now at }
+    ensures { result ≡ piece.begins_mark (rest_at text.now at) }
+{
+    if at >= text.len() {
+        return false;
+    }
+    let (c, next) = char_at(text, at);
+    if c == '\'' {
+        return begins_lifetime(text, next);
+    }
+    is_mark(text, c, next)
+}
+
+// Whether a character literal stands at a place.
+#[tactic(auto, using(crate::proofs::PlacesLemmas::rest_end))]
+fn begins_char(text: &str, at: usize) -> bool
+    requires { IsPlace text.now at }
+    ensures { result ≡ piece.begins_char (rest_at text.now at) }
+{
+    if at >= text.len() {
+        return false;
+    }
+    let (c, next) = char_at(text, at);
+    if c != '\'' {
+        return false;
+    }
+    char_end(text, next, Alphabet::Characters).is_some()
+}
+
+/// Whether the mark that stands at a place is joint: a `'` always is, another where a mark or a
+/// character literal follows it at once. The place is in bytes from 0.
+#[tactic(auto, using(crate::proofs::PlacesLemmas::rest_end))]
+pub fn is_joint(text: &str, at: usize) -> bool
+    requires { IsPlace text.now at }
+    ensures { result ≡ piece.is_joint (rest_at text.now at) }
+{
+    if at >= text.len() {
+        return false;
+    }
+    let (c, next) = char_at(text, at);
+    if (c == '\'') | begins_mark(text, next) {
+        return true;
+    }
+    begins_char(text, next)
+}

@@ -1,0 +1,276 @@
+//! One character on from a place of a text, and on behind those that pass a test.
+
+ghost use Rattle.rust_lex.specs.Chars as chars;
+ghost use Rattle.rust_lex.specs.Comment as comment;
+ghost use Rattle.rust_lex.specs.Ends as ends;
+ghost use Rattle.rust_lex.specs.Number as number;
+ghost use Rattle.rust_lex.specs.Ended.{IsFrom};
+ghost use Rattle.rust_lex.specs.Places.{IsBehind, IsPlace, rest_at};
+ghost use Rattle.std.specs.Prelude.{◌∷◌, ◌≡◌, ◌<◌, length};
+
+use unicode_ident::{is_xid_continue, is_xid_start};
+
+// The character at a place, and the place behind it.
+#[inline(always)]
+pub(crate) fn char_at(text: &str, at: usize) -> (char, usize)
+    requires place { IsPlace text.now at }
+    requires more { at < length text.now }
+    ensures rest { rest_at text.now at ≡ result.0 ∷ rest_at text.now result.1 }
+    ensures behind { IsBehind text.now at result.1 }
+{
+    let byte = text.as_bytes()[at];
+    if byte < 128 {
+        (char::from(byte), at + 1)
+    } else {
+        wide_at(text, at)
+    }
+}
+
+fn wide_at(text: &str, at: usize) -> (char, usize)
+    requires place { IsPlace text.now at }
+    requires more { at < length text.now }
+    ensures rest { rest_at text.now at ≡ result.0 ∷ rest_at text.now result.1 }
+    ensures behind { IsBehind text.now at result.1 }
+{
+    let rest = &text[at..];
+    match rest.chars().next() {
+        Some(c) => (c, at + c.len_utf8()),
+        None => unreachable!(),
+    }
+}
+
+#[tactic(auto, unfolding(crate::specs::Chars::is_first))]
+#[inline(always)]
+fn is_first(c: char) -> bool
+    ensures { result ≡ chars.is_first c }
+{
+    is_xid_start(c) | (c == '_')
+}
+
+#[tactic(auto, using(crate::proofs::Fronts::next_ascii), unfolding(crate::specs::Chars::is_next))]
+#[inline(always)]
+fn is_next(c: char) -> bool
+    ensures { result ≡ chars.is_next c }
+{
+    if c < '\u{80}' {
+        c.is_ascii_alphanumeric() | (c == '_')
+    } else {
+        is_xid_continue(c)
+    }
+}
+
+// A test on characters.
+pub(crate) trait Test {
+    ghost use Rattle.std.specs.Prelude.{ℕ, Bool};
+
+    ghost test: { ℕ → Bool };
+
+    fn passes(c: char) -> bool
+        ensures { result ≡ test c };
+}
+
+// What an identifier begins with.
+pub(crate) struct First;
+
+impl Test for First {
+    ghost test = { chars.is_first };
+
+    #[inline(always)]
+    fn passes(c: char) -> bool {
+        is_first(c)
+    }
+}
+
+// What an identifier goes on with.
+pub(crate) struct Next;
+
+impl Test for Next {
+    ghost test = { chars.is_next };
+
+    #[inline(always)]
+    fn passes(c: char) -> bool {
+        is_next(c)
+    }
+}
+
+pub(crate) struct NotFeed;
+
+impl Test for NotFeed {
+    ghost test = { chars.is_not_feed };
+
+    #[inline(always)]
+    fn passes(c: char) -> bool {
+        c != '\n'
+    }
+}
+
+// Neither a line feed nor a carriage return.
+pub(crate) struct WithinLine;
+
+impl Test for WithinLine {
+    ghost test = { comment.is_within_line };
+
+    #[inline(always)]
+    fn passes(c: char) -> bool {
+        !((c == '\n') | (c == '\r'))
+    }
+}
+
+pub(crate) struct Feed;
+
+impl Test for Feed {
+    ghost test = { chars.is_feed };
+
+    #[inline(always)]
+    fn passes(c: char) -> bool {
+        c == '\n'
+    }
+}
+
+pub(crate) struct SlashOrStar;
+
+impl Test for SlashOrStar {
+    ghost test = { chars.is_slash_or_star };
+
+    #[inline(always)]
+    fn passes(c: char) -> bool {
+        (c == '/') | (c == '*')
+    }
+}
+
+pub(crate) struct QuoteOrHash;
+
+impl Test for QuoteOrHash {
+    ghost test = { chars.is_quote_or_hash };
+
+    #[inline(always)]
+    fn passes(c: char) -> bool {
+        (c == '"') | (c == '#')
+    }
+}
+
+pub(crate) struct Tick;
+
+impl Test for Tick {
+    ghost test = { chars.is_tick };
+
+    #[inline(always)]
+    fn passes(c: char) -> bool {
+        c == '\''
+    }
+}
+
+pub(crate) struct TickOrHash;
+
+impl Test for TickOrHash {
+    ghost test = { chars.is_tick_or_hash };
+
+    #[inline(always)]
+    fn passes(c: char) -> bool {
+        (c == '\'') | (c == '#')
+    }
+}
+
+pub(crate) struct Digit;
+
+impl Test for Digit {
+    ghost test = { chars.is_digit };
+
+    #[tactic(auto, unfolding(crate::specs::Chars::is_digit))]
+    #[inline(always)]
+    fn passes(c: char) -> bool {
+        c.is_ascii_digit()
+    }
+}
+
+pub(crate) struct Underscore;
+
+impl Test for Underscore {
+    ghost test = { chars.is_underscore };
+
+    #[inline(always)]
+    fn passes(c: char) -> bool {
+        c == '_'
+    }
+}
+
+pub(crate) struct DigitOrLine;
+
+impl Test for DigitOrLine {
+    ghost test = { number.is_digit_or_line };
+
+    #[tactic(auto, unfolding(crate::specs::Chars::is_digit))]
+    #[inline(always)]
+    fn passes(c: char) -> bool {
+        c.is_ascii_digit() | (c == '_')
+    }
+}
+
+pub(crate) struct DotOrFirst;
+
+impl Test for DotOrFirst {
+    ghost test = { number.is_dot_or_first };
+
+    #[inline(always)]
+    fn passes(c: char) -> bool {
+        (c == '.') | is_first(c)
+    }
+}
+
+pub(crate) struct Sign;
+
+impl Test for Sign {
+    ghost test = { number.is_sign };
+
+    #[inline(always)]
+    fn passes(c: char) -> bool {
+        (c == '+') | (c == '-')
+    }
+}
+
+// Whether a character that passes stands at a place.
+#[tactic(auto, using(crate::proofs::PlacesLemmas::rest_end))]
+#[inline(always)]
+pub(crate) fn begins<T: Test>(text: &str, at: usize) -> bool
+    requires { IsPlace text.now at }
+    ensures { result ≡ chars.begins T.test (rest_at text.now at) }
+{
+    if at >= text.len() {
+        return false;
+    }
+    let (c, _) = char_at(text, at);
+    T::passes(c)
+}
+
+// The place behind the characters that pass.
+#[tactic(auto, using(crate::proofs::PlacesLemmas::rest_end))]
+#[inline(always)]
+pub(crate) fn past<T: Test>(text: &str, start: usize) -> usize
+    requires { IsPlace text.now start }
+    ensures rest { rest_at text.now result ≡ ends.past T.test (rest_at text.now start) }
+    ensures from { IsFrom text.now start result }
+{
+    let mut at = start;
+    while at < text.len() {
+        let (c, next) = char_at(text, at);
+        if !T::passes(c) {
+            return at;
+        }
+        at = next;
+    }
+    at
+}
+
+// The place behind the suffix, if there is one.
+#[tactic(auto, using(crate::proofs::PlacesLemmas::rest_end))]
+pub(crate) fn suffix_end(text: &str, start: usize) -> usize
+    requires { IsPlace text.now start }
+    ensures rest { rest_at text.now result ≡ ends.past_suffix (rest_at text.now start) }
+    ensures from { IsFrom text.now start result }
+{
+    if begins::<First>(text, start) {
+        past::<Next>(text, start)
+    } else {
+        start
+    }
+}

@@ -1,0 +1,4 @@
+pub mod CharSteps
+pub mod ByteLemmas
+pub mod LineLemmas
+pub mod SpotLemmas

@@ -1,0 +1,22 @@
+//! The source map: the texts that were read, and the places of their characters.
+//!
+//! A map lays its texts one behind the other on one line of positions: a text takes a position
+//! for each of its characters, and one for its end. A span is a pair of positions.
+//!
+//! - `span`: a pair of positions, and what a map says of it: line, column, bytes, text.
+//! - `source_map`: the texts of a map.
+//! - `file` (private): a text with its tables.
+//! - `tables` (private, but for `characters`): the tables of a text.
+//! - `walk` (private): one character on.
+#![tactic(auto)]
+
+mod file;
+pub mod source_map;
+pub mod span;
+mod tables;
+mod walk;
+
+pub use rust_token::place::LineColumn;
+pub use source_map::{MapFull, SourceMap};
+pub use span::Span;
+pub use tables::characters;

@@ -1,0 +1,78 @@
+//! The tables of a text, made once.
+
+ghost use Rattle.rust_map.specs.Tables.{byte_steps_from, byte_steps_of, line_starts_of};
+ghost use Rattle.std.specs.List.Sorted.{IsNonDecreasing, IsPartitionPoint};
+ghost use Rattle.std.specs.Prelude.{◌∷◌, ◌≡◌, ◌<◌, ◌≤◌, ◌^◌, length, IfOk};
+ghost use Rattle.std.specs.Str.{chars};
+
+use crate::walk::char_at;
+use std::alloc::{AllocError, Global};
+
+/// So many characters lie between two entries of the table of bytes.
+pub(crate) const STEP: usize = 128;
+
+/// How many characters a text has, which is what `SourceMap::room` asks.
+pub fn characters(text: &str) -> usize
+    ensures { result ≡ length (chars text.now) }
+{
+    text.chars().count()
+}
+
+/// Where the lines of a text begin, in characters from 0.
+pub(crate) fn line_starts(alloc: Global, text: &str) -> Result<Vec<u32>, AllocError>
+    requires { length (chars text.now) < 2 ^ 32 }
+    ensures { IfOk result (λ starts. starts.items ≡ line_starts_of (chars text.now)) }
+{
+    let mut starts = Vec::new(alloc);
+    starts.push(0)?;
+    let mut at = 0;
+    let mut count = 0u32;
+    while at < text.len() {
+        let (c, next) = char_at(text, at);
+        at = next;
+        count += 1;
+        if c == '\n' {
+            starts.push(count)?;
+        }
+    }
+    Ok(starts)
+}
+
+/// The table of bytes of a text that has so many characters: none is needed where it is ASCII.
+pub(crate) fn byte_steps(alloc: Global, text: &str, count: usize) -> Result<Vec<usize>, AllocError>
+    requires { count ≡ length (chars text.now) }
+    ensures { IfOk result (λ steps. steps.items ≡ byte_steps_of (chars text.now)) }
+{
+    if text.len() == count {
+        return Ok(Vec::new(alloc));
+    }
+    every_step(alloc, text)
+}
+
+/// The byte at which a text begins, and the bytes behind every 128th character.
+fn every_step(alloc: Global, text: &str) -> Result<Vec<usize>, AllocError>
+    ensures { IfOk result (λ steps. steps.items ≡ 0 ∷ byte_steps_from 0 0 (chars text.now)) }
+{
+    let mut steps = Vec::new(alloc);
+    steps.push(0)?;
+    let mut at = 0;
+    let mut count = 0usize;
+    while at < text.len() {
+        let (_, next) = char_at(text, at);
+        at = next;
+        count += 1;
+        if count % STEP == 0 {
+            steps.push(at)?;
+        }
+    }
+    Ok(steps)
+}
+
+/// How many of the lines, whose starts ascend, begin up to a count of characters.
+pub(crate) fn lines_begun(starts: &[u32], count: u32) -> usize
+    requires { IsNonDecreasing starts.now }
+    ensures bound { result ≤ length starts.now }
+    ensures split { IsPartitionPoint (λ start. start ≤ count) (λ start. count < start) starts.now result }
+{
+    starts.partition_point(|start| *start <= count)
+}
