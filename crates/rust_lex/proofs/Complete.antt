@@ -1,12 +1,13 @@
 -- A piece of a class at the front of a text is what a scan finds there.
-use Rattle.std.proofs.Common.{◌≡◌, ℕ, zero, suc, List, [], ◌∷◌, ◌++◌, length, refl, ap, ◌∙◌, subst, ⊎_elim, append_assoc, drop}
+use Rattle.std.proofs.Common.{sym, ◌≡◌, ℕ, zero, suc, List, [], ◌∷◌, ◌++◌, length, refl, ap, ◌∙◌, subst, ⊎_elim, append_assoc, drop}
 use Rattle.std.specs.Prelude.{true, false, ◌&&◌, ◌==◌, if◌then◌else◌, Some, None, not, is_some}
 use Rattle.std.proofs.lemmas.Bool.{and_parts, cases_Bool, not-true, or_parts, or_cases, eqb-true}
 use Rattle.rust_lex.specs.Chars.{is_first, is_next, is_mark, begins, is_feed, is_not_feed, is_slash, is_slash_or_star, is_quote_or_hash}
 use Rattle.rust_lex.specs.Ends.{past, past_suffix}
 use Rattle.rust_lex.specs.Comment.{DocKind, OuterLine, InnerLine, OuterBlock, InnerBlock, IsComment, IsDoc, is_plain_line, is_plain_block, past_comment, is_within_line, ends_line}
 use Rattle.rust_lex.specs.Escape.{Characters, Bytes, NoZero}
-use Rattle.rust_lex.specs.Quoted.{Opener, Cooked, Raw, ByteOpener, CharOpener, LiteralKind, Str, ByteStr, CStr, Byte, Char, literal_kind, opening_of, opener_of, past_hashes, past_char, IsQuoted, IsInside}
+use Rattle.rust_lex.specs.Quoted.{Opener, Cooked, Raw, ByteOpener, CharOpener, LiteralKind, Str, ByteStr, CStr, Byte, Char, literal_kind, opening_of, opener_of, past_char, IsQuoted, IsInside}
+use Rattle.rust_lex.specs.Scan.{past_hashes}
 use Rattle.rust_lex.specs.Number.{IsNumber}
 use Rattle.rust_lex.specs.Word.{IsWord, begins_raw_mark, begins_raw_name, begins_kept, begins_lifetime}
 use Rattle.rust_lex.specs.Piece.{PieceKind, FrontMark, White, Comment, Doc, Open, Close, Mark, Ident, Literal, Fits, FitsFront, FitsAt, IsBody, IsIdent, is_prefixed, begins_mark}
@@ -14,6 +15,7 @@ use Rattle.rust_lex.specs.Scan.{Nowhere, Ends, suffixed, ended, past_inside, pas
 use Rattle.rust_lex.proofs.Fronts.{front-first, front-white, front-mark, front-digit, front-quote, front-tick, front-opening, front-closing, b-first, c-first, r-first, slash-mark, byte_order-other}
 use Rattle.rust_lex.proofs.Taken.{whole, option_cases, comment_taken, hashes_taken, char_taken}
 use Rattle.rust_lex.proofs.Units.{cooked_whole}
+use Rattle.rust_lex.proofs.Hashes.{raw_string_is}
 use Rattle.rust_lex.proofs.Ends.{past_all, past_word, suffix_ended}
 use Rattle.rust_lex.proofs.Openers.{no_raw_mark, hashes_begin, hashes_no_name, lifetime_no_char}
 
@@ -164,7 +166,7 @@ ident_scanned cs rest h =
 -- literals
 inside_whole : (o : Opener) (cs t : List ℕ) → IsInside o cs → past_inside o (cs ++ t) ≡ Some t
 inside_whole (Cooked a) cs t h = cooked_whole a cs t h
-inside_whole (Raw a) cs t h = whole (past_hashes a 0) cs t (hashes_taken a 0 cs [] h)
+inside_whole (Raw a) cs t h = whole (past_hashes a 0) cs t (hashes_taken a 0 cs [] (sym (raw_string_is a cs) ∙ h))
 inside_whole ByteOpener cs t h = whole (past_char Bytes) cs t (char_taken Bytes cs [] h)
 inside_whole CharOpener cs t h = whole (past_char Characters) cs t (char_taken Characters cs [] h)
 

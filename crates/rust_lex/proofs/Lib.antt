@@ -1,6 +1,8 @@
 pub mod Fronts
 pub mod PlacesLemmas
 pub mod Walks
+pub mod Codes
+pub mod Hashes
 pub mod Taken
 pub mod Units
 pub mod Ends

@@ -5,7 +5,8 @@ use Rattle.std.proofs.lemmas.Bool.{and_parts, cases_Bool, eqb-true, or_cases}
 use Rattle.rust_lex.specs.Chars.{is_first, begins, is_quote_or_hash}
 use Rattle.rust_lex.specs.Ends.{past_one}
 use Rattle.rust_lex.specs.Escape.{Alphabet, Characters, Bytes, NoZero}
-use Rattle.rust_lex.specs.Quoted.{Opener, Cooked, Raw, ByteOpener, opening_of, opener_of, past_single, past_char, past_hashes}
+use Rattle.rust_lex.specs.Quoted.{Opener, Cooked, Raw, ByteOpener, opening_of, opener_of, past_single, past_char}
+use Rattle.rust_lex.specs.Scan.{past_hashes}
 use Rattle.rust_lex.specs.Word.{begins_raw_mark, begins_raw_name, begins_lifetime}
 use Rattle.rust_lex.proofs.Fronts.{first-next, backslash-first, quote-first, hash-first, tick-next}
 use Rattle.rust_lex.proofs.Taken.{chosen, char_both, option_cases}

@@ -6,7 +6,8 @@ use Rattle.rust_lex.specs.Chars.{is_first, is_next, is_digit, begins, passes, is
 use Rattle.rust_lex.specs.Ends.{past, past_suffix}
 use Rattle.rust_lex.specs.Comment.{DocKind, OuterLine, InnerLine, OuterBlock, InnerBlock, IsDocText, doc_opening, is_plain_line, is_plain_block, past_comment, is_within_line, ends_line}
 use Rattle.rust_lex.specs.Escape.{Alphabet, Characters, Bytes}
-use Rattle.rust_lex.specs.Quoted.{Opener, Cooked, Raw, ByteOpener, CharOpener, LiteralKind, Char, literal_kind, opening_of, opener_of, past_hashes, past_char, IsInside}
+use Rattle.rust_lex.specs.Quoted.{Opener, Cooked, Raw, ByteOpener, CharOpener, LiteralKind, Char, literal_kind, opening_of, opener_of, past_char, IsInside}
+use Rattle.rust_lex.specs.Scan.{past_hashes}
 use Rattle.rust_lex.specs.Number.{past_number, number_kind, IsNumber}
 use Rattle.rust_lex.specs.Word.{begins_raw_mark, begins_raw_name, begins_kept, begins_lifetime}
 use Rattle.rust_lex.specs.Piece.{PieceKind, FrontMark, White, Comment, Doc, Open, Close, Mark, Ident, Literal, Fits, FitsFront, FitsAt, IsBody, is_prefixed}
@@ -14,6 +15,7 @@ use Rattle.rust_lex.specs.Scan.{Front, white, opens, closes, quote, tick, digit,
 use Rattle.rust_lex.proofs.Fronts.{Says, front_says, slash-mark}
 use Rattle.rust_lex.proofs.Taken.{chosen, alone, option_cases, comment_taken, hashes_taken, char_taken}
 use Rattle.rust_lex.proofs.Units.{cooked_found}
+use Rattle.rust_lex.proofs.Hashes.{raw_string_is}
 use Rattle.rust_lex.proofs.Ends.{passed, past_word, suffix_found, number_found}
 use Rattle.rust_lex.proofs.Openers.{opener_found, raw_mark_is}
 
@@ -54,7 +56,7 @@ cooked_inside a (c ∷ skip) inside cs rest l e = cc
 
 inside_found : (o : Opener) (cs rest : List ℕ) → past_inside o cs ≡ Some rest → Inside o cs rest
 inside_found (Cooked a) cs rest e = let k = cooked_found a 0 cs rest e in record { inside = k.inside; joined = cooked_inside a k.skip k.inside cs rest k.long k.joined; is = k.is }
-inside_found (Raw a) cs rest e = let k = hashes_taken a 0 cs rest e in record { inside = k.front; joined = k.joined; is = alone (past_hashes a 0) cs rest k }
+inside_found (Raw a) cs rest e = let k = hashes_taken a 0 cs rest e in record { inside = k.front; joined = k.joined; is = raw_string_is a k.front ∙ alone (past_hashes a 0) cs rest k }
 inside_found ByteOpener cs rest e = let k = char_taken Bytes cs rest e in record { inside = k.front; joined = k.joined; is = alone (past_char Bytes) cs rest k }
 inside_found CharOpener cs rest e = let k = char_taken Characters cs rest e in record { inside = k.front; joined = k.joined; is = alone (past_char Characters) cs rest k }
 

@@ -7,8 +7,10 @@ use Rattle.std.proofs.lemmas.Bool.{eq-eqb, ne_eqb, lt-ltb, le-ltb}
 use Rattle.rust_lex.specs.Chars.{is_next, begins, is_feed, is_not_feed, is_quote_or_hash}
 use Rattle.rust_lex.specs.Ends.{past, past_one}
 use Rattle.rust_lex.specs.Comment.{InnerLine, OuterLine, InnerBlock, OuterBlock, past_comment, is_plain_line, is_plain_block, is_within_line, ends_line}
-use Rattle.rust_lex.specs.Escape.{Alphabet, Characters, Bytes, NoZero, allows, allows_code, past_code}
-use Rattle.rust_lex.specs.Quoted.{Cooked, Raw, ByteOpener, Int, opener_of, past_unit, past_marks, past_close, past_raw, past_hashes, past_single, past_char}
+use Rattle.rust_lex.specs.Escape.{Alphabet, Characters, Bytes, NoZero, allows, allows_code}
+use Rattle.rust_lex.specs.Scan.{past_code}
+use Rattle.rust_lex.specs.Quoted.{Cooked, Raw, ByteOpener, Int, opener_of, past_unit, past_marks, past_close, past_raw, past_single, past_char}
+use Rattle.rust_lex.specs.Scan.{past_hashes}
 use Rattle.rust_lex.specs.Number.{base_by, base_of, past_based, past_decimal, past_number, decimal_kind, number_kind}
 use Rattle.rust_lex.specs.Word.{begins_word}
 use Rattle.rust_lex.specs.Piece.{Comment, Doc, Mark}
@@ -16,6 +18,8 @@ use Rattle.rust_lex.specs.Scan.{Nowhere, Ends, ended, line, block, slash, past_u
 use Rattle.std.proofs.Math.Nat.{pow-suc}
 use Rattle.rust_lex.specs.Places.{rest_at, IsBehind}
 use Rattle.rust_lex.proofs.Walks.{WalksCode}
+use Rattle.rust_lex.specs.Escape.{is_hex, past_braces}
+use Rattle.rust_lex.proofs.Codes.{no_braces, braces_code, braces_none}
 use Rattle.rust_lex.proofs.PlacesLemmas.{rest_end}
 use Rattle.rust_lex.proofs.Taken.{char_from, raw_step, raw_wrong, raw_closed, raw_end}
 use Rattle.rust_lex.proofs.Units.{units_more, units_end, units_close, units_none}
@@ -26,27 +30,27 @@ unfolding past_code
 code_step_end a n v = refl
 
 pub code_step_digit : (a : Alphabet) (n v c d : ℕ) (cs : List ℕ) → digit_value c < 16 → n < 6 → digit_value c ≡ d → past_code a n v (c ∷ cs) ≡ past_code a (n + 1) (16 * v + d) cs
-unfolding past_code
+unfolding past_code is_hex
 code_step_digit a n v c d cs h k e = rw (lt-ltb (digit_value c) 16 h, lt-ltb n 6 k, e) refl
 
 pub code_step_many : (a : Alphabet) (n v c : ℕ) (cs : List ℕ) → digit_value c < 16 → 6 ≤ n → past_code a n v (c ∷ cs) ≡ None
-unfolding past_code
+unfolding past_code is_hex
 code_step_many a n v c cs h k = rw (lt-ltb (digit_value c) 16 h, le-ltb n 6 k) refl
 
 pub code_step_none : (a : Alphabet) (n v c : ℕ) (cs : List ℕ) → 16 ≤ digit_value c → n ≡ 0 → past_code a n v (c ∷ cs) ≡ None
-unfolding past_code
+unfolding past_code is_hex
 code_step_none a n v c cs h k = rw (le-ltb (digit_value c) 16 h, k) refl
 
 pub code_step_line : (a : Alphabet) (n v c : ℕ) (cs : List ℕ) → 16 ≤ digit_value c → (n ≡ 0 → ⊥) → c ≡ 95 → past_code a n v (c ∷ cs) ≡ past_code a n v cs
-unfolding past_code
+unfolding past_code is_hex
 code_step_line a n v c cs h k e = rw (le-ltb (digit_value c) 16 h, ne_eqb n 0 k, e) refl
 
 pub code_step_close : (a : Alphabet) (n v c : ℕ) (cs : List ℕ) → 16 ≤ digit_value c → (n ≡ 0 → ⊥) → (c ≡ 95 → ⊥) → (c == 125 && allows_code a v) ≡ true → past_code a n v (c ∷ cs) ≡ Some cs
-unfolding past_code
+unfolding past_code is_hex
 code_step_close a n v c cs h k e w = rw (le-ltb (digit_value c) 16 h, ne_eqb n 0 k, ne_eqb c 95 e, w) refl
 
 pub code_step_wrong : (a : Alphabet) (n v c : ℕ) (cs : List ℕ) → 16 ≤ digit_value c → (n ≡ 0 → ⊥) → (c ≡ 95 → ⊥) → (c == 125 && allows_code a v) ≡ false → past_code a n v (c ∷ cs) ≡ None
-unfolding past_code
+unfolding past_code is_hex
 code_step_wrong a n v c cs h k e w = rw (le-ltb (digit_value c) 16 h, ne_eqb n 0 k, ne_eqb c 95 e, w) refl
 
 pub ruleset codes = (rest_end, code_step_end, code_step_digit, code_step_many, code_step_none, code_step_line, code_step_close, code_step_wrong)
@@ -332,3 +336,12 @@ unfolding opener_of
 opener_no_zero c d cs e h r = rw (e, ne_eqb d 34 h, r) refl
 
 pub ruleset openers = (rest_end, opener_end, opener_last, opener_other, opener_raw, opener_no_raw, opener_bytes, opener_byte, opener_raw_bytes, opener_no_bytes, opener_zero, opener_raw_zero, opener_no_zero)
+
+-- the braces of \u{..}
+pub braces_step : (a : Alphabet) (c : ℕ) (cs : List ℕ) → c ≡ 123 → past_braces a (c ∷ cs) ≡ past_code a 0 0 cs
+braces_step a c cs e = braces_code a c cs (eq-eqb c 123 e)
+
+pub braces_step_none : (a : Alphabet) (c : ℕ) (cs : List ℕ) → (c ≡ 123 → ⊥) → past_braces a (c ∷ cs) ≡ None
+braces_step_none a c cs e = braces_none a c cs (ne_eqb c 123 e)
+
+pub ruleset braces = (rest_end, no_braces, braces_step, braces_step_none)

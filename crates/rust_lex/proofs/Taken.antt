@@ -6,9 +6,12 @@ use Rattle.std.proofs.lemmas.Bool.{cases_Bool}
 use Rattle.std.proofs.lemmas.List.{append-nil}
 use Rattle.rust_lex.specs.Chars.{begins, is_feed}
 use Rattle.rust_lex.specs.Ends.{past_one}
+use Rattle.rust_lex.proofs.Codes.{no_braces, braces_code, braces_none}
 use Rattle.rust_lex.specs.Comment.{past_comment}
-use Rattle.rust_lex.specs.Escape.{Alphabet, is_letter, is_hex, allows, allows_value, allows_code, past_hex, past_code, past_braces, past_escape, past_line_escape}
-use Rattle.rust_lex.specs.Quoted.{past_unit, past_marks, past_close, past_raw, past_hashes, past_single, past_char}
+use Rattle.rust_lex.specs.Escape.{Alphabet, is_letter, is_hex, allows, allows_value, allows_code, past_hex, past_braces, past_escape, past_line_escape}
+use Rattle.rust_lex.specs.Scan.{past_code}
+use Rattle.rust_lex.specs.Quoted.{past_unit, past_marks, past_close, past_raw, past_single, past_char}
+use Rattle.rust_lex.specs.Scan.{past_hashes}
 
 pub chosen : {X : Type 0} (b : Bool) (x y z : X) → cond b x y ≡ z → ((b ≡ true) × (x ≡ z)) ⊎ ((b ≡ false) × (y ≡ z))
 chosen true x y z e = inl (refl, e)
@@ -84,13 +87,15 @@ code_taken a n v (c ∷ cs) rest e =
     (chosen (is_hex c) _ _ _ e)
 
 pub braces_taken : (a : Alphabet) (cs rest : List ℕ) → past_braces a cs ≡ Some rest → Taken (past_braces a) cs rest
-unfolding past_braces
-braces_taken a [] rest e = cc
+braces_taken a [] rest e = let n = no_braces a in cc
 braces_taken a (c ∷ cs) rest e =
     ⊎_elim
-    (λ h. let more = code_taken a 0 0 cs rest h.1 in record { front = c ∷ more.front; joined = ap (λ x. c ∷ x) more.joined; stays = λ t. rw h.0 (more.stays t) })
-    (λ h. cc)
-    (chosen (c == 123) _ _ _ e)
+    (λ h.
+    let code = sym (braces_code a c cs h) ∙ e in
+    let more = code_taken a 0 0 cs rest code in
+    record { front = c ∷ more.front; joined = ap (λ x. c ∷ x) more.joined; stays = λ t. braces_code a c (more.front ++ t) h ∙ more.stays t })
+    (λ h. let n = braces_none a c cs h in cc)
+    (cases_Bool (c == 123))
 
 pub escape_taken : (a : Alphabet) (cs rest : List ℕ) → past_escape a cs ≡ Some rest → Taken (past_escape a) cs rest
 unfolding past_escape

@@ -1,6 +1,7 @@
 -- What loops over the characters of a text keep.
 use Rattle.std.proofs.Common.{◌≡◌, ℕ, ◌≤◌, ◌<◌, ◌^◌, List, drop}
-use Rattle.rust_lex.specs.Escape.{Alphabet, past_code}
+use Rattle.rust_lex.specs.Escape.{Alphabet}
+use Rattle.rust_lex.specs.Scan.{past_code}
 use Rattle.rust_lex.specs.Word.{begins_word}
 use Rattle.rust_lex.specs.Places.{rest_at, IsPlace}
 

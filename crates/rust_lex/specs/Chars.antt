@@ -54,6 +54,9 @@ is_feed c = c == 10
 abbrev pub is_not_feed : ℕ → Bool
 is_not_feed c = not (c == 10)
 
+abbrev pub is_hash : ℕ → Bool
+is_hash c = c == 35
+
 abbrev pub is_slash : ℕ → Bool
 is_slash c = c == 47
 

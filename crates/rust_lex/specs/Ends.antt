@@ -7,6 +7,11 @@ abbrev pub past : (ℕ → Bool) → List ℕ → List ℕ
 past p [] = []
 past p (c ∷ cs) = if p c then past p cs else c ∷ cs
 
+-- these characters
+abbrev pub passing : (ℕ → Bool) → List ℕ → List ℕ
+passing p [] = []
+passing p (c ∷ cs) = if p c then c ∷ passing p cs else []
+
 -- behind an identifier, if one stands there
 abbrev pub past_suffix : List ℕ → List ℕ
 past_suffix cs = if begins is_first cs then past is_next cs else cs

@@ -1,9 +1,9 @@
 -- Escapes: what may follow a backslash within quotes.
-use Rattle.std.specs.Prelude.{ℕ, ◌+◌, ◌*◌, Bool, true, false, ◌&&◌, ◌==◌, not, nat_lt, List, [], ◌∷◌, Option, Some, None, if◌then◌else◌}
+use Rattle.std.specs.Prelude.{ℕ, ◌+◌, ◌*◌, Bool, true, false, ◌&&◌, ◌||◌, ◌==◌, not, nat_lt, nat_le, List, [], ◌∷◌, Option, Some, None, if◌then◌else◌}
 use Rattle.std.specs.Char.{digit_value}
 use lib.Utf8.{scalar}
-use Rattle.rust_lex.specs.Chars.{is_among}
-use Rattle.rust_lex.specs.Ends.{past_one}
+use Rattle.rust_lex.specs.Chars.{is_among, begins}
+use Rattle.rust_lex.specs.Ends.{past, passing, past_one}
 pub use Rattle.rust_lex.specs.declared.opener.Alphabet.{Alphabet}
 pub use Rattle.rust_lex.specs.declared.opener.Alphabet.TheVariants.{Characters, Bytes, NoZero}
 
@@ -33,7 +33,7 @@ allows_code Characters v = scalar v
 allows_code Bytes v = false
 allows_code NoZero v = scalar v && not (v == 0)
 
-abbrev pub is_hex : ℕ → Bool
+unfoldable pub is_hex : ℕ → Bool
 is_hex c = nat_lt (digit_value c) 16
 
 -- behind the two hex digits of \x
@@ -43,20 +43,28 @@ past_hex a (c ∷ []) = None
 past_hex a (c ∷ d ∷ cs) =
     if (is_hex c && is_hex d) && allows_value a (16 * digit_value c + digit_value d) then Some cs else None
 
--- behind the } of \u{..}, n of whose hex digits, which make the value v, have been read: there are 1 to 6
--- of them, and underscores after the first
-unfoldable pub past_code : Alphabet → ℕ → ℕ → List ℕ → Option (List ℕ)
-past_code a n v [] = None
-past_code a n v (c ∷ cs) =
-    if is_hex c then (if nat_lt n 6 then past_code a (n + 1) (16 * v + digit_value c) cs else None)
-    else (if n == 0 then None
-    else (if c == 95 then past_code a n v cs
-    else (if c == 125 && allows_code a v then Some cs else None)))
+abbrev pub is_hex_or_line : ℕ → Bool
+is_hex_or_line c = is_hex c || c == 95
+
+-- what hex digits write behind those that write v; underscores among them mean nothing
+abbrev pub hex_value : ℕ → List ℕ → ℕ
+hex_value v [] = v
+hex_value v (c ∷ cs) = if c == 95 then hex_value v cs else hex_value (16 * v + digit_value c) cs
+
+-- how many digits there are, underscores not counted
+abbrev pub hex_count : List ℕ → ℕ
+hex_count [] = 0
+hex_count (c ∷ cs) = if c == 95 then hex_count cs else hex_count cs + 1
+
+-- the inside of \u{..}: 1 to 6 hex digits that write a character, and underscores after the first of them
+abbrev pub is_code : Alphabet → List ℕ → Bool
+is_code a cs = begins is_hex cs && (nat_le (hex_count cs) 6 && allows_code a (hex_value 0 cs))
 
 -- behind the {..} of \u
 unfoldable pub past_braces : Alphabet → List ℕ → Option (List ℕ)
 past_braces a [] = None
-past_braces a (c ∷ cs) = if c == 123 then past_code a 0 0 cs else None
+past_braces a (c ∷ cs) =
+    if c == 123 && is_code a (passing is_hex_or_line cs) then past_one 125 (past is_hex_or_line cs) else None
 
 -- behind an escape whose backslash has been read
 unfoldable pub past_escape : Alphabet → List ℕ → Option (List ℕ)

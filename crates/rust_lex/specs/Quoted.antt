@@ -1,7 +1,7 @@
 -- Literals in quotes: what each begins with, and what its inside is.
-use Rattle.std.specs.Prelude.{◌≡◌, ℕ, zero, suc, ◌+◌, ◌&&◌, ◌||◌, ◌==◌, not, nat_le, List, [], ◌∷◌, ◌++◌, Option, Some, None, if◌then◌else◌}
-use Rattle.rust_lex.specs.Chars.{begins, is_feed, is_quote_or_hash}
-use Rattle.rust_lex.specs.Ends.{past_one}
+use Rattle.std.specs.Prelude.{◌≡◌, ℕ, zero, suc, ◌&&◌, ◌||◌, ◌==◌, not, nat_le, List, [], ◌∷◌, ◌++◌, length, Option, Some, None, if◌then◌else◌}
+use Rattle.rust_lex.specs.Chars.{begins, is_feed, is_hash, is_quote_or_hash}
+use Rattle.rust_lex.specs.Ends.{past, passing, past_one}
 use Rattle.rust_lex.specs.Escape.{Alphabet, Characters, Bytes, NoZero, allows, past_escape, past_line_escape}
 pub use Rattle.rust_lex.specs.declared.opener.Opener.{Opener}
 pub use Rattle.rust_lex.specs.declared.opener.Opener.TheVariants.{Cooked, Raw, Byte as ByteOpener, Char as CharOpener}
@@ -52,12 +52,14 @@ past_raw a n (c ∷ cs) = elim (past_close n (c ∷ cs)) [
   | None ↦ if allows a c && (not (c == 13) || begins is_feed cs) then past_raw a n cs else None
 ]
 
--- behind a raw string, n # of whose front, after the r, have been read: there are at most 255
-unfoldable pub past_hashes : Alphabet → ℕ → List ℕ → Option (List ℕ)
-past_hashes a n [] = None
-past_hashes a n (c ∷ cs) =
-    if c == 35 then past_hashes a (n + 1) cs
-    else (if c == 34 && nat_le n 255 then past_raw a n cs else None)
+-- behind a raw string that began with n #, of which there are at most 255, its opening quote being next
+abbrev pub past_quoted : Alphabet → ℕ → List ℕ → Option (List ℕ)
+past_quoted a n [] = None
+past_quoted a n (c ∷ cs) = if c == 34 && nat_le n 255 then past_raw a n cs else None
+
+-- behind a raw string whose r has been read
+unfoldable pub past_raw_string : Alphabet → List ℕ → Option (List ℕ)
+past_raw_string a cs = past_quoted a (length (passing is_hash cs)) (past is_hash cs)
 
 -- behind the one unit of a character or a byte: an escape, or any one character but a backslash
 unfoldable pub past_single : Alphabet → List ℕ → Option (List ℕ)
@@ -96,7 +98,7 @@ literal_kind CharOpener = Char
 -- what follows the opening, with the closing quote
 abbrev pub IsInside : Opener → List ℕ → Type 0
 IsInside (Cooked a) cs = IsCooked a cs
-IsInside (Raw a) cs = past_hashes a 0 cs ≡ Some []
+IsInside (Raw a) cs = past_raw_string a cs ≡ Some []
 IsInside ByteOpener cs = past_char Bytes cs ≡ Some []
 IsInside CharOpener cs = past_char Characters cs ≡ Some []
 

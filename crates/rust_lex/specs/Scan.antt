@@ -1,10 +1,11 @@
 -- Which piece a text begins with: what the code computes. That it is the one piece that fits is proved.
-use Rattle.std.specs.Prelude.{ℕ, zero, suc, ◌-◌, true, false, ◌&&◌, ◌==◌, List, [], ◌∷◌, Option, Some, None, if◌then◌else◌, drop, length}
+use Rattle.std.specs.Prelude.{nat_lt, ◌+◌, ◌*◌, ℕ, zero, suc, ◌-◌, true, false, ◌&&◌, ◌==◌, List, [], ◌∷◌, Option, Some, None, if◌then◌else◌, drop, length}
 use Rattle.rust_lex.specs.Chars.{is_white, is_first, is_next, is_digit, is_mark, is_not_feed}
 use Rattle.rust_lex.specs.Ends.{past, past_suffix}
 use Rattle.rust_lex.specs.Comment.{OuterLine, InnerLine, OuterBlock, InnerBlock, is_plain_line, is_plain_block, past_comment, is_within_line, ends_line}
-use Rattle.rust_lex.specs.Escape.{Alphabet, Characters, Bytes}
-use Rattle.rust_lex.specs.Quoted.{Opener, Cooked, Raw, ByteOpener, CharOpener, LiteralKind, Str, Char, literal_kind, opening_of, opener_of, past_unit, past_hashes, past_char}
+use Rattle.std.specs.Char.{digit_value}
+use Rattle.rust_lex.specs.Escape.{is_hex, allows_code, Alphabet, Characters, Bytes}
+use Rattle.rust_lex.specs.Quoted.{Opener, Cooked, Raw, ByteOpener, CharOpener, LiteralKind, Str, Char, literal_kind, opening_of, opener_of, past_unit, past_quoted, past_char}
 use Rattle.rust_lex.specs.Number.{past_number, number_kind}
 use Rattle.rust_lex.specs.Word.{begins_raw_mark, begins_raw_name, begins_lifetime}
 use Rattle.rust_lex.specs.Piece.{Parenthesis, Brace, Bracket, PieceKind, FrontMark, White, Comment, Doc, Open, Close, Mark, Ident, Literal}
@@ -21,6 +22,20 @@ front_of c = if is_first c then first else (if is_white c then white else (if is
 pub data Scanned : Type 0 where
   Nowhere : Scanned
   Ends : PieceKind → List ℕ → Scanned
+
+-- behind the } of \u{..}, n of whose hex digits, which write v, have been read
+unfoldable pub past_code : Alphabet → ℕ → ℕ → List ℕ → Option (List ℕ)
+past_code a n v [] = None
+past_code a n v (c ∷ cs) =
+    if is_hex c then (if nat_lt n 6 then past_code a (n + 1) (16 * v + digit_value c) cs else None)
+    else (if n == 0 then None
+    else (if c == 95 then past_code a n v cs
+    else (if c == 125 && allows_code a v then Some cs else None)))
+
+-- behind a raw string, n # of whose front have been read
+unfoldable pub past_hashes : Alphabet → ℕ → List ℕ → Option (List ℕ)
+past_hashes a n [] = None
+past_hashes a n (c ∷ cs) = if c == 35 then past_hashes a (n + 1) cs else past_quoted a n (c ∷ cs)
 
 -- behind the closing quote of a string, the first n characters being of one unit
 unfoldable pub past_units : Alphabet → ℕ → List ℕ → Option (List ℕ)

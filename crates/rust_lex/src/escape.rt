@@ -4,6 +4,7 @@ ghost use Rattle.rust_lex.specs.Ends as ends;
 ghost use Rattle.rust_lex.specs.Escape as escape;
 ghost use Rattle.rust_lex.specs.Ended.{IsEnd};
 ghost use Rattle.rust_lex.specs.Places.{IsPlace, rest_at};
+ghost use Rattle.rust_lex.specs.Scan as scan;
 ghost use Rattle.std.specs.Prelude.{◌≡◌};
 
 use crate::opener::Alphabet;
@@ -60,7 +61,7 @@ pub(crate) fn one_end(text: &str, start: usize, sought: char) -> Option<usize>
 }
 
 // The place behind the two digits of `\x`.
-#[tactic(auto, using(crate::proofs::PlacesLemmas::rest_end), unfolding(crate::specs::Escape::past_hex))]
+#[tactic(auto, using(crate::proofs::PlacesLemmas::rest_end), unfolding(crate::specs::Escape::past_hex, crate::specs::Escape::is_hex))]
 fn hex_end(text: &str, start: usize, alphabet: Alphabet) -> Option<usize>
     requires { IsPlace text.now start }
     ensures { IsEnd text.now start result (escape.past_hex alphabet (rest_at text.now start)) }
@@ -98,7 +99,7 @@ fn allows_code(alphabet: Alphabet, value: u32) -> bool
 #[tactic(auto, using(crate::proofs::Steps::codes))]
 fn code_end(text: &str, start: usize, alphabet: Alphabet) -> Option<usize>
     requires { IsPlace text.now start }
-    ensures { IsEnd text.now start result (escape.past_code alphabet 0 0 (rest_at text.now start)) }
+    ensures { IsEnd text.now start result (scan.past_code alphabet 0 0 (rest_at text.now start)) }
 {
     let mut at = start;
     let mut count = 0u32;
@@ -126,7 +127,7 @@ fn code_end(text: &str, start: usize, alphabet: Alphabet) -> Option<usize>
 }
 
 // The place behind the `{..}` of `\u`.
-#[tactic(auto, using(crate::proofs::PlacesLemmas::rest_end), unfolding(crate::specs::Escape::past_braces))]
+#[tactic(auto, using(crate::proofs::Steps::braces))]
 fn braces_end(text: &str, start: usize, alphabet: Alphabet) -> Option<usize>
     requires { IsPlace text.now start }
     ensures { IsEnd text.now start result (escape.past_braces alphabet (rest_at text.now start)) }

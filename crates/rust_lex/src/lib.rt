@@ -1,13 +1,17 @@
 //! The pieces of a text: which piece stands at a place, by Rust's lexical rules.
 //!
-//! The rules are definitions in `specs/`, and `scan` is proved to find exactly what they say.
+//! The rules are the definitions in `specs/`: `Piece.antt` has the classes, with the condition of each
+//! on what follows, and `Cover.antt` a text as a list of pieces. `scan::next_piece` answers the piece at
+//! a place exactly, and `laws` says that there is at most one.
 //!
 //! - `delimiter`: what encloses a group.
 //! - `piece`: the classes of pieces.
 //! - `opener`: what a literal in quotes begins with.
+//! - `front`: what a character begins.
 //! - `walk`: one character on from a place, and on behind those that pass a test.
-//! - `comment`, `quoted`, `raw`, `word`, `number`: where each of these ends.
-//! - `scan`: the piece at a place.
+//! - `escape`, `cooked`, `raw`, `comment`, `number`, `word`: where each of these ends.
+//! - `scan`: the piece at a place, and whether a mark is joint.
+//! - `laws`: laws of the rules.
 #![tactic(auto)]
 
 pub mod comment;

@@ -5,6 +5,7 @@ ghost use Rattle.rust_lex.specs.Escape as escape;
 ghost use Rattle.rust_lex.specs.Ended.{IsEnd};
 ghost use Rattle.rust_lex.specs.Places.{IsPlace, rest_at};
 ghost use Rattle.rust_lex.specs.Quoted as quoted;
+ghost use Rattle.rust_lex.specs.Scan as scan;
 ghost use Rattle.std.specs.Prelude.{◌≡◌, ◌&&◌, ◌||◌, ◌==◌, not};
 
 use crate::escape::allows;
@@ -72,7 +73,7 @@ fn raw_end(text: &str, start: usize, alphabet: Alphabet, count: usize) -> Option
 #[tactic(auto, using(crate::proofs::Steps::hashes))]
 pub(crate) fn hashes_end(text: &str, start: usize, alphabet: Alphabet) -> Option<usize>
     requires { IsPlace text.now start }
-    ensures { IsEnd text.now start result (quoted.past_hashes alphabet 0 (rest_at text.now start)) }
+    ensures { IsEnd text.now start result (scan.past_hashes alphabet 0 (rest_at text.now start)) }
 {
     let mut at = start;
     let mut count = 0usize;

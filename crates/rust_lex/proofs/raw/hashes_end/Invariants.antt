@@ -1,5 +1,5 @@
 use Rattle.std.proofs.Common.{◌-◌, length}
-use Rattle.rust_lex.specs.Quoted.{past_hashes}
+use Rattle.rust_lex.specs.Scan.{past_hashes}
 use Rattle.rust_lex.proofs.Walks.{WalksIn}
 use Rattle.rust_lex.proofs.raw.hashes_end.Given as goal
 
