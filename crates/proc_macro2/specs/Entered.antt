@@ -12,15 +12,18 @@ use Rattle.proc_macro2.specs.declared.tree.TokenTree.TheVariants as tree
 abbrev pub minus : ℕ
 minus = 45
 
+-- a text begins with a minus
 abbrev pub starts_with_minus : List ℕ → Bool
 starts_with_minus [] = false
 starts_with_minus (c ∷ cs) = c == minus
 
+-- a literal, by its text
 abbrev pub literal_entered : List ℕ → Span → List Spanned
 literal_entered cs span = if starts_with_minus cs
     then spanned (Sign minus Alone) span ∷ spanned (Quoted (drop 1 cs)) span ∷ []
     else spanned (Quoted cs) span ∷ []
 
+-- a tree
 abbrev pub entered : TokenTree → List Spanned
 entered (tree.Literal l) = literal_entered (literal_text l) (literal_span l)
 entered (tree.Group g) = tree_tokens (tree.Group g)

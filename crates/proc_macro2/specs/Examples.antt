@@ -5,9 +5,11 @@ use Rattle.proc_macro2.specs.Token.{Delimiter, Token, Opens, Closes, Word, Quote
 use Rattle.proc_macro2.specs.Printed.{text}
 use Rattle.proc_macro2.specs.Spacing.{IsWellSpaced, follows_quote, may_stand, quote}
 
+-- a group
 abbrev pub around : Delimiter → List Token → List Token
 around d inside = Opens d ∷ inside ++ Closes d ∷ []
 
+-- a
 abbrev pub word : Token
 word = Word (codes "a")
 

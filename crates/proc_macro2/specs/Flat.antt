@@ -9,17 +9,21 @@ use Rattle.proc_macro2.specs.declared.tree.Group.{Group}
 use Rattle.proc_macro2.specs.declared.tree.TokenTree.{TokenTree}
 use Rattle.proc_macro2.specs.declared.tree.TokenTree.TheVariants as tree
 
+-- a token that stands there
 abbrev pub spanned : Token → Span → Spanned
 spanned t span = record { token = t; span = span }
 
+-- a group's: its opening token, those of its stream, its closing token
 abbrev pub group_tokens : Group → List Spanned
 group_tokens g = spanned (Opens g.delimiter) g.span ∷ g.stream ++ spanned (Closes g.delimiter) g.span ∷ []
 
+-- a tree's: a group's, or one token
 abbrev pub tree_tokens : TokenTree → List Spanned
 tree_tokens (tree.Group g) = group_tokens g
 tree_tokens (tree.Ident i) = spanned (Word (ident_text i)) (ident_span i) ∷ []
 tree_tokens (tree.Punct p) = spanned (Sign (punct_char p) (punct_spacing p)) (punct_span p) ∷ []
 tree_tokens (tree.Literal l) = spanned (Quoted (literal_text l)) (literal_span l) ∷ []
 
+-- those of trees, in their order
 abbrev pub trees_tokens : List TokenTree → List Spanned
 trees_tokens ts = flat_map tree_tokens ts

@@ -5,6 +5,7 @@ use Rattle.proc_macro2.specs.Token.{Delimiter, Token, Opens, Closes, Word, Quote
 use Rattle.proc_macro2.specs.declared.tree.TokenTree.{TokenTree}
 use Rattle.proc_macro2.specs.declared.tree.TokenTree.TheVariants as tree
 
+-- two delimiters are one
 abbrev pub same_delimiter : Delimiter → Delimiter → Bool
 same_delimiter delimiter.Parenthesis delimiter.Parenthesis = true
 same_delimiter delimiter.Brace delimiter.Brace = true

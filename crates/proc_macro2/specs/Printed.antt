@@ -43,10 +43,12 @@ is_hugged (Closes delimiter.Brace) = false
 is_hugged (Closes d) = true
 is_hugged _ = false
 
+-- {
 abbrev pub opens_brace : Token → Bool
 opens_brace (Opens delimiter.Brace) = true
 opens_brace _ = false
 
+-- }
 abbrev pub closes_brace : Token → Bool
 closes_brace (Closes delimiter.Brace) = true
 closes_brace _ = false
@@ -55,6 +57,7 @@ closes_brace _ = false
 abbrev pub is_apart : Token → Token → Bool
 is_apart t u = (opens_brace t || closes_brace u) || (not (hugs t) && not (is_hugged u))
 
+-- the space between two tokens, if there is one
 abbrev pub space : Bool → List ℕ
 space true = 32 ∷ []
 space false = []

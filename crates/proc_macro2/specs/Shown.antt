@@ -25,6 +25,7 @@ empty delimiter.Brace = 123 ∷ 32 ∷ 125 ∷ []
 empty delimiter.Bracket = 91 ∷ 93 ∷ []
 empty delimiter.None = []
 
+-- the last of some tokens
 abbrev pub last : Token → List Token → Token
 last t [] = t
 last t (u ∷ us) = last u us

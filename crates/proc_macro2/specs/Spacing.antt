@@ -23,6 +23,7 @@ is_slash_or_star c = c == 47 || c == 42
 abbrev pub begin_comment : ℕ → ℕ → Bool
 begin_comment c d = is_slash c && is_slash_or_star d
 
+-- a delimiter that is printed
 abbrev pub is_visible : Delimiter → Bool
 is_visible delimiter.None = false
 is_visible _ = true
@@ -33,6 +34,7 @@ is_prefixed_string cs =
     starts_with nat_eq cs (codes "b\"") || starts_with nat_eq cs (codes "c\"") || starts_with nat_eq cs (codes "r\"")
     || starts_with nat_eq cs (codes "br\"") || starts_with nat_eq cs (codes "cr\"")
 
+-- a character literal
 abbrev pub is_character : List ℕ → Bool
 is_character [] = false
 is_character (c ∷ cs) = c == quote
@@ -49,6 +51,7 @@ follows_mark c (Sign d spacing ∷ ts) = not (begin_comment c d)
 follows_mark c (Quoted cs ∷ ts) = is_character cs
 follows_mark c _ = false
 
+-- a token may stand before the tokens behind it
 abbrev pub may_stand : Token → List Token → Bool
 may_stand (Opens d) ts = is_visible d
 may_stand (Closes d) ts = is_visible d

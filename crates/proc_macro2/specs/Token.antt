@@ -6,6 +6,8 @@ pub use Rattle.proc_macro2.specs.declared.delimiter.Delimiter.TheVariants.{Paren
 pub use Rattle.rust_leaf.specs.declared.punct.Spacing.{Spacing}
 pub use Rattle.rust_leaf.specs.declared.punct.Spacing.TheVariants.{Alone, Joint}
 
+-- a word is an identifier or a keyword by its printed text, a quoted token a literal by its text,
+-- and a sign a punctuation mark
 pub data Token : Type 0 where
   Opens : (delimiter : Delimiter) → Token
   Closes : (delimiter : Delimiter) → Token

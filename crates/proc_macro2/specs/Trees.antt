@@ -25,4 +25,4 @@ tokens_at (tree.Literal l) span = spanned (Quoted (literal_text l)) span ∷ []
 
 -- the spans of a group that stands there, and of its delimiters
 abbrev pub delim_span_of : Span → DelimSpan
-delim_span_of span = record { join = span; «open» = first_of span; close = last_of span }
+delim_span_of span = record { join = span; opening = first_of span; closing = last_of span }

@@ -78,8 +78,8 @@ impl Group {
 #[derive(Clone, Copy, Debug)]
 pub struct DelimSpan {
     pub(crate) join: Span,
-    pub(crate) open: Span,
-    pub(crate) close: Span,
+    pub(crate) opening: Span,
+    pub(crate) closing: Span,
 }
 
 impl DelimSpan {
@@ -90,8 +90,8 @@ impl DelimSpan {
     {
         DelimSpan {
             join: span,
-            open: span.first_character(),
-            close: span.last_character(),
+            opening: span.first_character(),
+            closing: span.last_character(),
         }
     }
 
@@ -104,15 +104,15 @@ impl DelimSpan {
 
     /// The opening delimiter.
     pub fn open(&self) -> Span
-        ensures { result ≡ self.now.open }
+        ensures { result ≡ self.now.opening }
     {
-        self.open
+        self.opening
     }
 
     /// The closing delimiter.
     pub fn close(&self) -> Span
-        ensures { result ≡ self.now.close }
+        ensures { result ≡ self.now.closing }
     {
-        self.close
+        self.closing
     }
 }

@@ -10,6 +10,7 @@
 //! - `into_iter`: taking streams apart.
 //! - `copies`: copies of streams and trees.
 //! - `print`: the printed text.
+//! - `laws`: laws of streams.
 #![tactic(auto)]
 
 pub mod copies;

@@ -75,3 +75,9 @@ pub raw_identifier_text : (cs : List ℕ) → refusal_of_raw cs ≡ None → IsT
 raw_identifier_text cs e =
     let h = accepted_raw (refusal cs) (is_reserved cs) e in
     rw (accepted_identifier cs h.0, h.1) (or_true (is_identifier (codes "r#" ++ cs)))
+
+-- a raw identifier that has been put together
+pub raw_printed : (bs mark text : List ℕ) → mark ≡ codes "r#" → text ≡ mark ++ bs → None ≡ refusal (chars bs) → false ≡ is_reserved (chars bs) → IsTrue (is_ident_text (chars text))
+raw_printed bs mark text m t f r =
+    let e : refusal_of_raw (chars bs) ≡ None = rw (sym f, sym r) refl in
+    rw (raw_text bs mark text m t) (raw_identifier_text (chars bs) e)

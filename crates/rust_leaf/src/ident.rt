@@ -1,7 +1,6 @@
 //! Identifiers.
 
 ghost use Rattle.rust_leaf.specs.Identifier.{fault_of, is_ident_text, is_identifier, is_number, is_reserved, refusal, refusal_of_raw};
-ghost use Rattle.rust_leaf.specs.Leaf.{ident_bytes, ident_span, ident_text};
 ghost use Rattle.rust_leaf.specs.declared.ident.IdentFault.TheVariants.{Memory};
 ghost use Rattle.std.proofs.Common.{refl, rules};
 ghost use Rattle.std.specs.Cmp.{on_equiv, on_per, on_po, on_total, partial_equiv_from_equiv};
@@ -9,7 +8,7 @@ ghost use Rattle.std.specs.Cmp.Lexicographic.{nat_list_cmp_total, nat_list_eq_eq
 ghost use Rattle.std.specs.Cmp.Rules.{hashing};
 ghost use Rattle.std.specs.Hash as fed;
 ghost use Rattle.std.specs.Ordering.{nat_cmp};
-ghost use Rattle.std.specs.Prelude.{◌≡◌, ◌++◌, ◌==◌, IfErr, IfOk, OnOk, Option, None, Some, IsTrue, codes, encode_utf8_all, ◌↔◌};
+ghost use Rattle.std.specs.Prelude.{◌≡◌, ◌++◌, ◌==◌, IfErr, IfOk, OnOk, Option, None, Some, IsTrue, codes, encode_utf8_all, string_bytes, ◌↔◌};
 ghost use Rattle.std.specs.List.{list_all};
 ghost use Rattle.std.specs.Str.{bytes_eq, chars};
 ghost use Rattle.unicode_ident.specs.Ident.{is_xid_continue};
@@ -22,11 +21,13 @@ use std::hash::{Hash, Hasher};
 use try_clone::TryClone;
 use unicode_ident::{is_xid_continue, is_xid_start};
 
-/// An identifier or a keyword, by its printed text, a raw one with its `r#`.
+/// An identifier or a keyword, by its printed text, a raw one with its `r#`. The text is always that
+/// of an identifier.
 #[derive(Drop)]
 pub struct Ident {
     pub(crate) text: String,
     pub(crate) span: Span,
+    ghost is_printed: { IsTrue (is_ident_text (chars (string_bytes text))) },
 }
 
 /// Why a text makes no identifier. The first fault that applies is answered.
@@ -101,6 +102,8 @@ fn is_reserved(text: &str) -> bool
 }
 
 impl Ident {
+    ghost use Rattle.rust_leaf.specs.Leaf.{ident_span, ident_text};
+
     /// The identifier or keyword `text`, which has no `r#`.
     ///
     /// The faults are tested in this order: `Empty`; `Number`, ASCII digits alone; `Invalid`, a first
@@ -180,6 +183,8 @@ impl Ident {
 }
 
 impl fmt::Display for Ident {
+    ghost use Rattle.rust_leaf.specs.Leaf.{ident_text};
+
     ghost output = { λ ident. Some (encode_utf8_all (ident_text ident)) };
 
     #[tactic(auto, using(crate::proofs::Texts::printed_text))]
@@ -189,6 +194,8 @@ impl fmt::Display for Ident {
 }
 
 impl PartialEq for Ident {
+    ghost use Rattle.rust_leaf.specs.Leaf.{ident_bytes};
+
     ghost eq = { λ a b. bytes_eq (ident_bytes a) (ident_bytes b) };
 
     ghost laws = { on_per ident_bytes (partial_equiv_from_equiv nat_list_eq_equiv) };
@@ -199,10 +206,14 @@ impl PartialEq for Ident {
 }
 
 impl Eq for Ident {
+    ghost use Rattle.rust_leaf.specs.Leaf.{ident_bytes};
+
     ghost laws = { on_equiv ident_bytes nat_list_eq_equiv };
 }
 
 impl PartialOrd for Ident {
+    ghost use Rattle.rust_leaf.specs.Leaf.{ident_bytes};
+
     ghost partial_cmp = { λ a b. Some (slice_cmp nat_cmp (ident_bytes a) (ident_bytes b)) };
 
     ghost laws = { on_po ident_bytes texts_po };
@@ -213,6 +224,8 @@ impl PartialOrd for Ident {
 }
 
 impl Ord for Ident {
+    ghost use Rattle.rust_leaf.specs.Leaf.{ident_bytes};
+
     ghost cmp = { λ a b. slice_cmp nat_cmp (ident_bytes a) (ident_bytes b) };
 
     ghost total = { on_total ident_bytes nat_list_cmp_total };
@@ -227,6 +240,8 @@ impl Ord for Ident {
 }
 
 impl Hash for Ident {
+    ghost use Rattle.rust_leaf.specs.Leaf.{ident_bytes};
+
     ghost hash_input = { λ ident. fed.str (ident_bytes ident) };
 
     ghost respects_eq = { Prim.search (hashing, rules) };
@@ -237,6 +252,7 @@ impl Hash for Ident {
 }
 
 impl TryClone for Ident {
+    ghost use Rattle.rust_leaf.specs.Leaf.{ident_span, ident_text};
     ghost use Rattle.std.specs.Prelude.{List, ℕ};
     ghost use Rattle.rust_map.specs.declared.span.Span.{Span};
 

@@ -1,6 +1,7 @@
 //! Integer literals: a number in plain decimal, behind a minus where it is below zero, and then its suffix.
 
-ghost use Rattle.rust_leaf.specs.Leaf.{literal_text, text_of};
+ghost use Rattle.rust_leaf.specs.Leaf.{literal_span, literal_text, text_of};
+ghost use Rattle.rust_map.specs.Spans.{call_site};
 ghost use Rattle.std.specs.Fmt.{decimal, signed_decimal};
 ghost use Rattle.std.specs.Prelude.{◌++◌, ◌≡◌, IfOk, OnOk, codes};
 ghost use Rattle.std.specs.Str.{chars};
@@ -28,7 +29,8 @@ fn push_signed(out: &mut String, n: i128) -> Result<(), AllocError>
 // The literal of a number and a suffix.
 #[tactic(auto, using(crate::proofs::Numbers::number_literal))]
 fn unsigned(alloc: Global, n: u128, suffix: &str) -> Result<Literal, AllocError>
-    ensures { IfOk result (λ literal. literal_text literal ≡ decimal n ++ chars suffix.now) }
+    ensures text_is { IfOk result (λ literal. literal_text literal ≡ decimal n ++ chars suffix.now) }
+    ensures span_is { IfOk result (λ literal. literal_span literal ≡ call_site) }
 {
     let mut out = String::new(alloc);
     push_decimal(&mut out, n)?;
@@ -39,7 +41,8 @@ fn unsigned(alloc: Global, n: u128, suffix: &str) -> Result<Literal, AllocError>
 // The literal of a number that may be below zero, and a suffix.
 #[tactic(auto, using(crate::proofs::Numbers::number_literal))]
 fn signed(alloc: Global, n: i128, suffix: &str) -> Result<Literal, AllocError>
-    ensures { IfOk result (λ literal. literal_text literal ≡ signed_decimal n ++ chars suffix.now) }
+    ensures text_is { IfOk result (λ literal. literal_text literal ≡ signed_decimal n ++ chars suffix.now) }
+    ensures span_is { IfOk result (λ literal. literal_span literal ≡ call_site) }
 {
     let mut out = String::new(alloc);
     push_signed(&mut out, n)?;
@@ -51,168 +54,192 @@ fn signed(alloc: Global, n: i128, suffix: &str) -> Result<Literal, AllocError>
 impl Literal {
     /// A `u8` in decimal, and then `u8`.
     pub fn u8_suffixed(alloc: Global, n: u8) -> Result<Literal, AllocError>
-        ensures { IfOk result (λ literal. literal_text literal ≡ decimal n ++ codes "u8") }
+        ensures text_is { IfOk result (λ literal. literal_text literal ≡ decimal n ++ codes "u8") }
+        ensures span_is { IfOk result (λ literal. literal_span literal ≡ call_site) }
     {
         unsigned(alloc, n as u128, "u8")
     }
 
     /// A `u8` in decimal.
     pub fn u8_unsuffixed(alloc: Global, n: u8) -> Result<Literal, AllocError>
-        ensures { IfOk result (λ literal. literal_text literal ≡ decimal n) }
+        ensures text_is { IfOk result (λ literal. literal_text literal ≡ decimal n) }
+        ensures span_is { IfOk result (λ literal. literal_span literal ≡ call_site) }
     {
         unsigned(alloc, n as u128, "")
     }
 
     /// A `u16` in decimal, and then `u16`.
     pub fn u16_suffixed(alloc: Global, n: u16) -> Result<Literal, AllocError>
-        ensures { IfOk result (λ literal. literal_text literal ≡ decimal n ++ codes "u16") }
+        ensures text_is { IfOk result (λ literal. literal_text literal ≡ decimal n ++ codes "u16") }
+        ensures span_is { IfOk result (λ literal. literal_span literal ≡ call_site) }
     {
         unsigned(alloc, n as u128, "u16")
     }
 
     /// A `u16` in decimal.
     pub fn u16_unsuffixed(alloc: Global, n: u16) -> Result<Literal, AllocError>
-        ensures { IfOk result (λ literal. literal_text literal ≡ decimal n) }
+        ensures text_is { IfOk result (λ literal. literal_text literal ≡ decimal n) }
+        ensures span_is { IfOk result (λ literal. literal_span literal ≡ call_site) }
     {
         unsigned(alloc, n as u128, "")
     }
 
     /// A `u32` in decimal, and then `u32`.
     pub fn u32_suffixed(alloc: Global, n: u32) -> Result<Literal, AllocError>
-        ensures { IfOk result (λ literal. literal_text literal ≡ decimal n ++ codes "u32") }
+        ensures text_is { IfOk result (λ literal. literal_text literal ≡ decimal n ++ codes "u32") }
+        ensures span_is { IfOk result (λ literal. literal_span literal ≡ call_site) }
     {
         unsigned(alloc, n as u128, "u32")
     }
 
     /// A `u32` in decimal.
     pub fn u32_unsuffixed(alloc: Global, n: u32) -> Result<Literal, AllocError>
-        ensures { IfOk result (λ literal. literal_text literal ≡ decimal n) }
+        ensures text_is { IfOk result (λ literal. literal_text literal ≡ decimal n) }
+        ensures span_is { IfOk result (λ literal. literal_span literal ≡ call_site) }
     {
         unsigned(alloc, n as u128, "")
     }
 
     /// A `u64` in decimal, and then `u64`.
     pub fn u64_suffixed(alloc: Global, n: u64) -> Result<Literal, AllocError>
-        ensures { IfOk result (λ literal. literal_text literal ≡ decimal n ++ codes "u64") }
+        ensures text_is { IfOk result (λ literal. literal_text literal ≡ decimal n ++ codes "u64") }
+        ensures span_is { IfOk result (λ literal. literal_span literal ≡ call_site) }
     {
         unsigned(alloc, n as u128, "u64")
     }
 
     /// A `u64` in decimal.
     pub fn u64_unsuffixed(alloc: Global, n: u64) -> Result<Literal, AllocError>
-        ensures { IfOk result (λ literal. literal_text literal ≡ decimal n) }
+        ensures text_is { IfOk result (λ literal. literal_text literal ≡ decimal n) }
+        ensures span_is { IfOk result (λ literal. literal_span literal ≡ call_site) }
     {
         unsigned(alloc, n as u128, "")
     }
 
     /// A `u128` in decimal, and then `u128`.
     pub fn u128_suffixed(alloc: Global, n: u128) -> Result<Literal, AllocError>
-        ensures { IfOk result (λ literal. literal_text literal ≡ decimal n ++ codes "u128") }
+        ensures text_is { IfOk result (λ literal. literal_text literal ≡ decimal n ++ codes "u128") }
+        ensures span_is { IfOk result (λ literal. literal_span literal ≡ call_site) }
     {
         unsigned(alloc, n, "u128")
     }
 
     /// A `u128` in decimal.
     pub fn u128_unsuffixed(alloc: Global, n: u128) -> Result<Literal, AllocError>
-        ensures { IfOk result (λ literal. literal_text literal ≡ decimal n) }
+        ensures text_is { IfOk result (λ literal. literal_text literal ≡ decimal n) }
+        ensures span_is { IfOk result (λ literal. literal_span literal ≡ call_site) }
     {
         unsigned(alloc, n, "")
     }
 
     /// A `usize` in decimal, and then `usize`.
     pub fn usize_suffixed(alloc: Global, n: usize) -> Result<Literal, AllocError>
-        ensures { IfOk result (λ literal. literal_text literal ≡ decimal n ++ codes "usize") }
+        ensures text_is { IfOk result (λ literal. literal_text literal ≡ decimal n ++ codes "usize") }
+        ensures span_is { IfOk result (λ literal. literal_span literal ≡ call_site) }
     {
         unsigned(alloc, n as u128, "usize")
     }
 
     /// A `usize` in decimal.
     pub fn usize_unsuffixed(alloc: Global, n: usize) -> Result<Literal, AllocError>
-        ensures { IfOk result (λ literal. literal_text literal ≡ decimal n) }
+        ensures text_is { IfOk result (λ literal. literal_text literal ≡ decimal n) }
+        ensures span_is { IfOk result (λ literal. literal_span literal ≡ call_site) }
     {
         unsigned(alloc, n as u128, "")
     }
 
     /// A `i8` in decimal, behind a minus below zero, and then `i8`.
     pub fn i8_suffixed(alloc: Global, n: i8) -> Result<Literal, AllocError>
-        ensures { IfOk result (λ literal. literal_text literal ≡ signed_decimal n ++ codes "i8") }
+        ensures text_is { IfOk result (λ literal. literal_text literal ≡ signed_decimal n ++ codes "i8") }
+        ensures span_is { IfOk result (λ literal. literal_span literal ≡ call_site) }
     {
         signed(alloc, n as i128, "i8")
     }
 
     /// A `i8` in decimal, behind a minus below zero.
     pub fn i8_unsuffixed(alloc: Global, n: i8) -> Result<Literal, AllocError>
-        ensures { IfOk result (λ literal. literal_text literal ≡ signed_decimal n) }
+        ensures text_is { IfOk result (λ literal. literal_text literal ≡ signed_decimal n) }
+        ensures span_is { IfOk result (λ literal. literal_span literal ≡ call_site) }
     {
         signed(alloc, n as i128, "")
     }
 
     /// A `i16` in decimal, behind a minus below zero, and then `i16`.
     pub fn i16_suffixed(alloc: Global, n: i16) -> Result<Literal, AllocError>
-        ensures { IfOk result (λ literal. literal_text literal ≡ signed_decimal n ++ codes "i16") }
+        ensures text_is { IfOk result (λ literal. literal_text literal ≡ signed_decimal n ++ codes "i16") }
+        ensures span_is { IfOk result (λ literal. literal_span literal ≡ call_site) }
     {
         signed(alloc, n as i128, "i16")
     }
 
     /// A `i16` in decimal, behind a minus below zero.
     pub fn i16_unsuffixed(alloc: Global, n: i16) -> Result<Literal, AllocError>
-        ensures { IfOk result (λ literal. literal_text literal ≡ signed_decimal n) }
+        ensures text_is { IfOk result (λ literal. literal_text literal ≡ signed_decimal n) }
+        ensures span_is { IfOk result (λ literal. literal_span literal ≡ call_site) }
     {
         signed(alloc, n as i128, "")
     }
 
     /// A `i32` in decimal, behind a minus below zero, and then `i32`.
     pub fn i32_suffixed(alloc: Global, n: i32) -> Result<Literal, AllocError>
-        ensures { IfOk result (λ literal. literal_text literal ≡ signed_decimal n ++ codes "i32") }
+        ensures text_is { IfOk result (λ literal. literal_text literal ≡ signed_decimal n ++ codes "i32") }
+        ensures span_is { IfOk result (λ literal. literal_span literal ≡ call_site) }
     {
         signed(alloc, n as i128, "i32")
     }
 
     /// A `i32` in decimal, behind a minus below zero.
     pub fn i32_unsuffixed(alloc: Global, n: i32) -> Result<Literal, AllocError>
-        ensures { IfOk result (λ literal. literal_text literal ≡ signed_decimal n) }
+        ensures text_is { IfOk result (λ literal. literal_text literal ≡ signed_decimal n) }
+        ensures span_is { IfOk result (λ literal. literal_span literal ≡ call_site) }
     {
         signed(alloc, n as i128, "")
     }
 
     /// A `i64` in decimal, behind a minus below zero, and then `i64`.
     pub fn i64_suffixed(alloc: Global, n: i64) -> Result<Literal, AllocError>
-        ensures { IfOk result (λ literal. literal_text literal ≡ signed_decimal n ++ codes "i64") }
+        ensures text_is { IfOk result (λ literal. literal_text literal ≡ signed_decimal n ++ codes "i64") }
+        ensures span_is { IfOk result (λ literal. literal_span literal ≡ call_site) }
     {
         signed(alloc, n as i128, "i64")
     }
 
     /// A `i64` in decimal, behind a minus below zero.
     pub fn i64_unsuffixed(alloc: Global, n: i64) -> Result<Literal, AllocError>
-        ensures { IfOk result (λ literal. literal_text literal ≡ signed_decimal n) }
+        ensures text_is { IfOk result (λ literal. literal_text literal ≡ signed_decimal n) }
+        ensures span_is { IfOk result (λ literal. literal_span literal ≡ call_site) }
     {
         signed(alloc, n as i128, "")
     }
 
     /// A `i128` in decimal, behind a minus below zero, and then `i128`.
     pub fn i128_suffixed(alloc: Global, n: i128) -> Result<Literal, AllocError>
-        ensures { IfOk result (λ literal. literal_text literal ≡ signed_decimal n ++ codes "i128") }
+        ensures text_is { IfOk result (λ literal. literal_text literal ≡ signed_decimal n ++ codes "i128") }
+        ensures span_is { IfOk result (λ literal. literal_span literal ≡ call_site) }
     {
         signed(alloc, n, "i128")
     }
 
     /// A `i128` in decimal, behind a minus below zero.
     pub fn i128_unsuffixed(alloc: Global, n: i128) -> Result<Literal, AllocError>
-        ensures { IfOk result (λ literal. literal_text literal ≡ signed_decimal n) }
+        ensures text_is { IfOk result (λ literal. literal_text literal ≡ signed_decimal n) }
+        ensures span_is { IfOk result (λ literal. literal_span literal ≡ call_site) }
     {
         signed(alloc, n, "")
     }
 
     /// A `isize` in decimal, behind a minus below zero, and then `isize`.
     pub fn isize_suffixed(alloc: Global, n: isize) -> Result<Literal, AllocError>
-        ensures { IfOk result (λ literal. literal_text literal ≡ signed_decimal n ++ codes "isize") }
+        ensures text_is { IfOk result (λ literal. literal_text literal ≡ signed_decimal n ++ codes "isize") }
+        ensures span_is { IfOk result (λ literal. literal_span literal ≡ call_site) }
     {
         signed(alloc, n as i128, "isize")
     }
 
     /// A `isize` in decimal, behind a minus below zero.
     pub fn isize_unsuffixed(alloc: Global, n: isize) -> Result<Literal, AllocError>
-        ensures { IfOk result (λ literal. literal_text literal ≡ signed_decimal n) }
+        ensures text_is { IfOk result (λ literal. literal_text literal ≡ signed_decimal n) }
+        ensures span_is { IfOk result (λ literal. literal_span literal ≡ call_site) }
     {
         signed(alloc, n as i128, "")
     }

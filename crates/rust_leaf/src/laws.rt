@@ -1,16 +1,18 @@
-//! Laws of leaves: equality, order and hash of identifiers, and what identifiers and C strings are
-//! written as.
+//! Laws of leaves: equality, order and hash of identifiers, and what identifiers, marks and C strings
+//! are written as.
 //!
 //! Each function does nothing; its contract is the law.
 
 ghost use Rattle.rust_leaf.specs.CString.{AreParts, Part};
 ghost use Rattle.rust_leaf.specs.Identifier.{is_ident_text, refusal, refusal_of_raw};
-ghost use Rattle.rust_leaf.specs.Leaf.{ident_text};
+ghost use Rattle.rust_leaf.specs.Leaf.{ident_text, punct_char};
+ghost use Rattle.rust_leaf.specs.Mark.{is_mark};
 ghost use Rattle.std.specs.Prelude.{◌≡◌, ◌↔◌, ◌++◌, IsTrue, List, None, codes};
 ghost use Rattle.std.specs.Str.{chars};
 ghost use Rattle.std.specs.declared.cmp.Ordering.TheVariants.{Equal};
 
 use crate::ident::Ident;
+use crate::punct::Punct;
 use std::hash::Hash;
 
 /// Two identifiers are equal exactly if they are printed alike, whatever their spans.
@@ -41,6 +43,16 @@ pub fn order_agrees(a: &Ident, b: &Ident)
 /// Equal identifiers are hashed alike.
 pub fn hash_agrees(a: &Ident, b: &Ident)
     ensures { IsTrue (⟦<Ident as PartialEq>⟧.eq a.now b.now) → ⟦<Ident as Hash>⟧.hash_input a.now ≡ ⟦<Ident as Hash>⟧.hash_input b.now }
+{}
+
+/// Each identifier is printed as one.
+pub fn printed_as_identifier(ident: &Ident)
+    ensures { IsTrue (is_ident_text (ident_text ident.now)) }
+{}
+
+/// Each mark is one of the 22.
+pub fn printed_as_mark(punct: &Punct)
+    ensures { IsTrue (is_mark (punct_char punct.now)) }
 {}
 
 /// What `new` accepts is the text of an identifier.

@@ -3,6 +3,7 @@
 ghost use Rattle.rust_leaf.specs.CString.{IsCString, has_zero};
 ghost use Rattle.rust_leaf.specs.Escaped.{byte_character_text, byte_string_text, character_text, string_text};
 ghost use Rattle.rust_leaf.specs.Leaf.{literal_span, literal_text, text_of};
+ghost use Rattle.rust_map.specs.Spans.{call_site};
 ghost use Rattle.std.specs.Prelude.{[], ◌++◌, ◌∷◌, ◌≡◌, IfOk, IsFalse, Some, encode_utf8_all, string_bytes};
 ghost use Rattle.std.specs.Str.{chars};
 
@@ -32,7 +33,8 @@ fn opened(alloc: Global, len: usize, opening: &str) -> Result<String, AllocError
 
 // The literal of a text and its closing quote.
 fn closed(text: String, quote: char) -> Result<Literal, AllocError>
-    ensures { IfOk result (λ literal. literal_text literal ≡ text_of text ++ quote ∷ []) }
+    ensures text_is { IfOk result (λ literal. literal_text literal ≡ text_of text ++ quote ∷ []) }
+    ensures span_is { IfOk result (λ literal. literal_span literal ≡ call_site) }
 {
     let mut out = text;
     push_bare(&mut out, quote)?;
@@ -47,7 +49,8 @@ impl Literal {
     /// of the categories Cc, Cf, Cn, Co, Mn, Me, Zl, Zp and Zs. Any other character stands for itself.
     #[tactic(auto, using(crate::proofs::Pushed::opening_words, std::proofs::lemmas::Grind::common_steps))]
     pub fn string(alloc: Global, text: &str) -> Result<Literal, AllocError>
-        ensures { IfOk result (λ literal. literal_text literal ≡ string_text (chars text.now)) }
+        ensures text_is { IfOk result (λ literal. literal_text literal ≡ string_text (chars text.now)) }
+        ensures span_is { IfOk result (λ literal. literal_span literal ≡ call_site) }
     {
         let mut out = opened(alloc, text.len(), "\"")?;
         push_text(&mut out, '"', text)?;
@@ -57,7 +60,8 @@ impl Literal {
     /// The character literal of a character, which is escaped as in `string`, but for `\'` and a bare `"`.
     #[tactic(auto, using(crate::proofs::Pushed::opening_words, std::proofs::lemmas::Grind::common_steps))]
     pub fn character(alloc: Global, ch: char) -> Result<Literal, AllocError>
-        ensures { IfOk result (λ literal. literal_text literal ≡ character_text ch) }
+        ensures text_is { IfOk result (λ literal. literal_text literal ≡ character_text ch) }
+        ensures span_is { IfOk result (λ literal. literal_span literal ≡ call_site) }
     {
         let mut out = opened(alloc, ch.len_utf8(), "'")?;
         push_char(&mut out, '\'', ch, "")?;
@@ -70,7 +74,8 @@ impl Literal {
     /// `\0`, or `\x` and two hex digits, upper case.
     #[tactic(auto, using(crate::proofs::Pushed::opening_words, std::proofs::lemmas::Grind::common_steps))]
     pub fn byte_character(alloc: Global, byte: u8) -> Result<Literal, AllocError>
-        ensures { IfOk result (λ literal. literal_text literal ≡ byte_character_text byte) }
+        ensures text_is { IfOk result (λ literal. literal_text literal ≡ byte_character_text byte) }
+        ensures span_is { IfOk result (λ literal. literal_span literal ≡ call_site) }
     {
         let mut out = opened(alloc, 4, "b'")?;
         push_byte(&mut out, b'\'', byte, &[])?;
@@ -81,7 +86,8 @@ impl Literal {
     /// before a digit 0 to 7 is `\x00`.
     #[tactic(auto, using(crate::proofs::Pushed::opening_words, std::proofs::lemmas::Grind::common_steps))]
     pub fn byte_string(alloc: Global, bytes: &[u8]) -> Result<Literal, AllocError>
-        ensures { IfOk result (λ literal. literal_text literal ≡ byte_string_text bytes.now) }
+        ensures text_is { IfOk result (λ literal. literal_text literal ≡ byte_string_text bytes.now) }
+        ensures span_is { IfOk result (λ literal. literal_span literal ≡ call_site) }
     {
         let mut out = opened(alloc, bytes.len(), "b\"")?;
         push_bytes(&mut out, b'"', bytes)?;
@@ -96,11 +102,19 @@ impl Literal {
     #[tactic(auto, using(crate::proofs::Pushed::opening_words, std::proofs::lemmas::Grind::common_steps))]
     pub fn c_string(alloc: Global, bytes: &[u8]) -> Result<Literal, AllocError>
         requires { IsFalse (has_zero bytes.now) }
-        ensures { IfOk result (λ literal. IsCString bytes.now (literal_text literal)) }
+        ensures text_is { IfOk result (λ literal. IsCString bytes.now (literal_text literal)) }
+        ensures span_is { IfOk result (λ literal. literal_span literal ≡ call_site) }
     {
         let mut out = opened(alloc, bytes.len(), "c\"")?;
         push_c_bytes(&mut out, bytes)?;
         closed(out, '"')
+    }
+
+    /// The printed text.
+    pub fn as_str(&self) -> &str
+        ensures { chars result.now ≡ literal_text self.now }
+    {
+        self.text.as_str()
     }
 
     /// The literal that is printed as `text`: of a text that has been lexed.
@@ -116,19 +130,13 @@ impl Literal {
 
     // The literal of a text, at no place of a text.
     pub(crate) fn of(text: String) -> Literal
-        ensures { literal_text result ≡ chars (string_bytes text) }
+        ensures text_is { literal_text result ≡ chars (string_bytes text) }
+        ensures span_is { literal_span result ≡ call_site }
     {
         Literal {
             text,
             span: Span::call_site(),
         }
-    }
-
-    /// The printed text. Takes no memory.
-    pub fn as_str(&self) -> &str
-        ensures { chars result.now ≡ literal_text self.now }
-    {
-        self.text.as_str()
     }
 
     /// Where the literal stands.

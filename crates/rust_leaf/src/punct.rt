@@ -1,8 +1,8 @@
 //! Punctuation marks.
 
-ghost use Rattle.rust_leaf.specs.Leaf.{punct_char, punct_spacing, punct_span};
 ghost use Rattle.rust_leaf.specs.Mark.{is_mark};
-ghost use Rattle.std.specs.Prelude.{◌≡◌, IsTrue, Some, encode_utf8};
+ghost use Rattle.rust_map.specs.Spans.{call_site};
+ghost use Rattle.std.specs.Prelude.{◌≡◌, IsTrue, Ok, Some, encode_utf8};
 
 use rust_map::span::Span;
 use std::alloc::AllocError;
@@ -30,9 +30,12 @@ pub struct Punct {
     pub(crate) mark: char,
     pub(crate) spacing: Spacing,
     pub(crate) span: Span,
+    ghost is_one: { IsTrue (is_mark mark) },
 }
 
 impl Punct {
+    ghost use Rattle.rust_leaf.specs.Leaf.{punct_char, punct_spacing, punct_span};
+
     /// Whether a character is one of the 22 marks.
     #[tactic(auto, unfolding(crate::specs::Mark::is_mark))]
     pub fn is_mark(ch: char) -> bool
@@ -46,6 +49,7 @@ impl Punct {
         requires { IsTrue (is_mark ch) }
         ensures char_is { punct_char result ≡ ch }
         ensures spacing_is { punct_spacing result ≡ spacing }
+        ensures span_is { punct_span result ≡ call_site }
     {
         Punct {
             mark: ch,
@@ -86,6 +90,8 @@ impl Punct {
 }
 
 impl fmt::Display for Punct {
+    ghost use Rattle.rust_leaf.specs.Leaf.{punct_char};
+
     ghost output = { λ p. Some (encode_utf8 (punct_char p)) };
 
     fn fmt<W: fmt::Write>(&self, f: &mut fmt::Formatter<W>) -> fmt::Result {
@@ -100,7 +106,10 @@ impl TryClone for Spacing {
 
     ghost shown = { λ spacing. spacing };
 
-    fn try_clone(&self) -> Result<Spacing, AllocError> {
+    /// A copy, which takes no memory.
+    fn try_clone(&self) -> Result<Spacing, AllocError>
+        ensures { result ≡ Ok self.now }
+    {
         Ok(*self)
     }
 }
@@ -112,7 +121,10 @@ impl TryClone for Punct {
 
     ghost shown = { λ punct. punct };
 
-    fn try_clone(&self) -> Result<Punct, AllocError> {
+    /// A copy, which takes no memory.
+    fn try_clone(&self) -> Result<Punct, AllocError>
+        ensures { result ≡ Ok self.now }
+    {
         Ok(*self)
     }
 }

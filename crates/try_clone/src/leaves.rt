@@ -1,6 +1,6 @@
 //! Values that hold no other ones.
 
-ghost use Rattle.std.specs.Prelude.{List, ℕ, string_bytes};
+ghost use Rattle.std.specs.Prelude.{◌≡◌, List, ℕ, Ok, string_bytes};
 
 use crate::TryClone;
 use std::alloc::AllocError;
@@ -12,7 +12,10 @@ impl TryClone for bool {
 
     ghost shown = { λ value. value };
 
-    fn try_clone(&self) -> Result<bool, AllocError> {
+    /// A copy, which takes no memory.
+    fn try_clone(&self) -> Result<bool, AllocError>
+        ensures { result ≡ Ok self.now }
+    {
         Ok(*self)
     }
 }
@@ -22,7 +25,10 @@ impl TryClone for char {
 
     ghost shown = { λ value. value };
 
-    fn try_clone(&self) -> Result<char, AllocError> {
+    /// A copy, which takes no memory.
+    fn try_clone(&self) -> Result<char, AllocError>
+        ensures { result ≡ Ok self.now }
+    {
         Ok(*self)
     }
 }
@@ -42,7 +48,10 @@ impl TryClone for u8 {
 
     ghost shown = { λ value. value };
 
-    fn try_clone(&self) -> Result<u8, AllocError> {
+    /// A copy, which takes no memory.
+    fn try_clone(&self) -> Result<u8, AllocError>
+        ensures { result ≡ Ok self.now }
+    {
         Ok(*self)
     }
 }
@@ -52,7 +61,10 @@ impl TryClone for u16 {
 
     ghost shown = { λ value. value };
 
-    fn try_clone(&self) -> Result<u16, AllocError> {
+    /// A copy, which takes no memory.
+    fn try_clone(&self) -> Result<u16, AllocError>
+        ensures { result ≡ Ok self.now }
+    {
         Ok(*self)
     }
 }
@@ -62,7 +74,10 @@ impl TryClone for u32 {
 
     ghost shown = { λ value. value };
 
-    fn try_clone(&self) -> Result<u32, AllocError> {
+    /// A copy, which takes no memory.
+    fn try_clone(&self) -> Result<u32, AllocError>
+        ensures { result ≡ Ok self.now }
+    {
         Ok(*self)
     }
 }
@@ -72,7 +87,10 @@ impl TryClone for u64 {
 
     ghost shown = { λ value. value };
 
-    fn try_clone(&self) -> Result<u64, AllocError> {
+    /// A copy, which takes no memory.
+    fn try_clone(&self) -> Result<u64, AllocError>
+        ensures { result ≡ Ok self.now }
+    {
         Ok(*self)
     }
 }
@@ -82,7 +100,10 @@ impl TryClone for u128 {
 
     ghost shown = { λ value. value };
 
-    fn try_clone(&self) -> Result<u128, AllocError> {
+    /// A copy, which takes no memory.
+    fn try_clone(&self) -> Result<u128, AllocError>
+        ensures { result ≡ Ok self.now }
+    {
         Ok(*self)
     }
 }
@@ -92,7 +113,10 @@ impl TryClone for usize {
 
     ghost shown = { λ value. value };
 
-    fn try_clone(&self) -> Result<usize, AllocError> {
+    /// A copy, which takes no memory.
+    fn try_clone(&self) -> Result<usize, AllocError>
+        ensures { result ≡ Ok self.now }
+    {
         Ok(*self)
     }
 }
