@@ -1,0 +1,9 @@
+//! Tests of the escape calls: which error a malformed unit gives, and what the callbacks hear.
+#![tactic(auto)]
+
+#[cfg(test)]
+mod faults;
+#[cfg(test)]
+mod lexing;
+#[cfg(test)]
+mod values;

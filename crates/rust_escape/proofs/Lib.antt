@@ -1,0 +1,13 @@
+pub mod Complete
+pub mod Sound
+pub mod PlacesLemmas
+pub mod Steps
+pub mod Values
+pub mod Ranges
+pub mod Telling
+pub mod Singles
+pub mod LexicalUnits
+pub mod ReadsLemmas
+pub mod LexicalSteps
+pub mod Closing
+pub mod OneInside

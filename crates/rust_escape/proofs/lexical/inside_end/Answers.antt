@@ -1,0 +1,18 @@
+use Rattle.std.proofs.Common.{◌≤◌, arith, length}
+use Rattle.rust_escape.proofs.Closing.{closes_here, seeks_on, closes_nowhere, closes_never}
+use Rattle.rust_escape.proofs.lexical.inside_end.Goals as goal
+
+pub returns-then-c-eq34 : goal.returns-then-c-eq34
+returns-then-c-eq34 c =
+    (closes_here c.args.mode c.args.text.now c.args.start c.loop-at.at c.char_at-c.result.0 _ c.loop-at.invariant c.char_at-c.ensures.rest c.if-c-eq34.true, c.loop-at.invariant.place, c.loop-at.invariant.on)
+
+pub loop-at-preserved : goal.loop-at-preserved
+loop-at-preserved c =
+    seeks_on c.args.mode c.args.text.now c.args.start c.loop-at.at c.char_at-c.result.0 _ c.lexical_unit-reading.result c.in-Ok.field-0 c.loop-at.invariant c.char_at-c.ensures.rest c.if-c-eq34.false c.lexical_unit-reading.ensures c.in-Ok.is
+
+pub returns-in-Err : goal.returns-in-Err
+returns-in-Err c =
+    closes_nowhere c.args.mode c.args.text.now c.args.start c.loop-at.at c.char_at-c.result.0 _ c.lexical_unit-reading.result c.in-Err.field-0 c.loop-at.invariant c.char_at-c.ensures.rest c.if-c-eq34.false c.lexical_unit-reading.ensures c.in-Err.is
+
+pub returns : goal.returns
+returns c = let l : length c.args.text.now ≤ c.loop-at.at = omega arith in closes_never c.args.mode c.args.text.now c.args.start c.loop-at.at c.loop-at.invariant l

@@ -1,0 +1,11 @@
+pub mod Calls
+pub mod Chars
+pub mod Error
+pub mod Escape
+pub mod LexicalScan
+pub mod Mode
+pub mod Places
+pub mod Reads
+pub mod Scan
+pub mod Unit
+pub mod Value
