@@ -5,6 +5,7 @@
 # Usage: bench/lex.sh
 set -euo pipefail
 cd "$(dirname "$0")/.."
+source bench/common.sh
 if ! dpkg -s rust-src librust-proc-macro2-dev > /dev/null 2>&1; then
     apt-get update -qq
     apt-get install -y -qq rust-src librust-proc-macro2-dev > /dev/null
@@ -21,22 +22,9 @@ rustc --edition 2021 -O --crate-name peer -L "$work" --extern "proc_macro2=$work
 library=$(dpkg -L rust-src | grep -m1 '/library$')
 find "$library" -name '*.rs' | LC_ALL=C sort | while read -r file; do sed '1s/^\xEF\xBB\xBF//' "$file"; echo; done > "$work/library.rs"
 (cd crates/lex_cli && rt run < /dev/null > /dev/null)
-program=$PWD/crates/lex_cli/out/lex_cli
-size=$(stat -c %s "$work/library.rs")
-
-measure() {
-    local label=$1
-    shift
-    for _ in 1 2 3 4 5; do
-        python3 bench/measure.py "$work/library.rs" "$work/out" "$@"
-    done | sort -n | head -n 1 | while read -r seconds peak; do
-        awk -v l="$label" -v s="$seconds" -v p="$peak" -v n="$size" \
-            'BEGIN { printf "%-28s %8.4f s %9.1f MB/s %8.2f bytes of memory a byte\n", l, s, n / s / 1e6, p * 1024 / n }'
-    done
-}
-
-echo "$size bytes, best of five; the peer is $(basename "$peer"), with span locations"
-measure "peer, lexing" "$work/peer"
-measure "this, lexing" "$program"
-measure "peer, lexing and printing" "$work/peer" print
-measure "this, lexing and printing" "$program" print
+program=crates/lex_cli/out/lex_cli
+echo "$(stat -c %s "$work/library.rs") bytes, best of five; the peer is $(basename "$peer"), with span locations"
+measure "peer, lexing" "$work/library.rs" "$work/peer"
+measure "this, lexing" "$work/library.rs" "$program"
+measure "peer, lexing and printing" "$work/library.rs" "$work/peer" print
+measure "this, lexing and printing" "$work/library.rs" "$program" print
