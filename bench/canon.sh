@@ -7,7 +7,7 @@ source bench/common.sh
 work=$(mktemp -d)
 trap 'rm -rf "$work"' EXIT
 python3 bench/items.py "${1:-10}" > "$work/items.rs"
-(cd crates/canon_cli && rt run < /dev/null > /dev/null)
+(cd crates/canon_cli && rt run < /dev/null > /dev/null 2>&1)
 echo "$(stat -c %s "$work/items.rs") bytes, best of five"
 measure "cat" "$work/items.rs" cat
 measure "tr -s ' '" "$work/items.rs" tr -s ' '

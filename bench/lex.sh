@@ -21,7 +21,7 @@ rustc --edition 2018 -O --crate-type rlib --crate-name proc_macro2 --cfg span_lo
 rustc --edition 2021 -O --crate-name peer -L "$work" --extern "proc_macro2=$work/libproc_macro2.rlib" bench/peer.rs -o "$work/peer"
 library=$(dpkg -L rust-src | grep -m1 '/library$')
 find "$library" -name '*.rs' | LC_ALL=C sort | while read -r file; do sed '1s/^\xEF\xBB\xBF//' "$file"; echo; done > "$work/library.rs"
-(cd crates/lex_cli && rt run < /dev/null > /dev/null)
+(cd crates/lex_cli && rt run < /dev/null > /dev/null 2>&1)
 program=crates/lex_cli/out/lex_cli
 echo "$(stat -c %s "$work/library.rs") bytes, best of five; the peer is $(basename "$peer"), with span locations"
 measure "peer, lexing" "$work/library.rs" "$work/peer"

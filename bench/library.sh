@@ -7,7 +7,7 @@ if ! dpkg -s rust-src > /dev/null 2>&1; then
     apt-get update -qq
     apt-get install -y -qq rust-src > /dev/null
 fi
-(cd crates/lex_cli && rt run < /dev/null > /dev/null)
+(cd crates/lex_cli && rt run < /dev/null > /dev/null 2>&1)
 program=$PWD/crates/lex_cli/out/lex_cli
 library=$(dpkg -L rust-src | grep -m1 '/library$')
 good=0

@@ -5,13 +5,13 @@ use Rattle.std.specs.Str.{chars, IsUtf8}
 use Rattle.std.proofs.lemmas.Str.{chars_from_encodes, encodes-chars}
 use Rattle.rust_token.specs.declared.lexeme.Lexeme.{Lexeme}
 use Rattle.rust_token.specs.declared.place.LineColumn.{LineColumn}
-use Rattle.rust_token.specs.Token.{Token, plain}
+use Rattle.rust_token.specs.Token.{plain}
 use Rattle.rust_token.specs.Lexemes.{token_at, tokens_at, spanned_tokens}
 use Rattle.rust_token.specs.Forest.{IsForest}
 use Rattle.rust_token.specs.Printed as printed
 use Rattle.canon_syntax.specs.Tree.{Tree, flat}
 use Rattle.canon_syntax.specs.File as file
-use Rattle.canon.specs.Program.{IsProgram, IsOutput}
+use Rattle.canon.specs.Program.{IsOutput}
 use Rattle.canon_syntax.specs.declared.fault.ParseFault.{ParseFault}
 use Rattle.canon_syntax.specs.declared.fault.ParseFault.TheVariants as parse
 use Rattle.canon.specs.Causes.{parse_fault}

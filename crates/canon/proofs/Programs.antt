@@ -1,9 +1,9 @@
 -- Programs and their canonical forms.
-use Rattle.std.proofs.Common.{◌≡◌, ℕ, List, refl, sym, ap, ◌∙◌, subst, ⊎_elim}
-use Rattle.std.specs.Prelude.{Option, ◌⊎◌}
+use Rattle.std.proofs.Common.{◌≡◌, ℕ, List, sym, ap, ◌∙◌, subst}
+use Rattle.std.specs.Prelude.{Option}
 use Rattle.rust_token.specs.declared.place.LineColumn.{LineColumn}
-use Rattle.rust_token.specs.Token.{Token, Spanned, plain}
-use Rattle.rust_token.specs.Forest.{IsForest, HasForest, IsLexicalFault}
+use Rattle.rust_token.specs.Token.{plain}
+use Rattle.rust_token.specs.Forest.{HasForest, IsLexicalFault}
 use Rattle.rust_token.specs.Printed as printed
 use Rattle.canon_lex.proofs.Halts.{no_forest, one_forest}
 use Rattle.canon_lex.proofs.Spaced.{reads_back, forest_spaced}

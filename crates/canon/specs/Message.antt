@@ -1,5 +1,5 @@
 -- What the program says of a fault, and the status with which it ends.
-use Rattle.std.specs.Prelude.{ℕ, List, [], ◌∷◌, ◌++◌, Option, Some, None, Result, Ok, Err, codes}
+use Rattle.std.specs.Prelude.{ℕ, List, ◌++◌, Option, Some, None, Result, Ok, Err, codes}
 use Rattle.std.specs.Fmt.{decimal}
 use Rattle.rust_token.specs.declared.place.LineColumn.{LineColumn}
 use Rattle.canon.specs.declared.fault.Fault.{Fault}

@@ -1,8 +1,7 @@
 -- The tokens of a file, item by item.
-use Rattle.std.proofs.Common.{◌≡◌, ℕ, List, [], ◌∷◌, ◌++◌, refl, ap, ◌∙◌}
+use Rattle.std.proofs.Common.{◌≡◌, ℕ, List, [], ◌∷◌, ◌++◌, refl, ap}
 use Rattle.std.specs.List.{flat_map}
-use Rattle.canon_syntax.specs.Tree.{Tree, Second, Nil, flat}
-use Rattle.canon_syntax.specs.Turns.{chain}
+use Rattle.canon_syntax.specs.Tree.{flat}
 use Rattle.canon_syntax.specs.Views.{item_tree, items_tree}
 use Rattle.canon_syntax.specs.declared.tree.Item as Items
 

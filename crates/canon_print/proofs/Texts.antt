@@ -1,18 +1,15 @@
 -- The text of tokens, one token longer.
-use Rattle.std.proofs.Common.{◌≡◌, ℕ, List, [], ◌∷◌, ◌++◌, refl, sym, ap, ap₂, ◌∙◌, subst, append_assoc}
-use Rattle.std.specs.Prelude.{Bool, true, false, not, ◌||◌, ◌&&◌, encode_utf8_all, encode_utf8, string_bytes}
+use Rattle.std.proofs.Common.{◌≡◌, ℕ, List, [], ◌∷◌, ◌++◌, refl, sym, ap, ap₂, ◌∙◌, append_assoc}
+use Rattle.std.specs.Prelude.{Bool, true, false, ◌||◌, encode_utf8_all, encode_utf8, string_bytes}
 use Rattle.std.specs.Str.{chars, IsUtf8}
 use Rattle.std.proofs.lemmas.List.{append-nil}
-use Rattle.std.proofs.lemmas.Str.{encodes-chars, encodes-append, encode_ascii}
-use Rattle.rust_token.specs.Piece.{opening, closing}
+use Rattle.std.proofs.lemmas.Str.{encodes-chars, encodes-append}
 use Rattle.rust_token.specs.declared.delimiter.Delimiter.TheVariants.{Parenthesis, Brace, Bracket}
 use Rattle.rust_token.specs.Token.{Token, Opens, Closes, Word, Sign}
 use Rattle.rust_token.specs.declared.lexeme.Spacing.TheVariants.{Alone, Joint}
-use Rattle.rust_token.specs.Printed.{shown, hugs, is_hugged, is_apart, opens_brace, closes_brace, space, text}
-use Rattle.canon_print.specs.declared.printer.Edge.{Edge}
-use Rattle.canon_print.specs.declared.printer.Edge.TheVariants as edge
+use Rattle.rust_token.specs.Printed.{shown, is_apart, closes_brace, space, text}
 use Rattle.canon_print.specs.declared.printer.Printer.{Printer}
-use Rattle.canon_print.specs.Printing.{Prints, edge_of, edge_behind, is_spaced, shown_token}
+use Rattle.canon_print.specs.Printing.{Prints, edge_of, edge_behind, is_spaced}
 
 or_false : (b : Bool) → ((false || b) || false) ≡ b
 or_false true = refl

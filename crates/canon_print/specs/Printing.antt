@@ -1,10 +1,10 @@
 -- What has been written down so far.
-use Rattle.std.specs.Prelude.{◌≡◌, ℕ, Bool, true, false, ◌||◌, not, List, [], ◌∷◌, string_bytes, encode_utf8_all}
+use Rattle.std.specs.Prelude.{◌≡◌, Bool, true, false, ◌||◌, not, List, [], ◌∷◌, string_bytes, encode_utf8_all}
 use Rattle.std.specs.Str.{chars}
 use Rattle.rust_token.specs.Token.{Token, Opens, Closes, Word, Sign}
-use Rattle.rust_token.specs.declared.lexeme.Spacing.TheVariants.{Alone, Joint}
-use Rattle.rust_token.specs.declared.delimiter.Delimiter.TheVariants.{Parenthesis, Brace, Bracket}
-use Rattle.rust_token.specs.Printed.{text, hugs, is_hugged, opens_brace, closes_brace}
+use Rattle.rust_token.specs.declared.lexeme.Spacing.TheVariants.{Joint}
+use Rattle.rust_token.specs.declared.delimiter.Delimiter.TheVariants.{Brace}
+use Rattle.rust_token.specs.Printed.{text, is_hugged, closes_brace}
 use Rattle.canon_print.specs.declared.printer.Shown.{Shown}
 use Rattle.canon_print.specs.declared.printer.Shown.TheVariants as to_show
 use Rattle.canon_print.specs.declared.printer.Edge.{Edge}

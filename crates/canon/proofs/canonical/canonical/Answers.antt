@@ -1,4 +1,4 @@
-use Rattle.std.proofs.Common.{◌≡◌, ◌∙◌, List, sym, ap, subst}
+use Rattle.std.proofs.Common.{◌∙◌, List, sym, ap, subst}
 use Rattle.std.proofs.lemmas.Str.{IsUtf8-string_bytes}
 use Rattle.rust_token.specs.declared.lexeme.Lexeme.{Lexeme}
 use Rattle.rust_token.specs.Lexemes.{tokens_at, spanned_tokens}
