@@ -54,7 +54,6 @@ impl Printer {
         }
     }
 
-    #[tactic(auto, using(crate::proofs::Texts::printed_more))]
     /// Adds a token. The error is that a growth was refused; what was written then is of no use.
     pub fn put(&mut self, token: Shown<'_>) -> Result<(), AllocError>
         ensures { OnOk result ((ts : List Token) → Prints self.old ts → Prints self.new (ts ++ shown_token token.entry ∷ [])) }
