@@ -2,5 +2,8 @@ pub mod Minus
 pub mod Views
 pub mod Texts
 pub mod SpacingLemmas
+pub mod Standing
+pub mod Starts
+pub mod NextTree
 pub mod GroupLemmas
 pub mod OneList

@@ -9,3 +9,4 @@ pub mod Printed
 pub mod Examples
 pub mod Shown
 pub mod Spacing
+pub mod Stands

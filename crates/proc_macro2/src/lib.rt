@@ -10,6 +10,7 @@
 //! - `into_iter`: taking streams apart.
 //! - `copies`: copies of streams and trees.
 //! - `print`: the printed text.
+//! - `spacing`: the test for streams that are read back from their text.
 //! - `laws`: laws of streams.
 #![tactic(auto)]
 
@@ -19,5 +20,6 @@ pub mod group;
 pub mod into_iter;
 pub mod laws;
 pub mod print;
+pub mod spacing;
 pub mod stream;
 pub mod tree;
