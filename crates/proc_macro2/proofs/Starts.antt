@@ -1,5 +1,5 @@
 -- A text that begins with another: in bytes just where it does in characters.
-use Rattle.std.proofs.Common.{◌≡◌, ℕ, List, [], ◌∷◌, ◌++◌, length, drop, Bool, true, false, ◌&&◌, ◌==◌, nat_eq, refl, sym, ap, ◌∙◌, append_assoc, encode_utf8_all, encode_utf8}
+use Rattle.std.proofs.Common.{◌≡◌, ℕ, List, [], ◌∷◌, ◌++◌, length, drop, Bool, true, false, ◌==◌, nat_eq, refl, sym, ap, ◌∙◌, append_assoc, encode_utf8_all, encode_utf8}
 use Rattle.std.specs.List.{starts_with}
 use Rattle.std.specs.Str.{chars, IsAscii, IsUtf8}
 use Rattle.std.proofs.lemmas.Bool.Decides.{Decides-eqb}
@@ -7,6 +7,7 @@ use Rattle.std.proofs.lemmas.Slice.Eq.{starts_is}
 use Rattle.std.proofs.lemmas.Str.{cons_from_encodes, encodes-append, encodes-chars, IsUtf8-from_ascii, chars-IsAscii}
 use Rattle.std.proofs.lemmas.Bool.{eqb-true, eq-eqb}
 use Rattle.proc_macro2.specs.Spacing.{is_character, quote}
+use Rattle.proc_macro2.proofs.Standing.{and_true}
 
 -- the bytes of the characters at the front tell those characters
 front : (ps cs zs : List ℕ) → encode_utf8_all cs ≡ encode_utf8_all ps ++ zs → (es : List ℕ) × (cs ≡ ps ++ es)
@@ -43,9 +44,4 @@ starts_ascii bs ps u a = starts_same bs ps u (IsUtf8-from_ascii ps a) ∙ ap (st
 -- a text that begins with '
 pub starts_quote : (cs : List ℕ) → starts_with nat_eq cs (quote ∷ []) ≡ is_character cs
 starts_quote [] = refl
-starts_quote (c ∷ cs) = turned (quote == c) (c == quote) (λ h. eq-eqb c quote (sym (eqb-true quote c h))) (λ h. eq-eqb quote c (sym (eqb-true c quote h)))
-  where
-    turned : (a b : Bool) → (a ≡ true → b ≡ true) → (b ≡ true → a ≡ true) → (a && true) ≡ b
-    turned true b h k = sym (h refl)
-    turned false true h k = k refl
-    turned false false h k = refl
+starts_quote (c ∷ cs) = and_true (quote == c) ∙ same (quote == c) (c == quote) (λ h. eq-eqb c quote (sym (eqb-true quote c h))) (λ h. eq-eqb quote c (sym (eqb-true c quote h)))
