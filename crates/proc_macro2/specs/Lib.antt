@@ -10,3 +10,5 @@ pub mod Examples
 pub mod Shown
 pub mod Spacing
 pub mod Stands
+pub mod Pieces
+pub mod Forest

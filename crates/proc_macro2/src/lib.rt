@@ -9,6 +9,8 @@
 //! - `stream`: building streams.
 //! - `into_iter`: taking streams apart.
 //! - `copies`: copies of streams and trees.
+//! - `parse`: streams of texts.
+//! - `fault`: why a text has none.
 //! - `print`: the printed text.
 //! - `spacing`: the test for streams that are read back from their text.
 //! - `laws`: laws of streams.
@@ -16,9 +18,11 @@
 
 pub mod copies;
 pub mod delimiter;
+pub mod fault;
 pub mod group;
 pub mod into_iter;
 pub mod laws;
+pub mod parse;
 pub mod print;
 pub mod spacing;
 pub mod stream;

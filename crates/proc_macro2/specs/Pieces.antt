@@ -1,0 +1,88 @@
+-- The tokens of pieces, and where they stand. A text's characters stand at positions one behind the
+-- other: a piece at a position, of so many characters, spans these.
+use Rattle.std.specs.Prelude.{ℕ, ◌+◌, ◌-◌, Bool, cond, List, [], ◌∷◌, ◌++◌, length, take, drop, map, codes}
+use Rattle.rust_map.specs.Spans.{span_from, first_of, last_of}
+use Rattle.rust_map.specs.declared.span.Span.{Span}
+use Rattle.rust_leaf.specs.Escaped.{string_text}
+use Rattle.rust_lex.specs.Cover.{onto}
+use Rattle.rust_lex.specs.Piece.{Piece, is_joint}
+use Rattle.rust_lex.specs.declared.delimiter.Delimiter.{Delimiter as LexDelimiter}
+use Rattle.rust_lex.specs.declared.delimiter.Delimiter.TheVariants as lex
+use Rattle.rust_lex.specs.declared.piece.DocKind.{DocKind}
+use Rattle.rust_lex.specs.declared.piece.DocKind.TheVariants as doc
+use Rattle.rust_lex.specs.declared.piece.PieceKind.{PieceKind}
+use Rattle.rust_lex.specs.declared.piece.PieceKind.TheVariants as piece
+use Rattle.proc_macro2.specs.declared.delimiter.Delimiter.TheVariants as delimiter
+use Rattle.proc_macro2.specs.Token.{Delimiter, Token, Opens, Closes, Word, Quoted, Sign, Spacing, Alone, Joint, Spanned}
+use Rattle.proc_macro2.specs.Flat.{spanned}
+
+-- what a pair of marks encloses a group as
+abbrev pub delimiter_of : LexDelimiter → Delimiter
+delimiter_of lex.Parenthesis = delimiter.Parenthesis
+delimiter_of lex.Brace = delimiter.Brace
+delimiter_of lex.Bracket = delimiter.Bracket
+
+abbrev pub spacing_of : Bool → Spacing
+spacing_of joint = cond joint Joint Alone
+
+abbrev pub head : List ℕ → ℕ
+head [] = 0
+head (c ∷ cs) = c
+
+-- the text of a doc: what follows its three opening characters, without the closing */ of a block
+abbrev pub doc_text : DocKind → List ℕ → List ℕ
+doc_text doc.OuterLine cs = drop 3 cs
+doc_text doc.InnerLine cs = drop 3 cs
+doc_text doc.OuterBlock cs = take (length cs - 5) (drop 3 cs)
+doc_text doc.InnerBlock cs = take (length cs - 5) (drop 3 cs)
+
+-- # and for an inner doc !
+abbrev pub doc_marks : DocKind → List Token
+doc_marks doc.OuterLine = Sign 35 Alone ∷ []
+doc_marks doc.InnerLine = Sign 35 Alone ∷ Sign 33 Alone ∷ []
+doc_marks doc.OuterBlock = Sign 35 Alone ∷ []
+doc_marks doc.InnerBlock = Sign 35 Alone ∷ Sign 33 Alone ∷ []
+
+-- [doc = "text"]
+abbrev pub doc_group : List ℕ → List Token
+doc_group text = Opens delimiter.Bracket ∷ Word (codes "doc") ∷ Sign 61 Alone ∷ Quoted (string_text text) ∷ Closes delimiter.Bracket ∷ []
+
+-- the tokens of a piece of a class, before what follows it. A gap and the front mark have none, a doc
+-- is the attribute that it stands for, and any other piece is one token
+abbrev pub piece_tokens : PieceKind → List ℕ → List ℕ → List Token
+piece_tokens piece.FrontMark cs rest = []
+piece_tokens piece.White cs rest = []
+piece_tokens piece.Comment cs rest = []
+piece_tokens (piece.Doc kind) cs rest = doc_marks kind ++ doc_group (doc_text kind cs)
+piece_tokens (piece.Open d) cs rest = Opens (delimiter_of d) ∷ []
+piece_tokens (piece.Close d) cs rest = Closes (delimiter_of d) ∷ []
+piece_tokens piece.Mark cs rest = Sign (head cs) (spacing_of (is_joint (cs ++ rest))) ∷ []
+piece_tokens piece.Ident cs rest = Word cs ∷ []
+piece_tokens (piece.Literal kind) cs rest = Quoted cs ∷ []
+
+-- where a token itself stands: in a stream each of a group's two tokens carries the group's whole span,
+-- of which the opening one is the first character and the closing one the last
+abbrev pub edge : Token → Span → Span
+edge (Opens d) span = first_of span
+edge (Closes d) span = last_of span
+edge (Word cs) span = span
+edge (Quoted cs) span = span
+edge (Sign c spacing) span = span
+
+abbrev pub edged : Spanned → Spanned
+edged s = spanned s.token (edge s.token s.span)
+
+-- tokens that all come from what stands there
+abbrev pub edged_at : Span → List Token → List Spanned
+edged_at span ts = map (λ t. edged (spanned t span)) ts
+
+-- the span of so many characters at a position
+abbrev pub span_at : ℕ → ℕ → Span
+span_at position count = span_from position (position + count)
+
+-- the tokens of pieces that stand at a position and before a rest
+abbrev pub tokens_of : ℕ → List Piece → List ℕ → List Spanned
+tokens_of position [] rest = []
+tokens_of position (p ∷ ps) rest =
+    edged_at (span_at position (length p.chars)) (piece_tokens p.kind p.chars (onto ps rest))
+    ++ tokens_of (position + length p.chars) ps rest
