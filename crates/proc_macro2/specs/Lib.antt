@@ -12,3 +12,4 @@ pub mod Spacing
 pub mod Stands
 pub mod Pieces
 pub mod Forest
+pub mod Built

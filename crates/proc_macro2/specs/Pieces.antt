@@ -72,9 +72,12 @@ edge (Sign c spacing) span = span
 abbrev pub edged : Spanned → Spanned
 edged s = spanned s.token (edge s.token s.span)
 
--- tokens that all come from what stands there
+-- tokens of which each carries the span, and where these stand
+abbrev pub all_at : Span → List Token → List Spanned
+all_at span ts = map (λ t. spanned t span) ts
+
 abbrev pub edged_at : Span → List Token → List Spanned
-edged_at span ts = map (λ t. edged (spanned t span)) ts
+edged_at span ts = map edged (all_at span ts)
 
 -- the span of so many characters at a position
 abbrev pub span_at : ℕ → ℕ → Span

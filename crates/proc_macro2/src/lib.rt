@@ -16,6 +16,7 @@
 //! - `laws`: laws of streams.
 #![tactic(auto)]
 
+mod builder;
 pub mod copies;
 pub mod delimiter;
 pub mod fault;

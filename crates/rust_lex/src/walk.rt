@@ -10,9 +10,9 @@ ghost use Rattle.std.specs.Prelude.{◌∷◌, ◌≡◌, ◌<◌, length};
 
 use unicode_ident::{is_xid_continue, is_xid_start};
 
-// The character at a place, and the place behind it.
+/// The character at a place of a text, and the place behind it, both in bytes from 0.
 #[inline(always)]
-pub(crate) fn char_at(text: &str, at: usize) -> (char, usize)
+pub fn char_at(text: &str, at: usize) -> (char, usize)
     requires place { IsPlace text.now at }
     requires more { at < length text.now }
     ensures rest { rest_at text.now at ≡ result.0 ∷ rest_at text.now result.1 }

@@ -5,11 +5,13 @@
 //!
 //! - `span`: a pair of positions, and what a map says of it: line, column, bytes, text.
 //! - `source_map`: the texts of a map.
+//! - `ahead`: the span that a text will have.
 //! - `file` (private): a text with its tables.
 //! - `tables` (private, but for `characters`): the tables of a text.
 //! - `walk` (private): one character on.
 #![tactic(auto)]
 
+pub mod ahead;
 mod file;
 pub mod source_map;
 pub mod span;
