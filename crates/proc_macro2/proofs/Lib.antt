@@ -7,3 +7,9 @@ pub mod Starts
 pub mod NextTree
 pub mod GroupLemmas
 pub mod OneList
+pub mod Docs
+pub mod Puts
+pub mod Paired
+pub mod Counts
+pub mod Covering
+pub mod Building

@@ -17,10 +17,10 @@ use Rattle.proc_macro2.specs.declared.fault.LexError.{LexError}
 use Rattle.proc_macro2.specs.declared.fault.LexFault.{LexFault}
 use Rattle.proc_macro2.specs.declared.fault.LexFault.TheVariants.{Lex, MapFull, Memory}
 
--- the closing token of each group carries the span of its opening one, groups with these spans being
--- open, the innermost first
+-- the closing token of each group carries the span of its opening one, where groups with these spans
+-- are open, the innermost first; and none is open at the end
 abbrev pub ArePaired : List Span → List Spanned → Type 0
-ArePaired spans [] = Unit {0}
+ArePaired spans [] = spans ≡ []
 ArePaired spans (s ∷ ss) = elim s.token [
     Opens d ↦ ArePaired (s.span ∷ spans) ss
   | Closes d ↦ elim spans [ [] ↦ ⊥ | x ∷ xs ↦ (x ≡ s.span) × ArePaired xs ss ]

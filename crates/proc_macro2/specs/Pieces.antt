@@ -1,6 +1,6 @@
 -- The tokens of pieces, and where they stand. A text's characters stand at positions one behind the
 -- other: a piece at a position, of so many characters, spans these.
-use Rattle.std.specs.Prelude.{ℕ, ◌+◌, ◌-◌, Bool, cond, List, [], ◌∷◌, ◌++◌, length, take, drop, map, codes}
+use Rattle.std.specs.Prelude.{◌≡◌, ℕ, ◌+◌, ◌-◌, Bool, true, false, cond, List, [], ◌∷◌, ◌++◌, length, take, drop, map, codes}
 use Rattle.rust_map.specs.Spans.{span_from, first_of, last_of}
 use Rattle.rust_map.specs.declared.span.Span.{Span}
 use Rattle.rust_leaf.specs.Escaped.{string_text}
@@ -29,19 +29,31 @@ abbrev pub head : List ℕ → ℕ
 head [] = 0
 head (c ∷ cs) = c
 
+-- /** /*!
+abbrev pub is_block : DocKind → Bool
+is_block doc.OuterLine = false
+is_block doc.InnerLine = false
+is_block doc.OuterBlock = true
+is_block doc.InnerBlock = true
+
+-- characters that end with */
+abbrev pub IsClosedDoc : List ℕ → Type 0
+IsClosedDoc cs = (front : List ℕ) × (cs ≡ front ++ 42 ∷ 47 ∷ [])
+
 -- the text of a doc: what follows its three opening characters, without the closing */ of a block
 abbrev pub doc_text : DocKind → List ℕ → List ℕ
-doc_text doc.OuterLine cs = drop 3 cs
-doc_text doc.InnerLine cs = drop 3 cs
-doc_text doc.OuterBlock cs = take (length cs - 5) (drop 3 cs)
-doc_text doc.InnerBlock cs = take (length cs - 5) (drop 3 cs)
+doc_text kind cs = cond (is_block kind) (take (length cs - 5) (drop 3 cs)) (drop 3 cs)
+
+-- //! /*!
+abbrev pub is_inner : DocKind → Bool
+is_inner doc.OuterLine = false
+is_inner doc.InnerLine = true
+is_inner doc.OuterBlock = false
+is_inner doc.InnerBlock = true
 
 -- # and for an inner doc !
 abbrev pub doc_marks : DocKind → List Token
-doc_marks doc.OuterLine = Sign 35 Alone ∷ []
-doc_marks doc.InnerLine = Sign 35 Alone ∷ Sign 33 Alone ∷ []
-doc_marks doc.OuterBlock = Sign 35 Alone ∷ []
-doc_marks doc.InnerBlock = Sign 35 Alone ∷ Sign 33 Alone ∷ []
+doc_marks kind = cond (is_inner kind) (Sign 35 Alone ∷ Sign 33 Alone ∷ []) (Sign 35 Alone ∷ [])
 
 -- [doc = "text"]
 abbrev pub doc_group : List ℕ → List Token

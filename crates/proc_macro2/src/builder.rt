@@ -11,6 +11,15 @@ use rust_map::span::Span;
 use std::alloc::{AllocError, Global};
 use std::mem;
 
+/// A stretch of a text: the span of the text, and the numbers of its characters between which the
+/// stretch lies.
+#[derive(Clone, Copy)]
+pub(crate) struct Stretch {
+    pub(crate) whole: Span,
+    pub(crate) from: u32,
+    pub(crate) to: u32,
+}
+
 /// A group that is open: its delimiter, the number of characters before its opening mark, and the
 /// trees before it.
 #[derive(Drop)]
@@ -75,17 +84,11 @@ impl Builder {
         Ok(())
     }
 
-    /// Closes the innermost group by a mark that ends behind so many characters of a text, whose
-    /// span is given. False: the mark closes nothing.
-    pub(crate) fn close(
-        &mut self,
-        delimiter: Delimiter,
-        whole: Span,
-        end: u32,
-    ) -> Result<bool, AllocError>
-        requires before { All (λ f. f.count ≤ end) self.old.frames.items }
-        requires within { whole.start + end ≤ whole.end }
-        ensures { IfOk result (λ ok. IsClosing ok self.old self.new delimiter whole.start end) }
+    /// Closes the innermost group by a mark that stands there. False: the mark closes nothing.
+    pub(crate) fn close(&mut self, delimiter: Delimiter, mark: Stretch) -> Result<bool, AllocError>
+        requires before { All (λ f. f.count ≤ mark.to) self.old.frames.items }
+        requires within { mark.whole.start + mark.to ≤ mark.whole.end }
+        ensures { IfOk result (λ ok. IsClosing ok self.old self.new delimiter mark.whole mark.to) }
     {
         let Some(frame) = self.frames.pop() else {
             return Ok(false);
@@ -102,7 +105,7 @@ impl Builder {
         let group = Group {
             delimiter,
             stream,
-            span: whole.part(count, end),
+            span: mark.whole.part(count, mark.to),
         };
         self.stream.push(TokenTree::Group(group))?;
         Ok(true)

@@ -19,12 +19,15 @@
 mod builder;
 pub mod copies;
 pub mod delimiter;
+mod doc;
 pub mod fault;
 pub mod group;
 pub mod into_iter;
 pub mod laws;
 pub mod parse;
+mod place;
 pub mod print;
 pub mod spacing;
+mod put;
 pub mod stream;
 pub mod tree;

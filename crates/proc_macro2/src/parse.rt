@@ -1,16 +1,84 @@
 //! Token streams of texts.
 
 ghost use Rattle.proc_macro2.specs.Forest.{IsFault, IsForest};
-ghost use Rattle.proc_macro2.specs.declared.fault.LexFault.TheVariants.{MapFull};
+ghost use Rattle.proc_macro2.specs.declared.fault.LexFault.TheVariants.{Lex, MapFull};
+ghost use Rattle.rust_lex.specs.Piece as piece;
+ghost use Rattle.rust_lex.specs.Places.{IsPlace, rest_at};
+ghost use Rattle.rust_lex.specs.declared.piece.PieceKind.TheVariants.{Mark};
 ghost use Rattle.rust_map.specs.Sources.{next_position, with_text};
-ghost use Rattle.std.specs.Prelude.{◌≡◌, ◌+◌, ◌^◌, ◌≤◌, ◌↔◌, Err, IfErr, IfOk, OnErr, OnOk, length};
+ghost use Rattle.rust_map.specs.Spans.{span_part};
+ghost use Rattle.rust_token.specs.Places.{place_of};
+ghost use Rattle.std.specs.Prelude.{◌≡◌, ◌≢◌, ◌+◌, ◌^◌, ◌≤◌, ◌↔◌, Err, IfErr, IfOk, OnErr, OnOk, length};
 ghost use Rattle.std.specs.Str.{chars};
 
-use crate::fault::LexFault;
+use crate::builder::{Builder, Stretch};
+use crate::fault::{LexError, LexFault};
+use crate::place::place_behind;
+use crate::put::put;
 use crate::tree::TokenStream;
+use rust_lex::piece::PieceKind;
+use rust_lex::scan::{is_joint, next_piece};
 use rust_map::characters;
 use rust_map::source_map::SourceMap;
+use rust_map::span::Span;
 use std::alloc::Global;
+
+// The fault of a text behind so many of its characters. The span of the text is given.
+fn fault_behind(text: &str, whole: Span, count: u32) -> LexFault
+    requires there { count ≤ length (chars text.now) }
+    requires whole { whole.start + length (chars text.now) ≡ whole.end }
+    ensures { result ≡ Lex (record { span = span_part whole count count; place = place_of (chars text.now) count }) }
+{
+    LexFault::Lex(LexError {
+        span: whole.part(count, count),
+        place: place_behind(text, count),
+    })
+}
+
+// Whether the piece at a place is joint, if it is a mark.
+fn joint_at(text: &str, at: usize, kind: PieceKind) -> bool
+    requires { IsPlace text.now at }
+    ensures { kind ≡ Mark → result ≡ piece.is_joint (rest_at text.now at) }
+{
+    match kind {
+        PieceKind::Mark => is_joint(text, at),
+        _ => false,
+    }
+}
+
+// The trees of a text, whose span is given.
+fn lex(alloc: Global, text: &str, whole: Span) -> Result<TokenStream, LexFault>
+    requires { whole.start + length (chars text.now) ≡ whole.end }
+    ensures parsed { IfOk result (λ stream. IsForest whole.start (chars text.now) stream) }
+    ensures fault { IfErr result (IsFault whole.start (chars text.now)) }
+    ensures room { result ≢ Err MapFull }
+{
+    let mut builder = Builder::new(alloc);
+    let mut at = 0usize;
+    let mut count = 0u32;
+    while at < text.len() {
+        let Some((kind, end)) = next_piece(text, at) else {
+            return Err(fault_behind(text, whole, count));
+        };
+        let piece = &text[at..end];
+        let there = Stretch {
+            whole,
+            from: count,
+            to: count + characters(piece) as u32,
+        };
+        let joint = joint_at(text, at, kind);
+        if !put(&mut builder, alloc, kind, piece, joint, there)? {
+            return Err(fault_behind(text, whole, count));
+        }
+        at = end;
+        count = there.to;
+    }
+    let Builder { mut frames, stream } = builder;
+    match frames.pop() {
+        None => Ok(stream),
+        Some(frame) => Err(fault_behind(text, whole, frame.count)),
+    }
+}
 
 impl TokenStream {
     /// The tokens of a text as trees, and the text itself behind the others of the map.
@@ -32,9 +100,11 @@ impl TokenStream {
         ensures map_ok { OnOk result (map.new ≡ with_text map.old (chars src.now)) }
         ensures map_err { OnErr result (map.new ≡ map.old) }
     {
-        let Ok(_) = map.room(characters(src)) else {
+        let Ok(whole) = map.span_ahead(characters(src)) else {
             return Err(LexFault::MapFull);
         };
-        Err(LexFault::Memory)
+        let stream = lex(alloc, src, whole)?;
+        map.insert(src)?;
+        Ok(stream)
     }
 }
