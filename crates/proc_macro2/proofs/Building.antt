@@ -1,5 +1,5 @@
 -- What a piece adds to a builder.
-use Rattle.std.proofs.Common.{◌≡◌, ℕ, ◌+◌, ◌-◌, ◌<◌, ◌≤◌, arith, List, [], ◌∷◌, ◌++◌, refl, sym, ap, ap₂, ◌∙◌, subst, length, map, append_assoc, add_assoc}
+use Rattle.std.proofs.Common.{◌≡◌, ℕ, zero, suc, ◌+◌, ◌-◌, ◌<◌, ◌≤◌, arith, List, [], ◌∷◌, ◌++◌, refl, sym, ap, ap₂, ◌∙◌, subst, length, map, append_assoc, add_assoc}
 use Rattle.std.specs.Prelude.{Bool, true, false, cond, nat_lt, Some, None, reverse, Option}
 use Rattle.std.specs.List.{flat_map, All}
 use Rattle.std.proofs.lemmas.List.{append-nil, map-append, flat_map_more, reverse-append}
@@ -13,6 +13,7 @@ use Rattle.rust_lex.specs.declared.piece.DocKind.{DocKind}
 use Rattle.rust_lex.specs.declared.piece.DocKind.TheVariants as doc
 use Rattle.rust_lex.specs.declared.piece.PieceKind.{PieceKind}
 use Rattle.rust_lex.specs.declared.piece.PieceKind.TheVariants as piece
+use Rattle.proc_macro2.specs.declared.delimiter.Delimiter.TheVariants as delimiter
 use Rattle.proc_macro2.specs.Token.{Delimiter, Token, Opens, Closes, Word, Quoted, Sign, Spanned}
 use Rattle.proc_macro2.specs.Groups.{same_delimiter, IsMatched}
 use Rattle.proc_macro2.specs.Flat.{spanned}
@@ -22,7 +23,7 @@ use Rattle.proc_macro2.specs.Built.{opening_of, openings_of, frame_tokens, built
 use Rattle.proc_macro2.specs.declared.builder.Frame.{Frame}
 use Rattle.proc_macro2.specs.declared.builder.Builder.{Builder}
 use Rattle.proc_macro2.specs.declared.builder.Stretch.{Stretch}
-use Rattle.proc_macro2.proofs.GroupLemmas.{matched_append, matched_group, same_self}
+use Rattle.proc_macro2.proofs.GroupLemmas.{matched_append, matched_group}
 use Rattle.proc_macro2.proofs.Paired.{paired_append, paired_group}
 
 -- a stream of whole trees
@@ -79,7 +80,7 @@ grows_added old new s k cs rest ts a t o w e f h = record {
   whole = subst IsWhole (sym a.stream_is) (whole_append old.stream (all_at (stretch_span s) ts) h w);
 }
 
-openings_push : (fs : List Frame) (f : Frame) → openings_of (fs ++ f ∷ []) ≡ opening_of f ∷ openings_of fs
+pub openings_push : (fs : List Frame) (f : Frame) → openings_of (fs ++ f ∷ []) ≡ opening_of f ∷ openings_of fs
 openings_push fs f = ap (map opening_of) (reverse-append fs (f ∷ []))
 
 built_opened : (base : ℕ) (fs : List Frame) (f : Frame) → built base (fs ++ f ∷ []) [] ≡ built base fs f.before ++ edged (spanned (Opens f.delimiter) (span_at (base + f.count) 1)) ∷ []
@@ -107,3 +108,90 @@ first_is a b h = rw (lt-ltb a b h) refl
 
 last_is : (a b : ℕ) → a < b → last_of (span_from a b) ≡ span_from (b - 1) b
 last_is a b h = rw (lt-ltb a b h) refl
+
+same_self : (d : Delimiter) → same_delimiter d d ≡ true
+same_self delimiter.Parenthesis = refl
+same_self delimiter.Brace = refl
+same_self delimiter.Bracket = refl
+same_self delimiter.None = refl
+
+-- a group's two tokens, where they stand
+edges : (d c : Delimiter) (base n from to count : ℕ) → n < from → to ≡ from + count → count ≡ 1 → c ≡ d →
+    (edged (spanned (Opens d) (span_from (base + n) (base + to))) ≡ edged (spanned (Opens c) (span_at (base + n) 1))) × (edged (spanned (Closes d) (span_from (base + n) (base + to))) ≡ edged (spanned (Closes d) (span_at (base + from) count)))
+edges d c base n from to count h e o s =
+    let first = first_is (base + n) (base + to) (omega arith) in
+    let one = first_is (base + n) (base + n + 1) (omega arith) in
+    let last = last_is (base + n) (base + to) (omega arith) in
+    let end = last_is (base + from) (base + from + count) (omega arith) in
+    let same : base + to ≡ base + from + count = omega arith in
+    (ap₂ (λ x y. spanned (Opens x) y) (sym s) (first ∙ sym one), ap (spanned (Closes d)) (last ∙ ap (λ m. span_from (m - 1) m) same ∙ sym end))
+
+regrouped : (a b s : List Spanned) (x y : Spanned) → a ++ (b ++ (x ∷ (s ++ y ∷ []))) ≡ ((a ++ (b ++ x ∷ [])) ++ s) ++ y ∷ []
+regrouped a b s x y = simp append_assoc
+
+grows_closed : (old new : Builder) (s : Stretch) (d : LexDelimiter) (cs rest : List ℕ) → IsClosed old new (delimiter_of d) s.whole s.to → cs ≡ closing d ∷ [] →
+    s.to ≡ s.from + length cs → All (IsFrameIn s.from) old.frames.items → IsWhole old.stream → Grows s.whole.start s.from (piece.Close d) cs rest old new
+grows_closed old new s d cs rest a e t f h =
+    let base = s.whole.start in
+    let frame = a.frame in
+    let fs = new.frames.items in
+    let span = span_part s.whole frame.count s.to in
+    let D = delimiter_of d in
+    let popped = All-pop (IsFrameIn s.from) old.frames.items fs (Some frame) a.frames_were f in
+    let inside : IsFrameIn s.from frame = popped.1 in
+    let both = edges D frame.delimiter base frame.count s.from s.to (length cs) inside.small t (ap length e) a.same in
+    let spread : map edged new.stream ≡ map edged frame.before ++ (edged (spanned (Opens D) span) ∷ (map edged old.stream ++ edged (spanned (Closes D) span) ∷ [])) =
+        ap (map edged) a.stream_is ∙ map-append edged frame.before (spanned (Opens D) span ∷ old.stream ++ spanned (Closes D) span ∷ [])
+        ∙ ap (λ x. map edged frame.before ++ (edged (spanned (Opens D) span) ∷ x)) (map-append edged old.stream (spanned (Closes D) span ∷ [])) in
+    let moved : map edged frame.before ++ (edged (spanned (Opens D) span) ∷ (map edged old.stream ++ edged (spanned (Closes D) span) ∷ []))
+        ≡ map edged frame.before ++ (edged (spanned (Opens frame.delimiter) (span_at (base + frame.count) 1)) ∷ (map edged old.stream ++ edged (spanned (Closes D) (span_at (base + s.from) (length cs))) ∷ [])) =
+        ap₂ (λ x y. map edged frame.before ++ (x ∷ (map edged old.stream ++ y ∷ []))) both.0 both.1 in
+    let before : flat_map (frame_tokens base) fs ++ frame_tokens base frame ≡ flat_map (frame_tokens base) old.frames.items =
+        flat_map_more (frame_tokens base) [] fs frame ∙ ap (flat_map (frame_tokens base)) (sym a.frames_were) in
+    record {
+      tokens = ap (λ x. flat_map (frame_tokens base) fs ++ x) (spread ∙ moved)
+          ∙ regrouped (flat_map (frame_tokens base) fs) (map edged frame.before) (map edged old.stream) _ _
+          ∙ ap (λ x. (x ++ map edged old.stream) ++ edged (spanned (Closes D) (span_at (base + s.from) (length cs))) ∷ []) before;
+      opened = ap (λ x. closed x D) (ap openings_of a.frames_were ∙ openings_push fs frame) ∙ ap (λ b. cond b (Some (openings_of fs)) None) (ap (λ x. same_delimiter x D) a.same ∙ same_self D);
+      frames = frames_on s.from (s.from + length cs) fs (omega arith) popped.0;
+      whole = subst IsWhole (sym a.stream_is) (whole_append frame.before (spanned (Opens D) span ∷ old.stream ++ spanned (Closes D) span ∷ []) inside.whole (whole_group D span old.stream h));
+    }
+
+fits_open : (at : ℕ) (d : LexDelimiter) (cs rest : List ℕ) → FitsAt at (piece.Open d) cs rest → cs ≡ opening d ∷ []
+fits_open zero d cs rest h = h
+fits_open (suc n) d cs rest h = h
+
+pub fits_close : (at : ℕ) (d : LexDelimiter) (cs rest : List ℕ) → FitsAt at (piece.Close d) cs rest → cs ≡ closing d ∷ []
+fits_close zero d cs rest h = h
+fits_close (suc n) d cs rest h = h
+
+pub put_grows : (at : ℕ) (k : PieceKind) (old new : Builder) (s : Stretch) (cs rest : List ℕ) (joint : Bool) → IsPut k true old new s cs joint → FitsAt at k cs rest → (k ≡ piece.Mark → joint ≡ is_joint (cs ++ rest)) →
+    s.to ≡ s.from + length cs → All (IsFrameIn s.from) old.frames.items → IsWhole old.stream → Grows s.whole.start s.from k cs rest old new
+put_grows at piece.FrontMark old new s cs rest joint p q j e f h = grows_added old new s piece.FrontMark cs rest [] p.1 refl refl no_tokens e f h
+put_grows at piece.White old new s cs rest joint p q j e f h = grows_added old new s piece.White cs rest [] p.1 refl refl no_tokens e f h
+put_grows at piece.Comment old new s cs rest joint p q j e f h = grows_added old new s piece.Comment cs rest [] p.1 refl refl no_tokens e f h
+put_grows at (piece.Doc kind) old new s cs rest joint p q j e f h =
+    grows_added old new s (piece.Doc kind) cs rest (doc_marks kind ++ doc_group (doc_text kind cs)) p.1 refl refl (doc_whole kind (doc_text kind cs) (stretch_span s)) e f h
+put_grows at (piece.Open d) old new s cs rest joint p q j e f h = grows_opened old new s d cs rest p.1 (fits_open at d cs rest q) f h
+put_grows at (piece.Close d) old new s cs rest joint p q j e f h = grows_closed old new s d cs rest p (fits_close at d cs rest q) e f h
+put_grows at piece.Mark old new s cs rest joint p q j e f h =
+    grows_added old new s piece.Mark cs rest (Sign (head cs) (spacing_of joint) ∷ []) p.1 (ap (λ b. Sign (head cs) (spacing_of b) ∷ []) (j refl)) refl (record { matched = refl; paired = refl }) e f h
+put_grows at piece.Ident old new s cs rest joint p q j e f h = grows_added old new s piece.Ident cs rest (Word cs ∷ []) p.1 refl refl (record { matched = refl; paired = refl }) e f h
+put_grows at (piece.Literal kind) old new s cs rest joint p q j e f h = grows_added old new s (piece.Literal kind) cs rest (Quoted cs ∷ []) p.1 refl refl (record { matched = refl; paired = refl }) e f h
+
+-- what isn't put is a closing mark that closes nothing
+pub record Refuses (k : PieceKind) (old : Builder) : Type 0 where
+  pub delimiter : LexDelimiter
+  pub is : k ≡ piece.Close delimiter
+  pub wrong : closed (openings_of old.frames.items) (delimiter_of delimiter) ≡ None
+
+pub put_refuses : (k : PieceKind) (old new : Builder) (s : Stretch) (cs : List ℕ) (joint : Bool) → IsPut k false old new s cs joint → Refuses k old
+put_refuses piece.FrontMark old new s cs joint p = let e = p.0 in cc
+put_refuses piece.White old new s cs joint p = let e = p.0 in cc
+put_refuses piece.Comment old new s cs joint p = let e = p.0 in cc
+put_refuses (piece.Doc kind) old new s cs joint p = let e = p.0 in cc
+put_refuses (piece.Open d) old new s cs joint p = let e = p.0 in cc
+put_refuses (piece.Close d) old new s cs joint p = record { delimiter = d; is = refl; wrong = p }
+put_refuses piece.Mark old new s cs joint p = let e = p.0 in cc
+put_refuses piece.Ident old new s cs joint p = let e = p.0 in cc
+put_refuses (piece.Literal kind) old new s cs joint p = let e = p.0 in cc

@@ -13,3 +13,4 @@ pub mod Paired
 pub mod Counts
 pub mod Covering
 pub mod Building
+pub mod Reading
