@@ -8,7 +8,7 @@ ghost use Rattle.rust_lex.specs.declared.piece.PieceKind.TheVariants.{Mark};
 ghost use Rattle.rust_map.specs.Sources.{next_position, with_text};
 ghost use Rattle.rust_map.specs.Spans.{span_part};
 ghost use Rattle.rust_token.specs.Places.{place_of};
-ghost use Rattle.std.specs.Prelude.{◌≡◌, ◌≢◌, ◌+◌, ◌^◌, ◌≤◌, ◌↔◌, Err, IfErr, IfOk, OnErr, OnOk, length};
+ghost use Rattle.std.specs.Prelude.{◌≡◌, ◌≢◌, ◌+◌, ◌^◌, ◌<◌, ◌≤◌, ◌↔◌, Err, IfErr, IfOk, OnErr, OnOk, length};
 ghost use Rattle.std.specs.Str.{chars};
 
 use crate::builder::{Builder, Stretch};
@@ -48,7 +48,8 @@ fn joint_at(text: &str, at: usize, kind: PieceKind) -> bool
 
 // The trees of a text, whose span is given.
 fn lex(alloc: Global, text: &str, whole: Span) -> Result<TokenStream, LexFault>
-    requires { whole.start + length (chars text.now) ≡ whole.end }
+    requires whole { whole.start + length (chars text.now) ≡ whole.end }
+    requires short { length (chars text.now) < 2 ^ 32 }
     ensures parsed { IfOk result (λ stream. IsForest whole.start (chars text.now) stream) }
     ensures fault { IfErr result (IsFault whole.start (chars text.now)) }
     ensures room { result ≢ Err MapFull }
