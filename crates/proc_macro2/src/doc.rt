@@ -5,6 +5,7 @@ ghost use Rattle.proc_macro2.specs.Pieces as pieces;
 ghost use Rattle.proc_macro2.specs.Pieces.{IsClosedDoc, all_at};
 ghost use Rattle.proc_macro2.specs.Token.{Alone, Bracket, Quoted, Sign, Word};
 ghost use Rattle.rust_leaf.specs.Escaped.{string_text};
+ghost use Rattle.rust_leaf.specs.Leaf.{punct_char, punct_span, punct_spacing};
 ghost use Rattle.rust_leaf.specs.Mark.{is_mark};
 ghost use Rattle.std.specs.Prelude.{[], ◌∷◌, ◌++◌, ◌-◌, ◌≡◌, ◌≤◌, IfOk, IsTrue, OnOk, codes, drop, length, take, true};
 ghost use Rattle.std.specs.Str.{chars};
@@ -23,7 +24,9 @@ use std::alloc::{AllocError, Global};
 // A mark that stands alone.
 fn alone(mark: char, span: Span) -> Punct
     requires { IsTrue (is_mark mark) }
-    ensures { result ≡ record { mark = mark; spacing = Alone; span = span } }
+    ensures char_is { punct_char result ≡ mark }
+    ensures spacing_is { punct_spacing result ≡ Alone }
+    ensures span_is { punct_span result ≡ span }
 {
     let mut punct = Punct::new(mark, Spacing::Alone);
     punct.set_span(span);

@@ -31,3 +31,14 @@ pub mod spacing;
 mod put;
 pub mod stream;
 pub mod tree;
+
+pub use delimiter::Delimiter;
+pub use fault::{LexError, LexFault};
+pub use group::DelimSpan;
+pub use into_iter::IntoIter;
+pub use rust_leaf::ident::{Ident, IdentFault};
+pub use rust_leaf::literal::Literal;
+pub use rust_leaf::punct::{Punct, Spacing};
+pub use rust_map::{LineColumn, MapFull, SourceMap, Span};
+pub use tree::{Group, TokenStream, TokenTree};
+pub use try_clone::TryClone;

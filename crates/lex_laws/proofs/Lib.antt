@@ -1,0 +1,11 @@
+pub mod Quieter
+pub mod Numbers
+pub mod Leaves
+pub mod Marks
+pub mod Lifetimes
+pub mod Plain
+pub mod Printing
+pub mod Reading
+pub mod Docs
+pub mod ReadLeaves
+pub mod Forests

@@ -1,0 +1,209 @@
+-- What is read of a text is well spaced.
+use Rattle.std.proofs.Common.{◌≡◌, ℕ, List, [], ◌∷◌, ◌++◌, append_assoc, refl, sym, ap, ◌∙◌, subst, ⊎_elim}
+use Rattle.std.specs.Prelude.{Bool, true, false, not, ◌⊎◌, ◌&&◌, ◌==◌, is_some, None, IsTrue}
+use Rattle.std.proofs.lemmas.Bool.{and_parts, cases_Bool, eqb-true, or_cases, not-true}
+use Rattle.rust_lex.specs.Chars.{is_mark, is_digit, begins, is_slash_or_star}
+use Rattle.rust_lex.specs.Ends.{past_suffix}
+use Rattle.rust_lex.specs.declared.delimiter.Delimiter.{Delimiter as LexDelimiter}
+use Rattle.rust_lex.specs.declared.delimiter.Delimiter.TheVariants as lex
+use Rattle.rust_lex.specs.declared.opener.Alphabet.TheVariants.{Characters, Bytes, NoZero}
+use Rattle.rust_lex.specs.declared.opener.Opener.{Opener}
+use Rattle.rust_lex.specs.declared.opener.Opener.TheVariants.{Cooked, Raw, Byte as ByteOpener, Char as CharOpener}
+use Rattle.rust_lex.specs.declared.piece.DocKind.{DocKind}
+use Rattle.rust_lex.specs.declared.piece.DocKind.TheVariants as doc
+use Rattle.rust_lex.specs.declared.piece.LiteralKind.{LiteralKind}
+use Rattle.rust_lex.specs.declared.piece.LiteralKind.TheVariants.{Char}
+use Rattle.rust_lex.specs.declared.piece.PieceKind.{PieceKind}
+use Rattle.rust_lex.specs.declared.piece.PieceKind.TheVariants.{FrontMark, White, Comment, Doc, Open, Close, Mark, Ident, Literal}
+use Rattle.rust_lex.specs.Quoted.{opening_of, past_char}
+use Rattle.rust_lex.specs.Word.{begins_lifetime}
+use Rattle.rust_lex.specs.Piece.{Piece, Fits, FitsFront, IsLiteral, begins_mark, begins_char, is_joint}
+use Rattle.rust_lex.specs.Cover.{onto, AreFit, AreFitFront}
+use Rattle.rust_lex.specs.Scan.{Ends, scan, ticked}
+use Rattle.rust_lex.proofs.Complete.{complete, mark_scanned}
+use Rattle.rust_lex.proofs.Fronts.{front-tick}
+use Rattle.rust_lex.proofs.Scans.{tick_no_mark}
+use Rattle.rust_lex.proofs.Sound.{ticked_some}
+use Rattle.rust_lex.proofs.Taken.{option_cases}
+use Rattle.proc_macro2.specs.Token.{Token, Sign, Alone, Joint}
+use Rattle.proc_macro2.specs.Pieces.{piece_tokens, doc_text, doc_marks, doc_group, delimiter_of, spacing_of, head}
+use Rattle.proc_macro2.specs.Spacing.{is_character, is_visible, begin_comment, follows_quote, follows_mark, may_stand, IsWellSpaced}
+use Rattle.lex_laws.specs.Read.{IsReadAs}
+use Rattle.lex_laws.proofs.Lifetimes.{lifetime_kind, lifetime_literal}
+use Rattle.lex_laws.proofs.Marks.{joint_mark, joint_char, alone_before}
+use Rattle.lex_laws.proofs.Plain.{plain_of, plain_tokens}
+
+-- where a text begins with a mark, so does its first piece
+mark_kind : (k : PieceKind) (cs rest : List ℕ) → Fits k cs rest → begins_mark (cs ++ rest) ≡ true → k ≡ Mark
+mark_kind k cs rest f h = at_text (cs ++ rest) (complete k cs rest f) h
+  where
+    at_text : (text : List ℕ) → scan text ≡ Ends k rest → begins_mark text ≡ true → k ≡ Mark
+    at_text [] e h = cc
+    at_text (c ∷ ds) e h = let m = mark_scanned c ds h in cc
+
+-- and where it begins with a character literal
+scan_tick : (cs : List ℕ) → scan (39 ∷ cs) ≡ ticked cs
+scan_tick cs = rw front-tick refl
+
+char_scanned : (c : ℕ) (cs : List ℕ) → begins_char (c ∷ cs) ≡ true → (rest : List ℕ) × (scan (c ∷ cs) ≡ Ends (Literal Char) rest)
+char_scanned c cs h =
+    let (q, s) = and_parts (c == 39) (is_some (past_char Characters cs)) h in
+    ⊎_elim
+    (λ n. let k : is_some {T = List ℕ} None ≡ true = subst (λ o. is_some {T = List ℕ} o ≡ true) n s in cc)
+    (λ (r, e). (past_suffix r, ap (λ d. scan (d ∷ cs)) (eqb-true c 39 q) ∙ scan_tick cs ∙ ticked_some cs r e))
+    (option_cases (past_char Characters cs))
+
+char_kind : (k : PieceKind) (cs rest : List ℕ) → Fits k cs rest → begins_char (cs ++ rest) ≡ true → k ≡ Literal Char
+char_kind k cs rest f h = at_text (cs ++ rest) (complete k cs rest f) h
+  where
+    at_text : (text : List ℕ) → scan text ≡ Ends k rest → begins_char text ≡ true → k ≡ Literal Char
+    at_text [] e h = cc
+    at_text (c ∷ ds) e h = let (r, m) = char_scanned c ds h in cc
+
+opening_more : (o : Opener) (inside rest : List ℕ) → is_character ((opening_of o ++ inside) ++ rest) ≡ is_character (opening_of o ++ inside)
+opening_more (Cooked Characters) inside rest = refl
+opening_more (Cooked Bytes) inside rest = refl
+opening_more (Cooked NoZero) inside rest = refl
+opening_more (Raw Characters) inside rest = refl
+opening_more (Raw Bytes) inside rest = refl
+opening_more (Raw NoZero) inside rest = refl
+opening_more ByteOpener inside rest = refl
+opening_more CharOpener inside rest = refl
+
+digit_more : (cs rest : List ℕ) → begins is_digit cs ≡ true → is_character (cs ++ rest) ≡ is_character cs
+digit_more [] rest h = cc
+digit_more (c ∷ cs) rest h = refl
+
+literal_more : (kind : LiteralKind) (cs rest : List ℕ) → IsLiteral kind cs rest → is_character (cs ++ rest) ≡ is_character cs
+literal_more kind cs rest (body, suffix, e, b, s) =
+    let more : (t : List ℕ) → is_character (body ++ t) ≡ is_character body = λ t. ⊎_elim
+    (λ (o, inside, _, f, i). rw f (opening_more o inside t))
+    (λ n. digit_more body t n.0)
+    b in
+    ap is_character (ap (λ x. x ++ rest) e ∙ append_assoc body suffix rest) ∙ more (suffix ++ rest) ∙ sym (more suffix) ∙ ap is_character (sym e)
+
+char_begins : (text : List ℕ) → begins_char text ≡ true → is_character text ≡ true
+char_begins [] h = cc
+char_begins (c ∷ cs) h = let (q, _) = and_parts (c == 39) (is_some (past_char Characters cs)) h in q
+
+nothing_lives : begins_lifetime [] ≡ false
+unfolding begins_lifetime
+nothing_lives = refl
+
+-- what stands first among the tokens behind '
+quote_tokens : (ps : List Piece) → AreFit ps [] → begins_lifetime (onto ps []) ≡ true → follows_quote (plain_of ps []) ≡ true
+quote_tokens [] f h = let n = nothing_lives in cc
+quote_tokens (p ∷ ps) f h =
+    at_front p.kind p.chars f.0 h (lifetime_kind p.kind p.chars (onto ps []) f.0 h)
+  where
+    at_front : (k : PieceKind) (cs : List ℕ) → Fits k cs (onto ps []) → begins_lifetime (cs ++ onto ps []) ≡ true → (k ≡ Ident) ⊎ ((l : LiteralKind) × (k ≡ Literal l)) → follows_quote (piece_tokens k cs (onto ps []) ++ plain_of ps []) ≡ true
+    at_front Ident cs f h e = refl
+    at_front (Literal kind) cs f h e = lifetime_literal kind cs (onto ps []) f h
+    at_front k cs f h e = ⊎_elim (λ e. cc) (λ (l, e). cc) e
+
+begun_comment : (c d : ℕ) (rest : List ℕ) → (c == 39) ≡ false → begins_mark (c ∷ (d ∷ rest)) ≡ true → begin_comment c d ≡ false
+begun_comment c d rest q h =
+    ⊎_elim
+    (λ m. let (_, n) = and_parts (is_mark c) (not (c == 47 && begins is_slash_or_star (d ∷ rest))) m in not-true _ n)
+    (λ m. let (k, _) = and_parts (c == 39) (begins_lifetime (d ∷ rest)) m in cc)
+    (or_cases (is_mark c && not (c == 47 && begins is_slash_or_star (d ∷ rest))) (c == 39 && begins_lifetime (d ∷ rest)) h)
+
+-- and behind another joint mark
+mark_tokens : (c : ℕ) (ps : List Piece) → AreFit ps [] → (c == 39) ≡ false → begins_mark (c ∷ onto ps []) ≡ true → begins_mark (onto ps []) ≡ true → follows_mark c (plain_of ps []) ≡ true
+mark_tokens c [] f q m h = cc
+mark_tokens c (p ∷ ps) f q m h =
+    at_front p.kind p.chars f.0 m h (mark_kind p.kind p.chars (onto ps []) f.0 h)
+  where
+    at_front : (k : PieceKind) (cs : List ℕ) → Fits k cs (onto ps []) → begins_mark (c ∷ (cs ++ onto ps [])) ≡ true → begins_mark (cs ++ onto ps []) ≡ true → k ≡ Mark → follows_mark c (piece_tokens k cs (onto ps []) ++ plain_of ps []) ≡ true
+    at_front Mark cs (d, e, _) m h s =
+        let b : begins_mark (c ∷ (d ∷ onto ps [])) ≡ true = subst (λ x. begins_mark (c ∷ (x ++ onto ps [])) ≡ true) e m in
+        ap not (ap (λ x. begin_comment c (head x)) e ∙ begun_comment c d (onto ps []) q b)
+    at_front k cs f m h s = cc
+
+char_tokens : (c : ℕ) (ps : List Piece) → AreFit ps [] → begins_char (onto ps []) ≡ true → follows_mark c (plain_of ps []) ≡ true
+char_tokens c [] f h = cc
+char_tokens c (p ∷ ps) f h =
+    at_front p.kind p.chars f.0 h (char_kind p.kind p.chars (onto ps []) f.0 h)
+  where
+    at_front : (k : PieceKind) (cs : List ℕ) → Fits k cs (onto ps []) → begins_char (cs ++ onto ps []) ≡ true → k ≡ Literal Char → follows_mark c (piece_tokens k cs (onto ps []) ++ plain_of ps []) ≡ true
+    at_front (Literal kind) cs f h s = sym (literal_more kind cs (onto ps []) f) ∙ char_begins (cs ++ onto ps []) h
+    at_front k cs f h s = cc
+
+begun_quote : (rest : List ℕ) → begins_mark (39 ∷ rest) ≡ true → begins_lifetime rest ≡ true
+begun_quote rest h = let n = tick_no_mark 39 refl in ⊎_elim
+    (λ m. let (k, _) = and_parts (is_mark 39) (not (39 == 47 && begins is_slash_or_star rest)) m in cc)
+    (λ m. m)
+    (or_cases (is_mark 39 && not (39 == 47 && begins is_slash_or_star rest)) (39 == 39 && begins_lifetime rest) h)
+
+quote_stands : (ps : List Piece) → AreFit ps [] → begins_mark (39 ∷ onto ps []) ≡ true → IsTrue (may_stand (Sign 39 (spacing_of (is_joint (39 ∷ onto ps [])))) (plain_of ps []))
+quote_stands ps f m = quote_tokens ps f (begun_quote (onto ps []) m)
+
+as_spaced : (c : ℕ) (joint : Bool) (text : List ℕ) (ts : List Token) → is_joint (c ∷ text) ≡ joint → IsTrue (may_stand (Sign c (spacing_of joint)) ts) → IsTrue (may_stand (Sign c (spacing_of (is_joint (c ∷ text)))) ts)
+as_spaced c joint text ts e m = subst (λ b. IsTrue (may_stand (Sign c (spacing_of b)) ts)) (sym e) m
+
+joint_stands : (c : ℕ) (ts : List Token) → (c == 39) ≡ false → follows_mark c ts ≡ true → IsTrue (may_stand (Sign c Joint) ts)
+joint_stands c ts q f = rw q f
+
+alone_stands : (c : ℕ) (ts : List Token) → (c == 39) ≡ false → IsTrue (may_stand (Sign c Alone) ts)
+alone_stands c ts q = ap not q
+
+other_stands : (c : ℕ) (ps : List Piece) → AreFit ps [] → (c == 39) ≡ false → begins_mark (c ∷ onto ps []) ≡ true → IsTrue (may_stand (Sign c (spacing_of (is_joint (c ∷ onto ps [])))) (plain_of ps []))
+other_stands c ps f q m =
+    ⊎_elim
+    (λ h. as_spaced c true (onto ps []) (plain_of ps []) (joint_mark c (onto ps []) h) (joint_stands c (plain_of ps []) q (mark_tokens c ps f q m h)))
+    (λ h. ⊎_elim
+    (λ k. as_spaced c true (onto ps []) (plain_of ps []) (joint_char c (onto ps []) k) (joint_stands c (plain_of ps []) q (char_tokens c ps f k)))
+    (λ k. as_spaced c false (onto ps []) (plain_of ps []) (alone_before c (onto ps []) q h k) (alone_stands c (plain_of ps []) q))
+    (cases_Bool (begins_char (onto ps []))))
+    (cases_Bool (begins_mark (onto ps [])))
+
+sign_stands : (c : ℕ) (ps : List Piece) → AreFit ps [] → begins_mark (c ∷ onto ps []) ≡ true → IsTrue (may_stand (Sign c (spacing_of (is_joint (c ∷ onto ps [])))) (plain_of ps []))
+sign_stands c ps f m =
+    ⊎_elim
+    (λ q. let P : ℕ → Type 0 = λ d. begins_mark (d ∷ onto ps []) ≡ true → IsTrue (may_stand (Sign d (spacing_of (is_joint (d ∷ onto ps [])))) (plain_of ps [])) in subst P (sym (eqb-true c 39 q)) (quote_stands ps f) m)
+    (λ q. other_stands c ps f q m)
+    (cases_Bool (c == 39))
+
+visible : (d : LexDelimiter) → is_visible (delimiter_of d) ≡ true
+visible lex.Parenthesis = refl
+visible lex.Brace = refl
+visible lex.Bracket = refl
+
+doc_spaced : (kind : DocKind) (text : List ℕ) (ts : List Token) → IsWellSpaced ts → IsWellSpaced ((doc_marks kind ++ doc_group text) ++ ts)
+doc_spaced doc.OuterLine text ts w = (refl, (refl, (refl, (refl, (refl, (refl, w))))))
+doc_spaced doc.InnerLine text ts w = (refl, (refl, (refl, (refl, (refl, (refl, (refl, w)))))))
+doc_spaced doc.OuterBlock text ts w = (refl, (refl, (refl, (refl, (refl, (refl, w))))))
+doc_spaced doc.InnerBlock text ts w = (refl, (refl, (refl, (refl, (refl, (refl, (refl, w)))))))
+
+with_front : (ps : List Piece) → AreFit ps [] → IsWellSpaced (plain_of ps []) → (k : PieceKind) (cs : List ℕ) → Fits k cs (onto ps []) → IsWellSpaced (piece_tokens k cs (onto ps []) ++ plain_of ps [])
+with_front ps f w FrontMark cs h = w
+with_front ps f w White cs h = w
+with_front ps f w Comment cs h = w
+with_front ps f w (Doc kind) cs h = doc_spaced kind (doc_text kind cs) (plain_of ps []) w
+with_front ps f w (Open d) cs h = (visible d, w)
+with_front ps f w (Close d) cs h = (visible d, w)
+with_front ps f w Mark cs (c, e, m) = subst (λ x. IsWellSpaced (piece_tokens Mark x (onto ps []) ++ plain_of ps [])) (sym e) (sign_stands c ps f m, w)
+with_front ps f w Ident cs h = (refl, w)
+with_front ps f w (Literal kind) cs h = (refl, w)
+
+read_spaced : (ps : List Piece) → AreFit ps [] → IsWellSpaced (plain_of ps [])
+read_spaced [] f = tt
+read_spaced (p ∷ ps) f = with_front ps f.1 (read_spaced ps f.1) p.kind p.chars f.0
+
+front_spaced : (ps : List Piece) → AreFitFront ps [] → IsWellSpaced (plain_of ps [])
+front_spaced [] f = tt
+front_spaced (p ∷ ps) f = at_front p.kind p.chars f.0
+  where
+    at_front : (k : PieceKind) (cs : List ℕ) → FitsFront k cs (onto ps []) → IsWellSpaced (piece_tokens k cs (onto ps []) ++ plain_of ps [])
+    at_front FrontMark cs h = read_spaced ps f.1
+    at_front White cs h = with_front ps f.1 (read_spaced ps f.1) White cs h
+    at_front Comment cs h = with_front ps f.1 (read_spaced ps f.1) Comment cs h
+    at_front (Doc kind) cs h = with_front ps f.1 (read_spaced ps f.1) (Doc kind) cs h
+    at_front (Open d) cs h = with_front ps f.1 (read_spaced ps f.1) (Open d) cs h
+    at_front (Close d) cs h = with_front ps f.1 (read_spaced ps f.1) (Close d) cs h
+    at_front Mark cs h = with_front ps f.1 (read_spaced ps f.1) Mark cs h
+    at_front Ident cs h = with_front ps f.1 (read_spaced ps f.1) Ident cs h
+    at_front (Literal kind) cs h = with_front ps f.1 (read_spaced ps f.1) (Literal kind) cs h
+
+pub is_spaced : (text : List ℕ) (ts : List Token) → IsReadAs text ts → IsWellSpaced ts
+is_spaced text ts r = subst IsWellSpaced (sym (plain_tokens 0 r.pieces []) ∙ r.tokens_are) (front_spaced r.pieces r.cover.fit)
