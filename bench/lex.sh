@@ -19,7 +19,7 @@ rustc --edition 2018 -O --crate-type rlib --crate-name unicode_ident "$ident/src
 rustc --edition 2018 -O --crate-type rlib --crate-name proc_macro2 --cfg span_locations \
     --extern "unicode_ident=$work/libunicode_ident.rlib" "$peer/src/lib.rs" --out-dir "$work" 2> /dev/null
 rustc --edition 2021 -O --crate-name peer -L "$work" --extern "proc_macro2=$work/libproc_macro2.rlib" bench/peer.rs -o "$work/peer"
-library=$(dpkg -L rust-src | grep -m1 '/library$')
+library=$(dpkg -L rust-src | awk '/\/library$/ && !found { print; found = 1 }')
 find "$library" -name '*.rs' | LC_ALL=C sort | while read -r file; do sed '1s/^\xEF\xBB\xBF//' "$file"; echo; done > "$work/library.rs"
 (cd crates/lex_cli && rt run < /dev/null > /dev/null 2>&1)
 program=crates/lex_cli/out/lex_cli

@@ -9,7 +9,7 @@ if ! dpkg -s rust-src > /dev/null 2>&1; then
 fi
 (cd crates/lex_cli && rt run < /dev/null > /dev/null 2>&1)
 program=$PWD/crates/lex_cli/out/lex_cli
-library=$(dpkg -L rust-src | grep -m1 '/library$')
+library=$(dpkg -L rust-src | awk '/\/library$/ && !found { print; found = 1 }')
 good=0
 bad=0
 while read -r file; do
