@@ -14,3 +14,5 @@ pub mod Counts
 pub mod Covering
 pub mod Building
 pub mod Reading
+pub mod OneForest
+pub mod Halts

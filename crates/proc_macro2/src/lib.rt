@@ -11,6 +11,7 @@
 //! - `copies`: copies of streams and trees.
 //! - `parse`: streams of texts.
 //! - `fault`: why a text has none.
+//! - `forest_laws`: laws of the streams of texts.
 //! - `print`: the printed text.
 //! - `spacing`: the test for streams that are read back from their text.
 //! - `laws`: laws of streams.
@@ -21,6 +22,7 @@ pub mod copies;
 pub mod delimiter;
 mod doc;
 pub mod fault;
+pub mod forest_laws;
 pub mod group;
 pub mod into_iter;
 pub mod laws;
