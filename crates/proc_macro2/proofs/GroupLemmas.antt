@@ -21,7 +21,7 @@ some_same e = cc
 abbrev pub after : Option (List Delimiter) → List Spanned → Option (List Delimiter)
 after o ss = option_and_then (λ ds. groups_open ds ss) o
 
-open_append : (ds es : List Delimiter) (ss ts : List Spanned) → groups_open ds ss ≡ Some es → groups_open ds (ss ++ ts) ≡ groups_open es ts
+pub open_append : (ds es : List Delimiter) (ss ts : List Spanned) → groups_open ds ss ≡ Some es → groups_open ds (ss ++ ts) ≡ groups_open es ts
 open_append ds es [] ts e = ap (λ x. groups_open x ts) (some_same e)
 open_append ds es (s ∷ ss) ts e = past (λ fs. open_append fs es ss ts) (groups_behind ds s.token) e
   where

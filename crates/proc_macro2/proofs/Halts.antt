@@ -241,11 +241,11 @@ pieces_groups os at n (p ∷ ps) rest ds e = here (λ qs h. pieces_groups qs (at
         (o : Option (List Opening)) → open_behind os p.kind n ≡ o → option_map delimiters (option_and_then (λ qs. openings qs (n + length p.chars) ps) o) ≡ Some ds
     here more None q =
         let first = piece_groups os p.kind n p.chars (onto ps rest) (span_at at (length p.chars)) ∙ ap (option_map delimiters) q in
-        let wrong : None ≡ Some ds = sym (none_append (delimiters os) _ (tokens_of (at + length p.chars) ps rest) first) ∙ e in
+        let wrong : None ≡ Some ds = sym (none_append (delimiters os) (edged_at (span_at at (length p.chars)) (piece_tokens p.kind p.chars (onto ps rest))) (tokens_of (at + length p.chars) ps rest) first) ∙ e in
         cc
     here more (Some qs) q =
         let first = piece_groups os p.kind n p.chars (onto ps rest) (span_at at (length p.chars)) ∙ ap (option_map delimiters) q in
-        more qs (sym (open_append (delimiters os) (delimiters qs) _ (tokens_of (at + length p.chars) ps rest) first) ∙ e)
+        more qs (sym (open_append (delimiters os) (delimiters qs) (edged_at (span_at at (length p.chars)) (piece_tokens p.kind p.chars (onto ps rest))) (tokens_of (at + length p.chars) ps rest) first) ∙ e)
 
 none_open : (o : Option (List Opening)) → option_map delimiters o ≡ Some [] → o ≡ Some []
 none_open None e = cc
