@@ -1,13 +1,13 @@
 -- What a piece adds to a builder.
 use Rattle.std.proofs.Common.{◌≡◌, ℕ, zero, suc, ◌+◌, ◌-◌, ◌<◌, ◌≤◌, arith, List, [], ◌∷◌, ◌++◌, refl, sym, ap, ap₂, ◌∙◌, subst, length, map, append_assoc, add_assoc}
-use Rattle.std.specs.Prelude.{Bool, true, false, cond, nat_lt, Some, None, reverse, Option}
+use Rattle.std.specs.Prelude.{Bool, true, false, cond, Some, None}
 use Rattle.std.specs.List.{flat_map, All}
 use Rattle.std.proofs.lemmas.List.{append-nil, map-append, flat_map_more, reverse-append}
-use Rattle.std.proofs.lemmas.List.Elements.{All-push, All-weaker, All-append, All-nil, All-pop}
+use Rattle.std.proofs.lemmas.List.Elements.{All-push, All-weaker, All-pop}
 use Rattle.std.proofs.lemmas.Bool.{lt-ltb}
 use Rattle.rust_map.specs.Spans.{span_from, span_part, first_of, last_of}
 use Rattle.rust_map.specs.declared.span.Span.{Span}
-use Rattle.rust_lex.specs.Piece.{opening, closing, is_joint, Fits, FitsFront, FitsAt}
+use Rattle.rust_lex.specs.Piece.{opening, closing, is_joint, FitsAt}
 use Rattle.rust_lex.specs.declared.delimiter.Delimiter.{Delimiter as LexDelimiter}
 use Rattle.rust_lex.specs.declared.piece.DocKind.{DocKind}
 use Rattle.rust_lex.specs.declared.piece.DocKind.TheVariants as doc
@@ -18,8 +18,8 @@ use Rattle.proc_macro2.specs.Token.{Delimiter, Token, Opens, Closes, Word, Quote
 use Rattle.proc_macro2.specs.Groups.{same_delimiter, IsMatched}
 use Rattle.proc_macro2.specs.Flat.{spanned}
 use Rattle.proc_macro2.specs.Pieces.{delimiter_of, edged, edged_at, all_at, span_at, piece_tokens, spacing_of, head, doc_marks, doc_group, doc_text}
-use Rattle.proc_macro2.specs.Forest.{Opening, ArePaired, closed, open_behind}
-use Rattle.proc_macro2.specs.Built.{opening_of, openings_of, frame_tokens, built, Holds, IsOpened, IsAdded, IsClosed, IsClosing, IsPut, stretch_span}
+use Rattle.proc_macro2.specs.Forest.{ArePaired, closed, open_behind}
+use Rattle.proc_macro2.specs.Built.{opening_of, openings_of, frame_tokens, built, IsOpened, IsAdded, IsClosed, IsPut, stretch_span}
 use Rattle.proc_macro2.specs.declared.builder.Frame.{Frame}
 use Rattle.proc_macro2.specs.declared.builder.Builder.{Builder}
 use Rattle.proc_macro2.specs.declared.builder.Stretch.{Stretch}
@@ -141,13 +141,13 @@ grows_closed old new s d cs rest a e t f h =
     let inside : IsFrameIn s.from frame = popped.1 in
     let both = edges D frame.delimiter base frame.count s.from s.to (length cs) inside.small t (ap length e) a.same in
     let spread : map edged new.stream ≡ map edged frame.before ++ (edged (spanned (Opens D) span) ∷ (map edged old.stream ++ edged (spanned (Closes D) span) ∷ [])) =
-        ap (map edged) a.stream_is ∙ map-append edged frame.before (spanned (Opens D) span ∷ old.stream ++ spanned (Closes D) span ∷ [])
-        ∙ ap (λ x. map edged frame.before ++ (edged (spanned (Opens D) span) ∷ x)) (map-append edged old.stream (spanned (Closes D) span ∷ [])) in
+    ap (map edged) a.stream_is ∙ map-append edged frame.before (spanned (Opens D) span ∷ old.stream ++ spanned (Closes D) span ∷ [])
+    ∙ ap (λ x. map edged frame.before ++ (edged (spanned (Opens D) span) ∷ x)) (map-append edged old.stream (spanned (Closes D) span ∷ [])) in
     let moved : map edged frame.before ++ (edged (spanned (Opens D) span) ∷ (map edged old.stream ++ edged (spanned (Closes D) span) ∷ []))
-        ≡ map edged frame.before ++ (edged (spanned (Opens frame.delimiter) (span_at (base + frame.count) 1)) ∷ (map edged old.stream ++ edged (spanned (Closes D) (span_at (base + s.from) (length cs))) ∷ [])) =
-        ap₂ (λ x y. map edged frame.before ++ (x ∷ (map edged old.stream ++ y ∷ []))) both.0 both.1 in
+    ≡ map edged frame.before ++ (edged (spanned (Opens frame.delimiter) (span_at (base + frame.count) 1)) ∷ (map edged old.stream ++ edged (spanned (Closes D) (span_at (base + s.from) (length cs))) ∷ [])) =
+    ap₂ (λ x y. map edged frame.before ++ (x ∷ (map edged old.stream ++ y ∷ []))) both.0 both.1 in
     let before : flat_map (frame_tokens base) fs ++ frame_tokens base frame ≡ flat_map (frame_tokens base) old.frames.items =
-        flat_map_more (frame_tokens base) [] fs frame ∙ ap (flat_map (frame_tokens base)) (sym a.frames_were) in
+    flat_map_more (frame_tokens base) [] fs frame ∙ ap (flat_map (frame_tokens base)) (sym a.frames_were) in
     record {
       tokens = ap (λ x. flat_map (frame_tokens base) fs ++ x) (spread ∙ moved)
           ∙ regrouped (flat_map (frame_tokens base) fs) (map edged frame.before) (map edged old.stream) _ _

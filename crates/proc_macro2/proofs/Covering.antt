@@ -2,7 +2,7 @@
 use Rattle.std.proofs.Common.{◌≡◌, ℕ, ◌+◌, arith, List, [], ◌∷◌, ◌++◌, refl, sym, ap, ap₂, ◌∙◌, length, append_assoc, length-append}
 use Rattle.std.specs.Prelude.{Option, Some, None, option_and_then}
 use Rattle.std.proofs.lemmas.List.{append-nil}
-use Rattle.rust_lex.specs.Piece.{Piece, is_joint}
+use Rattle.rust_lex.specs.Piece.{Piece}
 use Rattle.rust_lex.specs.Cover.{onto}
 use Rattle.proc_macro2.specs.Token.{Spanned}
 use Rattle.proc_macro2.specs.Pieces.{piece_tokens, edged_at, span_at, tokens_of}

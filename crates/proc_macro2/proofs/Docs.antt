@@ -1,9 +1,9 @@
 -- The texts of docs.
-use Rattle.std.proofs.Common.{◌≡◌, ℕ, zero, suc, ◌-◌, ◌+◌, ◌≤◌, ◌<◌, arith, List, [], ◌∷◌, ◌++◌, length, refl, sym, ap, ◌∙◌, subst, ⊎_elim, take, drop, IsTrue, codes, length-append, append_assoc, encode_utf8_all}
-use Rattle.std.specs.Prelude.{Bool, true, false, ◌&&◌, ◌==◌, not, Option, Some, None}
+use Rattle.std.proofs.Common.{◌≡◌, ℕ, zero, suc, ◌-◌, ◌+◌, ◌≤◌, arith, List, [], ◌∷◌, ◌++◌, length, refl, sym, ap, ◌∙◌, subst, ⊎_elim, take, drop, IsTrue, codes, length-append, encode_utf8_all}
+use Rattle.std.specs.Prelude.{Bool, true, ◌&&◌, ◌==◌, not, Option, Some}
 use Rattle.std.specs.Str.{chars, IsUtf8, IsCharBoundary}
 use Rattle.std.proofs.lemmas.Bool.{and_parts, eqb-true}
-use Rattle.std.proofs.lemmas.List.{append_cancel_left, append_cancel_right, take-append-drop, drop-drop, length-drop}
+use Rattle.std.proofs.lemmas.List.{append_cancel_left, append_cancel_right, take-append-drop}
 use Rattle.std.proofs.Math.Seq.{take-append_seam}
 use Rattle.std.proofs.lemmas.Str.{chars-IsAscii, chars-append, encodes-chars, encodes-append, IsCharBoundary-from_drop, IsUtf8-from_ascii, IsUtf8-take}
 use Rattle.unicode_ident.proofs.Computing.{unicode_ident}
@@ -12,7 +12,6 @@ use Rattle.rust_leaf.specs.Identifier.{is_ident_text}
 use Rattle.rust_lex.specs.Comment.{past_comment, doc_opening, IsDoc, IsDocText}
 use Rattle.rust_lex.specs.declared.piece.DocKind.{DocKind}
 use Rattle.rust_lex.specs.declared.piece.DocKind.TheVariants as doc
-use Rattle.rust_lex.specs.Places.{rest_at, IsPlace}
 use Rattle.rust_lex.proofs.Taken.{chosen}
 use Rattle.proc_macro2.specs.Pieces.{IsClosedDoc, is_block}
 
@@ -93,12 +92,12 @@ cuts_closing bytes u (front, e) =
     let n : length bytes - 2 ≡ length fs = omega arith in
     let t : take (length bytes - 2) bytes ≡ fs = ap (λ m. take m bytes) n ∙ ap (take (length fs)) b ∙ take-append_seam fs (42 ∷ 47 ∷ []) in
     let d : drop (length bytes - 2) bytes ≡ 42 ∷ 47 ∷ [] =
-        append_cancel_left fs (drop (length bytes - 2) bytes) (42 ∷ 47 ∷ []) (ap (λ x. x ++ drop (length bytes - 2) bytes) (sym t) ∙ take-append-drop (length bytes - 2) bytes ∙ b) in
+    append_cancel_left fs (drop (length bytes - 2) bytes) (42 ∷ 47 ∷ []) (ap (λ x. x ++ drop (length bytes - 2) bytes) (sym t) ∙ take-append-drop (length bytes - 2) bytes ∙ b) in
     let (ends, same) = closing_ascii _ d in
     let cut : IsCharBoundary bytes (length bytes - 2) = IsCharBoundary-from_drop bytes (length bytes - 2) (omega arith) ends in
     let split : chars bytes ≡ chars (take (length bytes - 2) bytes) ++ 42 ∷ 47 ∷ [] =
-        ap chars (sym (take-append-drop (length bytes - 2) bytes)) ∙ chars-append (take (length bytes - 2) bytes) (drop (length bytes - 2) bytes) (IsUtf8-take bytes (length bytes - 2) u cut)
-        ∙ ap (λ x. chars (take (length bytes - 2) bytes) ++ x) (same ∙ d) in
+    ap chars (sym (take-append-drop (length bytes - 2) bytes)) ∙ chars-append (take (length bytes - 2) bytes) (drop (length bytes - 2) bytes) (IsUtf8-take bytes (length bytes - 2) u cut)
+    ∙ ap (λ x. chars (take (length bytes - 2) bytes) ++ x) (same ∙ d) in
     let is : chars (take (length bytes - 2) bytes) ≡ front = append_cancel_right (chars (take (length bytes - 2) bytes)) front (42 ∷ 47 ∷ []) (sym split ∙ e) in
     let m : length (chars bytes) ≡ length front + 2 = ap length e ∙ length-append front (42 ∷ 47 ∷ []) in
     let k : length (chars bytes) - 2 ≡ length front = omega arith in

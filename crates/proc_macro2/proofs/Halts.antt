@@ -9,7 +9,7 @@ use Rattle.rust_lex.specs.declared.piece.DocKind.{DocKind}
 use Rattle.rust_lex.specs.declared.piece.DocKind.TheVariants as doc
 use Rattle.rust_lex.specs.declared.piece.PieceKind.{PieceKind}
 use Rattle.rust_lex.specs.declared.piece.PieceKind.TheVariants as piece
-use Rattle.rust_lex.specs.Piece.{Piece, Fits, FitsAt, closing}
+use Rattle.rust_lex.specs.Piece.{Piece, FitsAt, closing}
 use Rattle.rust_lex.specs.Cover.{onto, AreFit, AreFitFront}
 use Rattle.rust_lex.specs.Scan.{Nowhere, Ends, scan_at}
 use Rattle.rust_lex.proofs.Complete.{complete_at}
@@ -20,7 +20,7 @@ use Rattle.proc_macro2.specs.Groups.{same_delimiter, groups_open}
 use Rattle.proc_macro2.specs.Groups as groups
 use Rattle.rust_map.specs.declared.span.Span.{Span}
 use Rattle.proc_macro2.specs.Pieces.{delimiter_of, edged, edged_at, span_at, piece_tokens, tokens_of, doc_marks, doc_group}
-use Rattle.proc_macro2.specs.Forest.{Opening, openings, open_behind, closed, count, IsForest, Reaches, IsStray, IsUnmatched, IsUnclosed, IsFaultBehind, IsLexicalFault}
+use Rattle.proc_macro2.specs.Forest.{Opening, openings, open_behind, closed, count, IsForest, Reaches, IsFaultBehind, IsLexicalFault}
 use Rattle.proc_macro2.proofs.GroupLemmas.{open_append}
 use Rattle.proc_macro2.proofs.Covering.{openings_append}
 

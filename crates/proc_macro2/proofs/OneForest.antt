@@ -1,10 +1,10 @@
 -- A stream is determined by where its tokens stand.
-use Rattle.std.proofs.Common.{◌≡◌, ℕ, ◌+◌, ◌-◌, List, [], ◌∷◌, ◌++◌, refl, sym, ap, ap₂, ◌∙◌, subst, map, ⊎_elim}
+use Rattle.std.proofs.Common.{◌≡◌, ℕ, ◌+◌, ◌-◌, List, [], ◌∷◌, refl, sym, ap, ap₂, ◌∙◌, subst, map}
 use Rattle.std.specs.Prelude.{Bool, true, false, cond, nat_lt}
 use Rattle.rust_map.specs.Spans.{span_from, first_of, last_of}
 use Rattle.rust_map.specs.declared.span.Span.{Span}
 use Rattle.rust_lex.proofs.OneCover.{one_cover}
-use Rattle.proc_macro2.specs.Token.{Delimiter, Token, Opens, Closes, Word, Quoted, Sign, Spanned}
+use Rattle.proc_macro2.specs.Token.{Token, Opens, Closes, Word, Quoted, Sign, Spanned}
 use Rattle.proc_macro2.specs.Flat.{spanned}
 use Rattle.proc_macro2.specs.Pieces.{edge, edged, tokens_of}
 use Rattle.proc_macro2.specs.Forest.{ArePaired, IsForest}
@@ -56,12 +56,12 @@ rest_of : (s : Spanned) (xs : List Span) (ss : List Spanned) → ArePaired xs (s
 rest_of s xs ss h = by s.token h
   where
     by : (t : Token) → It (elim t [
-        Opens d ↦ ArePaired (s.span ∷ xs) ss
+      | Opens d ↦ ArePaired (s.span ∷ xs) ss
       | Closes d ↦ elim xs [ [] ↦ ⊥ | y ∷ ys ↦ (y ≡ s.span) × ArePaired ys ss ]
       | Word cs ↦ ArePaired xs ss
       | Quoted cs ↦ ArePaired xs ss
       | Sign c spacing ↦ ArePaired xs ss
-      ]) → Rest s.span xs ss t
+    ]) → Rest s.span xs ss t
     by (Opens d) q = q
     by (Closes d) q = closes xs q
       where

@@ -1,5 +1,5 @@
 -- Streams in which both tokens of each group carry one span.
-use Rattle.std.proofs.Common.{◌≡◌, List, [], ◌∷◌, ◌++◌, refl, sym, ap, ◌∙◌, subst}
+use Rattle.std.proofs.Common.{◌≡◌, List, [], ◌∷◌, ◌++◌, refl, sym, subst}
 use Rattle.rust_map.specs.declared.span.Span.{Span}
 use Rattle.proc_macro2.specs.Token.{Delimiter, Token, Opens, Closes, Word, Quoted, Sign, Spanned}
 use Rattle.proc_macro2.specs.Flat.{spanned}
@@ -14,18 +14,18 @@ paired_append inner outer [] ys h k = subst (λ s. ArePaired (s ++ outer) ys) (s
 paired_append inner outer (x ∷ xs) ys h k = on (λ i q. paired_append i outer xs ys q k) x.token h
   where
     on : ((i : List Span) → ArePaired i xs → ArePaired (i ++ outer) (xs ++ ys)) → (t : Token) → It (elim t [
-        Opens d ↦ ArePaired (x.span ∷ inner) xs
+      | Opens d ↦ ArePaired (x.span ∷ inner) xs
       | Closes d ↦ elim inner [ [] ↦ ⊥ | s ∷ ss ↦ (s ≡ x.span) × ArePaired ss xs ]
       | Word cs ↦ ArePaired inner xs
       | Quoted cs ↦ ArePaired inner xs
       | Sign c spacing ↦ ArePaired inner xs
-      ]) → It (elim t [
-        Opens d ↦ ArePaired (x.span ∷ (inner ++ outer)) (xs ++ ys)
+    ]) → It (elim t [
+      | Opens d ↦ ArePaired (x.span ∷ (inner ++ outer)) (xs ++ ys)
       | Closes d ↦ elim (inner ++ outer) [ [] ↦ ⊥ | s ∷ ss ↦ (s ≡ x.span) × ArePaired ss (xs ++ ys) ]
       | Word cs ↦ ArePaired (inner ++ outer) (xs ++ ys)
       | Quoted cs ↦ ArePaired (inner ++ outer) (xs ++ ys)
       | Sign c spacing ↦ ArePaired (inner ++ outer) (xs ++ ys)
-      ])
+    ])
     on more (Opens d) q = more (x.span ∷ inner) q
     on more (Closes d) q = closes inner q
       where

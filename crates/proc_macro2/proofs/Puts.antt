@@ -1,21 +1,20 @@
 -- What pieces are, for the tokens that they become.
-use Rattle.std.proofs.Common.{◌≡◌, ℕ, zero, suc, ◌≤◌, ◌<◌, arith, List, [], ◌∷◌, ◌++◌, length, refl, sym, ap, ◌∙◌, subst, ⊎_elim, inl, inr, codes}
-use Rattle.std.specs.Prelude.{Bool, true, false, ◌&&◌, ◌||◌, ◌==◌, not, ◌⊎◌}
-use Rattle.std.specs.List.{list_any, list_all}
+use Rattle.std.proofs.Common.{◌≡◌, ℕ, zero, suc, ◌<◌, arith, List, [], ◌∷◌, ◌++◌, length, refl, sym, ap, ◌∙◌, subst, ⊎_elim, inl, inr, codes}
+use Rattle.std.specs.Prelude.{Bool, true, false, ◌||◌, ◌==◌, ◌⊎◌}
+use Rattle.std.specs.List.{list_all}
 use Rattle.std.specs.Str.{chars, bytes_eq}
 use Rattle.std.proofs.lemmas.Bool.{and_parts, or_cases, eqb-true}
 use Rattle.std.proofs.lemmas.List.Folds.{list_any-append}
 use Rattle.std.proofs.lemmas.Slice.Eq.{bytes_eq-Decides}
 use Rattle.std.proofs.lemmas.Str.{chars-nil}
-use Rattle.unicode_ident.specs.Ident.{is_xid_start, is_xid_continue}
+use Rattle.unicode_ident.specs.Ident.{is_xid_continue}
 use Rattle.rust_leaf.specs.Identifier.{is_ident_text, is_identifier, is_reserved, is_raw_identifier}
 use Rattle.rust_leaf.specs.Mark as leaf
 use Rattle.rust_lex.specs.Chars.{is_mark, marks, is_first, is_next, begins, passes}
 use Rattle.rust_lex.specs.Piece.{Fits, FitsFront, FitsAt, IsIdent, begins_mark}
-use Rattle.rust_lex.specs.Word.{IsWord, IsRawWord, begins_kept, begins_word, begins_lifetime}
+use Rattle.rust_lex.specs.Word.{IsWord, begins_kept, begins_lifetime}
 use Rattle.rust_lex.specs.declared.piece.PieceKind.{PieceKind}
 use Rattle.rust_lex.specs.declared.piece.PieceKind.TheVariants as piece
-use Rattle.rust_lex.proofs.PlacesLemmas.{rest_end}
 use Rattle.proc_macro2.specs.Built.{IsReady}
 use Rattle.proc_macro2.proofs.Docs.{doc_long, doc_closed}
 
@@ -132,4 +131,3 @@ front_cases (piece.Literal kind) cs rest h = inr h
 pub ready_at : (at : ℕ) (k : PieceKind) (cs rest : List ℕ) → FitsAt at k cs rest → IsReady k cs
 ready_at zero k cs rest h = ⊎_elim (λ e. subst (λ x. IsReady x cs) (sym e) tt) (λ f. ready k cs rest f) (front_cases k cs rest h)
 ready_at (suc n) k cs rest h = ready k cs rest h
-

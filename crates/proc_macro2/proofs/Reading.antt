@@ -1,24 +1,22 @@
 -- What is read of a text, up to a place: one piece on, to its end, and to its fault.
-use Rattle.std.proofs.Common.{◌≡◌, ◌≢◌, ℕ, zero, suc, ◌+◌, ◌-◌, ◌≤◌, ◌<◌, arith, List, [], ◌∷◌, ◌++◌, refl, sym, ap, ap₂, ◌∙◌, subst, length, drop, map, inl, inr, length-append, length-drop}
-use Rattle.std.specs.Prelude.{Some, None, Bool, true, false, encode_utf8_all}
+use Rattle.std.proofs.Common.{◌≡◌, ◌≢◌, ℕ, zero, suc, ◌+◌, ◌≤◌, ◌<◌, arith, List, [], ◌∷◌, ◌++◌, refl, sym, ap, ap₂, ◌∙◌, subst, length, drop, inl, inr, length-append, length-drop}
+use Rattle.std.specs.Prelude.{Some, encode_utf8_all}
 use Rattle.std.specs.List.{All}
 use Rattle.std.specs.Str.{chars, IsUtf8}
 use Rattle.std.proofs.lemmas.List.Elements.{All-nil, All-pop}
 use Rattle.std.proofs.lemmas.Str.{encodes-chars}
-use Rattle.rust_map.specs.Spans.{span_from, span_part}
+use Rattle.rust_map.specs.Spans.{span_part}
 use Rattle.rust_map.specs.declared.span.Span.{Span}
 use Rattle.rust_token.specs.Places.{place_of}
-use Rattle.rust_lex.specs.Piece.{Piece, FitsAt, FitsFront, Fits, closing, is_joint}
+use Rattle.rust_lex.specs.Piece.{Piece, FitsAt, closing}
 use Rattle.rust_lex.specs.Cover.{onto, Covers, NoPieceAt}
 use Rattle.rust_lex.specs.Places.{rest_at, between, IsPlace, IsBehind}
 use Rattle.rust_lex.specs.declared.piece.PieceKind.{PieceKind}
-use Rattle.rust_lex.specs.declared.piece.PieceKind.TheVariants as piece
 use Rattle.rust_lex.proofs.Covering.{CoversTo, covers_none, covers_on}
 use Rattle.rust_lex.proofs.Pieces.{between_joined}
 use Rattle.rust_lex.proofs.PlacesLemmas.{rest_end}
-use Rattle.proc_macro2.specs.Token.{Spanned}
-use Rattle.proc_macro2.specs.Pieces.{delimiter_of, edged, tokens_of}
-use Rattle.proc_macro2.specs.Forest.{Opening, openings, open_behind, count, IsForest, Reaches, IsStray, IsUnmatched, IsUnclosed, IsFaultBehind, IsFault}
+use Rattle.proc_macro2.specs.Pieces.{tokens_of}
+use Rattle.proc_macro2.specs.Forest.{Opening, openings, open_behind, count, IsForest, Reaches, IsFaultBehind, IsFault}
 use Rattle.proc_macro2.specs.Built.{openings_of, opening_of, built}
 use Rattle.proc_macro2.specs.declared.builder.Frame.{Frame}
 use Rattle.proc_macro2.specs.declared.builder.Builder.{Builder}

@@ -1,5 +1,5 @@
 -- What a builder holds: the groups that are open, and the tokens that have been put.
-use Rattle.std.specs.Prelude.{◌≡◌, ℕ, ◌+◌, ◌≤◌, Bool, true, false, List, [], ◌∷◌, ◌++◌, length, drop, Option, Some, None, map, reverse}
+use Rattle.std.specs.Prelude.{◌≡◌, ℕ, ◌+◌, ◌≤◌, Bool, true, false, List, [], ◌∷◌, ◌++◌, length, drop, None, map, reverse}
 use Rattle.std.specs.List.{flat_map}
 use Rattle.rust_map.specs.Spans.{span_part}
 use Rattle.rust_map.specs.declared.span.Span.{Span}
@@ -10,7 +10,7 @@ use Rattle.rust_lex.specs.declared.piece.PieceKind.TheVariants as piece
 use Rattle.proc_macro2.specs.Token.{Delimiter, Opens, Closes, Word, Quoted, Sign, Spanned}
 use Rattle.proc_macro2.specs.Flat.{spanned}
 use Rattle.proc_macro2.specs.Pieces.{delimiter_of, edged, all_at, span_at, head, spacing_of, is_block, IsClosedDoc, doc_marks, doc_group, doc_text}
-use Rattle.proc_macro2.specs.Forest.{Opening, ArePaired, closed}
+use Rattle.proc_macro2.specs.Forest.{Opening, closed}
 use Rattle.proc_macro2.specs.declared.builder.Frame.{Frame}
 use Rattle.proc_macro2.specs.declared.builder.Builder.{Builder}
 use Rattle.proc_macro2.specs.declared.builder.Stretch.{Stretch}

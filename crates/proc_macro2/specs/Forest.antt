@@ -22,12 +22,12 @@ use Rattle.proc_macro2.specs.declared.fault.LexFault.TheVariants.{Lex, MapFull, 
 abbrev pub ArePaired : List Span → List Spanned → Type 0
 ArePaired spans [] = spans ≡ []
 ArePaired spans (s ∷ ss) = elim s.token [
-    Opens d ↦ ArePaired (s.span ∷ spans) ss
+  | Opens d ↦ ArePaired (s.span ∷ spans) ss
   | Closes d ↦ elim spans [ [] ↦ ⊥ | x ∷ xs ↦ (x ≡ s.span) × ArePaired xs ss ]
   | Word cs ↦ ArePaired spans ss
   | Quoted cs ↦ ArePaired spans ss
   | Sign c spacing ↦ ArePaired spans ss
-  ]
+]
 
 -- the stream of a text whose first character stands at the position base: its tokens are those of the
 -- text's cover, where each stands; each group is closed by its own token; and both tokens of a group

@@ -10,6 +10,9 @@
 //! - `into_iter`: taking streams apart.
 //! - `copies`: copies of streams and trees.
 //! - `parse`: streams of texts.
+//! - `put`, `doc` (private): the tokens of one piece.
+//! - `builder` (private): trees that are built from tokens in their order.
+//! - `place` (private): the line and the column behind some characters.
 //! - `fault`: why a text has none.
 //! - `forest_laws`: laws of the streams of texts.
 //! - `print`: the printed text.

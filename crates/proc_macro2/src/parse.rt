@@ -90,11 +90,7 @@ impl TokenStream {
     /// `LexFault::MapFull` is answered, before the text is looked at, exactly if the map has no
     /// positions left for so many characters; `LexFault::Lex` if the text has a lexical fault;
     /// `LexFault::Memory` if memory was refused. Each of them leaves the map as it was.
-    pub fn from_str(
-        alloc: Global,
-        src: &str,
-        map: &mut SourceMap,
-    ) -> Result<TokenStream, LexFault>
+    pub fn from_str(alloc: Global, src: &str, map: &mut SourceMap) -> Result<TokenStream, LexFault>
         ensures parsed { IfOk result (λ stream. IsForest (next_position map.old) (chars src.now) stream) }
         ensures fault { IfErr result (IsFault (next_position map.old) (chars src.now)) }
         ensures full { (result ≡ Err MapFull) ↔ (2 ^ 32 ≤ next_position map.old + length (chars src.now)) }

@@ -6,7 +6,7 @@ ghost use Rattle.proc_macro2.specs.Token.{Quoted, Sign, Word};
 ghost use Rattle.rust_leaf.specs.Identifier.{is_ident_text};
 ghost use Rattle.rust_leaf.specs.Mark.{is_mark};
 ghost use Rattle.std.specs.List.{All};
-ghost use Rattle.std.specs.Prelude.{[], ◌∷◌, ◌≡◌, ◌+◌, ◌≤◌, IfOk, IsTrue, OnOk, ℕ, true};
+ghost use Rattle.std.specs.Prelude.{[], ◌∷◌, ◌≡◌, ◌+◌, ◌≤◌, IfOk, OnOk, ℕ, true};
 ghost use Rattle.std.specs.Str.{chars};
 
 use crate::builder::{Builder, Stretch};
@@ -36,7 +36,11 @@ fn delimiter_of(marks: Marks) -> Delimiter
 fn spacing_of(joint: bool) -> Spacing
     ensures { result ≡ spacing_of joint }
 {
-    if joint { Spacing::Joint } else { Spacing::Alone }
+    if joint {
+        Spacing::Joint
+    } else {
+        Spacing::Alone
+    }
 }
 
 // Adds a mark, which is all of a text.
@@ -50,12 +54,7 @@ fn put_mark(builder: &mut Builder, mark: &str, joint: bool, span: Span) -> Resul
     builder.put(TokenTree::Punct(punct))
 }
 
-fn put_ident(
-    builder: &mut Builder,
-    alloc: Global,
-    text: &str,
-    span: Span,
-) -> Result<(), AllocError>
+fn put_ident(builder: &mut Builder, alloc: Global, text: &str, span: Span) -> Result<(), AllocError>
     requires { is_ident_text (chars text.now) ≡ true }
     ensures { OnOk result (IsAdded builder.old builder.new (all_at span (Word (chars text.now) ∷ []))) }
 {

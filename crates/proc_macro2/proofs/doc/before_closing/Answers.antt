@@ -1,4 +1,4 @@
-use Rattle.std.proofs.Common.{◌≡◌, ◌∙◌, ◌-◌, ap, take, length}
+use Rattle.std.proofs.Common.{◌∙◌, ◌-◌, ap, take, length}
 use Rattle.std.proofs.Math.Nat.{sub-zero}
 use Rattle.std.specs.Str.{chars}
 use Rattle.proc_macro2.proofs.Docs.{cuts_closing}
