@@ -37,11 +37,11 @@ pub record IsFrameIn (n : ℕ) (f : Frame) : Type 0 where
   pub whole : IsWhole f.before
 
 -- what a piece adds, which n characters precede
-pub record Grows (base n : ℕ) (k : PieceKind) (cs rest : List ℕ) (old new : Builder) : Type 0 where
-  pub tokens : built base new.frames.items new.stream ≡ built base old.frames.items old.stream ++ edged_at (span_at (base + n) (length cs)) (piece_tokens k cs rest)
-  pub opened : open_behind (openings_of old.frames.items) k n ≡ Some (openings_of new.frames.items)
-  pub frames : All (IsFrameIn (n + length cs)) new.frames.items
-  pub whole : IsWhole new.stream
+pub record Grows (base n : ℕ) (k : PieceKind) (cs rest : List ℕ) (fs : List Frame) (ss : List Spanned) (gs : List Frame) (us : List Spanned) : Type 0 where
+  pub tokens : built base gs us ≡ built base fs ss ++ edged_at (span_at (base + n) (length cs)) (piece_tokens k cs rest)
+  pub opened : open_behind (openings_of fs) k n ≡ Some (openings_of gs)
+  pub frames : All (IsFrameIn (n + length cs)) gs
+  pub whole : IsWhole us
 
 pub no_tokens : IsWhole []
 no_tokens = record { matched = refl; paired = refl }
@@ -52,7 +52,7 @@ whole_append xs ys h k = record { matched = matched_append xs ys h.matched k.mat
 pub whole_group : (d : Delimiter) (span : Span) (xs : List Spanned) → IsWhole xs → IsWhole (spanned (Opens d) span ∷ xs ++ spanned (Closes d) span ∷ [])
 whole_group d span xs h = record { matched = matched_group d span xs h.matched; paired = paired_group d span xs h.paired }
 
-doc_whole : (kind : DocKind) (text : List ℕ) (span : Span) → IsWhole (all_at span (doc_marks kind ++ doc_group text))
+pub doc_whole : (kind : DocKind) (text : List ℕ) (span : Span) → IsWhole (all_at span (doc_marks kind ++ doc_group text))
 doc_whole doc.OuterLine text span = record { matched = refl; paired = (refl, refl) }
 doc_whole doc.InnerLine text span = record { matched = refl; paired = (refl, refl) }
 doc_whole doc.OuterBlock text span = record { matched = refl; paired = (refl, refl) }
@@ -69,15 +69,15 @@ built_added base fs gs ss ts us e f =
 stretched : (s : Stretch) (cs : List ℕ) → s.to ≡ s.from + length cs → stretch_span s ≡ span_at (s.whole.start + s.from) (length cs)
 stretched s cs e = ap (span_from (s.whole.start + s.from)) (ap (λ m. s.whole.start + m) e ∙ sym (add_assoc s.whole.start s.from (length cs)))
 
-grows_added : (old new : Builder) (s : Stretch) (k : PieceKind) (cs rest : List ℕ) (ts : List Token) → IsAdded old new (all_at (stretch_span s) ts) → ts ≡ piece_tokens k cs rest →
-    open_behind (openings_of old.frames.items) k s.from ≡ Some (openings_of old.frames.items) → IsWhole (all_at (stretch_span s) ts) →
-    s.to ≡ s.from + length cs → All (IsFrameIn s.from) old.frames.items → IsWhole old.stream → Grows s.whole.start s.from k cs rest old new
-grows_added old new s k cs rest ts a t o w e f h = record {
-  tokens = built_added s.whole.start old.frames.items new.frames.items old.stream (all_at (stretch_span s) ts) new.stream a.frames_are a.stream_is
-      ∙ ap (λ x. built s.whole.start old.frames.items old.stream ++ x) (ap₂ edged_at (stretched s cs e) t);
-  opened = o ∙ ap (λ x. Some (openings_of x)) (sym a.frames_are);
-  frames = subst (All (IsFrameIn (s.from + length cs))) (sym a.frames_are) (frames_on s.from (s.from + length cs) old.frames.items (omega arith) f);
-  whole = subst IsWhole (sym a.stream_is) (whole_append old.stream (all_at (stretch_span s) ts) h w);
+pub grows_added : (fs gs : List Frame) (ss us : List Spanned) (s : Stretch) (k : PieceKind) (cs rest : List ℕ) (ts : List Token) → gs ≡ fs → us ≡ ss ++ all_at (stretch_span s) ts → ts ≡ piece_tokens k cs rest →
+    open_behind (openings_of fs) k s.from ≡ Some (openings_of fs) → IsWhole (all_at (stretch_span s) ts) →
+    s.to ≡ s.from + length cs → All (IsFrameIn s.from) fs → IsWhole ss → Grows s.whole.start s.from k cs rest fs ss gs us
+grows_added fs gs ss us s k cs rest ts a b t o w e f h = record {
+  tokens = built_added s.whole.start fs gs ss (all_at (stretch_span s) ts) us a b
+      ∙ ap (λ x. built s.whole.start fs ss ++ x) (ap₂ edged_at (stretched s cs e) t);
+  opened = o ∙ ap (λ x. Some (openings_of x)) (sym a);
+  frames = subst (All (IsFrameIn (s.from + length cs))) (sym a) (frames_on s.from (s.from + length cs) fs (omega arith) f);
+  whole = subst IsWhole (sym b) (whole_append ss (all_at (stretch_span s) ts) h w);
 }
 
 pub openings_push : (fs : List Frame) (f : Frame) → openings_of (fs ++ f ∷ []) ≡ opening_of f ∷ openings_of fs
@@ -88,18 +88,18 @@ built_opened base fs f =
     append-nil (flat_map (frame_tokens base) (fs ++ f ∷ [])) ∙ sym (flat_map_more (frame_tokens base) [] fs f)
     ∙ sym (append_assoc (flat_map (frame_tokens base) fs) (map edged f.before) (edged (spanned (Opens f.delimiter) (span_at (base + f.count) 1)) ∷ []))
 
-grows_opened : (old new : Builder) (s : Stretch) (d : LexDelimiter) (cs rest : List ℕ) → IsOpened old new (delimiter_of d) s.from → cs ≡ opening d ∷ [] →
-    All (IsFrameIn s.from) old.frames.items → IsWhole old.stream → Grows s.whole.start s.from (piece.Open d) cs rest old new
-grows_opened old new s d cs rest a e f h =
-    let frame : Frame = record { delimiter = delimiter_of d; count = s.from; before = old.stream } in
+pub grows_opened : (fs gs : List Frame) (ss us : List Spanned) (s : Stretch) (d : LexDelimiter) (cs rest : List ℕ) → gs ≡ fs ++ record { delimiter = delimiter_of d; count = s.from; before = ss } ∷ [] → us ≡ [] → cs ≡ opening d ∷ [] →
+    All (IsFrameIn s.from) fs → IsWhole ss → Grows s.whole.start s.from (piece.Open d) cs rest fs ss gs us
+grows_opened fs gs ss us s d cs rest a b e f h =
+    let frame : Frame = record { delimiter = delimiter_of d; count = s.from; before = ss } in
     let l : 1 ≡ length cs = sym (ap length e) in
     record {
-      tokens = ap₂ (built s.whole.start) a.frames_are a.stream_is ∙ built_opened s.whole.start old.frames.items frame
-          ∙ ap (λ m. built s.whole.start old.frames.items old.stream ++ edged_at (span_at (s.whole.start + s.from) m) (Opens (delimiter_of d) ∷ [])) l;
-      opened = ap (λ x. Some x) (sym (openings_push old.frames.items frame)) ∙ ap (λ x. Some (openings_of x)) (sym a.frames_are);
-      frames = subst (All (IsFrameIn (s.from + length cs))) (sym a.frames_are)
-          (All-push (IsFrameIn (s.from + length cs)) old.frames.items frame (frames_on s.from (s.from + length cs) old.frames.items (omega arith) f) (record { small = omega arith; whole = h }));
-      whole = subst IsWhole (sym a.stream_is) no_tokens;
+      tokens = ap₂ (built s.whole.start) a b ∙ built_opened s.whole.start fs frame
+          ∙ ap (λ m. built s.whole.start fs ss ++ edged_at (span_at (s.whole.start + s.from) m) (Opens (delimiter_of d) ∷ [])) l;
+      opened = ap (λ x. Some x) (sym (openings_push fs frame)) ∙ ap (λ x. Some (openings_of x)) (sym a);
+      frames = subst (All (IsFrameIn (s.from + length cs))) (sym a)
+          (All-push (IsFrameIn (s.from + length cs)) fs frame (frames_on s.from (s.from + length cs) fs (omega arith) f) (record { small = omega arith; whole = h }));
+      whole = subst IsWhole (sym b) no_tokens;
     }
 
 -- the first and the last character of a span
@@ -109,7 +109,7 @@ first_is a b h = rw (lt-ltb a b h) refl
 last_is : (a b : ℕ) → a < b → last_of (span_from a b) ≡ span_from (b - 1) b
 last_is a b h = rw (lt-ltb a b h) refl
 
-same_self : (d : Delimiter) → same_delimiter d d ≡ true
+pub same_self : (d : Delimiter) → same_delimiter d d ≡ true
 same_self delimiter.Parenthesis = refl
 same_self delimiter.Brace = refl
 same_self delimiter.Bracket = refl
@@ -129,35 +129,34 @@ edges d c base n from to count h e o s =
 regrouped : (a b s : List Spanned) (x y : Spanned) → a ++ (b ++ (x ∷ (s ++ y ∷ []))) ≡ ((a ++ (b ++ x ∷ [])) ++ s) ++ y ∷ []
 regrouped a b s x y = simp append_assoc
 
-grows_closed : (old new : Builder) (s : Stretch) (d : LexDelimiter) (cs rest : List ℕ) → IsClosed old new (delimiter_of d) s.whole s.to → cs ≡ closing d ∷ [] →
-    s.to ≡ s.from + length cs → All (IsFrameIn s.from) old.frames.items → IsWhole old.stream → Grows s.whole.start s.from (piece.Close d) cs rest old new
-grows_closed old new s d cs rest a e t f h =
+pub grows_closed : (fs gs : List Frame) (ss us : List Spanned) (s : Stretch) (d : LexDelimiter) (cs rest : List ℕ) → (frame : Frame) → fs ≡ gs ++ frame ∷ [] → frame.delimiter ≡ delimiter_of d →
+    us ≡ frame.before ++ (spanned (Opens (delimiter_of d)) (span_part s.whole frame.count s.to) ∷ ss ++ spanned (Closes (delimiter_of d)) (span_part s.whole frame.count s.to) ∷ []) → cs ≡ closing d ∷ [] →
+    s.to ≡ s.from + length cs → All (IsFrameIn s.from) fs → IsWhole ss → Grows s.whole.start s.from (piece.Close d) cs rest fs ss gs us
+grows_closed fs gs ss us s d cs rest frame were same is e t f h =
     let base = s.whole.start in
-    let frame = a.frame in
-    let fs = new.frames.items in
     let span = span_part s.whole frame.count s.to in
     let D = delimiter_of d in
-    let popped = All-pop (IsFrameIn s.from) old.frames.items fs (Some frame) a.frames_were f in
+    let popped = All-pop (IsFrameIn s.from) fs gs (Some frame) were f in
     let inside : IsFrameIn s.from frame = popped.1 in
-    let both = edges D frame.delimiter base frame.count s.from s.to (length cs) inside.small t (ap length e) a.same in
-    let spread : map edged new.stream ≡ map edged frame.before ++ (edged (spanned (Opens D) span) ∷ (map edged old.stream ++ edged (spanned (Closes D) span) ∷ [])) =
-    ap (map edged) a.stream_is ∙ map-append edged frame.before (spanned (Opens D) span ∷ old.stream ++ spanned (Closes D) span ∷ [])
-    ∙ ap (λ x. map edged frame.before ++ (edged (spanned (Opens D) span) ∷ x)) (map-append edged old.stream (spanned (Closes D) span ∷ [])) in
-    let moved : map edged frame.before ++ (edged (spanned (Opens D) span) ∷ (map edged old.stream ++ edged (spanned (Closes D) span) ∷ []))
-    ≡ map edged frame.before ++ (edged (spanned (Opens frame.delimiter) (span_at (base + frame.count) 1)) ∷ (map edged old.stream ++ edged (spanned (Closes D) (span_at (base + s.from) (length cs))) ∷ [])) =
-    ap₂ (λ x y. map edged frame.before ++ (x ∷ (map edged old.stream ++ y ∷ []))) both.0 both.1 in
-    let before : flat_map (frame_tokens base) fs ++ frame_tokens base frame ≡ flat_map (frame_tokens base) old.frames.items =
-    flat_map_more (frame_tokens base) [] fs frame ∙ ap (flat_map (frame_tokens base)) (sym a.frames_were) in
+    let both = edges D frame.delimiter base frame.count s.from s.to (length cs) inside.small t (ap length e) same in
+    let spread : map edged us ≡ map edged frame.before ++ (edged (spanned (Opens D) span) ∷ (map edged ss ++ edged (spanned (Closes D) span) ∷ [])) =
+    ap (map edged) is ∙ map-append edged frame.before (spanned (Opens D) span ∷ ss ++ spanned (Closes D) span ∷ [])
+    ∙ ap (λ x. map edged frame.before ++ (edged (spanned (Opens D) span) ∷ x)) (map-append edged ss (spanned (Closes D) span ∷ [])) in
+    let moved : map edged frame.before ++ (edged (spanned (Opens D) span) ∷ (map edged ss ++ edged (spanned (Closes D) span) ∷ []))
+    ≡ map edged frame.before ++ (edged (spanned (Opens frame.delimiter) (span_at (base + frame.count) 1)) ∷ (map edged ss ++ edged (spanned (Closes D) (span_at (base + s.from) (length cs))) ∷ [])) =
+    ap₂ (λ x y. map edged frame.before ++ (x ∷ (map edged ss ++ y ∷ []))) both.0 both.1 in
+    let before : flat_map (frame_tokens base) gs ++ frame_tokens base frame ≡ flat_map (frame_tokens base) fs =
+    flat_map_more (frame_tokens base) [] gs frame ∙ ap (flat_map (frame_tokens base)) (sym were) in
     record {
-      tokens = ap (λ x. flat_map (frame_tokens base) fs ++ x) (spread ∙ moved)
-          ∙ regrouped (flat_map (frame_tokens base) fs) (map edged frame.before) (map edged old.stream) _ _
-          ∙ ap (λ x. (x ++ map edged old.stream) ++ edged (spanned (Closes D) (span_at (base + s.from) (length cs))) ∷ []) before;
-      opened = ap (λ x. closed x D) (ap openings_of a.frames_were ∙ openings_push fs frame) ∙ ap (λ b. cond b (Some (openings_of fs)) None) (ap (λ x. same_delimiter x D) a.same ∙ same_self D);
-      frames = frames_on s.from (s.from + length cs) fs (omega arith) popped.0;
-      whole = subst IsWhole (sym a.stream_is) (whole_append frame.before (spanned (Opens D) span ∷ old.stream ++ spanned (Closes D) span ∷ []) inside.whole (whole_group D span old.stream h));
+      tokens = ap (λ x. flat_map (frame_tokens base) gs ++ x) (spread ∙ moved)
+          ∙ regrouped (flat_map (frame_tokens base) gs) (map edged frame.before) (map edged ss) _ _
+          ∙ ap (λ x. (x ++ map edged ss) ++ edged (spanned (Closes D) (span_at (base + s.from) (length cs))) ∷ []) before;
+      opened = ap (λ x. closed x D) (ap openings_of were ∙ openings_push gs frame) ∙ ap (λ b. cond b (Some (openings_of gs)) None) (ap (λ x. same_delimiter x D) same ∙ same_self D);
+      frames = frames_on s.from (s.from + length cs) gs (omega arith) popped.0;
+      whole = subst IsWhole (sym is) (whole_append frame.before (spanned (Opens D) span ∷ ss ++ spanned (Closes D) span ∷ []) inside.whole (whole_group D span ss h));
     }
 
-fits_open : (at : ℕ) (d : LexDelimiter) (cs rest : List ℕ) → FitsAt at (piece.Open d) cs rest → cs ≡ opening d ∷ []
+pub fits_open : (at : ℕ) (d : LexDelimiter) (cs rest : List ℕ) → FitsAt at (piece.Open d) cs rest → cs ≡ opening d ∷ []
 fits_open zero d cs rest h = h
 fits_open (suc n) d cs rest h = h
 
@@ -166,18 +165,18 @@ fits_close zero d cs rest h = h
 fits_close (suc n) d cs rest h = h
 
 pub put_grows : (at : ℕ) (k : PieceKind) (old new : Builder) (s : Stretch) (cs rest : List ℕ) (joint : Bool) → IsPut k true old new s cs joint → FitsAt at k cs rest → (k ≡ piece.Mark → joint ≡ is_joint (cs ++ rest)) →
-    s.to ≡ s.from + length cs → All (IsFrameIn s.from) old.frames.items → IsWhole old.stream → Grows s.whole.start s.from k cs rest old new
-put_grows at piece.FrontMark old new s cs rest joint p q j e f h = grows_added old new s piece.FrontMark cs rest [] p.1 refl refl no_tokens e f h
-put_grows at piece.White old new s cs rest joint p q j e f h = grows_added old new s piece.White cs rest [] p.1 refl refl no_tokens e f h
-put_grows at piece.Comment old new s cs rest joint p q j e f h = grows_added old new s piece.Comment cs rest [] p.1 refl refl no_tokens e f h
+    s.to ≡ s.from + length cs → All (IsFrameIn s.from) old.frames.items → IsWhole old.stream → Grows s.whole.start s.from k cs rest old.frames.items old.stream new.frames.items new.stream
+put_grows at piece.FrontMark old new s cs rest joint p q j e f h = grows_added old.frames.items new.frames.items old.stream new.stream s piece.FrontMark cs rest [] p.1.frames_are p.1.stream_is refl refl no_tokens e f h
+put_grows at piece.White old new s cs rest joint p q j e f h = grows_added old.frames.items new.frames.items old.stream new.stream s piece.White cs rest [] p.1.frames_are p.1.stream_is refl refl no_tokens e f h
+put_grows at piece.Comment old new s cs rest joint p q j e f h = grows_added old.frames.items new.frames.items old.stream new.stream s piece.Comment cs rest [] p.1.frames_are p.1.stream_is refl refl no_tokens e f h
 put_grows at (piece.Doc kind) old new s cs rest joint p q j e f h =
-    grows_added old new s (piece.Doc kind) cs rest (doc_marks kind ++ doc_group (doc_text kind cs)) p.1 refl refl (doc_whole kind (doc_text kind cs) (stretch_span s)) e f h
-put_grows at (piece.Open d) old new s cs rest joint p q j e f h = grows_opened old new s d cs rest p.1 (fits_open at d cs rest q) f h
-put_grows at (piece.Close d) old new s cs rest joint p q j e f h = grows_closed old new s d cs rest p (fits_close at d cs rest q) e f h
+    grows_added old.frames.items new.frames.items old.stream new.stream s (piece.Doc kind) cs rest (doc_marks kind ++ doc_group (doc_text kind cs)) p.1.frames_are p.1.stream_is refl refl (doc_whole kind (doc_text kind cs) (stretch_span s)) e f h
+put_grows at (piece.Open d) old new s cs rest joint p q j e f h = grows_opened old.frames.items new.frames.items old.stream new.stream s d cs rest p.1.frames_are p.1.stream_is (fits_open at d cs rest q) f h
+put_grows at (piece.Close d) old new s cs rest joint p q j e f h = grows_closed old.frames.items new.frames.items old.stream new.stream s d cs rest p.frame p.frames_were p.same p.stream_is (fits_close at d cs rest q) e f h
 put_grows at piece.Mark old new s cs rest joint p q j e f h =
-    grows_added old new s piece.Mark cs rest (Sign (head cs) (spacing_of joint) ∷ []) p.1 (ap (λ b. Sign (head cs) (spacing_of b) ∷ []) (j refl)) refl (record { matched = refl; paired = refl }) e f h
-put_grows at piece.Ident old new s cs rest joint p q j e f h = grows_added old new s piece.Ident cs rest (Word cs ∷ []) p.1 refl refl (record { matched = refl; paired = refl }) e f h
-put_grows at (piece.Literal kind) old new s cs rest joint p q j e f h = grows_added old new s (piece.Literal kind) cs rest (Quoted cs ∷ []) p.1 refl refl (record { matched = refl; paired = refl }) e f h
+    grows_added old.frames.items new.frames.items old.stream new.stream s piece.Mark cs rest (Sign (head cs) (spacing_of joint) ∷ []) p.1.frames_are p.1.stream_is (ap (λ b. Sign (head cs) (spacing_of b) ∷ []) (j refl)) refl (record { matched = refl; paired = refl }) e f h
+put_grows at piece.Ident old new s cs rest joint p q j e f h = grows_added old.frames.items new.frames.items old.stream new.stream s piece.Ident cs rest (Word cs ∷ []) p.1.frames_are p.1.stream_is refl refl (record { matched = refl; paired = refl }) e f h
+put_grows at (piece.Literal kind) old new s cs rest joint p q j e f h = grows_added old.frames.items new.frames.items old.stream new.stream s (piece.Literal kind) cs rest (Quoted cs ∷ []) p.1.frames_are p.1.stream_is refl refl (record { matched = refl; paired = refl }) e f h
 
 -- what isn't put is a closing mark that closes nothing
 pub record Refuses (k : PieceKind) (old : Builder) : Type 0 where

@@ -16,3 +16,4 @@ pub mod Building
 pub mod Reading
 pub mod OneForest
 pub mod Halts
+pub mod Total

@@ -60,7 +60,7 @@ some_between bytes at end p b = filled (between bytes at end) (between_joined by
     filled (c ∷ cs) e = omega arith
 
 pub read_on : (base : ℕ) (bytes : List ℕ) (at end n : ℕ) (k : PieceKind) (old new : Builder) → ReadTo base bytes at n old → FitsAt at k (between bytes at end) (rest_at bytes end) → IsBehind bytes at end →
-    Grows base n k (between bytes at end) (rest_at bytes end) old new → ReadTo base bytes end (n + length (between bytes at end)) new
+    Grows base n k (between bytes at end) (rest_at bytes end) old.frames.items old.stream new.frames.items new.stream → ReadTo base bytes end (n + length (between bytes at end)) new
 read_on base bytes at end n k old new r f b g =
     let cs = between bytes at end in
     let rest = rest_at bytes end in

@@ -5,7 +5,7 @@
 ghost use Rattle.proc_macro2.specs.Forest.{IsForest, IsLexicalFault};
 ghost use Rattle.proc_macro2.specs.Token.{Spanned};
 ghost use Rattle.rust_token.specs.declared.place.LineColumn.{LineColumn};
-ghost use Rattle.std.specs.Prelude.{ℕ, ◌≡◌, List};
+ghost use Rattle.std.specs.Prelude.{ℕ, ◌≡◌, ◌⊎◌, List};
 
 /// A text has at most one forest: its tokens and their spans are determined.
 pub fn one_forest()
@@ -20,4 +20,9 @@ pub fn no_forest()
 /// A text has at most one lexical fault: two of them stand at the same line and column.
 pub fn one_fault()
     ensures { (text : List ℕ) (p q : LineColumn) → IsLexicalFault text p → IsLexicalFault text q → p ≡ q }
+{}
+
+/// Each text has a forest or a lexical fault.
+pub fn forest_or_fault()
+    ensures { (base : ℕ) (text : List ℕ) → ((ts : List Spanned) × IsForest base text ts) ⊎ ((place : LineColumn) × IsLexicalFault text place) }
 {}
