@@ -19,7 +19,7 @@ use Rattle.proc_macro2.specs.Groups.{same_delimiter, IsMatched}
 use Rattle.proc_macro2.specs.Flat.{spanned}
 use Rattle.proc_macro2.specs.Pieces.{delimiter_of, edged, edged_at, all_at, span_at, piece_tokens, spacing_of, head, doc_marks, doc_group, doc_text}
 use Rattle.proc_macro2.specs.Forest.{ArePaired, closed, open_behind}
-use Rattle.proc_macro2.specs.Built.{opening_of, openings_of, frame_tokens, built, IsOpened, IsAdded, IsClosed, IsPut, stretch_span}
+use Rattle.proc_macro2.specs.Built.{opening_of, openings_of, frame_tokens, built, IsPut, stretch_span}
 use Rattle.proc_macro2.specs.declared.builder.Frame.{Frame}
 use Rattle.proc_macro2.specs.declared.builder.Builder.{Builder}
 use Rattle.proc_macro2.specs.declared.builder.Stretch.{Stretch}

@@ -1,14 +1,12 @@
 -- Every text has a forest or a fault.
-use Rattle.std.proofs.Common.{◌≡◌, ℕ, zero, suc, ◌+◌, ◌≤◌, ◌<◌, arith, List, [], ◌∷◌, ◌++◌, refl, sym, ap, ap₂, ◌∙◌, subst, length, map, inl, inr, ⊎_elim, length-append}
-use Rattle.std.specs.Prelude.{Bool, true, false, cond, Option, Some, None, ◌⊎◌}
+use Rattle.std.proofs.Common.{◌≡◌, ℕ, zero, suc, ◌+◌, ◌≤◌, arith, List, [], ◌∷◌, ◌++◌, refl, sym, ap, ◌∙◌, subst, length, inl, inr, ⊎_elim, length-append}
+use Rattle.std.specs.Prelude.{Bool, true, false, cond, Some, None, ◌⊎◌}
 use Rattle.std.specs.List.{All}
 use Rattle.std.proofs.lemmas.List.Elements.{All-nil}
 use Rattle.rust_token.specs.declared.place.LineColumn.{LineColumn}
 use Rattle.rust_token.specs.Places.{place_of}
-use Rattle.rust_map.specs.Spans.{span_from, span_part}
-use Rattle.rust_map.specs.declared.span.Span.{Span}
+use Rattle.rust_map.specs.Spans.{span_from}
 use Rattle.rust_lex.specs.declared.delimiter.Delimiter.{Delimiter as LexDelimiter}
-use Rattle.rust_lex.specs.declared.opener.Alphabet.{Alphabet}
 use Rattle.rust_lex.specs.declared.opener.Opener.{Opener}
 use Rattle.rust_lex.specs.declared.opener.Opener.TheVariants as opener
 use Rattle.rust_lex.specs.declared.piece.LiteralKind.{LiteralKind}
@@ -16,21 +14,20 @@ use Rattle.rust_lex.specs.declared.piece.PieceKind.{PieceKind}
 use Rattle.rust_lex.specs.declared.piece.PieceKind.TheVariants as piece
 use Rattle.rust_lex.specs.Chars.{begins, is_digit}
 use Rattle.rust_lex.specs.Quoted.{opening_of as quote_of, prefix}
-use Rattle.rust_lex.specs.Piece.{Piece, Fits, FitsFront, FitsAt, IsBody, IsLiteral, closing, is_joint}
-use Rattle.rust_lex.specs.Cover.{onto, AreFit, AreFitFront, Covers, NoPieceAt}
+use Rattle.rust_lex.specs.Piece.{Piece, Fits, FitsFront, FitsAt, IsBody, IsLiteral, closing}
+use Rattle.rust_lex.specs.Cover.{onto, AreFit, AreFitFront}
 use Rattle.rust_lex.specs.Scan.{Scanned, Nowhere, Ends, scan_at}
 use Rattle.rust_lex.proofs.Complete.{complete_at}
 use Rattle.rust_lex.proofs.Sound.{FoundAt, sound_at, front_fits}
 use Rattle.proc_macro2.specs.declared.delimiter.Delimiter.TheVariants as delimiter
-use Rattle.proc_macro2.specs.Token.{Delimiter, Spanned, Opens, Closes, Quoted, Word, Sign}
+use Rattle.proc_macro2.specs.Token.{Delimiter, Spanned}
 use Rattle.proc_macro2.specs.Groups.{same_delimiter}
-use Rattle.proc_macro2.specs.Flat.{spanned}
-use Rattle.proc_macro2.specs.Pieces.{delimiter_of, tokens_of, piece_tokens, all_at, edged}
-use Rattle.proc_macro2.specs.Forest.{Opening, openings, open_behind, closed, count, IsForest, Reaches, IsFaultBehind, IsLexicalFault}
+use Rattle.proc_macro2.specs.Pieces.{delimiter_of, tokens_of, piece_tokens, all_at}
+use Rattle.proc_macro2.specs.Forest.{openings, open_behind, closed, count, IsForest, Reaches, IsFaultBehind, IsLexicalFault}
 use Rattle.proc_macro2.specs.Built.{openings_of, opening_of, built, stretch_span}
 use Rattle.proc_macro2.specs.declared.builder.Frame.{Frame}
 use Rattle.proc_macro2.specs.declared.builder.Stretch.{Stretch}
-use Rattle.proc_macro2.proofs.Covering.{onto_append, onto_rest, count_more, tokens_at, tokens_more, openings_more}
+use Rattle.proc_macro2.proofs.Covering.{onto_append, count_more, tokens_at, tokens_more, openings_more}
 use Rattle.proc_macro2.proofs.Building.{IsWhole, IsFrameIn, Grows, no_tokens, doc_whole, fits_open, fits_close, openings_push, grows_added, grows_opened, grows_closed}
 use Rattle.proc_macro2.proofs.Docs.{doc_long}
 use Rattle.proc_macro2.proofs.Puts.{front_cases}
