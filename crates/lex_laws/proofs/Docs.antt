@@ -123,37 +123,37 @@ onto_count (suc k) j n acc h =
 small : (c : ℕ) → scalar c ≡ true → c < 1114112
 small c h = ⊎_elim (λ l. omega arith) (λ l. l.1) (scalar_cases c h)
 
-digits_value : (c : ℕ) → scalar c ≡ true → hex_value 0 (digits 16 false c) ≡ c
+pub digits_value : (c : ℕ) → scalar c ≡ true → hex_value 0 (digits 16 false c) ≡ c
 unfolding digits
 digits_value c h = let l = small c h in onto_value 64 c [] (omega arith)
 
-digits_pass : (c : ℕ) → passes is_hex (digits 16 false c) ≡ true
+pub digits_pass : (c : ℕ) → passes is_hex (digits 16 false c) ≡ true
 unfolding digits
 digits_pass c = onto_pass 64 c [] refl
 
-digits_begin : (c : ℕ) → begins is_hex (digits 16 false c) ≡ true
+pub digits_begin : (c : ℕ) → begins is_hex (digits 16 false c) ≡ true
 unfolding digits
 digits_begin c = some_begins 63 c
 
-digits_few : (c : ℕ) → scalar c ≡ true → hex_count (digits 16 false c) ≤ 6
+pub digits_few : (c : ℕ) → scalar c ≡ true → hex_count (digits 16 false c) ≤ 6
 unfolding digits
 digits_few c h = let l = small c h in let few = onto_count 64 5 c [] (omega arith) in omega arith
 
 -- the digits before the brace
-passing_hex : (cs : List ℕ) → passes is_hex cs ≡ true → passing is_hex_or_line (cs ++ (125 ∷ [])) ≡ cs
+pub passing_hex : (cs : List ℕ) → passes is_hex cs ≡ true → passing is_hex_or_line (cs ++ (125 ∷ [])) ≡ cs
 passing_hex [] h = rw brace_no_hex refl
 passing_hex (c ∷ cs) h = let (a, b) = and_parts (is_hex c) (passes is_hex cs) h in rw a (ap (λ r. c ∷ r) (passing_hex cs b))
 
-past_digits : (cs : List ℕ) → passes is_hex cs ≡ true → past is_hex_or_line (cs ++ (125 ∷ [])) ≡ 125 ∷ []
+pub past_digits : (cs : List ℕ) → passes is_hex cs ≡ true → past is_hex_or_line (cs ++ (125 ∷ [])) ≡ 125 ∷ []
 past_digits [] h = rw brace_no_hex refl
 past_digits (c ∷ cs) h = let (a, b) = and_parts (is_hex c) (passes is_hex cs) h in rw a (past_digits cs b)
 
-code : (c : ℕ) → scalar c ≡ true → is_code Characters (digits 16 false c) ≡ true
+pub code : (c : ℕ) → scalar c ≡ true → is_code Characters (digits 16 false c) ≡ true
 code c h = and_from (begins is_hex (digits 16 false c)) (nat_le (hex_count (digits 16 false c)) 6 && scalar (hex_value 0 (digits 16 false c)))
     (digits_begin c)
     (and_from (nat_le (hex_count (digits 16 false c)) 6) (scalar (hex_value 0 (digits 16 false c))) (le-leb (hex_count (digits 16 false c)) 6 (digits_few c h)) (ap scalar (digits_value c h) ∙ h))
 
-braces : (cs : List ℕ) → passes is_hex cs ≡ true → is_code Characters cs ≡ true → past_braces Characters (123 ∷ (cs ++ (125 ∷ []))) ≡ Some []
+pub braces : (cs : List ℕ) → passes is_hex cs ≡ true → is_code Characters cs ≡ true → past_braces Characters (123 ∷ (cs ++ (125 ∷ []))) ≡ Some []
 unfolding past_braces
 braces cs p h = rw (passing_hex cs p, past_digits cs p) (rw h refl)
 

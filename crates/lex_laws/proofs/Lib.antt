@@ -7,5 +7,11 @@ pub mod Plain
 pub mod Printing
 pub mod Reading
 pub mod Docs
+pub mod Quotes
+pub mod CStrings
+pub mod Integers
 pub mod ReadLeaves
 pub mod Forests
+pub mod Identifiers
+pub mod Streams
+pub mod Exactly

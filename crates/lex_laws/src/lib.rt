@@ -1,6 +1,13 @@
 //! Printed tokens are read back exactly if they are well spaced.
 //!
-//! - `laws`: what holds of every text and the tokens that it is read as.
+//! The rules of `rust_lex` say which pieces a text has, and `proc_macro2` which tokens these pieces are
+//! and how tokens are printed. Here both are held against each other, for all texts and tokens: what is
+//! a leaf in some text is one by itself, the tokens of a text are well spaced leaves, and the printed
+//! text of leaves has the same tokens exactly if they are well spaced. A doc stands for its attribute.
+//!
+//! - `laws`: these laws.
+//! - `parsed`: the same of the stream that a text gives.
 #![tactic(auto)]
 
 pub mod laws;
+pub mod parsed;
