@@ -32,8 +32,8 @@ pub mod laws;
 pub mod parse;
 mod place;
 pub mod print;
-pub mod spacing;
 mod put;
+pub mod spacing;
 pub mod stream;
 pub mod tree;
 
