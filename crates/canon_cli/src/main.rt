@@ -2,6 +2,10 @@
 //! standard output, or says on standard error why there is none.
 #![tactic(auto)]
 
+ghost use Rattle.canon.specs.Message.{status_of};
+ghost use Rattle.std.specs.Prelude.{◌≡◌};
+ghost use Rattle.std.specs.Process.{exit_status};
+
 use canon::fault::{Fault, status, write_fault};
 use canon::run::run;
 use canon_io::watched::Watched;
@@ -38,7 +42,10 @@ fn has_arguments(rt: &HostRuntime) -> Result<bool, Fault> {
     }
 }
 
-fn ended(rt: &HostRuntime, outcome: &Result<(), Fault>) -> ExitCode {
+// Says the fault, if there is one, and ends with the outcome's status.
+fn ended(rt: &HostRuntime, outcome: &Result<(), Fault>) -> ExitCode
+    ensures { exit_status result ≡ status_of outcome.now }
+{
     if let Err(fault) = outcome {
         let _ = write_fault(fault, &mut rt.stderr());
     }
