@@ -1,5 +1,5 @@
 //! Builds a stream by hand: a struct with a doc comment and a derive attribute. Prints it, lexes the print,
-//! and says whether both streams print the same.
+//! and says whether both are the same stream: they are where both are well spaced and print the same.
 #![tactic(auto)]
 
 use anyhow::{Result, anyhow};
@@ -78,6 +78,7 @@ fn main(rt: HostRuntime) -> Result<()> {
         return Err(anyhow!("the print doesn't lex"));
     };
     let again = format!(in alloc; "{read}")?;
-    println!(rt; "the same stream again: {}", text == again)?;
+    let same = stream.is_well_spaced() && text == again;
+    println!(rt; "the same stream again: {same}")?;
     Ok(())
 }
