@@ -2,7 +2,7 @@
 //! tokens to standard output. For benchmarks: what it lexes, and how fast.
 #![tactic(auto)]
 
-use proc_macro2::fault::LexFault;
+use proc_macro2::LexFault;
 use proc_macro2::tree::TokenStream;
 use rust_map::source_map::SourceMap;
 use std::env;

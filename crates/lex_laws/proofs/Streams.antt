@@ -6,9 +6,9 @@ use Rattle.proc_macro2.specs.Groups.{IsMatched}
 use Rattle.proc_macro2.specs.Printed.{text}
 use Rattle.proc_macro2.specs.Spacing.{IsWellSpaced}
 use Rattle.proc_macro2.specs.Token.{Spanned, plain}
-use Rattle.proc_macro2.specs.declared.fault.LexError.{LexError}
-use Rattle.proc_macro2.specs.declared.fault.LexFault.{LexFault}
-use Rattle.proc_macro2.specs.declared.fault.LexFault.TheVariants.{Lex}
+use Rattle.rust_map.specs.declared.fault.LexError.{LexError}
+use Rattle.rust_map.specs.declared.fault.LexFault.{LexFault}
+use Rattle.rust_map.specs.declared.fault.LexFault.TheVariants.{Lex}
 use Rattle.lex_laws.specs.Leaf.{AreCharacters, AreLeaves}
 use Rattle.lex_laws.proofs.Forests.{forest_spaced, same_forest, spaced_no_fault}
 

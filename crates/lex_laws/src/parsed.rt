@@ -5,12 +5,12 @@ ghost use Rattle.proc_macro2.specs.Groups.{IsMatched};
 ghost use Rattle.proc_macro2.specs.Printed.{text};
 ghost use Rattle.proc_macro2.specs.Spacing.{IsWellSpaced};
 ghost use Rattle.proc_macro2.specs.Token.{Spanned, plain};
-ghost use Rattle.proc_macro2.specs.declared.fault.LexError.{LexError};
-ghost use Rattle.proc_macro2.specs.declared.fault.LexFault.TheVariants.{Lex};
+ghost use Rattle.rust_map.specs.declared.fault.LexError.{LexError};
+ghost use Rattle.rust_map.specs.declared.fault.LexFault.TheVariants.{Lex};
 ghost use Rattle.std.specs.Prelude.{◌≡◌, ◌↔◌, Err, IfOk, List};
 ghost use Rattle.std.specs.Str.{chars};
 
-use proc_macro2::fault::LexFault;
+use proc_macro2::LexFault;
 use proc_macro2::tree::TokenStream;
 use rust_map::SourceMap;
 use std::alloc::Global;

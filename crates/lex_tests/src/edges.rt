@@ -1,6 +1,6 @@
 //! Each lexical rule at its edges.
 
-use proc_macro2::fault::LexFault;
+use proc_macro2::LexFault;
 use proc_macro2::tree::TokenStream;
 use rust_map::LineColumn;
 use rust_map::source_map::SourceMap;

@@ -1,6 +1,6 @@
 //! Spans, lines and columns, and the room of the map.
 
-use proc_macro2::fault::LexFault;
+use proc_macro2::LexFault;
 use proc_macro2::tree::{TokenStream, TokenTree};
 use rust_map::LineColumn;
 use rust_map::source_map::SourceMap;

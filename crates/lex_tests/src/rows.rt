@@ -1,6 +1,6 @@
 //! Texts and their printed tokens.
 
-use proc_macro2::fault::LexFault;
+use proc_macro2::LexFault;
 use proc_macro2::tree::TokenStream;
 use rust_map::source_map::SourceMap;
 use std::alloc::Global;

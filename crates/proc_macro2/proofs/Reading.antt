@@ -20,8 +20,8 @@ use Rattle.proc_macro2.specs.Forest.{Opening, openings, open_behind, count, IsFo
 use Rattle.proc_macro2.specs.Built.{openings_of, opening_of, built}
 use Rattle.proc_macro2.specs.declared.builder.Frame.{Frame}
 use Rattle.proc_macro2.specs.declared.builder.Builder.{Builder}
-use Rattle.proc_macro2.specs.declared.fault.LexFault.{LexFault}
-use Rattle.proc_macro2.specs.declared.fault.LexFault.TheVariants.{Lex}
+use Rattle.rust_map.specs.declared.fault.LexFault.{LexFault}
+use Rattle.rust_map.specs.declared.fault.LexFault.TheVariants.{Lex}
 use Rattle.proc_macro2.proofs.Covering.{onto_rest, count_more, tokens_at, tokens_more, openings_more}
 use Rattle.proc_macro2.proofs.Building.{IsWhole, IsFrameIn, Grows, Refuses, no_tokens, fits_close, openings_push}
 

@@ -13,9 +13,9 @@ use Rattle.rust_lex.specs.declared.piece.PieceKind.TheVariants as piece
 use Rattle.proc_macro2.specs.Token.{Delimiter, Opens, Closes, Word, Quoted, Sign, Spanned}
 use Rattle.proc_macro2.specs.Groups.{same_delimiter, IsMatched}
 use Rattle.proc_macro2.specs.Pieces.{delimiter_of, edged, tokens_of}
-use Rattle.proc_macro2.specs.declared.fault.LexError.{LexError}
-use Rattle.proc_macro2.specs.declared.fault.LexFault.{LexFault}
-use Rattle.proc_macro2.specs.declared.fault.LexFault.TheVariants.{Lex, MapFull, Memory}
+use Rattle.rust_map.specs.declared.fault.LexError.{LexError}
+use Rattle.rust_map.specs.declared.fault.LexFault.{LexFault}
+use Rattle.rust_map.specs.declared.fault.LexFault.TheVariants.{Lex, MapFull, Memory}
 
 -- the closing token of each group carries the span of its opening one, where groups with these spans
 -- are open, the innermost first; and none is open at the end

@@ -13,7 +13,6 @@
 //! - `put`, `doc` (private): the tokens of one piece.
 //! - `builder` (private): trees that are built from tokens in their order.
 //! - `place` (private): the line and the column behind some characters.
-//! - `fault`: why a text has none.
 //! - `forest_laws`: laws of the streams of texts.
 //! - `print`: the printed text.
 //! - `spacing`: the test for streams that are read back from their text.
@@ -24,7 +23,6 @@ mod builder;
 pub mod copies;
 pub mod delimiter;
 mod doc;
-pub mod fault;
 pub mod forest_laws;
 pub mod group;
 pub mod into_iter;
@@ -38,12 +36,11 @@ pub mod stream;
 pub mod tree;
 
 pub use delimiter::Delimiter;
-pub use fault::{LexError, LexFault};
 pub use group::DelimSpan;
 pub use into_iter::IntoIter;
 pub use rust_leaf::ident::{Ident, IdentFault};
 pub use rust_leaf::literal::Literal;
 pub use rust_leaf::punct::{Punct, Spacing};
-pub use rust_map::{LineColumn, MapFull, SourceMap, Span};
+pub use rust_map::{LexError, LexFault, LineColumn, MapFull, SourceMap, Span};
 pub use tree::{Group, TokenStream, TokenTree};
 pub use try_clone::TryClone;

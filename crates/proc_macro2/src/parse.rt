@@ -1,7 +1,7 @@
 //! Token streams of texts.
 
 ghost use Rattle.proc_macro2.specs.Forest.{IsFault, IsForest};
-ghost use Rattle.proc_macro2.specs.declared.fault.LexFault.TheVariants.{Lex, MapFull};
+ghost use Rattle.rust_map.specs.declared.fault.LexFault.TheVariants.{Lex, MapFull};
 ghost use Rattle.rust_lex.specs.Piece as piece;
 ghost use Rattle.rust_lex.specs.Places.{IsPlace, rest_at};
 ghost use Rattle.rust_lex.specs.declared.piece.PieceKind.TheVariants.{Mark};
@@ -12,13 +12,13 @@ ghost use Rattle.std.specs.Prelude.{◌≡◌, ◌≢◌, ◌+◌, ◌^◌, ◌<
 ghost use Rattle.std.specs.Str.{chars};
 
 use crate::builder::{Builder, Stretch};
-use crate::fault::{LexError, LexFault};
 use crate::place::place_behind;
 use crate::put::put;
 use crate::tree::TokenStream;
 use rust_lex::piece::PieceKind;
 use rust_lex::scan::{is_joint, next_piece};
 use rust_map::characters;
+use rust_map::fault::{LexError, LexFault};
 use rust_map::source_map::SourceMap;
 use rust_map::span::Span;
 use std::alloc::Global;
@@ -29,10 +29,10 @@ fn fault_behind(text: &str, whole: Span, count: u32) -> LexFault
     requires whole { whole.start + length (chars text.now) ≡ whole.end }
     ensures { result ≡ Lex (record { span = span_part whole count count; place = place_of (chars text.now) count }) }
 {
-    LexFault::Lex(LexError {
-        span: whole.part(count, count),
-        place: place_behind(text, count),
-    })
+    LexFault::Lex(LexError::new(
+        whole.part(count, count),
+        place_behind(text, count),
+    ))
 }
 
 // Whether the piece at a place is joint, if it is a mark.
@@ -88,8 +88,10 @@ impl TokenStream {
     /// doc comment gives the tokens of the attribute that it stands for.
     ///
     /// `LexFault::MapFull` is answered, before the text is looked at, exactly if the map has no
-    /// positions left for so many characters; `LexFault::Lex` if the text has a lexical fault;
-    /// `LexFault::Memory` if memory was refused. Each of them leaves the map as it was.
+    /// positions left for so many characters; `LexFault::Lex` if the text has a lexical fault: where no
+    /// piece begins, where a closing delimiter closes nothing, or where the innermost group was opened
+    /// that is open at the text's end; `LexFault::Memory` if memory was refused. Each of them leaves the
+    /// map as it was.
     pub fn from_str(alloc: Global, src: &str, map: &mut SourceMap) -> Result<TokenStream, LexFault>
         ensures parsed { IfOk result (λ stream. IsForest (next_position map.old) (chars src.now) stream) }
         ensures fault { IfErr result (IsFault (next_position map.old) (chars src.now)) }

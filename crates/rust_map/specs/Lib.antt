@@ -5,3 +5,4 @@ pub mod Spans
 pub mod Sources
 pub mod Answers
 pub mod Found
+pub mod Faults

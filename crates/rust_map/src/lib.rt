@@ -6,18 +6,21 @@
 //! - `span`: a pair of positions, and what a map says of it: line, column, bytes, text.
 //! - `source_map`: the texts of a map.
 //! - `ahead`: the span that a text will have.
+//! - `fault`: why a text was refused.
 //! - `file` (private): a text with its tables.
 //! - `tables` (private, but for `characters`): the tables of a text.
 //! - `walk` (private): one character on.
 #![tactic(auto)]
 
 pub mod ahead;
+pub mod fault;
 mod file;
 pub mod source_map;
 pub mod span;
 mod tables;
 mod walk;
 
+pub use fault::{LexError, LexFault};
 pub use rust_token::place::LineColumn;
 pub use source_map::{MapFull, SourceMap};
 pub use span::Span;
