@@ -15,3 +15,8 @@ pub mod Forests
 pub mod Identifiers
 pub mod Streams
 pub mod Exactly
+pub mod SourceTexts
+pub mod Begun
+pub mod FirstTokens
+pub mod Standing
+pub mod PlacedStreams

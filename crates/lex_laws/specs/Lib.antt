@@ -1,3 +1,4 @@
 pub mod Calm
 pub mod Leaf
+pub mod Place
 pub mod Read

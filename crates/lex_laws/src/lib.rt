@@ -7,7 +7,11 @@
 //!
 //! - `laws`: these laws.
 //! - `parsed`: the same of the stream that a text gives.
+//! - `places`: laws on where the tokens of a text stand in it.
+//! - `placed`: what a map says of the tokens of a text.
 #![tactic(auto)]
 
 pub mod laws;
 pub mod parsed;
+pub mod placed;
+pub mod places;

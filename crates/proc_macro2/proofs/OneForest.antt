@@ -13,27 +13,27 @@ abbrev It : Type 0 → Type 0
 It A = A
 
 -- the first character of a span begins where it does, and the last ends where it does
-start_kept : (s : Span) → (first_of s).start ≡ s.start
+pub start_kept : (s : Span) → (first_of s).start ≡ s.start
 start_kept s = here (nat_lt s.start s.end)
   where
     here : (b : Bool) → (cond b (span_from s.start (s.start + 1)) s).start ≡ s.start
     here true = refl
     here false = refl
 
-end_kept : (s : Span) → (last_of s).«end» ≡ s.«end»
+pub end_kept : (s : Span) → (last_of s).«end» ≡ s.«end»
 end_kept s = here (nat_lt s.start s.end)
   where
     here : (b : Bool) → (cond b (span_from (s.end - 1) s.end) s).«end» ≡ s.«end»
     here true = refl
     here false = refl
 
-same_start : (a b : Span) → first_of a ≡ first_of b → a.start ≡ b.start
+pub same_start : (a b : Span) → first_of a ≡ first_of b → a.start ≡ b.start
 same_start a b e = sym (start_kept a) ∙ ap (λ s. s.start) e ∙ start_kept b
 
-same_end : (a b : Span) → last_of a ≡ last_of b → a.«end» ≡ b.«end»
+pub same_end : (a b : Span) → last_of a ≡ last_of b → a.«end» ≡ b.«end»
 same_end a b e = sym (end_kept a) ∙ ap (λ s. s.«end») e ∙ end_kept b
 
-same_span : (a b : Span) → a.start ≡ b.start → a.«end» ≡ b.«end» → a ≡ b
+pub same_span : (a b : Span) → a.start ≡ b.start → a.«end» ≡ b.«end» → a ≡ b
 same_span a b s e = ap₂ span_from s e
 
 abbrev starts : List Span → List ℕ

@@ -136,7 +136,7 @@ ending (f ∷ fs) =
     (λ l. inr (record { others = f ∷ l.others; last = l.last; is = ap (λ x. f ∷ x) l.is }))
     (ending fs)
 
-same_true : (a b : Delimiter) → same_delimiter a b ≡ true → a ≡ b
+pub same_true : (a b : Delimiter) → same_delimiter a b ≡ true → a ≡ b
 same_true delimiter.Parenthesis delimiter.Parenthesis e = refl
 same_true delimiter.Brace delimiter.Brace e = refl
 same_true delimiter.Bracket delimiter.Bracket e = refl
