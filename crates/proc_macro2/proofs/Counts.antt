@@ -6,8 +6,8 @@ use Rattle.std.specs.List.{take_while, prefix_len}
 use Rattle.std.specs.Str.{chars, IsUtf8}
 use Rattle.std.proofs.lemmas.List.{reverse-append}
 use Rattle.std.proofs.lemmas.List.Sums.{sum_by_push}
-use Rattle.rust_token.specs.Places.{is_line_feed, place_behind, place_of}
-use Rattle.rust_token.specs.declared.place.LineColumn.{LineColumn}
+use Rattle.rust_map.specs.Places.{is_line_feed, place_behind, place_of}
+use Rattle.rust_map.specs.declared.place.LineColumn.{LineColumn}
 use Rattle.rust_lex.specs.Places.{rest_at, IsPlace, IsBehind}
 use Rattle.rust_lex.proofs.PlacesLemmas.{first_place, rest_end}
 

@@ -2,8 +2,8 @@
 use Rattle.std.proofs.Common.{◌≡◌, ◌≢◌, ℕ, zero, suc, ◌+◌, List, [], ◌∷◌, ◌++◌, refl, sym, ap, ap₂, ◌∙◌, subst, ⊎_elim, map, inl, inr, arith, length}
 use Rattle.std.specs.Prelude.{Bool, true, false, cond, Option, Some, None, option_map, option_and_then, ◌⊎◌}
 use Rattle.std.proofs.lemmas.List.{append-nil}
-use Rattle.rust_token.specs.declared.place.LineColumn.{LineColumn}
-use Rattle.rust_token.specs.Places.{place_of}
+use Rattle.rust_map.specs.declared.place.LineColumn.{LineColumn}
+use Rattle.rust_map.specs.Places.{place_of}
 use Rattle.rust_lex.specs.declared.delimiter.Delimiter.{Delimiter as LexDelimiter}
 use Rattle.rust_lex.specs.declared.piece.DocKind.{DocKind}
 use Rattle.rust_lex.specs.declared.piece.DocKind.TheVariants as doc

@@ -7,7 +7,7 @@ use Rattle.std.proofs.lemmas.List.Elements.{All-nil, All-pop}
 use Rattle.std.proofs.lemmas.Str.{encodes-chars}
 use Rattle.rust_map.specs.Spans.{span_part}
 use Rattle.rust_map.specs.declared.span.Span.{Span}
-use Rattle.rust_token.specs.Places.{place_of}
+use Rattle.rust_map.specs.Places.{place_of}
 use Rattle.rust_lex.specs.Piece.{Piece, FitsAt, closing}
 use Rattle.rust_lex.specs.Cover.{onto, Covers, NoPieceAt}
 use Rattle.rust_lex.specs.Places.{rest_at, between, IsPlace, IsBehind}

@@ -3,8 +3,8 @@ use Rattle.std.proofs.Common.{◌≡◌, ℕ, zero, suc, ◌+◌, ◌≤◌, ari
 use Rattle.std.specs.Prelude.{Bool, true, false, cond, Some, None, ◌⊎◌}
 use Rattle.std.specs.List.{All}
 use Rattle.std.proofs.lemmas.List.Elements.{All-nil}
-use Rattle.rust_token.specs.declared.place.LineColumn.{LineColumn}
-use Rattle.rust_token.specs.Places.{place_of}
+use Rattle.rust_map.specs.declared.place.LineColumn.{LineColumn}
+use Rattle.rust_map.specs.Places.{place_of}
 use Rattle.rust_map.specs.Spans.{span_from}
 use Rattle.rust_lex.specs.declared.delimiter.Delimiter.{Delimiter as LexDelimiter}
 use Rattle.rust_lex.specs.declared.opener.Opener.{Opener}

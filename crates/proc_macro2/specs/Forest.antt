@@ -1,8 +1,8 @@
 -- The forest of a text: the tokens of its cover where its groups match. A text without one has a
 -- lexical fault.
 use Rattle.std.specs.Prelude.{◌≡◌, ◌≢◌, ℕ, ◌+◌, List, [], ◌∷◌, length, map, cond, Option, Some, None, option_and_then, ◌⊎◌}
-use Rattle.rust_token.specs.declared.place.LineColumn.{LineColumn}
-use Rattle.rust_token.specs.Places.{place_of}
+use Rattle.rust_map.specs.declared.place.LineColumn.{LineColumn}
+use Rattle.rust_map.specs.Places.{place_of}
 use Rattle.rust_map.specs.Spans.{span_from}
 use Rattle.rust_map.specs.declared.span.Span.{Span}
 use Rattle.rust_lex.specs.Cover.{onto, Covers, IsCover, NoPieceAt}

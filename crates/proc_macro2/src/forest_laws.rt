@@ -4,7 +4,7 @@
 
 ghost use Rattle.proc_macro2.specs.Forest.{IsForest, IsLexicalFault};
 ghost use Rattle.proc_macro2.specs.Token.{Spanned};
-ghost use Rattle.rust_token.specs.declared.place.LineColumn.{LineColumn};
+ghost use Rattle.rust_map.specs.declared.place.LineColumn.{LineColumn};
 ghost use Rattle.std.specs.Prelude.{ℕ, ◌≡◌, ◌⊎◌, List};
 
 /// A text has at most one forest: its tokens and their spans are determined.

@@ -5,9 +5,9 @@ ghost use Rattle.rust_map.specs.declared.fault.LexFault.TheVariants.{Lex, MapFul
 ghost use Rattle.rust_lex.specs.Piece as piece;
 ghost use Rattle.rust_lex.specs.Places.{IsPlace, rest_at};
 ghost use Rattle.rust_lex.specs.declared.piece.PieceKind.TheVariants.{Mark};
+ghost use Rattle.rust_map.specs.Places.{place_of};
 ghost use Rattle.rust_map.specs.Sources.{next_position, with_text};
 ghost use Rattle.rust_map.specs.Spans.{span_part};
-ghost use Rattle.rust_token.specs.Places.{place_of};
 ghost use Rattle.std.specs.Prelude.{◌≡◌, ◌≢◌, ◌+◌, ◌^◌, ◌<◌, ◌≤◌, ◌↔◌, Err, IfErr, IfOk, OnErr, OnOk, length};
 ghost use Rattle.std.specs.Str.{chars};
 

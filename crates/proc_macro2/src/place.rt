@@ -1,6 +1,6 @@
 //! Places of a text by numbers of characters.
 
-ghost use Rattle.rust_token.specs.Places.{place_of};
+ghost use Rattle.rust_map.specs.Places.{place_of};
 ghost use Rattle.std.specs.Prelude.{◌≡◌, ◌≤◌, length};
 ghost use Rattle.std.specs.Str.{chars};
 

@@ -8,8 +8,8 @@ use Rattle.std.proofs.lemmas.List.{append-nil}
 use Rattle.std.proofs.lemmas.Bool.{ne_eqb, cases_eq, cases_lt, lt-leb, le-leb}
 use Rattle.std.proofs.lemmas.List.{get_or_default}
 use Rattle.std.specs.List.Sorted.{IsNonDecreasingBy, IsPartitionPoint}
-use Rattle.rust_token.specs.declared.place.LineColumn.{LineColumn}
-use Rattle.rust_token.specs.Places.{is_line_feed, place_behind, place_of}
+use Rattle.rust_map.specs.declared.place.LineColumn.{LineColumn}
+use Rattle.rust_map.specs.Places.{is_line_feed, place_behind, place_of}
 use Rattle.rust_map.specs.Tables.{line_starts_from, line_starts_of}
 
 pub starts_nil : (count : ℕ) → line_starts_from count [] ≡ []

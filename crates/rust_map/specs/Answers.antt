@@ -2,8 +2,8 @@
 use Rattle.std.specs.Prelude.{ℕ, Bool, true, false, ◌+◌, ◌==◌, if◌then◌else◌, List, ◌++◌, Option, Some, None, option_map, codes}
 use Rattle.std.specs.Fmt.{decimal}
 use Rattle.std.specs.Option.{option_map_or}
-use Rattle.rust_token.specs.declared.place.LineColumn.{LineColumn}
-use Rattle.rust_token.specs.Places.{place_of}
+use Rattle.rust_map.specs.declared.place.LineColumn.{LineColumn}
+use Rattle.rust_map.specs.Places.{place_of}
 use Rattle.rust_map.specs.Bytes.{byte_count, between}
 use Rattle.rust_map.specs.Spans.{Span, span_over}
 use Rattle.rust_map.specs.Sources.{Sources, Spot, spot}

@@ -1,7 +1,7 @@
 -- Where a text is at fault, and what is said of it.
 use Rattle.std.specs.Prelude.{ℕ, List, ◌++◌, codes}
 use Rattle.std.specs.Fmt.{decimal}
-use Rattle.rust_token.specs.declared.place.LineColumn.{LineColumn}
+use Rattle.rust_map.specs.declared.place.LineColumn.{LineColumn}
 use Rattle.rust_map.specs.Spans.{span_from}
 use Rattle.rust_map.specs.declared.fault.LexError.{LexError}
 use Rattle.rust_map.specs.declared.fault.LexFault.{LexFault}

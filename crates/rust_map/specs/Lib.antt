@@ -1,3 +1,4 @@
+pub mod Places
 pub mod Bytes
 pub mod Tables
 pub mod Files

@@ -1,7 +1,7 @@
 -- The tables of a text: where its lines begin, and where every 128th character begins.
 use Rattle.std.specs.Prelude.{ℕ, ◌+◌, ◌%◌, ◌==◌, if◌then◌else◌, List, [], ◌∷◌, length}
 use Rattle.std.specs.Char.{len_utf8}
-use Rattle.rust_token.specs.Places.{is_line_feed}
+use Rattle.rust_map.specs.Places.{is_line_feed}
 use Rattle.rust_map.specs.Bytes.{byte_length}
 
 -- where lines begin in the rest of a text, behind each line feed: so many characters stand before it

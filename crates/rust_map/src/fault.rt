@@ -5,7 +5,7 @@ ghost use Rattle.rust_map.specs.declared.fault.LexFault.TheVariants as lex_fault
 ghost use Rattle.std.specs.Prelude.{◌≡◌, Some};
 
 use crate::span::Span;
-use rust_token::place::LineColumn;
+use crate::place::LineColumn;
 use std::alloc::AllocError;
 use std::fmt;
 

@@ -2,15 +2,15 @@
 
 ghost use Rattle.rust_map.specs.Bytes.{between, byte_count};
 ghost use Rattle.rust_map.specs.Tables.{byte_steps_of, line_starts_of};
-ghost use Rattle.rust_token.specs.Places.{place_of};
+ghost use Rattle.rust_map.specs.Places.{place_of};
 ghost use Rattle.std.specs.Prelude.{◌≡◌, ◌<◌, ◌≤◌, ◌^◌, length, IfOk};
 ghost use Rattle.std.specs.Str.{chars};
 ghost use Rattle.std.specs.String.{string_bytes};
 
+use crate::place::LineColumn;
 use crate::span::Span;
 use crate::tables::{STEP, byte_steps, characters, line_starts, lines_begun};
 use crate::walk::byte_behind;
-use rust_token::place::LineColumn;
 use std::alloc::{AllocError, Global};
 
 /// A text of the map. Characters and bytes of it are counted from 0.

@@ -3,6 +3,7 @@
 //! A map lays its texts one behind the other on one line of positions: a text takes a position
 //! for each of its characters, and one for its end. A span is a pair of positions.
 //!
+//! - `place`: a line and a column.
 //! - `span`: a pair of positions, and what a map says of it: line, column, bytes, text.
 //! - `source_map`: the texts of a map.
 //! - `ahead`: the span that a text will have.
@@ -15,13 +16,14 @@
 pub mod ahead;
 pub mod fault;
 mod file;
+pub mod place;
 pub mod source_map;
 pub mod span;
 mod tables;
 mod walk;
 
 pub use fault::{LexError, LexFault};
-pub use rust_token::place::LineColumn;
+pub use place::LineColumn;
 pub use source_map::{MapFull, SourceMap};
 pub use span::Span;
 pub use tables::characters;

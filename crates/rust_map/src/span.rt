@@ -6,8 +6,8 @@ ghost use Rattle.rust_map.specs.Spans.{call_site, first_of, last_of, span_length
 ghost use Rattle.std.specs.Prelude.{◌≡◌, ◌==◌, ◌&&◌, ◌+◌, ◌-◌, ◌<◌, ◌≤◌, ◌↔◌, IfOk, IsNone, IsTrue, option_map, string_bytes, if◌then◌else◌};
 ghost use Rattle.std.specs.Str.{chars};
 
+use crate::place::LineColumn;
 use crate::source_map::SourceMap;
-use rust_token::place::LineColumn;
 use std::alloc::{AllocError, Global};
 use std::ops::Range;
 use std::path::PathBuf;
