@@ -35,7 +35,14 @@ impl Group {
     pub fn stream(&self) -> Result<TokenStream, AllocError>
         ensures { IfOk result (λ s. s ≡ self.now.stream) }
     {
-        copied_stream(&self.stream)
+        copied_stream(self.stream_ref())
+    }
+
+    /// The stream between the delimiters, lent.
+    pub fn stream_ref(&self) -> &TokenStream
+        ensures { result.now ≡ self.now.stream }
+    {
+        &self.stream
     }
 
     /// Where the group stands, from its opening to its closing delimiter.

@@ -6,9 +6,9 @@ ghost use Rattle.rust_lex.specs.Piece as piece;
 ghost use Rattle.rust_lex.specs.Places.{IsPlace, rest_at};
 ghost use Rattle.rust_lex.specs.declared.piece.PieceKind.TheVariants.{Mark};
 ghost use Rattle.rust_map.specs.Places.{place_of};
-ghost use Rattle.rust_map.specs.Sources.{next_position, with_text};
+ghost use Rattle.rust_map.specs.Sources.{next_position, next_span, next_spot, spot, with_text};
 ghost use Rattle.rust_map.specs.Spans.{span_part};
-ghost use Rattle.std.specs.Prelude.{◌≡◌, ◌≢◌, ◌+◌, ◌^◌, ◌<◌, ◌≤◌, ◌↔◌, Err, IfErr, IfOk, OnErr, OnOk, length};
+ghost use Rattle.std.specs.Prelude.{◌≡◌, ◌≢◌, ◌+◌, ◌^◌, ◌<◌, ◌≤◌, ◌↔◌, Err, IfErr, IfOk, OnErr, OnOk, Some, length};
 ghost use Rattle.std.specs.Str.{chars};
 
 use crate::builder::{Builder, Stretch};
@@ -97,6 +97,7 @@ impl TokenStream {
         ensures fault { IfErr result (IsFault (next_position map.old) (chars src.now)) }
         ensures full { (result ≡ Err MapFull) ↔ (2 ^ 32 ≤ next_position map.old + length (chars src.now)) }
         ensures map_ok { OnOk result (map.new ≡ with_text map.old (chars src.now)) }
+        ensures spot { OnOk result (spot map.new (next_span map.old (chars src.now)) ≡ Some (next_spot map.old (chars src.now))) }
         ensures map_err { OnErr result (map.new ≡ map.old) }
     {
         let Ok(whole) = map.span_ahead(characters(src)) else {

@@ -32,6 +32,13 @@ impl TokenStream {
         self.trees.is_empty()
     }
 
+    /// The trees of the stream, in order, lent. Groups come whole.
+    pub fn trees(&self) -> &[TokenTree]
+        ensures { trees_tokens result.now ≡ self.now }
+    {
+        self.trees.as_slice()
+    }
+
     /// The stream of one tree.
     pub fn from_tree(alloc: Global, tree: TokenTree) -> Result<TokenStream, AllocError>
         ensures { IfOk result (λ s. s ≡ entered tree) }
