@@ -1,4 +1,3 @@
-pub mod Minus
 pub mod Views
 pub mod Texts
 pub mod SpacingLemmas

@@ -1,21 +1,13 @@
 -- How a tree stands in a stream that it is put into: a literal that begins with a minus as an
 -- Alone - and the rest, both with its span, anything else as it is.
-use Rattle.std.specs.Prelude.{ℕ, Bool, false, ◌==◌, if◌then◌else◌, List, [], ◌∷◌, drop}
+use Rattle.std.specs.Prelude.{ℕ, if◌then◌else◌, List, [], ◌∷◌, drop}
 use Rattle.rust_map.specs.declared.span.Span.{Span}
 use Rattle.rust_leaf.specs.Leaf.{literal_span, literal_text}
+use Rattle.rust_leaf.specs.Minus.{minus, starts_with_minus}
 use Rattle.proc_macro2.specs.Token.{Quoted, Sign, Alone, Spanned}
 use Rattle.proc_macro2.specs.Flat.{spanned, tree_tokens}
 use Rattle.proc_macro2.specs.declared.tree.TokenTree.{TokenTree}
 use Rattle.proc_macro2.specs.declared.tree.TokenTree.TheVariants as tree
-
--- -
-abbrev pub minus : ℕ
-minus = 45
-
--- a text begins with a minus
-abbrev pub starts_with_minus : List ℕ → Bool
-starts_with_minus [] = false
-starts_with_minus (c ∷ cs) = c == minus
 
 -- a literal, by its text
 abbrev pub literal_entered : List ℕ → Span → List Spanned

@@ -29,10 +29,7 @@ fn fault_behind(text: &str, whole: Span, count: u32) -> LexFault
     requires whole { whole.start + length (chars text.now) ≡ whole.end }
     ensures { result ≡ Lex (record { span = span_part whole count count; place = place_of (chars text.now) count }) }
 {
-    LexFault::Lex(LexError::new(
-        whole.part(count, count),
-        place_behind(text, count),
-    ))
+    LexFault::Lex(LexError::new(whole.part(count, count), place_behind(text, count)))
 }
 
 // Whether the piece at a place is joint, if it is a mark.

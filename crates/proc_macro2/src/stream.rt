@@ -3,15 +3,15 @@
 //! A literal that begins with a minus stands in a stream as an `Alone` `-` and the rest, both
 //! with the literal's span.
 
-ghost use Rattle.proc_macro2.specs.Entered.{entered, literal_entered, minus, starts_with_minus};
+ghost use Rattle.proc_macro2.specs.Entered.{entered, literal_entered};
 ghost use Rattle.proc_macro2.specs.Flat.{trees_tokens};
 ghost use Rattle.rust_leaf.specs.Leaf.{literal_span, literal_text};
 ghost use Rattle.std.specs.List.{flat_map};
-ghost use Rattle.std.specs.Prelude.{[], ◌∷◌, ◌++◌, ◌≡◌, ◌↔◌, IfNone, IfOk, IfSome, IsTrue, OnErr, OnOk, false};
-ghost use Rattle.std.specs.Str.{chars};
+ghost use Rattle.std.specs.Prelude.{[], ◌++◌, ◌≡◌, ◌↔◌, IfOk, IsTrue, OnErr, OnOk};
 
 use crate::tree::{TokenStream, TokenTree};
 use rust_leaf::literal::Literal;
+use rust_leaf::minus::behind_minus;
 use rust_leaf::punct::{Punct, Spacing};
 use std::alloc::{AllocError, Global};
 
@@ -144,12 +144,4 @@ fn enter_literal(
     trees.push(TokenTree::Punct(minus))?;
     trees.push(TokenTree::Literal(rest))?;
     Ok(())
-}
-
-// What stands behind the minus that the text begins with.
-fn behind_minus(text: &str) -> Option<&str>
-    ensures none { IfNone result (starts_with_minus (chars text.now) ≡ false) }
-    ensures some { IfSome result (λ rest. chars text.now ≡ minus ∷ chars rest.now) }
-{
-    text.strip_prefix('-')
 }

@@ -4,3 +4,6 @@ pub mod Pushed
 pub mod Turns
 pub mod Numbers
 pub mod CStrings
+pub mod MinusLemmas
+pub mod Parsing
+pub mod Parts

@@ -3,3 +3,5 @@ pub mod Leaf
 pub mod Identifier
 pub mod Escaped
 pub mod CString
+pub mod Minus
+pub mod Parse

@@ -8,6 +8,9 @@
 //! - `literal`: literals, and their constructors.
 //! - `escape`: how characters and bytes are written inside quotes.
 //! - `integer`: the constructors of integer literals.
+//! - `minus`: the minus that may stand before a number.
+//! - `parse`: literals of texts, and which texts are literals.
+//! - `subspan`: the spans of parts of literals.
 //! - `laws`: laws of equality, order and hash.
 #![tactic(auto)]
 
@@ -16,4 +19,7 @@ pub mod ident;
 mod integer;
 pub mod laws;
 pub mod literal;
+pub mod minus;
+mod parse;
 pub mod punct;
+mod subspan;

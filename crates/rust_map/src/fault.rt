@@ -4,8 +4,8 @@ ghost use Rattle.rust_map.specs.Faults.{error_message, fault_message};
 ghost use Rattle.rust_map.specs.declared.fault.LexFault.TheVariants as lex_fault;
 ghost use Rattle.std.specs.Prelude.{◌≡◌, Some};
 
-use crate::span::Span;
 use crate::place::LineColumn;
+use crate::span::Span;
 use std::alloc::AllocError;
 use std::fmt;
 

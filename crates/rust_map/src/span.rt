@@ -2,8 +2,8 @@
 
 ghost use Rattle.rust_map.specs.Answers as answers;
 ghost use Rattle.rust_map.specs.Sources.{LiesAsPart, is_held};
-ghost use Rattle.rust_map.specs.Spans.{call_site, first_of, last_of, span_length, span_part};
-ghost use Rattle.std.specs.Prelude.{◌≡◌, ◌==◌, ◌&&◌, ◌+◌, ◌-◌, ◌<◌, ◌≤◌, ◌↔◌, IfOk, IsNone, IsTrue, option_map, string_bytes, if◌then◌else◌};
+ghost use Rattle.rust_map.specs.Spans.{call_site, first_of, last_of, part_within, span_length, span_part};
+ghost use Rattle.std.specs.Prelude.{◌≡◌, ◌==◌, ◌&&◌, ◌+◌, ◌-◌, ◌<◌, ◌≤◌, ◌↔◌, IfOk, IfSome, IsNone, IsTrue, option_map, string_bytes, if◌then◌else◌};
 ghost use Rattle.std.specs.Str.{chars};
 
 use crate::place::LineColumn;
@@ -82,6 +82,20 @@ impl Span {
         Span {
             start: span.start + from,
             end: span.start + to,
+        }
+    }
+
+    /// Its part between two counts of characters from its start, from 0; `None` where the first is past
+    /// the second, or this one past the span's end.
+    pub fn checked_part(&self, from: usize, to: usize) -> Option<Span>
+        ensures part { result ≡ part_within self.now from to }
+        ensures lies { IfSome result (LiesAsPart self.now from to) }
+    {
+        let length = self.end.checked_sub(self.start)? as usize;
+        if from <= to && to <= length {
+            Some(self.part(from as u32, to as u32))
+        } else {
+            None
         }
     }
 

@@ -3,7 +3,7 @@ use Rattle.std.proofs.Common.{◌≡◌, ◌≢◌, ℕ, List, [], ◌∷◌, re
 use Rattle.std.specs.Str.{chars, IsUtf8}
 use Rattle.std.proofs.lemmas.Bool.{ne_eqb}
 use Rattle.std.proofs.lemmas.Str.{chars_past_char, encodes-chars}
-use Rattle.proc_macro2.specs.Entered.{minus, starts_with_minus}
+use Rattle.rust_leaf.specs.Minus.{minus, starts_with_minus}
 
 pub minus_some : (bs rest : List ℕ) → IsUtf8 bs → bs ≡ minus ∷ rest → chars bs ≡ minus ∷ chars rest
 unfolding lib.Utf8.encode
