@@ -7,3 +7,6 @@ pub mod CStrings
 pub mod MinusLemmas
 pub mod Parsing
 pub mod Parts
+pub mod Quotes
+pub mod Spellings
+pub mod Values

@@ -5,3 +5,5 @@ pub mod Escaped
 pub mod CString
 pub mod Minus
 pub mod Parse
+pub mod Quoted
+pub mod Value

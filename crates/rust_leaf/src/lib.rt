@@ -11,6 +11,9 @@
 //! - `minus`: the minus that may stand before a number.
 //! - `parse`: literals of texts, and which texts are literals.
 //! - `subspan`: the spans of parts of literals.
+//! - `quoted`: literals in double quotes, and where their insides stand.
+//! - `spelled`: what the units of an inside spell.
+//! - `value`: the values of string, byte string and C string literals.
 //! - `laws`: laws of equality, order and hash.
 #![tactic(auto)]
 
@@ -23,3 +26,6 @@ pub mod minus;
 mod parse;
 pub mod punct;
 mod subspan;
+mod quoted;
+mod spelled;
+pub mod value;

@@ -1,0 +1,75 @@
+-- The values of literals in double quotes.
+use Rattle.std.proofs.Common.{◌≡◌, ℕ, List, [], ◌∷◌, ◌++◌, refl, sym, ap, ◌∙◌, subst}
+use Rattle.std.specs.Prelude.{Option, Some, None, map, option_to_list}
+use Rattle.std.specs.List.{flat_map}
+use Rattle.std.proofs.lemmas.Bool.{lt-ltb, le-ltb}
+use Rattle.std.proofs.lemmas.Str.{encode_ascii}
+use Rattle.rust_escape.specs.Calls.{TakesUnits}
+use Rattle.rust_escape.specs.Unit.{Strict, IsUnit, IsInside, empty, more}
+use Rattle.rust_escape.specs.Value.{byte_value, IsCharacter, IsByte}
+use Rattle.rust_escape.specs.declared.mode.Mode.{Mode}
+use Rattle.rust_escape.specs.declared.mode.Mode.TheVariants.{Str, RawStr, ByteStr, RawByteStr}
+use Rattle.rust_escape.specs.declared.value.Value.{Value}
+use Rattle.rust_escape.specs.declared.value.Value.TheVariants.{Character, HighByte}
+use Rattle.rust_escape.proofs.Values.{takes_texts, takes_bytes}
+use Rattle.rust_leaf.specs.Quoted.{cooked, raw, IsQuoted, in_quotes, behind_r}
+use Rattle.rust_leaf.specs.Value.{HasValues, HasNoValues, IsStrValue, IsByteStrValue, IsCStrValue, value_bytes}
+use Rattle.rust_leaf.specs.declared.quoted.Content.{Content}
+use Rattle.rust_leaf.specs.declared.quoted.Content.TheVariants.{Text, Bytes, CText}
+use Rattle.rust_leaf.proofs.Quotes.{one_inside}
+use Rattle.rust_leaf.proofs.Spellings.{one_list}
+
+pub takes_either : (takes : Value → Type 0) (content : Content) (mode : Mode) (text inside : List ℕ) → TakesUnits takes (cooked content) → TakesUnits takes (raw content) → IsQuoted content mode text inside → TakesUnits takes mode
+takes_either takes content _ _ inside t r in_quotes = t
+takes_either takes content _ _ inside t r (behind_r n) = r
+
+pub found : (content : Content) (mode : Mode) (text inside : List ℕ) (values : List Value) → IsQuoted content mode text inside → IsInside Strict mode inside [] values → HasValues content text values
+found content mode text inside values q i = record { mode = mode; inside = inside; quoted = q; units = i }
+
+pub found_none : (content : Content) (mode : Mode) (text inside : List ℕ) → IsQuoted content mode text inside → ((values : List Value) → IsInside Strict mode inside [] values → ⊥) → HasNoValues content text
+found_none content mode text inside q never values h =
+    let (modes, insides) = one_inside content h.mode mode text h.inside inside h.quoted q in
+    never values (subst (λ m. IsInside Strict m inside [] values) modes (subst (λ x. IsInside Strict h.mode x [] values) insides h.units))
+
+-- the modes take what is put
+pub text_units : TakesUnits IsCharacter Str
+text_units = takes_texts Str refl
+
+pub raw_text_units : TakesUnits IsCharacter RawStr
+raw_text_units = takes_texts RawStr refl
+
+pub ruleset texts = (text_units, raw_text_units)
+
+pub text_value : (text cs : List ℕ) (values : List Value) → HasValues Text text values → values ≡ map Character cs → IsStrValue text cs
+text_value text cs values h e = subst (HasValues Text text) e h
+
+-- a byte's value is one byte
+byte_first : (v : Value) (vs : List Value) → IsByte v → vs ≡ map byte_value (flat_map value_bytes vs) → v ∷ vs ≡ map byte_value (value_bytes v ++ flat_map value_bytes vs)
+byte_first (Character c) vs l e = rw (encode_ascii c l, lt-ltb c 128 l) (ap (λ x. Character c ∷ x) e)
+byte_first (HighByte b) vs l e = rw (le-ltb b 128 l) (ap (λ x. HighByte b ∷ x) e)
+
+unit_first : (mode : Mode) (cs rest : List ℕ) (v : Option Value) (vs : List Value) → TakesUnits IsByte mode → IsUnit Strict mode cs rest v → vs ≡ map byte_value (flat_map value_bytes vs)
+    → option_to_list v ++ vs ≡ map byte_value (flat_map value_bytes (option_to_list v ++ vs))
+unit_first mode cs rest None vs t u e = e
+unit_first mode cs rest (Some v) vs t u e = byte_first v vs (t cs rest v u) e
+
+each_byte : (mode : Mode) (inside rest : List ℕ) (values : List Value) → TakesUnits IsByte mode → IsInside Strict mode inside rest values → values ≡ map byte_value (flat_map value_bytes values)
+each_byte mode _ rest _ t empty = refl
+each_byte mode _ rest _ t (more {cs = cs} {inside = inside} {value = v} {values = vs} u i) = unit_first mode cs (inside ++ rest) v vs t u (each_byte mode inside rest vs t i)
+
+byte_units : (mode : Mode) (text inside : List ℕ) → IsQuoted Bytes mode text inside → TakesUnits IsByte mode
+byte_units mode text inside q = takes_either IsByte Bytes mode text inside (takes_bytes ByteStr refl) (takes_bytes RawByteStr refl) q
+
+pub byte_values : (text bs : List ℕ) (values : List Value) → HasValues Bytes text values → bs ≡ flat_map value_bytes values → IsByteStrValue text bs
+byte_values text bs values h e =
+    let each = each_byte h.mode h.inside [] values (byte_units h.mode text h.inside h.quoted) h.units in
+    subst (HasValues Bytes text) (each ∙ ap (map byte_value) (sym e)) h
+
+pub c_values : (text bs : List ℕ) (values : List Value) → HasValues CText text values → bs ≡ flat_map value_bytes values ++ 0 ∷ [] → IsCStrValue text bs
+c_values text bs values h e = record { values = values; spelled = h; bytes = e }
+
+-- one literal has one list of values
+pub same_values : (content : Content) (text : List ℕ) (values others : List Value) → HasValues content text values → HasValues content text others → values ≡ others
+same_values content text values others h k =
+    let (modes, insides) = one_inside content h.mode k.mode text h.inside k.inside h.quoted k.quoted in
+    one_list k.mode h.inside k.inside values others insides (subst (λ m. IsInside Strict m h.inside [] values) modes h.units) k.units

@@ -1,0 +1,51 @@
+-- The values of literals in double quotes.
+use Rattle.std.specs.Prelude.{◌≡◌, ℕ, List, [], ◌∷◌, ◌++◌, map}
+use Rattle.std.specs.Char.{encode_utf8}
+use Rattle.std.specs.List.{flat_map}
+use Rattle.rust_escape.specs.declared.mode.Mode.{Mode}
+use Rattle.rust_escape.specs.Unit.{Strict, IsInside}
+use Rattle.rust_escape.specs.Value.{byte_value}
+use Rattle.rust_escape.specs.declared.value.Value.{Value}
+use Rattle.rust_escape.specs.declared.value.Value.TheVariants.{Character, HighByte}
+use Rattle.rust_leaf.specs.Quoted.{IsQuoted, IsLiteralOf}
+use Rattle.rust_leaf.specs.declared.quoted.Content.{Content}
+use Rattle.rust_leaf.specs.declared.quoted.Content.TheVariants.{Text, Bytes, CText}
+
+-- the text is a literal, and the units of its inside spell the values, by the rule of the escape calls
+pub record HasValues (content : Content) (text : List ℕ) (values : List Value) : Type 0 where
+  pub mode : Mode
+  pub inside : List ℕ
+  pub quoted : IsQuoted content mode text inside
+  pub units : IsInside Strict mode inside [] values
+
+-- its units spell nothing, as one of them is malformed
+abbrev pub HasNoValues : Content → List ℕ → Type 0
+HasNoValues content text = (values : List Value) → HasValues content text values → ⊥
+
+-- a string literal; its value is the characters that its units spell
+abbrev pub IsStr : List ℕ → Type 0
+IsStr text = IsLiteralOf Text text
+
+abbrev pub IsStrValue : List ℕ → List ℕ → Type 0
+IsStrValue text cs = HasValues Text text (map Character cs)
+
+-- a byte string literal; its value is the bytes that its units spell
+abbrev pub IsByteStr : List ℕ → Type 0
+IsByteStr text = IsLiteralOf Bytes text
+
+abbrev pub IsByteStrValue : List ℕ → List ℕ → Type 0
+IsByteStrValue text bs = HasValues Bytes text (map byte_value bs)
+
+-- the bytes of what a unit spells: a character in UTF-8, or the byte
+abbrev pub value_bytes : Value → List ℕ
+value_bytes (Character c) = encode_utf8 c
+value_bytes (HighByte b) = b ∷ []
+
+-- a C string literal; its value is the bytes of what its units spell, and a zero behind them
+abbrev pub IsCStr : List ℕ → Type 0
+IsCStr text = IsLiteralOf CText text
+
+pub record IsCStrValue (text bs : List ℕ) : Type 0 where
+  pub values : List Value
+  pub spelled : HasValues CText text values
+  pub bytes : bs ≡ flat_map value_bytes values ++ 0 ∷ []
