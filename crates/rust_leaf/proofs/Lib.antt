@@ -10,3 +10,5 @@ pub mod Parts
 pub mod Quotes
 pub mod Spellings
 pub mod Values
+pub mod Hex
+pub mod Written

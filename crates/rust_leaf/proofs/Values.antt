@@ -1,8 +1,8 @@
 -- The values of literals in double quotes.
-use Rattle.std.proofs.Common.{◌≡◌, ℕ, List, [], ◌∷◌, ◌++◌, refl, sym, ap, ◌∙◌, subst}
-use Rattle.std.specs.Prelude.{Option, Some, None, map, option_to_list}
+use Rattle.std.proofs.Common.{◌≡◌, ℕ, List, [], ◌∷◌, ◌++◌, refl, sym, ap, ◌∙◌, subst, ⊎_elim}
+use Rattle.std.specs.Prelude.{Option, Some, None, map, nat_lt, option_to_list}
 use Rattle.std.specs.List.{flat_map}
-use Rattle.std.proofs.lemmas.Bool.{lt-ltb, le-ltb}
+use Rattle.std.proofs.lemmas.Bool.{cases_Bool, lt-ltb, le-ltb}
 use Rattle.std.proofs.lemmas.Str.{encode_ascii}
 use Rattle.rust_escape.specs.Calls.{TakesUnits}
 use Rattle.rust_escape.specs.Unit.{Strict, IsUnit, IsInside, empty, more}
@@ -73,3 +73,34 @@ pub same_values : (content : Content) (text : List ℕ) (values others : List Va
 same_values content text values others h k =
     let (modes, insides) = one_inside content h.mode k.mode text h.inside k.inside h.quoted k.quoted in
     one_list k.mode h.inside k.inside values others insides (subst (λ m. IsInside Strict m h.inside [] values) modes h.units) k.units
+
+same_characters : (xs ys : List ℕ) → map Character xs ≡ map Character ys → xs ≡ ys
+same_characters [] [] e = refl
+same_characters [] (y ∷ ys) e = cc
+same_characters (x ∷ xs) [] e = cc
+same_characters (x ∷ xs) (y ∷ ys) e =
+    let first : Character x ≡ Character y = cc in
+    let same : x ≡ y = cc in
+    let more : map Character xs ≡ map Character ys = cc in
+    rw (same, same_characters xs ys more) refl
+
+abbrev number_of : Value → ℕ
+number_of (Character c) = c
+number_of (HighByte b) = b
+
+byte_number : (b : ℕ) → number_of (byte_value b) ≡ b
+byte_number b = ⊎_elim (λ y. rw y refl) (λ n. rw n refl) (cases_Bool (nat_lt b 128))
+
+byte_numbers : (bs : List ℕ) → map number_of (map byte_value bs) ≡ bs
+byte_numbers [] = refl
+byte_numbers (b ∷ bs) = rw (byte_number b, byte_numbers bs) refl
+
+-- one literal has one value
+pub one_text : (text xs ys : List ℕ) → IsStrValue text xs → IsStrValue text ys → xs ≡ ys
+one_text text xs ys h k = same_characters xs ys (same_values Text text (map Character xs) (map Character ys) h k)
+
+pub one_bytes : (text xs ys : List ℕ) → IsByteStrValue text xs → IsByteStrValue text ys → xs ≡ ys
+one_bytes text xs ys h k = sym (byte_numbers xs) ∙ ap (map number_of) (same_values Bytes text (map byte_value xs) (map byte_value ys) h k) ∙ byte_numbers ys
+
+pub one_c_bytes : (text xs ys : List ℕ) → IsCStrValue text xs → IsCStrValue text ys → xs ≡ ys
+one_c_bytes text xs ys h k = h.bytes ∙ ap (λ vs. flat_map value_bytes vs ++ 0 ∷ []) (same_values CText text h.values k.values h.spelled k.spelled) ∙ sym k.bytes

@@ -1,7 +1,7 @@
 -- The values of literals in double quotes.
-use Rattle.std.specs.Prelude.{◌≡◌, ℕ, List, [], ◌∷◌, ◌++◌, map}
+use Rattle.std.specs.Prelude.{◌≡◌, ◌<◌, ℕ, List, [], ◌∷◌, ◌++◌, map}
 use Rattle.std.specs.Char.{encode_utf8}
-use Rattle.std.specs.List.{flat_map}
+use Rattle.std.specs.List.{AllByRecursion, flat_map}
 use Rattle.rust_escape.specs.declared.mode.Mode.{Mode}
 use Rattle.rust_escape.specs.Unit.{Strict, IsInside}
 use Rattle.rust_escape.specs.Value.{byte_value}
@@ -49,3 +49,7 @@ pub record IsCStrValue (text bs : List ℕ) : Type 0 where
   pub values : List Value
   pub spelled : HasValues CText text values
   pub bytes : bs ≡ flat_map value_bytes values ++ 0 ∷ []
+
+-- each number is that of a byte
+abbrev pub AreBytes : List ℕ → Type 0
+AreBytes bs = AllByRecursion (λ b. b < 256) bs

@@ -14,6 +14,7 @@
 //! - `quoted`: literals in double quotes, and where their insides stand.
 //! - `spelled`: what the units of an inside spell.
 //! - `value`: the values of string, byte string and C string literals.
+//! - `value_laws`: laws of these values.
 //! - `laws`: laws of equality, order and hash.
 #![tactic(auto)]
 
@@ -29,3 +30,4 @@ mod subspan;
 mod quoted;
 mod spelled;
 pub mod value;
+pub mod value_laws;

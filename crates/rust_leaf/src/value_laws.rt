@@ -1,0 +1,43 @@
+//! Laws of the values of literals: each has one, and what is written for a value has that value.
+//!
+//! Each function does nothing; its contract is the law.
+
+ghost use Rattle.rust_escape.specs.Unit.{IsOnlyUnit};
+ghost use Rattle.rust_escape.specs.Value.{byte_value};
+ghost use Rattle.rust_escape.specs.declared.mode.Mode.TheVariants.{Byte, Char};
+ghost use Rattle.rust_escape.specs.declared.value.Value.TheVariants.{Character};
+ghost use Rattle.rust_leaf.specs.CString.{IsCString, has_zero};
+ghost use Rattle.rust_leaf.specs.Escaped.{byte_character_text, byte_string_text, character_text, string_text};
+ghost use Rattle.rust_leaf.specs.Value.{AreBytes, IsByteStrValue, IsCStrValue, IsStrValue};
+ghost use Rattle.std.specs.Char.{IsScalar};
+ghost use Rattle.std.specs.Prelude.{◌≡◌, ◌<◌, ◌++◌, ◌∷◌, ℕ, IsFalse, List, [], codes};
+ghost use Rattle.std.specs.Str.{chars};
+
+/// A literal has at most one value.
+pub fn one_value()
+    ensures text { (text xs ys : List ℕ) → IsStrValue text xs → IsStrValue text ys → xs ≡ ys }
+    ensures bytes { (text xs ys : List ℕ) → IsByteStrValue text xs → IsByteStrValue text ys → xs ≡ ys }
+    ensures c_bytes { (text xs ys : List ℕ) → IsCStrValue text xs → IsCStrValue text ys → xs ≡ ys }
+{}
+
+/// What `Literal::string` writes for a text has the text as its value.
+pub fn written_string(text: &str)
+    ensures { IsStrValue (string_text (chars text.now)) (chars text.now) }
+{}
+
+/// What `Literal::byte_string` writes for bytes has these as its value.
+pub fn written_byte_string()
+    ensures { (bytes : List ℕ) → AreBytes bytes → IsByteStrValue (byte_string_text bytes) bytes }
+{}
+
+/// What `Literal::c_string` writes for bytes has these as its value, and a zero behind them.
+pub fn written_c_string()
+    ensures { (bytes text : List ℕ) → AreBytes bytes → IsFalse (has_zero bytes) → IsCString bytes text → IsCStrValue text (bytes ++ 0 ∷ []) }
+{}
+
+/// What `Literal::character` and `Literal::byte_character` write between their quotes is one unit, which
+/// spells the character or the byte.
+pub fn written_unit()
+    ensures character { (c : ℕ) → IsScalar c → (inside : List ℕ) × (character_text c ≡ codes "'" ++ inside ++ codes "'") × IsOnlyUnit Char inside (Character c) }
+    ensures byte { (b : ℕ) → b < 256 → (inside : List ℕ) × (byte_character_text b ≡ codes "b'" ++ inside ++ codes "'") × IsOnlyUnit Byte inside (byte_value b) }
+{}
