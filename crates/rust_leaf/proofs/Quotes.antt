@@ -47,20 +47,10 @@ last_same c [] (y ∷ ys) e = let l = ap length e in absurd (let k = length-appe
 last_same c (x ∷ xs) [] e = let l = ap length e in absurd (let k = length-append xs (c ∷ []) in omega arith)
 last_same c (x ∷ xs) (y ∷ ys) e = let (f, k) = heads x y (xs ++ (c ∷ [])) (ys ++ (c ∷ [])) e in rw (f, last_same c xs ys k) refl
 
--- quotes
-pub no_opening : (text inside : List ℕ) → ((rest : List ℕ) → text ≡ 34 ∷ rest → ⊥) → text ≡ fenced 0 inside → ⊥
-no_opening text inside n e = n (inside ++ (34 ∷ [])) e
-
-pub no_closing : (text rest inside : List ℕ) → text ≡ 34 ∷ rest → ((front : List ℕ) → rest ≡ front ++ (34 ∷ []) → ⊥) → text ≡ fenced 0 inside → ⊥
-no_closing text rest inside f n e = n inside (heads 34 34 rest (inside ++ (34 ∷ [])) (sym f ∙ e)).1
-
 -- hashes have been taken off both ends
 pub record IsPeeled (text inner : List ℕ) : Type 0 where
   pub back : (n : ℕ) (inside : List ℕ) → inner ≡ fenced n inside → (m : ℕ) × (text ≡ fenced m inside)
   pub forth : (n : ℕ) (inside : List ℕ) → text ≡ fenced n inside → (m : ℕ) × (inner ≡ fenced m inside)
-
-pub peeled_none : (text : List ℕ) → IsPeeled text text
-peeled_none text = record { back = λ n inside e. (n, e); forth = λ n inside e. (n, e) }
 
 -- a hash at the front is one of a pair
 one_in : (inner rest inside : List ℕ) (m : ℕ) → inner ≡ 35 ∷ rest → inner ≡ fenced m inside → (k : ℕ) × (rest ≡ fenced k inside ++ (35 ∷ []))
@@ -75,9 +65,6 @@ peeled_more text inner rest next p f g = record {
   back = λ n inside e. p.back (suc n) inside (one_out inner rest next inside n f g e);
   forth = λ n inside e. let (m, k) = p.forth n inside e in let (j, l) = one_in inner rest inside m f k in (j, last_same 35 next (fenced j inside) (sym g ∙ l));
 }
-
-pub peeled_shorter : (inner rest next : List ℕ) → inner ≡ 35 ∷ rest → rest ≡ next ++ (35 ∷ []) → length next < length inner
-peeled_shorter inner rest next f g = omega (arith, ap length f, ap length g, length-append next (35 ∷ []))
 
 pub peeled_lone : (text inner rest : List ℕ) → IsPeeled text inner → inner ≡ 35 ∷ rest → ((front : List ℕ) → rest ≡ front ++ (35 ∷ []) → ⊥) → (n : ℕ) (inside : List ℕ) → text ≡ fenced n inside → ⊥
 peeled_lone text inner rest p f never n inside e = let (m, k) = p.forth n inside e in let (j, l) = one_in inner rest inside m f k in never (fenced j inside) l

@@ -1,10 +1,9 @@
 -- What the loop over the units of an inside keeps.
 use Rattle.std.proofs.Common.{◌≡◌, ℕ, ◌<◌, ◌≤◌, arith, List, [], ◌∷◌, ◌++◌, length, drop, append_assoc, refl, sym, ap, ◌∙◌, subst}
 use Rattle.std.specs.Prelude.{Option, Some, None, Ok, Err, option_to_list, encode_utf8_all}
-use Rattle.std.specs.Str.{chars, IsUtf8}
+use Rattle.std.specs.Str.{chars}
 use Rattle.std.proofs.lemmas.List.{append-nil, length-drop}
 use Rattle.std.proofs.lemmas.Str.{encodes-chars}
-use Rattle.rust_escape.specs.Calls.{TakesUnits}
 use Rattle.rust_escape.specs.declared.mode.Mode.{Mode}
 use Rattle.rust_escape.specs.Places.{rest_at, between, IsPlace}
 use Rattle.rust_escape.specs.Reads.{ReadsUnit}
@@ -66,15 +65,6 @@ pub record HasSpelled {S : Type 0} (holds : S → List Value → Type 0) (mode :
   pub back : (values : List Value) → IsInside Strict mode (rest_at bytes at) [] values → IsInside Strict mode (chars bytes) [] (done ++ values)
   pub forth : (values : List Value) → IsInside Strict mode (chars bytes) [] values → (others : List Value) × IsInside Strict mode (rest_at bytes at) [] others
 
-pub spelled_none : {S : Type 0} (holds : S → List Value → Type 0) (mode : Mode) (bytes : List ℕ) (out : S) → IsUtf8 bytes → holds out [] → HasSpelled holds mode bytes 0 out
-spelled_none holds mode bytes out u h = record {
-  place = record { within = omega arith; cut = u };
-  done = [];
-  held = h;
-  back = λ values i. i;
-  forth = λ values i. (values, i);
-}
-
 pub spelled_value : {S : Type 0} (holds : S → List Value → Type 0) (mode : Mode) (bytes : List ℕ) (at : ℕ) (out next : S) (reading : Reading) (v : Value)
     → HasSpelled holds mode bytes at out → ReadsUnit Strict mode bytes at reading → reading.value ≡ Ok (Some v)
     → ((values : List Value) → holds out values → holds next (values ++ v ∷ [])) → HasSpelled holds mode bytes reading.«end» next
@@ -125,10 +115,3 @@ spelled_never holds mode bytes at out reading error s l r e values i =
     let never = rw e at r.found in
     let (others, j) = s.forth values i in
     none_inside mode (rest_at bytes at) others never.0 (rest_filled bytes at s.place l) j
-
--- the value that was read is one of the literal's
-pub takes_read : (takes : Value → Type 0) (mode : Mode) (bytes : List ℕ) (at : ℕ) (reading : Reading) (v : Value) → TakesUnits takes mode
-    → ReadsUnit Strict mode bytes at reading → reading.value ≡ Ok (Some v) → takes v
-takes_read takes mode bytes at reading v t r e =
-    let u = rw e at r.found in
-    t (between bytes at reading.«end») (rest_at bytes reading.«end») v u.is

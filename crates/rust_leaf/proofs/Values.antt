@@ -13,7 +13,7 @@ use Rattle.rust_escape.specs.declared.value.Value.{Value}
 use Rattle.rust_escape.specs.declared.value.Value.TheVariants.{Character, HighByte}
 use Rattle.rust_escape.proofs.Values.{takes_texts, takes_bytes}
 use Rattle.rust_leaf.specs.Quoted.{cooked, raw, IsQuoted, in_quotes, behind_r}
-use Rattle.rust_leaf.specs.Value.{HasValues, HasNoValues, IsStrValue, IsByteStrValue, IsCStrValue, value_bytes}
+use Rattle.rust_leaf.specs.Value.{HasValues, IsMalformed, IsStrValue, IsByteStrValue, IsCStrValue, value_bytes}
 use Rattle.rust_leaf.specs.declared.quoted.Content.{Content}
 use Rattle.rust_leaf.specs.declared.quoted.Content.TheVariants.{Text, Bytes, CText}
 use Rattle.rust_leaf.proofs.Quotes.{one_inside}
@@ -23,13 +23,13 @@ pub takes_either : (takes : Value → Type 0) (content : Content) (mode : Mode) 
 takes_either takes content _ _ inside t r in_quotes = t
 takes_either takes content _ _ inside t r (behind_r n) = r
 
-pub found : (content : Content) (mode : Mode) (text inside : List ℕ) (values : List Value) → IsQuoted content mode text inside → IsInside Strict mode inside [] values → HasValues content text values
-found content mode text inside values q i = record { mode = mode; inside = inside; quoted = q; units = i }
-
-pub found_none : (content : Content) (mode : Mode) (text inside : List ℕ) → IsQuoted content mode text inside → ((values : List Value) → IsInside Strict mode inside [] values → ⊥) → HasNoValues content text
-found_none content mode text inside q never values h =
-    let (modes, insides) = one_inside content h.mode mode text h.inside inside h.quoted q in
-    never values (subst (λ m. IsInside Strict m inside [] values) modes (subst (λ x. IsInside Strict h.mode x [] values) insides h.units))
+pub found_none : (content : Content) (mode : Mode) (text inside : List ℕ) → IsQuoted content mode text inside → ((values : List Value) → IsInside Strict mode inside [] values → ⊥) → IsMalformed content text
+found_none content mode text inside q never = ((mode, inside, q), none)
+  where
+    none : (values : List Value) → HasValues content text values → ⊥
+    none values h =
+        let (modes, insides) = one_inside content h.mode mode text h.inside inside h.quoted q in
+        never values (subst (λ m. IsInside Strict m inside [] values) modes (subst (λ x. IsInside Strict h.mode x [] values) insides h.units))
 
 -- the modes take what is put
 pub text_units : TakesUnits IsCharacter Str
@@ -39,9 +39,6 @@ pub raw_text_units : TakesUnits IsCharacter RawStr
 raw_text_units = takes_texts RawStr refl
 
 pub ruleset texts = (text_units, raw_text_units)
-
-pub text_value : (text cs : List ℕ) (values : List Value) → HasValues Text text values → values ≡ map Character cs → IsStrValue text cs
-text_value text cs values h e = subst (HasValues Text text) e h
 
 -- a byte's value is one byte
 byte_first : (v : Value) (vs : List Value) → IsByte v → vs ≡ map byte_value (flat_map value_bytes vs) → v ∷ vs ≡ map byte_value (value_bytes v ++ flat_map value_bytes vs)
@@ -64,9 +61,6 @@ pub byte_values : (text bs : List ℕ) (values : List Value) → HasValues Bytes
 byte_values text bs values h e =
     let each = each_byte h.mode h.inside [] values (byte_units h.mode text h.inside h.quoted) h.units in
     subst (HasValues Bytes text) (each ∙ ap (map byte_value) (sym e)) h
-
-pub c_values : (text bs : List ℕ) (values : List Value) → HasValues CText text values → bs ≡ flat_map value_bytes values ++ 0 ∷ [] → IsCStrValue text bs
-c_values text bs values h e = record { values = values; spelled = h; bytes = e }
 
 -- one literal has one list of values
 pub same_values : (content : Content) (text : List ℕ) (values others : List Value) → HasValues content text values → HasValues content text others → values ≡ others

@@ -18,13 +18,16 @@ pub record HasValues (content : Content) (text : List ℕ) (values : List Value)
   pub quoted : IsQuoted content mode text inside
   pub units : IsInside Strict mode inside [] values
 
--- its units spell nothing, as one of them is malformed
-abbrev pub HasNoValues : Content → List ℕ → Type 0
-HasNoValues content text = (values : List Value) → HasValues content text values → ⊥
+-- the text is a literal, and its inside isn't made of units, so that it spells no values
+abbrev pub IsMalformed : Content → List ℕ → Type 0
+IsMalformed content text = IsLiteralOf content text × ((values : List Value) → HasValues content text values → ⊥)
 
 -- a string literal; its value is the characters that its units spell
 abbrev pub IsStr : List ℕ → Type 0
 IsStr text = IsLiteralOf Text text
+
+abbrev pub IsMalformedStr : List ℕ → Type 0
+IsMalformedStr text = IsMalformed Text text
 
 abbrev pub IsStrValue : List ℕ → List ℕ → Type 0
 IsStrValue text cs = HasValues Text text (map Character cs)
@@ -32,6 +35,9 @@ IsStrValue text cs = HasValues Text text (map Character cs)
 -- a byte string literal; its value is the bytes that its units spell
 abbrev pub IsByteStr : List ℕ → Type 0
 IsByteStr text = IsLiteralOf Bytes text
+
+abbrev pub IsMalformedByteStr : List ℕ → Type 0
+IsMalformedByteStr text = IsMalformed Bytes text
 
 abbrev pub IsByteStrValue : List ℕ → List ℕ → Type 0
 IsByteStrValue text bs = HasValues Bytes text (map byte_value bs)
@@ -44,6 +50,9 @@ value_bytes (HighByte b) = b ∷ []
 -- a C string literal; its value is the bytes of what its units spell, and a zero behind them
 abbrev pub IsCStr : List ℕ → Type 0
 IsCStr text = IsLiteralOf CText text
+
+abbrev pub IsMalformedCStr : List ℕ → Type 0
+IsMalformedCStr text = IsMalformed CText text
 
 pub record IsCStrValue (text bs : List ℕ) : Type 0 where
   pub values : List Value

@@ -6,7 +6,7 @@ ghost use Rattle.rust_escape.specs.declared.value.Value.{Value};
 ghost use Rattle.rust_escape.specs.declared.error.EscapeError.{EscapeError};
 ghost use Rattle.rust_leaf.specs.Leaf.{literal_text, text_of};
 ghost use Rattle.rust_leaf.specs.Quoted.{IsLiteralOf, cooked, raw};
-ghost use Rattle.rust_leaf.specs.Value.{HasNoValues, HasValues, IsByteStr, IsByteStrValue, IsCStr, IsCStrValue, IsStr, IsStrValue};
+ghost use Rattle.rust_leaf.specs.Value.{HasValues, IsByteStr, IsByteStrValue, IsCStr, IsCStrValue, IsMalformed, IsMalformedByteStr, IsMalformedCStr, IsMalformedStr, IsStr, IsStrValue};
 ghost use Rattle.rust_leaf.specs.declared.quoted.Content.TheVariants.{Bytes, CText, Text};
 ghost use Rattle.rust_leaf.specs.declared.value.ConversionErrorKind.TheVariants.{FailedToUnescape, InvalidLiteralKind, Memory};
 ghost use Rattle.std.specs.Prelude.{◌≡◌, ◌↔◌, Err, IfOk, List, true};
@@ -56,7 +56,7 @@ fn value_of<S: Spelling>(
     requires raw { TakesUnits S.takes (raw content) }
     ensures value { IfOk result (λ out. (values : List Value) × HasValues content (chars text.now) values × S.holds out values) }
     ensures kind { result ≡ Err InvalidLiteralKind ↔ (IsLiteralOf content (chars text.now) → ⊥) }
-    ensures malformed { (error : EscapeError) → result ≡ Err (FailedToUnescape error) → HasNoValues content (chars text.now) }
+    ensures malformed { (error : EscapeError) → result ≡ Err (FailedToUnescape error) → IsMalformed content (chars text.now) }
     ensures fatal { (error : EscapeError) → result ≡ Err (FailedToUnescape error) → is_fatal error ≡ true }
 {
     match quoted(text, content) {
@@ -74,7 +74,7 @@ impl Literal {
     pub fn str_value(&self, alloc: Global) -> Result<String, ConversionErrorKind>
         ensures value { IfOk result (λ text. IsStrValue (literal_text self.now) (text_of text)) }
         ensures kind { result ≡ Err InvalidLiteralKind ↔ (IsStr (literal_text self.now) → ⊥) }
-        ensures malformed { (error : EscapeError) → result ≡ Err (FailedToUnescape error) → HasNoValues Text (literal_text self.now) }
+        ensures malformed { (error : EscapeError) → result ≡ Err (FailedToUnescape error) → IsMalformedStr (literal_text self.now) }
         ensures fatal { (error : EscapeError) → result ≡ Err (FailedToUnescape error) → is_fatal error ≡ true }
     {
         value_of::<String>(alloc, self.as_str(), Content::Text)
@@ -88,7 +88,7 @@ impl Literal {
     pub fn byte_str_value(&self, alloc: Global) -> Result<Vec<u8>, ConversionErrorKind>
         ensures value { IfOk result (λ bytes. IsByteStrValue (literal_text self.now) bytes.items) }
         ensures kind { result ≡ Err InvalidLiteralKind ↔ (IsByteStr (literal_text self.now) → ⊥) }
-        ensures malformed { (error : EscapeError) → result ≡ Err (FailedToUnescape error) → HasNoValues Bytes (literal_text self.now) }
+        ensures malformed { (error : EscapeError) → result ≡ Err (FailedToUnescape error) → IsMalformedByteStr (literal_text self.now) }
         ensures fatal { (error : EscapeError) → result ≡ Err (FailedToUnescape error) → is_fatal error ≡ true }
     {
         value_of::<Vec<u8>>(alloc, self.as_str(), Content::Bytes)
@@ -102,7 +102,7 @@ impl Literal {
     pub fn cstr_value(&self, alloc: Global) -> Result<Vec<u8>, ConversionErrorKind>
         ensures value { IfOk result (λ bytes. IsCStrValue (literal_text self.now) bytes.items) }
         ensures kind { result ≡ Err InvalidLiteralKind ↔ (IsCStr (literal_text self.now) → ⊥) }
-        ensures malformed { (error : EscapeError) → result ≡ Err (FailedToUnescape error) → HasNoValues CText (literal_text self.now) }
+        ensures malformed { (error : EscapeError) → result ≡ Err (FailedToUnescape error) → IsMalformedCStr (literal_text self.now) }
         ensures fatal { (error : EscapeError) → result ≡ Err (FailedToUnescape error) → is_fatal error ≡ true }
     {
         let mut bytes = value_of::<Vec<u8>>(alloc, self.as_str(), Content::CText)?;

@@ -1,11 +1,10 @@
 use Rattle.std.proofs.Common.{◌≡◌, rules, subst}
 use Rattle.std.specs.Prelude.{Err}
-use Rattle.rust_leaf.specs.Value.{HasNoValues}
-use Rattle.rust_leaf.specs.declared.quoted.Content.TheVariants.{CText}
+use Rattle.rust_leaf.specs.Value.{IsMalformedCStr}
 use Rattle.rust_leaf.specs.declared.value.ConversionErrorKind.TheVariants.{FailedToUnescape}
 use Rattle.rust_leaf.proofs.literal.Literal.cstr_value.Goals as goal
 
 pub returns-in_err-bytes-clause-malformed : goal.returns-in_err-bytes-clause-malformed
 returns-in_err-bytes-clause-malformed c = λ error e.
     let same : c.value_of.result ≡ Err (FailedToUnescape error) = search rules in
-    subst (HasNoValues CText) c.as_str.ensures (c.value_of.ensures.malformed error same)
+    subst IsMalformedCStr c.as_str.ensures (c.value_of.ensures.malformed error same)

@@ -1,7 +1,6 @@
 use Rattle.std.proofs.Common.{subst}
-use Rattle.rust_leaf.specs.Value.{HasNoValues}
-use Rattle.rust_leaf.specs.declared.quoted.Content.TheVariants.{Text}
+use Rattle.rust_leaf.specs.Value.{IsMalformedStr}
 use Rattle.rust_leaf.proofs.literal.Literal.str_value.Goals as goal
 
 pub returns-clause-malformed : goal.returns-clause-malformed
-returns-clause-malformed c = λ error e. subst (HasNoValues Text) c.as_str.ensures (c.value_of.ensures.malformed error e)
+returns-clause-malformed c = λ error e. subst IsMalformedStr c.as_str.ensures (c.value_of.ensures.malformed error e)
