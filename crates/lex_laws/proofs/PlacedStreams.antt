@@ -8,7 +8,7 @@ use Rattle.rust_map.specs.Sources.{KeepsSpots, Sources, Spot, is_held, next_posi
 use Rattle.rust_map.proofs.SpotLemmas.{held_by_spot, inserted_kept}
 use Rattle.proc_macro2.specs.Forest.{IsForest}
 use Rattle.proc_macro2.specs.Token.{Spanned}
-use Rattle.proc_macro2.specs.declared.fault.LexFault.{LexFault}
+use Rattle.rust_map.specs.declared.fault.LexFault.{LexFault}
 use Rattle.lex_laws.specs.Place.{IsBehind, IsFound}
 use Rattle.lex_laws.proofs.Standing.{tokens_found, tokens_ordered}
 

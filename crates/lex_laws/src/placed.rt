@@ -7,7 +7,7 @@ ghost use Rattle.std.specs.List.{All, AllPairs};
 ghost use Rattle.std.specs.Prelude.{IfOk, IsTrue};
 ghost use Rattle.std.specs.Str.{chars};
 
-use proc_macro2::fault::LexFault;
+use proc_macro2::LexFault;
 use proc_macro2::tree::TokenStream;
 use rust_map::SourceMap;
 use std::alloc::Global;
