@@ -1,2 +1,4 @@
-pub mod Answers
+pub mod Places
+pub mod Forests
 pub mod Programs
+pub mod Answers

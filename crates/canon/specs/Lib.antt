@@ -3,3 +3,4 @@ pub mod Program
 pub mod Faults
 pub mod Run
 pub mod Causes
+pub mod Maps

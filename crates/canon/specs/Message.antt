@@ -1,13 +1,9 @@
 -- What the program says of a fault, and the status with which it ends.
 use Rattle.std.specs.Prelude.{ℕ, List, ◌++◌, Option, Some, None, Result, Ok, Err, codes}
-use Rattle.std.specs.Fmt.{decimal}
-use Rattle.rust_token.specs.declared.place.LineColumn.{LineColumn}
+use Rattle.rust_map.specs.Faults.{shown_place}
+use Rattle.rust_map.specs.declared.place.LineColumn.{LineColumn}
 use Rattle.canon.specs.declared.fault.Fault.{Fault}
 use Rattle.canon.specs.declared.fault.Fault.TheVariants.{NotUtf8, Lexical, Syntax, MapFull, Memory, Reading, Writing}
-
--- a place as its line, a colon and its column
-abbrev pub shown_place : LineColumn → List ℕ
-shown_place p = decimal p.line ++ codes ":" ++ decimal p.column
 
 abbrev pub syntax_message : Option LineColumn → List ℕ
 syntax_message None = codes "syntax fault at end of input: unexpected token"

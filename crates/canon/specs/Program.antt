@@ -1,16 +1,17 @@
 -- The program of a text, and the text that is written for it.
 use Rattle.std.specs.Prelude.{◌≡◌, ℕ, List}
-use Rattle.rust_token.specs.Token.{Spanned, plain}
-use Rattle.rust_token.specs.Forest.{IsForest}
-use Rattle.rust_token.specs.Printed as printed
+use Rattle.proc_macro2.specs.Token.{Spanned, plain}
+use Rattle.proc_macro2.specs.Forest.{IsForest}
+use Rattle.proc_macro2.specs.Printed as printed
 use Rattle.canon_syntax.specs.Tree.{Tree, flat}
 use Rattle.canon_syntax.specs.Normal.{normal}
 use Rattle.canon_syntax.specs.File.{IsFile}
 
--- the tree of a file that the grammar derives from the forest of the text
+-- the tree of a file that the grammar derives from the forest of the text, whose characters stand at
+-- the positions from 0 on
 pub record IsProgram (text : List ℕ) (tree : Tree) : Type 0 where
   pub tokens : List Spanned
-  pub forest : IsForest text tokens
+  pub forest : IsForest 0 text tokens
   pub file : IsFile (plain tokens) tree
 
 -- the text of a tree's normal form

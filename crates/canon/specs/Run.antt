@@ -36,8 +36,8 @@ pub record WritesFront (bytes : List ℕ) (old new : Option (List ℕ)) : Type 0
 abbrev pub IsRunFault : List ℕ → Fault → Type 0
 IsRunFault bytes MapFull = limit < length bytes
 IsRunFault bytes NotUtf8 = (length bytes ≤ limit) × (IsUtf8 bytes → ⊥)
-IsRunFault bytes (Lexical place) = (length bytes ≤ limit) × IsUtf8 bytes × IsFaultOf bytes (Lexical place)
-IsRunFault bytes (Syntax place) = (length bytes ≤ limit) × IsUtf8 bytes × IsFaultOf bytes (Syntax place)
+IsRunFault bytes (Lexical place) = (length bytes ≤ limit) × IsUtf8 bytes × IsFaultOf (chars bytes) (Lexical place)
+IsRunFault bytes (Syntax place) = (length bytes ≤ limit) × IsUtf8 bytes × IsFaultOf (chars bytes) (Syntax place)
 IsRunFault bytes Memory = Unit {0}
 IsRunFault bytes Reading = Unit {0}
 IsRunFault bytes Writing = Unit {0}

@@ -7,7 +7,7 @@ ghost use Rattle.std.specs.Prelude.{◌≡◌};
 use crate::fault::Fault;
 use canon_io::reading::ReadFault;
 use canon_io::writing::WriteFailed;
-use canon_lex::lex::LexFault;
+use rust_map::fault::LexFault;
 use std::alloc::AllocError;
 
 impl From<AllocError> for Fault {
@@ -23,8 +23,9 @@ impl From<LexFault> for Fault {
 
     fn from(cause: LexFault) -> Fault {
         match cause {
+            LexFault::Lex(error) => Fault::Lexical(error.place()),
+            LexFault::MapFull => Fault::MapFull,
             LexFault::Memory => Fault::Memory,
-            LexFault::At(place) => Fault::Lexical(place),
         }
     }
 }

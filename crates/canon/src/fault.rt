@@ -4,7 +4,7 @@ ghost use Rattle.canon.specs.Message.{message, status_of};
 ghost use Rattle.std.specs.Io.KnownBytes.{Appends};
 ghost use Rattle.std.specs.Prelude.{◌≡◌, ◌++◌, ◌∷◌, [], OnOk, Some, codes};
 
-use rust_token::place::LineColumn;
+use rust_map::LineColumn;
 use std::io::Write;
 use std::{fmt, io};
 
@@ -22,7 +22,7 @@ pub enum Fault {
         /// The place.
         place: Option<LineColumn>,
     },
-    /// The text is too long.
+    /// The map has no positions left for the text, or more bytes were read than a run takes.
     MapFull,
     /// A growth was refused.
     Memory,

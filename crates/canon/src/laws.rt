@@ -4,9 +4,10 @@ ghost use Rattle.canon.specs.Faults.{IsSyntaxFault};
 ghost use Rattle.canon.specs.Program.{IsOutput, IsProgram, written};
 ghost use Rattle.canon_syntax.specs.Normal.{normal};
 ghost use Rattle.canon_syntax.specs.Tree.{Tree};
-ghost use Rattle.rust_token.specs.Forest.{IsLexicalFault};
-ghost use Rattle.rust_token.specs.declared.place.LineColumn.{LineColumn};
-ghost use Rattle.std.specs.Prelude.{ℕ, ◌≡◌, ◌↔◌, List, Option};
+ghost use Rattle.lex_laws.specs.Leaf.{AreCharacters};
+ghost use Rattle.proc_macro2.specs.Forest.{IsLexicalFault};
+ghost use Rattle.rust_map.specs.declared.place.LineColumn.{LineColumn};
+ghost use Rattle.std.specs.Prelude.{ℕ, ◌≡◌, ◌↔◌, ◌⊎◌, List, Option};
 
 /// A text has at most one program.
 pub fn one_program()
@@ -15,12 +16,12 @@ pub fn one_program()
 
 /// An output is accepted, and is its own output.
 pub fn output_is_fixed()
-    ensures { (text output : List ℕ) → IsOutput text output → IsOutput output output }
+    ensures { (text output : List ℕ) → AreCharacters text → IsOutput text output → IsOutput output output }
 {}
 
 /// Two accepted texts have one output exactly if their programs have the same normal form.
 pub fn one_output_for_one_form()
-    ensures { (a b : List ℕ) (t u : Tree) → IsProgram a t → IsProgram b u →
+    ensures { (a b : List ℕ) (t u : Tree) → AreCharacters a → AreCharacters b → IsProgram a t → IsProgram b u →
         (written t ≡ written u) ↔ (normal t ≡ normal u) }
 {}
 
@@ -28,4 +29,11 @@ pub fn one_output_for_one_form()
 pub fn faults_have_no_program()
     ensures lexical { (text : List ℕ) (place : LineColumn) (t : Tree) → IsLexicalFault text place → IsProgram text t → ⊥ }
     ensures syntax { (text : List ℕ) (place : Option LineColumn) (t : Tree) → IsSyntaxFault text place → IsProgram text t → ⊥ }
+{}
+
+/// Each text has a program, a lexical fault or a syntax fault.
+pub fn program_or_fault()
+    ensures { (text : List ℕ) → ((t : Tree) × IsProgram text t)
+        ⊎ ((place : LineColumn) × IsLexicalFault text place)
+        ⊎ ((place : Option LineColumn) × IsSyntaxFault text place) }
 {}

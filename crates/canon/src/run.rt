@@ -7,15 +7,15 @@ ghost use Rattle.std.specs.Prelude.{◌≡◌, ◌+◌, ◌≤◌, ◌↔◌, Er
 
 use crate::canonical::canonical;
 use crate::fault::Fault;
-use crate::source_map::SourceMap;
 use canon_io::reading::read_within;
 use canon_io::watched::Watched;
 use canon_io::writing::{flush_watched, write_all_watched};
+use rust_map::SourceMap;
 use std::alloc::Global;
 use std::io::{Read, Write};
 use std::str;
 
-/// So many bytes are read, and one more: a text that has more has no place in the map.
+/// So many bytes are read, and one more: a text that has more is refused.
 const LIMIT: usize = 1 << 30;
 
 /// Reads all, and then writes the canonical form and a line feed. Interrupted reads and writes are
@@ -79,7 +79,7 @@ fn page_of_bytes(alloc: Global, bytes: &[u8]) -> Result<String, Fault>
     let Ok(text) = str::from_utf8(bytes) else {
         return Err(Fault::NotUtf8);
     };
-    let mut page = canonical(alloc, text, &mut SourceMap::new())?;
+    let mut page = canonical(alloc, text, &mut SourceMap::new(alloc))?;
     page.push('\n')?;
     Ok(page)
 }

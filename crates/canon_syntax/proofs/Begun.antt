@@ -3,8 +3,8 @@ use Rattle.std.proofs.Common.{◌≡◌, ℕ, zero, suc, ◌+◌, ◌*◌, ◌-�
 use Rattle.std.specs.Prelude.{Bool, true, false}
 use Rattle.std.proofs.lemmas.List.{append-nil}
 use Rattle.std.proofs.Math.Seq.{take-append_seam, take-append-add}
-use Rattle.rust_token.specs.declared.delimiter.Delimiter.TheVariants.{Brace}
-use Rattle.rust_token.specs.Token.{Token, Opens, Word}
+use Rattle.proc_macro2.specs.declared.delimiter.Delimiter.TheVariants.{Brace}
+use Rattle.proc_macro2.specs.Token.{Token, Opens, Word}
 use Rattle.canon_syntax.specs.Words.{is_reserved}
 use Rattle.canon_syntax.specs.Kind.{Kind, AFile, AnItem, AStruct, AMacro}
 use Rattle.canon_syntax.specs.Tree.{Tree, Leaf, Nil, Pair, First, Second, Node, flat}

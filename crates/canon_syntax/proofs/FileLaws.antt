@@ -1,12 +1,12 @@
 -- The laws of files.
 use Rattle.std.proofs.Common.{◌≡◌, ℕ, List, [], ◌∷◌, ◌++◌, map, refl, sym, ap, ◌∙◌, subst, append_assoc}
-use Rattle.std.specs.Prelude.{Bool, true, false}
+use Rattle.std.specs.Prelude.{Bool, true, false, ◌==◌, if◌then◌else◌, IsTrue}
 use Rattle.std.proofs.lemmas.List.{append-nil}
-use Rattle.rust_token.specs.declared.delimiter.Delimiter.TheVariants.{Brace}
-use Rattle.rust_token.specs.declared.lexeme.Spacing.{Spacing}
-use Rattle.rust_token.specs.declared.lexeme.Spacing.TheVariants.{Alone, Joint}
-use Rattle.rust_token.specs.Token.{Token, Opens, Closes, Word, Sign}
-use Rattle.rust_token.specs.Spacing.{MayStand, IsWellSpaced}
+use Rattle.proc_macro2.specs.declared.delimiter.Delimiter.TheVariants.{Brace}
+use Rattle.rust_leaf.specs.declared.punct.Spacing.{Spacing}
+use Rattle.rust_leaf.specs.declared.punct.Spacing.TheVariants.{Alone, Joint}
+use Rattle.proc_macro2.specs.Token.{Token, Opens, Closes, Word, Quoted, Sign}
+use Rattle.proc_macro2.specs.Spacing.{quote, may_stand, IsWellSpaced}
 use Rattle.canon_syntax.specs.Kind.{Kind, AFile, AnItem, AStruct, AMacro}
 use Rattle.canon_syntax.specs.Tree.{Tree, Leaf, Last, Raw, Nil, Pair, First, Second, Node, flat}
 use Rattle.canon_syntax.specs.Gram.{Gram, one, last, raw, seq, alt, star, ref, ask}
@@ -46,6 +46,7 @@ blind_keyword w = record { same = same }
     same (Opens d ∷ ts) = refl
     same (Closes d ∷ ts) = refl
     same (Word cs ∷ ts) = refl
+    same (Quoted cs ∷ ts) = refl
     same (Sign c spacing ∷ ts) = refl
 
 blind_more : IsBlind is_more
@@ -65,24 +66,32 @@ all_blind AMacro = (tt, (tt, (tt, (tt, tt))))
 pub read_back : ReadBack
 read_back ts x f = record { derived = keeps all_blind x (ref AFile) tt [] [] (record { same = refl }) f.derived; spelled = refl }
 
+-- a joint mark may stand before the token
 abbrev is_sign : Token → Bool
 is_sign (Sign c spacing) = true
+is_sign (Quoted cs) = true
 is_sign _ = false
 
--- a mark that no mark follows stands alone
-alone_before : (c : ℕ) (spacing : Spacing) (ts : List Token) → MayStand (Sign c spacing) ts → ask (first_is is_sign) ts ≡ false → spacing ≡ Alone
-alone_before c Alone ts m e = refl
-alone_before c Joint [] m e = absurd m
-alone_before c Joint (Opens d ∷ ts) m e = absurd m
-alone_before c Joint (Closes d ∷ ts) m e = absurd m
-alone_before c Joint (Word cs ∷ ts) m e = absurd m
-alone_before c Joint (Sign d spacing ∷ ts) m e = cc
+-- before what a joint mark stands, if it isn't a quote
+as_mark : (b x y : Bool) → b ≡ false → (if b then x else y) ≡ true → y ≡ true
+as_mark true x y n e = cc
+as_mark false x y n e = e
+
+-- a mark that no mark and no literal follows stands alone, if it isn't a quote
+alone_before : (c : ℕ) (spacing : Spacing) (ts : List Token) → (c == quote) ≡ false → IsTrue (may_stand (Sign c spacing) ts) → ask (first_is is_sign) ts ≡ false → spacing ≡ Alone
+alone_before c Alone ts n m e = refl
+alone_before c Joint [] n m e = let f : false ≡ true = as_mark (c == quote) false false n m in cc f
+alone_before c Joint (Opens d ∷ ts) n m e = let f : false ≡ true = as_mark (c == quote) false false n m in cc f
+alone_before c Joint (Closes d ∷ ts) n m e = let f : false ≡ true = as_mark (c == quote) false false n m in cc f
+alone_before c Joint (Word cs ∷ ts) n m e = let f : false ≡ true = as_mark (c == quote) true false n m in cc f
+alone_before c Joint (Quoted cs ∷ ts) n m e = cc
+alone_before c Joint (Sign d spacing ∷ ts) n m e = cc
 
 spaced_behind : (xs ys : List Token) → IsWellSpaced (xs ++ ys) → IsWellSpaced ys
 spaced_behind [] ys w = w
 spaced_behind (x ∷ xs) ys w = spaced_behind xs ys w.1
 
--- an entry whose trees are in normal form where they are well spaced, and no mark follows them
+-- an entry whose trees are in normal form where they are well spaced, and neither a mark nor a literal follows them
 abbrev AreSettled : Gram → Type 0
 AreSettled g = (x : Tree) (r : List Token) → Derives x g r → IsWellSpaced (flat x ++ r) → ask (first_is is_sign) r ≡ false → normal x ≡ x
 
@@ -108,9 +117,9 @@ seq_fixed a b f h _ r d = absurd d
 fixed_settled : (g : Gram) → AreFixed g → AreSettled g
 fixed_settled g f x r d w e = f x r d
 
-last_settled : (c : ℕ) → AreSettled (last c)
-last_settled c (Last m spacing) r d w e = ap (Last m) (sym (alone_before m spacing r w.0 e))
-last_settled c _ r d w e = absurd d
+last_settled : (c : ℕ) → (c == quote) ≡ false → AreSettled (last c)
+last_settled c n (Last m spacing) r d w e = ap (Last m) (sym (alone_before m spacing r (ap (λ k. k == quote) d ∙ n) w.0 e))
+last_settled c n _ r d w e = absurd d
 
 regroup : (x y : Tree) (r : List Token) → IsWellSpaced ((flat x ++ flat y) ++ r) → IsWellSpaced (flat x ++ (flat y ++ r))
 regroup x y r w = subst IsWellSpaced (append_assoc (flat x) (flat y) r) w
@@ -121,7 +130,7 @@ first_fixed a b f h (Pair x y) r d w e =
     both x y (f x (flat y ++ r) d.0) (h y r d.1 (spaced_behind (flat x) (flat y ++ r) (regroup x y r w)) e)
 first_fixed a b f h _ r d w e = absurd d
 
--- a sequence whose second begins with no mark
+-- a sequence whose second begins with neither a mark nor a literal
 second_calm : (a b : Gram) → AreSettled a → Tells (first_is is_sign) false b → AreSettled b → AreSettled (seq a b)
 second_calm a b f c h (Pair x y) r d w e =
     let v = regroup x y r w in
@@ -142,11 +151,12 @@ ref_settled : (k : Kind) → AreSettled (table k) → AreSettled (ref k)
 ref_settled k f (Node j x) r d w e = ap (Node j) (f x r (subst (λ i. Derives x (table i) r) d.0 d.1) w e)
 ref_settled k f _ r d w e = absurd d
 
-word_calm : (p : Token → Bool) → ((c : ℕ) (spacing : Spacing) → p (Sign c spacing) ≡ false) → (t : Token) → p t ≡ true → is_sign t ≡ false
-word_calm p h (Opens d) e = refl
-word_calm p h (Closes d) e = refl
-word_calm p h (Word cs) e = refl
-word_calm p h (Sign c spacing) e = let f : true ≡ false = sym e ∙ h c spacing in cc f
+word_calm : (p : Token → Bool) → ((c : ℕ) (spacing : Spacing) → p (Sign c spacing) ≡ false) → ((cs : List ℕ) → p (Quoted cs) ≡ false) → (t : Token) → p t ≡ true → is_sign t ≡ false
+word_calm p h k (Opens d) e = refl
+word_calm p h k (Closes d) e = refl
+word_calm p h k (Word cs) e = refl
+word_calm p h k (Quoted cs) e = let f : true ≡ false = sym e ∙ k cs in cc f
+word_calm p h k (Sign c spacing) e = let f : true ≡ false = sym e ∙ h c spacing in cc f
 
 abbrev braces : Gram
 braces = seq (one (is_open Brace)) (seq raw (one (is_close Brace)))
@@ -155,19 +165,19 @@ braces_fixed : AreFixed braces
 braces_fixed = seq_fixed (one (is_open Brace)) (seq raw (one (is_close Brace))) (one_fixed (is_open Brace)) (seq_fixed raw (one (is_close Brace)) raw_fixed (one_fixed (is_close Brace)))
 
 braces_calm : Tells (first_is is_sign) false braces
-braces_calm = begins_one (is_open Brace) is_sign false (word_calm (is_open Brace) (λ c s. refl)) (seq raw (one (is_close Brace)))
+braces_calm = begins_one (is_open Brace) is_sign false (word_calm (is_open Brace) (λ c s. refl) (λ cs. refl)) (seq raw (one (is_close Brace)))
 
 struct_settled : AreSettled (ref AStruct)
 unfolding table
 struct_settled =
     ref_settled AStruct (first_fixed (keyword struct_text) (seq ident (last 59)) (one_fixed (is_keyword struct_text))
-    (first_fixed ident (last 59) (one_fixed is_ident) (last_settled 59)))
+    (first_fixed ident (last 59) (one_fixed is_ident) (last_settled 59 refl)))
 
 macro_settled : AreSettled (ref AMacro)
 unfolding table
 macro_settled =
     ref_settled AMacro (first_fixed ident (seq (last 33) braces) (one_fixed is_ident)
-    (second_calm (last 33) braces (last_settled 33) braces_calm (fixed_settled braces braces_fixed)))
+    (second_calm (last 33) braces (last_settled 33 refl) braces_calm (fixed_settled braces braces_fixed)))
 
 item_settled : AreSettled (ref AnItem)
 unfolding table
@@ -177,10 +187,10 @@ item_calm : Tells (first_is is_sign) false (ref AnItem)
 unfolding table
 item_calm =
     ref_tells (first_is is_sign) false AnItem (alt_tells (first_is is_sign) false (first_is (is_keyword struct_text)) (ref AStruct) (ref AMacro)
-    (ref_tells (first_is is_sign) false AStruct (begins_one (is_keyword struct_text) is_sign false (word_calm (is_keyword struct_text) (λ c s. refl)) (seq ident (last 59))))
-    (ref_tells (first_is is_sign) false AMacro (begins_one is_ident is_sign false (word_calm is_ident (λ c s. refl)) (seq (last 33) braces))))
+    (ref_tells (first_is is_sign) false AStruct (begins_one (is_keyword struct_text) is_sign false (word_calm (is_keyword struct_text) (λ c s. refl) (λ cs. refl)) (seq ident (last 59))))
+    (ref_tells (first_is is_sign) false AMacro (begins_one is_ident is_sign false (word_calm is_ident (λ c s. refl) (λ cs. refl)) (seq (last 33) braces))))
 
--- items begin with no mark
+-- items begin with neither a mark nor a literal
 items_calm : (x : Tree) → Derives x (star is_more (ref AnItem)) [] → ask (first_is is_sign) (flat x ++ []) ≡ false
 items_calm (First (Pair x y)) d =
     subst (λ us. ask (first_is is_sign) us ≡ false) (sym (append_assoc (flat x) (flat y) [])) (item_calm x (flat y ++ []) d.1)

@@ -2,8 +2,8 @@
 use Rattle.std.proofs.Common.{◌≡◌, ℕ, zero, suc, List, [], ◌∷◌, ◌++◌, map, take, refl, sym, ap, ◌∙◌}
 use Rattle.std.specs.Prelude.{Bool}
 use Rattle.std.proofs.lemmas.List.{map-append}
-use Rattle.rust_token.specs.declared.lexeme.Spacing.TheVariants.{Alone}
-use Rattle.rust_token.specs.Token.{Token, Opens, Closes, Word, Sign}
+use Rattle.rust_leaf.specs.declared.punct.Spacing.TheVariants.{Alone}
+use Rattle.proc_macro2.specs.Token.{Token, Opens, Closes, Word, Quoted, Sign}
 use Rattle.canon_syntax.specs.Kind.{Kind}
 use Rattle.canon_syntax.specs.Tree.{Tree, Leaf, Last, Raw, Nil, Pair, First, Second, Node, flat}
 use Rattle.canon_syntax.specs.Gram.{Gram, one, last, raw, nothing, seq, alt, star, ref, ask, at_end}
@@ -16,6 +16,7 @@ abbrev pub unspaced : Token → Token
 unspaced (Opens d) = Opens d
 unspaced (Closes d) = Closes d
 unspaced (Word cs) = Word cs
+unspaced (Quoted cs) = Quoted cs
 unspaced (Sign c spacing) = Sign c Alone
 
 -- tokens that are the same but for their spacing
@@ -47,6 +48,7 @@ end_blind [] = refl
 end_blind (Opens d ∷ ts) = refl
 end_blind (Closes d ∷ ts) = refl
 end_blind (Word cs ∷ ts) = refl
+end_blind (Quoted cs ∷ ts) = refl
 end_blind (Sign c spacing ∷ ts) = refl
 
 flat_normal : (x : Tree) → map unspaced (flat x) ≡ map unspaced (flat (normal x))

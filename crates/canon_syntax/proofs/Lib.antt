@@ -12,3 +12,4 @@ pub mod Begun
 pub mod Public
 pub mod Keeps
 pub mod FileLaws
+pub mod Answered

@@ -1,7 +1,7 @@
 -- What is read, in normal form.
 use Rattle.std.proofs.Common.{◌≡◌, ℕ, zero, suc, List, [], ◌∷◌, refl, ap, ◌∙◌}
 use Rattle.std.specs.Prelude.{Bool, true, false, cond, ◌==◌}
-use Rattle.rust_token.specs.Token.{Token, Opens, Closes, Word, Sign}
+use Rattle.proc_macro2.specs.Token.{Token, Opens, Closes, Word, Quoted, Sign}
 use Rattle.canon_syntax.specs.Tree.{Tree, Leaf, Last, Raw, Nil, Pair, First, Second, Node}
 use Rattle.canon_syntax.specs.Gram.{Gram, one, last, raw, nothing, never, seq, alt, star, ref, ask}
 use Rattle.canon_syntax.specs.Normal.{normal}
@@ -34,6 +34,7 @@ last_normal c (Sign d spacing ∷ ts) = normal_cond (d == c) _ _
 last_normal c (Opens d ∷ ts) = refl
 last_normal c (Closes d ∷ ts) = refl
 last_normal c (Word cs ∷ ts) = refl
+last_normal c (Quoted cs ∷ ts) = refl
 
 onto_normal : (us : List Token) (x : Tree) → normal (raw_onto us x) ≡ raw_onto us (normal x)
 onto_normal us (Leaf t) = refl
@@ -49,6 +50,7 @@ raw_normal : (n : ℕ) (ts : List Token) → wrap normal (raw_at n ts) ≡ raw_a
 unfolding raw_at
 raw_normal n (Opens d ∷ ts) = normal_wrap _ _ (onto_normal (Opens d ∷ [])) (raw_at (suc n) ts) ∙ ap (wrap (raw_onto (Opens d ∷ []))) (raw_normal (suc n) ts)
 raw_normal n (Word cs ∷ ts) = normal_wrap _ _ (onto_normal (Word cs ∷ [])) (raw_at n ts) ∙ ap (wrap (raw_onto (Word cs ∷ []))) (raw_normal n ts)
+raw_normal n (Quoted cs ∷ ts) = normal_wrap _ _ (onto_normal (Quoted cs ∷ [])) (raw_at n ts) ∙ ap (wrap (raw_onto (Quoted cs ∷ []))) (raw_normal n ts)
 raw_normal n (Sign c spacing ∷ ts) = normal_wrap _ _ (onto_normal (Sign c spacing ∷ [])) (raw_at n ts) ∙ ap (wrap (raw_onto (Sign c spacing ∷ []))) (raw_normal n ts)
 raw_normal zero (Closes d ∷ ts) = refl
 raw_normal (suc n) (Closes d ∷ ts) = normal_wrap _ _ (onto_normal (Closes d ∷ [])) (raw_at n ts) ∙ ap (wrap (raw_onto (Closes d ∷ []))) (raw_normal n ts)

@@ -1,11 +1,11 @@
 -- What parse_file answers.
-use Rattle.std.proofs.Common.{◌≡◌, ℕ, zero, suc, ◌<◌, ◌≤◌, List, [], ◌∷◌, ◌++◌, length, refl, sym, ap, ◌∙◌, subst, arith}
-use Rattle.std.specs.Prelude.{Bool, true, false, ◌==◌}
-use Rattle.std.proofs.lemmas.Bool.{eqb-true}
-use Rattle.std.proofs.lemmas.List.{append-nil}
-use Rattle.rust_token.specs.Token.{Token}
-use Rattle.rust_token.specs.Lexemes.{tokens_at}
-use Rattle.rust_token.specs.declared.lexeme.Lexeme.{Lexeme}
+use Rattle.std.proofs.Common.{◌≡◌, ℕ, suc, ◌+◌, ◌-◌, ◌<◌, ◌≤◌, List, [], ◌∷◌, ◌++◌, length, take, drop, refl, sym, ap, ◌∙◌, subst, arith, append_assoc, length-append}
+use Rattle.std.specs.Prelude.{true}
+use Rattle.std.proofs.Math.Seq.{drop-append_seam}
+use Rattle.std.proofs.lemmas.List.{append-nil, drop-map, length-drop, take-append-drop, take_all}
+use Rattle.proc_macro2.specs.Token.{Token}
+use Rattle.token_entries.specs.Entries.{entry_token, entry_tokens}
+use Rattle.token_entries.specs.declared.entry.Entry.{Entry}
 use Rattle.canon_syntax.specs.declared.tree.Item as Items
 use Rattle.canon_syntax.specs.Kind.{AFile, AnItem}
 use Rattle.canon_syntax.specs.Tree.{Tree, Node, flat}
@@ -24,53 +24,53 @@ use Rattle.canon_syntax.proofs.Turns.{turn_more, turn_none, turn_fails}
 use Rattle.canon_syntax.proofs.Begun.{items_loop, items_fit, fault_at}
 
 -- these items, and then those of the rest, are the items of all
-pub record HasRead (bytes : List ℕ) (all : List Lexeme) (items : List Items.Item) (rest : List Lexeme) : Type 0 where
-  pub same : in_front (item_tree bytes) items (normals items_loop (tokens_at bytes rest)) ≡ normals items_loop (tokens_at bytes all)
+pub record HasRead (all : List Entry) (items : List Items.Item) (rest : List Entry) : Type 0 where
+  pub same : in_front item_tree items (normals items_loop (entry_tokens rest)) ≡ normals items_loop (entry_tokens all)
 
 in_front_none : (f : Items.Item → Tree) (o : Out) → in_front f [] o ≡ o
 in_front_none f Late = refl
 in_front_none f (Refused l) = refl
 in_front_none f (Got x r) = refl
 
-pub read_none : (bytes : List ℕ) (all : List Lexeme) → HasRead bytes all [] all
-read_none bytes all = record { same = in_front_none (item_tree bytes) (normals items_loop (tokens_at bytes all)) }
+pub read_none : (all : List Entry) → HasRead all [] all
+read_none all = record { same = in_front_none item_tree (normals items_loop (entry_tokens all)) }
 
-tokens_length : (bytes : List ℕ) (ls : List Lexeme) → length (tokens_at bytes ls) ≡ length ls
-tokens_length bytes [] = refl
-tokens_length bytes (l ∷ ls) = ap suc (tokens_length bytes ls)
+tokens_length : (es : List Entry) → length (entry_tokens es) ≡ length es
+tokens_length [] = refl
+tokens_length (x ∷ es) = ap suc (tokens_length es)
 
-asks_more : (bytes : List ℕ) (ls : List Lexeme) → 0 < length ls → ask is_more (tokens_at bytes ls) ≡ true
-asks_more bytes [] h = absurd (omega arith)
-asks_more bytes (l ∷ ls) h = refl
+asks_more : (es : List Entry) → 0 < length es → ask is_more (entry_tokens es) ≡ true
+asks_more [] h = absurd (omega arith)
+asks_more (x ∷ es) h = refl
 
-asks_none : (bytes : List ℕ) (ls : List Lexeme) → length ls ≡ 0 → ls ≡ []
-asks_none bytes [] h = refl
-asks_none bytes (l ∷ ls) h = absurd (omega arith)
+asks_none : (es : List Entry) → length es ≡ 0 → es ≡ []
+asks_none [] h = refl
+asks_none (x ∷ es) h = absurd (omega arith)
 
-pub read_more : (bytes : List ℕ) (all rest after : List Lexeme) (items more : List Items.Item) (item : Items.Item) → HasRead bytes all items rest → 0 < length rest → normals (kind AnItem) (tokens_at bytes rest) ≡ Got (item_tree bytes item) (tokens_at bytes after) → more ≡ items ++ item ∷ [] → HasRead bytes all more after
-read_more bytes all rest after items more item r h e p =
-    record { same = turn_more is_more (ref AnItem) items_fit (item_tree bytes) items more item (tokens_at bytes rest) (tokens_at bytes after) _ r.same p (asks_more bytes rest h) e }
+read_more : (all rest after : List Entry) (items more : List Items.Item) (item : Items.Item) → HasRead all items rest → 0 < length rest → normals (kind AnItem) (entry_tokens rest) ≡ Got (item_tree item) (entry_tokens after) → more ≡ items ++ item ∷ [] → HasRead all more after
+read_more all rest after items more item r h e p =
+    record { same = turn_more is_more (ref AnItem) items_fit item_tree items more item (entry_tokens rest) (entry_tokens after) _ r.same p (asks_more rest h) e }
 
-pub after_shorter : (bytes : List ℕ) (rest after : List Lexeme) (y : Tree) → normals (kind AnItem) (tokens_at bytes rest) ≡ Got y (tokens_at bytes after) → length after < length rest
-after_shorter bytes rest after y e =
-    let h = item_shorter (tokens_at bytes rest) (tokens_at bytes after) y e in
-    omega (arith, h, tokens_length bytes rest, tokens_length bytes after)
+after_shorter : (rest after : List Entry) (y : Tree) → normals (kind AnItem) (entry_tokens rest) ≡ Got y (entry_tokens after) → length after < length rest
+after_shorter rest after y e =
+    let h = item_shorter (entry_tokens rest) (entry_tokens after) y e in
+    omega (arith, h, tokens_length rest, tokens_length after)
 
 -- all has been read
-pub read_all : (bytes : List ℕ) (all rest : List Lexeme) (items : List Items.Item) → HasRead bytes all items rest → length rest ≡ 0 → IsParsed (tokens_at bytes all) (Node AFile (items_tree bytes items))
-read_all bytes all rest items r h =
-    let ts : List Token = tokens_at bytes all in
-    let e : normals items_loop ts ≡ Got (items_tree bytes items) [] =
-    turn_none is_more (ref AnItem) items_fit (item_tree bytes) items [] _ (ap (λ ls. in_front (item_tree bytes) items (normals items_loop (tokens_at bytes ls))) (sym (asks_none bytes rest h)) ∙ r.same) refl in
-    let f : normals (kind AFile) ts ≡ Got (Node AFile (items_tree bytes items)) [] = read_file ts ∙ ap (wrap (Node AFile)) e in
+read_all : (all rest : List Entry) (items : List Items.Item) → HasRead all items rest → length rest ≡ 0 → IsParsed (entry_tokens all) (Node AFile (items_tree items))
+read_all all rest items r h =
+    let ts : List Token = entry_tokens all in
+    let e : normals items_loop ts ≡ Got (items_tree items) [] =
+    turn_none is_more (ref AnItem) items_fit item_tree items [] _ (ap (λ es. in_front item_tree items (normals items_loop (entry_tokens es))) (sym (asks_none rest h)) ∙ r.same) refl in
+    let f : normals (kind AFile) ts ≡ Got (Node AFile (items_tree items)) [] = read_file ts ∙ ap (wrap (Node AFile)) e in
     let (x, g, i) = got_normal (reads (kind AFile) ts) _ _ f in
     let own = reads_sound all_founded (kind AFile) ts x [] g in
     record { tree = x; file = record { derived = own.tree; spelled = sym (own.tokens ∙ append-nil (flat x)) }; normal_is = i }
 
-file_refused : (bytes : List ℕ) (all rest : List Lexeme) (items : List Items.Item) (l : ℕ) → HasRead bytes all items rest → 0 < length rest → normals (kind AnItem) (tokens_at bytes rest) ≡ Refused l → reads (kind AFile) (tokens_at bytes all) ≡ Refused l
-file_refused bytes all rest items l r h e =
-    let ts : List Token = tokens_at bytes all in
-    let f = turn_fails is_more (ref AnItem) items_fit (item_tree bytes) items (tokens_at bytes rest) _ l r.same (asks_more bytes rest h) e in
+file_refused : (all rest : List Entry) (items : List Items.Item) (l : ℕ) → HasRead all items rest → 0 < length rest → normals (kind AnItem) (entry_tokens rest) ≡ Refused l → reads (kind AFile) (entry_tokens all) ≡ Refused l
+file_refused all rest items l r h e =
+    let ts : List Token = entry_tokens all in
+    let f = turn_fails is_more (ref AnItem) items_fit item_tree items (entry_tokens rest) _ l r.same (asks_more rest h) e in
     refused_normal (reads (kind AFile) ts) l (read_file ts ∙ ap (wrap (Node AFile)) f)
 
 most_refused : (o : Out) (n l : ℕ) → o ≡ Refused l → LeavesAtMost n o → l ≤ n
@@ -79,21 +79,60 @@ most_refused (Refused k) n l e h = let f : k ≡ l = cc in omega arith
 most_refused (Got x r) n l e h = cc
 
 -- no more is left than there was
-pub left_within : (bytes : List ℕ) (ls : List Lexeme) (l : ℕ) → normals (kind AnItem) (tokens_at bytes ls) ≡ Refused l → l ≤ length ls
-left_within bytes ls l e =
-    let h = most_refused (reads (kind AnItem) (tokens_at bytes ls)) _ l (refused_normal _ l e) (reads_most (kind AnItem) (tokens_at bytes ls)) in
-    omega (arith, h, tokens_length bytes ls)
+left_within : (es : List Entry) (l : ℕ) → normals (kind AnItem) (entry_tokens es) ≡ Refused l → l ≤ length es
+left_within es l e =
+    let h = most_refused (reads (kind AnItem) (entry_tokens es)) _ l (refused_normal _ l e) (reads_most (kind AnItem) (entry_tokens es)) in
+    omega (arith, h, tokens_length es)
 
 -- an item is refused
-pub read_fails : (bytes : List ℕ) (all rest : List Lexeme) (items : List Items.Item) (l : ℕ) → HasRead bytes all items rest → 0 < length rest → normals (kind AnItem) (tokens_at bytes rest) ≡ Refused l → IsSyntaxFault (tokens_at bytes all) (place_where (length all) l)
-read_fails bytes all rest items l r h e =
-    subst (λ n. IsSyntaxFault (tokens_at bytes all) (place_where n l)) (tokens_length bytes all)
-    (fault_at (tokens_at bytes all) l (file_refused bytes all rest items l r h e))
+read_fails : (all rest : List Entry) (items : List Items.Item) (l : ℕ) → HasRead all items rest → 0 < length rest → normals (kind AnItem) (entry_tokens rest) ≡ Refused l → IsSyntaxFault (entry_tokens all) (place_where (length all) l)
+read_fails all rest items l r h e =
+    subst (λ n. IsSyntaxFault (entry_tokens all) (place_where n l)) (tokens_length all)
+    (fault_at (entry_tokens all) l (file_refused all rest items l r h e))
 
--- what a test for an empty list says
-pub some_left : (b : Bool) (n : ℕ) → b ≡ (n == 0) → b ≡ false → 0 < n
-some_left b zero e f = let h : true ≡ false = sym e ∙ f in cc h
-some_left b (suc n) e f = omega arith
+-- the back of some tokens, by how many there are
+back_of : (ts front back : List Token) → ts ≡ front ++ back → drop (length ts - length back) ts ≡ back
+back_of ts front back e =
+    let n : length ts - length back ≡ length front = omega (arith, ap length e, length-append front back) in
+    ap (λ k. drop k ts) n ∙ ap (drop (length front)) e ∙ drop-append_seam front back
 
-pub none_left : (b : Bool) (n : ℕ) → b ≡ (n == 0) → b ≡ true → n ≡ 0
-none_left b n e f = eqb-true n 0 (sym e ∙ f)
+-- what is borrowed from a place on
+pub back_is : (all : List Entry) (at : ℕ) → take (length all - at) (drop at all) ≡ drop at all
+back_is all at = take_all (length all - at) (drop at all) (omega (arith, length-drop at all))
+
+-- what an item leaves is a back of all, by how many there are
+rest_is : (all part after : List Entry) (at : ℕ) (y : Tree) → part ≡ drop at all → normals (kind AnItem) (entry_tokens part) ≡ Got y (entry_tokens after) → entry_tokens after ≡ entry_tokens (drop (length all - length after) all)
+rest_is all part after at y p e =
+    let ts : List Token = entry_tokens all in
+    let us : List Token = entry_tokens after in
+    let (x, h, i) = got_normal (reads (kind AnItem) (entry_tokens part)) y us e in
+    let own = reads_sound all_founded (kind AnItem) (entry_tokens part) x us h in
+    let there : drop at ts ≡ flat x ++ us = drop-map entry_token at all ∙ ap entry_tokens (sym p) ∙ own.tokens in
+    let whole : ts ≡ (take at ts ++ flat x) ++ us = sym (take-append-drop at ts) ∙ ap (λ r. take at ts ++ r) there ∙ sym (append_assoc (take at ts) (flat x) us) in
+    let n : length ts - length us ≡ length all - length after = omega (arith, tokens_length all, tokens_length after) in
+    sym (back_of ts (take at ts ++ flat x) us whole) ∙ ap (λ k. drop k ts) n ∙ drop-map entry_token (length all - length after) all
+
+-- an item leaves fewer than stood there
+pub fewer_left : (all part after : List Entry) (at : ℕ) (y : Tree) → part ≡ drop at all → at ≤ length all → normals (kind AnItem) (entry_tokens part) ≡ Got y (entry_tokens after) → length after + at < length all
+fewer_left all part after at y p h e = omega (arith, after_shorter part after y e, ap length p, length-drop at all)
+
+some_part : (all part : List Entry) (at : ℕ) → part ≡ drop at all → at < length all → 0 < length part
+some_part all part at p h = omega (arith, ap length p, length-drop at all)
+
+-- the items up to a place have been read
+abbrev pub HasReadTo : List Entry → List Items.Item → ℕ → Type 0
+HasReadTo all items at = HasRead all items (drop at all)
+
+pub read_next : (all part after : List Entry) (items more : List Items.Item) (item : Items.Item) (at : ℕ) → HasReadTo all items at → part ≡ drop at all → at < length all → normals (kind AnItem) (entry_tokens part) ≡ Got (item_tree item) (entry_tokens after) → more ≡ items ++ item ∷ [] → HasReadTo all more (length all - length after)
+read_next all part after items more item at r p h e i =
+    let next = read_more all part after items more item (subst (λ es. HasRead all items es) (sym p) r) (some_part all part at p h) e i in
+    record { same = ap (λ us. in_front item_tree more (normals items_loop us)) (sym (rest_is all part after at (item_tree item) p e)) ∙ next.same }
+
+pub read_over : (all : List Entry) (items : List Items.Item) (at : ℕ) → HasReadTo all items at → length all ≤ at → IsParsed (entry_tokens all) (Node AFile (items_tree items))
+read_over all items at r h = read_all all (drop at all) items r (omega (arith, length-drop at all))
+
+pub left_of : (all part : List Entry) (at l : ℕ) → part ≡ drop at all → normals (kind AnItem) (entry_tokens part) ≡ Refused l → l ≤ length all
+left_of all part at l p e = omega (arith, left_within part l e, ap length p, length-drop at all)
+
+pub read_stops : (all part : List Entry) (items : List Items.Item) (at l : ℕ) → HasReadTo all items at → part ≡ drop at all → at < length all → normals (kind AnItem) (entry_tokens part) ≡ Refused l → IsSyntaxFault (entry_tokens all) (place_where (length all) l)
+read_stops all part items at l r p h e = read_fails all part items l (subst (λ es. HasRead all items es) (sym p) r) (some_part all part at p h) e

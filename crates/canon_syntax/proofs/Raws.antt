@@ -4,11 +4,9 @@ use Rattle.std.proofs.Math.Seq.{take-suc}
 use Rattle.std.proofs.Math.ListN.{drop_of_length-le}
 use Rattle.std.proofs.lemmas.List.{append-nil, map-append}
 use Rattle.std.specs.Prelude.{Some, None}
-use Rattle.rust_token.specs.Token.{Token, Opens, Closes, Word}
-use Rattle.rust_token.specs.Lexemes.{token_at, tokens_at, kind_token, between}
-use Rattle.rust_token.specs.declared.lexeme.Lexeme.{Lexeme}
-use Rattle.rust_token.specs.declared.lexeme.LexemeKind.{LexemeKind}
-use Rattle.rust_token.specs.declared.lexeme.LexemeKind.TheVariants.{Open, Close, Mark, Ident}
+use Rattle.proc_macro2.specs.Token.{Token, Opens, Closes, Word, Quoted, Sign}
+use Rattle.token_entries.specs.Entries.{entry_token, entry_tokens}
+use Rattle.token_entries.specs.declared.entry.Entry.{Entry}
 use Rattle.canon_syntax.specs.Tree.{Tree, Leaf, Last, Raw, Nil, Pair, First, Second, Node}
 use Rattle.canon_syntax.specs.Run.{Out, Late, Refused, Got, wrap, raw_onto, raw_at}
 use Rattle.canon_syntax.specs.Gives.{open_behind, RawEnds}
@@ -28,28 +26,30 @@ wrap_twice xs t Late = refl
 wrap_twice xs t (Refused l) = refl
 wrap_twice xs t (Got x r) = ap (λ y. Got y r) (onto_twice xs t x)
 
-step_more : (n m : ℕ) (k : LexemeKind) (cs : List ℕ) (us : List Token) → open_behind n k ≡ Some m → raw_at n (kind_token k cs ∷ us) ≡ wrap (raw_onto (kind_token k cs ∷ [])) (raw_at m us)
+step_more : (n m : ℕ) (t : Token) (us : List Token) → open_behind n t ≡ Some m → raw_at n (t ∷ us) ≡ wrap (raw_onto (t ∷ [])) (raw_at m us)
 unfolding raw_at
-step_more n m (Open d) cs us e = let h : suc n ≡ m = cc in ap (λ i. wrap (raw_onto (Opens d ∷ [])) (raw_at i us)) h
-step_more n m (Mark spacing) cs us e = let h : n ≡ m = cc in ap (λ i. wrap (raw_onto (kind_token (Mark spacing) cs ∷ [])) (raw_at i us)) h
-step_more n m Ident cs us e = let h : n ≡ m = cc in ap (λ i. wrap (raw_onto (Word cs ∷ [])) (raw_at i us)) h
-step_more zero m (Close d) cs us e = cc
-step_more (suc n) m (Close d) cs us e = let h : n ≡ m = cc in ap (λ i. wrap (raw_onto (Closes d ∷ [])) (raw_at i us)) h
+step_more n m (Opens d) us e = let h : suc n ≡ m = cc in ap (λ i. wrap (raw_onto (Opens d ∷ [])) (raw_at i us)) h
+step_more n m (Word cs) us e = let h : n ≡ m = cc in ap (λ i. wrap (raw_onto (Word cs ∷ [])) (raw_at i us)) h
+step_more n m (Quoted cs) us e = let h : n ≡ m = cc in ap (λ i. wrap (raw_onto (Quoted cs ∷ [])) (raw_at i us)) h
+step_more n m (Sign c spacing) us e = let h : n ≡ m = cc in ap (λ i. wrap (raw_onto (Sign c spacing ∷ [])) (raw_at i us)) h
+step_more zero m (Closes d) us e = cc
+step_more (suc n) m (Closes d) us e = let h : n ≡ m = cc in ap (λ i. wrap (raw_onto (Closes d ∷ [])) (raw_at i us)) h
 
-step_none : (n : ℕ) (k : LexemeKind) (cs : List ℕ) (us : List Token) → open_behind n k ≡ None → raw_at n (kind_token k cs ∷ us) ≡ Got (Raw []) (kind_token k cs ∷ us)
+step_none : (n : ℕ) (t : Token) (us : List Token) → open_behind n t ≡ None → raw_at n (t ∷ us) ≡ Got (Raw []) (t ∷ us)
 unfolding raw_at
-step_none n (Open d) cs us e = cc
-step_none n (Mark spacing) cs us e = cc
-step_none n Ident cs us e = cc
-step_none zero (Close d) cs us e = refl
-step_none (suc n) (Close d) cs us e = cc
+step_none n (Opens d) us e = cc
+step_none n (Word cs) us e = cc
+step_none n (Quoted cs) us e = cc
+step_none n (Sign c spacing) us e = cc
+step_none zero (Closes d) us e = refl
+step_none (suc n) (Closes d) us e = cc
 
 -- the raw run of all is what stands before a place, and then the run from there on, behind n opening marks
-abbrev pub RawTo : List Lexeme → ℕ → ℕ → Type 0
-RawTo ls n at = (bytes : List ℕ) → raw_at 0 (tokens_at bytes ls) ≡ wrap (raw_onto (tokens_at bytes (take at ls))) (raw_at n (tokens_at bytes (drop at ls)))
+abbrev pub RawTo : List Entry → ℕ → ℕ → Type 0
+RawTo es n at = raw_at 0 (entry_tokens es) ≡ wrap (raw_onto (entry_tokens (take at es))) (raw_at n (entry_tokens (drop at es)))
 
-pub raw_start : (ls : List Lexeme) (bytes : List ℕ) → raw_at 0 (tokens_at bytes ls) ≡ wrap (raw_onto (tokens_at bytes (take 0 ls))) (raw_at 0 (tokens_at bytes (drop 0 ls)))
-raw_start ls bytes = sym (onto_none (raw_at 0 (tokens_at bytes ls)))
+pub raw_start : (es : List Entry) → raw_at 0 (entry_tokens es) ≡ wrap (raw_onto (entry_tokens (take 0 es))) (raw_at 0 (entry_tokens (drop 0 es)))
+raw_start es = sym (onto_none (raw_at 0 (entry_tokens es)))
   where
     none : (x : Tree) → raw_onto [] x ≡ x
     none (Raw us) = refl
@@ -66,44 +66,45 @@ raw_start ls bytes = sym (onto_none (raw_at 0 (tokens_at bytes ls)))
     onto_none (Refused l) = refl
     onto_none (Got x r) = ap (λ y. Got y r) (none x)
 
-pub raw_step : (ls : List Lexeme) (n m at : ℕ) (d : Lexeme) → at < length ls → Some m ≡ open_behind n (get_or ls at d).kind → RawTo ls n at → RawTo ls m (at + 1)
-raw_step ls n m at d h e read bytes =
-    let l : Lexeme = get_or ls at d in
-    let t : Token = token_at bytes l in
-    let front : List Token = tokens_at bytes (take at ls) in
-    let rest : List Lexeme = drop (suc at) ls in
-    let f : tokens_at bytes (take (at + 1) ls) ≡ front ++ t ∷ [] =
-    ap (λ i. tokens_at bytes (take i ls)) (add-one at) ∙ ap (tokens_at bytes) (take-suc ls at d h) ∙ map-append (token_at bytes) (take at ls) (l ∷ []) in
-    read bytes
-    ∙ ap (λ us. wrap (raw_onto front) (raw_at n (tokens_at bytes us))) (drop-cons ls at d h)
-    ∙ ap (wrap (raw_onto front)) (step_more n m l.kind (between bytes l.start l.«end») (tokens_at bytes rest) (sym e))
-    ∙ wrap_twice front t (raw_at m (tokens_at bytes rest))
-    ∙ ap (λ xs. wrap (raw_onto xs) (raw_at m (tokens_at bytes rest))) (sym f)
-    ∙ ap (λ i. wrap (raw_onto (tokens_at bytes (take (at + 1) ls))) (raw_at m (tokens_at bytes (drop i ls)))) (sym (add-one at))
+pub raw_step : (es : List Entry) (n m at : ℕ) (d : Entry) → at < length es → Some m ≡ open_behind n (entry_token (get_or es at d)) → RawTo es n at → RawTo es m (at + 1)
+raw_step es n m at d h e read =
+    let x : Entry = get_or es at d in
+    let t : Token = entry_token x in
+    let front : List Token = entry_tokens (take at es) in
+    let rest : List Entry = drop (suc at) es in
+    let f : entry_tokens (take (at + 1) es) ≡ front ++ t ∷ [] =
+    ap (λ i. entry_tokens (take i es)) (add-one at) ∙ ap entry_tokens (take-suc es at d h) ∙ map-append entry_token (take at es) (x ∷ []) in
+    read
+    ∙ ap (λ us. wrap (raw_onto front) (raw_at n (entry_tokens us))) (drop-cons es at d h)
+    ∙ ap (wrap (raw_onto front)) (step_more n m t (entry_tokens rest) (sym e))
+    ∙ wrap_twice front t (raw_at m (entry_tokens rest))
+    ∙ ap (λ xs. wrap (raw_onto xs) (raw_at m (entry_tokens rest))) (sym f)
+    ∙ ap (λ i. wrap (raw_onto (entry_tokens (take (at + 1) es))) (raw_at m (entry_tokens (drop i es)))) (sym (add-one at))
 
-pub raw_stops : (ls : List Lexeme) (n at : ℕ) (d : Lexeme) → at < length ls → None ≡ open_behind n (get_or ls at d).kind → RawTo ls n at → (bytes : List ℕ) → RawEnds bytes ls (Some at)
-raw_stops ls n at d h e read bytes =
-    let l : Lexeme = get_or ls at d in
-    let front : List Token = tokens_at bytes (take at ls) in
-    let rest : List Lexeme = drop (suc at) ls in
-    read bytes
-    ∙ ap (λ us. wrap (raw_onto front) (raw_at n (tokens_at bytes us))) (drop-cons ls at d h)
-    ∙ ap (wrap (raw_onto front)) (step_none n l.kind (between bytes l.start l.«end») (tokens_at bytes rest) (sym e))
-    ∙ ap (λ xs. Got (Raw xs) (tokens_at bytes (l ∷ rest))) (append-nil front)
-    ∙ ap (λ us. Got (Raw front) (tokens_at bytes us)) (sym (drop-cons ls at d h))
+pub raw_stops : (es : List Entry) (n at : ℕ) (d : Entry) → at < length es → None ≡ open_behind n (entry_token (get_or es at d)) → RawTo es n at → RawEnds es (Some at)
+raw_stops es n at d h e read =
+    let x : Entry = get_or es at d in
+    let t : Token = entry_token x in
+    let front : List Token = entry_tokens (take at es) in
+    let rest : List Entry = drop (suc at) es in
+    read
+    ∙ ap (λ us. wrap (raw_onto front) (raw_at n (entry_tokens us))) (drop-cons es at d h)
+    ∙ ap (wrap (raw_onto front)) (step_none n t (entry_tokens rest) (sym e))
+    ∙ ap (λ xs. Got (Raw xs) (entry_tokens (x ∷ rest))) (append-nil front)
+    ∙ ap (λ us. Got (Raw front) (entry_tokens us)) (sym (drop-cons es at d h))
 
-pub raw_over : (ls : List Lexeme) (n at : ℕ) → length ls ≤ at → n ≡ 0 → RawTo ls n at → (bytes : List ℕ) → RawEnds bytes ls (Some at)
+pub raw_over : (es : List Entry) (n at : ℕ) → length es ≤ at → n ≡ 0 → RawTo es n at → RawEnds es (Some at)
 unfolding raw_at
-raw_over ls n at h e read bytes =
-    let front : List Token = tokens_at bytes (take at ls) in
-    read bytes
-    ∙ ap (λ i. wrap (raw_onto front) (raw_at i (tokens_at bytes (drop at ls)))) e
-    ∙ ap (λ us. wrap (raw_onto front) (raw_at 0 (tokens_at bytes us))) (drop_of_length-le ls h)
+raw_over es n at h e read =
+    let front : List Token = entry_tokens (take at es) in
+    read
+    ∙ ap (λ i. wrap (raw_onto front) (raw_at i (entry_tokens (drop at es)))) e
+    ∙ ap (λ us. wrap (raw_onto front) (raw_at 0 (entry_tokens us))) (drop_of_length-le es h)
     ∙ ap (λ xs. Got (Raw xs) []) (append-nil front)
-    ∙ ap (λ us. Got (Raw front) (tokens_at bytes us)) (sym (drop_of_length-le ls h))
+    ∙ ap (λ us. Got (Raw front) (entry_tokens us)) (sym (drop_of_length-le es h))
 
-pub raw_unclosed : (ls : List Lexeme) (n at : ℕ) → length ls ≤ at → n ≢ 0 → RawTo ls n at → (bytes : List ℕ) → RawEnds bytes ls None
+pub raw_unclosed : (es : List Entry) (n at : ℕ) → length es ≤ at → n ≢ 0 → RawTo es n at → RawEnds es None
 unfolding raw_at
-raw_unclosed ls zero at h e read bytes = absurd (e refl)
-raw_unclosed ls (suc n) at h e read bytes =
-    read bytes ∙ ap (λ us. wrap (raw_onto (tokens_at bytes (take at ls))) (raw_at (suc n) (tokens_at bytes us))) (drop_of_length-le ls h)
+raw_unclosed es zero at h e read = absurd (e refl)
+raw_unclosed es (suc n) at h e read =
+    read ∙ ap (λ us. wrap (raw_onto (entry_tokens (take at es))) (raw_at (suc n) (entry_tokens us))) (drop_of_length-le es h)

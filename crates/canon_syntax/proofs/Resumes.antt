@@ -2,9 +2,9 @@
 use Rattle.std.proofs.Common.{◌≡◌, ℕ, zero, suc, List, [], ◌∷◌, ◌++◌, length, refl, sym, ap, ◌∙◌, subst, ⊎_elim, append_assoc}
 use Rattle.std.specs.Prelude.{Bool, true, false, ◌==◌}
 use Rattle.std.proofs.lemmas.List.{append-nil}
-use Rattle.rust_token.specs.declared.delimiter.Delimiter.TheVariants.{Brace}
-use Rattle.rust_token.specs.declared.lexeme.Spacing.TheVariants.{Alone}
-use Rattle.rust_token.specs.Token.{Token, Opens, Closes, Word, Sign}
+use Rattle.proc_macro2.specs.declared.delimiter.Delimiter.TheVariants.{Brace}
+use Rattle.rust_leaf.specs.declared.punct.Spacing.TheVariants.{Alone}
+use Rattle.proc_macro2.specs.Token.{Token, Opens, Closes, Word, Quoted, Sign}
 use Rattle.canon_syntax.specs.Kind.{Kind}
 use Rattle.canon_syntax.specs.Tree.{Tree, Leaf, Last, Raw, Pair, First, Second, Node, flat}
 use Rattle.canon_syntax.specs.Gram.{Gram, one, last, raw, seq, alt, ref, ask, closes_all}
@@ -54,6 +54,7 @@ last_refused c (Sign d spacing ∷ ts) l e = ⊎_elim (λ h. let f = h.1 in cc) 
 last_refused c (Opens d ∷ ts) l e = cc
 last_refused c (Closes d ∷ ts) l e = cc
 last_refused c (Word cs ∷ ts) l e = cc
+last_refused c (Quoted cs ∷ ts) l e = cc
 
 pub one_example : (p : Token → Bool) (t : Token) → p t ≡ true → Example (one p)
 one_example p t h = record { tree = Leaf t; derived = λ r. h }
@@ -168,6 +169,7 @@ raw_refused : (n : ℕ) (ts : List Token) (l : ℕ) → raw_at n ts ≡ Refused 
 unfolding raw_at
 raw_refused n (Opens d ∷ ts) l e = let u = raw_refused (suc n) ts l (wrap_refused _ (raw_at (suc n) ts) l e) in record { more = u.more; closes = u.closes; none = u.none }
 raw_refused n (Word cs ∷ ts) l e = let u = raw_refused n ts l (wrap_refused _ (raw_at n ts) l e) in record { more = u.more; closes = u.closes; none = u.none }
+raw_refused n (Quoted cs ∷ ts) l e = let u = raw_refused n ts l (wrap_refused _ (raw_at n ts) l e) in record { more = u.more; closes = u.closes; none = u.none }
 raw_refused n (Sign c spacing ∷ ts) l e = let u = raw_refused n ts l (wrap_refused _ (raw_at n ts) l e) in record { more = u.more; closes = u.closes; none = u.none }
 raw_refused zero (Closes d ∷ ts) l e = cc
 raw_refused (suc n) (Closes d ∷ ts) l e = let u = raw_refused n ts l (wrap_refused _ (raw_at n ts) l e) in record { more = u.more; closes = u.closes; none = u.none }
@@ -217,6 +219,7 @@ pub body_free : IsFree body
 body_free (Pair (Raw own) (Leaf (Closes d))) r s d' = ((d'.0.0, refl), d'.1)
 body_free (Pair (Raw own) (Leaf (Opens _))) r s d = cc
 body_free (Pair (Raw own) (Leaf (Word _))) r s d = cc
+body_free (Pair (Raw own) (Leaf (Quoted _))) r s d = cc
 body_free (Pair (Raw own) (Leaf (Sign _ _))) r s d = cc
 body_free (Pair (Raw own) _) r s d = absurd d.1
 body_free (Pair _ y) r s d = absurd d.0

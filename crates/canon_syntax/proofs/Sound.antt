@@ -2,9 +2,9 @@
 use Rattle.std.proofs.Common.{◌≡◌, ℕ, zero, suc, ◌+◌, ◌≤◌, List, [], ◌∷◌, ◌++◌, refl, sym, ap, ◌∙◌, subst, ⊎_elim, inl, inr, arith, append_assoc}
 use Rattle.std.specs.Prelude.{Bool, true, false, cond, ◌⊎◌, ◌==◌, length}
 use Rattle.std.proofs.lemmas.Bool.{eqb-true, eq-eqb}
-use Rattle.rust_token.specs.Token.{Token}
-use Rattle.rust_token.specs.Token.{Opens, Closes, Word, Sign}
-use Rattle.rust_token.specs.declared.lexeme.Spacing.{Spacing}
+use Rattle.proc_macro2.specs.Token.{Token}
+use Rattle.proc_macro2.specs.Token.{Opens, Closes, Word, Quoted, Sign}
+use Rattle.rust_leaf.specs.declared.punct.Spacing.{Spacing}
 use Rattle.canon_syntax.specs.Tree.{Tree, Leaf, Last, Raw, Nil, Pair, First, Second, Node, flat}
 use Rattle.canon_syntax.specs.Gram.{Gram, one, last, raw, nothing, never, seq, alt, star, ref, ask, closes_all, at_end}
 use Rattle.canon_syntax.specs.Table.{table}
@@ -63,6 +63,7 @@ mark_sound c (Sign d spacing ∷ ts) x r e =
 mark_sound c (Opens d ∷ ts) x r e = cc
 mark_sound c (Closes d ∷ ts) x r e = cc
 mark_sound c (Word cs ∷ ts) x r e = cc
+mark_sound c (Quoted cs ∷ ts) x r e = cc
 
 mark_complete : (c d : ℕ) (spacing : Spacing) (r : List Token) → c ≡ d → last_at Last d (Sign c spacing ∷ r) ≡ Got (Last c spacing) r
 unfolding last_at
@@ -89,12 +90,14 @@ raw_end [] h = refl
 raw_end (Closes d ∷ r) h = refl
 raw_end (Opens d ∷ r) h = cc
 raw_end (Word cs ∷ r) h = cc
+raw_end (Quoted cs ∷ r) h = cc
 raw_end (Sign c spacing ∷ r) h = cc
 
 pub raw_sound : (n : ℕ) (ts : List Token) (x : Tree) (r : List Token) → raw_at n ts ≡ Got x r → RawTo n ts x r
 unfolding raw_at
 raw_sound n (Opens d ∷ ts) x r e = raw_more n (suc n) (Opens d) ts x r (λ us. refl) e (raw_sound (suc n) ts)
 raw_sound n (Word cs ∷ ts) x r e = raw_more n n (Word cs) ts x r (λ us. refl) e (raw_sound n ts)
+raw_sound n (Quoted cs ∷ ts) x r e = raw_more n n (Quoted cs) ts x r (λ us. refl) e (raw_sound n ts)
 raw_sound n (Sign c spacing ∷ ts) x r e = raw_more n n (Sign c spacing) ts x r (λ us. refl) e (raw_sound n ts)
 raw_sound zero (Closes d ∷ ts) x r e = got_as (RawTo zero (Closes d ∷ ts)) _ _ _ _ e (record { own = []; is = refl; closes = refl; ends = refl; tokens = refl })
 raw_sound (suc n) (Closes d ∷ ts) x r e = raw_more (suc n) n (Closes d) ts x r (λ us. refl) e (raw_sound n ts)
@@ -105,6 +108,7 @@ raw_complete : (n : ℕ) (ts r : List Token) → closes_all n ts ≡ true → at
 unfolding raw_at
 raw_complete n (Opens d ∷ ts) r e h = ap (wrap (raw_onto (Opens d ∷ []))) (raw_complete (suc n) ts r e h)
 raw_complete n (Word cs ∷ ts) r e h = ap (wrap (raw_onto (Word cs ∷ []))) (raw_complete n ts r e h)
+raw_complete n (Quoted cs ∷ ts) r e h = ap (wrap (raw_onto (Quoted cs ∷ []))) (raw_complete n ts r e h)
 raw_complete n (Sign c spacing ∷ ts) r e h = ap (wrap (raw_onto (Sign c spacing ∷ []))) (raw_complete n ts r e h)
 raw_complete zero (Closes d ∷ ts) r e h = cc
 raw_complete (suc n) (Closes d ∷ ts) r e h = ap (wrap (raw_onto (Closes d ∷ []))) (raw_complete n ts r e h)

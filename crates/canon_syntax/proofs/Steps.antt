@@ -2,8 +2,8 @@
 use Rattle.std.proofs.Common.{◌≡◌, ◌<◌, List, length, refl, ap, ◌∙◌}
 use Rattle.std.specs.Prelude.{true}
 use Rattle.std.specs.Str.{IsAscii}
-use Rattle.rust_token.specs.Token.{Token}
-use Rattle.rust_token.specs.declared.delimiter.Delimiter.TheVariants.{Brace}
+use Rattle.proc_macro2.specs.Token.{Token}
+use Rattle.proc_macro2.specs.declared.delimiter.Delimiter.TheVariants.{Brace}
 use Rattle.canon_syntax.specs.Kind.{Kind, AFile, AnItem, AStruct, AMacro}
 use Rattle.canon_syntax.specs.Tree.{Tree, Last, Node}
 use Rattle.canon_syntax.specs.Gram.{one, last, raw, seq, alt, ref}

@@ -1,7 +1,7 @@
 -- A star is read turn by turn.
 use Rattle.std.proofs.Common.{◌≡◌, List, [], ◌∷◌, ◌++◌, refl, ap, sym, ◌∙◌}
 use Rattle.std.specs.Prelude.{ℕ, Bool, true, false, cond}
-use Rattle.rust_token.specs.Token.{Token}
+use Rattle.proc_macro2.specs.Token.{Token}
 use Rattle.canon_syntax.specs.Tree.{Tree, Last, First, Second, Pair, Nil}
 use Rattle.canon_syntax.specs.Gram.{Gram, ask, seq, star, alt, nothing}
 use Rattle.canon_syntax.specs.Normal.{normal}

@@ -2,8 +2,8 @@
 use Rattle.std.proofs.Common.{◌≡◌, ℕ, zero, suc, ◌+◌, ◌*◌, ◌<◌, ◌≤◌, List, [], ◌∷◌, ◌++◌, length, refl, sym, ap, ◌∙◌, subst, ⊎_elim, inl, inr, arith, length-append}
 use Rattle.std.specs.Prelude.{Bool, true, false, cond, ◌&&◌, ◌||◌, ◌⊎◌, ◌==◌, max}
 use Rattle.std.proofs.lemmas.Bool.{leb-true, cases_lt}
-use Rattle.rust_token.specs.Token.{Token}
-use Rattle.rust_token.specs.Token.{Opens, Closes, Word, Sign}
+use Rattle.proc_macro2.specs.Token.{Token}
+use Rattle.proc_macro2.specs.Token.{Opens, Closes, Word, Quoted, Sign}
 use Rattle.canon_syntax.specs.Kind.{Kind}
 use Rattle.canon_syntax.specs.Tree.{Tree, Leaf, Last, Raw, Nil, Pair, First, Second, Node, flat}
 use Rattle.canon_syntax.specs.Gram.{Gram, one, last, raw, nothing, never, seq, alt, star, ref, ask}
@@ -63,7 +63,7 @@ level_height (star t g) = omega (arith, level_height g)
 level_height (ref k) = omega arith
 
 -- what is over
-abbrev IsOver : Out → Type 0
+abbrev pub IsOver : Out → Type 0
 IsOver Late = ⊥
 IsOver (Refused l) = Unit {0}
 IsOver (Got x r) = Unit {0}
@@ -89,11 +89,13 @@ last_over c (Sign d spacing ∷ ts) = over_cond (d == c) _ _ tt tt
 last_over c (Opens d ∷ ts) = tt
 last_over c (Closes d ∷ ts) = tt
 last_over c (Word cs ∷ ts) = tt
+last_over c (Quoted cs ∷ ts) = tt
 
 raw_over : (n : ℕ) (ts : List Token) → IsOver (raw_at n ts)
 unfolding raw_at
 raw_over n (Opens d ∷ ts) = over_wrap _ (raw_at (suc n) ts) (raw_over (suc n) ts)
 raw_over n (Word cs ∷ ts) = over_wrap _ (raw_at n ts) (raw_over n ts)
+raw_over n (Quoted cs ∷ ts) = over_wrap _ (raw_at n ts) (raw_over n ts)
 raw_over n (Sign c spacing ∷ ts) = over_wrap _ (raw_at n ts) (raw_over n ts)
 raw_over zero (Closes d ∷ ts) = tt
 raw_over (suc n) (Closes d ∷ ts) = over_wrap _ (raw_at n ts) (raw_over n ts)
@@ -230,7 +232,7 @@ module _ (all : (k : Kind) → is_founded k ≡ true) where
   level_top (kind k) f = (founded k (all k)).rank
   level_top (loop t g) f = omega (arith, level_height g)
 
-  reads_over : (c : Call) (ts : List Token) → CallFits c → IsOver (reads c ts)
+  pub reads_over : (c : Call) (ts : List Token) → CallFits c → IsOver (reads c ts)
   unfolding reads
   reads_over c ts f = run_over (suc (length ts * suc top + top)) c ts f (omega (arith, level_top c f))
 

@@ -1,6 +1,6 @@
 -- The grammar: which trees an entry has, and before which rest.
 use Rattle.std.specs.Prelude.{◌≡◌, true, false, List, ◌++◌}
-use Rattle.rust_token.specs.Token.{Token}
+use Rattle.proc_macro2.specs.Token.{Token}
 use Rattle.canon_syntax.specs.Tree.{Tree, Leaf, Last, Raw, Nil, Pair, First, Second, Node, flat}
 use Rattle.canon_syntax.specs.Gram.{Gram, one, last, raw, nothing, seq, alt, star, ref, ask, is_balanced, at_end}
 use Rattle.canon_syntax.specs.Table.{table}

@@ -1,6 +1,6 @@
 -- Files, and where tokens are none.
 use Rattle.std.specs.Prelude.{◌≡◌, ℕ, suc, ◌<◌, List, [], ◌++◌, length, take, Option, Some, None}
-use Rattle.rust_token.specs.Token.{Token}
+use Rattle.proc_macro2.specs.Token.{Token}
 use Rattle.canon_syntax.specs.declared.fault.ParseFault.{ParseFault}
 use Rattle.canon_syntax.specs.declared.fault.ParseFault.TheVariants.{Memory, Syntax}
 use Rattle.canon_syntax.specs.Kind.{AFile}

@@ -1,10 +1,10 @@
 -- Laws of files.
-use Rattle.std.specs.Prelude.{◌≡◌, List}
-use Rattle.rust_token.specs.Token.{Token}
-use Rattle.rust_token.specs.Spacing.{IsWellSpaced}
+use Rattle.std.specs.Prelude.{◌≡◌, ◌⊎◌, ℕ, List, Option}
+use Rattle.proc_macro2.specs.Token.{Token}
+use Rattle.proc_macro2.specs.Spacing.{IsWellSpaced}
 use Rattle.canon_syntax.specs.Tree.{Tree, flat}
 use Rattle.canon_syntax.specs.Normal.{normal}
-use Rattle.canon_syntax.specs.File.{IsFile}
+use Rattle.canon_syntax.specs.File.{IsFile, IsSyntaxFault}
 
 -- tokens are a file in one way
 abbrev pub OneTree : Type 0
@@ -21,3 +21,7 @@ Settled = (tokens : List Token) (x : Tree) → IsFile tokens x → IsWellSpaced 
 -- the tokens of a file's normal form are a file, which is that normal form
 abbrev pub ReadBack : Type 0
 ReadBack = (tokens : List Token) (x : Tree) → IsFile tokens x → IsFile (flat (normal x)) (normal x)
+
+-- tokens are a file or have a syntax fault
+abbrev pub FileOrFault : Type 0
+FileOrFault = (tokens : List Token) → ((tree : Tree) × IsFile tokens tree) ⊎ ((place : Option ℕ) × IsSyntaxFault tokens place)

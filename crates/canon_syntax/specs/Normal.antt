@@ -1,6 +1,6 @@
 -- The normal form of a tree: how the last mark of a punctuation is spaced is no part of the program,
 -- so it stands alone. Raw tokens are kept as they are, with their spacing. Nothing else changes.
-use Rattle.rust_token.specs.declared.lexeme.Spacing.TheVariants.{Alone}
+use Rattle.rust_leaf.specs.declared.punct.Spacing.TheVariants.{Alone}
 use Rattle.canon_syntax.specs.Tree.{Tree, Leaf, Last, Raw, Nil, Pair, First, Second, Node}
 
 abbrev pub normal : Tree → Tree

@@ -1,8 +1,8 @@
 -- A run of the grammar on tokens: a tool of the proofs. What a tree is, the grammar says.
 use Rattle.std.specs.Prelude.{ℕ, zero, suc, ◌+◌, ◌*◌, Bool, ◌==◌, cond, List, [], ◌∷◌, ◌++◌, length}
-use Rattle.rust_token.specs.Token.{Token, Opens, Closes, Word, Sign}
-use Rattle.rust_token.specs.declared.lexeme.Spacing.{Spacing}
-use Rattle.rust_token.specs.declared.lexeme.Spacing.TheVariants.{Alone}
+use Rattle.proc_macro2.specs.Token.{Token, Opens, Closes, Word, Quoted, Sign}
+use Rattle.rust_leaf.specs.declared.punct.Spacing.{Spacing}
+use Rattle.rust_leaf.specs.declared.punct.Spacing.TheVariants.{Alone}
 use Rattle.canon_syntax.specs.Kind.{Kind}
 use Rattle.canon_syntax.specs.Tree.{Tree, Leaf, Last, Raw, Nil, Pair, First, Second, Node}
 use Rattle.canon_syntax.specs.Gram.{Gram, one, last, raw, nothing, never, seq, alt, star, ref, ask}
@@ -51,6 +51,7 @@ raw_onto ts x = x
 unfoldable pub raw_at : ℕ → List Token → Out
 raw_at n (Opens d ∷ ts) = wrap (raw_onto (Opens d ∷ [])) (raw_at (suc n) ts)
 raw_at n (Word cs ∷ ts) = wrap (raw_onto (Word cs ∷ [])) (raw_at n ts)
+raw_at n (Quoted cs ∷ ts) = wrap (raw_onto (Quoted cs ∷ [])) (raw_at n ts)
 raw_at n (Sign c spacing ∷ ts) = wrap (raw_onto (Sign c spacing ∷ [])) (raw_at n ts)
 raw_at zero (Closes d ∷ ts) = Got (Raw []) (Closes d ∷ ts)
 raw_at (suc n) (Closes d ∷ ts) = wrap (raw_onto (Closes d ∷ [])) (raw_at n ts)

@@ -1,6 +1,6 @@
 -- The grammar of a file, an entry for each kind.
 use Rattle.std.specs.Prelude.{ℕ, List, codes}
-use Rattle.rust_token.specs.declared.delimiter.Delimiter.TheVariants.{Brace}
+use Rattle.proc_macro2.specs.declared.delimiter.Delimiter.TheVariants.{Brace}
 use Rattle.canon_syntax.specs.Kind.{Kind, AFile, AnItem, AStruct, AMacro}
 use Rattle.canon_syntax.specs.Gram.{Gram, one, last, raw, seq, alt, star, ref}
 use Rattle.canon_syntax.specs.Tests.{is_keyword, is_ident, is_open, is_close, first_is, is_more}

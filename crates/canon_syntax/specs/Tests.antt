@@ -1,8 +1,8 @@
 -- The tests of tokens that the grammar makes.
 use Rattle.std.specs.Prelude.{ℕ, Bool, true, false, not, ◌==◌, List, [], ◌∷◌}
-use Rattle.rust_token.specs.declared.delimiter.Delimiter.{Delimiter}
-use Rattle.rust_token.specs.Groups.{same_delimiter}
-use Rattle.rust_token.specs.Token.{Token, Opens, Closes, Word, Sign}
+use Rattle.proc_macro2.specs.declared.delimiter.Delimiter.{Delimiter}
+use Rattle.proc_macro2.specs.Groups.{same_delimiter}
+use Rattle.proc_macro2.specs.Token.{Token, Opens, Closes, Word, Sign}
 use Rattle.canon_syntax.specs.Words.{same_text, is_reserved}
 
 -- the keyword of that text

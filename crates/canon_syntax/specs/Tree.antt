@@ -1,7 +1,7 @@
 -- What is read: a tree whose leaves are the tokens in their order.
 use Rattle.std.specs.Prelude.{ℕ, List, [], ◌∷◌, ◌++◌}
-use Rattle.rust_token.specs.Token.{Token, Sign}
-use Rattle.rust_token.specs.declared.lexeme.Spacing.{Spacing}
+use Rattle.proc_macro2.specs.Token.{Token, Sign}
+use Rattle.rust_leaf.specs.declared.punct.Spacing.{Spacing}
 use Rattle.canon_syntax.specs.Kind.{Kind}
 
 -- what an entry of the grammar has read

@@ -10,7 +10,7 @@ use std::alloc::{AllocError, AllocFailed};
 pub enum ParseFault {
     /// There was no memory for one more item.
     Memory,
-    /// The tokens are no file: from the lexeme of that index on, counted from 0, or, where there is
+    /// The tokens are no file: from the token of that index on, counted from 0, or, where there is
     /// none, since they end too early.
     Syntax(Option<usize>),
 }

@@ -3,49 +3,38 @@
 ghost use Rattle.canon_syntax.specs.Gives.{Gives};
 ghost use Rattle.canon_syntax.specs.Kind.{AMacro, AStruct, AnItem};
 ghost use Rattle.canon_syntax.specs.Run.{kind, normals};
-ghost use Rattle.canon_syntax.specs.Views.{IsItemWithin, item_tree, macro_tree, struct_tree};
-ghost use Rattle.rust_token.specs.Lexemes.{IsWithin, tokens_at};
-ghost use Rattle.std.specs.List.{All};
-ghost use Rattle.std.specs.Prelude.{IfOk};
+ghost use Rattle.canon_syntax.specs.Views.{item_tree, macro_tree, struct_tree};
+ghost use Rattle.token_entries.specs.Entries.{entry_tokens};
 
 use crate::refusal::Refusal;
 use crate::tokens;
 use crate::tree::{Item, ItemMacro, ItemStruct};
-use rust_token::delimiter::Delimiter;
-use rust_token::lexeme::Lexeme;
+use proc_macro2::delimiter::Delimiter;
+use token_entries::entry::Entry;
 
 const STRUCT: &str = "struct";
 
 #[tactic(auto, using(crate::proofs::Steps::read_struct, crate::proofs::Steps::ascii_struct))]
-fn item_struct<'a>(text: &str, tokens: &'a [Lexeme]) -> Result<(ItemStruct, &'a [Lexeme]), Refusal>
-    requires { All (IsWithin text.now) tokens.now }
-    ensures value { Gives (λ x. struct_tree text.now x.0) (λ x. tokens_at text.now x.1.now) result
-        (normals (kind AStruct) (tokens_at text.now tokens.now)) }
-    ensures inside { IfOk result (λ x. IsWithin text.now x.0.ident) }
-    ensures within { IfOk result (λ x. All (IsWithin text.now) x.1.now) }
+fn item_struct<'a>(tokens: &'a [Entry<'a>]) -> Result<(ItemStruct<'a>, &'a [Entry<'a>]), Refusal>
+    ensures { Gives (λ x. struct_tree x.0) (λ x. entry_tokens x.1.now) result
+        (normals (kind AStruct) (entry_tokens tokens.now)) }
 {
-    let rest = tokens::keyword(text, tokens, STRUCT)?;
-    let (ident, rest) = tokens::ident(text, rest)?;
-    let rest = tokens::last(text, rest, ';')?;
+    let rest = tokens::keyword(tokens, STRUCT)?;
+    let (ident, rest) = tokens::ident(rest)?;
+    let rest = tokens::last(rest, ';')?;
     Ok((ItemStruct { ident }, rest))
 }
 
 #[tactic(auto, using(crate::proofs::Steps::read_macro))]
-fn item_macro<'a>(
-    text: &str,
-    tokens: &'a [Lexeme],
-) -> Result<(ItemMacro<'a>, &'a [Lexeme]), Refusal>
-    requires { All (IsWithin text.now) tokens.now }
-    ensures value { Gives (λ x. macro_tree text.now x.0) (λ x. tokens_at text.now x.1.now) result
-        (normals (kind AMacro) (tokens_at text.now tokens.now)) }
-    ensures inside { IfOk result (λ x. IsWithin text.now x.0.ident × All (IsWithin text.now) x.0.tokens.now) }
-    ensures within { IfOk result (λ x. All (IsWithin text.now) x.1.now) }
+fn item_macro<'a>(tokens: &'a [Entry<'a>]) -> Result<(ItemMacro<'a>, &'a [Entry<'a>]), Refusal>
+    ensures { Gives (λ x. macro_tree x.0) (λ x. entry_tokens x.1.now) result
+        (normals (kind AMacro) (entry_tokens tokens.now)) }
 {
-    let (ident, rest) = tokens::ident(text, tokens)?;
-    let rest = tokens::last(text, rest, '!')?;
-    let rest = tokens::open(text, rest, Delimiter::Brace)?;
-    let (inside, rest) = tokens::raw(text, rest)?;
-    let rest = tokens::close(text, rest, Delimiter::Brace)?;
+    let (ident, rest) = tokens::ident(tokens)?;
+    let rest = tokens::last(rest, '!')?;
+    let rest = tokens::open(rest, Delimiter::Brace)?;
+    let (inside, rest) = tokens::raw(rest)?;
+    let rest = tokens::close(rest, Delimiter::Brace)?;
     Ok((
         ItemMacro {
             ident,
@@ -57,20 +46,14 @@ fn item_macro<'a>(
 
 /// The item that stands first, and what follows it.
 #[tactic(auto, using(crate::proofs::Steps::read_item, crate::proofs::Steps::ascii_struct))]
-pub(crate) fn item<'a>(
-    text: &str,
-    tokens: &'a [Lexeme],
-) -> Result<(Item<'a>, &'a [Lexeme]), Refusal>
-    requires { All (IsWithin text.now) tokens.now }
-    ensures value { Gives (λ x. item_tree text.now x.0) (λ x. tokens_at text.now x.1.now) result
-        (normals (kind AnItem) (tokens_at text.now tokens.now)) }
-    ensures inside { IfOk result (λ x. IsItemWithin text.now x.0) }
-    ensures within { IfOk result (λ x. All (IsWithin text.now) x.1.now) }
+pub(crate) fn item<'a>(tokens: &'a [Entry<'a>]) -> Result<(Item<'a>, &'a [Entry<'a>]), Refusal>
+    ensures { Gives (λ x. item_tree x.0) (λ x. entry_tokens x.1.now) result
+        (normals (kind AnItem) (entry_tokens tokens.now)) }
 {
-    if tokens::is_keyword_next(text, tokens, STRUCT) {
-        let (item, rest) = item_struct(text, tokens)?;
+    if tokens::is_keyword_next(tokens, STRUCT) {
+        let (item, rest) = item_struct(tokens)?;
         return Ok((Item::Struct(item), rest));
     }
-    let (item, rest) = item_macro(text, tokens)?;
+    let (item, rest) = item_macro(tokens)?;
     Ok((Item::Macro(item), rest))
 }

@@ -1,10 +1,15 @@
 //! Laws of files: each is the contract of a function that does nothing.
 
-ghost use Rattle.canon_syntax.specs.Laws.{NormalTwice, OneTree, ReadBack, Settled};
+ghost use Rattle.canon_syntax.specs.Laws.{FileOrFault, NormalTwice, OneTree, ReadBack, Settled};
 
 /// Tokens are a file in at most one way: two trees of a file that have the same tokens are the same.
 pub fn one_file()
     ensures { OneTree }
+{}
+
+/// Tokens are a file, or stop being one at a place.
+pub fn file_or_fault()
+    ensures { FileOrFault }
 {}
 
 /// What is in normal form stays as it is: the normal form of a tree's normal form is that normal form.
@@ -14,7 +19,7 @@ pub fn normal_twice()
 {}
 
 /// A file whose tokens are well spaced, so that they can be written down, is in normal form: its `;` and
-/// `!` stand before no mark, so they stand alone already.
+/// `!` stand before no mark and no literal, so they stand alone already.
 pub fn settled()
     ensures { Settled }
 {}

@@ -1,35 +1,36 @@
-//! Files and items, by the lexemes of a text.
+//! Files and items, by the entries of a stream, which they borrow.
 
-use rust_token::lexeme::Lexeme;
+use rust_leaf::ident::Ident;
+use token_entries::entry::Entry;
 
 /// A file.
-#[derive(Debug, Drop)]
+#[derive(Drop)]
 pub struct File<'a> {
     /// Its items, in their order.
     pub items: Vec<Item<'a>>,
 }
 
 /// An item of a file.
-#[derive(Clone, Copy, Debug)]
+#[derive(Clone, Copy)]
 pub enum Item<'a> {
     /// A struct item.
-    Struct(ItemStruct),
+    Struct(ItemStruct<'a>),
     /// A macro item.
     Macro(ItemMacro<'a>),
 }
 
 /// A struct with no fields: `struct Name;`.
-#[derive(Clone, Copy, Debug)]
-pub struct ItemStruct {
+#[derive(Clone, Copy)]
+pub struct ItemStruct<'a> {
     /// Its name.
-    pub ident: Lexeme,
+    pub ident: &'a Ident,
 }
 
 /// A call of a macro: `name! { .. }`.
-#[derive(Clone, Copy, Debug)]
+#[derive(Clone, Copy)]
 pub struct ItemMacro<'a> {
     /// The name of the macro.
-    pub ident: Lexeme,
+    pub ident: &'a Ident,
     /// What stands between its braces.
-    pub tokens: &'a [Lexeme],
+    pub tokens: &'a [Entry<'a>],
 }

@@ -1,9 +1,12 @@
 // The words that are no names.
 
 ghost use Rattle.canon_syntax.specs.Words.{is_reserved, same_text};
-ghost use Rattle.rust_token.specs.Token.{head};
-ghost use Rattle.std.specs.Prelude.{◌≡◌, ◌==◌, ◌<◌};
-ghost use Rattle.std.specs.Str.{IsAscii, chars};
+ghost use Rattle.rust_leaf.specs.Leaf.{ident_text};
+ghost use Rattle.std.specs.List.{list_any};
+ghost use Rattle.std.specs.Prelude.{◌≡◌};
+ghost use Rattle.std.specs.Str.{chars};
+
+use rust_leaf::ident::Ident;
 
 // The keywords, the words that are kept for later, and the underscore.
 const RESERVED: [&str; 52] = [
@@ -14,28 +17,28 @@ const RESERVED: [&str; 52] = [
     "typeof", "unsafe", "unsized", "use", "virtual", "where", "while", "yield",
 ];
 
-/// Whether a word is no name.
-pub(crate) fn is_reserved(word: &str) -> bool
-    ensures { result ≡ is_reserved (chars word.now) }
+/// Whether an identifier is no name. A raw one is a name, since it is printed with its `r#`.
+pub(crate) fn is_reserved(ident: &Ident) -> bool
+    ensures { result ≡ is_reserved (ident_text ident.now) }
 {
-    RESERVED.contains(&word)
+    is_one_of(ident, &RESERVED)
 }
 
-/// Whether a word is the keyword of that text.
-pub(crate) fn is_word(word: &str, keyword: &str) -> bool
-    requires { IsAscii keyword.now }
-    ensures { result ≡ same_text keyword.now (chars word.now) }
+// Whether an identifier is one of the words.
+fn is_one_of(ident: &Ident, words: &[&str]) -> bool
+    ensures { result ≡ list_any (λ word. same_text (chars word.now) (ident_text ident.now)) words.now }
 {
-    word == keyword
-}
-
-/// Whether a word begins with that character.
-pub(crate) fn begins_with(word: &str, c: char) -> bool
-    requires { 0 < c }
-    ensures { result ≡ (head (chars word.now) == c) }
-{
-    match word.chars().next() {
-        Some(d) => d == c,
-        None => false,
+    for word in words {
+        if is_word(ident, word) {
+            return true;
+        }
     }
+    false
+}
+
+/// Whether an identifier is printed as that word.
+pub(crate) fn is_word(ident: &Ident, word: &str) -> bool
+    ensures { result ≡ same_text (chars word.now) (ident_text ident.now) }
+{
+    ident.is_text(word)
 }

@@ -2,7 +2,7 @@
 
 use crate::streams::{Plan, Sink};
 use canon::fault::{Fault, write_fault};
-use rust_token::place::LineColumn;
+use rust_map::LineColumn;
 use std::test::Fail;
 
 #[test]

@@ -2,12 +2,11 @@
 
 use canon::canonical::canonical;
 use canon::fault::Fault;
-use canon::source_map::SourceMap;
-use rust_token::place::LineColumn;
+use rust_map::{LineColumn, SourceMap};
 use std::test::Fail;
 
 // Accepted texts and their outputs.
-const ACCEPTED: [(&str, &str); 13] = [
+const ACCEPTED: [(&str, &str); 31] = [
     ("", ""),
     ("struct  S ;m!{a+-b}", "struct S ; m ! { a +- b }"),
     ("m!{(a)[b]{}}", "m ! { (a) [b] { } }"),
@@ -21,10 +20,34 @@ const ACCEPTED: [(&str, &str); 13] = [
     ("m!{<<=}", "m ! { <<= }"),
     ("m!{a;;b..c}", "m ! { a ;; b .. c }"),
     ("struct r;struct _9;", "struct r ; struct _9 ;"),
+    ("struct S;//c", "struct S ;"),
+    ("m!{a/*c*/}", "m ! { a }"),
+    ("m!{'a}", "m ! { 'a }"),
+    ("m!{r#a}", "m ! { r#a }"),
+    ("m!{a a r#a}", "m ! { a a r#a }"),
+    ("struct r#fn;", "struct r#fn ;"),
+    (
+        "m!{/// x\n'a 'b' r#\"q\"# 0x1F}",
+        "m ! { # [doc = \" x\"] 'a 'b' r#\"q\"# 0x1F }",
+    ),
+    ("m!{//! \"x\"\n}", "m ! { # ! [doc = \" \\\"x\\\"\"] }"),
+    ("m!{/**x*/a}", "m ! { # [doc = \"x\"] a }"),
+    (
+        "struct S; // c\nm!{a /* b /* c */ */ + \"x  y\" 'z}",
+        "struct S ; m ! { a + \"x  y\" 'z }",
+    ),
+    ("m!{+'a'}", "m ! { +'a' }"),
+    ("m!{+'a}", "m ! { +'a }"),
+    ("m!{;'a'}", "m ! { ;'a' }"),
+    ("m!{1.0e3f32..=b'x'}", "m ! { 1.0e3f32 ..= b'x' }"),
+    ("m!{br\"\\\" c\"\\x7f\"}", "m ! { br\"\\\" c\"\\x7f\" }"),
+    ("\u{feff}struct S;", "struct S ;"),
+    ("struct é;", "struct é ;"),
+    ("struct\u{2028}S;", "struct S ;"),
 ];
 
 // Texts that are refused, with their faults.
-fn refused() -> [(&'static str, Fault); 22] {
+fn refused() -> [(&'static str, Fault); 35] {
     [
         ("m!{", lexical(1, 2)),
         ("}", lexical(1, 0)),
@@ -32,13 +55,14 @@ fn refused() -> [(&'static str, Fault); 22] {
         ("m!{(]", lexical(1, 4)),
         ("m!{[(", lexical(1, 4)),
         ("m!{[()", lexical(1, 3)),
-        ("struct 9;", lexical(1, 7)),
-        ("struct S;//c", lexical(1, 9)),
-        ("m!{a/*c*/}", lexical(1, 4)),
-        ("struct S;\n é", lexical(2, 1)),
+        ("struct S;\n €", lexical(2, 1)),
         ("struct S;\r\n\n  \"", lexical(3, 2)),
-        ("m!{'a}", lexical(1, 3)),
-        ("m!{r#a}", lexical(1, 3)),
+        ("\"abc", lexical(1, 0)),
+        ("m!{ \"abc", lexical(1, 4)),
+        ("m!{'}", lexical(1, 3)),
+        ("/* c", lexical(1, 0)),
+        ("struct S;\u{feff}", lexical(1, 9)),
+        ("m!{r#crate}", lexical(1, 3)),
         ("m!{br#a}", lexical(1, 3)),
         ("m!{cr#a}", lexical(1, 3)),
         ("struct S m!{}", syntax(1, 9)),
@@ -48,6 +72,18 @@ fn refused() -> [(&'static str, Fault); 22] {
         ("m!{};", syntax(1, 4)),
         ("struct fn;", syntax(1, 7)),
         ("m", Fault::Syntax { place: None }),
+        ("struct 9;", syntax(1, 7)),
+        ("struct S;\n é", Fault::Syntax { place: None }),
+        ("\u{feff}struct S m!{}", syntax(1, 10)),
+        ("struct \"é\";", syntax(1, 7)),
+        ("struct é m!{}", syntax(1, 9)),
+        ("/// hi\nstruct S;", syntax(1, 0)),
+        ("struct S;\n //! hi\n", syntax(2, 1)),
+        ("struct S;\"x\"", syntax(1, 9)),
+        ("r#struct S;", syntax(1, 9)),
+        ("m!{a}}", lexical(1, 5)),
+        ("m!{a};m!{b}", syntax(1, 5)),
+        ("m!\n  [a]", syntax(2, 2)),
     ]
 }
 
@@ -64,7 +100,7 @@ fn syntax(line: usize, column: usize) -> Fault {
 #[test]
 fn accepted_texts_have_their_output(rt: HostRuntime) -> Result<(), Fail> {
     for (text, output) in ACCEPTED {
-        let mut map = SourceMap::new();
+        let mut map = SourceMap::new(rt.alloc());
         let answer = canonical(rt.alloc(), text, &mut map)?;
         assert_eq!(rt; answer.as_str(), output, "of {text}");
     }
@@ -74,7 +110,7 @@ fn accepted_texts_have_their_output(rt: HostRuntime) -> Result<(), Fail> {
 #[test]
 fn outputs_are_their_own(rt: HostRuntime) -> Result<(), Fail> {
     for (_, output) in ACCEPTED {
-        let mut map = SourceMap::new();
+        let mut map = SourceMap::new(rt.alloc());
         let answer = canonical(rt.alloc(), output, &mut map)?;
         assert_eq!(rt; answer.as_str(), output);
     }
@@ -84,7 +120,7 @@ fn outputs_are_their_own(rt: HostRuntime) -> Result<(), Fail> {
 #[test]
 fn refused_texts_have_their_fault(rt: HostRuntime) {
     for (text, fault) in refused() {
-        let mut map = SourceMap::new();
+        let mut map = SourceMap::new(rt.alloc());
         match canonical(rt.alloc(), text, &mut map) {
             Ok(answer) => panic!(rt; "{text} gave {answer}"),
             Err(answer) => assert_eq!(rt; answer, fault, "of {text}"),

@@ -1,17 +1,12 @@
-use Rattle.std.proofs.Common.{◌≤◌, length}
-use Rattle.std.specs.List.{All}
-use Rattle.rust_token.specs.Lexemes.{IsWithin}
-use Rattle.canon_syntax.specs.Views.{IsItemWithin}
-use Rattle.canon_syntax.proofs.Public.{HasRead}
+use Rattle.std.proofs.Common.{◌-◌, ◌≤◌, length}
+use Rattle.canon_syntax.proofs.Public.{HasReadTo}
 use Rattle.canon_syntax.proofs.parse.parse_file.Given as goal
 
-abbrev pub invariant-loop-rest : goal.invariant-loop-rest
-invariant-loop-rest l = record {
-  read : HasRead l.text l.lexemes l.items.items l.rest;
-  inside : All (IsItemWithin l.text) l.items.items;
-  within : All (IsWithin l.text) l.rest;
-  fewer : length l.rest ≤ length l.lexemes;
+abbrev pub invariant-loop-at : goal.invariant-loop-at
+invariant-loop-at l = record {
+  read : HasReadTo l.tokens l.items.items l.at;
+  within : l.at ≤ length l.tokens;
 }
 
-abbrev pub decreases-loop-rest : goal.decreases-loop-rest
-decreases-loop-rest l = length l.rest
+abbrev pub decreases-loop-at : goal.decreases-loop-at
+decreases-loop-at l = length l.tokens - l.at

@@ -1,6 +1,5 @@
-use Rattle.std.proofs.Common.{◌∙◌}
-use Rattle.canon_syntax.proofs.Texts.{word_same}
+use Rattle.canon_syntax.proofs.Texts.{text_same}
 use Rattle.canon_syntax.proofs.words.is_word.Goals as goal
 
 pub returns : goal.returns
-returns c = c.eq.ensures ∙ word_same _ _ c.requires c.utf8.word
+returns c = text_same _ _ _ c.is_text.ensures.0 c.is_text.ensures.1

@@ -1,4 +1,0 @@
-pub mod Places
-pub mod Scan
-pub mod Opened
-pub mod Faults
