@@ -1,9 +1,9 @@
 //! A text behind an older one.
 
 use crate::stop::Stop;
-use proc_macro2::fault::LexFault;
 use proc_macro2::tree::TokenStream;
 use rust_map::LineColumn;
+use rust_map::fault::LexFault;
 use rust_map::source_map::SourceMap;
 use rust_map::span::Span;
 use std::alloc::Global;
