@@ -4,9 +4,8 @@ use Rattle.std.specs.Prelude.{Bool, true, false, ◌&&◌, ◌==◌, is_some, So
 use Rattle.std.proofs.lemmas.Bool.{and_parts, and_right, cases_Bool, eqb-true}
 use Rattle.unicode_ident.proofs.Computing.{unicode_ident}
 use Rattle.rust_lex.specs.Chars.{is_next, begins, passes, is_quote_or_hash}
-use Rattle.rust_lex.specs.declared.opener.Alphabet.TheVariants.{Characters, Bytes, NoZero}
-use Rattle.rust_lex.specs.declared.opener.Opener.{Opener}
-use Rattle.rust_lex.specs.declared.opener.Opener.TheVariants.{Cooked, Raw, Byte as ByteOpener}
+use Rattle.rust_escape.specs.declared.mode.Mode.{Mode}
+use Rattle.rust_escape.specs.declared.mode.Mode.TheVariants as modes
 use Rattle.rust_lex.specs.declared.piece.LiteralKind.{LiteralKind}
 use Rattle.rust_lex.specs.Quoted.{opener_of}
 use Rattle.rust_lex.specs.Word.{IsWord, begins_word, begins_kept}
@@ -24,7 +23,7 @@ one_prefix : (c d : ℕ) (cs : List ℕ) → is_quote_or_hash d ≡ false → (d
 unfolding opener_of
 one_prefix c d cs a b e f = rw (a, b, e, f) (rw (and_right (c == 114) false refl, and_right (c == 98) false refl, and_right (c == 99) false refl) refl)
 
-shorter_prefix : (a b c d e f : Bool) (o p q r s t : Opener) →
+shorter_prefix : (a b c d e f : Bool) (o p q r s t : Mode) →
     is_some (if a then Some o else (if b then Some p else (if c then Some q else (if d then Some r else (if e then Some s else (if f then Some t else None)))))) ≡ false →
     is_some (if a then Some o else (if b then Some p else (if c then Some q else (if false then Some r else (if e then Some s else (if false then Some t else None)))))) ≡ false
 shorter_prefix true b c d e f o p q r s t h = h
@@ -41,7 +40,7 @@ prefix_calm (c ∷ []) rest [] w h k = refl
 prefix_calm (c ∷ []) rest (d ∷ ds) w h k = among_each (λ d. is_prefixed (c ∷ d ∷ ds) ≡ false) calm (one_prefix c 32 ds refl refl refl refl, (one_prefix c 41 ds refl refl refl refl, (one_prefix c 93 ds refl refl refl refl, tt))) d k
 prefix_calm (c ∷ d ∷ []) rest calmer w h k =
     rw (calm_shuns is_quote_or_hash calmer shuns_quote_or_hash k) (rw (and_right (d == 114) false refl) (rw (and_right (c == 98) false refl, and_right (c == 99) false refl)
-    (shorter_prefix (c == 114 && is_quote_or_hash d) (c == 98 && d == 34) (c == 98 && d == 39) (c == 98 && (d == 114 && begins is_quote_or_hash rest)) (c == 99 && d == 34) (c == 99 && (d == 114 && begins is_quote_or_hash rest)) (Raw Characters) (Cooked Bytes) ByteOpener (Raw Bytes) (Cooked NoZero) (Raw NoZero) h)))
+    (shorter_prefix (c == 114 && is_quote_or_hash d) (c == 98 && d == 34) (c == 98 && d == 39) (c == 98 && (d == 114 && begins is_quote_or_hash rest)) (c == 99 && d == 34) (c == 99 && (d == 114 && begins is_quote_or_hash rest)) modes.RawStr modes.ByteStr modes.Byte modes.RawByteStr modes.CStr modes.RawCStr h)))
 prefix_calm (c ∷ d ∷ e ∷ cs) rest calmer w h k = h
 
 -- words that are never raw

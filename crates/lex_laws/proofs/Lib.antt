@@ -6,6 +6,8 @@ pub mod Lifetimes
 pub mod Plain
 pub mod Printing
 pub mod Reading
+pub mod HexDigits
+pub mod WrittenUnits
 pub mod Docs
 pub mod Quotes
 pub mod CStrings

@@ -1,30 +1,28 @@
 -- What stands behind the quote mark of a lifetime.
-use Rattle.std.proofs.Common.{◌≡◌, ℕ, List, [], ◌∷◌, ◌++◌, append_assoc, drop, refl, sym, ap, ◌∙◌, subst, inl, inr, ⊎_elim}
-use Rattle.std.specs.Prelude.{true, false, not, ◌⊎◌, ◌&&◌, ◌||◌, ◌==◌, Some, codes, nat_eq}
+use Rattle.std.proofs.Common.{◌≡◌, ℕ, zero, suc, List, [], ◌∷◌, ◌++◌, append_assoc, drop, refl, sym, ap, ◌∙◌, subst, inl, inr, ⊎_elim}
+use Rattle.std.specs.Prelude.{true, false, not, ◌⊎◌, ◌&&◌, ◌||◌, ◌==◌, codes, nat_eq}
 use Rattle.std.specs.List.{starts_with}
 use Rattle.std.proofs.lemmas.Bool.{and_parts, and_from, and_left, and_right, or_cases, cases_Bool, eqb-true}
 use Rattle.unicode_ident.proofs.Computing.{unicode_ident}
-use Rattle.rust_lex.specs.Chars.{is_first, is_next, is_digit, begins, passes, is_tick, is_tick_or_hash}
+use Rattle.rust_lex.specs.Chars.{is_first, is_next, is_digit, begins, passes, is_quote_or_hash, is_tick, is_tick_or_hash}
 use Rattle.rust_lex.specs.Ends.{past}
-use Rattle.rust_lex.specs.declared.opener.Opener.{Opener}
-use Rattle.rust_lex.specs.declared.opener.Opener.TheVariants.{Cooked, Raw, Byte as ByteOpener, Char as CharOpener}
-use Rattle.rust_lex.specs.declared.opener.Alphabet.{Alphabet}
-use Rattle.rust_lex.specs.declared.opener.Alphabet.TheVariants.{Characters, Bytes, NoZero}
+use Rattle.rust_escape.specs.declared.mode.Mode.{Mode}
+use Rattle.rust_escape.specs.declared.mode.Mode.TheVariants as modes
+use Rattle.rust_escape.specs.Mode.{is_raw}
 use Rattle.rust_lex.specs.declared.piece.LiteralKind.{LiteralKind}
 use Rattle.rust_lex.specs.declared.piece.PieceKind.{PieceKind}
 use Rattle.rust_lex.specs.declared.piece.PieceKind.TheVariants.{Ident, Literal}
-use Rattle.rust_lex.specs.Quoted.{opening_of, IsInside, opener_of, literal_kind}
+use Rattle.rust_lex.specs.Quoted.{hashes, raw_closing, IsRaw, IsTail, opening_of, opener_of, literal_kind}
 use Rattle.rust_lex.specs.Word.{IsWord, begins_lifetime, begins_raw_mark, begins_raw_name, begins_kept}
 use Rattle.rust_lex.specs.Piece.{IsIdent, IsLiteral, Fits}
 use Rattle.rust_lex.specs.Scan.{Ends, scan, word}
 use Rattle.rust_lex.proofs.Complete.{complete}
 use Rattle.rust_lex.proofs.Ends.{past_all, past_word}
 use Rattle.rust_lex.proofs.Fronts.{front-first, front-digit, r-first, quote-first}
-use Rattle.rust_lex.proofs.Hashes.{raw_string_is}
-use Rattle.rust_lex.proofs.Openers.{hashes_begin, hashes_no_name, raw_mark_is}
+use Rattle.rust_lex.proofs.Openers.{hashes_no_name, raw_mark_is}
+use Rattle.rust_lex.proofs.Raws.{raw_whole}
 use Rattle.rust_lex.proofs.Sound.{word_none, word_some, word_raw, suffixed_some}
-use Rattle.rust_lex.proofs.Taken.{option_cases, whole, hashes_taken}
-use Rattle.rust_lex.specs.Scan.{past_hashes}
+use Rattle.rust_lex.proofs.Taken.{option_cases}
 use Rattle.proc_macro2.specs.Spacing.{is_prefixed_string}
 use Rattle.lex_laws.specs.Calm.{IsCalm}
 use Rattle.lex_laws.proofs.Quieter.{Shuns, calm_shuns}
@@ -195,43 +193,51 @@ tick_first : (cs : List ℕ) → begins is_first (39 ∷ cs) ≡ false
 unfolding is_first unicode_ident
 tick_first cs = refl
 
-past_whole : (a : Alphabet) (inside rest : List ℕ) → IsInside (Raw a) inside → past_hashes a 0 (inside ++ rest) ≡ Some rest
-past_whole a inside rest i = whole (past_hashes a 0) inside rest (hashes_taken a 0 inside [] (sym (raw_string_is a inside) ∙ i))
+-- what follows the r of a raw string
+raw_begins : (mode : Mode) (tail : List ℕ) → IsRaw mode tail → begins is_quote_or_hash tail ≡ true
+raw_begins mode tail k = ap (begins is_quote_or_hash) k.joined ∙ hashes_then k.count (34 ∷ (k.inside ++ raw_closing k.count)) refl
+  where
+    hashes_then : (n : ℕ) (cs : List ℕ) → begins is_quote_or_hash cs ≡ true → begins is_quote_or_hash (hashes n ++ cs) ≡ true
+    hashes_then zero cs h = h
+    hashes_then (suc n) cs h = refl
 
-hashed : (a : Alphabet) (inside rest : List ℕ) → IsInside (Raw a) (35 ∷ inside) → begins_lifetime ((opening_of (Raw a) ++ (35 ∷ inside)) ++ rest) ≡ false
-hashed Characters inside rest i =
-    let all = past_whole Characters (35 ∷ inside) rest i in
-    r_hash (inside ++ rest) (hashes_no_name Characters (35 ∷ (inside ++ rest)) rest all)
-hashed Bytes inside rest i = br_hash (inside ++ rest)
-hashed NoZero inside rest i = cr_hash (inside ++ rest)
+hash_name : (tail rest : List ℕ) → IsRaw modes.RawStr (35 ∷ tail) → begins_raw_name (tail ++ rest) ≡ false
+hash_name tail rest k = hashes_no_name modes.RawStr (35 ∷ (tail ++ rest)) rest (raw_whole modes.RawStr (35 ∷ tail) rest refl k)
 
-raw_inside : (a : Alphabet) (inside rest : List ℕ) → IsInside (Raw a) inside → begins_lifetime ((opening_of (Raw a) ++ inside) ++ rest) ≡ true → (more : List ℕ) × (inside ≡ 34 ∷ more)
-raw_inside a [] rest i h = let n = hashes_begin a 0 [] [] (sym (raw_string_is a []) ∙ i) in cc
-raw_inside a (c ∷ inside) rest i h =
-    let n = hashes_begin a 0 (c ∷ inside) [] (sym (raw_string_is a (c ∷ inside)) ∙ i) in
+hashed : (mode : Mode) (tail rest : List ℕ) → is_raw mode ≡ true → IsRaw mode (35 ∷ tail) → begins_lifetime ((opening_of mode ++ (35 ∷ tail)) ++ rest) ≡ false
+hashed modes.RawStr tail rest r k = r_hash (tail ++ rest) (hash_name tail rest k)
+hashed modes.RawByteStr tail rest r k = br_hash (tail ++ rest)
+hashed modes.RawCStr tail rest r k = cr_hash (tail ++ rest)
+hashed modes.Char tail rest r k = cc
+hashed modes.Byte tail rest r k = cc
+hashed modes.Str tail rest r k = cc
+hashed modes.ByteStr tail rest r k = cc
+hashed modes.CStr tail rest r k = cc
+
+raw_tail : (mode : Mode) (tail rest : List ℕ) → is_raw mode ≡ true → IsRaw mode tail → begins_lifetime ((opening_of mode ++ tail) ++ rest) ≡ true → (more : List ℕ) × (tail ≡ 34 ∷ more)
+raw_tail mode [] rest r k h = let n = raw_begins mode [] k in cc
+raw_tail mode (c ∷ tail) rest r k h =
+    let n = raw_begins mode (c ∷ tail) k in
     ⊎_elim
-    (λ q. (inside, ap (λ x. x ∷ inside) (eqb-true c 34 q)))
+    (λ q. (tail, ap (λ x. x ∷ tail) (eqb-true c 34 q)))
     (λ q.
     let e = eqb-true c 35 q in
-    let j : IsInside (Raw a) (35 ∷ inside) = subst (λ x. IsInside (Raw a) (x ∷ inside)) e i in
-    let k = hashed a inside rest j in
-    let l : begins_lifetime ((opening_of (Raw a) ++ (35 ∷ inside)) ++ rest) ≡ true = subst (λ x. begins_lifetime ((opening_of (Raw a) ++ (x ∷ inside)) ++ rest) ≡ true) e h in
+    let j : IsRaw mode (35 ∷ tail) = subst (λ x. IsRaw mode (x ∷ tail)) e k in
+    let f = hashed mode tail rest r j in
+    let l : begins_lifetime ((opening_of mode ++ (35 ∷ tail)) ++ rest) ≡ true = subst (λ x. begins_lifetime ((opening_of mode ++ (x ∷ tail)) ++ rest) ≡ true) e h in
     cc)
     (or_cases (c == 34) (c == 35) n)
 
-raw_string : (a : Alphabet) (more : List ℕ) → is_prefixed_string (opening_of (Raw a) ++ (34 ∷ more)) ≡ true
-raw_string Characters more = refl
-raw_string Bytes more = refl
-raw_string NoZero more = refl
-
 -- a literal in quotes behind ' is a string with a prefix
-quoted_string : (o : Opener) (inside rest : List ℕ) → IsInside o inside → begins_lifetime ((opening_of o ++ inside) ++ rest) ≡ true → is_prefixed_string (opening_of o ++ inside) ≡ true
-quoted_string (Cooked Characters) inside rest i h = let f = lifetime_first (34 ∷ (inside ++ rest)) h in let q = quote-first in cc
-quoted_string (Cooked Bytes) inside rest i h = refl
-quoted_string (Cooked NoZero) inside rest i h = refl
-quoted_string (Raw a) inside rest i h = let (more, e) = raw_inside a inside rest i h in rw e (raw_string a more)
-quoted_string ByteOpener inside rest i h = let n = b_tick (inside ++ rest) in cc
-quoted_string CharOpener inside rest i h = let f = lifetime_first (39 ∷ (inside ++ rest)) h in let n = tick_first (inside ++ rest) in cc
+quoted_string : (mode : Mode) (tail rest : List ℕ) → IsTail mode tail → begins_lifetime ((opening_of mode ++ tail) ++ rest) ≡ true → is_prefixed_string (opening_of mode ++ tail) ≡ true
+quoted_string modes.Str tail rest i h = let f = lifetime_first (34 ∷ (tail ++ rest)) h in let q = quote-first in cc
+quoted_string modes.ByteStr tail rest i h = refl
+quoted_string modes.CStr tail rest i h = refl
+quoted_string modes.RawStr tail rest i h = let (more, e) = raw_tail modes.RawStr tail rest refl i h in rw e refl
+quoted_string modes.RawByteStr tail rest i h = let (more, e) = raw_tail modes.RawByteStr tail rest refl i h in rw e refl
+quoted_string modes.RawCStr tail rest i h = let (more, e) = raw_tail modes.RawCStr tail rest refl i h in rw e refl
+quoted_string modes.Byte tail rest i h = let n = b_tick (tail ++ rest) in cc
+quoted_string modes.Char tail rest i h = let f = lifetime_first (39 ∷ (tail ++ rest)) h in let n = tick_first (tail ++ rest) in cc
 
 no_number : (cs rest : List ℕ) → begins is_digit cs ≡ true → begins is_first (cs ++ rest) ≡ true → ⊥
 no_number [] rest d f = cc

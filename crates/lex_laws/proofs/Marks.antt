@@ -3,8 +3,8 @@ use Rattle.std.proofs.Common.{◌≡◌, ℕ, List, [], ◌∷◌, ◌++◌, ref
 use Rattle.std.specs.Prelude.{true, false, not, ◌⊎◌, ◌&&◌, ◌||◌, ◌==◌, is_some}
 use Rattle.std.proofs.lemmas.Bool.{and_parts, and_from, and_left, and_right, or_left, or_right, or_from, or_cases, eqb-true}
 use Rattle.rust_lex.specs.Chars.{is_mark, begins, is_slash_or_star, marks, is_among}
-use Rattle.rust_lex.specs.declared.opener.Alphabet.TheVariants.{Characters}
-use Rattle.rust_lex.specs.Quoted.{past_char}
+use Rattle.rust_escape.specs.declared.mode.Mode.TheVariants as modes
+use Rattle.rust_lex.specs.QuotedScan.{past_char}
 use Rattle.rust_lex.specs.Word.{begins_lifetime}
 use Rattle.rust_lex.specs.Piece.{begins_mark, begins_char, is_joint}
 use Rattle.rust_leaf.specs.Mark.{is_mark as is_punctuation}
@@ -70,7 +70,7 @@ no_mark (c ∷ cs) k = or_from (is_mark c && not (c == 47 && begins is_slash_or_
 
 no_char : (calmer : List ℕ) → IsCalm calmer → begins_char calmer ≡ false
 no_char [] k = refl
-no_char (c ∷ cs) k = and_left (c == 39) (is_some (past_char Characters cs)) (among_each (λ d. (d == 39) ≡ false) calm (refl, (refl, (refl, tt))) c k)
+no_char (c ∷ cs) k = and_left (c == 39) (is_some (past_char modes.Char cs)) (among_each (λ d. (d == 39) ≡ false) calm (refl, (refl, (refl, tt))) c k)
 
 -- a mark before anything else is alone
 pub alone_before : (c : ℕ) (rest : List ℕ) → (c == 39) ≡ false → begins_mark rest ≡ false → begins_char rest ≡ false → is_joint (c ∷ rest) ≡ false

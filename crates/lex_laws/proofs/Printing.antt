@@ -8,17 +8,16 @@ use Rattle.rust_leaf.specs.declared.punct.Spacing.TheVariants.{Alone, Joint}
 use Rattle.rust_leaf.specs.Mark.{is_mark as is_punctuation}
 use Rattle.rust_lex.specs.Chars.{is_digit, begins, is_slash_or_star}
 use Rattle.rust_lex.specs.declared.delimiter.Delimiter.TheVariants as lex
-use Rattle.rust_lex.specs.declared.opener.Alphabet.TheVariants.{Characters, Bytes, NoZero}
-use Rattle.rust_lex.specs.declared.opener.Opener.{Opener}
-use Rattle.rust_lex.specs.declared.opener.Opener.TheVariants.{Cooked, Raw, Byte as ByteOpener, Char as CharOpener}
+use Rattle.rust_escape.specs.declared.mode.Mode.{Mode}
+use Rattle.rust_escape.specs.declared.mode.Mode.TheVariants as modes
 use Rattle.rust_lex.specs.declared.piece.PieceKind.{PieceKind}
 use Rattle.rust_lex.specs.declared.piece.PieceKind.TheVariants.{White, Open, Close, Mark, Ident, Literal}
-use Rattle.rust_lex.specs.Quoted.{opening_of, IsInside, past_char}
+use Rattle.rust_lex.specs.Quoted.{opening_of, IsTail}
 use Rattle.rust_lex.specs.Word.{begins_lifetime}
 use Rattle.rust_lex.specs.Piece.{Piece, Fits, begins_mark, begins_char, is_joint}
 use Rattle.rust_lex.specs.Cover.{onto, AreFit, AreFitFront}
 use Rattle.rust_lex.proofs.Sound.{front_fits}
-use Rattle.rust_lex.proofs.Taken.{whole, char_taken}
+use Rattle.rust_lex.proofs.Units.{single_whole}
 use Rattle.rust_lex.specs.Chars.{is_white}
 use Rattle.proc_macro2.specs.declared.delimiter.Delimiter.TheVariants as delimiter
 use Rattle.proc_macro2.specs.Token.{Token, Opens, Closes, Word, Quoted, Sign}
@@ -68,15 +67,15 @@ calm_behind t (u ∷ us) h w =
     (cases_Bool (is_apart t u))
 
 -- a character literal is found behind a mark
-char_opener : (o : Opener) (inside rest : List ℕ) → IsInside o inside → is_character ((opening_of o ++ inside) ++ rest) ≡ true → begins_char ((opening_of o ++ inside) ++ rest) ≡ true
-char_opener (Cooked Characters) inside rest i h = cc
-char_opener (Cooked Bytes) inside rest i h = cc
-char_opener (Cooked NoZero) inside rest i h = cc
-char_opener (Raw Characters) inside rest i h = cc
-char_opener (Raw Bytes) inside rest i h = cc
-char_opener (Raw NoZero) inside rest i h = cc
-char_opener ByteOpener inside rest i h = cc
-char_opener CharOpener inside rest i h = ap is_some (whole (past_char Characters) inside rest (char_taken Characters inside [] i))
+char_opener : (o : Mode) (tail rest : List ℕ) → IsTail o tail → is_character ((opening_of o ++ tail) ++ rest) ≡ true → begins_char ((opening_of o ++ tail) ++ rest) ≡ true
+char_opener modes.Char tail rest i h = ap is_some (single_whole modes.Char tail rest i)
+char_opener modes.Byte tail rest i h = cc
+char_opener modes.Str tail rest i h = cc
+char_opener modes.ByteStr tail rest i h = cc
+char_opener modes.CStr tail rest i h = cc
+char_opener modes.RawStr tail rest i h = cc
+char_opener modes.RawByteStr tail rest i h = cc
+char_opener modes.RawCStr tail rest i h = cc
 
 tick-digit : is_digit 39 ≡ false
 unfolding is_digit

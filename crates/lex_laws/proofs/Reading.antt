@@ -6,16 +6,16 @@ use Rattle.rust_lex.specs.Chars.{is_mark, is_digit, begins, is_slash_or_star}
 use Rattle.rust_lex.specs.Ends.{past_suffix}
 use Rattle.rust_lex.specs.declared.delimiter.Delimiter.{Delimiter as LexDelimiter}
 use Rattle.rust_lex.specs.declared.delimiter.Delimiter.TheVariants as lex
-use Rattle.rust_lex.specs.declared.opener.Alphabet.TheVariants.{Characters, Bytes, NoZero}
-use Rattle.rust_lex.specs.declared.opener.Opener.{Opener}
-use Rattle.rust_lex.specs.declared.opener.Opener.TheVariants.{Cooked, Raw, Byte as ByteOpener, Char as CharOpener}
+use Rattle.rust_escape.specs.declared.mode.Mode.{Mode}
+use Rattle.rust_escape.specs.declared.mode.Mode.TheVariants as modes
 use Rattle.rust_lex.specs.declared.piece.DocKind.{DocKind}
 use Rattle.rust_lex.specs.declared.piece.DocKind.TheVariants as doc
 use Rattle.rust_lex.specs.declared.piece.LiteralKind.{LiteralKind}
 use Rattle.rust_lex.specs.declared.piece.LiteralKind.TheVariants.{Char}
 use Rattle.rust_lex.specs.declared.piece.PieceKind.{PieceKind}
 use Rattle.rust_lex.specs.declared.piece.PieceKind.TheVariants.{FrontMark, White, Comment, Doc, Open, Close, Mark, Ident, Literal}
-use Rattle.rust_lex.specs.Quoted.{opening_of, past_char}
+use Rattle.rust_lex.specs.Quoted.{opening_of}
+use Rattle.rust_lex.specs.QuotedScan.{past_char}
 use Rattle.rust_lex.specs.Word.{begins_lifetime}
 use Rattle.rust_lex.specs.Piece.{Piece, Fits, FitsFront, IsLiteral, begins_mark, begins_char, is_joint}
 use Rattle.rust_lex.specs.Cover.{onto, AreFit, AreFitFront}
@@ -47,11 +47,11 @@ scan_tick cs = rw front-tick refl
 
 char_scanned : (c : ℕ) (cs : List ℕ) → begins_char (c ∷ cs) ≡ true → (rest : List ℕ) × (scan (c ∷ cs) ≡ Ends (Literal Char) rest)
 char_scanned c cs h =
-    let (q, s) = and_parts (c == 39) (is_some (past_char Characters cs)) h in
+    let (q, s) = and_parts (c == 39) (is_some (past_char modes.Char cs)) h in
     ⊎_elim
     (λ n. let k : is_some {T = List ℕ} None ≡ true = subst (λ o. is_some {T = List ℕ} o ≡ true) n s in cc)
     (λ (r, e). (past_suffix r, ap (λ d. scan (d ∷ cs)) (eqb-true c 39 q) ∙ scan_tick cs ∙ ticked_some cs r e))
-    (option_cases (past_char Characters cs))
+    (option_cases (past_char modes.Char cs))
 
 char_kind : (k : PieceKind) (cs rest : List ℕ) → Fits k cs rest → begins_char (cs ++ rest) ≡ true → k ≡ Literal Char
 char_kind k cs rest f h = at_text (cs ++ rest) (complete k cs rest f) h
@@ -60,15 +60,15 @@ char_kind k cs rest f h = at_text (cs ++ rest) (complete k cs rest f) h
     at_text [] e h = cc
     at_text (c ∷ ds) e h = let (r, m) = char_scanned c ds h in cc
 
-opening_more : (o : Opener) (inside rest : List ℕ) → is_character ((opening_of o ++ inside) ++ rest) ≡ is_character (opening_of o ++ inside)
-opening_more (Cooked Characters) inside rest = refl
-opening_more (Cooked Bytes) inside rest = refl
-opening_more (Cooked NoZero) inside rest = refl
-opening_more (Raw Characters) inside rest = refl
-opening_more (Raw Bytes) inside rest = refl
-opening_more (Raw NoZero) inside rest = refl
-opening_more ByteOpener inside rest = refl
-opening_more CharOpener inside rest = refl
+opening_more : (o : Mode) (inside rest : List ℕ) → is_character ((opening_of o ++ inside) ++ rest) ≡ is_character (opening_of o ++ inside)
+opening_more modes.Char inside rest = refl
+opening_more modes.Byte inside rest = refl
+opening_more modes.Str inside rest = refl
+opening_more modes.ByteStr inside rest = refl
+opening_more modes.CStr inside rest = refl
+opening_more modes.RawStr inside rest = refl
+opening_more modes.RawByteStr inside rest = refl
+opening_more modes.RawCStr inside rest = refl
 
 digit_more : (cs rest : List ℕ) → begins is_digit cs ≡ true → is_character (cs ++ rest) ≡ is_character cs
 digit_more [] rest h = cc
@@ -84,7 +84,7 @@ literal_more kind cs rest (body, suffix, e, b, s) =
 
 char_begins : (text : List ℕ) → begins_char text ≡ true → is_character text ≡ true
 char_begins [] h = cc
-char_begins (c ∷ cs) h = let (q, _) = and_parts (c == 39) (is_some (past_char Characters cs)) h in q
+char_begins (c ∷ cs) h = let (q, _) = and_parts (c == 39) (is_some (past_char modes.Char cs)) h in q
 
 nothing_lives : begins_lifetime [] ≡ false
 unfolding begins_lifetime

@@ -7,13 +7,13 @@ use Rattle.rust_map.specs.declared.place.LineColumn.{LineColumn}
 use Rattle.rust_map.specs.Places.{place_of}
 use Rattle.rust_map.specs.Spans.{span_from}
 use Rattle.rust_lex.specs.declared.delimiter.Delimiter.{Delimiter as LexDelimiter}
-use Rattle.rust_lex.specs.declared.opener.Opener.{Opener}
-use Rattle.rust_lex.specs.declared.opener.Opener.TheVariants as opener
+use Rattle.rust_escape.specs.declared.mode.Mode.{Mode}
+use Rattle.rust_escape.specs.declared.mode.Mode.TheVariants as modes
 use Rattle.rust_lex.specs.declared.piece.LiteralKind.{LiteralKind}
 use Rattle.rust_lex.specs.declared.piece.PieceKind.{PieceKind}
 use Rattle.rust_lex.specs.declared.piece.PieceKind.TheVariants as piece
 use Rattle.rust_lex.specs.Chars.{begins, is_digit}
-use Rattle.rust_lex.specs.Quoted.{opening_of as quote_of, prefix}
+use Rattle.rust_lex.specs.Quoted.{opening_of as quote_of}
 use Rattle.rust_lex.specs.Piece.{Piece, Fits, FitsFront, FitsAt, IsBody, IsLiteral, closing}
 use Rattle.rust_lex.specs.Cover.{onto, AreFit, AreFitFront}
 use Rattle.rust_lex.specs.Scan.{Scanned, Nowhere, Ends, scan_at}
@@ -33,16 +33,20 @@ use Rattle.proc_macro2.proofs.Docs.{doc_long}
 use Rattle.proc_macro2.proofs.Puts.{front_cases}
 
 -- a piece has characters
-opened_some : (o : Opener) (inside : List ℕ) → [] ≡ quote_of o ++ inside → ⊥
-opened_some (opener.Cooked a) inside e = let l = ap length e in omega (arith, length-append (prefix a ++ 34 ∷ []) inside, length-append (prefix a) (34 ∷ []))
-opened_some (opener.Raw a) inside e = let l = ap length e in omega (arith, length-append (prefix a ++ 114 ∷ []) inside, length-append (prefix a) (114 ∷ []))
-opened_some opener.Byte inside e = cc
-opened_some opener.Char inside e = cc
+opened_some : (mode : Mode) (tail : List ℕ) → [] ≡ quote_of mode ++ tail → ⊥
+opened_some modes.Char tail e = cc
+opened_some modes.Byte tail e = cc
+opened_some modes.Str tail e = cc
+opened_some modes.ByteStr tail e = cc
+opened_some modes.CStr tail e = cc
+opened_some modes.RawStr tail e = cc
+opened_some modes.RawByteStr tail e = cc
+opened_some modes.RawCStr tail e = cc
 
 body_some : (kind : LiteralKind) (body rest : List ℕ) → IsBody kind body rest → [] ≡ body → ⊥
 body_some kind body rest h e =
     ⊎_elim
-    (λ (o, inside, k, j, i). opened_some o inside (e ∙ j))
+    (λ (mode, tail, k, j, i). opened_some mode tail (e ∙ j))
     (λ n. (let b = subst (λ x. begins is_digit x ≡ true) (sym e) n.0 in cc))
     h
 

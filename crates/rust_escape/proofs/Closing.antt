@@ -1,15 +1,15 @@
 -- What the search for a closing quote keeps.
 use Rattle.std.proofs.Common.{◌≡◌, ℕ, ◌≤◌, arith, List, [], ◌∷◌, ◌++◌, append_assoc, refl, sym, ap, ◌∙◌, length}
-use Rattle.std.specs.Prelude.{true, false, Option, Ok, Err, option_to_list}
+use Rattle.std.specs.Prelude.{true, false, Option, Some, Ok, Err, option_to_list}
 use Rattle.std.proofs.lemmas.Bool.{false≢true}
 use Rattle.rust_escape.specs.Chars.{begins}
 use Rattle.rust_escape.specs.LexicalScan.{lexical_scan}
 use Rattle.rust_escape.specs.Mode.{Mode}
-use Rattle.rust_escape.specs.Places.{rest_at, between, IsPlace}
+use Rattle.rust_escape.specs.Places.{rest_at, between, IsPlace, IsBehind}
 use Rattle.rust_escape.specs.Reads.{ReadsUnit, Closes, is_quote}
 use Rattle.rust_escape.specs.Scan.{Reads}
-use Rattle.rust_escape.specs.Unit.{Lexical, IsUnit, NoUnit, IsInside, empty, more}
-use Rattle.rust_escape.specs.Value.{Value}
+use Rattle.rust_escape.specs.Unit.{Lexical, IsUnit, plain, is_plain, NoUnit, IsInside, empty, more}
+use Rattle.rust_escape.specs.Value.{Value, Character}
 use Rattle.rust_escape.specs.declared.error.EscapeError.{EscapeError}
 use Rattle.rust_escape.specs.declared.read.Reading.{Reading}
 use Rattle.rust_escape.proofs.LexicalUnits.{lexical_read}
@@ -74,6 +74,18 @@ seeks_on mode bytes start at c cs reading v s e n r k =
       back = λ rest c. s.back rest (longer mode (rest_at bytes at) front (rest_at bytes to) rest v u.joined u.is c);
       forth = λ rest d. let f = s.forth rest d in
           shorter mode (rest_at bytes at) front (rest_at bytes to) f.inside rest v f.values u.joined u.is (no_quote (rest_at bytes at) c cs e n) f.quote f.joined f.is;
+    }
+
+-- so it does behind a character that stands for itself
+pub seeks_plain : (mode : Mode) (bytes : List ℕ) (start at c next : ℕ) → Seeks mode bytes start at → rest_at bytes at ≡ c ∷ rest_at bytes next → (c ≡ 34 → ⊥) → is_plain Lexical mode c ≡ true → IsBehind bytes at next → Seeks mode bytes start next
+seeks_plain mode bytes start at c next s e n p b =
+    let unit : IsUnit Lexical mode (c ∷ []) (rest_at bytes next) (Some (Character c)) = plain p in
+    record {
+      place = b.place;
+      on = omega (arith, s.on, b.on);
+      back = λ rest k. s.back rest (longer mode (rest_at bytes at) (c ∷ []) (rest_at bytes next) rest (Some (Character c)) e unit k);
+      forth = λ rest d. let f = s.forth rest d in
+          shorter mode (rest_at bytes at) (c ∷ []) (rest_at bytes next) f.inside rest (Some (Character c)) f.values e unit (no_quote (rest_at bytes at) c (rest_at bytes next) e n) f.quote f.joined f.is;
     }
 
 pub closes_nowhere : (mode : Mode) (bytes : List ℕ) (start at c : ℕ) (cs : List ℕ) (reading : Reading) (error : EscapeError) → Seeks mode bytes start at → rest_at bytes at ≡ c ∷ cs → (c ≡ 34 → ⊥)

@@ -11,3 +11,4 @@ pub mod ReadsLemmas
 pub mod LexicalSteps
 pub mod Closing
 pub mod OneInside
+pub mod Commons

@@ -20,7 +20,7 @@ return_before mode [] q rest after r v h e k = let same : 10 ≡ q = cc in subst
 return_before mode (c ∷ cs) q rest after r v h e k = let same : 10 ≡ c = cc in subst (λ (x : ℕ). IsUnit Lexical mode (13 ∷ []) (x ∷ (cs ++ q ∷ after)) v) same (subst (λ (w : Option Value). IsUnit Lexical mode (13 ∷ []) (10 ∷ (cs ++ q ∷ after)) w) k (return h))
 
 -- a unit of an inside doesn't see past the first character behind the inside
-unit_before : (rule : Rule) (mode : Mode) (cs text inside : List ℕ) (q : ℕ) (rest after : List ℕ) (v : Option Value) → text ≡ inside ++ q ∷ rest → IsUnit rule mode cs text v → IsUnit rule mode cs (inside ++ q ∷ after) v
+pub unit_before : (rule : Rule) (mode : Mode) (cs text inside : List ℕ) (q : ℕ) (rest after : List ℕ) (v : Option Value) → text ≡ inside ++ q ∷ rest → IsUnit rule mode cs text v → IsUnit rule mode cs (inside ++ q ∷ after) v
 unit_before rule mode _ text inside q rest after _ e (plain h) = plain h
 unit_before rule mode _ text inside q rest after _ e (escape r h) = escape r h
 unit_before rule mode _ text inside q rest after _ e (skip r d h s) = skip r d h (blank_before inside q rest after (ap (begins is_blank) (sym e) ∙ s))
@@ -32,7 +32,7 @@ inside_before rule mode _ tail q rest after _ e (more {cs = cs} {inside = inside
     more (unit_before rule mode cs (inside ++ tail) inside q rest after v (ap (λ x. inside ++ x) e) u) (inside_before rule mode inside tail q rest after _ e i)
 
 -- no unit begins with the closing quote
-quote_none : (mode : Mode) (text : List ℕ) → in_double_quotes mode ≡ true → is_raw mode ≡ false → begins is_quote text ≡ true → lexical_scan mode text ≡ Malformed
+pub quote_none : (mode : Mode) (text : List ℕ) → in_double_quotes mode ≡ true → is_raw mode ≡ false → begins is_quote text ≡ true → lexical_scan mode text ≡ Malformed
 unfolding lexical_scan
 quote_none mode [] d r q = cc
 quote_none Char (c ∷ cs) d r q = cc

@@ -1,5 +1,5 @@
 -- Which unit a text begins with to the lexer: a tool of the proofs.
-use Rattle.std.specs.Prelude.{ℕ, Bool, ◌&&◌, ◌||◌, ◌==◌, not, List, [], ◌∷◌, Option, Some, None, if◌then◌else◌}
+use Rattle.std.specs.Prelude.{ℕ, Bool, ◌&&◌, ◌||◌, ◌==◌, not, nat_le, List, [], ◌∷◌, Option, Some, None, if◌then◌else◌}
 use Rattle.rust_escape.specs.Chars.{begins, is_blank, is_line_feed}
 use Rattle.rust_escape.specs.Mode.{Mode, in_double_quotes, is_raw}
 use Rattle.rust_escape.specs.Scan.{Scanned, Malformed, Reads, escape}
@@ -22,6 +22,10 @@ begins_line_end cs = begins is_line_feed cs || begins (λ c. c == 13) cs
 -- behind a backslash
 unfoldable pub lexical_slash : Mode → List ℕ → Scanned
 lexical_slash mode cs = if in_double_quotes mode && begins_line_end cs then skipped (past_lines cs) else escape mode cs
+
+-- stands for itself in every literal: ASCII from the space to ~, but for " and \
+abbrev pub is_common : ℕ → Bool
+is_common c = (nat_le 32 c && nat_le c 126) && (not (c == 34) && not (c == 92))
 
 -- one character
 abbrev pub lexical_one : Mode → ℕ → List ℕ → Scanned

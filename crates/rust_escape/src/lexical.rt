@@ -2,7 +2,7 @@
 
 ghost use Rattle.rust_escape.specs.Chars.{begins, is_blank, is_line_feed};
 ghost use Rattle.rust_escape.specs.Error.{is_fatal};
-ghost use Rattle.rust_escape.specs.LexicalScan.{begins_line_end, lexical_one, lexical_scan, lexical_slash, past_lines};
+ghost use Rattle.rust_escape.specs.LexicalScan.{begins_line_end, is_common, lexical_one, lexical_scan, lexical_slash, past_lines};
 ghost use Rattle.rust_escape.specs.Mode.{in_double_quotes, is_raw};
 ghost use Rattle.rust_escape.specs.Places.{IsPlace, IsScanned, rest_at};
 ghost use Rattle.rust_escape.specs.Reads.{IsClosedAt, IsPast, ReadsUnit};
@@ -83,18 +83,37 @@ fn slash(mode: Mode, text: &str, start: usize) -> Reading
     }
 }
 
-// Whether a character may stand for itself.
-fn is_plain(mode: Mode, c: char) -> bool
+// Whether a character stands for itself in every literal: the printable ones of ASCII, but for the double
+// quote and the backslash.
+#[inline(always)]
+fn is_common(c: char) -> bool
+    ensures { result ≡ is_common c }
+{
+    if (c < ' ') | (c > '~') {
+        return false;
+    }
+    (c != '"') & (c != '\\')
+}
+
+/// Whether a character may stand for itself in an inside, by the rule of the lexer.
+#[tactic(auto, using(crate::proofs::Commons::commons))]
+#[inline(always)]
+pub fn is_plain(mode: Mode, c: char) -> bool
     ensures { result ≡ is_plain Lexical mode c }
 {
-    let stands = match mode {
-        Mode::RawStr | Mode::RawByteStr | Mode::RawCStr => c != '\r',
-        Mode::Char | Mode::Byte => c != '\\',
-        Mode::Str | Mode::ByteStr | Mode::CStr => (c != '\\') & (c != '"') & (c != '\r'),
-    };
-    let zero = is_c(mode) & (c == '\0');
-    let wide = is_bytes(mode) & (c >= '\u{80}');
-    stands & !zero & !wide
+    if is_common(c) {
+        return true;
+    }
+    match mode {
+        Mode::Char => c != '\\',
+        Mode::Byte => (c != '\\') & (c < '\u{80}'),
+        Mode::Str => (c != '\\') & (c != '"') & (c != '\r'),
+        Mode::ByteStr => (c != '\\') & (c != '"') & (c != '\r') & (c < '\u{80}'),
+        Mode::CStr => (c != '\\') & (c != '"') & (c != '\r') & (c != '\0'),
+        Mode::RawStr => c != '\r',
+        Mode::RawByteStr => (c != '\r') & (c < '\u{80}'),
+        Mode::RawCStr => (c != '\r') & (c != '\0'),
+    }
 }
 
 // The value of a carriage return before a line feed.
@@ -177,9 +196,13 @@ pub fn inside_end(mode: Mode, text: &str, start: usize) -> Option<usize>
 {
     let mut at = start;
     while at < text.len() {
-        let (c, _) = char_at(text, at);
+        let (c, next) = char_at(text, at);
         if c == '"' {
             return Some(at);
+        }
+        if is_plain(mode, c) {
+            at = next;
+            continue;
         }
         let reading = lexical_unit(mode, text, at);
         match reading.value {

@@ -1,21 +1,22 @@
 -- A piece of a class at the front of a text is what a scan finds there.
-use Rattle.std.proofs.Common.{sym, ◌≡◌, ℕ, zero, suc, List, [], ◌∷◌, ◌++◌, length, refl, ap, ◌∙◌, subst, ⊎_elim, append_assoc, drop}
+use Rattle.std.proofs.Common.{◌≡◌, ℕ, zero, suc, List, [], ◌∷◌, ◌++◌, length, refl, ap, ◌∙◌, subst, ⊎_elim, append_assoc, drop}
 use Rattle.std.specs.Prelude.{true, false, ◌&&◌, ◌==◌, if◌then◌else◌, Some, None, not, is_some}
 use Rattle.std.proofs.lemmas.Bool.{and_parts, cases_Bool, not-true, or_parts, or_cases, eqb-true}
 use Rattle.rust_lex.specs.Chars.{is_first, is_next, is_mark, begins, is_feed, is_not_feed, is_slash, is_slash_or_star, is_quote_or_hash}
 use Rattle.rust_lex.specs.Ends.{past, past_suffix}
 use Rattle.rust_lex.specs.Comment.{DocKind, OuterLine, InnerLine, OuterBlock, InnerBlock, IsComment, IsDoc, is_plain_line, is_plain_block, past_comment, is_within_line, ends_line}
-use Rattle.rust_lex.specs.Escape.{Characters, Bytes, NoZero}
-use Rattle.rust_lex.specs.Quoted.{Opener, Cooked, Raw, ByteOpener, CharOpener, LiteralKind, Str, ByteStr, CStr, Byte, Char, literal_kind, opening_of, opener_of, past_char, IsQuoted, IsInside}
-use Rattle.rust_lex.specs.Scan.{past_hashes}
+use Rattle.rust_escape.specs.declared.mode.Mode.{Mode}
+use Rattle.rust_escape.specs.declared.mode.Mode.TheVariants as modes
+use Rattle.rust_lex.specs.Quoted.{LiteralKind, Str, ByteStr, CStr, Byte, Char, literal_kind, opening_of, opener_of, IsQuoted, IsTail}
+use Rattle.rust_lex.specs.QuotedScan.{past_char, past_units, past_tail}
 use Rattle.rust_lex.specs.Number.{IsNumber}
 use Rattle.rust_lex.specs.Word.{IsWord, begins_raw_mark, begins_raw_name, begins_kept, begins_lifetime}
 use Rattle.rust_lex.specs.Piece.{PieceKind, FrontMark, White, Comment, Doc, Open, Close, Mark, Ident, Literal, Fits, FitsFront, FitsAt, IsBody, IsIdent, is_prefixed, begins_mark}
-use Rattle.rust_lex.specs.Scan.{Nowhere, Ends, suffixed, ended, past_inside, past_units, line, block, slash, ticked, word, scan, scan_front, scan_at}
+use Rattle.rust_lex.specs.Scan.{Nowhere, Ends, suffixed, ended, line, block, slash, ticked, word, scan, scan_front, scan_at}
 use Rattle.rust_lex.proofs.Fronts.{front-first, front-white, front-mark, front-digit, front-quote, front-tick, front-opening, front-closing, b-first, c-first, r-first, slash-mark, byte_order-other}
-use Rattle.rust_lex.proofs.Taken.{whole, option_cases, comment_taken, hashes_taken, char_taken}
-use Rattle.rust_lex.proofs.Units.{cooked_whole}
-use Rattle.rust_lex.proofs.Hashes.{raw_string_is}
+use Rattle.rust_lex.proofs.Taken.{whole, option_cases, comment_taken}
+use Rattle.rust_lex.proofs.Units.{single_whole, cooked_whole}
+use Rattle.rust_lex.proofs.Raws.{raw_whole}
 use Rattle.rust_lex.proofs.Ends.{past_all, past_word, suffix_ended}
 use Rattle.rust_lex.proofs.Openers.{no_raw_mark, hashes_begin, hashes_no_name, lifetime_no_char}
 
@@ -108,7 +109,7 @@ ticked_mark : (rest : List ℕ) → begins_lifetime rest ≡ true → ticked res
 unfolding ticked
 ticked_mark rest h = rw (lifetime_no_char rest h, ticked) (rw h refl)
 
-ticked_char : (cs rest : List ℕ) → past_char Characters cs ≡ Some rest → ticked cs ≡ suffixed Char (Some rest)
+ticked_char : (cs rest : List ℕ) → past_char modes.Char cs ≡ Some rest → ticked cs ≡ suffixed Char (Some rest)
 unfolding ticked
 ticked_char cs rest e = rw (e, ticked) refl
 
@@ -139,7 +140,7 @@ word_raw : (cs : List ℕ) → begins_raw_name cs ≡ true → word (114 ∷ 35 
 unfolding word
 word_raw cs h = rw h refl
 
-word_opened : (cs : List ℕ) (o : Opener) → (begins_raw_mark cs && begins_raw_name (drop 2 cs)) ≡ false → opener_of cs ≡ Some o → word cs ≡ suffixed (literal_kind o) (past_inside o (drop (length (opening_of o)) cs))
+word_opened : (cs : List ℕ) (o : Mode) → (begins_raw_mark cs && begins_raw_name (drop 2 cs)) ≡ false → opener_of cs ≡ Some o → word cs ≡ suffixed (literal_kind o) (past_tail o (drop (length (opening_of o)) cs))
 unfolding word
 word_opened cs o h e = rw (h, e) refl
 
@@ -164,53 +165,57 @@ ident_scanned cs rest h =
     h.1
 
 -- literals
-inside_whole : (o : Opener) (cs t : List ℕ) → IsInside o cs → past_inside o (cs ++ t) ≡ Some t
-inside_whole (Cooked a) cs t h = cooked_whole a cs t h
-inside_whole (Raw a) cs t h = whole (past_hashes a 0) cs t (hashes_taken a 0 cs [] (sym (raw_string_is a cs) ∙ h))
-inside_whole ByteOpener cs t h = whole (past_char Bytes) cs t (char_taken Bytes cs [] h)
-inside_whole CharOpener cs t h = whole (past_char Characters) cs t (char_taken Characters cs [] h)
+tail_whole : (o : Mode) (cs t : List ℕ) → IsTail o cs → past_tail o (cs ++ t) ≡ Some t
+tail_whole modes.Char cs t h = single_whole modes.Char cs t h
+tail_whole modes.Byte cs t h = single_whole modes.Byte cs t h
+tail_whole modes.Str cs t h = cooked_whole modes.Str cs t refl refl h
+tail_whole modes.ByteStr cs t h = cooked_whole modes.ByteStr cs t refl refl h
+tail_whole modes.CStr cs t h = cooked_whole modes.CStr cs t refl refl h
+tail_whole modes.RawStr cs t h = raw_whole modes.RawStr cs t refl h
+tail_whole modes.RawByteStr cs t h = raw_whole modes.RawByteStr cs t refl h
+tail_whole modes.RawCStr cs t h = raw_whole modes.RawCStr cs t refl h
 
-raw_opened : (cs : List ℕ) → begins is_quote_or_hash cs ≡ true → opener_of (114 ∷ cs) ≡ Some (Raw Characters)
+raw_opened : (cs : List ℕ) → begins is_quote_or_hash cs ≡ true → opener_of (114 ∷ cs) ≡ Some modes.RawStr
 unfolding opener_of
 raw_opened [] h = cc
 raw_opened (c ∷ cs) h = rw h refl
 
-raw_bytes_opened : (cs : List ℕ) → begins is_quote_or_hash cs ≡ true → opener_of (98 ∷ 114 ∷ cs) ≡ Some (Raw Bytes)
+raw_bytes_opened : (cs : List ℕ) → begins is_quote_or_hash cs ≡ true → opener_of (98 ∷ 114 ∷ cs) ≡ Some modes.RawByteStr
 unfolding opener_of
 raw_bytes_opened cs h = rw h refl
 
-raw_nozero_opened : (cs : List ℕ) → begins is_quote_or_hash cs ≡ true → opener_of (99 ∷ 114 ∷ cs) ≡ Some (Raw NoZero)
+raw_nozero_opened : (cs : List ℕ) → begins is_quote_or_hash cs ≡ true → opener_of (99 ∷ 114 ∷ cs) ≡ Some modes.RawCStr
 unfolding opener_of
 raw_nozero_opened cs h = rw h refl
 
-bytes_opened : (cs : List ℕ) → opener_of (98 ∷ 34 ∷ cs) ≡ Some (Cooked Bytes)
+bytes_opened : (cs : List ℕ) → opener_of (98 ∷ 34 ∷ cs) ≡ Some modes.ByteStr
 unfolding opener_of
 bytes_opened cs = refl
 
-byte_opened : (cs : List ℕ) → opener_of (98 ∷ 39 ∷ cs) ≡ Some ByteOpener
+byte_opened : (cs : List ℕ) → opener_of (98 ∷ 39 ∷ cs) ≡ Some modes.Byte
 unfolding opener_of
 byte_opened cs = refl
 
-nozero_opened : (cs : List ℕ) → opener_of (99 ∷ 34 ∷ cs) ≡ Some (Cooked NoZero)
+nozero_opened : (cs : List ℕ) → opener_of (99 ∷ 34 ∷ cs) ≡ Some modes.CStr
 unfolding opener_of
 nozero_opened cs = refl
 
-scan_quote : (cs : List ℕ) → scan (34 ∷ cs) ≡ suffixed Str (past_units Characters 0 cs)
+scan_quote : (cs : List ℕ) → scan (34 ∷ cs) ≡ suffixed Str (past_units modes.Str 0 cs)
 scan_quote cs = rw front-quote refl
 
 -- an opening and what the inside leads to
-opened : (o : Opener) (cs rest : List ℕ) → past_inside o cs ≡ Some rest → scan (opening_of o ++ cs) ≡ suffixed (literal_kind o) (Some rest)
-opened (Cooked Characters) cs rest e = scan_quote cs ∙ ap (suffixed Str) e
-opened (Cooked Bytes) cs rest e = scan_first 98 _ b-first ∙ word_opened (98 ∷ 34 ∷ cs) (Cooked Bytes) refl (bytes_opened cs) ∙ ap (suffixed ByteStr) e
-opened (Cooked NoZero) cs rest e = scan_first 99 _ c-first ∙ word_opened (99 ∷ 34 ∷ cs) (Cooked NoZero) refl (nozero_opened cs) ∙ ap (suffixed CStr) e
-opened (Raw Characters) cs rest e = scan_first 114 _ r-first ∙ word_opened (114 ∷ cs) (Raw Characters) (hashes_no_name Characters cs rest e) (raw_opened cs (hashes_begin Characters 0 cs rest e)) ∙ ap (suffixed Str) e
-opened (Raw Bytes) cs rest e = scan_first 98 _ b-first ∙ word_opened (98 ∷ 114 ∷ cs) (Raw Bytes) refl (raw_bytes_opened cs (hashes_begin Bytes 0 cs rest e)) ∙ ap (suffixed ByteStr) e
-opened (Raw NoZero) cs rest e = scan_first 99 _ c-first ∙ word_opened (99 ∷ 114 ∷ cs) (Raw NoZero) refl (raw_nozero_opened cs (hashes_begin NoZero 0 cs rest e)) ∙ ap (suffixed CStr) e
-opened ByteOpener cs rest e = scan_first 98 _ b-first ∙ word_opened (98 ∷ 39 ∷ cs) ByteOpener refl (byte_opened cs) ∙ ap (suffixed Byte) e
-opened CharOpener cs rest e = scan_tick cs ∙ ticked_char cs rest e
+opened : (o : Mode) (cs rest : List ℕ) → past_tail o cs ≡ Some rest → scan (opening_of o ++ cs) ≡ suffixed (literal_kind o) (Some rest)
+opened modes.Str cs rest e = scan_quote cs ∙ ap (suffixed Str) e
+opened modes.ByteStr cs rest e = scan_first 98 _ b-first ∙ word_opened (98 ∷ 34 ∷ cs) modes.ByteStr refl (bytes_opened cs) ∙ ap (suffixed ByteStr) e
+opened modes.CStr cs rest e = scan_first 99 _ c-first ∙ word_opened (99 ∷ 34 ∷ cs) modes.CStr refl (nozero_opened cs) ∙ ap (suffixed CStr) e
+opened modes.RawStr cs rest e = scan_first 114 _ r-first ∙ word_opened (114 ∷ cs) modes.RawStr (hashes_no_name modes.RawStr cs rest e) (raw_opened cs (hashes_begin modes.RawStr 0 cs rest e)) ∙ ap (suffixed Str) e
+opened modes.RawByteStr cs rest e = scan_first 98 _ b-first ∙ word_opened (98 ∷ 114 ∷ cs) modes.RawByteStr refl (raw_bytes_opened cs (hashes_begin modes.RawByteStr 0 cs rest e)) ∙ ap (suffixed ByteStr) e
+opened modes.RawCStr cs rest e = scan_first 99 _ c-first ∙ word_opened (99 ∷ 114 ∷ cs) modes.RawCStr refl (raw_nozero_opened cs (hashes_begin modes.RawCStr 0 cs rest e)) ∙ ap (suffixed CStr) e
+opened modes.Byte cs rest e = scan_first 98 _ b-first ∙ word_opened (98 ∷ 39 ∷ cs) modes.Byte refl (byte_opened cs) ∙ ap (suffixed Byte) e
+opened modes.Char cs rest e = scan_tick cs ∙ ticked_char cs rest e
 
 quoted_scanned : (kind : LiteralKind) (body rest : List ℕ) → IsQuoted kind body → scan (body ++ rest) ≡ Ends (Literal kind) (past_suffix rest)
-quoted_scanned kind body rest (o, inside, k, e, i) = rw (k, e, append_assoc) (opened o (inside ++ rest) rest (inside_whole o inside rest i))
+quoted_scanned kind body rest (o, inside, k, e, i) = rw (k, e, append_assoc) (opened o (inside ++ rest) rest (tail_whole o inside rest i))
 
 number_scanned : (kind : LiteralKind) (body rest : List ℕ) → IsNumber kind body rest → scan (body ++ rest) ≡ Ends (Literal kind) (past_suffix rest)
 number_scanned kind [] rest h = let f = h.0 in cc

@@ -4,18 +4,20 @@ use Rattle.std.specs.Prelude.{codes}
 use Rattle.unicode_ident.proofs.Computing.{unicode_ident}
 use Rattle.rust_lex.specs.Chars.{is_white, is_first, is_next, is_digit, is_mark}
 use Rattle.rust_lex.specs.Comment.{OuterLine, InnerLine, OuterBlock, InnerBlock, past_comment}
-use Rattle.rust_lex.specs.Escape.{is_letter, is_hex, past_hex, past_braces, past_escape, past_line_escape}
-use Rattle.rust_lex.specs.Scan.{past_code}
-use Rattle.rust_lex.specs.Quoted.{Str, ByteStr, CStr, Byte, Char, Int, Float, past_unit, past_raw, past_single, past_char, opener_of}
-use Rattle.rust_lex.specs.Scan.{past_hashes}
+use Rattle.rust_escape.specs.Chars.{is_hex_digit, hex_value}
+use Rattle.rust_escape.specs.Escape.{simple_value}
+use Rattle.rust_escape.specs.LexicalScan.{past_lines, lexical_slash, lexical_scan}
+use Rattle.rust_escape.specs.Scan.{byte_escape, digits, unicode_escape, escape}
+use Rattle.rust_lex.specs.Quoted.{Str, ByteStr, CStr, Byte, Char, Int, Float, opener_of}
+use Rattle.rust_lex.specs.QuotedScan.{past_unit, past_char, past_units, past_raw, past_hashes}
 use Rattle.rust_lex.specs.Number.{past_number, number_kind}
 use Rattle.rust_lex.specs.Word.{begins_kept, begins_lifetime}
 use Rattle.rust_lex.specs.Piece.{White, Comment, Doc, Mark, Ident, Literal, FrontMark, begins_mark, is_joint}
-use Rattle.rust_lex.specs.Scan.{Nowhere, Ends, front_of, past_units, line, block, slash, ticked, word, scan, scan_front}
+use Rattle.rust_lex.specs.Scan.{Nowhere, Ends, front_of, line, block, slash, ticked, word, scan, scan_front}
 
 -- `unfolding all` lets `refl` compute a scan
 unfoldable all : Unit {0}
-unfolding unicode_ident is_white is_first is_next is_digit is_mark past_comment is_letter is_hex past_hex past_code past_braces past_escape past_line_escape past_unit past_raw past_hashes past_single past_char opener_of past_number number_kind begins_kept begins_lifetime front_of past_units line block slash ticked word
+unfolding unicode_ident is_white is_first is_next is_digit is_mark past_comment is_hex_digit hex_value simple_value past_lines lexical_slash lexical_scan byte_escape digits unicode_escape escape past_unit past_char past_units past_raw past_hashes opener_of past_number number_kind begins_kept begins_lifetime front_of line block slash ticked word
 all = tt
 
 character : scan (codes "'a'") ≡ Ends (Literal Char) []

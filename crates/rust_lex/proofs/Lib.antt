@@ -1,10 +1,10 @@
 pub mod Fronts
 pub mod PlacesLemmas
 pub mod Walks
-pub mod Codes
-pub mod Hashes
 pub mod Taken
 pub mod Units
+pub mod Raws
+pub mod Closed
 pub mod Ends
 pub mod Openers
 pub mod Complete
@@ -13,5 +13,6 @@ pub mod OneCover
 pub mod Steps
 pub mod Scans
 pub mod Pieces
+pub mod Characters
 pub mod Covering
 pub mod Examples

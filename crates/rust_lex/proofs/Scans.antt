@@ -4,24 +4,26 @@ use Rattle.std.specs.Prelude.{true, false, ◌&&◌, Some, None}
 use Rattle.std.proofs.lemmas.Bool.{cases_eq}
 use Rattle.rust_lex.specs.Chars.{is_next, is_digit, is_mark, begins}
 use Rattle.rust_lex.specs.Ends.{past}
-use Rattle.rust_lex.specs.Escape.{Characters}
-use Rattle.rust_lex.specs.Quoted.{Opener, literal_kind, opening_of, opener_of, past_char}
+use Rattle.rust_escape.specs.declared.mode.Mode.{Mode}
+use Rattle.rust_escape.specs.declared.mode.Mode.TheVariants as modes
+use Rattle.rust_lex.specs.Quoted.{literal_kind, opening_of, opener_of}
+use Rattle.rust_lex.specs.QuotedScan.{past_char, past_tail}
 use Rattle.rust_lex.specs.Word.{begins_raw_mark, begins_raw_name, begins_lifetime}
 use Rattle.rust_lex.specs.Number.{past_number}
 use Rattle.rust_lex.specs.Ended.{IsFrom}
 use Rattle.rust_lex.specs.Places.{rest_at, IsBehind}
 use Rattle.rust_lex.specs.Piece.{Mark, Ident}
-use Rattle.rust_lex.specs.Scan.{Front, first, digit, front_of, Nowhere, Ends, suffixed, past_inside, ticked, word}
+use Rattle.rust_lex.specs.Scan.{Front, first, digit, front_of, Nowhere, Ends, suffixed, ticked, word}
 use Rattle.rust_lex.proofs.PlacesLemmas.{rest_end}
 use Rattle.rust_lex.proofs.Fronts.{Says, front_says}
 use Rattle.rust_lex.proofs.Ends.{past_word, number_found}
 use Rattle.rust_lex.proofs.Sound.{ticked_none, ticked_some, word_none, word_some, word_raw}
 
 -- behind '
-pub ticked_mark : (cs : List ℕ) → past_char Characters cs ≡ None → begins_lifetime cs ≡ true → ticked cs ≡ Ends Mark cs
+pub ticked_mark : (cs : List ℕ) → past_char modes.Char cs ≡ None → begins_lifetime cs ≡ true → ticked cs ≡ Ends Mark cs
 ticked_mark cs e h = ticked_none cs e ∙ rw h refl
 
-pub ticked_nowhere : (cs : List ℕ) → past_char Characters cs ≡ None → begins_lifetime cs ≡ false → ticked cs ≡ Nowhere
+pub ticked_nowhere : (cs : List ℕ) → past_char modes.Char cs ≡ None → begins_lifetime cs ≡ false → ticked cs ≡ Nowhere
 ticked_nowhere cs e h = ticked_none cs e ∙ rw h refl
 
 pub ruleset ticks = (ticked_some, ticked_mark, ticked_nowhere)
@@ -42,10 +44,10 @@ word_plain cs h e = word_none cs (no_mark cs h) e
 pub word_no_name : (cs : List ℕ) → begins_raw_mark cs ≡ true → begins_raw_name (drop 2 cs) ≡ false → opener_of cs ≡ None → word cs ≡ Ends Ident (past is_next cs)
 word_no_name cs k h e = word_none cs (no_name cs h k) e
 
-pub word_opener : (cs : List ℕ) (o : Opener) → begins_raw_mark cs ≡ false → opener_of cs ≡ Some o → word cs ≡ suffixed (literal_kind o) (past_inside o (drop (length (opening_of o)) cs))
+pub word_opener : (cs : List ℕ) (o : Mode) → begins_raw_mark cs ≡ false → opener_of cs ≡ Some o → word cs ≡ suffixed (literal_kind o) (past_tail o (drop (length (opening_of o)) cs))
 word_opener cs o h e = word_some cs o (no_mark cs h) e
 
-pub word_raw_opener : (cs : List ℕ) (o : Opener) → begins_raw_mark cs ≡ true → begins_raw_name (drop 2 cs) ≡ false → opener_of cs ≡ Some o → word cs ≡ suffixed (literal_kind o) (past_inside o (drop (length (opening_of o)) cs))
+pub word_raw_opener : (cs : List ℕ) (o : Mode) → begins_raw_mark cs ≡ true → begins_raw_name (drop 2 cs) ≡ false → opener_of cs ≡ Some o → word cs ≡ suffixed (literal_kind o) (past_tail o (drop (length (opening_of o)) cs))
 word_raw_opener cs o k h e = word_some cs o (no_name cs h k) e
 
 pub ruleset words = (word_is_raw, word_plain, word_no_name, word_opener, word_raw_opener)

@@ -5,17 +5,18 @@ use Rattle.std.proofs.lemmas.Bool.{and_parts, cases_Bool, or_parts, or_cases, eq
 use Rattle.rust_lex.specs.Chars.{is_first, is_next, is_digit, begins, passes, is_not_feed, is_slash, is_slash_or_star}
 use Rattle.rust_lex.specs.Ends.{past, past_suffix}
 use Rattle.rust_lex.specs.Comment.{DocKind, OuterLine, InnerLine, OuterBlock, InnerBlock, IsDocText, doc_opening, is_plain_line, is_plain_block, past_comment, is_within_line, ends_line}
-use Rattle.rust_lex.specs.Escape.{Alphabet, Characters, Bytes}
-use Rattle.rust_lex.specs.Quoted.{Opener, Cooked, Raw, ByteOpener, CharOpener, LiteralKind, Char, literal_kind, opening_of, opener_of, past_char, IsInside}
-use Rattle.rust_lex.specs.Scan.{past_hashes}
+use Rattle.rust_escape.specs.declared.mode.Mode.{Mode}
+use Rattle.rust_escape.specs.declared.mode.Mode.TheVariants as modes
+use Rattle.rust_lex.specs.Quoted.{LiteralKind, Char, literal_kind, opening_of, opener_of, IsTail}
+use Rattle.rust_lex.specs.QuotedScan.{past_char, past_tail}
 use Rattle.rust_lex.specs.Number.{past_number, number_kind, IsNumber}
 use Rattle.rust_lex.specs.Word.{begins_raw_mark, begins_raw_name, begins_kept, begins_lifetime}
 use Rattle.rust_lex.specs.Piece.{PieceKind, FrontMark, White, Comment, Doc, Open, Close, Mark, Ident, Literal, Fits, FitsFront, FitsAt, IsBody, is_prefixed}
-use Rattle.rust_lex.specs.Scan.{Front, white, opens, closes, quote, tick, digit, first, mark, other, front_of, Scanned, Nowhere, Ends, suffixed, ended, past_inside, line, block, slash, ticked, word, at_front, scan, scan_front, scan_at}
+use Rattle.rust_lex.specs.Scan.{Front, white, opens, closes, quote, tick, digit, first, mark, other, front_of, Scanned, Nowhere, Ends, suffixed, ended, line, block, slash, ticked, word, at_front, scan, scan_front, scan_at}
 use Rattle.rust_lex.proofs.Fronts.{Says, front_says, slash-mark}
-use Rattle.rust_lex.proofs.Taken.{chosen, alone, option_cases, comment_taken, hashes_taken, char_taken}
-use Rattle.rust_lex.proofs.Units.{cooked_found}
-use Rattle.rust_lex.proofs.Hashes.{raw_string_is}
+use Rattle.rust_lex.proofs.Taken.{chosen, alone, option_cases, comment_taken}
+use Rattle.rust_lex.proofs.Units.{FoundTail, single_found, cooked_found}
+use Rattle.rust_lex.proofs.Raws.{raw_string_found}
 use Rattle.rust_lex.proofs.Ends.{passed, past_word, suffix_found, number_found}
 use Rattle.rust_lex.proofs.Openers.{opener_found, raw_mark_is}
 
@@ -45,30 +46,25 @@ pub ended_some : (kind : PieceKind) (o : Option (List ℕ)) (k : PieceKind) (res
 ended_some kind None k rest e = cc
 ended_some kind (Some r) k rest e = (r, refl, e)
 
-record Inside (o : Opener) (cs rest : List ℕ) : Type 0 where
-  inside : List ℕ
-  joined : cs ≡ inside ++ rest
-  is : IsInside o inside
+tail_found : (o : Mode) (cs rest : List ℕ) → past_tail o cs ≡ Some rest → FoundTail (IsTail o) cs rest
+tail_found modes.Char cs rest e = single_found modes.Char cs rest e
+tail_found modes.Byte cs rest e = single_found modes.Byte cs rest e
+tail_found modes.Str cs rest e = cooked_found modes.Str cs rest e
+tail_found modes.ByteStr cs rest e = cooked_found modes.ByteStr cs rest e
+tail_found modes.CStr cs rest e = cooked_found modes.CStr cs rest e
+tail_found modes.RawStr cs rest e = raw_string_found modes.RawStr cs rest refl e
+tail_found modes.RawByteStr cs rest e = raw_string_found modes.RawByteStr cs rest refl e
+tail_found modes.RawCStr cs rest e = raw_string_found modes.RawCStr cs rest refl e
 
-cooked_inside : (a : Alphabet) (skip inside cs rest : List ℕ) → length skip ≡ 0 → cs ≡ skip ++ (inside ++ rest) → cs ≡ inside ++ rest
-cooked_inside a [] inside cs rest l e = e
-cooked_inside a (c ∷ skip) inside cs rest l e = cc
-
-inside_found : (o : Opener) (cs rest : List ℕ) → past_inside o cs ≡ Some rest → Inside o cs rest
-inside_found (Cooked a) cs rest e = let k = cooked_found a 0 cs rest e in record { inside = k.inside; joined = cooked_inside a k.skip k.inside cs rest k.long k.joined; is = k.is }
-inside_found (Raw a) cs rest e = let k = hashes_taken a 0 cs rest e in record { inside = k.front; joined = k.joined; is = raw_string_is a k.front ∙ alone (past_hashes a 0) cs rest k }
-inside_found ByteOpener cs rest e = let k = char_taken Bytes cs rest e in record { inside = k.front; joined = k.joined; is = alone (past_char Bytes) cs rest k }
-inside_found CharOpener cs rest e = let k = char_taken Characters cs rest e in record { inside = k.front; joined = k.joined; is = alone (past_char Characters) cs rest k }
-
-opened_found : (o : Opener) (cs r : List ℕ) → past_inside o cs ≡ Some r → Found (Literal (literal_kind o)) (opening_of o ++ cs) (past_suffix r)
+opened_found : (o : Mode) (cs r : List ℕ) → past_tail o cs ≡ Some r → Found (Literal (literal_kind o)) (opening_of o ++ cs) (past_suffix r)
 opened_found o cs r e =
-    let i = inside_found o cs r e in
-    subst (λ x. Found (Literal (literal_kind o)) x (past_suffix r)) (append_assoc (opening_of o) i.inside r ∙ sym (ap (λ x. opening_of o ++ x) i.joined))
-    (literal_found (literal_kind o) (opening_of o ++ i.inside) r (inl (o, i.inside, refl, refl, i.is)))
+    let i = tail_found o cs r e in
+    subst (λ x. Found (Literal (literal_kind o)) x (past_suffix r)) (append_assoc (opening_of o) i.tail r ∙ sym (ap (λ x. opening_of o ++ x) i.joined))
+    (literal_found (literal_kind o) (opening_of o ++ i.tail) r (inl (o, i.tail, refl, refl, i.is)))
 
-quoted_found : (o : Opener) (cs rest : List ℕ) (k : PieceKind) → suffixed (literal_kind o) (past_inside o cs) ≡ Ends k rest → Found k (opening_of o ++ cs) rest
+quoted_found : (o : Mode) (cs rest : List ℕ) (k : PieceKind) → suffixed (literal_kind o) (past_tail o cs) ≡ Ends k rest → Found k (opening_of o ++ cs) rest
 quoted_found o cs rest k e =
-    let (r, is, same) = suffixed_some (literal_kind o) (past_inside o cs) k rest e in
+    let (r, is, same) = suffixed_some (literal_kind o) (past_tail o cs) k rest e in
     ends_as _ (Literal (literal_kind o)) k _ rest same (opened_found o cs r is)
 
 number_scan_found : (c : ℕ) (cs rest : List ℕ) (k : PieceKind) → is_digit c ≡ true → suffixed (number_kind (c ∷ cs)) (past_number (c ∷ cs)) ≡ Ends k rest → Found k (c ∷ cs) rest
@@ -79,11 +75,11 @@ number_scan_found c cs rest k h e =
     let number : IsNumber (number_kind (c ∷ cs)) (c ∷ t.front) r = (h, subst (λ x. past_number x ≡ Some r) joined is, ap number_kind joined) in
     ends_as _ (Literal (number_kind (c ∷ cs))) k _ rest same (subst (λ x. Found (Literal (number_kind (c ∷ cs))) x (past_suffix r)) (sym joined) (literal_found (number_kind (c ∷ cs)) (c ∷ t.front) r (inr number)))
 
-pub ticked_none : (cs : List ℕ) → past_char Characters cs ≡ None → ticked cs ≡ (if begins_lifetime cs then Ends Mark cs else Nowhere)
+pub ticked_none : (cs : List ℕ) → past_char modes.Char cs ≡ None → ticked cs ≡ (if begins_lifetime cs then Ends Mark cs else Nowhere)
 unfolding ticked
 ticked_none cs e = rw (e, ticked) refl
 
-pub ticked_some : (cs rest : List ℕ) → past_char Characters cs ≡ Some rest → ticked cs ≡ Ends (Literal Char) (past_suffix rest)
+pub ticked_some : (cs rest : List ℕ) → past_char modes.Char cs ≡ Some rest → ticked cs ≡ Ends (Literal Char) (past_suffix rest)
 unfolding ticked
 ticked_some cs rest e = rw (e, ticked) refl
 
@@ -98,8 +94,8 @@ ticked_found cs rest k e =
     (λ h. ends_as _ Mark k cs rest h.1 (record { chars = 39 ∷ []; joined = refl; fits = (39, refl, rw h.0 (or_true _)) }))
     (λ h. cc)
     (chosen (begins_lifetime cs) _ _ _ (sym (ticked_none cs n) ∙ e)))
-    (λ (r, o). ends_as _ (Literal Char) k _ rest (sym (ticked_some cs r o) ∙ e) (opened_found CharOpener cs r o))
-    (option_cases (past_char Characters cs))
+    (λ (r, o). ends_as _ (Literal Char) k _ rest (sym (ticked_some cs r o) ∙ e) (opened_found modes.Char cs r o))
+    (option_cases (past_char modes.Char cs))
 
 -- comments and docs
 doc_line_found : (kind : DocKind) (c : ℕ) (cs : List ℕ) → doc_opening kind ≡ 47 ∷ 47 ∷ c ∷ [] → ((front rest : List ℕ) → cs ≡ front ++ rest → passes is_within_line front ≡ true → ends_line rest ≡ true → IsDocText kind front rest) → ends_line (past is_within_line cs) ≡ true → Found (Doc kind) (47 ∷ 47 ∷ c ∷ cs) (past is_within_line cs)
@@ -200,7 +196,7 @@ pub word_none : (cs : List ℕ) → (begins_raw_mark cs && begins_raw_name (drop
 unfolding word
 word_none cs h e = rw (h, word) (rw (e, word) refl)
 
-pub word_some : (cs : List ℕ) (o : Opener) → (begins_raw_mark cs && begins_raw_name (drop 2 cs)) ≡ false → opener_of cs ≡ Some o → word cs ≡ suffixed (literal_kind o) (past_inside o (drop (length (opening_of o)) cs))
+pub word_some : (cs : List ℕ) (o : Mode) → (begins_raw_mark cs && begins_raw_name (drop 2 cs)) ≡ false → opener_of cs ≡ Some o → word cs ≡ suffixed (literal_kind o) (past_tail o (drop (length (opening_of o)) cs))
 unfolding word
 word_some cs o h e = rw (h, word) (rw (e, word) refl)
 
@@ -242,7 +238,7 @@ at_found : (f : Front) (c : ℕ) (cs rest : List ℕ) (k : PieceKind) → Says f
 at_found white c cs rest k s e = ends_as _ White k cs rest e (record { chars = c ∷ []; joined = refl; fits = s })
 at_found (opens d) c cs rest k s e = ends_as _ (Open d) k cs rest e (record { chars = c ∷ []; joined = refl; fits = ap (λ x. x ∷ []) s })
 at_found (closes d) c cs rest k s e = ends_as _ (Close d) k cs rest e (record { chars = c ∷ []; joined = refl; fits = ap (λ x. x ∷ []) s })
-at_found quote c cs rest k s e = subst (λ x. Found k (x ∷ cs) rest) (sym s) (quoted_found (Cooked Characters) cs rest k e)
+at_found quote c cs rest k s e = subst (λ x. Found k (x ∷ cs) rest) (sym s) (quoted_found modes.Str cs rest k e)
 at_found tick c cs rest k s e = subst (λ x. Found k (x ∷ cs) rest) (sym s) (ticked_found cs rest k e)
 at_found digit c cs rest k s e = number_scan_found c cs rest k s e
 at_found first c cs rest k s e = word_found c cs rest k s e

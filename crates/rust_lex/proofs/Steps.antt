@@ -1,79 +1,21 @@
 -- One character on: what loops over a text go by.
-use Rattle.std.proofs.Common.{◌≡◌, ℕ, zero, suc, ◌+◌, ◌-◌, ◌<◌, ◌≤◌, ◌^◌, arith, add-one, sub-one, List, [], ◌∷◌, length, drop, drop-cons, get_or, refl, sym, ap, ◌∙◌}
-use Rattle.std.specs.Prelude.{Bool, true, false, ◌*◌, ◌||◌, ◌&&◌, ◌==◌, not, nat_le, Option, Some, None}
-use Rattle.std.specs.Char.{digit_value}
+use Rattle.std.proofs.Common.{◌≡◌, ℕ, zero, suc, ◌+◌, ◌-◌, ◌<◌, ◌≤◌, arith, add-one, sub-one, List, [], ◌∷◌, length, drop, drop-cons, get_or, refl}
+use Rattle.std.specs.Prelude.{Bool, true, false, ◌||◌, ◌&&◌, ◌==◌, not, nat_le, Option, Some, None}
 use Rattle.std.proofs.lemmas.List.{drop_all}
-use Rattle.std.proofs.lemmas.Bool.{eq-eqb, ne_eqb, lt-ltb, le-ltb}
-use Rattle.rust_lex.specs.Chars.{is_next, begins, is_feed, is_not_feed, is_quote_or_hash}
-use Rattle.rust_lex.specs.Ends.{past, past_one}
+use Rattle.std.proofs.lemmas.Bool.{eq-eqb, ne_eqb}
+use Rattle.rust_escape.specs.declared.mode.Mode.{Mode}
+use Rattle.rust_escape.specs.declared.mode.Mode.TheVariants as modes
+use Rattle.rust_lex.specs.Chars.{is_next, begins, is_not_feed, is_quote_or_hash}
+use Rattle.rust_lex.specs.Ends.{past}
 use Rattle.rust_lex.specs.Comment.{InnerLine, OuterLine, InnerBlock, OuterBlock, past_comment, is_plain_line, is_plain_block, is_within_line, ends_line}
-use Rattle.rust_lex.specs.Escape.{Alphabet, Characters, Bytes, NoZero, allows, allows_code}
-use Rattle.rust_lex.specs.Scan.{past_code}
-use Rattle.rust_lex.specs.Quoted.{Cooked, Raw, ByteOpener, Int, opener_of, past_unit, past_marks, past_close, past_raw, past_single, past_char}
-use Rattle.rust_lex.specs.Scan.{past_hashes}
+use Rattle.rust_lex.specs.Quoted.{Int, opener_of}
+use Rattle.rust_lex.specs.QuotedScan.{past_marks, past_close, stands, past_raw, past_hashes}
 use Rattle.rust_lex.specs.Number.{base_by, base_of, past_based, past_decimal, past_number, decimal_kind, number_kind}
 use Rattle.rust_lex.specs.Word.{begins_word}
 use Rattle.rust_lex.specs.Piece.{Comment, Doc, Mark}
-use Rattle.rust_lex.specs.Scan.{Nowhere, Ends, ended, line, block, slash, past_units}
-use Rattle.std.proofs.Math.Nat.{pow-suc}
-use Rattle.rust_lex.specs.Places.{rest_at, IsBehind}
-use Rattle.rust_lex.proofs.Walks.{WalksCode}
-use Rattle.rust_lex.specs.Escape.{is_hex, past_braces}
-use Rattle.rust_lex.proofs.Codes.{no_braces, braces_code, braces_none}
+use Rattle.rust_lex.specs.Scan.{Nowhere, Ends, ended, line, block, slash}
 use Rattle.rust_lex.proofs.PlacesLemmas.{rest_end}
-use Rattle.rust_lex.proofs.Taken.{char_from, raw_step, raw_wrong, raw_closed, raw_end}
-use Rattle.rust_lex.proofs.Units.{units_more, units_end, units_close, units_none}
-
--- the digits of \u{..}
-pub code_step_end : (a : Alphabet) (n v : ℕ) → past_code a n v [] ≡ None
-unfolding past_code
-code_step_end a n v = refl
-
-pub code_step_digit : (a : Alphabet) (n v c d : ℕ) (cs : List ℕ) → digit_value c < 16 → n < 6 → digit_value c ≡ d → past_code a n v (c ∷ cs) ≡ past_code a (n + 1) (16 * v + d) cs
-unfolding past_code is_hex
-code_step_digit a n v c d cs h k e = rw (lt-ltb (digit_value c) 16 h, lt-ltb n 6 k, e) refl
-
-pub code_step_many : (a : Alphabet) (n v c : ℕ) (cs : List ℕ) → digit_value c < 16 → 6 ≤ n → past_code a n v (c ∷ cs) ≡ None
-unfolding past_code is_hex
-code_step_many a n v c cs h k = rw (lt-ltb (digit_value c) 16 h, le-ltb n 6 k) refl
-
-pub code_step_none : (a : Alphabet) (n v c : ℕ) (cs : List ℕ) → 16 ≤ digit_value c → n ≡ 0 → past_code a n v (c ∷ cs) ≡ None
-unfolding past_code is_hex
-code_step_none a n v c cs h k = rw (le-ltb (digit_value c) 16 h, k) refl
-
-pub code_step_line : (a : Alphabet) (n v c : ℕ) (cs : List ℕ) → 16 ≤ digit_value c → (n ≡ 0 → ⊥) → c ≡ 95 → past_code a n v (c ∷ cs) ≡ past_code a n v cs
-unfolding past_code is_hex
-code_step_line a n v c cs h k e = rw (le-ltb (digit_value c) 16 h, ne_eqb n 0 k, e) refl
-
-pub code_step_close : (a : Alphabet) (n v c : ℕ) (cs : List ℕ) → 16 ≤ digit_value c → (n ≡ 0 → ⊥) → (c ≡ 95 → ⊥) → (c == 125 && allows_code a v) ≡ true → past_code a n v (c ∷ cs) ≡ Some cs
-unfolding past_code is_hex
-code_step_close a n v c cs h k e w = rw (le-ltb (digit_value c) 16 h, ne_eqb n 0 k, ne_eqb c 95 e, w) refl
-
-pub code_step_wrong : (a : Alphabet) (n v c : ℕ) (cs : List ℕ) → 16 ≤ digit_value c → (n ≡ 0 → ⊥) → (c ≡ 95 → ⊥) → (c == 125 && allows_code a v) ≡ false → past_code a n v (c ∷ cs) ≡ None
-unfolding past_code is_hex
-code_step_wrong a n v c cs h k e w = rw (le-ltb (digit_value c) 16 h, ne_eqb n 0 k, ne_eqb c 95 e, w) refl
-
-pub ruleset codes = (rest_end, code_step_end, code_step_digit, code_step_many, code_step_none, code_step_line, code_step_close, code_step_wrong)
-
--- strings
-pub units_step_more : (a : Alphabet) (c : ℕ) (cs rest : List ℕ) → past_unit a (c ∷ cs) ≡ Some rest → past_units a 0 (c ∷ cs) ≡ past_units a 0 rest
-units_step_more a c cs rest e = units_more a c cs rest e
-
-pub units_step_none : (a : Alphabet) (c : ℕ) (cs : List ℕ) → (c ≡ 34 → ⊥) → past_unit a (c ∷ cs) ≡ None → past_units a 0 (c ∷ cs) ≡ None
-units_step_none a c cs h e = units_none a c cs (ne_eqb c 34 h) e
-
-pub ruleset units = (rest_end, units_end, units_close, units_step_more, units_step_none)
-
--- characters
-pub char_none_one : (a : Alphabet) (cs : List ℕ) → past_single a cs ≡ None → past_char a cs ≡ None
-unfolding past_char
-char_none_one a cs e = rw (e, past_char) refl
-
-pub char_none_two : (a : Alphabet) (cs between : List ℕ) → past_single a cs ≡ Some between → past_one 39 between ≡ None → past_char a cs ≡ None
-unfolding past_char
-char_none_two a cs between e h = rw (e, past_char) h
-
-pub ruleset characters = (char_none_one, char_none_two, char_from)
+use Rattle.rust_lex.proofs.Raws.{raw_step, raw_wrong, raw_closed, raw_end}
 
 -- raw strings
 pub marks_step_done : (n : ℕ) (cs : List ℕ) → n ≡ 0 → past_marks n cs ≡ Some cs
@@ -99,60 +41,40 @@ raw_close_quote n c cs o e h = rw e h
 pub raw_close_none : (n c : ℕ) (cs : List ℕ) → (c ≡ 34 → ⊥) → past_close n (c ∷ cs) ≡ None
 raw_close_none n c cs e = rw (ne_eqb c 34 e) refl
 
-pub raw_step_closed : (a : Alphabet) (n c : ℕ) (cs rest : List ℕ) → c ≡ 34 → past_marks n cs ≡ Some rest → past_raw a n (c ∷ cs) ≡ Some rest
+pub raw_step_closed : (a : Mode) (n c : ℕ) (cs rest : List ℕ) → c ≡ 34 → past_marks n cs ≡ Some rest → past_raw a n (c ∷ cs) ≡ Some rest
 raw_step_closed a n c cs rest e h = raw_closed a n c cs rest (raw_close_quote n c cs (Some rest) e h)
 
-pub raw_step_quote : (a : Alphabet) (n c : ℕ) (cs : List ℕ) → c ≡ 34 → past_marks n cs ≡ None → (allows a c && (not (c == 13) || begins is_feed cs)) ≡ true → past_raw a n (c ∷ cs) ≡ past_raw a n cs
+pub raw_step_quote : (a : Mode) (n c : ℕ) (cs : List ℕ) → c ≡ 34 → past_marks n cs ≡ None → stands a c cs ≡ true → past_raw a n (c ∷ cs) ≡ past_raw a n cs
 raw_step_quote a n c cs e h k = raw_step a n c cs (raw_close_quote n c cs None e h) k
 
-pub raw_wrong_quote : (a : Alphabet) (n c : ℕ) (cs : List ℕ) → c ≡ 34 → past_marks n cs ≡ None → (allows a c && (not (c == 13) || begins is_feed cs)) ≡ false → past_raw a n (c ∷ cs) ≡ None
+pub raw_wrong_quote : (a : Mode) (n c : ℕ) (cs : List ℕ) → c ≡ 34 → past_marks n cs ≡ None → stands a c cs ≡ false → past_raw a n (c ∷ cs) ≡ None
 raw_wrong_quote a n c cs e h k = raw_wrong a n c cs (raw_close_quote n c cs None e h) k
 
-pub raw_step_other : (a : Alphabet) (n c : ℕ) (cs : List ℕ) → (c ≡ 34 → ⊥) → (allows a c && (not (c == 13) || begins is_feed cs)) ≡ true → past_raw a n (c ∷ cs) ≡ past_raw a n cs
+pub raw_step_other : (a : Mode) (n c : ℕ) (cs : List ℕ) → (c ≡ 34 → ⊥) → stands a c cs ≡ true → past_raw a n (c ∷ cs) ≡ past_raw a n cs
 raw_step_other a n c cs e k = raw_step a n c cs (raw_close_none n c cs e) k
 
-pub raw_wrong_other : (a : Alphabet) (n c : ℕ) (cs : List ℕ) → (c ≡ 34 → ⊥) → (allows a c && (not (c == 13) || begins is_feed cs)) ≡ false → past_raw a n (c ∷ cs) ≡ None
+pub raw_wrong_other : (a : Mode) (n c : ℕ) (cs : List ℕ) → (c ≡ 34 → ⊥) → stands a c cs ≡ false → past_raw a n (c ∷ cs) ≡ None
 raw_wrong_other a n c cs e k = raw_wrong a n c cs (raw_close_none n c cs e) k
 
 pub ruleset raws = (rest_end, raw_end, raw_step_closed, raw_step_quote, raw_wrong_quote, raw_step_other, raw_wrong_other)
 
-pub hashes_step_end : (a : Alphabet) (n : ℕ) → past_hashes a n [] ≡ None
+pub hashes_step_end : (a : Mode) (n : ℕ) → past_hashes a n [] ≡ None
 unfolding past_hashes
 hashes_step_end a n = refl
 
-pub hashes_step_more : (a : Alphabet) (n c : ℕ) (cs : List ℕ) → c ≡ 35 → past_hashes a n (c ∷ cs) ≡ past_hashes a (n + 1) cs
+pub hashes_step_more : (a : Mode) (n c : ℕ) (cs : List ℕ) → c ≡ 35 → past_hashes a n (c ∷ cs) ≡ past_hashes a (n + 1) cs
 unfolding past_hashes
 hashes_step_more a n c cs e = rw e refl
 
-pub hashes_step_raw : (a : Alphabet) (n c : ℕ) (cs : List ℕ) → (c ≡ 35 → ⊥) → (c == 34 && nat_le n 255) ≡ true → past_hashes a n (c ∷ cs) ≡ past_raw a n cs
+pub hashes_step_raw : (a : Mode) (n c : ℕ) (cs : List ℕ) → (c ≡ 35 → ⊥) → (c == 34 && nat_le n 255) ≡ true → past_hashes a n (c ∷ cs) ≡ past_raw a n cs
 unfolding past_hashes
 hashes_step_raw a n c cs e h = rw (ne_eqb c 35 e, h) refl
 
-pub hashes_step_wrong : (a : Alphabet) (n c : ℕ) (cs : List ℕ) → (c ≡ 35 → ⊥) → (c == 34 && nat_le n 255) ≡ false → past_hashes a n (c ∷ cs) ≡ None
+pub hashes_step_wrong : (a : Mode) (n c : ℕ) (cs : List ℕ) → (c ≡ 35 → ⊥) → (c == 34 && nat_le n 255) ≡ false → past_hashes a n (c ∷ cs) ≡ None
 unfolding past_hashes
 hashes_step_wrong a n c cs e h = rw (ne_eqb c 35 e, h) refl
 
 pub ruleset hashes = (rest_end, hashes_step_end, hashes_step_more, hashes_step_raw, hashes_step_wrong)
-
--- six hex digits make a value that fits
-pub code_bound : (n v : ℕ) → n < 6 → v < 16 ^ n → v < 1048576
-code_bound zero v h k = omega arith
-code_bound (suc zero) v h k = omega arith
-code_bound (suc (suc zero)) v h k = omega arith
-code_bound (suc (suc (suc zero))) v h k = omega arith
-code_bound (suc (suc (suc (suc zero)))) v h k = omega arith
-code_bound (suc (suc (suc (suc (suc zero))))) v h k = k
-code_bound (suc (suc (suc (suc (suc (suc n)))))) v h k = absurd (omega arith)
-
-pub code_small : (n v d : ℕ) → v < 16 ^ n → d < 16 → 16 * v + d < 16 ^ (n + 1)
-code_small n v d h k = rw (add-one, pow-suc 16 n) (omega arith)
-
-pub code_on : (a : Alphabet) (n v c d : ℕ) (bytes : List ℕ) (start at next : ℕ) → WalksCode a n v bytes start at → rest_at bytes at ≡ c ∷ rest_at bytes next → IsBehind bytes at next → n < 6 → digit_value c < 16 → digit_value c ≡ d → WalksCode a (n + 1) (16 * v + d) bytes start next
-code_on a n v c d bytes start at next w e b h k q =
-    let on = w.on in
-    let more = b.on in
-    let s : d < 16 = omega arith in
-    record { same = sym (code_step_digit a n v c d (rest_at bytes next) k h q) ∙ ap (past_code a n v) (sym e) ∙ w.same; place = b.place; on = omega arith; few = omega arith; small = code_small n v d w.small s }
 
 -- comments, one or two characters on
 pub comment_step_end : (doc : Bool) (n : ℕ) → past_comment doc n [] ≡ None
@@ -299,7 +221,7 @@ unfolding opener_of
 opener_other c [] b k r = refl
 opener_other c (d ∷ cs) b k r = rw (ne_eqb c 98 b, ne_eqb c 99 k, ne_eqb c 114 r) refl
 
-pub opener_raw : (c d : ℕ) (cs : List ℕ) → c ≡ 114 → (d == 34 || d == 35) ≡ true → opener_of (c ∷ d ∷ cs) ≡ Some (Raw Characters)
+pub opener_raw : (c d : ℕ) (cs : List ℕ) → c ≡ 114 → (d == 34 || d == 35) ≡ true → opener_of (c ∷ d ∷ cs) ≡ Some modes.RawStr
 unfolding opener_of
 opener_raw c d cs e h = rw (e, h) refl
 
@@ -307,15 +229,15 @@ pub opener_no_raw : (c d : ℕ) (cs : List ℕ) → c ≡ 114 → (d == 34 || d 
 unfolding opener_of
 opener_no_raw c d cs e h = rw (e, h) refl
 
-pub opener_bytes : (c d : ℕ) (cs : List ℕ) → c ≡ 98 → d ≡ 34 → opener_of (c ∷ d ∷ cs) ≡ Some (Cooked Bytes)
+pub opener_bytes : (c d : ℕ) (cs : List ℕ) → c ≡ 98 → d ≡ 34 → opener_of (c ∷ d ∷ cs) ≡ Some modes.ByteStr
 unfolding opener_of
 opener_bytes c d cs e h = rw (e, h) refl
 
-pub opener_byte : (c d : ℕ) (cs : List ℕ) → c ≡ 98 → d ≡ 39 → opener_of (c ∷ d ∷ cs) ≡ Some ByteOpener
+pub opener_byte : (c d : ℕ) (cs : List ℕ) → c ≡ 98 → d ≡ 39 → opener_of (c ∷ d ∷ cs) ≡ Some modes.Byte
 unfolding opener_of
 opener_byte c d cs e h = rw (e, h) refl
 
-pub opener_raw_bytes : (c d : ℕ) (cs : List ℕ) → c ≡ 98 → d ≡ 114 → begins is_quote_or_hash cs ≡ true → opener_of (c ∷ d ∷ cs) ≡ Some (Raw Bytes)
+pub opener_raw_bytes : (c d : ℕ) (cs : List ℕ) → c ≡ 98 → d ≡ 114 → begins is_quote_or_hash cs ≡ true → opener_of (c ∷ d ∷ cs) ≡ Some modes.RawByteStr
 unfolding opener_of
 opener_raw_bytes c d cs e h k = rw (e, h, k) refl
 
@@ -323,11 +245,11 @@ pub opener_no_bytes : (c d : ℕ) (cs : List ℕ) → c ≡ 98 → (d ≡ 34 →
 unfolding opener_of
 opener_no_bytes c d cs e h k r = rw (e, ne_eqb d 34 h, ne_eqb d 39 k, r) refl
 
-pub opener_zero : (c d : ℕ) (cs : List ℕ) → c ≡ 99 → d ≡ 34 → opener_of (c ∷ d ∷ cs) ≡ Some (Cooked NoZero)
+pub opener_zero : (c d : ℕ) (cs : List ℕ) → c ≡ 99 → d ≡ 34 → opener_of (c ∷ d ∷ cs) ≡ Some modes.CStr
 unfolding opener_of
 opener_zero c d cs e h = rw (e, h) refl
 
-pub opener_raw_zero : (c d : ℕ) (cs : List ℕ) → c ≡ 99 → d ≡ 114 → begins is_quote_or_hash cs ≡ true → opener_of (c ∷ d ∷ cs) ≡ Some (Raw NoZero)
+pub opener_raw_zero : (c d : ℕ) (cs : List ℕ) → c ≡ 99 → d ≡ 114 → begins is_quote_or_hash cs ≡ true → opener_of (c ∷ d ∷ cs) ≡ Some modes.RawCStr
 unfolding opener_of
 opener_raw_zero c d cs e h k = rw (e, h, k) refl
 
@@ -336,12 +258,3 @@ unfolding opener_of
 opener_no_zero c d cs e h r = rw (e, ne_eqb d 34 h, r) refl
 
 pub ruleset openers = (rest_end, opener_end, opener_last, opener_other, opener_raw, opener_no_raw, opener_bytes, opener_byte, opener_raw_bytes, opener_no_bytes, opener_zero, opener_raw_zero, opener_no_zero)
-
--- the braces of \u{..}
-pub braces_step : (a : Alphabet) (c : ℕ) (cs : List ℕ) → c ≡ 123 → past_braces a (c ∷ cs) ≡ past_code a 0 0 cs
-braces_step a c cs e = braces_code a c cs (eq-eqb c 123 e)
-
-pub braces_step_none : (a : Alphabet) (c : ℕ) (cs : List ℕ) → (c ≡ 123 → ⊥) → past_braces a (c ∷ cs) ≡ None
-braces_step_none a c cs e = braces_none a c cs (ne_eqb c 123 e)
-
-pub ruleset braces = (rest_end, no_braces, braces_step, braces_step_none)

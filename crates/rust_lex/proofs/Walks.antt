@@ -1,7 +1,5 @@
 -- What loops over the characters of a text keep.
-use Rattle.std.proofs.Common.{◌≡◌, ℕ, ◌≤◌, ◌<◌, ◌^◌, List, drop}
-use Rattle.rust_lex.specs.Escape.{Alphabet}
-use Rattle.rust_lex.specs.Scan.{past_code}
+use Rattle.std.proofs.Common.{◌≡◌, ℕ, ◌≤◌, List, drop}
 use Rattle.rust_lex.specs.Word.{begins_word}
 use Rattle.rust_lex.specs.Places.{rest_at, IsPlace}
 
@@ -23,14 +21,6 @@ pub record WalksDown {X : Type 0} (find : ℕ → List ℕ → X) (m n : ℕ) (b
   pub same : find n (rest_at bytes at) ≡ find m (rest_at bytes start)
   pub place : IsPlace bytes at
   pub on : start ≤ at
-
--- the same, n hex digits having made a value
-pub record WalksCode (a : Alphabet) (n v : ℕ) (bytes : List ℕ) (start at : ℕ) : Type 0 where
-  pub same : past_code a n v (rest_at bytes at) ≡ past_code a 0 0 (rest_at bytes start)
-  pub place : IsPlace bytes at
-  pub on : start ≤ at
-  pub few : n ≤ 6
-  pub small : v < 16 ^ n
 
 -- the same, i characters of a word having been read
 pub record WalksWord (word : List ℕ) (i : ℕ) (bytes : List ℕ) (start at : ℕ) : Type 0 where

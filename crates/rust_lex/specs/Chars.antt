@@ -1,11 +1,8 @@
 -- Characters, as numbers, and texts as lists of them.
 use Rattle.std.specs.Prelude.{ℕ, Bool, true, false, ◌&&◌, ◌||◌, ◌==◌, not, List, [], ◌∷◌}
-use Rattle.std.specs.List.{list_any}
 use Rattle.std.specs.Char.{is_ascii_digit}
 use Rattle.unicode_ident.specs.Ident.{is_xid_start, is_xid_continue}
-
-abbrev pub is_among : List ℕ → ℕ → Bool
-is_among ds c = list_any (λ d. d == c) ds
+pub use Rattle.rust_escape.specs.Chars.{is_among, begins, passes, is_underscore}
 
 -- the white characters of Unicode, and the marks U+200E and U+200F of a text's direction
 abbrev pub whites : List ℕ
@@ -31,16 +28,6 @@ marks = 126 ∷ 33 ∷ 64 ∷ 35 ∷ 36 ∷ 37 ∷ 94 ∷ 38 ∷ 42 ∷ 45 ∷ 6
 
 unfoldable pub is_mark : ℕ → Bool
 is_mark c = is_among marks c
-
--- a text begins with a character that passes
-abbrev pub begins : (ℕ → Bool) → List ℕ → Bool
-begins p [] = false
-begins p (c ∷ cs) = p c
-
--- each character of a text passes
-abbrev pub passes : (ℕ → Bool) → List ℕ → Bool
-passes p [] = true
-passes p (c ∷ cs) = p c && passes p cs
 
 -- a text begins with another
 abbrev pub begins_with : List ℕ → List ℕ → Bool
@@ -71,6 +58,3 @@ is_tick c = c == 39
 
 abbrev pub is_tick_or_hash : ℕ → Bool
 is_tick_or_hash c = c == 39 || c == 35
-
-abbrev pub is_underscore : ℕ → Bool
-is_underscore c = c == 95

@@ -1,6 +1,7 @@
 -- Where what is sought ends, in the bytes of a text.
 use Rattle.std.specs.Prelude.{◌≡◌, ℕ, ◌≤◌, true, false, List, length, drop, Option, Some, None, MatchOption}
-use Rattle.rust_lex.specs.Quoted.{LiteralKind, Opener, opening_of, opener_of}
+use Rattle.rust_escape.specs.declared.mode.Mode.{Mode}
+use Rattle.rust_lex.specs.Quoted.{LiteralKind, opening_of, opener_of}
 use Rattle.rust_lex.specs.Number.{past_number, number_kind}
 use Rattle.rust_lex.specs.Word.{begins_raw_mark}
 use Rattle.rust_lex.specs.Piece.{PieceKind}
@@ -31,6 +32,6 @@ IsRawMark bytes at result = MatchOption result (begins_raw_mark (rest_at bytes a
     (λ next. (begins_raw_mark (rest_at bytes at) ≡ true) × (rest_at bytes next ≡ drop 2 (rest_at bytes at)) × IsBehind bytes at next)
 
 -- the opening of a literal with a prefix, and the place behind it
-abbrev pub IsOpener : List ℕ → ℕ → Option (Opener × ℕ) → Type 0
+abbrev pub IsOpener : List ℕ → ℕ → Option (Mode × ℕ) → Type 0
 IsOpener bytes at result = MatchOption result (opener_of (rest_at bytes at) ≡ None)
     (λ p. (opener_of (rest_at bytes at) ≡ Some p.0) × (rest_at bytes p.1 ≡ drop (length (opening_of p.0)) (rest_at bytes at)) × IsBehind bytes at p.1)

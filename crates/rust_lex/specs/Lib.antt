@@ -1,8 +1,8 @@
 pub mod Chars
 pub mod Ends
 pub mod Comment
-pub mod Escape
 pub mod Quoted
+pub mod QuotedScan
 pub mod Number
 pub mod Word
 pub mod Piece

@@ -2,8 +2,9 @@
 use Rattle.std.specs.Prelude.{◌≡◌, ℕ, zero, suc, Bool, true, false, ◌&&◌, ◌||◌, ◌==◌, not, is_some, List, [], ◌∷◌, ◌++◌, ◌⊎◌}
 use Rattle.rust_lex.specs.Chars.{is_white, is_first, is_next, is_mark, begins, passes, is_slash_or_star}
 use Rattle.rust_lex.specs.Comment.{IsComment, IsDoc}
-use Rattle.rust_lex.specs.Escape.{Characters}
-use Rattle.rust_lex.specs.Quoted.{LiteralKind, IsQuoted, opener_of, past_char}
+use Rattle.rust_escape.specs.declared.mode.Mode.TheVariants as modes
+use Rattle.rust_lex.specs.Quoted.{LiteralKind, IsQuoted, opener_of}
+use Rattle.rust_lex.specs.QuotedScan.{past_char}
 use Rattle.rust_lex.specs.Number.{IsNumber}
 use Rattle.rust_lex.specs.Word.{IsWord, IsRawWord, begins_lifetime}
 pub use Rattle.rust_lex.specs.declared.delimiter.Delimiter.{Delimiter}
@@ -46,7 +47,7 @@ begins_mark (c ∷ cs) = (is_mark c && not (c == 47 && begins is_slash_or_star c
 -- a text begins with a character literal
 abbrev pub begins_char : List ℕ → Bool
 begins_char [] = false
-begins_char (c ∷ cs) = c == 39 && is_some (past_char Characters cs)
+begins_char (c ∷ cs) = c == 39 && is_some (past_char modes.Char cs)
 
 -- the mark that a text begins with is joint: ' always is, another before a mark or the ' of a character literal
 abbrev pub is_joint : List ℕ → Bool

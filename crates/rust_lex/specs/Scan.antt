@@ -1,11 +1,11 @@
 -- Which piece a text begins with: what the code computes. That it is the one piece that fits is proved.
-use Rattle.std.specs.Prelude.{nat_lt, ◌+◌, ◌*◌, ℕ, zero, suc, ◌-◌, true, false, ◌&&◌, ◌==◌, List, [], ◌∷◌, Option, Some, None, if◌then◌else◌, drop, length}
+use Rattle.std.specs.Prelude.{ℕ, zero, suc, true, false, ◌&&◌, ◌==◌, List, [], ◌∷◌, Option, Some, None, if◌then◌else◌, drop, length}
 use Rattle.rust_lex.specs.Chars.{is_white, is_first, is_next, is_digit, is_mark, is_not_feed}
 use Rattle.rust_lex.specs.Ends.{past, past_suffix}
 use Rattle.rust_lex.specs.Comment.{OuterLine, InnerLine, OuterBlock, InnerBlock, is_plain_line, is_plain_block, past_comment, is_within_line, ends_line}
-use Rattle.std.specs.Char.{digit_value}
-use Rattle.rust_lex.specs.Escape.{is_hex, allows_code, Alphabet, Characters, Bytes}
-use Rattle.rust_lex.specs.Quoted.{Opener, Cooked, Raw, ByteOpener, CharOpener, LiteralKind, Str, Char, literal_kind, opening_of, opener_of, past_unit, past_quoted, past_char}
+use Rattle.rust_escape.specs.declared.mode.Mode.TheVariants as modes
+use Rattle.rust_lex.specs.Quoted.{LiteralKind, Str, Char, literal_kind, opening_of, opener_of}
+use Rattle.rust_lex.specs.QuotedScan.{past_units, past_char, past_tail}
 use Rattle.rust_lex.specs.Number.{past_number, number_kind}
 use Rattle.rust_lex.specs.Word.{begins_raw_mark, begins_raw_name, begins_lifetime}
 use Rattle.rust_lex.specs.Piece.{Parenthesis, Brace, Bracket, PieceKind, FrontMark, White, Comment, Doc, Open, Close, Mark, Ident, Literal}
@@ -22,32 +22,6 @@ front_of c = if is_first c then first else (if is_white c then white else (if is
 pub data Scanned : Type 0 where
   Nowhere : Scanned
   Ends : PieceKind → List ℕ → Scanned
-
--- behind the } of \u{..}, n of whose hex digits, which write v, have been read
-unfoldable pub past_code : Alphabet → ℕ → ℕ → List ℕ → Option (List ℕ)
-past_code a n v [] = None
-past_code a n v (c ∷ cs) =
-    if is_hex c then (if nat_lt n 6 then past_code a (n + 1) (16 * v + digit_value c) cs else None)
-    else (if n == 0 then None
-    else (if c == 95 then past_code a n v cs
-    else (if c == 125 && allows_code a v then Some cs else None)))
-
--- behind a raw string, n # of whose front have been read
-unfoldable pub past_hashes : Alphabet → ℕ → List ℕ → Option (List ℕ)
-past_hashes a n [] = None
-past_hashes a n (c ∷ cs) = if c == 35 then past_hashes a (n + 1) cs else past_quoted a n (c ∷ cs)
-
--- behind the closing quote of a string, the first n characters being of one unit
-unfoldable pub past_units : Alphabet → ℕ → List ℕ → Option (List ℕ)
-past_units a n [] = None
-past_units a zero (c ∷ cs) = if c == 34 then Some cs else (elim (past_unit a (c ∷ cs)) [ None ↦ None | Some rest ↦ past_units a (length cs - length rest) cs ])
-past_units a (suc n) (c ∷ cs) = past_units a n cs
-
-abbrev pub past_inside : Opener → List ℕ → Option (List ℕ)
-past_inside (Cooked a) cs = past_units a 0 cs
-past_inside (Raw a) cs = past_hashes a 0 cs
-past_inside ByteOpener cs = past_char Bytes cs
-past_inside CharOpener cs = past_char Characters cs
 
 abbrev pub suffixed : LiteralKind → Option (List ℕ) → Scanned
 suffixed k None = Nowhere
@@ -76,18 +50,18 @@ slash (c ∷ cs) = if c == 47 then line cs else (if c == 42 then block cs else E
 
 -- behind '
 unfoldable pub ticked : List ℕ → Scanned
-ticked cs = elim (past_char Characters cs) [ Some rest ↦ Ends (Literal Char) (past_suffix rest) | None ↦ if begins_lifetime cs then Ends Mark cs else Nowhere ]
+ticked cs = elim (past_char modes.Char cs) [ Some rest ↦ Ends (Literal Char) (past_suffix rest) | None ↦ if begins_lifetime cs then Ends Mark cs else Nowhere ]
 
 -- a text that begins with a letter or _
 unfoldable pub word : List ℕ → Scanned
 word cs = if begins_raw_mark cs && begins_raw_name (drop 2 cs) then Ends Ident (past is_next (drop 2 cs))
-    else (elim (opener_of cs) [ None ↦ Ends Ident (past is_next cs) | Some o ↦ suffixed (literal_kind o) (past_inside o (drop (length (opening_of o)) cs)) ])
+    else (elim (opener_of cs) [ None ↦ Ends Ident (past is_next cs) | Some mode ↦ suffixed (literal_kind mode) (past_tail mode (drop (length (opening_of mode)) cs)) ])
 
 abbrev pub at_front : Front → ℕ → List ℕ → Scanned
 at_front white c cs = Ends White cs
 at_front (opens d) c cs = Ends (Open d) cs
 at_front (closes d) c cs = Ends (Close d) cs
-at_front quote c cs = suffixed Str (past_units Characters 0 cs)
+at_front quote c cs = suffixed Str (past_units modes.Str 0 cs)
 at_front tick c cs = ticked cs
 at_front digit c cs = suffixed (number_kind (c ∷ cs)) (past_number (c ∷ cs))
 at_front first c cs = word (c ∷ cs)

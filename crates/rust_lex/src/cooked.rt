@@ -1,86 +1,72 @@
 //! Where strings, characters and bytes with escapes end.
 
+ghost use Rattle.rust_escape.specs.Mode.{in_double_quotes, is_raw};
 ghost use Rattle.rust_lex.specs.Ended.{IsEnd};
+ghost use Rattle.rust_lex.specs.Ends as ends;
 ghost use Rattle.rust_lex.specs.Places.{IsPlace, rest_at};
-ghost use Rattle.rust_lex.specs.Quoted as quoted;
-ghost use Rattle.rust_lex.specs.Scan as scan;
-ghost use Rattle.std.specs.Prelude.{◌∷◌, ◌≡◌};
+ghost use Rattle.rust_lex.specs.QuotedScan as quoted;
+ghost use Rattle.std.specs.Prelude.{◌≡◌, false, true};
 
-use crate::escape::{allows, escape_end, line_escape_end, one_end};
-use crate::opener::Alphabet;
 use crate::walk::char_at;
-
-// The place behind a string's unit, which begins with a character before a place.
-#[tactic(auto, unfolding(crate::specs::Quoted::past_unit))]
-#[inline(always)]
-fn unit_end(text: &str, c: char, next: usize, alphabet: Alphabet) -> Option<usize>
-    requires { IsPlace text.now next }
-    ensures { IsEnd text.now next result (quoted.past_unit alphabet (c ∷ rest_at text.now next)) }
-{
-    if c == '"' {
-        return None;
-    }
-    if c == '\\' {
-        return line_escape_end(text, next, alphabet);
-    }
-    if c == '\r' {
-        return one_end(text, next, '\n');
-    }
-    if allows(alphabet, c) {
-        Some(next)
-    } else {
-        None
-    }
-}
+use rust_escape::Mode;
+use rust_escape::lexical::{inside_end, is_plain, lexical_unit};
 
 // The place behind a string, its opening quote having been read.
-#[tactic(auto, using(crate::proofs::Steps::units))]
-pub(crate) fn string_end(text: &str, start: usize, alphabet: Alphabet) -> Option<usize>
-    requires { IsPlace text.now start }
-    ensures { IsEnd text.now start result (scan.past_units alphabet 0 (rest_at text.now start)) }
+#[tactic(auto, using(crate::proofs::Closed::strings))]
+pub(crate) fn string_end(text: &str, start: usize, mode: Mode) -> Option<usize>
+    requires place { IsPlace text.now start }
+    requires quotes { in_double_quotes mode ≡ true }
+    requires cooked { is_raw mode ≡ false }
+    ensures { IsEnd text.now start result (quoted.past_units mode 0 (rest_at text.now start)) }
 {
-    let mut at = start;
-    while at < text.len() {
-        let (c, next) = char_at(text, at);
-        if c == '"' {
-            return Some(next);
-        }
-        let Some(after) = unit_end(text, c, next, alphabet) else {
-            return None;
-        };
-        at = after;
-    }
-    None
+    let Some(quote) = inside_end(mode, text, start) else {
+        return None;
+    };
+    let (_, next) = char_at(text, quote);
+    Some(next)
 }
 
-// The place behind the one unit of a character or a byte.
-#[tactic(auto, using(crate::proofs::PlacesLemmas::rest_end), unfolding(crate::specs::Quoted::past_single))]
-fn single_end(text: &str, start: usize, alphabet: Alphabet) -> Option<usize>
+// The place behind one character, if it stands there.
+#[tactic(auto, using(crate::proofs::PlacesLemmas::rest_end))]
+#[inline(always)]
+fn one_end(text: &str, start: usize, sought: char) -> Option<usize>
     requires { IsPlace text.now start }
-    ensures { IsEnd text.now start result (quoted.past_single alphabet (rest_at text.now start)) }
+    ensures { IsEnd text.now start result (ends.past_one sought (rest_at text.now start)) }
 {
     if start >= text.len() {
         return None;
     }
     let (c, next) = char_at(text, start);
-    if c == '\\' {
-        let end = escape_end(text, next, alphabet)?;
-        return Some(end);
+    if c == sought { Some(next) } else { None }
+}
+
+// The place behind one unit.
+#[tactic(auto, using(crate::proofs::Closed::units))]
+fn unit_end(text: &str, start: usize, mode: Mode) -> Option<usize>
+    requires { IsPlace text.now start }
+    ensures { IsEnd text.now start result (quoted.past_unit mode (rest_at text.now start)) }
+{
+    if start >= text.len() {
+        return None;
     }
-    if allows(alphabet, c) {
-        Some(next)
-    } else {
-        None
+    let (c, next) = char_at(text, start);
+    if is_plain(mode, c) {
+        return Some(next);
+    }
+    let unit = lexical_unit(mode, text, start);
+    match unit.value {
+        Ok(_) => Some(unit.end),
+        Err(_) => None,
     }
 }
 
 // The place behind a character or a byte, its opening quote having been read.
-#[tactic(auto, using(crate::proofs::Steps::characters))]
-pub(crate) fn char_end(text: &str, start: usize, alphabet: Alphabet) -> Option<usize>
+#[tactic(auto, using(crate::proofs::Closed::characters))]
+pub(crate) fn char_end(text: &str, start: usize, mode: Mode) -> Option<usize>
     requires { IsPlace text.now start }
-    ensures { IsEnd text.now start result (quoted.past_char alphabet (rest_at text.now start)) }
+    ensures { IsEnd text.now start result (quoted.past_char mode (rest_at text.now start)) }
 {
-    let Some(after) = single_end(text, start, alphabet) else {
+    let Some(after) = unit_end(text, start, mode) else {
         return None;
     };
     let Some(end) = one_end(text, after, '\'') else {

@@ -6,10 +6,9 @@
 //!
 //! - `delimiter`: what encloses a group.
 //! - `piece`: the classes of pieces.
-//! - `opener`: what a literal in quotes begins with.
 //! - `front`: what a character begins.
 //! - `walk`: one character on from a place, and on behind those that pass a test.
-//! - `escape`, `cooked`, `raw`, `comment`, `number`, `word`: where each of these ends.
+//! - `cooked`, `raw`, `comment`, `number`, `word`: where each of these ends.
 //! - `scan`: the piece at a place, and whether a mark is joint.
 //! - `laws`: laws of the rules.
 #![tactic(auto)]
@@ -17,11 +16,9 @@
 pub mod comment;
 pub mod cooked;
 pub mod delimiter;
-pub mod escape;
 pub mod front;
 pub mod laws;
 pub mod number;
-pub mod opener;
 pub mod piece;
 pub mod raw;
 pub mod scan;

@@ -1,28 +1,24 @@
 //! Where raw strings end.
 
-ghost use Rattle.rust_lex.specs.Chars as chars;
-ghost use Rattle.rust_lex.specs.Escape as escape;
 ghost use Rattle.rust_lex.specs.Ended.{IsEnd};
 ghost use Rattle.rust_lex.specs.Places.{IsPlace, rest_at};
-ghost use Rattle.rust_lex.specs.Quoted as quoted;
-ghost use Rattle.rust_lex.specs.Scan as scan;
-ghost use Rattle.std.specs.Prelude.{◌≡◌, ◌&&◌, ◌||◌, ◌==◌, not};
+ghost use Rattle.rust_lex.specs.QuotedScan as quoted;
+ghost use Rattle.std.specs.Prelude.{◌≡◌};
 
-use crate::escape::allows;
-use crate::opener::Alphabet;
 use crate::walk::{Feed, begins, char_at};
+use rust_escape::Mode;
+use rust_escape::lexical::is_plain;
 
 // Whether a character may stand in a raw string before a place.
 #[inline(always)]
-fn stands(text: &str, c: char, next: usize, alphabet: Alphabet) -> bool
+fn stands(text: &str, c: char, next: usize, mode: Mode) -> bool
     requires { IsPlace text.now next }
-    ensures { result ≡ (escape.allows alphabet c && (not (c == 13) || chars.begins chars.is_feed (rest_at text.now next))) }
+    ensures { result ≡ quoted.stands mode c (rest_at text.now next) }
 {
-    if c == '\r' {
-        allows(alphabet, c) & begins::<Feed>(text, next)
-    } else {
-        allows(alphabet, c)
+    if is_plain(mode, c) {
+        return true;
     }
+    (c == '\r') & begins::<Feed>(text, next)
 }
 
 // The place behind as many `#`.
@@ -49,9 +45,9 @@ fn marks_end(text: &str, start: usize, count: usize) -> Option<usize>
 
 // The place behind the end of a raw string, its opening quote having been read.
 #[tactic(auto, using(crate::proofs::Steps::raws))]
-fn raw_end(text: &str, start: usize, alphabet: Alphabet, count: usize) -> Option<usize>
+fn raw_end(text: &str, start: usize, mode: Mode, count: usize) -> Option<usize>
     requires { IsPlace text.now start }
-    ensures { IsEnd text.now start result (quoted.past_raw alphabet count (rest_at text.now start)) }
+    ensures { IsEnd text.now start result (quoted.past_raw mode count (rest_at text.now start)) }
 {
     let mut at = start;
     while at < text.len() {
@@ -61,7 +57,7 @@ fn raw_end(text: &str, start: usize, alphabet: Alphabet, count: usize) -> Option
                 return Some(end);
             }
         }
-        if !stands(text, c, next, alphabet) {
+        if !stands(text, c, next, mode) {
             return None;
         }
         at = next;
@@ -71,9 +67,9 @@ fn raw_end(text: &str, start: usize, alphabet: Alphabet, count: usize) -> Option
 
 // The place behind a raw string, its `r` having been read.
 #[tactic(auto, using(crate::proofs::Steps::hashes))]
-pub(crate) fn hashes_end(text: &str, start: usize, alphabet: Alphabet) -> Option<usize>
+pub(crate) fn hashes_end(text: &str, start: usize, mode: Mode) -> Option<usize>
     requires { IsPlace text.now start }
-    ensures { IsEnd text.now start result (scan.past_hashes alphabet 0 (rest_at text.now start)) }
+    ensures { IsEnd text.now start result (quoted.past_hashes mode 0 (rest_at text.now start)) }
 {
     let mut at = start;
     let mut count = 0usize;
@@ -83,7 +79,7 @@ pub(crate) fn hashes_end(text: &str, start: usize, alphabet: Alphabet) -> Option
             if !((c == '"') & (count <= 255)) {
                 return None;
             }
-            let end = raw_end(text, next, alphabet, count)?;
+            let end = raw_end(text, next, mode, count)?;
             return Some(end);
         }
         count += 1;

@@ -7,6 +7,7 @@ ghost use Rattle.rust_lex.specs.Piece as piece;
 ghost use Rattle.rust_lex.specs.Ended.{IsEnd, IsScanned};
 ghost use Rattle.rust_lex.specs.Places.{IsBehind, IsPieceAt, IsPlace, rest_at};
 ghost use Rattle.rust_lex.specs.Quoted as quoted;
+ghost use Rattle.rust_lex.specs.QuotedScan as tails;
 ghost use Rattle.rust_lex.specs.Scan as scan;
 ghost use Rattle.std.specs.Prelude.{◌≡◌, ◌&&◌, ◌==◌, not, true};
 
@@ -14,56 +15,46 @@ use crate::comment::slash;
 use crate::cooked::{char_end, string_end};
 use crate::front::{Front, front_of};
 use crate::number::number_end;
-use crate::opener::{Alphabet, Opener};
 use crate::piece::{LiteralKind, PieceKind};
 use crate::raw::hashes_end;
 use crate::walk::{Next, SlashOrStar, begins, char_at, past, suffix_end};
 use crate::word::{begins_lifetime, begins_raw_name, opener_end, raw_mark_end};
+use rust_escape::Mode;
 
-// The place behind the inside of a literal in quotes.
-fn inside_end(text: &str, start: usize, opener: Opener) -> Option<usize>
+// The place behind a literal in quotes, whose opening has been read.
+fn tail_end(text: &str, start: usize, mode: Mode) -> Option<usize>
     requires { IsPlace text.now start }
-    ensures { IsEnd text.now start result (scan.past_inside opener (rest_at text.now start)) }
+    ensures { IsEnd text.now start result (tails.past_tail mode (rest_at text.now start)) }
 {
-    match opener {
-        Opener::Cooked(alphabet) => string_end(text, start, alphabet),
-        Opener::Raw(alphabet) => hashes_end(text, start, alphabet),
-        Opener::Byte => char_end(text, start, Alphabet::Bytes),
-        Opener::Char => char_end(text, start, Alphabet::Characters),
+    match mode {
+        Mode::Char | Mode::Byte => char_end(text, start, mode),
+        Mode::Str | Mode::ByteStr | Mode::CStr => string_end(text, start, mode),
+        Mode::RawStr | Mode::RawByteStr | Mode::RawCStr => hashes_end(text, start, mode),
     }
 }
 
-fn string_kind(alphabet: Alphabet) -> LiteralKind
-    ensures { result ≡ quoted.string_kind alphabet }
+fn literal_kind(mode: Mode) -> LiteralKind
+    ensures { result ≡ quoted.literal_kind mode }
 {
-    match alphabet {
-        Alphabet::Characters => LiteralKind::Str,
-        Alphabet::Bytes => LiteralKind::ByteStr,
-        Alphabet::NoZero => LiteralKind::CStr,
+    match mode {
+        Mode::Str | Mode::RawStr => LiteralKind::Str,
+        Mode::ByteStr | Mode::RawByteStr => LiteralKind::ByteStr,
+        Mode::CStr | Mode::RawCStr => LiteralKind::CStr,
+        Mode::Byte => LiteralKind::Byte,
+        Mode::Char => LiteralKind::Char,
     }
 }
 
-fn literal_kind(opener: Opener) -> LiteralKind
-    ensures { result ≡ quoted.literal_kind opener }
-{
-    match opener {
-        Opener::Cooked(alphabet) => string_kind(alphabet),
-        Opener::Raw(alphabet) => string_kind(alphabet),
-        Opener::Byte => LiteralKind::Byte,
-        Opener::Char => LiteralKind::Char,
-    }
-}
-
-// A literal in quotes, whose inside begins at a place.
-fn quoted(text: &str, start: usize, at: usize, opener: Opener) -> Option<(PieceKind, usize)>
+// A literal in quotes, whose opening ends at a place.
+fn quoted(text: &str, start: usize, at: usize, mode: Mode) -> Option<(PieceKind, usize)>
     requires { IsBehind text.now start at }
-    ensures { IsScanned text.now start result (scan.suffixed (quoted.literal_kind opener) (scan.past_inside opener (rest_at text.now at))) }
+    ensures { IsScanned text.now start result (scan.suffixed (quoted.literal_kind mode) (tails.past_tail mode (rest_at text.now at))) }
 {
-    let Some(end) = inside_end(text, at, opener) else {
+    let Some(end) = tail_end(text, at, mode) else {
         return None;
     };
     Some((
-        PieceKind::Literal(literal_kind(opener)),
+        PieceKind::Literal(literal_kind(mode)),
         suffix_end(text, end),
     ))
 }
@@ -74,7 +65,7 @@ fn ticked(text: &str, start: usize, at: usize) -> Option<(PieceKind, usize)>
     requires { IsBehind text.now start at }
     ensures { IsScanned text.now start result (scan.ticked (rest_at text.now at)) }
 {
-    if let Some(end) = char_end(text, at, Alphabet::Characters) {
+    if let Some(end) = char_end(text, at, Mode::Char) {
         return Some((PieceKind::Literal(LiteralKind::Char), suffix_end(text, end)));
     }
     if begins_lifetime(text, at) {
@@ -97,7 +88,7 @@ fn word(text: &str, at: usize, next: usize) -> Option<(PieceKind, usize)>
         }
     }
     match opener_end(text, at) {
-        Some((opener, inside)) => quoted(text, at, inside, opener),
+        Some((mode, tail)) => quoted(text, at, tail, mode),
         None => Some((PieceKind::Ident, past::<Next>(text, next))),
     }
 }
@@ -129,7 +120,7 @@ fn scan(text: &str, at: usize) -> Option<(PieceKind, usize)>
         Front::White => Some((PieceKind::White, next)),
         Front::Opens(delimiter) => Some((PieceKind::Open(delimiter), next)),
         Front::Closes(delimiter) => Some((PieceKind::Close(delimiter), next)),
-        Front::Quote => quoted(text, at, next, Opener::Cooked(Alphabet::Characters)),
+        Front::Quote => quoted(text, at, next, Mode::Str),
         Front::Tick => ticked(text, at, next),
         Front::Digit => number(text, at),
         Front::First => word(text, at, next),
@@ -213,7 +204,7 @@ fn begins_char(text: &str, at: usize) -> bool
     if c != '\'' {
         return false;
     }
-    char_end(text, next, Alphabet::Characters).is_some()
+    char_end(text, next, Mode::Char).is_some()
 }
 
 /// Whether the mark that stands at a place is joint: a `'` always is, another where a mark or a

@@ -5,8 +5,8 @@ ghost use Rattle.rust_lex.specs.Places.{IsPlace, rest_at};
 ghost use Rattle.rust_lex.specs.Word as word;
 ghost use Rattle.std.specs.Prelude.{◌≡◌};
 
-use crate::opener::{Alphabet, Opener};
 use crate::walk::{First, Next, QuoteOrHash, Tick, TickOrHash, begins, char_at, past};
+use rust_escape::Mode;
 
 // Whether the identifier at a place is this word.
 #[tactic(auto, using(crate::proofs::Steps::words))]
@@ -108,7 +108,7 @@ pub(crate) fn begins_lifetime(text: &str, at: usize) -> bool
 // The opening of a literal with a prefix, and the place behind it.
 #[tactic(auto, using(crate::proofs::Steps::openers))]
 #[inline(always)]
-pub(crate) fn opener_end(text: &str, at: usize) -> Option<(Opener, usize)>
+pub(crate) fn opener_end(text: &str, at: usize) -> Option<(Mode, usize)>
     requires { IsPlace text.now at }
     ensures { IsOpener text.now at result }
 {
@@ -125,31 +125,18 @@ pub(crate) fn opener_end(text: &str, at: usize) -> Option<(Opener, usize)>
     let (d, after) = char_at(text, next);
     if c == 'r' {
         return if (d == '"') | (d == '#') {
-            Some((Opener::Raw(Alphabet::Characters), next))
+            Some((Mode::RawStr, next))
         } else {
             None
         };
     }
     let raw = (d == 'r') & begins::<QuoteOrHash>(text, after);
-    if c == 'c' {
-        if d == '"' {
-            return Some((Opener::Cooked(Alphabet::NoZero), after));
-        }
-        return if raw {
-            Some((Opener::Raw(Alphabet::NoZero), after))
-        } else {
-            None
-        };
-    }
-    if d == '"' {
-        return Some((Opener::Cooked(Alphabet::Bytes), after));
-    }
-    if d == '\'' {
-        return Some((Opener::Byte, after));
-    }
-    if raw {
-        Some((Opener::Raw(Alphabet::Bytes), after))
-    } else {
-        None
+    match c {
+        'b' if raw => Some((Mode::RawByteStr, after)),
+        'c' if raw => Some((Mode::RawCStr, after)),
+        'b' if d == '"' => Some((Mode::ByteStr, after)),
+        'c' if d == '"' => Some((Mode::CStr, after)),
+        'b' if d == '\'' => Some((Mode::Byte, after)),
+        _ => None,
     }
 }

@@ -1,5 +1,5 @@
-use Rattle.std.proofs.Common.{◌≤◌, arith, length}
-use Rattle.rust_escape.proofs.Closing.{closes_here, seeks_on, closes_nowhere, closes_never}
+use Rattle.std.proofs.Common.{◌≤◌, arith, length, sym, ◌∙◌}
+use Rattle.rust_escape.proofs.Closing.{closes_here, seeks_on, seeks_plain, closes_nowhere, closes_never}
 use Rattle.rust_escape.proofs.lexical.inside_end.Goals as goal
 
 pub returns-then-c-eq34 : goal.returns-then-c-eq34
@@ -16,3 +16,7 @@ returns-in-Err c =
 
 pub returns : goal.returns
 returns c = let l : length c.args.text.now ≤ c.loop-at.at = omega arith in closes_never c.args.mode c.args.text.now c.args.start c.loop-at.at c.loop-at.invariant l
+
+pub loop-at-preserved-then-is_plain : goal.loop-at-preserved-then-is_plain
+loop-at-preserved-then-is_plain c =
+    seeks_plain c.args.mode c.args.text.now c.args.start c.loop-at.at c.char_at-c.result.0 c.char_at-c.result.1 c.loop-at.invariant c.char_at-c.ensures.rest c.if-c-eq34.false (sym c.is_plain.ensures ∙ c.if-is_plain.true) c.char_at-c.ensures.behind

@@ -1,10 +1,10 @@
 use Rattle.std.proofs.Common.{◌-◌, length}
-use Rattle.rust_lex.specs.Scan.{past_hashes}
+use Rattle.rust_lex.specs.QuotedScan.{past_hashes}
 use Rattle.rust_lex.proofs.Walks.{WalksIn}
 use Rattle.rust_lex.proofs.raw.hashes_end.Given as goal
 
 abbrev pub invariant-loop-at : goal.invariant-loop-at
-invariant-loop-at l = WalksIn (past_hashes l.alphabet) l.count l.text l.start l.at
+invariant-loop-at l = WalksIn (past_hashes l.mode) l.count l.text l.start l.at
 
 abbrev pub decreases-loop-at : goal.decreases-loop-at
 decreases-loop-at l = length l.text - l.at

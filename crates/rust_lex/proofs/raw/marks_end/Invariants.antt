@@ -1,5 +1,5 @@
 use Rattle.rust_lex.proofs.Walks.{WalksDown}
-use Rattle.rust_lex.specs.Quoted.{past_marks}
+use Rattle.rust_lex.specs.QuotedScan.{past_marks}
 use Rattle.rust_lex.proofs.raw.marks_end.Given as goal
 
 abbrev pub invariant-loop-left : goal.invariant-loop-left
