@@ -12,3 +12,4 @@ pub mod Spellings
 pub mod Values
 pub mod Hex
 pub mod Written
+pub mod Lexed

@@ -1,7 +1,7 @@
 -- The values of literals in double quotes.
-use Rattle.std.specs.Prelude.{◌≡◌, ◌<◌, ℕ, List, [], ◌∷◌, ◌++◌, map}
+use Rattle.std.specs.Prelude.{◌≡◌, ◌<◌, ◌==◌, ℕ, Bool, List, [], ◌∷◌, ◌++◌, map}
 use Rattle.std.specs.Char.{encode_utf8}
-use Rattle.std.specs.List.{AllByRecursion, flat_map}
+use Rattle.std.specs.List.{AllByRecursion, flat_map, list_any}
 use Rattle.rust_escape.specs.declared.mode.Mode.{Mode}
 use Rattle.rust_escape.specs.Unit.{Strict, IsInside}
 use Rattle.rust_escape.specs.Value.{byte_value}
@@ -62,3 +62,7 @@ pub record IsCStrValue (text bs : List ℕ) : Type 0 where
 -- each number is that of a byte
 abbrev pub AreBytes : List ℕ → Type 0
 AreBytes bs = AllByRecursion (λ b. b < 256) bs
+
+-- a carriage return stands among characters
+abbrev pub has_return : List ℕ → Bool
+has_return cs = list_any (λ c. c == 13) cs
