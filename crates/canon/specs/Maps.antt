@@ -4,8 +4,8 @@ use Rattle.rust_map.specs.Sources.{Sources, with_text}
 use Rattle.canon.specs.declared.fault.Fault.{Fault}
 use Rattle.canon.specs.declared.fault.Fault.TheVariants.{NotUtf8, Lexical, Syntax, MapFull, Memory, Reading, Writing}
 
--- a fault leaves the map as it was where the text has no forest or no room; a text of other fault has been
--- put in; and where memory was refused, it has or has not
+-- what a fault leaves of the map: a syntax fault the map with the text, a lexical fault and a full map
+-- the map as it was, and refused memory the one or the other
 abbrev pub IsLeft : List ℕ → Sources → Sources → Fault → Type 0
 IsLeft text old new (Lexical place) = new ≡ old
 IsLeft text old new (Syntax place) = new ≡ with_text old text
