@@ -13,11 +13,11 @@ ghost use Rattle.std.specs.Str.{chars};
 use crate::builder::Builder;
 use crate::delimiter::Delimiter;
 use crate::tree::{Group, TokenStream, TokenTree};
+use rust_escape::place::char_at;
 use rust_leaf::ident::Ident;
 use rust_leaf::literal::Literal;
 use rust_leaf::punct::{Punct, Spacing};
 use rust_lex::piece::DocKind;
-use rust_lex::walk::char_at;
 use rust_map::span::Span;
 use std::alloc::{AllocError, Global};
 

@@ -4,7 +4,7 @@ ghost use Rattle.rust_map.specs.Places.{place_of};
 ghost use Rattle.std.specs.Prelude.{◌≡◌, ◌≤◌, length};
 ghost use Rattle.std.specs.Str.{chars};
 
-use rust_lex::walk::char_at;
+use rust_escape::place::char_at;
 use rust_map::LineColumn;
 
 /// The place behind so many characters of a text: line from 1, column in characters from 0.

@@ -13,12 +13,12 @@ use crate::builder::{Builder, Stretch};
 use crate::delimiter::Delimiter;
 use crate::doc::{doc_text, put_doc};
 use crate::tree::TokenTree;
+use rust_escape::place::char_at;
 use rust_leaf::ident::Ident;
 use rust_leaf::literal::Literal;
 use rust_leaf::punct::{Punct, Spacing};
 use rust_lex::delimiter::Delimiter as Marks;
 use rust_lex::piece::PieceKind;
-use rust_lex::walk::char_at;
 use rust_map::span::Span;
 use std::alloc::{AllocError, Global};
 

@@ -21,7 +21,7 @@ pub mod error;
 pub mod lexical;
 pub mod mixed_unit;
 pub mod mode;
-mod place;
+pub mod place;
 pub mod read;
 pub mod single;
 pub mod unescape;

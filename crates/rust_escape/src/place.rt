@@ -3,9 +3,9 @@
 ghost use Rattle.rust_escape.specs.Places.{IsBehind, IsPlace, rest_at};
 ghost use Rattle.std.specs.Prelude.{◌∷◌, ◌≡◌, ◌<◌, length};
 
-// The character at a place, and the place behind it.
+/// The character at a place of a text, and the place behind it.
 #[inline(always)]
-pub(crate) fn char_at(text: &str, at: usize) -> (char, usize)
+pub fn char_at(text: &str, at: usize) -> (char, usize)
     requires place { IsPlace text.now at }
     requires more { at < length text.now }
     ensures rest { rest_at text.now at ≡ result.0 ∷ rest_at text.now result.1 }

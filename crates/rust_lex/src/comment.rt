@@ -7,7 +7,8 @@ ghost use Rattle.rust_lex.specs.Scan as scan;
 ghost use Rattle.std.specs.Prelude.{◌≡◌};
 
 use crate::piece::{DocKind, PieceKind};
-use crate::walk::{Feed, NotFeed, WithinLine, begins, char_at, past};
+use crate::walk::{Feed, NotFeed, WithinLine, begins, past};
+use rust_escape::place::char_at;
 
 // The place behind the end of a comment, its opening having been read.
 #[tactic(auto, using(crate::proofs::Steps::comments))]

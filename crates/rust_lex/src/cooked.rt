@@ -7,9 +7,9 @@ ghost use Rattle.rust_lex.specs.Places.{IsPlace, rest_at};
 ghost use Rattle.rust_lex.specs.QuotedScan as quoted;
 ghost use Rattle.std.specs.Prelude.{◌≡◌, false, true};
 
-use crate::walk::char_at;
 use rust_escape::Mode;
 use rust_escape::lexical::{inside_end, is_plain, lexical_unit};
+use rust_escape::place::char_at;
 
 // The place behind a string, its opening quote having been read.
 #[tactic(auto, using(crate::proofs::Closed::strings))]

@@ -7,7 +7,7 @@
 //! - `delimiter`: what encloses a group.
 //! - `piece`: the classes of pieces.
 //! - `front`: what a character begins.
-//! - `walk`: one character on from a place, and on behind those that pass a test.
+//! - `walk`: on from a place behind the characters that pass a test.
 //! - `cooked`, `raw`, `comment`, `number`, `word`: where each of these ends.
 //! - `scan`: the piece at a place, and whether a mark is joint.
 //! - `laws`: laws of the rules.

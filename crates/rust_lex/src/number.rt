@@ -8,7 +8,8 @@ ghost use Rattle.rust_lex.specs.Places.{IsPlace, rest_at};
 ghost use Rattle.std.specs.Prelude.{◌≡◌, ◌≤◌, ◌||◌};
 
 use crate::piece::LiteralKind;
-use crate::walk::{Digit, DigitOrLine, DotOrFirst, Underscore, begins, char_at, past};
+use crate::walk::{Digit, DigitOrLine, DotOrFirst, Underscore, begins, past};
+use rust_escape::place::char_at;
 
 // The place behind at most one sign.
 #[tactic(auto, using(crate::proofs::PlacesLemmas::rest_end))]

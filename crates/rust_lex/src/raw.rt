@@ -5,9 +5,10 @@ ghost use Rattle.rust_lex.specs.Places.{IsPlace, rest_at};
 ghost use Rattle.rust_lex.specs.QuotedScan as quoted;
 ghost use Rattle.std.specs.Prelude.{◌≡◌};
 
-use crate::walk::{Feed, begins, char_at};
+use crate::walk::{Feed, begins};
 use rust_escape::Mode;
 use rust_escape::lexical::is_plain;
+use rust_escape::place::char_at;
 
 // Whether a character may stand in a raw string before a place.
 #[inline(always)]

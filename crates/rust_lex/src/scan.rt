@@ -17,9 +17,10 @@ use crate::front::{Front, front_of};
 use crate::number::number_end;
 use crate::piece::{LiteralKind, PieceKind};
 use crate::raw::hashes_end;
-use crate::walk::{Next, SlashOrStar, begins, char_at, past, suffix_end};
+use crate::walk::{Next, SlashOrStar, begins, past, suffix_end};
 use crate::word::{begins_lifetime, begins_raw_name, opener_end, raw_mark_end};
 use rust_escape::Mode;
+use rust_escape::place::char_at;
 
 // The place behind a literal in quotes, whose opening has been read.
 fn tail_end(text: &str, start: usize, mode: Mode) -> Option<usize>

@@ -1,43 +1,15 @@
-//! One character on from a place of a text, and on behind those that pass a test.
+//! On from a place of a text behind the characters that pass a test.
 
 ghost use Rattle.rust_lex.specs.Chars as chars;
 ghost use Rattle.rust_lex.specs.Comment as comment;
 ghost use Rattle.rust_lex.specs.Ends as ends;
 ghost use Rattle.rust_lex.specs.Number as number;
 ghost use Rattle.rust_lex.specs.Ended.{IsFrom};
-ghost use Rattle.rust_lex.specs.Places.{IsBehind, IsPlace, rest_at};
-ghost use Rattle.std.specs.Prelude.{◌∷◌, ◌≡◌, ◌<◌, length};
+ghost use Rattle.rust_lex.specs.Places.{IsPlace, rest_at};
+ghost use Rattle.std.specs.Prelude.{◌≡◌};
 
+use rust_escape::place::char_at;
 use unicode_ident::{is_xid_continue, is_xid_start};
-
-/// The character at a place of a text, and the place behind it, both in bytes from 0.
-#[inline(always)]
-pub fn char_at(text: &str, at: usize) -> (char, usize)
-    requires place { IsPlace text.now at }
-    requires more { at < length text.now }
-    ensures rest { rest_at text.now at ≡ result.0 ∷ rest_at text.now result.1 }
-    ensures behind { IsBehind text.now at result.1 }
-{
-    let byte = text.as_bytes()[at];
-    if byte < 128 {
-        (char::from(byte), at + 1)
-    } else {
-        wide_at(text, at)
-    }
-}
-
-fn wide_at(text: &str, at: usize) -> (char, usize)
-    requires place { IsPlace text.now at }
-    requires more { at < length text.now }
-    ensures rest { rest_at text.now at ≡ result.0 ∷ rest_at text.now result.1 }
-    ensures behind { IsBehind text.now at result.1 }
-{
-    let rest = &text[at..];
-    match rest.chars().next() {
-        Some(c) => (c, at + c.len_utf8()),
-        None => unreachable!(),
-    }
-}
 
 #[tactic(auto, unfolding(crate::specs::Chars::is_first))]
 #[inline(always)]

@@ -5,8 +5,9 @@ ghost use Rattle.rust_lex.specs.Places.{IsPlace, rest_at};
 ghost use Rattle.rust_lex.specs.Word as word;
 ghost use Rattle.std.specs.Prelude.{◌≡◌};
 
-use crate::walk::{First, Next, QuoteOrHash, Tick, TickOrHash, begins, char_at, past};
+use crate::walk::{First, Next, QuoteOrHash, Tick, TickOrHash, begins, past};
 use rust_escape::Mode;
+use rust_escape::place::char_at;
 
 // Whether the identifier at a place is this word.
 #[tactic(auto, using(crate::proofs::Steps::words))]
