@@ -5,6 +5,7 @@
 //! - `rows`: texts and their printed tokens.
 //! - `places`: spans, lines and columns, and the room of the map.
 //! - `streams`: streams that are built by hand.
+//! - `trees`: streams walked tree by tree, and what trees are by themselves.
 #![tactic(auto)]
 
 #[cfg(test)]
@@ -15,3 +16,5 @@ mod places;
 mod rows;
 #[cfg(test)]
 mod streams;
+#[cfg(test)]
+mod trees;
