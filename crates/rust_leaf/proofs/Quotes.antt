@@ -17,7 +17,7 @@ use Rattle.rust_leaf.proofs.Texts.{chars_behind}
 pub heads : (x y : ℕ) (xs ys : List ℕ) → x ∷ xs ≡ y ∷ ys → (x ≡ y) × (xs ≡ ys)
 heads x y xs ys e = let h : x ≡ y = cc in let t : xs ≡ ys = cc in (h, t)
 
-apart : (x y : ℕ) (xs ys : List ℕ) → x < y → x ∷ xs ≡ y ∷ ys → ⊥
+pub apart : (x y : ℕ) (xs ys : List ℕ) → x < y → x ∷ xs ≡ y ∷ ys → ⊥
 apart x y xs ys l e = let (h, _) = heads x y xs ys e in omega arith
 
 -- a character of ASCII at the front of a text

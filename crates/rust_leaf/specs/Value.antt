@@ -1,9 +1,10 @@
 -- The values of literals in double quotes.
-use Rattle.std.specs.Prelude.{◌≡◌, ◌<◌, ◌==◌, ℕ, Bool, List, [], ◌∷◌, ◌++◌, map}
+use Rattle.std.specs.Prelude.{◌≡◌, ◌<◌, ◌==◌, ℕ, Bool, List, [], ◌∷◌, ◌++◌, Some, false, if◌then◌else◌, map}
 use Rattle.std.specs.Char.{encode_utf8}
 use Rattle.std.specs.List.{AllByRecursion, flat_map, list_any}
 use Rattle.rust_escape.specs.declared.mode.Mode.{Mode}
-use Rattle.rust_escape.specs.Unit.{Strict, IsInside}
+use Rattle.rust_escape.specs.Mode.{is_raw}
+use Rattle.rust_escape.specs.Unit.{Rule, Lexical, Strict, IsUnit, IsInside}
 use Rattle.rust_escape.specs.Value.{byte_value}
 use Rattle.rust_escape.specs.declared.value.Value.{Value}
 use Rattle.rust_escape.specs.declared.value.Value.TheVariants.{Character, HighByte}
@@ -11,12 +12,21 @@ use Rattle.rust_leaf.specs.Quoted.{IsQuoted, IsLiteralOf}
 use Rattle.rust_leaf.specs.declared.quoted.Content.{Content}
 use Rattle.rust_leaf.specs.declared.quoted.Content.TheVariants.{Text, Bytes, CText}
 
--- the text is a literal, and the units of its inside spell the values, by the rule of the escape calls
+-- the rule by which an inside is read: one that isn't raw by that of the escape calls; in a raw one each character
+-- stands for itself, also a carriage return before a line feed, as to the lexer
+abbrev pub value_rule : Mode → Rule
+value_rule mode = if is_raw mode then Lexical else Strict
+
+-- the values of all units of such a literal are taken: a tool of the proofs
+abbrev pub TakesValues : (Value → Type 0) → Mode → Type 0
+TakesValues takes mode = (cs rest : List ℕ) (v : Value) → IsUnit (value_rule mode) mode cs rest (Some v) → takes v
+
+-- the text is a literal, and the units of its inside spell the values
 pub record HasValues (content : Content) (text : List ℕ) (values : List Value) : Type 0 where
   pub mode : Mode
   pub inside : List ℕ
   pub quoted : IsQuoted content mode text inside
-  pub units : IsInside Strict mode inside [] values
+  pub units : IsInside (value_rule mode) mode inside [] values
 
 -- the text is a literal, and its inside isn't made of units, so that it spells no values
 abbrev pub IsMalformed : Content → List ℕ → Type 0
@@ -66,3 +76,7 @@ AreBytes bs = AllByRecursion (λ b. b < 256) bs
 -- a carriage return stands among characters
 abbrev pub has_return : List ℕ → Bool
 has_return cs = list_any (λ c. c == 13) cs
+
+-- one stands among those of a literal that isn't raw
+abbrev pub has_barred_return : Mode → List ℕ → Bool
+has_barred_return mode cs = if is_raw mode then false else has_return cs

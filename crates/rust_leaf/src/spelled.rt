@@ -1,18 +1,21 @@
 //! What the units of an inside spell, one behind the other.
 
-ghost use Rattle.rust_escape.specs.Calls.{TakesUnits};
 ghost use Rattle.rust_escape.specs.Error.{is_fatal};
-ghost use Rattle.rust_escape.specs.Unit.{IsInside, Strict};
+ghost use Rattle.rust_escape.specs.Places.{IsPlace};
+ghost use Rattle.rust_escape.specs.Reads.{ReadsUnit};
+ghost use Rattle.rust_escape.specs.Unit.{IsInside};
 ghost use Rattle.rust_escape.specs.declared.value.Value.{Value};
 ghost use Rattle.rust_escape.specs.declared.error.EscapeError.{EscapeError};
+ghost use Rattle.rust_leaf.specs.Value.{TakesValues, value_rule};
 ghost use Rattle.rust_leaf.specs.declared.value.ConversionErrorKind.TheVariants.{FailedToUnescape, InvalidLiteralKind};
-ghost use Rattle.std.specs.Prelude.{[], ◌≡◌, Err, IfOk, List, true};
+ghost use Rattle.std.specs.Prelude.{[], ◌<◌, ◌≡◌, Err, IfOk, length, List, true};
 ghost use Rattle.std.specs.Str.{chars};
 
 use crate::escape::push_bare;
 use crate::value::ConversionErrorKind;
+use rust_escape::lexical::lexical_unit;
 use rust_escape::mode::Mode;
-use rust_escape::read::unit;
+use rust_escape::read::{Reading, unit};
 use rust_escape::value::Value;
 use std::alloc::{AllocError, Global};
 
@@ -81,7 +84,21 @@ impl Spelling for Vec<u8> {
     }
 }
 
-/// What the units of an inside spell, by the rule of the escape calls.
+// The unit at a place of an inside, or what is wrong there.
+fn value_unit(mode: Mode, inside: &str, at: usize) -> Reading
+    requires place { IsPlace inside.now at }
+    requires more { at < length inside.now }
+    ensures { ReadsUnit (value_rule mode) mode inside.now at result }
+{
+    match mode {
+        Mode::RawStr | Mode::RawByteStr | Mode::RawCStr => lexical_unit(mode, inside, at),
+        Mode::Char | Mode::Byte | Mode::Str | Mode::ByteStr | Mode::CStr => {
+            unit(mode, inside, at)
+        }
+    }
+}
+
+/// What the units of an inside spell, by the rule of its mode.
 ///
 /// FailedToUnescape: the first unit that is malformed.
 pub(crate) fn spelled<S: Spelling>(
@@ -89,16 +106,16 @@ pub(crate) fn spelled<S: Spelling>(
     mode: Mode,
     inside: &str,
 ) -> Result<S, ConversionErrorKind>
-    requires { TakesUnits S.takes mode }
-    ensures value { IfOk result (λ out. (values : List Value) × IsInside Strict mode (chars inside.now) [] values × S.holds out values) }
+    requires { TakesValues S.takes mode }
+    ensures value { IfOk result (λ out. (values : List Value) × IsInside (value_rule mode) mode (chars inside.now) [] values × S.holds out values) }
     ensures kind { result ≡ Err InvalidLiteralKind → ⊥ }
-    ensures malformed { (error : EscapeError) → result ≡ Err (FailedToUnescape error) → (values : List Value) → IsInside Strict mode (chars inside.now) [] values → ⊥ }
+    ensures malformed { (error : EscapeError) → result ≡ Err (FailedToUnescape error) → (values : List Value) → IsInside (value_rule mode) mode (chars inside.now) [] values → ⊥ }
     ensures fatal { (error : EscapeError) → result ≡ Err (FailedToUnescape error) → is_fatal error ≡ true }
 {
     let mut out = S::with_room(alloc, inside.len())?;
     let mut at = 0usize;
     while at < inside.len() {
-        let reading = unit(mode, inside, at);
+        let reading = value_unit(mode, inside, at);
         if let Some(value) = reading.value? {
             out.put(value)?;
         }

@@ -1,12 +1,11 @@
 //! The values of literals in double quotes.
 
-ghost use Rattle.rust_escape.specs.Calls.{TakesUnits};
 ghost use Rattle.rust_escape.specs.Error.{is_fatal};
 ghost use Rattle.rust_escape.specs.declared.value.Value.{Value};
 ghost use Rattle.rust_escape.specs.declared.error.EscapeError.{EscapeError};
 ghost use Rattle.rust_leaf.specs.Leaf.{literal_text, text_of};
 ghost use Rattle.rust_leaf.specs.Quoted.{IsLiteralOf, cooked, raw};
-ghost use Rattle.rust_leaf.specs.Value.{HasValues, IsByteStr, IsByteStrValue, IsCStr, IsCStrValue, IsMalformed, IsMalformedByteStr, IsMalformedCStr, IsMalformedStr, IsStr, IsStrValue};
+ghost use Rattle.rust_leaf.specs.Value.{HasValues, IsByteStr, IsByteStrValue, IsCStr, IsCStrValue, IsMalformed, IsMalformedByteStr, IsMalformedCStr, IsMalformedStr, IsStr, IsStrValue, TakesValues};
 ghost use Rattle.rust_leaf.specs.declared.quoted.Content.TheVariants.{Bytes, CText, Text};
 ghost use Rattle.rust_leaf.specs.declared.value.ConversionErrorKind.TheVariants.{FailedToUnescape, InvalidLiteralKind, Memory};
 ghost use Rattle.std.specs.Prelude.{◌≡◌, ◌↔◌, Err, IfOk, List, true};
@@ -52,8 +51,8 @@ fn value_of<S: Spelling>(
     text: &str,
     content: Content,
 ) -> Result<S, ConversionErrorKind>
-    requires cooked { TakesUnits S.takes (cooked content) }
-    requires raw { TakesUnits S.takes (raw content) }
+    requires cooked { TakesValues S.takes (cooked content) }
+    requires raw { TakesValues S.takes (raw content) }
     ensures value { IfOk result (λ out. (values : List Value) × HasValues content (chars text.now) values × S.holds out values) }
     ensures kind { result ≡ Err InvalidLiteralKind ↔ (IsLiteralOf content (chars text.now) → ⊥) }
     ensures malformed { (error : EscapeError) → result ≡ Err (FailedToUnescape error) → IsMalformed content (chars text.now) }
@@ -68,8 +67,11 @@ fn value_of<S: Spelling>(
 impl Literal {
     /// The value of a string literal, `"..."` or `r#"..."#`: the characters that its units spell.
     ///
+    /// In a raw literal each character stands for itself, also a carriage return before a line feed.
+    ///
     /// InvalidLiteralKind: it is no string literal, or has a suffix. FailedToUnescape: a unit is
-    /// malformed, as a carriage return that no escape spells is. Memory: memory was refused.
+    /// malformed, as any other carriage return is that no escape spells or skips. Memory: memory was
+    /// refused.
     #[tactic(auto, using(crate::proofs::Values::texts))]
     pub fn str_value(&self, alloc: Global) -> Result<String, ConversionErrorKind>
         ensures value { IfOk result (λ text. IsStrValue (literal_text self.now) (text_of text)) }
@@ -82,8 +84,11 @@ impl Literal {
 
     /// The value of a byte string literal, `b"..."` or `br#"..."#`: the bytes that its units spell.
     ///
+    /// In a raw literal each character stands for itself, also a carriage return before a line feed.
+    ///
     /// InvalidLiteralKind: it is no byte string literal, or has a suffix. FailedToUnescape: a unit is
-    /// malformed, as a carriage return that no escape spells is. Memory: memory was refused.
+    /// malformed, as any other carriage return is that no escape spells or skips. Memory: memory was
+    /// refused.
     #[tactic(auto, using(crate::proofs::Values::byte_values))]
     pub fn byte_str_value(&self, alloc: Global) -> Result<Vec<u8>, ConversionErrorKind>
         ensures value { IfOk result (λ bytes. IsByteStrValue (literal_text self.now) bytes.items) }
@@ -97,8 +102,11 @@ impl Literal {
     /// The value of a C string literal, `c"..."` or `cr#"..."#`: the bytes that its units spell, a
     /// character's in UTF-8, and behind them one zero.
     ///
+    /// In a raw literal each character stands for itself, also a carriage return before a line feed.
+    ///
     /// InvalidLiteralKind: it is no C string literal, or has a suffix. FailedToUnescape: a unit is
-    /// malformed, as a carriage return that no escape spells is, and a zero. Memory: memory was refused.
+    /// malformed, as any other carriage return is that no escape spells or skips, and a zero. Memory:
+    /// memory was refused.
     pub fn cstr_value(&self, alloc: Global) -> Result<Vec<u8>, ConversionErrorKind>
         ensures value { IfOk result (λ bytes. IsCStrValue (literal_text self.now) bytes.items) }
         ensures kind { result ≡ Err InvalidLiteralKind ↔ (IsCStr (literal_text self.now) → ⊥) }

@@ -3,7 +3,7 @@
 //! Each function does nothing; its contract is the law.
 
 ghost use Rattle.rust_escape.specs.Mode.{in_double_quotes};
-ghost use Rattle.rust_escape.specs.Unit.{IsInside, IsOnlyUnit, Lexical, Strict};
+ghost use Rattle.rust_escape.specs.Unit.{IsInside, IsOnlyUnit, Lexical};
 ghost use Rattle.rust_escape.specs.Value.{byte_value};
 ghost use Rattle.rust_escape.specs.declared.mode.Mode.{Mode};
 ghost use Rattle.rust_escape.specs.declared.mode.Mode.TheVariants.{Byte, Char};
@@ -11,7 +11,7 @@ ghost use Rattle.rust_escape.specs.declared.value.Value.{Value};
 ghost use Rattle.rust_escape.specs.declared.value.Value.TheVariants.{Character};
 ghost use Rattle.rust_leaf.specs.CString.{IsCString, has_zero};
 ghost use Rattle.rust_leaf.specs.Escaped.{byte_character_text, byte_string_text, character_text, string_text};
-ghost use Rattle.rust_leaf.specs.Value.{AreBytes, has_return, IsByteStrValue, IsCStrValue, IsStrValue};
+ghost use Rattle.rust_leaf.specs.Value.{AreBytes, has_barred_return, IsByteStrValue, IsCStrValue, IsStrValue, value_rule};
 ghost use Rattle.std.specs.Char.{IsScalar};
 ghost use Rattle.std.specs.Prelude.{◌≡◌, ◌<◌, ◌++◌, ◌∷◌, ℕ, IsFalse, List, [], codes, true};
 ghost use Rattle.std.specs.Str.{chars};
@@ -45,8 +45,8 @@ pub fn written_unit()
     ensures byte { (b : ℕ) → b < 256 → (inside : List ℕ) × (byte_character_text b ≡ codes "b'" ++ inside ++ codes "'") × IsOnlyUnit Byte inside (byte_value b) }
 {}
 
-/// An inside in double quotes that the lexer takes, up to the closing quote, has a value where it holds no carriage
-/// return: its units spell the same by the rule of the escape calls.
+/// An inside in double quotes that the lexer takes, up to the closing quote, has a value where it is raw or holds no
+/// carriage return: the values that its units spell to the lexer.
 pub fn taken_inside()
-    ensures { (mode : Mode) (inside rest : List ℕ) (values : List Value) → in_double_quotes mode ≡ true → IsFalse (has_return inside) → IsInside Lexical mode inside (codes "\"" ++ rest) values → IsInside Strict mode inside [] values }
+    ensures { (mode : Mode) (inside rest : List ℕ) (values : List Value) → in_double_quotes mode ≡ true → IsFalse (has_barred_return mode inside) → IsInside Lexical mode inside (codes "\"" ++ rest) values → IsInside (value_rule mode) mode inside [] values }
 {}

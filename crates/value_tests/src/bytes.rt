@@ -6,7 +6,7 @@ use std::test::Fail;
 
 #[test]
 fn byte_strings_have_their_values(rt: HostRuntime) -> Result<(), Fail> {
-    let rows: [(&str, &[u8]); 13] = [
+    let rows: [(&str, &[u8]); 14] = [
         ("b\"\"", b""),
         ("b\"a'\"", b"a'"),
         ("b\"\\n\\r\\t\\\\\\0\\'\\\"\"", &[10, 13, 9, 92, 0, 39, 34]),
@@ -20,6 +20,7 @@ fn byte_strings_have_their_values(rt: HostRuntime) -> Result<(), Fail> {
         ("br\"\"", b""),
         ("br\"\\xff\\\"", &[92, 120, 102, 102, 92]),
         ("br\"a\nb\"", b"a\nb"),
+        ("br\"a\r\nb\"", b"a\r\nb"),
         ("br#\"a\"b\"#", b"a\"b"),
         ("br##\"\"#\"##", b"\"#"),
         ("br#\"#\"#", b"#"),
@@ -36,7 +37,7 @@ fn byte_strings_have_their_values(rt: HostRuntime) -> Result<(), Fail> {
 
 #[test]
 fn c_strings_have_their_values(rt: HostRuntime) -> Result<(), Fail> {
-    let rows: [(&str, &[u8]); 12] = [
+    let rows: [(&str, &[u8]); 13] = [
         ("c\"\"", &[0]),
         ("c\"a'\"", &[97, 39, 0]),
         ("c\"\\n\\r\\t\\\\\\'\\\"\"", &[10, 13, 9, 92, 39, 34, 0]),
@@ -47,6 +48,7 @@ fn c_strings_have_their_values(rt: HostRuntime) -> Result<(), Fail> {
         ("c\"a\\\n  b\"", &[97, 98, 0]),
         ("cr\"\"", &[0]),
         ("cr\"\\xff\u{e9}\"", &[92, 120, 102, 102, 0xc3, 0xa9, 0]),
+        ("cr\"a\r\nb\"", &[97, 13, 10, 98, 0]),
         ("cr#\"a\"b\"#", &[97, 34, 98, 0]),
         ("cr##\"\"#\"##", &[34, 35, 0]),
     ];

@@ -6,7 +6,7 @@ use std::test::Fail;
 
 #[test]
 fn strings_have_their_values(rt: HostRuntime) -> Result<(), Fail> {
-    let rows: [(&str, &str); 24] = [
+    let rows: [(&str, &str); 27] = [
         ("\"\"", ""),
         ("\"a\"", "a"),
         ("\"a'b\"", "a'b"),
@@ -26,6 +26,9 @@ fn strings_have_their_values(rt: HostRuntime) -> Result<(), Fail> {
         ("r\"\"", ""),
         ("r\"\\n\\\"", "\\n\\"),
         ("r\"'\u{e9}\n\"", "'\u{e9}\n"),
+        ("r\"a\r\nb\"", "a\r\nb"),
+        ("r\"\\\r\n  \"", "\\\r\n  "),
+        ("r#\"\r\n\r\n\"#", "\r\n\r\n"),
         ("r#\"\"#", ""),
         ("r#\"a\"b\"#", "a\"b"),
         ("r##\"a\"#b\\\"##", "a\"#b\\"),
