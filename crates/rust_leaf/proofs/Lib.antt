@@ -13,3 +13,4 @@ pub mod Values
 pub mod Hex
 pub mod Written
 pub mod Lexed
+pub mod Taken

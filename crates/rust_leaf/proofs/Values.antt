@@ -79,6 +79,29 @@ byte_values text bs values h e =
     let each = each_byte h.mode h.inside [] values (byte_units h.mode text h.inside h.quoted) h.units in
     subst (HasValues Bytes text) (each ∙ ap (map byte_value) (sym e)) h
 
+abbrev pub number_of : Value → ℕ
+number_of (Character c) = c
+number_of (HighByte b) = b
+
+-- a text's value is one character
+character_first : (v : Value) (vs : List Value) → IsCharacter v → vs ≡ map Character (map number_of vs) → v ∷ vs ≡ map Character (map number_of (v ∷ vs))
+character_first (Character c) vs t e = ap (λ x. Character c ∷ x) e
+character_first (HighByte b) vs t e = absurd t
+
+character_on : (mode : Mode) (cs rest : List ℕ) (v : Option Value) (vs : List Value) → TakesValues IsCharacter mode → IsUnit (value_rule mode) mode cs rest v → vs ≡ map Character (map number_of vs)
+    → option_to_list v ++ vs ≡ map Character (map number_of (option_to_list v ++ vs))
+character_on mode cs rest None vs t u e = e
+character_on mode cs rest (Some v) vs t u e = character_first v vs (t cs rest v u) e
+
+each_character : (mode : Mode) (inside rest : List ℕ) (values : List Value) → TakesValues IsCharacter mode → IsInside (value_rule mode) mode inside rest values → values ≡ map Character (map number_of values)
+each_character mode _ rest _ t empty = refl
+each_character mode _ rest _ t (more {cs = cs} {inside = inside} {value = v} {values = vs} u i) = character_on mode cs (inside ++ rest) v vs t u (each_character mode inside rest vs t i)
+
+pub character_values : (text : List ℕ) (values : List Value) → HasValues Text text values → IsStrValue text (map number_of values)
+character_values text values h =
+    let t = takes_either IsCharacter Text h.mode text h.inside text_units raw_text_units h.quoted in
+    subst (HasValues Text text) (each_character h.mode h.inside [] values t h.units) h
+
 -- one literal has one list of values
 pub same_values : (content : Content) (text : List ℕ) (values others : List Value) → HasValues content text values → HasValues content text others → values ≡ others
 same_values content text values others h k =
@@ -94,10 +117,6 @@ same_characters (x ∷ xs) (y ∷ ys) e =
     let same : x ≡ y = cc in
     let more : map Character xs ≡ map Character ys = cc in
     rw (same, same_characters xs ys more) refl
-
-abbrev number_of : Value → ℕ
-number_of (Character c) = c
-number_of (HighByte b) = b
 
 byte_number : (b : ℕ) → number_of (byte_value b) ≡ b
 byte_number b = ⊎_elim (λ y. rw y refl) (λ n. rw n refl) (cases_Bool (nat_lt b 128))

@@ -9,6 +9,8 @@ use Rattle.rust_escape.specs.Value.{byte_value}
 use Rattle.rust_escape.specs.declared.value.Value.{Value}
 use Rattle.rust_escape.specs.declared.value.Value.TheVariants.{Character, HighByte}
 use Rattle.rust_leaf.specs.Quoted.{IsQuoted, IsLiteralOf}
+use Rattle.rust_lex.specs.Quoted as lexed
+use Rattle.rust_lex.specs.declared.piece.LiteralKind.{LiteralKind}
 use Rattle.rust_leaf.specs.declared.quoted.Content.{Content}
 use Rattle.rust_leaf.specs.declared.quoted.Content.TheVariants.{Text, Bytes, CText}
 
@@ -80,3 +82,7 @@ has_return cs = list_any (λ c. c == 13) cs
 -- one stands among those of a literal that isn't raw
 abbrev pub has_barred_return : Mode → List ℕ → Bool
 has_barred_return mode cs = if is_raw mode then false else has_return cs
+
+-- the lexer takes the characters as a literal of the kind, without a suffix; it is raw, or holds no carriage return
+abbrev pub IsTaken : LiteralKind → List ℕ → Type 0
+IsTaken kind cs = (q : lexed.IsQuoted kind cs) × (has_barred_return q.0 cs ≡ false)

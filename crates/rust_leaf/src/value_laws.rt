@@ -1,4 +1,5 @@
-//! Laws of the values of literals: each has one, and what is written for a value has that value.
+//! Laws of the values of literals: each has at most one, what is written for a value has that value, and which
+//! literals of the lexer have one.
 //!
 //! Each function does nothing; its contract is the law.
 
@@ -11,7 +12,8 @@ ghost use Rattle.rust_escape.specs.declared.value.Value.{Value};
 ghost use Rattle.rust_escape.specs.declared.value.Value.TheVariants.{Character};
 ghost use Rattle.rust_leaf.specs.CString.{IsCString, has_zero};
 ghost use Rattle.rust_leaf.specs.Escaped.{byte_character_text, byte_string_text, character_text, string_text};
-ghost use Rattle.rust_leaf.specs.Value.{AreBytes, has_barred_return, IsByteStrValue, IsCStrValue, IsStrValue, value_rule};
+ghost use Rattle.rust_leaf.specs.Value.{AreBytes, has_barred_return, IsByteStrValue, IsCStrValue, IsStrValue, IsTaken, value_rule};
+ghost use Rattle.rust_lex.specs.declared.piece.LiteralKind.TheVariants.{ByteStr, CStr, Str};
 ghost use Rattle.std.specs.Char.{IsScalar};
 ghost use Rattle.std.specs.Prelude.{◌≡◌, ◌<◌, ◌++◌, ◌∷◌, ℕ, IsFalse, List, [], codes, true};
 ghost use Rattle.std.specs.Str.{chars};
@@ -49,4 +51,12 @@ pub fn written_unit()
 /// carriage return: the values that its units spell to the lexer.
 pub fn taken_inside()
     ensures { (mode : Mode) (inside rest : List ℕ) (values : List Value) → in_double_quotes mode ≡ true → IsFalse (has_barred_return mode inside) → IsInside Lexical mode inside (codes "\"" ++ rest) values → IsInside (value_rule mode) mode inside [] values }
+{}
+
+/// A literal in double quotes that the lexer takes has a value of its kind where it is raw or holds no carriage
+/// return.
+pub fn taken_literal()
+    ensures text { (cs : List ℕ) → IsTaken Str cs → (xs : List ℕ) × IsStrValue cs xs }
+    ensures bytes { (cs : List ℕ) → IsTaken ByteStr cs → (xs : List ℕ) × IsByteStrValue cs xs }
+    ensures c_text { (cs : List ℕ) → IsTaken CStr cs → (xs : List ℕ) × IsCStrValue cs xs }
 {}
