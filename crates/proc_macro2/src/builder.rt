@@ -44,6 +44,13 @@ impl TokenStream {
         self.trees.push(tree)?;
         Ok(())
     }
+
+    // Gives back the room that no tree takes.
+    pub(crate) fn shrink(&mut self)
+        ensures { self.new ≡ self.old }
+    {
+        self.trees.shrink_to_fit();
+    }
 }
 
 impl Builder {
@@ -101,7 +108,8 @@ impl Builder {
         if opened != delimiter {
             return Ok(false);
         }
-        let stream = mem::replace(&mut self.stream, before);
+        let mut stream = mem::replace(&mut self.stream, before);
+        stream.shrink();
         let group = Group {
             delimiter,
             stream,

@@ -71,7 +71,11 @@ fn lex(alloc: Global, text: &str, whole: Span) -> Result<TokenStream, LexFault>
         at = end;
         count = there.to;
     }
-    let Builder { mut frames, stream } = builder;
+    let Builder {
+        mut frames,
+        mut stream,
+    } = builder;
+    stream.shrink();
     match frames.pop() {
         None => Ok(stream),
         Some(frame) => Err(fault_behind(text, whole, frame.count)),

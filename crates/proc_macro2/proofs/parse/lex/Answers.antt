@@ -9,6 +9,7 @@ use Rattle.rust_lex.specs.declared.piece.PieceKind.{PieceKind}
 use Rattle.rust_lex.specs.declared.piece.PieceKind.TheVariants.{Mark}
 use Rattle.rust_lex.proofs.Pieces.{between_joined}
 use Rattle.proc_macro2.specs.Built.{IsPut, IsReady}
+use Rattle.proc_macro2.specs.Forest.{IsForest}
 use Rattle.proc_macro2.specs.declared.builder.Builder.{Builder}
 use Rattle.proc_macro2.specs.declared.builder.Stretch.{Stretch}
 use Rattle.proc_macro2.proofs.Building.{put_grows, put_refuses}
@@ -90,8 +91,9 @@ loop-at-preserved c =
 
 pub returns-in-None-clause-parsed : goal.returns-in-None-clause-parsed
 returns-in-None-clause-parsed c =
-    read_all _ _ _ _ _ c.loop-at.invariant (omega arith)
-    (c.in-None.ensures.items ∙ append-nil _ ∙ nil_from_length _ (let none = c.in-None.ensures.cases.1 in omega arith))
+    subst (IsForest c.args.whole.start (chars c.args.text.now)) (sym c.shrink.ensures)
+    (read_all _ _ _ _ _ c.loop-at.invariant (omega arith)
+    (c.in-None.ensures.items ∙ append-nil _ ∙ nil_from_length _ (let none = c.in-None.ensures.cases.1 in omega arith)))
 
 pub fault_behind-requires-in-Some-pop-clause-there : goal.fault_behind-requires-in-Some-pop-clause-there
 fault_behind-requires-in-Some-pop-clause-there c = last_frame _ _ _ _ _ _ _ c.loop-at.invariant c.in-Some-pop.ensures.items
