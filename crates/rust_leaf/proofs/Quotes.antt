@@ -1,5 +1,5 @@
 -- Quotes and hashes around an inside.
-use Rattle.std.proofs.Common.{◌≡◌, ℕ, zero, suc, ◌<◌, List, [], ◌∷◌, ◌++◌, length, refl, sym, ◌∙◌, ap, subst, arith}
+use Rattle.std.proofs.Common.{◌≡◌, ℕ, zero, suc, ◌<◌, List, [], ◌∷◌, ◌++◌, append_assoc, length, refl, sym, ◌∙◌, ap, subst, arith}
 use Rattle.std.specs.Prelude.{Option, Some, None, MatchOption, ◌≢◌, encode_utf8_all}
 use denote.Ref.{Bor}
 use Rattle.std.specs.Str.{chars, IsUtf8}
@@ -9,6 +9,7 @@ use Rattle.std.proofs.lemmas.Str.{chars-append, chars-IsAscii, encodes-chars, en
 use Rattle.std.proofs.lemmas.Str.Ascii.{IsAscii-nil, IsAscii-cons}
 use Rattle.rust_escape.specs.Mode.{prefix_noraw}
 use Rattle.rust_escape.specs.declared.mode.Mode.{Mode}
+use Rattle.rust_lex.specs.Quoted.{hashes, opening_of, raw_closing}
 use Rattle.rust_leaf.specs.Quoted.{cooked, raw, fenced, IsQuoted, in_quotes, behind_r, IsLiteralOf}
 use Rattle.rust_leaf.specs.declared.quoted.Content.{Content}
 use Rattle.rust_leaf.specs.declared.quoted.Content.TheVariants.{Text, Bytes, CText}
@@ -47,6 +48,18 @@ last_same c [] (y ∷ ys) e = let l = ap length e in absurd (let k = length-appe
 last_same c (x ∷ xs) [] e = let l = ap length e in absurd (let k = length-append xs (c ∷ []) in omega arith)
 last_same c (x ∷ xs) (y ∷ ys) e = let (f, k) = heads x y (xs ++ (c ∷ [])) (ys ++ (c ∷ [])) e in rw (f, last_same c xs ys k) refl
 
+-- hashes stand in pairs
+last_hash : (n : ℕ) → hashes n ++ (35 ∷ []) ≡ 35 ∷ hashes n
+last_hash zero = refl
+last_hash (suc n) = ap (λ x. 35 ∷ x) (last_hash n)
+
+fenced_more : (n : ℕ) (inside : List ℕ) → fenced (suc n) inside ≡ 35 ∷ (fenced n inside ++ (35 ∷ []))
+fenced_more n inside =
+    ap (λ x. 35 ∷ x)
+    (ap (λ x. hashes n ++ 34 ∷ (inside ++ 34 ∷ x)) (sym (last_hash n))
+    ∙ ap (λ x. hashes n ++ 34 ∷ x) (sym (append_assoc inside (raw_closing n) (35 ∷ [])))
+    ∙ sym (append_assoc (hashes n) (34 ∷ (inside ++ raw_closing n)) (35 ∷ [])))
+
 -- hashes have been taken off both ends
 pub record IsPeeled (text inner : List ℕ) : Type 0 where
   pub back : (n : ℕ) (inside : List ℕ) → inner ≡ fenced n inside → (m : ℕ) × (text ≡ fenced m inside)
@@ -55,10 +68,10 @@ pub record IsPeeled (text inner : List ℕ) : Type 0 where
 -- a hash at the front is one of a pair
 one_in : (inner rest inside : List ℕ) (m : ℕ) → inner ≡ 35 ∷ rest → inner ≡ fenced m inside → (k : ℕ) × (rest ≡ fenced k inside ++ (35 ∷ []))
 one_in inner rest inside zero f e = absurd (apart 34 35 (inside ++ (34 ∷ [])) rest (omega arith) (sym e ∙ f))
-one_in inner rest inside (suc m) f e = (m, (heads 35 35 rest (fenced m inside ++ (35 ∷ [])) (sym f ∙ e)).1)
+one_in inner rest inside (suc m) f e = (m, (heads 35 35 rest (fenced m inside ++ (35 ∷ [])) (sym f ∙ e ∙ fenced_more m inside)).1)
 
 one_out : (inner rest next inside : List ℕ) (n : ℕ) → inner ≡ 35 ∷ rest → rest ≡ next ++ (35 ∷ []) → next ≡ fenced n inside → inner ≡ fenced (suc n) inside
-one_out inner rest next inside n f g e = f ∙ ap (λ x. 35 ∷ x) (g ∙ ap (λ x. x ++ (35 ∷ [])) e)
+one_out inner rest next inside n f g e = f ∙ ap (λ x. 35 ∷ x) (g ∙ ap (λ x. x ++ (35 ∷ [])) e) ∙ sym (fenced_more n inside)
 
 pub peeled_more : (text inner rest next : List ℕ) → IsPeeled text inner → inner ≡ 35 ∷ rest → rest ≡ next ++ (35 ∷ []) → IsPeeled text next
 peeled_more text inner rest next p f g = record {
@@ -71,7 +84,7 @@ peeled_lone text inner rest p f never n inside e = let (m, k) = p.forth n inside
 
 no_pair : (inner inside : List ℕ) (m : ℕ) → ((rest : List ℕ) → inner ≡ 35 ∷ rest → ⊥) → (inner ≡ fenced 0 inside → ⊥) → inner ≡ fenced m inside → ⊥
 no_pair inner inside zero none never e = never e
-no_pair inner inside (suc m) none never e = none (fenced m inside ++ (35 ∷ [])) e
+no_pair inner inside (suc m) none never e = none (fenced m inside ++ (35 ∷ [])) (e ∙ fenced_more m inside)
 
 peeled_never : (text inner : List ℕ) → IsPeeled text inner → ((rest : List ℕ) → inner ≡ 35 ∷ rest → ⊥) → ((inside : List ℕ) → inner ≡ fenced 0 inside → ⊥) → (n : ℕ) (inside : List ℕ) → text ≡ fenced n inside → ⊥
 peeled_never text inner p none never n inside e = let (m, k) = p.forth n inside e in no_pair inner inside m none (never inside) k
@@ -86,20 +99,28 @@ pub data Form (content : Content) (mode : Mode) (text inside : List ℕ) : Type 
   plain : mode ≡ cooked content → text ≡ prefix_noraw (cooked content) ++ fenced 0 inside → Form content mode text inside
   hashed : (n : ℕ) → mode ≡ raw content → text ≡ prefix_noraw (cooked content) ++ 114 ∷ fenced n inside → Form content mode text inside
 
-same_prefix : (content : Content) → prefix_noraw (raw content) ≡ prefix_noraw (cooked content)
-same_prefix Text = refl
-same_prefix Bytes = refl
-same_prefix CText = refl
+cooked_opening : (content : Content) (inside : List ℕ) → opening_of (cooked content) ++ (inside ++ (34 ∷ [])) ≡ prefix_noraw (cooked content) ++ fenced 0 inside
+cooked_opening Text inside = refl
+cooked_opening Bytes inside = refl
+cooked_opening CText inside = refl
+
+raw_opening : (content : Content) (rest : List ℕ) → opening_of (raw content) ++ rest ≡ prefix_noraw (cooked content) ++ 114 ∷ rest
+raw_opening Text rest = refl
+raw_opening Bytes rest = refl
+raw_opening CText rest = refl
 
 pub form : (content : Content) (mode : Mode) (text inside : List ℕ) → IsQuoted content mode text inside → Form content mode text inside
-form content _ _ inside in_quotes = plain refl refl
-form content _ _ inside (behind_r n) = hashed n refl (ap (λ x. x ++ 114 ∷ fenced n inside) (same_prefix content))
+form content _ _ inside in_quotes = plain refl (cooked_opening content inside)
+form content _ _ inside (behind_r n) = hashed n refl (raw_opening content (fenced n inside))
 
 pub plain_quoted : (content : Content) (text rest inside : List ℕ) → text ≡ prefix_noraw (cooked content) ++ rest → rest ≡ fenced 0 inside → IsQuoted content (cooked content) text inside
-plain_quoted content text rest inside e f = rw (e, f) in_quotes
+plain_quoted content text rest inside e f =
+    subst (λ x. IsQuoted content (cooked content) x inside) (sym (e ∙ ap (λ x. prefix_noraw (cooked content) ++ x) f ∙ sym (cooked_opening content inside))) in_quotes
 
 pub raw_quoted : (content : Content) (text rest behind inside : List ℕ) (n : ℕ) → text ≡ prefix_noraw (cooked content) ++ rest → rest ≡ 114 ∷ behind → behind ≡ fenced n inside → IsQuoted content (raw content) text inside
-raw_quoted content text rest behind inside n e f g = rw (e, f, g, ← same_prefix content) (behind_r n)
+raw_quoted content text rest behind inside n e f g =
+    let whole : text ≡ prefix_noraw (cooked content) ++ 114 ∷ fenced n inside = e ∙ ap (λ x. prefix_noraw (cooked content) ++ x) (f ∙ ap (λ x. 114 ∷ x) g) in
+    subst (λ x. IsQuoted content (raw content) x inside) (sym (whole ∙ sym (raw_opening content (fenced n inside)))) (behind_r n)
 
 front_same : (xs ys zs : List ℕ) → xs ++ ys ≡ xs ++ zs → ys ≡ zs
 front_same [] ys zs e = e
@@ -107,15 +128,15 @@ front_same (x ∷ xs) ys zs e = let k : xs ++ ys ≡ xs ++ zs = cc in front_same
 
 fenced_front : (n : ℕ) (inside rest : List ℕ) → fenced n inside ≡ 114 ∷ rest → ⊥
 fenced_front zero inside rest e = apart 34 114 (inside ++ (34 ∷ [])) rest (omega arith) e
-fenced_front (suc n) inside rest e = apart 35 114 (fenced n inside ++ (35 ∷ [])) rest (omega arith) e
+fenced_front (suc n) inside rest e = apart 35 114 (fenced n inside ++ (35 ∷ [])) rest (omega arith) (sym (fenced_more n inside) ∙ e)
 
 -- one literal has one inside
 fenced_same : (n m : ℕ) (xs ys : List ℕ) → fenced n xs ≡ fenced m ys → xs ≡ ys
 fenced_same zero zero xs ys e = last_same 34 xs ys (heads 34 34 (xs ++ (34 ∷ [])) (ys ++ (34 ∷ [])) e).1
-fenced_same zero (suc m) xs ys e = absurd (apart 34 35 (xs ++ (34 ∷ [])) (fenced m ys ++ (35 ∷ [])) (omega arith) e)
-fenced_same (suc n) zero xs ys e = absurd (apart 34 35 (ys ++ (34 ∷ [])) (fenced n xs ++ (35 ∷ [])) (omega arith) (sym e))
+fenced_same zero (suc m) xs ys e = absurd (apart 34 35 (xs ++ (34 ∷ [])) (fenced m ys ++ (35 ∷ [])) (omega arith) (e ∙ fenced_more m ys))
+fenced_same (suc n) zero xs ys e = absurd (apart 34 35 (ys ++ (34 ∷ [])) (fenced n xs ++ (35 ∷ [])) (omega arith) (sym e ∙ fenced_more n xs))
 fenced_same (suc n) (suc m) xs ys e =
-    fenced_same n m xs ys (last_same 35 (fenced n xs) (fenced m ys) (heads 35 35 (fenced n xs ++ (35 ∷ [])) (fenced m ys ++ (35 ∷ [])) e).1)
+    fenced_same n m xs ys (last_same 35 (fenced n xs) (fenced m ys) (heads 35 35 (fenced n xs ++ (35 ∷ [])) (fenced m ys ++ (35 ∷ [])) (sym (fenced_more n xs) ∙ e ∙ fenced_more m ys)).1)
 
 same_form : (content : Content) (mode other : Mode) (text xs ys : List ℕ) → Form content mode text xs → Form content other text ys → (mode ≡ other) × (xs ≡ ys)
 same_form content mode other text xs ys (plain a e) (plain b f) =

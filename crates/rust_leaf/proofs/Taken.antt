@@ -1,13 +1,13 @@
 -- A literal in double quotes that the lexer takes has a value, where it is raw or holds no carriage return.
-use Rattle.std.proofs.Common.{◌≡◌, ℕ, zero, suc, List, [], ◌∷◌, ◌++◌, append_assoc, refl, sym, ap, ◌∙◌, subst, ⊎_elim}
+use Rattle.std.proofs.Common.{◌≡◌, ℕ, List, [], ◌∷◌, ◌++◌, refl, sym, ap, ◌∙◌, subst, ⊎_elim}
 use Rattle.std.specs.Prelude.{true, false, ◌==◌, map}
 use Rattle.std.specs.List.{flat_map}
 use Rattle.std.proofs.lemmas.Bool.{cases_Bool}
-use Rattle.rust_escape.specs.Mode.{in_double_quotes, is_raw, prefix_noraw}
+use Rattle.rust_escape.specs.Mode.{in_double_quotes, is_raw}
 use Rattle.rust_escape.specs.declared.mode.Mode.{Mode}
 use Rattle.rust_escape.specs.declared.mode.Mode.TheVariants.{Char, Byte, Str, RawStr, ByteStr, RawByteStr, CStr, RawCStr}
 use Rattle.rust_escape.specs.declared.value.Value.{Value}
-use Rattle.rust_lex.specs.Quoted.{IsCooked, IsRaw, IsTail, hashes, raw_closing, opening_of, literal_kind}
+use Rattle.rust_lex.specs.Quoted.{IsCooked, IsRaw, IsTail, hashes, opening_of, literal_kind}
 use Rattle.rust_lex.specs.declared.piece.LiteralKind.{LiteralKind}
 use Rattle.rust_lex.specs.declared.piece.LiteralKind.TheVariants as kinds
 use Rattle.rust_leaf.specs.Quoted.{IsQuoted, in_quotes, behind_r, cooked, raw, fenced}
@@ -16,30 +16,6 @@ use Rattle.rust_leaf.specs.declared.quoted.Content.{Content}
 use Rattle.rust_leaf.specs.declared.quoted.Content.TheVariants.{Text, Bytes, CText}
 use Rattle.rust_leaf.proofs.Lexed.{any_parts, value_inside}
 use Rattle.rust_leaf.proofs.Values.{number_of, character_values, byte_values}
-
--- the lexer's hashes stand around the quotes
-last_hash : (n : ℕ) → hashes n ++ 35 ∷ [] ≡ 35 ∷ hashes n
-last_hash zero = refl
-last_hash (suc n) = ap (λ x. 35 ∷ x) (last_hash n)
-
-same_fence : (n : ℕ) (inside : List ℕ) → hashes n ++ 34 ∷ (inside ++ raw_closing n) ≡ fenced n inside
-same_fence zero inside = refl
-same_fence (suc n) inside =
-    ap (λ x. 35 ∷ x)
-    (ap (λ x. hashes n ++ 34 ∷ (inside ++ 34 ∷ x)) (sym (last_hash n))
-    ∙ ap (λ x. hashes n ++ 34 ∷ x) (sym (append_assoc inside (raw_closing n) (35 ∷ [])))
-    ∙ sym (append_assoc (hashes n) (34 ∷ (inside ++ raw_closing n)) (35 ∷ []))
-    ∙ ap (λ x. x ++ 35 ∷ []) (same_fence n inside))
-
-cooked_shape : (content : Content) (inside : List ℕ) → opening_of (cooked content) ++ (inside ++ 34 ∷ []) ≡ prefix_noraw (cooked content) ++ fenced 0 inside
-cooked_shape Text inside = refl
-cooked_shape Bytes inside = refl
-cooked_shape CText inside = refl
-
-raw_shape : (content : Content) (n : ℕ) (inside : List ℕ) → opening_of (raw content) ++ (hashes n ++ 34 ∷ (inside ++ raw_closing n)) ≡ prefix_noraw (raw content) ++ 114 ∷ fenced n inside
-raw_shape Text n inside = ap (λ x. 114 ∷ x) (same_fence n inside)
-raw_shape Bytes n inside = ap (λ x. 98 ∷ 114 ∷ x) (same_fence n inside)
-raw_shape CText n inside = ap (λ x. 99 ∷ 114 ∷ x) (same_fence n inside)
 
 -- a part of a literal holds no more than it
 return_within : (front inside back cs : List ℕ) → cs ≡ front ++ (inside ++ back) → has_return cs ≡ false → has_return inside ≡ false
@@ -79,7 +55,7 @@ of_cooked content cs tail e t h =
       record {
         mode = mode;
         inside = t.inside;
-        quoted = subst (λ x. IsQuoted content mode x t.inside) (sym (whole ∙ cooked_shape content t.inside)) in_quotes;
+        quoted = subst (λ x. IsQuoted content mode x t.inside) (sym whole) in_quotes;
         units = value_inside mode t.inside [] t.values (cooked_double content) none t.is;
       },
     )
@@ -87,12 +63,12 @@ of_cooked content cs tail e t h =
 of_raw : (content : Content) (cs tail : List ℕ) → cs ≡ opening_of (raw content) ++ tail → IsRaw (raw content) tail → SomeValues content cs
 of_raw content cs tail e t =
     let mode = raw content in
-    let whole : cs ≡ opening_of mode ++ (hashes t.count ++ 34 ∷ (t.inside ++ raw_closing t.count)) = e ∙ ap (λ x. opening_of mode ++ x) t.joined in (
+    let whole : cs ≡ opening_of mode ++ fenced t.count t.inside = e ∙ ap (λ x. opening_of mode ++ x) t.joined in (
       t.values,
       record {
         mode = mode;
         inside = t.inside;
-        quoted = subst (λ x. IsQuoted content mode x t.inside) (sym (whole ∙ raw_shape content t.count t.inside)) (behind_r t.count);
+        quoted = subst (λ x. IsQuoted content mode x t.inside) (sym whole) (behind_r t.count);
         units = value_inside mode t.inside (hashes t.count) t.values (raw_double content) (raw_none content t.inside) t.is;
       },
     )
