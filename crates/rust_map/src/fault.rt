@@ -7,6 +7,7 @@ ghost use Rattle.std.specs.Prelude.{◌≡◌, Some};
 use crate::place::LineColumn;
 use crate::span::Span;
 use std::alloc::AllocError;
+use std::error::Error;
 use std::fmt;
 
 /// The lexical fault of a text, which isn't what it was read as: a place, by the rule of the call that
@@ -50,6 +51,8 @@ impl fmt::Display for LexError {
     }
 }
 
+impl Error for LexError {}
+
 /// Why a text was refused.
 #[derive(Clone, Copy, Debug)]
 pub enum LexFault {
@@ -72,6 +75,8 @@ impl fmt::Display for LexFault {
         }
     }
 }
+
+impl Error for LexFault {}
 
 impl From<AllocError> for LexFault {
     ghost from_gives = { λ _ fault. fault ≡ lex_fault.Memory };

@@ -9,6 +9,7 @@ ghost use Rattle.std.specs.Str.{chars};
 use crate::file::SourceFile;
 use crate::span::Span;
 use std::alloc::{AllocError, Global};
+use std::fmt;
 use std::marker::Model;
 
 /// So many positions a map has, the position 0 of the call site among them.
@@ -46,6 +47,15 @@ impl Model for SourceMap {
     ghost view = { λ m. record { start = m.first; texts = texts_of m.files.items } };
 
     ghost invariant = { λ m. IsLaidOut m.first m.next m.files.items };
+}
+
+/// Shows how many texts the map has. The words are no promise.
+impl fmt::Debug for SourceMap {
+    fn fmt<W: fmt::Write>(&self, f: &mut fmt::Formatter<W>) -> fmt::Result {
+        f.debug_struct("SourceMap")
+            .field("texts", &self.files.len())
+            .finish()
+    }
 }
 
 /// Where a span lies.
