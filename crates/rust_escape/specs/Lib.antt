@@ -3,6 +3,7 @@ pub mod Chars
 pub mod Error
 pub mod Escape
 pub mod LexicalScan
+pub mod Messages
 pub mod Mode
 pub mod Places
 pub mod Reads

@@ -4,6 +4,7 @@
 //! The definitions lie in `specs/`.
 //!
 //! - `error`: what is wrong with a unit.
+//! - `messages` (private): what is said of it.
 //! - `mode`: the kinds of literals.
 //! - `mixed_unit`: the values of a C string's units.
 //! - `value`: what a unit stands for.
@@ -19,6 +20,7 @@
 pub mod check;
 pub mod error;
 pub mod lexical;
+mod messages;
 pub mod mixed_unit;
 pub mod mode;
 pub mod place;
