@@ -1,5 +1,6 @@
 pub mod Mark
 pub mod Leaf
+pub mod Shown
 pub mod Identifier
 pub mod Escaped
 pub mod CString
@@ -7,3 +8,4 @@ pub mod Minus
 pub mod Parse
 pub mod Quoted
 pub mod Value
+pub mod Messages

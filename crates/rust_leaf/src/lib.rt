@@ -6,6 +6,7 @@
 //! - `ident`: identifiers, and the faults of a text that is none.
 //! - `punct`: punctuation marks.
 //! - `literal`: literals, and their constructors.
+//! - `debug` (private): leaves as `{:?}` shows them.
 //! - `escape`: how characters and bytes are written inside quotes.
 //! - `integer`: the constructors of integer literals.
 //! - `minus`: the minus that may stand before a number.
@@ -15,14 +16,17 @@
 //! - `spelled`: what the units of an inside spell.
 //! - `value`: the values of string, byte string and C string literals.
 //! - `value_laws`: laws of these values.
+//! - `messages` (private): what is said of faults.
 //! - `laws`: laws of equality, order and hash.
 #![tactic(auto)]
 
+mod debug;
 mod escape;
 pub mod ident;
 mod integer;
 pub mod laws;
 pub mod literal;
+mod messages;
 pub mod minus;
 mod parse;
 pub mod punct;
