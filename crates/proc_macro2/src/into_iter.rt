@@ -13,7 +13,7 @@ use std::collections::VecDeque;
 use try_clone::TryClone;
 
 /// The trees of a stream, in order. Groups come whole.
-#[derive(Drop)]
+#[derive(Debug, Drop)]
 pub struct IntoIter {
     pub(crate) trees: VecDeque<TokenTree>,
 }

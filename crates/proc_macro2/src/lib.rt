@@ -15,12 +15,14 @@
 //! - `place` (private): the line and the column behind some characters.
 //! - `forest_laws`: laws of the streams of texts.
 //! - `print`: the printed text.
+//! - `debug` (private): how `{:?}` shows streams, groups and trees.
 //! - `spacing`: the test for streams that are read back from their text.
 //! - `laws`: laws of streams.
 #![tactic(auto)]
 
 mod builder;
 pub mod copies;
+mod debug;
 pub mod delimiter;
 mod doc;
 pub mod forest_laws;
