@@ -6,4 +6,6 @@ mod faults;
 #[cfg(test)]
 mod lexing;
 #[cfg(test)]
+mod messages;
+#[cfg(test)]
 mod values;

@@ -3,9 +3,12 @@
 //!
 //! - `literals`: which texts are literals, and what is answered of those that are none.
 //! - `parts`: the spans of parts of literals.
+//! - `words`: how leaves are shown, and what is said of faults.
 #![tactic(auto)]
 
 #[cfg(test)]
 mod literals;
 #[cfg(test)]
 mod parts;
+#[cfg(test)]
+mod words;

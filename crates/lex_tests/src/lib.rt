@@ -6,6 +6,7 @@
 //! - `places`: spans, lines and columns, and the room of the map.
 //! - `streams`: streams that are built by hand.
 //! - `trees`: streams walked tree by tree, and what trees are by themselves.
+//! - `words`: how streams are shown, and what is said of lexical faults.
 #![tactic(auto)]
 
 #[cfg(test)]
@@ -18,3 +19,5 @@ mod rows;
 mod streams;
 #[cfg(test)]
 mod trees;
+#[cfg(test)]
+mod words;
