@@ -3,7 +3,6 @@ pub mod Chars
 pub mod Error
 pub mod Escape
 pub mod LexicalScan
-pub mod Messages
 pub mod Mode
 pub mod Places
 pub mod Reads

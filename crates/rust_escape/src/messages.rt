@@ -1,16 +1,11 @@
-//! What is said of a malformed unit.
-
-ghost use Rattle.rust_escape.specs.Messages.{words};
-ghost use Rattle.std.specs.Prelude.{◌≡◌, Some};
+//! What is said of a malformed unit. The words are no promise.
 
 use crate::error::EscapeError;
 use std::error::Error;
 use std::fmt;
 
 // The words for an error or a warning.
-fn words(error: &EscapeError) -> &'static str
-    ensures { result.now ≡ words error.now }
-{
+fn words(error: &EscapeError) -> &'static str {
     match error {
         EscapeError::ZeroChars => "no character between the quotes",
         EscapeError::MoreThanOneChar => "more than one character between the quotes",
@@ -39,8 +34,6 @@ fn words(error: &EscapeError) -> &'static str
 }
 
 impl fmt::Display for EscapeError {
-    ghost output = { λ error. Some (words error) };
-
     fn fmt<W: fmt::Write>(&self, f: &mut fmt::Formatter<W>) -> fmt::Result {
         f.write_str(words(self))
     }

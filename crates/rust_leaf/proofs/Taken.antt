@@ -5,7 +5,7 @@ use Rattle.std.specs.List.{flat_map}
 use Rattle.std.proofs.lemmas.Bool.{cases_Bool}
 use Rattle.rust_escape.specs.Mode.{in_double_quotes, is_raw}
 use Rattle.rust_escape.specs.declared.mode.Mode.{Mode}
-use Rattle.rust_escape.specs.declared.mode.Mode.TheVariants.{Char, Byte, Str, RawStr, ByteStr, RawByteStr, CStr, RawCStr}
+use Rattle.rust_escape.specs.declared.mode.Mode.TheVariants.{Str, RawStr, ByteStr, RawByteStr, CStr, RawCStr}
 use Rattle.rust_escape.specs.declared.value.Value.{Value}
 use Rattle.rust_lex.specs.Quoted.{IsCooked, IsRaw, IsTail, hashes, opening_of, literal_kind}
 use Rattle.rust_lex.specs.declared.piece.LiteralKind.{LiteralKind}

@@ -1,6 +1,5 @@
 pub mod Mark
 pub mod Leaf
-pub mod Shown
 pub mod Identifier
 pub mod Escaped
 pub mod CString
@@ -8,4 +7,3 @@ pub mod Minus
 pub mod Parse
 pub mod Quoted
 pub mod Value
-pub mod Messages

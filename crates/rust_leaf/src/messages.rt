@@ -1,7 +1,4 @@
-//! What is said of the faults of identifiers and of literals' values.
-
-ghost use Rattle.rust_leaf.specs.Messages.{ident_message, value_message};
-ghost use Rattle.std.specs.Prelude.{Some};
+//! What is said of the faults of identifiers and of literals' values. The words are no promise.
 
 use crate::ident::IdentFault;
 use crate::value::ConversionErrorKind;
@@ -9,8 +6,6 @@ use std::error::Error;
 use std::fmt;
 
 impl fmt::Display for IdentFault {
-    ghost output = { λ fault. Some (ident_message fault) };
-
     fn fmt<W: fmt::Write>(&self, f: &mut fmt::Formatter<W>) -> fmt::Result {
         match self {
             IdentFault::Empty => write!(f, "empty identifier"),
@@ -25,8 +20,6 @@ impl fmt::Display for IdentFault {
 impl Error for IdentFault {}
 
 impl fmt::Display for ConversionErrorKind {
-    ghost output = { λ kind. Some (value_message kind) };
-
     fn fmt<W: fmt::Write>(&self, f: &mut fmt::Formatter<W>) -> fmt::Result {
         match self {
             ConversionErrorKind::FailedToUnescape(error) => write!(f, "malformed literal: {error}"),
