@@ -14,7 +14,8 @@ use Rattle.rust_leaf.specs.Escaped.{is_bare, by_number, by_byte, escaped}
 use Rattle.rust_leaf.specs.CString.{Part, Character, Loose, AreParts, part_text, IsCString, has_zero}
 use Rattle.rust_lex.specs.declared.piece.LiteralKind.TheVariants.{CStr}
 use Rattle.rust_lex.specs.Quoted.{IsCooked}
-use Rattle.lex_laws.specs.Leaf.{IsLiteralLeaf, AreBytes}
+use Rattle.lex_laws.specs.Leaf.{IsLiteralLeaf}
+use Rattle.rust_leaf.specs.Value.{AreBytes}
 use Rattle.lex_laws.proofs.Quotes.{by_byte_unit}
 use Rattle.lex_laws.proofs.WrittenUnits.{OneUnit, either_unit, may_hold_some, bare_unit, number_unit, escaped_unit, not_barred}
 

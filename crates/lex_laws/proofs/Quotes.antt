@@ -20,7 +20,8 @@ use Rattle.rust_escape.specs.Unit.{Lexical, IsInside, empty, more}
 use Rattle.rust_leaf.specs.Escaped.{is_bare, by_number, by_byte, begins_octal, escaped, escaped_byte, escaped_bytes, character_text, byte_character_text, byte_string_text}
 use Rattle.rust_lex.specs.declared.piece.LiteralKind.TheVariants.{ByteStr, Byte, Char}
 use Rattle.rust_lex.specs.Quoted.{IsSingle, IsCooked}
-use Rattle.lex_laws.specs.Leaf.{IsLiteralLeaf, AreBytes}
+use Rattle.lex_laws.specs.Leaf.{IsLiteralLeaf}
+use Rattle.rust_leaf.specs.Value.{AreBytes}
 use Rattle.lex_laws.proofs.WrittenUnits.{OneUnit, either_unit, bare_unit, number_unit, byte_unit, zero_unit, escaped_unit, not_barred, not_slash}
 
 -- one unit, and then the closing quote

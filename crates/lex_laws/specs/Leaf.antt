@@ -1,5 +1,5 @@
 -- Tokens by themselves.
-use Rattle.std.specs.Prelude.{◌≡◌, ◌<◌, ℕ, true, List, [], ◌∷◌}
+use Rattle.std.specs.Prelude.{◌≡◌, ℕ, true, List, [], ◌∷◌}
 use lib.Utf8.{scalars}
 use Rattle.rust_leaf.specs.Mark.{is_mark}
 use Rattle.rust_lex.specs.Chars.{is_among, is_next, passes}
@@ -26,11 +26,6 @@ AreLeaves (t ∷ ts) = IsLeaf t × AreLeaves ts
 -- each number is that of a character
 abbrev pub AreCharacters : List ℕ → Type 0
 AreCharacters cs = scalars cs ≡ true
-
--- each number is that of a byte
-abbrev pub AreBytes : List ℕ → Type 0
-AreBytes [] = Unit {0}
-AreBytes (b ∷ bs) = (b < 256) × AreBytes bs
 
 -- none, or an identifier that begins with u or i
 abbrev pub IsIntegerSuffix : List ℕ → Type 0

@@ -3,7 +3,7 @@
 //! Each function does nothing: its contract is a law, proved once for all texts.
 
 ghost use Rattle.lex_laws.specs.Calm.{IsCalm};
-ghost use Rattle.lex_laws.specs.Leaf.{AreBytes, AreCharacters, AreLeaves, IsIntegerSuffix, IsLiteralLeaf};
+ghost use Rattle.lex_laws.specs.Leaf.{AreCharacters, AreLeaves, IsIntegerSuffix, IsLiteralLeaf};
 ghost use Rattle.lex_laws.specs.Read.{IsReadAs};
 ghost use Rattle.proc_macro2.specs.Forest.{IsFaultBehind, IsForest};
 ghost use Rattle.proc_macro2.specs.Groups.{IsMatched};
@@ -13,6 +13,7 @@ ghost use Rattle.proc_macro2.specs.Token.{Spanned, Token, plain};
 ghost use Rattle.rust_leaf.specs.CString.{IsCString, has_zero};
 ghost use Rattle.rust_leaf.specs.Escaped.{byte_character_text, byte_string_text, character_text, string_text};
 ghost use Rattle.rust_leaf.specs.Identifier.{is_ident_text};
+ghost use Rattle.rust_leaf.specs.Value.{AreBytes};
 ghost use Rattle.rust_lex.specs.Piece.{IsIdent, IsLiteral};
 ghost use Rattle.rust_lex.specs.declared.piece.LiteralKind.{LiteralKind};
 ghost use Rattle.std.specs.Char.{IsScalar};
