@@ -128,10 +128,11 @@ fn return_value(mode: Mode) -> Option<Value>
 }
 
 // What is wrong with a character that can't stand for itself.
-fn fault_of(c: char) -> EscapeError
+fn fault_of(mode: Mode, c: char) -> EscapeError
     ensures { is_fatal result ≡ true }
 {
     match c {
+        '\r' if is_raw(mode) => EscapeError::BareCarriageReturnInRawString,
         '\r' => EscapeError::BareCarriageReturn,
         '\\' | '"' => EscapeError::EscapeOnlyChar,
         '\0' => EscapeError::NulInCStr,
@@ -156,7 +157,7 @@ fn one(mode: Mode, text: &str, c: char, next: usize) -> Reading
             end: next,
         };
     }
-    refused(fault_of(c), next)
+    refused(fault_of(mode, c), next)
 }
 
 // The unit at a place of an inside.

@@ -117,8 +117,8 @@ fn malformed_strings(rt: HostRuntime) -> Result<(), Fail> {
         ("\"a\r\n\"", EscapeError::BareCarriageReturn),
         ("\"a\r\"", EscapeError::BareCarriageReturn),
         ("\"a\\\r\n\"", EscapeError::InvalidEscape),
-        ("r#\"\r\"#", EscapeError::BareCarriageReturn),
-        ("r\"a\r\r\n\"", EscapeError::BareCarriageReturn),
+        ("r#\"\r\"#", EscapeError::BareCarriageReturnInRawString),
+        ("r\"a\r\r\n\"", EscapeError::BareCarriageReturnInRawString),
         ("\"a\\\"", EscapeError::LoneSlash),
         ("\"a\"b\"", EscapeError::EscapeOnlyChar),
         ("\"\\q\"", EscapeError::InvalidEscape),
@@ -149,7 +149,7 @@ fn malformed_strings(rt: HostRuntime) -> Result<(), Fail> {
 fn malformed_byte_strings(rt: HostRuntime) -> Result<(), Fail> {
     for (text, error) in [
         ("b\"a\r\n\"", EscapeError::BareCarriageReturn),
-        ("br\"a\rb\n\"", EscapeError::BareCarriageReturn),
+        ("br\"a\rb\n\"", EscapeError::BareCarriageReturnInRawString),
         ("b\"\u{e9}\"", EscapeError::NonAsciiCharInByte),
         ("br\"\u{e9}\"", EscapeError::NonAsciiCharInByte),
         ("b\"\\u{41}\"", EscapeError::UnicodeEscapeInByte),
@@ -169,7 +169,7 @@ fn malformed_byte_strings(rt: HostRuntime) -> Result<(), Fail> {
 fn malformed_c_strings(rt: HostRuntime) -> Result<(), Fail> {
     for (text, error) in [
         ("c\"a\r\n\"", EscapeError::BareCarriageReturn),
-        ("cr\"a\r\"", EscapeError::BareCarriageReturn),
+        ("cr\"a\r\"", EscapeError::BareCarriageReturnInRawString),
         ("c\"\0\"", EscapeError::NulInCStr),
         ("cr\"\0\"", EscapeError::NulInCStr),
         ("c\"\\0\"", EscapeError::NulInCStr),
