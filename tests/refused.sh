@@ -1,28 +1,56 @@
 #!/usr/bin/env bash
-# Runs a program of this repository once for each allocation that it makes on its stored input, refusing that
-# one. Each run must either answer as if nothing was refused, or end with status 3 and nothing on standard output.
-# Usage: tests/refused.sh [canon_cli | lex_cli]. It uses the interpreter of `rt try`, and proves nothing.
+# Runs built programs once for each allocation that they make, refusing that one: canon_cli and lex_cli on their
+# stored inputs; grow_check on each text of tests/texts, behind an older text in its map, and on streams that are built
+# by hand. Each run must give the answer itself, or end with nothing written: with status 3 where memory was refused
+# (in grow_check to a call that is looked at, which then left all as it was), or with grow_check's status 4 where it
+# was refused elsewhere.
+# Usage: tests/refused.sh. `rt run` proves and builds the programs first. It needs cc and glibc.
 set -euo pipefail
-program=${1:-canon_cli}
-cd "$(dirname "$0")/../crates/$program"
-arguments=()
-[ ! -f args ] || mapfile -t arguments < args
+cd "$(dirname "$0")"
 work=$(mktemp -d)
 trap 'rm -rf "$work"' EXIT
-answered=0
-refused=0
-for ((n = 1; answered < 3; n++)); do
-    status=0
-    rt try --fail-alloc "$n" -- "${arguments[@]}" < stdin > "$work/out" 2> "$work/err" || status=$?
-    if [ "$status" = 0 ] && cmp -s "$work/out" stdout; then
-        answered=$((answered + 1))
-    elif [ "$status" = 3 ] && [ ! -s "$work/out" ]; then
-        refused=$((refused + 1))
-        answered=0
-    else
-        echo "allocation $n: status $status, and:" >&2
-        cat "$work/out" "$work/err" >&2
+cc -shared -fPIC -O1 -o "$work/refuse_one.so" refuse_one.c
+
+# build PROGRAM
+build() {
+    (cd "../crates/$1" && rt run < stdin > "$work/out" 2> "$work/err") || { cat "$work/err" >&2; exit 1; }
+}
+
+# sweep NAME PROGRAM INPUT ANSWER [ARGUMENT]
+sweep() {
+    local name=$1 program=../crates/$2/out/$2 input=$3 answer=$4 refused=0 elsewhere=0 answered=0 status n
+    shift 4
+    for ((n = 1; ; n++)); do
+        : > "$work/refused"
+        status=0
+        REFUSE=$n LD_PRELOAD="$work/refuse_one.so" "$program" "$@" \
+            < "$input" > "$work/out" 2> "$work/err" 9> "$work/refused" || status=$?
+        if [ "$status" = 0 ] && cmp -s "$work/out" "$answer"; then
+            answered=$((answered + 1))
+        elif [ "$status" = 3 ] && [ ! -s "$work/out" ]; then
+            refused=$((refused + 1))
+        elif [ "$status" = 4 ] && [ ! -s "$work/out" ]; then
+            elsewhere=$((elsewhere + 1))
+        else
+            echo "$name, allocation $n: status $status, and:" >&2
+            cat "$work/out" "$work/err" >&2
+            exit 1
+        fi
+        [ -s "$work/refused" ] || break
+    done
+    if [ "$answered" = 0 ] || [ "$refused" = 0 ]; then
+        echo "$name: nothing was refused, or nothing answered" >&2
         exit 1
     fi
+    echo "$name: $((n - 1)) allocations refused, $refused with status 3, $elsewhere elsewhere, $((answered - 1)) without effect"
+}
+
+for program in canon_cli lex_cli grow_check; do
+    build "$program"
 done
-echo "$program: $refused refused allocations, each with status 3 and nothing written; then the answer itself"
+sweep canon_cli canon_cli ../crates/canon_cli/stdin ../crates/canon_cli/stdout
+sweep lex_cli lex_cli ../crates/lex_cli/stdin ../crates/lex_cli/stdout print
+for text in texts/*.text; do
+    sweep "$text" grow_check "$text" "${text%.text}.answer"
+done
+sweep "streams by hand" grow_check /dev/null ../crates/grow_check/stdout built

@@ -1,5 +1,5 @@
 //! Grows a source map by a text, or streams by other streams, and says whether what was there is as before
-//! where a growth was refused. `tests/refused_lexing.sh` runs it once for each allocation, refusing that one.
+//! where a growth was refused. `tests/refused.sh` runs it once for each allocation, refusing that one.
 //!
 //! - `lexed`: a text of standard input behind an older one.
 //! - `built`: streams by hand, which the argument `built` asks for.

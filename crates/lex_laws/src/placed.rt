@@ -24,6 +24,7 @@ pub fn placed(alloc: Global, src: &str, map: &mut SourceMap) -> Result<TokenStre
     ensures ordered { IfOk result (λ stream. AllPairs (IsBehind map.new) stream) }
     ensures kept { KeepsSpots map.old map.new }
 {
+    // That it is positive tells the prover that no text's span is the call site's.
     let _first = map.starting_position();
     TokenStream::from_str(alloc, src, map)
 }
