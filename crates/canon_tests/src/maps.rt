@@ -1,5 +1,7 @@
 //! What becomes of the map, by `canonical`.
 
+ghost use Rattle.std.specs.Prelude.{◌≤◌};
+
 use canon::canonical::canonical;
 use canon::fault::Fault;
 use rust_map::SourceMap;
@@ -9,8 +11,10 @@ use std::test::Fail;
 const POSITIONS: u64 = 1 << 32;
 
 // A map whose first text begins so many positions before the end.
-fn map_with(rt: &HostRuntime, left: u32) -> SourceMap {
-    SourceMap::starting_at(rt.alloc(), (POSITIONS - left as u64) as u32)
+fn map_with(rt: &HostRuntime, left: u32) -> SourceMap
+    requires { 1 ≤ left }
+{
+    SourceMap::starting_at(rt.alloc(), u32::MAX - (left - 1))
 }
 
 // Where the map would put a text of no characters: so many positions before the end.

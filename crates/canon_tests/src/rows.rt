@@ -3,51 +3,60 @@
 use canon::canonical::canonical;
 use canon::fault::Fault;
 use rust_map::{LineColumn, SourceMap};
+use std::alloc::Global;
 use std::test::Fail;
 
-// Accepted texts and their outputs.
-const ACCEPTED: [(&str, &str); 31] = [
-    ("", ""),
-    ("struct  S ;m!{a+-b}", "struct S ; m ! { a +- b }"),
-    ("m!{(a)[b]{}}", "m ! { (a) [b] { } }"),
-    ("m!{a + - b}", "m ! { a + - b }"),
-    ("m!{a+-b}", "m ! { a +- b }"),
-    (" \t\r\n\u{b}\u{c}struct\nS\n;\n", "struct S ;"),
-    ("m!{}", "m ! { }"),
-    ("m!{{}}", "m ! { { } }"),
-    ("m!{()[]}", "m ! { () [] }"),
-    ("m!{( a , [ b ] )}", "m ! { (a , [b]) }"),
-    ("m!{<<=}", "m ! { <<= }"),
-    ("m!{a;;b..c}", "m ! { a ;; b .. c }"),
-    ("struct r;struct _9;", "struct r ; struct _9 ;"),
-    ("struct S;//c", "struct S ;"),
-    ("m!{a/*c*/}", "m ! { a }"),
-    ("m!{'a}", "m ! { 'a }"),
-    ("m!{r#a}", "m ! { r#a }"),
-    ("m!{a a r#a}", "m ! { a a r#a }"),
-    ("struct r#fn;", "struct r#fn ;"),
-    (
-        "m!{/// x\n'a 'b' r#\"q\"# 0x1F}",
-        "m ! { # [doc = \" x\"] 'a 'b' r#\"q\"# 0x1F }",
-    ),
-    ("m!{//! \"x\"\n}", "m ! { # ! [doc = \" \\\"x\\\"\"] }"),
-    ("m!{/**x*/a}", "m ! { # [doc = \"x\"] a }"),
-    (
-        "struct S; // c\nm!{a /* b /* c */ */ + \"x  y\" 'z}",
-        "struct S ; m ! { a + \"x  y\" 'z }",
-    ),
-    ("m!{+'a'}", "m ! { +'a' }"),
-    ("m!{+'a}", "m ! { +'a }"),
-    ("m!{;'a'}", "m ! { ;'a' }"),
-    ("m!{1.0e3f32..=b'x'}", "m ! { 1.0e3f32 ..= b'x' }"),
-    ("m!{br\"\\\" c\"\\x7f\"}", "m ! { br\"\\\" c\"\\x7f\" }"),
-    ("\u{feff}struct S;", "struct S ;"),
-    ("struct é;", "struct é ;"),
-    ("struct\u{2028}S;", "struct S ;"),
-];
+// Accepted texts of identifiers and marks, and their outputs.
+fn plain() -> [(&'static str, &'static str); 13] {
+    [
+        ("", ""),
+        ("struct  S ;m!{a+-b}", "struct S ; m ! { a +- b }"),
+        ("m!{(a)[b]{}}", "m ! { (a) [b] { } }"),
+        ("m!{a + - b}", "m ! { a + - b }"),
+        ("m!{a+-b}", "m ! { a +- b }"),
+        (" \t\r\n\u{b}\u{c}struct\nS\n;\n", "struct S ;"),
+        ("m!{}", "m ! { }"),
+        ("m!{{}}", "m ! { { } }"),
+        ("m!{()[]}", "m ! { () [] }"),
+        ("m!{( a , [ b ] )}", "m ! { (a , [b]) }"),
+        ("m!{<<=}", "m ! { <<= }"),
+        ("m!{a;;b..c}", "m ! { a ;; b .. c }"),
+        ("struct r;struct _9;", "struct r ; struct _9 ;"),
+    ]
+}
 
-// Texts that are refused, with their faults.
-fn refused() -> [(&'static str, Fault); 35] {
+// Accepted texts of every lexical class, and their outputs.
+fn lexed() -> [(&'static str, &'static str); 18] {
+    [
+        ("struct S;//c", "struct S ;"),
+        ("m!{a/*c*/}", "m ! { a }"),
+        ("m!{'a}", "m ! { 'a }"),
+        ("m!{r#a}", "m ! { r#a }"),
+        ("m!{a a r#a}", "m ! { a a r#a }"),
+        ("struct r#fn;", "struct r#fn ;"),
+        (
+            "m!{/// x\n'a 'b' r#\"q\"# 0x1F}",
+            "m ! { # [doc = \" x\"] 'a 'b' r#\"q\"# 0x1F }",
+        ),
+        ("m!{//! \"x\"\n}", "m ! { # ! [doc = \" \\\"x\\\"\"] }"),
+        ("m!{/**x*/a}", "m ! { # [doc = \"x\"] a }"),
+        (
+            "struct S; // c\nm!{a /* b /* c */ */ + \"x  y\" 'z}",
+            "struct S ; m ! { a + \"x  y\" 'z }",
+        ),
+        ("m!{+'a'}", "m ! { +'a' }"),
+        ("m!{+'a}", "m ! { +'a }"),
+        ("m!{;'a'}", "m ! { ;'a' }"),
+        ("m!{1.0e3f32..=b'x'}", "m ! { 1.0e3f32 ..= b'x' }"),
+        ("m!{br\"\\\" c\"\\x7f\"}", "m ! { br\"\\\" c\"\\x7f\" }"),
+        ("\u{feff}struct S;", "struct S ;"),
+        ("struct é;", "struct é ;"),
+        ("struct\u{2028}S;", "struct S ;"),
+    ]
+}
+
+// Texts with a lexical fault, and the fault.
+fn without_forest() -> [(&'static str, Fault); 17] {
     [
         ("m!{", lexical(1, 2)),
         ("}", lexical(1, 0)),
@@ -65,6 +74,13 @@ fn refused() -> [(&'static str, Fault); 35] {
         ("m!{r#crate}", lexical(1, 3)),
         ("m!{br#a}", lexical(1, 3)),
         ("m!{cr#a}", lexical(1, 3)),
+        ("m!{a}}", lexical(1, 5)),
+    ]
+}
+
+// Texts that are no program, and the fault.
+fn without_program() -> [(&'static str, Fault); 18] {
+    [
         ("struct S m!{}", syntax(1, 9)),
         ("struct S;struct", Fault::Syntax { place: None }),
         ("fn f(){}", syntax(1, 0)),
@@ -81,7 +97,6 @@ fn refused() -> [(&'static str, Fault); 35] {
         ("struct S;\n //! hi\n", syntax(2, 1)),
         ("struct S;\"x\"", syntax(1, 9)),
         ("r#struct S;", syntax(1, 9)),
-        ("m!{a}}", lexical(1, 5)),
         ("m!{a};m!{b}", syntax(1, 5)),
         ("m!\n  [a]", syntax(2, 2)),
     ]
@@ -97,33 +112,47 @@ fn syntax(line: usize, column: usize) -> Fault {
     }
 }
 
+// Whether the text has that output, which is its own output.
+fn gives(alloc: Global, text: &str, output: &str) -> Result<bool, Fault> {
+    let first = canonical(alloc, text, &mut SourceMap::new(alloc))?;
+    let second = canonical(alloc, output, &mut SourceMap::new(alloc))?;
+    Ok((first.as_str() == output) & (second.as_str() == output))
+}
+
 #[test]
-fn accepted_texts_have_their_output(rt: HostRuntime) -> Result<(), Fail> {
-    for (text, output) in ACCEPTED {
-        let mut map = SourceMap::new(rt.alloc());
-        let answer = canonical(rt.alloc(), text, &mut map)?;
-        assert_eq!(rt; answer.as_str(), output, "of {text}");
+fn plain_texts_have_their_output(rt: HostRuntime) -> Result<(), Fail> {
+    for (text, output) in plain() {
+        assert!(rt; gives(rt.alloc(), text, output)?, "{text}");
     }
     Ok(())
 }
 
 #[test]
-fn outputs_are_their_own(rt: HostRuntime) -> Result<(), Fail> {
-    for (_, output) in ACCEPTED {
-        let mut map = SourceMap::new(rt.alloc());
-        let answer = canonical(rt.alloc(), output, &mut map)?;
-        assert_eq!(rt; answer.as_str(), output);
+fn lexed_texts_have_their_output(rt: HostRuntime) -> Result<(), Fail> {
+    for (text, output) in lexed() {
+        assert!(rt; gives(rt.alloc(), text, output)?, "{text}");
     }
     Ok(())
 }
 
+// Whether the text is refused with that fault.
+fn refuses(alloc: Global, text: &str, fault: Fault) -> bool {
+    match canonical(alloc, text, &mut SourceMap::new(alloc)) {
+        Ok(_) => false,
+        Err(answer) => answer == fault,
+    }
+}
+
 #[test]
-fn refused_texts_have_their_fault(rt: HostRuntime) {
-    for (text, fault) in refused() {
-        let mut map = SourceMap::new(rt.alloc());
-        match canonical(rt.alloc(), text, &mut map) {
-            Ok(answer) => panic!(rt; "{text} gave {answer}"),
-            Err(answer) => assert_eq!(rt; answer, fault, "of {text}"),
-        }
+fn texts_without_forest_have_their_fault(rt: HostRuntime) {
+    for (text, fault) in without_forest() {
+        assert!(rt; refuses(rt.alloc(), text, fault), "{text}");
+    }
+}
+
+#[test]
+fn texts_without_program_have_their_fault(rt: HostRuntime) {
+    for (text, fault) in without_program() {
+        assert!(rt; refuses(rt.alloc(), text, fault), "{text}");
     }
 }
