@@ -6,8 +6,7 @@ use Rattle.std.proofs.Math.Nat.{mod-lt}
 use Rattle.std.proofs.lemmas.Bool.{and_parts, and_from, or_left, cases_Bool, lt-ltb, le-leb}
 use Rattle.std.proofs.lemmas.List.{append-nil}
 use Rattle.unicode_ident.proofs.Computing.{unicode_ident}
-use Rattle.rust_lex.specs.Chars.{is_among, is_first, is_digit, begins, passes}
-use Rattle.rust_lex.specs.Ends.{past}
+use Rattle.rust_lex.specs.Chars.{is_among, is_first, is_digit, begins, passes, past}
 use Rattle.rust_lex.specs.declared.piece.LiteralKind.TheVariants.{Int}
 use Rattle.rust_lex.specs.Number.{is_digit_or_line, begins_fraction, begins_exponent, past_fraction, past_exponent, past_decimal, base_by, base_of, past_number, number_kind, decimal_kind}
 use Rattle.rust_lex.specs.Piece.{IsSuffix, IsBody}

@@ -4,8 +4,7 @@ use Rattle.std.specs.Prelude.{true, false, not, ◌⊎◌, ◌&&◌, ◌||◌, �
 use Rattle.std.specs.List.{starts_with}
 use Rattle.std.proofs.lemmas.Bool.{and_parts, and_from, and_left, and_right, or_cases, cases_Bool, eqb-true}
 use Rattle.unicode_ident.proofs.Computing.{unicode_ident}
-use Rattle.rust_lex.specs.Chars.{is_first, is_next, is_digit, begins, passes, is_quote_or_hash, is_tick, is_tick_or_hash}
-use Rattle.rust_lex.specs.Ends.{past}
+use Rattle.rust_lex.specs.Chars.{is_first, is_next, is_digit, begins, passes, is_quote_or_hash, is_tick, is_tick_or_hash, past}
 use Rattle.rust_escape.specs.declared.mode.Mode.{Mode}
 use Rattle.rust_escape.specs.declared.mode.Mode.TheVariants as modes
 use Rattle.rust_escape.specs.Mode.{is_raw}

@@ -3,8 +3,7 @@ use Rattle.std.proofs.Common.{◌≡◌, ℕ, arith, List, [], ◌∷◌, ◌++�
 use Rattle.std.specs.Prelude.{Bool, true, false, not, ◌&&◌, ◌==◌, nat_lt, if◌then◌else◌, Some}
 use Rattle.std.proofs.lemmas.Bool.{and_parts, and_from, cases_Bool, eqb-true, or_parts, or_right, not-true, not-false}
 use Rattle.std.proofs.lemmas.List.{append_cancel_right}
-use Rattle.rust_lex.specs.Chars.{is_digit, begins, is_underscore}
-use Rattle.rust_lex.specs.Ends.{past}
+use Rattle.rust_lex.specs.Chars.{is_digit, begins, is_underscore, past}
 use Rattle.rust_lex.specs.declared.piece.LiteralKind.{LiteralKind}
 use Rattle.rust_lex.specs.Number.{is_digit_or_line, is_digit_of, is_digit_of_or_line, is_dot_or_first, is_sign, is_exponent_letter, begins_fraction, past_fraction, past_sign, past_lead, begins_exponent, past_exponent, past_decimal, past_based, base_by, base_of, past_number, number_kind, decimal_kind, IsNumber}
 use Rattle.rust_lex.proofs.Ends.{passed, Tail}

@@ -3,8 +3,7 @@ use Rattle.std.proofs.Common.{◌≡◌, ℕ, List, [], ◌∷◌, ◌++◌, ref
 use Rattle.std.specs.Prelude.{Bool, true, false, not, ◌&&◌, ◌==◌}
 use Rattle.std.proofs.lemmas.Bool.{and_parts, cases_Bool, eqb-true}
 use Rattle.unicode_ident.proofs.Computing.{unicode_ident}
-use Rattle.rust_lex.specs.Chars.{is_first, is_next, is_digit, begins, passes, is_underscore}
-use Rattle.rust_lex.specs.Ends.{past}
+use Rattle.rust_lex.specs.Chars.{is_first, is_next, is_digit, begins, passes, is_underscore, past}
 use Rattle.rust_lex.specs.Number.{is_digit_or_line, is_sign, is_dot_or_first, is_exponent_letter, begins_fraction, begins_exponent, past_sign, past_lead}
 use Rattle.rust_lex.specs.Piece.{IsSuffix}
 use Rattle.rust_lex.proofs.Fronts.{among_each}

@@ -2,13 +2,13 @@
 use Rattle.std.proofs.Common.{◌≡◌, ℕ, ◌+◌, ◌*◌, ◌≤◌, ◌<◌, arith, List, [], ◌∷◌, ◌++◌, refl, sym, ap, ◌∙◌, subst, ⊎_elim, append_assoc, length}
 use Rattle.std.specs.Prelude.{Bool, true, false, ◌&&◌, ◌==◌, Option, Some, None, not}
 use Rattle.std.proofs.lemmas.Bool.{and_parts, and_left, and_right, cases_Bool, or_cases, eqb-true, lt-ltb, false≢true}
-use Rattle.rust_escape.specs.Chars.{begins, passes, is_blank, is_hex_digit, hex_value, is_underscore, digits_of, number_from}
+use Rattle.rust_escape.specs.Chars.{begins, passes, is_blank, is_hex_digit, hex_value, is_underscore, digits_of, number_from, past}
 use Rattle.rust_escape.specs.Escape.{IsEscape, simple, byte, unicode, simple_value, may_hold, is_hex_part}
 use Rattle.rust_escape.specs.Mode.{Mode, Char, Byte, Str, RawStr, ByteStr, RawByteStr, CStr, RawCStr, in_double_quotes, is_raw, holds_bytes}
 use Rattle.rust_escape.specs.Unit.{Rule, Strict, IsUnit, plain, escape, skip, return, is_plain, is_skipped, NoUnit}
 use Rattle.rust_escape.specs.Value.{Value, Character}
 use Rattle.rust_escape.specs.Scan as scan
-use Rattle.rust_escape.specs.Scan.{Scanned, Malformed, Reads, past, named}
+use Rattle.rust_escape.specs.Scan.{Scanned, Malformed, Reads, named}
 
 -- a character of which two tests say different things
 pub apart : (p : ℕ → Bool) (c d : ℕ) → p c ≡ true → p d ≡ false → (c == d) ≡ false

@@ -3,13 +3,13 @@ use Rattle.std.proofs.Common.{◌≡◌, ℕ, ◌+◌, ◌*◌, ◌≤◌, ◌<�
 use Rattle.std.specs.Prelude.{Bool, true, false, cond, ◌⊎◌, ◌&&◌, ◌==◌, Option, Some, None, not, nat_lt}
 use Rattle.std.proofs.lemmas.Bool.{and_parts, and_from, or_left, or_right, cases_Bool, eqb-true, ltb-true, false≢true, not-true}
 use lib.Utf8.{scalar}
-use Rattle.rust_escape.specs.Chars.{begins, passes, is_blank, is_hex_digit, hex_value, is_underscore, digits_of, number_from, hex_number}
+use Rattle.rust_escape.specs.Chars.{begins, passes, is_blank, is_hex_digit, hex_value, is_underscore, digits_of, number_from, hex_number, past}
 use Rattle.rust_escape.specs.Escape.{IsEscape, simple, byte, unicode, simple_value, may_hold, may_hold_byte, is_hex_part}
 use Rattle.rust_escape.specs.Mode.{Mode, in_double_quotes, is_raw, holds_bytes}
 use Rattle.rust_escape.specs.Unit.{Strict, IsUnit, plain, escape, skip, is_plain}
 use Rattle.rust_escape.specs.Value.{Value, Character, byte_value}
 use Rattle.rust_escape.specs.Scan as scan
-use Rattle.rust_escape.specs.Scan.{Scanned, Malformed, Reads, past, named, numbered}
+use Rattle.rust_escape.specs.Scan.{Scanned, Malformed, Reads, named, numbered}
 
 pub chosen : {X : Type 0} (b : Bool) (x y z : X) → cond b x y ≡ z → ((b ≡ true) × (x ≡ z)) ⊎ ((b ≡ false) × (y ≡ z))
 chosen true x y z e = inl (refl, e)

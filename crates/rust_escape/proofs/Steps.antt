@@ -3,11 +3,11 @@ use Rattle.std.proofs.Common.{◌≡◌, ℕ, ◌+◌, ◌*◌, ◌^◌, ◌≤�
 use Rattle.std.proofs.Math.Nat.{pow-succ', pow-le-pow_right}
 use Rattle.std.specs.Prelude.{Bool, true, false, ◌&&◌, ◌==◌, None, not, nat_lt}
 use Rattle.std.proofs.lemmas.Bool.{ne_eqb, and_right, lt-ltb, le-ltb}
-use Rattle.rust_escape.specs.Chars.{is_blank, is_hex_digit, hex_value}
+use Rattle.rust_escape.specs.Chars.{is_blank, is_hex_digit, hex_value, past}
 use Rattle.rust_escape.specs.Escape.{simple_value}
 use Rattle.rust_escape.specs.Mode.{Mode, in_double_quotes, is_raw}
 use Rattle.rust_escape.specs.Places.{rest_at, IsPlace, IsScanned}
-use Rattle.rust_escape.specs.Scan.{Scanned, Malformed, Reads, past, named, numbered, simple, byte_escape, unicode_escape, digits, escape, slash, one, scan}
+use Rattle.rust_escape.specs.Scan.{Scanned, Malformed, Reads, named, numbered, simple, byte_escape, unicode_escape, digits, escape, slash, one, scan}
 use Rattle.rust_escape.specs.declared.read.Reading.{Reading}
 use Rattle.rust_escape.proofs.PlacesLemmas.{rest_end}
 

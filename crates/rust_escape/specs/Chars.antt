@@ -1,5 +1,5 @@
 -- Characters, as numbers, and texts as lists of them.
-use Rattle.std.specs.Prelude.{ℕ, ◌+◌, ◌*◌, Bool, true, false, ◌&&◌, ◌==◌, not, nat_lt, List, [], ◌∷◌, filter}
+use Rattle.std.specs.Prelude.{ℕ, ◌+◌, ◌*◌, Bool, true, false, ◌&&◌, ◌==◌, not, nat_lt, List, [], ◌∷◌, filter, if◌then◌else◌}
 use Rattle.std.specs.List.{list_any, fold}
 use Rattle.std.specs.Char.{digit_value, is_whitespace}
 
@@ -16,6 +16,11 @@ begins p (c ∷ cs) = p c
 abbrev pub passes : (ℕ → Bool) → List ℕ → Bool
 passes p [] = true
 passes p (c ∷ cs) = p c && passes p cs
+
+-- what stands behind the characters at its front that pass, as many as there are
+abbrev pub past : (ℕ → Bool) → List ℕ → List ℕ
+past p [] = []
+past p (c ∷ cs) = if p c then past p cs else c ∷ cs
 
 -- the line feed
 abbrev pub is_line_feed : ℕ → Bool

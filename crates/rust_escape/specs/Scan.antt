@@ -1,7 +1,7 @@
 -- Which unit a text begins with: a tool of the proofs.
 use Rattle.std.specs.Prelude.{ℕ, ◌+◌, ◌*◌, Bool, ◌&&◌, ◌==◌, not, nat_lt, List, [], ◌∷◌, Option, Some, None, if◌then◌else◌}
 use lib.Utf8.{scalar}
-use Rattle.rust_escape.specs.Chars.{is_hex_digit, hex_value, is_blank}
+use Rattle.rust_escape.specs.Chars.{is_hex_digit, hex_value, is_blank, past}
 use Rattle.rust_escape.specs.Escape.{simple_value, may_hold, may_hold_byte}
 use Rattle.rust_escape.specs.Mode.{Mode, in_double_quotes, is_raw, holds_bytes}
 use Rattle.rust_escape.specs.Unit.{Strict, is_plain}
@@ -11,11 +11,6 @@ use Rattle.rust_escape.specs.Value.{Value, Character, byte_value}
 pub data Scanned : Type 0 where
   Malformed : Scanned
   Reads : Option Value → List ℕ → Scanned
-
--- behind the characters that pass
-abbrev pub past : (ℕ → Bool) → List ℕ → List ℕ
-past p [] = []
-past p (c ∷ cs) = if p c then past p cs else c ∷ cs
 
 abbrev pub simple : Mode → Option ℕ → List ℕ → Scanned
 simple mode None cs = Malformed

@@ -1,6 +1,6 @@
 //! Reads one unit at a place of an inside.
 
-ghost use Rattle.rust_escape.specs.Chars.{hex_value, is_among, is_blank, is_hex_digit};
+ghost use Rattle.rust_escape.specs.Chars.{hex_value, is_among, is_blank, is_hex_digit, past};
 ghost use Rattle.rust_escape.specs.Escape.{may_hold, may_hold_byte, simple_value};
 ghost use Rattle.rust_escape.specs.Error.{is_fatal};
 ghost use Rattle.rust_escape.specs.Mode.{holds_bytes, holds_c, in_double_quotes, is_raw};
@@ -258,7 +258,7 @@ pub(crate) fn is_blank(c: char) -> bool
 #[tactic(auto, using(crate::proofs::PlacesLemmas::rest_end))]
 fn past_blanks(text: &str, start: usize) -> usize
     requires { IsPlace text.now start }
-    ensures rest { rest_at text.now result ≡ scan.past is_blank (rest_at text.now start) }
+    ensures rest { rest_at text.now result ≡ past is_blank (rest_at text.now start) }
     ensures place { IsPlace text.now result }
     ensures on { start ≤ result }
 {

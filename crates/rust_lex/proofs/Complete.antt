@@ -2,8 +2,8 @@
 use Rattle.std.proofs.Common.{◌≡◌, ℕ, zero, suc, List, [], ◌∷◌, ◌++◌, length, refl, ap, ◌∙◌, subst, ⊎_elim, append_assoc, drop}
 use Rattle.std.specs.Prelude.{true, false, ◌&&◌, ◌==◌, if◌then◌else◌, Some, None, not, is_some}
 use Rattle.std.proofs.lemmas.Bool.{and_parts, cases_Bool, not-true, or_parts, or_cases, eqb-true}
-use Rattle.rust_lex.specs.Chars.{is_first, is_next, is_mark, begins, is_feed, is_not_feed, is_slash, is_slash_or_star, is_quote_or_hash}
-use Rattle.rust_lex.specs.Ends.{past, past_suffix}
+use Rattle.rust_lex.specs.Chars.{is_first, is_next, is_mark, begins, is_line_feed, is_not_feed, is_slash, is_slash_or_star, is_quote_or_hash, past}
+use Rattle.rust_lex.specs.Ends.{past_suffix}
 use Rattle.rust_lex.specs.Comment.{DocKind, OuterLine, InnerLine, OuterBlock, InnerBlock, IsComment, IsDoc, is_plain_line, is_plain_block, past_comment, is_within_line, ends_line}
 use Rattle.rust_escape.specs.declared.mode.Mode.{Mode}
 use Rattle.rust_escape.specs.declared.mode.Mode.TheVariants as modes
@@ -55,7 +55,7 @@ block_doc c text rest h e = rw (h, e) refl
 
 line_stops : (rest : List ℕ) → ends_line rest ≡ true → begins is_within_line rest ≡ false
 line_stops [] h = refl
-line_stops (c ∷ cs) h = ⊎_elim (λ e. rw e refl) (λ e. let (k, _) = and_parts (c == 13) (begins is_feed cs) e in rw (eqb-true c 13 k) refl) (or_cases (c == 10) (c == 13 && begins is_feed cs) h)
+line_stops (c ∷ cs) h = ⊎_elim (λ e. rw e refl) (λ e. let (k, _) = and_parts (c == 13) (begins is_line_feed cs) e in rw (eqb-true c 13 k) refl) (or_cases (c == 10) (c == 13 && begins is_line_feed cs) h)
 
 outer_line : (text : List ℕ) → begins is_slash text ≡ false → is_plain_line (47 ∷ text) ≡ false
 outer_line [] h = refl

@@ -2,8 +2,8 @@
 use Rattle.std.proofs.Common.{◌≡◌, ℕ, List, [], ◌∷◌, ◌++◌, append_assoc, refl, sym, ap, ◌∙◌, subst, ⊎_elim, drop}
 use Rattle.std.specs.Prelude.{Bool, true, false, not, ◌&&◌, ◌==◌, Some}
 use Rattle.std.proofs.lemmas.Bool.{and_parts, and_from, cases_Bool}
-use Rattle.rust_lex.specs.Chars.{is_first, is_next, is_digit, begins, passes, is_underscore}
-use Rattle.rust_lex.specs.Ends.{past, past_suffix}
+use Rattle.rust_lex.specs.Chars.{is_first, is_next, is_digit, begins, passes, is_underscore, past}
+use Rattle.rust_lex.specs.Ends.{past_suffix}
 use Rattle.rust_lex.specs.Number.{is_digit_or_line, is_digit_of, is_digit_of_or_line, is_sign, begins_fraction, past_fraction, past_sign, past_lead, begins_exponent, past_exponent, past_decimal, past_based, base_of, past_number}
 use Rattle.rust_lex.specs.Piece.{IsSuffix}
 use Rattle.rust_lex.proofs.Fronts.{first-next}

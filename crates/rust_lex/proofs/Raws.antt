@@ -8,7 +8,7 @@ use Rattle.rust_escape.specs.Unit.{Rule, Lexical, IsUnit, plain, escape, skip, r
 use Rattle.rust_escape.specs.declared.value.Value.{Value}
 use Rattle.rust_escape.specs.declared.value.Value.TheVariants.{Character}
 use Rattle.rust_escape.proofs.OneInside.{inside_before}
-use Rattle.rust_lex.specs.Chars.{begins, is_feed}
+use Rattle.rust_lex.specs.Chars.{begins, is_line_feed}
 use Rattle.rust_lex.specs.Quoted.{hashes, raw_closing, IsRaw}
 use Rattle.rust_lex.specs.QuotedScan.{past_marks, past_close, stands, past_raw, past_hashes}
 use Rattle.rust_lex.proofs.Taken.{chosen, Taken, option_cases}
@@ -69,17 +69,17 @@ record OneCharacter (mode : Mode) (cs rest : List ℕ) : Type 0 where
   may : stands mode char rest ≡ true
 
 raw_unit : (rule : Rule) (mode : Mode) (cs rest : List ℕ) (v : Option Value) → rule ≡ Lexical → is_raw mode ≡ true → IsUnit rule mode cs rest v → OneCharacter mode cs rest
-raw_unit rule mode _ rest _ l r (plain {c = c} h) = let k = rw l at h in record { char = c; one = refl; may = or_left (is_plain Lexical mode c) (c == 13 && begins is_feed rest) k }
+raw_unit rule mode _ rest _ l r (plain {c = c} h) = let k = rw l at h in record { char = c; one = refl; may = or_left (is_plain Lexical mode c) (c == 13 && begins is_line_feed rest) k }
 raw_unit rule mode _ rest _ l r (escape q h) = absurd (false≢true (sym q ∙ r))
 raw_unit rule mode _ rest _ l r (skip q d h s) = absurd (false≢true (sym q ∙ r))
-raw_unit rule mode _ _ _ l r (return {rest = rest} d) = record { char = 13; one = refl; may = or_right (is_plain Lexical mode 13) (13 == 13 && begins is_feed (10 ∷ rest)) refl }
+raw_unit rule mode _ _ _ l r (return {rest = rest} d) = record { char = 13; one = refl; may = or_right (is_plain Lexical mode 13) (13 == 13 && begins is_line_feed (10 ∷ rest)) refl }
 
 -- and a character that may stand is one
 record Standing (mode : Mode) (c : ℕ) (cs : List ℕ) : Type 0 where
   value : Option Value
   is : IsUnit Lexical mode (c ∷ []) cs value
 
-returned : (mode : Mode) (c : ℕ) (cs : List ℕ) → in_double_quotes mode ≡ true → c ≡ 13 → begins is_feed cs ≡ true → Standing mode c cs
+returned : (mode : Mode) (c : ℕ) (cs : List ℕ) → in_double_quotes mode ≡ true → c ≡ 13 → begins is_line_feed cs ≡ true → Standing mode c cs
 returned mode c [] d e f = cc
 returned mode c (x ∷ cs) d e f = rw (e, eqb-true x 10 f) (record { value = return_value mode; is = return d })
 
@@ -87,8 +87,8 @@ standing : (mode : Mode) (c : ℕ) (cs : List ℕ) → in_double_quotes mode ≡
 standing mode c cs d h =
     ⊎_elim
     (λ p. record { value = Some (Character c); is = plain p })
-    (λ k. let (a, b) = and_parts (c == 13) (begins is_feed cs) k in returned mode c cs d (eqb-true c 13 a) b)
-    (or_cases (is_plain Lexical mode c) (c == 13 && begins is_feed cs) h)
+    (λ k. let (a, b) = and_parts (c == 13) (begins is_line_feed cs) k in returned mode c cs d (eqb-true c 13 a) b)
+    (or_cases (is_plain Lexical mode c) (c == 13 && begins is_line_feed cs) h)
 
 -- no quote of the inside is followed by n #
 abbrev IsUnclosed : ℕ → List ℕ → Type 0

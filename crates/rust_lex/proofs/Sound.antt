@@ -2,8 +2,8 @@
 use Rattle.std.proofs.Common.{◌≡◌, ℕ, zero, suc, List, [], ◌∷◌, ◌++◌, length, refl, sym, ap, ◌∙◌, subst, inl, inr, ⊎_elim, append_assoc, drop}
 use Rattle.std.specs.Prelude.{Bool, true, false, ◌⊎◌, ◌||◌, ◌&&◌, ◌==◌, if◌then◌else◌, Option, Some, None, not, is_some}
 use Rattle.std.proofs.lemmas.Bool.{and_parts, cases_Bool, or_parts, or_cases, eqb-true, and_cases, not-false, not-true}
-use Rattle.rust_lex.specs.Chars.{is_first, is_next, is_digit, begins, passes, is_not_feed, is_slash, is_slash_or_star}
-use Rattle.rust_lex.specs.Ends.{past, past_suffix}
+use Rattle.rust_lex.specs.Chars.{is_first, is_next, is_digit, begins, passes, is_not_feed, is_slash, is_slash_or_star, past}
+use Rattle.rust_lex.specs.Ends.{past_suffix}
 use Rattle.rust_lex.specs.Comment.{DocKind, OuterLine, InnerLine, OuterBlock, InnerBlock, IsDocText, doc_opening, is_plain_line, is_plain_block, past_comment, is_within_line, ends_line}
 use Rattle.rust_escape.specs.declared.mode.Mode.{Mode}
 use Rattle.rust_escape.specs.declared.mode.Mode.TheVariants as modes

@@ -5,8 +5,7 @@ use Rattle.std.proofs.lemmas.List.{drop_all}
 use Rattle.std.proofs.lemmas.Bool.{eq-eqb, ne_eqb}
 use Rattle.rust_escape.specs.declared.mode.Mode.{Mode}
 use Rattle.rust_escape.specs.declared.mode.Mode.TheVariants as modes
-use Rattle.rust_lex.specs.Chars.{is_next, begins, is_not_feed, is_quote_or_hash}
-use Rattle.rust_lex.specs.Ends.{past}
+use Rattle.rust_lex.specs.Chars.{is_next, begins, is_not_feed, is_quote_or_hash, past}
 use Rattle.rust_lex.specs.Comment.{InnerLine, OuterLine, InnerBlock, OuterBlock, past_comment, is_plain_line, is_plain_block, is_within_line, ends_line}
 use Rattle.rust_lex.specs.Quoted.{Int, opener_of}
 use Rattle.rust_lex.specs.QuotedScan.{past_marks, past_close, stands, past_raw, past_hashes}

@@ -2,7 +2,7 @@
 use Rattle.std.specs.Prelude.{ℕ, Bool, true, false, ◌&&◌, ◌||◌, ◌==◌, not, List, [], ◌∷◌}
 use Rattle.std.specs.Char.{is_ascii_digit}
 use Rattle.unicode_ident.specs.Ident.{is_xid_start, is_xid_continue}
-pub use Rattle.rust_escape.specs.Chars.{is_among, begins, passes, is_underscore}
+pub use Rattle.rust_escape.specs.Chars.{is_among, begins, passes, past, is_line_feed, is_underscore}
 
 -- the white characters of Unicode, and the marks U+200E and U+200F of a text's direction
 abbrev pub whites : List ℕ
@@ -35,11 +35,8 @@ begins_with [] cs = true
 begins_with (d ∷ ds) [] = false
 begins_with (d ∷ ds) (c ∷ cs) = c == d && begins_with ds cs
 
-abbrev pub is_feed : ℕ → Bool
-is_feed c = c == 10
-
 abbrev pub is_not_feed : ℕ → Bool
-is_not_feed c = not (c == 10)
+is_not_feed c = not (is_line_feed c)
 
 abbrev pub is_hash : ℕ → Bool
 is_hash c = c == 35

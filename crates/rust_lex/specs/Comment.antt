@@ -1,6 +1,6 @@
 -- Comments: the plain ones, which are gaps, and the four forms of docs.
 use Rattle.std.specs.Prelude.{◌≡◌, ℕ, zero, suc, Bool, true, false, ◌&&◌, ◌||◌, ◌==◌, not, List, [], ◌∷◌, ◌++◌, Option, Some, None, if◌then◌else◌, ◌⊎◌}
-use Rattle.rust_lex.specs.Chars.{begins, passes, is_feed, is_not_feed, is_slash, is_slash_or_star}
+use Rattle.rust_lex.specs.Chars.{begins, passes, is_line_feed, is_not_feed, is_slash, is_slash_or_star}
 pub use Rattle.rust_lex.specs.declared.piece.DocKind.{DocKind}
 pub use Rattle.rust_lex.specs.declared.piece.DocKind.TheVariants.{OuterLine, InnerLine, OuterBlock, InnerBlock}
 
@@ -47,7 +47,7 @@ is_within_line c = not (c == 10 || c == 13)
 -- a line ends there: before a line feed, before a carriage return and a line feed, or at the text's end
 abbrev pub ends_line : List ℕ → Bool
 ends_line [] = true
-ends_line (c ∷ cs) = c == 10 || (c == 13 && begins is_feed cs)
+ends_line (c ∷ cs) = c == 10 || (c == 13 && begins is_line_feed cs)
 
 -- what follows the three opening characters of a doc. The line forms go on to the end of the line;
 -- the block forms go on to the */ that closes them; /// is none before /, nor /** before * and /

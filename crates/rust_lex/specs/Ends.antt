@@ -1,11 +1,6 @@
--- What stands behind the characters at the front of a text that belong together.
+-- The characters at the front of a text that belong together, and what stands behind them.
 use Rattle.std.specs.Prelude.{ℕ, Bool, ◌==◌, List, [], ◌∷◌, Option, Some, None, if◌then◌else◌}
-use Rattle.rust_lex.specs.Chars.{is_first, is_next, begins}
-
--- behind the characters that pass, as many as there are
-abbrev pub past : (ℕ → Bool) → List ℕ → List ℕ
-past p [] = []
-past p (c ∷ cs) = if p c then past p cs else c ∷ cs
+use Rattle.rust_lex.specs.Chars.{is_first, is_next, begins, past}
 
 -- these characters
 abbrev pub passing : (ℕ → Bool) → List ℕ → List ℕ

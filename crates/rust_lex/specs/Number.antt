@@ -1,8 +1,7 @@
 -- Numbers. Each part of one goes on as far as it can, so a number is what stands before the text behind it.
 use Rattle.std.specs.Prelude.{◌≡◌, ℕ, Bool, true, false, ◌&&◌, ◌||◌, ◌==◌, not, nat_lt, List, [], ◌∷◌, ◌++◌, drop, Option, Some, None, if◌then◌else◌}
 use Rattle.std.specs.Char.{digit_value}
-use Rattle.rust_lex.specs.Chars.{is_first, is_digit, begins, is_underscore}
-use Rattle.rust_lex.specs.Ends.{past}
+use Rattle.rust_lex.specs.Chars.{is_first, is_digit, begins, is_underscore, past}
 use Rattle.rust_lex.specs.Quoted.{LiteralKind, Int, Float}
 
 abbrev pub is_digit_or_line : ℕ → Bool

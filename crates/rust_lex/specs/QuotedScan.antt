@@ -5,7 +5,7 @@ use Rattle.rust_escape.specs.declared.mode.Mode.TheVariants as modes
 use Rattle.rust_escape.specs.LexicalScan.{lexical_scan}
 use Rattle.rust_escape.specs.Scan.{Scanned, Malformed, Reads}
 use Rattle.rust_escape.specs.Unit.{Lexical, is_plain}
-use Rattle.rust_lex.specs.Chars.{begins, is_feed}
+use Rattle.rust_lex.specs.Chars.{begins, is_line_feed}
 use Rattle.rust_lex.specs.Ends.{past_one}
 
 abbrev pub behind : Scanned → Option (List ℕ)
@@ -39,7 +39,7 @@ past_close n (c ∷ cs) = if c == 34 then past_marks n cs else None
 
 -- a character is a unit of a raw string
 abbrev pub stands : Mode → ℕ → List ℕ → Bool
-stands mode c cs = is_plain Lexical mode c || (c == 13 && begins is_feed cs)
+stands mode c cs = is_plain Lexical mode c || (c == 13 && begins is_line_feed cs)
 
 -- behind the first quote that n # follow, before which units stand
 unfoldable pub past_raw : Mode → ℕ → List ℕ → Option (List ℕ)

@@ -1,7 +1,6 @@
 -- Identifiers, and the quote mark of a lifetime.
 use Rattle.std.specs.Prelude.{◌≡◌, ℕ, Bool, true, false, ◌&&◌, ◌||◌, ◌==◌, not, List, [], ◌∷◌, ◌++◌, drop, if◌then◌else◌}
-use Rattle.rust_lex.specs.Chars.{is_first, is_next, begins, passes, begins_with, is_tick, is_tick_or_hash}
-use Rattle.rust_lex.specs.Ends.{past}
+use Rattle.rust_lex.specs.Chars.{is_first, is_next, begins, passes, begins_with, is_tick, is_tick_or_hash, past}
 
 -- a character that an identifier begins with, and any that it goes on with
 abbrev pub IsWord : List ℕ → Type 0

@@ -1,7 +1,6 @@
 //! Where numbers end.
 
 ghost use Rattle.rust_lex.specs.Chars as chars;
-ghost use Rattle.rust_lex.specs.Ends as ends;
 ghost use Rattle.rust_lex.specs.Number as number;
 ghost use Rattle.rust_lex.specs.Ended.{IsEnd, IsFrom, IsNumberEnd};
 ghost use Rattle.rust_lex.specs.Places.{IsPlace, rest_at};
@@ -137,7 +136,7 @@ fn digits_end(text: &str, start: usize, base: u32) -> usize
     requires place { IsPlace text.now start }
     requires low { 2 ≤ base }
     requires high { base ≤ 16 }
-    ensures rest { rest_at text.now result ≡ ends.past (number.is_digit_of_or_line base) (rest_at text.now start) }
+    ensures rest { rest_at text.now result ≡ chars.past (number.is_digit_of_or_line base) (rest_at text.now start) }
     ensures from { IsFrom text.now start result }
 {
     let mut at = start;

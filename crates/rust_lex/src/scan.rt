@@ -1,7 +1,6 @@
 //! The piece at a place of a text.
 
 ghost use Rattle.rust_lex.specs.Chars as chars;
-ghost use Rattle.rust_lex.specs.Ends as ends;
 ghost use Rattle.rust_lex.specs.Number as number;
 ghost use Rattle.rust_lex.specs.Piece as piece;
 ghost use Rattle.rust_lex.specs.Ended.{IsEnd, IsScanned};
@@ -80,7 +79,7 @@ fn ticked(text: &str, start: usize, at: usize) -> Option<(PieceKind, usize)>
 fn word(text: &str, at: usize, next: usize) -> Option<(PieceKind, usize)>
     requires place { IsPlace text.now at }
     requires behind { IsBehind text.now at next }
-    requires first { ends.past chars.is_next (rest_at text.now at) ≡ ends.past chars.is_next (rest_at text.now next) }
+    requires first { chars.past chars.is_next (rest_at text.now at) ≡ chars.past chars.is_next (rest_at text.now next) }
     ensures { IsScanned text.now at result (scan.word (rest_at text.now at)) }
 {
     if let Some(name) = raw_mark_end(text, at) {

@@ -91,7 +91,7 @@ impl Test for WithinLine {
 pub(crate) struct Feed;
 
 impl Test for Feed {
-    ghost test = { chars.is_feed };
+    ghost test = { chars.is_line_feed };
 
     #[inline(always)]
     fn passes(c: char) -> bool {
@@ -219,7 +219,7 @@ pub(crate) fn begins<T: Test>(text: &str, at: usize) -> bool
 #[inline(always)]
 pub(crate) fn past<T: Test>(text: &str, start: usize) -> usize
     requires { IsPlace text.now start }
-    ensures rest { rest_at text.now result ≡ ends.past T.test (rest_at text.now start) }
+    ensures rest { rest_at text.now result ≡ chars.past T.test (rest_at text.now start) }
     ensures from { IsFrom text.now start result }
 {
     let mut at = start;

@@ -1,5 +1,5 @@
 use Rattle.std.proofs.Common.{◌-◌, length}
-use Rattle.rust_lex.specs.Ends.{past}
+use Rattle.rust_lex.specs.Chars.{past}
 use Rattle.rust_lex.specs.Number.{is_digit_of_or_line}
 use Rattle.rust_lex.proofs.Walks.{Walks}
 use Rattle.rust_lex.proofs.number.digits_end.Given as goal

@@ -1,5 +1,5 @@
 use Rattle.std.proofs.Common.{◌-◌, length}
-use Rattle.rust_lex.specs.Ends.{past as past_those}
+use Rattle.rust_lex.specs.Chars.{past as past_those}
 use Rattle.rust_lex.proofs.Walks.{Walks}
 use Rattle.rust_lex.proofs.walk.past.Given as goal
 
