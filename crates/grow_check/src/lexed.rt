@@ -13,7 +13,7 @@ const OLDER: &str = "/// \u{e9}\nfn old(text: &'static str) { \"a\nb\" }";
 
 /// What a map says of a span.
 #[derive(PartialEq, Drop)]
-struct Answers {
+pub struct Answers {
     source: Option<String>,
     file: String,
     start: LineColumn,
@@ -37,7 +37,8 @@ fn answers_of(alloc: Global, map: &SourceMap, span: Span) -> Result<Answers, Sto
     })
 }
 
-fn all_answers(alloc: Global, map: &SourceMap, spans: &[Span]) -> Result<Vec<Answers>, Stop> {
+/// What a map says of these spans, which it holds.
+pub fn all_answers(alloc: Global, map: &SourceMap, spans: &[Span]) -> Result<Vec<Answers>, Stop> {
     let mut all = Vec::new(alloc);
     for span in spans {
         all.push(answers_of(alloc, map, *span)?)?;
@@ -45,8 +46,8 @@ fn all_answers(alloc: Global, map: &SourceMap, spans: &[Span]) -> Result<Vec<Ans
     Ok(all)
 }
 
-// The spans of the older text's trees.
-fn older(alloc: Global, map: &mut SourceMap) -> Result<Vec<Span>, Stop> {
+/// The spans of the older text's trees, which is put into the map.
+pub fn older(alloc: Global, map: &mut SourceMap) -> Result<Vec<Span>, Stop> {
     let Ok(stream) = TokenStream::from_str(alloc, OLDER, map) else {
         return Err(Stop::Elsewhere);
     };

@@ -3,11 +3,13 @@
 //!
 //! - `lexed`: a text of standard input behind an older one.
 //! - `built`: streams by hand, which the argument `built` asks for.
+//! - `literals`: literals of texts and their values, which the argument `literals` asks for.
 //! - `stop`: why a run has no answer.
 #![tactic(auto)]
 
 mod built;
 mod lexed;
+mod literals;
 mod stop;
 
 use std::env;
@@ -28,15 +30,19 @@ fn main(rt: HostRuntime) -> ExitCode {
 }
 
 fn run(rt: &HostRuntime) -> Result<(), Stop> {
-    let args = env::args(rt).map_err(|_| Stop::Elsewhere)?;
-    let answer = if args.len() > 1 {
-        built::built(rt.alloc())?
-    } else {
-        let mut text = String::new(rt.alloc());
-        let read = rt.reader().read_to_string(&mut text);
-        read.map_err(|_| Stop::Elsewhere)?;
-        lexed::lexed(rt.alloc(), text.as_str())?
+    let mut args = env::args(rt).map_err(|_| Stop::Elsewhere)?.skip(1);
+    let answer = match args.next() {
+        Some(word) if word.as_str() == "literals" => literals::literals(rt.alloc())?,
+        Some(_) => built::built(rt.alloc())?,
+        None => of_input(rt)?,
     };
     let written = rt.stdout().write_all(answer.as_bytes());
     written.map_err(|_| Stop::Elsewhere)
+}
+
+fn of_input(rt: &HostRuntime) -> Result<String, Stop> {
+    let mut text = String::new(rt.alloc());
+    let read = rt.reader().read_to_string(&mut text);
+    read.map_err(|_| Stop::Elsewhere)?;
+    lexed::lexed(rt.alloc(), text.as_str())
 }
