@@ -11,7 +11,7 @@ use Rattle.proc_macro2.specs.Forest.{IsForest}
 use Rattle.proc_macro2.specs.Printed as printed
 use Rattle.token_entries.specs.Entries.{entry_token, entry_tokens, spanned_entries}
 use Rattle.token_entries.specs.declared.entry.Entry.{Entry}
-use Rattle.lex_laws.specs.Leaf.{AreCharacters}
+use Rattle.rust_leaf.specs.Leaf.{AreCharacters}
 use Rattle.canon_syntax.specs.Tree.{Tree}
 use Rattle.canon_syntax.specs.File as file
 use Rattle.canon_syntax.specs.declared.fault.ParseFault.{ParseFault}

@@ -7,7 +7,7 @@ use Rattle.proc_macro2.specs.Forest.{IsForest, IsLexicalFault}
 use Rattle.proc_macro2.specs.Printed as printed
 use Rattle.proc_macro2.proofs.Halts.{no_forest}
 use Rattle.proc_macro2.proofs.Total.{forest_or_fault}
-use Rattle.lex_laws.specs.Leaf.{AreCharacters}
+use Rattle.rust_leaf.specs.Leaf.{AreCharacters}
 use Rattle.lex_laws.proofs.Exactly.{forest_back}
 use Rattle.lex_laws.proofs.Forests.{forest_spaced}
 use Rattle.canon_syntax.specs.Tree.{Tree, flat}

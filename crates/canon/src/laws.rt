@@ -4,7 +4,7 @@ ghost use Rattle.canon.specs.Faults.{IsSyntaxFault};
 ghost use Rattle.canon.specs.Program.{IsOutput, IsProgram, written};
 ghost use Rattle.canon_syntax.specs.Normal.{normal};
 ghost use Rattle.canon_syntax.specs.Tree.{Tree};
-ghost use Rattle.lex_laws.specs.Leaf.{AreCharacters};
+ghost use Rattle.rust_leaf.specs.Leaf.{AreCharacters};
 ghost use Rattle.proc_macro2.specs.Forest.{IsLexicalFault};
 ghost use Rattle.rust_map.specs.declared.place.LineColumn.{LineColumn};
 ghost use Rattle.std.specs.Prelude.{ℕ, ◌≡◌, ◌↔◌, ◌⊎◌, List, Option};

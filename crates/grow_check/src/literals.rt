@@ -10,12 +10,7 @@ use rust_map::span::Span;
 use std::alloc::Global;
 
 // The literal of a text that is put behind the older one, whose spans are as before.
-fn parsed(
-    alloc: Global,
-    text: &str,
-    map: &mut SourceMap,
-    spans: &[Span],
-) -> Result<Literal, Stop> {
+fn parsed(alloc: Global, text: &str, map: &mut SourceMap, spans: &[Span]) -> Result<Literal, Stop> {
     let before = all_answers(alloc, map, spans)?;
     let read = Literal::from_str(alloc, text, map);
     if all_answers(alloc, map, spans)? != before {

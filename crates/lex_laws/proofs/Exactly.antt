@@ -7,7 +7,7 @@ use Rattle.proc_macro2.specs.Printed.{text}
 use Rattle.proc_macro2.specs.Spacing.{IsWellSpaced}
 use Rattle.proc_macro2.specs.Token.{Spanned, plain}
 use Rattle.proc_macro2.proofs.Total.{forest_or_fault}
-use Rattle.lex_laws.specs.Leaf.{AreLeaves}
+use Rattle.proc_macro2.specs.Leaf.{AreLeaves}
 use Rattle.lex_laws.proofs.Forests.{same_forest, spaced_no_fault}
 
 pub forest_back : (base : ℕ) (stream : List Spanned) → AreLeaves (plain stream) → IsMatched stream

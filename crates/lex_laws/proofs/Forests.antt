@@ -21,7 +21,8 @@ use Rattle.proc_macro2.specs.Pieces.{piece_tokens, doc_marks, doc_group, doc_tex
 use Rattle.proc_macro2.specs.Forest.{IsForest, Opening, closed, open_behind, openings, count, IsStray, IsUnmatched, IsUnclosed, IsFaultBehind}
 use Rattle.proc_macro2.specs.Printed.{text}
 use Rattle.proc_macro2.specs.Spacing.{IsWellSpaced}
-use Rattle.lex_laws.specs.Leaf.{AreCharacters, AreLeaves}
+use Rattle.proc_macro2.specs.Leaf.{AreLeaves}
+use Rattle.rust_leaf.specs.Leaf.{AreCharacters}
 use Rattle.lex_laws.specs.Read.{IsReadAs}
 use Rattle.lex_laws.proofs.Plain.{plain_of, plain_tokens, one_reading}
 use Rattle.lex_laws.proofs.Printing.{reads_back}

@@ -23,8 +23,8 @@ use Rattle.rust_lex.proofs.Raws.{raw_whole}
 use Rattle.rust_lex.proofs.Sound.{word_none, word_some, word_raw, suffixed_some}
 use Rattle.rust_lex.proofs.Taken.{option_cases}
 use Rattle.proc_macro2.specs.Spacing.{is_prefixed_string}
-use Rattle.lex_laws.specs.Calm.{IsCalm}
-use Rattle.lex_laws.proofs.Quieter.{Shuns, calm_shuns}
+use Rattle.rust_lex.specs.Calm.{IsCalm}
+use Rattle.rust_lex.proofs.Quieter.{Shuns, calm_shuns}
 
 shuns_tick_or_hash : Shuns is_tick_or_hash
 shuns_tick_or_hash = record { space = refl; round = refl; square = refl }

@@ -9,8 +9,8 @@ use Rattle.rust_lex.specs.Word.{begins_lifetime}
 use Rattle.rust_lex.specs.Piece.{begins_mark, begins_char, is_joint}
 use Rattle.rust_leaf.specs.Mark.{is_mark as is_punctuation}
 use Rattle.rust_lex.proofs.Fronts.{among_each}
-use Rattle.lex_laws.specs.Calm.{calm, IsCalm}
-use Rattle.lex_laws.proofs.Quieter.{Shuns, calm_shuns}
+use Rattle.rust_lex.specs.Calm.{calm, IsCalm}
+use Rattle.rust_lex.proofs.Quieter.{Shuns, calm_shuns}
 
 -- the 22 marks are the other 21 and '
 among_front : (ds : List ℕ) (c d : ℕ) → is_among ds c ≡ true → is_among (ds ++ (d ∷ [])) c ≡ true

@@ -24,10 +24,11 @@ use Rattle.proc_macro2.specs.Token.{Token, Opens, Closes, Word, Quoted, Sign}
 use Rattle.proc_macro2.specs.Pieces.{piece_tokens, spacing_of}
 use Rattle.proc_macro2.specs.Printed.{shown, hugs, is_hugged, opens_brace, closes_brace, is_apart, space, text}
 use Rattle.proc_macro2.specs.Spacing.{is_character, follows_quote, follows_mark, may_stand, IsWellSpaced}
-use Rattle.lex_laws.specs.Calm.{IsCalm}
-use Rattle.lex_laws.specs.Leaf.{IsLiteralLeaf, IsLeaf, AreLeaves}
+use Rattle.rust_lex.specs.Calm.{IsCalm}
+use Rattle.proc_macro2.specs.Leaf.{IsLeaf, AreLeaves}
+use Rattle.rust_leaf.specs.Parse.{IsLiteralLeaf}
 use Rattle.lex_laws.specs.Read.{IsReadAs}
-use Rattle.lex_laws.proofs.Leaves.{ident_calm, literal_calm}
+use Rattle.rust_lex.proofs.Alone.{ident_calm, literal_calm}
 use Rattle.lex_laws.proofs.Marks.{mark_or_quote, mark_before, quote_before, mark_calm, alone_calm, joint_mark, joint_char}
 use Rattle.lex_laws.proofs.Lifetimes.{lifetime_word, lifetime_string}
 use Rattle.lex_laws.proofs.Plain.{plain_of, plain_tokens}

@@ -16,11 +16,11 @@ use Rattle.rust_lex.specs.Piece.{Piece, Fits, FitsFront, IsIdent}
 use Rattle.rust_lex.specs.Cover.{onto, AreFit, AreFitFront}
 use Rattle.proc_macro2.specs.Token.{Token}
 use Rattle.proc_macro2.specs.Pieces.{piece_tokens, doc_text, doc_marks, doc_group, head}
-use Rattle.lex_laws.specs.Leaf.{AreLeaves}
+use Rattle.proc_macro2.specs.Leaf.{AreLeaves}
 use Rattle.lex_laws.specs.Read.{IsReadAs}
-use Rattle.lex_laws.proofs.Leaves.{ident_calm, literal_calm}
+use Rattle.rust_lex.proofs.Alone.{ident_calm, literal_calm}
 use Rattle.lex_laws.proofs.Marks.{begun_is}
-use Rattle.lex_laws.proofs.Docs.{string_literal}
+use Rattle.rust_leaf.proofs.WrittenStrings.{string_literal}
 use Rattle.lex_laws.proofs.Plain.{plain_of, plain_tokens}
 
 scalars_front : (cs rest : List ℕ) → scalars (cs ++ rest) ≡ true → scalars cs ≡ true

@@ -9,7 +9,8 @@ use Rattle.proc_macro2.specs.Token.{Spanned, plain}
 use Rattle.rust_map.specs.declared.fault.LexError.{LexError}
 use Rattle.rust_map.specs.declared.fault.LexFault.{LexFault}
 use Rattle.rust_map.specs.declared.fault.LexFault.TheVariants.{Lex}
-use Rattle.lex_laws.specs.Leaf.{AreCharacters, AreLeaves}
+use Rattle.proc_macro2.specs.Leaf.{AreLeaves}
+use Rattle.rust_leaf.specs.Leaf.{AreCharacters}
 use Rattle.lex_laws.proofs.Forests.{forest_spaced, same_forest, spaced_no_fault}
 
 pub spaced : (base : ℕ) (cs : List ℕ) (result : Result (List Spanned) LexFault) → AreCharacters cs → IfOk result (λ s. IsForest base cs s) → IfOk result (λ s. AreLeaves (plain s) × IsWellSpaced (plain s))

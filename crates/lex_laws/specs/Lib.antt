@@ -1,4 +1,2 @@
-pub mod Calm
-pub mod Leaf
 pub mod Place
 pub mod Read

@@ -7,6 +7,7 @@
 //!
 //! - `laws`: these laws.
 //! - `parsed`: the same of the stream that a text gives.
+//! - `spaced`: the same of a stream: `is_well_spaced` is true exactly if it is read back from its print.
 //! - `places`: laws on where the tokens of a text stand in it.
 //! - `placed`: what a map says of the tokens of a text.
 #![tactic(auto)]
@@ -15,3 +16,4 @@ pub mod laws;
 pub mod parsed;
 pub mod placed;
 pub mod places;
+pub mod spaced;

@@ -1,6 +1,6 @@
 //! What a text gives as a stream.
 
-ghost use Rattle.lex_laws.specs.Leaf.{AreLeaves};
+ghost use Rattle.proc_macro2.specs.Leaf.{AreLeaves};
 ghost use Rattle.proc_macro2.specs.Groups.{IsMatched};
 ghost use Rattle.proc_macro2.specs.Printed.{text};
 ghost use Rattle.proc_macro2.specs.Spacing.{IsWellSpaced};

@@ -1,18 +1,17 @@
 -- What pieces are, for the tokens that they become.
-use Rattle.std.proofs.Common.{◌≡◌, ℕ, zero, suc, ◌<◌, arith, List, [], ◌∷◌, ◌++◌, length, refl, sym, ap, ◌∙◌, subst, ⊎_elim, inl, inr, codes}
+use Rattle.std.proofs.Common.{◌≡◌, ℕ, zero, suc, ◌<◌, arith, List, [], ◌∷◌, length, refl, sym, ◌∙◌, subst, ⊎_elim, inl, inr}
 use Rattle.std.specs.Prelude.{Bool, true, false, ◌||◌, ◌==◌, ◌⊎◌}
-use Rattle.std.specs.List.{list_all}
-use Rattle.std.specs.Str.{chars, bytes_eq}
+use Rattle.std.specs.Str.{chars}
 use Rattle.std.proofs.lemmas.Bool.{and_parts, or_cases, eqb-true}
 use Rattle.std.proofs.lemmas.List.Folds.{list_any-append}
-use Rattle.std.proofs.lemmas.Slice.Eq.{bytes_eq-Decides}
 use Rattle.std.proofs.lemmas.Str.{chars-nil}
-use Rattle.unicode_ident.specs.Ident.{is_xid_continue}
-use Rattle.rust_leaf.specs.Identifier.{is_ident_text, is_identifier, is_reserved, is_raw_identifier}
+use Rattle.rust_leaf.specs.Identifier.{is_ident_text}
 use Rattle.rust_leaf.specs.Mark as leaf
-use Rattle.rust_lex.specs.Chars.{is_mark, marks, is_first, is_next, begins, passes}
+use Rattle.rust_leaf.proofs.IdentTexts.{ident_text_is}
+use Rattle.rust_lex.specs.Chars.{is_mark, marks}
 use Rattle.rust_lex.specs.Piece.{Fits, FitsFront, FitsAt, IsIdent, begins_mark}
-use Rattle.rust_lex.specs.Word.{IsWord, begins_kept, begins_lifetime}
+use Rattle.rust_lex.specs.Word.{begins_lifetime}
+use Rattle.rust_lex.proofs.Alone.{ident_calm, literal_calm}
 use Rattle.rust_lex.specs.declared.piece.PieceKind.{PieceKind}
 use Rattle.rust_lex.specs.declared.piece.PieceKind.TheVariants as piece
 use Rattle.proc_macro2.specs.Built.{IsReady}
@@ -42,68 +41,8 @@ mark_of c rest h =
     (λ q. quote_mark c (eqb-true c 39 (and_parts (c == 39) (begins_lifetime rest) q).0))
     (or_cases _ _ h)
 
--- identifiers
-goes_on : (cs : List ℕ) → passes is_next cs ≡ true → list_all is_xid_continue cs ≡ true
-unfolding is_next
-goes_on [] h = refl
-goes_on (c ∷ cs) h = let (a, b) = and_parts (is_xid_continue c) (passes is_next cs) h in rw (a, goes_on cs b) refl
-
-word_identifier : (cs : List ℕ) → IsWord cs → is_identifier cs ≡ true
-unfolding is_first
-word_identifier [] h = elim h [ ]
-word_identifier (c ∷ cs) h = rw (h.0, goes_on cs h.1) refl
-
-or_second : (a b : Bool) → b ≡ true → (a || b) ≡ true
-or_second true b e = refl
-or_second false b e = e
-
-not_one : (a b : Bool) → (a ≡ true → ⊥) → b ≡ false → (a || b) ≡ false
-not_one true b h k = absurd (h refl)
-not_one false b h k = k
-
-kept_underscore : (rest : List ℕ) → begins is_next rest ≡ false → begins_kept (codes "_" ++ rest) ≡ true
-unfolding begins_kept
-kept_underscore rest h = rw h refl
-
-kept_super : (rest : List ℕ) → begins is_next rest ≡ false → begins_kept (codes "super" ++ rest) ≡ true
-unfolding begins_kept
-kept_super rest h = rw h refl
-
-kept_self : (rest : List ℕ) → begins is_next rest ≡ false → begins_kept (codes "self" ++ rest) ≡ true
-unfolding begins_kept
-kept_self rest h = rw h refl
-
-kept_Self : (rest : List ℕ) → begins is_next rest ≡ false → begins_kept (codes "Self" ++ rest) ≡ true
-unfolding begins_kept
-kept_Self rest h = rw h refl
-
-kept_crate : (rest : List ℕ) → begins is_next rest ≡ false → begins_kept (codes "crate" ++ rest) ≡ true
-unfolding begins_kept
-kept_crate rest h = rw h refl
-
-no_kept : (name rest word : List ℕ) → begins_kept (word ++ rest) ≡ true → begins_kept (name ++ rest) ≡ false → bytes_eq name word ≡ true → ⊥
-no_kept name rest word k n e =
-    let same : name ≡ word = (bytes_eq-Decides name word).0 e in
-    let wrong : true ≡ false = sym k ∙ ap (λ x. begins_kept (x ++ rest)) (sym same) ∙ n in
-    cc
-
-not_reserved : (name rest : List ℕ) → begins is_next rest ≡ false → begins_kept (name ++ rest) ≡ false → is_reserved name ≡ false
-not_reserved name rest h n =
-    not_one _ _ (no_kept name rest (codes "_") (kept_underscore rest h) n)
-    (not_one _ _ (no_kept name rest (codes "super") (kept_super rest h) n)
-    (not_one _ _ (no_kept name rest (codes "self") (kept_self rest h) n)
-    (not_one _ _ (no_kept name rest (codes "Self") (kept_Self rest h) n)
-    (not_one _ _ (no_kept name rest (codes "crate") (kept_crate rest h) n) refl))))
-
-raw_ready : (name rest : List ℕ) → begins is_next rest ≡ false → IsWord name → begins_kept (name ++ rest) ≡ false → is_raw_identifier (114 ∷ 35 ∷ name) ≡ true
-raw_ready name rest h w k = rw (word_identifier name w, not_reserved name rest h k) refl
-
 ident_ready : (cs rest : List ℕ) → IsIdent cs rest → is_ident_text cs ≡ true
-ident_ready cs rest h =
-    ⊎_elim
-    (λ w. or_intro (is_identifier cs) (is_raw_identifier cs) (word_identifier cs w.0))
-    (λ (name, e, w, k). or_second (is_identifier cs) (is_raw_identifier cs) (ap is_raw_identifier e ∙ raw_ready name rest h.0 w k))
-    h.1
+ident_ready cs rest h = (ident_text_is cs).1 (ident_calm cs rest [] h tt)
 
 ready : (k : PieceKind) (cs rest : List ℕ) → Fits k cs rest → IsReady k cs
 ready piece.FrontMark cs rest h = tt
@@ -114,7 +53,7 @@ ready (piece.Open d) cs rest h = tt
 ready (piece.Close d) cs rest h = tt
 ready piece.Mark cs rest (c, e, m) = (c, e, mark_of c rest m)
 ready piece.Ident cs rest h = ident_ready cs rest h
-ready (piece.Literal kind) cs rest h = tt
+ready (piece.Literal kind) cs rest h = literal_calm kind cs rest [] h tt
 
 -- a piece at a text's front is the front mark, or a piece within a text
 pub front_cases : (k : PieceKind) (cs rest : List ℕ) → FitsFront k cs rest → (k ≡ piece.FrontMark) ⊎ Fits k cs rest

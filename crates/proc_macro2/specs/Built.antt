@@ -5,6 +5,7 @@ use Rattle.rust_map.specs.Spans.{span_part}
 use Rattle.rust_map.specs.declared.span.Span.{Span}
 use Rattle.rust_leaf.specs.Identifier.{is_ident_text}
 use Rattle.rust_leaf.specs.Mark.{is_mark}
+use Rattle.rust_lex.specs.Piece.{IsLiteral}
 use Rattle.rust_lex.specs.declared.piece.PieceKind.{PieceKind}
 use Rattle.rust_lex.specs.declared.piece.PieceKind.TheVariants as piece
 use Rattle.proc_macro2.specs.Token.{Delimiter, Opens, Closes, Word, Quoted, Sign, Spanned}
@@ -71,7 +72,7 @@ IsReady (piece.Open d) cs = Unit {0}
 IsReady (piece.Close d) cs = Unit {0}
 IsReady piece.Mark cs = (c : ℕ) × (cs ≡ c ∷ []) × (is_mark c ≡ true)
 IsReady piece.Ident cs = is_ident_text cs ≡ true
-IsReady (piece.Literal kind) cs = Unit {0}
+IsReady (piece.Literal kind) cs = IsLiteral kind cs []
 
 -- the span of a stretch of a text
 abbrev pub stretch_span : Stretch → Span

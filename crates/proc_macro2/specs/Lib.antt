@@ -1,6 +1,8 @@
 pub mod Token
+pub mod Leaf
 pub mod Groups
 pub mod Flat
+pub mod Stream
 pub mod Falls
 pub mod Trees
 pub mod Entered

@@ -2,6 +2,7 @@
 
 ghost use Rattle.proc_macro2.specs.Built.{IsAdded, IsClosing, IsOpened};
 ghost use Rattle.proc_macro2.specs.Flat.{tree_tokens};
+ghost use Rattle.proc_macro2.specs.Stream.{IsStream};
 ghost use Rattle.std.specs.List.{All};
 ghost use Rattle.std.specs.Prelude.{[], ◌++◌, ◌≡◌, ◌+◌, ◌≤◌, IfOk, OnOk};
 
@@ -39,6 +40,7 @@ pub(crate) struct Builder {
 impl TokenStream {
     // Adds a tree at the end.
     pub(crate) fn push(&mut self, tree: TokenTree) -> Result<(), AllocError>
+        requires { IsStream (tree_tokens tree) }
         ensures { OnOk result (self.new ≡ self.old ++ tree_tokens tree) }
     {
         self.trees.push(tree)?;
@@ -47,7 +49,8 @@ impl TokenStream {
 
     // Gives back the room that no tree takes.
     pub(crate) fn shrink(&mut self)
-        ensures { self.new ≡ self.old }
+        ensures same { self.new ≡ self.old }
+        ensures known { IsStream self.new }
     {
         self.trees.shrink_to_fit();
     }
@@ -85,6 +88,7 @@ impl Builder {
 
     /// Adds a tree to the innermost group.
     pub(crate) fn put(&mut self, tree: TokenTree) -> Result<(), AllocError>
+        requires { IsStream (tree_tokens tree) }
         ensures { OnOk result (IsAdded self.old self.new (tree_tokens tree)) }
     {
         self.stream.push(tree)?;

@@ -87,6 +87,7 @@ pub(crate) fn put_doc(
         builder.put(TokenTree::Punct(alone('!', span)))?;
     }
     let group = group(alloc, text, span)?;
+    group.stream.known();
     builder.put(TokenTree::Group(group))?;
     Ok(())
 }

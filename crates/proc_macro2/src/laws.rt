@@ -1,10 +1,11 @@
-//! Laws of streams. Each but the last two is the contract of a function that does nothing.
+//! Laws of streams. Each but the last two is the contract of a function that changes nothing.
 
 ghost use Rattle.proc_macro2.specs.Entered.{entered};
 ghost use Rattle.proc_macro2.specs.Flat.{tree_tokens, trees_tokens};
 ghost use Rattle.proc_macro2.specs.Groups.{GroupsAreMatched, IsMatched};
 ghost use Rattle.proc_macro2.specs.Printed.{space, text};
 ghost use Rattle.proc_macro2.specs.Shown.{back, empty, front, hugs_last};
+ghost use Rattle.proc_macro2.specs.Stream.{IsStream};
 ghost use Rattle.proc_macro2.specs.Spacing.{IsWellSpaced, is_visible};
 ghost use Rattle.proc_macro2.specs.Token.{Closes, Delimiter, Opens, Spanned, Token, plain};
 ghost use Rattle.proc_macro2.specs.declared.tree.TokenTree.{TokenTree};
@@ -14,6 +15,13 @@ ghost use Rattle.std.specs.Prelude.{[], ◌++◌, ◌∷◌, ◌≡◌, ◌≢�
 use crate::tree::{TokenStream, TokenTree};
 use std::alloc::AllocError;
 use try_clone::TryClone;
+
+/// Each token of a stream is one by itself, and each group is closed by its own token.
+pub fn each_stream(stream: &TokenStream)
+    ensures { IsStream stream.now }
+{
+    stream.known();
+}
 
 /// The tokens of trees are matched: each group is closed by its own token.
 pub fn trees_are_matched()

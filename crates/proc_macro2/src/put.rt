@@ -5,6 +5,7 @@ ghost use Rattle.proc_macro2.specs.Pieces.{all_at, delimiter_of, head, spacing_o
 ghost use Rattle.proc_macro2.specs.Token.{Quoted, Sign, Word};
 ghost use Rattle.rust_leaf.specs.Identifier.{is_ident_text};
 ghost use Rattle.rust_leaf.specs.Mark.{is_mark};
+ghost use Rattle.rust_leaf.specs.Parse.{IsLiteralLeaf};
 ghost use Rattle.std.specs.List.{All};
 ghost use Rattle.std.specs.Prelude.{[], ◌∷◌, ◌≡◌, ◌+◌, ◌≤◌, IfOk, OnOk, ℕ, true};
 ghost use Rattle.std.specs.Str.{chars};
@@ -68,6 +69,7 @@ fn put_literal(
     text: &str,
     span: Span,
 ) -> Result<(), AllocError>
+    requires { IsLiteralLeaf (chars text.now) }
     ensures { OnOk result (IsAdded builder.old builder.new (all_at span (Quoted (chars text.now) ∷ []))) }
 {
     let literal = Literal::from_text(alloc, text, span)?;

@@ -5,6 +5,7 @@
 
 ghost use Rattle.proc_macro2.specs.Entered.{entered, literal_entered};
 ghost use Rattle.proc_macro2.specs.Flat.{trees_tokens};
+ghost use Rattle.proc_macro2.specs.Stream.{IsStream};
 ghost use Rattle.rust_leaf.specs.Leaf.{literal_span, literal_text};
 ghost use Rattle.std.specs.List.{flat_map};
 ghost use Rattle.std.specs.Prelude.{[], ◌++◌, ◌≡◌, ◌↔◌, IfOk, IsTrue, OnErr, OnOk};
@@ -105,11 +106,13 @@ impl TokenStream {
 
 // Adds a tree as it stands in a stream.
 fn enter(alloc: Global, trees: &mut Vec<TokenTree>, tree: TokenTree) -> Result<(), AllocError>
-    ensures { OnOk result (trees_tokens trees.new.items ≡ trees_tokens trees.old.items ++ entered tree) }
+    ensures added { OnOk result (trees_tokens trees.new.items ≡ trees_tokens trees.old.items ++ entered tree) }
+    ensures known { OnOk result (IsStream (entered tree)) }
 {
     match tree {
         TokenTree::Literal(literal) => enter_literal(alloc, trees, literal),
         TokenTree::Group(group) => {
+            group.stream.known();
             trees.push(TokenTree::Group(group))?;
             Ok(())
         }
@@ -131,8 +134,9 @@ fn enter_literal(
     trees: &mut Vec<TokenTree>,
     literal: Literal,
 ) -> Result<(), AllocError>
-    ensures { OnOk result (trees_tokens trees.new.items
+    ensures added { OnOk result (trees_tokens trees.new.items
         ≡ trees_tokens trees.old.items ++ literal_entered (literal_text literal) (literal_span literal)) }
+    ensures known { OnOk result (IsStream (literal_entered (literal_text literal) (literal_span literal))) }
 {
     let Some(digits) = behind_minus(literal.as_str()) else {
         trees.push(TokenTree::Literal(literal))?;

@@ -1,6 +1,7 @@
 //! Token trees and streams of them.
 
 ghost use Rattle.proc_macro2.specs.Flat.{tree_tokens};
+ghost use Rattle.proc_macro2.specs.Stream.{IsStream};
 ghost use Rattle.proc_macro2.specs.Trees.{tokens_at, tree_span};
 ghost use Rattle.proc_macro2.specs.declared.tree.TokenTree.TheVariants as tree;
 ghost use Rattle.std.specs.Prelude.{◌≡◌};
@@ -21,7 +22,8 @@ pub struct Group {
     pub(crate) span: Span,
 }
 
-/// A list of token trees. To a contract it is the flat list of their tokens.
+/// A list of token trees. To a contract it is the flat list of their tokens, each of which is one by
+/// itself; a literal in it begins with no minus.
 #[cycle(tree)]
 #[derive(Drop)]
 pub struct TokenStream {
@@ -52,12 +54,25 @@ impl Model for TokenStream {
 
     ghost view = { λ s. trees_tokens s.trees.items };
 
+    ghost use Rattle.proc_macro2.specs.Stream.{IsStream};
+
+    ghost invariant = { λ s. IsStream (trees_tokens s.trees.items) };
+
     ghost size = { length };
 
     ghost use Rattle.proc_macro2.specs.Falls.{most_le};
     ghost use Rattle.std.proofs.Common.{arith};
 
     ghost size_decreases = { λ s h. omega (arith, most_le s.trees.items) };
+}
+
+impl TokenStream {
+    // Nothing, but that a proof learns what holds of each stream.
+    pub(crate) fn known(&self)
+        ensures { IsStream self.now }
+    {
+        let _ = &self.trees;
+    }
 }
 
 impl TokenTree {

@@ -14,3 +14,12 @@ pub mod Hex
 pub mod Written
 pub mod Lexed
 pub mod Taken
+pub mod HexDigits
+pub mod WrittenUnits
+pub mod WrittenQuotes
+pub mod WrittenStrings
+pub mod WrittenCStrings
+pub mod Integers
+pub mod IdentTexts
+pub mod Decided
+pub mod InQuotes

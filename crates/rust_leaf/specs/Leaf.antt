@@ -1,11 +1,16 @@
 -- What leaves are to a contract: the characters that are printed, and the span.
-use Rattle.std.specs.Prelude.{ℕ, List, String, string_bytes}
+use Rattle.std.specs.Prelude.{◌≡◌, ℕ, true, List, String, string_bytes}
+use lib.Utf8.{scalars}
 use Rattle.std.specs.Str.{chars}
 use Rattle.rust_map.specs.declared.span.Span.{Span}
 use Rattle.rust_leaf.specs.declared.ident.Ident.{Ident}
 use Rattle.rust_leaf.specs.declared.literal.Literal.{Literal}
 use Rattle.rust_leaf.specs.declared.punct.Punct.{Punct}
 use Rattle.rust_leaf.specs.declared.punct.Spacing.{Spacing}
+
+-- each number is that of a character
+abbrev pub AreCharacters : List ℕ → Type 0
+AreCharacters cs = scalars cs ≡ true
 
 -- the characters of a string
 abbrev pub text_of : {A : Type 0} → String A → List ℕ

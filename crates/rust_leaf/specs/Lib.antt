@@ -4,6 +4,7 @@ pub mod Identifier
 pub mod Escaped
 pub mod CString
 pub mod Minus
+pub mod Integer
 pub mod Parse
 pub mod Quoted
 pub mod Value

@@ -11,8 +11,8 @@ use Rattle.rust_map.specs.declared.fault.LexFault.{LexFault}
 use Rattle.rust_map.specs.declared.fault.LexFault.TheVariants.{Lex, MapFull, Memory}
 
 -- the text is one literal token, with its suffix, from end to end
-abbrev pub IsUnsigned : List ℕ → Type 0
-IsUnsigned text = (kind : LiteralKind) × IsLiteral kind text []
+abbrev pub IsLiteralLeaf : List ℕ → Type 0
+IsLiteralLeaf text = (kind : LiteralKind) × IsLiteral kind text []
 
 -- a minus may stand before numbers
 abbrev pub is_number : LiteralKind → Bool
@@ -26,7 +26,7 @@ IsNegative text = (kind : LiteralKind) × (number : List ℕ) × (text ≡ minus
 
 -- the text is that of a literal: one literal token, or a minus directly before a number
 abbrev pub IsLiteralText : List ℕ → Type 0
-IsLiteralText text = IsUnsigned text ⊎ IsNegative text
+IsLiteralText text = IsLiteralLeaf text ⊎ IsNegative text
 
 -- what a refusal says of a text whose first character would stand at the position base: that it is no
 -- literal's, which is said of its front; nothing, where the map is full; that it is one, where memory was

@@ -1,5 +1,6 @@
 //! Integer literals: a number in plain decimal, behind a minus where it is below zero, and then its suffix.
 
+ghost use Rattle.rust_leaf.specs.Integer.{IsIntegerSuffix};
 ghost use Rattle.rust_leaf.specs.Leaf.{literal_span, literal_text, text_of};
 ghost use Rattle.rust_map.specs.Spans.{call_site};
 ghost use Rattle.std.specs.Fmt.{decimal, signed_decimal};
@@ -29,6 +30,7 @@ fn push_signed(out: &mut String, n: i128) -> Result<(), AllocError>
 // The literal of a number and a suffix.
 #[tactic(auto, using(crate::proofs::Numbers::number_literal))]
 fn unsigned(alloc: Global, n: u128, suffix: &str) -> Result<Literal, AllocError>
+    requires { IsIntegerSuffix (chars suffix.now) }
     ensures text_is { IfOk result (λ literal. literal_text literal ≡ decimal n ++ chars suffix.now) }
     ensures span_is { IfOk result (λ literal. literal_span literal ≡ call_site) }
 {
@@ -41,6 +43,7 @@ fn unsigned(alloc: Global, n: u128, suffix: &str) -> Result<Literal, AllocError>
 // The literal of a number that may be below zero, and a suffix.
 #[tactic(auto, using(crate::proofs::Numbers::number_literal))]
 fn signed(alloc: Global, n: i128, suffix: &str) -> Result<Literal, AllocError>
+    requires { IsIntegerSuffix (chars suffix.now) }
     ensures text_is { IfOk result (λ literal. literal_text literal ≡ signed_decimal n ++ chars suffix.now) }
     ensures span_is { IfOk result (λ literal. literal_span literal ≡ call_site) }
 {

@@ -1,17 +1,25 @@
-//! Laws of leaves: equality, order and hash of identifiers, and what identifiers, marks and C strings
+//! Laws of leaves: equality, order and hash of identifiers, and what identifiers, marks and literals
 //! are written as.
 //!
 //! Each function does nothing; its contract is the law.
 
-ghost use Rattle.rust_leaf.specs.CString.{AreParts, Part};
+ghost use Rattle.rust_leaf.specs.CString.{AreParts, IsCString, Part, has_zero};
+ghost use Rattle.rust_leaf.specs.Escaped.{byte_character_text, byte_string_text, character_text, string_text};
 ghost use Rattle.rust_leaf.specs.Identifier.{is_ident_text, refusal, refusal_of_raw};
-ghost use Rattle.rust_leaf.specs.Leaf.{ident_text, punct_char};
+ghost use Rattle.rust_leaf.specs.Integer.{IsIntegerSuffix};
+ghost use Rattle.rust_leaf.specs.Leaf.{AreCharacters, ident_text, literal_text, punct_char};
 ghost use Rattle.rust_leaf.specs.Mark.{is_mark};
-ghost use Rattle.std.specs.Prelude.{◌≡◌, ◌↔◌, ◌++◌, IsTrue, List, None, codes};
+ghost use Rattle.rust_leaf.specs.Parse.{IsLiteralLeaf, IsLiteralText};
+ghost use Rattle.rust_leaf.specs.Value.{AreBytes};
+ghost use Rattle.rust_lex.specs.Piece.{IsIdent};
+ghost use Rattle.std.specs.Char.{IsScalar};
+ghost use Rattle.std.specs.Fmt.{decimal};
+ghost use Rattle.std.specs.Prelude.{◌<◌, ◌≡◌, ◌↔◌, ◌++◌, [], ℕ, IsFalse, IsTrue, List, None, codes, true};
 ghost use Rattle.std.specs.Str.{chars};
 ghost use Rattle.std.specs.declared.cmp.Ordering.TheVariants.{Equal};
 
 use crate::ident::Ident;
+use crate::literal::Literal;
 use crate::punct::Punct;
 use std::hash::Hash;
 
@@ -55,6 +63,11 @@ pub fn printed_as_mark(punct: &Punct)
     ensures { IsTrue (is_mark (punct_char punct.now)) }
 {}
 
+/// Each literal is printed as one, or as a minus directly before a number.
+pub fn printed_as_literal(literal: &Literal)
+    ensures { IsLiteralText (literal_text literal.now) }
+{}
+
 /// What `new` accepts is the text of an identifier.
 pub fn accepted_is_identifier(text: &str)
     ensures { refusal (chars text.now) ≡ None → IsTrue (is_ident_text (chars text.now)) }
@@ -68,4 +81,23 @@ pub fn accepted_raw_is_identifier(text: &str)
 /// The bytes of a C string are read as characters and loose bytes in one way.
 pub fn one_reading_of_c_string(bytes: &[u8])
     ensures { (ps qs : List Part) → AreParts ps bytes.now → AreParts qs bytes.now → ps ≡ qs }
+{}
+
+/// The texts of identifiers are the identifiers by themselves.
+pub fn identifier_text()
+    ensures { (cs : List ℕ) → is_ident_text cs ≡ true ↔ IsIdent cs [] }
+{}
+
+/// What is written for a text, a character, a byte, bytes, and bytes of a C string is a literal by itself.
+pub fn written_in_quotes()
+    ensures string { (cs : List ℕ) → AreCharacters cs → IsLiteralLeaf (string_text cs) }
+    ensures character { (c : ℕ) → IsScalar c → IsLiteralLeaf (character_text c) }
+    ensures byte { (b : ℕ) → b < 256 → IsLiteralLeaf (byte_character_text b) }
+    ensures byte_string { (bs : List ℕ) → AreBytes bs → IsLiteralLeaf (byte_string_text bs) }
+    ensures c_string { (bs cs : List ℕ) → AreBytes bs → IsFalse (has_zero bs) → IsCString bs cs → IsLiteralLeaf cs }
+{}
+
+/// What is written for an integer is a literal by itself, its suffix included.
+pub fn written_integers()
+    ensures { (n : ℕ) (suffix : List ℕ) → IsIntegerSuffix suffix → IsLiteralLeaf (decimal n ++ suffix) }
 {}

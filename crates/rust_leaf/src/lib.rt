@@ -5,9 +5,10 @@
 //!
 //! - `ident`: identifiers, and the faults of a text that is none.
 //! - `punct`: punctuation marks.
-//! - `literal`: literals, and their constructors.
+//! - `literal`: literals.
 //! - `debug` (private): leaves as `{:?}` shows them.
 //! - `escape`: how characters and bytes are written inside quotes.
+//! - `in_quotes`: the constructors of literals in quotes.
 //! - `integer`: the constructors of integer literals.
 //! - `minus`: the minus that may stand before a number.
 //! - `parse`: literals of texts, and which texts are literals.
@@ -17,12 +18,13 @@
 //! - `value`: the values of string, byte string and C string literals.
 //! - `value_laws`: laws of these values.
 //! - `messages` (private): what is said of faults.
-//! - `laws`: laws of equality, order and hash.
+//! - `laws`: laws of equality, order and hash, and of what leaves are written as.
 #![tactic(auto)]
 
 mod debug;
 mod escape;
 pub mod ident;
+mod in_quotes;
 mod integer;
 pub mod laws;
 pub mod literal;

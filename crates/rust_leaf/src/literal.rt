@@ -1,114 +1,25 @@
 //! Literals.
 
-ghost use Rattle.rust_leaf.specs.CString.{IsCString, has_zero};
-ghost use Rattle.rust_leaf.specs.Escaped.{byte_character_text, byte_string_text, character_text, string_text};
-ghost use Rattle.rust_leaf.specs.Leaf.{literal_span, literal_text, text_of};
+ghost use Rattle.rust_leaf.specs.Parse.{IsLiteralText};
 ghost use Rattle.rust_map.specs.Spans.{call_site};
-ghost use Rattle.std.specs.Prelude.{[], ◌++◌, ◌∷◌, ◌≡◌, IfOk, IsFalse, Some, encode_utf8_all, string_bytes};
+ghost use Rattle.std.specs.Prelude.{◌≡◌, IfOk, Some, encode_utf8_all, string_bytes};
 ghost use Rattle.std.specs.Str.{chars};
 
-use crate::escape::{push_bare, push_byte, push_bytes, push_c_bytes, push_char, push_text};
 use rust_map::span::Span;
 use std::alloc::{AllocError, Global};
 use std::fmt;
 use try_clone::TryClone;
 
-/// A literal, by its printed text.
+/// A literal, by its printed text. The text is always that of a literal.
 #[derive(Drop)]
 pub struct Literal {
     pub(crate) text: String,
     pub(crate) span: Span,
-}
-
-// An opening quote with what stands before it, and room for some bytes and a closing quote.
-#[tactic(auto, using(crate::proofs::Pushed::first_pushed))]
-fn opened(alloc: Global, len: usize, opening: &str) -> Result<String, AllocError>
-    ensures { IfOk result (λ out. text_of out ≡ chars opening.now) }
-{
-    let room = len.saturating_add(opening.len()).saturating_add(1);
-    let mut out = String::with_capacity(alloc, room)?;
-    out.push_str(opening)?;
-    Ok(out)
-}
-
-// The literal of a text and its closing quote.
-fn closed(text: String, quote: char) -> Result<Literal, AllocError>
-    ensures text_is { IfOk result (λ literal. literal_text literal ≡ text_of text ++ quote ∷ []) }
-    ensures span_is { IfOk result (λ literal. literal_span literal ≡ call_site) }
-{
-    let mut out = text;
-    push_bare(&mut out, quote)?;
-    Ok(Literal::of(out))
+    ghost is_literal: { ∥ IsLiteralText (chars (string_bytes text)) ∥₁ },
 }
 
 impl Literal {
-    /// The string literal of a text.
-    ///
-    /// Between the quotes stand `\t \r \n \" \\`; a zero is `\0`, or `\x00` before a digit 0 to 7;
-    /// other ASCII controls are `\u{..}` by their number in hex, and past ASCII so are the characters
-    /// of the categories Cc, Cf, Cn, Co, Mn, Me, Zl, Zp and Zs. Any other character stands for itself.
-    #[tactic(auto, using(crate::proofs::Pushed::opening_words, std::proofs::lemmas::Grind::common_steps))]
-    pub fn string(alloc: Global, text: &str) -> Result<Literal, AllocError>
-        ensures text_is { IfOk result (λ literal. literal_text literal ≡ string_text (chars text.now)) }
-        ensures span_is { IfOk result (λ literal. literal_span literal ≡ call_site) }
-    {
-        let mut out = opened(alloc, text.len(), "\"")?;
-        push_text(&mut out, '"', text)?;
-        closed(out, '"')
-    }
-
-    /// The character literal of a character, which is escaped as in `string`, but for `\'` and a bare `"`.
-    #[tactic(auto, using(crate::proofs::Pushed::opening_words, std::proofs::lemmas::Grind::common_steps))]
-    pub fn character(alloc: Global, ch: char) -> Result<Literal, AllocError>
-        ensures text_is { IfOk result (λ literal. literal_text literal ≡ character_text ch) }
-        ensures span_is { IfOk result (λ literal. literal_span literal ≡ call_site) }
-    {
-        let mut out = opened(alloc, ch.len_utf8(), "'")?;
-        push_char(&mut out, '\'', ch, "")?;
-        closed(out, '\'')
-    }
-
-    /// The byte literal of a byte.
-    ///
-    /// It stands for itself from the space to `~`, but for `\'` and `\\`; else it is `\t`, `\r`, `\n`,
-    /// `\0`, or `\x` and two hex digits, upper case.
-    #[tactic(auto, using(crate::proofs::Pushed::opening_words, std::proofs::lemmas::Grind::common_steps))]
-    pub fn byte_character(alloc: Global, byte: u8) -> Result<Literal, AllocError>
-        ensures text_is { IfOk result (λ literal. literal_text literal ≡ byte_character_text byte) }
-        ensures span_is { IfOk result (λ literal. literal_span literal ≡ call_site) }
-    {
-        let mut out = opened(alloc, 4, "b'")?;
-        push_byte(&mut out, b'\'', byte, &[])?;
-        closed(out, '\'')
-    }
-
-    /// The byte string literal of bytes, each as in `byte_character`, but for `\"` and a bare `'`. A zero
-    /// before a digit 0 to 7 is `\x00`.
-    #[tactic(auto, using(crate::proofs::Pushed::opening_words, std::proofs::lemmas::Grind::common_steps))]
-    pub fn byte_string(alloc: Global, bytes: &[u8]) -> Result<Literal, AllocError>
-        ensures text_is { IfOk result (λ literal. literal_text literal ≡ byte_string_text bytes.now) }
-        ensures span_is { IfOk result (λ literal. literal_span literal ≡ call_site) }
-    {
-        let mut out = opened(alloc, bytes.len(), "b\"")?;
-        push_bytes(&mut out, b'"', bytes)?;
-        closed(out, '"')
-    }
-
-    /// The C string literal of bytes, without the zero that ends it. `!bytes.contains(&0)` is the test of
-    /// its condition.
-    ///
-    /// A character of UTF-8 is written as in `string`, and any other byte as `\x` and two hex digits,
-    /// upper case.
-    #[tactic(auto, using(crate::proofs::Pushed::opening_words, std::proofs::lemmas::Grind::common_steps))]
-    pub fn c_string(alloc: Global, bytes: &[u8]) -> Result<Literal, AllocError>
-        requires { IsFalse (has_zero bytes.now) }
-        ensures text_is { IfOk result (λ literal. IsCString bytes.now (literal_text literal)) }
-        ensures span_is { IfOk result (λ literal. literal_span literal ≡ call_site) }
-    {
-        let mut out = opened(alloc, bytes.len(), "c\"")?;
-        push_c_bytes(&mut out, bytes)?;
-        closed(out, '"')
-    }
+    ghost use Rattle.rust_leaf.specs.Leaf.{literal_span, literal_text, text_of};
 
     /// The printed text.
     pub fn as_str(&self) -> &str
@@ -117,8 +28,9 @@ impl Literal {
         self.text.as_str()
     }
 
-    /// The literal that is printed as `text`: of a text that has been lexed.
+    /// The literal that is printed as `text`. `is_text` is the test of its condition.
     pub fn from_text(alloc: Global, text: &str, span: Span) -> Result<Literal, AllocError>
+        requires { IsLiteralText (chars text.now) }
         ensures text_is { IfOk result (λ literal. literal_text literal ≡ chars text.now) }
         ensures span_is { IfOk result (λ literal. literal_span literal ≡ span) }
     {
@@ -130,7 +42,8 @@ impl Literal {
 
     // The literal of a text, at no place of a text.
     pub(crate) fn of(text: String) -> Literal
-        ensures text_is { literal_text result ≡ chars (string_bytes text) }
+        requires { IsLiteralText (text_of text) }
+        ensures text_is { literal_text result ≡ text_of text }
         ensures span_is { literal_span result ≡ call_site }
     {
         Literal {
@@ -156,6 +69,8 @@ impl Literal {
 }
 
 impl fmt::Display for Literal {
+    ghost use Rattle.rust_leaf.specs.Leaf.{literal_text};
+
     ghost output = { λ literal. Some (encode_utf8_all (literal_text literal)) };
 
     #[tactic(auto, using(crate::proofs::Texts::printed_text))]
@@ -165,6 +80,7 @@ impl fmt::Display for Literal {
 }
 
 impl TryClone for Literal {
+    ghost use Rattle.rust_leaf.specs.Leaf.{literal_span, literal_text};
     ghost use Rattle.std.specs.Prelude.{List, ℕ};
     ghost use Rattle.rust_map.specs.declared.span.Span.{Span};
 

@@ -15,4 +15,7 @@ pub mod Scans
 pub mod Pieces
 pub mod Characters
 pub mod Covering
+pub mod Quieter
+pub mod Numbers
+pub mod Alone
 pub mod Examples

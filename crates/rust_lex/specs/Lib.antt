@@ -7,6 +7,7 @@ pub mod Number
 pub mod Word
 pub mod Piece
 pub mod Cover
+pub mod Calm
 pub mod Scan
 pub mod Places
 pub mod Ended

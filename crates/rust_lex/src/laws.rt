@@ -1,7 +1,9 @@
 //! Laws of the lexical rules.
 
+ghost use Rattle.rust_lex.specs.Calm.{IsCalm};
 ghost use Rattle.rust_lex.specs.Cover.{IsCover};
-ghost use Rattle.rust_lex.specs.Piece.{FitsAt, Piece, begins_char};
+ghost use Rattle.rust_lex.specs.Piece.{FitsAt, IsIdent, IsLiteral, Piece, begins_char};
+ghost use Rattle.rust_lex.specs.declared.piece.LiteralKind.{LiteralKind};
 ghost use Rattle.rust_lex.specs.Quoted.{Char, IsQuoted};
 ghost use Rattle.std.specs.Prelude.{ℕ, ◌≡◌, ◌↔◌, ◌++◌, List, true};
 
@@ -19,4 +21,14 @@ pub fn one_cover()
 /// literal and some rest make it up.
 pub fn begun_character()
     ensures { (text : List ℕ) → begins_char text ≡ true ↔ ((cs rest : List ℕ) × (text ≡ cs ++ rest) × IsQuoted Char cs) }
+{}
+
+/// An identifier stands before any calm text, whatever follows it elsewhere.
+pub fn identifier_alone()
+    ensures { (cs rest calmer : List ℕ) → IsIdent cs rest → IsCalm calmer → IsIdent cs calmer }
+{}
+
+/// A literal stands before any calm text with the same kind, whatever follows it elsewhere.
+pub fn literal_alone()
+    ensures { (kind : LiteralKind) (cs rest calmer : List ℕ) → IsLiteral kind cs rest → IsCalm calmer → IsLiteral kind cs calmer }
 {}

@@ -1,7 +1,6 @@
 //! The values of byte string and C string literals.
 
-use rust_leaf::literal::Literal;
-use rust_map::span::Span;
+use crate::lexed::literal;
 use std::test::Fail;
 
 #[test]
@@ -26,7 +25,7 @@ fn byte_strings_have_their_values(rt: HostRuntime) -> Result<(), Fail> {
         ("br#\"#\"#", b"#"),
     ];
     for (text, value) in rows {
-        let literal = Literal::from_text(rt.alloc(), text, Span::call_site())?;
+        let literal = literal(rt.alloc(), text)?;
         match literal.byte_str_value(rt.alloc()) {
             Ok(spelled) => assert!(rt; spelled.as_slice() == value, "of {text}"),
             Err(error) => assert!(rt; false, "{text}: {error:?}"),
@@ -53,7 +52,7 @@ fn c_strings_have_their_values(rt: HostRuntime) -> Result<(), Fail> {
         ("cr##\"\"#\"##", &[34, 35, 0]),
     ];
     for (text, value) in rows {
-        let literal = Literal::from_text(rt.alloc(), text, Span::call_site())?;
+        let literal = literal(rt.alloc(), text)?;
         match literal.cstr_value(rt.alloc()) {
             Ok(spelled) => assert!(rt; spelled.as_slice() == value, "of {text}"),
             Err(error) => assert!(rt; false, "{text}: {error:?}"),

@@ -1,9 +1,9 @@
-//! Literals without a value, and why they have none.
+//! Literals without a value, and why they have none; and texts that are no literals at all.
 
+use crate::lexed::literal;
 use rust_escape::error::EscapeError;
 use rust_leaf::literal::Literal;
 use rust_leaf::value::ConversionErrorKind;
-use rust_map::span::Span;
 use std::alloc::Global;
 use std::test::Fail;
 
@@ -16,7 +16,7 @@ struct Faults {
 }
 
 fn faults_of(alloc: Global, text: &str) -> Result<Faults, Fail> {
-    let literal = Literal::from_text(alloc, text, Span::call_site())?;
+    let literal = literal(alloc, text)?;
     Ok(Faults {
         str_value: literal.str_value(alloc).err(),
         byte_str_value: literal.byte_str_value(alloc).err(),
@@ -25,57 +25,26 @@ fn faults_of(alloc: Global, text: &str) -> Result<Faults, Fail> {
 }
 
 #[test]
-fn other_texts_are_no_such_literal(rt: HostRuntime) -> Result<(), Fail> {
+fn other_literals_have_no_such_value(rt: HostRuntime) -> Result<(), Fail> {
+    let other = Some(ConversionErrorKind::InvalidLiteralKind);
     for text in [
-        "",
         "1",
+        "-1",
         "1.0f32",
         "'a'",
         "b'a'",
-        "x",
-        "\"",
-        "\"a",
-        "a\"",
+        "'\"'",
         "\"a\"x",
         "\"a\"_",
         "b\"a\"x",
         "c\"a\"x",
         "r\"a\"x",
         "r#\"a\"#x",
-        "r",
-        "r\"",
-        "r#\"",
-        "r#\"#",
-        "r#\"a\"",
-        "r\"a\"#",
-        "r##\"a\"#",
-        "r#\"a\"##",
-        "r#a#",
-        "br\"",
-        "br#\"#",
-        "cr#\"a\"",
-        "rb\"a\"",
-        "R\"a\"",
-        " \"a\"",
-        "\"a\" ",
-        "'\"a\"'",
-        "-\"a\"",
-        "bb\"a\"",
-        "#\"a\"#",
     ] {
         let faults = faults_of(rt.alloc(), text)?;
-        assert!(rt;
-            faults.str_value == Some(ConversionErrorKind::InvalidLiteralKind),
-            "{text}"
-        );
-        assert!(rt;
-            faults.byte_str_value == Some(ConversionErrorKind::InvalidLiteralKind),
-            "{text}"
-        );
-        assert!(rt;
-            faults.cstr_value == Some(ConversionErrorKind::InvalidLiteralKind),
-            "{text}"
-        );
+        assert!(rt; faults.str_value == other, "{text}");
+        assert!(rt; faults.byte_str_value == other, "{text}");
+        assert!(rt; faults.cstr_value == other, "{text}");
     }
     Ok(())
 }
@@ -111,77 +80,108 @@ fn each_kind_is_no_other(rt: HostRuntime) -> Result<(), Fail> {
     Ok(())
 }
 
+// A carriage return of a literal that isn't raw.
 #[test]
-fn malformed_strings(rt: HostRuntime) -> Result<(), Fail> {
-    for (text, error) in [
-        ("\"a\r\n\"", EscapeError::BareCarriageReturn),
-        ("\"a\r\"", EscapeError::BareCarriageReturn),
-        ("\"a\\\r\n\"", EscapeError::InvalidEscape),
-        ("r#\"\r\"#", EscapeError::BareCarriageReturnInRawString),
-        ("r\"a\r\r\n\"", EscapeError::BareCarriageReturnInRawString),
-        ("\"a\\\"", EscapeError::LoneSlash),
-        ("\"a\"b\"", EscapeError::EscapeOnlyChar),
-        ("\"\\q\"", EscapeError::InvalidEscape),
-        ("\"\\x4\"", EscapeError::TooShortHexEscape),
-        ("\"\\x4g\"", EscapeError::InvalidCharInHexEscape),
-        ("\"\\x80\"", EscapeError::OutOfRangeHexEscape),
-        ("\"\\u41\"", EscapeError::NoBraceInUnicodeEscape),
-        ("\"\\u{}\"", EscapeError::EmptyUnicodeEscape),
-        ("\"\\u{41\"", EscapeError::UnclosedUnicodeEscape),
-        ("\"\\u{_41}\"", EscapeError::LeadingUnderscoreUnicodeEscape),
-        ("\"\\u{4g}\"", EscapeError::InvalidCharInUnicodeEscape),
-        ("\"\\u{0000041}\"", EscapeError::OverlongUnicodeEscape),
-        ("\"\\u{d800}\"", EscapeError::LoneSurrogateUnicodeEscape),
-        ("\"\\u{110000}\"", EscapeError::OutOfRangeUnicodeEscape),
-        ("\"\\q\\x80\"", EscapeError::InvalidEscape),
-        ("\"\\x80\\q\"", EscapeError::OutOfRangeHexEscape),
+fn returns_are_malformed(rt: HostRuntime) -> Result<(), Fail> {
+    for (inside, error) in [
+        ("a\r\n", EscapeError::BareCarriageReturn),
+        ("\r\na\\n", EscapeError::BareCarriageReturn),
+        ("a\\\r\n b", EscapeError::InvalidEscape),
+        ("\\n\r\n\\\r\n", EscapeError::BareCarriageReturn),
+        ("\\\r\n\r\n", EscapeError::InvalidEscape),
     ] {
-        let faults = faults_of(rt.alloc(), text)?;
-        assert!(rt;
-            faults.str_value == Some(ConversionErrorKind::FailedToUnescape(error)),
-            "{text}"
-        );
+        let malformed = Some(ConversionErrorKind::FailedToUnescape(error));
+        let text = format!(in rt.alloc(); "\"{inside}\"")?;
+        let faults = faults_of(rt.alloc(), text.as_str())?;
+        assert!(rt; faults.str_value == malformed, "{inside:?}");
+        let bytes = format!(in rt.alloc(); "b\"{inside}\"")?;
+        let faults = faults_of(rt.alloc(), bytes.as_str())?;
+        assert!(rt; faults.byte_str_value == malformed, "{inside:?}");
+        let c_bytes = format!(in rt.alloc(); "c\"{inside}\"")?;
+        let faults = faults_of(rt.alloc(), c_bytes.as_str())?;
+        assert!(rt; faults.cstr_value == malformed, "{inside:?}");
     }
     Ok(())
 }
 
 #[test]
-fn malformed_byte_strings(rt: HostRuntime) -> Result<(), Fail> {
-    for (text, error) in [
-        ("b\"a\r\n\"", EscapeError::BareCarriageReturn),
-        ("br\"a\rb\n\"", EscapeError::BareCarriageReturnInRawString),
-        ("b\"\u{e9}\"", EscapeError::NonAsciiCharInByte),
-        ("br\"\u{e9}\"", EscapeError::NonAsciiCharInByte),
-        ("b\"\\u{41}\"", EscapeError::UnicodeEscapeInByte),
-        ("b\"a\"b\"", EscapeError::EscapeOnlyChar),
-        ("b\"a\\\"", EscapeError::LoneSlash),
+fn other_texts_are_no_literals(rt: HostRuntime) -> Result<(), Fail> {
+    for text in [
+        "",
+        "x",
+        "\"",
+        "\"a",
+        "a\"",
+        "r",
+        "r\"",
+        "r#\"",
+        "r#\"#",
+        "r#\"a\"",
+        "r\"a\"#",
+        "r##\"a\"#",
+        "r#\"a\"##",
+        "r#a#",
+        "br\"",
+        "br#\"#",
+        "cr#\"a\"",
+        "rb\"a\"",
+        "R\"a\"",
+        " \"a\"",
+        "\"a\" ",
+        "-\"a\"",
+        "bb\"a\"",
+        "#\"a\"#",
     ] {
-        let faults = faults_of(rt.alloc(), text)?;
-        assert!(rt;
-            faults.byte_str_value == Some(ConversionErrorKind::FailedToUnescape(error)),
-            "{text}"
-        );
+        assert!(rt; !Literal::is_text(text), "{text}");
+    }
+    Ok(())
+}
+
+// Insides that the lexer refuses.
+#[test]
+fn malformed_texts_are_no_literals(rt: HostRuntime) -> Result<(), Fail> {
+    for text in [
+        "\"a\r\"",
+        "r#\"\r\"#",
+        "r\"a\r\r\n\"",
+        "\"a\\\"",
+        "\"a\"b\"",
+        "\"\\q\"",
+        "\"\\x4\"",
+        "\"\\x4g\"",
+        "\"\\x80\"",
+        "\"\\u41\"",
+        "\"\\u{}\"",
+        "\"\\u{41\"",
+        "\"\\u{_41}\"",
+        "\"\\u{4g}\"",
+        "\"\\u{0000041}\"",
+        "\"\\u{d800}\"",
+        "\"\\u{110000}\"",
+    ] {
+        assert!(rt; !Literal::is_text(text), "{text}");
     }
     Ok(())
 }
 
 #[test]
-fn malformed_c_strings(rt: HostRuntime) -> Result<(), Fail> {
-    for (text, error) in [
-        ("c\"a\r\n\"", EscapeError::BareCarriageReturn),
-        ("cr\"a\r\"", EscapeError::BareCarriageReturnInRawString),
-        ("c\"\0\"", EscapeError::NulInCStr),
-        ("cr\"\0\"", EscapeError::NulInCStr),
-        ("c\"\\0\"", EscapeError::NulInCStr),
-        ("c\"\\x00\"", EscapeError::NulInCStr),
-        ("c\"\\u{0}\"", EscapeError::NulInCStr),
-        ("c\"a\"b\"", EscapeError::EscapeOnlyChar),
+fn malformed_texts_of_bytes_are_no_literals(rt: HostRuntime) -> Result<(), Fail> {
+    for text in [
+        "br\"a\rb\n\"",
+        "b\"\u{e9}\"",
+        "br\"\u{e9}\"",
+        "b\"\\u{41}\"",
+        "b\"a\"b\"",
+        "b\"a\\\"",
+        "cr\"a\r\"",
+        "c\"\0\"",
+        "cr\"\0\"",
+        "c\"\\0\"",
+        "c\"\\x00\"",
+        "c\"\\u{0}\"",
+        "c\"a\"b\"",
     ] {
-        let faults = faults_of(rt.alloc(), text)?;
-        assert!(rt;
-            faults.cstr_value == Some(ConversionErrorKind::FailedToUnescape(error)),
-            "{text}"
-        );
+        assert!(rt; !Literal::is_text(text), "{text}");
     }
     Ok(())
 }

@@ -1,7 +1,6 @@
 //! The values of string literals.
 
-use rust_leaf::literal::Literal;
-use rust_map::span::Span;
+use crate::lexed::literal;
 use std::test::Fail;
 
 #[test]
@@ -36,7 +35,7 @@ fn strings_have_their_values(rt: HostRuntime) -> Result<(), Fail> {
         ("r###\"\"\"###", "\""),
     ];
     for (text, value) in rows {
-        let literal = Literal::from_text(rt.alloc(), text, Span::call_site())?;
+        let literal = literal(rt.alloc(), text)?;
         match literal.str_value(rt.alloc()) {
             Ok(spelled) => assert_eq!(rt; spelled.as_str(), value, "of {text}"),
             Err(error) => assert!(rt; false, "{text}: {error:?}"),

@@ -91,7 +91,7 @@ loop-at-preserved c =
 
 pub returns-in-None-clause-parsed : goal.returns-in-None-clause-parsed
 returns-in-None-clause-parsed c =
-    subst (IsForest c.args.whole.start (chars c.args.text.now)) (sym c.shrink.ensures)
+    subst (IsForest c.args.whole.start (chars c.args.text.now)) (sym c.shrink.ensures.same)
     (read_all _ _ _ _ _ c.loop-at.invariant (omega arith)
     (c.in-None.ensures.items ∙ append-nil _ ∙ nil_from_length _ (let none = c.in-None.ensures.cases.1 in omega arith)))
 

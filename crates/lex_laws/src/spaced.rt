@@ -1,0 +1,42 @@
+//! Streams and their printed texts.
+
+ghost use Rattle.proc_macro2.specs.Forest.{IsForest};
+ghost use Rattle.proc_macro2.specs.Printed.{text};
+ghost use Rattle.proc_macro2.specs.Spacing.{IsWellSpaced};
+ghost use Rattle.proc_macro2.specs.Token.{Spanned, plain};
+ghost use Rattle.rust_map.specs.declared.fault.LexError.{LexError};
+ghost use Rattle.rust_map.specs.declared.fault.LexFault.TheVariants.{Lex};
+ghost use Rattle.std.specs.Prelude.{◌≡◌, ◌↔◌, Err, IfOk, IsTrue, List, ℕ};
+ghost use Rattle.std.specs.Str.{chars};
+
+use crate::parsed::parsed;
+use proc_macro2::LexFault;
+use proc_macro2::laws::each_stream;
+use proc_macro2::tree::TokenStream;
+use rust_map::SourceMap;
+use std::alloc::Global;
+
+/// What `TokenStream::is_well_spaced` answers: true exactly if the stream's printed text has a forest of
+/// the same tokens, wherever its characters stand.
+pub fn is_well_spaced(stream: &TokenStream) -> bool
+    ensures { (base : ℕ) → IsTrue result ↔ ((read : List Spanned) × IsForest base (text (plain stream.now)) read × (plain read ≡ plain stream.now)) }
+{
+    each_stream(stream);
+    stream.is_well_spaced()
+}
+
+/// What `TokenStream::from_str` answers to the printed text of a stream: the same tokens exactly if the
+/// stream is well spaced, and then no lexical fault.
+pub fn read_again(
+    stream: &TokenStream,
+    alloc: Global,
+    src: &str,
+    map: &mut SourceMap,
+) -> Result<TokenStream, LexFault>
+    requires { chars src.now ≡ text (plain stream.now) }
+    ensures same { IfOk result (λ read. IsWellSpaced (plain stream.now) ↔ (plain read ≡ plain stream.now)) }
+    ensures without_fault { IsWellSpaced (plain stream.now) → (error : LexError) → result ≡ Err (Lex error) → ⊥ }
+{
+    each_stream(stream);
+    parsed(alloc, src, map)
+}

@@ -1,0 +1,85 @@
+-- Streams of one tree, and streams one behind the other.
+use Rattle.std.proofs.Common.{◌≡◌, ℕ, List, [], ◌∷◌, ◌++◌, IsTrue, refl, sym, ap, ◌∙◌, subst, ⊎_elim}
+use Rattle.std.specs.Prelude.{true, false}
+use Rattle.rust_map.specs.declared.span.Span.{Span}
+use Rattle.rust_leaf.specs.Identifier.{is_ident_text}
+use Rattle.rust_leaf.specs.Mark.{is_mark}
+use Rattle.rust_leaf.specs.Minus.{minus, starts_with_minus}
+use Rattle.rust_leaf.specs.Parse.{IsLiteralLeaf, IsLiteralText}
+use Rattle.rust_leaf.proofs.Decided.{literal_had}
+use Rattle.rust_leaf.proofs.IdentTexts.{ident_text_is}
+use Rattle.rust_lex.specs.Chars as lex
+use Rattle.rust_lex.specs.Piece.{IsLiteral, begins_mark}
+use Rattle.rust_lex.specs.declared.piece.PieceKind.TheVariants.{Literal, Mark}
+use Rattle.rust_lex.specs.Scan.{Ends}
+use Rattle.rust_lex.proofs.Complete.{complete, mark_scanned}
+use Rattle.proc_macro2.specs.Token.{Delimiter, Spacing, Token, Opens, Closes, Word, Quoted, Sign, Alone, Spanned, plain}
+use Rattle.proc_macro2.specs.Entered.{literal_entered}
+use Rattle.proc_macro2.specs.Flat.{spanned}
+use Rattle.proc_macro2.specs.Leaf.{AreLeaves}
+use Rattle.proc_macro2.specs.Stream.{IsStream}
+use Rattle.proc_macro2.proofs.GroupLemmas.{matched_append, matched_group}
+use Rattle.proc_macro2.proofs.Texts.{plain_append}
+
+leaves_append : (ts us : List Token) → AreLeaves ts → AreLeaves us → AreLeaves (ts ++ us)
+leaves_append [] us a b = b
+leaves_append (t ∷ ts) us a b = (a.0, leaves_append ts us a.1 b)
+
+pub empty_stream : IsStream []
+empty_stream = record { leaves = tt; matched = refl }
+
+pub joined_stream : (ss ts : List Spanned) → IsStream ss → IsStream ts → IsStream (ss ++ ts)
+joined_stream ss ts a b = record {
+  leaves = subst AreLeaves (sym (plain_append ss ts)) (leaves_append (plain ss) (plain ts) a.leaves b.leaves);
+  matched = matched_append ss ts a.matched b.matched;
+}
+
+pub group_stream : (d : Delimiter) (span : Span) (ss : List Spanned) → IsStream ss → IsStream (spanned (Opens d) span ∷ ss ++ spanned (Closes d) span ∷ [])
+group_stream d span ss a = record {
+  leaves = (tt, subst AreLeaves (sym (plain_append ss (spanned (Closes d) span ∷ []))) (leaves_append (plain ss) (Closes d ∷ []) a.leaves (tt, tt)));
+  matched = matched_group d span ss a.matched;
+}
+
+pub word_stream : (cs : List ℕ) (span : Span) → IsTrue (is_ident_text cs) → IsStream (spanned (Word cs) span ∷ [])
+word_stream cs span t = record { leaves = ((ident_text_is cs).0 t, tt); matched = refl }
+
+pub sign_stream : (c : ℕ) (spacing : Spacing) (span : Span) → IsTrue (is_mark c) → IsStream (spanned (Sign c spacing) span ∷ [])
+sign_stream c spacing span t = record { leaves = (t, tt); matched = refl }
+
+pub quoted_stream : (cs : List ℕ) (span : Span) → IsLiteralLeaf cs → IsStream (spanned (Quoted cs) span ∷ [])
+quoted_stream cs span l = record { leaves = (l, tt); matched = refl }
+
+-- no literal begins with a minus
+minus_begins : (cs : List ℕ) → begins_mark (minus ∷ cs) ≡ true
+unfolding lex.is_mark
+minus_begins cs = refl
+
+leaf_no_minus : (cs : List ℕ) → IsLiteralLeaf (minus ∷ cs) → ⊥
+leaf_no_minus cs (kind, l) =
+    let found = complete (Literal kind) (minus ∷ cs) [] l in
+    let same : Ends Mark (cs ++ []) ≡ Ends (Literal kind) [] = sym (mark_scanned minus (cs ++ []) (minus_begins (cs ++ []))) ∙ found in
+    cc
+
+pub unsigned_leaf : (cs : List ℕ) → ∥ IsLiteralText cs ∥₁ → starts_with_minus cs ≡ false → IsLiteralLeaf cs
+unsigned_leaf cs t n = ⊎_elim (λ l. l) (λ (k, number, e, l, h). (let begins : starts_with_minus cs ≡ true = ap starts_with_minus e in cc)) (literal_had cs t)
+
+-- what stands behind the minus of a literal is one
+pub behind_leaf : (cs number : List ℕ) → ∥ IsLiteralText cs ∥₁ → cs ≡ minus ∷ number → IsLiteralLeaf number
+behind_leaf cs number t e =
+    ⊎_elim
+    (λ l. absurd (leaf_no_minus number (subst IsLiteralLeaf e l)))
+    (λ (k, other, f, l, h). (let same : other ≡ number = cc in (k, subst (λ ds. IsLiteral k ds []) same l)))
+    (literal_had cs t)
+
+-- a literal as it stands in a stream
+pub entered_whole : (cs : List ℕ) (span : Span) → ∥ IsLiteralText cs ∥₁ → starts_with_minus cs ≡ false → IsStream (literal_entered cs span)
+entered_whole cs span t n = rw n (quoted_stream cs span (unsigned_leaf cs t n))
+
+minus_mark : IsTrue (is_mark minus)
+unfolding is_mark
+minus_mark = refl
+
+pub entered_parts : (cs number : List ℕ) (span : Span) → ∥ IsLiteralText cs ∥₁ → cs ≡ minus ∷ number → IsStream (literal_entered cs span)
+entered_parts cs number span t e =
+    subst (λ ds. IsStream (literal_entered ds span)) (sym e)
+    (joined_stream (spanned (Sign minus Alone) span ∷ []) (spanned (Quoted number) span ∷ []) (sign_stream minus Alone span minus_mark) (quoted_stream number span (behind_leaf cs number t e)))
