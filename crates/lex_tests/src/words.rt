@@ -4,7 +4,7 @@ use proc_macro2::delimiter::Delimiter;
 use proc_macro2::tree::{Group, TokenStream, TokenTree};
 use rust_map::fault::{LexError, LexFault};
 use rust_map::place::LineColumn;
-use rust_map::source_map::SourceMap;
+use rust_map::source_map::{MapFull, SourceMap};
 use rust_map::span::Span;
 use std::alloc::{AllocError, Global};
 use std::error::Error;
@@ -91,5 +91,7 @@ fn lexical_faults(rt: HostRuntime) -> Result<(), Fail> {
         let said = said(rt.alloc(), &fault)?;
         assert_eq!(rt; said.as_str(), words);
     }
+    let full = said(rt.alloc(), &MapFull)?;
+    assert_eq!(rt; full.as_str(), "source map full");
     Ok(())
 }

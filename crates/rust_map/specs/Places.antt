@@ -1,6 +1,6 @@
 -- Places of a text: after its first k characters the line is 1 and the line feeds among these,
 -- and the column is the number of characters after the last of these line feeds.
-use Rattle.std.specs.Prelude.{ℕ, ◌+◌, Bool, ◌==◌, not, List, [], ◌∷◌, length, take, reverse}
+use Rattle.std.specs.Prelude.{ℕ, ◌+◌, Bool, ◌==◌, not, List, length, take, reverse}
 use Rattle.std.specs.List.{take_while}
 use Rattle.std.specs.Prelude.{count_by}
 use Rattle.rust_map.specs.declared.place.LineColumn.{LineColumn}

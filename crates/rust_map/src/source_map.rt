@@ -9,6 +9,7 @@ ghost use Rattle.std.specs.Str.{chars};
 use crate::file::SourceFile;
 use crate::span::Span;
 use std::alloc::{AllocError, Global};
+use std::error::Error;
 use std::fmt;
 use std::marker::Model;
 
@@ -18,6 +19,19 @@ const POSITIONS: u64 = 1 << 32;
 /// The map has no positions left for a text of this length.
 #[derive(Clone, Copy, Debug, PartialEq, Eq)]
 pub struct MapFull;
+
+impl fmt::Display for MapFull {
+    ghost use Rattle.rust_map.specs.Faults.{fault_message};
+    ghost use Rattle.rust_map.specs.declared.fault.LexFault.TheVariants as lex_fault;
+
+    ghost output = { λ _. Some (fault_message lex_fault.MapFull) };
+
+    fn fmt<W: fmt::Write>(&self, f: &mut fmt::Formatter<W>) -> fmt::Result {
+        f.write_str("source map full")
+    }
+}
+
+impl Error for MapFull {}
 
 /// The texts that were read, in order, and the positions of their characters.
 ///
