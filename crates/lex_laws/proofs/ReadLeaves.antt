@@ -20,7 +20,7 @@ use Rattle.proc_macro2.specs.Leaf.{AreLeaves}
 use Rattle.lex_laws.specs.Read.{IsReadAs}
 use Rattle.rust_lex.proofs.Alone.{ident_calm, literal_calm}
 use Rattle.lex_laws.proofs.Marks.{begun_is}
-use Rattle.rust_leaf.proofs.WrittenStrings.{string_literal}
+use Rattle.rust_leaf.proofs.WrittenLiterals.{string_literal}
 use Rattle.lex_laws.proofs.Plain.{plain_of, plain_tokens}
 
 scalars_front : (cs rest : List ℕ) → scalars (cs ++ rest) ≡ true → scalars cs ≡ true

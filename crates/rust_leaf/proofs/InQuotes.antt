@@ -9,9 +9,7 @@ use Rattle.rust_leaf.specs.Escaped.{escaped, escaped_all, escaped_byte, escaped_
 use Rattle.rust_leaf.specs.Parse.{IsLiteralLeaf, IsLiteralText}
 use Rattle.rust_leaf.specs.Value.{AreBytes}
 use Rattle.rust_leaf.proofs.Pushed.{string_opening, character_opening, byte_opening, byte_string_opening, c_string_opening}
-use Rattle.rust_leaf.proofs.WrittenCStrings.{c_string_literal}
-use Rattle.rust_leaf.proofs.WrittenQuotes.{character_literal, byte_literal, byte_string_literal}
-use Rattle.rust_leaf.proofs.WrittenStrings.{string_literal}
+use Rattle.rust_leaf.proofs.WrittenLiterals.{byte_literal, byte_string_literal, c_string_literal, character_literal, string_literal}
 
 -- an opening, an inside and a closing quote
 whole : (begun out opening inside : List ℕ) (quote : ℕ) → begun ≡ chars opening → chars opening ≡ opening → out ≡ begun ++ inside → IsLiteralLeaf ((opening ++ inside) ++ quote ∷ []) → IsLiteralText (out ++ quote ∷ [])

@@ -12,13 +12,10 @@ pub mod Spellings
 pub mod Values
 pub mod Hex
 pub mod Written
+pub mod WrittenValues
+pub mod WrittenLiterals
 pub mod Lexed
 pub mod Taken
-pub mod HexDigits
-pub mod WrittenUnits
-pub mod WrittenQuotes
-pub mod WrittenStrings
-pub mod WrittenCStrings
 pub mod Integers
 pub mod IdentTexts
 pub mod Decided

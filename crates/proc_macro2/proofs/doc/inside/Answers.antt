@@ -2,7 +2,7 @@ use Rattle.std.proofs.Common.{sym, ◌∙◌, subst}
 use Rattle.std.specs.Str.{chars}
 use Rattle.std.proofs.lemmas.Str.{scalars-chars}
 use Rattle.rust_leaf.specs.Parse.{IsLiteralLeaf}
-use Rattle.rust_leaf.proofs.WrittenStrings.{string_literal}
+use Rattle.rust_leaf.proofs.WrittenLiterals.{string_literal}
 use Rattle.proc_macro2.proofs.StreamLemmas.{quoted_stream, word_stream}
 use Rattle.proc_macro2.proofs.doc.inside.Goals as goal
 

@@ -1,6 +1,4 @@
-use Rattle.rust_leaf.proofs.WrittenCStrings.{c_string_literal}
-use Rattle.rust_leaf.proofs.WrittenStrings.{string_literal}
-use Rattle.rust_leaf.proofs.WrittenQuotes.{character_literal, byte_literal, byte_string_literal}
+use Rattle.rust_leaf.proofs.WrittenLiterals.{byte_literal, byte_string_literal, c_string_literal, character_literal, string_literal}
 use Rattle.rust_leaf.proofs.laws.written_in_quotes.Goals as goal
 
 pub returns-clause-string : goal.returns-clause-string

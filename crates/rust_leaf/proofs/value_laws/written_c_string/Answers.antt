@@ -1,4 +1,4 @@
-use Rattle.rust_leaf.proofs.Written.{c_string_value}
+use Rattle.rust_leaf.proofs.WrittenValues.{c_string_value}
 use Rattle.rust_leaf.proofs.value_laws.written_c_string.Goals as goal
 
 pub returns : goal.returns

@@ -1,6 +1,6 @@
 use Rattle.std.specs.Str.{chars}
 use Rattle.std.proofs.lemmas.Str.{scalars-chars}
-use Rattle.rust_leaf.proofs.Written.{string_value}
+use Rattle.rust_leaf.proofs.WrittenValues.{string_value}
 use Rattle.rust_leaf.proofs.value_laws.written_string.Goals as goal
 
 pub returns : goal.returns
