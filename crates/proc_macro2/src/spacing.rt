@@ -1,5 +1,4 @@
-//! The test for well spaced streams: those that are read back from their text, if each of their
-//! tokens is a token.
+//! The test for well spaced streams: those that are read back from their text.
 //!
 //! A tree is tested with the one behind it: whether a mark may stand is told by what follows it.
 
@@ -20,6 +19,8 @@ impl TokenStream {
     /// Whether the stream is well spaced. No group in it is invisible. Each `'` is joint and stands
     /// before an identifier, or before a string with a prefix and without `#`. Each other joint mark
     /// stands before a mark with which it begins no comment, or before a character literal.
+    ///
+    /// It is so exactly if lexing its printed text gives the same tokens.
     pub fn is_well_spaced(&self) -> bool
         ensures { IsTrue result ↔ IsWellSpaced (plain self.now) }
     {
