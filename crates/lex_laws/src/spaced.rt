@@ -5,8 +5,9 @@ ghost use Rattle.proc_macro2.specs.Printed.{text};
 ghost use Rattle.proc_macro2.specs.Spacing.{IsWellSpaced};
 ghost use Rattle.proc_macro2.specs.Token.{Spanned, plain};
 ghost use Rattle.rust_map.specs.declared.fault.LexError.{LexError};
-ghost use Rattle.rust_map.specs.declared.fault.LexFault.TheVariants.{Lex};
-ghost use Rattle.std.specs.Prelude.{◌≡◌, ◌↔◌, Err, IfOk, IsTrue, List, ℕ};
+ghost use Rattle.rust_map.specs.declared.fault.LexFault.TheVariants.{Lex, MapFull};
+ghost use Rattle.rust_map.specs.Sources.{next_position};
+ghost use Rattle.std.specs.Prelude.{◌≡◌, ◌+◌, ◌^◌, ◌≤◌, ◌↔◌, Err, IfOk, IsTrue, List, length, ℕ};
 ghost use Rattle.std.specs.Str.{chars};
 
 use crate::parsed::parsed;
@@ -26,7 +27,8 @@ pub fn is_well_spaced(stream: &TokenStream) -> bool
 }
 
 /// What `TokenStream::from_str` answers to the printed text of a stream: the same tokens exactly if the
-/// stream is well spaced, and then no lexical fault.
+/// stream is well spaced, and then no lexical fault. `MapFull` is answered exactly where the map has no
+/// positions left for the text.
 pub fn read_again(
     stream: &TokenStream,
     alloc: Global,
@@ -36,6 +38,7 @@ pub fn read_again(
     requires { chars src.now ≡ text (plain stream.now) }
     ensures same { IfOk result (λ read. IsWellSpaced (plain stream.now) ↔ (plain read ≡ plain stream.now)) }
     ensures without_fault { IsWellSpaced (plain stream.now) → (error : LexError) → result ≡ Err (Lex error) → ⊥ }
+    ensures full { (result ≡ Err MapFull) ↔ (2 ^ 32 ≤ next_position map.old + length (chars src.now)) }
 {
     each_stream(stream);
     parsed(alloc, src, map)
