@@ -1,9 +1,9 @@
 #!/usr/bin/env bash
 # Runs built programs once for each allocation that they make, refusing that one: canon_cli and lex_cli on their
 # stored inputs; grow_check on each text of tests/texts, behind an older text in its map, on streams that are built by
-# hand, and on literals of texts and their values. Each run must give the answer itself, or end with nothing written: with status 3 where memory was refused
-# (in grow_check to a call that is looked at, which then left all as it was), or with grow_check's status 4 where it
-# was refused elsewhere.
+# hand, and on literals of texts and their values. Each run must give the answer itself, or end with nothing written:
+# with status 3 where memory was refused (in grow_check to a call that is looked at, which then left all as it was), or
+# with grow_check's status 4 where it was refused elsewhere.
 # Usage: tests/refused.sh. `rt run` proves and builds the programs first. It needs cc and glibc.
 set -euo pipefail
 cd "$(dirname "$0")"

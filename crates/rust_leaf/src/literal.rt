@@ -10,7 +10,8 @@ use std::alloc::{AllocError, Global};
 use std::fmt;
 use try_clone::TryClone;
 
-/// A literal, by its printed text. The text is always that of a literal.
+/// A literal, by its printed text. The text is always that of a literal, or a `-` directly before that of
+/// a number.
 #[derive(Drop)]
 pub struct Literal {
     pub(crate) text: String,

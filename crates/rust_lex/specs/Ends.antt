@@ -2,7 +2,7 @@
 use Rattle.std.specs.Prelude.{ℕ, Bool, ◌==◌, List, [], ◌∷◌, Option, Some, None, if◌then◌else◌}
 use Rattle.rust_lex.specs.Chars.{is_first, is_next, begins, past}
 
--- these characters
+-- the characters at the front of a text that pass, as many as there are
 abbrev pub passing : (ℕ → Bool) → List ℕ → List ℕ
 passing p [] = []
 passing p (c ∷ cs) = if p c then c ∷ passing p cs else []
