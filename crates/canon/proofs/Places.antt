@@ -12,7 +12,7 @@ use Rattle.rust_map.specs.declared.span.Span.{Span}
 use Rattle.rust_map.proofs.SpotLemmas.{held_by_spot, part_lies, same_span}
 use Rattle.rust_lex.specs.Cover.{onto}
 use Rattle.rust_lex.specs.Piece.{Piece}
-use Rattle.proc_macro2.specs.Token.{Token, Opens, Closes, Word, Quoted, Sign, Spanned}
+use Rattle.proc_macro2.specs.Token.{Token, Opens, Closes, Ident, Literal, Punct, Spanned}
 use Rattle.proc_macro2.specs.Pieces.{edge, edged, edged_at, span_at, piece_tokens, tokens_of}
 use Rattle.token_entries.specs.Entries.{spanned_entry, spanned_entries}
 use Rattle.token_entries.specs.declared.entry.Entry.{Entry}
@@ -45,9 +45,9 @@ last_lies low high p n false t l h = record { starts = l; ordered = omega arith;
 edge_lies : (low high p n : ℕ) (t : Token) → low ≤ p → p + n ≤ high → Lies low high (edge t (span_at p n))
 edge_lies low high p n (Opens d) l h = first_lies low high p n (nat_lt p (p + n)) (λ e. ltb-true p (p + n) e) l h
 edge_lies low high p n (Closes d) l h = last_lies low high p n (nat_lt p (p + n)) (λ e. ltb-true p (p + n) e) l h
-edge_lies low high p n (Word cs) l h = record { starts = l; ordered = omega arith; ends = h }
-edge_lies low high p n (Quoted cs) l h = record { starts = l; ordered = omega arith; ends = h }
-edge_lies low high p n (Sign c spacing) l h = record { starts = l; ordered = omega arith; ends = h }
+edge_lies low high p n (Ident cs) l h = record { starts = l; ordered = omega arith; ends = h }
+edge_lies low high p n (Literal cs) l h = record { starts = l; ordered = omega arith; ends = h }
+edge_lies low high p n (Punct c spacing) l h = record { starts = l; ordered = omega arith; ends = h }
 
 edges_lie : (low high p n : ℕ) (ts : List Token) → low ≤ p → p + n ≤ high → AllLie low high (edged_at (span_at p n) ts)
 edges_lie low high p n [] l h = tt
@@ -89,9 +89,9 @@ edge_behind base p q n (Closes d) e =
     let there : (edge (Closes d) (span_at p n)).start ≡ p + (n - 1) = last_start p n (nat_lt p (p + n)) (λ h. ltb-true p (p + n) h) (λ h. ltb-false p (p + n) h) in
     let here : (edge (Closes d) (span_at q n)).start ≡ q + (n - 1) = last_start q n (nat_lt q (q + n)) (λ h. ltb-true q (q + n) h) (λ h. ltb-false q (q + n) h) in
     there ∙ omega arith ∙ ap (λ k. base + k) (sym here)
-edge_behind base p q n (Word cs) e = e
-edge_behind base p q n (Quoted cs) e = e
-edge_behind base p q n (Sign c spacing) e = e
+edge_behind base p q n (Ident cs) e = e
+edge_behind base p q n (Literal cs) e = e
+edge_behind base p q n (Punct c spacing) e = e
 
 edges_behind : (base p q n : ℕ) (ts : List Token) → p ≡ base + q → AreBehind base (edged_at (span_at p n) ts) (edged_at (span_at q n) ts)
 edges_behind base p q n [] e = tt

@@ -2,7 +2,7 @@
 use Rattle.std.proofs.Common.{◌≡◌, ℕ, zero, suc, ◌<◌, ◌≤◌, List, [], ◌∷◌, ◌++◌, length, refl, sym, ap, ◌∙◌, subst, ⊎_elim, arith}
 use Rattle.std.specs.Prelude.{Bool, true, false, cond, ◌==◌, take}
 use Rattle.std.proofs.lemmas.Bool.{cases_lt}
-use Rattle.proc_macro2.specs.Token.{Token, Opens, Closes, Word, Quoted, Sign}
+use Rattle.proc_macro2.specs.Token.{Token, Opens, Closes, Ident, Literal, Punct}
 use Rattle.canon_syntax.specs.Kind.{Kind}
 use Rattle.canon_syntax.specs.Tree.{Tree, Leaf, Last, Pair, First, Second}
 use Rattle.canon_syntax.specs.Gram.{Gram, one, last, raw, nothing, never, seq, alt, star, ref, ask}
@@ -99,16 +99,16 @@ last_first false x more others = λ h. (_, refl)
 
 last_agrees : (c : ℕ) (front : List Token) (t : Token) (more others : List Token) → Agrees (last_at Last c (front ++ t ∷ more)) (last_at Last c (front ++ t ∷ others)) (suc (length more))
 unfolding last_at
-last_agrees c [] (Sign d spacing) more others = last_first (d == c) (Last d spacing) more others
+last_agrees c [] (Punct d spacing) more others = last_first (d == c) (Last d spacing) more others
 last_agrees c [] (Opens d) more others = λ h. (_, refl)
 last_agrees c [] (Closes d) more others = λ h. (_, refl)
-last_agrees c [] (Word cs) more others = λ h. (_, refl)
-last_agrees c [] (Quoted cs) more others = λ h. (_, refl)
-last_agrees c (Sign d spacing ∷ front) t more others = one_behind (d == c) (Last d spacing) front t more others _ _
+last_agrees c [] (Ident cs) more others = λ h. (_, refl)
+last_agrees c [] (Literal cs) more others = λ h. (_, refl)
+last_agrees c (Punct d spacing ∷ front) t more others = one_behind (d == c) (Last d spacing) front t more others _ _
 last_agrees c (Opens d ∷ front) t more others = λ h. (_, refl)
 last_agrees c (Closes d ∷ front) t more others = λ h. (_, refl)
-last_agrees c (Word cs ∷ front) t more others = λ h. (_, refl)
-last_agrees c (Quoted cs ∷ front) t more others = λ h. (_, refl)
+last_agrees c (Ident cs ∷ front) t more others = λ h. (_, refl)
+last_agrees c (Literal cs ∷ front) t more others = λ h. (_, refl)
 
 raw_beyond : (n : ℕ) (t : Token) (more : List Token) (p : Out) → Agrees (wrap (raw_onto (t ∷ [])) (raw_at n more)) p (suc (length more))
 raw_beyond n t more p = agree_beyond (length more) (suc (length more)) (wrap (raw_onto (t ∷ [])) (raw_at n more)) p (most_wrap (length more) (raw_onto (t ∷ [])) (raw_at n more) (raw_most n more)) (omega arith)
@@ -116,15 +116,15 @@ raw_beyond n t more p = agree_beyond (length more) (suc (length more)) (wrap (ra
 raw_agrees : (n : ℕ) (front : List Token) (t : Token) (more others : List Token) → Agrees (raw_at n (front ++ t ∷ more)) (raw_at n (front ++ t ∷ others)) (suc (length more))
 unfolding raw_at
 raw_agrees n [] (Opens d) more others = raw_beyond (suc n) (Opens d) more _
-raw_agrees n [] (Word cs) more others = raw_beyond n (Word cs) more _
-raw_agrees n [] (Quoted cs) more others = raw_beyond n (Quoted cs) more _
-raw_agrees n [] (Sign c spacing) more others = raw_beyond n (Sign c spacing) more _
+raw_agrees n [] (Ident cs) more others = raw_beyond n (Ident cs) more _
+raw_agrees n [] (Literal cs) more others = raw_beyond n (Literal cs) more _
+raw_agrees n [] (Punct c spacing) more others = raw_beyond n (Punct c spacing) more _
 raw_agrees zero [] (Closes d) more others = λ h. (_, parted [] (Closes d) more others, refl)
 raw_agrees (suc n) [] (Closes d) more others = raw_beyond n (Closes d) more _
 raw_agrees n (Opens d ∷ front) t more others = agree_wrap _ _ _ _ (raw_agrees (suc n) front t more others)
-raw_agrees n (Word cs ∷ front) t more others = agree_wrap _ _ _ _ (raw_agrees n front t more others)
-raw_agrees n (Quoted cs ∷ front) t more others = agree_wrap _ _ _ _ (raw_agrees n front t more others)
-raw_agrees n (Sign c spacing ∷ front) t more others = agree_wrap _ _ _ _ (raw_agrees n front t more others)
+raw_agrees n (Ident cs ∷ front) t more others = agree_wrap _ _ _ _ (raw_agrees n front t more others)
+raw_agrees n (Literal cs ∷ front) t more others = agree_wrap _ _ _ _ (raw_agrees n front t more others)
+raw_agrees n (Punct c spacing ∷ front) t more others = agree_wrap _ _ _ _ (raw_agrees n front t more others)
 raw_agrees zero (Closes d ∷ front) t more others = λ h. (_, parted (Closes d ∷ front) t more others, refl)
 raw_agrees (suc n) (Closes d ∷ front) t more others = agree_wrap _ _ _ _ (raw_agrees n front t more others)
 

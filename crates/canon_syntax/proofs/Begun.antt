@@ -4,7 +4,7 @@ use Rattle.std.specs.Prelude.{Bool, true, false}
 use Rattle.std.proofs.lemmas.List.{append-nil}
 use Rattle.std.proofs.Math.Seq.{take-append_seam, take-append-add}
 use Rattle.proc_macro2.specs.declared.delimiter.Delimiter.TheVariants.{Brace}
-use Rattle.proc_macro2.specs.Token.{Token, Opens, Word}
+use Rattle.proc_macro2.specs.Token.{Token, Opens, Ident}
 use Rattle.canon_syntax.specs.Words.{is_reserved}
 use Rattle.canon_syntax.specs.Kind.{Kind, AFile, AnItem, AStruct, AMacro}
 use Rattle.canon_syntax.specs.Tree.{Tree, Leaf, Nil, Pair, First, Second, Node, flat}
@@ -26,10 +26,10 @@ use Rattle.canon_syntax.proofs.Resumes.{AreResumed, Example, IsFree, Tells, one_
 
 ident_example : Example ident
 unfolding is_reserved
-ident_example = one_example is_ident (Word (97 ∷ [])) refl
+ident_example = one_example is_ident (Ident (97 ∷ [])) refl
 
 keyword_example : Example (keyword struct_text)
-keyword_example = one_example (is_keyword struct_text) (Word struct_text) refl
+keyword_example = one_example (is_keyword struct_text) (Ident struct_text) refl
 
 open_example : Example (one (is_open Brace))
 open_example = one_example (is_open Brace) (Opens Brace) refl
@@ -78,7 +78,7 @@ ident_keyword : (t : Token) → is_ident t ≡ true → is_keyword struct_text t
 unfolding is_reserved
 ident_keyword t e =
     false_from (is_keyword struct_text t)
-    (λ h. let k : is_ident (Word struct_text) ≡ true = sym (ap is_ident (keyword_token struct_text t h)) ∙ e in cc k)
+    (λ h. let k : is_ident (Ident struct_text) ≡ true = sym (ap is_ident (keyword_token struct_text t h)) ∙ e in cc k)
 
 struct_tells : Tells (first_is (is_keyword struct_text)) true (ref AStruct)
 unfolding table

@@ -5,7 +5,7 @@ use Rattle.std.proofs.lemmas.List.{append-nil}
 use Rattle.proc_macro2.specs.declared.delimiter.Delimiter.TheVariants.{Brace}
 use Rattle.rust_leaf.specs.declared.punct.Spacing.{Spacing}
 use Rattle.rust_leaf.specs.declared.punct.Spacing.TheVariants.{Alone, Joint}
-use Rattle.proc_macro2.specs.Token.{Token, Opens, Closes, Word, Quoted, Sign}
+use Rattle.proc_macro2.specs.Token.{Token, Opens, Closes, Ident, Literal, Punct}
 use Rattle.proc_macro2.specs.Spacing.{quote, may_stand, IsWellSpaced}
 use Rattle.canon_syntax.specs.Kind.{Kind, AFile, AnItem, AStruct, AMacro}
 use Rattle.canon_syntax.specs.Tree.{Tree, Leaf, Last, Raw, Nil, Pair, First, Second, Node, flat}
@@ -45,9 +45,9 @@ blind_keyword w = record { same = same }
     same [] = refl
     same (Opens d ∷ ts) = refl
     same (Closes d ∷ ts) = refl
-    same (Word cs ∷ ts) = refl
-    same (Quoted cs ∷ ts) = refl
-    same (Sign c spacing ∷ ts) = refl
+    same (Ident cs ∷ ts) = refl
+    same (Literal cs ∷ ts) = refl
+    same (Punct c spacing ∷ ts) = refl
 
 blind_more : IsBlind is_more
 blind_more = record { same = same }
@@ -68,8 +68,8 @@ read_back ts x f = record { derived = keeps all_blind x (ref AFile) tt [] [] (re
 
 -- a joint mark may stand before the token
 abbrev is_sign : Token → Bool
-is_sign (Sign c spacing) = true
-is_sign (Quoted cs) = true
+is_sign (Punct c spacing) = true
+is_sign (Literal cs) = true
 is_sign _ = false
 
 -- before what a joint mark stands, if it isn't a quote
@@ -78,14 +78,14 @@ as_mark true x y n e = cc
 as_mark false x y n e = e
 
 -- a mark that no mark and no literal follows stands alone, if it isn't a quote
-alone_before : (c : ℕ) (spacing : Spacing) (ts : List Token) → (c == quote) ≡ false → IsTrue (may_stand (Sign c spacing) ts) → ask (first_is is_sign) ts ≡ false → spacing ≡ Alone
+alone_before : (c : ℕ) (spacing : Spacing) (ts : List Token) → (c == quote) ≡ false → IsTrue (may_stand (Punct c spacing) ts) → ask (first_is is_sign) ts ≡ false → spacing ≡ Alone
 alone_before c Alone ts n m e = refl
 alone_before c Joint [] n m e = let f : false ≡ true = as_mark (c == quote) false false n m in cc f
 alone_before c Joint (Opens d ∷ ts) n m e = let f : false ≡ true = as_mark (c == quote) false false n m in cc f
 alone_before c Joint (Closes d ∷ ts) n m e = let f : false ≡ true = as_mark (c == quote) false false n m in cc f
-alone_before c Joint (Word cs ∷ ts) n m e = let f : false ≡ true = as_mark (c == quote) true false n m in cc f
-alone_before c Joint (Quoted cs ∷ ts) n m e = cc
-alone_before c Joint (Sign d spacing ∷ ts) n m e = cc
+alone_before c Joint (Ident cs ∷ ts) n m e = let f : false ≡ true = as_mark (c == quote) true false n m in cc f
+alone_before c Joint (Literal cs ∷ ts) n m e = cc
+alone_before c Joint (Punct d spacing ∷ ts) n m e = cc
 
 spaced_behind : (xs ys : List Token) → IsWellSpaced (xs ++ ys) → IsWellSpaced ys
 spaced_behind [] ys w = w
@@ -151,12 +151,12 @@ ref_settled : (k : Kind) → AreSettled (table k) → AreSettled (ref k)
 ref_settled k f (Node j x) r d w e = ap (Node j) (f x r (subst (λ i. Derives x (table i) r) d.0 d.1) w e)
 ref_settled k f _ r d w e = absurd d
 
-word_calm : (p : Token → Bool) → ((c : ℕ) (spacing : Spacing) → p (Sign c spacing) ≡ false) → ((cs : List ℕ) → p (Quoted cs) ≡ false) → (t : Token) → p t ≡ true → is_sign t ≡ false
+word_calm : (p : Token → Bool) → ((c : ℕ) (spacing : Spacing) → p (Punct c spacing) ≡ false) → ((cs : List ℕ) → p (Literal cs) ≡ false) → (t : Token) → p t ≡ true → is_sign t ≡ false
 word_calm p h k (Opens d) e = refl
 word_calm p h k (Closes d) e = refl
-word_calm p h k (Word cs) e = refl
-word_calm p h k (Quoted cs) e = let f : true ≡ false = sym e ∙ k cs in cc f
-word_calm p h k (Sign c spacing) e = let f : true ≡ false = sym e ∙ h c spacing in cc f
+word_calm p h k (Ident cs) e = refl
+word_calm p h k (Literal cs) e = let f : true ≡ false = sym e ∙ k cs in cc f
+word_calm p h k (Punct c spacing) e = let f : true ≡ false = sym e ∙ h c spacing in cc f
 
 abbrev braces : Gram
 braces = seq (one (is_open Brace)) (seq raw (one (is_close Brace)))

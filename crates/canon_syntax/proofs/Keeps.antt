@@ -3,7 +3,7 @@ use Rattle.std.proofs.Common.{◌≡◌, ℕ, zero, suc, List, [], ◌∷◌, �
 use Rattle.std.specs.Prelude.{Bool}
 use Rattle.std.proofs.lemmas.List.{map-append}
 use Rattle.rust_leaf.specs.declared.punct.Spacing.TheVariants.{Alone}
-use Rattle.proc_macro2.specs.Token.{Token, Opens, Closes, Word, Quoted, Sign}
+use Rattle.proc_macro2.specs.Token.{Token, Opens, Closes, Ident, Literal, Punct}
 use Rattle.canon_syntax.specs.Kind.{Kind}
 use Rattle.canon_syntax.specs.Tree.{Tree, Leaf, Last, Raw, Nil, Pair, First, Second, Node, flat}
 use Rattle.canon_syntax.specs.Gram.{Gram, one, last, raw, nothing, seq, alt, star, ref, ask, at_end}
@@ -15,9 +15,9 @@ use Rattle.canon_syntax.specs.Normal.{normal}
 abbrev pub unspaced : Token → Token
 unspaced (Opens d) = Opens d
 unspaced (Closes d) = Closes d
-unspaced (Word cs) = Word cs
-unspaced (Quoted cs) = Quoted cs
-unspaced (Sign c spacing) = Sign c Alone
+unspaced (Ident cs) = Ident cs
+unspaced (Literal cs) = Literal cs
+unspaced (Punct c spacing) = Punct c Alone
 
 -- tokens that are the same but for their spacing
 pub record Alike (ts us : List Token) : Type 0 where
@@ -47,9 +47,9 @@ end_blind : (ts : List Token) → at_end ts ≡ at_end (map unspaced ts)
 end_blind [] = refl
 end_blind (Opens d ∷ ts) = refl
 end_blind (Closes d ∷ ts) = refl
-end_blind (Word cs ∷ ts) = refl
-end_blind (Quoted cs ∷ ts) = refl
-end_blind (Sign c spacing ∷ ts) = refl
+end_blind (Ident cs ∷ ts) = refl
+end_blind (Literal cs ∷ ts) = refl
+end_blind (Punct c spacing ∷ ts) = refl
 
 flat_normal : (x : Tree) → map unspaced (flat x) ≡ map unspaced (flat (normal x))
 flat_normal (Leaf t) = refl

@@ -1,7 +1,7 @@
 -- What is read, in normal form.
 use Rattle.std.proofs.Common.{◌≡◌, ℕ, zero, suc, List, [], ◌∷◌, refl, ap, ◌∙◌}
 use Rattle.std.specs.Prelude.{Bool, true, false, cond, ◌==◌}
-use Rattle.proc_macro2.specs.Token.{Token, Opens, Closes, Word, Quoted, Sign}
+use Rattle.proc_macro2.specs.Token.{Token, Opens, Closes, Ident, Literal, Punct}
 use Rattle.canon_syntax.specs.Tree.{Tree, Leaf, Last, Raw, Nil, Pair, First, Second, Node}
 use Rattle.canon_syntax.specs.Gram.{Gram, one, last, raw, nothing, never, seq, alt, star, ref, ask}
 use Rattle.canon_syntax.specs.Normal.{normal}
@@ -30,11 +30,11 @@ one_normal p (t ∷ ts) = normal_cond (p t) _ _
 last_normal : (c : ℕ) (ts : List Token) → wrap normal (last_at Last c ts) ≡ last_at alone c ts
 unfolding last_at
 last_normal c [] = refl
-last_normal c (Sign d spacing ∷ ts) = normal_cond (d == c) _ _
+last_normal c (Punct d spacing ∷ ts) = normal_cond (d == c) _ _
 last_normal c (Opens d ∷ ts) = refl
 last_normal c (Closes d ∷ ts) = refl
-last_normal c (Word cs ∷ ts) = refl
-last_normal c (Quoted cs ∷ ts) = refl
+last_normal c (Ident cs ∷ ts) = refl
+last_normal c (Literal cs ∷ ts) = refl
 
 onto_normal : (us : List Token) (x : Tree) → normal (raw_onto us x) ≡ raw_onto us (normal x)
 onto_normal us (Leaf t) = refl
@@ -49,9 +49,9 @@ onto_normal us (Node k x) = refl
 raw_normal : (n : ℕ) (ts : List Token) → wrap normal (raw_at n ts) ≡ raw_at n ts
 unfolding raw_at
 raw_normal n (Opens d ∷ ts) = normal_wrap _ _ (onto_normal (Opens d ∷ [])) (raw_at (suc n) ts) ∙ ap (wrap (raw_onto (Opens d ∷ []))) (raw_normal (suc n) ts)
-raw_normal n (Word cs ∷ ts) = normal_wrap _ _ (onto_normal (Word cs ∷ [])) (raw_at n ts) ∙ ap (wrap (raw_onto (Word cs ∷ []))) (raw_normal n ts)
-raw_normal n (Quoted cs ∷ ts) = normal_wrap _ _ (onto_normal (Quoted cs ∷ [])) (raw_at n ts) ∙ ap (wrap (raw_onto (Quoted cs ∷ []))) (raw_normal n ts)
-raw_normal n (Sign c spacing ∷ ts) = normal_wrap _ _ (onto_normal (Sign c spacing ∷ [])) (raw_at n ts) ∙ ap (wrap (raw_onto (Sign c spacing ∷ []))) (raw_normal n ts)
+raw_normal n (Ident cs ∷ ts) = normal_wrap _ _ (onto_normal (Ident cs ∷ [])) (raw_at n ts) ∙ ap (wrap (raw_onto (Ident cs ∷ []))) (raw_normal n ts)
+raw_normal n (Literal cs ∷ ts) = normal_wrap _ _ (onto_normal (Literal cs ∷ [])) (raw_at n ts) ∙ ap (wrap (raw_onto (Literal cs ∷ []))) (raw_normal n ts)
+raw_normal n (Punct c spacing ∷ ts) = normal_wrap _ _ (onto_normal (Punct c spacing ∷ [])) (raw_at n ts) ∙ ap (wrap (raw_onto (Punct c spacing ∷ []))) (raw_normal n ts)
 raw_normal zero (Closes d ∷ ts) = refl
 raw_normal (suc n) (Closes d ∷ ts) = normal_wrap _ _ (onto_normal (Closes d ∷ [])) (raw_at n ts) ∙ ap (wrap (raw_onto (Closes d ∷ []))) (raw_normal n ts)
 raw_normal zero [] = refl

@@ -4,7 +4,7 @@ use Rattle.std.proofs.Math.Seq.{take-suc}
 use Rattle.std.proofs.Math.ListN.{drop_of_length-le}
 use Rattle.std.proofs.lemmas.List.{append-nil, map-append}
 use Rattle.std.specs.Prelude.{Some, None}
-use Rattle.proc_macro2.specs.Token.{Token, Opens, Closes, Word, Quoted, Sign}
+use Rattle.proc_macro2.specs.Token.{Token, Opens, Closes, Ident, Literal, Punct}
 use Rattle.token_entries.specs.Entries.{entry_token, entry_tokens}
 use Rattle.token_entries.specs.declared.entry.Entry.{Entry}
 use Rattle.canon_syntax.specs.Tree.{Tree, Leaf, Last, Raw, Nil, Pair, First, Second, Node}
@@ -29,18 +29,18 @@ wrap_twice xs t (Got x r) = ap (λ y. Got y r) (onto_twice xs t x)
 step_more : (n m : ℕ) (t : Token) (us : List Token) → open_behind n t ≡ Some m → raw_at n (t ∷ us) ≡ wrap (raw_onto (t ∷ [])) (raw_at m us)
 unfolding raw_at
 step_more n m (Opens d) us e = let h : suc n ≡ m = cc in ap (λ i. wrap (raw_onto (Opens d ∷ [])) (raw_at i us)) h
-step_more n m (Word cs) us e = let h : n ≡ m = cc in ap (λ i. wrap (raw_onto (Word cs ∷ [])) (raw_at i us)) h
-step_more n m (Quoted cs) us e = let h : n ≡ m = cc in ap (λ i. wrap (raw_onto (Quoted cs ∷ [])) (raw_at i us)) h
-step_more n m (Sign c spacing) us e = let h : n ≡ m = cc in ap (λ i. wrap (raw_onto (Sign c spacing ∷ [])) (raw_at i us)) h
+step_more n m (Ident cs) us e = let h : n ≡ m = cc in ap (λ i. wrap (raw_onto (Ident cs ∷ [])) (raw_at i us)) h
+step_more n m (Literal cs) us e = let h : n ≡ m = cc in ap (λ i. wrap (raw_onto (Literal cs ∷ [])) (raw_at i us)) h
+step_more n m (Punct c spacing) us e = let h : n ≡ m = cc in ap (λ i. wrap (raw_onto (Punct c spacing ∷ [])) (raw_at i us)) h
 step_more zero m (Closes d) us e = cc
 step_more (suc n) m (Closes d) us e = let h : n ≡ m = cc in ap (λ i. wrap (raw_onto (Closes d ∷ [])) (raw_at i us)) h
 
 step_none : (n : ℕ) (t : Token) (us : List Token) → open_behind n t ≡ None → raw_at n (t ∷ us) ≡ Got (Raw []) (t ∷ us)
 unfolding raw_at
 step_none n (Opens d) us e = cc
-step_none n (Word cs) us e = cc
-step_none n (Quoted cs) us e = cc
-step_none n (Sign c spacing) us e = cc
+step_none n (Ident cs) us e = cc
+step_none n (Literal cs) us e = cc
+step_none n (Punct c spacing) us e = cc
 step_none zero (Closes d) us e = refl
 step_none (suc n) (Closes d) us e = cc
 

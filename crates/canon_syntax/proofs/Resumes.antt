@@ -4,7 +4,7 @@ use Rattle.std.specs.Prelude.{Bool, true, false, ◌==◌}
 use Rattle.std.proofs.lemmas.List.{append-nil}
 use Rattle.proc_macro2.specs.declared.delimiter.Delimiter.TheVariants.{Brace}
 use Rattle.rust_leaf.specs.declared.punct.Spacing.TheVariants.{Alone}
-use Rattle.proc_macro2.specs.Token.{Token, Opens, Closes, Word, Quoted, Sign}
+use Rattle.proc_macro2.specs.Token.{Token, Opens, Closes, Ident, Literal, Punct}
 use Rattle.canon_syntax.specs.Kind.{Kind}
 use Rattle.canon_syntax.specs.Tree.{Tree, Leaf, Last, Raw, Pair, First, Second, Node, flat}
 use Rattle.canon_syntax.specs.Gram.{Gram, one, last, raw, seq, alt, ref, ask, closes_all}
@@ -50,11 +50,11 @@ one_refused p (t ∷ ts) l e = ⊎_elim (λ h. let f = h.1 in cc) (λ h. let f =
 last_refused : (c : ℕ) (ts : List Token) (l : ℕ) → last_at Last c ts ≡ Refused l → length ts ≡ l
 unfolding last_at
 last_refused c [] l e = cc
-last_refused c (Sign d spacing ∷ ts) l e = ⊎_elim (λ h. let f = h.1 in cc) (λ h. let f = h.1 in cc) (chosen (d == c) _ _ _ e)
+last_refused c (Punct d spacing ∷ ts) l e = ⊎_elim (λ h. let f = h.1 in cc) (λ h. let f = h.1 in cc) (chosen (d == c) _ _ _ e)
 last_refused c (Opens d ∷ ts) l e = cc
 last_refused c (Closes d ∷ ts) l e = cc
-last_refused c (Word cs ∷ ts) l e = cc
-last_refused c (Quoted cs ∷ ts) l e = cc
+last_refused c (Ident cs ∷ ts) l e = cc
+last_refused c (Literal cs ∷ ts) l e = cc
 
 pub one_example : (p : Token → Bool) (t : Token) → p t ≡ true → Example (one p)
 one_example p t h = record { tree = Leaf t; derived = λ r. h }
@@ -168,9 +168,9 @@ record Unclosed (n : ℕ) (ts : List Token) (l : ℕ) : Type 0 where
 raw_refused : (n : ℕ) (ts : List Token) (l : ℕ) → raw_at n ts ≡ Refused l → Unclosed n ts l
 unfolding raw_at
 raw_refused n (Opens d ∷ ts) l e = let u = raw_refused (suc n) ts l (wrap_refused _ (raw_at (suc n) ts) l e) in record { more = u.more; closes = u.closes; none = u.none }
-raw_refused n (Word cs ∷ ts) l e = let u = raw_refused n ts l (wrap_refused _ (raw_at n ts) l e) in record { more = u.more; closes = u.closes; none = u.none }
-raw_refused n (Quoted cs ∷ ts) l e = let u = raw_refused n ts l (wrap_refused _ (raw_at n ts) l e) in record { more = u.more; closes = u.closes; none = u.none }
-raw_refused n (Sign c spacing ∷ ts) l e = let u = raw_refused n ts l (wrap_refused _ (raw_at n ts) l e) in record { more = u.more; closes = u.closes; none = u.none }
+raw_refused n (Ident cs ∷ ts) l e = let u = raw_refused n ts l (wrap_refused _ (raw_at n ts) l e) in record { more = u.more; closes = u.closes; none = u.none }
+raw_refused n (Literal cs ∷ ts) l e = let u = raw_refused n ts l (wrap_refused _ (raw_at n ts) l e) in record { more = u.more; closes = u.closes; none = u.none }
+raw_refused n (Punct c spacing ∷ ts) l e = let u = raw_refused n ts l (wrap_refused _ (raw_at n ts) l e) in record { more = u.more; closes = u.closes; none = u.none }
 raw_refused zero (Closes d ∷ ts) l e = cc
 raw_refused (suc n) (Closes d ∷ ts) l e = let u = raw_refused n ts l (wrap_refused _ (raw_at n ts) l e) in record { more = u.more; closes = u.closes; none = u.none }
 raw_refused zero [] l e = cc
@@ -218,9 +218,9 @@ body_resumed ts l e = go (raw_at 0 ts) refl e
 pub body_free : IsFree body
 body_free (Pair (Raw own) (Leaf (Closes d))) r s d' = ((d'.0.0, refl), d'.1)
 body_free (Pair (Raw own) (Leaf (Opens _))) r s d = cc
-body_free (Pair (Raw own) (Leaf (Word _))) r s d = cc
-body_free (Pair (Raw own) (Leaf (Quoted _))) r s d = cc
-body_free (Pair (Raw own) (Leaf (Sign _ _))) r s d = cc
+body_free (Pair (Raw own) (Leaf (Ident _))) r s d = cc
+body_free (Pair (Raw own) (Leaf (Literal _))) r s d = cc
+body_free (Pair (Raw own) (Leaf (Punct _ _))) r s d = cc
 body_free (Pair (Raw own) _) r s d = absurd d.1
 body_free (Pair _ y) r s d = absurd d.0
 body_free _ r s d = absurd d

@@ -3,7 +3,7 @@ use Rattle.std.proofs.Common.{◌≡◌, ℕ, zero, suc, ◌+◌, ◌≤◌, Lis
 use Rattle.std.specs.Prelude.{Bool, true, false, cond, ◌⊎◌, ◌==◌, length}
 use Rattle.std.proofs.lemmas.Bool.{eqb-true, eq-eqb}
 use Rattle.proc_macro2.specs.Token.{Token}
-use Rattle.proc_macro2.specs.Token.{Opens, Closes, Word, Quoted, Sign}
+use Rattle.proc_macro2.specs.Token.{Opens, Closes, Ident, Literal, Punct}
 use Rattle.rust_leaf.specs.declared.punct.Spacing.{Spacing}
 use Rattle.canon_syntax.specs.Tree.{Tree, Leaf, Last, Raw, Nil, Pair, First, Second, Node, flat}
 use Rattle.canon_syntax.specs.Gram.{Gram, one, last, raw, nothing, never, seq, alt, star, ref, ask, closes_all, at_end}
@@ -55,17 +55,17 @@ token_complete p t r d = ap (λ b. cond b (Got (Leaf t) r) (Refused (suc (length
 mark_sound : (c : ℕ) (ts : List Token) (x : Tree) (r : List Token) → last_at Last c ts ≡ Got x r → Reads (last c) ts x r
 unfolding last_at
 mark_sound c [] x r e = cc
-mark_sound c (Sign d spacing ∷ ts) x r e =
+mark_sound c (Punct d spacing ∷ ts) x r e =
     ⊎_elim
-    (λ h. got_as (Reads (last c) (Sign d spacing ∷ ts)) _ _ _ _ h.1 (record { tree = eqb-true d c h.0; tokens = refl }))
+    (λ h. got_as (Reads (last c) (Punct d spacing ∷ ts)) _ _ _ _ h.1 (record { tree = eqb-true d c h.0; tokens = refl }))
     (λ h. cc)
     (chosen (d == c) _ _ _ e)
 mark_sound c (Opens d ∷ ts) x r e = cc
 mark_sound c (Closes d ∷ ts) x r e = cc
-mark_sound c (Word cs ∷ ts) x r e = cc
-mark_sound c (Quoted cs ∷ ts) x r e = cc
+mark_sound c (Ident cs ∷ ts) x r e = cc
+mark_sound c (Literal cs ∷ ts) x r e = cc
 
-mark_complete : (c d : ℕ) (spacing : Spacing) (r : List Token) → c ≡ d → last_at Last d (Sign c spacing ∷ r) ≡ Got (Last c spacing) r
+mark_complete : (c d : ℕ) (spacing : Spacing) (r : List Token) → c ≡ d → last_at Last d (Punct c spacing ∷ r) ≡ Got (Last c spacing) r
 unfolding last_at
 mark_complete c d spacing r e = ap (λ b. cond b (Got (Last c spacing) r) (Refused (suc (length r)))) (eq-eqb c d e)
 
@@ -89,16 +89,16 @@ unfolding raw_at
 raw_end [] h = refl
 raw_end (Closes d ∷ r) h = refl
 raw_end (Opens d ∷ r) h = cc
-raw_end (Word cs ∷ r) h = cc
-raw_end (Quoted cs ∷ r) h = cc
-raw_end (Sign c spacing ∷ r) h = cc
+raw_end (Ident cs ∷ r) h = cc
+raw_end (Literal cs ∷ r) h = cc
+raw_end (Punct c spacing ∷ r) h = cc
 
 pub raw_sound : (n : ℕ) (ts : List Token) (x : Tree) (r : List Token) → raw_at n ts ≡ Got x r → RawTo n ts x r
 unfolding raw_at
 raw_sound n (Opens d ∷ ts) x r e = raw_more n (suc n) (Opens d) ts x r (λ us. refl) e (raw_sound (suc n) ts)
-raw_sound n (Word cs ∷ ts) x r e = raw_more n n (Word cs) ts x r (λ us. refl) e (raw_sound n ts)
-raw_sound n (Quoted cs ∷ ts) x r e = raw_more n n (Quoted cs) ts x r (λ us. refl) e (raw_sound n ts)
-raw_sound n (Sign c spacing ∷ ts) x r e = raw_more n n (Sign c spacing) ts x r (λ us. refl) e (raw_sound n ts)
+raw_sound n (Ident cs ∷ ts) x r e = raw_more n n (Ident cs) ts x r (λ us. refl) e (raw_sound n ts)
+raw_sound n (Literal cs ∷ ts) x r e = raw_more n n (Literal cs) ts x r (λ us. refl) e (raw_sound n ts)
+raw_sound n (Punct c spacing ∷ ts) x r e = raw_more n n (Punct c spacing) ts x r (λ us. refl) e (raw_sound n ts)
 raw_sound zero (Closes d ∷ ts) x r e = got_as (RawTo zero (Closes d ∷ ts)) _ _ _ _ e (record { own = []; is = refl; closes = refl; ends = refl; tokens = refl })
 raw_sound (suc n) (Closes d ∷ ts) x r e = raw_more (suc n) n (Closes d) ts x r (λ us. refl) e (raw_sound n ts)
 raw_sound zero [] x r e = got_as (RawTo zero []) _ _ _ _ e (record { own = []; is = refl; closes = refl; ends = refl; tokens = refl })
@@ -107,9 +107,9 @@ raw_sound (suc n) [] x r e = cc
 raw_complete : (n : ℕ) (ts r : List Token) → closes_all n ts ≡ true → at_end r ≡ true → raw_at n (ts ++ r) ≡ Got (Raw ts) r
 unfolding raw_at
 raw_complete n (Opens d ∷ ts) r e h = ap (wrap (raw_onto (Opens d ∷ []))) (raw_complete (suc n) ts r e h)
-raw_complete n (Word cs ∷ ts) r e h = ap (wrap (raw_onto (Word cs ∷ []))) (raw_complete n ts r e h)
-raw_complete n (Quoted cs ∷ ts) r e h = ap (wrap (raw_onto (Quoted cs ∷ []))) (raw_complete n ts r e h)
-raw_complete n (Sign c spacing ∷ ts) r e h = ap (wrap (raw_onto (Sign c spacing ∷ []))) (raw_complete n ts r e h)
+raw_complete n (Ident cs ∷ ts) r e h = ap (wrap (raw_onto (Ident cs ∷ []))) (raw_complete n ts r e h)
+raw_complete n (Literal cs ∷ ts) r e h = ap (wrap (raw_onto (Literal cs ∷ []))) (raw_complete n ts r e h)
+raw_complete n (Punct c spacing ∷ ts) r e h = ap (wrap (raw_onto (Punct c spacing ∷ []))) (raw_complete n ts r e h)
 raw_complete zero (Closes d ∷ ts) r e h = cc
 raw_complete (suc n) (Closes d ∷ ts) r e h = ap (wrap (raw_onto (Closes d ∷ []))) (raw_complete n ts r e h)
 raw_complete zero [] r e h = raw_end r h

@@ -12,7 +12,7 @@ use Rattle.std.specs.List.{list_all, list_any}
 use Rattle.std.specs.Str.{bytes_eq, chars, IsAscii}
 use Rattle.std.proofs.lemmas.Str.{chars-IsAscii}
 use Rattle.std.proofs.lemmas.Slice.Eq.{bytes_eq-Decides}
-use Rattle.proc_macro2.specs.Token.{Token, Opens, Closes, Word, Quoted, Sign}
+use Rattle.proc_macro2.specs.Token.{Token, Opens, Closes, Ident, Literal, Punct}
 use Rattle.canon_syntax.specs.Tests.{is_keyword}
 
 both_ways : (a b : Bool) → (a ≡ true → b ≡ true) → (b ≡ true → a ≡ true) → a ≡ b
@@ -49,15 +49,15 @@ any_same (w ∷ ws) cs a =
     ap (λ b. b || list_any (λ v. bytes_eq (chars v) cs) ws) (word_same w cs (ascii_from w both.0)) ∙ ap (λ b. bytes_eq w cs || b) (any_same ws cs both.1)
 
 -- a keyword's token is its word
-pub keyword_token : (w : List ℕ) (t : Token) → is_keyword w t ≡ true → t ≡ Word w
-keyword_token w (Word cs) e = ap Word (sym ((bytes_eq-Decides w cs).0 e))
+pub keyword_token : (w : List ℕ) (t : Token) → is_keyword w t ≡ true → t ≡ Ident w
+keyword_token w (Ident cs) e = ap Ident (sym ((bytes_eq-Decides w cs).0 e))
 keyword_token w (Opens d) e = cc
 keyword_token w (Closes d) e = cc
-keyword_token w (Quoted cs) e = cc
-keyword_token w (Sign c spacing) e = cc
+keyword_token w (Literal cs) e = cc
+keyword_token w (Punct c spacing) e = cc
 
 -- a keyword that stands first is read
-pub keyword_read : (w : List ℕ) (es : List Entry) (d : Entry) → 1 ≤ length es → is_keyword w (entry_token (get_or es 0 d)) ≡ true → one_at (is_keyword w) (entry_tokens es) ≡ Got (Leaf (Word w)) (entry_tokens (take (length es - 1) (drop 1 es)))
+pub keyword_read : (w : List ℕ) (es : List Entry) (d : Entry) → 1 ≤ length es → is_keyword w (entry_token (get_or es 0 d)) ≡ true → one_at (is_keyword w) (entry_tokens es) ≡ Got (Leaf (Ident w)) (entry_tokens (take (length es - 1) (drop 1 es)))
 unfolding one_at
 keyword_read w [] d h e = absurd (omega arith)
 keyword_read w (x ∷ es) d h e =
@@ -65,4 +65,4 @@ keyword_read w (x ∷ es) d h e =
     let us : List Token = entry_tokens es in
     ap (λ b. cond b (Got (Leaf t) us) (Refused (suc (length us)))) e
     ∙ ap (λ u. Got (Leaf u) us) (keyword_token w t e)
-    ∙ ap (λ xs. Got (Leaf (Word w)) (entry_tokens xs)) (sym (take_all (suc (length es) - 1) es (omega arith)))
+    ∙ ap (λ xs. Got (Leaf (Ident w)) (entry_tokens xs)) (sym (take_all (suc (length es) - 1) es (omega arith)))

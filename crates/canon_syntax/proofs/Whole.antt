@@ -3,7 +3,7 @@ use Rattle.std.proofs.Common.{◌≡◌, ℕ, zero, suc, ◌+◌, ◌*◌, ◌<�
 use Rattle.std.specs.Prelude.{Bool, true, false, cond, ◌&&◌, ◌||◌, ◌⊎◌, ◌==◌, max}
 use Rattle.std.proofs.lemmas.Bool.{leb-true, cases_lt}
 use Rattle.proc_macro2.specs.Token.{Token}
-use Rattle.proc_macro2.specs.Token.{Opens, Closes, Word, Quoted, Sign}
+use Rattle.proc_macro2.specs.Token.{Opens, Closes, Ident, Literal, Punct}
 use Rattle.canon_syntax.specs.Kind.{Kind}
 use Rattle.canon_syntax.specs.Tree.{Tree, Leaf, Last, Raw, Nil, Pair, First, Second, Node, flat}
 use Rattle.canon_syntax.specs.Gram.{Gram, one, last, raw, nothing, never, seq, alt, star, ref, ask}
@@ -85,18 +85,18 @@ token_over p (t ∷ ts) = over_cond (p t) _ _ tt tt
 last_over : (c : ℕ) (ts : List Token) → IsOver (last_at Last c ts)
 unfolding last_at
 last_over c [] = tt
-last_over c (Sign d spacing ∷ ts) = over_cond (d == c) _ _ tt tt
+last_over c (Punct d spacing ∷ ts) = over_cond (d == c) _ _ tt tt
 last_over c (Opens d ∷ ts) = tt
 last_over c (Closes d ∷ ts) = tt
-last_over c (Word cs ∷ ts) = tt
-last_over c (Quoted cs ∷ ts) = tt
+last_over c (Ident cs ∷ ts) = tt
+last_over c (Literal cs ∷ ts) = tt
 
 raw_over : (n : ℕ) (ts : List Token) → IsOver (raw_at n ts)
 unfolding raw_at
 raw_over n (Opens d ∷ ts) = over_wrap _ (raw_at (suc n) ts) (raw_over (suc n) ts)
-raw_over n (Word cs ∷ ts) = over_wrap _ (raw_at n ts) (raw_over n ts)
-raw_over n (Quoted cs ∷ ts) = over_wrap _ (raw_at n ts) (raw_over n ts)
-raw_over n (Sign c spacing ∷ ts) = over_wrap _ (raw_at n ts) (raw_over n ts)
+raw_over n (Ident cs ∷ ts) = over_wrap _ (raw_at n ts) (raw_over n ts)
+raw_over n (Literal cs ∷ ts) = over_wrap _ (raw_at n ts) (raw_over n ts)
+raw_over n (Punct c spacing ∷ ts) = over_wrap _ (raw_at n ts) (raw_over n ts)
 raw_over zero (Closes d ∷ ts) = tt
 raw_over (suc n) (Closes d ∷ ts) = over_wrap _ (raw_at n ts) (raw_over n ts)
 raw_over zero [] = tt

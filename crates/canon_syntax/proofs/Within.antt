@@ -2,7 +2,7 @@
 use Rattle.std.proofs.Common.{ℕ, zero, suc, ◌+◌, ◌*◌, ◌≤◌, List, [], ◌∷◌, length, arith}
 use Rattle.canon_syntax.specs.Ranks.{top}
 use Rattle.std.specs.Prelude.{Bool, true, false, cond, ◌==◌}
-use Rattle.proc_macro2.specs.Token.{Token, Opens, Closes, Word, Quoted, Sign}
+use Rattle.proc_macro2.specs.Token.{Token, Opens, Closes, Ident, Literal, Punct}
 use Rattle.canon_syntax.specs.Tree.{Tree, Leaf, Last, Pair, First, Second}
 use Rattle.canon_syntax.specs.Gram.{Gram, one, last, raw, nothing, never, seq, alt, star, ref, ask}
 use Rattle.canon_syntax.specs.Run.{Out, Late, Refused, Got, ◌>>=◌, wrap, Call, kind, loop, one_at, last_at, raw_onto, raw_at, interp, body, made, run, reads}
@@ -40,11 +40,11 @@ one_most p (t ∷ ts) = most_cond (suc (length ts)) (p t) (Got (Leaf t) ts) (Ref
 last_most : (c : ℕ) (ts : List Token) → LeavesAtMost (length ts) (last_at Last c ts)
 unfolding last_at
 last_most c [] = omega arith
-last_most c (Sign d spacing ∷ ts) = most_cond (suc (length ts)) (d == c) (Got (Last d spacing) ts) (Refused (suc (length ts))) (omega arith) (omega arith)
+last_most c (Punct d spacing ∷ ts) = most_cond (suc (length ts)) (d == c) (Got (Last d spacing) ts) (Refused (suc (length ts))) (omega arith) (omega arith)
 last_most c (Opens d ∷ ts) = omega arith
 last_most c (Closes d ∷ ts) = omega arith
-last_most c (Word cs ∷ ts) = omega arith
-last_most c (Quoted cs ∷ ts) = omega arith
+last_most c (Ident cs ∷ ts) = omega arith
+last_most c (Literal cs ∷ ts) = omega arith
 
 raw_one : (n : ℕ) (t : Token) (ts : List Token) → LeavesAtMost (length ts) (raw_at n ts) → LeavesAtMost (suc (length ts)) (wrap (raw_onto (t ∷ [])) (raw_at n ts))
 raw_one n t ts h = most_up (length ts) (suc (length ts)) (wrap (raw_onto (t ∷ [])) (raw_at n ts)) (omega arith) (most_wrap (length ts) (raw_onto (t ∷ [])) (raw_at n ts) h)
@@ -52,9 +52,9 @@ raw_one n t ts h = most_up (length ts) (suc (length ts)) (wrap (raw_onto (t ∷ 
 pub raw_most : (n : ℕ) (ts : List Token) → LeavesAtMost (length ts) (raw_at n ts)
 unfolding raw_at
 raw_most n (Opens d ∷ ts) = raw_one (suc n) (Opens d) ts (raw_most (suc n) ts)
-raw_most n (Word cs ∷ ts) = raw_one n (Word cs) ts (raw_most n ts)
-raw_most n (Quoted cs ∷ ts) = raw_one n (Quoted cs) ts (raw_most n ts)
-raw_most n (Sign c spacing ∷ ts) = raw_one n (Sign c spacing) ts (raw_most n ts)
+raw_most n (Ident cs ∷ ts) = raw_one n (Ident cs) ts (raw_most n ts)
+raw_most n (Literal cs ∷ ts) = raw_one n (Literal cs) ts (raw_most n ts)
+raw_most n (Punct c spacing ∷ ts) = raw_one n (Punct c spacing) ts (raw_most n ts)
 raw_most zero (Closes d ∷ ts) = omega arith
 raw_most (suc n) (Closes d ∷ ts) = raw_one n (Closes d) ts (raw_most n ts)
 raw_most zero [] = omega arith

@@ -1,6 +1,6 @@
 -- What a reader of the code answers: a tool of the proofs, for the functions behind parse_file.
 use Rattle.std.specs.Prelude.{◌≡◌, ℕ, zero, suc, ◌-◌, List, take, drop, Result, Ok, Err, Option, Some, None}
-use Rattle.proc_macro2.specs.Token.{Token, Opens, Closes, Word, Quoted, Sign}
+use Rattle.proc_macro2.specs.Token.{Token, Opens, Closes, Ident, Literal, Punct}
 use Rattle.token_entries.specs.Entries.{entry_tokens}
 use Rattle.token_entries.specs.declared.entry.Entry.{Entry}
 use Rattle.canon_syntax.specs.declared.refusal.Refusal.{Refusal}
@@ -15,9 +15,9 @@ Gives view rest (Err e) out = out ≡ Refused e.left
 -- the marks that are open behind one more token, of which n have been before; none where it closes more
 abbrev pub open_behind : ℕ → Token → Option ℕ
 open_behind n (Opens d) = Some (suc n)
-open_behind n (Word cs) = Some n
-open_behind n (Quoted cs) = Some n
-open_behind n (Sign c spacing) = Some n
+open_behind n (Ident cs) = Some n
+open_behind n (Literal cs) = Some n
+open_behind n (Punct c spacing) = Some n
 open_behind zero (Closes d) = None
 open_behind (suc n) (Closes d) = Some n
 

@@ -1,6 +1,6 @@
 -- What an entry of the grammar can say.
 use Rattle.std.specs.Prelude.{ℕ, zero, suc, Bool, true, false, List, [], ◌∷◌, take}
-use Rattle.proc_macro2.specs.Token.{Token, Opens, Closes, Word, Quoted, Sign}
+use Rattle.proc_macro2.specs.Token.{Token, Opens, Closes, Ident, Literal, Punct}
 use Rattle.canon_syntax.specs.Kind.{Kind}
 
 pub data Gram : Type 0 where
@@ -30,9 +30,9 @@ ask t ts = t (take 3 ts)
 -- behind n opening marks, as many marks close as have been opened, and at no front more
 abbrev pub closes_all : ℕ → List Token → Bool
 closes_all n (Opens d ∷ ts) = closes_all (suc n) ts
-closes_all n (Word cs ∷ ts) = closes_all n ts
-closes_all n (Quoted cs ∷ ts) = closes_all n ts
-closes_all n (Sign c spacing ∷ ts) = closes_all n ts
+closes_all n (Ident cs ∷ ts) = closes_all n ts
+closes_all n (Literal cs ∷ ts) = closes_all n ts
+closes_all n (Punct c spacing ∷ ts) = closes_all n ts
 closes_all zero (Closes d ∷ ts) = false
 closes_all (suc n) (Closes d ∷ ts) = closes_all n ts
 closes_all zero [] = true

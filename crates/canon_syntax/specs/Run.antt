@@ -1,6 +1,6 @@
 -- A run of the grammar on tokens: a tool of the proofs. What a tree is, the grammar says.
 use Rattle.std.specs.Prelude.{ℕ, zero, suc, ◌+◌, ◌*◌, Bool, ◌==◌, cond, List, [], ◌∷◌, ◌++◌, length}
-use Rattle.proc_macro2.specs.Token.{Token, Opens, Closes, Word, Quoted, Sign}
+use Rattle.proc_macro2.specs.Token.{Token, Opens, Closes, Ident, Literal, Punct}
 use Rattle.rust_leaf.specs.declared.punct.Spacing.{Spacing}
 use Rattle.rust_leaf.specs.declared.punct.Spacing.TheVariants.{Alone}
 use Rattle.canon_syntax.specs.Kind.{Kind}
@@ -39,7 +39,7 @@ one_at p (t ∷ ts) = cond (p t) (Got (Leaf t) ts) (Refused (suc (length ts)))
 -- the last mark of a punctuation, and what is made of it
 unfoldable pub last_at : (ℕ → Spacing → Tree) → ℕ → List Token → Out
 last_at made c [] = Refused 0
-last_at made c (Sign d spacing ∷ ts) = cond (d == c) (Got (made d spacing) ts) (Refused (suc (length ts)))
+last_at made c (Punct d spacing ∷ ts) = cond (d == c) (Got (made d spacing) ts) (Refused (suc (length ts)))
 last_at made c (t ∷ ts) = Refused (suc (length ts))
 
 -- more raw tokens in front
@@ -50,9 +50,9 @@ raw_onto ts x = x
 -- raw tokens, of whose marks n are open
 unfoldable pub raw_at : ℕ → List Token → Out
 raw_at n (Opens d ∷ ts) = wrap (raw_onto (Opens d ∷ [])) (raw_at (suc n) ts)
-raw_at n (Word cs ∷ ts) = wrap (raw_onto (Word cs ∷ [])) (raw_at n ts)
-raw_at n (Quoted cs ∷ ts) = wrap (raw_onto (Quoted cs ∷ [])) (raw_at n ts)
-raw_at n (Sign c spacing ∷ ts) = wrap (raw_onto (Sign c spacing ∷ [])) (raw_at n ts)
+raw_at n (Ident cs ∷ ts) = wrap (raw_onto (Ident cs ∷ [])) (raw_at n ts)
+raw_at n (Literal cs ∷ ts) = wrap (raw_onto (Literal cs ∷ [])) (raw_at n ts)
+raw_at n (Punct c spacing ∷ ts) = wrap (raw_onto (Punct c spacing ∷ [])) (raw_at n ts)
 raw_at zero (Closes d ∷ ts) = Got (Raw []) (Closes d ∷ ts)
 raw_at (suc n) (Closes d ∷ ts) = wrap (raw_onto (Closes d ∷ [])) (raw_at n ts)
 raw_at zero [] = Got (Raw []) []

@@ -2,22 +2,22 @@
 use Rattle.std.specs.Prelude.{ℕ, Bool, true, false, not, ◌==◌, List, [], ◌∷◌}
 use Rattle.proc_macro2.specs.declared.delimiter.Delimiter.{Delimiter}
 use Rattle.proc_macro2.specs.Groups.{same_delimiter}
-use Rattle.proc_macro2.specs.Token.{Token, Opens, Closes, Word, Sign}
+use Rattle.proc_macro2.specs.Token.{Token, Opens, Closes, Ident, Punct}
 use Rattle.canon_syntax.specs.Words.{same_text, is_reserved}
 
 -- the keyword of that text
 abbrev pub is_keyword : List ℕ → Token → Bool
-is_keyword text (Word cs) = same_text text cs
+is_keyword text (Ident cs) = same_text text cs
 is_keyword text _ = false
 
 -- a name: a word that is not reserved
 abbrev pub is_ident : Token → Bool
-is_ident (Word cs) = not (is_reserved cs)
+is_ident (Ident cs) = not (is_reserved cs)
 is_ident _ = false
 
 -- the mark, with any spacing
 abbrev pub is_mark : ℕ → Token → Bool
-is_mark c (Sign d spacing) = d == c
+is_mark c (Punct d spacing) = d == c
 is_mark c _ = false
 
 -- the opening mark of a group

@@ -1,6 +1,6 @@
 -- What is read: a tree whose leaves are the tokens in their order.
 use Rattle.std.specs.Prelude.{ℕ, List, [], ◌∷◌, ◌++◌}
-use Rattle.proc_macro2.specs.Token.{Token, Sign}
+use Rattle.proc_macro2.specs.Token.{Token, Punct}
 use Rattle.rust_leaf.specs.declared.punct.Spacing.{Spacing}
 use Rattle.canon_syntax.specs.Kind.{Kind}
 
@@ -22,7 +22,7 @@ pub data Tree : Type 0 where
 -- the tokens, as they were read
 abbrev pub flat : Tree → List Token
 flat (Leaf t) = t ∷ []
-flat (Last c spacing) = Sign c spacing ∷ []
+flat (Last c spacing) = Punct c spacing ∷ []
 flat (Raw ts) = ts
 flat Nil = []
 flat (Pair x y) = flat x ++ flat y

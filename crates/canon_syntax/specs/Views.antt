@@ -1,9 +1,9 @@
 -- What each value of the code is as a tree, in normal form.
 use Rattle.std.specs.Prelude.{List}
 use Rattle.rust_leaf.specs.Leaf.{ident_text}
-use Rattle.rust_leaf.specs.declared.ident.Ident.{Ident}
+use Rattle.rust_leaf.specs.declared.ident.Ident as Idents
 use Rattle.rust_leaf.specs.declared.punct.Spacing.TheVariants.{Alone}
-use Rattle.proc_macro2.specs.Token.{Opens, Closes, Word}
+use Rattle.proc_macro2.specs.Token.{Opens, Closes, Ident}
 use Rattle.proc_macro2.specs.declared.delimiter.Delimiter.TheVariants.{Brace}
 use Rattle.token_entries.specs.Entries.{entry_tokens}
 use Rattle.canon_syntax.specs.Kind.{AFile, AnItem, AStruct, AMacro}
@@ -17,12 +17,12 @@ use Rattle.canon_syntax.specs.declared.tree.ItemStruct.{ItemStruct}
 use Rattle.canon_syntax.specs.declared.tree.ItemMacro.{ItemMacro}
 
 -- a name
-abbrev pub ident_tree : Ident → Tree
-ident_tree ident = Leaf (Word (ident_text ident))
+abbrev pub ident_tree : Idents.Ident → Tree
+ident_tree ident = Leaf (Ident (ident_text ident))
 
 -- struct name ;
 abbrev pub struct_tree : ItemStruct → Tree
-struct_tree s = Node AStruct (Pair (Leaf (Word struct_text)) (Pair (ident_tree s.ident.now) (Last 59 Alone)))
+struct_tree s = Node AStruct (Pair (Leaf (Ident struct_text)) (Pair (ident_tree s.ident.now) (Last 59 Alone)))
 
 -- { inside }
 abbrev pub braces_tree : Tree → Tree

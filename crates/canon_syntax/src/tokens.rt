@@ -6,7 +6,8 @@ ghost use Rattle.canon_syntax.specs.Run.{alone, last_at, one_at, raw_at};
 ghost use Rattle.canon_syntax.specs.Tests.{first_is, is_close, is_ident, is_keyword, is_mark, is_open};
 ghost use Rattle.canon_syntax.specs.Tree.{Last, Leaf, Raw};
 ghost use Rattle.canon_syntax.specs.Views.{ident_tree};
-ghost use Rattle.proc_macro2.specs.Token.{Closes, Opens, Word};
+ghost use Rattle.proc_macro2.specs.Token.{Closes, Opens};
+ghost use Rattle.proc_macro2.specs.Token as token;
 ghost use Rattle.rust_leaf.specs.Leaf.{ident_text};
 ghost use Rattle.rust_leaf.specs.declared.punct.Spacing.TheVariants.{Alone};
 ghost use Rattle.std.specs.Prelude.{◌≡◌, ◌+◌, ◌^◌, ◌<◌, ◌≤◌, IfNone, IfSome, false, length, true};
@@ -21,7 +22,7 @@ use token_entries::entry::Entry;
 
 // The name that an entry is, if it is one.
 fn name<'a>(entry: &Entry<'a>) -> Option<&'a Ident>
-    ensures some { IfSome result (λ ident. (entry_token entry.now ≡ Word (ident_text ident.now)) × (is_ident (entry_token entry.now) ≡ true)) }
+    ensures some { IfSome result (λ ident. (entry_token entry.now ≡ token.Ident (ident_text ident.now)) × (is_ident (entry_token entry.now) ≡ true)) }
     ensures none { IfNone result (is_ident (entry_token entry.now) ≡ false) }
 {
     match entry {
@@ -89,7 +90,7 @@ pub(crate) fn keyword<'a>(
     keyword: &str,
 ) -> Result<&'a [Entry<'a>], Refusal>
     requires { IsAscii keyword.now }
-    ensures { Gives (λ x. Leaf (Word keyword.now)) (λ x. entry_tokens x.now) result
+    ensures { Gives (λ x. Leaf (token.Ident keyword.now)) (λ x. entry_tokens x.now) result
         (one_at (is_keyword keyword.now) (entry_tokens tokens.now)) }
 {
     match tokens {

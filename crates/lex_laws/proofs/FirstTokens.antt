@@ -11,7 +11,7 @@ use Rattle.proc_macro2.specs.Groups.{groups_open}
 use Rattle.proc_macro2.specs.Pieces.{all_at, doc_group, doc_marks, edge, edged, edged_at, is_inner}
 use Rattle.proc_macro2.specs.declared.delimiter.Delimiter.TheVariants.{Bracket}
 use Rattle.proc_macro2.specs.declared.delimiter.Delimiter.{Delimiter}
-use Rattle.proc_macro2.specs.Token.{Token, Opens, Closes, Word, Quoted, Sign, Spanned}
+use Rattle.proc_macro2.specs.Token.{Token, Opens, Closes, Ident, Literal, Punct, Spanned}
 use Rattle.rust_leaf.specs.declared.punct.Spacing.TheVariants.{Alone}
 use Rattle.proc_macro2.proofs.OneForest.{same_end, same_span, same_start}
 
@@ -58,22 +58,22 @@ pub record Begins (ts : List Token) (span : Span) (rest : List Spanned) (xs : Li
 abbrev pub IsSingle : Token → Type 0
 IsSingle (Opens d) = ⊥
 IsSingle (Closes d) = ⊥
-IsSingle (Word cs) = Unit {0}
-IsSingle (Quoted cs) = Unit {0}
-IsSingle (Sign c spacing) = Unit {0}
+IsSingle (Ident cs) = Unit {0}
+IsSingle (Literal cs) = Unit {0}
+IsSingle (Punct c spacing) = Unit {0}
 
 pub single : (t : Token) (span : Span) (rest : List Spanned) (xs : List Span) (ds : List Delimiter) (stream : List Spanned) → IsSingle t → IsStream (spanned t (edge t span) ∷ rest) xs ds stream → Begins (t ∷ []) span rest xs ds stream
 single (Opens d) span rest xs ds stream s r = elim s [ ]
 single (Closes d) span rest xs ds stream s r = elim s [ ]
-single (Word cs) span rest xs ds stream s r =
-    let f = first (Word cs) span rest xs ds stream r in
-    record { others = f.others; is = f.is ∙ ap (λ p. spanned (Word cs) p ∷ f.others) f.placed; reading = record { tokens_are = f.rest_are; paired = f.paired; opened = f.opened } }
-single (Quoted cs) span rest xs ds stream s r =
-    let f = first (Quoted cs) span rest xs ds stream r in
-    record { others = f.others; is = f.is ∙ ap (λ p. spanned (Quoted cs) p ∷ f.others) f.placed; reading = record { tokens_are = f.rest_are; paired = f.paired; opened = f.opened } }
-single (Sign c spacing) span rest xs ds stream s r =
-    let f = first (Sign c spacing) span rest xs ds stream r in
-    record { others = f.others; is = f.is ∙ ap (λ p. spanned (Sign c spacing) p ∷ f.others) f.placed; reading = record { tokens_are = f.rest_are; paired = f.paired; opened = f.opened } }
+single (Ident cs) span rest xs ds stream s r =
+    let f = first (Ident cs) span rest xs ds stream r in
+    record { others = f.others; is = f.is ∙ ap (λ p. spanned (Ident cs) p ∷ f.others) f.placed; reading = record { tokens_are = f.rest_are; paired = f.paired; opened = f.opened } }
+single (Literal cs) span rest xs ds stream s r =
+    let f = first (Literal cs) span rest xs ds stream r in
+    record { others = f.others; is = f.is ∙ ap (λ p. spanned (Literal cs) p ∷ f.others) f.placed; reading = record { tokens_are = f.rest_are; paired = f.paired; opened = f.opened } }
+single (Punct c spacing) span rest xs ds stream s r =
+    let f = first (Punct c spacing) span rest xs ds stream r in
+    record { others = f.others; is = f.is ∙ ap (λ p. spanned (Punct c spacing) p ∷ f.others) f.placed; reading = record { tokens_are = f.rest_are; paired = f.paired; opened = f.opened } }
 
 -- one more before others
 more : (t : Token) (ts : List Token) (span : Span) (between rest : List Spanned) (xs : List Span) (ds : List Delimiter) (stream : List Spanned) → IsSingle t → IsStream (spanned t (edge t span) ∷ between) xs ds stream → ((others : List Spanned) → IsStream between xs ds others → Begins ts span rest xs ds others) → Begins (t ∷ ts) span rest xs ds stream
@@ -85,19 +85,19 @@ more t ts span between rest xs ds stream s r on =
 -- the group of a doc's attribute carries the doc's span too
 attribute : (text : List ℕ) (span : Span) (rest : List Spanned) (xs : List Span) (ds : List Delimiter) (stream : List Spanned) → IsStream (edged_at span (doc_group text) ++ rest) xs ds stream → Begins (doc_group text) span rest xs ds stream
 attribute text span rest xs ds stream r =
-    let word = Word (codes "doc") in
-    let sign = Sign 61 Alone in
-    let quoted = Quoted (string_text text) in
+    let ident = Ident (codes "doc") in
+    let punct = Punct 61 Alone in
+    let literal = Literal (string_text text) in
     let last = spanned (Closes Bracket) (last_of span) ∷ rest in
     let o = first (Opens Bracket) (first_of span) _ xs ds stream r in
-    let w = single word span (spanned sign span ∷ spanned quoted span ∷ last) (o.span ∷ xs) (Bracket ∷ ds) o.others tt (record { tokens_are = o.rest_are; paired = o.paired; opened = o.opened }) in
-    let e = single sign span (spanned quoted span ∷ last) (o.span ∷ xs) (Bracket ∷ ds) w.others tt w.reading in
-    let q = single quoted span last (o.span ∷ xs) (Bracket ∷ ds) e.others tt e.reading in
+    let w = single ident span (spanned punct span ∷ spanned literal span ∷ last) (o.span ∷ xs) (Bracket ∷ ds) o.others tt (record { tokens_are = o.rest_are; paired = o.paired; opened = o.opened }) in
+    let e = single punct span (spanned literal span ∷ last) (o.span ∷ xs) (Bracket ∷ ds) w.others tt w.reading in
+    let q = single literal span last (o.span ∷ xs) (Bracket ∷ ds) e.others tt e.reading in
     let c = first (Closes Bracket) (last_of span) rest (o.span ∷ xs) (Bracket ∷ ds) q.others q.reading in
     let start = same_start o.span span o.placed in
     let same : o.span ≡ span = same_span o.span span start (ap (λ s. s.«end») c.paired.0 ∙ same_end c.span span c.placed) in
-    let inner : o.others ≡ spanned word span ∷ spanned sign span ∷ spanned quoted span ∷ spanned (Closes Bracket) span ∷ c.others =
-    w.is ∙ ap (λ l. spanned word span ∷ l) (e.is ∙ ap (λ l. spanned sign span ∷ l) (q.is ∙ ap (λ l. spanned quoted span ∷ l) (c.is ∙ ap (λ s. spanned (Closes Bracket) s ∷ c.others) (sym c.paired.0 ∙ same)))) in
+    let inner : o.others ≡ spanned ident span ∷ spanned punct span ∷ spanned literal span ∷ spanned (Closes Bracket) span ∷ c.others =
+    w.is ∙ ap (λ l. spanned ident span ∷ l) (e.is ∙ ap (λ l. spanned punct span ∷ l) (q.is ∙ ap (λ l. spanned literal span ∷ l) (c.is ∙ ap (λ s. spanned (Closes Bracket) s ∷ c.others) (sym c.paired.0 ∙ same)))) in
     record {
       others = c.others;
       is = o.is ∙ ap (λ s. spanned (Opens Bracket) s ∷ o.others) same ∙ ap (λ l. spanned (Opens Bracket) span ∷ l) inner;
@@ -105,7 +105,7 @@ attribute text span rest xs ds stream r =
     }
 
 abbrev before : List ℕ → Bool → List Token
-before text inner = cond inner (Sign 35 Alone ∷ Sign 33 Alone ∷ []) (Sign 35 Alone ∷ []) ++ doc_group text
+before text inner = cond inner (Punct 35 Alone ∷ Punct 33 Alone ∷ []) (Punct 35 Alone ∷ []) ++ doc_group text
 
 pub doc_tokens : (kind : DocKind) (text : List ℕ) (span : Span) (rest : List Spanned) (xs : List Span) (ds : List Delimiter) (stream : List Spanned) → IsStream (edged_at span (doc_marks kind ++ doc_group text) ++ rest) xs ds stream → Begins (doc_marks kind ++ doc_group text) span rest xs ds stream
 doc_tokens kind text span rest xs ds stream r = marks (is_inner kind) r
@@ -114,5 +114,5 @@ doc_tokens kind text span rest xs ds stream r = marks (is_inner kind) r
     group others r = attribute text span rest xs ds others r
 
     marks : (inner : Bool) → IsStream (edged_at span (before text inner) ++ rest) xs ds stream → Begins (before text inner) span rest xs ds stream
-    marks true r = more (Sign 35 Alone) (Sign 33 Alone ∷ doc_group text) span _ rest xs ds stream tt r (λ others r. more (Sign 33 Alone) (doc_group text) span _ rest xs ds others tt r group)
-    marks false r = more (Sign 35 Alone) (doc_group text) span _ rest xs ds stream tt r group
+    marks true r = more (Punct 35 Alone) (Punct 33 Alone ∷ doc_group text) span _ rest xs ds stream tt r (λ others r. more (Punct 33 Alone) (doc_group text) span _ rest xs ds others tt r group)
+    marks false r = more (Punct 35 Alone) (doc_group text) span _ rest xs ds stream tt r group

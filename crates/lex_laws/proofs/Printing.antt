@@ -11,7 +11,8 @@ use Rattle.rust_lex.specs.declared.delimiter.Delimiter.TheVariants as lex
 use Rattle.rust_escape.specs.declared.mode.Mode.{Mode}
 use Rattle.rust_escape.specs.declared.mode.Mode.TheVariants as modes
 use Rattle.rust_lex.specs.declared.piece.PieceKind.{PieceKind}
-use Rattle.rust_lex.specs.declared.piece.PieceKind.TheVariants.{White, Open, Close, Mark, Ident, Literal}
+use Rattle.rust_lex.specs.declared.piece.PieceKind.TheVariants.{White, Open, Close, Mark}
+use Rattle.rust_lex.specs.declared.piece.PieceKind.TheVariants as kinds
 use Rattle.rust_lex.specs.Quoted.{opening_of, IsTail}
 use Rattle.rust_lex.specs.Word.{begins_lifetime}
 use Rattle.rust_lex.specs.Piece.{Piece, Fits, begins_mark, begins_char, is_joint}
@@ -20,7 +21,7 @@ use Rattle.rust_lex.proofs.Sound.{front_fits}
 use Rattle.rust_lex.proofs.Units.{single_whole}
 use Rattle.rust_lex.specs.Chars.{is_white}
 use Rattle.proc_macro2.specs.declared.delimiter.Delimiter.TheVariants as delimiter
-use Rattle.proc_macro2.specs.Token.{Token, Opens, Closes, Word, Quoted, Sign}
+use Rattle.proc_macro2.specs.Token.{Token, Opens, Closes, Ident, Literal, Punct}
 use Rattle.proc_macro2.specs.Pieces.{piece_tokens, spacing_of}
 use Rattle.proc_macro2.specs.Printed.{shown, hugs, is_hugged, opens_brace, closes_brace, is_apart, space, text}
 use Rattle.proc_macro2.specs.Spacing.{is_character, follows_quote, follows_mark, may_stand, IsWellSpaced}
@@ -52,9 +53,9 @@ calm_closing (Closes delimiter.Parenthesis) us h m = subst IsCalm (sym (text_beh
 calm_closing (Closes delimiter.Brace) us h m = cc
 calm_closing (Closes delimiter.Bracket) us h m = subst IsCalm (sym (text_behind (Closes delimiter.Bracket) us)) refl
 calm_closing (Closes delimiter.None) us h m = cc
-calm_closing (Word cs) us h m = cc
-calm_closing (Quoted cs) us h m = cc
-calm_closing (Sign c spacing) us h m = cc
+calm_closing (Ident cs) us h m = cc
+calm_closing (Literal cs) us h m = cc
+calm_closing (Punct c spacing) us h m = cc
 
 calm_behind : (t : Token) (ts : List Token) → hugs t ≡ false → IsWellSpaced ts → IsCalm (behind t ts)
 calm_behind t [] h w = tt
@@ -100,61 +101,61 @@ char_begins cs rest (kind, (body, suffix, e, b, s)) h =
     b
 
 -- what is printed of a sign begins with a mark
-quote_front : (ts : List Token) → follows_quote ts ≡ true → AreLeaves ts → IsWellSpaced ts → begins_lifetime (behind (Sign 39 Joint) ts) ≡ true
+quote_front : (ts : List Token) → follows_quote ts ≡ true → AreLeaves ts → IsWellSpaced ts → begins_lifetime (behind (Punct 39 Joint) ts) ≡ true
 quote_front [] f a w = cc
-quote_front (Word cs ∷ ts) f a w =
-    let calm = calm_behind (Word cs) ts refl w.1 in
-    ap begins_lifetime (text_behind (Word cs) ts) ∙ lifetime_word cs (behind (Word cs) ts) (ident_calm cs [] (behind (Word cs) ts) a.0 calm) calm
-quote_front (Quoted cs ∷ ts) f a w = ap begins_lifetime (text_behind (Quoted cs) ts) ∙ lifetime_string cs (behind (Quoted cs) ts) f
+quote_front (Ident cs ∷ ts) f a w =
+    let calm = calm_behind (Ident cs) ts refl w.1 in
+    ap begins_lifetime (text_behind (Ident cs) ts) ∙ lifetime_word cs (behind (Ident cs) ts) (ident_calm cs [] (behind (Ident cs) ts) a.0 calm) calm
+quote_front (Literal cs ∷ ts) f a w = ap begins_lifetime (text_behind (Literal cs) ts) ∙ lifetime_string cs (behind (Literal cs) ts) f
 quote_front (Opens d ∷ ts) f a w = cc
 quote_front (Closes d ∷ ts) f a w = cc
-quote_front (Sign c spacing ∷ ts) f a w = cc
+quote_front (Punct c spacing ∷ ts) f a w = cc
 
 character_front : (cs rest : List ℕ) → is_character cs ≡ true → begins is_slash_or_star (cs ++ rest) ≡ false
 character_front [] rest h = cc
 character_front (c ∷ cs) rest h = rw (eqb-true c 39 h) refl
 
-no_comment : (c : ℕ) (ts : List Token) → follows_mark c ts ≡ true → (c == 47 && begins is_slash_or_star (behind (Sign c Joint) ts)) ≡ false
+no_comment : (c : ℕ) (ts : List Token) → follows_mark c ts ≡ true → (c == 47 && begins is_slash_or_star (behind (Punct c Joint) ts)) ≡ false
 no_comment c [] f = cc
-no_comment c (Sign d spacing ∷ ts) f = ap (λ r. c == 47 && begins is_slash_or_star r) (text_behind (Sign d spacing) ts) ∙ not-true _ f
-no_comment c (Quoted cs ∷ ts) f = and_right (c == 47) (begins is_slash_or_star (text (Quoted cs ∷ ts))) (ap (begins is_slash_or_star) (text_behind (Quoted cs) ts) ∙ character_front cs (behind (Quoted cs) ts) f)
+no_comment c (Punct d spacing ∷ ts) f = ap (λ r. c == 47 && begins is_slash_or_star r) (text_behind (Punct d spacing) ts) ∙ not-true _ f
+no_comment c (Literal cs ∷ ts) f = and_right (c == 47) (begins is_slash_or_star (text (Literal cs ∷ ts))) (ap (begins is_slash_or_star) (text_behind (Literal cs) ts) ∙ character_front cs (behind (Literal cs) ts) f)
 no_comment c (Opens d ∷ ts) f = cc
 no_comment c (Closes d ∷ ts) f = cc
-no_comment c (Word cs ∷ ts) f = cc
+no_comment c (Ident cs ∷ ts) f = cc
 
 not_quote : (c : ℕ) → not (c == 39) ≡ true → (c == 39) ≡ false
 not_quote c h = not-true _ h
 
-sign_front : (c : ℕ) (s : Spacing) (ts : List Token) → is_punctuation c ≡ true → IsTrue (may_stand (Sign c s) ts) → AreLeaves ts → IsWellSpaced ts → begins_mark (c ∷ behind (Sign c s) ts) ≡ true
-sign_front c Alone ts h m a w = mark_calm c (behind (Sign c Alone) ts) (mark_or_quote c h (not_quote c m)) (calm_behind (Sign c Alone) ts refl w)
+sign_front : (c : ℕ) (s : Spacing) (ts : List Token) → is_punctuation c ≡ true → IsTrue (may_stand (Punct c s) ts) → AreLeaves ts → IsWellSpaced ts → begins_mark (c ∷ behind (Punct c s) ts) ≡ true
+sign_front c Alone ts h m a w = mark_calm c (behind (Punct c Alone) ts) (mark_or_quote c h (not_quote c m)) (calm_behind (Punct c Alone) ts refl w)
 sign_front c Joint ts h m a w =
     ⊎_elim
     (λ q.
     let f : follows_quote ts ≡ true = rw q at m in
-    subst (λ d. begins_mark (d ∷ behind (Sign d Joint) ts) ≡ true) (sym (eqb-true c 39 q)) (quote_before (behind (Sign 39 Joint) ts) (quote_front ts f a w)))
-    (λ q. let f : follows_mark c ts ≡ true = rw q at m in mark_before c (behind (Sign c Joint) ts) (mark_or_quote c h q) (no_comment c ts f))
+    subst (λ d. begins_mark (d ∷ behind (Punct d Joint) ts) ≡ true) (sym (eqb-true c 39 q)) (quote_before (behind (Punct 39 Joint) ts) (quote_front ts f a w)))
+    (λ q. let f : follows_mark c ts ≡ true = rw q at m in mark_before c (behind (Punct c Joint) ts) (mark_or_quote c h q) (no_comment c ts f))
     (cases_Bool (c == 39))
 
-sign_text : (c : ℕ) (s : Spacing) (ts : List Token) → is_punctuation c ≡ true → IsTrue (may_stand (Sign c s) ts) → AreLeaves ts → IsWellSpaced ts → begins_mark (text (Sign c s ∷ ts)) ≡ true
-sign_text c s ts h m a w = ap begins_mark (text_behind (Sign c s) ts) ∙ sign_front c s ts h m a w
+sign_text : (c : ℕ) (s : Spacing) (ts : List Token) → is_punctuation c ≡ true → IsTrue (may_stand (Punct c s) ts) → AreLeaves ts → IsWellSpaced ts → begins_mark (text (Punct c s ∷ ts)) ≡ true
+sign_text c s ts h m a w = ap begins_mark (text_behind (Punct c s) ts) ∙ sign_front c s ts h m a w
 
 -- a sign stands as it is spaced
-follows_joint : (c : ℕ) (ts : List Token) → follows_mark c ts ≡ true → AreLeaves ts → IsWellSpaced ts → is_joint (c ∷ behind (Sign c Joint) ts) ≡ true
+follows_joint : (c : ℕ) (ts : List Token) → follows_mark c ts ≡ true → AreLeaves ts → IsWellSpaced ts → is_joint (c ∷ behind (Punct c Joint) ts) ≡ true
 follows_joint c [] f a w = cc
-follows_joint c (Sign d s ∷ ts) f a w = joint_mark c (text (Sign d s ∷ ts)) (sign_text d s ts a.0 w.0 a.1 w.1)
-follows_joint c (Quoted cs ∷ ts) f a w = joint_char c (text (Quoted cs ∷ ts)) (ap begins_char (text_behind (Quoted cs) ts) ∙ char_begins cs (behind (Quoted cs) ts) a.0 f)
+follows_joint c (Punct d s ∷ ts) f a w = joint_mark c (text (Punct d s ∷ ts)) (sign_text d s ts a.0 w.0 a.1 w.1)
+follows_joint c (Literal cs ∷ ts) f a w = joint_char c (text (Literal cs ∷ ts)) (ap begins_char (text_behind (Literal cs) ts) ∙ char_begins cs (behind (Literal cs) ts) a.0 f)
 follows_joint c (Opens d ∷ ts) f a w = cc
 follows_joint c (Closes d ∷ ts) f a w = cc
-follows_joint c (Word cs ∷ ts) f a w = cc
+follows_joint c (Ident cs ∷ ts) f a w = cc
 
 quote_joint : (rest : List ℕ) (c : ℕ) → (c == 39) ≡ true → is_joint (c ∷ rest) ≡ true
 quote_joint rest c q = rw q refl
 
-sign_spacing : (c : ℕ) (s : Spacing) (ts : List Token) → IsTrue (may_stand (Sign c s) ts) → AreLeaves ts → IsWellSpaced ts → spacing_of (is_joint (c ∷ behind (Sign c s) ts)) ≡ s
-sign_spacing c Alone ts m a w = ap spacing_of (alone_calm c (behind (Sign c Alone) ts) (not_quote c m) (calm_behind (Sign c Alone) ts refl w))
+sign_spacing : (c : ℕ) (s : Spacing) (ts : List Token) → IsTrue (may_stand (Punct c s) ts) → AreLeaves ts → IsWellSpaced ts → spacing_of (is_joint (c ∷ behind (Punct c s) ts)) ≡ s
+sign_spacing c Alone ts m a w = ap spacing_of (alone_calm c (behind (Punct c Alone) ts) (not_quote c m) (calm_behind (Punct c Alone) ts refl w))
 sign_spacing c Joint ts m a w =
     ⊎_elim
-    (λ q. ap spacing_of (quote_joint (behind (Sign c Joint) ts) c q))
+    (λ q. ap spacing_of (quote_joint (behind (Punct c Joint) ts) c q))
     (λ q. let f : follows_mark c ts ≡ true = rw q at m in ap spacing_of (follows_joint c ts f a w))
     (cases_Bool (c == 39))
 
@@ -173,9 +174,9 @@ stands (Closes delimiter.Parenthesis) ts h m a w = record { kind = Close lex.Par
 stands (Closes delimiter.Brace) ts h m a w = record { kind = Close lex.Brace; fits = refl; tokens_are = refl }
 stands (Closes delimiter.Bracket) ts h m a w = record { kind = Close lex.Bracket; fits = refl; tokens_are = refl }
 stands (Closes delimiter.None) ts h m a w = cc
-stands (Word cs) ts h m a w = record { kind = Ident; fits = ident_calm cs [] (behind (Word cs) ts) h (calm_behind (Word cs) ts refl w); tokens_are = refl }
-stands (Quoted cs) ts (kind, h) m a w = record { kind = Literal kind; fits = literal_calm kind cs [] (behind (Quoted cs) ts) h (calm_behind (Quoted cs) ts refl w); tokens_are = refl }
-stands (Sign c s) ts h m a w = record { kind = Mark; fits = (c, refl, sign_front c s ts h m a w); tokens_are = ap (λ s. Sign c s ∷ []) (sign_spacing c s ts m a w) }
+stands (Ident cs) ts h m a w = record { kind = kinds.Ident; fits = ident_calm cs [] (behind (Ident cs) ts) h (calm_behind (Ident cs) ts refl w); tokens_are = refl }
+stands (Literal cs) ts (kind, h) m a w = record { kind = kinds.Literal kind; fits = literal_calm kind cs [] (behind (Literal cs) ts) h (calm_behind (Literal cs) ts refl w); tokens_are = refl }
+stands (Punct c s) ts h m a w = record { kind = Mark; fits = (c, refl, sign_front c s ts h m a w); tokens_are = ap (λ s. Punct c s ∷ []) (sign_spacing c s ts m a w) }
 
 -- the pieces of printed tokens
 record Laid (ts : List Token) (printed : List ℕ) : Type 0 where

@@ -13,7 +13,8 @@ use Rattle.rust_lex.specs.declared.piece.DocKind.TheVariants as doc
 use Rattle.rust_lex.specs.declared.piece.LiteralKind.{LiteralKind}
 use Rattle.rust_lex.specs.declared.piece.LiteralKind.TheVariants.{Char}
 use Rattle.rust_lex.specs.declared.piece.PieceKind.{PieceKind}
-use Rattle.rust_lex.specs.declared.piece.PieceKind.TheVariants.{FrontMark, White, Comment, Doc, Open, Close, Mark, Ident, Literal}
+use Rattle.rust_lex.specs.declared.piece.PieceKind.TheVariants.{FrontMark, White, Comment, Doc, Open, Close, Mark}
+use Rattle.rust_lex.specs.declared.piece.PieceKind.TheVariants as kinds
 use Rattle.rust_lex.specs.Quoted.{opening_of}
 use Rattle.rust_lex.specs.QuotedScan.{past_char}
 use Rattle.rust_lex.specs.Word.{begins_lifetime}
@@ -25,7 +26,7 @@ use Rattle.rust_lex.proofs.Fronts.{front-tick}
 use Rattle.rust_lex.proofs.Scans.{tick_no_mark}
 use Rattle.rust_lex.proofs.Sound.{ticked_some}
 use Rattle.rust_lex.proofs.Taken.{option_cases}
-use Rattle.proc_macro2.specs.Token.{Token, Sign, Alone, Joint}
+use Rattle.proc_macro2.specs.Token.{Token, Punct, Alone, Joint}
 use Rattle.proc_macro2.specs.Pieces.{piece_tokens, doc_text, doc_marks, doc_group, delimiter_of, spacing_of, head}
 use Rattle.proc_macro2.specs.Spacing.{is_character, is_visible, begin_comment, follows_quote, follows_mark, may_stand, IsWellSpaced}
 use Rattle.lex_laws.specs.Read.{IsReadAs}
@@ -45,7 +46,7 @@ mark_kind k cs rest f h = at_text (cs ++ rest) (complete k cs rest f) h
 scan_tick : (cs : List ℕ) → scan (39 ∷ cs) ≡ ticked cs
 scan_tick cs = rw front-tick refl
 
-char_scanned : (c : ℕ) (cs : List ℕ) → begins_char (c ∷ cs) ≡ true → (rest : List ℕ) × (scan (c ∷ cs) ≡ Ends (Literal Char) rest)
+char_scanned : (c : ℕ) (cs : List ℕ) → begins_char (c ∷ cs) ≡ true → (rest : List ℕ) × (scan (c ∷ cs) ≡ Ends (kinds.Literal Char) rest)
 char_scanned c cs h =
     let (q, s) = and_parts (c == 39) (is_some (past_char modes.Char cs)) h in
     ⊎_elim
@@ -53,10 +54,10 @@ char_scanned c cs h =
     (λ (r, e). (past_suffix r, ap (λ d. scan (d ∷ cs)) (eqb-true c 39 q) ∙ scan_tick cs ∙ ticked_some cs r e))
     (option_cases (past_char modes.Char cs))
 
-char_kind : (k : PieceKind) (cs rest : List ℕ) → Fits k cs rest → begins_char (cs ++ rest) ≡ true → k ≡ Literal Char
+char_kind : (k : PieceKind) (cs rest : List ℕ) → Fits k cs rest → begins_char (cs ++ rest) ≡ true → k ≡ kinds.Literal Char
 char_kind k cs rest f h = at_text (cs ++ rest) (complete k cs rest f) h
   where
-    at_text : (text : List ℕ) → scan text ≡ Ends k rest → begins_char text ≡ true → k ≡ Literal Char
+    at_text : (text : List ℕ) → scan text ≡ Ends k rest → begins_char text ≡ true → k ≡ kinds.Literal Char
     at_text [] e h = cc
     at_text (c ∷ ds) e h = let (r, m) = char_scanned c ds h in cc
 
@@ -96,9 +97,9 @@ quote_tokens [] f h = let n = nothing_lives in cc
 quote_tokens (p ∷ ps) f h =
     at_front p.kind p.chars f.0 h (lifetime_kind p.kind p.chars (onto ps []) f.0 h)
   where
-    at_front : (k : PieceKind) (cs : List ℕ) → Fits k cs (onto ps []) → begins_lifetime (cs ++ onto ps []) ≡ true → (k ≡ Ident) ⊎ ((l : LiteralKind) × (k ≡ Literal l)) → follows_quote (piece_tokens k cs (onto ps []) ++ plain_of ps []) ≡ true
-    at_front Ident cs f h e = refl
-    at_front (Literal kind) cs f h e = lifetime_literal kind cs (onto ps []) f h
+    at_front : (k : PieceKind) (cs : List ℕ) → Fits k cs (onto ps []) → begins_lifetime (cs ++ onto ps []) ≡ true → (k ≡ kinds.Ident) ⊎ ((l : LiteralKind) × (k ≡ kinds.Literal l)) → follows_quote (piece_tokens k cs (onto ps []) ++ plain_of ps []) ≡ true
+    at_front kinds.Ident cs f h e = refl
+    at_front (kinds.Literal kind) cs f h e = lifetime_literal kind cs (onto ps []) f h
     at_front k cs f h e = ⊎_elim (λ e. cc) (λ (l, e). cc) e
 
 begun_comment : (c d : ℕ) (rest : List ℕ) → (c == 39) ≡ false → begins_mark (c ∷ (d ∷ rest)) ≡ true → begin_comment c d ≡ false
@@ -125,8 +126,8 @@ char_tokens c [] f h = cc
 char_tokens c (p ∷ ps) f h =
     at_front p.kind p.chars f.0 h (char_kind p.kind p.chars (onto ps []) f.0 h)
   where
-    at_front : (k : PieceKind) (cs : List ℕ) → Fits k cs (onto ps []) → begins_char (cs ++ onto ps []) ≡ true → k ≡ Literal Char → follows_mark c (piece_tokens k cs (onto ps []) ++ plain_of ps []) ≡ true
-    at_front (Literal kind) cs f h s = sym (literal_more kind cs (onto ps []) f) ∙ char_begins (cs ++ onto ps []) h
+    at_front : (k : PieceKind) (cs : List ℕ) → Fits k cs (onto ps []) → begins_char (cs ++ onto ps []) ≡ true → k ≡ kinds.Literal Char → follows_mark c (piece_tokens k cs (onto ps []) ++ plain_of ps []) ≡ true
+    at_front (kinds.Literal kind) cs f h s = sym (literal_more kind cs (onto ps []) f) ∙ char_begins (cs ++ onto ps []) h
     at_front k cs f h s = cc
 
 begun_quote : (rest : List ℕ) → begins_mark (39 ∷ rest) ≡ true → begins_lifetime rest ≡ true
@@ -135,19 +136,19 @@ begun_quote rest h = let n = tick_no_mark 39 refl in ⊎_elim
     (λ m. m)
     (or_cases (is_mark 39 && not (39 == 47 && begins is_slash_or_star rest)) (39 == 39 && begins_lifetime rest) h)
 
-quote_stands : (ps : List Piece) → AreFit ps [] → begins_mark (39 ∷ onto ps []) ≡ true → IsTrue (may_stand (Sign 39 (spacing_of (is_joint (39 ∷ onto ps [])))) (plain_of ps []))
+quote_stands : (ps : List Piece) → AreFit ps [] → begins_mark (39 ∷ onto ps []) ≡ true → IsTrue (may_stand (Punct 39 (spacing_of (is_joint (39 ∷ onto ps [])))) (plain_of ps []))
 quote_stands ps f m = quote_tokens ps f (begun_quote (onto ps []) m)
 
-as_spaced : (c : ℕ) (joint : Bool) (text : List ℕ) (ts : List Token) → is_joint (c ∷ text) ≡ joint → IsTrue (may_stand (Sign c (spacing_of joint)) ts) → IsTrue (may_stand (Sign c (spacing_of (is_joint (c ∷ text)))) ts)
-as_spaced c joint text ts e m = subst (λ b. IsTrue (may_stand (Sign c (spacing_of b)) ts)) (sym e) m
+as_spaced : (c : ℕ) (joint : Bool) (text : List ℕ) (ts : List Token) → is_joint (c ∷ text) ≡ joint → IsTrue (may_stand (Punct c (spacing_of joint)) ts) → IsTrue (may_stand (Punct c (spacing_of (is_joint (c ∷ text)))) ts)
+as_spaced c joint text ts e m = subst (λ b. IsTrue (may_stand (Punct c (spacing_of b)) ts)) (sym e) m
 
-joint_stands : (c : ℕ) (ts : List Token) → (c == 39) ≡ false → follows_mark c ts ≡ true → IsTrue (may_stand (Sign c Joint) ts)
+joint_stands : (c : ℕ) (ts : List Token) → (c == 39) ≡ false → follows_mark c ts ≡ true → IsTrue (may_stand (Punct c Joint) ts)
 joint_stands c ts q f = rw q f
 
-alone_stands : (c : ℕ) (ts : List Token) → (c == 39) ≡ false → IsTrue (may_stand (Sign c Alone) ts)
+alone_stands : (c : ℕ) (ts : List Token) → (c == 39) ≡ false → IsTrue (may_stand (Punct c Alone) ts)
 alone_stands c ts q = ap not q
 
-other_stands : (c : ℕ) (ps : List Piece) → AreFit ps [] → (c == 39) ≡ false → begins_mark (c ∷ onto ps []) ≡ true → IsTrue (may_stand (Sign c (spacing_of (is_joint (c ∷ onto ps [])))) (plain_of ps []))
+other_stands : (c : ℕ) (ps : List Piece) → AreFit ps [] → (c == 39) ≡ false → begins_mark (c ∷ onto ps []) ≡ true → IsTrue (may_stand (Punct c (spacing_of (is_joint (c ∷ onto ps [])))) (plain_of ps []))
 other_stands c ps f q m =
     ⊎_elim
     (λ h. as_spaced c true (onto ps []) (plain_of ps []) (joint_mark c (onto ps []) h) (joint_stands c (plain_of ps []) q (mark_tokens c ps f q m h)))
@@ -157,10 +158,10 @@ other_stands c ps f q m =
     (cases_Bool (begins_char (onto ps []))))
     (cases_Bool (begins_mark (onto ps [])))
 
-sign_stands : (c : ℕ) (ps : List Piece) → AreFit ps [] → begins_mark (c ∷ onto ps []) ≡ true → IsTrue (may_stand (Sign c (spacing_of (is_joint (c ∷ onto ps [])))) (plain_of ps []))
+sign_stands : (c : ℕ) (ps : List Piece) → AreFit ps [] → begins_mark (c ∷ onto ps []) ≡ true → IsTrue (may_stand (Punct c (spacing_of (is_joint (c ∷ onto ps [])))) (plain_of ps []))
 sign_stands c ps f m =
     ⊎_elim
-    (λ q. let P : ℕ → Type 0 = λ d. begins_mark (d ∷ onto ps []) ≡ true → IsTrue (may_stand (Sign d (spacing_of (is_joint (d ∷ onto ps [])))) (plain_of ps [])) in subst P (sym (eqb-true c 39 q)) (quote_stands ps f) m)
+    (λ q. let P : ℕ → Type 0 = λ d. begins_mark (d ∷ onto ps []) ≡ true → IsTrue (may_stand (Punct d (spacing_of (is_joint (d ∷ onto ps [])))) (plain_of ps [])) in subst P (sym (eqb-true c 39 q)) (quote_stands ps f) m)
     (λ q. other_stands c ps f q m)
     (cases_Bool (c == 39))
 
@@ -183,8 +184,8 @@ with_front ps f w (Doc kind) cs h = doc_spaced kind (doc_text kind cs) (plain_of
 with_front ps f w (Open d) cs h = (visible d, w)
 with_front ps f w (Close d) cs h = (visible d, w)
 with_front ps f w Mark cs (c, e, m) = subst (λ x. IsWellSpaced (piece_tokens Mark x (onto ps []) ++ plain_of ps [])) (sym e) (sign_stands c ps f m, w)
-with_front ps f w Ident cs h = (refl, w)
-with_front ps f w (Literal kind) cs h = (refl, w)
+with_front ps f w kinds.Ident cs h = (refl, w)
+with_front ps f w (kinds.Literal kind) cs h = (refl, w)
 
 read_spaced : (ps : List Piece) → AreFit ps [] → IsWellSpaced (plain_of ps [])
 read_spaced [] f = tt
@@ -202,8 +203,8 @@ front_spaced (p ∷ ps) f = at_front p.kind p.chars f.0
     at_front (Open d) cs h = with_front ps f.1 (read_spaced ps f.1) (Open d) cs h
     at_front (Close d) cs h = with_front ps f.1 (read_spaced ps f.1) (Close d) cs h
     at_front Mark cs h = with_front ps f.1 (read_spaced ps f.1) Mark cs h
-    at_front Ident cs h = with_front ps f.1 (read_spaced ps f.1) Ident cs h
-    at_front (Literal kind) cs h = with_front ps f.1 (read_spaced ps f.1) (Literal kind) cs h
+    at_front kinds.Ident cs h = with_front ps f.1 (read_spaced ps f.1) kinds.Ident cs h
+    at_front (kinds.Literal kind) cs h = with_front ps f.1 (read_spaced ps f.1) (kinds.Literal kind) cs h
 
 pub is_spaced : (text : List ℕ) (ts : List Token) → IsReadAs text ts → IsWellSpaced ts
 is_spaced text ts r = subst IsWellSpaced (sym (plain_tokens 0 r.pieces []) ∙ r.tokens_are) (front_spaced r.pieces r.cover.fit)

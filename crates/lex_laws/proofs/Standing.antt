@@ -13,7 +13,8 @@ use Rattle.rust_lex.specs.Piece.{Fits, FitsFront, Piece, is_joint}
 use Rattle.rust_lex.specs.declared.delimiter.Delimiter.{Delimiter as LexDelimiter}
 use Rattle.rust_lex.specs.declared.delimiter.Delimiter.TheVariants as lex
 use Rattle.rust_lex.specs.declared.piece.PieceKind.{PieceKind}
-use Rattle.rust_lex.specs.declared.piece.PieceKind.TheVariants.{FrontMark, White, Comment, Doc, Open, Close, Mark, Ident, Literal}
+use Rattle.rust_lex.specs.declared.piece.PieceKind.TheVariants.{FrontMark, White, Comment, Doc, Open, Close, Mark}
+use Rattle.rust_lex.specs.declared.piece.PieceKind.TheVariants as kinds
 use Rattle.rust_map.specs.Answers.{source_of}
 use Rattle.rust_map.specs.Sources.{Sources, next_position, with_text}
 use Rattle.rust_map.specs.Spans.{first_of, last_of, span_from}
@@ -24,7 +25,7 @@ use Rattle.proc_macro2.specs.Groups.{groups_open, same_delimiter}
 use Rattle.proc_macro2.specs.Pieces.{all_at, delimiter_of, doc_group, doc_marks, doc_text, edge, edged, head, spacing_of, span_at, tokens_of}
 use Rattle.proc_macro2.specs.Printed.{closing, opening}
 use Rattle.proc_macro2.specs.declared.delimiter.Delimiter.{Delimiter}
-use Rattle.proc_macro2.specs.Token.{Token, Opens, Closes, Word, Quoted, Sign, Spanned}
+use Rattle.proc_macro2.specs.Token.{Token, Opens, Closes, Ident, Literal, Punct, Spanned}
 use Rattle.proc_macro2.proofs.OneForest.{same_end, same_span, same_start}
 use Rattle.proc_macro2.proofs.Total.{same_true}
 use Rattle.lex_laws.specs.Place.{IsBehind, IsFound, IsOfDoc, IsWritten, own_span}
@@ -83,9 +84,9 @@ within (Closes d) span = here (nat_lt span.start span.end) refl
     here : (b : Bool) → nat_lt span.start span.end ≡ b → IsWithin (cond b (span_from (span.end - 1) span.end) span) span
     here true h = let l = ltb-true span.start span.end h in record { low = omega arith; high = omega arith }
     here false h = within_itself span
-within (Word cs) span = within_itself span
-within (Quoted cs) span = within_itself span
-within (Sign c spacing) span = within_itself span
+within (Ident cs) span = within_itself span
+within (Literal cs) span = within_itself span
+within (Punct c spacing) span = within_itself span
 
 -- the tokens of a doc
 docs : (m : Sources) (text front cs : List ℕ) (ts : List Token) (span : Span) (xs : List Span) (ds : List Delimiter) (stream : List Spanned)
@@ -121,8 +122,8 @@ IsMade (Doc kind) cs rest = IsDoc kind cs rest
 IsMade (Open d) cs rest = cs ≡ piece.opening d ∷ []
 IsMade (Close d) cs rest = cs ≡ piece.closing d ∷ []
 IsMade Mark cs rest = (c : ℕ) × (cs ≡ c ∷ [])
-IsMade Ident cs rest = Unit {0}
-IsMade (Literal kind) cs rest = Unit {0}
+IsMade kinds.Ident cs rest = Unit {0}
+IsMade (kinds.Literal kind) cs rest = Unit {0}
 
 abbrev AreMade : List Piece → Type 0
 AreMade [] = Unit {0}
@@ -136,8 +137,8 @@ made (Doc kind) cs rest f = f
 made (Open d) cs rest f = f
 made (Close d) cs rest f = f
 made Mark cs rest f = (f.0, f.1)
-made Ident cs rest f = tt
-made (Literal kind) cs rest f = tt
+made kinds.Ident cs rest f = tt
+made (kinds.Literal kind) cs rest f = tt
 
 made_front : (k : PieceKind) (cs rest : List ℕ) → FitsFront k cs rest → IsMade k cs rest
 made_front FrontMark cs rest f = tt
@@ -147,8 +148,8 @@ made_front (Doc kind) cs rest f = f
 made_front (Open d) cs rest f = f
 made_front (Close d) cs rest f = f
 made_front Mark cs rest f = (f.0, f.1)
-made_front Ident cs rest f = tt
-made_front (Literal kind) cs rest f = tt
+made_front kinds.Ident cs rest f = tt
+made_front (kinds.Literal kind) cs rest f = tt
 
 all_made : (ps : List Piece) → AreFit ps [] → AreMade ps
 all_made [] f = tt
@@ -306,12 +307,12 @@ walk m text front (p ∷ ps) xs ds stream positive joined are r b =
         (subst (λ o. IsStream (tokens_of (next_position m + length front) (record { kind = Close d; chars = o } ∷ ps) []) xs ds stream) is r) b
         (subst (λ o. (ys : List Span) (es : List Delimiter) (others : List Spanned) → IsStream (tokens_of (next_position m + length front + length o) ps []) ys es others → AreBegun (next_position m) (front ++ o) ys es → Stands m text (front ++ o) ys es others) is next)
     by Mark cs j is r next =
-        leaf m text front cs (onto ps []) (Sign (head cs) (spacing_of (is_joint (cs ++ onto ps [])))) (tokens_of (next_position m + length front + length cs) ps []) xs ds stream positive j tt (is.1 ∙ ap (λ o. head o ∷ []) (sym is.1)) r b
+        leaf m text front cs (onto ps []) (Punct (head cs) (spacing_of (is_joint (cs ++ onto ps [])))) (tokens_of (next_position m + length front + length cs) ps []) xs ds stream positive j tt (is.1 ∙ ap (λ o. head o ∷ []) (sym is.1)) r b
         (λ others q. next xs ds others q (begun_on (next_position m) front cs xs ds b))
-    by Ident cs j is r next =
-        leaf m text front cs (onto ps []) (Word cs) (tokens_of (next_position m + length front + length cs) ps []) xs ds stream positive j tt refl r b (λ others q. next xs ds others q (begun_on (next_position m) front cs xs ds b))
-    by (Literal kind) cs j is r next =
-        leaf m text front cs (onto ps []) (Quoted cs) (tokens_of (next_position m + length front + length cs) ps []) xs ds stream positive j tt refl r b (λ others q. next xs ds others q (begun_on (next_position m) front cs xs ds b))
+    by kinds.Ident cs j is r next =
+        leaf m text front cs (onto ps []) (Ident cs) (tokens_of (next_position m + length front + length cs) ps []) xs ds stream positive j tt refl r b (λ others q. next xs ds others q (begun_on (next_position m) front cs xs ds b))
+    by (kinds.Literal kind) cs j is r next =
+        leaf m text front cs (onto ps []) (Literal cs) (tokens_of (next_position m + length front + length cs) ps []) xs ds stream positive j tt refl r b (λ others q. next xs ds others q (begun_on (next_position m) front cs xs ds b))
 
 of_forest : (m : Sources) (text : List ℕ) (stream : List Spanned) → 1 ≤ m.start → IsForest (next_position m) text stream → Stands m text [] [] [] stream
 of_forest m text stream positive f =

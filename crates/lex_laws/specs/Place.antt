@@ -9,7 +9,7 @@ use Rattle.rust_map.specs.declared.span.Span.{Span}
 use Rattle.proc_macro2.specs.Pieces.{doc_group, doc_marks, doc_text, edge}
 use Rattle.proc_macro2.specs.Printed.{closing, opening}
 use Rattle.proc_macro2.specs.declared.delimiter.Delimiter.{Delimiter}
-use Rattle.proc_macro2.specs.Token.{Token, Opens, Closes, Word, Quoted, Sign, Spanned}
+use Rattle.proc_macro2.specs.Token.{Token, Opens, Closes, Ident, Literal, Punct, Spanned}
 
 -- characters from an opening delimiter to a closing one
 abbrev pub IsEnclosed : Delimiter → List ℕ → Type 0
@@ -19,9 +19,9 @@ IsEnclosed d cs = (inside : List ℕ) × (cs ≡ opening d ++ (inside ++ closing
 abbrev pub IsWritten : Token → List ℕ → Type 0
 IsWritten (Opens d) cs = IsEnclosed d cs
 IsWritten (Closes d) cs = IsEnclosed d cs
-IsWritten (Word text) cs = cs ≡ text
-IsWritten (Quoted text) cs = cs ≡ text
-IsWritten (Sign c spacing) cs = cs ≡ c ∷ []
+IsWritten (Ident text) cs = cs ≡ text
+IsWritten (Literal text) cs = cs ≡ text
+IsWritten (Punct c spacing) cs = cs ≡ c ∷ []
 
 -- the characters are a doc comment, and the token is one of the attribute that it stands for
 pub record IsOfDoc (token : Token) (cs : List ℕ) : Type 0 where

@@ -14,7 +14,7 @@ use Rattle.rust_lex.specs.declared.piece.DocKind.TheVariants as doc
 use Rattle.rust_lex.specs.declared.piece.PieceKind.{PieceKind}
 use Rattle.rust_lex.specs.declared.piece.PieceKind.TheVariants as piece
 use Rattle.proc_macro2.specs.declared.delimiter.Delimiter.TheVariants as delimiter
-use Rattle.proc_macro2.specs.Token.{Delimiter, Token, Opens, Closes, Word, Quoted, Sign, Spanned}
+use Rattle.proc_macro2.specs.Token.{Delimiter, Token, Opens, Closes, Ident, Literal, Punct, Spanned}
 use Rattle.proc_macro2.specs.Groups.{same_delimiter, IsMatched}
 use Rattle.proc_macro2.specs.Flat.{spanned}
 use Rattle.proc_macro2.specs.Pieces.{delimiter_of, edged, edged_at, all_at, span_at, piece_tokens, spacing_of, head, doc_marks, doc_group, doc_text}
@@ -174,9 +174,9 @@ put_grows at (piece.Doc kind) old new s cs rest joint p q j e f h =
 put_grows at (piece.Open d) old new s cs rest joint p q j e f h = grows_opened old.frames.items new.frames.items old.stream new.stream s d cs rest p.1.frames_are p.1.stream_is (fits_open at d cs rest q) f h
 put_grows at (piece.Close d) old new s cs rest joint p q j e f h = grows_closed old.frames.items new.frames.items old.stream new.stream s d cs rest p.frame p.frames_were p.same p.stream_is (fits_close at d cs rest q) e f h
 put_grows at piece.Mark old new s cs rest joint p q j e f h =
-    grows_added old.frames.items new.frames.items old.stream new.stream s piece.Mark cs rest (Sign (head cs) (spacing_of joint) ∷ []) p.1.frames_are p.1.stream_is (ap (λ b. Sign (head cs) (spacing_of b) ∷ []) (j refl)) refl (record { matched = refl; paired = refl }) e f h
-put_grows at piece.Ident old new s cs rest joint p q j e f h = grows_added old.frames.items new.frames.items old.stream new.stream s piece.Ident cs rest (Word cs ∷ []) p.1.frames_are p.1.stream_is refl refl (record { matched = refl; paired = refl }) e f h
-put_grows at (piece.Literal kind) old new s cs rest joint p q j e f h = grows_added old.frames.items new.frames.items old.stream new.stream s (piece.Literal kind) cs rest (Quoted cs ∷ []) p.1.frames_are p.1.stream_is refl refl (record { matched = refl; paired = refl }) e f h
+    grows_added old.frames.items new.frames.items old.stream new.stream s piece.Mark cs rest (Punct (head cs) (spacing_of joint) ∷ []) p.1.frames_are p.1.stream_is (ap (λ b. Punct (head cs) (spacing_of b) ∷ []) (j refl)) refl (record { matched = refl; paired = refl }) e f h
+put_grows at piece.Ident old new s cs rest joint p q j e f h = grows_added old.frames.items new.frames.items old.stream new.stream s piece.Ident cs rest (Ident cs ∷ []) p.1.frames_are p.1.stream_is refl refl (record { matched = refl; paired = refl }) e f h
+put_grows at (piece.Literal kind) old new s cs rest joint p q j e f h = grows_added old.frames.items new.frames.items old.stream new.stream s (piece.Literal kind) cs rest (Literal cs ∷ []) p.1.frames_are p.1.stream_is refl refl (record { matched = refl; paired = refl }) e f h
 
 -- what isn't put is a closing mark that closes nothing
 pub record Refuses (k : PieceKind) (old : Builder) : Type 0 where

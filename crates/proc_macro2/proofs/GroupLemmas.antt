@@ -4,7 +4,7 @@ use Rattle.proc_macro2.specs.declared.delimiter.Delimiter.TheVariants as delimit
 use Rattle.rust_map.specs.declared.span.Span.{Span}
 use Rattle.proc_macro2.specs.declared.tree.TokenTree.{TokenTree}
 use Rattle.proc_macro2.specs.declared.tree.TokenTree.TheVariants as tree
-use Rattle.proc_macro2.specs.Token.{Delimiter, Token, Opens, Closes, Word, Quoted, Sign, Spanned, plain}
+use Rattle.proc_macro2.specs.Token.{Delimiter, Token, Opens, Closes, Ident, Literal, Punct, Spanned, plain}
 use Rattle.proc_macro2.specs.Groups.{same_delimiter, groups_behind, groups_open, IsMatched, GroupsAreMatched}
 use Rattle.proc_macro2.specs.Flat.{spanned, tree_tokens, trees_tokens}
 use Rattle.proc_macro2.specs.Printed.{closes_brace, is_hugged, opens_brace, text, space}
@@ -39,9 +39,9 @@ behind_around (c ∷ ds) es fs (Closes d) e = closes (same_delimiter c d) e
     closes : (b : Bool) → cond b (Some ds) None ≡ Some es → cond b (Some (ds ++ fs)) None ≡ Some (es ++ fs)
     closes true h = ap (λ x. Some (x ++ fs)) (some_same h)
     closes false h = absurd (none_some h)
-behind_around ds es fs (Word cs) e = ap (λ x. Some (x ++ fs)) (some_same e)
-behind_around ds es fs (Quoted cs) e = ap (λ x. Some (x ++ fs)) (some_same e)
-behind_around ds es fs (Sign c spacing) e = ap (λ x. Some (x ++ fs)) (some_same e)
+behind_around ds es fs (Ident cs) e = ap (λ x. Some (x ++ fs)) (some_same e)
+behind_around ds es fs (Literal cs) e = ap (λ x. Some (x ++ fs)) (some_same e)
+behind_around ds es fs (Punct c spacing) e = ap (λ x. Some (x ++ fs)) (some_same e)
 
 open_around : (ds es fs : List Delimiter) (ss : List Spanned) → groups_open ds ss ≡ Some es → groups_open (ds ++ fs) ss ≡ Some (es ++ fs)
 open_around ds es fs [] e = ap (λ x. Some (x ++ fs)) (some_same e)
@@ -77,9 +77,9 @@ matched_trees (tree.Literal l ∷ ts) m = matched_trees ts m
 first_opens : (t : Token) (ss : List Spanned) (s : Spanned) → s.token ≡ t → IsMatched (s ∷ ss) → (closes_brace t ≡ false) × (is_hugged t ≡ false)
 first_opens (Opens d) ss s e m = (refl, refl)
 first_opens (Closes d) ss s e m = absurd (none_some (rw e at m))
-first_opens (Word cs) ss s e m = (refl, refl)
-first_opens (Quoted cs) ss s e m = (refl, refl)
-first_opens (Sign c spacing) ss s e m = (refl, refl)
+first_opens (Ident cs) ss s e m = (refl, refl)
+first_opens (Literal cs) ss s e m = (refl, refl)
+first_opens (Punct c spacing) ss s e m = (refl, refl)
 
 -- and end with no opening one
 last_closes : (ds : List Delimiter) (s : Spanned) (ss : List Spanned) → groups_open ds (s ∷ ss) ≡ Some [] → opens_brace (last s.token (plain ss)) ≡ false
@@ -92,9 +92,9 @@ last_closes ds s [] e = alone s.token (past (groups_behind ds s.token) e)
     alone : (t : Token) → groups_behind ds t ≡ Some [] → opens_brace t ≡ false
     alone (Opens d) h = cc
     alone (Closes d) h = refl
-    alone (Word cs) h = refl
-    alone (Quoted cs) h = refl
-    alone (Sign c spacing) h = refl
+    alone (Ident cs) h = refl
+    alone (Literal cs) h = refl
+    alone (Punct c spacing) h = refl
 last_closes ds s (t ∷ ts) e = past (λ hs. last_closes hs t ts) (groups_behind ds s.token) e
   where
     past : ((hs : List Delimiter) → groups_open hs (t ∷ ts) ≡ Some [] → opens_brace (last t.token (plain ts)) ≡ false) → (o : Option (List Delimiter)) →

@@ -4,7 +4,7 @@ use Rattle.std.specs.Prelude.{Bool, true, false, cond, nat_lt}
 use Rattle.rust_map.specs.Spans.{span_from, first_of, last_of}
 use Rattle.rust_map.specs.declared.span.Span.{Span}
 use Rattle.rust_lex.proofs.OneCover.{one_cover}
-use Rattle.proc_macro2.specs.Token.{Token, Opens, Closes, Word, Quoted, Sign, Spanned}
+use Rattle.proc_macro2.specs.Token.{Token, Opens, Closes, Ident, Literal, Punct, Spanned}
 use Rattle.proc_macro2.specs.Flat.{spanned}
 use Rattle.proc_macro2.specs.Pieces.{edge, edged, tokens_of}
 use Rattle.proc_macro2.specs.Forest.{ArePaired, IsForest}
@@ -48,9 +48,9 @@ abbrev Rest : Span → List Span → List Spanned → Token → Type 0
 Rest a xs ss (Opens d) = ArePaired (a ∷ xs) ss
 Rest a [] ss (Closes d) = ⊥
 Rest a (x ∷ xs) ss (Closes d) = (x ≡ a) × ArePaired xs ss
-Rest a xs ss (Word cs) = ArePaired xs ss
-Rest a xs ss (Quoted cs) = ArePaired xs ss
-Rest a xs ss (Sign c spacing) = ArePaired xs ss
+Rest a xs ss (Ident cs) = ArePaired xs ss
+Rest a xs ss (Literal cs) = ArePaired xs ss
+Rest a xs ss (Punct c spacing) = ArePaired xs ss
 
 rest_of : (s : Spanned) (xs : List Span) (ss : List Spanned) → ArePaired xs (s ∷ ss) → Rest s.span xs ss s.token
 rest_of s xs ss h = by s.token h
@@ -58,9 +58,9 @@ rest_of s xs ss h = by s.token h
     by : (t : Token) → It (elim t [
       | Opens d ↦ ArePaired (s.span ∷ xs) ss
       | Closes d ↦ elim xs [ [] ↦ ⊥ | y ∷ ys ↦ (y ≡ s.span) × ArePaired ys ss ]
-      | Word cs ↦ ArePaired xs ss
-      | Quoted cs ↦ ArePaired xs ss
-      | Sign c spacing ↦ ArePaired xs ss
+      | Ident cs ↦ ArePaired xs ss
+      | Literal cs ↦ ArePaired xs ss
+      | Punct c spacing ↦ ArePaired xs ss
     ]) → Rest s.span xs ss t
     by (Opens d) q = q
     by (Closes d) q = closes xs q
@@ -68,9 +68,9 @@ rest_of s xs ss h = by s.token h
         closes : (zs : List Span) → It (elim zs [ [] ↦ ⊥ | y ∷ ys ↦ (y ≡ s.span) × ArePaired ys ss ]) → Rest s.span zs ss (Closes d)
         closes [] p = p
         closes (z ∷ zs) p = p
-    by (Word cs) q = q
-    by (Quoted cs) q = q
-    by (Sign c spacing) q = q
+    by (Ident cs) q = q
+    by (Literal cs) q = q
+    by (Punct c spacing) q = q
 
 -- one more token
 one_more : (t : Token) (a b : Span) (xs ys : List Span) (ss us : List Spanned) → ((vs ws : List Span) → ArePaired vs ss → ArePaired ws us → starts vs ≡ starts ws → AreOne ss us vs ws) →
@@ -89,9 +89,9 @@ one_more (Closes d) a b (x ∷ xs) (y ∷ ys) ss us more h k e s =
     let one = more xs ys h.1 k.1 tails in
     let same : a ≡ b = same_span a b (ap (λ z. z.start) (sym h.0) ∙ first ∙ ap (λ z. z.start) k.0) (same_end a b e) in
     record { tokens = ap₂ (λ v w. spanned (Closes d) v ∷ w) same one.tokens; spans = ap₂ (λ v w. v ∷ w) (h.0 ∙ same ∙ sym k.0) one.spans }
-one_more (Word cs) a b xs ys ss us more h k e s = let one = more xs ys h k s in record { tokens = ap₂ (λ v w. spanned (Word cs) v ∷ w) e one.tokens; spans = one.spans }
-one_more (Quoted cs) a b xs ys ss us more h k e s = let one = more xs ys h k s in record { tokens = ap₂ (λ v w. spanned (Quoted cs) v ∷ w) e one.tokens; spans = one.spans }
-one_more (Sign c spacing) a b xs ys ss us more h k e s = let one = more xs ys h k s in record { tokens = ap₂ (λ v w. spanned (Sign c spacing) v ∷ w) e one.tokens; spans = one.spans }
+one_more (Ident cs) a b xs ys ss us more h k e s = let one = more xs ys h k s in record { tokens = ap₂ (λ v w. spanned (Ident cs) v ∷ w) e one.tokens; spans = one.spans }
+one_more (Literal cs) a b xs ys ss us more h k e s = let one = more xs ys h k s in record { tokens = ap₂ (λ v w. spanned (Literal cs) v ∷ w) e one.tokens; spans = one.spans }
+one_more (Punct c spacing) a b xs ys ss us more h k e s = let one = more xs ys h k s in record { tokens = ap₂ (λ v w. spanned (Punct c spacing) v ∷ w) e one.tokens; spans = one.spans }
 
 one_stream : (ts us : List Spanned) (xs ys : List Span) → ArePaired xs ts → ArePaired ys us → map edged ts ≡ map edged us → starts xs ≡ starts ys → AreOne ts us xs ys
 one_stream [] [] xs ys h k e s = record { tokens = refl; spans = h ∙ sym k }

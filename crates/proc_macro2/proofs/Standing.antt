@@ -1,7 +1,7 @@
 -- Tokens that may stand before others: what stands behind them counts by its first token alone.
 use Rattle.std.proofs.Common.{◌≡◌, List, [], ◌∷◌, ◌++◌, Bool, true, false, IsTrue, ◌&&◌, refl, sym, ap, ◌∙◌, append_assoc}
 use Rattle.std.proofs.lemmas.List.{append-nil}
-use Rattle.proc_macro2.specs.Token.{Delimiter, Token, Opens, Closes, Word, Quoted, Sign, Alone, Joint, plain}
+use Rattle.proc_macro2.specs.Token.{Delimiter, Token, Opens, Closes, Ident, Literal, Punct, Alone, Joint, plain}
 use Rattle.proc_macro2.specs.Flat.{tree_tokens, trees_tokens, group_tokens}
 use Rattle.proc_macro2.specs.Spacing.{IsWellSpaced, may_stand, is_visible}
 use Rattle.proc_macro2.specs.Stands.{all_stand}
@@ -14,23 +14,23 @@ use Rattle.proc_macro2.proofs.Texts.{group_plain, plain_append}
 may_first : (t u : Token) (us vs : List Token) → may_stand t (u ∷ us) ≡ may_stand t (u ∷ vs)
 may_first (Opens d) u us vs = refl
 may_first (Closes d) u us vs = refl
-may_first (Word cs) u us vs = refl
-may_first (Quoted cs) u us vs = refl
-may_first (Sign c Alone) u us vs = refl
-may_first (Sign c Joint) (Opens d) us vs = refl
-may_first (Sign c Joint) (Closes d) us vs = refl
-may_first (Sign c Joint) (Word cs) us vs = refl
-may_first (Sign c Joint) (Quoted cs) us vs = refl
-may_first (Sign c Joint) (Sign d spacing) us vs = refl
+may_first (Ident cs) u us vs = refl
+may_first (Literal cs) u us vs = refl
+may_first (Punct c Alone) u us vs = refl
+may_first (Punct c Joint) (Opens d) us vs = refl
+may_first (Punct c Joint) (Closes d) us vs = refl
+may_first (Punct c Joint) (Ident cs) us vs = refl
+may_first (Punct c Joint) (Literal cs) us vs = refl
+may_first (Punct c Joint) (Punct d spacing) us vs = refl
 
 -- a closing token is as the end
 may_close : (t : Token) (d : Delimiter) (us : List Token) → may_stand t (Closes d ∷ us) ≡ may_stand t []
 may_close (Opens e) d us = refl
 may_close (Closes e) d us = refl
-may_close (Word cs) d us = refl
-may_close (Quoted cs) d us = refl
-may_close (Sign c Alone) d us = refl
-may_close (Sign c Joint) d us = refl
+may_close (Ident cs) d us = refl
+may_close (Literal cs) d us = refl
+may_close (Punct c Alone) d us = refl
+may_close (Punct c Joint) d us = refl
 
 stand_first : (ts : List Token) (u : Token) (us vs : List Token) → all_stand ts (u ∷ us) ≡ all_stand ts (u ∷ vs)
 stand_first [] u us vs = refl

@@ -10,10 +10,11 @@ use Rattle.rust_leaf.proofs.Decided.{literal_had}
 use Rattle.rust_leaf.proofs.IdentTexts.{ident_text_is}
 use Rattle.rust_lex.specs.Chars as lex
 use Rattle.rust_lex.specs.Piece.{IsLiteral, begins_mark}
-use Rattle.rust_lex.specs.declared.piece.PieceKind.TheVariants.{Literal, Mark}
+use Rattle.rust_lex.specs.declared.piece.PieceKind.TheVariants.{Mark}
+use Rattle.rust_lex.specs.declared.piece.PieceKind.TheVariants as piece
 use Rattle.rust_lex.specs.Scan.{Ends}
 use Rattle.rust_lex.proofs.Complete.{complete, mark_scanned}
-use Rattle.proc_macro2.specs.Token.{Delimiter, Spacing, Token, Opens, Closes, Word, Quoted, Sign, Alone, Spanned, plain}
+use Rattle.proc_macro2.specs.Token.{Delimiter, Spacing, Token, Opens, Closes, Ident, Literal, Punct, Alone, Spanned, plain}
 use Rattle.proc_macro2.specs.Entered.{literal_entered}
 use Rattle.proc_macro2.specs.Flat.{spanned}
 use Rattle.proc_macro2.specs.Leaf.{AreLeaves}
@@ -40,13 +41,13 @@ group_stream d span ss a = record {
   matched = matched_group d span ss a.matched;
 }
 
-pub word_stream : (cs : List ℕ) (span : Span) → IsTrue (is_ident_text cs) → IsStream (spanned (Word cs) span ∷ [])
+pub word_stream : (cs : List ℕ) (span : Span) → IsTrue (is_ident_text cs) → IsStream (spanned (Ident cs) span ∷ [])
 word_stream cs span t = record { leaves = ((ident_text_is cs).0 t, tt); matched = refl }
 
-pub sign_stream : (c : ℕ) (spacing : Spacing) (span : Span) → IsTrue (is_mark c) → IsStream (spanned (Sign c spacing) span ∷ [])
+pub sign_stream : (c : ℕ) (spacing : Spacing) (span : Span) → IsTrue (is_mark c) → IsStream (spanned (Punct c spacing) span ∷ [])
 sign_stream c spacing span t = record { leaves = (t, tt); matched = refl }
 
-pub quoted_stream : (cs : List ℕ) (span : Span) → IsLiteralLeaf cs → IsStream (spanned (Quoted cs) span ∷ [])
+pub quoted_stream : (cs : List ℕ) (span : Span) → IsLiteralLeaf cs → IsStream (spanned (Literal cs) span ∷ [])
 quoted_stream cs span l = record { leaves = (l, tt); matched = refl }
 
 -- no literal begins with a minus
@@ -56,8 +57,8 @@ minus_begins cs = refl
 
 leaf_no_minus : (cs : List ℕ) → IsLiteralLeaf (minus ∷ cs) → ⊥
 leaf_no_minus cs (kind, l) =
-    let found = complete (Literal kind) (minus ∷ cs) [] l in
-    let same : Ends Mark (cs ++ []) ≡ Ends (Literal kind) [] = sym (mark_scanned minus (cs ++ []) (minus_begins (cs ++ []))) ∙ found in
+    let found = complete (piece.Literal kind) (minus ∷ cs) [] l in
+    let same : Ends Mark (cs ++ []) ≡ Ends (piece.Literal kind) [] = sym (mark_scanned minus (cs ++ []) (minus_begins (cs ++ []))) ∙ found in
     cc
 
 pub unsigned_leaf : (cs : List ℕ) → ∥ IsLiteralText cs ∥₁ → starts_with_minus cs ≡ false → IsLiteralLeaf cs
@@ -82,4 +83,4 @@ minus_mark = refl
 pub entered_parts : (cs number : List ℕ) (span : Span) → ∥ IsLiteralText cs ∥₁ → cs ≡ minus ∷ number → IsStream (literal_entered cs span)
 entered_parts cs number span t e =
     subst (λ ds. IsStream (literal_entered ds span)) (sym e)
-    (joined_stream (spanned (Sign minus Alone) span ∷ []) (spanned (Quoted number) span ∷ []) (sign_stream minus Alone span minus_mark) (quoted_stream number span (behind_leaf cs number t e)))
+    (joined_stream (spanned (Punct minus Alone) span ∷ []) (spanned (Literal number) span ∷ []) (sign_stream minus Alone span minus_mark) (quoted_stream number span (behind_leaf cs number t e)))

@@ -8,7 +8,7 @@ use Rattle.rust_leaf.specs.Mark.{is_mark}
 use Rattle.rust_lex.specs.Piece.{IsLiteral}
 use Rattle.rust_lex.specs.declared.piece.PieceKind.{PieceKind}
 use Rattle.rust_lex.specs.declared.piece.PieceKind.TheVariants as piece
-use Rattle.proc_macro2.specs.Token.{Delimiter, Opens, Closes, Word, Quoted, Sign, Spanned}
+use Rattle.proc_macro2.specs.Token.{Delimiter, Opens, Closes, Ident, Literal, Punct, Spanned}
 use Rattle.proc_macro2.specs.Flat.{spanned}
 use Rattle.proc_macro2.specs.Pieces.{delimiter_of, edged, all_at, span_at, head, spacing_of, is_block, IsClosedDoc, doc_marks, doc_group, doc_text}
 use Rattle.proc_macro2.specs.Forest.{Opening, closed}
@@ -86,6 +86,6 @@ IsPut piece.Comment ok old new s cs joint = (ok ≡ true) × IsAdded old new []
 IsPut (piece.Doc kind) ok old new s cs joint = (ok ≡ true) × IsAdded old new (all_at (stretch_span s) (doc_marks kind ++ doc_group (doc_text kind cs)))
 IsPut (piece.Open d) ok old new s cs joint = (ok ≡ true) × IsOpened old new (delimiter_of d) s.from
 IsPut (piece.Close d) ok old new s cs joint = IsClosing ok old new (delimiter_of d) s.whole s.to
-IsPut piece.Mark ok old new s cs joint = (ok ≡ true) × IsAdded old new (all_at (stretch_span s) (Sign (head cs) (spacing_of joint) ∷ []))
-IsPut piece.Ident ok old new s cs joint = (ok ≡ true) × IsAdded old new (all_at (stretch_span s) (Word cs ∷ []))
-IsPut (piece.Literal kind) ok old new s cs joint = (ok ≡ true) × IsAdded old new (all_at (stretch_span s) (Quoted cs ∷ []))
+IsPut piece.Mark ok old new s cs joint = (ok ≡ true) × IsAdded old new (all_at (stretch_span s) (Punct (head cs) (spacing_of joint) ∷ []))
+IsPut piece.Ident ok old new s cs joint = (ok ≡ true) × IsAdded old new (all_at (stretch_span s) (Ident cs ∷ []))
+IsPut (piece.Literal kind) ok old new s cs joint = (ok ≡ true) × IsAdded old new (all_at (stretch_span s) (Literal cs ∷ []))

@@ -4,7 +4,7 @@ use Rattle.std.specs.Prelude.{ℕ, if◌then◌else◌, List, [], ◌∷◌, dro
 use Rattle.rust_map.specs.declared.span.Span.{Span}
 use Rattle.rust_leaf.specs.Leaf.{literal_span, literal_text}
 use Rattle.rust_leaf.specs.Minus.{minus, starts_with_minus}
-use Rattle.proc_macro2.specs.Token.{Quoted, Sign, Alone, Spanned}
+use Rattle.proc_macro2.specs.Token.{Literal, Punct, Alone, Spanned}
 use Rattle.proc_macro2.specs.Flat.{spanned, tree_tokens}
 use Rattle.proc_macro2.specs.declared.tree.TokenTree.{TokenTree}
 use Rattle.proc_macro2.specs.declared.tree.TokenTree.TheVariants as tree
@@ -12,8 +12,8 @@ use Rattle.proc_macro2.specs.declared.tree.TokenTree.TheVariants as tree
 -- a literal, by its text
 abbrev pub literal_entered : List ℕ → Span → List Spanned
 literal_entered cs span = if starts_with_minus cs
-    then spanned (Sign minus Alone) span ∷ spanned (Quoted (drop 1 cs)) span ∷ []
-    else spanned (Quoted cs) span ∷ []
+    then spanned (Punct minus Alone) span ∷ spanned (Literal (drop 1 cs)) span ∷ []
+    else spanned (Literal cs) span ∷ []
 
 -- a tree
 abbrev pub entered : TokenTree → List Spanned

@@ -4,7 +4,7 @@ use Rattle.std.specs.Prelude.{List, [], ◌∷◌, ◌++◌}
 use Rattle.std.specs.List.{flat_map}
 use Rattle.rust_map.specs.declared.span.Span.{Span}
 use Rattle.rust_leaf.specs.Leaf.{ident_span, ident_text, literal_span, literal_text, punct_char, punct_spacing, punct_span}
-use Rattle.proc_macro2.specs.Token.{Token, Opens, Closes, Word, Quoted, Sign, Spanned}
+use Rattle.proc_macro2.specs.Token.{Token, Opens, Closes, Ident, Literal, Punct, Spanned}
 use Rattle.proc_macro2.specs.declared.tree.Group.{Group}
 use Rattle.proc_macro2.specs.declared.tree.TokenTree.{TokenTree}
 use Rattle.proc_macro2.specs.declared.tree.TokenTree.TheVariants as tree
@@ -20,9 +20,9 @@ group_tokens g = spanned (Opens g.delimiter) g.span ∷ g.stream ++ spanned (Clo
 -- a tree's: a group's, or one token
 abbrev pub tree_tokens : TokenTree → List Spanned
 tree_tokens (tree.Group g) = group_tokens g
-tree_tokens (tree.Ident i) = spanned (Word (ident_text i)) (ident_span i) ∷ []
-tree_tokens (tree.Punct p) = spanned (Sign (punct_char p) (punct_spacing p)) (punct_span p) ∷ []
-tree_tokens (tree.Literal l) = spanned (Quoted (literal_text l)) (literal_span l) ∷ []
+tree_tokens (tree.Ident i) = spanned (Ident (ident_text i)) (ident_span i) ∷ []
+tree_tokens (tree.Punct p) = spanned (Punct (punct_char p) (punct_spacing p)) (punct_span p) ∷ []
+tree_tokens (tree.Literal l) = spanned (Literal (literal_text l)) (literal_span l) ∷ []
 
 -- those of trees, in their order
 abbrev pub trees_tokens : List TokenTree → List Spanned

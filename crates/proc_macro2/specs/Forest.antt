@@ -10,7 +10,7 @@ use Rattle.rust_lex.specs.Piece.{Piece, closing}
 use Rattle.rust_lex.specs.declared.delimiter.Delimiter.{Delimiter as LexDelimiter}
 use Rattle.rust_lex.specs.declared.piece.PieceKind.{PieceKind}
 use Rattle.rust_lex.specs.declared.piece.PieceKind.TheVariants as piece
-use Rattle.proc_macro2.specs.Token.{Delimiter, Opens, Closes, Word, Quoted, Sign, Spanned}
+use Rattle.proc_macro2.specs.Token.{Delimiter, Opens, Closes, Ident, Literal, Punct, Spanned}
 use Rattle.proc_macro2.specs.Groups.{same_delimiter, IsMatched}
 use Rattle.proc_macro2.specs.Pieces.{delimiter_of, edged, tokens_of}
 use Rattle.rust_map.specs.declared.fault.LexError.{LexError}
@@ -24,9 +24,9 @@ ArePaired spans [] = spans ≡ []
 ArePaired spans (s ∷ ss) = elim s.token [
   | Opens d ↦ ArePaired (s.span ∷ spans) ss
   | Closes d ↦ elim spans [ [] ↦ ⊥ | x ∷ xs ↦ (x ≡ s.span) × ArePaired xs ss ]
-  | Word cs ↦ ArePaired spans ss
-  | Quoted cs ↦ ArePaired spans ss
-  | Sign c spacing ↦ ArePaired spans ss
+  | Ident cs ↦ ArePaired spans ss
+  | Literal cs ↦ ArePaired spans ss
+  | Punct c spacing ↦ ArePaired spans ss
 ]
 
 -- the stream of a text whose first character stands at the position base: its tokens are those of the

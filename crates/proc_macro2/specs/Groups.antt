@@ -1,7 +1,7 @@
 -- Groups: which of them are open after some tokens.
 use Rattle.std.specs.Prelude.{◌≡◌, Bool, true, false, cond, List, [], ◌∷◌, Option, Some, None, option_and_then}
 use Rattle.proc_macro2.specs.declared.delimiter.Delimiter.TheVariants as delimiter
-use Rattle.proc_macro2.specs.Token.{Delimiter, Token, Opens, Closes, Word, Quoted, Sign, Spanned}
+use Rattle.proc_macro2.specs.Token.{Delimiter, Token, Opens, Closes, Ident, Literal, Punct, Spanned}
 use Rattle.proc_macro2.specs.declared.tree.TokenTree.{TokenTree}
 use Rattle.proc_macro2.specs.declared.tree.TokenTree.TheVariants as tree
 
@@ -22,9 +22,9 @@ closed (e ∷ es) d = cond (same_delimiter e d) (Some es) None
 abbrev pub groups_behind : List Delimiter → Token → Option (List Delimiter)
 groups_behind ds (Opens d) = Some (d ∷ ds)
 groups_behind ds (Closes d) = closed ds d
-groups_behind ds (Word cs) = Some ds
-groups_behind ds (Quoted cs) = Some ds
-groups_behind ds (Sign c spacing) = Some ds
+groups_behind ds (Ident cs) = Some ds
+groups_behind ds (Literal cs) = Some ds
+groups_behind ds (Punct c spacing) = Some ds
 
 -- and behind all of some tokens
 abbrev pub groups_open : List Delimiter → List Spanned → Option (List Delimiter)

@@ -13,7 +13,7 @@ use Rattle.rust_lex.specs.declared.piece.DocKind.TheVariants as doc
 use Rattle.rust_lex.specs.declared.piece.PieceKind.{PieceKind}
 use Rattle.rust_lex.specs.declared.piece.PieceKind.TheVariants as piece
 use Rattle.proc_macro2.specs.declared.delimiter.Delimiter.TheVariants as delimiter
-use Rattle.proc_macro2.specs.Token.{Delimiter, Token, Opens, Closes, Word, Quoted, Sign, Spacing, Alone, Joint, Spanned}
+use Rattle.proc_macro2.specs.Token.{Delimiter, Token, Opens, Closes, Ident, Literal, Punct, Spacing, Alone, Joint, Spanned}
 use Rattle.proc_macro2.specs.Flat.{spanned}
 
 -- what a pair of marks encloses a group as
@@ -53,11 +53,11 @@ is_inner doc.InnerBlock = true
 
 -- # and for an inner doc !
 abbrev pub doc_marks : DocKind → List Token
-doc_marks kind = cond (is_inner kind) (Sign 35 Alone ∷ Sign 33 Alone ∷ []) (Sign 35 Alone ∷ [])
+doc_marks kind = cond (is_inner kind) (Punct 35 Alone ∷ Punct 33 Alone ∷ []) (Punct 35 Alone ∷ [])
 
 -- [doc = "text"]
 abbrev pub doc_group : List ℕ → List Token
-doc_group text = Opens delimiter.Bracket ∷ Word (codes "doc") ∷ Sign 61 Alone ∷ Quoted (string_text text) ∷ Closes delimiter.Bracket ∷ []
+doc_group text = Opens delimiter.Bracket ∷ Ident (codes "doc") ∷ Punct 61 Alone ∷ Literal (string_text text) ∷ Closes delimiter.Bracket ∷ []
 
 -- the tokens of a piece of a class, before what follows it. A gap and the front mark have none, a doc
 -- is the attribute that it stands for, and any other piece is one token
@@ -68,18 +68,18 @@ piece_tokens piece.Comment cs rest = []
 piece_tokens (piece.Doc kind) cs rest = doc_marks kind ++ doc_group (doc_text kind cs)
 piece_tokens (piece.Open d) cs rest = Opens (delimiter_of d) ∷ []
 piece_tokens (piece.Close d) cs rest = Closes (delimiter_of d) ∷ []
-piece_tokens piece.Mark cs rest = Sign (head cs) (spacing_of (is_joint (cs ++ rest))) ∷ []
-piece_tokens piece.Ident cs rest = Word cs ∷ []
-piece_tokens (piece.Literal kind) cs rest = Quoted cs ∷ []
+piece_tokens piece.Mark cs rest = Punct (head cs) (spacing_of (is_joint (cs ++ rest))) ∷ []
+piece_tokens piece.Ident cs rest = Ident cs ∷ []
+piece_tokens (piece.Literal kind) cs rest = Literal cs ∷ []
 
 -- where a token itself stands: in a stream each of a group's two tokens carries the group's whole span,
 -- of which the opening one is the first character and the closing one the last
 abbrev pub edge : Token → Span → Span
 edge (Opens d) span = first_of span
 edge (Closes d) span = last_of span
-edge (Word cs) span = span
-edge (Quoted cs) span = span
-edge (Sign c spacing) span = span
+edge (Ident cs) span = span
+edge (Literal cs) span = span
+edge (Punct c spacing) span = span
 
 abbrev pub edged : Spanned → Spanned
 edged s = spanned s.token (edge s.token s.span)

@@ -6,7 +6,7 @@
 -- outside they stand as any tree does. So an empty one between two trees leaves two spaces.
 use Rattle.std.specs.Prelude.{ℕ, Bool, true, false, ◌&&◌, ◌||◌, not, List, [], ◌∷◌, ◌++◌, encode_utf8_all}
 use Rattle.proc_macro2.specs.declared.delimiter.Delimiter.TheVariants as delimiter
-use Rattle.proc_macro2.specs.Token.{Delimiter, Token, Opens, Closes, Word, Quoted, Sign, Spanned, Joint, plain}
+use Rattle.proc_macro2.specs.Token.{Delimiter, Token, Opens, Closes, Ident, Literal, Punct, Spanned, Joint, plain}
 
 -- ( { [
 abbrev pub opening : Delimiter → List ℕ
@@ -26,15 +26,15 @@ closing delimiter.None = []
 abbrev pub shown : Token → List ℕ
 shown (Opens d) = opening d
 shown (Closes d) = closing d
-shown (Word cs) = cs
-shown (Quoted cs) = cs
-shown (Sign c spacing) = c ∷ []
+shown (Ident cs) = cs
+shown (Literal cs) = cs
+shown (Punct c spacing) = c ∷ []
 
 -- what follows stands close to it: any opening token but a brace, and a joint mark
 abbrev pub hugs : Token → Bool
 hugs (Opens delimiter.Brace) = false
 hugs (Opens d) = true
-hugs (Sign c Joint) = true
+hugs (Punct c Joint) = true
 hugs _ = false
 
 -- it stands close to what precedes it: any closing token but a brace

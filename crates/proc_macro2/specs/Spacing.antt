@@ -6,7 +6,7 @@
 use Rattle.std.specs.Prelude.{ℕ, Bool, true, false, ◌&&◌, ◌||◌, ◌==◌, not, List, [], ◌∷◌, IsTrue, codes, nat_eq, if◌then◌else◌}
 use Rattle.std.specs.List.{starts_with}
 use Rattle.proc_macro2.specs.declared.delimiter.Delimiter.TheVariants as delimiter
-use Rattle.proc_macro2.specs.Token.{Delimiter, Token, Opens, Closes, Word, Quoted, Sign, Alone, Joint}
+use Rattle.proc_macro2.specs.Token.{Delimiter, Token, Opens, Closes, Ident, Literal, Punct, Alone, Joint}
 
 -- '
 abbrev pub quote : ℕ
@@ -41,24 +41,24 @@ is_character (c ∷ cs) = c == quote
 
 -- the tokens begin with one before which a ' stands
 abbrev pub follows_quote : List Token → Bool
-follows_quote (Word cs ∷ ts) = true
-follows_quote (Quoted cs ∷ ts) = is_prefixed_string cs
+follows_quote (Ident cs ∷ ts) = true
+follows_quote (Literal cs ∷ ts) = is_prefixed_string cs
 follows_quote _ = false
 
 -- the tokens begin with one before which another joint mark stands
 abbrev pub follows_mark : ℕ → List Token → Bool
-follows_mark c (Sign d spacing ∷ ts) = not (begin_comment c d)
-follows_mark c (Quoted cs ∷ ts) = is_character cs
+follows_mark c (Punct d spacing ∷ ts) = not (begin_comment c d)
+follows_mark c (Literal cs ∷ ts) = is_character cs
 follows_mark c _ = false
 
 -- a token may stand before the tokens behind it
 abbrev pub may_stand : Token → List Token → Bool
 may_stand (Opens d) ts = is_visible d
 may_stand (Closes d) ts = is_visible d
-may_stand (Word cs) ts = true
-may_stand (Quoted cs) ts = true
-may_stand (Sign c Alone) ts = not (c == quote)
-may_stand (Sign c Joint) ts = if c == quote then follows_quote ts else follows_mark c ts
+may_stand (Ident cs) ts = true
+may_stand (Literal cs) ts = true
+may_stand (Punct c Alone) ts = not (c == quote)
+may_stand (Punct c Joint) ts = if c == quote then follows_quote ts else follows_mark c ts
 
 -- each token may stand before those behind it
 abbrev pub IsWellSpaced : List Token → Type 0

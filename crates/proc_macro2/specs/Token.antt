@@ -6,14 +6,14 @@ pub use Rattle.proc_macro2.specs.declared.delimiter.Delimiter.TheVariants.{Paren
 pub use Rattle.rust_leaf.specs.declared.punct.Spacing.{Spacing}
 pub use Rattle.rust_leaf.specs.declared.punct.Spacing.TheVariants.{Alone, Joint}
 
--- a word is an identifier or a keyword by its printed text, a quoted token a literal by its text,
--- and a sign a punctuation mark
+-- an identifier or a keyword is known by its printed text, a literal by its text, and a punctuation mark by its
+-- character and its spacing
 pub data Token : Type 0 where
   Opens : (delimiter : Delimiter) → Token
   Closes : (delimiter : Delimiter) → Token
-  Word : (chars : List ℕ) → Token
-  Quoted : (chars : List ℕ) → Token
-  Sign : (char : ℕ) (spacing : Spacing) → Token
+  Ident : (chars : List ℕ) → Token
+  Literal : (chars : List ℕ) → Token
+  Punct : (char : ℕ) (spacing : Spacing) → Token
 
 -- a token, and where it stands
 pub record Spanned : Type 0 where

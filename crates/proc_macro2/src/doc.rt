@@ -3,7 +3,8 @@
 ghost use Rattle.proc_macro2.specs.Built.{IsAdded};
 ghost use Rattle.proc_macro2.specs.Pieces as pieces;
 ghost use Rattle.proc_macro2.specs.Pieces.{IsClosedDoc, all_at};
-ghost use Rattle.proc_macro2.specs.Token.{Alone, Bracket, Quoted, Sign, Word};
+ghost use Rattle.proc_macro2.specs.Token.{Alone, Bracket};
+ghost use Rattle.proc_macro2.specs.Token as token;
 ghost use Rattle.rust_leaf.specs.Escaped.{string_text};
 ghost use Rattle.rust_leaf.specs.Leaf.{punct_char, punct_span, punct_spacing};
 ghost use Rattle.rust_leaf.specs.Mark.{is_mark};
@@ -36,7 +37,7 @@ fn alone(mark: char, span: Span) -> Punct
 // `doc = "text"`
 #[tactic(auto, using(crate::proofs::Docs::words), unfolding(rust_leaf::specs::Mark::is_mark))]
 fn inside(alloc: Global, text: &str, span: Span) -> Result<TokenStream, AllocError>
-    ensures { IfOk result (λ s. s ≡ all_at span (Word (codes "doc") ∷ Sign 61 Alone ∷ Quoted (string_text (chars text.now)) ∷ [])) }
+    ensures { IfOk result (λ s. s ≡ all_at span (token.Ident (codes "doc") ∷ token.Punct 61 Alone ∷ token.Literal (string_text (chars text.now)) ∷ [])) }
 {
     let ident = Ident::from_text(alloc, "doc", span)?;
     let mut literal = Literal::string(alloc, text)?;
@@ -52,7 +53,7 @@ fn inside(alloc: Global, text: &str, span: Span) -> Result<TokenStream, AllocErr
 fn group(alloc: Global, text: &str, span: Span) -> Result<Group, AllocError>
     ensures delimiter { IfOk result (λ g. g.delimiter ≡ Bracket) }
     ensures span { IfOk result (λ g. g.span ≡ span) }
-    ensures stream { IfOk result (λ g. g.stream ≡ all_at span (Word (codes "doc") ∷ Sign 61 Alone ∷ Quoted (string_text (chars text.now)) ∷ [])) }
+    ensures stream { IfOk result (λ g. g.stream ≡ all_at span (token.Ident (codes "doc") ∷ token.Punct 61 Alone ∷ token.Literal (string_text (chars text.now)) ∷ [])) }
 {
     let stream = inside(alloc, text, span)?;
     Ok(Group {

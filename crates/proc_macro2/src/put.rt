@@ -2,7 +2,7 @@
 
 ghost use Rattle.proc_macro2.specs.Built.{IsAdded, IsPut, IsReady, stretch_span};
 ghost use Rattle.proc_macro2.specs.Pieces.{all_at, delimiter_of, head, spacing_of};
-ghost use Rattle.proc_macro2.specs.Token.{Quoted, Sign, Word};
+ghost use Rattle.proc_macro2.specs.Token as token;
 ghost use Rattle.rust_leaf.specs.Identifier.{is_ident_text};
 ghost use Rattle.rust_leaf.specs.Mark.{is_mark};
 ghost use Rattle.rust_leaf.specs.Parse.{IsLiteralLeaf};
@@ -47,7 +47,7 @@ fn spacing_of(joint: bool) -> Spacing
 // Adds a mark, which is all of a text.
 fn put_mark(builder: &mut Builder, mark: &str, joint: bool, span: Span) -> Result<(), AllocError>
     requires { (c : ℕ) × (chars mark.now ≡ c ∷ []) × (is_mark c ≡ true) }
-    ensures { OnOk result (IsAdded builder.old builder.new (all_at span (Sign (head (chars mark.now)) (spacing_of joint) ∷ []))) }
+    ensures { OnOk result (IsAdded builder.old builder.new (all_at span (token.Punct (head (chars mark.now)) (spacing_of joint) ∷ []))) }
 {
     let (c, _) = char_at(mark, 0);
     let mut punct = Punct::new(c, spacing_of(joint));
@@ -57,7 +57,7 @@ fn put_mark(builder: &mut Builder, mark: &str, joint: bool, span: Span) -> Resul
 
 fn put_ident(builder: &mut Builder, alloc: Global, text: &str, span: Span) -> Result<(), AllocError>
     requires { is_ident_text (chars text.now) ≡ true }
-    ensures { OnOk result (IsAdded builder.old builder.new (all_at span (Word (chars text.now) ∷ []))) }
+    ensures { OnOk result (IsAdded builder.old builder.new (all_at span (token.Ident (chars text.now) ∷ []))) }
 {
     let ident = Ident::from_text(alloc, text, span)?;
     builder.put(TokenTree::Ident(ident))
@@ -70,7 +70,7 @@ fn put_literal(
     span: Span,
 ) -> Result<(), AllocError>
     requires { IsLiteralLeaf (chars text.now) }
-    ensures { OnOk result (IsAdded builder.old builder.new (all_at span (Quoted (chars text.now) ∷ []))) }
+    ensures { OnOk result (IsAdded builder.old builder.new (all_at span (token.Literal (chars text.now) ∷ []))) }
 {
     let literal = Literal::from_text(alloc, text, span)?;
     builder.put(TokenTree::Literal(literal))

@@ -5,7 +5,8 @@
 ghost use Rattle.proc_macro2.specs.Flat.{group_tokens, tree_tokens};
 ghost use Rattle.proc_macro2.specs.Spacing.{IsWellSpaced, begin_comment, follows_mark, follows_quote, is_character, is_prefixed_string, is_visible, may_stand};
 ghost use Rattle.proc_macro2.specs.Stands.{all_stand, tokens_behind};
-ghost use Rattle.proc_macro2.specs.Token.{Joint, Sign, plain};
+ghost use Rattle.proc_macro2.specs.Token.{Joint, plain};
+ghost use Rattle.proc_macro2.specs.Token as token;
 ghost use Rattle.rust_leaf.specs.Leaf.{punct_char, punct_spacing};
 ghost use Rattle.std.specs.List.{starts_with};
 ghost use Rattle.std.specs.Prelude.{[], ◌≡◌, ◌↔◌, IsTrue, nat_eq};
@@ -78,7 +79,7 @@ fn is_visible(delimiter: Delimiter) -> bool
 
 // Whether a mark may stand, the next tree behind it, or the end.
 fn mark_stands(punct: &Punct, next: Option<&TokenTree>) -> bool
-    ensures { result ≡ may_stand (Sign (punct_char punct.now) (punct_spacing punct.now)) (tokens_behind next.entry) }
+    ensures { result ≡ may_stand (token.Punct (punct_char punct.now) (punct_spacing punct.now)) (tokens_behind next.entry) }
 {
     match punct.spacing() {
         Spacing::Alone => punct.as_char() != '\'',
@@ -88,7 +89,7 @@ fn mark_stands(punct: &Punct, next: Option<&TokenTree>) -> bool
 
 // Whether a joint mark may stand, the next tree behind it, or the end.
 fn joint_mark_stands(mark: char, next: Option<&TokenTree>) -> bool
-    ensures { result ≡ may_stand (Sign mark Joint) (tokens_behind next.entry) }
+    ensures { result ≡ may_stand (token.Punct mark Joint) (tokens_behind next.entry) }
 {
     match next {
         Some(tree) if mark == '\'' => follows_quote(tree),

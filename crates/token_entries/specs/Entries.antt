@@ -3,7 +3,7 @@
 use Rattle.std.specs.Prelude.{List, map}
 use Rattle.rust_map.specs.declared.span.Span.{Span}
 use Rattle.rust_leaf.specs.Leaf.{ident_span, ident_text, literal_span, literal_text, punct_char, punct_spacing, punct_span}
-use Rattle.proc_macro2.specs.Token.{Token, Opens, Closes, Word, Quoted, Sign, Spanned}
+use Rattle.proc_macro2.specs.Token.{Token, Opens, Closes, Ident, Literal, Punct, Spanned}
 use Rattle.proc_macro2.specs.Flat.{spanned}
 use Rattle.token_entries.specs.declared.entry.Entry.{Entry}
 use Rattle.token_entries.specs.declared.entry.Entry.TheVariants as entry
@@ -11,9 +11,9 @@ use Rattle.token_entries.specs.declared.entry.Entry.TheVariants as entry
 abbrev pub entry_token : Entry → Token
 entry_token (entry.Open d span) = Opens d
 entry_token (entry.Close d span) = Closes d
-entry_token (entry.Ident i) = Word (ident_text i.now)
-entry_token (entry.Punct p) = Sign (punct_char p.now) (punct_spacing p.now)
-entry_token (entry.Literal l) = Quoted (literal_text l.now)
+entry_token (entry.Ident i) = Ident (ident_text i.now)
+entry_token (entry.Punct p) = Punct (punct_char p.now) (punct_spacing p.now)
+entry_token (entry.Literal l) = Literal (literal_text l.now)
 
 abbrev pub entry_span : Entry → Span
 entry_span (entry.Open d span) = span
