@@ -66,7 +66,7 @@ impl TokenStream {
     {
         let mut all = TokenStream::new(alloc);
         for stream in streams {
-            all.append(stream)?;
+            all.push_stream(stream)?;
         }
         Ok(all)
     }
@@ -78,7 +78,7 @@ impl TokenStream {
     {
         let alloc = *self.trees.allocator();
         let added = TokenStream::from_trees(alloc, trees)?;
-        self.append(added)?;
+        self.push_stream(added)?;
         Ok(())
     }
 
@@ -89,12 +89,22 @@ impl TokenStream {
     {
         let alloc = *self.trees.allocator();
         let added = TokenStream::from_streams(alloc, streams)?;
-        self.append(added)?;
+        self.push_stream(added)?;
         Ok(())
     }
 
-    // Moves the trees of the other stream to the end.
-    fn append(&mut self, other: TokenStream) -> Result<(), AllocError>
+    /// Adds the tree at the end. If memory is refused, the stream is as before.
+    pub fn push_tree(&mut self, tree: TokenTree) -> Result<(), AllocError>
+        ensures ok { OnOk result (self.new ≡ self.old ++ entered tree) }
+        ensures err { OnErr result (self.new ≡ self.old) }
+    {
+        let alloc = *self.trees.allocator();
+        enter(alloc, &mut self.trees, tree)?;
+        Ok(())
+    }
+
+    /// Adds the other stream at the end. If memory is refused, the stream is as before.
+    pub fn push_stream(&mut self, other: TokenStream) -> Result<(), AllocError>
         ensures ok { OnOk result (self.new ≡ self.old ++ other) }
         ensures err { OnErr result (self.new ≡ self.old) }
     {
@@ -104,10 +114,11 @@ impl TokenStream {
     }
 }
 
-// Adds a tree as it stands in a stream.
+// Adds a tree as it stands in a stream. If memory is refused, the trees are as before.
 fn enter(alloc: Global, trees: &mut Vec<TokenTree>, tree: TokenTree) -> Result<(), AllocError>
     ensures added { OnOk result (trees_tokens trees.new.items ≡ trees_tokens trees.old.items ++ entered tree) }
     ensures known { OnOk result (IsStream (entered tree)) }
+    ensures err { OnErr result (trees.new.items ≡ trees.old.items) }
 {
     match tree {
         TokenTree::Literal(literal) => enter_literal(alloc, trees, literal),
@@ -127,7 +138,7 @@ fn enter(alloc: Global, trees: &mut Vec<TokenTree>, tree: TokenTree) -> Result<(
     }
 }
 
-// Adds a literal as it stands in a stream.
+// Adds a literal as it stands in a stream. If memory is refused, the trees are as before.
 #[tactic(auto, unfolding(rust_leaf::specs::Mark::is_mark))]
 fn enter_literal(
     alloc: Global,
@@ -137,6 +148,7 @@ fn enter_literal(
     ensures added { OnOk result (trees_tokens trees.new.items
         ≡ trees_tokens trees.old.items ++ literal_entered (literal_text literal) (literal_span literal)) }
     ensures known { OnOk result (IsStream (literal_entered (literal_text literal) (literal_span literal))) }
+    ensures err { OnErr result (trees.new.items ≡ trees.old.items) }
 {
     let Some(digits) = behind_minus(literal.as_str()) else {
         trees.push(TokenTree::Literal(literal))?;
@@ -145,6 +157,7 @@ fn enter_literal(
     let mut minus = Punct::new('-', Spacing::Alone);
     minus.set_span(literal.span());
     let rest = Literal::from_text(alloc, digits, literal.span())?;
+    trees.reserve(2)?;
     trees.push(TokenTree::Punct(minus))?;
     trees.push(TokenTree::Literal(rest))?;
     Ok(())

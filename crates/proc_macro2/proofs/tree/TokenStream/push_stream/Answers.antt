@@ -3,7 +3,7 @@ use Rattle.std.proofs.lemmas.List.Concat.{flat_map-append}
 use Rattle.proc_macro2.specs.Flat.{tree_tokens, trees_tokens}
 use Rattle.proc_macro2.specs.Stream.{IsStream}
 use Rattle.proc_macro2.proofs.StreamLemmas.{joined_stream}
-use Rattle.proc_macro2.proofs.tree.TokenStream.append.Goals as goal
+use Rattle.proc_macro2.proofs.tree.TokenStream.push_stream.Goals as goal
 
 pub invariant_of-self-2 : goal.invariant_of-self-2
 invariant_of-self-2 c =
