@@ -1,0 +1,5 @@
+pub mod Front
+pub mod Tokens
+pub mod Notes
+pub mod Messages
+pub mod Faults
