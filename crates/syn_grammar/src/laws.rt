@@ -1,0 +1,26 @@
+//! Laws of the grammar: each is the contract of a function that does nothing.
+
+ghost use Rattle.proc_macro2.specs.Token.{Token};
+ghost use Rattle.std.specs.Prelude.{◌≡◌, ◌⊎◌, List, ◌++◌};
+ghost use Rattle.syn_grammar.specs.Derives.{Derives};
+ghost use Rattle.syn_grammar.specs.Gram.{Gram};
+ghost use Rattle.syn_grammar.specs.Kind.{Kind};
+ghost use Rattle.syn_grammar.specs.Read.{IsDerived, IsRead, NoneRead};
+ghost use Rattle.syn_grammar.specs.Run.{Got, kind, reads};
+ghost use Rattle.syn_grammar.specs.Tree.{Tree, flat};
+
+/// Tokens begin with at most one tree of an entry, and it leaves one rest.
+pub fn one_tree()
+    ensures { (g : Gram) (x y : Tree) (r s : List Token) → Derives x g r → Derives y g s → flat x ++ r ≡ flat y ++ s → (x ≡ y) × (r ≡ s) }
+{}
+
+/// Tokens begin with a tree of a kind, or with none.
+pub fn decided()
+    ensures { (k : Kind) (ts : List Token) → ((form : Tree) × (rest : List Token) × IsRead k ts form rest) ⊎ NoneRead k ts }
+{}
+
+/// The run finds trees of the grammar and no others, and each of them.
+pub fn reading()
+    ensures found { (k : Kind) (ts : List Token) (x : Tree) (rest : List Token) → reads (kind k) ts ≡ Got x rest → IsDerived k ts x rest }
+    ensures all { (k : Kind) (ts : List Token) (x : Tree) (rest : List Token) → IsDerived k ts x rest → reads (kind k) ts ≡ Got x rest }
+{}
