@@ -1,17 +1,18 @@
 -- What is read of a text, up to a place: one piece on, to its end, and to its fault.
-use Rattle.std.proofs.Common.{◌≡◌, ◌≢◌, ℕ, zero, suc, ◌+◌, ◌≤◌, ◌<◌, arith, List, [], ◌∷◌, ◌++◌, refl, sym, ap, ap₂, ◌∙◌, subst, length, drop, inl, inr, length-append, length-drop}
+use Rattle.std.proofs.Common.{◌≡◌, ◌≢◌, ℕ, zero, suc, ◌+◌, ◌≤◌, ◌<◌, arith, List, [], ◌∷◌, ◌++◌, refl, sym, ap, ap₂, ◌∙◌, subst, length, drop, inl, inr, length-append, length-drop, append-nil}
 use Rattle.std.specs.Prelude.{Some, encode_utf8_all}
 use Rattle.std.specs.List.{All}
 use Rattle.std.specs.Str.{chars, IsUtf8}
 use Rattle.std.proofs.lemmas.List.Elements.{All-nil, All-pop}
 use Rattle.std.proofs.lemmas.Str.{encodes-chars}
-use Rattle.rust_map.specs.Spans.{span_part}
+use Rattle.rust_map.specs.Spans.{span_from, span_part}
 use Rattle.rust_map.specs.declared.span.Span.{Span}
 use Rattle.rust_map.specs.Places.{place_of}
 use Rattle.rust_lex.specs.Piece.{Piece, FitsAt, closing}
 use Rattle.rust_lex.specs.Cover.{onto, Covers, NoPieceAt}
 use Rattle.rust_lex.specs.Places.{rest_at, between, IsPlace, IsBehind}
 use Rattle.rust_lex.specs.declared.piece.PieceKind.{PieceKind}
+use Rattle.rust_lex.specs.declared.piece.PieceKind.TheVariants.{White}
 use Rattle.rust_lex.proofs.Covering.{CoversTo, covers_none, covers_on}
 use Rattle.rust_lex.proofs.Pieces.{between_joined}
 use Rattle.rust_lex.proofs.PlacesLemmas.{rest_end}
@@ -20,10 +21,11 @@ use Rattle.proc_macro2.specs.Forest.{Opening, openings, open_behind, count, IsFo
 use Rattle.proc_macro2.specs.Built.{openings_of, opening_of, built}
 use Rattle.proc_macro2.specs.declared.builder.Frame.{Frame}
 use Rattle.proc_macro2.specs.declared.builder.Builder.{Builder}
+use Rattle.proc_macro2.specs.declared.builder.Stretch.{Stretch}
 use Rattle.rust_map.specs.declared.fault.LexFault.{LexFault}
 use Rattle.rust_map.specs.declared.fault.LexFault.TheVariants.{Lex}
 use Rattle.proc_macro2.proofs.Covering.{onto_rest, count_more, tokens_at, tokens_more, openings_more}
-use Rattle.proc_macro2.proofs.Building.{IsWhole, IsFrameIn, Grows, Refuses, no_tokens, fits_close, openings_push}
+use Rattle.proc_macro2.proofs.Building.{IsWhole, IsFrameIn, Grows, Refuses, no_tokens, grows_added, fits_close, openings_push}
 
 -- reading reaches the place, which n characters precede, and so far this was built
 pub record ReadTo (base : ℕ) (bytes : List ℕ) (at n : ℕ) (builder : Builder) : Type 0 where
@@ -78,6 +80,21 @@ read_on base bytes at end n k old new r f b g =
       frames = g.frames;
       whole = g.whole;
     }
+
+-- a white character alone
+white_one : (at : ℕ) (cs rest : List ℕ) → FitsAt at White cs rest → length cs ≡ 1
+white_one zero [] rest h = absurd h
+white_one (suc n) [] rest h = absurd h
+white_one at (c ∷ []) rest h = refl
+white_one zero (c ∷ d ∷ cs) rest h = absurd h
+white_one (suc n) (c ∷ d ∷ cs) rest h = absurd h
+
+pub read_white : (base : ℕ) (bytes : List ℕ) (at end n : ℕ) (builder : Builder) → ReadTo base bytes at n builder → FitsAt at White (between bytes at end) (rest_at bytes end) → IsBehind bytes at end → ReadTo base bytes end (n + 1) builder
+read_white base bytes at end n builder r f b =
+    let cs = between bytes at end in
+    let there : Stretch = record { whole = span_from base base; from = n; to = n + length cs } in
+    let grown = grows_added builder.frames.items builder.frames.items builder.stream builder.stream there White cs (rest_at bytes end) [] refl (sym (append-nil builder.stream)) refl refl no_tokens refl r.frames r.whole in
+    subst (λ m. ReadTo base bytes end (n + m) builder) (white_one at cs (rest_at bytes end) f) (read_on base bytes at end n White builder builder r f b grown)
 
 -- so many characters stand before a place, and the others behind it
 pub lengths : (base : ℕ) (bytes : List ℕ) (at n : ℕ) (builder : Builder) (r : ReadTo base bytes at n builder) → length (chars bytes) ≡ n + length (rest_at bytes at)

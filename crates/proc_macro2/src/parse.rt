@@ -8,7 +8,7 @@ ghost use Rattle.rust_lex.specs.declared.piece.PieceKind.TheVariants.{Mark};
 ghost use Rattle.rust_map.specs.Places.{place_of};
 ghost use Rattle.rust_map.specs.Sources.{next_position, next_span, next_spot, spot, with_text};
 ghost use Rattle.rust_map.specs.Spans.{span_part};
-ghost use Rattle.std.specs.Prelude.{◌≡◌, ◌≢◌, ◌+◌, ◌^◌, ◌<◌, ◌≤◌, ◌↔◌, Err, IfErr, IfOk, OnErr, OnOk, Some, length};
+ghost use Rattle.std.specs.Prelude.{◌≡◌, ◌≢◌, ◌+◌, ◌^◌, ◌<◌, ◌≤◌, ◌↔◌, Err, IfErr, IfOk, IfSome, None, OnErr, OnOk, Some, length};
 ghost use Rattle.std.specs.Str.{chars};
 
 use crate::builder::{Builder, Stretch};
@@ -16,17 +16,18 @@ use crate::place::place_behind;
 use crate::put::put;
 use crate::tree::TokenStream;
 use rust_lex::piece::PieceKind;
-use rust_lex::scan::{is_joint, next_piece};
+use rust_lex::scan::{is_joint, next_piece, white_end};
 use rust_map::characters;
 use rust_map::fault::{LexError, LexFault};
 use rust_map::source_map::SourceMap;
 use rust_map::span::Span;
 use std::alloc::Global;
 
-// The fault of a text behind so many of its characters. The span of the text is given.
+// The fault of a text behind so many of its characters. A span is given that begins where the text will, and
+// ends no earlier than it.
 fn fault_behind(text: &str, whole: Span, count: u32) -> LexFault
     requires there { count ≤ length (chars text.now) }
-    requires whole { whole.start + length (chars text.now) ≡ whole.end }
+    requires whole { whole.start + length (chars text.now) ≤ whole.end }
     ensures { result ≡ Lex (record { span = span_part whole count count; place = place_of (chars text.now) count }) }
 {
     LexFault::Lex(LexError::new(whole.part(count, count), place_behind(text, count)))
@@ -43,10 +44,9 @@ fn joint_at(text: &str, at: usize, kind: PieceKind) -> bool
     }
 }
 
-// The trees of a text, whose span is given.
+// The trees of a text. A span is given that begins where the text will, and ends no earlier than it.
 fn lex(alloc: Global, text: &str, whole: Span) -> Result<TokenStream, LexFault>
-    requires whole { whole.start + length (chars text.now) ≡ whole.end }
-    requires short { length (chars text.now) < 2 ^ 32 }
+    requires whole { whole.start + length (chars text.now) ≤ whole.end }
     ensures parsed { IfOk result (λ stream. IsForest whole.start (chars text.now) stream) }
     ensures fault { IfErr result (IsFault whole.start (chars text.now)) }
     ensures room { result ≢ Err MapFull }
@@ -55,6 +55,11 @@ fn lex(alloc: Global, text: &str, whole: Span) -> Result<TokenStream, LexFault>
     let mut at = 0usize;
     let mut count = 0u32;
     while at < text.len() {
+        if let Some(end) = white_end(text, at) {
+            at = end;
+            count += 1;
+            continue;
+        }
         let Some((kind, end)) = next_piece(text, at) else {
             return Err(fault_behind(text, whole, count));
         };
@@ -82,6 +87,19 @@ fn lex(alloc: Global, text: &str, whole: Span) -> Result<TokenStream, LexFault>
     }
 }
 
+// A span that begins where a text will, if it is the next that is put into a map, and ends no earlier than it.
+// None: the map has no positions left for it. The characters are counted only where the bytes are too many.
+fn span_ahead(map: &SourceMap, text: &str) -> Option<Span>
+    ensures full { (result ≡ None) ↔ (2 ^ 32 ≤ next_position map.now + length (chars text.now)) }
+    ensures start { IfSome result (λ whole. whole.start ≡ next_position map.now) }
+    ensures end { IfSome result (λ whole. whole.start + length (chars text.now) ≤ whole.end) }
+{
+    match map.span_ahead(text.len()) {
+        Ok(whole) => Some(whole),
+        Err(_) => map.span_ahead(characters(text)).ok(),
+    }
+}
+
 impl TokenStream {
     /// The tokens of a text as trees, and the text itself behind the others of the map.
     ///
@@ -101,7 +119,7 @@ impl TokenStream {
         ensures spot { OnOk result (spot map.new (next_span map.old (chars src.now)) ≡ Some (next_spot map.old (chars src.now))) }
         ensures map_err { OnErr result (map.new ≡ map.old) }
     {
-        let Ok(whole) = map.span_ahead(characters(src)) else {
+        let Some(whole) = span_ahead(map, src) else {
             return Err(LexFault::MapFull);
         };
         let stream = lex(alloc, src, whole)?;

@@ -1,12 +1,13 @@
 -- What a character that passes a test begins.
 use Rattle.std.proofs.Common.{◌≡◌, ℕ, zero, suc, ◌+◌, ◌≤◌, ◌<◌, arith, lit<, List, [], ◌∷◌, refl, sym, subst, ⊎_elim}
-use Rattle.std.specs.Prelude.{true, false, cond, ◌||◌, ◌==◌, if◌then◌else◌, nat_le}
+use Rattle.std.specs.Prelude.{true, false, cond, ◌||◌, ◌&&◌, ◌==◌, if◌then◌else◌, nat_le}
+use Rattle.std.proofs.lemmas.Bool.Decides.{nat_tests}
 use Rattle.std.proofs.lemmas.Bool.{or_cases, eqb-true, cond_both, or_right, eq-eqb, ne_eqb, cases_eq, false_from_ne_true, and_parts, leb-true, lt-leb, and_right}
 use Rattle.std.specs.Char.{is_ascii_alphanumeric, is_ascii_digit}
 use Rattle.unicode_ident.proofs.Computing.{unicode_ident}
 use Rattle.unicode_ident.specs.Ident.{is_xid_start, is_xid_continue}
 use Rattle.unicode_ident.proofs.IdentLemmas.{is_xid_continue-ascii, is_xid_start-is_xid_continue}
-use Rattle.rust_lex.specs.Chars.{is_among, whites, marks, is_white, is_first, is_next, is_digit, is_mark}
+use Rattle.rust_lex.specs.Chars.{is_among, whites, marks, is_white, is_narrow_white, is_first, is_next, is_digit, is_mark}
 use Rattle.rust_lex.specs.Piece.{Delimiter, Parenthesis, Bracket, Brace, opening, closing}
 use Rattle.rust_lex.specs.Scan.{Front, white, opens, closes, quote, tick, digit, first, mark, other, front_of}
 
@@ -279,3 +280,8 @@ r-first = refl
 pub byte_order-other : front_of 65279 ≡ other
 unfolding front_of is_white is_first is_mark is_digit unicode_ident
 byte_order-other = refl
+
+-- the white characters of ASCII are the space and those from the tab to the carriage return
+pub narrow_white : (c : ℕ) → (c == 32 || (nat_le 9 c && nat_le c 13)) ≡ is_narrow_white c
+unfolding is_white
+narrow_white c = grind (arith, nat_tests)

@@ -1,10 +1,12 @@
 -- The piece at a place, in the bytes of a text.
-use Rattle.std.proofs.Common.{◌≡◌, ℕ, ◌-◌, ◌+◌, ◌≤◌, arith, List, ◌++◌, sym, ap, ◌∙◌, subst, length, take, drop}
-use Rattle.std.specs.Prelude.{Option, Some, None}
+use Rattle.std.proofs.Common.{◌≡◌, ℕ, zero, suc, ◌-◌, ◌+◌, ◌≤◌, arith, List, [], ◌∷◌, ◌++◌, sym, ap, ◌∙◌, subst, length, take, drop}
+use Rattle.std.specs.Prelude.{true, Option, Some, None}
+use Rattle.std.proofs.lemmas.Bool.{and_parts}
 use Rattle.std.specs.Str.{chars, IsUtf8}
 use Rattle.std.proofs.lemmas.List.{append_cancel_right, take-append-drop, drop-drop, length-drop}
 use Rattle.std.proofs.lemmas.Str.{chars-append, IsUtf8-take, IsCharBoundary-from_drop}
-use Rattle.rust_lex.specs.Piece.{PieceKind, FitsAt}
+use Rattle.rust_lex.specs.Chars.{is_narrow_white}
+use Rattle.rust_lex.specs.Piece.{PieceKind, White, FitsAt}
 use Rattle.rust_lex.specs.Cover.{NoPieceAt}
 use Rattle.rust_lex.specs.Ended.{IsScanned}
 use Rattle.rust_lex.specs.Places.{rest_at, between, IsPlace, IsBehind, IsPieceAt}
@@ -37,3 +39,12 @@ some_piece bytes at end k p e b =
 pub piece_at : (bytes : List ℕ) (at : ℕ) (result : Option (PieceKind × ℕ)) → IsPlace bytes at → IsScanned bytes at result (scan_at at (rest_at bytes at)) → IsPieceAt bytes at result
 piece_at bytes at None p h = no_piece at (rest_at bytes at) h
 piece_at bytes at (Some q) p h = (some_piece bytes at q.1 q.0 p h.0 h.1, h.1)
+
+-- a white character of ASCII is a piece wherever it stands
+white_fits : (at c : ℕ) (rest : List ℕ) → is_narrow_white c ≡ true → FitsAt at White (c ∷ []) rest
+white_fits zero c rest h = (and_parts _ _ h).0
+white_fits (suc n) c rest h = (and_parts _ _ h).0
+
+pub white_piece : (bytes : List ℕ) (at end c : ℕ) → IsPlace bytes at → rest_at bytes at ≡ c ∷ rest_at bytes end → IsBehind bytes at end → is_narrow_white c ≡ true → FitsAt at White (between bytes at end) (rest_at bytes end)
+white_piece bytes at end c p e b h =
+    subst (λ x. FitsAt at White x (rest_at bytes end)) (chars_between bytes (c ∷ []) at end p b e) (white_fits at c (rest_at bytes end) h)

@@ -2,7 +2,7 @@
 use Rattle.std.proofs.Common.{◌≡◌, ℕ, zero, suc, ◌+◌, ◌-◌, ◌<◌, ◌≤◌, arith, add-one, sub-one, List, [], ◌∷◌, length, drop, drop-cons, get_or, refl}
 use Rattle.std.specs.Prelude.{Bool, true, false, ◌||◌, ◌&&◌, ◌==◌, not, nat_le, Option, Some, None}
 use Rattle.std.proofs.lemmas.List.{drop_all}
-use Rattle.std.proofs.lemmas.Bool.{eq-eqb, ne_eqb}
+use Rattle.std.proofs.lemmas.Bool.{eq-eqb, ne_eqb, or_parts, and_left, and_right}
 use Rattle.rust_escape.specs.declared.mode.Mode.{Mode}
 use Rattle.rust_escape.specs.declared.mode.Mode.TheVariants as modes
 use Rattle.rust_lex.specs.Chars.{is_next, begins, is_not_feed, is_quote_or_hash, past}
@@ -84,6 +84,17 @@ pub comment_step_last : (doc : Bool) (n c : ℕ) → past_comment doc n (c ∷ [
 unfolding past_comment
 comment_step_last doc n c = refl
 
+pub comment_step_quiet : (doc : Bool) (n c : ℕ) (cs : List ℕ) → (c == 42 || (c == 47 || c == 13)) ≡ false → past_comment doc n (c ∷ cs) ≡ past_comment doc n cs
+unfolding past_comment
+comment_step_quiet doc n c [] h = refl
+comment_step_quiet doc n c (d ∷ cs) h =
+    let others = or_parts (c == 42) (c == 47 || c == 13) h in
+    let ends = or_parts (c == 47) (c == 13) others.1 in
+    let closes = and_left (c == 42) (d == 47) others.0 in
+    let opens = and_left (c == 47) (d == 42) ends.0 in
+    let bare = and_right doc (c == 13 && not (d == 10)) (and_left (c == 13) (not (d == 10)) ends.1) in
+    rw (closes, opens, bare) refl
+
 pub comment_step_close : (doc : Bool) (n c d : ℕ) (cs : List ℕ) → n ≡ 0 → (c == 42 && d == 47) ≡ true → past_comment doc n (c ∷ d ∷ cs) ≡ Some cs
 unfolding past_comment
 comment_step_close doc n c d cs z h = rw (h, z) refl
@@ -105,7 +116,7 @@ pub comment_step_bare : (doc : Bool) (n c d : ℕ) (cs : List ℕ) → (c == 42 
 unfolding past_comment
 comment_step_bare doc n c d cs k h b = rw (k, h, b) refl
 
-pub ruleset comments = (rest_end, comment_step_end, comment_step_last, comment_step_close, comment_step_inner, comment_step_open, comment_step_plain, comment_step_bare)
+pub ruleset comments = (rest_end, comment_step_end, comment_step_last, comment_step_quiet, comment_step_close, comment_step_inner, comment_step_open, comment_step_plain, comment_step_bare)
 
 -- behind //
 pub line_end : line [] ≡ Ends Comment []

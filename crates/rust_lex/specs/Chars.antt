@@ -1,5 +1,5 @@
 -- Characters, as numbers, and texts as lists of them.
-use Rattle.std.specs.Prelude.{ℕ, Bool, true, false, ◌&&◌, ◌||◌, ◌==◌, not, List, [], ◌∷◌}
+use Rattle.std.specs.Prelude.{ℕ, Bool, true, false, ◌&&◌, ◌||◌, ◌==◌, not, nat_lt, List, [], ◌∷◌}
 use Rattle.std.specs.Char.{is_ascii_digit}
 use Rattle.unicode_ident.specs.Ident.{is_xid_start, is_xid_continue}
 pub use Rattle.rust_escape.specs.Chars.{is_among, begins, passes, past, is_line_feed, is_underscore}
@@ -10,6 +10,10 @@ whites = 9 ∷ 10 ∷ 11 ∷ 12 ∷ 13 ∷ 32 ∷ 133 ∷ 160 ∷ 5760 ∷ 8192 
 
 unfoldable pub is_white : ℕ → Bool
 is_white c = is_among whites c
+
+-- the white characters of ASCII
+abbrev pub is_narrow_white : ℕ → Bool
+is_narrow_white c = is_white c && nat_lt c 128
 
 -- an identifier begins with XID_Start or _
 unfoldable pub is_first : ℕ → Bool

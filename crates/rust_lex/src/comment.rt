@@ -20,6 +20,10 @@ fn comment_end(text: &str, start: usize, doc: bool) -> Option<usize>
     let mut depth = 0usize;
     while at < text.len() {
         let (c, next) = char_at(text, at);
+        if !((c == '*') | ((c == '/') | (c == '\r'))) {
+            at = next;
+            continue;
+        }
         if next >= text.len() {
             return None;
         }

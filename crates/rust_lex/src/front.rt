@@ -58,6 +58,15 @@ fn is_wide_white(c: char) -> bool
     WHITES.contains(&c)
 }
 
+// Whether a character is a white one of ASCII.
+#[tactic(auto, using(crate::proofs::Fronts::narrow_white))]
+#[inline(always)]
+pub(crate) fn is_narrow_white(c: char) -> bool
+    ensures { result ≡ chars.is_narrow_white c }
+{
+    (c == ' ') | (('\t' <= c) & (c <= '\r'))
+}
+
 #[tactic(auto, using(crate::proofs::Fronts::fronts))]
 #[inline(always)]
 pub(crate) fn front_of(c: char) -> Front

@@ -4,7 +4,7 @@ ghost use Rattle.rust_lex.specs.Chars as chars;
 ghost use Rattle.rust_lex.specs.Number as number;
 ghost use Rattle.rust_lex.specs.Piece as piece;
 ghost use Rattle.rust_lex.specs.Ended.{IsEnd, IsScanned};
-ghost use Rattle.rust_lex.specs.Places.{IsBehind, IsPieceAt, IsPlace, rest_at};
+ghost use Rattle.rust_lex.specs.Places.{IsBehind, IsPieceAt, IsPlace, IsWhiteAt, rest_at};
 ghost use Rattle.rust_lex.specs.Quoted as quoted;
 ghost use Rattle.rust_lex.specs.QuotedScan as tails;
 ghost use Rattle.rust_lex.specs.Scan as scan;
@@ -12,7 +12,7 @@ ghost use Rattle.std.specs.Prelude.{◌≡◌, ◌&&◌, ◌==◌, not, true};
 
 use crate::comment::slash;
 use crate::cooked::{char_end, string_end};
-use crate::front::{Front, front_of};
+use crate::front::{Front, front_of, is_narrow_white};
 use crate::number::number_end;
 use crate::piece::{LiteralKind, PieceKind};
 use crate::raw::hashes_end;
@@ -160,6 +160,21 @@ pub fn next_piece(text: &str, at: usize) -> Option<(PieceKind, usize)>
     ensures { IsPieceAt text.now at result }
 {
     scan_at(text, at)
+}
+
+/// The place behind a white character of ASCII that stands at a place of a text, both in bytes from 0:
+/// a short way to the commonest pieces. None: no such character stands there.
+#[tactic(auto, using(crate::proofs::PlacesLemmas::rest_end, crate::proofs::Pieces::white_piece))]
+#[inline(always)]
+pub fn white_end(text: &str, at: usize) -> Option<usize>
+    requires { IsPlace text.now at }
+    ensures { IsWhiteAt text.now at result }
+{
+    if at >= text.len() {
+        return None;
+    }
+    let (c, next) = char_at(text, at);
+    if is_narrow_white(c) { Some(next) } else { None }
 }
 
 // Whether a mark other than `'` begins with a character, before a place.

@@ -1,4 +1,5 @@
 pub mod CharSteps
 pub mod ByteLemmas
+pub mod ByteCounts
 pub mod LineLemmas
 pub mod SpotLemmas

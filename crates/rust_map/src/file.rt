@@ -9,7 +9,7 @@ ghost use Rattle.std.specs.String.{string_bytes};
 
 use crate::place::LineColumn;
 use crate::span::Span;
-use crate::tables::{STEP, byte_steps, characters, line_starts, lines_begun};
+use crate::tables::{Lines, STEP, byte_steps, count_lines, lines_begun};
 use crate::walk::byte_behind;
 use std::alloc::{AllocError, Global};
 
@@ -42,15 +42,14 @@ impl SourceFile {
         ensures base { IfOk result (λ file. file.base ≡ base) }
         ensures text { IfOk result (λ file. text_of file ≡ chars text.now) }
     {
-        let count = characters(text);
-        let line_starts = line_starts(alloc, text)?;
-        let byte_steps = byte_steps(alloc, text, count)?;
+        let Lines { characters, starts } = count_lines(alloc, text)?;
+        let byte_steps = byte_steps(alloc, text, characters as usize)?;
         let text = String::from_str(alloc, text)?;
         Ok(SourceFile {
             base,
             text,
-            characters: count as u32,
-            line_starts,
+            characters,
+            line_starts: starts,
             byte_steps,
         })
     }

@@ -1,5 +1,6 @@
 //! The tables of a text, made once.
 
+ghost use Rattle.rust_map.specs.Bytes.{begins_character};
 ghost use Rattle.rust_map.specs.Tables.{byte_steps_from, byte_steps_of, line_starts_of};
 ghost use Rattle.std.specs.List.Sorted.{IsNonDecreasing, IsPartitionPoint};
 ghost use Rattle.std.specs.Prelude.{◌∷◌, ◌≡◌, ◌<◌, ◌≤◌, ◌^◌, length, IfOk};
@@ -11,31 +12,49 @@ use std::alloc::{AllocError, Global};
 /// So many characters lie between two entries of the table of bytes.
 pub(crate) const STEP: usize = 128;
 
+/// The characters and the lines of a text.
+#[derive(Drop)]
+pub(crate) struct Lines {
+    /// How many characters the text has.
+    pub(crate) characters: u32,
+    /// Where its lines begin, in characters from 0.
+    pub(crate) starts: Vec<u32>,
+}
+
+/// Whether a byte of a text begins a character.
+#[inline(always)]
+fn begins_character(byte: u8) -> bool
+    ensures { result ≡ begins_character byte }
+{
+    (byte < 128) | (192 <= byte)
+}
+
 /// How many characters a text has, which is what `SourceMap::room` asks.
 pub fn characters(text: &str) -> usize
     ensures { result ≡ length (chars text.now) }
 {
-    text.chars().count()
+    let bytes = text.as_bytes();
+    bytes.iter().filter(|byte| begins_character(**byte)).count()
 }
 
-/// Where the lines of a text begin, in characters from 0.
-pub(crate) fn line_starts(alloc: Global, text: &str) -> Result<Vec<u32>, AllocError>
+/// How many characters a text has, and where its lines begin, by one walk over its bytes.
+pub(crate) fn count_lines(alloc: Global, text: &str) -> Result<Lines, AllocError>
     requires { length (chars text.now) < 2 ^ 32 }
-    ensures { IfOk result (λ starts. starts.items ≡ line_starts_of (chars text.now)) }
+    ensures count { IfOk result (λ lines. lines.characters ≡ length (chars text.now)) }
+    ensures starts { IfOk result (λ lines. lines.starts.items ≡ line_starts_of (chars text.now)) }
 {
     let mut starts = Vec::new(alloc);
     starts.push(0)?;
-    let mut at = 0;
-    let mut count = 0u32;
-    while at < text.len() {
-        let (c, next) = char_at(text, at);
-        at = next;
-        count += 1;
-        if c == '\n' {
-            starts.push(count)?;
+    let mut characters = 0u32;
+    for byte in text.as_bytes() {
+        if begins_character(*byte) {
+            characters += 1;
+        }
+        if *byte == b'\n' {
+            starts.push(characters)?;
         }
     }
-    Ok(starts)
+    Ok(Lines { characters, starts })
 }
 
 /// The table of bytes of a text that has so many characters: none is needed where it is ASCII.

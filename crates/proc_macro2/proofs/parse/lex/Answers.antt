@@ -6,7 +6,7 @@ use Rattle.std.proofs.lemmas.List.{append-nil, nil_from_length}
 use Rattle.rust_lex.specs.Piece.{FitsAt, is_joint}
 use Rattle.rust_lex.specs.Places.{rest_at, between, IsBehind}
 use Rattle.rust_lex.specs.declared.piece.PieceKind.{PieceKind}
-use Rattle.rust_lex.specs.declared.piece.PieceKind.TheVariants.{Mark}
+use Rattle.rust_lex.specs.declared.piece.PieceKind.TheVariants.{Mark, White}
 use Rattle.rust_lex.proofs.Pieces.{between_joined}
 use Rattle.proc_macro2.specs.Built.{IsPut, IsReady}
 use Rattle.proc_macro2.specs.Forest.{IsForest}
@@ -14,23 +14,35 @@ use Rattle.proc_macro2.specs.declared.builder.Builder.{Builder}
 use Rattle.proc_macro2.specs.declared.builder.Stretch.{Stretch}
 use Rattle.proc_macro2.proofs.Building.{put_grows, put_refuses}
 use Rattle.proc_macro2.proofs.Puts.{ready_at}
-use Rattle.proc_macro2.proofs.Reading.{ReadTo, read_none, read_on, read_all, lengths, lengths_on, stray_at, unmatched_at, unclosed_at, last_frame, told}
+use Rattle.proc_macro2.proofs.Reading.{ReadTo, read_none, read_white, read_on, read_all, lengths, lengths_on, stray_at, unmatched_at, unclosed_at, last_frame, told}
 use Rattle.proc_macro2.proofs.parse.lex.Goals as goal
 
 pub loop-at-init : goal.loop-at-init
 loop-at-init c = read_none _ _ _ c.utf8.text c.new-builder.ensures.frames c.new-builder.ensures.stream
 
+-- a white character that is passed lies within the text
+passed : (base : ℕ) (bytes : List ℕ) (at end n : ℕ) (builder : Builder) → ReadTo base bytes at n builder → FitsAt at White (between bytes at end) (rest_at bytes end) → IsBehind bytes at end → n + 1 ≤ length (chars bytes)
+passed base bytes at end n builder r f b = let l = lengths _ _ _ _ _ (read_white base bytes at end n builder r f b) in omega arith
+
+pub overflow_add-count : goal.overflow_add-count
+overflow_add-count c =
+    let w = passed _ _ _ _ _ _ c.loop-at.invariant c.in-Some.ensures.0 c.in-Some.ensures.1 in
+    omega arith
+
+pub loop-at-preserved-in-Some : goal.loop-at-preserved-in-Some
+loop-at-preserved-in-Some c = read_white _ _ _ _ _ _ c.loop-at.invariant c.in-Some.ensures.0 c.in-Some.ensures.1
+
 pub fault_behind-requires-clause-there : goal.fault_behind-requires-clause-there
 fault_behind-requires-clause-there c = let l = lengths _ _ _ _ _ c.loop-at.invariant in omega arith
 
-pub returns-in_default-clause-fault : goal.returns-in_default-clause-fault
-returns-in_default-clause-fault c = told c.args.text.now c.args.whole c.loop-at.count _ c.fault_behind.ensures (stray_at _ _ _ _ _ c.loop-at.invariant c.loop-at-test.true c.in_default.ensures)
+pub returns-in_default-next_piece-clause-fault : goal.returns-in_default-next_piece-clause-fault
+returns-in_default-next_piece-clause-fault c = told c.args.text.now c.args.whole c.loop-at.count _ c.fault_behind.ensures (stray_at _ _ _ _ _ c.loop-at.invariant c.loop-at-test.true c.in_default-next_piece.ensures)
 
 pub range-piece-requires-clause-start_boundary : goal.range-piece-requires-clause-start_boundary
 range-piece-requires-clause-start_boundary c = λ _. (let p = c.loop-at.invariant.covers.place in IsCharBoundary-from_drop _ _ p.within p.cut)
 
 pub range-piece-requires-clause-end_boundary : goal.range-piece-requires-clause-end_boundary
-range-piece-requires-clause-end_boundary c = (let p = c.in-Some.ensures.1.place in IsCharBoundary-from_drop _ _ p.within p.cut)
+range-piece-requires-clause-end_boundary c = (let p = c.in-Some-next_piece.ensures.1.place in IsCharBoundary-from_drop _ _ p.within p.cut)
 
 -- the characters of the piece
 piece_is : (bytes text piece : List ℕ) (at end : ℕ) → piece ≡ take (end - at) (drop at bytes) → chars piece ≡ between bytes at end
@@ -45,20 +57,20 @@ within base bytes piece at end n m builder r b e l =
 
 pub overflow_cast-there : goal.overflow_cast-there
 overflow_cast-there c =
-    let w = within _ _ _ _ _ _ _ _ c.loop-at.invariant c.in-Some.ensures.1 c.range-piece.ensures.value c.characters.ensures in
+    let w = within _ _ _ _ _ _ _ _ c.loop-at.invariant c.in-Some-next_piece.ensures.1 c.range-piece.ensures.value c.characters.ensures in
     omega arith
 
 pub overflow_add-there : goal.overflow_add-there
 overflow_add-there c =
-    let w = within _ _ _ _ _ _ _ _ c.loop-at.invariant c.in-Some.ensures.1 c.range-piece.ensures.value c.characters.ensures in
+    let w = within _ _ _ _ _ _ _ _ c.loop-at.invariant c.in-Some-next_piece.ensures.1 c.range-piece.ensures.value c.characters.ensures in
     omega arith
 
 pub put-requires-clause-ready : goal.put-requires-clause-ready
-put-requires-clause-ready c = subst (IsReady c.in-Some.kind) (sym (ap chars c.range-piece.ensures.value)) (ready_at _ _ _ _ c.in-Some.ensures.0)
+put-requires-clause-ready c = subst (IsReady c.in-Some-next_piece.kind) (sym (ap chars c.range-piece.ensures.value)) (ready_at _ _ _ _ c.in-Some-next_piece.ensures.0)
 
 pub put-requires-clause-within : goal.put-requires-clause-within
 put-requires-clause-within c =
-    let w = within _ _ _ _ _ _ _ _ c.loop-at.invariant c.in-Some.ensures.1 c.range-piece.ensures.value c.characters.ensures in
+    let w = within _ _ _ _ _ _ _ _ c.loop-at.invariant c.in-Some-next_piece.ensures.1 c.range-piece.ensures.value c.characters.ensures in
     omega arith
 
 pub fault_behind-requires-then-not-branch-clause-there : goal.fault_behind-requires-then-not-branch-clause-there
@@ -70,8 +82,8 @@ refused k ok old new s cs joint e p = subst (λ b. IsPut k b old new s cs joint)
 pub returns-then-not-branch-clause-fault : goal.returns-then-not-branch-clause-fault
 returns-then-not-branch-clause-fault c =
     told c.args.text.now c.args.whole c.loop-at.count _ c.fault_behind-then-not-branch.ensures
-    (unmatched_at _ _ _ _ _ _ _ c.loop-at.invariant c.in-Some.ensures.0 c.in-Some.ensures.1
-    (put_refuses c.in-Some.kind c.loop-at.builder c.put.new.builder _ _ _ (refused c.in-Some.kind _ c.loop-at.builder c.put.new.builder _ _ _ c.if-not-branch.true c.in_ok-put.ensures)))
+    (unmatched_at _ _ _ _ _ _ _ c.loop-at.invariant c.in-Some-next_piece.ensures.0 c.in-Some-next_piece.ensures.1
+    (put_refuses c.in-Some-next_piece.kind c.loop-at.builder c.put.new.builder _ _ _ (refused c.in-Some-next_piece.kind _ c.loop-at.builder c.put.new.builder _ _ _ c.if-not-branch.true c.in_ok-put.ensures)))
 
 -- the piece read
 on : (bytes piece : List ℕ) (at end n m : ℕ) (k : PieceKind) (ok joint : Bool) (old new : Builder) (s : Stretch) → ReadTo s.whole.start bytes at s.from old → FitsAt at k (between bytes at end) (rest_at bytes end) → IsBehind bytes at end →
@@ -86,8 +98,8 @@ on bytes piece at end n m k ok joint old new s r f b e t l o j p =
 pub loop-at-preserved : goal.loop-at-preserved
 loop-at-preserved c =
     let there : Stretch = record { whole = c.args.whole; from = c.loop-at.count; to = c.loop-at.count + c.characters.result } in
-    on c.args.text.now c.range-piece.result.now c.loop-at.at c.in-Some.end c.loop-at.count c.characters.result c.in-Some.kind _ c.joint_at-joint.result c.loop-at.builder c.put.new.builder there c.loop-at.invariant
-    c.in-Some.ensures.0 c.in-Some.ensures.1 c.range-piece.ensures.value refl c.characters.ensures c.if-not-branch.false c.joint_at-joint.ensures c.in_ok-put.ensures
+    on c.args.text.now c.range-piece.result.now c.loop-at.at c.in-Some-next_piece.end c.loop-at.count c.characters.result c.in-Some-next_piece.kind _ c.joint_at-joint.result c.loop-at.builder c.put.new.builder there c.loop-at.invariant
+    c.in-Some-next_piece.ensures.0 c.in-Some-next_piece.ensures.1 c.range-piece.ensures.value refl c.characters.ensures c.if-not-branch.false c.joint_at-joint.ensures c.in_ok-put.ensures
 
 pub returns-in-None-clause-parsed : goal.returns-in-None-clause-parsed
 returns-in-None-clause-parsed c =
