@@ -1,0 +1,6 @@
+pub mod Seen
+pub mod Entries
+pub mod Position
+pub mod Groups
+pub mod Puts
+pub mod Heads

@@ -1,0 +1,44 @@
+-- Places in a list of tokens: the list that is being read, by what is left of it.
+use Rattle.std.specs.Prelude.{◌≡◌, ◌≤◌, ℕ, ◌-◌, List, ◌∷◌, length}
+use Rattle.rust_map.specs.declared.span.Span.{Span}
+use Rattle.proc_macro2.specs.declared.delimiter.Delimiter.{Delimiter}
+use Rattle.proc_macro2.specs.Token.{Token, Spanned, plain}
+use Rattle.syn_parse.specs.Seen.{seen}
+use Rattle.syn_parse.specs.Entries.{spanned_entries}
+use Rattle.syn_parse.specs.declared.position.Cursor.{Cursor}
+
+-- the tokens that are left in the list, with where they stand
+abbrev pub rest : Cursor → List Spanned
+rest c = seen (spanned_entries c.entries.now)
+
+-- the tokens alone
+abbrev pub left : Cursor → List Token
+left c = plain (rest c)
+
+-- which list is read: of the buffer with that number, the one that ends at that index, where a group with
+-- that delimiter closes there
+pub record Scope : Type 0 where
+  pub number : ℕ
+  pub end : ℕ
+  pub closing : Span
+  pub closer : Delimiter
+
+abbrev pub scope : Cursor → Scope
+scope c = record { number = c.number; end = c.end; closing = c.closing; closer = c.closer }
+
+-- how far a place is from the end of its list, and its index in its buffer
+abbrev pub ahead : Cursor → ℕ
+ahead c = length c.entries.now
+
+abbrev pub index : Cursor → ℕ
+index c = c.end - ahead c
+
+-- a place of the same list, at the first one or past it
+pub record IsPast (before after : Cursor) : Type 0 where
+  pub same_list : scope after ≡ scope before
+  pub further : ahead after ≤ ahead before
+
+-- the token stands at the one place, and the other is behind it
+pub record Takes (before : Cursor) (token : Spanned) (after : Cursor) : Type 0 where
+  pub reads : rest before ≡ token ∷ rest after
+  pub past : IsPast before after
