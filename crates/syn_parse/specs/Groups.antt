@@ -2,11 +2,11 @@
 use Rattle.std.specs.Prelude.{◌≡◌, ℕ, List, [], ◌∷◌, ◌++◌}
 use Rattle.rust_map.specs.Spans.{last_of}
 use Rattle.rust_map.specs.declared.span.Span.{Span}
-use Rattle.rust_leaf.specs.Leaf.{ident_span, ident_text, literal_span, literal_text, punct_char, punct_spacing, punct_span}
 use Rattle.proc_macro2.specs.declared.delimiter.Delimiter.{Delimiter}
 use Rattle.proc_macro2.specs.Groups.{IsMatched}
-use Rattle.proc_macro2.specs.Token.{Opens, Closes, Ident, Literal, Punct, Spanned}
+use Rattle.proc_macro2.specs.Token.{Opens, Closes, Spanned}
 use Rattle.proc_macro2.specs.Flat.{spanned}
+use Rattle.syn_parse.specs.Leaves.{ident_token, literal_token, punct_token}
 use Rattle.syn_parse.specs.Position.{rest, IsPast, Takes}
 use Rattle.syn_parse.specs.declared.position.Cursor.{Cursor}
 use Rattle.syn_parse.specs.declared.next.Next.{Next}
@@ -30,7 +30,7 @@ pub record Enters (before : Cursor) (d : Delimiter) (span : Span) (inside after 
 -- behind it
 abbrev pub IsNext : Cursor → Next → Type 0
 IsNext c next.End = rest c ≡ []
-IsNext c (next.Ident i d) = Takes c (spanned (Ident (ident_text i.now)) (ident_span i.now)) d
-IsNext c (next.Punct p d) = Takes c (spanned (Punct (punct_char p.now) (punct_spacing p.now)) (punct_span p.now)) d
-IsNext c (next.Literal l d) = Takes c (spanned (Literal (literal_text l.now)) (literal_span l.now)) d
+IsNext c (next.Ident i d) = Takes c (ident_token i.now) d
+IsNext c (next.Punct p d) = Takes c (punct_token p.now) d
+IsNext c (next.Literal l d) = Takes c (literal_token l.now) d
 IsNext c (next.Group d span inside after) = Enters c d span inside after

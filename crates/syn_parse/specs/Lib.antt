@@ -4,3 +4,5 @@ pub mod Position
 pub mod Groups
 pub mod Puts
 pub mod Heads
+pub mod Stands
+pub mod Leaves

@@ -1,5 +1,5 @@
 -- Places in a list of tokens: the list that is being read, by what is left of it.
-use Rattle.std.specs.Prelude.{◌≡◌, ◌≤◌, ℕ, ◌-◌, List, ◌∷◌, length}
+use Rattle.std.specs.Prelude.{◌≡◌, ◌≤◌, ℕ, ◌-◌, List, [], ◌∷◌, length}
 use Rattle.rust_map.specs.declared.span.Span.{Span}
 use Rattle.proc_macro2.specs.declared.delimiter.Delimiter.{Delimiter}
 use Rattle.proc_macro2.specs.Token.{Token, Spanned, plain}
@@ -42,3 +42,8 @@ pub record IsPast (before after : Cursor) : Type 0 where
 pub record Takes (before : Cursor) (token : Spanned) (after : Cursor) : Type 0 where
   pub reads : rest before ≡ token ∷ rest after
   pub past : IsPast before after
+
+-- where the next token stands, a group with all of it, or where the list closes
+abbrev pub next_span : Span → List Spanned → Span
+next_span closing [] = closing
+next_span closing (t ∷ ts) = t.span

@@ -1,12 +1,15 @@
 //! Looking at places, and moving on.
 
+ghost use Rattle.proc_macro2.specs.Trees.{delim_span_of};
 ghost use Rattle.rust_map.specs.Spans.{call_site, last_of};
-ghost use Rattle.std.specs.Prelude.{[], ◌∷◌, ◌≡◌, ◌<◌, ◌≤◌, IsTrue, length, true};
+ghost use Rattle.std.specs.Prelude.{[], ◌∷◌, ◌≡◌, ◌<◌, ◌≤◌, IfNone, IfSome, IsTrue, false, length, true};
 ghost use Rattle.syn_parse.specs.Entries.{is_laid, spanned_entries};
-ghost use Rattle.syn_parse.specs.Groups.{IsNext};
+ghost use Rattle.syn_parse.specs.Groups.{Enters, IsNext};
 ghost use Rattle.syn_parse.specs.Heads.{SeenFirst};
-ghost use Rattle.syn_parse.specs.Position.{IsPast, ahead, rest, scope};
+ghost use Rattle.syn_parse.specs.Position.{Takes, ahead, left, next_span, rest, scope};
+ghost use Rattle.syn_parse.specs.Leaves.{ident_token, literal_token, punct_token};
 ghost use Rattle.syn_parse.specs.Seen.{is_visible, seen};
+ghost use Rattle.syn_parse.specs.Stands.{any_group_stands, any_ident_stands, end_stands, group_stands, literal_stands, mark_stands};
 ghost use Rattle.syn_parse.specs.declared.entry.Entry.TheVariants as marks;
 
 use crate::buffer::TokenBuffer;
@@ -14,6 +17,10 @@ use crate::entry::Entry;
 use crate::next::Next;
 use crate::position::Cursor;
 use proc_macro2::delimiter::Delimiter;
+use proc_macro2::group::DelimSpan;
+use rust_leaf::ident::Ident;
+use rust_leaf::literal::Literal;
+use rust_leaf::punct::Punct;
 use rust_map::span::Span;
 
 // Past the marks of invisible groups.
@@ -143,5 +150,120 @@ impl<'a> Cursor<'a> {
             Entry::Literal(literal) => Next::Literal(literal, self.past(behind, literal.span())),
             Entry::Close(_, _) => Next::End,
         }
+    }
+
+    /// Whether nothing is left of the list.
+    pub fn eof(self) -> bool
+        ensures { result ≡ end_stands (left self.entry) }
+    {
+        match self.next() {
+            Next::End => true,
+            Next::Ident(..) => false,
+            Next::Punct(..) => false,
+            Next::Literal(..) => false,
+            Next::Group(..) => false,
+        }
+    }
+
+    /// The identifier or keyword that stands there, and the place behind it.
+    pub fn ident(self) -> Option<(&'a Ident, Cursor<'a>)>
+        ensures some { IfSome result (λ r. Takes self.entry (ident_token r.0.now) r.1) }
+        ensures none { IfNone result (any_ident_stands (left self.entry) ≡ false) }
+    {
+        match self.next() {
+            Next::Ident(ident, behind) => Some((ident, behind)),
+            Next::End => None,
+            Next::Punct(..) => None,
+            Next::Literal(..) => None,
+            Next::Group(..) => None,
+        }
+    }
+
+    /// The punctuation mark that stands there, and the place behind it.
+    pub fn punct(self) -> Option<(Punct, Cursor<'a>)>
+        ensures some { IfSome result (λ r. Takes self.entry (punct_token r.0) r.1) }
+        ensures none { IfNone result (mark_stands (left self.entry) ≡ false) }
+    {
+        match self.next() {
+            Next::Punct(punct, behind) => Some((*punct, behind)),
+            Next::End => None,
+            Next::Ident(..) => None,
+            Next::Literal(..) => None,
+            Next::Group(..) => None,
+        }
+    }
+
+    /// The literal that stands there, and the place behind it.
+    pub fn literal(self) -> Option<(&'a Literal, Cursor<'a>)>
+        ensures some { IfSome result (λ r. Takes self.entry (literal_token r.0.now) r.1) }
+        ensures none { IfNone result (literal_stands (left self.entry) ≡ false) }
+    {
+        match self.next() {
+            Next::Literal(literal, behind) => Some((literal, behind)),
+            Next::End => None,
+            Next::Ident(..) => None,
+            Next::Punct(..) => None,
+            Next::Group(..) => None,
+        }
+    }
+
+    /// The visible group with that delimiter that stands there: the place where its inside begins, its
+    /// spans, and the place behind it. Of an invisible delimiter there is none, since invisible groups are
+    /// passed through.
+    pub fn group(self, delimiter: Delimiter) -> Option<(Cursor<'a>, DelimSpan, Cursor<'a>)>
+        ensures some { IfSome result (λ r. Enters self.entry delimiter r.1.join r.0 r.2) }
+        ensures spans { IfSome result (λ r. r.1 ≡ delim_span_of r.1.join) }
+        ensures none { IfNone result (group_stands delimiter (left self.entry) ≡ false) }
+    {
+        match self.next() {
+            Next::Group(opened, span, inside, behind) if opened == delimiter => {
+                Some((inside, DelimSpan::of(span), behind))
+            }
+            Next::Group(..) => None,
+            Next::End => None,
+            Next::Ident(..) => None,
+            Next::Punct(..) => None,
+            Next::Literal(..) => None,
+        }
+    }
+
+    /// The visible group that stands there: the place where its inside begins, its delimiter, its spans, and
+    /// the place behind it.
+    pub fn any_group(self) -> Option<(Cursor<'a>, Delimiter, DelimSpan, Cursor<'a>)>
+        ensures some { IfSome result (λ r. Enters self.entry r.1 r.2.join r.0 r.3) }
+        ensures spans { IfSome result (λ r. r.2 ≡ delim_span_of r.2.join) }
+        ensures none { IfNone result (any_group_stands (left self.entry) ≡ false) }
+    {
+        match self.next() {
+            Next::Group(delimiter, span, inside, behind) => {
+                Some((inside, delimiter, DelimSpan::of(span), behind))
+            }
+            Next::End => None,
+            Next::Ident(..) => None,
+            Next::Punct(..) => None,
+            Next::Literal(..) => None,
+        }
+    }
+
+    /// Where the next token stands, of a group all of it. At the end of a group's inside it is the group's
+    /// closing mark, and at the end of the whole the call site.
+    pub fn span(self) -> Span
+        ensures { result ≡ next_span self.entry.closing (rest self.entry) }
+    {
+        match self.next() {
+            Next::End => self.closing,
+            Next::Ident(ident, _) => ident.span(),
+            Next::Punct(punct, _) => punct.span(),
+            Next::Literal(literal, _) => literal.span(),
+            Next::Group(_, span, _, _) => span,
+        }
+    }
+
+    /// Where the token before the place stands: the one that was taken last, a group's closing mark, or the
+    /// opening mark of the group that has been entered. Before the first it is the call site.
+    pub fn prev_span(self) -> Span
+        ensures { result ≡ self.entry.before }
+    {
+        self.before
     }
 }
