@@ -1,7 +1,7 @@
 -- Entries that lie as those of a list do.
-use Rattle.std.proofs.Common.{◌≡◌, ℕ, zero, suc, ◌+◌, ◌-◌, ◌<◌, ◌≤◌, add-one, get_or, List, [], ◌∷◌, ◌++◌, length, map, take, drop, refl, sym, ap, ◌∙◌, subst, arith, append_assoc, length-drop, length-take, length-append, drop-cons}
-use Rattle.std.specs.Prelude.{Bool, true, false, ◌&&◌, ◌==◌, not, cond, Option, Some, None, option_and_then, filter, IsTrue}
-use Rattle.std.proofs.lemmas.List.{map-append, append-nil, take_all, take-append-drop, take-append-le, drop-append-le}
+use Rattle.std.proofs.Common.{◌≡◌, ℕ, zero, suc, ◌+◌, ◌-◌, ◌<◌, ◌≤◌, add-one, get_or, List, [], ◌∷◌, ◌++◌, length, take, drop, refl, sym, ap, ◌∙◌, arith, length-drop, length-take, length-append, drop-cons}
+use Rattle.std.specs.Prelude.{Bool, true, false, ◌&&◌, ◌==◌, not, cond, Some, None, option_and_then, filter, IsTrue}
+use Rattle.std.proofs.lemmas.List.{map-append, take_all, take-append-drop, take-append-le, drop-append-le}
 use Rattle.std.proofs.lemmas.List.Elements.{filter-append}
 use Rattle.std.proofs.lemmas.Bool.{eqb-true, eq-eqb}
 use Rattle.std.proofs.Math.Seq.{drop-append_seam, take-append_seam}
@@ -10,7 +10,7 @@ use Rattle.rust_map.specs.Spans.{span_from}
 use Rattle.proc_macro2.specs.declared.delimiter.Delimiter.{Delimiter}
 use Rattle.proc_macro2.specs.declared.delimiter.Delimiter.TheVariants as delimiter
 use Rattle.proc_macro2.specs.Groups.{same_delimiter, groups_open, IsMatched}
-use Rattle.proc_macro2.specs.Token.{Token, Opens, Closes, Ident, Literal, Punct, Spanned}
+use Rattle.proc_macro2.specs.Token.{Token, Opens, Closes, Spanned}
 use Rattle.proc_macro2.specs.Flat.{spanned}
 use Rattle.proc_macro2.proofs.GroupLemmas.{open_append}
 use Rattle.syn_parse.specs.Seen.{is_visible, is_seen, seen}

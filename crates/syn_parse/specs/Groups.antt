@@ -1,5 +1,5 @@
 -- Groups at a place.
-use Rattle.std.specs.Prelude.{◌≡◌, ℕ, List, [], ◌∷◌, ◌++◌}
+use Rattle.std.specs.Prelude.{◌≡◌, List, [], ◌∷◌, ◌++◌}
 use Rattle.rust_map.specs.Spans.{last_of}
 use Rattle.rust_map.specs.declared.span.Span.{Span}
 use Rattle.proc_macro2.specs.declared.delimiter.Delimiter.{Delimiter}

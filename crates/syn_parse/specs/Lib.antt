@@ -6,3 +6,7 @@ pub mod Puts
 pub mod Heads
 pub mod Stands
 pub mod Leaves
+pub mod Input
+pub mod Trees
+pub mod Words
+pub mod Reads

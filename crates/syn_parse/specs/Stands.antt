@@ -2,7 +2,7 @@
 use Rattle.std.specs.Prelude.{Bool, true, false, List, [], ◌∷◌}
 use Rattle.proc_macro2.specs.declared.delimiter.Delimiter.{Delimiter}
 use Rattle.proc_macro2.specs.Groups.{same_delimiter}
-use Rattle.proc_macro2.specs.Token.{Token, Opens, Closes, Ident, Literal, Punct}
+use Rattle.proc_macro2.specs.Token.{Token, Opens, Ident, Literal, Punct}
 
 -- an identifier or a keyword
 abbrev pub any_ident_stands : List Token → Bool

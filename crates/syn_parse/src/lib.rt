@@ -5,14 +5,29 @@
 //! - `position`: places in such a list.
 //! - `next`: what stands at a place.
 //! - `cursor`: looking at places, and moving on.
+//! - `token`: kinds of tokens that can be looked for.
+//! - `input`: streams that are read.
+//! - `fault`: what is said of tokens that can't be read.
+//! - `group`: groups in a stream.
+//! - `parse`: what can be read.
+//! - `parse_trees`: reading what holds other syntax, and leaves.
 #![tactic(auto)]
 
 pub mod buffer;
 pub mod cursor;
 pub mod entry;
+pub mod fault;
+pub mod group;
+pub mod input;
 pub mod next;
+pub mod parse;
+pub mod parse_trees;
 pub mod position;
+pub mod token;
 
 pub use buffer::TokenBuffer;
+pub use input::ParseBuffer;
 pub use next::Next;
+pub use parse::Parse;
 pub use position::Cursor;
+pub use token::{Peek, Token};

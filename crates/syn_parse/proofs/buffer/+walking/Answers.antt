@@ -1,4 +1,4 @@
-use Rattle.std.proofs.Common.{◌≡◌, ◌∙◌, ap, sym, subst, arith, List, [], ◌∷◌, ◌++◌, length, length-append}
+use Rattle.std.proofs.Common.{◌≡◌, ◌∙◌, ap, subst, arith, List, [], ◌∷◌, ◌++◌, length, length-append}
 use Rattle.proc_macro2.specs.Flat.{spanned, tree_tokens, trees_tokens}
 use Rattle.proc_macro2.specs.Token.{Closes, Spanned}
 use Rattle.proc_macro2.specs.declared.tree.TokenTree.{TokenTree}

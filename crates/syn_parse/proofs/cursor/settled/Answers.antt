@@ -1,4 +1,4 @@
-use Rattle.std.proofs.Common.{◌≡◌, ap, sym, ◌∙◌, subst, Bool, true, false, List, drop, length, arith, IsTrue}
+use Rattle.std.proofs.Common.{ap, sym, ◌∙◌, subst, Bool, List, drop, arith, IsTrue}
 use Rattle.syn_parse.specs.Entries.{entry_token, is_laid, spanned_entries}
 use Rattle.syn_parse.specs.Heads.{SeenFirst}
 use Rattle.syn_parse.specs.Seen.{is_seen, seen}
