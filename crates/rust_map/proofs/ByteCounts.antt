@@ -1,23 +1,16 @@
 -- Counts by the bytes of a text: of its characters, and of those before its lines.
 use Rattle.std.proofs.Common.{◌≡◌, ℕ, ◌+◌, ◌/◌, ◌%◌, ◌≤◌, ◌<◌, arith, List, [], ◌∷◌, ◌++◌, refl, sym, ap, ◌∙◌, length, inl, inr, add-zero}
-use Rattle.std.specs.Prelude.{true, false, encode_utf8, encode_utf8_all, cond, ◌==◌, count_by, if◌then◌else◌, ◌⊎◌}
+use Rattle.std.specs.Prelude.{true, false, encode_utf8, encode_utf8_all, cond, ◌==◌, if◌then◌else◌, ◌⊎◌}
+use Rattle.std.specs.List.{list_any}
 use Rattle.std.specs.Str.{chars, IsUtf8}
-use Rattle.std.proofs.lemmas.Bool.{cases_lt, lt-ltb, le-ltb, ne_eqb}
+use Rattle.rust_map.specs.Places.{is_line_feed}
+use Rattle.std.proofs.lemmas.Bool.{cases_eq, cases_lt, eq-eqb, lt-ltb, le-ltb, ne_eqb, or_parts}
 use Rattle.std.proofs.lemmas.Bool.Decides.{nat_tests}
-use Rattle.std.proofs.lemmas.List.Sums.{sum_by-cons}
+use Rattle.std.proofs.lemmas.List.Sums.{sum_by-cons, sum_by-append}
 use Rattle.std.proofs.lemmas.Str.{encodes-chars}
-use Rattle.rust_map.specs.Bytes.{begins_character}
-use Rattle.rust_map.specs.Tables.{line_starts_from}
+use Rattle.rust_map.specs.Bytes.{begins_character, begun}
+use Rattle.rust_map.specs.Tables.{line_starts_from, starts_by}
 use lib.Utf8.{encode}
-
--- so many characters begin
-abbrev pub begun : List ℕ → ℕ
-begun bytes = count_by begins_character bytes
-
--- where lines begin, so many characters standing before
-abbrev pub starts_by : ℕ → List ℕ → List ℕ
-starts_by n [] = []
-starts_by n (b ∷ bs) = if b == 10 then (n + cond (begins_character b) 1 0) ∷ starts_by (n + cond (begins_character b) 1 0) bs else starts_by (n + cond (begins_character b) 1 0) bs
 
 -- bytes that go on with a character
 abbrev GoOn : List ℕ → Type 0
@@ -92,3 +85,23 @@ starts_encodes n (c ∷ cs) = starts_encode n c (encode_utf8_all cs) ∙ ap (λ 
 
 pub starts_chars : (n : ℕ) (bytes : List ℕ) → IsUtf8 bytes → starts_by n bytes ≡ line_starts_from n (chars bytes)
 starts_chars n bytes u = ap (starts_by n) (sym (encodes-chars bytes u)) ∙ starts_encodes n (chars bytes)
+
+-- bytes in two parts
+pub begun_append : (xs ys : List ℕ) → begun (xs ++ ys) ≡ begun xs + begun ys
+begun_append xs ys = sum_by-append (λ x. cond (begins_character x) 1 0) xs ys
+
+pub starts_append : (n : ℕ) (xs ys : List ℕ) → starts_by n (xs ++ ys) ≡ starts_by n xs ++ starts_by (n + begun xs) ys
+starts_append n [] ys = ap (λ m. starts_by m ys) (sym (add-zero n))
+starts_append n (b ∷ bs) ys =
+    let m = n + begun (b ∷ []) in
+    let on : n + begun (b ∷ bs) ≡ m + begun bs = (let one = begun_append (b ∷ []) bs in omega arith) in
+    let rest : starts_by m (bs ++ ys) ≡ starts_by m bs ++ starts_by (n + begun (b ∷ bs)) ys = starts_append m bs ys ∙ ap (λ k. starts_by m bs ++ starts_by k ys) (sym on) in
+    elim (cases_eq b 10) [
+      | inl e ↦ let t : (b == 10) ≡ true = eq-eqb b 10 e in rw t (ap (λ x. m ∷ x) rest)
+      | inr e ↦ rw (ne_eqb b 10 e) rest
+    ]
+
+-- none begins without a line feed
+pub starts_none : (n : ℕ) (bs : List ℕ) → list_any is_line_feed bs ≡ false → starts_by n bs ≡ []
+starts_none n [] h = refl
+starts_none n (b ∷ bs) h = let parts = or_parts (is_line_feed b) (list_any is_line_feed bs) h in rw parts.0 (starts_none (n + begun (b ∷ [])) bs parts.1)

@@ -1,5 +1,5 @@
 -- The characters of a text and its bytes.
-use Rattle.std.specs.Prelude.{ℕ, ◌-◌, ◌≤◌, Bool, ◌||◌, nat_lt, nat_le, List, length, take, drop, encode_utf8_all}
+use Rattle.std.specs.Prelude.{ℕ, ◌-◌, ◌≤◌, Bool, ◌||◌, nat_lt, nat_le, List, length, take, drop, count_by, encode_utf8_all}
 use Rattle.std.specs.Str.{chars, IsUtf8}
 
 -- how many bytes spell these characters
@@ -26,3 +26,7 @@ pub record IsPlace (bytes : List ℕ) (at : ℕ) : Type 0 where
 -- a byte of a text begins a character, and none goes on with it: those that go on are 128 to 191
 abbrev pub begins_character : ℕ → Bool
 begins_character b = nat_lt b 128 || nat_le 192 b
+
+-- so many characters begin in bytes of a text
+abbrev pub begun : List ℕ → ℕ
+begun bytes = count_by begins_character bytes

@@ -2,7 +2,7 @@
 use Rattle.std.specs.Prelude.{ℕ, ◌+◌, ◌%◌, ◌==◌, if◌then◌else◌, List, [], ◌∷◌, length}
 use Rattle.std.specs.Char.{len_utf8}
 use Rattle.rust_map.specs.Places.{is_line_feed}
-use Rattle.rust_map.specs.Bytes.{byte_length}
+use Rattle.rust_map.specs.Bytes.{byte_length, begun}
 
 -- where lines begin in the rest of a text, behind each line feed: so many characters stand before it
 unfoldable pub line_starts_from : ℕ → List ℕ → List ℕ
@@ -27,3 +27,11 @@ byte_steps_from at count (c ∷ cs) =
 -- the table of bytes of a text, where every 128th character begins: none is needed where each character is one byte
 abbrev pub byte_steps_of : List ℕ → List ℕ
 byte_steps_of text = if byte_length text == length text then [] else 0 ∷ byte_steps_from 0 0 text
+
+-- where lines begin behind the line feeds among bytes of a text, before which so many characters stand
+abbrev pub starts_by : ℕ → List ℕ → List ℕ
+starts_by n [] = []
+starts_by n (b ∷ bs) =
+    if b == 10
+    then (n + begun (b ∷ [])) ∷ starts_by (n + begun (b ∷ [])) bs
+    else starts_by (n + begun (b ∷ [])) bs

@@ -1,9 +1,11 @@
 //! The tables of a text, made once.
 
-ghost use Rattle.rust_map.specs.Bytes.{begins_character};
-ghost use Rattle.rust_map.specs.Tables.{byte_steps_from, byte_steps_of, line_starts_of};
+ghost use Rattle.rust_map.specs.Bytes.{begins_character, begun};
+ghost use Rattle.rust_map.specs.Places.{is_line_feed};
+ghost use Rattle.rust_map.specs.Tables.{byte_steps_from, byte_steps_of, line_starts_of, starts_by};
 ghost use Rattle.std.specs.List.Sorted.{IsNonDecreasing, IsPartitionPoint};
-ghost use Rattle.std.specs.Prelude.{◌∷◌, ◌≡◌, ◌<◌, ◌≤◌, ◌^◌, length, IfOk};
+ghost use Rattle.std.specs.List.{list_any};
+ghost use Rattle.std.specs.Prelude.{◌∷◌, ◌++◌, ◌≡◌, ◌+◌, ◌<◌, ◌≤◌, ◌^◌, length, IfOk, OnOk};
 ghost use Rattle.std.specs.Str.{chars};
 
 use crate::walk::char_at;
@@ -11,6 +13,9 @@ use std::alloc::{AllocError, Global};
 
 /// So many characters lie between two entries of the table of bytes.
 pub(crate) const STEP: usize = 128;
+
+/// So many bytes are looked at together.
+const CHUNK: usize = 64;
 
 /// The characters and the lines of a text.
 #[derive(Drop)]
@@ -29,18 +34,56 @@ fn begins_character(byte: u8) -> bool
     (byte < 128) | (192 <= byte)
 }
 
-/// How many characters a text has, which is what `SourceMap::room` asks.
-pub fn characters(text: &str) -> usize
-    ensures { result ≡ length (chars text.now) }
+/// How many characters begin in bytes of a text.
+fn begun(bytes: &[u8]) -> usize
+    ensures { result ≡ begun bytes.now }
 {
     let mut count = 0usize;
-    for byte in text.as_bytes() {
+    for byte in bytes {
         count += begins_character(*byte) as usize;
     }
     count
 }
 
-/// How many characters a text has, and where its lines begin, by one walk over its bytes.
+/// Whether a line feed stands among bytes of a text. It looks at all of them, so that many are seen at once.
+fn has_line_feed(bytes: &[u8]) -> bool
+    ensures { result ≡ list_any is_line_feed bytes.now }
+{
+    let mut found = false;
+    for byte in bytes {
+        found |= *byte == b'\n';
+    }
+    found
+}
+
+/// Adds where lines begin behind the line feeds among bytes of a text, before which so many characters stand.
+/// Answers how many stand behind them.
+fn push_starts(starts: &mut Vec<u32>, bytes: &[u8], before: u32) -> Result<u32, AllocError>
+    requires { before + begun bytes.now < 2 ^ 32 }
+    ensures starts { OnOk result (starts.new.items ≡ starts.old.items ++ starts_by before bytes.now) }
+    ensures count { IfOk result (λ count. count ≡ before + begun bytes.now) }
+{
+    let mut characters = before;
+    for byte in bytes {
+        if begins_character(*byte) {
+            characters += 1;
+        }
+        if *byte == b'\n' {
+            starts.push(characters)?;
+        }
+    }
+    Ok(characters)
+}
+
+/// How many characters a text has, which is what `SourceMap::room` asks.
+pub fn characters(text: &str) -> usize
+    ensures { result ≡ length (chars text.now) }
+{
+    begun(text.as_bytes())
+}
+
+/// How many characters a text has, and where its lines begin, by one walk over its bytes: over many at once
+/// where no line feed stands among them.
 pub(crate) fn count_lines(alloc: Global, text: &str) -> Result<Lines, AllocError>
     requires { length (chars text.now) < 2 ^ 32 }
     ensures count { IfOk result (λ lines. lines.characters ≡ length (chars text.now)) }
@@ -49,13 +92,15 @@ pub(crate) fn count_lines(alloc: Global, text: &str) -> Result<Lines, AllocError
     let mut starts = Vec::new(alloc);
     starts.push(0)?;
     let mut characters = 0u32;
-    for byte in text.as_bytes() {
-        if begins_character(*byte) {
-            characters += 1;
+    let mut rest = text.as_bytes();
+    while !rest.is_empty() {
+        let (chunk, behind) = rest.split_at(rest.len().min(CHUNK));
+        if has_line_feed(chunk) {
+            characters = push_starts(&mut starts, chunk, characters)?;
+        } else {
+            characters += begun(chunk) as u32;
         }
-        if *byte == b'\n' {
-            starts.push(characters)?;
-        }
+        rest = behind;
     }
     Ok(Lines { characters, starts })
 }

@@ -1,27 +1,62 @@
-use Rattle.std.proofs.Common.{ℕ, ◌≡◌, ◌∙◌, ◌+◌, ◌∷◌, ◌++◌, arith, sym, ap, drop, get_or, append-nil}
-use Rattle.std.specs.Prelude.{cond}
-use Rattle.std.proofs.lemmas.List.{at_drop_more, at_drop_all}
-use Rattle.rust_map.specs.Bytes.{begins_character}
-use Rattle.rust_map.proofs.ByteCounts.{begun, begun_chars, begun_cons, starts_by, starts_chars}
+use Rattle.std.proofs.Common.{ℕ, List, ◌≡◌, ◌+◌, ◌∙◌, ◌∷◌, [], ◌++◌, arith, sym, ap, append-nil, append_assoc}
+use Rattle.std.specs.Prelude.{false}
+use Rattle.std.specs.List.{list_any}
+use Rattle.std.proofs.lemmas.Bool.{eqb-true}
+use Rattle.std.proofs.lemmas.List.{nil_from_length}
+use Rattle.rust_map.specs.Bytes.{begun}
+use Rattle.rust_map.specs.Places.{is_line_feed}
+use Rattle.rust_map.specs.Tables.{starts_by}
+use Rattle.rust_map.proofs.ByteCounts.{begun_append, begun_chars, starts_append, starts_chars, starts_none}
 use Rattle.rust_map.proofs.tables.count_lines.Goals as goal
+
+-- one chunk on
+counted_on : (n m all : ℕ) (rest front back : List ℕ) → rest ≡ front ++ back → n + begun rest ≡ all → m ≡ n + begun front → m + begun back ≡ all
+counted_on n m all rest front back e h k = let parts = ap begun e ∙ begun_append front back in omega arith
+
+starts_on : (n m : ℕ) (done next all rest front back : List ℕ) → rest ≡ front ++ back → done ++ starts_by n rest ≡ all → m ≡ n + begun front → next ≡ done ++ starts_by n front → next ++ starts_by m back ≡ all
+starts_on n m done next all rest front back e h k l =
+    rw (l, k) (append_assoc done (starts_by n front) (starts_by (n + begun front) back) ∙ (ap (λ x. done ++ x) (sym (ap (starts_by n) e ∙ starts_append n front back)) ∙ h))
+
+-- a chunk without a line feed adds nothing
+same_starts : (n : ℕ) (done front : List ℕ) → list_any is_line_feed front ≡ false → done ≡ done ++ starts_by n front
+same_starts n done front h = sym (ap (λ x. done ++ x) (starts_none n front h) ∙ append-nil done)
+
+pub push_starts-requires : goal.push_starts-requires
+push_starts-requires c =
+    let all = begun_chars c.args.text.now c.utf8.text in
+    let parts = ap begun c.split_at.ensures.by_index.0 ∙ begun_append c.split_at.result.0.now c.split_at.result.1.now in
+    omega arith
 
 pub overflow_add-characters : goal.overflow_add-characters
 overflow_add-characters c =
-    let bytes = c.as_bytes-byte-items.result.now in
-    let index = c.loop-byte.byte-index in
-    let step = at_drop_more begun bytes index 0 c.loop-byte-test.true ∙ begun_cons (get_or bytes index 0) (drop (index + 1) bytes) in
-    let one : cond {A = ℕ} (begins_character (get_or bytes index 0)) 1 0 ≡ 1 = ap (λ b. cond {A = ℕ} b 1 0) (sym c.begins_character.ensures ∙ c.if-begins_character.true) in
-    let all = ap begun c.as_bytes-byte-items.ensures.value ∙ begun_chars c.args.text.now c.utf8.text in
+    let all = begun_chars c.args.text.now c.utf8.text in
+    let parts = ap begun c.split_at.ensures.by_index.0 ∙ begun_append c.split_at.result.0.now c.split_at.result.1.now in
     omega arith
+
+pub loop-rest-preserved-in_ok-characters : goal.loop-rest-preserved-in_ok-characters
+loop-rest-preserved-in_ok-characters c = record {
+  counted = counted_on _ _ _ _ c.split_at.result.0.now c.split_at.result.1.now c.split_at.ensures.by_index.0 c.loop-rest.invariant.counted c.in_ok-characters.ensures.count;
+  whole = starts_on _ _ _ _ _ _ c.split_at.result.0.now c.split_at.result.1.now c.split_at.ensures.by_index.0 c.loop-rest.invariant.whole c.in_ok-characters.ensures.count c.in_ok-characters.ensures.starts;
+}
+
+pub loop-rest-preserved : goal.loop-rest-preserved
+loop-rest-preserved c =
+    let count = ap (λ m. c.loop-rest.characters + m) c.begun.ensures in
+    record {
+      counted = counted_on _ _ _ _ c.split_at.result.0.now c.split_at.result.1.now c.split_at.ensures.by_index.0 c.loop-rest.invariant.counted count;
+      whole = starts_on _ _ _ _ _ _ c.split_at.result.0.now c.split_at.result.1.now c.split_at.ensures.by_index.0 c.loop-rest.invariant.whole count
+          (same_starts c.loop-rest.characters c.loop-rest.starts.items c.split_at.result.0.now (sym c.has_line_feed.ensures ∙ c.if-has_line_feed.false));
+    }
 
 pub returns-clause-count : goal.returns-clause-count
 returns-clause-count c =
-    let none = at_drop_all begun c.as_bytes-byte-items.result.now c.loop-byte.byte-index c.loop-byte-test.false in
-    let all = ap begun c.as_bytes-byte-items.ensures.value ∙ begun_chars c.args.text.now c.utf8.text in
+    let none : c.loop-rest.rest.now ≡ [] = nil_from_length _ (eqb-true _ _ (sym c.is_empty.ensures ∙ c.loop-rest-test.false)) in
+    let zero = ap begun none in
+    let all = begun_chars c.args.text.now c.utf8.text in
     omega arith
 
 pub returns-clause-starts : goal.returns-clause-starts
 returns-clause-starts c =
-    let none = at_drop_all (starts_by c.loop-byte.characters) c.as_bytes-byte-items.result.now c.loop-byte.byte-index c.loop-byte-test.false in
-    sym (append-nil _) ∙ (ap (λ t. c.loop-byte.starts.items ++ t) (sym none) ∙ c.loop-byte.invariant.whole)
-    ∙ ap (λ b. 0 ∷ starts_by 0 b) c.as_bytes-byte-items.ensures.value ∙ ap (λ t. 0 ∷ t) (starts_chars 0 c.args.text.now c.utf8.text)
+    let none : c.loop-rest.rest.now ≡ [] = nil_from_length _ (eqb-true _ _ (sym c.is_empty.ensures ∙ c.loop-rest-test.false)) in
+    sym (append-nil _) ∙ (ap (λ t. c.loop-rest.starts.items ++ starts_by c.loop-rest.characters t) (sym none) ∙ c.loop-rest.invariant.whole)
+    ∙ ap (λ t. 0 ∷ t) (starts_chars 0 c.args.text.now c.utf8.text)
