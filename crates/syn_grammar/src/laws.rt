@@ -4,9 +4,10 @@ ghost use Rattle.proc_macro2.specs.Token.{Token};
 ghost use Rattle.std.specs.Prelude.{◌≡◌, ◌⊎◌, List, ◌++◌};
 ghost use Rattle.syn_grammar.specs.Derives.{Derives};
 ghost use Rattle.syn_grammar.specs.Gram.{Gram};
+ghost use Rattle.syn_grammar.specs.Keeps.{kepts};
 ghost use Rattle.syn_grammar.specs.Kind.{Kind};
 ghost use Rattle.syn_grammar.specs.Read.{IsDerived, IsRead, NoneRead};
-ghost use Rattle.syn_grammar.specs.Run.{Got, kind, reads};
+ghost use Rattle.syn_grammar.specs.Run.{Got, Refused, kind, reads};
 ghost use Rattle.syn_grammar.specs.Tree.{Tree, flat};
 
 /// Tokens begin with at most one tree of an entry, and it leaves one rest.
@@ -23,4 +24,10 @@ pub fn decided()
 pub fn reading()
     ensures found { (k : Kind) (ts : List Token) (x : Tree) (rest : List Token) → reads (kind k) ts ≡ Got x rest → IsDerived k ts x rest }
     ensures all { (k : Kind) (ts : List Token) (x : Tree) (rest : List Token) → IsDerived k ts x rest → reads (kind k) ts ≡ Got x rest }
+{}
+
+/// What is kept of a run's tree is read of the tokens, and where the run refuses, nothing is.
+pub fn keeping()
+    ensures given { (k : Kind) (ts : List Token) (form : Tree) (rest : List Token) → kepts (kind k) ts ≡ Got form rest → IsRead k ts form rest }
+    ensures none { (k : Kind) (ts : List Token) → kepts (kind k) ts ≡ Refused → NoneRead k ts }
 {}
