@@ -1,6 +1,6 @@
 //! Syntax errors.
 
-ghost use Rattle.std.specs.Prelude.{[], ◌++◌, ◌∷◌, ◌≡◌, IfOk, OnErr, OnOk, Some};
+ghost use Rattle.std.specs.Prelude.{[], ◌++◌, ◌∷◌, ◌≡◌, IfOk, OnErr, OnOk, Some, string_bytes};
 ghost use Rattle.syn_error.specs.Notes.{Says, first_place, last_place, place_of, words_of};
 
 use crate::place::ErrorPlace;
@@ -13,15 +13,6 @@ use std::fmt;
 use std::marker::Model;
 use std::ops::Range;
 
-/// What is said.
-#[derive(Debug, Drop)]
-pub(crate) enum Words {
-    /// Words of the program.
-    Fixed(&'static str),
-    /// Words that were made.
-    Made(String),
-}
-
 /// What an error says of a part of a text.
 #[derive(Debug, Drop)]
 pub(crate) struct Message {
@@ -30,7 +21,7 @@ pub(crate) struct Message {
     /// Where its last token stands.
     pub(crate) end: Span,
     /// What is said.
-    pub(crate) words: Words,
+    pub(crate) words: String,
 }
 
 /// Why tokens can't be read: one or more messages, each with the part of the text that it speaks of. To a
@@ -65,8 +56,6 @@ fn ends(stream: &TokenStream) -> (Span, Span)
 }
 
 impl Error {
-    ghost use Rattle.syn_error.specs.Messages.{words};
-
     /// An error that says the message of the span.
     ///
     /// The error of the call is that there was no memory for the message's text.
@@ -77,15 +66,8 @@ impl Error {
     ) -> Result<Error, AllocError>
         ensures { IfOk result (λ e. Says (M.output message) span span e) }
     {
-        let words = Words::Made(message.to_string(alloc)?);
+        let words = message.to_string(alloc)?;
         Ok(Error::one(alloc, span, span, words))
-    }
-
-    /// An error that says these words of the span. It takes no memory.
-    pub fn fixed(alloc: Global, span: Span, words: &'static str) -> Error
-        ensures { Says (Some words.now) span span result }
-    {
-        Error::one(alloc, span, span, Words::Fixed(words))
     }
 
     /// An error that says the message of the tokens that are printed for a value: from the first to the last of
@@ -101,7 +83,7 @@ impl Error {
             IfOk result (λ e. Says (M.output message) (first_place printed) (last_place printed) e) }
     {
         let stream = tokens.to_token_stream(alloc)?;
-        let words = Words::Made(message.to_string(alloc)?);
+        let words = message.to_string(alloc)?;
         let (start, end) = ends(&stream);
         Ok(Error::one(alloc, start, end, words))
     }
@@ -116,13 +98,13 @@ impl Error {
     ) -> Result<Error, AllocError>
         ensures { IfOk result (λ e. Says (M.output message) (P.span range.start) (P.prev_span range.end) e) }
     {
-        let words = Words::Made(message.to_string(alloc)?);
+        let words = message.to_string(alloc)?;
         Ok(Error::one(alloc, range.start.span(), range.end.prev_span(), words))
     }
 
     // An error of one message.
-    fn one(alloc: Global, start: Span, end: Span, said: Words) -> Error
-        ensures { result ≡ record { start = start; end = end; text = words said } ∷ [] }
+    fn one(alloc: Global, start: Span, end: Span, said: String) -> Error
+        ensures { result ≡ record { start = start; end = end; text = string_bytes said } ∷ [] }
     {
         Error {
             first: Message {
@@ -158,9 +140,6 @@ impl fmt::Display for Error {
     ghost output = { λ error. Some (words_of error) };
 
     fn fmt<W: fmt::Write>(&self, f: &mut fmt::Formatter<W>) -> fmt::Result {
-        match &self.first.words {
-            Words::Fixed(words) => f.write_str(words),
-            Words::Made(words) => f.write_str(words.as_str()),
-        }
+        f.write_str(self.first.words.as_str())
     }
 }
