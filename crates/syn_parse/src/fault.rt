@@ -49,6 +49,14 @@ impl<'a> ParseBuffer<'a> {
         }
     }
 
+    // The fault that the next token is not expected.
+    pub(crate) fn unexpected(&self) -> ParseFault {
+        match Error::new(self.alloc, self.cursor.span(), "unexpected token") {
+            Ok(error) => ParseFault::Syntax(error),
+            Err(_) => ParseFault::Memory,
+        }
+    }
+
     /// An error that says the message of the next token, or at an end of what closes the list.
     ///
     /// The error of the call is that there was no memory for the message's text.

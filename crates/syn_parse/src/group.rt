@@ -12,7 +12,6 @@ ghost use Rattle.syn_parse.specs.Stands.{end_stands, group_stands};
 use crate::input::{Leftover, ParseBuffer};
 use proc_macro2::delimiter::Delimiter;
 use proc_macro2::group::DelimSpan;
-use syn_error::error::Error;
 use syn_error::fault::ParseFault;
 
 /// What messages call a group with the delimiter.
@@ -108,6 +107,6 @@ impl<'a> ParseBuffer<'a> {
         if self.is_empty() {
             return Ok(());
         }
-        Err(ParseFault::Syntax(Error::fixed(self.alloc, self.cursor.span(), "unexpected token")))
+        Err(self.unexpected())
     }
 }

@@ -23,6 +23,7 @@ pub mod next;
 pub mod parse;
 pub mod parse_trees;
 pub mod position;
+pub mod step;
 pub mod token;
 
 pub use buffer::TokenBuffer;
