@@ -26,6 +26,11 @@ impl TokenStream {
         }
     }
 
+    /// What the stream takes its memory from.
+    pub fn allocator(&self) -> Global {
+        *self.trees.allocator()
+    }
+
     /// Whether the stream has no trees.
     pub fn is_empty(&self) -> bool
         ensures { IsTrue result ↔ (self.now ≡ []) }
@@ -76,7 +81,7 @@ impl TokenStream {
         ensures ok { OnOk result (self.new ≡ self.old ++ flat_map entered trees.items) }
         ensures err { OnErr result (self.new ≡ self.old) }
     {
-        let alloc = *self.trees.allocator();
+        let alloc = self.allocator();
         let added = TokenStream::from_trees(alloc, trees)?;
         self.push_stream(added)?;
         Ok(())
@@ -87,7 +92,7 @@ impl TokenStream {
         ensures ok { OnOk result (self.new ≡ self.old ++ flat_map (λ t. t) streams.items) }
         ensures err { OnErr result (self.new ≡ self.old) }
     {
-        let alloc = *self.trees.allocator();
+        let alloc = self.allocator();
         let added = TokenStream::from_streams(alloc, streams)?;
         self.push_stream(added)?;
         Ok(())
@@ -98,7 +103,7 @@ impl TokenStream {
         ensures ok { OnOk result (self.new ≡ self.old ++ entered tree) }
         ensures err { OnErr result (self.new ≡ self.old) }
     {
-        let alloc = *self.trees.allocator();
+        let alloc = self.allocator();
         enter(alloc, &mut self.trees, tree)?;
         Ok(())
     }

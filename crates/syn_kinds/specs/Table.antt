@@ -1,0 +1,59 @@
+-- The table of the kinds of tokens.
+use Rattle.std.specs.Prelude.{ℕ, Bool, ◌||◌, List, [], ◌∷◌, ◌++◌, map, get_or, replicate, take, codes}
+use Rattle.std.specs.List.{list_any}
+use Rattle.std.specs.Str.{bytes_eq}
+use denote.Ref.{Bor}
+
+-- the words of the keywords: first the 51 that are no names, by the alphabet, and then those that are names too
+abbrev pub words : List (List ℕ)
+words =
+    codes "abstract" ∷ codes "as" ∷ codes "async" ∷ codes "await" ∷ codes "become" ∷ codes "box" ∷
+    codes "break" ∷ codes "const" ∷ codes "continue" ∷ codes "crate" ∷ codes "do" ∷ codes "dyn" ∷ codes "else" ∷
+    codes "enum" ∷ codes "extern" ∷ codes "false" ∷ codes "final" ∷ codes "fn" ∷ codes "for" ∷ codes "if" ∷
+    codes "impl" ∷ codes "in" ∷ codes "let" ∷ codes "loop" ∷ codes "macro" ∷ codes "match" ∷ codes "mod" ∷
+    codes "move" ∷ codes "mut" ∷ codes "override" ∷ codes "priv" ∷ codes "pub" ∷ codes "ref" ∷ codes "return" ∷
+    codes "Self" ∷ codes "self" ∷ codes "static" ∷ codes "struct" ∷ codes "super" ∷ codes "trait" ∷
+    codes "true" ∷ codes "try" ∷ codes "type" ∷ codes "typeof" ∷ codes "unsafe" ∷ codes "unsized" ∷
+    codes "use" ∷ codes "virtual" ∷ codes "where" ∷ codes "while" ∷ codes "yield" ∷ codes "auto" ∷
+    codes "default" ∷ codes "raw" ∷ codes "safe" ∷ codes "union" ∷ []
+
+-- two texts have the same characters
+abbrev pub same_text : List ℕ → List ℕ → Bool
+same_text cs ds = bytes_eq cs ds
+
+-- no name: _, or one of the first 51 words
+unfoldable pub kept_words : List (List ℕ)
+kept_words = take 51 words
+
+unfoldable pub is_reserved : List ℕ → Bool
+is_reserved cs = same_text (codes "_") cs || list_any (λ word. same_text word cs) kept_words
+
+-- the word of a keyword: a number past the rows is that of the last one
+unfoldable pub word : ℕ → List ℕ
+word kind = get_or words kind (codes "union")
+
+-- the texts of the punctuations, of one to three marks each
+abbrev pub signs : List (List ℕ)
+signs =
+    codes "&" ∷ codes "&&" ∷ codes "&=" ∷ codes "@" ∷ codes "^" ∷ codes "^=" ∷ codes ":" ∷ codes "," ∷
+    codes "$" ∷ codes "." ∷ codes ".." ∷ codes "..." ∷ codes "..=" ∷ codes "=" ∷ codes "==" ∷ codes "=>" ∷
+    codes ">=" ∷ codes ">" ∷ codes "<-" ∷ codes "<=" ∷ codes "<" ∷ codes "-" ∷ codes "-=" ∷ codes "!=" ∷
+    codes "!" ∷ codes "|" ∷ codes "|=" ∷ codes "||" ∷ codes "::" ∷ codes "%" ∷ codes "%=" ∷ codes "+" ∷
+    codes "+=" ∷ codes "#" ∷ codes "?" ∷ codes "->" ∷ codes ";" ∷ codes "<<" ∷ codes "<<=" ∷ codes ">>" ∷
+    codes ">>=" ∷ codes "/" ∷ codes "/=" ∷ codes "*" ∷ codes "*=" ∷ codes "~" ∷ []
+
+-- the text of a punctuation: a number past the rows is that of the last one
+unfoldable pub sign : ℕ → List ℕ
+sign kind = get_or signs kind (codes "~")
+
+-- a punctuation of so many marks: they are those of its row, and ~ stands for each that the row lacks
+unfoldable pub marks : ℕ → ℕ → List ℕ
+marks kind count = take count (sign kind ++ replicate count 126)
+
+-- how a message shows a text: in backquotes
+abbrev pub quoted : List ℕ → List ℕ
+quoted text = 96 ∷ text ++ 96 ∷ []
+
+-- the texts of rows
+abbrev pub texts : List (Bor (List ℕ)) → List (List ℕ)
+texts rows = map (λ row. row.now) rows

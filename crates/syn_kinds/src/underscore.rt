@@ -1,0 +1,82 @@
+//! The underscore.
+
+ghost use Rattle.rust_map.specs.Spans.{call_site};
+ghost use Rattle.std.specs.Prelude.{◌++◌, ◌≡◌, codes};
+ghost use Rattle.syn_kinds.specs.Values.{word_tokens};
+
+use crate::put::put_word;
+use proc_macro2::tree::TokenStream;
+use rust_map::span::Span;
+use std::alloc::AllocError;
+use syn_error::to_tokens::ToTokens;
+use try_clone::TryClone;
+
+/// `_`, which is an identifier of that text. All are equal.
+#[derive(Clone, Copy, Debug)]
+#[derive_where(PartialEq, Eq, Hash)]
+pub struct Underscore {
+    /// Where it stands.
+    #[derive_where(skip(EqHashOrd))]
+    pub span: Span,
+}
+
+impl Underscore {
+    /// The underscore that stands there.
+    pub fn new(span: Span) -> Underscore
+        ensures { result.span ≡ span }
+    {
+        Underscore { span }
+    }
+
+    /// How a message shows the kind.
+    pub fn display() -> &'static str
+        ensures { result.now ≡ codes "`_`" }
+    {
+        "`_`"
+    }
+
+    /// Where it stands.
+    pub fn span(&self) -> Span
+        ensures { result ≡ self.now.span }
+    {
+        self.span
+    }
+
+    /// Sets where it stands.
+    pub fn set_span(&mut self, span: Span)
+        ensures { self.new.span ≡ span }
+    {
+        self.span = span;
+    }
+}
+
+impl Default for Underscore {
+    ghost is_default = { λ underscore. underscore.span ≡ call_site };
+
+    /// The underscore that stands at the call site.
+    fn default() -> Underscore {
+        Underscore::new(Span::call_site())
+    }
+}
+
+#[tactic(auto, using(crate::proofs::Rows::underscore_chars, crate::proofs::Rows::underscore_is_identifier))]
+impl ToTokens for Underscore {
+    ghost put = { λ underscore tokens. tokens ++ word_tokens (codes "_") underscore.span };
+
+    fn to_tokens(&self, tokens: &mut TokenStream) -> Result<(), AllocError> {
+        put_word(tokens, "_", self.span)
+    }
+}
+
+impl TryClone for Underscore {
+    ghost use Rattle.rust_map.specs.declared.span.Span.{Span};
+
+    ghost Shown = { Span };
+
+    ghost shown = { λ underscore. underscore.span };
+
+    /// A copy, which takes no memory.
+    fn try_clone(&self) -> Result<Underscore, AllocError> {
+        Ok(*self)
+    }
+}
