@@ -1,156 +1,102 @@
--- Normal form of a syntax tree.
-use Rattle.std.specs.Prelude.{Bool, true, false, ◌&&◌, ◌||◌, not, cond}
+-- Normal form of a syntax tree. In it, at every depth outside raw tokens:
+--
+-- 1. a where clause without predicates is removed, and its placement is then that behind the definition;
+-- 2. generics without parameters are removed, but those of an impl whose type would begin with parameters without them;
+-- 3. a colon before no bounds is removed in parameters, traits and associated types;
+-- 4. lifetimes come first among parameters and arguments;
+-- 5. an attributed range is put in parentheses behind its attributes;
+-- 6. from the inside out, an operand that would not be read back as it stands is put in parentheses; where it would go on with the form
+--    behind it, that is the form's whole left operand;
+-- 7. among statements the last mark of a raw item stands alone where the next statement now begins with a parenthesis that was
+--    added.
+--
+-- `Tidy` has the first four, of a kind's parts, and `Parens` the next two.
+use Rattle.std.specs.Prelude.{Bool, not, ◌&&◌, cond, List, [], ◌∷◌}
+use Rattle.proc_macro2.specs.Token.{Token, Opens, Punct}
+use Rattle.proc_macro2.specs.declared.delimiter.Delimiter.TheVariants.{Brace}
 use Rattle.rust_leaf.specs.declared.punct.Spacing.TheVariants.{Alone as Apart}
-use Rattle.syn_grammar.specs.Kind.{Kind, AType, AnyPath, QualifiedPath, Path, Segments, GenericParams, GenericParam, AnArgument, Where, WhereClause, Generics, ImplGenerics, BoundsColon, LifetimeColon, Bounds, Lifetimes, Arguments, Visibility, ATypeAlias, AnImpl}
-use Rattle.syn_grammar.specs.Name.{the_clause, the_parameters, the_bounds, the_lifetime, the_arguments, the_value, the_generics, the_polarity, the_self, the_first}
-use Rattle.syn_grammar.specs.Words.{is_ident}
-use Rattle.syn_grammar.specs.Tree.{Tree, AWord, ALiteral, AMark, ALifetime, Raw, Nil, Pair, First, Second, End, Again, Final, More, Group, Dropped, Called, Verbatim, Hidden, Node, Whole, Alone, Front, Back, Infix}
-use Rattle.syn_grammar.specs.Part.{has, the, changed, choice}
+use Rattle.syn_grammar.specs.Kind.{Kind, Position, Plain, InCondition, InArm, InStatement, Expression, AStatement, AnItem, Visibility}
+use Rattle.syn_grammar.specs.Name.{Part, the_condition, the_body, the_expression}
+use Rattle.syn_grammar.specs.Tree.{Tree, AWord, ALiteral, AMark, ALifetime, Raw, Nil, Pair, First, Second, End, Again, Final, More, Group, Dropped, Called, Verbatim, Hidden, Node, Whole, Alone, Front, Back, Infix, flat}
+use Rattle.syn_grammar.specs.Look.{sees}
+use Rattle.syn_grammar.specs.Say.{parenthesis}
+use Rattle.syn_grammar.specs.Forms.{inside}
+use Rattle.syn_grammar.specs.Tidy.{tidy}
+use Rattle.syn_grammar.specs.Parens.{follow, alone, front_form, back_form, infix_form}
 
--- What is removed where there is nothing in it: a where clause without predicates, generics without parameters, a colon
--- before no bounds.
-abbrev pub removed_if : (Tree → Bool) → Tree → Tree
-removed_if e x = cond (e x) (Second Nil) x
+-- Where the expression of a part stands: the condition of if, while, match and for, the body of an arm, the expression of a statement.
+unfoldable pub place_of : Part → Position
+place_of the_condition = InCondition
+place_of the_body = InArm
+place_of the_expression = InStatement
+place_of n = Plain
 
-abbrev pub is_none : Tree → Bool
-is_none End = true
-is_none _ = false
+unfoldable pub passed : Kind → Position → Position
+passed (Expression q) p = p
+passed k p = Plain
 
-abbrev pub is_bare_clause : Tree → Bool
-is_bare_clause (Node WhereClause x) = is_none (the the_parameters x)
-is_bare_clause _ = false
-
-abbrev pub is_bare_where : Tree → Bool
-is_bare_where x = is_bare_clause (the the_clause x)
-
--- generics without parameters
-abbrev pub is_bare_params : Tree → Bool
-is_bare_params (Node GenericParams End) = true
-is_bare_params _ = false
-
-abbrev pub is_bare_generics : Tree → Bool
-is_bare_generics x = is_bare_params (the the_parameters x)
-
--- a colon, and no bound
-abbrev pub is_bare_bounds : Tree → Bool
-is_bare_bounds (Node Bounds End) = true
-is_bare_bounds (Node Lifetimes End) = true
-is_bare_bounds _ = false
-
-abbrev pub is_bare_colon : Tree → Bool
-is_bare_colon x = is_bare_bounds (the the_bounds x)
-
--- Lifetimes come first among parameters and arguments.
-abbrev pub is_lifetime_param : Tree → Bool
-is_lifetime_param (Node GenericParam x) = has the_lifetime x
-is_lifetime_param _ = false
-
-abbrev pub is_lifetime_argument : Tree → Bool
-is_lifetime_argument (Node AnArgument x) = has the_lifetime x
-is_lifetime_argument _ = false
-
--- an element that no separator followed, before others
-abbrev pub joined : Tree → Tree → Tree
-joined x End = Final x
-joined x y = More x 44 Apart y
-
--- the elements that pass, before others
-abbrev pub those_then : (Tree → Bool) → Tree → Tree → Tree
-those_then p (More x c spacing y) o = cond (p x) (More x c spacing (those_then p y o)) (those_then p y o)
-those_then p (Final x) o = cond (p x) (joined x o) o
-those_then p _ o = o
-
--- the elements that don't
-abbrev pub others_of : (Tree → Bool) → Tree → Tree
-others_of p (More x c spacing y) = cond (p x) (others_of p y) (More x c spacing (others_of p y))
-others_of p (Final x) = cond (p x) End (Final x)
-others_of p x = x
-
--- in their order, each with the comma that it held; one is added behind the last lifetime where others follow
-abbrev pub lifetimes_first : (Tree → Bool) → Tree → Tree
-lifetimes_first p x = those_then p x (others_of p x)
-
--- A where clause that is not there stands behind the definition.
-abbrev pub is_absent : Tree → Bool
-is_absent (Called n (Node Where (Second x))) = true
-is_absent _ = false
-
-abbrev pub moved : Tree → Tree
-moved (First (Pair w d)) = cond (is_absent w) (Second (Pair d w)) (First (Pair w d))
-moved x = x
-
--- Kept are the empty generics of an impl without polarity and trait whose type begins < Ident >.
-
--- one Ident, as a path
-abbrev pub is_lone_segment : Tree → Bool
-is_lone_segment (Node (Segments s) (Second (Pair (AWord cs) (Second (Second (Second z)))))) = is_ident cs
-is_lone_segment _ = false
-
-abbrev pub is_lone_path : Tree → Bool
-is_lone_path (Node (AnyPath s) (Second (Node (Path t) (Pair (Second z) x)))) = is_lone_segment x
-is_lone_path _ = false
-
-abbrev pub is_ident_type : Tree → Bool
-is_ident_type (Node (AType p) x) = is_lone_path (choice x)
-is_ident_type _ = false
-
--- a qualified path that begins with < Ident >
-abbrev pub is_bracketed : Tree → Bool
-is_bracketed (Node (AnyPath s) (First (Node (QualifiedPath t) (Pair l (Pair x (Pair (Second z) y)))))) = is_ident_type x
-is_bracketed _ = false
-
-abbrev pub begins_bracketed : Tree → Bool
-begins_bracketed (Node (AType p) x) = is_bracketed (choice x)
-begins_bracketed _ = false
-
-abbrev pub keeps_generics : Tree → Bool
-keeps_generics x = not (has the_polarity x || has the_self x) && begins_bracketed (the the_first x)
-
-abbrev pub without_generics : Tree → Tree
-without_generics (Node ImplGenerics g) = Node ImplGenerics (removed_if is_bare_generics g)
-without_generics g = g
-
-abbrev pub tidy_impl : Tree → Tree
-tidy_impl x = cond (keeps_generics x) x (changed the_generics without_generics x)
-
--- what normal form makes of a kind's tree
-abbrev pub tidy : Kind → Tree → Tree
-tidy Where x = removed_if is_bare_where x
-tidy Generics x = removed_if is_bare_generics x
-tidy BoundsColon x = removed_if is_bare_colon x
-tidy LifetimeColon x = removed_if is_bare_colon x
-tidy GenericParams x = lifetimes_first is_lifetime_param x
-tidy Arguments x = changed the_arguments (lifetimes_first is_lifetime_argument) x
-tidy (ATypeAlias p) x = changed the_value moved x
-tidy AnImpl x = tidy_impl x
-tidy k x = x
+-- what stands behind a whole expression: of a condition a brace
+unfoldable pub stands_behind : Position → List Token
+stands_behind InCondition = Opens Brace ∷ []
+stands_behind p = []
 
 -- what was dropped is a visibility; there is none
 abbrev pub private : Tree
 private = Node Visibility (Second Nil)
 
+-- the last mark stands alone
+abbrev pub apart : List Token → List Token
+apart [] = []
+apart (Punct c spacing ∷ []) = Punct c Apart ∷ []
+apart (t ∷ ts) = t ∷ apart ts
+
+-- of a raw item among statements
+abbrev pub apart_item : Tree → Tree
+apart_item (Second (Node AStatement (First (Node AnItem (Raw ts))))) = Second (Node AStatement (First (Node AnItem (Raw (apart ts)))))
+apart_item (Second (Node AStatement (Second (Second (Second (First (Node AnItem (Raw ts)))))))) =
+    Second (Node AStatement (Second (Second (Second (First (Node AnItem (Raw (apart ts))))))))
+apart_item x = x
+
+-- a parenthesis stands in front that stood not there before
+abbrev pub is_enclosed : Tree → Tree → Bool
+is_enclosed before after = sees parenthesis (flat after) && not (sees parenthesis (flat before))
+
+abbrev pub apart_if : Bool → Tree → Tree
+apart_if b x = cond b (apart_item x) x
+
+abbrev mutual
+  -- in a position
+  pub normal_in : Position → Tree → Tree
+  normal_in p (AWord cs) = AWord cs
+  normal_in p (ALiteral cs) = ALiteral cs
+  normal_in p (AMark c cs spacing) = AMark c cs Apart
+  normal_in p (ALifetime cs) = ALifetime cs
+  normal_in p (Raw ts) = Raw ts
+  normal_in p Nil = Nil
+  normal_in p (Pair x y) = Pair (normal_in p x) (normal_in p y)
+  normal_in p (First x) = First (normal_in p x)
+  normal_in p (Second x) = Second (normal_in p x)
+  normal_in p End = End
+  normal_in p (Again x y) = Again (apart_if (is_enclosed y (normal_in p y)) (normal_in p x)) (normal_in p y)
+  normal_in p (Final x) = Final (normal_in p x)
+  normal_in p (More x c spacing y) = More (normal_in p x) c Apart (normal_in p y)
+  normal_in p (Group d x) = Group d (normal_in p x)
+  normal_in p (Dropped x) = Dropped private
+  normal_in p (Called n x) = Called n (normal_in (place_of n) x)
+  normal_in p (Verbatim x) = Verbatim x
+  normal_in p (Hidden x) = Hidden x
+  normal_in p (Node k x) = Node k (tidy k (normal_in (passed k p) x))
+  normal_in p (Whole x) = Whole (formed p (stands_behind p) x)
+  normal_in p x = x
+
+  -- a form in a position, before what follows
+  pub formed : Position → List Token → Tree → Tree
+  formed p ts (Alone k y) = alone p ts k (normal_in Plain y)
+  formed p ts (Front k y x) = front_form p k (normal_in Plain y) (formed (inside p k) ts x)
+  formed p ts (Back l k y) = back_form p ts (formed p (follow (flat (normal_in Plain y))) l) k (normal_in Plain y)
+  formed p ts (Infix l k y r) =
+      infix_form p (formed p (follow (flat (normal_in Plain y))) l) k (normal_in Plain y) (formed (inside p k) ts r)
+  formed p ts x = x
+
 abbrev pub normal : Tree → Tree
-normal (AWord cs) = AWord cs
-normal (ALiteral cs) = ALiteral cs
-normal (AMark c cs spacing) = AMark c cs Apart
-normal (ALifetime cs) = ALifetime cs
-normal (Raw ts) = Raw ts
-normal Nil = Nil
-normal (Pair x y) = Pair (normal x) (normal y)
-normal (First x) = First (normal x)
-normal (Second x) = Second (normal x)
-normal End = End
-normal (Again x y) = Again (normal x) (normal y)
-normal (Final x) = Final (normal x)
-normal (More x c spacing y) = More (normal x) c Apart (normal y)
-normal (Group d x) = Group d (normal x)
-normal (Dropped x) = Dropped private
-normal (Called n x) = Called n (normal x)
-normal (Verbatim x) = Verbatim x
-normal (Hidden x) = Hidden x
-normal (Node k x) = Node k (tidy k (normal x))
-normal (Whole x) = Whole (normal x)
-normal (Alone k y) = Alone k (normal y)
-normal (Front k y x) = Front k (normal y) (normal x)
-normal (Back l k y) = Back (normal l) k (normal y)
-normal (Infix l k y r) = Infix (normal l) k (normal y) (normal r)
+normal x = normal_in Plain x
