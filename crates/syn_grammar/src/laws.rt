@@ -6,6 +6,7 @@ ghost use Rattle.syn_grammar.specs.Derives.{Derives};
 ghost use Rattle.syn_grammar.specs.Gram.{Gram};
 ghost use Rattle.syn_grammar.specs.Keeps.{kepts};
 ghost use Rattle.syn_grammar.specs.Kind.{Kind};
+ghost use Rattle.syn_grammar.specs.Normal.{normal};
 ghost use Rattle.syn_grammar.specs.Read.{IsDerived, IsRead, NoneRead};
 ghost use Rattle.syn_grammar.specs.Run.{Got, Refused, kind, reads};
 ghost use Rattle.syn_grammar.specs.Tree.{Tree, flat};
@@ -30,4 +31,8 @@ pub fn reading()
 pub fn keeping()
     ensures given { (k : Kind) (ts : List Token) (form : Tree) (rest : List Token) → kepts (kind k) ts ≡ Got form rest → IsRead k ts form rest }
     ensures none { (k : Kind) (ts : List Token) → kepts (kind k) ts ≡ Refused → NoneRead k ts }
+
+/// Normal form is settled: the normal form of a normal form is itself, of every tree, parentheses of expressions included.
+pub fn normal_twice()
+    ensures { (x : Tree) → normal (normal x) ≡ normal x }
 {}
