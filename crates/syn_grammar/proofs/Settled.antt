@@ -239,9 +239,13 @@ calm p ts us (Front k y x) c s =
     (s.0, refl, plain_right p k y x s.2, calm_right p ts us k x (calm (inside p k) ts us x c s.3))
 calm p ts us (Back l k y) c s =
     (s.0, refl, calm_takes p k ts us c s.2, plain_left p k y l s.3, calm p (follow (flat y)) (follow (flat y)) l (inr (refl, follow_calm (flat y))) s.4)
-calm p ts us (Infix l k y r) c s =
-    (s.0, plain_left p k y l s.1, calm p (follow (flat y)) (follow (flat y)) l (inr (refl, follow_calm (flat y))) s.2, plain_right p k y r s.3,
-    calm_right p ts us k r (calm (inside p k) ts us r c s.4))
+calm p ts us (Infix l k y r) c s = (
+  s.0,
+  plain_left p k y l s.1,
+  calm p (follow (flat y)) (follow (flat y)) l (inr (refl, follow_calm (flat y))) s.2,
+  plain_right p k y r s.3,
+  calm_right p ts us k r (calm (inside p k) ts us r c s.4),
+)
 calm p ts us _ c s = tt
 
 -- in parentheses it is settled everywhere

@@ -96,7 +96,6 @@ module _ (p : Tree → Bool) where
       let o : Tree = others_of p x in
       ap (those_then p (those_then p x o)) (those_others x o (others_none x)) ∙ those_again x o (others_none x)
 
-
 moved_at : (b : Bool) (w d : Tree) → is_absent w ≡ b → moved (cond b (Second (Pair d w)) (First (Pair w d))) ≡ cond b (Second (Pair d w)) (First (Pair w d))
 moved_at true w d e = refl
 moved_at false w d e = ap (λ b. cond b (Second (Pair d w)) (First (Pair w d))) e
@@ -104,7 +103,6 @@ moved_at false w d e = ap (λ b. cond b (Second (Pair d w)) (First (Pair w d))) 
 moved_twice : (x : Tree) → moved (moved x) ≡ moved x
 moved_twice (First (Pair w d)) = moved_at (is_absent w) w d refl
 moved_twice _ = refl
-
 
 -- a part that is changed twice
 cond_same : (b : Bool) (f : Tree → Tree) (x : Tree) → f (f x) ≡ f x → cond b (f (cond b (f x) x)) (cond b (f x) x) ≡ cond b (f x) x
@@ -224,7 +222,6 @@ module _ (q : Position) where
 
   removed_normal : (e : Tree → Bool) (x : Tree) → IsNormal q x → IsNormal q (removed_if e x)
   removed_normal e x n = normal_cond (e x) (Second Nil) x refl n
-
 
   without_normal : (x : Tree) → IsNormal q x → IsNormal q (without_generics x)
   unfolding passed
