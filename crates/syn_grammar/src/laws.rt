@@ -31,6 +31,7 @@ pub fn reading()
 pub fn keeping()
     ensures given { (k : Kind) (ts : List Token) (form : Tree) (rest : List Token) → kepts (kind k) ts ≡ Got form rest → IsRead k ts form rest }
     ensures none { (k : Kind) (ts : List Token) → kepts (kind k) ts ≡ Refused → NoneRead k ts }
+{}
 
 /// Normal form is settled: the normal form of a normal form is itself, of every tree, parentheses of expressions included.
 pub fn normal_twice()
