@@ -4,7 +4,8 @@ use Rattle.rust_lex.specs.Cover.{onto}
 use Rattle.rust_lex.specs.Piece.{Piece}
 use Rattle.rust_lex.proofs.OneCover.{one_cover}
 use Rattle.proc_macro2.specs.Token.{Spanned, plain}
-use Rattle.proc_macro2.specs.Pieces.{edged, tokens_of}
+use Rattle.proc_macro2.specs.Pieces.{edged}
+use Rattle.proc_macro2.proofs.Followed.{tokens_onto, forest_tokens}
 use Rattle.proc_macro2.specs.Forest.{IsForest}
 use Rattle.proc_macro2.proofs.Halts.{no_forest}
 use Rattle.proc_macro2.proofs.Total.{forest_or_fault}
@@ -28,12 +29,12 @@ elsewhere a b text ss f =
 pub forest_lies : (base : ℕ) (text : List ℕ) (ss : List Spanned) → IsForest base text ss → AllLie base (base + length text) (map edged ss)
 forest_lies base text ss f =
     let all : length text ≡ length (onto f.pieces []) = ap length f.cover.joined in
-    subst (AllLie base (base + length text)) f.tokens_are (tokens_lie base (base + length text) base f.pieces [] (omega arith) (omega arith))
+    subst (AllLie base (base + length text)) (forest_tokens base text ss f) (tokens_lie base (base + length text) base f.pieces [] (omega arith) (omega arith))
 
 -- and begin as far behind those of positions from 0 on
 pub forest_behind : (base : ℕ) (text : List ℕ) (ss ts : List Spanned) → IsForest base text ss → IsForest 0 text ts → AreBehind base (map edged ss) (map edged ts)
 forest_behind base text ss ts f g =
     let same : f.pieces ≡ g.pieces = one_cover text f.pieces g.pieces f.cover g.cover in
-    let behind : AreBehind base (tokens_of base f.pieces []) (tokens_of 0 f.pieces []) = tokens_behind base base 0 f.pieces [] (omega arith) in
-    let first : AreBehind base (map edged ss) (tokens_of 0 f.pieces []) = subst (λ xs. AreBehind base xs (tokens_of 0 f.pieces [])) f.tokens_are behind in
-    subst (λ ys. AreBehind base (map edged ss) ys) (ap (λ (ps : List Piece). tokens_of 0 ps []) same ∙ g.tokens_are) first
+    let behind : AreBehind base (tokens_onto base f.pieces []) (tokens_onto 0 f.pieces []) = tokens_behind base base 0 f.pieces [] (omega arith) in
+    let first : AreBehind base (map edged ss) (tokens_onto 0 f.pieces []) = subst (λ xs. AreBehind base xs (tokens_onto 0 f.pieces [])) (forest_tokens base text ss f) behind in
+    subst (λ ys. AreBehind base (map edged ss) ys) (ap (λ (ps : List Piece). tokens_onto 0 ps []) same ∙ forest_tokens 0 text ts g) first

@@ -13,7 +13,8 @@ use Rattle.rust_map.proofs.SpotLemmas.{held_by_spot, part_lies, same_span}
 use Rattle.rust_lex.specs.Cover.{onto}
 use Rattle.rust_lex.specs.Piece.{Piece}
 use Rattle.proc_macro2.specs.Token.{Token, Opens, Closes, Ident, Literal, Punct, Spanned}
-use Rattle.proc_macro2.specs.Pieces.{edge, edged, edged_at, span_at, piece_tokens, tokens_of}
+use Rattle.proc_macro2.specs.Pieces.{edge, edged, edged_at, span_at}
+use Rattle.proc_macro2.proofs.Followed.{tokens_before, tokens_onto}
 use Rattle.token_entries.specs.Entries.{spanned_entry, spanned_entries}
 use Rattle.token_entries.specs.declared.entry.Entry.{Entry}
 use Rattle.canon.specs.Causes.{IsHeld, held_place}
@@ -54,12 +55,12 @@ edges_lie low high p n [] l h = tt
 edges_lie low high p n (t ∷ ts) l h = (edge_lies low high p n t l h, edges_lie low high p n ts l h)
 
 -- the tokens of pieces lie where the pieces do
-pub tokens_lie : (low high p : ℕ) (ps : List Piece) (rest : List ℕ) → low ≤ p → p + length (onto ps []) ≤ high → AllLie low high (tokens_of p ps rest)
+pub tokens_lie : (low high p : ℕ) (ps : List Piece) (rest : List ℕ) → low ≤ p → p + length (onto ps []) ≤ high → AllLie low high (tokens_onto p ps rest)
 tokens_lie low high p [] rest l h = tt
 tokens_lie low high p (x ∷ ps) rest l h =
     let n : length (onto (x ∷ ps) []) ≡ length x.chars + length (onto ps []) = length-append x.chars (onto ps []) in
-    both_lie low high (edged_at (span_at p (length x.chars)) (piece_tokens x.kind x.chars (onto ps rest))) (tokens_of (p + length x.chars) ps rest)
-    (edges_lie low high p (length x.chars) (piece_tokens x.kind x.chars (onto ps rest)) l (omega arith))
+    both_lie low high (edged_at (span_at p (length x.chars)) (tokens_before x.kind x.chars (onto ps rest))) (tokens_onto (p + length x.chars) ps rest)
+    (edges_lie low high p (length x.chars) (tokens_before x.kind x.chars (onto ps rest)) l (omega arith))
     (tokens_lie low high (p + length x.chars) ps rest (omega arith) (omega arith))
 
 -- tokens that begin so many positions behind others
@@ -98,12 +99,12 @@ edges_behind base p q n [] e = tt
 edges_behind base p q n (t ∷ ts) e = (edge_behind base p q n t e, edges_behind base p q n ts e)
 
 -- the tokens of pieces that stand so many positions further on
-pub tokens_behind : (base p q : ℕ) (ps : List Piece) (rest : List ℕ) → p ≡ base + q → AreBehind base (tokens_of p ps rest) (tokens_of q ps rest)
+pub tokens_behind : (base p q : ℕ) (ps : List Piece) (rest : List ℕ) → p ≡ base + q → AreBehind base (tokens_onto p ps rest) (tokens_onto q ps rest)
 tokens_behind base p q [] rest e = tt
 tokens_behind base p q (x ∷ ps) rest e =
-    let ts : List Token = piece_tokens x.kind x.chars (onto ps rest) in
+    let ts : List Token = tokens_before x.kind x.chars (onto ps rest) in
     let n : ℕ = length x.chars in
-    both_behind base (edged_at (span_at p n) ts) (edged_at (span_at q n) ts) (tokens_of (p + n) ps rest) (tokens_of (q + n) ps rest)
+    both_behind base (edged_at (span_at p n) ts) (edged_at (span_at q n) ts) (tokens_onto (p + n) ps rest) (tokens_onto (q + n) ps rest)
     (edges_behind base p q n ts e)
     (tokens_behind base (p + n) (q + n) ps rest (omega arith))
 

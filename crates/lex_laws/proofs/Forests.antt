@@ -17,14 +17,15 @@ use Rattle.proc_macro2.specs.declared.delimiter.Delimiter.{Delimiter}
 use Rattle.proc_macro2.specs.Token.{Token, Spanned, plain}
 use Rattle.proc_macro2.specs.Groups.{same_delimiter, groups_behind, groups_open, IsMatched}
 use Rattle.proc_macro2.specs.Groups as groups
-use Rattle.proc_macro2.specs.Pieces.{piece_tokens, doc_marks, doc_group, doc_text, delimiter_of, edged, tokens_of}
+use Rattle.proc_macro2.specs.Pieces.{doc_marks, doc_group, doc_text, delimiter_of, edged}
+use Rattle.proc_macro2.proofs.Followed.{tokens_before, tokens_onto}
 use Rattle.proc_macro2.specs.Forest.{IsForest, Opening, closed, open_behind, openings, count, IsStray, IsUnmatched, IsUnclosed, IsFaultBehind}
 use Rattle.proc_macro2.specs.Printed.{text}
 use Rattle.proc_macro2.specs.Spacing.{IsWellSpaced}
 use Rattle.proc_macro2.specs.Leaf.{AreLeaves}
 use Rattle.rust_leaf.specs.Leaf.{AreCharacters}
 use Rattle.lex_laws.specs.Read.{IsReadAs}
-use Rattle.lex_laws.proofs.Plain.{plain_of, plain_tokens, one_reading}
+use Rattle.lex_laws.proofs.Plain.{plain_of, plain_tokens, cover_tokens, one_reading}
 use Rattle.lex_laws.proofs.Printing.{reads_back}
 use Rattle.lex_laws.proofs.Reading.{is_spaced}
 use Rattle.lex_laws.proofs.ReadLeaves.{are_leaves}
@@ -41,7 +42,7 @@ pub forest_read : (base : ℕ) (text : List ℕ) (stream : List Spanned) → IsF
 forest_read base text stream f = record {
   pieces = f.pieces;
   cover = f.cover;
-  tokens_are = plain_tokens 0 f.pieces [] ∙ sym (plain_tokens base f.pieces []) ∙ ap plain f.tokens_are ∙ plain_edges stream;
+  tokens_are = cover_tokens 0 text f.pieces f.cover ∙ sym (cover_tokens base text f.pieces f.cover) ∙ ap plain f.tokens_are ∙ plain_edges stream;
 }
 
 -- the groups that are open behind tokens, their places aside
@@ -86,7 +87,7 @@ open_same os n (p ∷ ps) rest = behind p.kind p.chars (λ qs m. open_same qs m 
     past_closing (Some qs) m on = on qs m
 
     behind : (k : PieceKind) (cs : List ℕ) → ((qs : List Opening) (m : ℕ) → open_of (delimiters qs) (plain_of ps rest) ≡ delimiters_in (openings qs m ps))
-        → open_of (delimiters os) (piece_tokens k cs (onto ps rest) ++ plain_of ps rest) ≡ delimiters_in (option_and_then (λ qs. openings qs (n + length cs) ps) (open_behind os k n))
+        → open_of (delimiters os) (tokens_before k cs (onto ps rest) ++ plain_of ps rest) ≡ delimiters_in (option_and_then (λ qs. openings qs (n + length cs) ps) (open_behind os k n))
     behind FrontMark cs on = on os (n + length cs)
     behind White cs on = on os (n + length cs)
     behind Comment cs on = on os (n + length cs)
@@ -160,7 +161,7 @@ open_on os n (q ∷ qs) others gs e = on (open_behind os q.kind n) (λ es h. ope
     on (Some es) more e h = let k = more es e in record { at = k.at; same = ap (option_and_then (λ es. openings es (n + length q.chars) (qs ++ others))) h ∙ k.same }
 
 -- matched tokens leave no group open, and close none that isn't open
-matched_open : (ps : List Piece) (stream : List Spanned) → plain (tokens_of 0 ps []) ≡ plain stream → IsMatched stream → delimiters_in (openings [] 0 ps) ≡ Some []
+matched_open : (ps : List Piece) (stream : List Spanned) → plain (tokens_onto 0 ps []) ≡ plain stream → IsMatched stream → delimiters_in (openings [] 0 ps) ≡ Some []
 matched_open ps stream e m = sym (open_same [] 0 ps []) ∙ ap (open_of []) (sym (plain_tokens 0 ps []) ∙ e) ∙ sym (open_plain [] stream) ∙ m
 
 close_at : (at : ℕ) (d : LexDelimiter) (rest : List ℕ) → FitsAt at (Close d) (closing d ∷ []) rest
@@ -202,7 +203,7 @@ no_unclosed text ps n c m f =
 -- a text that is read as matched tokens has no lexical fault
 pub no_fault : (text : List ℕ) (stream : List Spanned) (n : ℕ) → IsReadAs text (plain stream) → IsMatched stream → IsFaultBehind text n → ⊥
 no_fault text stream n r m f =
-    let opened = matched_open r.pieces stream r.tokens_are m in
+    let opened = matched_open r.pieces stream (plain_tokens 0 r.pieces [] ∙ sym (cover_tokens 0 text r.pieces r.cover) ∙ r.tokens_are) m in
     ⊎_elim (λ s. no_stray text r.pieces n r.cover s)
     (λ f. ⊎_elim (λ u. no_unmatched text r.pieces n r.cover opened u) (λ u. no_unclosed text r.pieces n r.cover opened u) f)
     f

@@ -6,7 +6,8 @@ use Rattle.rust_lex.specs.Chars.{is_mark, begins, is_slash_or_star, marks, is_am
 use Rattle.rust_escape.specs.declared.mode.Mode.TheVariants as modes
 use Rattle.rust_lex.specs.QuotedScan.{past_char}
 use Rattle.rust_lex.specs.Word.{begins_lifetime}
-use Rattle.rust_lex.specs.Piece.{begins_mark, begins_char, is_joint}
+use Rattle.rust_lex.specs.Piece.{begins_mark}
+use Rattle.rust_lex.specs.Scan.{begins_char, is_joint}
 use Rattle.rust_leaf.specs.Mark.{is_mark as is_punctuation}
 use Rattle.rust_lex.proofs.Fronts.{among_each}
 use Rattle.rust_lex.specs.Calm.{calm, IsCalm}

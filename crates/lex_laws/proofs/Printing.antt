@@ -15,14 +15,16 @@ use Rattle.rust_lex.specs.declared.piece.PieceKind.TheVariants.{White, Open, Clo
 use Rattle.rust_lex.specs.declared.piece.PieceKind.TheVariants as kinds
 use Rattle.rust_lex.specs.Quoted.{opening_of, IsTail}
 use Rattle.rust_lex.specs.Word.{begins_lifetime}
-use Rattle.rust_lex.specs.Piece.{Piece, Fits, begins_mark, begins_char, is_joint}
-use Rattle.rust_lex.specs.Cover.{onto, AreFit, AreFitFront}
+use Rattle.rust_lex.specs.Piece.{Piece, Fits, begins_mark}
+use Rattle.rust_lex.specs.Scan.{begins_char, is_joint}
+use Rattle.rust_lex.specs.Cover.{onto, AreFit, AreFitFront, IsCover}
 use Rattle.rust_lex.proofs.Sound.{front_fits}
 use Rattle.rust_lex.proofs.Units.{single_whole}
 use Rattle.rust_lex.specs.Chars.{is_white}
 use Rattle.proc_macro2.specs.declared.delimiter.Delimiter.TheVariants as delimiter
 use Rattle.proc_macro2.specs.Token.{Token, Opens, Closes, Ident, Literal, Punct}
-use Rattle.proc_macro2.specs.Pieces.{piece_tokens, spacing_of}
+use Rattle.proc_macro2.specs.Pieces.{spacing_of}
+use Rattle.proc_macro2.proofs.Followed.{tokens_before}
 use Rattle.proc_macro2.specs.Printed.{shown, hugs, is_hugged, opens_brace, closes_brace, is_apart, space, text}
 use Rattle.proc_macro2.specs.Spacing.{is_character, follows_quote, follows_mark, may_stand, IsWellSpaced}
 use Rattle.rust_lex.specs.Calm.{IsCalm}
@@ -32,7 +34,7 @@ use Rattle.lex_laws.specs.Read.{IsReadAs}
 use Rattle.rust_lex.proofs.Alone.{ident_calm, literal_calm}
 use Rattle.lex_laws.proofs.Marks.{mark_or_quote, mark_before, quote_before, mark_calm, alone_calm, joint_mark, joint_char}
 use Rattle.lex_laws.proofs.Lifetimes.{lifetime_word, lifetime_string}
-use Rattle.lex_laws.proofs.Plain.{plain_of, plain_tokens}
+use Rattle.lex_laws.proofs.Plain.{plain_of, cover_tokens}
 
 -- whether a space stands behind a token, and what is printed there
 abbrev apart : Token → List Token → Bool
@@ -163,7 +165,7 @@ sign_spacing c Joint ts m a w =
 record Stands (t : Token) (rest : List ℕ) : Type 0 where
   kind : PieceKind
   fits : Fits kind (shown t) rest
-  tokens_are : piece_tokens kind (shown t) rest ≡ t ∷ []
+  tokens_are : tokens_before kind (shown t) rest ≡ t ∷ []
 
 stands : (t : Token) (ts : List Token) → IsLeaf t → IsTrue (may_stand t ts) → AreLeaves ts → IsWellSpaced ts → Stands t (behind t ts)
 stands (Opens delimiter.Parenthesis) ts h m a w = record { kind = Open lex.Parenthesis; fits = refl; tokens_are = refl }
@@ -201,7 +203,7 @@ laid_on t ts rest s l = record {
   pieces = piece s.kind (shown t) ∷ l.pieces;
   joined = ap (λ r. shown t ++ r) l.joined;
   fit = (subst (λ r. Fits s.kind (shown t) r) (sym l.joined) s.fits, l.fit);
-  tokens_are = ap₂ (λ x y. x ++ y) (ap (piece_tokens s.kind (shown t)) l.joined ∙ s.tokens_are) l.tokens_are;
+  tokens_are = ap₂ (λ x y. x ++ y) (ap (tokens_before s.kind (shown t)) l.joined ∙ s.tokens_are) l.tokens_are;
 }
 
 laid : (ts : List Token) → AreLeaves ts → IsWellSpaced ts → Laid ts (text ts)
@@ -218,4 +220,5 @@ at_front (p ∷ ps) f = (front_fits p.kind p.chars (onto ps []) f.0, f.1)
 pub reads_back : (ts : List Token) → AreLeaves ts → IsWellSpaced ts → IsReadAs (text ts) ts
 reads_back ts a w =
     let l = laid ts a w in
-    record { pieces = l.pieces; cover = record { joined = sym l.joined; fit = at_front l.pieces l.fit }; tokens_are = plain_tokens 0 l.pieces [] ∙ l.tokens_are }
+    let cover : IsCover (text ts) l.pieces = record { joined = sym l.joined; fit = at_front l.pieces l.fit } in
+    record { pieces = l.pieces; cover = cover; tokens_are = cover_tokens 0 (text ts) l.pieces cover ∙ l.tokens_are }

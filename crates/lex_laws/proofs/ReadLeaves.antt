@@ -15,13 +15,14 @@ use Rattle.rust_lex.specs.Quoted.{opener_of}
 use Rattle.rust_lex.specs.Piece.{Piece, Fits, FitsFront, IsIdent}
 use Rattle.rust_lex.specs.Cover.{onto, AreFit, AreFitFront}
 use Rattle.proc_macro2.specs.Token.{Token}
-use Rattle.proc_macro2.specs.Pieces.{piece_tokens, doc_text, doc_marks, doc_group, head}
+use Rattle.proc_macro2.specs.Pieces.{doc_text, doc_marks, doc_group, head}
+use Rattle.proc_macro2.proofs.Followed.{tokens_before}
 use Rattle.proc_macro2.specs.Leaf.{AreLeaves}
 use Rattle.lex_laws.specs.Read.{IsReadAs}
 use Rattle.rust_lex.proofs.Alone.{ident_calm, literal_calm}
 use Rattle.lex_laws.proofs.Marks.{begun_is}
 use Rattle.rust_leaf.proofs.WrittenLiterals.{string_literal}
-use Rattle.lex_laws.proofs.Plain.{plain_of, plain_tokens}
+use Rattle.lex_laws.proofs.Plain.{plain_of, cover_tokens}
 
 scalars_front : (cs rest : List ℕ) → scalars (cs ++ rest) ≡ true → scalars cs ≡ true
 scalars_front [] rest h = refl
@@ -60,7 +61,7 @@ doc_leaves doc.InnerLine text ts h a = (hash-mark, (bang-mark, (tt, (doc-word, (
 doc_leaves doc.OuterBlock text ts h a = (hash-mark, (tt, (doc-word, (equals-mark, (string_literal text h, (tt, a))))))
 doc_leaves doc.InnerBlock text ts h a = (hash-mark, (bang-mark, (tt, (doc-word, (equals-mark, (string_literal text h, (tt, a)))))))
 
-with_front : (rest : List ℕ) (ts : List Token) → AreLeaves ts → (k : PieceKind) (cs : List ℕ) → scalars cs ≡ true → Fits k cs rest → AreLeaves (piece_tokens k cs rest ++ ts)
+with_front : (rest : List ℕ) (ts : List Token) → AreLeaves ts → (k : PieceKind) (cs : List ℕ) → scalars cs ≡ true → Fits k cs rest → AreLeaves (tokens_before k cs rest ++ ts)
 with_front rest ts a FrontMark cs s h = a
 with_front rest ts a White cs s h = a
 with_front rest ts a Comment cs s h = a
@@ -83,7 +84,7 @@ front_leaves (p ∷ ps) s f = at_front p.kind p.chars (scalars_front p.chars (on
     others : AreLeaves (plain_of ps [])
     others = read_leaves ps (scalars_back p.chars (onto ps []) s) f.1
 
-    at_front : (k : PieceKind) (cs : List ℕ) → scalars cs ≡ true → FitsFront k cs (onto ps []) → AreLeaves (piece_tokens k cs (onto ps []) ++ plain_of ps [])
+    at_front : (k : PieceKind) (cs : List ℕ) → scalars cs ≡ true → FitsFront k cs (onto ps []) → AreLeaves (tokens_before k cs (onto ps []) ++ plain_of ps [])
     at_front FrontMark cs t h = others
     at_front White cs t h = others
     at_front Comment cs t h = others
@@ -96,5 +97,5 @@ front_leaves (p ∷ ps) s f = at_front p.kind p.chars (scalars_front p.chars (on
 
 pub are_leaves : (text : List ℕ) (ts : List Token) → scalars text ≡ true → IsReadAs text ts → AreLeaves ts
 are_leaves text ts s r =
-    subst AreLeaves (sym (plain_tokens 0 r.pieces []) ∙ r.tokens_are)
+    subst AreLeaves (sym (cover_tokens 0 text r.pieces r.cover) ∙ r.tokens_are)
     (front_leaves r.pieces (ap scalars (sym r.cover.joined) ∙ s) r.cover.fit)

@@ -1,9 +1,8 @@
 -- What is read of a text is well spaced.
 use Rattle.std.proofs.Common.{◌≡◌, ℕ, List, [], ◌∷◌, ◌++◌, append_assoc, refl, sym, ap, ◌∙◌, subst, ⊎_elim}
-use Rattle.std.specs.Prelude.{Bool, true, false, not, ◌⊎◌, ◌&&◌, ◌==◌, is_some, None, IsTrue}
+use Rattle.std.specs.Prelude.{Bool, true, false, not, ◌⊎◌, ◌&&◌, ◌==◌, is_some, IsTrue}
 use Rattle.std.proofs.lemmas.Bool.{and_parts, cases_Bool, eqb-true, or_cases, not-true}
 use Rattle.rust_lex.specs.Chars.{is_mark, is_digit, begins, is_slash_or_star}
-use Rattle.rust_lex.specs.Ends.{past_suffix}
 use Rattle.rust_lex.specs.declared.delimiter.Delimiter.{Delimiter as LexDelimiter}
 use Rattle.rust_lex.specs.declared.delimiter.Delimiter.TheVariants as lex
 use Rattle.rust_escape.specs.declared.mode.Mode.{Mode}
@@ -18,48 +17,19 @@ use Rattle.rust_lex.specs.declared.piece.PieceKind.TheVariants as kinds
 use Rattle.rust_lex.specs.Quoted.{opening_of}
 use Rattle.rust_lex.specs.QuotedScan.{past_char}
 use Rattle.rust_lex.specs.Word.{begins_lifetime}
-use Rattle.rust_lex.specs.Piece.{Piece, Fits, FitsFront, IsLiteral, begins_mark, begins_char, is_joint}
+use Rattle.rust_lex.specs.Piece.{Piece, Fits, FitsFront, IsLiteral, begins_mark}
 use Rattle.rust_lex.specs.Cover.{onto, AreFit, AreFitFront}
-use Rattle.rust_lex.specs.Scan.{Ends, scan, ticked}
-use Rattle.rust_lex.proofs.Complete.{complete, mark_scanned}
-use Rattle.rust_lex.proofs.Fronts.{front-tick}
+use Rattle.rust_lex.specs.Scan.{begins_char, is_joint}
+use Rattle.rust_lex.proofs.Joints.{mark_kind, char_kind}
 use Rattle.rust_lex.proofs.Scans.{tick_no_mark}
-use Rattle.rust_lex.proofs.Sound.{ticked_some}
-use Rattle.rust_lex.proofs.Taken.{option_cases}
 use Rattle.proc_macro2.specs.Token.{Token, Punct, Alone, Joint}
-use Rattle.proc_macro2.specs.Pieces.{piece_tokens, doc_text, doc_marks, doc_group, delimiter_of, spacing_of, head}
+use Rattle.proc_macro2.specs.Pieces.{doc_text, doc_marks, doc_group, delimiter_of, spacing_of, head}
+use Rattle.proc_macro2.proofs.Followed.{tokens_before}
 use Rattle.proc_macro2.specs.Spacing.{is_character, is_visible, begin_comment, follows_quote, follows_mark, may_stand, IsWellSpaced}
 use Rattle.lex_laws.specs.Read.{IsReadAs}
 use Rattle.lex_laws.proofs.Lifetimes.{lifetime_kind, lifetime_literal}
 use Rattle.lex_laws.proofs.Marks.{joint_mark, joint_char, alone_before}
-use Rattle.lex_laws.proofs.Plain.{plain_of, plain_tokens}
-
--- where a text begins with a mark, so does its first piece
-mark_kind : (k : PieceKind) (cs rest : List ℕ) → Fits k cs rest → begins_mark (cs ++ rest) ≡ true → k ≡ Mark
-mark_kind k cs rest f h = at_text (cs ++ rest) (complete k cs rest f) h
-  where
-    at_text : (text : List ℕ) → scan text ≡ Ends k rest → begins_mark text ≡ true → k ≡ Mark
-    at_text [] e h = cc
-    at_text (c ∷ ds) e h = let m = mark_scanned c ds h in cc
-
--- and where it begins with a character literal
-scan_tick : (cs : List ℕ) → scan (39 ∷ cs) ≡ ticked cs
-scan_tick cs = rw front-tick refl
-
-char_scanned : (c : ℕ) (cs : List ℕ) → begins_char (c ∷ cs) ≡ true → (rest : List ℕ) × (scan (c ∷ cs) ≡ Ends (kinds.Literal Char) rest)
-char_scanned c cs h =
-    let (q, s) = and_parts (c == 39) (is_some (past_char modes.Char cs)) h in
-    ⊎_elim
-    (λ n. let k : is_some {T = List ℕ} None ≡ true = subst (λ o. is_some {T = List ℕ} o ≡ true) n s in cc)
-    (λ (r, e). (past_suffix r, ap (λ d. scan (d ∷ cs)) (eqb-true c 39 q) ∙ scan_tick cs ∙ ticked_some cs r e))
-    (option_cases (past_char modes.Char cs))
-
-char_kind : (k : PieceKind) (cs rest : List ℕ) → Fits k cs rest → begins_char (cs ++ rest) ≡ true → k ≡ kinds.Literal Char
-char_kind k cs rest f h = at_text (cs ++ rest) (complete k cs rest f) h
-  where
-    at_text : (text : List ℕ) → scan text ≡ Ends k rest → begins_char text ≡ true → k ≡ kinds.Literal Char
-    at_text [] e h = cc
-    at_text (c ∷ ds) e h = let (r, m) = char_scanned c ds h in cc
+use Rattle.lex_laws.proofs.Plain.{plain_of, cover_tokens}
 
 opening_more : (o : Mode) (inside rest : List ℕ) → is_character ((opening_of o ++ inside) ++ rest) ≡ is_character (opening_of o ++ inside)
 opening_more modes.Char inside rest = refl
@@ -97,7 +67,7 @@ quote_tokens [] f h = let n = nothing_lives in cc
 quote_tokens (p ∷ ps) f h =
     at_front p.kind p.chars f.0 h (lifetime_kind p.kind p.chars (onto ps []) f.0 h)
   where
-    at_front : (k : PieceKind) (cs : List ℕ) → Fits k cs (onto ps []) → begins_lifetime (cs ++ onto ps []) ≡ true → (k ≡ kinds.Ident) ⊎ ((l : LiteralKind) × (k ≡ kinds.Literal l)) → follows_quote (piece_tokens k cs (onto ps []) ++ plain_of ps []) ≡ true
+    at_front : (k : PieceKind) (cs : List ℕ) → Fits k cs (onto ps []) → begins_lifetime (cs ++ onto ps []) ≡ true → (k ≡ kinds.Ident) ⊎ ((l : LiteralKind) × (k ≡ kinds.Literal l)) → follows_quote (tokens_before k cs (onto ps []) ++ plain_of ps []) ≡ true
     at_front kinds.Ident cs f h e = refl
     at_front (kinds.Literal kind) cs f h e = lifetime_literal kind cs (onto ps []) f h
     at_front k cs f h e = ⊎_elim (λ e. cc) (λ (l, e). cc) e
@@ -115,7 +85,7 @@ mark_tokens c [] f q m h = cc
 mark_tokens c (p ∷ ps) f q m h =
     at_front p.kind p.chars f.0 m h (mark_kind p.kind p.chars (onto ps []) f.0 h)
   where
-    at_front : (k : PieceKind) (cs : List ℕ) → Fits k cs (onto ps []) → begins_mark (c ∷ (cs ++ onto ps [])) ≡ true → begins_mark (cs ++ onto ps []) ≡ true → k ≡ Mark → follows_mark c (piece_tokens k cs (onto ps []) ++ plain_of ps []) ≡ true
+    at_front : (k : PieceKind) (cs : List ℕ) → Fits k cs (onto ps []) → begins_mark (c ∷ (cs ++ onto ps [])) ≡ true → begins_mark (cs ++ onto ps []) ≡ true → k ≡ Mark → follows_mark c (tokens_before k cs (onto ps []) ++ plain_of ps []) ≡ true
     at_front Mark cs (d, e, _) m h s =
         let b : begins_mark (c ∷ (d ∷ onto ps [])) ≡ true = subst (λ x. begins_mark (c ∷ (x ++ onto ps [])) ≡ true) e m in
         ap not (ap (λ x. begin_comment c (head x)) e ∙ begun_comment c d (onto ps []) q b)
@@ -126,7 +96,7 @@ char_tokens c [] f h = cc
 char_tokens c (p ∷ ps) f h =
     at_front p.kind p.chars f.0 h (char_kind p.kind p.chars (onto ps []) f.0 h)
   where
-    at_front : (k : PieceKind) (cs : List ℕ) → Fits k cs (onto ps []) → begins_char (cs ++ onto ps []) ≡ true → k ≡ kinds.Literal Char → follows_mark c (piece_tokens k cs (onto ps []) ++ plain_of ps []) ≡ true
+    at_front : (k : PieceKind) (cs : List ℕ) → Fits k cs (onto ps []) → begins_char (cs ++ onto ps []) ≡ true → k ≡ kinds.Literal Char → follows_mark c (tokens_before k cs (onto ps []) ++ plain_of ps []) ≡ true
     at_front (kinds.Literal kind) cs f h s = sym (literal_more kind cs (onto ps []) f) ∙ char_begins (cs ++ onto ps []) h
     at_front k cs f h s = cc
 
@@ -176,14 +146,14 @@ doc_spaced doc.InnerLine text ts w = (refl, (refl, (refl, (refl, (refl, (refl, (
 doc_spaced doc.OuterBlock text ts w = (refl, (refl, (refl, (refl, (refl, (refl, w))))))
 doc_spaced doc.InnerBlock text ts w = (refl, (refl, (refl, (refl, (refl, (refl, (refl, w)))))))
 
-with_front : (ps : List Piece) → AreFit ps [] → IsWellSpaced (plain_of ps []) → (k : PieceKind) (cs : List ℕ) → Fits k cs (onto ps []) → IsWellSpaced (piece_tokens k cs (onto ps []) ++ plain_of ps [])
+with_front : (ps : List Piece) → AreFit ps [] → IsWellSpaced (plain_of ps []) → (k : PieceKind) (cs : List ℕ) → Fits k cs (onto ps []) → IsWellSpaced (tokens_before k cs (onto ps []) ++ plain_of ps [])
 with_front ps f w FrontMark cs h = w
 with_front ps f w White cs h = w
 with_front ps f w Comment cs h = w
 with_front ps f w (Doc kind) cs h = doc_spaced kind (doc_text kind cs) (plain_of ps []) w
 with_front ps f w (Open d) cs h = (visible d, w)
 with_front ps f w (Close d) cs h = (visible d, w)
-with_front ps f w Mark cs (c, e, m) = subst (λ x. IsWellSpaced (piece_tokens Mark x (onto ps []) ++ plain_of ps [])) (sym e) (sign_stands c ps f m, w)
+with_front ps f w Mark cs (c, e, m) = subst (λ x. IsWellSpaced (tokens_before Mark x (onto ps []) ++ plain_of ps [])) (sym e) (sign_stands c ps f m, w)
 with_front ps f w kinds.Ident cs h = (refl, w)
 with_front ps f w (kinds.Literal kind) cs h = (refl, w)
 
@@ -195,7 +165,7 @@ front_spaced : (ps : List Piece) → AreFitFront ps [] → IsWellSpaced (plain_o
 front_spaced [] f = tt
 front_spaced (p ∷ ps) f = at_front p.kind p.chars f.0
   where
-    at_front : (k : PieceKind) (cs : List ℕ) → FitsFront k cs (onto ps []) → IsWellSpaced (piece_tokens k cs (onto ps []) ++ plain_of ps [])
+    at_front : (k : PieceKind) (cs : List ℕ) → FitsFront k cs (onto ps []) → IsWellSpaced (tokens_before k cs (onto ps []) ++ plain_of ps [])
     at_front FrontMark cs h = read_spaced ps f.1
     at_front White cs h = with_front ps f.1 (read_spaced ps f.1) White cs h
     at_front Comment cs h = with_front ps f.1 (read_spaced ps f.1) Comment cs h
@@ -207,4 +177,4 @@ front_spaced (p ∷ ps) f = at_front p.kind p.chars f.0
     at_front (kinds.Literal kind) cs h = with_front ps f.1 (read_spaced ps f.1) (kinds.Literal kind) cs h
 
 pub is_spaced : (text : List ℕ) (ts : List Token) → IsReadAs text ts → IsWellSpaced ts
-is_spaced text ts r = subst IsWellSpaced (sym (plain_tokens 0 r.pieces []) ∙ r.tokens_are) (front_spaced r.pieces r.cover.fit)
+is_spaced text ts r = subst IsWellSpaced (sym (cover_tokens 0 text r.pieces r.cover) ∙ r.tokens_are) (front_spaced r.pieces r.cover.fit)

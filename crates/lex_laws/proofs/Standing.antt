@@ -9,7 +9,8 @@ use Rattle.std.proofs.lemmas.List.Kept.{AllPairs-cons}
 use Rattle.rust_lex.specs.Comment.{IsDoc}
 use Rattle.rust_lex.specs.Cover.{AreFit, AreFitFront, onto}
 use Rattle.rust_lex.specs.Piece as piece
-use Rattle.rust_lex.specs.Piece.{Fits, FitsFront, Piece, is_joint}
+use Rattle.rust_lex.specs.Piece.{Fits, FitsFront, Piece}
+use Rattle.rust_lex.specs.Scan.{is_joint}
 use Rattle.rust_lex.specs.declared.delimiter.Delimiter.{Delimiter as LexDelimiter}
 use Rattle.rust_lex.specs.declared.delimiter.Delimiter.TheVariants as lex
 use Rattle.rust_lex.specs.declared.piece.PieceKind.{PieceKind}
@@ -22,7 +23,8 @@ use Rattle.rust_map.specs.declared.span.Span.{Span}
 use Rattle.proc_macro2.specs.Flat.{spanned}
 use Rattle.proc_macro2.specs.Forest.{IsForest}
 use Rattle.proc_macro2.specs.Groups.{groups_open, same_delimiter}
-use Rattle.proc_macro2.specs.Pieces.{all_at, delimiter_of, doc_group, doc_marks, doc_text, edge, edged, head, spacing_of, span_at, tokens_of}
+use Rattle.proc_macro2.specs.Pieces.{all_at, delimiter_of, doc_group, doc_marks, doc_text, edge, edged, head, spacing_of, span_at}
+use Rattle.proc_macro2.proofs.Followed.{tokens_onto, forest_tokens}
 use Rattle.proc_macro2.specs.Printed.{closing, opening}
 use Rattle.proc_macro2.specs.declared.delimiter.Delimiter.{Delimiter}
 use Rattle.proc_macro2.specs.Token.{Token, Opens, Closes, Ident, Literal, Punct, Spanned}
@@ -264,7 +266,7 @@ close_group m text front rest d after (x ∷ xs) (g ∷ ds) stream positive join
 
 -- the tokens of the pieces behind the front of a text
 walk : (m : Sources) (text front : List ℕ) (ps : List Piece) (xs : List Span) (ds : List Delimiter) (stream : List Spanned) → 1 ≤ m.start → text ≡ front ++ onto ps [] → AreMade ps
-    → IsStream (tokens_of (next_position m + length front) ps []) xs ds stream → AreBegun (next_position m) front xs ds → Stands m text front xs ds stream
+    → IsStream (tokens_onto (next_position m + length front) ps []) xs ds stream → AreBegun (next_position m) front xs ds → Stands m text front xs ds stream
 walk m text front [] xs ds stream positive joined are r b = empty stream r
   where
     empty : (stream : List Spanned) → IsStream [] xs ds stream → Stands m text front xs ds stream
@@ -278,14 +280,14 @@ walk m text front [] xs ds stream positive joined are r b = empty stream r
 walk m text front (p ∷ ps) xs ds stream positive joined are r b =
     by p.kind p.chars joined are.0 r (λ ys es others q c. walk m text (front ++ p.chars) ps ys es others positive (joined ∙ sym (append_assoc front p.chars (onto ps []))) are.1 (moved p.chars ys es others q) c)
   where
-    moved : (cs : List ℕ) (ys : List Span) (es : List Delimiter) (others : List Spanned) → IsStream (tokens_of (next_position m + length front + length cs) ps []) ys es others → IsStream (tokens_of (next_position m + length (front ++ cs)) ps []) ys es others
+    moved : (cs : List ℕ) (ys : List Span) (es : List Delimiter) (others : List Spanned) → IsStream (tokens_onto (next_position m + length front + length cs) ps []) ys es others → IsStream (tokens_onto (next_position m + length (front ++ cs)) ps []) ys es others
     moved cs ys es others q =
         let k : next_position m + length (front ++ cs) ≡ next_position m + length front + length cs = let l = length-append front cs in omega arith in
-        record { tokens_are = ap (λ i. tokens_of i ps []) k ∙ q.tokens_are; paired = q.paired; opened = q.opened }
+        record { tokens_are = ap (λ i. tokens_onto i ps []) k ∙ q.tokens_are; paired = q.paired; opened = q.opened }
 
     by : (k : PieceKind) (cs : List ℕ) → text ≡ front ++ (cs ++ onto ps []) → IsMade k cs (onto ps [])
-        → IsStream (tokens_of (next_position m + length front) (record { kind = k; chars = cs } ∷ ps) []) xs ds stream
-        → ((ys : List Span) (es : List Delimiter) (others : List Spanned) → IsStream (tokens_of (next_position m + length front + length cs) ps []) ys es others → AreBegun (next_position m) (front ++ cs) ys es → Stands m text (front ++ cs) ys es others)
+        → IsStream (tokens_onto (next_position m + length front) (record { kind = k; chars = cs } ∷ ps) []) xs ds stream
+        → ((ys : List Span) (es : List Delimiter) (others : List Spanned) → IsStream (tokens_onto (next_position m + length front + length cs) ps []) ys es others → AreBegun (next_position m) (front ++ cs) ys es → Stands m text (front ++ cs) ys es others)
         → Stands m text front xs ds stream
     by FrontMark cs j is r next = gap m text front cs xs ds stream (next xs ds stream r (begun_on (next_position m) front cs xs ds b))
     by White cs j is r next = gap m text front cs xs ds stream (next xs ds stream r (begun_on (next_position m) front cs xs ds b))
@@ -293,32 +295,32 @@ walk m text front (p ∷ ps) xs ds stream positive joined are r b =
     by (Doc kind) cs j is r next =
         let span = span_at (next_position m + length front) (length cs) in
         let ts = doc_marks kind ++ doc_group (doc_text kind cs) in
-        let f = doc_tokens kind (doc_text kind cs) span (tokens_of (next_position m + length front + length cs) ps []) xs ds stream r in
+        let f = doc_tokens kind (doc_text kind cs) span (tokens_onto (next_position m + length front + length cs) ps []) xs ds stream r in
         let each = All-weaker (Contains ts) (λ t. IsOfDoc t cs) (λ t c. record { kind = kind; rest = onto ps []; doc = is; among = c }) ts (All-contains_itself ts) in
         let source = found_at m text front cs (onto ps []) span positive j refl in
         subst (λ s. Stands m text front xs ds s) (sym f.is) (docs m text front cs ts span xs ds f.others source refl each (next xs ds f.others f.reading (begun_on (next_position m) front cs xs ds b)))
     by (Open d) cs j is r next =
-        open_group m text front (onto ps []) d (tokens_of (next_position m + length front + 1) ps []) xs ds stream positive
-        (subst (λ o. IsStream (tokens_of (next_position m + length front) (record { kind = Open d; chars = o } ∷ ps) []) xs ds stream) is r) b
-        (subst (λ o. (ys : List Span) (es : List Delimiter) (others : List Spanned) → IsStream (tokens_of (next_position m + length front + length o) ps []) ys es others → AreBegun (next_position m) (front ++ o) ys es → Stands m text (front ++ o) ys es others) is next)
+        open_group m text front (onto ps []) d (tokens_onto (next_position m + length front + 1) ps []) xs ds stream positive
+        (subst (λ o. IsStream (tokens_onto (next_position m + length front) (record { kind = Open d; chars = o } ∷ ps) []) xs ds stream) is r) b
+        (subst (λ o. (ys : List Span) (es : List Delimiter) (others : List Spanned) → IsStream (tokens_onto (next_position m + length front + length o) ps []) ys es others → AreBegun (next_position m) (front ++ o) ys es → Stands m text (front ++ o) ys es others) is next)
     by (Close d) cs j is r next =
-        close_group m text front (onto ps []) d (tokens_of (next_position m + length front + 1) ps []) xs ds stream positive
+        close_group m text front (onto ps []) d (tokens_onto (next_position m + length front + 1) ps []) xs ds stream positive
         (subst (λ o. text ≡ front ++ (o ++ onto ps [])) is j)
-        (subst (λ o. IsStream (tokens_of (next_position m + length front) (record { kind = Close d; chars = o } ∷ ps) []) xs ds stream) is r) b
-        (subst (λ o. (ys : List Span) (es : List Delimiter) (others : List Spanned) → IsStream (tokens_of (next_position m + length front + length o) ps []) ys es others → AreBegun (next_position m) (front ++ o) ys es → Stands m text (front ++ o) ys es others) is next)
+        (subst (λ o. IsStream (tokens_onto (next_position m + length front) (record { kind = Close d; chars = o } ∷ ps) []) xs ds stream) is r) b
+        (subst (λ o. (ys : List Span) (es : List Delimiter) (others : List Spanned) → IsStream (tokens_onto (next_position m + length front + length o) ps []) ys es others → AreBegun (next_position m) (front ++ o) ys es → Stands m text (front ++ o) ys es others) is next)
     by Mark cs j is r next =
-        leaf m text front cs (onto ps []) (Punct (head cs) (spacing_of (is_joint (cs ++ onto ps [])))) (tokens_of (next_position m + length front + length cs) ps []) xs ds stream positive j tt (is.1 ∙ ap (λ o. head o ∷ []) (sym is.1)) r b
+        leaf m text front cs (onto ps []) (Punct (head cs) (spacing_of (is_joint (cs ++ onto ps [])))) (tokens_onto (next_position m + length front + length cs) ps []) xs ds stream positive j tt (is.1 ∙ ap (λ o. head o ∷ []) (sym is.1)) r b
         (λ others q. next xs ds others q (begun_on (next_position m) front cs xs ds b))
     by kinds.Ident cs j is r next =
-        leaf m text front cs (onto ps []) (Ident cs) (tokens_of (next_position m + length front + length cs) ps []) xs ds stream positive j tt refl r b (λ others q. next xs ds others q (begun_on (next_position m) front cs xs ds b))
+        leaf m text front cs (onto ps []) (Ident cs) (tokens_onto (next_position m + length front + length cs) ps []) xs ds stream positive j tt refl r b (λ others q. next xs ds others q (begun_on (next_position m) front cs xs ds b))
     by (kinds.Literal kind) cs j is r next =
-        leaf m text front cs (onto ps []) (Literal cs) (tokens_of (next_position m + length front + length cs) ps []) xs ds stream positive j tt refl r b (λ others q. next xs ds others q (begun_on (next_position m) front cs xs ds b))
+        leaf m text front cs (onto ps []) (Literal cs) (tokens_onto (next_position m + length front + length cs) ps []) xs ds stream positive j tt refl r b (λ others q. next xs ds others q (begun_on (next_position m) front cs xs ds b))
 
 of_forest : (m : Sources) (text : List ℕ) (stream : List Spanned) → 1 ≤ m.start → IsForest (next_position m) text stream → Stands m text [] [] [] stream
 of_forest m text stream positive f =
     let k : next_position m + length {A = ℕ} [] ≡ next_position m = omega arith in
     walk m text [] f.pieces [] [] stream positive f.cover.joined (front_made f.pieces f.cover.fit)
-    (record { tokens_are = ap (λ n. tokens_of n f.pieces []) k ∙ f.tokens_are; paired = f.paired; opened = f.matched }) tt
+    (record { tokens_are = ap (λ n. tokens_onto n f.pieces []) k ∙ forest_tokens (next_position m) text stream f; paired = f.paired; opened = f.matched }) tt
 
 pub tokens_found : (m : Sources) (text : List ℕ) (stream : List Spanned) → 1 ≤ m.start → IsForest (next_position m) text stream → All (IsFound (with_text m text)) stream
 tokens_found m text stream positive f = (of_forest m text stream positive f).found

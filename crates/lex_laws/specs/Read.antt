@@ -1,5 +1,5 @@
 -- What a text is read as.
-use Rattle.std.specs.Prelude.{◌≡◌, ℕ, List, []}
+use Rattle.std.specs.Prelude.{◌≡◌, ℕ, List}
 use Rattle.rust_lex.specs.Piece.{Piece}
 use Rattle.rust_lex.specs.Cover.{IsCover}
 use Rattle.proc_macro2.specs.Token.{Token, plain}
@@ -9,4 +9,4 @@ use Rattle.proc_macro2.specs.Pieces.{tokens_of}
 pub record IsReadAs (text : List ℕ) (tokens : List Token) : Type 0 where
   pub pieces : List Piece
   pub cover : IsCover text pieces
-  pub tokens_are : plain (tokens_of 0 pieces []) ≡ tokens
+  pub tokens_are : plain (tokens_of 0 pieces) ≡ tokens

@@ -7,7 +7,8 @@ use Rattle.std.proofs.lemmas.List.Elements.{All-push, All-weaker, All-pop}
 use Rattle.std.proofs.lemmas.Bool.{lt-ltb}
 use Rattle.rust_map.specs.Spans.{span_from, span_part, first_of, last_of}
 use Rattle.rust_map.specs.declared.span.Span.{Span}
-use Rattle.rust_lex.specs.Piece.{opening, closing, is_joint, FitsAt}
+use Rattle.rust_lex.specs.Piece.{opening, closing, FitsAt}
+use Rattle.rust_lex.specs.Scan.{is_joint}
 use Rattle.rust_lex.specs.declared.delimiter.Delimiter.{Delimiter as LexDelimiter}
 use Rattle.rust_lex.specs.declared.piece.DocKind.{DocKind}
 use Rattle.rust_lex.specs.declared.piece.DocKind.TheVariants as doc
@@ -17,7 +18,8 @@ use Rattle.proc_macro2.specs.declared.delimiter.Delimiter.TheVariants as delimit
 use Rattle.proc_macro2.specs.Token.{Delimiter, Token, Opens, Closes, Ident, Literal, Punct, Spanned}
 use Rattle.proc_macro2.specs.Groups.{same_delimiter, IsMatched}
 use Rattle.proc_macro2.specs.Flat.{spanned}
-use Rattle.proc_macro2.specs.Pieces.{delimiter_of, edged, edged_at, all_at, span_at, piece_tokens, spacing_of, head, doc_marks, doc_group, doc_text}
+use Rattle.proc_macro2.specs.Pieces.{delimiter_of, edged, edged_at, all_at, span_at, spacing_of, head, doc_marks, doc_group, doc_text}
+use Rattle.proc_macro2.proofs.Followed.{tokens_before}
 use Rattle.proc_macro2.specs.Forest.{ArePaired, closed, open_behind}
 use Rattle.proc_macro2.specs.Built.{opening_of, openings_of, frame_tokens, built, IsPut, stretch_span}
 use Rattle.proc_macro2.specs.declared.builder.Frame.{Frame}
@@ -38,7 +40,7 @@ pub record IsFrameIn (n : ℕ) (f : Frame) : Type 0 where
 
 -- what a piece adds, which n characters precede
 pub record Grows (base n : ℕ) (k : PieceKind) (cs rest : List ℕ) (fs : List Frame) (ss : List Spanned) (gs : List Frame) (us : List Spanned) : Type 0 where
-  pub tokens : built base gs us ≡ built base fs ss ++ edged_at (span_at (base + n) (length cs)) (piece_tokens k cs rest)
+  pub tokens : built base gs us ≡ built base fs ss ++ edged_at (span_at (base + n) (length cs)) (tokens_before k cs rest)
   pub opened : open_behind (openings_of fs) k n ≡ Some (openings_of gs)
   pub frames : All (IsFrameIn (n + length cs)) gs
   pub whole : IsWhole us
@@ -69,7 +71,7 @@ built_added base fs gs ss ts us e f =
 stretched : (s : Stretch) (cs : List ℕ) → s.to ≡ s.from + length cs → stretch_span s ≡ span_at (s.whole.start + s.from) (length cs)
 stretched s cs e = ap (span_from (s.whole.start + s.from)) (ap (λ m. s.whole.start + m) e ∙ sym (add_assoc s.whole.start s.from (length cs)))
 
-pub grows_added : (fs gs : List Frame) (ss us : List Spanned) (s : Stretch) (k : PieceKind) (cs rest : List ℕ) (ts : List Token) → gs ≡ fs → us ≡ ss ++ all_at (stretch_span s) ts → ts ≡ piece_tokens k cs rest →
+pub grows_added : (fs gs : List Frame) (ss us : List Spanned) (s : Stretch) (k : PieceKind) (cs rest : List ℕ) (ts : List Token) → gs ≡ fs → us ≡ ss ++ all_at (stretch_span s) ts → ts ≡ tokens_before k cs rest →
     open_behind (openings_of fs) k s.from ≡ Some (openings_of fs) → IsWhole (all_at (stretch_span s) ts) →
     s.to ≡ s.from + length cs → All (IsFrameIn s.from) fs → IsWhole ss → Grows s.whole.start s.from k cs rest fs ss gs us
 grows_added fs gs ss us s k cs rest ts a b t o w e f h = record {

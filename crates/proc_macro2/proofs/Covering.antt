@@ -5,7 +5,8 @@ use Rattle.std.proofs.lemmas.List.{append-nil}
 use Rattle.rust_lex.specs.Piece.{Piece}
 use Rattle.rust_lex.specs.Cover.{onto}
 use Rattle.proc_macro2.specs.Token.{Spanned}
-use Rattle.proc_macro2.specs.Pieces.{piece_tokens, edged_at, span_at, tokens_of}
+use Rattle.proc_macro2.specs.Pieces.{edged_at, span_at}
+use Rattle.proc_macro2.proofs.Followed.{tokens_before, tokens_onto}
 use Rattle.proc_macro2.specs.Forest.{Opening, openings, open_behind, count}
 
 pub onto_append : (ps qs : List Piece) (rest : List ℕ) → onto (ps ++ qs) rest ≡ onto ps (onto qs rest)
@@ -21,19 +22,19 @@ pub count_more : (ps : List Piece) (p : Piece) → count (ps ++ p ∷ []) ≡ co
 count_more ps p = ap length (onto_append ps (p ∷ []) [] ∙ onto_rest ps (p.chars ++ []) ∙ ap (λ x. onto ps [] ++ x) (append-nil p.chars)) ∙ length-append (onto ps []) p.chars
 
 abbrev pub tokens_at : ℕ → Piece → List ℕ → List Spanned
-tokens_at at p rest = edged_at (span_at at (length p.chars)) (piece_tokens p.kind p.chars rest)
+tokens_at at p rest = edged_at (span_at at (length p.chars)) (tokens_before p.kind p.chars rest)
 
-pub tokens_append : (at : ℕ) (ps qs : List Piece) (rest : List ℕ) → tokens_of at (ps ++ qs) rest ≡ tokens_of at ps (onto qs rest) ++ tokens_of (at + count ps) qs rest
-tokens_append at [] qs rest = let e : at ≡ at + 0 = omega arith in ap (λ m. tokens_of m qs rest) e
+pub tokens_append : (at : ℕ) (ps qs : List Piece) (rest : List ℕ) → tokens_onto at (ps ++ qs) rest ≡ tokens_onto at ps (onto qs rest) ++ tokens_onto (at + count ps) qs rest
+tokens_append at [] qs rest = let e : at ≡ at + 0 = omega arith in ap (λ m. tokens_onto m qs rest) e
 tokens_append at (p ∷ ps) qs rest =
     let e : (at + length p.chars) + count ps ≡ at + count (p ∷ ps) = omega (arith, length-append p.chars (onto ps [])) in
-    ap₂ (λ r ts. tokens_at at p r ++ ts) (onto_append ps qs rest) (tokens_append (at + length p.chars) ps qs rest ∙ ap (λ m. tokens_of (at + length p.chars) ps (onto qs rest) ++ tokens_of m qs rest) e)
-    ∙ sym (append_assoc (tokens_at at p (onto ps (onto qs rest))) (tokens_of (at + length p.chars) ps (onto qs rest)) (tokens_of (at + count (p ∷ ps)) qs rest))
+    ap₂ (λ r ts. tokens_at at p r ++ ts) (onto_append ps qs rest) (tokens_append (at + length p.chars) ps qs rest ∙ ap (λ m. tokens_onto (at + length p.chars) ps (onto qs rest) ++ tokens_onto m qs rest) e)
+    ∙ sym (append_assoc (tokens_at at p (onto ps (onto qs rest))) (tokens_onto (at + length p.chars) ps (onto qs rest)) (tokens_onto (at + count (p ∷ ps)) qs rest))
 
 -- the tokens of pieces and one more
-pub tokens_more : (at : ℕ) (ps : List Piece) (p : Piece) (text rest : List ℕ) → text ≡ p.chars ++ rest → tokens_of at (ps ++ p ∷ []) rest ≡ tokens_of at ps text ++ tokens_at (at + count ps) p rest
+pub tokens_more : (at : ℕ) (ps : List Piece) (p : Piece) (text rest : List ℕ) → text ≡ p.chars ++ rest → tokens_onto at (ps ++ p ∷ []) rest ≡ tokens_onto at ps text ++ tokens_at (at + count ps) p rest
 tokens_more at ps p text rest e =
-    tokens_append at ps (p ∷ []) rest ∙ ap₂ (λ x y. tokens_of at ps x ++ y) (sym e) (append-nil (tokens_at (at + count ps) p rest))
+    tokens_append at ps (p ∷ []) rest ∙ ap₂ (λ x y. tokens_onto at ps x ++ y) (sym e) (append-nil (tokens_at (at + count ps) p rest))
 
 -- behind some groups, or where a mark closed nothing
 abbrev behind : ℕ → List Piece → Option (List Opening) → Option (List Opening)

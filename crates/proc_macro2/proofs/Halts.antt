@@ -19,7 +19,8 @@ use Rattle.proc_macro2.specs.Token.{Delimiter, Spanned}
 use Rattle.proc_macro2.specs.Groups.{same_delimiter, groups_open}
 use Rattle.proc_macro2.specs.Groups as groups
 use Rattle.rust_map.specs.declared.span.Span.{Span}
-use Rattle.proc_macro2.specs.Pieces.{delimiter_of, edged, edged_at, span_at, piece_tokens, tokens_of, doc_marks, doc_group}
+use Rattle.proc_macro2.specs.Pieces.{delimiter_of, edged, edged_at, span_at, doc_marks, doc_group}
+use Rattle.proc_macro2.proofs.Followed.{tokens_before, tokens_onto, forest_tokens}
 use Rattle.proc_macro2.specs.Forest.{Opening, openings, open_behind, closed, count, IsForest, Reaches, IsFaultBehind, IsLexicalFault}
 use Rattle.proc_macro2.proofs.GroupLemmas.{open_append}
 use Rattle.proc_macro2.proofs.Covering.{openings_append}
@@ -204,7 +205,7 @@ doc_groups ds doc.InnerLine text span = refl
 doc_groups ds doc.OuterBlock text span = refl
 doc_groups ds doc.InnerBlock text span = refl
 
-piece_groups : (os : List Opening) (k : PieceKind) (n : ℕ) (cs rest : List ℕ) (span : Span) → groups_open (delimiters os) (edged_at span (piece_tokens k cs rest)) ≡ option_map delimiters (open_behind os k n)
+piece_groups : (os : List Opening) (k : PieceKind) (n : ℕ) (cs rest : List ℕ) (span : Span) → groups_open (delimiters os) (edged_at span (tokens_before k cs rest)) ≡ option_map delimiters (open_behind os k n)
 piece_groups os piece.FrontMark n cs rest span = refl
 piece_groups os piece.White n cs rest span = refl
 piece_groups os piece.Comment n cs rest span = refl
@@ -233,19 +234,19 @@ none_append ds (x ∷ xs) ys e = here (λ es. none_append es xs ys) (groups.grou
     here more (Some es) q = more es q
 
 -- the groups that are open behind tokens are those of their pieces
-pieces_groups : (os : List Opening) (at n : ℕ) (ps : List Piece) (rest : List ℕ) (ds : List Delimiter) → groups_open (delimiters os) (tokens_of at ps rest) ≡ Some ds → option_map delimiters (openings os n ps) ≡ Some ds
+pieces_groups : (os : List Opening) (at n : ℕ) (ps : List Piece) (rest : List ℕ) (ds : List Delimiter) → groups_open (delimiters os) (tokens_onto at ps rest) ≡ Some ds → option_map delimiters (openings os n ps) ≡ Some ds
 pieces_groups os at n [] rest ds e = e
 pieces_groups os at n (p ∷ ps) rest ds e = here (λ qs h. pieces_groups qs (at + length p.chars) (n + length p.chars) ps rest ds h) (open_behind os p.kind n) refl
   where
-    here : ((qs : List Opening) → groups_open (delimiters qs) (tokens_of (at + length p.chars) ps rest) ≡ Some ds → option_map delimiters (openings qs (n + length p.chars) ps) ≡ Some ds) →
+    here : ((qs : List Opening) → groups_open (delimiters qs) (tokens_onto (at + length p.chars) ps rest) ≡ Some ds → option_map delimiters (openings qs (n + length p.chars) ps) ≡ Some ds) →
         (o : Option (List Opening)) → open_behind os p.kind n ≡ o → option_map delimiters (option_and_then (λ qs. openings qs (n + length p.chars) ps) o) ≡ Some ds
     here more None q =
         let first = piece_groups os p.kind n p.chars (onto ps rest) (span_at at (length p.chars)) ∙ ap (option_map delimiters) q in
-        let wrong : None ≡ Some ds = sym (none_append (delimiters os) (edged_at (span_at at (length p.chars)) (piece_tokens p.kind p.chars (onto ps rest))) (tokens_of (at + length p.chars) ps rest) first) ∙ e in
+        let wrong : None ≡ Some ds = sym (none_append (delimiters os) (edged_at (span_at at (length p.chars)) (tokens_before p.kind p.chars (onto ps rest))) (tokens_onto (at + length p.chars) ps rest) first) ∙ e in
         cc
     here more (Some qs) q =
         let first = piece_groups os p.kind n p.chars (onto ps rest) (span_at at (length p.chars)) ∙ ap (option_map delimiters) q in
-        more qs (sym (open_append (delimiters os) (delimiters qs) (edged_at (span_at at (length p.chars)) (piece_tokens p.kind p.chars (onto ps rest))) (tokens_of (at + length p.chars) ps rest) first) ∙ e)
+        more qs (sym (open_append (delimiters os) (delimiters qs) (edged_at (span_at at (length p.chars)) (tokens_before p.kind p.chars (onto ps rest))) (tokens_onto (at + length p.chars) ps rest) first) ∙ e)
 
 none_open : (o : Option (List Opening)) → option_map delimiters o ≡ Some [] → o ≡ Some []
 none_open None e = cc
@@ -255,7 +256,7 @@ none_open (Some (x ∷ xs)) e = let wrong : x.delimiter ∷ delimiters xs ≡ []
 forest_reaches : (base : ℕ) (text : List ℕ) (ts : List Spanned) (f : IsForest base text ts) → Reaches text f.pieces [] []
 forest_reaches base text ts f = record {
   covers = f.cover;
-  opened = none_open _ (pieces_groups [] base 0 f.pieces [] [] (ap (groups_open []) f.tokens_are ∙ edged_groups [] ts ∙ f.matched));
+  opened = none_open _ (pieces_groups [] base 0 f.pieces [] [] (ap (groups_open []) (forest_tokens base text ts f) ∙ edged_groups [] ts ∙ f.matched));
 }
 
 pub no_forest : (base : ℕ) (text : List ℕ) (place : LineColumn) (ts : List Spanned) → IsLexicalFault text place → IsForest base text ts → ⊥

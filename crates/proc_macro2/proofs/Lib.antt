@@ -11,6 +11,7 @@ pub mod Docs
 pub mod Puts
 pub mod Paired
 pub mod Counts
+pub mod Followed
 pub mod Covering
 pub mod Building
 pub mod Reading

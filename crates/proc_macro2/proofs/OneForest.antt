@@ -108,5 +108,5 @@ one_stream (t ∷ ts) (u ∷ us) xs ys h k e s =
 
 pub one_forest : (base : ℕ) (text : List ℕ) (ts us : List Spanned) → IsForest base text ts → IsForest base text us → ts ≡ us
 one_forest base text ts us f g =
-    let same : map edged ts ≡ map edged us = sym f.tokens_are ∙ ap (λ ps. tokens_of base ps []) (one_cover text f.pieces g.pieces f.cover g.cover) ∙ g.tokens_are in
+    let same : map edged ts ≡ map edged us = sym f.tokens_are ∙ ap (tokens_of base) (one_cover text f.pieces g.pieces f.cover g.cover) ∙ g.tokens_are in
     (one_stream ts us [] [] f.paired g.paired same refl).tokens

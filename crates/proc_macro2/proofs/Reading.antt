@@ -16,7 +16,7 @@ use Rattle.rust_lex.specs.declared.piece.PieceKind.TheVariants.{White}
 use Rattle.rust_lex.proofs.Covering.{CoversTo, covers_none, covers_on}
 use Rattle.rust_lex.proofs.Pieces.{between_joined}
 use Rattle.rust_lex.proofs.PlacesLemmas.{rest_end}
-use Rattle.proc_macro2.specs.Pieces.{tokens_of}
+use Rattle.proc_macro2.proofs.Followed.{tokens_onto, onto_same}
 use Rattle.proc_macro2.specs.Forest.{Opening, openings, open_behind, count, IsForest, Reaches, IsFaultBehind, IsFault}
 use Rattle.proc_macro2.specs.Built.{openings_of, opening_of, built}
 use Rattle.proc_macro2.specs.declared.builder.Frame.{Frame}
@@ -34,7 +34,7 @@ pub record ReadTo (base : ℕ) (bytes : List ℕ) (at n : ℕ) (builder : Builde
   pub opened : openings [] 0 pieces ≡ Some (openings_of builder.frames.items)
   pub counted : n ≡ count pieces
   pub begun : n ≡ 0 → at ≡ 0
-  pub tokens : tokens_of base pieces (rest_at bytes at) ≡ built base builder.frames.items builder.stream
+  pub tokens : tokens_onto base pieces (rest_at bytes at) ≡ built base builder.frames.items builder.stream
   pub frames : All (IsFrameIn n) builder.frames.items
   pub whole : IsWhole builder.stream
 
@@ -120,7 +120,7 @@ read_all base bytes at n builder r h e =
     record {
       pieces = r.pieces;
       cover = q.covers;
-      tokens_are = ap (tokens_of base r.pieces) (sym (rest_end bytes at h)) ∙ r.tokens ∙ ap (λ x. built base x builder.stream) e;
+      tokens_are = onto_same base r.pieces q.covers.fit ∙ ap (tokens_onto base r.pieces) (sym (rest_end bytes at h)) ∙ r.tokens ∙ ap (λ x. built base x builder.stream) e;
       matched = r.whole.matched;
       paired = r.whole.paired;
     }

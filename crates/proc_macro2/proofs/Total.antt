@@ -22,7 +22,8 @@ use Rattle.rust_lex.proofs.Sound.{FoundAt, sound_at, front_fits}
 use Rattle.proc_macro2.specs.declared.delimiter.Delimiter.TheVariants as delimiter
 use Rattle.proc_macro2.specs.Token.{Delimiter, Spanned}
 use Rattle.proc_macro2.specs.Groups.{same_delimiter}
-use Rattle.proc_macro2.specs.Pieces.{delimiter_of, tokens_of, piece_tokens, all_at}
+use Rattle.proc_macro2.specs.Pieces.{delimiter_of, all_at}
+use Rattle.proc_macro2.proofs.Followed.{tokens_onto, tokens_before, onto_same}
 use Rattle.proc_macro2.specs.Forest.{openings, open_behind, closed, count, IsForest, Reaches, IsFaultBehind, IsLexicalFault}
 use Rattle.proc_macro2.specs.Built.{openings_of, opening_of, built, stretch_span}
 use Rattle.proc_macro2.specs.declared.builder.Frame.{Frame}
@@ -79,7 +80,7 @@ record Reads (base : ℕ) (text rest : List ℕ) (ps : List Piece) (fs : List Fr
   fit : AreFitFront ps rest
   begun : count ps ≡ 0 → ps ≡ []
   opened : openings [] 0 ps ≡ Some (openings_of fs)
-  tokens : tokens_of base ps rest ≡ built base fs ss
+  tokens : tokens_onto base ps rest ≡ built base fs ss
   frames : All (IsFrameIn (count ps)) fs
   whole : IsWhole ss
 
@@ -161,12 +162,12 @@ record Wrong (k : PieceKind) (fs : List Frame) : Type 0 where
 abbrev stretch : ℕ → ℕ → List ℕ → Stretch
 stretch base n cs = record { whole = span_from base base; from = n; to = n + length cs }
 
-plain : (base n : ℕ) (k : PieceKind) (cs rest : List ℕ) (fs : List Frame) (ss : List Spanned) → open_behind (openings_of fs) k n ≡ Some (openings_of fs) → IsWhole (all_at (stretch_span (stretch base n cs)) (piece_tokens k cs rest)) →
+plain : (base n : ℕ) (k : PieceKind) (cs rest : List ℕ) (fs : List Frame) (ss : List Spanned) → open_behind (openings_of fs) k n ≡ Some (openings_of fs) → IsWhole (all_at (stretch_span (stretch base n cs)) (tokens_before k cs rest)) →
     All (IsFrameIn n) fs → IsWhole ss → Added base n k cs rest fs ss
 plain base n k cs rest fs ss o w f h = record {
   frames = fs;
-  stream = ss ++ all_at (stretch_span (stretch base n cs)) (piece_tokens k cs rest);
-  grows = grows_added fs fs ss _ (stretch base n cs) k cs rest (piece_tokens k cs rest) refl refl refl o w refl f h;
+  stream = ss ++ all_at (stretch_span (stretch base n cs)) (tokens_before k cs rest);
+  grows = grows_added fs fs ss _ (stretch base n cs) k cs rest (tokens_before k cs rest) refl refl refl o w refl f h;
 }
 
 closing_added : (base n : ℕ) (d : LexDelimiter) (cs rest : List ℕ) (fs : List Frame) (ss : List Spanned) → cs ≡ closing d ∷ [] → All (IsFrameIn n) fs → IsWhole ss → Added base n (piece.Close d) cs rest fs ss ⊎ Wrong (piece.Close d) fs
@@ -200,7 +201,7 @@ faulty base text n f = inr (place_of text n, (n, f, refl))
 at_end : (base : ℕ) (text : List ℕ) (ps : List Piece) (fs : List Frame) (ss : List Spanned) → Reads base text [] ps fs ss → IsAnswered base text
 at_end base text ps fs ss r =
     ⊎_elim
-    (λ e. inl (ss, record { pieces = ps; cover = record { joined = r.joined; fit = r.fit }; tokens_are = r.tokens ∙ ap (λ x. built base x ss) e; matched = r.whole.matched; paired = r.whole.paired }))
+    (λ e. inl (ss, record { pieces = ps; cover = record { joined = r.joined; fit = r.fit }; tokens_are = onto_same base ps r.fit ∙ r.tokens ∙ ap (λ x. built base x ss) e; matched = r.whole.matched; paired = r.whole.paired }))
     (λ l. faulty base text l.last.count (inr (inr (record {
       pieces = ps;
       innermost = opening_of l.last;

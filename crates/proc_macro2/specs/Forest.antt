@@ -35,7 +35,7 @@ ArePaired spans (s ∷ ss) = elim s.token [
 pub record IsForest (base : ℕ) (text : List ℕ) (stream : List Spanned) : Type 0 where
   pub pieces : List Piece
   pub cover : IsCover text pieces
-  pub tokens_are : tokens_of base pieces [] ≡ map edged stream
+  pub tokens_are : tokens_of base pieces ≡ map edged stream
   pub matched : IsMatched stream
   pub paired : ArePaired [] stream
 

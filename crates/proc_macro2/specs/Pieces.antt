@@ -1,15 +1,16 @@
 -- The tokens of pieces, and where they stand. A text's characters stand at positions one behind the
 -- other: a piece at a position, of so many characters, spans these.
-use Rattle.std.specs.Prelude.{◌≡◌, ℕ, ◌+◌, ◌-◌, Bool, true, false, cond, List, [], ◌∷◌, ◌++◌, length, take, drop, map, codes}
+use Rattle.std.specs.Prelude.{◌≡◌, ℕ, ◌+◌, ◌-◌, Bool, true, false, ◌||◌, ◌==◌, cond, List, [], ◌∷◌, ◌++◌, length, take, drop, map, codes}
 use Rattle.rust_map.specs.Spans.{span_from, first_of, last_of}
 use Rattle.rust_map.specs.declared.span.Span.{Span}
 use Rattle.rust_leaf.specs.Escaped.{string_text}
-use Rattle.rust_lex.specs.Cover.{onto}
-use Rattle.rust_lex.specs.Piece.{Piece, is_joint}
+use Rattle.rust_lex.specs.Piece.{Piece}
 use Rattle.rust_lex.specs.declared.delimiter.Delimiter.{Delimiter as LexDelimiter}
 use Rattle.rust_lex.specs.declared.delimiter.Delimiter.TheVariants as lex
 use Rattle.rust_lex.specs.declared.piece.DocKind.{DocKind}
 use Rattle.rust_lex.specs.declared.piece.DocKind.TheVariants as doc
+use Rattle.rust_lex.specs.declared.piece.LiteralKind.{LiteralKind}
+use Rattle.rust_lex.specs.declared.piece.LiteralKind.TheVariants as literal
 use Rattle.rust_lex.specs.declared.piece.PieceKind.{PieceKind}
 use Rattle.rust_lex.specs.declared.piece.PieceKind.TheVariants as piece
 use Rattle.proc_macro2.specs.declared.delimiter.Delimiter.TheVariants as delimiter
@@ -59,18 +60,49 @@ doc_marks kind = cond (is_inner kind) (Punct 35 Alone ∷ Punct 33 Alone ∷ [])
 abbrev pub doc_group : List ℕ → List Token
 doc_group text = Opens delimiter.Bracket ∷ Ident (codes "doc") ∷ Punct 61 Alone ∷ Literal (string_text text) ∷ Closes delimiter.Bracket ∷ []
 
--- the tokens of a piece of a class, before what follows it. A gap and the front mark have none, a doc
+-- a character literal
+abbrev pub is_char : LiteralKind → Bool
+is_char literal.Char = true
+is_char literal.Str = false
+is_char literal.ByteStr = false
+is_char literal.CStr = false
+is_char literal.Byte = false
+is_char literal.Int = false
+is_char literal.Float = false
+
+-- a piece to which a mark that stands directly before it is joint: another mark, or a character literal
+abbrev pub joins : PieceKind → Bool
+joins piece.FrontMark = false
+joins piece.White = false
+joins piece.Comment = false
+joins (piece.Doc kind) = false
+joins (piece.Open d) = false
+joins (piece.Close d) = false
+joins piece.Mark = true
+joins piece.Ident = false
+joins (piece.Literal kind) = is_char kind
+
+-- the first of the pieces is one
+abbrev pub is_joined : List Piece → Bool
+is_joined [] = false
+is_joined (p ∷ ps) = joins p.kind
+
+-- the spacing of a mark by the pieces that follow it: ' is always joint
+abbrev pub mark_spacing : ℕ → List Piece → Spacing
+mark_spacing c ps = spacing_of (c == 39 || is_joined ps)
+
+-- the tokens of a piece of a class, a mark having this spacing. A gap and the front mark have none, a doc
 -- is the attribute that it stands for, and any other piece is one token
-abbrev pub piece_tokens : PieceKind → List ℕ → List ℕ → List Token
-piece_tokens piece.FrontMark cs rest = []
-piece_tokens piece.White cs rest = []
-piece_tokens piece.Comment cs rest = []
-piece_tokens (piece.Doc kind) cs rest = doc_marks kind ++ doc_group (doc_text kind cs)
-piece_tokens (piece.Open d) cs rest = Opens (delimiter_of d) ∷ []
-piece_tokens (piece.Close d) cs rest = Closes (delimiter_of d) ∷ []
-piece_tokens piece.Mark cs rest = Punct (head cs) (spacing_of (is_joint (cs ++ rest))) ∷ []
-piece_tokens piece.Ident cs rest = Ident cs ∷ []
-piece_tokens (piece.Literal kind) cs rest = Literal cs ∷ []
+abbrev pub piece_tokens : PieceKind → List ℕ → Spacing → List Token
+piece_tokens piece.FrontMark cs spacing = []
+piece_tokens piece.White cs spacing = []
+piece_tokens piece.Comment cs spacing = []
+piece_tokens (piece.Doc kind) cs spacing = doc_marks kind ++ doc_group (doc_text kind cs)
+piece_tokens (piece.Open d) cs spacing = Opens (delimiter_of d) ∷ []
+piece_tokens (piece.Close d) cs spacing = Closes (delimiter_of d) ∷ []
+piece_tokens piece.Mark cs spacing = Punct (head cs) spacing ∷ []
+piece_tokens piece.Ident cs spacing = Ident cs ∷ []
+piece_tokens (piece.Literal kind) cs spacing = Literal cs ∷ []
 
 -- where a token itself stands: in a stream each of a group's two tokens carries the group's whole span,
 -- of which the opening one is the first character and the closing one the last
@@ -95,9 +127,9 @@ edged_at span ts = map edged (all_at span ts)
 abbrev pub span_at : ℕ → ℕ → Span
 span_at position count = span_from position (position + count)
 
--- the tokens of pieces that stand at a position and before a rest
-abbrev pub tokens_of : ℕ → List Piece → List ℕ → List Spanned
-tokens_of position [] rest = []
-tokens_of position (p ∷ ps) rest =
-    edged_at (span_at position (length p.chars)) (piece_tokens p.kind p.chars (onto ps rest))
-    ++ tokens_of (position + length p.chars) ps rest
+-- the tokens of pieces that stand one behind the other from a position on, up to a text's end
+abbrev pub tokens_of : ℕ → List Piece → List Spanned
+tokens_of position [] = []
+tokens_of position (p ∷ ps) =
+    edged_at (span_at position (length p.chars)) (piece_tokens p.kind p.chars (mark_spacing (head p.chars) ps))
+    ++ tokens_of (position + length p.chars) ps

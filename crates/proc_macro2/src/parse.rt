@@ -2,13 +2,13 @@
 
 ghost use Rattle.proc_macro2.specs.Forest.{IsFault, IsForest};
 ghost use Rattle.rust_map.specs.declared.fault.LexFault.TheVariants.{Lex, MapFull};
-ghost use Rattle.rust_lex.specs.Piece as piece;
+ghost use Rattle.rust_lex.specs.Piece.{IsJoint};
 ghost use Rattle.rust_lex.specs.Places.{IsPlace, rest_at};
 ghost use Rattle.rust_lex.specs.declared.piece.PieceKind.TheVariants.{Mark};
 ghost use Rattle.rust_map.specs.Places.{place_of};
 ghost use Rattle.rust_map.specs.Sources.{next_position, next_span, next_spot, spot, with_text};
 ghost use Rattle.rust_map.specs.Spans.{span_part};
-ghost use Rattle.std.specs.Prelude.{◌≡◌, ◌≢◌, ◌+◌, ◌^◌, ◌<◌, ◌≤◌, ◌↔◌, Err, IfErr, IfOk, IfSome, None, OnErr, OnOk, Some, length};
+ghost use Rattle.std.specs.Prelude.{◌≡◌, ◌≢◌, ◌+◌, ◌^◌, ◌<◌, ◌≤◌, ◌↔◌, Err, IfErr, IfOk, IfSome, IsTrue, None, OnErr, OnOk, Some, length};
 ghost use Rattle.std.specs.Str.{chars};
 
 use crate::builder::{Builder, Stretch};
@@ -36,7 +36,7 @@ fn fault_behind(text: &str, whole: Span, count: u32) -> LexFault
 // Whether the piece at a place is joint, if it is a mark.
 fn joint_at(text: &str, at: usize, kind: PieceKind) -> bool
     requires { IsPlace text.now at }
-    ensures { kind ≡ Mark → result ≡ piece.is_joint (rest_at text.now at) }
+    ensures { kind ≡ Mark → (IsTrue result ↔ IsJoint (rest_at text.now at)) }
 {
     match kind {
         PieceKind::Mark => is_joint(text, at),

@@ -6,7 +6,7 @@ use Rattle.rust_escape.specs.declared.mode.Mode.{Mode}
 use Rattle.rust_escape.specs.declared.mode.Mode.TheVariants as modes
 use Rattle.rust_lex.specs.Quoted.{Char, literal_kind, opening_of, IsTail, IsQuoted}
 use Rattle.rust_lex.specs.QuotedScan.{past_char}
-use Rattle.rust_lex.specs.Piece.{begins_char}
+use Rattle.rust_lex.specs.Scan.{begins_char}
 use Rattle.rust_lex.proofs.Taken.{option_cases}
 use Rattle.rust_lex.proofs.Units.{single_found, single_whole}
 

@@ -12,8 +12,8 @@ use Rattle.rust_lex.specs.Quoted.{Str, ByteStr, CStr, Byte, Char, Int, Float, op
 use Rattle.rust_lex.specs.QuotedScan.{past_unit, past_char, past_units, past_raw, past_hashes}
 use Rattle.rust_lex.specs.Number.{past_number, number_kind}
 use Rattle.rust_lex.specs.Word.{begins_kept, begins_lifetime}
-use Rattle.rust_lex.specs.Piece.{White, Comment, Doc, Mark, Ident, Literal, FrontMark, begins_mark, is_joint}
-use Rattle.rust_lex.specs.Scan.{Nowhere, Ends, front_of, line, block, slash, ticked, word, scan, scan_front}
+use Rattle.rust_lex.specs.Piece.{White, Comment, Doc, Mark, Ident, Literal, FrontMark, begins_mark}
+use Rattle.rust_lex.specs.Scan.{Nowhere, Ends, front_of, line, block, slash, ticked, word, scan, scan_front, is_joint}
 
 -- `unfolding all` lets `refl` compute a scan
 unfoldable all : Unit {0}

@@ -14,6 +14,7 @@ pub mod Steps
 pub mod Scans
 pub mod Pieces
 pub mod Characters
+pub mod Joints
 pub mod Covering
 pub mod Quieter
 pub mod Numbers

@@ -2,9 +2,7 @@
 use Rattle.std.specs.Prelude.{◌≡◌, ℕ, zero, suc, Bool, true, false, ◌&&◌, ◌||◌, ◌==◌, not, is_some, List, [], ◌∷◌, ◌++◌, ◌⊎◌}
 use Rattle.rust_lex.specs.Chars.{is_white, is_first, is_next, is_mark, begins, passes, is_slash_or_star}
 use Rattle.rust_lex.specs.Comment.{IsComment, IsDoc}
-use Rattle.rust_escape.specs.declared.mode.Mode.TheVariants as modes
-use Rattle.rust_lex.specs.Quoted.{LiteralKind, IsQuoted, opener_of}
-use Rattle.rust_lex.specs.QuotedScan.{past_char}
+use Rattle.rust_lex.specs.Quoted.{LiteralKind, Char, IsQuoted, opener_of}
 use Rattle.rust_lex.specs.Number.{IsNumber}
 use Rattle.rust_lex.specs.Word.{IsWord, IsRawWord, begins_lifetime}
 pub use Rattle.rust_lex.specs.declared.delimiter.Delimiter.{Delimiter}
@@ -44,15 +42,14 @@ abbrev pub begins_mark : List ℕ → Bool
 begins_mark [] = false
 begins_mark (c ∷ cs) = (is_mark c && not (c == 47 && begins is_slash_or_star cs)) || (c == 39 && begins_lifetime cs)
 
--- a text begins with a character literal
-abbrev pub begins_char : List ℕ → Bool
-begins_char [] = false
-begins_char (c ∷ cs) = c == 39 && is_some (past_char modes.Char cs)
+-- a text begins with a character literal, its suffix aside
+abbrev pub BeginsChar : List ℕ → Type 0
+BeginsChar text = (cs rest : List ℕ) × (text ≡ cs ++ rest) × IsQuoted Char cs
 
--- the mark that a text begins with is joint: ' always is, another before a mark or the ' of a character literal
-abbrev pub is_joint : List ℕ → Bool
-is_joint [] = false
-is_joint (c ∷ cs) = c == 39 || (begins_mark cs || begins_char cs)
+-- the mark that a text begins with is joint: ' always is, another where a mark or a character literal follows at once
+abbrev pub IsJoint : List ℕ → Type 0
+IsJoint [] = ⊥
+IsJoint (c ∷ cs) = (c ≡ 39) ⊎ (begins_mark cs ≡ true) ⊎ BeginsChar cs
 
 -- a suffix or none: an identifier without raw mark directly behind a literal belongs to it
 abbrev pub IsSuffix : List ℕ → List ℕ → Type 0

@@ -1,5 +1,5 @@
 -- Which piece a text begins with: what the code computes. That it is the one piece that fits is proved.
-use Rattle.std.specs.Prelude.{ℕ, zero, suc, true, false, ◌&&◌, ◌==◌, List, [], ◌∷◌, Option, Some, None, if◌then◌else◌, drop, length}
+use Rattle.std.specs.Prelude.{ℕ, zero, suc, Bool, true, false, ◌&&◌, ◌||◌, ◌==◌, is_some, List, [], ◌∷◌, Option, Some, None, if◌then◌else◌, drop, length}
 use Rattle.rust_lex.specs.Chars.{is_white, is_first, is_next, is_digit, is_mark, is_not_feed, past}
 use Rattle.rust_lex.specs.Ends.{past_suffix}
 use Rattle.rust_lex.specs.Comment.{OuterLine, InnerLine, OuterBlock, InnerBlock, is_plain_line, is_plain_block, past_comment, is_within_line, ends_line}
@@ -8,7 +8,7 @@ use Rattle.rust_lex.specs.Quoted.{LiteralKind, Str, Char, literal_kind, opening_
 use Rattle.rust_lex.specs.QuotedScan.{past_units, past_char, past_tail}
 use Rattle.rust_lex.specs.Number.{past_number, number_kind}
 use Rattle.rust_lex.specs.Word.{begins_raw_mark, begins_raw_name, begins_lifetime}
-use Rattle.rust_lex.specs.Piece.{Parenthesis, Brace, Bracket, PieceKind, FrontMark, White, Comment, Doc, Open, Close, Mark, Ident, Literal}
+use Rattle.rust_lex.specs.Piece.{Parenthesis, Brace, Bracket, PieceKind, FrontMark, White, Comment, Doc, Open, Close, Mark, Ident, Literal, begins_mark}
 -- what begins with a character
 pub use Rattle.rust_lex.specs.declared.front.Front.{Front}
 pub use Rattle.rust_lex.specs.declared.front.Front.TheVariants.{White as white, Opens as opens, Closes as closes, Quote as quote, Tick as tick, Digit as digit, First as first, Mark as mark, Other as other}
@@ -81,3 +81,13 @@ scan_front (c ∷ cs) = if c == 65279 then Ends FrontMark cs else scan (c ∷ cs
 abbrev pub scan_at : ℕ → List ℕ → Scanned
 scan_at zero cs = scan_front cs
 scan_at (suc n) cs = scan cs
+
+-- a text begins with a character literal
+abbrev pub begins_char : List ℕ → Bool
+begins_char [] = false
+begins_char (c ∷ cs) = c == 39 && is_some (past_char modes.Char cs)
+
+-- the mark that a text begins with is joint: ' always is, another before a mark or the ' of a character literal
+abbrev pub is_joint : List ℕ → Bool
+is_joint [] = false
+is_joint (c ∷ cs) = c == 39 || (begins_mark cs || begins_char cs)

@@ -2,10 +2,9 @@
 
 ghost use Rattle.rust_lex.specs.Calm.{IsCalm};
 ghost use Rattle.rust_lex.specs.Cover.{IsCover};
-ghost use Rattle.rust_lex.specs.Piece.{FitsAt, IsIdent, IsLiteral, Piece, begins_char};
+ghost use Rattle.rust_lex.specs.Piece.{FitsAt, IsIdent, IsLiteral, Piece};
 ghost use Rattle.rust_lex.specs.declared.piece.LiteralKind.{LiteralKind};
-ghost use Rattle.rust_lex.specs.Quoted.{Char, IsQuoted};
-ghost use Rattle.std.specs.Prelude.{ℕ, ◌≡◌, ◌↔◌, ◌++◌, List, true};
+ghost use Rattle.std.specs.Prelude.{ℕ, ◌≡◌, ◌++◌, List};
 
 /// At one place of a text at most one piece stands, whatever class it is of.
 pub fn one_piece()
@@ -15,12 +14,6 @@ pub fn one_piece()
 /// A text has at most one cover.
 pub fn one_cover()
     ensures { (text : List ℕ) (ps qs : List Piece) → IsCover text ps → IsCover text qs → ps ≡ qs }
-{}
-
-/// A text begins with a character literal, as it is asked for a joint mark, exactly where a character
-/// literal and some rest make it up.
-pub fn begun_character()
-    ensures { (text : List ℕ) → begins_char text ≡ true ↔ ((cs rest : List ℕ) × (text ≡ cs ++ rest) × IsQuoted Char cs) }
 {}
 
 /// An identifier stands before any calm text, whatever follows it elsewhere.

@@ -3,12 +3,13 @@
 ghost use Rattle.rust_lex.specs.Chars as chars;
 ghost use Rattle.rust_lex.specs.Number as number;
 ghost use Rattle.rust_lex.specs.Piece as piece;
+ghost use Rattle.rust_lex.specs.Piece.{IsJoint};
 ghost use Rattle.rust_lex.specs.Ended.{IsEnd, IsScanned};
 ghost use Rattle.rust_lex.specs.Places.{IsBehind, IsPieceAt, IsPlace, IsWhiteAt, rest_at};
 ghost use Rattle.rust_lex.specs.Quoted as quoted;
 ghost use Rattle.rust_lex.specs.QuotedScan as tails;
 ghost use Rattle.rust_lex.specs.Scan as scan;
-ghost use Rattle.std.specs.Prelude.{◌≡◌, ◌&&◌, ◌==◌, not, true};
+ghost use Rattle.std.specs.Prelude.{◌≡◌, ◌↔◌, ◌&&◌, ◌==◌, IsTrue, not, true};
 
 use crate::comment::slash;
 use crate::cooked::{char_end, string_end};
@@ -210,7 +211,7 @@ pub fn begins_mark(text: &str, at: usize) -> bool
 #[tactic(auto, using(crate::proofs::PlacesLemmas::rest_end))]
 fn begins_char(text: &str, at: usize) -> bool
     requires { IsPlace text.now at }
-    ensures { result ≡ piece.begins_char (rest_at text.now at) }
+    ensures { result ≡ scan.begins_char (rest_at text.now at) }
 {
     if at >= text.len() {
         return false;
@@ -222,12 +223,11 @@ fn begins_char(text: &str, at: usize) -> bool
     char_end(text, next, Mode::Char).is_some()
 }
 
-/// Whether the mark that stands at a place is joint: a `'` always is, another where a mark or a
-/// character literal follows it at once. The place is in bytes from 0.
+// Whether the mark that stands at a place is joint.
 #[tactic(auto, using(crate::proofs::PlacesLemmas::rest_end))]
-pub fn is_joint(text: &str, at: usize) -> bool
+fn joint(text: &str, at: usize) -> bool
     requires { IsPlace text.now at }
-    ensures { result ≡ piece.is_joint (rest_at text.now at) }
+    ensures { result ≡ scan.is_joint (rest_at text.now at) }
 {
     if at >= text.len() {
         return false;
@@ -237,4 +237,13 @@ pub fn is_joint(text: &str, at: usize) -> bool
         return true;
     }
     begins_char(text, next)
+}
+
+/// Whether the mark that stands at a place is joint: a `'` always is, another where a mark or a
+/// character literal follows it at once. The place is in bytes from 0.
+pub fn is_joint(text: &str, at: usize) -> bool
+    requires { IsPlace text.now at }
+    ensures { IsTrue result ↔ IsJoint (rest_at text.now at) }
+{
+    joint(text, at)
 }

@@ -3,10 +3,12 @@ use Rattle.std.specs.Prelude.{Bool, true, false}
 use Rattle.std.specs.Str.{chars}
 use Rattle.std.proofs.lemmas.Str.{IsCharBoundary-from_drop}
 use Rattle.std.proofs.lemmas.List.{append-nil, nil_from_length}
-use Rattle.rust_lex.specs.Piece.{FitsAt, is_joint}
+use Rattle.rust_lex.specs.Piece.{FitsAt}
+use Rattle.rust_lex.specs.Scan.{is_joint}
 use Rattle.rust_lex.specs.Places.{rest_at, between, IsBehind}
 use Rattle.rust_lex.specs.declared.piece.PieceKind.{PieceKind}
 use Rattle.rust_lex.specs.declared.piece.PieceKind.TheVariants.{Mark, White}
+use Rattle.rust_lex.proofs.Joints.{joint_test}
 use Rattle.rust_lex.proofs.Pieces.{between_joined}
 use Rattle.proc_macro2.specs.Built.{IsPut, IsReady}
 use Rattle.proc_macro2.specs.Forest.{IsForest}
@@ -99,7 +101,7 @@ pub loop-at-preserved : goal.loop-at-preserved
 loop-at-preserved c =
     let there : Stretch = record { whole = c.args.whole; from = c.loop-at.count; to = c.loop-at.count + c.characters.result } in
     on c.args.text.now c.range-piece.result.now c.loop-at.at c.in-Some-next_piece.end c.loop-at.count c.characters.result c.in-Some-next_piece.kind _ c.joint_at-joint.result c.loop-at.builder c.put.new.builder there c.loop-at.invariant
-    c.in-Some-next_piece.ensures.0 c.in-Some-next_piece.ensures.1 c.range-piece.ensures.value refl c.characters.ensures c.if-not-branch.false c.joint_at-joint.ensures c.in_ok-put.ensures
+    c.in-Some-next_piece.ensures.0 c.in-Some-next_piece.ensures.1 c.range-piece.ensures.value refl c.characters.ensures c.if-not-branch.false (λ i. joint_test _ c.joint_at-joint.result (c.joint_at-joint.ensures i)) c.in_ok-put.ensures
 
 pub returns-in-None-clause-parsed : goal.returns-in-None-clause-parsed
 returns-in-None-clause-parsed c =
