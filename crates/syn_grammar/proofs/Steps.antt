@@ -9,7 +9,7 @@ use Rattle.syn_grammar.specs.Patterns.{pattern, several_patterns, one_pattern, i
 use Rattle.syn_grammar.specs.Attributes.{outer_attributes, outer_attribute, inner_attributes, inner_attribute, meta}
 use Rattle.syn_grammar.specs.Generics.{generics, impl_generics, generic_params, generic_param, lifetime_param, lifetime_colon, const_param, type_param, bounds_colon, optional_where, where_clause, where_predicate}
 use Rattle.syn_grammar.specs.Table.{table}
-use Rattle.syn_grammar.specs.Kept.{kept, held, listed_bound, unsafe_path}
+use Rattle.syn_grammar.specs.Kept.{kept, held, listed_bound, unsafe_path, plain_member, plain_index}
 use Rattle.syn_grammar.specs.Keeps.{kepts, keeps, node}
 use Rattle.syn_grammar.specs.Read.{IsRead, NoneRead}
 use Rattle.syn_grammar.specs.Run.{Refused, Got, wrap, kind, interp, reads}
@@ -63,11 +63,11 @@ pub read_delimited : (ts : List Token) → kepts (kind Delimited) ts ≡ wrap (N
 unfolding table held
 read_delimited ts = step Delimited ts
 
-pub read_member : (ts : List Token) → kepts (kind Member) ts ≡ wrap (Node Member) (keeps member ts)
+pub read_member : (ts : List Token) → kepts (kind Member) ts ≡ wrap (λ x. Node Member (plain_member x)) (keeps member ts)
 unfolding table held
 read_member ts = step Member ts
 
-pub read_index : (ts : List Token) → kepts (kind Index) ts ≡ wrap (Node Index) (keeps index ts)
+pub read_index : (ts : List Token) → kepts (kind Index) ts ≡ wrap (λ x. Node Index (plain_index x)) (keeps index ts)
 unfolding table held
 read_index ts = step Index ts
 

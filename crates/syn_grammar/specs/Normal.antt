@@ -64,6 +64,10 @@ is_enclosed before after = sees parenthesis (flat after) && not (sees parenthesi
 abbrev pub apart_if : Bool → Tree → Tree
 apart_if b x = cond b (apart_item x) x
 
+-- a statement, and those behind it, as they were and as they are
+abbrev pub again : Tree → Tree → Tree → Tree
+again x before after = Again (apart_if (is_enclosed before after) x) after
+
 abbrev mutual
   -- in a position
   pub normal_in : Position → Tree → Tree
@@ -77,7 +81,7 @@ abbrev mutual
   normal_in p (First x) = First (normal_in p x)
   normal_in p (Second x) = Second (normal_in p x)
   normal_in p End = End
-  normal_in p (Again x y) = Again (apart_if (is_enclosed y (normal_in p y)) (normal_in p x)) (normal_in p y)
+  normal_in p (Again x y) = again (normal_in p x) y (normal_in p y)
   normal_in p (Final x) = Final (normal_in p x)
   normal_in p (More x c spacing y) = More (normal_in p x) c Apart (normal_in p y)
   normal_in p (Group d x) = Group d (normal_in p x)
@@ -93,9 +97,12 @@ abbrev mutual
   pub formed : Position → List Token → Tree → Tree
   formed p ts (Alone k y) = alone p ts k (normal_in Plain y)
   formed p ts (Front k y x) = front_form p k (normal_in Plain y) (formed (inside p k) ts x)
-  formed p ts (Back l k y) = back_form p ts (formed p (follow (flat (normal_in Plain y))) l) k (normal_in Plain y)
+  formed p ts (Back l k y) =
+      let own : Tree = normal_in Plain y in
+      back_form p ts (formed p (follow (flat own)) l) k own
   formed p ts (Infix l k y r) =
-      infix_form p (formed p (follow (flat (normal_in Plain y))) l) k (normal_in Plain y) (formed (inside p k) ts r)
+      let own : Tree = normal_in Plain y in
+      infix_form p (formed p (follow (flat own)) l) k own (formed (inside p k) ts r)
   formed p ts x = x
 
 abbrev pub normal : Tree → Tree
