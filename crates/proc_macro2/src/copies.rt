@@ -1,7 +1,7 @@
 //! Copies of streams and trees. Each shows what was copied, spans included.
 
 ghost use Rattle.proc_macro2.specs.Flat.{tree_tokens};
-ghost use Rattle.std.specs.Prelude.{◌≡◌, IfOk, List};
+ghost use Rattle.std.specs.Prelude.{◌≡◌, IfOk, List, Ok};
 
 use crate::delimiter::Delimiter;
 use crate::group::DelimSpan;
@@ -89,7 +89,9 @@ impl TryClone for Delimiter {
 
     ghost shown = { λ delimiter. delimiter };
 
-    fn try_clone(&self) -> Result<Delimiter, AllocError> {
+    fn try_clone(&self) -> Result<Delimiter, AllocError>
+        ensures { result ≡ Ok self.now }
+    {
         Ok(*self)
     }
 }
@@ -101,7 +103,9 @@ impl TryClone for DelimSpan {
 
     ghost shown = { λ spans. spans };
 
-    fn try_clone(&self) -> Result<DelimSpan, AllocError> {
+    fn try_clone(&self) -> Result<DelimSpan, AllocError>
+        ensures { result ≡ Ok self.now }
+    {
         Ok(*self)
     }
 }
