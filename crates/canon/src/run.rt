@@ -2,7 +2,7 @@
 
 ghost use Rattle.canon.specs.Run.{IsPage, IsRunFault, WritesFront, WritesPage, limit};
 ghost use Rattle.canon_io.specs.Bytes.{ConsumesAtMost};
-ghost use Rattle.canon_io.specs.Watched.{has_failed, inner_of};
+ghost use Rattle.canon_io.specs.Watched.{has_failed, inner_of, is_flushed};
 ghost use Rattle.std.specs.Prelude.{◌≡◌, ◌+◌, ◌≤◌, ◌↔◌, Err, IfErr, IfOk, IfSome, IsTrue, OnOk, false, length, string_bytes};
 
 use crate::canonical::canonical;
@@ -18,8 +18,8 @@ use std::str;
 /// So many bytes are read, and one more: a text that has more is refused.
 const LIMIT: usize = 1 << 30;
 
-/// Reads all, and then writes the canonical form and a line feed. Interrupted reads and writes are
-/// tried again.
+/// Reads all, then writes the canonical form and a line feed, and flushes. Interrupted reads, writes and
+/// flushes are tried again.
 ///
 /// # Errors
 ///
@@ -49,6 +49,9 @@ pub fn run<R: Read, W: Write>(
     ensures reading { IsTrue (has_failed reader.new) ↔ (result ≡ Err Fault.Reading) }
     ensures writing { IsTrue (has_failed writer.new) ↔ (result ≡ Err Fault.Writing) }
     ensures at_most { ConsumesAtMost (R.remaining (inner_of reader.old)) (R.remaining (inner_of reader.new)) (limit + 1) }
+
+    // The last call of the writer was a flush that went well.
+    ensures flushed { OnOk result (IsTrue (is_flushed writer.new)) }
 {
     let page = page_of(alloc, reader)?;
     write_all_watched(writer, page.as_bytes())?;

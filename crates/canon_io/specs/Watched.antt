@@ -15,3 +15,7 @@ watch_of w = w.watch
 -- one of its calls failed
 abbrev pub has_failed : {T : Type 0} → Watched T → Bool
 has_failed w = failed w.watch
+
+-- the last write or flush was a flush that went well
+abbrev pub is_flushed : {T : Type 0} → Watched T → Bool
+is_flushed w = w.flushed

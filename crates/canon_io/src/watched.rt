@@ -1,5 +1,5 @@
 //! A reader or a writer that remembers whether one of its calls failed.
-ghost use Rattle.std.specs.Prelude.{◌≡◌};
+ghost use Rattle.std.specs.Prelude.{◌≡◌, false, is_ok};
 ghost use Rattle.std.specs.Io.{ReadsAtMost, WritesAtMost};
 ghost use Rattle.std.specs.Io.KnownBytes.{Keeps, ReadConsumes, WriteAppends};
 ghost use Rattle.canon_io.specs.Watch.{fresh, after};
@@ -18,19 +18,22 @@ use std::io::{ErrorKind, Read, Write};
 pub struct Watched<T> {
     inner: T,
     watch: Watch,
+    flushed: bool,
 }
 
 impl<T> Watched<T> {
-    ghost use Rattle.canon_io.specs.Watched.{inner_of, watch_of, has_failed};
+    ghost use Rattle.canon_io.specs.Watched.{inner_of, watch_of, has_failed, is_flushed};
 
     /// Watches from here on: no call has failed.
     pub fn new(inner: T) -> Self
         ensures inner { inner_of result ≡ inner }
         ensures watch { watch_of result ≡ fresh }
+        ensures flushed { is_flushed result ≡ false }
     {
         Watched {
             inner,
             watch: Watch::Sound(0),
+            flushed: false,
         }
     }
 
@@ -39,6 +42,13 @@ impl<T> Watched<T> {
         ensures { result ≡ has_failed self.now }
     {
         self.watch.failed()
+    }
+
+    /// Whether the last write or flush was a flush that went well.
+    pub fn flushed(&self) -> bool
+        ensures { result ≡ is_flushed self.now }
+    {
+        self.flushed
     }
 
     /// The reader or the writer itself.
@@ -57,7 +67,7 @@ impl<T> Watched<T> {
 }
 
 impl<R: Read> Read for Watched<R> {
-    ghost use Rattle.canon_io.specs.Watched.{inner_of, watch_of};
+    ghost use Rattle.canon_io.specs.Watched.{inner_of, watch_of, is_flushed};
 
     ghost remaining = { λ w. R.remaining (inner_of w) };
 
@@ -66,6 +76,7 @@ impl<R: Read> Read for Watched<R> {
         ensures bytes { ReadConsumes (R.remaining (inner_of self.old))
             (R.remaining (inner_of self.new)) result buf.new }
         ensures watch { watch_of self.new ≡ after (watch_of self.old) (answer_of result) }
+        ensures flushed { is_flushed self.new ≡ is_flushed self.old }
     {
         let read = self.inner.read(buf);
         self.watch = self.watch.after(answer_of(&read));
@@ -74,7 +85,7 @@ impl<R: Read> Read for Watched<R> {
 }
 
 impl<W: Write> Write for Watched<W> {
-    ghost use Rattle.canon_io.specs.Watched.{inner_of, watch_of};
+    ghost use Rattle.canon_io.specs.Watched.{inner_of, watch_of, is_flushed};
 
     ghost contents = { λ w. W.contents (inner_of w) };
 
@@ -83,18 +94,22 @@ impl<W: Write> Write for Watched<W> {
         ensures bytes { WriteAppends (W.contents (inner_of self.old))
             (W.contents (inner_of self.new)) result buf.now }
         ensures watch { watch_of self.new ≡ after (watch_of self.old) (write_answer result buf.now) }
+        ensures flushed { is_flushed self.new ≡ false }
     {
         let written = self.inner.write(buf);
         self.watch = self.watch.after(write_answer(&written, buf));
+        self.flushed = false;
         written
     }
 
     fn flush(&mut self) -> io::Result<()>
         ensures bytes { Keeps (W.contents (inner_of self.old)) (W.contents (inner_of self.new)) }
         ensures watch { watch_of self.new ≡ after (watch_of self.old) (answer_of result) }
+        ensures flushed { is_flushed self.new ≡ is_ok result }
     {
         let flushed = self.inner.flush();
         self.watch = self.watch.after(answer_of(&flushed));
+        self.flushed = flushed.is_ok();
         flushed
     }
 }

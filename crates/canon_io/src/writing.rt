@@ -2,7 +2,7 @@
 ghost use Rattle.std.specs.Prelude.{◌≡◌, ◌↔◌, false, IsTrue, IsErr, OnOk, OnErr};
 ghost use Rattle.std.specs.Io.KnownBytes.{Appends, Keeps};
 ghost use Rattle.canon_io.specs.Watch.{fresh};
-ghost use Rattle.canon_io.specs.Watched.{inner_of, watch_of, has_failed};
+ghost use Rattle.canon_io.specs.Watched.{inner_of, watch_of, has_failed, is_flushed};
 ghost use Rattle.canon_io.specs.Bytes.{AppendsFront};
 
 use crate::watched::Watched;
@@ -49,6 +49,7 @@ pub fn flush_watched<W: Write>(writer: &mut Watched<W>) -> Result<(), WriteFaile
 
     // The last answer is that of a flush that went well.
     ensures ok { OnOk result (watch_of writer.new ≡ fresh) }
+    ensures flushed { OnOk result (IsTrue (is_flushed writer.new)) }
     ensures failed { IsTrue (has_failed writer.new) ↔ IsErr result }
 {
     while !writer.failed() {

@@ -42,6 +42,26 @@ fn a_text_takes_a_position_more_than_it_has_characters(rt: HostRuntime) -> Resul
 }
 
 #[test]
+fn the_last_positions_are_for_so_many_characters(rt: HostRuntime) -> Result<(), Fail> {
+    let mut map = SourceMap::starting_at(rt.alloc(), 4294967286);
+    let answer = canonical(rt.alloc(), "struct S;", &mut map)?;
+    assert_eq!(rt; answer.as_str(), "struct S ;");
+    for text in ["", "}", "struct S;"] {
+        assert_eq!(rt;
+            canonical(rt.alloc(), text, &mut map).err(),
+            Some(Fault::MapFull),
+            "of {text}"
+        );
+    }
+    let mut map = SourceMap::starting_at(rt.alloc(), 4294967287);
+    assert_eq!(rt;
+        canonical(rt.alloc(), "struct S;", &mut map).err(),
+        Some(Fault::MapFull)
+    );
+    Ok(())
+}
+
+#[test]
 fn a_map_without_room_is_full_and_stays(rt: HostRuntime) {
     for text in ["struct Sé;", "struct Sé}", "struct Sé("] {
         let mut map = map_with(&rt, 10);
