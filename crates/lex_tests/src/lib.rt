@@ -1,20 +1,23 @@
-//! Tests of lexing and of token streams: what no contract says, that calls succeed with ample memory, and
-//! the edges of the lexical rules by texts whose answers come from the rules.
+//! Tests of lexing, of token streams and of leaves: what no contract says, that calls succeed with ample memory, and
+//! what no row of `lex_rows` can ask.
 //!
-//! - `edges`: each rule at its edges: how many tokens, or where the fault stands.
-//! - `rows`: texts and their printed tokens.
+//! - `leaves`: how leaves are shown, and what is said of their faults.
+//! - `literals`: what becomes of the map where a text is no literal.
+//! - `parts`: the spans of parts of literals.
 //! - `places`: spans, lines and columns, and the room of the map.
 //! - `streams`: streams that are built by hand.
-//! - `trees`: streams walked tree by tree, and what trees are by themselves.
+//! - `trees`: what trees are by themselves.
 //! - `words`: how streams are shown, and what is said of lexical faults.
 #![tactic(auto)]
 
 #[cfg(test)]
-mod edges;
+mod leaves;
+#[cfg(test)]
+mod literals;
+#[cfg(test)]
+mod parts;
 #[cfg(test)]
 mod places;
-#[cfg(test)]
-mod rows;
 #[cfg(test)]
 mod streams;
 #[cfg(test)]

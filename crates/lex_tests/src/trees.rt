@@ -1,90 +1,18 @@
-//! Streams walked tree by tree, and what trees are by themselves: marks and their spacing, identifiers,
-//! equality and hashing.
+//! What trees are by themselves: the insides of groups, marks and their spacing, equality and hashing of names.
 
 use proc_macro2::delimiter::Delimiter;
 use proc_macro2::tree::{Group, TokenStream, TokenTree};
-use rust_leaf::ident::{Ident, IdentFault};
+use rust_leaf::ident::Ident;
 use rust_leaf::punct::{Punct, Spacing};
 use rust_map::source_map::SourceMap;
 use rust_map::span::Span;
-use std::alloc::{AllocError, Global};
+use std::alloc::Global;
 use std::hash::{DefaultHasher, Hash, Hasher};
 use std::test::Fail;
-
-fn opening(delimiter: Delimiter) -> &'static str {
-    match delimiter {
-        Delimiter::Parenthesis => "(",
-        Delimiter::Brace => "brace",
-        Delimiter::Bracket => "[",
-        Delimiter::None => "nothing",
-    }
-}
-
-fn spacing(spacing: Spacing) -> &'static str {
-    match spacing {
-        Spacing::Joint => "joint",
-        Spacing::Alone => "alone",
-    }
-}
-
-// What a group is enclosed by, and how many trees it has.
-fn group_told(alloc: Global, group: &Group) -> Result<String, AllocError> {
-    let count = group.stream()?.into_iter()?.size_hint().0;
-    let name = opening(group.delimiter());
-    format!(in alloc; "{name} of {count}; ")
-}
-
-fn punct_told(alloc: Global, punct: Punct) -> Result<String, AllocError> {
-    let name = spacing(punct.spacing());
-    format!(in alloc; "{name} {punct}; ")
-}
-
-// A tree with its kind.
-fn tree_told(alloc: Global, tree: &TokenTree) -> Result<String, AllocError> {
-    match tree {
-        TokenTree::Group(group) => group_told(alloc, group),
-        TokenTree::Ident(ident) => format!(in alloc; "name {ident}; "),
-        TokenTree::Punct(punct) => punct_told(alloc, *punct),
-        TokenTree::Literal(literal) => format!(in alloc; "literal {literal}; "),
-    }
-}
-
-// The trees of a stream in their order.
-fn told(alloc: Global, stream: TokenStream) -> Result<String, AllocError> {
-    let mut out = String::new(alloc);
-    for tree in stream.into_iter()? {
-        let line = tree_told(alloc, &tree)?;
-        out.push_str(line.as_str())?;
-    }
-    Ok(out)
-}
 
 fn lexed(alloc: Global, text: &str) -> Result<TokenStream, Fail> {
     let mut map = SourceMap::new(alloc);
     Ok(TokenStream::from_str(alloc, text, &mut map)?)
-}
-
-#[test]
-fn a_stream_gives_its_trees(rt: HostRuntime) -> Result<(), Fail> {
-    let rows: [(&str, &str); 9] = [
-        ("", ""),
-        ("x += 1;", "name x; joint +; alone =; literal 1; alone ;; "),
-        ("x + = 1", "name x; alone +; alone =; literal 1; "),
-        ("fn f(a: u8, b) {}", "name fn; name f; ( of 5; brace of 0; "),
-        (
-            "v[(0)] = -1",
-            "name v; [ of 1; alone =; alone -; literal 1; ",
-        ),
-        ("'a: 'b'", "joint '; name a; alone :; literal 'b'; "),
-        ("a..=b", "name a; joint .; joint .; alone =; name b; "),
-        ("/// x", "alone #; [ of 3; "),
-        ("r#fn::_", "name r#fn; joint :; alone :; name _; "),
-    ];
-    for (text, trees) in rows {
-        let answer = told(rt.alloc(), lexed(rt.alloc(), text)?)?;
-        assert_eq!(rt; answer.as_str(), trees, "of {text}");
-    }
-    Ok(())
 }
 
 #[test]
@@ -93,8 +21,9 @@ fn the_inside_of_a_group_is_a_stream(rt: HostRuntime) -> Result<(), Fail> {
     let Some(TokenTree::Group(outer)) = trees.next() else {
         panic!(rt; "no group");
     };
-    let answer = told(rt.alloc(), outer.stream()?)?;
-    assert_eq!(rt; answer.as_str(), "name a; [ of 2; ");
+    let inside = outer.stream()?;
+    let text = format!(in rt.alloc(); "{inside}")?;
+    assert_eq!(rt; text.as_str(), "a [b c]");
     let Some(TokenTree::Group(inner)) = outer.stream()?.into_iter()?.last() else {
         panic!(rt; "no group inside");
     };
@@ -123,50 +52,6 @@ fn name(alloc: Global, text: &str) -> Result<Ident, Fail> {
 
 fn raw_name(alloc: Global, text: &str) -> Result<Ident, Fail> {
     Ok(Ident::new_raw(alloc, text, Span::call_site()).map_err(|_| "no raw name")?)
-}
-
-#[test]
-fn names_print_as_they_are(rt: HostRuntime) -> Result<(), Fail> {
-    for text in ["fn", "x", "_", "\u{e9}t\u{e9}", "Self"] {
-        let ident = name(rt.alloc(), text)?;
-        let printed = format!(in rt.alloc(); "{ident}")?;
-        assert_eq!(rt; printed.as_str(), text);
-    }
-    let raw = raw_name(rt.alloc(), "fn")?;
-    let printed = format!(in rt.alloc(); "{raw}")?;
-    assert_eq!(rt; printed.as_str(), "r#fn");
-    Ok(())
-}
-
-// Why a text is no name, and why it is no raw one.
-fn refusals(alloc: Global, text: &str) -> (Option<IdentFault>, Option<IdentFault>) {
-    let site = Span::call_site();
-    (
-        Ident::new(alloc, text, site).err(),
-        Ident::new_raw(alloc, text, site).err(),
-    )
-}
-
-#[test]
-fn names_are_refused(rt: HostRuntime) -> Result<(), Fail> {
-    let rows = [
-        ("", Some(IdentFault::Empty), Some(IdentFault::Empty)),
-        ("255", Some(IdentFault::Number), Some(IdentFault::Number)),
-        ("2x", Some(IdentFault::Invalid), Some(IdentFault::Invalid)),
-        ("a b", Some(IdentFault::Invalid), Some(IdentFault::Invalid)),
-        ("r#fn", Some(IdentFault::Invalid), Some(IdentFault::Invalid)),
-        ("'a", Some(IdentFault::Invalid), Some(IdentFault::Invalid)),
-        ("_", None, Some(IdentFault::Reserved)),
-        ("super", None, Some(IdentFault::Reserved)),
-        ("self", None, Some(IdentFault::Reserved)),
-        ("Self", None, Some(IdentFault::Reserved)),
-        ("crate", None, Some(IdentFault::Reserved)),
-        ("static", None, None),
-    ];
-    for (text, plain, raw) in rows {
-        assert!(rt; refusals(rt.alloc(), text) == (plain, raw), "of {text}");
-    }
-    Ok(())
 }
 
 fn hashed(ident: &Ident) -> u64 {

@@ -22,30 +22,6 @@ fn said<E: Error>(alloc: Global, error: &E) -> Result<String, AllocError> {
 }
 
 #[test]
-fn streams_are_shown(rt: HostRuntime) -> Result<(), Fail> {
-    let rows = [
-        ("", "TokenStream []"),
-        ("a;", "TokenStream [Ident(a), Punct(;, Alone)]"),
-        (
-            "+-1",
-            "TokenStream [Punct(+, Joint), Punct(-, Alone), Literal(1)]",
-        ),
-        (
-            "m!{(\"a\") []}",
-            "TokenStream [Ident(m), Punct(!, Alone), Group(Brace, TokenStream [\
-             Group(Parenthesis, TokenStream [Literal(\"a\")]), Group(Bracket, TokenStream [])])]",
-        ),
-    ];
-    for (text, words) in rows {
-        let mut map = SourceMap::new(rt.alloc());
-        let stream = TokenStream::from_str(rt.alloc(), text, &mut map)?;
-        let shown = shown(rt.alloc(), &stream)?;
-        assert_eq!(rt; shown.as_str(), words);
-    }
-    Ok(())
-}
-
-#[test]
 fn groups_and_trees_are_shown(rt: HostRuntime) -> Result<(), Fail> {
     let group = Group::new(Delimiter::None, TokenStream::new(rt.alloc()));
     let invisible = shown(rt.alloc(), &group)?;

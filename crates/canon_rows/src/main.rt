@@ -1,0 +1,68 @@
+//! Answers a table of texts by `canonical`, and sees that `run` answers alike. What is wanted comes from the rules, and
+//! stands beside the questions in `stdout`.
+#![tactic(auto)]
+
+use anyhow::{Result, anyhow};
+use canon::canonical::canonical;
+use canon::fault::{Fault, status};
+use canon::run::run;
+use canon_io::watched::Watched;
+use rows::{Row, Table, answered, write};
+use rust_map::SourceMap;
+use std::alloc::Global;
+use std::io::{Read, Write};
+
+struct Calls;
+
+impl Table for Calls {
+    fn answer(&self, alloc: Global, row: &Row) -> Result<String> {
+        match row.call {
+            "canonical" => told(alloc, row.text.as_str()),
+            _ => Err(anyhow!("no such call")),
+        }
+    }
+}
+
+// The output of a text, which is its own output, or what is said of its fault. `run` does alike.
+fn told(alloc: Global, text: &str) -> Result<String> {
+    let answer = canonical(alloc, text, &mut SourceMap::new(alloc));
+    if !runs_alike(alloc, text, &answer)? {
+        return Ok(String::from_str(alloc, "run does otherwise")?);
+    }
+    let output = match answer {
+        Ok(output) => output,
+        Err(fault) => return Ok(format!(in alloc; "{fault}")?),
+    };
+    match canonical(alloc, output.as_str(), &mut SourceMap::new(alloc)) {
+        Ok(again) if again.as_str() == output.as_str() => write(alloc, output.as_str()),
+        Ok(again) => Ok(format!(in alloc; "not its own: {again}")?),
+        Err(fault) => Ok(format!(in alloc; "not its own: {fault}")?),
+    }
+}
+
+// Whether `run` of a text writes that output and a line feed, or refuses it by that fault with nothing written.
+fn runs_alike(alloc: Global, text: &str, answer: &Result<String, Fault>) -> Result<bool> {
+    let mut reader = Watched::new(text.as_bytes());
+    let mut writer = Watched::new(Vec::new(alloc));
+    let outcome = run(alloc, &mut reader, &mut writer);
+    let ended = status(&outcome);
+    let mut page = String::new(alloc);
+    let wanted = match answer {
+        Ok(output) => {
+            page.push_str(output.as_str())?;
+            page.push('\n')?;
+            Ok(())
+        }
+        Err(fault) => Err(*fault),
+    };
+    let written = writer.get_ref().as_slice() == page.as_bytes();
+    Ok(outcome == wanted && ended == u8::from(wanted.is_err()) && written)
+}
+
+fn main(rt: HostRuntime) -> Result<()> {
+    let mut lines = String::new(rt.alloc());
+    rt.reader().read_to_string(&mut lines)?;
+    let answers = answered(rt.alloc(), &Calls, lines.as_str())?;
+    rt.stdout().write_all(answers.as_bytes())?;
+    Ok(())
+}
