@@ -2,52 +2,11 @@
 //! standard output, or says on standard error why there is none.
 #![tactic(auto)]
 
-ghost use Rattle.canon.specs.Message.{status_of};
-ghost use Rattle.std.specs.Prelude.{◌≡◌};
-ghost use Rattle.std.specs.Process.{exit_status};
-
-use canon::fault::{Fault, status, write_fault};
-use canon::run::run;
-use canon_io::watched::Watched;
-use std::env;
-use std::io::{ErrorKind, Write};
+use canon_program::program;
 use std::process::ExitCode;
 
-/// The status of a call with arguments that the program doesn't know.
-const USAGE: u8 = 2;
-
 /// Ends with 0 where the canonical form was written, 1 where the text is at fault, 2 where there are
-/// arguments, and 3 where something else failed. A failed write to standard error changes no status.
+/// arguments, and 3 where something else failed.
 fn main(rt: HostRuntime) -> ExitCode {
-    match has_arguments(&rt) {
-        Ok(false) => {}
-        Ok(true) => {
-            let _ = writeln!(rt.stderr(), "usage: canon");
-            return ExitCode::from(USAGE);
-        }
-        Err(fault) => return ended(&rt, &Err(fault)),
-    }
-    let mut reader = Watched::new(rt.reader());
-    let mut writer = Watched::new(rt.stdout());
-    let outcome = run(rt.alloc(), &mut reader, &mut writer);
-    ended(&rt, &outcome)
-}
-
-// Whether there is an argument. One that isn't UTF-8 is one.
-fn has_arguments(rt: &HostRuntime) -> Result<bool, Fault> {
-    match env::args(rt) {
-        Ok(args) => Ok(args.len() > 1),
-        Err(error) if error.kind() == ErrorKind::OutOfMemory => Err(Fault::Memory),
-        Err(_) => Ok(true),
-    }
-}
-
-// Says the fault, if there is one, and ends with the outcome's status.
-fn ended(rt: &HostRuntime, outcome: &Result<(), Fault>) -> ExitCode
-    ensures { exit_status result ≡ status_of outcome.now }
-{
-    if let Err(fault) = outcome {
-        let _ = write_fault(fault, &mut rt.stderr());
-    }
-    ExitCode::from(status(outcome))
+    program(&rt, &mut rt.stderr())
 }
