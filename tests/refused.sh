@@ -1,39 +1,45 @@
 #!/usr/bin/env bash
-# Runs built programs once for each allocation that they make, refusing that one: canon_cli and lex_cli on their
-# stored inputs; grow_check on each text of tests/texts, behind an older text in its map, on streams that are built by
-# hand, and on literals of texts and their values. Each run must give the answer itself, or end with nothing written:
-# with status 3 where memory was refused (in grow_check to a call that is looked at, which then left all as it was), or
-# with grow_check's status 4 where it was refused elsewhere.
-# Usage: tests/refused.sh. `rt run` proves and builds the programs first. It needs cc and glibc.
+# Runs built programs once for each allocation that they make, refusing that one: canon_cli on its stored input, on a
+# text at fault, on a large text and on an argument; lex_cli on its stored input; grow_check on each text of
+# tests/texts, behind an older text in its map, on streams that are built by hand, and on literals of texts and their
+# values. Each run must give the answer itself, with its status and what it says on standard error, or end with nothing
+# written: with status 3 where memory was refused (in grow_check to a call that is looked at, which then left all as it
+# was), or with grow_check's status 4 where it was refused elsewhere. canon_cli says "canon: out of memory" then, and the
+# others nothing.
+# Usage: tests/refused.sh. `rt run` proves and builds the programs first. It needs cc, glibc and python3.
 set -euo pipefail
 cd "$(dirname "$0")"
 work=$(mktemp -d)
 trap 'rm -rf "$work"' EXIT
 cc -shared -fPIC -O1 -o "$work/refuse_one.so" refuse_one.c
+: > "$work/nothing"
 
 # build PROGRAM
 build() {
     (cd "../crates/$1" && rt run < stdin > "$work/out" 2> "$work/err") || { cat "$work/err" >&2; exit 1; }
 }
 
-# sweep NAME PROGRAM INPUT ANSWER [ARGUMENT]
+# sweep NAME PROGRAM INPUT [ARGUMENT..], which must give the status $want, the file $answer and the words $said,
+# or the words $refusal and status 3.
 sweep() {
-    local name=$1 program=../crates/$2/out/$2 input=$3 answer=$4 refused=0 elsewhere=0 answered=0 status n
-    shift 4
+    local name=$1 program=../crates/$2/out/$2 input=$3 refused=0 elsewhere=0 answered=0 status n
+    shift 3
+    printf '%s' "$said" > "$work/said"
+    printf '%s' "$refusal" > "$work/refusal"
     for ((n = 1; ; n++)); do
         : > "$work/refused"
         status=0
         REFUSE=$n LD_PRELOAD="$work/refuse_one.so" "$program" "$@" \
             < "$input" > "$work/out" 2> "$work/err" 9> "$work/refused" || status=$?
-        if [ "$status" = 0 ] && cmp -s "$work/out" "$answer"; then
+        if [ "$status" = "$want" ] && cmp -s "$work/out" "$answer" && cmp -s "$work/err" "$work/said"; then
             answered=$((answered + 1))
-        elif [ "$status" = 3 ] && [ ! -s "$work/out" ]; then
+        elif [ "$status" = 3 ] && [ ! -s "$work/out" ] && cmp -s "$work/err" "$work/refusal"; then
             refused=$((refused + 1))
-        elif [ "$status" = 4 ] && [ ! -s "$work/out" ]; then
+        elif [ "$status" = 4 ] && [ ! -s "$work/out" ] && [ ! -s "$work/err" ]; then
             elsewhere=$((elsewhere + 1))
         else
             echo "$name, allocation $n: status $status, and:" >&2
-            cat "$work/out" "$work/err" >&2
+            head -c 1000 "$work/out" "$work/err" >&2
             exit 1
         fi
         [ -s "$work/refused" ] || break
@@ -48,10 +54,37 @@ sweep() {
 for program in canon_cli lex_cli grow_check; do
     build "$program"
 done
-sweep canon_cli canon_cli ../crates/canon_cli/stdin ../crates/canon_cli/stdout
-sweep lex_cli lex_cli ../crates/lex_cli/stdin ../crates/lex_cli/stdout print
+
+refusal=$'canon: out of memory\n'
+want=0 answer=../crates/canon_cli/stdout said=
+sweep "canon" canon_cli ../crates/canon_cli/stdin
+python3 -c 'print("".join(f"struct  S{n} ;\n" for n in range(400)) + "m!{" + "(" * 50 + "x" * 1000 + ")" * 50 + "}")' \
+    > "$work/large"
+python3 -c 'print(" ".join(f"struct S{n} ;" for n in range(400)) + " m ! { " + "(" * 50 + "x" * 1000 + ")" * 50 + " }")' \
+    > "$work/large.answer"
+answer=$work/large.answer
+sweep "canon, a large text" canon_cli "$work/large"
+want=1 answer=$work/nothing
+printf 'struct S;\nm!{(' > "$work/lexical"
+said=$'canon: lexical fault at 2:3\n'
+sweep "canon, a lexical fault" canon_cli "$work/lexical"
+printf 'struct S;\n m!(a)' > "$work/syntax"
+said=$'canon: syntax fault at 2:3: unexpected token\n'
+sweep "canon, a syntax fault" canon_cli "$work/syntax"
+printf '\xff' > "$work/bytes"
+said=$'canon: not UTF-8\n'
+sweep "canon, no text" canon_cli "$work/bytes"
+want=2 said=$'usage: canon\n'
+sweep "canon, an argument" canon_cli "$work/nothing" x
+
+want=0 said= refusal=
+answer=../crates/lex_cli/stdout
+sweep "lex_cli" lex_cli ../crates/lex_cli/stdin print
 for text in texts/*.text; do
-    sweep "$text" grow_check "$text" "${text%.text}.answer"
+    answer=${text%.text}.answer
+    sweep "$text" grow_check "$text"
 done
-sweep "streams by hand" grow_check /dev/null ../crates/grow_check/stdout built
-sweep "literals and their values" grow_check /dev/null literals.answer literals
+answer=../crates/grow_check/stdout
+sweep "streams by hand" grow_check /dev/null built
+answer=literals.answer
+sweep "literals and their values" grow_check /dev/null literals

@@ -91,7 +91,9 @@ fn a_run_writes_no_more_behind_a_failed_write(rt: HostRuntime) {
         let outcome = run(rt.alloc(), &mut reader, &mut writer);
         assert_eq!(rt; outcome, Err(Fault::Writing), "at write {bad}");
         assert_eq!(rt; writer.get_ref().writes.count, bad);
-        assert_eq!(rt; writer.get_ref().taken.len() as u64 + 1, bad as u64);
+        let taken = writer.get_ref().taken.as_slice();
+        assert_eq!(rt; taken.len() as u64 + 1, bad as u64);
+        assert!(rt; PAGE.starts_with(taken));
         assert_eq!(rt; writer.get_ref().flushes.count, 0);
     }
 }

@@ -47,30 +47,6 @@ fn a_thousand_interruptions_are_a_failure(rt: HostRuntime) {
 }
 
 #[test]
-fn each_failing_read_writes_nothing(rt: HostRuntime) {
-    for calls in 0..20u32 {
-        let mut reader = Watched::new(Source::new(TEXT, Plan::failing(calls)));
-        let mut writer = Watched::new(Sink::new(rt.alloc(), Plan::by(1)));
-        let outcome = run(rt.alloc(), &mut reader, &mut writer);
-        assert_eq!(rt; outcome, Err(Fault::Reading), "after {calls} calls");
-        assert!(rt; writer.get_ref().taken.is_empty());
-    }
-}
-
-#[test]
-fn each_failing_write_leaves_a_front(rt: HostRuntime) {
-    for calls in 0..26u32 {
-        let mut reader = Watched::new(Source::new(TEXT, Plan::by(usize::MAX)));
-        let mut writer = Watched::new(Sink::new(rt.alloc(), Plan::failing(calls)));
-        let outcome = run(rt.alloc(), &mut reader, &mut writer);
-        assert_eq!(rt; outcome, Err(Fault::Writing), "after {calls} calls");
-        let taken = writer.get_ref().taken.as_slice();
-        assert_eq!(rt; taken.len(), calls as usize);
-        assert!(rt; PAGE.starts_with(taken));
-    }
-}
-
-#[test]
 fn five_bytes_are_struc(rt: HostRuntime) {
     let mut reader = Watched::new(Source::new(TEXT, Plan::by(usize::MAX)));
     let mut writer = Watched::new(Sink::new(rt.alloc(), Plan::failing(5)));
@@ -94,28 +70,19 @@ fn a_write_that_takes_no_byte_is_a_failure(rt: HostRuntime) {
 
 #[test]
 fn refused_texts_write_nothing(rt: HostRuntime) {
-    let texts: [(&[u8], u8); 4] = [
-        (b"\xff", 1),
-        (b"m!{", 1),
-        (b"struct S;struct", 1),
-        (b"fn f(){}", 1),
+    let texts: [(&[u8], Option<Fault>); 4] = [
+        (b"\xff", Some(Fault::NotUtf8)),
+        (b"m!{", None),
+        (b"struct S;struct", Some(Fault::Syntax { place: None })),
+        (b"fn f(){}", None),
     ];
-    for (text, end) in texts {
+    for (text, fault) in texts {
         let mut reader = Watched::new(Source::new(text, Plan::by(usize::MAX)));
         let mut writer = Watched::new(Sink::new(rt.alloc(), Plan::by(1)));
         let outcome = run(rt.alloc(), &mut reader, &mut writer);
-        assert_eq!(rt; status(&outcome), end);
+        assert_eq!(rt; status(&outcome), 1);
+        assert!(rt; fault.is_none() || outcome.err() == fault);
         assert!(rt; writer.get_ref().taken.is_empty());
         assert!(rt; !writer.failed());
     }
-}
-
-#[test]
-fn a_byte_that_is_no_text_is_said_so(rt: HostRuntime) {
-    let mut reader = Watched::new(Source::new(b"\xff", Plan::by(usize::MAX)));
-    let mut writer = Watched::new(Sink::new(rt.alloc(), Plan::by(1)));
-    assert_eq!(rt;
-        run(rt.alloc(), &mut reader, &mut writer),
-        Err(Fault::NotUtf8)
-    );
 }

@@ -4,10 +4,12 @@
 //!
 //! - `texts`: a text and its output, made side by side.
 //! - `calls`: what the calls answer.
+//! - `values`: leaves of large texts, and their values.
 #![tactic(auto)]
 
 mod calls;
 mod texts;
+mod values;
 
 use anyhow::Result;
 use calls::{canonical_is, is_copied, is_lexed, is_placed, is_printed, runs_to};
@@ -28,6 +30,8 @@ fn main(rt: HostRuntime) -> Result<()> {
         ("canonical", canonical_is(alloc, source, wanted)?),
         ("its output again", canonical_is(alloc, wanted, wanted)?),
         ("run", runs_to(alloc, source, wanted)?),
+        ("literals and values", values::are_read_back(alloc)?),
+        ("identifiers and numbers", values::are_taken(alloc)?),
     ];
     for (name, holds) in rows {
         let line = format!(in alloc; "{name}: {holds}\n")?;

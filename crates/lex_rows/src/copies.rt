@@ -48,35 +48,45 @@ fn is_tree_alike(alloc: Global, tree: &TokenTree) -> Result<bool> {
 pub fn alike(alloc: Global, text: &str) -> Result<String> {
     let mut map = SourceMap::new(alloc);
     let stream = TokenStream::from_str(alloc, text, &mut map)?;
-    let mut count = 0u64;
-    if is_alike(alloc, &stream)? {
-        let trees = stream.into_iter()?;
-        if is_alike(alloc, &trees)? {
-            for tree in trees {
-                count += u64::from(is_tree_alike(alloc, &tree)?);
-            }
-        }
+    let mut all = is_alike(alloc, &stream)?;
+    let trees = stream.into_iter()?;
+    all = all && is_alike(alloc, &trees)?;
+    let count = trees.try_clone()?.count();
+    for tree in trees {
+        all = is_tree_alike(alloc, &tree)? && all;
+    }
+    if !all {
+        return Ok(String::from_str(alloc, "not alike")?);
     }
     Ok(format!(in alloc; "{count}")?)
 }
 
 /// The copies of a value of each type of std that has any, of a text's length and of the text.
 pub fn of_std(alloc: Global, text: &str) -> Result<String> {
-    let length = text.len();
+    let numbers = numbers(alloc, text.len())?;
+    let parts = parts(alloc, text)?;
+    Ok(format!(in alloc; "{numbers} {parts}")?)
+}
+
+fn numbers(alloc: Global, length: usize) -> Result<String> {
     let small = u8::try_from(length)?;
     let (first, second) = (small.try_clone()?, u16::from(small).try_clone()?);
     let (third, fourth) = (u32::from(small).try_clone()?, u64::from(small).try_clone()?);
     let (fifth, sixth) = (u128::from(small).try_clone()?, length.try_clone()?);
+    Ok(format!(in alloc; "{first} {second} {third} {fourth} {fifth} {sixth}")?)
+}
+
+fn parts(alloc: Global, text: &str) -> Result<String> {
     let flag = text.is_empty().try_clone()?;
     let letter = text.chars().next().unwrap_or('-').try_clone()?;
     let owned = String::from_str(alloc, text)?.try_clone()?;
-    let some = Some(String::from_str(alloc, text)?).try_clone()?;
+    let some = Some(flag).try_clone()?;
     let none = None::<u8>.try_clone()?;
-    let boxed = Box::new(alloc, small)?.try_clone()?;
-    let list = vec![in alloc; small, 1]?.try_clone()?;
-    let pair = (small, letter).try_clone()?;
-    let numbers = format!(in alloc;
-        "{first} {second} {third} {fourth} {fifth} {sixth} {flag} {letter}"
-    )?;
-    Ok(format!(in alloc; "{numbers} {owned:?} {some:?} {none:?} {boxed} {list:?} {pair:?}")?)
+    let boxed = Box::new(alloc, letter)?.try_clone()?;
+    let mut letters = Vec::new(alloc);
+    letters.push(letter)?;
+    letters.push('z')?;
+    let list = letters.try_clone()?;
+    let pair = (flag, letter).try_clone()?;
+    Ok(format!(in alloc; "{flag} {letter} {owned:?} {some:?} {none:?} {boxed} {list:?} {pair:?}")?)
 }

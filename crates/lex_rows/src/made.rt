@@ -46,34 +46,65 @@ pub fn c_string(alloc: Global, text: &str) -> Result<String> {
 
 /// An integer's constructor, by its name, of a number of base 10.
 pub fn integer(alloc: Global, call: &str, text: &str) -> Result<String> {
-    let literal = match call {
-        "u8_suffixed" => Literal::u8_suffixed(alloc, u8::from_str_radix(text, 10)?)?,
-        "u8_unsuffixed" => Literal::u8_unsuffixed(alloc, u8::from_str_radix(text, 10)?)?,
-        "u16_suffixed" => Literal::u16_suffixed(alloc, u16::from_str_radix(text, 10)?)?,
-        "u16_unsuffixed" => Literal::u16_unsuffixed(alloc, u16::from_str_radix(text, 10)?)?,
-        "u32_suffixed" => Literal::u32_suffixed(alloc, u32::from_str_radix(text, 10)?)?,
-        "u32_unsuffixed" => Literal::u32_unsuffixed(alloc, u32::from_str_radix(text, 10)?)?,
-        "u64_suffixed" => Literal::u64_suffixed(alloc, u64::from_str_radix(text, 10)?)?,
-        "u64_unsuffixed" => Literal::u64_unsuffixed(alloc, u64::from_str_radix(text, 10)?)?,
-        "u128_suffixed" => Literal::u128_suffixed(alloc, u128::from_str_radix(text, 10)?)?,
-        "u128_unsuffixed" => Literal::u128_unsuffixed(alloc, u128::from_str_radix(text, 10)?)?,
-        "usize_suffixed" => Literal::usize_suffixed(alloc, usize::from_str_radix(text, 10)?)?,
-        "usize_unsuffixed" => Literal::usize_unsuffixed(alloc, usize::from_str_radix(text, 10)?)?,
-        "i8_suffixed" => Literal::i8_suffixed(alloc, i8::from_str_radix(text, 10)?)?,
-        "i8_unsuffixed" => Literal::i8_unsuffixed(alloc, i8::from_str_radix(text, 10)?)?,
-        "i16_suffixed" => Literal::i16_suffixed(alloc, i16::from_str_radix(text, 10)?)?,
-        "i16_unsuffixed" => Literal::i16_unsuffixed(alloc, i16::from_str_radix(text, 10)?)?,
-        "i32_suffixed" => Literal::i32_suffixed(alloc, i32::from_str_radix(text, 10)?)?,
-        "i32_unsuffixed" => Literal::i32_unsuffixed(alloc, i32::from_str_radix(text, 10)?)?,
-        "i64_suffixed" => Literal::i64_suffixed(alloc, i64::from_str_radix(text, 10)?)?,
-        "i64_unsuffixed" => Literal::i64_unsuffixed(alloc, i64::from_str_radix(text, 10)?)?,
-        "i128_suffixed" => Literal::i128_suffixed(alloc, i128::from_str_radix(text, 10)?)?,
-        "i128_unsuffixed" => Literal::i128_unsuffixed(alloc, i128::from_str_radix(text, 10)?)?,
-        "isize_suffixed" => Literal::isize_suffixed(alloc, isize::from_str_radix(text, 10)?)?,
-        "isize_unsuffixed" => Literal::isize_unsuffixed(alloc, isize::from_str_radix(text, 10)?)?,
-        _ => return Err(anyhow!("no such call")),
+    let made = match call.split_once('_') {
+        Some((name, "suffixed")) if name.starts_with('u') => unsigned_suffixed(alloc, name, text)?,
+        Some((name, "unsuffixed")) if name.starts_with('u') => unsigned(alloc, name, text)?,
+        Some((name, "suffixed")) => signed_suffixed(alloc, name, text)?,
+        Some((name, "unsuffixed")) => signed(alloc, name, text)?,
+        _ => None,
     };
-    write(alloc, literal.as_str())
+    match made {
+        Some(literal) => write(alloc, literal.as_str()),
+        None => Err(anyhow!("no such call")),
+    }
+}
+
+fn unsigned_suffixed(alloc: Global, name: &str, text: &str) -> Result<Option<Literal>> {
+    Ok(Some(match name {
+        "u8" => Literal::u8_suffixed(alloc, u8::from_str_radix(text, 10)?)?,
+        "u16" => Literal::u16_suffixed(alloc, u16::from_str_radix(text, 10)?)?,
+        "u32" => Literal::u32_suffixed(alloc, u32::from_str_radix(text, 10)?)?,
+        "u64" => Literal::u64_suffixed(alloc, u64::from_str_radix(text, 10)?)?,
+        "u128" => Literal::u128_suffixed(alloc, u128::from_str_radix(text, 10)?)?,
+        "usize" => Literal::usize_suffixed(alloc, usize::from_str_radix(text, 10)?)?,
+        _ => return Ok(None),
+    }))
+}
+
+fn unsigned(alloc: Global, name: &str, text: &str) -> Result<Option<Literal>> {
+    Ok(Some(match name {
+        "u8" => Literal::u8_unsuffixed(alloc, u8::from_str_radix(text, 10)?)?,
+        "u16" => Literal::u16_unsuffixed(alloc, u16::from_str_radix(text, 10)?)?,
+        "u32" => Literal::u32_unsuffixed(alloc, u32::from_str_radix(text, 10)?)?,
+        "u64" => Literal::u64_unsuffixed(alloc, u64::from_str_radix(text, 10)?)?,
+        "u128" => Literal::u128_unsuffixed(alloc, u128::from_str_radix(text, 10)?)?,
+        "usize" => Literal::usize_unsuffixed(alloc, usize::from_str_radix(text, 10)?)?,
+        _ => return Ok(None),
+    }))
+}
+
+fn signed_suffixed(alloc: Global, name: &str, text: &str) -> Result<Option<Literal>> {
+    Ok(Some(match name {
+        "i8" => Literal::i8_suffixed(alloc, i8::from_str_radix(text, 10)?)?,
+        "i16" => Literal::i16_suffixed(alloc, i16::from_str_radix(text, 10)?)?,
+        "i32" => Literal::i32_suffixed(alloc, i32::from_str_radix(text, 10)?)?,
+        "i64" => Literal::i64_suffixed(alloc, i64::from_str_radix(text, 10)?)?,
+        "i128" => Literal::i128_suffixed(alloc, i128::from_str_radix(text, 10)?)?,
+        "isize" => Literal::isize_suffixed(alloc, isize::from_str_radix(text, 10)?)?,
+        _ => return Ok(None),
+    }))
+}
+
+fn signed(alloc: Global, name: &str, text: &str) -> Result<Option<Literal>> {
+    Ok(Some(match name {
+        "i8" => Literal::i8_unsuffixed(alloc, i8::from_str_radix(text, 10)?)?,
+        "i16" => Literal::i16_unsuffixed(alloc, i16::from_str_radix(text, 10)?)?,
+        "i32" => Literal::i32_unsuffixed(alloc, i32::from_str_radix(text, 10)?)?,
+        "i64" => Literal::i64_unsuffixed(alloc, i64::from_str_radix(text, 10)?)?,
+        "i128" => Literal::i128_unsuffixed(alloc, i128::from_str_radix(text, 10)?)?,
+        "isize" => Literal::isize_unsuffixed(alloc, isize::from_str_radix(text, 10)?)?,
+        _ => return Ok(None),
+    }))
 }
 
 // The text between a literal's quotes, which take some bytes at its front and one at its end.

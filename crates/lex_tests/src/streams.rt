@@ -5,7 +5,6 @@ use proc_macro2::tree::{Group, TokenStream, TokenTree};
 use rust_leaf::ident::Ident;
 use rust_leaf::literal::Literal;
 use rust_leaf::punct::{Punct, Spacing};
-use rust_map::source_map::SourceMap;
 use rust_map::span::Span;
 use std::test::Fail;
 
@@ -53,29 +52,5 @@ fn a_changed_copy_leaves_the_other(rt: HostRuntime) -> Result<(), Fail> {
     );
     assert_eq!(rt; texts.0.as_str(), "+");
     assert_eq!(rt; texts.1.as_str(), "+ -");
-    Ok(())
-}
-
-#[test]
-fn well_spaced_streams_are_told(rt: HostRuntime) -> Result<(), Fail> {
-    for text in ["", "a+=b", "'a b\"x\" ;'x'", "m!{/// x\n}"] {
-        let mut map = SourceMap::new(rt.alloc());
-        assert!(rt;
-            TokenStream::from_str(rt.alloc(), text, &mut map)?.is_well_spaced(),
-            "of {text}"
-        );
-    }
-    for (mark, spacing) in [
-        ('+', Spacing::Joint),
-        ('\'', Spacing::Alone),
-        ('\'', Spacing::Joint),
-    ] {
-        if Punct::is_mark(mark) {
-            let tree = TokenTree::Punct(Punct::new(mark, spacing));
-            assert!(rt; !TokenStream::from_tree(rt.alloc(), tree)?.is_well_spaced());
-        }
-    }
-    let hidden = TokenTree::Group(Group::new(Delimiter::None, TokenStream::new(rt.alloc())));
-    assert!(rt; !TokenStream::from_tree(rt.alloc(), hidden)?.is_well_spaced());
     Ok(())
 }
