@@ -1,0 +1,5 @@
+pub mod Left
+pub mod Lists
+pub mod Pairs
+pub mod PairsLeft
+pub mod Put

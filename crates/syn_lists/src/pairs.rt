@@ -1,0 +1,73 @@
+//! The values of a list with their separators, one by one, from both ends.
+
+ghost use Rattle.std.specs.Iterator.{UpTo, YieldsFirstBy, YieldsLastBy, at_most, item_count};
+ghost use Rattle.std.specs.Iterator.SizeHint.{IsExactHint, IsWithinCount};
+ghost use Rattle.std.specs.Prelude.{◌≡◌, ◌≤◌, IfSome, length, vec_len};
+ghost use Rattle.syn_lists.specs.Lists.{separators, values};
+ghost use Rattle.syn_lists.specs.PairsLeft.{pairs_left};
+ghost use Rattle.syn_lists.specs.Pairs.{lent, pairs, parts};
+
+use crate::pair::Pair;
+use crate::punctuated::Punctuated;
+use std::collections::VecDeque;
+
+/// The values of a list with the separators behind them, in order, lent.
+#[derive(Clone, Copy, Debug)]
+pub struct Pairs<'a, T, P> {
+    pub(crate) values: &'a [T],
+    pub(crate) separators: &'a [P],
+}
+
+impl<T, P> Punctuated<T, P> {
+    /// The values with the separators behind them, in order, lent.
+    pub fn pairs(&self) -> Pairs<'_, T, P>
+        ensures { pairs_left result ≡ pairs (values self.now) (separators self.now) }
+    {
+        Pairs {
+            values: self.as_slice(),
+            separators: self.separators(),
+        }
+    }
+}
+
+impl<'a, T, P> Iterator for Pairs<'a, T, P> {
+    type Item = Pair<&'a T, &'a P>;
+
+    ghost next_gives = { YieldsFirstBy lent pairs_left };
+
+    ghost remaining = { item_count pairs_left };
+
+    fn next(&mut self) -> Option<Pair<&'a T, &'a P>> {
+        let (value, values) = self.values.split_first()?;
+        self.values = values;
+        match self.separators.split_first() {
+            Some((separator, separators)) => {
+                self.separators = separators;
+                Some(Pair::Punctuated(value, separator))
+            }
+            None => Some(Pair::End(value)),
+        }
+    }
+}
+
+#[tactic(auto, using(crate::proofs::Behind::last_with, crate::proofs::Behind::last_without, crate::proofs::Behind::pairs_count))]
+impl<'a, T, P> DoubleEndedIterator for Pairs<'a, T, P> {
+    ghost next_back_gives = { YieldsLastBy lent pairs_left };
+
+    fn next_back(&mut self) -> Option<Pair<&'a T, &'a P>> {
+        let (value, values) = self.values.split_last()?;
+        self.values = values;
+        if values.len() < self.separators.len() {
+            Some(Pair::Punctuated(value, &self.separators[values.len()]))
+        } else {
+            Some(Pair::End(value))
+        }
+    }
+}
+
+#[tactic(auto, using(crate::proofs::Behind::pairs_count))]
+impl<'a, T, P> ExactSizeIterator for Pairs<'a, T, P> {
+    fn len(&self) -> usize {
+        self.values.len()
+    }
+}

@@ -1,0 +1,41 @@
+//! Lists printed as tokens, and copies of lists.
+
+ghost use Rattle.std.specs.Prelude.{List, map};
+ghost use Rattle.syn_lists.specs.Lists.{separators, values};
+ghost use Rattle.syn_lists.specs.Put.{put_list};
+
+use crate::punctuated::Punctuated;
+use proc_macro2::tree::TokenStream;
+use std::alloc::AllocError;
+use syn_error::to_tokens::ToTokens;
+use try_clone::TryClone;
+
+#[tactic(auto, using(syn_error::proofs::Fronts::keeps_same, syn_error::proofs::Fronts::keeps_both))]
+impl<T: ToTokens, P: ToTokens> ToTokens for Punctuated<T, P> {
+    ghost put = { λ list. put_list T.put P.put (values list) (separators list) };
+
+    fn to_tokens(&self, tokens: &mut TokenStream) -> Result<(), AllocError> {
+        for index in 0..self.values.len() {
+            self.values[index].to_tokens(tokens)?;
+            if index == self.separators.len() {
+                return Ok(());
+            }
+            self.separators[index].to_tokens(tokens)?;
+        }
+        Ok(())
+    }
+}
+
+impl<T: TryClone, P: TryClone> TryClone for Punctuated<T, P> {
+    ghost Shown = { List T.Shown × List P.Shown };
+
+    ghost shown = { λ list. (map T.shown (values list), map P.shown (separators list)) };
+
+    fn try_clone(&self) -> Result<Punctuated<T, P>, AllocError> {
+        let values = self.values.try_clone()?;
+        Ok(Punctuated {
+            values,
+            separators: self.separators.try_clone()?,
+        })
+    }
+}
