@@ -1,14 +1,20 @@
 //! The canonical form of a Rust source text.
 //!
-//! - `canonical`: the canonical form of a text.
-//! - `run`: from a reader to a writer.
+//! - `form`: the canonical form of a text.
+//! - `runs`: a run, from a reader to a writer.
 //! - `fault`: why a text has none, and what the program says then.
-//! - `causes`: faults of the parts of a run, as faults of the run.
+//! - `causes` (private): faults of the parts of a run, as faults of the run.
 //! - `laws`: laws of programs and their canonical forms.
 #![tactic(auto)]
 
-pub mod canonical;
-pub mod causes;
+mod causes;
 pub mod fault;
+pub mod form;
 pub mod laws;
-pub mod run;
+pub mod runs;
+
+pub use canon_io::watched::Watched;
+pub use fault::{Fault, status, write_fault};
+pub use form::canonical;
+pub use proc_macro2::{LineColumn, MapFull, SourceMap};
+pub use runs::run;

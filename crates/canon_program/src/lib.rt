@@ -6,9 +6,7 @@ ghost use Rattle.canon.specs.Message.{status_of};
 ghost use Rattle.std.specs.Prelude.{◌≡◌};
 ghost use Rattle.std.specs.Process.{exit_status};
 
-use canon::fault::{Fault, status, write_fault};
-use canon::run::run;
-use canon_io::watched::Watched;
+use canon::{Fault, Watched, run, status, write_fault};
 use std::env;
 use std::io::{ErrorKind, Write};
 use std::process::ExitCode;

@@ -3,10 +3,7 @@
 #![tactic(auto)]
 
 use anyhow::{Result, anyhow};
-use canon::canonical::canonical;
-use canon::fault::{Fault, status};
-use canon::run::run;
-use canon_io::watched::Watched;
+use canon::{Fault, Watched, canonical, run, status};
 use rows::{Row, Table, answered, write};
 use rust_map::SourceMap;
 use std::alloc::Global;

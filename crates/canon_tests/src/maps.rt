@@ -1,7 +1,6 @@
 //! What becomes of the map, by `canonical`.
 
-use canon::canonical::canonical;
-use canon::fault::Fault;
+use canon::{Fault, canonical};
 use rust_map::SourceMap;
 use std::test::Fail;
 

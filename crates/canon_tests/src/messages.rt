@@ -1,7 +1,7 @@
 //! What the program says of each fault.
 
 use crate::streams::{Plan, Sink};
-use canon::fault::{Fault, write_fault};
+use canon::{Fault, write_fault};
 use rust_map::LineColumn;
 use std::test::Fail;
 

@@ -1,9 +1,7 @@
 //! What is passed on to the streams within, and how often: no contract can say what an inner stream answered.
 
 use crate::counted::{CountedSink, CountedSource};
-use canon::fault::Fault;
-use canon::run::run;
-use canon_io::watched::Watched;
+use canon::{Fault, Watched, run};
 use std::io::{ErrorKind, Read, Write};
 use std::test::Fail;
 

@@ -1,9 +1,7 @@
 //! Texts, and what `run` reads and writes.
 
 use crate::streams::{Plan, Sink, Source};
-use canon::fault::{Fault, status};
-use canon::run::run;
-use canon_io::watched::Watched;
+use canon::{Fault, Watched, run, status};
 use std::test::Fail;
 
 const TEXT: &[u8] = b"struct  S ;m!{a+-b}";

@@ -1,9 +1,7 @@
 //! What the calls answer of a large text.
 
 use anyhow::{Result, anyhow};
-use canon::canonical::canonical;
-use canon::run::run;
-use canon_io::watched::Watched;
+use canon::{Watched, canonical, run};
 use proc_macro2::tree::{TokenStream, TokenTree};
 use rust_map::SourceMap;
 use std::alloc::Global;

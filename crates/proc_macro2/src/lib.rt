@@ -18,6 +18,10 @@
 //! - `debug` (private): how `{:?}` shows streams, groups and trees.
 //! - `spacing`: the test for streams that are read back from their text.
 //! - `laws`: laws of streams.
+//!
+//! What a caller needs of the crates below stands here too: leaves (`rust_leaf`), the source map, spans and faults
+//! (`rust_map`), the escapes of literals (`rust_escape`) and copies (`try_clone`), and the definitions that their
+//! contracts cite, in `specs/`.
 #![tactic(auto)]
 
 mod builder;
@@ -40,9 +44,12 @@ pub mod tree;
 pub use delimiter::Delimiter;
 pub use group::DelimSpan;
 pub use into_iter::IntoIter;
-pub use rust_leaf::ident::{Ident, IdentFault};
-pub use rust_leaf::literal::Literal;
-pub use rust_leaf::punct::{Punct, Spacing};
+pub use rust_escape::{
+    EscapeError, MixedUnit, Mode, NonZeroChar, check_for_errors, check_raw_byte_str,
+    check_raw_c_str, check_raw_str, unescape_byte, unescape_byte_str, unescape_c_str,
+    unescape_char, unescape_str,
+};
+pub use rust_leaf::{ConversionErrorKind, Ident, IdentFault, Literal, Punct, Spacing};
 pub use rust_map::{LexError, LexFault, LineColumn, MapFull, SourceMap, Span};
 pub use tree::{Group, TokenStream, TokenTree};
 pub use try_clone::TryClone;

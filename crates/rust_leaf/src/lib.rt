@@ -7,14 +7,14 @@
 //! - `punct`: punctuation marks.
 //! - `literal`: literals.
 //! - `debug` (private): leaves as `{:?}` shows them.
-//! - `escape`: how characters and bytes are written inside quotes.
-//! - `in_quotes`: the constructors of literals in quotes.
-//! - `integer`: the constructors of integer literals.
+//! - `escape` (private): how characters and bytes are written inside quotes.
+//! - `in_quotes` (private): the constructors of literals in quotes.
+//! - `integer` (private): the constructors of integer literals.
 //! - `minus`: the minus that may stand before a number.
-//! - `parse`: literals of texts, and which texts are literals.
-//! - `subspan`: the spans of parts of literals.
-//! - `quoted`: literals in double quotes, and where their insides stand.
-//! - `spelled`: what the units of an inside spell.
+//! - `parse` (private): literals of texts, and which texts are literals.
+//! - `subspan` (private): the spans of parts of literals.
+//! - `quoted` (private): literals in double quotes, and where their insides stand.
+//! - `spelled` (private): what the units of an inside spell.
 //! - `value`: the values of string, byte string and C string literals.
 //! - `value_laws`: laws of these values.
 //! - `messages` (private): what is said of faults.
@@ -37,3 +37,8 @@ mod spelled;
 mod subspan;
 pub mod value;
 pub mod value_laws;
+
+pub use ident::{Ident, IdentFault};
+pub use literal::Literal;
+pub use punct::{Punct, Spacing};
+pub use value::ConversionErrorKind;

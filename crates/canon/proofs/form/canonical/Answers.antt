@@ -13,7 +13,7 @@ use Rattle.canon_syntax.specs.Views.{file_tree}
 use Rattle.canon.specs.Causes.{IsHeld, parse_fault}
 use Rattle.canon.specs.Faults.{IsFaultOf}
 use Rattle.canon.proofs.Answers.{given, given_fault, given_held, output_is}
-use Rattle.canon.proofs.canonical.canonical.Goals as goal
+use Rattle.canon.proofs.form.canonical.Goals as goal
 
 pub returns-in-Ok-clause-output : goal.returns-in-Ok-clause-output
 returns-in-Ok-clause-output c =

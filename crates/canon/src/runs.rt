@@ -5,8 +5,8 @@ ghost use Rattle.canon_io.specs.Bytes.{ConsumesAtMost};
 ghost use Rattle.canon_io.specs.Watched.{has_failed, inner_of, is_flushed};
 ghost use Rattle.std.specs.Prelude.{◌≡◌, ◌+◌, ◌≤◌, ◌↔◌, Err, IfErr, IfOk, IfSome, IsTrue, OnOk, false, length, string_bytes};
 
-use crate::canonical::canonical;
 use crate::fault::Fault;
+use crate::form::canonical;
 use canon_io::reading::read_within;
 use canon_io::watched::Watched;
 use canon_io::writing::{flush_watched, write_all_watched};
