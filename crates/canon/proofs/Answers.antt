@@ -22,7 +22,8 @@ use Rattle.canon.specs.Faults.{IsFaultOf}
 use Rattle.canon.specs.Run.{IsPage, IsRunFault, limit}
 use Rattle.canon.specs.declared.fault.Fault.{Fault}
 use Rattle.canon.specs.declared.fault.Fault.TheVariants.{NotUtf8, Lexical, Syntax, MapFull, Memory, Reading, Writing}
-use Rattle.canon.proofs.Forests.{same_tokens, elsewhere, forest_lies, forest_behind}
+use Rattle.canon.proofs.Forests.{same_tokens, elsewhere, forest_behind}
+use Rattle.proc_macro2.proofs.Lies.{forest_lies}
 use Rattle.canon.proofs.Places.{entries_held, same_place}
 use Rattle.canon.proofs.Programs.{written_tokens}
 

@@ -1,6 +1,5 @@
 -- The forest of a text, wherever its characters stand.
-use Rattle.std.proofs.Common.{◌≡◌, ℕ, ◌+◌, List, [], length, map, ap, ◌∙◌, subst, ⊎_elim, arith}
-use Rattle.rust_lex.specs.Cover.{onto}
+use Rattle.std.proofs.Common.{◌≡◌, ℕ, List, [], map, ap, ◌∙◌, subst, ⊎_elim, arith}
 use Rattle.rust_lex.specs.Piece.{Piece}
 use Rattle.rust_lex.proofs.OneCover.{one_cover}
 use Rattle.proc_macro2.specs.Token.{Spanned, plain}
@@ -11,7 +10,7 @@ use Rattle.proc_macro2.proofs.Halts.{no_forest}
 use Rattle.proc_macro2.proofs.Total.{forest_or_fault}
 use Rattle.lex_laws.proofs.Forests.{forest_read}
 use Rattle.lex_laws.proofs.Plain.{one_reading}
-use Rattle.canon.proofs.Places.{AllLie, AreBehind, tokens_lie, tokens_behind}
+use Rattle.canon.proofs.Places.{AreBehind, tokens_behind}
 
 -- the tokens of a text do not depend on where its characters stand
 pub same_tokens : (a b : ℕ) (text : List ℕ) (ss ts : List Spanned) → IsForest a text ss → IsForest b text ts → plain ss ≡ plain ts
@@ -25,13 +24,7 @@ elsewhere a b text ss f =
     (λ (place, fault). absurd (no_forest a text place ss fault f))
     (forest_or_fault b text)
 
--- the tokens lie where the characters stand
-pub forest_lies : (base : ℕ) (text : List ℕ) (ss : List Spanned) → IsForest base text ss → AllLie base (base + length text) (map edged ss)
-forest_lies base text ss f =
-    let all : length text ≡ length (onto f.pieces []) = ap length f.cover.joined in
-    subst (AllLie base (base + length text)) (forest_tokens base text ss f) (tokens_lie base (base + length text) base f.pieces [] (omega arith) (omega arith))
-
--- and begin as far behind those of positions from 0 on
+-- its tokens begin as far behind those of positions from 0 on
 pub forest_behind : (base : ℕ) (text : List ℕ) (ss ts : List Spanned) → IsForest base text ss → IsForest 0 text ts → AreBehind base (map edged ss) (map edged ts)
 forest_behind base text ss ts f g =
     let same : f.pieces ≡ g.pieces = one_cover text f.pieces g.pieces f.cover g.cover in

@@ -1,15 +1,15 @@
 -- Where the tokens of a text's forest stand in a map that the text was put into.
-use Rattle.std.proofs.Common.{◌≡◌, ℕ, zero, suc, ◌+◌, ◌-◌, ◌<◌, ◌≤◌, List, [], ◌∷◌, ◌++◌, length, map, refl, sym, ap, ◌∙◌, subst, arith, length-append}
-use Rattle.std.specs.Prelude.{Bool, true, false, nat_lt, if◌then◌else◌, IsTrue, Option, Some, None, slice_get}
+use Rattle.std.proofs.Common.{◌≡◌, ℕ, zero, suc, ◌+◌, ◌-◌, ◌<◌, ◌≤◌, List, [], ◌∷◌, ◌++◌, length, map, refl, sym, ap, ◌∙◌, arith}
+use Rattle.std.specs.Prelude.{Bool, true, false, nat_lt, if◌then◌else◌, Option, Some, None, slice_get}
 use Rattle.std.specs.Option.{option_map, option_map_or}
 use Rattle.std.specs.List.{All}
 use Rattle.std.proofs.lemmas.Bool.{ltb-true, ltb-false}
 use Rattle.rust_map.specs.Answers.{start_place, no_place}
 use Rattle.rust_map.specs.Places.{place_of}
-use Rattle.rust_map.specs.Sources.{Sources, Spot, spot, is_held, next_position, next_span, next_spot, spot_part, with_text}
-use Rattle.rust_map.specs.Spans.{span_from, span_part}
+use Rattle.rust_map.specs.Sources.{Sources, Spot, spot, next_position, next_span, next_spot, with_text}
+use Rattle.rust_map.specs.Spans.{span_from}
 use Rattle.rust_map.specs.declared.span.Span.{Span}
-use Rattle.rust_map.proofs.SpotLemmas.{held_by_spot, part_lies, same_span}
+use Rattle.proc_macro2.proofs.Lies.{AllLie, Lies, held_span, spot_of}
 use Rattle.rust_lex.specs.Cover.{onto}
 use Rattle.rust_lex.specs.Piece.{Piece}
 use Rattle.proc_macro2.specs.Token.{Token, Opens, Closes, Ident, Literal, Punct, Spanned}
@@ -19,49 +19,6 @@ use Rattle.token_entries.specs.Entries.{spanned_entry, spanned_entries}
 use Rattle.token_entries.specs.declared.entry.Entry.{Entry}
 use Rattle.canon.specs.Causes.{IsHeld, held_place}
 use Rattle.canon.specs.Faults.{begins_at, token_place}
-
--- a span lies between two positions
-pub record Lies (low high : ℕ) (span : Span) : Type 0 where
-  pub starts : low ≤ span.start
-  pub ordered : span.start ≤ span.end
-  pub ends : span.end ≤ high
-
-abbrev pub AllLie : ℕ → ℕ → List Spanned → Type 0
-AllLie low high [] = Unit {0}
-AllLie low high (s ∷ ss) = Lies low high s.span × AllLie low high ss
-
-both_lie : (low high : ℕ) (ss ts : List Spanned) → AllLie low high ss → AllLie low high ts → AllLie low high (ss ++ ts)
-both_lie low high [] ts l m = m
-both_lie low high (s ∷ ss) ts l m = (l.0, both_lie low high ss ts l.1 m)
-
--- the first and the last character of a stretch of so many lie in it
-first_lies : (low high p n : ℕ) (b : Bool) → (b ≡ true → p < p + n) → low ≤ p → p + n ≤ high → Lies low high (if b then span_from p (p + 1) else span_from p (p + n))
-first_lies low high p n true t l h = let some : p < p + n = t refl in record { starts = l; ordered = omega arith; ends = omega arith }
-first_lies low high p n false t l h = record { starts = l; ordered = omega arith; ends = h }
-
-last_lies : (low high p n : ℕ) (b : Bool) → (b ≡ true → p < p + n) → low ≤ p → p + n ≤ high → Lies low high (if b then span_from (p + n - 1) (p + n) else span_from p (p + n))
-last_lies low high p n true t l h = let some : p < p + n = t refl in record { starts = omega arith; ordered = omega arith; ends = h }
-last_lies low high p n false t l h = record { starts = l; ordered = omega arith; ends = h }
-
-edge_lies : (low high p n : ℕ) (t : Token) → low ≤ p → p + n ≤ high → Lies low high (edge t (span_at p n))
-edge_lies low high p n (Opens d) l h = first_lies low high p n (nat_lt p (p + n)) (λ e. ltb-true p (p + n) e) l h
-edge_lies low high p n (Closes d) l h = last_lies low high p n (nat_lt p (p + n)) (λ e. ltb-true p (p + n) e) l h
-edge_lies low high p n (Ident cs) l h = record { starts = l; ordered = omega arith; ends = h }
-edge_lies low high p n (Literal cs) l h = record { starts = l; ordered = omega arith; ends = h }
-edge_lies low high p n (Punct c spacing) l h = record { starts = l; ordered = omega arith; ends = h }
-
-edges_lie : (low high p n : ℕ) (ts : List Token) → low ≤ p → p + n ≤ high → AllLie low high (edged_at (span_at p n) ts)
-edges_lie low high p n [] l h = tt
-edges_lie low high p n (t ∷ ts) l h = (edge_lies low high p n t l h, edges_lie low high p n ts l h)
-
--- the tokens of pieces lie where the pieces do
-pub tokens_lie : (low high p : ℕ) (ps : List Piece) (rest : List ℕ) → low ≤ p → p + length (onto ps []) ≤ high → AllLie low high (tokens_onto p ps rest)
-tokens_lie low high p [] rest l h = tt
-tokens_lie low high p (x ∷ ps) rest l h =
-    let n : length (onto (x ∷ ps) []) ≡ length x.chars + length (onto ps []) = length-append x.chars (onto ps []) in
-    both_lie low high (edged_at (span_at p (length x.chars)) (tokens_before x.kind x.chars (onto ps rest))) (tokens_onto (p + length x.chars) ps rest)
-    (edges_lie low high p (length x.chars) (tokens_before x.kind x.chars (onto ps rest)) l (omega arith))
-    (tokens_lie low high (p + length x.chars) ps rest (omega arith) (omega arith))
 
 -- tokens that begin so many positions behind others
 abbrev pub AreBehind : ℕ → List Spanned → List Spanned → Type 0
@@ -116,26 +73,14 @@ module _ (sources : Sources) (text : List ℕ) (there : spot (with_text sources 
   abbrev pub base : ℕ
   base = next_position sources
 
-  spot_of : (span : Span) → Lies base (base + length text) span → spot grown span ≡ Some (spot_part (next_spot sources text) (span.start - base) (span.end - base))
-  spot_of span l =
-      let starts = l.starts in
-      let ordered = l.ordered in
-      let ends = l.ends in
-      let e : span_part (next_span sources text) (span.start - base) (span.end - base) ≡ span = same_span _ _ _ _ (omega arith) (omega arith) in
-      subst (λ x. spot grown x ≡ Some (spot_part (next_spot sources text) (span.start - base) (span.end - base))) e
-      (part_lies (next_span sources text) (span.start - base) (span.end - base) (omega arith) (omega arith) grown (next_spot sources text) there)
-
-  held_span : (span : Span) → Lies base (base + length text) span → IsTrue (is_held grown span)
-  held_span span l = held_by_spot grown span _ (spot_of span l)
-
   place_span : (span : Span) (n : ℕ) → Lies base (base + length text) span → span.start ≡ base + n → start_place grown span ≡ place_of text n
   place_span span n l e =
-      ap (λ o. option_map_or (λ (s : Spot). place_of s.text s.from) o no_place) (spot_of span l) ∙ ap (place_of text) (omega arith)
+      ap (λ o. option_map_or (λ (s : Spot). place_of s.text s.from) o no_place) (spot_of sources text there span l) ∙ ap (place_of text) (omega arith)
 
   -- the map holds each token
   pub entries_held : (es : List Entry) → AllLie base (base + length text) (map edged (spanned_entries es)) → All (IsHeld grown) es
   entries_held [] l k d h = absurd (omega arith)
-  entries_held (e ∷ es) l zero d h = held_span (edged (spanned_entry e)).span l.0
+  entries_held (e ∷ es) l zero d h = held_span sources text there (edged (spanned_entry e)).span l.0
   entries_held (e ∷ es) l (suc k) d h = entries_held es l.1 k d (omega arith)
 
   -- and has it where it stands in the text

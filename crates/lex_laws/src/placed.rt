@@ -13,14 +13,13 @@ use proc_macro2::tree::TokenStream;
 use rust_map::SourceMap;
 use std::alloc::Global;
 
-/// What `TokenStream::from_str` answers and does to the map. The map holds the span of each token of the
-/// stream, and its source text is the token as it is printed; that of a group goes from the opening
-/// delimiter to the closing one, and that of a token that comes of a doc comment is the comment. The
-/// tokens stand in the order of the stream. Spans of earlier texts lie where they lay, whatever is
-/// answered. `MapFull` is answered exactly where the map has no positions left for the text.
+/// What `TokenStream::from_str` answers and does to the map. The source text of each token of the stream is
+/// the token as it is printed; that of a group goes from the opening delimiter to the closing one, and that
+/// of a token that comes of a doc comment is the comment. The tokens stand in the order of the stream. Spans
+/// of earlier texts lie where they lay, whatever is answered. `MapFull` is answered exactly where the map has
+/// no positions left for the text.
 pub fn placed(alloc: Global, src: &str, map: &mut SourceMap) -> Result<TokenStream, LexFault>
     ensures forest { IfOk result (IsForest (next_position map.old) (chars src.now)) }
-    ensures held { IfOk result (λ stream. All (λ token. IsTrue (is_held map.new token.span)) stream) }
     ensures printed { IfOk result (λ stream. All (IsFound map.new) stream) }
     ensures ordered { IfOk result (λ stream. AllPairs (IsBehind map.new) stream) }
     ensures kept { KeepsSpots map.old map.new }

@@ -18,3 +18,6 @@ pub mod Reading
 pub mod OneForest
 pub mod Halts
 pub mod Total
+pub mod Lies
+pub mod Held
+pub mod Marks

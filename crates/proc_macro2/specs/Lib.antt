@@ -14,6 +14,7 @@ pub mod Spacing
 pub mod Stands
 pub mod Pieces
 pub mod Forest
+pub mod Held
 pub mod Built
 -- what the contracts of the crates below cite: of the source map,
 pub use Rattle.rust_map.specs.Places

@@ -1,8 +1,11 @@
 //! Groups, and the spans of their delimiters.
 
+ghost use Rattle.proc_macro2.specs.Flat.{group_tokens};
+ghost use Rattle.proc_macro2.specs.Held.{are_held};
 ghost use Rattle.proc_macro2.specs.Trees.{delim_span_of};
+ghost use Rattle.rust_map.specs.Sources.{Sources};
 ghost use Rattle.rust_map.specs.Spans.{call_site, first_of, last_of};
-ghost use Rattle.std.specs.Prelude.{◌≡◌, IfOk};
+ghost use Rattle.std.specs.Prelude.{◌≡◌, IfOk, IsTrue};
 
 use crate::copies::copied_stream;
 use crate::delimiter::Delimiter;
@@ -31,16 +34,20 @@ impl Group {
         self.delimiter
     }
 
-    /// A copy of the stream between the delimiters.
+    /// A copy of the stream between the delimiters. A map that holds the group's spans holds the stream's.
+    #[tactic(auto, using(crate::proofs::Held::inside_held))]
     pub fn stream(&self) -> Result<TokenStream, AllocError>
-        ensures { IfOk result (λ s. s ≡ self.now.stream) }
+        ensures copy { IfOk result (λ s. s ≡ self.now.stream) }
+        ensures held { IfOk result (λ s. (map : Sources) → IsTrue (are_held map (group_tokens self.now)) → IsTrue (are_held map s)) }
     {
         copied_stream(self.stream_ref())
     }
 
-    /// The stream between the delimiters, lent.
+    /// The stream between the delimiters, lent. A map that holds the group's spans holds the stream's.
+    #[tactic(auto, using(crate::proofs::Held::inside_held))]
     pub fn stream_ref(&self) -> &TokenStream
-        ensures { result.now ≡ self.now.stream }
+        ensures stream { result.now ≡ self.now.stream }
+        ensures held { (map : Sources) → IsTrue (are_held map (group_tokens self.now)) → IsTrue (are_held map result.now) }
     {
         &self.stream
     }

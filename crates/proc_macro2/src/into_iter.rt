@@ -1,10 +1,13 @@
 //! Taking streams apart.
 
 ghost use Rattle.proc_macro2.specs.Flat.{trees_tokens, tree_tokens};
+ghost use Rattle.proc_macro2.specs.Held.{are_held};
 ghost use Rattle.proc_macro2.specs.Left.{trees_left};
+ghost use Rattle.rust_map.specs.Sources.{Sources};
 ghost use Rattle.std.specs.Iterator.{UpTo, YieldsFirst, at_most, item_count};
 ghost use Rattle.std.specs.Iterator.SizeHint.{IsExactHint, IsWithinCount};
-ghost use Rattle.std.specs.Prelude.{◌≡◌, IfOk, IfSome, List, length, map};
+ghost use Rattle.std.specs.List.{All};
+ghost use Rattle.std.specs.Prelude.{◌≡◌, IfOk, IfSome, IsTrue, List, length, map};
 
 use crate::copies::copied_tree;
 use crate::tree::{TokenStream, TokenTree};
@@ -20,9 +23,11 @@ pub struct IntoIter {
 
 impl TokenStream {
     /// The trees of the stream, in order. Groups come whole. Memory may be refused where the
-    /// stream has to be copied.
+    /// stream has to be copied. A map that holds the stream's spans holds those of each tree.
+    #[tactic(auto, using(crate::proofs::Held::trees_held))]
     pub fn into_iter(self) -> Result<IntoIter, AllocError>
-        ensures { IfOk result (λ it. trees_tokens (trees_left it) ≡ self) }
+        ensures trees { IfOk result (λ it. trees_tokens (trees_left it) ≡ self) }
+        ensures held { IfOk result (λ it. (map : Sources) → IsTrue (are_held map self) → All (λ tree. IsTrue (are_held map (tree_tokens tree))) (trees_left it)) }
     {
         let TokenStream { trees } = self;
         Ok(IntoIter {

@@ -1,6 +1,7 @@
 //! Token streams of texts.
 
 ghost use Rattle.proc_macro2.specs.Forest.{IsFault, IsForest};
+ghost use Rattle.proc_macro2.specs.Held.{are_held};
 ghost use Rattle.rust_map.specs.declared.fault.LexFault.TheVariants.{Lex, MapFull};
 ghost use Rattle.rust_lex.specs.Piece.{IsJoint};
 ghost use Rattle.rust_lex.specs.Places.{IsPlace, rest_at};
@@ -104,7 +105,7 @@ impl TokenStream {
     /// The tokens of a text as trees, and the text itself behind the others of the map.
     ///
     /// Each token carries its span, and a group the span from its opening to its closing delimiter. A
-    /// doc comment gives the tokens of the attribute that it stands for.
+    /// doc comment gives the tokens of the attribute that it stands for. The map holds each of these spans.
     ///
     /// `LexFault::MapFull` is answered, before the text is looked at, exactly if the map has no
     /// positions left for so many characters; `LexFault::Lex` if the text has a lexical fault: where no
@@ -115,6 +116,7 @@ impl TokenStream {
         ensures parsed { IfOk result (λ stream. IsForest (next_position map.old) (chars src.now) stream) }
         ensures fault { IfErr result (IsFault (next_position map.old) (chars src.now)) }
         ensures full { (result ≡ Err MapFull) ↔ (2 ^ 32 ≤ next_position map.old + length (chars src.now)) }
+        ensures held { IfOk result (λ stream. IsTrue (are_held map.new stream)) }
         ensures map_ok { OnOk result (map.new ≡ with_text map.old (chars src.now)) }
         ensures spot { OnOk result (spot map.new (next_span map.old (chars src.now)) ≡ Some (next_spot map.old (chars src.now))) }
         ensures map_err { OnErr result (map.new ≡ map.old) }

@@ -4,10 +4,12 @@
 //! with the literal's span.
 
 ghost use Rattle.proc_macro2.specs.Entered.{entered, literal_entered};
-ghost use Rattle.proc_macro2.specs.Flat.{trees_tokens};
+ghost use Rattle.proc_macro2.specs.Flat.{tree_tokens, trees_tokens};
+ghost use Rattle.proc_macro2.specs.Held.{are_held};
 ghost use Rattle.proc_macro2.specs.Stream.{IsStream};
 ghost use Rattle.rust_leaf.specs.Leaf.{literal_span, literal_text};
-ghost use Rattle.std.specs.List.{flat_map};
+ghost use Rattle.rust_map.specs.Sources.{Sources};
+ghost use Rattle.std.specs.List.{All, flat_map};
 ghost use Rattle.std.specs.Prelude.{[], ◌++◌, ◌≡◌, ◌↔◌, IfOk, IsTrue, OnErr, OnOk};
 
 use crate::tree::{TokenStream, TokenTree};
@@ -38,9 +40,12 @@ impl TokenStream {
         self.trees.is_empty()
     }
 
-    /// The trees of the stream, in order, lent. Groups come whole.
+    /// The trees of the stream, in order, lent. Groups come whole. A map that holds the stream's spans
+    /// holds those of each tree.
+    #[tactic(auto, using(crate::proofs::Held::trees_held))]
     pub fn trees(&self) -> &[TokenTree]
-        ensures { trees_tokens result.now ≡ self.now }
+        ensures trees { trees_tokens result.now ≡ self.now }
+        ensures held { (map : Sources) → IsTrue (are_held map self.now) → All (λ tree. IsTrue (are_held map (tree_tokens tree))) result.now }
     {
         self.trees.as_slice()
     }

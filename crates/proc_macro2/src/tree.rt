@@ -4,7 +4,8 @@ ghost use Rattle.proc_macro2.specs.Flat.{tree_tokens};
 ghost use Rattle.proc_macro2.specs.Stream.{IsStream};
 ghost use Rattle.proc_macro2.specs.Trees.{tokens_at, tree_span};
 ghost use Rattle.proc_macro2.specs.declared.tree.TokenTree.TheVariants as tree;
-ghost use Rattle.std.specs.Prelude.{◌≡◌};
+ghost use Rattle.rust_map.specs.Sources.{Sources, is_held};
+ghost use Rattle.std.specs.Prelude.{◌≡◌, IsTrue};
 
 use crate::delimiter::Delimiter;
 use rust_leaf::ident::Ident;
@@ -76,9 +77,14 @@ impl TokenStream {
 }
 
 impl TokenTree {
-    /// Where the tree stands: its token, or the group from its opening to its closing token.
+    ghost use Rattle.proc_macro2.specs.Held.{are_held};
+
+    /// Where the tree stands: its token, or the group from its opening to its closing token. A map that
+    /// holds the tree's spans holds it.
+    #[tactic(auto, using(crate::proofs::Held::tree_held))]
     pub fn span(&self) -> Span
-        ensures { result ≡ tree_span self.now }
+        ensures span { result ≡ tree_span self.now }
+        ensures held { (map : Sources) → IsTrue (are_held map (tree_tokens self.now)) → IsTrue (is_held map result) }
     {
         match self {
             TokenTree::Group(group) => group.span,

@@ -2,9 +2,6 @@ use Rattle.std.specs.Str.{chars}
 use Rattle.lex_laws.proofs.PlacedStreams as lemma
 use Rattle.lex_laws.proofs.placed.placed.Goals as goal
 
-pub returns-clause-held : goal.returns-clause-held
-returns-clause-held c = lemma.held _ c.from_str.result (lemma.printed _ _ (chars c.args.src.now) c.starting_position-first.result c.from_str.result c.starting_position-first.ensures.position c.starting_position-first.ensures.positive c.from_str.ensures.parsed c.from_str.ensures.map_ok)
-
 pub returns-clause-printed : goal.returns-clause-printed
 returns-clause-printed c = lemma.printed _ _ (chars c.args.src.now) c.starting_position-first.result c.from_str.result c.starting_position-first.ensures.position c.starting_position-first.ensures.positive c.from_str.ensures.parsed c.from_str.ensures.map_ok
 

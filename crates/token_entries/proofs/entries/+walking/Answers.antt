@@ -1,5 +1,5 @@
-use Rattle.std.proofs.Common.{◌≡◌, ◌≤◌, ap, arith, length}
-use Rattle.proc_macro2.specs.Flat.{tree_tokens, trees_tokens}
+use Rattle.std.proofs.Common.{ap, arith, length}
+use Rattle.proc_macro2.specs.Flat.{tree_tokens}
 use Rattle.proc_macro2.specs.declared.tree.TokenTree.{TokenTree}
 use Rattle.token_entries.proofs.Trees.{part_length}
 use Rattle.token_entries.proofs.entries.+walking.Goals as goal
