@@ -23,7 +23,7 @@ put_trees-loop-tree-preserved t c =
 pub put_group-put_trees-requires : goal.put_group-put_trees-requires
 put_group-put_trees-requires t c =
     let close : List Spanned = spanned (Closes c.args.group.now.delimiter) c.args.group.now.span ∷ [] in
-    let inside : length (trees_tokens c.trees.result.now) ≡ length c.args.group.now.stream = ap (λ (x : List Spanned). length x) (c.trees.ensures ∙ c.stream_ref.ensures) in
+    let inside : length (trees_tokens c.trees.result.now) ≡ length c.args.group.now.stream = ap (λ (x : List Spanned). length x) (c.trees.ensures.trees ∙ c.stream_ref.ensures.stream) in
     let long = length-append c.args.group.now.stream close in
     omega (arith, inside, long, c.decreases)
 
@@ -35,6 +35,6 @@ put_group-returns t c =
     let opened : List Entry = c.push.new.self.items in
     let filled : List Entry = c.put_trees.new.entries.items in
     let P : List Spanned → Type 0 = λ ts. Puts opened filled ts in
-    let inside : Puts opened filled c.args.group.now.stream = subst P (c.trees.ensures ∙ c.stream_ref.ensures) c.in_ok-put_trees.ensures in
+    let inside : Puts opened filled c.args.group.now.stream = subst P (c.trees.ensures.trees ∙ c.stream_ref.ensures.stream) c.in_ok-put_trees.ensures in
     let marked : opened ≡ before ++ marks.Open d s 0 ∷ [] = cc (c.in_ok-push.ensures.items) in
     put_group d s before opened filled c.close.new.entries.items c.args.group.now.stream marked inside (cc (c.in_ok-close.ensures))
