@@ -1,4 +1,4 @@
-//! The peer of `lex.sh`: reads a text on standard input and lexes it with proc-macro2's own lexer; with the
+//! The peer of `shapes.py`: reads a text on standard input and lexes it with proc-macro2's own lexer; with the
 //! argument `print` it writes the tokens to standard output.
 
 use std::io::{Read, Write};

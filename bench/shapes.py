@@ -1,10 +1,11 @@
 #!/usr/bin/env python3
-"""Times lexing on texts of many shapes beside proc-macro2's own lexer, with and without span locations, and `canon` on
-two shapes, all in one run. Prints a table: for each program the least processor time of several runs and its peak
-memory for each byte of the text.
+"""Times lexing on texts of many shapes beside proc-macro2's own lexer, with and without span locations, lexing and
+printing, and `canon`, all in one run. Prints tables: for each program the least processor time of several runs and its
+peak memory for each byte of the text.
 
-Usage: bench/shapes.py [RUNS]. It builds the programs first, which proves what isn't proved yet, and fetches nothing:
-bench/lex.sh does, where Debian's packages rust-src and librust-proc-macro2-dev are missing."""
+Usage: bench/shapes.py [RUNS]. It builds the programs first, which proves what isn't proved yet, and fetches Debian's
+packages rust-src and librust-proc-macro2-dev where they are missing. The peer is built with plain rustc, and nothing of
+it is kept."""
 
 import glob
 import os
@@ -17,6 +18,15 @@ HERE = os.path.dirname(os.path.abspath(__file__))
 TOP = os.path.dirname(HERE)
 REGISTRY = "/usr/share/cargo/registry"
 SIZE = 10_000_000
+LONG = 4 * SIZE
+
+
+def fetch():
+    """Debian's packages with the library's sources and the peer's."""
+    packages = ["rust-src", "librust-proc-macro2-dev"]
+    if subprocess.run(["dpkg", "-s", *packages], capture_output=True).returncode != 0:
+        subprocess.run(["apt-get", "update", "-qq"], check=True)
+        subprocess.run(["apt-get", "install", "-y", "-qq", *packages], stdout=subprocess.DEVNULL, check=True)
 
 
 def library():
@@ -44,7 +54,8 @@ def generated():
             part = f"pub static TABLE_{number}: [(u32, &str); 40] = [\n{rows}];\n\n"
         else:
             lines = "".join(f"    let x{n} = self.call_{n}(x, {n})? + 1; // step {n}\n" for n in range(12))
-            part = f"/// Does step {number}.\nfn step_{number}(&mut self, x: u32) -> Result<u32> {{\n{lines}    Ok(x)\n}}\n\n"
+            head = f"/// Does step {number}.\nfn step_{number}(&mut self, x: u32) -> Result<u32> {{\n"
+            part = f"{head}{lines}    Ok(x)\n}}\n\n"
         parts.append(part)
         size += len(part)
     return "".join(parts).encode()
@@ -55,17 +66,19 @@ def shapes(std):
     yield "std, joined", std
     yield "one large generated file", generated()
     yield "tokens of one character", b"a+" * (SIZE // 4)
-    yield "one string", b'"' + b"s" * SIZE + b'"'
-    yield "one comment", b"/*" + b"c" * SIZE + b"*/"
-    yield "one comment of a line", b"//" + b"c" * SIZE + b"\n"
-    yield "one run of white", b" " * SIZE
-    yield "one identifier", b"i" * SIZE
-    yield "one number", b"7" * SIZE
-    yield "one doc comment", b"///" + b"d" * SIZE + b"\n"
+    yield "one string", b'"' + b"s" * LONG + b'"'
+    yield "one comment", b"/*" + b"c" * LONG + b"*/"
+    yield "one comment of a line", b"//" + b"c" * LONG + b"\n"
+    yield "one run of white", b" " * LONG
+    yield "one identifier", b"i" * LONG
+    yield "one number", b"7" * LONG
+    yield "one doc comment", b"///" + b"d" * LONG + b"\n"
 
 
 def canon_shapes(std):
     """The same of texts that `canon` takes."""
+    items = subprocess.run([sys.executable, HERE + "/items.py", "10"], capture_output=True, check=True).stdout
+    yield "generated items (`bench/items.py`)", items
     yield "`struct S;` items", b"struct S;\n" * (SIZE // 10)
     yield "one macro with std inside", b"m!{" + std + b"}"
 
@@ -95,51 +108,65 @@ def built(work):
     }
 
 
-def once(program, path):
-    """Seconds of a processor and bytes of memory of one run."""
+def once(command, path):
+    """Seconds of a processor and bytes of memory of one run of a command."""
     with open(path, "rb") as text, open(os.devnull, "wb") as out:
-        child = subprocess.Popen([program], stdin=text, stdout=out)
+        child = subprocess.Popen(command, stdin=text, stdout=out)
         _, status, usage = os.wait4(child.pid, 0)
         child.returncode = os.waitstatus_to_exitcode(status)
     if child.returncode != 0:
-        raise SystemExit(f"{program}: status {child.returncode}")
+        raise SystemExit(f"{command}: status {child.returncode}")
     return usage.ru_utime + usage.ru_stime, usage.ru_maxrss * 1024
 
 
-def measured(programs, path, runs):
-    """For each program the least seconds and the peak of memory; the programs take turns."""
-    seconds = [float("inf")] * len(programs)
-    memory = [0] * len(programs)
+def measured(commands, path, runs):
+    """For each command the least seconds and the peak of memory; the commands take turns."""
+    seconds = [float("inf")] * len(commands)
+    memory = [0] * len(commands)
     for _ in range(runs):
-        for at, program in enumerate(programs):
-            took, peak = once(program, path)
+        for at, command in enumerate(commands):
+            took, peak = once(command, path)
             seconds[at] = min(seconds[at], took)
             memory[at] = max(memory[at], peak)
     return seconds, memory
 
 
+def lexing_table(title, programs, arguments, texts, path, runs):
+    """Each text's row: this lexer beside the peer with and without span locations."""
+    print(f"\n| {title} | MB | this | peer with spans | peer without | this/with | this/without | Bytes a byte, each |")
+    print("|---|---|---|---|---|---|---|---|")
+    commands = [[programs[name], *arguments] for name in ["this", "peer with spans", "peer without"]]
+    for name, text in texts:
+        with open(path, "wb") as file:
+            file.write(text)
+        (ours, spans, plain), memory = measured(commands, path, runs)
+        each = ", ".join(f"{peak / len(text):.1f}" for peak in memory)
+        times = f"{ours:.3f} s | {spans:.3f} s | {plain:.3f} s | {ours / spans:.2f} | {ours / plain:.2f}"
+        print(f"| {name} | {len(text) / 1e6:.1f} | {times} | {each} |", flush=True)
+
+
+def canon_table(programs, texts, path, runs):
+    """Each text's row: `canon` alone."""
+    print("\n| `canon` on | MB | Time | Rate | Bytes a byte |\n|---|---|---|---|---|")
+    for name, text in texts:
+        with open(path, "wb") as file:
+            file.write(text)
+        (seconds,), (peak,) = measured([[programs["canon"]]], path, runs)
+        size = len(text) / 1e6
+        rate = f"{seconds:.3f} s | {size / seconds:.0f} MB/s"
+        print(f"| {name} | {size:.1f} | {rate} | {peak / len(text):.1f} |", flush=True)
+
+
 def main():
     runs = int(sys.argv[1]) if len(sys.argv) > 1 else 5
+    fetch()
     std = library()
     with tempfile.TemporaryDirectory() as work:
         programs = built(work)
-        lexers = [programs[name] for name in ["this", "peer with spans", "peer without"]]
         path = os.path.join(work, "text")
-        print("| Text | MB | this | peer with spans | peer without | this/with | this/without | Memory a byte, each |")
-        print("|---|---|---|---|---|---|---|---|")
-        for name, text in shapes(std):
-            open(path, "wb").write(text)
-            (ours, spans, plain), memory = measured(lexers, path, runs)
-            each = ", ".join(f"{peak / len(text):.1f}" for peak in memory)
-            times = f"{ours:.3f} s | {spans:.3f} s | {plain:.3f} s | {ours / spans:.2f} | {ours / plain:.2f}"
-            print(f"| {name} | {len(text) / 1e6:.1f} | {times} | {each} |", flush=True)
-        print("\n| Text | MB | `canon` | Rate | Memory a byte |\n|---|---|---|---|---|")
-        for name, text in canon_shapes(std):
-            open(path, "wb").write(text)
-            (seconds,), (peak,) = measured([programs["canon"]], path, runs)
-            rate = len(text) / seconds / 1e6
-            row = f"{len(text) / 1e6:.1f} | {seconds:.3f} s | {rate:.0f} MB/s | {peak / len(text):.1f}"
-            print(f"| {name} | {row} |", flush=True)
+        lexing_table("Lexing", programs, [], shapes(std), path, runs)
+        lexing_table("Lexing and printing", programs, ["print"], [("std, joined", std)], path, runs)
+        canon_table(programs, canon_shapes(std), path, runs)
 
 
 main()
