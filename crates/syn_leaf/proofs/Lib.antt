@@ -1,1 +1,3 @@
 pub mod Indices
+pub mod Texts
+pub mod OfClass

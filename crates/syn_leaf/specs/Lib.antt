@@ -1,2 +1,5 @@
 pub mod Operators
 pub mod Members
+pub mod Booleans
+pub mod Kinds
+pub mod Lits

@@ -1,11 +1,23 @@
 //! Leaves of syntax: operators, members of structs and literals.
 //!
-//! - `member`: members of structs, by name or by number.
 //! - `operators`: operators of expressions, and what stands between the ends of a range.
+//! - `member`: members of structs, by name or by number.
+//! - `lit`: literals of every class.
+//! - `boolean`: `true` and `false`.
+//! - `literal`: literals of one class.
+//! - `classes`: the classes of literals.
+//! - `kind` (private): which literal a text is.
 #![tactic(auto)]
 
+pub mod boolean;
+pub mod classes;
+mod kind;
+pub mod lit;
+pub mod literal;
 pub mod member;
 pub mod operators;
 
+pub use boolean::LitBool;
+pub use lit::{Lit, LitByte, LitByteStr, LitCStr, LitChar, LitFloat, LitInt, LitStr};
 pub use member::{Index, Member};
 pub use operators::{BinOp, RangeLimits, UnOp};

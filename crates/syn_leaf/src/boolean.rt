@@ -1,0 +1,72 @@
+//! `true` and `false`.
+
+ghost use Rattle.std.specs.Prelude.{◌++◌, ◌≡◌, if◌then◌else◌};
+ghost use Rattle.std.specs.Str.{chars};
+ghost use Rattle.syn_kinds.specs.Values.{word_tokens};
+ghost use Rattle.syn_leaf.specs.Booleans.{bool_text};
+
+use proc_macro2::tree::TokenStream;
+use rust_map::span::Span;
+use std::alloc::AllocError;
+use syn_error::to_tokens::ToTokens;
+use syn_kinds::keyword::Keyword;
+use try_clone::TryClone;
+
+/// `true` or `false`. Two are equal by their values, wherever they stand.
+#[derive(Clone, Copy, Debug)]
+#[derive_where(PartialEq, Eq, Hash)]
+pub struct LitBool {
+    /// The value.
+    pub value: bool,
+    /// Where it stands.
+    #[derive_where(skip(EqHashOrd))]
+    pub span: Span,
+}
+
+impl LitBool {
+    /// The literal of that value, which stands there.
+    pub fn new(value: bool, span: Span) -> LitBool
+        ensures { result ≡ record { value = value; span = span } }
+    {
+        LitBool { value, span }
+    }
+
+    /// How the value is written.
+    #[tactic(auto, using(crate::proofs::Texts::true_chars, crate::proofs::Texts::false_chars))]
+    pub fn text(&self) -> &'static str
+        ensures { chars result.now ≡ bool_text self.now.value }
+    {
+        if self.value { "true" } else { "false" }
+    }
+}
+
+#[tactic(auto, unfolding(syn_kinds::specs::Table::word))]
+impl ToTokens for LitBool {
+    ghost put = { λ literal tokens. tokens ++ word_tokens (bool_text literal.value) literal.span };
+
+    fn to_tokens(&self, tokens: &mut TokenStream) -> Result<(), AllocError> {
+        if self.value {
+            Keyword::<TRUE>::new(self.span).to_tokens(tokens)
+        } else {
+            Keyword::<FALSE>::new(self.span).to_tokens(tokens)
+        }
+    }
+}
+
+// The rows of the two words in the table of keywords.
+const TRUE: usize = 40;
+
+const FALSE: usize = 15;
+
+impl TryClone for LitBool {
+    ghost use Rattle.syn_leaf.specs.declared.boolean.LitBool.{LitBool as Literal};
+
+    ghost Shown = { Literal };
+
+    ghost shown = { λ literal. literal };
+
+    /// A copy, which takes no memory.
+    fn try_clone(&self) -> Result<LitBool, AllocError> {
+        Ok(*self)
+    }
+}

@@ -1,0 +1,90 @@
+//! The classes of literals.
+
+ghost use Rattle.rust_lex.specs.declared.piece.LiteralKind.TheVariants as kinds;
+
+use crate::literal::LitClass;
+use rust_lex::piece::LiteralKind;
+
+/// The class of a string, `".."` or `r".."`.
+#[derive(Clone, Copy, Debug)]
+pub struct IsStr;
+
+impl LitClass for IsStr {
+    ghost kind = { kinds.Str };
+
+    fn kind() -> LiteralKind {
+        LiteralKind::Str
+    }
+}
+
+/// The class of a byte string, `b".."` or `br".."`.
+#[derive(Clone, Copy, Debug)]
+pub struct IsByteStr;
+
+impl LitClass for IsByteStr {
+    ghost kind = { kinds.ByteStr };
+
+    fn kind() -> LiteralKind {
+        LiteralKind::ByteStr
+    }
+}
+
+/// The class of a C string, `c".."` or `cr".."`.
+#[derive(Clone, Copy, Debug)]
+pub struct IsCStr;
+
+impl LitClass for IsCStr {
+    ghost kind = { kinds.CStr };
+
+    fn kind() -> LiteralKind {
+        LiteralKind::CStr
+    }
+}
+
+/// The class of a byte, `b'.'`.
+#[derive(Clone, Copy, Debug)]
+pub struct IsByte;
+
+impl LitClass for IsByte {
+    ghost kind = { kinds.Byte };
+
+    fn kind() -> LiteralKind {
+        LiteralKind::Byte
+    }
+}
+
+/// The class of a character, `'.'`.
+#[derive(Clone, Copy, Debug)]
+pub struct IsChar;
+
+impl LitClass for IsChar {
+    ghost kind = { kinds.Char };
+
+    fn kind() -> LiteralKind {
+        LiteralKind::Char
+    }
+}
+
+/// The class of an integer: a number without a fraction and without an exponent, whatever its suffix is.
+#[derive(Clone, Copy, Debug)]
+pub struct IsInt;
+
+impl LitClass for IsInt {
+    ghost kind = { kinds.Int };
+
+    fn kind() -> LiteralKind {
+        LiteralKind::Int
+    }
+}
+
+/// The class of a number with a fraction or an exponent.
+#[derive(Clone, Copy, Debug)]
+pub struct IsFloat;
+
+impl LitClass for IsFloat {
+    ghost kind = { kinds.Float };
+
+    fn kind() -> LiteralKind {
+        LiteralKind::Float
+    }
+}
