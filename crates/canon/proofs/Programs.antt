@@ -5,6 +5,7 @@ use Rattle.rust_map.specs.declared.place.LineColumn.{LineColumn}
 use Rattle.proc_macro2.specs.Token.{Spanned, Token, plain}
 use Rattle.proc_macro2.specs.Forest.{IsForest, IsLexicalFault}
 use Rattle.proc_macro2.specs.Printed as printed
+use Rattle.proc_macro2.specs.Spacing.{IsWellSpaced}
 use Rattle.proc_macro2.proofs.Halts.{no_forest}
 use Rattle.proc_macro2.proofs.Total.{forest_or_fault}
 use Rattle.rust_leaf.specs.Leaf.{AreCharacters}
@@ -37,6 +38,17 @@ read_again text t a p =
     let (read, forest, same) = (forest_back 0 p.tokens spaced.0 p.forest.matched).0 spaced.1 in
     subst (λ (cs : List ℕ). IsProgram cs t) (sym (written_tokens text t a p))
     (record { tokens = read; forest = forest; file = subst (λ (ts : List Token). file.IsFile ts t) (sym same) p.file })
+
+-- and the program is in normal form
+pub read_normal : (text : List ℕ) (t : Tree) → AreCharacters text → IsProgram text t → IsProgram (written t) (normal t)
+read_normal text t a p =
+    let spaced = forest_spaced 0 text p.tokens a p.forest in
+    subst (λ (x : Tree). IsProgram (written t) x) (sym (files.settled (plain p.tokens) t p.file spaced.1)) (read_again text t a p)
+
+pub normal_spaced : (text : List ℕ) (t : Tree) → AreCharacters text → IsProgram text t → IsWellSpaced (flat (normal t))
+normal_spaced text t a p =
+    let spaced = forest_spaced 0 text p.tokens a p.forest in
+    subst IsWellSpaced (sym (ap flat (files.settled (plain p.tokens) t p.file spaced.1) ∙ p.file.spelled)) spaced.1
 
 pub fixed : (text output : List ℕ) → AreCharacters text → IsOutput text output → IsOutput output output
 fixed text output a o = record {

@@ -3,9 +3,10 @@
 ghost use Rattle.canon.specs.Faults.{IsSyntaxFault};
 ghost use Rattle.canon.specs.Program.{IsOutput, IsProgram, written};
 ghost use Rattle.canon_syntax.specs.Normal.{normal};
-ghost use Rattle.canon_syntax.specs.Tree.{Tree};
+ghost use Rattle.canon_syntax.specs.Tree.{Tree, flat};
 ghost use Rattle.rust_leaf.specs.Leaf.{AreCharacters};
 ghost use Rattle.proc_macro2.specs.Forest.{IsLexicalFault};
+ghost use Rattle.proc_macro2.specs.Spacing.{IsWellSpaced};
 ghost use Rattle.rust_map.specs.declared.place.LineColumn.{LineColumn};
 ghost use Rattle.std.specs.Prelude.{ℕ, ◌≡◌, ◌↔◌, ◌⊎◌, List, Option};
 
@@ -17,6 +18,16 @@ pub fn one_program()
 /// An output is accepted, and is its own output.
 pub fn output_is_fixed()
     ensures { (text output : List ℕ) → AreCharacters text → IsOutput text output → IsOutput output output }
+{}
+
+/// The program of an output is the normal form of the program that was written.
+pub fn output_has_normal_form()
+    ensures { (text : List ℕ) (t : Tree) → AreCharacters text → IsProgram text t → IsProgram (written t) (normal t) }
+{}
+
+/// The tokens of a normal form are well spaced, so that they can be written down.
+pub fn normal_form_is_spaced()
+    ensures { (text : List ℕ) (t : Tree) → AreCharacters text → IsProgram text t → IsWellSpaced (flat (normal t)) }
 {}
 
 /// Two accepted texts have one output exactly if their programs have the same normal form.
