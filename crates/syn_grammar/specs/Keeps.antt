@@ -1,5 +1,5 @@
--- A run of the grammar that makes what a syntax tree holds of what is read: what readers in code are compared with, and a tool
--- of their proofs. What is read, the grammar says.
+-- A run of the grammar that makes what a syntax tree holds of what is read: what readers in code are compared with,
+-- and a tool of their proofs. What is read, the grammar says.
 use Rattle.std.specs.Prelude.{ℕ, cond, List, ◌∷◌}
 use Rattle.proc_macro2.specs.Token.{Token, Opens}
 use Rattle.proc_macro2.specs.declared.delimiter.Delimiter.{Delimiter}

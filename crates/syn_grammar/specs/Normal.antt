@@ -5,10 +5,10 @@
 -- 3. a colon before no bounds is removed in parameters, traits and associated types;
 -- 4. lifetimes come first among parameters and arguments;
 -- 5. an attributed range is put in parentheses behind its attributes;
--- 6. from the inside out, an operand that would not be read back as it stands is put in parentheses; where it would go on with the form
---    behind it, that is the form's whole left operand;
--- 7. among statements the last mark of a raw item stands alone where the next statement now begins with a parenthesis that was
---    added.
+-- 6. from the inside out, an operand that would not be read back as it stands is put in parentheses; where it would
+--    go on with the form behind it, that is the form's whole left operand;
+-- 7. among statements the last mark of a raw item stands alone where the next statement now begins with a
+--    parenthesis that was added.
 --
 -- `Tidy` has the first four, of a kind's parts, and `Parens` the next two.
 use Rattle.std.specs.Prelude.{Bool, not, ◌&&◌, cond, List, [], ◌∷◌}
@@ -24,7 +24,8 @@ use Rattle.syn_grammar.specs.Forms.{inside}
 use Rattle.syn_grammar.specs.Tidy.{tidy}
 use Rattle.syn_grammar.specs.Parens.{follow, alone, front_form, back_form, infix_form}
 
--- Where the expression of a part stands: the condition of if, while, match and for, the body of an arm, the expression of a statement.
+-- Where the expression of a part stands: the condition of if, while, match and for, the body of an arm, the
+-- expression of a statement.
 unfoldable pub place_of : Part → Position
 place_of the_condition = InCondition
 place_of the_body = InArm
@@ -52,7 +53,8 @@ apart (t ∷ ts) = t ∷ apart ts
 
 -- of a raw item among statements
 abbrev pub apart_item : Tree → Tree
-apart_item (Second (Node AStatement (First (Node AnItem (Raw ts))))) = Second (Node AStatement (First (Node AnItem (Raw (apart ts)))))
+apart_item (Second (Node AStatement (First (Node AnItem (Raw ts))))) =
+    Second (Node AStatement (First (Node AnItem (Raw (apart ts)))))
 apart_item (Second (Node AStatement (Second (Second (Second (First (Node AnItem (Raw ts)))))))) =
     Second (Node AStatement (Second (Second (Second (First (Node AnItem (Raw (apart ts))))))))
 apart_item x = x

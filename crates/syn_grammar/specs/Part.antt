@@ -47,7 +47,8 @@ choice (First x) = choice x
 choice (Second x) = choice x
 choice x = x
 
--- of a list's elements: each passes; some does; each but the first does; each but the last; each that a separator follows
+-- of a list's elements: each passes; some does; each but the first does; each but the last; each that a separator
+-- follows
 abbrev pub each : (Tree → Bool) → Tree → Bool
 each p (More x c spacing y) = p x && each p y
 each p (Final x) = p x
