@@ -1,10 +1,14 @@
 //! Laws of the grammar: each is the contract of a function that does nothing.
 
+ghost use Rattle.proc_macro2.specs.Spacing.{IsWellSpaced};
 ghost use Rattle.proc_macro2.specs.Token.{Token};
 ghost use Rattle.std.specs.Prelude.{◌≡◌, ◌⊎◌, List, ◌++◌};
+ghost use Rattle.syn_grammar.specs.Calm.{RawsEndApart};
 ghost use Rattle.syn_grammar.specs.Derives.{Derives};
-ghost use Rattle.syn_grammar.specs.Gram.{Gram};
+ghost use Rattle.syn_grammar.specs.Gram.{Gram, ref};
 ghost use Rattle.syn_grammar.specs.Keeps.{kepts};
+ghost use Rattle.syn_grammar.specs.Kept.{kept};
+ghost use Rattle.syn_grammar.specs.Names.{AllStand, names};
 ghost use Rattle.syn_grammar.specs.Kind.{Kind};
 ghost use Rattle.syn_grammar.specs.Normal.{normal};
 ghost use Rattle.syn_grammar.specs.Read.{IsDerived, IsRead, NoneRead};
@@ -36,4 +40,15 @@ pub fn keeping()
 /// Normal form is settled: the normal form of a normal form is itself, of every tree, parentheses of expressions included.
 pub fn normal_twice()
     ensures { (x : Tree) → normal (normal x) ≡ normal x }
+{}
+
+/// The tokens of a normal form are well spaced where those that were read are, if no raw form among them ends in a joint
+/// mark.
+pub fn well_spaced()
+    ensures { (k : Kind) (tree : Tree) (rest : List Token) → Derives tree (ref k) rest → IsWellSpaced (flat tree ++ rest) → RawsEndApart tree → IsWellSpaced (flat (normal (kept tree))) }
+{}
+
+/// Each name of a file stands where it is said to: behind so many of the file's tokens.
+pub fn names_stand()
+    ensures { (tree : Tree) → AllStand (flat tree) 0 (names tree) }
 {}
