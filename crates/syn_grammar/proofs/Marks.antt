@@ -1,7 +1,7 @@
 -- No entry's marks are a quote or begin a comment, kind by kind. Written by tools/ranks.py.
 use Rattle.std.proofs.Common.{◌≡◌, refl}
 use Rattle.std.specs.Prelude.{true}
-use Rattle.syn_grammar.specs.Kind.{Kind, InModule, InExpression, InType, AtType, WithPlus, WithoutPlus, Plain, InCondition, InArm, InStatement, InFile, InForeign, InTrait, InImpl, Path, Segments, QualifiedPath, AnyPath, Arguments, AnArgument, ParenthesizedArguments, AMacro, Delimited, Member, Index, AType, DynType, ImplType, ReturnType, TupleType, NeverType, ReferenceType, PointerType, BracketType, InferType, FnPtrType, FnPtrArg, Bounds, SomeBounds, Bound, TraitPath, BoundLifetimes, Lifetimes, Abi, Pattern, SeveralPatterns, OnePattern, IdentPattern, WildPattern, RangeToPattern, RestPattern, TuplePattern, SlicePattern, ReferencePattern, LiteralPattern, PathPattern, RangeEnd, RangeBound, FieldPatterns, FieldPattern, OuterAttributes, OuterAttribute, InnerAttributes, InnerAttribute, Meta, Generics, ImplGenerics, GenericParams, GenericParam, LifetimeParam, LifetimeColon, ConstParam, TypeParam, BoundsColon, Where, WhereClause, WherePredicate, Expression, ExprLit, ExprPath, ExprMacro, ExprParen, ExprArray, ExprRepeat, ExprGroup, ExprInfer, ExprBlock, ExprUnsafe, ExprAsync, ExprConst, ExprTryBlock, ExprIf, ExprMatch, ExprLoop, ExprWhile, ExprForLoop, ExprContinue, ExprTypedClosure, ExprStruct, ExprCall, ExprMethodCall, ExprField, ExprAwait, ExprIndex, ExprTry, ExprCast, ExprAttributed, ExprUnary, ExprRawAddr, ExprReference, ExprLet, ExprBreak, ExprReturn, ExprYield, ExprClosure, ExprRange, ExprRangeClosed, ExprAssign, ExprOr, ExprAnd, ExprCompare, ExprBitOr, ExprBitXor, ExprBitAnd, ExprShift, ExprSum, ExprProduct, FieldValues, AFieldValue, FieldValue, Arms, Arm, ClosureParam, Label, Block, Body, Visibility, NamedFields, UnnamedFields, NamedField, UnnamedField, Variant, AStruct, AnEnum, AUnion, AStatic, AConst, AnExternCrate, AForeignModule, AUse, UseTop, UseTree, UseBranch, UseRooted, AModule, ATrait, AConstTrait, ARestrictedTrait, AnImpl, AMacroDefinition, Parameters, Parameter, FnArg, Receiver, Signature, AFunction, ATypeAlias, ItemMacro, AnItem, AForeignItem, ATraitItem, AnImplItem, Items, ForeignItems, TraitItems, ImplItems, ItemStruct, ItemEnum, ItemUnion, ItemFn, ItemExternCrate, ItemForeignMod, ItemUse, ItemStatic, ItemConst, ItemMod, ItemType, ItemTrait, ItemTraitAlias, ItemImpl, DeriveInput, OneMacro, OneFunction, OneTypeAlias, OneConst, ForeignItemStatic, Statements, AStatement, OneStatement, ALet, AFile}
+use Rattle.syn_grammar.specs.Kind.{Kind, InModule, InExpression, InType, AtType, WithPlus, WithoutPlus, Plain, InCondition, InArm, InStatement, InFile, InForeign, InTrait, InImpl, Path, Segments, Segment, QualifiedPath, AnyPath, Arguments, AnArgument, ParenthesizedArguments, AMacro, Delimited, Member, Index, AType, DynType, ImplType, ReturnType, TupleType, NeverType, ReferenceType, PointerType, BracketType, InferType, FnPtrType, FnPtrArg, Bounds, SomeBounds, Bound, TraitPath, BoundLifetimes, Lifetimes, Abi, Pattern, SeveralPatterns, OnePattern, IdentPattern, WildPattern, RangeToPattern, RestPattern, TuplePattern, SlicePattern, ReferencePattern, LiteralPattern, PathPattern, RangeEnd, RangeBound, FieldPatterns, FieldPattern, OuterAttributes, OuterAttribute, InnerAttributes, InnerAttribute, Meta, Generics, ImplGenerics, GenericParams, GenericParam, LifetimeParam, LifetimeColon, ConstParam, TypeParam, BoundsColon, Where, WhereClause, WherePredicate, Expression, ExprLit, ExprPath, ExprMacro, ExprParen, ExprArray, ExprRepeat, ExprGroup, ExprInfer, ExprBlock, ExprUnsafe, ExprAsync, ExprConst, ExprTryBlock, ExprIf, ExprMatch, ExprLoop, ExprWhile, ExprForLoop, ExprContinue, ExprTypedClosure, ExprStruct, ExprCall, ExprMethodCall, ExprField, ExprAwait, ExprIndex, ExprTry, ExprCast, ExprAttributed, ExprUnary, ExprRawAddr, ExprReference, ExprLet, ExprBreak, ExprReturn, ExprYield, ExprClosure, ExprRange, ExprRangeClosed, ExprAssign, ExprOr, ExprAnd, ExprCompare, ExprBitOr, ExprBitXor, ExprBitAnd, ExprShift, ExprSum, ExprProduct, FieldValues, AFieldValue, FieldValue, Arms, Arm, ClosureParam, Label, Block, Body, Visibility, NamedFields, UnnamedFields, NamedField, UnnamedField, Variant, AStruct, AnEnum, AUnion, AStatic, AConst, AnExternCrate, AForeignModule, AUse, UseTop, UseTree, UseBranch, UseRooted, AModule, ATrait, AConstTrait, ARestrictedTrait, AnImpl, AMacroDefinition, Parameters, Parameter, FnArg, Receiver, Signature, AFunction, ATypeAlias, ItemMacro, AnItem, AForeignItem, ATraitItem, AnImplItem, Items, ForeignItems, TraitItems, ImplItems, ItemStruct, ItemEnum, ItemUnion, ItemFn, ItemExternCrate, ItemForeignMod, ItemUse, ItemStatic, ItemConst, ItemMod, ItemType, ItemTrait, ItemTraitAlias, ItemImpl, DeriveInput, OneMacro, OneFunction, OneTypeAlias, OneConst, ForeignItemStatic, Statements, AStatement, OneStatement, ALet, AFile}
 use Rattle.syn_grammar.specs.Table.{table}
 use Rattle.syn_grammar.specs.Calm.{calm_entry}
 
@@ -15,6 +15,10 @@ all_calm (Segments InModule) = refl
 all_calm (Segments InExpression) = refl
 all_calm (Segments InType) = refl
 all_calm (Segments AtType) = refl
+all_calm (Segment InModule) = refl
+all_calm (Segment InExpression) = refl
+all_calm (Segment InType) = refl
+all_calm (Segment AtType) = refl
 all_calm (QualifiedPath InModule) = refl
 all_calm (QualifiedPath InExpression) = refl
 all_calm (QualifiedPath InType) = refl

@@ -4,13 +4,13 @@ use Rattle.std.specs.Prelude.{Bool, true, false, ◌&&◌, ◌||◌, ◌⊎◌, 
 use Rattle.proc_macro2.specs.Token.{Token, Opens}
 use Rattle.proc_macro2.specs.declared.delimiter.Delimiter.TheVariants.{Parenthesis}
 use Rattle.rust_leaf.specs.declared.punct.Spacing.TheVariants.{Alone as Apart}
-use Rattle.syn_grammar.specs.Kind.{Kind, Position, Plain, InCondition, InArm, InStatement, Expression, AStatement, AnItem, ExprStruct, ExprBreak, ExprReturn, ExprYield, ExprRange, ExprAttributed}
+use Rattle.syn_grammar.specs.Kind.{Kind, Position, Plain, InCondition, InArm, InStatement, Expression, AStatement, AnItem, ExprStruct, ExprBreak, ExprPath, ExprReturn, ExprYield, ExprRange, ExprAttributed}
 use Rattle.syn_grammar.specs.Tree.{Tree, AWord, ALiteral, AMark, ALifetime, Raw, Nil, Pair, First, Second, End, Again, Final, More, Group, Dropped, Called, Verbatim, Hidden, Node, Whole, Alone, Front, Back, Infix, flat}
 use Rattle.syn_grammar.specs.Part.{has}
 use Rattle.syn_grammar.specs.Name.{the_label}
 use Rattle.syn_grammar.specs.Look.{seen, sees, first_seen, behind}
 use Rattle.syn_grammar.specs.Say.{brace, parenthesis}
-use Rattle.syn_grammar.specs.Forms.{has_right, inside, level, ends_there, is_dotted, may_be_left, chains, range_ends, brace_ends, operand_stands, within}
+use Rattle.syn_grammar.specs.Forms.{has_right, inside, level, ends_there, is_dotted, may_be_left, chains, range_ends, brace_ends, operand_stands, struct_stands, within}
 use Rattle.syn_grammar.specs.Parens.{in_parens, parens_unless, may_lack, takes_what_follows, is_label, is_attributed_range, stays_right, is_struct, stays_left, begins_in, stands_in, follow, alone, with_right, with_left, front_form, back_form, infix_form}
 use Rattle.syn_grammar.specs.Tidy.{tidy}
 use Rattle.syn_grammar.specs.Normal.{place_of, passed, stands_behind, apart_item, apart_if, is_enclosed, normal_in, formed}
@@ -31,6 +31,7 @@ takes_nothing ExprBreak = refl
 takes_nothing ExprReturn = refl
 takes_nothing ExprYield = refl
 takes_nothing ExprRange = refl
+takes_nothing ExprPath = refl
 takes_nothing _ = refl
 
 none_seen : (o : Option (List Token)) → seen o ≡ false → o ≡ None
@@ -48,12 +49,19 @@ no_brace InCondition ts e = none_seen (brace ts) e
 no_brace InArm ts e = refl
 no_brace InStatement ts e = refl
 
-right_in : (p : Position) (k : Kind) (ts : List Token) → sees brace ts ≡ false → (may_lack k && has_right p k ts) ≡ (may_lack k && has_right Plain k ts)
+no_struct : (p : Position) (ts : List Token) → sees brace ts ≡ false → sees (struct_stands p) ts ≡ sees (struct_stands Plain) ts
+no_struct Plain ts e = refl
+no_struct InCondition ts e = sym e
+no_struct InArm ts e = refl
+no_struct InStatement ts e = refl
+
+right_in : (p : Position) (k : Kind) (ts : List Token) → sees brace ts ≡ false → takes_what_follows p k ts ≡ takes_what_follows Plain k ts
 unfolding may_lack has_right
-right_in p ExprBreak ts e = ap (λ o. seen (behind (cond (seen o) None (Some ts)) operand_stands)) (no_brace p ts e)
+right_in p ExprBreak ts e = ap (λ o. seen (behind (cond (seen o) None (Some ts)) operand_stands) || false) (no_brace p ts e)
 right_in p ExprReturn ts e = refl
 right_in p ExprYield ts e = refl
-right_in p ExprRange ts e = ap (λ o. not (seen (first_seen (range_ends ts) o))) (no_brace p ts e)
+right_in p ExprRange ts e = ap (λ o. not (seen (first_seen (range_ends ts) o)) || false) (no_brace p ts e)
+right_in p ExprPath ts e = no_struct p ts e
 right_in p _ ts e = refl
 
 -- what a form takes in a condition it takes

@@ -2,14 +2,14 @@
 use Rattle.std.specs.Prelude.{Bool, true, false, not, ◌&&◌, ◌||◌, cond, nat_eq, List, [], ◌∷◌}
 use Rattle.proc_macro2.specs.Token.{Token, Ident}
 use Rattle.proc_macro2.specs.declared.delimiter.Delimiter.TheVariants.{Parenthesis}
-use Rattle.syn_grammar.specs.Kind.{Kind, Position, Plain, InCondition, InStatement, Expression, ExprParen, ExprStruct, ExprCall, ExprField, ExprCast, ExprAttributed, ExprLet, ExprBreak, ExprReturn, ExprYield, ExprRange}
+use Rattle.syn_grammar.specs.Kind.{Kind, Position, Plain, InCondition, InStatement, Expression, ExprParen, ExprPath, ExprStruct, ExprCall, ExprField, ExprCast, ExprAttributed, ExprLet, ExprBreak, ExprReturn, ExprYield, ExprRange}
 use Rattle.syn_grammar.specs.Name.{the_name, the_label}
 use Rattle.syn_grammar.specs.Words.{is_name, is_path_keyword}
 use Rattle.syn_grammar.specs.Tree.{Tree, Final, Group, Node, Whole, Alone, Front, Back, Infix, flat}
 use Rattle.syn_grammar.specs.Part.{has}
 use Rattle.syn_grammar.specs.Look.{sees, ◌then◌, no, a_lifetime}
 use Rattle.syn_grammar.specs.Say.{marks, brace}
-use Rattle.syn_grammar.specs.Forms.{has_right, level, is_range, may_be_left, ends_there, is_dotted, chains, takes, within}
+use Rattle.syn_grammar.specs.Forms.{has_right, level, is_range, may_be_left, ends_there, is_dotted, chains, takes, within, struct_stands}
 
 -- in parentheses, unless it stays as it is
 abbrev pub in_parens : Tree → Tree
@@ -27,8 +27,13 @@ may_lack ExprYield = true
 may_lack ExprRange = true
 may_lack k = false
 
+-- A path takes braces that follow it, but in a condition: it would be a struct.
+abbrev pub takes_braces : Position → Kind → List Token → Bool
+takes_braces p ExprPath ts = sees (struct_stands p) ts
+takes_braces p k ts = false
+
 abbrev pub takes_what_follows : Position → Kind → List Token → Bool
-takes_what_follows p k ts = may_lack k && has_right p k ts
+takes_what_follows p k ts = (may_lack k && has_right p k ts) || takes_braces p k ts
 
 -- A lifetime behind break is its label, and no : stands behind that.
 abbrev pub is_label : Kind → Tree → List Token → Bool

@@ -12,6 +12,7 @@ use Rattle.syn_grammar.specs.Part.{has, the, changed, choice}
 abbrev pub removed_if : (Tree → Bool) → Tree → Tree
 removed_if e x = cond (e x) (Second Nil) x
 
+-- It is the clause of a form that is removed: one that is read by itself has its where.
 abbrev pub is_none : Tree → Bool
 is_none End = true
 is_none _ = false
