@@ -10,6 +10,8 @@ from antt import chain, items_of, text_of
 MARKS = set("~!@#$%^&*-=+|;:,<.>/?'")
 OPENING = {'(': 'Parenthesis', '{': 'Brace', '[': 'Bracket'}
 CLOSING = {')': 'Parenthesis', '}': 'Brace', ']': 'Bracket'}
+# No text has these: they stand round an operand of an expression that is built by hand.
+BUILT = {'‹': 'Opens', '›': 'Closes'}
 WHITE = set('\t\n\x0b\x0c\r \x85\u200e\u200f\u2028\u2029\xa0\u1680\u202f\u205f\u3000')
 WHITE |= {chr(c) for c in range(0x2000, 0x200b)}
 
@@ -162,6 +164,9 @@ def lex(s):
             if outer or s.startswith('/*!', i):
                 out += doc_tokens(s[i + 2] == '!', s[i + 3:j - 2], i)
             i = j
+        elif c in BUILT:
+            out.append((BUILT[c], ('None',), i))
+            i += 1
         elif c in OPENING:
             out.append(('Opens', (OPENING[c],), i))
             open_groups.append((c, i))

@@ -29,6 +29,7 @@ class Table:
         self.has_right, self.goes_on = get('Forms', 'has_right'), get('Forms', 'goes_on')
         self.level, self.inside, self.chains = get('Forms', 'level'), get('Forms', 'inside'), get('Forms', 'chains')
         self.flat, self.normal, self.kept = get('Tree', 'flat'), get('Normal', 'normal'), get('Kept', 'kept')
+        self.names = get('Names', 'names')
 
     def get(self, module, name):
         return self.world.get(SPECS + module, name)
@@ -37,6 +38,11 @@ class Table:
         """The tokens of the normal form of what a syntax tree holds of a tree that was read."""
         self.world.trees.clear()
         return self.flat(self.normal(self.kept(tree)))
+
+    def built(self, tokens):
+        """Of an expression whose operands may stand between ‹ and ›: the tree in which they stand as they are."""
+        tree, rest = self.kind(('Expression', ('Plain',)), tokens)
+        return self.kept(without_groups(tree)), rest
 
     def entry(self, kind):
         if kind not in self.entries:
@@ -194,6 +200,15 @@ class Table:
             else:
                 left = ('Back', left, k, y)
         return left, ts
+
+
+def without_groups(x):
+    if not isinstance(x, tuple):
+        return x
+    if x[:2] == ('Alone', ('ExprGroup',)):
+        whole = x[2][2][2]
+        return without_groups(whole[1])
+    return tuple(without_groups(y) for y in x)
 
 
 def verbatims(tree):

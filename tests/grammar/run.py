@@ -15,14 +15,14 @@ import time
 
 sys.dont_write_bytecode = True
 from antt import Fault, items_of
-from lexer import Lexical, lex, text
+from lexer import Lexical, lex, string, text
 from reading import Refused, Table, chain, verbatims
 
 HERE = os.path.dirname(os.path.abspath(__file__))
 
 # The kinds that a stored text may name, and what the table calls them.
 KINDS = {
-    'file': 'AFile',
+    'file': 'AFile', 'outline': 'AFile', 'built': 'Expression Plain',
     'Item': 'AnItem', 'ForeignItem': 'AForeignItem', 'TraitItem': 'ATraitItem', 'ImplItem': 'AnImplItem',
     'Type': 'AType WithPlus', 'Type-no-plus': 'AType WithoutPlus', 'Bound': 'Bound', 'Abi': 'Abi',
     'Pat': 'Pattern', 'Pat-several': 'SeveralPatterns', 'Pat-single': 'OnePattern',
@@ -65,11 +65,31 @@ def stands_at(tokens):
     return text([t for _, t in zip(range(6), items_of(tokens))]) if tokens.n else 'the end'
 
 
-def output(table, kind, source):
-    """What the grammar says of a text: (accepted, tokens of the normal form, raw items, what is left), or a refusal."""
+WORDS = {'ExternCrate': 'extern-crate', 'TraitAlias': 'trait-alias', 'Alias': 'type'}
+
+
+def outline(table, source, tokens):
+    """The names that the grammar lists of a file, each with its place."""
+    tree, rest = table.kind(('AFile',), tokens)
+    if rest.n:
+        raise Refused(rest, 'the end')
+    rows, spread = [], list(items_of(tokens))
+    for name in items_of(table.names(tree)):
+        word = WORDS.get(name['kind'][0], name['kind'][0].lower())
+        rows.append(f'{word} {string(name["text"])} {place_of(source, chain([spread[name["index"]]]))}')
+    return ', '.join(rows), 0, ''
+
+
+def output(table, name, source):
+    """What the grammar says of a text: (the printed normal form, how many raw items, what is left), or (None, why)."""
     try:
         tokens = chain(lex(source))
-        tree, rest = table.kind(kind, tokens)
+        if name == 'outline':
+            return outline(table, source, tokens)
+        if name == 'built':
+            tree, rest = table.built(tokens)
+            return text(items_of(table.flat(table.normal(tree)))), 0, text(items_of(rest))
+        tree, rest = table.kind(kind_of(name), tokens)
     except Lexical as e:
         return None, f'lexical fault at character {e.place}'
     except Refused as e:
@@ -124,7 +144,7 @@ def check(table, paths):
         for number, kind, source, answer in stored(path):
             total += 1
             try:
-                found = output(table, kind_of(kind), source)
+                found = output(table, kind, source)
             except (Fault, LookupError, FileNotFoundError) as e:
                 found = (None, f'FAULT {type(e).__name__}: {e}')
                 off += 1
@@ -147,13 +167,13 @@ def files(table, paths):
         source = open(path, encoding='utf8', newline='').read()
         if source.lstrip('\ufeff').startswith('#!') and not source.lstrip('\ufeff')[2:].lstrip().startswith('['):
             source = '//' + source[source.index('#!') + 2:]
-        found = output(table, kind_of('file'), source)
+        found = output(table, 'file', source)
         if found[0] is None or found[2]:
             print(f'refused: {path}: {found[1] if found[0] is None else found[2]}')
             continue
         accepted += 1
         raw += found[1]
-        second = output(table, kind_of('file'), found[0])
+        second = output(table, 'file', found[0])
         if second[0] == found[0]:
             again += 1
         else:
@@ -168,7 +188,7 @@ def main(args):
         specs, args = args[1], args[2:]
     table = Table(os.path.join(HERE, '..', '..', 'crates'), specs)
     if args[:1] == ['--show']:
-        found = output(table, kind_of(args[1]), args[2])
+        found = output(table, args[1], args[2])
         print(said(found))
     elif args[:1] == ['--files']:
         files(table, args[1:])
