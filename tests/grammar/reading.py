@@ -29,7 +29,7 @@ class Table:
         self.has_right, self.goes_on = get('Forms', 'has_right'), get('Forms', 'goes_on')
         self.level, self.inside, self.chains = get('Forms', 'level'), get('Forms', 'inside'), get('Forms', 'chains')
         self.flat, self.normal, self.kept = get('Tree', 'flat'), get('Normal', 'normal'), get('Kept', 'kept')
-        self.names = get('Names', 'names')
+        self.names, self.derives = get('Names', 'names'), get('Derives', 'Derives')
 
     def get(self, module, name):
         return self.world.get(SPECS + module, name)
@@ -43,6 +43,10 @@ class Table:
         """Of an expression whose operands may stand between ‹ and ›: the tree in which they stand as they are."""
         tree, rest = self.kind(('Expression', ('Plain',)), tokens)
         return self.kept(without_groups(tree)), rest
+
+    def is_derived(self, kind, tree, rest):
+        """Whether the definition says that this is a tree of the kind where the rest follows."""
+        return self.derives(tree, ('ref', kind), rest)
 
     def entry(self, kind):
         if kind not in self.entries:

@@ -80,8 +80,11 @@ def outline(table, source, tokens):
     return ', '.join(rows), 0, ''
 
 
-def output(table, name, source):
-    """What the grammar says of a text: (the printed normal form, how many raw items, what is left), or (None, why)."""
+def output(table, name, source, asked=False):
+    """What the grammar says of a text: (the printed normal form, how many raw items, what is left), or (None, why).
+
+    Where asked, the definition of which trees there are is run on the tree that was found, too.
+    """
     try:
         tokens = chain(lex(source))
         if name == 'outline':
@@ -90,6 +93,8 @@ def output(table, name, source):
             tree, rest = table.built(tokens)
             return text(items_of(table.flat(table.normal(tree)))), 0, text(items_of(rest))
         tree, rest = table.kind(kind_of(name), tokens)
+        if asked and not table.is_derived(kind_of(name), tree, rest):
+            return None, 'a tree was found that the definition doesn\'t derive'
     except Lexical as e:
         return None, f'lexical fault at character {e.place}'
     except Refused as e:
@@ -144,7 +149,7 @@ def check(table, paths):
         for number, kind, source, answer in stored(path):
             total += 1
             try:
-                found = output(table, kind, source)
+                found = output(table, kind, source, asked=True)
             except (Fault, LookupError, FileNotFoundError) as e:
                 found = (None, f'FAULT {type(e).__name__}: {e}')
                 off += 1

@@ -4,8 +4,7 @@
   search.py [--specs DIR] [SECONDS [SEED]]
 
 Of an expression that is built by hand, in whatever place it stands: its normal form is read whole, is its own normal
-form, and is up to parentheses the expression that was built. Of a text that is accepted: its output is accepted and is
-its own output.
+form, and is up to parentheses the expression that was built.
 """
 import os
 import random
@@ -19,14 +18,15 @@ from reading import Refused, Table, chain
 from antt import items_of, same
 
 HERE = os.path.dirname(os.path.abspath(__file__))
-ATOMS = ['a', '1', 'S {}', 'm!{}', 'm!()', '{}', 'if a {}', '(b)', '[b]', '..', 'return', 'break', "break 'l", 'yield', "'l: {}",
-         'async {}', 'loop {}', '|x| -> T {}', 'unsafe {}', 'const {}', 'self', 'match a {b => c}', '(c,)', '<T>::d', 'continue']
-FRONTS = ['-', '*', '!', '&', '&mut ', '&raw const ', '..', '..=', 'return ', 'break ', "break 'l ", 'yield ', '|x| ', 'move || ',
-          'let p = ', '#[q] ', '#[q] #[r] ']
+ATOMS = ['a', '1', 'S {}', 'm!{}', 'm!()', '{}', 'if a {}', '(b)', '[b]', '..', 'return', 'break', "break 'l", 'yield',
+         "'l: {}", 'async {}', 'loop {}', '|x| -> T {}', 'unsafe {}', 'const {}', 'self', 'match a {b => c}', '(c,)',
+         '<T>::d', 'continue']
+FRONTS = ['-', '*', '!', '&', '&mut ', '&raw const ', '..', '..=', 'return ', 'break ', "break 'l ", 'yield ', '|x| ',
+          'move || ', 'let p = ', '#[q] ', '#[q] #[r] ']
 BACKS = ['.f', '.0', '.g()', '.await', '?', '(e)', '[e]', '..', ' as T', ' as T<U>', ' as [T]', ' as self', ' as Fn()']
 INFIXES = ' + , - , * , / , << , & , | , ^ , == , < , <= , && , || , = , += , <<= ,..,..='.split(',')
-PLACES = ['%s', 'f(%s)', 'if %s {}', 'match %s {x => y}', 'match x {y => %s, z => w}', '{%s}', '{%s; x}', '{fn h();%s}', 'while %s {}',
-          'S {k: %s}', '[%s; 2]', 'for x in %s {}']
+PLACES = ['%s', 'f(%s)', 'if %s {}', 'match %s {x => y}', 'match x {y => %s, z => w}', '{%s}', '{%s; x}', '{fn h();%s}',
+          'while %s {}', 'S {k: %s}', '[%s; 2]', 'for x in %s {}']
 
 
 def made(depth):
