@@ -1,7 +1,8 @@
 #!/usr/bin/env python3
 """Runs the written grammar on texts.
 
-  run.py [--specs DIR] [NAME..]          each stored text of texts/ (or of the files named), against its answer
+  run.py [--specs DIR] [NAME..]          each stored text against its answer: those of texts/ and of docs/GRAMMAR.md,
+                                         or of the files named
   run.py [--specs DIR] --show KIND TEXT  what the grammar says of one text
   run.py [--specs DIR] --files PATH..    all .rs files below the paths: how many are accepted, and where the others stop
 
@@ -9,6 +10,7 @@ DIR is the folder of the definitions, if it isn't that of the crate syn_grammar.
 """
 import glob
 import os
+import re
 import sys
 import threading
 import time
@@ -112,8 +114,22 @@ def wanted_of(answer):
     return printed.strip(), raw, rest.strip()
 
 
+TABLE_ROW = re.compile(r'\| `([\w-]+)` \| `((?:[^`])*)` \| (?:`([^`]*)`|(refused)) \|')
+
+
+def shown(path):
+    """The rows of the tables of a page that have a kind, a text and an answer."""
+    for number, line in enumerate(open(path, encoding='utf8'), 1):
+        row = TABLE_ROW.match(line.replace('\\|', '\0'))
+        if row and row[1] in KINDS:
+            yield number, row[1], row[2].replace('\0', '|'), (row[3] or row[4]).replace('\0', '|')
+
+
 def stored(path):
     """The rows of a file of texts: line number, kind, text, answer."""
+    if path.endswith('.md'):
+        yield from shown(path)
+        return
     for number, line in enumerate(open(path, encoding='utf8'), 1):
         line = line.rstrip('\n')
         if not line.strip() or line.startswith('# '):
@@ -198,7 +214,8 @@ def main(args):
     elif args[:1] == ['--files']:
         files(table, args[1:])
     else:
-        return check(table, args or sorted(glob.glob(os.path.join(HERE, 'texts', '*.txt'))))
+        page = os.path.join(HERE, '..', '..', 'docs', 'GRAMMAR.md')
+        return check(table, args or sorted(glob.glob(os.path.join(HERE, 'texts', '*.txt'))) + [page])
 
 
 if __name__ == '__main__':

@@ -94,7 +94,10 @@ def main(args):
     random.seed(int(args[1]) if len(args) > 1 else 1)
     end, tried, built, faults = time.time() + seconds, 0, 0, {}
     while time.time() < end:
-        source = random.choice(PLACES) % made(random.choice([1, 2, 2, 3, 3, 4]))
+        place, expression = random.choice(PLACES), made(random.choice([1, 2, 2, 3, 3, 4]))
+        if place[0] == '{' and expression.lstrip('‹')[0] == '#':
+            continue  # attributes in front of a statement are the statement's
+        source = place % expression
         tried += 1
         wrong, could = fault(table, source)
         built += could
