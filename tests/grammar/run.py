@@ -31,6 +31,7 @@ KINDS = {
     'Expr': 'Expression Plain', 'Expr-condition': 'Expression InCondition', 'Expr-arm': 'Expression InArm',
     'Expr-statement': 'Expression InStatement',
     'FieldValue': 'FieldValue', 'Arm': 'Arm', 'Block': 'Block', 'Label': 'Label',
+    'PathSegment': 'Segment InType',
     'Path-mod': 'Path InModule', 'Path-expr': 'Path InExpression', 'Path-type': 'Path InType', 'Macro': 'AMacro',
     'Member': 'Member', 'Index': 'Index', 'Attributes': 'OuterAttributes', 'Inner': 'InnerAttributes', 'Meta': 'Meta',
     'Generics': 'Generics', 'Param': 'GenericParam', 'Where': 'Where', 'WhereClause': 'WhereClause',
