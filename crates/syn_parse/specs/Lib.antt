@@ -10,3 +10,4 @@ pub mod Input
 pub mod Trees
 pub mod Words
 pub mod Reads
+pub mod Whole

@@ -42,9 +42,9 @@ fn settled<'a>(entries: &'a [Entry<'a>]) -> &'a [Entry<'a>]
     &entries[at..]
 }
 
-impl<'a> TokenBuffer<'a> {
+impl TokenBuffer<'_> {
     /// The place at the first token.
-    pub fn begin(&'a self) -> Cursor<'a>
+    pub fn begin(&self) -> Cursor<'_>
         ensures tokens { rest result ≡ seen (spanned_entries self.now.entries.items) }
         ensures number { result.number ≡ self.now.number }
     {

@@ -7,7 +7,8 @@ ghost use Rattle.syn_parse.specs.Position.{left, next_span, rest};
 ghost use Rattle.syn_parse.specs.Words.{expected_words};
 ghost use Rattle.syn_parse.specs.declared.fault.Expected.{Expected};
 
-use crate::input::ParseBuffer;
+use crate::input::{Leftover, ParseBuffer};
+use proc_macro2::delimiter::Delimiter;
 use std::alloc::AllocError;
 use std::fmt;
 use syn_error::error::Error;
@@ -35,6 +36,16 @@ impl fmt::Display for Expected {
     }
 }
 
+// What is said of a token that is left over in a list that is closed so.
+fn unexpected_words(closer: Delimiter) -> &'static str {
+    match closer {
+        Delimiter::Parenthesis => "unexpected token, expected `)`",
+        Delimiter::Brace => "unexpected token, expected `}`",
+        Delimiter::Bracket => "unexpected token, expected `]`",
+        Delimiter::None => "unexpected token",
+    }
+}
+
 impl<'a> ParseBuffer<'a> {
     /// The fault that such a thing does not stand there: it says so of the next token, or at an end that the
     /// end was not expected, of what closes the list. Where memory for the words is refused it is that.
@@ -49,12 +60,20 @@ impl<'a> ParseBuffer<'a> {
         }
     }
 
-    // The fault that the next token is not expected.
-    pub(crate) fn unexpected(&self) -> ParseFault {
-        match Error::new(self.alloc, self.cursor.span(), "unexpected token") {
+    // The fault that a token was left over.
+    pub(crate) fn left_over(&self, token: Leftover) -> ParseFault {
+        match Error::new(self.alloc, token.span, unexpected_words(token.closer)) {
             Ok(error) => ParseFault::Syntax(error),
             Err(_) => ParseFault::Memory,
         }
+    }
+
+    // The fault that the next token is not expected.
+    pub(crate) fn unexpected(&self) -> ParseFault {
+        self.left_over(Leftover {
+            span: self.cursor.span(),
+            closer: self.cursor.closer,
+        })
     }
 
     /// An error that says the message of the next token, or at an end of what closes the list.

@@ -22,6 +22,7 @@ pub mod input;
 pub mod next;
 pub mod parse;
 pub mod parse_trees;
+pub mod parser;
 pub mod position;
 pub mod step;
 pub mod token;

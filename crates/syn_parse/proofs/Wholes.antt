@@ -1,0 +1,26 @@
+-- Whole parses, by their steps.
+use Rattle.std.proofs.Common.{◌≡◌, List, Option, Some, None, Result, Ok, Err, subst, IfOk}
+use Rattle.proc_macro2.specs.Token.{Spanned}
+use Rattle.syn_error.specs.declared.fault.ParseFault.{ParseFault}
+use Rattle.syn_parse.specs.Input.{leftover}
+use Rattle.syn_parse.specs.Whole.{IsBegin, IsRead, IsRefused}
+use Rattle.syn_parse.specs.declared.input.Leftover.{Leftover}
+use Rattle.syn_parse.specs.declared.input.ParseBuffer.{ParseBuffer}
+
+pub whole_read : {A : Type 0} (runs : ParseBuffer → Result A ParseFault → ParseBuffer → Type 0) (tokens : List Spanned) (begin end : ParseBuffer) (answer : Result A ParseFault) (value : A) →
+    IsBegin tokens begin → runs begin answer end → answer ≡ Ok value → leftover end ≡ None → IsRead runs tokens value
+whole_read runs tokens begin end answer value b r e n =
+    let P : Result _ ParseFault → Type 0 = λ a. runs begin a end in
+    record { begin = begin; end = end; begins = b; ran = subst P e r; nothing_left = n }
+
+pub whole_refused : {A : Type 0} (runs : ParseBuffer → Result A ParseFault → ParseBuffer → Type 0) (tokens : List Spanned) (begin end : ParseBuffer) (answer : Result A ParseFault) (fault : ParseFault) →
+    IsBegin tokens begin → runs begin answer end → answer ≡ Err fault → IsRefused runs tokens
+whole_refused {A} runs tokens begin end answer fault b r e =
+    let P : Result A ParseFault → Type 0 = λ a. runs begin a end in
+    record { begin = begin; end = end; answer = Err fault; begins = b; ran = subst P e r; refused = tt }
+
+pub whole_left : {A : Type 0} (runs : ParseBuffer → Result A ParseFault → ParseBuffer → Type 0) (tokens : List Spanned) (begin end : ParseBuffer) (answer : Result A ParseFault) (value : A) →
+    IsBegin tokens begin → runs begin answer end → answer ≡ Ok value → (left : Leftover) × (leftover end ≡ Some left) → IsRefused runs tokens
+whole_left {A} runs tokens begin end answer value b r e l =
+    let P : Result A ParseFault → Type 0 = λ a. runs begin a end in
+    record { begin = begin; end = end; answer = Ok value; begins = b; ran = subst P e r; refused = l }

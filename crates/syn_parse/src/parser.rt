@@ -1,0 +1,84 @@
+//! Whole parses.
+
+ghost use Rattle.proc_macro2.specs.Token.{Spanned};
+ghost use Rattle.std.specs.Fn.{FnOnceReturnsAtMut};
+ghost use Rattle.std.specs.Prelude.{◌≡◌, Err, IfErr, IfOk, None, Ok, Result};
+ghost use Rattle.syn_error.specs.Faults.{IsSyntax};
+ghost use Rattle.syn_error.specs.declared.fault.ParseFault.{ParseFault};
+ghost use Rattle.syn_parse.specs.Input.{leftover, rest};
+ghost use Rattle.syn_parse.specs.Seen.{seen};
+ghost use Rattle.syn_parse.specs.Whole.{IsBegin, IsRead, IsRefused};
+ghost use Rattle.syn_parse.specs.declared.input.ParseBuffer.{ParseBuffer};
+
+use crate::buffer::TokenBuffer;
+use crate::input::ParseBuffer;
+use proc_macro2::tree::TokenStream;
+use rust_map::source_map::SourceMap;
+use std::alloc::Global;
+use syn_error::fault::{ParseFault, TextFault};
+
+/// What reads a value from a stream: each function that does.
+pub trait Parser {
+    /// What is read.
+    type Output: Drop;
+
+    /// It may be called on any stream.
+    ghost may: { Self → Type 0 };
+
+    /// From the first stream it answers so, and leaves the second.
+    ghost runs: { Self → ParseBuffer → Result Self.Output ParseFault → ParseBuffer → Type 0 };
+
+    /// Reads a value from the stream.
+    fn run(self, input: &mut ParseBuffer<'_>) -> Result<Self::Output, ParseFault>
+        requires { may self }
+        ensures { runs self input.old result input.new };
+}
+
+impl<T: Drop, F: FnOnce(&mut ParseBuffer<'_>) -> Result<T, ParseFault>> Parser for F {
+    type Output = T;
+
+    ghost may = { λ f. F.IsAlwaysCallable f };
+
+    ghost runs = { λ f old answer new. FnOnceReturnsAtMut F.FnOnce f old answer new };
+
+    fn run(self, input: &mut ParseBuffer<'_>) -> Result<T, ParseFault> {
+        self(input)
+    }
+}
+
+impl<'a> ParseBuffer<'a> {
+    // Nothing may be left, neither of the list nor in a group that has been closed.
+    fn require_all(&self) -> Result<(), ParseFault>
+        ensures ok { IfOk result (λ _. leftover self.now ≡ None) }
+        ensures err { IfErr result (λ _. ((t : _) × (leftover self.now ≡ Some t))) }
+    {
+        match self.leftover() {
+            None => Ok(()),
+            Some(token) => Err(self.left_over(token)),
+        }
+    }
+}
+
+/// Reads a whole stream by the parser: from its beginning to its end, with nothing left over in a group.
+///
+/// The fault is the parser's own, or that a token is left over: the first in a group that has been closed
+/// before it was read to its end, else the first behind what the parser has read.
+pub fn parse_stream<P: Parser + Drop>(
+    alloc: Global,
+    parser: P,
+    tokens: &TokenStream,
+) -> Result<P::Output, ParseFault>
+    requires { P.may parser }
+    ensures read { IfOk result (λ x. IsRead (P.runs parser) tokens.now x) }
+    ensures refused { IfErr result (λ e. IsSyntax e → IsRefused (P.runs parser) tokens.now) }
+{
+    let buffer = TokenBuffer::new2(alloc, tokens, 1)?;
+    let mut input = ParseBuffer::new(alloc, buffer.begin());
+    match parser.run(&mut input) {
+        Err(fault) => Err(fault),
+        Ok(value) => match input.require_all() {
+            Ok(()) => Ok(value),
+            Err(fault) => Err(fault),
+        },
+    }
+}
