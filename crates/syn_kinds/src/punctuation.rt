@@ -1,7 +1,7 @@
 //! Punctuations.
 
 ghost use Rattle.rust_map.specs.Spans.{call_site};
-ghost use Rattle.std.specs.Prelude.{[], ◌++◌, ◌∷◌, ◌≡◌, List, OnOk, drop, replicate};
+ghost use Rattle.std.specs.Prelude.{[], ◌++◌, ◌∷◌, ◌≡◌, List, OnOk, drop, get_or, replicate};
 ghost use Rattle.syn_error.specs.Front.{Keeps};
 ghost use Rattle.syn_kinds.specs.Table.{marks, quoted, sign};
 ghost use Rattle.syn_kinds.specs.Values.{marks_tokens};
@@ -37,6 +37,13 @@ impl<const K: usize, const N: usize> Punctuation<K, N> {
         ensures { result.now ≡ quoted (sign K) }
     {
         table::displayed_sign(K)
+    }
+
+    /// The mark at that index of the kind's row; past its end it is `~`.
+    pub fn mark(index: usize) -> char
+        ensures { result ≡ get_or (sign K) index 126 }
+    {
+        table::mark(K, index)
     }
 }
 

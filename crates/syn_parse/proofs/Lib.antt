@@ -1,3 +1,4 @@
 mod Laid
 mod Putting
+mod Rows
 mod Wholes

@@ -1,9 +1,11 @@
 -- Whole parses, by their steps.
-use Rattle.std.proofs.Common.{◌≡◌, List, Option, Some, None, Result, Ok, Err, subst, IfOk}
-use Rattle.proc_macro2.specs.Token.{Spanned}
+use Rattle.std.proofs.Common.{◌≡◌, List, [], ◌∷◌, Some, None, Result, Ok, Err, subst, refl}
+use Rattle.std.specs.Prelude.{true, false}
+use Rattle.proc_macro2.specs.Token.{Spanned, plain}
 use Rattle.syn_error.specs.declared.fault.ParseFault.{ParseFault}
 use Rattle.syn_parse.specs.Input.{leftover}
-use Rattle.syn_parse.specs.Whole.{IsBegin, IsRead, IsRefused}
+use Rattle.syn_parse.specs.Stands.{end_stands}
+use Rattle.syn_parse.specs.Whole.{IsBegin, IsRead, IsRefused, ReadsShort}
 use Rattle.syn_parse.specs.declared.input.Leftover.{Leftover}
 use Rattle.syn_parse.specs.declared.input.ParseBuffer.{ParseBuffer}
 
@@ -24,3 +26,17 @@ pub whole_left : {A : Type 0} (runs : ParseBuffer → Result A ParseFault → Pa
 whole_left {A} runs tokens begin end answer value b r e l =
     let P : Result A ParseFault → Type 0 = λ a. runs begin a end in
     record { begin = begin; end = end; answer = Ok value; begins = b; ran = subst P e r; refused = l }
+
+nothing_left : (ts : List Spanned) → end_stands (plain ts) ≡ true → ts ≡ []
+nothing_left [] e = refl
+nothing_left (t ∷ ts) e = cc
+
+-- a value that is read to the end, or not to the end
+pub read_all : {A : Type 0} (reads : List Spanned → A → List Spanned → Type 0) (tokens behind : List Spanned) (value : A) → reads tokens value behind → end_stands (plain behind) ≡ true → reads tokens value []
+read_all reads tokens behind value r e =
+    let P : List Spanned → Type 0 = λ ts. reads tokens value ts in
+    subst P (nothing_left behind e) r
+
+pub read_short : {A : Type 0} (reads : List Spanned → A → List Spanned → Type 0) (tokens behind : List Spanned) (value : A) → reads tokens value behind → end_stands (plain behind) ≡ false → ReadsShort reads tokens
+read_short reads tokens [] value r e = cc
+read_short reads tokens (t ∷ ts) value r e = record { value = value; next = t; behind = ts; read = r }

@@ -11,3 +11,4 @@ pub mod Trees
 pub mod Words
 pub mod Reads
 pub mod Whole
+pub mod Marks

@@ -1,5 +1,5 @@
 -- Whole parses: a stream is read from its beginning, and nothing is left over.
-use Rattle.std.specs.Prelude.{◌≡◌, List, Option, Some, None, Result, Ok, IfOk}
+use Rattle.std.specs.Prelude.{◌≡◌, List, ◌∷◌, Option, Some, None, Result, Ok, IfOk}
 use Rattle.proc_macro2.specs.Token.{Spanned}
 use Rattle.syn_error.specs.declared.fault.ParseFault.{ParseFault}
 use Rattle.syn_parse.specs.Seen.{seen}
@@ -28,3 +28,10 @@ pub record IsRefused {A : Type 0} (runs : ParseBuffer → Result A ParseFault �
   pub begins : IsBegin tokens begin
   pub ran : runs begin answer end
   pub refused : IfOk answer (λ _. (left : Leftover) × (leftover end ≡ Some left))
+
+-- a value is read from the tokens, and some are left behind it
+pub record ReadsShort {A : Type 0} (reads : List Spanned → A → List Spanned → Type 0) (tokens : List Spanned) : Type 0 where
+  pub value : A
+  pub next : Spanned
+  pub behind : List Spanned
+  pub read : reads tokens value (next ∷ behind)

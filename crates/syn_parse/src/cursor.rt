@@ -9,7 +9,8 @@ ghost use Rattle.syn_parse.specs.Heads.{SeenFirst};
 ghost use Rattle.syn_parse.specs.Position.{Takes, ahead, left, next_span, rest, scope};
 ghost use Rattle.syn_parse.specs.Leaves.{ident_token, literal_token, punct_token};
 ghost use Rattle.syn_parse.specs.Seen.{is_visible, seen};
-ghost use Rattle.syn_parse.specs.Stands.{any_group_stands, any_ident_stands, end_stands, group_stands, literal_stands, mark_stands};
+ghost use Rattle.syn_kinds.specs.Stands.{any_ident_stands, group_stands, literal_stands};
+ghost use Rattle.syn_parse.specs.Stands.{any_group_stands, end_stands, mark_stands};
 ghost use Rattle.syn_parse.specs.declared.entry.Entry.TheVariants as marks;
 
 use crate::buffer::TokenBuffer;

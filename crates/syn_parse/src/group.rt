@@ -7,7 +7,8 @@ ghost use Rattle.syn_error.specs.Faults.{IsSyntax};
 ghost use Rattle.syn_parse.specs.Groups.{Enters};
 ghost use Rattle.syn_parse.specs.Input.{first_of_two, left, leftover, rest};
 ghost use Rattle.syn_parse.specs.Position.{IsPast};
-ghost use Rattle.syn_parse.specs.Stands.{end_stands, group_stands};
+ghost use Rattle.syn_kinds.specs.Stands.{group_stands};
+ghost use Rattle.syn_parse.specs.Stands.{end_stands};
 
 use crate::input::{Leftover, ParseBuffer};
 use proc_macro2::delimiter::Delimiter;

@@ -19,6 +19,8 @@ pub mod entry;
 pub mod fault;
 pub mod group;
 pub mod input;
+pub mod kinds;
+pub mod marks;
 pub mod next;
 pub mod parse;
 pub mod parse_trees;

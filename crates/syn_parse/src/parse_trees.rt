@@ -1,14 +1,14 @@
 //! Reading what holds other syntax, and what is read as it stands.
 
-ghost use Rattle.std.specs.Prelude.{IsTrue};
-
 use crate::input::ParseBuffer;
 use crate::parse::Parse;
+use crate::position::Cursor;
 use crate::token::Token;
 use rust_leaf::ident::Ident;
 use rust_leaf::literal::Literal;
 use rust_leaf::punct::Punct;
 use syn_error::fault::ParseFault;
+use syn_kinds::table::is_reserved;
 use try_clone::TryClone;
 
 impl<T: Parse> Parse for Box<T> {
@@ -45,7 +45,7 @@ impl Parse for Literal {
     ghost use Rattle.std.specs.Prelude.{◌∷◌, ◌≡◌, false};
     ghost use Rattle.proc_macro2.specs.Token.{plain};
     ghost use Rattle.syn_parse.specs.Leaves.{literal_token};
-    ghost use Rattle.syn_parse.specs.Stands.{literal_stands};
+    ghost use Rattle.syn_kinds.specs.Stands.{literal_stands};
 
     ghost reads = { λ ts x us. ts ≡ literal_token x ∷ us };
 
@@ -81,5 +81,60 @@ impl Parse for Punct {
             }
             None => Err(input.expected("punctuation token")),
         }
+    }
+}
+
+impl Token for Ident {
+    ghost use Rattle.syn_kinds.specs.Stands.{ident_stands};
+
+    ghost stands = { ident_stands };
+
+    fn peek(cursor: Cursor<'_>) -> bool {
+        match cursor.ident() {
+            Some((ident, _)) => !is_reserved(ident),
+            None => false,
+        }
+    }
+
+    fn display() -> &'static str {
+        "identifier"
+    }
+}
+
+impl Parse for Ident {
+    ghost use Rattle.proc_macro2.specs.Token.{plain};
+    ghost use Rattle.rust_leaf.specs.Leaf.{ident_text};
+    ghost use Rattle.std.specs.Prelude.{◌∷◌, ◌≡◌, false};
+    ghost use Rattle.syn_kinds.specs.Stands.{ident_stands};
+    ghost use Rattle.syn_kinds.specs.Table.{is_reserved};
+    ghost use Rattle.syn_parse.specs.Leaves.{ident_token};
+
+    ghost reads = { λ ts x us. (ts ≡ ident_token x ∷ us) × (is_reserved (ident_text x) ≡ false) };
+
+    ghost refuses = { λ ts. ident_stands (plain ts) ≡ false };
+
+    fn parse(input: &mut ParseBuffer<'_>) -> Result<Ident, ParseFault> {
+        match input.cursor.ident() {
+            Some((ident, behind)) if !is_reserved(ident) => {
+                let copy = ident.try_clone()?;
+                input.cursor = behind;
+                Ok(copy)
+            }
+            _ => Err(input.expected("identifier")),
+        }
+    }
+}
+
+impl Token for Literal {
+    ghost use Rattle.syn_kinds.specs.Stands.{literal_stands};
+
+    ghost stands = { literal_stands };
+
+    fn peek(cursor: Cursor<'_>) -> bool {
+        cursor.literal().is_some()
+    }
+
+    fn display() -> &'static str {
+        "literal"
     }
 }

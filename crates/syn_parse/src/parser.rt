@@ -2,16 +2,17 @@
 
 ghost use Rattle.proc_macro2.specs.Token.{Spanned};
 ghost use Rattle.std.specs.Fn.{FnOnceReturnsAtMut};
-ghost use Rattle.std.specs.Prelude.{◌≡◌, Err, IfErr, IfOk, None, Ok, Result};
+ghost use Rattle.std.specs.Prelude.{[], ◌≡◌, ◌⊎◌, Err, IfErr, IfOk, None, Ok, Result};
 ghost use Rattle.syn_error.specs.Faults.{IsSyntax};
 ghost use Rattle.syn_error.specs.declared.fault.ParseFault.{ParseFault};
 ghost use Rattle.syn_parse.specs.Input.{leftover, rest};
 ghost use Rattle.syn_parse.specs.Seen.{seen};
-ghost use Rattle.syn_parse.specs.Whole.{IsBegin, IsRead, IsRefused};
+ghost use Rattle.syn_parse.specs.Whole.{IsRead, IsRefused, ReadsShort};
 ghost use Rattle.syn_parse.specs.declared.input.ParseBuffer.{ParseBuffer};
 
 use crate::buffer::TokenBuffer;
 use crate::input::ParseBuffer;
+use crate::parse::Parse;
 use proc_macro2::tree::TokenStream;
 use rust_map::source_map::SourceMap;
 use std::alloc::Global;
@@ -77,6 +78,32 @@ pub fn parse_stream<P: Parser + Drop>(
     match parser.run(&mut input) {
         Err(fault) => Err(fault),
         Ok(value) => match input.require_all() {
+            Ok(()) => Ok(value),
+            Err(fault) => Err(fault),
+        },
+    }
+}
+
+/// Reads a whole stream as a value of that type.
+///
+/// The fault is that none is read from the stream, or that tokens are left behind it.
+pub fn parse2<T: Parse>(alloc: Global, tokens: TokenStream) -> Result<T, ParseFault>
+    ensures read { IfOk result (λ x. T.reads (seen tokens) x []) }
+    ensures refused { IfErr result (λ e. IsSyntax e → T.refuses (seen tokens) ⊎ ReadsShort T.reads (seen tokens)) }
+{
+    let buffer = TokenBuffer::new2(alloc, &tokens, 1)?;
+    let mut input = ParseBuffer::new(alloc, buffer.begin());
+    read_to_end(&mut input)
+}
+
+// Reads a value, behind which nothing is left.
+fn read_to_end<T: Parse>(input: &mut ParseBuffer<'_>) -> Result<T, ParseFault>
+    ensures read { IfOk result (λ x. T.reads (rest input.old) x []) }
+    ensures refused { IfErr result (λ e. IsSyntax e → T.refuses (rest input.old) ⊎ ReadsShort T.reads (rest input.old)) }
+{
+    match T::parse(input) {
+        Err(fault) => Err(fault),
+        Ok(value) => match input.require_end() {
             Ok(()) => Ok(value),
             Err(fault) => Err(fault),
         },
