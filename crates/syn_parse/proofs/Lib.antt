@@ -1,3 +1,4 @@
+mod Closed
 mod Laid
 mod Putting
 mod Rows

@@ -1,5 +1,5 @@
 -- The marks of a punctuation, one by one.
-use Rattle.std.proofs.Common.{◌≡◌, ℕ, zero, suc, List, [], ◌∷◌, length, get_or, refl, sym, ap, ◌∙◌, arith}
+use Rattle.std.proofs.Common.{◌≡◌, ℕ, List, [], ◌∷◌, length, get_or, refl, ap, ◌∙◌, arith}
 use Rattle.syn_kinds.specs.Table.{marks, sign}
 use Rattle.syn_kinds.proofs.Marks.{marks_count, mark_at}
 

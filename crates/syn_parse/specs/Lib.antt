@@ -12,3 +12,5 @@ pub mod Words
 pub mod Reads
 pub mod Whole
 pub mod Marks
+pub mod Lifetimes
+pub mod Within

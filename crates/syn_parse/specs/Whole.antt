@@ -1,5 +1,5 @@
 -- Whole parses: a stream is read from its beginning, and nothing is left over.
-use Rattle.std.specs.Prelude.{◌≡◌, List, ◌∷◌, Option, Some, None, Result, Ok, IfOk}
+use Rattle.std.specs.Prelude.{◌≡◌, List, ◌∷◌, Some, None, Result, Ok, IfOk}
 use Rattle.proc_macro2.specs.Token.{Spanned}
 use Rattle.syn_error.specs.declared.fault.ParseFault.{ParseFault}
 use Rattle.syn_parse.specs.Seen.{seen}

@@ -20,14 +20,17 @@ pub mod fault;
 pub mod group;
 pub mod input;
 pub mod kinds;
+pub mod lifetime;
 pub mod marks;
 pub mod next;
 pub mod parse;
 pub mod parse_trees;
 pub mod parser;
+pub mod place;
 pub mod position;
 pub mod step;
 pub mod token;
+pub mod within;
 
 pub use buffer::TokenBuffer;
 pub use input::ParseBuffer;

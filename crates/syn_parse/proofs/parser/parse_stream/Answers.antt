@@ -1,9 +1,7 @@
-use Rattle.std.proofs.Common.{◌≡◌, ◌∙◌, ap, List}
+use Rattle.std.proofs.Common.{◌∙◌, ap, List}
 use Rattle.proc_macro2.specs.Token.{Spanned}
-use Rattle.syn_parse.specs.Input.{rest}
 use Rattle.syn_parse.specs.Position as place
 use Rattle.syn_parse.specs.Seen.{seen}
-use Rattle.syn_parse.specs.Whole.{IsBegin}
 use Rattle.syn_parse.specs.declared.position.Cursor.{Cursor}
 use Rattle.syn_parse.proofs.Wholes.{whole_left, whole_read, whole_refused}
 use Rattle.syn_parse.proofs.parser.parse_stream.Goals as goal

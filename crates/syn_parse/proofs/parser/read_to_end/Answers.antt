@@ -1,5 +1,4 @@
-use Rattle.std.specs.Prelude.{◌⊎◌}
-use Rattle.std.proofs.Common.{inl, inr}
+use Rattle.std.proofs.Common.{inr}
 use Rattle.syn_parse.specs.Input.{rest}
 use Rattle.syn_parse.proofs.Wholes.{read_all, read_short}
 use Rattle.syn_parse.proofs.parser.read_to_end.Goals as goal
