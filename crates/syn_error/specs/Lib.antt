@@ -3,3 +3,4 @@ pub mod Tokens
 pub mod Notes
 pub mod Messages
 pub mod Faults
+pub mod Left

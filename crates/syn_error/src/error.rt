@@ -1,6 +1,7 @@
 //! Syntax errors.
 
 ghost use Rattle.std.specs.Prelude.{[], ◌++◌, ◌∷◌, ◌≡◌, IfOk, OnErr, OnOk, Some, string_bytes};
+ghost use Rattle.rust_map.specs.Faults.{error_message};
 ghost use Rattle.syn_error.specs.Notes.{Says, first_place, last_place, place_of, words_of};
 
 use crate::place::ErrorPlace;
@@ -100,6 +101,13 @@ impl Error {
     {
         let words = message.to_string(alloc)?;
         Ok(Error::one(alloc, range.start.span(), range.end.prev_span(), words))
+    }
+
+    /// The error that says what a lexical fault says, of its span. The error of the call is that memory was refused.
+    pub fn from_lex(alloc: Global, fault: LexError) -> Result<Error, AllocError>
+        ensures { IfOk result (λ e. Says (Some (error_message fault)) fault.span fault.span e) }
+    {
+        Error::new(alloc, fault.span(), fault)
     }
 
     // An error of one message.

@@ -1,5 +1,6 @@
 -- Values with the separators behind them: how many there are, and the last one.
-use Rattle.std.proofs.Common.{◌≡◌, ◌<◌, ◌≤◌, suc, List, [], ◌∷◌, ◌++◌, length, get_or, arith, refl, ap, ◌∙◌}
+use Rattle.std.proofs.Common.{◌≡◌, ℕ, zero, suc, ◌+◌, ◌<◌, ◌≤◌, List, [], ◌∷◌, ◌++◌, length, get_or, take, arith, refl, sym, ap, ◌∙◌, length-append}
+use Rattle.std.proofs.lemmas.List.{length-take}
 use Rattle.std.specs.Prelude.{Some, None}
 use Rattle.syn_lists.specs.Pairs.{pairs}
 
@@ -23,11 +24,42 @@ module _ {T P : Type 0} where
   without_separator (u ∷ vs) (p ∷ ps) v past = ap (λ qs. (u, Some p) ∷ qs) (without_separator vs ps v (omega arith))
 
   -- the last pair of some, where a separator stands behind the last value
-  pub last_with : (all vs : List T) (ps : List P) (v : T) (d : P) → all ≡ vs ++ v ∷ [] → length vs < length ps
+  pub paired : (all vs : List T) (ps : List P) (v : T) (d : P) → all ≡ vs ++ v ∷ [] → length vs < length ps
       → pairs all ps ≡ pairs vs ps ++ (v, Some (get_or ps (length vs) d)) ∷ []
-  last_with all vs ps v d e below = ap (λ ws. pairs ws ps) e ∙ with_separator vs ps v d below
+  paired all vs ps v d e below = ap (λ ws. pairs ws ps) e ∙ with_separator vs ps v d below
 
   -- and where none does
-  pub last_without : (all vs : List T) (ps : List P) (v : T) → all ≡ vs ++ v ∷ [] → length ps ≤ length vs
+  pub alone : (all vs : List T) (ps : List P) (v : T) → all ≡ vs ++ v ∷ [] → length ps ≤ length vs
       → pairs all ps ≡ pairs vs ps ++ (v, None) ∷ []
-  last_without all vs ps v e past = ap (λ ws. pairs ws ps) e ∙ without_separator vs ps v past
+  alone all vs ps v e past = ap (λ ws. pairs ws ps) e ∙ without_separator vs ps v past
+
+  -- separators past the values are not looked at
+  cut : (vs : List T) (ps : List P) (n : ℕ) → length vs ≤ n → pairs vs (take n ps) ≡ pairs vs ps
+  cut [] ps n enough = refl
+  cut (v ∷ vs) ps zero enough = absurd (omega arith)
+  cut (v ∷ vs) [] (suc n) enough = refl
+  cut (v ∷ vs) (p ∷ ps) (suc n) enough = ap (λ qs. (v, Some p) ∷ qs) (cut vs ps n (omega arith))
+
+  both_more : (vs : List T) (qs : List P) (v : T) (p : P) → length qs ≡ length vs
+      → pairs (vs ++ v ∷ []) (qs ++ p ∷ []) ≡ pairs vs qs ++ (v, Some p) ∷ []
+  both_more [] [] v p same = refl
+  both_more [] (q ∷ qs) v p same = absurd (omega arith)
+  both_more (u ∷ vs) [] v p same = absurd (omega arith)
+  both_more (u ∷ vs) (q ∷ qs) v p same = ap (λ rs. (u, Some q) ∷ rs) (both_more vs qs v p (omega arith))
+
+  -- the last pair, once the separators are cut to as many as there are values
+  pub behind : (all vs : List T) (ps few left : List P) (v : T) (p : P) → all ≡ vs ++ v ∷ [] → few ≡ take (length vs + 1) ps
+      → length vs < length few → few ≡ left ++ p ∷ [] → pairs all ps ≡ pairs vs left ++ (v, Some p) ∷ []
+  behind all vs ps few left v p is_all is_few below is_left =
+      let count : length (vs ++ v ∷ []) ≡ length vs + 1 = length-append vs (v ∷ []) in
+      let few_count : length few ≤ length vs + 1 = omega (arith, ap length is_few, length-take (length vs + 1) ps) in
+      let left_count : length few ≡ length left + 1 = ap length is_left ∙ length-append left (p ∷ []) in
+      ap (λ ws. pairs ws ps) is_all ∙ sym (cut (vs ++ v ∷ []) ps (length vs + 1) (omega arith))
+      ∙ ap (λ qs. pairs (vs ++ v ∷ []) qs) (sym is_few ∙ is_left) ∙ both_more vs left v p (omega arith)
+
+  pub bare : (all vs : List T) (ps few : List P) (v : T) → all ≡ vs ++ v ∷ [] → few ≡ take (length vs + 1) ps
+      → length few ≤ length vs → pairs all ps ≡ pairs vs few ++ (v, None) ∷ []
+  bare all vs ps few v is_all is_few past =
+      let count : length (vs ++ v ∷ []) ≡ length vs + 1 = length-append vs (v ∷ []) in
+      ap (λ ws. pairs ws ps) is_all ∙ sym (cut (vs ++ v ∷ []) ps (length vs + 1) (omega arith))
+      ∙ ap (λ qs. pairs (vs ++ v ∷ []) qs) (sym is_few) ∙ without_separator vs few v past

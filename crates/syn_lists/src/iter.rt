@@ -1,13 +1,15 @@
 //! The values of a list, one by one, from both ends.
 
-ghost use Rattle.std.specs.Iterator.{UpTo, YieldsFirst, YieldsFirstRef, YieldsLast, YieldsLastRef, at_most, item_count};
+ghost use Rattle.std.specs.Iterator.{UpTo, YieldsFirst, YieldsFirstMut, YieldsFirstRef, item_count};
+ghost use Rattle.std.specs.Iterator.{YieldsLast, YieldsLastMut, YieldsLastRef};
 ghost use Rattle.std.specs.Iterator.SizeHint.{IsExactHint, IsWithinCount};
 ghost use Rattle.std.specs.Prelude.{[], ◌≡◌, IfSome, length};
-ghost use Rattle.syn_lists.specs.Left.{iter_left, into_iter_left};
+ghost use Rattle.syn_lists.specs.Left.{into_iter_left, iter_left, iter_mut_left};
 ghost use Rattle.syn_lists.specs.Lists.{values};
 
 use crate::punctuated::Punctuated;
 use std::collections::VecDeque;
+use std::slice;
 
 /// The values of a list, in order, lent.
 #[derive(Clone, Copy, Debug)]
@@ -69,6 +71,49 @@ impl<'a, T> DoubleEndedIterator for Iter<'a, T> {
 }
 
 impl<'a, T> ExactSizeIterator for Iter<'a, T> {
+    fn len(&self) -> usize {
+        self.rest.len()
+    }
+}
+
+/// The values of a list, in order, to be changed.
+#[derive(Drop)]
+pub struct IterMut<'a, T> {
+    pub(crate) rest: slice::IterMut<'a, T>,
+}
+
+impl<T, P> Punctuated<T, P> {
+    /// The values, in order, to be changed.
+    pub fn iter_mut(&mut self) -> IterMut<'_, T>
+        ensures { iter_mut_left result ≡ values self.old }
+    {
+        IterMut {
+            rest: self.values.iter_mut(),
+        }
+    }
+}
+
+impl<'a, T> Iterator for IterMut<'a, T> {
+    type Item = &'a mut T;
+
+    ghost next_gives = { YieldsFirstMut iter_mut_left };
+
+    ghost remaining = { item_count iter_mut_left };
+
+    fn next(&mut self) -> Option<&'a mut T> {
+        self.rest.next()
+    }
+}
+
+impl<'a, T> DoubleEndedIterator for IterMut<'a, T> {
+    ghost next_back_gives = { YieldsLastMut iter_mut_left };
+
+    fn next_back(&mut self) -> Option<&'a mut T> {
+        self.rest.next_back()
+    }
+}
+
+impl<'a, T> ExactSizeIterator for IterMut<'a, T> {
     fn len(&self) -> usize {
         self.rest.len()
     }

@@ -95,7 +95,8 @@ impl<T, P> Pair<T, P> {
 impl<T: TryClone, P: TryClone> Pair<&T, &P> {
     /// A copy of what is lent. The error is that memory was refused.
     pub fn cloned(self) -> Result<Pair<T, P>, AllocError>
-        ensures { IfOk result (λ pair. shown_parts T.shown P.shown (parts pair) ≡ shown_parts T.shown P.shown (lent self.entry)) }
+        ensures { let shown = shown_parts T.shown P.shown in
+            IfOk result (λ pair. shown (parts pair) ≡ shown (lent self.entry)) }
     {
         match self {
             Pair::Punctuated(value, separator) => {

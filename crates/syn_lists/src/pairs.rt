@@ -4,7 +4,7 @@ ghost use Rattle.std.specs.Iterator.{UpTo, YieldsFirstBy, YieldsLastBy, at_most,
 ghost use Rattle.std.specs.Iterator.SizeHint.{IsExactHint, IsWithinCount};
 ghost use Rattle.std.specs.Prelude.{◌≡◌, ◌≤◌, IfSome, length, vec_len};
 ghost use Rattle.syn_lists.specs.Lists.{separators, values};
-ghost use Rattle.syn_lists.specs.PairsLeft.{pairs_left};
+ghost use Rattle.syn_lists.specs.PairsLeft.{into_pairs_left, pairs_left};
 ghost use Rattle.syn_lists.specs.Pairs.{lent, pairs, parts};
 
 use crate::pair::Pair;
@@ -50,7 +50,7 @@ impl<'a, T, P> Iterator for Pairs<'a, T, P> {
     }
 }
 
-#[tactic(auto, using(crate::proofs::Behind::last_with, crate::proofs::Behind::last_without, crate::proofs::Behind::pairs_count))]
+#[tactic(auto, using(crate::proofs::Behind::paired, crate::proofs::Behind::alone, crate::proofs::Behind::pairs_count))]
 impl<'a, T, P> DoubleEndedIterator for Pairs<'a, T, P> {
     ghost next_back_gives = { YieldsLastBy lent pairs_left };
 
@@ -67,6 +67,66 @@ impl<'a, T, P> DoubleEndedIterator for Pairs<'a, T, P> {
 
 #[tactic(auto, using(crate::proofs::Behind::pairs_count))]
 impl<'a, T, P> ExactSizeIterator for Pairs<'a, T, P> {
+    fn len(&self) -> usize {
+        self.values.len()
+    }
+}
+
+/// The values of a list with the separators behind them, in order.
+#[derive(Debug, Drop)]
+pub struct IntoPairs<T, P> {
+    pub(crate) values: VecDeque<T>,
+    pub(crate) separators: VecDeque<P>,
+}
+
+impl<T, P> Punctuated<T, P> {
+    /// The values with the separators behind them, in order.
+    pub fn into_pairs(self) -> IntoPairs<T, P>
+        ensures { into_pairs_left result ≡ pairs (values self) (separators self) }
+    {
+        let Punctuated { values, separators } = self;
+        IntoPairs {
+            values: VecDeque::from_vec(values),
+            separators: VecDeque::from_vec(separators),
+        }
+    }
+}
+
+impl<T: Drop, P: Drop> Iterator for IntoPairs<T, P> {
+    type Item = Pair<T, P>;
+
+    ghost next_gives = { YieldsFirstBy parts into_pairs_left };
+
+    ghost remaining = { item_count into_pairs_left };
+
+    fn next(&mut self) -> Option<Pair<T, P>> {
+        let value = self.values.pop_front()?;
+        match self.separators.pop_front() {
+            Some(separator) => Some(Pair::Punctuated(value, separator)),
+            None => Some(Pair::End(value)),
+        }
+    }
+}
+
+#[tactic(auto, using(crate::proofs::Behind::behind, crate::proofs::Behind::bare, crate::proofs::Behind::pairs_count))]
+impl<T: Drop, P: Drop> DoubleEndedIterator for IntoPairs<T, P> {
+    ghost next_back_gives = { YieldsLastBy parts into_pairs_left };
+
+    fn next_back(&mut self) -> Option<Pair<T, P>> {
+        let value = self.values.pop_back()?;
+        self.separators.truncate(self.values.len() + 1);
+        if self.separators.len() <= self.values.len() {
+            return Some(Pair::End(value));
+        }
+        match self.separators.pop_back() {
+            Some(separator) => Some(Pair::Punctuated(value, separator)),
+            None => unreachable!(),
+        }
+    }
+}
+
+#[tactic(auto, using(crate::proofs::Behind::pairs_count))]
+impl<T: Drop, P: Drop> ExactSizeIterator for IntoPairs<T, P> {
     fn len(&self) -> usize {
         self.values.len()
     }

@@ -1,6 +1,7 @@
 //! Lists of values with separators.
 
-ghost use Rattle.std.specs.Prelude.{[], ◌++◌, ◌∷◌, ◌-◌, ◌<◌, ◌≤◌, ◌≡◌, ◌↔◌, IfErr, IfSome, IsSome, IsTrue, MatchOption, OnErr, OnOk, OnSome};
+ghost use Rattle.std.specs.Prelude.{[], ◌++◌, ◌∷◌, ◌-◌, ◌<◌, ◌≤◌, ◌≡◌, ◌↔◌, MatchOption, OnErr, OnOk, OnSome};
+ghost use Rattle.std.specs.Prelude.{IfErr, IfSome, IsNone, IsSome, IsTrue};
 ghost use Rattle.std.specs.Prelude.{drop, get_or, insert, length, min, take};
 ghost use Rattle.syn_lists.specs.Lists.{IsTrailing, separators, values};
 ghost use Rattle.syn_lists.specs.Pairs.{IsLastPair};
@@ -11,7 +12,7 @@ use std::alloc::{AllocFailed, Global};
 /// A list of values with a separator between each two of them, and perhaps one behind the last.
 ///
 /// To a contract it is a list of values and one of separators, which the calls keep equally long or one shorter.
-#[derive(Debug, Drop)]
+#[derive(Debug, Drop, PartialEq, Eq)]
 pub struct Punctuated<T, P> {
     pub(crate) values: Vec<T>,
     pub(crate) separators: Vec<P>,
@@ -182,8 +183,8 @@ impl<T, P> Punctuated<T, P> {
         P: Drop,
         ensures pair { MatchOption result ((values self.old ≡ []) × (values self.new ≡ []))
             (λ pair. IsLastPair pair (values self.old) (separators self.old) (values self.new)) }
-        ensures separators { OnSome result (separators self.new ≡ take (length (values self.new)) (separators self.old)) }
-        ensures none { MatchOption result (separators self.new ≡ separators self.old) (λ _. Unit {0}) }
+        ensures some { OnSome result (separators self.new ≡ take (length (values self.new)) (separators self.old)) }
+        ensures none { IsNone result → separators self.new ≡ separators self.old }
     {
         let value = self.values.pop()?;
         self.separators.truncate(self.values.len() + 1);
@@ -216,7 +217,8 @@ impl<T, P> Punctuated<T, P> {
     where
         P: Default + Drop,
         ensures values { OnOk result (values self.new ≡ values self.old ++ value ∷ []) }
-        ensures kept { length (values self.old) ≤ length (separators self.old) → separators self.new ≡ separators self.old }
+        ensures kept { length (values self.old) ≤ length (separators self.old)
+            → separators self.new ≡ separators self.old }
         ensures separator { length (separators self.old) < length (values self.old)
             → OnOk result ((p : P) × P.is_default p × (separators self.new ≡ separators self.old ++ p ∷ [])) }
         ensures err { OnErr result ((values self.new ≡ values self.old) × (separators self.new ≡ separators self.old)) }
