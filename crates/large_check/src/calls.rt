@@ -16,7 +16,7 @@ pub fn is_lexed(alloc: Global, source: &str, wanted: &str) -> Result<bool> {
     Ok(stream.is_well_spaced() && printed.as_str() == wanted)
 }
 
-/// Whether a copy of the stream, and one of its iterator, are printed as the wanted text.
+/// Whether a copy of the stream, and one that is built of a copy of its iterator, are printed as the wanted text.
 pub fn is_copied(alloc: Global, source: &str, wanted: &str) -> Result<bool> {
     let mut map = SourceMap::new(alloc);
     let stream = TokenStream::from_str(alloc, source, &mut map)?;
@@ -27,8 +27,14 @@ pub fn is_copied(alloc: Global, source: &str, wanted: &str) -> Result<bool> {
     for tree in again {
         trees.push(tree)?;
     }
-    let built = TokenStream::from_trees(alloc, trees)?;
-    let both = TokenStream::from_streams(alloc, vec![in alloc; built]?)?;
+    let mut extended = TokenStream::new(alloc);
+    extended.extend_trees(trees)?;
+    let mut pushed = TokenStream::new(alloc);
+    for tree in extended.into_iter()? {
+        pushed.push_tree(tree)?;
+    }
+    let mut both = TokenStream::new(alloc);
+    both.extend_streams(vec![in alloc; pushed]?)?;
     let last = format!(in alloc; "{both}")?;
     Ok(printed.as_str() == wanted && last.as_str() == wanted)
 }
