@@ -1,3 +1,4 @@
 pub mod Indices
 pub mod Texts
 pub mod OfClass
+pub mod Digits

@@ -25,7 +25,8 @@ unsigned : (k : LiteralKind) (cs : List ℕ) → IsKind k (minus ∷ cs) → ⊥
 unfolding IsKind
 unsigned k cs l =
     let found = complete (piece.Literal k) (minus ∷ cs) [] l in
-    let same : Ends piece.Mark (cs ++ []) ≡ Ends (piece.Literal k) [] = sym (mark_scanned minus (cs ++ []) (minus_begins (cs ++ []))) ∙ found in
+    let same : Ends piece.Mark (cs ++ [])
+    ≡ Ends (piece.Literal k) [] = sym (mark_scanned minus (cs ++ []) (minus_begins (cs ++ []))) ∙ found in
     cc
 
 pub class_stays : (k : LiteralKind) (old new : List ℕ) → new ≡ old → ∥ IsKind k old ∥₁ → ∥ IsKind k new ∥₁
@@ -37,9 +38,12 @@ no_minus k (c ∷ cs) t = by_first (c == minus) refl
   where
     by_first : (b : Bool) → (c == minus) ≡ b → (c == minus) ≡ false
     by_first false e = e
-    by_first true e = absurd (not_there t (λ l. unsigned k cs (subst (λ (d : ℕ). IsKind k (d ∷ cs)) (eqb-true c minus e) l)))
+    by_first true e = absurd (not_there t (λ l. unsigned k cs (subst
+        (λ (d : ℕ). IsKind k (d ∷ cs)) (eqb-true c minus e) l)))
 
 -- it is put into a stream as it stands
-pub entered_class : (k : LiteralKind) (cs : List ℕ) (s : Span) → ∥ IsKind k cs ∥₁ → literal_entered cs s ≡ spanned (Literal cs) s ∷ []
+pub entered_class : (k : LiteralKind) (cs : List ℕ) (s : Span) → ∥ IsKind k cs ∥₁
+    → literal_entered cs s ≡ spanned (Literal cs) s ∷ []
 entered_class k cs s t =
-    ap (λ v. if v then spanned (Punct minus Alone) s ∷ spanned (Literal (drop 1 cs)) s ∷ [] else spanned (Literal cs) s ∷ []) (no_minus k cs t)
+    ap (λ v. if v then spanned (Punct minus Alone) s ∷ spanned (Literal (drop 1 cs)) s ∷ [] else spanned
+    (Literal cs) s ∷ []) (no_minus k cs t)

@@ -6,11 +6,13 @@
 //! - `boolean`: `true` and `false`.
 //! - `literal`: literals of one class.
 //! - `classes`: the classes of literals.
+//! - `integer`: the numbers that integer literals write.
 //! - `kind` (private): which literal a text is.
 #![tactic(auto)]
 
 pub mod boolean;
 pub mod classes;
+mod integer;
 mod kind;
 pub mod lit;
 pub mod literal;
