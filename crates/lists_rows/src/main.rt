@@ -1,0 +1,22 @@
+//! Lists with separators, and errors, by hand: what they hold after each call, and what is printed for them.
+//!
+//! - `lists`: what is put in, taken out and gone over.
+//! - `errors`: messages put together, gone over, and as tokens.
+#![tactic(auto)]
+
+mod errors;
+mod lists;
+
+use anyhow::Error;
+use std::io::Write;
+
+fn main(rt: HostRuntime) -> Result<(), Error> {
+    let mut lines = String::new(rt.alloc());
+    lists::taken_out(&mut lines)?;
+    lists::put_in(&mut lines)?;
+    lists::gone_over(&mut lines)?;
+    lists::collected(&mut lines)?;
+    errors::errors(&mut lines)?;
+    rt.stdout().write_all(lines.as_bytes())?;
+    Ok(())
+}
