@@ -7,7 +7,7 @@ use Rattle.proc_macro2.specs.declared.delimiter.Delimiter.{Delimiter}
 use Rattle.rust_leaf.specs.declared.punct.Spacing.{Spacing}
 use Rattle.rust_leaf.specs.declared.punct.Spacing.TheVariants.{Alone as Apart, Joint}
 use Rattle.proc_macro2.specs.Spacing.{quote, begin_comment, follows_mark, follows_quote, may_stand, IsWellSpaced}
-use Rattle.syn_grammar.specs.Kind.{Kind, Position, Plain, Expression, AStatement, AnItem, OuterAttributes, ExprField, ExprCast, ExprAttributed, Where, Generics, ImplGenerics, BoundsColon, LifetimeColon, GenericParams, Arguments, Parameter, DynType, ImplType, Meta, Member, Index, Arm, ATypeAlias, AnImpl}
+use Rattle.syn_grammar.specs.Kind.{Kind, Position, Plain, Expression, AStatement, AnItem, OuterAttributes, ExprField, ExprMethodCall, ExprAwait, ExprCast, ExprAttributed, Where, Generics, ImplGenerics, BoundsColon, LifetimeColon, GenericParams, Arguments, Parameter, DynType, ImplType, Meta, Member, Index, Arm, ATypeAlias, AnImpl}
 use Rattle.syn_grammar.specs.Name.{Part, same_part, the_unnamed, the_attributes, the_expression, the_indices, the_value, the_comma, the_arguments, the_generics}
 use Rattle.syn_grammar.specs.Words.{indices}
 use Rattle.syn_grammar.specs.Tree.{Tree, AWord, ALiteral, AMark, ALifetime, Raw, Nil, Pair, First, Second, End, Again, Final, More, Group, Dropped, Called, Verbatim, Hidden, Node, Whole, Alone, Front, Back, Infix, marks, flat}
@@ -17,7 +17,7 @@ use Rattle.syn_grammar.specs.Table.{table}
 use Rattle.syn_grammar.specs.Forms.{level, inside, form_of}
 use Rattle.syn_grammar.specs.Derives.{Derives, Bound}
 use Rattle.syn_grammar.specs.Calm.{ends_apart, RawsEndApart, calm_marks, calm_entry, MayPrecede, Calm}
-use Rattle.syn_grammar.specs.Kept.{named, listed_bound, unsafe_path, attributed, attributed_in, given, left_in_front, is_macro, own_part, is_there, expression_statement, as_statement, plain_index, plain_member, not_last, index_field, index_fields, fields_in_front, last_fields, dotted, forget, kept}
+use Rattle.syn_grammar.specs.Kept.{named, listed_bound, unsafe_path, attributed, attributed_in, given, left_in_front, is_macro, own_part, is_there, expression_statement, as_statement, plain_index, plain_member, not_last, index_field, index_fields, fields_in_front, last_fields, dotted_own, dotted, forget, kept}
 use Rattle.syn_grammar.specs.Tidy.{is_bare_where, is_bare_colon, is_bare_generics, is_lifetime_param, is_lifetime_argument, joined, those_then, others_of, lifetimes_first, is_absent, moved, keeps_generics, without_generics, tidy}
 use Rattle.syn_grammar.specs.Parens.{parens_unless, stays_right, stays_left, with_right, with_left, begins_in, stands_in, takes_what_follows, follow}
 use Rattle.syn_grammar.specs.Normal.{place_of, passed, stands_behind, apart, apart_item, is_enclosed, normal_in, formed, normal}
@@ -249,9 +249,15 @@ calm_last : (l : Tree) (k : Kind) (d x : Tree) → Calm l → Calm d → Calm x 
 calm_last l ExprField d (Second (Called the_value (ALiteral cs))) h i j = calm_fields l (indices cs) h
 calm_last l _ d x h i j = (h, ((i, tt), j))
 
+calm_own_dots : (l : Tree) (k : Kind) (y : Tree) → Calm l → Calm y → Calm (dotted_own l k y)
+calm_own_dots l k (Pair (Pair d (Called the_indices x)) y) h i = calm_last (fields_in_front l x) k d y (calm_in_front l x h) i.0.0 i.1
+calm_own_dots l k _ h i = (h, i)
+
 calm_dotted : (l : Tree) (k : Kind) (y : Tree) → Calm l → Calm y → Calm (dotted l k y)
-calm_dotted l k (Pair (Pair d (Called the_indices x)) y) h i = calm_last (fields_in_front l x) k d y (calm_in_front l x h) i.0.0 i.1
-calm_dotted l k _ h i = (h, i)
+calm_dotted l ExprField y h i = calm_own_dots l ExprField y h i
+calm_dotted l ExprMethodCall y h i = calm_own_dots l ExprMethodCall y h i
+calm_dotted l ExprAwait y h i = calm_own_dots l ExprAwait y h i
+calm_dotted l _ y h i = (h, i)
 
 mutual
   calm_kept : (x : Tree) (g : Gram) (r : List Token) → calm_entry g ≡ true → Derives x g r → IsWellSpaced (flat x ++ r) → RawsEndApart x → Calm (kept x)

@@ -109,7 +109,7 @@ cond_same : (b : Bool) (f : Tree → Tree) (x : Tree) → f (f x) ≡ f x → co
 cond_same true f x e = e
 cond_same false f x e = refl
 
-changed_twice : (n : Part) (f : Tree → Tree) → ((x : Tree) → f (f x) ≡ f x) → (x : Tree) → changed n f (changed n f x) ≡ changed n f x
+pub changed_twice : (n : Part) (f : Tree → Tree) → ((x : Tree) → f (f x) ≡ f x) → (x : Tree) → changed n f (changed n f x) ≡ changed n f x
 changed_twice n f h (Called m x) = ap (Called m) (cond_same (same_part m n) f x (h x))
 changed_twice n f h (Pair x y) = ap (λ z. Pair z (changed n f (changed n f y))) (changed_twice n f h x) ∙ ap (Pair (changed n f x)) (changed_twice n f h y)
 changed_twice n f h (First x) = ap First (changed_twice n f h x)

@@ -52,3 +52,10 @@ pub fn well_spaced()
 pub fn names_stand()
     ensures { (tree : Tree) → AllStand (flat tree) 0 (names tree) }
 {}
+
+/// What is kept is all kept, and of its normal form all is kept too: the normal form of what a syntax tree holds is what a
+/// syntax tree holds.
+pub fn kept_normal()
+    ensures twice { (x : Tree) → kept (kept x) ≡ kept x }
+    ensures normal { (x : Tree) → kept (normal (kept x)) ≡ normal (kept x) }
+{}
