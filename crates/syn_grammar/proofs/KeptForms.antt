@@ -2,13 +2,13 @@
 use Rattle.std.proofs.Common.{◌≡◌, ℕ, List, [], ◌∷◌, refl, ap, ◌∙◌}
 use Rattle.std.specs.Prelude.{Bool, true, false, ◌&&◌, cond, nat_eq}
 use Rattle.rust_leaf.specs.declared.punct.Spacing.TheVariants.{Alone as Apart}
-use Rattle.syn_grammar.specs.Kind.{Kind, Path, Segments, Segment, QualifiedPath, AnyPath, AType, DynType, ImplType, ReturnType, Expression, Signature, Parameter, AStatement, Meta, Member, Index, Arm, OuterAttributes, ExprField, ExprMethodCall, ExprAwait, ExprCast, ExprAttributed}
+use Rattle.syn_grammar.specs.Kind.{Kind, Path, Segments, Segment, QualifiedPath, AnyPath, AType, DynType, ImplType, ReturnType, Expression, Signature, Parameter, AStatement, Meta, Member, Index, Arm, AnArgument, ConstParam, Body, OuterAttributes, ExprField, ExprMethodCall, ExprAwait, ExprCast, ExprAttributed}
 use Rattle.syn_grammar.specs.Name.{Part, same_part, the_unnamed, the_attributes, the_expression, the_indices, the_value, the_comma}
 use Rattle.syn_grammar.specs.Words.{indices, plain_decimal}
 use Rattle.syn_grammar.specs.Tree.{Tree, AWord, ALiteral, AMark, ALifetime, Raw, Nil, Pair, First, Second, End, Again, Final, More, Group, Dropped, Called, Verbatim, Hidden, Node, Whole, Alone, Front, Back, Infix}
 use Rattle.syn_grammar.specs.Part.{changed}
 use Rattle.syn_grammar.specs.Forms.{level, form_of}
-use Rattle.syn_grammar.specs.Kept.{wild, lone_dot, named, listed_bound, unsafe_path, attributed, attributed_in, given, left_in_front, is_macro, own_part, is_there, as_statement, plain_index, plain_member, not_last, index_field, index_fields, fields_in_front, last_fields, dotted_own, dotted, forget, held, kept}
+use Rattle.syn_grammar.specs.Kept.{wild, lone_dot, named, listed_bound, unsafe_path, attributed, attributed_in, given, left_in_front, is_macro, own_part, is_there, as_statement, plain_index, plain_member, not_last, constant_argument, constant_default, index_field, index_fields, fields_in_front, last_fields, dotted_own, dotted, forget, held, kept}
 use Rattle.syn_grammar.proofs.TidyTwice.{changed_twice}
 use Rattle.syn_grammar.proofs.Decimals.{decimal_twice, one_index}
 
@@ -261,6 +261,32 @@ statement_twice _ = refl
 arm_twice : (x : Tree) → changed the_comma not_last (changed the_comma not_last x) ≡ changed the_comma not_last x
 arm_twice x = changed_twice the_comma not_last not_last_twice x
 
+argument_twice : (x : Tree) → constant_argument (constant_argument x) ≡ constant_argument x
+argument_twice (Second (First (First x))) = refl
+argument_twice (Second (First (Second x))) = refl
+argument_twice (Second (Second (First (Node Body x)))) = refl
+argument_twice _ = refl
+
+argument_form : (x : Tree) → KeptForm x → KeptForm (constant_argument x)
+unfolding KeptForm held
+argument_form (Second (First (First x))) h = (refl, refl, h)
+argument_form (Second (First (Second x))) h = (refl, refl, h)
+argument_form (Second (Second (First (Node Body x)))) h = (refl, refl, (tt, h))
+argument_form _ h = h
+
+default_twice : (x : Tree) → constant_default (constant_default x) ≡ constant_default x
+default_twice (First x) = refl
+default_twice (Second (First x)) = refl
+default_twice (Second (Second x)) = refl
+default_twice _ = refl
+
+default_form : (x : Tree) → KeptForm x → KeptForm (constant_default x)
+unfolding KeptForm held
+default_form (First x) h = (refl, refl, h)
+default_form (Second (First x)) h = (refl, refl, (tt, h))
+default_form (Second (Second x)) h = (refl, refl, (refl, refl, (refl, refl, (tt, (refl, refl, (h, tt))))))
+default_form _ h = h
+
 forget_twice : (k : Kind) (x : Tree) → forget k (forget k x) ≡ forget k x
 forget_twice Parameter x = named_twice x
 forget_twice (DynType p) x = listed_twice x
@@ -270,6 +296,8 @@ forget_twice AStatement x = statement_twice x
 forget_twice Member x = member_twice x
 forget_twice Index x = index_twice x
 forget_twice Arm x = arm_twice x
+forget_twice AnArgument x = argument_twice x
+forget_twice ConstParam x = changed_twice the_value constant_default default_twice x
 forget_twice _ x = refl
 
 forget_form : (k : Kind) (x : Tree) → KeptForm x → KeptForm (forget k x)
@@ -280,6 +308,8 @@ forget_form Meta x h = unsafe_form x h
 forget_form AStatement x h = statement_form x h
 forget_form Member x h = member_form x h
 forget_form Index x h = index_form x h
+forget_form AnArgument x h = argument_form x h
+forget_form ConstParam x h = changed_form the_value constant_default default_form x h
 forget_form Arm x h = changed_form the_comma not_last not_last_form x h
 forget_form _ x h = h
 

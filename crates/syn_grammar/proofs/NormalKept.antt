@@ -2,13 +2,13 @@
 use Rattle.std.proofs.Common.{◌≡◌, ℕ, List, [], ◌∷◌, refl, sym, ap, ◌∙◌, subst}
 use Rattle.std.specs.Prelude.{Bool, true, false, ◌&&◌, not, cond}
 use Rattle.proc_macro2.specs.Token.{Token}
-use Rattle.syn_grammar.specs.Kind.{Kind, Position, Plain, Expression, Parameter, DynType, ImplType, AStatement, AnItem, Meta, Member, Index, Arm, OuterAttributes, ExprField, ExprMethodCall, ExprAwait, ExprMacro, Where, Generics, ImplGenerics, BoundsColon, LifetimeColon, GenericParams, Arguments, ATypeAlias, AnImpl}
-use Rattle.syn_grammar.specs.Name.{same_part, the_unnamed, the_attributes, the_expression, the_indices, the_value, the_comma, the_arguments, the_generics}
+use Rattle.syn_grammar.specs.Kind.{Kind, Position, Plain, Expression, Parameter, DynType, ImplType, AStatement, AnItem, Meta, Member, Index, Arm, AnArgument, ConstParam, Body, OuterAttributes, ExprField, ExprMethodCall, ExprAwait, ExprMacro, Where, Generics, ImplGenerics, BoundsColon, LifetimeColon, GenericParams, Arguments, ATypeAlias, AnImpl}
+use Rattle.syn_grammar.specs.Name.{Part, same_part, the_unnamed, the_attributes, the_expression, the_indices, the_value, the_comma, the_arguments, the_generics}
 use Rattle.syn_grammar.specs.Words.{before_dot, behind_dots, texts_of, plain_decimal}
 use Rattle.syn_grammar.specs.Tree.{Tree, AWord, ALiteral, AMark, ALifetime, Raw, Nil, Pair, First, Second, End, Again, Final, More, Group, Dropped, Called, Verbatim, Hidden, Node, Whole, Alone, Front, Back, Infix, flat}
 use Rattle.syn_grammar.specs.Part.{changed}
 use Rattle.syn_grammar.specs.Forms.{inside, form_of}
-use Rattle.syn_grammar.specs.Kept.{lone_dot, named, listed_bound, unsafe_path, given, left_in_front, is_macro, own_part, is_there, as_statement, plain_index, plain_member, not_last, index_field, index_fields, fields_in_front, last_fields, forget, held, kept}
+use Rattle.syn_grammar.specs.Kept.{lone_dot, named, listed_bound, unsafe_path, given, left_in_front, is_macro, own_part, is_there, as_statement, plain_index, plain_member, not_last, constant_argument, constant_default, index_field, index_fields, fields_in_front, last_fields, forget, held, kept}
 use Rattle.syn_grammar.specs.Tidy.{is_bare_where, is_bare_colon, is_bare_generics, is_lifetime_param, is_lifetime_argument, joined, those_then, others_of, lifetimes_first, is_absent, moved, keeps_generics, without_generics, tidy}
 use Rattle.syn_grammar.specs.Parens.{parens_unless, may_lack, takes_what_follows, stays_right, stays_left, with_right, with_left, begins_in, stands_in, follow, alone}
 use Rattle.syn_grammar.specs.Normal.{place_of, passed, stands_behind, apart_item, is_enclosed, normal_in, formed, normal}
@@ -40,20 +40,34 @@ last_stays : (q : Position) (x : Tree) → not_last x ≡ x → not_last (normal
 last_stays q (First x) e = cc
 last_stays q _ e = refl
 
-cond_stays : (b : Bool) (q : Position) (x : Tree) → cond b (not_last x) x ≡ x → cond b (not_last (normal_in q x)) (normal_in q x) ≡ normal_in q x
-cond_stays true q x e = last_stays q x e
-cond_stays false q x e = refl
+default_stays : (q : Position) (x : Tree) → constant_default x ≡ x → constant_default (normal_in q x) ≡ normal_in q x
+default_stays q (First x) e = cc
+default_stays q (Second (First x)) e = cc
+default_stays q (Second (Second x)) e = cc
+default_stays q _ e = refl
 
-arm_stays : (q : Position) (x : Tree) → changed the_comma not_last x ≡ x → changed the_comma not_last (normal_in q x) ≡ normal_in q x
-arm_stays q (Called m x) e = let f : cond (same_part m the_comma) (not_last x) x ≡ x = cc in ap (Called m) (cond_stays (same_part m the_comma) (place_of m) x f)
-arm_stays q (Pair x y) e =
-    let f : changed the_comma not_last x ≡ x = cc in
-    let g : changed the_comma not_last y ≡ y = cc in
-    ap (λ z. Pair z (changed the_comma not_last (normal_in q y))) (arm_stays q x f) ∙ ap (Pair (normal_in q x)) (arm_stays q y g)
-arm_stays q (First x) e = let f : changed the_comma not_last x ≡ x = cc in ap First (arm_stays q x f)
-arm_stays q (Second x) e = let f : changed the_comma not_last x ≡ x = cc in ap Second (arm_stays q x f)
-arm_stays q (Group d x) e = let f : changed the_comma not_last x ≡ x = cc in ap (Group d) (arm_stays q x f)
-arm_stays q _ e = refl
+argument_stays : (q : Position) (x : Tree) → constant_argument x ≡ x → constant_argument (normal_in q x) ≡ normal_in q x
+argument_stays q (Second (First (First x))) e = cc
+argument_stays q (Second (First (Second x))) e = cc
+argument_stays q (Second (Second (First (Node Body x)))) e = cc
+argument_stays q _ e = refl
+
+-- of a part that is changed
+module _ (n : Part) (f : Tree → Tree) (h : (q : Position) (x : Tree) → f x ≡ x → f (normal_in q x) ≡ normal_in q x) where
+  cond_stays : (b : Bool) (q : Position) (x : Tree) → cond b (f x) x ≡ x → cond b (f (normal_in q x)) (normal_in q x) ≡ normal_in q x
+  cond_stays true q x e = h q x e
+  cond_stays false q x e = refl
+
+  changed_stays : (q : Position) (x : Tree) → changed n f x ≡ x → changed n f (normal_in q x) ≡ normal_in q x
+  changed_stays q (Called m x) e = let f : cond (same_part m n) (f x) x ≡ x = cc in ap (Called m) (cond_stays (same_part m n) (place_of m) x f)
+  changed_stays q (Pair x y) e =
+      let i : changed n f x ≡ x = cc in
+      let j : changed n f y ≡ y = cc in
+      ap (λ z. Pair z (changed n f (normal_in q y))) (changed_stays q x i) ∙ ap (Pair (normal_in q x)) (changed_stays q y j)
+  changed_stays q (First x) e = let i : changed n f x ≡ x = cc in ap First (changed_stays q x i)
+  changed_stays q (Second x) e = let i : changed n f x ≡ x = cc in ap Second (changed_stays q x i)
+  changed_stays q (Group d x) e = let i : changed n f x ≡ x = cc in ap (Group d) (changed_stays q x i)
+  changed_stays q _ e = refl
 
 -- statements
 macro_alone : (p : Position) (ts : List Token) (k : Kind) (y z : Tree) → is_macro (alone p ts k z) ≡ is_macro (Alone k y)
@@ -122,7 +136,9 @@ forget_stays Meta q x e = unsafe_stays q x e
 forget_stays AStatement q x e = statement_stays q x e
 forget_stays Member q x e = member_stays q x e
 forget_stays Index q x e = index_stays q x e
-forget_stays Arm q x e = arm_stays q x e
+forget_stays Arm q x e = changed_stays the_comma not_last last_stays q x e
+forget_stays AnArgument q x e = argument_stays q x e
+forget_stays ConstParam q x e = changed_stays the_value constant_default default_stays q x e
 forget_stays _ q x e = refl
 
 -- dots

@@ -7,7 +7,7 @@ use Rattle.proc_macro2.specs.declared.delimiter.Delimiter.{Delimiter}
 use Rattle.rust_leaf.specs.declared.punct.Spacing.{Spacing}
 use Rattle.rust_leaf.specs.declared.punct.Spacing.TheVariants.{Alone as Apart, Joint}
 use Rattle.proc_macro2.specs.Spacing.{quote, begin_comment, follows_mark, follows_quote, may_stand, IsWellSpaced}
-use Rattle.syn_grammar.specs.Kind.{Kind, Position, Plain, Expression, AStatement, AnItem, OuterAttributes, ExprField, ExprMethodCall, ExprAwait, ExprCast, ExprAttributed, Where, Generics, ImplGenerics, BoundsColon, LifetimeColon, GenericParams, Arguments, Parameter, DynType, ImplType, Meta, Member, Index, Arm, ATypeAlias, AnImpl}
+use Rattle.syn_grammar.specs.Kind.{Kind, Position, Plain, Expression, AStatement, AnItem, OuterAttributes, ExprField, ExprMethodCall, ExprAwait, ExprCast, ExprAttributed, Where, Generics, ImplGenerics, BoundsColon, LifetimeColon, GenericParams, Arguments, Parameter, DynType, ImplType, Meta, Member, Index, Arm, AnArgument, ConstParam, Body, ATypeAlias, AnImpl}
 use Rattle.syn_grammar.specs.Name.{Part, same_part, the_unnamed, the_attributes, the_expression, the_indices, the_value, the_comma, the_arguments, the_generics}
 use Rattle.syn_grammar.specs.Words.{indices}
 use Rattle.syn_grammar.specs.Tree.{Tree, AWord, ALiteral, AMark, ALifetime, Raw, Nil, Pair, First, Second, End, Again, Final, More, Group, Dropped, Called, Verbatim, Hidden, Node, Whole, Alone, Front, Back, Infix, marks, flat}
@@ -17,7 +17,7 @@ use Rattle.syn_grammar.specs.Table.{table}
 use Rattle.syn_grammar.specs.Forms.{level, inside, form_of}
 use Rattle.syn_grammar.specs.Derives.{Derives, Bound}
 use Rattle.syn_grammar.specs.Calm.{ends_apart, RawsEndApart, calm_marks, calm_entry, MayPrecede, Calm}
-use Rattle.syn_grammar.specs.Kept.{named, listed_bound, unsafe_path, attributed, attributed_in, given, left_in_front, is_macro, own_part, is_there, expression_statement, as_statement, plain_index, plain_member, not_last, index_field, index_fields, fields_in_front, last_fields, dotted_own, dotted, forget, kept}
+use Rattle.syn_grammar.specs.Kept.{named, listed_bound, unsafe_path, attributed, attributed_in, given, left_in_front, is_macro, own_part, is_there, expression_statement, as_statement, plain_index, plain_member, not_last, constant_argument, constant_default, index_field, index_fields, fields_in_front, last_fields, dotted_own, dotted, forget, kept}
 use Rattle.syn_grammar.specs.Tidy.{is_bare_where, is_bare_colon, is_bare_generics, is_lifetime_param, is_lifetime_argument, joined, those_then, others_of, lifetimes_first, is_absent, moved, keeps_generics, without_generics, tidy}
 use Rattle.syn_grammar.specs.Parens.{parens_unless, stays_right, stays_left, with_right, with_left, begins_in, stands_in, takes_what_follows, follow}
 use Rattle.syn_grammar.specs.Normal.{place_of, passed, stands_behind, apart, apart_item, is_enclosed, normal_in, formed, normal}
@@ -226,6 +226,18 @@ calm_not_last : (x : Tree) → Calm x → Calm (not_last x)
 calm_not_last (First x) h = h
 calm_not_last _ h = h
 
+calm_argument : (x : Tree) → Calm x → Calm (constant_argument x)
+calm_argument (Second (First (First x))) h = h
+calm_argument (Second (First (Second x))) h = h
+calm_argument (Second (Second (First (Node Body x)))) h = (tt, h)
+calm_argument _ h = h
+
+calm_default : (x : Tree) → Calm x → Calm (constant_default x)
+calm_default (First x) h = h
+calm_default (Second (First x)) h = (tt, h)
+calm_default (Second (Second x)) h = (tt, (h, tt))
+calm_default _ h = h
+
 calm_forget : (k : Kind) (x : Tree) → Calm x → Calm (forget k x)
 calm_forget Parameter x h = calm_named x h
 calm_forget (DynType p) x h = calm_listed x h
@@ -234,6 +246,8 @@ calm_forget Meta x h = calm_unsafe x h
 calm_forget AStatement x h = calm_as_statement x h
 calm_forget Member x h = calm_member x h
 calm_forget Index x h = calm_index x h
+calm_forget AnArgument x h = calm_argument x h
+calm_forget ConstParam x h = calm_changed the_value constant_default calm_default x h
 calm_forget Arm x h = calm_changed the_comma not_last calm_not_last x h
 calm_forget _ x h = h
 

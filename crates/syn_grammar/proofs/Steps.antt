@@ -9,7 +9,9 @@ use Rattle.syn_grammar.specs.Patterns.{pattern, several_patterns, one_pattern, i
 use Rattle.syn_grammar.specs.Attributes.{outer_attributes, outer_attribute, inner_attributes, inner_attribute, meta}
 use Rattle.syn_grammar.specs.Generics.{generics, impl_generics, generic_params, generic_param, lifetime_param, lifetime_colon, const_param, type_param, bounds_colon, optional_where, where_clause, where_predicate}
 use Rattle.syn_grammar.specs.Table.{table}
-use Rattle.syn_grammar.specs.Kept.{kept, held, listed_bound, unsafe_path, plain_member, plain_index}
+use Rattle.syn_grammar.specs.Kept.{kept, held, listed_bound, unsafe_path, plain_member, plain_index, constant_argument, constant_default}
+use Rattle.syn_grammar.specs.Name.{the_value}
+use Rattle.syn_grammar.specs.Part.{changed}
 use Rattle.syn_grammar.specs.Keeps.{kepts, keeps, node}
 use Rattle.syn_grammar.specs.Read.{IsRead, NoneRead}
 use Rattle.syn_grammar.specs.Run.{Refused, Got, wrap, kind, interp, reads}
@@ -46,7 +48,7 @@ pub read_arguments : (ts : List Token) → kepts (kind Arguments) ts ≡ wrap (N
 unfolding table held
 read_arguments ts = step Arguments ts
 
-pub read_argument : (ts : List Token) → kepts (kind AnArgument) ts ≡ wrap (Node AnArgument) (keeps argument ts)
+pub read_argument : (ts : List Token) → kepts (kind AnArgument) ts ≡ wrap (λ x. Node AnArgument (constant_argument x)) (keeps argument ts)
 unfolding table held
 read_argument ts = step AnArgument ts
 
@@ -284,7 +286,7 @@ pub read_lifetime_colon : (ts : List Token)
 unfolding table held
 read_lifetime_colon ts = step LifetimeColon ts
 
-pub read_const_param : (ts : List Token) → kepts (kind ConstParam) ts ≡ wrap (Node ConstParam) (keeps const_param ts)
+pub read_const_param : (ts : List Token) → kepts (kind ConstParam) ts ≡ wrap (λ x. Node ConstParam (changed the_value constant_default x)) (keeps const_param ts)
 unfolding table held
 read_const_param ts = step ConstParam ts
 
