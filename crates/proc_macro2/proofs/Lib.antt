@@ -21,3 +21,4 @@ pub mod Total
 pub mod Lies
 pub mod Held
 pub mod Marks
+mod Examples

@@ -3,18 +3,17 @@ pub mod Leaf
 pub mod Groups
 pub mod Flat
 pub mod Stream
-pub mod Falls
 pub mod Trees
 pub mod Entered
 pub mod Left
 pub mod Printed
-pub mod Examples
 pub mod Shown
 pub mod Spacing
 pub mod Stands
 pub mod Pieces
 pub mod Forest
 pub mod Held
+pub mod Falls
 pub mod Built
 -- what the contracts of the crates below cite: of the source map,
 pub use Rattle.rust_map.specs.Places

@@ -61,10 +61,9 @@ impl Model for TokenStream {
 
     ghost size = { length };
 
-    ghost use Rattle.proc_macro2.specs.Falls.{most_le};
-    ghost use Rattle.std.proofs.Common.{arith};
+    ghost use Rattle.proc_macro2.specs.Falls.{falls};
 
-    ghost size_decreases = { λ s h. omega (arith, most_le s.trees.items) };
+    ghost size_decreases = { λ s h. falls s };
 }
 
 impl TokenStream {

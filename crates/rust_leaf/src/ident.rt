@@ -2,10 +2,9 @@
 
 ghost use Rattle.rust_leaf.specs.Identifier.{fault_of, is_ident_text, is_identifier, is_number, is_reserved, refusal, refusal_of_raw};
 ghost use Rattle.rust_leaf.specs.declared.ident.IdentFault.TheVariants.{Memory};
-ghost use Rattle.std.proofs.Common.{refl, rules};
+ghost use Rattle.std.proofs.Common.{ap, refl};
 ghost use Rattle.std.specs.Cmp.{on_equiv, on_per, on_po, on_total, partial_equiv_from_equiv};
-ghost use Rattle.std.specs.Cmp.Lexicographic.{nat_list_cmp_total, nat_list_eq_equiv, slice_cmp, texts_po, texts_ties};
-ghost use Rattle.std.specs.Cmp.Rules.{hashing};
+ghost use Rattle.std.specs.Cmp.Lexicographic.{bytes_decides, nat_list_cmp_total, nat_list_eq_equiv, slice_cmp, texts_po, texts_ties};
 ghost use Rattle.std.specs.Hash as fed;
 ghost use Rattle.std.specs.Ordering.{nat_cmp};
 ghost use Rattle.std.specs.Prelude.{◌≡◌, ◌++◌, ◌==◌, IfErr, IfOk, OnOk, Option, None, Some, IsTrue, codes, encode_utf8_all, string_bytes, ◌↔◌};
@@ -244,7 +243,7 @@ impl Hash for Ident {
 
     ghost hash_input = { λ ident. fed.str (ident_bytes ident) };
 
-    ghost respects_eq = { Prim.search (hashing, rules) };
+    ghost respects_eq = { λ a b h. ap fed.str ((bytes_decides (ident_bytes a) (ident_bytes b)).0 h) };
 
     fn hash<H: Hasher>(&self, state: &mut H) {
         self.text.as_str().hash(state);
