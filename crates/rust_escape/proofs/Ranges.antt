@@ -1,13 +1,23 @@
 -- The bytes between two places.
-use Rattle.std.proofs.Common.{◌≡◌, ℕ, ◌+◌, ◌-◌, arith, List, [], ◌∷◌, ◌++◌, refl, sym, ap, ◌∙◌, subst, length, drop, take}
+use Rattle.std.proofs.Common.{◌≡◌, ℕ, ◌+◌, ◌-◌, ◌≤◌, arith, List, [], ◌∷◌, ◌++◌, refl, sym, ap, ◌∙◌, subst, length, drop, take}
 use Rattle.std.specs.Prelude.{true, encode_utf8_all}
-use Rattle.std.specs.Str.{chars}
-use Rattle.std.proofs.lemmas.List.{length-drop, length-append}
-use Rattle.std.proofs.lemmas.Str.{encodes-chars, encodes-append, scalars-chars, chars-encodes}
+use Rattle.std.specs.Str.{chars, IsUtf8}
+use Rattle.std.proofs.lemmas.List.{drop-drop, length-drop, length-append, take-append-drop}
+use Rattle.std.proofs.lemmas.Str.{chars-append, IsUtf8-take, IsCharBoundary-from_drop, encodes-chars, encodes-append, scalars-chars, chars-encodes}
 use Rattle.std.proofs.lemmas.Bool.{and_parts, and_from}
 use Rattle.std.proofs.Math.Seq.{take-append_seam}
 use lib.Utf8.{scalar, scalars}
-use Rattle.rust_escape.specs.Places.{rest_at, IsPlace, byte_length, between}
+use Rattle.rust_escape.specs.Places.{rest_at, IsPlace, IsBehind, byte_length, between}
+
+-- the characters between two places, and then the rest
+pub between_joined : (bytes : List ℕ) (at end : ℕ) → IsPlace bytes at → IsBehind bytes at end → rest_at bytes at ≡ between bytes at end ++ rest_at bytes end
+between_joined bytes at end p b =
+    let m = end - at in
+    let ends : at + m ≡ end = (let h = b.on in omega arith) in
+    let rest : drop m (drop at bytes) ≡ drop end bytes = drop-drop m at bytes ∙ ap (λ n. drop n bytes) ends in
+    let fits : m ≤ length (drop at bytes) = (let h = b.place.within in omega (arith, length-drop at bytes)) in
+    let utf8 : IsUtf8 (take m (drop at bytes)) = IsUtf8-take (drop at bytes) m p.cut (IsCharBoundary-from_drop (drop at bytes) m fits (subst IsUtf8 (sym rest) b.place.cut)) in
+    ap chars (sym (take-append-drop m (drop at bytes))) ∙ chars-append (take m (drop at bytes)) (drop m (drop at bytes)) utf8 ∙ ap (λ r. between bytes at end ++ chars r) rest
 
 byte_length-append : (xs ys : List ℕ) → byte_length (xs ++ ys) ≡ byte_length xs + byte_length ys
 byte_length-append xs ys = ap length (encodes-append xs ys) ∙ length-append (encode_utf8_all xs) (encode_utf8_all ys)

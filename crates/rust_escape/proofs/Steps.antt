@@ -2,9 +2,10 @@
 use Rattle.std.proofs.Common.{◌≡◌, ℕ, ◌+◌, ◌*◌, ◌^◌, ◌≤◌, ◌<◌, arith, List, [], ◌∷◌, refl, add-one}
 use Rattle.std.proofs.Math.Nat.{pow-succ', pow-le-pow_right}
 use Rattle.std.specs.Prelude.{Bool, true, false, ◌&&◌, ◌==◌, None, not, nat_lt}
-use Rattle.std.proofs.lemmas.Bool.{ne_eqb, and_right, lt-ltb, le-ltb}
-use Rattle.rust_escape.specs.Chars.{is_blank, is_hex_digit, hex_value, past}
-use Rattle.rust_escape.specs.Escape.{simple_value}
+use Rattle.std.proofs.lemmas.Bool.{ne_eqb, and_right, or_right, lt-ltb, le-ltb}
+use Rattle.rust_escape.specs.Chars.{is_blank, is_hex_digit, is_underscore, hex_value, past}
+use Rattle.rust_escape.specs.Escape.{is_hex_part, simple_value}
+use Rattle.rust_escape.specs.Wrong.{past_digits}
 use Rattle.rust_escape.specs.Mode.{Mode, in_double_quotes, is_raw}
 use Rattle.rust_escape.specs.Places.{rest_at, IsPlace, IsScanned}
 use Rattle.rust_escape.specs.Scan.{Scanned, Malformed, Reads, named, numbered, simple, byte_escape, unicode_escape, digits, escape, slash, one, scan}
@@ -58,6 +59,26 @@ pub digits_more : (mode : Mode) (count n c d : ℕ) (cs : List ℕ) → (c ≡ 1
 unfolding digits
 digits_more mode count n c d cs h k e v l = rw (ne_eqb c 125 h, ne_eqb c 95 k, e, lt-ltb count 6 l, v) refl
 
+-- how far a malformed escape reaches, one character on
+pub over_end : past_digits [] ≡ []
+over_end = refl
+
+pub over_digit : (c : ℕ) (cs : List ℕ) → is_hex_digit c ≡ true → past is_hex_part (c ∷ cs) ≡ past is_hex_part cs
+over_digit c cs h = rw (h, or_right (is_underscore c) true refl) refl
+
+pub over_line : (c : ℕ) (cs : List ℕ) → c ≡ 95 → past is_hex_part (c ∷ cs) ≡ past is_hex_part cs
+over_line c cs e = rw e refl
+
+pub over_other : (c : ℕ) (cs : List ℕ) → (c ≡ 95 → ⊥) → is_hex_digit c ≡ false → past is_hex_part (c ∷ cs) ≡ c ∷ cs
+over_other c cs n h = rw (ne_eqb c 95 n, h) refl
+
+brace_digit : is_hex_digit 125 ≡ false
+unfolding is_hex_digit
+brace_digit = refl
+
+pub over_brace : (c : ℕ) (cs : List ℕ) → c ≡ 125 → past is_hex_part (c ∷ cs) ≡ c ∷ cs
+over_brace c cs e = rw (e, brace_digit) refl
+
 -- so many digits spell less
 pub digit_fits : (count n d : ℕ) → n < 16 ^ count → d < 16 → 16 * n + d < 16 ^ (count + 1)
 digit_fits count n d h k = rw (add-one, pow-succ') (omega arith)
@@ -68,7 +89,9 @@ digits_fit count n h k =
     let few : count ≤ 5 = omega arith in
     let le : 16 ^ count ≤ 16 ^ 5 = pow-le-pow_right some few in omega arith
 
-pub ruleset spelled = (rest_end, digits_end, digits_close, digits_line, digits_wrong, digits_over, digits_more, digit_fits, digits_fit)
+pub ruleset spelled = (rest_end, digits_end, digits_close, digits_line, digits_wrong, digits_over, digits_more, digit_fits, digits_fit, over_digit, over_line, over_other, over_brace)
+
+pub ruleset overs = (rest_end, over_digit, over_line, over_other, over_brace)
 
 -- count digits of the number are read
 pub record Spells (mode : Mode) (bytes : List ℕ) (start at count n : ℕ) : Type 0 where
@@ -77,11 +100,13 @@ pub record Spells (mode : Mode) (bytes : List ℕ) (start at count n : ℕ) : Ty
   pub on : start ≤ at
   pub few : count ≤ 6
   pub small : n < 16 ^ count
+  pub over : past is_hex_part (rest_at bytes at) ≡ past is_hex_part (rest_at bytes start)
 
--- the loop stands at a place
+-- the loop stands at a place, up to which digits and underscores stand
 pub record Goes (bytes : List ℕ) (start at : ℕ) : Type 0 where
   pub place : IsPlace bytes at
   pub on : start ≤ at
+  pub over : past is_hex_part (rest_at bytes at) ≡ past is_hex_part (rest_at bytes start)
 
 pub unicode_none : (mode : Mode) → unicode_escape mode [] ≡ Malformed
 unfolding unicode_escape

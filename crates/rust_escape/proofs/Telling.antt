@@ -13,11 +13,12 @@ use Rattle.rust_escape.specs.Places.{rest_at, IsPlace, IsScanned, byte_length, b
 use Rattle.rust_escape.specs.Scan.{scan}
 use Rattle.rust_escape.specs.Unit.{Strict, IsUnit, NoUnit}
 use Rattle.rust_escape.specs.Value.{Value}
+use Rattle.rust_escape.specs.Wrong.{past_wrong}
 use Rattle.rust_escape.specs.declared.error.EscapeError.{EscapeError}
 use Rattle.rust_escape.specs.declared.read.Reading.{Reading}
 use Rattle.rust_escape.proofs.Complete.{none_read}
 use Rattle.rust_escape.proofs.PlacesLemmas.{rest_end}
-use Rattle.rust_escape.proofs.Ranges.{end_is, byte_length-rest, between_is}
+use Rattle.rust_escape.proofs.Ranges.{end_is, between_is, between_joined}
 use Rattle.rust_escape.proofs.Sound.{unit_found}
 
 -- the steps of a callback
@@ -85,11 +86,16 @@ skipped_at value mode at to text cs between rest calls e k same is more =
     let more' = rw k at more in
     rw (e, k, same) (skipped is more')
 
-malformed_at : {T : Type 0} (value : T → Value) (mode : Mode) (at to : ℕ) (text : List ℕ) (error : EscapeError) (after : List (Report T))
-    → 0 < byte_length text → NoUnit Strict mode text → is_fatal error ≡ true → at < to → to ≤ at + byte_length text
-    → AreReports value mode at text (report at to (Err error) ∷ after)
-malformed_at value mode at to [] error after some never f l m = absurd (omega arith)
-malformed_at value mode at to (c ∷ cs) error after some never f l m = malformed never f l m
+malformed_at : {T : Type 0} (value : T → Value) (mode : Mode) (at to : ℕ) (text cs rest : List ℕ) (error : EscapeError) (calls : List (Report T))
+    → text ≡ cs ++ rest → to ≡ at + byte_length cs → at < to → NoUnit Strict mode text → rest ≡ past_wrong mode text → is_fatal error ≡ true
+    → AreReports value mode to rest calls → AreReports value mode at text (report at to (Err error) ∷ calls)
+malformed_at value mode at to text [] rest error calls e k l never past f more = absurd (omega arith)
+malformed_at value mode at to text (c ∷ cs) rest error calls e k l never past f more =
+    let never' = rw e at never in
+    let past' = rw e at past in
+    let more' = rw k at more in
+    let some : 0 < length (c ∷ cs) = omega arith in
+    rw (e, k) (malformed (c ∷ cs) some never' past' f more')
 
 pub tells_unit : {F T : Type 0} (step : F → Range ℕ → Result T EscapeError → F → Type 0) (value : T → Value) (mode : Mode) (bytes : List ℕ) (first : F) (at : ℕ) (now next : F) (reading : Reading) (v : Value) (unit : T)
     → IsTelling step value mode bytes first at now → IsScanned bytes at reading (scan mode (rest_at bytes at)) → reading.value ≡ Ok (Some v) → value unit ≡ v
@@ -120,17 +126,19 @@ tells_skip {T = T} step value mode bytes first at now next reading t s e made =
     }
 
 pub tells_malformed : {F T : Type 0} (step : F → Range ℕ → Result T EscapeError → F → Type 0) (value : T → Value) (mode : Mode) (bytes : List ℕ) (first : F) (at : ℕ) (now next : F) (reading : Reading) (error : EscapeError)
-    → at < length bytes → at < reading.«end»
+    → at < reading.«end» → rest_at bytes reading.«end» ≡ past_wrong mode (rest_at bytes at)
     → IsTelling step value mode bytes first at now → IsScanned bytes at reading (scan mode (rest_at bytes at)) → reading.value ≡ Err error
     → step now (record { start = at; «end» = reading.«end» }) (Err error) next → IsTelling step value mode bytes first reading.«end» next
-tells_malformed step value mode bytes first at now next reading error more on t s e made =
+tells_malformed step value mode bytes first at now next reading error on over t s e made =
     let (none_there, fatal) = rw e at s.same in
-    let size = byte_length-rest bytes at t.place in
+    let to = reading.«end» in
+    let cs = between bytes at to in
+    let joined = between_joined bytes at to t.place (record { place = s.place; on = on }) in
     record {
       place = s.place;
       owed = λ calls last a m.
-          t.owed (report at reading.«end» (Err error) ∷ calls) last
-          (malformed_at value mode at reading.«end» (rest_at bytes at) error calls (omega arith) (none_read mode (rest_at bytes at) none_there) fatal on (omega (arith, s.place.within)))
+          t.owed (report at to (Err error) ∷ calls) last
+          (malformed_at value mode at to (rest_at bytes at) cs (rest_at bytes to) error calls joined (end_is bytes cs at to t.place s.place joined) on (none_read mode (rest_at bytes at) none_there) over fatal a)
           (next, made, m);
     }
 

@@ -1,5 +1,5 @@
 -- What the escape calls tell their callbacks of an inside.
-use Rattle.std.specs.Prelude.{◌≡◌, ℕ, ◌+◌, ◌<◌, ◌≤◌, true, nat_lt, List, [], ◌∷◌, ◌++◌, if◌then◌else◌, Some, None, Result, Ok, Err, count_by, map}
+use Rattle.std.specs.Prelude.{◌≡◌, ℕ, ◌+◌, ◌<◌, true, nat_lt, List, [], ◌∷◌, ◌++◌, length, if◌then◌else◌, Some, None, Result, Ok, Err, count_by, map}
 use Rattle.std.specs.List.{FoldsTo}
 use Rattle.std.specs.declared.ops.Range.{Range}
 use Rattle.rust_escape.specs.Chars.{is_line_feed, is_white}
@@ -8,6 +8,7 @@ use Rattle.rust_escape.specs.Mode.{Mode}
 use Rattle.rust_escape.specs.Places.{byte_length}
 use Rattle.rust_escape.specs.Unit.{Strict, IsUnit, NoUnit, IsOnlyUnit}
 use Rattle.rust_escape.specs.Value.{Value}
+use Rattle.rust_escape.specs.Wrong.{past_wrong}
 use Rattle.rust_escape.specs.declared.error.EscapeError.{EscapeError}
 use Rattle.rust_escape.specs.declared.error.EscapeError.TheVariants.{UnskippedWhitespaceWarning, MultipleSkippedLinesWarning}
 
@@ -47,7 +48,7 @@ abbrev pub failed : {T : Type 0} → Fault → Report T
 failed f = record { range = f.range; result = Err f.error }
 
 -- the calls that are made of a text that begins at a place of the inside, in order: one for each value,
--- up to two warnings for each skip, one for the first malformed unit. What comes after that isn't said.
+-- up to two warnings for each skip, one for each malformed unit, as far as it reaches; behind it they go on
 pub data AreReports {T : Type 0} (value : T → Value) (mode : Mode) : ℕ → List ℕ → List (Report T) → Type 0 where
   none : {at : ℕ} → AreReports value mode at [] []
   spelled : {at : ℕ} {cs rest : List ℕ} {unit : T} {calls : List (Report T)}
@@ -56,9 +57,10 @@ pub data AreReports {T : Type 0} (value : T → Value) (mode : Mode) : ℕ → L
   skipped : {at : ℕ} {cs rest : List ℕ} {calls : List (Report T)}
       → IsUnit Strict mode cs rest None → AreReports value mode (at + byte_length cs) rest calls
       → AreReports value mode at (cs ++ rest) (map failed (warnings at (at + byte_length cs) cs rest) ++ calls)
-  malformed : {at to c : ℕ} {cs : List ℕ} {error : EscapeError} {after : List (Report T)}
-      → NoUnit Strict mode (c ∷ cs) → is_fatal error ≡ true → at < to → to ≤ at + byte_length (c ∷ cs)
-      → AreReports value mode at (c ∷ cs) (report at to (Err error) ∷ after)
+  malformed : {at : ℕ} (cs : List ℕ) {rest : List ℕ} {error : EscapeError} {calls : List (Report T)}
+      → 0 < length cs → NoUnit Strict mode (cs ++ rest) → rest ≡ past_wrong mode (cs ++ rest) → is_fatal error ≡ true
+      → AreReports value mode (at + byte_length cs) rest calls
+      → AreReports value mode at (cs ++ rest) (report at (at + byte_length cs) (Err error) ∷ calls)
 
 -- the callback was called so, by steps, from its first state on
 pub record Reports {F T : Type 0} (step : F → Range ℕ → Result T EscapeError → F → Type 0) (value : T → Value) (mode : Mode) (at : ℕ) (text : List ℕ) (first : F) : Type 0 where

@@ -9,3 +9,4 @@ pub mod Reads
 pub mod Scan
 pub mod Unit
 pub mod Value
+pub mod Wrong

@@ -1,5 +1,5 @@
 -- Which unit a text begins with: a tool of the proofs.
-use Rattle.std.specs.Prelude.{ℕ, ◌+◌, ◌*◌, Bool, ◌&&◌, ◌==◌, not, nat_lt, List, [], ◌∷◌, Option, Some, None, if◌then◌else◌}
+use Rattle.std.specs.Prelude.{ℕ, ◌+◌, ◌*◌, ◌&&◌, ◌==◌, not, nat_lt, List, [], ◌∷◌, Option, Some, None, if◌then◌else◌}
 use lib.Utf8.{scalar}
 use Rattle.rust_escape.specs.Chars.{is_hex_digit, hex_value, is_blank, past}
 use Rattle.rust_escape.specs.Escape.{simple_value, may_hold, may_hold_byte}

@@ -45,8 +45,9 @@ fn one_fault<F: FnMut(Range<usize>, EscapeError)>(text: &str, mode: Mode, mut ca
 /// Hands what is wrong with an inside of the kind to the callback, with its range in bytes from 0.
 ///
 /// In double quotes the callback hears each warning and what is wrong with each malformed unit, in
-/// order; what it hears after the first malformed one isn't promised. Of a character or a byte it
-/// hears nothing where the inside is one unit, and else once what is wrong.
+/// order: one character, or a backslash and as much of an escape as stands behind it, with the first
+/// character that doesn't go on with it. Of a character or a byte it hears nothing where the inside is
+/// one unit, and else once what is wrong.
 pub fn check_for_errors<F: FnMut(Range<usize>, EscapeError)>(
     src: &str,
     mode: Mode,

@@ -9,7 +9,8 @@ ghost use Rattle.rust_escape.specs.Reads.{ReadsUnit};
 ghost use Rattle.rust_escape.specs.Scan as scan;
 ghost use Rattle.rust_escape.specs.Unit.{Strict, barred, is_plain};
 ghost use Rattle.rust_escape.specs.Value.{byte_value};
-ghost use Rattle.std.specs.Prelude.{◌∷◌, ◌≡◌, ◌<◌, ◌≤◌, ℕ, List, length, true, false, MatchOption, MatchResult};
+ghost use Rattle.rust_escape.specs.Wrong.{past_byte, past_digits, past_escape, past_unicode, past_wrong};
+ghost use Rattle.std.specs.Prelude.{◌∷◌, ◌≡◌, ◌<◌, ◌≤◌, ℕ, List, length, true, false, IfErr, MatchOption, MatchResult};
 
 use crate::error::EscapeError;
 use crate::mode::Mode;
@@ -127,7 +128,8 @@ fn simple(mode: Mode, c: char) -> Result<Option<Value>, EscapeError>
 #[tactic(auto, using(crate::proofs::Steps::bytes))]
 fn byte_escape(mode: Mode, text: &str, start: usize) -> Reading
     requires { IsPlace text.now start }
-    ensures { IsScanned text.now start result (scan.byte_escape mode (rest_at text.now start)) }
+    ensures scanned { IsScanned text.now start result (scan.byte_escape mode (rest_at text.now start)) }
+    ensures over { rest_at text.now result.«end» ≡ past_byte (rest_at text.now start) }
 {
     if start >= text.len() {
         return refused(EscapeError::TooShortHexEscape, start);
@@ -150,9 +152,11 @@ fn byte_escape(mode: Mode, text: &str, start: usize) -> Reading
 }
 
 // What is wrong with more than six digits, the next of which is at a place.
+#[tactic(auto, using(crate::proofs::Steps::overs))]
 fn overlong(text: &str, start: usize) -> Reading
     requires { IsPlace text.now start }
-    ensures { IsScanned text.now start result scan.Malformed }
+    ensures scanned { IsScanned text.now start result scan.Malformed }
+    ensures over { rest_at text.now result.«end» ≡ past_digits (rest_at text.now start) }
 {
     let mut at = start;
     while at < text.len() {
@@ -172,7 +176,8 @@ fn overlong(text: &str, start: usize) -> Reading
 #[tactic(auto, using(crate::proofs::Steps::spelled))]
 fn digits(mode: Mode, text: &str, start: usize) -> Reading
     requires { IsPlace text.now start }
-    ensures { IsScanned text.now start result (scan.digits mode 0 0 (rest_at text.now start)) }
+    ensures scanned { IsScanned text.now start result (scan.digits mode 0 0 (rest_at text.now start)) }
+    ensures over { rest_at text.now result.«end» ≡ past_digits (rest_at text.now start) }
 {
     let mut at = start;
     let mut count = 0u32;
@@ -205,7 +210,8 @@ fn digits(mode: Mode, text: &str, start: usize) -> Reading
 #[tactic(auto, using(crate::proofs::Steps::unicodes))]
 fn unicode_escape(mode: Mode, text: &str, start: usize) -> Reading
     requires { IsPlace text.now start }
-    ensures { IsScanned text.now start result (scan.unicode_escape mode (rest_at text.now start)) }
+    ensures scanned { IsScanned text.now start result (scan.unicode_escape mode (rest_at text.now start)) }
+    ensures over { rest_at text.now result.«end» ≡ past_unicode (rest_at text.now start) }
 {
     if start >= text.len() {
         return refused(EscapeError::NoBraceInUnicodeEscape, start);
@@ -232,7 +238,8 @@ fn unicode_escape(mode: Mode, text: &str, start: usize) -> Reading
 #[tactic(auto, using(crate::proofs::Steps::escapes))]
 pub(crate) fn escape(mode: Mode, text: &str, start: usize) -> Reading
     requires { IsPlace text.now start }
-    ensures { IsScanned text.now start result (scan.escape mode (rest_at text.now start)) }
+    ensures scanned { IsScanned text.now start result (scan.escape mode (rest_at text.now start)) }
+    ensures over { rest_at text.now result.«end» ≡ past_escape (rest_at text.now start) }
 {
     if start >= text.len() {
         return refused(EscapeError::LoneSlash, start);
@@ -277,7 +284,8 @@ fn past_blanks(text: &str, start: usize) -> usize
 #[tactic(auto, using(crate::proofs::Steps::slashes))]
 fn slash(mode: Mode, text: &str, start: usize) -> Reading
     requires { IsPlace text.now start }
-    ensures { IsScanned text.now start result (scan.slash mode (rest_at text.now start)) }
+    ensures scanned { IsScanned text.now start result (scan.slash mode (rest_at text.now start)) }
+    ensures over { IfErr result.value (λ error. rest_at text.now result.«end» ≡ past_escape (rest_at text.now start)) }
 {
     if start < text.len() {
         let (c, next) = char_at(text, start);
@@ -336,6 +344,7 @@ pub(crate) fn scanned_unit(mode: Mode, text: &str, start: usize) -> Reading
     requires place { IsPlace text.now start }
     requires more { start < length text.now }
     ensures scanned { IsScanned text.now start result (scan.scan mode (rest_at text.now start)) }
+    ensures over { IfErr result.value (λ error. rest_at text.now result.«end» ≡ past_wrong mode (rest_at text.now start)) }
     ensures behind { start < result.«end» }
 {
     let (c, next) = char_at(text, start);

@@ -1,28 +1,17 @@
 -- The piece at a place, in the bytes of a text.
-use Rattle.std.proofs.Common.{◌≡◌, ℕ, zero, suc, ◌-◌, ◌+◌, ◌≤◌, arith, List, [], ◌∷◌, ◌++◌, sym, ap, ◌∙◌, subst, length, take, drop}
+use Rattle.std.proofs.Common.{◌≡◌, ℕ, zero, suc, List, [], ◌∷◌, ◌++◌, sym, ap, ◌∙◌, subst}
 use Rattle.std.specs.Prelude.{true, Option, Some, None}
 use Rattle.std.proofs.lemmas.Bool.{and_parts}
-use Rattle.std.specs.Str.{chars, IsUtf8}
-use Rattle.std.proofs.lemmas.List.{append_cancel_right, take-append-drop, drop-drop, length-drop}
-use Rattle.std.proofs.lemmas.Str.{chars-append, IsUtf8-take, IsCharBoundary-from_drop}
+use Rattle.std.proofs.lemmas.List.{append_cancel_right}
 use Rattle.rust_lex.specs.Chars.{is_narrow_white}
 use Rattle.rust_lex.specs.Piece.{PieceKind, White, FitsAt}
 use Rattle.rust_lex.specs.Cover.{NoPieceAt}
 use Rattle.rust_lex.specs.Ended.{IsScanned}
 use Rattle.rust_lex.specs.Places.{rest_at, between, IsPlace, IsBehind, IsPieceAt}
 use Rattle.rust_lex.specs.Scan.{Nowhere, Ends, scan_at}
+pub use Rattle.rust_escape.proofs.Ranges.{between_joined}
 use Rattle.rust_lex.proofs.Sound.{sound_at}
 use Rattle.rust_lex.proofs.Complete.{complete_at}
-
--- the characters between two places, and then the rest
-pub between_joined : (bytes : List ℕ) (at end : ℕ) → IsPlace bytes at → IsBehind bytes at end → rest_at bytes at ≡ between bytes at end ++ rest_at bytes end
-between_joined bytes at end p b =
-    let m = end - at in
-    let ends : at + m ≡ end = (let h = b.on in omega arith) in
-    let rest : drop m (drop at bytes) ≡ drop end bytes = drop-drop m at bytes ∙ ap (λ n. drop n bytes) ends in
-    let fits : m ≤ length (drop at bytes) = (let h = b.place.within in omega (arith, length-drop at bytes)) in
-    let utf8 : IsUtf8 (take m (drop at bytes)) = IsUtf8-take (drop at bytes) m p.cut (IsCharBoundary-from_drop (drop at bytes) m fits (subst IsUtf8 (sym rest) b.place.cut)) in
-    ap chars (sym (take-append-drop m (drop at bytes))) ∙ chars-append (take m (drop at bytes)) (drop m (drop at bytes)) utf8 ∙ ap (λ r. between bytes at end ++ chars r) rest
 
 -- and so those of what was scanned
 pub chars_between : (bytes cs : List ℕ) (at end : ℕ) → IsPlace bytes at → IsBehind bytes at end → rest_at bytes at ≡ cs ++ rest_at bytes end → cs ≡ between bytes at end

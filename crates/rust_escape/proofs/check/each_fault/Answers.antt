@@ -20,7 +20,7 @@ loop-at-preserved-in-Ok-None g c = (
 pub loop-at-preserved : goal.loop-at-preserved
 loop-at-preserved g c = (
   search of_calls,
-  tells_malformed {T = Value} _ _ _ _ _ c.loop-at.at c.loop-at.callback _ c.scanned_unit-reading.result c.in-Err.error c.loop-at-test.true c.scanned_unit-reading.ensures.behind c.loop-at.invariant.1 c.scanned_unit-reading.ensures.scanned
+  tells_malformed {T = Value} _ _ _ _ _ c.loop-at.at c.loop-at.callback _ c.scanned_unit-reading.result c.in-Err.error c.scanned_unit-reading.ensures.behind (rw c.in-Err.is at c.scanned_unit-reading.ensures.over) c.loop-at.invariant.1 c.scanned_unit-reading.ensures.scanned
       c.in-Err.is c.callback.ensures,
 )
 

@@ -1,5 +1,8 @@
-use Rattle.std.proofs.Common.{arith, sym, ◌∙◌}
-use Rattle.rust_escape.proofs.Steps.{digit_fits, digits_fit, digits_more}
+use Rattle.std.proofs.Common.{arith, ap, sym, ◌∙◌}
+use Rattle.rust_escape.specs.Chars.{past}
+use Rattle.rust_escape.specs.Escape.{is_hex_part}
+use Rattle.rust_escape.specs.Places.{rest_at}
+use Rattle.rust_escape.proofs.Steps.{digit_fits, digits_fit, digits_more, over_digit}
 use Rattle.rust_escape.proofs.read.digits.Goals as goal
 
 pub overflow_mul-number : goal.overflow_mul-number
@@ -21,4 +24,5 @@ loop-at-preserved c =
       on = omega (arith, c.char_at-c.ensures.behind.on);
       few = omega arith;
       small = digit_fits _ _ _ c.loop-at.invariant.small c.in-Some.ensures.small;
+      over = sym (ap (past is_hex_part) c.char_at-c.ensures.rest ∙ over_digit c.char_at-c.result.0 (rest_at c.args.text.now c.char_at-c.result.1) is.0) ∙ c.loop-at.invariant.over;
     }

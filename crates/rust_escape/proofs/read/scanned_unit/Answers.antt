@@ -10,7 +10,7 @@ returns-then-c-is_raw-clause-scanned c =
     scanned_next c.args.text.now c.args.start c.char_at-c.result.1 _ _ _
     (ap (λ t. scan.scan c.args.mode t) c.char_at-c.ensures.rest ∙ scan_slash c.args.mode c.char_at-c.result.0 (rest_at c.args.text.now c.char_at-c.result.1) test)
     (omega (arith, c.char_at-c.ensures.behind.on))
-    c.slash.ensures
+    c.slash.ensures.scanned
 
 pub returns-clause-scanned : goal.returns-clause-scanned
 returns-clause-scanned c =
