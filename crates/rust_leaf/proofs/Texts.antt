@@ -5,6 +5,8 @@ use Rattle.std.specs.Char.{is_ascii}
 use Rattle.std.specs.List.{list_all}
 use Rattle.std.specs.Prelude.{String, string_bytes}
 use Rattle.rust_leaf.specs.Leaf.{text_of}
+use Rattle.rust_leaf.specs.LeafText.{leaf_bytes}
+use Rattle.rust_leaf.specs.declared.leaf_text.LeafText.{LeafText}
 use Rattle.std.specs.Str.{chars, encode_utf8_all, IsUtf8, IsAscii, bytes_eq}
 use Rattle.std.proofs.lemmas.Bool.{ltb-true, and_parts}
 use Rattle.std.proofs.lemmas.Bool.Decides.{nat_tests}
@@ -55,3 +57,7 @@ chars_behind word bs a = chars-append word bs (IsUtf8-from_ascii word a) ∙ ap 
 -- a string prints its characters
 pub printed_text : {A : Type 0} (s : String A) → encode_utf8_all (text_of s) ≡ string_bytes s
 printed_text s = encodes-chars (string_bytes s) (IsUtf8-string_bytes s)
+
+-- and so does the text of a leaf
+pub printed_leaf : (t : LeafText) → encode_utf8_all (chars (leaf_bytes t)) ≡ leaf_bytes t
+printed_leaf t = printed_text t.text

@@ -3,6 +3,7 @@ use Rattle.std.specs.Prelude.{◌≡◌, ℕ, true, List, String, string_bytes}
 use lib.Utf8.{scalars}
 use Rattle.std.specs.Str.{chars}
 use Rattle.rust_map.specs.declared.span.Span.{Span}
+use Rattle.rust_leaf.specs.LeafText.{leaf_bytes}
 use Rattle.rust_leaf.specs.declared.ident.Ident.{Ident}
 use Rattle.rust_leaf.specs.declared.literal.Literal.{Literal}
 use Rattle.rust_leaf.specs.declared.punct.Punct.{Punct}
@@ -18,7 +19,7 @@ text_of s = chars (string_bytes s)
 
 -- the characters of an identifier as it is printed, a raw one with its r#
 abbrev pub ident_text : Ident → List ℕ
-ident_text i = text_of i.text
+ident_text i = chars (leaf_bytes i.text)
 
 -- where an identifier stands
 abbrev pub ident_span : Ident → Span
@@ -26,7 +27,7 @@ ident_span i = i.span
 
 -- the characters of a literal as it is printed
 abbrev pub literal_text : Literal → List ℕ
-literal_text l = text_of l.text
+literal_text l = chars (leaf_bytes l.text)
 
 -- where a literal stands
 abbrev pub literal_span : Literal → Span
@@ -44,4 +45,4 @@ punct_span p = p.span
 
 -- the text of an identifier in bytes, by which identifiers are compared
 abbrev pub ident_bytes : Ident → List ℕ
-ident_bytes i = string_bytes i.text
+ident_bytes i = leaf_bytes i.text

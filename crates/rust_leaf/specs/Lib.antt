@@ -1,4 +1,5 @@
 pub mod Mark
+pub mod LeafText
 pub mod Leaf
 pub mod Identifier
 pub mod Escaped

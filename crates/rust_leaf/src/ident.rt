@@ -1,17 +1,19 @@
 //! Identifiers.
 
 ghost use Rattle.rust_leaf.specs.Identifier.{fault_of, is_ident_text, is_identifier, is_number, is_reserved, refusal, refusal_of_raw};
+ghost use Rattle.rust_leaf.specs.LeafText.{leaf_bytes};
 ghost use Rattle.rust_leaf.specs.declared.ident.IdentFault.TheVariants.{Memory};
 ghost use Rattle.std.proofs.Common.{ap, refl};
 ghost use Rattle.std.specs.Cmp.{on_equiv, on_per, on_po, on_total, partial_equiv_from_equiv};
 ghost use Rattle.std.specs.Cmp.Lexicographic.{bytes_decides, nat_list_cmp_total, nat_list_eq_equiv, slice_cmp, texts_po, texts_ties};
 ghost use Rattle.std.specs.Hash as fed;
 ghost use Rattle.std.specs.Ordering.{nat_cmp};
-ghost use Rattle.std.specs.Prelude.{◌≡◌, ◌++◌, ◌==◌, IfErr, IfOk, OnOk, Option, None, Some, IsTrue, codes, encode_utf8_all, string_bytes, ◌↔◌};
+ghost use Rattle.std.specs.Prelude.{◌≡◌, ◌++◌, ◌==◌, IfErr, IfOk, OnOk, Option, None, Some, IsTrue, codes, encode_utf8_all, ◌↔◌};
 ghost use Rattle.std.specs.List.{list_all};
 ghost use Rattle.std.specs.Str.{bytes_eq, chars};
 ghost use Rattle.unicode_ident.specs.Ident.{is_xid_continue};
 
+use crate::leaf_text::LeafText;
 use rust_map::span::Span;
 use std::alloc::{AllocError, Global};
 use std::cmp::Ordering;
@@ -24,9 +26,9 @@ use unicode_ident::{is_xid_continue, is_xid_start};
 /// of an identifier.
 #[derive(Drop)]
 pub struct Ident {
-    pub(crate) text: String,
-    pub(crate) span: Span,
-    ghost is_printed: { IsTrue (is_ident_text (chars (string_bytes text))) },
+    text: LeafText,
+    span: Span,
+    ghost is_printed: { IsTrue (is_ident_text (chars (leaf_bytes text))) },
 }
 
 /// Why a text makes no identifier. The first fault that applies is answered.
@@ -117,7 +119,7 @@ impl Ident {
         match refusal(text) {
             Some(fault) => Err(fault),
             None => Ok(Ident {
-                text: String::from_str(alloc, text)?,
+                text: LeafText::new(alloc, text)?,
                 span,
             }),
         }
@@ -139,7 +141,7 @@ impl Ident {
                 let mut printed = String::from_str(alloc, "r#")?;
                 printed.push_str(text)?;
                 Ok(Ident {
-                    text: printed,
+                    text: LeafText::of(printed),
                     span,
                 })
             }
@@ -153,7 +155,7 @@ impl Ident {
         ensures span_is { IfOk result (λ ident. ident_span ident ≡ span) }
     {
         Ok(Ident {
-            text: String::from_str(alloc, text)?,
+            text: LeafText::new(alloc, text)?,
             span,
         })
     }
@@ -186,7 +188,7 @@ impl fmt::Display for Ident {
 
     ghost output = { λ ident. Some (encode_utf8_all (ident_text ident)) };
 
-    #[tactic(auto, using(crate::proofs::Texts::printed_text))]
+    #[tactic(auto, using(crate::proofs::Texts::printed_leaf))]
     fn fmt<W: fmt::Write>(&self, f: &mut fmt::Formatter<W>) -> fmt::Result {
         f.write_str(self.text.as_str())
     }
@@ -261,7 +263,7 @@ impl TryClone for Ident {
 
     fn try_clone(&self) -> Result<Ident, AllocError> {
         Ok(Ident {
-            text: self.text.clone()?,
+            text: self.text.copy()?,
             span: self.span,
         })
     }

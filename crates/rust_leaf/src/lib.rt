@@ -3,6 +3,7 @@
 //! A leaf is its printed text and its span. Contracts see the text as characters, by the words
 //! `ident_text` and `literal_text`.
 //!
+//! - `leaf_text` (private): the text of an identifier or a literal.
 //! - `ident`: identifiers, and the faults of a text that is none.
 //! - `punct`: punctuation marks.
 //! - `literal`: literals.
@@ -27,6 +28,7 @@ pub mod ident;
 mod in_quotes;
 mod integer;
 pub mod laws;
+mod leaf_text;
 pub mod literal;
 mod messages;
 pub mod minus;

@@ -1,10 +1,12 @@
 //! Literals.
 
+ghost use Rattle.rust_leaf.specs.LeafText.{leaf_bytes};
 ghost use Rattle.rust_leaf.specs.Parse.{IsLiteralText};
 ghost use Rattle.rust_map.specs.Spans.{call_site};
-ghost use Rattle.std.specs.Prelude.{◌≡◌, IfOk, Some, encode_utf8_all, string_bytes};
+ghost use Rattle.std.specs.Prelude.{◌≡◌, IfOk, Some, encode_utf8_all};
 ghost use Rattle.std.specs.Str.{chars};
 
+use crate::leaf_text::LeafText;
 use rust_map::span::Span;
 use std::alloc::{AllocError, Global};
 use std::fmt;
@@ -14,9 +16,9 @@ use try_clone::TryClone;
 /// a number.
 #[derive(Drop)]
 pub struct Literal {
-    pub(crate) text: String,
+    text: LeafText,
     pub(crate) span: Span,
-    ghost is_literal: { ∥ IsLiteralText (chars (string_bytes text)) ∥₁ },
+    ghost is_literal: { ∥ IsLiteralText (chars (leaf_bytes text)) ∥₁ },
 }
 
 impl Literal {
@@ -36,7 +38,7 @@ impl Literal {
         ensures span_is { IfOk result (λ literal. literal_span literal ≡ span) }
     {
         Ok(Literal {
-            text: String::from_str(alloc, text)?,
+            text: LeafText::new(alloc, text)?,
             span,
         })
     }
@@ -48,7 +50,7 @@ impl Literal {
         ensures span_is { literal_span result ≡ call_site }
     {
         Literal {
-            text,
+            text: LeafText::of(text),
             span: Span::call_site(),
         }
     }
@@ -74,7 +76,7 @@ impl fmt::Display for Literal {
 
     ghost output = { λ literal. Some (encode_utf8_all (literal_text literal)) };
 
-    #[tactic(auto, using(crate::proofs::Texts::printed_text))]
+    #[tactic(auto, using(crate::proofs::Texts::printed_leaf))]
     fn fmt<W: fmt::Write>(&self, f: &mut fmt::Formatter<W>) -> fmt::Result {
         f.write_str(self.text.as_str())
     }
@@ -91,7 +93,7 @@ impl TryClone for Literal {
 
     fn try_clone(&self) -> Result<Literal, AllocError> {
         Ok(Literal {
-            text: self.text.clone()?,
+            text: self.text.copy()?,
             span: self.span,
         })
     }

@@ -6,4 +6,4 @@ use Rattle.rust_leaf.proofs.laws.equality_is_by_text.Goals as goal
 pub returns : goal.returns
 returns c =
     bytes_eq-same (ident_bytes c.args.a.now) (ident_bytes c.args.b.now)
-    (IsUtf8-string_bytes c.args.a.now.text) (IsUtf8-string_bytes c.args.b.now.text)
+    (IsUtf8-string_bytes c.args.a.now.text.text) (IsUtf8-string_bytes c.args.b.now.text.text)

@@ -1,0 +1,7 @@
+-- The text of an identifier or a literal.
+use Rattle.std.specs.Prelude.{ℕ, List, string_bytes}
+use Rattle.rust_leaf.specs.declared.leaf_text.LeafText.{LeafText}
+
+-- the bytes of a leaf's text
+abbrev pub leaf_bytes : LeafText → List ℕ
+leaf_bytes t = string_bytes t.text
