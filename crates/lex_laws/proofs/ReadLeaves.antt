@@ -1,8 +1,7 @@
 -- Each token of a text is a leaf.
 use Rattle.std.proofs.Common.{◌≡◌, ℕ, List, [], ◌∷◌, ◌++◌, length, drop, refl, sym, ap, ◌∙◌, subst, inl}
 use Rattle.std.specs.Prelude.{true, ◌-◌, codes}
-use Rattle.std.proofs.Math.Utf8.{scalar, scalars}
-use Rattle.std.proofs.lemmas.Bool.{and_parts, and_from}
+use Rattle.std.proofs.Math.Utf8.{scalars}
 use Rattle.unicode_ident.proofs.Computing.{unicode_ident}
 use Rattle.rust_map.proofs.ByteLemmas.{scalars-drop, scalars-take}
 use Rattle.rust_leaf.specs.Mark.{is_mark as is_punctuation}
@@ -20,17 +19,10 @@ use Rattle.proc_macro2.proofs.Followed.{tokens_before}
 use Rattle.proc_macro2.specs.Leaf.{AreLeaves}
 use Rattle.lex_laws.specs.Read.{IsReadAs}
 use Rattle.rust_lex.proofs.Alone.{ident_calm, literal_calm}
+use Rattle.proc_macro2.proofs.Characters.{characters_back, characters_front}
 use Rattle.lex_laws.proofs.Marks.{begun_is}
 use Rattle.rust_leaf.proofs.WrittenLiterals.{string_literal}
 use Rattle.lex_laws.proofs.Plain.{plain_of, cover_tokens}
-
-scalars_front : (cs rest : List ℕ) → scalars (cs ++ rest) ≡ true → scalars cs ≡ true
-scalars_front [] rest h = refl
-scalars_front (c ∷ cs) rest h = let (a, b) = and_parts (scalar c) (scalars (cs ++ rest)) h in and_from (scalar c) (scalars cs) a (scalars_front cs rest b)
-
-scalars_back : (cs rest : List ℕ) → scalars (cs ++ rest) ≡ true → scalars rest ≡ true
-scalars_back [] rest h = h
-scalars_back (c ∷ cs) rest h = let (a, b) = and_parts (scalar c) (scalars (cs ++ rest)) h in scalars_back cs rest b
 
 -- the attribute of a doc
 doc_scalars : (kind : DocKind) (cs : List ℕ) → scalars cs ≡ true → scalars (doc_text kind cs) ≡ true
@@ -75,14 +67,14 @@ with_front rest ts a (Literal kind) cs s h = ((kind, literal_calm kind cs rest [
 read_leaves : (ps : List Piece) → scalars (onto ps []) ≡ true → AreFit ps [] → AreLeaves (plain_of ps [])
 read_leaves [] s f = tt
 read_leaves (p ∷ ps) s f =
-    with_front (onto ps []) (plain_of ps []) (read_leaves ps (scalars_back p.chars (onto ps []) s) f.1) p.kind p.chars (scalars_front p.chars (onto ps []) s) f.0
+    with_front (onto ps []) (plain_of ps []) (read_leaves ps (characters_back p.chars (onto ps []) s) f.1) p.kind p.chars (characters_front p.chars (onto ps []) s) f.0
 
 front_leaves : (ps : List Piece) → scalars (onto ps []) ≡ true → AreFitFront ps [] → AreLeaves (plain_of ps [])
 front_leaves [] s f = tt
-front_leaves (p ∷ ps) s f = at_front p.kind p.chars (scalars_front p.chars (onto ps []) s) f.0
+front_leaves (p ∷ ps) s f = at_front p.kind p.chars (characters_front p.chars (onto ps []) s) f.0
   where
     others : AreLeaves (plain_of ps [])
-    others = read_leaves ps (scalars_back p.chars (onto ps []) s) f.1
+    others = read_leaves ps (characters_back p.chars (onto ps []) s) f.1
 
     at_front : (k : PieceKind) (cs : List ℕ) → scalars cs ≡ true → FitsFront k cs (onto ps []) → AreLeaves (tokens_before k cs (onto ps []) ++ plain_of ps [])
     at_front FrontMark cs t h = others

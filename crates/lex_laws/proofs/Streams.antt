@@ -1,9 +1,13 @@
 -- What is said of a text's forest or fault is said of its stream.
-use Rattle.std.proofs.Common.{◌≡◌, ℕ, List, subst}
+use Rattle.std.proofs.Common.{◌≡◌, ◌∙◌, ℕ, List, ap, subst}
 use Rattle.std.specs.Prelude.{◌↔◌, IfOk, IfErr, Result, Ok, Err}
+use Rattle.std.specs.Str.{chars}
+use Rattle.std.proofs.lemmas.Str.{chars-encodes}
 use Rattle.proc_macro2.specs.Forest.{IsForest, IsFault, IsErrorOf, IsFaultBehind}
 use Rattle.proc_macro2.specs.Groups.{IsMatched}
-use Rattle.proc_macro2.specs.Printed.{text}
+use Rattle.proc_macro2.specs.Printed.{printed, text}
+use Rattle.proc_macro2.specs.Stream.{IsStream}
+use Rattle.proc_macro2.proofs.Characters.{text_characters}
 use Rattle.proc_macro2.specs.Spacing.{IsWellSpaced}
 use Rattle.proc_macro2.specs.Token.{Spanned, plain}
 use Rattle.rust_map.specs.declared.fault.LexError.{LexError}
@@ -25,3 +29,7 @@ pub without_fault : (base : ℕ) (cs : List ℕ) (result : Result (List Spanned)
 without_fault base cs result stream error f e a m w r =
     let fault : IsErrorOf base cs error = subst (λ x. IfErr x (λ y. IsFault base cs y)) r f in
     spaced_no_fault stream fault.behind a m w (subst (λ x. IsFaultBehind x fault.behind) e fault.fault)
+
+-- what a stream is printed as are the bytes of its text
+pub printed_text : (bytes : List ℕ) (stream : List Spanned) → IsStream stream → bytes ≡ printed stream → chars bytes ≡ text (plain stream)
+printed_text bytes stream s e = ap chars e ∙ chars-encodes (text (plain stream)) (text_characters (plain stream) s.characters)

@@ -1,10 +1,12 @@
 //! Streams that are built by hand.
 
+use lex_laws::spaced::reread;
 use proc_macro2::delimiter::Delimiter;
 use proc_macro2::tree::{Group, TokenStream, TokenTree};
 use rust_leaf::ident::Ident;
 use rust_leaf::literal::Literal;
 use rust_leaf::punct::{Punct, Spacing};
+use rust_map::source_map::SourceMap;
 use rust_map::span::Span;
 use std::test::Fail;
 
@@ -52,5 +54,16 @@ fn a_changed_copy_leaves_the_other(rt: HostRuntime) -> Result<(), Fail> {
     );
     assert_eq!(rt; texts.0.as_str(), "+");
     assert_eq!(rt; texts.1.as_str(), "+ -");
+    Ok(())
+}
+
+#[test]
+fn a_print_is_read_again(rt: HostRuntime) -> Result<(), Fail> {
+    let mut map = SourceMap::new(rt.alloc());
+    let text = "'a+-b [r#\"x\"#]{}";
+    let stream = TokenStream::from_str(rt.alloc(), text, &mut map).map_err(|_| "a stream")?;
+    let read = reread(&stream, rt.alloc(), &mut map).map_err(|_| "a print")?;
+    let print = format!(in rt.alloc(); "{read}")?;
+    assert_eq!(rt; print.as_str(), "'a +- b [r#\"x\"#] { }");
     Ok(())
 }

@@ -5,6 +5,7 @@ pub mod Standing
 pub mod Starts
 pub mod NextTree
 pub mod GroupLemmas
+pub mod Characters
 pub mod StreamLemmas
 pub mod OneList
 pub mod Docs

@@ -1,8 +1,11 @@
 -- Streams of one tree, and streams one behind the other.
 use Rattle.std.proofs.Common.{◌≡◌, ℕ, List, [], ◌∷◌, ◌++◌, IsTrue, refl, sym, ap, ◌∙◌, subst, ⊎_elim}
 use Rattle.std.specs.Prelude.{true, false}
+use Rattle.std.specs.List.{flat_map}
+use Rattle.std.proofs.lemmas.Grind.{flat_map-append}
 use Rattle.rust_map.specs.declared.span.Span.{Span}
 use Rattle.rust_leaf.specs.Identifier.{is_ident_text}
+use Rattle.rust_leaf.specs.Leaf.{AreCharacters}
 use Rattle.rust_leaf.specs.Mark.{is_mark}
 use Rattle.rust_leaf.specs.Minus.{minus, starts_with_minus}
 use Rattle.rust_leaf.specs.Parse.{IsLiteralLeaf, IsLiteralText}
@@ -18,7 +21,9 @@ use Rattle.proc_macro2.specs.Token.{Delimiter, Spacing, Token, Opens, Closes, Id
 use Rattle.proc_macro2.specs.Entered.{literal_entered}
 use Rattle.proc_macro2.specs.Flat.{spanned}
 use Rattle.proc_macro2.specs.Leaf.{AreLeaves}
+use Rattle.proc_macro2.specs.Printed.{closing, opening, shown}
 use Rattle.proc_macro2.specs.Stream.{IsStream}
+use Rattle.proc_macro2.proofs.Characters.{characters_append, characters_back, characters_one, closing_characters, mark_characters, opening_characters}
 use Rattle.proc_macro2.proofs.GroupLemmas.{matched_append, matched_group}
 use Rattle.proc_macro2.proofs.Texts.{plain_append}
 
@@ -27,28 +32,36 @@ leaves_append [] us a b = b
 leaves_append (t ∷ ts) us a b = (a.0, leaves_append ts us a.1 b)
 
 pub empty_stream : IsStream []
-empty_stream = record { leaves = tt; matched = refl }
+empty_stream = record { leaves = tt; matched = refl; characters = refl }
+
+shown_append : (ss ts : List Spanned) → flat_map shown (plain (ss ++ ts)) ≡ flat_map shown (plain ss) ++ flat_map shown (plain ts)
+shown_append ss ts = ap (λ us. flat_map shown us) (plain_append ss ts) ∙ flat_map-append shown (plain ss) (plain ts)
+
+shown_joined : (ss ts : List Spanned) → AreCharacters (flat_map shown (plain ss)) → AreCharacters (flat_map shown (plain ts)) → AreCharacters (flat_map shown (plain (ss ++ ts)))
+shown_joined ss ts a b = subst AreCharacters (sym (shown_append ss ts)) (characters_append (flat_map shown (plain ss)) (flat_map shown (plain ts)) a b)
 
 pub joined_stream : (ss ts : List Spanned) → IsStream ss → IsStream ts → IsStream (ss ++ ts)
 joined_stream ss ts a b = record {
   leaves = subst AreLeaves (sym (plain_append ss ts)) (leaves_append (plain ss) (plain ts) a.leaves b.leaves);
   matched = matched_append ss ts a.matched b.matched;
+  characters = shown_joined ss ts a.characters b.characters;
 }
 
 pub group_stream : (d : Delimiter) (span : Span) (ss : List Spanned) → IsStream ss → IsStream (spanned (Opens d) span ∷ ss ++ spanned (Closes d) span ∷ [])
 group_stream d span ss a = record {
   leaves = (tt, subst AreLeaves (sym (plain_append ss (spanned (Closes d) span ∷ []))) (leaves_append (plain ss) (Closes d ∷ []) a.leaves (tt, tt)));
   matched = matched_group d span ss a.matched;
+  characters = characters_append (opening d) (flat_map shown (plain (ss ++ spanned (Closes d) span ∷ []))) (opening_characters d) (shown_joined ss (spanned (Closes d) span ∷ []) a.characters (characters_one (closing d) (closing_characters d)));
 }
 
-pub word_stream : (cs : List ℕ) (span : Span) → IsTrue (is_ident_text cs) → IsStream (spanned (Ident cs) span ∷ [])
-word_stream cs span t = record { leaves = ((ident_text_is cs).0 t, tt); matched = refl }
+pub ident_stream : (cs : List ℕ) (span : Span) → IsTrue (is_ident_text cs) → AreCharacters cs → IsStream (spanned (Ident cs) span ∷ [])
+ident_stream cs span t a = record { leaves = ((ident_text_is cs).0 t, tt); matched = refl; characters = characters_one cs a }
 
-pub sign_stream : (c : ℕ) (spacing : Spacing) (span : Span) → IsTrue (is_mark c) → IsStream (spanned (Punct c spacing) span ∷ [])
-sign_stream c spacing span t = record { leaves = (t, tt); matched = refl }
+pub punct_stream : (c : ℕ) (spacing : Spacing) (span : Span) → IsTrue (is_mark c) → IsStream (spanned (Punct c spacing) span ∷ [])
+punct_stream c spacing span t = record { leaves = (t, tt); matched = refl; characters = mark_characters c t }
 
-pub quoted_stream : (cs : List ℕ) (span : Span) → IsLiteralLeaf cs → IsStream (spanned (Literal cs) span ∷ [])
-quoted_stream cs span l = record { leaves = (l, tt); matched = refl }
+pub literal_stream : (cs : List ℕ) (span : Span) → IsLiteralLeaf cs → AreCharacters cs → IsStream (spanned (Literal cs) span ∷ [])
+literal_stream cs span l a = record { leaves = (l, tt); matched = refl; characters = characters_one cs a }
 
 -- no literal begins with a minus
 minus_begins : (cs : List ℕ) → begins_mark (minus ∷ cs) ≡ true
@@ -73,14 +86,14 @@ behind_leaf cs number t e =
     (literal_had cs t)
 
 -- a literal as it stands in a stream
-pub entered_whole : (cs : List ℕ) (span : Span) → ∥ IsLiteralText cs ∥₁ → starts_with_minus cs ≡ false → IsStream (literal_entered cs span)
-entered_whole cs span t n = rw n (quoted_stream cs span (unsigned_leaf cs t n))
+pub entered_whole : (cs : List ℕ) (span : Span) → ∥ IsLiteralText cs ∥₁ → starts_with_minus cs ≡ false → AreCharacters cs → IsStream (literal_entered cs span)
+entered_whole cs span t n a = rw n (literal_stream cs span (unsigned_leaf cs t n) a)
 
 minus_mark : IsTrue (is_mark minus)
 unfolding is_mark
 minus_mark = refl
 
-pub entered_parts : (cs number : List ℕ) (span : Span) → ∥ IsLiteralText cs ∥₁ → cs ≡ minus ∷ number → IsStream (literal_entered cs span)
-entered_parts cs number span t e =
+pub entered_parts : (cs number : List ℕ) (span : Span) → ∥ IsLiteralText cs ∥₁ → cs ≡ minus ∷ number → AreCharacters cs → IsStream (literal_entered cs span)
+entered_parts cs number span t e a =
     subst (λ ds. IsStream (literal_entered ds span)) (sym e)
-    (joined_stream (spanned (Punct minus Alone) span ∷ []) (spanned (Literal number) span ∷ []) (sign_stream minus Alone span minus_mark) (quoted_stream number span (behind_leaf cs number t e)))
+    (joined_stream (spanned (Punct minus Alone) span ∷ []) (spanned (Literal number) span ∷ []) (punct_stream minus Alone span minus_mark) (literal_stream number span (behind_leaf cs number t e) (characters_back (minus ∷ []) number (subst AreCharacters e a))))

@@ -1,6 +1,7 @@
 //! The tokens of docs.
 
 ghost use Rattle.proc_macro2.specs.Built.{IsAdded};
+ghost use Rattle.proc_macro2.specs.Flat.{group_tokens};
 ghost use Rattle.proc_macro2.specs.Pieces as pieces;
 ghost use Rattle.proc_macro2.specs.Pieces.{IsClosedDoc, all_at};
 ghost use Rattle.proc_macro2.specs.Token.{Alone, Bracket};
@@ -87,10 +88,15 @@ pub(crate) fn put_doc(
     if is_inner(kind) {
         builder.put(TokenTree::Punct(alone('!', span)))?;
     }
-    let group = group(alloc, text, span)?;
+    put_group(builder, group(alloc, text, span)?)
+}
+
+// Adds a group.
+fn put_group(builder: &mut Builder, group: Group) -> Result<(), AllocError>
+    ensures { OnOk result (IsAdded builder.old builder.new (group_tokens group)) }
+{
     group.stream.known();
-    builder.put(TokenTree::Group(group))?;
-    Ok(())
+    builder.put(TokenTree::Group(group))
 }
 
 // What stands behind the first three characters.

@@ -16,7 +16,8 @@ use crate::tree::{TokenStream, TokenTree};
 use std::alloc::AllocError;
 use try_clone::TryClone;
 
-/// Each token of a stream is one by itself, and each group is closed by its own token.
+/// Each token of a stream is one by itself, each group is closed by its own token, and tokens are printed
+/// as characters.
 pub fn each_stream(stream: &TokenStream)
     ensures { IsStream stream.now }
 {
