@@ -53,7 +53,7 @@ output_is base bytes out es form a forest parsed utf8 e =
 
 -- a fault of the tokens of a text that was put into the map is the text's
 pub parse_fault_is : (sources : Sources) (text : List ℕ) (es : List Entry) (cause : ParseFault) → IsForest (next_position sources) text (spanned_entries es) →
-    spot (with_text sources text) (next_span sources text) ≡ Some (next_spot sources text) → file.IsFault (entry_tokens es) cause →
+    spot (with_text sources text) (next_span sources text) ≡ Some (next_spot sources text) → file.IsParseFault (entry_tokens es) cause →
     IsFaultOf text (parse_fault (with_text sources text) (spanned_entries es) cause)
 parse_fault_is sources text es parse.Memory forest there fault = tt
 parse_fault_is sources text es (parse.Syntax index) forest there fault =
@@ -86,7 +86,7 @@ pub given_held : (old new : Sources) (text : List ℕ) (es : List Entry) → Giv
 given_held old new text es g =
     subst (λ (m : Sources). All (IsHeld m) es) (sym g.grown) (entries_held old text g.there es (forest_lies (next_position old) text (spanned_entries es) g.forest))
 
-pub given_fault : (old new : Sources) (text : List ℕ) (es : List Entry) (cause : ParseFault) → Given old new text es → file.IsFault (entry_tokens es) cause → IsFaultOf text (parse_fault new (spanned_entries es) cause)
+pub given_fault : (old new : Sources) (text : List ℕ) (es : List Entry) (cause : ParseFault) → Given old new text es → file.IsParseFault (entry_tokens es) cause → IsFaultOf text (parse_fault new (spanned_entries es) cause)
 given_fault old new text es cause g fault =
     subst (λ (m : Sources). IsFaultOf text (parse_fault m (spanned_entries es) cause)) (sym g.grown) (parse_fault_is old text es cause g.forest g.there fault)
 

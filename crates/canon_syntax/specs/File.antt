@@ -47,6 +47,6 @@ pub record IsSyntaxFault (tokens : List Token) (place : Option ℕ) : Type 0 whe
   pub stops : StopsAt tokens place
 
 -- what a fault of reading says of the tokens: that memory ran out says nothing of them
-abbrev pub IsFault : List Token → ParseFault → Type 0
-IsFault tokens Memory = Unit {0}
-IsFault tokens (Syntax place) = IsSyntaxFault tokens place
+abbrev pub IsParseFault : List Token → ParseFault → Type 0
+IsParseFault tokens Memory = Unit {0}
+IsParseFault tokens (Syntax place) = IsSyntaxFault tokens place

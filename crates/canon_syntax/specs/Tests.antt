@@ -16,9 +16,9 @@ is_ident (Ident cs) = not (is_reserved cs)
 is_ident _ = false
 
 -- the mark, with any spacing
-abbrev pub is_mark : ℕ → Token → Bool
-is_mark c (Punct d spacing) = d == c
-is_mark c _ = false
+abbrev pub is_punct : ℕ → Token → Bool
+is_punct c (Punct d spacing) = d == c
+is_punct c _ = false
 
 -- the opening mark of a group
 abbrev pub is_open : Delimiter → Token → Bool

@@ -1,6 +1,6 @@
 //! Reads a file.
 
-ghost use Rattle.canon_syntax.specs.File.{IsFault, IsParsed};
+ghost use Rattle.canon_syntax.specs.File.{IsParseFault, IsParsed};
 ghost use Rattle.canon_syntax.specs.Gives.{place_where};
 ghost use Rattle.canon_syntax.specs.Views.{file_tree};
 ghost use Rattle.std.specs.Prelude.{◌≡◌, ◌≤◌, IfErr, IfOk};
@@ -33,7 +33,7 @@ fn place_where(all: usize, left: usize) -> Option<usize>
 /// read.
 pub fn parse_file<'a>(alloc: Global, tokens: &'a [Entry<'a>]) -> Result<File<'a>, ParseFault>
     ensures parsed { IfOk result (λ f. IsParsed (entry_tokens tokens.now) (file_tree f)) }
-    ensures refused { IfErr result (λ e. IsFault (entry_tokens tokens.now) e) }
+    ensures refused { IfErr result (λ e. IsParseFault (entry_tokens tokens.now) e) }
 {
     let mut items = Vec::new(alloc);
     let mut at = 0usize;

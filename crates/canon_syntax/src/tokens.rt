@@ -3,7 +3,7 @@
 ghost use Rattle.canon_syntax.specs.Gives.{Gives, RawEnds, open_behind};
 ghost use Rattle.canon_syntax.specs.Gram.{ask};
 ghost use Rattle.canon_syntax.specs.Run.{alone, last_at, one_at, raw_at};
-ghost use Rattle.canon_syntax.specs.Tests.{first_is, is_close, is_ident, is_keyword, is_mark, is_open};
+ghost use Rattle.canon_syntax.specs.Tests.{first_is, is_close, is_ident, is_keyword, is_punct, is_open};
 ghost use Rattle.canon_syntax.specs.Tree.{Last, Leaf, Raw};
 ghost use Rattle.canon_syntax.specs.Views.{ident_tree};
 ghost use Rattle.proc_macro2.specs.Token.{Closes, Opens};
@@ -42,8 +42,8 @@ fn is_keyword(entry: &Entry<'_>, keyword: &str) -> bool
     }
 }
 
-fn is_mark(entry: &Entry<'_>, c: char) -> bool
-    ensures { result ≡ is_mark c (entry_token entry.now) }
+fn is_punct(entry: &Entry<'_>, c: char) -> bool
+    ensures { result ≡ is_punct c (entry_token entry.now) }
 {
     match entry {
         Entry::Punct(punct) => punct.as_char() == c,
@@ -117,7 +117,7 @@ pub(crate) fn last<'a>(tokens: &'a [Entry<'a>], c: char) -> Result<&'a [Entry<'a
         (last_at alone c (entry_tokens tokens.now)) }
 {
     match tokens {
-        [first, rest @ ..] if is_mark(first, c) => Ok(rest),
+        [first, rest @ ..] if is_punct(first, c) => Ok(rest),
         _ => Err(Refusal { left: tokens.len() }),
     }
 }

@@ -19,7 +19,7 @@ use Rattle.proc_macro2.specs.Groups.{same_delimiter, groups_behind, groups_open,
 use Rattle.proc_macro2.specs.Groups as groups
 use Rattle.proc_macro2.specs.Pieces.{doc_marks, doc_group, doc_text, delimiter_of, edged}
 use Rattle.proc_macro2.proofs.Followed.{tokens_before, tokens_onto}
-use Rattle.proc_macro2.specs.Forest.{IsForest, Opening, closed, open_behind, openings, count, IsStray, IsUnmatched, IsUnclosed, IsFaultBehind}
+use Rattle.proc_macro2.specs.Forest.{IsForest, Opening, openings_closed, open_behind, openings, count, IsStray, IsUnmatched, IsUnclosed, IsFaultBehind}
 use Rattle.proc_macro2.specs.Printed.{text}
 use Rattle.proc_macro2.specs.Spacing.{IsWellSpaced}
 use Rattle.proc_macro2.specs.Leaf.{AreLeaves}
@@ -66,7 +66,7 @@ abbrev delimiters_in : Option (List Opening) → Option (List Delimiter)
 delimiters_in None = None
 delimiters_in (Some os) = Some (delimiters os)
 
-closed_same : (os : List Opening) (d : Delimiter) → groups.closed (delimiters os) d ≡ delimiters_in (closed os d)
+closed_same : (os : List Opening) (d : Delimiter) → groups.groups_closed (delimiters os) d ≡ delimiters_in (openings_closed os d)
 closed_same [] d = refl
 closed_same (o ∷ os) d =
     ⊎_elim (λ y. rw y refl) (λ y. rw y refl) (cases_Bool (same_delimiter o.delimiter d))
@@ -93,7 +93,7 @@ open_same os n (p ∷ ps) rest = behind p.kind p.chars (λ qs m. open_same qs m 
     behind Comment cs on = on os (n + length cs)
     behind (Doc kind) cs on = doc_open kind (doc_text kind cs) (delimiters os) (plain_of ps rest) ∙ on os (n + length cs)
     behind (Open d) cs on = on (record { delimiter = delimiter_of d; at = n } ∷ os) (n + length cs)
-    behind (Close d) cs on = ap (option_and_then (λ es. open_of es (plain_of ps rest))) (closed_same os (delimiter_of d)) ∙ past_closing (closed os (delimiter_of d)) (n + length cs) on
+    behind (Close d) cs on = ap (option_and_then (λ es. open_of es (plain_of ps rest))) (closed_same os (delimiter_of d)) ∙ past_closing (openings_closed os (delimiter_of d)) (n + length cs) on
     behind Mark cs on = on os (n + length cs)
     behind Ident cs on = on os (n + length cs)
     behind (Literal kind) cs on = on os (n + length cs)
@@ -168,7 +168,7 @@ close_at : (at : ℕ) (d : LexDelimiter) (rest : List ℕ) → FitsAt at (Close 
 close_at zero d rest = refl
 close_at (suc n) d rest = refl
 
-closes_none : (gs : List Opening) (m : ℕ) (p : Piece) (ps : List Piece) (d : LexDelimiter) → p.kind ≡ Close d → closed gs (delimiter_of d) ≡ None → openings gs m (p ∷ ps) ≡ None
+closes_none : (gs : List Opening) (m : ℕ) (p : Piece) (ps : List Piece) (d : LexDelimiter) → p.kind ≡ Close d → openings_closed gs (delimiter_of d) ≡ None → openings gs m (p ∷ ps) ≡ None
 closes_none gs m p ps d k e = ap (option_and_then (λ qs. openings qs (m + length p.chars) ps)) (ap (λ k. open_behind gs k m) k ∙ e)
 
 no_stray : (text : List ℕ) (ps : List Piece) (n : ℕ) → IsCover text ps → IsStray text n → ⊥

@@ -20,7 +20,7 @@ use Rattle.proc_macro2.specs.Groups.{same_delimiter, IsMatched}
 use Rattle.proc_macro2.specs.Flat.{spanned}
 use Rattle.proc_macro2.specs.Pieces.{delimiter_of, edged, edged_at, all_at, span_at, spacing_of, head, doc_marks, doc_group, doc_text}
 use Rattle.proc_macro2.proofs.Followed.{tokens_before}
-use Rattle.proc_macro2.specs.Forest.{ArePaired, closed, open_behind}
+use Rattle.proc_macro2.specs.Forest.{ArePaired, openings_closed, open_behind}
 use Rattle.proc_macro2.specs.Built.{opening_of, openings_of, frame_tokens, built, IsPut, stretch_span}
 use Rattle.proc_macro2.specs.declared.builder.Frame.{Frame}
 use Rattle.proc_macro2.specs.declared.builder.Builder.{Builder}
@@ -153,7 +153,7 @@ grows_closed fs gs ss us s d cs rest frame were same is e t f h =
       tokens = ap (λ x. flat_map (frame_tokens base) gs ++ x) (spread ∙ moved)
           ∙ regrouped (flat_map (frame_tokens base) gs) (map edged frame.before) (map edged ss) _ _
           ∙ ap (λ x. (x ++ map edged ss) ++ edged (spanned (Closes D) (span_at (base + s.from) (length cs))) ∷ []) before;
-      opened = ap (λ x. closed x D) (ap openings_of were ∙ openings_push gs frame) ∙ ap (λ b. cond b (Some (openings_of gs)) None) (ap (λ x. same_delimiter x D) same ∙ same_self D);
+      opened = ap (λ x. openings_closed x D) (ap openings_of were ∙ openings_push gs frame) ∙ ap (λ b. cond b (Some (openings_of gs)) None) (ap (λ x. same_delimiter x D) same ∙ same_self D);
       frames = frames_on s.from (s.from + length cs) gs (omega arith) popped.0;
       whole = subst IsWhole (sym is) (whole_append frame.before (spanned (Opens D) span ∷ ss ++ spanned (Closes D) span ∷ []) inside.whole (whole_group D span ss h));
     }
@@ -184,7 +184,7 @@ put_grows at (piece.Literal kind) old new s cs rest joint p q j e f h = grows_ad
 pub record Refuses (k : PieceKind) (old : Builder) : Type 0 where
   pub delimiter : LexDelimiter
   pub is : k ≡ piece.Close delimiter
-  pub wrong : closed (openings_of old.frames.items) (delimiter_of delimiter) ≡ None
+  pub wrong : openings_closed (openings_of old.frames.items) (delimiter_of delimiter) ≡ None
 
 pub put_refuses : (k : PieceKind) (old new : Builder) (s : Stretch) (cs : List ℕ) (joint : Bool) → IsPut k false old new s cs joint → Refuses k old
 put_refuses piece.FrontMark old new s cs joint p = let e = p.0 in cc

@@ -21,7 +21,7 @@ use Rattle.proc_macro2.specs.Groups as groups
 use Rattle.rust_map.specs.declared.span.Span.{Span}
 use Rattle.proc_macro2.specs.Pieces.{delimiter_of, edged, edged_at, span_at, doc_marks, doc_group}
 use Rattle.proc_macro2.proofs.Followed.{tokens_before, tokens_onto, forest_tokens}
-use Rattle.proc_macro2.specs.Forest.{Opening, openings, open_behind, closed, count, IsForest, Reaches, IsFaultBehind, IsLexicalFault}
+use Rattle.proc_macro2.specs.Forest.{Opening, openings, open_behind, openings_closed, count, IsForest, Reaches, IsFaultBehind, IsLexicalFault}
 use Rattle.proc_macro2.proofs.GroupLemmas.{open_append}
 use Rattle.proc_macro2.proofs.Covering.{openings_append}
 
@@ -154,7 +154,7 @@ stray_place : (ps : List Piece) (rest : List ℕ) (gs : List Opening) → rest �
 stray_place ps [] gs h = absurd (h refl)
 stray_place ps (c ∷ cs) gs h = refl
 
-unmatched_stuck : (n : ℕ) (d : LexDelimiter) (rest : List ℕ) (gs : List Opening) → closed gs (delimiter_of d) ≡ None → (p : Piece) (more : List Piece) (s : List ℕ) (hs : List Opening) →
+unmatched_stuck : (n : ℕ) (d : LexDelimiter) (rest : List ℕ) (gs : List Opening) → openings_closed gs (delimiter_of d) ≡ None → (p : Piece) (more : List Piece) (s : List ℕ) (hs : List Opening) →
     FitsAt n p.kind p.chars (onto more s) → closing d ∷ rest ≡ onto (p ∷ more) s → openings gs n (p ∷ more) ≡ Some hs → ⊥
 unmatched_stuck n d rest gs w p more s hs f e g =
     let c : Piece = record { kind = piece.Close d; chars = closing d ∷ [] } in
@@ -187,7 +187,7 @@ one_fault text p q (n, f, e) (m, g, h) = e ∙ ap (place_of text) (one_behind te
 abbrev delimiters : List Opening → List Delimiter
 delimiters os = map (λ o. o.delimiter) os
 
-closed_groups : (os : List Opening) (d : Delimiter) → groups.closed (delimiters os) d ≡ option_map delimiters (closed os d)
+closed_groups : (os : List Opening) (d : Delimiter) → groups.groups_closed (delimiters os) d ≡ option_map delimiters (openings_closed os d)
 closed_groups [] d = refl
 closed_groups (o ∷ os) d = here (same_delimiter o.delimiter d)
   where

@@ -24,7 +24,7 @@ use Rattle.proc_macro2.specs.Token.{Delimiter, Spanned}
 use Rattle.proc_macro2.specs.Groups.{same_delimiter}
 use Rattle.proc_macro2.specs.Pieces.{delimiter_of, all_at}
 use Rattle.proc_macro2.proofs.Followed.{tokens_onto, tokens_before, onto_same}
-use Rattle.proc_macro2.specs.Forest.{openings, open_behind, closed, count, IsForest, Reaches, IsFaultBehind, IsLexicalFault}
+use Rattle.proc_macro2.specs.Forest.{openings, open_behind, openings_closed, count, IsForest, Reaches, IsFaultBehind, IsLexicalFault}
 use Rattle.proc_macro2.specs.Built.{openings_of, opening_of, built, stretch_span}
 use Rattle.proc_macro2.specs.declared.builder.Frame.{Frame}
 use Rattle.proc_macro2.specs.declared.builder.Stretch.{Stretch}
@@ -157,7 +157,7 @@ record Added (base n : ℕ) (k : PieceKind) (cs rest : List ℕ) (fs : List Fram
 record Wrong (k : PieceKind) (fs : List Frame) : Type 0 where
   delimiter : LexDelimiter
   is : k ≡ piece.Close delimiter
-  none : closed (openings_of fs) (delimiter_of delimiter) ≡ None
+  none : openings_closed (openings_of fs) (delimiter_of delimiter) ≡ None
 
 abbrev stretch : ℕ → ℕ → List ℕ → Stretch
 stretch base n cs = record { whole = span_from base base; from = n; to = n + length cs }
@@ -173,13 +173,13 @@ plain base n k cs rest fs ss o w f h = record {
 closing_added : (base n : ℕ) (d : LexDelimiter) (cs rest : List ℕ) (fs : List Frame) (ss : List Spanned) → cs ≡ closing d ∷ [] → All (IsFrameIn n) fs → IsWhole ss → Added base n (piece.Close d) cs rest fs ss ⊎ Wrong (piece.Close d) fs
 closing_added base n d cs rest fs ss e f h =
     ⊎_elim
-    (λ none. inr (record { delimiter = d; is = refl; none = ap (λ x. closed (openings_of x) (delimiter_of d)) none }))
+    (λ none. inr (record { delimiter = d; is = refl; none = ap (λ x. openings_closed (openings_of x) (delimiter_of d)) none }))
     (λ l. by_same l.others l.last l.is (same_delimiter l.last.delimiter (delimiter_of d)) refl)
     (ending fs)
   where
     by_same : (gs : List Frame) (g : Frame) → fs ≡ gs ++ g ∷ [] → (b : Bool) → same_delimiter g.delimiter (delimiter_of d) ≡ b → Added base n (piece.Close d) cs rest fs ss ⊎ Wrong (piece.Close d) fs
     by_same gs g is true q = inl (record { frames = gs; stream = _; grows = grows_closed fs gs ss _ (stretch base n cs) d cs rest g is (same_true g.delimiter (delimiter_of d) q) refl e refl f h })
-    by_same gs g is false q = inr (record { delimiter = d; is = refl; none = ap (λ x. closed x (delimiter_of d)) (ap openings_of is ∙ openings_push gs g) ∙ ap (λ b. cond b (Some (openings_of gs)) None) q })
+    by_same gs g is false q = inr (record { delimiter = d; is = refl; none = ap (λ x. openings_closed x (delimiter_of d)) (ap openings_of is ∙ openings_push gs g) ∙ ap (λ b. cond b (Some (openings_of gs)) None) q })
 
 added : (base n : ℕ) (k : PieceKind) (cs rest : List ℕ) (fs : List Frame) (ss : List Spanned) → FitsAt n k cs rest → All (IsFrameIn n) fs → IsWhole ss → Added base n k cs rest fs ss ⊎ Wrong k fs
 added base n piece.FrontMark cs rest fs ss q f h = inl (plain base n piece.FrontMark cs rest fs ss refl no_tokens f h)

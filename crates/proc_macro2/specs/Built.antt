@@ -11,7 +11,7 @@ use Rattle.rust_lex.specs.declared.piece.PieceKind.TheVariants as piece
 use Rattle.proc_macro2.specs.Token.{Delimiter, Opens, Closes, Ident, Literal, Punct, Spanned}
 use Rattle.proc_macro2.specs.Flat.{spanned}
 use Rattle.proc_macro2.specs.Pieces.{delimiter_of, edged, all_at, span_at, head, spacing_of, is_block, IsClosedDoc, doc_marks, doc_group, doc_text}
-use Rattle.proc_macro2.specs.Forest.{Opening, closed}
+use Rattle.proc_macro2.specs.Forest.{Opening, openings_closed}
 use Rattle.proc_macro2.specs.declared.builder.Frame.{Frame}
 use Rattle.proc_macro2.specs.declared.builder.Builder.{Builder}
 use Rattle.proc_macro2.specs.declared.builder.Stretch.{Stretch}
@@ -55,7 +55,7 @@ pub record IsClosed (old new : Builder) (delimiter : Delimiter) (text : Span) (e
 
 -- the groups that are open don't let the closing token close one
 abbrev pub IsRefused : Builder → Delimiter → Type 0
-IsRefused old d = closed (openings_of old.frames.items) d ≡ None
+IsRefused old d = openings_closed (openings_of old.frames.items) d ≡ None
 
 -- what a closing mark makes of a builder
 abbrev pub IsClosing : Bool → Builder → Builder → Delimiter → Span → ℕ → Type 0

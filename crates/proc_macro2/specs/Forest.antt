@@ -45,15 +45,15 @@ pub record Opening : Type 0 where
   pub at : ℕ
 
 -- behind a closing mark: it closes the innermost group, or nothing
-abbrev pub closed : List Opening → Delimiter → Option (List Opening)
-closed [] d = None
-closed (o ∷ os) d = cond (same_delimiter o.delimiter d) (Some os) None
+abbrev pub openings_closed : List Opening → Delimiter → Option (List Opening)
+openings_closed [] d = None
+openings_closed (o ∷ os) d = cond (same_delimiter o.delimiter d) (Some os) None
 
 -- the groups that are open behind one more piece, which n characters precede, the innermost first;
 -- none where it closes nothing
 abbrev pub open_behind : List Opening → PieceKind → ℕ → Option (List Opening)
 open_behind os (piece.Open d) n = Some (record { delimiter = delimiter_of d; at = n } ∷ os)
-open_behind os (piece.Close d) n = closed os (delimiter_of d)
+open_behind os (piece.Close d) n = openings_closed os (delimiter_of d)
 open_behind os piece.FrontMark n = Some os
 open_behind os piece.White n = Some os
 open_behind os piece.Comment n = Some os
@@ -93,7 +93,7 @@ pub record IsUnmatched (text : List ℕ) (n : ℕ) : Type 0 where
   pub groups : List Opening
   pub delimiter : LexDelimiter
   pub reaches : Reaches text pieces (closing delimiter ∷ rest) groups
-  pub wrong : closed groups (delimiter_of delimiter) ≡ None
+  pub wrong : openings_closed groups (delimiter_of delimiter) ≡ None
   pub there : n ≡ count pieces
 
 -- the text ends, and the innermost of its open groups was opened behind so many characters

@@ -14,14 +14,14 @@ same_delimiter delimiter.None delimiter.None = true
 same_delimiter _ _ = false
 
 -- behind a closing token: it closes the innermost group, or nothing
-abbrev pub closed : List Delimiter → Delimiter → Option (List Delimiter)
-closed [] d = None
-closed (e ∷ es) d = cond (same_delimiter e d) (Some es) None
+abbrev pub groups_closed : List Delimiter → Delimiter → Option (List Delimiter)
+groups_closed [] d = None
+groups_closed (e ∷ es) d = cond (same_delimiter e d) (Some es) None
 
 -- the groups that are open behind one more token, the innermost first; none where it closes nothing
 abbrev pub groups_behind : List Delimiter → Token → Option (List Delimiter)
 groups_behind ds (Opens d) = Some (d ∷ ds)
-groups_behind ds (Closes d) = closed ds d
+groups_behind ds (Closes d) = groups_closed ds d
 groups_behind ds (Ident cs) = Some ds
 groups_behind ds (Literal cs) = Some ds
 groups_behind ds (Punct c spacing) = Some ds

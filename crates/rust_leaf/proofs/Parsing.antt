@@ -8,7 +8,7 @@ use Rattle.rust_lex.specs.Cover.{NoPieceAt}
 use Rattle.rust_lex.specs.Piece.{Piece, FitsAt, IsLiteral}
 use Rattle.rust_lex.specs.Places.{rest_at, between, IsPlace, IsBehind}
 use Rattle.rust_leaf.specs.Minus.{minus}
-use Rattle.rust_leaf.specs.Parse.{IsNegative, IsLiteralText, is_number, literal_of}
+use Rattle.rust_leaf.specs.Parse.{IsNegative, IsLiteralText, is_number_kind, literal_of}
 use Rattle.rust_lex.specs.declared.piece.LiteralKind.{LiteralKind}
 use Rattle.rust_lex.specs.declared.piece.PieceKind.{PieceKind}
 use Rattle.rust_lex.specs.declared.piece.PieceKind.TheVariants.{FrontMark, White, Comment, Doc, Open, Close, Mark, Ident, Literal}
@@ -79,14 +79,14 @@ no_piece bytes result none r kind = (
 )
 
 -- a minus, and behind it a number
-pub negative_is : (text number : List ℕ) (result : Option LiteralKind) (kind : LiteralKind) (negative : Bool) → text ≡ minus ∷ number → IsKind number result → result ≡ Some kind → negative ≡ is_number kind → IsTrue negative ↔ IsNegative text
+pub negative_is : (text number : List ℕ) (result : Option LiteralKind) (kind : LiteralKind) (negative : Bool) → text ≡ minus ∷ number → IsKind number result → result ≡ Some kind → negative ≡ is_number_kind kind → IsTrue negative ↔ IsNegative text
 negative_is text number result kind negative e h r n = (
   λ t. (kind, number, e, (h kind).0 r, sym n ∙ t),
   λ (k, other, f, l, t). (
       let same : other ≡ number = cc in
       let found : result ≡ Some k = (h k).1 (subst (λ x. IsLiteral k x []) same l) in
       let kinds : k ≡ kind = cc in
-      n ∙ ap is_number (sym kinds) ∙ t
+      n ∙ ap is_number_kind (sym kinds) ∙ t
       ),
 )
 

@@ -15,14 +15,14 @@ abbrev pub IsLiteralLeaf : List ℕ → Type 0
 IsLiteralLeaf text = (kind : LiteralKind) × IsLiteral kind text []
 
 -- a minus may stand before numbers
-abbrev pub is_number : LiteralKind → Bool
-is_number Int = true
-is_number Float = true
-is_number _ = false
+abbrev pub is_number_kind : LiteralKind → Bool
+is_number_kind Int = true
+is_number_kind Float = true
+is_number_kind _ = false
 
 -- the text is a minus directly before a number
 abbrev pub IsNegative : List ℕ → Type 0
-IsNegative text = (kind : LiteralKind) × (number : List ℕ) × (text ≡ minus ∷ number) × IsLiteral kind number [] × (is_number kind ≡ true)
+IsNegative text = (kind : LiteralKind) × (number : List ℕ) × (text ≡ minus ∷ number) × IsLiteral kind number [] × (is_number_kind kind ≡ true)
 
 -- the text is that of a literal: one literal token, or a minus directly before a number
 abbrev pub IsLiteralText : List ℕ → Type 0

@@ -1,7 +1,7 @@
 //! Literals of texts.
 
 ghost use Rattle.rust_leaf.specs.Leaf.{literal_span, literal_text};
-ghost use Rattle.rust_leaf.specs.Parse.{IsLiteralText, IsNegative, IsRefusal, is_number, literal_of};
+ghost use Rattle.rust_leaf.specs.Parse.{IsLiteralText, IsNegative, IsRefusal, is_number_kind, literal_of};
 ghost use Rattle.rust_lex.specs.Piece.{IsLiteral};
 ghost use Rattle.rust_lex.specs.declared.piece.LiteralKind.{LiteralKind};
 ghost use Rattle.rust_map.specs.Sources.{next_position, next_span, next_spot, spot, with_text};
@@ -43,8 +43,8 @@ fn kind_of(text: &str) -> Option<LiteralKind>
 }
 
 // Whether a literal is a number.
-fn is_number(kind: LiteralKind) -> bool
-    ensures { result ≡ is_number kind }
+fn is_number_kind(kind: LiteralKind) -> bool
+    ensures { result ≡ is_number_kind kind }
 {
     matches!(kind, LiteralKind::Int | LiteralKind::Float)
 }
@@ -57,7 +57,7 @@ fn is_negative(text: &str) -> bool
         return false;
     };
     match kind_of(number) {
-        Some(kind) => is_number(kind),
+        Some(kind) => is_number_kind(kind),
         None => false,
     }
 }

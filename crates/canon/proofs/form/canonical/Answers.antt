@@ -32,5 +32,5 @@ parse_fault-requires c =
 pub returns-clause-fault : goal.returns-clause-fault
 returns-clause-fault c =
     let all = given c.args.map.now c.from_str.new.map (chars c.args.text.now) c.in_ok-tokens.tokens.items _ c.in_ok-stream.ensures.map_ok c.in_ok-stream.ensures.spot c.in_ok-stream.ensures.parsed c.in_ok-tokens.ensures in
-    let fault = given_fault _ _ _ _ c.in-Err.cause all (subst (λ (es : List Entry). file.IsFault (entry_tokens es) c.in-Err.cause) c.as_slice.ensures.value c.in-Err.ensures.refused) in
+    let fault = given_fault _ _ _ _ c.in-Err.cause all (subst (λ (es : List Entry). file.IsParseFault (entry_tokens es) c.in-Err.cause) c.as_slice.ensures.value c.in-Err.ensures.refused) in
     subst (IsFaultOf (chars c.args.text.now)) (sym (c.parse_fault.ensures ∙ ap (λ (es : List Entry). parse_fault c.from_str.new.map (spanned_entries es) c.in-Err.cause) c.as_slice-in-Err.ensures.value)) fault
