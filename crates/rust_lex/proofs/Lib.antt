@@ -1,6 +1,7 @@
 pub mod Fronts
 pub mod PlacesLemmas
 pub mod Walks
+pub mod Quiet
 pub mod Taken
 pub mod Units
 pub mod Raws

@@ -1,5 +1,5 @@
 -- Which piece a text begins with: what the code computes. That it is the one piece that fits is proved.
-use Rattle.std.specs.Prelude.{ℕ, zero, suc, Bool, true, false, ◌&&◌, ◌||◌, ◌==◌, is_some, List, [], ◌∷◌, Option, Some, None, if◌then◌else◌, drop, length}
+use Rattle.std.specs.Prelude.{ℕ, zero, suc, Bool, true, false, ◌&&◌, ◌||◌, ◌==◌, not, nat_lt, is_some, List, [], ◌∷◌, Option, Some, None, if◌then◌else◌, drop, length}
 use Rattle.rust_lex.specs.Chars.{is_white, is_first, is_next, is_digit, is_mark, is_not_feed, past}
 use Rattle.rust_lex.specs.Ends.{past_suffix}
 use Rattle.rust_lex.specs.Comment.{OuterLine, InnerLine, OuterBlock, InnerBlock, is_plain_line, is_plain_block, past_comment, is_within_line, ends_line}
@@ -91,3 +91,7 @@ begins_char (c ∷ cs) = c == 39 && is_some (past_char modes.Char cs)
 abbrev pub is_joint : List ℕ → Bool
 is_joint [] = false
 is_joint (c ∷ cs) = c == 39 || (begins_mark cs || begins_char cs)
+
+-- a byte of ASCII that neither ends nor begins a comment, nor is a carriage return
+abbrev pub is_quiet : ℕ → Bool
+is_quiet b = nat_lt b 128 && (not (b == 42) && (not (b == 47) && not (b == 13)))

@@ -1,14 +1,44 @@
 //! Where comments and docs end.
 
 ghost use Rattle.rust_lex.specs.Comment as comment;
-ghost use Rattle.rust_lex.specs.Ended.{IsEnd, IsScanned};
+ghost use Rattle.rust_lex.specs.Ended.{IsEnd, IsFrom, IsScanned};
 ghost use Rattle.rust_lex.specs.Places.{IsBehind, IsPlace, rest_at};
 ghost use Rattle.rust_lex.specs.Scan as scan;
-ghost use Rattle.std.specs.Prelude.{◌≡◌};
+ghost use Rattle.std.specs.List.{list_all};
+ghost use Rattle.std.specs.Prelude.{◌≡◌, ℕ, Bool};
 
 use crate::piece::{DocKind, PieceKind};
 use crate::walk::{Feed, NotFeed, WithinLine, begins, past};
 use rust_escape::place::char_at;
+
+// So many bytes are looked at together.
+const BLOCK: usize = 16;
+
+// Whether bytes are characters that do nothing within a comment. It looks at all of them, so that many are
+// seen at once.
+fn are_quiet(bytes: &[u8]) -> bool
+    ensures { result ≡ list_all scan.is_quiet bytes.now }
+{
+    let mut quiet = true;
+    for byte in bytes {
+        quiet &= (*byte < 128) & ((*byte != b'*') & ((*byte != b'/') & (*byte != b'\r')));
+    }
+    quiet
+}
+
+// A place behind characters that do nothing within a comment, as long as whole blocks of them stand there.
+fn past_quiet(text: &str, start: usize) -> usize
+    requires { IsPlace text.now start }
+    ensures from { IsFrom text.now start result }
+    ensures same { (doc : Bool) (depth : ℕ) → comment.past_comment doc depth (rest_at text.now result) ≡ comment.past_comment doc depth (rest_at text.now start) }
+{
+    let bytes = text.as_bytes();
+    let mut at = start;
+    while bytes.len() - at >= BLOCK && are_quiet(&bytes[at..at + BLOCK]) {
+        at += BLOCK;
+    }
+    at
+}
 
 // The place behind the end of a comment, its opening having been read.
 #[tactic(auto, using(crate::proofs::Steps::comments))]
@@ -16,7 +46,7 @@ fn comment_end(text: &str, start: usize, doc: bool) -> Option<usize>
     requires { IsPlace text.now start }
     ensures { IsEnd text.now start result (comment.past_comment doc 0 (rest_at text.now start)) }
 {
-    let mut at = start;
+    let mut at = past_quiet(text, start);
     let mut depth = 0usize;
     while at < text.len() {
         let (c, next) = char_at(text, at);
@@ -33,14 +63,14 @@ fn comment_end(text: &str, start: usize, doc: bool) -> Option<usize>
                 return Some(after);
             }
             depth -= 1;
-            at = after;
+            at = past_quiet(text, after);
         } else if (c == '/') & (d == '*') {
             depth += 1;
-            at = after;
+            at = past_quiet(text, after);
         } else if doc & ((c == '\r') & (d != '\n')) {
             return None;
         } else {
-            at = next;
+            at = past_quiet(text, next);
         }
     }
     None
