@@ -1,12 +1,11 @@
 -- Tokens that are printed as characters.
 use Rattle.std.proofs.Common.{◌≡◌, ℕ, List, [], ◌∷◌, ◌++◌, refl, sym, subst}
-use Rattle.std.specs.Prelude.{Bool, true, false, ◌||◌, ◌==◌, String}
+use Rattle.std.specs.Prelude.{Bool, true, false, ◌||◌, ◌==◌}
 use Rattle.std.specs.List.{flat_map, list_any}
 use Rattle.std.proofs.lemmas.Bool.{and_from, and_parts, eqb-true}
 use Rattle.std.proofs.lemmas.List.{append-nil}
-use Rattle.std.proofs.lemmas.Str.{IsUtf8-string_bytes, scalars-chars}
 use lib.Utf8.{scalar, scalars}
-use Rattle.rust_leaf.specs.Leaf.{AreCharacters, text_of}
+use Rattle.rust_leaf.specs.Leaf.{AreCharacters}
 use Rattle.rust_leaf.specs.Mark.{is_mark, marks}
 use Rattle.proc_macro2.specs.declared.delimiter.Delimiter.TheVariants as delimiter
 use Rattle.proc_macro2.specs.Token.{Delimiter, Token}
@@ -27,10 +26,6 @@ characters_back (c ∷ cs) ds a = characters_back cs ds (and_parts (scalar c) (s
 -- a text of one token
 pub characters_one : (cs : List ℕ) → AreCharacters cs → AreCharacters (cs ++ [])
 characters_one cs a = subst AreCharacters (sym (append-nil cs)) a
-
--- the characters of a string
-pub string_characters : {A : Type 0} (s : String A) → AreCharacters (text_of s)
-string_characters s = scalars-chars _ (IsUtf8-string_bytes s)
 
 pub opening_characters : (d : Delimiter) → AreCharacters (opening d)
 opening_characters delimiter.Parenthesis = refl

@@ -4,14 +4,16 @@ use Rattle.std.specs.Bool.{Decides}
 use Rattle.std.specs.Char.{is_ascii}
 use Rattle.std.specs.List.{list_all}
 use Rattle.std.specs.Prelude.{String, string_bytes}
-use Rattle.rust_leaf.specs.Leaf.{text_of}
+use Rattle.rust_leaf.specs.Leaf.{AreCharacters, ident_text, literal_text, text_of}
+use Rattle.rust_leaf.specs.declared.ident.Ident.{Ident}
+use Rattle.rust_leaf.specs.declared.literal.Literal.{Literal}
 use Rattle.rust_leaf.specs.LeafText.{leaf_bytes}
 use Rattle.rust_leaf.specs.declared.leaf_text.LeafText.{LeafText}
 use Rattle.std.specs.Str.{chars, encode_utf8_all, IsUtf8, IsAscii, bytes_eq}
 use Rattle.std.proofs.lemmas.Bool.{ltb-true, and_parts}
 use Rattle.std.proofs.lemmas.Bool.Decides.{nat_tests}
 use Rattle.std.proofs.lemmas.Slice.Eq.{bytes_eq-Decides}
-use Rattle.std.proofs.lemmas.Str.{IsUtf8-string_bytes, chars-nil, encodes-chars, encodes-IsAscii, chars-IsAscii, chars-append, IsUtf8-from_ascii}
+use Rattle.std.proofs.lemmas.Str.{IsUtf8-string_bytes, scalars-chars, chars-nil, encodes-chars, encodes-IsAscii, chars-IsAscii, chars-append, IsUtf8-from_ascii}
 use Rattle.std.proofs.lemmas.Str.Ascii.{IsAscii-nil, IsAscii-cons}
 
 -- two texts of the same characters are the same bytes
@@ -61,3 +63,10 @@ printed_text s = encodes-chars (string_bytes s) (IsUtf8-string_bytes s)
 -- and so does the text of a leaf
 pub printed_leaf : (t : LeafText) → encode_utf8_all (chars (leaf_bytes t)) ≡ leaf_bytes t
 printed_leaf t = printed_text t.text
+
+-- what a leaf prints are characters
+pub ident_characters : (i : Ident) → AreCharacters (ident_text i)
+ident_characters i = scalars-chars (leaf_bytes i.text) (IsUtf8-string_bytes i.text.text)
+
+pub literal_characters : (l : Literal) → AreCharacters (literal_text l)
+literal_characters l = scalars-chars (leaf_bytes l.text) (IsUtf8-string_bytes l.text.text)
