@@ -2,7 +2,7 @@
 
 ghost use Rattle.proc_macro2.specs.Spacing.{IsWellSpaced};
 ghost use Rattle.proc_macro2.specs.Token.{Token};
-ghost use Rattle.std.specs.Prelude.{◌≡◌, ◌⊎◌, List, ◌++◌};
+ghost use Rattle.std.specs.Prelude.{◌≡◌, ◌≤◌, ◌⊎◌, ℕ, false, nat_le, List, ◌++◌};
 ghost use Rattle.syn_grammar.specs.Calm.{RawsEndApart};
 ghost use Rattle.syn_grammar.specs.Derives.{Derives};
 ghost use Rattle.syn_grammar.specs.Gram.{Gram, ref};
@@ -11,6 +11,9 @@ ghost use Rattle.syn_grammar.specs.Kept.{kept};
 ghost use Rattle.syn_grammar.specs.Names.{AllStand, names};
 ghost use Rattle.syn_grammar.specs.Kind.{Kind};
 ghost use Rattle.syn_grammar.specs.Normal.{normal};
+ghost use Rattle.syn_grammar.specs.Forms.{within};
+ghost use Rattle.syn_grammar.specs.Parens.{is_ended, is_struct};
+ghost use Rattle.syn_grammar.specs.Shape.{ended_by_shape, least, lowest};
 ghost use Rattle.syn_grammar.specs.Read.{IsDerived, IsRead, NoneRead};
 ghost use Rattle.syn_grammar.specs.Run.{Got, Refused, kind, reads};
 ghost use Rattle.syn_grammar.specs.Tree.{Tree, flat};
@@ -58,4 +61,11 @@ pub fn names_stand()
 pub fn kept_normal()
     ensures twice { (x : Tree) → kept (kept x) ≡ kept x }
     ensures normal { (x : Tree) → kept (normal (kept x)) ≡ normal (kept x) }
+{}
+
+/// What one keeps who writes an expression in one pass decides its parentheses: whether an operator takes the forms on the
+/// left edge of its right operand, and whether an operand is ended before a form.
+pub fn shapes()
+    ensures right { (n : ℕ) (x : Tree) → lowest n ≤ 17 → within n x ≡ nat_le (lowest n) (least x) }
+    ensures left { (k : Kind) (ts : List Token) (x : Tree) → is_struct k ≡ false → is_ended k ts x ≡ ended_by_shape k ts x }
 {}
