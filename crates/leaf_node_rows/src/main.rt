@@ -1,0 +1,113 @@
+//! Answers a table of literals by the calls of `syn_leaf`: which literal a text is, and the number that an integer
+//! writes. What is wanted comes from the rules, and stands beside the questions in `stdout`.
+#![tactic(auto)]
+
+use anyhow::{Result, anyhow};
+use proc_macro2::tree::TokenStream;
+use rows::{Row, Table, answered};
+use rust_leaf::literal::Literal;
+use rust_map::source_map::SourceMap;
+use rust_map::span::Span;
+use std::alloc::Global;
+use std::io::{Read, Write};
+use syn_error::ToTokens;
+use syn_leaf::{Index, Lit, LitBool, Member};
+use try_clone::TryClone;
+
+struct Calls;
+
+impl Table for Calls {
+    fn answer(&self, alloc: Global, row: &Row) -> Result<String> {
+        let text = row.text.as_str();
+        match row.call {
+            "new" => kind(alloc, text),
+            "value" => value(alloc, text),
+            "equal" => equal(alloc, text),
+            "tokens" => tokens(alloc, text),
+            "index" => index(alloc, text),
+            _ => Err(anyhow!("no such call")),
+        }
+    }
+}
+
+// The literal of a text.
+fn literal(alloc: Global, text: &str) -> Result<Lit> {
+    let mut map = SourceMap::new(alloc);
+    match Literal::from_str(alloc, text, &mut map) {
+        Ok(token) => Ok(Lit::new(token)),
+        Err(_) => Err(anyhow!("no literal")),
+    }
+}
+
+// Which literal a text is.
+fn kind(alloc: Global, text: &str) -> Result<String> {
+    let name = match literal(alloc, text)? {
+        Lit::Str(_) => "Str",
+        Lit::ByteStr(_) => "ByteStr",
+        Lit::CStr(_) => "CStr",
+        Lit::Byte(_) => "Byte",
+        Lit::Char(_) => "Char",
+        Lit::Int(_) => "Int",
+        Lit::Float(_) => "Float",
+        Lit::Bool(_) => "Bool",
+        Lit::Verbatim(_) => "Verbatim",
+    };
+    Ok(String::from_str(alloc, name)?)
+}
+
+// The number that an integer writes.
+fn value(alloc: Global, text: &str) -> Result<String> {
+    match literal(alloc, text)? {
+        Lit::Int(literal) => match literal.value() {
+            Some(value) => Ok(format!(in alloc; "{value}")?),
+            None => Ok(String::from_str(alloc, "none")?),
+        },
+        _ => Err(anyhow!("no integer")),
+    }
+}
+
+// Whether two literals, one space apart, are equal, and a copy is equal to the first.
+fn equal(alloc: Global, text: &str) -> Result<String> {
+    let Some((first, second)) = text.split_once(' ') else {
+        return Err(anyhow!("not two"));
+    };
+    let first = literal(alloc, first)?;
+    let second = literal(alloc, second)?;
+    let copy = first.try_clone()?;
+    let same = first == second;
+    let copied = first == copy;
+    Ok(format!(in alloc; "{same}, copy {copied}")?)
+}
+
+// What is printed for a literal, or for true and false.
+fn tokens(alloc: Global, text: &str) -> Result<String> {
+    let lit = match text {
+        "true" => Lit::from(LitBool::new(true, Span::call_site())),
+        "false" => Lit::from(LitBool::new(false, Span::call_site())),
+        _ => literal(alloc, text)?,
+    };
+    let stream = lit.to_token_stream(alloc)?;
+    Ok(stream.to_string(alloc)?)
+}
+
+// What is printed for the index that an integer writes, and for the member of that number.
+fn index(alloc: Global, text: &str) -> Result<String> {
+    let Lit::Int(literal) = literal(alloc, text)? else {
+        return Err(anyhow!("no integer"));
+    };
+    let Some(Ok(number)) = literal.value().map(|value| u32::try_from(value)) else {
+        return Err(anyhow!("no index"));
+    };
+    let mut stream = Index::from(number).to_token_stream(alloc)?;
+    Member::from(number).to_tokens(&mut stream)?;
+    Ok(stream.to_string(alloc)?)
+}
+
+fn main(rt: HostRuntime) -> Result<()> {
+    let alloc = rt.alloc();
+    let mut lines = String::new(alloc);
+    rt.reader().read_to_string(&mut lines)?;
+    let out = answered(alloc, &Calls, lines.as_str())?;
+    rt.stdout().write_all(out.as_str().as_bytes())?;
+    Ok(())
+}
