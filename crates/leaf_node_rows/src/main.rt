@@ -4,7 +4,7 @@
 
 use anyhow::{Result, anyhow};
 use proc_macro2::tree::TokenStream;
-use rows::{Row, Table, answered};
+use rows::{Row, Table, answered, write};
 use rust_leaf::literal::Literal;
 use rust_map::source_map::SourceMap;
 use rust_map::span::Span;
@@ -22,6 +22,7 @@ impl Table for Calls {
         match row.call {
             "new" => kind(alloc, text),
             "value" => value(alloc, text),
+            "suffix" => suffix(alloc, text),
             "equal" => equal(alloc, text),
             "tokens" => tokens(alloc, text),
             "index" => index(alloc, text),
@@ -62,6 +63,14 @@ fn value(alloc: Global, text: &str) -> Result<String> {
             Some(value) => Ok(format!(in alloc; "{value}")?),
             None => Ok(String::from_str(alloc, "none")?),
         },
+        _ => Err(anyhow!("no integer")),
+    }
+}
+
+// The suffix of an integer.
+fn suffix(alloc: Global, text: &str) -> Result<String> {
+    match literal(alloc, text)? {
+        Lit::Int(literal) => write(alloc, literal.suffix()),
         _ => Err(anyhow!("no integer")),
     }
 }

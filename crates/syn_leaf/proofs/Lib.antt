@@ -2,3 +2,4 @@ pub mod Indices
 pub mod Texts
 pub mod OfClass
 pub mod Digits
+pub mod Passed

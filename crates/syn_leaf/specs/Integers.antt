@@ -1,7 +1,8 @@
 -- The numbers that integer literals write.
 use Rattle.std.specs.Prelude.{ℕ, ◌+◌, ◌*◌, ◌==◌, List, [], ◌∷◌, drop, if◌then◌else◌}
 use Rattle.std.specs.Char.{digit_value}
-use Rattle.rust_lex.specs.Number.{base_of, is_digit_of}
+use Rattle.rust_lex.specs.Chars.{past}
+use Rattle.rust_lex.specs.Number.{base_of, is_digit_of, is_digit_of_or_line}
 
 -- the base: 16, 8 or 2 behind 0x, 0o or 0b, else 10
 abbrev pub int_base : List ℕ → ℕ
@@ -21,3 +22,7 @@ number_from base n (c ∷ cs) =
 -- the number that the digits of an integer literal write in their base; its suffix says nothing
 unfoldable pub int_value : List ℕ → ℕ
 int_value cs = number_from (int_base cs) 0 (int_digits cs)
+
+-- its suffix, or nothing: what stands behind its digits and underscores
+unfoldable pub int_suffix : List ℕ → List ℕ
+int_suffix cs = past (is_digit_of_or_line (int_base cs)) (int_digits cs)

@@ -1,10 +1,11 @@
 //! The numbers that integer literals write.
 
 ghost use Rattle.rust_leaf.specs.Leaf.{literal_text};
-ghost use Rattle.rust_lex.specs.Number.{base_by};
+ghost use Rattle.rust_lex.specs.Chars.{past};
+ghost use Rattle.rust_lex.specs.Number.{base_by, is_digit_of_or_line};
 ghost use Rattle.std.specs.Prelude.{◌*◌, ◌+◌, ◌<◌, ◌^◌, ◌≡◌, ◌≤◌, ◌∷◌, ℕ, List, MatchOption};
 ghost use Rattle.std.specs.Str.{chars};
-ghost use Rattle.syn_leaf.specs.Integers.{int_base, int_digits, int_value, number_from};
+ghost use Rattle.syn_leaf.specs.Integers.{int_base, int_digits, int_suffix, int_value, number_from};
 
 use crate::classes::IsInt;
 use crate::literal::LitToken;
@@ -75,7 +76,24 @@ fn split(text: &str) -> (u32, &str)
     (base, rest.as_str())
 }
 
-#[tactic(auto, unfolding(crate::specs::Integers::int_value))]
+// What stands behind digits and underscores.
+fn behind_digits(digits: &str, base: u32) -> &str
+    requires low { 2 ≤ base }
+    requires high { base ≤ 16 }
+    ensures { chars result.now ≡ past (is_digit_of_or_line base) (chars digits.now) }
+{
+    let mut left = digits;
+    let mut rest = digits.chars();
+    while let Some(c) = rest.next() {
+        if !(c.is_digit(base) | (c == '_')) {
+            return left;
+        }
+        left = rest.as_str();
+    }
+    left
+}
+
+#[tactic(auto, unfolding(crate::specs::Integers::int_value, crate::specs::Integers::int_suffix))]
 impl LitToken<IsInt> {
     /// The number that its digits write in their base: 16, 8 or 2 behind `0x`, `0o` or `0b`, else 10. None: it is
     /// past the largest `u128`. The suffix says nothing.
@@ -84,5 +102,13 @@ impl LitToken<IsInt> {
     {
         let (base, digits) = split(self.token().as_str());
         number(digits, base)
+    }
+
+    /// Its suffix, as `u8`, or nothing: what stands behind its digits.
+    pub fn suffix(&self) -> &str
+        ensures { chars result.now ≡ int_suffix (literal_text self.now.token) }
+    {
+        let (base, digits) = split(self.token().as_str());
+        behind_digits(digits, base)
     }
 }

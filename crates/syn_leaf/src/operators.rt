@@ -1,9 +1,8 @@
 //! Operators.
 
-ghost use Rattle.std.proofs.Common.{rules};
+ghost use Rattle.std.proofs.Common.{ap};
 ghost use Rattle.std.specs.Cmp.{on_equiv, on_per, partial_equiv_from_equiv};
-ghost use Rattle.std.specs.Cmp.Lexicographic.{nat_list_eq_equiv};
-ghost use Rattle.std.specs.Cmp.Rules.{hashing};
+ghost use Rattle.std.specs.Cmp.Lexicographic.{bytes_decides, nat_list_eq_equiv};
 ghost use Rattle.std.specs.Hash as fed;
 ghost use Rattle.std.specs.Prelude.{◌++◌, ◌≡◌};
 ghost use Rattle.std.specs.Str.{bytes_eq};
@@ -135,7 +134,7 @@ impl Eq for BinOp {
 impl Hash for BinOp {
     ghost hash_input = { λ op. fed.str (bin_op_text op) };
 
-    ghost respects_eq = { Prim.search (hashing, rules) };
+    ghost respects_eq = { λ a b h. ap fed.str ((bytes_decides (bin_op_text a) (bin_op_text b)).0 h) };
 
     fn hash<H: Hasher>(&self, state: &mut H) {
         self.text().hash(state);
@@ -236,7 +235,7 @@ impl Eq for UnOp {
 impl Hash for UnOp {
     ghost hash_input = { λ op. fed.str (un_op_text op) };
 
-    ghost respects_eq = { Prim.search (hashing, rules) };
+    ghost respects_eq = { λ a b h. ap fed.str ((bytes_decides (un_op_text a) (un_op_text b)).0 h) };
 
     fn hash<H: Hasher>(&self, state: &mut H) {
         self.text().hash(state);
@@ -309,7 +308,7 @@ impl Eq for RangeLimits {
 impl Hash for RangeLimits {
     ghost hash_input = { λ op. fed.str (range_limits_text op) };
 
-    ghost respects_eq = { Prim.search (hashing, rules) };
+    ghost respects_eq = { λ a b h. ap fed.str ((bytes_decides (range_limits_text a) (range_limits_text b)).0 h) };
 
     fn hash<H: Hasher>(&self, state: &mut H) {
         self.text().hash(state);
