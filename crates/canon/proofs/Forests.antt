@@ -13,11 +13,14 @@ use Rattle.lex_laws.proofs.Plain.{one_reading}
 use Rattle.canon.proofs.Places.{AreBehind, tokens_behind}
 
 -- the tokens of a text do not depend on where its characters stand
-pub same_tokens : (a b : ℕ) (text : List ℕ) (ss ts : List Spanned) → IsForest a text ss → IsForest b text ts → plain ss ≡ plain ts
-same_tokens a b text ss ts f g = one_reading text (plain ss) (plain ts) (forest_read a text ss f) (forest_read b text ts g)
+pub same_tokens : (a b : ℕ) (text : List ℕ) (ss ts : List Spanned) → IsForest a text ss → IsForest b text ts →
+    plain ss ≡ plain ts
+same_tokens a b text ss ts f g = one_reading text (plain ss) (plain ts) (forest_read a text ss f)
+    (forest_read b text ts g)
 
 -- a text that has a forest has it also where its characters stand elsewhere
-pub elsewhere : (a b : ℕ) (text : List ℕ) (ss : List Spanned) → IsForest a text ss → (ts : List Spanned) × IsForest b text ts
+pub elsewhere : (a b : ℕ) (text : List ℕ) (ss : List Spanned) → IsForest a text ss → (ts : List Spanned) ×
+    IsForest b text ts
 elsewhere a b text ss f =
     ⊎_elim
     (λ found. found)
@@ -25,9 +28,13 @@ elsewhere a b text ss f =
     (forest_or_fault b text)
 
 -- its tokens begin as far behind those of positions from 0 on
-pub forest_behind : (base : ℕ) (text : List ℕ) (ss ts : List Spanned) → IsForest base text ss → IsForest 0 text ts → AreBehind base (map edged ss) (map edged ts)
+pub forest_behind : (base : ℕ) (text : List ℕ) (ss ts : List Spanned) → IsForest base text ss → IsForest 0 text ts →
+    AreBehind base (map edged ss) (map edged ts)
 forest_behind base text ss ts f g =
     let same : f.pieces ≡ g.pieces = one_cover text f.pieces g.pieces f.cover g.cover in
-    let behind : AreBehind base (tokens_onto base f.pieces []) (tokens_onto 0 f.pieces []) = tokens_behind base base 0 f.pieces [] (omega arith) in
-    let first : AreBehind base (map edged ss) (tokens_onto 0 f.pieces []) = subst (λ xs. AreBehind base xs (tokens_onto 0 f.pieces [])) (forest_tokens base text ss f) behind in
-    subst (λ ys. AreBehind base (map edged ss) ys) (ap (λ (ps : List Piece). tokens_onto 0 ps []) same ∙ forest_tokens 0 text ts g) first
+    let behind : AreBehind base (tokens_onto base f.pieces [])
+    (tokens_onto 0 f.pieces []) = tokens_behind base base 0 f.pieces [] (omega arith) in
+    let first : AreBehind base (map edged ss) (tokens_onto 0 f.pieces []) = subst
+    (λ xs. AreBehind base xs (tokens_onto 0 f.pieces [])) (forest_tokens base text ss f) behind in
+    subst (λ ys. AreBehind base (map edged ss) ys) (ap (λ (ps : List Piece). tokens_onto 0 ps []) same
+    ∙ forest_tokens 0 text ts g) first

@@ -26,10 +26,12 @@ one_program text t u p q =
     (subst (λ (ts : List Token). file.IsFile ts u) (same_tokens 0 0 text q.tokens p.tokens q.forest p.forest) q.file)
 
 -- a program is in normal form, so its output is the text of its tokens
-pub written_tokens : (text : List ℕ) (t : Tree) → AreCharacters text → (p : IsProgram text t) → written t ≡ printed.text (plain p.tokens)
+pub written_tokens : (text : List ℕ) (t : Tree) → AreCharacters text → (p : IsProgram text t) →
+    written t ≡ printed.text (plain p.tokens)
 written_tokens text t a p =
     let spaced = forest_spaced 0 text p.tokens a p.forest in
-    ap (λ (x : Tree). printed.text (flat x)) (files.settled (plain p.tokens) t p.file spaced.1) ∙ ap printed.text p.file.spelled
+    ap (λ (x : Tree). printed.text (flat x)) (files.settled (plain p.tokens) t p.file spaced.1)
+    ∙ ap printed.text p.file.spelled
 
 -- the output has the same program
 pub read_again : (text : List ℕ) (t : Tree) → AreCharacters text → IsProgram text t → IsProgram (written t) t
@@ -43,7 +45,8 @@ read_again text t a p =
 pub read_normal : (text : List ℕ) (t : Tree) → AreCharacters text → IsProgram text t → IsProgram (written t) (normal t)
 read_normal text t a p =
     let spaced = forest_spaced 0 text p.tokens a p.forest in
-    subst (λ (x : Tree). IsProgram (written t) x) (sym (files.settled (plain p.tokens) t p.file spaced.1)) (read_again text t a p)
+    subst (λ (x : Tree). IsProgram (written t) x) (sym (files.settled (plain p.tokens) t p.file spaced.1))
+    (read_again text t a p)
 
 pub normal_spaced : (text : List ℕ) (t : Tree) → AreCharacters text → IsProgram text t → IsWellSpaced (flat (normal t))
 normal_spaced text t a p =
@@ -58,25 +61,39 @@ fixed text output a o = record {
 }
 
 -- programs with one output are the same
-pub one_form : (a b : List ℕ) (t u : Tree) → AreCharacters a → AreCharacters b → IsProgram a t → IsProgram b u → written t ≡ written u → normal t ≡ normal u
-one_form a b t u c d p q e = ap normal (one_program (written u) t u (subst (λ (cs : List ℕ). IsProgram cs t) e (read_again a t c p)) (read_again b u d q))
+pub one_form : (a b : List ℕ) (t u : Tree) → AreCharacters a → AreCharacters b → IsProgram a t → IsProgram b u →
+    written t ≡ written u → normal t ≡ normal u
+one_form a b t u c d p q e = ap normal (one_program (written u) t u
+    (subst (λ (cs : List ℕ). IsProgram cs t) e (read_again a t c p)) (read_again b u d q))
 
 pub lexical_fault : (text : List ℕ) (place : LineColumn) (t : Tree) → IsLexicalFault text place → IsProgram text t → ⊥
 lexical_fault text place t f p = no_forest 0 text place p.tokens f p.forest
 
-pub syntax_fault : (text : List ℕ) (place : Option LineColumn) (t : Tree) → IsSyntaxFault text place → IsProgram text t → ⊥
+pub syntax_fault : (text : List ℕ) (place : Option LineColumn) (t : Tree) → IsSyntaxFault text place →
+    IsProgram text t → ⊥
 syntax_fault text place t f p =
-    f.fault.none t (subst (λ (ts : List Token). file.IsFile ts t) (same_tokens 0 0 text p.tokens f.tokens p.forest f.forest) p.file)
+    f.fault.none t (subst (λ (ts : List Token). file.IsFile ts t)
+    (same_tokens 0 0 text p.tokens f.tokens p.forest f.forest) p.file)
 
 abbrev pub IsAnswered : List ℕ → Type 0
 IsAnswered text =
-    ((t : Tree) × IsProgram text t) ⊎ ((place : LineColumn) × IsLexicalFault text place) ⊎ ((place : Option LineColumn) × IsSyntaxFault text place)
+    ((t : Tree) × IsProgram text t) ⊎ ((place : LineColumn) × IsLexicalFault text place) ⊎
+    ((place : Option LineColumn) × IsSyntaxFault text place)
 
 forest_answered : (text : List ℕ) (tokens : List Spanned) → IsForest 0 text tokens → IsAnswered text
 forest_answered text tokens f =
     ⊎_elim
     (λ (t, g). inl (t, record { tokens = tokens; forest = f; file = g }))
-    (λ (index, g). inr (inr (token_place text tokens index, record { tokens = tokens; forest = f; index = index; fault = g; there = refl })))
+    (λ (index, g). inr (inr (
+      token_place text tokens index,
+      record {
+        tokens = tokens;
+        forest = f;
+        index = index;
+        fault = g;
+        there = refl;
+      },
+    )))
     (file_or_fault (plain tokens))
 
 pub program_or_fault : (text : List ℕ) → IsAnswered text

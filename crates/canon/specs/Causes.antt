@@ -33,7 +33,8 @@ IsHeld map e = IsTrue (is_held map (edged (spanned_entry e)).span)
 
 -- where the map has a token, by its index
 abbrev pub held_place : Sources → List Spanned → Option ℕ → Option LineColumn
-held_place map tokens index = option_map (λ s. start_place map (edged s).span) (option_and_then (slice_get tokens) index)
+held_place map tokens index = option_map (λ s. start_place map (edged s).span)
+    (option_and_then (slice_get tokens) index)
 
 -- of tokens that the map holds
 abbrev pub parse_fault : Sources → List Spanned → ParseFault → Fault

@@ -74,7 +74,8 @@ pub fn status(outcome: &Result<(), Fault>) -> u8
 /// Writes the line that the program says of a fault, with `canon: ` in front and a line feed
 /// behind. The error is the writer's own.
 pub fn write_fault<W: Write>(fault: &Fault, writer: &mut W) -> io::Result<()>
-    ensures { OnOk result (Appends (W.contents writer.old) (W.contents writer.new) (codes "canon: " ++ message fault.now ++ 10 ∷ [])) }
+    ensures { OnOk result (Appends (W.contents writer.old) (W.contents writer.new)
+        (codes "canon: " ++ message fault.now ++ 10 ∷ [])) }
 {
     writeln!(writer, "canon: {fault}")
 }

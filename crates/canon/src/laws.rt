@@ -38,8 +38,10 @@ pub fn one_output_for_one_form()
 
 /// A text that is at fault has no program.
 pub fn faults_have_no_program()
-    ensures lexical { (text : List ℕ) (place : LineColumn) (t : Tree) → IsLexicalFault text place → IsProgram text t → ⊥ }
-    ensures syntax { (text : List ℕ) (place : Option LineColumn) (t : Tree) → IsSyntaxFault text place → IsProgram text t → ⊥ }
+    ensures lexical { (text : List ℕ) (place : LineColumn) (t : Tree) → IsLexicalFault text place → IsProgram text t →
+        ⊥ }
+    ensures syntax { (text : List ℕ) (place : Option LineColumn) (t : Tree) → IsSyntaxFault text place →
+        IsProgram text t → ⊥ }
 {}
 
 /// Each text has a program, a lexical fault or a syntax fault.

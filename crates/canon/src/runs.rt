@@ -3,7 +3,8 @@
 ghost use Rattle.canon.specs.Run.{IsPage, IsRunFault, WritesFront, WritesPage, limit};
 ghost use Rattle.canon_io.specs.Bytes.{ConsumesAtMost};
 ghost use Rattle.canon_io.specs.Watched.{has_failed, inner_of, is_flushed};
-ghost use Rattle.std.specs.Prelude.{◌≡◌, ◌+◌, ◌≤◌, ◌↔◌, Err, IfErr, IfOk, IfSome, IsTrue, OnOk, false, length, string_bytes};
+ghost use Rattle.std.specs.Prelude.{◌≡◌, ◌+◌, ◌≤◌, ◌↔◌, Err, IfErr, IfOk, IfSome, IsTrue, OnOk, false, length};
+ghost use Rattle.std.specs.Prelude.{string_bytes};
 
 use crate::fault::Fault;
 use crate::form::canonical;
@@ -48,7 +49,8 @@ pub fn run<R: Read, W: Write>(
     // The streams are at fault exactly where they failed.
     ensures reading { IsTrue (has_failed reader.new) ↔ (result ≡ Err Fault.Reading) }
     ensures writing { IsTrue (has_failed writer.new) ↔ (result ≡ Err Fault.Writing) }
-    ensures at_most { ConsumesAtMost (R.remaining (inner_of reader.old)) (R.remaining (inner_of reader.new)) (limit + 1) }
+    ensures at_most { ConsumesAtMost (R.remaining (inner_of reader.old)) (R.remaining (inner_of reader.new))
+        (limit + 1) }
 
     // The last call of the writer was a flush that went well.
     ensures flushed { OnOk result (IsTrue (is_flushed writer.new)) }
@@ -62,11 +64,13 @@ pub fn run<R: Read, W: Write>(
 // The canonical form of all that the reader has, and a line feed.
 fn page_of<R: Read>(alloc: Global, reader: &mut Watched<R>) -> Result<String, Fault>
     requires { has_failed reader.old ≡ false }
-    ensures page { IfOk result (λ page. IfSome (R.remaining (inner_of reader.old)) (λ bytes. IsPage bytes (string_bytes page))) }
+    ensures page { IfOk result (λ page. IfSome (R.remaining (inner_of reader.old))
+        (λ bytes. IsPage bytes (string_bytes page))) }
     ensures fault { IfErr result (λ f. IfSome (R.remaining (inner_of reader.old)) (λ bytes. IsRunFault bytes f)) }
     ensures reading { IsTrue (has_failed reader.new) ↔ (result ≡ Err Fault.Reading) }
     ensures writing { result ≡ Err Fault.Writing → ⊥ }
-    ensures at_most { ConsumesAtMost (R.remaining (inner_of reader.old)) (R.remaining (inner_of reader.new)) (limit + 1) }
+    ensures at_most { ConsumesAtMost (R.remaining (inner_of reader.old)) (R.remaining (inner_of reader.new))
+        (limit + 1) }
 {
     let bytes = read_within(alloc, LIMIT, reader)?;
     page_of_bytes(alloc, bytes.as_slice())

@@ -12,6 +12,7 @@ retries_left (Sound interrupted) = (1000 - interrupted) + 1
 retries_left Failed = 0
 
 -- a write that took some byte is no failure
-pub failed-after_taken : (watch : Watch) (count : ℕ) (bytes : List ℕ) → failed watch ≡ false → 0 < count → failed (after watch (write_answer (Ok count) bytes)) ≡ false
+pub failed-after_taken : (watch : Watch) (count : ℕ) (bytes : List ℕ) → failed watch ≡ false → 0 < count →
+    failed (after watch (write_answer (Ok count) bytes)) ≡ false
 failed-after_taken (Sound n) count bytes sound some = grind (arith, common_steps)
 failed-after_taken Failed count bytes sound some = absurd (cc)

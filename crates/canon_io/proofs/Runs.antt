@@ -1,5 +1,6 @@
 -- What a watch says behind a whole run of calls.
-use Rattle.std.proofs.Common.{◌≡◌, ℕ, zero, suc, ◌+◌, ◌<◌, ◌≤◌, inl, inr, true, List, [], ◌∷◌, ◌++◌, IsTrue, replicate, refl, sym, ap, ◌∙◌, subst, arith, append_assoc, add-zero, zero-add, lit<, lit≤}
+use Rattle.std.proofs.Common.{◌≡◌, ℕ, zero, suc, ◌+◌, ◌<◌, ◌≤◌, inl, inr, true, List, [], ◌∷◌, ◌++◌, IsTrue, replicate}
+use Rattle.std.proofs.Common.{refl, sym, ap, ◌∙◌, subst, arith, append_assoc, add-zero, zero-add, lit<, lit≤}
 use Rattle.std.proofs.lemmas.Bool.{cases_lt}
 use Rattle.std.proofs.lemmas.List.{replicate_more}
 use Rattle.std.proofs.lemmas.Grind.{common_steps}
@@ -15,7 +16,8 @@ pub after_all-Failed : (answers : List Answer) → after_all Failed answers ≡ 
 after_all-Failed [] = refl
 after_all-Failed (answer ∷ answers) = after_all-Failed answers
 
-pub after_all-append : (watch : Watch) (front back : List Answer) → after_all watch (front ++ back) ≡ after_all (after_all watch front) back
+pub after_all-append : (watch : Watch) (front back : List Answer) →
+    after_all watch (front ++ back) ≡ after_all (after_all watch front) back
 after_all-append watch [] back = refl
 after_all-append watch (answer ∷ front) back = after_all-append (after watch answer) front back
 
@@ -32,7 +34,8 @@ after_all-counted n (suc k) below =
     let next : n + 1 < 1000 = omega arith in
     let rest : (n + 1) + k < 1000 = omega arith in
     let same : (n + 1) + k ≡ n + suc k = omega arith in
-    ap (λ w. after_all w (replicate k Interruption)) (after-counted n next) ∙ after_all-counted (n + 1) k rest ∙ ap Sound same
+    ap (λ w. after_all w (replicate k Interruption)) (after-counted n next) ∙ after_all-counted (n + 1) k rest
+    ∙ ap Sound same
 
 pub after_all-fresh : (k : ℕ) → k < 1000 → after_all fresh (replicate k Interruption) ≡ Sound k
 after_all-fresh k below = rw zero-add at (after_all-counted 0 k (rw zero-add below))
@@ -51,7 +54,8 @@ after_all-full n (suc k) full some =
     ]
 
 pub after_all-limit : (watch : Watch) (k : ℕ) → 1000 ≤ k → after_all watch (replicate k Interruption) ≡ Failed
-after_all-limit (Sound n) k full = let n_full : 1000 ≤ n + k = omega arith in let some : 0 < k = omega arith in after_all-full n k n_full some
+after_all-limit (Sound n) k full = let n_full : 1000 ≤ n + k =
+    omega arith in let some : 0 < k = omega arith in after_all-full n k n_full some
 after_all-limit Failed k full = after_all-Failed (replicate k Interruption)
 
 -- ---- a failed run is seen
@@ -68,7 +72,8 @@ seen_failure watch answers (front, back, split) =
     ap (λ l. failed (after_all watch l)) split ∙ ap failed (after_all-append watch front (Failure ∷ back))
     ∙ failed-behind (after (after_all watch front) Failure) back (after-Failure (after_all watch front))
 
-seen_interruptions : (watch : Watch) (k : ℕ) (front back : List Answer) → 1000 ≤ k → failed (after_all watch (front ++ (replicate k Interruption ++ back))) ≡ true
+seen_interruptions : (watch : Watch) (k : ℕ) (front back : List Answer) → 1000 ≤ k →
+    failed (after_all watch (front ++ (replicate k Interruption ++ back))) ≡ true
 seen_interruptions watch k front back full =
     let many = replicate k Interruption in
     ap failed (after_all-append watch front (many ++ back) ∙ after_all-append (after_all watch front) many back)
@@ -76,7 +81,8 @@ seen_interruptions watch k front back full =
 
 pub failed_run_seen : (answers : List Answer) → IsFailedRun answers → IsTrue (failed (after_all fresh answers))
 failed_run_seen answers (inl failure) = seen_failure fresh answers failure
-failed_run_seen answers (inr (front, back, split)) = ap (λ l. failed (after_all fresh l)) split ∙ seen_interruptions fresh 1000 front back (lit≤ tt)
+failed_run_seen answers (inr (front, back, split)) = ap (λ l. failed (after_all fresh l)) split
+    ∙ seen_interruptions fresh 1000 front back (lit≤ tt)
 
 -- ---- what is said to have failed did
 
@@ -87,19 +93,24 @@ IsFailedRun-behind more answers (inl (front, back, split)) =
 IsFailedRun-behind more answers (inr (front, back, split)) =
     inr (more ++ front, back, ap (λ l. more ++ l) split ∙ sym (append_assoc more front _))
 
-replicate-behind : (n : ℕ) (answers : List Answer) → replicate n Interruption ++ Interruption ∷ answers ≡ replicate (n + 1) Interruption ++ answers
-replicate-behind n answers = sym (append_assoc (replicate n Interruption) (Interruption ∷ []) answers) ∙ ap (λ l. l ++ answers) (replicate_more n Interruption)
+replicate-behind : (n : ℕ) (answers : List Answer) → replicate n Interruption ++ Interruption ∷ answers ≡
+    replicate (n + 1) Interruption ++ answers
+replicate-behind n answers = sym (append_assoc (replicate n Interruption) (Interruption ∷ []) answers)
+    ∙ ap (λ l. l ++ answers) (replicate_more n Interruption)
 
 -- the n interruptions that were counted stand before the answers
-failed_run_said : (n : ℕ) (answers : List Answer) → n < 1000 → failed (after_all (Sound n) answers) ≡ true → IsFailedRun (replicate n Interruption ++ answers)
+failed_run_said : (n : ℕ) (answers : List Answer) → n < 1000 → failed (after_all (Sound n) answers) ≡ true →
+    IsFailedRun (replicate n Interruption ++ answers)
 failed_run_said n [] below failed_is = absurd (cc)
 failed_run_said n (Normal ∷ answers) below failed_is =
     let rest : IsFailedRun answers = failed_run_said 0 answers (lit< tt) failed_is in
-    subst IsFailedRun (append_assoc (replicate n Interruption) (Normal ∷ []) answers) (IsFailedRun-behind (replicate n Interruption ++ Normal ∷ []) answers rest)
+    subst IsFailedRun (append_assoc (replicate n Interruption) (Normal ∷ []) answers)
+    (IsFailedRun-behind (replicate n Interruption ++ Normal ∷ []) answers rest)
 failed_run_said n (Interruption ∷ answers) below failed_is =
     elim (cases_lt (n + 1) 1000) [
       | inl more ↦
-          let rest = failed_run_said (n + 1) answers more (ap (λ w. failed (after_all w answers)) (sym (after-counted n more)) ∙ failed_is) in
+          let rest = failed_run_said (n + 1) answers more (ap (λ w. failed (after_all w answers))
+          (sym (after-counted n more)) ∙ failed_is) in
           subst IsFailedRun (sym (replicate-behind n answers)) rest
       | inr over ↦
           let all : n + 1 ≡ 1000 = omega arith in

@@ -1,5 +1,6 @@
 //! Reads to the end, within a limit.
-ghost use Rattle.std.specs.Prelude.{◌≡◌, ◌↔◌, ◌+◌, ◌^◌, ◌<◌, ◌≤◌, false, take, drop, length, vec_len, is_none, IsTrue, IsErr, IfSome, IfNone, IfOk, OnOk, OnErr};
+ghost use Rattle.std.specs.Prelude.{◌≡◌, ◌↔◌, ◌+◌, ◌^◌, ◌<◌, ◌≤◌, false, take, drop, length, vec_len, is_none, IsTrue};
+ghost use Rattle.std.specs.Prelude.{IsErr, IfSome, IfNone, IfOk, OnOk, OnErr};
 ghost use Rattle.std.specs.Io.KnownBytes.{Consumes, IsAtEnd, Keeps};
 ghost use Rattle.canon_io.specs.Watched.{inner_of, has_failed};
 ghost use Rattle.canon_io.specs.Bytes.{ConsumesAtMost, ConsumesExactly};

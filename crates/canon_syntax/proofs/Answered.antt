@@ -45,7 +45,8 @@ read_whole ts x r e =
 pub file_or_fault : FileOrFault
 file_or_fault ts = go (reads (kind AFile) ts) refl (reads_over all_founded (kind AFile) ts tt)
   where
-    go : (o : Out) → reads (kind AFile) ts ≡ o → IsOver o → ((tree : Tree) × IsFile ts tree) ⊎ ((place : Option ℕ) × IsSyntaxFault ts place)
+    go : (o : Out) → reads (kind AFile) ts ≡ o → IsOver o → ((tree : Tree) × IsFile ts tree) ⊎
+        ((place : Option ℕ) × IsSyntaxFault ts place)
     go Late e i = absurd i
     go (Refused l) e i = inr (place_where (length ts) l, fault_at ts l e)
     go (Got x r) e i = inl (x, read_whole ts x r e)

@@ -24,7 +24,8 @@ use Rattle.canon_syntax.proofs.Keeps.{unspaced, IsBlind, AllBlind, keeps}
 pub one_file : OneTree
 one_file ts x y f g =
     let none : List Token = [] in
-    let e : Got x none ≡ Got y none = one_tree (ref AFile) x y none none f.derived g.derived (ap (λ us. us ++ none) (f.spelled ∙ sym g.spelled)) in
+    let e : Got x none ≡ Got y none = one_tree (ref AFile) x y none none f.derived g.derived
+    (ap (λ us. us ++ none) (f.spelled ∙ sym g.spelled)) in
     cc
 
 pub normal_twice : NormalTwice
@@ -64,7 +65,10 @@ all_blind AStruct = (tt, (tt, tt))
 all_blind AMacro = (tt, (tt, (tt, (tt, tt))))
 
 pub read_back : ReadBack
-read_back ts x f = record { derived = keeps all_blind x (ref AFile) tt [] [] (record { same = refl }) f.derived; spelled = refl }
+read_back ts x f = record {
+  derived = keeps all_blind x (ref AFile) tt [] [] (record { same = refl }) f.derived;
+  spelled = refl;
+}
 
 -- a joint mark may stand before the token
 abbrev is_sign : Token → Bool
@@ -78,7 +82,8 @@ as_mark true x y n e = cc
 as_mark false x y n e = e
 
 -- a mark that no mark and no literal follows stands alone, if it isn't a quote
-alone_before : (c : ℕ) (spacing : Spacing) (ts : List Token) → (c == quote) ≡ false → IsTrue (may_stand (Punct c spacing) ts) → ask (first_is is_sign) ts ≡ false → spacing ≡ Alone
+alone_before : (c : ℕ) (spacing : Spacing) (ts : List Token) → (c == quote) ≡ false →
+    IsTrue (may_stand (Punct c spacing) ts) → ask (first_is is_sign) ts ≡ false → spacing ≡ Alone
 alone_before c Alone ts n m e = refl
 alone_before c Joint [] n m e = let f : false ≡ true = as_mark (c == quote) false false n m in cc f
 alone_before c Joint (Opens d ∷ ts) n m e = let f : false ≡ true = as_mark (c == quote) false false n m in cc f
@@ -93,7 +98,8 @@ spaced_behind (x ∷ xs) ys w = spaced_behind xs ys w.1
 
 -- an entry whose trees are in normal form where they are well spaced, and neither a mark nor a literal follows them
 abbrev AreSettled : Gram → Type 0
-AreSettled g = (x : Tree) (r : List Token) → Derives x g r → IsWellSpaced (flat x ++ r) → ask (first_is is_sign) r ≡ false → normal x ≡ x
+AreSettled g = (x : Tree) (r : List Token) → Derives x g r → IsWellSpaced (flat x ++ r) →
+    ask (first_is is_sign) r ≡ false → normal x ≡ x
 
 -- an entry whose trees are in normal form
 abbrev AreFixed : Gram → Type 0
@@ -118,10 +124,12 @@ fixed_settled : (g : Gram) → AreFixed g → AreSettled g
 fixed_settled g f x r d w e = f x r d
 
 last_settled : (c : ℕ) → (c == quote) ≡ false → AreSettled (last c)
-last_settled c n (Last m spacing) r d w e = ap (Last m) (sym (alone_before m spacing r (ap (λ k. k == quote) d ∙ n) w.0 e))
+last_settled c n (Last m spacing) r d w e = ap (Last m)
+    (sym (alone_before m spacing r (ap (λ k. k == quote) d ∙ n) w.0 e))
 last_settled c n _ r d w e = absurd d
 
-regroup : (x y : Tree) (r : List Token) → IsWellSpaced ((flat x ++ flat y) ++ r) → IsWellSpaced (flat x ++ (flat y ++ r))
+regroup : (x y : Tree) (r : List Token) → IsWellSpaced ((flat x ++ flat y) ++ r) →
+    IsWellSpaced (flat x ++ (flat y ++ r))
 regroup x y r w = subst IsWellSpaced (append_assoc (flat x) (flat y) r) w
 
 -- a sequence whose first is in normal form always
@@ -142,7 +150,8 @@ alt_settled t a b f h (First x) r d w e = ap First (f x r d.1 w e)
 alt_settled t a b f h (Second x) r d w e = ap Second (h x r d.1 w e)
 alt_settled t a b f h _ r d w e = absurd d
 
-alt_tells : (s : List Token → Bool) (c : Bool) (t : List Token → Bool) (a b : Gram) → Tells s c a → Tells s c b → Tells s c (alt t a b)
+alt_tells : (s : List Token → Bool) (c : Bool) (t : List Token → Bool) (a b : Gram) → Tells s c a → Tells s c b →
+    Tells s c (alt t a b)
 alt_tells s c t a b f h (First x) r d = f x r d.1
 alt_tells s c t a b f h (Second x) r d = h x r d.1
 alt_tells s c t a b f h _ r d = absurd d
@@ -151,7 +160,8 @@ ref_settled : (k : Kind) → AreSettled (table k) → AreSettled (ref k)
 ref_settled k f (Node j x) r d w e = ap (Node j) (f x r (subst (λ i. Derives x (table i) r) d.0 d.1) w e)
 ref_settled k f _ r d w e = absurd d
 
-word_calm : (p : Token → Bool) → ((c : ℕ) (spacing : Spacing) → p (Punct c spacing) ≡ false) → ((cs : List ℕ) → p (Literal cs) ≡ false) → (t : Token) → p t ≡ true → is_sign t ≡ false
+word_calm : (p : Token → Bool) → ((c : ℕ) (spacing : Spacing) → p (Punct c spacing) ≡ false) →
+    ((cs : List ℕ) → p (Literal cs) ≡ false) → (t : Token) → p t ≡ true → is_sign t ≡ false
 word_calm p h k (Opens d) e = refl
 word_calm p h k (Closes d) e = refl
 word_calm p h k (Ident cs) e = refl
@@ -162,10 +172,12 @@ abbrev braces : Gram
 braces = seq (one (is_open Brace)) (seq raw (one (is_close Brace)))
 
 braces_fixed : AreFixed braces
-braces_fixed = seq_fixed (one (is_open Brace)) (seq raw (one (is_close Brace))) (one_fixed (is_open Brace)) (seq_fixed raw (one (is_close Brace)) raw_fixed (one_fixed (is_close Brace)))
+braces_fixed = seq_fixed (one (is_open Brace)) (seq raw (one (is_close Brace))) (one_fixed (is_open Brace))
+    (seq_fixed raw (one (is_close Brace)) raw_fixed (one_fixed (is_close Brace)))
 
 braces_calm : Tells (first_is is_sign) false braces
-braces_calm = begins_one (is_open Brace) is_sign false (word_calm (is_open Brace) (λ c s. refl) (λ cs. refl)) (seq raw (one (is_close Brace)))
+braces_calm = begins_one (is_open Brace) is_sign false (word_calm (is_open Brace) (λ c s. refl) (λ cs. refl))
+    (seq raw (one (is_close Brace)))
 
 struct_settled : AreSettled (ref AStruct)
 unfolding table
@@ -181,26 +193,32 @@ macro_settled =
 
 item_settled : AreSettled (ref AnItem)
 unfolding table
-item_settled = ref_settled AnItem (alt_settled (first_is (is_keyword struct_text)) (ref AStruct) (ref AMacro) struct_settled macro_settled)
+item_settled = ref_settled AnItem (alt_settled (first_is (is_keyword struct_text)) (ref AStruct)
+    (ref AMacro) struct_settled macro_settled)
 
 item_calm : Tells (first_is is_sign) false (ref AnItem)
 unfolding table
 item_calm =
-    ref_tells (first_is is_sign) false AnItem (alt_tells (first_is is_sign) false (first_is (is_keyword struct_text)) (ref AStruct) (ref AMacro)
-    (ref_tells (first_is is_sign) false AStruct (begins_one (is_keyword struct_text) is_sign false (word_calm (is_keyword struct_text) (λ c s. refl) (λ cs. refl)) (seq ident (last 59))))
-    (ref_tells (first_is is_sign) false AMacro (begins_one is_ident is_sign false (word_calm is_ident (λ c s. refl) (λ cs. refl)) (seq (last 33) braces))))
+    ref_tells (first_is is_sign) false AnItem (alt_tells (first_is is_sign) false (first_is (is_keyword struct_text))
+    (ref AStruct) (ref AMacro)
+    (ref_tells (first_is is_sign) false AStruct (begins_one (is_keyword struct_text) is_sign false
+    (word_calm (is_keyword struct_text) (λ c s. refl) (λ cs. refl)) (seq ident (last 59))))
+    (ref_tells (first_is is_sign) false AMacro (begins_one is_ident is_sign false
+    (word_calm is_ident (λ c s. refl) (λ cs. refl)) (seq (last 33) braces))))
 
 -- items begin with neither a mark nor a literal
 items_calm : (x : Tree) → Derives x (star is_more (ref AnItem)) [] → ask (first_is is_sign) (flat x ++ []) ≡ false
 items_calm (First (Pair x y)) d =
-    subst (λ us. ask (first_is is_sign) us ≡ false) (sym (append_assoc (flat x) (flat y) [])) (item_calm x (flat y ++ []) d.1)
+    subst (λ us. ask (first_is is_sign) us ≡ false) (sym (append_assoc (flat x) (flat y) []))
+    (item_calm x (flat y ++ []) d.1)
 items_calm (Second Nil) d = refl
 items_calm _ d = absurd d
 
 items_settled : (x : Tree) → Derives x (star is_more (ref AnItem)) [] → IsWellSpaced (flat x ++ []) → normal x ≡ x
 items_settled (First (Pair x y)) d w =
     let v = regroup x y [] w in
-    ap First (both x y (item_settled x (flat y ++ []) d.1 v (items_calm y d.2)) (items_settled y d.2 (spaced_behind (flat x) (flat y ++ []) v)))
+    ap First (both x y (item_settled x (flat y ++ []) d.1 v (items_calm y d.2))
+    (items_settled y d.2 (spaced_behind (flat x) (flat y ++ []) v)))
 items_settled (Second Nil) d w = refl
 items_settled _ d w = absurd d
 

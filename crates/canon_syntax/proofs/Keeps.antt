@@ -75,16 +75,29 @@ alike_behind x r s a = record {
 }
 
 module _ (all : (k : Kind) → AllBlind (table k)) where
-  pub keeps : (x : Tree) (g : Gram) → AllBlind g → (r s : List Token) → Alike r s → Derives x g r → Derives (normal x) g s
+  pub keeps : (x : Tree) (g : Gram) → AllBlind g → (r s : List Token) → Alike r s → Derives x g r →
+      Derives (normal x) g s
   keeps (Leaf t) (one p) b r s a d = d
   keeps (Last c spacing) (last m) b r s a d = d
   keeps (Raw ts) raw b r s a d = (d.0, sym (end_blind r ∙ ap at_end a.same ∙ sym (end_blind s)) ∙ d.1)
   keeps Nil nothing b r s a d = tt
   keeps (Pair x y) (seq g h) b r s a d = (keeps x g b.0 _ _ (alike_behind y r s a) d.0, keeps y h b.1 r s a d.1)
-  keeps (First x) (alt t g h) b r s a d = (sym (ask_alike t b.0 _ _ (alike_behind x r s a)) ∙ d.0, keeps x g b.1 r s a d.1)
-  keeps (Second x) (alt t g h) b r s a d = (sym (ask_alike t b.0 _ _ (alike_behind x r s a)) ∙ d.0, keeps x h b.2 r s a d.1)
-  keeps (First (Pair x y)) (star t g) b r s a d =
-      (sym (ask_alike t b.0 _ _ (alike_behind (Pair x y) r s a)) ∙ d.0, keeps x g b.1 _ _ (alike_behind y r s a) d.1, keeps y (star t g) b r s a d.2)
+  keeps (First x) (alt t g h) b r s a d = (
+    sym (ask_alike t b.0 _ _ (alike_behind x r s a))
+        ∙ d.0,
+    keeps x g b.1 r s a d.1,
+  )
+  keeps (Second x) (alt t g h) b r s a d = (
+    sym (ask_alike t b.0 _ _ (alike_behind x r s a))
+        ∙ d.0,
+    keeps x h b.2 r s a d.1,
+  )
+  keeps (First (Pair x y)) (star t g) b r s a d = (
+    sym (ask_alike t b.0 _ _ (alike_behind (Pair x y) r s a))
+        ∙ d.0,
+    keeps x g b.1 _ _ (alike_behind y r s a) d.1,
+    keeps y (star t g) b r s a d.2,
+  )
   keeps (Second Nil) (star t g) b r s a d = sym (ask_alike t b.0 r s a) ∙ d
   keeps (Node k x) (ref l) b r s a d = (d.0, keeps x (table k) (all k) r s a d.1)
   keeps _ _ b r s a d = absurd d

@@ -1,5 +1,6 @@
 -- Tokens that are refused at a place: those before it begin what was to be read.
-use Rattle.std.proofs.Common.{◌≡◌, ℕ, zero, suc, List, [], ◌∷◌, ◌++◌, length, refl, sym, ap, ◌∙◌, subst, ⊎_elim, append_assoc}
+use Rattle.std.proofs.Common.{◌≡◌, ℕ, zero, suc, List, [], ◌∷◌, ◌++◌, length, refl, sym, ap, ◌∙◌, subst, ⊎_elim}
+use Rattle.std.proofs.Common.{append_assoc}
 use Rattle.std.specs.Prelude.{Bool, true, false, ◌==◌}
 use Rattle.std.proofs.lemmas.List.{append-nil}
 use Rattle.proc_macro2.specs.declared.delimiter.Delimiter.TheVariants.{Brace}
@@ -40,7 +41,16 @@ abbrev pub IsFree : Gram → Type 0
 IsFree g = (x : Tree) (r s : List Token) → Derives x g r → Derives x g s
 
 at_once : (g : Gram) → Example g → (ts : List Token) (l : ℕ) → length ts ≡ l → Resumes g ts l
-at_once g x ts l e = record { tree = x.tree; front = []; back = ts; more = flat x.tree; derived = x.derived; spelled = refl; tokens = refl; count = e }
+at_once g x ts l e = record {
+  tree = x.tree;
+  front = [];
+  back = ts;
+  more = flat x.tree;
+  derived = x.derived;
+  spelled = refl;
+  tokens = refl;
+  count = e;
+}
 
 pub one_refused : (p : Token → Bool) (ts : List Token) (l : ℕ) → one_at p ts ≡ Refused l → length ts ≡ l
 unfolding one_at
@@ -50,7 +60,8 @@ one_refused p (t ∷ ts) l e = ⊎_elim (λ h. let f = h.1 in cc) (λ h. let f =
 last_refused : (c : ℕ) (ts : List Token) (l : ℕ) → last_at Last c ts ≡ Refused l → length ts ≡ l
 unfolding last_at
 last_refused c [] l e = cc
-last_refused c (Punct d spacing ∷ ts) l e = ⊎_elim (λ h. let f = h.1 in cc) (λ h. let f = h.1 in cc) (chosen (d == c) _ _ _ e)
+last_refused c (Punct d spacing ∷ ts) l e = ⊎_elim (λ h. let f = h.1 in cc) (λ h. let f = h.1 in cc)
+    (chosen (d == c) _ _ _ e)
 last_refused c (Opens d ∷ ts) l e = cc
 last_refused c (Closes d ∷ ts) l e = cc
 last_refused c (Ident cs ∷ ts) l e = cc
@@ -91,7 +102,8 @@ wrap_refused f (Got x r) l e = cc
 pub seq_resumed : (a b : Gram) → AreResumed a → IsFree a → AreResumed b → Example b → AreResumed (seq a b)
 seq_resumed a b ra fa rb ex ts l e = go (interp Last reads a ts) refl e
   where
-    go : (o : Out) → interp Last reads a ts ≡ o → (o >>= λ x us. interp Last reads b us >>= λ y vs. Got (Pair x y) vs) ≡ Refused l → Resumes (seq a b) ts l
+    go : (o : Out) → interp Last reads a ts ≡ o → (o >>= λ x us. interp Last reads b us >>= λ y vs. Got (Pair x y) vs) ≡
+        Refused l → Resumes (seq a b) ts l
     go Late h e = cc
     go (Refused m) h e =
         let r = ra ts l (h ∙ e) in
@@ -123,27 +135,63 @@ seq_resumed a b ra fa rb ex ts l e = go (interp Last reads a ts) refl e
 abbrev pub Tells : (List Token → Bool) → Bool → Gram → Type 0
 Tells t b g = (x : Tree) (r : List Token) → Derives x g r → ask t (flat x ++ r) ≡ b
 
-pub alt_resumed : (t : List Token → Bool) (a b : Gram) → AreResumed a → Tells t true a → AreResumed b → Tells t false b → AreResumed (alt t a b)
+pub alt_resumed : (t : List Token → Bool) (a b : Gram) → AreResumed a → Tells t true a → AreResumed b →
+    Tells t false b → AreResumed (alt t a b)
 alt_resumed t a b ra ta rb tb ts l e =
     ⊎_elim
     (λ h. let r = ra ts l (wrap_refused First (interp Last reads a ts) l h.1) in
-    record { tree = First r.tree; front = r.front; back = r.back; more = r.more; derived = λ s. (ta r.tree s (r.derived s), r.derived s); spelled = r.spelled; tokens = r.tokens; count = r.count })
+    record {
+      tree = First r.tree;
+      front = r.front;
+      back = r.back;
+      more = r.more;
+      derived = λ s. (ta r.tree s (r.derived s), r.derived s);
+      spelled =
+          r.spelled;
+      tokens = r.tokens;
+      count = r.count;
+    })
     (λ h. let r = rb ts l (wrap_refused Second (interp Last reads b ts) l h.1) in
-    record { tree = Second r.tree; front = r.front; back = r.back; more = r.more; derived = λ s. (tb r.tree s (r.derived s), r.derived s); spelled = r.spelled; tokens = r.tokens; count = r.count })
+    record {
+      tree = Second r.tree;
+      front = r.front;
+      back = r.back;
+      more = r.more;
+      derived = λ s. (tb r.tree s (r.derived s), r.derived s);
+      spelled =
+          r.spelled;
+      tokens = r.tokens;
+      count = r.count;
+    })
     (chosen (ask t ts) _ _ _ e)
 
-pub alt_free : (t : List Token → Bool) (a b : Gram) → IsFree a → Tells t true a → IsFree b → Tells t false b → IsFree (alt t a b)
+pub alt_free : (t : List Token → Bool) (a b : Gram) → IsFree a → Tells t true a → IsFree b → Tells t false b →
+    IsFree (alt t a b)
 alt_free t a b fa ta fb tb (First x) r s d = let e = fa x r s d.1 in (ta x s e, e)
 alt_free t a b fa ta fb tb (Second x) r s d = let e = fb x r s d.1 in (tb x s e, e)
 alt_free t a b fa ta fb tb _ r s d = absurd d
 
 pub ref_resumed : (k : Kind) → AreResumed (table k) → AreResumed (ref k)
 ref_resumed k rk ts l e =
-    let r = rk ts l (wrap_refused (Node k) (interp Last reads (table k) ts) l (sym (reads_step all_founded (kind k) tt ts) ∙ e)) in
-    record { tree = Node k r.tree; front = r.front; back = r.back; more = r.more; derived = λ s. (refl, r.derived s); spelled = r.spelled; tokens = r.tokens; count = r.count }
+    let r = rk ts l (wrap_refused (Node k) (interp Last reads (table k) ts) l
+    (sym (reads_step all_founded (kind k) tt ts) ∙ e)) in
+    record {
+      tree = Node k r.tree;
+      front = r.front;
+      back = r.back;
+      more = r.more;
+      derived = λ s. (refl, r.derived s);
+      spelled = r.spelled;
+      tokens = r.tokens;
+      count = r.count;
+    }
 
 pub ref_free : (k : Kind) → IsFree (table k) → IsFree (ref k)
-ref_free k f (Node j x) r s d = (d.0, subst (λ i. Derives x (table i) s) (sym d.0) (f x r s (subst (λ i. Derives x (table i) r) d.0 d.1)))
+ref_free k f (Node j x) r s d = (
+  d.0,
+  subst (λ i. Derives x (table i) s) (sym d.0)
+      (f x r s (subst (λ i. Derives x (table i) r) d.0 d.1)),
+)
 ref_free k f _ r s d = absurd d
 
 pub ref_tells : (t : List Token → Bool) (b : Bool) (k : Kind) → Tells t b (table k) → Tells t b (ref k)
@@ -167,19 +215,25 @@ record Unclosed (n : ℕ) (ts : List Token) (l : ℕ) : Type 0 where
 
 raw_refused : (n : ℕ) (ts : List Token) (l : ℕ) → raw_at n ts ≡ Refused l → Unclosed n ts l
 unfolding raw_at
-raw_refused n (Opens d ∷ ts) l e = let u = raw_refused (suc n) ts l (wrap_refused _ (raw_at (suc n) ts) l e) in record { more = u.more; closes = u.closes; none = u.none }
-raw_refused n (Ident cs ∷ ts) l e = let u = raw_refused n ts l (wrap_refused _ (raw_at n ts) l e) in record { more = u.more; closes = u.closes; none = u.none }
-raw_refused n (Literal cs ∷ ts) l e = let u = raw_refused n ts l (wrap_refused _ (raw_at n ts) l e) in record { more = u.more; closes = u.closes; none = u.none }
-raw_refused n (Punct c spacing ∷ ts) l e = let u = raw_refused n ts l (wrap_refused _ (raw_at n ts) l e) in record { more = u.more; closes = u.closes; none = u.none }
+raw_refused n (Opens d ∷ ts) l e = let u = raw_refused (suc n) ts l (wrap_refused _ (raw_at (suc n) ts) l e) in
+    record { more = u.more; closes = u.closes; none = u.none }
+raw_refused n (Ident cs ∷ ts) l e = let u = raw_refused n ts l (wrap_refused _ (raw_at n ts) l e) in
+    record { more = u.more; closes = u.closes; none = u.none }
+raw_refused n (Literal cs ∷ ts) l e = let u = raw_refused n ts l (wrap_refused _ (raw_at n ts) l e) in
+    record { more = u.more; closes = u.closes; none = u.none }
+raw_refused n (Punct c spacing ∷ ts) l e = let u = raw_refused n ts l (wrap_refused _ (raw_at n ts) l e) in
+    record { more = u.more; closes = u.closes; none = u.none }
 raw_refused zero (Closes d ∷ ts) l e = cc
-raw_refused (suc n) (Closes d ∷ ts) l e = let u = raw_refused n ts l (wrap_refused _ (raw_at n ts) l e) in record { more = u.more; closes = u.closes; none = u.none }
+raw_refused (suc n) (Closes d ∷ ts) l e = let u = raw_refused n ts l (wrap_refused _ (raw_at n ts) l e) in
+    record { more = u.more; closes = u.closes; none = u.none }
 raw_refused zero [] l e = cc
 raw_refused (suc n) [] l e = record { more = closers (suc n); closes = closers_close (suc n); none = cc }
 
 abbrev pub body : Gram
 body = seq raw (one (is_close Brace))
 
-body_tree : (own : List Token) → closes_all 0 own ≡ true → (r : List Token) → Derives (Pair (Raw own) (Leaf (Closes Brace))) body r
+body_tree : (own : List Token) → closes_all 0 own ≡ true → (r : List Token) →
+    Derives (Pair (Raw own) (Leaf (Closes Brace))) body r
 body_tree own e r = ((e, refl), refl)
 
 pub body_example : Example body
@@ -188,7 +242,8 @@ body_example = record { tree = Pair (Raw []) (Leaf (Closes Brace)); derived = bo
 pub body_resumed : AreResumed body
 body_resumed ts l e = go (raw_at 0 ts) refl e
   where
-    go : (o : Out) → raw_at 0 ts ≡ o → (o >>= λ x us. one_at (is_close Brace) us >>= λ y vs. Got (Pair x y) vs) ≡ Refused l → Resumes body ts l
+    go : (o : Out) → raw_at 0 ts ≡ o → (o >>= λ x us. one_at (is_close Brace) us >>= λ y vs. Got (Pair x y) vs) ≡
+        Refused l → Resumes body ts l
     go Late h e = cc
     go (Refused m) h e =
         let u = raw_refused 0 ts l (h ∙ e) in

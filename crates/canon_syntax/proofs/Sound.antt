@@ -1,5 +1,6 @@
 -- A run gives the trees of the grammar, and no others.
-use Rattle.std.proofs.Common.{◌≡◌, ℕ, zero, suc, ◌+◌, ◌≤◌, List, [], ◌∷◌, ◌++◌, refl, sym, ap, ◌∙◌, subst, ⊎_elim, inl, inr, arith, append_assoc}
+use Rattle.std.proofs.Common.{◌≡◌, ℕ, zero, suc, ◌+◌, ◌≤◌, List, [], ◌∷◌, ◌++◌, refl, sym, ap, ◌∙◌, subst, ⊎_elim, inl}
+use Rattle.std.proofs.Common.{inr, arith, append_assoc}
 use Rattle.std.specs.Prelude.{Bool, true, false, cond, ◌⊎◌, ◌==◌, length}
 use Rattle.std.proofs.lemmas.Bool.{eqb-true, eq-eqb}
 use Rattle.proc_macro2.specs.Token.{Token}
@@ -9,10 +10,12 @@ use Rattle.canon_syntax.specs.Tree.{Tree, Leaf, Last, Raw, Nil, Pair, First, Sec
 use Rattle.canon_syntax.specs.Gram.{Gram, one, last, raw, nothing, never, seq, alt, star, ref, ask, closes_all, at_end}
 use Rattle.canon_syntax.specs.Table.{table}
 use Rattle.canon_syntax.specs.Derives.{Derives}
-use Rattle.canon_syntax.specs.Run.{Out, Late, Refused, Got, ◌>>=◌, wrap, Call, kind, loop, one_at, last_at, raw_onto, raw_at, interp, made, run, entry}
+use Rattle.canon_syntax.specs.Run.{Out, Late, Refused, Got, ◌>>=◌, wrap, Call, kind, loop, one_at, last_at, raw_onto}
+use Rattle.canon_syntax.specs.Run.{raw_at, interp, made, run, entry}
 
 -- what a step that goes on gave
-pub bind_got : (o : Out) (f : Tree → List Token → Out) (z : Tree) (r : List Token) → (o >>= f) ≡ Got z r → (x : Tree) × (us : List Token) × (o ≡ Got x us) × (f x us ≡ Got z r)
+pub bind_got : (o : Out) (f : Tree → List Token → Out) (z : Tree) (r : List Token) → (o >>= f) ≡ Got z r → (x : Tree) ×
+    (us : List Token) × (o ≡ Got x us) × (f x us ≡ Got z r)
 bind_got Late f z r e = cc
 bind_got (Refused l) f z r e = cc
 bind_got (Got x us) f z r e = (x, us, refl, e)
@@ -39,7 +42,8 @@ pub record Reads (g : Gram) (ts : List Token) (x : Tree) (r : List Token) : Type
 abbrev pub IsSound : (Call → List Token → Out) → Type 0
 IsSound call = (c : Call) (ts : List Token) (x : Tree) (r : List Token) → call c ts ≡ Got x r → Reads (entry c) ts x r
 
-token_sound : (p : Token → Bool) (ts : List Token) (x : Tree) (r : List Token) → one_at p ts ≡ Got x r → Reads (one p) ts x r
+token_sound : (p : Token → Bool) (ts : List Token) (x : Tree) (r : List Token) → one_at p ts ≡ Got x r →
+    Reads (one p) ts x r
 unfolding one_at
 token_sound p [] x r e = cc
 token_sound p (t ∷ ts) x r e =
@@ -57,7 +61,8 @@ unfolding last_at
 mark_sound c [] x r e = cc
 mark_sound c (Punct d spacing ∷ ts) x r e =
     ⊎_elim
-    (λ h. got_as (Reads (last c) (Punct d spacing ∷ ts)) _ _ _ _ h.1 (record { tree = eqb-true d c h.0; tokens = refl }))
+    (λ h. got_as (Reads (last c) (Punct d spacing ∷ ts)) _ _ _ _ h.1
+    (record { tree = eqb-true d c h.0; tokens = refl }))
     (λ h. cc)
     (chosen (d == c) _ _ _ e)
 mark_sound c (Opens d ∷ ts) x r e = cc
@@ -65,7 +70,8 @@ mark_sound c (Closes d ∷ ts) x r e = cc
 mark_sound c (Ident cs ∷ ts) x r e = cc
 mark_sound c (Literal cs ∷ ts) x r e = cc
 
-mark_complete : (c d : ℕ) (spacing : Spacing) (r : List Token) → c ≡ d → last_at Last d (Punct c spacing ∷ r) ≡ Got (Last c spacing) r
+mark_complete : (c d : ℕ) (spacing : Spacing) (r : List Token) → c ≡ d →
+    last_at Last d (Punct c spacing ∷ r) ≡ Got (Last c spacing) r
 unfolding last_at
 mark_complete c d spacing r e = ap (λ b. cond b (Got (Last c spacing) r) (Refused (suc (length r)))) (eq-eqb c d e)
 
@@ -77,12 +83,20 @@ pub record RawTo (n : ℕ) (ts : List Token) (x : Tree) (r : List Token) : Type 
   pub ends : at_end r ≡ true
   pub tokens : ts ≡ own ++ r
 
-raw_more : (n m : ℕ) (t : Token) (ts : List Token) (x : Tree) (r : List Token) → ((us : List Token) → closes_all n (t ∷ us) ≡ closes_all m us) → wrap (raw_onto (t ∷ [])) (raw_at m ts) ≡ Got x r → ((y : Tree) (s : List Token) → raw_at m ts ≡ Got y s → RawTo m ts y s) → RawTo n (t ∷ ts) x r
+raw_more : (n m : ℕ) (t : Token) (ts : List Token) (x : Tree) (r : List Token) →
+    ((us : List Token) → closes_all n (t ∷ us) ≡ closes_all m us) → wrap (raw_onto (t ∷ [])) (raw_at m ts) ≡ Got x r →
+    ((y : Tree) (s : List Token) → raw_at m ts ≡ Got y s → RawTo m ts y s) → RawTo n (t ∷ ts) x r
 raw_more n m t ts x r same e inner =
     let (y, us, e1, e2) = bind_got (raw_at m ts) _ x r e in
     let own = inner y us e1 in
     let e3 : Got (Raw (t ∷ own.own)) us ≡ Got x r = ap (λ z. Got (raw_onto (t ∷ []) z) us) (sym own.is) ∙ e2 in
-    got_as (RawTo n (t ∷ ts)) _ _ _ _ e3 (record { own = t ∷ own.own; is = refl; closes = same own.own ∙ own.closes; ends = own.ends; tokens = ap (λ vs. t ∷ vs) own.tokens })
+    got_as (RawTo n (t ∷ ts)) _ _ _ _ e3 (record {
+      own = t ∷ own.own;
+      is = refl;
+      closes = same own.own ∙ own.closes;
+      ends = own.ends;
+      tokens = ap (λ vs. t ∷ vs) own.tokens;
+    })
 
 raw_end : (r : List Token) → at_end r ≡ true → raw_at 0 r ≡ Got (Raw []) r
 unfolding raw_at
@@ -99,12 +113,20 @@ raw_sound n (Opens d ∷ ts) x r e = raw_more n (suc n) (Opens d) ts x r (λ us.
 raw_sound n (Ident cs ∷ ts) x r e = raw_more n n (Ident cs) ts x r (λ us. refl) e (raw_sound n ts)
 raw_sound n (Literal cs ∷ ts) x r e = raw_more n n (Literal cs) ts x r (λ us. refl) e (raw_sound n ts)
 raw_sound n (Punct c spacing ∷ ts) x r e = raw_more n n (Punct c spacing) ts x r (λ us. refl) e (raw_sound n ts)
-raw_sound zero (Closes d ∷ ts) x r e = got_as (RawTo zero (Closes d ∷ ts)) _ _ _ _ e (record { own = []; is = refl; closes = refl; ends = refl; tokens = refl })
+raw_sound zero (Closes d ∷ ts) x r e = got_as (RawTo zero (Closes d ∷ ts)) _ _ _ _ e
+    (record { own = []; is = refl; closes = refl; ends = refl; tokens = refl })
 raw_sound (suc n) (Closes d ∷ ts) x r e = raw_more (suc n) n (Closes d) ts x r (λ us. refl) e (raw_sound n ts)
-raw_sound zero [] x r e = got_as (RawTo zero []) _ _ _ _ e (record { own = []; is = refl; closes = refl; ends = refl; tokens = refl })
+raw_sound zero [] x r e = got_as (RawTo zero []) _ _ _ _ e (record {
+  own = [];
+  is = refl;
+  closes = refl;
+  ends = refl;
+  tokens = refl;
+})
 raw_sound (suc n) [] x r e = cc
 
-raw_complete : (n : ℕ) (ts r : List Token) → closes_all n ts ≡ true → at_end r ≡ true → raw_at n (ts ++ r) ≡ Got (Raw ts) r
+raw_complete : (n : ℕ) (ts r : List Token) → closes_all n ts ≡ true → at_end r ≡ true →
+    raw_at n (ts ++ r) ≡ Got (Raw ts) r
 unfolding raw_at
 raw_complete n (Opens d ∷ ts) r e h = ap (wrap (raw_onto (Opens d ∷ []))) (raw_complete (suc n) ts r e h)
 raw_complete n (Ident cs ∷ ts) r e h = ap (wrap (raw_onto (Ident cs ∷ []))) (raw_complete n ts r e h)
@@ -115,12 +137,14 @@ raw_complete (suc n) (Closes d ∷ ts) r e h = ap (wrap (raw_onto (Closes d ∷ 
 raw_complete zero [] r e h = raw_end r h
 raw_complete (suc n) [] r e h = cc
 
-pub interp_sound : (call : Call → List Token → Out) → IsSound call → (g : Gram) (ts : List Token) (x : Tree) (r : List Token) → interp Last call g ts ≡ Got x r → Reads g ts x r
+pub interp_sound : (call : Call → List Token → Out) → IsSound call →
+    (g : Gram) (ts : List Token) (x : Tree) (r : List Token) → interp Last call g ts ≡ Got x r → Reads g ts x r
 interp_sound call s (one p) ts x r e = token_sound p ts x r e
 interp_sound call s (last c) ts x r e = mark_sound c ts x r e
 interp_sound call s raw ts x r e =
     let own = raw_sound 0 ts x r e in
-    got_as (Reads raw ts) _ _ _ _ (ap (λ y. Got y r) (sym own.is)) (record { tree = (own.closes, own.ends); tokens = own.tokens })
+    got_as (Reads raw ts) _ _ _ _ (ap (λ y. Got y r) (sym own.is))
+    (record { tree = (own.closes, own.ends); tokens = own.tokens })
 interp_sound call s nothing ts x r e = got_as (Reads nothing ts) _ _ _ _ e (record { tree = tt; tokens = refl })
 interp_sound call s never ts x r e = cc
 interp_sound call s (seq a b) ts x r e =
@@ -136,16 +160,19 @@ interp_sound call s (alt t a b) ts x r e =
     ⊎_elim
     (λ h. let (y, us, e1, e2) = bind_got (interp Last call a ts) _ x r h.1 in
     let inner = interp_sound call s a ts y us e1 in
-    got_as (Reads (alt t a b) ts) _ _ _ _ e2 (record { tree = (subst (λ w. ask t w ≡ true) inner.tokens h.0, inner.tree); tokens = inner.tokens }))
+    got_as (Reads (alt t a b) ts) _ _ _ _ e2
+    (record { tree = (subst (λ w. ask t w ≡ true) inner.tokens h.0, inner.tree); tokens = inner.tokens }))
     (λ h. let (y, us, e1, e2) = bind_got (interp Last call b ts) _ x r h.1 in
     let inner = interp_sound call s b ts y us e1 in
-    got_as (Reads (alt t a b) ts) _ _ _ _ e2 (record { tree = (subst (λ w. ask t w ≡ false) inner.tokens h.0, inner.tree); tokens = inner.tokens }))
+    got_as (Reads (alt t a b) ts) _ _ _ _ e2
+    (record { tree = (subst (λ w. ask t w ≡ false) inner.tokens h.0, inner.tree); tokens = inner.tokens }))
     (chosen (ask t ts) _ _ _ e)
 interp_sound call s (star t g) ts x r e = s (loop t g) ts x r e
 interp_sound call s (ref k) ts x r e = s (kind k) ts x r e
 
 -- the turns of a star are its first turn and the others
-rolled : (x : Tree) (t : List Token → Bool) (g : Gram) (r : List Token) → Derives x (alt t (seq g (star t g)) nothing) r → Derives x (star t g) r
+rolled : (x : Tree) (t : List Token → Bool) (g : Gram) (r : List Token) →
+    Derives x (alt t (seq g (star t g)) nothing) r → Derives x (star t g) r
 rolled (First (Pair x y)) t g r d = (d.0, d.1.0, d.1.1)
 rolled (Second Nil) t g r d = d.0
 rolled (Second (Leaf u)) t g r d = d.1
@@ -181,32 +208,43 @@ size (Second x) = suc (size x)
 size (Node k x) = suc (size x)
 
 -- each tree of the grammar is read
-pub complete : (x : Tree) (g : Gram) (r : List Token) → Derives x g r → (n : ℕ) → size x ≤ n → interp Last (run n) g (flat x ++ r) ≡ Got x r
+pub complete : (x : Tree) (g : Gram) (r : List Token) → Derives x g r → (n : ℕ) → size x ≤ n →
+    interp Last (run n) g (flat x ++ r) ≡ Got x r
 complete (Leaf t) (one p) r d n h = token_complete p t r d
 complete (Last c spacing) (last m) r d n h = mark_complete c m spacing r d
 complete (Raw ts) raw r d n h = raw_complete 0 ts r d.0 d.1
 complete Nil nothing r d n h = refl
 complete (Pair x y) (seq a b) r d n h =
-    ap (λ w. interp Last (run n) a w >>= λ x us. interp Last (run n) b us >>= λ y vs. Got (Pair x y) vs) (append_assoc (flat x) (flat y) r)
-    ∙ ap (λ o. o >>= λ x us. interp Last (run n) b us >>= λ y vs. Got (Pair x y) vs) (complete x a (flat y ++ r) d.0 n (omega arith))
+    ap (λ w. interp Last (run n) a w >>= λ x us. interp Last (run n) b us >>= λ y vs. Got (Pair x y) vs)
+    (append_assoc (flat x) (flat y) r)
+    ∙ ap (λ o. o >>= λ x us. interp Last (run n) b us >>= λ y vs. Got (Pair x y) vs)
+    (complete x a (flat y ++ r) d.0 n (omega arith))
     ∙ ap (λ o. o >>= λ y vs. Got (Pair x y) vs) (complete y b r d.1 n (omega arith))
 complete (First x) (alt t a b) r d n h =
-    ap (λ c. cond c (wrap First (interp Last (run n) a (flat x ++ r))) (wrap Second (interp Last (run n) b (flat x ++ r)))) d.0
+    ap (λ c. cond c (wrap First (interp Last (run n) a (flat x ++ r)))
+    (wrap Second (interp Last (run n) b (flat x ++ r)))) d.0
     ∙ ap (wrap First) (complete x a r d.1 n (omega arith))
 complete (Second x) (alt t a b) r d n h =
-    ap (λ c. cond c (wrap First (interp Last (run n) a (flat x ++ r))) (wrap Second (interp Last (run n) b (flat x ++ r)))) d.0
+    ap (λ c. cond c (wrap First (interp Last (run n) a (flat x ++ r)))
+    (wrap Second (interp Last (run n) b (flat x ++ r)))) d.0
     ∙ ap (wrap Second) (complete x b r d.1 n (omega arith))
 complete (First (Pair x y)) (star t g) r d zero h = absurd (omega arith)
 complete (First (Pair x y)) (star t g) r d (suc n) h =
     let ts : List Token = flat x ++ flat y ++ r in
-    let after : Out → Out = λ o. wrap (made (loop t g)) (wrap First (o >>= λ x us. run n (loop t g) us >>= λ y vs. Got (Pair x y) vs)) in
-    ap (λ c. wrap (made (loop t g)) (cond c (wrap First (interp Last (run n) g ts >>= λ x us. run n (loop t g) us >>= λ y vs. Got (Pair x y) vs)) (Got (Second Nil) ts))) d.0
+    let after : Out → Out = λ o. wrap (made (loop t g)) (wrap First
+    (o >>= λ x us. run n (loop t g) us >>= λ y vs. Got (Pair x y) vs)) in
+    ap (λ c. wrap (made (loop t g))
+    (cond c (wrap First (interp Last (run n) g ts >>= λ x us. run n (loop t g) us >>= λ y vs. Got (Pair x y) vs))
+    (Got (Second Nil) ts))) d.0
     ∙ ap (λ w. after (interp Last (run n) g w)) (append_assoc (flat x) (flat y) r)
     ∙ ap after (complete x g (flat y ++ r) d.1 n (omega arith))
-    ∙ ap (λ o. wrap (made (loop t g)) (wrap First (o >>= λ y vs. Got (Pair x y) vs))) (complete y (star t g) r d.2 n (omega arith))
+    ∙ ap (λ o. wrap (made (loop t g)) (wrap First (o >>= λ y vs. Got (Pair x y) vs)))
+    (complete y (star t g) r d.2 n (omega arith))
 complete (Second Nil) (star t g) r d zero h = absurd (omega arith)
 complete (Second Nil) (star t g) r d (suc n) h =
-    ap (λ c. wrap (made (loop t g)) (cond c (wrap First (interp Last (run n) g r >>= λ x us. run n (loop t g) us >>= λ y vs. Got (Pair x y) vs)) (Got (Second Nil) r))) d
+    ap (λ c. wrap (made (loop t g))
+    (cond c (wrap First (interp Last (run n) g r >>= λ x us. run n (loop t g) us >>= λ y vs. Got (Pair x y) vs))
+    (Got (Second Nil) r))) d
 complete (Node k x) (ref l) r d zero h = absurd (omega arith)
 complete (Node k x) (ref l) r d (suc n) h =
     ap (wrap (made (kind l))) (complete x (table l) r (subst (λ m. Derives x (table m) r) d.0 d.1) n (omega arith))
@@ -214,7 +252,8 @@ complete (Node k x) (ref l) r d (suc n) h =
 complete _ _ r d n h = absurd d
 
 -- at most one tree, and at most one rest
-pub one_tree : (g : Gram) (x y : Tree) (r s : List Token) → Derives x g r → Derives y g s → flat x ++ r ≡ flat y ++ s → Got x r ≡ Got y s
+pub one_tree : (g : Gram) (x y : Tree) (r s : List Token) → Derives x g r → Derives y g s → flat x ++ r ≡ flat y ++ s →
+    Got x r ≡ Got y s
 one_tree g x y r s d e h =
     let n : ℕ = size x + size y in
     sym (complete x g r d n (omega arith)) ∙ ap (interp Last (run n) g) h ∙ complete y g s e n (omega arith)

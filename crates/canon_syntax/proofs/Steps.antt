@@ -30,15 +30,19 @@ normals_step k ts =
     ∙ normal_wrap (Node k) (Node k) (λ x. refl) (interp Last reads (table k) ts)
     ∙ ap (wrap (Node k)) (normal_interp (table k) ts)
 
-pub read_struct : (ts : List Token) → normals (kind AStruct) ts ≡ wrap (Node AStruct) (reads_normal (seq (keyword struct_text) (seq ident (last 59))) ts)
+pub read_struct : (ts : List Token) → normals (kind AStruct) ts ≡
+    wrap (Node AStruct) (reads_normal (seq (keyword struct_text) (seq ident (last 59))) ts)
 unfolding table
 read_struct ts = normals_step AStruct ts
 
-pub read_macro : (ts : List Token) → normals (kind AMacro) ts ≡ wrap (Node AMacro) (reads_normal (seq ident (seq (last 33) (seq (one (is_open Brace)) (seq raw (one (is_close Brace)))))) ts)
+pub read_macro : (ts : List Token) → normals (kind AMacro) ts ≡
+    wrap (Node AMacro) (reads_normal
+    (seq ident (seq (last 33) (seq (one (is_open Brace)) (seq raw (one (is_close Brace)))))) ts)
 unfolding table
 read_macro ts = normals_step AMacro ts
 
-pub read_item : (ts : List Token) → normals (kind AnItem) ts ≡ wrap (Node AnItem) (reads_normal (alt (first_is (is_keyword struct_text)) (ref AStruct) (ref AMacro)) ts)
+pub read_item : (ts : List Token) → normals (kind AnItem) ts ≡
+    wrap (Node AnItem) (reads_normal (alt (first_is (is_keyword struct_text)) (ref AStruct) (ref AMacro)) ts)
 unfolding table
 read_item ts = normals_step AnItem ts
 

@@ -1,5 +1,6 @@
 -- Words by their bytes and by their characters.
-use Rattle.std.proofs.Common.{◌≡◌, ℕ, zero, suc, ◌-◌, ◌≤◌, length, get_or, take, drop, arith, List, [], ◌∷◌, refl, sym, ap, ◌∙◌}
+use Rattle.std.proofs.Common.{◌≡◌, ℕ, zero, suc, ◌-◌, ◌≤◌, length, get_or, take, drop, arith, List, [], ◌∷◌, refl, sym}
+use Rattle.std.proofs.Common.{ap, ◌∙◌}
 use Rattle.std.specs.Prelude.{Bool, true, false, ◌&&◌, ◌||◌, nat_lt, cond}
 use Rattle.std.proofs.lemmas.List.{take_all}
 use Rattle.token_entries.specs.Entries.{entry_token, entry_tokens}
@@ -21,9 +22,11 @@ both_ways false true f g = g refl
 both_ways false false f g = refl
 
 -- a test that tells whether a text is that of an ASCII word
-pub text_same : (b : Bool) (w cs : List ℕ) → (b ≡ true → cs ≡ chars w) → (cs ≡ chars w → b ≡ true) → b ≡ bytes_eq (chars w) cs
+pub text_same : (b : Bool) (w cs : List ℕ) → (b ≡ true → cs ≡ chars w) → (cs ≡ chars w → b ≡ true) →
+    b ≡ bytes_eq (chars w) cs
 text_same b w cs f g =
-    both_ways b (bytes_eq (chars w) cs) (λ e. (bytes_eq-Decides (chars w) cs).1 (sym (f e))) (λ e. g (sym ((bytes_eq-Decides (chars w) cs).0 e)))
+    both_ways b (bytes_eq (chars w) cs) (λ e. (bytes_eq-Decides (chars w) cs).1 (sym (f e)))
+    (λ e. g (sym ((bytes_eq-Decides (chars w) cs).0 e)))
 
 -- an ASCII word's bytes are its characters
 pub word_same : (w cs : List ℕ) → IsAscii w → bytes_eq (chars w) cs ≡ bytes_eq w cs
@@ -42,11 +45,13 @@ all_small [] = true
 all_small (w ∷ ws) = list_all is_small w && all_small ws
 
 -- and so are those of each of some ASCII words
-pub any_same : (ws : List (List ℕ)) (cs : List ℕ) → all_small ws ≡ true → list_any (λ w. bytes_eq (chars w) cs) ws ≡ list_any (λ w. bytes_eq w cs) ws
+pub any_same : (ws : List (List ℕ)) (cs : List ℕ) → all_small ws ≡ true →
+    list_any (λ w. bytes_eq (chars w) cs) ws ≡ list_any (λ w. bytes_eq w cs) ws
 any_same [] cs a = refl
 any_same (w ∷ ws) cs a =
     let both = and_true _ _ a in
-    ap (λ b. b || list_any (λ v. bytes_eq (chars v) cs) ws) (word_same w cs (ascii_from w both.0)) ∙ ap (λ b. bytes_eq w cs || b) (any_same ws cs both.1)
+    ap (λ b. b || list_any (λ v. bytes_eq (chars v) cs) ws) (word_same w cs (ascii_from w both.0))
+    ∙ ap (λ b. bytes_eq w cs || b) (any_same ws cs both.1)
 
 -- a keyword's token is its word
 pub keyword_token : (w : List ℕ) (t : Token) → is_keyword w t ≡ true → t ≡ Ident w
@@ -57,7 +62,9 @@ keyword_token w (Literal cs) e = cc
 keyword_token w (Punct c spacing) e = cc
 
 -- a keyword that stands first is read
-pub keyword_read : (w : List ℕ) (es : List Entry) (d : Entry) → 1 ≤ length es → is_keyword w (entry_token (get_or es 0 d)) ≡ true → one_at (is_keyword w) (entry_tokens es) ≡ Got (Leaf (Ident w)) (entry_tokens (take (length es - 1) (drop 1 es)))
+pub keyword_read : (w : List ℕ) (es : List Entry) (d : Entry) → 1 ≤ length es →
+    is_keyword w (entry_token (get_or es 0 d)) ≡ true → one_at (is_keyword w) (entry_tokens es) ≡
+    Got (Leaf (Ident w)) (entry_tokens (take (length es - 1) (drop 1 es)))
 unfolding one_at
 keyword_read w [] d h e = absurd (omega arith)
 keyword_read w (x ∷ es) d h e =

@@ -1,5 +1,6 @@
 -- A well-founded table is read to an end, with fuel by the count of tokens.
-use Rattle.std.proofs.Common.{◌≡◌, ℕ, zero, suc, ◌+◌, ◌*◌, ◌<◌, ◌≤◌, List, [], ◌∷◌, ◌++◌, length, refl, sym, ap, ◌∙◌, subst, ⊎_elim, inl, inr, arith, length-append}
+use Rattle.std.proofs.Common.{◌≡◌, ℕ, zero, suc, ◌+◌, ◌*◌, ◌<◌, ◌≤◌, List, [], ◌∷◌, ◌++◌, length, refl, sym, ap, ◌∙◌}
+use Rattle.std.proofs.Common.{subst, ⊎_elim, inl, inr, arith, length-append}
 use Rattle.std.specs.Prelude.{Bool, true, false, cond, ◌&&◌, ◌||◌, ◌⊎◌, ◌==◌, max}
 use Rattle.std.proofs.lemmas.Bool.{leb-true, cases_lt}
 use Rattle.proc_macro2.specs.Token.{Token}
@@ -11,7 +12,8 @@ use Rattle.canon_syntax.specs.Table.{table}
 use Rattle.canon_syntax.specs.Ranks.{rank, skips, top}
 use Rattle.canon_syntax.specs.Derives.{Derives}
 use Rattle.canon_syntax.specs.Fuel.{nullable, height, level, turns_take, same, is_founded}
-use Rattle.canon_syntax.specs.Run.{Out, Late, Refused, Got, ◌>>=◌, wrap, Call, kind, loop, one_at, last_at, raw_at, interp, body, made, run, entry, reads}
+use Rattle.canon_syntax.specs.Run.{Out, Late, Refused, Got, ◌>>=◌, wrap, Call, kind, loop, one_at, last_at, raw_at}
+use Rattle.canon_syntax.specs.Run.{interp, body, made, run, entry, reads}
 use Rattle.canon_syntax.proofs.Sound.{IsSound, interp_sound, run_sound, complete, size}
 
 pub and_true : (a b : Bool) → (a && b) ≡ true → (a ≡ true) × (b ≡ true)
@@ -45,7 +47,13 @@ founded k e =
     let a = and_true _ _ e in
     let b = and_true _ _ a.1 in
     let c = and_true _ _ b.1 in
-    record { level = leb-true _ _ a.0; height = omega (arith, leb-true _ _ b.0); rank = omega (arith, leb-true _ _ b.0); skips = same_eq _ _ c.0; turns = c.1 }
+    record {
+      level = leb-true _ _ a.0;
+      height = omega (arith, leb-true _ _ b.0);
+      rank = omega (arith, leb-true _ _ b.0);
+      skips = same_eq _ _ c.0;
+      turns = c.1;
+    }
 
 cond_le : (b : Bool) (m : ℕ) → cond b m 0 ≤ m
 cond_le true m = omega arith
@@ -108,7 +116,8 @@ fewer a b m h = grind arith
 no_more : (a b m : ℕ) → a ≤ b → a * m ≤ b * m
 no_more a b m h = grind arith
 
-room : (b : Bool) (lts lus lf m la lb hb n : ℕ) → lts ≡ lf + lus → (b ≡ false → 0 < lf) → lts * suc m + max la (cond b lb 0) ≤ n → lb ≤ hb → hb ≤ m → lus * suc m + lb ≤ n
+room : (b : Bool) (lts lus lf m la lb hb n : ℕ) → lts ≡ lf + lus → (b ≡ false → 0 < lf) →
+    lts * suc m + max la (cond b lb 0) ≤ n → lb ≤ hb → hb ≤ m → lus * suc m + lb ≤ n
 room true lts lus lf m la lb hb n e f h i j =
     let k : lus * suc m ≤ lts * suc m = no_more lus lts (suc m) (omega arith) in omega arith
 room false lts lus lf m la lb hb n e f h i j =
@@ -139,7 +148,8 @@ below_over Late p b i = absurd i
 below_over (Refused l) p b i = sym b
 below_over (Got x r) p b i = sym b
 
-below_bind : (o p : Out) (f h : Tree → List Token → Out) → Below o p → ((x : Tree) (us : List Token) → Below (f x us) (h x us)) → Below (o >>= f) (p >>= h)
+below_bind : (o p : Out) (f h : Tree → List Token → Out) → Below o p →
+    ((x : Tree) (us : List Token) → Below (f x us) (h x us)) → Below (o >>= f) (p >>= h)
 below_bind Late p f h b i = tt
 below_bind (Refused l) p f h b i = ap (λ o. o >>= h) b
 below_bind (Got x r) p f h b i = subst (λ o. Below (f x r) (o >>= h)) (sym b) (i x r)
@@ -185,37 +195,46 @@ module _ (all : (k : Kind) → is_founded k ≡ true) where
 
   -- a call that is over where there is fuel for it
   abbrev IsOverAt : ℕ → (Call → List Token → Out) → Type 0
-  IsOverAt n call = (c : Call) (ts : List Token) → CallFits c → length ts * suc top + call_level c < n → IsOver (call c ts)
+  IsOverAt n call = (c : Call) (ts : List Token) → CallFits c → length ts * suc top + call_level c < n →
+      IsOver (call c ts)
 
   module _ (n : ℕ) (call : Call → List Token → Out) (sound : IsSound call) (over : IsOverAt n call) where
-    interp_over : (g : Gram) (ts : List Token) → turns_take g ≡ true → height g ≤ top → length ts * suc top + level g ≤ n → IsOver (interp Last call g ts)
+    interp_over : (g : Gram) (ts : List Token) → turns_take g ≡ true → height g ≤ top →
+        length ts * suc top + level g ≤ n → IsOver (interp Last call g ts)
     interp_over (one p) ts w h l = token_over p ts
     interp_over (last c) ts w h l = last_over c ts
     interp_over raw ts w h l = raw_over 0 ts
     interp_over nothing ts w h l = tt
     interp_over never ts w h l = tt
     interp_over (seq a b) ts w h l =
-        go (interp Last call a ts) refl (interp_over a ts w'.0 (omega arith) (omega arith)) (λ us. interp_over b us w'.1 (omega arith))
+        go (interp Last call a ts) refl (interp_over a ts w'.0 (omega arith) (omega arith))
+        (λ us. interp_over b us w'.1 (omega arith))
       where
         w' : (turns_take a ≡ true) × (turns_take b ≡ true)
         w' = and_true _ _ w
 
-        go : (o : Out) → interp Last call a ts ≡ o → IsOver o → ((us : List Token) → length us * suc top + level b ≤ n → IsOver (interp Last call b us)) → IsOver (o >>= λ x us. interp Last call b us >>= λ y vs. Got (Pair x y) vs)
+        go : (o : Out) → interp Last call a ts ≡ o → IsOver o →
+            ((us : List Token) → length us * suc top + level b ≤ n → IsOver (interp Last call b us)) →
+            IsOver (o >>= λ x us. interp Last call b us >>= λ y vs. Got (Pair x y) vs)
         go Late e i rest = i
         go (Refused m) e i rest = tt
         go (Got x us) e i rest =
             let r = interp_sound call sound a ts x us e in
             let le : length ts ≡ length (flat x) + length us = ap length r.tokens ∙ length-append (flat x) us in
-            over_wrap (Pair x) (interp Last call b us) (rest us (room (nullable a) (length ts) (length us) (length (flat x)) top (level a) (level b) (height b) n le (takes x a us r.tree) l (level_height b) (omega arith)))
+            over_wrap (Pair x) (interp Last call b us) (rest us
+            (room (nullable a) (length ts) (length us) (length (flat x)) top (level a) (level b) (height b) n le
+            (takes x a us r.tree) l (level_height b) (omega arith)))
     interp_over (alt t a b) ts w h l =
         let w' = and_true _ _ w in
         over_cond (ask t ts) _ _
         (over_wrap First (interp Last call a ts) (interp_over a ts w'.0 (omega arith) (omega arith)))
         (over_wrap Second (interp Last call b ts) (interp_over b ts w'.1 (omega arith) (omega arith)))
-    interp_over (star t g) ts w h l = let f = guarded (nullable g) (turns_take g) w in over (loop t g) ts (f.0, f.1, omega arith) (omega arith)
+    interp_over (star t g) ts w h l = let f = guarded (nullable g) (turns_take g) w in
+        over (loop t g) ts (f.0, f.1, omega arith) (omega arith)
     interp_over (ref k) ts w h l = over (kind k) ts tt (omega arith)
 
-  body_fits : (c : Call) → CallFits c → (turns_take (body c) ≡ true) × (height (body c) ≤ top) × (level (body c) ≤ call_level c)
+  body_fits : (c : Call) → CallFits c → (turns_take (body c) ≡ true) × (height (body c) ≤ top) ×
+      (level (body c) ≤ call_level c)
   body_fits (kind k) f = let w = founded k (all k) in (w.turns, w.height, w.level)
   body_fits (loop t g) f =
       let both : (turns_take g && cond (nullable g) false (turns_take g)) && true ≡ true = rw (f.0, f.1) refl in
@@ -226,7 +245,8 @@ module _ (all : (k : Kind) → is_founded k ≡ true) where
   run_over zero c ts f h = absurd (omega arith)
   run_over (suc n) c ts f h =
       let w = body_fits c f in
-      over_wrap (made c) (interp Last (run n) (body c) ts) (interp_over n (run n) (run_sound n) (run_over n) (body c) ts w.0 w.1 (omega (arith, w.2)))
+      over_wrap (made c) (interp Last (run n) (body c) ts) (interp_over n (run n) (run_sound n) (run_over n)
+      (body c) ts w.0 w.1 (omega (arith, w.2)))
 
   level_top : (c : Call) → CallFits c → call_level c ≤ top
   level_top (kind k) f = (founded k (all k)).rank
@@ -240,7 +260,8 @@ module _ (all : (k : Kind) → is_founded k ≡ true) where
   abbrev pub Extends : (Call → List Token → Out) → (Call → List Token → Out) → Type 0
   Extends call other = (c : Call) (ts : List Token) → CallFits c → Below (call c ts) (other c ts)
 
-  interp_below : (call other : Call → List Token → Out) → Extends call other → (g : Gram) (ts : List Token) → turns_take g ≡ true → height g ≤ top → Below (interp Last call g ts) (interp Last other g ts)
+  interp_below : (call other : Call → List Token → Out) → Extends call other → (g : Gram) (ts : List Token) →
+      turns_take g ≡ true → height g ≤ top → Below (interp Last call g ts) (interp Last other g ts)
   interp_below call other ext (one p) ts w h = below_same (one_at p ts)
   interp_below call other ext (last c) ts w h = below_same (last_at Last c ts)
   interp_below call other ext raw ts w h = below_same (raw_at 0 ts)
@@ -248,14 +269,19 @@ module _ (all : (k : Kind) → is_founded k ≡ true) where
   interp_below call other ext never ts w h = refl
   interp_below call other ext (seq a b) ts w h =
       let w' = and_true _ _ w in
-      below_bind (interp Last call a ts) (interp Last other a ts) _ _ (interp_below call other ext a ts w'.0 (omega arith))
-      (λ x us. below_wrap (Pair x) (interp Last call b us) (interp Last other b us) (interp_below call other ext b us w'.1 (omega arith)))
+      below_bind (interp Last call a ts) (interp Last other a ts) _ _
+      (interp_below call other ext a ts w'.0 (omega arith))
+      (λ x us. below_wrap (Pair x) (interp Last call b us) (interp Last other b us)
+      (interp_below call other ext b us w'.1 (omega arith)))
   interp_below call other ext (alt t a b) ts w h =
       let w' = and_true _ _ w in
       below_cond (ask t ts) _ _ _ _
-      (below_wrap First (interp Last call a ts) (interp Last other a ts) (interp_below call other ext a ts w'.0 (omega arith)))
-      (below_wrap Second (interp Last call b ts) (interp Last other b ts) (interp_below call other ext b ts w'.1 (omega arith)))
-  interp_below call other ext (star t g) ts w h = let f = guarded (nullable g) (turns_take g) w in ext (loop t g) ts (f.0, f.1, h)
+      (below_wrap First (interp Last call a ts) (interp Last other a ts)
+      (interp_below call other ext a ts w'.0 (omega arith)))
+      (below_wrap Second (interp Last call b ts) (interp Last other b ts)
+      (interp_below call other ext b ts w'.1 (omega arith)))
+  interp_below call other ext (star t g) ts w h = let f = guarded (nullable g) (turns_take g) w in
+      ext (loop t g) ts (f.0, f.1, h)
   interp_below call other ext (ref k) ts w h = ext (kind k) ts tt
 
   -- more fuel changes no answer
@@ -264,7 +290,8 @@ module _ (all : (k : Kind) → is_founded k ≡ true) where
   run_below (suc n) zero h c ts f = absurd (omega arith)
   run_below (suc n) (suc m) h c ts f =
       let w = body_fits c f in
-      below_wrap (made c) (interp Last (run n) (body c) ts) (interp Last (run m) (body c) ts) (interp_below (run n) (run m) (run_below n m (omega arith)) (body c) ts w.0 w.1)
+      below_wrap (made c) (interp Last (run n) (body c) ts) (interp Last (run m) (body c) ts)
+      (interp_below (run n) (run m) (run_below n m (omega arith)) (body c) ts w.0 w.1)
 
   pub run_reads : (n : ℕ) → Extends (run n) reads
   unfolding reads
@@ -277,24 +304,28 @@ module _ (all : (k : Kind) → is_founded k ≡ true) where
       (cases_lt n m)
 
   -- what each call reads, by one step of the table
-  pub reads_step : (c : Call) → CallFits c → (ts : List Token) → reads c ts ≡ wrap (made c) (interp Last reads (body c) ts)
+  pub reads_step : (c : Call) → CallFits c → (ts : List Token) →
+      reads c ts ≡ wrap (made c) (interp Last reads (body c) ts)
   unfolding reads
   reads_step c f ts =
       let w = body_fits c f in
       let n : ℕ = length ts * suc top + top in
-      below_over _ _ (below_wrap (made c) (interp Last (run n) (body c) ts) (interp Last reads (body c) ts) (interp_below (run n) reads (run_reads n) (body c) ts w.0 w.1)) (reads_over c ts f)
+      below_over _ _ (below_wrap (made c) (interp Last (run n) (body c) ts) (interp Last reads (body c) ts)
+      (interp_below (run n) reads (run_reads n) (body c) ts w.0 w.1)) (reads_over c ts f)
 
   pub reads_sound : IsSound reads
   unfolding reads
   reads_sound c ts = run_sound (suc (length ts * suc top + top)) c ts
 
-  pub reads_complete : (c : Call) → CallFits c → (x : Tree) (r : List Token) → Derives x (entry c) r → reads c (flat x ++ r) ≡ Got x r
+  pub reads_complete : (c : Call) → CallFits c → (x : Tree) (r : List Token) → Derives x (entry c) r →
+      reads c (flat x ++ r) ≡ Got x r
   reads_complete c f x r d =
       let e : run (size x) c (flat x ++ r) ≡ Got x r = by_entry c x r d in
       subst (λ o. Below o (reads c (flat x ++ r))) e (run_reads (size x) c (flat x ++ r) f)
 
   -- a kind that takes a token leaves fewer
-  pub reads_shorter : (k : Kind) → skips k ≡ false → (ts us : List Token) (x : Tree) → reads (kind k) ts ≡ Got x us → length us < length ts
+  pub reads_shorter : (k : Kind) → skips k ≡ false → (ts us : List Token) (x : Tree) → reads (kind k) ts ≡ Got x us →
+      length us < length ts
   reads_shorter k s ts us x e =
       let r = reads_sound (kind k) ts x us e in
       let le : length ts ≡ length (flat x) + length us = ap length r.tokens ∙ length-append (flat x) us in

@@ -24,4 +24,5 @@ ReadBack = (tokens : List Token) (x : Tree) → IsFile tokens x → IsFile (flat
 
 -- tokens are a file or have a syntax fault
 abbrev pub FileOrFault : Type 0
-FileOrFault = (tokens : List Token) → ((tree : Tree) × IsFile tokens tree) ⊎ ((place : Option ℕ) × IsSyntaxFault tokens place)
+FileOrFault = (tokens : List Token) → ((tree : Tree) × IsFile tokens tree) ⊎
+    ((place : Option ℕ) × IsSyntaxFault tokens place)

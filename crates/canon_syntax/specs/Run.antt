@@ -65,7 +65,8 @@ interp made call raw ts = raw_at 0 ts
 interp made call nothing ts = Got Nil ts
 interp made call never ts = Refused (length ts)
 interp made call (seq a b) ts = interp made call a ts >>= λ x us. interp made call b us >>= λ y vs. Got (Pair x y) vs
-interp made call (alt t a b) ts = cond (ask t ts) (wrap First (interp made call a ts)) (wrap Second (interp made call b ts))
+interp made call (alt t a b) ts = cond (ask t ts) (wrap First (interp made call a ts))
+    (wrap Second (interp made call b ts))
 interp made call (star t g) ts = call (loop t g) ts
 interp made call (ref k) ts = call (kind k) ts
 

@@ -30,7 +30,8 @@ braces_tree inside = Pair (Leaf (Opens Brace)) (Pair inside (Leaf (Closes Brace)
 
 -- name ! { tokens }
 abbrev pub macro_tree : ItemMacro → Tree
-macro_tree m = Node AMacro (Pair (ident_tree m.ident.now) (Pair (Last 33 Alone) (braces_tree (Raw (entry_tokens m.tokens.now)))))
+macro_tree m = Node AMacro
+    (Pair (ident_tree m.ident.now) (Pair (Last 33 Alone) (braces_tree (Raw (entry_tokens m.tokens.now)))))
 
 -- an item
 abbrev pub item_tree : Items.Item → Tree

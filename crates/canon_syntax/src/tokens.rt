@@ -22,7 +22,8 @@ use token_entries::entry::Entry;
 
 // The name that an entry is, if it is one.
 fn name<'a>(entry: &Entry<'a>) -> Option<&'a Ident>
-    ensures some { IfSome result (λ ident. (entry_token entry.now ≡ token.Ident (ident_text ident.now)) × (is_ident (entry_token entry.now) ≡ true)) }
+    ensures some { IfSome result (λ ident. (entry_token entry.now ≡ token.Ident (ident_text ident.now)) ×
+        (is_ident (entry_token entry.now) ≡ true)) }
     ensures none { IfNone result (is_ident (entry_token entry.now) ≡ false) }
 {
     match entry {

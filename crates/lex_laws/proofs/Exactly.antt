@@ -11,7 +11,8 @@ use Rattle.proc_macro2.specs.Leaf.{AreLeaves}
 use Rattle.lex_laws.proofs.Forests.{same_forest, spaced_no_fault}
 
 pub forest_back : (base : ℕ) (stream : List Spanned) → AreLeaves (plain stream) → IsMatched stream
-    → IsWellSpaced (plain stream) ↔ ((read : List Spanned) × IsForest base (text (plain stream)) read × (plain read ≡ plain stream))
+    → IsWellSpaced (plain stream) ↔ ((read : List Spanned) × IsForest base (text (plain stream)) read ×
+    (plain read ≡ plain stream))
 forest_back base stream a m = (
   λ w. ⊎_elim
       (λ (read, f). (read, f, (same_forest base stream read a f).0 w))

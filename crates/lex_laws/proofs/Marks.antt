@@ -1,7 +1,8 @@
 -- Marks: which they are, and what may follow them.
 use Rattle.std.proofs.Common.{◌≡◌, ℕ, List, [], ◌∷◌, ◌++◌, refl, sym, ap, subst, inl, inr, ⊎_elim}
 use Rattle.std.specs.Prelude.{true, false, not, ◌⊎◌, ◌&&◌, ◌||◌, ◌==◌, is_some}
-use Rattle.std.proofs.lemmas.Bool.{and_parts, and_from, and_left, and_right, or_left, or_right, or_from, or_cases, eqb-true}
+use Rattle.std.proofs.lemmas.Bool.{and_parts, and_from, and_left, and_right, or_left, or_right, or_from, or_cases}
+use Rattle.std.proofs.lemmas.Bool.{eqb-true}
 use Rattle.rust_lex.specs.Chars.{is_mark, begins, is_slash_or_star, marks, is_among}
 use Rattle.rust_escape.specs.declared.mode.Mode.TheVariants as modes
 use Rattle.rust_lex.specs.QuotedScan.{past_char}
@@ -16,7 +17,8 @@ use Rattle.rust_lex.proofs.Quieter.{Shuns, calm_shuns}
 -- the 22 marks are the other 21 and '
 among_front : (ds : List ℕ) (c d : ℕ) → is_among ds c ≡ true → is_among (ds ++ (d ∷ [])) c ≡ true
 among_front [] c d h = cc
-among_front (e ∷ ds) c d h = ⊎_elim (λ x. or_left (e == c) (is_among (ds ++ (d ∷ [])) c) x) (λ x. or_right (e == c) (is_among (ds ++ (d ∷ [])) c) (among_front ds c d x)) (or_cases (e == c) (is_among ds c) h)
+among_front (e ∷ ds) c d h = ⊎_elim (λ x. or_left (e == c) (is_among (ds ++ (d ∷ [])) c) x)
+    (λ x. or_right (e == c) (is_among (ds ++ (d ∷ [])) c) (among_front ds c d x)) (or_cases (e == c) (is_among ds c) h)
 
 among_parts : (ds : List ℕ) (c d : ℕ) → is_among (ds ++ (d ∷ [])) c ≡ true → (is_among ds c ≡ true) ⊎ (d ≡ c)
 among_parts [] c d h = ⊎_elim (λ x. inr (eqb-true d c x)) (λ x. cc) (or_cases (d == c) false h)
@@ -36,22 +38,28 @@ quote_is = refl
 
 pub mark_or_quote : (c : ℕ) → is_punctuation c ≡ true → (c == 39) ≡ false → is_mark c ≡ true
 unfolding is_mark is_punctuation
-mark_or_quote c h n = ⊎_elim (λ x. x) (λ e. let q : (39 == 39) ≡ false = subst (λ d. (d == 39) ≡ false) (sym e) n in cc) (among_parts marks c 39 h)
+mark_or_quote c h n = ⊎_elim (λ x. x) (λ e. let q : (39 == 39) ≡ false = subst (λ d. (d == 39) ≡ false) (sym e) n in cc)
+    (among_parts marks c 39 h)
 
 -- what begins with a mark
 pub begun_is : (c : ℕ) (rest : List ℕ) → begins_mark (c ∷ rest) ≡ true → is_punctuation c ≡ true
 begun_is c rest h =
     ⊎_elim
     (λ m. let (k, _) = and_parts (is_mark c) (not (c == 47 && begins is_slash_or_star rest)) m in mark_is c k)
-    (λ m. let (k, _) = and_parts (c == 39) (begins_lifetime rest) m in subst (λ d. is_punctuation d ≡ true) (sym (eqb-true c 39 k)) quote_is)
+    (λ m. let (k, _) = and_parts (c == 39) (begins_lifetime rest) m in subst (λ d. is_punctuation d ≡ true)
+    (sym (eqb-true c 39 k)) quote_is)
     (or_cases (is_mark c && not (c == 47 && begins is_slash_or_star rest)) (c == 39 && begins_lifetime rest) h)
 
 -- a mark that begins no comment
-pub mark_before : (c : ℕ) (rest : List ℕ) → is_mark c ≡ true → (c == 47 && begins is_slash_or_star rest) ≡ false → begins_mark (c ∷ rest) ≡ true
-mark_before c rest h n = or_left (is_mark c && not (c == 47 && begins is_slash_or_star rest)) (c == 39 && begins_lifetime rest) (and_from (is_mark c) (not (c == 47 && begins is_slash_or_star rest)) h (ap not n))
+pub mark_before : (c : ℕ) (rest : List ℕ) → is_mark c ≡ true → (c == 47 && begins is_slash_or_star rest) ≡ false →
+    begins_mark (c ∷ rest) ≡ true
+mark_before c rest h n = or_left (is_mark c && not (c == 47 && begins is_slash_or_star rest))
+    (c == 39 && begins_lifetime rest) (and_from (is_mark c) (not (c == 47 && begins is_slash_or_star rest)) h
+    (ap not n))
 
 pub quote_before : (rest : List ℕ) → begins_lifetime rest ≡ true → begins_mark (39 ∷ rest) ≡ true
-quote_before rest h = or_right (is_mark 39 && not (39 == 47 && begins is_slash_or_star rest)) (39 == 39 && begins_lifetime rest) h
+quote_before rest h = or_right (is_mark 39 && not (39 == 47 && begins is_slash_or_star rest))
+    (39 == 39 && begins_lifetime rest) h
 
 shuns_mark : Shuns is_mark
 unfolding is_mark
@@ -61,7 +69,8 @@ shuns_slash_or_star : Shuns is_slash_or_star
 shuns_slash_or_star = record { space = refl; round = refl; square = refl }
 
 pub mark_calm : (c : ℕ) (calmer : List ℕ) → is_mark c ≡ true → IsCalm calmer → begins_mark (c ∷ calmer) ≡ true
-mark_calm c calmer h k = mark_before c calmer h (and_right (c == 47) (begins is_slash_or_star calmer) (calm_shuns is_slash_or_star calmer shuns_slash_or_star k))
+mark_calm c calmer h k = mark_before c calmer h (and_right (c == 47) (begins is_slash_or_star calmer)
+    (calm_shuns is_slash_or_star calmer shuns_slash_or_star k))
 
 no_mark : (calmer : List ℕ) → IsCalm calmer → begins_mark calmer ≡ false
 no_mark [] k = refl
@@ -71,11 +80,14 @@ no_mark (c ∷ cs) k = or_from (is_mark c && not (c == 47 && begins is_slash_or_
 
 no_char : (calmer : List ℕ) → IsCalm calmer → begins_char calmer ≡ false
 no_char [] k = refl
-no_char (c ∷ cs) k = and_left (c == 39) (is_some (past_char modes.Char cs)) (among_each (λ d. (d == 39) ≡ false) calm (refl, (refl, (refl, tt))) c k)
+no_char (c ∷ cs) k = and_left (c == 39) (is_some (past_char modes.Char cs))
+    (among_each (λ d. (d == 39) ≡ false) calm (refl, (refl, (refl, tt))) c k)
 
 -- a mark before anything else is alone
-pub alone_before : (c : ℕ) (rest : List ℕ) → (c == 39) ≡ false → begins_mark rest ≡ false → begins_char rest ≡ false → is_joint (c ∷ rest) ≡ false
-alone_before c rest n a b = or_from (c == 39) (begins_mark rest || begins_char rest) n (or_from (begins_mark rest) (begins_char rest) a b)
+pub alone_before : (c : ℕ) (rest : List ℕ) → (c == 39) ≡ false → begins_mark rest ≡ false → begins_char rest ≡ false →
+    is_joint (c ∷ rest) ≡ false
+alone_before c rest n a b = or_from (c == 39) (begins_mark rest || begins_char rest) n
+    (or_from (begins_mark rest) (begins_char rest) a b)
 
 -- so before a calm text
 pub alone_calm : (c : ℕ) (calmer : List ℕ) → (c == 39) ≡ false → IsCalm calmer → is_joint (c ∷ calmer) ≡ false
@@ -83,7 +95,9 @@ alone_calm c calmer n k = alone_before c calmer n (no_mark calmer k) (no_char ca
 
 -- and one before a mark or a character literal is joint
 pub joint_mark : (c : ℕ) (rest : List ℕ) → begins_mark rest ≡ true → is_joint (c ∷ rest) ≡ true
-joint_mark c rest h = or_right (c == 39) (begins_mark rest || begins_char rest) (or_left (begins_mark rest) (begins_char rest) h)
+joint_mark c rest h = or_right (c == 39) (begins_mark rest || begins_char rest)
+    (or_left (begins_mark rest) (begins_char rest) h)
 
 pub joint_char : (c : ℕ) (rest : List ℕ) → begins_char rest ≡ true → is_joint (c ∷ rest) ≡ true
-joint_char c rest h = or_right (c == 39) (begins_mark rest || begins_char rest) (or_right (begins_mark rest) (begins_char rest) h)
+joint_char c rest h = or_right (c == 39) (begins_mark rest || begins_char rest)
+    (or_right (begins_mark rest) (begins_char rest) h)

@@ -32,7 +32,8 @@ use Rattle.proc_macro2.specs.Leaf.{IsLeaf, AreLeaves}
 use Rattle.rust_leaf.specs.Parse.{IsLiteralLeaf}
 use Rattle.lex_laws.specs.Read.{IsReadAs}
 use Rattle.rust_lex.proofs.Alone.{ident_calm, literal_calm}
-use Rattle.lex_laws.proofs.Marks.{mark_or_quote, mark_before, quote_before, mark_calm, alone_calm, joint_mark, joint_char}
+use Rattle.lex_laws.proofs.Marks.{mark_or_quote, mark_before, quote_before, mark_calm, alone_calm, joint_mark}
+use Rattle.lex_laws.proofs.Marks.{joint_char}
 use Rattle.lex_laws.proofs.Lifetimes.{lifetime_word, lifetime_string}
 use Rattle.lex_laws.proofs.Plain.{plain_of, cover_tokens}
 
@@ -51,7 +52,8 @@ text_behind t (u ∷ us) = refl
 -- a closing token that stands close begins a calm text
 calm_closing : (u : Token) (us : List Token) → is_hugged u ≡ true → IsTrue (may_stand u us) → IsCalm (text (u ∷ us))
 calm_closing (Opens d) us h m = cc
-calm_closing (Closes delimiter.Parenthesis) us h m = subst IsCalm (sym (text_behind (Closes delimiter.Parenthesis) us)) refl
+calm_closing (Closes delimiter.Parenthesis) us h m = subst IsCalm
+    (sym (text_behind (Closes delimiter.Parenthesis) us)) refl
 calm_closing (Closes delimiter.Brace) us h m = cc
 calm_closing (Closes delimiter.Bracket) us h m = subst IsCalm (sym (text_behind (Closes delimiter.Bracket) us)) refl
 calm_closing (Closes delimiter.None) us h m = cc
@@ -71,7 +73,8 @@ calm_behind t (u ∷ us) h w =
     (cases_Bool (is_apart t u))
 
 -- a character literal is found behind a mark
-char_opener : (o : Mode) (tail rest : List ℕ) → IsTail o tail → is_character ((opening_of o ++ tail) ++ rest) ≡ true → begins_char ((opening_of o ++ tail) ++ rest) ≡ true
+char_opener : (o : Mode) (tail rest : List ℕ) → IsTail o tail → is_character ((opening_of o ++ tail) ++ rest) ≡ true →
+    begins_char ((opening_of o ++ tail) ++ rest) ≡ true
 char_opener modes.Char tail rest i h = ap is_some (single_whole modes.Char tail rest i)
 char_opener modes.Byte tail rest i h = cc
 char_opener modes.Str tail rest i h = cc
@@ -87,7 +90,8 @@ tick-digit = refl
 
 no_number : (cs rest : List ℕ) → begins is_digit cs ≡ true → is_character (cs ++ rest) ≡ true → ⊥
 no_number [] rest d h = cc
-no_number (c ∷ cs) rest d h = let e : is_digit 39 ≡ true = subst (λ x. is_digit x ≡ true) (eqb-true c 39 h) d in let n = tick-digit in cc
+no_number (c ∷ cs) rest d h = let e : is_digit 39 ≡ true = subst (λ x. is_digit x ≡ true) (eqb-true c 39 h) d in
+    let n = tick-digit in cc
 
 character_more : (cs rest : List ℕ) → is_character cs ≡ true → is_character (cs ++ rest) ≡ true
 character_more [] rest h = cc
@@ -95,7 +99,8 @@ character_more (c ∷ cs) rest h = h
 
 char_begins : (cs rest : List ℕ) → IsLiteralLeaf cs → is_character cs ≡ true → begins_char (cs ++ rest) ≡ true
 char_begins cs rest (kind, (body, suffix, e, b, s)) h =
-    let more : is_character (body ++ (suffix ++ rest)) ≡ true = ap is_character (sym (append_assoc body suffix rest) ∙ ap (λ x. x ++ rest) (sym e)) ∙ character_more cs rest h in
+    let more : is_character (body ++ (suffix ++ rest)) ≡ true = ap is_character (sym (append_assoc body suffix rest)
+    ∙ ap (λ x. x ++ rest) (sym e)) ∙ character_more cs rest h in
     let same : cs ++ rest ≡ body ++ (suffix ++ rest) = ap (λ x. x ++ rest) e ∙ append_assoc body suffix rest in
     ap begins_char same ∙ ⊎_elim
     (λ (o, inside, _, f, i). rw f (char_opener o inside (suffix ++ rest) i (rw f at more)))
@@ -103,12 +108,15 @@ char_begins cs rest (kind, (body, suffix, e, b, s)) h =
     b
 
 -- what is printed of a sign begins with a mark
-quote_front : (ts : List Token) → follows_quote ts ≡ true → AreLeaves ts → IsWellSpaced ts → begins_lifetime (behind (Punct 39 Joint) ts) ≡ true
+quote_front : (ts : List Token) → follows_quote ts ≡ true → AreLeaves ts → IsWellSpaced ts →
+    begins_lifetime (behind (Punct 39 Joint) ts) ≡ true
 quote_front [] f a w = cc
 quote_front (Ident cs ∷ ts) f a w =
     let calm = calm_behind (Ident cs) ts refl w.1 in
-    ap begins_lifetime (text_behind (Ident cs) ts) ∙ lifetime_word cs (behind (Ident cs) ts) (ident_calm cs [] (behind (Ident cs) ts) a.0 calm) calm
-quote_front (Literal cs ∷ ts) f a w = ap begins_lifetime (text_behind (Literal cs) ts) ∙ lifetime_string cs (behind (Literal cs) ts) f
+    ap begins_lifetime (text_behind (Ident cs) ts) ∙ lifetime_word cs (behind (Ident cs) ts)
+    (ident_calm cs [] (behind (Ident cs) ts) a.0 calm) calm
+quote_front (Literal cs ∷ ts) f a w = ap begins_lifetime (text_behind (Literal cs) ts)
+    ∙ lifetime_string cs (behind (Literal cs) ts) f
 quote_front (Opens d ∷ ts) f a w = cc
 quote_front (Closes d ∷ ts) f a w = cc
 quote_front (Punct c spacing ∷ ts) f a w = cc
@@ -117,10 +125,13 @@ character_front : (cs rest : List ℕ) → is_character cs ≡ true → begins i
 character_front [] rest h = cc
 character_front (c ∷ cs) rest h = rw (eqb-true c 39 h) refl
 
-no_comment : (c : ℕ) (ts : List Token) → follows_mark c ts ≡ true → (c == 47 && begins is_slash_or_star (behind (Punct c Joint) ts)) ≡ false
+no_comment : (c : ℕ) (ts : List Token) → follows_mark c ts ≡ true →
+    (c == 47 && begins is_slash_or_star (behind (Punct c Joint) ts)) ≡ false
 no_comment c [] f = cc
-no_comment c (Punct d spacing ∷ ts) f = ap (λ r. c == 47 && begins is_slash_or_star r) (text_behind (Punct d spacing) ts) ∙ not-true _ f
-no_comment c (Literal cs ∷ ts) f = and_right (c == 47) (begins is_slash_or_star (text (Literal cs ∷ ts))) (ap (begins is_slash_or_star) (text_behind (Literal cs) ts) ∙ character_front cs (behind (Literal cs) ts) f)
+no_comment c (Punct d spacing ∷ ts) f = ap (λ r. c == 47 && begins is_slash_or_star r)
+    (text_behind (Punct d spacing) ts) ∙ not-true _ f
+no_comment c (Literal cs ∷ ts) f = and_right (c == 47) (begins is_slash_or_star (text (Literal cs ∷ ts)))
+    (ap (begins is_slash_or_star) (text_behind (Literal cs) ts) ∙ character_front cs (behind (Literal cs) ts) f)
 no_comment c (Opens d ∷ ts) f = cc
 no_comment c (Closes d ∷ ts) f = cc
 no_comment c (Ident cs ∷ ts) f = cc
@@ -128,24 +139,31 @@ no_comment c (Ident cs ∷ ts) f = cc
 not_quote : (c : ℕ) → not (c == 39) ≡ true → (c == 39) ≡ false
 not_quote c h = not-true _ h
 
-sign_front : (c : ℕ) (s : Spacing) (ts : List Token) → is_punctuation c ≡ true → IsTrue (may_stand (Punct c s) ts) → AreLeaves ts → IsWellSpaced ts → begins_mark (c ∷ behind (Punct c s) ts) ≡ true
-sign_front c Alone ts h m a w = mark_calm c (behind (Punct c Alone) ts) (mark_or_quote c h (not_quote c m)) (calm_behind (Punct c Alone) ts refl w)
+sign_front : (c : ℕ) (s : Spacing) (ts : List Token) → is_punctuation c ≡ true → IsTrue (may_stand (Punct c s) ts) →
+    AreLeaves ts → IsWellSpaced ts → begins_mark (c ∷ behind (Punct c s) ts) ≡ true
+sign_front c Alone ts h m a w = mark_calm c (behind (Punct c Alone) ts) (mark_or_quote c h (not_quote c m))
+    (calm_behind (Punct c Alone) ts refl w)
 sign_front c Joint ts h m a w =
     ⊎_elim
     (λ q.
     let f : follows_quote ts ≡ true = rw q at m in
-    subst (λ d. begins_mark (d ∷ behind (Punct d Joint) ts) ≡ true) (sym (eqb-true c 39 q)) (quote_before (behind (Punct 39 Joint) ts) (quote_front ts f a w)))
-    (λ q. let f : follows_mark c ts ≡ true = rw q at m in mark_before c (behind (Punct c Joint) ts) (mark_or_quote c h q) (no_comment c ts f))
+    subst (λ d. begins_mark (d ∷ behind (Punct d Joint) ts) ≡ true) (sym (eqb-true c 39 q))
+    (quote_before (behind (Punct 39 Joint) ts) (quote_front ts f a w)))
+    (λ q. let f : follows_mark c ts ≡ true = rw q at m in mark_before c (behind (Punct c Joint) ts)
+    (mark_or_quote c h q) (no_comment c ts f))
     (cases_Bool (c == 39))
 
-sign_text : (c : ℕ) (s : Spacing) (ts : List Token) → is_punctuation c ≡ true → IsTrue (may_stand (Punct c s) ts) → AreLeaves ts → IsWellSpaced ts → begins_mark (text (Punct c s ∷ ts)) ≡ true
+sign_text : (c : ℕ) (s : Spacing) (ts : List Token) → is_punctuation c ≡ true → IsTrue (may_stand (Punct c s) ts) →
+    AreLeaves ts → IsWellSpaced ts → begins_mark (text (Punct c s ∷ ts)) ≡ true
 sign_text c s ts h m a w = ap begins_mark (text_behind (Punct c s) ts) ∙ sign_front c s ts h m a w
 
 -- a sign stands as it is spaced
-follows_joint : (c : ℕ) (ts : List Token) → follows_mark c ts ≡ true → AreLeaves ts → IsWellSpaced ts → is_joint (c ∷ behind (Punct c Joint) ts) ≡ true
+follows_joint : (c : ℕ) (ts : List Token) → follows_mark c ts ≡ true → AreLeaves ts → IsWellSpaced ts →
+    is_joint (c ∷ behind (Punct c Joint) ts) ≡ true
 follows_joint c [] f a w = cc
 follows_joint c (Punct d s ∷ ts) f a w = joint_mark c (text (Punct d s ∷ ts)) (sign_text d s ts a.0 w.0 a.1 w.1)
-follows_joint c (Literal cs ∷ ts) f a w = joint_char c (text (Literal cs ∷ ts)) (ap begins_char (text_behind (Literal cs) ts) ∙ char_begins cs (behind (Literal cs) ts) a.0 f)
+follows_joint c (Literal cs ∷ ts) f a w = joint_char c (text (Literal cs ∷ ts))
+    (ap begins_char (text_behind (Literal cs) ts) ∙ char_begins cs (behind (Literal cs) ts) a.0 f)
 follows_joint c (Opens d ∷ ts) f a w = cc
 follows_joint c (Closes d ∷ ts) f a w = cc
 follows_joint c (Ident cs ∷ ts) f a w = cc
@@ -153,8 +171,10 @@ follows_joint c (Ident cs ∷ ts) f a w = cc
 quote_joint : (rest : List ℕ) (c : ℕ) → (c == 39) ≡ true → is_joint (c ∷ rest) ≡ true
 quote_joint rest c q = rw q refl
 
-sign_spacing : (c : ℕ) (s : Spacing) (ts : List Token) → IsTrue (may_stand (Punct c s) ts) → AreLeaves ts → IsWellSpaced ts → spacing_of (is_joint (c ∷ behind (Punct c s) ts)) ≡ s
-sign_spacing c Alone ts m a w = ap spacing_of (alone_calm c (behind (Punct c Alone) ts) (not_quote c m) (calm_behind (Punct c Alone) ts refl w))
+sign_spacing : (c : ℕ) (s : Spacing) (ts : List Token) → IsTrue (may_stand (Punct c s) ts) → AreLeaves ts →
+    IsWellSpaced ts → spacing_of (is_joint (c ∷ behind (Punct c s) ts)) ≡ s
+sign_spacing c Alone ts m a w = ap spacing_of (alone_calm c (behind (Punct c Alone) ts) (not_quote c m)
+    (calm_behind (Punct c Alone) ts refl w))
 sign_spacing c Joint ts m a w =
     ⊎_elim
     (λ q. ap spacing_of (quote_joint (behind (Punct c Joint) ts) c q))
@@ -167,18 +187,36 @@ record Stands (t : Token) (rest : List ℕ) : Type 0 where
   fits : Fits kind (shown t) rest
   tokens_are : tokens_before kind (shown t) rest ≡ t ∷ []
 
-stands : (t : Token) (ts : List Token) → IsLeaf t → IsTrue (may_stand t ts) → AreLeaves ts → IsWellSpaced ts → Stands t (behind t ts)
+stands : (t : Token) (ts : List Token) → IsLeaf t → IsTrue (may_stand t ts) → AreLeaves ts → IsWellSpaced ts →
+    Stands t (behind t ts)
 stands (Opens delimiter.Parenthesis) ts h m a w = record { kind = Open lex.Parenthesis; fits = refl; tokens_are = refl }
 stands (Opens delimiter.Brace) ts h m a w = record { kind = Open lex.Brace; fits = refl; tokens_are = refl }
 stands (Opens delimiter.Bracket) ts h m a w = record { kind = Open lex.Bracket; fits = refl; tokens_are = refl }
 stands (Opens delimiter.None) ts h m a w = cc
-stands (Closes delimiter.Parenthesis) ts h m a w = record { kind = Close lex.Parenthesis; fits = refl; tokens_are = refl }
+stands (Closes delimiter.Parenthesis) ts h m a w = record {
+  kind = Close lex.Parenthesis;
+  fits = refl;
+  tokens_are = refl;
+}
 stands (Closes delimiter.Brace) ts h m a w = record { kind = Close lex.Brace; fits = refl; tokens_are = refl }
 stands (Closes delimiter.Bracket) ts h m a w = record { kind = Close lex.Bracket; fits = refl; tokens_are = refl }
 stands (Closes delimiter.None) ts h m a w = cc
-stands (Ident cs) ts h m a w = record { kind = kinds.Ident; fits = ident_calm cs [] (behind (Ident cs) ts) h (calm_behind (Ident cs) ts refl w); tokens_are = refl }
-stands (Literal cs) ts (kind, h) m a w = record { kind = kinds.Literal kind; fits = literal_calm kind cs [] (behind (Literal cs) ts) h (calm_behind (Literal cs) ts refl w); tokens_are = refl }
-stands (Punct c s) ts h m a w = record { kind = Mark; fits = (c, refl, sign_front c s ts h m a w); tokens_are = ap (λ s. Punct c s ∷ []) (sign_spacing c s ts m a w) }
+stands (Ident cs) ts h m a w = record {
+  kind = kinds.Ident;
+  fits = ident_calm cs [] (behind (Ident cs) ts) h
+      (calm_behind (Ident cs) ts refl w);
+  tokens_are = refl;
+}
+stands (Literal cs) ts (kind, h) m a w = record {
+  kind = kinds.Literal kind;
+  fits = literal_calm kind cs [] (behind (Literal cs) ts) h (calm_behind (Literal cs) ts refl w);
+  tokens_are = refl;
+}
+stands (Punct c s) ts h m a w = record {
+  kind = Mark;
+  fits = (c, refl, sign_front c s ts h m a w);
+  tokens_are = ap (λ s. Punct c s ∷ []) (sign_spacing c s ts m a w);
+}
 
 -- the pieces of printed tokens
 record Laid (ts : List Token) (printed : List ℕ) : Type 0 where
@@ -196,7 +234,12 @@ piece k cs = record { kind = k; chars = cs }
 
 laid_gap : (b : Bool) (ts : List Token) (printed : List ℕ) → Laid ts printed → Laid ts (space b ++ printed)
 laid_gap false ts printed l = l
-laid_gap true ts printed l = record { pieces = piece White (32 ∷ []) ∷ l.pieces; joined = ap (λ r. 32 ∷ r) l.joined; fit = (space-white, l.fit); tokens_are = l.tokens_are }
+laid_gap true ts printed l = record {
+  pieces = piece White (32 ∷ []) ∷ l.pieces;
+  joined = ap (λ r. 32 ∷ r) l.joined;
+  fit = (space-white, l.fit);
+  tokens_are = l.tokens_are;
+}
 
 laid_on : (t : Token) (ts : List Token) (rest : List ℕ) → Stands t rest → Laid ts rest → Laid (t ∷ ts) (shown t ++ rest)
 laid_on t ts rest s l = record {

@@ -9,7 +9,8 @@ use Rattle.rust_lex.specs.Chars.{is_first, is_next}
 use Rattle.rust_lex.specs.declared.piece.DocKind.{DocKind}
 use Rattle.rust_lex.specs.declared.piece.DocKind.TheVariants as doc
 use Rattle.rust_lex.specs.declared.piece.PieceKind.{PieceKind}
-use Rattle.rust_lex.specs.declared.piece.PieceKind.TheVariants.{FrontMark, White, Comment, Doc, Open, Close, Mark, Ident, Literal}
+use Rattle.rust_lex.specs.declared.piece.PieceKind.TheVariants.{FrontMark, White, Comment, Doc, Open, Close, Mark}
+use Rattle.rust_lex.specs.declared.piece.PieceKind.TheVariants.{Ident, Literal}
 use Rattle.rust_lex.specs.Quoted.{opener_of}
 use Rattle.rust_lex.specs.Piece.{Piece, Fits, FitsFront, IsIdent}
 use Rattle.rust_lex.specs.Cover.{onto, AreFit, AreFitFront}
@@ -47,13 +48,17 @@ doc-word : IsIdent (codes "doc") []
 unfolding is_first is_next opener_of unicode_ident
 doc-word = (refl, inl ((refl, refl), refl))
 
-doc_leaves : (kind : DocKind) (text : List ℕ) (ts : List Token) → scalars text ≡ true → AreLeaves ts → AreLeaves ((doc_marks kind ++ doc_group text) ++ ts)
+doc_leaves : (kind : DocKind) (text : List ℕ) (ts : List Token) → scalars text ≡ true → AreLeaves ts →
+    AreLeaves ((doc_marks kind ++ doc_group text) ++ ts)
 doc_leaves doc.OuterLine text ts h a = (hash-mark, (tt, (doc-word, (equals-mark, (string_literal text h, (tt, a))))))
-doc_leaves doc.InnerLine text ts h a = (hash-mark, (bang-mark, (tt, (doc-word, (equals-mark, (string_literal text h, (tt, a)))))))
+doc_leaves doc.InnerLine text ts h a =
+    (hash-mark, (bang-mark, (tt, (doc-word, (equals-mark, (string_literal text h, (tt, a)))))))
 doc_leaves doc.OuterBlock text ts h a = (hash-mark, (tt, (doc-word, (equals-mark, (string_literal text h, (tt, a))))))
-doc_leaves doc.InnerBlock text ts h a = (hash-mark, (bang-mark, (tt, (doc-word, (equals-mark, (string_literal text h, (tt, a)))))))
+doc_leaves doc.InnerBlock text ts h a =
+    (hash-mark, (bang-mark, (tt, (doc-word, (equals-mark, (string_literal text h, (tt, a)))))))
 
-with_front : (rest : List ℕ) (ts : List Token) → AreLeaves ts → (k : PieceKind) (cs : List ℕ) → scalars cs ≡ true → Fits k cs rest → AreLeaves (tokens_before k cs rest ++ ts)
+with_front : (rest : List ℕ) (ts : List Token) → AreLeaves ts → (k : PieceKind) (cs : List ℕ) → scalars cs ≡ true →
+    Fits k cs rest → AreLeaves (tokens_before k cs rest ++ ts)
 with_front rest ts a FrontMark cs s h = a
 with_front rest ts a White cs s h = a
 with_front rest ts a Comment cs s h = a
@@ -67,7 +72,9 @@ with_front rest ts a (Literal kind) cs s h = ((kind, literal_calm kind cs rest [
 read_leaves : (ps : List Piece) → scalars (onto ps []) ≡ true → AreFit ps [] → AreLeaves (plain_of ps [])
 read_leaves [] s f = tt
 read_leaves (p ∷ ps) s f =
-    with_front (onto ps []) (plain_of ps []) (read_leaves ps (characters_back p.chars (onto ps []) s) f.1) p.kind p.chars (characters_front p.chars (onto ps []) s) f.0
+    with_front (onto ps []) (plain_of ps [])
+    (read_leaves ps (characters_back p.chars (onto ps []) s) f.1) p.kind p.chars
+    (characters_front p.chars (onto ps []) s) f.0
 
 front_leaves : (ps : List Piece) → scalars (onto ps []) ≡ true → AreFitFront ps [] → AreLeaves (plain_of ps [])
 front_leaves [] s f = tt
@@ -76,7 +83,8 @@ front_leaves (p ∷ ps) s f = at_front p.kind p.chars (characters_front p.chars 
     others : AreLeaves (plain_of ps [])
     others = read_leaves ps (characters_back p.chars (onto ps []) s) f.1
 
-    at_front : (k : PieceKind) (cs : List ℕ) → scalars cs ≡ true → FitsFront k cs (onto ps []) → AreLeaves (tokens_before k cs (onto ps []) ++ plain_of ps [])
+    at_front : (k : PieceKind) (cs : List ℕ) → scalars cs ≡ true → FitsFront k cs (onto ps []) →
+        AreLeaves (tokens_before k cs (onto ps []) ++ plain_of ps [])
     at_front FrontMark cs t h = others
     at_front White cs t h = others
     at_front Comment cs t h = others

@@ -36,7 +36,8 @@ IsFound map s = (cs : List ℕ) × (source_of map s.span ≡ Some cs) × (IsWrit
 
 -- two tokens come of one doc
 abbrev pub AreOfOneDoc : Sources → Spanned → Spanned → Type 0
-AreOfOneDoc map s t = (s.span ≡ t.span) × (cs : List ℕ) × (source_of map s.span ≡ Some cs) × IsOfDoc s.token cs × IsOfDoc t.token cs
+AreOfOneDoc map s t = (s.span ≡ t.span) × (cs : List ℕ) × (source_of map s.span ≡ Some cs) × IsOfDoc s.token cs ×
+    IsOfDoc t.token cs
 
 -- where a token itself stands: of a group's two, the opening one is the first character and the closing one the last
 abbrev pub own_span : Spanned → Span

@@ -34,21 +34,25 @@ pub fn leaves()
 
 /// The tokens of a forest are leaves, and they are well spaced.
 pub fn forest_spaced()
-    ensures { (base : ℕ) (cs : List ℕ) (stream : List Spanned) → AreCharacters cs → IsForest base cs stream → AreLeaves (plain stream) × IsWellSpaced (plain stream) }
+    ensures { (base : ℕ) (cs : List ℕ) (stream : List Spanned) → AreCharacters cs → IsForest base cs stream →
+        AreLeaves (plain stream) × IsWellSpaced (plain stream) }
 {}
 
 /// Where the printed text of leaves has a forest, it has the same tokens exactly if they are well spaced.
 pub fn same_forest()
-    ensures { (base : ℕ) (stream read : List Spanned) → AreLeaves (plain stream) → IsForest base (text (plain stream)) read → IsWellSpaced (plain stream) ↔ (plain read ≡ plain stream) }
+    ensures { (base : ℕ) (stream read : List Spanned) → AreLeaves (plain stream) →
+        IsForest base (text (plain stream)) read → IsWellSpaced (plain stream) ↔ (plain read ≡ plain stream) }
 {}
 
 /// The printed text of well spaced leaves in matched groups has no lexical fault.
 pub fn no_fault()
-    ensures { (stream : List Spanned) (n : ℕ) → AreLeaves (plain stream) → IsMatched stream → IsWellSpaced (plain stream) → IsFaultBehind (text (plain stream)) n → ⊥ }
+    ensures { (stream : List Spanned) (n : ℕ) → AreLeaves (plain stream) → IsMatched stream →
+        IsWellSpaced (plain stream) → IsFaultBehind (text (plain stream)) n → ⊥ }
 {}
 
 /// Leaves in matched groups are well spaced exactly if their printed text has a forest of the same tokens.
 pub fn forest_back()
     ensures { (base : ℕ) (stream : List Spanned) → AreLeaves (plain stream) → IsMatched stream
-        → IsWellSpaced (plain stream) ↔ ((read : List Spanned) × IsForest base (text (plain stream)) read × (plain read ≡ plain stream)) }
+        → IsWellSpaced (plain stream) ↔ ((read : List Spanned) × IsForest base (text (plain stream)) read ×
+        (plain read ≡ plain stream)) }
 {}

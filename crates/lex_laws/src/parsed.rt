@@ -22,8 +22,10 @@ use std::alloc::Global;
 /// positions left for the text.
 pub fn parsed(alloc: Global, src: &str, map: &mut SourceMap) -> Result<TokenStream, LexFault>
     ensures spaced { IfOk result (λ read. AreLeaves (plain read) × IsWellSpaced (plain read)) }
-    ensures same { (stream : List Spanned) → chars src.now ≡ text (plain stream) → AreLeaves (plain stream) → IfOk result (λ read. IsWellSpaced (plain stream) ↔ (plain read ≡ plain stream)) }
-    ensures without_fault { (stream : List Spanned) (error : LexError) → chars src.now ≡ text (plain stream) → AreLeaves (plain stream) → IsMatched stream → IsWellSpaced (plain stream) → result ≡ Err (Lex error) → ⊥ }
+    ensures same { (stream : List Spanned) → chars src.now ≡ text (plain stream) → AreLeaves (plain stream) →
+        IfOk result (λ read. IsWellSpaced (plain stream) ↔ (plain read ≡ plain stream)) }
+    ensures without_fault { (stream : List Spanned) (error : LexError) → chars src.now ≡ text (plain stream) →
+        AreLeaves (plain stream) → IsMatched stream → IsWellSpaced (plain stream) → result ≡ Err (Lex error) → ⊥ }
     ensures full { (result ≡ Err MapFull) ↔ (2 ^ 32 ≤ next_position map.old + length (chars src.now)) }
 {
     TokenStream::from_str(alloc, src, map)

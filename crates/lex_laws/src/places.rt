@@ -11,10 +11,12 @@ ghost use Rattle.std.specs.Prelude.{◌≤◌, ℕ, List};
 /// as it is printed. That of a group goes from its opening delimiter to its closing one, and a token that
 /// comes of a doc comment has the comment.
 pub fn source_is_printed()
-    ensures { (map : Sources) (text : List ℕ) (stream : List Spanned) → 1 ≤ map.start → IsForest (next_position map) text stream → All (IsFound (with_text map text)) stream }
+    ensures { (map : Sources) (text : List ℕ) (stream : List Spanned) → 1 ≤ map.start →
+        IsForest (next_position map) text stream → All (IsFound (with_text map text)) stream }
 {}
 
 /// Each token stands behind those before it in the stream, but for the tokens of one doc comment.
 pub fn tokens_stand_in_order()
-    ensures { (map : Sources) (text : List ℕ) (stream : List Spanned) → 1 ≤ map.start → IsForest (next_position map) text stream → AllPairs (IsBehind (with_text map text)) stream }
+    ensures { (map : Sources) (text : List ℕ) (stream : List Spanned) → 1 ≤ map.start →
+        IsForest (next_position map) text stream → AllPairs (IsBehind (with_text map text)) stream }
 {}

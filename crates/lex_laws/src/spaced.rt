@@ -19,7 +19,8 @@ use std::alloc::Global;
 /// What `TokenStream::is_well_spaced` answers: true exactly if the stream's printed text has a forest of
 /// the same tokens, wherever its characters stand.
 pub fn is_well_spaced(stream: &TokenStream) -> bool
-    ensures { (base : ℕ) → IsTrue result ↔ ((read : List Spanned) × IsForest base (text (plain stream.now)) read × (plain read ≡ plain stream.now)) }
+    ensures { (base : ℕ) → IsTrue result ↔ ((read : List Spanned) × IsForest base (text (plain stream.now)) read ×
+        (plain read ≡ plain stream.now)) }
 {
     each_stream(stream);
     stream.is_well_spaced()

@@ -22,7 +22,8 @@ pub fn entries<'a>(alloc: Global, stream: &'a TokenStream) -> Result<Vec<Entry<'
 // Puts the tokens of the trees behind the others.
 #[cycle(walking)]
 fn put_trees<'a>(entries: &mut Vec<Entry<'a>>, trees: &'a [TokenTree]) -> Result<(), AllocError>
-    ensures { OnOk result (spanned_entries entries.new.items ≡ spanned_entries entries.old.items ++ trees_tokens trees.now) }
+    ensures { OnOk result (spanned_entries entries.new.items ≡
+        spanned_entries entries.old.items ++ trees_tokens trees.now) }
 {
     for tree in trees {
         put_tree(entries, tree)?;
@@ -33,7 +34,8 @@ fn put_trees<'a>(entries: &mut Vec<Entry<'a>>, trees: &'a [TokenTree]) -> Result
 // Puts the tokens of the tree behind the others.
 #[cycle(walking)]
 fn put_tree<'a>(entries: &mut Vec<Entry<'a>>, tree: &'a TokenTree) -> Result<(), AllocError>
-    ensures { OnOk result (spanned_entries entries.new.items ≡ spanned_entries entries.old.items ++ tree_tokens tree.now) }
+    ensures { OnOk result (spanned_entries entries.new.items ≡
+        spanned_entries entries.old.items ++ tree_tokens tree.now) }
 {
     match tree {
         TokenTree::Group(group) => {

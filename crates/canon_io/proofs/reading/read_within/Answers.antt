@@ -9,5 +9,6 @@ loop-filled-preserved g c =
       filled = read.fits;
       within = search rules;
       sound = search rules;
-      consumed = Consumes-filled _ _ _ c.loop-filled.bytes.items c.read_more.new.bytes.items c.loop-filled.filled c.in-Ok.count read.front c.loop-filled.invariant.consumed read.ok;
+      consumed = Consumes-filled _ _ _ c.loop-filled.bytes.items c.read_more.new.bytes.items c.loop-filled.filled
+          c.in-Ok.count read.front c.loop-filled.invariant.consumed read.ok;
     }

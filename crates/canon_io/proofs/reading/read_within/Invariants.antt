@@ -9,7 +9,8 @@ invariant-loop-filled g l = record {
   filled : l.filled ≤ vec_len l.bytes;
   within : vec_len l.bytes ≤ l.limit + 1;
   sound : has_failed l.reader ≡ false;
-  consumed : Consumes (g.R.Read.remaining (inner_of l.initial.reader)) (g.R.Read.remaining (inner_of l.reader)) (take l.filled l.bytes.items);
+  consumed : Consumes (g.R.Read.remaining (inner_of l.initial.reader)) (g.R.Read.remaining (inner_of l.reader))
+      (take l.filled l.bytes.items);
 }
 
 abbrev pub decreases-loop-filled : goal.decreases-loop-filled

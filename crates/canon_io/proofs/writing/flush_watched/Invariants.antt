@@ -5,7 +5,8 @@ use Rattle.canon_io.proofs.Retries.{retries_left}
 use Rattle.canon_io.proofs.writing.flush_watched.Given as goal
 
 abbrev pub invariant-loop-writer : goal.invariant-loop-writer
-invariant-loop-writer g l = Keeps (g.W.Write.contents (inner_of l.initial.writer)) (g.W.Write.contents (inner_of l.writer))
+invariant-loop-writer g l = Keeps (g.W.Write.contents (inner_of l.initial.writer))
+    (g.W.Write.contents (inner_of l.writer))
 
 abbrev pub decreases-loop-writer : goal.decreases-loop-writer
 decreases-loop-writer g l = retries_left (watch_of l.writer)

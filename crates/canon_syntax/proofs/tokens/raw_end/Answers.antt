@@ -17,10 +17,12 @@ loop-at-preserved c =
 pub returns-in_default-clause-ends : goal.returns-in_default-clause-ends
 returns-in_default-clause-ends c =
     let same = ap (λ (x : Entry). open_behind c.loop-at.depth (entry_token x)) c.index-tokens-at.is in
-    raw_stops _ _ _ _ c.loop-at-test.true (sym c.in_default.is ∙ c.open_behind.ensures.value ∙ same) c.loop-at.invariant.read
+    raw_stops _ _ _ _ c.loop-at-test.true (sym c.in_default.is ∙ c.open_behind.ensures.value
+    ∙ same) c.loop-at.invariant.read
 
 pub returns-then-depth-eq0-clause-ends : goal.returns-then-depth-eq0-clause-ends
 returns-then-depth-eq0-clause-ends c = raw_over _ _ _ c.loop-at-test.false c.if-depth-eq0.true c.loop-at.invariant.read
 
 pub returns-else-depth-eq0-clause-ends : goal.returns-else-depth-eq0-clause-ends
-returns-else-depth-eq0-clause-ends c = raw_unclosed _ _ _ c.loop-at-test.false c.if-depth-eq0.false c.loop-at.invariant.read
+returns-else-depth-eq0-clause-ends c = raw_unclosed _ _ _ c.loop-at-test.false c.if-depth-eq0.false
+    c.loop-at.invariant.read

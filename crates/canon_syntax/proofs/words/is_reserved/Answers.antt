@@ -9,5 +9,6 @@ use Rattle.canon_syntax.proofs.words.is_reserved.Goals as goal
 pub returns : goal.returns
 unfolding is_reserved
 returns c =
-    let h : c.is_one_of.result ≡ list_any (λ w. bytes_eq (chars w) (ident_text c.args.ident.now)) reserved = search rules in
+    let h : c.is_one_of.result ≡
+    list_any (λ w. bytes_eq (chars w) (ident_text c.args.ident.now)) reserved = search rules in
     h ∙ any_same reserved _ refl

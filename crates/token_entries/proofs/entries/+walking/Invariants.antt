@@ -12,4 +12,5 @@ decreases-put_tree l = 2 * length (tree_tokens l.tree.now)
 
 abbrev pub invariant-put_trees-loop-tree : goal.invariant-put_trees-loop-tree
 invariant-put_trees-loop-tree l =
-    spanned_entries l.entries.items ≡ spanned_entries l.initial.entries.items ++ trees_tokens (take l.tree-index l.trees)
+    spanned_entries l.entries.items ≡ spanned_entries l.initial.entries.items ++ trees_tokens
+    (take l.tree-index l.trees)
