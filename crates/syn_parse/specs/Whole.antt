@@ -1,7 +1,11 @@
 -- Whole parses: a stream is read from its beginning, and nothing is left over.
-use Rattle.std.specs.Prelude.{◌≡◌, List, ◌∷◌, Some, None, Result, Ok, IfOk}
+use Rattle.std.specs.Prelude.{◌≡◌, ◌⊎◌, ◌≤◌, ◌+◌, ◌^◌, ℕ, List, [], ◌∷◌, length, Some, None, Result, Ok, IfOk}
 use Rattle.proc_macro2.specs.Token.{Spanned}
+use Rattle.proc_macro2.specs.Forest.{IsFault, IsForest}
+use Rattle.rust_map.specs.declared.fault.LexFault.TheVariants.{Lex}
 use Rattle.syn_error.specs.declared.fault.ParseFault.{ParseFault}
+use Rattle.syn_error.specs.declared.fault.TextFault.{TextFault}
+use Rattle.syn_error.specs.declared.fault.TextFault.TheVariants as fault
 use Rattle.syn_parse.specs.Seen.{seen}
 use Rattle.syn_parse.specs.Input.{leftover, rest}
 use Rattle.syn_parse.specs.declared.input.Leftover.{Leftover}
@@ -35,3 +39,16 @@ pub record ReadsShort {A : Type 0} (reads : List Spanned → A → List Spanned 
   pub next : Spanned
   pub behind : List Spanned
   pub read : reads tokens value (next ∷ behind)
+
+-- a value is read from the whole stream of a text whose first character stands at the position base
+pub record ReadsText {A : Type 0} (reads : List Spanned → A → List Spanned → Type 0) (base : ℕ) (text : List ℕ) (value : A) : Type 0 where
+  pub stream : List Spanned
+  pub forest : IsForest base text stream
+  pub read : reads (seen stream) value []
+
+-- none is: the text has no stream, or none is read from its stream, or the map has no positions left for it
+abbrev pub RefusesText : {A : Type 0} → (List Spanned → A → List Spanned → Type 0) → (List Spanned → Type 0) → ℕ → List ℕ → TextFault → Type 0
+RefusesText reads refuses base text (fault.Lexical e) = IsFault base text (Lex e)
+RefusesText reads refuses base text (fault.Syntax e) = (stream : List Spanned) × IsForest base text stream × (refuses (seen stream) ⊎ ReadsShort reads (seen stream))
+RefusesText reads refuses base text fault.MapFull = 2 ^ 32 ≤ base + length text
+RefusesText reads refuses base text fault.Memory = Unit {0}

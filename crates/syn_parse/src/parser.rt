@@ -1,19 +1,22 @@
 //! Whole parses.
 
 ghost use Rattle.proc_macro2.specs.Token.{Spanned};
+ghost use Rattle.rust_map.specs.Sources.{next_position, with_text};
 ghost use Rattle.std.specs.Fn.{FnOnceReturnsAtMut};
-ghost use Rattle.std.specs.Prelude.{[], ◌≡◌, ◌⊎◌, Err, IfErr, IfOk, None, Ok, Result};
+ghost use Rattle.std.specs.Prelude.{[], ◌≡◌, ◌⊎◌, Err, IfErr, IfOk, None, Ok, OnOk, Result};
+ghost use Rattle.std.specs.Str.{chars};
 ghost use Rattle.syn_error.specs.Faults.{IsSyntax};
 ghost use Rattle.syn_error.specs.declared.fault.ParseFault.{ParseFault};
 ghost use Rattle.syn_parse.specs.Input.{leftover, rest};
 ghost use Rattle.syn_parse.specs.Seen.{seen};
-ghost use Rattle.syn_parse.specs.Whole.{IsRead, IsRefused, ReadsShort};
+ghost use Rattle.syn_parse.specs.Whole.{IsRead, IsRefused, ReadsShort, ReadsText, RefusesText};
 ghost use Rattle.syn_parse.specs.declared.input.ParseBuffer.{ParseBuffer};
 
 use crate::buffer::TokenBuffer;
 use crate::input::ParseBuffer;
 use crate::parse::Parse;
 use proc_macro2::tree::TokenStream;
+use rust_map::fault::LexFault;
 use rust_map::source_map::SourceMap;
 use std::alloc::Global;
 use syn_error::fault::{ParseFault, TextFault};
@@ -106,6 +109,31 @@ fn read_to_end<T: Parse>(input: &mut ParseBuffer<'_>) -> Result<T, ParseFault>
         Ok(value) => match input.require_end() {
             Ok(()) => Ok(value),
             Err(fault) => Err(fault),
+        },
+    }
+}
+
+/// Reads a whole text as a value of that type, and puts the text behind the others of the map.
+///
+/// The fault is that the map has no positions left for the text, that the text has a lexical fault, or that
+/// its stream is not such a value from its beginning to its end. The first two leave the map as it was.
+pub fn parse_str<T: Parse>(
+    alloc: Global,
+    text: &str,
+    map: &mut SourceMap,
+) -> Result<T, TextFault>
+    ensures read { IfOk result (λ x. ReadsText T.reads (next_position map.old) (chars text.now) x) }
+    ensures refused { IfErr result (RefusesText T.reads T.refuses (next_position map.old) (chars text.now)) }
+    ensures map { OnOk result (map.new ≡ with_text map.old (chars text.now)) }
+{
+    match TokenStream::from_str(alloc, text, map) {
+        Err(LexFault::Lex(error)) => Err(TextFault::Lexical(error)),
+        Err(LexFault::MapFull) => Err(TextFault::MapFull),
+        Err(LexFault::Memory) => Err(TextFault::Memory),
+        Ok(stream) => match parse2(alloc, stream) {
+            Ok(value) => Ok(value),
+            Err(ParseFault::Syntax(error)) => Err(TextFault::Syntax(error)),
+            Err(ParseFault::Memory) => Err(TextFault::Memory),
         },
     }
 }
