@@ -7,7 +7,6 @@ pub mod Heads
 pub mod Stands
 pub mod Leaves
 pub mod Input
-pub mod Trees
 pub mod Words
 pub mod Reads
 pub mod Whole
