@@ -11,6 +11,10 @@
 //! - `group`: groups in a stream.
 //! - `parse`: what can be read.
 //! - `parse_trees`: reading what holds other syntax, and leaves.
+//! - `kinds`, `marks`, `lifetime`: reading keywords and other kinds, punctuations, lifetimes.
+//! - `step`, `within`: reading by functions.
+//! - `parser`: whole parses.
+//! - `place`: places as what errors speak of.
 #![tactic(auto)]
 
 pub mod buffer;
