@@ -4,3 +4,4 @@ mod Putting
 mod Rows
 pub mod Shorter
 mod Wholes
+pub mod ReadPairs

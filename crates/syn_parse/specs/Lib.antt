@@ -13,3 +13,5 @@ pub mod Whole
 pub mod Marks
 pub mod Lifetimes
 pub mod Within
+pub mod ReadLists
+pub mod Lookaheads

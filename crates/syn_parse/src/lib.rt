@@ -25,6 +25,8 @@ pub mod group;
 pub mod input;
 pub mod kinds;
 pub mod lifetime;
+pub mod lists;
+pub mod lookahead;
 pub mod marks;
 pub mod next;
 pub mod parse;
