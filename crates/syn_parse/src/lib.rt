@@ -15,6 +15,8 @@
 //! - `step`, `within`: reading by functions.
 //! - `parser`: whole parses.
 //! - `place`: places as what errors speak of.
+//! - `lists`: reading lists of values with separators.
+//! - `lookahead`: looking for several kinds at one place, and the error that none stands there.
 #![tactic(auto)]
 
 pub mod buffer;
@@ -40,6 +42,7 @@ pub mod within;
 
 pub use buffer::TokenBuffer;
 pub use input::ParseBuffer;
+pub use lookahead::Lookahead1;
 pub use next::Next;
 pub use parse::Parse;
 pub use position::Cursor;
