@@ -117,11 +117,7 @@ fn read_to_end<T: Parse>(input: &mut ParseBuffer<'_>) -> Result<T, ParseFault>
 ///
 /// The fault is that the map has no positions left for the text, that the text has a lexical fault, or that
 /// its stream is not such a value from its beginning to its end. The first two leave the map as it was.
-pub fn parse_str<T: Parse>(
-    alloc: Global,
-    text: &str,
-    map: &mut SourceMap,
-) -> Result<T, TextFault>
+pub fn parse_str<T: Parse>(alloc: Global, text: &str, map: &mut SourceMap) -> Result<T, TextFault>
     ensures read { IfOk result (λ x. ReadsText T.reads (next_position map.old) (chars text.now) x) }
     ensures refused { IfErr result (RefusesText T.reads T.refuses (next_position map.old) (chars text.now)) }
     ensures map { OnOk result (map.new ≡ with_text map.old (chars text.now)) }
