@@ -1,0 +1,100 @@
+//! Groups that are closed, forks, and invisible groups.
+
+use proc_macro2::{Delimiter, Group, Ident, SourceMap, Span, TokenStream, TokenTree};
+use std::alloc::Global;
+use std::test::Fail;
+use syn_error::ParseFault;
+use syn_kinds::token;
+use syn_parse::parser::parse_stream;
+use syn_parse::{ParseBuffer, TokenBuffer};
+
+// One identifier of a group in parentheses, whatever else stands in it.
+fn first_inside(input: &mut ParseBuffer<'_>) -> Result<Ident, ParseFault> {
+    let (_span, mut content) = input.parse_group(Delimiter::Parenthesis)?;
+    let ident = content.parse::<Ident>()?;
+    input.close(content);
+    Ok(ident)
+}
+
+// What is said of a text of which that is read: the identifier, or the fault.
+fn said(alloc: Global, text: &str) -> Result<String, Fail> {
+    let mut map = SourceMap::new(alloc);
+    let stream = TokenStream::from_str(alloc, text, &mut map)?;
+    match parse_stream(alloc, first_inside, &stream) {
+        Ok(ident) => Ok(format!(in alloc; "{ident}")?),
+        Err(fault) => Ok(format!(in alloc; "{fault}")?),
+    }
+}
+
+#[test]
+fn what_is_left_in_a_closed_group_is_refused(rt: HostRuntime) -> Result<(), Fail> {
+    assert_eq!(rt; said(rt.alloc(), "(a)")?.as_str(), "a");
+    let inside = said(rt.alloc(), "(a b)")?;
+    assert_eq!(rt; inside.as_str(), "unexpected token, expected `)`");
+    let behind = said(rt.alloc(), "(a) b")?;
+    assert_eq!(rt; behind.as_str(), "unexpected token");
+    let none = said(rt.alloc(), "[a]")?;
+    assert_eq!(rt; none.as_str(), "expected parentheses");
+    Ok(())
+}
+
+#[test]
+fn forks_move_by_themselves(rt: HostRuntime) -> Result<(), Fail> {
+    let alloc = rt.alloc();
+    let mut map = SourceMap::new(alloc);
+    let stream = TokenStream::from_str(alloc, "a b", &mut map)?;
+    let buffer = TokenBuffer::new2(alloc, &stream, 1)?;
+    let mut input = ParseBuffer::new(alloc, buffer.begin());
+    let mut fork = input.fork();
+    let _first = fork.parse::<Ident>()?;
+    let again = input.parse::<Ident>()?;
+    assert!(rt; again.is_text("a"));
+    input.discard(fork);
+    let mut fork = input.fork();
+    let _second = fork.parse::<Ident>()?;
+    input.advance_to(fork);
+    assert!(rt; input.is_empty());
+    Ok(())
+}
+
+fn hidden(inside: TokenStream) -> TokenTree {
+    TokenTree::from(Group::new(Delimiter::None, inside))
+}
+
+// Three invisible groups in one another, the innermost of `a`, and an empty one behind them; then `b`.
+fn nested(alloc: Global) -> Result<TokenStream, Fail> {
+    let a = Ident::new(alloc, "a", Span::call_site()).map_err(|_| "a name")?;
+    let b = Ident::new(alloc, "b", Span::call_site()).map_err(|_| "a name")?;
+    let mut stream = TokenStream::from_tree(alloc, TokenTree::from(a))?;
+    for _ in 0..3 {
+        stream = TokenStream::from_tree(alloc, hidden(stream))?;
+    }
+    stream.push_tree(hidden(TokenStream::new(alloc)))?;
+    stream.push_tree(TokenTree::from(b))?;
+    Ok(stream)
+}
+
+#[test]
+fn invisible_groups_are_passed_through(rt: HostRuntime) -> Result<(), Fail> {
+    let alloc = rt.alloc();
+    let stream = nested(alloc)?;
+    let buffer = TokenBuffer::new2(alloc, &stream, 1)?;
+    let mut input = ParseBuffer::new(alloc, buffer.begin());
+    let a = input.parse::<Ident>()?;
+    assert!(rt; a.is_text("a") && !input.peek::<token::Paren>());
+    let b = input.parse::<Ident>()?;
+    assert!(rt; b.is_text("b") && input.is_empty());
+    Ok(())
+}
+
+#[test]
+fn within_reads_a_group(rt: HostRuntime) -> Result<(), Fail> {
+    let alloc = rt.alloc();
+    let mut map = SourceMap::new(alloc);
+    let stream = TokenStream::from_str(alloc, "[a] b", &mut map)?;
+    let buffer = TokenBuffer::new2(alloc, &stream, 1)?;
+    let mut input = ParseBuffer::new(alloc, buffer.begin());
+    let (_span, a) = input.within(Delimiter::Bracket, |content| content.parse::<Ident>())?;
+    assert!(rt; a.is_text("a") && input.peek::<Ident>());
+    Ok(())
+}

@@ -1,0 +1,13 @@
+//! Tests of reading streams: that calls succeed with ample memory, what is said of what can't be read, and where.
+//!
+//! - `read`: values that are read whole, and those that aren't.
+//! - `peeks`: what is looked for.
+//! - `groups`: groups that are closed, forks, and invisible groups.
+#![tactic(auto)]
+
+#[cfg(test)]
+mod groups;
+#[cfg(test)]
+mod peeks;
+#[cfg(test)]
+mod read;
