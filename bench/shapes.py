@@ -8,6 +8,7 @@ packages rust-src and librust-proc-macro2-dev where they are missing. The peer i
 it is kept."""
 
 import glob
+import json
 import os
 import random
 import subprocess
@@ -67,6 +68,8 @@ def shapes(std):
     yield "one large generated file", generated()
     yield "tokens of one character", b"a+" * (SIZE // 4)
     yield "one string", b'"' + b"s" * LONG + b'"'
+    yield "one string, each eighth character an escape", b'"' + b"sssssss\\n" * (LONG // 9) + b'"'
+    yield "one raw string", b'r"' + b"s" * LONG + b'"'
     yield "one comment", b"/*" + b"c" * LONG + b"*/"
     yield "one comment of a line", b"//" + b"c" * LONG + b"\n"
     yield "one run of white", b" " * LONG
@@ -119,19 +122,40 @@ def once(command, path):
     return usage.ru_utime + usage.ru_stime, usage.ru_maxrss * 1024
 
 
-def measured(commands, path, runs):
+def serve():
+    """Runs the commands that stand on standard input. A run's peak of memory begins at that of the process which starts
+    it, so this one is started before the texts are made, and holds none."""
+    for line in sys.stdin:
+        print(json.dumps(once(*json.loads(line))), flush=True)
+
+
+class Runner:
+    """A process that runs commands and answers what each took."""
+
+    def __init__(self):
+        command = [sys.executable, os.path.abspath(__file__), "serve"]
+        self.process = subprocess.Popen(command, stdin=subprocess.PIPE, stdout=subprocess.PIPE, text=True)
+
+    def once(self, command, path):
+        """Seconds of a processor and bytes of memory of one run of a command."""
+        self.process.stdin.write(json.dumps([command, path]) + "\n")
+        self.process.stdin.flush()
+        return json.loads(self.process.stdout.readline())
+
+
+def measured(runner, commands, path, runs):
     """For each command the least seconds and the peak of memory; the commands take turns."""
     seconds = [float("inf")] * len(commands)
     memory = [0] * len(commands)
     for _ in range(runs):
         for at, command in enumerate(commands):
-            took, peak = once(command, path)
+            took, peak = runner.once(command, path)
             seconds[at] = min(seconds[at], took)
             memory[at] = max(memory[at], peak)
     return seconds, memory
 
 
-def lexing_table(title, programs, arguments, texts, path, runs):
+def lexing_table(runner, title, programs, arguments, texts, path, runs):
     """Each text's row: this lexer beside the peer with and without span locations."""
     print(f"\n| {title} | MB | this | peer with spans | peer without | this/with | this/without | Bytes a byte, each |")
     print("|---|---|---|---|---|---|---|---|")
@@ -139,19 +163,19 @@ def lexing_table(title, programs, arguments, texts, path, runs):
     for name, text in texts:
         with open(path, "wb") as file:
             file.write(text)
-        (ours, spans, plain), memory = measured(commands, path, runs)
+        (ours, spans, plain), memory = measured(runner, commands, path, runs)
         each = ", ".join(f"{peak / len(text):.1f}" for peak in memory)
         times = f"{ours:.3f} s | {spans:.3f} s | {plain:.3f} s | {ours / spans:.2f} | {ours / plain:.2f}"
         print(f"| {name} | {len(text) / 1e6:.1f} | {times} | {each} |", flush=True)
 
 
-def canon_table(programs, texts, path, runs):
+def canon_table(runner, programs, texts, path, runs):
     """Each text's row: `canon` alone."""
     print("\n| `canon` on | MB | Time | Rate | Bytes a byte |\n|---|---|---|---|---|")
     for name, text in texts:
         with open(path, "wb") as file:
             file.write(text)
-        (seconds,), (peak,) = measured([[programs["canon"]]], path, runs)
+        (seconds,), (peak,) = measured(runner, [[programs["canon"]]], path, runs)
         size = len(text) / 1e6
         rate = f"{seconds:.3f} s | {size / seconds:.0f} MB/s"
         print(f"| {name} | {size:.1f} | {rate} | {peak / len(text):.1f} |", flush=True)
@@ -160,13 +184,18 @@ def canon_table(programs, texts, path, runs):
 def main():
     runs = int(sys.argv[1]) if len(sys.argv) > 1 else 5
     fetch()
+    runner = Runner()
     std = library()
     with tempfile.TemporaryDirectory() as work:
         programs = built(work)
         path = os.path.join(work, "text")
-        lexing_table("Lexing", programs, [], shapes(std), path, runs)
-        lexing_table("Lexing and printing", programs, ["print"], [("std, joined", std)], path, runs)
-        canon_table(programs, canon_shapes(std), path, runs)
+        lexing_table(runner, "Lexing", programs, [], shapes(std), path, runs)
+        lexing_table(runner, "Lexing and printing", programs, ["print"], [("std, joined", std)], path, runs)
+        canon_table(runner, programs, canon_shapes(std), path, runs)
 
 
-main()
+if __name__ == "__main__":
+    if sys.argv[1:] == ["serve"]:
+        serve()
+    else:
+        main()

@@ -2,3 +2,4 @@ pub mod Places
 pub mod Forests
 pub mod Programs
 pub mod Answers
+pub mod Trees

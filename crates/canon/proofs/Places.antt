@@ -1,25 +1,23 @@
 -- Where the tokens of a text's forest stand in a map that the text was put into.
 use Rattle.std.proofs.Common.{◌≡◌, ℕ, zero, suc, ◌+◌, ◌-◌, ◌<◌, ◌≤◌, List, [], ◌∷◌, ◌++◌, length, map, refl, sym, ap}
-use Rattle.std.proofs.Common.{◌∙◌, arith}
-use Rattle.std.specs.Prelude.{Bool, true, false, nat_lt, if◌then◌else◌, Option, Some, None, slice_get}
+use Rattle.std.proofs.Common.{◌∙◌, ⊎_elim, inl, inr, arith}
+use Rattle.std.specs.Prelude.{Bool, true, false, ◌&&◌, ◌||◌, ◌⊎◌, nat_lt, if◌then◌else◌, Option, Some, None, slice_get}
 use Rattle.std.specs.Option.{option_map, option_map_or}
-use Rattle.std.specs.List.{All}
-use Rattle.std.proofs.lemmas.Bool.{ltb-true, ltb-false}
+use Rattle.std.specs.List.{list_any}
+use Rattle.std.proofs.lemmas.Bool.{eqb-true, ltb-true, ltb-false}
 use Rattle.rust_map.specs.Answers.{start_place, no_place}
 use Rattle.rust_map.specs.Places.{place_of}
-use Rattle.rust_map.specs.Sources.{Sources, Spot, spot, next_position, next_span, next_spot, with_text}
-use Rattle.rust_map.specs.Spans.{span_from}
+use Rattle.rust_map.specs.Sources.{Sources, Spot, is_held, spot, next_position, next_span, next_spot, with_text}
+use Rattle.rust_map.specs.Spans.{first_of, span_from}
 use Rattle.rust_map.specs.declared.span.Span.{Span}
-use Rattle.proc_macro2.proofs.Lies.{AllLie, Lies, held_span, spot_of}
+use Rattle.proc_macro2.proofs.Lies.{AllLie, Lies, spot_of}
 use Rattle.rust_lex.specs.Cover.{onto}
 use Rattle.rust_lex.specs.Piece.{Piece}
 use Rattle.proc_macro2.specs.Token.{Token, Opens, Closes, Ident, Literal, Punct, Spanned}
 use Rattle.proc_macro2.specs.Pieces.{edge, edged, edged_at, span_at}
 use Rattle.proc_macro2.proofs.Followed.{tokens_before, tokens_onto}
-use Rattle.token_entries.specs.Entries.{spanned_entry, spanned_entries}
-use Rattle.token_entries.specs.declared.entry.Entry.{Entry}
-use Rattle.canon.specs.Causes.{IsHeld, held_place}
 use Rattle.canon.specs.Faults.{begins_at, token_place}
+use Rattle.canon.specs.Places.{begins_with, span_place}
 
 -- tokens that begin so many positions behind others
 abbrev pub AreBehind : ℕ → List Spanned → List Spanned → Type 0
@@ -75,6 +73,26 @@ tokens_behind base p q (x ∷ ps) rest e =
     (edges_behind base p q n ts e)
     (tokens_behind base (p + n) (q + n) ps rest (omega arith))
 
+and_true : (a b : Bool) → (a && b) ≡ true → (a ≡ true) × (b ≡ true)
+and_true true b e = (refl, e)
+and_true false b e = cc
+
+or_true : (a b : Bool) → (a || b) ≡ true → (a ≡ true) ⊎ (b ≡ true)
+or_true true b e = inl refl
+or_true false b e = inr e
+
+-- the first character of a span lies where the span does, and begins where it does
+first_part : (low high : ℕ) (x : Span) → Lies low high x → Lies low high (first_of x) × ((first_of x).start ≡ x.start)
+first_part low high x l = go (nat_lt x.start x.end) (λ e. ltb-true x.start x.end e)
+  where
+    go : (b : Bool) → (b ≡ true → x.start < x.end) →
+        Lies low high (if b then span_from x.start (x.start + 1) else x)
+        × ((if b then span_from x.start (x.start + 1) else x).start ≡ x.start)
+    go true h =
+        let some : x.start < x.end = h refl in
+        (record { starts = l.starts; ordered = omega arith; ends = omega (arith, l.ends) }, refl)
+    go false h = (l, refl)
+
 -- the text was put into the map
 module _ (sources : Sources) (text : List ℕ) (there : spot (with_text sources text) (next_span sources text) ≡
     Some (next_spot sources text)) where
@@ -90,24 +108,44 @@ module _ (sources : Sources) (text : List ℕ) (there : spot (with_text sources 
       ap (λ o. option_map_or (λ (s : Spot). place_of s.text s.from) o no_place) (spot_of sources text there span l)
       ∙ ap (place_of text) (omega arith)
 
-  -- the map holds each token
-  pub entries_held : (es : List Entry) → AllLie base (base + length text) (map edged (spanned_entries es)) →
-      All (IsHeld grown) es
-  entries_held [] l k d h = absurd (omega arith)
-  entries_held (e ∷ es) l zero d h = held_span sources text there (edged (spanned_entry e)).span l.0
-  entries_held (e ∷ es) l (suc k) d h = entries_held es l.1 k d (omega arith)
+  -- a span begins where a token does whose first character it begins with
+  same_start : (first : Span) (s t : Spanned) → Lies base (base + length text) (edged s).span →
+      (edged s).span.start ≡ base + (edged t).span.start → begins_with first s ≡ true →
+      start_place grown first ≡ begins_at text t
+  same_start first s t l b e =
+      let x : Span = (edged s).span in
+      let (f, g) = first_part base (base + length text) x l in
+      let both = and_true _ _ e in
+      let start : (first_of x).start ≡ first.start = eqb-true _ _ both.0 in
+      let end : (first_of x).end ≡ first.end = eqb-true _ _ both.1 in
+      let there : Lies base (base + length text) first = record {
+        starts = omega (arith, f.starts);
+        ordered = omega (arith, f.ordered);
+        ends = omega (arith, f.ends);
+      } in
+      place_span first (edged t).span.start there (omega (arith, start, g, b))
 
-  -- and has it where it stands in the text
-  place_at : (ss ts : List Spanned) (i : ℕ) → AllLie base (base + length text) (map edged ss) →
-      AreBehind base (map edged ss) (map edged ts) → option_map (λ (s : Spanned). start_place grown (edged s).span)
-      (slice_get ss i) ≡ option_map (begins_at text) (slice_get ts i)
-  place_at [] [] i l b = refl
-  place_at [] (t ∷ ts) i l b = absurd b
-  place_at (s ∷ ss) [] i l b = absurd b
-  place_at (s ∷ ss) (t ∷ ts) zero l b = ap Some (place_span (edged s).span (edged t).span.start l.0 b.0)
-  place_at (s ∷ ss) (t ∷ ts) (suc i) l b = place_at ss ts i l.1 b.1
+  -- one of some tokens begins with it
+  begun : (first : Span) (ss ts : List Spanned) → AllLie base (base + length text) (map edged ss) →
+      AreBehind base (map edged ss) (map edged ts) → list_any (begins_with first) ss ≡ true →
+      (i : ℕ) × (Some (start_place grown first) ≡ option_map (begins_at text) (slice_get ts i))
+  begun first [] ts l b e = cc
+  begun first (s ∷ ss) [] l b e = absurd b
+  begun first (s ∷ ss) (t ∷ ts) l b e =
+      ⊎_elim
+      (λ h. (zero, ap Some (same_start first s t l.0 b.0 h)))
+      (λ h. let (i, f) = begun first ss ts l.1 b.1 h in (suc i, f))
+      (or_true (begins_with first s) (list_any (begins_with first) ss) e)
 
-  pub same_place : (ss ts : List Spanned) (index : Option ℕ) → AllLie base (base + length text) (map edged ss) →
-      AreBehind base (map edged ss) (map edged ts) → held_place grown ss index ≡ token_place text ts index
-  same_place ss ts None l b = refl
-  same_place ss ts (Some i) l b = place_at ss ts i l b
+  -- the place of a fault is that of a token of the text, or none
+  pub placed : (span : Span) (ss ts : List Spanned) → AllLie base (base + length text) (map edged ss) →
+      AreBehind base (map edged ss) (map edged ts) → (index : Option ℕ) ×
+      (span_place grown span ss ≡ token_place text ts index)
+  placed span ss ts l b =
+      go (is_held grown (first_of span)) (list_any (begins_with (first_of span)) ss) refl
+    where
+      go : (held any : Bool) → list_any (begins_with (first_of span)) ss ≡ any → (index : Option ℕ) ×
+          ((if held && any then Some (start_place grown (first_of span)) else None) ≡ token_place text ts index)
+      go true true e = let (i, f) = begun (first_of span) ss ts l b e in (Some i, f)
+      go true false e = (None, refl)
+      go false any e = (None, refl)

@@ -1,6 +1,6 @@
 -- Programs and their canonical forms.
 use Rattle.std.proofs.Common.{◌≡◌, ℕ, List, sym, ap, ◌∙◌, subst, ⊎_elim, inl, inr, refl}
-use Rattle.std.specs.Prelude.{Option, ◌⊎◌}
+use Rattle.std.specs.Prelude.{Option, None, ◌⊎◌}
 use Rattle.rust_map.specs.declared.place.LineColumn.{LineColumn}
 use Rattle.proc_macro2.specs.Token.{Spanned, Token, plain}
 use Rattle.proc_macro2.specs.Forest.{IsForest, IsLexicalFault}
@@ -14,10 +14,10 @@ use Rattle.lex_laws.proofs.Forests.{forest_spaced}
 use Rattle.canon_syntax.specs.Tree.{Tree, flat}
 use Rattle.canon_syntax.specs.Normal.{normal}
 use Rattle.canon_syntax.specs.File as file
-use Rattle.canon_syntax.proofs.Answered.{file_or_fault}
+use Rattle.canon_syntax.proofs.Answered.{file_or_none}
 use Rattle.canon_syntax.proofs.FileLaws as files
 use Rattle.canon.specs.Program.{IsProgram, IsOutput, written}
-use Rattle.canon.specs.Faults.{IsSyntaxFault, token_place}
+use Rattle.canon.specs.Faults.{IsSyntaxFault}
 use Rattle.canon.proofs.Forests.{same_tokens}
 
 pub one_program : (text : List ℕ) (t u : Tree) → IsProgram text t → IsProgram text u → t ≡ u
@@ -72,7 +72,7 @@ lexical_fault text place t f p = no_forest 0 text place p.tokens f p.forest
 pub syntax_fault : (text : List ℕ) (place : Option LineColumn) (t : Tree) → IsSyntaxFault text place →
     IsProgram text t → ⊥
 syntax_fault text place t f p =
-    f.fault.none t (subst (λ (ts : List Token). file.IsFile ts t)
+    f.no_file t (subst (λ (ts : List Token). file.IsFile ts t)
     (same_tokens 0 0 text p.tokens f.tokens p.forest f.forest) p.file)
 
 abbrev pub IsAnswered : List ℕ → Type 0
@@ -84,17 +84,8 @@ forest_answered : (text : List ℕ) (tokens : List Spanned) → IsForest 0 text 
 forest_answered text tokens f =
     ⊎_elim
     (λ (t, g). inl (t, record { tokens = tokens; forest = f; file = g }))
-    (λ (index, g). inr (inr (
-      token_place text tokens index,
-      record {
-        tokens = tokens;
-        forest = f;
-        index = index;
-        fault = g;
-        there = refl;
-      },
-    )))
-    (file_or_fault (plain tokens))
+    (λ g. inr (inr (None, record { tokens = tokens; forest = f; no_file = g; index = None; there = refl })))
+    (file_or_none (plain tokens))
 
 pub program_or_fault : (text : List ℕ) → IsAnswered text
 program_or_fault text =

@@ -6,7 +6,7 @@ use Rattle.rust_map.specs.Places.{place_of}
 use Rattle.proc_macro2.specs.Token.{Spanned, plain}
 use Rattle.proc_macro2.specs.Pieces.{edged}
 use Rattle.proc_macro2.specs.Forest.{IsForest, IsLexicalFault}
-use Rattle.canon_syntax.specs.File as file
+use Rattle.canon_syntax.specs.File.{NoFile}
 use Rattle.canon.specs.declared.fault.Fault.{Fault}
 use Rattle.canon.specs.declared.fault.Fault.TheVariants.{NotUtf8, Lexical, Syntax, MapFull, Memory, Reading, Writing}
 
@@ -19,19 +19,18 @@ begins_at text s = place_of text (edged s).span.start
 abbrev pub token_place : List ℕ → List Spanned → Option ℕ → Option LineColumn
 token_place text tokens index = option_map (begins_at text) (option_and_then (slice_get tokens) index)
 
--- The text has a forest whose tokens are no file. The place is that of the token at which they stop
--- beginning one, and none where all of them begin one.
+-- The text has a forest whose tokens are no file. The place is that of one of its tokens, or none.
 pub record IsSyntaxFault (text : List ℕ) (place : Option LineColumn) : Type 0 where
   pub tokens : List Spanned
   pub forest : IsForest 0 text tokens
+  pub no_file : NoFile (plain tokens)
   pub index : Option ℕ
-  pub fault : file.IsSyntaxFault (plain tokens) index
   pub there : place ≡ token_place text tokens index
 
 -- what a fault says of the text: that the map is full or memory was refused says nothing of it
 abbrev pub IsFaultOf : List ℕ → Fault → Type 0
 IsFaultOf text (Lexical place) = IsLexicalFault text place
-IsFaultOf text (Syntax place) = IsSyntaxFault text place
+IsFaultOf text (Syntax error place) = IsSyntaxFault text place
 IsFaultOf text MapFull = Unit {0}
 IsFaultOf text Memory = Unit {0}
 IsFaultOf text NotUtf8 = ⊥

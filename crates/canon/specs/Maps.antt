@@ -8,7 +8,7 @@ use Rattle.canon.specs.declared.fault.Fault.TheVariants.{NotUtf8, Lexical, Synta
 -- the map as it was, and refused memory the one or the other
 abbrev pub IsLeft : List ℕ → Sources → Sources → Fault → Type 0
 IsLeft text old new (Lexical place) = new ≡ old
-IsLeft text old new (Syntax place) = new ≡ with_text old text
+IsLeft text old new (Syntax error place) = new ≡ with_text old text
 IsLeft text old new MapFull = new ≡ old
 IsLeft text old new Memory = (new ≡ old) ⊎ (new ≡ with_text old text)
 IsLeft text old new NotUtf8 = ⊥

@@ -37,7 +37,8 @@ abbrev pub IsRunFault : List ℕ → Fault → Type 0
 IsRunFault bytes MapFull = limit < length bytes
 IsRunFault bytes NotUtf8 = (length bytes ≤ limit) × (IsUtf8 bytes → ⊥)
 IsRunFault bytes (Lexical place) = (length bytes ≤ limit) × IsUtf8 bytes × IsFaultOf (chars bytes) (Lexical place)
-IsRunFault bytes (Syntax place) = (length bytes ≤ limit) × IsUtf8 bytes × IsFaultOf (chars bytes) (Syntax place)
+IsRunFault bytes (Syntax error place) =
+    (length bytes ≤ limit) × IsUtf8 bytes × IsFaultOf (chars bytes) (Syntax error place)
 IsRunFault bytes Memory = Unit {0}
 IsRunFault bytes Reading = Unit {0}
 IsRunFault bytes Writing = Unit {0}

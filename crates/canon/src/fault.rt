@@ -7,19 +7,22 @@ ghost use Rattle.std.specs.Prelude.{◌≡◌, ◌++◌, ◌∷◌, [], OnOk, So
 use rust_map::LineColumn;
 use std::io::Write;
 use std::{fmt, io};
+use syn_error::Error;
 
 /// Why there is no answer.
-#[derive(Clone, Copy, Debug, PartialEq, Eq)]
+#[derive(Debug, Drop)]
 pub enum Fault {
     /// The bytes that were read aren't UTF-8.
     NotUtf8,
     /// The text has no forest: there no piece begins, a closing mark closes nothing, or a group is
     /// opened that nothing closes.
     Lexical(LineColumn),
-    /// The text has a forest and is no program. The place is that of the first token that no
-    /// program goes on with, and none where the text ends too early.
+    /// The text has a forest and is no program.
     Syntax {
-        /// The place.
+        /// What is said of it.
+        error: Error,
+        /// Where the first message's part of the text starts, if a token of the text begins there:
+        /// at the text's end none does.
         place: Option<LineColumn>,
     },
     /// The map has no positions left for the text, or more bytes were read than a run takes.
@@ -43,13 +46,16 @@ impl fmt::Display for Fault {
                 let column = place.column;
                 write!(f, "lexical fault at {line}:{column}")
             }
-            Fault::Syntax { place: None } => {
-                write!(f, "syntax fault at end of input: unexpected token")
+            Fault::Syntax { error, place: None } => {
+                write!(f, "syntax fault at end of input: {error}")
             }
-            Fault::Syntax { place: Some(place) } => {
+            Fault::Syntax {
+                error,
+                place: Some(place),
+            } => {
                 let line = place.line;
                 let column = place.column;
-                write!(f, "syntax fault at {line}:{column}: unexpected token")
+                write!(f, "syntax fault at {line}:{column}: {error}")
             }
             Fault::MapFull => write!(f, "source map full"),
             Fault::Memory => write!(f, "out of memory"),

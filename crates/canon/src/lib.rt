@@ -4,6 +4,7 @@
 //! - `runs`: a run, from a reader to a writer.
 //! - `fault`: why a text has none, and what the program says then.
 //! - `causes` (private): faults of the parts of a run, as faults of the run.
+//! - `stands` (private): where the tokens stand of which errors speak.
 //! - `laws`: laws of programs and their canonical forms.
 #![tactic(auto)]
 
@@ -12,9 +13,11 @@ pub mod fault;
 pub mod form;
 pub mod laws;
 pub mod runs;
+mod stands;
 
 pub use canon_io::watched::Watched;
 pub use fault::{Fault, status, write_fault};
 pub use form::canonical;
 pub use proc_macro2::{LineColumn, MapFull, SourceMap};
 pub use runs::run;
+pub use syn_error::Error;

@@ -1,6 +1,6 @@
--- Tokens are a file, or have a syntax fault.
-use Rattle.std.proofs.Common.{◌≡◌, List, [], ◌∷◌, ◌++◌, length, refl, sym, ◌∙◌, subst, inl, inr}
-use Rattle.std.specs.Prelude.{false, ◌⊎◌, Option, ℕ}
+-- Tokens are a file, or none.
+use Rattle.std.proofs.Common.{◌≡◌, List, [], ◌∷◌, ◌++◌, refl, sym, ◌∙◌, subst, inl, inr}
+use Rattle.std.specs.Prelude.{false, ◌⊎◌}
 use Rattle.std.proofs.lemmas.List.{append-nil}
 use Rattle.proc_macro2.specs.Token.{Token}
 use Rattle.canon_syntax.specs.Kind.{AFile, AnItem}
@@ -9,13 +9,11 @@ use Rattle.canon_syntax.specs.Gram.{Gram, star, ref, ask}
 use Rattle.canon_syntax.specs.Tests.{is_more}
 use Rattle.canon_syntax.specs.Table.{table}
 use Rattle.canon_syntax.specs.Derives.{Derives}
-use Rattle.canon_syntax.specs.File.{IsFile, IsSyntaxFault}
-use Rattle.canon_syntax.specs.Gives.{place_where}
-use Rattle.canon_syntax.specs.Laws.{FileOrFault}
+use Rattle.canon_syntax.specs.File.{IsFile, NoFile}
+use Rattle.canon_syntax.specs.Laws.{FileOrNone}
 use Rattle.canon_syntax.specs.Run.{Out, Late, Refused, Got, kind, reads}
-use Rattle.canon_syntax.proofs.Whole.{IsOver, reads_over, reads_sound}
+use Rattle.canon_syntax.proofs.Whole.{IsOver, reads_over, reads_sound, reads_complete}
 use Rattle.canon_syntax.proofs.Steps.{all_founded}
-use Rattle.canon_syntax.proofs.Begun.{fault_at}
 
 -- a star ends where its test fails
 star_ends : (g : Gram) (x : Tree) (r : List Token) → Derives x (star is_more g) r → ask is_more r ≡ false
@@ -42,11 +40,20 @@ read_whole ts x r e =
       spelled = sym (own.tokens ∙ subst (λ s. flat x ++ s ≡ flat x) (sym ends) (append-nil (flat x)));
     }
 
-pub file_or_fault : FileOrFault
-file_or_fault ts = go (reads (kind AFile) ts) refl (reads_over all_founded (kind AFile) ts tt)
+-- a file is read whole
+file_read : (ts : List Token) (tree : Tree) → IsFile ts tree → reads (kind AFile) ts ≡ Got tree []
+file_read ts tree f =
+    let d = reads_complete all_founded (kind AFile) tt tree [] f.derived in
+    subst (λ us. reads (kind AFile) us ≡ Got tree []) (append-nil (flat tree) ∙ f.spelled) d
+
+-- what a file's run refuses is no file
+pub refused_none : (ts : List Token) → reads (kind AFile) ts ≡ Refused → NoFile ts
+refused_none ts e tree f = let g : Got tree [] ≡ Refused = sym (file_read ts tree f) ∙ e in cc g
+
+pub file_or_none : FileOrNone
+file_or_none ts = go (reads (kind AFile) ts) refl (reads_over all_founded (kind AFile) ts tt)
   where
-    go : (o : Out) → reads (kind AFile) ts ≡ o → IsOver o → ((tree : Tree) × IsFile ts tree) ⊎
-        ((place : Option ℕ) × IsSyntaxFault ts place)
+    go : (o : Out) → reads (kind AFile) ts ≡ o → IsOver o → ((tree : Tree) × IsFile ts tree) ⊎ NoFile ts
     go Late e i = absurd i
-    go (Refused l) e i = inr (place_where (length ts) l, fault_at ts l e)
+    go Refused e i = inr (refused_none ts e)
     go (Got x r) e i = inl (x, read_whole ts x r e)

@@ -17,8 +17,7 @@ use Rattle.canon_syntax.specs.Normal.{normal}
 use Rattle.canon_syntax.specs.Laws.{OneTree, NormalTwice, Settled, ReadBack}
 use Rattle.canon_syntax.specs.Run.{Got}
 use Rattle.canon_syntax.proofs.Sound.{one_tree}
-use Rattle.canon_syntax.proofs.Resumes.{Tells, ref_tells}
-use Rattle.canon_syntax.proofs.Begun.{begins_one}
+use Rattle.canon_syntax.proofs.Tells.{Tells, begins_one, ref_tells}
 use Rattle.canon_syntax.proofs.Keeps.{unspaced, IsBlind, AllBlind, keeps}
 
 pub one_file : OneTree

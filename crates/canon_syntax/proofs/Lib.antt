@@ -1,15 +1,11 @@
 pub mod Sound
 pub mod Whole
-pub mod Within
-pub mod Agree
 pub mod Normals
-pub mod Texts
-pub mod Raws
 pub mod Steps
 pub mod Turns
-pub mod Resumes
-pub mod Begun
+pub mod Parts
 pub mod Public
+pub mod Tells
 pub mod Keeps
 pub mod FileLaws
 pub mod Answered

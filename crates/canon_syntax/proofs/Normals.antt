@@ -16,14 +16,14 @@ normal_cond false o p = refl
 pub normal_wrap : (f g : Tree → Tree) → ((x : Tree) → normal (f x) ≡ g (normal x)) → (o : Out) →
     wrap normal (wrap f o) ≡ wrap g (wrap normal o)
 normal_wrap f g h Late = refl
-normal_wrap f g h (Refused l) = refl
+normal_wrap f g h Refused = refl
 normal_wrap f g h (Got x r) = ap (λ y. Got y r) (h x)
 
 normal_pair : (o : Out) (f g : List Token → Out) → ((us : List Token) → wrap normal (f us) ≡ g us) →
     wrap normal (o >>= λ x us. f us >>= λ y vs. Got (Pair x y) vs) ≡
     (wrap normal o >>= λ x us. g us >>= λ y vs. Got (Pair x y) vs)
 normal_pair Late f g h = refl
-normal_pair (Refused l) f g h = refl
+normal_pair Refused f g h = refl
 normal_pair (Got x us) f g h = normal_wrap (Pair x) (Pair (normal x)) (λ y. refl) (f us)
     ∙ ap (wrap (Pair (normal x))) (h us)
 
@@ -87,15 +87,15 @@ normal_interp (star t g) ts = refl
 normal_interp (ref k) ts = refl
 
 -- what is refused in normal form is refused, and what is given in normal form is given
-pub refused_normal : (o : Out) (l : ℕ) → wrap normal o ≡ Refused l → o ≡ Refused l
-refused_normal Late l e = cc
-refused_normal (Refused m) l e = e
-refused_normal (Got x r) l e = cc
+pub refused_normal : (o : Out) → wrap normal o ≡ Refused → o ≡ Refused
+refused_normal Late e = cc
+refused_normal Refused e = e
+refused_normal (Got x r) e = cc
 
 pub got_normal : (o : Out) (y : Tree) (r : List Token) → wrap normal o ≡ Got y r → (x : Tree) × (o ≡ Got x r) ×
     (normal x ≡ y)
 got_normal Late y r e = cc
-got_normal (Refused m) y r e = cc
+got_normal Refused y r e = cc
 got_normal (Got x s) y r e =
     let h : s ≡ r = cc in
     (x, ap (Got x) h, cc)

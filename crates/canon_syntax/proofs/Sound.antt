@@ -17,7 +17,7 @@ use Rattle.canon_syntax.specs.Run.{raw_at, interp, made, run, entry}
 pub bind_got : (o : Out) (f : Tree → List Token → Out) (z : Tree) (r : List Token) → (o >>= f) ≡ Got z r → (x : Tree) ×
     (us : List Token) × (o ≡ Got x us) × (f x us ≡ Got z r)
 bind_got Late f z r e = cc
-bind_got (Refused l) f z r e = cc
+bind_got Refused f z r e = cc
 bind_got (Got x us) f z r e = (x, us, refl, e)
 
 -- which way a test went
@@ -27,7 +27,7 @@ chosen false x y z e = inr (refl, e)
 
 abbrev OnGot : (Tree → List Token → Type 0) → Out → Type 0
 OnGot P Late = Unit {0}
-OnGot P (Refused l) = Unit {0}
+OnGot P Refused = Unit {0}
 OnGot P (Got x r) = P x r
 
 -- what holds of one answer holds of an equal one
@@ -54,7 +54,7 @@ token_sound p (t ∷ ts) x r e =
 
 token_complete : (p : Token → Bool) (t : Token) (r : List Token) → p t ≡ true → one_at p (t ∷ r) ≡ Got (Leaf t) r
 unfolding one_at
-token_complete p t r d = ap (λ b. cond b (Got (Leaf t) r) (Refused (suc (length r)))) d
+token_complete p t r d = ap (λ b. cond b (Got (Leaf t) r) Refused) d
 
 mark_sound : (c : ℕ) (ts : List Token) (x : Tree) (r : List Token) → last_at Last c ts ≡ Got x r → Reads (last c) ts x r
 unfolding last_at
@@ -73,7 +73,7 @@ mark_sound c (Literal cs ∷ ts) x r e = cc
 mark_complete : (c d : ℕ) (spacing : Spacing) (r : List Token) → c ≡ d →
     last_at Last d (Punct c spacing ∷ r) ≡ Got (Last c spacing) r
 unfolding last_at
-mark_complete c d spacing r e = ap (λ b. cond b (Got (Last c spacing) r) (Refused (suc (length r)))) (eq-eqb c d e)
+mark_complete c d spacing r e = ap (λ b. cond b (Got (Last c spacing) r) Refused) (eq-eqb c d e)
 
 -- raw tokens behind n opening marks
 pub record RawTo (n : ℕ) (ts : List Token) (x : Tree) (r : List Token) : Type 0 where
@@ -125,7 +125,7 @@ raw_sound zero [] x r e = got_as (RawTo zero []) _ _ _ _ e (record {
 })
 raw_sound (suc n) [] x r e = cc
 
-raw_complete : (n : ℕ) (ts r : List Token) → closes_all n ts ≡ true → at_end r ≡ true →
+pub raw_complete : (n : ℕ) (ts r : List Token) → closes_all n ts ≡ true → at_end r ≡ true →
     raw_at n (ts ++ r) ≡ Got (Raw ts) r
 unfolding raw_at
 raw_complete n (Opens d ∷ ts) r e h = ap (wrap (raw_onto (Opens d ∷ []))) (raw_complete (suc n) ts r e h)

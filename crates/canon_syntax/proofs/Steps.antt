@@ -1,7 +1,6 @@
 -- What each kind reads, by its entry.
 use Rattle.std.proofs.Common.{◌≡◌, ◌<◌, List, length, refl, ap, ◌∙◌}
 use Rattle.std.specs.Prelude.{true}
-use Rattle.std.specs.Str.{IsAscii}
 use Rattle.proc_macro2.specs.Token.{Token}
 use Rattle.proc_macro2.specs.declared.delimiter.Delimiter.TheVariants.{Brace}
 use Rattle.canon_syntax.specs.Kind.{Kind, AFile, AnItem, AStruct, AMacro}
@@ -15,7 +14,6 @@ use Rattle.canon_syntax.specs.Normal.{normal}
 use Rattle.canon_syntax.specs.Run.{Got, wrap, kind, loop, interp, reads, normals, reads_normal}
 use Rattle.canon_syntax.proofs.Whole.{reads_step, reads_shorter}
 use Rattle.canon_syntax.proofs.Normals.{normal_wrap, normal_interp, got_normal}
-use Rattle.canon_syntax.proofs.Texts.{ascii_from}
 
 pub all_founded : (k : Kind) → is_founded k ≡ true
 unfolding table rank skips top
@@ -56,6 +54,3 @@ unfolding skips
 item_shorter ts us y e =
     let (x, h, i) = got_normal (reads (kind AnItem) ts) y us e in
     reads_shorter all_founded AnItem refl ts us x h
-
-pub ascii_struct : IsAscii struct_text
-ascii_struct = ascii_from struct_text refl

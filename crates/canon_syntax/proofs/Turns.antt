@@ -19,7 +19,7 @@ chain_more f (b ∷ xs) a y = ap (λ z. First (Pair (f b) z)) (chain_more f xs a
 in_front_more : {A : Type 0} (f : A → Tree) (xs : List A) (a : A) (o : Out) →
     in_front f (xs ++ a ∷ []) o ≡ in_front f xs (wrap (λ y. First (Pair (f a) y)) o)
 in_front_more f xs a Late = refl
-in_front_more f xs a (Refused l) = refl
+in_front_more f xs a Refused = refl
 in_front_more f xs a (Got y r) = ap (λ z. Got z r) (chain_more f xs a y)
 
 -- what a star makes of its first turn
@@ -28,12 +28,12 @@ first_turn others o = wrap First (o >>= λ x us. others us >>= λ y vs. Got (Pai
 
 wrap_id : (o : Out) → wrap (λ x. x) o ≡ o
 wrap_id Late = refl
-wrap_id (Refused l) = refl
+wrap_id Refused = refl
 wrap_id (Got x r) = refl
 
 wrap_two : (x : Tree) (o : Out) → wrap First (o >>= λ y vs. Got (Pair x y) vs) ≡ wrap (λ y. First (Pair x y)) o
 wrap_two x Late = refl
-wrap_two x (Refused l) = refl
+wrap_two x Refused = refl
 wrap_two x (Got y r) = refl
 
 module _ (t : List Token → Bool) (g : Gram) (fits : CallFits all_founded (loop t g)) where
@@ -58,9 +58,9 @@ module _ (t : List Token → Bool) (g : Gram) (fits : CallFits all_founded (loop
       star_normal ts ∙ ap (λ b. cond b (first_turn (normals (loop t g)) (reads_normal g ts)) (Got (Second Nil) ts)) e
       ∙ ap (first_turn (normals (loop t g))) h ∙ wrap_two x (normals (loop t g) us)
 
-  star_fails : (ts : List Token) (l : ℕ) → ask t ts ≡ true → reads_normal g ts ≡ Refused l →
-      normals (loop t g) ts ≡ Refused l
-  star_fails ts l e h =
+  star_fails : (ts : List Token) → ask t ts ≡ true → reads_normal g ts ≡ Refused →
+      normals (loop t g) ts ≡ Refused
+  star_fails ts e h =
       star_normal ts ∙ ap (λ b. cond b (first_turn (normals (loop t g)) (reads_normal g ts)) (Got (Second Nil) ts)) e
       ∙ ap (first_turn (normals (loop t g))) h
 
@@ -79,6 +79,6 @@ module _ (t : List Token → Bool) (g : Gram) (fits : CallFits all_founded (loop
     turn_none xs ts o i e = sym i ∙ ap (in_front f xs) (star_stop ts e)
 
     -- a turn is refused
-    pub turn_fails : (xs : List A) (ts : List Token) (o : Out) (l : ℕ) → in_front f xs (normals (loop t g) ts) ≡ o →
-        ask t ts ≡ true → reads_normal g ts ≡ Refused l → o ≡ Refused l
-    turn_fails xs ts o l i e h = sym i ∙ ap (in_front f xs) (star_fails ts l e h)
+    pub turn_fails : (xs : List A) (ts : List Token) (o : Out) → in_front f xs (normals (loop t g) ts) ≡ o →
+        ask t ts ≡ true → reads_normal g ts ≡ Refused → o ≡ Refused
+    turn_fails xs ts o i e h = sym i ∙ ap (in_front f xs) (star_fails ts e h)

@@ -73,12 +73,12 @@ level_height (ref k) = omega arith
 -- what is over
 abbrev pub IsOver : Out → Type 0
 IsOver Late = ⊥
-IsOver (Refused l) = Unit {0}
+IsOver Refused = Unit {0}
 IsOver (Got x r) = Unit {0}
 
 over_wrap : (f : Tree → Tree) (o : Out) → IsOver o → IsOver (wrap f o)
 over_wrap f Late h = h
-over_wrap f (Refused l) h = tt
+over_wrap f Refused h = tt
 over_wrap f (Got x r) h = tt
 
 over_cond : (b : Bool) (o p : Out) → IsOver o → IsOver p → IsOver (cond b o p)
@@ -135,23 +135,23 @@ star_level false m e = omega arith
 -- the second is the first, where that is over
 abbrev pub Below : Out → Out → Type 0
 Below Late p = Unit {0}
-Below (Refused l) p = p ≡ Refused l
+Below Refused p = p ≡ Refused
 Below (Got x r) p = p ≡ Got x r
 
 below_same : (o : Out) → Below o o
 below_same Late = tt
-below_same (Refused l) = refl
+below_same Refused = refl
 below_same (Got x r) = refl
 
 below_over : (o p : Out) → Below o p → IsOver o → o ≡ p
 below_over Late p b i = absurd i
-below_over (Refused l) p b i = sym b
+below_over Refused p b i = sym b
 below_over (Got x r) p b i = sym b
 
 below_bind : (o p : Out) (f h : Tree → List Token → Out) → Below o p →
     ((x : Tree) (us : List Token) → Below (f x us) (h x us)) → Below (o >>= f) (p >>= h)
 below_bind Late p f h b i = tt
-below_bind (Refused l) p f h b i = ap (λ o. o >>= h) b
+below_bind Refused p f h b i = ap (λ o. o >>= h) b
 below_bind (Got x r) p f h b i = subst (λ o. Below (f x r) (o >>= h)) (sym b) (i x r)
 
 below_wrap : (f : Tree → Tree) (o p : Out) → Below o p → Below (wrap f o) (wrap f p)
@@ -217,7 +217,7 @@ module _ (all : (k : Kind) → is_founded k ≡ true) where
             ((us : List Token) → length us * suc top + level b ≤ n → IsOver (interp Last call b us)) →
             IsOver (o >>= λ x us. interp Last call b us >>= λ y vs. Got (Pair x y) vs)
         go Late e i rest = i
-        go (Refused m) e i rest = tt
+        go Refused e i rest = tt
         go (Got x us) e i rest =
             let r = interp_sound call sound a ts x us e in
             let le : length ts ≡ length (flat x) + length us = ap length r.tokens ∙ length-append (flat x) us in

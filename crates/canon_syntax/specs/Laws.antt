@@ -1,10 +1,10 @@
 -- Laws of files.
-use Rattle.std.specs.Prelude.{◌≡◌, ◌⊎◌, ℕ, List, Option}
+use Rattle.std.specs.Prelude.{◌≡◌, ◌⊎◌, List}
 use Rattle.proc_macro2.specs.Token.{Token}
 use Rattle.proc_macro2.specs.Spacing.{IsWellSpaced}
 use Rattle.canon_syntax.specs.Tree.{Tree, flat}
 use Rattle.canon_syntax.specs.Normal.{normal}
-use Rattle.canon_syntax.specs.File.{IsFile, IsSyntaxFault}
+use Rattle.canon_syntax.specs.File.{IsFile, NoFile}
 
 -- tokens are a file in one way
 abbrev pub OneTree : Type 0
@@ -22,7 +22,6 @@ Settled = (tokens : List Token) (x : Tree) → IsFile tokens x → IsWellSpaced 
 abbrev pub ReadBack : Type 0
 ReadBack = (tokens : List Token) (x : Tree) → IsFile tokens x → IsFile (flat (normal x)) (normal x)
 
--- tokens are a file or have a syntax fault
-abbrev pub FileOrFault : Type 0
-FileOrFault = (tokens : List Token) → ((tree : Tree) × IsFile tokens tree) ⊎
-    ((place : Option ℕ) × IsSyntaxFault tokens place)
+-- tokens are a file or none
+abbrev pub FileOrNone : Type 0
+FileOrNone = (tokens : List Token) → ((tree : Tree) × IsFile tokens tree) ⊎ NoFile tokens

@@ -1,4 +1,3 @@
-pub mod Words
 pub mod Kind
 pub mod Tree
 pub mod Gram
@@ -12,5 +11,4 @@ pub mod Run
 pub mod Fuel
 pub mod Turns
 pub mod Views
-pub mod Gives
 pub mod Laws

@@ -13,15 +13,15 @@ use Rattle.canon_syntax.specs.Ranks.{top}
 pub data Out : Type 0 where
   -- out of fuel
   Late : Out
-  -- refused where so many tokens are left
-  Refused : (left : ℕ) → Out
+  -- no tree
+  Refused : Out
   -- a tree, and the tokens behind it
   Got : (tree : Tree) (rest : List Token) → Out
 
 infixl 10 ◌>>=◌
 abbrev pub ◌>>=◌ : Out → (Tree → List Token → Out) → Out
 Late >>= f = Late
-(Refused l) >>= f = Refused l
+Refused >>= f = Refused
 (Got x ts) >>= f = f x ts
 
 abbrev pub wrap : (Tree → Tree) → Out → Out
@@ -33,14 +33,14 @@ pub data Call : Type 0 where
   loop : (test : List Token → Bool) (each : Gram) → Call
 
 unfoldable pub one_at : (Token → Bool) → List Token → Out
-one_at p [] = Refused 0
-one_at p (t ∷ ts) = cond (p t) (Got (Leaf t) ts) (Refused (suc (length ts)))
+one_at p [] = Refused
+one_at p (t ∷ ts) = cond (p t) (Got (Leaf t) ts) Refused
 
 -- the last mark of a punctuation, and what is made of it
 unfoldable pub last_at : (ℕ → Spacing → Tree) → ℕ → List Token → Out
-last_at made c [] = Refused 0
-last_at made c (Punct d spacing ∷ ts) = cond (d == c) (Got (made d spacing) ts) (Refused (suc (length ts)))
-last_at made c (t ∷ ts) = Refused (suc (length ts))
+last_at made c [] = Refused
+last_at made c (Punct d spacing ∷ ts) = cond (d == c) (Got (made d spacing) ts) Refused
+last_at made c (t ∷ ts) = Refused
 
 -- more raw tokens in front
 abbrev pub raw_onto : List Token → Tree → Tree
@@ -56,14 +56,14 @@ raw_at n (Punct c spacing ∷ ts) = wrap (raw_onto (Punct c spacing ∷ [])) (ra
 raw_at zero (Closes d ∷ ts) = Got (Raw []) (Closes d ∷ ts)
 raw_at (suc n) (Closes d ∷ ts) = wrap (raw_onto (Closes d ∷ [])) (raw_at n ts)
 raw_at zero [] = Got (Raw []) []
-raw_at (suc n) [] = Refused 0
+raw_at (suc n) [] = Refused
 
 abbrev pub interp : (ℕ → Spacing → Tree) → (Call → List Token → Out) → Gram → List Token → Out
 interp made call (one p) ts = one_at p ts
 interp made call (last c) ts = last_at made c ts
 interp made call raw ts = raw_at 0 ts
 interp made call nothing ts = Got Nil ts
-interp made call never ts = Refused (length ts)
+interp made call never ts = Refused
 interp made call (seq a b) ts = interp made call a ts >>= λ x us. interp made call b us >>= λ y vs. Got (Pair x y) vs
 interp made call (alt t a b) ts = cond (ask t ts) (wrap First (interp made call a ts))
     (wrap Second (interp made call b ts))

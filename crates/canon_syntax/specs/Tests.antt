@@ -3,7 +3,7 @@ use Rattle.std.specs.Prelude.{ℕ, Bool, true, false, not, ◌==◌, List, [], �
 use Rattle.proc_macro2.specs.declared.delimiter.Delimiter.{Delimiter}
 use Rattle.proc_macro2.specs.Groups.{same_delimiter}
 use Rattle.proc_macro2.specs.Token.{Token, Opens, Closes, Ident, Punct}
-use Rattle.canon_syntax.specs.Words.{same_text, is_reserved}
+use Rattle.syn_kinds.specs.Table.{same_text, is_reserved}
 
 -- the keyword of that text
 abbrev pub is_keyword : List ℕ → Token → Bool

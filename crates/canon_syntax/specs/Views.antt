@@ -5,7 +5,7 @@ use Rattle.rust_leaf.specs.declared.ident.Ident as Idents
 use Rattle.rust_leaf.specs.declared.punct.Spacing.TheVariants.{Alone}
 use Rattle.proc_macro2.specs.Token.{Opens, Closes, Ident}
 use Rattle.proc_macro2.specs.declared.delimiter.Delimiter.TheVariants.{Brace}
-use Rattle.token_entries.specs.Entries.{entry_tokens}
+use Rattle.syn_parse.specs.Position.{left}
 use Rattle.canon_syntax.specs.Kind.{AFile, AnItem, AStruct, AMacro}
 use Rattle.canon_syntax.specs.Tree.{Tree, Leaf, Last, Raw, Nil, Pair, First, Second, Node}
 use Rattle.canon_syntax.specs.Table.{struct_text}
@@ -31,7 +31,7 @@ braces_tree inside = Pair (Leaf (Opens Brace)) (Pair inside (Leaf (Closes Brace)
 -- name ! { tokens }
 abbrev pub macro_tree : ItemMacro → Tree
 macro_tree m = Node AMacro
-    (Pair (ident_tree m.ident.now) (Pair (Last 33 Alone) (braces_tree (Raw (entry_tokens m.tokens.now)))))
+    (Pair (ident_tree m.ident.now) (Pair (Last 33 Alone) (braces_tree (Raw (left m.tokens)))))
 
 -- an item
 abbrev pub item_tree : Items.Item → Tree

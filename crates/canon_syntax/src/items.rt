@@ -1,59 +1,72 @@
 // Reads an item.
 
-ghost use Rattle.canon_syntax.specs.Gives.{Gives};
 ghost use Rattle.canon_syntax.specs.Kind.{AMacro, AStruct, AnItem};
-ghost use Rattle.canon_syntax.specs.Run.{kind, normals};
-ghost use Rattle.canon_syntax.specs.Views.{item_tree, macro_tree, struct_tree};
-ghost use Rattle.token_entries.specs.Entries.{entry_tokens};
+ghost use Rattle.canon_syntax.specs.Run.{Got, Refused, kind, normals, one_at};
+ghost use Rattle.canon_syntax.specs.Tests.{is_ident};
+ghost use Rattle.canon_syntax.specs.Views.{ident_tree, item_tree, macro_tree, struct_tree};
+ghost use Rattle.std.specs.Prelude.{◌≡◌, IfErr, IfOk};
+ghost use Rattle.syn_error.specs.Faults.{IsSyntax};
+ghost use Rattle.syn_parse.specs.Input.{IsOnward, left};
 
-use crate::refusal::Refusal;
-use crate::tokens;
 use crate::tree::{Item, ItemMacro, ItemStruct};
-use proc_macro2::delimiter::Delimiter;
-use token_entries::entry::Entry;
+use proc_macro2::{Delimiter, Ident};
+use syn_error::ParseFault;
+use syn_kinds::table::is_reserved;
+use syn_kinds::token;
+use syn_parse::ParseBuffer;
 
-const STRUCT: &str = "struct";
-
-#[tactic(auto, using(crate::proofs::Steps::read_struct, crate::proofs::Steps::ascii_struct))]
-fn item_struct<'a>(tokens: &'a [Entry<'a>]) -> Result<(ItemStruct<'a>, &'a [Entry<'a>]), Refusal>
-    ensures { Gives (λ x. struct_tree x.0) (λ x. entry_tokens x.1.now) result
-        (normals (kind AStruct) (entry_tokens tokens.now)) }
+// The name that stands first, lent.
+fn name<'a>(input: &mut ParseBuffer<'a>) -> Result<&'a Ident, ParseFault>
+    ensures read { IfOk result (λ x. one_at is_ident (left input.old) ≡ Got (ident_tree x.now) (left input.new)) }
+    ensures refused { IfErr result (λ e. IsSyntax e → one_at is_ident (left input.old) ≡ Refused) }
+    ensures noted { input.new.noted ≡ input.old.noted }
+    ensures onward { IsOnward input.old input.new }
 {
-    let rest = tokens::keyword(tokens, STRUCT)?;
-    let (ident, rest) = tokens::ident(rest)?;
-    let rest = tokens::last(rest, ';')?;
-    Ok((ItemStruct { ident }, rest))
+    match input.cursor().ident() {
+        Some((ident, behind)) if !is_reserved(ident) => {
+            let there = ParseBuffer::new(input.allocator(), behind);
+            input.advance_to(there);
+            Ok(ident)
+        }
+        _ => Err(input.expected("identifier")),
+    }
 }
 
-#[tactic(auto, using(crate::proofs::Steps::read_macro))]
-fn item_macro<'a>(tokens: &'a [Entry<'a>]) -> Result<(ItemMacro<'a>, &'a [Entry<'a>]), Refusal>
-    ensures { Gives (λ x. macro_tree x.0) (λ x. entry_tokens x.1.now) result
-        (normals (kind AMacro) (entry_tokens tokens.now)) }
+fn item_struct<'a>(input: &mut ParseBuffer<'a>) -> Result<ItemStruct<'a>, ParseFault>
+    ensures read { IfOk result (λ x. normals (kind AStruct) (left input.old) ≡ Got (struct_tree x) (left input.new)) }
+    ensures refused { IfErr result (λ e. IsSyntax e → normals (kind AStruct) (left input.old) ≡ Refused) }
+    ensures onward { IsOnward input.old input.new }
 {
-    let (ident, rest) = tokens::ident(tokens)?;
-    let rest = tokens::last(rest, '!')?;
-    let rest = tokens::open(rest, Delimiter::Brace)?;
-    let (inside, rest) = tokens::raw(rest)?;
-    let rest = tokens::close(rest, Delimiter::Brace)?;
-    Ok((
-        ItemMacro {
-            ident,
-            tokens: inside,
-        },
-        rest,
-    ))
+    let _ = input.parse::<token::Struct>()?;
+    let ident = name(input)?;
+    let _ = input.parse::<token::Semi>()?;
+    Ok(ItemStruct { ident })
+}
+
+fn item_macro<'a>(input: &mut ParseBuffer<'a>) -> Result<ItemMacro<'a>, ParseFault>
+    ensures read { IfOk result (λ x. normals (kind AMacro) (left input.old) ≡ Got (macro_tree x) (left input.new)) }
+    ensures refused { IfErr result (λ e. IsSyntax e → normals (kind AMacro) (left input.old) ≡ Refused) }
+    ensures onward { IsOnward input.old input.new }
+{
+    let ident = name(input)?;
+    let _ = input.parse::<token::Not>()?;
+    let (_, inside) = input.parse_group(Delimiter::Brace)?;
+    Ok(ItemMacro {
+        ident,
+        tokens: inside.cursor(),
+    })
 }
 
 /// The item that stands first, and what follows it.
-#[tactic(auto, using(crate::proofs::Steps::read_item, crate::proofs::Steps::ascii_struct))]
-pub(crate) fn item<'a>(tokens: &'a [Entry<'a>]) -> Result<(Item<'a>, &'a [Entry<'a>]), Refusal>
-    ensures { Gives (λ x. item_tree x.0) (λ x. entry_tokens x.1.now) result
-        (normals (kind AnItem) (entry_tokens tokens.now)) }
+pub(crate) fn item<'a>(input: &mut ParseBuffer<'a>) -> Result<Item<'a>, ParseFault>
+    ensures read { IfOk result (λ x. normals (kind AnItem) (left input.old) ≡ Got (item_tree x) (left input.new)) }
+    ensures refused { IfErr result (λ e. IsSyntax e → normals (kind AnItem) (left input.old) ≡ Refused) }
+    ensures onward { IsOnward input.old input.new }
 {
-    if tokens::is_keyword_next(tokens, STRUCT) {
-        let (item, rest) = item_struct(tokens)?;
-        return Ok((Item::Struct(item), rest));
+    if input.peek::<token::Struct>() {
+        let item = item_struct(input)?;
+        return Ok(Item::Struct(item));
     }
-    let (item, rest) = item_macro(tokens)?;
-    Ok((Item::Macro(item), rest))
+    let item = item_macro(input)?;
+    Ok(Item::Macro(item))
 }

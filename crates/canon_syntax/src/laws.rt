@@ -1,15 +1,15 @@
 //! Laws of files: each is the contract of a function that does nothing.
 
-ghost use Rattle.canon_syntax.specs.Laws.{FileOrFault, NormalTwice, OneTree, ReadBack, Settled};
+ghost use Rattle.canon_syntax.specs.Laws.{FileOrNone, NormalTwice, OneTree, ReadBack, Settled};
 
 /// Tokens are a file in at most one way: two trees of a file that have the same tokens are the same.
 pub fn one_file()
     ensures { OneTree }
 {}
 
-/// Tokens are a file, or stop being one at a place.
-pub fn file_or_fault()
-    ensures { FileOrFault }
+/// Tokens are a file, or none.
+pub fn file_or_none()
+    ensures { FileOrNone }
 {}
 
 /// What is in normal form stays as it is: the normal form of a tree's normal form is that normal form.

@@ -1,53 +1,34 @@
 //! Reads a file.
 
-ghost use Rattle.canon_syntax.specs.File.{IsParseFault, IsParsed};
-ghost use Rattle.canon_syntax.specs.Gives.{place_where};
+ghost use Rattle.canon_syntax.specs.File.{IsParsed, NoFile};
 ghost use Rattle.canon_syntax.specs.Views.{file_tree};
-ghost use Rattle.std.specs.Prelude.{◌≡◌, ◌≤◌, IfErr, IfOk};
-ghost use Rattle.token_entries.specs.Entries.{entry_tokens};
+ghost use Rattle.std.specs.Prelude.{[], ◌≡◌, IfErr, IfOk, OnOk};
+ghost use Rattle.syn_error.specs.Faults.{IsSyntax};
+ghost use Rattle.syn_parse.specs.Input.{IsOnward, left};
 
-use crate::fault::ParseFault;
 use crate::items;
 use crate::tree::File;
-use std::alloc::Global;
-use token_entries::entry::Entry;
+use syn_error::ParseFault;
+use syn_parse::ParseBuffer;
 
-// Where so many tokens of all are left: the index of the first of these, or none at the end.
-fn place_where(all: usize, left: usize) -> Option<usize>
-    requires { left ≤ all }
-    ensures { result ≡ place_where all left }
-{
-    if left == 0 { None } else { Some(all - left) }
-}
-
-/// Reads the tokens of a stream as a file.
+/// Reads a file from the stream, to its end.
 ///
-/// The file borrows from the stream: the names of its items, and the tokens that stand in the braces of
-/// a macro item.
+/// The file borrows from the stream's buffer: the names of its items, and what stands in the braces of a
+/// macro item.
 ///
 /// # Errors
 ///
-/// [`ParseFault::Syntax`] where the tokens are no file: its index, counted in tokens from 0, is that of
-/// the first token with which the tokens up to it begin no file, and there is none where all of them
-/// begin one. [`ParseFault::Memory`] where the list of items could not grow. Nothing is left of what was
-/// read.
-pub fn parse_file<'a>(alloc: Global, tokens: &'a [Entry<'a>]) -> Result<File<'a>, ParseFault>
-    ensures parsed { IfOk result (λ f. IsParsed (entry_tokens tokens.now) (file_tree f)) }
-    ensures refused { IfErr result (λ e. IsParseFault (entry_tokens tokens.now) e) }
+/// The tokens are no file: an item begins that none is read from. Want of memory says nothing of the tokens.
+pub fn parse_file<'a>(input: &mut ParseBuffer<'a>) -> Result<File<'a>, ParseFault>
+    ensures parsed { IfOk result (λ f. IsParsed (left input.old) (file_tree f)) }
+    ensures refused { IfErr result (λ e. IsSyntax e → NoFile (left input.old)) }
+    ensures whole { OnOk result (left input.new ≡ []) }
+    ensures onward { IsOnward input.old input.new }
 {
-    let mut items = Vec::new(alloc);
-    let mut at = 0usize;
-    while at < tokens.len() {
-        match items::item(&tokens[at..]) {
-            Ok((item, rest)) => {
-                items.push(item)?;
-                at = tokens.len() - rest.len();
-            }
-            Err(refusal) => {
-                let place = place_where(tokens.len(), refusal.left);
-                return Err(ParseFault::Syntax(place));
-            }
-        }
+    let mut items = Vec::new(input.allocator());
+    while !input.is_empty() {
+        let item = items::item(input)?;
+        items.push(item)?;
     }
     Ok(File { items })
 }

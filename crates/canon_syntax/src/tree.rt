@@ -1,7 +1,7 @@
-//! Files and items, by the entries of a stream, which they borrow.
+//! Files and items, which borrow from the buffer that they are read from.
 
-use rust_leaf::ident::Ident;
-use token_entries::entry::Entry;
+use proc_macro2::Ident;
+use syn_parse::Cursor;
 
 /// A file.
 #[derive(Drop)]
@@ -31,6 +31,6 @@ pub struct ItemStruct<'a> {
 pub struct ItemMacro<'a> {
     /// The name of the macro.
     pub ident: &'a Ident,
-    /// What stands between its braces.
-    pub tokens: &'a [Entry<'a>],
+    /// What stands between its braces: the place at which it begins.
+    pub tokens: Cursor<'a>,
 }

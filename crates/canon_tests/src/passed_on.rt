@@ -74,7 +74,7 @@ fn a_run_reads_no_more_behind_a_failed_read(rt: HostRuntime) {
         let mut reader = Watched::new(CountedSource::new(TEXT, 1, bad));
         let mut writer = Watched::new(CountedSink::new(rt.alloc(), 1, 0, 0));
         let outcome = run(rt.alloc(), &mut reader, &mut writer);
-        assert_eq!(rt; outcome, Err(Fault::Reading), "at read {bad}");
+        assert!(rt; matches!(&outcome, Err(Fault::Reading)), "at read {bad}");
         assert_eq!(rt; reader.get_ref().reads.count, bad);
         assert_eq!(rt; writer.get_ref().writes.count, 0);
         assert_eq!(rt; writer.get_ref().flushes.count, 0);
@@ -87,7 +87,7 @@ fn a_run_writes_no_more_behind_a_failed_write(rt: HostRuntime) {
         let mut reader = Watched::new(CountedSource::new(TEXT, usize::MAX, 0));
         let mut writer = Watched::new(CountedSink::new(rt.alloc(), 1, bad, 0));
         let outcome = run(rt.alloc(), &mut reader, &mut writer);
-        assert_eq!(rt; outcome, Err(Fault::Writing), "at write {bad}");
+        assert!(rt; matches!(&outcome, Err(Fault::Writing)), "at write {bad}");
         assert_eq!(rt; writer.get_ref().writes.count, bad);
         let taken = writer.get_ref().taken.as_slice();
         assert_eq!(rt; taken.len() as u64 + 1, bad as u64);
@@ -98,11 +98,17 @@ fn a_run_writes_no_more_behind_a_failed_write(rt: HostRuntime) {
 
 #[test]
 fn a_run_flushes_all_and_says_where_that_fails(rt: HostRuntime) {
-    for (bad, wanted, flushed) in [(0, Ok(()), PAGE.len()), (1, Err(Fault::Writing), 0)] {
+    for (bad, flushed) in [(0, PAGE.len()), (1, 0)] {
         let mut reader = Watched::new(CountedSource::new(TEXT, usize::MAX, 0));
         let mut writer = Watched::new(CountedSink::new(rt.alloc(), usize::MAX, 0, bad));
         let outcome = run(rt.alloc(), &mut reader, &mut writer);
-        assert_eq!(rt; outcome, wanted);
+        match outcome {
+            Ok(()) => assert_eq!(rt; bad, 0),
+            Err(fault) => {
+                assert_eq!(rt; bad, 1);
+                assert!(rt; matches!(fault, Fault::Writing));
+            }
+        }
         let sink = writer.get_ref();
         assert_eq!(rt; sink.taken.as_slice(), PAGE);
         assert_eq!(rt; sink.writes.count, 1);
@@ -119,7 +125,8 @@ fn a_large_text_takes_few_calls(rt: HostRuntime) -> Result<(), Fail> {
     }
     let mut reader = Watched::new(CountedSource::new(text.as_slice(), LARGE, 0));
     let mut writer = Watched::new(CountedSink::new(rt.alloc(), LARGE, 0, 0));
-    assert_eq!(rt; run(rt.alloc(), &mut reader, &mut writer), Ok(()));
+    let outcome = run(rt.alloc(), &mut reader, &mut writer);
+    assert!(rt; outcome.is_ok());
     assert_eq!(rt; writer.get_ref().taken.len(), 110_000);
     assert!(rt; reader.get_ref().reads.count <= 64);
     assert_eq!(rt; writer.get_ref().writes.count, 2);

@@ -2,7 +2,7 @@
 use Rattle.std.proofs.Common.{◌<◌, List, length, ap, arith}
 use Rattle.proc_macro2.specs.Token.{Spanned}
 use Rattle.syn_kinds.specs.Table.{marks}
-use Rattle.syn_parse.proofs.Shorter.{marks_shorter}
+use Rattle.syn_peek.proofs.Shorter.{marks_shorter}
 use Rattle.example_parser.specs.Line.{ReadsLine}
 use Rattle.example_parser.specs.declared.line.Line.{Line}
 

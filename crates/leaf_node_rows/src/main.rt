@@ -11,7 +11,8 @@ use rust_map::span::Span;
 use std::alloc::Global;
 use std::io::{Read, Write};
 use syn_error::ToTokens;
-use syn_leaf::{Index, Lit, LitBool, Member};
+use syn_leaf::{Index, Lit, LitBool, LitChar, LitFloat, LitInt, LitStr, Member};
+use syn_parse::{Parse, parse_str};
 use try_clone::TryClone;
 
 struct Calls;
@@ -26,6 +27,14 @@ impl Table for Calls {
             "equal" => equal(alloc, text),
             "tokens" => tokens(alloc, text),
             "index" => index(alloc, text),
+            "read_lit" => read::<Lit>(alloc, text),
+            "read_bool" => read::<LitBool>(alloc, text),
+            "read_str" => read::<LitStr>(alloc, text),
+            "read_char" => read::<LitChar>(alloc, text),
+            "read_int" => read::<LitInt>(alloc, text),
+            "read_float" => read::<LitFloat>(alloc, text),
+            "read_index" => read::<Index>(alloc, text),
+            "read_member" => read::<Member>(alloc, text),
             _ => Err(anyhow!("no such call")),
         }
     }
@@ -110,6 +119,15 @@ fn index(alloc: Global, text: &str) -> Result<String> {
     let mut stream = Index::from(number).to_token_stream(alloc)?;
     Member::from(number).to_tokens(&mut stream)?;
     Ok(stream.to_string(alloc)?)
+}
+
+// What is printed for what is read from a text, or why nothing is.
+fn read<T: Parse + ToTokens>(alloc: Global, text: &str) -> Result<String> {
+    let mut map = SourceMap::new(alloc);
+    match parse_str::<T>(alloc, text, &mut map) {
+        Ok(value) => Ok(value.to_token_stream(alloc)?.to_string(alloc)?),
+        Err(fault) => Ok(format!(in alloc; "{fault}")?),
+    }
 }
 
 fn main(rt: HostRuntime) -> Result<()> {

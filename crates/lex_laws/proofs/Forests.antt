@@ -3,7 +3,7 @@ use Rattle.std.proofs.Common.{◌≡◌, ℕ, zero, suc, ◌+◌, List, [], ◌�
 use Rattle.std.proofs.Common.{⊎_elim}
 use Rattle.std.specs.Prelude.{◌↔◌, Option, Some, None, option_and_then}
 use Rattle.std.proofs.lemmas.Bool.{cases_Bool}
-use Rattle.rust_lex.specs.declared.delimiter.Delimiter.{Delimiter as LexDelimiter}
+use Rattle.rust_lex.specs.declared.group_marks.GroupMarks.{GroupMarks}
 use Rattle.rust_lex.specs.declared.piece.DocKind.{DocKind}
 use Rattle.rust_lex.specs.declared.piece.DocKind.TheVariants as doc
 use Rattle.rust_lex.specs.declared.piece.PieceKind.{PieceKind}
@@ -11,9 +11,7 @@ use Rattle.rust_lex.specs.declared.piece.PieceKind.TheVariants.{FrontMark, White
 use Rattle.rust_lex.specs.declared.piece.PieceKind.TheVariants.{Ident, Literal}
 use Rattle.rust_lex.specs.Piece.{Piece, Fits, FitsAt, closing}
 use Rattle.rust_lex.specs.Cover.{onto, AreFit, AreFitFront, IsCover}
-use Rattle.rust_lex.specs.Scan.{Nowhere, Ends, scan_at}
-use Rattle.rust_lex.proofs.Complete.{complete_at}
-use Rattle.rust_lex.proofs.OneCover.{one_piece, one_cover}
+use Rattle.rust_lex.proofs.OneCover.{one_piece, one_cover, none_empty}
 use Rattle.rust_lex.proofs.Sound.{front_fits}
 use Rattle.proc_macro2.specs.declared.delimiter.Delimiter.{Delimiter}
 use Rattle.proc_macro2.specs.Token.{Token, Spanned, plain}
@@ -133,16 +131,6 @@ all_at : (at : ℕ) (ps : List Piece) → AreFit ps [] → AreFitAt at ps
 all_at at [] f = tt
 all_at at (p ∷ ps) f = (fits_at at p.kind p.chars (onto ps []) f.0, f.1)
 
-nothing_at : (at : ℕ) → scan_at at [] ≡ Nowhere
-nothing_at zero = refl
-nothing_at (suc n) = refl
-
-none_empty : (at : ℕ) (q : Piece) (rest : List ℕ) → FitsAt at q.kind q.chars rest → [] ≡ q.chars ++ rest → ⊥
-none_empty at q rest f e =
-    let t : Nowhere ≡ Ends q.kind rest = sym (nothing_at at) ∙ ap (scan_at at) e
-    ∙ complete_at at q.kind q.chars rest f in
-    cc
-
 split : (ps qs : List Piece) (at : ℕ) (rest : List ℕ) → AreFit ps [] → AreFit qs rest → onto ps [] ≡ onto qs rest →
     Split ps qs at rest
 split ps [] at rest f g e = record { others = ps; joined = refl; rest_is = sym e; fit = all_at at ps f }
@@ -202,11 +190,11 @@ matched_open : (ps : List Piece) (stream : List Spanned) → plain (tokens_onto 
 matched_open ps stream e m = sym (open_same [] 0 ps []) ∙ ap (open_of []) (sym (plain_tokens 0 ps []) ∙ e)
     ∙ sym (open_plain [] stream) ∙ m
 
-close_at : (at : ℕ) (d : LexDelimiter) (rest : List ℕ) → FitsAt at (Close d) (closing d ∷ []) rest
+close_at : (at : ℕ) (d : GroupMarks) (rest : List ℕ) → FitsAt at (Close d) (closing d ∷ []) rest
 close_at zero d rest = refl
 close_at (suc n) d rest = refl
 
-closes_none : (gs : List Opening) (m : ℕ) (p : Piece) (ps : List Piece) (d : LexDelimiter) → p.kind ≡ Close d →
+closes_none : (gs : List Opening) (m : ℕ) (p : Piece) (ps : List Piece) (d : GroupMarks) → p.kind ≡ Close d →
     openings_closed gs (delimiter_of d) ≡ None → openings gs m (p ∷ ps) ≡ None
 closes_none gs m p ps d k e = ap (option_and_then (λ qs. openings qs (m + length p.chars) ps))
     (ap (λ k. open_behind gs k m) k ∙ e)

@@ -3,7 +3,7 @@ use Rattle.std.proofs.Common.{◌≡◌, ℕ, List, [], ◌∷◌, ◌++◌, ref
 use Rattle.std.specs.Prelude.{true, false, not, ◌⊎◌, ◌&&◌, ◌||◌, ◌==◌, is_some}
 use Rattle.std.proofs.lemmas.Bool.{and_parts, and_from, and_left, and_right, or_left, or_right, or_from, or_cases}
 use Rattle.std.proofs.lemmas.Bool.{eqb-true}
-use Rattle.rust_lex.specs.Chars.{is_mark, begins, is_slash_or_star, marks, is_among}
+use Rattle.rust_lex.specs.Chars.{is_mark_but_tick, begins, is_slash_or_star, marks_but_tick, is_among}
 use Rattle.rust_escape.specs.declared.mode.Mode.TheVariants as modes
 use Rattle.rust_lex.specs.QuotedScan.{past_char}
 use Rattle.rust_lex.specs.Word.{begins_lifetime}
@@ -28,54 +28,57 @@ among_parts (e ∷ ds) c d h =
     (λ x. ⊎_elim (λ y. inl (or_right (e == c) (is_among ds c) y)) (λ y. inr y) (among_parts ds c d x))
     (or_cases (e == c) (is_among (ds ++ (d ∷ [])) c) h)
 
-pub mark_is : (c : ℕ) → is_mark c ≡ true → is_punctuation c ≡ true
-unfolding is_mark is_punctuation
-mark_is c h = among_front marks c 39 h
+pub mark_is : (c : ℕ) → is_mark_but_tick c ≡ true → is_punctuation c ≡ true
+unfolding is_mark_but_tick is_punctuation
+mark_is c h = among_front marks_but_tick c 39 h
 
 pub quote_is : is_punctuation 39 ≡ true
 unfolding is_punctuation
 quote_is = refl
 
-pub mark_or_quote : (c : ℕ) → is_punctuation c ≡ true → (c == 39) ≡ false → is_mark c ≡ true
-unfolding is_mark is_punctuation
+pub mark_or_quote : (c : ℕ) → is_punctuation c ≡ true → (c == 39) ≡ false → is_mark_but_tick c ≡ true
+unfolding is_mark_but_tick is_punctuation
 mark_or_quote c h n = ⊎_elim (λ x. x) (λ e. let q : (39 == 39) ≡ false = subst (λ d. (d == 39) ≡ false) (sym e) n in cc)
-    (among_parts marks c 39 h)
+    (among_parts marks_but_tick c 39 h)
 
 -- what begins with a mark
 pub begun_is : (c : ℕ) (rest : List ℕ) → begins_mark (c ∷ rest) ≡ true → is_punctuation c ≡ true
 begun_is c rest h =
     ⊎_elim
-    (λ m. let (k, _) = and_parts (is_mark c) (not (c == 47 && begins is_slash_or_star rest)) m in mark_is c k)
+    (λ m. let (k, _) = and_parts (is_mark_but_tick c) (not (c == 47 && begins is_slash_or_star rest)) m in mark_is c k)
     (λ m. let (k, _) = and_parts (c == 39) (begins_lifetime rest) m in subst (λ d. is_punctuation d ≡ true)
     (sym (eqb-true c 39 k)) quote_is)
-    (or_cases (is_mark c && not (c == 47 && begins is_slash_or_star rest)) (c == 39 && begins_lifetime rest) h)
+    (or_cases (is_mark_but_tick c && not (c == 47 && begins is_slash_or_star rest)) (c == 39 && begins_lifetime rest) h)
 
 -- a mark that begins no comment
-pub mark_before : (c : ℕ) (rest : List ℕ) → is_mark c ≡ true → (c == 47 && begins is_slash_or_star rest) ≡ false →
+pub mark_before : (c : ℕ) (rest : List ℕ) → is_mark_but_tick c ≡ true
+    → (c == 47 && begins is_slash_or_star rest) ≡ false →
     begins_mark (c ∷ rest) ≡ true
-mark_before c rest h n = or_left (is_mark c && not (c == 47 && begins is_slash_or_star rest))
-    (c == 39 && begins_lifetime rest) (and_from (is_mark c) (not (c == 47 && begins is_slash_or_star rest)) h
+mark_before c rest h n = or_left (is_mark_but_tick c && not (c == 47 && begins is_slash_or_star rest))
+    (c == 39 && begins_lifetime rest) (and_from (is_mark_but_tick c) (not (c == 47 && begins is_slash_or_star rest)) h
     (ap not n))
 
 pub quote_before : (rest : List ℕ) → begins_lifetime rest ≡ true → begins_mark (39 ∷ rest) ≡ true
-quote_before rest h = or_right (is_mark 39 && not (39 == 47 && begins is_slash_or_star rest))
+quote_before rest h = or_right (is_mark_but_tick 39 && not (39 == 47 && begins is_slash_or_star rest))
     (39 == 39 && begins_lifetime rest) h
 
-shuns_mark : Shuns is_mark
-unfolding is_mark
+shuns_mark : Shuns is_mark_but_tick
+unfolding is_mark_but_tick
 shuns_mark = record { space = refl; round = refl; square = refl }
 
 shuns_slash_or_star : Shuns is_slash_or_star
 shuns_slash_or_star = record { space = refl; round = refl; square = refl }
 
-pub mark_calm : (c : ℕ) (calmer : List ℕ) → is_mark c ≡ true → IsCalm calmer → begins_mark (c ∷ calmer) ≡ true
+pub mark_calm : (c : ℕ) (calmer : List ℕ) → is_mark_but_tick c ≡ true → IsCalm calmer → begins_mark (c ∷ calmer) ≡ true
 mark_calm c calmer h k = mark_before c calmer h (and_right (c == 47) (begins is_slash_or_star calmer)
     (calm_shuns is_slash_or_star calmer shuns_slash_or_star k))
 
 no_mark : (calmer : List ℕ) → IsCalm calmer → begins_mark calmer ≡ false
 no_mark [] k = refl
-no_mark (c ∷ cs) k = or_from (is_mark c && not (c == 47 && begins is_slash_or_star cs)) (c == 39 && begins_lifetime cs)
-    (and_left (is_mark c) (not (c == 47 && begins is_slash_or_star cs)) (calm_shuns is_mark (c ∷ cs) shuns_mark k))
+no_mark (c ∷ cs) k = or_from (is_mark_but_tick c && not (c == 47 && begins is_slash_or_star cs))
+    (c == 39 && begins_lifetime cs)
+    (and_left (is_mark_but_tick c) (not (c == 47 && begins is_slash_or_star cs))
+    (calm_shuns is_mark_but_tick (c ∷ cs) shuns_mark k))
     (and_left (c == 39) (begins_lifetime cs) (among_each (λ d. (d == 39) ≡ false) calm (refl, (refl, (refl, tt))) c k))
 
 no_char : (calmer : List ℕ) → IsCalm calmer → begins_char calmer ≡ false

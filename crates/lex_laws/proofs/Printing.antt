@@ -7,7 +7,7 @@ use Rattle.rust_leaf.specs.declared.punct.Spacing.{Spacing}
 use Rattle.rust_leaf.specs.declared.punct.Spacing.TheVariants.{Alone, Joint}
 use Rattle.rust_leaf.specs.Mark.{is_mark as is_punctuation}
 use Rattle.rust_lex.specs.Chars.{is_digit, begins, is_slash_or_star}
-use Rattle.rust_lex.specs.declared.delimiter.Delimiter.TheVariants as lex
+use Rattle.rust_lex.specs.declared.group_marks.GroupMarks.TheVariants as lex
 use Rattle.rust_escape.specs.declared.mode.Mode.{Mode}
 use Rattle.rust_escape.specs.declared.mode.Mode.TheVariants as modes
 use Rattle.rust_lex.specs.declared.piece.PieceKind.{PieceKind}

@@ -2,9 +2,9 @@
 use Rattle.std.proofs.Common.{◌≡◌, ℕ, List, [], ◌∷◌, ◌++◌, append_assoc, refl, sym, ap, ◌∙◌, subst, ⊎_elim}
 use Rattle.std.specs.Prelude.{Bool, true, false, not, ◌⊎◌, ◌&&◌, ◌==◌, is_some, IsTrue}
 use Rattle.std.proofs.lemmas.Bool.{and_parts, cases_Bool, eqb-true, or_cases, not-true}
-use Rattle.rust_lex.specs.Chars.{is_mark, is_digit, begins, is_slash_or_star}
-use Rattle.rust_lex.specs.declared.delimiter.Delimiter.{Delimiter as LexDelimiter}
-use Rattle.rust_lex.specs.declared.delimiter.Delimiter.TheVariants as lex
+use Rattle.rust_lex.specs.Chars.{is_mark_but_tick, is_digit, begins, is_slash_or_star}
+use Rattle.rust_lex.specs.declared.group_marks.GroupMarks.{GroupMarks}
+use Rattle.rust_lex.specs.declared.group_marks.GroupMarks.TheVariants as lex
 use Rattle.rust_escape.specs.declared.mode.Mode.{Mode}
 use Rattle.rust_escape.specs.declared.mode.Mode.TheVariants as modes
 use Rattle.rust_lex.specs.declared.piece.DocKind.{DocKind}
@@ -83,9 +83,10 @@ begun_comment : (c d : ℕ) (rest : List ℕ) → (c == 39) ≡ false → begins
     begin_comment c d ≡ false
 begun_comment c d rest q h =
     ⊎_elim
-    (λ m. let (_, n) = and_parts (is_mark c) (not (c == 47 && begins is_slash_or_star (d ∷ rest))) m in not-true _ n)
+    (λ m. let (_, n) = and_parts (is_mark_but_tick c) (not (c == 47 && begins is_slash_or_star (d ∷ rest))) m in
+    not-true _ n)
     (λ m. let (k, _) = and_parts (c == 39) (begins_lifetime (d ∷ rest)) m in cc)
-    (or_cases (is_mark c && not (c == 47 && begins is_slash_or_star (d ∷ rest)))
+    (or_cases (is_mark_but_tick c && not (c == 47 && begins is_slash_or_star (d ∷ rest)))
     (c == 39 && begins_lifetime (d ∷ rest)) h)
 
 -- and behind another joint mark
@@ -118,9 +119,10 @@ char_tokens c (p ∷ ps) f h =
 
 begun_quote : (rest : List ℕ) → begins_mark (39 ∷ rest) ≡ true → begins_lifetime rest ≡ true
 begun_quote rest h = let n = tick_no_mark 39 refl in ⊎_elim
-    (λ m. let (k, _) = and_parts (is_mark 39) (not (39 == 47 && begins is_slash_or_star rest)) m in cc)
+    (λ m. let (k, _) = and_parts (is_mark_but_tick 39) (not (39 == 47 && begins is_slash_or_star rest)) m in cc)
     (λ m. m)
-    (or_cases (is_mark 39 && not (39 == 47 && begins is_slash_or_star rest)) (39 == 39 && begins_lifetime rest) h)
+    (or_cases (is_mark_but_tick 39 && not (39 == 47 && begins is_slash_or_star rest)) (39 == 39 && begins_lifetime rest)
+    h)
 
 quote_stands : (ps : List Piece) → AreFit ps [] → begins_mark (39 ∷ onto ps []) ≡ true →
     IsTrue (may_stand (Punct 39 (spacing_of (is_joint (39 ∷ onto ps [])))) (plain_of ps []))
@@ -162,7 +164,7 @@ sign_stands c ps f m =
     (λ q. other_stands c ps f q m)
     (cases_Bool (c == 39))
 
-visible : (d : LexDelimiter) → is_visible (delimiter_of d) ≡ true
+visible : (d : GroupMarks) → is_visible (delimiter_of d) ≡ true
 visible lex.Parenthesis = refl
 visible lex.Brace = refl
 visible lex.Bracket = refl

@@ -3,7 +3,7 @@ use Rattle.std.proofs.Common.{◌≡◌, ℕ, ◌+◌, ◌-◌, ◌≤◌, List,
 use Rattle.std.proofs.Common.{take_at, drop_at}
 use Rattle.std.specs.Prelude.{Some, option_map}
 use Rattle.rust_map.specs.Answers.{source_of}
-use Rattle.rust_map.specs.Bytes.{between}
+use Rattle.rust_map.specs.Bytes.{between_counts}
 use Rattle.rust_map.specs.Sources.{Sources, next_position, next_span, next_spot, spot, spot_part, with_text}
 use Rattle.rust_map.specs.Spans.{span_from}
 use Rattle.rust_map.specs.declared.span.Span.{Span}
@@ -12,7 +12,7 @@ use Rattle.proc_macro2.specs.Pieces.{span_at}
 
 -- a part of the text that is put in is what the map answers of its span
 middle : (text front cs rest : List ℕ) (from to : ℕ) → text ≡ front ++ (cs ++ rest) → from ≡ length front →
-    to ≡ from + length cs → between text from to ≡ cs
+    to ≡ from + length cs → between_counts text from to ≡ cs
 middle text front cs rest from to e f g =
     let n : to - from ≡ length cs = omega arith in
     ap (take (to - from)) (ap (drop from) e ∙ drop_at front (cs ++ rest) from (sym f))
@@ -31,5 +31,5 @@ found_at m text front cs rest span positive e f =
     let there : spot (with_text m text) span ≡
     Some (spot_part (next_spot m text) from to) = ap (λ s. spot (with_text m text) s) (f
     ∙ ap (λ n. span_from (next_position m + from) n) ends) ∙ lies in
-    ap (λ o. option_map (λ s. between s.text s.from s.to) o) there
+    ap (λ o. option_map (λ s. between_counts s.text s.from s.to) o) there
     ∙ ap (λ cs. Some cs) (middle text front cs rest (0 + from) (0 + to) e (omega arith) (omega arith))

@@ -14,8 +14,8 @@ use Rattle.rust_lex.specs.Cover.{AreFit, AreFitFront, onto}
 use Rattle.rust_lex.specs.Piece as piece
 use Rattle.rust_lex.specs.Piece.{Fits, FitsFront, Piece}
 use Rattle.rust_lex.specs.Scan.{is_joint}
-use Rattle.rust_lex.specs.declared.delimiter.Delimiter.{Delimiter as LexDelimiter}
-use Rattle.rust_lex.specs.declared.delimiter.Delimiter.TheVariants as lex
+use Rattle.rust_lex.specs.declared.group_marks.GroupMarks.{GroupMarks}
+use Rattle.rust_lex.specs.declared.group_marks.GroupMarks.TheVariants as lex
 use Rattle.rust_lex.specs.declared.piece.PieceKind.{PieceKind}
 use Rattle.rust_lex.specs.declared.piece.PieceKind.TheVariants.{FrontMark, White, Comment, Doc, Open, Close, Mark}
 use Rattle.rust_lex.specs.declared.piece.PieceKind.TheVariants as kinds
@@ -183,12 +183,12 @@ front_made [] f = tt
 front_made (p ∷ ps) f = (made_front p.kind p.chars (onto ps []) f.0, all_made ps f.1)
 
 -- a delimiter is printed as it is read
-opened_as : (d : LexDelimiter) → opening (delimiter_of d) ≡ piece.opening d ∷ []
+opened_as : (d : GroupMarks) → opening (delimiter_of d) ≡ piece.opening d ∷ []
 opened_as lex.Parenthesis = refl
 opened_as lex.Brace = refl
 opened_as lex.Bracket = refl
 
-closed_as : (d : LexDelimiter) → closing (delimiter_of d) ≡ piece.closing d ∷ []
+closed_as : (d : GroupMarks) → closing (delimiter_of d) ≡ piece.closing d ∷ []
 closed_as lex.Parenthesis = refl
 closed_as lex.Brace = refl
 closed_as lex.Bracket = refl
@@ -215,7 +215,7 @@ leaf m text front cs rest t after xs ds stream positive joined is written r b ne
     (ended_back (next_position m) text front cs xs ds w.ended) w)
 
 -- an opening token, whose group ends further on
-open_group : (m : Sources) (text front rest : List ℕ) (d : LexDelimiter) (after : List Spanned) (xs : List Span)
+open_group : (m : Sources) (text front rest : List ℕ) (d : GroupMarks) (after : List Spanned) (xs : List Span)
     (ds : List Delimiter) (stream : List Spanned) → 1 ≤ m.start
     → (let span = span_at (next_position m + length front) 1 in IsStream
     (spanned (Opens (delimiter_of d)) (first_of span) ∷ after) xs ds stream)
@@ -264,7 +264,7 @@ open_group m text front rest d after xs ds stream positive r b next =
     (whole, source, inl (i.inside, refl)) low high (ended_back base text front cs xs ds w.ended.1) w)
 
 -- a closing token, whose group was begun
-close_group : (m : Sources) (text front rest : List ℕ) (d : LexDelimiter) (after : List Spanned) (xs : List Span)
+close_group : (m : Sources) (text front rest : List ℕ) (d : GroupMarks) (after : List Spanned) (xs : List Span)
     (ds : List Delimiter) (stream : List Spanned) → 1 ≤ m.start → text ≡ front ++ (piece.closing d ∷ rest)
     → (let span = span_at (next_position m + length front) 1 in IsStream
     (spanned (Closes (delimiter_of d)) (last_of span) ∷ after) xs ds stream)

@@ -7,14 +7,16 @@ use syn_error::ToTokens;
 use syn_kinds::token;
 use syn_lists::{Pair, Punctuated};
 
-type Names = Punctuated<Ident, token::Comma>;
+/// The names of the rows.
+pub(crate) type Names = Punctuated<Ident, token::Comma>;
 
-fn name(alloc: Global, text: &str) -> Result<Ident, Error> {
+/// An identifier.
+pub(crate) fn name(alloc: Global, text: &str) -> Result<Ident, Error> {
     Ok(Ident::new(alloc, text, Span::call_site())?)
 }
 
-// How many values there are, whether a separator stands behind the last, and the tokens.
-fn line(lines: &mut String, names: &Names) -> Result<(), Error> {
+/// How many values there are, whether a separator stands behind the last, and the tokens.
+pub(crate) fn line(lines: &mut String, names: &Names) -> Result<(), Error> {
     let alloc = *lines.allocator();
     let count = names.len();
     let trailing = names.trailing_punct();
@@ -25,15 +27,15 @@ fn line(lines: &mut String, names: &Names) -> Result<(), Error> {
     Ok(())
 }
 
-// A word, and a line's end.
-fn word(lines: &mut String, text: &str) -> Result<(), Error> {
+/// A word, and a line's end.
+pub(crate) fn word(lines: &mut String, text: &str) -> Result<(), Error> {
     lines.push_str(text)?;
     lines.push_str("\n")?;
     Ok(())
 }
 
-// The list a , b ,
-fn two(alloc: Global) -> Result<Names, Error> {
+/// The list a , b ,
+pub(crate) fn two(alloc: Global) -> Result<Names, Error> {
     let mut names = Names::new(alloc);
     names.push(name(alloc, "a")?)?;
     names.push(name(alloc, "b")?)?;

@@ -1,9 +1,11 @@
 //! Lists with separators, and errors, by hand: what they hold after each call, and what is printed for them.
 //!
 //! - `lists`: what is put in, taken out and gone over.
+//! - `changed`: what is written through lent values, taken out by a function, and made of pairs.
 //! - `errors`: messages put together, gone over, and as tokens.
 #![tactic(auto)]
 
+mod changed;
 mod errors;
 mod lists;
 
@@ -16,6 +18,9 @@ fn main(rt: HostRuntime) -> Result<(), Error> {
     lists::put_in(&mut lines)?;
     lists::gone_over(&mut lines)?;
     lists::collected(&mut lines)?;
+    changed::written(&mut lines)?;
+    changed::retained(&mut lines)?;
+    changed::paired(&mut lines)?;
     errors::errors(&mut lines)?;
     rt.stdout().write_all(lines.as_bytes())?;
     Ok(())

@@ -5,10 +5,11 @@ use anyhow::Error;
 use proc_macro2::{Ident, SourceMap, TokenStream};
 use std::alloc::Global;
 use std::io::Write;
-use syn_error::ToTokens;
+use syn_error::{ParseFault, ToTokens};
 use syn_kinds::token;
 use syn_lists::Punctuated;
 use syn_parse::{ParseBuffer, TokenBuffer};
+use syn_read_lists::{parse_separated_nonempty, parse_terminated_with, read_many};
 
 fn main(rt: HostRuntime) -> Result<(), Error> {
     let alloc = rt.alloc();
@@ -19,6 +20,12 @@ fn main(rt: HostRuntime) -> Result<(), Error> {
     looked(alloc, &mut lines, "", 2)?;
     for text in ["a , b ,", "a , b", "", "a b", ", a", "a , , b"] {
         listed(alloc, &mut lines, text)?;
+    }
+    for text in ["a + b c", "a", "", "a +", "a + +"] {
+        summed(alloc, &mut lines, text)?;
+    }
+    for text in ["a , b > c", "a , > c", "> c", "a b > c", "a , , > c"] {
+        until(alloc, &mut lines, text)?;
     }
     rt.stdout().write_all(lines.as_bytes())?;
     Ok(())
@@ -61,9 +68,22 @@ fn listed(alloc: Global, lines: &mut String, text: &str) -> Result<(), Error> {
     let buffer = TokenBuffer::new2(alloc, &stream, 1)?;
     let mut input = ParseBuffer::new(alloc, buffer.begin());
     let read = input.parse_terminated::<Ident, token::Comma>();
+    read_line(lines, read)?;
+    let mut input = ParseBuffer::new(alloc, buffer.begin());
+    let read: Read<token::Comma> = parse_terminated_with(
+        &mut input,
+        |input| input.parse::<Ident>(),
+    );
+    read_line(lines, read)
+}
+
+type Read<P> = Result<Punctuated<Ident, P>, ParseFault>;
+
+// What was read, or why nothing was.
+fn read_line<P: ToTokens + Drop>(lines: &mut String, read: Read<P>) -> Result<(), Error> {
+    let alloc = *lines.allocator();
     match read {
         Ok(names) => {
-            let names: Punctuated<Ident, token::Comma> = names;
             let count = names.len();
             let trailing = names.trailing_punct();
             let printed = names.to_token_stream(alloc)?;
@@ -75,4 +95,28 @@ fn listed(alloc: Global, lines: &mut String, text: &str) -> Result<(), Error> {
             line(lines, words.as_str())
         }
     }
+}
+
+// Names with pluses between them, at least one.
+fn summed(alloc: Global, lines: &mut String, text: &str) -> Result<(), Error> {
+    let mut map = SourceMap::new(alloc);
+    let stream = TokenStream::from_str(alloc, text, &mut map)?;
+    let buffer = TokenBuffer::new2(alloc, &stream, 1)?;
+    let mut input = ParseBuffer::new(alloc, buffer.begin());
+    let read = parse_separated_nonempty::<Ident, token::Plus>(&mut input);
+    read_line(lines, read)?;
+    let left = if input.is_empty() { "all" } else { "some left" };
+    line(lines, left)
+}
+
+// Names with commas between them, until a `>`.
+fn until(alloc: Global, lines: &mut String, text: &str) -> Result<(), Error> {
+    let mut map = SourceMap::new(alloc);
+    let stream = TokenStream::from_str(alloc, text, &mut map)?;
+    let buffer = TokenBuffer::new2(alloc, &stream, 1)?;
+    let mut input = ParseBuffer::new(alloc, buffer.begin());
+    let read = read_many::<Ident, token::Comma, token::Gt, _>(&mut input, |input| {
+        input.parse::<Ident>()
+    });
+    read_line(lines, read)
 }

@@ -4,6 +4,7 @@ use proc_macro2::{Delimiter, Group, Ident, SourceMap, Span, TokenStream, TokenTr
 use std::alloc::Global;
 use std::test::Fail;
 use syn_error::ParseFault;
+use syn_input::parenthesized;
 use syn_kinds::token;
 use syn_parse::parser::parse_stream;
 use syn_parse::{ParseBuffer, TokenBuffer};
@@ -96,5 +97,20 @@ fn within_reads_a_group(rt: HostRuntime) -> Result<(), Fail> {
     let mut input = ParseBuffer::new(alloc, buffer.begin());
     let (_span, a) = input.within(Delimiter::Bracket, |content| content.parse::<Ident>())?;
     assert!(rt; a.is_text("a") && input.peek::<Ident>());
+    Ok(())
+}
+
+#[test]
+fn groups_are_entered_by_macros(rt: HostRuntime) -> Result<(), Fail> {
+    let alloc = rt.alloc();
+    let mut map = SourceMap::new(alloc);
+    let stream = TokenStream::from_str(alloc, "(a) [b]", &mut map)?;
+    let buffer = TokenBuffer::new2(alloc, &stream, 1)?;
+    let mut input = ParseBuffer::new(alloc, buffer.begin());
+    let mut content;
+    let _paren = parenthesized!(content in input);
+    let a = content.parse::<Ident>()?;
+    input.close(content);
+    assert!(rt; a.is_text("a") && input.peek::<token::Bracket>());
     Ok(())
 }

@@ -45,10 +45,7 @@ fn faults_are_said(rt: HostRuntime) -> Result<(), Fail> {
     let answer = parse_str::<token::Semi>(alloc, ",", &mut map);
     assert_eq!(rt; said(&rt, answer)?.as_str(), "expected `;`");
     let answer = parse_str::<token::Semi>(alloc, "", &mut map);
-    assert_eq!(rt;
-        said(&rt, answer)?.as_str(),
-        "unexpected end of input, expected `;`"
-    );
+    assert_eq!(rt; said(&rt, answer)?.as_str(), "expected `;`");
     let answer = parse_str::<Ident>(alloc, "fn", &mut map);
     assert_eq!(rt; said(&rt, answer)?.as_str(), "expected identifier");
     let answer = parse_str::<token::Fn>(alloc, "r#fn", &mut map);

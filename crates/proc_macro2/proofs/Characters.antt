@@ -13,11 +13,13 @@ use Rattle.proc_macro2.specs.Printed.{closing, is_apart, opening, shown, space, 
 
 pub characters_append : (cs ds : List ℕ) → AreCharacters cs → AreCharacters ds → AreCharacters (cs ++ ds)
 characters_append [] ds a b = b
-characters_append (c ∷ cs) ds a b = let (first, rest) = and_parts (scalar c) (scalars cs) a in and_from _ _ first (characters_append cs ds rest b)
+characters_append (c ∷ cs) ds a b = let (first, rest) =
+    and_parts (scalar c) (scalars cs) a in and_from _ _ first (characters_append cs ds rest b)
 
 pub characters_front : (cs ds : List ℕ) → AreCharacters (cs ++ ds) → AreCharacters cs
 characters_front [] ds a = refl
-characters_front (c ∷ cs) ds a = let (first, rest) = and_parts (scalar c) (scalars (cs ++ ds)) a in and_from _ _ first (characters_front cs ds rest)
+characters_front (c ∷ cs) ds a = let (first, rest) =
+    and_parts (scalar c) (scalars (cs ++ ds)) a in and_from _ _ first (characters_front cs ds rest)
 
 pub characters_back : (cs ds : List ℕ) → AreCharacters (cs ++ ds) → AreCharacters ds
 characters_back [] ds a = a
@@ -43,7 +45,8 @@ among : (ms : List ℕ) (c : ℕ) → scalars ms ≡ true → list_any (λ mark.
 among [] c a e = absurd (cc)
 among (m ∷ ms) c a e = by (λ h. among ms c (and_parts _ _ a).1 h) (m == c) refl e
   where
-    by : (list_any (λ mark. mark == c) ms ≡ true → scalar c ≡ true) → (b : Bool) → (m == c) ≡ b → (b || list_any (λ mark. mark == c) ms) ≡ true → scalar c ≡ true
+    by : (list_any (λ mark. mark == c) ms ≡ true → scalar c ≡ true) → (b : Bool) → (m == c) ≡ b
+        → (b || list_any (λ mark. mark == c) ms) ≡ true → scalar c ≡ true
     by others true s e = subst (λ n. scalar n ≡ true) (eqb-true m c s) (and_parts _ _ a).0
     by others false s e = others e
 
@@ -60,5 +63,7 @@ pub text_characters : (ts : List Token) → AreCharacters (flat_map shown ts) �
 text_characters [] a = refl
 text_characters (t ∷ []) a = characters_front (shown t) [] a
 text_characters (t ∷ u ∷ us) a =
-    characters_append (shown t) (space (is_apart t u) ++ text (u ∷ us)) (characters_front (shown t) (flat_map shown (u ∷ us)) a)
-    (characters_append (space (is_apart t u)) (text (u ∷ us)) (space_characters (is_apart t u)) (text_characters (u ∷ us) (characters_back (shown t) (flat_map shown (u ∷ us)) a)))
+    characters_append (shown t) (space (is_apart t u) ++ text (u ∷ us))
+    (characters_front (shown t) (flat_map shown (u ∷ us)) a)
+    (characters_append (space (is_apart t u)) (text (u ∷ us)) (space_characters (is_apart t u))
+    (text_characters (u ∷ us) (characters_back (shown t) (flat_map shown (u ∷ us)) a)))

@@ -17,17 +17,21 @@ word = Ident (codes "a")
 marks : text (word ∷ Punct 43 Joint ∷ Punct 61 Alone ∷ Literal (codes "1u8") ∷ Punct 59 Alone ∷ []) ≡ codes "a += 1u8 ;"
 marks = refl
 
-groups : text (around delimiter.Parenthesis (word ∷ word ∷ []) ++ around delimiter.Bracket (word ∷ []) ++ around delimiter.Brace (word ∷ [])) ≡ codes "(a a) [a] { a }"
+groups : text (around delimiter.Parenthesis (word ∷ word ∷ []) ++ around delimiter.Bracket (word ∷ []) ++ around
+    delimiter.Brace (word ∷ [])) ≡ codes "(a a) [a] { a }"
 groups = refl
 
-empty_groups : text (around delimiter.Parenthesis [] ++ around delimiter.Bracket [] ++ around delimiter.Brace []) ≡ codes "() [] { }"
+empty_groups : text (around delimiter.Parenthesis [] ++ around delimiter.Bracket [] ++ around delimiter.Brace [])
+    ≡ codes "() [] { }"
 empty_groups = refl
 
 -- a joint mark at the end of a group's inside
-last_joint : text (around delimiter.Parenthesis (Punct 43 Joint ∷ []) ++ around delimiter.Brace (Punct 43 Joint ∷ [])) ≡ codes "(+) { + }"
+last_joint : text (around delimiter.Parenthesis (Punct 43 Joint ∷ []) ++ around delimiter.Brace (Punct 43 Joint ∷ []))
+    ≡ codes "(+) { + }"
 last_joint = refl
 
-nested : text (around delimiter.Brace (around delimiter.Brace [] ++ around delimiter.Brace (word ∷ []))) ≡ codes "{ { } { a } }"
+nested : text (around delimiter.Brace (around delimiter.Brace [] ++ around delimiter.Brace (word ∷ [])))
+    ≡ codes "{ { } { a } }"
 nested = refl
 
 -- of an invisible group the inside alone; behind it a space, also where a joint mark ends it
@@ -41,7 +45,8 @@ behind_joint = refl
 empty_invisible : text (word ∷ around delimiter.None [] ++ word ∷ []) ≡ codes "a  a"
 empty_invisible = refl
 
-inside_groups : text (around delimiter.Parenthesis (around delimiter.None []) ++ around delimiter.Brace (around delimiter.None [])) ≡ codes "() {  }"
+inside_groups : text (around delimiter.Parenthesis (around delimiter.None []) ++ around delimiter.Brace
+    (around delimiter.None [])) ≡ codes "() {  }"
 inside_groups = refl
 
 -- 'a, 'a' and 'b"x"

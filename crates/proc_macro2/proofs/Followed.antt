@@ -11,7 +11,8 @@ use Rattle.rust_lex.specs.declared.piece.PieceKind.TheVariants as piece
 use Rattle.rust_lex.proofs.Sound.{front_fits}
 use Rattle.rust_lex.proofs.Joints.{mark_kind, char_kind, char_begins}
 use Rattle.proc_macro2.specs.Token.{Token, Punct, Spanned}
-use Rattle.proc_macro2.specs.Pieces.{joins, is_joined, mark_spacing, piece_tokens, spacing_of, head, edged, edged_at, span_at, tokens_of}
+use Rattle.proc_macro2.specs.Pieces.{joins, is_joined, mark_spacing, piece_tokens, spacing_of, head, edged}
+use Rattle.proc_macro2.specs.Pieces.{edged_at, span_at, tokens_of}
 use Rattle.proc_macro2.specs.Forest.{IsForest}
 
 -- the tokens of a piece before a text
@@ -26,21 +27,29 @@ tokens_onto position (p ∷ ps) rest =
     ++ tokens_onto (position + length p.chars) ps rest
 
 -- a mark or a character literal begins the text of a piece exactly if it is one
-joins_other : (k : PieceKind) (cs rest : List ℕ) → Fits k cs rest → (k ≡ piece.Mark → ⊥) → (k ≡ piece.Literal literal.Char → ⊥) → (begins_mark (cs ++ rest) || begins_char (cs ++ rest)) ≡ false
+joins_other : (k : PieceKind) (cs rest : List ℕ) → Fits k cs rest → (k ≡ piece.Mark → ⊥)
+    → (k ≡ piece.Literal literal.Char → ⊥) → (begins_mark (cs ++ rest) || begins_char (cs ++ rest)) ≡ false
 joins_other k cs rest f m c =
     or_from (begins_mark (cs ++ rest)) (begins_char (cs ++ rest))
     (false_from_ne_true (begins_mark (cs ++ rest)) (λ h. m (mark_kind k cs rest f h)))
     (false_from_ne_true (begins_char (cs ++ rest)) (λ h. c (char_kind k cs rest f h)))
 
-joins_same : (k : PieceKind) (cs rest : List ℕ) → Fits k cs rest → (begins_mark (cs ++ rest) || begins_char (cs ++ rest)) ≡ joins k
-joins_same piece.Mark cs rest (c, e, h) = or_left (begins_mark (cs ++ rest)) (begins_char (cs ++ rest)) (ap (λ x. begins_mark (x ++ rest)) e ∙ h)
-joins_same (piece.Literal literal.Char) cs rest f = or_right (begins_mark (cs ++ rest)) (begins_char (cs ++ rest)) (char_begins cs rest f)
+joins_same : (k : PieceKind) (cs rest : List ℕ) → Fits k cs rest
+    → (begins_mark (cs ++ rest) || begins_char (cs ++ rest)) ≡ joins k
+joins_same piece.Mark cs rest (c, e, h) =
+    or_left (begins_mark (cs ++ rest)) (begins_char (cs ++ rest)) (ap (λ x. begins_mark (x ++ rest)) e ∙ h)
+joins_same (piece.Literal literal.Char) cs rest f =
+    or_right (begins_mark (cs ++ rest)) (begins_char (cs ++ rest)) (char_begins cs rest f)
 joins_same (piece.Literal literal.Str) cs rest f = joins_other (piece.Literal literal.Str) cs rest f (λ e. cc) (λ e. cc)
-joins_same (piece.Literal literal.ByteStr) cs rest f = joins_other (piece.Literal literal.ByteStr) cs rest f (λ e. cc) (λ e. cc)
-joins_same (piece.Literal literal.CStr) cs rest f = joins_other (piece.Literal literal.CStr) cs rest f (λ e. cc) (λ e. cc)
-joins_same (piece.Literal literal.Byte) cs rest f = joins_other (piece.Literal literal.Byte) cs rest f (λ e. cc) (λ e. cc)
+joins_same (piece.Literal literal.ByteStr) cs rest f =
+    joins_other (piece.Literal literal.ByteStr) cs rest f (λ e. cc) (λ e. cc)
+joins_same (piece.Literal literal.CStr) cs rest f =
+    joins_other (piece.Literal literal.CStr) cs rest f (λ e. cc) (λ e. cc)
+joins_same (piece.Literal literal.Byte) cs rest f =
+    joins_other (piece.Literal literal.Byte) cs rest f (λ e. cc) (λ e. cc)
 joins_same (piece.Literal literal.Int) cs rest f = joins_other (piece.Literal literal.Int) cs rest f (λ e. cc) (λ e. cc)
-joins_same (piece.Literal literal.Float) cs rest f = joins_other (piece.Literal literal.Float) cs rest f (λ e. cc) (λ e. cc)
+joins_same (piece.Literal literal.Float) cs rest f =
+    joins_other (piece.Literal literal.Float) cs rest f (λ e. cc) (λ e. cc)
 joins_same piece.FrontMark cs rest f = absurd f
 joins_same piece.White cs rest f = joins_other piece.White cs rest f (λ e. cc) (λ e. cc)
 joins_same piece.Comment cs rest f = joins_other piece.Comment cs rest f (λ e. cc) (λ e. cc)
@@ -54,7 +63,8 @@ joined_same [] f = refl
 joined_same (p ∷ ps) f = joins_same p.kind p.chars (onto ps []) f.0
 
 -- a piece's tokens
-front_same : (k : PieceKind) (cs : List ℕ) (ps : List Piece) → FitsFront k cs (onto ps []) → AreFit ps [] → piece_tokens k cs (mark_spacing (head cs) ps) ≡ tokens_before k cs (onto ps [])
+front_same : (k : PieceKind) (cs : List ℕ) (ps : List Piece) → FitsFront k cs (onto ps []) → AreFit ps []
+    → piece_tokens k cs (mark_spacing (head cs) ps) ≡ tokens_before k cs (onto ps [])
 front_same piece.Mark cs ps (c, e, h) f =
     rw e (ap (λ b. Punct c (spacing_of (c == 39 || b)) ∷ []) (sym (joined_same ps f)))
 front_same piece.FrontMark cs ps h f = refl
@@ -67,16 +77,21 @@ front_same piece.Ident cs ps h f = refl
 front_same (piece.Literal kind) cs ps h f = refl
 
 -- those of all pieces of a text
-pub onto_same : (position : ℕ) (ps : List Piece) → AreFitFront ps [] → tokens_of position ps ≡ tokens_onto position ps []
+pub onto_same : (position : ℕ) (ps : List Piece) → AreFitFront ps []
+    → tokens_of position ps ≡ tokens_onto position ps []
 onto_same position [] f = refl
 onto_same position (p ∷ ps) f =
-    ap₂ (λ x y. edged_at (span_at position (length p.chars)) x ++ y) (front_same p.kind p.chars ps f.0 f.1) (rest_same (position + length p.chars) ps f.1)
+    ap₂ (λ x y. edged_at (span_at position (length p.chars)) x ++ y) (front_same p.kind p.chars ps f.0 f.1)
+    (rest_same (position + length p.chars) ps f.1)
   where
     rest_same : (position : ℕ) (ps : List Piece) → AreFit ps [] → tokens_of position ps ≡ tokens_onto position ps []
     rest_same position [] f = refl
     rest_same position (p ∷ ps) f =
-        ap₂ (λ x y. edged_at (span_at position (length p.chars)) x ++ y) (front_same p.kind p.chars ps (front_fits p.kind p.chars (onto ps []) f.0) f.1) (rest_same (position + length p.chars) ps f.1)
+        ap₂ (λ x y. edged_at (span_at position (length p.chars)) x ++ y)
+        (front_same p.kind p.chars ps (front_fits p.kind p.chars (onto ps []) f.0) f.1)
+        (rest_same (position + length p.chars) ps f.1)
 
 -- those of a forest
-pub forest_tokens : (base : ℕ) (text : List ℕ) (stream : List Spanned) (f : IsForest base text stream) → tokens_onto base f.pieces [] ≡ map edged stream
+pub forest_tokens : (base : ℕ) (text : List ℕ) (stream : List Spanned) (f : IsForest base text stream)
+    → tokens_onto base f.pieces [] ≡ map edged stream
 forest_tokens base text stream f = sym (onto_same base f.pieces f.cover.fit) ∙ f.tokens_are

@@ -12,11 +12,14 @@ use Rattle.proc_macro2.specs.declared.tree.Group.{Group}
 use Rattle.proc_macro2.specs.declared.tree.TokenTree.{TokenTree}
 use Rattle.proc_macro2.specs.declared.tree.TokenTree.TheVariants as tree
 
-front_held : (map : Sources) (t : TokenTree) (ts : List TokenTree) → IsTrue (are_held map (trees_tokens (t ∷ ts))) → IsTrue (are_held map (tree_tokens t)) × IsTrue (are_held map (trees_tokens ts))
-front_held map t ts h = and_parts _ _ (sym (list_all-append (λ s. is_held map s.span) (tree_tokens t) (trees_tokens ts)) ∙ h)
+front_held : (map : Sources) (t : TokenTree) (ts : List TokenTree) → IsTrue (are_held map (trees_tokens (t ∷ ts)))
+    → IsTrue (are_held map (tree_tokens t)) × IsTrue (are_held map (trees_tokens ts))
+front_held map t ts h = and_parts _ _
+    (sym (list_all-append (λ s. is_held map s.span) (tree_tokens t) (trees_tokens ts)) ∙ h)
 
 -- each tree's
-pub trees_held : (map : Sources) (ts : List TokenTree) → IsTrue (are_held map (trees_tokens ts)) → All (λ t. IsTrue (are_held map (tree_tokens t))) ts
+pub trees_held : (map : Sources) (ts : List TokenTree) → IsTrue (are_held map (trees_tokens ts))
+    → All (λ t. IsTrue (are_held map (tree_tokens t))) ts
 trees_held map [] h k d l = absurd (omega arith)
 trees_held map (t ∷ ts) h zero d l = (front_held map t ts h).0
 trees_held map (t ∷ ts) h (suc k) d l = trees_held map ts (front_held map t ts h).1 k d (omega arith)
@@ -24,11 +27,13 @@ trees_held map (t ∷ ts) h (suc k) d l = trees_held map ts (front_held map t ts
 -- the stream's in a group
 pub inside_held : (map : Sources) (g : Group) → IsTrue (are_held map (group_tokens g)) → IsTrue (are_held map g.stream)
 inside_held map g h =
-    let all : IsTrue (are_held map g.stream && are_held map (spanned (Closes g.delimiter) g.span ∷ [])) = sym (list_all-append (λ s. is_held map s.span) g.stream _) ∙ (and_parts _ _ h).1 in
+    let all : IsTrue (are_held map g.stream && are_held map (spanned (Closes g.delimiter) g.span ∷ [])) =
+    sym (list_all-append (λ s. is_held map s.span) g.stream _) ∙ (and_parts _ _ h).1 in
     (and_parts _ _ all).0
 
 -- the tree's own
-pub tree_held : (map : Sources) (t : TokenTree) → IsTrue (are_held map (tree_tokens t)) → IsTrue (is_held map (tree_span t))
+pub tree_held : (map : Sources) (t : TokenTree) → IsTrue (are_held map (tree_tokens t))
+    → IsTrue (is_held map (tree_span t))
 tree_held map (tree.Group g) h = (and_parts _ _ h).0
 tree_held map (tree.Ident i) h = (and_parts _ _ h).0
 tree_held map (tree.Punct p) h = (and_parts _ _ h).0

@@ -7,6 +7,7 @@ pub mod NextTree
 pub mod GroupLemmas
 pub mod Characters
 pub mod StreamLemmas
+pub mod Stacks
 pub mod OneList
 pub mod Docs
 pub mod Puts

@@ -1,5 +1,6 @@
 -- The tokens of a text's forest lie where the text does, and a map that the text was put into holds their spans.
-use Rattle.std.proofs.Common.{◌≡◌, ℕ, ◌+◌, ◌-◌, ◌<◌, ◌≤◌, List, [], ◌∷◌, ◌++◌, length, map, refl, sym, ap, subst, arith, length-append}
+use Rattle.std.proofs.Common.{◌≡◌, ℕ, ◌+◌, ◌-◌, ◌<◌, ◌≤◌, List, [], ◌∷◌, ◌++◌, length, map, refl, sym, ap, subst}
+use Rattle.std.proofs.Common.{arith, length-append}
 use Rattle.std.specs.Prelude.{Bool, true, false, nat_lt, if◌then◌else◌, IsTrue, Some}
 use Rattle.std.proofs.lemmas.Bool.{ltb-true}
 use Rattle.rust_map.specs.Sources.{Sources, spot, is_held, next_position, next_span, next_spot, spot_part, with_text}
@@ -28,12 +29,16 @@ both_lie low high [] ts l m = m
 both_lie low high (s ∷ ss) ts l m = (l.0, both_lie low high ss ts l.1 m)
 
 -- the first and the last character of a stretch of so many lie in it
-first_lies : (low high p n : ℕ) (b : Bool) → (b ≡ true → p < p + n) → low ≤ p → p + n ≤ high → Lies low high (if b then span_from p (p + 1) else span_from p (p + n))
-first_lies low high p n true t l h = let some : p < p + n = t refl in record { starts = l; ordered = omega arith; ends = omega arith }
+first_lies : (low high p n : ℕ) (b : Bool) → (b ≡ true → p < p + n) → low ≤ p → p + n ≤ high
+    → Lies low high (if b then span_from p (p + 1) else span_from p (p + n))
+first_lies low high p n true t l h = let some : p < p + n =
+    t refl in record { starts = l; ordered = omega arith; ends = omega arith }
 first_lies low high p n false t l h = record { starts = l; ordered = omega arith; ends = h }
 
-last_lies : (low high p n : ℕ) (b : Bool) → (b ≡ true → p < p + n) → low ≤ p → p + n ≤ high → Lies low high (if b then span_from (p + n - 1) (p + n) else span_from p (p + n))
-last_lies low high p n true t l h = let some : p < p + n = t refl in record { starts = omega arith; ordered = omega arith; ends = h }
+last_lies : (low high p n : ℕ) (b : Bool) → (b ≡ true → p < p + n) → low ≤ p → p + n ≤ high
+    → Lies low high (if b then span_from (p + n - 1) (p + n) else span_from p (p + n))
+last_lies low high p n true t l h = let some : p < p + n =
+    t refl in record { starts = omega arith; ordered = omega arith; ends = h }
 last_lies low high p n false t l h = record { starts = l; ordered = omega arith; ends = h }
 
 edge_lies : (low high p n : ℕ) (t : Token) → low ≤ p → p + n ≤ high → Lies low high (edge t (span_at p n))
@@ -48,7 +53,8 @@ edges_lie low high p n [] l h = tt
 edges_lie low high p n (t ∷ ts) l h = (edge_lies low high p n t l h, edges_lie low high p n ts l h)
 
 -- the tokens of pieces lie where the pieces do
-tokens_lie : (low high p : ℕ) (ps : List Piece) → low ≤ p → p + length (onto ps []) ≤ high → AllLie low high (tokens_of p ps)
+tokens_lie : (low high p : ℕ) (ps : List Piece) → low ≤ p → p + length (onto ps []) ≤ high
+    → AllLie low high (tokens_of p ps)
 tokens_lie low high p [] l h = tt
 tokens_lie low high p (x ∷ ps) l h =
     let ts : List Token = piece_tokens x.kind x.chars (mark_spacing (head x.chars) ps) in
@@ -58,10 +64,12 @@ tokens_lie low high p (x ∷ ps) l h =
     (tokens_lie low high (p + length x.chars) ps (omega arith) (omega arith))
 
 -- the tokens themselves lie where the characters stand
-pub forest_lies : (base : ℕ) (text : List ℕ) (ss : List Spanned) → IsForest base text ss → AllLie base (base + length text) (map edged ss)
+pub forest_lies : (base : ℕ) (text : List ℕ) (ss : List Spanned) → IsForest base text ss
+    → AllLie base (base + length text) (map edged ss)
 forest_lies base text ss f =
     let all : length text ≡ length (onto f.pieces []) = ap length f.cover.joined in
-    subst (AllLie base (base + length text)) f.tokens_are (tokens_lie base (base + length text) base f.pieces (omega arith) (omega arith))
+    subst (AllLie base (base + length text)) f.tokens_are
+    (tokens_lie base (base + length text) base f.pieces (omega arith) (omega arith))
 
 -- what is known of the span of a group that is open: where it starts
 record IsOpened (low : ℕ) (span : Span) : Type 0 where
@@ -77,11 +85,14 @@ abbrev AreEnded : ℕ → List Span → Type 0
 AreEnded high [] = Unit {0}
 AreEnded high (x ∷ xs) = (x.«end» ≤ high) × AreEnded high xs
 
-opened_by : (low high : ℕ) (b : Bool) (span : Span) → nat_lt span.start span.«end» ≡ b → Lies low high (if b then span_from span.start (span.start + 1) else span) → IsOpened low span
-opened_by low high true span e l = let some = ltb-true _ _ e in let starts = l.starts in record { starts = starts; ordered = omega arith }
+opened_by : (low high : ℕ) (b : Bool) (span : Span) → nat_lt span.start span.«end» ≡ b
+    → Lies low high (if b then span_from span.start (span.start + 1) else span) → IsOpened low span
+opened_by low high true span e l = let some = ltb-true _ _ e in let starts =
+    l.starts in record { starts = starts; ordered = omega arith }
 opened_by low high false span e l = record { starts = l.starts; ordered = l.ordered }
 
-ended_by : (low high : ℕ) (b : Bool) (span : Span) → nat_lt span.start span.«end» ≡ b → Lies low high (if b then span_from (span.«end» - 1) span.«end» else span) → span.«end» ≤ high
+ended_by : (low high : ℕ) (b : Bool) (span : Span) → nat_lt span.start span.«end» ≡ b
+    → Lies low high (if b then span_from (span.«end» - 1) span.«end» else span) → span.«end» ≤ high
 ended_by low high true span e l = l.ends
 ended_by low high false span e l = l.ends
 
@@ -100,47 +111,58 @@ PairedAt span xs ss t = elim t [
 ]
 
 -- tokens whose own places lie between two positions have their spans there too, where both tokens of a group carry one
-spans_lie : (low high : ℕ) (xs : List Span) (ss : List Spanned) → AreOpened low xs → AllLie low high (map edged ss) → ArePaired xs ss → AllIn low high ss × AreEnded high xs
+spans_lie : (low high : ℕ) (xs : List Span) (ss : List Spanned) → AreOpened low xs → AllLie low high (map edged ss)
+    → ArePaired xs ss → AllIn low high ss × AreEnded high xs
 spans_lie low high xs [] o l p = (tt, subst (AreEnded high) (sym p) tt)
 spans_lie low high xs (s ∷ ss) o l p = by (λ ys o q. spans_lie low high ys ss o l.1 q) s.token l.0 p
   where
-    leaf : AllIn low high ss × AreEnded high xs → Lies low high s.span → (Lies low high s.span × AllIn low high ss) × AreEnded high xs
+    leaf : AllIn low high ss × AreEnded high xs → Lies low high s.span
+        → (Lies low high s.span × AllIn low high ss) × AreEnded high xs
     leaf (rest, ends) h = ((h, rest), ends)
 
-    by : ((ys : List Span) → AreOpened low ys → ArePaired ys ss → AllIn low high ss × AreEnded high ys) → (t : Token) → Lies low high (edge t s.span) → PairedAt s.span xs ss t → (Lies low high s.span × AllIn low high ss) × AreEnded high xs
+    by : ((ys : List Span) → AreOpened low ys → ArePaired ys ss → AllIn low high ss × AreEnded high ys) → (t : Token)
+        → Lies low high (edge t s.span) → PairedAt s.span xs ss t
+        → (Lies low high s.span × AllIn low high ss) × AreEnded high xs
     by more (Opens d) h q =
         let first = opened_by low high _ s.span refl h in
         let (rest, ends) = more (s.span ∷ xs) (first, o) q in
         ((record { starts = first.starts; ordered = first.ordered; ends = ends.0 }, rest), ends.1)
     by more (Closes d) h q = closes xs o q
       where
-        closes : (ys : List Span) → AreOpened low ys → PairedAt s.span ys ss (Closes d) → (Lies low high s.span × AllIn low high ss) × AreEnded high ys
+        closes : (ys : List Span) → AreOpened low ys → PairedAt s.span ys ss (Closes d)
+            → (Lies low high s.span × AllIn low high ss) × AreEnded high ys
         closes [] o q = absurd q
         closes (y ∷ ys) o q =
             let (rest, ends) = more ys o.1 q.1 in
             let first : IsOpened low s.span = subst (IsOpened low) q.0 o.0 in
-            let last = ended_by low high _ s.span refl h in
-            ((record { starts = first.starts; ordered = first.ordered; ends = last }, rest), (subst (λ (x : Span). x.«end» ≤ high) (sym q.0) last, ends))
+            let last = ended_by low high _ s.span refl h in (
+              (record { starts = first.starts; ordered = first.ordered; ends = last }, rest),
+              (subst (λ (x : Span). x.«end» ≤ high) (sym q.0) last, ends),
+            )
     by more (Ident cs) h q = leaf (more xs o q) h
     by more (Literal cs) h q = leaf (more xs o q) h
     by more (Punct c spacing) h q = leaf (more xs o q) h
 
 -- the text was put into the map
-module _ (sources : Sources) (text : List ℕ) (there : spot (with_text sources text) (next_span sources text) ≡ Some (next_spot sources text)) where
+module _ (sources : Sources) (text : List ℕ)
+    (there : spot (with_text sources text) (next_span sources text) ≡ Some (next_spot sources text)) where
   abbrev pub grown : Sources
   grown = with_text sources text
 
   abbrev pub base : ℕ
   base = next_position sources
 
-  pub spot_of : (span : Span) → Lies base (base + length text) span → spot grown span ≡ Some (spot_part (next_spot sources text) (span.start - base) (span.end - base))
+  pub spot_of : (span : Span) → Lies base (base + length text) span
+      → spot grown span ≡ Some (spot_part (next_spot sources text) (span.start - base) (span.end - base))
   spot_of span l =
       let starts = l.starts in
       let ordered = l.ordered in
       let ends = l.ends in
-      let e : span_part (next_span sources text) (span.start - base) (span.end - base) ≡ span = same_span _ _ _ _ (omega arith) (omega arith) in
+      let e : span_part (next_span sources text) (span.start - base) (span.end - base) ≡ span =
+      same_span _ _ _ _ (omega arith) (omega arith) in
       subst (λ x. spot grown x ≡ Some (spot_part (next_spot sources text) (span.start - base) (span.end - base))) e
-      (part_lies (next_span sources text) (span.start - base) (span.end - base) (omega arith) (omega arith) grown (next_spot sources text) there)
+      (part_lies (next_span sources text) (span.start - base) (span.end - base) (omega arith) (omega arith) grown
+      (next_spot sources text) there)
 
   pub held_span : (span : Span) → Lies base (base + length text) span → IsTrue (is_held grown span)
   held_span span l = held_by_spot grown span _ (spot_of span l)
@@ -153,6 +175,10 @@ module _ (sources : Sources) (text : List ℕ) (there : spot (with_text sources 
   forest_held ss f = all_held ss (spans_lie base (base + length text) [] ss tt (forest_lies base text ss f) f.paired).0
 
 -- the map that a text was put into holds its tokens
-pub given_held : (old new : Sources) (text : List ℕ) (ss : List Spanned) → spot new (next_span old text) ≡ Some (next_spot old text) → new ≡ with_text old text → IsForest (next_position old) text ss → IsTrue (are_held new ss)
+pub given_held : (old new : Sources) (text : List ℕ) (ss : List Spanned)
+    → spot new (next_span old text) ≡ Some (next_spot old text) → new ≡ with_text old text
+    → IsForest (next_position old) text ss → IsTrue (are_held new ss)
 given_held old new text ss there more forest =
-    subst (λ (m : Sources). IsTrue (are_held m ss)) (sym more) (forest_held old text (subst (λ (m : Sources). spot m (next_span old text) ≡ Some (next_spot old text)) more there) ss forest)
+    subst (λ (m : Sources). IsTrue (are_held m ss)) (sym more)
+    (forest_held old text (subst (λ (m : Sources). spot m (next_span old text) ≡ Some (next_spot old text)) more
+    there) ss forest)

@@ -65,7 +65,8 @@ rest_of s xs ss h = by s.token h
     by (Opens d) q = q
     by (Closes d) q = closes xs q
       where
-        closes : (zs : List Span) → It (elim zs [ [] ↦ ⊥ | y ∷ ys ↦ (y ≡ s.span) × ArePaired ys ss ]) → Rest s.span zs ss (Closes d)
+        closes : (zs : List Span) → It (elim zs [ [] ↦ ⊥ | y ∷ ys ↦ (y ≡ s.span) × ArePaired ys ss ])
+            → Rest s.span zs ss (Closes d)
         closes [] p = p
         closes (z ∷ zs) p = p
     by (Ident cs) q = q
@@ -73,8 +74,10 @@ rest_of s xs ss h = by s.token h
     by (Punct c spacing) q = q
 
 -- one more token
-one_more : (t : Token) (a b : Span) (xs ys : List Span) (ss us : List Spanned) → ((vs ws : List Span) → ArePaired vs ss → ArePaired ws us → starts vs ≡ starts ws → AreOne ss us vs ws) →
-    Rest a xs ss t → Rest b ys us t → edge t a ≡ edge t b → starts xs ≡ starts ys → AreOne (spanned t a ∷ ss) (spanned t b ∷ us) xs ys
+one_more : (t : Token) (a b : Span) (xs ys : List Span) (ss us : List Spanned)
+    → ((vs ws : List Span) → ArePaired vs ss → ArePaired ws us → starts vs ≡ starts ws → AreOne ss us vs ws) →
+    Rest a xs ss t → Rest b ys us t → edge t a ≡ edge t b → starts xs ≡ starts ys
+    → AreOne (spanned t a ∷ ss) (spanned t b ∷ us) xs ys
 one_more (Opens d) a b xs ys ss us more h k e s =
     let one = more (a ∷ xs) (b ∷ ys) h k (ap₂ (λ x y. x ∷ y) (same_start a b e) s) in
     let spans = one.spans in
@@ -88,12 +91,19 @@ one_more (Closes d) a b (x ∷ xs) (y ∷ ys) ss us more h k e s =
     let tails : starts xs ≡ starts ys = cc in
     let one = more xs ys h.1 k.1 tails in
     let same : a ≡ b = same_span a b (ap (λ z. z.start) (sym h.0) ∙ first ∙ ap (λ z. z.start) k.0) (same_end a b e) in
-    record { tokens = ap₂ (λ v w. spanned (Closes d) v ∷ w) same one.tokens; spans = ap₂ (λ v w. v ∷ w) (h.0 ∙ same ∙ sym k.0) one.spans }
-one_more (Ident cs) a b xs ys ss us more h k e s = let one = more xs ys h k s in record { tokens = ap₂ (λ v w. spanned (Ident cs) v ∷ w) e one.tokens; spans = one.spans }
-one_more (Literal cs) a b xs ys ss us more h k e s = let one = more xs ys h k s in record { tokens = ap₂ (λ v w. spanned (Literal cs) v ∷ w) e one.tokens; spans = one.spans }
-one_more (Punct c spacing) a b xs ys ss us more h k e s = let one = more xs ys h k s in record { tokens = ap₂ (λ v w. spanned (Punct c spacing) v ∷ w) e one.tokens; spans = one.spans }
+    record {
+      tokens = ap₂ (λ v w. spanned (Closes d) v ∷ w) same one.tokens;
+      spans = ap₂ (λ v w. v ∷ w) (h.0 ∙ same ∙ sym k.0) one.spans;
+    }
+one_more (Ident cs) a b xs ys ss us more h k e s = let one =
+    more xs ys h k s in record { tokens = ap₂ (λ v w. spanned (Ident cs) v ∷ w) e one.tokens; spans = one.spans }
+one_more (Literal cs) a b xs ys ss us more h k e s = let one =
+    more xs ys h k s in record { tokens = ap₂ (λ v w. spanned (Literal cs) v ∷ w) e one.tokens; spans = one.spans }
+one_more (Punct c spacing) a b xs ys ss us more h k e s = let one =
+    more xs ys h k s in record { tokens = ap₂ (λ v w. spanned (Punct c spacing) v ∷ w) e one.tokens; spans = one.spans }
 
-one_stream : (ts us : List Spanned) (xs ys : List Span) → ArePaired xs ts → ArePaired ys us → map edged ts ≡ map edged us → starts xs ≡ starts ys → AreOne ts us xs ys
+one_stream : (ts us : List Spanned) (xs ys : List Span) → ArePaired xs ts → ArePaired ys us
+    → map edged ts ≡ map edged us → starts xs ≡ starts ys → AreOne ts us xs ys
 one_stream [] [] xs ys h k e s = record { tokens = refl; spans = h ∙ sym k }
 one_stream [] (u ∷ us) xs ys h k e s = cc
 one_stream (t ∷ ts) [] xs ys h k e s = cc
@@ -103,10 +113,13 @@ one_stream (t ∷ ts) (u ∷ us) xs ys h k e s =
     let token : t.token ≡ u.token = ap (λ x. x.token) heads in
     let place : edge t.token t.span ≡ edge u.token u.span = ap (λ x. x.span) heads in
     let there : edge t.token t.span ≡ edge t.token u.span = place ∙ ap (λ x. edge x u.span) (sym token) in
-    let one = one_more t.token t.span u.span xs ys ts us (λ vs ws p q r. one_stream ts us vs ws p q tails r) (rest_of t xs ts h) (subst (λ x. Rest u.span ys us x) (sym token) (rest_of u ys us k)) there s in
+    let one = one_more t.token t.span u.span xs ys ts us (λ vs ws p q r. one_stream ts us vs ws p q tails r)
+    (rest_of t xs ts h) (subst (λ x. Rest u.span ys us x) (sym token) (rest_of u ys us k)) there s in
     record { tokens = one.tokens ∙ ap (λ x. spanned x u.span ∷ us) token; spans = one.spans }
 
-pub one_forest : (base : ℕ) (text : List ℕ) (ts us : List Spanned) → IsForest base text ts → IsForest base text us → ts ≡ us
+pub one_forest : (base : ℕ) (text : List ℕ) (ts us : List Spanned) → IsForest base text ts → IsForest base text us
+    → ts ≡ us
 one_forest base text ts us f g =
-    let same : map edged ts ≡ map edged us = sym f.tokens_are ∙ ap (tokens_of base) (one_cover text f.pieces g.pieces f.cover g.cover) ∙ g.tokens_are in
+    let same : map edged ts ≡ map edged us = sym f.tokens_are
+    ∙ ap (tokens_of base) (one_cover text f.pieces g.pieces f.cover g.cover) ∙ g.tokens_are in
     (one_stream ts us [] [] f.paired g.paired same refl).tokens

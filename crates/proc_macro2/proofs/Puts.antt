@@ -1,5 +1,6 @@
 -- What pieces are, for the tokens that they become.
-use Rattle.std.proofs.Common.{◌≡◌, ℕ, zero, suc, ◌<◌, arith, List, [], ◌∷◌, length, refl, sym, ◌∙◌, subst, ⊎_elim, inl, inr}
+use Rattle.std.proofs.Common.{◌≡◌, ℕ, zero, suc, ◌<◌, arith, List, [], ◌∷◌, length, refl, sym, ◌∙◌, subst, ⊎_elim}
+use Rattle.std.proofs.Common.{inl, inr}
 use Rattle.std.specs.Prelude.{Bool, true, false, ◌||◌, ◌==◌, ◌⊎◌}
 use Rattle.std.specs.Str.{chars}
 use Rattle.std.proofs.lemmas.Bool.{and_parts, or_cases, eqb-true}
@@ -8,7 +9,7 @@ use Rattle.std.proofs.lemmas.Str.{chars-nil}
 use Rattle.rust_leaf.specs.Identifier.{is_ident_text}
 use Rattle.rust_leaf.specs.Mark as leaf
 use Rattle.rust_leaf.proofs.IdentTexts.{ident_text_is}
-use Rattle.rust_lex.specs.Chars.{is_mark, marks}
+use Rattle.rust_lex.specs.Chars.{is_mark_but_tick, marks_but_tick}
 use Rattle.rust_lex.specs.Piece.{Fits, FitsFront, FitsAt, IsIdent, begins_mark}
 use Rattle.rust_lex.specs.Word.{begins_lifetime}
 use Rattle.rust_lex.proofs.Alone.{ident_calm, literal_calm}
@@ -26,9 +27,9 @@ or_intro : (a b : Bool) → a ≡ true → (a || b) ≡ true
 or_intro true b e = refl
 or_intro false b e = cc
 
-lex_mark : (c : ℕ) → is_mark c ≡ true → leaf.is_mark c ≡ true
-unfolding is_mark leaf.is_mark
-lex_mark c h = list_any-append (λ d. d == c) marks (39 ∷ []) ∙ or_intro _ _ h
+lex_mark : (c : ℕ) → is_mark_but_tick c ≡ true → leaf.is_mark c ≡ true
+unfolding is_mark_but_tick leaf.is_mark
+lex_mark c h = list_any-append (λ d. d == c) marks_but_tick (39 ∷ []) ∙ or_intro _ _ h
 
 quote_mark : (c : ℕ) → c ≡ 39 → leaf.is_mark c ≡ true
 unfolding leaf.is_mark
@@ -37,7 +38,7 @@ quote_mark c e = rw e refl
 mark_of : (c : ℕ) (rest : List ℕ) → begins_mark (c ∷ rest) ≡ true → leaf.is_mark c ≡ true
 mark_of c rest h =
     ⊎_elim
-    (λ m. lex_mark c (and_parts (is_mark c) _ m).0)
+    (λ m. lex_mark c (and_parts (is_mark_but_tick c) _ m).0)
     (λ q. quote_mark c (eqb-true c 39 (and_parts (c == 39) (begins_lifetime rest) q).0))
     (or_cases _ _ h)
 
@@ -68,5 +69,6 @@ front_cases piece.Ident cs rest h = inr h
 front_cases (piece.Literal kind) cs rest h = inr h
 
 pub ready_at : (at : ℕ) (k : PieceKind) (cs rest : List ℕ) → FitsAt at k cs rest → IsReady k cs
-ready_at zero k cs rest h = ⊎_elim (λ e. subst (λ x. IsReady x cs) (sym e) tt) (λ f. ready k cs rest f) (front_cases k cs rest h)
+ready_at zero k cs rest h =
+    ⊎_elim (λ e. subst (λ x. IsReady x cs) (sym e) tt) (λ f. ready k cs rest f) (front_cases k cs rest h)
 ready_at (suc n) k cs rest h = ready k cs rest h

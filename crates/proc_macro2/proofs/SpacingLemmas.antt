@@ -34,5 +34,6 @@ spaced_append (t ∷ u ∷ ts) us h k = (stays t u ts h.0, spaced_append (u ∷ 
     stays (Punct c Joint) (Literal cs) ts h = h
     stays (Punct c Joint) (Punct d spacing) ts h = h
 
-pub spaced_group : (d : Delimiter) (ts : List Token) → is_visible d ≡ true → IsWellSpaced ts → IsWellSpaced (Opens d ∷ ts ++ Closes d ∷ [])
+pub spaced_group : (d : Delimiter) (ts : List Token) → is_visible d ≡ true → IsWellSpaced ts
+    → IsWellSpaced (Opens d ∷ ts ++ Closes d ∷ [])
 spaced_group d ts v h = (v, spaced_append ts (Closes d ∷ []) h (v, tt))

@@ -1,5 +1,6 @@
 -- Tokens that may stand before others: what stands behind them counts by its first token alone.
-use Rattle.std.proofs.Common.{◌≡◌, List, [], ◌∷◌, ◌++◌, Bool, true, false, IsTrue, ◌&&◌, refl, sym, ap, ◌∙◌, append_assoc}
+use Rattle.std.proofs.Common.{◌≡◌, List, [], ◌∷◌, ◌++◌, Bool, true, false, IsTrue, ◌&&◌, refl, sym, ap, ◌∙◌}
+use Rattle.std.proofs.Common.{append_assoc}
 use Rattle.std.proofs.lemmas.List.{append-nil}
 use Rattle.proc_macro2.specs.Token.{Delimiter, Token, Opens, Closes, Ident, Literal, Punct, Alone, Joint, plain}
 use Rattle.proc_macro2.specs.Flat.{tree_tokens, trees_tokens, group_tokens}
@@ -58,11 +59,13 @@ stand_append (s ∷ ss) ts us =
     ∙ and_assoc (may_stand s (ss ++ (ts ++ us))) (all_stand ss (ts ++ us)) (all_stand ts us)
 
 -- a group: its delimiter is printed, and its inside may stand before the end
-pub stand_group : (g : Group) (us : List Token) → all_stand (plain (group_tokens g)) us ≡ (is_visible g.delimiter && all_stand (plain g.stream) [])
+pub stand_group : (g : Group) (us : List Token)
+    → all_stand (plain (group_tokens g)) us ≡ (is_visible g.delimiter && all_stand (plain g.stream) [])
 stand_group g us =
     ap (λ ts. all_stand ts us) (group_plain g)
     ∙ ap (λ b. is_visible g.delimiter && b)
-    (stand_append (plain g.stream) (Closes g.delimiter ∷ []) us ∙ ap (λ b. b && (is_visible g.delimiter && true)) (stand_close (plain g.stream) g.delimiter us))
+    (stand_append (plain g.stream) (Closes g.delimiter ∷ []) us
+    ∙ ap (λ b. b && (is_visible g.delimiter && true)) (stand_close (plain g.stream) g.delimiter us))
     ∙ once (is_visible g.delimiter) (all_stand (plain g.stream) [])
   where
     once : (v s : Bool) → (v && (s && (v && true))) ≡ (v && s)
@@ -70,7 +73,8 @@ stand_group g us =
     once false s = refl
 
 -- of what stands behind, the first tree decides
-stand_tree : (ts : List Token) (y : TokenTree) (us : List Token) → all_stand ts (plain (tree_tokens y) ++ us) ≡ all_stand ts (plain (tree_tokens y))
+stand_tree : (ts : List Token) (y : TokenTree) (us : List Token)
+    → all_stand ts (plain (tree_tokens y) ++ us) ≡ all_stand ts (plain (tree_tokens y))
 stand_tree ts (tree.Group g) us = stand_first ts (Opens g.delimiter) _ _
 stand_tree ts (tree.Ident i) us = stand_first ts _ _ _
 stand_tree ts (tree.Punct p) us = stand_first ts _ _ _
@@ -81,12 +85,14 @@ pub stand_last : (x : TokenTree) → all_stand (plain (trees_tokens (x ∷ [])))
 stand_last x = ap (λ r. all_stand (plain r) []) (append-nil (tree_tokens x))
 
 pub stand_next : (x y : TokenTree) (ts : List TokenTree) →
-    all_stand (plain (trees_tokens (x ∷ y ∷ ts))) [] ≡ (all_stand (plain (tree_tokens x)) (plain (tree_tokens y)) && all_stand (plain (trees_tokens (y ∷ ts))) [])
+    all_stand (plain (trees_tokens (x ∷ y ∷ ts))) []
+    ≡ (all_stand (plain (tree_tokens x)) (plain (tree_tokens y)) && all_stand (plain (trees_tokens (y ∷ ts))) [])
 stand_next x y ts =
     let rest = plain (trees_tokens (y ∷ ts)) in
     ap (λ r. all_stand r []) (plain_append (tree_tokens x) (trees_tokens (y ∷ ts)))
     ∙ stand_append (plain (tree_tokens x)) rest []
-    ∙ ap (λ r. all_stand (plain (tree_tokens x)) r && all_stand rest []) (append-nil rest ∙ plain_append (tree_tokens y) (trees_tokens ts))
+    ∙ ap (λ r. all_stand (plain (tree_tokens x)) r && all_stand rest [])
+    (append-nil rest ∙ plain_append (tree_tokens y) (trees_tokens ts))
     ∙ ap (λ b. b && all_stand rest []) (stand_tree (plain (tree_tokens x)) y (plain (trees_tokens ts)))
 
 -- all of some tokens stand just where they are well spaced
@@ -106,4 +112,5 @@ spaced_stand (t ∷ ts) h =
 
 pub stand_spaced : (ts : List Token) → IsWellSpaced ts → IsTrue (all_stand ts [])
 stand_spaced [] h = refl
-stand_spaced (t ∷ ts) h = joint (may_stand t (ts ++ [])) (all_stand ts []) (ap (may_stand t) (append-nil ts) ∙ h.0) (stand_spaced ts h.1)
+stand_spaced (t ∷ ts) h = joint (may_stand t (ts ++ [])) (all_stand ts []) (ap (may_stand t) (append-nil ts) ∙ h.0)
+    (stand_spaced ts h.1)

@@ -10,7 +10,8 @@ use Rattle.proc_macro2.specs.declared.tree.TokenTree.TheVariants as tree
 -- one more tree
 pub trees_more : (ts : List TokenTree) (t : TokenTree) → trees_tokens (ts ++ t ∷ []) ≡ trees_tokens ts ++ tree_tokens t
 trees_more [] t = append-nil (tree_tokens t)
-trees_more (u ∷ ts) t = ap (λ r. tree_tokens u ++ r) (trees_more ts t) ∙ sym (append_assoc (tree_tokens u) (trees_tokens ts) (tree_tokens t))
+trees_more (u ∷ ts) t = ap (λ r. tree_tokens u ++ r) (trees_more ts t)
+    ∙ sym (append_assoc (tree_tokens u) (trees_tokens ts) (tree_tokens t))
 
 -- each tree has tokens
 pub no_trees : (ts : List TokenTree) → trees_tokens ts ≡ [] → ts ≡ []
@@ -21,7 +22,11 @@ no_trees (tree.Punct p ∷ ts) e = cc
 no_trees (tree.Literal l ∷ ts) e = cc
 
 -- no tokens, no trees
-pub empty_view : (items : List TokenTree) (tokens : List Spanned) (n : ℕ) (empty : Bool) → trees_tokens items ≡ tokens → length items ≡ n → empty ≡ (n == 0) →
+pub empty_view : (items : List TokenTree) (tokens : List Spanned) (n : ℕ) (empty : Bool) → trees_tokens items ≡ tokens
+    → length items ≡ n → empty ≡ (n == 0) →
     (IsTrue empty → tokens ≡ []) × (tokens ≡ [] → IsTrue empty)
-empty_view items tokens n empty v l e =
-    (λ t. sym v ∙ ap trees_tokens (nil_from_length items (l ∙ eqb-true n 0 (sym e ∙ t))), λ h. e ∙ eq-eqb n 0 (sym l ∙ ap length (no_trees items (v ∙ h))))
+empty_view items tokens n empty v l e = (
+  λ t. sym v ∙ ap trees_tokens (nil_from_length items (l ∙ eqb-true n 0 (sym e ∙ t))),
+  λ h. e
+      ∙ eq-eqb n 0 (sym l ∙ ap length (no_trees items (v ∙ h))),
+)

@@ -11,7 +11,8 @@ use Rattle.proc_macro2.specs.declared.tree.TokenStream.TheInside.{Inside}
 use Rattle.proc_macro2.specs.Flat.{spanned, trees_tokens, tree_tokens}
 
 deep_le : (t : TokenTree) → deep-TokenTree t ≤ length (tree_tokens t)
-deep_le (tree.Group g) = omega (arith, length-append (spanned (Opens g.delimiter) g.span ∷ g.stream) (spanned (Closes g.delimiter) g.span ∷ []))
+deep_le (tree.Group g) = omega
+    (arith, length-append (spanned (Opens g.delimiter) g.span ∷ g.stream) (spanned (Closes g.delimiter) g.span ∷ []))
 deep_le (tree.Ident i) = omega arith
 deep_le (tree.Punct p) = omega arith
 deep_le (tree.Literal l) = omega arith

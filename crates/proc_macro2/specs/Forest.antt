@@ -1,13 +1,14 @@
 -- The forest of a text: the tokens of its cover where its groups match. A text without one has a
 -- lexical fault.
-use Rattle.std.specs.Prelude.{◌≡◌, ◌≢◌, ℕ, ◌+◌, List, [], ◌∷◌, length, map, cond, Option, Some, None, option_and_then, ◌⊎◌}
+use Rattle.std.specs.Prelude.{◌≡◌, ◌≢◌, ℕ, ◌+◌, List, [], ◌∷◌, length, map, cond, Option, Some, None}
+use Rattle.std.specs.Prelude.{option_and_then, ◌⊎◌}
 use Rattle.rust_map.specs.declared.place.LineColumn.{LineColumn}
 use Rattle.rust_map.specs.Places.{place_of}
 use Rattle.rust_map.specs.Spans.{span_from}
 use Rattle.rust_map.specs.declared.span.Span.{Span}
 use Rattle.rust_lex.specs.Cover.{onto, Covers, IsCover, NoPieceAt}
 use Rattle.rust_lex.specs.Piece.{Piece, closing}
-use Rattle.rust_lex.specs.declared.delimiter.Delimiter.{Delimiter as LexDelimiter}
+use Rattle.rust_lex.specs.declared.group_marks.GroupMarks.{GroupMarks}
 use Rattle.rust_lex.specs.declared.piece.PieceKind.{PieceKind}
 use Rattle.rust_lex.specs.declared.piece.PieceKind.TheVariants as piece
 use Rattle.proc_macro2.specs.Token.{Delimiter, Opens, Closes, Ident, Literal, Punct, Spanned}
@@ -91,7 +92,7 @@ pub record IsUnmatched (text : List ℕ) (n : ℕ) : Type 0 where
   pub pieces : List Piece
   pub rest : List ℕ
   pub groups : List Opening
-  pub delimiter : LexDelimiter
+  pub delimiter : GroupMarks
   pub reaches : Reaches text pieces (closing delimiter ∷ rest) groups
   pub wrong : openings_closed groups (delimiter_of delimiter) ≡ None
   pub there : n ≡ count pieces

@@ -14,6 +14,7 @@ pub mod Pieces
 pub mod Forest
 pub mod Held
 pub mod Falls
+pub mod Stack
 pub mod Built
 -- what the contracts of the crates below cite: of the source map,
 pub use Rattle.rust_map.specs.Places

@@ -1,12 +1,13 @@
 -- The tokens of pieces, and where they stand. A text's characters stand at positions one behind the
 -- other: a piece at a position, of so many characters, spans these.
-use Rattle.std.specs.Prelude.{◌≡◌, ℕ, ◌+◌, ◌-◌, Bool, true, false, ◌||◌, ◌==◌, cond, List, [], ◌∷◌, ◌++◌, length, take, drop, map, codes}
+use Rattle.std.specs.Prelude.{◌≡◌, ℕ, ◌+◌, ◌-◌, Bool, true, false, ◌||◌, ◌==◌, cond, List, [], ◌∷◌, ◌++◌, length}
+use Rattle.std.specs.Prelude.{take, drop, map, codes}
 use Rattle.rust_map.specs.Spans.{span_from, first_of, last_of}
 use Rattle.rust_map.specs.declared.span.Span.{Span}
 use Rattle.rust_leaf.specs.Escaped.{string_text}
 use Rattle.rust_lex.specs.Piece.{Piece}
-use Rattle.rust_lex.specs.declared.delimiter.Delimiter.{Delimiter as LexDelimiter}
-use Rattle.rust_lex.specs.declared.delimiter.Delimiter.TheVariants as lex
+use Rattle.rust_lex.specs.declared.group_marks.GroupMarks.{GroupMarks}
+use Rattle.rust_lex.specs.declared.group_marks.GroupMarks.TheVariants as lex
 use Rattle.rust_lex.specs.declared.piece.DocKind.{DocKind}
 use Rattle.rust_lex.specs.declared.piece.DocKind.TheVariants as doc
 use Rattle.rust_lex.specs.declared.piece.LiteralKind.{LiteralKind}
@@ -14,11 +15,12 @@ use Rattle.rust_lex.specs.declared.piece.LiteralKind.TheVariants as literal
 use Rattle.rust_lex.specs.declared.piece.PieceKind.{PieceKind}
 use Rattle.rust_lex.specs.declared.piece.PieceKind.TheVariants as piece
 use Rattle.proc_macro2.specs.declared.delimiter.Delimiter.TheVariants as delimiter
-use Rattle.proc_macro2.specs.Token.{Delimiter, Token, Opens, Closes, Ident, Literal, Punct, Spacing, Alone, Joint, Spanned}
+use Rattle.proc_macro2.specs.Token.{Delimiter, Token, Opens, Closes, Ident, Literal, Punct, Spacing, Alone, Joint}
+use Rattle.proc_macro2.specs.Token.{Spanned}
 use Rattle.proc_macro2.specs.Flat.{spanned}
 
 -- what a pair of marks encloses a group as
-abbrev pub delimiter_of : LexDelimiter → Delimiter
+abbrev pub delimiter_of : GroupMarks → Delimiter
 delimiter_of lex.Parenthesis = delimiter.Parenthesis
 delimiter_of lex.Brace = delimiter.Brace
 delimiter_of lex.Bracket = delimiter.Bracket
@@ -58,7 +60,8 @@ doc_marks kind = cond (is_inner kind) (Punct 35 Alone ∷ Punct 33 Alone ∷ [])
 
 -- [doc = "text"]
 abbrev pub doc_group : List ℕ → List Token
-doc_group text = Opens delimiter.Bracket ∷ Ident (codes "doc") ∷ Punct 61 Alone ∷ Literal (string_text text) ∷ Closes delimiter.Bracket ∷ []
+doc_group text = Opens delimiter.Bracket ∷ Ident (codes "doc") ∷ Punct 61 Alone ∷ Literal (string_text text) ∷ Closes
+    delimiter.Bracket ∷ []
 
 -- a character literal
 abbrev pub is_char : LiteralKind → Bool

@@ -2,7 +2,8 @@
 use Rattle.std.specs.Prelude.{List, [], ◌∷◌}
 use Rattle.rust_map.specs.Spans.{first_of, last_of}
 use Rattle.rust_map.specs.declared.span.Span.{Span}
-use Rattle.rust_leaf.specs.Leaf.{ident_span, ident_text, literal_span, literal_text, punct_char, punct_spacing, punct_span}
+use Rattle.rust_leaf.specs.Leaf.{ident_span, ident_text, literal_span, literal_text, punct_char, punct_spacing}
+use Rattle.rust_leaf.specs.Leaf.{punct_span}
 use Rattle.proc_macro2.specs.Token.{Ident, Literal, Punct, Spanned}
 use Rattle.proc_macro2.specs.Flat.{group_tokens, spanned}
 use Rattle.proc_macro2.specs.declared.group.DelimSpan.{DelimSpan}

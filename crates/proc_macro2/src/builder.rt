@@ -2,15 +2,16 @@
 
 ghost use Rattle.proc_macro2.specs.Built.{IsAdded, IsClosing, IsOpened};
 ghost use Rattle.proc_macro2.specs.Flat.{tree_tokens};
+ghost use Rattle.proc_macro2.specs.Stack.{IsInnermost, IsTaken};
 ghost use Rattle.proc_macro2.specs.Stream.{IsStream};
 ghost use Rattle.std.specs.List.{All};
-ghost use Rattle.std.specs.Prelude.{[], ◌++◌, ◌≡◌, ◌+◌, ◌≤◌, IfOk, OnOk};
+ghost use Rattle.std.specs.Prelude.{[], ◌++◌, ◌≡◌, ◌+◌, ◌≤◌, IfErr, IfOk, MatchOption, OnOk};
 
 use crate::delimiter::Delimiter;
 use crate::tree::{Group, TokenStream, TokenTree};
 use rust_map::span::Span;
 use std::alloc::{AllocError, Global};
-use std::mem;
+use std::marker::Model;
 
 /// A stretch of a text: the span of the text, and the numbers of its characters between which the
 /// stretch lies.
@@ -21,23 +22,45 @@ pub(crate) struct Stretch {
     pub(crate) to: u32,
 }
 
-/// A group that is open: its delimiter, the number of characters before its opening mark, and the
-/// trees before it.
-#[derive(Drop)]
+/// A group that is open: its delimiter, the number of characters before its opening mark, and how many trees
+/// of the stack were put before it.
+#[derive(Clone, Copy)]
 pub(crate) struct Frame {
     pub(crate) delimiter: Delimiter,
     pub(crate) count: u32,
-    pub(crate) before: TokenStream,
+    pub(crate) mark: usize,
 }
 
-/// The groups that are open, and the trees of the innermost.
+/// The groups that are open, and one stack of trees: those of a group lie behind those before it, so that a group
+/// that closes takes what stands behind its mark. To a contract it is what encloses each group and stands before it,
+/// and the tokens of the innermost.
 #[derive(Drop)]
 pub(crate) struct Builder {
-    pub(crate) frames: Vec<Frame>,
-    pub(crate) stream: TokenStream,
+    frames: Vec<Frame>,
+    trees: Vec<TokenTree>,
+}
+
+impl Model for Builder {
+    ghost use Rattle.proc_macro2.specs.Stack.{IsStack, Open, open_of};
+    ghost use Rattle.std.specs.Prelude.{reverse};
+
+    ghost Value = { Open };
+
+    ghost view = { λ b. open_of (reverse b.frames.items) b.trees.items };
+
+    ghost invariant = { λ b. IsStack (reverse b.frames.items) b.trees.items };
 }
 
 impl TokenStream {
+    // The stream of no trees, with room for some.
+    pub(crate) fn with_room(alloc: Global, room: usize) -> Result<TokenStream, AllocError>
+        ensures { IfOk result (λ stream. stream ≡ []) }
+    {
+        Ok(TokenStream {
+            trees: Vec::with_capacity(alloc, room)?,
+        })
+    }
+
     // Adds a tree at the end.
     pub(crate) fn push(&mut self, tree: TokenTree) -> Result<(), AllocError>
         requires { IsStream (tree_tokens tree) }
@@ -46,42 +69,29 @@ impl TokenStream {
         self.trees.push(tree)?;
         Ok(())
     }
-
-    // Gives back the room that no tree takes.
-    pub(crate) fn shrink(&mut self)
-        ensures same { self.new ≡ self.old }
-        ensures known { IsStream self.new }
-    {
-        self.trees.shrink_to_fit();
-    }
 }
 
 impl Builder {
     /// No group is open, and no tree was put.
     pub(crate) fn new(alloc: Global) -> Builder
-        ensures frames { result.frames.items ≡ [] }
-        ensures stream { result.stream ≡ [] }
+        ensures groups { result.groups ≡ [] }
+        ensures inside { result.inside ≡ [] }
     {
         Builder {
             frames: Vec::new(alloc),
-            stream: TokenStream::new(alloc),
+            trees: Vec::new(alloc),
         }
     }
 
     /// Opens a group, whose mark stands behind so many characters.
-    pub(crate) fn open(
-        &mut self,
-        alloc: Global,
-        delimiter: Delimiter,
-        count: u32,
-    ) -> Result<(), AllocError>
+    pub(crate) fn open(&mut self, delimiter: Delimiter, count: u32) -> Result<(), AllocError>
         ensures { OnOk result (IsOpened self.old self.new delimiter count) }
     {
-        let before = mem::replace(&mut self.stream, TokenStream::new(alloc));
+        let mark = self.trees.len();
         self.frames.push(Frame {
             delimiter,
             count,
-            before,
+            mark,
         })?;
         Ok(())
     }
@@ -91,35 +101,57 @@ impl Builder {
         requires { IsStream (tree_tokens tree) }
         ensures { OnOk result (IsAdded self.old self.new (tree_tokens tree)) }
     {
-        self.stream.push(tree)?;
+        self.trees.push(tree)?;
         Ok(())
+    }
+
+    // Takes the innermost of the groups that are open off them: its frame, and its trees in a list of their size.
+    fn take_innermost(&mut self) -> Result<Option<(Frame, TokenStream)>, AllocError>
+        ensures { IfOk result (λ found. MatchOption found (self.old.groups ≡ [])
+            (λ taken. IsTaken self.old self.new taken.0 taken.1)) }
+    {
+        let Some(frame) = self.frames.pop() else {
+            return Ok(None);
+        };
+        let trees = self.trees.split_off(frame.mark)?;
+        Ok(Some((frame, TokenStream { trees })))
     }
 
     /// Closes the innermost group by a mark that stands there. False: the mark closes nothing.
     pub(crate) fn close(&mut self, delimiter: Delimiter, mark: Stretch) -> Result<bool, AllocError>
-        requires before { All (λ f. f.count ≤ mark.to) self.old.frames.items }
+        requires before { All (λ g. g.count ≤ mark.to) self.old.groups }
         requires within { mark.whole.start + mark.to ≤ mark.whole.end }
         ensures { IfOk result (λ ok. IsClosing ok self.old self.new delimiter mark.whole mark.to) }
     {
-        let Some(frame) = self.frames.pop() else {
+        let Some((frame, stream)) = self.take_innermost()? else {
             return Ok(false);
         };
-        let Frame {
-            delimiter: opened,
-            count,
-            before,
-        } = frame;
-        if opened != delimiter {
+        if frame.delimiter != delimiter {
             return Ok(false);
         }
-        let mut stream = mem::replace(&mut self.stream, before);
-        stream.shrink();
+        stream.known();
         let group = Group {
             delimiter,
             stream,
-            span: mark.whole.part(count, mark.to),
+            span: mark.whole.part(frame.count, mark.to),
         };
-        self.stream.push(TokenTree::Group(group))?;
+        self.put(TokenTree::Group(group))?;
         Ok(true)
+    }
+
+    /// All trees, in a list of their size, if no group is open. Err: the innermost of the groups that are.
+    pub(crate) fn finish(self) -> Result<TokenStream, Frame>
+        ensures whole { IfOk result (λ stream. (self.groups ≡ []) × (stream ≡ self.inside)) }
+        ensures unclosed { IfErr result (λ frame. IsInnermost self.groups frame.count) }
+    {
+        let Builder {
+            mut frames,
+            mut trees,
+        } = self;
+        if let Some(frame) = frames.pop() {
+            return Err(frame);
+        }
+        trees.shrink_to_fit();
+        Ok(TokenStream { trees })
     }
 }

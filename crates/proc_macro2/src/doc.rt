@@ -38,12 +38,14 @@ fn alone(mark: char, span: Span) -> Punct
 // `doc = "text"`
 #[tactic(auto, using(crate::proofs::Docs::words), unfolding(rust_leaf::specs::Mark::is_mark))]
 fn inside(alloc: Global, text: &str, span: Span) -> Result<TokenStream, AllocError>
-    ensures { IfOk result (λ s. s ≡ all_at span (token.Ident (codes "doc") ∷ token.Punct 61 Alone ∷ token.Literal (string_text (chars text.now)) ∷ [])) }
+    ensures { IfOk result (λ s. s
+        ≡ all_at span (token.Ident (codes "doc") ∷ token.Punct 61 Alone ∷ token.Literal (string_text (chars text.now)) ∷
+        [])) }
 {
     let ident = Ident::from_text(alloc, "doc", span)?;
     let mut literal = Literal::string(alloc, text)?;
     literal.set_span(span);
-    let mut stream = TokenStream::new(alloc);
+    let mut stream = TokenStream::with_room(alloc, 3)?;
     stream.push(TokenTree::Ident(ident))?;
     stream.push(TokenTree::Punct(alone('=', span)))?;
     stream.push(TokenTree::Literal(literal))?;
@@ -54,7 +56,9 @@ fn inside(alloc: Global, text: &str, span: Span) -> Result<TokenStream, AllocErr
 fn group(alloc: Global, text: &str, span: Span) -> Result<Group, AllocError>
     ensures delimiter { IfOk result (λ g. g.delimiter ≡ Bracket) }
     ensures span { IfOk result (λ g. g.span ≡ span) }
-    ensures stream { IfOk result (λ g. g.stream ≡ all_at span (token.Ident (codes "doc") ∷ token.Punct 61 Alone ∷ token.Literal (string_text (chars text.now)) ∷ [])) }
+    ensures stream { IfOk result
+        (λ g. g.stream ≡ all_at span
+        (token.Ident (codes "doc") ∷ token.Punct 61 Alone ∷ token.Literal (string_text (chars text.now)) ∷ [])) }
 {
     let stream = inside(alloc, text, span)?;
     Ok(Group {
@@ -82,7 +86,8 @@ pub(crate) fn put_doc(
     text: &str,
     span: Span,
 ) -> Result<(), AllocError>
-    ensures { OnOk result (IsAdded builder.old builder.new (all_at span (pieces.doc_marks kind ++ pieces.doc_group (chars text.now)))) }
+    ensures { OnOk result (IsAdded builder.old builder.new
+        (all_at span (pieces.doc_marks kind ++ pieces.doc_group (chars text.now)))) }
 {
     builder.put(TokenTree::Punct(alone('#', span)))?;
     if is_inner(kind) {

@@ -9,12 +9,14 @@ ghost use Rattle.std.specs.Prelude.{ℕ, ◌≡◌, ◌⊎◌, List};
 
 /// A text has at most one forest: its tokens and their spans are determined.
 pub fn one_forest()
-    ensures { (base : ℕ) (text : List ℕ) (ts us : List Spanned) → IsForest base text ts → IsForest base text us → ts ≡ us }
+    ensures { (base : ℕ) (text : List ℕ) (ts us : List Spanned) → IsForest base text ts → IsForest base text us
+        → ts ≡ us }
 {}
 
 /// A text with a lexical fault has no forest.
 pub fn no_forest()
-    ensures { (base : ℕ) (text : List ℕ) (place : LineColumn) (ts : List Spanned) → IsLexicalFault text place → IsForest base text ts → ⊥ }
+    ensures { (base : ℕ) (text : List ℕ) (place : LineColumn) (ts : List Spanned) → IsLexicalFault text place
+        → IsForest base text ts → ⊥ }
 {}
 
 /// A text has at most one lexical fault: two of them stand at the same line and column.
@@ -24,5 +26,6 @@ pub fn one_fault()
 
 /// Each text has a forest or a lexical fault.
 pub fn forest_or_fault()
-    ensures { (base : ℕ) (text : List ℕ) → ((ts : List Spanned) × IsForest base text ts) ⊎ ((place : LineColumn) × IsLexicalFault text place) }
+    ensures { (base : ℕ) (text : List ℕ)
+        → ((ts : List Spanned) × IsForest base text ts) ⊎ ((place : LineColumn) × IsLexicalFault text place) }
 {}

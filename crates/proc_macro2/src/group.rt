@@ -38,7 +38,8 @@ impl Group {
     #[tactic(auto, using(crate::proofs::Held::inside_held))]
     pub fn stream(&self) -> Result<TokenStream, AllocError>
         ensures copy { IfOk result (λ s. s ≡ self.now.stream) }
-        ensures held { IfOk result (λ s. (map : Sources) → IsTrue (are_held map (group_tokens self.now)) → IsTrue (are_held map s)) }
+        ensures held { IfOk result
+            (λ s. (map : Sources) → IsTrue (are_held map (group_tokens self.now)) → IsTrue (are_held map s)) }
     {
         copied_stream(self.stream_ref())
     }
@@ -47,7 +48,8 @@ impl Group {
     #[tactic(auto, using(crate::proofs::Held::inside_held))]
     pub fn stream_ref(&self) -> &TokenStream
         ensures stream { result.now ≡ self.now.stream }
-        ensures held { (map : Sources) → IsTrue (are_held map (group_tokens self.now)) → IsTrue (are_held map result.now) }
+        ensures held { (map : Sources) → IsTrue (are_held map (group_tokens self.now))
+            → IsTrue (are_held map result.now) }
     {
         &self.stream
     }

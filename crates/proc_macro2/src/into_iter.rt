@@ -27,7 +27,9 @@ impl TokenStream {
     #[tactic(auto, using(crate::proofs::Held::trees_held))]
     pub fn into_iter(self) -> Result<IntoIter, AllocError>
         ensures trees { IfOk result (λ it. trees_tokens (trees_left it) ≡ self) }
-        ensures held { IfOk result (λ it. (map : Sources) → IsTrue (are_held map self) → All (λ tree. IsTrue (are_held map (tree_tokens tree))) (trees_left it)) }
+        ensures held { IfOk result
+            (λ it. (map : Sources) → IsTrue (are_held map self)
+            → All (λ tree. IsTrue (are_held map (tree_tokens tree))) (trees_left it)) }
     {
         let TokenStream { trees } = self;
         Ok(IntoIter {

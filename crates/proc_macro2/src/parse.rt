@@ -9,7 +9,8 @@ ghost use Rattle.rust_lex.specs.declared.piece.PieceKind.TheVariants.{Mark};
 ghost use Rattle.rust_map.specs.Places.{place_of};
 ghost use Rattle.rust_map.specs.Sources.{next_position, next_span, next_spot, spot, with_text};
 ghost use Rattle.rust_map.specs.Spans.{span_part};
-ghost use Rattle.std.specs.Prelude.{◌≡◌, ◌≢◌, ◌+◌, ◌^◌, ◌<◌, ◌≤◌, ◌↔◌, Err, IfErr, IfOk, IfSome, IsTrue, None, OnErr, OnOk, Some, length};
+ghost use Rattle.std.specs.Prelude.{◌≡◌, ◌≢◌, ◌+◌, ◌^◌, ◌<◌, ◌≤◌, ◌↔◌, Err, IfErr, IfOk, IfSome, IsTrue, None};
+ghost use Rattle.std.specs.Prelude.{OnErr, OnOk, Some, length};
 ghost use Rattle.std.specs.Str.{chars};
 
 use crate::builder::{Builder, Stretch};
@@ -77,14 +78,9 @@ fn lex(alloc: Global, text: &str, whole: Span) -> Result<TokenStream, LexFault>
         at = end;
         count = there.to;
     }
-    let Builder {
-        mut frames,
-        mut stream,
-    } = builder;
-    stream.shrink();
-    match frames.pop() {
-        None => Ok(stream),
-        Some(frame) => Err(fault_behind(text, whole, frame.count)),
+    match builder.finish() {
+        Ok(stream) => Ok(stream),
+        Err(frame) => Err(fault_behind(text, whole, frame.count)),
     }
 }
 
@@ -118,7 +114,8 @@ impl TokenStream {
         ensures full { (result ≡ Err MapFull) ↔ (2 ^ 32 ≤ next_position map.old + length (chars src.now)) }
         ensures held { IfOk result (λ stream. IsTrue (are_held map.new stream)) }
         ensures map_ok { OnOk result (map.new ≡ with_text map.old (chars src.now)) }
-        ensures spot { OnOk result (spot map.new (next_span map.old (chars src.now)) ≡ Some (next_spot map.old (chars src.now))) }
+        ensures spot { OnOk result
+            (spot map.new (next_span map.old (chars src.now)) ≡ Some (next_spot map.old (chars src.now))) }
         ensures map_err { OnErr result (map.new ≡ map.old) }
     {
         let Some(whole) = span_ahead(map, src) else {

@@ -18,19 +18,19 @@ use rust_escape::place::char_at;
 use rust_leaf::ident::Ident;
 use rust_leaf::literal::Literal;
 use rust_leaf::punct::{Punct, Spacing};
-use rust_lex::delimiter::Delimiter as Marks;
+use rust_lex::group_marks::GroupMarks;
 use rust_lex::piece::PieceKind;
 use rust_map::span::Span;
 use std::alloc::{AllocError, Global};
 
 // What a pair of marks encloses a group as.
-fn delimiter_of(marks: Marks) -> Delimiter
+fn delimiter_of(marks: GroupMarks) -> Delimiter
     ensures { result ≡ delimiter_of marks }
 {
     match marks {
-        Marks::Parenthesis => Delimiter::Parenthesis,
-        Marks::Brace => Delimiter::Brace,
-        Marks::Bracket => Delimiter::Bracket,
+        GroupMarks::Parenthesis => Delimiter::Parenthesis,
+        GroupMarks::Brace => Delimiter::Brace,
+        GroupMarks::Bracket => Delimiter::Bracket,
     }
 }
 
@@ -47,7 +47,8 @@ fn spacing_of(joint: bool) -> Spacing
 // Adds a mark, which is all of a text.
 fn put_mark(builder: &mut Builder, mark: &str, joint: bool, span: Span) -> Result<(), AllocError>
     requires { (c : ℕ) × (chars mark.now ≡ c ∷ []) × (is_mark c ≡ true) }
-    ensures { OnOk result (IsAdded builder.old builder.new (all_at span (token.Punct (head (chars mark.now)) (spacing_of joint) ∷ []))) }
+    ensures { OnOk result (IsAdded builder.old builder.new
+        (all_at span (token.Punct (head (chars mark.now)) (spacing_of joint) ∷ []))) }
 {
     let (c, _) = char_at(mark, 0);
     let mut punct = Punct::new(c, spacing_of(joint));
@@ -87,7 +88,7 @@ pub(crate) fn put(
     there: Stretch,
 ) -> Result<bool, AllocError>
     requires ready { IsReady kind (chars piece.now) }
-    requires before { All (λ f. f.count ≤ there.to) builder.old.frames.items }
+    requires before { All (λ g. g.count ≤ there.to) builder.old.groups }
     requires ordered { there.from ≤ there.to }
     requires within { there.whole.start + there.to ≤ there.whole.end }
     ensures { IfOk result (λ ok. IsPut kind ok builder.old builder.new there (chars piece.now) joint) }
@@ -96,7 +97,7 @@ pub(crate) fn put(
     match kind {
         PieceKind::FrontMark | PieceKind::White | PieceKind::Comment => {}
         PieceKind::Doc(doc) => put_doc(builder, alloc, doc, doc_text(doc, piece), span)?,
-        PieceKind::Open(marks) => builder.open(alloc, delimiter_of(marks), there.from)?,
+        PieceKind::Open(marks) => builder.open(delimiter_of(marks), there.from)?,
         PieceKind::Close(marks) => return builder.close(delimiter_of(marks), there),
         PieceKind::Mark => put_mark(builder, piece, joint, span)?,
         PieceKind::Ident => put_ident(builder, alloc, piece, span)?,

@@ -3,7 +3,8 @@
 //! A tree is tested with the one behind it: whether a mark may stand is told by what follows it.
 
 ghost use Rattle.proc_macro2.specs.Flat.{group_tokens, tree_tokens};
-ghost use Rattle.proc_macro2.specs.Spacing.{IsWellSpaced, begin_comment, follows_mark, follows_quote, is_character, is_prefixed_string, is_visible, may_stand};
+ghost use Rattle.proc_macro2.specs.Spacing.{IsWellSpaced, begin_comment, follows_mark, follows_quote, is_character};
+ghost use Rattle.proc_macro2.specs.Spacing.{is_prefixed_string, is_visible, may_stand};
 ghost use Rattle.proc_macro2.specs.Stands.{all_stand, tokens_behind};
 ghost use Rattle.proc_macro2.specs.Token.{Joint, plain};
 ghost use Rattle.proc_macro2.specs.Token as token;
@@ -79,7 +80,8 @@ fn is_visible(delimiter: Delimiter) -> bool
 
 // Whether a mark may stand, the next tree behind it, or the end.
 fn mark_stands(punct: &Punct, next: Option<&TokenTree>) -> bool
-    ensures { result ≡ may_stand (token.Punct (punct_char punct.now) (punct_spacing punct.now)) (tokens_behind next.entry) }
+    ensures { result ≡ may_stand (token.Punct (punct_char punct.now) (punct_spacing punct.now))
+        (tokens_behind next.entry) }
 {
     match punct.spacing() {
         Spacing::Alone => punct.as_char() != '\'',

@@ -45,7 +45,8 @@ impl TokenStream {
     #[tactic(auto, using(crate::proofs::Held::trees_held))]
     pub fn trees(&self) -> &[TokenTree]
         ensures trees { trees_tokens result.now ≡ self.now }
-        ensures held { (map : Sources) → IsTrue (are_held map self.now) → All (λ tree. IsTrue (are_held map (tree_tokens tree))) result.now }
+        ensures held { (map : Sources) → IsTrue (are_held map self.now)
+            → All (λ tree. IsTrue (are_held map (tree_tokens tree))) result.now }
     {
         self.trees.as_slice()
     }

@@ -6,7 +6,8 @@ use Rattle.rust_escape.specs.LexicalScan.{is_common}
 use Rattle.rust_escape.specs.Mode.{Mode, Char, Byte, Str, RawStr, ByteStr, RawByteStr, CStr, RawCStr}
 use Rattle.rust_escape.specs.Unit.{Lexical, is_plain}
 
-plain_at : (mode : Mode) (c : ℕ) → (92 == c) ≡ false → (34 == c) ≡ false → (13 == c) ≡ false → (c == 0) ≡ false → c < 128 → is_plain Lexical mode c ≡ true
+plain_at : (mode : Mode) (c : ℕ) → (92 == c) ≡ false → (34 == c) ≡ false → (13 == c) ≡ false → (c == 0) ≡ false
+    → c < 128 → is_plain Lexical mode c ≡ true
 plain_at Char c a b d z l = rw (a, lt-ltb c 128 l) refl
 plain_at Byte c a b d z l = rw (a, lt-ltb c 128 l) refl
 plain_at Str c a b d z l = rw (a, b, d, lt-ltb c 128 l) refl

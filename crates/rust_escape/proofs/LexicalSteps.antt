@@ -6,7 +6,8 @@ use Rattle.rust_escape.specs.Chars.{begins, is_blank, is_line_feed}
 use Rattle.rust_escape.specs.Mode.{Mode, in_double_quotes, is_raw}
 use Rattle.rust_escape.specs.Places.{rest_at, IsPlace}
 use Rattle.rust_escape.specs.Scan.{escape}
-use Rattle.rust_escape.specs.LexicalScan.{past_lines, skipped, begins_line_end, lexical_slash, lexical_one, lexical_scan}
+use Rattle.rust_escape.specs.LexicalScan.{past_lines, skipped, begins_line_end, lexical_slash, lexical_one}
+use Rattle.rust_escape.specs.LexicalScan.{lexical_scan}
 use Rattle.rust_escape.proofs.LexicalUnits.{lines_blank, lines_other}
 use Rattle.rust_escape.proofs.PlacesLemmas.{rest_end}
 
@@ -36,7 +37,8 @@ pub record PassesLines (bytes : List ℕ) (start at : ℕ) : Type 0 where
   pub place : IsPlace bytes at
   pub on : start ≤ at
 
-pub slash_lines : (mode : Mode) (cs : List ℕ) → in_double_quotes mode ≡ true → begins_line_end cs ≡ true → lexical_slash mode cs ≡ skipped (past_lines cs)
+pub slash_lines : (mode : Mode) (cs : List ℕ) → in_double_quotes mode ≡ true → begins_line_end cs ≡ true
+    → lexical_slash mode cs ≡ skipped (past_lines cs)
 unfolding lexical_slash
 slash_lines mode cs q h = rw (q, h) refl
 
@@ -46,14 +48,17 @@ slash_alone mode cs q = rw q refl
 
 pub slash_escape : (mode : Mode) (cs : List ℕ) → begins_line_end cs ≡ false → lexical_slash mode cs ≡ escape mode cs
 unfolding lexical_slash
-slash_escape mode cs h = rw (Rattle.std.proofs.lemmas.Bool.and_right (in_double_quotes mode) (begins_line_end cs) h) refl
+slash_escape mode cs h = rw (Rattle.std.proofs.lemmas.Bool.and_right (in_double_quotes mode) (begins_line_end cs) h)
+    refl
 
 pub ruleset slashes = (slash_lines, slash_alone, slash_escape)
 
-pub scan_slash : (mode : Mode) (c : ℕ) (cs : List ℕ) → (c == 92 && not (is_raw mode)) ≡ true → lexical_scan mode (c ∷ cs) ≡ lexical_slash mode cs
+pub scan_slash : (mode : Mode) (c : ℕ) (cs : List ℕ) → (c == 92 && not (is_raw mode)) ≡ true
+    → lexical_scan mode (c ∷ cs) ≡ lexical_slash mode cs
 unfolding lexical_scan
 scan_slash mode c cs h = rw h refl
 
-pub scan_one : (mode : Mode) (c : ℕ) (cs : List ℕ) → (c == 92 && not (is_raw mode)) ≡ false → lexical_scan mode (c ∷ cs) ≡ lexical_one mode c cs
+pub scan_one : (mode : Mode) (c : ℕ) (cs : List ℕ) → (c == 92 && not (is_raw mode)) ≡ false → lexical_scan mode (c ∷ cs)
+    ≡ lexical_one mode c cs
 unfolding lexical_scan
 scan_one mode c cs h = rw h refl

@@ -8,7 +8,8 @@ use Rattle.rust_escape.specs.Escape.{is_hex_part, simple_value}
 use Rattle.rust_escape.specs.Wrong.{past_digits}
 use Rattle.rust_escape.specs.Mode.{Mode, in_double_quotes, is_raw}
 use Rattle.rust_escape.specs.Places.{rest_at, IsPlace, IsScanned}
-use Rattle.rust_escape.specs.Scan.{Scanned, Malformed, Reads, named, numbered, simple, byte_escape, unicode_escape, digits, escape, slash, one, scan}
+use Rattle.rust_escape.specs.Scan.{Scanned, Malformed, Reads, named, numbered, simple, byte_escape, unicode_escape}
+use Rattle.rust_escape.specs.Scan.{digits, escape, slash, one, scan}
 use Rattle.rust_escape.specs.declared.read.Reading.{Reading}
 use Rattle.rust_escape.proofs.PlacesLemmas.{rest_end}
 
@@ -25,11 +26,13 @@ unfolding byte_escape
 byte_high mode c [] h = refl
 byte_high mode c (d ∷ cs) h = rw h refl
 
-pub byte_low : (mode : Mode) (c d : ℕ) (cs : List ℕ) → is_hex_digit c ≡ true → is_hex_digit d ≡ false → byte_escape mode (c ∷ d ∷ cs) ≡ Malformed
+pub byte_low : (mode : Mode) (c d : ℕ) (cs : List ℕ) → is_hex_digit c ≡ true → is_hex_digit d ≡ false
+    → byte_escape mode (c ∷ d ∷ cs) ≡ Malformed
 unfolding byte_escape
 byte_low mode c d cs h k = rw (h, k) refl
 
-pub byte_both : (mode : Mode) (c d : ℕ) (cs : List ℕ) → is_hex_digit c ≡ true → is_hex_digit d ≡ true → byte_escape mode (c ∷ d ∷ cs) ≡ numbered mode (16 * hex_value c + hex_value d) cs
+pub byte_both : (mode : Mode) (c d : ℕ) (cs : List ℕ) → is_hex_digit c ≡ true → is_hex_digit d ≡ true
+    → byte_escape mode (c ∷ d ∷ cs) ≡ numbered mode (16 * hex_value c + hex_value d) cs
 unfolding byte_escape
 byte_both mode c d cs h k = rw (h, k) refl
 
@@ -39,23 +42,29 @@ pub digits_end : (mode : Mode) (count n : ℕ) → digits mode count n [] ≡ Ma
 unfolding digits
 digits_end mode count n = refl
 
-pub digits_close : (mode : Mode) (count n c : ℕ) (cs : List ℕ) → c ≡ 125 → digits mode count n (c ∷ cs) ≡ named mode n cs
+pub digits_close : (mode : Mode) (count n c : ℕ) (cs : List ℕ) → c ≡ 125 → digits mode count n (c ∷ cs)
+    ≡ named mode n cs
 unfolding digits
 digits_close mode count n c cs e = rw e refl
 
-pub digits_line : (mode : Mode) (count n c : ℕ) (cs : List ℕ) → c ≡ 95 → digits mode count n (c ∷ cs) ≡ digits mode count n cs
+pub digits_line : (mode : Mode) (count n c : ℕ) (cs : List ℕ) → c ≡ 95 → digits mode count n (c ∷ cs)
+    ≡ digits mode count n cs
 unfolding digits
 digits_line mode count n c cs e = rw e refl
 
-pub digits_wrong : (mode : Mode) (count n c : ℕ) (cs : List ℕ) → (c ≡ 125 → ⊥) → (c ≡ 95 → ⊥) → is_hex_digit c ≡ false → digits mode count n (c ∷ cs) ≡ Malformed
+pub digits_wrong : (mode : Mode) (count n c : ℕ) (cs : List ℕ) → (c ≡ 125 → ⊥) → (c ≡ 95 → ⊥) → is_hex_digit c ≡ false
+    → digits mode count n (c ∷ cs) ≡ Malformed
 unfolding digits
 digits_wrong mode count n c cs h k e = rw (ne_eqb c 125 h, ne_eqb c 95 k, e) refl
 
-pub digits_over : (mode : Mode) (count n c : ℕ) (cs : List ℕ) → (c ≡ 125 → ⊥) → (c ≡ 95 → ⊥) → 6 ≤ count → digits mode count n (c ∷ cs) ≡ Malformed
+pub digits_over : (mode : Mode) (count n c : ℕ) (cs : List ℕ) → (c ≡ 125 → ⊥) → (c ≡ 95 → ⊥) → 6 ≤ count
+    → digits mode count n (c ∷ cs) ≡ Malformed
 unfolding digits
-digits_over mode count n c cs h k e = rw (ne_eqb c 125 h, ne_eqb c 95 k, and_right (is_hex_digit c) (nat_lt count 6) (le-ltb count 6 e)) refl
+digits_over mode count n c cs h k e =
+    rw (ne_eqb c 125 h, ne_eqb c 95 k, and_right (is_hex_digit c) (nat_lt count 6) (le-ltb count 6 e)) refl
 
-pub digits_more : (mode : Mode) (count n c d : ℕ) (cs : List ℕ) → (c ≡ 125 → ⊥) → (c ≡ 95 → ⊥) → is_hex_digit c ≡ true → d ≡ hex_value c → count < 6 → digits mode count n (c ∷ cs) ≡ digits mode (count + 1) (16 * n + d) cs
+pub digits_more : (mode : Mode) (count n c d : ℕ) (cs : List ℕ) → (c ≡ 125 → ⊥) → (c ≡ 95 → ⊥) → is_hex_digit c ≡ true
+    → d ≡ hex_value c → count < 6 → digits mode count n (c ∷ cs) ≡ digits mode (count + 1) (16 * n + d) cs
 unfolding digits
 digits_more mode count n c d cs h k e v l = rw (ne_eqb c 125 h, ne_eqb c 95 k, e, lt-ltb count 6 l, v) refl
 
@@ -89,7 +98,21 @@ digits_fit count n h k =
     let few : count ≤ 5 = omega arith in
     let le : 16 ^ count ≤ 16 ^ 5 = pow-le-pow_right some few in omega arith
 
-pub ruleset spelled = (rest_end, digits_end, digits_close, digits_line, digits_wrong, digits_over, digits_more, digit_fits, digits_fit, over_digit, over_line, over_other, over_brace)
+pub ruleset spelled = (
+  rest_end,
+  digits_end,
+  digits_close,
+  digits_line,
+  digits_wrong,
+  digits_over,
+  digits_more,
+  digit_fits,
+  digits_fit,
+  over_digit,
+  over_line,
+  over_other,
+  over_brace,
+)
 
 pub ruleset overs = (rest_end, over_digit, over_line, over_other, over_brace)
 
@@ -121,11 +144,13 @@ unfolding unicode_escape
 unicode_no_brace mode c [] h = refl
 unicode_no_brace mode c (d ∷ cs) h = rw (ne_eqb c 123 h) refl
 
-pub unicode_no_digit : (mode : Mode) (c d : ℕ) (cs : List ℕ) → is_hex_digit d ≡ false → unicode_escape mode (c ∷ d ∷ cs) ≡ Malformed
+pub unicode_no_digit : (mode : Mode) (c d : ℕ) (cs : List ℕ) → is_hex_digit d ≡ false → unicode_escape mode (c ∷ d ∷ cs)
+    ≡ Malformed
 unfolding unicode_escape
 unicode_no_digit mode c d cs h = rw (and_right (c == 123) (is_hex_digit d) h) refl
 
-pub unicode_digits : (mode : Mode) (c d : ℕ) (cs : List ℕ) → c ≡ 123 → is_hex_digit d ≡ true → unicode_escape mode (c ∷ d ∷ cs) ≡ digits mode 0 0 (d ∷ cs)
+pub unicode_digits : (mode : Mode) (c d : ℕ) (cs : List ℕ) → c ≡ 123 → is_hex_digit d ≡ true
+    → unicode_escape mode (c ∷ d ∷ cs) ≡ digits mode 0 0 (d ∷ cs)
 unfolding unicode_escape
 unicode_digits mode c d cs e h = rw (e, h) refl
 
@@ -143,7 +168,8 @@ pub escape_u : (mode : Mode) (c : ℕ) (cs : List ℕ) → c ≡ 117 → escape 
 unfolding escape
 escape_u mode c cs e = rw e refl
 
-pub escape_other : (mode : Mode) (c : ℕ) (cs : List ℕ) → (c ≡ 120 → ⊥) → (c ≡ 117 → ⊥) → escape mode (c ∷ cs) ≡ simple mode (simple_value c) cs
+pub escape_other : (mode : Mode) (c : ℕ) (cs : List ℕ) → (c ≡ 120 → ⊥) → (c ≡ 117 → ⊥) → escape mode (c ∷ cs)
+    ≡ simple mode (simple_value c) cs
 unfolding escape
 escape_other mode c cs h k = rw (ne_eqb c 120 h, ne_eqb c 117 k) refl
 
@@ -168,11 +194,13 @@ pub slash_none : (mode : Mode) → slash mode [] ≡ escape mode []
 unfolding slash escape
 slash_none mode = refl
 
-pub slash_skip : (mode : Mode) (c : ℕ) (cs : List ℕ) → c ≡ 10 → in_double_quotes mode ≡ true → slash mode (c ∷ cs) ≡ Reads None (past is_blank cs)
+pub slash_skip : (mode : Mode) (c : ℕ) (cs : List ℕ) → c ≡ 10 → in_double_quotes mode ≡ true → slash mode (c ∷ cs)
+    ≡ Reads None (past is_blank cs)
 unfolding slash
 slash_skip mode c cs e h = rw (e, h) refl
 
-pub slash_alone : (mode : Mode) (c : ℕ) (cs : List ℕ) → in_double_quotes mode ≡ false → slash mode (c ∷ cs) ≡ escape mode (c ∷ cs)
+pub slash_alone : (mode : Mode) (c : ℕ) (cs : List ℕ) → in_double_quotes mode ≡ false → slash mode (c ∷ cs)
+    ≡ escape mode (c ∷ cs)
 unfolding slash
 slash_alone mode c cs h = rw (and_right (c == 10) (in_double_quotes mode) h) refl
 
@@ -182,14 +210,18 @@ slash_other mode c cs h = rw (ne_eqb c 10 h) refl
 
 pub ruleset slashes = (rest_end, slash_none, slash_skip, slash_alone, slash_other)
 
-pub scan_slash : (mode : Mode) (c : ℕ) (cs : List ℕ) → (c == 92 && not (is_raw mode)) ≡ true → scan mode (c ∷ cs) ≡ slash mode cs
+pub scan_slash : (mode : Mode) (c : ℕ) (cs : List ℕ) → (c == 92 && not (is_raw mode)) ≡ true → scan mode (c ∷ cs)
+    ≡ slash mode cs
 unfolding scan
 scan_slash mode c cs h = rw h refl
 
-pub scan_one : (mode : Mode) (c : ℕ) (cs : List ℕ) → (c == 92 && not (is_raw mode)) ≡ false → scan mode (c ∷ cs) ≡ one mode c cs
+pub scan_one : (mode : Mode) (c : ℕ) (cs : List ℕ) → (c == 92 && not (is_raw mode)) ≡ false → scan mode (c ∷ cs)
+    ≡ one mode c cs
 unfolding scan
 scan_one mode c cs h = rw h refl
 
 -- what is read from the next place on is what is sought from this one on
-pub scanned_next : (bytes : List ℕ) (start next : ℕ) (reading : Reading) (sought also : Scanned) → sought ≡ also → start ≤ next → IsScanned bytes next reading also → IsScanned bytes start reading sought
-scanned_next bytes start next reading sought also e l s = record { same = rw e s.same; place = s.place; on = omega (arith, s.on) }
+pub scanned_next : (bytes : List ℕ) (start next : ℕ) (reading : Reading) (sought also : Scanned) → sought ≡ also
+    → start ≤ next → IsScanned bytes next reading also → IsScanned bytes start reading sought
+scanned_next bytes start next reading sought also e l s =
+    record { same = rw e s.same; place = s.place; on = omega (arith, s.on) }

@@ -1,11 +1,13 @@
 -- The values that the units of each kind of literal spell.
 use Rattle.std.proofs.Common.{◌≡◌, ℕ, zero, suc, ◌≤◌, ◌<◌, arith, List, refl, subst, inl, inr, ⊎_elim}
 use Rattle.std.specs.Prelude.{Bool, true, false, cond, ◌⊎◌, ◌||◌, ◌&&◌, ◌==◌, Option, Some, not, nat_lt, IfSome}
-use Rattle.std.proofs.lemmas.Bool.{and_parts, or_left, or_right, cases_Bool, ltb-true, ltb-false, or_cases, not_from_false}
+use Rattle.std.proofs.lemmas.Bool.{and_parts, or_left, or_right, cases_Bool, ltb-true, ltb-false, or_cases}
+use Rattle.std.proofs.lemmas.Bool.{not_from_false}
 use Rattle.rust_escape.specs.Escape.{IsEscape, simple, byte, unicode, simple_value, may_hold, may_hold_byte}
 use Rattle.rust_escape.specs.Mode.{Mode, is_raw, holds_bytes, holds_c}
 use Rattle.rust_escape.specs.Unit.{Rule, Strict, Lexical, IsUnit, plain, escape, skip, return, is_plain}
-use Rattle.rust_escape.specs.Value.{Value, Character, HighByte, byte_value, IsCharacter, IsByte, IsNonZeroCharacter, IsMixed}
+use Rattle.rust_escape.specs.Value.{Value, Character, HighByte, byte_value, IsCharacter, IsByte, IsNonZeroCharacter}
+use Rattle.rust_escape.specs.Value.{IsMixed}
 use Rattle.rust_escape.specs.Calls.{TakesUnits}
 
 -- a literal of the kind may spell the value
@@ -30,7 +32,9 @@ simple_small c n e =
     ⊎_elim (λ h. below 0 n refl h.1) (λ h.
     ⊎_elim (λ h. below 39 n refl h.1) (λ h.
     ⊎_elim (λ h. below 34 n refl h.1) (λ h. cc)
-    (chosen (c == 34) _ _ _ h.1)) (chosen (c == 39) _ _ _ h.1)) (chosen (c == 48) _ _ _ h.1)) (chosen (c == 92) _ _ _ h.1)) (chosen (c == 116) _ _ _ h.1)) (chosen (c == 114) _ _ _ h.1)) (chosen (c == 110) _ _ _ e)
+    (chosen (c == 34) _ _ _ h.1)) (chosen (c == 39) _ _ _ h.1)) (chosen (c == 48) _ _ _ h.1))
+    (chosen (c == 92) _ _ _ h.1)) (chosen (c == 116) _ _ _ h.1)) (chosen (c == 114) _ _ _ h.1))
+    (chosen (c == 110) _ _ _ e)
 
 byte_holds : (mode : Mode) (n : ℕ) → is_raw mode ≡ false → may_hold_byte mode n ≡ true → Holds mode (byte_value n)
 byte_holds mode n r h =
@@ -43,11 +47,15 @@ byte_holds mode n r h =
 escape_holds : (mode : Mode) (cs : List ℕ) (v : Value) → is_raw mode ≡ false → IsEscape mode cs v → Holds mode v
 escape_holds mode _ _ r (simple {c} {n} e h) = (h, or_left (nat_lt n 128) (not (holds_bytes mode)) (simple_small c n e))
 escape_holds mode _ _ r (byte {high} {low} a b h) = byte_holds mode _ r h
-escape_holds mode _ _ r (unicode inner a b c d e f) = (f, or_right (nat_lt _ 128) (not (holds_bytes mode)) (not_from_false (holds_bytes mode) a))
+escape_holds mode _ _ r (unicode inner a b c d e f) =
+    (f, or_right (nat_lt _ 128) (not (holds_bytes mode)) (not_from_false (holds_bytes mode) a))
 
-unit_holds : (rule : Rule) (mode : Mode) (cs rest : List ℕ) (o : Option Value) → rule ≡ Strict → IsUnit rule mode cs rest o → IfSome o (Holds mode)
+unit_holds : (rule : Rule) (mode : Mode) (cs rest : List ℕ) (o : Option Value) → rule ≡ Strict
+    → IsUnit rule mode cs rest o → IfSome o (Holds mode)
 unit_holds rule mode _ rest _ e (plain {c = c} h) =
-    let (_, more) = and_parts (not (Rattle.rust_escape.specs.Chars.is_among (Rattle.rust_escape.specs.Unit.barred rule mode) c)) (may_hold mode c && (nat_lt c 128 || not (holds_bytes mode))) h in
+    let (_, more) = and_parts (not
+    (Rattle.rust_escape.specs.Chars.is_among (Rattle.rust_escape.specs.Unit.barred rule mode) c))
+    (may_hold mode c && (nat_lt c 128 || not (holds_bytes mode))) h in
     and_parts (may_hold mode c) (nat_lt c 128 || not (holds_bytes mode)) more
 unit_holds rule mode _ rest _ e (escape {cs = cs} {value = v} r h) = escape_holds mode cs v r h
 unit_holds rule mode _ rest _ e (skip r q h s) = tt
@@ -62,7 +70,9 @@ in_text mode (Character c) f h = tt
 in_text mode (HighByte b) f h = cc
 
 in_bytes : (mode : Mode) (v : Value) → holds_bytes mode ≡ true → Holds mode v → IsByte v
-in_bytes mode (Character c) f h = ltb-true c 128 (⊎_elim (λ y. y) (λ n. let k = rw f at n in cc) (or_cases (nat_lt c 128) (not (holds_bytes mode)) h.1))
+in_bytes mode (Character c) f h =
+    ltb-true c 128 (⊎_elim (λ y. y) (λ n. let k = rw f at n in cc)
+    (or_cases (nat_lt c 128) (not (holds_bytes mode)) h.1))
 in_bytes mode (HighByte b) f h = h.0
 
 -- no zero

@@ -1,5 +1,6 @@
 -- What the escape calls tell their callbacks of an inside.
-use Rattle.std.specs.Prelude.{◌≡◌, ℕ, ◌+◌, ◌<◌, true, nat_lt, List, [], ◌∷◌, ◌++◌, length, if◌then◌else◌, Some, None, Result, Ok, Err, count_by, map}
+use Rattle.std.specs.Prelude.{◌≡◌, ℕ, ◌+◌, ◌<◌, true, nat_lt, List, [], ◌∷◌, ◌++◌, length, if◌then◌else◌, Some}
+use Rattle.std.specs.Prelude.{None, Result, Ok, Err, count_by, map}
 use Rattle.std.specs.List.{FoldsTo}
 use Rattle.std.specs.declared.ops.Range.{Range}
 use Rattle.rust_escape.specs.Chars.{is_line_feed, is_white}
@@ -10,7 +11,8 @@ use Rattle.rust_escape.specs.Unit.{Strict, IsUnit, NoUnit, IsOnlyUnit}
 use Rattle.rust_escape.specs.Value.{Value}
 use Rattle.rust_escape.specs.Wrong.{past_wrong}
 use Rattle.rust_escape.specs.declared.error.EscapeError.{EscapeError}
-use Rattle.rust_escape.specs.declared.error.EscapeError.TheVariants.{UnskippedWhitespaceWarning, MultipleSkippedLinesWarning}
+use Rattle.rust_escape.specs.declared.error.EscapeError.TheVariants.{UnskippedWhitespaceWarning}
+use Rattle.rust_escape.specs.declared.error.EscapeError.TheVariants.{MultipleSkippedLinesWarning}
 
 -- one call of a callback: a range of the inside's bytes, and a unit or what is wrong
 pub record Report (T : Type 0) : Type 0 where
@@ -32,12 +34,14 @@ fault from to error = record { range = record { start = from; «end» = to }; er
 
 -- a skip between two places whose characters are more than one line feed
 abbrev pub lines_warning : ℕ → ℕ → List ℕ → List Fault
-lines_warning from to cs = if nat_lt 1 (count_by is_line_feed cs) then fault from to MultipleSkippedLinesWarning ∷ [] else []
+lines_warning from to cs =
+    if nat_lt 1 (count_by is_line_feed cs) then fault from to MultipleSkippedLinesWarning ∷ [] else []
 
 -- white space before the rest, behind a skip between two places
 abbrev pub white_warning : ℕ → ℕ → List ℕ → List Fault
 white_warning from to [] = []
-white_warning from to (c ∷ cs) = if is_white c then fault from (to + byte_length (c ∷ [])) UnskippedWhitespaceWarning ∷ [] else []
+white_warning from to (c ∷ cs) =
+    if is_white c then fault from (to + byte_length (c ∷ [])) UnskippedWhitespaceWarning ∷ [] else []
 
 -- the warnings of a skip between two places, its characters and the rest
 abbrev pub warnings : ℕ → ℕ → List ℕ → List ℕ → List Fault
@@ -63,22 +67,26 @@ pub data AreReports {T : Type 0} (value : T → Value) (mode : Mode) : ℕ → L
       → AreReports value mode at (cs ++ rest) (report at (at + byte_length cs) (Err error) ∷ calls)
 
 -- the callback was called so, by steps, from its first state on
-pub record Reports {F T : Type 0} (step : F → Range ℕ → Result T EscapeError → F → Type 0) (value : T → Value) (mode : Mode) (at : ℕ) (text : List ℕ) (first : F) : Type 0 where
+pub record Reports {F T : Type 0} (step : F → Range ℕ → Result T EscapeError → F → Type 0) (value : T → Value)
+    (mode : Mode) (at : ℕ) (text : List ℕ) (first : F) : Type 0 where
   pub calls : List (Report T)
   pub are : AreReports value mode at text calls
   pub last : F
   pub made : FoldsTo (λ f call g. step f call.range call.result g) first calls last
 
 -- a callback that hears of faults alone: a unit leaves it as it is
-abbrev pub on_faults : {F T : Type 0} → (F → Range ℕ → EscapeError → F → Type 0) → F → Range ℕ → Result T EscapeError → F → Type 0
+abbrev pub on_faults : {F T : Type 0} → (F → Range ℕ → EscapeError → F → Type 0) → F → Range ℕ → Result T EscapeError
+    → F → Type 0
 on_faults step f range (Ok unit) g = f ≡ g
 on_faults step f range (Err error) g = step f range error g
 
 -- such a callback hears nothing of an inside that is one unit, and else once what is wrong
-pub data ChecksOne {F : Type 0} (step : F → Range ℕ → EscapeError → F → Type 0) (mode : Mode) (text : List ℕ) (first : F) : F → Type 0 where
+pub data ChecksOne {F : Type 0} (step : F → Range ℕ → EscapeError → F → Type 0) (mode : Mode) (text : List ℕ)
+    (first : F) : F → Type 0 where
   whole : {value : Value} → IsOnlyUnit mode text value → ChecksOne step mode text first first
   wrong : {to : ℕ} {error : EscapeError} {last : F} → ((value : Value) → IsOnlyUnit mode text value → ⊥)
-      → is_fatal error ≡ true → step first (record { start = 0; «end» = to }) error last → ChecksOne step mode text first last
+      → is_fatal error ≡ true → step first (record { start = 0; «end» = to }) error last
+      → ChecksOne step mode text first last
 
 -- the values of all units of the literal
 abbrev pub TakesUnits : (Value → Type 0) → Mode → Type 0

@@ -1,5 +1,6 @@
 -- The escapes: which characters behind a backslash spell which value.
-use Rattle.std.specs.Prelude.{◌≡◌, ℕ, ◌+◌, ◌*◌, ◌≤◌, Bool, true, false, ◌&&◌, ◌||◌, ◌==◌, not, nat_lt, List, [], ◌∷◌, ◌++◌, length, Option, Some, None, if◌then◌else◌}
+use Rattle.std.specs.Prelude.{◌≡◌, ℕ, ◌+◌, ◌*◌, ◌≤◌, Bool, true, false, ◌&&◌, ◌||◌, ◌==◌, not, nat_lt, List, []}
+use Rattle.std.specs.Prelude.{◌∷◌, ◌++◌, length, Option, Some, None, if◌then◌else◌}
 use Rattle.std.specs.Char.{IsScalar}
 use Rattle.rust_escape.specs.Chars.{begins, passes, is_hex_digit, hex_value, is_underscore, digits_of, hex_number}
 use Rattle.rust_escape.specs.Mode.{Mode, holds_bytes, holds_c}
@@ -7,7 +8,8 @@ use Rattle.rust_escape.specs.Value.{Value, Character, byte_value}
 
 -- n r t \ 0 ' " and the characters that they stand for
 unfoldable pub simple_value : ℕ → Option ℕ
-simple_value c = if c == 110 then Some 10 else (if c == 114 then Some 13 else (if c == 116 then Some 9 else (if c == 92 then Some 92
+simple_value c = if c == 110 then Some 10 else
+    (if c == 114 then Some 13 else (if c == 116 then Some 9 else (if c == 92 then Some 92
     else (if c == 48 then Some 0 else (if c == 39 then Some 39 else (if c == 34 then Some 34 else None))))))
 
 -- a C string holds no zero, in any spelling

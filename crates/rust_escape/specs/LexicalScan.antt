@@ -30,7 +30,8 @@ is_common c = (nat_le 32 c && nat_le c 126) && (not (c == 34) && not (c == 92))
 -- one character
 abbrev pub lexical_one : Mode → ℕ → List ℕ → Scanned
 lexical_one mode c cs = if is_plain Lexical mode c then Reads (Some (Character c)) cs
-    else (if c == 13 && (in_double_quotes mode && begins is_line_feed cs) then Reads (return_value mode) cs else Malformed)
+    else (if c == 13 && (in_double_quotes mode && begins is_line_feed cs) then Reads (return_value mode) cs else
+    Malformed)
 
 -- a unit
 unfoldable pub lexical_scan : Mode → List ℕ → Scanned

@@ -1,7 +1,8 @@
 -- The kinds of literals.
 use Rattle.std.specs.Prelude.{ℕ, Bool, true, false, List, [], codes, if◌then◌else◌}
 pub use Rattle.rust_escape.specs.declared.mode.Mode.{Mode}
-pub use Rattle.rust_escape.specs.declared.mode.Mode.TheVariants.{Char, Byte, Str, RawStr, ByteStr, RawByteStr, CStr, RawCStr}
+pub use Rattle.rust_escape.specs.declared.mode.Mode.TheVariants.{Char, Byte, Str, RawStr, ByteStr, RawByteStr, CStr}
+pub use Rattle.rust_escape.specs.declared.mode.Mode.TheVariants.{RawCStr}
 
 -- all but characters and bytes stand in double quotes
 abbrev pub in_double_quotes : Mode → Bool

@@ -22,13 +22,15 @@ numbered mode n cs = if may_hold_byte mode n then Reads (Some (byte_value n)) cs
 
 -- a character by its number
 abbrev pub named : Mode → ℕ → List ℕ → Scanned
-named mode n cs = if not (holds_bytes mode) && (scalar n && may_hold mode n) then Reads (Some (Character n)) cs else Malformed
+named mode n cs = if not (holds_bytes mode)
+    && (scalar n && may_hold mode n) then Reads (Some (Character n)) cs else Malformed
 
 -- behind x
 unfoldable pub byte_escape : Mode → List ℕ → Scanned
 byte_escape mode [] = Malformed
 byte_escape mode (c ∷ []) = Malformed
-byte_escape mode (c ∷ d ∷ cs) = if is_hex_digit c && is_hex_digit d then numbered mode (16 * hex_value c + hex_value d) cs else Malformed
+byte_escape mode (c ∷ d ∷ cs) = if is_hex_digit c
+    && is_hex_digit d then numbered mode (16 * hex_value c + hex_value d) cs else Malformed
 
 -- behind count digits of the number
 unfoldable pub digits : Mode → ℕ → ℕ → List ℕ → Scanned
@@ -45,7 +47,8 @@ unicode_escape mode (b ∷ c ∷ cs) = if b == 123 && is_hex_digit c then digits
 -- behind a backslash
 unfoldable pub escape : Mode → List ℕ → Scanned
 escape mode [] = Malformed
-escape mode (c ∷ cs) = if c == 120 then byte_escape mode cs else (if c == 117 then unicode_escape mode cs else simple mode (simple_value c) cs)
+escape mode (c ∷ cs) = if c == 120 then byte_escape mode cs else
+    (if c == 117 then unicode_escape mode cs else simple mode (simple_value c) cs)
 
 -- behind a backslash, with skips
 unfoldable pub slash : Mode → List ℕ → Scanned

@@ -1,5 +1,6 @@
 -- The units of a literal's inside: each is one escape or one character, and most spell a value.
-use Rattle.std.specs.Prelude.{◌≡◌, ℕ, Bool, true, false, ◌&&◌, ◌||◌, ◌==◌, not, nat_lt, List, [], ◌∷◌, ◌++◌, Option, Some, None, if◌then◌else◌, option_to_list}
+use Rattle.std.specs.Prelude.{◌≡◌, ℕ, Bool, true, false, ◌&&◌, ◌||◌, ◌==◌, not, nat_lt, List, [], ◌∷◌, ◌++◌, Option}
+use Rattle.std.specs.Prelude.{Some, None, if◌then◌else◌, option_to_list}
 use Rattle.rust_escape.specs.Chars.{is_among, begins, passes, is_line_feed, is_blank}
 use Rattle.rust_escape.specs.Escape.{IsEscape, may_hold}
 use Rattle.rust_escape.specs.Mode.{Mode, in_double_quotes, is_raw, holds_bytes}
@@ -19,11 +20,13 @@ barred_alone Strict = 92 ∷ 39 ∷ 13 ∷ 10 ∷ 9 ∷ []
 -- what doesn't stand for itself: in raw literals a carriage return,
 -- in other double quotes a backslash, the quote and a carriage return
 abbrev pub barred : Rule → Mode → List ℕ
-barred rule mode = if is_raw mode then 13 ∷ [] else (if in_double_quotes mode then 92 ∷ 34 ∷ 13 ∷ [] else barred_alone rule)
+barred rule mode = if is_raw mode then 13 ∷ [] else
+    (if in_double_quotes mode then 92 ∷ 34 ∷ 13 ∷ [] else barred_alone rule)
 
 -- the character may stand for itself: in byte literals if it is ASCII
 abbrev pub is_plain : Rule → Mode → ℕ → Bool
-is_plain rule mode c = not (is_among (barred rule mode) c) && (may_hold mode c && (nat_lt c 128 || not (holds_bytes mode)))
+is_plain rule mode c = not (is_among (barred rule mode) c)
+    && (may_hold mode c && (nat_lt c 128 || not (holds_bytes mode)))
 
 -- each carriage return stands before a line feed
 abbrev pub are_returns_paired : List ℕ → Bool
@@ -33,7 +36,8 @@ are_returns_paired (c ∷ cs) = (not (c == 13) || begins is_line_feed cs) && are
 -- a line end and all spaces, tabs and line ends that follow; a line end is a line feed,
 -- to the lexer also a carriage return and a line feed
 abbrev pub is_skipped : Rule → List ℕ → Bool
-is_skipped Lexical cs = (begins is_line_feed cs || begins (λ c. c == 13) cs) && (passes is_blank cs && are_returns_paired cs)
+is_skipped Lexical cs = (begins is_line_feed cs || begins (λ c. c == 13) cs)
+    && (passes is_blank cs && are_returns_paired cs)
 is_skipped Strict cs = begins is_line_feed cs && passes is_blank cs
 
 -- before a line feed the lexer takes a carriage return, which in a raw literal stands for itself and else for nothing
@@ -57,7 +61,8 @@ pub data IsUnit : Rule → Mode → List ℕ → List ℕ → Option Value → T
 
 -- no unit stands at the front of the text
 abbrev pub NoUnit : Rule → Mode → List ℕ → Type 0
-NoUnit rule mode text = (cs rest : List ℕ) (value : Option Value) → text ≡ cs ++ rest → IsUnit rule mode cs rest value → ⊥
+NoUnit rule mode text = (cs rest : List ℕ) (value : Option Value) → text ≡ cs ++ rest → IsUnit rule mode cs rest value
+    → ⊥
 
 -- the text is one unit that spells the value
 abbrev pub IsOnlyUnit : Mode → List ℕ → Value → Type 0

@@ -15,7 +15,8 @@ use std::ops::Range;
 // Hands each warning and what is wrong with a malformed unit to the callback.
 fn each_fault<F: FnMut(Range<usize>, EscapeError)>(text: &str, mode: Mode, mut callback: F)
     requires { F.IsAlwaysCallable callback }
-    ensures { Reports (on_faults (λ f range error g. F.step f range error tt g)) (λ v. v) mode 0 (chars text.now) callback }
+    ensures { Reports (on_faults (λ f range error g. F.step f range error tt g)) (λ v. v) mode 0 (chars text.now)
+        callback }
 {
     let mut at = 0;
     while at < text.len() {
@@ -33,7 +34,8 @@ fn each_fault<F: FnMut(Range<usize>, EscapeError)>(text: &str, mode: Mode, mut c
 fn one_fault<F: FnMut(Range<usize>, EscapeError)>(text: &str, mode: Mode, mut callback: F)
     requires callable { F.IsAlwaysCallable callback }
     requires alone { in_double_quotes mode ≡ false }
-    ensures { (last : F) × ChecksOne (λ f range error g. F.step f range error tt g) mode (chars text.now) callback last }
+    ensures { (last : F)
+        × ChecksOne (λ f range error g. F.step f range error tt g) mode (chars text.now) callback last }
 {
     let read = single(mode, text);
     match read.value {
@@ -54,8 +56,12 @@ pub fn check_for_errors<F: FnMut(Range<usize>, EscapeError)>(
     error_callback: F,
 )
     requires { F.IsAlwaysCallable error_callback }
-    ensures quoted { in_double_quotes mode ≡ true → Reports (on_faults (λ f range error g. F.step f range error tt g)) (λ v. v) mode 0 (chars src.now) error_callback }
-    ensures alone { in_double_quotes mode ≡ false → (last : F) × ChecksOne (λ f range error g. F.step f range error tt g) mode (chars src.now) error_callback last }
+    ensures quoted { in_double_quotes mode ≡ true
+        → Reports (on_faults (λ f range error g. F.step f range error tt g)) (λ v. v) mode 0 (chars src.now)
+        error_callback }
+    ensures alone { in_double_quotes mode ≡ false
+        → (last : F)
+        × ChecksOne (λ f range error g. F.step f range error tt g) mode (chars src.now) error_callback last }
 {
     if mode.in_double_quotes() {
         each_fault(src, mode, error_callback);

@@ -2,7 +2,14 @@
 
 ghost use Rattle.rust_escape.specs.Chars.{begins, is_blank, is_line_feed};
 ghost use Rattle.rust_escape.specs.Error.{is_fatal};
-ghost use Rattle.rust_escape.specs.LexicalScan.{begins_line_end, is_common, lexical_one, lexical_scan, lexical_slash, past_lines};
+ghost use Rattle.rust_escape.specs.LexicalScan.{
+  begins_line_end,
+  is_common,
+  lexical_one,
+  lexical_scan,
+  lexical_slash,
+  past_lines,
+};
 ghost use Rattle.rust_escape.specs.Mode.{in_double_quotes, is_raw};
 ghost use Rattle.rust_escape.specs.Places.{IsPlace, IsScanned, rest_at};
 ghost use Rattle.rust_escape.specs.Reads.{IsClosedAt, IsPast, ReadsUnit};
@@ -11,19 +18,18 @@ ghost use Rattle.std.specs.Prelude.{◌≡◌, ◌<◌, ◌≤◌, false, length
 
 use crate::error::EscapeError;
 use crate::mode::Mode;
-use crate::place::char_at;
 use crate::read::{Reading, escape, is_blank, is_bytes, is_c, is_raw, refused};
 use crate::value::Value;
+use text_chars::{Test, char_at, next_char, past_blocks};
 
 #[tactic(auto, using(crate::proofs::PlacesLemmas::rest_end))]
 fn begins_line_feed(text: &str, at: usize) -> bool
     requires { IsPlace text.now at }
     ensures { result ≡ begins is_line_feed (rest_at text.now at) }
 {
-    if at >= text.len() {
+    let Some((c, _)) = next_char(text, at) else {
         return false;
-    }
-    let (c, _) = char_at(text, at);
+    };
     c == '\n'
 }
 
@@ -32,10 +38,9 @@ fn begins_line_end(text: &str, at: usize) -> bool
     requires { IsPlace text.now at }
     ensures { result ≡ begins_line_end (rest_at text.now at) }
 {
-    if at >= text.len() {
+    let Some((c, _)) = next_char(text, at) else {
         return false;
-    }
-    let (c, _) = char_at(text, at);
+    };
     (c == '\n') | (c == '\r')
 }
 
@@ -93,6 +98,23 @@ fn is_common(c: char) -> bool
         return false;
     }
     (c != '"') & (c != '\\')
+}
+
+/// The characters that stand for themselves in every literal, as a test.
+pub struct Common;
+
+impl Test for Common {
+    ghost test = { is_common };
+
+    #[inline(always)]
+    fn passes(c: char) -> bool {
+        is_common(c)
+    }
+
+    #[inline(always)]
+    fn passes_byte(byte: u8) -> bool {
+        ((b' ' <= byte) & (byte <= b'~')) & ((byte != b'"') & (byte != b'\\'))
+    }
 }
 
 /// Whether a character may stand for itself in an inside, by the rule of the lexer.
@@ -195,7 +217,7 @@ pub fn inside_end(mode: Mode, text: &str, start: usize) -> Option<usize>
     requires { IsPlace text.now start }
     ensures { IsClosedAt mode text.now start result }
 {
-    let mut at = start;
+    let mut at = past_blocks::<Common>(text, start);
     while at < text.len() {
         let (c, next) = char_at(text, at);
         if c == '"' {
@@ -207,7 +229,7 @@ pub fn inside_end(mode: Mode, text: &str, start: usize) -> Option<usize>
         }
         let reading = lexical_unit(mode, text, at);
         match reading.value {
-            Ok(_) => at = reading.end,
+            Ok(_) => at = past_blocks::<Common>(text, reading.end),
             Err(_) => return None,
         }
     }

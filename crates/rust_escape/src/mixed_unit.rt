@@ -104,7 +104,8 @@ impl TryFrom<u8> for MixedUnit {
     ghost use Rattle.rust_escape.specs.Value.{byte_value, mixed_value};
 
     // A zero alone is refused.
-    ghost try_from_gives = { λ n r. MatchResult r (λ u. (0 < n) × (mixed_value u ≡ byte_value n)) (λ e. (n ≡ 0) × (e ≡ NulInCStr)) };
+    ghost try_from_gives = { λ n r. MatchResult r (λ u. (0 < n) × (mixed_value u ≡ byte_value n))
+        (λ e. (n ≡ 0) × (e ≡ NulInCStr)) };
 
     fn try_from(n: u8) -> Result<MixedUnit, EscapeError> {
         match NonZero::<u8>::new(n) {

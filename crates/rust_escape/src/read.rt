@@ -14,8 +14,8 @@ ghost use Rattle.std.specs.Prelude.{◌∷◌, ◌≡◌, ◌<◌, ◌≤◌, �
 
 use crate::error::EscapeError;
 use crate::mode::Mode;
-use crate::place::char_at;
 use crate::value::Value;
+use text_chars::{char_at, next_char};
 
 /// What stands at a place: a unit's value, if it has one, or what is wrong, and the place behind.
 #[derive(Clone, Copy, Debug)]
@@ -131,17 +131,15 @@ fn byte_escape(mode: Mode, text: &str, start: usize) -> Reading
     ensures scanned { IsScanned text.now start result (scan.byte_escape mode (rest_at text.now start)) }
     ensures over { rest_at text.now result.«end» ≡ past_byte (rest_at text.now start) }
 {
-    if start >= text.len() {
+    let Some((c, next)) = next_char(text, start) else {
         return refused(EscapeError::TooShortHexEscape, start);
-    }
-    let (c, next) = char_at(text, start);
+    };
     let Some(high) = hex_value(c) else {
         return refused(EscapeError::InvalidCharInHexEscape, next);
     };
-    if next >= text.len() {
+    let Some((d, end)) = next_char(text, next) else {
         return refused(EscapeError::TooShortHexEscape, next);
-    }
-    let (d, end) = char_at(text, next);
+    };
     let Some(low) = hex_value(d) else {
         return refused(EscapeError::InvalidCharInHexEscape, end);
     };
@@ -213,17 +211,15 @@ fn unicode_escape(mode: Mode, text: &str, start: usize) -> Reading
     ensures scanned { IsScanned text.now start result (scan.unicode_escape mode (rest_at text.now start)) }
     ensures over { rest_at text.now result.«end» ≡ past_unicode (rest_at text.now start) }
 {
-    if start >= text.len() {
+    let Some((brace, first)) = next_char(text, start) else {
         return refused(EscapeError::NoBraceInUnicodeEscape, start);
-    }
-    let (brace, first) = char_at(text, start);
+    };
     if brace != '{' {
         return refused(EscapeError::NoBraceInUnicodeEscape, first);
     }
-    if first >= text.len() {
+    let Some((c, next)) = next_char(text, first) else {
         return refused(EscapeError::UnclosedUnicodeEscape, first);
-    }
-    let (c, next) = char_at(text, first);
+    };
     if hex_value(c).is_some() {
         return digits(mode, text, first);
     }
@@ -241,10 +237,9 @@ pub(crate) fn escape(mode: Mode, text: &str, start: usize) -> Reading
     ensures scanned { IsScanned text.now start result (scan.escape mode (rest_at text.now start)) }
     ensures over { rest_at text.now result.«end» ≡ past_escape (rest_at text.now start) }
 {
-    if start >= text.len() {
+    let Some((c, next)) = next_char(text, start) else {
         return refused(EscapeError::LoneSlash, start);
-    }
-    let (c, next) = char_at(text, start);
+    };
     match c {
         'x' => byte_escape(mode, text, next),
         'u' => unicode_escape(mode, text, next),
@@ -287,8 +282,7 @@ fn slash(mode: Mode, text: &str, start: usize) -> Reading
     ensures scanned { IsScanned text.now start result (scan.slash mode (rest_at text.now start)) }
     ensures over { IfErr result.value (λ error. rest_at text.now result.«end» ≡ past_escape (rest_at text.now start)) }
 {
-    if start < text.len() {
-        let (c, next) = char_at(text, start);
+    if let Some((c, next)) = next_char(text, start) {
         if (c == '\n') & mode.in_double_quotes() {
             return Reading {
                 value: Ok(None),
@@ -301,7 +295,8 @@ fn slash(mode: Mode, text: &str, start: usize) -> Reading
 
 // What is wrong with a character that doesn't stand for itself.
 fn barred(mode: Mode, c: char) -> Option<EscapeError>
-    ensures { MatchOption result (is_among (barred Strict mode) c ≡ false) (λ e. (is_among (barred Strict mode) c ≡ true) × (is_fatal e ≡ true)) }
+    ensures { MatchOption result (is_among (barred Strict mode) c ≡ false)
+        (λ e. (is_among (barred Strict mode) c ≡ true) × (is_fatal e ≡ true)) }
 {
     match mode {
         Mode::RawStr | Mode::RawByteStr | Mode::RawCStr => match c {
@@ -344,7 +339,8 @@ pub(crate) fn scanned_unit(mode: Mode, text: &str, start: usize) -> Reading
     requires place { IsPlace text.now start }
     requires more { start < length text.now }
     ensures scanned { IsScanned text.now start result (scan.scan mode (rest_at text.now start)) }
-    ensures over { IfErr result.value (λ error. rest_at text.now result.«end» ≡ past_wrong mode (rest_at text.now start)) }
+    ensures over { IfErr result.value
+        (λ error. rest_at text.now result.«end» ≡ past_wrong mode (rest_at text.now start)) }
     ensures behind { start < result.«end» }
 {
     let (c, next) = char_at(text, start);

@@ -11,10 +11,10 @@ ghost use Rattle.std.specs.Str.{chars};
 
 use crate::error::EscapeError;
 use crate::mode::Mode;
-use crate::place::char_at;
 use crate::read::scanned_unit;
 use crate::unit::Unit;
 use crate::value::Value;
+use text_chars::char_at;
 
 /// What an inside that should be one unit holds, or what is wrong, and how much was read.
 #[derive(Clone, Copy, Debug)]
@@ -32,7 +32,8 @@ pub(crate) fn single(mode: Mode, src: &str) -> SingleReading
     ensures malformed { IfErr result.value (λ e. (v : Value) → IsOnlyUnit mode (chars src.now) v → ⊥) }
     ensures fatal { IfErr result.value (λ e. is_fatal e ≡ true) }
     ensures empty { src.now ≡ [] → result.value ≡ Err ZeroChars }
-    ensures more { (cs rest : List ℕ) (v : Value) → chars src.now ≡ cs ++ rest → IsUnit Strict mode cs rest (Some v) → 0 < length rest → result.value ≡ Err MoreThanOneChar }
+    ensures more { (cs rest : List ℕ) (v : Value) → chars src.now ≡ cs ++ rest → IsUnit Strict mode cs rest (Some v)
+        → 0 < length rest → result.value ≡ Err MoreThanOneChar }
     ensures end { result.«end» ≤ length src.now }
 {
     if src.is_empty() {
@@ -82,7 +83,8 @@ pub fn unescape_char(src: &str) -> Result<char, EscapeError>
     ensures malformed { IfErr result (λ e. (v : Value) → IsOnlyUnit Char (chars src.now) v → ⊥) }
     ensures fatal { IfErr result (λ e. is_fatal e ≡ true) }
     ensures empty { src.now ≡ [] → result ≡ Err ZeroChars }
-    ensures more { (cs rest : List ℕ) (v : Value) → chars src.now ≡ cs ++ rest → IsUnit Strict Char cs rest (Some v) → 0 < length rest → result ≡ Err MoreThanOneChar }
+    ensures more { (cs rest : List ℕ) (v : Value) → chars src.now ≡ cs ++ rest → IsUnit Strict Char cs rest (Some v)
+        → 0 < length rest → result ≡ Err MoreThanOneChar }
 {
     let read = single(Mode::Char, src);
     match read.value {
@@ -101,7 +103,8 @@ pub fn unescape_byte(src: &str) -> Result<u8, EscapeError>
     ensures malformed { IfErr result (λ e. (v : Value) → IsOnlyUnit Byte (chars src.now) v → ⊥) }
     ensures fatal { IfErr result (λ e. is_fatal e ≡ true) }
     ensures empty { src.now ≡ [] → result ≡ Err ZeroChars }
-    ensures more { (cs rest : List ℕ) (v : Value) → chars src.now ≡ cs ++ rest → IsUnit Strict Byte cs rest (Some v) → 0 < length rest → result ≡ Err MoreThanOneChar }
+    ensures more { (cs rest : List ℕ) (v : Value) → chars src.now ≡ cs ++ rest → IsUnit Strict Byte cs rest (Some v)
+        → 0 < length rest → result ≡ Err MoreThanOneChar }
 {
     let read = single(Mode::Byte, src);
     match read.value {

@@ -3,7 +3,7 @@
 ghost use Rattle.rust_escape.specs.Calls.{Reports, TakesUnits, lines_warning, warnings, white_warning};
 ghost use Rattle.rust_escape.specs.Chars.{is_line_feed, is_white};
 ghost use Rattle.rust_escape.specs.Mode.{ByteStr, CStr, RawByteStr, RawCStr, RawStr, Str};
-ghost use Rattle.rust_escape.specs.Places.{IsPlace, between, rest_at};
+ghost use Rattle.rust_escape.specs.Places.{IsPlace, between_places, rest_at};
 ghost use Rattle.rust_escape.specs.Value.{Character, byte_value, mixed_value};
 ghost use Rattle.std.specs.List.{FoldsTo};
 ghost use Rattle.std.specs.Prelude.{◌≡◌, ◌<◌, ◌≤◌, [], Err, count_by, nat_lt, length};
@@ -12,10 +12,10 @@ ghost use Rattle.std.specs.Str.{chars};
 use crate::error::EscapeError;
 use crate::mixed_unit::{MixedUnit, NonZeroChar};
 use crate::mode::Mode;
-use crate::place::char_at;
 use crate::read::scanned_unit;
 use crate::unit::Unit;
 use std::ops::Range;
+use text_chars::char_at;
 
 // The number of line feeds.
 fn line_feeds(part: &str) -> usize
@@ -36,7 +36,7 @@ fn part(text: &str, start: usize, end: usize) -> &str
     requires start { IsPlace text.now start }
     requires end { IsPlace text.now end }
     requires order { start ≤ end }
-    ensures { chars result.now ≡ between text.now start end }
+    ensures { chars result.now ≡ between_places text.now start end }
 {
     &text[start..end]
 }
@@ -79,7 +79,8 @@ fn warn_of_lines<R: Told, F: FnMut(Range<usize>, R)>(
     requires end { IsPlace text.now end }
     requires order { start ≤ end }
     ensures callable { F.IsAlwaysCallable callback.new }
-    ensures told { FoldsTo (λ f call g. F.step f call.range (R.told call.error) tt g) callback.old (lines_warning start end (between text.now start end)) callback.new }
+    ensures told { FoldsTo (λ f call g. F.step f call.range (R.told call.error) tt g) callback.old
+        (lines_warning start end (between_places text.now start end)) callback.new }
 {
     if line_feeds(part(text, start, end)) > 1 {
         callback(
@@ -100,7 +101,8 @@ fn warn_of_white<R: Told, F: FnMut(Range<usize>, R)>(
     requires callable { F.IsAlwaysCallable callback.old }
     requires end { IsPlace text.now end }
     ensures callable { F.IsAlwaysCallable callback.new }
-    ensures told { FoldsTo (λ f call g. F.step f call.range (R.told call.error) tt g) callback.old (white_warning start end (rest_at text.now end)) callback.new }
+    ensures told { FoldsTo (λ f call g. F.step f call.range (R.told call.error) tt g) callback.old
+        (white_warning start end (rest_at text.now end)) callback.new }
 {
     if end < text.len() {
         let (c, next) = char_at(text, end);
@@ -126,7 +128,8 @@ pub(crate) fn warn<R: Told, F: FnMut(Range<usize>, R)>(
     requires end { IsPlace text.now end }
     requires order { start ≤ end }
     ensures callable { F.IsAlwaysCallable callback.new }
-    ensures told { FoldsTo (λ f call g. F.step f call.range (R.told call.error) tt g) callback.old (warnings start end (between text.now start end) (rest_at text.now end)) callback.new }
+    ensures told { FoldsTo (λ f call g. F.step f call.range (R.told call.error) tt g) callback.old
+        (warnings start end (between_places text.now start end) (rest_at text.now end)) callback.new }
 {
     warn_of_lines::<R, F>(text, start, end, callback);
     warn_of_white::<R, F>(text, start, end, callback);

@@ -9,7 +9,8 @@ use Rattle.rust_leaf.specs.Parse.{IsLiteralText, IsNegative, is_number_kind}
 use Rattle.rust_lex.specs.Piece.{IsLiteral}
 use Rattle.rust_lex.specs.Scan.{Scanned, Nowhere, Ends, scan}
 use Rattle.rust_lex.specs.declared.piece.LiteralKind.{LiteralKind}
-use Rattle.rust_lex.specs.declared.piece.PieceKind.TheVariants.{FrontMark, White, Comment, Doc, Open, Close, Mark, Ident, Literal}
+use Rattle.rust_lex.specs.declared.piece.PieceKind.TheVariants.{FrontMark, White, Comment, Doc, Open, Close, Mark}
+use Rattle.rust_lex.specs.declared.piece.PieceKind.TheVariants.{Ident, Literal}
 use Rattle.rust_lex.proofs.Complete.{complete}
 use Rattle.rust_lex.proofs.Sound.{sound}
 
@@ -25,7 +26,9 @@ found kind cs e =
 
 -- a text is a literal of one kind, or is none
 abbrev Known : List ℕ → Type 0
-Known cs = ((kind : LiteralKind) × IsLiteral kind cs [] × ((other : LiteralKind) → IsLiteral other cs [] → other ≡ kind)) ⊎ ((kind : LiteralKind) → IsLiteral kind cs [] → ⊥)
+Known cs = ((kind : LiteralKind) × IsLiteral kind cs []
+    × ((other : LiteralKind) → IsLiteral other cs [] → other ≡ kind))
+    ⊎ ((kind : LiteralKind) → IsLiteral kind cs [] → ⊥)
 
 known : (cs : List ℕ) → Known cs
 known cs = by (scan cs) refl
@@ -50,16 +53,23 @@ negative_or_not : (cs : List ℕ) → IsNegative cs ⊎ (IsNegative cs → ⊥)
 negative_or_not [] = inr (λ (k, number, e, l, n). cc)
 negative_or_not (c ∷ cs) =
     ⊎_elim
-    (λ m. ⊎_elim (λ (k, l, only). by_kind m k l only (is_number_kind k) refl) (λ no. inr (λ (k, number, e, l, n). no k (rest number k e l))) (known cs))
-    (λ m. inr (λ (k, number, e, l, n). (let same : c ≡ minus = cc in let yes : (c == minus) ≡ true = ap (λ d. d == minus) same in cc)))
+    (λ m. ⊎_elim (λ (k, l, only). by_kind m k l only (is_number_kind k) refl)
+    (λ no. inr (λ (k, number, e, l, n). no k (rest number k e l))) (known cs))
+    (λ m. inr (λ (k, number, e, l, n).
+    (let same : c ≡ minus = cc in let yes : (c == minus) ≡ true = ap (λ d. d == minus) same in cc)))
     (cases_Bool (c == minus))
   where
     rest : (number : List ℕ) (k : LiteralKind) → c ∷ cs ≡ minus ∷ number → IsLiteral k number [] → IsLiteral k cs []
     rest number k e l = let same : number ≡ cs = cc in subst (λ ds. IsLiteral k ds []) same l
 
-    by_kind : (c == minus) ≡ true → (k : LiteralKind) → IsLiteral k cs [] → ((other : LiteralKind) → IsLiteral other cs [] → other ≡ k) → (b : Bool) → is_number_kind k ≡ b → IsNegative (c ∷ cs) ⊎ (IsNegative (c ∷ cs) → ⊥)
+    by_kind : (c == minus) ≡ true → (k : LiteralKind) → IsLiteral k cs []
+        → ((other : LiteralKind) → IsLiteral other cs [] → other ≡ k) → (b : Bool) → is_number_kind k ≡ b
+        → IsNegative (c ∷ cs) ⊎ (IsNegative (c ∷ cs) → ⊥)
     by_kind m k l only true n = inl (k, cs, ap (λ d. d ∷ cs) (eqb-true c minus m), l, n)
-    by_kind m k l only false n = inr (λ (other, number, e, o, t). (let same : other ≡ k = only other (rest number other e o) in let f : is_number_kind other ≡ false = ap is_number_kind same ∙ n in cc))
+    by_kind m k l only false n =
+        inr (λ (other, number, e, o, t).
+        (let same : other ≡ k = only other (rest number other e o) in let f : is_number_kind other
+        ≡ false = ap is_number_kind same ∙ n in cc))
 
 literal_or_not : (cs : List ℕ) → IsLiteralText cs ⊎ (IsLiteralText cs → ⊥)
 literal_or_not cs =

@@ -1,15 +1,18 @@
 -- Numbers in hexadecimal digits.
-use Rattle.std.proofs.Common.{◌≡◌, ℕ, zero, suc, ◌+◌, ◌<◌, ◌≤◌, ◌^◌, arith, List, [], ◌∷◌, length, refl, ap, ◌∙◌, subst, lit≤, ⊎_elim}
+use Rattle.std.proofs.Common.{◌≡◌, ℕ, zero, suc, ◌+◌, ◌<◌, ◌≤◌, ◌^◌, arith, List, [], ◌∷◌, length, refl, ap, ◌∙◌}
+use Rattle.std.proofs.Common.{subst, lit≤, ⊎_elim}
 use Rattle.std.specs.Prelude.{true, false, ◌==◌, ◌*◌, ◌/◌, ◌%◌, nat_lt}
 use Rattle.std.specs.Char.{digit_value}
 use Rattle.std.specs.Fmt.{digits, digits_onto, digit_glyph}
 use Rattle.std.specs.Str.Parse.{AllDigits, IsNumeral, digits_value_after}
 use Rattle.std.proofs.Math.Nat.{mod-lt, pow-suc}
 use Rattle.std.proofs.lemmas.Nat.{div-add-mod'}
-use Rattle.std.proofs.lemmas.Bool.{cases_Bool, eqb-false, ne_eqb, lt-ltb, le-ltb, ltb-true, ltb-false, and_from, or_right}
+use Rattle.std.proofs.lemmas.Bool.{cases_Bool, eqb-false, ne_eqb, lt-ltb, le-ltb, ltb-true, ltb-false, and_from}
+use Rattle.std.proofs.lemmas.Bool.{or_right}
 use Rattle.std.proofs.lemmas.Fmt.{digits_is_IsNumeral}
 use Rattle.std.proofs.lemmas.Str.{digit_value-digit_char}
-use Rattle.rust_escape.specs.Chars.{begins, passes, is_hex_digit, hex_value, is_underscore, digits_of, number_from, hex_number}
+use Rattle.rust_escape.specs.Chars.{begins, passes, is_hex_digit, hex_value, is_underscore, digits_of, number_from}
+use Rattle.rust_escape.specs.Chars.{hex_number}
 use Rattle.rust_escape.specs.Escape.{is_hex_part}
 
 hex_digit : (c : ℕ) → digit_value c < 16 → is_hex_digit c ≡ true
@@ -52,7 +55,9 @@ few (suc k) j n acc h =
     (cases_Bool (n / 16 == 0))
   where
     fewer : (j : ℕ) → n < 16 ^ suc j → (n / 16 ≡ 0 → ⊥)
-        → ((i : ℕ) → n / 16 < 16 ^ suc i → length (digits_onto k 16 false (n / 16) (digit_glyph false (n % 16) ∷ acc)) ≤ suc i + length (digit_glyph false (n % 16) ∷ acc))
+        → ((i : ℕ) → n / 16 < 16 ^ suc i
+        → length (digits_onto k 16 false (n / 16) (digit_glyph false (n % 16) ∷ acc)) ≤ suc i + length
+        (digit_glyph false (n % 16) ∷ acc))
         → length (digits_onto k 16 false (n / 16) (digit_glyph false (n % 16) ∷ acc)) ≤ suc j + length acc
     fewer zero h z on = absurd (z (let q = div-add-mod' n 16 in omega arith))
     fewer (suc i) h z on =
@@ -76,7 +81,13 @@ pub is_hex : (n : ℕ) → n < 1114112 → IsHex n (digits 16 false n)
 is_hex n l =
     let ds = digits 16 false n in
     let (numeral, value) = digits_is_IsNumeral 16 false (lit≤ tt) (lit≤ tt) n (omega arith) in
-    record { first = first_digit ds numeral; parts = all_parts ds numeral.1; digits = all_digits ds numeral.1; few = few_digits n l; number = same_number 0 ds ∙ value }
+    record {
+      first = first_digit ds numeral;
+      parts = all_parts ds numeral.1;
+      digits = all_digits ds numeral.1;
+      few = few_digits n l;
+      number = same_number 0 ds ∙ value;
+    }
 
 -- the two digits of a byte
 low_glyph : (d : ℕ) → d < 10 → digit_glyph true d ≡ digit_glyph false d
@@ -86,7 +97,12 @@ high_glyph : (d : ℕ) → 10 ≤ d → digit_glyph true d ≡ 55 + d
 high_glyph d h = rw (le-ltb d 10 h) refl
 
 high_value : (d : ℕ) → 10 ≤ d → d < 16 → digit_value (55 + d) ≡ d
-high_value d h k = rw (le-ltb (55 + d) 48 (omega arith), le-ltb (55 + d) 58 (omega arith), le-ltb (55 + d) 65 (omega arith), lt-ltb (55 + d) 91 (omega arith)) (omega arith)
+high_value d h k = rw (
+  le-ltb (55 + d) 48 (omega arith),
+  le-ltb (55 + d) 58 (omega arith),
+  le-ltb (55 + d) 65 (omega arith),
+  lt-ltb (55 + d) 91 (omega arith),
+) (omega arith)
 
 glyph_value : (d : ℕ) → d < 16 → digit_value (digit_glyph true d) ≡ d
 glyph_value d h =
@@ -108,4 +124,8 @@ are_both b l =
     let high : b / 16 < 16 = omega arith in
     let x = glyph_value (b / 16) high in
     let y = glyph_value (b % 16) low in
-    record { first = hex_digit (digit_glyph true (b / 16)) (omega arith); second = hex_digit (digit_glyph true (b % 16)) (omega arith); number = omega arith }
+    record {
+      first = hex_digit (digit_glyph true (b / 16)) (omega arith);
+      second = hex_digit (digit_glyph true (b % 16)) (omega arith);
+      number = omega arith;
+    }

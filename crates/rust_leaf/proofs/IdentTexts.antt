@@ -54,9 +54,12 @@ no_quotes : (cs : List ℕ) → passes is_next cs ≡ true → begins is_quote_o
 no_quotes [] h = refl
 no_quotes (c ∷ cs) h = let (a, _) = and_parts (is_next c) (passes is_next cs) h in no_quote c a
 
-no_opener : (c d : ℕ) (cs : List ℕ) → is_quote_or_hash d ≡ false → (d == 34) ≡ false → (d == 39) ≡ false → begins is_quote_or_hash cs ≡ false → is_prefixed (c ∷ d ∷ cs) ≡ false
+no_opener : (c d : ℕ) (cs : List ℕ) → is_quote_or_hash d ≡ false → (d == 34) ≡ false → (d == 39) ≡ false
+    → begins is_quote_or_hash cs ≡ false → is_prefixed (c ∷ d ∷ cs) ≡ false
 unfolding opener_of
-no_opener c d cs a b e f = rw (a, b, e, f) (rw (and_right (d == 114) false refl) (rw (and_right (c == 114) false refl, and_right (c == 98) false refl, and_right (c == 99) false refl) refl))
+no_opener c d cs a b e f =
+    rw (a, b, e, f) (rw (and_right (d == 114) false refl)
+    (rw (and_right (c == 114) false refl, and_right (c == 98) false refl, and_right (c == 99) false refl) refl))
 
 no_prefix : (cs : List ℕ) → IsWord cs → is_prefixed cs ≡ false
 unfolding opener_of
@@ -64,14 +67,16 @@ no_prefix [] w = elim w [ ]
 no_prefix (c ∷ []) w = refl
 no_prefix (c ∷ d ∷ cs) w =
     let (a, b) = and_parts (is_next d) (passes is_next cs) w.1 in
-    no_opener c d cs (no_quote d a) (not_char is_next d 34 quote-next a) (not_char is_next d 39 tick-next a) (no_quotes cs b)
+    no_opener c d cs (no_quote d a) (not_char is_next d 34 quote-next a) (not_char is_next d 39 tick-next a)
+    (no_quotes cs b)
 
 -- the words that are never raw
 word_same : (w cs : List ℕ) → passes is_next cs ≡ true → begins_word w cs ≡ bytes_eq cs w
 word_same [] [] h = refl
 word_same [] (c ∷ cs) h = let (a, _) = and_parts (is_next c) (passes is_next cs) h in ap not a
 word_same (d ∷ w) [] h = refl
-word_same (d ∷ w) (c ∷ cs) h = let (_, b) = and_parts (is_next c) (passes is_next cs) h in ap (λ r. c == d && r) (word_same w cs b)
+word_same (d ∷ w) (c ∷ cs) h = let (_, b) =
+    and_parts (is_next c) (passes is_next cs) h in ap (λ r. c == d && r) (word_same w cs b)
 
 or_false : (b : Bool) → (b || false) ≡ b
 or_false true = refl
@@ -85,7 +90,9 @@ kept_same cs h = rw (
   word_same (115 ∷ 101 ∷ 108 ∷ 102 ∷ []) cs h,
   word_same (83 ∷ 101 ∷ 108 ∷ 102 ∷ []) cs h,
   word_same (99 ∷ 114 ∷ 97 ∷ 116 ∷ 101 ∷ []) cs h,
-) (sym (five (bytes_eq cs (95 ∷ [])) (bytes_eq cs (115 ∷ 117 ∷ 112 ∷ 101 ∷ 114 ∷ [])) (bytes_eq cs (115 ∷ 101 ∷ 108 ∷ 102 ∷ [])) (bytes_eq cs (83 ∷ 101 ∷ 108 ∷ 102 ∷ [])) (bytes_eq cs (99 ∷ 114 ∷ 97 ∷ 116 ∷ 101 ∷ []))))
+) (sym (five (bytes_eq cs (95 ∷ [])) (bytes_eq cs (115 ∷ 117 ∷ 112 ∷ 101 ∷ 114 ∷ []))
+    (bytes_eq cs (115 ∷ 101 ∷ 108 ∷ 102 ∷ [])) (bytes_eq cs (83 ∷ 101 ∷ 108 ∷ 102 ∷ []))
+    (bytes_eq cs (99 ∷ 114 ∷ 97 ∷ 116 ∷ 101 ∷ []))))
   where
     five : (a b c d e : Bool) → (a || (b || (c || (d || (e || false))))) ≡ (a || (b || (c || (d || e))))
     five a b c d e = ap (λ r. a || (b || (c || (d || r)))) (or_false e)
@@ -104,10 +111,16 @@ raw_is (c ∷ d ∷ cs) h =
 
 raw_text : (cs : List ℕ) → IsRawWord cs [] → is_raw_identifier cs ≡ true
 raw_text cs (name, e, w, k) =
-    ap is_raw_identifier e ∙ and_from (is_identifier name) (not (is_reserved name)) (identifier_is name w) (ap not (sym (kept_same name (word_next name w)) ∙ sym (ap begins_kept (append-nil name)) ∙ k))
+    ap is_raw_identifier e ∙ and_from (is_identifier name) (not (is_reserved name)) (identifier_is name w)
+    (ap not (sym (kept_same name (word_next name w)) ∙ sym (ap begins_kept (append-nil name)) ∙ k))
 
 pub ident_text_is : (cs : List ℕ) → is_ident_text cs ≡ true ↔ IsIdent cs []
 ident_text_is cs = (
-  λ h. (refl, ⊎_elim (λ i. let w = word_is cs i in inl (w, ap is_prefixed (append-nil cs) ∙ no_prefix cs w)) (λ r. inr (raw_is cs r)) (or_cases (is_identifier cs) (is_raw_identifier cs) h)),
-  λ h. ⊎_elim (λ w. or_left (is_identifier cs) (is_raw_identifier cs) (identifier_is cs w.0)) (λ r. or_right (is_identifier cs) (is_raw_identifier cs) (raw_text cs r)) h.1,
+  λ h. (
+    refl,
+    ⊎_elim (λ i. let w = word_is cs i in inl (w, ap is_prefixed (append-nil cs) ∙ no_prefix cs w))
+        (λ r. inr (raw_is cs r)) (or_cases (is_identifier cs) (is_raw_identifier cs) h),
+  ),
+  λ h. ⊎_elim (λ w. or_left (is_identifier cs) (is_raw_identifier cs) (identifier_is cs w.0))
+      (λ r. or_right (is_identifier cs) (is_raw_identifier cs) (raw_text cs r)) h.1,
 )

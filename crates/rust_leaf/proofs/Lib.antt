@@ -10,6 +10,7 @@ pub mod Parts
 pub mod Quotes
 pub mod Spellings
 pub mod Values
+pub mod SingleValues
 pub mod Hex
 pub mod Written
 pub mod WrittenValues

@@ -1,5 +1,6 @@
 -- Numbers in decimal, and their suffixes.
-use Rattle.std.proofs.Common.{◌≡◌, ℕ, ◌<◌, ◌^◌, List, [], ◌++◌, codes, refl, sym, subst, ◌∙◌, ap, arith, IsTrue, pos, negsuc, ℤ, suc}
+use Rattle.std.proofs.Common.{◌≡◌, ℕ, ◌<◌, ◌^◌, List, [], ◌++◌, codes, refl, sym, subst, ◌∙◌, ap, arith, IsTrue}
+use Rattle.std.proofs.Common.{pos, negsuc, ℤ, suc}
 use lib.Signed.{mag}
 use Rattle.std.specs.Char.{is_ascii}
 use Rattle.std.specs.Fmt.{decimal, signed_decimal}
@@ -17,18 +18,22 @@ use Rattle.rust_leaf.specs.Leaf.{text_of}
 use Rattle.rust_leaf.proofs.Pushed.{ascii_pushed}
 use Rattle.rust_leaf.proofs.Texts.{ascii_word}
 
-pub decimal_pushed : {A : Type 0} (old new : String A) (n : ℕ) → n < 2 ^ 128 → string_bytes new ≡ string_bytes old ++ decimal n → text_of new ≡ text_of old ++ decimal n
+pub decimal_pushed : {A : Type 0} (old new : String A) (n : ℕ) → n < 2 ^ 128
+    → string_bytes new ≡ string_bytes old ++ decimal n → text_of new ≡ text_of old ++ decimal n
 decimal_pushed old new n h e = ascii_pushed old new (decimal n) (IsAscii-decimal_wide n (omega arith)) e
 
 ascii_signed : (z : ℤ) → mag z < 2 ^ 127 → IsAscii (signed_decimal z)
 ascii_signed (pos n) h = IsAscii-decimal_wide n (omega arith)
 ascii_signed (negsuc n) h = IsAscii-cons 45 (decimal (suc n)) (omega arith) (IsAscii-decimal_wide (suc n) (omega arith))
 
-pub signed_pushed : {A : Type 0} (old new : String A) (z : ℤ) → mag z < 2 ^ 127 → string_bytes new ≡ string_bytes old ++ signed_decimal z → text_of new ≡ text_of old ++ signed_decimal z
+pub signed_pushed : {A : Type 0} (old new : String A) (z : ℤ) → mag z < 2 ^ 127
+    → string_bytes new ≡ string_bytes old ++ signed_decimal z → text_of new ≡ text_of old ++ signed_decimal z
 signed_pushed old new z h e = ascii_pushed old new (signed_decimal z) (ascii_signed z h) e
 
 -- a number's literal is put together
-pub number_literal : {A : Type 0} (begun numbered whole : String A) (number suffix : List ℕ) → string_bytes begun ≡ [] → text_of numbered ≡ text_of begun ++ number → text_of whole ≡ text_of numbered ++ suffix → text_of whole ≡ number ++ suffix
+pub number_literal : {A : Type 0} (begun numbered whole : String A) (number suffix : List ℕ) → string_bytes begun ≡ []
+    → text_of numbered ≡ text_of begun ++ number → text_of whole ≡ text_of numbered ++ suffix
+    → text_of whole ≡ number ++ suffix
 number_literal begun numbered whole number suffix b n w =
     w ∙ ap (λ x. x ++ suffix) (n ∙ ap (λ x. x ++ number) (ap chars b ∙ chars-nil))
 
@@ -129,4 +134,31 @@ pub isize_stands : IsIntegerSuffix (chars (codes "isize"))
 unfolding is_next unicode_ident
 isize_stands = may_stand (codes "isize") isize_suffix (refl, refl)
 
-pub ruleset suffixes = (no_suffix, u8_suffix, u16_suffix, u32_suffix, u64_suffix, u128_suffix, usize_suffix, i8_suffix, i16_suffix, i32_suffix, i64_suffix, i128_suffix, isize_suffix, no_suffix_stands, u8_stands, u16_stands, u32_stands, u64_stands, u128_stands, usize_stands, i8_stands, i16_stands, i32_stands, i64_stands, i128_stands, isize_stands)
+pub ruleset suffixes = (
+  no_suffix,
+  u8_suffix,
+  u16_suffix,
+  u32_suffix,
+  u64_suffix,
+  u128_suffix,
+  usize_suffix,
+  i8_suffix,
+  i16_suffix,
+  i32_suffix,
+  i64_suffix,
+  i128_suffix,
+  isize_suffix,
+  no_suffix_stands,
+  u8_stands,
+  u16_stands,
+  u32_stands,
+  u64_stands,
+  u128_stands,
+  usize_stands,
+  i8_stands,
+  i16_stands,
+  i32_stands,
+  i64_stands,
+  i128_stands,
+  isize_stands,
+)

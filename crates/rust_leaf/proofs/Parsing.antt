@@ -1,17 +1,19 @@
 -- The one literal that a text is.
-use Rattle.std.proofs.Common.{◌≡◌, ℕ, arith, List, [], ◌∷◌, ◌++◌, refl, sym, ap, ◌∙◌, subst, inl, inr, ⊎_elim, length, drop}
+use Rattle.std.proofs.Common.{◌≡◌, ℕ, arith, List, [], ◌∷◌, ◌++◌, refl, sym, ap, ◌∙◌, subst, inl, inr, ⊎_elim}
+use Rattle.std.proofs.Common.{length, drop}
 use Rattle.std.specs.Prelude.{Bool, true, false, ◌↔◌, IsTrue, Option, Some, None, is_some, encode_utf8_all}
 use Rattle.std.specs.Str.{chars, IsUtf8}
 use Rattle.std.proofs.lemmas.List.{append-nil, length-drop}
 use Rattle.std.proofs.lemmas.Str.{encodes-chars}
 use Rattle.rust_lex.specs.Cover.{NoPieceAt}
 use Rattle.rust_lex.specs.Piece.{Piece, FitsAt, IsLiteral}
-use Rattle.rust_lex.specs.Places.{rest_at, between, IsPlace, IsBehind}
+use Rattle.rust_lex.specs.Places.{rest_at, between_places, IsPlace, IsBehind}
 use Rattle.rust_leaf.specs.Minus.{minus}
 use Rattle.rust_leaf.specs.Parse.{IsNegative, IsLiteralText, is_number_kind, literal_of}
 use Rattle.rust_lex.specs.declared.piece.LiteralKind.{LiteralKind}
 use Rattle.rust_lex.specs.declared.piece.PieceKind.{PieceKind}
-use Rattle.rust_lex.specs.declared.piece.PieceKind.TheVariants.{FrontMark, White, Comment, Doc, Open, Close, Mark, Ident, Literal}
+use Rattle.rust_lex.specs.declared.piece.PieceKind.TheVariants.{FrontMark, White, Comment, Doc, Open, Close, Mark}
+use Rattle.rust_lex.specs.declared.piece.PieceKind.TheVariants.{Ident, Literal}
 use Rattle.rust_lex.proofs.OneCover.{one_piece}
 use Rattle.rust_lex.proofs.Pieces.{between_joined}
 use Rattle.rust_lex.proofs.PlacesLemmas.{first_place, rest_end}
@@ -28,29 +30,43 @@ at_end bytes end p e =
     omega (arith, length-drop end bytes)
 
 -- the piece at a text's front and what follows it
-joined : (bytes : List ℕ) (end : ℕ) → IsUtf8 bytes → IsBehind bytes 0 end → chars bytes ≡ between bytes 0 end ++ rest_at bytes end
+joined : (bytes : List ℕ) (end : ℕ) → IsUtf8 bytes → IsBehind bytes 0 end
+    → chars bytes ≡ between_places bytes 0 end ++ rest_at bytes end
 joined bytes end u b = between_joined bytes 0 end (first_place bytes u) b
 
 -- where the text is one literal, it is the piece that stands at the front
-only : (bytes : List ℕ) (k : PieceKind) (end : ℕ) (kind : LiteralKind) → IsUtf8 bytes → FitsAt 0 k (between bytes 0 end) (rest_at bytes end) → IsBehind bytes 0 end → IsLiteral kind (chars bytes) [] → (k ≡ Literal kind) × (end ≡ length bytes)
+only : (bytes : List ℕ) (k : PieceKind) (end : ℕ) (kind : LiteralKind) → IsUtf8 bytes
+    → FitsAt 0 k (between_places bytes 0 end) (rest_at bytes end) → IsBehind bytes 0 end
+    → IsLiteral kind (chars bytes) []
+    → (k ≡ Literal kind) × (end ≡ length bytes)
 only bytes k end kind u f b l =
     let both = sym (joined bytes end u b) ∙ sym (append-nil (chars bytes)) in
-    let (same, rests) = one_piece 0 (piece k (between bytes 0 end)) (piece (Literal kind) (chars bytes)) (rest_at bytes end) [] f l both in
+    let (same, rests) = one_piece 0 (piece k (between_places bytes 0 end)) (piece (Literal kind) (chars bytes))
+    (rest_at bytes end) [] f l both in
     (ap (λ p. p.kind) same, at_end bytes end b.place rests)
 
 -- a literal that ends where the text does is the text
-whole : (bytes : List ℕ) (kind : LiteralKind) (end : ℕ) → IsUtf8 bytes → FitsAt 0 (Literal kind) (between bytes 0 end) (rest_at bytes end) → IsBehind bytes 0 end → end ≡ length bytes → IsLiteral kind (chars bytes) []
+whole : (bytes : List ℕ) (kind : LiteralKind) (end : ℕ) → IsUtf8 bytes
+    → FitsAt 0 (Literal kind) (between_places bytes 0 end) (rest_at bytes end) → IsBehind bytes 0 end
+    → end ≡ length bytes
+    → IsLiteral kind (chars bytes) []
 whole bytes kind end u f b e =
     let rest : rest_at bytes end ≡ [] = rest_end bytes end (omega arith) in
-    let all : between bytes 0 end ≡ chars bytes = sym (append-nil _) ∙ ap (λ r. between bytes 0 end ++ r) (sym rest) ∙ sym (joined bytes end u b) in
+    let all : between_places bytes 0 end ≡ chars bytes = sym (append-nil _)
+    ∙ ap (λ r. between_places bytes 0 end ++ r) (sym rest)
+    ∙ sym (joined bytes end u b) in
     subst (λ r. IsLiteral kind (chars bytes) r) rest (subst (λ cs. IsLiteral kind cs (rest_at bytes end)) all f)
 
 -- which literal the text is, if any: by the piece at its front, where this ends with the text
 abbrev IsKind : List ℕ → Option LiteralKind → Type 0
 IsKind text result = (kind : LiteralKind) → (result ≡ Some kind) ↔ IsLiteral kind text []
 
-found : (bytes : List ℕ) (k : PieceKind) (end : ℕ) → IsUtf8 bytes → FitsAt 0 k (between bytes 0 end) (rest_at bytes end) → IsBehind bytes 0 end → end ≡ length bytes → (kind : LiteralKind) → literal_of k ≡ Some kind → IsLiteral kind (chars bytes) []
-found bytes (Literal l) end u f b e kind s = let same : l ≡ kind = cc in subst (λ x. IsLiteral x (chars bytes) []) same (whole bytes l end u f b e)
+found : (bytes : List ℕ) (k : PieceKind) (end : ℕ) → IsUtf8 bytes
+    → FitsAt 0 k (between_places bytes 0 end) (rest_at bytes end)
+    → IsBehind bytes 0 end → end ≡ length bytes → (kind : LiteralKind) → literal_of k ≡ Some kind
+    → IsLiteral kind (chars bytes) []
+found bytes (Literal l) end u f b e kind s = let same : l ≡ kind =
+    cc in subst (λ x. IsLiteral x (chars bytes) []) same (whole bytes l end u f b e)
 found bytes FrontMark end u f b e kind s = cc
 found bytes White end u f b e kind s = cc
 found bytes Comment end u f b e kind s = cc
@@ -60,26 +76,33 @@ found bytes (Close d) end u f b e kind s = cc
 found bytes Mark end u f b e kind s = cc
 found bytes Ident end u f b e kind s = cc
 
-pub kind_is : (bytes : List ℕ) (k : PieceKind) (end : ℕ) (result : Option LiteralKind) → IsUtf8 bytes → FitsAt 0 k (between bytes 0 end) (rest_at bytes end) → IsBehind bytes 0 end → end ≡ length bytes → result ≡ literal_of k → IsKind (chars bytes) result
+pub kind_is : (bytes : List ℕ) (k : PieceKind) (end : ℕ) (result : Option LiteralKind) → IsUtf8 bytes
+    → FitsAt 0 k (between_places bytes 0 end) (rest_at bytes end) → IsBehind bytes 0 end → end ≡ length bytes
+    → result ≡ literal_of k → IsKind (chars bytes) result
 kind_is bytes k end result u f b e r kind = (
   λ s. found bytes k end u f b e kind (sym r ∙ s),
   λ l. r ∙ ap literal_of (only bytes k end kind u f b l).0,
 )
 
-pub no_kind : (bytes : List ℕ) (k : PieceKind) (end : ℕ) → IsUtf8 bytes → FitsAt 0 k (between bytes 0 end) (rest_at bytes end) → IsBehind bytes 0 end → (end ≡ length bytes → ⊥) → IsKind (chars bytes) None
+pub no_kind : (bytes : List ℕ) (k : PieceKind) (end : ℕ) → IsUtf8 bytes
+    → FitsAt 0 k (between_places bytes 0 end) (rest_at bytes end) → IsBehind bytes 0 end → (end ≡ length bytes → ⊥)
+    → IsKind (chars bytes) None
 no_kind bytes k end u f b other kind = (
   λ s. cc,
   λ l. absurd (other (only bytes k end kind u f b l).1),
 )
 
-pub no_piece : (bytes : List ℕ) (result : Option LiteralKind) → NoPieceAt 0 (chars bytes) → result ≡ None → IsKind (chars bytes) result
+pub no_piece : (bytes : List ℕ) (result : Option LiteralKind) → NoPieceAt 0 (chars bytes) → result ≡ None
+    → IsKind (chars bytes) result
 no_piece bytes result none r kind = (
   λ s. cc,
   λ l. absurd (none (Literal kind) (chars bytes) [] (sym (append-nil (chars bytes))) l),
 )
 
 -- a minus, and behind it a number
-pub negative_is : (text number : List ℕ) (result : Option LiteralKind) (kind : LiteralKind) (negative : Bool) → text ≡ minus ∷ number → IsKind number result → result ≡ Some kind → negative ≡ is_number_kind kind → IsTrue negative ↔ IsNegative text
+pub negative_is : (text number : List ℕ) (result : Option LiteralKind) (kind : LiteralKind) (negative : Bool)
+    → text ≡ minus ∷ number → IsKind number result → result ≡ Some kind → negative ≡ is_number_kind kind
+    → IsTrue negative ↔ IsNegative text
 negative_is text number result kind negative e h r n = (
   λ t. (kind, number, e, (h kind).0 r, sym n ∙ t),
   λ (k, other, f, l, t). (
@@ -90,7 +113,8 @@ negative_is text number result kind negative e h r n = (
       ),
 )
 
-pub no_literal : (text number : List ℕ) (result : Option LiteralKind) → text ≡ minus ∷ number → IsKind number result → result ≡ None → IsTrue false ↔ IsNegative text
+pub no_literal : (text number : List ℕ) (result : Option LiteralKind) → text ≡ minus ∷ number → IsKind number result
+    → result ≡ None → IsTrue false ↔ IsNegative text
 no_literal text number result e h r = (
   λ t. cc,
   λ (k, other, f, l, t). (
@@ -101,11 +125,14 @@ no_literal text number result e h r = (
 )
 
 -- one of the two, or none
-pub unsigned_is : (text : List ℕ) (result : Option LiteralKind) (answer : Bool) → IsKind text result → answer ≡ is_some result → answer ≡ true → IsTrue answer ↔ IsLiteralText text
+pub unsigned_is : (text : List ℕ) (result : Option LiteralKind) (answer : Bool) → IsKind text result
+    → answer ≡ is_some result → answer ≡ true → IsTrue answer ↔ IsLiteralText text
 unsigned_is text (Some k) answer h e t = (λ _. inl (k, (h k).0 refl), λ _. t)
 unsigned_is text None answer h e t = cc
 
-pub signed_is : (text : List ℕ) (result : Option LiteralKind) (answer negative : Bool) → IsKind text result → answer ≡ is_some result → answer ≡ false → IsTrue negative ↔ IsNegative text → IsTrue negative ↔ IsLiteralText text
+pub signed_is : (text : List ℕ) (result : Option LiteralKind) (answer negative : Bool) → IsKind text result
+    → answer ≡ is_some result → answer ≡ false → IsTrue negative ↔ IsNegative text
+    → IsTrue negative ↔ IsLiteralText text
 signed_is text None answer negative h e t n = (
   λ t. inr (n.0 t),
   λ l. ⊎_elim (λ (k, u). (let some = (h k).1 u in cc)) (λ m. n.1 m) l,

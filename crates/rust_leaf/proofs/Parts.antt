@@ -9,7 +9,8 @@ not_below : (a b : ℕ) → (a < b → ⊥) → b ≤ a
 not_below a b n = ⊎_elim (λ t. absurd (n (ltb-true a b t))) (λ f. ltb-false a b f) (cases_Bool (nat_lt a b))
 
 -- where one of the two is such a count, there is no part
-pub no_part : (span : Span) (from to length n : ℕ) → length ≡ span_length span → length < 2 ^ 32 → (n + 1 < 2 ^ 64 → ⊥) → from ≡ n + 1 ⊎ to ≡ n + 1 → part_within span from to ≡ None
+pub no_part : (span : Span) (from to length n : ℕ) → length ≡ span_length span → length < 2 ^ 32 → (n + 1 < 2 ^ 64 → ⊥)
+    → from ≡ n + 1 ⊎ to ≡ n + 1 → part_within span from to ≡ None
 no_part span from to length n is small far one =
     let past = not_below (n + 1) (2 ^ 64) far in
     ⊎_elim

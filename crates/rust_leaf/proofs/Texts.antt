@@ -1,5 +1,6 @@
 -- Texts as bytes and as characters.
-use Rattle.std.proofs.Common.{◌≡◌, ℕ, ◌==◌, Bool, true, false, List, [], ◌∷◌, ◌++◌, length, IsTrue, refl, sym, ◌∙◌, ap, arith}
+use Rattle.std.proofs.Common.{◌≡◌, ℕ, ◌==◌, Bool, true, false, List, [], ◌∷◌, ◌++◌, length, IsTrue, refl, sym, ◌∙◌}
+use Rattle.std.proofs.Common.{ap, arith}
 use Rattle.std.specs.Bool.{Decides}
 use Rattle.std.specs.Char.{is_ascii}
 use Rattle.std.specs.List.{list_all}
@@ -13,7 +14,8 @@ use Rattle.std.specs.Str.{chars, encode_utf8_all, IsUtf8, IsAscii, bytes_eq}
 use Rattle.std.proofs.lemmas.Bool.{ltb-true, and_parts}
 use Rattle.std.proofs.lemmas.Bool.Decides.{nat_tests}
 use Rattle.std.proofs.lemmas.Slice.Eq.{bytes_eq-Decides}
-use Rattle.std.proofs.lemmas.Str.{IsUtf8-string_bytes, scalars-chars, chars-nil, encodes-chars, encodes-IsAscii, chars-IsAscii, chars-append, IsUtf8-from_ascii}
+use Rattle.std.proofs.lemmas.Str.{IsUtf8-string_bytes, IsUtf8-from_is_utf8, scalars-chars, chars-nil, encodes-chars}
+use Rattle.std.proofs.lemmas.Str.{encodes-IsAscii, chars-IsAscii, chars-append, IsUtf8-from_ascii}
 use Rattle.std.proofs.lemmas.Str.Ascii.{IsAscii-nil, IsAscii-cons}
 
 -- two texts of the same characters are the same bytes
@@ -34,7 +36,8 @@ same_tests false true d e f g = d.1 (g (e.0 refl))
 -- a text compared with an ASCII word, as bytes and as characters
 pub bytes_eq-chars : (bs word : List ℕ) → IsUtf8 bs → IsAscii word → bytes_eq (chars bs) word ≡ bytes_eq bs word
 bytes_eq-chars bs word u a =
-    same_tests (bytes_eq (chars bs) word) (bytes_eq bs word) (bytes_eq-Decides (chars bs) word) (bytes_eq-Decides bs word)
+    same_tests (bytes_eq (chars bs) word) (bytes_eq bs word) (bytes_eq-Decides (chars bs) word)
+    (bytes_eq-Decides bs word)
     (λ e. sym (encodes-chars bs u) ∙ ap encode_utf8_all e ∙ encodes-IsAscii word a)
     (λ e. ap chars e ∙ chars-IsAscii word a)
 
@@ -50,23 +53,28 @@ chars_is_empty (b ∷ bs) u = filled (chars (b ∷ bs)) (encodes-chars (b ∷ bs
 -- a word of ASCII characters, by a test that computes
 pub ascii_word : (word : List ℕ) → IsTrue (list_all is_ascii word) → IsAscii word
 ascii_word [] t = IsAscii-nil
-ascii_word (c ∷ cs) t = let h = and_parts (is_ascii c) (list_all is_ascii cs) t in IsAscii-cons c cs (ltb-true c 128 h.0) (ascii_word cs h.1)
+ascii_word (c ∷ cs) t = let h =
+    and_parts (is_ascii c) (list_all is_ascii cs) t in IsAscii-cons c cs (ltb-true c 128 h.0) (ascii_word cs h.1)
 
 -- the characters behind an ASCII word
 pub chars_behind : (word bs : List ℕ) → IsAscii word → chars (word ++ bs) ≡ word ++ chars bs
-chars_behind word bs a = chars-append word bs (IsUtf8-from_ascii word a) ∙ ap (λ cs. cs ++ chars bs) (chars-IsAscii word a)
+chars_behind word bs a = chars-append word bs (IsUtf8-from_ascii word a)
+    ∙ ap (λ cs. cs ++ chars bs) (chars-IsAscii word a)
 
 -- a string prints its characters
 pub printed_text : {A : Type 0} (s : String A) → encode_utf8_all (text_of s) ≡ string_bytes s
 printed_text s = encodes-chars (string_bytes s) (IsUtf8-string_bytes s)
 
--- and so does the text of a leaf
+-- and so does the text of a leaf, which is UTF-8
+pub leaf_utf8 : (t : LeafText) → IsUtf8 (leaf_bytes t)
+leaf_utf8 t = IsUtf8-from_is_utf8 (leaf_bytes t) t.is_text
+
 pub printed_leaf : (t : LeafText) → encode_utf8_all (chars (leaf_bytes t)) ≡ leaf_bytes t
-printed_leaf t = printed_text t.text
+printed_leaf t = encodes-chars (leaf_bytes t) (leaf_utf8 t)
 
 -- what a leaf prints are characters
 pub ident_characters : (i : Ident) → AreCharacters (ident_text i)
-ident_characters i = scalars-chars (leaf_bytes i.text) (IsUtf8-string_bytes i.text.text)
+ident_characters i = scalars-chars (leaf_bytes i.text) (leaf_utf8 i.text)
 
 pub literal_characters : (l : Literal) → AreCharacters (literal_text l)
-literal_characters l = scalars-chars (leaf_bytes l.text) (IsUtf8-string_bytes l.text.text)
+literal_characters l = scalars-chars (leaf_bytes l.text) (leaf_utf8 l.text)

@@ -5,7 +5,9 @@ use Rattle.std.specs.Int.{is_in_range}
 use Rattle.std.specs.Fmt.{digits, digit_glyph}
 use Rattle.ucd_category.specs.GeneralCategory.{general_category}
 use Rattle.ucd_category.specs.declared.GeneralCategory.{GeneralCategory}
-use Rattle.ucd_category.specs.declared.GeneralCategory.TheVariants.{Control, Format, Unassigned, PrivateUse, NonspacingMark, EnclosingMark, LineSeparator, ParagraphSeparator, SpaceSeparator}
+use Rattle.ucd_category.specs.declared.GeneralCategory.TheVariants.{Control, Format, Unassigned, PrivateUse}
+use Rattle.ucd_category.specs.declared.GeneralCategory.TheVariants.{NonspacingMark, EnclosingMark, LineSeparator}
+use Rattle.ucd_category.specs.declared.GeneralCategory.TheVariants.{ParagraphSeparator, SpaceSeparator}
 
 -- Cc Cf Cn Co Mn Me Zl Zp Zs
 abbrev pub is_hidden_category : GeneralCategory → Bool

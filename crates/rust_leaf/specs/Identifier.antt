@@ -1,5 +1,6 @@
 -- Identifiers, and what refuses a text as one.
-use Rattle.std.specs.Prelude.{ℕ, Bool, false, cond, not, ◌&&◌, ◌||◌, ◌==◌, List, [], ◌∷◌, length, Option, Some, None, codes}
+use Rattle.std.specs.Prelude.{ℕ, Bool, false, cond, not, ◌&&◌, ◌||◌, ◌==◌, List, [], ◌∷◌, length, Option, Some}
+use Rattle.std.specs.Prelude.{None, codes}
 use Rattle.std.specs.List.{list_all, list_any}
 use Rattle.std.specs.Char.{is_ascii_digit}
 use Rattle.std.specs.Str.{bytes_eq}
@@ -38,7 +39,8 @@ is_ident_text cs = is_identifier cs || is_raw_identifier cs
 
 -- what refuses a text as an identifier: the first of these that applies
 abbrev pub refusal : List ℕ → Option IdentFault
-refusal cs = cond (length cs == 0) (Some Empty) (cond (is_number cs) (Some Number) (cond (is_identifier cs) None (Some Invalid)))
+refusal cs = cond (length cs == 0) (Some Empty)
+    (cond (is_number cs) (Some Number) (cond (is_identifier cs) None (Some Invalid)))
 
 -- the first of two refusals
 abbrev pub or_else : Option IdentFault → Option IdentFault → Option IdentFault

@@ -1,4 +1,5 @@
 pub mod Mark
+pub mod Kept
 pub mod LeafText
 pub mod Leaf
 pub mod Identifier

@@ -22,7 +22,8 @@ is_number_kind _ = false
 
 -- the text is a minus directly before a number
 abbrev pub IsNegative : List ℕ → Type 0
-IsNegative text = (kind : LiteralKind) × (number : List ℕ) × (text ≡ minus ∷ number) × IsLiteral kind number [] × (is_number_kind kind ≡ true)
+IsNegative text = (kind : LiteralKind) × (number : List ℕ) × (text ≡ minus ∷ number) × IsLiteral kind number []
+    × (is_number_kind kind ≡ true)
 
 -- the text is that of a literal: one literal token, or a minus directly before a number
 abbrev pub IsLiteralText : List ℕ → Type 0

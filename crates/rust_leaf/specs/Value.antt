@@ -1,14 +1,15 @@
--- The values of literals in double quotes.
+-- The values of literals in quotes.
 use Rattle.std.specs.Prelude.{◌≡◌, ◌<◌, ◌==◌, ℕ, Bool, List, [], ◌∷◌, ◌++◌, Some, false, if◌then◌else◌, map}
 use Rattle.std.specs.Char.{encode_utf8}
 use Rattle.std.specs.List.{AllByRecursion, flat_map, list_any}
 use Rattle.rust_escape.specs.declared.mode.Mode.{Mode}
+use Rattle.rust_escape.specs.declared.mode.Mode.TheVariants.{Byte, Char}
 use Rattle.rust_escape.specs.Mode.{is_raw}
-use Rattle.rust_escape.specs.Unit.{Rule, Lexical, Strict, IsUnit, IsInside}
+use Rattle.rust_escape.specs.Unit.{Rule, Lexical, Strict, IsUnit, IsInside, IsOnlyUnit}
 use Rattle.rust_escape.specs.Value.{byte_value}
 use Rattle.rust_escape.specs.declared.value.Value.{Value}
 use Rattle.rust_escape.specs.declared.value.Value.TheVariants.{Character, HighByte}
-use Rattle.rust_leaf.specs.Quoted.{IsQuoted, IsLiteralOf}
+use Rattle.rust_leaf.specs.Quoted.{IsQuoted, IsLiteralOf, in_byte_quotes, in_single_quotes}
 use Rattle.rust_lex.specs.Quoted as lexed
 use Rattle.rust_lex.specs.declared.piece.LiteralKind.{LiteralKind}
 use Rattle.rust_leaf.specs.declared.quoted.Content.{Content}
@@ -71,6 +72,30 @@ pub record IsCStrValue (text bs : List ℕ) : Type 0 where
   pub spelled : HasValues CText text values
   pub bytes : bs ≡ flat_map value_bytes values ++ 0 ∷ []
 
+-- a character literal; its value is the character that its one unit spells
+abbrev pub IsCharLiteral : List ℕ → Type 0
+IsCharLiteral text = (inside : List ℕ) × (text ≡ in_single_quotes inside)
+
+pub record IsCharValue (text : List ℕ) (c : ℕ) : Type 0 where
+  pub inside : List ℕ
+  pub quoted : text ≡ in_single_quotes inside
+  pub unit : IsOnlyUnit Char inside (Character c)
+
+abbrev pub IsMalformedChar : List ℕ → Type 0
+IsMalformedChar text = IsCharLiteral text × ((c : ℕ) → IsCharValue text c → ⊥)
+
+-- a byte literal; its value is the byte that its one unit spells
+abbrev pub IsByteLiteral : List ℕ → Type 0
+IsByteLiteral text = (inside : List ℕ) × (text ≡ in_byte_quotes inside)
+
+pub record IsByteValue (text : List ℕ) (b : ℕ) : Type 0 where
+  pub inside : List ℕ
+  pub quoted : text ≡ in_byte_quotes inside
+  pub unit : IsOnlyUnit Byte inside (byte_value b)
+
+abbrev pub IsMalformedByte : List ℕ → Type 0
+IsMalformedByte text = IsByteLiteral text × ((b : ℕ) → IsByteValue text b → ⊥)
+
 -- each number is that of a byte
 abbrev pub AreBytes : List ℕ → Type 0
 AreBytes bs = AllByRecursion (λ b. b < 256) bs
@@ -85,4 +110,4 @@ has_barred_return mode cs = if is_raw mode then false else has_return cs
 
 -- the lexer takes the characters as a literal of the kind, without a suffix; it is raw, or holds no carriage return
 abbrev pub IsTaken : LiteralKind → List ℕ → Type 0
-IsTaken kind cs = (q : lexed.IsQuoted kind cs) × (has_barred_return q.0 cs ≡ false)
+IsTaken kind cs = (q : lexed.IsQuotedLiteral kind cs) × (has_barred_return q.0 cs ≡ false)

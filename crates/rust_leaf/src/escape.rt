@@ -1,7 +1,8 @@
 //! How characters and bytes are written inside quotes.
 
 ghost use Rattle.rust_leaf.specs.CString.{AreWritten};
-ghost use Rattle.rust_leaf.specs.Escaped.{begins_octal, by_byte, by_number, escaped, escaped_all, escaped_byte, escaped_bytes, is_bare, is_hidden_category, zero_before};
+ghost use Rattle.rust_leaf.specs.Escaped.{begins_octal, by_byte, by_number, escaped, escaped_all, escaped_byte};
+ghost use Rattle.rust_leaf.specs.Escaped.{escaped_bytes, is_bare, is_hidden_category, zero_before};
 ghost use Rattle.rust_leaf.specs.Leaf.{text_of};
 ghost use Rattle.std.specs.Fmt.{digit_glyph, digits};
 ghost use Rattle.std.specs.Prelude.{false, true, ◌<◌, ◌≡◌, ◌++◌, ◌∷◌, [], OnOk};
@@ -228,7 +229,8 @@ fn first_char(bytes: &[u8]) -> Option<(char, &[u8])>
 
 /// Appends the bytes of a C string as they are written between quotes.
 pub(crate) fn push_c_bytes(out: &mut String, bytes: &[u8]) -> Result<(), AllocError>
-    ensures { OnOk result ((inside : List ℕ) × AreWritten bytes.now inside × (text_of out.new ≡ text_of out.old ++ inside)) }
+    ensures { OnOk result ((inside : List ℕ) × AreWritten bytes.now inside
+        × (text_of out.new ≡ text_of out.old ++ inside)) }
 {
     let mut rest = bytes;
     while let Some((byte, next)) = rest.split_first() {

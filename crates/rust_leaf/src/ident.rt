@@ -1,14 +1,17 @@
 //! Identifiers.
 
-ghost use Rattle.rust_leaf.specs.Identifier.{fault_of, is_ident_text, is_identifier, is_number, is_reserved, refusal, refusal_of_raw};
+ghost use Rattle.rust_leaf.specs.Identifier.{fault_of, is_ident_text, is_identifier, is_number, is_reserved};
+ghost use Rattle.rust_leaf.specs.Identifier.{refusal, refusal_of_raw};
 ghost use Rattle.rust_leaf.specs.LeafText.{leaf_bytes};
 ghost use Rattle.rust_leaf.specs.declared.ident.IdentFault.TheVariants.{Memory};
 ghost use Rattle.std.proofs.Common.{ap, refl};
 ghost use Rattle.std.specs.Cmp.{on_equiv, on_per, on_po, on_total, partial_equiv_from_equiv};
-ghost use Rattle.std.specs.Cmp.Lexicographic.{bytes_decides, nat_list_cmp_total, nat_list_eq_equiv, slice_cmp, texts_po, texts_ties};
+ghost use Rattle.std.specs.Cmp.Lexicographic.{bytes_decides, nat_list_cmp_total, nat_list_eq_equiv, slice_cmp};
+ghost use Rattle.std.specs.Cmp.Lexicographic.{texts_po, texts_ties};
 ghost use Rattle.std.specs.Hash as fed;
 ghost use Rattle.std.specs.Ordering.{nat_cmp};
-ghost use Rattle.std.specs.Prelude.{◌≡◌, ◌++◌, ◌==◌, IfErr, IfOk, OnOk, Option, None, Some, IsTrue, codes, encode_utf8_all, ◌↔◌};
+ghost use Rattle.std.specs.Prelude.{◌≡◌, ◌++◌, ◌==◌, IfErr, IfOk, OnOk, Option, None, Some, IsTrue, codes};
+ghost use Rattle.std.specs.Prelude.{encode_utf8_all, ◌↔◌};
 ghost use Rattle.std.specs.List.{list_all};
 ghost use Rattle.std.specs.Str.{bytes_eq, chars};
 ghost use Rattle.unicode_ident.specs.Ident.{is_xid_continue};

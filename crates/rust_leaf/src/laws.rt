@@ -40,7 +40,8 @@ pub fn equality_is_symmetric(a: &Ident, b: &Ident)
 
 /// What equals one and the same identifier is equal.
 pub fn equality_is_transitive(a: &Ident, b: &Ident, c: &Ident)
-    ensures { IsTrue (⟦<Ident as PartialEq>⟧.eq a.now b.now) → IsTrue (⟦<Ident as PartialEq>⟧.eq b.now c.now) → IsTrue (⟦<Ident as PartialEq>⟧.eq a.now c.now) }
+    ensures { IsTrue (⟦<Ident as PartialEq>⟧.eq a.now b.now) → IsTrue (⟦<Ident as PartialEq>⟧.eq b.now c.now)
+        → IsTrue (⟦<Ident as PartialEq>⟧.eq a.now c.now) }
 {}
 
 /// The order answers `Equal` exactly for equal identifiers.
@@ -50,7 +51,8 @@ pub fn order_agrees(a: &Ident, b: &Ident)
 
 /// Equal identifiers are hashed alike.
 pub fn hash_agrees(a: &Ident, b: &Ident)
-    ensures { IsTrue (⟦<Ident as PartialEq>⟧.eq a.now b.now) → ⟦<Ident as Hash>⟧.hash_input a.now ≡ ⟦<Ident as Hash>⟧.hash_input b.now }
+    ensures { IsTrue (⟦<Ident as PartialEq>⟧.eq a.now b.now)
+        → ⟦<Ident as Hash>⟧.hash_input a.now ≡ ⟦<Ident as Hash>⟧.hash_input b.now }
 {}
 
 /// Each identifier is printed as one.

@@ -14,9 +14,9 @@
 //! - `minus`: the minus that may stand before a number.
 //! - `parse` (private): literals of texts, and which texts are literals.
 //! - `subspan` (private): the spans of parts of literals.
-//! - `quoted` (private): literals in double quotes, and where their insides stand.
+//! - `quoted` (private): literals in quotes, and where their insides stand.
 //! - `spelled` (private): what the units of an inside spell.
-//! - `value`: the values of string, byte string and C string literals.
+//! - `value`: the values of literals in quotes, and of their texts.
 //! - `value_laws`: laws of these values.
 //! - `messages` (private): what is said of faults.
 //! - `laws`: laws of equality, order and hash, and of what leaves are written as.

@@ -85,7 +85,8 @@ impl Literal {
         ensures fault { IfErr result (IsRefusal (next_position map.old) (chars src.now)) }
         ensures full { (result ≡ Err MapFull) ↔ (2 ^ 32 ≤ next_position map.old + length (chars src.now)) }
         ensures map_ok { OnOk result (map.new ≡ with_text map.old (chars src.now)) }
-        ensures spot { OnOk result (spot map.new (next_span map.old (chars src.now)) ≡ Some (next_spot map.old (chars src.now))) }
+        ensures spot { OnOk result
+            (spot map.new (next_span map.old (chars src.now)) ≡ Some (next_spot map.old (chars src.now))) }
         ensures map_err { OnErr result (map.new ≡ map.old) }
     {
         let Ok(whole) = map.span_ahead(characters(src)) else {

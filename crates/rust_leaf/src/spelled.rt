@@ -107,9 +107,12 @@ pub(crate) fn spelled<S: Spelling>(
     inside: &str,
 ) -> Result<S, ConversionErrorKind>
     requires { TakesValues S.takes mode }
-    ensures value { IfOk result (λ out. (values : List Value) × IsInside (value_rule mode) mode (chars inside.now) [] values × S.holds out values) }
+    ensures value { IfOk result
+        (λ out. (values : List Value) × IsInside (value_rule mode) mode (chars inside.now) [] values
+        × S.holds out values) }
     ensures kind { result ≡ Err InvalidLiteralKind → ⊥ }
-    ensures malformed { (error : EscapeError) → result ≡ Err (FailedToUnescape error) → (values : List Value) → IsInside (value_rule mode) mode (chars inside.now) [] values → ⊥ }
+    ensures malformed { (error : EscapeError) → result ≡ Err (FailedToUnescape error) → (values : List Value)
+        → IsInside (value_rule mode) mode (chars inside.now) [] values → ⊥ }
     ensures fatal { (error : EscapeError) → result ≡ Err (FailedToUnescape error) → is_fatal error ≡ true }
 {
     let mut out = S::with_room(alloc, inside.len())?;

@@ -12,7 +12,8 @@ ghost use Rattle.rust_escape.specs.declared.value.Value.{Value};
 ghost use Rattle.rust_escape.specs.declared.value.Value.TheVariants.{Character};
 ghost use Rattle.rust_leaf.specs.CString.{IsCString, has_zero};
 ghost use Rattle.rust_leaf.specs.Escaped.{byte_character_text, byte_string_text, character_text, string_text};
-ghost use Rattle.rust_leaf.specs.Value.{AreBytes, has_barred_return, IsByteStrValue, IsCStrValue, IsStrValue, IsTaken, value_rule};
+ghost use Rattle.rust_leaf.specs.Value.{AreBytes, has_barred_return, IsByteStrValue, IsByteValue, IsCStrValue};
+ghost use Rattle.rust_leaf.specs.Value.{IsCharValue, IsStrValue, IsTaken, value_rule};
 ghost use Rattle.rust_lex.specs.declared.piece.LiteralKind.TheVariants.{ByteStr, CStr, Str};
 ghost use Rattle.std.specs.Char.{IsScalar};
 ghost use Rattle.std.specs.Prelude.{◌≡◌, ◌<◌, ◌++◌, ◌∷◌, ℕ, IsFalse, List, [], codes, true};
@@ -23,6 +24,8 @@ pub fn one_value()
     ensures text { (text xs ys : List ℕ) → IsStrValue text xs → IsStrValue text ys → xs ≡ ys }
     ensures bytes { (text xs ys : List ℕ) → IsByteStrValue text xs → IsByteStrValue text ys → xs ≡ ys }
     ensures c_bytes { (text xs ys : List ℕ) → IsCStrValue text xs → IsCStrValue text ys → xs ≡ ys }
+    ensures character { (text : List ℕ) (c d : ℕ) → IsCharValue text c → IsCharValue text d → c ≡ d }
+    ensures byte { (text : List ℕ) (b d : ℕ) → IsByteValue text b → IsByteValue text d → b ≡ d }
 {}
 
 /// What `Literal::string` writes for a text has the text as its value.
@@ -37,20 +40,27 @@ pub fn written_byte_string()
 
 /// What `Literal::c_string` writes for bytes has these as its value, and a zero behind them.
 pub fn written_c_string()
-    ensures { (bytes text : List ℕ) → AreBytes bytes → IsFalse (has_zero bytes) → IsCString bytes text → IsCStrValue text (bytes ++ 0 ∷ []) }
+    ensures { (bytes text : List ℕ) → AreBytes bytes → IsFalse (has_zero bytes) → IsCString bytes text
+        → IsCStrValue text (bytes ++ 0 ∷ []) }
 {}
 
 /// What `Literal::character` and `Literal::byte_character` write between their quotes is one unit, which
 /// spells the character or the byte.
 pub fn written_unit()
-    ensures character { (c : ℕ) → IsScalar c → (inside : List ℕ) × (character_text c ≡ codes "'" ++ inside ++ codes "'") × IsOnlyUnit Char inside (Character c) }
-    ensures byte { (b : ℕ) → b < 256 → (inside : List ℕ) × (byte_character_text b ≡ codes "b'" ++ inside ++ codes "'") × IsOnlyUnit Byte inside (byte_value b) }
+    ensures character { (c : ℕ) → IsScalar c
+        → (inside : List ℕ) × (character_text c ≡ codes "'" ++ inside ++ codes "'")
+        × IsOnlyUnit Char inside (Character c) }
+    ensures byte { (b : ℕ) → b < 256
+        → (inside : List ℕ) × (byte_character_text b ≡ codes "b'" ++ inside ++ codes "'")
+        × IsOnlyUnit Byte inside (byte_value b) }
 {}
 
 /// An inside in double quotes that the lexer takes, up to the closing quote, has a value where it is raw or holds no
 /// carriage return: the values that its units spell to the lexer.
 pub fn taken_inside()
-    ensures { (mode : Mode) (inside rest : List ℕ) (values : List Value) → in_double_quotes mode ≡ true → IsFalse (has_barred_return mode inside) → IsInside Lexical mode inside (codes "\"" ++ rest) values → IsInside (value_rule mode) mode inside [] values }
+    ensures { (mode : Mode) (inside rest : List ℕ) (values : List Value) → in_double_quotes mode ≡ true
+        → IsFalse (has_barred_return mode inside)
+        → IsInside Lexical mode inside (codes "\"" ++ rest) values → IsInside (value_rule mode) mode inside [] values }
 {}
 
 /// A literal in double quotes that the lexer takes has a value of its kind where it is raw or holds no carriage

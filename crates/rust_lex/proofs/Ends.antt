@@ -4,12 +4,15 @@ use Rattle.std.specs.Prelude.{Bool, true, false, not, ◌&&◌, ◌==◌, Some}
 use Rattle.std.proofs.lemmas.Bool.{and_parts, and_from, cases_Bool}
 use Rattle.rust_lex.specs.Chars.{is_first, is_next, is_digit, begins, passes, is_underscore, past}
 use Rattle.rust_lex.specs.Ends.{past_suffix}
-use Rattle.rust_lex.specs.Number.{is_digit_or_line, is_digit_of, is_digit_of_or_line, is_sign, begins_fraction, past_fraction, past_sign, past_lead, begins_exponent, past_exponent, past_decimal, past_based, base_of, past_number}
+use Rattle.rust_lex.specs.Number.{is_digit_or_line, is_digit_of, is_digit_of_or_line, is_sign, begins_fraction}
+use Rattle.rust_lex.specs.Number.{past_fraction, past_sign, past_lead, begins_exponent, past_exponent, past_decimal}
+use Rattle.rust_lex.specs.Number.{past_based, base_of, past_number}
 use Rattle.rust_lex.specs.Piece.{IsSuffix}
 use Rattle.rust_lex.proofs.Fronts.{first-next}
 use Rattle.rust_lex.proofs.Taken.{chosen}
 
-pub past_all : (p : ℕ → Bool) (cs rest : List ℕ) → passes p cs ≡ true → begins p rest ≡ false → past p (cs ++ rest) ≡ rest
+pub past_all : (p : ℕ → Bool) (cs rest : List ℕ) → passes p cs ≡ true → begins p rest ≡ false → past p (cs ++ rest)
+    ≡ rest
 past_all p [] [] h s = refl
 past_all p [] (c ∷ rest) h s = rw s refl
 past_all p (c ∷ cs) rest h s = let (a, b) = and_parts (p c) (passes p cs) h in rw a (past_all p cs rest b s)
@@ -25,7 +28,12 @@ passed p [] = record { front = []; joined = refl; pass = refl; stops = refl }
 passed p (c ∷ cs) =
     let more = passed p cs in
     ⊎_elim
-    (λ y. record { front = c ∷ more.front; joined = rw y (ap (λ r. c ∷ r) more.joined); pass = and_from _ _ y more.pass; stops = rw y more.stops })
+    (λ y. record {
+      front = c ∷ more.front;
+      joined = rw y (ap (λ r. c ∷ r) more.joined);
+      pass = and_from _ _ y more.pass;
+      stops = rw y more.stops;
+    })
     (λ n. record { front = []; joined = rw n refl; pass = refl; stops = rw n n })
     (cases_Bool (p c))
 
@@ -51,7 +59,8 @@ suffix_found (c ∷ cs) =
     ⊎_elim
     (λ y. let p = passed is_next cs in
     let e : past_suffix (c ∷ cs) ≡ past is_next cs = suffix_word c cs y in
-    subst (λ r. Suffixed (c ∷ cs) r) (sym e) (record { suffix = c ∷ p.front; joined = ap (λ x. c ∷ x) p.joined; is = (y, p.pass, p.stops) }))
+    subst (λ r. Suffixed (c ∷ cs) r) (sym e)
+    (record { suffix = c ∷ p.front; joined = ap (λ x. c ∷ x) p.joined; is = (y, p.pass, p.stops) }))
     (λ n. rw n (record { suffix = []; joined = refl; is = n }))
     (cases_Bool (is_first c))
 
@@ -64,7 +73,10 @@ tail_same : (text : List ℕ) → Tail text text
 tail_same text = record { front = []; joined = refl }
 
 tail_more : (text r s : List ℕ) → Tail text r → Tail r s → Tail text s
-tail_more text r s a b = record { front = a.front ++ b.front; joined = a.joined ∙ ap (λ x. a.front ++ x) b.joined ∙ sym (append_assoc a.front b.front s) }
+tail_more text r s a b = record {
+  front = a.front ++ b.front;
+  joined = a.joined ∙ ap (λ x. a.front ++ x) b.joined ∙ sym (append_assoc a.front b.front s);
+}
 
 tail_past : (p : ℕ → Bool) (text : List ℕ) → Tail text (past p text)
 tail_past p text = let k = passed p text in record { front = k.front; joined = k.joined }
@@ -87,12 +99,14 @@ tail_sign text =
 tail_lead : (text : List ℕ) → Tail text (past_lead text)
 tail_lead text =
     tail_more text (past is_underscore text) _ (tail_past is_underscore text)
-    (tail_more (past is_underscore text) (past_sign (past is_underscore text)) _ (tail_sign (past is_underscore text)) (tail_past is_underscore _))
+    (tail_more (past is_underscore text) (past_sign (past is_underscore text)) _ (tail_sign (past is_underscore text))
+    (tail_past is_underscore _))
 
 tail_exponent : (text : List ℕ) → Tail text (past_exponent text)
 tail_exponent text =
     ⊎_elim
-    (λ h. rw h (tail_more text (drop 1 text) _ (tail_drop text) (tail_more (drop 1 text) (past_lead (drop 1 text)) _ (tail_lead (drop 1 text)) (tail_past is_digit_or_line _))))
+    (λ h. rw h (tail_more text (drop 1 text) _ (tail_drop text)
+    (tail_more (drop 1 text) (past_lead (drop 1 text)) _ (tail_lead (drop 1 text)) (tail_past is_digit_or_line _))))
     (λ h. rw h (tail_same text))
     (cases_Bool (begins_exponent text))
 
@@ -102,19 +116,25 @@ tail_parts text = tail_more text (past_fraction text) _ (tail_fraction text) (ta
 tail_based : (base : ℕ) (text rest : List ℕ) → past_based base text ≡ Some rest → Tail text rest
 tail_based base text rest e =
     ⊎_elim
-    (λ h. let same : past (is_digit_of_or_line base) text ≡ rest = cc in subst (λ r. Tail text r) same (tail_past (is_digit_of_or_line base) text))
+    (λ h. let same : past (is_digit_of_or_line base) text
+    ≡ rest = cc in subst (λ r. Tail text r) same (tail_past (is_digit_of_or_line base) text))
     (λ h. cc)
-    (chosen (begins (is_digit_of base) (past is_underscore text) && not (begins is_digit (past (is_digit_of_or_line base) text))) _ _ _ e)
+    (chosen (begins (is_digit_of base) (past is_underscore text)
+    && not (begins is_digit (past (is_digit_of_or_line base) text))) _ _ _ e)
 
 decimal_found : (c : ℕ) (cs : List ℕ) → is_digit c ≡ true → Tail cs (past_decimal (c ∷ cs))
-decimal_found c cs h = rw h (tail_more cs (past is_digit_or_line cs) _ (tail_past is_digit_or_line cs) (tail_parts (past is_digit_or_line cs)))
+decimal_found c cs h = rw h
+    (tail_more cs (past is_digit_or_line cs) _ (tail_past is_digit_or_line cs) (tail_parts (past is_digit_or_line cs)))
 
 -- a number, without its first digit
 pub number_found : (c : ℕ) (cs rest : List ℕ) → is_digit c ≡ true → past_number (c ∷ cs) ≡ Some rest → Tail cs rest
 unfolding past_number
-number_found c [] rest h e = let same : past_decimal (c ∷ []) ≡ rest = cc in subst (λ r. Tail [] r) same (decimal_found c [] h)
+number_found c [] rest h e = let same : past_decimal (c ∷ []) ≡ rest =
+    cc in subst (λ r. Tail [] r) same (decimal_found c [] h)
 number_found c (d ∷ cs) rest h e =
     ⊎_elim
-    (λ k. let same : past_decimal (c ∷ d ∷ cs) ≡ rest = cc in subst (λ r. Tail (d ∷ cs) r) same (decimal_found c (d ∷ cs) h))
-    (λ k. let more = tail_based (base_of (c ∷ d ∷ cs)) cs rest k.1 in record { front = d ∷ more.front; joined = ap (λ x. d ∷ x) more.joined })
+    (λ k. let same : past_decimal (c ∷ d ∷ cs)
+    ≡ rest = cc in subst (λ r. Tail (d ∷ cs) r) same (decimal_found c (d ∷ cs) h))
+    (λ k. let more = tail_based (base_of (c ∷ d ∷ cs)) cs rest k.1 in record
+    { front = d ∷ more.front; joined = ap (λ x. d ∷ x) more.joined })
     (chosen (base_of (c ∷ d ∷ cs) == 0) _ _ _ e)

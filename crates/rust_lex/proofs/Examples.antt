@@ -2,7 +2,7 @@
 use Rattle.std.specs.Prelude.{◌≡◌, true, false, [], ◌∷◌, ◌++◌, refl}
 use Rattle.std.specs.Prelude.{codes}
 use Rattle.unicode_ident.proofs.Computing.{unicode_ident}
-use Rattle.rust_lex.specs.Chars.{is_white, is_first, is_next, is_digit, is_mark}
+use Rattle.rust_lex.specs.Chars.{is_white, is_first, is_next, is_digit, is_mark_but_tick}
 use Rattle.rust_lex.specs.Comment.{OuterLine, InnerLine, OuterBlock, InnerBlock, past_comment}
 use Rattle.rust_escape.specs.Chars.{is_hex_digit, hex_value}
 use Rattle.rust_escape.specs.Escape.{simple_value}
@@ -17,7 +17,10 @@ use Rattle.rust_lex.specs.Scan.{Nowhere, Ends, front_of, line, block, slash, tic
 
 -- `unfolding all` lets `refl` compute a scan
 unfoldable all : Unit {0}
-unfolding unicode_ident is_white is_first is_next is_digit is_mark past_comment is_hex_digit hex_value simple_value past_lines lexical_slash lexical_scan byte_escape digits unicode_escape escape past_unit past_char past_units past_raw past_hashes opener_of past_number number_kind begins_kept begins_lifetime front_of line block slash ticked word
+unfolding unicode_ident is_white is_first is_next is_digit is_mark_but_tick past_comment is_hex_digit hex_value
+    simple_value past_lines lexical_slash lexical_scan byte_escape digits unicode_escape escape past_unit past_char
+    past_units past_raw past_hashes opener_of past_number number_kind begins_kept begins_lifetime front_of line block
+    slash ticked word
 all = tt
 
 character : scan (codes "'a'") ≡ Ends (Literal Char) []

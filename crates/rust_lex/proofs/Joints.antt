@@ -1,7 +1,8 @@
 -- What a text begins with where a mark or a character literal begins it.
 use Rattle.std.proofs.Common.{◌≡◌, ℕ, List, [], ◌∷◌, ◌++◌, refl, sym, ap, ◌∙◌, subst, inl, inr, ⊎_elim, append_assoc}
 use Rattle.std.specs.Prelude.{Bool, true, false, ◌||◌, ◌==◌, ◌↔◌, IsTrue, is_some, None}
-use Rattle.std.proofs.lemmas.Bool.{and_parts, cond_both, eq-eqb, eqb-true, false_from_ne_true, or_cases, or_left, or_right}
+use Rattle.std.proofs.lemmas.Bool.{and_parts, cond_both, eq-eqb, eqb-true, false_from_ne_true, or_cases, or_left}
+use Rattle.std.proofs.lemmas.Bool.{or_right}
 use Rattle.rust_escape.specs.declared.mode.Mode.TheVariants as modes
 use Rattle.rust_lex.specs.Number.{number_kind, base_of, is_split}
 use Rattle.rust_lex.specs.Quoted.{LiteralKind}
@@ -29,7 +30,8 @@ mark_kind k cs rest f h = at_text (cs ++ rest) (complete k cs rest f) h
 scan_tick : (cs : List ℕ) → scan (39 ∷ cs) ≡ ticked cs
 scan_tick cs = rw front-tick refl
 
-char_scanned : (c : ℕ) (cs : List ℕ) → begins_char (c ∷ cs) ≡ true → (rest : List ℕ) × (scan (c ∷ cs) ≡ Ends (kinds.Literal Char) rest)
+char_scanned : (c : ℕ) (cs : List ℕ) → begins_char (c ∷ cs) ≡ true
+    → (rest : List ℕ) × (scan (c ∷ cs) ≡ Ends (kinds.Literal Char) rest)
 char_scanned c cs h =
     let (q, s) = and_parts (c == 39) (is_some (past_char modes.Char cs)) h in
     ⊎_elim
@@ -37,7 +39,8 @@ char_scanned c cs h =
     (λ (r, e). (past_suffix r, ap (λ d. scan (d ∷ cs)) (eqb-true c 39 q) ∙ scan_tick cs ∙ ticked_some cs r e))
     (option_cases (past_char modes.Char cs))
 
-pub char_kind : (k : PieceKind) (cs rest : List ℕ) → Fits k cs rest → begins_char (cs ++ rest) ≡ true → k ≡ kinds.Literal Char
+pub char_kind : (k : PieceKind) (cs rest : List ℕ) → Fits k cs rest → begins_char (cs ++ rest) ≡ true → k
+    ≡ kinds.Literal Char
 char_kind k cs rest f h = at_text (cs ++ rest) (complete k cs rest f) h
   where
     at_text : (text : List ℕ) → scan text ≡ Ends k rest → begins_char text ≡ true → k ≡ kinds.Literal Char
@@ -55,7 +58,8 @@ no_number cs e =
 pub char_begins : (cs rest : List ℕ) → IsLiteral Char cs rest → begins_char (cs ++ rest) ≡ true
 char_begins cs rest (body, suffix, e, b, s) =
     ⊎_elim
-    (λ q. (begun_character (cs ++ rest)).1 (body, suffix ++ rest, ap (λ x. x ++ rest) e ∙ append_assoc body suffix rest, q))
+    (λ q. (begun_character (cs ++ rest)).1
+    (body, suffix ++ rest, ap (λ x. x ++ rest) e ∙ append_assoc body suffix rest, q))
     (λ n. absurd (no_number (body ++ (suffix ++ rest)) n.2))
     b
 
@@ -64,12 +68,14 @@ joint_from : (c : ℕ) (cs : List ℕ) → is_joint (c ∷ cs) ≡ true → IsJo
 joint_from c cs h =
     ⊎_elim
     (λ q. inl (eqb-true c 39 q))
-    (λ o. ⊎_elim (λ m. inr (inl m)) (λ b. inr (inr ((begun_character cs).0 b))) (or_cases (begins_mark cs) (begins_char cs) o))
+    (λ o. ⊎_elim (λ m. inr (inl m)) (λ b. inr (inr ((begun_character cs).0 b)))
+    (or_cases (begins_mark cs) (begins_char cs) o))
     (or_cases (c == 39) (begins_mark cs || begins_char cs) h)
 
 from_joint : (c : ℕ) (cs : List ℕ) → IsJoint (c ∷ cs) → is_joint (c ∷ cs) ≡ true
 from_joint c cs j =
-    let more : (begins_mark cs || begins_char cs) ≡ true → is_joint (c ∷ cs) ≡ true = λ h. or_right (c == 39) (begins_mark cs || begins_char cs) h in
+    let more : (begins_mark cs || begins_char cs) ≡ true → is_joint (c ∷ cs) ≡ true =
+    λ h. or_right (c == 39) (begins_mark cs || begins_char cs) h in
     ⊎_elim
     (λ e. or_left (c == 39) (begins_mark cs || begins_char cs) (eq-eqb c 39 e))
     (λ o. ⊎_elim
@@ -87,4 +93,5 @@ pub joint_test : (text : List ℕ) (result : Bool) → IsTrue result ↔ IsJoint
 joint_test [] true h = absurd (h.0 refl)
 joint_test [] false h = refl
 joint_test (c ∷ cs) true h = sym (from_joint c cs (h.0 refl))
-joint_test (c ∷ cs) false h = sym (false_from_ne_true (is_joint (c ∷ cs)) (λ t. let n : false ≡ true = h.1 (joint_from c cs t) in cc))
+joint_test (c ∷ cs) false h =
+    sym (false_from_ne_true (is_joint (c ∷ cs)) (λ t. let n : false ≡ true = h.1 (joint_from c cs t) in cc))

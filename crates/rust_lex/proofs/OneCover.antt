@@ -10,21 +10,26 @@ abbrev piece : PieceKind → List ℕ → Piece
 piece k cs = record { kind = k; chars = cs }
 
 -- two pieces at one place of a text are the same
-pub one_piece : (at : ℕ) (p q : Piece) (r s : List ℕ) → FitsAt at p.kind p.chars r → FitsAt at q.kind q.chars s → p.chars ++ r ≡ q.chars ++ s → (p ≡ q) × (r ≡ s)
+pub one_piece : (at : ℕ) (p q : Piece) (r s : List ℕ) → FitsAt at p.kind p.chars r → FitsAt at q.kind q.chars s
+    → p.chars ++ r ≡ q.chars ++ s → (p ≡ q) × (r ≡ s)
 one_piece at p q r s f g e =
-    let both : Ends p.kind r ≡ Ends q.kind s = sym (complete_at at p.kind p.chars r f) ∙ ap (scan_at at) e ∙ complete_at at q.kind q.chars s g in
+    let both : Ends p.kind r ≡ Ends q.kind s =
+    sym (complete_at at p.kind p.chars r f) ∙ ap (scan_at at) e ∙ complete_at at q.kind q.chars s g in
     let kinds : p.kind ≡ q.kind = cc in
     let rests : r ≡ s = cc in
     let chars : p.chars ≡ q.chars = append_cancel_right p.chars q.chars s (ap (λ x. p.chars ++ x) (sym rests) ∙ e) in
     (ap₂ piece kinds chars, rests)
 
-nothing_at : (at : ℕ) → scan_at at [] ≡ Nowhere
+-- no piece stands at the end of a text
+pub nothing_at : (at : ℕ) → scan_at at [] ≡ Nowhere
 nothing_at zero = refl
 nothing_at (suc n) = refl
 
-none_empty : (at : ℕ) (q : Piece) (rest : List ℕ) → FitsAt at q.kind q.chars rest → [] ≡ q.chars ++ rest → ⊥
+-- and none is empty
+pub none_empty : (at : ℕ) (q : Piece) (rest : List ℕ) → FitsAt at q.kind q.chars rest → [] ≡ q.chars ++ rest → ⊥
 none_empty at q rest f e =
-    let t : Nowhere ≡ Ends q.kind rest = sym (nothing_at at) ∙ ap (scan_at at) e ∙ complete_at at q.kind q.chars rest f in
+    let t : Nowhere ≡ Ends q.kind rest =
+    sym (nothing_at at) ∙ ap (scan_at at) e ∙ complete_at at q.kind q.chars rest f in
     cc
 
 one_list : (ps qs : List Piece) → AreFit ps [] → AreFit qs [] → onto ps [] ≡ onto qs [] → ps ≡ qs

@@ -4,13 +4,15 @@ use Rattle.std.specs.Prelude.{Bool, true, false, not, ◌&&◌, ◌==◌}
 use Rattle.std.proofs.lemmas.Bool.{and_parts, cases_Bool, eqb-true}
 use Rattle.unicode_ident.proofs.Computing.{unicode_ident}
 use Rattle.rust_lex.specs.Chars.{is_first, is_next, is_digit, begins, passes, is_underscore, past}
-use Rattle.rust_lex.specs.Number.{is_digit_or_line, is_sign, is_dot_or_first, is_exponent_letter, begins_fraction, begins_exponent, past_sign, past_lead}
+use Rattle.rust_lex.specs.Number.{is_digit_or_line, is_sign, is_dot_or_first, is_exponent_letter, begins_fraction}
+use Rattle.rust_lex.specs.Number.{begins_exponent, past_sign, past_lead}
 use Rattle.rust_lex.specs.Piece.{IsSuffix}
 use Rattle.rust_lex.proofs.Fronts.{among_each}
 use Rattle.rust_lex.specs.Calm.{calm, IsCalm}
 
 -- what passes none of the calm characters begins no calm text
-pub calm_begins : (p : ℕ → Bool) (rest : List ℕ) → p 32 ≡ false → p 41 ≡ false → p 93 ≡ false → IsCalm rest → begins p rest ≡ false
+pub calm_begins : (p : ℕ → Bool) (rest : List ℕ) → p 32 ≡ false → p 41 ≡ false → p 93 ≡ false → IsCalm rest
+    → begins p rest ≡ false
 calm_begins p [] a b c k = refl
 calm_begins p (d ∷ ds) a b c k = among_each (λ d. p d ≡ false) calm (a, (b, (c, tt))) d k
 
@@ -54,11 +56,14 @@ shuns_exponent = record { space = refl; round = refl; square = refl }
 
 calm_fraction : (rest : List ℕ) → IsCalm rest → begins_fraction rest ≡ false
 calm_fraction [] k = refl
-calm_fraction (c ∷ cs) k = among_each (λ d. (d == 46 && not (begins is_dot_or_first cs)) ≡ false) calm (refl, (refl, (refl, tt))) c k
+calm_fraction (c ∷ cs) k =
+    among_each (λ d. (d == 46 && not (begins is_dot_or_first cs)) ≡ false) calm (refl, (refl, (refl, tt))) c k
 
 calm_exponent : (rest : List ℕ) → IsCalm rest → begins_exponent rest ≡ false
 calm_exponent [] k = refl
-calm_exponent (c ∷ cs) k = among_each (λ d. (is_exponent_letter d && begins is_digit (past_lead cs)) ≡ false) calm (refl, (refl, (refl, tt))) c k
+calm_exponent (c ∷ cs) k =
+    among_each (λ d. (is_exponent_letter d && begins is_digit (past_lead cs)) ≡ false) calm (refl, (refl, (refl, tt))) c
+    k
 
 calm_past : (p : ℕ → Bool) (rest : List ℕ) → Shuns p → IsCalm rest → past p rest ≡ rest
 calm_past p [] s k = refl
@@ -68,7 +73,9 @@ calm_sign : (rest : List ℕ) → IsCalm rest → past_sign rest ≡ rest
 calm_sign rest k = rw (calm_shuns is_sign rest shuns_sign k) refl
 
 calm_lead : (rest : List ℕ) → IsCalm rest → begins is_digit (past_lead rest) ≡ false
-calm_lead rest k = rw (calm_past is_underscore rest shuns_underscore k) (rw (calm_sign rest k) (rw (calm_past is_underscore rest shuns_underscore k) (calm_shuns is_digit rest shuns_digit k)))
+calm_lead rest k = rw (calm_past is_underscore rest shuns_underscore k)
+    (rw (calm_sign rest k) (rw (calm_past is_underscore rest shuns_underscore k)
+    (calm_shuns is_digit rest shuns_digit k)))
 
 -- the first text may be replaced by the second
 pub record Quieter (x y : List ℕ) : Type 0 where
@@ -108,23 +115,33 @@ lead_stops c cs h n = rw n (rw (next_sign c h) (rw n refl))
 lead_line : (c : ℕ) (cs : List ℕ) → (c == 95) ≡ true → past_lead (c ∷ cs) ≡ past_lead cs
 lead_line c cs h = rw h refl
 
-lead_quiet : (cs rest calmer : List ℕ) → passes is_next cs ≡ true → IsCalm calmer → begins is_digit (past_lead (cs ++ rest)) ≡ false → begins is_digit (past_lead (cs ++ calmer)) ≡ false
+lead_quiet : (cs rest calmer : List ℕ) → passes is_next cs ≡ true → IsCalm calmer
+    → begins is_digit (past_lead (cs ++ rest)) ≡ false → begins is_digit (past_lead (cs ++ calmer)) ≡ false
 lead_quiet [] rest calmer h k e = calm_lead calmer k
 lead_quiet (c ∷ cs) rest calmer h k e =
     let (n, more) = and_parts (is_next c) (passes is_next cs) h in
     ⊎_elim
-    (λ y. ap (begins is_digit) (lead_line c (cs ++ calmer) y) ∙ lead_quiet cs rest calmer more k (sym (ap (begins is_digit) (lead_line c (cs ++ rest) y)) ∙ e))
-    (λ y. ap (begins is_digit) (lead_stops c (cs ++ calmer) n y) ∙ sym (ap (begins is_digit) (lead_stops c (cs ++ rest) n y)) ∙ e)
+    (λ y. ap (begins is_digit) (lead_line c (cs ++ calmer) y) ∙ lead_quiet cs rest calmer more k
+    (sym (ap (begins is_digit) (lead_line c (cs ++ rest) y)) ∙ e))
+    (λ y. ap (begins is_digit) (lead_stops c (cs ++ calmer) n y) ∙ sym
+    (ap (begins is_digit) (lead_stops c (cs ++ rest) n y)) ∙ e)
     (cases_Bool (c == 95))
 
 -- behind a suffix a calm text may stand instead of any rest
-pub suffix_quieter : (suffix rest calmer : List ℕ) → IsSuffix suffix rest → IsCalm calmer → Quieter (suffix ++ rest) (suffix ++ calmer)
-suffix_quieter [] rest calmer s k = record { one = λ p h e. calm_shuns p calmer h k; fraction = λ e. calm_fraction calmer k; exponent = λ e. calm_exponent calmer k }
+pub suffix_quieter : (suffix rest calmer : List ℕ) → IsSuffix suffix rest → IsCalm calmer
+    → Quieter (suffix ++ rest) (suffix ++ calmer)
+suffix_quieter [] rest calmer s k =
+    record {
+      one = λ p h e. calm_shuns p calmer h k;
+      fraction = λ e. calm_fraction calmer k;
+      exponent = λ e. calm_exponent calmer k;
+    }
 suffix_quieter (c ∷ cs) rest calmer s k = record {
   one = λ p h e. e;
   fraction = λ e. rw (first_dot c s.0) refl;
   exponent = λ e. ⊎_elim
-      (λ y. let f : begins is_digit (past_lead (cs ++ rest)) ≡ false = rw y at e in rw y (lead_quiet cs rest calmer s.1 k f))
+      (λ y. let f : begins is_digit (past_lead (cs ++ rest))
+      ≡ false = rw y at e in rw y (lead_quiet cs rest calmer s.1 k f))
       (λ y. rw y refl)
       (cases_Bool (is_exponent_letter c));
 }

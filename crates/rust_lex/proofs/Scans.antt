@@ -1,8 +1,9 @@
 -- What a scan finds, case by case.
-use Rattle.std.proofs.Common.{◌≡◌, ℕ, List, [], ◌∷◌, ◌++◌, arith, length, length-append, drop, refl, sym, ap, ◌∙◌, subst, ⊎_elim}
+use Rattle.std.proofs.Common.{◌≡◌, ℕ, List, [], ◌∷◌, ◌++◌, arith, length, length-append, drop, refl, sym, ap, ◌∙◌}
+use Rattle.std.proofs.Common.{subst, ⊎_elim}
 use Rattle.std.specs.Prelude.{true, false, ◌&&◌, Some, None}
 use Rattle.std.proofs.lemmas.Bool.{cases_eq}
-use Rattle.rust_lex.specs.Chars.{is_next, is_digit, is_mark, begins, past}
+use Rattle.rust_lex.specs.Chars.{is_next, is_digit, is_mark_but_tick, begins, past}
 use Rattle.rust_escape.specs.declared.mode.Mode.{Mode}
 use Rattle.rust_escape.specs.declared.mode.Mode.TheVariants as modes
 use Rattle.rust_lex.specs.Quoted.{literal_kind, opening_of, opener_of}
@@ -28,25 +29,31 @@ ticked_nowhere cs e h = ticked_none cs e ∙ rw h refl
 pub ruleset ticks = (ticked_some, ticked_mark, ticked_nowhere)
 
 -- words
-pub word_is_raw : (cs : List ℕ) → begins_raw_mark cs ≡ true → begins_raw_name (drop 2 cs) ≡ true → word cs ≡ Ends Ident (past is_next (drop 2 cs))
+pub word_is_raw : (cs : List ℕ) → begins_raw_mark cs ≡ true → begins_raw_name (drop 2 cs) ≡ true → word cs
+    ≡ Ends Ident (past is_next (drop 2 cs))
 word_is_raw cs h k = word_raw cs (rw (h, k) refl)
 
 no_mark : (cs : List ℕ) → begins_raw_mark cs ≡ false → (begins_raw_mark cs && begins_raw_name (drop 2 cs)) ≡ false
 no_mark cs h = rw h refl
 
-no_name : (cs : List ℕ) → begins_raw_name (drop 2 cs) ≡ false → begins_raw_mark cs ≡ true → (begins_raw_mark cs && begins_raw_name (drop 2 cs)) ≡ false
+no_name : (cs : List ℕ) → begins_raw_name (drop 2 cs) ≡ false → begins_raw_mark cs ≡ true
+    → (begins_raw_mark cs && begins_raw_name (drop 2 cs)) ≡ false
 no_name cs h k = rw (k, h) refl
 
-pub word_plain : (cs : List ℕ) → begins_raw_mark cs ≡ false → opener_of cs ≡ None → word cs ≡ Ends Ident (past is_next cs)
+pub word_plain : (cs : List ℕ) → begins_raw_mark cs ≡ false → opener_of cs ≡ None → word cs
+    ≡ Ends Ident (past is_next cs)
 word_plain cs h e = word_none cs (no_mark cs h) e
 
-pub word_no_name : (cs : List ℕ) → begins_raw_mark cs ≡ true → begins_raw_name (drop 2 cs) ≡ false → opener_of cs ≡ None → word cs ≡ Ends Ident (past is_next cs)
+pub word_no_name : (cs : List ℕ) → begins_raw_mark cs ≡ true → begins_raw_name (drop 2 cs) ≡ false → opener_of cs ≡ None
+    → word cs ≡ Ends Ident (past is_next cs)
 word_no_name cs k h e = word_none cs (no_name cs h k) e
 
-pub word_opener : (cs : List ℕ) (o : Mode) → begins_raw_mark cs ≡ false → opener_of cs ≡ Some o → word cs ≡ suffixed (literal_kind o) (past_tail o (drop (length (opening_of o)) cs))
+pub word_opener : (cs : List ℕ) (o : Mode) → begins_raw_mark cs ≡ false → opener_of cs ≡ Some o → word cs
+    ≡ suffixed (literal_kind o) (past_tail o (drop (length (opening_of o)) cs))
 word_opener cs o h e = word_some cs o (no_mark cs h) e
 
-pub word_raw_opener : (cs : List ℕ) (o : Mode) → begins_raw_mark cs ≡ true → begins_raw_name (drop 2 cs) ≡ false → opener_of cs ≡ Some o → word cs ≡ suffixed (literal_kind o) (past_tail o (drop (length (opening_of o)) cs))
+pub word_raw_opener : (cs : List ℕ) (o : Mode) → begins_raw_mark cs ≡ true → begins_raw_name (drop 2 cs) ≡ false
+    → opener_of cs ≡ Some o → word cs ≡ suffixed (literal_kind o) (past_tail o (drop (length (opening_of o)) cs))
 word_raw_opener cs o k h e = word_some cs o (no_name cs h k) e
 
 pub ruleset words = (word_is_raw, word_plain, word_no_name, word_opener, word_raw_opener)
@@ -70,9 +77,11 @@ longer front rest c e = let l = ap length e in let m = length-append front rest 
 
 number_moves : (cs rest : List ℕ) → begins is_digit cs ≡ true → past_number cs ≡ Some rest → cs ≡ rest → ⊥
 number_moves [] rest h e s = cc
-number_moves (c ∷ cs) rest h e s = let t = number_found c cs rest h e in longer t.front rest c (ap (λ x. c ∷ x) (sym t.joined) ∙ s)
+number_moves (c ∷ cs) rest h e s = let t =
+    number_found c cs rest h e in longer t.front rest c (ap (λ x. c ∷ x) (sym t.joined) ∙ s)
 
-pub number_behind : (bytes : List ℕ) (at end : ℕ) → begins is_digit (rest_at bytes at) ≡ true → past_number (rest_at bytes at) ≡ Some (rest_at bytes end) → IsFrom bytes at end → IsBehind bytes at end
+pub number_behind : (bytes : List ℕ) (at end : ℕ) → begins is_digit (rest_at bytes at) ≡ true
+    → past_number (rest_at bytes at) ≡ Some (rest_at bytes end) → IsFrom bytes at end → IsBehind bytes at end
 number_behind bytes at end h e f =
     let on = f.on in
     ⊎_elim
@@ -83,11 +92,11 @@ number_behind bytes at end h e f =
 pub ruleset numbers = (number_behind)
 
 -- a quote isn't one of the other marks
-tick_mark : is_mark 39 ≡ false
-unfolding is_mark
+tick_mark : is_mark_but_tick 39 ≡ false
+unfolding is_mark_but_tick
 tick_mark = refl
 
-pub tick_no_mark : (c : ℕ) → c ≡ 39 → is_mark c ≡ false
+pub tick_no_mark : (c : ℕ) → c ≡ 39 → is_mark_but_tick c ≡ false
 tick_no_mark c e = rw e tick_mark
 
 pub ruleset marks = (rest_end, tick_no_mark)

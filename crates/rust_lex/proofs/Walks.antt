@@ -2,14 +2,9 @@
 use Rattle.std.proofs.Common.{◌≡◌, ℕ, ◌≤◌, List, drop}
 use Rattle.rust_lex.specs.Word.{begins_word}
 use Rattle.rust_lex.specs.Places.{rest_at, IsPlace}
+pub use Rattle.text_chars.proofs.Walks.{Walks}
 
--- from the place on the answer is what it was from the start on
-pub record Walks {X : Type 0} (find : List ℕ → X) (bytes : List ℕ) (start at : ℕ) : Type 0 where
-  pub same : find (rest_at bytes at) ≡ find (rest_at bytes start)
-  pub place : IsPlace bytes at
-  pub on : start ≤ at
-
--- the same, within n more comments
+-- the same as `Walks`, within n more comments
 pub record WalksIn {X : Type 0} (find : ℕ → List ℕ → X) (n : ℕ) (bytes : List ℕ) (start at : ℕ) : Type 0 where
   pub same : find n (rest_at bytes at) ≡ find 0 (rest_at bytes start)
   pub place : IsPlace bytes at

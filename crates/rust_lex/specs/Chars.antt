@@ -2,11 +2,12 @@
 use Rattle.std.specs.Prelude.{ℕ, Bool, true, false, ◌&&◌, ◌||◌, ◌==◌, not, nat_lt, List, [], ◌∷◌}
 use Rattle.std.specs.Char.{is_ascii_digit}
 use Rattle.unicode_ident.specs.Ident.{is_xid_start, is_xid_continue}
-pub use Rattle.rust_escape.specs.Chars.{is_among, begins, passes, past, is_line_feed, is_underscore}
+pub use Rattle.text_chars.specs.Chars.{is_among, begins, passes, past, is_line_feed, is_underscore}
 
 -- the white characters of Unicode, and the marks U+200E and U+200F of a text's direction
 abbrev pub whites : List ℕ
-whites = 9 ∷ 10 ∷ 11 ∷ 12 ∷ 13 ∷ 32 ∷ 133 ∷ 160 ∷ 5760 ∷ 8192 ∷ 8193 ∷ 8194 ∷ 8195 ∷ 8196 ∷ 8197 ∷ 8198 ∷ 8199 ∷ 8200 ∷ 8201 ∷ 8202 ∷ 8206 ∷ 8207 ∷ 8232 ∷ 8233 ∷ 8239 ∷ 8287 ∷ 12288 ∷ []
+whites = 9 ∷ 10 ∷ 11 ∷ 12 ∷ 13 ∷ 32 ∷ 133 ∷ 160 ∷ 5760 ∷ 8192 ∷ 8193 ∷ 8194 ∷ 8195 ∷ 8196 ∷ 8197 ∷ 8198 ∷ 8199 ∷ 8200 ∷
+    8201 ∷ 8202 ∷ 8206 ∷ 8207 ∷ 8232 ∷ 8233 ∷ 8239 ∷ 8287 ∷ 12288 ∷ []
 
 unfoldable pub is_white : ℕ → Bool
 is_white c = is_among whites c
@@ -27,11 +28,12 @@ unfoldable pub is_digit : ℕ → Bool
 is_digit c = is_ascii_digit c
 
 -- ~ ! @ # $ % ^ & * - = + | ; : , < . > / ?, which with ' are the 22 marks
-abbrev pub marks : List ℕ
-marks = 126 ∷ 33 ∷ 64 ∷ 35 ∷ 36 ∷ 37 ∷ 94 ∷ 38 ∷ 42 ∷ 45 ∷ 61 ∷ 43 ∷ 124 ∷ 59 ∷ 58 ∷ 44 ∷ 60 ∷ 46 ∷ 62 ∷ 47 ∷ 63 ∷ []
+abbrev pub marks_but_tick : List ℕ
+marks_but_tick = 126 ∷ 33 ∷ 64 ∷ 35 ∷ 36 ∷ 37 ∷ 94 ∷ 38 ∷ 42 ∷ 45 ∷ 61 ∷ 43 ∷ 124 ∷ 59 ∷ 58 ∷ 44 ∷ 60 ∷ 46 ∷ 62 ∷ 47 ∷
+    63 ∷ []
 
-unfoldable pub is_mark : ℕ → Bool
-is_mark c = is_among marks c
+unfoldable pub is_mark_but_tick : ℕ → Bool
+is_mark_but_tick c = is_among marks_but_tick c
 
 -- a text begins with another
 abbrev pub begins_with : List ℕ → List ℕ → Bool

@@ -1,5 +1,6 @@
 -- Comments: the plain ones, which are gaps, and the four forms of docs.
-use Rattle.std.specs.Prelude.{◌≡◌, ℕ, zero, suc, Bool, true, false, ◌&&◌, ◌||◌, ◌==◌, not, List, [], ◌∷◌, ◌++◌, Option, Some, None, if◌then◌else◌, ◌⊎◌}
+use Rattle.std.specs.Prelude.{◌≡◌, ℕ, zero, suc, Bool, true, false, ◌&&◌, ◌||◌, ◌==◌, not, List, [], ◌∷◌, ◌++◌}
+use Rattle.std.specs.Prelude.{Option, Some, None, if◌then◌else◌, ◌⊎◌}
 use Rattle.rust_lex.specs.Chars.{begins, passes, is_line_feed, is_not_feed, is_slash, is_slash_or_star}
 pub use Rattle.rust_lex.specs.declared.piece.DocKind.{DocKind}
 pub use Rattle.rust_lex.specs.declared.piece.DocKind.TheVariants.{OuterLine, InnerLine, OuterBlock, InnerBlock}
@@ -29,7 +30,9 @@ is_plain_block (c ∷ d ∷ cs) = not (c == 33) && (not (c == 42) || (d == 47 ||
 
 -- a plain comment before a rest: // up to a line feed or the end, or /* up to the */ that closes it
 abbrev pub IsComment : List ℕ → List ℕ → Type 0
-IsComment (a ∷ b ∷ cs) rest = (a ≡ 47) × ((b ≡ 47) × (is_plain_line (cs ++ rest) ≡ true) × (passes is_not_feed cs ≡ true) × (begins is_not_feed rest ≡ false)
+IsComment (a ∷ b ∷ cs) rest =
+    (a ≡ 47) × ((b ≡ 47) × (is_plain_line (cs ++ rest) ≡ true) × (passes is_not_feed cs ≡ true) ×
+    (begins is_not_feed rest ≡ false)
     ⊎ (b ≡ 42) × (is_plain_block (cs ++ rest) ≡ true) × (past_comment false 0 cs ≡ Some []))
 IsComment _ rest = ⊥
 
@@ -52,7 +55,8 @@ ends_line (c ∷ cs) = c == 10 || (c == 13 && begins is_line_feed cs)
 -- what follows the three opening characters of a doc. The line forms go on to the end of the line;
 -- the block forms go on to the */ that closes them; /// is none before /, nor /** before * and /
 abbrev pub IsDocText : DocKind → List ℕ → List ℕ → Type 0
-IsDocText OuterLine cs rest = (begins is_slash (cs ++ rest) ≡ false) × (passes is_within_line cs ≡ true) × (ends_line rest ≡ true)
+IsDocText OuterLine cs rest =
+    (begins is_slash (cs ++ rest) ≡ false) × (passes is_within_line cs ≡ true) × (ends_line rest ≡ true)
 IsDocText InnerLine cs rest = (passes is_within_line cs ≡ true) × (ends_line rest ≡ true)
 IsDocText OuterBlock cs rest = (begins is_slash_or_star cs ≡ false) × (past_comment true 0 cs ≡ Some [])
 IsDocText InnerBlock cs rest = past_comment true 0 cs ≡ Some []

@@ -1,5 +1,6 @@
 -- Numbers. Each part of one goes on as far as it can, so a number is what stands before the text behind it.
-use Rattle.std.specs.Prelude.{◌≡◌, ℕ, Bool, true, false, ◌&&◌, ◌||◌, ◌==◌, not, nat_lt, List, [], ◌∷◌, ◌++◌, drop, Option, Some, None, if◌then◌else◌}
+use Rattle.std.specs.Prelude.{◌≡◌, ℕ, Bool, true, false, ◌&&◌, ◌||◌, ◌==◌, not, nat_lt, List, [], ◌∷◌, ◌++◌, drop}
+use Rattle.std.specs.Prelude.{Option, Some, None, if◌then◌else◌}
 use Rattle.std.specs.Char.{digit_value}
 use Rattle.rust_lex.specs.Chars.{is_first, is_digit, begins, is_underscore, past}
 use Rattle.rust_lex.specs.Quoted.{LiteralKind, Int, Float}
@@ -86,4 +87,5 @@ number_kind cs = if base_of cs == 0 then decimal_kind cs else Int
 
 -- a number before a rest
 abbrev pub IsNumber : LiteralKind → List ℕ → List ℕ → Type 0
-IsNumber kind cs rest = (begins is_digit cs ≡ true) × (past_number (cs ++ rest) ≡ Some rest) × (kind ≡ number_kind (cs ++ rest))
+IsNumber kind cs rest = (begins is_digit cs ≡ true) × (past_number (cs ++ rest) ≡ Some rest) ×
+    (kind ≡ number_kind (cs ++ rest))

@@ -1,23 +1,25 @@
 -- The pieces of a text. Each class is a set of texts, with a condition on what follows.
-use Rattle.std.specs.Prelude.{◌≡◌, ℕ, zero, suc, Bool, true, false, ◌&&◌, ◌||◌, ◌==◌, not, is_some, List, [], ◌∷◌, ◌++◌, ◌⊎◌}
-use Rattle.rust_lex.specs.Chars.{is_white, is_first, is_next, is_mark, begins, passes, is_slash_or_star}
+use Rattle.std.specs.Prelude.{◌≡◌, ℕ, zero, suc, Bool, true, false, ◌&&◌, ◌||◌, ◌==◌, not, is_some, List, [], ◌∷◌}
+use Rattle.std.specs.Prelude.{◌++◌, ◌⊎◌}
+use Rattle.rust_lex.specs.Chars.{is_white, is_first, is_next, is_mark_but_tick, begins, passes, is_slash_or_star}
 use Rattle.rust_lex.specs.Comment.{IsComment, IsDoc}
-use Rattle.rust_lex.specs.Quoted.{LiteralKind, Char, IsQuoted, opener_of}
+use Rattle.rust_lex.specs.Quoted.{LiteralKind, Char, IsQuotedLiteral, opener_of}
 use Rattle.rust_lex.specs.Number.{IsNumber}
 use Rattle.rust_lex.specs.Word.{IsWord, IsRawWord, begins_lifetime}
-pub use Rattle.rust_lex.specs.declared.delimiter.Delimiter.{Delimiter}
-pub use Rattle.rust_lex.specs.declared.delimiter.Delimiter.TheVariants.{Parenthesis, Brace, Bracket}
+pub use Rattle.rust_lex.specs.declared.group_marks.GroupMarks.{GroupMarks}
+pub use Rattle.rust_lex.specs.declared.group_marks.GroupMarks.TheVariants.{Parenthesis, Brace, Bracket}
 pub use Rattle.rust_lex.specs.declared.piece.PieceKind.{PieceKind}
-pub use Rattle.rust_lex.specs.declared.piece.PieceKind.TheVariants.{FrontMark, White, Comment, Doc, Open, Close, Mark, Ident, Literal}
+pub use Rattle.rust_lex.specs.declared.piece.PieceKind.TheVariants.{FrontMark, White, Comment, Doc, Open, Close}
+pub use Rattle.rust_lex.specs.declared.piece.PieceKind.TheVariants.{Mark, Ident, Literal}
 
 -- ( { [
-abbrev pub opening : Delimiter → ℕ
+abbrev pub opening : GroupMarks → ℕ
 opening Parenthesis = 40
 opening Brace = 123
 opening Bracket = 91
 
 -- ) } ]
-abbrev pub closing : Delimiter → ℕ
+abbrev pub closing : GroupMarks → ℕ
 closing Parenthesis = 41
 closing Brace = 125
 closing Bracket = 93
@@ -40,11 +42,12 @@ is_prefixed cs = is_some (opener_of cs)
 -- a text begins with a mark: a / that begins // or /* is none, and ' is one before a lifetime's name
 abbrev pub begins_mark : List ℕ → Bool
 begins_mark [] = false
-begins_mark (c ∷ cs) = (is_mark c && not (c == 47 && begins is_slash_or_star cs)) || (c == 39 && begins_lifetime cs)
+begins_mark (c ∷ cs) = (is_mark_but_tick c && not (c == 47 && begins is_slash_or_star cs))
+    || (c == 39 && begins_lifetime cs)
 
 -- a text begins with a character literal, its suffix aside
 abbrev pub BeginsChar : List ℕ → Type 0
-BeginsChar text = (cs rest : List ℕ) × (text ≡ cs ++ rest) × IsQuoted Char cs
+BeginsChar text = (cs rest : List ℕ) × (text ≡ cs ++ rest) × IsQuotedLiteral Char cs
 
 -- the mark that a text begins with is joint: ' always is, another where a mark or a character literal follows at once
 abbrev pub IsJoint : List ℕ → Type 0
@@ -58,10 +61,11 @@ IsSuffix (c ∷ cs) rest = (is_first c ≡ true) × (passes is_next cs ≡ true)
 
 -- a literal without its suffix, before the suffix and the rest
 abbrev pub IsBody : LiteralKind → List ℕ → List ℕ → Type 0
-IsBody kind cs rest = IsQuoted kind cs ⊎ IsNumber kind cs rest
+IsBody kind cs rest = IsQuotedLiteral kind cs ⊎ IsNumber kind cs rest
 
 abbrev pub IsLiteral : LiteralKind → List ℕ → List ℕ → Type 0
-IsLiteral kind cs rest = (body suffix : List ℕ) × (cs ≡ body ++ suffix) × IsBody kind body (suffix ++ rest) × IsSuffix suffix rest
+IsLiteral kind cs rest = (body suffix : List ℕ) × (cs ≡ body ++ suffix) × IsBody kind body (suffix ++ rest) × IsSuffix
+    suffix rest
 
 -- an identifier before a rest goes on as long as it can. It may be raw; else the text doesn't begin as a
 -- prefixed literal

@@ -1,6 +1,6 @@
 -- The piece at a place in the bytes of a text.
 use Rattle.std.specs.Prelude.{◌≡◌, ℕ, false, List, Option, MatchOption}
-pub use Rattle.rust_escape.specs.Places.{rest_at, IsPlace, IsBehind, between}
+pub use Rattle.text_chars.specs.Places.{rest_at, IsPlace, IsBehind, IsNext, between_places}
 use Rattle.rust_lex.specs.Chars.{begins, is_narrow_white}
 use Rattle.rust_lex.specs.Piece.{PieceKind, White, FitsAt}
 use Rattle.rust_lex.specs.Cover.{NoPieceAt}
@@ -8,9 +8,9 @@ use Rattle.rust_lex.specs.Cover.{NoPieceAt}
 -- the place behind a white character of ASCII that stands at a place, or none stands there
 abbrev pub IsWhiteAt : List ℕ → ℕ → Option ℕ → Type 0
 IsWhiteAt bytes at result = MatchOption result (begins is_narrow_white (rest_at bytes at) ≡ false)
-    (λ next. FitsAt at White (between bytes at next) (rest_at bytes next) × IsBehind bytes at next)
+    (λ next. FitsAt at White (between_places bytes at next) (rest_at bytes next) × IsBehind bytes at next)
 
 -- the piece that stands at a place, and the place behind it, or there is none
 abbrev pub IsPieceAt : List ℕ → ℕ → Option (PieceKind × ℕ) → Type 0
 IsPieceAt bytes at result = MatchOption result (NoPieceAt at (rest_at bytes at))
-    (λ p. FitsAt at p.0 (between bytes at p.1) (rest_at bytes p.1) × IsBehind bytes at p.1)
+    (λ p. FitsAt at p.0 (between_places bytes at p.1) (rest_at bytes p.1) × IsBehind bytes at p.1)

@@ -1,5 +1,6 @@
 -- Literals in quotes: what each begins with, and what follows. An inside is made of units, by the lexical rule.
-use Rattle.std.specs.Prelude.{◌≡◌, ℕ, ◌≤◌, ◌&&◌, ◌==◌, List, [], ◌∷◌, ◌++◌, replicate, Option, Some, None, if◌then◌else◌}
+use Rattle.std.specs.Prelude.{◌≡◌, ℕ, ◌≤◌, ◌&&◌, ◌==◌, List, [], ◌∷◌, ◌++◌, replicate, Option, Some, None}
+use Rattle.std.specs.Prelude.{if◌then◌else◌}
 use Rattle.rust_escape.specs.declared.mode.Mode.{Mode}
 use Rattle.rust_escape.specs.declared.mode.Mode.TheVariants as modes
 use Rattle.rust_escape.specs.Unit.{Lexical, IsUnit, IsInside}
@@ -73,8 +74,9 @@ literal_kind modes.RawByteStr = ByteStr
 literal_kind modes.RawCStr = CStr
 
 -- a literal in quotes, without its suffix
-abbrev pub IsQuoted : LiteralKind → List ℕ → Type 0
-IsQuoted kind cs = (mode : Mode) × (tail : List ℕ) × (kind ≡ literal_kind mode) × (cs ≡ opening_of mode ++ tail) × IsTail mode tail
+abbrev pub IsQuotedLiteral : LiteralKind → List ℕ → Type 0
+IsQuotedLiteral kind cs = (mode : Mode) × (tail : List ℕ) × (kind ≡ literal_kind mode) × (cs ≡ opening_of mode ++ tail)
+    × IsTail mode tail
 
 -- the prefixed literal as which a text begins: r" r# b" b' br" br# c" cr" cr#
 unfoldable pub opener_of : List ℕ → Option Mode

@@ -1,5 +1,6 @@
 -- Where a literal in quotes ends: a tool of the proofs, drawn from the scan of a unit.
-use Rattle.std.specs.Prelude.{ℕ, zero, suc, ◌+◌, ◌-◌, ◌&&◌, ◌||◌, ◌==◌, nat_le, Bool, List, [], ◌∷◌, length, Option, Some, None, if◌then◌else◌}
+use Rattle.std.specs.Prelude.{ℕ, zero, suc, ◌+◌, ◌-◌, ◌&&◌, ◌||◌, ◌==◌, nat_le, Bool, List, [], ◌∷◌, length, Option}
+use Rattle.std.specs.Prelude.{Some, None, if◌then◌else◌}
 use Rattle.rust_escape.specs.declared.mode.Mode.{Mode}
 use Rattle.rust_escape.specs.declared.mode.Mode.TheVariants as modes
 use Rattle.rust_escape.specs.LexicalScan.{lexical_scan}
@@ -23,7 +24,9 @@ past_char mode cs = elim (past_unit mode cs) [ None ↦ None | Some rest ↦ pas
 -- behind the closing quote of a string, the first n characters being of one unit
 unfoldable pub past_units : Mode → ℕ → List ℕ → Option (List ℕ)
 past_units mode n [] = None
-past_units mode zero (c ∷ cs) = if c == 34 then Some cs else (elim (past_unit mode (c ∷ cs)) [ None ↦ None | Some rest ↦ past_units mode (length cs - length rest) cs ])
+past_units mode zero (c ∷ cs) =
+    if c == 34 then Some cs else
+    (elim (past_unit mode (c ∷ cs)) [ None ↦ None | Some rest ↦ past_units mode (length cs - length rest) cs ])
 past_units mode (suc n) (c ∷ cs) = past_units mode n cs
 
 -- behind n #
@@ -52,7 +55,8 @@ past_raw mode n (c ∷ cs) = elim (past_close n (c ∷ cs)) [
 -- behind a raw string, n # of whose front have been read
 unfoldable pub past_hashes : Mode → ℕ → List ℕ → Option (List ℕ)
 past_hashes mode n [] = None
-past_hashes mode n (c ∷ cs) = if c == 35 then past_hashes mode (n + 1) cs else (if c == 34 && nat_le n 255 then past_raw mode n cs else None)
+past_hashes mode n (c ∷ cs) =
+    if c == 35 then past_hashes mode (n + 1) cs else (if c == 34 && nat_le n 255 then past_raw mode n cs else None)
 
 -- behind what follows an opening
 abbrev pub past_tail : Mode → List ℕ → Option (List ℕ)

@@ -1,22 +1,32 @@
 -- Which piece a text begins with: what the code computes. That it is the one piece that fits is proved.
-use Rattle.std.specs.Prelude.{ℕ, zero, suc, Bool, true, false, ◌&&◌, ◌||◌, ◌==◌, not, nat_lt, is_some, List, [], ◌∷◌, Option, Some, None, if◌then◌else◌, drop, length}
-use Rattle.rust_lex.specs.Chars.{is_white, is_first, is_next, is_digit, is_mark, is_not_feed, past}
+use Rattle.std.specs.Prelude.{ℕ, zero, suc, Bool, true, false, ◌&&◌, ◌||◌, ◌==◌, not, is_some, List, [], ◌∷◌}
+use Rattle.std.specs.Prelude.{Option, Some, None, if◌then◌else◌, drop, length}
+use Rattle.rust_lex.specs.Chars.{is_white, is_first, is_next, is_digit, is_mark_but_tick, is_not_feed, past}
 use Rattle.rust_lex.specs.Ends.{past_suffix}
-use Rattle.rust_lex.specs.Comment.{OuterLine, InnerLine, OuterBlock, InnerBlock, is_plain_line, is_plain_block, past_comment, is_within_line, ends_line}
+use Rattle.rust_lex.specs.Comment.{OuterLine, InnerLine, OuterBlock, InnerBlock, is_plain_line, is_plain_block}
+use Rattle.rust_lex.specs.Comment.{past_comment, is_within_line, ends_line}
 use Rattle.rust_escape.specs.declared.mode.Mode.TheVariants as modes
 use Rattle.rust_lex.specs.Quoted.{LiteralKind, Str, Char, literal_kind, opening_of, opener_of}
 use Rattle.rust_lex.specs.QuotedScan.{past_units, past_char, past_tail}
 use Rattle.rust_lex.specs.Number.{past_number, number_kind}
 use Rattle.rust_lex.specs.Word.{begins_raw_mark, begins_raw_name, begins_lifetime}
-use Rattle.rust_lex.specs.Piece.{Parenthesis, Brace, Bracket, PieceKind, FrontMark, White, Comment, Doc, Open, Close, Mark, Ident, Literal, begins_mark}
+use Rattle.rust_lex.specs.Piece.{Parenthesis, Brace, Bracket, PieceKind, FrontMark, White, Comment, Doc, Open}
+use Rattle.rust_lex.specs.Piece.{Close, Mark, Ident, Literal, begins_mark}
 -- what begins with a character
 pub use Rattle.rust_lex.specs.declared.front.Front.{Front}
-pub use Rattle.rust_lex.specs.declared.front.Front.TheVariants.{White as white, Opens as opens, Closes as closes, Quote as quote, Tick as tick, Digit as digit, First as first, Mark as mark, Other as other}
+pub use Rattle.rust_lex.specs.declared.front.Front.TheVariants.{White as white, Opens as opens, Closes as closes}
+pub use Rattle.rust_lex.specs.declared.front.Front.TheVariants.{Quote as quote, Tick as tick, Digit as digit}
+pub use Rattle.rust_lex.specs.declared.front.Front.TheVariants.{First as first, Mark as mark, Other as other}
 
 unfoldable pub front_of : ℕ → Front
-front_of c = if is_first c then first else (if is_white c then white else (if is_mark c then mark else (if is_digit c then digit else
-    (if c == 34 then quote else (if c == 39 then tick else (if c == 40 then opens Parenthesis else (if c == 41 then closes Parenthesis else (if c == 91 then opens Bracket else
-    (if c == 93 then closes Bracket else (if c == 123 then opens Brace else (if c == 125 then closes Brace else other)))))))))))
+front_of c = if is_first c then first else
+    (if is_white c then white else (if is_mark_but_tick c then mark else (if is_digit c then digit else
+    (if c == 34 then quote else
+    (if c == 39 then tick else
+    (if c == 40 then opens Parenthesis else
+    (if c == 41 then closes Parenthesis else (if c == 91 then opens Bracket else
+    (if c == 93 then closes Bracket else
+    (if c == 123 then opens Brace else (if c == 125 then closes Brace else other)))))))))))
 
 -- a piece, and what stands behind it
 pub data Scanned : Type 0 where
@@ -35,7 +45,8 @@ ended k (Some cs) = Ends k cs
 unfoldable pub line : List ℕ → Scanned
 line [] = Ends Comment []
 line (c ∷ cs) = if is_plain_line (c ∷ cs) then Ends Comment (past is_not_feed (c ∷ cs))
-    else (if ends_line (past is_within_line cs) then Ends (Doc (if c == 33 then InnerLine else OuterLine)) (past is_within_line cs) else Nowhere)
+    else (if ends_line (past is_within_line cs) then Ends (Doc (if c == 33 then InnerLine else OuterLine))
+    (past is_within_line cs) else Nowhere)
 
 -- behind /*
 unfoldable pub block : List ℕ → Scanned
@@ -50,12 +61,17 @@ slash (c ∷ cs) = if c == 47 then line cs else (if c == 42 then block cs else E
 
 -- behind '
 unfoldable pub ticked : List ℕ → Scanned
-ticked cs = elim (past_char modes.Char cs) [ Some rest ↦ Ends (Literal Char) (past_suffix rest) | None ↦ if begins_lifetime cs then Ends Mark cs else Nowhere ]
+ticked cs = elim (past_char modes.Char cs)
+    [ Some rest ↦ Ends (Literal Char) (past_suffix rest) | None ↦ if begins_lifetime cs then Ends Mark cs else Nowhere ]
 
 -- a text that begins with a letter or _
 unfoldable pub word : List ℕ → Scanned
 word cs = if begins_raw_mark cs && begins_raw_name (drop 2 cs) then Ends Ident (past is_next (drop 2 cs))
-    else (elim (opener_of cs) [ None ↦ Ends Ident (past is_next cs) | Some mode ↦ suffixed (literal_kind mode) (past_tail mode (drop (length (opening_of mode)) cs)) ])
+    else (elim (opener_of cs) [
+      | None ↦ Ends Ident (past is_next cs)
+      | Some mode ↦ suffixed (literal_kind mode)
+          (past_tail mode (drop (length (opening_of mode)) cs))
+    ])
 
 abbrev pub at_front : Front → ℕ → List ℕ → Scanned
 at_front white c cs = Ends White cs
@@ -92,6 +108,6 @@ abbrev pub is_joint : List ℕ → Bool
 is_joint [] = false
 is_joint (c ∷ cs) = c == 39 || (begins_mark cs || begins_char cs)
 
--- a byte of ASCII that neither ends nor begins a comment, nor is a carriage return
+-- a character that neither ends nor begins a comment, nor is a carriage return
 abbrev pub is_quiet : ℕ → Bool
-is_quiet b = nat_lt b 128 && (not (b == 42) && (not (b == 47) && not (b == 13)))
+is_quiet c = not (c == 42 || (c == 47 || c == 13))

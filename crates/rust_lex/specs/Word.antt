@@ -1,5 +1,6 @@
 -- Identifiers, and the quote mark of a lifetime.
-use Rattle.std.specs.Prelude.{◌≡◌, ℕ, Bool, true, false, ◌&&◌, ◌||◌, ◌==◌, not, List, [], ◌∷◌, ◌++◌, drop, if◌then◌else◌}
+use Rattle.std.specs.Prelude.{◌≡◌, ℕ, Bool, true, false, ◌&&◌, ◌||◌, ◌==◌, not, List, [], ◌∷◌, ◌++◌, drop}
+use Rattle.std.specs.Prelude.{if◌then◌else◌}
 use Rattle.rust_lex.specs.Chars.{is_first, is_next, begins, passes, begins_with, is_tick, is_tick_or_hash, past}
 
 -- a character that an identifier begins with, and any that it goes on with

@@ -4,40 +4,33 @@ ghost use Rattle.rust_lex.specs.Comment as comment;
 ghost use Rattle.rust_lex.specs.Ended.{IsEnd, IsFrom, IsScanned};
 ghost use Rattle.rust_lex.specs.Places.{IsBehind, IsPlace, rest_at};
 ghost use Rattle.rust_lex.specs.Scan as scan;
-ghost use Rattle.std.specs.List.{list_all};
 ghost use Rattle.std.specs.Prelude.{◌≡◌, ℕ, Bool};
 
 use crate::piece::{DocKind, PieceKind};
-use crate::walk::{Feed, NotFeed, WithinLine, begins, past};
-use rust_escape::place::char_at;
+use crate::walk::{Feed, NotFeed, WithinLine, begins, past_many};
+use text_chars::{Test, char_at, next_char, past_blocks};
 
-// So many bytes are looked at together.
-const BLOCK: usize = 16;
+// A character that does nothing within a comment.
+struct Quiet;
 
-// Whether bytes are characters that do nothing within a comment. It looks at all of them, so that many are
-// seen at once.
-fn are_quiet(bytes: &[u8]) -> bool
-    ensures { result ≡ list_all scan.is_quiet bytes.now }
-{
-    let mut quiet = true;
-    for byte in bytes {
-        quiet &= (*byte < 128) & ((*byte != b'*') & ((*byte != b'/') & (*byte != b'\r')));
+impl Test for Quiet {
+    ghost test = { scan.is_quiet };
+
+    #[inline(always)]
+    fn passes(c: char) -> bool {
+        !((c == '*') | ((c == '/') | (c == '\r')))
     }
-    quiet
 }
 
 // A place behind characters that do nothing within a comment, as long as whole blocks of them stand there.
+#[tactic(auto, using(crate::proofs::Quiet::quiet_behind, crate::proofs::Quiet::passed_from))]
 fn past_quiet(text: &str, start: usize) -> usize
     requires { IsPlace text.now start }
     ensures from { IsFrom text.now start result }
-    ensures same { (doc : Bool) (depth : ℕ) → comment.past_comment doc depth (rest_at text.now result) ≡ comment.past_comment doc depth (rest_at text.now start) }
+    ensures same { (doc : Bool) (depth : ℕ) → comment.past_comment doc depth (rest_at text.now result)
+        ≡ comment.past_comment doc depth (rest_at text.now start) }
 {
-    let bytes = text.as_bytes();
-    let mut at = start;
-    while bytes.len() - at >= BLOCK && are_quiet(&bytes[at..at + BLOCK]) {
-        at += BLOCK;
-    }
-    at
+    past_blocks::<Quiet>(text, start)
 }
 
 // The place behind the end of a comment, its opening having been read.
@@ -54,10 +47,9 @@ fn comment_end(text: &str, start: usize, doc: bool) -> Option<usize>
             at = next;
             continue;
         }
-        if next >= text.len() {
+        let Some((d, after)) = next_char(text, next) else {
             return None;
-        }
-        let (d, after) = char_at(text, next);
+        };
         if (c == '*') & (d == '/') {
             if depth == 0 {
                 return Some(after);
@@ -81,14 +73,12 @@ fn is_plain_line(text: &str, at: usize) -> bool
     requires { IsPlace text.now at }
     ensures { result ≡ comment.is_plain_line (rest_at text.now at) }
 {
-    if at >= text.len() {
+    let Some((c, next)) = next_char(text, at) else {
         return true;
-    }
-    let (c, next) = char_at(text, at);
-    if next >= text.len() {
+    };
+    let Some((d, _)) = next_char(text, next) else {
         return !((c == '/') | (c == '!'));
-    }
-    let (d, _) = char_at(text, next);
+    };
     !(c == '!') & (!(c == '/') | (d == '/'))
 }
 
@@ -97,14 +87,12 @@ fn is_plain_block(text: &str, at: usize) -> bool
     requires { IsPlace text.now at }
     ensures { result ≡ comment.is_plain_block (rest_at text.now at) }
 {
-    if at >= text.len() {
+    let Some((c, next)) = next_char(text, at) else {
         return true;
-    }
-    let (c, next) = char_at(text, at);
-    if next >= text.len() {
+    };
+    let Some((d, _)) = next_char(text, next) else {
         return !((c == '*') | (c == '!'));
-    }
-    let (d, _) = char_at(text, next);
+    };
     !(c == '!') & (!(c == '*') | ((d == '/') | (d == '*')))
 }
 
@@ -113,10 +101,9 @@ fn ends_line(text: &str, at: usize) -> bool
     requires { IsPlace text.now at }
     ensures { result ≡ comment.ends_line (rest_at text.now at) }
 {
-    if at >= text.len() {
+    let Some((c, next)) = next_char(text, at) else {
         return true;
-    }
-    let (c, next) = char_at(text, at);
+    };
     (c == '\n') | ((c == '\r') & begins::<Feed>(text, next))
 }
 
@@ -130,10 +117,10 @@ fn line(text: &str, start: usize, at: usize) -> Option<(PieceKind, usize)>
         return Some((PieceKind::Comment, at));
     }
     if is_plain_line(text, at) {
-        return Some((PieceKind::Comment, past::<NotFeed>(text, at)));
+        return Some((PieceKind::Comment, past_many::<NotFeed>(text, at)));
     }
     let (c, next) = char_at(text, at);
-    let end = past::<WithinLine>(text, next);
+    let end = past_many::<WithinLine>(text, next);
     if !ends_line(text, end) {
         return None;
     }
@@ -151,10 +138,9 @@ fn block(text: &str, start: usize, at: usize) -> Option<(PieceKind, usize)>
     requires { IsBehind text.now start at }
     ensures { IsScanned text.now start result (scan.block (rest_at text.now at)) }
 {
-    if at >= text.len() {
+    let Some((c, next)) = next_char(text, at) else {
         return None;
-    }
-    let (c, next) = char_at(text, at);
+    };
     if is_plain_block(text, at) {
         let end = comment_end(text, at, false)?;
         return Some((PieceKind::Comment, end));
@@ -174,10 +160,9 @@ pub(crate) fn slash(text: &str, start: usize, at: usize) -> Option<(PieceKind, u
     requires { IsBehind text.now start at }
     ensures { IsScanned text.now start result (scan.slash (rest_at text.now at)) }
 {
-    if at >= text.len() {
+    let Some((c, next)) = next_char(text, at) else {
         return Some((PieceKind::Mark, at));
-    }
-    let (c, next) = char_at(text, at);
+    };
     if c == '/' {
         return line(text, start, next);
     }

@@ -9,7 +9,7 @@ ghost use Rattle.std.specs.Prelude.{◌≡◌, false, true};
 
 use rust_escape::Mode;
 use rust_escape::lexical::{inside_end, is_plain, lexical_unit};
-use rust_escape::place::char_at;
+use text_chars::{char_at, next_char};
 
 // The place behind a string, its opening quote having been read.
 #[tactic(auto, using(crate::proofs::Closed::strings))]
@@ -33,10 +33,9 @@ fn one_end(text: &str, start: usize, sought: char) -> Option<usize>
     requires { IsPlace text.now start }
     ensures { IsEnd text.now start result (ends.past_one sought (rest_at text.now start)) }
 {
-    if start >= text.len() {
+    let Some((c, next)) = next_char(text, start) else {
         return None;
-    }
-    let (c, next) = char_at(text, start);
+    };
     if c == sought { Some(next) } else { None }
 }
 
@@ -46,10 +45,9 @@ fn unit_end(text: &str, start: usize, mode: Mode) -> Option<usize>
     requires { IsPlace text.now start }
     ensures { IsEnd text.now start result (quoted.past_unit mode (rest_at text.now start)) }
 {
-    if start >= text.len() {
+    let Some((c, next)) = next_char(text, start) else {
         return None;
-    }
-    let (c, next) = char_at(text, start);
+    };
     if is_plain(mode, c) {
         return Some(next);
     }

@@ -4,7 +4,7 @@ ghost use Rattle.rust_lex.specs.Chars as chars;
 ghost use Rattle.rust_lex.specs.Scan as scan;
 ghost use Rattle.std.specs.Prelude.{◌≡◌, ◌≤◌};
 
-use crate::delimiter::Delimiter;
+use crate::group_marks::GroupMarks;
 use unicode_ident::is_xid_start;
 
 /// What a character may begin.
@@ -13,9 +13,9 @@ pub enum Front {
     /// A white character.
     White,
     /// The opening mark of a group.
-    Opens(Delimiter),
+    Opens(GroupMarks),
     /// The closing mark of a group.
-    Closes(Delimiter),
+    Closes(GroupMarks),
     /// A string.
     Quote,
     /// A character, or the mark of a lifetime.
@@ -76,12 +76,12 @@ pub(crate) fn front_of(c: char) -> Front
         'a'..='z' | 'A'..='Z' | '_' => Front::First,
         '\t'..='\r' | ' ' => Front::White,
         '0'..='9' => Front::Digit,
-        '(' => Front::Opens(Delimiter::Parenthesis),
-        ')' => Front::Closes(Delimiter::Parenthesis),
-        '[' => Front::Opens(Delimiter::Bracket),
-        ']' => Front::Closes(Delimiter::Bracket),
-        '{' => Front::Opens(Delimiter::Brace),
-        '}' => Front::Closes(Delimiter::Brace),
+        '(' => Front::Opens(GroupMarks::Parenthesis),
+        ')' => Front::Closes(GroupMarks::Parenthesis),
+        '[' => Front::Opens(GroupMarks::Bracket),
+        ']' => Front::Closes(GroupMarks::Bracket),
+        '{' => Front::Opens(GroupMarks::Brace),
+        '}' => Front::Closes(GroupMarks::Brace),
         '"' => Front::Quote,
         '\'' => Front::Tick,
         '!' | '#'..='&' | '*'..='/' | ':'..='@' | '^' | '|' | '~' => Front::Mark,

@@ -8,7 +8,8 @@ ghost use Rattle.std.specs.Prelude.{ℕ, ◌≡◌, ◌++◌, List};
 
 /// At one place of a text at most one piece stands, whatever class it is of.
 pub fn one_piece()
-    ensures { (at : ℕ) (p q : Piece) (r s : List ℕ) → FitsAt at p.kind p.chars r → FitsAt at q.kind q.chars s → p.chars ++ r ≡ q.chars ++ s → (p ≡ q) × (r ≡ s) }
+    ensures { (at : ℕ) (p q : Piece) (r s : List ℕ) → FitsAt at p.kind p.chars r → FitsAt at q.kind q.chars s
+        → p.chars ++ r ≡ q.chars ++ s → (p ≡ q) × (r ≡ s) }
 {}
 
 /// A text has at most one cover.
@@ -23,5 +24,6 @@ pub fn identifier_alone()
 
 /// A literal stands before any calm text with the same kind, whatever follows it elsewhere.
 pub fn literal_alone()
-    ensures { (kind : LiteralKind) (cs rest calmer : List ℕ) → IsLiteral kind cs rest → IsCalm calmer → IsLiteral kind cs calmer }
+    ensures { (kind : LiteralKind) (cs rest calmer : List ℕ) → IsLiteral kind cs rest → IsCalm calmer
+        → IsLiteral kind cs calmer }
 {}

@@ -4,10 +4,10 @@
 //! on what follows, and `Cover.antt` a text as a list of pieces. `scan::next_piece` answers the piece at
 //! a place exactly, and `laws` says that there is at most one.
 //!
-//! - `delimiter`: what encloses a group.
+//! - `group_marks`: what encloses a group.
 //! - `piece`: the classes of pieces.
 //! - `front`: what a character begins.
-//! - `walk`: on from a place behind the characters that pass a test.
+//! - `walk`: the tests on characters that a place is moved behind, and suffixes.
 //! - `cooked`, `raw`, `comment`, `number`, `word`: where each of these ends.
 //! - `scan`: the piece at a place, and whether a mark is joint.
 //! - `laws`: laws of the rules.
@@ -15,8 +15,8 @@
 
 pub mod comment;
 pub mod cooked;
-pub mod delimiter;
 pub mod front;
+pub mod group_marks;
 pub mod laws;
 pub mod number;
 pub mod piece;

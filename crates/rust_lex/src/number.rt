@@ -7,8 +7,8 @@ ghost use Rattle.rust_lex.specs.Places.{IsPlace, rest_at};
 ghost use Rattle.std.specs.Prelude.{◌≡◌, ◌≤◌, ◌||◌};
 
 use crate::piece::LiteralKind;
-use crate::walk::{Digit, DigitOrLine, DotOrFirst, Underscore, begins, past};
-use rust_escape::place::char_at;
+use crate::walk::{Digit, DigitOrLine, DotOrFirst, Underscore, begins, past, past_long};
+use text_chars::{char_at, next_char};
 
 // The place behind at most one sign.
 #[tactic(auto, using(crate::proofs::PlacesLemmas::rest_end))]
@@ -17,10 +17,9 @@ fn sign_end(text: &str, at: usize) -> usize
     ensures rest { rest_at text.now result ≡ number.past_sign (rest_at text.now at) }
     ensures from { IsFrom text.now at result }
 {
-    if at >= text.len() {
+    let Some((c, next)) = next_char(text, at) else {
         return at;
-    }
-    let (c, next) = char_at(text, at);
+    };
     if (c == '+') | (c == '-') { next } else { at }
 }
 
@@ -40,10 +39,9 @@ fn begins_fraction(text: &str, at: usize) -> bool
     requires { IsPlace text.now at }
     ensures { result ≡ number.begins_fraction (rest_at text.now at) }
 {
-    if at >= text.len() {
+    let Some((c, next)) = next_char(text, at) else {
         return false;
-    }
-    let (c, next) = char_at(text, at);
+    };
     (c == '.') & !begins::<DotOrFirst>(text, next)
 }
 
@@ -52,10 +50,9 @@ fn begins_exponent(text: &str, at: usize) -> bool
     requires { IsPlace text.now at }
     ensures { result ≡ number.begins_exponent (rest_at text.now at) }
 {
-    if at >= text.len() {
+    let Some((c, next)) = next_char(text, at) else {
         return false;
-    }
-    let (c, next) = char_at(text, at);
+    };
     if !((c == 'e') | (c == 'E')) {
         return false;
     }
@@ -70,12 +67,11 @@ fn fraction_end(text: &str, at: usize) -> usize
     ensures rest { rest_at text.now result ≡ number.past_fraction (rest_at text.now at) }
     ensures from { IsFrom text.now at result }
 {
-    if at >= text.len() {
+    let Some((c, next)) = next_char(text, at) else {
         return at;
-    }
-    let (c, next) = char_at(text, at);
+    };
     if (c == '.') & !begins::<DotOrFirst>(text, next) {
-        past::<DigitOrLine>(text, next)
+        past_long::<DigitOrLine>(text, next)
     } else {
         at
     }
@@ -88,16 +84,15 @@ fn exponent_end(text: &str, at: usize) -> usize
     ensures rest { rest_at text.now result ≡ number.past_exponent (rest_at text.now at) }
     ensures from { IsFrom text.now at result }
 {
-    if at >= text.len() {
+    let Some((c, next)) = next_char(text, at) else {
         return at;
-    }
-    let (c, next) = char_at(text, at);
+    };
     if !((c == 'e') | (c == 'E')) {
         return at;
     }
     let lead = lead_end(text, next);
     if begins::<Digit>(text, lead) {
-        past::<DigitOrLine>(text, lead)
+        past_long::<DigitOrLine>(text, lead)
     } else {
         at
     }
@@ -110,7 +105,7 @@ fn decimal(text: &str, at: usize) -> (bool, usize)
     ensures rest { rest_at text.now result.1 ≡ number.past_decimal (rest_at text.now at) }
     ensures from { IsFrom text.now at result.1 }
 {
-    let digits = past::<DigitOrLine>(text, at);
+    let digits = past_long::<DigitOrLine>(text, at);
     let float = begins_fraction(text, digits) | begins_exponent(text, digits);
     let fraction = fraction_end(text, digits);
     (float, exponent_end(text, fraction))
@@ -123,10 +118,9 @@ fn begins_digit(text: &str, at: usize, base: u32) -> bool
     requires high { base ≤ 16 }
     ensures { result ≡ chars.begins (number.is_digit_of base) (rest_at text.now at) }
 {
-    if at >= text.len() {
+    let Some((c, _)) = next_char(text, at) else {
         return false;
-    }
-    let (c, _) = char_at(text, at);
+    };
     c.is_digit(base)
 }
 
@@ -203,14 +197,12 @@ pub(crate) fn number_end(text: &str, at: usize) -> Option<(LiteralKind, usize)>
     requires { IsPlace text.now at }
     ensures { IsNumberEnd text.now at result }
 {
-    if at >= text.len() {
+    let Some((c, next)) = next_char(text, at) else {
         return Some(decimal_end(text, at));
-    }
-    let (c, next) = char_at(text, at);
-    if next >= text.len() {
+    };
+    let Some((d, after)) = next_char(text, next) else {
         return Some(decimal_end(text, at));
-    }
-    let (d, after) = char_at(text, next);
+    };
     let base = base_of(c, d);
     if base == 0 {
         return Some(decimal_end(text, at));

@@ -1,6 +1,6 @@
 //! The classes of pieces.
 
-use crate::delimiter::Delimiter;
+use crate::group_marks::GroupMarks;
 
 /// The four forms of a doc comment.
 #[derive(Clone, Copy, Debug, PartialEq, Eq)]
@@ -46,9 +46,9 @@ pub enum PieceKind {
     /// A doc comment.
     Doc(DocKind),
     /// The opening mark of a group.
-    Open(Delimiter),
+    Open(GroupMarks),
     /// The closing mark of a group.
-    Close(Delimiter),
+    Close(GroupMarks),
     /// A punctuation mark.
     Mark,
     /// An identifier or a keyword, a raw one with its `r#`.

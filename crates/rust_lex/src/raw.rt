@@ -7,8 +7,8 @@ ghost use Rattle.std.specs.Prelude.{◌≡◌};
 
 use crate::walk::{Feed, begins};
 use rust_escape::Mode;
-use rust_escape::lexical::is_plain;
-use rust_escape::place::char_at;
+use rust_escape::lexical::{Common, is_plain};
+use text_chars::{char_at, next_char, past_blocks};
 
 // Whether a character may stand in a raw string before a place.
 #[inline(always)]
@@ -31,10 +31,9 @@ fn marks_end(text: &str, start: usize, count: usize) -> Option<usize>
     let mut at = start;
     let mut left = count;
     while left > 0 {
-        if at >= text.len() {
+        let Some((c, next)) = next_char(text, at) else {
             return None;
-        }
-        let (c, next) = char_at(text, at);
+        };
         if c != '#' {
             return None;
         }
@@ -45,12 +44,12 @@ fn marks_end(text: &str, start: usize, count: usize) -> Option<usize>
 }
 
 // The place behind the end of a raw string, its opening quote having been read.
-#[tactic(auto, using(crate::proofs::Steps::raws))]
+#[tactic(auto, using(crate::proofs::Steps::raws, crate::proofs::Quiet::raw_behind))]
 fn raw_end(text: &str, start: usize, mode: Mode, count: usize) -> Option<usize>
     requires { IsPlace text.now start }
     ensures { IsEnd text.now start result (quoted.past_raw mode count (rest_at text.now start)) }
 {
-    let mut at = start;
+    let mut at = past_blocks::<Common>(text, start);
     while at < text.len() {
         let (c, next) = char_at(text, at);
         if c == '"' {
@@ -62,6 +61,9 @@ fn raw_end(text: &str, start: usize, mode: Mode, count: usize) -> Option<usize>
             return None;
         }
         at = next;
+        if c == '\n' {
+            at = past_blocks::<Common>(text, at);
+        }
     }
     None
 }

@@ -17,10 +17,10 @@ use crate::front::{Front, front_of, is_narrow_white};
 use crate::number::number_end;
 use crate::piece::{LiteralKind, PieceKind};
 use crate::raw::hashes_end;
-use crate::walk::{Next, SlashOrStar, begins, past, suffix_end};
+use crate::walk::{Next, SlashOrStar, begins, past_long, suffix_end};
 use crate::word::{begins_lifetime, begins_raw_name, opener_end, raw_mark_end};
 use rust_escape::Mode;
-use rust_escape::place::char_at;
+use text_chars::{char_at, next_char};
 
 // The place behind a literal in quotes, whose opening has been read.
 fn tail_end(text: &str, start: usize, mode: Mode) -> Option<usize>
@@ -49,7 +49,8 @@ fn literal_kind(mode: Mode) -> LiteralKind
 // A literal in quotes, whose opening ends at a place.
 fn quoted(text: &str, start: usize, at: usize, mode: Mode) -> Option<(PieceKind, usize)>
     requires { IsBehind text.now start at }
-    ensures { IsScanned text.now start result (scan.suffixed (quoted.literal_kind mode) (tails.past_tail mode (rest_at text.now at))) }
+    ensures { IsScanned text.now start result
+        (scan.suffixed (quoted.literal_kind mode) (tails.past_tail mode (rest_at text.now at))) }
 {
     let Some(end) = tail_end(text, at, mode) else {
         return None;
@@ -85,12 +86,12 @@ fn word(text: &str, at: usize, next: usize) -> Option<(PieceKind, usize)>
 {
     if let Some(name) = raw_mark_end(text, at) {
         if begins_raw_name(text, name) {
-            return Some((PieceKind::Ident, past::<Next>(text, name)));
+            return Some((PieceKind::Ident, past_long::<Next>(text, name)));
         }
     }
     match opener_end(text, at) {
         Some((mode, tail)) => quoted(text, at, tail, mode),
-        None => Some((PieceKind::Ident, past::<Next>(text, next))),
+        None => Some((PieceKind::Ident, past_long::<Next>(text, next))),
     }
 }
 
@@ -99,7 +100,8 @@ fn word(text: &str, at: usize, next: usize) -> Option<(PieceKind, usize)>
 fn number(text: &str, at: usize) -> Option<(PieceKind, usize)>
     requires place { IsPlace text.now at }
     requires digit { chars.begins chars.is_digit (rest_at text.now at) ≡ true }
-    ensures { IsScanned text.now at result (scan.suffixed (number.number_kind (rest_at text.now at)) (number.past_number (rest_at text.now at))) }
+    ensures { IsScanned text.now at result
+        (scan.suffixed (number.number_kind (rest_at text.now at)) (number.past_number (rest_at text.now at))) }
 {
     let Some((kind, end)) = number_end(text, at) else {
         return None;
@@ -113,10 +115,9 @@ fn scan(text: &str, at: usize) -> Option<(PieceKind, usize)>
     requires { IsPlace text.now at }
     ensures { IsScanned text.now at result (scan.scan (rest_at text.now at)) }
 {
-    if at >= text.len() {
+    let Some((c, next)) = next_char(text, at) else {
         return None;
-    }
-    let (c, next) = char_at(text, at);
+    };
     match front_of(c) {
         Front::White => Some((PieceKind::White, next)),
         Front::Opens(delimiter) => Some((PieceKind::Open(delimiter), next)),
@@ -171,19 +172,19 @@ pub fn white_end(text: &str, at: usize) -> Option<usize>
     requires { IsPlace text.now at }
     ensures { IsWhiteAt text.now at result }
 {
-    if at >= text.len() {
+    let Some((c, next)) = next_char(text, at) else {
         return None;
-    }
-    let (c, next) = char_at(text, at);
+    };
     if is_narrow_white(c) { Some(next) } else { None }
 }
 
 // Whether a mark other than `'` begins with a character, before a place.
 #[tactic(auto, using(crate::proofs::Fronts::marking))]
 #[inline(always)]
-fn is_mark(text: &str, c: char, next: usize) -> bool
+fn begins_mark_but_tick(text: &str, c: char, next: usize) -> bool
     requires { IsPlace text.now next }
-    ensures { result ≡ (chars.is_mark c && not (c == 47 && chars.begins chars.is_slash_or_star (rest_at text.now next))) }
+    ensures { result ≡ (chars.is_mark_but_tick c
+        && not (c == 47 && chars.begins chars.is_slash_or_star (rest_at text.now next))) }
 {
     match front_of(c) {
         Front::Mark => (c != '/') | !begins::<SlashOrStar>(text, next),
@@ -197,14 +198,13 @@ pub fn begins_mark(text: &str, at: usize) -> bool
     requires { IsPlace text.now at }
     ensures { result ≡ piece.begins_mark (rest_at text.now at) }
 {
-    if at >= text.len() {
+    let Some((c, next)) = next_char(text, at) else {
         return false;
-    }
-    let (c, next) = char_at(text, at);
+    };
     if c == '\'' {
         return begins_lifetime(text, next);
     }
-    is_mark(text, c, next)
+    begins_mark_but_tick(text, c, next)
 }
 
 // Whether a character literal stands at a place.
@@ -213,10 +213,9 @@ fn begins_char(text: &str, at: usize) -> bool
     requires { IsPlace text.now at }
     ensures { result ≡ scan.begins_char (rest_at text.now at) }
 {
-    if at >= text.len() {
+    let Some((c, next)) = next_char(text, at) else {
         return false;
-    }
-    let (c, next) = char_at(text, at);
+    };
     if c != '\'' {
         return false;
     }
@@ -229,10 +228,9 @@ fn joint(text: &str, at: usize) -> bool
     requires { IsPlace text.now at }
     ensures { result ≡ scan.is_joint (rest_at text.now at) }
 {
-    if at >= text.len() {
+    let Some((c, next)) = next_char(text, at) else {
         return false;
-    }
-    let (c, next) = char_at(text, at);
+    };
     if (c == '\'') | begins_mark(text, next) {
         return true;
     }

@@ -1,4 +1,4 @@
-//! On from a place of a text behind the characters that pass a test.
+//! Tests on characters, behind which `text_chars` goes on from a place, and where suffixes end.
 
 ghost use Rattle.rust_lex.specs.Chars as chars;
 ghost use Rattle.rust_lex.specs.Comment as comment;
@@ -8,7 +8,8 @@ ghost use Rattle.rust_lex.specs.Ended.{IsFrom};
 ghost use Rattle.rust_lex.specs.Places.{IsPlace, rest_at};
 ghost use Rattle.std.specs.Prelude.{◌≡◌};
 
-use rust_escape::place::char_at;
+use text_chars::Test;
+pub(crate) use text_chars::{begins, past, past_long, past_many};
 use unicode_ident::{is_xid_continue, is_xid_start};
 
 #[tactic(auto, unfolding(crate::specs::Chars::is_first))]
@@ -29,16 +30,6 @@ fn is_next(c: char) -> bool
     } else {
         is_xid_continue(c)
     }
-}
-
-// A test on characters.
-pub(crate) trait Test {
-    ghost use Rattle.std.specs.Prelude.{ℕ, Bool};
-
-    ghost test: { ℕ → Bool };
-
-    fn passes(c: char) -> bool
-        ensures { result ≡ test c };
 }
 
 // What an identifier begins with.
@@ -62,6 +53,15 @@ impl Test for Next {
     #[inline(always)]
     fn passes(c: char) -> bool {
         is_next(c)
+    }
+
+    #[tactic(auto, using(crate::proofs::Fronts::next_ascii))]
+    #[inline(always)]
+    fn passes_byte(byte: u8) -> bool {
+        let digit = (b'0' <= byte) & (byte <= b'9');
+        let upper = (b'A' <= byte) & (byte <= b'Z');
+        let lower = (b'a' <= byte) & (byte <= b'z');
+        ((digit | upper) | lower) | (byte == b'_')
     }
 }
 
@@ -176,6 +176,12 @@ impl Test for DigitOrLine {
     fn passes(c: char) -> bool {
         c.is_ascii_digit() | (c == '_')
     }
+
+    #[tactic(auto, unfolding(crate::specs::Chars::is_digit))]
+    #[inline(always)]
+    fn passes_byte(byte: u8) -> bool {
+        ((b'0' <= byte) & (byte <= b'9')) | (byte == b'_')
+    }
 }
 
 pub(crate) struct DotOrFirst;
@@ -200,39 +206,6 @@ impl Test for Sign {
     }
 }
 
-// Whether a character that passes stands at a place.
-#[tactic(auto, using(crate::proofs::PlacesLemmas::rest_end))]
-#[inline(always)]
-pub(crate) fn begins<T: Test>(text: &str, at: usize) -> bool
-    requires { IsPlace text.now at }
-    ensures { result ≡ chars.begins T.test (rest_at text.now at) }
-{
-    if at >= text.len() {
-        return false;
-    }
-    let (c, _) = char_at(text, at);
-    T::passes(c)
-}
-
-// The place behind the characters that pass.
-#[tactic(auto, using(crate::proofs::PlacesLemmas::rest_end))]
-#[inline(always)]
-pub(crate) fn past<T: Test>(text: &str, start: usize) -> usize
-    requires { IsPlace text.now start }
-    ensures rest { rest_at text.now result ≡ chars.past T.test (rest_at text.now start) }
-    ensures from { IsFrom text.now start result }
-{
-    let mut at = start;
-    while at < text.len() {
-        let (c, next) = char_at(text, at);
-        if !T::passes(c) {
-            return at;
-        }
-        at = next;
-    }
-    at
-}
-
 // The place behind the suffix, if there is one.
 #[tactic(auto, using(crate::proofs::PlacesLemmas::rest_end))]
 pub(crate) fn suffix_end(text: &str, start: usize) -> usize
@@ -241,7 +214,7 @@ pub(crate) fn suffix_end(text: &str, start: usize) -> usize
     ensures from { IsFrom text.now start result }
 {
     if begins::<First>(text, start) {
-        past::<Next>(text, start)
+        past_long::<Next>(text, start)
     } else {
         start
     }

@@ -7,7 +7,7 @@ ghost use Rattle.std.specs.Prelude.{◌≡◌};
 
 use crate::walk::{First, Next, QuoteOrHash, Tick, TickOrHash, begins, past};
 use rust_escape::Mode;
-use rust_escape::place::char_at;
+use text_chars::next_char;
 
 // Whether the identifier at a place is this word.
 #[tactic(auto, using(crate::proofs::Steps::words))]
@@ -18,10 +18,9 @@ fn begins_word(text: &str, start: usize, name: &[char]) -> bool
     let mut at = start;
     let mut index = 0usize;
     while index < name.len() {
-        if at >= text.len() {
+        let Some((c, next)) = next_char(text, at) else {
             return false;
-        }
-        let (c, next) = char_at(text, at);
+        };
         if c != name[index] {
             return false;
         }
@@ -62,17 +61,15 @@ pub(crate) fn raw_mark_end(text: &str, at: usize) -> Option<usize>
     requires { IsPlace text.now at }
     ensures { IsRawMark text.now at result }
 {
-    if at >= text.len() {
+    let Some((c, next)) = next_char(text, at) else {
         return None;
-    }
-    let (c, next) = char_at(text, at);
+    };
     if c != 'r' {
         return None;
     }
-    if next >= text.len() {
+    let Some((d, after)) = next_char(text, next) else {
         return None;
-    }
-    let (d, after) = char_at(text, next);
+    };
     if d == '#' { Some(after) } else { None }
 }
 
@@ -113,17 +110,15 @@ pub(crate) fn opener_end(text: &str, at: usize) -> Option<(Mode, usize)>
     requires { IsPlace text.now at }
     ensures { IsOpener text.now at result }
 {
-    if at >= text.len() {
+    let Some((c, next)) = next_char(text, at) else {
         return None;
-    }
-    let (c, next) = char_at(text, at);
+    };
     if !((c == 'b') | (c == 'c') | (c == 'r')) {
         return None;
     }
-    if next >= text.len() {
+    let Some((d, after)) = next_char(text, next) else {
         return None;
-    }
-    let (d, after) = char_at(text, next);
+    };
     if c == 'r' {
         return if (d == '"') | (d == '#') {
             Some((Mode::RawStr, next))

@@ -1,5 +1,7 @@
 -- Characters and bytes.
-use Rattle.std.proofs.Common.{◌≡◌, ℕ, zero, suc, ◌+◌, ◌-◌, ◌*◌, ◌/◌, ◌%◌, ◌≤◌, ◌<◌, arith, List, [], ◌∷◌, ◌++◌, refl, sym, ap, ◌∙◌, length, take, drop, get_or, length-append, append_assoc, inl, inr, true}
+use Rattle.std.proofs.Common.{◌≡◌, ℕ, zero, suc, ◌+◌, ◌-◌, ◌*◌, ◌/◌, ◌%◌, ◌≤◌, ◌<◌, arith, List, [], ◌∷◌, ◌++◌}
+use Rattle.std.proofs.Common.{refl, sym, ap, ◌∙◌, length, take, drop, get_or, length-append, append_assoc, inl, inr}
+use Rattle.std.proofs.Common.{true}
 use Rattle.std.specs.Prelude.{encode_utf8, encode_utf8_all, ◌==◌}
 use Rattle.std.specs.Str.{chars, IsUtf8}
 use Rattle.std.specs.Char.{len_utf8}
@@ -7,15 +9,17 @@ use Rattle.std.proofs.Math.Utf8.{scalars}
 use Rattle.std.proofs.Math.Seq.{drop-append_seam, take-append_seam}
 use Rattle.std.proofs.lemmas.List.{take-append-drop, length-drop}
 use Rattle.std.proofs.lemmas.Bool.{ne_eqb, eq-eqb, cases_eq, cases_lt, and_parts, and_from}
-use Rattle.std.proofs.lemmas.Str.{encodes-append, length-encode, len_utf8_bounds, length-le-encodes, encodes-chars, scalars-chars, chars-encodes}
-use Rattle.rust_map.specs.Bytes.{rest_at, IsPlace, byte_length, byte_count, between}
+use Rattle.std.proofs.lemmas.Str.{encodes-append, length-encode, len_utf8_bounds, length-le-encodes, encodes-chars}
+use Rattle.std.proofs.lemmas.Str.{scalars-chars, chars-encodes}
+use Rattle.rust_map.specs.Bytes.{rest_at, IsPlace, byte_length, byte_count, between_counts}
 use Rattle.rust_map.specs.Tables.{byte_steps_from, byte_steps_of}
 
 pub byte_length-cons : (c : ℕ) (cs : List ℕ) → byte_length (c ∷ cs) ≡ len_utf8 c + byte_length cs
 byte_length-cons c cs = omega (arith, length-append (encode_utf8 c) (encode_utf8_all cs), length-encode c)
 
 -- one character on
-pub byte_behind_step : (rest next_rest : List ℕ) (at next c m : ℕ) → rest ≡ c ∷ next_rest → next ≡ at + len_utf8 c → 0 < m → next + byte_length (take (m - 1) next_rest) ≡ at + byte_length (take m rest)
+pub byte_behind_step : (rest next_rest : List ℕ) (at next c m : ℕ) → rest ≡ c ∷ next_rest → next ≡ at + len_utf8 c
+    → 0 < m → next + byte_length (take (m - 1) next_rest) ≡ at + byte_length (take m rest)
 byte_behind_step rest next_rest at next c zero e n h = absurd (omega arith)
 byte_behind_step rest next_rest at next c (suc m) e n h =
     let k : suc m - 1 ≡ m = omega arith in
@@ -29,25 +33,30 @@ pub steps_nil : (at count : ℕ) → byte_steps_from at count [] ≡ []
 unfolding byte_steps_from
 steps_nil at count = refl
 
-pub steps_one : (at count next c : ℕ) (rest next_rest : List ℕ) → rest ≡ c ∷ next_rest → next ≡ at + len_utf8 c → (count + 1) % 128 ≡ 0 → byte_steps_from at count rest ≡ next ∷ byte_steps_from next (count + 1) next_rest
+pub steps_one : (at count next c : ℕ) (rest next_rest : List ℕ) → rest ≡ c ∷ next_rest → next ≡ at + len_utf8 c
+    → (count + 1) % 128 ≡ 0 → byte_steps_from at count rest ≡ next ∷ byte_steps_from next (count + 1) next_rest
 unfolding byte_steps_from
 steps_one at count next c rest next_rest e n h = rw (e, n, h) refl
 
-pub steps_none : (at count next c : ℕ) (rest next_rest : List ℕ) → rest ≡ c ∷ next_rest → next ≡ at + len_utf8 c → ((count + 1) % 128 ≡ 0 → ⊥) → byte_steps_from at count rest ≡ byte_steps_from next (count + 1) next_rest
+pub steps_none : (at count next c : ℕ) (rest next_rest : List ℕ) → rest ≡ c ∷ next_rest → next ≡ at + len_utf8 c
+    → ((count + 1) % 128 ≡ 0 → ⊥) → byte_steps_from at count rest ≡ byte_steps_from next (count + 1) next_rest
 unfolding byte_steps_from
 steps_none at count next c rest next_rest e n h = rw (e, n, ne_eqb ((count + 1) % 128) 0 h) refl
 
 -- the rest of the table, one entry on
-pub append_one : (xs ys whole table : List ℕ) (y : ℕ) → xs ++ table ≡ whole → table ≡ y ∷ ys → (xs ++ (y ∷ [])) ++ ys ≡ whole
+pub append_one : (xs ys whole table : List ℕ) (y : ℕ) → xs ++ table ≡ whole → table ≡ y ∷ ys → (xs ++ (y ∷ [])) ++ ys
+    ≡ whole
 append_one xs ys whole table y e t = append_assoc xs (y ∷ []) ys ∙ (ap (λ l. xs ++ l) (sym t) ∙ e)
 
 -- the entry at 128 * j characters, of which so many lie behind
-pub steps_at : (text : List ℕ) (at count j d : ℕ) → count < 128 * j → 128 * j ≤ count + length text → get_or (byte_steps_from at count text) (j - count / 128 - 1) d ≡ at + byte_count text (128 * j - count)
+pub steps_at : (text : List ℕ) (at count j d : ℕ) → count < 128 * j → 128 * j ≤ count + length text
+    → get_or (byte_steps_from at count text) (j - count / 128 - 1) d ≡ at + byte_count text (128 * j - count)
 unfolding byte_steps_from
 steps_at [] at count j d low high = absurd (omega arith)
 steps_at (c ∷ cs) at count j d low high =
     let k : 128 * j - count ≡ suc (128 * j - (count + 1)) = omega arith in
-    let len : byte_count (c ∷ cs) (128 * j - count) ≡ len_utf8 c + byte_count cs (128 * j - (count + 1)) = rw k (byte_length-cons c (take (128 * j - (count + 1)) cs)) in
+    let len : byte_count (c ∷ cs) (128 * j - count) ≡ len_utf8 c + byte_count cs (128 * j - (count + 1)) =
+    rw k (byte_length-cons c (take (128 * j - (count + 1)) cs)) in
     elim (cases_eq ((count + 1) % 128) 0) [
       | inl e ↦ elim (cases_lt (count + 1) (128 * j)) [
         | inl l ↦
@@ -67,7 +76,8 @@ steps_at (c ∷ cs) at count j d low high =
     ]
 
 -- how many entries there are
-pub length-steps : (text : List ℕ) (at count j : ℕ) → count < 128 * j → 128 * j ≤ count + length text → j - count / 128 - 1 < length (byte_steps_from at count text)
+pub length-steps : (text : List ℕ) (at count j : ℕ) → count < 128 * j → 128 * j ≤ count + length text
+    → j - count / 128 - 1 < length (byte_steps_from at count text)
 unfolding byte_steps_from
 length-steps [] at count j low high = absurd (omega arith)
 length-steps (c ∷ cs) at count j low high =
@@ -76,11 +86,13 @@ length-steps (c ∷ cs) at count j low high =
         | inl l ↦ let rest = length-steps cs (at + len_utf8 c) (count + 1) j l (omega arith) in rw e (omega arith)
         | inr g ↦ rw e (omega arith)
       ]
-      | inr n ↦ let rest = length-steps cs (at + len_utf8 c) (count + 1) j (omega arith) (omega arith) in rw (ne_eqb ((count + 1) % 128) 0 n) (omega arith)
+      | inr n ↦ let rest = length-steps cs (at + len_utf8 c) (count + 1) j (omega arith) (omega arith) in rw
+          (ne_eqb ((count + 1) % 128) 0 n) (omega arith)
     ]
 
 -- where each character is one byte, counts of both agree
-pub byte_count_narrow : (text : List ℕ) (k : ℕ) → byte_length text ≡ length text → k ≤ length text → byte_count text k ≡ k
+pub byte_count_narrow : (text : List ℕ) (k : ℕ) → byte_length text ≡ length text → k ≤ length text → byte_count text k
+    ≡ k
 byte_count_narrow text zero e h = refl
 byte_count_narrow [] (suc k) e h = absurd (omega arith)
 byte_count_narrow (c ∷ cs) (suc k) e h =
@@ -102,7 +114,8 @@ scalars-take (suc k) [] h = h
 scalars-take (suc k) (c ∷ cs) h = let both = and_parts _ _ h in and_from _ _ both.0 (scalars-take k cs both.1)
 
 -- a text is its first k characters and the rest
-pub encoded_parts : (text : List ℕ) (k : ℕ) → encode_utf8_all text ≡ encode_utf8_all (take k text) ++ encode_utf8_all (drop k text)
+pub encoded_parts : (text : List ℕ) (k : ℕ) → encode_utf8_all text
+    ≡ encode_utf8_all (take k text) ++ encode_utf8_all (drop k text)
 encoded_parts text k = ap encode_utf8_all (sym (take-append-drop k text)) ∙ encodes-append (take k text) (drop k text)
 
 -- what stands at a count of characters
@@ -117,7 +130,8 @@ cut_at bytes k u =
     let front = encode_utf8_all (take k text) in
     let back = encode_utf8_all (drop k text) in
     let all : bytes ≡ front ++ back = sym (encodes-chars bytes u) ∙ encoded_parts text k in
-    let on : drop (byte_count text k) bytes ≡ back = ap (λ l. drop (byte_count text k) l) all ∙ drop-append_seam front back in
+    let on : drop (byte_count text k) bytes ≡ back =
+    ap (λ l. drop (byte_count text k) l) all ∙ drop-append_seam front back in
     let good : scalars (drop k text) ≡ true = scalars-drop k text (scalars-chars bytes u) in
     let l : length bytes ≡ length (front ++ back) = ap length all in
     record {
@@ -130,7 +144,8 @@ pub length_step : (rest next_rest : List ℕ) (c : ℕ) → rest ≡ c ∷ next_
 length_step rest next_rest c e = ap length e ∙ omega arith
 
 -- the bytes of more characters
-pub byte_count_more : (text : List ℕ) (n m all : ℕ) → all ≡ n + m → byte_count text all ≡ byte_count text n + byte_length (take m (drop n text))
+pub byte_count_more : (text : List ℕ) (n m all : ℕ) → all ≡ n + m → byte_count text all
+    ≡ byte_count text n + byte_length (take m (drop n text))
 byte_count_more text zero m all e = let k : all ≡ m = omega arith in rw k (omega arith)
 byte_count_more [] (suc n) m zero e = absurd (omega arith)
 byte_count_more [] (suc n) zero (suc all) e = refl
@@ -147,11 +162,13 @@ byte_length-chars bytes u = ap length (encodes-chars bytes u)
 pub table_none : (text : List ℕ) → byte_length text ≡ length text → byte_steps_of text ≡ []
 table_none text e = let t : (byte_length text == length text) ≡ true = eq-eqb _ _ e in rw t refl
 
-pub table_some : (text : List ℕ) → (byte_length text ≡ length text → ⊥) → byte_steps_of text ≡ 0 ∷ byte_steps_from 0 0 text
+pub table_some : (text : List ℕ) → (byte_length text ≡ length text → ⊥) → byte_steps_of text
+    ≡ 0 ∷ byte_steps_from 0 0 text
 table_some text wide = rw (ne_eqb (byte_length text) (length text) wide) refl
 
 -- the byte of a step, as it is read in the table
-pub step_at : (text steps : List ℕ) (step x : ℕ) → steps ≡ byte_steps_of text → (byte_length text ≡ length text → ⊥) → 128 * step ≤ length text → x ≡ get_or steps step x → x ≡ byte_count text (128 * step)
+pub step_at : (text steps : List ℕ) (step x : ℕ) → steps ≡ byte_steps_of text → (byte_length text ≡ length text → ⊥)
+    → 128 * step ≤ length text → x ≡ get_or steps step x → x ≡ byte_count text (128 * step)
 step_at text steps zero x table wide there e = rw (table ∙ table_some text wide) at e
 step_at text steps (suc step) x table wide there e =
     let i : step ≡ suc step - 0 / 128 - 1 = omega arith in
@@ -161,7 +178,8 @@ step_at text steps (suc step) x table wide there e =
     let entry = rw (← i, k) at at in
     read ∙ (entry ∙ omega arith)
 
-pub step_within : (text steps : List ℕ) (step : ℕ) → steps ≡ byte_steps_of text → (byte_length text ≡ length text → ⊥) → 128 * step ≤ length text → step < length steps
+pub step_within : (text steps : List ℕ) (step : ℕ) → steps ≡ byte_steps_of text → (byte_length text ≡ length text → ⊥)
+    → 128 * step ≤ length text → step < length steps
 step_within text steps zero table wide there = rw (table ∙ table_some text wide) (omega arith)
 step_within text steps (suc step) table wide there =
     let i : step ≡ suc step - 0 / 128 - 1 = omega arith in
@@ -170,7 +188,9 @@ step_within text steps (suc step) table wide there =
     rw (table ∙ table_some text wide) (omega arith)
 
 -- the bytes between two counts of characters
-pub between_bytes : (bytes : List ℕ) (from to start end : ℕ) → IsUtf8 bytes → from ≤ to → start ≡ byte_count (chars bytes) from → end ≡ byte_count (chars bytes) to → chars (take (end - start) (drop start bytes)) ≡ between (chars bytes) from to
+pub between_bytes : (bytes : List ℕ) (from to start end : ℕ) → IsUtf8 bytes → from ≤ to → start
+    ≡ byte_count (chars bytes) from → end ≡ byte_count (chars bytes) to → chars (take (end - start) (drop start bytes))
+    ≡ between_counts (chars bytes) from to
 between_bytes bytes from to start end u ordered s e =
     let text = chars bytes in
     let part = take (to - from) (drop from text) in
@@ -178,7 +198,8 @@ between_bytes bytes from to start end u ordered s e =
     let cut = cut_at bytes from u in
     let more = byte_count_more text from (to - from) to (omega arith) in
     let n : end - start ≡ byte_length part = omega arith in
-    let here : drop start bytes ≡ encode_utf8_all part ++ encode_utf8_all rest = ap (λ k. drop k bytes) s ∙ (cut.bytes_on ∙ encoded_parts (drop from text) (to - from)) in
+    let here : drop start bytes ≡ encode_utf8_all part ++ encode_utf8_all rest =
+    ap (λ k. drop k bytes) s ∙ (cut.bytes_on ∙ encoded_parts (drop from text) (to - from)) in
     let good = scalars-take (to - from) (drop from text) (scalars-drop from text (scalars-chars bytes u)) in
     rw (n, here, take-append_seam (encode_utf8_all part) (encode_utf8_all rest)) (chars-encodes part good)
 
@@ -188,7 +209,9 @@ pub record IsStepStart (bytes : List ℕ) (count start : ℕ) : Type 0 where
   pub there : count % 128 ≤ length (rest_at bytes start)
   pub all : start + byte_length (take (count % 128) (rest_at bytes start)) ≡ byte_count (chars bytes) count
 
-pub step_start : (bytes steps : List ℕ) (count start : ℕ) → IsUtf8 bytes → steps ≡ byte_steps_of (chars bytes) → (length bytes ≡ length (chars bytes) → ⊥) → count ≤ length (chars bytes) → start ≡ get_or steps (count / 128) start → IsStepStart bytes count start
+pub step_start : (bytes steps : List ℕ) (count start : ℕ) → IsUtf8 bytes → steps ≡ byte_steps_of (chars bytes)
+    → (length bytes ≡ length (chars bytes) → ⊥) → count ≤ length (chars bytes) → start
+    ≡ get_or steps (count / 128) start → IsStepStart bytes count start
 step_start bytes steps count start u table wide there read =
     let text = chars bytes in
     let step = count / 128 in
@@ -200,5 +223,6 @@ step_start bytes steps count start u table wide there read =
     record {
       place = rw begins cut.place;
       there = rw rest (omega (arith, length-drop (128 * step) text));
-      all = ap (λ r. start + byte_length (take (count % 128) r)) rest ∙ (ap (λ b. b + byte_length (take (count % 128) (drop (128 * step) text))) begins ∙ sym more);
+      all = ap (λ r. start + byte_length (take (count % 128) r)) rest ∙
+          (ap (λ b. b + byte_length (take (count % 128) (drop (128 * step) text))) begins ∙ sym more);
     }

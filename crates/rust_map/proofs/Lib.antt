@@ -1,4 +1,3 @@
-pub mod CharSteps
 pub mod ByteLemmas
 pub mod ByteCounts
 pub mod LineLemmas

@@ -1,10 +1,11 @@
 -- What a map answers of a span that it holds.
-use Rattle.std.specs.Prelude.{ℕ, Bool, true, false, ◌+◌, ◌==◌, if◌then◌else◌, List, ◌++◌, Option, Some, None, option_map, codes}
+use Rattle.std.specs.Prelude.{ℕ, Bool, true, false, ◌+◌, ◌==◌, if◌then◌else◌, List, ◌++◌, Option, Some, None}
+use Rattle.std.specs.Prelude.{option_map, codes}
 use Rattle.std.specs.Fmt.{decimal}
 use Rattle.std.specs.Option.{option_map_or}
 use Rattle.rust_map.specs.declared.place.LineColumn.{LineColumn}
 use Rattle.rust_map.specs.Places.{place_of}
-use Rattle.rust_map.specs.Bytes.{byte_count, between}
+use Rattle.rust_map.specs.Bytes.{byte_count, between_counts}
 use Rattle.rust_map.specs.Spans.{Span, span_over}
 use Rattle.rust_map.specs.Sources.{Sources, Spot, spot}
 
@@ -28,7 +29,7 @@ end_byte map span = option_map_or (λ s. byte_count s.text s.to) (spot map span)
 
 -- the characters that a span covers
 abbrev pub source_of : Sources → Span → Option (List ℕ)
-source_of map span = option_map (λ s. between s.text s.from s.to) (spot map span)
+source_of map span = option_map (λ s. between_counts s.text s.from s.to) (spot map span)
 
 -- <parsed string N>
 abbrev pub parsed_name : ℕ → List ℕ

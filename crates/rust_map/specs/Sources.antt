@@ -1,5 +1,6 @@
 -- The texts of a source map, and where spans lie in them.
-use Rattle.std.specs.Prelude.{◌≡◌, ◌==◌, IsTrue, ℕ, Bool, ◌+◌, ◌-◌, ◌&&◌, ◌||◌, nat_le, if◌then◌else◌, List, [], ◌∷◌, ◌++◌, length, Option, Some, None, is_some}
+use Rattle.std.specs.Prelude.{◌≡◌, ◌==◌, IsTrue, ℕ, Bool, ◌+◌, ◌-◌, ◌&&◌, ◌||◌, nat_le, if◌then◌else◌, List, []}
+use Rattle.std.specs.Prelude.{◌∷◌, ◌++◌, length, Option, Some, None, is_some}
 use Rattle.rust_map.specs.Spans.{Span, is_call_site, span_from}
 
 -- what a map is: the position at which its first text begins, and its texts in order, as lists of characters
@@ -41,11 +42,13 @@ pub record Spot : Type 0 where
 
 -- a span lies in a text that begins at a position if it ends no earlier than it starts, and both there
 abbrev pub lies_in : ℕ → List ℕ → Span → Bool
-lies_in position text span = nat_le position span.start && (nat_le span.start span.end && nat_le span.end (position + length text))
+lies_in position text span = nat_le position span.start
+    && (nat_le span.start span.end && nat_le span.end (position + length text))
 
 -- the counts of characters between which a span lies in a text that begins at a position, if it does
 abbrev pub counts_in : ℕ → List ℕ → Span → Option (ℕ × ℕ)
-counts_in position text span = if lies_in position text span then Some (span.start - position, span.end - position) else None
+counts_in position text span =
+    if lies_in position text span then Some (span.start - position, span.end - position) else None
 
 -- where a span lies in texts from a position and a number on: in the first text that it lies in
 abbrev pub spot_from : ℕ → ℕ → List (List ℕ) → Span → Option Spot
@@ -77,4 +80,5 @@ spot_part s from to = record { number = s.number; text = s.text; from = s.from +
 
 -- in each map the part lies in the text of the span, so many characters on
 abbrev pub LiesAsPart : Span → ℕ → ℕ → Span → Type 0
-LiesAsPart span from to part = (map : Sources) (s : Spot) → spot map span ≡ Some s → spot map part ≡ Some (spot_part s from to)
+LiesAsPart span from to part = (map : Sources) (s : Spot) → spot map span ≡ Some s → spot map part
+    ≡ Some (spot_part s from to)

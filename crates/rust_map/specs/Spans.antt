@@ -1,5 +1,6 @@
 -- Spans: pairs of positions.
-use Rattle.std.specs.Prelude.{ℕ, Bool, ◌+◌, ◌-◌, ◌==◌, ◌&&◌, nat_le, nat_lt, if◌then◌else◌, min, max, Option, Some, None}
+use Rattle.std.specs.Prelude.{ℕ, Bool, ◌+◌, ◌-◌, ◌==◌, ◌&&◌, nat_le, nat_lt, if◌then◌else◌, min, max, Option, Some}
+use Rattle.std.specs.Prelude.{None}
 pub use Rattle.rust_map.specs.declared.span.Span.{Span}
 
 -- from one position to another
@@ -23,7 +24,8 @@ span_part span from to = span_from (span.start + from) (span.start + to)
 
 -- the same, and none where the first count is past the second, or this one past the span's end
 abbrev pub part_within : Span → ℕ → ℕ → Option Span
-part_within span from to = if nat_le from to && nat_le (span.start + to) span.end then Some (span_part span from to) else None
+part_within span from to = if nat_le from to
+    && nat_le (span.start + to) span.end then Some (span_part span from to) else None
 
 -- the first character of a span, and the last, or the span itself where it is empty
 abbrev pub first_of : Span → Span

@@ -14,7 +14,8 @@ impl SourceMap {
     /// An error says, as that of `room`, that the map has no positions left for it.
     pub fn span_ahead(&self, characters: usize) -> Result<Span, MapFull>
         ensures fits { IsOk result ↔ (next_position self.now + characters < 2 ^ 32) }
-        ensures span { IfOk result (λ span. span ≡ span_from (next_position self.now) (next_position self.now + characters)) }
+        ensures span { IfOk result
+            (λ span. span ≡ span_from (next_position self.now) (next_position self.now + characters)) }
     {
         match self.room(characters) {
             Ok(start) => Ok(Span {

@@ -1,6 +1,6 @@
 //! A text of the map, with its tables.
 
-ghost use Rattle.rust_map.specs.Bytes.{between, byte_count};
+ghost use Rattle.rust_map.specs.Bytes.{between_counts, byte_count};
 ghost use Rattle.rust_map.specs.Tables.{byte_steps_of, line_starts_of};
 ghost use Rattle.rust_map.specs.Places.{place_of};
 ghost use Rattle.std.specs.Prelude.{◌≡◌, ◌<◌, ◌≤◌, ◌^◌, length, IfOk};
@@ -97,7 +97,7 @@ impl SourceFile {
     pub(crate) fn between(&self, from: u32, to: u32) -> &str
         requires ordered { from ≤ to }
         requires there { to ≤ length (text_of self.now) }
-        ensures { chars result.now ≡ between (text_of self.now) from to }
+        ensures { chars result.now ≡ between_counts (text_of self.now) from to }
     {
         let start = self.byte(from);
         let end = self.byte(to);

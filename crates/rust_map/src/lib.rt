@@ -10,7 +10,7 @@
 //! - `fault`: why a text was refused.
 //! - `file` (private): a text with its tables.
 //! - `tables` (private, but for `characters`): the tables of a text.
-//! - `walk` (private): one character on.
+//! - `walk` (private): on by so many characters.
 #![tactic(auto)]
 
 pub mod ahead;

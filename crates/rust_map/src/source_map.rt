@@ -1,7 +1,31 @@
 //! The texts of a map.
 
-ghost use Rattle.rust_map.specs.Sources.{KeepsSpots, empty_from, is_held, next_position, next_span, next_spot, spot, with_text};
-ghost use Rattle.std.specs.Prelude.{◌≡◌, ◌+◌, ◌<◌, ◌≤◌, ◌^◌, ◌↔◌, length, IfOk, IfSome, IsOk, OnErr, OnOk, Some, option_map};
+ghost use Rattle.rust_map.specs.Sources.{
+  KeepsSpots,
+  empty_from,
+  is_held,
+  next_position,
+  next_span,
+  next_spot,
+  spot,
+  with_text,
+};
+ghost use Rattle.std.specs.Prelude.{
+  ◌≡◌,
+  ◌+◌,
+  ◌<◌,
+  ◌≤◌,
+  ◌^◌,
+  ◌↔◌,
+  length,
+  IfOk,
+  IfSome,
+  IsOk,
+  OnErr,
+  OnOk,
+  Some,
+  option_map,
+};
 ghost use Rattle.rust_map.specs.declared.file.SourceFile.{SourceFile};
 ghost use Rattle.std.specs.List.Sorted.{IsNonDecreasingBy, IsPartitionPoint};
 ghost use Rattle.std.specs.Str.{chars};
@@ -195,7 +219,8 @@ impl SourceMap {
 fn files_begun(files: &[SourceFile], position: u32) -> usize
     requires { IsNonDecreasingBy (λ (file : SourceFile). file.base) files.now }
     ensures bound { result ≤ length files.now }
-    ensures split { IsPartitionPoint (λ (file : SourceFile). file.base ≤ position) (λ file. position < file.base) files.now result }
+    ensures split { IsPartitionPoint (λ (file : SourceFile). file.base ≤ position) (λ file. position < file.base)
+        files.now result }
 {
     files.partition_point(|file| file.base <= position)
 }

@@ -3,7 +3,23 @@
 ghost use Rattle.rust_map.specs.Answers as answers;
 ghost use Rattle.rust_map.specs.Sources.{LiesAsPart, is_held};
 ghost use Rattle.rust_map.specs.Spans.{call_site, first_of, last_of, part_within, span_length, span_part};
-ghost use Rattle.std.specs.Prelude.{◌≡◌, ◌==◌, ◌&&◌, ◌+◌, ◌-◌, ◌<◌, ◌≤◌, ◌↔◌, IfOk, IfSome, IsNone, IsTrue, option_map, string_bytes, if◌then◌else◌};
+ghost use Rattle.std.specs.Prelude.{
+  ◌≡◌,
+  ◌==◌,
+  ◌&&◌,
+  ◌+◌,
+  ◌-◌,
+  ◌<◌,
+  ◌≤◌,
+  ◌↔◌,
+  IfOk,
+  IfSome,
+  IsNone,
+  IsTrue,
+  option_map,
+  string_bytes,
+  if◌then◌else◌,
+};
 ghost use Rattle.std.specs.Str.{chars};
 
 use crate::place::LineColumn;
@@ -161,7 +177,8 @@ impl Span {
     /// An error says that there was no memory for the copy.
     pub fn source_text(&self, alloc: Global, map: &SourceMap) -> Result<Option<String>, AllocError>
         requires { IsTrue (is_held map.now self.now) }
-        ensures { IfOk result (λ text. option_map (λ t. chars (string_bytes t)) text ≡ answers.source_of map.now self.now) }
+        ensures { IfOk result (λ text. option_map (λ t. chars (string_bytes t)) text
+            ≡ answers.source_of map.now self.now) }
     {
         match map.find(self) {
             Some(found) => Ok(Some(String::from_str(

@@ -8,14 +8,17 @@ ghost use Rattle.std.specs.List.{list_any};
 ghost use Rattle.std.specs.Prelude.{◌∷◌, ◌++◌, ◌≡◌, ◌+◌, ◌<◌, ◌≤◌, ◌^◌, length, IfOk, OnOk};
 ghost use Rattle.std.specs.Str.{chars};
 
-use crate::walk::char_at;
 use std::alloc::{AllocError, Global};
+use text_chars::char_at;
 
 /// So many characters lie between two entries of the table of bytes.
 pub(crate) const STEP: usize = 128;
 
-/// So many bytes are looked at together.
+/// So many bytes are counted together: few enough that a count of them is a byte.
 const CHUNK: usize = 64;
+
+/// So many bytes are looked at together for a line feed.
+const SHORT_CHUNK: usize = 16;
 
 /// The characters and the lines of a text.
 #[derive(Drop)]
@@ -34,18 +37,35 @@ fn begins_character(byte: u8) -> bool
     (byte < 128) | (192 <= byte)
 }
 
+/// How many characters begin in few bytes of a text. The count is a byte, so that many bytes are seen at once.
+#[inline(always)]
+fn begun_in_few(bytes: &[u8]) -> u8
+    requires { length bytes.now < 256 }
+    ensures { result ≡ begun bytes.now }
+{
+    let mut count = 0u8;
+    for byte in bytes {
+        count += begins_character(*byte) as u8;
+    }
+    count
+}
+
 /// How many characters begin in bytes of a text.
 fn begun(bytes: &[u8]) -> usize
     ensures { result ≡ begun bytes.now }
 {
     let mut count = 0usize;
-    for byte in bytes {
-        count += begins_character(*byte) as usize;
+    let mut rest = bytes;
+    while rest.len() >= CHUNK {
+        let (chunk, behind) = rest.split_at(CHUNK);
+        count += begun_in_few(chunk) as usize;
+        rest = behind;
     }
-    count
+    count + begun_in_few(rest) as usize
 }
 
 /// Whether a line feed stands among bytes of a text. It looks at all of them, so that many are seen at once.
+#[inline(always)]
 fn has_line_feed(bytes: &[u8]) -> bool
     ensures { result ≡ list_any is_line_feed bytes.now }
 {
@@ -93,15 +113,16 @@ pub(crate) fn count_lines(alloc: Global, text: &str) -> Result<Lines, AllocError
     starts.push(0)?;
     let mut characters = 0u32;
     let mut rest = text.as_bytes();
-    while !rest.is_empty() {
-        let (chunk, behind) = rest.split_at(rest.len().min(CHUNK));
+    while rest.len() >= SHORT_CHUNK {
+        let (chunk, behind) = rest.split_at(SHORT_CHUNK);
         if has_line_feed(chunk) {
             characters = push_starts(&mut starts, chunk, characters)?;
         } else {
-            characters += begun(chunk) as u32;
+            characters += begun_in_few(chunk) as u32;
         }
         rest = behind;
     }
+    characters = push_starts(&mut starts, rest, characters)?;
     Ok(Lines { characters, starts })
 }
 

@@ -8,7 +8,8 @@ use Rattle.syn_error.specs.Front.{Keeps}
 -- tokens that are put behind the old ones
 pub keeps_added : (old added new : List Spanned) → new ≡ old ++ added → Keeps old new
 unfolding Keeps
-keeps_added old added new e front (behind, h) = (behind ++ added, e ∙ ap (λ ts. ts ++ added) h ∙ append_assoc front behind added)
+keeps_added old added new e front (behind, h) =
+    (behind ++ added, e ∙ ap (λ ts. ts ++ added) h ∙ append_assoc front behind added)
 
 pub keeps_same : (old new : List Spanned) → new ≡ old → Keeps old new
 unfolding Keeps
@@ -20,6 +21,7 @@ unfolding Keeps
 keeps_both old middle new f g front h = g front (f front h)
 
 -- a push: the tokens are put behind the old ones, or nothing is
-pub push_keeps : {A E : Type 0} (result : Result A E) (old added new : List Spanned) → OnOk result (new ≡ old ++ added) → OnErr result (new ≡ old) → Keeps old new
+pub push_keeps : {A E : Type 0} (result : Result A E) (old added new : List Spanned) → OnOk result (new ≡ old ++ added)
+    → OnErr result (new ≡ old) → Keeps old new
 push_keeps (Ok x) old added new e f = keeps_added old added new e
 push_keeps (Err x) old added new e f = keeps_same old new f

@@ -1,5 +1,6 @@
 -- Rows of the table.
-use Rattle.std.proofs.Common.{length-append, ◌≡◌, ℕ, zero, suc, ◌+◌, ◌-◌, ◌<◌, ◌≤◌, List, [], ◌∷◌, ◌++◌, length, map, get_or, arith, refl, ap, ◌∙◌}
+use Rattle.std.proofs.Common.{length-append, ◌≡◌, ℕ, zero, suc, ◌+◌, ◌-◌, ◌<◌, ◌≤◌, List, [], ◌∷◌, ◌++◌, length}
+use Rattle.std.proofs.Common.{map, get_or, arith, refl, ap, ◌∙◌}
 use Rattle.std.specs.Prelude.{Bool, true, false, ◌&&◌, ◌||◌, ◌==◌, nat_lt, codes}
 use Rattle.std.specs.Char.{is_ascii_alphabetic, is_ascii_alphanumeric}
 use Rattle.std.specs.List.{list_all}
@@ -26,7 +27,8 @@ or_first true b e = refl
 or_first false b e = cc
 
 -- what holds of all rows, and of the one for other numbers, holds of the row of each number
-row_passes : (p : List ℕ → Bool) (rows : List (List ℕ)) (other : List ℕ) (kind : ℕ) → list_all p rows ≡ true → p other ≡ true → p (get_or rows kind other) ≡ true
+row_passes : (p : List ℕ → Bool) (rows : List (List ℕ)) (other : List ℕ) (kind : ℕ) → list_all p rows ≡ true → p other
+    ≡ true → p (get_or rows kind other) ≡ true
 row_passes p [] other kind all e = e
 row_passes p (r ∷ rows) other zero all e = (and_true _ _ all).0
 row_passes p (r ∷ rows) other (suc kind) all e = row_passes p rows other kind (and_true _ _ all).1 e
@@ -56,7 +58,8 @@ plain_identifier [] e = e
 plain_identifier (c ∷ cs) e =
     let both = and_true _ _ e in
     let first = and_true _ _ both.0 in
-    and_both _ _ (ap (λ b. b || c == 95) (is_xid_start-ascii c (ltb-true c 128 first.0)) ∙ first.1) (plain_rest cs both.1)
+    and_both _ _ (ap (λ b. b || c == 95) (is_xid_start-ascii c (ltb-true c 128 first.0)) ∙ first.1)
+    (plain_rest cs both.1)
 
 rest_ascii : (cs : List ℕ) → list_all goes_on cs ≡ true → IsAscii cs
 rest_ascii [] e i = omega arith
@@ -80,7 +83,8 @@ pub word_chars : (kind : ℕ) → chars (word kind) ≡ word kind
 word_chars kind = chars-IsAscii (word kind) (plain_ascii (word kind) (word_is_plain kind))
 
 pub word_is_identifier : (kind : ℕ) → is_ident_text (word kind) ≡ true
-word_is_identifier kind = or_first (is_identifier (word kind)) (is_raw_identifier (word kind)) (plain_identifier (word kind) (word_is_plain kind))
+word_is_identifier kind = or_first (is_identifier (word kind)) (is_raw_identifier (word kind))
+    (plain_identifier (word kind) (word_is_plain kind))
 
 pub word_at : (kind : ℕ) → kind < 56 → get_or (map quoted words) kind [] ≡ quoted (word kind)
 unfolding word
@@ -106,7 +110,8 @@ pub tilde_is_mark : is_mark 126 ≡ true
 unfolding is_mark
 tilde_is_mark = refl
 
-each_passes : (p : ℕ → Bool) (cs : List ℕ) (other i : ℕ) → list_all p cs ≡ true → p other ≡ true → p (get_or cs i other) ≡ true
+each_passes : (p : ℕ → Bool) (cs : List ℕ) (other i : ℕ) → list_all p cs ≡ true → p other ≡ true → p (get_or cs i other)
+    ≡ true
 each_passes p [] other i all e = e
 each_passes p (c ∷ cs) other zero all e = (and_true _ _ all).0
 each_passes p (c ∷ cs) other (suc i) all e = each_passes p cs other i (and_true _ _ all).1 e
@@ -124,7 +129,8 @@ within_row [] index below = absurd (omega arith)
 within_row (c ∷ cs) zero below = refl
 within_row (c ∷ cs) (suc index) below = within_row cs index (omega arith)
 
-pub mark_of_row : (row cs : List ℕ) (index : ℕ) → row ≡ quoted cs → index < length row - 2 → get_or row (index + 1) 0 ≡ get_or cs index 126
+pub mark_of_row : (row cs : List ℕ) (index : ℕ) → row ≡ quoted cs → index < length row - 2 → get_or row (index + 1) 0
+    ≡ get_or cs index 126
 mark_of_row row cs index e below =
     let more : length (cs ++ 96 ∷ []) ≡ length cs + 1 = length-append cs (96 ∷ []) in
     let within : index < length cs = omega (arith, ap length e, more) in

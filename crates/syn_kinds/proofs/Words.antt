@@ -14,7 +14,8 @@ both_ways false true f g = g refl
 both_ways false false f g = refl
 
 -- a test that tells whether a text is that of a word
-pub text_same : (b : Bool) (w cs : List ℕ) → (b ≡ true → cs ≡ chars w) → (cs ≡ chars w → b ≡ true) → b ≡ same_text (chars w) cs
+pub text_same : (b : Bool) (w cs : List ℕ) → (b ≡ true → cs ≡ chars w) → (cs ≡ chars w → b ≡ true) → b
+    ≡ same_text (chars w) cs
 text_same b w cs f g =
     both_ways b (bytes_eq (chars w) cs) (λ e. (bytes_eq-Decides (chars w) cs).1 (sym (f e)))
     (λ e. g (sym ((bytes_eq-Decides (chars w) cs).0 e)))
@@ -34,19 +35,23 @@ one_word p kind below =
     at_drop_more (λ ws. list_any p ws) kept_words kind [] (omega (arith, kept_count))
     ∙ ap (λ w. p w || list_any p (drop (kind + 1) kept_words)) (kept_at kind below)
 
-pub is_found : (p : List ℕ → Bool) (kind : ℕ) (all : Bool) → kind < 51 → p (word kind) ≡ true → list_any p (drop kind kept_words) ≡ all → true ≡ all
+pub is_found : (p : List ℕ → Bool) (kind : ℕ) (all : Bool) → kind < 51 → p (word kind) ≡ true
+    → list_any p (drop kind kept_words) ≡ all → true ≡ all
 is_found p kind all below e h =
     sym (ap (λ b. b || list_any p (drop (kind + 1) kept_words)) e) ∙ sym (one_word p kind below) ∙ h
 
-pub is_passed : (p : List ℕ → Bool) (kind : ℕ) (all : Bool) → kind < 51 → p (word kind) ≡ false → list_any p (drop kind kept_words) ≡ all
+pub is_passed : (p : List ℕ → Bool) (kind : ℕ) (all : Bool) → kind < 51 → p (word kind) ≡ false
+    → list_any p (drop kind kept_words) ≡ all
     → list_any p (drop (kind + 1) kept_words) ≡ all
 is_passed p kind all below e h =
     sym (ap (λ b. b || list_any p (drop (kind + 1) kept_words)) e) ∙ sym (one_word p kind below) ∙ h
 
-pub none_left : (p : List ℕ → Bool) (kind : ℕ) (all : Bool) → 51 ≤ kind → list_any p (drop kind kept_words) ≡ all → false ≡ all
+pub none_left : (p : List ℕ → Bool) (kind : ℕ) (all : Bool) → 51 ≤ kind → list_any p (drop kind kept_words) ≡ all
+    → false ≡ all
 none_left p kind all past h = sym (ap (λ ws. list_any p ws) (drop_all kind kept_words (omega (arith, kept_count)))) ∙ h
 
 -- a test of the row of a word
-pub word_tested : (b tested : Bool) (row cs : List ℕ) (kind : ℕ) → row ≡ word kind → tested ≡ same_text (chars row) cs → tested ≡ b → same_text (word kind) cs ≡ b
+pub word_tested : (b tested : Bool) (row cs : List ℕ) (kind : ℕ) → row ≡ word kind → tested ≡ same_text (chars row) cs
+    → tested ≡ b → same_text (word kind) cs ≡ b
 word_tested b tested row cs kind is_row is_test e =
     ap (λ w. same_text w cs) (sym (word_chars kind)) ∙ ap (λ w. same_text (chars w) cs) (sym is_row) ∙ sym is_test ∙ e

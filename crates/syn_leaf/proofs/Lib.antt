@@ -3,3 +3,4 @@ pub mod Texts
 pub mod OfClass
 pub mod Digits
 pub mod Passed
+pub mod Reading

@@ -18,7 +18,7 @@ use Rattle.std.proofs.lemmas.Grind.{not_there}
 
 -- a minus is a mark, and no literal begins with one
 minus_begins : (cs : List ℕ) → begins_mark (minus ∷ cs) ≡ true
-unfolding lex.is_mark
+unfolding lex.is_mark_but_tick
 minus_begins cs = refl
 
 unsigned : (k : LiteralKind) (cs : List ℕ) → IsKind k (minus ∷ cs) → ⊥

@@ -4,3 +4,4 @@ pub mod Booleans
 pub mod Integers
 pub mod Kinds
 pub mod Lits
+pub mod Reading

@@ -1,7 +1,7 @@
 -- What literals are to a contract: which one, its text, and where it stands.
 use Rattle.proc_macro2.specs.Entered.{literal_entered}
 use Rattle.proc_macro2.specs.Flat.{spanned}
-use Rattle.proc_macro2.specs.Token.{Literal, Spanned}
+use Rattle.proc_macro2.specs.Token.{Ident, Literal, Spanned}
 use Rattle.syn_kinds.specs.Values.{word_tokens}
 use Rattle.syn_leaf.specs.Booleans.{bool_text}
 use Rattle.std.specs.Prelude.{ℕ, List, [], ◌∷◌, Option, Some, None}
@@ -46,6 +46,18 @@ lit_span (lit.Int l) = literal_span l.token
 lit_span (lit.Float l) = literal_span l.token
 lit_span (lit.Bool l) = l.span
 lit_span (lit.Verbatim l) = literal_span l
+
+-- the one token that it is read from: true and false are identifiers
+abbrev pub lit_token : Lit → Spanned
+lit_token (lit.Str l) = spanned (Literal (literal_text l.token)) (literal_span l.token)
+lit_token (lit.ByteStr l) = spanned (Literal (literal_text l.token)) (literal_span l.token)
+lit_token (lit.CStr l) = spanned (Literal (literal_text l.token)) (literal_span l.token)
+lit_token (lit.Byte l) = spanned (Literal (literal_text l.token)) (literal_span l.token)
+lit_token (lit.Char l) = spanned (Literal (literal_text l.token)) (literal_span l.token)
+lit_token (lit.Int l) = spanned (Literal (literal_text l.token)) (literal_span l.token)
+lit_token (lit.Float l) = spanned (Literal (literal_text l.token)) (literal_span l.token)
+lit_token (lit.Bool l) = spanned (Ident (bool_text l.value)) l.span
+lit_token (lit.Verbatim l) = spanned (Literal (literal_text l)) (literal_span l)
 
 -- its tokens
 abbrev pub lit_tokens : Lit → List Spanned

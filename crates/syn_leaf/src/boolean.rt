@@ -54,9 +54,9 @@ impl ToTokens for LitBool {
 }
 
 // The rows of the two words in the table of keywords.
-const TRUE: usize = 40;
+pub(crate) const TRUE: usize = 40;
 
-const FALSE: usize = 15;
+pub(crate) const FALSE: usize = 15;
 
 impl TryClone for LitBool {
     ghost use Rattle.syn_leaf.specs.declared.boolean.LitBool.{LitBool as Literal};

@@ -15,6 +15,10 @@ impl LitClass for IsStr {
     fn kind() -> LiteralKind {
         LiteralKind::Str
     }
+
+    fn display() -> &'static str {
+        "string literal"
+    }
 }
 
 /// The class of a byte string, `b".."` or `br".."`.
@@ -26,6 +30,10 @@ impl LitClass for IsByteStr {
 
     fn kind() -> LiteralKind {
         LiteralKind::ByteStr
+    }
+
+    fn display() -> &'static str {
+        "byte string literal"
     }
 }
 
@@ -39,6 +47,10 @@ impl LitClass for IsCStr {
     fn kind() -> LiteralKind {
         LiteralKind::CStr
     }
+
+    fn display() -> &'static str {
+        "C string literal"
+    }
 }
 
 /// The class of a byte, `b'.'`.
@@ -50,6 +62,10 @@ impl LitClass for IsByte {
 
     fn kind() -> LiteralKind {
         LiteralKind::Byte
+    }
+
+    fn display() -> &'static str {
+        "byte literal"
     }
 }
 
@@ -63,6 +79,10 @@ impl LitClass for IsChar {
     fn kind() -> LiteralKind {
         LiteralKind::Char
     }
+
+    fn display() -> &'static str {
+        "character literal"
+    }
 }
 
 /// The class of an integer: a number without a fraction and without an exponent, whatever its suffix is.
@@ -75,6 +95,10 @@ impl LitClass for IsInt {
     fn kind() -> LiteralKind {
         LiteralKind::Int
     }
+
+    fn display() -> &'static str {
+        "integer literal"
+    }
 }
 
 /// The class of a number with a fraction or an exponent.
@@ -86,5 +110,9 @@ impl LitClass for IsFloat {
 
     fn kind() -> LiteralKind {
         LiteralKind::Float
+    }
+
+    fn display() -> &'static str {
+        "floating point literal"
     }
 }

@@ -8,6 +8,7 @@
 //! - `classes`: the classes of literals.
 //! - `integer`: the numbers that integer literals write.
 //! - `kind` (private): which literal a text is.
+//! - `read` (private): reading literals and members, and looking for literals.
 #![tactic(auto)]
 
 pub mod boolean;
@@ -18,6 +19,7 @@ pub mod lit;
 pub mod literal;
 pub mod member;
 pub mod operators;
+mod read;
 
 pub use boolean::LitBool;
 pub use lit::{Lit, LitByte, LitByteStr, LitCStr, LitChar, LitFloat, LitInt, LitStr};

@@ -1,5 +1,7 @@
 //! Literals of every class.
 
+ghost use Rattle.proc_macro2.specs.Flat.{spanned};
+ghost use Rattle.proc_macro2.specs.Token as tokens;
 ghost use Rattle.rust_leaf.specs.Leaf.{literal_span, literal_text};
 ghost use Rattle.rust_lex.specs.declared.piece.LiteralKind.{LiteralKind};
 ghost use Rattle.std.specs.Prelude.{◌++◌, ◌≡◌, ◌↔◌, Some};
@@ -7,7 +9,7 @@ ghost use Rattle.std.specs.Cmp.Lexicographic.{nat_list_eq_equiv};
 ghost use Rattle.std.specs.Cmp.{on_equiv, on_per, partial_equiv_from_equiv};
 ghost use Rattle.std.specs.Str.{bytes_eq, chars};
 ghost use Rattle.syn_leaf.specs.Kinds.{IsKind};
-ghost use Rattle.syn_leaf.specs.Lits.{lit_kind, lit_span, lit_text, lit_tokens};
+ghost use Rattle.syn_leaf.specs.Lits.{lit_kind, lit_span, lit_text, lit_token, lit_tokens};
 
 use crate::boolean::LitBool;
 use crate::classes::{IsByte, IsByteStr, IsCStr, IsChar, IsFloat, IsInt, IsStr};
@@ -68,6 +70,7 @@ pub enum Lit {
 impl Lit {
     /// The literal that a token is.
     pub fn new(token: Literal) -> Lit
+        ensures token_is { lit_token result ≡ spanned (tokens.Literal (literal_text token)) (literal_span token) }
         ensures text_is { lit_text result ≡ literal_text token }
         ensures span_is { lit_span result ≡ literal_span token }
         ensures kind { (kind : LiteralKind) → (lit_kind result ≡ Some kind) ↔ IsKind kind (literal_text token) }

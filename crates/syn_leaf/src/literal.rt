@@ -26,6 +26,9 @@ pub trait LitClass {
     /// Which literals are of the class.
     fn kind() -> LiteralKind
         ensures { result ≡ kind };
+
+    /// What messages call a literal of the class.
+    fn display() -> &'static str;
 }
 
 /// A literal of a class, with its suffix. Two of them are equal by their texts, wherever they stand.

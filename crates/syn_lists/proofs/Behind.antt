@@ -1,5 +1,6 @@
 -- Values with the separators behind them: how many there are, and the last one.
-use Rattle.std.proofs.Common.{◌≡◌, ℕ, zero, suc, ◌+◌, ◌<◌, ◌≤◌, List, [], ◌∷◌, ◌++◌, length, get_or, take, arith, refl, sym, ap, ◌∙◌, length-append}
+use Rattle.std.proofs.Common.{◌≡◌, ℕ, zero, suc, ◌+◌, ◌<◌, ◌≤◌, List, [], ◌∷◌, ◌++◌, length, get_or, take, arith}
+use Rattle.std.proofs.Common.{refl, sym, ap, ◌∙◌, length-append}
 use Rattle.std.proofs.lemmas.List.{length-take}
 use Rattle.std.specs.Prelude.{Some, None}
 use Rattle.syn_lists.specs.Pairs.{pairs}
@@ -48,18 +49,19 @@ module _ {T P : Type 0} where
   both_more (u ∷ vs) (q ∷ qs) v p same = ap (λ rs. (u, Some q) ∷ rs) (both_more vs qs v p (omega arith))
 
   -- the last pair, once the separators are cut to as many as there are values
-  pub behind : (all vs : List T) (ps few left : List P) (v : T) (p : P) → all ≡ vs ++ v ∷ [] → few ≡ take (length vs + 1) ps
-      → length vs < length few → few ≡ left ++ p ∷ [] → pairs all ps ≡ pairs vs left ++ (v, Some p) ∷ []
-  behind all vs ps few left v p is_all is_few below is_left =
+  pub behind : (all vs : List T) (ps few left : List P) (v : T) (p : P) (n : ℕ) → all ≡ vs ++ v ∷ []
+      → few ≡ take n ps → n ≡ length vs + 1 → length vs < length few → few ≡ left ++ p ∷ [] → pairs all ps
+      ≡ pairs vs left ++ (v, Some p) ∷ []
+  behind all vs ps few left v p n is_all is_few is_n below is_left =
       let count : length (vs ++ v ∷ []) ≡ length vs + 1 = length-append vs (v ∷ []) in
-      let few_count : length few ≤ length vs + 1 = omega (arith, ap length is_few, length-take (length vs + 1) ps) in
+      let few_count : length few ≤ length vs + 1 = omega (arith, ap length is_few, length-take n ps) in
       let left_count : length few ≡ length left + 1 = ap length is_left ∙ length-append left (p ∷ []) in
-      ap (λ ws. pairs ws ps) is_all ∙ sym (cut (vs ++ v ∷ []) ps (length vs + 1) (omega arith))
+      ap (λ ws. pairs ws ps) is_all ∙ sym (cut (vs ++ v ∷ []) ps n (omega arith))
       ∙ ap (λ qs. pairs (vs ++ v ∷ []) qs) (sym is_few ∙ is_left) ∙ both_more vs left v p (omega arith)
 
-  pub bare : (all vs : List T) (ps few : List P) (v : T) → all ≡ vs ++ v ∷ [] → few ≡ take (length vs + 1) ps
-      → length few ≤ length vs → pairs all ps ≡ pairs vs few ++ (v, None) ∷ []
-  bare all vs ps few v is_all is_few past =
+  pub bare : (all vs : List T) (ps few : List P) (v : T) (n : ℕ) → all ≡ vs ++ v ∷ [] → few ≡ take n ps
+      → n ≡ length vs + 1 → length few ≤ length vs → pairs all ps ≡ pairs vs few ++ (v, None) ∷ []
+  bare all vs ps few v n is_all is_few is_n past =
       let count : length (vs ++ v ∷ []) ≡ length vs + 1 = length-append vs (v ∷ []) in
-      ap (λ ws. pairs ws ps) is_all ∙ sym (cut (vs ++ v ∷ []) ps (length vs + 1) (omega arith))
+      ap (λ ws. pairs ws ps) is_all ∙ sym (cut (vs ++ v ∷ []) ps n (omega arith))
       ∙ ap (λ qs. pairs (vs ++ v ∷ []) qs) (sym is_few) ∙ without_separator vs few v past

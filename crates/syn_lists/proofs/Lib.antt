@@ -1,3 +1,5 @@
+pub mod Adding
 pub mod Behind
 pub mod Inserts
+pub mod Kept
 pub mod Puts

@@ -1,3 +1,6 @@
+pub mod Added
+pub mod Lent
+pub mod LentPair
 pub mod Left
 pub mod Lists
 pub mod Pairs

@@ -21,6 +21,10 @@ abbrev pub lent : {T P : Type 0} → Pair (Bor T) (Bor P) → T × Option P
 lent (Punctuated v p) = (v.now, Some p.now)
 lent (End v) = (v.now, None)
 
+abbrev pub lent_mut : {T P : Type 0} → Pair (MutBor T) (MutBor P) → T × Option P
+lent_mut (Punctuated v p) = (v.now, Some p.now)
+lent_mut (End v) = (v.now, None)
+
 -- the pair is the last of a list, without which these values are left
 abbrev pub IsLastPair : {T P : Type 0} → Pair T P → List T → List P → List T → Type 0
 IsLastPair (Punctuated v p) vs ps left = (vs ≡ left ++ v ∷ []) × (take (length vs) ps ≡ take (length left) ps ++ p ∷ [])

@@ -3,11 +3,14 @@
 ghost use Rattle.std.specs.Iterator.{UpTo, YieldsFirst, YieldsFirstMut, YieldsFirstRef, item_count};
 ghost use Rattle.std.specs.Iterator.{YieldsLast, YieldsLastMut, YieldsLastRef};
 ghost use Rattle.std.specs.Iterator.SizeHint.{IsExactHint, IsWithinCount};
+ghost use Rattle.std.specs.Borrow.{sem};
 ghost use Rattle.std.specs.Prelude.{[], ◌≡◌, IfSome, length};
 ghost use Rattle.syn_lists.specs.Left.{into_iter_left, iter_left, iter_mut_left};
+ghost use Rattle.syn_lists.specs.Lent.{lends_values};
 ghost use Rattle.syn_lists.specs.Lists.{values};
 
 use crate::punctuated::Punctuated;
+use std::alloc::Global;
 use std::collections::VecDeque;
 use std::slice;
 
@@ -82,10 +85,23 @@ pub struct IterMut<'a, T> {
     pub(crate) rest: slice::IterMut<'a, T>,
 }
 
+impl<'a, T> IterMut<'a, T> {
+    /// The iterator of no value. It takes no memory.
+    pub fn empty() -> IterMut<'a, T>
+        ensures { iter_mut_left result ≡ [] }
+    {
+        let none: &'a mut [T] = &mut [];
+        IterMut {
+            rest: none.iter_mut(),
+        }
+    }
+}
+
 impl<T, P> Punctuated<T, P> {
-    /// The values, in order, to be changed.
+    /// The values, in order, to be changed: the list then holds what was written last through each of them.
     pub fn iter_mut(&mut self) -> IterMut<'_, T>
-        ensures { iter_mut_left result ≡ values self.old }
+        ensures* writes_back { sem 𝓛 (lends_values T.row P.row self.entry result) }
+        ensures values { iter_mut_left result ≡ values self.old }
     {
         IterMut {
             rest: self.values.iter_mut(),
@@ -102,6 +118,15 @@ impl<'a, T> Iterator for IterMut<'a, T> {
 
     fn next(&mut self) -> Option<&'a mut T> {
         self.rest.next()
+    }
+
+    fn size_hint(&self) -> (usize, Option<usize>)
+        ensures lower { IsWithinCount result.0 (item_count iter_mut_left self.now) }
+        ensures upper { IfSome result.1 (UpTo (item_count iter_mut_left self.now)) }
+        ensures exact { IsExactHint result (length (iter_mut_left self.now)) }
+    {
+        let count = self.rest.len();
+        (count, Some(count))
     }
 }
 
@@ -123,6 +148,17 @@ impl<'a, T> ExactSizeIterator for IterMut<'a, T> {
 #[derive(Debug, Drop)]
 pub struct IntoIter<T> {
     pub(crate) rest: VecDeque<T>,
+}
+
+impl<T> IntoIter<T> {
+    /// The iterator of no value. It takes no memory.
+    pub fn empty(alloc: Global) -> IntoIter<T>
+        ensures { into_iter_left result ≡ [] }
+    {
+        IntoIter {
+            rest: VecDeque::new(alloc),
+        }
+    }
 }
 
 impl<T: Drop> Iterator for IntoIter<T> {
@@ -187,5 +223,20 @@ impl<'a, T, P> IntoIterator for &'a Punctuated<T, P> {
 
     fn into_iter(self) -> Iter<'a, T> {
         self.iter()
+    }
+}
+
+impl<'a, T, P> IntoIterator for &'a mut Punctuated<T, P> {
+    type Item = &'a mut T;
+
+    type IntoIter = IterMut<'a, T>;
+
+    ghost into_iter_gives = { λ list it. iter_mut_left it ≡ values list.now };
+
+    fn into_iter(self) -> IterMut<'a, T>
+        ensures* writes_back { sem 𝓛 (lends_values T.row P.row self.entry result) }
+        ensures into_iter_gives { iter_mut_left result ≡ values self.old }
+    {
+        self.iter_mut()
     }
 }

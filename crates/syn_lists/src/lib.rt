@@ -4,7 +4,8 @@
 //! - `pair`: a value and the separator behind it.
 //! - `iter`: the values one by one, from both ends.
 //! - `pairs`: the values with their separators, the same way.
-//! - `collect` (private): lists of all values of an iterator.
+//! - `retain` (private): what a function rejects is taken out.
+//! - `collect` (private): lists of all values or pairs of an iterator.
 //! - `printed` (private): lists printed as tokens, and copies.
 #![tactic(auto)]
 
@@ -14,8 +15,9 @@ pub mod pair;
 pub mod pairs;
 mod printed;
 pub mod punctuated;
+mod retain;
 
 pub use iter::{IntoIter, Iter, IterMut};
 pub use pair::Pair;
-pub use pairs::{IntoPairs, Pairs};
+pub use pairs::{IntoPairs, Pairs, PairsMut};
 pub use punctuated::Punctuated;

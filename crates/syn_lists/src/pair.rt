@@ -1,6 +1,8 @@
 //! A value and the separator behind it.
 
 ghost use Rattle.std.specs.Prelude.{◌≡◌, IfOk, Option};
+ghost use Rattle.std.specs.Borrow.{sem};
+ghost use Rattle.syn_lists.specs.LentPair.{lends_separator, lends_value};
 ghost use Rattle.syn_lists.specs.Pairs.{lent, option_now, option_now_mut, parts, shown_parts};
 ghost use Rattle.syn_lists.specs.Put.{put_pair};
 
@@ -61,9 +63,10 @@ impl<T, P> Pair<T, P> {
         }
     }
 
-    /// The value, to be changed.
+    /// The value, to be changed: the pair then holds what was written last.
     pub fn value_mut(&mut self) -> &mut T
-        ensures { result.now ≡ (parts self.old).0 }
+        ensures* writes_back { sem 𝓛 (lends_value T.row P.row self.entry result) }
+        ensures value { result.now ≡ (parts self.old).0 }
     {
         match self {
             Pair::Punctuated(value, _) => value,
@@ -81,9 +84,10 @@ impl<T, P> Pair<T, P> {
         }
     }
 
-    /// The separator behind the value, if there is one, to be changed.
+    /// The separator behind the value, if there is one, to be changed: the pair then holds what was written last.
     pub fn punct_mut(&mut self) -> Option<&mut P>
-        ensures { option_now_mut result ≡ (parts self.old).1 }
+        ensures* writes_back { sem 𝓛 (lends_separator T.row P.row self.entry result) }
+        ensures separator { option_now_mut result ≡ (parts self.old).1 }
     {
         match self {
             Pair::Punctuated(_, separator) => Some(separator),

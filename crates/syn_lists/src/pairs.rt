@@ -2,11 +2,13 @@
 
 ghost use Rattle.std.specs.Iterator.{UpTo, YieldsFirstBy, YieldsLastBy, at_most, item_count};
 ghost use Rattle.std.specs.Iterator.SizeHint.{IsExactHint, IsWithinCount};
-ghost use Rattle.std.specs.Prelude.{◌≡◌, ◌≤◌, IfSome, length, vec_len};
+ghost use Rattle.std.specs.Prelude.{◌≡◌, ◌≤◌, IfSome, length, take, vec_len};
+ghost use Rattle.syn_lists.specs.Left.{iter_mut_left};
 ghost use Rattle.syn_lists.specs.Lists.{separators, values};
-ghost use Rattle.syn_lists.specs.PairsLeft.{into_pairs_left, pairs_left};
-ghost use Rattle.syn_lists.specs.Pairs.{lent, pairs, parts};
+ghost use Rattle.syn_lists.specs.PairsLeft.{into_pairs_left, pairs_left, pairs_mut_left};
+ghost use Rattle.syn_lists.specs.Pairs.{lent, lent_mut, pairs, parts};
 
+use crate::iter::IterMut;
 use crate::pair::Pair;
 use crate::punctuated::Punctuated;
 use std::collections::VecDeque;
@@ -30,6 +32,7 @@ impl<T, P> Punctuated<T, P> {
     }
 }
 
+#[tactic(auto, using(crate::proofs::Behind::pairs_count))]
 impl<'a, T, P> Iterator for Pairs<'a, T, P> {
     type Item = Pair<&'a T, &'a P>;
 
@@ -47,6 +50,15 @@ impl<'a, T, P> Iterator for Pairs<'a, T, P> {
             }
             None => Some(Pair::End(value)),
         }
+    }
+
+    fn size_hint(&self) -> (usize, Option<usize>)
+        ensures lower { IsWithinCount result.0 (item_count pairs_left self.now) }
+        ensures upper { IfSome result.1 (UpTo (item_count pairs_left self.now)) }
+        ensures exact { IsExactHint result (length (pairs_left self.now)) }
+    {
+        let count = self.values.len();
+        (count, Some(count))
     }
 }
 
@@ -72,6 +84,89 @@ impl<'a, T, P> ExactSizeIterator for Pairs<'a, T, P> {
     }
 }
 
+/// The values of a list with the separators behind them, in order, to be changed.
+#[derive(Drop)]
+pub struct PairsMut<'a, T, P> {
+    pub(crate) values: IterMut<'a, T>,
+    pub(crate) separators: IterMut<'a, P>,
+}
+
+impl<T, P> Punctuated<T, P> {
+    /// The values with the separators behind them, in order, to be changed.
+    pub fn pairs_mut(&mut self) -> PairsMut<'_, T, P>
+        ensures { pairs_mut_left result ≡ pairs (values self.old) (separators self.old) }
+    {
+        PairsMut {
+            values: IterMut {
+                rest: self.values.iter_mut(),
+            },
+            separators: IterMut {
+                rest: self.separators.iter_mut(),
+            },
+        }
+    }
+}
+
+#[tactic(auto, using(crate::proofs::Behind::pairs_count))]
+impl<'a, T, P> Iterator for PairsMut<'a, T, P> {
+    type Item = Pair<&'a mut T, &'a mut P>;
+
+    ghost next_gives = { YieldsFirstBy lent_mut pairs_mut_left };
+
+    ghost remaining = { item_count pairs_mut_left };
+
+    fn next(&mut self) -> Option<Pair<&'a mut T, &'a mut P>> {
+        let value = self.values.next()?;
+        match self.separators.next() {
+            Some(separator) => Some(Pair::Punctuated(value, separator)),
+            None => Some(Pair::End(value)),
+        }
+    }
+
+    fn size_hint(&self) -> (usize, Option<usize>)
+        ensures lower { IsWithinCount result.0 (item_count pairs_mut_left self.now) }
+        ensures upper { IfSome result.1 (UpTo (item_count pairs_mut_left self.now)) }
+        ensures exact { IsExactHint result (length (pairs_mut_left self.now)) }
+    {
+        let count = self.values.len();
+        (count, Some(count))
+    }
+}
+
+// Leaves so many separators at most.
+fn cut<P>(separators: &mut IterMut<'_, P>, count: usize)
+    ensures { iter_mut_left separators.new ≡ take count (iter_mut_left separators.old) }
+{
+    while count < separators.len() {
+        let _ = separators.next_back();
+    }
+}
+
+#[tactic(auto, using(crate::proofs::Behind::behind, crate::proofs::Behind::bare, crate::proofs::Behind::pairs_count))]
+impl<'a, T, P> DoubleEndedIterator for PairsMut<'a, T, P> {
+    ghost next_back_gives = { YieldsLastBy lent_mut pairs_mut_left };
+
+    fn next_back(&mut self) -> Option<Pair<&'a mut T, &'a mut P>> {
+        let count = self.values.len();
+        let value = self.values.next_back()?;
+        cut(&mut self.separators, count);
+        if self.separators.len() < count {
+            return Some(Pair::End(value));
+        }
+        match self.separators.next_back() {
+            Some(separator) => Some(Pair::Punctuated(value, separator)),
+            None => unreachable!(),
+        }
+    }
+}
+
+#[tactic(auto, using(crate::proofs::Behind::pairs_count))]
+impl<'a, T, P> ExactSizeIterator for PairsMut<'a, T, P> {
+    fn len(&self) -> usize {
+        self.values.len()
+    }
+}
+
 /// The values of a list with the separators behind them, in order.
 #[derive(Debug, Drop)]
 pub struct IntoPairs<T, P> {
@@ -92,6 +187,7 @@ impl<T, P> Punctuated<T, P> {
     }
 }
 
+#[tactic(auto, using(crate::proofs::Behind::pairs_count))]
 impl<T: Drop, P: Drop> Iterator for IntoPairs<T, P> {
     type Item = Pair<T, P>;
 
@@ -105,6 +201,15 @@ impl<T: Drop, P: Drop> Iterator for IntoPairs<T, P> {
             Some(separator) => Some(Pair::Punctuated(value, separator)),
             None => Some(Pair::End(value)),
         }
+    }
+
+    fn size_hint(&self) -> (usize, Option<usize>)
+        ensures lower { IsWithinCount result.0 (item_count into_pairs_left self.now) }
+        ensures upper { IfSome result.1 (UpTo (item_count into_pairs_left self.now)) }
+        ensures exact { IsExactHint result (length (into_pairs_left self.now)) }
+    {
+        let count = self.values.len();
+        (count, Some(count))
     }
 }
 

@@ -1,6 +1,6 @@
 //! Lists printed as tokens, and copies of lists.
 
-ghost use Rattle.std.specs.Prelude.{List, map};
+ghost use Rattle.std.specs.Prelude.{◌≡◌, IfOk, List, length, map};
 ghost use Rattle.syn_lists.specs.Lists.{separators, values};
 ghost use Rattle.syn_lists.specs.Put.{put_list};
 
@@ -23,6 +23,23 @@ impl<T: ToTokens, P: ToTokens> ToTokens for Punctuated<T, P> {
             self.separators[index].to_tokens(tokens)?;
         }
         Ok(())
+    }
+}
+
+impl<T, P: TryClone> Punctuated<T, P> {
+    /// The list of those values, as many as this one's, with copies of its separators.
+    ///
+    /// The error is that memory was refused.
+    pub fn with_values<U: Drop>(&self, others: Vec<U>) -> Result<Punctuated<U, P>, AllocError>
+        requires { length others.items ≡ length (values self.now) }
+        ensures values { IfOk result (λ list. values list ≡ others.items) }
+        ensures separators { IfOk result (λ list.
+            map P.shown (separators list) ≡ map P.shown (separators self.now)) }
+    {
+        Ok(Punctuated {
+            values: others,
+            separators: self.separators.try_clone()?,
+        })
     }
 }
 

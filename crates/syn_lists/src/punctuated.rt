@@ -3,11 +3,14 @@
 ghost use Rattle.std.specs.Prelude.{[], ◌++◌, ◌∷◌, ◌-◌, ◌<◌, ◌≤◌, ◌≡◌, ◌↔◌, MatchOption, OnErr, OnOk, OnSome};
 ghost use Rattle.std.specs.Prelude.{IfErr, IfSome, IsNone, IsSome, IsTrue};
 ghost use Rattle.std.specs.Prelude.{drop, get_or, insert, length, min, take};
-ghost use Rattle.syn_lists.specs.Lists.{IsTrailing, separators, values};
+ghost use Rattle.std.specs.Borrow.{sem};
+ghost use Rattle.syn_lists.specs.Lent.{lends_if, lends_last, lends_value};
+ghost use Rattle.syn_lists.specs.Lists.{IsTrailing, StaysSeparated, separators, values};
 ghost use Rattle.syn_lists.specs.Pairs.{IsLastPair};
 
 use crate::pair::Pair;
 use std::alloc::{AllocFailed, Global};
+use std::ops::{Index, IndexMut};
 
 /// A list of values with a separator between each two of them, and perhaps one behind the last.
 ///
@@ -93,6 +96,7 @@ impl<T, P> Punctuated<T, P> {
         ensures err { OnErr result (values self.new ≡ values self.old) }
         ensures handed_back { IfErr result (λ refused. refused.value ≡ value) }
         ensures separators { separators self.new ≡ separators self.old }
+        ensures separated { StaysSeparated self.old self.new }
     {
         self.values.push(value)
     }
@@ -106,6 +110,7 @@ impl<T, P> Punctuated<T, P> {
         ensures err { OnErr result (separators self.new ≡ separators self.old) }
         ensures handed_back { IfErr result (λ refused. refused.value ≡ punctuation) }
         ensures values { values self.new ≡ values self.old }
+        ensures separated { StaysSeparated self.old self.new }
     {
         self.separators.push(punctuation)
     }
@@ -117,6 +122,7 @@ impl<T, P> Punctuated<T, P> {
         ensures value { MatchOption result ((values self.old ≡ []) × (values self.new ≡ []))
             (λ x. values self.old ≡ values self.new ++ x ∷ []) }
         ensures separators { separators self.new ≡ take (length (values self.new)) (separators self.old) }
+        ensures separated { StaysSeparated self.old self.new }
     {
         let value = self.values.pop();
         self.separators.truncate(self.values.len());
@@ -129,6 +135,7 @@ impl<T, P> Punctuated<T, P> {
         ensures separator { MatchOption result (separators self.new ≡ separators self.old)
             (λ p. separators self.old ≡ separators self.new ++ p ∷ []) }
         ensures values { values self.new ≡ values self.old }
+        ensures separated { StaysSeparated self.old self.new }
     {
         if self.trailing_punct() {
             self.separators.pop()
@@ -153,24 +160,27 @@ impl<T, P> Punctuated<T, P> {
         self.values.get(index)
     }
 
-    /// The first value, to be changed.
+    /// The first value, to be changed: the list then holds there what was written last.
     pub fn first_mut(&mut self) -> Option<&mut T>
+        ensures* writes_back { sem 𝓛 (lends_if T.row P.row self.entry 0 result) }
         ensures inside { IsSome result ↔ (0 < length (values self.old)) }
         ensures value { IfSome result (λ x. x.now ≡ get_or (values self.old) 0 x.now) }
     {
         self.values.first_mut()
     }
 
-    /// The last value, to be changed.
+    /// The last value, to be changed: the list then holds there what was written last.
     pub fn last_mut(&mut self) -> Option<&mut T>
+        ensures* writes_back { sem 𝓛 (lends_last T.row P.row self.entry result) }
         ensures inside { IsSome result ↔ (0 < length (values self.old)) }
         ensures value { IfSome result (λ x. x.now ≡ get_or (values self.old) (length (values self.old) - 1) x.now) }
     {
         self.values.last_mut()
     }
 
-    /// The value at an index, from 0, to be changed.
+    /// The value at an index, from 0, to be changed: the list then holds there what was written last.
     pub fn get_mut(&mut self, index: usize) -> Option<&mut T>
+        ensures* writes_back { sem 𝓛 (lends_if T.row P.row self.entry index result) }
         ensures inside { IsSome result ↔ (index < length (values self.old)) }
         ensures value { IfSome result (λ x. x.now ≡ get_or (values self.old) index x.now) }
     {
@@ -185,6 +195,7 @@ impl<T, P> Punctuated<T, P> {
             (λ pair. IsLastPair pair (values self.old) (separators self.old) (values self.new)) }
         ensures some { OnSome result (separators self.new ≡ take (length (values self.new)) (separators self.old)) }
         ensures none { IsNone result → separators self.new ≡ separators self.old }
+        ensures separated { StaysSeparated self.old self.new }
     {
         let value = self.values.pop()?;
         self.separators.truncate(self.values.len() + 1);
@@ -223,6 +234,7 @@ impl<T, P> Punctuated<T, P> {
             → OnOk result ((p : P) × P.is_default p × (separators self.new ≡ separators self.old ++ p ∷ [])) }
         ensures err { OnErr result ((values self.new ≡ values self.old) × (separators self.new ≡ separators self.old)) }
         ensures handed_back { IfErr result (λ refused. refused.value ≡ value) }
+        ensures separated { StaysSeparated self.old self.new }
     {
         if self.empty_or_trailing() {
             return self.push_value(value);
@@ -251,6 +263,7 @@ impl<T, P> Punctuated<T, P> {
             × (separators self.new ≡ insert (separators self.old) (min index (length (separators self.old))) p)) }
         ensures err { OnErr result ((values self.new ≡ values self.old) × (separators self.new ≡ separators self.old)) }
         ensures handed_back { IfErr result (λ refused. refused.value ≡ value) }
+        ensures separated { StaysSeparated self.old self.new }
     {
         if index == self.values.len() {
             return self.push(value);
@@ -264,5 +277,31 @@ impl<T, P> Punctuated<T, P> {
             Ok(()) => Ok(()),
             Err(_) => unreachable!(),
         }
+    }
+}
+
+impl<T, P> Index<usize> for Punctuated<T, P> {
+    type Output = T;
+
+    ghost use Rattle.std.specs.Prelude.{◌≡◌, ◌<◌, get_or, length};
+    ghost use Rattle.syn_lists.specs.Lists.{values};
+
+    ghost can_index = { λ list i. i < length (values list) };
+
+    ghost index_gives = { λ list i x. x ≡ get_or (values list) i x };
+
+    fn index(&self, index: usize) -> &T {
+        &self.values[index]
+    }
+}
+
+impl<T, P> IndexMut<usize> for Punctuated<T, P> {
+    /// The value at an index, from 0, to be changed: the list then holds there what was written last.
+    fn index_mut(&mut self, index: usize) -> &mut T
+        requires { index < length (values self.old) }
+        ensures* writes_back { sem 𝓛 (lends_value T.row P.row self.entry index result) }
+        ensures value { result.now ≡ get_or (values self.old) index result.now }
+    {
+        &mut self.values[index]
     }
 }

@@ -1,49 +1,31 @@
 //! Reading syntax from token streams.
 //!
-//! - `entry`: one token of a buffer.
-//! - `buffer`: the tokens of a stream as one flat list, lent.
-//! - `position`: places in such a list.
-//! - `next`: what stands at a place.
-//! - `cursor`: looking at places, and moving on.
-//! - `token`: kinds of tokens that can be looked for.
-//! - `input`: streams that are read.
-//! - `fault`: what is said of tokens that can't be read.
-//! - `group`: groups in a stream.
-//! - `parse`: what can be read.
-//! - `parse_trees`: reading what holds other syntax, and leaves.
-//! - `kinds`, `marks`, `lifetime`: reading keywords and other kinds, punctuations, lifetimes.
-//! - `step`, `within`: reading by functions.
-//! - `parser`: whole parses.
-//! - `place`: places as what errors speak of.
-//! - `lists`: reading lists of values with separators.
-//! - `lookahead`: looking for several kinds at one place, and the error that none stands there.
+//! Everything that a parser names stands here; the parts are crates of their own:
+//!
+//! - `syn_buffer`: the tokens of a stream as one flat list, and places in it.
+//! - `syn_lifetime`: lifetimes as values.
+//! - `syn_peek`: looking for kinds of tokens at a place.
+//! - `syn_input`: streams that are read, groups, what can be read, whole parses.
+//! - `syn_read_lists`: reading lists of values with separators.
+//! - `syn_ext`: identifiers that are keywords too, and identifiers without `r#`.
+//! - `syn_error`, `syn_kinds`, `syn_lists`: errors, kinds of tokens as values, lists of values with separators.
+//!
+//! The definitions that their contracts cite stand in `specs/` here too.
 #![tactic(auto)]
 
-pub mod buffer;
-pub mod cursor;
-pub mod entry;
-pub mod fault;
-pub mod group;
-pub mod input;
-pub mod kinds;
-pub mod lifetime;
-pub mod lists;
-pub mod lookahead;
-pub mod marks;
-pub mod next;
-pub mod parse;
-pub mod parse_trees;
-pub mod parser;
-pub mod place;
-pub mod position;
-pub mod step;
-pub mod token;
-pub mod within;
-
-pub use buffer::TokenBuffer;
-pub use input::ParseBuffer;
-pub use lookahead::Lookahead1;
-pub use next::Next;
-pub use parse::Parse;
-pub use position::Cursor;
-pub use token::{Peek, Token};
+pub use syn_buffer::{
+    Cursor, Next, TokenBuffer, buffer, cursor, entry, next, place, position, skip, trees,
+};
+pub use syn_error::{Error, ErrorPlace, ParseFault, Result, TextFault, ToTokens};
+pub use syn_ext::IdentExt;
+pub use syn_input::{
+    Braces, Brackets, Delimited, Lookahead1, Parens, Parse, ParseBuffer, Parser, StepCursor, fault,
+    group, input, lists, lookahead, parse, parse_str, parse_stream, parse2, parser, step, within,
+};
+pub use syn_kinds::{End, IdentAny, Nothing};
+pub use syn_lifetime::{Lifetime, lifetime};
+pub use syn_lists::{Pair, Punctuated};
+pub use syn_peek::{Peek, Token, token};
+pub use syn_read_lists::{
+    parse_separated_nonempty, parse_separated_nonempty_with, parse_terminated_with, read_many,
+};

@@ -1,12 +1,13 @@
-use Rattle.std.proofs.Common.{◌-◌, ◌≤◌, length}
-use Rattle.canon_syntax.proofs.Public.{HasReadTo}
+use Rattle.std.proofs.Common.{length}
+use Rattle.syn_parse.specs.Input.{IsOnward, left}
+use Rattle.canon_syntax.proofs.Public.{HasRead}
 use Rattle.canon_syntax.proofs.parse.parse_file.Given as goal
 
-abbrev pub invariant-loop-at : goal.invariant-loop-at
-invariant-loop-at l = record {
-  read : HasReadTo l.tokens l.items.items l.at;
-  within : l.at ≤ length l.tokens;
+abbrev pub invariant-loop-input : goal.invariant-loop-input
+invariant-loop-input l = record {
+  read : HasRead (left l.initial.input) l.items.items (left l.input);
+  onward : IsOnward l.initial.input l.input;
 }
 
-abbrev pub decreases-loop-at : goal.decreases-loop-at
-decreases-loop-at l = length l.tokens - l.at
+abbrev pub decreases-loop-input : goal.decreases-loop-input
+decreases-loop-input l = length (left l.input)

@@ -11,4 +11,5 @@ pub range-requires-clause-end_boundary : goal.range-requires-clause-end_boundary
 range-requires-clause-end_boundary c = (cuts_closing c.args.body.now c.utf8.body c.requires).boundary
 
 pub returns : goal.returns
-returns c = ap chars (c.range.ensures.value ∙ ap (λ n. take n c.args.body.now) (sub-zero (length c.args.body.now - 2))) ∙ (cuts_closing c.args.body.now c.utf8.body c.requires).before
+returns c = ap chars (c.range.ensures.value ∙ ap (λ n. take n c.args.body.now) (sub-zero (length c.args.body.now - 2)))
+    ∙ (cuts_closing c.args.body.now c.utf8.body c.requires).before

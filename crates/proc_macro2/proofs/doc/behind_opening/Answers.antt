@@ -12,4 +12,5 @@ pub char_at-second-requires-clause-more : goal.char_at-second-requires-clause-mo
 char_at-second-requires-clause-more c = some c.args.doc.now _ refl c.requires
 
 pub range_from-requires : goal.range_from-requires
-range_from-requires c = λ _. (let p = c.char_at-behind.ensures.behind.place in IsCharBoundary-from_drop _ _ p.within p.cut)
+range_from-requires c = λ _.
+    (let p = c.char_at-behind.ensures.behind.place in IsCharBoundary-from_drop _ _ p.within p.cut)

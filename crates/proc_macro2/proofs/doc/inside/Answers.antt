@@ -13,5 +13,6 @@ push-requires c = ident_stream _ _ c.in_ok-ident.ident.is_printed (ident_charact
 pub push-requires-3 : goal.push-requires-3
 push-requires-3 c =
     literal_stream _ _
-    (subst IsLiteralLeaf (sym (c.set_span.ensures.text_stays ∙ c.in_ok-literal.ensures.text_is)) (string_literal (chars c.args.text.now) (scalars-chars c.args.text.now c.utf8.text)))
+    (subst IsLiteralLeaf (sym (c.set_span.ensures.text_stays ∙ c.in_ok-literal.ensures.text_is))
+    (string_literal (chars c.args.text.now) (scalars-chars c.args.text.now c.utf8.text)))
     (literal_characters c.set_span.new.self)

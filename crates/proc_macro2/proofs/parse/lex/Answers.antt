@@ -5,26 +5,30 @@ use Rattle.std.proofs.lemmas.Str.{IsCharBoundary-from_drop}
 use Rattle.std.proofs.lemmas.List.{append-nil, nil_from_length}
 use Rattle.rust_lex.specs.Piece.{FitsAt}
 use Rattle.rust_lex.specs.Scan.{is_joint}
-use Rattle.rust_lex.specs.Places.{rest_at, between, IsBehind}
+use Rattle.rust_lex.specs.Places.{rest_at, between_places, IsBehind}
 use Rattle.rust_lex.specs.declared.piece.PieceKind.{PieceKind}
 use Rattle.rust_lex.specs.declared.piece.PieceKind.TheVariants.{Mark, White}
 use Rattle.rust_lex.proofs.Joints.{joint_test}
 use Rattle.rust_lex.proofs.Pieces.{between_joined}
 use Rattle.proc_macro2.specs.Built.{IsPut, IsReady}
 use Rattle.proc_macro2.specs.Forest.{IsForest}
-use Rattle.proc_macro2.specs.declared.builder.Builder.{Builder}
+use Rattle.proc_macro2.specs.Stack.{Open}
 use Rattle.proc_macro2.specs.declared.builder.Stretch.{Stretch}
 use Rattle.proc_macro2.proofs.Building.{put_grows, put_refuses}
 use Rattle.proc_macro2.proofs.Puts.{ready_at}
-use Rattle.proc_macro2.proofs.Reading.{ReadTo, read_none, read_white, read_on, read_all, lengths, lengths_on, stray_at, unmatched_at, unclosed_at, last_frame, told}
+use Rattle.proc_macro2.proofs.Reading.{ReadTo, read_none, read_white, read_on, read_all, lengths, lengths_on}
+use Rattle.proc_macro2.proofs.Reading.{stray_at, unmatched_at, unclosed_at, last_frame, told}
 use Rattle.proc_macro2.proofs.parse.lex.Goals as goal
 
 pub loop-at-init : goal.loop-at-init
-loop-at-init c = read_none _ _ _ c.utf8.text c.new-builder.ensures.frames c.new-builder.ensures.stream
+loop-at-init c = read_none _ _ _ c.utf8.text c.new-builder.ensures.groups c.new-builder.ensures.inside
 
 -- a white character that is passed lies within the text
-passed : (base : ℕ) (bytes : List ℕ) (at end n : ℕ) (builder : Builder) → ReadTo base bytes at n builder → FitsAt at White (between bytes at end) (rest_at bytes end) → IsBehind bytes at end → n + 1 ≤ length (chars bytes)
-passed base bytes at end n builder r f b = let l = lengths _ _ _ _ _ (read_white base bytes at end n builder r f b) in omega arith
+passed : (base : ℕ) (bytes : List ℕ) (at end n : ℕ) (builder : Open) → ReadTo base bytes at n builder
+    → FitsAt at White (between_places bytes at end) (rest_at bytes end) → IsBehind bytes at end
+    → n + 1 ≤ length (chars bytes)
+passed base bytes at end n builder r f b = let l =
+    lengths _ _ _ _ _ (read_white base bytes at end n builder r f b) in omega arith
 
 pub overflow_add-count : goal.overflow_add-count
 overflow_add-count c =
@@ -38,81 +42,108 @@ pub fault_behind-requires-clause-there : goal.fault_behind-requires-clause-there
 fault_behind-requires-clause-there c = let l = lengths _ _ _ _ _ c.loop-at.invariant in omega arith
 
 pub returns-in_default-next_piece-clause-fault : goal.returns-in_default-next_piece-clause-fault
-returns-in_default-next_piece-clause-fault c = told c.args.text.now c.args.whole c.loop-at.count _ c.fault_behind.ensures (stray_at _ _ _ _ _ c.loop-at.invariant c.loop-at-test.true c.in_default-next_piece.ensures)
+returns-in_default-next_piece-clause-fault c =
+    told c.args.text.now c.args.whole c.loop-at.count _ c.fault_behind.ensures
+    (stray_at _ _ _ _ _ c.loop-at.invariant c.loop-at-test.true c.in_default-next_piece.ensures)
 
 pub range-piece-requires-clause-start_boundary : goal.range-piece-requires-clause-start_boundary
-range-piece-requires-clause-start_boundary c = λ _. (let p = c.loop-at.invariant.covers.place in IsCharBoundary-from_drop _ _ p.within p.cut)
+range-piece-requires-clause-start_boundary c =
+    λ _. (let p = c.loop-at.invariant.covers.place in IsCharBoundary-from_drop _ _ p.within p.cut)
 
 pub range-piece-requires-clause-end_boundary : goal.range-piece-requires-clause-end_boundary
-range-piece-requires-clause-end_boundary c = (let p = c.in-Some-next_piece.ensures.1.place in IsCharBoundary-from_drop _ _ p.within p.cut)
+range-piece-requires-clause-end_boundary c =
+    (let p = c.in-Some-next_piece.ensures.1.place in IsCharBoundary-from_drop _ _ p.within p.cut)
 
 -- the characters of the piece
-piece_is : (bytes text piece : List ℕ) (at end : ℕ) → piece ≡ take (end - at) (drop at bytes) → chars piece ≡ between bytes at end
+piece_is : (bytes text piece : List ℕ) (at end : ℕ) → piece ≡ take (end - at) (drop at bytes)
+    → chars piece ≡ between_places bytes at end
 piece_is bytes text piece at end e = ap chars e
 
 -- they are within the text
-within : (base : ℕ) (bytes piece : List ℕ) (at end n m : ℕ) (builder : Builder) → ReadTo base bytes at n builder → IsBehind bytes at end → piece ≡ take (end - at) (drop at bytes) → m ≡ length (chars piece) → n + m ≤ length (chars bytes)
+within : (base : ℕ) (bytes piece : List ℕ) (at end n m : ℕ) (builder : Open) → ReadTo base bytes at n builder
+    → IsBehind bytes at end → piece ≡ take (end - at) (drop at bytes) → m ≡ length (chars piece)
+    → n + m ≤ length (chars bytes)
 within base bytes piece at end n m builder r b e l =
     let on = lengths_on base bytes at end n builder r b in
-    let same : length (chars piece) ≡ length (between bytes at end) = ap (λ x. length (chars x)) e in
+    let same : length (chars piece) ≡ length (between_places bytes at end) = ap (λ x. length (chars x)) e in
     omega arith
 
 pub overflow_cast-there : goal.overflow_cast-there
 overflow_cast-there c =
-    let w = within _ _ _ _ _ _ _ _ c.loop-at.invariant c.in-Some-next_piece.ensures.1 c.range-piece.ensures.value c.characters.ensures in
+    let w = within _ _ _ _ _ _ _ _ c.loop-at.invariant c.in-Some-next_piece.ensures.1 c.range-piece.ensures.value
+    c.characters.ensures in
     omega arith
 
 pub overflow_add-there : goal.overflow_add-there
 overflow_add-there c =
-    let w = within _ _ _ _ _ _ _ _ c.loop-at.invariant c.in-Some-next_piece.ensures.1 c.range-piece.ensures.value c.characters.ensures in
+    let w = within _ _ _ _ _ _ _ _ c.loop-at.invariant c.in-Some-next_piece.ensures.1 c.range-piece.ensures.value
+    c.characters.ensures in
     omega arith
 
 pub put-requires-clause-ready : goal.put-requires-clause-ready
-put-requires-clause-ready c = subst (IsReady c.in-Some-next_piece.kind) (sym (ap chars c.range-piece.ensures.value)) (ready_at _ _ _ _ c.in-Some-next_piece.ensures.0)
+put-requires-clause-ready c =
+    subst (IsReady c.in-Some-next_piece.kind) (sym (ap chars c.range-piece.ensures.value))
+    (ready_at _ _ _ _ c.in-Some-next_piece.ensures.0)
 
 pub put-requires-clause-within : goal.put-requires-clause-within
 put-requires-clause-within c =
-    let w = within _ _ _ _ _ _ _ _ c.loop-at.invariant c.in-Some-next_piece.ensures.1 c.range-piece.ensures.value c.characters.ensures in
+    let w = within _ _ _ _ _ _ _ _ c.loop-at.invariant c.in-Some-next_piece.ensures.1 c.range-piece.ensures.value
+    c.characters.ensures in
     omega arith
 
 pub fault_behind-requires-then-not-branch-clause-there : goal.fault_behind-requires-then-not-branch-clause-there
 fault_behind-requires-then-not-branch-clause-there c = let l = lengths _ _ _ _ _ c.loop-at.invariant in omega arith
 
-refused : (k : PieceKind) (ok : Bool) (old new : Builder) (s : Stretch) (cs : List ℕ) (joint : Bool) → ok ≡ false → IsPut k ok old new s cs joint → IsPut k false old new s cs joint
+refused : (k : PieceKind) (ok : Bool) (old new : Open) (s : Stretch) (cs : List ℕ) (joint : Bool) → ok ≡ false
+    → IsPut k ok old new s cs joint → IsPut k false old new s cs joint
 refused k ok old new s cs joint e p = subst (λ b. IsPut k b old new s cs joint) e p
 
 pub returns-then-not-branch-clause-fault : goal.returns-then-not-branch-clause-fault
 returns-then-not-branch-clause-fault c =
     told c.args.text.now c.args.whole c.loop-at.count _ c.fault_behind-then-not-branch.ensures
     (unmatched_at _ _ _ _ _ _ _ c.loop-at.invariant c.in-Some-next_piece.ensures.0 c.in-Some-next_piece.ensures.1
-    (put_refuses c.in-Some-next_piece.kind c.loop-at.builder c.put.new.builder _ _ _ (refused c.in-Some-next_piece.kind _ c.loop-at.builder c.put.new.builder _ _ _ c.if-not-branch.true c.in_ok-put.ensures)))
+    (put_refuses c.in-Some-next_piece.kind c.loop-at.builder c.put.new.builder _ _ _
+    (refused c.in-Some-next_piece.kind _ c.loop-at.builder c.put.new.builder _ _ _ c.if-not-branch.true
+    c.in_ok-put.ensures)))
 
 -- the piece read
-on : (bytes piece : List ℕ) (at end n m : ℕ) (k : PieceKind) (ok joint : Bool) (old new : Builder) (s : Stretch) → ReadTo s.whole.start bytes at s.from old → FitsAt at k (between bytes at end) (rest_at bytes end) → IsBehind bytes at end →
-    piece ≡ take (end - at) (drop at bytes) → s.to ≡ s.from + m → m ≡ length (chars piece) → ok ≡ true → (k ≡ Mark → joint ≡ is_joint (rest_at bytes at)) → IsPut k ok old new s (chars piece) joint → ReadTo s.whole.start bytes end (s.from + m) new
+on : (bytes piece : List ℕ) (at end n m : ℕ) (k : PieceKind) (ok joint : Bool) (old new : Open) (s : Stretch)
+    → ReadTo s.whole.start bytes at s.from old → FitsAt at k (between_places bytes at end) (rest_at bytes end)
+    → IsBehind bytes at end →
+    piece ≡ take (end - at) (drop at bytes) → s.to ≡ s.from + m → m ≡ length (chars piece) → ok ≡ true
+    → (k ≡ Mark → joint ≡ is_joint (rest_at bytes at)) → IsPut k ok old new s (chars piece) joint
+    → ReadTo s.whole.start bytes end (s.from + m) new
 on bytes piece at end n m k ok joint old new s r f b e t l o j p =
-    let same : chars piece ≡ between bytes at end = ap chars e in
-    let put : IsPut k true old new s (between bytes at end) joint = subst (λ x. IsPut k true old new s x joint) same (subst (λ x. IsPut k x old new s (chars piece) joint) o p) in
-    let len : m ≡ length (between bytes at end) = l ∙ ap length same in
-    let grown = put_grows at k old new s (between bytes at end) (rest_at bytes end) joint put f (λ i. j i ∙ ap is_joint (between_joined bytes at end r.covers.place b)) (t ∙ ap (λ x. s.from + x) len) r.frames r.whole in
-    subst (λ x. ReadTo s.whole.start bytes end (s.from + x) new) (sym len) (read_on s.whole.start bytes at end s.from k old new r f b grown)
+    let same : chars piece ≡ between_places bytes at end = ap chars e in
+    let put : IsPut k true old new s (between_places bytes at end) joint =
+    subst (λ x. IsPut k true old new s x joint) same (subst (λ x. IsPut k x old new s (chars piece) joint) o p) in
+    let len : m ≡ length (between_places bytes at end) = l ∙ ap length same in
+    let grown = put_grows at k old new s (between_places bytes at end) (rest_at bytes end) joint put f
+    (λ i. j i ∙ ap is_joint (between_joined bytes at end r.covers.place b)) (t ∙ ap (λ x. s.from + x) len) r.frames
+    r.whole in
+    subst (λ x. ReadTo s.whole.start bytes end (s.from + x) new) (sym len)
+    (read_on s.whole.start bytes at end s.from k old new r f b grown)
 
 pub loop-at-preserved : goal.loop-at-preserved
 loop-at-preserved c =
-    let there : Stretch = record { whole = c.args.whole; from = c.loop-at.count; to = c.loop-at.count + c.characters.result } in
-    on c.args.text.now c.range-piece.result.now c.loop-at.at c.in-Some-next_piece.end c.loop-at.count c.characters.result c.in-Some-next_piece.kind _ c.joint_at-joint.result c.loop-at.builder c.put.new.builder there c.loop-at.invariant
-    c.in-Some-next_piece.ensures.0 c.in-Some-next_piece.ensures.1 c.range-piece.ensures.value refl c.characters.ensures c.if-not-branch.false (λ i. joint_test _ c.joint_at-joint.result (c.joint_at-joint.ensures i)) c.in_ok-put.ensures
+    let there : Stretch = record
+    { whole = c.args.whole; from = c.loop-at.count; to = c.loop-at.count + c.characters.result } in
+    on c.args.text.now c.range-piece.result.now c.loop-at.at c.in-Some-next_piece.end c.loop-at.count
+    c.characters.result c.in-Some-next_piece.kind _ c.joint_at-joint.result c.loop-at.builder c.put.new.builder
+    there c.loop-at.invariant
+    c.in-Some-next_piece.ensures.0 c.in-Some-next_piece.ensures.1 c.range-piece.ensures.value refl c.characters.ensures
+    c.if-not-branch.false (λ i. joint_test _ c.joint_at-joint.result (c.joint_at-joint.ensures i))
+    c.in_ok-put.ensures
 
-pub returns-in-None-clause-parsed : goal.returns-in-None-clause-parsed
-returns-in-None-clause-parsed c =
-    subst (IsForest c.args.whole.start (chars c.args.text.now)) (sym c.shrink.ensures.same)
-    (read_all _ _ _ _ _ c.loop-at.invariant (omega arith)
-    (c.in-None.ensures.items ∙ append-nil _ ∙ nil_from_length _ (let none = c.in-None.ensures.cases.1 in omega arith)))
+pub returns-in-Ok-clause-parsed : goal.returns-in-Ok-clause-parsed
+returns-in-Ok-clause-parsed c =
+    subst (IsForest c.args.whole.start (chars c.args.text.now)) (sym c.in-Ok.ensures.whole.1)
+    (read_all _ _ _ _ _ c.loop-at.invariant (omega arith) c.in-Ok.ensures.whole.0)
 
-pub fault_behind-requires-in-Some-pop-clause-there : goal.fault_behind-requires-in-Some-pop-clause-there
-fault_behind-requires-in-Some-pop-clause-there c = last_frame _ _ _ _ _ _ _ c.loop-at.invariant c.in-Some-pop.ensures.items
+pub fault_behind-requires-in-Err-clause-there : goal.fault_behind-requires-in-Err-clause-there
+fault_behind-requires-in-Err-clause-there c = last_frame _ _ _ _ _ _ c.loop-at.invariant c.in-Err.ensures.unclosed
 
-pub returns-clause-fault : goal.returns-clause-fault
-returns-clause-fault c =
-    told c.args.text.now c.args.whole c.in-Some-pop.frame.count _ c.fault_behind-in-Some-pop.ensures
-    (unclosed_at _ _ _ _ _ _ _ c.loop-at.invariant (omega arith) c.in-Some-pop.ensures.items)
+pub returns-in-Err-clause-fault : goal.returns-in-Err-clause-fault
+returns-in-Err-clause-fault c =
+    told c.args.text.now c.args.whole c.in-Err.frame.count _ c.fault_behind-in-Err.ensures
+    (unclosed_at _ _ _ _ _ _ c.loop-at.invariant (omega arith) c.in-Err.ensures.unclosed)

@@ -5,7 +5,9 @@ use Rattle.proc_macro2.proofs.parse.span_ahead.Goals as goal
 
 -- a text has no more characters than bytes
 few : (bytes : List ℕ) → IsUtf8 bytes → length (chars bytes) ≤ length bytes
-few bytes u = let P : List ℕ → Type 0 = λ bs. length (chars bytes) ≤ length bs in subst P (encodes-chars bytes u) (length-le-encodes (chars bytes))
+few bytes u = let P : List ℕ
+    → Type 0 = λ bs. length (chars bytes) ≤ length bs in subst P (encodes-chars bytes u)
+    (length-le-encodes (chars bytes))
 
 pub returns-in-Ok-clause-full : goal.returns-in-Ok-clause-full
 returns-in-Ok-clause-full c =

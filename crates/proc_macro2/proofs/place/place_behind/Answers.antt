@@ -8,6 +8,10 @@ char_at-c-requires-clause-more c = more_here _ _ _ _ _ c.loop-passed.invariant (
 
 pub loop-passed-preserved : goal.loop-passed-preserved
 loop-passed-preserved c = elim c.if-c-eq10.branch [
-  | then-c-eq10 w ↦ rw (w.line-is, w.column-is) (counts_feed _ _ _ _ _ _ _ c.loop-passed.invariant c.char_at-c.ensures.rest c.char_at-c.ensures.behind w.if-c-eq10.true)
-  | else-c-eq10 w ↦ rw (w.line-is, w.column-is) (counts_other _ _ _ _ _ _ _ c.loop-passed.invariant c.char_at-c.ensures.rest c.char_at-c.ensures.behind w.if-c-eq10.false)
+  | then-c-eq10 w ↦ rw (w.line-is, w.column-is)
+      (counts_feed _ _ _ _ _ _ _ c.loop-passed.invariant c.char_at-c.ensures.rest c.char_at-c.ensures.behind
+      w.if-c-eq10.true)
+  | else-c-eq10 w ↦ rw (w.line-is, w.column-is)
+      (counts_other _ _ _ _ _ _ _ c.loop-passed.invariant c.char_at-c.ensures.rest c.char_at-c.ensures.behind
+      w.if-c-eq10.false)
 ]

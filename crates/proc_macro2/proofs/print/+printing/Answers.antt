@@ -11,13 +11,15 @@ pub write_group-returns : goal.write_group-returns
 write_group-returns g t c =
     let group = c.args.group.now in
     let items = c.stream.inside.trees.items in
-    let some : items ≡ [] → ⊥ = λ e. eqb-false _ 0 (sym c.is_empty.ensures ∙ c.if-is_empty.false) (c.stream.inside.trees.ok.0 ∙ ap length e) in
+    let some : items ≡ [] → ⊥ =
+    λ e. eqb-false _ 0 (sym c.is_empty.ensures ∙ c.if-is_empty.false) (c.stream.inside.trees.ok.0 ∙ ap length e) in
     λ p o.
     let opened = c.in_ok-write_str.ensures.writes p refl in
     let inside = c.in_ok-write_stream.ensures opened.plain refl in
     let closed = c.write_str-3.ensures.writes inside.plain o in
     has_written_of_eq _ _ _ _ _
-    (ap (λ r. r ++ (printed group.stream ++ c.back.result.now)) c.front.ensures ∙ ap (λ r. front group.delimiter ++ (printed group.stream ++ r)) c.back.ensures
+    (ap (λ r. r ++ (printed group.stream ++ c.back.result.now)) c.front.ensures
+    ∙ ap (λ r. front group.delimiter ++ (printed group.stream ++ r)) c.back.ensures
     ∙ printed_group group items c.stream.view_is some)
     (has_written_append _ _ _ _ _ _ opened (has_written_append _ _ _ _ _ _ inside closed))
 
@@ -27,10 +29,12 @@ write_stream-loop-tree-preserved g t c =
     let i = c.loop-tree.tree-index in
     let x = c.tree-item.result in
     let before = c.loop-tree.invariant in
-    let e : take (i + 1) items ≡ take i items ++ x ∷ [] = take_more items i x c.loop-tree-test.true ∙ ap (λ y. take i items ++ y ∷ []) (sym c.tree-item.is) in
+    let e : take (i + 1) items ≡ take i items ++ x ∷ [] = take_more items i x c.loop-tree-test.true
+    ∙ ap (λ y. take i items ++ y ∷ []) (sym c.tree-item.is) in
     rw e (record {
       written = λ p.
           let done = before.written p in
-          has_written_of_eq _ _ _ _ _ (printed_more (take i items) x c.loop-tree.close before.joint) (has_written_append _ _ _ _ _ _ done (c.in_ok-write_next.ensures done.plain refl));
+          has_written_of_eq _ _ _ _ _ (printed_more (take i items) x c.loop-tree.close before.joint)
+          (has_written_append _ _ _ _ _ _ done (c.in_ok-write_next.ensures done.plain refl));
       joint = c.is_joint-close.ensures ∙ sym (joint_more (take i items) x);
     })

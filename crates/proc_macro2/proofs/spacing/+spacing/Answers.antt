@@ -9,30 +9,36 @@ use Rattle.proc_macro2.proofs.spacing.+spacing.Goals as goal
 pub group_stands-returns-then-is_visible : goal.group_stands-returns-then-is_visible
 group_stands-returns-then-is_visible t c =
     let group = c.args.group.now in
-    c.stream_stands.ensures ∙ ap (λ b. b && all_stand (plain group.stream) []) c.if-is_visible.ensures ∙ sym (stand_group group [])
+    c.stream_stands.ensures ∙ ap (λ b. b && all_stand (plain group.stream) []) c.if-is_visible.ensures
+    ∙ sym (stand_group group [])
 
 pub stream_stands-returns-then-not-tree_stands : goal.stream_stands-returns-then-not-tree_stands
 stream_stands-returns-then-not-tree_stands t c =
     let items = c.deref-tree-items.result.now in
     let i = c.loop-tree.tree-index in
-    let from = stand_from items c.deref.result.now i c.loop-tree.behind c.tree-item.result c.get.result c.tree_stands.result (c.deref.ensures.value ∙ sym c.deref-tree-items.ensures.value)
+    let from = stand_from items c.deref.result.now i c.loop-tree.behind c.tree-item.result c.get.result
+    c.tree_stands.result (c.deref.ensures.value ∙ sym c.deref-tree-items.ensures.value)
     c.loop-tree.invariant.behind c.loop-tree-test.true c.tree-item.is c.get.ensures.lookup c.tree_stands.ensures in
     sym
-    (ap (λ ts. all_stand (plain ts) []) (sym c.stream.view_is ∙ ap trees_tokens (sym c.deref-tree-items.ensures.value)) ∙ c.loop-tree.invariant.left ∙ from
+    (ap (λ ts. all_stand (plain ts) []) (sym c.stream.view_is ∙ ap trees_tokens (sym c.deref-tree-items.ensures.value))
+    ∙ c.loop-tree.invariant.left ∙ from
     ∙ ap (λ b. b && all_stand (plain (trees_tokens (drop (i + 1) items))) []) c.if-not-tree_stands.true)
 
 pub stream_stands-loop-tree-preserved : goal.stream_stands-loop-tree-preserved
 stream_stands-loop-tree-preserved t c =
     let items = c.deref-tree-items.result.now in
     let i = c.loop-tree.tree-index in
-    let from = stand_from items c.deref.result.now i c.loop-tree.behind c.tree-item.result c.get.result c.tree_stands.result (c.deref.ensures.value ∙ sym c.deref-tree-items.ensures.value)
+    let from = stand_from items c.deref.result.now i c.loop-tree.behind c.tree-item.result c.get.result
+    c.tree_stands.result (c.deref.ensures.value ∙ sym c.deref-tree-items.ensures.value)
     c.loop-tree.invariant.behind c.loop-tree-test.true c.tree-item.is c.get.ensures.lookup c.tree_stands.ensures in
     record {
       behind = ap (λ k. k + 1) c.loop-tree.invariant.behind;
-      left = c.loop-tree.invariant.left ∙ from ∙ ap (λ b. b && all_stand (plain (trees_tokens (drop (i + 1) items))) []) c.if-not-tree_stands.false;
+      left = c.loop-tree.invariant.left ∙ from
+          ∙ ap (λ b. b && all_stand (plain (trees_tokens (drop (i + 1) items))) []) c.if-not-tree_stands.false;
     }
 
 pub tree_stands-returns-in-Group : goal.tree_stands-returns-in-Group
 tree_stands-returns-in-Group t c =
     let group = c.in-Group.group in
-    rw c.in-Group.is (c.group_stands.ensures ∙ stand_group group [] ∙ sym (stand_group group (tokens_behind c.args.next)))
+    rw c.in-Group.is (c.group_stands.ensures ∙ stand_group group []
+    ∙ sym (stand_group group (tokens_behind c.args.next)))

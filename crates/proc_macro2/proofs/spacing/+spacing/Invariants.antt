@@ -7,5 +7,6 @@ use Rattle.proc_macro2.proofs.spacing.+spacing.Given as goal
 abbrev pub invariant-stream_stands-loop-tree : goal.invariant-stream_stands-loop-tree
 invariant-stream_stands-loop-tree l = record {
   behind : l.behind ≡ l.tree-index;
-  left : all_stand (plain (trees_tokens l.tree-items)) [] ≡ all_stand (plain (trees_tokens (drop l.tree-index l.tree-items))) [];
+  left : all_stand (plain (trees_tokens l.tree-items)) []
+      ≡ all_stand (plain (trees_tokens (drop l.tree-index l.tree-items))) [];
 }

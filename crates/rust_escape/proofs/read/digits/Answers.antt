@@ -19,10 +19,13 @@ pub loop-at-preserved : goal.loop-at-preserved
 loop-at-preserved c =
     let is = c.in-Some.ensures.digit in
     record {
-      same = sym (rw c.char_at-c.ensures.rest (digits_more c.args.mode c.loop-at.count c.loop-at.number c.char_at-c.result.0 c.in-Some.digit _ c.if-c-eq125.false c.if-c-eq95.false is.0 is.1 c.if-count-ge6.false)) ∙ c.loop-at.invariant.same;
+      same = sym (rw c.char_at-c.ensures.rest
+          (digits_more c.args.mode c.loop-at.count c.loop-at.number c.char_at-c.result.0 c.in-Some.digit _
+          c.if-c-eq125.false c.if-c-eq95.false is.0 is.1 c.if-count-ge6.false)) ∙ c.loop-at.invariant.same;
       place = c.char_at-c.ensures.behind.place;
       on = omega (arith, c.char_at-c.ensures.behind.on);
       few = omega arith;
       small = digit_fits _ _ _ c.loop-at.invariant.small c.in-Some.ensures.small;
-      over = sym (ap (past is_hex_part) c.char_at-c.ensures.rest ∙ over_digit c.char_at-c.result.0 (rest_at c.args.text.now c.char_at-c.result.1) is.0) ∙ c.loop-at.invariant.over;
+      over = sym (ap (past is_hex_part) c.char_at-c.ensures.rest ∙ over_digit c.char_at-c.result.0
+          (rest_at c.args.text.now c.char_at-c.result.1) is.0) ∙ c.loop-at.invariant.over;
     }

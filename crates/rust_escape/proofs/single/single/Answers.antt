@@ -11,16 +11,22 @@ pub returns-then-is_empty-clause-more : goal.returns-then-is_empty-clause-more
 returns-then-is_empty-clause-more c = (empty_single c.args.mode c.args.src.now ZeroChars (search rules)).more
 
 pub unreachable-requires : goal.unreachable-requires
-unreachable-requires c = skips_quoted c.args.mode c.args.src.now c.scanned_unit-reading.result c.scanned_unit-reading.ensures.scanned (search rules) c.requires
+unreachable-requires c = skips_quoted c.args.mode c.args.src.now c.scanned_unit-reading.result
+    c.scanned_unit-reading.ensures.scanned (search rules) c.requires
 
 pub returns-in-Err-clause-malformed : goal.returns-in-Err-clause-malformed
-returns-in-Err-clause-malformed c = (refused_single c.args.mode c.args.src.now c.scanned_unit-reading.result c.in-Err.error c.scanned_unit-reading.ensures.scanned c.in-Err.is).malformed
+returns-in-Err-clause-malformed c =
+    (refused_single c.args.mode c.args.src.now c.scanned_unit-reading.result c.in-Err.error
+    c.scanned_unit-reading.ensures.scanned c.in-Err.is).malformed
 
 pub returns-in-Err-clause-more : goal.returns-in-Err-clause-more
-returns-in-Err-clause-more c = (refused_single c.args.mode c.args.src.now c.scanned_unit-reading.result c.in-Err.error c.scanned_unit-reading.ensures.scanned c.in-Err.is).more
+returns-in-Err-clause-more c =
+    (refused_single c.args.mode c.args.src.now c.scanned_unit-reading.result c.in-Err.error
+    c.scanned_unit-reading.ensures.scanned c.in-Err.is).more
 
 whole : (c : goal.After-only) → IsSingle c.args.mode (chars c.args.src.now) c.only.result.value
-whole c = found_single c.args.mode c.args.src.now c.scanned_unit-reading.result c.in-Ok-Some.value c.only.result.value c.scanned_unit-reading.ensures.scanned (search rules) c.only.ensures.whole c.only.ensures.more
+whole c = found_single c.args.mode c.args.src.now c.scanned_unit-reading.result c.in-Ok-Some.value c.only.result.value
+    c.scanned_unit-reading.ensures.scanned (search rules) c.only.ensures.whole c.only.ensures.more
 
 pub returns-in-Ok-Some-clause-value : goal.returns-in-Ok-Some-clause-value
 returns-in-Ok-Some-clause-value c = (whole c).value

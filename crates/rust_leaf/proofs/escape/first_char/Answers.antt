@@ -14,7 +14,8 @@ loop-len-preserved c =
     one_more (λ k. IsUtf8 (take k c.args.bytes.now)) c.loop-len.len c.loop-len.invariant
     (elim c.match-from_utf8.branch [
       | in-Ok+in_default-next w ↦ λ _. front_filled c.args.bytes.now _ c.loop-len.len c.min-most.result
-          (w.chars-chars.ensures.rest ∙ w.in-Ok.ensures.cases.0) w.in_default-next.ensures.steps.0.0 (omega arith) c.loop-len-test.true c.min-most.ensures
+          (w.chars-chars.ensures.rest ∙ w.in-Ok.ensures.cases.0) w.in_default-next.ensures.steps.0.0 (omega arith)
+          c.loop-len-test.true c.min-most.ensures
       | in_default w ↦ w.in_default.ensures.cases.0
     ])
 

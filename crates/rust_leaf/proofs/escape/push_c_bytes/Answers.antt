@@ -8,7 +8,8 @@ loop-byte-smaller-in-Some-first_char c = shorter _ _ _ c.in-Some-first_char.ensu
 
 pub loop-byte-preserved-in-Some-first_char : goal.loop-byte-preserved-in-Some-first_char
 loop-byte-preserved-in-Some-first_char c =
-    written_character _ _ _ _ _ _ _ c.loop-byte.invariant c.in-Some-first_char.ensures.scalar c.in-Some-first_char.ensures.value
+    written_character _ _ _ _ _ _ _ c.loop-byte.invariant c.in-Some-first_char.ensures.scalar
+    c.in-Some-first_char.ensures.value
     (rw chars-nil at c.in_ok-push_char-in-Some-first_char.ensures)
 
 pub loop-byte-preserved : goal.loop-byte-preserved

@@ -11,6 +11,14 @@ use Rattle.rust_leaf.proofs.integer.signed.Goals as goal
 pub of-requires : goal.of-requires
 of-requires c =
     subst IsLiteralText
-    (sym (number_literal c.new-out.result c.push_signed.new.out c.push_word.new.out _ _ c.new-out.ensures.bytes c.in_ok-push_signed.ensures c.in_ok-push_word.ensures
+    (sym (number_literal c.new-out.result c.push_signed.new.out c.push_word.new.out _ _ c.new-out.ensures.bytes
+    c.in_ok-push_signed.ensures c.in_ok-push_word.ensures
     ∙ ap (λ (z : ℤ). signed_decimal z ++ chars c.args.suffix.now) (to_z-of_z w128 c.args.n c.ranges.n)))
     (signed_literal c.args.n (chars c.args.suffix.now) c.requires)
+
+pub returns-clause-text_is : goal.returns-clause-text_is
+returns-clause-text_is c =
+    c.of.ensures.text_is
+    ∙ number_literal c.new-out.result c.push_signed.new.out c.push_word.new.out _ _ c.new-out.ensures.bytes
+    c.in_ok-push_signed.ensures c.in_ok-push_word.ensures
+    ∙ ap (λ (z : ℤ). signed_decimal z ++ chars c.args.suffix.now) (to_z-of_z w128 c.args.n c.ranges.n)

@@ -8,5 +8,6 @@ use Rattle.rust_leaf.proofs.integer.unsigned.Goals as goal
 pub of-requires : goal.of-requires
 of-requires c =
     subst IsLiteralText
-    (sym (number_literal c.new-out.result c.push_decimal.new.out c.push_word.new.out _ _ c.new-out.ensures.bytes c.in_ok-push_decimal.ensures c.in_ok-push_word.ensures))
+    (sym (number_literal c.new-out.result c.push_decimal.new.out c.push_word.new.out _ _ c.new-out.ensures.bytes
+    c.in_ok-push_decimal.ensures c.in_ok-push_word.ensures))
     (inl (integer_literal c.args.n (chars c.args.suffix.now) c.requires))

@@ -1,4 +1,5 @@
-use Rattle.rust_leaf.proofs.WrittenLiterals.{byte_literal, byte_string_literal, c_string_literal, character_literal, string_literal}
+use Rattle.rust_leaf.proofs.WrittenLiterals.{byte_literal, byte_string_literal, c_string_literal, character_literal}
+use Rattle.rust_leaf.proofs.WrittenLiterals.{string_literal}
 use Rattle.rust_leaf.proofs.laws.written_in_quotes.Goals as goal
 
 pub returns-clause-string : goal.returns-clause-string

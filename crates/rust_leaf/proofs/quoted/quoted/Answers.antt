@@ -10,9 +10,11 @@ pub returns-in_ok-unfenced-in-Some : goal.returns-in_ok-unfenced-in-Some
 returns-in_ok-unfenced-in-Some c =
     let (n, e) = c.in_ok-unfenced-in-Some.ensures in
     rw c.raw.ensures
-    (raw_quoted c.args.content (chars c.args.text.now) (chars c.in_ok-rest.rest.now) (chars c.in-Some.rest.now) (chars c.in_ok-unfenced-in-Some.field-0.now) n c.in_ok-rest.ensures c.in-Some.ensures e)
+    (raw_quoted c.args.content (chars c.args.text.now) (chars c.in_ok-rest.rest.now) (chars c.in-Some.rest.now)
+    (chars c.in_ok-unfenced-in-Some.field-0.now) n c.in_ok-rest.ensures c.in-Some.ensures e)
 
 pub returns-in_ok-unquoted-in-None : goal.returns-in_ok-unquoted-in-None
 returns-in_ok-unquoted-in-None c =
     rw c.cooked.ensures
-    (plain_quoted c.args.content (chars c.args.text.now) (chars c.in_ok-rest.rest.now) (chars c.in_ok-unquoted-in-None.field-0.now) c.in_ok-rest.ensures c.in_ok-unquoted-in-None.ensures)
+    (plain_quoted c.args.content (chars c.args.text.now) (chars c.in_ok-rest.rest.now)
+    (chars c.in_ok-unquoted-in-None.field-0.now) c.in_ok-rest.ensures c.in_ok-unquoted-in-None.ensures)

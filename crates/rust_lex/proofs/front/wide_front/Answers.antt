@@ -6,7 +6,9 @@ pub returns-then-is_xid_start : goal.returns-then-is_xid_start
 returns-then-is_xid_start c = rw (wide_is c.args.c c.requires, ← c.if-is_xid_start.ensures.value) refl
 
 pub returns-then-is_wide_white : goal.returns-then-is_wide_white
-returns-then-is_wide_white c = rw (wide_is c.args.c c.requires, ← c.if-is_xid_start.ensures.value, ← c.if-is_wide_white.ensures) refl
+returns-then-is_wide_white c =
+    rw (wide_is c.args.c c.requires, ← c.if-is_xid_start.ensures.value, ← c.if-is_wide_white.ensures) refl
 
 pub returns-else-is_wide_white : goal.returns-else-is_wide_white
-returns-else-is_wide_white c = rw (wide_is c.args.c c.requires, ← c.if-is_xid_start.ensures.value, ← c.if-is_wide_white.ensures) refl
+returns-else-is_wide_white c =
+    rw (wide_is c.args.c c.requires, ← c.if-is_xid_start.ensures.value, ← c.if-is_wide_white.ensures) refl

@@ -1,8 +1,6 @@
-use Rattle.std.proofs.Common.{ℕ, List, ◌≡◌, ◌+◌, ◌∙◌, ◌∷◌, [], ◌++◌, arith, sym, ap, append-nil, append_assoc}
+use Rattle.std.proofs.Common.{ℕ, List, ◌≡◌, ◌+◌, ◌∙◌, ◌∷◌, ◌++◌, arith, sym, ap, append-nil, append_assoc}
 use Rattle.std.specs.Prelude.{false}
 use Rattle.std.specs.List.{list_any}
-use Rattle.std.proofs.lemmas.Bool.{eqb-true}
-use Rattle.std.proofs.lemmas.List.{nil_from_length}
 use Rattle.rust_map.specs.Bytes.{begun}
 use Rattle.rust_map.specs.Places.{is_line_feed}
 use Rattle.rust_map.specs.Tables.{starts_by}
@@ -10,12 +8,15 @@ use Rattle.rust_map.proofs.ByteCounts.{begun_append, begun_chars, starts_append,
 use Rattle.rust_map.proofs.tables.count_lines.Goals as goal
 
 -- one chunk on
-counted_on : (n m all : ℕ) (rest front back : List ℕ) → rest ≡ front ++ back → n + begun rest ≡ all → m ≡ n + begun front → m + begun back ≡ all
+counted_on : (n m all : ℕ) (rest front back : List ℕ) → rest ≡ front ++ back → n + begun rest ≡ all → m
+    ≡ n + begun front → m + begun back ≡ all
 counted_on n m all rest front back e h k = let parts = ap begun e ∙ begun_append front back in omega arith
 
-starts_on : (n m : ℕ) (done next all rest front back : List ℕ) → rest ≡ front ++ back → done ++ starts_by n rest ≡ all → m ≡ n + begun front → next ≡ done ++ starts_by n front → next ++ starts_by m back ≡ all
+starts_on : (n m : ℕ) (done next all rest front back : List ℕ) → rest ≡ front ++ back → done ++ starts_by n rest ≡ all
+    → m ≡ n + begun front → next ≡ done ++ starts_by n front → next ++ starts_by m back ≡ all
 starts_on n m done next all rest front back e h k l =
-    rw (l, k) (append_assoc done (starts_by n front) (starts_by (n + begun front) back) ∙ (ap (λ x. done ++ x) (sym (ap (starts_by n) e ∙ starts_append n front back)) ∙ h))
+    rw (l, k) (append_assoc done (starts_by n front) (starts_by (n + begun front) back) ∙
+    (ap (λ x. done ++ x) (sym (ap (starts_by n) e ∙ starts_append n front back)) ∙ h))
 
 -- a chunk without a line feed adds nothing
 same_starts : (n : ℕ) (done front : List ℕ) → list_any is_line_feed front ≡ false → done ≡ done ++ starts_by n front
@@ -35,28 +36,34 @@ overflow_add-characters c =
 
 pub loop-rest-preserved-in_ok-characters : goal.loop-rest-preserved-in_ok-characters
 loop-rest-preserved-in_ok-characters c = record {
-  counted = counted_on _ _ _ _ c.split_at.result.0.now c.split_at.result.1.now c.split_at.ensures.by_index.0 c.loop-rest.invariant.counted c.in_ok-characters.ensures.count;
-  whole = starts_on _ _ _ _ _ _ c.split_at.result.0.now c.split_at.result.1.now c.split_at.ensures.by_index.0 c.loop-rest.invariant.whole c.in_ok-characters.ensures.count c.in_ok-characters.ensures.starts;
+  counted = counted_on _ _ _ _ c.split_at.result.0.now c.split_at.result.1.now c.split_at.ensures.by_index.0
+      c.loop-rest.invariant.counted c.in_ok-characters.ensures.count;
+  whole = starts_on _ _ _ _ _ _ c.split_at.result.0.now c.split_at.result.1.now c.split_at.ensures.by_index.0
+      c.loop-rest.invariant.whole c.in_ok-characters.ensures.count c.in_ok-characters.ensures.starts;
 }
 
 pub loop-rest-preserved : goal.loop-rest-preserved
 loop-rest-preserved c =
-    let count = ap (λ m. c.loop-rest.characters + m) c.begun.ensures in
+    let count = ap (λ m. c.loop-rest.characters + m) c.begun_in_few.ensures in
     record {
-      counted = counted_on _ _ _ _ c.split_at.result.0.now c.split_at.result.1.now c.split_at.ensures.by_index.0 c.loop-rest.invariant.counted count;
-      whole = starts_on _ _ _ _ _ _ c.split_at.result.0.now c.split_at.result.1.now c.split_at.ensures.by_index.0 c.loop-rest.invariant.whole count
-          (same_starts c.loop-rest.characters c.loop-rest.starts.items c.split_at.result.0.now (sym c.has_line_feed.ensures ∙ c.if-has_line_feed.false));
+      counted = counted_on _ _ _ _ c.split_at.result.0.now c.split_at.result.1.now c.split_at.ensures.by_index.0
+          c.loop-rest.invariant.counted count;
+      whole = starts_on _ _ _ _ _ _ c.split_at.result.0.now c.split_at.result.1.now c.split_at.ensures.by_index.0
+          c.loop-rest.invariant.whole count
+          (same_starts c.loop-rest.characters c.loop-rest.starts.items c.split_at.result.0.now
+          (sym c.has_line_feed.ensures ∙ c.if-has_line_feed.false));
     }
+
+pub push_starts-requires-2 : goal.push_starts-requires-2
+push_starts-requires-2 c = let all =
+    begun_chars c.args.text.now c.utf8.text in omega (arith, c.loop-rest.invariant.counted)
 
 pub returns-clause-count : goal.returns-clause-count
 returns-clause-count c =
-    let none : c.loop-rest.rest.now ≡ [] = nil_from_length _ (eqb-true _ _ (sym c.is_empty.ensures ∙ c.loop-rest-test.false)) in
-    let zero = ap begun none in
     let all = begun_chars c.args.text.now c.utf8.text in
-    omega arith
+    omega (arith, c.in_ok-characters-2.ensures.count, c.loop-rest.invariant.counted)
 
 pub returns-clause-starts : goal.returns-clause-starts
 returns-clause-starts c =
-    let none : c.loop-rest.rest.now ≡ [] = nil_from_length _ (eqb-true _ _ (sym c.is_empty.ensures ∙ c.loop-rest-test.false)) in
-    sym (append-nil _) ∙ (ap (λ t. c.loop-rest.starts.items ++ starts_by c.loop-rest.characters t) (sym none) ∙ c.loop-rest.invariant.whole)
+    c.in_ok-characters-2.ensures.starts ∙ c.loop-rest.invariant.whole
     ∙ ap (λ t. 0 ∷ t) (starts_chars 0 c.args.text.now c.utf8.text)

@@ -7,5 +7,8 @@ use Rattle.rust_map.proofs.tables.lines_begun.Goals as goal
 pub returns-clause-split : goal.returns-clause-split
 returns-clause-split c =
     let parted = IsPartitionedBy-leb (λ s. s) c.args.starts.now c.args.count c.requires in
-    let point : IsPartitionPoint (λ s. leb s c.args.count ≡ true) (λ s. leb s c.args.count ≡ false) c.args.starts.now c.partition_point.result = IsPartitionPoint-from_clause (λ s. leb s c.args.count) _ _ c.partition_point.ensures.partitioned parted (λ a r q k. search rules) in
+    let point : IsPartitionPoint (λ s. leb s c.args.count ≡ true) (λ s. leb s c.args.count ≡ false) c.args.starts.now
+    c.partition_point.result =
+    IsPartitionPoint-from_clause (λ s. leb s c.args.count) _ _ c.partition_point.ensures.partitioned parted
+    (λ a r q k. search rules) in
     (λ k d h l. leb-true _ _ (point.0 k d h l), λ k d h l. leb-false _ _ (point.1 k d h l))

@@ -1,5 +1,5 @@
 use Rattle.std.proofs.Common.{arith, ◌-◌, ◌≡◌, ◌+◌}
-use Rattle.rust_map.proofs.CharSteps.{rest_end}
+use Rattle.text_chars.proofs.Steps.{rest_end}
 use Rattle.rust_map.proofs.ByteLemmas.{byte_behind_step, there_step}
 use Rattle.rust_map.proofs.walk.byte_behind.Goals as goal
 
@@ -11,7 +11,11 @@ loop-passed-preserved c =
     let e = c.char_at-next.ensures in
     let k : c.args.count - (c.loop-passed.passed + 1) ≡ (c.args.count - c.loop-passed.passed) - 1 = omega arith in
     record {
-      place = e.place;
+      place = e.behind.place;
       there = rw k (there_step _ _ _ (c.args.count - c.loop-passed.passed) e.rest c.loop-passed.invariant.there);
-      same = rw (k, byte_behind_step _ _ c.loop-passed.at _ _ (c.args.count - c.loop-passed.passed) e.rest e.next (omega arith)) c.loop-passed.invariant.same;
+      same = rw (
+        k,
+        byte_behind_step _ _ c.loop-passed.at _ _ (c.args.count - c.loop-passed.passed) e.rest e.next
+            (omega arith),
+      ) c.loop-passed.invariant.same;
     }

@@ -6,5 +6,6 @@ abbrev pub invariant-loop-passed : goal.invariant-loop-passed
 invariant-loop-passed l = record {
   place : IsPlace l.text l.at;
   there : l.count - l.passed ≤ length (rest_at l.text l.at);
-  same : l.at + byte_length (take (l.count - l.passed) (rest_at l.text l.at)) ≡ l.from + byte_length (take l.count (rest_at l.text l.from));
+  same : l.at + byte_length (take (l.count - l.passed) (rest_at l.text l.at))
+      ≡ l.from + byte_length (take l.count (rest_at l.text l.from));
 }

@@ -8,7 +8,8 @@ returns-in-len1-clause-last c =
     let at : 0 ≡ length trees - 1 = omega (arith, c.in-len1.len_at_least, c.in-len1.len_below) in
     let below : 0 < length trees = omega (arith, c.in-len1.len_at_least) in
     c.span-in-len1.ensures.span
-    ∙ last_tree trees c.one-item.result _ c.trees.ensures.trees below (c.one-item.is ∙ ap (λ n. get_or trees n c.one-item.result) at)
+    ∙ last_tree trees c.one-item.result _ c.trees.ensures.trees below
+    (c.one-item.is ∙ ap (λ n. get_or trees n c.one-item.result) at)
 
 pub returns-in-len2-up-clause-last : goal.returns-in-len2-up-clause-last
 returns-in-len2-up-clause-last c =

@@ -15,4 +15,5 @@ loop-kind-preserved c =
     (word_tested _ _ _ _ c.loop-kind.kind c.word.ensures c.is_word.ensures c.if-is_word.false) c.loop-kind.invariant
 
 pub returns : goal.returns
-returns c = none_left (λ w. same_text w (ident_text c.args.ident.now)) c.loop-kind.kind _ (omega arith) c.loop-kind.invariant
+returns c = none_left (λ w. same_text w (ident_text c.args.ident.now)) c.loop-kind.kind _ (omega arith)
+    c.loop-kind.invariant

@@ -6,4 +6,7 @@ pub range-requires-clause-start_boundary : goal.range-requires-clause-start_boun
 range-requires-clause-start_boundary c =
     let row = c.word_row-row.result.now in
     let first : get_or row 0 0 ≡ 96 = ap (λ bs. get_or bs 0 0) c.word_row-row.ensures in
-    λ p. (omega (arith, ap length c.word_row-row.ensures), λ below high. lead_after_ascii row 0 c.word_row-row.utf8 (omega arith) below high)
+    λ p. (
+      omega (arith, ap length c.word_row-row.ensures),
+      λ below high. lead_after_ascii row 0 c.word_row-row.utf8 (omega arith) below high,
+    )

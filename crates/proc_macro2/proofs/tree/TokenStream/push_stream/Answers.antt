@@ -7,5 +7,6 @@ use Rattle.proc_macro2.proofs.tree.TokenStream.push_stream.Goals as goal
 
 pub invariant_of-self-2 : goal.invariant_of-self-2
 invariant_of-self-2 c =
-    subst IsStream (sym (ap trees_tokens c.in_ok-append.ensures.items ∙ flat_map-append tree_tokens c.self.inside.trees.items c.other.inside.trees.items))
+    subst IsStream (sym (ap trees_tokens c.in_ok-append.ensures.items
+    ∙ flat_map-append tree_tokens c.self.inside.trees.items c.other.inside.trees.items))
     (joined_stream _ _ c.self.invariant c.other.invariant)

@@ -4,4 +4,5 @@ use Rattle.proc_macro2.proofs.StreamLemmas.{joined_stream}
 use Rattle.proc_macro2.proofs.tree.TokenStream.push_tree.Goals as goal
 
 pub invariant_of-self-2 : goal.invariant_of-self-2
-invariant_of-self-2 c = subst IsStream (sym c.in_ok-enter.ensures.added) (joined_stream _ _ c.self.invariant c.in_ok-enter.ensures.known)
+invariant_of-self-2 c = subst IsStream (sym c.in_ok-enter.ensures.added)
+    (joined_stream _ _ c.self.invariant c.in_ok-enter.ensures.known)

@@ -7,4 +7,7 @@ pub returns-in_ok-push_str-in-None-2-clause-text_is :
 returns-in_ok-push_str-in-None-2-clause-text_is c = search (rules, raw_text)
 
 pub invariant_of-result : goal.invariant_of-result
-invariant_of-result c = record { is_printed = raw_printed c.args.text.now c.in_ok-printed-in-None-2.printed.bytes.items _ (search rules) (search rules) (search rules) (search rules) }
+invariant_of-result c = record {
+  is_printed = raw_printed c.args.text.now c.in_ok-printed-in-None-2.printed.bytes.items _ (search rules)
+      (search rules) (search rules) (search rules);
+}

@@ -1,10 +1,6 @@
-use Rattle.std.proofs.Common.{◌≡◌, rules, subst}
-use Rattle.std.specs.Prelude.{Err}
+use Rattle.std.proofs.Common.{subst}
 use Rattle.rust_leaf.specs.Value.{IsMalformedCStr}
-use Rattle.rust_leaf.specs.declared.value.ConversionErrorKind.TheVariants.{FailedToUnescape}
 use Rattle.rust_leaf.proofs.literal.Literal.cstr_value.Goals as goal
 
-pub returns-in_err-bytes-clause-malformed : goal.returns-in_err-bytes-clause-malformed
-returns-in_err-bytes-clause-malformed c = λ error e.
-    let same : c.value_of.result ≡ Err (FailedToUnescape error) = search rules in
-    subst IsMalformedCStr c.as_str.ensures (c.value_of.ensures.malformed error same)
+pub returns-clause-malformed : goal.returns-clause-malformed
+returns-clause-malformed c = λ error e. subst IsMalformedCStr c.as_str.ensures (c.cstr_value.ensures.malformed error e)

@@ -5,4 +5,5 @@ use Rattle.rust_leaf.specs.Parse.{IsLiteralText}
 use Rattle.rust_leaf.proofs.literal.Literal.from_text.Goals as goal
 
 pub invariant_of-result : goal.invariant_of-result
-invariant_of-result c = record { is_literal = merely (subst (λ bytes. IsLiteralText (chars bytes)) (sym c.in_ok-new.ensures) c.requires) }
+invariant_of-result c = record
+    { is_literal = merely (subst (λ bytes. IsLiteralText (chars bytes)) (sym c.in_ok-new.ensures) c.requires) }

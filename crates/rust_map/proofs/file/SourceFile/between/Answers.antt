@@ -7,7 +7,8 @@ use Rattle.rust_map.proofs.file.SourceFile.between.Goals as goal
 
 pub range-requires-clause-start_le_end : goal.range-requires-clause-start_le_end
 range-requires-clause-start_le_end c =
-    let more = byte_count_more (text_of c.args.self.now) c.args.from (c.args.to - c.args.from) c.args.to (omega arith) in
+    let more = byte_count_more (text_of c.args.self.now) c.args.from (c.args.to - c.args.from) c.args.to (omega arith)
+    in
     omega arith
 
 pub range-requires-clause-start_boundary : goal.range-requires-clause-start_boundary
@@ -22,5 +23,9 @@ range-requires-clause-end_boundary c =
 
 pub returns : goal.returns
 returns c =
-    let e : c.range.result.now ≡ take (c.byte-end.result - c.byte-start.result) (drop c.byte-start.result (string_bytes c.args.self.now.text)) = c.range.ensures.value ∙ ap (λ b. take (c.byte-end.result - c.byte-start.result) (drop c.byte-start.result b)) c.as_str.ensures.value in
-    rw e (between_bytes _ _ _ _ _ (IsUtf8-string_bytes c.args.self.now.text) c.requires.ordered c.byte-start.ensures c.byte-end.ensures)
+    let e : c.range.result.now
+    ≡ take (c.byte-end.result - c.byte-start.result) (drop c.byte-start.result (string_bytes c.args.self.now.text))
+    = c.range.ensures.value ∙ ap (λ b. take (c.byte-end.result - c.byte-start.result) (drop c.byte-start.result b))
+    c.as_str.ensures.value in
+    rw e (between_bytes _ _ _ _ _ (IsUtf8-string_bytes c.args.self.now.text) c.requires.ordered c.byte-start.ensures
+    c.byte-end.ensures)

@@ -22,7 +22,8 @@ loop-index-preserved g c =
     record {
       kept = keeps_both _ _ _ c.loop-index.invariant.kept c.put_mark.ensures.keeps;
       left =
-          one_more cs c.args.self.now.spans c.loop-index.index c.mark.result _ _ c.if-index.spacing c.loop-index.tokens c.put_mark.new.tokens _
+          one_more cs c.args.self.now.spans c.loop-index.index c.mark.result _ _ c.if-index.spacing c.loop-index.tokens
+          c.put_mark.new.tokens _
           below spans_below is_mark refl spacing c.in_ok-put_mark.ensures.put c.loop-index.invariant.left;
     }
 

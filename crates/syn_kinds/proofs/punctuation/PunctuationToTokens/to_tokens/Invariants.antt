@@ -8,5 +8,6 @@ abbrev pub invariant-loop-index : goal.invariant-loop-index
 invariant-loop-index g l = record {
   kept : Keeps l.initial.tokens l.tokens;
   left : (let cs = marks g.row.K g.row.N in
-      l.tokens ++ marks_tokens (drop l.index cs) (drop l.index l.self.spans) ≡ l.initial.tokens ++ marks_tokens cs l.self.spans);
+      l.tokens ++ marks_tokens (drop l.index cs) (drop l.index l.self.spans)
+      ≡ l.initial.tokens ++ marks_tokens cs l.self.spans);
 }

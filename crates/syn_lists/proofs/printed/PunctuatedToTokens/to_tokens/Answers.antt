@@ -13,13 +13,16 @@ loop-index-preserved g c =
     let reached = c.loop-index.invariant.reached in
     let within : index < length ps = omega arith in
     let is_value : c.index.result.now ≡ get_or vs index c.index.result.now = search rules in
-    let is_separator : c.index-in-loop-index.result.now ≡ get_or ps index c.index-in-loop-index.result.now = search rules in
+    let is_separator : c.index-in-loop-index.result.now ≡ get_or ps index c.index-in-loop-index.result.now =
+    search rules in
     record {
-      kept = keeps_both _ _ _ (keeps_both _ _ _ c.loop-index.invariant.kept c.to_tokens.ensures.keeps) c.to_tokens-in-loop-index.ensures.keeps;
+      kept = keeps_both _ _ _ (keeps_both _ _ _ c.loop-index.invariant.kept c.to_tokens.ensures.keeps)
+          c.to_tokens-in-loop-index.ensures.keeps;
       reached = omega arith;
       left =
           put_both g.T.ToTokens.put g.P.ToTokens.put vs ps index c.index.result.now c.index-in-loop-index.result.now
           c.loop-index.tokens c.to_tokens-in-loop-index.new.tokens _ below within is_value is_separator
-          (c.in_ok-to_tokens-2.ensures.put ∙ ap (λ ts. g.P.ToTokens.put c.index-in-loop-index.result.now ts) c.in_ok-to_tokens.ensures.put)
+          (c.in_ok-to_tokens-2.ensures.put ∙ ap (λ ts. g.P.ToTokens.put c.index-in-loop-index.result.now ts)
+          c.in_ok-to_tokens.ensures.put)
           c.loop-index.invariant.left;
     }

@@ -9,5 +9,6 @@ invariant-loop-index g l = record {
   kept : Keeps l.initial.tokens l.tokens;
   reached : l.index ≤ length (separators l.self);
   left : (let put = put_list g.T.ToTokens.put g.P.ToTokens.put in
-      put (drop l.index (values l.self)) (drop l.index (separators l.self)) l.tokens ≡ put (values l.self) (separators l.self) l.initial.tokens);
+      put (drop l.index (values l.self)) (drop l.index (separators l.self)) l.tokens
+      ≡ put (values l.self) (separators l.self) l.initial.tokens);
 }

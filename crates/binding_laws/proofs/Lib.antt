@@ -1,0 +1,13 @@
+pub mod Leads
+pub mod Begun
+pub mod Turns
+pub mod Sights
+pub mod Shells
+pub mod Same
+pub mod Casts
+pub mod Ended
+pub mod Stays
+pub mod Gains
+pub mod OnePass
+pub mod Levels
+pub mod Parted

@@ -1,0 +1,4 @@
+pub mod Bare
+pub mod Written
+pub mod Meets
+pub mod Spelled

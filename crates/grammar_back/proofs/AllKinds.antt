@@ -1,0 +1,308 @@
+-- The steps of all covered kinds, and what is known of each. Written by tools/steps.py.
+use Rattle.std.proofs.Common.{◌≡◌, refl}
+use Rattle.std.specs.Prelude.{true, false}
+use Rattle.syn_grammar.specs.Kind.{Kind, AConst, AFunction, AMacro, AStatic, AStruct, AType, ATypeAlias, AUnion}
+use Rattle.syn_grammar.specs.Kind.{AUse, Abi, AnArgument, AnEnum, AnExternCrate, AnyPath, Arguments, AtType}
+use Rattle.syn_grammar.specs.Kind.{Bound, BoundLifetimes, Bounds, BoundsColon, BracketType, Delimited, DynType}
+use Rattle.syn_grammar.specs.Kind.{FnPtrArg, FnPtrType, GenericParams, Generics, IdentPattern, ImplType}
+use Rattle.syn_grammar.specs.Kind.{InExpression, InFile, InForeign, InImpl, InModule, InTrait, InType, Index}
+use Rattle.syn_grammar.specs.Kind.{InferType, InnerAttribute, InnerAttributes, ItemMacro, Label, LifetimeColon}
+use Rattle.syn_grammar.specs.Kind.{LifetimeParam, Lifetimes, LiteralPattern, Member, Meta, NamedField}
+use Rattle.syn_grammar.specs.Kind.{NamedFields, NeverType, OuterAttribute, OuterAttributes}
+use Rattle.syn_grammar.specs.Kind.{ParenthesizedArguments, Path, PathPattern, Pattern, PointerType, QualifiedPath}
+use Rattle.syn_grammar.specs.Kind.{RangeBound, RangeEnd, RangeToPattern, Receiver, ReferenceType, RestPattern}
+use Rattle.syn_grammar.specs.Kind.{ReturnType, Segments, SeveralPatterns, Signature, SlicePattern, SomeBounds}
+use Rattle.syn_grammar.specs.Kind.{TraitPath, TuplePattern, TupleType, TypeParam, UnnamedFields, UseBranch}
+use Rattle.syn_grammar.specs.Kind.{UseRooted, UseTop, UseTree, Variant, Visibility, Where, WhereClause}
+use Rattle.syn_grammar.specs.Kind.{WildPattern, WithPlus, WithoutPlus}
+use Rattle.syn_grammar.specs.Kept.{held}
+use Rattle.syn_grammar.specs.Normal.{passed, place_of}
+use Rattle.syn_grammar.specs.Table.{table}
+use Rattle.grammar_back.specs.Covered.{has_step}
+use Rattle.grammar_back.proofs.Readies.{Step}
+use Rattle.grammar_back.proofs.Printed.{KindLaw, simple_kind}
+use Rattle.grammar_back.proofs.KindLaws.{law_arguments, law_an_argument, law_member, law_index, law_dyn}
+use Rattle.grammar_back.proofs.KindLaws.{law_dyn_alone, law_impl, law_impl_alone, law_some_bounds, law_pattern}
+use Rattle.grammar_back.proofs.KindLaws.{law_several, law_outer, law_inner, law_meta, law_generics}
+use Rattle.grammar_back.proofs.KindLaws.{law_generic_params, law_lifetime_colon, law_bounds_colon, law_where}
+use Rattle.grammar_back.proofs.KindLaws.{law_variant, law_trait_type, law_impl_type}
+use Rattle.grammar_back.proofs.StepsOfPaths.{step_path_in_module, step_path_in_expression, step_path_in_type}
+use Rattle.grammar_back.proofs.StepsOfPaths.{step_path_at_type, step_segments_in_module, step_segments_in_type}
+use Rattle.grammar_back.proofs.StepsOfPaths.{step_segments_at_type, step_qualified_path_in_module}
+use Rattle.grammar_back.proofs.StepsOfPaths.{step_qualified_path_in_expression, step_qualified_path_in_type}
+use Rattle.grammar_back.proofs.StepsOfPaths.{step_qualified_path_at_type, step_any_path_in_module}
+use Rattle.grammar_back.proofs.StepsOfPaths.{step_any_path_in_expression, step_any_path_in_type}
+use Rattle.grammar_back.proofs.StepsOfPaths.{step_any_path_at_type, step_arguments, step_an_argument}
+use Rattle.grammar_back.proofs.StepsOfPaths.{step_parenthesized_arguments, step_a_macro, step_delimited}
+use Rattle.grammar_back.proofs.StepsOfPaths.{step_member, step_index}
+use Rattle.grammar_back.proofs.StepsOfTypes.{step_a_type_with_plus, step_a_type_without_plus}
+use Rattle.grammar_back.proofs.StepsOfTypes.{step_dyn_type_with_plus, step_impl_type_with_plus}
+use Rattle.grammar_back.proofs.StepsOfTypes.{step_return_type_with_plus, step_return_type_without_plus}
+use Rattle.grammar_back.proofs.StepsOfTypes.{step_tuple_type, step_never_type, step_reference_type}
+use Rattle.grammar_back.proofs.StepsOfTypes.{step_pointer_type, step_bracket_type, step_infer_type}
+use Rattle.grammar_back.proofs.StepsOfTypes.{step_fn_ptr_type, step_fn_ptr_arg, step_some_bounds, step_bounds}
+use Rattle.grammar_back.proofs.StepsOfTypes.{step_bound, step_trait_path, step_bound_lifetimes, step_lifetimes}
+use Rattle.grammar_back.proofs.StepsOfTypes.{step_abi}
+use Rattle.grammar_back.proofs.HandSteps.{step_dyn_alone, step_impl_alone, step_visibility}
+use Rattle.grammar_back.proofs.StepsOfPatterns.{step_pattern, step_several_patterns, step_ident_pattern}
+use Rattle.grammar_back.proofs.StepsOfPatterns.{step_wild_pattern, step_range_to_pattern, step_rest_pattern}
+use Rattle.grammar_back.proofs.StepsOfPatterns.{step_tuple_pattern, step_slice_pattern, step_literal_pattern}
+use Rattle.grammar_back.proofs.StepsOfPatterns.{step_path_pattern, step_range_end, step_range_bound}
+use Rattle.grammar_back.proofs.StepsOfAttributes.{step_outer_attributes, step_outer_attribute}
+use Rattle.grammar_back.proofs.StepsOfAttributes.{step_inner_attributes, step_inner_attribute, step_meta}
+use Rattle.grammar_back.proofs.StepsOfGenerics.{step_generics, step_generic_params, step_lifetime_param}
+use Rattle.grammar_back.proofs.StepsOfGenerics.{step_lifetime_colon, step_type_param, step_bounds_colon}
+use Rattle.grammar_back.proofs.StepsOfGenerics.{step_where, step_where_clause}
+use Rattle.grammar_back.proofs.StepsOfItems.{step_named_fields, step_unnamed_fields, step_named_field}
+use Rattle.grammar_back.proofs.StepsOfItems.{step_variant, step_a_struct, step_an_enum, step_a_union}
+use Rattle.grammar_back.proofs.StepsOfItems.{step_a_static, step_a_const, step_an_extern_crate, step_a_use}
+use Rattle.grammar_back.proofs.StepsOfItems.{step_use_top, step_use_tree, step_use_branch, step_use_rooted}
+use Rattle.grammar_back.proofs.StepsOfItems.{step_receiver, step_signature_in_file, step_signature_in_foreign}
+use Rattle.grammar_back.proofs.StepsOfItems.{step_signature_in_trait, step_signature_in_impl}
+use Rattle.grammar_back.proofs.StepsOfItems.{step_a_function_in_file, step_a_function_in_foreign}
+use Rattle.grammar_back.proofs.StepsOfItems.{step_a_function_in_trait, step_a_function_in_impl}
+use Rattle.grammar_back.proofs.StepsOfItems.{step_a_type_alias_in_trait, step_a_type_alias_in_impl}
+use Rattle.grammar_back.proofs.StepsOfItems.{step_item_macro_in_file, step_item_macro_in_foreign}
+use Rattle.grammar_back.proofs.StepsOfItems.{step_item_macro_in_trait, step_item_macro_in_impl, step_label}
+
+pub steps : (k : Kind) → has_step k ≡ true → Step k
+unfolding has_step
+steps (Path InModule) e = step_path_in_module
+steps (Path InExpression) e = step_path_in_expression
+steps (Path InType) e = step_path_in_type
+steps (Path AtType) e = step_path_at_type
+steps (Segments InModule) e = step_segments_in_module
+steps (Segments InType) e = step_segments_in_type
+steps (Segments AtType) e = step_segments_at_type
+steps (QualifiedPath InModule) e = step_qualified_path_in_module
+steps (QualifiedPath InExpression) e = step_qualified_path_in_expression
+steps (QualifiedPath InType) e = step_qualified_path_in_type
+steps (QualifiedPath AtType) e = step_qualified_path_at_type
+steps (AnyPath InModule) e = step_any_path_in_module
+steps (AnyPath InExpression) e = step_any_path_in_expression
+steps (AnyPath InType) e = step_any_path_in_type
+steps (AnyPath AtType) e = step_any_path_at_type
+steps Arguments e = step_arguments
+steps AnArgument e = step_an_argument
+steps ParenthesizedArguments e = step_parenthesized_arguments
+steps AMacro e = step_a_macro
+steps Delimited e = step_delimited
+steps Member e = step_member
+steps Index e = step_index
+steps (AType WithPlus) e = step_a_type_with_plus
+steps (AType WithoutPlus) e = step_a_type_without_plus
+steps (DynType WithPlus) e = step_dyn_type_with_plus
+steps (DynType WithoutPlus) e = step_dyn_alone
+steps (ImplType WithPlus) e = step_impl_type_with_plus
+steps (ImplType WithoutPlus) e = step_impl_alone
+steps (ReturnType WithPlus) e = step_return_type_with_plus
+steps (ReturnType WithoutPlus) e = step_return_type_without_plus
+steps TupleType e = step_tuple_type
+steps NeverType e = step_never_type
+steps ReferenceType e = step_reference_type
+steps PointerType e = step_pointer_type
+steps BracketType e = step_bracket_type
+steps InferType e = step_infer_type
+steps FnPtrType e = step_fn_ptr_type
+steps FnPtrArg e = step_fn_ptr_arg
+steps SomeBounds e = step_some_bounds
+steps Bounds e = step_bounds
+steps Bound e = step_bound
+steps TraitPath e = step_trait_path
+steps BoundLifetimes e = step_bound_lifetimes
+steps Lifetimes e = step_lifetimes
+steps Abi e = step_abi
+steps Pattern e = step_pattern
+steps SeveralPatterns e = step_several_patterns
+steps IdentPattern e = step_ident_pattern
+steps WildPattern e = step_wild_pattern
+steps RangeToPattern e = step_range_to_pattern
+steps RestPattern e = step_rest_pattern
+steps TuplePattern e = step_tuple_pattern
+steps SlicePattern e = step_slice_pattern
+steps LiteralPattern e = step_literal_pattern
+steps PathPattern e = step_path_pattern
+steps RangeEnd e = step_range_end
+steps RangeBound e = step_range_bound
+steps OuterAttributes e = step_outer_attributes
+steps OuterAttribute e = step_outer_attribute
+steps InnerAttributes e = step_inner_attributes
+steps InnerAttribute e = step_inner_attribute
+steps Meta e = step_meta
+steps Generics e = step_generics
+steps GenericParams e = step_generic_params
+steps LifetimeParam e = step_lifetime_param
+steps LifetimeColon e = step_lifetime_colon
+steps TypeParam e = step_type_param
+steps BoundsColon e = step_bounds_colon
+steps Where e = step_where
+steps WhereClause e = step_where_clause
+steps Visibility e = step_visibility
+steps NamedFields e = step_named_fields
+steps UnnamedFields e = step_unnamed_fields
+steps NamedField e = step_named_field
+steps Variant e = step_variant
+steps AStruct e = step_a_struct
+steps AnEnum e = step_an_enum
+steps AUnion e = step_a_union
+steps AStatic e = step_a_static
+steps AConst e = step_a_const
+steps AnExternCrate e = step_an_extern_crate
+steps AUse e = step_a_use
+steps UseTop e = step_use_top
+steps UseTree e = step_use_tree
+steps UseBranch e = step_use_branch
+steps UseRooted e = step_use_rooted
+steps Receiver e = step_receiver
+steps (Signature InFile) e = step_signature_in_file
+steps (Signature InForeign) e = step_signature_in_foreign
+steps (Signature InTrait) e = step_signature_in_trait
+steps (Signature InImpl) e = step_signature_in_impl
+steps (AFunction InFile) e = step_a_function_in_file
+steps (AFunction InForeign) e = step_a_function_in_foreign
+steps (AFunction InTrait) e = step_a_function_in_trait
+steps (AFunction InImpl) e = step_a_function_in_impl
+steps (ATypeAlias InTrait) e = step_a_type_alias_in_trait
+steps (ATypeAlias InImpl) e = step_a_type_alias_in_impl
+steps (ItemMacro InFile) e = step_item_macro_in_file
+steps (ItemMacro InForeign) e = step_item_macro_in_foreign
+steps (ItemMacro InTrait) e = step_item_macro_in_trait
+steps (ItemMacro InImpl) e = step_item_macro_in_impl
+steps Label e = step_label
+steps _ e = let f : false ≡ true = e in cc f
+
+pub laws : (k : Kind) → has_step k ≡ true → KindLaw k
+unfolding has_step held passed place_of table
+laws (Path InModule) e = simple_kind (Path InModule) refl (λ x. tt) (λ x. refl) (λ x. refl) (λ q. refl) (λ q. refl)
+    refl
+laws (Path InExpression) e = simple_kind (Path InExpression) refl (λ x. tt) (λ x. refl) (λ x. refl) (λ q. refl)
+    (λ q. refl) refl
+laws (Path InType) e = simple_kind (Path InType) refl (λ x. tt) (λ x. refl) (λ x. refl) (λ q. refl) (λ q. refl) refl
+laws (Path AtType) e = simple_kind (Path AtType) refl (λ x. tt) (λ x. refl) (λ x. refl) (λ q. refl) (λ q. refl) refl
+laws (Segments InModule) e = simple_kind (Segments InModule) refl (λ x. tt) (λ x. refl) (λ x. refl) (λ q. refl)
+    (λ q. refl) refl
+laws (Segments InType) e = simple_kind (Segments InType) refl (λ x. tt) (λ x. refl) (λ x. refl) (λ q. refl)
+    (λ q. refl) refl
+laws (Segments AtType) e = simple_kind (Segments AtType) refl (λ x. tt) (λ x. refl) (λ x. refl) (λ q. refl)
+    (λ q. refl) refl
+laws (QualifiedPath InModule) e = simple_kind (QualifiedPath InModule) refl (λ x. tt) (λ x. refl) (λ x. refl)
+    (λ q. refl) (λ q. refl) refl
+laws (QualifiedPath InExpression) e = simple_kind (QualifiedPath InExpression) refl (λ x. tt) (λ x. refl) (λ x. refl)
+    (λ q. refl) (λ q. refl) refl
+laws (QualifiedPath InType) e = simple_kind (QualifiedPath InType) refl (λ x. tt) (λ x. refl) (λ x. refl) (λ q. refl)
+    (λ q. refl) refl
+laws (QualifiedPath AtType) e = simple_kind (QualifiedPath AtType) refl (λ x. tt) (λ x. refl) (λ x. refl) (λ q. refl)
+    (λ q. refl) refl
+laws (AnyPath InModule) e = simple_kind (AnyPath InModule) refl (λ x. tt) (λ x. refl) (λ x. refl) (λ q. refl)
+    (λ q. refl) refl
+laws (AnyPath InExpression) e = simple_kind (AnyPath InExpression) refl (λ x. tt) (λ x. refl) (λ x. refl) (λ q. refl)
+    (λ q. refl) refl
+laws (AnyPath InType) e = simple_kind (AnyPath InType) refl (λ x. tt) (λ x. refl) (λ x. refl) (λ q. refl) (λ q. refl)
+    refl
+laws (AnyPath AtType) e = simple_kind (AnyPath AtType) refl (λ x. tt) (λ x. refl) (λ x. refl) (λ q. refl) (λ q. refl)
+    refl
+laws Arguments e = law_arguments
+laws AnArgument e = law_an_argument
+laws ParenthesizedArguments e = simple_kind ParenthesizedArguments refl (λ x. tt) (λ x. refl) (λ x. refl) (λ q. refl)
+    (λ q. refl) refl
+laws AMacro e = simple_kind AMacro refl (λ x. tt) (λ x. refl) (λ x. refl) (λ q. refl) (λ q. refl) refl
+laws Delimited e = simple_kind Delimited refl (λ x. tt) (λ x. refl) (λ x. refl) (λ q. refl) (λ q. refl) refl
+laws Member e = law_member
+laws Index e = law_index
+laws (AType WithPlus) e = simple_kind (AType WithPlus) refl (λ x. tt) (λ x. refl) (λ x. refl) (λ q. refl) (λ q. refl)
+    refl
+laws (AType WithoutPlus) e = simple_kind (AType WithoutPlus) refl (λ x. tt) (λ x. refl) (λ x. refl) (λ q. refl)
+    (λ q. refl) refl
+laws (DynType WithPlus) e = law_dyn
+laws (DynType WithoutPlus) e = law_dyn_alone
+laws (ImplType WithPlus) e = law_impl
+laws (ImplType WithoutPlus) e = law_impl_alone
+laws (ReturnType WithPlus) e = simple_kind (ReturnType WithPlus) refl (λ x. tt) (λ x. refl) (λ x. refl) (λ q. refl)
+    (λ q. refl) refl
+laws (ReturnType WithoutPlus) e = simple_kind (ReturnType WithoutPlus) refl (λ x. tt) (λ x. refl) (λ x. refl)
+    (λ q. refl) (λ q. refl) refl
+laws TupleType e = simple_kind TupleType refl (λ x. tt) (λ x. refl) (λ x. refl) (λ q. refl) (λ q. refl) refl
+laws NeverType e = simple_kind NeverType refl (λ x. tt) (λ x. refl) (λ x. refl) (λ q. refl) (λ q. refl) refl
+laws ReferenceType e = simple_kind ReferenceType refl (λ x. tt) (λ x. refl) (λ x. refl) (λ q. refl) (λ q. refl) refl
+laws PointerType e = simple_kind PointerType refl (λ x. tt) (λ x. refl) (λ x. refl) (λ q. refl) (λ q. refl) refl
+laws BracketType e = simple_kind BracketType refl (λ x. tt) (λ x. refl) (λ x. refl) (λ q. refl) (λ q. refl) refl
+laws InferType e = simple_kind InferType refl (λ x. tt) (λ x. refl) (λ x. refl) (λ q. refl) (λ q. refl) refl
+laws FnPtrType e = simple_kind FnPtrType refl (λ x. tt) (λ x. refl) (λ x. refl) (λ q. refl) (λ q. refl) refl
+laws FnPtrArg e = simple_kind FnPtrArg refl (λ x. tt) (λ x. refl) (λ x. refl) (λ q. refl) (λ q. refl) refl
+laws SomeBounds e = law_some_bounds
+laws Bounds e = simple_kind Bounds refl (λ x. tt) (λ x. refl) (λ x. refl) (λ q. refl) (λ q. refl) refl
+laws Bound e = simple_kind Bound refl (λ x. tt) (λ x. refl) (λ x. refl) (λ q. refl) (λ q. refl) refl
+laws TraitPath e = simple_kind TraitPath refl (λ x. tt) (λ x. refl) (λ x. refl) (λ q. refl) (λ q. refl) refl
+laws BoundLifetimes e = simple_kind BoundLifetimes refl (λ x. tt) (λ x. refl) (λ x. refl) (λ q. refl) (λ q. refl) refl
+laws Lifetimes e = simple_kind Lifetimes refl (λ x. tt) (λ x. refl) (λ x. refl) (λ q. refl) (λ q. refl) refl
+laws Abi e = simple_kind Abi refl (λ x. tt) (λ x. refl) (λ x. refl) (λ q. refl) (λ q. refl) refl
+laws Pattern e = law_pattern
+laws SeveralPatterns e = law_several
+laws IdentPattern e = simple_kind IdentPattern refl (λ x. tt) (λ x. refl) (λ x. refl) (λ q. refl) (λ q. refl) refl
+laws WildPattern e = simple_kind WildPattern refl (λ x. tt) (λ x. refl) (λ x. refl) (λ q. refl) (λ q. refl) refl
+laws RangeToPattern e = simple_kind RangeToPattern refl (λ x. tt) (λ x. refl) (λ x. refl) (λ q. refl) (λ q. refl) refl
+laws RestPattern e = simple_kind RestPattern refl (λ x. tt) (λ x. refl) (λ x. refl) (λ q. refl) (λ q. refl) refl
+laws TuplePattern e = simple_kind TuplePattern refl (λ x. tt) (λ x. refl) (λ x. refl) (λ q. refl) (λ q. refl) refl
+laws SlicePattern e = simple_kind SlicePattern refl (λ x. tt) (λ x. refl) (λ x. refl) (λ q. refl) (λ q. refl) refl
+laws LiteralPattern e = simple_kind LiteralPattern refl (λ x. tt) (λ x. refl) (λ x. refl) (λ q. refl) (λ q. refl) refl
+laws PathPattern e = simple_kind PathPattern refl (λ x. tt) (λ x. refl) (λ x. refl) (λ q. refl) (λ q. refl) refl
+laws RangeEnd e = simple_kind RangeEnd refl (λ x. tt) (λ x. refl) (λ x. refl) (λ q. refl) (λ q. refl) refl
+laws RangeBound e = simple_kind RangeBound refl (λ x. tt) (λ x. refl) (λ x. refl) (λ q. refl) (λ q. refl) refl
+laws OuterAttributes e = law_outer
+laws OuterAttribute e = simple_kind OuterAttribute refl (λ x. tt) (λ x. refl) (λ x. refl) (λ q. refl) (λ q. refl) refl
+laws InnerAttributes e = law_inner
+laws InnerAttribute e = simple_kind InnerAttribute refl (λ x. tt) (λ x. refl) (λ x. refl) (λ q. refl) (λ q. refl) refl
+laws Meta e = law_meta
+laws Generics e = law_generics
+laws GenericParams e = law_generic_params
+laws LifetimeParam e = simple_kind LifetimeParam refl (λ x. tt) (λ x. refl) (λ x. refl) (λ q. refl) (λ q. refl) refl
+laws LifetimeColon e = law_lifetime_colon
+laws TypeParam e = simple_kind TypeParam refl (λ x. tt) (λ x. refl) (λ x. refl) (λ q. refl) (λ q. refl) refl
+laws BoundsColon e = law_bounds_colon
+laws Where e = law_where
+laws WhereClause e = simple_kind WhereClause refl (λ x. tt) (λ x. refl) (λ x. refl) (λ q. refl) (λ q. refl) refl
+laws Visibility e = simple_kind Visibility refl (λ x. tt) (λ x. refl) (λ x. refl) (λ q. refl) (λ q. refl) refl
+laws NamedFields e = simple_kind NamedFields refl (λ x. tt) (λ x. refl) (λ x. refl) (λ q. refl) (λ q. refl) refl
+laws UnnamedFields e = simple_kind UnnamedFields refl (λ x. tt) (λ x. refl) (λ x. refl) (λ q. refl) (λ q. refl) refl
+laws NamedField e = simple_kind NamedField refl (λ x. tt) (λ x. refl) (λ x. refl) (λ q. refl) (λ q. refl) refl
+laws Variant e = law_variant
+laws AStruct e = simple_kind AStruct refl (λ x. tt) (λ x. refl) (λ x. refl) (λ q. refl) (λ q. refl) refl
+laws AnEnum e = simple_kind AnEnum refl (λ x. tt) (λ x. refl) (λ x. refl) (λ q. refl) (λ q. refl) refl
+laws AUnion e = simple_kind AUnion refl (λ x. tt) (λ x. refl) (λ x. refl) (λ q. refl) (λ q. refl) refl
+laws AStatic e = simple_kind AStatic refl (λ x. tt) (λ x. refl) (λ x. refl) (λ q. refl) (λ q. refl) refl
+laws AConst e = simple_kind AConst refl (λ x. tt) (λ x. refl) (λ x. refl) (λ q. refl) (λ q. refl) refl
+laws AnExternCrate e = simple_kind AnExternCrate refl (λ x. tt) (λ x. refl) (λ x. refl) (λ q. refl) (λ q. refl) refl
+laws AUse e = simple_kind AUse refl (λ x. tt) (λ x. refl) (λ x. refl) (λ q. refl) (λ q. refl) refl
+laws UseTop e = simple_kind UseTop refl (λ x. tt) (λ x. refl) (λ x. refl) (λ q. refl) (λ q. refl) refl
+laws UseTree e = simple_kind UseTree refl (λ x. tt) (λ x. refl) (λ x. refl) (λ q. refl) (λ q. refl) refl
+laws UseBranch e = simple_kind UseBranch refl (λ x. tt) (λ x. refl) (λ x. refl) (λ q. refl) (λ q. refl) refl
+laws UseRooted e = simple_kind UseRooted refl (λ x. tt) (λ x. refl) (λ x. refl) (λ q. refl) (λ q. refl) refl
+laws Receiver e = simple_kind Receiver refl (λ x. tt) (λ x. refl) (λ x. refl) (λ q. refl) (λ q. refl) refl
+laws (Signature InFile) e = simple_kind (Signature InFile) refl (λ x. tt) (λ x. refl) (λ x. refl) (λ q. refl)
+    (λ q. refl) refl
+laws (Signature InForeign) e = simple_kind (Signature InForeign) refl (λ x. tt) (λ x. refl) (λ x. refl) (λ q. refl)
+    (λ q. refl) refl
+laws (Signature InTrait) e = simple_kind (Signature InTrait) refl (λ x. tt) (λ x. refl) (λ x. refl) (λ q. refl)
+    (λ q. refl) refl
+laws (Signature InImpl) e = simple_kind (Signature InImpl) refl (λ x. tt) (λ x. refl) (λ x. refl) (λ q. refl)
+    (λ q. refl) refl
+laws (AFunction InFile) e = simple_kind (AFunction InFile) refl (λ x. tt) (λ x. refl) (λ x. refl) (λ q. refl)
+    (λ q. refl) refl
+laws (AFunction InForeign) e = simple_kind (AFunction InForeign) refl (λ x. tt) (λ x. refl) (λ x. refl) (λ q. refl)
+    (λ q. refl) refl
+laws (AFunction InTrait) e = simple_kind (AFunction InTrait) refl (λ x. tt) (λ x. refl) (λ x. refl) (λ q. refl)
+    (λ q. refl) refl
+laws (AFunction InImpl) e = simple_kind (AFunction InImpl) refl (λ x. tt) (λ x. refl) (λ x. refl) (λ q. refl)
+    (λ q. refl) refl
+laws (ATypeAlias InTrait) e = law_trait_type
+laws (ATypeAlias InImpl) e = law_impl_type
+laws (ItemMacro InFile) e = simple_kind (ItemMacro InFile) refl (λ x. tt) (λ x. refl) (λ x. refl) (λ q. refl)
+    (λ q. refl) refl
+laws (ItemMacro InForeign) e = simple_kind (ItemMacro InForeign) refl (λ x. tt) (λ x. refl) (λ x. refl) (λ q. refl)
+    (λ q. refl) refl
+laws (ItemMacro InTrait) e = simple_kind (ItemMacro InTrait) refl (λ x. tt) (λ x. refl) (λ x. refl) (λ q. refl)
+    (λ q. refl) refl
+laws (ItemMacro InImpl) e = simple_kind (ItemMacro InImpl) refl (λ x. tt) (λ x. refl) (λ x. refl) (λ q. refl)
+    (λ q. refl) refl
+laws Label e = simple_kind Label refl (λ x. tt) (λ x. refl) (λ x. refl) (λ q. refl) (λ q. refl) refl
+laws _ e = let f : false ≡ true = e in cc f

@@ -1,0 +1,226 @@
+-- For each tree that is derived there is one that fits its entry, and of which the normal form is kept.
+use Rattle.std.proofs.Common.{◌≡◌, List, [], ◌∷◌, ◌++◌, refl, sym, ap, ◌∙◌, subst}
+use Rattle.std.specs.Prelude.{Bool, true, false, ◌&&◌}
+use Rattle.proc_macro2.specs.Token.{Token, Punct}
+use Rattle.rust_leaf.specs.declared.punct.Spacing.TheVariants.{Alone as Apart}
+use Rattle.syn_grammar.specs.Kind.{Kind, Position, Plain, InCondition, InArm, InStatement, Expression}
+use Rattle.syn_grammar.specs.Tree.{Tree, AWord, ALiteral, AMark, ALifetime, Raw, Nil, Pair, First, Second, End}
+use Rattle.syn_grammar.specs.Tree.{Again, Final, More, Group, Dropped, Called, Verbatim, Node, Whole, flat}
+use Rattle.syn_grammar.specs.Gram.{Gram, word, literal, mark, lifetime, raw, nothing, seq, alt, star, many, group}
+use Rattle.syn_grammar.specs.Gram.{judged, dropped, called, ref, operand, Verdict, Keep}
+use Rattle.syn_grammar.specs.Table.{table}
+use Rattle.syn_grammar.specs.Derives.{Derives}
+use Rattle.syn_grammar.specs.Kept.{held, forget, kept}
+use Rattle.syn_grammar.specs.Tidy.{tidy}
+use Rattle.syn_grammar.specs.Normal.{place_of, passed, private, apart_item, apart_if, is_enclosed, normal_in}
+use Rattle.grammar_back.specs.Covered.{has_step, is_covered}
+use Rattle.grammar_back.proofs.Fits.{Fits, IsMeant}
+
+pub record Printed (g : Gram) (z : Tree) : Type 0 where
+  pub tree : Tree
+  pub fits : Fits tree g
+  pub kept_is : kept tree ≡ z
+
+-- an expression stands in its position
+abbrev pub IsPlaced : Position → Kind → Type 0
+IsPlaced q (Expression p) = q ≡ p
+IsPlaced q _ = Unit {0}
+
+-- a verdict that keeps a tree keeps what is printed for it
+abbrev pub VerdictLaw : Position → (Tree → Verdict) → Gram → Type 0
+VerdictLaw q v g = (x w : Tree) (r : List Token) → Derives x g r → Fits w g → kept w ≡ normal_in q (kept x) → v x ≡ Keep
+    → v w ≡ Keep
+
+-- no turn is a raw item among statements
+abbrev pub TurnLaw : Gram → Type 0
+TurnLaw g = (x : Tree) → Fits x g → apart_item (kept x) ≡ kept x
+
+-- what is to be known of an entry, beside its kinds
+abbrev pub EntryLaw : Position → Gram → Type 0
+EntryLaw q (seq a b) = EntryLaw q a × EntryLaw q b
+EntryLaw q (alt t a b) = EntryLaw q a × EntryLaw q b
+EntryLaw q (star t g) = TurnLaw g × EntryLaw q g
+EntryLaw q (many e c g) = EntryLaw q g
+EntryLaw q (group d g) = EntryLaw q g
+EntryLaw q (judged v g) = VerdictLaw q v g × EntryLaw q g
+EntryLaw q (dropped g) = Fits private g
+EntryLaw q (called n g) = EntryLaw (place_of n) g
+EntryLaw q (ref k) = IsPlaced q k
+EntryLaw q _ = Unit {0}
+
+-- and of a kind: its entry, and how what is printed for what it holds is printed for it
+pub record KindLaw (k : Kind) : Type 0 where
+  pub entry : (q : Position) → IsPlaced q k → EntryLaw (passed k q) (table k)
+  pub node : (q : Position) → IsPlaced q k → (x : Tree) (r : List Token) → Derives x (table k) r
+      → Printed (table k) (normal_in (passed k q) (kept x))
+      → Printed (ref k) (normal_in q (Node (held k) (forget k (kept x))))
+
+both_true : (a b : Bool) → (a && b) ≡ true → (a ≡ true) × (b ≡ true)
+both_true true b e = (refl, e)
+both_true false b e = cc
+
+unmoved_if : (b : Bool) (x : Tree) → apart_item x ≡ x → apart_if b x ≡ x
+unmoved_if true x e = e
+unmoved_if false x e = refl
+
+module _ (laws : (k : Kind) → has_step k ≡ true → KindLaw k) where
+  pub printed : (x : Tree) (g : Gram) (r : List Token) (q : Position) → EntryLaw q g → Derives x g r → is_covered x
+      ≡ true → Printed g (normal_in q (kept x))
+  printed (AWord cs) (word p) r q l d c = record { tree = AWord cs; fits = d; kept_is = refl }
+  printed (ALiteral cs) (literal p) r q l d c = record { tree = ALiteral cs; fits = d; kept_is = refl }
+  printed (AMark m ms spacing) (mark e es) r q l d c =
+      record { tree = AMark m ms Apart; fits = (d.0, d.1, refl); kept_is = refl }
+  printed (ALifetime cs) lifetime r q l d c = record { tree = ALifetime cs; fits = tt; kept_is = refl }
+  printed (Raw ts) raw r q l d c = record { tree = Raw ts; fits = d.0; kept_is = refl }
+  printed Nil nothing r q l d c = record { tree = Nil; fits = tt; kept_is = refl }
+  printed (Pair x y) (seq a b) r q l d c =
+      let h = both_true (is_covered x) (is_covered y) c in
+      let i = printed x a (flat y ++ r) q l.0 d.0 h.0 in
+      let j = printed y b r q l.1 d.1 h.1 in
+      record {
+        tree = Pair i.tree j.tree;
+        fits = (i.fits, j.fits);
+        kept_is = ap (λ z. Pair z (kept j.tree)) i.kept_is ∙ ap (Pair (normal_in q (kept x))) j.kept_is;
+      }
+  printed (First x) (alt t a b) r q l d c =
+      let i = printed x a r q l.0 d.1 c in
+      record { tree = First i.tree; fits = ((flat x ++ r, d.0), i.fits); kept_is = ap First i.kept_is }
+  printed (Second x) (alt t a b) r q l d c =
+      let i = printed x b r q l.1 d.1 c in
+      record { tree = Second i.tree; fits = ((flat x ++ r, d.0), i.fits); kept_is = ap Second i.kept_is }
+  printed End (star t g) r q l d c = record { tree = End; fits = tt; kept_is = refl }
+  printed (Again x y) (star t g) r q l d c =
+      let h = both_true (is_covered x) (is_covered y) c in
+      let i = printed x g (flat y ++ r) q l.1 d.1 h.0 in
+      let j = printed y (star t g) r q l d.2 h.1 in
+      let b : Bool = is_enclosed (kept y) (normal_in q (kept y)) in
+      let u : apart_item (normal_in q (kept x)) ≡ normal_in q (kept x) =
+      subst (λ z. apart_item z ≡ z) i.kept_is (l.0 i.tree i.fits) in
+      record {
+        tree = Again i.tree j.tree;
+        fits = (i.fits, j.fits);
+        kept_is = ap (λ z. Again z (kept j.tree)) (i.kept_is ∙ sym (unmoved_if b (normal_in q (kept x)) u)) ∙ ap
+            (Again (apart_if b (normal_in q (kept x)))) j.kept_is;
+      }
+  printed End (many e m g) r q l d c = record { tree = End; fits = tt; kept_is = refl }
+  printed (Final x) (many e m g) r q l d c =
+      let i = printed x g r q l d.1 c in
+      record { tree = Final i.tree; fits = i.fits; kept_is = ap Final i.kept_is }
+  printed (More x n spacing y) (many e m g) r q l d c =
+      let h = both_true (is_covered x) (is_covered y) c in
+      let i = printed x g (Punct n spacing ∷ flat y ++ r) q l d.2 h.0 in
+      let j = printed y (many e m g) r q l d.3 h.1 in
+      record {
+        tree = More i.tree n Apart j.tree;
+        fits = (d.1, refl, i.fits, j.fits);
+        kept_is = ap (λ z. More z n Apart (kept j.tree)) i.kept_is ∙ ap (More (normal_in q (kept x)) n Apart)
+            j.kept_is;
+      }
+  printed (Group f x) (group e g) r q l d c =
+      let i = printed x g [] q l d.1 c in
+      record { tree = Group f i.tree; fits = (d.0, i.fits); kept_is = ap (Group f) i.kept_is }
+  printed (First x) (judged v g) r q l d c =
+      let i = printed x g r q l.1 d.1 c in
+      record {
+        tree = First i.tree;
+        fits = (l.0 x i.tree r d.1 i.fits i.kept_is d.0, i.fits);
+        kept_is = ap First i.kept_is;
+      }
+  printed (Verbatim x) (judged v g) r q l d c = let e : false ≡ true = c in cc e
+  printed (Dropped x) (dropped g) r q l d c = record { tree = Dropped private; fits = (refl, l); kept_is = refl }
+  printed (Called n x) (called m g) r q l d c =
+      let i = printed x g r (place_of m) l d.1 c in
+      record {
+        tree = Called m i.tree;
+        fits = (refl, i.fits);
+        kept_is = ap (Called m) i.kept_is ∙ ap (λ k. Called k (normal_in (place_of k) (kept x))) (sym d.0);
+      }
+  printed (Node k x) (ref j) r q l d c =
+      let h = both_true (has_step k) (is_covered x) c in
+      let law = laws k h.0 in
+      let p : IsPlaced q k = subst (IsPlaced q) (sym d.0) l in
+      let i = printed x (table k) r (passed k q) (law.entry q p) d.1 h.1 in
+      subst (λ m. Printed (ref m) (normal_in q (Node (held k) (forget k (kept x))))) d.0 (law.node q p x r d.1 i)
+  printed (Whole x) (operand p n) r q l d c = let e : false ≡ true = c in cc e
+  printed _ _ r q l d c = absurd d
+
+-- entries of which nothing is to be known: no verdict, no turns, nothing dropped
+abbrev pub same_place : Position → Position → Bool
+same_place Plain Plain = true
+same_place InCondition InCondition = true
+same_place InArm InArm = true
+same_place InStatement InStatement = true
+same_place _ _ = false
+
+place_is : (q p : Position) → same_place q p ≡ true → q ≡ p
+place_is Plain Plain e = refl
+place_is InCondition InCondition e = refl
+place_is InArm InArm e = refl
+place_is InStatement InStatement e = refl
+place_is Plain _ e = cc
+place_is InCondition _ e = cc
+place_is InArm _ e = cc
+place_is InStatement _ e = cc
+
+abbrev pub is_placed : Position → Kind → Bool
+is_placed q (Expression p) = same_place q p
+is_placed q _ = true
+
+placed : (q : Position) (k : Kind) → is_placed q k ≡ true → IsPlaced q k
+placed q (Expression p) e = place_is q p e
+placed q _ e = tt
+
+abbrev pub is_simple : Position → Gram → Bool
+is_simple q (seq a b) = is_simple q a && is_simple q b
+is_simple q (alt t a b) = is_simple q a && is_simple q b
+is_simple q (star t g) = false
+is_simple q (many e c g) = is_simple q g
+is_simple q (group d g) = is_simple q g
+is_simple q (judged v g) = false
+is_simple q (dropped g) = false
+is_simple q (called n g) = is_simple (place_of n) g
+is_simple q (ref k) = is_placed q k
+is_simple q _ = true
+
+pub simple_law : (q : Position) (g : Gram) → is_simple q g ≡ true → EntryLaw q g
+simple_law q (seq a b) e = let h =
+    both_true (is_simple q a) (is_simple q b) e in (simple_law q a h.0, simple_law q b h.1)
+simple_law q (alt t a b) e = let h =
+    both_true (is_simple q a) (is_simple q b) e in (simple_law q a h.0, simple_law q b h.1)
+simple_law q (star t g) e = cc
+simple_law q (many f c g) e = simple_law q g e
+simple_law q (group d g) e = simple_law q g e
+simple_law q (judged v g) e = cc
+simple_law q (dropped g) e = cc
+simple_law q (called n g) e = simple_law (place_of n) g e
+simple_law q (ref k) e = placed q k e
+simple_law q _ e = tt
+
+-- a kind that holds what it reads, of which nothing is tidied
+pub plain_law : (k : Kind) → has_step k ≡ true → ((x : Tree) → IsMeant k x) → ((x : Tree) → forget k x ≡ x)
+    → ((x : Tree) → tidy (held k) x ≡ x)
+    → ((q : Position) → passed (held k) q ≡ passed k q)
+    → ((q : Position) → IsPlaced q k → EntryLaw (passed k q) (table k)) → KindLaw k
+plain_law k h n f t p e = record { entry = e; node = go }
+  where
+    go : (q : Position) → IsPlaced q k → (x : Tree) (r : List Token) → Derives x (table k) r
+        → Printed (table k) (normal_in (passed k q) (kept x))
+        → Printed (ref k) (normal_in q (Node (held k) (forget k (kept x))))
+    go q l x r d i =
+        record {
+          tree = Node k i.tree;
+          fits = (refl, h, ap flat (f (kept i.tree)), i.fits, n i.tree);
+          kept_is =
+              ap (Node (held k)) (f (kept i.tree) ∙ i.kept_is ∙ sym (ap (λ m. normal_in m (kept x)) (p q)) ∙ sym
+              (ap (normal_in (passed (held k) q)) (f (kept x)))
+              ∙ sym (t (normal_in (passed (held k) q) (forget k (kept x)))));
+        }
+
+-- and whose entry is simple
+pub simple_kind : (k : Kind) → has_step k ≡ true → ((x : Tree) → IsMeant k x) → ((x : Tree) → forget k x ≡ x)
+    → ((x : Tree) → tidy (held k) x ≡ x)
+    → ((q : Position) → passed (held k) q ≡ Plain) → ((q : Position) → passed k q ≡ Plain) → is_simple Plain (table k)
+    ≡ true → KindLaw k
+simple_kind k h n f t p u e =
+    plain_law k h n f t (λ q. p q ∙ sym (u q))
+    (λ q l. subst (λ m. EntryLaw m (table k)) (sym (u q)) (simple_law Plain (table k) e))

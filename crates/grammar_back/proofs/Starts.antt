@@ -1,0 +1,301 @@
+-- What a kind's tokens begin with, where it has some. Written by tools/steps.py, from the entries.
+use Rattle.grammar_back.proofs.Classes.{Sign, TheWord, AnyWord, Quoted, Tick, Opening, Then, Class}
+use Rattle.proc_macro2.specs.declared.delimiter.Delimiter.TheVariants.{Parenthesis, Brace, Bracket}
+use Rattle.std.specs.Prelude.{codes, List, [], ◌∷◌}
+use Rattle.syn_grammar.specs.Kind.{Kind, AConst, AFunction, AMacro, AStatic, AStruct, AType, ATypeAlias, AUnion}
+use Rattle.syn_grammar.specs.Kind.{AUse, Abi, AnArgument, AnEnum, AnExternCrate, AnyPath, Arguments, AtType}
+use Rattle.syn_grammar.specs.Kind.{Block, Body, Bound, BoundLifetimes, Bounds, BoundsColon, BracketType}
+use Rattle.syn_grammar.specs.Kind.{ConstParam, Delimited, DynType, FieldPattern, FieldPatterns, FnArg, FnPtrArg}
+use Rattle.syn_grammar.specs.Kind.{FnPtrType, GenericParam, GenericParams, Generics, IdentPattern, ImplGenerics}
+use Rattle.syn_grammar.specs.Kind.{ImplType, InExpression, InFile, InForeign, InImpl, InModule, InTrait, InType}
+use Rattle.syn_grammar.specs.Kind.{Index, InferType, InnerAttribute, InnerAttributes, ItemMacro, Label}
+use Rattle.syn_grammar.specs.Kind.{LifetimeColon, LifetimeParam, Lifetimes, LiteralPattern, Member, Meta}
+use Rattle.syn_grammar.specs.Kind.{NamedField, NamedFields, NeverType, OnePattern, OuterAttribute}
+use Rattle.syn_grammar.specs.Kind.{OuterAttributes, Parameter, Parameters, ParenthesizedArguments, Path}
+use Rattle.syn_grammar.specs.Kind.{PathPattern, Pattern, PointerType, QualifiedPath, RangeBound, RangeEnd}
+use Rattle.syn_grammar.specs.Kind.{RangeToPattern, Receiver, ReferencePattern, ReferenceType, RestPattern}
+use Rattle.syn_grammar.specs.Kind.{ReturnType, Segments, SeveralPatterns, Signature, SlicePattern, SomeBounds}
+use Rattle.syn_grammar.specs.Kind.{TraitPath, TuplePattern, TupleType, TypeParam, UnnamedField, UnnamedFields}
+use Rattle.syn_grammar.specs.Kind.{UseBranch, UseRooted, UseTop, UseTree, Variant, Visibility, Where, WhereClause}
+use Rattle.syn_grammar.specs.Kind.{WherePredicate, WildPattern, WithPlus, WithoutPlus}
+use Rattle.syn_grammar.specs.Words.{is_ident, is_index, any_text}
+
+abbrev pub starts : Kind → List Class
+starts (Path InModule) = Then 58 (58 ∷ []) (TheWord (codes "self")) ∷ Then 58 (58 ∷ []) (TheWord (codes "super")) ∷
+    Then 58 (58 ∷ []) (TheWord (codes "crate")) ∷ Then 58 (58 ∷ []) (AnyWord is_ident) ∷ Then 58 (58 ∷ [])
+    (TheWord (codes "Self")) ∷ TheWord (codes "self") ∷ TheWord (codes "super") ∷ TheWord (codes "crate") ∷ AnyWord
+    is_ident ∷ TheWord (codes "Self") ∷ []
+starts (Path InExpression) = Then 58 (58 ∷ []) (TheWord (codes "self")) ∷ Then 58 (58 ∷ []) (TheWord (codes "super"))
+    ∷ Then 58 (58 ∷ []) (TheWord (codes "crate")) ∷ Then 58 (58 ∷ []) (AnyWord is_ident) ∷ Then 58 (58 ∷ [])
+    (TheWord (codes "Self")) ∷ TheWord (codes "self") ∷ TheWord (codes "super") ∷ TheWord (codes "crate") ∷ AnyWord
+    is_ident ∷ TheWord (codes "Self") ∷ []
+starts (Path InType) = Then 58 (58 ∷ []) (TheWord (codes "self")) ∷ Then 58 (58 ∷ []) (TheWord (codes "super")) ∷
+    Then 58 (58 ∷ []) (TheWord (codes "crate")) ∷ Then 58 (58 ∷ []) (AnyWord is_ident) ∷ Then 58 (58 ∷ [])
+    (TheWord (codes "Self")) ∷ TheWord (codes "self") ∷ TheWord (codes "super") ∷ TheWord (codes "crate") ∷ AnyWord
+    is_ident ∷ TheWord (codes "Self") ∷ []
+starts (Path AtType) = Then 58 (58 ∷ []) (TheWord (codes "self")) ∷ Then 58 (58 ∷ []) (TheWord (codes "super")) ∷
+    Then 58 (58 ∷ []) (TheWord (codes "crate")) ∷ Then 58 (58 ∷ []) (AnyWord is_ident) ∷ Then 58 (58 ∷ [])
+    (TheWord (codes "Self")) ∷ TheWord (codes "self") ∷ TheWord (codes "super") ∷ TheWord (codes "crate") ∷ AnyWord
+    is_ident ∷ TheWord (codes "Self") ∷ []
+starts (Segments InModule) = TheWord (codes "self") ∷ TheWord (codes "super") ∷ TheWord (codes "crate") ∷ AnyWord
+    is_ident ∷ TheWord (codes "Self") ∷ []
+starts (Segments InExpression) = TheWord (codes "self") ∷ TheWord (codes "super") ∷ TheWord (codes "crate") ∷ AnyWord
+    is_ident ∷ TheWord (codes "Self") ∷ []
+starts (Segments InType) = TheWord (codes "self") ∷ TheWord (codes "super") ∷ TheWord (codes "crate") ∷ AnyWord
+    is_ident ∷ TheWord (codes "Self") ∷ []
+starts (Segments AtType) = TheWord (codes "self") ∷ TheWord (codes "super") ∷ TheWord (codes "crate") ∷ AnyWord
+    is_ident ∷ TheWord (codes "Self") ∷ []
+starts (QualifiedPath InModule) = Sign 60 [] ∷ []
+starts (QualifiedPath InExpression) = Sign 60 [] ∷ []
+starts (QualifiedPath InType) = Sign 60 [] ∷ []
+starts (QualifiedPath AtType) = Sign 60 [] ∷ []
+starts (AnyPath InModule) = Sign 60 [] ∷ Then 58 (58 ∷ []) (TheWord (codes "self")) ∷ Then 58 (58 ∷ [])
+    (TheWord (codes "super")) ∷ Then 58 (58 ∷ []) (TheWord (codes "crate")) ∷ Then 58 (58 ∷ []) (AnyWord is_ident) ∷
+    Then 58 (58 ∷ []) (TheWord (codes "Self")) ∷ TheWord (codes "self") ∷ TheWord (codes "super") ∷ TheWord
+    (codes "crate") ∷ AnyWord is_ident ∷ TheWord (codes "Self") ∷ []
+starts (AnyPath InExpression) = Sign 60 [] ∷ Then 58 (58 ∷ []) (TheWord (codes "self")) ∷ Then 58 (58 ∷ [])
+    (TheWord (codes "super")) ∷ Then 58 (58 ∷ []) (TheWord (codes "crate")) ∷ Then 58 (58 ∷ []) (AnyWord is_ident) ∷
+    Then 58 (58 ∷ []) (TheWord (codes "Self")) ∷ TheWord (codes "self") ∷ TheWord (codes "super") ∷ TheWord
+    (codes "crate") ∷ AnyWord is_ident ∷ TheWord (codes "Self") ∷ []
+starts (AnyPath InType) = Sign 60 [] ∷ Then 58 (58 ∷ []) (TheWord (codes "self")) ∷ Then 58 (58 ∷ [])
+    (TheWord (codes "super")) ∷ Then 58 (58 ∷ []) (TheWord (codes "crate")) ∷ Then 58 (58 ∷ []) (AnyWord is_ident) ∷
+    Then 58 (58 ∷ []) (TheWord (codes "Self")) ∷ TheWord (codes "self") ∷ TheWord (codes "super") ∷ TheWord
+    (codes "crate") ∷ AnyWord is_ident ∷ TheWord (codes "Self") ∷ []
+starts (AnyPath AtType) = Sign 60 [] ∷ Then 58 (58 ∷ []) (TheWord (codes "self")) ∷ Then 58 (58 ∷ [])
+    (TheWord (codes "super")) ∷ Then 58 (58 ∷ []) (TheWord (codes "crate")) ∷ Then 58 (58 ∷ []) (AnyWord is_ident) ∷
+    Then 58 (58 ∷ []) (TheWord (codes "Self")) ∷ TheWord (codes "self") ∷ TheWord (codes "super") ∷ TheWord
+    (codes "crate") ∷ AnyWord is_ident ∷ TheWord (codes "Self") ∷ []
+starts Arguments = Then 58 (58 ∷ []) (Sign 60 []) ∷ Sign 60 [] ∷ []
+starts AnArgument = Tick ∷ Quoted any_text ∷ TheWord (codes "true") ∷ TheWord (codes "false") ∷ Opening Brace ∷
+    AnyWord is_ident ∷ Opening Parenthesis ∷ Sign 33 [] ∷ Sign 38 [] ∷ Sign 42 [] ∷ Opening Bracket ∷ TheWord
+    (codes "_") ∷ TheWord (codes "dyn") ∷ TheWord (codes "impl") ∷ TheWord (codes "for") ∷ TheWord (codes "unsafe") ∷
+    TheWord (codes "extern") ∷ TheWord (codes "fn") ∷ Sign 60 [] ∷ Then 58 (58 ∷ []) (TheWord (codes "self")) ∷ Then
+    58 (58 ∷ []) (TheWord (codes "super")) ∷ Then 58 (58 ∷ []) (TheWord (codes "crate")) ∷ Then 58 (58 ∷ [])
+    (AnyWord is_ident) ∷ Then 58 (58 ∷ []) (TheWord (codes "Self")) ∷ TheWord (codes "self") ∷ TheWord
+    (codes "super") ∷ TheWord (codes "crate") ∷ AnyWord is_ident ∷ TheWord (codes "Self") ∷ []
+starts ParenthesizedArguments = Opening Parenthesis ∷ []
+starts AMacro = Then 58 (58 ∷ []) (TheWord (codes "self")) ∷ Then 58 (58 ∷ []) (TheWord (codes "super")) ∷ Then 58
+    (58 ∷ []) (TheWord (codes "crate")) ∷ Then 58 (58 ∷ []) (AnyWord is_ident) ∷ Then 58 (58 ∷ [])
+    (TheWord (codes "Self")) ∷ TheWord (codes "self") ∷ TheWord (codes "super") ∷ TheWord (codes "crate") ∷ AnyWord
+    is_ident ∷ TheWord (codes "Self") ∷ []
+starts Delimited = Opening Parenthesis ∷ Opening Brace ∷ Opening Bracket ∷ []
+starts Member = AnyWord is_ident ∷ Quoted is_index ∷ []
+starts Index = Quoted is_index ∷ []
+starts (AType WithPlus) = Opening Parenthesis ∷ Sign 33 [] ∷ Sign 38 [] ∷ Sign 42 [] ∷ Opening Bracket ∷ TheWord
+    (codes "_") ∷ TheWord (codes "dyn") ∷ TheWord (codes "impl") ∷ TheWord (codes "for") ∷ TheWord (codes "unsafe") ∷
+    TheWord (codes "extern") ∷ TheWord (codes "fn") ∷ Sign 60 [] ∷ Then 58 (58 ∷ []) (TheWord (codes "self")) ∷ Then
+    58 (58 ∷ []) (TheWord (codes "super")) ∷ Then 58 (58 ∷ []) (TheWord (codes "crate")) ∷ Then 58 (58 ∷ [])
+    (AnyWord is_ident) ∷ Then 58 (58 ∷ []) (TheWord (codes "Self")) ∷ TheWord (codes "self") ∷ TheWord
+    (codes "super") ∷ TheWord (codes "crate") ∷ AnyWord is_ident ∷ TheWord (codes "Self") ∷ []
+starts (AType WithoutPlus) = Opening Parenthesis ∷ Sign 33 [] ∷ Sign 38 [] ∷ Sign 42 [] ∷ Opening Bracket ∷ TheWord
+    (codes "_") ∷ TheWord (codes "dyn") ∷ TheWord (codes "impl") ∷ TheWord (codes "for") ∷ TheWord (codes "unsafe") ∷
+    TheWord (codes "extern") ∷ TheWord (codes "fn") ∷ Sign 60 [] ∷ Then 58 (58 ∷ []) (TheWord (codes "self")) ∷ Then
+    58 (58 ∷ []) (TheWord (codes "super")) ∷ Then 58 (58 ∷ []) (TheWord (codes "crate")) ∷ Then 58 (58 ∷ [])
+    (AnyWord is_ident) ∷ Then 58 (58 ∷ []) (TheWord (codes "Self")) ∷ TheWord (codes "self") ∷ TheWord
+    (codes "super") ∷ TheWord (codes "crate") ∷ AnyWord is_ident ∷ TheWord (codes "Self") ∷ []
+starts (DynType WithPlus) = TheWord (codes "dyn") ∷ []
+starts (DynType WithoutPlus) = TheWord (codes "dyn") ∷ []
+starts (ImplType WithPlus) = TheWord (codes "impl") ∷ []
+starts (ImplType WithoutPlus) = TheWord (codes "impl") ∷ []
+starts (ReturnType WithPlus) = Sign 45 (62 ∷ []) ∷ []
+starts (ReturnType WithoutPlus) = Sign 45 (62 ∷ []) ∷ []
+starts TupleType = Opening Parenthesis ∷ []
+starts NeverType = Sign 33 [] ∷ []
+starts ReferenceType = Sign 38 [] ∷ []
+starts PointerType = Sign 42 [] ∷ []
+starts BracketType = Opening Bracket ∷ []
+starts InferType = TheWord (codes "_") ∷ []
+starts FnPtrType = TheWord (codes "for") ∷ TheWord (codes "unsafe") ∷ TheWord (codes "extern") ∷ TheWord (codes "fn")
+    ∷ []
+starts FnPtrArg = Then 35 [] (Opening Bracket) ∷ TheWord (codes "_") ∷ AnyWord is_ident ∷ Opening Parenthesis ∷ Sign
+    33 [] ∷ Sign 38 [] ∷ Sign 42 [] ∷ Opening Bracket ∷ TheWord (codes "_") ∷ TheWord (codes "dyn") ∷ TheWord
+    (codes "impl") ∷ TheWord (codes "for") ∷ TheWord (codes "unsafe") ∷ TheWord (codes "extern") ∷ TheWord
+    (codes "fn") ∷ Sign 60 [] ∷ Then 58 (58 ∷ []) (TheWord (codes "self")) ∷ Then 58 (58 ∷ [])
+    (TheWord (codes "super")) ∷ Then 58 (58 ∷ []) (TheWord (codes "crate")) ∷ Then 58 (58 ∷ []) (AnyWord is_ident) ∷
+    Then 58 (58 ∷ []) (TheWord (codes "Self")) ∷ TheWord (codes "self") ∷ TheWord (codes "super") ∷ TheWord
+    (codes "crate") ∷ AnyWord is_ident ∷ TheWord (codes "Self") ∷ []
+starts SomeBounds = Tick ∷ Sign 63 [] ∷ TheWord (codes "for") ∷ Then 58 (58 ∷ []) (TheWord (codes "self")) ∷ Then 58
+    (58 ∷ []) (TheWord (codes "super")) ∷ Then 58 (58 ∷ []) (TheWord (codes "crate")) ∷ Then 58 (58 ∷ [])
+    (AnyWord is_ident) ∷ Then 58 (58 ∷ []) (TheWord (codes "Self")) ∷ TheWord (codes "self") ∷ TheWord
+    (codes "super") ∷ TheWord (codes "crate") ∷ AnyWord is_ident ∷ TheWord (codes "Self") ∷ []
+starts Bounds = Tick ∷ Sign 63 [] ∷ TheWord (codes "for") ∷ Then 58 (58 ∷ []) (TheWord (codes "self")) ∷ Then 58
+    (58 ∷ []) (TheWord (codes "super")) ∷ Then 58 (58 ∷ []) (TheWord (codes "crate")) ∷ Then 58 (58 ∷ [])
+    (AnyWord is_ident) ∷ Then 58 (58 ∷ []) (TheWord (codes "Self")) ∷ TheWord (codes "self") ∷ TheWord
+    (codes "super") ∷ TheWord (codes "crate") ∷ AnyWord is_ident ∷ TheWord (codes "Self") ∷ []
+starts Bound = Tick ∷ Sign 63 [] ∷ TheWord (codes "for") ∷ Then 58 (58 ∷ []) (TheWord (codes "self")) ∷ Then 58
+    (58 ∷ []) (TheWord (codes "super")) ∷ Then 58 (58 ∷ []) (TheWord (codes "crate")) ∷ Then 58 (58 ∷ [])
+    (AnyWord is_ident) ∷ Then 58 (58 ∷ []) (TheWord (codes "Self")) ∷ TheWord (codes "self") ∷ TheWord
+    (codes "super") ∷ TheWord (codes "crate") ∷ AnyWord is_ident ∷ TheWord (codes "Self") ∷ []
+starts TraitPath = Sign 63 [] ∷ TheWord (codes "for") ∷ Then 58 (58 ∷ []) (TheWord (codes "self")) ∷ Then 58
+    (58 ∷ []) (TheWord (codes "super")) ∷ Then 58 (58 ∷ []) (TheWord (codes "crate")) ∷ Then 58 (58 ∷ [])
+    (AnyWord is_ident) ∷ Then 58 (58 ∷ []) (TheWord (codes "Self")) ∷ TheWord (codes "self") ∷ TheWord
+    (codes "super") ∷ TheWord (codes "crate") ∷ AnyWord is_ident ∷ TheWord (codes "Self") ∷ []
+starts BoundLifetimes = TheWord (codes "for") ∷ []
+starts Lifetimes = Tick ∷ []
+starts Abi = TheWord (codes "extern") ∷ []
+starts Pattern = Sign 124 [] ∷ TheWord (codes "ref") ∷ TheWord (codes "mut") ∷ AnyWord is_ident ∷ TheWord (codes "_")
+    ∷ Sign 46 (46 ∷ 61 ∷ []) ∷ Sign 46 (46 ∷ []) ∷ Sign 46 (46 ∷ []) ∷ Opening Parenthesis ∷ Opening Bracket ∷ Sign
+    38 [] ∷ Sign 45 [] ∷ Quoted any_text ∷ TheWord (codes "true") ∷ TheWord (codes "false") ∷ Sign 60 [] ∷ Then 58
+    (58 ∷ []) (TheWord (codes "self")) ∷ Then 58 (58 ∷ []) (TheWord (codes "super")) ∷ Then 58 (58 ∷ [])
+    (TheWord (codes "crate")) ∷ Then 58 (58 ∷ []) (AnyWord is_ident) ∷ Then 58 (58 ∷ []) (TheWord (codes "Self")) ∷
+    TheWord (codes "self") ∷ TheWord (codes "super") ∷ TheWord (codes "crate") ∷ AnyWord is_ident ∷ TheWord
+    (codes "Self") ∷ []
+starts SeveralPatterns = TheWord (codes "ref") ∷ TheWord (codes "mut") ∷ AnyWord is_ident ∷ TheWord (codes "_") ∷
+    Sign 46 (46 ∷ 61 ∷ []) ∷ Sign 46 (46 ∷ []) ∷ Sign 46 (46 ∷ []) ∷ Opening Parenthesis ∷ Opening Bracket ∷ Sign 38
+    [] ∷ Sign 45 [] ∷ Quoted any_text ∷ TheWord (codes "true") ∷ TheWord (codes "false") ∷ Sign 60 [] ∷ Then 58
+    (58 ∷ []) (TheWord (codes "self")) ∷ Then 58 (58 ∷ []) (TheWord (codes "super")) ∷ Then 58 (58 ∷ [])
+    (TheWord (codes "crate")) ∷ Then 58 (58 ∷ []) (AnyWord is_ident) ∷ Then 58 (58 ∷ []) (TheWord (codes "Self")) ∷
+    TheWord (codes "self") ∷ TheWord (codes "super") ∷ TheWord (codes "crate") ∷ AnyWord is_ident ∷ TheWord
+    (codes "Self") ∷ []
+starts OnePattern = TheWord (codes "ref") ∷ TheWord (codes "mut") ∷ AnyWord is_ident ∷ TheWord (codes "_") ∷ Sign 46
+    (46 ∷ 61 ∷ []) ∷ Sign 46 (46 ∷ []) ∷ Sign 46 (46 ∷ []) ∷ Opening Parenthesis ∷ Opening Bracket ∷ Sign 38 [] ∷
+    Sign 45 [] ∷ Quoted any_text ∷ TheWord (codes "true") ∷ TheWord (codes "false") ∷ Sign 60 [] ∷ Then 58 (58 ∷ [])
+    (TheWord (codes "self")) ∷ Then 58 (58 ∷ []) (TheWord (codes "super")) ∷ Then 58 (58 ∷ [])
+    (TheWord (codes "crate")) ∷ Then 58 (58 ∷ []) (AnyWord is_ident) ∷ Then 58 (58 ∷ []) (TheWord (codes "Self")) ∷
+    TheWord (codes "self") ∷ TheWord (codes "super") ∷ TheWord (codes "crate") ∷ AnyWord is_ident ∷ TheWord
+    (codes "Self") ∷ []
+starts IdentPattern = TheWord (codes "ref") ∷ TheWord (codes "mut") ∷ AnyWord is_ident ∷ []
+starts WildPattern = TheWord (codes "_") ∷ []
+starts RangeToPattern = Sign 46 (46 ∷ 61 ∷ []) ∷ Sign 46 (46 ∷ []) ∷ []
+starts RestPattern = Sign 46 (46 ∷ []) ∷ []
+starts TuplePattern = Opening Parenthesis ∷ []
+starts SlicePattern = Opening Bracket ∷ []
+starts ReferencePattern = Sign 38 [] ∷ []
+starts LiteralPattern = Sign 45 [] ∷ Quoted any_text ∷ TheWord (codes "true") ∷ TheWord (codes "false") ∷ []
+starts PathPattern = Sign 60 [] ∷ Then 58 (58 ∷ []) (TheWord (codes "self")) ∷ Then 58 (58 ∷ [])
+    (TheWord (codes "super")) ∷ Then 58 (58 ∷ []) (TheWord (codes "crate")) ∷ Then 58 (58 ∷ []) (AnyWord is_ident) ∷
+    Then 58 (58 ∷ []) (TheWord (codes "Self")) ∷ TheWord (codes "self") ∷ TheWord (codes "super") ∷ TheWord
+    (codes "crate") ∷ AnyWord is_ident ∷ TheWord (codes "Self") ∷ []
+starts RangeEnd = Sign 46 (46 ∷ 61 ∷ []) ∷ Sign 46 (46 ∷ []) ∷ []
+starts RangeBound = Sign 45 [] ∷ Quoted any_text ∷ TheWord (codes "true") ∷ TheWord (codes "false") ∷ Sign 60 [] ∷
+    Then 58 (58 ∷ []) (TheWord (codes "self")) ∷ Then 58 (58 ∷ []) (TheWord (codes "super")) ∷ Then 58 (58 ∷ [])
+    (TheWord (codes "crate")) ∷ Then 58 (58 ∷ []) (AnyWord is_ident) ∷ Then 58 (58 ∷ []) (TheWord (codes "Self")) ∷
+    TheWord (codes "self") ∷ TheWord (codes "super") ∷ TheWord (codes "crate") ∷ AnyWord is_ident ∷ TheWord
+    (codes "Self") ∷ []
+starts FieldPatterns = Opening Brace ∷ []
+starts FieldPattern = Then 35 [] (Opening Bracket) ∷ Sign 46 (46 ∷ []) ∷ AnyWord is_ident ∷ Quoted is_index ∷ TheWord
+    (codes "ref") ∷ TheWord (codes "mut") ∷ AnyWord is_ident ∷ []
+starts OuterAttributes = Then 35 [] (Opening Bracket) ∷ []
+starts OuterAttribute = Then 35 [] (Opening Bracket) ∷ []
+starts InnerAttributes = Then 35 [] (Sign 33 []) ∷ []
+starts InnerAttribute = Then 35 [] (Sign 33 []) ∷ []
+starts Meta = TheWord (codes "unsafe") ∷ Then 58 (58 ∷ []) (TheWord (codes "self")) ∷ Then 58 (58 ∷ [])
+    (TheWord (codes "super")) ∷ Then 58 (58 ∷ []) (TheWord (codes "crate")) ∷ Then 58 (58 ∷ []) (AnyWord is_ident) ∷
+    Then 58 (58 ∷ []) (TheWord (codes "Self")) ∷ TheWord (codes "self") ∷ TheWord (codes "super") ∷ TheWord
+    (codes "crate") ∷ AnyWord is_ident ∷ TheWord (codes "Self") ∷ []
+starts Generics = Sign 60 [] ∷ []
+starts ImplGenerics = Sign 60 [] ∷ []
+starts GenericParams = Then 35 [] (Opening Bracket) ∷ Tick ∷ Then 35 [] (Opening Bracket) ∷ TheWord (codes "const") ∷
+    Then 35 [] (Opening Bracket) ∷ AnyWord is_ident ∷ []
+starts GenericParam = Then 35 [] (Opening Bracket) ∷ Tick ∷ Then 35 [] (Opening Bracket) ∷ TheWord (codes "const") ∷
+    Then 35 [] (Opening Bracket) ∷ AnyWord is_ident ∷ []
+starts LifetimeParam = Then 35 [] (Opening Bracket) ∷ Tick ∷ []
+starts LifetimeColon = Sign 58 [] ∷ []
+starts ConstParam = Then 35 [] (Opening Bracket) ∷ TheWord (codes "const") ∷ []
+starts TypeParam = Then 35 [] (Opening Bracket) ∷ AnyWord is_ident ∷ []
+starts BoundsColon = Sign 58 [] ∷ []
+starts Where = TheWord (codes "where") ∷ []
+starts WhereClause = TheWord (codes "where") ∷ []
+starts WherePredicate = Tick ∷ TheWord (codes "for") ∷ Opening Parenthesis ∷ Sign 33 [] ∷ Sign 38 [] ∷ Sign 42 [] ∷
+    Opening Bracket ∷ TheWord (codes "_") ∷ TheWord (codes "dyn") ∷ TheWord (codes "impl") ∷ TheWord (codes "for") ∷
+    TheWord (codes "unsafe") ∷ TheWord (codes "extern") ∷ TheWord (codes "fn") ∷ Sign 60 [] ∷ Then 58 (58 ∷ [])
+    (TheWord (codes "self")) ∷ Then 58 (58 ∷ []) (TheWord (codes "super")) ∷ Then 58 (58 ∷ [])
+    (TheWord (codes "crate")) ∷ Then 58 (58 ∷ []) (AnyWord is_ident) ∷ Then 58 (58 ∷ []) (TheWord (codes "Self")) ∷
+    TheWord (codes "self") ∷ TheWord (codes "super") ∷ TheWord (codes "crate") ∷ AnyWord is_ident ∷ TheWord
+    (codes "Self") ∷ []
+starts Visibility = TheWord (codes "pub") ∷ []
+starts NamedFields = Opening Brace ∷ []
+starts UnnamedFields = Opening Parenthesis ∷ []
+starts NamedField = Then 35 [] (Opening Bracket) ∷ TheWord (codes "pub") ∷ TheWord (codes "_") ∷ AnyWord is_ident ∷ []
+starts UnnamedField = Then 35 [] (Opening Bracket) ∷ TheWord (codes "pub") ∷ Opening Parenthesis ∷ Sign 33 [] ∷ Sign
+    38 [] ∷ Sign 42 [] ∷ Opening Bracket ∷ TheWord (codes "_") ∷ TheWord (codes "dyn") ∷ TheWord (codes "impl") ∷
+    TheWord (codes "for") ∷ TheWord (codes "unsafe") ∷ TheWord (codes "extern") ∷ TheWord (codes "fn") ∷ Sign 60 [] ∷
+    Then 58 (58 ∷ []) (TheWord (codes "self")) ∷ Then 58 (58 ∷ []) (TheWord (codes "super")) ∷ Then 58 (58 ∷ [])
+    (TheWord (codes "crate")) ∷ Then 58 (58 ∷ []) (AnyWord is_ident) ∷ Then 58 (58 ∷ []) (TheWord (codes "Self")) ∷
+    TheWord (codes "self") ∷ TheWord (codes "super") ∷ TheWord (codes "crate") ∷ AnyWord is_ident ∷ TheWord
+    (codes "Self") ∷ []
+starts Variant = Then 35 [] (Opening Bracket) ∷ AnyWord is_ident ∷ []
+starts AStruct = TheWord (codes "struct") ∷ []
+starts AnEnum = TheWord (codes "enum") ∷ []
+starts AUnion = TheWord (codes "union") ∷ []
+starts AStatic = TheWord (codes "static") ∷ []
+starts AConst = TheWord (codes "const") ∷ []
+starts AnExternCrate = TheWord (codes "extern") ∷ []
+starts AUse = TheWord (codes "use") ∷ []
+starts UseTop = Then 58 (58 ∷ []) (Opening Brace) ∷ Then 58 (58 ∷ []) (Sign 42 []) ∷ Then 58 (58 ∷ [])
+    (TheWord (codes "self")) ∷ Then 58 (58 ∷ []) (TheWord (codes "super")) ∷ Then 58 (58 ∷ [])
+    (TheWord (codes "crate")) ∷ Then 58 (58 ∷ []) (TheWord (codes "try")) ∷ Then 58 (58 ∷ []) (AnyWord is_ident) ∷
+    Opening Brace ∷ Sign 42 [] ∷ TheWord (codes "self") ∷ TheWord (codes "super") ∷ TheWord (codes "crate") ∷ TheWord
+    (codes "try") ∷ AnyWord is_ident ∷ []
+starts UseTree = Opening Brace ∷ Sign 42 [] ∷ TheWord (codes "self") ∷ TheWord (codes "super") ∷ TheWord
+    (codes "crate") ∷ TheWord (codes "try") ∷ AnyWord is_ident ∷ []
+starts UseBranch = Sign 42 [] ∷ TheWord (codes "self") ∷ TheWord (codes "super") ∷ TheWord (codes "crate") ∷ TheWord
+    (codes "try") ∷ AnyWord is_ident ∷ []
+starts UseRooted = Opening Brace ∷ Sign 42 [] ∷ TheWord (codes "self") ∷ TheWord (codes "super") ∷ TheWord
+    (codes "crate") ∷ TheWord (codes "try") ∷ AnyWord is_ident ∷ []
+starts Parameters = Opening Parenthesis ∷ []
+starts Parameter = Then 35 [] (Opening Bracket) ∷ Sign 38 [] ∷ TheWord (codes "mut") ∷ TheWord (codes "self") ∷ Sign
+    46 (46 ∷ 46 ∷ []) ∷ Opening Parenthesis ∷ Sign 33 [] ∷ Sign 38 [] ∷ Sign 42 [] ∷ Opening Bracket ∷ TheWord
+    (codes "_") ∷ TheWord (codes "dyn") ∷ TheWord (codes "impl") ∷ TheWord (codes "for") ∷ TheWord (codes "unsafe") ∷
+    TheWord (codes "extern") ∷ TheWord (codes "fn") ∷ Sign 60 [] ∷ Then 58 (58 ∷ []) (TheWord (codes "self")) ∷ Then
+    58 (58 ∷ []) (TheWord (codes "super")) ∷ Then 58 (58 ∷ []) (TheWord (codes "crate")) ∷ Then 58 (58 ∷ [])
+    (AnyWord is_ident) ∷ Then 58 (58 ∷ []) (TheWord (codes "Self")) ∷ TheWord (codes "self") ∷ TheWord
+    (codes "super") ∷ TheWord (codes "crate") ∷ AnyWord is_ident ∷ TheWord (codes "Self") ∷ TheWord (codes "ref") ∷
+    TheWord (codes "mut") ∷ AnyWord is_ident ∷ TheWord (codes "_") ∷ Sign 46 (46 ∷ 61 ∷ []) ∷ Sign 46 (46 ∷ []) ∷
+    Sign 46 (46 ∷ []) ∷ Opening Parenthesis ∷ Opening Bracket ∷ Sign 38 [] ∷ Sign 45 [] ∷ Quoted any_text ∷ TheWord
+    (codes "true") ∷ TheWord (codes "false") ∷ Sign 60 [] ∷ Then 58 (58 ∷ []) (TheWord (codes "self")) ∷ Then 58
+    (58 ∷ []) (TheWord (codes "super")) ∷ Then 58 (58 ∷ []) (TheWord (codes "crate")) ∷ Then 58 (58 ∷ [])
+    (AnyWord is_ident) ∷ Then 58 (58 ∷ []) (TheWord (codes "Self")) ∷ TheWord (codes "self") ∷ TheWord
+    (codes "super") ∷ TheWord (codes "crate") ∷ AnyWord is_ident ∷ TheWord (codes "Self") ∷ []
+starts FnArg = Then 35 [] (Opening Bracket) ∷ Sign 38 [] ∷ TheWord (codes "mut") ∷ TheWord (codes "self") ∷ Sign 46
+    (46 ∷ 46 ∷ []) ∷ Opening Parenthesis ∷ Sign 33 [] ∷ Sign 38 [] ∷ Sign 42 [] ∷ Opening Bracket ∷ TheWord
+    (codes "_") ∷ TheWord (codes "dyn") ∷ TheWord (codes "impl") ∷ TheWord (codes "for") ∷ TheWord (codes "unsafe") ∷
+    TheWord (codes "extern") ∷ TheWord (codes "fn") ∷ Sign 60 [] ∷ Then 58 (58 ∷ []) (TheWord (codes "self")) ∷ Then
+    58 (58 ∷ []) (TheWord (codes "super")) ∷ Then 58 (58 ∷ []) (TheWord (codes "crate")) ∷ Then 58 (58 ∷ [])
+    (AnyWord is_ident) ∷ Then 58 (58 ∷ []) (TheWord (codes "Self")) ∷ TheWord (codes "self") ∷ TheWord
+    (codes "super") ∷ TheWord (codes "crate") ∷ AnyWord is_ident ∷ TheWord (codes "Self") ∷ TheWord (codes "ref") ∷
+    TheWord (codes "mut") ∷ AnyWord is_ident ∷ TheWord (codes "_") ∷ Sign 46 (46 ∷ 61 ∷ []) ∷ Sign 46 (46 ∷ []) ∷
+    Sign 46 (46 ∷ []) ∷ Opening Parenthesis ∷ Opening Bracket ∷ Sign 38 [] ∷ Sign 45 [] ∷ Quoted any_text ∷ TheWord
+    (codes "true") ∷ TheWord (codes "false") ∷ Sign 60 [] ∷ Then 58 (58 ∷ []) (TheWord (codes "self")) ∷ Then 58
+    (58 ∷ []) (TheWord (codes "super")) ∷ Then 58 (58 ∷ []) (TheWord (codes "crate")) ∷ Then 58 (58 ∷ [])
+    (AnyWord is_ident) ∷ Then 58 (58 ∷ []) (TheWord (codes "Self")) ∷ TheWord (codes "self") ∷ TheWord
+    (codes "super") ∷ TheWord (codes "crate") ∷ AnyWord is_ident ∷ TheWord (codes "Self") ∷ []
+starts Receiver = Sign 38 [] ∷ TheWord (codes "mut") ∷ TheWord (codes "self") ∷ []
+starts (Signature InFile) = TheWord (codes "const") ∷ TheWord (codes "async") ∷ TheWord (codes "unsafe") ∷ TheWord
+    (codes "extern") ∷ TheWord (codes "fn") ∷ []
+starts (Signature InForeign) = TheWord (codes "const") ∷ TheWord (codes "async") ∷ TheWord (codes "unsafe") ∷ TheWord
+    (codes "safe") ∷ TheWord (codes "extern") ∷ TheWord (codes "fn") ∷ []
+starts (Signature InTrait) = TheWord (codes "const") ∷ TheWord (codes "async") ∷ TheWord (codes "unsafe") ∷ TheWord
+    (codes "extern") ∷ TheWord (codes "fn") ∷ []
+starts (Signature InImpl) = TheWord (codes "const") ∷ TheWord (codes "async") ∷ TheWord (codes "unsafe") ∷ TheWord
+    (codes "extern") ∷ TheWord (codes "fn") ∷ []
+starts (AFunction InFile) = TheWord (codes "const") ∷ TheWord (codes "async") ∷ TheWord (codes "unsafe") ∷ TheWord
+    (codes "extern") ∷ TheWord (codes "fn") ∷ []
+starts (AFunction InForeign) = TheWord (codes "const") ∷ TheWord (codes "async") ∷ TheWord (codes "unsafe") ∷ TheWord
+    (codes "safe") ∷ TheWord (codes "extern") ∷ TheWord (codes "fn") ∷ []
+starts (AFunction InTrait) = TheWord (codes "const") ∷ TheWord (codes "async") ∷ TheWord (codes "unsafe") ∷ TheWord
+    (codes "extern") ∷ TheWord (codes "fn") ∷ []
+starts (AFunction InImpl) = TheWord (codes "const") ∷ TheWord (codes "async") ∷ TheWord (codes "unsafe") ∷ TheWord
+    (codes "extern") ∷ TheWord (codes "fn") ∷ []
+starts (ATypeAlias InTrait) = TheWord (codes "type") ∷ []
+starts (ATypeAlias InImpl) = TheWord (codes "type") ∷ []
+starts (ItemMacro InFile) = Then 58 (58 ∷ []) (TheWord (codes "self")) ∷ Then 58 (58 ∷ []) (TheWord (codes "super"))
+    ∷ Then 58 (58 ∷ []) (TheWord (codes "crate")) ∷ Then 58 (58 ∷ []) (AnyWord is_ident) ∷ Then 58 (58 ∷ [])
+    (TheWord (codes "Self")) ∷ TheWord (codes "self") ∷ TheWord (codes "super") ∷ TheWord (codes "crate") ∷ AnyWord
+    is_ident ∷ TheWord (codes "Self") ∷ []
+starts (ItemMacro InForeign) = Then 58 (58 ∷ []) (TheWord (codes "self")) ∷ Then 58 (58 ∷ [])
+    (TheWord (codes "super")) ∷ Then 58 (58 ∷ []) (TheWord (codes "crate")) ∷ Then 58 (58 ∷ []) (AnyWord is_ident) ∷
+    Then 58 (58 ∷ []) (TheWord (codes "Self")) ∷ TheWord (codes "self") ∷ TheWord (codes "super") ∷ TheWord
+    (codes "crate") ∷ AnyWord is_ident ∷ TheWord (codes "Self") ∷ []
+starts (ItemMacro InTrait) = Then 58 (58 ∷ []) (TheWord (codes "self")) ∷ Then 58 (58 ∷ []) (TheWord (codes "super"))
+    ∷ Then 58 (58 ∷ []) (TheWord (codes "crate")) ∷ Then 58 (58 ∷ []) (AnyWord is_ident) ∷ Then 58 (58 ∷ [])
+    (TheWord (codes "Self")) ∷ TheWord (codes "self") ∷ TheWord (codes "super") ∷ TheWord (codes "crate") ∷ AnyWord
+    is_ident ∷ TheWord (codes "Self") ∷ []
+starts (ItemMacro InImpl) = Then 58 (58 ∷ []) (TheWord (codes "self")) ∷ Then 58 (58 ∷ []) (TheWord (codes "super"))
+    ∷ Then 58 (58 ∷ []) (TheWord (codes "crate")) ∷ Then 58 (58 ∷ []) (AnyWord is_ident) ∷ Then 58 (58 ∷ [])
+    (TheWord (codes "Self")) ∷ TheWord (codes "self") ∷ TheWord (codes "super") ∷ TheWord (codes "crate") ∷ AnyWord
+    is_ident ∷ TheWord (codes "Self") ∷ []
+starts Label = Tick ∷ []
+starts Body = Opening Brace ∷ []
+starts Block = Opening Brace ∷ []
+starts k = []

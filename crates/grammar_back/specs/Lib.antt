@@ -1,0 +1,3 @@
+pub mod Sees
+pub mod After
+pub mod Covered

@@ -1,0 +1,20 @@
+//! Normal forms are read back: the tokens of the normal form of a derived tree have a derived tree, of which
+//! that normal form is kept. It is proved of trees that are covered: that hold no expression, no raw item, and no
+//! kind whose step is not proved yet. There is no code.
+//!
+//! In `specs/`: `After` (what may follow a kind), `Covered` (the kinds whose steps are proved, and the trees that
+//! hold no others).
+//!
+//! The proof goes shape first. `Fits` says that a tree has the form of its entry, whatever the tests say, as it is
+//! printed; of a test that no shape shows, it has what was said (`IsMeant`). `Printed`: for each derived tree there
+//! is one that fits, and of which the normal form is kept; of the kinds where more than their parts is to be known,
+//! `KindLaws` has it, by `Tidied` (normal form tidies their parts), `Verdicts` (what was read is judged) and
+//! `Indices`. A `Step` of a kind (`Readies`): where the parts of a tree that fits are read back before what may
+//! follow them, so is the tree. `Fine` and `Parts` put steps together as the entries are, by what tokens begin with
+//! (`Classes`). Most steps are written by `tools/steps.py` from the entries (`StepsOf..`); the others are in
+//! `HandSteps`, and parts of entries where a second token decides in `Seconds`.
+//!
+//! - `laws`: the laws.
+#![tactic(auto)]
+
+pub mod laws;

@@ -1,0 +1,3 @@
+pub mod MarksBack
+pub mod NamesBack
+pub mod Rereading

@@ -1,0 +1,23 @@
+use Rattle.std.proofs.Common.{◌≡◌, arith, map}
+use Rattle.std.proofs.lemmas.Result.{IfOk-weaker}
+use Rattle.syn_kinds.specs.declared.punctuation.Punctuation.{Punctuation}
+use Rattle.syn_lists.specs.Lists.{separators, values}
+use Rattle.syn_buffer.specs.Leaves.{ident_token}
+use Rattle.list_laws.proofs.Rereading.{reread}
+use Rattle.list_laws.proofs.read_back.reread_three.Goals as goal
+
+pub returns-clause-names : goal.returns-clause-names
+returns-clause-names g c =
+    IfOk-weaker c.reread.result _ (λ back. map ident_token (values back) ≡ map ident_token (values c.args.list.now))
+    (λ back h. (reread (λ (p : Punctuation g.row.K 3). p.spans) g.row.K 3 (values c.args.list.now) (values back)
+    (separators c.args.list.now) (separators back) (omega arith) c.requires.places c.requires.separated h).0)
+    c.reread.ensures
+
+pub returns-clause-marks : goal.returns-clause-marks
+returns-clause-marks g c =
+    IfOk-weaker c.reread.result _
+    (λ back. map (λ (p : Punctuation g.row.K 3). p.spans) (separators back)
+    ≡ map (λ (p : Punctuation g.row.K 3). p.spans) (separators c.args.list.now))
+    (λ back h. (reread (λ (p : Punctuation g.row.K 3). p.spans) g.row.K 3 (values c.args.list.now) (values back)
+    (separators c.args.list.now) (separators back) (omega arith) c.requires.places c.requires.separated h).1)
+    c.reread.ensures

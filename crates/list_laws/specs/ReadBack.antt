@@ -1,0 +1,43 @@
+-- Lists of names with punctuations between them, as they are printed and as they are read.
+use Rattle.std.specs.Prelude.{◌≡◌, false, ℕ, List, [], ◌∷◌, ◌++◌, length}
+use Rattle.std.specs.List.{All}
+use Rattle.rust_map.specs.declared.span.Span.{Span}
+use Rattle.rust_leaf.specs.Leaf.{ident_text}
+use Rattle.rust_leaf.specs.declared.ident.Ident.{Ident}
+use Rattle.proc_macro2.specs.Token.{Spanned}
+use Rattle.syn_error.specs.Tokens.{Put}
+use Rattle.syn_kinds.specs.Table.{is_reserved, marks}
+use Rattle.syn_kinds.specs.Values.{marks_tokens}
+use Rattle.syn_lists.specs.Put.{put_list}
+use Rattle.syn_buffer.specs.Leaves.{ident_token}
+use Rattle.syn_peek.specs.Marks.{ReadsMarks}
+use Rattle.syn_input.specs.ReadLists.{Reading, ReadsList}
+
+-- a name is one token, and read from one that is no keyword
+abbrev pub put_name : Ident → Put
+put_name i tokens = tokens ++ ident_token i ∷ []
+
+abbrev pub reads_name : Reading Ident
+reads_name ts i us = (ts ≡ ident_token i ∷ us) × (is_reserved (ident_text i) ≡ false)
+
+abbrev pub AreNames : List Ident → Type 0
+AreNames vs = All (λ i. is_reserved (ident_text i) ≡ false) vs
+
+-- a punctuation of so many marks, by where they stand
+module _ (kind width : ℕ) where
+  abbrev pub put_marks : List Span → Put
+  put_marks spans tokens = tokens ++ marks_tokens (marks kind width) spans
+
+  abbrev pub reads_marks : Reading (List Span)
+  reads_marks ts spans us = ReadsMarks (marks kind width) spans ts us
+
+  abbrev pub ArePlaces : List (List Span) → Type 0
+  ArePlaces ps = All (λ spans. length spans ≡ width) ps
+
+  -- the tokens of a list of names and of punctuations
+  abbrev pub printed : List Ident → List (List Span) → List Spanned
+  printed vs ps = put_list put_name put_marks vs ps []
+
+  -- the list is read from the tokens, and nothing is left behind it
+  abbrev pub IsReadFrom : List Spanned → List Ident → List (List Span) → Type 0
+  IsReadFrom ts vs ps = ReadsList reads_name reads_marks ts vs ps []

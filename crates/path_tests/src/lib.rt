@@ -1,0 +1,16 @@
+//! Tests of the types of paths: a type that closes the recursion, and what is read, printed, compared and copied
+//! over it.
+//!
+//! - `never`: the type that closes the recursion.
+//! - `texts`: what is read of texts, and what is not.
+//! - `outputs`: what functions return.
+//! - `parenthesized`: arguments in parentheses.
+#![tactic(auto)]
+
+pub mod never;
+#[cfg(test)]
+mod outputs;
+#[cfg(test)]
+mod parenthesized;
+#[cfg(test)]
+mod texts;

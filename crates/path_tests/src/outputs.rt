@@ -1,0 +1,18 @@
+//! What functions return.
+
+use crate::never::Never;
+use crate::texts::{copies, reads, refuses};
+use std::test::Fail;
+use syn_path::ReturnType;
+
+#[test]
+fn outputs(rt: HostRuntime) -> Result<(), Fail> {
+    let alloc = rt.alloc();
+    reads::<ReturnType<Never>>(&rt, alloc, "", "")?;
+    reads::<ReturnType<Never>>(&rt, alloc, "->!", "-> !")?;
+    copies::<ReturnType<Never>>(&rt, alloc, "", "")?;
+    copies::<ReturnType<Never>>(&rt, alloc, "->!", "-> !")?;
+    refuses::<ReturnType<Never>>(&rt, alloc, "- > !");
+    refuses::<ReturnType<Never>>(&rt, alloc, "-> ! !");
+    Ok(())
+}

@@ -1,7 +1,0 @@
-use Rattle.std.proofs.Common.{arith}
-use Rattle.std.proofs.lemmas.List.{at_drop_all}
-use Rattle.rust_map.specs.Bytes.{begun}
-use Rattle.rust_map.proofs.tables.begun.Goals as goal
-
-pub returns : goal.returns
-returns c = let none = at_drop_all begun c.args.bytes.now c.loop-byte.byte-index c.loop-byte-test.false in omega arith

@@ -1,0 +1,7 @@
+mod Laid
+mod Putting
+mod Unsigned
+mod Standing
+mod Skipping
+pub mod Past
+mod OneGroup

@@ -1,0 +1,45 @@
+use Rattle.std.proofs.Common.{◌≡◌, suc, ap, sym, ◌∙◌, subst, List, ◌∷◌, ◌++◌, take, drop, IsTrue, arith, length, length-drop}
+use Rattle.proc_macro2.specs.Flat.{spanned}
+use Rattle.proc_macro2.specs.Groups.{IsMatched}
+use Rattle.proc_macro2.specs.Token.{Opens, Closes, Spanned}
+use Rattle.syn_buffer.specs.Entries.{is_laid, spanned_entries}
+use Rattle.syn_buffer.specs.Seen.{seen}
+use Rattle.syn_buffer.specs.declared.entry.Entry.{Entry}
+use Rattle.syn_buffer.proofs.Laid.{Opened, opened, borrowed_behind, group_seen, matched_seen, whole_is_laid}
+use Rattle.syn_buffer.proofs.position.Cursor.group_at.Goals as goal
+
+pub inside-inside-requires-clause-laid : goal.inside-inside-requires-clause-laid
+inside-inside-requires-clause-laid c =
+    let o = opened c.args.delimiter c.args.span c.args.count c.args.behind.now c.requires.laid in
+    whole_is_laid (take c.args.count c.args.behind.now) o.inside
+
+pub past-after-requires-clause-laid : goal.past-after-requires-clause-laid
+past-after-requires-clause-laid c =
+    let P : List Entry → Type 0 = λ es. IsTrue (is_laid es) in
+    subst P (sym (borrowed_behind c.args.behind.now c.args.count)) (opened c.args.delimiter c.args.span c.args.count c.args.behind.now c.requires.laid).behind
+
+pub returns : goal.returns
+returns c =
+    let d = c.args.delimiter in
+    let s = c.args.span in
+    let n = c.args.count in
+    let t : List Entry = c.args.behind.now in
+    let o : Opened d s n t = opened d s n t c.requires.laid in
+    let f : List Entry → List Spanned = λ es. seen (spanned_entries es) in
+    let inside : f c.inside-inside.result.entries.now ≡ f (take n t) = ap f c.inside-inside.ensures.entries in
+    let behind : f c.past-after.result.entries.now ≡ f (drop (suc n) t) = ap f (c.past-after.ensures.entries ∙ borrowed_behind t n) in
+    record {
+      group = record {
+        reads = c.requires.stands ∙ group_seen d s n t c.requires.visible o
+            ∙ ap (λ (x : List Spanned). spanned (Opens d) s ∷ x ++ spanned (Closes d) s ∷ f (drop (suc n) t)) (sym inside)
+            ∙ ap (λ (x : List Spanned). spanned (Opens d) s ∷ f c.inside-inside.result.entries.now ++ spanned (Closes d) s ∷ x) (sym behind);
+        whole = let P : List Spanned → Type 0 = λ x. IsMatched x in subst P (sym inside) (matched_seen (take n t) (whole_is_laid (take n t) o.inside));
+      };
+      same_buffer = ap (λ x. x.number) c.inside-inside.ensures.scope;
+      closer = ap (λ x. x.closer) c.inside-inside.ensures.scope;
+      closing = ap (λ x. x.closing) c.inside-inside.ensures.scope;
+      past = record {
+        same_list = c.past-after.ensures.scope;
+        further = omega (arith, ap (λ (x : List Entry). length x) (c.past-after.ensures.entries ∙ borrowed_behind t n), length-drop (suc n) t);
+      };
+    }

@@ -1,0 +1,13 @@
+pub mod Seen
+pub mod Unsigned
+pub mod Entries
+pub mod Standing
+pub mod Position
+pub mod Places
+pub mod Groups
+pub mod Puts
+pub mod Heads
+pub mod Stands
+pub mod Behind
+pub mod Leaves
+pub mod Lifetimes

@@ -1,0 +1,105 @@
+//! The tokens of a stream as one flat list, lent.
+
+ghost use Rattle.proc_macro2.specs.Flat.{group_tokens, tree_tokens, trees_tokens};
+ghost use Rattle.std.specs.Prelude.{[], ◌∷◌, ◌++◌, ◌-◌, ◌≡◌, ◌<◌, ◌≤◌, IfOk, IsTrue, OnOk, length, slice_set};
+ghost use Rattle.syn_buffer.specs.Entries.{is_whole, spanned_entries};
+ghost use Rattle.syn_buffer.specs.Puts.{Puts};
+ghost use Rattle.syn_buffer.specs.Unsigned.{are_unsigned};
+ghost use Rattle.syn_buffer.specs.declared.entry.Entry.TheVariants as marks;
+
+use crate::entry::Entry;
+use proc_macro2::delimiter::Delimiter;
+use proc_macro2::laws::each_stream;
+use proc_macro2::tree::{Group, TokenStream, TokenTree};
+use rust_map::span::Span;
+use std::alloc::{AllocError, Global};
+
+/// The tokens of a stream, lent, in one flat list in which each opening mark knows how many stand inside.
+#[derive(Drop)]
+pub struct TokenBuffer<'a> {
+    pub(crate) entries: Vec<Entry<'a>>,
+    pub(crate) number: usize,
+    ghost is_whole: { IsTrue (is_whole entries.items) },
+    ghost is_numbered: { 1 ≤ number },
+}
+
+// Puts the tokens of the trees behind the others.
+#[tactic(auto, using(crate::proofs::Putting::put_none, crate::proofs::Putting::put_more))]
+#[cycle(walking)]
+fn put_trees<'a>(entries: &mut Vec<Entry<'a>>, trees: &'a [TokenTree]) -> Result<(), AllocError>
+    requires { IsTrue (are_unsigned (trees_tokens trees.now)) }
+    ensures { OnOk result (Puts entries.old.items entries.new.items (trees_tokens trees.now)) }
+{
+    for tree in trees {
+        put_tree(entries, tree)?;
+    }
+    Ok(())
+}
+
+// Puts the tokens of the tree behind the others.
+#[tactic(auto, using(crate::proofs::Putting::put_one))]
+#[cycle(walking)]
+fn put_tree<'a>(entries: &mut Vec<Entry<'a>>, tree: &'a TokenTree) -> Result<(), AllocError>
+    requires { IsTrue (are_unsigned (tree_tokens tree.now)) }
+    ensures { OnOk result (Puts entries.old.items entries.new.items (tree_tokens tree.now)) }
+{
+    match tree {
+        TokenTree::Group(group) => put_group(entries, group),
+        TokenTree::Ident(ident) => Ok(entries.push(Entry::Ident(ident))?),
+        TokenTree::Punct(punct) => Ok(entries.push(Entry::Punct(punct))?),
+        TokenTree::Literal(literal) => Ok(entries.push(Entry::Literal(literal))?),
+    }
+}
+
+// Closes the group that opens at that index: writes there how many tokens stand inside, and puts the
+// closing mark.
+fn close(
+    entries: &mut Vec<Entry<'_>>,
+    at: usize,
+    delimiter: Delimiter,
+    span: Span,
+) -> Result<(), AllocError>
+    requires { at < length entries.old.items }
+    ensures { OnOk result (entries.new.items
+        ≡ slice_set entries.old.items at (marks.Open delimiter span (length entries.old.items - at - 1)) ++ marks.Close delimiter span ∷ []) }
+{
+    let inside = entries.len() - at - 1;
+    entries[at] = Entry::Open(delimiter, span, inside);
+    entries.push(Entry::Close(delimiter, span))?;
+    Ok(())
+}
+
+// Puts the tokens of the group behind the others.
+#[cycle(walking)]
+fn put_group<'a>(entries: &mut Vec<Entry<'a>>, group: &'a Group) -> Result<(), AllocError>
+    requires { IsTrue (are_unsigned (group_tokens group.now)) }
+    ensures { OnOk result (Puts entries.old.items entries.new.items (group_tokens group.now)) }
+{
+    let at = entries.len();
+    entries.push(Entry::Open(group.delimiter(), group.span(), 0))?;
+    put_trees(entries, group.stream_ref().trees())?;
+    close(entries, at, group.delimiter(), group.span())?;
+    Ok(())
+}
+
+impl<'a> TokenBuffer<'a> {
+    /// The tokens of the stream, in a buffer with that number, by which its places are told from those of
+    /// others.
+    ///
+    /// The error is that a growth was refused.
+    #[tactic(auto, using(crate::proofs::Unsigned::leaves_unsigned))]
+    pub fn new2(
+        alloc: Global,
+        stream: &'a TokenStream,
+        number: usize,
+    ) -> Result<TokenBuffer<'a>, AllocError>
+        requires { 1 ≤ number }
+        ensures tokens { IfOk result (λ buffer. spanned_entries buffer.entries.items ≡ stream.now) }
+        ensures number { IfOk result (λ buffer. buffer.number ≡ number) }
+    {
+        each_stream(stream);
+        let mut entries = Vec::new(alloc);
+        put_trees(&mut entries, stream.trees())?;
+        Ok(TokenBuffer { entries, number })
+    }
+}

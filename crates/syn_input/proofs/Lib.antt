@@ -1,0 +1,5 @@
+mod Closed
+mod Forks
+mod GroupTokens
+mod Wholes
+pub mod ReadPairs

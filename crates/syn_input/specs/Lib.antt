@@ -1,0 +1,9 @@
+pub mod Input
+pub mod Words
+pub mod Reads
+pub mod Whole
+pub mod Within
+pub mod ReadLists
+pub mod Lookaheads
+pub mod Steps
+pub mod Commands

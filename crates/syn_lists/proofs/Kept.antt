@@ -1,0 +1,40 @@
+-- Turns of a loop that moves what it keeps to the front.
+use Rattle.std.proofs.Common.{◌≡◌, ℕ, ◌+◌, ◌<◌, ◌≤◌, List, length, get_or, take, drop, set, swap, Bool, true, false}
+use Rattle.std.proofs.Common.{sym, ◌∙◌, arith, rules, length-set, drop-set-lt}
+use Rattle.std.proofs.lemmas.List.{same_lists, places, get_or-set_same, take-set}
+use Rattle.std.proofs.lemmas.List.Edits.{swap_is}
+use Rattle.std.proofs.lemmas.Bool.{cases_eq}
+use Rattle.std.proofs.RetainMut.{RetainMutInvariant, sift_on}
+
+module _ {X : Type 0} where
+  -- after a swap of k and i, the first k + 1 elements and those past i are as after a copy to k
+  front : (ys : List X) (k i : ℕ) (y : X) → k ≤ i → i < length ys
+      → take (k + 1) (set (set ys i y) k y) ≡ take (k + 1) (swap (set ys i y) k i)
+  front ys k i y le lt =
+      let long = length-set ys i y in
+      let swapped = swap_is (set ys i y) k i y (omega arith) (omega arith) in
+      rw (← swapped) (same_lists _ _ (search (rules, places))
+      (λ j d h. grind (arith, places, get_or-set_same, cases_eq j k, cases_eq j i)))
+
+  past : (ys : List X) (k i : ℕ) (y : X) → k ≤ i → i < length ys
+      → drop (i + 1) (set (set ys i y) k y) ≡ drop (i + 1) (swap (set ys i y) k i)
+  past ys k i y le lt =
+      let long = length-set ys i y in
+      let swapped = swap_is (set ys i y) k i y (omega arith) (omega arith) in
+      rw (← swapped) (drop-set-lt (i + 1) _ k y (omega arith)
+      ∙ sym (drop-set-lt (i + 1) _ i _ (omega arith) ∙ drop-set-lt (i + 1) _ k _ (omega arith)))
+
+module _ {S X : Type 0} (R : S → X → Bool → S → X → Type 0) (s₀ : S) (xs : List X) (s t : S)
+    (ys : List X) (k i : ℕ) (x y : X) (le : k ≤ i) (lt : i < length ys) (is : x ≡ get_or ys i x)
+    (h : RetainMutInvariant R s₀ xs s ys k i) where
+  pub kept_more : R s x true t y → RetainMutInvariant R s₀ xs t (swap (set ys i y) k i) (k + 1) (i + 1)
+  kept_more called =
+      let next = sift_on R s₀ xs s t ys k i x y le lt is h true called in
+      (sym (past ys k i y le lt) ∙ next.0, rw (← front ys k i y le lt) next.1)
+
+  pub let_go : R s x false t y → RetainMutInvariant R s₀ xs t (set ys i y) k (i + 1)
+  let_go called =
+      let next = sift_on R s₀ xs s t ys k i x y le lt is h false called in (
+        sym (drop-set-lt (i + 1) (set ys i y) k y (omega arith)) ∙ next.0,
+        rw (← take-set (set ys i y) k y) next.1,
+      )

@@ -1,0 +1,11 @@
+use Rattle.std.proofs.Common.{◌≤◌}
+use Rattle.std.specs.Fn.{CalledAtMut}
+use Rattle.std.proofs.RetainMut.{RetainMutInvariant}
+use Rattle.syn_lists.proofs.retain.keep_in_front.Given as goal
+
+abbrev pub invariant-loop-index : goal.invariant-loop-index
+invariant-loop-index g l = record {
+  few : l.kept ≤ l.index;
+  callable : goal.F-IsAlwaysCallable g l.keeps;
+  turns : RetainMutInvariant (CalledAtMut g.F.FnMut) l.initial.keeps l.initial.values l.keeps l.values l.kept l.index;
+}

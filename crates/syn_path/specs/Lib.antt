@@ -1,0 +1,2 @@
+pub mod InParentheses
+pub mod Outputs

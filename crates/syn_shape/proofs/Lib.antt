@@ -1,0 +1,3 @@
+pub mod Leaves
+pub mod Groups
+pub mod Looks

@@ -1,0 +1,3 @@
+pub mod Reads
+pub mod Leaves
+pub mod Children

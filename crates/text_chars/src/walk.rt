@@ -1,0 +1,124 @@
+//! On from a place of a text behind the characters that pass a test.
+
+ghost use Rattle.std.specs.List.{list_all};
+ghost use Rattle.std.specs.Prelude.{◌≡◌, ◌<◌};
+ghost use Rattle.text_chars.specs.Chars as chars;
+ghost use Rattle.text_chars.specs.Chars.{narrow};
+ghost use Rattle.text_chars.specs.Places.{IsFrom, IsPassed, IsPlace, rest_at};
+
+use crate::place::{char_at, next_char};
+
+// So many bytes are looked at together.
+const BLOCK: usize = 16;
+
+/// A test on characters.
+pub trait Test {
+    ghost use Rattle.std.specs.Prelude.{ℕ, Bool};
+
+    ghost test: { ℕ → Bool };
+
+    /// Whether a character passes.
+    fn passes(c: char) -> bool
+        ensures { result ≡ test c };
+
+    /// The same of a byte of ASCII; of another byte it says nothing. Where `passes` looks into tables, one that
+    /// only compares lets many bytes be seen at once.
+    #[inline(always)]
+    fn passes_byte(byte: u8) -> bool
+        ensures { byte < 128 → result ≡ test byte }
+    {
+        Self::passes(char::from(byte))
+    }
+}
+
+/// Whether a character that passes stands at a place.
+#[inline(always)]
+pub fn begins<T: Test>(text: &str, at: usize) -> bool
+    requires { IsPlace text.now at }
+    ensures { result ≡ chars.begins T.test (rest_at text.now at) }
+{
+    let Some((c, _)) = next_char(text, at) else {
+        return false;
+    };
+    T::passes(c)
+}
+
+/// The place behind the characters that pass.
+#[tactic(auto, using(crate::proofs::Steps::rest_end))]
+#[inline(always)]
+pub fn past<T: Test>(text: &str, start: usize) -> usize
+    requires { IsPlace text.now start }
+    ensures rest { rest_at text.now result ≡ chars.past T.test (rest_at text.now start) }
+    ensures from { IsFrom text.now start result }
+{
+    let mut at = start;
+    while at < text.len() {
+        let (c, next) = char_at(text, at);
+        if !T::passes(c) {
+            return at;
+        }
+        at = next;
+    }
+    at
+}
+
+// Whether bytes are characters of ASCII that pass. It looks at all of them, so that many are seen at once.
+#[tactic(auto, using(crate::proofs::Blocks::narrow_is))]
+#[inline(always)]
+fn all_pass<T: Test>(bytes: &[u8]) -> bool
+    ensures { result ≡ list_all (narrow T.test) bytes.now }
+{
+    let mut all = true;
+    for byte in bytes {
+        all &= (*byte < 128) & T::passes_byte(*byte);
+    }
+    all
+}
+
+/// A place behind characters of ASCII that pass, as long as whole blocks of them stand there: many at once.
+pub fn past_blocks<T: Test>(text: &str, start: usize) -> usize
+    requires { IsPlace text.now start }
+    ensures { IsPassed (narrow T.test) text.now start result }
+{
+    let bytes = text.as_bytes();
+    let mut at = start;
+    while bytes.len() - at >= BLOCK && all_pass::<T>(&bytes[at..at + BLOCK]) {
+        at += BLOCK;
+    }
+    at
+}
+
+/// The place behind the characters that pass, where there may be very many: by blocks behind the first of them, so
+/// that it costs nothing more where there are few.
+#[tactic(auto, using(crate::proofs::Steps::rest_end, crate::proofs::Blocks::past_behind))]
+#[inline(always)]
+pub fn past_long<T: Test>(text: &str, start: usize) -> usize
+    requires { IsPlace text.now start }
+    ensures rest { rest_at text.now result ≡ chars.past T.test (rest_at text.now start) }
+    ensures from { IsFrom text.now start result }
+{
+    let mut at = start;
+    while at < text.len() {
+        let (c, next) = char_at(text, at);
+        if !T::passes(c) {
+            return at;
+        }
+        at = next;
+        if at - start == BLOCK {
+            at = past_blocks::<T>(text, at);
+        }
+    }
+    at
+}
+
+/// The place behind the characters that pass, where there are many as a rule: by blocks from the first on.
+#[tactic(auto, using(crate::proofs::Blocks::past_behind))]
+#[inline(always)]
+pub fn past_many<T: Test>(text: &str, start: usize) -> usize
+    requires { IsPlace text.now start }
+    ensures rest { rest_at text.now result ≡ chars.past T.test (rest_at text.now start) }
+    ensures from { IsFrom text.now start result }
+{
+    let at = past_blocks::<T>(text, start);
+    past::<T>(text, at)
+}
