@@ -1,7 +1,7 @@
 //! What becomes of the map, by `canonical`.
 
 use canon::{Fault, canonical};
-use rust_map::SourceMap;
+use rust_map::{LineColumn, SourceMap};
 use std::test::Fail;
 
 #[test]
@@ -26,14 +26,8 @@ fn faults_have_their_place_in_their_own_text(rt: HostRuntime) -> Result<(), Fail
     for _ in 0..2 {
         match canonical(rt.alloc(), "m!{}\n é!x", &mut map) {
             Ok(answer) => panic!(rt; "gave {answer}"),
-            Err(
-                Fault::Syntax {
-                    error,
-                    place: Some(place),
-                },
-            ) => {
-                assert_eq!(rt; place.line, 2);
-                assert_eq!(rt; place.column, 3);
+            Err(Fault::Syntax { error, place }) => {
+                assert_eq!(rt; place, Some(LineColumn { line: 2, column: 3 }));
                 let words = error.to_string(rt.alloc())?;
                 assert_eq!(rt; words.as_str(), "expected curly braces");
             }
