@@ -19,14 +19,14 @@ use Rattle.rust_lex.specs.Piece.{IsIdent, IsLiteral, Fits}
 use Rattle.rust_lex.specs.Scan.{Ends, scan, word}
 use Rattle.rust_lex.proofs.Complete.{complete}
 use Rattle.rust_lex.proofs.Ends.{past_all, past_word}
-use Rattle.rust_lex.proofs.Fronts.{front-first, front-digit, r-first, quote-first}
+use Rattle.rust_lex.proofs.Fronts.{front-first, front-digit, r-first}
 use Rattle.rust_lex.proofs.Openers.{hashes_no_name, raw_mark_is}
 use Rattle.rust_lex.proofs.Raws.{raw_whole}
 use Rattle.rust_lex.proofs.Sound.{word_none, word_some, word_raw, suffixed_some}
 use Rattle.rust_lex.proofs.Taken.{option_cases}
 use Rattle.proc_macro2.specs.Spacing.{is_prefixed_string}
 use Rattle.rust_lex.specs.Calm.{IsCalm}
-use Rattle.rust_lex.proofs.Quieter.{Shuns, calm_shuns}
+use Rattle.rust_lex.proofs.Quieter.{Shuns, calm_shuns, not_char}
 
 shuns_tick_or_hash : Shuns is_tick_or_hash
 shuns_tick_or_hash = record { space = refl; round = refl; square = refl }
@@ -37,21 +37,16 @@ shuns_tick = record { space = refl; round = refl; square = refl }
 shuns_hash : Shuns (λ c. c == 35)
 shuns_hash = record { space = refl; round = refl; square = refl }
 
-hash-next : is_next 35 ≡ false
-unfolding is_next unicode_ident
-hash-next = refl
-
 -- an identifier that isn't raw
 no_hash : (c : ℕ) (cs calmer : List ℕ) → passes is_next cs ≡ true → IsCalm calmer →
     begins_raw_mark (c ∷ (cs ++ calmer)) ≡ false
+unfolding is_next unicode_ident
 no_hash c [] [] h k = and_right (c == 114) false refl
 no_hash c [] (d ∷ ds) h k = and_right (c == 114) (d == 35 && true)
     (and_left (d == 35) true (calm_shuns (λ c. c == 35) (d ∷ ds) shuns_hash k))
 no_hash c (d ∷ cs) calmer h k =
     let (n, _) = and_parts (is_next d) (passes is_next cs) h in
-    and_right (c == 114) (d == 35 && true) (and_left (d == 35) true
-    (⊎_elim (λ e. let q : is_next 35 ≡ true = subst (λ x. is_next x ≡ true)
-    (eqb-true d 35 e) n in let r = hash-next in cc) (λ e. e) (cases_Bool (d == 35))))
+    and_right (c == 114) (d == 35 && true) (and_left (d == 35) true (not_char is_next d 35 refl n))
 
 plain_lifetime : (cs : List ℕ) → begins_raw_mark cs ≡ false → begins is_first cs ≡ true →
     begins is_tick_or_hash (past is_next cs) ≡ false → begins_lifetime cs ≡ true
@@ -265,7 +260,8 @@ raw_tail mode (c ∷ tail) rest r k h =
 -- a literal in quotes behind ' is a string with a prefix
 quoted_string : (mode : Mode) (tail rest : List ℕ) → IsTail mode tail →
     begins_lifetime ((opening_of mode ++ tail) ++ rest) ≡ true → is_prefixed_string (opening_of mode ++ tail) ≡ true
-quoted_string modes.Str tail rest i h = let f = lifetime_first (34 ∷ (tail ++ rest)) h in let q = quote-first in cc
+unfolding is_first unicode_ident
+quoted_string modes.Str tail rest i h = let f : is_first 34 ≡ true = lifetime_first (34 ∷ (tail ++ rest)) h in cc
 quoted_string modes.ByteStr tail rest i h = refl
 quoted_string modes.CStr tail rest i h = refl
 quoted_string modes.RawStr tail rest i h = let (more, e) = raw_tail modes.RawStr tail rest refl i h in rw e refl

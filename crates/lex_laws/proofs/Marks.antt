@@ -1,9 +1,11 @@
 -- Marks: which they are, and what may follow them.
-use Rattle.std.proofs.Common.{◌≡◌, ℕ, List, [], ◌∷◌, ◌++◌, refl, sym, ap, subst, inl, inr, ⊎_elim}
-use Rattle.std.specs.Prelude.{true, false, not, ◌⊎◌, ◌&&◌, ◌||◌, ◌==◌, is_some}
-use Rattle.std.proofs.lemmas.Bool.{and_parts, and_from, and_left, and_right, or_left, or_right, or_from, or_cases}
+use Rattle.std.proofs.Common.{◌≡◌, ℕ, List, [], ◌∷◌, refl, sym, ap, ◌∙◌, subst, ⊎_elim}
+use Rattle.std.specs.Prelude.{true, false, not, ◌&&◌, ◌||◌, ◌==◌, is_some}
+use Rattle.std.proofs.Math.Bool.{or-false}
+use Rattle.std.proofs.lemmas.Bool.{and_from, and_left, and_right, or_left, or_right, or_from, or_cases}
 use Rattle.std.proofs.lemmas.Bool.{eqb-true}
-use Rattle.rust_lex.specs.Chars.{is_mark_but_tick, begins, is_slash_or_star, marks_but_tick, is_among}
+use Rattle.std.proofs.lemmas.List.Folds.{list_any-append}
+use Rattle.rust_lex.specs.Chars.{is_mark_but_tick, begins, is_slash_or_star, marks_but_tick}
 use Rattle.rust_escape.specs.declared.mode.Mode.TheVariants as modes
 use Rattle.rust_lex.specs.QuotedScan.{past_char}
 use Rattle.rust_lex.specs.Word.{begins_lifetime}
@@ -15,40 +17,14 @@ use Rattle.rust_lex.specs.Calm.{calm, IsCalm}
 use Rattle.rust_lex.proofs.Quieter.{Shuns, calm_shuns}
 
 -- the 22 marks are the other 21 and '
-among_front : (ds : List ℕ) (c d : ℕ) → is_among ds c ≡ true → is_among (ds ++ (d ∷ [])) c ≡ true
-among_front [] c d h = cc
-among_front (e ∷ ds) c d h = ⊎_elim (λ x. or_left (e == c) (is_among (ds ++ (d ∷ [])) c) x)
-    (λ x. or_right (e == c) (is_among (ds ++ (d ∷ [])) c) (among_front ds c d x)) (or_cases (e == c) (is_among ds c) h)
-
-among_parts : (ds : List ℕ) (c d : ℕ) → is_among (ds ++ (d ∷ [])) c ≡ true → (is_among ds c ≡ true) ⊎ (d ≡ c)
-among_parts [] c d h = ⊎_elim (λ x. inr (eqb-true d c x)) (λ x. cc) (or_cases (d == c) false h)
-among_parts (e ∷ ds) c d h =
-    ⊎_elim
-    (λ x. inl (or_left (e == c) (is_among ds c) x))
-    (λ x. ⊎_elim (λ y. inl (or_right (e == c) (is_among ds c) y)) (λ y. inr y) (among_parts ds c d x))
-    (or_cases (e == c) (is_among (ds ++ (d ∷ [])) c) h)
-
-pub mark_is : (c : ℕ) → is_mark_but_tick c ≡ true → is_punctuation c ≡ true
-unfolding is_mark_but_tick is_punctuation
-mark_is c h = among_front marks_but_tick c 39 h
-
-pub quote_is : is_punctuation 39 ≡ true
-unfolding is_punctuation
-quote_is = refl
-
 pub mark_or_quote : (c : ℕ) → is_punctuation c ≡ true → (c == 39) ≡ false → is_mark_but_tick c ≡ true
 unfolding is_mark_but_tick is_punctuation
-mark_or_quote c h n = ⊎_elim (λ x. x) (λ e. let q : (39 == 39) ≡ false = subst (λ d. (d == 39) ≡ false) (sym e) n in cc)
-    (among_parts marks_but_tick c 39 h)
-
--- what begins with a mark
-pub begun_is : (c : ℕ) (rest : List ℕ) → begins_mark (c ∷ rest) ≡ true → is_punctuation c ≡ true
-begun_is c rest h =
+mark_or_quote c h n =
     ⊎_elim
-    (λ m. let (k, _) = and_parts (is_mark_but_tick c) (not (c == 47 && begins is_slash_or_star rest)) m in mark_is c k)
-    (λ m. let (k, _) = and_parts (c == 39) (begins_lifetime rest) m in subst (λ d. is_punctuation d ≡ true)
-    (sym (eqb-true c 39 k)) quote_is)
-    (or_cases (is_mark_but_tick c && not (c == 47 && begins is_slash_or_star rest)) (c == 39 && begins_lifetime rest) h)
+    (λ m. m)
+    (λ q. let e = eqb-true 39 c (sym (or-false (39 == c)) ∙ q) in
+    let no : (39 == 39) ≡ false = subst (λ d. (d == 39) ≡ false) (sym e) n in cc)
+    (or_cases _ _ (sym (list_any-append (λ d. d == c) marks_but_tick (39 ∷ [])) ∙ h))
 
 -- a mark that begins no comment
 pub mark_before : (c : ℕ) (rest : List ℕ) → is_mark_but_tick c ≡ true

@@ -84,14 +84,11 @@ char_opener modes.RawStr tail rest i h = cc
 char_opener modes.RawByteStr tail rest i h = cc
 char_opener modes.RawCStr tail rest i h = cc
 
-tick-digit : is_digit 39 ≡ false
-unfolding is_digit
-tick-digit = refl
-
 no_number : (cs rest : List ℕ) → begins is_digit cs ≡ true → is_character (cs ++ rest) ≡ true → ⊥
+unfolding is_digit
 no_number [] rest d h = cc
-no_number (c ∷ cs) rest d h = let e : is_digit 39 ≡ true = subst (λ x. is_digit x ≡ true) (eqb-true c 39 h) d in
-    let n = tick-digit in cc
+no_number (c ∷ cs) rest d h =
+    let e : is_digit 39 ≡ true = subst (λ x. is_digit x ≡ true) (eqb-true c 39 h) d in cc
 
 character_more : (cs rest : List ℕ) → is_character cs ≡ true → is_character (cs ++ rest) ≡ true
 character_more [] rest h = cc
@@ -225,19 +222,16 @@ record Laid (ts : List Token) (printed : List ℕ) : Type 0 where
   fit : AreFit pieces []
   tokens_are : plain_of pieces [] ≡ ts
 
-space-white : is_white 32 ≡ true
-unfolding is_white
-space-white = refl
-
 abbrev piece : PieceKind → List ℕ → Piece
 piece k cs = record { kind = k; chars = cs }
 
 laid_gap : (b : Bool) (ts : List Token) (printed : List ℕ) → Laid ts printed → Laid ts (space b ++ printed)
+unfolding is_white
 laid_gap false ts printed l = l
 laid_gap true ts printed l = record {
   pieces = piece White (32 ∷ []) ∷ l.pieces;
   joined = ap (λ r. 32 ∷ r) l.joined;
-  fit = (space-white, l.fit);
+  fit = (refl, l.fit);
   tokens_are = l.tokens_are;
 }
 

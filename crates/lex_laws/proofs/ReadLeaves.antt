@@ -21,7 +21,7 @@ use Rattle.proc_macro2.specs.Leaf.{AreLeaves}
 use Rattle.lex_laws.specs.Read.{IsReadAs}
 use Rattle.rust_lex.proofs.Alone.{ident_calm, literal_calm}
 use Rattle.proc_macro2.proofs.Characters.{characters_back, characters_front}
-use Rattle.lex_laws.proofs.Marks.{begun_is}
+use Rattle.proc_macro2.proofs.Puts.{mark_of}
 use Rattle.rust_leaf.proofs.WrittenLiterals.{string_literal}
 use Rattle.lex_laws.proofs.Plain.{plain_of, cover_tokens}
 
@@ -32,30 +32,17 @@ doc_scalars doc.InnerLine cs h = scalars-drop 3 cs h
 doc_scalars doc.OuterBlock cs h = scalars-take (length cs - 5) (drop 3 cs) (scalars-drop 3 cs h)
 doc_scalars doc.InnerBlock cs h = scalars-take (length cs - 5) (drop 3 cs) (scalars-drop 3 cs h)
 
-hash-mark : is_punctuation 35 ≡ true
-unfolding is_punctuation
-hash-mark = refl
-
-bang-mark : is_punctuation 33 ≡ true
-unfolding is_punctuation
-bang-mark = refl
-
-equals-mark : is_punctuation 61 ≡ true
-unfolding is_punctuation
-equals-mark = refl
-
 doc-word : IsIdent (codes "doc") []
 unfolding is_first is_next opener_of unicode_ident
 doc-word = (refl, inl ((refl, refl), refl))
 
 doc_leaves : (kind : DocKind) (text : List ℕ) (ts : List Token) → scalars text ≡ true → AreLeaves ts →
     AreLeaves ((doc_marks kind ++ doc_group text) ++ ts)
-doc_leaves doc.OuterLine text ts h a = (hash-mark, (tt, (doc-word, (equals-mark, (string_literal text h, (tt, a))))))
-doc_leaves doc.InnerLine text ts h a =
-    (hash-mark, (bang-mark, (tt, (doc-word, (equals-mark, (string_literal text h, (tt, a)))))))
-doc_leaves doc.OuterBlock text ts h a = (hash-mark, (tt, (doc-word, (equals-mark, (string_literal text h, (tt, a))))))
-doc_leaves doc.InnerBlock text ts h a =
-    (hash-mark, (bang-mark, (tt, (doc-word, (equals-mark, (string_literal text h, (tt, a)))))))
+unfolding is_punctuation
+doc_leaves doc.OuterLine text ts h a = (refl, (tt, (doc-word, (refl, (string_literal text h, (tt, a))))))
+doc_leaves doc.InnerLine text ts h a = (refl, (refl, (tt, (doc-word, (refl, (string_literal text h, (tt, a)))))))
+doc_leaves doc.OuterBlock text ts h a = (refl, (tt, (doc-word, (refl, (string_literal text h, (tt, a))))))
+doc_leaves doc.InnerBlock text ts h a = (refl, (refl, (tt, (doc-word, (refl, (string_literal text h, (tt, a)))))))
 
 with_front : (rest : List ℕ) (ts : List Token) → AreLeaves ts → (k : PieceKind) (cs : List ℕ) → scalars cs ≡ true →
     Fits k cs rest → AreLeaves (tokens_before k cs rest ++ ts)
@@ -65,7 +52,7 @@ with_front rest ts a Comment cs s h = a
 with_front rest ts a (Doc kind) cs s h = doc_leaves kind (doc_text kind cs) ts (doc_scalars kind cs s) a
 with_front rest ts a (Open d) cs s h = (tt, a)
 with_front rest ts a (Close d) cs s h = (tt, a)
-with_front rest ts a Mark cs s (c, e, m) = (ap (λ x. is_punctuation (head x)) e ∙ begun_is c rest m, a)
+with_front rest ts a Mark cs s (c, e, m) = (ap (λ x. is_punctuation (head x)) e ∙ mark_of c rest m, a)
 with_front rest ts a Ident cs s h = (ident_calm cs rest [] h tt, a)
 with_front rest ts a (Literal kind) cs s h = ((kind, literal_calm kind cs rest [] h tt), a)
 

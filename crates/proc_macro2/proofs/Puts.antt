@@ -1,9 +1,9 @@
 -- What pieces are, for the tokens that they become.
 use Rattle.std.proofs.Common.{◌≡◌, ℕ, zero, suc, ◌<◌, arith, List, [], ◌∷◌, length, refl, sym, ◌∙◌, subst, ⊎_elim}
 use Rattle.std.proofs.Common.{inl, inr}
-use Rattle.std.specs.Prelude.{Bool, true, false, ◌||◌, ◌==◌, ◌⊎◌}
+use Rattle.std.specs.Prelude.{true, ◌==◌, ◌⊎◌}
 use Rattle.std.specs.Str.{chars}
-use Rattle.std.proofs.lemmas.Bool.{and_parts, or_cases, eqb-true}
+use Rattle.std.proofs.lemmas.Bool.{and_parts, or_cases, or_left, eqb-true}
 use Rattle.std.proofs.lemmas.List.Folds.{list_any-append}
 use Rattle.std.proofs.lemmas.Str.{chars-nil}
 use Rattle.rust_leaf.specs.Identifier.{is_ident_text}
@@ -23,23 +23,16 @@ some_bytes [] c cs e = let n : [] ≡ c ∷ cs = sym chars-nil ∙ e in cc
 some_bytes (b ∷ bs) c cs e = omega arith
 
 -- marks
-or_intro : (a b : Bool) → a ≡ true → (a || b) ≡ true
-or_intro true b e = refl
-or_intro false b e = cc
-
 lex_mark : (c : ℕ) → is_mark_but_tick c ≡ true → leaf.is_mark c ≡ true
 unfolding is_mark_but_tick leaf.is_mark
-lex_mark c h = list_any-append (λ d. d == c) marks_but_tick (39 ∷ []) ∙ or_intro _ _ h
+lex_mark c h = list_any-append (λ d. d == c) marks_but_tick (39 ∷ []) ∙ or_left _ _ h
 
-quote_mark : (c : ℕ) → c ≡ 39 → leaf.is_mark c ≡ true
+pub mark_of : (c : ℕ) (rest : List ℕ) → begins_mark (c ∷ rest) ≡ true → leaf.is_mark c ≡ true
 unfolding leaf.is_mark
-quote_mark c e = rw e refl
-
-mark_of : (c : ℕ) (rest : List ℕ) → begins_mark (c ∷ rest) ≡ true → leaf.is_mark c ≡ true
 mark_of c rest h =
     ⊎_elim
     (λ m. lex_mark c (and_parts (is_mark_but_tick c) _ m).0)
-    (λ q. quote_mark c (eqb-true c 39 (and_parts (c == 39) (begins_lifetime rest) q).0))
+    (λ q. rw (eqb-true c 39 (and_parts (c == 39) (begins_lifetime rest) q).0) refl)
     (or_cases _ _ h)
 
 ident_ready : (cs rest : List ℕ) → IsIdent cs rest → is_ident_text cs ≡ true

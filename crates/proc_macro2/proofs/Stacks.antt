@@ -1,11 +1,11 @@
 -- One stack of trees: what is put, what is taken.
-use Rattle.std.proofs.Common.{◌≡◌, ◌≤◌, arith, List, [], ◌∷◌, ◌++◌, refl, sym, ap, ap₂, ◌∙◌, subst, length, take}
+use Rattle.std.proofs.Common.{◌≡◌, arith, List, [], ◌∷◌, ◌++◌, refl, sym, ap, ◌∙◌, subst, length, take}
 use Rattle.std.proofs.Common.{drop, length-append, take-append-drop}
 use Rattle.std.specs.Prelude.{reverse}
 use Rattle.std.proofs.Math.Seq.{take-length, drop-length}
 use Rattle.std.proofs.lemmas.List.{append-nil, reverse-append, take-append-le, drop-append-le}
 use Rattle.std.proofs.lemmas.List.Concat.{flat_map-append}
-use Rattle.proc_macro2.specs.Token.{Delimiter, Spanned}
+use Rattle.proc_macro2.specs.Token.{Spanned}
 use Rattle.proc_macro2.specs.Flat.{tree_tokens, trees_tokens}
 use Rattle.proc_macro2.specs.Stream.{IsStream}
 use Rattle.proc_macro2.specs.Stack.{IsStack, IsTaken, IsInnermost, Open, groups_of, inside_of, open_of, parent_of}

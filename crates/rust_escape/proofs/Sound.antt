@@ -14,6 +14,7 @@ use Rattle.rust_escape.specs.Unit.{Strict, IsUnit, plain, escape, skip, is_plain
 use Rattle.rust_escape.specs.Value.{Value, Character, byte_value}
 use Rattle.rust_escape.specs.Scan as scan
 use Rattle.rust_escape.specs.Scan.{Scanned, Malformed, Reads, named, numbered}
+use Rattle.rust_escape.proofs.Steps.{brace_digit}
 
 pub chosen : {X : Type 0} (b : Bool) (x y z : X) → cond b x y ≡ z → ((b ≡ true) × (x ≡ z)) ⊎ ((b ≡ false) × (y ≡ z))
 chosen true x y z e = inl (refl, e)
@@ -101,10 +102,6 @@ begins_same c d cs [] after h k e = let same : c ≡ d =
     cc in absurd (false≢true (sym k ∙ subst (λ x. is_hex_digit x ≡ true) same h))
 begins_same c d cs (a ∷ inner) after h k e = let same : c ≡ a = cc in subst (λ x. is_hex_digit x ≡ true) same h
 
-brace_no_hex : is_hex_digit 125 ≡ false
-unfolding is_hex_digit
-brace_no_hex = refl
-
 braced : (b : ℕ) (text inner after rest : List ℕ) → b ≡ 123 → text ≡ inner ++ 125 ∷ after → after ≡ rest
     → 117 ∷ b ∷ text ≡ (117 ∷ 123 ∷ inner ++ 125 ∷ []) ++ rest
 braced b text inner after rest e j a = rw (append_assoc inner (125 ∷ []) rest, e, j, a) refl
@@ -128,7 +125,7 @@ unicode_found mode (b ∷ c ∷ cs) rest v e =
       value = Character n;
       joined = braced b (c ∷ cs) f.inner f.after rest (eqb-true b 123 brace) f.joined after;
       is = unicode f.inner (not-true (holds_bytes mode) no_bytes)
-          (begins_same c 125 cs f.inner f.after hex brace_no_hex f.joined) f.passing
+          (begins_same c 125 cs f.inner f.after hex brace_digit f.joined) f.passing
           (let p = f.few in omega (arith, zero-add (length (digits_of f.inner)))) is_scalar held;
       same = sym value;
     })

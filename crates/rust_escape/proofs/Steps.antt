@@ -81,7 +81,7 @@ over_line c cs e = rw e refl
 pub over_other : (c : ℕ) (cs : List ℕ) → (c ≡ 95 → ⊥) → is_hex_digit c ≡ false → past is_hex_part (c ∷ cs) ≡ c ∷ cs
 over_other c cs n h = rw (ne_eqb c 95 n, h) refl
 
-brace_digit : is_hex_digit 125 ≡ false
+pub brace_digit : is_hex_digit 125 ≡ false
 unfolding is_hex_digit
 brace_digit = refl
 

@@ -3,6 +3,7 @@ use Rattle.std.proofs.Common.{◌≡◌, ℕ, List, [], ◌∷◌, refl, sym, ap
 use Rattle.std.specs.Prelude.{Bool, true, false, not, ◌↔◌, ◌&&◌, ◌||◌, ◌==◌}
 use Rattle.std.specs.List.{list_all}
 use Rattle.std.specs.Str.{bytes_eq}
+use Rattle.std.proofs.Math.Bool.{or-false}
 use Rattle.std.proofs.lemmas.Bool.{and_parts, and_from, and_right, or_left, or_right, or_cases, eqb-true, not-true}
 use Rattle.std.proofs.lemmas.List.{append-nil}
 use Rattle.unicode_ident.proofs.Computing.{unicode_ident}
@@ -35,20 +36,9 @@ word_next [] w = elim w [ ]
 word_next (c ∷ cs) w = and_from (is_next c) (passes is_next cs) (first-next c w.0) w.1
 
 -- no prefix stands in a word
-quote-next : is_next 34 ≡ false
-unfolding is_next unicode_ident
-quote-next = refl
-
-hash-next : is_next 35 ≡ false
-unfolding is_next unicode_ident
-hash-next = refl
-
-tick-next : is_next 39 ≡ false
-unfolding is_next unicode_ident
-tick-next = refl
-
 no_quote : (c : ℕ) → is_next c ≡ true → is_quote_or_hash c ≡ false
-no_quote c h = rw (not_char is_next c 34 quote-next h, not_char is_next c 35 hash-next h) refl
+unfolding is_next unicode_ident
+no_quote c h = rw (not_char is_next c 34 refl h, not_char is_next c 35 refl h) refl
 
 no_quotes : (cs : List ℕ) → passes is_next cs ≡ true → begins is_quote_or_hash cs ≡ false
 no_quotes [] h = refl
@@ -62,13 +52,12 @@ no_opener c d cs a b e f =
     (rw (and_right (c == 114) false refl, and_right (c == 98) false refl, and_right (c == 99) false refl) refl))
 
 no_prefix : (cs : List ℕ) → IsWord cs → is_prefixed cs ≡ false
-unfolding opener_of
+unfolding opener_of is_next unicode_ident
 no_prefix [] w = elim w [ ]
 no_prefix (c ∷ []) w = refl
 no_prefix (c ∷ d ∷ cs) w =
     let (a, b) = and_parts (is_next d) (passes is_next cs) w.1 in
-    no_opener c d cs (no_quote d a) (not_char is_next d 34 quote-next a) (not_char is_next d 39 tick-next a)
-    (no_quotes cs b)
+    no_opener c d cs (no_quote d a) (not_char is_next d 34 refl a) (not_char is_next d 39 refl a) (no_quotes cs b)
 
 -- the words that are never raw
 word_same : (w cs : List ℕ) → passes is_next cs ≡ true → begins_word w cs ≡ bytes_eq cs w
@@ -77,10 +66,6 @@ word_same [] (c ∷ cs) h = let (a, _) = and_parts (is_next c) (passes is_next c
 word_same (d ∷ w) [] h = refl
 word_same (d ∷ w) (c ∷ cs) h = let (_, b) =
     and_parts (is_next c) (passes is_next cs) h in ap (λ r. c == d && r) (word_same w cs b)
-
-or_false : (b : Bool) → (b || false) ≡ b
-or_false true = refl
-or_false false = refl
 
 kept_same : (cs : List ℕ) → passes is_next cs ≡ true → begins_kept cs ≡ is_reserved cs
 unfolding begins_kept
@@ -95,7 +80,7 @@ kept_same cs h = rw (
     (bytes_eq cs (99 ∷ 114 ∷ 97 ∷ 116 ∷ 101 ∷ []))))
   where
     five : (a b c d e : Bool) → (a || (b || (c || (d || (e || false))))) ≡ (a || (b || (c || (d || e))))
-    five a b c d e = ap (λ r. a || (b || (c || (d || r)))) (or_false e)
+    five a b c d e = ap (λ r. a || (b || (c || (d || r)))) (or-false e)
 
 raw_is : (cs : List ℕ) → is_raw_identifier cs ≡ true → IsRawWord cs []
 raw_is [] h = cc

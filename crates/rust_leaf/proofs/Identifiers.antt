@@ -2,6 +2,7 @@
 use Rattle.std.proofs.Common.{◌≡◌, ℕ, List, ◌++◌, ap, ◌&&◌, ◌||◌, Bool, true, false, refl, sym, ◌∙◌, codes, IsTrue}
 use Rattle.std.specs.List.{list_all}
 use Rattle.std.specs.Prelude.{◌↔◌}
+use Rattle.std.proofs.lemmas.Bool.{or_right}
 use Rattle.std.specs.Cmp.Lexicographic.{slice_cmp}
 use Rattle.std.specs.Ordering.{nat_cmp, is_eq}
 use Rattle.std.specs.declared.cmp.Ordering.{Ordering}
@@ -82,14 +83,10 @@ accepted_raw None false e = (refl, refl)
 pub identifier_text : (cs : List ℕ) → refusal cs ≡ None → IsTrue (is_ident_text cs)
 identifier_text cs e = rw (accepted_identifier cs e) refl
 
-or_true : (a : Bool) → (a || true) ≡ true
-or_true true = refl
-or_true false = refl
-
 pub raw_identifier_text : (cs : List ℕ) → refusal_of_raw cs ≡ None → IsTrue (is_ident_text (codes "r#" ++ cs))
 raw_identifier_text cs e =
     let h = accepted_raw (refusal cs) (is_reserved cs) e in
-    rw (accepted_identifier cs h.0, h.1) (or_true (is_identifier (codes "r#" ++ cs)))
+    rw (accepted_identifier cs h.0, h.1) (or_right (is_identifier (codes "r#" ++ cs)) true refl)
 
 -- a raw identifier that has been put together
 pub raw_printed : (bs mark text : List ℕ) → mark ≡ codes "r#" → text ≡ mark ++ bs → None ≡ refusal (chars bs)

@@ -77,29 +77,15 @@ decimal_begins n = some_begins 63 n
 suffix_cases : (P : ℕ → Type 0) → P 117 → P 105 → (c : ℕ) → is_among (117 ∷ 105 ∷ []) c ≡ true → P c
 suffix_cases P u i c h = among_each P (117 ∷ 105 ∷ []) (u, (i, tt)) c h
 
-u-first : is_first 117 ≡ true
-unfolding is_first unicode_ident
-u-first = refl
-
-i-first : is_first 105 ≡ true
-unfolding is_first unicode_ident
-i-first = refl
-
-u-digit : is_digit_or_line 117 ≡ false
-unfolding is_digit
-u-digit = refl
-
-i-digit : is_digit_or_line 105 ≡ false
-unfolding is_digit
-i-digit = refl
-
 is_suffix : (s : List ℕ) → IsIntegerSuffix s → IsSuffix s []
+unfolding is_first unicode_ident
 is_suffix [] h = refl
-is_suffix (c ∷ cs) h = (suffix_cases (λ c. is_first c ≡ true) u-first i-first c h.0, h.1, refl)
+is_suffix (c ∷ cs) h = (suffix_cases (λ c. is_first c ≡ true) refl refl c h.0, h.1, refl)
 
 no_digit : (s : List ℕ) → IsIntegerSuffix s → begins is_digit_or_line s ≡ false
+unfolding is_digit
 no_digit [] h = refl
-no_digit (c ∷ cs) h = suffix_cases (λ c. is_digit_or_line c ≡ false) u-digit i-digit c h.0
+no_digit (c ∷ cs) h = suffix_cases (λ c. is_digit_or_line c ≡ false) refl refl c h.0
 
 no_fraction : (s : List ℕ) → IsIntegerSuffix s → begins_fraction s ≡ false
 no_fraction [] h = refl
@@ -135,19 +121,8 @@ plain_base c d x o b = rw (x, o, b) (both (c == 48))
     both true = refl
     both false = refl
 
-x-digit : is_digit 120 ≡ false
-unfolding is_digit
-x-digit = refl
-
-o-digit : is_digit 111 ≡ false
-unfolding is_digit
-o-digit = refl
-
-b-digit : is_digit 98 ≡ false
-unfolding is_digit
-b-digit = refl
-
 no_base : (ds s : List ℕ) → passes is_digit ds ≡ true → IsIntegerSuffix s → base_of (ds ++ s) ≡ 0
+unfolding is_digit
 no_base [] [] p h = refl
 no_base [] (c ∷ []) p h = refl
 no_base [] (c ∷ d ∷ s) p h = suffix_cases (λ c. base_by c d ≡ 0) refl refl c h.0
@@ -157,8 +132,7 @@ no_base (c ∷ []) (d ∷ s) p h =
 no_base (c ∷ d ∷ ds) s p h =
     let (_, more) = and_parts (is_digit c) (passes is_digit (d ∷ ds)) p in
     let (a, _) = and_parts (is_digit d) (passes is_digit ds) more in
-    plain_base c d (not_char is_digit d 120 x-digit a) (not_char is_digit d 111 o-digit a)
-    (not_char is_digit d 98 b-digit a)
+    plain_base c d (not_char is_digit d 120 refl a) (not_char is_digit d 111 refl a) (not_char is_digit d 98 refl a)
 
 past_plain : (cs rest : List ℕ) → base_of cs ≡ 0 → past_decimal cs ≡ rest → past_number cs ≡ Some rest
 unfolding past_number

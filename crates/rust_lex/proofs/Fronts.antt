@@ -72,10 +72,6 @@ pub b-first : is_first 98 ≡ true
 unfolding is_first unicode_ident
 b-first = refl
 
-pub space-white : is_white 32 ≡ true
-unfolding is_white
-space-white = refl
-
 -- what the class of a character says of it
 abbrev pub Says : Front → ℕ → Type 0
 Says white c = is_white c ≡ true
@@ -308,18 +304,6 @@ not_mark-front c h = false_from_ne_true _ (λ e. h (front-mark c e))
 pub ruleset marking = (is_mark_but_tick-front, not_mark-front)
 
 -- what begins no identifier, or doesn't go on with one
-pub backslash-first : is_first 92 ≡ false
-unfolding is_first unicode_ident
-backslash-first = refl
-
-pub quote-first : is_first 34 ≡ false
-unfolding is_first unicode_ident
-quote-first = refl
-
-pub hash-first : is_first 35 ≡ false
-unfolding is_first unicode_ident
-hash-first = refl
-
 pub tick-next : is_next 39 ≡ false
 unfolding is_next unicode_ident
 tick-next = refl

@@ -8,11 +8,12 @@ use Rattle.rust_escape.specs.Mode.{in_double_quotes}
 use Rattle.rust_escape.specs.declared.mode.Mode.TheVariants as modes
 use Rattle.rust_escape.specs.Unit.{Rule, Lexical, IsUnit, plain, escape, skip, return}
 use Rattle.rust_escape.specs.declared.value.Value.{Value}
+use Rattle.unicode_ident.proofs.Computing.{unicode_ident}
 use Rattle.rust_lex.specs.Chars.{is_first, begins, is_quote_or_hash}
 use Rattle.rust_lex.specs.Quoted.{opening_of, opener_of}
 use Rattle.rust_lex.specs.QuotedScan.{past_char, past_hashes}
 use Rattle.rust_lex.specs.Word.{begins_raw_mark, begins_raw_name, begins_lifetime}
-use Rattle.rust_lex.proofs.Fronts.{first-next, backslash-first, quote-first, hash-first, tick-next}
+use Rattle.rust_lex.proofs.Fronts.{first-next, tick-next}
 use Rattle.rust_lex.proofs.Taken.{chosen, option_cases}
 use Rattle.rust_lex.proofs.Units.{one_is, char_both, unit_at, unit_long}
 
@@ -95,9 +96,10 @@ hashes_begin a n (c ∷ cs) rest e =
     (chosen (c == 35) _ _ _ e)
 
 not_first : (cs : List ℕ) → begins is_quote_or_hash cs ≡ true → begins is_first cs ≡ false
+unfolding is_first unicode_ident
 not_first [] h = refl
-not_first (c ∷ cs) h = ⊎_elim (λ q. rw (eqb-true c 34 q) quote-first) (λ q. rw (eqb-true c 35 q) hash-first)
-    (or_cases (c == 34) (c == 35) h)
+not_first (c ∷ cs) h =
+    ⊎_elim (λ q. rw (eqb-true c 34 q) refl) (λ q. rw (eqb-true c 35 q) refl) (or_cases (c == 34) (c == 35) h)
 
 -- and so isn't a raw identifier
 pub hashes_no_name : (a : Mode) (cs rest : List ℕ) → past_hashes a 0 cs ≡ Some rest
@@ -119,8 +121,8 @@ single_is rule a _ rest _ c text q (skip r d h s) e = absurd (false≢true (sym 
 single_is rule a _ _ _ c text q (return d) e = absurd (false≢true (sym q ∙ d))
 
 no_lifetime_backslash : (cs : List ℕ) → begins_lifetime (92 ∷ cs) ≡ false
-unfolding begins_lifetime
-no_lifetime_backslash cs = rw backslash-first refl
+unfolding begins_lifetime is_first unicode_ident
+no_lifetime_backslash cs = refl
 
 no_raw_tick : (c : ℕ) (rest : List ℕ) → begins_raw_mark (c ∷ 39 ∷ rest) ≡ false
 no_raw_tick c rest = elim (c == 114) as (λ b. (b && false) ≡ false) [ true ↦ refl | false ↦ refl ]

@@ -83,18 +83,6 @@ pub record Quieter (x y : List ℕ) : Type 0 where
   pub fraction : begins_fraction x ≡ false → begins_fraction y ≡ false
   pub exponent : begins_exponent x ≡ false → begins_exponent y ≡ false
 
-plus-next : is_next 43 ≡ false
-unfolding is_next unicode_ident
-plus-next = refl
-
-minus-next : is_next 45 ≡ false
-unfolding is_next unicode_ident
-minus-next = refl
-
-dot-first : is_first 46 ≡ false
-unfolding is_first unicode_ident
-dot-first = refl
-
 pub not_char : (p : ℕ → Bool) (c d : ℕ) → p d ≡ false → p c ≡ true → (c == d) ≡ false
 not_char p c d h k =
     ⊎_elim
@@ -103,10 +91,12 @@ not_char p c d h k =
     (cases_Bool (c == d))
 
 next_sign : (c : ℕ) → is_next c ≡ true → is_sign c ≡ false
-next_sign c h = rw (not_char is_next c 43 plus-next h, not_char is_next c 45 minus-next h) refl
+unfolding is_next unicode_ident
+next_sign c h = rw (not_char is_next c 43 refl h, not_char is_next c 45 refl h) refl
 
 first_dot : (c : ℕ) → is_first c ≡ true → (c == 46) ≡ false
-first_dot c h = not_char is_first c 46 dot-first h
+unfolding is_first unicode_ident
+first_dot c h = not_char is_first c 46 refl h
 
 -- behind characters of an identifier that aren't underscores alone, no sign or underscore is left
 lead_stops : (c : ℕ) (cs : List ℕ) → is_next c ≡ true → (c == 95) ≡ false → past_lead (c ∷ cs) ≡ c ∷ cs

@@ -92,11 +92,8 @@ number_behind bytes at end h e f =
 pub ruleset numbers = (number_behind)
 
 -- a quote isn't one of the other marks
-tick_mark : is_mark_but_tick 39 ≡ false
-unfolding is_mark_but_tick
-tick_mark = refl
-
 pub tick_no_mark : (c : ℕ) → c ≡ 39 → is_mark_but_tick c ≡ false
-tick_no_mark c e = rw e tick_mark
+unfolding is_mark_but_tick
+tick_no_mark c e = rw e refl
 
 pub ruleset marks = (rest_end, tick_no_mark)

@@ -44,9 +44,30 @@ pub fn begins<T: Test>(text: &str, at: usize) -> bool
 }
 
 /// The place behind the characters that pass.
-#[tactic(auto, using(crate::proofs::Steps::rest_end))]
 #[inline(always)]
 pub fn past<T: Test>(text: &str, start: usize) -> usize
+    requires { IsPlace text.now start }
+    ensures rest { rest_at text.now result ≡ chars.past T.test (rest_at text.now start) }
+    ensures from { IsFrom text.now start result }
+{
+    past_by::<T>(text, start, false)
+}
+
+/// The same where there may be very many: by blocks behind the first of them, so that it costs nothing more where there
+/// are few.
+#[inline(always)]
+pub fn past_long<T: Test>(text: &str, start: usize) -> usize
+    requires { IsPlace text.now start }
+    ensures rest { rest_at text.now result ≡ chars.past T.test (rest_at text.now start) }
+    ensures from { IsFrom text.now start result }
+{
+    past_by::<T>(text, start, true)
+}
+
+// The loop of both: one character after the other, and whole blocks behind the first where it is told so.
+#[tactic(auto, using(crate::proofs::Steps::rest_end, crate::proofs::Blocks::past_behind))]
+#[inline(always)]
+fn past_by<T: Test>(text: &str, start: usize, by_blocks: bool) -> usize
     requires { IsPlace text.now start }
     ensures rest { rest_at text.now result ≡ chars.past T.test (rest_at text.now start) }
     ensures from { IsFrom text.now start result }
@@ -58,6 +79,9 @@ pub fn past<T: Test>(text: &str, start: usize) -> usize
             return at;
         }
         at = next;
+        if by_blocks && at - start == BLOCK {
+            at = past_blocks::<T>(text, at);
+        }
     }
     at
 }
@@ -84,29 +108,6 @@ pub fn past_blocks<T: Test>(text: &str, start: usize) -> usize
     let mut at = start;
     while bytes.len() - at >= BLOCK && all_pass::<T>(&bytes[at..at + BLOCK]) {
         at += BLOCK;
-    }
-    at
-}
-
-/// The place behind the characters that pass, where there may be very many: by blocks behind the first of them, so
-/// that it costs nothing more where there are few.
-#[tactic(auto, using(crate::proofs::Steps::rest_end, crate::proofs::Blocks::past_behind))]
-#[inline(always)]
-pub fn past_long<T: Test>(text: &str, start: usize) -> usize
-    requires { IsPlace text.now start }
-    ensures rest { rest_at text.now result ≡ chars.past T.test (rest_at text.now start) }
-    ensures from { IsFrom text.now start result }
-{
-    let mut at = start;
-    while at < text.len() {
-        let (c, next) = char_at(text, at);
-        if !T::passes(c) {
-            return at;
-        }
-        at = next;
-        if at - start == BLOCK {
-            at = past_blocks::<T>(text, at);
-        }
     }
     at
 }

@@ -2,7 +2,6 @@ use Rattle.std.proofs.Common.{◌≡◌, ◌∙◌, ◌+◌, ◌-◌, ◌≤◌,
 use Rattle.std.specs.Prelude.{Bool, true, false}
 use Rattle.std.specs.Str.{chars}
 use Rattle.std.proofs.lemmas.Str.{IsCharBoundary-from_drop}
-use Rattle.std.proofs.lemmas.List.{append-nil, nil_from_length}
 use Rattle.rust_lex.specs.Piece.{FitsAt}
 use Rattle.rust_lex.specs.Scan.{is_joint}
 use Rattle.rust_lex.specs.Places.{rest_at, between_places, IsBehind}

@@ -1,7 +1,7 @@
 use Rattle.std.proofs.Common.{◌-◌, length}
 use Rattle.text_chars.specs.Chars.{past as past_those}
 use Rattle.text_chars.proofs.Walks.{Walks}
-use Rattle.text_chars.proofs.walk.past_long.Given as goal
+use Rattle.text_chars.proofs.walk.past_by.Given as goal
 
 abbrev pub invariant-loop-at : goal.invariant-loop-at
 invariant-loop-at g l = Walks (past_those g.T.Test.test) l.text l.start l.at
