@@ -25,7 +25,7 @@ use Rattle.grammar_back.proofs.KindLaws.{law_arguments, law_an_argument, law_mem
 use Rattle.grammar_back.proofs.KindLaws.{law_dyn_alone, law_impl, law_impl_alone, law_some_bounds, law_pattern}
 use Rattle.grammar_back.proofs.KindLaws.{law_several, law_outer, law_inner, law_meta, law_generics}
 use Rattle.grammar_back.proofs.KindLaws.{law_generic_params, law_lifetime_colon, law_bounds_colon, law_where}
-use Rattle.grammar_back.proofs.KindLaws.{law_variant, law_trait_type, law_impl_type}
+use Rattle.grammar_back.proofs.KindLaws.{law_variant, law_const, law_trait_type, law_impl_type}
 use Rattle.grammar_back.proofs.StepsOfPaths.{step_path_in_module, step_path_in_expression, step_path_in_type}
 use Rattle.grammar_back.proofs.StepsOfPaths.{step_path_at_type, step_segments_in_module, step_segments_in_type}
 use Rattle.grammar_back.proofs.StepsOfPaths.{step_segments_at_type, step_qualified_path_in_module}
@@ -49,15 +49,16 @@ use Rattle.grammar_back.proofs.StepsOfPatterns.{step_wild_pattern, step_range_to
 use Rattle.grammar_back.proofs.StepsOfPatterns.{step_tuple_pattern, step_slice_pattern, step_literal_pattern}
 use Rattle.grammar_back.proofs.StepsOfPatterns.{step_path_pattern, step_range_end, step_range_bound}
 use Rattle.grammar_back.proofs.StepsOfAttributes.{step_outer_attributes, step_outer_attribute}
-use Rattle.grammar_back.proofs.StepsOfAttributes.{step_inner_attributes, step_inner_attribute, step_meta}
+use Rattle.grammar_back.proofs.StepsOfAttributes.{step_inner_attributes, step_inner_attribute}
+use Rattle.grammar_back.proofs.ValueSteps.{step_meta, step_a_const}
 use Rattle.grammar_back.proofs.StepsOfGenerics.{step_generics, step_generic_params, step_lifetime_param}
 use Rattle.grammar_back.proofs.StepsOfGenerics.{step_lifetime_colon, step_type_param, step_bounds_colon}
 use Rattle.grammar_back.proofs.StepsOfGenerics.{step_where, step_where_clause}
 use Rattle.grammar_back.proofs.StepsOfItems.{step_named_fields, step_unnamed_fields, step_named_field}
 use Rattle.grammar_back.proofs.StepsOfItems.{step_variant, step_a_struct, step_an_enum, step_a_union}
-use Rattle.grammar_back.proofs.StepsOfItems.{step_a_static, step_a_const, step_an_extern_crate, step_a_use}
-use Rattle.grammar_back.proofs.StepsOfItems.{step_use_top, step_use_tree, step_use_branch, step_use_rooted}
-use Rattle.grammar_back.proofs.StepsOfItems.{step_receiver, step_signature_in_file, step_signature_in_foreign}
+use Rattle.grammar_back.proofs.StepsOfItems.{step_a_static, step_an_extern_crate, step_a_use, step_use_top}
+use Rattle.grammar_back.proofs.StepsOfItems.{step_use_tree, step_use_branch, step_use_rooted, step_receiver}
+use Rattle.grammar_back.proofs.StepsOfItems.{step_signature_in_file, step_signature_in_foreign}
 use Rattle.grammar_back.proofs.StepsOfItems.{step_signature_in_trait, step_signature_in_impl}
 use Rattle.grammar_back.proofs.StepsOfItems.{step_a_function_in_file, step_a_function_in_foreign}
 use Rattle.grammar_back.proofs.StepsOfItems.{step_a_function_in_trait, step_a_function_in_impl}
@@ -270,7 +271,7 @@ laws AStruct e = simple_kind AStruct refl (λ x. tt) (λ x. refl) (λ x. refl) (
 laws AnEnum e = simple_kind AnEnum refl (λ x. tt) (λ x. refl) (λ x. refl) (λ q. refl) (λ q. refl) refl
 laws AUnion e = simple_kind AUnion refl (λ x. tt) (λ x. refl) (λ x. refl) (λ q. refl) (λ q. refl) refl
 laws AStatic e = simple_kind AStatic refl (λ x. tt) (λ x. refl) (λ x. refl) (λ q. refl) (λ q. refl) refl
-laws AConst e = simple_kind AConst refl (λ x. tt) (λ x. refl) (λ x. refl) (λ q. refl) (λ q. refl) refl
+laws AConst e = law_const
 laws AnExternCrate e = simple_kind AnExternCrate refl (λ x. tt) (λ x. refl) (λ x. refl) (λ q. refl) (λ q. refl) refl
 laws AUse e = simple_kind AUse refl (λ x. tt) (λ x. refl) (λ x. refl) (λ q. refl) (λ q. refl) refl
 laws UseTop e = simple_kind UseTop refl (λ x. tt) (λ x. refl) (λ x. refl) (λ q. refl) (λ q. refl) refl

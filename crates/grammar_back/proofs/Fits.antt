@@ -1,19 +1,24 @@
 -- A tree fits an entry, whatever its tests say of the tokens that stand there: the part of the grammar that normal form
 -- keeps by itself. It is a tree as it is printed: each mark stands apart, and what a kind holds has the kind's tokens.
--- Its kinds are covered, and no expression is in it.
+-- Its kinds are covered. An expression in it is in normal form where it stands, the own part of each of its forms fits
+-- the entry of the form's kind, and no number in it is to be split.
 use Rattle.std.proofs.Common.{◌≡◌, List, [], ◌∷◌, ◌++◌, refl, sym, ap, ◌∙◌}
 use Rattle.std.specs.Prelude.{Bool, true, false}
 use Rattle.proc_macro2.specs.Token.{Token, Opens, Closes, Punct}
 use Rattle.rust_leaf.specs.declared.punct.Spacing.TheVariants.{Alone as Apart}
-use Rattle.syn_grammar.specs.Kind.{Kind, DynType, ImplType, WithoutPlus}
+use Rattle.syn_grammar.specs.Kind.{Kind, Position, DynType, ImplType, WithoutPlus, AConst, Meta, Expression}
+use Rattle.syn_grammar.specs.Kind.{ExprAttributed}
 use Rattle.syn_grammar.specs.Tree.{Tree, AWord, ALiteral, AMark, ALifetime, Raw, Nil, Pair, First, Second, End}
-use Rattle.syn_grammar.specs.Tree.{Again, Final, More, Group, Dropped, Called, Node, marks, flat}
+use Rattle.syn_grammar.specs.Tree.{Again, Final, More, Group, Dropped, Called, Node, Whole, Alone, Front, Back}
+use Rattle.syn_grammar.specs.Tree.{Infix}
+use Rattle.syn_grammar.specs.Tree.{marks, flat}
 use Rattle.syn_grammar.specs.Gram.{Gram, word, literal, mark, lifetime, raw, nothing, seq, alt, star, many, group}
-use Rattle.syn_grammar.specs.Gram.{judged, dropped, called, ref, Keep, is_balanced}
+use Rattle.syn_grammar.specs.Gram.{judged, dropped, called, ref, operand, Keep, is_balanced}
 use Rattle.syn_grammar.specs.Types.{is_path_bound}
 use Rattle.syn_grammar.specs.Table.{table}
-use Rattle.syn_grammar.specs.Kept.{forget, kept}
-use Rattle.grammar_back.specs.Covered.{has_step}
+use Rattle.syn_grammar.specs.Kept.{forget, dotted, kept}
+use Rattle.syn_grammar.specs.Normal.{stands_behind, formed}
+use Rattle.grammar_back.specs.Covered.{has_lone_value, is_known}
 
 -- the test can say so
 abbrev pub CanSay : (List Token → Bool) → Bool → Type 0
@@ -28,58 +33,105 @@ abbrev pub has_path_bound : Tree → Bool
 has_path_bound (Pair w (Second b)) = is_path_bound b
 has_path_bound _ = false
 
+-- the leftmost form has no attributes
+abbrev pub is_bare : Tree → Bool
+is_bare (Front ExprAttributed y x) = false
+is_bare (Back l k y) = is_bare l
+is_bare (Infix l k y r) = is_bare l
+is_bare x = true
+
+-- of what stands in an attribute: its value is such an expression
+abbrev pub has_bare_value : Tree → Bool
+has_bare_value (Pair p (Second (First (Pair s (Second (Called n (Node (Expression q) (Whole x)))))))) = is_bare x
+has_bare_value _ = true
+
 -- what the tests say of what a kind holds, where its entry's shape doesn't
 abbrev pub IsMeant : Kind → Tree → Type 0
 IsMeant (DynType WithoutPlus) x = has_path_bound x ≡ true
 IsMeant (ImplType WithoutPlus) x = has_path_bound x ≡ true
+IsMeant AConst x = has_lone_value x ≡ true
+IsMeant Meta x = has_bare_value x ≡ true
 IsMeant _ x = Unit {0}
 
-abbrev pub Fits : Tree → Gram → Type 0
-Fits (AWord cs) (word p) = p cs ≡ true
-Fits (ALiteral cs) (literal p) = p cs ≡ true
-Fits (AMark c cs spacing) (mark d ds) = (c ≡ d) × (cs ≡ ds) × (Apart ≡ spacing)
-Fits (ALifetime cs) lifetime = Unit {0}
-Fits (Raw ts) raw = is_balanced ts ≡ true
-Fits Nil nothing = Unit {0}
-Fits (Pair x y) (seq a b) = Fits x a × Fits y b
-Fits (First x) (alt t a b) = CanSay t true × Fits x a
-Fits (Second x) (alt t a b) = CanSay t false × Fits x b
-Fits End (star t g) = Unit {0}
-Fits (Again x y) (star t g) = Fits x g × Fits y (star t g)
-Fits End (many e c g) = Unit {0}
-Fits (Final x) (many e c g) = Fits x g
-Fits (More x d spacing y) (many e c g) = (d ≡ c) × (Apart ≡ spacing) × Fits x g × Fits y (many e c g)
-Fits (Group d x) (group e g) = (d ≡ e) × Fits x g
-Fits (First x) (judged v g) = (v x ≡ Keep) × Fits x g
-Fits (Dropped x) (dropped g) = (flat x ≡ []) × Fits x g
-Fits (Called n x) (called m g) = (n ≡ m) × Fits x g
-Fits (Node k x) (ref l) = (k ≡ l) × (has_step k ≡ true) × IsPrinted k x × Fits x (table k) × IsMeant k x
-Fits _ _ = ⊥
+-- it is in normal form, where it stands
+abbrev pub IsFormed : Position → Tree → Type 0
+IsFormed p x = formed p (stands_behind p) (kept x) ≡ kept x
+
+-- behind a left operand it is held as it is
+abbrev pub IsWhole : Kind → Tree → Type 0
+IsWhole k y = (l : Tree) → dotted l k (kept y) ≡ Back l k (kept y)
+
+abbrev mutual
+  pub Fits : Tree → Gram → Type 0
+  Fits (AWord cs) (word p) = p cs ≡ true
+  Fits (ALiteral cs) (literal p) = p cs ≡ true
+  Fits (AMark c cs spacing) (mark d ds) = (c ≡ d) × (cs ≡ ds) × (Apart ≡ spacing)
+  Fits (ALifetime cs) lifetime = Unit {0}
+  Fits (Raw ts) raw = is_balanced ts ≡ true
+  Fits Nil nothing = Unit {0}
+  Fits (Pair x y) (seq a b) = Fits x a × Fits y b
+  Fits (First x) (alt t a b) = CanSay t true × Fits x a
+  Fits (Second x) (alt t a b) = CanSay t false × Fits x b
+  Fits End (star t g) = Unit {0}
+  Fits (Again x y) (star t g) = Fits x g × Fits y (star t g)
+  Fits End (many e c g) = Unit {0}
+  Fits (Final x) (many e c g) = Fits x g
+  Fits (More x d spacing y) (many e c g) = (d ≡ c) × (Apart ≡ spacing) × Fits x g × Fits y (many e c g)
+  Fits (Group d x) (group e g) = (d ≡ e) × Fits x g
+  Fits (First x) (judged v g) = (v x ≡ Keep) × Fits x g
+  Fits (Dropped x) (dropped g) = (flat x ≡ []) × Fits x g
+  Fits (Called n x) (called m g) = (n ≡ m) × Fits x g
+  Fits (Node k x) (ref l) = (k ≡ l) × (is_known k ≡ true) × IsPrinted k x × Fits x (table k) × IsMeant k x
+  Fits (Whole x) (operand p n) = (n ≡ 0) × IsFormed p x × FitsForms x
+  Fits _ _ = ⊥
+
+  -- the own part of each of an expression's forms fits the entry of the form's kind
+  pub FitsForms : Tree → Type 0
+  FitsForms (Alone k y) = (is_known k ≡ true) × Fits y (table k) × IsMeant k y
+  FitsForms (Front k y x) = (is_known k ≡ true) × Fits y (table k) × IsMeant k y × FitsForms x
+  FitsForms (Back l k y) = (is_known k ≡ true) × Fits y (table k) × IsMeant k y × IsWhole k y × FitsForms l
+  FitsForms (Infix l k y r) = (is_known k ≡ true) × Fits y (table k) × IsMeant k y × FitsForms l × FitsForms r
+  FitsForms _ = ⊥
 
 -- its tokens are those of what is kept of it
-pub flat_kept : (x : Tree) (g : Gram) → Fits x g → flat (kept x) ≡ flat x
-flat_kept (AWord cs) (word p) h = refl
-flat_kept (ALiteral cs) (literal p) h = refl
-flat_kept (AMark c cs spacing) (mark d ds) h = ap (marks c cs) h.2
-flat_kept (ALifetime cs) lifetime h = refl
-flat_kept (Raw ts) raw h = refl
-flat_kept Nil nothing h = refl
-flat_kept (Pair x y) (seq a b) h =
-    ap (λ us. us ++ flat (kept y)) (flat_kept x a h.0) ∙ ap (λ us. flat x ++ us) (flat_kept y b h.1)
-flat_kept (First x) (alt t a b) h = flat_kept x a h.1
-flat_kept (Second x) (alt t a b) h = flat_kept x b h.1
-flat_kept End (star t g) h = refl
-flat_kept (Again x y) (star t g) h =
-    ap (λ us. us ++ flat (kept y)) (flat_kept x g h.0) ∙ ap (λ us. flat x ++ us) (flat_kept y (star t g) h.1)
-flat_kept End (many e c g) h = refl
-flat_kept (Final x) (many e c g) h = flat_kept x g h
-flat_kept (More x m spacing y) (many e c g) h =
-    ap (λ us. us ++ Punct m Apart ∷ flat (kept y)) (flat_kept x g h.2)
-    ∙ ap (λ us. flat x ++ Punct m Apart ∷ us) (flat_kept y (many e c g) h.3)
-    ∙ ap (λ s. flat x ++ Punct m s ∷ flat y) h.1
-flat_kept (Group d x) (group e g) h = ap (λ us. Opens d ∷ us ++ Closes d ∷ []) (flat_kept x g h.1)
-flat_kept (First x) (judged v g) h = flat_kept x g h.1
-flat_kept (Dropped x) (dropped g) h = sym h.0
-flat_kept (Called n x) (called m g) h = flat_kept x g h.1
-flat_kept (Node k x) (ref l) h = h.2 ∙ flat_kept x (table k) h.3
-flat_kept _ _ h = absurd h
+mutual
+  pub flat_kept : (x : Tree) (g : Gram) → Fits x g → flat (kept x) ≡ flat x
+  flat_kept (AWord cs) (word p) h = refl
+  flat_kept (ALiteral cs) (literal p) h = refl
+  flat_kept (AMark c cs spacing) (mark d ds) h = ap (marks c cs) h.2
+  flat_kept (ALifetime cs) lifetime h = refl
+  flat_kept (Raw ts) raw h = refl
+  flat_kept Nil nothing h = refl
+  flat_kept (Pair x y) (seq a b) h =
+      ap (λ us. us ++ flat (kept y)) (flat_kept x a h.0) ∙ ap (λ us. flat x ++ us) (flat_kept y b h.1)
+  flat_kept (First x) (alt t a b) h = flat_kept x a h.1
+  flat_kept (Second x) (alt t a b) h = flat_kept x b h.1
+  flat_kept End (star t g) h = refl
+  flat_kept (Again x y) (star t g) h =
+      ap (λ us. us ++ flat (kept y)) (flat_kept x g h.0) ∙ ap (λ us. flat x ++ us) (flat_kept y (star t g) h.1)
+  flat_kept End (many e c g) h = refl
+  flat_kept (Final x) (many e c g) h = flat_kept x g h
+  flat_kept (More x m spacing y) (many e c g) h =
+      ap (λ us. us ++ Punct m Apart ∷ flat (kept y)) (flat_kept x g h.2)
+      ∙ ap (λ us. flat x ++ Punct m Apart ∷ us) (flat_kept y (many e c g) h.3)
+      ∙ ap (λ s. flat x ++ Punct m s ∷ flat y) h.1
+  flat_kept (Group d x) (group e g) h = ap (λ us. Opens d ∷ us ++ Closes d ∷ []) (flat_kept x g h.1)
+  flat_kept (First x) (judged v g) h = flat_kept x g h.1
+  flat_kept (Dropped x) (dropped g) h = sym h.0
+  flat_kept (Called n x) (called m g) h = flat_kept x g h.1
+  flat_kept (Node k x) (ref l) h = h.2 ∙ flat_kept x (table k) h.3
+  flat_kept (Whole x) (operand p n) h = flat_forms x h.2
+  flat_kept _ _ h = absurd h
+
+  pub flat_forms : (x : Tree) → FitsForms x → flat (kept x) ≡ flat x
+  flat_forms (Alone k y) h = flat_kept y (table k) h.1
+  flat_forms (Front k y x) h =
+      ap (λ us. us ++ flat (kept x)) (flat_kept y (table k) h.1) ∙ ap (λ us. flat y ++ us) (flat_forms x h.3)
+  flat_forms (Back l k y) h =
+      ap flat (h.3 (kept l)) ∙ ap (λ us. us ++ flat (kept y)) (flat_forms l h.4)
+      ∙ ap (λ us. flat l ++ us) (flat_kept y (table k) h.1)
+  flat_forms (Infix l k y r) h =
+      ap (λ us. us ++ (flat (kept y) ++ flat (kept r))) (flat_forms l h.3)
+      ∙ ap (λ us. flat l ++ (us ++ flat (kept r))) (flat_kept y (table k) h.1)
+      ∙ ap (λ us. flat l ++ (flat y ++ us)) (flat_forms r h.4)
+  flat_forms _ h = absurd h

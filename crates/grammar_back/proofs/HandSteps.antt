@@ -93,7 +93,7 @@ maybe_restriction = record { fine = record { by = go } }
 pub step_visibility : Step Visibility
 unfolding table skips
 step_visibility =
-    maybe_step Visibility refl (found_optional (at "pub")
+    maybe_step Visibility refl refl (found_optional (at "pub")
     (found_before (found_called (found_text "pub")) maybe_restriction tt (λ s a. a.1)) (λ us. refl, tt))
 
 pub step_dyn_alone : Step (DynType WithoutPlus)

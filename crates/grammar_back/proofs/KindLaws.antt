@@ -1,14 +1,16 @@
 -- What is known of the kinds whose entries have turns, whose parts are tidied, or that hold another tree than was read.
-use Rattle.std.proofs.Common.{◌≡◌, [], refl, sym, subst, List, ap, ◌∙◌}
+use Rattle.std.proofs.Common.{◌≡◌, [], refl, sym, subst, List, ap, ◌∙◌, ◌++◌}
+use Rattle.std.specs.Prelude.{Bool, true, false, not, cond}
 use Rattle.proc_macro2.specs.Token.{Token}
 use Rattle.syn_grammar.specs.Kind.{Kind, Plain, OuterAttributes, OuterAttribute, InnerAttributes, InnerAttribute}
 use Rattle.syn_grammar.specs.Kind.{Pattern, SeveralPatterns, Generics, GenericParams, GenericParam, Where}
-use Rattle.syn_grammar.specs.Kind.{WhereClause, BoundsColon, Bounds, LifetimeColon, Lifetimes, Arguments, AnArgument}
+use Rattle.syn_grammar.specs.Kind.{WhereClause, BoundsColon, Bounds, LifetimeColon, Lifetimes, Arguments}
+use Rattle.syn_grammar.specs.Kind.{AnArgument}
 use Rattle.syn_grammar.specs.Kind.{ATypeAlias, InTrait, InImpl, Meta, Variant, Visibility, Body}
 use Rattle.syn_grammar.specs.Kind.{Position, SomeBounds, DynType, ImplType, WithPlus, WithoutPlus}
-use Rattle.syn_grammar.specs.Kind.{Member, Index}
-use Rattle.syn_grammar.specs.Name.{same_part, the_clause, the_bounds, the_arguments, the_value}
-use Rattle.syn_grammar.specs.Tree.{Tree, Called, AWord, Pair, First, Second, Node, flat}
+use Rattle.syn_grammar.specs.Kind.{Member, Index, Expression, AConst}
+use Rattle.syn_grammar.specs.Name.{Part, same_part, the_clause, the_bounds, the_arguments, the_value}
+use Rattle.syn_grammar.specs.Tree.{Tree, Called, AWord, Nil, Pair, First, Second, Node, Whole, flat}
 use Rattle.syn_grammar.specs.Gram.{Gram, seq, called, ref}
 use Rattle.syn_grammar.specs.Look.{sees}
 use Rattle.syn_grammar.specs.Say.{at, marks, sign}
@@ -16,14 +18,15 @@ use Rattle.syn_grammar.specs.Generics.{angled_params}
 use Rattle.syn_grammar.specs.Items.{type_end}
 use Rattle.syn_grammar.specs.Table.{table}
 use Rattle.syn_grammar.specs.Derives.{Derives}
-use Rattle.syn_grammar.specs.Kept.{listed_bound, unsafe_path, constant_argument, held, kept}
+use Rattle.syn_grammar.specs.Kept.{listed_bound, unsafe_path, constant_argument, is_there, held, kept}
 use Rattle.syn_grammar.specs.Tidy.{is_bare_generics, is_bare_where, is_bare_colon, is_lifetime_param}
 use Rattle.syn_grammar.specs.Tidy.{is_lifetime_argument, lifetimes_first, moved}
 use Rattle.syn_grammar.specs.Parens.{may_lack}
 use Rattle.syn_grammar.specs.Normal.{passed, stands_behind, place_of, private, normal_in}
-use Rattle.grammar_back.specs.Covered.{has_step}
+use Rattle.grammar_back.specs.Covered.{has_step, has_lone_value, is_taken}
 use Rattle.grammar_back.proofs.Parts.{none_never}
-use Rattle.grammar_back.proofs.Fits.{Fits}
+use Rattle.grammar_back.proofs.Fits.{Fits, has_bare_value}
+use Rattle.grammar_back.proofs.Bare.{bare_kept, bare_formed, bare_read}
 use Rattle.grammar_back.proofs.Verdicts.{some_verdict, path_meant}
 use Rattle.grammar_back.proofs.Printed.{Printed, IsPlaced, TurnLaw, KindLaw, plain_law, simple_law}
 use Rattle.grammar_back.proofs.Indices.{index_normal, index_held, member_normal, member_held}
@@ -85,7 +88,8 @@ law_bounds_colon =
 pub law_lifetime_colon : KindLaw LifetimeColon
 unfolding has_step held passed place_of same_part table
 law_lifetime_colon =
-    tidied_law LifetimeColon refl (λ x. tt) (λ x. refl) (λ q. refl) (λ q l. simple_law Plain (table LifetimeColon) refl)
+    tidied_law LifetimeColon refl (λ x. tt) (λ x. refl) (λ q. refl)
+    (λ q l. simple_law Plain (table LifetimeColon) refl)
     (removed_printed (sees (marks ":")) (seq (sign ":") (called the_bounds (ref Lifetimes))) is_bare_colon refl)
 
 -- Of lists whose lifetimes come first.
@@ -129,20 +133,77 @@ unfolding passed
 unsafe_normal (Pair (First w) x) = refl
 unsafe_normal _ = refl
 
-meta_held : (w : Tree) → Fits w (table Meta) → Held Meta w
+meta_tokens : (w : Tree) → Fits w (table Meta) → flat (unsafe_path (kept w)) ≡ flat (kept w)
 unfolding table
-meta_held (Pair (First (AWord cs)) x) f =
-    record { tree = Pair (First (AWord cs)) x; fits = f; printed = refl; kept_is = refl }
-meta_held (Pair (First _) x) f = absurd f.0.1
-meta_held (Pair (Second y) x) f = record { tree = Pair (Second y) x; fits = f; printed = refl; kept_is = refl }
-meta_held (Pair _ x) f = absurd f.0
-meta_held _ f = absurd f
+meta_tokens (Pair (First (AWord cs)) x) f = refl
+meta_tokens (Pair (First _) x) f = absurd f.0.1
+meta_tokens (Pair (Second y) x) f = refl
+meta_tokens (Pair _ x) f = absurd f.0
+meta_tokens _ f = absurd f
+
+-- the value begins with no #
+value_fits : (w : Tree) → Fits w (table Meta) → has_bare_value (kept w) ≡ has_bare_value w
+unfolding table held
+value_fits (Pair p (Second (First (Pair s (Second (Called n (Node (Expression q) (Whole x)))))))) f = bare_kept x
+value_fits (Pair p (Second (First (Pair s (Second (Called n (Node (Expression q) _))))))) f = absurd f.1.1.1.1.1.1.3
+value_fits (Pair p (Second (First (Pair s (Second (Called n (Node k x))))))) f = refl
+value_fits (Pair p (Second (First (Pair s (Second (Called n _)))))) f = absurd f.1.1.1.1.1.1
+value_fits (Pair p (Second (First (Pair s (Second _))))) f = absurd f.1.1.1.1.1
+value_fits (Pair p (Second (First (Pair s (First y))))) f = refl
+value_fits (Pair p (Second (First (Pair s _)))) f = absurd f.1.1.1.1
+value_fits (Pair p (Second (First _))) f = absurd f.1.1.1
+value_fits (Pair p (Second (Second x))) f = refl
+value_fits (Pair p (Second _)) f = absurd f.1.1
+value_fits (Pair p (First x)) f = refl
+value_fits (Pair p _) f = absurd f.1
+value_fits _ f = absurd f
+
+value_kept : (x : Tree) (r : List Token) → Derives x (table Meta) r → has_bare_value (kept x) ≡ has_bare_value x
+unfolding table held
+value_kept (Pair p (Second (First (Pair s (Second (Called n (Node (Expression q) (Whole x)))))))) r d = bare_kept x
+value_kept (Pair p (Second (First (Pair s (Second (Called n (Node (Expression q) _))))))) r d =
+    absurd d.1.1.1.1.1.1.1
+value_kept (Pair p (Second (First (Pair s (Second (Called n (Node k x))))))) r d = refl
+value_kept (Pair p (Second (First (Pair s (Second (Called n _)))))) r d = absurd d.1.1.1.1.1.1
+value_kept (Pair p (Second (First (Pair s (Second _))))) r d = absurd d.1.1.1.1.1
+value_kept (Pair p (Second (First (Pair s (First y))))) r d = refl
+value_kept (Pair p (Second (First (Pair s _)))) r d = absurd d.1.1.1.1
+value_kept (Pair p (Second (First _))) r d = absurd d.1.1.1
+value_kept (Pair p (Second (Second x))) r d = refl
+value_kept (Pair p (Second _)) r d = absurd d.1.1
+value_kept (Pair p (First x)) r d = refl
+value_kept (Pair p _) r d = absurd d.1
+value_kept _ r d = absurd d
+
+value_normal : (v : Tree) → has_bare_value v ≡ true → has_bare_value (normal_in Plain v) ≡ true
+unfolding passed place_of
+value_normal (Pair p (Second (First (Pair s (Second (Called n (Node (Expression q) (Whole x)))))))) e =
+    bare_formed _ _ x e
+value_normal _ e = refl
+
+value_read : (x : Tree) (r : List Token) → Derives x (table Meta) r → has_bare_value x ≡ true
+unfolding table
+value_read (Pair p (Second (First (Pair s (Second (Called n (Node (Expression q) (Whole x)))))))) r d =
+    bare_read q x r d.1.1.1.1.1.1.1.1 d.1.1.1.1.0
+value_read _ r d = refl
 
 pub law_meta : KindLaw Meta
 unfolding has_step held passed place_of table
-law_meta =
-    held_law Meta refl (λ x. tt) (λ q. refl) (λ q. refl) (λ x. refl) unsafe_normal
-    (simple_law Plain (table Meta) refl) meta_held
+law_meta = record { entry = λ q l. simple_law Plain (table Meta) refl; node = go }
+  where
+    go : (q : Position) → IsPlaced q Meta → (x : Tree) (r : List Token)
+        → is_taken Meta x ≡ true → Derives x (table Meta) r
+        → Printed (table Meta) (normal_in (passed Meta q) (kept x))
+        → Printed (ref Meta) (normal_in q (Node (held Meta) (unsafe_path (kept x))))
+    go q l x r m d i =
+        let b : has_bare_value i.tree ≡ true =
+        sym (value_fits i.tree i.fits) ∙ ap has_bare_value i.kept_is
+        ∙ value_normal (kept x) (value_kept x r d ∙ value_read x r d) in
+        record {
+          tree = Node Meta i.tree;
+          fits = (refl, refl, meta_tokens i.tree i.fits, i.fits, b);
+          kept_is = ap (Node Meta) (ap unsafe_path i.kept_is ∙ unsafe_normal (kept x));
+        }
 
 -- Of a visibility that is forgotten.
 fits_private : Fits private (ref Visibility)
@@ -240,10 +301,11 @@ unfolding has_step held passed place_of table
 law_dyn_alone = record { entry = λ q l. simple_law Plain (table (DynType WithoutPlus)) refl; node = go }
   where
     go : (q : Position) → IsPlaced q (DynType WithoutPlus) → (x : Tree) (r : List Token)
-        → Derives x (table (DynType WithoutPlus)) r
+        → is_taken (DynType WithoutPlus) x ≡ true → Derives x (table (DynType WithoutPlus)) r
         → Printed (table (DynType WithoutPlus)) (normal_in (passed (DynType WithoutPlus) q) (kept x))
-        → Printed (ref (DynType WithoutPlus)) (normal_in q (Node (held (DynType WithoutPlus)) (listed_bound (kept x))))
-    go q l x r d i =
+        → Printed (ref (DynType WithoutPlus))
+        (normal_in q (Node (held (DynType WithoutPlus)) (listed_bound (kept x))))
+    go q l x r m d i =
         record {
           tree = Node (DynType WithoutPlus) i.tree;
           fits = (
@@ -268,11 +330,11 @@ unfolding has_step held passed place_of table
 law_impl_alone = record { entry = λ q l. simple_law Plain (table (ImplType WithoutPlus)) refl; node = go }
   where
     go : (q : Position) → IsPlaced q (ImplType WithoutPlus) → (x : Tree) (r : List Token)
-        → Derives x (table (ImplType WithoutPlus)) r
+        → is_taken (ImplType WithoutPlus) x ≡ true → Derives x (table (ImplType WithoutPlus)) r
         → Printed (table (ImplType WithoutPlus)) (normal_in (passed (ImplType WithoutPlus) q) (kept x))
         → Printed (ref (ImplType WithoutPlus))
         (normal_in q (Node (held (ImplType WithoutPlus)) (listed_bound (kept x))))
-    go q l x r d i =
+    go q l x r m d i =
         record {
           tree = Node (ImplType WithoutPlus) i.tree;
           fits = (
@@ -297,3 +359,97 @@ unfolding has_step held passed table
 law_member =
     held_law Member refl (λ x. tt) (λ q. refl) (λ q. refl) (λ x. refl) member_normal
     (simple_law Plain (table Member) refl) member_held
+
+-- Of a constant with a value or a where clause.
+there_normal : (q : Position) (w : Tree) → is_there (normal_in q w) ≡ is_there w
+there_normal q (First w) = refl
+there_normal q _ = refl
+
+there_tidy : (b : Bool) (w : Tree) → not (is_there w) ≡ true → not (is_there (cond b (Second Nil) w)) ≡ true
+there_tidy true w e = refl
+there_tidy false w e = e
+
+there_fits : (w : Tree) → Fits w (table Where) → is_there (kept w) ≡ is_there w
+unfolding table
+there_fits (First w) f = refl
+there_fits (Second w) f = refl
+there_fits _ f = absurd f
+
+there_kept : (w : Tree) (r : List Token) → Derives w (table Where) r → is_there (kept w) ≡ is_there w
+unfolding table
+there_kept (First w) r d = refl
+there_kept (Second w) r d = refl
+there_kept _ r d = absurd d
+
+-- with its where clause's kind, and what that holds
+abbrev pub valued : Tree → Tree → Tree → Tree → Tree → Tree → Part → Kind → Tree → Tree → Tree
+valued c n g s t v m k w e = Pair c
+    (Pair n (Pair g (Pair s (Pair t (Pair (First v) (Pair (Called m (Node k w)) e))))))
+
+valued_kept : (c n g s t v : Tree) (m : Part) (k : Kind) (w e : Tree) → k ≡ Where →
+    (k ≡ Where → is_there (kept w) ≡ is_there w)
+    → has_lone_value (kept (valued c n g s t v m k w e)) ≡ has_lone_value (valued c n g s t v m k w e)
+unfolding held
+valued_kept c n g s t v m k w e i h =
+    subst (λ j. has_lone_value (kept (valued c n g s t v m j w e)) ≡ has_lone_value (valued c n g s t v m j w e))
+    (sym i)
+    (ap not (h i))
+
+lone_fits : (x : Tree) → Fits x (table AConst) → has_lone_value (kept x) ≡ has_lone_value x
+unfolding table
+lone_fits (Pair c (Pair n (Pair g (Pair s (Pair t (Pair (First v) (Pair (Called m (Node k w)) e))))))) f =
+    let h = f.1.1.1.1.1.1.0.1 in
+    valued_kept c n g s t v m k w e h.0 (λ i. there_fits w (subst (λ j. Fits w (table j)) i h.3))
+lone_fits (Pair c (Pair n (Pair g (Pair s (Pair t (Pair (First v) (Pair (Called m _) e))))))) f =
+    absurd f.1.1.1.1.1.1.0.1
+lone_fits (Pair c (Pair n (Pair g (Pair s (Pair t (Pair (First v) (Pair _ e))))))) f = absurd f.1.1.1.1.1.1.0
+lone_fits (Pair c (Pair n (Pair g (Pair s (Pair t (Pair (First v) _)))))) f = absurd f.1.1.1.1.1.1
+lone_fits (Pair c (Pair n (Pair g (Pair s (Pair t (Pair (Second v) e)))))) f = refl
+lone_fits (Pair c (Pair n (Pair g (Pair s (Pair t (Pair _ e)))))) f = absurd f.1.1.1.1.1.0
+lone_fits (Pair c (Pair n (Pair g (Pair s (Pair t _))))) f = absurd f.1.1.1.1.1
+lone_fits (Pair c (Pair n (Pair g (Pair s _)))) f = absurd f.1.1.1.1
+lone_fits (Pair c (Pair n (Pair g _))) f = absurd f.1.1.1
+lone_fits (Pair c (Pair n _)) f = absurd f.1.1
+lone_fits (Pair c _) f = absurd f.1
+lone_fits _ f = absurd f
+
+lone_kept : (x : Tree) (r : List Token) → Derives x (table AConst) r → has_lone_value (kept x) ≡ has_lone_value x
+unfolding table
+lone_kept (Pair c (Pair n (Pair g (Pair s (Pair t (Pair (First v) (Pair (Called m (Node k w)) e))))))) r d =
+    let h = d.1.1.1.1.1.1.0.1 in
+    valued_kept c n g s t v m k w e h.0
+    (λ i. there_kept w (flat e ++ r) (subst (λ j. Derives w (table j) (flat e ++ r)) i h.1))
+lone_kept (Pair c (Pair n (Pair g (Pair s (Pair t (Pair (First v) (Pair (Called m _) e))))))) r d =
+    absurd d.1.1.1.1.1.1.0.1
+lone_kept (Pair c (Pair n (Pair g (Pair s (Pair t (Pair (First v) (Pair _ e))))))) r d = absurd d.1.1.1.1.1.1.0
+lone_kept (Pair c (Pair n (Pair g (Pair s (Pair t (Pair (First v) _)))))) r d = absurd d.1.1.1.1.1.1
+lone_kept (Pair c (Pair n (Pair g (Pair s (Pair t (Pair (Second v) e)))))) r d = refl
+lone_kept (Pair c (Pair n (Pair g (Pair s (Pair t (Pair _ e)))))) r d = absurd d.1.1.1.1.1.0
+lone_kept (Pair c (Pair n (Pair g (Pair s (Pair t _))))) r d = absurd d.1.1.1.1.1
+lone_kept (Pair c (Pair n (Pair g (Pair s _)))) r d = absurd d.1.1.1.1
+lone_kept (Pair c (Pair n (Pair g _))) r d = absurd d.1.1.1
+lone_kept (Pair c (Pair n _)) r d = absurd d.1.1
+lone_kept (Pair c _) r d = absurd d.1
+lone_kept _ r d = absurd d
+
+lone_normal : (v : Tree) → has_lone_value v ≡ true → has_lone_value (normal_in Plain v) ≡ true
+unfolding passed place_of
+lone_normal (Pair c (Pair n (Pair g (Pair s (Pair t (Pair (First v) (Pair (Called m (Node Where w)) e))))))) h =
+    there_tidy _ _ (ap not (there_normal _ w) ∙ h)
+lone_normal _ h = refl
+
+pub law_const : KindLaw AConst
+unfolding has_step held passed place_of table
+law_const = record { entry = λ q l. simple_law Plain (table AConst) refl; node = go }
+  where
+    go : (q : Position) → IsPlaced q AConst → (x : Tree) (r : List Token) → has_lone_value x ≡ true
+        → Derives x (table AConst) r → Printed (table AConst) (normal_in (passed AConst q) (kept x))
+        → Printed (ref AConst) (normal_in q (Node (held AConst) (kept x)))
+    go q l x r m d i =
+        let b : has_lone_value i.tree ≡ true =
+        sym (lone_fits i.tree i.fits) ∙ ap has_lone_value i.kept_is ∙ lone_normal (kept x) (lone_kept x r d ∙ m) in
+        record {
+          tree = Node AConst i.tree;
+          fits = (refl, refl, refl, i.fits, b);
+          kept_is = ap (Node AConst) i.kept_is;
+        }

@@ -1,7 +1,9 @@
 pub mod Classes
 pub mod Starts
+pub mod Afters
 pub mod Begins
 pub mod Fits
+pub mod Bare
 pub mod Readies
 pub mod Fine
 pub mod Parts
@@ -17,8 +19,10 @@ pub mod StepsOfItems
 pub mod Seconds
 pub mod Verdicts
 pub mod HandSteps
+pub mod ValueSteps
 pub mod Tidied
 pub mod Indices
 pub mod KindLaws
 pub mod AllKinds
+pub mod Expressions
 pub mod ReadBack

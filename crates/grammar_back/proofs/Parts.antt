@@ -16,6 +16,7 @@ use Rattle.syn_grammar.specs.Derives.{Derives}
 use Rattle.grammar_back.proofs.Fits.{Fits, CanSay}
 use Rattle.grammar_back.specs.After.{behind, After}
 use Rattle.grammar_back.proofs.Starts.{starts}
+use Rattle.grammar_back.proofs.Afters.{is_by_tokens, by_tokens, suffices}
 use Rattle.grammar_back.proofs.Begins.{Begins, BeginsBy}
 use Rattle.grammar_back.proofs.Readies.{Ready, Step}
 use Rattle.syn_grammar.specs.Kind.{Kind}
@@ -249,25 +250,25 @@ maybe_begins false cs x s e i = cc
 pub found_ref : (k : Kind) → skips k ≡ false → Found (ref k) (behind k) (starts k)
 found_ref k e =
     record {
-      fine = fine_weaker (Without (behind k)) (At (starts k)) fine_ref (λ x s a. a)
+      fine = fine_weaker (Without (behind k)) (At (starts k)) fine_ref (λ x s a. suffices k x s a)
           (λ x s i a. begins_found (skips k) (starts k) x s e i);
     }
 
 pub maybe_ref : (k : Kind) → skips k ≡ true → Maybe (ref k) (behind k) (starts k)
 maybe_ref k e =
     record {
-      fine = fine_weaker (Without (behind k)) (AtOrNone (starts k)) fine_ref (λ x s a. a)
+      fine = fine_weaker (Without (behind k)) (AtOrNone (starts k)) fine_ref (λ x s a. suffices k x s a)
           (λ x s i a. begins_maybe (skips k) (starts k) x s e i);
     }
 
-pub found_step : (k : Kind) → skips k ≡ false → Found (table k) (behind k) (starts k) → Step k
-found_step k e f =
-    fine_step k (fine_weaker (After k) (Begins k) f.fine (λ x s a. a)
+pub found_step : (k : Kind) → skips k ≡ false → is_by_tokens k ≡ true → Found (table k) (behind k) (starts k) → Step k
+found_step k e b f =
+    fine_step k (fine_weaker (After k) (Begins k) f.fine (λ x s a. by_tokens k x s b a)
     (λ x s i a. found_begins (skips k) (starts k) x s e i))
 
-pub maybe_step : (k : Kind) → skips k ≡ true → Maybe (table k) (behind k) (starts k) → Step k
-maybe_step k e f =
-    fine_step k (fine_weaker (After k) (Begins k) f.fine (λ x s a. a)
+pub maybe_step : (k : Kind) → skips k ≡ true → is_by_tokens k ≡ true → Maybe (table k) (behind k) (starts k) → Step k
+maybe_step k e b f =
+    fine_step k (fine_weaker (After k) (Begins k) f.fine (λ x s a. by_tokens k x s b a)
     (λ x s i a. maybe_begins (skips k) (starts k) x s e i))
 
 -- a punctuation, and what stands behind it

@@ -1,19 +1,21 @@
 -- For each tree that is derived there is one that fits its entry, and of which the normal form is kept.
 use Rattle.std.proofs.Common.{◌≡◌, List, [], ◌∷◌, ◌++◌, refl, sym, ap, ◌∙◌, subst}
-use Rattle.std.specs.Prelude.{Bool, true, false, ◌&&◌}
+use Rattle.std.specs.Prelude.{Bool, true, false, ◌&&◌, ◌||◌}
 use Rattle.proc_macro2.specs.Token.{Token, Punct}
 use Rattle.rust_leaf.specs.declared.punct.Spacing.TheVariants.{Alone as Apart}
 use Rattle.syn_grammar.specs.Kind.{Kind, Position, Plain, InCondition, InArm, InStatement, Expression}
 use Rattle.syn_grammar.specs.Tree.{Tree, AWord, ALiteral, AMark, ALifetime, Raw, Nil, Pair, First, Second, End}
-use Rattle.syn_grammar.specs.Tree.{Again, Final, More, Group, Dropped, Called, Verbatim, Node, Whole, flat}
+use Rattle.syn_grammar.specs.Tree.{Again, Final, More, Group, Dropped, Called, Verbatim, Node, Whole, Alone, Front}
+use Rattle.syn_grammar.specs.Tree.{Back, Infix, flat}
 use Rattle.syn_grammar.specs.Gram.{Gram, word, literal, mark, lifetime, raw, nothing, seq, alt, star, many, group}
 use Rattle.syn_grammar.specs.Gram.{judged, dropped, called, ref, operand, Verdict, Keep}
+use Rattle.syn_grammar.specs.Forms.{inside}
 use Rattle.syn_grammar.specs.Table.{table}
-use Rattle.syn_grammar.specs.Derives.{Derives}
+use Rattle.syn_grammar.specs.Derives.{Derives, Bound}
 use Rattle.syn_grammar.specs.Kept.{held, forget, kept}
 use Rattle.syn_grammar.specs.Tidy.{tidy}
 use Rattle.syn_grammar.specs.Normal.{place_of, passed, private, apart_item, apart_if, is_enclosed, normal_in}
-use Rattle.grammar_back.specs.Covered.{has_step, is_covered}
+use Rattle.grammar_back.specs.Covered.{has_step, has_form_step, is_known, is_form, is_taken, is_covered}
 use Rattle.grammar_back.proofs.Fits.{Fits, IsMeant}
 
 pub record Printed (g : Gram) (z : Tree) : Type 0 where
@@ -28,7 +30,8 @@ IsPlaced q _ = Unit {0}
 
 -- a verdict that keeps a tree keeps what is printed for it
 abbrev pub VerdictLaw : Position → (Tree → Verdict) → Gram → Type 0
-VerdictLaw q v g = (x w : Tree) (r : List Token) → Derives x g r → Fits w g → kept w ≡ normal_in q (kept x) → v x ≡ Keep
+VerdictLaw q v g = (x w : Tree) (r : List Token) → Derives x g r → Fits w g → kept w ≡ normal_in q (kept x) → v x ≡
+    Keep
     → v w ≡ Keep
 
 -- no turn is a raw item among statements
@@ -46,14 +49,30 @@ EntryLaw q (judged v g) = VerdictLaw q v g × EntryLaw q g
 EntryLaw q (dropped g) = Fits private g
 EntryLaw q (called n g) = EntryLaw (place_of n) g
 EntryLaw q (ref k) = IsPlaced q k
+EntryLaw q (operand p n) = (q ≡ p) × (n ≡ 0)
 EntryLaw q _ = Unit {0}
 
 -- and of a kind: its entry, and how what is printed for what it holds is printed for it
 pub record KindLaw (k : Kind) : Type 0 where
   pub entry : (q : Position) → IsPlaced q k → EntryLaw (passed k q) (table k)
-  pub node : (q : Position) → IsPlaced q k → (x : Tree) (r : List Token) → Derives x (table k) r
-      → Printed (table k) (normal_in (passed k q) (kept x))
+  pub node : (q : Position) → IsPlaced q k → (x : Tree) (r : List Token) → is_taken k x ≡ true
+      → Derives x (table k) r → Printed (table k) (normal_in (passed k q) (kept x))
       → Printed (ref k) (normal_in q (Node (held k) (forget k (kept x))))
+
+-- what is printed for the own parts of an expression's forms
+abbrev pub OwnPrinted : Tree → Type 0
+OwnPrinted (Alone k y) = Printed (table k) (normal_in Plain (kept y))
+OwnPrinted (Front k y x) = Printed (table k) (normal_in Plain (kept y)) × OwnPrinted x
+OwnPrinted (Back l k y) = OwnPrinted l × Printed (table k) (normal_in Plain (kept y))
+OwnPrinted (Infix l k y r) = OwnPrinted l × Printed (table k) (normal_in Plain (kept y)) × OwnPrinted r
+OwnPrinted _ = Unit {0}
+
+-- An expression is printed where the own parts of its forms are.
+abbrev pub WholeLaw : Type 0
+WholeLaw =
+    (p : Position) (x : Tree) (r : List Token) → Derives (Whole x) (operand p 0) r → is_covered x ≡ true → OwnPrinted
+    x
+    → Printed (operand p 0) (normal_in p (kept (Whole x)))
 
 both_true : (a b : Bool) → (a && b) ≡ true → (a ≡ true) × (b ≡ true)
 both_true true b e = (refl, e)
@@ -63,86 +82,137 @@ unmoved_if : (b : Bool) (x : Tree) → apart_item x ≡ x → apart_if b x ≡ x
 unmoved_if true x e = e
 unmoved_if false x e = refl
 
-module _ (laws : (k : Kind) → has_step k ≡ true → KindLaw k) where
-  pub printed : (x : Tree) (g : Gram) (r : List Token) (q : Position) → EntryLaw q g → Derives x g r → is_covered x
-      ≡ true → Printed g (normal_in q (kept x))
-  printed (AWord cs) (word p) r q l d c = record { tree = AWord cs; fits = d; kept_is = refl }
-  printed (ALiteral cs) (literal p) r q l d c = record { tree = ALiteral cs; fits = d; kept_is = refl }
-  printed (AMark m ms spacing) (mark e es) r q l d c =
-      record { tree = AMark m ms Apart; fits = (d.0, d.1, refl); kept_is = refl }
-  printed (ALifetime cs) lifetime r q l d c = record { tree = ALifetime cs; fits = tt; kept_is = refl }
-  printed (Raw ts) raw r q l d c = record { tree = Raw ts; fits = d.0; kept_is = refl }
-  printed Nil nothing r q l d c = record { tree = Nil; fits = tt; kept_is = refl }
-  printed (Pair x y) (seq a b) r q l d c =
-      let h = both_true (is_covered x) (is_covered y) c in
-      let i = printed x a (flat y ++ r) q l.0 d.0 h.0 in
-      let j = printed y b r q l.1 d.1 h.1 in
-      record {
-        tree = Pair i.tree j.tree;
-        fits = (i.fits, j.fits);
-        kept_is = ap (λ z. Pair z (kept j.tree)) i.kept_is ∙ ap (Pair (normal_in q (kept x))) j.kept_is;
-      }
-  printed (First x) (alt t a b) r q l d c =
-      let i = printed x a r q l.0 d.1 c in
-      record { tree = First i.tree; fits = ((flat x ++ r, d.0), i.fits); kept_is = ap First i.kept_is }
-  printed (Second x) (alt t a b) r q l d c =
-      let i = printed x b r q l.1 d.1 c in
-      record { tree = Second i.tree; fits = ((flat x ++ r, d.0), i.fits); kept_is = ap Second i.kept_is }
-  printed End (star t g) r q l d c = record { tree = End; fits = tt; kept_is = refl }
-  printed (Again x y) (star t g) r q l d c =
-      let h = both_true (is_covered x) (is_covered y) c in
-      let i = printed x g (flat y ++ r) q l.1 d.1 h.0 in
-      let j = printed y (star t g) r q l d.2 h.1 in
-      let b : Bool = is_enclosed (kept y) (normal_in q (kept y)) in
-      let u : apart_item (normal_in q (kept x)) ≡ normal_in q (kept x) =
-      subst (λ z. apart_item z ≡ z) i.kept_is (l.0 i.tree i.fits) in
-      record {
-        tree = Again i.tree j.tree;
-        fits = (i.fits, j.fits);
-        kept_is = ap (λ z. Again z (kept j.tree)) (i.kept_is ∙ sym (unmoved_if b (normal_in q (kept x)) u)) ∙ ap
-            (Again (apart_if b (normal_in q (kept x)))) j.kept_is;
-      }
-  printed End (many e m g) r q l d c = record { tree = End; fits = tt; kept_is = refl }
-  printed (Final x) (many e m g) r q l d c =
-      let i = printed x g r q l d.1 c in
-      record { tree = Final i.tree; fits = i.fits; kept_is = ap Final i.kept_is }
-  printed (More x n spacing y) (many e m g) r q l d c =
-      let h = both_true (is_covered x) (is_covered y) c in
-      let i = printed x g (Punct n spacing ∷ flat y ++ r) q l d.2 h.0 in
-      let j = printed y (many e m g) r q l d.3 h.1 in
-      record {
-        tree = More i.tree n Apart j.tree;
-        fits = (d.1, refl, i.fits, j.fits);
-        kept_is = ap (λ z. More z n Apart (kept j.tree)) i.kept_is ∙ ap (More (normal_in q (kept x)) n Apart)
-            j.kept_is;
-      }
-  printed (Group f x) (group e g) r q l d c =
-      let i = printed x g [] q l d.1 c in
-      record { tree = Group f i.tree; fits = (d.0, i.fits); kept_is = ap (Group f) i.kept_is }
-  printed (First x) (judged v g) r q l d c =
-      let i = printed x g r q l.1 d.1 c in
-      record {
-        tree = First i.tree;
-        fits = (l.0 x i.tree r d.1 i.fits i.kept_is d.0, i.fits);
-        kept_is = ap First i.kept_is;
-      }
-  printed (Verbatim x) (judged v g) r q l d c = let e : false ≡ true = c in cc e
-  printed (Dropped x) (dropped g) r q l d c = record { tree = Dropped private; fits = (refl, l); kept_is = refl }
-  printed (Called n x) (called m g) r q l d c =
-      let i = printed x g r (place_of m) l d.1 c in
-      record {
-        tree = Called m i.tree;
-        fits = (refl, i.fits);
-        kept_is = ap (Called m) i.kept_is ∙ ap (λ k. Called k (normal_in (place_of k) (kept x))) (sym d.0);
-      }
-  printed (Node k x) (ref j) r q l d c =
-      let h = both_true (has_step k) (is_covered x) c in
-      let law = laws k h.0 in
-      let p : IsPlaced q k = subst (IsPlaced q) (sym d.0) l in
-      let i = printed x (table k) r (passed k q) (law.entry q p) d.1 h.1 in
-      subst (λ m. Printed (ref m) (normal_in q (Node (held k) (forget k (kept x))))) d.0 (law.node q p x r d.1 i)
-  printed (Whole x) (operand p n) r q l d c = let e : false ≡ true = c in cc e
-  printed _ _ r q l d c = absurd d
+-- a form's kind stands in no position
+or_right : (a b : Bool) → b ≡ true → (a || b) ≡ true
+or_right true b e = refl
+or_right false b e = e
+
+form_known : (k : Kind) → is_form k ≡ true → is_known k ≡ true
+form_known (Expression p) e = cc
+form_known k e = or_right (has_step k) (has_form_step k) e
+
+form_placed : (k : Kind) → is_form k ≡ true → IsPlaced Plain k
+form_placed (Expression p) e = cc
+form_placed _ e = tt
+
+form_passed : (k : Kind) → is_form k ≡ true → passed k Plain ≡ Plain
+unfolding passed
+form_passed (Expression p) e = cc
+form_passed _ e = refl
+
+module _ (laws : (k : Kind) → is_known k ≡ true → KindLaw k) (whole : WholeLaw) where
+  own_law : (k : Kind) → is_form k ≡ true → EntryLaw Plain (table k)
+  own_law k h = subst (λ m. EntryLaw m (table k)) (form_passed k h)
+      ((laws k (form_known k h)).entry Plain (form_placed k h))
+
+  mutual
+    pub printed : (x : Tree) (g : Gram) (r : List Token) (q : Position) → EntryLaw q g → Derives x g r → is_covered x
+        ≡ true → Printed g (normal_in q (kept x))
+    printed (AWord cs) (word p) r q l d c = record { tree = AWord cs; fits = d; kept_is = refl }
+    printed (ALiteral cs) (literal p) r q l d c = record { tree = ALiteral cs; fits = d; kept_is = refl }
+    printed (AMark m ms spacing) (mark e es) r q l d c =
+        record { tree = AMark m ms Apart; fits = (d.0, d.1, refl); kept_is = refl }
+    printed (ALifetime cs) lifetime r q l d c = record { tree = ALifetime cs; fits = tt; kept_is = refl }
+    printed (Raw ts) raw r q l d c = record { tree = Raw ts; fits = d.0; kept_is = refl }
+    printed Nil nothing r q l d c = record { tree = Nil; fits = tt; kept_is = refl }
+    printed (Pair x y) (seq a b) r q l d c =
+        let h = both_true (is_covered x) (is_covered y) c in
+        let i = printed x a (flat y ++ r) q l.0 d.0 h.0 in
+        let j = printed y b r q l.1 d.1 h.1 in
+        record {
+          tree = Pair i.tree j.tree;
+          fits = (i.fits, j.fits);
+          kept_is = ap (λ z. Pair z (kept j.tree)) i.kept_is ∙ ap (Pair (normal_in q (kept x))) j.kept_is;
+        }
+    printed (First x) (alt t a b) r q l d c =
+        let i = printed x a r q l.0 d.1 c in
+        record { tree = First i.tree; fits = ((flat x ++ r, d.0), i.fits); kept_is = ap First i.kept_is }
+    printed (Second x) (alt t a b) r q l d c =
+        let i = printed x b r q l.1 d.1 c in
+        record { tree = Second i.tree; fits = ((flat x ++ r, d.0), i.fits); kept_is = ap Second i.kept_is }
+    printed End (star t g) r q l d c = record { tree = End; fits = tt; kept_is = refl }
+    printed (Again x y) (star t g) r q l d c =
+        let h = both_true (is_covered x) (is_covered y) c in
+        let i = printed x g (flat y ++ r) q l.1 d.1 h.0 in
+        let j = printed y (star t g) r q l d.2 h.1 in
+        let b : Bool = is_enclosed (kept y) (normal_in q (kept y)) in
+        let u : apart_item (normal_in q (kept x)) ≡ normal_in q (kept x) =
+        subst (λ z. apart_item z ≡ z) i.kept_is (l.0 i.tree i.fits) in
+        record {
+          tree = Again i.tree j.tree;
+          fits = (i.fits, j.fits);
+          kept_is = ap (λ z. Again z (kept j.tree)) (i.kept_is ∙ sym (unmoved_if b (normal_in q (kept x)) u)) ∙ ap
+              (Again (apart_if b (normal_in q (kept x)))) j.kept_is;
+        }
+    printed End (many e m g) r q l d c = record { tree = End; fits = tt; kept_is = refl }
+    printed (Final x) (many e m g) r q l d c =
+        let i = printed x g r q l d.1 c in
+        record { tree = Final i.tree; fits = i.fits; kept_is = ap Final i.kept_is }
+    printed (More x n spacing y) (many e m g) r q l d c =
+        let h = both_true (is_covered x) (is_covered y) c in
+        let i = printed x g (Punct n spacing ∷ flat y ++ r) q l d.2 h.0 in
+        let j = printed y (many e m g) r q l d.3 h.1 in
+        record {
+          tree = More i.tree n Apart j.tree;
+          fits = (d.1, refl, i.fits, j.fits);
+          kept_is = ap (λ z. More z n Apart (kept j.tree)) i.kept_is ∙ ap (More (normal_in q (kept x)) n Apart)
+              j.kept_is;
+        }
+    printed (Group f x) (group e g) r q l d c =
+        let i = printed x g [] q l d.1 c in
+        record { tree = Group f i.tree; fits = (d.0, i.fits); kept_is = ap (Group f) i.kept_is }
+    printed (First x) (judged v g) r q l d c =
+        let i = printed x g r q l.1 d.1 c in
+        record {
+          tree = First i.tree;
+          fits = (l.0 x i.tree r d.1 i.fits i.kept_is d.0, i.fits);
+          kept_is = ap First i.kept_is;
+        }
+    printed (Verbatim x) (judged v g) r q l d c = let e : false ≡ true = c in cc e
+    printed (Dropped x) (dropped g) r q l d c = record { tree = Dropped private; fits = (refl, l); kept_is = refl }
+    printed (Called n x) (called m g) r q l d c =
+        let i = printed x g r (place_of m) l d.1 c in
+        record {
+          tree = Called m i.tree;
+          fits = (refl, i.fits);
+          kept_is = ap (Called m) i.kept_is ∙ ap (λ k. Called k (normal_in (place_of k) (kept x))) (sym d.0);
+        }
+    printed (Node k x) (ref j) r q l d c =
+        let h = both_true (is_known k) (is_taken k x && is_covered x) c in
+        let t = both_true (is_taken k x) (is_covered x) h.1 in
+        let law = laws k h.0 in
+        let p : IsPlaced q k = subst (IsPlaced q) (sym d.0) l in
+        let i = printed x (table k) r (passed k q) (law.entry q p) d.1 t.1 in
+        subst (λ m. Printed (ref m) (normal_in q (Node (held k) (forget k (kept x))))) d.0
+        (law.node q p x r t.0 d.1 i)
+    printed (Whole x) (operand p n) r q l d c =
+        let e : Derives (Whole x) (operand p 0) r = subst (λ m. Derives (Whole x) (operand p m) r) l.1 d in
+        subst (λ m. Printed (operand p m) (normal_in q (kept (Whole x)))) (sym l.1)
+        (subst (λ m. Printed (operand p 0) (normal_in m (kept (Whole x)))) (sym l.0)
+        (whole p x r e c (own_printed x p r d.1 c)))
+    printed _ _ r q l d c = absurd d
+
+    own_printed : (x : Tree) (p : Position) (r : List Token) → Bound p x r → is_covered x ≡ true → OwnPrinted x
+    own_printed (Alone k y) p r d c =
+        let h = both_true (is_form k) (is_covered y) c in
+        printed y (table k) r Plain (own_law k h.0) d.1 h.1
+    own_printed (Front k y x) p r d c =
+        let h = both_true (is_form k) (is_covered y && is_covered x) c in
+        let i = both_true (is_covered y) (is_covered x) h.1 in
+        (printed y (table k) (flat x ++ r) Plain (own_law k h.0) d.1 i.0, own_printed x (inside p k) r d.4 i.1)
+    own_printed (Back l k y) p r d c =
+        let h = both_true (is_form k) (is_covered l && is_covered y) c in
+        let i = both_true (is_covered l) (is_covered y) h.1 in
+        (own_printed l p (flat y ++ r) d.4 i.0, printed y (table k) r Plain (own_law k h.0) d.1 i.1)
+    own_printed (Infix l k y b) p r d c =
+        let h = both_true (is_form k) (is_covered y && (is_covered l && is_covered b)) c in
+        let i = both_true (is_covered y) (is_covered l && is_covered b) h.1 in
+        let j = both_true (is_covered l) (is_covered b) i.1 in (
+          own_printed l p (flat y ++ (flat b ++ r)) d.4 j.0,
+          printed y (table k) (flat b ++ r) Plain (own_law k h.0) d.1 i.0,
+          own_printed b (inside p k) r d.6 j.1,
+        )
+    own_printed _ p r d c = tt
 
 -- entries of which nothing is to be known: no verdict, no turns, nothing dropped
 abbrev pub same_place : Position → Position → Bool
@@ -180,6 +250,7 @@ is_simple q (judged v g) = false
 is_simple q (dropped g) = false
 is_simple q (called n g) = is_simple (place_of n) g
 is_simple q (ref k) = is_placed q k
+is_simple q (operand p n) = false
 is_simple q _ = true
 
 pub simple_law : (q : Position) (g : Gram) → is_simple q g ≡ true → EntryLaw q g
@@ -194,19 +265,20 @@ simple_law q (judged v g) e = cc
 simple_law q (dropped g) e = cc
 simple_law q (called n g) e = simple_law (place_of n) g e
 simple_law q (ref k) e = placed q k e
+simple_law q (operand p n) e = cc
 simple_law q _ e = tt
 
 -- a kind that holds what it reads, of which nothing is tidied
-pub plain_law : (k : Kind) → has_step k ≡ true → ((x : Tree) → IsMeant k x) → ((x : Tree) → forget k x ≡ x)
+pub plain_law : (k : Kind) → is_known k ≡ true → ((x : Tree) → IsMeant k x) → ((x : Tree) → forget k x ≡ x)
     → ((x : Tree) → tidy (held k) x ≡ x)
     → ((q : Position) → passed (held k) q ≡ passed k q)
     → ((q : Position) → IsPlaced q k → EntryLaw (passed k q) (table k)) → KindLaw k
 plain_law k h n f t p e = record { entry = e; node = go }
   where
-    go : (q : Position) → IsPlaced q k → (x : Tree) (r : List Token) → Derives x (table k) r
+    go : (q : Position) → IsPlaced q k → (x : Tree) (r : List Token) → is_taken k x ≡ true → Derives x (table k) r
         → Printed (table k) (normal_in (passed k q) (kept x))
         → Printed (ref k) (normal_in q (Node (held k) (forget k (kept x))))
-    go q l x r d i =
+    go q l x r m d i =
         record {
           tree = Node k i.tree;
           fits = (refl, h, ap flat (f (kept i.tree)), i.fits, n i.tree);
@@ -217,7 +289,7 @@ plain_law k h n f t p e = record { entry = e; node = go }
         }
 
 -- and whose entry is simple
-pub simple_kind : (k : Kind) → has_step k ≡ true → ((x : Tree) → IsMeant k x) → ((x : Tree) → forget k x ≡ x)
+pub simple_kind : (k : Kind) → is_known k ≡ true → ((x : Tree) → IsMeant k x) → ((x : Tree) → forget k x ≡ x)
     → ((x : Tree) → tidy (held k) x ≡ x)
     → ((q : Position) → passed (held k) q ≡ Plain) → ((q : Position) → passed k q ≡ Plain) → is_simple Plain (table k)
     ≡ true → KindLaw k

@@ -1,26 +1,72 @@
 -- What a kind's tokens begin with, where it has some. Written by tools/steps.py, from the entries.
+use Rattle.proc_macro2.specs.declared.delimiter.Delimiter.TheVariants as D
 use Rattle.grammar_back.proofs.Classes.{Sign, TheWord, AnyWord, Quoted, Tick, Opening, Then, Class}
 use Rattle.proc_macro2.specs.declared.delimiter.Delimiter.TheVariants.{Parenthesis, Brace, Bracket}
 use Rattle.std.specs.Prelude.{codes, List, [], ◌∷◌}
 use Rattle.syn_grammar.specs.Kind.{Kind, AConst, AFunction, AMacro, AStatic, AStruct, AType, ATypeAlias, AUnion}
 use Rattle.syn_grammar.specs.Kind.{AUse, Abi, AnArgument, AnEnum, AnExternCrate, AnyPath, Arguments, AtType}
 use Rattle.syn_grammar.specs.Kind.{Block, Body, Bound, BoundLifetimes, Bounds, BoundsColon, BracketType}
-use Rattle.syn_grammar.specs.Kind.{ConstParam, Delimited, DynType, FieldPattern, FieldPatterns, FnArg, FnPtrArg}
-use Rattle.syn_grammar.specs.Kind.{FnPtrType, GenericParam, GenericParams, Generics, IdentPattern, ImplGenerics}
-use Rattle.syn_grammar.specs.Kind.{ImplType, InExpression, InFile, InForeign, InImpl, InModule, InTrait, InType}
-use Rattle.syn_grammar.specs.Kind.{Index, InferType, InnerAttribute, InnerAttributes, ItemMacro, Label}
-use Rattle.syn_grammar.specs.Kind.{LifetimeColon, LifetimeParam, Lifetimes, LiteralPattern, Member, Meta}
-use Rattle.syn_grammar.specs.Kind.{NamedField, NamedFields, NeverType, OnePattern, OuterAttribute}
-use Rattle.syn_grammar.specs.Kind.{OuterAttributes, Parameter, Parameters, ParenthesizedArguments, Path}
-use Rattle.syn_grammar.specs.Kind.{PathPattern, Pattern, PointerType, QualifiedPath, RangeBound, RangeEnd}
-use Rattle.syn_grammar.specs.Kind.{RangeToPattern, Receiver, ReferencePattern, ReferenceType, RestPattern}
-use Rattle.syn_grammar.specs.Kind.{ReturnType, Segments, SeveralPatterns, Signature, SlicePattern, SomeBounds}
-use Rattle.syn_grammar.specs.Kind.{TraitPath, TuplePattern, TupleType, TypeParam, UnnamedField, UnnamedFields}
-use Rattle.syn_grammar.specs.Kind.{UseBranch, UseRooted, UseTop, UseTree, Variant, Visibility, Where, WhereClause}
-use Rattle.syn_grammar.specs.Kind.{WherePredicate, WildPattern, WithPlus, WithoutPlus}
+use Rattle.syn_grammar.specs.Kind.{ConstParam, Delimited, DynType, Expression, FieldPattern, FieldPatterns, FnArg}
+use Rattle.syn_grammar.specs.Kind.{FnPtrArg, FnPtrType, GenericParam, GenericParams, Generics, IdentPattern}
+use Rattle.syn_grammar.specs.Kind.{ImplGenerics, ImplType, InArm, InCondition, InExpression, InFile, InForeign}
+use Rattle.syn_grammar.specs.Kind.{InImpl, InModule, InStatement, InTrait, InType, Index, InferType}
+use Rattle.syn_grammar.specs.Kind.{InnerAttribute, InnerAttributes, ItemMacro, Label, LifetimeColon}
+use Rattle.syn_grammar.specs.Kind.{LifetimeParam, Lifetimes, LiteralPattern, Member, Meta, NamedField}
+use Rattle.syn_grammar.specs.Kind.{NamedFields, NeverType, OnePattern, OuterAttribute, OuterAttributes, Parameter}
+use Rattle.syn_grammar.specs.Kind.{Parameters, ParenthesizedArguments, Path, PathPattern, Pattern, Plain}
+use Rattle.syn_grammar.specs.Kind.{PointerType, QualifiedPath, RangeBound, RangeEnd, RangeToPattern, Receiver}
+use Rattle.syn_grammar.specs.Kind.{ReferencePattern, ReferenceType, RestPattern, ReturnType, Segments}
+use Rattle.syn_grammar.specs.Kind.{SeveralPatterns, Signature, SlicePattern, SomeBounds, TraitPath, TuplePattern}
+use Rattle.syn_grammar.specs.Kind.{TupleType, TypeParam, UnnamedField, UnnamedFields, UseBranch, UseRooted}
+use Rattle.syn_grammar.specs.Kind.{UseTop, UseTree, Variant, Visibility, Where, WhereClause, WherePredicate}
+use Rattle.syn_grammar.specs.Kind.{WildPattern, WithPlus, WithoutPlus}
 use Rattle.syn_grammar.specs.Words.{is_ident, is_index, any_text}
 
 abbrev pub starts : Kind → List Class
+starts (Expression Plain) = Then 35 [] (Opening Bracket) ∷ Quoted any_text ∷ Tick ∷ Opening Brace ∷ Opening
+    Parenthesis ∷ Opening Bracket ∷ Opening D.None ∷ TheWord (codes "true") ∷ TheWord (codes "false") ∷ TheWord
+    (codes "loop") ∷ TheWord (codes "while") ∷ TheWord (codes "for") ∷ TheWord (codes "static") ∷ TheWord
+    (codes "move") ∷ TheWord (codes "const") ∷ TheWord (codes "async") ∷ TheWord (codes "unsafe") ∷ TheWord
+    (codes "_") ∷ TheWord (codes "try") ∷ TheWord (codes "if") ∷ TheWord (codes "match") ∷ TheWord (codes "continue")
+    ∷ TheWord (codes "break") ∷ TheWord (codes "return") ∷ TheWord (codes "yield") ∷ TheWord (codes "let") ∷ Sign 124
+    [] ∷ Sign 38 [] ∷ Sign 42 [] ∷ Sign 33 [] ∷ Sign 45 [] ∷ Sign 46 (46 ∷ 61 ∷ []) ∷ Sign 46 (46 ∷ []) ∷ Sign 60 []
+    ∷ AnyWord is_ident ∷ TheWord (codes "Self") ∷ TheWord (codes "self") ∷ TheWord (codes "super") ∷ TheWord
+    (codes "crate") ∷ Then 58 (58 ∷ []) (AnyWord is_ident) ∷ Then 58 (58 ∷ []) (TheWord (codes "Self")) ∷ Then 58
+    (58 ∷ []) (TheWord (codes "self")) ∷ Then 58 (58 ∷ []) (TheWord (codes "super")) ∷ Then 58 (58 ∷ [])
+    (TheWord (codes "crate")) ∷ []
+starts (Expression InCondition) = Then 35 [] (Opening Bracket) ∷ Quoted any_text ∷ Tick ∷ Opening Brace ∷ Opening
+    Parenthesis ∷ Opening Bracket ∷ Opening D.None ∷ TheWord (codes "true") ∷ TheWord (codes "false") ∷ TheWord
+    (codes "loop") ∷ TheWord (codes "while") ∷ TheWord (codes "for") ∷ TheWord (codes "static") ∷ TheWord
+    (codes "move") ∷ TheWord (codes "const") ∷ TheWord (codes "async") ∷ TheWord (codes "unsafe") ∷ TheWord
+    (codes "_") ∷ TheWord (codes "try") ∷ TheWord (codes "if") ∷ TheWord (codes "match") ∷ TheWord (codes "continue")
+    ∷ TheWord (codes "break") ∷ TheWord (codes "return") ∷ TheWord (codes "yield") ∷ TheWord (codes "let") ∷ Sign 124
+    [] ∷ Sign 38 [] ∷ Sign 42 [] ∷ Sign 33 [] ∷ Sign 45 [] ∷ Sign 46 (46 ∷ 61 ∷ []) ∷ Sign 46 (46 ∷ []) ∷ Sign 60 []
+    ∷ AnyWord is_ident ∷ TheWord (codes "Self") ∷ TheWord (codes "self") ∷ TheWord (codes "super") ∷ TheWord
+    (codes "crate") ∷ Then 58 (58 ∷ []) (AnyWord is_ident) ∷ Then 58 (58 ∷ []) (TheWord (codes "Self")) ∷ Then 58
+    (58 ∷ []) (TheWord (codes "self")) ∷ Then 58 (58 ∷ []) (TheWord (codes "super")) ∷ Then 58 (58 ∷ [])
+    (TheWord (codes "crate")) ∷ []
+starts (Expression InArm) = Then 35 [] (Opening Bracket) ∷ Quoted any_text ∷ Tick ∷ Opening Brace ∷ Opening
+    Parenthesis ∷ Opening Bracket ∷ Opening D.None ∷ TheWord (codes "true") ∷ TheWord (codes "false") ∷ TheWord
+    (codes "loop") ∷ TheWord (codes "while") ∷ TheWord (codes "for") ∷ TheWord (codes "static") ∷ TheWord
+    (codes "move") ∷ TheWord (codes "const") ∷ TheWord (codes "async") ∷ TheWord (codes "unsafe") ∷ TheWord
+    (codes "_") ∷ TheWord (codes "try") ∷ TheWord (codes "if") ∷ TheWord (codes "match") ∷ TheWord (codes "continue")
+    ∷ TheWord (codes "break") ∷ TheWord (codes "return") ∷ TheWord (codes "yield") ∷ TheWord (codes "let") ∷ Sign 124
+    [] ∷ Sign 38 [] ∷ Sign 42 [] ∷ Sign 33 [] ∷ Sign 45 [] ∷ Sign 46 (46 ∷ 61 ∷ []) ∷ Sign 46 (46 ∷ []) ∷ Sign 60 []
+    ∷ AnyWord is_ident ∷ TheWord (codes "Self") ∷ TheWord (codes "self") ∷ TheWord (codes "super") ∷ TheWord
+    (codes "crate") ∷ Then 58 (58 ∷ []) (AnyWord is_ident) ∷ Then 58 (58 ∷ []) (TheWord (codes "Self")) ∷ Then 58
+    (58 ∷ []) (TheWord (codes "self")) ∷ Then 58 (58 ∷ []) (TheWord (codes "super")) ∷ Then 58 (58 ∷ [])
+    (TheWord (codes "crate")) ∷ []
+starts (Expression InStatement) = Then 35 [] (Opening Bracket) ∷ Quoted any_text ∷ Tick ∷ Opening Brace ∷ Opening
+    Parenthesis ∷ Opening Bracket ∷ Opening D.None ∷ TheWord (codes "true") ∷ TheWord (codes "false") ∷ TheWord
+    (codes "loop") ∷ TheWord (codes "while") ∷ TheWord (codes "for") ∷ TheWord (codes "static") ∷ TheWord
+    (codes "move") ∷ TheWord (codes "const") ∷ TheWord (codes "async") ∷ TheWord (codes "unsafe") ∷ TheWord
+    (codes "_") ∷ TheWord (codes "try") ∷ TheWord (codes "if") ∷ TheWord (codes "match") ∷ TheWord (codes "continue")
+    ∷ TheWord (codes "break") ∷ TheWord (codes "return") ∷ TheWord (codes "yield") ∷ Sign 124 [] ∷ Sign 38 [] ∷ Sign
+    42 [] ∷ Sign 33 [] ∷ Sign 45 [] ∷ Sign 46 (46 ∷ 61 ∷ []) ∷ Sign 46 (46 ∷ []) ∷ Sign 60 [] ∷ AnyWord is_ident ∷
+    TheWord (codes "Self") ∷ TheWord (codes "self") ∷ TheWord (codes "super") ∷ TheWord (codes "crate") ∷ Then 58
+    (58 ∷ []) (AnyWord is_ident) ∷ Then 58 (58 ∷ []) (TheWord (codes "Self")) ∷ Then 58 (58 ∷ [])
+    (TheWord (codes "self")) ∷ Then 58 (58 ∷ []) (TheWord (codes "super")) ∷ Then 58 (58 ∷ [])
+    (TheWord (codes "crate")) ∷ []
 starts (Path InModule) = Then 58 (58 ∷ []) (TheWord (codes "self")) ∷ Then 58 (58 ∷ []) (TheWord (codes "super")) ∷
     Then 58 (58 ∷ []) (TheWord (codes "crate")) ∷ Then 58 (58 ∷ []) (AnyWord is_ident) ∷ Then 58 (58 ∷ [])
     (TheWord (codes "Self")) ∷ TheWord (codes "self") ∷ TheWord (codes "super") ∷ TheWord (codes "crate") ∷ AnyWord

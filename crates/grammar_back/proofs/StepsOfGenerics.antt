@@ -22,7 +22,7 @@ use Rattle.syn_grammar.specs.Words.{is_ident, any_text, is_name, is_path_keyword
 
 pub step_generics : Step Generics
 unfolding table skips is_path_keyword is_plain_name is_bool is_name
-step_generics = maybe_step Generics refl
+step_generics = maybe_step Generics refl refl
     (found_optional (marks "<")
     (found_seq found_mark
     (maybe_seq (maybe_called (maybe_ref GenericParams refl)) found_mark (
@@ -48,25 +48,25 @@ step_generics = maybe_step Generics refl
 
 pub step_generic_params : Step GenericParams
 unfolding table skips is_path_keyword is_plain_name is_bool is_name
-step_generic_params = maybe_step GenericParams refl
+step_generic_params = maybe_step GenericParams refl refl
     (found_many (marks ">") (found_ref GenericParam refl) (search)
     (λ ts. (refl, (refl, (refl, (refl, (refl, (refl, (refl, (refl, (refl, tt)))))))))))
 
 pub step_lifetime_param : Step LifetimeParam
 unfolding table skips is_path_keyword is_plain_name is_bool is_name
-step_lifetime_param = found_step LifetimeParam refl
+step_lifetime_param = found_step LifetimeParam refl refl
     (maybe_seq (maybe_ref OuterAttributes refl)
     (found_before found_lifetime (maybe_ref LifetimeColon refl) tt (λ s a. tt)) ((λ cs us. refl, tt), tt))
 
 pub step_lifetime_colon : Step LifetimeColon
 unfolding table skips is_path_keyword is_plain_name is_bool is_name
-step_lifetime_colon = maybe_step LifetimeColon refl
+step_lifetime_colon = maybe_step LifetimeColon refl refl
     (found_optional (marks ":") (found_before found_mark (maybe_called (maybe_ref Lifetimes refl)) tt (λ s a. tt))
     (λ us. refl, tt))
 
 pub step_const_param : Step ConstParam
 unfolding table skips is_path_keyword is_plain_name is_bool is_name
-step_const_param = found_step ConstParam refl
+step_const_param = found_step ConstParam refl refl
     (maybe_seq (maybe_ref OuterAttributes refl)
     (found_seq (found_text "const")
     (found_seq (found_word is_ident)
@@ -94,7 +94,7 @@ step_const_param = found_step ConstParam refl
 
 pub step_type_param : Step TypeParam
 unfolding table skips is_path_keyword is_plain_name is_bool is_name
-step_type_param = found_step TypeParam refl
+step_type_param = found_step TypeParam refl refl
     (weaken ((marks "=") ∷ (marks "::") ∷ (arguments_stand AtType) ∷ (parentheses_stand AtType) ∷ (marks "->") ∷
     (marks ":") ∷ bound_stands ∷ (marks "+") ∷ [])
     (maybe_seq (maybe_ref OuterAttributes refl)
@@ -125,18 +125,18 @@ step_type_param = found_step TypeParam refl
 
 pub step_bounds_colon : Step BoundsColon
 unfolding table skips is_path_keyword is_plain_name is_bool is_name
-step_bounds_colon = maybe_step BoundsColon refl
+step_bounds_colon = maybe_step BoundsColon refl refl
     (found_optional (marks ":") (found_before found_mark (maybe_called (maybe_ref Bounds refl)) tt (λ s a. tt))
     (λ us. refl, tt))
 
 pub step_where : Step Where
 unfolding table skips is_path_keyword is_plain_name is_bool is_name
-step_where = maybe_step Where refl
+step_where = maybe_step Where refl refl
     (found_optional (at "where") (found_called (found_ref WhereClause refl)) (λ us. refl, tt))
 
 pub step_where_clause : Step WhereClause
 unfolding table skips is_path_keyword is_plain_name is_bool is_name
-step_where_clause = found_step WhereClause refl
+step_where_clause = found_step WhereClause refl refl
     (found_before (found_text "where")
     (maybe_both (maybe_called
     (found_many where_ends (found_ref WherePredicate refl) (search)

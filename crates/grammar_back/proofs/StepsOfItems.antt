@@ -13,9 +13,9 @@ use Rattle.grammar_back.proofs.Sights.{ident_not}
 use Rattle.std.specs.Prelude.{codes, refl, [], ◌∷◌}
 use Rattle.syn_grammar.specs.Generics.{where_ends}
 use Rattle.syn_grammar.specs.Items.{use_words}
-use Rattle.syn_grammar.specs.Kind.{AConst, AFunction, AStatic, AStruct, AType, ATypeAlias, AUnion, AUse, Abi}
-use Rattle.syn_grammar.specs.Kind.{AnEnum, AnExternCrate, AtType, Body, BoundsColon, Expression, FnArg, Generics}
-use Rattle.syn_grammar.specs.Kind.{InFile, InForeign, InImpl, InModule, InTrait, ItemMacro, Label, NamedField}
+use Rattle.syn_grammar.specs.Kind.{AFunction, AStatic, AStruct, AType, ATypeAlias, AUnion, AUse, Abi, AnEnum}
+use Rattle.syn_grammar.specs.Kind.{AnExternCrate, AtType, Body, BoundsColon, Expression, FnArg, Generics, InFile}
+use Rattle.syn_grammar.specs.Kind.{InForeign, InImpl, InModule, InTrait, ItemMacro, Label, NamedField}
 use Rattle.syn_grammar.specs.Kind.{NamedFields, OuterAttributes, Parameter, Parameters, Path, Plain, Receiver}
 use Rattle.syn_grammar.specs.Kind.{ReturnType, Signature, UnnamedField, UnnamedFields, UseBranch, UseRooted}
 use Rattle.syn_grammar.specs.Kind.{UseTop, UseTree, Variant, Visibility, Where, WithPlus}
@@ -29,29 +29,29 @@ use Rattle.syn_grammar.specs.Words.{is_ident, is_name, is_path_keyword, is_plain
 
 pub step_named_fields : Step NamedFields
 unfolding table skips is_path_keyword is_plain_name is_bool is_name
-step_named_fields = found_step NamedFields refl
+step_named_fields = found_step NamedFields refl refl
     (found_group (found_to_end (found_ref NamedField refl) (search)
     (λ ts. (refl, (refl, (refl, (refl, (refl, (refl, (refl, (refl, tt)))))))))
     (refl, (refl, (refl, (refl, (refl, (refl, (refl, (refl, tt))))))))))
 
 pub step_unnamed_fields : Step UnnamedFields
 unfolding table skips is_path_keyword is_plain_name is_bool is_name
-step_unnamed_fields = found_step UnnamedFields refl
+step_unnamed_fields = found_step UnnamedFields refl refl
     (found_group (found_to_end (found_ref UnnamedField refl) (search)
     (λ ts. (refl, (refl, (refl, (refl, (refl, (refl, (refl, tt))))))))
     (refl, (refl, (refl, (refl, (refl, (refl, (refl, tt)))))))))
 
 pub step_named_field : Step NamedField
 unfolding table skips is_path_keyword is_plain_name is_bool is_name
-step_named_field = found_step NamedField refl
+step_named_field = found_step NamedField refl refl
     (maybe_seq (maybe_ref OuterAttributes refl)
     (maybe_seq (maybe_ref Visibility refl)
     (found_seq (found_alt (at "_") (found_text "_") (found_word is_ident) (λ us. refl, tt)
     ((λ cs h us. simp (ident_not (codes "_") cs reserved_underscore h) refl) & tt))
     (found_seq found_mark
     (found_before (found_ref (AType WithPlus) refl)
-    (weaken_maybe ((marks "=") ∷ (no (the_end or marks "," or marks ";" or marks "=>" or at "where")) ∷ (marks "::")
-    ∷ (arguments_stand AtType) ∷ (parentheses_stand AtType) ∷ (marks "->") ∷ bound_stands ∷ (marks "+") ∷ [])
+    (weaken_maybe ((marks "=") ∷ (no (the_end or marks "," or marks ";" or marks "=>")) ∷ (marks "::") ∷
+    (arguments_stand AtType) ∷ (parentheses_stand AtType) ∷ (marks "->") ∷ bound_stands ∷ (marks "+") ∷ [])
     (found_optional (marks "=") (found_seq found_mark (found_called (found_ref (Expression Plain) refl)) tt)
     (λ us. refl, tt)) (λ s a. (a.0, (a.1.0, tt)))) (
       (λ us. refl, tt),
@@ -66,24 +66,22 @@ step_named_field = found_step NamedField refl
 
 pub step_variant : Step Variant
 unfolding table skips is_path_keyword is_plain_name is_bool is_name
-step_variant = found_step Variant refl
+step_variant = found_step Variant refl refl
     (maybe_seq (maybe_ref OuterAttributes refl)
     (maybe_seq (found_dropped (maybe_ref Visibility refl))
     (found_before (found_word is_ident)
     (maybe_both (maybe_alt brace (weaken (parenthesis ∷ []) (found_ref NamedFields refl) (λ s a. tt))
     (found_optional parenthesis (found_ref UnnamedFields refl) (λ us. refl, tt)) (λ us. refl, tt) (λ us. refl, tt))
-    (weaken_maybe ((marks "=") ∷ (no (the_end or marks "," or marks ";" or marks "=>" or at "where")) ∷ brace ∷
-    parenthesis ∷ []) (found_optional (marks "=")
-    (found_seq found_mark (found_called (found_ref (Expression Plain) refl)) tt) (λ us. refl, tt))
-    (λ s a. (a.0, (a.1.0, tt)))) ((λ us. refl, tt), ((λ us. refl, tt), tt)) (λ s a. (a.1.1.0, (a.1.1.1.0, tt)))) tt
-    (λ s a. tt)) (
-      ((λ cs h us. simp (ident_not (codes "pub") cs reserved_pub h) refl) & tt),
-      ((λ cs h us. refl, tt), tt),
-    )) ((λ cs h us. refl, tt), tt))
+    (weaken_maybe ((marks "=") ∷ (no (the_end or marks "," or marks ";" or marks "=>")) ∷ brace ∷ parenthesis ∷ [])
+    (found_optional (marks "=") (found_seq found_mark (found_called (found_ref (Expression Plain) refl)) tt)
+    (λ us. refl, tt)) (λ s a. (a.0, (a.1.0, tt)))) ((λ us. refl, tt), ((λ us. refl, tt), tt))
+    (λ s a. (a.1.1.0, (a.1.1.1.0, tt)))) tt (λ s a. tt))
+    (((λ cs h us. simp (ident_not (codes "pub") cs reserved_pub h) refl) & tt), ((λ cs h us. refl, tt), tt)))
+    ((λ cs h us. refl, tt), tt))
 
 pub step_a_struct : Step AStruct
 unfolding table skips is_path_keyword is_plain_name is_bool is_name
-step_a_struct = found_step AStruct refl
+step_a_struct = found_step AStruct refl refl
     (found_seq (found_text "struct")
     (found_seq (found_called (found_word is_ident))
     (maybe_seq (maybe_called (maybe_ref Generics refl))
@@ -120,7 +118,7 @@ step_a_struct = found_step AStruct refl
 
 pub step_an_enum : Step AnEnum
 unfolding table skips is_path_keyword is_plain_name is_bool is_name
-step_an_enum = found_step AnEnum refl
+step_an_enum = found_step AnEnum refl refl
     (found_seq (found_text "enum")
     (found_seq (found_called (found_word is_ident))
     (maybe_seq (maybe_called (maybe_ref Generics refl))
@@ -148,7 +146,7 @@ step_an_enum = found_step AnEnum refl
 
 pub step_a_union : Step AUnion
 unfolding table skips is_path_keyword is_plain_name is_bool is_name
-step_a_union = found_step AUnion refl
+step_a_union = found_step AUnion refl refl
     (found_seq (found_text "union")
     (found_seq (found_called (found_word is_ident))
     (maybe_seq (maybe_called (maybe_ref Generics refl))
@@ -174,7 +172,7 @@ step_a_union = found_step AUnion refl
 
 pub step_a_static : Step AStatic
 unfolding table skips is_path_keyword is_plain_name is_bool is_name
-step_a_static = found_step AStatic refl
+step_a_static = found_step AStatic refl refl
     (found_seq (found_text "static")
     (maybe_seq (found_optional (at "mut") (found_text "mut") (λ us. refl, tt))
     (found_seq (found_called (found_word is_ident))
@@ -185,55 +183,9 @@ step_a_static = found_step AStatic refl
     ((search), ((search), ((search), ((search), ((search), ((search), ((search), tt)))))))) tt)
     (((λ cs h us. simp (ident_not (codes "mut") cs reserved_mut h) refl) & tt), tt)) tt)
 
-pub step_a_const : Step AConst
-unfolding table skips is_path_keyword is_plain_name is_bool is_name
-step_a_const = found_step AConst refl
-    (found_seq (found_text "const")
-    (found_seq (found_called
-    (found_alt (at "_") (found_text "_") (found_word is_ident) (λ us. refl, tt)
-    ((λ cs h us. simp (ident_not (codes "_") cs reserved_underscore h) refl) & tt)))
-    (maybe_seq (maybe_called (maybe_ref Generics refl))
-    (found_seq found_mark
-    (found_seq (found_called (found_ref (AType WithPlus) refl))
-    (maybe_seq (found_optional (marks "=")
-    (found_seq found_mark (found_called (found_ref (Expression Plain) refl)) tt) (λ us. refl, tt))
-    (maybe_seq (maybe_called (maybe_ref Where refl)) found_mark (
-      (λ us. refl, tt),
-      (
-        (λ us. refl, tt),
-        (
-          (λ us. refl, tt),
-          (
-            (λ us. refl, tt),
-            (
-              (λ us. refl, tt),
-              (
-                (λ us. refl, tt),
-                ((λ us. refl, tt), ((λ us. refl, tt), ((λ us. refl, tt), ((λ us. refl, tt), tt)))),
-              ),
-            ),
-          ),
-        ),
-      ),
-    ))
-    ((search), ((search), tt))) (
-      (search),
-      (
-        (search),
-        (
-          (search),
-          (
-            (search),
-            (((λ us. refl) & (λ us. simp (reserved_where) refl) & (λ us. refl) & tt), ((search), tt)),
-          ),
-        ),
-      ),
-    )) tt)
-    ((λ us. refl, tt), tt)) tt) tt)
-
 pub step_an_extern_crate : Step AnExternCrate
 unfolding table skips is_path_keyword is_plain_name is_bool is_name
-step_an_extern_crate = found_step AnExternCrate refl
+step_an_extern_crate = found_step AnExternCrate refl refl
     (found_seq (found_text "extern")
     (found_seq (found_text "crate")
     (found_seq (found_called
@@ -247,25 +199,25 @@ step_an_extern_crate = found_step AnExternCrate refl
 
 pub step_a_use : Step AUse
 unfolding table skips is_path_keyword is_plain_name is_bool is_name
-step_a_use = found_step AUse refl
+step_a_use = found_step AUse refl refl
     (found_seq (found_text "use")
     (found_seq (found_called (found_ref UseTop refl)) found_mark ((λ us. refl, tt), ((λ us. refl, tt), tt))) tt)
 
 pub step_use_top : Step UseTop
 unfolding table skips is_path_keyword is_plain_name is_bool is_name
-step_use_top = found_step UseTop refl
+step_use_top = found_step UseTop refl refl
     (found_alt (marks "::") (found_then (found_ref UseTree refl)) (found_ref UseRooted refl) (search) (search))
 
 pub step_use_tree : Step UseTree
 unfolding table skips is_path_keyword is_plain_name is_bool is_name
-step_use_tree = found_step UseTree refl
+step_use_tree = found_step UseTree refl refl
     (found_alt brace (weaken ((marks "::") ∷ (at "as") ∷ [])
     (found_group (found_to_end (found_ref UseTree refl) (search) (λ ts. (refl, (refl, tt))) (refl, (refl, tt))))
     (λ s a. tt)) (found_ref UseBranch refl) (λ us. refl, tt) (search))
 
 pub step_use_branch : Step UseBranch
 unfolding table skips is_path_keyword is_plain_name is_bool is_name
-step_use_branch = found_step UseBranch refl
+step_use_branch = found_step UseBranch refl refl
     (weaken ((marks "::") ∷ (at "as") ∷ [])
     (found_alt (marks "*") (weaken ((marks "::") ∷ (marks "::") ∷ (at "as") ∷ []) found_mark (λ s a. tt))
     (found_before (found_alt (one_of use_words) (found_words use_words) (found_word is_ident) (search)
@@ -286,14 +238,14 @@ step_use_branch = found_step UseBranch refl
 
 pub step_use_rooted : Step UseRooted
 unfolding table skips is_path_keyword is_plain_name is_bool is_name
-step_use_rooted = found_step UseRooted refl
+step_use_rooted = found_step UseRooted refl refl
     (found_alt brace (weaken ((marks "::") ∷ (at "as") ∷ [])
     (found_group (found_to_end (found_ref UseTop refl) (search) (λ ts. (refl, (refl, tt))) (refl, (refl, tt))))
     (λ s a. tt)) (found_ref UseBranch refl) (λ us. refl, tt) (search))
 
 pub step_parameters : Step Parameters
 unfolding table skips is_path_keyword is_plain_name is_bool is_name
-step_parameters = found_step Parameters refl
+step_parameters = found_step Parameters refl refl
     (found_judged (found_group
     (found_to_end (found_ref Parameter refl) (search)
     (λ ts. (refl, (refl, (refl, (refl, (refl, (refl, (refl, tt))))))))
@@ -301,11 +253,11 @@ step_parameters = found_step Parameters refl
 
 pub step_fn_arg : Step FnArg
 unfolding table skips is_path_keyword is_plain_name is_bool is_name
-step_fn_arg = found_step FnArg refl (found_judged (found_ref Parameter refl))
+step_fn_arg = found_step FnArg refl refl (found_judged (found_ref Parameter refl))
 
 pub step_receiver : Step Receiver
 unfolding table skips is_path_keyword is_plain_name is_bool is_name
-step_receiver = found_step Receiver refl
+step_receiver = found_step Receiver refl refl
     (found_alt (marks "&")
     (weaken ((marks ":") ∷ (marks "::") ∷ (arguments_stand AtType) ∷ (parentheses_stand AtType) ∷ (marks "->") ∷
     bound_stands ∷ (marks "+") ∷ [])
@@ -320,7 +272,7 @@ step_receiver = found_step Receiver refl
 
 pub step_signature_in_file : Step (Signature InFile)
 unfolding table skips is_path_keyword is_plain_name is_bool is_name
-step_signature_in_file = found_step (Signature InFile) refl
+step_signature_in_file = found_step (Signature InFile) refl refl
     (weaken ((at "where") ∷ (marks "->") ∷ (marks "::") ∷ (arguments_stand AtType) ∷ (parentheses_stand AtType) ∷
     (no where_ends) ∷ (marks ",") ∷ a_lifetime ∷ (marks "+") ∷ bound_stands ∷ [])
     (maybe_seq (found_optional (at "const") (found_text "const") (λ us. refl, tt))
@@ -360,7 +312,7 @@ step_signature_in_file = found_step (Signature InFile) refl
 
 pub step_signature_in_foreign : Step (Signature InForeign)
 unfolding table skips is_path_keyword is_plain_name is_bool is_name
-step_signature_in_foreign = found_step (Signature InForeign) refl
+step_signature_in_foreign = found_step (Signature InForeign) refl refl
     (weaken ((at "where") ∷ (marks "->") ∷ (marks "::") ∷ (arguments_stand AtType) ∷ (parentheses_stand AtType) ∷
     (no where_ends) ∷ (marks ",") ∷ a_lifetime ∷ (marks "+") ∷ bound_stands ∷ [])
     (maybe_seq (found_optional (at "const") (found_text "const") (λ us. refl, tt))
@@ -401,7 +353,7 @@ step_signature_in_foreign = found_step (Signature InForeign) refl
 
 pub step_signature_in_trait : Step (Signature InTrait)
 unfolding table skips is_path_keyword is_plain_name is_bool is_name
-step_signature_in_trait = found_step (Signature InTrait) refl
+step_signature_in_trait = found_step (Signature InTrait) refl refl
     (weaken ((at "where") ∷ (marks "->") ∷ (marks "::") ∷ (arguments_stand AtType) ∷ (parentheses_stand AtType) ∷
     (no where_ends) ∷ (marks ",") ∷ a_lifetime ∷ (marks "+") ∷ bound_stands ∷ [])
     (maybe_seq (found_optional (at "const") (found_text "const") (λ us. refl, tt))
@@ -441,7 +393,7 @@ step_signature_in_trait = found_step (Signature InTrait) refl
 
 pub step_signature_in_impl : Step (Signature InImpl)
 unfolding table skips is_path_keyword is_plain_name is_bool is_name
-step_signature_in_impl = found_step (Signature InImpl) refl
+step_signature_in_impl = found_step (Signature InImpl) refl refl
     (weaken ((at "where") ∷ (marks "->") ∷ (marks "::") ∷ (arguments_stand AtType) ∷ (parentheses_stand AtType) ∷
     (no where_ends) ∷ (marks ",") ∷ a_lifetime ∷ (marks "+") ∷ bound_stands ∷ [])
     (maybe_seq (found_optional (at "const") (found_text "const") (λ us. refl, tt))
@@ -481,7 +433,7 @@ step_signature_in_impl = found_step (Signature InImpl) refl
 
 pub step_a_function_in_file : Step (AFunction InFile)
 unfolding table skips is_path_keyword is_plain_name is_bool is_name
-step_a_function_in_file = found_step (AFunction InFile) refl
+step_a_function_in_file = found_step (AFunction InFile) refl refl
     (found_seq (found_ref (Signature InFile) refl)
     (found_alt brace (found_called (found_ref Body refl)) found_mark (λ us. refl, tt) (λ us. refl, tt)) (
       (search),
@@ -493,7 +445,7 @@ step_a_function_in_file = found_step (AFunction InFile) refl
 
 pub step_a_function_in_foreign : Step (AFunction InForeign)
 unfolding table skips is_path_keyword is_plain_name is_bool is_name
-step_a_function_in_foreign = found_step (AFunction InForeign) refl
+step_a_function_in_foreign = found_step (AFunction InForeign) refl refl
     (found_seq (found_ref (Signature InForeign) refl)
     (found_alt brace (found_called (found_ref Body refl)) found_mark (λ us. refl, tt) (λ us. refl, tt)) (
       (search),
@@ -505,7 +457,7 @@ step_a_function_in_foreign = found_step (AFunction InForeign) refl
 
 pub step_a_function_in_trait : Step (AFunction InTrait)
 unfolding table skips is_path_keyword is_plain_name is_bool is_name
-step_a_function_in_trait = found_step (AFunction InTrait) refl
+step_a_function_in_trait = found_step (AFunction InTrait) refl refl
     (found_seq (found_ref (Signature InTrait) refl)
     (found_alt brace (found_called (found_ref Body refl)) found_mark (λ us. refl, tt) (λ us. refl, tt)) (
       (search),
@@ -517,7 +469,7 @@ step_a_function_in_trait = found_step (AFunction InTrait) refl
 
 pub step_a_function_in_impl : Step (AFunction InImpl)
 unfolding table skips is_path_keyword is_plain_name is_bool is_name
-step_a_function_in_impl = found_step (AFunction InImpl) refl
+step_a_function_in_impl = found_step (AFunction InImpl) refl refl
     (found_seq (found_ref (Signature InImpl) refl)
     (found_alt brace (found_called (found_ref Body refl)) found_mark (λ us. refl, tt) (λ us. refl, tt)) (
       (search),
@@ -529,7 +481,7 @@ step_a_function_in_impl = found_step (AFunction InImpl) refl
 
 pub step_a_type_alias_in_trait : Step (ATypeAlias InTrait)
 unfolding table skips is_path_keyword is_plain_name is_bool is_name
-step_a_type_alias_in_trait = found_step (ATypeAlias InTrait) refl
+step_a_type_alias_in_trait = found_step (ATypeAlias InTrait) refl refl
     (found_seq (found_text "type")
     (found_seq (found_called (found_word is_ident))
     (maybe_seq (maybe_called (maybe_ref Generics refl))
@@ -608,7 +560,7 @@ step_a_type_alias_in_trait = found_step (ATypeAlias InTrait) refl
 
 pub step_a_type_alias_in_impl : Step (ATypeAlias InImpl)
 unfolding table skips is_path_keyword is_plain_name is_bool is_name
-step_a_type_alias_in_impl = found_step (ATypeAlias InImpl) refl
+step_a_type_alias_in_impl = found_step (ATypeAlias InImpl) refl refl
     (found_seq (found_text "type")
     (found_seq (found_called (found_word is_ident))
     (maybe_seq (maybe_called (maybe_ref Generics refl))
@@ -687,7 +639,7 @@ step_a_type_alias_in_impl = found_step (ATypeAlias InImpl) refl
 
 pub step_item_macro_in_file : Step (ItemMacro InFile)
 unfolding table skips is_path_keyword is_plain_name is_bool is_name
-step_item_macro_in_file = found_step (ItemMacro InFile) refl
+step_item_macro_in_file = found_step (ItemMacro InFile) refl refl
     (found_seq (found_ref (Path InModule) refl)
     (found_seq found_mark
     (maybe_seq (found_optional (an_ident or at "try")
@@ -700,7 +652,7 @@ step_item_macro_in_file = found_step (ItemMacro InFile) refl
 
 pub step_item_macro_in_foreign : Step (ItemMacro InForeign)
 unfolding table skips is_path_keyword is_plain_name is_bool is_name
-step_item_macro_in_foreign = found_step (ItemMacro InForeign) refl
+step_item_macro_in_foreign = found_step (ItemMacro InForeign) refl refl
     (found_seq (found_ref (Path InModule) refl)
     (found_seq found_mark
     (maybe_seq maybe_none
@@ -710,7 +662,7 @@ step_item_macro_in_foreign = found_step (ItemMacro InForeign) refl
 
 pub step_item_macro_in_trait : Step (ItemMacro InTrait)
 unfolding table skips is_path_keyword is_plain_name is_bool is_name
-step_item_macro_in_trait = found_step (ItemMacro InTrait) refl
+step_item_macro_in_trait = found_step (ItemMacro InTrait) refl refl
     (found_seq (found_ref (Path InModule) refl)
     (found_seq found_mark
     (maybe_seq maybe_none
@@ -720,7 +672,7 @@ step_item_macro_in_trait = found_step (ItemMacro InTrait) refl
 
 pub step_item_macro_in_impl : Step (ItemMacro InImpl)
 unfolding table skips is_path_keyword is_plain_name is_bool is_name
-step_item_macro_in_impl = found_step (ItemMacro InImpl) refl
+step_item_macro_in_impl = found_step (ItemMacro InImpl) refl refl
     (found_seq (found_ref (Path InModule) refl)
     (found_seq found_mark
     (maybe_seq maybe_none
@@ -730,4 +682,4 @@ step_item_macro_in_impl = found_step (ItemMacro InImpl) refl
 
 pub step_label : Step Label
 unfolding table skips is_path_keyword is_plain_name is_bool is_name
-step_label = found_step Label refl (found_seq found_lifetime found_mark tt)
+step_label = found_step Label refl refl (found_seq found_lifetime found_mark tt)

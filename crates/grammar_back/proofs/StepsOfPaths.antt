@@ -25,27 +25,27 @@ use Rattle.syn_grammar.specs.Words.{is_ident, is_index, any_text, is_name, is_pa
 
 pub step_path_in_module : Step (Path InModule)
 unfolding table skips is_path_keyword is_plain_name is_bool is_name
-step_path_in_module = found_step (Path InModule) refl
+step_path_in_module = found_step (Path InModule) refl refl
     (found_perhaps_then (marks "::") (found_ref (Segments InModule) refl) (search) (search))
 
 pub step_path_in_expression : Step (Path InExpression)
 unfolding table skips is_path_keyword is_plain_name is_bool is_name
-step_path_in_expression = found_step (Path InExpression) refl
+step_path_in_expression = found_step (Path InExpression) refl refl
     (found_perhaps_then (marks "::") (found_ref (Segments InExpression) refl) (search) (search))
 
 pub step_path_in_type : Step (Path InType)
 unfolding table skips is_path_keyword is_plain_name is_bool is_name
-step_path_in_type = found_step (Path InType) refl
+step_path_in_type = found_step (Path InType) refl refl
     (found_perhaps_then (marks "::") (found_ref (Segments InType) refl) (search) (search))
 
 pub step_path_at_type : Step (Path AtType)
 unfolding table skips is_path_keyword is_plain_name is_bool is_name
-step_path_at_type = found_step (Path AtType) refl
+step_path_at_type = found_step (Path AtType) refl refl
     (found_perhaps_then (marks "::") (found_ref (Segments AtType) refl) (search) (search))
 
 pub step_segments_in_module : Step (Segments InModule)
 unfolding table skips is_path_keyword is_plain_name is_bool is_name
-step_segments_in_module = found_step (Segments InModule) refl
+step_segments_in_module = found_step (Segments InModule) refl refl
     (weaken ((marks "::") ∷ [])
     (found_alt (a_word is_path_keyword)
     (found_before (found_words (codes "self" ∷ codes "super" ∷ codes "crate" ∷ []))
@@ -63,7 +63,7 @@ step_segments_in_module = found_step (Segments InModule) refl
 
 pub step_segments_in_type : Step (Segments InType)
 unfolding table skips is_path_keyword is_plain_name is_bool is_name
-step_segments_in_type = found_step (Segments InType) refl
+step_segments_in_type = found_step (Segments InType) refl refl
     (weaken ((marks "::") ∷ (arguments_stand InType) ∷ [])
     (found_alt (a_word is_path_keyword)
     (found_before (found_words (codes "self" ∷ codes "super" ∷ codes "crate" ∷ []))
@@ -85,7 +85,7 @@ step_segments_in_type = found_step (Segments InType) refl
 
 pub step_segments_at_type : Step (Segments AtType)
 unfolding table skips is_path_keyword is_plain_name is_bool is_name
-step_segments_at_type = found_step (Segments AtType) refl
+step_segments_at_type = found_step (Segments AtType) refl refl
     (weaken ((marks "::") ∷ (arguments_stand AtType) ∷ (parentheses_stand AtType) ∷ (marks "->") ∷ [])
     (found_alt (a_word is_path_keyword)
     (found_before (found_words (codes "self" ∷ codes "super" ∷ codes "crate" ∷ []))
@@ -109,7 +109,7 @@ step_segments_at_type = found_step (Segments AtType) refl
 
 pub step_qualified_path_in_module : Step (QualifiedPath InModule)
 unfolding table skips is_path_keyword is_plain_name is_bool is_name
-step_qualified_path_in_module = found_step (QualifiedPath InModule) refl
+step_qualified_path_in_module = found_step (QualifiedPath InModule) refl refl
     (found_seq found_mark
     (found_seq (found_ref (AType WithPlus) refl)
     (maybe_seq (found_optional (at "as") (found_seq (found_text "as") (found_ref (Path InType) refl) tt)
@@ -124,7 +124,7 @@ step_qualified_path_in_module = found_step (QualifiedPath InModule) refl
 
 pub step_qualified_path_in_expression : Step (QualifiedPath InExpression)
 unfolding table skips is_path_keyword is_plain_name is_bool is_name
-step_qualified_path_in_expression = found_step (QualifiedPath InExpression) refl
+step_qualified_path_in_expression = found_step (QualifiedPath InExpression) refl refl
     (found_seq found_mark
     (found_seq (found_ref (AType WithPlus) refl)
     (maybe_seq (found_optional (at "as") (found_seq (found_text "as") (found_ref (Path InType) refl) tt)
@@ -139,7 +139,7 @@ step_qualified_path_in_expression = found_step (QualifiedPath InExpression) refl
 
 pub step_qualified_path_in_type : Step (QualifiedPath InType)
 unfolding table skips is_path_keyword is_plain_name is_bool is_name
-step_qualified_path_in_type = found_step (QualifiedPath InType) refl
+step_qualified_path_in_type = found_step (QualifiedPath InType) refl refl
     (found_seq found_mark
     (found_seq (found_ref (AType WithPlus) refl)
     (maybe_seq (found_optional (at "as") (found_seq (found_text "as") (found_ref (Path InType) refl) tt)
@@ -154,7 +154,7 @@ step_qualified_path_in_type = found_step (QualifiedPath InType) refl
 
 pub step_qualified_path_at_type : Step (QualifiedPath AtType)
 unfolding table skips is_path_keyword is_plain_name is_bool is_name
-step_qualified_path_at_type = found_step (QualifiedPath AtType) refl
+step_qualified_path_at_type = found_step (QualifiedPath AtType) refl refl
     (found_seq found_mark
     (found_seq (found_ref (AType WithPlus) refl)
     (maybe_seq (found_optional (at "as") (found_seq (found_text "as") (found_ref (Path InType) refl) tt)
@@ -169,31 +169,31 @@ step_qualified_path_at_type = found_step (QualifiedPath AtType) refl
 
 pub step_any_path_in_module : Step (AnyPath InModule)
 unfolding table skips is_path_keyword is_plain_name is_bool is_name
-step_any_path_in_module = found_step (AnyPath InModule) refl
+step_any_path_in_module = found_step (AnyPath InModule) refl refl
     (found_alt (marks "<") (found_ref (QualifiedPath InModule) refl) (found_ref (Path InModule) refl)
     (λ us. refl, tt) (search))
 
 pub step_any_path_in_expression : Step (AnyPath InExpression)
 unfolding table skips is_path_keyword is_plain_name is_bool is_name
-step_any_path_in_expression = found_step (AnyPath InExpression) refl
+step_any_path_in_expression = found_step (AnyPath InExpression) refl refl
     (found_alt (marks "<") (found_ref (QualifiedPath InExpression) refl) (found_ref (Path InExpression) refl)
     (λ us. refl, tt) (search))
 
 pub step_any_path_in_type : Step (AnyPath InType)
 unfolding table skips is_path_keyword is_plain_name is_bool is_name
-step_any_path_in_type = found_step (AnyPath InType) refl
+step_any_path_in_type = found_step (AnyPath InType) refl refl
     (found_alt (marks "<") (found_ref (QualifiedPath InType) refl) (found_ref (Path InType) refl) (λ us. refl, tt)
     (search))
 
 pub step_any_path_at_type : Step (AnyPath AtType)
 unfolding table skips is_path_keyword is_plain_name is_bool is_name
-step_any_path_at_type = found_step (AnyPath AtType) refl
+step_any_path_at_type = found_step (AnyPath AtType) refl refl
     (found_alt (marks "<") (found_ref (QualifiedPath AtType) refl) (found_ref (Path AtType) refl) (λ us. refl, tt)
     (search))
 
 pub step_arguments : Step Arguments
 unfolding table skips is_path_keyword is_plain_name is_bool is_name
-step_arguments = found_step Arguments refl
+step_arguments = found_step Arguments refl refl
     (found_perhaps_then (marks "::")
     (found_seq found_mark
     (maybe_seq (maybe_called
@@ -215,7 +215,7 @@ step_arguments = found_step Arguments refl
 
 pub step_an_argument : Step AnArgument
 unfolding table skips is_path_keyword is_plain_name is_bool is_name
-step_an_argument = found_step AnArgument refl
+step_an_argument = found_step AnArgument refl refl
     (found_alt a_lifetime
     (weaken ((marks "=") ∷ (marks "::") ∷ (arguments_stand AtType) ∷ (parentheses_stand AtType) ∷ (marks "->") ∷
     bound_stands ∷ (marks "+") ∷ []) (found_called found_lifetime) (λ s a. tt))
@@ -236,7 +236,7 @@ step_an_argument = found_step AnArgument refl
 
 pub step_parenthesized_arguments : Step ParenthesizedArguments
 unfolding table skips is_path_keyword is_plain_name is_bool is_name
-step_parenthesized_arguments = found_step ParenthesizedArguments refl
+step_parenthesized_arguments = found_step ParenthesizedArguments refl refl
     (weaken ((marks "->") ∷ (marks "::") ∷ (arguments_stand AtType) ∷ (parentheses_stand AtType) ∷ [])
     (found_before (found_group
     (found_to_end (found_ref (AType WithPlus) refl) (search)
@@ -246,23 +246,23 @@ step_parenthesized_arguments = found_step ParenthesizedArguments refl
 
 pub step_a_macro : Step AMacro
 unfolding table skips is_path_keyword is_plain_name is_bool is_name
-step_a_macro = found_step AMacro refl
+step_a_macro = found_step AMacro refl refl
     (found_seq (found_ref (Path InModule) refl) (found_seq found_mark (found_ref Delimited refl) tt)
     ((λ us. refl, tt), tt))
 
 pub step_delimited : Step Delimited
 unfolding table skips is_path_keyword is_plain_name is_bool is_name
-step_delimited = found_step Delimited refl
+step_delimited = found_step Delimited refl refl
     (found_alt parenthesis (found_group fine_raw)
     (found_alt brace (found_group fine_raw) (found_group fine_raw) (λ us. refl, tt) (λ us. refl, tt))
     (λ us. refl, tt) (search))
 
 pub step_member : Step Member
 unfolding table skips is_path_keyword is_plain_name is_bool is_name
-step_member = found_step Member refl
+step_member = found_step Member refl refl
     (found_alt an_ident (found_word is_ident) (found_literal is_index) ((λ cs h us. simp (h) refl) & tt)
     (λ cs h us. refl, tt))
 
 pub step_index : Step Index
 unfolding table skips is_path_keyword is_plain_name is_bool is_name
-step_index = found_step Index refl (found_literal is_index)
+step_index = found_step Index refl refl (found_literal is_index)

@@ -23,7 +23,7 @@ use Rattle.syn_grammar.specs.Words.{is_ident, any_text, is_number, is_name, is_p
 
 pub step_pattern : Step Pattern
 unfolding table skips is_path_keyword is_plain_name is_bool is_name
-step_pattern = found_step Pattern refl
+step_pattern = found_step Pattern refl refl
     (maybe_seq (found_optional vert found_mark (λ us. refl, tt))
     (found_before (found_ref OnePattern refl)
     (found_star vert (found_seq found_mark (found_ref OnePattern refl) tt) (λ us. refl, tt) (
@@ -67,7 +67,7 @@ step_pattern = found_step Pattern refl
 
 pub step_several_patterns : Step SeveralPatterns
 unfolding table skips is_path_keyword is_plain_name is_bool is_name
-step_several_patterns = found_step SeveralPatterns refl
+step_several_patterns = found_step SeveralPatterns refl refl
     (found_before (found_ref OnePattern refl)
     (found_star vert (found_seq found_mark (found_ref OnePattern refl) tt) (λ us. refl, tt) (
       (λ us. refl, tt),
@@ -104,7 +104,7 @@ step_several_patterns = found_step SeveralPatterns refl
 
 pub step_ident_pattern : Step IdentPattern
 unfolding table skips is_path_keyword is_plain_name is_bool is_name
-step_ident_pattern = found_step IdentPattern refl
+step_ident_pattern = found_step IdentPattern refl refl
     (weaken ((marks "!") ∷ (marks "@") ∷ range_end_stands ∷ parenthesis ∷ brace ∷ (marks "::") ∷
     (arguments_stand InExpression) ∷ range_bound_stands ∷ [])
     (maybe_seq (found_optional (at "ref") (found_text "ref") (λ us. refl, tt))
@@ -134,35 +134,35 @@ step_ident_pattern = found_step IdentPattern refl
 
 pub step_wild_pattern : Step WildPattern
 unfolding table skips is_path_keyword is_plain_name is_bool is_name
-step_wild_pattern = found_step WildPattern refl (found_text "_")
+step_wild_pattern = found_step WildPattern refl refl (found_text "_")
 
 pub step_range_to_pattern : Step RangeToPattern
 unfolding table skips is_path_keyword is_plain_name is_bool is_name
-step_range_to_pattern = found_step RangeToPattern refl
+step_range_to_pattern = found_step RangeToPattern refl refl
     (found_seq (found_alt (marks "..=") found_mark found_mark (λ us. refl, tt) (λ us. refl, tt))
     (found_ref RangeBound refl) tt)
 
 pub step_rest_pattern : Step RestPattern
 unfolding table skips is_path_keyword is_plain_name is_bool is_name
-step_rest_pattern = found_step RestPattern refl found_mark
+step_rest_pattern = found_step RestPattern refl refl found_mark
 
 pub step_tuple_pattern : Step TuplePattern
 unfolding table skips is_path_keyword is_plain_name is_bool is_name
-step_tuple_pattern = found_step TuplePattern refl
+step_tuple_pattern = found_step TuplePattern refl refl
     (found_group (found_to_end (found_ref Pattern refl) (search)
     (λ ts. (refl, (refl, (refl, (refl, (refl, (refl, (refl, (refl, (refl, tt))))))))))
     (refl, (refl, (refl, (refl, (refl, (refl, (refl, (refl, (refl, tt)))))))))))
 
 pub step_slice_pattern : Step SlicePattern
 unfolding table skips is_path_keyword is_plain_name is_bool is_name
-step_slice_pattern = found_step SlicePattern refl
+step_slice_pattern = found_step SlicePattern refl refl
     (found_group (found_to_end (found_ref Pattern refl) (search)
     (λ ts. (refl, (refl, (refl, (refl, (refl, (refl, (refl, (refl, (refl, tt))))))))))
     (refl, (refl, (refl, (refl, (refl, (refl, (refl, (refl, (refl, tt)))))))))))
 
 pub step_literal_pattern : Step LiteralPattern
 unfolding table skips is_path_keyword is_plain_name is_bool is_name
-step_literal_pattern = found_step LiteralPattern refl
+step_literal_pattern = found_step LiteralPattern refl refl
     (found_before (found_alt (marks "-") (found_seq found_mark (found_literal is_number) tt)
     (found_alt (a_quoted any_text) (found_literal any_text) (found_words (codes "true" ∷ codes "false" ∷ []))
     (λ cs h us. refl, tt) (search)) (λ us. refl, tt) (search))
@@ -170,7 +170,7 @@ step_literal_pattern = found_step LiteralPattern refl
 
 pub step_path_pattern : Step PathPattern
 unfolding table skips is_path_keyword is_plain_name is_bool is_name
-step_path_pattern = found_step PathPattern refl
+step_path_pattern = found_step PathPattern refl refl
     (weaken (parenthesis ∷ brace ∷ range_end_stands ∷ (marks "::") ∷ (arguments_stand InExpression) ∷
     range_bound_stands ∷ [])
     (found_before (found_ref (AnyPath InExpression) refl)
@@ -188,7 +188,7 @@ step_path_pattern = found_step PathPattern refl
 
 pub step_range_end : Step RangeEnd
 unfolding table skips is_path_keyword is_plain_name is_bool is_name
-step_range_end = found_step RangeEnd refl
+step_range_end = found_step RangeEnd refl refl
     (weaken (range_bound_stands ∷ (marks "::") ∷ (arguments_stand InExpression) ∷ [])
     (found_alt (marks "..=")
     (weaken ((marks "::") ∷ (arguments_stand InExpression) ∷ range_bound_stands ∷ [])
@@ -205,7 +205,7 @@ step_range_end = found_step RangeEnd refl
 
 pub step_range_bound : Step RangeBound
 unfolding table skips is_path_keyword is_plain_name is_bool is_name
-step_range_bound = found_step RangeBound refl
+step_range_bound = found_step RangeBound refl refl
     (found_alt (a_literal or marks "-")
     (weaken ((marks "::") ∷ (arguments_stand InExpression) ∷ [])
     (found_alt (marks "-") (found_seq found_mark (found_literal is_number) tt)
@@ -218,7 +218,7 @@ step_range_bound = found_step RangeBound refl
 
 pub step_field_patterns : Step FieldPatterns
 unfolding table skips is_path_keyword is_plain_name is_bool is_name
-step_field_patterns = found_step FieldPatterns refl
+step_field_patterns = found_step FieldPatterns refl refl
     (found_judged (found_group
     (found_to_end (found_ref FieldPattern refl) (search)
     (λ ts. (refl, (refl, (refl, (refl, (refl, (refl, (refl, (refl, (refl, tt))))))))))

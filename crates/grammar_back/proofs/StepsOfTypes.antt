@@ -26,7 +26,7 @@ use Rattle.syn_grammar.specs.Words.{is_string, is_name, is_path_keyword, is_plai
 
 pub step_a_type_with_plus : Step (AType WithPlus)
 unfolding table skips is_path_keyword is_plain_name is_bool is_name
-step_a_type_with_plus = found_step (AType WithPlus) refl
+step_a_type_with_plus = found_step (AType WithPlus) refl refl
     (found_alt parenthesis
     (weaken ((marks "::") ∷ (arguments_stand AtType) ∷ (parentheses_stand AtType) ∷ (marks "->") ∷ bound_stands ∷
     (marks "+") ∷ []) (found_ref TupleType refl) (λ s a. tt))
@@ -75,7 +75,7 @@ step_a_type_with_plus = found_step (AType WithPlus) refl
 
 pub step_a_type_without_plus : Step (AType WithoutPlus)
 unfolding table skips is_path_keyword is_plain_name is_bool is_name
-step_a_type_without_plus = found_step (AType WithoutPlus) refl
+step_a_type_without_plus = found_step (AType WithoutPlus) refl refl
     (found_alt parenthesis
     (weaken ((marks "::") ∷ (arguments_stand AtType) ∷ (parentheses_stand AtType) ∷ (marks "->") ∷ [])
     (found_ref TupleType refl) (λ s a. tt))
@@ -119,17 +119,17 @@ step_a_type_without_plus = found_step (AType WithoutPlus) refl
 
 pub step_dyn_type_with_plus : Step (DynType WithPlus)
 unfolding table skips is_path_keyword is_plain_name is_bool is_name
-step_dyn_type_with_plus = found_step (DynType WithPlus) refl
+step_dyn_type_with_plus = found_step (DynType WithPlus) refl refl
     (found_before (found_text "dyn") (maybe_called (maybe_ref SomeBounds refl)) tt (λ s a. tt))
 
 pub step_impl_type_with_plus : Step (ImplType WithPlus)
 unfolding table skips is_path_keyword is_plain_name is_bool is_name
-step_impl_type_with_plus = found_step (ImplType WithPlus) refl
+step_impl_type_with_plus = found_step (ImplType WithPlus) refl refl
     (found_before (found_text "impl") (maybe_called (maybe_ref SomeBounds refl)) tt (λ s a. tt))
 
 pub step_return_type_with_plus : Step (ReturnType WithPlus)
 unfolding table skips is_path_keyword is_plain_name is_bool is_name
-step_return_type_with_plus = maybe_step (ReturnType WithPlus) refl
+step_return_type_with_plus = maybe_step (ReturnType WithPlus) refl refl
     (weaken_maybe ((marks "->") ∷ (marks "::") ∷ (arguments_stand AtType) ∷ (parentheses_stand AtType) ∷ bound_stands
     ∷ (marks "+") ∷ []) (found_optional (marks "->")
     (found_seq found_mark (found_called (found_ref (AType WithPlus) refl)) tt) (λ us. refl, tt))
@@ -137,48 +137,49 @@ step_return_type_with_plus = maybe_step (ReturnType WithPlus) refl
 
 pub step_return_type_without_plus : Step (ReturnType WithoutPlus)
 unfolding table skips is_path_keyword is_plain_name is_bool is_name
-step_return_type_without_plus = maybe_step (ReturnType WithoutPlus) refl
+step_return_type_without_plus = maybe_step (ReturnType WithoutPlus) refl refl
     (weaken_maybe ((marks "->") ∷ (marks "::") ∷ (arguments_stand AtType) ∷ (parentheses_stand AtType) ∷ [])
     (found_optional (marks "->") (found_seq found_mark (found_called (found_ref (AType WithoutPlus) refl)) tt)
     (λ us. refl, tt)) (λ s a. (a.0, (a.1.0, (a.1.1.0, (a.1.1.1.0, (a.0, tt)))))))
 
 pub step_tuple_type : Step TupleType
 unfolding table skips is_path_keyword is_plain_name is_bool is_name
-step_tuple_type = found_step TupleType refl
+step_tuple_type = found_step TupleType refl refl
     (found_group (found_to_end (found_ref (AType WithPlus) refl) (search)
     (λ ts. (refl, (refl, (refl, (refl, (refl, (refl, tt))))))) (refl, (refl, (refl, (refl, (refl, (refl, tt))))))))
 
 pub step_never_type : Step NeverType
 unfolding table skips is_path_keyword is_plain_name is_bool is_name
-step_never_type = found_step NeverType refl found_mark
+step_never_type = found_step NeverType refl refl found_mark
 
 pub step_reference_type : Step ReferenceType
 unfolding table skips is_path_keyword is_plain_name is_bool is_name
-step_reference_type = found_step ReferenceType refl
+step_reference_type = found_step ReferenceType refl refl
     (found_seq found_mark
     (maybe_seq (found_optional a_lifetime found_lifetime (λ cs us. refl, tt))
     (maybe_seq (found_optional (at "mut") (found_text "mut") (λ us. refl, tt)) (found_ref (AType WithoutPlus) refl) (
       ((λ us. refl) & (λ us. refl) & (λ us. refl) & (λ us. refl) & (λ us. refl) & (λ us. refl) & (λ us. refl) &
           (λ us. refl) & (λ us. refl) & (λ us. refl) & (λ us. refl) & (λ us. refl) & (λ us. refl) & (λ us. refl) &
-          (λ us. refl) & (λ us. refl) & (λ cs h us. refl) & (λ us. refl) & (λ us. refl) & (λ us. refl) & (λ us. refl) &
+          (λ us. refl) & (λ us. refl) & (λ cs h us. refl) & (λ us. refl) & (λ us. refl) & (λ us. refl) & (λ us. refl)
+          &
           (λ cs h us. simp (ident_not (codes "mut") cs reserved_mut h) refl) & (λ us. refl) & tt),
       tt,
     )) ((search), tt)) tt)
 
 pub step_pointer_type : Step PointerType
 unfolding table skips is_path_keyword is_plain_name is_bool is_name
-step_pointer_type = found_step PointerType refl
+step_pointer_type = found_step PointerType refl refl
     (found_seq found_mark
     (found_seq (found_alt (at "const") (found_text "const") (found_text "mut") (λ us. refl, tt) (λ us. refl, tt))
     (found_ref (AType WithoutPlus) refl) tt) tt)
 
 pub step_bracket_type : Step BracketType
 unfolding table skips is_path_keyword is_plain_name is_bool is_name
-step_bracket_type = found_step BracketType refl
+step_bracket_type = found_step BracketType refl refl
     (found_group (found_ended
     (found_before (found_ref (AType WithPlus) refl)
-    (weaken_maybe ((marks ";") ∷ (no (the_end or marks "," or marks ";" or marks "=>" or at "where")) ∷ (marks "::")
-    ∷ (arguments_stand AtType) ∷ (parentheses_stand AtType) ∷ (marks "->") ∷ bound_stands ∷ (marks "+") ∷ [])
+    (weaken_maybe ((marks ";") ∷ (no (the_end or marks "," or marks ";" or marks "=>")) ∷ (marks "::") ∷
+    (arguments_stand AtType) ∷ (parentheses_stand AtType) ∷ (marks "->") ∷ bound_stands ∷ (marks "+") ∷ [])
     (found_optional (marks ";") (found_seq found_mark (found_called (found_ref (Expression Plain) refl)) tt)
     (λ us. refl, tt)) (λ s a. (a.0, (a.1.0, tt)))) (
       (λ us. refl, tt),
@@ -192,11 +193,11 @@ step_bracket_type = found_step BracketType refl
 
 pub step_infer_type : Step InferType
 unfolding table skips is_path_keyword is_plain_name is_bool is_name
-step_infer_type = found_step InferType refl (found_text "_")
+step_infer_type = found_step InferType refl refl (found_text "_")
 
 pub step_fn_ptr_type : Step FnPtrType
 unfolding table skips is_path_keyword is_plain_name is_bool is_name
-step_fn_ptr_type = found_step FnPtrType refl
+step_fn_ptr_type = found_step FnPtrType refl refl
     (maybe_seq (found_optional (at "for") (found_ref BoundLifetimes refl) (λ us. refl, tt))
     (maybe_seq (found_optional (at "unsafe") (found_text "unsafe") (λ us. refl, tt))
     (maybe_seq (found_optional (at "extern") (found_ref Abi refl) (λ us. refl, tt))
@@ -209,12 +210,12 @@ step_fn_ptr_type = found_step FnPtrType refl
 
 pub step_fn_ptr_arg : Step FnPtrArg
 unfolding table skips is_path_keyword is_plain_name is_bool is_name
-step_fn_ptr_arg = found_step FnPtrArg refl
+step_fn_ptr_arg = found_step FnPtrArg refl refl
     (maybe_seq (maybe_ref OuterAttributes refl) found_named_type ((search), tt))
 
 pub step_some_bounds : Step SomeBounds
 unfolding table skips is_path_keyword is_plain_name is_bool is_name
-step_some_bounds = maybe_step SomeBounds refl
+step_some_bounds = maybe_step SomeBounds refl refl
     (maybe_judged (found_while bound_stands
     (bound_stands ∷ (marks "+") ∷ (marks "::") ∷ (arguments_stand AtType) ∷ (parentheses_stand AtType) ∷ (marks "->")
     ∷ []) (found_ref Bound refl)
@@ -226,7 +227,7 @@ step_some_bounds = maybe_step SomeBounds refl
 
 pub step_bounds : Step Bounds
 unfolding table skips is_path_keyword is_plain_name is_bool is_name
-step_bounds = maybe_step Bounds refl
+step_bounds = maybe_step Bounds refl refl
     (found_while bound_stands
     (bound_stands ∷ (marks "+") ∷ (marks "::") ∷ (arguments_stand AtType) ∷ (parentheses_stand AtType) ∷ (marks "->")
     ∷ []) (found_ref Bound refl)
@@ -238,21 +239,22 @@ step_bounds = maybe_step Bounds refl
 
 pub step_bound : Step Bound
 unfolding table skips is_path_keyword is_plain_name is_bool is_name
-step_bound = found_step Bound refl
+step_bound = found_step Bound refl refl
     (found_alt a_lifetime
     (weaken ((marks "::") ∷ (arguments_stand AtType) ∷ (parentheses_stand AtType) ∷ (marks "->") ∷ []) found_lifetime
     (λ s a. tt)) (found_called (found_ref TraitPath refl)) (λ cs us. refl, tt) (search))
 
 pub step_trait_path : Step TraitPath
 unfolding table skips is_path_keyword is_plain_name is_bool is_name
-step_trait_path = found_step TraitPath refl
+step_trait_path = found_step TraitPath refl refl
     (maybe_seq (maybe_alt (marks "?") (weaken ((at "for") ∷ []) found_mark (λ s a. tt))
     (found_optional (at "for") (found_ref BoundLifetimes refl) (λ us. refl, tt)) (λ us. refl, tt) (λ us. refl, tt))
     (found_ref (Path AtType) refl) (
       (search),
       (
         ((λ us. refl) & (λ us. refl) & (λ us. refl) & (λ cs h us. refl) & (λ us. refl) & (λ us. refl) &
-            (λ us. refl) & (λ us. refl) & (λ cs h us. simp (ident_not (codes "for") cs reserved_for h) refl) & (λ us. refl) &
+            (λ us. refl) & (λ us. refl) & (λ cs h us. simp (ident_not (codes "for") cs reserved_for h) refl) &
+            (λ us. refl) &
             tt),
         tt,
       ),
@@ -260,7 +262,7 @@ step_trait_path = found_step TraitPath refl
 
 pub step_bound_lifetimes : Step BoundLifetimes
 unfolding table skips is_path_keyword is_plain_name is_bool is_name
-step_bound_lifetimes = found_step BoundLifetimes refl
+step_bound_lifetimes = found_step BoundLifetimes refl refl
     (found_seq (found_text "for")
     (found_seq found_mark
     (maybe_seq (found_many (marks ">") (found_ref LifetimeParam refl) (search) (λ ts. (refl, (refl, (refl, tt)))))
@@ -271,12 +273,12 @@ step_bound_lifetimes = found_step BoundLifetimes refl
 
 pub step_lifetimes : Step Lifetimes
 unfolding table skips is_path_keyword is_plain_name is_bool is_name
-step_lifetimes = maybe_step Lifetimes refl
+step_lifetimes = maybe_step Lifetimes refl refl
     (found_while a_lifetime (a_lifetime ∷ (marks "+") ∷ []) found_lifetime (λ cs us. refl, tt) (λ ts. tt)
     (λ s a. (a.0, (a.1.0, tt))))
 
 pub step_abi : Step Abi
 unfolding table skips is_path_keyword is_plain_name is_bool is_name
-step_abi = found_step Abi refl
+step_abi = found_step Abi refl refl
     (found_before (found_text "extern")
     (found_optional (a_quoted is_string) (found_literal is_string) ((λ cs h us. simp h refl) & tt)) tt (λ s a. tt))

@@ -6,30 +6,30 @@ use Rattle.rust_leaf.specs.declared.punct.Spacing.TheVariants.{Alone as Apart}
 use Rattle.syn_grammar.specs.Kind.{Kind, Position, Plain}
 use Rattle.syn_grammar.specs.Name.{Part, same_part}
 use Rattle.syn_grammar.specs.Tree.{Tree, AWord, ALiteral, AMark, ALifetime, Raw, Nil, Pair, First, Second, End}
-use Rattle.syn_grammar.specs.Tree.{Again, Final, More, Group, Dropped, Called, Node, flat}
+use Rattle.syn_grammar.specs.Tree.{Again, Final, More, Group, Dropped, Called, Node, Whole, flat}
 use Rattle.syn_grammar.specs.Part.{changed}
 use Rattle.syn_grammar.specs.Gram.{Gram, word, literal, mark, lifetime, raw, nothing, seq, alt, star, many, group}
-use Rattle.syn_grammar.specs.Gram.{judged, dropped, called, ref}
+use Rattle.syn_grammar.specs.Gram.{judged, dropped, called, ref, operand}
 use Rattle.syn_grammar.specs.Table.{table}
 use Rattle.syn_grammar.specs.Derives.{Derives}
 use Rattle.syn_grammar.specs.Kept.{held, forget, kept}
 use Rattle.syn_grammar.specs.Tidy.{removed_if, joined, those_then, others_of, lifetimes_first, tidy}
 use Rattle.syn_grammar.specs.Normal.{passed, normal_in}
-use Rattle.grammar_back.specs.Covered.{has_step}
+use Rattle.grammar_back.specs.Covered.{is_known, is_taken}
 use Rattle.grammar_back.proofs.Fits.{Fits, IsMeant}
 use Rattle.grammar_back.proofs.Printed.{Printed, IsPlaced, EntryLaw, KindLaw}
 
 -- a kind that holds what it reads
-pub tidied_law : (k : Kind) → has_step k ≡ true → ((x : Tree) → IsMeant k x) → ((x : Tree) → forget k x ≡ x)
+pub tidied_law : (k : Kind) → is_known k ≡ true → ((x : Tree) → IsMeant k x) → ((x : Tree) → forget k x ≡ x)
     → ((q : Position) → passed (held k) q ≡ passed k q)
     → ((q : Position) → IsPlaced q k → EntryLaw (passed k q) (table k))
     → ((w : Tree) → Fits w (table k) → Printed (table k) (tidy (held k) (kept w))) → KindLaw k
 tidied_law k h n f p e t = record { entry = e; node = go }
   where
-    go : (q : Position) → IsPlaced q k → (x : Tree) (r : List Token) → Derives x (table k) r
+    go : (q : Position) → IsPlaced q k → (x : Tree) (r : List Token) → is_taken k x ≡ true → Derives x (table k) r
         → Printed (table k) (normal_in (passed k q) (kept x))
         → Printed (ref k) (normal_in q (Node (held k) (forget k (kept x))))
-    go q l x r d i =
+    go q l x r o d i =
         let j = t i.tree i.fits in
         record {
           tree = Node k j.tree;
@@ -152,6 +152,7 @@ changed_printed n f (Called m x) (called o g) l h =
       kept_is = ap (Called o) i.kept_is ∙ ap (λ k. Called k (cond (same_part k n) (f (kept x)) (kept x))) (sym h.0);
     }
 changed_printed n f (Node k x) (ref m) l h = as_it_is (ref m) (Node k x) h
+changed_printed n f (Whole x) (operand p m) l h = as_it_is (operand p m) (Whole x) h
 changed_printed n f _ _ l h = absurd h
 
 -- A kind that holds another tree than was read: what stands for a tree of it, by what is held.
@@ -161,17 +162,17 @@ pub record Held (k : Kind) (w : Tree) : Type 0 where
   pub printed : flat (forget k (kept tree)) ≡ flat (kept tree)
   pub kept_is : forget k (kept tree) ≡ forget k (kept w)
 
-pub held_law : (k : Kind) → has_step k ≡ true → ((x : Tree) → IsMeant k x) → ((q : Position) → passed k q ≡ Plain)
+pub held_law : (k : Kind) → is_known k ≡ true → ((x : Tree) → IsMeant k x) → ((q : Position) → passed k q ≡ Plain)
     → ((q : Position) → passed (held k) q ≡ Plain) → ((x : Tree) → tidy (held k) x ≡ x)
     → ((v : Tree) → forget k (normal_in Plain v) ≡ normal_in Plain (forget k v)) → EntryLaw Plain (table k)
     → ((w : Tree) → Fits w (table k) → Held k w) → KindLaw k
 held_law k h n p u t c e f =
     record { entry = λ q l. subst (λ m. EntryLaw m (table k)) (sym (p q)) e; node = go }
   where
-    go : (q : Position) → IsPlaced q k → (x : Tree) (r : List Token) → Derives x (table k) r
+    go : (q : Position) → IsPlaced q k → (x : Tree) (r : List Token) → is_taken k x ≡ true → Derives x (table k) r
         → Printed (table k) (normal_in (passed k q) (kept x))
         → Printed (ref k) (normal_in q (Node (held k) (forget k (kept x))))
-    go q l x r d i =
+    go q l x r o d i =
         let j = f i.tree i.fits in
         record {
           tree = Node k j.tree;

@@ -1,18 +1,18 @@
 -- What may not follow a kind's tree, of what the looks see. Written by tools/steps.py, from the entries.
-use Rattle.std.specs.Prelude.{List, [], ◌∷◌}
+use Rattle.std.specs.Prelude.{◌≡◌, true, List, [], ◌∷◌}
 use Rattle.syn_grammar.specs.Generics.{impl_generics_stand, where_ends}
 use Rattle.syn_grammar.specs.Items.{restricted, restricted_in}
-use Rattle.syn_grammar.specs.Kind.{Kind, AType, Abi, AnArgument, AnyPath, AtType, Bound, Bounds, BoundsColon}
-use Rattle.syn_grammar.specs.Kind.{ConstParam, DynType, Expression, FieldPattern, FnArg, FnPtrArg, FnPtrType}
-use Rattle.syn_grammar.specs.Kind.{GenericParam, GenericParams, Generics, IdentPattern, ImplGenerics, ImplType}
-use Rattle.syn_grammar.specs.Kind.{InCondition, InExpression, InFile, InForeign, InImpl, InModule, InTrait}
-use Rattle.syn_grammar.specs.Kind.{InType, InnerAttributes, LifetimeColon, LifetimeParam, Lifetimes}
-use Rattle.syn_grammar.specs.Kind.{LiteralPattern, Meta, NamedField, OnePattern, OuterAttributes, Parameter}
-use Rattle.syn_grammar.specs.Kind.{ParenthesizedArguments, Path, PathPattern, Pattern, Plain, PointerType}
-use Rattle.syn_grammar.specs.Kind.{QualifiedPath, RangeBound, RangeEnd, RangeToPattern, Receiver}
-use Rattle.syn_grammar.specs.Kind.{ReferencePattern, ReferenceType, ReturnType, Segments, SeveralPatterns}
-use Rattle.syn_grammar.specs.Kind.{Signature, SomeBounds, TraitPath, TypeParam, UnnamedField, UseBranch}
-use Rattle.syn_grammar.specs.Kind.{UseRooted, UseTop, UseTree, Variant, Visibility, Where, WhereClause}
+use Rattle.syn_grammar.specs.Kind.{Kind, Position, AType, Abi, AnArgument, AnyPath, AtType, Bound, Bounds}
+use Rattle.syn_grammar.specs.Kind.{BoundsColon, ConstParam, DynType, Expression, FieldPattern, FnArg, FnPtrArg}
+use Rattle.syn_grammar.specs.Kind.{FnPtrType, GenericParam, GenericParams, Generics, IdentPattern, ImplGenerics}
+use Rattle.syn_grammar.specs.Kind.{ImplType, InArm, InCondition, InExpression, InFile, InForeign, InImpl}
+use Rattle.syn_grammar.specs.Kind.{InModule, InStatement, InTrait, InType, InnerAttributes, LifetimeColon}
+use Rattle.syn_grammar.specs.Kind.{LifetimeParam, Lifetimes, LiteralPattern, Meta, NamedField, OnePattern}
+use Rattle.syn_grammar.specs.Kind.{OuterAttributes, Parameter, ParenthesizedArguments, Path, PathPattern, Pattern}
+use Rattle.syn_grammar.specs.Kind.{Plain, PointerType, QualifiedPath, RangeBound, RangeEnd, RangeToPattern}
+use Rattle.syn_grammar.specs.Kind.{Receiver, ReferencePattern, ReferenceType, ReturnType, Segments}
+use Rattle.syn_grammar.specs.Kind.{SeveralPatterns, Signature, SomeBounds, TraitPath, TypeParam, UnnamedField}
+use Rattle.syn_grammar.specs.Kind.{UseBranch, UseRooted, UseTop, UseTree, Variant, Visibility, Where, WhereClause}
 use Rattle.syn_grammar.specs.Kind.{WherePredicate, WithPlus, WithoutPlus}
 use Rattle.syn_grammar.specs.Look.{Look, no, a_quoted, a_lifetime, the_end, ◌then◌, ◌or◌}
 use Rattle.syn_grammar.specs.Paths.{arguments_stand, parentheses_stand}
@@ -20,13 +20,17 @@ use Rattle.syn_grammar.specs.Patterns.{vert, range_bound_stands, range_end_stand
 use Rattle.syn_grammar.specs.Say.{at, marks, parenthesis, brace, bracket}
 use Rattle.syn_grammar.specs.Types.{colon, bound_stands}
 use Rattle.syn_grammar.specs.Words.{is_string}
-use Rattle.syn_grammar.specs.Tree.{Tree}
+use Rattle.syn_grammar.specs.Tree.{Tree, Node, Whole}
+use Rattle.syn_grammar.specs.Forms.{ends_there}
 use Rattle.proc_macro2.specs.Token.{Token}
+use Rattle.std.specs.Prelude.{◌⊎◌}
 use Rattle.grammar_back.specs.Sees.{LacksAll}
 
 abbrev pub behind : Kind → List Look
-behind (Expression Plain) = no (the_end or marks "," or marks ";" or marks "=>" or at "where") ∷ []
+behind (Expression Plain) = no (the_end or marks "," or marks ";" or marks "=>") ∷ []
 behind (Expression InCondition) = no brace ∷ []
+behind (Expression InArm) = no (the_end or marks ",") ∷ []
+behind (Expression InStatement) = no (the_end or marks ";") ∷ []
 behind (Path InModule) = marks "::" ∷ []
 behind (Path InExpression) = marks "::" ∷ arguments_stand InExpression ∷ []
 behind (Path InType) = marks "::" ∷ arguments_stand InType ∷ []
@@ -91,8 +95,8 @@ behind FieldPattern = vert ∷ marks "!" ∷ marks "@" ∷ range_end_stands ∷ 
     arguments_stand InExpression ∷ range_bound_stands ∷ []
 behind OuterAttributes = marks "#" ∷ []
 behind InnerAttributes = (marks "#" then marks "!") ∷ []
-behind Meta = (parenthesis or brace or bracket) ∷ marks "=" ∷ no
-    (the_end or marks "," or marks ";" or marks "=>" or at "where") ∷ marks "::" ∷ []
+behind Meta = (parenthesis or brace or bracket) ∷ marks "=" ∷ no (the_end or marks "," or marks ";" or marks "=>") ∷
+    marks "::" ∷ []
 behind Generics = marks "<" ∷ []
 behind ImplGenerics = impl_generics_stand ∷ []
 behind GenericParams = no (marks ">") ∷ marks "," ∷ marks "=" ∷ marks "::" ∷ arguments_stand AtType ∷
@@ -114,12 +118,11 @@ behind WhereClause = no where_ends ∷ marks "," ∷ a_lifetime ∷ marks "+" �
 behind WherePredicate = a_lifetime ∷ marks "+" ∷ bound_stands ∷ marks "::" ∷ arguments_stand AtType ∷
     parentheses_stand AtType ∷ marks "->" ∷ []
 behind Visibility = at "pub" ∷ (restricted or restricted_in) ∷ []
-behind NamedField = marks "=" ∷ no (the_end or marks "," or marks ";" or marks "=>" or at "where") ∷ marks "::" ∷
-    arguments_stand AtType ∷ parentheses_stand AtType ∷ marks "->" ∷ bound_stands ∷ marks "+" ∷ []
+behind NamedField = marks "=" ∷ no (the_end or marks "," or marks ";" or marks "=>") ∷ marks "::" ∷ arguments_stand
+    AtType ∷ parentheses_stand AtType ∷ marks "->" ∷ bound_stands ∷ marks "+" ∷ []
 behind UnnamedField = marks "=" ∷ marks "::" ∷ arguments_stand AtType ∷ parentheses_stand AtType ∷ marks "->" ∷
     bound_stands ∷ marks "+" ∷ []
-behind Variant = marks "=" ∷ no (the_end or marks "," or marks ";" or marks "=>" or at "where") ∷ brace ∷ parenthesis
-    ∷ []
+behind Variant = marks "=" ∷ no (the_end or marks "," or marks ";" or marks "=>") ∷ brace ∷ parenthesis ∷ []
 behind UseTop = marks "::" ∷ at "as" ∷ []
 behind UseTree = marks "::" ∷ at "as" ∷ []
 behind UseBranch = marks "::" ∷ at "as" ∷ []
@@ -140,6 +143,21 @@ behind (Signature InImpl) = at "where" ∷ marks "->" ∷ marks "::" ∷ argumen
     ∷ no where_ends ∷ marks "," ∷ a_lifetime ∷ marks "+" ∷ bound_stands ∷ []
 behind k = []
 
--- what may follow a kind's tree
+-- the form of an expression
+abbrev pub whole : Tree → Tree
+whole (Node k x) = whole x
+whole (Whole x) = x
+whole x = x
+
+-- It is a form that ends an arm or a statement, and neither . nor ? nor else follows it.
+abbrev pub EndsThere : Position → Tree → List Token → Type 0
+EndsThere p x s =
+    (ends_there p (whole x) ≡ true)
+    × LacksAll ((no (marks "..") then marks ".") ∷ marks "?" ∷ at "else" ∷ []) s
+
+-- What may follow a kind's tree: what these looks don't see; behind an expression in an arm or a statement also what
+-- such a form ends before.
 abbrev pub After : Kind → Tree → List Token → Type 0
+After (Expression InArm) x s = LacksAll (behind (Expression InArm)) s ⊎ EndsThere InArm x s
+After (Expression InStatement) x s = LacksAll (behind (Expression InStatement)) s ⊎ EndsThere InStatement x s
 After k x s = LacksAll (behind k) s

@@ -1,14 +1,14 @@
 -- The kinds of which it is proved that their normal forms are read back, and the trees that hold no others, no
 -- expression and no raw item.
-use Rattle.std.specs.Prelude.{Bool, true, false, ◌&&◌}
-use Rattle.syn_grammar.specs.Kind.{Kind, AConst, AFunction, AMacro, AStatic, AStruct, AType, ATypeAlias, AUnion}
-use Rattle.syn_grammar.specs.Kind.{AUse, Abi, AnArgument, AnEnum, AnExternCrate, AnyPath, Arguments, AtType}
-use Rattle.syn_grammar.specs.Kind.{Bound, BoundLifetimes, Bounds, BoundsColon, BracketType, Delimited, DynType}
-use Rattle.syn_grammar.specs.Kind.{FnPtrArg, FnPtrType, GenericParams, Generics, IdentPattern, ImplType}
-use Rattle.syn_grammar.specs.Kind.{InExpression, InFile, InForeign, InImpl, InModule, InTrait, InType, Index}
-use Rattle.syn_grammar.specs.Kind.{InferType, InnerAttribute, InnerAttributes, ItemMacro, Label, LifetimeColon}
-use Rattle.syn_grammar.specs.Kind.{LifetimeParam, Lifetimes, LiteralPattern, Member, Meta, NamedField}
-use Rattle.syn_grammar.specs.Kind.{NamedFields, NeverType, OuterAttribute, OuterAttributes}
+use Rattle.std.specs.Prelude.{Bool, true, false, ◌&&◌, ◌||◌, not}
+use Rattle.syn_grammar.specs.Kind.{Kind, Expression, AConst, AFunction, AMacro, AStatic, AStruct, AType}
+use Rattle.syn_grammar.specs.Kind.{ATypeAlias, AUnion, AUse, Abi, AnArgument, AnEnum, AnExternCrate, AnyPath}
+use Rattle.syn_grammar.specs.Kind.{Arguments, AtType, Bound, BoundLifetimes, Bounds, BoundsColon, BracketType}
+use Rattle.syn_grammar.specs.Kind.{Delimited, DynType, FnPtrArg, FnPtrType, GenericParams, Generics, IdentPattern}
+use Rattle.syn_grammar.specs.Kind.{ImplType, InExpression, InFile, InForeign, InImpl, InModule, InTrait, InType}
+use Rattle.syn_grammar.specs.Kind.{Index, InferType, InnerAttribute, InnerAttributes, ItemMacro, Label}
+use Rattle.syn_grammar.specs.Kind.{LifetimeColon, LifetimeParam, Lifetimes, LiteralPattern, Member, Meta}
+use Rattle.syn_grammar.specs.Kind.{NamedField, NamedFields, NeverType, OuterAttribute, OuterAttributes}
 use Rattle.syn_grammar.specs.Kind.{ParenthesizedArguments, Path, PathPattern, Pattern, PointerType, QualifiedPath}
 use Rattle.syn_grammar.specs.Kind.{RangeBound, RangeEnd, RangeToPattern, Receiver, ReferenceType, RestPattern}
 use Rattle.syn_grammar.specs.Kind.{ReturnType, Segments, SeveralPatterns, Signature, SlicePattern, SomeBounds}
@@ -17,6 +17,7 @@ use Rattle.syn_grammar.specs.Kind.{UseRooted, UseTop, UseTree, Variant, Visibili
 use Rattle.syn_grammar.specs.Kind.{WildPattern, WithPlus, WithoutPlus}
 use Rattle.syn_grammar.specs.Tree.{Tree, Pair, First, Second, Again, Final, More, Group, Dropped, Called, Verbatim}
 use Rattle.syn_grammar.specs.Tree.{Node, Whole, Alone, Front, Back, Infix}
+use Rattle.syn_grammar.specs.Kept.{is_there}
 
 unfoldable pub has_step : Kind → Bool
 has_step (Path InModule) = true
@@ -123,6 +124,29 @@ has_step (ItemMacro InImpl) = true
 has_step Label = true
 has_step k = false
 
+-- The same of expressions and of the kinds of their forms, in the crate `expressions_back`.
+unfoldable pub has_form_step : Kind → Bool
+has_form_step k = false
+
+abbrev pub is_known : Kind → Bool
+is_known k = has_step k || has_form_step k
+
+-- of a form's own part
+abbrev pub is_form : Kind → Bool
+is_form (Expression p) = false
+is_form k = has_form_step k
+
+-- A constant has a value or a where clause: with both an item is raw.
+abbrev pub has_lone_value : Tree → Bool
+has_lone_value (Pair c (Pair n (Pair g (Pair s (Pair t (Pair (First v) (Pair (Called m (Node Where w)) e))))))) =
+    not (is_there w)
+has_lone_value _ = true
+
+-- what is asked of a kind's tree
+abbrev pub is_taken : Kind → Tree → Bool
+is_taken AConst x = has_lone_value x
+is_taken k x = true
+
 abbrev pub is_covered : Tree → Bool
 is_covered (Pair x y) = is_covered x && is_covered y
 is_covered (First x) = is_covered x
@@ -134,10 +158,10 @@ is_covered (Group d x) = is_covered x
 is_covered (Dropped x) = is_covered x
 is_covered (Called n x) = is_covered x
 is_covered (Verbatim x) = false
-is_covered (Node k x) = has_step k && is_covered x
-is_covered (Whole x) = false
-is_covered (Alone k y) = false
-is_covered (Front k y x) = false
-is_covered (Back l k y) = false
-is_covered (Infix l k y r) = false
+is_covered (Node k x) = is_known k && (is_taken k x && is_covered x)
+is_covered (Whole x) = is_covered x
+is_covered (Alone k y) = is_form k && is_covered y
+is_covered (Front k y x) = is_form k && (is_covered y && is_covered x)
+is_covered (Back l k y) = is_form k && (is_covered l && is_covered y)
+is_covered (Infix l k y r) = is_form k && (is_covered y && (is_covered l && is_covered r))
 is_covered _ = true

@@ -436,8 +436,14 @@ RANKS=open(f'{SPECS}/Ranks.antt').read()
 SKIPS=set(re.findall(r'^skips \(?([A-Z][A-Za-z]*)',RANKS,re.M))
 def look_of(text): return parse([text])
 # what may follow, where it isn't read off the entry
-GIVEN={('Expression','Plain'):['no (the_end or marks "," or marks ";" or marks "=>" or at "where")'],('Expression','InCondition'):['no brace']}
+GIVEN={('Expression','Plain'):['no (the_end or marks "," or marks ";" or marks "=>")'],('Expression','InCondition'):['no brace'],
+ ('Expression','InArm'):['no (the_end or marks ",")'],('Expression','InStatement'):['no (the_end or marks ";")']}
 GIVEN_STARTS={('Body',):[('open','Brace')],('Block',):[('open','Brace')]}
+NAMES=[('ident',)]+[('word',w) for w in('Self','self','super','crate')]
+FORMS=[('then','#',('open','Bracket')),('lit','any_text'),('tick',)]+[('open',d) for d in('Brace','Parenthesis','Bracket','None')]
+FORMS+=[('word',w) for w in 'true false loop while for static move const async unsafe _ try if match continue break return yield let'.split()]
+FORMS+=[('sign',c) for c in('|','&','*','!','-','..=','..','<')]+NAMES+[('then','::',c) for c in NAMES]
+for p in PARAMS['Position']: GIVEN_STARTS[('Expression',p)]=[c for c in FORMS if p!='InStatement' or c!=('word','let')]
 SOFT=True; fails=[]
 _told,_lacks=told,lacks_at
 def told(l,b,cs):
@@ -484,7 +490,7 @@ def main():
 def class_show(c,top=True):
     cs=lambda t: f'{ord(t[0])} ({list_of([str(ord(x)) for x in t[1:]])})' if len(t)>1 else f'{ord(t)} []'
     s={'sign':lambda: f'Sign {cs(c[1])}','word':lambda: f'TheWord (codes "{c[1]}")','ident':lambda: 'AnyWord is_ident',
-       'lit':lambda: f'Quoted {c[1]}','tick':lambda: 'Tick','open':lambda: f'Opening {c[1]}','then':lambda: f'Then {cs(c[1])} {class_show(c[2],False)}'}[c[0]]()
+       'lit':lambda: f'Quoted {c[1]}','tick':lambda: 'Tick','open':lambda: f'Opening {"D.None" if c[1]=="None" else c[1]}','then':lambda: f'Then {cs(c[1])} {class_show(c[2],False)}'}[c[0]]()
     return s if top or ' ' not in s else f'({s})'
 def wrap_list(head,items,indent='    '):
     """a list as lines of at most 120 characters"""
@@ -596,7 +602,7 @@ def imports(text,mine=()):
     for w in sorted(KEYWORDS.values()):
         if has(w): add(B+'proofs.Keywords',w)
     if has('Step'): add(B+'proofs.Readies','Step')
-    return ''.join(f'use {m}.{{{", ".join(ws)}}}\n' for m,ws in sorted(by.items()))
+    return ('use Rattle.proc_macro2.specs.declared.delimiter.Delimiter.TheVariants as D\n' if has('D.None') else '')+''.join(f'use {m}.{{{", ".join(ws)}}}\n' for m,ws in sorted(by.items()))
 def write():
     global SOFT
     good,bad=main()
@@ -606,16 +612,32 @@ def write():
         if behind[k]: body+=f'behind {clause(k)} = '+list_of([show(l,l[1] not in('then','or')) for l in behind[k]])+'\n'
     body='abbrev pub behind : Kind → List Look\n'+body+'behind k = []\n'
     body+="""
--- what may follow a kind's tree
+-- the form of an expression
+abbrev pub whole : Tree → Tree
+whole (Node k x) = whole x
+whole (Whole x) = x
+whole x = x
+
+-- It is a form that ends an arm or a statement, and neither . nor ? nor else follows it.
+abbrev pub EndsThere : Position → Tree → List Token → Type 0
+EndsThere p x s =
+    (ends_there p (whole x) ≡ true)
+    × LacksAll ((no (marks "..") then marks ".") ∷ marks "?" ∷ at "else" ∷ []) s
+
+-- What may follow a kind's tree: what these looks don't see; behind an expression in an arm or a statement also what
+-- such a form ends before.
 abbrev pub After : Kind → Tree → List Token → Type 0
+After (Expression InArm) x s = LacksAll (behind (Expression InArm)) s ⊎ EndsThere InArm x s
+After (Expression InStatement) x s = LacksAll (behind (Expression InStatement)) s ⊎ EndsThere InStatement x s
 After k x s = LacksAll (behind k) s
 """
     head="-- What may not follow a kind's tree, of what the looks see. Written by tools/steps.py, from the entries.\n"
     head+=imports(body,mine=('behind',)).replace('use Rattle.grammar_back.specs.After.{behind}\n','').replace('use Rattle.syn_grammar.specs.Look.{','use Rattle.syn_grammar.specs.Look.{Look, ').replace('use Rattle.syn_grammar.specs.Kind.{','use Rattle.syn_grammar.specs.Kind.{Kind, ')
-    head+='use Rattle.syn_grammar.specs.Tree.{Tree}\nuse Rattle.proc_macro2.specs.Token.{Token}\nuse Rattle.grammar_back.specs.Sees.{LacksAll}\n'
+    head=head.replace('specs.Kind.{Kind, ','specs.Kind.{Kind, Position, ',1)
+    head+='use Rattle.syn_grammar.specs.Tree.{Tree, Node, Whole}\nuse Rattle.syn_grammar.specs.Forms.{ends_there}\nuse Rattle.proc_macro2.specs.Token.{Token}\nuse Rattle.std.specs.Prelude.{◌⊎◌}\nuse Rattle.grammar_back.specs.Sees.{LacksAll}\n'
     open(f'{CRATE}/specs/After.antt','w').write(wrapped(head+'\n'+body))
     body=''
-    for k in order:
+    for k in list(GIVEN)+order:
         if starts[k]: body+=f'starts {clause(k)} = '+list_of([class_show(c) for c in starts[k]])+'\n'
     body='abbrev pub starts : Kind → List Class\n'+body+'starts k = []\n'
     head="-- What a kind's tokens begin with, where it has some. Written by tools/steps.py, from the entries.\n"
@@ -629,7 +651,7 @@ After k x s = LacksAll (behind k) s
             t=weak(e,behind[k])
             extra=['is_path_keyword','is_plain_name','is_bool','is_name']
             if k[0]=='ConstParam' or k[0]=='LiteralPattern' or k[0]=='RangeBound': pass
-            body+=f'\npub {SNAKE(k)} : Step {kshow(k)}\nunfolding table skips {" ".join(extra)}\n{SNAKE(k)} = {"maybe" if skips[k] else "found"}_step {kshow(k)} refl {t}\n'
+            body+=f'\npub {SNAKE(k)} : Step {kshow(k)}\nunfolding table skips {" ".join(extra)}\n{SNAKE(k)} = {"maybe" if skips[k] else "found"}_step {kshow(k)} refl refl {t}\n'
         head=f"-- The steps of {cat.lower()}, of those that go by first tokens alone. Written by tools/steps.py, from the entries.\n"
         open(f'{CRATE}/proofs/StepsOf{cat}.antt','w').write(wrapped(head+imports(body)+body))
     # which kinds are covered, their steps and their laws
@@ -639,9 +661,9 @@ After k x s = LacksAll (behind k) s
         for m in re.finditer(r'^pub law_([a-z_]+) : (?:\((\w+) : \w+\) → )?KindLaw (\w+|\(\w+ \w+\))',open(f).read(),re.M):
             ks=m[3].strip('()').split(); HAND[tuple(ks)]='law_'+m[1]
     HANDSTEPS={}
-    f=f'{CRATE}/proofs/HandSteps.antt'
-    if os.path.exists(f):
-        for m in re.finditer(r'^pub (step_[a-z_]+) : Step (\w+|\(\w+ \w+\))',open(f).read(),re.M): HANDSTEPS[tuple(m[2].strip('()').split())]=m[1]
+    for f in sorted(os.listdir(f'{CRATE}/proofs')):
+        if f.endswith('.antt') and not f.startswith('StepsOf') and f not in('AllKinds.antt','Readies.antt'):
+            for m in re.finditer(r'^pub (step_[a-z_]+) : Step (\w+|\(\w+ \w+\))',open(f'{CRATE}/proofs/{f}').read(),re.M): HANDSTEPS[tuple(m[2].strip('()').split())]=(m[1],f[:-5])
     FORGET={'Parameter','DynType','ImplType','AStatement','Meta','Member','Index','Arm','AnArgument','ConstParam'}
     TIDY={'Where','Generics','ImplGenerics','BoundsColon','LifetimeColon','GenericParams','Arguments','ATypeAlias','AnImpl'}
     def has_any(g,names,seen=()):
@@ -656,7 +678,7 @@ After k x s = LacksAll (behind k) s
     covered=[]; law={}; stepof={}
     for c,k in KINDS:
         if k in goodset: stepof[k]=(SNAKE(k),'StepsOf'+c)
-        elif k in HANDSTEPS: stepof[k]=(HANDSTEPS[k],'HandSteps')
+        elif k in HANDSTEPS: stepof[k]=HANDSTEPS[k]
         else: continue
         e=call('table',[('app',k[0],[('app',a,[]) for a in k[1:]])])
         simple=not has_any(e,('star','repeated','judged','dropped')) and k[0] not in FORGET|TIDY
@@ -665,11 +687,11 @@ After k x s = LacksAll (behind k) s
         else: continue
         covered.append(k)
     text=open(f'{CRATE}/specs/Covered.antt').read()
-    i=text.index('unfoldable pub has_step'); j=text.index('abbrev pub is_covered')
+    i=text.index('unfoldable pub has_step'); j=text.index('-- The same of expressions')
     lines='unfoldable pub has_step : Kind → Bool\n'+''.join(f'has_step {clause(k)} = true\n' for k in covered)+'has_step k = false\n\n'
     text=text[:i]+lines+text[j:]
     names=sorted({w for k in covered for w in k})
-    text=re.sub(r'(use Rattle.syn_grammar.specs.Kind.{[^}]*}\n)+',lambda m: 'use Rattle.syn_grammar.specs.Kind.{'+', '.join(['Kind']+names)+'}\n',text,count=1)
+    text=re.sub(r'(use Rattle.syn_grammar.specs.Kind.{[^}]*}\n)+',lambda m: 'use Rattle.syn_grammar.specs.Kind.{'+', '.join(['Kind','Expression']+names)+'}\n',text,count=1)
     open(f'{CRATE}/specs/Covered.antt','w').write(wrapped(text))
     by={}
     for k in covered: by.setdefault(stepof[k][1],[]).append(stepof[k][0])

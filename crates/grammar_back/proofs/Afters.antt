@@ -1,0 +1,37 @@
+-- What may follow a kind, of which most is said by looks alone.
+use Rattle.std.specs.Prelude.{◌≡◌, Bool, true, false, List}
+use Rattle.std.proofs.Common.{inl}
+use Rattle.proc_macro2.specs.Token.{Token}
+use Rattle.syn_grammar.specs.Kind.{Kind, Expression, Plain, InCondition, InArm, InStatement}
+use Rattle.syn_grammar.specs.Tree.{Tree, Node}
+use Rattle.grammar_back.specs.After.{behind, After}
+use Rattle.grammar_back.specs.Sees.{LacksAll}
+
+-- it is the same of what a node holds
+pub after_node : (k : Kind) (x : Tree) (s : List Token) → After k (Node k x) s → After k x s
+after_node (Expression Plain) x s a = a
+after_node (Expression InCondition) x s a = a
+after_node (Expression InArm) x s a = a
+after_node (Expression InStatement) x s a = a
+after_node _ x s a = a
+
+-- what the looks don't see may follow
+pub suffices : (k : Kind) (x : Tree) (s : List Token) → LacksAll (behind k) s → After k x s
+suffices (Expression Plain) x s a = a
+suffices (Expression InCondition) x s a = a
+suffices (Expression InArm) x s a = inl a
+suffices (Expression InStatement) x s a = inl a
+suffices _ x s a = a
+
+-- and of these kinds nothing else may
+abbrev pub is_by_tokens : Kind → Bool
+is_by_tokens (Expression InArm) = false
+is_by_tokens (Expression InStatement) = false
+is_by_tokens k = true
+
+pub by_tokens : (k : Kind) (x : Tree) (s : List Token) → is_by_tokens k ≡ true → After k x s → LacksAll (behind k) s
+by_tokens (Expression Plain) x s e a = a
+by_tokens (Expression InCondition) x s e a = a
+by_tokens (Expression InArm) x s e a = cc
+by_tokens (Expression InStatement) x s e a = cc
+by_tokens _ x s e a = a
