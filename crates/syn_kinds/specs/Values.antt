@@ -1,5 +1,5 @@
 -- The tokens of kinds.
-use Rattle.std.specs.Prelude.{ℕ, zero, suc, List, [], ◌∷◌, ◌++◌}
+use Rattle.std.specs.Prelude.{ℕ, zero, suc, List, [], ◌∷◌, ◌++◌, codes}
 use Rattle.rust_map.specs.declared.span.Span.{Span}
 use Rattle.rust_leaf.specs.declared.punct.Spacing.{Spacing}
 use Rattle.rust_leaf.specs.declared.punct.Spacing.TheVariants.{Alone, Joint}
@@ -29,6 +29,12 @@ abbrev pub delimiter_of : ℕ → Delimiter
 delimiter_of zero = delimiter.Parenthesis
 delimiter_of (suc zero) = delimiter.Brace
 delimiter_of (suc (suc n)) = delimiter.Bracket
+
+-- how a message shows them
+abbrev pub shown_delimiters : ℕ → List ℕ
+shown_delimiters zero = codes "parentheses"
+shown_delimiters (suc zero) = codes "curly braces"
+shown_delimiters (suc (suc n)) = codes "square brackets"
 
 -- a group: both of its delimiters carry the span of all of it
 abbrev pub enclosed : Delimiter → Span → List Spanned → List Spanned

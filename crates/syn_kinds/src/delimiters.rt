@@ -3,16 +3,17 @@
 ghost use Rattle.proc_macro2.specs.Trees.{delim_span_of};
 ghost use Rattle.rust_map.specs.Spans.{call_site};
 ghost use Rattle.std.specs.Fn.{FnOnceReturnsAtMut};
-ghost use Rattle.std.specs.Prelude.{[], ◌++◌, ◌≡◌, List, Ok, OnOk};
+ghost use Rattle.std.specs.Prelude.{[], ◌++◌, ◌≡◌, List, Ok, OnOk, Some};
 ghost use Rattle.proc_macro2.specs.Token.{Spanned};
 ghost use Rattle.syn_error.specs.Front.{Keeps};
-ghost use Rattle.syn_kinds.specs.Values.{delimiter_of, enclosed};
+ghost use Rattle.syn_kinds.specs.Values.{delimiter_of, enclosed, shown_delimiters};
 
 use proc_macro2::delimiter::Delimiter;
 use proc_macro2::group::DelimSpan;
 use proc_macro2::tree::{Group, TokenStream, TokenTree};
 use rust_map::span::Span;
 use std::alloc::AllocError;
+use std::fmt;
 use try_clone::TryClone;
 
 /// The delimiters of a group: parentheses (0), braces (1) or brackets (2 and any other number). All of one kind are
@@ -56,7 +57,9 @@ impl<const D: usize> Delimiters<D> {
     }
 
     /// How a message shows the kind.
-    pub fn display() -> &'static str {
+    pub fn display() -> &'static str
+        ensures { result.now ≡ shown_delimiters D }
+    {
         match D {
             0 => "parentheses",
             1 => "curly braces",
@@ -108,6 +111,15 @@ pub(crate) fn put_group(
     let mut group = Group::new(delimiter, inside);
     group.set_span(span);
     tokens.push_tree(TokenTree::Group(group))
+}
+
+impl<const D: usize> fmt::Display for Delimiters<D> {
+    ghost output = { λ _. Some (shown_delimiters D) };
+
+    /// Shows the kind as a message does.
+    fn fmt<W: fmt::Write>(&self, f: &mut fmt::Formatter<W>) -> fmt::Result {
+        f.write_str(Delimiters::<D>::display())
+    }
 }
 
 impl<const D: usize> Default for Delimiters<D> {

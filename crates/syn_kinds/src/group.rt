@@ -4,7 +4,7 @@ ghost use Rattle.proc_macro2.specs.Token.{Spanned};
 ghost use Rattle.proc_macro2.specs.declared.delimiter.Delimiter.TheVariants as delimiter;
 ghost use Rattle.rust_map.specs.Spans.{call_site};
 ghost use Rattle.std.specs.Fn.{FnOnceReturnsAtMut};
-ghost use Rattle.std.specs.Prelude.{[], ◌++◌, ◌≡◌, List, Ok, OnOk};
+ghost use Rattle.std.specs.Prelude.{[], ◌++◌, ◌≡◌, List, Ok, OnOk, Some, codes};
 ghost use Rattle.syn_error.specs.Front.{Keeps};
 ghost use Rattle.syn_kinds.specs.Values.{enclosed};
 
@@ -13,6 +13,7 @@ use proc_macro2::delimiter::Delimiter;
 use proc_macro2::tree::TokenStream;
 use rust_map::span::Span;
 use std::alloc::AllocError;
+use std::fmt;
 use try_clone::TryClone;
 
 /// What encloses an invisible group. All are equal.
@@ -33,7 +34,9 @@ impl Group {
     }
 
     /// How a message shows the kind.
-    pub fn display() -> &'static str {
+    pub fn display() -> &'static str
+        ensures { result.now ≡ codes "invisible group" }
+    {
         "invisible group"
     }
 
@@ -73,6 +76,15 @@ impl Group {
         let mut inside = TokenStream::new(tokens.allocator());
         f(&mut inside)?;
         self.enclose(tokens, inside)
+    }
+}
+
+impl fmt::Display for Group {
+    ghost output = { λ _. Some (codes "invisible group") };
+
+    /// Shows the kind as a message does.
+    fn fmt<W: fmt::Write>(&self, f: &mut fmt::Formatter<W>) -> fmt::Result {
+        f.write_str(Group::display())
     }
 }
 

@@ -1,7 +1,7 @@
 //! Keywords.
 
 ghost use Rattle.rust_map.specs.Spans.{call_site};
-ghost use Rattle.std.specs.Prelude.{◌++◌, ◌≡◌};
+ghost use Rattle.std.specs.Prelude.{◌++◌, ◌≡◌, Some};
 ghost use Rattle.std.specs.Str.{chars};
 ghost use Rattle.syn_kinds.specs.Table.{quoted, word};
 ghost use Rattle.syn_kinds.specs.Values.{word_tokens};
@@ -11,6 +11,7 @@ use crate::table;
 use proc_macro2::tree::TokenStream;
 use rust_map::span::Span;
 use std::alloc::AllocError;
+use std::fmt;
 use syn_error::to_tokens::ToTokens;
 use try_clone::TryClone;
 
@@ -59,6 +60,15 @@ impl<const K: usize> Keyword<K> {
         ensures { self.new.span ≡ span }
     {
         self.span = span;
+    }
+}
+
+impl<const K: usize> fmt::Display for Keyword<K> {
+    ghost output = { λ _. Some (quoted (word K)) };
+
+    /// Shows the kind as a message does: its word in backquotes.
+    fn fmt<W: fmt::Write>(&self, f: &mut fmt::Formatter<W>) -> fmt::Result {
+        f.write_str(Keyword::<K>::display())
     }
 }
 

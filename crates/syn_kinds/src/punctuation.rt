@@ -1,7 +1,7 @@
 //! Punctuations.
 
 ghost use Rattle.rust_map.specs.Spans.{call_site};
-ghost use Rattle.std.specs.Prelude.{[], ◌++◌, ◌∷◌, ◌≡◌, List, OnOk, drop, get_or, replicate};
+ghost use Rattle.std.specs.Prelude.{[], ◌++◌, ◌∷◌, ◌≡◌, List, OnOk, Some, drop, get_or, replicate};
 ghost use Rattle.syn_error.specs.Front.{Keeps};
 ghost use Rattle.syn_kinds.specs.Table.{marks, quoted, sign};
 ghost use Rattle.syn_kinds.specs.Values.{marks_tokens};
@@ -12,6 +12,7 @@ use proc_macro2::tree::TokenStream;
 use rust_leaf::punct::Spacing;
 use rust_map::span::Span;
 use std::alloc::AllocError;
+use std::fmt;
 use syn_error::to_tokens::ToTokens;
 use try_clone::TryClone;
 
@@ -60,6 +61,15 @@ impl<const K: usize> Punctuation<K, 1> {
         ensures { self.new.spans ≡ span ∷ [] }
     {
         self.spans = [span];
+    }
+}
+
+impl<const K: usize, const N: usize> fmt::Display for Punctuation<K, N> {
+    ghost output = { λ _. Some (quoted (sign K)) };
+
+    /// Shows the kind as a message does: its text in backquotes.
+    fn fmt<W: fmt::Write>(&self, f: &mut fmt::Formatter<W>) -> fmt::Result {
+        f.write_str(Punctuation::<K, N>::display())
     }
 }
 

@@ -1,13 +1,15 @@
 //! The underscore.
 
 ghost use Rattle.rust_map.specs.Spans.{call_site};
-ghost use Rattle.std.specs.Prelude.{◌++◌, ◌≡◌, codes};
+ghost use Rattle.std.specs.Prelude.{◌++◌, ◌≡◌, Some, codes};
+ghost use Rattle.syn_kinds.specs.Table.{quoted};
 ghost use Rattle.syn_kinds.specs.Values.{word_tokens};
 
 use crate::put::put_word;
 use proc_macro2::tree::TokenStream;
 use rust_map::span::Span;
 use std::alloc::AllocError;
+use std::fmt;
 use syn_error::to_tokens::ToTokens;
 use try_clone::TryClone;
 
@@ -30,7 +32,7 @@ impl Underscore {
 
     /// How a message shows the kind.
     pub fn display() -> &'static str
-        ensures { result.now ≡ codes "`_`" }
+        ensures { result.now ≡ quoted (codes "_") }
     {
         "`_`"
     }
@@ -47,6 +49,15 @@ impl Underscore {
         ensures { self.new.span ≡ span }
     {
         self.span = span;
+    }
+}
+
+impl fmt::Display for Underscore {
+    ghost output = { λ _. Some (quoted (codes "_")) };
+
+    /// Shows the kind as a message does: in backquotes.
+    fn fmt<W: fmt::Write>(&self, f: &mut fmt::Formatter<W>) -> fmt::Result {
+        f.write_str(Underscore::display())
     }
 }
 

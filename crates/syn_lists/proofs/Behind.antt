@@ -41,7 +41,8 @@ module _ {T P : Type 0} where
   cut (v ∷ vs) [] (suc n) enough = refl
   cut (v ∷ vs) (p ∷ ps) (suc n) enough = ap (λ qs. (v, Some p) ∷ qs) (cut vs ps n (omega arith))
 
-  both_more : (vs : List T) (qs : List P) (v : T) (p : P) → length qs ≡ length vs
+  -- a pair more behind as many separators as values
+  pub both_more : (vs : List T) (qs : List P) (v : T) (p : P) → length qs ≡ length vs
       → pairs (vs ++ v ∷ []) (qs ++ p ∷ []) ≡ pairs vs qs ++ (v, Some p) ∷ []
   both_more [] [] v p same = refl
   both_more [] (q ∷ qs) v p same = absurd (omega arith)

@@ -8,7 +8,7 @@ use Rattle.std.proofs.RetainMut.{RetainMutInvariant, sift_on}
 
 module _ {X : Type 0} where
   -- after a swap of k and i, the first k + 1 elements and those past i are as after a copy to k
-  front : (ys : List X) (k i : ℕ) (y : X) → k ≤ i → i < length ys
+  pub front : (ys : List X) (k i : ℕ) (y : X) → k ≤ i → i < length ys
       → take (k + 1) (set (set ys i y) k y) ≡ take (k + 1) (swap (set ys i y) k i)
   front ys k i y le lt =
       let long = length-set ys i y in
@@ -16,7 +16,7 @@ module _ {X : Type 0} where
       rw (← swapped) (same_lists _ _ (search (rules, places))
       (λ j d h. grind (arith, places, get_or-set_same, cases_eq j k, cases_eq j i)))
 
-  past : (ys : List X) (k i : ℕ) (y : X) → k ≤ i → i < length ys
+  pub past : (ys : List X) (k i : ℕ) (y : X) → k ≤ i → i < length ys
       → drop (i + 1) (set (set ys i y) k y) ≡ drop (i + 1) (swap (set ys i y) k i)
   past ys k i y le lt =
       let long = length-set ys i y in

@@ -6,3 +6,4 @@ pub mod Lists
 pub mod Pairs
 pub mod PairsLeft
 pub mod Put
+pub mod Retained

@@ -2,10 +2,22 @@
 
 ghost use Rattle.std.specs.Fn.{CalledAtMut};
 ghost use Rattle.std.specs.List.Retain.{RetainsInTurn};
-ghost use Rattle.std.specs.Prelude.{◌<◌, ◌↔◌, ◌≤◌, length, take};
-ghost use Rattle.syn_lists.specs.Lists.{IsTrailing, StaysSeparated, separators, values};
+ghost use Rattle.std.specs.Prelude.{◌<◌, ◌≡◌, ◌↔◌, ◌≤◌, length, swap, take};
+ghost use Rattle.syn_lists.specs.Lists.{IsSeparated, IsTrailing, StaysSeparated, separators, values};
+ghost use Rattle.syn_lists.specs.Retained.{KeepsInFront, RetainsPairs};
 
 use crate::punctuated::Punctuated;
+
+// Swaps the separators at two indices, if there is one at the second, which is not below the first.
+fn swap_separators<P>(separators: &mut [P], to: usize, from: usize)
+    requires { to ≤ from }
+    ensures inside { from < length separators.old → separators.new ≡ swap separators.old to from }
+    ensures past { length separators.old ≤ from → separators.new ≡ separators.old }
+{
+    if from < separators.len() {
+        separators.swap(to, from);
+    }
+}
 
 // Moves the values at which the function answers `true` to the front, in their order, each with the separator behind
 // it, and counts them.
@@ -16,15 +28,15 @@ fn keep_in_front<T, P, F: FnMut(&mut T) -> bool>(
 ) -> usize
     requires { F.IsAlwaysCallable keeps }
     ensures filtered { RetainsInTurn (CalledAtMut F.FnMut) keeps values.old (take result values.new) }
+    ensures pairs { IsSeparated values.old separators.old → KeepsInFront (CalledAtMut F.FnMut) keeps values.old
+        separators.old values.new separators.new result }
     ensures bound { result ≤ length values.old }
 {
     let mut kept = 0;
     for index in 0..values.len() {
         if keeps(&mut values[index]) {
             values.swap(kept, index);
-            if index < separators.len() {
-                separators.swap(kept, index);
-            }
+            swap_separators(separators, kept, index);
             kept += 1;
         }
     }
@@ -37,6 +49,8 @@ impl<T: Drop, P: Drop> Punctuated<T, P> {
     pub fn retain<F: FnMut(&mut T) -> bool>(&mut self, keeps: F)
         requires { F.IsAlwaysCallable keeps }
         ensures filtered { RetainsInTurn (CalledAtMut F.FnMut) keeps (values self.old) (values self.new) }
+        ensures pairs { IsSeparated (values self.old) (separators self.old) → RetainsPairs (CalledAtMut F.FnMut) keeps
+            (values self.old) (separators self.old) (values self.new) (separators self.new) }
         ensures trailing { 0 < length (values self.new) → IsTrailing (values self.new) (separators self.new)
             ↔ IsTrailing (values self.old) (separators self.old) }
         ensures separated { StaysSeparated self.old self.new }
