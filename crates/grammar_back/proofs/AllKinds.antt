@@ -3,12 +3,19 @@ use Rattle.std.proofs.Common.{◌≡◌, refl}
 use Rattle.std.specs.Prelude.{true, false}
 use Rattle.syn_grammar.specs.Kind.{Kind, AConst, AFunction, AMacro, AStatic, AStruct, AType, ATypeAlias, AUnion}
 use Rattle.syn_grammar.specs.Kind.{AUse, Abi, AnArgument, AnEnum, AnExternCrate, AnyPath, Arguments, AtType}
-use Rattle.syn_grammar.specs.Kind.{Bound, BoundLifetimes, Bounds, BoundsColon, BracketType, Delimited, DynType}
-use Rattle.syn_grammar.specs.Kind.{FnPtrArg, FnPtrType, GenericParams, Generics, IdentPattern, ImplType}
-use Rattle.syn_grammar.specs.Kind.{InExpression, InFile, InForeign, InImpl, InModule, InTrait, InType, Index}
-use Rattle.syn_grammar.specs.Kind.{InferType, InnerAttribute, InnerAttributes, ItemMacro, Label, LifetimeColon}
-use Rattle.syn_grammar.specs.Kind.{LifetimeParam, Lifetimes, LiteralPattern, Member, Meta, NamedField}
-use Rattle.syn_grammar.specs.Kind.{NamedFields, NeverType, OuterAttribute, OuterAttributes}
+use Rattle.syn_grammar.specs.Kind.{Bound, BoundLifetimes, Bounds, BoundsColon, BracketType, ClosureParam}
+use Rattle.syn_grammar.specs.Kind.{Delimited, DynType, ExprAnd, ExprArray, ExprAssign, ExprAsync, ExprAttributed}
+use Rattle.syn_grammar.specs.Kind.{ExprBitAnd, ExprBitOr, ExprBitXor, ExprBlock, ExprBreak, ExprCall, ExprCast}
+use Rattle.syn_grammar.specs.Kind.{ExprClosure, ExprCompare, ExprConst, ExprContinue, ExprForLoop, ExprGroup}
+use Rattle.syn_grammar.specs.Kind.{ExprIf, ExprIndex, ExprInfer, ExprLet, ExprLit, ExprLoop, ExprMacro, ExprMatch}
+use Rattle.syn_grammar.specs.Kind.{ExprOr, ExprParen, ExprPath, ExprProduct, ExprRange, ExprRangeClosed}
+use Rattle.syn_grammar.specs.Kind.{ExprRawAddr, ExprReference, ExprRepeat, ExprReturn, ExprShift, ExprStruct}
+use Rattle.syn_grammar.specs.Kind.{ExprSum, ExprTry, ExprTryBlock, ExprTypedClosure, ExprUnary, ExprUnsafe}
+use Rattle.syn_grammar.specs.Kind.{ExprWhile, ExprYield, FnPtrArg, FnPtrType, GenericParams, Generics}
+use Rattle.syn_grammar.specs.Kind.{IdentPattern, ImplType, InExpression, InFile, InForeign, InImpl, InModule}
+use Rattle.syn_grammar.specs.Kind.{InTrait, InType, Index, InferType, InnerAttribute, InnerAttributes, ItemMacro}
+use Rattle.syn_grammar.specs.Kind.{Label, LifetimeColon, LifetimeParam, Lifetimes, LiteralPattern, Member, Meta}
+use Rattle.syn_grammar.specs.Kind.{NamedField, NamedFields, NeverType, OuterAttribute, OuterAttributes}
 use Rattle.syn_grammar.specs.Kind.{ParenthesizedArguments, Path, PathPattern, Pattern, PointerType, QualifiedPath}
 use Rattle.syn_grammar.specs.Kind.{RangeBound, RangeEnd, RangeToPattern, Receiver, ReferenceType, RestPattern}
 use Rattle.syn_grammar.specs.Kind.{ReturnType, Segments, SeveralPatterns, Signature, SlicePattern, SomeBounds}
@@ -65,6 +72,22 @@ use Rattle.grammar_back.proofs.StepsOfItems.{step_a_function_in_trait, step_a_fu
 use Rattle.grammar_back.proofs.StepsOfItems.{step_a_type_alias_in_trait, step_a_type_alias_in_impl}
 use Rattle.grammar_back.proofs.StepsOfItems.{step_item_macro_in_file, step_item_macro_in_foreign}
 use Rattle.grammar_back.proofs.StepsOfItems.{step_item_macro_in_trait, step_item_macro_in_impl, step_label}
+use Rattle.grammar_back.proofs.StepsOfExpressions.{step_expr_lit, step_expr_path, step_expr_macro}
+use Rattle.grammar_back.proofs.StepsOfExpressions.{step_expr_paren, step_expr_array, step_expr_repeat}
+use Rattle.grammar_back.proofs.StepsOfExpressions.{step_expr_group, step_expr_infer, step_expr_block}
+use Rattle.grammar_back.proofs.StepsOfExpressions.{step_expr_unsafe, step_expr_async, step_expr_const}
+use Rattle.grammar_back.proofs.StepsOfExpressions.{step_expr_try_block, step_expr_if, step_expr_match}
+use Rattle.grammar_back.proofs.StepsOfExpressions.{step_expr_loop, step_expr_while, step_expr_for_loop}
+use Rattle.grammar_back.proofs.StepsOfExpressions.{step_expr_continue, step_expr_typed_closure, step_expr_struct}
+use Rattle.grammar_back.proofs.StepsOfExpressions.{step_expr_call, step_expr_index, step_expr_try, step_expr_cast}
+use Rattle.grammar_back.proofs.StepsOfExpressions.{step_expr_attributed, step_expr_unary, step_expr_raw_addr}
+use Rattle.grammar_back.proofs.StepsOfExpressions.{step_expr_reference, step_expr_let, step_expr_break}
+use Rattle.grammar_back.proofs.StepsOfExpressions.{step_expr_return, step_expr_yield, step_expr_closure}
+use Rattle.grammar_back.proofs.StepsOfExpressions.{step_expr_range, step_expr_range_closed, step_expr_assign}
+use Rattle.grammar_back.proofs.StepsOfExpressions.{step_expr_or, step_expr_and, step_expr_compare}
+use Rattle.grammar_back.proofs.StepsOfExpressions.{step_expr_bit_or, step_expr_bit_xor, step_expr_bit_and}
+use Rattle.grammar_back.proofs.StepsOfExpressions.{step_expr_shift, step_expr_sum, step_expr_product}
+use Rattle.grammar_back.proofs.StepsOfExpressions.{step_closure_param}
 
 pub steps : (k : Kind) → has_step k ≡ true → Step k
 unfolding has_step
@@ -170,6 +193,53 @@ steps (ItemMacro InForeign) e = step_item_macro_in_foreign
 steps (ItemMacro InTrait) e = step_item_macro_in_trait
 steps (ItemMacro InImpl) e = step_item_macro_in_impl
 steps Label e = step_label
+steps ExprLit e = step_expr_lit
+steps ExprPath e = step_expr_path
+steps ExprMacro e = step_expr_macro
+steps ExprParen e = step_expr_paren
+steps ExprArray e = step_expr_array
+steps ExprRepeat e = step_expr_repeat
+steps ExprGroup e = step_expr_group
+steps ExprInfer e = step_expr_infer
+steps ExprBlock e = step_expr_block
+steps ExprUnsafe e = step_expr_unsafe
+steps ExprAsync e = step_expr_async
+steps ExprConst e = step_expr_const
+steps ExprTryBlock e = step_expr_try_block
+steps ExprIf e = step_expr_if
+steps ExprMatch e = step_expr_match
+steps ExprLoop e = step_expr_loop
+steps ExprWhile e = step_expr_while
+steps ExprForLoop e = step_expr_for_loop
+steps ExprContinue e = step_expr_continue
+steps ExprTypedClosure e = step_expr_typed_closure
+steps ExprStruct e = step_expr_struct
+steps ExprCall e = step_expr_call
+steps ExprIndex e = step_expr_index
+steps ExprTry e = step_expr_try
+steps ExprCast e = step_expr_cast
+steps ExprAttributed e = step_expr_attributed
+steps ExprUnary e = step_expr_unary
+steps ExprRawAddr e = step_expr_raw_addr
+steps ExprReference e = step_expr_reference
+steps ExprLet e = step_expr_let
+steps ExprBreak e = step_expr_break
+steps ExprReturn e = step_expr_return
+steps ExprYield e = step_expr_yield
+steps ExprClosure e = step_expr_closure
+steps ExprRange e = step_expr_range
+steps ExprRangeClosed e = step_expr_range_closed
+steps ExprAssign e = step_expr_assign
+steps ExprOr e = step_expr_or
+steps ExprAnd e = step_expr_and
+steps ExprCompare e = step_expr_compare
+steps ExprBitOr e = step_expr_bit_or
+steps ExprBitXor e = step_expr_bit_xor
+steps ExprBitAnd e = step_expr_bit_and
+steps ExprShift e = step_expr_shift
+steps ExprSum e = step_expr_sum
+steps ExprProduct e = step_expr_product
+steps ClosureParam e = step_closure_param
 steps _ e = let f : false ≡ true = e in cc f
 
 pub laws : (k : Kind) → has_step k ≡ true → KindLaw k
@@ -306,4 +376,53 @@ laws (ItemMacro InTrait) e = simple_kind (ItemMacro InTrait) refl (λ x. tt) (λ
 laws (ItemMacro InImpl) e = simple_kind (ItemMacro InImpl) refl (λ x. tt) (λ x. refl) (λ x. refl) (λ q. refl)
     (λ q. refl) refl
 laws Label e = simple_kind Label refl (λ x. tt) (λ x. refl) (λ x. refl) (λ q. refl) (λ q. refl) refl
+laws ExprLit e = simple_kind ExprLit refl (λ x. tt) (λ x. refl) (λ x. refl) (λ q. refl) (λ q. refl) refl
+laws ExprPath e = simple_kind ExprPath refl (λ x. tt) (λ x. refl) (λ x. refl) (λ q. refl) (λ q. refl) refl
+laws ExprMacro e = simple_kind ExprMacro refl (λ x. tt) (λ x. refl) (λ x. refl) (λ q. refl) (λ q. refl) refl
+laws ExprParen e = simple_kind ExprParen refl (λ x. tt) (λ x. refl) (λ x. refl) (λ q. refl) (λ q. refl) refl
+laws ExprArray e = simple_kind ExprArray refl (λ x. tt) (λ x. refl) (λ x. refl) (λ q. refl) (λ q. refl) refl
+laws ExprRepeat e = simple_kind ExprRepeat refl (λ x. tt) (λ x. refl) (λ x. refl) (λ q. refl) (λ q. refl) refl
+laws ExprGroup e = simple_kind ExprGroup refl (λ x. tt) (λ x. refl) (λ x. refl) (λ q. refl) (λ q. refl) refl
+laws ExprInfer e = simple_kind ExprInfer refl (λ x. tt) (λ x. refl) (λ x. refl) (λ q. refl) (λ q. refl) refl
+laws ExprBlock e = simple_kind ExprBlock refl (λ x. tt) (λ x. refl) (λ x. refl) (λ q. refl) (λ q. refl) refl
+laws ExprUnsafe e = simple_kind ExprUnsafe refl (λ x. tt) (λ x. refl) (λ x. refl) (λ q. refl) (λ q. refl) refl
+laws ExprAsync e = simple_kind ExprAsync refl (λ x. tt) (λ x. refl) (λ x. refl) (λ q. refl) (λ q. refl) refl
+laws ExprConst e = simple_kind ExprConst refl (λ x. tt) (λ x. refl) (λ x. refl) (λ q. refl) (λ q. refl) refl
+laws ExprTryBlock e = simple_kind ExprTryBlock refl (λ x. tt) (λ x. refl) (λ x. refl) (λ q. refl) (λ q. refl) refl
+laws ExprIf e = simple_kind ExprIf refl (λ x. tt) (λ x. refl) (λ x. refl) (λ q. refl) (λ q. refl) refl
+laws ExprMatch e = simple_kind ExprMatch refl (λ x. tt) (λ x. refl) (λ x. refl) (λ q. refl) (λ q. refl) refl
+laws ExprLoop e = simple_kind ExprLoop refl (λ x. tt) (λ x. refl) (λ x. refl) (λ q. refl) (λ q. refl) refl
+laws ExprWhile e = simple_kind ExprWhile refl (λ x. tt) (λ x. refl) (λ x. refl) (λ q. refl) (λ q. refl) refl
+laws ExprForLoop e = simple_kind ExprForLoop refl (λ x. tt) (λ x. refl) (λ x. refl) (λ q. refl) (λ q. refl) refl
+laws ExprContinue e = simple_kind ExprContinue refl (λ x. tt) (λ x. refl) (λ x. refl) (λ q. refl) (λ q. refl) refl
+laws ExprTypedClosure e = simple_kind ExprTypedClosure refl (λ x. tt) (λ x. refl) (λ x. refl) (λ q. refl) (λ q. refl)
+    refl
+laws ExprStruct e = simple_kind ExprStruct refl (λ x. tt) (λ x. refl) (λ x. refl) (λ q. refl) (λ q. refl) refl
+laws ExprCall e = simple_kind ExprCall refl (λ x. tt) (λ x. refl) (λ x. refl) (λ q. refl) (λ q. refl) refl
+laws ExprIndex e = simple_kind ExprIndex refl (λ x. tt) (λ x. refl) (λ x. refl) (λ q. refl) (λ q. refl) refl
+laws ExprTry e = simple_kind ExprTry refl (λ x. tt) (λ x. refl) (λ x. refl) (λ q. refl) (λ q. refl) refl
+laws ExprCast e = simple_kind ExprCast refl (λ x. tt) (λ x. refl) (λ x. refl) (λ q. refl) (λ q. refl) refl
+laws ExprAttributed e = simple_kind ExprAttributed refl (λ x. tt) (λ x. refl) (λ x. refl) (λ q. refl) (λ q. refl) refl
+laws ExprUnary e = simple_kind ExprUnary refl (λ x. tt) (λ x. refl) (λ x. refl) (λ q. refl) (λ q. refl) refl
+laws ExprRawAddr e = simple_kind ExprRawAddr refl (λ x. tt) (λ x. refl) (λ x. refl) (λ q. refl) (λ q. refl) refl
+laws ExprReference e = simple_kind ExprReference refl (λ x. tt) (λ x. refl) (λ x. refl) (λ q. refl) (λ q. refl) refl
+laws ExprLet e = simple_kind ExprLet refl (λ x. tt) (λ x. refl) (λ x. refl) (λ q. refl) (λ q. refl) refl
+laws ExprBreak e = simple_kind ExprBreak refl (λ x. tt) (λ x. refl) (λ x. refl) (λ q. refl) (λ q. refl) refl
+laws ExprReturn e = simple_kind ExprReturn refl (λ x. tt) (λ x. refl) (λ x. refl) (λ q. refl) (λ q. refl) refl
+laws ExprYield e = simple_kind ExprYield refl (λ x. tt) (λ x. refl) (λ x. refl) (λ q. refl) (λ q. refl) refl
+laws ExprClosure e = simple_kind ExprClosure refl (λ x. tt) (λ x. refl) (λ x. refl) (λ q. refl) (λ q. refl) refl
+laws ExprRange e = simple_kind ExprRange refl (λ x. tt) (λ x. refl) (λ x. refl) (λ q. refl) (λ q. refl) refl
+laws ExprRangeClosed e = simple_kind ExprRangeClosed refl (λ x. tt) (λ x. refl) (λ x. refl) (λ q. refl) (λ q. refl)
+    refl
+laws ExprAssign e = simple_kind ExprAssign refl (λ x. tt) (λ x. refl) (λ x. refl) (λ q. refl) (λ q. refl) refl
+laws ExprOr e = simple_kind ExprOr refl (λ x. tt) (λ x. refl) (λ x. refl) (λ q. refl) (λ q. refl) refl
+laws ExprAnd e = simple_kind ExprAnd refl (λ x. tt) (λ x. refl) (λ x. refl) (λ q. refl) (λ q. refl) refl
+laws ExprCompare e = simple_kind ExprCompare refl (λ x. tt) (λ x. refl) (λ x. refl) (λ q. refl) (λ q. refl) refl
+laws ExprBitOr e = simple_kind ExprBitOr refl (λ x. tt) (λ x. refl) (λ x. refl) (λ q. refl) (λ q. refl) refl
+laws ExprBitXor e = simple_kind ExprBitXor refl (λ x. tt) (λ x. refl) (λ x. refl) (λ q. refl) (λ q. refl) refl
+laws ExprBitAnd e = simple_kind ExprBitAnd refl (λ x. tt) (λ x. refl) (λ x. refl) (λ q. refl) (λ q. refl) refl
+laws ExprShift e = simple_kind ExprShift refl (λ x. tt) (λ x. refl) (λ x. refl) (λ q. refl) (λ q. refl) refl
+laws ExprSum e = simple_kind ExprSum refl (λ x. tt) (λ x. refl) (λ x. refl) (λ q. refl) (λ q. refl) refl
+laws ExprProduct e = simple_kind ExprProduct refl (λ x. tt) (λ x. refl) (λ x. refl) (λ q. refl) (λ q. refl) refl
+laws ClosureParam e = simple_kind ClosureParam refl (λ x. tt) (λ x. refl) (λ x. refl) (λ q. refl) (λ q. refl) refl
 laws _ e = let f : false ≡ true = e in cc f

@@ -38,6 +38,10 @@ pub reserved_impl : is_reserved (codes "impl") ≡ true
 unfolding is_reserved
 reserved_impl = refl
 
+pub reserved_in : is_reserved (codes "in") ≡ true
+unfolding is_reserved
+reserved_in = refl
+
 pub reserved_mut : is_reserved (codes "mut") ≡ true
 unfolding is_reserved
 reserved_mut = refl

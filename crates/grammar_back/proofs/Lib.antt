@@ -16,6 +16,7 @@ pub mod StepsOfPatterns
 pub mod StepsOfAttributes
 pub mod StepsOfGenerics
 pub mod StepsOfItems
+pub mod StepsOfExpressions
 pub mod Seconds
 pub mod Verdicts
 pub mod HandSteps

@@ -6,7 +6,15 @@ use Rattle.std.specs.Prelude.{codes, List, [], ◌∷◌}
 use Rattle.syn_grammar.specs.Kind.{Kind, AConst, AFunction, AMacro, AStatic, AStruct, AType, ATypeAlias, AUnion}
 use Rattle.syn_grammar.specs.Kind.{AUse, Abi, AnArgument, AnEnum, AnExternCrate, AnyPath, Arguments, AtType}
 use Rattle.syn_grammar.specs.Kind.{Block, Body, Bound, BoundLifetimes, Bounds, BoundsColon, BracketType}
-use Rattle.syn_grammar.specs.Kind.{ConstParam, Delimited, DynType, Expression, FieldPattern, FieldPatterns, FnArg}
+use Rattle.syn_grammar.specs.Kind.{ClosureParam, ConstParam, Delimited, DynType, ExprAnd, ExprArray, ExprAssign}
+use Rattle.syn_grammar.specs.Kind.{ExprAsync, ExprAttributed, ExprAwait, ExprBitAnd, ExprBitOr, ExprBitXor}
+use Rattle.syn_grammar.specs.Kind.{ExprBlock, ExprBreak, ExprCall, ExprCast, ExprClosure, ExprCompare, ExprConst}
+use Rattle.syn_grammar.specs.Kind.{ExprContinue, ExprField, ExprForLoop, ExprGroup, ExprIf, ExprIndex, ExprInfer}
+use Rattle.syn_grammar.specs.Kind.{ExprLet, ExprLit, ExprLoop, ExprMacro, ExprMatch, ExprMethodCall, ExprOr}
+use Rattle.syn_grammar.specs.Kind.{ExprParen, ExprPath, ExprProduct, ExprRange, ExprRangeClosed, ExprRawAddr}
+use Rattle.syn_grammar.specs.Kind.{ExprReference, ExprRepeat, ExprReturn, ExprShift, ExprStruct, ExprSum, ExprTry}
+use Rattle.syn_grammar.specs.Kind.{ExprTryBlock, ExprTypedClosure, ExprUnary, ExprUnsafe, ExprWhile, ExprYield}
+use Rattle.syn_grammar.specs.Kind.{Expression, FieldPattern, FieldPatterns, FieldValue, FieldValues, FnArg}
 use Rattle.syn_grammar.specs.Kind.{FnPtrArg, FnPtrType, GenericParam, GenericParams, Generics, IdentPattern}
 use Rattle.syn_grammar.specs.Kind.{ImplGenerics, ImplType, InArm, InCondition, InExpression, InFile, InForeign}
 use Rattle.syn_grammar.specs.Kind.{InImpl, InModule, InStatement, InTrait, InType, Index, InferType}
@@ -344,4 +352,73 @@ starts (ItemMacro InImpl) = Then 58 (58 ∷ []) (TheWord (codes "self")) ∷ The
 starts Label = Tick ∷ []
 starts Body = Opening Brace ∷ []
 starts Block = Opening Brace ∷ []
+starts ExprLit = Quoted any_text ∷ TheWord (codes "true") ∷ TheWord (codes "false") ∷ []
+starts ExprPath = Sign 60 [] ∷ Then 58 (58 ∷ []) (TheWord (codes "self")) ∷ Then 58 (58 ∷ [])
+    (TheWord (codes "super")) ∷ Then 58 (58 ∷ []) (TheWord (codes "crate")) ∷ Then 58 (58 ∷ []) (AnyWord is_ident) ∷
+    Then 58 (58 ∷ []) (TheWord (codes "Self")) ∷ TheWord (codes "self") ∷ TheWord (codes "super") ∷ TheWord
+    (codes "crate") ∷ AnyWord is_ident ∷ TheWord (codes "Self") ∷ []
+starts ExprMacro = Then 58 (58 ∷ []) (TheWord (codes "self")) ∷ Then 58 (58 ∷ []) (TheWord (codes "super")) ∷ Then 58
+    (58 ∷ []) (TheWord (codes "crate")) ∷ Then 58 (58 ∷ []) (AnyWord is_ident) ∷ Then 58 (58 ∷ [])
+    (TheWord (codes "Self")) ∷ TheWord (codes "self") ∷ TheWord (codes "super") ∷ TheWord (codes "crate") ∷ AnyWord
+    is_ident ∷ TheWord (codes "Self") ∷ []
+starts ExprParen = Opening Parenthesis ∷ []
+starts ExprArray = Opening Bracket ∷ []
+starts ExprRepeat = Opening Bracket ∷ []
+starts ExprGroup = Opening D.None ∷ []
+starts ExprInfer = TheWord (codes "_") ∷ []
+starts ExprBlock = Tick ∷ Opening Brace ∷ []
+starts ExprUnsafe = TheWord (codes "unsafe") ∷ []
+starts ExprAsync = TheWord (codes "async") ∷ []
+starts ExprConst = TheWord (codes "const") ∷ []
+starts ExprTryBlock = TheWord (codes "try") ∷ []
+starts ExprIf = TheWord (codes "if") ∷ []
+starts ExprMatch = TheWord (codes "match") ∷ []
+starts ExprLoop = Tick ∷ TheWord (codes "loop") ∷ []
+starts ExprWhile = Tick ∷ TheWord (codes "while") ∷ []
+starts ExprForLoop = Tick ∷ TheWord (codes "for") ∷ []
+starts ExprContinue = TheWord (codes "continue") ∷ []
+starts ExprTypedClosure = TheWord (codes "for") ∷ TheWord (codes "const") ∷ TheWord (codes "static") ∷ TheWord
+    (codes "async") ∷ TheWord (codes "move") ∷ Sign 124 [] ∷ []
+starts ExprStruct = Opening Brace ∷ []
+starts ExprCall = Opening Parenthesis ∷ []
+starts ExprMethodCall = Sign 46 [] ∷ []
+starts ExprField = Sign 46 [] ∷ []
+starts ExprAwait = Sign 46 [] ∷ []
+starts ExprIndex = Opening Bracket ∷ []
+starts ExprTry = Sign 63 [] ∷ []
+starts ExprCast = TheWord (codes "as") ∷ []
+starts ExprAttributed = Then 35 [] (Opening Bracket) ∷ []
+starts ExprUnary = Sign 42 [] ∷ Sign 33 [] ∷ Sign 45 [] ∷ []
+starts ExprRawAddr = Sign 38 [] ∷ []
+starts ExprReference = Sign 38 [] ∷ []
+starts ExprLet = TheWord (codes "let") ∷ []
+starts ExprBreak = TheWord (codes "break") ∷ []
+starts ExprReturn = TheWord (codes "return") ∷ []
+starts ExprYield = TheWord (codes "yield") ∷ []
+starts ExprClosure = TheWord (codes "for") ∷ TheWord (codes "const") ∷ TheWord (codes "static") ∷ TheWord
+    (codes "async") ∷ TheWord (codes "move") ∷ Sign 124 [] ∷ []
+starts ExprRange = Sign 46 (46 ∷ []) ∷ []
+starts ExprRangeClosed = Sign 46 (46 ∷ 61 ∷ []) ∷ []
+starts ExprAssign = Sign 61 [] ∷ Sign 43 (61 ∷ []) ∷ Sign 45 (61 ∷ []) ∷ Sign 42 (61 ∷ []) ∷ Sign 47 (61 ∷ []) ∷ Sign
+    37 (61 ∷ []) ∷ Sign 94 (61 ∷ []) ∷ Sign 38 (61 ∷ []) ∷ Sign 124 (61 ∷ []) ∷ Sign 60 (60 ∷ 61 ∷ []) ∷ Sign 62
+    (62 ∷ 61 ∷ []) ∷ []
+starts ExprOr = Sign 124 (124 ∷ []) ∷ []
+starts ExprAnd = Sign 38 (38 ∷ []) ∷ []
+starts ExprCompare = Sign 61 (61 ∷ []) ∷ Sign 60 (61 ∷ []) ∷ Sign 33 (61 ∷ []) ∷ Sign 62 (61 ∷ []) ∷ Sign 60 [] ∷
+    Sign 62 [] ∷ []
+starts ExprBitOr = Sign 124 [] ∷ []
+starts ExprBitXor = Sign 94 [] ∷ []
+starts ExprBitAnd = Sign 38 [] ∷ []
+starts ExprShift = Sign 60 (60 ∷ []) ∷ Sign 62 (62 ∷ []) ∷ []
+starts ExprSum = Sign 43 [] ∷ Sign 45 [] ∷ []
+starts ExprProduct = Sign 42 [] ∷ Sign 47 [] ∷ Sign 37 [] ∷ []
+starts FieldValues = Opening Brace ∷ []
+starts FieldValue = Then 35 [] (Opening Bracket) ∷ AnyWord is_ident ∷ AnyWord is_ident ∷ Quoted is_index ∷ []
+starts ClosureParam = Then 35 [] (Opening Bracket) ∷ TheWord (codes "ref") ∷ TheWord (codes "mut") ∷ AnyWord is_ident
+    ∷ TheWord (codes "_") ∷ Sign 46 (46 ∷ 61 ∷ []) ∷ Sign 46 (46 ∷ []) ∷ Sign 46 (46 ∷ []) ∷ Opening Parenthesis ∷
+    Opening Bracket ∷ Sign 38 [] ∷ Sign 45 [] ∷ Quoted any_text ∷ TheWord (codes "true") ∷ TheWord (codes "false") ∷
+    Sign 60 [] ∷ Then 58 (58 ∷ []) (TheWord (codes "self")) ∷ Then 58 (58 ∷ []) (TheWord (codes "super")) ∷ Then 58
+    (58 ∷ []) (TheWord (codes "crate")) ∷ Then 58 (58 ∷ []) (AnyWord is_ident) ∷ Then 58 (58 ∷ [])
+    (TheWord (codes "Self")) ∷ TheWord (codes "self") ∷ TheWord (codes "super") ∷ TheWord (codes "crate") ∷ AnyWord
+    is_ident ∷ TheWord (codes "Self") ∷ []
 starts k = []

@@ -160,8 +160,7 @@ step_reference_type = found_step ReferenceType refl refl
     (maybe_seq (found_optional (at "mut") (found_text "mut") (λ us. refl, tt)) (found_ref (AType WithoutPlus) refl) (
       ((λ us. refl) & (λ us. refl) & (λ us. refl) & (λ us. refl) & (λ us. refl) & (λ us. refl) & (λ us. refl) &
           (λ us. refl) & (λ us. refl) & (λ us. refl) & (λ us. refl) & (λ us. refl) & (λ us. refl) & (λ us. refl) &
-          (λ us. refl) & (λ us. refl) & (λ cs h us. refl) & (λ us. refl) & (λ us. refl) & (λ us. refl) & (λ us. refl)
-          &
+          (λ us. refl) & (λ us. refl) & (λ cs h us. refl) & (λ us. refl) & (λ us. refl) & (λ us. refl) & (λ us. refl) &
           (λ cs h us. simp (ident_not (codes "mut") cs reserved_mut h) refl) & (λ us. refl) & tt),
       tt,
     )) ((search), tt)) tt)
@@ -254,7 +253,7 @@ step_trait_path = found_step TraitPath refl refl
       (
         ((λ us. refl) & (λ us. refl) & (λ us. refl) & (λ cs h us. refl) & (λ us. refl) & (λ us. refl) &
             (λ us. refl) & (λ us. refl) & (λ cs h us. simp (ident_not (codes "for") cs reserved_for h) refl) &
-            (λ us. refl) &
+        (λ us. refl) &
             tt),
         tt,
       ),

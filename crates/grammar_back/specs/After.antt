@@ -1,18 +1,21 @@
 -- What may not follow a kind's tree, of what the looks see. Written by tools/steps.py, from the entries.
 use Rattle.std.specs.Prelude.{◌≡◌, true, List, [], ◌∷◌}
+use Rattle.syn_grammar.specs.Expressions.{postfix_stands}
 use Rattle.syn_grammar.specs.Generics.{impl_generics_stand, where_ends}
 use Rattle.syn_grammar.specs.Items.{restricted, restricted_in}
 use Rattle.syn_grammar.specs.Kind.{Kind, Position, AType, Abi, AnArgument, AnyPath, AtType, Bound, Bounds}
-use Rattle.syn_grammar.specs.Kind.{BoundsColon, ConstParam, DynType, Expression, FieldPattern, FnArg, FnPtrArg}
-use Rattle.syn_grammar.specs.Kind.{FnPtrType, GenericParam, GenericParams, Generics, IdentPattern, ImplGenerics}
-use Rattle.syn_grammar.specs.Kind.{ImplType, InArm, InCondition, InExpression, InFile, InForeign, InImpl}
-use Rattle.syn_grammar.specs.Kind.{InModule, InStatement, InTrait, InType, InnerAttributes, LifetimeColon}
-use Rattle.syn_grammar.specs.Kind.{LifetimeParam, Lifetimes, LiteralPattern, Meta, NamedField, OnePattern}
-use Rattle.syn_grammar.specs.Kind.{OuterAttributes, Parameter, ParenthesizedArguments, Path, PathPattern, Pattern}
-use Rattle.syn_grammar.specs.Kind.{Plain, PointerType, QualifiedPath, RangeBound, RangeEnd, RangeToPattern}
-use Rattle.syn_grammar.specs.Kind.{Receiver, ReferencePattern, ReferenceType, ReturnType, Segments}
-use Rattle.syn_grammar.specs.Kind.{SeveralPatterns, Signature, SomeBounds, TraitPath, TypeParam, UnnamedField}
-use Rattle.syn_grammar.specs.Kind.{UseBranch, UseRooted, UseTop, UseTree, Variant, Visibility, Where, WhereClause}
+use Rattle.syn_grammar.specs.Kind.{BoundsColon, ClosureParam, ConstParam, DynType, ExprAttributed, ExprBreak}
+use Rattle.syn_grammar.specs.Kind.{ExprCast, ExprContinue, ExprIf, ExprPath, ExprReference, Expression}
+use Rattle.syn_grammar.specs.Kind.{FieldPattern, FieldValue, FnArg, FnPtrArg, FnPtrType, GenericParam}
+use Rattle.syn_grammar.specs.Kind.{GenericParams, Generics, IdentPattern, ImplGenerics, ImplType, InArm}
+use Rattle.syn_grammar.specs.Kind.{InCondition, InExpression, InFile, InForeign, InImpl, InModule, InStatement}
+use Rattle.syn_grammar.specs.Kind.{InTrait, InType, InnerAttributes, LifetimeColon, LifetimeParam, Lifetimes}
+use Rattle.syn_grammar.specs.Kind.{LiteralPattern, Meta, NamedField, OnePattern, OuterAttributes, Parameter}
+use Rattle.syn_grammar.specs.Kind.{ParenthesizedArguments, Path, PathPattern, Pattern, Plain, PointerType}
+use Rattle.syn_grammar.specs.Kind.{QualifiedPath, RangeBound, RangeEnd, RangeToPattern, Receiver}
+use Rattle.syn_grammar.specs.Kind.{ReferencePattern, ReferenceType, ReturnType, Segments, SeveralPatterns}
+use Rattle.syn_grammar.specs.Kind.{Signature, SomeBounds, TraitPath, TypeParam, UnnamedField, UseBranch}
+use Rattle.syn_grammar.specs.Kind.{UseRooted, UseTop, UseTree, Variant, Visibility, Where, WhereClause}
 use Rattle.syn_grammar.specs.Kind.{WherePredicate, WithPlus, WithoutPlus}
 use Rattle.syn_grammar.specs.Look.{Look, no, a_quoted, a_lifetime, the_end, ◌then◌, ◌or◌}
 use Rattle.syn_grammar.specs.Paths.{arguments_stand, parentheses_stand}
@@ -141,6 +144,17 @@ behind (Signature InTrait) = at "where" ∷ marks "->" ∷ marks "::" ∷ argume
     ∷ no where_ends ∷ marks "," ∷ a_lifetime ∷ marks "+" ∷ bound_stands ∷ []
 behind (Signature InImpl) = at "where" ∷ marks "->" ∷ marks "::" ∷ arguments_stand AtType ∷ parentheses_stand AtType
     ∷ no where_ends ∷ marks "," ∷ a_lifetime ∷ marks "+" ∷ bound_stands ∷ []
+behind ExprPath = marks "::" ∷ arguments_stand InExpression ∷ []
+behind ExprIf = at "else" ∷ []
+behind ExprContinue = a_lifetime ∷ []
+behind ExprCast = postfix_stands ∷ marks "::" ∷ arguments_stand AtType ∷ parentheses_stand AtType ∷ marks "->" ∷ []
+behind ExprAttributed = marks "#" ∷ []
+behind ExprReference = at "mut" ∷ []
+behind ExprBreak = a_lifetime ∷ marks ":" ∷ []
+behind FieldValue = no (the_end or marks "," or marks ";" or marks "=>") ∷ []
+behind ClosureParam = marks ":" ∷ marks "::" ∷ arguments_stand AtType ∷ parentheses_stand AtType ∷ marks "->" ∷ marks
+    "!" ∷ marks "@" ∷ range_end_stands ∷ parenthesis ∷ brace ∷ arguments_stand InExpression ∷ bound_stands ∷ marks
+    "+" ∷ range_bound_stands ∷ []
 behind k = []
 
 -- the form of an expression

@@ -4,17 +4,24 @@ use Rattle.std.specs.Prelude.{Bool, true, false, ◌&&◌, ◌||◌, not}
 use Rattle.syn_grammar.specs.Kind.{Kind, Expression, AConst, AFunction, AMacro, AStatic, AStruct, AType}
 use Rattle.syn_grammar.specs.Kind.{ATypeAlias, AUnion, AUse, Abi, AnArgument, AnEnum, AnExternCrate, AnyPath}
 use Rattle.syn_grammar.specs.Kind.{Arguments, AtType, Bound, BoundLifetimes, Bounds, BoundsColon, BracketType}
-use Rattle.syn_grammar.specs.Kind.{Delimited, DynType, FnPtrArg, FnPtrType, GenericParams, Generics, IdentPattern}
-use Rattle.syn_grammar.specs.Kind.{ImplType, InExpression, InFile, InForeign, InImpl, InModule, InTrait, InType}
-use Rattle.syn_grammar.specs.Kind.{Index, InferType, InnerAttribute, InnerAttributes, ItemMacro, Label}
-use Rattle.syn_grammar.specs.Kind.{LifetimeColon, LifetimeParam, Lifetimes, LiteralPattern, Member, Meta}
-use Rattle.syn_grammar.specs.Kind.{NamedField, NamedFields, NeverType, OuterAttribute, OuterAttributes}
-use Rattle.syn_grammar.specs.Kind.{ParenthesizedArguments, Path, PathPattern, Pattern, PointerType, QualifiedPath}
-use Rattle.syn_grammar.specs.Kind.{RangeBound, RangeEnd, RangeToPattern, Receiver, ReferenceType, RestPattern}
-use Rattle.syn_grammar.specs.Kind.{ReturnType, Segments, SeveralPatterns, Signature, SlicePattern, SomeBounds}
-use Rattle.syn_grammar.specs.Kind.{TraitPath, TuplePattern, TupleType, TypeParam, UnnamedFields, UseBranch}
-use Rattle.syn_grammar.specs.Kind.{UseRooted, UseTop, UseTree, Variant, Visibility, Where, WhereClause}
-use Rattle.syn_grammar.specs.Kind.{WildPattern, WithPlus, WithoutPlus}
+use Rattle.syn_grammar.specs.Kind.{ClosureParam, Delimited, DynType, ExprAnd, ExprArray, ExprAssign, ExprAsync}
+use Rattle.syn_grammar.specs.Kind.{ExprAttributed, ExprBitAnd, ExprBitOr, ExprBitXor, ExprBlock, ExprBreak}
+use Rattle.syn_grammar.specs.Kind.{ExprCall, ExprCast, ExprClosure, ExprCompare, ExprConst, ExprContinue}
+use Rattle.syn_grammar.specs.Kind.{ExprForLoop, ExprGroup, ExprIf, ExprIndex, ExprInfer, ExprLet, ExprLit}
+use Rattle.syn_grammar.specs.Kind.{ExprLoop, ExprMacro, ExprMatch, ExprOr, ExprParen, ExprPath, ExprProduct}
+use Rattle.syn_grammar.specs.Kind.{ExprRange, ExprRangeClosed, ExprRawAddr, ExprReference, ExprRepeat, ExprReturn}
+use Rattle.syn_grammar.specs.Kind.{ExprShift, ExprStruct, ExprSum, ExprTry, ExprTryBlock, ExprTypedClosure}
+use Rattle.syn_grammar.specs.Kind.{ExprUnary, ExprUnsafe, ExprWhile, ExprYield, FnPtrArg, FnPtrType}
+use Rattle.syn_grammar.specs.Kind.{GenericParams, Generics, IdentPattern, ImplType, InExpression, InFile}
+use Rattle.syn_grammar.specs.Kind.{InForeign, InImpl, InModule, InTrait, InType, Index, InferType, InnerAttribute}
+use Rattle.syn_grammar.specs.Kind.{InnerAttributes, ItemMacro, Label, LifetimeColon, LifetimeParam, Lifetimes}
+use Rattle.syn_grammar.specs.Kind.{LiteralPattern, Member, Meta, NamedField, NamedFields, NeverType}
+use Rattle.syn_grammar.specs.Kind.{OuterAttribute, OuterAttributes, ParenthesizedArguments, Path, PathPattern}
+use Rattle.syn_grammar.specs.Kind.{Pattern, PointerType, QualifiedPath, RangeBound, RangeEnd, RangeToPattern}
+use Rattle.syn_grammar.specs.Kind.{Receiver, ReferenceType, RestPattern, ReturnType, Segments, SeveralPatterns}
+use Rattle.syn_grammar.specs.Kind.{Signature, SlicePattern, SomeBounds, TraitPath, TuplePattern, TupleType}
+use Rattle.syn_grammar.specs.Kind.{TypeParam, UnnamedFields, UseBranch, UseRooted, UseTop, UseTree, Variant}
+use Rattle.syn_grammar.specs.Kind.{Visibility, Where, WhereClause, WildPattern, WithPlus, WithoutPlus}
 use Rattle.syn_grammar.specs.Tree.{Tree, Pair, First, Second, Again, Final, More, Group, Dropped, Called, Verbatim}
 use Rattle.syn_grammar.specs.Tree.{Node, Whole, Alone, Front, Back, Infix}
 use Rattle.syn_grammar.specs.Kept.{is_there}
@@ -122,6 +129,53 @@ has_step (ItemMacro InForeign) = true
 has_step (ItemMacro InTrait) = true
 has_step (ItemMacro InImpl) = true
 has_step Label = true
+has_step ExprLit = true
+has_step ExprPath = true
+has_step ExprMacro = true
+has_step ExprParen = true
+has_step ExprArray = true
+has_step ExprRepeat = true
+has_step ExprGroup = true
+has_step ExprInfer = true
+has_step ExprBlock = true
+has_step ExprUnsafe = true
+has_step ExprAsync = true
+has_step ExprConst = true
+has_step ExprTryBlock = true
+has_step ExprIf = true
+has_step ExprMatch = true
+has_step ExprLoop = true
+has_step ExprWhile = true
+has_step ExprForLoop = true
+has_step ExprContinue = true
+has_step ExprTypedClosure = true
+has_step ExprStruct = true
+has_step ExprCall = true
+has_step ExprIndex = true
+has_step ExprTry = true
+has_step ExprCast = true
+has_step ExprAttributed = true
+has_step ExprUnary = true
+has_step ExprRawAddr = true
+has_step ExprReference = true
+has_step ExprLet = true
+has_step ExprBreak = true
+has_step ExprReturn = true
+has_step ExprYield = true
+has_step ExprClosure = true
+has_step ExprRange = true
+has_step ExprRangeClosed = true
+has_step ExprAssign = true
+has_step ExprOr = true
+has_step ExprAnd = true
+has_step ExprCompare = true
+has_step ExprBitOr = true
+has_step ExprBitXor = true
+has_step ExprBitAnd = true
+has_step ExprShift = true
+has_step ExprSum = true
+has_step ExprProduct = true
+has_step ClosureParam = true
 has_step k = false
 
 -- The same of expressions and of the kinds of their forms, in the crate `expressions_back`.

@@ -23,6 +23,7 @@ for f in FILES:
         m=re.match(r"^([a-z_']+)((?: [A-Za-z_']+| \([^)]*\))*) = ?(.*)$",line) if not line.startswith(' ') else None
         if m:
             pats=re.findall(r"\([^)]*\)|\S+",m[2]); cur=[m[3]]
+            if home.get(m[1],f)!=f: defs.pop(m[1]) # another of that name: the later one, an entry's
             defs.setdefault(m[1],[]).append((pats,cur)); home[m[1]]=f
         elif cur is not None: cur.append(line)
 
@@ -325,7 +326,8 @@ def alt(l,a,b):
         return Entry(b.maybe,b.ls,b.cs,f'({"maybe" if b.maybe else "found"}_unseen {L} (λ ts. refl) {b.term})')
     if b is NONE:
         if a.maybe: raise Skip('optional of what may be none')
-        return Entry(True,[l]+a.ls,a.cs,f'(found_optional {L} {a.term} {told(l,True,a.cs)})')
+        t='(found_never {ls = []})' if a.term=='found_never' else a.term
+        return Entry(True,[l]+a.ls,a.cs,f'(found_optional {L} {t} {told(l,True,a.cs)})')
     if b is not NONE and a is not NONE and a.maybe:
         raise Skip('a first alternative that may be none')
     if a is NONE:
@@ -372,6 +374,10 @@ def found(g):
         if p=='is_bool': return Entry(False,[],[('word',w) for w in('true','false')],'(found_words (codes "true" ∷ codes "false" ∷ []))')
         raise Skip('word '+str(p))
     if h=='literal': return Entry(False,[],[('lit',a[0][1])],f'(found_literal {a[0][1]})')
+    if h=='one_sign':
+        g=('app','refused',[])
+        for w in reversed(strings(expand(a[0]))): g=('app','alt',[('app','marks',[('str',w)]),('app','sign',[('str',w)]),g])
+        return found(g)
     if h=='one_word':
         ws=strings(expand(a[0])); return Entry(False,[],[('word',w) for w in ws],f'(found_words {show(a[0],False)})')
     if h=='lifetime': return Entry(False,[],[('tick',)],'found_lifetime')
@@ -426,6 +432,11 @@ CATEGORIES={
  'Attributes':['OuterAttributes','OuterAttribute','InnerAttributes','InnerAttribute','Meta'],
  'Generics':['Generics','ImplGenerics','GenericParams','GenericParam','LifetimeParam','LifetimeColon','ConstParam','TypeParam','BoundsColon','Where','WhereClause','WherePredicate'],
  'Items':['Visibility','NamedFields','UnnamedFields','NamedField','UnnamedField','Variant','AStruct','AnEnum','AUnion','AStatic','AConst','AnExternCrate','AUse','UseTop','UseTree','UseBranch','UseRooted','Parameters','Parameter','FnArg','Receiver','Signature Place','AFunction Place','ATypeAlias Place','ItemMacro Place','Label','Body','Block'],
+ 'Expressions':'''ExprLit ExprPath ExprMacro ExprParen ExprArray ExprRepeat ExprGroup ExprInfer ExprBlock ExprUnsafe ExprAsync ExprConst
+ ExprTryBlock ExprIf ExprMatch ExprLoop ExprWhile ExprForLoop ExprContinue ExprTypedClosure ExprStruct ExprCall ExprMethodCall ExprField
+ ExprAwait ExprIndex ExprTry ExprCast ExprAttributed ExprUnary ExprRawAddr ExprReference ExprLet ExprBreak ExprReturn ExprYield ExprClosure
+ ExprRange ExprRangeClosed ExprAssign ExprOr ExprAnd ExprCompare ExprBitOr ExprBitXor ExprBitAnd ExprShift ExprSum ExprProduct
+ FieldValues AFieldValue FieldValue Arms Arm ClosureParam'''.split(),
 }
 KINDS=[]
 for cat,names in CATEGORIES.items():
@@ -576,7 +587,7 @@ def imports(text,mine=()):
     for w in ['is_ident','is_string','is_index','any_text','is_number','is_name','is_reserved','is_path_keyword','is_plain_name','is_bool']:
         if has(w): add(G+'Words',w)
     for n,f in home.items():
-        if f in('Types','Paths','Patterns','Generics','Items','Lists') and has(n) and n not in mine: add(G+f,n)
+        if f in('Types','Paths','Patterns','Generics','Items','Lists','Expressions') and has(n) and n not in mine: add(G+f,n)
     for w in ['Parenthesis','Brace','Bracket']:
         if has(w): add('Rattle.proc_macro2.specs.declared.delimiter.Delimiter.TheVariants',w)
     for w in ['codes']:
