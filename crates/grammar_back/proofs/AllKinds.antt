@@ -4,23 +4,24 @@ use Rattle.std.specs.Prelude.{true, false}
 use Rattle.syn_grammar.specs.Kind.{Kind, AConst, AFunction, AMacro, AStatic, AStruct, AType, ATypeAlias, AUnion}
 use Rattle.syn_grammar.specs.Kind.{AUse, Abi, AnArgument, AnEnum, AnExternCrate, AnyPath, Arguments, AtType}
 use Rattle.syn_grammar.specs.Kind.{Bound, BoundLifetimes, Bounds, BoundsColon, BracketType, ClosureParam}
-use Rattle.syn_grammar.specs.Kind.{Delimited, DynType, ExprAnd, ExprArray, ExprAssign, ExprAsync, ExprAttributed}
-use Rattle.syn_grammar.specs.Kind.{ExprBitAnd, ExprBitOr, ExprBitXor, ExprBlock, ExprBreak, ExprCall, ExprCast}
-use Rattle.syn_grammar.specs.Kind.{ExprClosure, ExprCompare, ExprConst, ExprContinue, ExprForLoop, ExprGroup}
-use Rattle.syn_grammar.specs.Kind.{ExprIf, ExprIndex, ExprInfer, ExprLet, ExprLit, ExprLoop, ExprMacro, ExprMatch}
-use Rattle.syn_grammar.specs.Kind.{ExprOr, ExprParen, ExprPath, ExprProduct, ExprRange, ExprRangeClosed}
-use Rattle.syn_grammar.specs.Kind.{ExprRawAddr, ExprReference, ExprRepeat, ExprReturn, ExprShift, ExprStruct}
-use Rattle.syn_grammar.specs.Kind.{ExprSum, ExprTry, ExprTryBlock, ExprTypedClosure, ExprUnary, ExprUnsafe}
-use Rattle.syn_grammar.specs.Kind.{ExprWhile, ExprYield, FnPtrArg, FnPtrType, GenericParams, Generics}
-use Rattle.syn_grammar.specs.Kind.{IdentPattern, ImplType, InExpression, InFile, InForeign, InImpl, InModule}
-use Rattle.syn_grammar.specs.Kind.{InTrait, InType, Index, InferType, InnerAttribute, InnerAttributes, ItemMacro}
-use Rattle.syn_grammar.specs.Kind.{Label, LifetimeColon, LifetimeParam, Lifetimes, LiteralPattern, Member, Meta}
+use Rattle.syn_grammar.specs.Kind.{ConstParam, Delimited, DynType, ExprAnd, ExprArray, ExprAssign, ExprAsync}
+use Rattle.syn_grammar.specs.Kind.{ExprAttributed, ExprBitAnd, ExprBitOr, ExprBitXor, ExprBlock, ExprBreak}
+use Rattle.syn_grammar.specs.Kind.{ExprCall, ExprCast, ExprClosure, ExprCompare, ExprConst, ExprContinue}
+use Rattle.syn_grammar.specs.Kind.{ExprForLoop, ExprGroup, ExprIf, ExprIndex, ExprInfer, ExprLet, ExprLit}
+use Rattle.syn_grammar.specs.Kind.{ExprLoop, ExprMacro, ExprMatch, ExprOr, ExprParen, ExprPath, ExprProduct}
+use Rattle.syn_grammar.specs.Kind.{ExprRange, ExprRangeClosed, ExprRawAddr, ExprReference, ExprRepeat, ExprReturn}
+use Rattle.syn_grammar.specs.Kind.{ExprShift, ExprStruct, ExprSum, ExprTry, ExprTryBlock, ExprTypedClosure}
+use Rattle.syn_grammar.specs.Kind.{ExprUnary, ExprUnsafe, ExprWhile, ExprYield, FieldPatterns, FieldValues, FnArg}
+use Rattle.syn_grammar.specs.Kind.{FnPtrArg, FnPtrType, GenericParam, GenericParams, Generics, IdentPattern}
+use Rattle.syn_grammar.specs.Kind.{ImplType, InExpression, InFile, InForeign, InImpl, InModule, InTrait, InType}
+use Rattle.syn_grammar.specs.Kind.{Index, InferType, InnerAttribute, InnerAttributes, ItemMacro, Label}
+use Rattle.syn_grammar.specs.Kind.{LifetimeColon, LifetimeParam, Lifetimes, LiteralPattern, Member, Meta}
 use Rattle.syn_grammar.specs.Kind.{NamedField, NamedFields, NeverType, OuterAttribute, OuterAttributes}
-use Rattle.syn_grammar.specs.Kind.{ParenthesizedArguments, Path, PathPattern, Pattern, PointerType, QualifiedPath}
-use Rattle.syn_grammar.specs.Kind.{RangeBound, RangeEnd, RangeToPattern, Receiver, ReferenceType, RestPattern}
-use Rattle.syn_grammar.specs.Kind.{ReturnType, Segments, SeveralPatterns, Signature, SlicePattern, SomeBounds}
-use Rattle.syn_grammar.specs.Kind.{TraitPath, TuplePattern, TupleType, TypeParam, UnnamedFields, UseBranch}
-use Rattle.syn_grammar.specs.Kind.{UseRooted, UseTop, UseTree, Variant, Visibility, Where, WhereClause}
+use Rattle.syn_grammar.specs.Kind.{Parameters, ParenthesizedArguments, Path, PathPattern, Pattern, PointerType}
+use Rattle.syn_grammar.specs.Kind.{QualifiedPath, RangeBound, RangeEnd, RangeToPattern, Receiver, ReferenceType}
+use Rattle.syn_grammar.specs.Kind.{RestPattern, ReturnType, Segments, SeveralPatterns, Signature, SlicePattern}
+use Rattle.syn_grammar.specs.Kind.{SomeBounds, TraitPath, TuplePattern, TupleType, TypeParam, UnnamedFields}
+use Rattle.syn_grammar.specs.Kind.{UseBranch, UseRooted, UseTop, UseTree, Variant, Visibility, Where, WhereClause}
 use Rattle.syn_grammar.specs.Kind.{WildPattern, WithPlus, WithoutPlus}
 use Rattle.syn_grammar.specs.Kept.{held}
 use Rattle.syn_grammar.specs.Normal.{passed, place_of}
@@ -33,6 +34,8 @@ use Rattle.grammar_back.proofs.KindLaws.{law_dyn_alone, law_impl, law_impl_alone
 use Rattle.grammar_back.proofs.KindLaws.{law_several, law_outer, law_inner, law_meta, law_generics}
 use Rattle.grammar_back.proofs.KindLaws.{law_generic_params, law_lifetime_colon, law_bounds_colon, law_where}
 use Rattle.grammar_back.proofs.KindLaws.{law_variant, law_const, law_trait_type, law_impl_type}
+use Rattle.grammar_back.proofs.Elements.{law_field_patterns, law_parameters, law_fn_arg, law_field_values}
+use Rattle.grammar_back.proofs.Defaults.{law_const_param}
 use Rattle.grammar_back.proofs.StepsOfPaths.{step_path_in_module, step_path_in_expression, step_path_in_type}
 use Rattle.grammar_back.proofs.StepsOfPaths.{step_path_at_type, step_segments_in_module, step_segments_in_type}
 use Rattle.grammar_back.proofs.StepsOfPaths.{step_segments_at_type, step_qualified_path_in_module}
@@ -55,23 +58,25 @@ use Rattle.grammar_back.proofs.StepsOfPatterns.{step_pattern, step_several_patte
 use Rattle.grammar_back.proofs.StepsOfPatterns.{step_wild_pattern, step_range_to_pattern, step_rest_pattern}
 use Rattle.grammar_back.proofs.StepsOfPatterns.{step_tuple_pattern, step_slice_pattern, step_literal_pattern}
 use Rattle.grammar_back.proofs.StepsOfPatterns.{step_path_pattern, step_range_end, step_range_bound}
+use Rattle.grammar_back.proofs.StepsOfPatterns.{step_field_patterns}
 use Rattle.grammar_back.proofs.StepsOfAttributes.{step_outer_attributes, step_outer_attribute}
 use Rattle.grammar_back.proofs.StepsOfAttributes.{step_inner_attributes, step_inner_attribute}
 use Rattle.grammar_back.proofs.ValueSteps.{step_meta, step_a_const}
-use Rattle.grammar_back.proofs.StepsOfGenerics.{step_generics, step_generic_params, step_lifetime_param}
-use Rattle.grammar_back.proofs.StepsOfGenerics.{step_lifetime_colon, step_type_param, step_bounds_colon}
-use Rattle.grammar_back.proofs.StepsOfGenerics.{step_where, step_where_clause}
+use Rattle.grammar_back.proofs.StepsOfGenerics.{step_generics, step_generic_params, step_generic_param}
+use Rattle.grammar_back.proofs.StepsOfGenerics.{step_lifetime_param, step_lifetime_colon, step_const_param}
+use Rattle.grammar_back.proofs.StepsOfGenerics.{step_type_param, step_bounds_colon, step_where, step_where_clause}
 use Rattle.grammar_back.proofs.StepsOfItems.{step_named_fields, step_unnamed_fields, step_named_field}
 use Rattle.grammar_back.proofs.StepsOfItems.{step_variant, step_a_struct, step_an_enum, step_a_union}
 use Rattle.grammar_back.proofs.StepsOfItems.{step_a_static, step_an_extern_crate, step_a_use, step_use_top}
-use Rattle.grammar_back.proofs.StepsOfItems.{step_use_tree, step_use_branch, step_use_rooted, step_receiver}
-use Rattle.grammar_back.proofs.StepsOfItems.{step_signature_in_file, step_signature_in_foreign}
-use Rattle.grammar_back.proofs.StepsOfItems.{step_signature_in_trait, step_signature_in_impl}
-use Rattle.grammar_back.proofs.StepsOfItems.{step_a_function_in_file, step_a_function_in_foreign}
-use Rattle.grammar_back.proofs.StepsOfItems.{step_a_function_in_trait, step_a_function_in_impl}
-use Rattle.grammar_back.proofs.StepsOfItems.{step_a_type_alias_in_trait, step_a_type_alias_in_impl}
-use Rattle.grammar_back.proofs.StepsOfItems.{step_item_macro_in_file, step_item_macro_in_foreign}
-use Rattle.grammar_back.proofs.StepsOfItems.{step_item_macro_in_trait, step_item_macro_in_impl, step_label}
+use Rattle.grammar_back.proofs.StepsOfItems.{step_use_tree, step_use_branch, step_use_rooted, step_parameters}
+use Rattle.grammar_back.proofs.StepsOfItems.{step_fn_arg, step_receiver, step_signature_in_file}
+use Rattle.grammar_back.proofs.StepsOfItems.{step_signature_in_foreign, step_signature_in_trait}
+use Rattle.grammar_back.proofs.StepsOfItems.{step_signature_in_impl, step_a_function_in_file}
+use Rattle.grammar_back.proofs.StepsOfItems.{step_a_function_in_foreign, step_a_function_in_trait}
+use Rattle.grammar_back.proofs.StepsOfItems.{step_a_function_in_impl, step_a_type_alias_in_trait}
+use Rattle.grammar_back.proofs.StepsOfItems.{step_a_type_alias_in_impl, step_item_macro_in_file}
+use Rattle.grammar_back.proofs.StepsOfItems.{step_item_macro_in_foreign, step_item_macro_in_trait}
+use Rattle.grammar_back.proofs.StepsOfItems.{step_item_macro_in_impl, step_label}
 use Rattle.grammar_back.proofs.StepsOfExpressions.{step_expr_lit, step_expr_path, step_expr_macro}
 use Rattle.grammar_back.proofs.StepsOfExpressions.{step_expr_paren, step_expr_array, step_expr_repeat}
 use Rattle.grammar_back.proofs.StepsOfExpressions.{step_expr_group, step_expr_infer, step_expr_block}
@@ -87,7 +92,7 @@ use Rattle.grammar_back.proofs.StepsOfExpressions.{step_expr_range, step_expr_ra
 use Rattle.grammar_back.proofs.StepsOfExpressions.{step_expr_or, step_expr_and, step_expr_compare}
 use Rattle.grammar_back.proofs.StepsOfExpressions.{step_expr_bit_or, step_expr_bit_xor, step_expr_bit_and}
 use Rattle.grammar_back.proofs.StepsOfExpressions.{step_expr_shift, step_expr_sum, step_expr_product}
-use Rattle.grammar_back.proofs.StepsOfExpressions.{step_closure_param}
+use Rattle.grammar_back.proofs.StepsOfExpressions.{step_field_values, step_closure_param}
 
 pub steps : (k : Kind) → has_step k ≡ true → Step k
 unfolding has_step
@@ -148,6 +153,7 @@ steps LiteralPattern e = step_literal_pattern
 steps PathPattern e = step_path_pattern
 steps RangeEnd e = step_range_end
 steps RangeBound e = step_range_bound
+steps FieldPatterns e = step_field_patterns
 steps OuterAttributes e = step_outer_attributes
 steps OuterAttribute e = step_outer_attribute
 steps InnerAttributes e = step_inner_attributes
@@ -155,8 +161,10 @@ steps InnerAttribute e = step_inner_attribute
 steps Meta e = step_meta
 steps Generics e = step_generics
 steps GenericParams e = step_generic_params
+steps GenericParam e = step_generic_param
 steps LifetimeParam e = step_lifetime_param
 steps LifetimeColon e = step_lifetime_colon
+steps ConstParam e = step_const_param
 steps TypeParam e = step_type_param
 steps BoundsColon e = step_bounds_colon
 steps Where e = step_where
@@ -177,6 +185,8 @@ steps UseTop e = step_use_top
 steps UseTree e = step_use_tree
 steps UseBranch e = step_use_branch
 steps UseRooted e = step_use_rooted
+steps Parameters e = step_parameters
+steps FnArg e = step_fn_arg
 steps Receiver e = step_receiver
 steps (Signature InFile) e = step_signature_in_file
 steps (Signature InForeign) e = step_signature_in_foreign
@@ -239,6 +249,7 @@ steps ExprBitAnd e = step_expr_bit_and
 steps ExprShift e = step_expr_shift
 steps ExprSum e = step_expr_sum
 steps ExprProduct e = step_expr_product
+steps FieldValues e = step_field_values
 steps ClosureParam e = step_closure_param
 steps _ e = let f : false ≡ true = e in cc f
 
@@ -319,6 +330,7 @@ laws LiteralPattern e = simple_kind LiteralPattern refl (λ x. tt) (λ x. refl) 
 laws PathPattern e = simple_kind PathPattern refl (λ x. tt) (λ x. refl) (λ x. refl) (λ q. refl) (λ q. refl) refl
 laws RangeEnd e = simple_kind RangeEnd refl (λ x. tt) (λ x. refl) (λ x. refl) (λ q. refl) (λ q. refl) refl
 laws RangeBound e = simple_kind RangeBound refl (λ x. tt) (λ x. refl) (λ x. refl) (λ q. refl) (λ q. refl) refl
+laws FieldPatterns e = law_field_patterns
 laws OuterAttributes e = law_outer
 laws OuterAttribute e = simple_kind OuterAttribute refl (λ x. tt) (λ x. refl) (λ x. refl) (λ q. refl) (λ q. refl) refl
 laws InnerAttributes e = law_inner
@@ -326,8 +338,10 @@ laws InnerAttribute e = simple_kind InnerAttribute refl (λ x. tt) (λ x. refl) 
 laws Meta e = law_meta
 laws Generics e = law_generics
 laws GenericParams e = law_generic_params
+laws GenericParam e = simple_kind GenericParam refl (λ x. tt) (λ x. refl) (λ x. refl) (λ q. refl) (λ q. refl) refl
 laws LifetimeParam e = simple_kind LifetimeParam refl (λ x. tt) (λ x. refl) (λ x. refl) (λ q. refl) (λ q. refl) refl
 laws LifetimeColon e = law_lifetime_colon
+laws ConstParam e = law_const_param
 laws TypeParam e = simple_kind TypeParam refl (λ x. tt) (λ x. refl) (λ x. refl) (λ q. refl) (λ q. refl) refl
 laws BoundsColon e = law_bounds_colon
 laws Where e = law_where
@@ -348,6 +362,8 @@ laws UseTop e = simple_kind UseTop refl (λ x. tt) (λ x. refl) (λ x. refl) (λ
 laws UseTree e = simple_kind UseTree refl (λ x. tt) (λ x. refl) (λ x. refl) (λ q. refl) (λ q. refl) refl
 laws UseBranch e = simple_kind UseBranch refl (λ x. tt) (λ x. refl) (λ x. refl) (λ q. refl) (λ q. refl) refl
 laws UseRooted e = simple_kind UseRooted refl (λ x. tt) (λ x. refl) (λ x. refl) (λ q. refl) (λ q. refl) refl
+laws Parameters e = law_parameters
+laws FnArg e = law_fn_arg
 laws Receiver e = simple_kind Receiver refl (λ x. tt) (λ x. refl) (λ x. refl) (λ q. refl) (λ q. refl) refl
 laws (Signature InFile) e = simple_kind (Signature InFile) refl (λ x. tt) (λ x. refl) (λ x. refl) (λ q. refl)
     (λ q. refl) refl
@@ -424,5 +440,6 @@ laws ExprBitAnd e = simple_kind ExprBitAnd refl (λ x. tt) (λ x. refl) (λ x. r
 laws ExprShift e = simple_kind ExprShift refl (λ x. tt) (λ x. refl) (λ x. refl) (λ q. refl) (λ q. refl) refl
 laws ExprSum e = simple_kind ExprSum refl (λ x. tt) (λ x. refl) (λ x. refl) (λ q. refl) (λ q. refl) refl
 laws ExprProduct e = simple_kind ExprProduct refl (λ x. tt) (λ x. refl) (λ x. refl) (λ q. refl) (λ q. refl) refl
+laws FieldValues e = law_field_values
 laws ClosureParam e = simple_kind ClosureParam refl (λ x. tt) (λ x. refl) (λ x. refl) (λ q. refl) (λ q. refl) refl
 laws _ e = let f : false ≡ true = e in cc f

@@ -10,6 +10,10 @@ pub reserved_big_self : is_reserved (codes "Self") ≡ true
 unfolding is_reserved
 reserved_big_self = refl
 
+pub reserved_const : is_reserved (codes "const") ≡ true
+unfolding is_reserved
+reserved_const = refl
+
 pub reserved_crate : is_reserved (codes "crate") ≡ true
 unfolding is_reserved
 reserved_crate = refl

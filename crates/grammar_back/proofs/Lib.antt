@@ -8,6 +8,8 @@ pub mod Readies
 pub mod Fine
 pub mod Parts
 pub mod Sights
+pub mod Passed
+pub mod Params
 pub mod Keywords
 pub mod Printed
 pub mod StepsOfPaths
@@ -23,7 +25,9 @@ pub mod HandSteps
 pub mod ValueSteps
 pub mod Tidied
 pub mod Indices
+pub mod Elements
 pub mod KindLaws
+pub mod Defaults
 pub mod AllKinds
 pub mod Expressions
 pub mod ReadBack

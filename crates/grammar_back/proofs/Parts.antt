@@ -134,6 +134,23 @@ found_alt l {a} {b} {ls} {cs} {ds} f g one other =
           (λ x s e i c. (of_all (λ us. sees l us ≡ false) ds (flat x ++ s) other i, among_right cs ds (flat x ++ s) i));
     }
 
+-- where its tokens say more than what they begin with
+pub found_alt_by : (l : Look) {a b : Gram} {ls : List Look} {cs ds : List Class} → Found a ls cs → Found b ls ds
+    → ((x : Tree) (s : List Token) → Derives x a s → LacksAll ls s → sees l (flat x ++ s) ≡ true)
+    → ((x : Tree) (s : List Token) → Derives x b s → LacksAll ls s → sees l (flat x ++ s) ≡ false)
+    → Found (alt (sees l) a b) ls (cs ++ ds)
+found_alt_by l {a} {b} {ls} {cs} {ds} f g one other = record { fine = record { by = go } }
+  where
+    go : (x : Tree) (s : List Token) → Fits x (alt (sees l) a b) → Ready x → LacksAll ls s
+        → Derives x (alt (sees l) a b) s × At (cs ++ ds) x s
+    go (First x) s d w c =
+        let (t, i) = f.fine.by x s d.1 w c in
+        ((one x s t c, t), among_left cs ds (flat x ++ s) i)
+    go (Second x) s d w c =
+        let (t, i) = g.fine.by x s d.1 w c in
+        ((other x s t c, t), among_right cs ds (flat x ++ s) i)
+    go _ s d w c = absurd d
+
 -- the second may have no tokens
 pub maybe_alt : (l : Look) {a b : Gram} {ls : List Look} {cs ds : List Class} → Found a ls cs → Maybe b ls ds
     → Told l true cs → Told l false ds → Maybe (alt (sees l) a b) (l ∷ ls) (cs ++ ds)

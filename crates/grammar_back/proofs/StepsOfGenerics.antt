@@ -1,10 +1,11 @@
 -- The steps of generics, of those that go by first tokens alone. Written by tools/steps.py, from the entries.
 use Rattle.grammar_back.proofs.Classes.{◌&◌}
 use Rattle.grammar_back.proofs.Keywords.{reserved_false, reserved_true}
-use Rattle.grammar_back.proofs.Parts.{found_alt, found_before, found_called, found_lifetime, found_literal}
-use Rattle.grammar_back.proofs.Parts.{found_many, found_mark, found_optional, found_ref, found_seq, found_step}
-use Rattle.grammar_back.proofs.Parts.{found_text, found_word, found_words, maybe_both, maybe_called, maybe_ref}
-use Rattle.grammar_back.proofs.Parts.{maybe_seq, maybe_step, stops, weaken, weaken_maybe}
+use Rattle.grammar_back.proofs.Params.{lifetime_param_seen, const_param_seen, type_param_seen, no_lifetime_seen}
+use Rattle.grammar_back.proofs.Parts.{found_alt, found_alt_by, found_before, found_called, found_lifetime}
+use Rattle.grammar_back.proofs.Parts.{found_literal, found_many, found_mark, found_optional, found_ref, found_seq}
+use Rattle.grammar_back.proofs.Parts.{found_step, found_text, found_word, found_words, maybe_both, maybe_called}
+use Rattle.grammar_back.proofs.Parts.{maybe_ref, maybe_seq, maybe_step, stops, weaken, weaken_maybe}
 use Rattle.grammar_back.proofs.Readies.{Step}
 use Rattle.grammar_back.proofs.Sights.{ident_not}
 use Rattle.std.specs.Prelude.{codes, refl, [], ◌∷◌}
@@ -12,7 +13,7 @@ use Rattle.syn_grammar.specs.Generics.{where_ends}
 use Rattle.syn_grammar.specs.Kind.{AType, AtType, Body, Bounds, BoundsColon, ConstParam, GenericParam}
 use Rattle.syn_grammar.specs.Kind.{GenericParams, Generics, LifetimeColon, LifetimeParam, Lifetimes}
 use Rattle.syn_grammar.specs.Kind.{OuterAttributes, TypeParam, Where, WhereClause, WherePredicate, WithPlus}
-use Rattle.syn_grammar.specs.Look.{no, a_literal, a_quoted, a_lifetime}
+use Rattle.syn_grammar.specs.Look.{no, a_literal, a_quoted, a_lifetime, all_attributes, ◌then◌}
 use Rattle.syn_grammar.specs.Paths.{arguments_stand, parentheses_stand}
 use Rattle.syn_grammar.specs.Ranks.{skips}
 use Rattle.syn_grammar.specs.Say.{at, marks, brace}
@@ -51,6 +52,50 @@ unfolding table skips is_path_keyword is_plain_name is_bool is_name
 step_generic_params = maybe_step GenericParams refl refl
     (found_many (marks ">") (found_ref GenericParam refl) (search)
     (λ ts. (refl, (refl, (refl, (refl, (refl, (refl, (refl, (refl, (refl, tt)))))))))))
+
+pub step_generic_param : Step GenericParam
+unfolding table skips is_path_keyword is_plain_name is_bool is_name
+step_generic_param = found_step GenericParam refl refl
+    (weaken ((marks "=") ∷ (marks "::") ∷ (arguments_stand AtType) ∷ (parentheses_stand AtType) ∷ (marks ":") ∷
+    a_lifetime ∷ (marks "+") ∷ (marks "->") ∷ bound_stands ∷ [])
+    (found_alt_by (all_attributes then a_lifetime)
+    (weaken ((marks ":") ∷ a_lifetime ∷ (marks "+") ∷ (marks "=") ∷ (marks "::") ∷ (arguments_stand AtType) ∷
+    (parentheses_stand AtType) ∷ (marks "->") ∷ bound_stands ∷ []) (found_called (found_ref LifetimeParam refl))
+    (λ s a. (a.0, (a.1.0, (a.1.1.0, tt)))))
+    (weaken ((marks ":") ∷ a_lifetime ∷ (marks "+") ∷ (marks "=") ∷ (marks "::") ∷ (arguments_stand AtType) ∷
+    (parentheses_stand AtType) ∷ (marks "->") ∷ bound_stands ∷ [])
+    (found_alt_by (all_attributes then at "const")
+    (weaken ((marks "=") ∷ (marks "::") ∷ (arguments_stand AtType) ∷ (parentheses_stand AtType) ∷ (marks "->") ∷
+    bound_stands ∷ (marks "+") ∷ (marks ":") ∷ []) (found_ref ConstParam refl)
+    (λ s a. (a.0, (a.1.0, (a.1.1.0, (a.1.1.1.0, (a.1.1.1.1.0, (a.1.1.1.1.1.0, (a.1.1.1.1.1.1.0, tt)))))))))
+    (weaken ((marks "=") ∷ (marks "::") ∷ (arguments_stand AtType) ∷ (parentheses_stand AtType) ∷ (marks "->") ∷
+    bound_stands ∷ (marks "+") ∷ (marks ":") ∷ []) (found_ref TypeParam refl)
+    (λ s a. (
+      a.0,
+      (
+        a.1.0,
+        (a.1.1.0, (a.1.1.1.0, (a.1.1.1.1.0, (a.1.1.1.1.1.1.1.0, (a.1.1.1.1.1.0, (a.1.1.1.1.1.1.0, tt)))))),
+      ),
+    )))
+    (λ x s d c. (const_param_seen x s d).1) (λ x s d c. (type_param_seen x s d).1))
+    (λ s a. (
+      a.1.1.1.0,
+      (
+        a.1.1.1.1.0,
+        (a.1.1.1.1.1.0, (a.1.1.1.1.1.1.0, (a.1.1.1.1.1.1.1.0, (a.1.1.1.1.1.1.1.1.0, (a.1.1.0, (a.0, tt)))))),
+      ),
+    )))
+    (λ x s d c. lifetime_param_seen x s d) (λ x s d c. no_lifetime_seen x s d))
+    (λ s a. (
+      a.1.1.1.1.0,
+      (
+        a.1.1.1.1.1.0,
+        (
+          a.1.1.1.1.1.1.0,
+          (a.0, (a.1.0, (a.1.1.0, (a.1.1.1.0, (a.1.1.1.1.1.1.1.0, (a.1.1.1.1.1.1.1.1.0, tt)))))),
+        ),
+      ),
+    )))
 
 pub step_lifetime_param : Step LifetimeParam
 unfolding table skips is_path_keyword is_plain_name is_bool is_name

@@ -253,7 +253,7 @@ step_trait_path = found_step TraitPath refl refl
       (
         ((λ us. refl) & (λ us. refl) & (λ us. refl) & (λ cs h us. refl) & (λ us. refl) & (λ us. refl) &
             (λ us. refl) & (λ us. refl) & (λ cs h us. simp (ident_not (codes "for") cs reserved_for h) refl) &
-        (λ us. refl) &
+            (λ us. refl) &
             tt),
         tt,
       ),

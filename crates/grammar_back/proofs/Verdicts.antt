@@ -20,18 +20,18 @@ use Rattle.grammar_back.specs.Sees.{Lacks}
 use Rattle.grammar_back.proofs.Printed.{VerdictLaw}
 
 -- normal form has the parts that were there
-some_either : (o p q r : Option Tree) → is_some o ≡ is_some q → is_some p ≡ is_some r
+pub some_either : (o p q r : Option Tree) → is_some o ≡ is_some q → is_some p ≡ is_some r
     → is_some (or_else o p) ≡ is_some (or_else q r)
 some_either None p None r e f = f
 some_either (Some x) p (Some y) r e f = refl
 some_either None p (Some y) r e f = cc
 some_either (Some x) p None r e f = cc
 
-some_called : (b : Bool) (x y : Tree) → is_some (cond b (Some x) None) ≡ is_some (cond b (Some y) None)
+pub some_called : (b : Bool) (x y : Tree) → is_some (cond b (Some x) None) ≡ is_some (cond b (Some y) None)
 some_called true x y = refl
 some_called false x y = refl
 
-has_normal : (n : Part) (q : Position) (x : Tree) → has n (normal_in q x) ≡ has n x
+pub has_normal : (n : Part) (q : Position) (x : Tree) → has n (normal_in q x) ≡ has n x
 has_normal n q (Called m x) = some_called (same_part m n) (normal_in (place_of m) x) x
 has_normal n q (Pair x y) =
     some_either (found n (normal_in q x)) (found n (normal_in q y)) (found n x) (found n y) (has_normal n q x)

@@ -4,24 +4,25 @@ use Rattle.std.specs.Prelude.{Bool, true, false, ◌&&◌, ◌||◌, not}
 use Rattle.syn_grammar.specs.Kind.{Kind, Expression, AConst, AFunction, AMacro, AStatic, AStruct, AType}
 use Rattle.syn_grammar.specs.Kind.{ATypeAlias, AUnion, AUse, Abi, AnArgument, AnEnum, AnExternCrate, AnyPath}
 use Rattle.syn_grammar.specs.Kind.{Arguments, AtType, Bound, BoundLifetimes, Bounds, BoundsColon, BracketType}
-use Rattle.syn_grammar.specs.Kind.{ClosureParam, Delimited, DynType, ExprAnd, ExprArray, ExprAssign, ExprAsync}
-use Rattle.syn_grammar.specs.Kind.{ExprAttributed, ExprBitAnd, ExprBitOr, ExprBitXor, ExprBlock, ExprBreak}
-use Rattle.syn_grammar.specs.Kind.{ExprCall, ExprCast, ExprClosure, ExprCompare, ExprConst, ExprContinue}
-use Rattle.syn_grammar.specs.Kind.{ExprForLoop, ExprGroup, ExprIf, ExprIndex, ExprInfer, ExprLet, ExprLit}
-use Rattle.syn_grammar.specs.Kind.{ExprLoop, ExprMacro, ExprMatch, ExprOr, ExprParen, ExprPath, ExprProduct}
-use Rattle.syn_grammar.specs.Kind.{ExprRange, ExprRangeClosed, ExprRawAddr, ExprReference, ExprRepeat, ExprReturn}
-use Rattle.syn_grammar.specs.Kind.{ExprShift, ExprStruct, ExprSum, ExprTry, ExprTryBlock, ExprTypedClosure}
-use Rattle.syn_grammar.specs.Kind.{ExprUnary, ExprUnsafe, ExprWhile, ExprYield, FnPtrArg, FnPtrType}
-use Rattle.syn_grammar.specs.Kind.{GenericParams, Generics, IdentPattern, ImplType, InExpression, InFile}
-use Rattle.syn_grammar.specs.Kind.{InForeign, InImpl, InModule, InTrait, InType, Index, InferType, InnerAttribute}
-use Rattle.syn_grammar.specs.Kind.{InnerAttributes, ItemMacro, Label, LifetimeColon, LifetimeParam, Lifetimes}
-use Rattle.syn_grammar.specs.Kind.{LiteralPattern, Member, Meta, NamedField, NamedFields, NeverType}
-use Rattle.syn_grammar.specs.Kind.{OuterAttribute, OuterAttributes, ParenthesizedArguments, Path, PathPattern}
-use Rattle.syn_grammar.specs.Kind.{Pattern, PointerType, QualifiedPath, RangeBound, RangeEnd, RangeToPattern}
-use Rattle.syn_grammar.specs.Kind.{Receiver, ReferenceType, RestPattern, ReturnType, Segments, SeveralPatterns}
-use Rattle.syn_grammar.specs.Kind.{Signature, SlicePattern, SomeBounds, TraitPath, TuplePattern, TupleType}
-use Rattle.syn_grammar.specs.Kind.{TypeParam, UnnamedFields, UseBranch, UseRooted, UseTop, UseTree, Variant}
-use Rattle.syn_grammar.specs.Kind.{Visibility, Where, WhereClause, WildPattern, WithPlus, WithoutPlus}
+use Rattle.syn_grammar.specs.Kind.{ClosureParam, ConstParam, Delimited, DynType, ExprAnd, ExprArray, ExprAssign}
+use Rattle.syn_grammar.specs.Kind.{ExprAsync, ExprAttributed, ExprBitAnd, ExprBitOr, ExprBitXor, ExprBlock}
+use Rattle.syn_grammar.specs.Kind.{ExprBreak, ExprCall, ExprCast, ExprClosure, ExprCompare, ExprConst}
+use Rattle.syn_grammar.specs.Kind.{ExprContinue, ExprForLoop, ExprGroup, ExprIf, ExprIndex, ExprInfer, ExprLet}
+use Rattle.syn_grammar.specs.Kind.{ExprLit, ExprLoop, ExprMacro, ExprMatch, ExprOr, ExprParen, ExprPath}
+use Rattle.syn_grammar.specs.Kind.{ExprProduct, ExprRange, ExprRangeClosed, ExprRawAddr, ExprReference}
+use Rattle.syn_grammar.specs.Kind.{ExprRepeat, ExprReturn, ExprShift, ExprStruct, ExprSum, ExprTry, ExprTryBlock}
+use Rattle.syn_grammar.specs.Kind.{ExprTypedClosure, ExprUnary, ExprUnsafe, ExprWhile, ExprYield, FieldPatterns}
+use Rattle.syn_grammar.specs.Kind.{FieldValues, FnArg, FnPtrArg, FnPtrType, GenericParam, GenericParams, Generics}
+use Rattle.syn_grammar.specs.Kind.{IdentPattern, ImplType, InExpression, InFile, InForeign, InImpl, InModule}
+use Rattle.syn_grammar.specs.Kind.{InTrait, InType, Index, InferType, InnerAttribute, InnerAttributes, ItemMacro}
+use Rattle.syn_grammar.specs.Kind.{Label, LifetimeColon, LifetimeParam, Lifetimes, LiteralPattern, Member, Meta}
+use Rattle.syn_grammar.specs.Kind.{NamedField, NamedFields, NeverType, OuterAttribute, OuterAttributes}
+use Rattle.syn_grammar.specs.Kind.{Parameters, ParenthesizedArguments, Path, PathPattern, Pattern, PointerType}
+use Rattle.syn_grammar.specs.Kind.{QualifiedPath, RangeBound, RangeEnd, RangeToPattern, Receiver, ReferenceType}
+use Rattle.syn_grammar.specs.Kind.{RestPattern, ReturnType, Segments, SeveralPatterns, Signature, SlicePattern}
+use Rattle.syn_grammar.specs.Kind.{SomeBounds, TraitPath, TuplePattern, TupleType, TypeParam, UnnamedFields}
+use Rattle.syn_grammar.specs.Kind.{UseBranch, UseRooted, UseTop, UseTree, Variant, Visibility, Where, WhereClause}
+use Rattle.syn_grammar.specs.Kind.{WildPattern, WithPlus, WithoutPlus}
 use Rattle.syn_grammar.specs.Tree.{Tree, Pair, First, Second, Again, Final, More, Group, Dropped, Called, Verbatim}
 use Rattle.syn_grammar.specs.Tree.{Node, Whole, Alone, Front, Back, Infix}
 use Rattle.syn_grammar.specs.Kept.{is_there}
@@ -84,6 +85,7 @@ has_step LiteralPattern = true
 has_step PathPattern = true
 has_step RangeEnd = true
 has_step RangeBound = true
+has_step FieldPatterns = true
 has_step OuterAttributes = true
 has_step OuterAttribute = true
 has_step InnerAttributes = true
@@ -91,8 +93,10 @@ has_step InnerAttribute = true
 has_step Meta = true
 has_step Generics = true
 has_step GenericParams = true
+has_step GenericParam = true
 has_step LifetimeParam = true
 has_step LifetimeColon = true
+has_step ConstParam = true
 has_step TypeParam = true
 has_step BoundsColon = true
 has_step Where = true
@@ -113,6 +117,8 @@ has_step UseTop = true
 has_step UseTree = true
 has_step UseBranch = true
 has_step UseRooted = true
+has_step Parameters = true
+has_step FnArg = true
 has_step Receiver = true
 has_step (Signature InFile) = true
 has_step (Signature InForeign) = true
@@ -175,6 +181,7 @@ has_step ExprBitAnd = true
 has_step ExprShift = true
 has_step ExprSum = true
 has_step ExprProduct = true
+has_step FieldValues = true
 has_step ClosureParam = true
 has_step k = false
 

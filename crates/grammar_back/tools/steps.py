@@ -336,9 +336,16 @@ def alt(l,a,b):
         raise Skip('nothing, or something')
     if a.maybe: raise Skip('a first alternative that may be none')
     ls=union(a.ls,b.ls); at,bt=weak(a,ls),weak(b,ls)
+    if show(l) in BY:
+        one,other=BY[show(l)]
+        return Entry(False,ls,a.cs+b.cs,f'(found_alt_by {L} {at} {bt} {one} {other})')
     if not b.maybe: return Entry(False,ls,a.cs+b.cs,f'(found_alt {L} {at} {bt} {told(l,True,a.cs)} {told(l,False,b.cs)})')
     return Entry(True,[l]+ls,a.cs+b.cs,f'(maybe_alt {L} {at} {bt} {told(l,True,a.cs)} {told(l,False,b.cs)})')
 def num(s): return f'{ord(s[0])} ({list_of([str(ord(c)) for c in s[1:]])})' if len(s)>1 else f'{ord(s)} []'
+# tests of more than first tokens, and where what they see is proved
+BY={'all_attributes then a_lifetime':('(λ x s d c. lifetime_param_seen x s d)','(λ x s d c. no_lifetime_seen x s d)'),
+ 'all_attributes then at "const"':('(λ x s d c. (const_param_seen x s d).1)','(λ x s d c. (type_param_seen x s d).1)')}
+BY_HOMES={'lifetime_param_seen':'Params','const_param_seen':'Params','type_param_seen':'Params','no_lifetime_seen':'Params'}
 NAME=[('ident',),('word','Self')]
 def found(g):
     if g[0]!='app': raise Skip(str(g))
@@ -609,6 +616,8 @@ def imports(text,mine=()):
     for w in sorted(set(re.findall(r'\b(?:found|maybe|weaken|stops|as_maybe)(?:_[a-z_]+)?\b',text))):
         if w not in('maybe',): add(B+('proofs.Seconds' if w in SECONDS else 'proofs.Parts'),w)
     if has('found') : pass
+    for w,m in BY_HOMES.items():
+        if has(w): add(B+'proofs.'+m,w)
     if has('ident_not'): add(B+'proofs.Sights','ident_not')
     for w in sorted(KEYWORDS.values()):
         if has(w): add(B+'proofs.Keywords',w)
@@ -666,11 +675,11 @@ After k x s = LacksAll (behind k) s
         head=f"-- The steps of {cat.lower()}, of those that go by first tokens alone. Written by tools/steps.py, from the entries.\n"
         open(f'{CRATE}/proofs/StepsOf{cat}.antt','w').write(wrapped(head+imports(body)+body))
     # which kinds are covered, their steps and their laws
-    HAND={}
-    f=f'{CRATE}/proofs/KindLaws.antt'
-    if os.path.exists(f):
-        for m in re.finditer(r'^pub law_([a-z_]+) : (?:\((\w+) : \w+\) → )?KindLaw (\w+|\(\w+ \w+\))',open(f).read(),re.M):
-            ks=m[3].strip('()').split(); HAND[tuple(ks)]='law_'+m[1]
+    HAND={}; homes={}
+    for f in sorted(os.listdir(f'{CRATE}/proofs')):
+        if f.endswith('.antt') and f not in('AllKinds.antt','Printed.antt'):
+            for m in re.finditer(r'^pub law_([a-z_]+) : KindLaw (\w+|\(\w+ \w+\))',open(f'{CRATE}/proofs/{f}').read(),re.M):
+                HAND[tuple(m[2].strip('()').split())]='law_'+m[1]; homes['law_'+m[1]]=f[:-5]
     HANDSTEPS={}
     for f in sorted(os.listdir(f'{CRATE}/proofs')):
         if f.endswith('.antt') and not f.startswith('StepsOf') and f not in('AllKinds.antt','Readies.antt'):
@@ -710,8 +719,8 @@ After k x s = LacksAll (behind k) s
     out+='use Rattle.std.proofs.Common.{◌≡◌, refl}\nuse Rattle.std.specs.Prelude.{true, false}\n'
     out+='use Rattle.syn_grammar.specs.Kind.{'+', '.join(['Kind']+names)+'}\nuse Rattle.syn_grammar.specs.Kept.{held}\nuse Rattle.syn_grammar.specs.Normal.{passed, place_of}\nuse Rattle.syn_grammar.specs.Table.{table}\n'
     out+='use Rattle.grammar_back.specs.Covered.{has_step}\nuse Rattle.grammar_back.proofs.Readies.{Step}\nuse Rattle.grammar_back.proofs.Printed.{KindLaw, simple_kind}\n'
-    hs=[law[k] for k in covered if law[k]]
-    if hs: out+='use Rattle.grammar_back.proofs.KindLaws.{'+', '.join(dict.fromkeys(hs))+'}\n'
+    hs=dict.fromkeys(law[k] for k in covered if law[k])
+    for m in dict.fromkeys(homes[h] for h in hs): out+=f'use Rattle.grammar_back.proofs.{m}.{{{", ".join(h for h in hs if homes[h]==m)}}}\n'
     for m,ws in by.items(): out+=f'use Rattle.grammar_back.proofs.{m}.{{{", ".join(ws)}}}\n'
     out+='\npub steps : (k : Kind) → has_step k ≡ true → Step k\nunfolding has_step\n'
     for k in covered: out+=f'steps {clause(k)} e = {stepof[k][0]}\n'
@@ -722,6 +731,11 @@ After k x s = LacksAll (behind k) s
     open(f'{CRATE}/proofs/AllKinds.antt','w').write(wrapped(out))
     if '--missing' in sys.argv:
         print('no law:',[kshow(k) for k in stepof if k not in covered]); print('no step:',[kshow(k) for c,k in KINDS if k not in stepof])
+    for f in sorted(os.listdir(f'{CRATE}/proofs')):
+        if f.endswith('.antt') and f!='Keywords.antt':
+            for w in re.findall(r'\b(?:reserved|free)_([a-z_]+)\b',open(f'{CRATE}/proofs/{f}').read()):
+                w={'underscore':'_','big_self':'Self'}.get(w,w)
+                if w!='not': reserved(w)
     text="-- Words that are reserved, and some that aren't. Written by tools/steps.py.\nuse Rattle.std.specs.Prelude.{◌≡◌, refl, true, false, codes}\nuse Rattle.syn_grammar.specs.Words.{is_reserved}\n"
     for w,n in sorted(KEYWORDS.items(),key=lambda x:x[1]):
         text+=f'\npub {n} : is_reserved (codes "{w}") ≡ {"true" if w in RESERVED else "false"}\nunfolding is_reserved\n{n} = refl\n'
