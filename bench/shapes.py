@@ -22,9 +22,9 @@ SIZE = 10_000_000
 LONG = 4 * SIZE
 
 
-def fetch():
-    """Debian's packages with the library's sources and the peer's."""
-    packages = ["rust-src", "librust-proc-macro2-dev"]
+def fetch(*more):
+    """Debian's packages with the library's sources and the peer's, and those that are named."""
+    packages = ["rust-src", "librust-proc-macro2-dev", *more]
     if subprocess.run(["dpkg", "-s", *packages], capture_output=True).returncode != 0:
         subprocess.run(["apt-get", "update", "-qq"], check=True)
         subprocess.run(["apt-get", "install", "-y", "-qq", *packages], stdout=subprocess.DEVNULL, check=True)

@@ -1,6 +1,8 @@
 -- Entries that lie as those of a list do.
 use denote.Ref.{Bor}
-use Rattle.std.proofs.Common.{◌≡◌, ℕ, zero, suc, ◌+◌, ◌-◌, ◌<◌, ◌≤◌, add-one, get_or, List, [], ◌∷◌, ◌++◌, length, take, drop, refl, sym, ap, ◌∙◌, arith, length-drop, length-take, length-append, drop-cons}
+use Rattle.std.proofs.Common.{◌≡◌, ℕ, zero, suc, ◌+◌, ◌-◌, ◌<◌, ◌≤◌, add-one, get_or, List, [], ◌∷◌, ◌++◌, length}
+use Rattle.std.proofs.Common.{take, drop, refl, sym, ap, ◌∙◌, arith, length-drop, length-take, length-append}
+use Rattle.std.proofs.Common.{drop-cons}
 use Rattle.std.specs.Prelude.{Bool, true, false, ◌&&◌, ◌==◌, not, cond, Some, None, option_and_then, filter, IsTrue}
 use Rattle.std.proofs.lemmas.List.{map-append, take_all, take-append-drop, take-append-le, drop-append-le}
 use Rattle.std.proofs.lemmas.List.Elements.{filter-append}
@@ -18,7 +20,8 @@ use Rattle.proc_macro2.specs.Token.{Token, Opens, Closes, Spanned}
 use Rattle.proc_macro2.specs.Flat.{spanned}
 use Rattle.proc_macro2.proofs.GroupLemmas.{open_append}
 use Rattle.syn_buffer.specs.Seen.{is_visible, is_seen, seen}
-use Rattle.syn_buffer.specs.Entries.{entry_token, spanned_entry, spanned_entries, same_span, closes_with, laid, is_laid, is_whole}
+use Rattle.syn_buffer.specs.Entries.{entry_token, spanned_entry, spanned_entries, same_span, closes_with, laid}
+use Rattle.syn_buffer.specs.Entries.{is_laid, is_whole}
 use Rattle.syn_buffer.specs.Heads.{SeenFirst}
 use Rattle.syn_buffer.specs.declared.entry.Entry.{Entry}
 use Rattle.syn_buffer.specs.declared.entry.Entry.TheVariants as entry
@@ -88,7 +91,8 @@ pub whole_is_laid : (es : List Entry) → is_whole es ≡ true → is_laid es �
 whole_is_laid es h = whole_laid (length es) es h
 
 -- where a group closes
-pub closing : (d : Delimiter) (s : Span) (n : ℕ) (es : List Entry) → closes_with d s (drop n es) ≡ true → drop n es ≡ entry.Close d s ∷ drop (suc n) es
+pub closing : (d : Delimiter) (s : Span) (n : ℕ) (es : List Entry) → closes_with d s (drop n es) ≡ true →
+    drop n es ≡ entry.Close d s ∷ drop (suc n) es
 closing d s n [] h = absurd (none d s n h)
   where
     none : (d : Delimiter) (s : Span) (n : ℕ) → closes_with d s (drop n []) ≡ true → ⊥
@@ -105,7 +109,8 @@ closing d s zero (entry.Punct p ∷ es) h = cc
 closing d s zero (entry.Literal l ∷ es) h = cc
 closing d s (suc n) (e ∷ es) h = closing d s n es h
 
-closing_within : (d : Delimiter) (s : Span) (n : ℕ) (es : List Entry) → closes_with d s (drop n es) ≡ true → n < length es
+closing_within : (d : Delimiter) (s : Span) (n : ℕ) (es : List Entry) → closes_with d s (drop n es) ≡ true →
+    n < length es
 closing_within d s zero [] h = cc
 closing_within d s (suc n) [] h = cc
 closing_within d s zero (e ∷ es) h = omega arith
@@ -113,7 +118,8 @@ closing_within d s (suc n) (e ∷ es) h = omega (arith, closing_within d s n es 
 
 -- the tokens of a group
 grouped : (d : Delimiter) (s : Span) (n : ℕ) (es : List Entry) → closes_with d s (drop n es) ≡ true →
-    seen (spanned_entries es) ≡ seen (spanned_entries (take n es)) ++ seen (spanned_entries (entry.Close d s ∷ drop (suc n) es))
+    seen (spanned_entries es)
+    ≡ seen (spanned_entries (take n es)) ++ seen (spanned_entries (entry.Close d s ∷ drop (suc n) es))
 grouped d s n es h =
     ap (λ xs. seen (spanned_entries xs)) (sym (take-append-drop n es))
     ∙ ap seen (map-append spanned_entry (take n es) (drop n es))
@@ -121,30 +127,36 @@ grouped d s n es h =
     ∙ ap (λ xs. seen (spanned_entries (take n es)) ++ seen (spanned_entries xs)) (closing d s n es h)
 
 -- the marks of a group are seen if it is visible
-pub marked : (d : Delimiter) (t : Token) (s : Span) (b : Bool) (ts : List Spanned) → is_seen t ≡ is_visible d → is_visible d ≡ b → filter (λ x. is_seen x.token) (spanned t s ∷ ts) ≡ cond b (spanned t s ∷ seen ts) (seen ts)
+pub marked : (d : Delimiter) (t : Token) (s : Span) (b : Bool) (ts : List Spanned) → is_seen t ≡ is_visible d →
+    is_visible d ≡ b → filter (λ x. is_seen x.token) (spanned t s ∷ ts) ≡ cond b (spanned t s ∷ seen ts) (seen ts)
 marked d t s b ts e v = ap (λ c. cond c (spanned t s ∷ seen ts) (seen ts)) (e ∙ v)
 
 -- a mark closes the group that has been opened last
-closed_last : (d : Delimiter) (s : Span) (ds : List Delimiter) (ts : List Spanned) → groups_open (d ∷ ds) (spanned (Closes d) s ∷ ts) ≡ groups_open ds ts
+closed_last : (d : Delimiter) (s : Span) (ds : List Delimiter) (ts : List Spanned) →
+    groups_open (d ∷ ds) (spanned (Closes d) s ∷ ts) ≡ groups_open ds ts
 closed_last d s ds ts = ap (λ b. option_and_then (λ gs. groups_open gs ts) (cond b (Some ds) None)) (same_self d)
 
 abbrev Neutral : List Spanned → Type 0
 Neutral ts = (ds : List Delimiter) → groups_open ds ts ≡ Some ds
 
 -- a group whose inside is matched, before tokens that are
-group_matched : (d : Delimiter) (s : Span) (n : ℕ) (es : List Entry) (b : Bool) → is_visible d ≡ b → closes_with d s (drop n es) ≡ true →
-    Neutral (seen (spanned_entries (take n es))) → Neutral (seen (spanned_entries (drop (suc n) es))) → Neutral (seen (spanned_entries (entry.Open d s n ∷ es)))
+group_matched : (d : Delimiter) (s : Span) (n : ℕ) (es : List Entry) (b : Bool) → is_visible d ≡ b →
+    closes_with d s (drop n es) ≡ true →
+    Neutral (seen (spanned_entries (take n es))) → Neutral (seen (spanned_entries (drop (suc n) es))) →
+    Neutral (seen (spanned_entries (entry.Open d s n ∷ es)))
 group_matched d s n es true v c inside behind ds =
     ap (groups_open ds) (marked d (Opens d) s true (spanned_entries es) refl v)
     ∙ ap (groups_open (d ∷ ds)) (grouped d s n es c)
-    ∙ open_append (d ∷ ds) (d ∷ ds) (seen (spanned_entries (take n es))) (seen (spanned_entries (entry.Close d s ∷ drop (suc n) es))) (inside (d ∷ ds))
+    ∙ open_append (d ∷ ds) (d ∷ ds) (seen (spanned_entries (take n es)))
+    (seen (spanned_entries (entry.Close d s ∷ drop (suc n) es))) (inside (d ∷ ds))
     ∙ ap (groups_open (d ∷ ds)) (marked d (Closes d) s true (spanned_entries (drop (suc n) es)) refl v)
     ∙ closed_last d s ds (seen (spanned_entries (drop (suc n) es)))
     ∙ behind ds
 group_matched d s n es false v c inside behind ds =
     ap (groups_open ds) (marked d (Opens d) s false (spanned_entries es) refl v)
     ∙ ap (groups_open ds) (grouped d s n es c)
-    ∙ open_append ds ds (seen (spanned_entries (take n es))) (seen (spanned_entries (entry.Close d s ∷ drop (suc n) es))) (inside ds)
+    ∙ open_append ds ds (seen (spanned_entries (take n es)))
+    (seen (spanned_entries (entry.Close d s ∷ drop (suc n) es))) (inside ds)
     ∙ ap (groups_open ds) (marked d (Closes d) s false (spanned_entries (drop (suc n) es)) refl v)
     ∙ behind ds
 
@@ -159,11 +171,13 @@ matched_behind o zero (e ∷ es) h ds = cc
 matched_behind o (suc k) (entry.Open d s n ∷ es) h ds =
     let p = both (closes_with d s (drop n es)) _ h in
     let q = both (laid false k (take n es)) _ p.1 in
-    group_matched d s n es (is_visible d) refl p.0 (matched_behind false k (take n es) q.0) (matched_behind o k (drop (suc n) es) q.1) ds
+    group_matched d s n es (is_visible d) refl p.0 (matched_behind false k (take n es) q.0)
+    (matched_behind o k (drop (suc n) es) q.1) ds
 matched_behind o (suc k) (entry.Close d s ∷ es) h ds =
     let p = both (o && not (is_visible d)) _ h in
     let v = both o (not (is_visible d)) p.0 in
-    ap (groups_open ds) (marked d (Closes d) s false (spanned_entries es) refl (not_true _ v.1)) ∙ matched_behind o k es p.1 ds
+    ap (groups_open ds) (marked d (Closes d) s false (spanned_entries es) refl (not_true _ v.1))
+    ∙ matched_behind o k es p.1 ds
 matched_behind o (suc k) (entry.Ident i ∷ es) h ds = matched_behind o k es h ds
 matched_behind o (suc k) (entry.Punct p ∷ es) h ds = matched_behind o k es h ds
 matched_behind o (suc k) (entry.Literal l ∷ es) h ds =
@@ -179,7 +193,8 @@ pub closes_self : (d : Delimiter) (s : Span) (es : List Entry) → closes_with d
 closes_self d s es = both_true _ _ (same_self d) (span_self s)
 
 -- entries that lie so, one behind the other
-laid_before : (o : Bool) (k m : ℕ) (a b : List Entry) → laid o k a ≡ true → laid o (length b) b ≡ true → length a + length b ≤ m → laid o m (a ++ b) ≡ true
+laid_before : (o : Bool) (k m : ℕ) (a b : List Entry) → laid o k a ≡ true → laid o (length b) b ≡ true →
+    length a + length b ≤ m → laid o m (a ++ b) ≡ true
 laid_before o k m [] b h l f = laid_any o (length b) m b l (omega arith)
 laid_before o zero m (e ∷ a) b h l f = cc
 laid_before o (suc k) zero (e ∷ a) b h l f = absurd (omega arith)
@@ -188,10 +203,13 @@ laid_before o (suc k) (suc m) (entry.Open d s n ∷ a) b h l f =
     let q = both (laid false k (take n a)) _ p.1 in
     let w : n < length a = closing_within d s n a p.0 in
     both_true _ _
-    (ap (closes_with d s) (drop-append-le n a b (omega arith) ∙ ap (λ x. x ++ b) (closing d s n a p.0)) ∙ closes_self d s (drop (suc n) a ++ b))
+    (ap (closes_with d s) (drop-append-le n a b (omega arith) ∙ ap (λ x. x ++ b) (closing d s n a p.0))
+    ∙ closes_self d s (drop (suc n) a ++ b))
     (both_true _ _
-    (ap (laid false m) (take-append-le n a b (omega arith)) ∙ laid_any false k m (take n a) q.0 (omega (arith, length-take n a)))
-    (ap (laid o m) (drop-append-le (suc n) a b (omega arith)) ∙ laid_before o k m (drop (suc n) a) b q.1 l (omega (arith, length-drop (suc n) a))))
+    (ap (laid false m) (take-append-le n a b (omega arith))
+    ∙ laid_any false k m (take n a) q.0 (omega (arith, length-take n a)))
+    (ap (laid o m) (drop-append-le (suc n) a b (omega arith))
+    ∙ laid_before o k m (drop (suc n) a) b q.1 l (omega (arith, length-drop (suc n) a))))
 laid_before o (suc k) (suc m) (entry.Close d s ∷ a) b h l f =
     let p = both (o && not (is_visible d)) _ h in
     both_true _ _ p.0 (laid_before o k m a b p.1 l (omega arith))
@@ -208,14 +226,16 @@ pub whole_append : (a b : List Entry) → is_whole a ≡ true → is_whole b ≡
 whole_append a b h l = laid_before false (length a) (length (a ++ b)) a b h l (omega (arith, length-append a b))
 
 -- a group
-pub whole_group : (d : Delimiter) (s : Span) (inside : List Entry) → is_whole inside ≡ true → is_whole (entry.Open d s (length inside) ∷ inside ++ entry.Close d s ∷ []) ≡ true
+pub whole_group : (d : Delimiter) (s : Span) (inside : List Entry) → is_whole inside ≡ true →
+    is_whole (entry.Open d s (length inside) ∷ inside ++ entry.Close d s ∷ []) ≡ true
 whole_group d s inside h =
     let rest : List Entry = inside ++ entry.Close d s ∷ [] in
     let long : length rest ≡ length inside + 1 = length-append inside (entry.Close d s ∷ []) in
     both_true _ _
     (ap (closes_with d s) (drop-append_seam inside (entry.Close d s ∷ [])) ∙ closes_self d s [])
     (both_true _ _
-    (ap (laid false (length rest)) (take-append_seam inside (entry.Close d s ∷ [])) ∙ laid_any false (length inside) (length rest) inside h (omega arith))
+    (ap (laid false (length rest)) (take-append_seam inside (entry.Close d s ∷ []))
+    ∙ laid_any false (length inside) (length rest) inside h (omega arith))
     (ap (laid false (length rest)) (drop_one_more inside (entry.Close d s))))
   where
     drop_one_more : (xs : List Entry) (y : Entry) → drop (suc (length xs)) (xs ++ y ∷ []) ≡ []
@@ -228,10 +248,12 @@ pub record Opened (d : Delimiter) (s : Span) (n : ℕ) (es : List Entry) : Type 
   pub closes : closes_with d s (drop n es) ≡ true
   pub inside : is_whole (take n es) ≡ true
   pub behind : is_laid (drop (suc n) es) ≡ true
-  pub sees : seen (spanned_entries es) ≡ seen (spanned_entries (take n es)) ++ seen (spanned_entries (entry.Close d s ∷ drop (suc n) es))
+  pub sees : seen (spanned_entries es)
+      ≡ seen (spanned_entries (take n es)) ++ seen (spanned_entries (entry.Close d s ∷ drop (suc n) es))
   pub parts : es ≡ take n es ++ entry.Close d s ∷ drop (suc n) es
 
-pub opened : (d : Delimiter) (s : Span) (n : ℕ) (es : List Entry) → is_laid (entry.Open d s n ∷ es) ≡ true → Opened d s n es
+pub opened : (d : Delimiter) (s : Span) (n : ℕ) (es : List Entry) → is_laid (entry.Open d s n ∷ es) ≡ true →
+    Opened d s n es
 opened d s n es h =
     let p = both (closes_with d s (drop n es)) _ h in
     let q = both (laid false (length es) (take n es)) _ p.1 in
@@ -245,18 +267,21 @@ opened d s n es h =
     }
 
 -- past a mark of an invisible group
-pub laid_past : (e : Entry) (es : List Entry) → is_laid (e ∷ es) ≡ true → is_seen (entry_token e) ≡ false → is_laid es ≡ true
+pub laid_past : (e : Entry) (es : List Entry) → is_laid (e ∷ es) ≡ true → is_seen (entry_token e) ≡ false →
+    is_laid es ≡ true
 laid_past (entry.Open d s n) es h v =
     let o = opened d s n es h in
     let close : is_laid (entry.Close d s ∷ drop (suc n) es) ≡ true = both_true _ _ (ap not v) o.behind in
-    ap is_laid o.parts ∙ laid_append (take n es) (entry.Close d s ∷ drop (suc n) es) (whole_is_laid (take n es) o.inside) close
+    ap is_laid o.parts
+    ∙ laid_append (take n es) (entry.Close d s ∷ drop (suc n) es) (whole_is_laid (take n es) o.inside) close
 laid_past (entry.Close d s) es h v = (both (not (is_visible d)) _ h).1
 laid_past (entry.Ident i) es h v = cc
 laid_past (entry.Punct p) es h v = cc
 laid_past (entry.Literal l) es h v = cc
 
 -- past a literal
-pub laid_literal : (es t : List Entry) (l : Bor Literals.Literal) → es ≡ entry.Literal l ∷ t → is_laid es ≡ true → is_laid t ≡ true
+pub laid_literal : (es t : List Entry) (l : Bor Literals.Literal) → es ≡ entry.Literal l ∷ t → is_laid es ≡ true →
+    is_laid t ≡ true
 laid_literal es t l e h = (both (not (starts_with_minus (literal_text l.now))) _ (sym (ap is_laid e) ∙ h)).1
 
 -- what is seen of entries past the first of which so many have been passed
@@ -265,22 +290,28 @@ pub record Passed (es : List Entry) (n : ℕ) : Type 0 where
   pub same : seen (spanned_entries (drop n es)) ≡ seen (spanned_entries es)
   pub lies : IsTrue (is_laid (drop n es))
 
-past_mark : (es t : List Entry) (e : Entry) → es ≡ e ∷ t → is_seen (entry_token e) ≡ false → IsTrue (is_laid es) → (seen (spanned_entries t) ≡ seen (spanned_entries es)) × IsTrue (is_laid t)
+past_mark : (es t : List Entry) (e : Entry) → es ≡ e ∷ t → is_seen (entry_token e) ≡ false → IsTrue (is_laid es) →
+    (seen (spanned_entries t) ≡ seen (spanned_entries es)) × IsTrue (is_laid t)
 past_mark es t e p v h = (
-  sym (ap (λ x. seen (spanned_entries x)) p ∙ ap (λ b. cond b (spanned_entry e ∷ seen (spanned_entries t)) (seen (spanned_entries t))) v),
+  sym (ap (λ x. seen (spanned_entries x)) p
+      ∙ ap (λ b. cond b (spanned_entry e ∷ seen (spanned_entries t)) (seen (spanned_entries t))) v),
   laid_past e t (sym (ap is_laid p) ∙ h) v,
 )
 
 pub none_passed : (es : List Entry) → IsTrue (is_laid es) → Passed es 0
 none_passed es h = record { within = omega arith; same = refl; lies = h }
 
-pub one_passed : (es : List Entry) (n : ℕ) (z : Entry) → n < length es → is_seen (entry_token (get_or es n z)) ≡ false → Passed es n → Passed es (n + 1)
+pub one_passed : (es : List Entry) (n : ℕ) (z : Entry) → n < length es →
+    is_seen (entry_token (get_or es n z)) ≡ false → Passed es n → Passed es (n + 1)
 one_passed es n z l v p =
-    let (same, lies) = past_mark (drop n es) (drop (n + 1) es) (get_or es n z) (drop-cons es n z l ∙ ap (λ k. get_or es n z ∷ drop k es) (sym (add-one n))) v p.lies in
+    let (same, lies) =
+    past_mark (drop n es) (drop (n + 1) es) (get_or es n z) (drop-cons es n z l
+    ∙ ap (λ k. get_or es n z ∷ drop k es) (sym (add-one n))) v p.lies in
     record { within = omega arith; same = same ∙ p.same; lies = lies }
 
 -- the first entry is seen, if there is one
-pub seen_first : (es : List Entry) (n : ℕ) (z : Entry) → n < length es → is_seen (entry_token (get_or es n z)) ≡ true → SeenFirst (drop n es)
+pub seen_first : (es : List Entry) (n : ℕ) (z : Entry) → n < length es → is_seen (entry_token (get_or es n z)) ≡ true →
+    SeenFirst (drop n es)
 seen_first [] n z l v = absurd (omega arith)
 seen_first (e ∷ es) zero z l v = v
 seen_first (e ∷ es) (suc n) z l v = seen_first es n z (omega arith) v
@@ -301,7 +332,10 @@ borrowed_behind es n = borrowed es (n + 1) ∙ ap (λ k. drop k es) (add-one n)
 
 -- what is seen of a group and of what is behind it
 pub group_seen : (d : Delimiter) (s : Span) (n : ℕ) (es : List Entry) → is_visible d ≡ true → Opened d s n es →
-    seen (spanned_entries (entry.Open d s n ∷ es)) ≡ spanned (Opens d) s ∷ seen (spanned_entries (take n es)) ++ spanned (Closes d) s ∷ seen (spanned_entries (drop (suc n) es))
+    seen (spanned_entries (entry.Open d s n ∷ es)) ≡ spanned (Opens d) s ∷ seen (spanned_entries (take n es))
+    ++ spanned (Closes d) s ∷ seen (spanned_entries (drop (suc n) es))
 group_seen d s n es v o =
     marked d (Opens d) s true (spanned_entries es) refl v
-    ∙ ap (λ x. spanned (Opens d) s ∷ x) (o.sees ∙ ap (λ x. seen (spanned_entries (take n es)) ++ x) (marked d (Closes d) s true (spanned_entries (drop (suc n) es)) refl v))
+    ∙ ap (λ x. spanned (Opens d) s ∷ x) (o.sees
+    ∙ ap (λ x. seen (spanned_entries (take n es)) ++ x)
+    (marked d (Closes d) s true (spanned_entries (drop (suc n) es)) refl v))

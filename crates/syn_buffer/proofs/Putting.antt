@@ -1,5 +1,6 @@
 -- Entries that are put behind others.
-use Rattle.std.proofs.Common.{◌≡◌, ℕ, zero, suc, ◌+◌, ◌-◌, ◌<◌, ◌≤◌, List, [], ◌∷◌, ◌++◌, length, take, get_or, refl, sym, ap, ◌∙◌, subst, arith, append_assoc, add-one, length-append, true}
+use Rattle.std.proofs.Common.{◌≡◌, ℕ, zero, suc, ◌+◌, ◌-◌, ◌<◌, ◌≤◌, List, [], ◌∷◌, ◌++◌, length, take, get_or, refl}
+use Rattle.std.proofs.Common.{sym, ap, ◌∙◌, subst, arith, append_assoc, add-one, length-append, true}
 use Rattle.std.proofs.lemmas.List.{map-append, append-nil}
 use Rattle.std.proofs.Math.Seq.{set-append_seam}
 use Rattle.std.proofs.Math.ListN.{set}
@@ -15,10 +16,12 @@ use Rattle.syn_buffer.specs.declared.entry.Entry.TheVariants as entry
 use Rattle.syn_buffer.proofs.Laid.{whole_append, whole_group}
 
 -- a tree has no more tokens than the trees among which it stands
-pub part_length : (ts : List TokenTree) (i : ℕ) (d : TokenTree) → i < length ts → length (tree_tokens (get_or ts i d)) ≤ length (trees_tokens ts)
+pub part_length : (ts : List TokenTree) (i : ℕ) (d : TokenTree) → i < length ts →
+    length (tree_tokens (get_or ts i d)) ≤ length (trees_tokens ts)
 part_length [] i d h = absurd (omega arith)
 part_length (t ∷ ts) zero d h = omega (arith, length-append (tree_tokens t) (trees_tokens ts))
-part_length (t ∷ ts) (suc i) d h = omega (arith, part_length ts i d (omega arith), length-append (tree_tokens t) (trees_tokens ts))
+part_length (t ∷ ts) (suc i) d h =
+    omega (arith, part_length ts i d (omega arith), length-append (tree_tokens t) (trees_tokens ts))
 
 -- nothing, and more behind that
 pub put_none : (es : List Entry) → Puts es es []
@@ -28,38 +31,55 @@ pub put_more : (xs ys zs : List Entry) (ts us : List Spanned) → Puts xs ys ts 
 put_more xs ys zs ts us p q = record {
   added = p.added ++ q.added;
   behind = q.behind ∙ ap (λ x. x ++ q.added) p.behind ∙ append_assoc xs p.added q.added;
-  tokens_are = map-append spanned_entry p.added q.added ∙ ap (λ x. x ++ spanned_entries q.added) p.tokens_are ∙ ap (λ x. ts ++ x) q.tokens_are;
+  tokens_are = map-append spanned_entry p.added q.added ∙ ap (λ x. x ++ spanned_entries q.added) p.tokens_are
+      ∙ ap (λ x. ts ++ x) q.tokens_are;
   lies = whole_append p.added q.added p.lies q.lies;
 }
 
 -- one entry of a leaf
-pub put_one : (xs ys : List Entry) (e : Entry) → ys ≡ xs ++ e ∷ [] → is_whole (e ∷ []) ≡ true → Puts xs ys (spanned_entry e ∷ [])
+pub put_one : (xs ys : List Entry) (e : Entry) → ys ≡ xs ++ e ∷ [] → is_whole (e ∷ []) ≡ true →
+    Puts xs ys (spanned_entry e ∷ [])
 put_one xs ys e p l = record { added = e ∷ []; behind = p; tokens_are = refl; lies = l }
 
 -- a group: its opening mark, which is written again behind its inside, and its closing mark
-pub put_group : (d : Delimiter) (s : Span) (xs ys zs vs : List Entry) (ts : List Spanned) → ys ≡ xs ++ entry.Open d s 0 ∷ [] → Puts ys zs ts →
-    vs ≡ set zs (length xs) (entry.Open d s (length zs - length xs - 1)) ++ entry.Close d s ∷ [] → Puts xs vs (spanned (Opens d) s ∷ ts ++ spanned (Closes d) s ∷ [])
+pub put_group : (d : Delimiter) (s : Span) (xs ys zs vs : List Entry) (ts : List Spanned) →
+    ys ≡ xs ++ entry.Open d s 0 ∷ [] → Puts ys zs ts →
+    vs ≡ set zs (length xs) (entry.Open d s (length zs - length xs - 1)) ++ entry.Close d s ∷ [] →
+    Puts xs vs (spanned (Opens d) s ∷ ts ++ spanned (Closes d) s ∷ [])
 put_group d s xs ys zs vs ts b p e =
     let inside = p.added in
     let n : ℕ = length zs - length xs - 1 in
-    let whole : zs ≡ xs ++ entry.Open d s 0 ∷ inside = p.behind ∙ ap (λ x. x ++ inside) b ∙ append_assoc xs (entry.Open d s 0 ∷ []) inside in
-    let count : n ≡ length inside = omega (arith, ap (λ (x : List Entry). length x) whole, length-append xs (entry.Open d s 0 ∷ inside)) in
+    let whole : zs ≡ xs ++ entry.Open d s 0 ∷ inside =
+    p.behind ∙ ap (λ x. x ++ inside) b ∙ append_assoc xs (entry.Open d s 0 ∷ []) inside in
+    let count : n ≡ length inside =
+    omega (arith, ap (λ (x : List Entry). length x) whole, length-append xs (entry.Open d s 0 ∷ inside)) in
     let close : List Entry = entry.Close d s ∷ [] in
     record {
       added = entry.Open d s (length inside) ∷ inside ++ close;
-      behind = e ∙ ap (λ x. x ++ close) (ap (λ x. set x (length xs) (entry.Open d s n)) whole ∙ set-append_seam xs (entry.Open d s 0) inside (entry.Open d s n) ∙ ap (λ k. xs ++ entry.Open d s k ∷ inside) count)
+      behind =
+          e ∙ ap (λ x. x ++ close) (ap (λ x. set x (length xs) (entry.Open d s n)) whole
+          ∙ set-append_seam xs (entry.Open d s 0) inside (entry.Open d s n)
+          ∙ ap (λ k. xs ++ entry.Open d s k ∷ inside) count)
           ∙ append_assoc xs (entry.Open d s (length inside) ∷ inside) close;
-      tokens_are = ap (λ x. spanned (Opens d) s ∷ x) (map-append spanned_entry inside close ∙ ap (λ x. x ++ spanned (Closes d) s ∷ []) p.tokens_are);
+      tokens_are =
+          ap (λ x. spanned (Opens d) s ∷ x) (map-append spanned_entry inside close
+          ∙ ap (λ x. x ++ spanned (Closes d) s ∷ []) p.tokens_are);
       lies = whole_group d s inside p.lies;
     }
 
 -- one tree more
-taken_more : (ts : List TokenTree) (i : ℕ) (d : TokenTree) → i < length ts → trees_tokens (take (suc i) ts) ≡ trees_tokens (take i ts) ++ tree_tokens (get_or ts i d)
+taken_more : (ts : List TokenTree) (i : ℕ) (d : TokenTree) → i < length ts →
+    trees_tokens (take (suc i) ts) ≡ trees_tokens (take i ts) ++ tree_tokens (get_or ts i d)
 taken_more [] i d h = absurd (omega arith)
 taken_more (t ∷ ts) zero d h = append-nil (tree_tokens t)
-taken_more (t ∷ ts) (suc i) d h = ap (λ x. tree_tokens t ++ x) (taken_more ts i d (omega arith)) ∙ sym (append_assoc (tree_tokens t) (trees_tokens (take i ts)) (tree_tokens (get_or ts i d)))
+taken_more (t ∷ ts) (suc i) d h = ap (λ x. tree_tokens t ++ x) (taken_more ts i d (omega arith))
+    ∙ sym (append_assoc (tree_tokens t) (trees_tokens (take i ts)) (tree_tokens (get_or ts i d)))
 
-pub put_next : (xs ys zs : List Entry) (ts : List TokenTree) (i : ℕ) (t : TokenTree) → i < length ts → t ≡ get_or ts i t → Puts xs ys (trees_tokens (take i ts)) → Puts ys zs (tree_tokens t) → Puts xs zs (trees_tokens (take (i + 1) ts))
+pub put_next : (xs ys zs : List Entry) (ts : List TokenTree) (i : ℕ) (t : TokenTree) → i < length ts →
+    t ≡ get_or ts i t → Puts xs ys (trees_tokens (take i ts)) → Puts ys zs (tree_tokens t) →
+    Puts xs zs (trees_tokens (take (i + 1) ts))
 put_next xs ys zs ts i t h e p q =
     let P : List Spanned → Type 0 = λ us. Puts xs zs us in
-    subst P (ap (λ u. trees_tokens (take i ts) ++ tree_tokens u) e ∙ sym (taken_more ts i t h) ∙ ap (λ k. trees_tokens (take k ts)) (sym (add-one i))) (put_more xs ys zs (trees_tokens (take i ts)) (tree_tokens t) p q)
+    subst P (ap (λ u. trees_tokens (take i ts) ++ tree_tokens u) e ∙ sym (taken_more ts i t h)
+    ∙ ap (λ k. trees_tokens (take k ts)) (sym (add-one i)))
+    (put_more xs ys zs (trees_tokens (take i ts)) (tree_tokens t) p q)

@@ -14,7 +14,7 @@ use Rattle.rust_leaf.specs.Leaf.{punct_char, punct_spacing}
 use Rattle.rust_leaf.specs.declared.ident.Ident as Idents
 use Rattle.rust_leaf.specs.declared.literal.Literal as Literals
 use Rattle.rust_leaf.specs.declared.punct.Punct as Puncts
-use Rattle.syn_kinds.specs.Stands.{lifetime_stands}
+use Rattle.syn_kinds.specs.Stands.{any_ident_stands, lifetime_stands}
 use Rattle.syn_buffer.specs.Leaves.{ident_token, literal_token, punct_token}
 use Rattle.syn_buffer.specs.Lifetimes.{ReadsLifetime}
 use Rattle.syn_buffer.specs.Behind.{behind_group, behind_tree}
@@ -30,7 +30,8 @@ is_plain_token (Ident cs) = true
 is_plain_token (Literal cs) = true
 is_plain_token (Punct c spacing) = true
 
-any_depth : (n : ℕ) (t : Token) (ts : List Token) → is_plain_token t ≡ true → behind_group n (t ∷ ts) ≡ behind_group n ts
+any_depth : (n : ℕ) (t : Token) (ts : List Token) → is_plain_token t ≡ true →
+    behind_group n (t ∷ ts) ≡ behind_group n ts
 any_depth zero (Opens d) ts h = cc
 any_depth (suc n) (Opens d) ts h = cc
 any_depth zero (Closes d) ts h = cc
@@ -43,7 +44,8 @@ any_depth zero (Punct c spacing) ts h = refl
 any_depth (suc n) (Punct c spacing) ts h = refl
 
 -- one token more: the groups that are open behind it are as many as are passed
-one_more : (ds es : List Delimiter) (t : Token) (ts : List Token) → groups_behind ds t ≡ Some es → behind_group (length ds) (t ∷ ts) ≡ behind_group (length es) ts
+one_more : (ds es : List Delimiter) (t : Token) (ts : List Token) → groups_behind ds t ≡ Some es →
+    behind_group (length ds) (t ∷ ts) ≡ behind_group (length es) ts
 one_more ds es (Opens d) ts e = ap (λ x. behind_group (length x) ts) (some_same e)
 one_more [] es (Closes d) ts e = absurd (none_some e)
 one_more (c ∷ ds) es (Closes d) ts e = closed (same_delimiter c d) e
@@ -51,9 +53,12 @@ one_more (c ∷ ds) es (Closes d) ts e = closed (same_delimiter c d) e
     closed : (b : Bool) → cond b (Some ds) None ≡ Some es → behind_group (length ds) ts ≡ behind_group (length es) ts
     closed true h = ap (λ x. behind_group (length x) ts) (some_same h)
     closed false h = absurd (none_some h)
-one_more ds es (Ident cs) ts e = any_depth (length ds) (Ident cs) ts refl ∙ ap (λ x. behind_group (length x) ts) (some_same e)
-one_more ds es (Literal cs) ts e = any_depth (length ds) (Literal cs) ts refl ∙ ap (λ x. behind_group (length x) ts) (some_same e)
-one_more ds es (Punct c spacing) ts e = any_depth (length ds) (Punct c spacing) ts refl ∙ ap (λ x. behind_group (length x) ts) (some_same e)
+one_more ds es (Ident cs) ts e =
+    any_depth (length ds) (Ident cs) ts refl ∙ ap (λ x. behind_group (length x) ts) (some_same e)
+one_more ds es (Literal cs) ts e =
+    any_depth (length ds) (Literal cs) ts refl ∙ ap (λ x. behind_group (length x) ts) (some_same e)
+one_more ds es (Punct c spacing) ts e =
+    any_depth (length ds) (Punct c spacing) ts refl ∙ ap (λ x. behind_group (length x) ts) (some_same e)
 
 -- tokens before which and behind which so many groups are open
 behind_open : (ds es : List Delimiter) (ss : List Spanned) (ts : List Token) → groups_open ds ss ≡ Some es →
@@ -61,31 +66,54 @@ behind_open : (ds es : List Delimiter) (ss : List Spanned) (ts : List Token) →
 behind_open ds es [] ts e = ap (λ x. behind_group (length x) ts) (some_same e)
 behind_open ds es (s ∷ ss) ts e = past (λ fs. behind_open fs es ss ts) (groups_behind ds s.token) refl e
   where
-    past : ((fs : List Delimiter) → groups_open fs ss ≡ Some es → behind_group (length fs) (plain ss ++ ts) ≡ behind_group (length es) ts) →
-        (o : Option (List Delimiter)) → groups_behind ds s.token ≡ o → after o ss ≡ Some es → behind_group (length ds) (s.token ∷ plain ss ++ ts) ≡ behind_group (length es) ts
+    past : ((fs : List Delimiter) → groups_open fs ss ≡ Some es →
+        behind_group (length fs) (plain ss ++ ts) ≡ behind_group (length es) ts) →
+        (o : Option (List Delimiter)) → groups_behind ds s.token ≡ o → after o ss ≡ Some es →
+        behind_group (length ds) (s.token ∷ plain ss ++ ts) ≡ behind_group (length es) ts
     past more None p h = absurd (none_some h)
     past more (Some fs) p h = one_more ds fs s.token (plain ss ++ ts) p ∙ more fs h
 
 -- a group
-pub behind_is_group : (ts : List Spanned) (d : Delimiter) (span : Span) (inside behind : List Spanned) → IsGroup ts d span inside behind →
+pub behind_is_group : (ts : List Spanned) (d : Delimiter) (span : Span) (inside behind : List Spanned) →
+    IsGroup ts d span inside behind →
     behind_tree (plain ts) ≡ plain behind
 behind_is_group ts d span inside behind g =
     ap (λ x. behind_tree (plain x)) g.reads
     ∙ ap (behind_group zero) (map-append (λ (s : Spanned). s.token) inside (spanned (Closes d) span ∷ behind))
     ∙ behind_open [] [] inside (Closes d ∷ plain behind) g.whole
 
-pub behind_entered : (c : Cursor) (d : Delimiter) (span : Span) (inside after : Cursor) → Enters c d span inside after → left after ≡ behind_tree (left c)
+pub behind_entered : (c : Cursor) (d : Delimiter) (span : Span) (inside after : Cursor) →
+    Enters c d span inside after → left after ≡ behind_tree (left c)
 behind_entered c d span inside after e = sym (behind_is_group (rest c) d span (rest inside) (rest after) e.group)
 
 -- a lifetime
-pub behind_lifetime : (a b : Cursor) (apostrophe : Span) (i : Idents.Ident) → ReadsLifetime (rest a) apostrophe i (rest b) → left b ≡ behind_tree (left a)
+pub behind_lifetime : (a b : Cursor) (apostrophe : Span) (i : Idents.Ident) →
+    ReadsLifetime (rest a) apostrophe i (rest b) → left b ≡ behind_tree (left a)
 behind_lifetime a b apostrophe i r = sym (ap (λ (x : List Spanned). behind_tree (plain x)) r)
+
+-- a joint mark and no identifier behind it
+pub no_lifetime : (a b : Cursor) (p : Puncts.Punct) → rest a ≡ punct_token p ∷ rest b → punct_spacing p ≡ Joint →
+    any_ident_stands (left b) ≡ false → lifetime_stands (left a) ≡ false
+no_lifetime a b p reads joint none =
+    ap (λ (x : List Spanned). lifetime_stands (plain x)) reads
+    ∙ ap (λ s. lifetime_stands (Punct (punct_char p) s ∷ left b)) joint
+    ∙ no_ident (left b) none
+  where
+    no_ident : (ts : List Token) → any_ident_stands ts ≡ false →
+        lifetime_stands (Punct (punct_char p) Joint ∷ ts) ≡ false
+    no_ident [] h = refl
+    no_ident (Opens d ∷ ts) h = refl
+    no_ident (Closes d ∷ ts) h = refl
+    no_ident (Ident cs ∷ ts) h = cc
+    no_ident (Literal cs ∷ ts) h = refl
+    no_ident (Punct c s ∷ ts) h = refl
 
 -- an identifier or a literal
 pub behind_name : (a b : Cursor) (i : Idents.Ident) → rest a ≡ ident_token i ∷ rest b → left b ≡ behind_tree (left a)
 behind_name a b i r = sym (ap (λ (x : List Spanned). behind_tree (plain x)) r)
 
-pub behind_literal : (a b : Cursor) (l : Literals.Literal) → rest a ≡ literal_token l ∷ rest b → left b ≡ behind_tree (left a)
+pub behind_literal : (a b : Cursor) (l : Literals.Literal) → rest a ≡ literal_token l ∷ rest b →
+    left b ≡ behind_tree (left a)
 behind_literal a b l r = sym (ap (λ (x : List Spanned). behind_tree (plain x)) r)
 
 -- a mark that begins no lifetime
@@ -93,7 +121,8 @@ either : (b : Bool) (ts : List Token) → cond b ts ts ≡ ts
 either true ts = refl
 either false ts = refl
 
-past_mark : (c : ℕ) (spacing : Spacing) (ts : List Token) → lifetime_stands (Punct c spacing ∷ ts) ≡ false → behind_tree (Punct c spacing ∷ ts) ≡ ts
+past_mark : (c : ℕ) (spacing : Spacing) (ts : List Token) → lifetime_stands (Punct c spacing ∷ ts) ≡ false →
+    behind_tree (Punct c spacing ∷ ts) ≡ ts
 past_mark c Alone ts h = refl
 past_mark c Joint [] h = either (c == 39) []
 past_mark c Joint (Ident cs ∷ ts) h = ap (λ b. cond b ts (Ident cs ∷ ts)) h
@@ -102,7 +131,8 @@ past_mark c Joint (Closes d ∷ ts) h = either (c == 39) (Closes d ∷ ts)
 past_mark c Joint (Literal cs ∷ ts) h = either (c == 39) (Literal cs ∷ ts)
 past_mark c Joint (Punct d spacing ∷ ts) h = either (c == 39) (Punct d spacing ∷ ts)
 
-pub behind_mark : (a b : Cursor) (p : Puncts.Punct) → rest a ≡ punct_token p ∷ rest b → lifetime_stands (left a) ≡ false → left b ≡ behind_tree (left a)
+pub behind_mark : (a b : Cursor) (p : Puncts.Punct) → rest a ≡ punct_token p ∷ rest b →
+    lifetime_stands (left a) ≡ false → left b ≡ behind_tree (left a)
 behind_mark a b p r h =
     let same : left a ≡ Punct (punct_char p) (punct_spacing p) ∷ left b = ap (λ (x : List Spanned). plain x) r in
     sym (ap behind_tree same ∙ past_mark (punct_char p) (punct_spacing p) (left b) (sym (ap lifetime_stands same) ∙ h))

@@ -1,5 +1,6 @@
 -- In a stream no literal begins with a minus.
-use Rattle.std.proofs.Common.{◌≡◌, ℕ, zero, suc, ◌<◌, List, [], ◌∷◌, ◌++◌, length, get_or, refl, sym, ap, subst, ◌∙◌, arith}
+use Rattle.std.proofs.Common.{◌≡◌, ℕ, zero, suc, ◌<◌, List, [], ◌∷◌, ◌++◌, length, get_or, refl, sym, ap, subst, ◌∙◌}
+use Rattle.std.proofs.Common.{arith}
 use Rattle.std.specs.Prelude.{Bool, true, false, ◌&&◌, ◌==◌, not}
 use Rattle.std.proofs.lemmas.Bool.{eqb-true}
 use Rattle.rust_lex.specs.declared.piece.LiteralKind.{LiteralKind}
@@ -64,10 +65,12 @@ back_unsigned [] ys h = h
 back_unsigned (x ∷ xs) ys h = back_unsigned xs ys (both (is_unsigned x.token) _ h).1
 
 -- of the trees each
-pub part_unsigned : (ts : List TokenTree) (i : ℕ) (d : TokenTree) → i < length ts → are_unsigned (trees_tokens ts) ≡ true → are_unsigned (tree_tokens (get_or ts i d)) ≡ true
+pub part_unsigned : (ts : List TokenTree) (i : ℕ) (d : TokenTree) → i < length ts →
+    are_unsigned (trees_tokens ts) ≡ true → are_unsigned (tree_tokens (get_or ts i d)) ≡ true
 part_unsigned [] i d l h = absurd (omega arith)
 part_unsigned (t ∷ ts) zero d l h = front_unsigned (tree_tokens t) (trees_tokens ts) h
-part_unsigned (t ∷ ts) (suc i) d l h = part_unsigned ts i d (omega arith) (back_unsigned (tree_tokens t) (trees_tokens ts) h)
+part_unsigned (t ∷ ts) (suc i) d l h =
+    part_unsigned ts i d (omega arith) (back_unsigned (tree_tokens t) (trees_tokens ts) h)
 
 -- a group's inside
 pub inside_unsigned : (g : Group) → are_unsigned (group_tokens g) ≡ true → are_unsigned g.stream ≡ true

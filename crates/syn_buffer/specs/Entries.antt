@@ -1,9 +1,12 @@
 -- The tokens that entries are, where they stand, and how entries lie. Where a group opens and where it
 -- closes the span of all of it stands, as in a stream.
+use Rattle.std.specs.Prelude.{option_map, slice_get, unwrap_or, ◌-◌}
 use Rattle.std.specs.Prelude.{ℕ, zero, suc, Bool, true, false, ◌&&◌, ◌==◌, not, List, [], ◌∷◌, length, map, take, drop}
+use Rattle.rust_map.specs.Spans.{last_of}
 use Rattle.rust_map.specs.declared.span.Span.{Span}
 use Rattle.rust_leaf.specs.Minus.{starts_with_minus}
-use Rattle.rust_leaf.specs.Leaf.{ident_span, ident_text, literal_span, literal_text, punct_char, punct_spacing, punct_span}
+use Rattle.rust_leaf.specs.Leaf.{ident_span, ident_text, literal_span, literal_text, punct_char, punct_spacing}
+use Rattle.rust_leaf.specs.Leaf.{punct_span}
 use Rattle.proc_macro2.specs.declared.delimiter.Delimiter.{Delimiter}
 use Rattle.proc_macro2.specs.Groups.{same_delimiter}
 use Rattle.proc_macro2.specs.Token.{Token, Opens, Closes, Ident, Literal, Punct, Spanned}
@@ -25,6 +28,18 @@ entry_span (entry.Close d span) = span
 entry_span (entry.Ident i) = ident_span i.now
 entry_span (entry.Punct p) = punct_span p.now
 entry_span (entry.Literal l) = literal_span l.now
+
+-- where it ends: a mark that closes a group is the last character of that
+abbrev pub entry_end : Entry → Span
+entry_end (entry.Open d span n) = span
+entry_end (entry.Close d span) = last_of span
+entry_end (entry.Ident i) = ident_span i.now
+entry_end (entry.Punct p) = punct_span p.now
+entry_end (entry.Literal l) = literal_span l.now
+
+-- where the last of entries ends, and of none what is said
+abbrev pub last_end : Span → List Entry → Span
+last_end none es = unwrap_or (option_map entry_end (slice_get es (length es - 1))) none
 
 abbrev pub spanned_entry : Entry → Spanned
 spanned_entry e = spanned (entry_token e) (entry_span e)

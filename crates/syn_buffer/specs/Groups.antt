@@ -1,13 +1,13 @@
 -- Groups at a place.
-use Rattle.std.specs.Prelude.{◌≡◌, List, [], ◌∷◌, ◌++◌}
-use Rattle.rust_map.specs.Spans.{last_of}
+use Rattle.std.specs.Prelude.{◌≡◌, ◌<◌, ◌+◌, List, [], ◌∷◌, ◌++◌}
+use Rattle.rust_map.specs.Spans.{first_of, last_of}
 use Rattle.rust_map.specs.declared.span.Span.{Span}
 use Rattle.proc_macro2.specs.declared.delimiter.Delimiter.{Delimiter}
 use Rattle.proc_macro2.specs.Groups.{IsMatched}
 use Rattle.proc_macro2.specs.Token.{Opens, Closes, Spanned}
 use Rattle.proc_macro2.specs.Flat.{spanned}
 use Rattle.syn_buffer.specs.Leaves.{ident_token, literal_token, punct_token}
-use Rattle.syn_buffer.specs.Position.{rest, IsPast, Takes}
+use Rattle.syn_buffer.specs.Position.{index, rest, IsPast, Takes}
 use Rattle.syn_buffer.specs.declared.position.Cursor.{Cursor}
 use Rattle.syn_buffer.specs.declared.next.Next.{Next}
 use Rattle.syn_buffer.specs.declared.next.Next.TheVariants as next
@@ -18,13 +18,18 @@ pub record IsGroup (tokens : List Spanned) (d : Delimiter) (span : Span) (inside
   pub reads : tokens ≡ spanned (Opens d) span ∷ inside ++ spanned (Closes d) span ∷ behind
   pub whole : IsMatched inside
 
--- a group stands at the place; of the two others one stands at the beginning of its list, and one behind it
+-- a group stands at the place; of the two others one stands at the beginning of its list, and one behind it. In the
+-- buffer the inside begins behind the place, and where it ends the closing mark stands
 pub record Enters (before : Cursor) (d : Delimiter) (span : Span) (inside after : Cursor) : Type 0 where
   pub group : IsGroup (rest before) d span (rest inside) (rest after)
   pub same_buffer : inside.number ≡ before.number
   pub closer : inside.closer ≡ d
   pub closing : inside.closing ≡ last_of span
+  pub entered : inside.before ≡ first_of span
   pub past : IsPast before after
+  pub passed : after.before ≡ last_of span
+  pub within : index before < index inside
+  pub ends : index after ≡ inside.end + 1
 
 -- what stands at a place: nothing; a token, and the place behind it; a group, and the places inside and
 -- behind it

@@ -1,10 +1,14 @@
 -- Places in a list of tokens: the list that is being read, by what is left of it.
-use Rattle.std.specs.Prelude.{◌≡◌, ◌≤◌, ℕ, ◌-◌, List, [], ◌∷◌, ◌++◌, length}
+use Rattle.std.specs.Prelude.{◌≡◌, ◌≤◌, ◌<◌, ℕ, ◌-◌, List, [], ◌∷◌, ◌++◌, length}
+use Rattle.rust_map.specs.Spans.{call_site, last_of}
 use Rattle.rust_map.specs.declared.span.Span.{Span}
+use Rattle.rust_leaf.specs.Leaf.{ident_span, literal_span, punct_span}
 use Rattle.proc_macro2.specs.declared.delimiter.Delimiter.{Delimiter}
+use Rattle.proc_macro2.specs.declared.delimiter.Delimiter.TheVariants as delimiter
 use Rattle.proc_macro2.specs.Flat.{tree_tokens}
 use Rattle.proc_macro2.specs.Token.{Token, Spanned, plain}
 use Rattle.proc_macro2.specs.declared.tree.TokenTree.{TokenTree}
+use Rattle.proc_macro2.specs.declared.tree.TokenTree.TheVariants as tree
 use Rattle.syn_buffer.specs.Seen.{seen}
 use Rattle.syn_buffer.specs.Entries.{spanned_entries}
 use Rattle.syn_buffer.specs.Standing.{trees_of}
@@ -30,6 +34,10 @@ pub record Scope : Type 0 where
   pub closing : Span
   pub closer : Delimiter
 
+-- the whole of a buffer with that number, of so many entries, which nothing closes
+abbrev pub whole : ℕ → ℕ → Scope
+whole number end = record { number = number; end = end; closing = call_site; closer = delimiter.None }
+
 abbrev pub scope : Cursor → Scope
 scope c = record { number = c.number; end = c.end; closing = c.closing; closer = c.closer }
 
@@ -45,18 +53,29 @@ pub record IsPast (before after : Cursor) : Type 0 where
   pub same_list : scope after ≡ scope before
   pub further : ahead after ≤ ahead before
 
--- the token stands at the one place, and the other is behind it
+-- the token stands at the one place, and the other is behind it, farther in its list
 pub record Takes (before : Cursor) (token : Spanned) (after : Cursor) : Type 0 where
   pub reads : rest before ≡ token ∷ rest after
   pub past : IsPast before after
+  pub onward : ahead after < ahead before
+  pub taken : after.before ≡ token.span
 
 -- where the next token stands, a group with all of it, or where the list closes
 abbrev pub next_span : Span → List Spanned → Span
 next_span closing [] = closing
 next_span closing (t ∷ ts) = t.span
 
+-- where a tree ends: a group at its closing mark
+abbrev pub tree_end : TokenTree → Span
+tree_end (tree.Group g) = last_of g.span
+tree_end (tree.Ident i) = ident_span i
+tree_end (tree.Punct p) = punct_span p
+tree_end (tree.Literal l) = literal_span l
+
 -- a tree stands first at the one place, and the other is behind it
 pub record TakesTree (before : Cursor) (tree : TokenTree) (after : Cursor) : Type 0 where
   pub stands : trees_left before ≡ tree_tokens tree ++ trees_left after
   pub reads : rest before ≡ seen (tree_tokens tree) ++ rest after
   pub past : IsPast before after
+  pub onward : ahead after < ahead before
+  pub taken : after.before ≡ tree_end tree

@@ -61,7 +61,8 @@ fn close(
 ) -> Result<(), AllocError>
     requires { at < length entries.old.items }
     ensures { OnOk result (entries.new.items
-        ≡ slice_set entries.old.items at (marks.Open delimiter span (length entries.old.items - at - 1)) ++ marks.Close delimiter span ∷ []) }
+        ≡ slice_set entries.old.items at (marks.Open delimiter span (length entries.old.items - at - 1))
+        ++ marks.Close delimiter span ∷ []) }
 {
     let inside = entries.len() - at - 1;
     entries[at] = Entry::Open(delimiter, span, inside);

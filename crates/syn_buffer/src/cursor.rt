@@ -1,16 +1,18 @@
 //! Looking at places, and moving on.
 
 ghost use Rattle.proc_macro2.specs.Trees.{delim_span_of};
-ghost use Rattle.rust_map.specs.Spans.{call_site, last_of};
+ghost use Rattle.rust_map.specs.Spans.{call_site, first_of, last_of};
 ghost use Rattle.std.specs.Prelude.{[], ◌∷◌, ◌≡◌, ◌<◌, ◌≤◌, IfNone, IfSome, IsTrue, false, length, true};
-ghost use Rattle.syn_buffer.specs.Entries.{is_laid, spanned_entries};
+ghost use Rattle.syn_buffer.specs.Entries.{is_laid, last_end, spanned_entries};
 ghost use Rattle.syn_buffer.specs.Groups.{Enters, IsNext};
 ghost use Rattle.syn_buffer.specs.Heads.{SeenFirst};
-ghost use Rattle.syn_buffer.specs.Position.{IsPast, Takes, ahead, left, next_span, rest, scope, trees_left};
+ghost use Rattle.syn_buffer.specs.Position.{IsPast, Takes, ahead, index, left, next_span, rest, scope};
+ghost use Rattle.syn_buffer.specs.Position.{trees_left, whole};
+ghost use Rattle.syn_buffer.specs.Standing.{trees_of};
 ghost use Rattle.syn_buffer.specs.Leaves.{ident_token, literal_token, punct_token};
 ghost use Rattle.syn_buffer.specs.Seen.{is_visible, seen};
 ghost use Rattle.syn_kinds.specs.Stands.{any_ident_stands, group_stands, literal_stands};
-ghost use Rattle.syn_buffer.specs.Stands.{any_group_stands, end_stands, mark_stands};
+ghost use Rattle.syn_buffer.specs.Stands.{any_group_stands, end_stands, mark_stands, punct_stands};
 ghost use Rattle.syn_buffer.specs.declared.entry.Entry.TheVariants as marks;
 
 use crate::buffer::TokenBuffer;
@@ -26,6 +28,7 @@ use rust_map::span::Span;
 
 // Past the marks of invisible groups.
 #[tactic(auto, using(crate::proofs::Laid::none_passed, crate::proofs::Laid::one_passed, crate::proofs::Laid::seen_first, crate::proofs::Laid::seen_end))]
+#[inline(always)]
 fn settled<'a>(entries: &'a [Entry<'a>]) -> &'a [Entry<'a>]
     requires { IsTrue (is_laid entries.now) }
     ensures same { seen (spanned_entries result.now) ≡ seen (spanned_entries entries.now) }
@@ -48,7 +51,10 @@ impl TokenBuffer<'_> {
     #[tactic(auto, using(crate::proofs::Laid::whole_is_laid))]
     pub fn begin(&self) -> Cursor<'_>
         ensures tokens { rest result ≡ seen (spanned_entries self.now.entries.items) }
-        ensures number { result.number ≡ self.now.number }
+        ensures trees { trees_left result ≡ trees_of self.now.entries.items }
+        ensures list { scope result ≡ whole self.now.number (length self.now.entries.items) }
+        ensures first { index result ≡ 0 }
+        ensures before { result.before ≡ call_site }
     {
         Cursor {
             entries: self.entries.as_slice(),
@@ -65,7 +71,9 @@ impl<'a> Cursor<'a> {
     /// A place of no buffer, at which nothing is left.
     pub fn empty() -> Cursor<'a>
         ensures nothing { rest result ≡ [] }
-        ensures number { result.number ≡ 0 }
+        ensures trees { trees_left result ≡ [] }
+        ensures list { scope result ≡ whole 0 0 }
+        ensures before { result.before ≡ call_site }
     {
         Cursor {
             entries: &[],
@@ -78,11 +86,13 @@ impl<'a> Cursor<'a> {
     }
 
     // The place of the same list where these are left, behind a token with that span.
+    #[inline(always)]
     pub(crate) fn past(self, entries: &'a [Entry<'a>], before: Span) -> Cursor<'a>
         requires laid { IsTrue (is_laid entries.now) }
         requires further { length entries.now ≤ ahead self }
         ensures entries { result.entries.now ≡ entries.now }
         ensures scope { scope result ≡ scope self.entry }
+        ensures before { result.before ≡ before }
     {
         Cursor {
             entries,
@@ -95,6 +105,7 @@ impl<'a> Cursor<'a> {
     }
 
     // The place inside a group, of which these entries are left behind its opening mark.
+    #[inline(always)]
     fn inside(
         self,
         delimiter: Delimiter,
@@ -105,7 +116,9 @@ impl<'a> Cursor<'a> {
         requires laid { IsTrue (is_laid entries.now) }
         requires within { length entries.now ≤ end }
         ensures entries { result.entries.now ≡ entries.now }
-        ensures scope { scope result ≡ record { number = self.entry.number; end = end; closing = last_of span; closer = delimiter } }
+        ensures scope { scope result
+            ≡ record { number = self.entry.number; end = end; closing = last_of span; closer = delimiter } }
+        ensures before { result.before ≡ first_of span }
     {
         Cursor {
             entries,
@@ -118,6 +131,7 @@ impl<'a> Cursor<'a> {
     }
 
     // The group that opens there, of which these entries are left behind its opening mark.
+    #[inline(always)]
     fn group_at(
         self,
         delimiter: Delimiter,
@@ -133,12 +147,13 @@ impl<'a> Cursor<'a> {
     {
         let end = self.end - behind.len() + count;
         let inside = self.inside(delimiter, span, &behind[..count], end);
-        let after = self.past(&behind[count + 1..], span);
+        let after = self.past(&behind[count + 1..], span.last_character());
         Next::Group(delimiter, span, inside, after)
     }
 
     /// What stands at the place, and the place behind it.
     #[tactic(auto, using(crate::proofs::Laid::laid_literal))]
+    #[inline(always)]
     pub fn next(self) -> Next<'a>
         ensures { IsNext self.entry result }
     {
@@ -156,6 +171,7 @@ impl<'a> Cursor<'a> {
     }
 
     /// Whether nothing is left of the list.
+    #[inline]
     pub fn eof(self) -> bool
         ensures { result ≡ end_stands (left self.entry) }
     {
@@ -169,6 +185,7 @@ impl<'a> Cursor<'a> {
     }
 
     /// The identifier or keyword that stands there, and the place behind it.
+    #[inline]
     pub fn ident(self) -> Option<(&'a Ident, Cursor<'a>)>
         ensures some { IfSome result (λ r. Takes self.entry (ident_token r.0.now) r.1) }
         ensures none { IfNone result (any_ident_stands (left self.entry) ≡ false) }
@@ -182,8 +199,9 @@ impl<'a> Cursor<'a> {
         }
     }
 
-    /// The punctuation mark that stands there, and the place behind it.
-    pub fn punct(self) -> Option<(Punct, Cursor<'a>)>
+    /// The mark that stands there, a punctuation or an apostrophe, and the place behind it.
+    #[inline]
+    pub fn mark(self) -> Option<(Punct, Cursor<'a>)>
         ensures some { IfSome result (λ r. Takes self.entry (punct_token r.0) r.1) }
         ensures none { IfNone result (mark_stands (left self.entry) ≡ false) }
     {
@@ -196,7 +214,21 @@ impl<'a> Cursor<'a> {
         }
     }
 
+    /// The punctuation that stands there, and the place behind it. An apostrophe is none: it begins a lifetime.
+    #[inline]
+    pub fn punct(self) -> Option<(Punct, Cursor<'a>)>
+        ensures some { IfSome result (λ r. Takes self.entry (punct_token r.0) r.1) }
+        ensures there { IfSome result (λ _. punct_stands (left self.entry) ≡ true) }
+        ensures none { IfNone result (punct_stands (left self.entry) ≡ false) }
+    {
+        match self.mark() {
+            Some((punct, behind)) if punct.as_char() != '\'' => Some((punct, behind)),
+            _ => None,
+        }
+    }
+
     /// The literal that stands there, and the place behind it.
+    #[inline]
     pub fn literal(self) -> Option<(&'a Literal, Cursor<'a>)>
         ensures some { IfSome result (λ r. Takes self.entry (literal_token r.0.now) r.1) }
         ensures none { IfNone result (literal_stands (left self.entry) ≡ false) }
@@ -213,6 +245,7 @@ impl<'a> Cursor<'a> {
     /// The visible group with that delimiter that stands there: the place where its inside begins, its
     /// spans, and the place behind it. Of an invisible delimiter there is none, since invisible groups are
     /// passed through.
+    #[inline]
     pub fn group(self, delimiter: Delimiter) -> Option<(Cursor<'a>, DelimSpan, Cursor<'a>)>
         ensures some { IfSome result (λ r. Enters self.entry delimiter r.1.join r.0 r.2) }
         ensures spans { IfSome result (λ r. r.1 ≡ delim_span_of r.1.join) }
@@ -232,6 +265,7 @@ impl<'a> Cursor<'a> {
 
     /// The visible group that stands there: the place where its inside begins, its delimiter, its spans, and
     /// the place behind it.
+    #[inline]
     pub fn any_group(self) -> Option<(Cursor<'a>, Delimiter, DelimSpan, Cursor<'a>)>
         ensures some { IfSome result (λ r. Enters self.entry r.1 r.2.join r.0 r.3) }
         ensures spans { IfSome result (λ r. r.2 ≡ delim_span_of r.2.join) }
@@ -250,6 +284,7 @@ impl<'a> Cursor<'a> {
 
     /// Where the next token stands, of a group all of it. At the end of a group's inside it is the group's
     /// closing mark, and at the end of the whole the call site.
+    #[inline]
     pub fn span(self) -> Span
         ensures { result ≡ next_span self.entry.closing (rest self.entry) }
     {
@@ -289,9 +324,11 @@ impl<'a> Cursor<'a> {
         ensures nothing { rest result ≡ [] }
         ensures trees { trees_left result ≡ [] }
         ensures past { IsPast self.entry result }
+        ensures end { ahead result ≡ 0 }
+        ensures before { result.before ≡ last_end self.entry.before self.entry.entries.now }
     {
         let before = match self.entries.last() {
-            Some(last) => last.span(),
+            Some(last) => last.end(),
             None => self.before,
         };
         self.past(&[], before)

@@ -1,7 +1,7 @@
 //! One token of a buffer.
 
 ghost use Rattle.std.specs.Prelude.{◌≡◌};
-ghost use Rattle.syn_buffer.specs.Entries.{entry_span, entry_token};
+ghost use Rattle.syn_buffer.specs.Entries.{entry_end, entry_span, entry_token};
 ghost use Rattle.syn_buffer.specs.Seen.{is_seen, is_visible};
 
 use proc_macro2::delimiter::Delimiter;
@@ -45,6 +45,19 @@ impl Entry<'_> {
         match self {
             Entry::Open(_, span, _) => *span,
             Entry::Close(_, span) => *span,
+            Entry::Ident(ident) => ident.span(),
+            Entry::Punct(punct) => punct.span(),
+            Entry::Literal(literal) => literal.span(),
+        }
+    }
+
+    // Where the token ends: a mark that closes a group is the last character of that.
+    pub(crate) fn end(&self) -> Span
+        ensures { result ≡ entry_end self.now }
+    {
+        match self {
+            Entry::Open(_, span, _) => *span,
+            Entry::Close(_, span) => span.last_character(),
             Entry::Ident(ident) => ident.span(),
             Entry::Punct(punct) => punct.span(),
             Entry::Literal(literal) => literal.span(),

@@ -49,3 +49,10 @@ pub fn places_go_on()
 pub fn past_is_ordered()
     ensures { (a b : Cursor) → IsPast a b → (order a b ≡ Some Less) ⊎ (order a b ≡ Some Equal) }
 {}
+
+/// The places of a group's inside are behind the place where the group stands, and before the one behind the group.
+#[tactic(auto, using(crate::proofs::Past::between))]
+pub fn inside_is_between()
+    ensures { (before inside after x : Cursor) (d : Delimiter) (s : Span) → Enters before d s inside after
+        → IsPast inside x → (order before x ≡ Some Less) × (order x after ≡ Some Less) }
+{}

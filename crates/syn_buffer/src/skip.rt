@@ -1,8 +1,8 @@
 //! Places behind the tree that stands there.
 
-ghost use Rattle.std.specs.Prelude.{◌≡◌, IfNone, IfSome, false, true};
+ghost use Rattle.std.specs.Prelude.{◌≡◌, ◌<◌, IfNone, IfSome, false, true};
 ghost use Rattle.syn_buffer.specs.Behind.{behind_tree};
-ghost use Rattle.syn_buffer.specs.Position.{IsPast, left};
+ghost use Rattle.syn_buffer.specs.Position.{IsPast, ahead, left};
 ghost use Rattle.syn_buffer.specs.Stands.{end_stands};
 
 use crate::next::Next;
@@ -14,6 +14,7 @@ impl<'a> Cursor<'a> {
     pub fn skip(self) -> Option<Cursor<'a>>
         ensures some { IfSome result (λ r. left r ≡ behind_tree (left self.entry)) }
         ensures past { IfSome result (λ r. IsPast self.entry r) }
+        ensures onward { IfSome result (λ r. ahead r < ahead self.entry) }
         ensures there { IfSome result (λ _. end_stands (left self.entry) ≡ false) }
         ensures none { IfNone result (end_stands (left self.entry) ≡ true) }
     {

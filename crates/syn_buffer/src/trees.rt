@@ -2,13 +2,14 @@
 
 ghost use Rattle.std.specs.Prelude.{[], ◌≡◌, IfNone, IfOk, IfSome, IsTrue};
 ghost use Rattle.syn_buffer.specs.Entries.{is_laid};
-ghost use Rattle.syn_buffer.specs.Position.{TakesTree, rest, trees_left};
+ghost use Rattle.syn_buffer.specs.Position.{TakesTree, rest, tree_end, trees_left};
 ghost use Rattle.syn_buffer.specs.Seen.{seen};
 ghost use Rattle.syn_buffer.specs.Standing.{FirstTree, NoTree, trees_of};
 
 use crate::entry::Entry;
 use crate::position::Cursor;
 use proc_macro2::tree::{Group, TokenStream, TokenTree};
+use rust_map::span::Span;
 use std::alloc::{AllocError, Global};
 use try_clone::TryClone;
 
@@ -58,6 +59,18 @@ fn first_tree(
     }
 }
 
+// Where a tree ends: a group at its closing mark.
+fn end_of(tree: &TokenTree) -> Span
+    ensures { result ≡ tree_end tree.now }
+{
+    match tree {
+        TokenTree::Group(group) => group.span().last_character(),
+        TokenTree::Ident(ident) => ident.span(),
+        TokenTree::Punct(punct) => punct.span(),
+        TokenTree::Literal(literal) => literal.span(),
+    }
+}
+
 impl<'a> Cursor<'a> {
     /// The trees that are left of the list, invisible groups among them. At the beginning of a buffer they are
     /// the stream that the buffer was made from. Of an invisible group that has been entered it is what is left
@@ -83,8 +96,8 @@ impl<'a> Cursor<'a> {
     {
         match first_tree(alloc, self.entries)? {
             Some((tree, count)) => {
-                let span = tree.span();
-                Ok(Some((tree, self.past(&self.entries[count..], span))))
+                let end = end_of(&tree);
+                Ok(Some((tree, self.past(&self.entries[count..], end))))
             }
             None => Ok(None),
         }

@@ -32,15 +32,16 @@ impl Parse for Literal {
     }
 }
 
+// An apostrophe is no punctuation: it begins a lifetime.
 impl Parse for Punct {
-    ghost use Rattle.std.specs.Prelude.{◌∷◌, ◌≡◌, false};
+    ghost use Rattle.std.specs.Prelude.{◌∷◌, ◌≡◌, false, true};
     ghost use Rattle.proc_macro2.specs.Token.{plain};
     ghost use Rattle.syn_buffer.specs.Leaves.{punct_token};
-    ghost use Rattle.syn_buffer.specs.Stands.{mark_stands};
+    ghost use Rattle.syn_buffer.specs.Stands.{punct_stands};
 
-    ghost reads = { λ ts x us. ts ≡ punct_token x ∷ us };
+    ghost reads = { λ ts x us. (ts ≡ punct_token x ∷ us) × (punct_stands (plain ts) ≡ true) };
 
-    ghost refuses = { λ ts. mark_stands (plain ts) ≡ false };
+    ghost refuses = { λ ts. punct_stands (plain ts) ≡ false };
 
     fn parse(input: &mut ParseBuffer<'_>) -> Result<Punct, ParseFault> {
         match input.cursor.punct() {

@@ -22,7 +22,7 @@ fn one_mark<'a>(cursor: Cursor<'a>, c: char) -> Option<([Span; 1], Cursor<'a>)>
     ensures there { IfSome result (λ r. marks_stand (c ∷ []) (left cursor.entry) ≡ true) }
     ensures none { IfNone result (marks_stand (c ∷ []) (left cursor.entry) ≡ false) }
 {
-    match cursor.punct() {
+    match cursor.mark() {
         Some((punct, behind)) if punct.as_char() == c => Some(([punct.span()], behind)),
         _ => None,
     }
@@ -34,7 +34,7 @@ fn joint_mark<'a>(cursor: Cursor<'a>, c: char) -> Option<(Span, Cursor<'a>)>
     ensures there { IfSome result (λ r. (d : ℕ) (ds : List ℕ) → marks_stand (c ∷ d ∷ ds) (left cursor.entry) ≡ marks_stand (d ∷ ds) (left r.1)) }
     ensures none { IfNone result ((d : ℕ) (ds : List ℕ) → marks_stand (c ∷ d ∷ ds) (left cursor.entry) ≡ false) }
 {
-    match cursor.punct() {
+    match cursor.mark() {
         Some((punct, behind)) if punct.as_char() == c && punct.spacing() == Spacing::Joint => {
             Some((punct.span(), behind))
         }

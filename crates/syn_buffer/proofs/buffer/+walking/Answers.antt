@@ -15,20 +15,26 @@ put_trees-put_tree-requires t c =
     let x : TokenTree = c.tree-item.result in
     let part = part_length c.args.trees.now c.loop-tree.tree-index x c.loop-tree-test.true in
     let same = ap (λ (u : TokenTree). length (tree_tokens u)) c.tree-item.is in
-    let unsigned = part_unsigned c.args.trees.now c.loop-tree.tree-index x c.loop-tree-test.true c.requires in
-    (omega (arith, part, same, c.decreases), ap (λ (u : TokenTree). are_unsigned (tree_tokens u)) c.tree-item.is ∙ unsigned)
+    let unsigned = part_unsigned c.args.trees.now c.loop-tree.tree-index x c.loop-tree-test.true c.requires in (
+      omega (arith, part, same, c.decreases),
+      ap (λ (u : TokenTree). are_unsigned (tree_tokens u)) c.tree-item.is
+          ∙ unsigned,
+    )
 
 pub put_trees-loop-tree-preserved : goal.put_trees-loop-tree-preserved
 put_trees-loop-tree-preserved t c =
-    put_next c.args.entries.now.items c.loop-tree.entries.items c.put_tree.new.entries.items c.args.trees.now c.loop-tree.tree-index c.tree-item.result
+    put_next c.args.entries.now.items c.loop-tree.entries.items c.put_tree.new.entries.items c.args.trees.now
+    c.loop-tree.tree-index c.tree-item.result
     c.loop-tree-test.true c.tree-item.is c.loop-tree.invariant c.in_ok-put_tree.ensures
 
 pub put_group-put_trees-requires : goal.put_group-put_trees-requires
 put_group-put_trees-requires t c =
     let close : List Spanned = spanned (Closes c.args.group.now.delimiter) c.args.group.now.span ∷ [] in
-    let inside : length (trees_tokens c.trees.result.now) ≡ length c.args.group.now.stream = ap (λ (x : List Spanned). length x) (c.trees.ensures.trees ∙ c.stream_ref.ensures.stream) in
+    let inside : length (trees_tokens c.trees.result.now) ≡ length c.args.group.now.stream =
+    ap (λ (x : List Spanned). length x) (c.trees.ensures.trees ∙ c.stream_ref.ensures.stream) in
     let long = length-append c.args.group.now.stream close in
-    let tokens : trees_tokens c.trees.result.now ≡ c.args.group.now.stream = c.trees.ensures.trees ∙ c.stream_ref.ensures.stream in
+    let tokens : trees_tokens c.trees.result.now ≡ c.args.group.now.stream =
+    c.trees.ensures.trees ∙ c.stream_ref.ensures.stream in
     (omega (arith, inside, long, c.decreases), ap are_unsigned tokens ∙ inside_unsigned c.args.group.now c.requires)
 
 pub put_group-returns : goal.put_group-returns
@@ -39,6 +45,8 @@ put_group-returns t c =
     let opened : List Entry = c.push.new.self.items in
     let filled : List Entry = c.put_trees.new.entries.items in
     let P : List Spanned → Type 0 = λ ts. Puts opened filled ts in
-    let inside : Puts opened filled c.args.group.now.stream = subst P (c.trees.ensures.trees ∙ c.stream_ref.ensures.stream) c.in_ok-put_trees.ensures in
+    let inside : Puts opened filled c.args.group.now.stream =
+    subst P (c.trees.ensures.trees ∙ c.stream_ref.ensures.stream) c.in_ok-put_trees.ensures in
     let marked : opened ≡ before ++ marks.Open d s 0 ∷ [] = cc (c.in_ok-push.ensures.items) in
-    put_group d s before opened filled c.close.new.entries.items c.args.group.now.stream marked inside (cc (c.in_ok-close.ensures))
+    put_group d s before opened filled c.close.new.entries.items c.args.group.now.stream marked inside
+    (cc (c.in_ok-close.ensures))

@@ -15,4 +15,5 @@ decreases-put_group l = 3 * length (group_tokens l.group.now)
 
 -- the trees so far have been put
 abbrev pub invariant-put_trees-loop-tree : goal.invariant-put_trees-loop-tree
-invariant-put_trees-loop-tree l = Puts l.initial.entries.items l.entries.items (trees_tokens (take l.tree-index l.trees))
+invariant-put_trees-loop-tree l =
+    Puts l.initial.entries.items l.entries.items (trees_tokens (take l.tree-index l.trees))

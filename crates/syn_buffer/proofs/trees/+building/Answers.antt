@@ -14,9 +14,12 @@ pub first_tree-stream_of-requires : goal.first_tree-stream_of-requires
 first_tree-stream_of-requires t c =
     let es : List Entry = c.in-Some.behind.now in
     let n = c.in-Open.count in
-    let stands : c.args.entries.now ≡ entry.Open c.in-Open.delimiter c.in-Open.span n ∷ es = cc (c.in-Some.ensures.cases.0, c.in-Open.is) in
-    let o = opened c.in-Open.delimiter c.in-Open.span n es (sym (ap is_laid stands) ∙ c.requires) in
-    (omega (arith, length-take n es, o.within, c.in-Some.ensures.cases.1, c.decreases), whole_is_laid (take n es) o.inside)
+    let stands : c.args.entries.now ≡ entry.Open c.in-Open.delimiter c.in-Open.span n ∷ es =
+    cc (c.in-Some.ensures.cases.0, c.in-Open.is) in
+    let o = opened c.in-Open.delimiter c.in-Open.span n es (sym (ap is_laid stands) ∙ c.requires) in (
+      omega (arith, length-take n es, o.within, c.in-Some.ensures.cases.1, c.decreases),
+      whole_is_laid (take n es) o.inside,
+    )
 
 pub first_tree-returns-in_ok-stream_of-in-Open-clause-some : goal.first_tree-returns-in_ok-stream_of-in-Open-clause-some
 first_tree-returns-in_ok-stream_of-in-Open-clause-some t c =
@@ -32,11 +35,13 @@ first_tree-returns-in_ok-stream_of-in-Open-clause-some t c =
     (ap (λ (x : Group). x.span) c.set_span.ensures)
     (ap (λ (x : Group). x.stream) c.set_span.ensures ∙ c.new-group.ensures.stream ∙ c.in_ok-stream_of-in-Open.ensures))
 
-pub first_tree-returns-in_ok-try_clone-in-Literal-clause-some : goal.first_tree-returns-in_ok-try_clone-in-Literal-clause-some
+pub first_tree-returns-in_ok-try_clone-in-Literal-clause-some
+    : goal.first_tree-returns-in_ok-try_clone-in-Literal-clause-some
 first_tree-returns-in_ok-try_clone-in-Literal-clause-some t c =
     let es : List Entry = c.in-Some.behind.now in
     let x = c.in_ok-try_clone-in-Literal.field-0 in
-    let stands : c.args.entries.now ≡ entry.Literal c.in-Literal.literal ∷ es = cc (c.in-Some.ensures.cases.0, c.in-Literal.is) in
+    let stands : c.args.entries.now ≡ entry.Literal c.in-Literal.literal ∷ es =
+    cc (c.in-Some.ensures.cases.0, c.in-Literal.is) in
     let P : List Entry → Type 0 = λ xs. FirstTree xs (tree.Literal x) 1 in
     let copy = c.in_ok-try_clone-in-Literal.ensures.copy in
     subst P (sym stands) (first_literal c.in-Literal.literal es x (sym (ap is_laid stands) ∙ c.requires)
