@@ -20,9 +20,9 @@ use Rattle.syn_grammar.specs.Kind.{NamedField, NamedFields, NeverType, OuterAttr
 use Rattle.syn_grammar.specs.Kind.{Parameters, ParenthesizedArguments, Path, PathPattern, Pattern, PointerType}
 use Rattle.syn_grammar.specs.Kind.{QualifiedPath, RangeBound, RangeEnd, RangeToPattern, Receiver, ReferenceType}
 use Rattle.syn_grammar.specs.Kind.{RestPattern, ReturnType, Segments, SeveralPatterns, Signature, SlicePattern}
-use Rattle.syn_grammar.specs.Kind.{SomeBounds, TraitPath, TuplePattern, TupleType, TypeParam, UnnamedFields}
-use Rattle.syn_grammar.specs.Kind.{UseBranch, UseRooted, UseTop, UseTree, Variant, Visibility, Where, WhereClause}
-use Rattle.syn_grammar.specs.Kind.{WildPattern, WithPlus, WithoutPlus}
+use Rattle.syn_grammar.specs.Kind.{SomeBounds, TraitPath, TuplePattern, TupleType, TypeParam, UnnamedField}
+use Rattle.syn_grammar.specs.Kind.{UnnamedFields, UseBranch, UseRooted, UseTop, UseTree, Variant, Visibility}
+use Rattle.syn_grammar.specs.Kind.{Where, WhereClause, WildPattern, WithPlus, WithoutPlus}
 use Rattle.syn_grammar.specs.Kept.{held}
 use Rattle.syn_grammar.specs.Normal.{passed, place_of}
 use Rattle.syn_grammar.specs.Table.{table}
@@ -33,7 +33,7 @@ use Rattle.grammar_back.proofs.KindLaws.{law_arguments, law_an_argument, law_mem
 use Rattle.grammar_back.proofs.KindLaws.{law_dyn_alone, law_impl, law_impl_alone, law_some_bounds, law_pattern}
 use Rattle.grammar_back.proofs.KindLaws.{law_several, law_outer, law_inner, law_meta, law_generics}
 use Rattle.grammar_back.proofs.KindLaws.{law_generic_params, law_lifetime_colon, law_bounds_colon, law_where}
-use Rattle.grammar_back.proofs.KindLaws.{law_variant, law_const, law_trait_type, law_impl_type}
+use Rattle.grammar_back.proofs.KindLaws.{law_unnamed_field, law_variant, law_const, law_trait_type, law_impl_type}
 use Rattle.grammar_back.proofs.Elements.{law_field_patterns, law_parameters, law_fn_arg, law_field_values}
 use Rattle.grammar_back.proofs.Defaults.{law_const_param}
 use Rattle.grammar_back.proofs.StepsOfPaths.{step_path_in_module, step_path_in_expression, step_path_in_type}
@@ -77,6 +77,7 @@ use Rattle.grammar_back.proofs.StepsOfItems.{step_a_function_in_impl, step_a_typ
 use Rattle.grammar_back.proofs.StepsOfItems.{step_a_type_alias_in_impl, step_item_macro_in_file}
 use Rattle.grammar_back.proofs.StepsOfItems.{step_item_macro_in_foreign, step_item_macro_in_trait}
 use Rattle.grammar_back.proofs.StepsOfItems.{step_item_macro_in_impl, step_label}
+use Rattle.grammar_back.proofs.Fields.{step_unnamed_field}
 use Rattle.grammar_back.proofs.StepsOfExpressions.{step_expr_lit, step_expr_path, step_expr_macro}
 use Rattle.grammar_back.proofs.StepsOfExpressions.{step_expr_paren, step_expr_array, step_expr_repeat}
 use Rattle.grammar_back.proofs.StepsOfExpressions.{step_expr_group, step_expr_infer, step_expr_block}
@@ -173,6 +174,7 @@ steps Visibility e = step_visibility
 steps NamedFields e = step_named_fields
 steps UnnamedFields e = step_unnamed_fields
 steps NamedField e = step_named_field
+steps UnnamedField e = step_unnamed_field
 steps Variant e = step_variant
 steps AStruct e = step_a_struct
 steps AnEnum e = step_an_enum
@@ -350,6 +352,7 @@ laws Visibility e = simple_kind Visibility refl (λ x. tt) (λ x. refl) (λ x. r
 laws NamedFields e = simple_kind NamedFields refl (λ x. tt) (λ x. refl) (λ x. refl) (λ q. refl) (λ q. refl) refl
 laws UnnamedFields e = simple_kind UnnamedFields refl (λ x. tt) (λ x. refl) (λ x. refl) (λ q. refl) (λ q. refl) refl
 laws NamedField e = simple_kind NamedField refl (λ x. tt) (λ x. refl) (λ x. refl) (λ q. refl) (λ q. refl) refl
+laws UnnamedField e = law_unnamed_field
 laws Variant e = law_variant
 laws AStruct e = simple_kind AStruct refl (λ x. tt) (λ x. refl) (λ x. refl) (λ q. refl) (λ q. refl) refl
 laws AnEnum e = simple_kind AnEnum refl (λ x. tt) (λ x. refl) (λ x. refl) (λ q. refl) (λ q. refl) refl

@@ -6,7 +6,8 @@ use Rattle.std.proofs.Common.{◌≡◌, List, [], ◌∷◌, ◌++◌, refl, sy
 use Rattle.std.specs.Prelude.{Bool, true, false}
 use Rattle.proc_macro2.specs.Token.{Token, Opens, Closes, Punct}
 use Rattle.rust_leaf.specs.declared.punct.Spacing.TheVariants.{Alone as Apart}
-use Rattle.syn_grammar.specs.Kind.{Kind, Position, DynType, ImplType, WithoutPlus, AConst, Meta, Expression}
+use Rattle.syn_grammar.specs.Kind.{Kind, Position, DynType, ImplType, WithoutPlus, AConst, UnnamedField, Meta}
+use Rattle.syn_grammar.specs.Kind.{Expression}
 use Rattle.syn_grammar.specs.Kind.{ExprAttributed}
 use Rattle.syn_grammar.specs.Tree.{Tree, AWord, ALiteral, AMark, ALifetime, Raw, Nil, Pair, First, Second, End}
 use Rattle.syn_grammar.specs.Tree.{Again, Final, More, Group, Dropped, Called, Node, Whole, Alone, Front, Back}
@@ -18,7 +19,7 @@ use Rattle.syn_grammar.specs.Types.{is_path_bound}
 use Rattle.syn_grammar.specs.Table.{table}
 use Rattle.syn_grammar.specs.Kept.{forget, dotted, kept}
 use Rattle.syn_grammar.specs.Normal.{stands_behind, formed}
-use Rattle.grammar_back.specs.Covered.{has_lone_value, is_known}
+use Rattle.grammar_back.specs.Covered.{has_clear_type, has_lone_value, is_known}
 
 -- the test can say so
 abbrev pub CanSay : (List Token → Bool) → Bool → Type 0
@@ -49,6 +50,7 @@ has_bare_value _ = true
 abbrev pub IsMeant : Kind → Tree → Type 0
 IsMeant (DynType WithoutPlus) x = has_path_bound x ≡ true
 IsMeant (ImplType WithoutPlus) x = has_path_bound x ≡ true
+IsMeant UnnamedField x = has_clear_type x ≡ true
 IsMeant AConst x = has_lone_value x ≡ true
 IsMeant Meta x = has_bare_value x ≡ true
 IsMeant _ x = Unit {0}

@@ -1,6 +1,6 @@
 -- What is known of the kinds whose entries have turns, whose parts are tidied, or that hold another tree than was read.
 use Rattle.std.proofs.Common.{◌≡◌, [], refl, sym, subst, List, ap, ◌∙◌, ◌++◌}
-use Rattle.std.specs.Prelude.{Bool, true, false, not, cond}
+use Rattle.std.specs.Prelude.{Bool, true, false, not, cond, ◌&&◌}
 use Rattle.proc_macro2.specs.Token.{Token}
 use Rattle.syn_grammar.specs.Kind.{Kind, Plain, OuterAttributes, OuterAttribute, InnerAttributes, InnerAttribute}
 use Rattle.syn_grammar.specs.Kind.{Pattern, SeveralPatterns, Generics, GenericParams, GenericParam, Where}
@@ -8,9 +8,9 @@ use Rattle.syn_grammar.specs.Kind.{WhereClause, BoundsColon, Bounds, LifetimeCol
 use Rattle.syn_grammar.specs.Kind.{AnArgument}
 use Rattle.syn_grammar.specs.Kind.{ATypeAlias, InTrait, InImpl, Meta, Variant, Visibility, Body}
 use Rattle.syn_grammar.specs.Kind.{Position, SomeBounds, DynType, ImplType, WithPlus, WithoutPlus}
-use Rattle.syn_grammar.specs.Kind.{Member, Index, Expression, AConst}
+use Rattle.syn_grammar.specs.Kind.{Member, Index, Expression, AConst, AType, UnnamedField}
 use Rattle.syn_grammar.specs.Name.{Part, same_part, the_clause, the_bounds, the_arguments, the_value}
-use Rattle.syn_grammar.specs.Tree.{Tree, Called, AWord, Nil, Pair, First, Second, Node, Whole, flat}
+use Rattle.syn_grammar.specs.Tree.{Tree, Called, AWord, Nil, Pair, First, Second, Node, Whole, Back, flat}
 use Rattle.syn_grammar.specs.Gram.{Gram, seq, called, ref}
 use Rattle.syn_grammar.specs.Look.{sees}
 use Rattle.syn_grammar.specs.Say.{at, marks, sign}
@@ -18,12 +18,12 @@ use Rattle.syn_grammar.specs.Generics.{angled_params}
 use Rattle.syn_grammar.specs.Items.{type_end}
 use Rattle.syn_grammar.specs.Table.{table}
 use Rattle.syn_grammar.specs.Derives.{Derives}
-use Rattle.syn_grammar.specs.Kept.{listed_bound, unsafe_path, constant_argument, is_there, held, kept}
+use Rattle.syn_grammar.specs.Kept.{forget, listed_bound, unsafe_path, constant_argument, is_there, held, kept}
 use Rattle.syn_grammar.specs.Tidy.{is_bare_generics, is_bare_where, is_bare_colon, is_lifetime_param}
-use Rattle.syn_grammar.specs.Tidy.{is_lifetime_argument, lifetimes_first, moved}
+use Rattle.syn_grammar.specs.Tidy.{is_lifetime_argument, lifetimes_first, moved, tidy}
 use Rattle.syn_grammar.specs.Parens.{may_lack}
 use Rattle.syn_grammar.specs.Normal.{passed, stands_behind, place_of, private, normal_in}
-use Rattle.grammar_back.specs.Covered.{has_step, has_lone_value, is_taken}
+use Rattle.grammar_back.specs.Covered.{has_clear_type, has_step, has_lone_value, inner, is_taken}
 use Rattle.grammar_back.proofs.Parts.{none_never}
 use Rattle.grammar_back.proofs.Fits.{Fits, has_bare_value}
 use Rattle.grammar_back.proofs.Bare.{bare_kept, bare_formed, bare_read}
@@ -452,4 +452,71 @@ law_const = record { entry = λ q l. simple_law Plain (table AConst) refl; node 
           tree = Node AConst i.tree;
           fits = (refl, refl, refl, i.fits, b);
           kept_is = ap (Node AConst) i.kept_is;
+        }
+
+-- Of an unnamed field, whose type doesn't follow pub in parentheses.
+chosen_fits : (w : Tree) (g : Gram) → Fits w g → is_there (kept w) ≡ is_there w
+chosen_fits (Back l k y) _ f = absurd f
+chosen_fits _ _ f = refl
+
+chosen_read : (x : Tree) (g : Gram) (r : List Token) → Derives x g r → is_there (kept x) ≡ is_there x
+chosen_read (Back l k y) _ r d = absurd d
+chosen_read _ _ r d = refl
+
+-- a kind of which nothing is forgotten or tidied
+module _ (l : Kind) (as_read : (y : Tree) → forget l y ≡ y) (as_held : (y : Tree) → tidy (held l) y ≡ y) where
+  inner_fits : (w : Tree) → Fits w (ref l) → is_there (inner (kept w)) ≡ is_there (inner w)
+  inner_fits (Node k x) f =
+      ap (λ j. is_there (forget j (kept x))) f.0 ∙ ap is_there (as_read (kept x)) ∙ chosen_fits x (table k) f.3
+  inner_fits _ f = absurd f
+
+  inner_read : (q : Position) (x : Tree) (r : List Token) → Derives x (ref l) r
+      → is_there (inner (normal_in q (kept x))) ≡ is_there (inner x)
+  inner_read q (Node k x) r d =
+      ap (λ j. is_there (tidy (held j) (normal_in (passed (held j) q) (forget j (kept x))))) d.0
+      ∙ ap is_there (as_held (normal_in (passed (held l) q) (forget l (kept x))))
+      ∙ there_normal (passed (held l) q) (forget l (kept x)) ∙ ap is_there (as_read (kept x))
+      ∙ chosen_read x (table k) r d.1
+  inner_read q _ r d = absurd d
+
+both_not : (a b c d : Bool) → a ≡ c → b ≡ d → not (a && b) ≡ not (c && d)
+both_not a b c d e f = ap (λ x. not (x && b)) e ∙ ap (λ x. not (c && x)) f
+
+clear_fits : (w : Tree) → Fits w (table UnnamedField) → has_clear_type (kept w) ≡ has_clear_type w
+unfolding table held
+clear_fits (Pair o (Pair v (Pair t e))) f =
+    both_not (is_there (inner (kept v))) (is_there (inner (kept t))) (is_there (inner v)) (is_there (inner t))
+    (inner_fits Visibility (λ y. refl) (λ y. refl) v f.1.0)
+    (inner_fits (AType WithPlus) (λ y. refl) (λ y. refl) t f.1.1.0)
+clear_fits (Pair o (Pair v _)) f = absurd f.1.1
+clear_fits (Pair o _) f = absurd f.1
+clear_fits _ f = absurd f
+
+clear_read : (x : Tree) (r : List Token) → Derives x (table UnnamedField) r
+    → has_clear_type (normal_in Plain (kept x)) ≡ has_clear_type x
+unfolding table held
+clear_read (Pair o (Pair v (Pair t e))) r d =
+    both_not (is_there (inner (normal_in Plain (kept v)))) (is_there (inner (normal_in Plain (kept t))))
+    (is_there (inner v)) (is_there (inner t))
+    (inner_read Visibility (λ y. refl) (λ y. refl) Plain v (flat (Pair t e) ++ r) d.1.0)
+    (inner_read (AType WithPlus) (λ y. refl) (λ y. refl) Plain t (flat e ++ r) d.1.1.0)
+clear_read (Pair o (Pair v _)) r d = absurd d.1.1
+clear_read (Pair o _) r d = absurd d.1
+clear_read _ r d = absurd d
+
+pub law_unnamed_field : KindLaw UnnamedField
+unfolding has_step held passed place_of table
+law_unnamed_field = record { entry = λ q l. simple_law Plain (table UnnamedField) refl; node = go }
+  where
+    go : (q : Position) → IsPlaced q UnnamedField → (x : Tree) (r : List Token) → has_clear_type x ≡ true
+        → Derives x (table UnnamedField) r
+        → Printed (table UnnamedField) (normal_in (passed UnnamedField q) (kept x))
+        → Printed (ref UnnamedField) (normal_in q (Node (held UnnamedField) (kept x)))
+    go q l x r m d i =
+        let b : has_clear_type i.tree ≡ true =
+        sym (clear_fits i.tree i.fits) ∙ ap has_clear_type i.kept_is ∙ clear_read x r d ∙ m in
+        record {
+          tree = Node UnnamedField i.tree;
+          fits = (refl, refl, refl, i.fits, b);
+          kept_is = ap (Node UnnamedField) i.kept_is;
         }

@@ -13,7 +13,7 @@ use Rattle.syn_grammar.specs.Gram.{Gram, Verdict, word, literal, lifetime, mark,
 use Rattle.syn_grammar.specs.Gram.{many, group, judged, dropped, called, ref}
 use Rattle.syn_grammar.specs.Look.{Look, seen, sees, lacks, no, past_marks, the_mark, the_end}
 use Rattle.syn_grammar.specs.Derives.{Derives}
-use Rattle.grammar_back.proofs.Fits.{Fits, CanSay}
+use Rattle.grammar_back.proofs.Fits.{Fits, CanSay, IsMeant}
 use Rattle.grammar_back.specs.After.{behind, After}
 use Rattle.grammar_back.proofs.Starts.{starts}
 use Rattle.grammar_back.proofs.Afters.{is_by_tokens, by_tokens, suffices}
@@ -69,16 +69,16 @@ pub as_maybe : {g : Gram} {ls : List Look} {cs : List Class} → Found g ls cs �
 as_maybe {g} {ls} {cs} f =
     record { fine = fine_weaker (Without ls) (AtOrNone cs) f.fine (λ x s a. a) (λ x s i a. inr i) }
 
-at_front : (cs : List Class) (x y : Tree) (s : List Token) → IsAmong cs (flat x ++ (flat y ++ s))
+pub at_front : (cs : List Class) (x y : Tree) (s : List Token) → IsAmong cs (flat x ++ (flat y ++ s))
     → IsAmong cs ((flat x ++ flat y) ++ s)
 at_front cs x y s i = subst (IsAmong cs) (sym (append_assoc (flat x) (flat y) s)) i
 
-at_back : (cs : List Class) (x y : Tree) (s : List Token) → flat x ≡ [] → IsAmong cs (flat y ++ s)
+pub at_back : (cs : List Class) (x y : Tree) (s : List Token) → flat x ≡ [] → IsAmong cs (flat y ++ s)
     → IsAmong cs ((flat x ++ flat y) ++ s)
 at_back cs x y s e i = subst (λ xs. IsAmong cs ((xs ++ flat y) ++ s)) (sym e) i
 
 -- behind none stands what follows
-past_none : (ls : List Look) (ds : List Class) (y : Tree) (s : List Token) → Unseen ls ds
+pub past_none : (ls : List Look) (ds : List Class) (y : Tree) (s : List Token) → Unseen ls ds
     → (flat y ≡ []) ⊎ IsAmong ds (flat y ++ s) → LacksAll ls s → LacksAll ls (flat y ++ s)
 past_none ls ds y s h i a =
     ⊎_elim (λ e. subst (λ ys. LacksAll ls (ys ++ s)) (sym e) a) (λ j. unseen_all ls ds (flat y ++ s) h j) i
@@ -287,6 +287,13 @@ pub maybe_step : (k : Kind) → skips k ≡ true → is_by_tokens k ≡ true →
 maybe_step k e b f =
     fine_step k (fine_weaker (After k) (Begins k) f.fine (λ x s a. by_tokens k x s b a)
     (λ x s i a. maybe_begins (skips k) (starts k) x s e i))
+
+-- a kind's own, where more is known of its tree
+pub meant_step : (k : Kind) → skips k ≡ false → is_by_tokens k ≡ true
+    → Fine (table k) (λ x s. LacksAll (behind k) s × IsMeant k x) (At (starts k)) → Step k
+meant_step k e b f x s d n w a =
+    let (t, i) = f.by x s d w (by_tokens k x s b a, n) in
+    (t, found_begins (skips k) (starts k) x s e i)
 
 -- a punctuation, and what stands behind it
 pub found_then : {c : ℕ} {cs : List ℕ} {b : Gram} {ms : List Look} {ds : List Class} → Found b ms ds

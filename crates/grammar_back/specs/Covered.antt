@@ -20,9 +20,9 @@ use Rattle.syn_grammar.specs.Kind.{NamedField, NamedFields, NeverType, OuterAttr
 use Rattle.syn_grammar.specs.Kind.{Parameters, ParenthesizedArguments, Path, PathPattern, Pattern, PointerType}
 use Rattle.syn_grammar.specs.Kind.{QualifiedPath, RangeBound, RangeEnd, RangeToPattern, Receiver, ReferenceType}
 use Rattle.syn_grammar.specs.Kind.{RestPattern, ReturnType, Segments, SeveralPatterns, Signature, SlicePattern}
-use Rattle.syn_grammar.specs.Kind.{SomeBounds, TraitPath, TuplePattern, TupleType, TypeParam, UnnamedFields}
-use Rattle.syn_grammar.specs.Kind.{UseBranch, UseRooted, UseTop, UseTree, Variant, Visibility, Where, WhereClause}
-use Rattle.syn_grammar.specs.Kind.{WildPattern, WithPlus, WithoutPlus}
+use Rattle.syn_grammar.specs.Kind.{SomeBounds, TraitPath, TuplePattern, TupleType, TypeParam, UnnamedField}
+use Rattle.syn_grammar.specs.Kind.{UnnamedFields, UseBranch, UseRooted, UseTop, UseTree, Variant, Visibility}
+use Rattle.syn_grammar.specs.Kind.{Where, WhereClause, WildPattern, WithPlus, WithoutPlus}
 use Rattle.syn_grammar.specs.Tree.{Tree, Pair, First, Second, Again, Final, More, Group, Dropped, Called, Verbatim}
 use Rattle.syn_grammar.specs.Tree.{Node, Whole, Alone, Front, Back, Infix}
 use Rattle.syn_grammar.specs.Kept.{is_there}
@@ -105,6 +105,7 @@ has_step Visibility = true
 has_step NamedFields = true
 has_step UnnamedFields = true
 has_step NamedField = true
+has_step UnnamedField = true
 has_step Variant = true
 has_step AStruct = true
 has_step AnEnum = true
@@ -203,9 +204,28 @@ has_lone_value (Pair c (Pair n (Pair g (Pair s (Pair t (Pair (First v) (Pair (Ca
     not (is_there w)
 has_lone_value _ = true
 
+-- What stands in parentheses behind pub may be its restriction: an unnamed field is pub, or its type stands in
+-- parentheses.
+abbrev pub inner : Tree → Tree
+inner (Node k x) = x
+inner x = x
+
+abbrev pub front : Tree → Tree
+front (Pair x y) = x
+front x = x
+
+abbrev pub is_clear : Tree → Bool
+is_clear (Pair v y) = not (is_there (inner v) && is_there (inner (front y)))
+is_clear _ = true
+
+abbrev pub has_clear_type : Tree → Bool
+has_clear_type (Pair o y) = is_clear y
+has_clear_type _ = true
+
 -- what is asked of a kind's tree
 abbrev pub is_taken : Kind → Tree → Bool
 is_taken AConst x = has_lone_value x
+is_taken UnnamedField x = has_clear_type x
 is_taken k x = true
 
 abbrev pub is_covered : Tree → Bool

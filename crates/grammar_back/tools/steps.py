@@ -711,7 +711,7 @@ After k x s = LacksAll (behind k) s
     lines='unfoldable pub has_step : Kind → Bool\n'+''.join(f'has_step {clause(k)} = true\n' for k in covered)+'has_step k = false\n\n'
     text=text[:i]+lines+text[j:]
     names=sorted({w for k in covered for w in k})
-    text=re.sub(r'(use Rattle.syn_grammar.specs.Kind.{[^}]*}\n)+',lambda m: 'use Rattle.syn_grammar.specs.Kind.{'+', '.join(['Kind','Expression']+names)+'}\n',text,count=1)
+    text=re.sub(r'(use Rattle.syn_grammar.specs.Kind.{[^}]*}\n)+',lambda m: 'use Rattle.syn_grammar.specs.Kind.{'+', '.join(['Kind','Expression']+sorted(set(names)|{'UnnamedField'}))+'}\n',text,count=1)
     open(f'{CRATE}/specs/Covered.antt','w').write(wrapped(text))
     by={}
     for k in covered: by.setdefault(stepof[k][1],[]).append(stepof[k][0])
