@@ -39,8 +39,8 @@ pub fn is_copied(alloc: Global, source: &str, wanted: &str) -> Result<bool> {
     Ok(printed.as_str() == wanted && last.as_str() == wanted)
 }
 
-/// Whether the trees that a stream is taken apart into are printed as the wanted text, one space apart, and the copies of
-/// the insides of groups as the groups.
+/// Whether the trees that a stream is taken apart into are printed as the wanted text, one space apart, and the copies
+/// of the insides of groups as the groups.
 pub fn is_printed(alloc: Global, source: &str, wanted: &str) -> Result<bool> {
     let mut map = SourceMap::new(alloc);
     let mut out = String::new(alloc);

@@ -17,8 +17,8 @@ fn repeated(alloc: Global, part: &str) -> Result<String> {
     Ok(text)
 }
 
-/// Whether a literal of 2,000 times three characters has the value that was put in: as text, as bytes, and as a C string
-/// with its zero; and a copy the same text.
+/// Whether a literal of 2,000 times three characters has the value that was put in: as text, as bytes, and as a C
+/// string with its zero; and a copy the same text.
 pub fn are_read_back(alloc: Global) -> Result<bool> {
     let text = repeated(alloc, "s\u{e9}\n")?;
     let (string, bytes) = (text.as_str(), text.as_bytes());

@@ -6,10 +6,12 @@ use Rattle.proc_macro2.specs.Groups.{same_delimiter}
 use Rattle.proc_macro2.specs.Token.{Token, Opens, Closes, Ident, Literal, Punct}
 use Rattle.rust_leaf.specs.declared.punct.Spacing.TheVariants.{Joint, Alone as Apart}
 use Rattle.syn_grammar.specs.Tree.{Tree, Nil, Pair, First, Second, Dropped, Called, Whole}
-use Rattle.syn_grammar.specs.Gram.{Gram, word, literal, mark, lifetime, raw, nothing, never, seq, alt, star, many, group, judged, dropped, called, ref, operand, is_balanced}
+use Rattle.syn_grammar.specs.Gram.{Gram, word, literal, mark, lifetime, raw, nothing, never, seq, alt, star, many}
+use Rattle.syn_grammar.specs.Gram.{group, judged, dropped, called, ref, operand, is_balanced}
 use Rattle.syn_grammar.specs.Kept.{kept}
 use Rattle.syn_grammar.specs.Keeps.{keeps, mark_kept, checked, opened, ended, in_group}
-use Rattle.syn_grammar.specs.Run.{Out, Late, Refused, Got, ◌>>=◌, wrap, word_at, literal_at, mark_at, lifetime_at, raw_at, Split, Unclosed, Inside, split, whole, within, group_at, interp, reads}
+use Rattle.syn_grammar.specs.Run.{Out, Late, Refused, Got, ◌>>=◌, wrap, word_at, literal_at, mark_at, lifetime_at}
+use Rattle.syn_grammar.specs.Run.{raw_at, Split, Unclosed, Inside, split, whole, within, group_at, interp, reads}
 
 -- what is kept of a choice, of a sequence, of each leaf, of a group
 kept_cond : (b : Bool) (o p : Out) → wrap kept (cond b o p) ≡ cond b (wrap kept o) (wrap kept p)

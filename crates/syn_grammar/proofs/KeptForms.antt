@@ -2,13 +2,22 @@
 use Rattle.std.proofs.Common.{◌≡◌, ℕ, List, [], ◌∷◌, refl, ap, ◌∙◌}
 use Rattle.std.specs.Prelude.{Bool, true, false, ◌&&◌, cond, nat_eq}
 use Rattle.rust_leaf.specs.declared.punct.Spacing.TheVariants.{Alone as Apart}
-use Rattle.syn_grammar.specs.Kind.{Kind, Path, Segments, Segment, QualifiedPath, AnyPath, AType, DynType, ImplType, ReturnType, Expression, Signature, Parameter, AStatement, Meta, Member, Index, Arm, AnArgument, ConstParam, Body, OuterAttributes, ExprField, ExprMethodCall, ExprAwait, ExprCast, ExprAttributed}
-use Rattle.syn_grammar.specs.Name.{Part, same_part, the_unnamed, the_attributes, the_expression, the_indices, the_value, the_comma}
+use Rattle.syn_grammar.specs.Kind.{Kind, Path, Segments, Segment, QualifiedPath, AnyPath, AType, DynType, ImplType}
+use Rattle.syn_grammar.specs.Kind.{ReturnType, Expression, Signature, Parameter, AStatement, Meta, Member, Index, Arm}
+use Rattle.syn_grammar.specs.Kind.{AnArgument, ConstParam, Body, OuterAttributes, ExprField, ExprMethodCall, ExprAwait}
+use Rattle.syn_grammar.specs.Kind.{ExprCast, ExprAttributed}
+use Rattle.syn_grammar.specs.Name.{Part, same_part, the_unnamed, the_attributes, the_expression, the_indices, the_value}
+use Rattle.syn_grammar.specs.Name.{the_comma}
 use Rattle.syn_grammar.specs.Words.{indices, plain_decimal}
-use Rattle.syn_grammar.specs.Tree.{Tree, AWord, ALiteral, AMark, ALifetime, Raw, Nil, Pair, First, Second, End, Again, Final, More, Group, Dropped, Called, Verbatim, Hidden, Node, Whole, Alone, Front, Back, Infix}
+use Rattle.syn_grammar.specs.Tree.{Tree, AWord, ALiteral, AMark, ALifetime, Raw, Nil, Pair, First, Second, End, Again}
+use Rattle.syn_grammar.specs.Tree.{Final, More, Group, Dropped, Called, Verbatim, Hidden, Node, Whole, Alone, Front}
+use Rattle.syn_grammar.specs.Tree.{Back, Infix}
 use Rattle.syn_grammar.specs.Part.{changed}
 use Rattle.syn_grammar.specs.Forms.{level, form_of}
-use Rattle.syn_grammar.specs.Kept.{wild, lone_dot, named, listed_bound, unsafe_path, attributed, attributed_in, given, left_in_front, is_macro, own_part, is_there, as_statement, plain_index, plain_member, not_last, constant_argument, constant_default, index_field, index_fields, fields_in_front, last_fields, dotted_own, dotted, forget, held, kept}
+use Rattle.syn_grammar.specs.Kept.{wild, lone_dot, named, listed_bound, unsafe_path, attributed, attributed_in, given}
+use Rattle.syn_grammar.specs.Kept.{left_in_front, is_macro, own_part, is_there, as_statement, plain_index, plain_member}
+use Rattle.syn_grammar.specs.Kept.{not_last, constant_argument, constant_default, index_field, index_fields}
+use Rattle.syn_grammar.specs.Kept.{fields_in_front, last_fields, dotted_own, dotted, forget, held, kept}
 use Rattle.syn_grammar.proofs.TidyTwice.{changed_twice}
 use Rattle.syn_grammar.proofs.Decimals.{decimal_twice, one_index}
 
@@ -84,19 +93,22 @@ all_kept (Second x) h = ap Second (all_kept x h)
 all_kept End h = refl
 all_kept (Again x y) h = ap (λ z. Again z (kept y)) (all_kept x h.0) ∙ ap (Again x) (all_kept y h.1)
 all_kept (Final x) h = ap Final (all_kept x h)
-all_kept (More x c spacing y) h = ap (λ z. More z c Apart (kept y)) (all_kept x h.0) ∙ ap (λ s. More x c s (kept y)) h.1 ∙ ap (More x c spacing) (all_kept y h.2)
+all_kept (More x c spacing y) h = ap (λ z. More z c Apart (kept y)) (all_kept x h.0) ∙ ap (λ s. More x c s (kept y)) h.1
+    ∙ ap (More x c spacing) (all_kept y h.2)
 all_kept (Group d x) h = ap (Group d) (all_kept x h)
 all_kept (Dropped x) h = absurd h
 all_kept (Called n x) h = ap (Called n) (all_kept x h)
 all_kept (Verbatim x) h = absurd h
 all_kept (Hidden x) h = ap Hidden (all_kept x h)
-all_kept (Node k x) h = ap (λ z. Node (held k) (forget k z)) (all_kept x h.2) ∙ ap (λ j. Node j (forget k x)) h.0 ∙ ap (Node k) h.1
+all_kept (Node k x) h = ap (λ z. Node (held k) (forget k z)) (all_kept x h.2) ∙ ap (λ j. Node j (forget k x)) h.0
+    ∙ ap (Node k) h.1
 all_kept (Whole x) h = ap Whole (all_kept x h)
 all_kept (Alone k y) h = ap (Alone k) (all_kept y h)
 all_kept (Front k y x) h = ap (λ z. Front k z (kept x)) (all_kept y h.0) ∙ ap (Front k y) (all_kept x h.1)
 all_kept (Back l k y) h = ap (λ z. dotted z k (kept y)) (all_kept l h.1) ∙ ap (dotted l k) (all_kept y h.2) ∙ h.0 l
 all_kept (Infix l k y r) h =
-    ap (λ z. Infix z k (kept y) (kept r)) (all_kept l h.0) ∙ ap (λ z. Infix l k z (kept r)) (all_kept y h.1) ∙ ap (Infix l k y) (all_kept r h.2)
+    ap (λ z. Infix z k (kept y) (kept r)) (all_kept l h.0) ∙ ap (λ z. Infix l k z (kept r)) (all_kept y h.1)
+    ∙ ap (Infix l k y) (all_kept r h.2)
 
 pub form_cond : (b : Bool) (x y : Tree) → KeptForm x → KeptForm y → KeptForm (cond b x y)
 form_cond true x y h i = h
@@ -183,14 +195,16 @@ no_macro true x y e f = e
 no_macro false x y e f = f
 
 attributed_macro : (a x : Tree) → is_macro (attributed a x) ≡ false
-attributed_macro a (Infix l k y r) = no_macro (nat_eq (level k) 3) (Front ExprAttributed a (Infix l k y r)) (Infix (attributed a l) k y r) refl refl
+attributed_macro a (Infix l k y r) = no_macro (nat_eq (level k) 3) (Front ExprAttributed a (Infix l k y r))
+    (Infix (attributed a l) k y r) refl refl
 attributed_macro a (Back l ExprCast y) = refl
 attributed_macro a _ = refl
 
 attributed_form : (a x : Tree) → KeptForm a → KeptForm x → KeptForm (attributed a x)
 unfolding KeptForm
 attributed_form a (Infix l k y r) h i =
-    form_cond (nat_eq (level k) 3) (Front ExprAttributed a (Infix l k y r)) (Infix (attributed a l) k y r) (h, i) (attributed_form a l h i.0, i.1, i.2)
+    form_cond (nat_eq (level k) 3) (Front ExprAttributed a (Infix l k y r)) (Infix (attributed a l) k y r) (h, i)
+    (attributed_form a l h i.0, i.1, i.2)
 attributed_form a (Back l ExprCast y) h i = (i.0, attributed_form a l h i.1, i.2)
 attributed_form a _ h i = (h, i)
 
@@ -201,7 +215,8 @@ given_in_form a _ h i = i
 
 given_form : (a e : Tree) → KeptForm a → KeptForm e → KeptForm (given a e)
 unfolding KeptForm held
-given_form (Node OuterAttributes (Again a b)) e h i = given_in_form (Pair a (Node OuterAttributes b)) e (h.2.0, (refl, refl, h.2.1)) i
+given_form (Node OuterAttributes (Again a b)) e h i =
+    given_in_form (Pair a (Node OuterAttributes b)) e (h.2.0, (refl, refl, h.2.1)) i
 given_form _ e h i = i
 
 left_form : (a : Tree) → KeptForm a → KeptForm (left_in_front a)
@@ -221,9 +236,11 @@ form_of_form _ h = h
 
 statement_form : (x : Tree) → KeptForm x → KeptForm (as_statement x)
 unfolding KeptForm
-statement_form (Second (Second (Second (Second (Pair (Called the_attributes a) (Pair (Called the_expression e) s)))))) h =
+statement_form (Second (Second (Second (Second (Pair (Called the_attributes a) (Pair (Called the_expression e) s))))))
+    h =
     form_cond (is_macro (form_of e) && is_there s) (Second (First (Pair a (Pair (own_part (form_of e)) s))))
-    (Second (Second (Second (Second (Pair (Called the_attributes (left_in_front a)) (Pair (Called the_expression (given a e)) s))))))
+    (Second (Second
+    (Second (Second (Pair (Called the_attributes (left_in_front a)) (Pair (Called the_expression (given a e)) s))))))
     (h.0, (own_form (form_of e) (form_of_form e h.1.0), h.1.1)) (left_form a h.0, (given_form a e h.0 h.1.0, h.1.1))
 statement_form _ h = h
 
@@ -235,26 +252,41 @@ given_left : (a e : Tree) → given (left_in_front a) e ≡ e
 given_left (Node OuterAttributes (Again a b)) e = refl
 given_left _ e = refl
 
-given_in_macro : (a e : Tree) (b : Bool) → (is_macro (form_of e) && b) ≡ false → (is_macro (form_of (attributed_in a e)) && b) ≡ false
+given_in_macro : (a e : Tree) (b : Bool) → (is_macro (form_of e) && b) ≡ false
+    → (is_macro (form_of (attributed_in a e)) && b) ≡ false
 given_in_macro a (Node (Expression p) (Whole x)) b h = ap (λ c. c && b) (attributed_macro a x)
 given_in_macro a _ b h = h
 
-given_macro : (a e : Tree) (b : Bool) → (is_macro (form_of e) && b) ≡ false → (is_macro (form_of (given a e)) && b) ≡ false
+given_macro : (a e : Tree) (b : Bool) → (is_macro (form_of e) && b) ≡ false
+    → (is_macro (form_of (given a e)) && b) ≡ false
 given_macro (Node OuterAttributes (Again a b)) e c h = given_in_macro (Pair a (Node OuterAttributes b)) e c h
 given_macro _ e c h = h
 
-expression_again : (a e s : Tree) (c : Bool) → (is_macro (form_of e) && is_there s) ≡ c → as_statement (cond c (Second (First (Pair a (Pair (own_part (form_of e)) s)))) (Second (Second (Second (Second (Pair (Called the_attributes (left_in_front a)) (Pair (Called the_expression (given a e)) s))))))) ≡ cond c (Second (First (Pair a (Pair (own_part (form_of e)) s)))) (Second (Second (Second (Second (Pair (Called the_attributes (left_in_front a)) (Pair (Called the_expression (given a e)) s))))))
+expression_again : (a e s : Tree) (c : Bool) → (is_macro (form_of e) && is_there s) ≡ c
+    → as_statement
+    (cond c (Second (First (Pair a (Pair (own_part (form_of e)) s))))
+    (Second (Second
+    (Second (Second (Pair (Called the_attributes (left_in_front a)) (Pair (Called the_expression (given a e)) s)))))))
+    ≡ cond c (Second (First (Pair a (Pair (own_part (form_of e)) s))))
+    (Second (Second
+    (Second (Second (Pair (Called the_attributes (left_in_front a)) (Pair (Called the_expression (given a e)) s))))))
 expression_again a e s true h = refl
 expression_again a e s false h =
     let b : Tree = left_in_front a in
     let f : Tree = given a e in
-    ap (λ c. cond c (Second (First (Pair b (Pair (own_part (form_of f)) s)))) (Second (Second (Second (Second (Pair (Called the_attributes (left_in_front b)) (Pair (Called the_expression (given b f)) s)))))))
+    ap (λ c. cond c (Second (First (Pair b (Pair (own_part (form_of f)) s))))
+    (Second (Second
+    (Second (Second (Pair (Called the_attributes (left_in_front b)) (Pair (Called the_expression (given b f)) s)))))))
     (given_macro a e (is_there s) h)
-    ∙ ap (λ z. Second (Second (Second (Second (Pair (Called the_attributes z) (Pair (Called the_expression (given b f)) s)))))) (left_twice a)
-    ∙ ap (λ z. Second (Second (Second (Second (Pair (Called the_attributes b) (Pair (Called the_expression z) s)))))) (given_left a f)
+    ∙ ap (λ z. Second
+    (Second (Second (Second (Pair (Called the_attributes z) (Pair (Called the_expression (given b f)) s))))))
+    (left_twice a)
+    ∙ ap (λ z. Second (Second (Second (Second (Pair (Called the_attributes b) (Pair (Called the_expression z) s))))))
+    (given_left a f)
 
 statement_twice : (x : Tree) → as_statement (as_statement x) ≡ as_statement x
-statement_twice (Second (Second (Second (Second (Pair (Called the_attributes a) (Pair (Called the_expression e) s)))))) =
+statement_twice
+    (Second (Second (Second (Second (Pair (Called the_attributes a) (Pair (Called the_expression e) s)))))) =
     expression_again a e s (is_macro (form_of e) && is_there s) refl
 statement_twice _ = refl
 
@@ -315,9 +347,13 @@ forget_form _ x h = h
 
 -- dots
 
-index_unsplit : (cs : List ℕ) → IsUnsplit ExprField (Pair (Pair lone_dot (Called the_indices End)) (Second (Called the_value (ALiteral (plain_decimal cs)))))
+index_unsplit : (cs : List ℕ)
+    → IsUnsplit ExprField
+    (Pair (Pair lone_dot (Called the_indices End)) (Second (Called the_value (ALiteral (plain_decimal cs)))))
 unfolding IsUnsplit
-index_unsplit cs = λ l. ap (index_fields l) (one_index cs) ∙ ap (λ ds. Back l ExprField (Pair (Pair lone_dot (Called the_indices End)) (Second (Called the_value (ALiteral ds))))) (decimal_twice cs)
+index_unsplit cs = λ l. ap (index_fields l) (one_index cs)
+    ∙ ap (λ ds. Back l ExprField
+    (Pair (Pair lone_dot (Called the_indices End)) (Second (Called the_value (ALiteral ds))))) (decimal_twice cs)
 
 fields_form : (l : Tree) (texts : List (List ℕ)) → KeptForm l → KeptForm (index_fields l texts)
 unfolding KeptForm
@@ -336,11 +372,16 @@ last_form l ExprMethodCall d _ h i j = (λ m. refl, h, ((i, tt), j))
 last_form l ExprAwait d _ h i j = (λ m. refl, h, ((i, tt), j))
 last_form l _ d _ h i j = (λ m. refl, h, ((i, tt), j))
 
-own_dots_form : (l y : Tree) → KeptForm l → KeptForm y → KeptForm (dotted_own l ExprField y) × KeptForm (dotted_own l ExprMethodCall y) × KeptForm (dotted_own l ExprAwait y)
+own_dots_form : (l y : Tree) → KeptForm l → KeptForm y
+    → KeptForm (dotted_own l ExprField y) × KeptForm (dotted_own l ExprMethodCall y)
+    × KeptForm (dotted_own l ExprAwait y)
 unfolding KeptForm IsUnsplit
 own_dots_form l (Pair (Pair d (Called the_indices x)) y) h i =
-    let f = in_front_form l x h in
-    (last_form (fields_in_front l x) ExprField d y f i.0.0 i.1, last_form (fields_in_front l x) ExprMethodCall d y f i.0.0 i.1, last_form (fields_in_front l x) ExprAwait d y f i.0.0 i.1)
+    let f = in_front_form l x h in (
+      last_form (fields_in_front l x) ExprField d y f i.0.0 i.1,
+      last_form (fields_in_front l x) ExprMethodCall d y f i.0.0 i.1,
+      last_form (fields_in_front l x) ExprAwait d y f i.0.0 i.1,
+    )
 own_dots_form l _ h i = ((λ m. refl, h, i), (λ m. refl, h, i), (λ m. refl, h, i))
 
 pub dotted_form : (l : Tree) (k : Kind) (y : Tree) → KeptForm l → KeptForm y → KeptForm (dotted l k y)
@@ -371,7 +412,8 @@ kept_form (Dropped x) = tt
 kept_form (Called n x) = kept_form x
 kept_form (Verbatim x) = tt
 kept_form (Hidden x) = kept_form x
-kept_form (Node k x) = (held_twice k, forget_held k (forget k (kept x)) ∙ forget_twice k (kept x), forget_form k (kept x) (kept_form x))
+kept_form (Node k x) =
+    (held_twice k, forget_held k (forget k (kept x)) ∙ forget_twice k (kept x), forget_form k (kept x) (kept_form x))
 kept_form (Whole x) = kept_form x
 kept_form (Alone k y) = kept_form y
 kept_form (Front k y x) = (kept_form y, kept_form x)

@@ -1,7 +1,35 @@
 -- No entry's marks are a quote or begin a comment, kind by kind. Written by tools/ranks.py.
 use Rattle.std.proofs.Common.{◌≡◌, refl}
 use Rattle.std.specs.Prelude.{true}
-use Rattle.syn_grammar.specs.Kind.{Kind, InModule, InExpression, InType, AtType, WithPlus, WithoutPlus, Plain, InCondition, InArm, InStatement, InFile, InForeign, InTrait, InImpl, Path, Segments, Segment, QualifiedPath, AnyPath, Arguments, AnArgument, ParenthesizedArguments, AMacro, Delimited, Member, Index, AType, DynType, ImplType, ReturnType, TupleType, NeverType, ReferenceType, PointerType, BracketType, InferType, FnPtrType, FnPtrArg, Bounds, SomeBounds, Bound, TraitPath, BoundLifetimes, Lifetimes, Abi, Pattern, SeveralPatterns, OnePattern, IdentPattern, WildPattern, RangeToPattern, RestPattern, TuplePattern, SlicePattern, ReferencePattern, LiteralPattern, PathPattern, RangeEnd, RangeBound, FieldPatterns, FieldPattern, OuterAttributes, OuterAttribute, InnerAttributes, InnerAttribute, Meta, Generics, ImplGenerics, GenericParams, GenericParam, LifetimeParam, LifetimeColon, ConstParam, TypeParam, BoundsColon, Where, WhereClause, WherePredicate, Expression, ExprLit, ExprPath, ExprMacro, ExprParen, ExprArray, ExprRepeat, ExprGroup, ExprInfer, ExprBlock, ExprUnsafe, ExprAsync, ExprConst, ExprTryBlock, ExprIf, ExprMatch, ExprLoop, ExprWhile, ExprForLoop, ExprContinue, ExprTypedClosure, ExprStruct, ExprCall, ExprMethodCall, ExprField, ExprAwait, ExprIndex, ExprTry, ExprCast, ExprAttributed, ExprUnary, ExprRawAddr, ExprReference, ExprLet, ExprBreak, ExprReturn, ExprYield, ExprClosure, ExprRange, ExprRangeClosed, ExprAssign, ExprOr, ExprAnd, ExprCompare, ExprBitOr, ExprBitXor, ExprBitAnd, ExprShift, ExprSum, ExprProduct, FieldValues, AFieldValue, FieldValue, Arms, Arm, ClosureParam, Label, Block, Body, Visibility, NamedFields, UnnamedFields, NamedField, UnnamedField, Variant, AStruct, AnEnum, AUnion, AStatic, AConst, AnExternCrate, AForeignModule, AUse, UseTop, UseTree, UseBranch, UseRooted, AModule, ATrait, AConstTrait, ARestrictedTrait, AnImpl, AMacroDefinition, Parameters, Parameter, FnArg, Receiver, Signature, AFunction, ATypeAlias, ItemMacro, AnItem, AForeignItem, ATraitItem, AnImplItem, Items, ForeignItems, TraitItems, ImplItems, ItemStruct, ItemEnum, ItemUnion, ItemFn, ItemExternCrate, ItemForeignMod, ItemUse, ItemStatic, ItemConst, ItemMod, ItemType, ItemTrait, ItemTraitAlias, ItemImpl, DeriveInput, OneMacro, OneFunction, OneTypeAlias, OneConst, ForeignItemStatic, Statements, AStatement, OneStatement, ALet, AFile}
+use Rattle.syn_grammar.specs.Kind.{Kind, InModule, InExpression, InType, AtType, WithPlus, WithoutPlus, Plain}
+use Rattle.syn_grammar.specs.Kind.{InCondition, InArm, InStatement, InFile, InForeign, InTrait, InImpl, Path, Segments}
+use Rattle.syn_grammar.specs.Kind.{Segment, QualifiedPath, AnyPath, Arguments, AnArgument, ParenthesizedArguments}
+use Rattle.syn_grammar.specs.Kind.{AMacro, Delimited, Member, Index, AType, DynType, ImplType, ReturnType, TupleType}
+use Rattle.syn_grammar.specs.Kind.{NeverType, ReferenceType, PointerType, BracketType, InferType, FnPtrType, FnPtrArg}
+use Rattle.syn_grammar.specs.Kind.{Bounds, SomeBounds, Bound, TraitPath, BoundLifetimes, Lifetimes, Abi, Pattern}
+use Rattle.syn_grammar.specs.Kind.{SeveralPatterns, OnePattern, IdentPattern, WildPattern, RangeToPattern, RestPattern}
+use Rattle.syn_grammar.specs.Kind.{TuplePattern, SlicePattern, ReferencePattern, LiteralPattern, PathPattern, RangeEnd}
+use Rattle.syn_grammar.specs.Kind.{RangeBound, FieldPatterns, FieldPattern, OuterAttributes, OuterAttribute}
+use Rattle.syn_grammar.specs.Kind.{InnerAttributes, InnerAttribute, Meta, Generics, ImplGenerics, GenericParams}
+use Rattle.syn_grammar.specs.Kind.{GenericParam, LifetimeParam, LifetimeColon, ConstParam, TypeParam, BoundsColon}
+use Rattle.syn_grammar.specs.Kind.{Where, WhereClause, WherePredicate, Expression, ExprLit, ExprPath, ExprMacro}
+use Rattle.syn_grammar.specs.Kind.{ExprParen, ExprArray, ExprRepeat, ExprGroup, ExprInfer, ExprBlock, ExprUnsafe}
+use Rattle.syn_grammar.specs.Kind.{ExprAsync, ExprConst, ExprTryBlock, ExprIf, ExprMatch, ExprLoop, ExprWhile}
+use Rattle.syn_grammar.specs.Kind.{ExprForLoop, ExprContinue, ExprTypedClosure, ExprStruct, ExprCall, ExprMethodCall}
+use Rattle.syn_grammar.specs.Kind.{ExprField, ExprAwait, ExprIndex, ExprTry, ExprCast, ExprAttributed, ExprUnary}
+use Rattle.syn_grammar.specs.Kind.{ExprRawAddr, ExprReference, ExprLet, ExprBreak, ExprReturn, ExprYield, ExprClosure}
+use Rattle.syn_grammar.specs.Kind.{ExprRange, ExprRangeClosed, ExprAssign, ExprOr, ExprAnd, ExprCompare, ExprBitOr}
+use Rattle.syn_grammar.specs.Kind.{ExprBitXor, ExprBitAnd, ExprShift, ExprSum, ExprProduct, FieldValues, AFieldValue}
+use Rattle.syn_grammar.specs.Kind.{FieldValue, Arms, Arm, ClosureParam, Label, Block, Body, Visibility, NamedFields}
+use Rattle.syn_grammar.specs.Kind.{UnnamedFields, NamedField, UnnamedField, Variant, AStruct, AnEnum, AUnion, AStatic}
+use Rattle.syn_grammar.specs.Kind.{AConst, AnExternCrate, AForeignModule, AUse, UseTop, UseTree, UseBranch, UseRooted}
+use Rattle.syn_grammar.specs.Kind.{AModule, ATrait, AConstTrait, ARestrictedTrait, AnImpl, AMacroDefinition, Parameters}
+use Rattle.syn_grammar.specs.Kind.{Parameter, FnArg, Receiver, Signature, AFunction, ATypeAlias, ItemMacro, AnItem}
+use Rattle.syn_grammar.specs.Kind.{AForeignItem, ATraitItem, AnImplItem, Items, ForeignItems, TraitItems, ImplItems}
+use Rattle.syn_grammar.specs.Kind.{ItemStruct, ItemEnum, ItemUnion, ItemFn, ItemExternCrate, ItemForeignMod, ItemUse}
+use Rattle.syn_grammar.specs.Kind.{ItemStatic, ItemConst, ItemMod, ItemType, ItemTrait, ItemTraitAlias, ItemImpl}
+use Rattle.syn_grammar.specs.Kind.{DeriveInput, OneMacro, OneFunction, OneTypeAlias, OneConst, ForeignItemStatic}
+use Rattle.syn_grammar.specs.Kind.{Statements, AStatement, OneStatement, ALet, AFile}
 use Rattle.syn_grammar.specs.Table.{table}
 use Rattle.syn_grammar.specs.Calm.{calm_entry}
 

@@ -7,25 +7,40 @@ use Rattle.proc_macro2.specs.declared.delimiter.Delimiter.{Delimiter}
 use Rattle.rust_leaf.specs.declared.punct.Spacing.{Spacing}
 use Rattle.rust_leaf.specs.declared.punct.Spacing.TheVariants.{Alone as Apart, Joint}
 use Rattle.proc_macro2.specs.Spacing.{quote, begin_comment, follows_mark, follows_quote, may_stand, IsWellSpaced}
-use Rattle.syn_grammar.specs.Kind.{Kind, Position, Plain, Expression, AStatement, AnItem, OuterAttributes, ExprField, ExprMethodCall, ExprAwait, ExprCast, ExprAttributed, Where, Generics, ImplGenerics, BoundsColon, LifetimeColon, GenericParams, Arguments, Parameter, DynType, ImplType, Meta, Member, Index, Arm, AnArgument, ConstParam, Body, ATypeAlias, AnImpl}
-use Rattle.syn_grammar.specs.Name.{Part, same_part, the_unnamed, the_attributes, the_expression, the_indices, the_value, the_comma, the_arguments, the_generics}
+use Rattle.syn_grammar.specs.Kind.{Kind, Position, Plain, Expression, AStatement, AnItem, OuterAttributes, ExprField}
+use Rattle.syn_grammar.specs.Kind.{ExprMethodCall, ExprAwait, ExprCast, ExprAttributed, Where, Generics, ImplGenerics}
+use Rattle.syn_grammar.specs.Kind.{BoundsColon, LifetimeColon, GenericParams, Arguments, Parameter, DynType, ImplType}
+use Rattle.syn_grammar.specs.Kind.{Meta, Member, Index, Arm, AnArgument, ConstParam, Body, ATypeAlias, AnImpl}
+use Rattle.syn_grammar.specs.Name.{Part, same_part, the_unnamed, the_attributes, the_expression, the_indices, the_value}
+use Rattle.syn_grammar.specs.Name.{the_comma, the_arguments, the_generics}
 use Rattle.syn_grammar.specs.Words.{indices}
-use Rattle.syn_grammar.specs.Tree.{Tree, AWord, ALiteral, AMark, ALifetime, Raw, Nil, Pair, First, Second, End, Again, Final, More, Group, Dropped, Called, Verbatim, Hidden, Node, Whole, Alone, Front, Back, Infix, marks, flat}
+use Rattle.syn_grammar.specs.Tree.{Tree, AWord, ALiteral, AMark, ALifetime, Raw, Nil, Pair, First, Second, End, Again}
+use Rattle.syn_grammar.specs.Tree.{Final, More, Group, Dropped, Called, Verbatim, Hidden, Node, Whole, Alone, Front}
+use Rattle.syn_grammar.specs.Tree.{Back, Infix, marks, flat}
 use Rattle.syn_grammar.specs.Part.{changed}
-use Rattle.syn_grammar.specs.Gram.{Gram, word, literal, mark, lifetime, raw, nothing, seq, alt, star, many, group, judged, dropped, called, ref, operand}
+use Rattle.syn_grammar.specs.Gram.{Gram, word, literal, mark, lifetime, raw, nothing, seq, alt, star, many, group}
+use Rattle.syn_grammar.specs.Gram.{judged, dropped, called, ref, operand}
 use Rattle.syn_grammar.specs.Table.{table}
 use Rattle.syn_grammar.specs.Forms.{level, inside, form_of}
 use Rattle.syn_grammar.specs.Derives.{Derives, Bound}
 use Rattle.syn_grammar.specs.Calm.{ends_apart, RawsEndApart, calm_marks, calm_entry, MayPrecede, Calm}
-use Rattle.syn_grammar.specs.Kept.{named, listed_bound, unsafe_path, attributed, attributed_in, given, left_in_front, is_macro, own_part, is_there, expression_statement, as_statement, plain_index, plain_member, not_last, constant_argument, constant_default, index_field, index_fields, fields_in_front, last_fields, dotted_own, dotted, forget, kept}
-use Rattle.syn_grammar.specs.Tidy.{is_bare_where, is_bare_colon, is_bare_generics, is_lifetime_param, is_lifetime_argument, joined, those_then, others_of, lifetimes_first, is_absent, moved, keeps_generics, without_generics, tidy}
-use Rattle.syn_grammar.specs.Parens.{parens_unless, stays_right, stays_left, with_right, with_left, begins_in, stands_in, takes_what_follows, follow}
-use Rattle.syn_grammar.specs.Normal.{place_of, passed, stands_behind, apart, apart_item, is_enclosed, normal_in, formed, normal}
+use Rattle.syn_grammar.specs.Kept.{named, listed_bound, unsafe_path, attributed, attributed_in, given, left_in_front}
+use Rattle.syn_grammar.specs.Kept.{is_macro, own_part, is_there, expression_statement, as_statement, plain_index}
+use Rattle.syn_grammar.specs.Kept.{plain_member, not_last, constant_argument, constant_default, index_field}
+use Rattle.syn_grammar.specs.Kept.{index_fields, fields_in_front, last_fields, dotted_own, dotted, forget, kept}
+use Rattle.syn_grammar.specs.Tidy.{is_bare_where, is_bare_colon, is_bare_generics, is_lifetime_param}
+use Rattle.syn_grammar.specs.Tidy.{is_lifetime_argument, joined, those_then, others_of, lifetimes_first, is_absent}
+use Rattle.syn_grammar.specs.Tidy.{moved, keeps_generics, without_generics, tidy}
+use Rattle.syn_grammar.specs.Parens.{parens_unless, stays_right, stays_left, with_right, with_left, begins_in}
+use Rattle.syn_grammar.specs.Parens.{stands_in, takes_what_follows, follow}
+use Rattle.syn_grammar.specs.Normal.{place_of, passed, stands_behind, apart, apart_item, is_enclosed, normal_in, formed}
+use Rattle.syn_grammar.specs.Normal.{normal}
 use Rattle.syn_grammar.proofs.Whole.{and_true}
 use Rattle.syn_grammar.proofs.Marks.{all_calm}
 
 -- a mark that may stand at an end may stand before all
-end_mark : (c : ℕ) (spacing : Spacing) (b : Bool) → (c == quote) ≡ b → IsTrue (may_stand (Punct c spacing) []) → (s : List Token) → IsTrue (may_stand (Punct c spacing) s)
+end_mark : (c : ℕ) (spacing : Spacing) (b : Bool) → (c == quote) ≡ b → IsTrue (may_stand (Punct c spacing) [])
+    → (s : List Token) → IsTrue (may_stand (Punct c spacing) s)
 end_mark c Apart b e h s = h
 end_mark c Joint true e h s = let f : false ≡ true = sym (ap (λ b. if b then false else false) e) ∙ h in cc f
 end_mark c Joint false e h s = let f : false ≡ true = sym (ap (λ b. if b then false else false) e) ∙ h in cc f
@@ -38,7 +53,8 @@ end_any (Literal cs) h s = h
 end_any (Punct c spacing) h s = end_mark c spacing (c == quote) refl h s
 
 -- only the next token is seen
-next_mark : (c : ℕ) (u : Token) (r s : List Token) → may_stand (Punct c Joint) (u ∷ r) ≡ may_stand (Punct c Joint) (u ∷ s)
+next_mark : (c : ℕ) (u : Token) (r s : List Token)
+    → may_stand (Punct c Joint) (u ∷ r) ≡ may_stand (Punct c Joint) (u ∷ s)
 next_mark c (Opens d) r s = refl
 next_mark c (Closes d) r s = refl
 next_mark c (Ident cs) r s = refl
@@ -59,12 +75,14 @@ loose (t ∷ []) w s v = (end_any t w.0 s, v)
 loose (t ∷ u ∷ ts) w s v = (sym (next_any t u (ts ++ []) (ts ++ s)) ∙ w.0, loose (u ∷ ts) w.1 s v)
 
 -- the closing mark of a group stands at an end
-closes_mark : (c : ℕ) (spacing : Spacing) (b : Bool) (d : Delimiter) (r : List Token) → (c == quote) ≡ b → IsTrue (may_stand (Punct c spacing) (Closes d ∷ r)) → IsTrue (may_stand (Punct c spacing) [])
+closes_mark : (c : ℕ) (spacing : Spacing) (b : Bool) (d : Delimiter) (r : List Token) → (c == quote) ≡ b
+    → IsTrue (may_stand (Punct c spacing) (Closes d ∷ r)) → IsTrue (may_stand (Punct c spacing) [])
 closes_mark c Apart b d r e h = h
 closes_mark c Joint true d r e h = let f : false ≡ true = sym (ap (λ b. if b then false else false) e) ∙ h in cc f
 closes_mark c Joint false d r e h = let f : false ≡ true = sym (ap (λ b. if b then false else false) e) ∙ h in cc f
 
-closes_any : (t : Token) (d : Delimiter) (r : List Token) → IsTrue (may_stand t (Closes d ∷ r)) → IsTrue (may_stand t [])
+closes_any : (t : Token) (d : Delimiter) (r : List Token) → IsTrue (may_stand t (Closes d ∷ r))
+    → IsTrue (may_stand t [])
 closes_any (Opens e) d r h = h
 closes_any (Closes e) d r h = h
 closes_any (Ident cs) d r h = h
@@ -85,7 +103,8 @@ no_quote : (b : Bool) (x y : Bool) → not b ≡ true → y ≡ true → (if b t
 no_quote true x y e h = cc
 no_quote false x y e h = h
 
-before_marks : (c d : ℕ) (ds : List ℕ) (s : List Token) → not (begin_comment c d) ≡ true → follows_mark c (marks d ds Apart ++ s) ≡ true
+before_marks : (c d : ℕ) (ds : List ℕ) (s : List Token) → not (begin_comment c d) ≡ true
+    → follows_mark c (marks d ds Apart ++ s) ≡ true
 before_marks c d [] s h = h
 before_marks c d (e ∷ es) s h = h
 
@@ -93,14 +112,18 @@ marks_precede : (c : ℕ) (cs : List ℕ) → calm_marks c cs ≡ true → MayPr
 marks_precede c [] h s v = (h, v)
 marks_precede c (d ∷ ds) h s v =
     let a = and_true _ _ h in
-    let b = and_true _ _ a.1 in
-    (no_quote (c == quote) (follows_quote (marks d ds Apart ++ s)) (follows_mark c (marks d ds Apart ++ s)) a.0 (before_marks c d ds s b.0), marks_precede d ds b.1 s v)
+    let b = and_true _ _ a.1 in (
+      no_quote (c == quote) (follows_quote (marks d ds Apart ++ s)) (follows_mark c (marks d ds Apart ++ s)) a.0
+          (before_marks c d ds s b.0),
+      marks_precede d ds b.1 s v,
+    )
 
 both_precede : (xs ys : List Token) → MayPrecede xs → MayPrecede ys → MayPrecede (xs ++ ys)
 both_precede xs ys a b s v = subst IsWellSpaced (sym (append_assoc xs ys s)) (a (ys ++ s) (b s v))
 
 -- what is well spaced, and ends in no joint mark, may stand before all
-last_any : (t : Token) → ends_apart (t ∷ []) ≡ true → (r s : List Token) → IsTrue (may_stand t r) → IsTrue (may_stand t s)
+last_any : (t : Token) → ends_apart (t ∷ []) ≡ true → (r s : List Token) → IsTrue (may_stand t r)
+    → IsTrue (may_stand t s)
 last_any (Opens d) e r s h = h
 last_any (Closes d) e r s h = h
 last_any (Ident cs) e r s h = h
@@ -119,12 +142,14 @@ tail_apart (Punct c Joint) u ts e = e
 apart_precedes : (ts r : List Token) → ends_apart ts ≡ true → IsWellSpaced (ts ++ r) → MayPrecede ts
 apart_precedes [] r e w s v = v
 apart_precedes (t ∷ []) r e w s v = (last_any t e r s w.0, v)
-apart_precedes (t ∷ u ∷ ts) r e w s v = (sym (next_any t u (ts ++ r) (ts ++ s)) ∙ w.0, apart_precedes (u ∷ ts) r (tail_apart t u ts e) w.1 s v)
+apart_precedes (t ∷ u ∷ ts) r e w s v =
+    (sym (next_any t u (ts ++ r) (ts ++ s)) ∙ w.0, apart_precedes (u ∷ ts) r (tail_apart t u ts e) w.1 s v)
 
 pub calm_precedes : (x : Tree) → Calm x → MayPrecede (flat x)
 calm_precedes (AWord cs) c s v = (refl, v)
 calm_precedes (ALiteral cs) c s v = (refl, v)
-calm_precedes (AMark c cs spacing) h s v = subst (λ i. IsWellSpaced (marks c cs i ++ s)) (sym h.1) (marks_precede c cs h.0 s v)
+calm_precedes (AMark c cs spacing) h s v = subst (λ i. IsWellSpaced (marks c cs i ++ s)) (sym h.1)
+    (marks_precede c cs h.0 s v)
 calm_precedes (ALifetime cs) c s v = (refl, (refl, v))
 calm_precedes (Raw ts) c s v = c s v
 calm_precedes Nil c s v = v
@@ -137,8 +162,11 @@ calm_precedes (Final x) c s v = calm_precedes x c s v
 calm_precedes (More x m spacing y) c s v =
     both_precede (flat x) (Punct m spacing ∷ flat y) (calm_precedes x c.0)
     (λ u w. subst (λ i. IsWellSpaced (Punct m i ∷ flat y ++ u)) (sym c.2) (c.1, calm_precedes y c.3 u w)) s v
-calm_precedes (Group d x) c s v =
-    (c.0, subst IsWellSpaced (sym (append_assoc (flat x) (Closes d ∷ []) s)) (calm_precedes x c.1 (Closes d ∷ s) (c.0, v)))
+calm_precedes (Group d x) c s v = (
+  c.0,
+  subst IsWellSpaced (sym (append_assoc (flat x) (Closes d ∷ []) s))
+      (calm_precedes x c.1 (Closes d ∷ s) (c.0, v)),
+)
 calm_precedes (Dropped x) c s v = calm_precedes x c s v
 calm_precedes (Called n x) c s v = calm_precedes x c s v
 calm_precedes (Verbatim x) c s v = c s v
@@ -149,7 +177,8 @@ calm_precedes (Alone k y) c s v = calm_precedes y c s v
 calm_precedes (Front k y x) c s v = both_precede (flat y) (flat x) (calm_precedes y c.0) (calm_precedes x c.1) s v
 calm_precedes (Back l k y) c s v = both_precede (flat l) (flat y) (calm_precedes l c.0) (calm_precedes y c.1) s v
 calm_precedes (Infix l k y r) c s v =
-    both_precede (flat l) (flat y ++ flat r) (calm_precedes l c.0) (both_precede (flat y) (flat r) (calm_precedes y c.1) (calm_precedes r c.2)) s v
+    both_precede (flat l) (flat y ++ flat r) (calm_precedes l c.0)
+    (both_precede (flat y) (flat r) (calm_precedes y c.1) (calm_precedes r c.2)) s v
 
 calm_cond : (b : Bool) (x y : Tree) → Calm x → Calm y → Calm (cond b x y)
 calm_cond true x y c d = c
@@ -198,10 +227,12 @@ calm_form_of _ h = h
 
 calm_statement : (a e s : Tree) → Calm a → Calm e → Calm s → Calm (expression_statement a e s)
 calm_statement a e s h i j =
-    calm_cond (is_macro (form_of e) && is_there s) _ _ (h, (calm_own (form_of e) (calm_form_of e i), j)) (calm_left a h, (calm_given a e h i, j))
+    calm_cond (is_macro (form_of e) && is_there s) _ _ (h, (calm_own (form_of e) (calm_form_of e i), j))
+    (calm_left a h, (calm_given a e h i, j))
 
 calm_as_statement : (x : Tree) → Calm x → Calm (as_statement x)
-calm_as_statement (Second (Second (Second (Second (Pair (Called the_attributes a) (Pair (Called the_expression e) s)))))) h =
+calm_as_statement
+    (Second (Second (Second (Second (Pair (Called the_attributes a) (Pair (Called the_expression e) s)))))) h =
     calm_statement a e s h.0 h.1.0 h.1.1
 calm_as_statement _ h = h
 
@@ -264,7 +295,8 @@ calm_last l ExprField d (Second (Called the_value (ALiteral cs))) h i j = calm_f
 calm_last l _ d x h i j = (h, ((i, tt), j))
 
 calm_own_dots : (l : Tree) (k : Kind) (y : Tree) → Calm l → Calm y → Calm (dotted_own l k y)
-calm_own_dots l k (Pair (Pair d (Called the_indices x)) y) h i = calm_last (fields_in_front l x) k d y (calm_in_front l x h) i.0.0 i.1
+calm_own_dots l k (Pair (Pair d (Called the_indices x)) y) h i =
+    calm_last (fields_in_front l x) k d y (calm_in_front l x h) i.0.0 i.1
 calm_own_dots l k _ h i = (h, i)
 
 calm_dotted : (l : Tree) (k : Kind) (y : Tree) → Calm l → Calm y → Calm (dotted l k y)
@@ -274,10 +306,12 @@ calm_dotted l ExprAwait y h i = calm_own_dots l ExprAwait y h i
 calm_dotted l _ y h i = (h, i)
 
 mutual
-  calm_kept : (x : Tree) (g : Gram) (r : List Token) → calm_entry g ≡ true → Derives x g r → IsWellSpaced (flat x ++ r) → RawsEndApart x → Calm (kept x)
+  calm_kept : (x : Tree) (g : Gram) (r : List Token) → calm_entry g ≡ true → Derives x g r → IsWellSpaced (flat x ++ r)
+      → RawsEndApart x → Calm (kept x)
   calm_kept (AWord cs) (word p) r c d w e = tt
   calm_kept (ALiteral cs) (literal p) r c d w e = tt
-  calm_kept (AMark m ms spacing) (mark n ns) r c d w e = (ap (λ k. calm_marks k ms) d.0 ∙ ap (calm_marks n) d.1 ∙ c, refl)
+  calm_kept (AMark m ms spacing) (mark n ns) r c d w e =
+      (ap (λ k. calm_marks k ms) d.0 ∙ ap (calm_marks n) d.1 ∙ c, refl)
   calm_kept (ALifetime cs) lifetime r c d w e = tt
   calm_kept (Raw ts) raw r c d w e = loose ts (subst (λ q. IsWellSpaced (ts ++ q)) d.1 w)
   calm_kept Nil nothing r c d w e = tt
@@ -289,8 +323,10 @@ mutual
   calm_kept (Second x) (alt t a b) r c d w e = calm_kept x b r (and_true _ _ c).1 d.1 w e
   calm_kept End (star t g) r c d w e = tt
   calm_kept (Again x y) (star t g) r c d w e =
-      let v = subst IsWellSpaced (append_assoc (flat x) (flat y) r) w in
-      (calm_kept x g (flat y ++ r) c d.1 v e.0, calm_kept y (star t g) r c d.2 (spaced_behind (flat x) (flat y ++ r) v) e.1)
+      let v = subst IsWellSpaced (append_assoc (flat x) (flat y) r) w in (
+        calm_kept x g (flat y ++ r) c d.1 v e.0,
+        calm_kept y (star t g) r c d.2 (spaced_behind (flat x) (flat y ++ r) v) e.1,
+      )
   calm_kept End (many f m g) r c d w e = tt
   calm_kept (Final x) (many f m g) r c d w e = calm_kept x g r (and_true _ _ c).1 d.1 w e
   calm_kept (More x m spacing y) (many f n g) r c d w e =
@@ -312,18 +348,26 @@ mutual
   calm_kept (Whole x) (operand p n) r c d w e = calm_bound x p r d.1 w e
   calm_kept _ _ r c d w e = absurd d
 
-  calm_bound : (x : Tree) (p : Position) (r : List Token) → Bound p x r → IsWellSpaced (flat x ++ r) → RawsEndApart x → Calm (kept x)
+  calm_bound : (x : Tree) (p : Position) (r : List Token) → Bound p x r → IsWellSpaced (flat x ++ r) → RawsEndApart x
+      → Calm (kept x)
   calm_bound (Alone k y) p r d w e = calm_kept y (table k) r (all_calm k) d.1 w e
   calm_bound (Front k y x) p r d w e =
-      let v = subst IsWellSpaced (append_assoc (flat y) (flat x) r) w in
-      (calm_kept y (table k) (flat x ++ r) (all_calm k) d.1 v e.0, calm_bound x (inside p k) r d.4 (spaced_behind (flat y) (flat x ++ r) v) e.1)
+      let v = subst IsWellSpaced (append_assoc (flat y) (flat x) r) w in (
+        calm_kept y (table k) (flat x ++ r) (all_calm k) d.1 v e.0,
+        calm_bound x (inside p k) r d.4 (spaced_behind (flat y) (flat x ++ r) v) e.1,
+      )
   calm_bound (Back l k y) p r d w e =
       let v = subst IsWellSpaced (append_assoc (flat l) (flat y) r) w in
-      calm_dotted (kept l) k (kept y) (calm_bound l p (flat y ++ r) d.4 v e.0) (calm_kept y (table k) r (all_calm k) d.1 (spaced_behind (flat l) (flat y ++ r) v) e.1)
+      calm_dotted (kept l) k (kept y) (calm_bound l p (flat y ++ r) d.4 v e.0)
+      (calm_kept y (table k) r (all_calm k) d.1 (spaced_behind (flat l) (flat y ++ r) v) e.1)
   calm_bound (Infix l k y z) p r d w e =
-      let v = subst IsWellSpaced (append_assoc (flat l) (flat y ++ flat z) r ∙ ap (λ u. flat l ++ u) (append_assoc (flat y) (flat z) r)) w in
-      let u = spaced_behind (flat l) (flat y ++ (flat z ++ r)) v in
-      (calm_bound l p (flat y ++ (flat z ++ r)) d.4 v e.0, calm_kept y (table k) (flat z ++ r) (all_calm k) d.1 u e.1, calm_bound z (inside p k) r d.6 (spaced_behind (flat y) (flat z ++ r) u) e.2)
+      let v = subst IsWellSpaced
+      (append_assoc (flat l) (flat y ++ flat z) r ∙ ap (λ u. flat l ++ u) (append_assoc (flat y) (flat z) r)) w in
+      let u = spaced_behind (flat l) (flat y ++ (flat z ++ r)) v in (
+        calm_bound l p (flat y ++ (flat z ++ r)) d.4 v e.0,
+        calm_kept y (table k) (flat z ++ r) (all_calm k) d.1 u e.1,
+        calm_bound z (inside p k) r d.6 (spaced_behind (flat y) (flat z ++ r) u) e.2,
+      )
   calm_bound _ p r d w e = absurd d
 
 -- normal form
@@ -364,13 +408,16 @@ calm_tidy Generics x h = calm_cond (is_bare_generics x) (Second Nil) x tt h
 calm_tidy BoundsColon x h = calm_cond (is_bare_colon x) (Second Nil) x tt h
 calm_tidy LifetimeColon x h = calm_cond (is_bare_colon x) (Second Nil) x tt h
 calm_tidy GenericParams x h = calm_first is_lifetime_param x h
-calm_tidy Arguments x h = calm_changed the_arguments (lifetimes_first is_lifetime_argument) (calm_first is_lifetime_argument) x h
+calm_tidy Arguments x h = calm_changed the_arguments (lifetimes_first is_lifetime_argument)
+    (calm_first is_lifetime_argument) x h
 calm_tidy (ATypeAlias p) x h = calm_changed the_value moved calm_moved x h
-calm_tidy AnImpl x h = calm_cond (keeps_generics x) x (changed the_generics without_generics x) h (calm_changed the_generics without_generics calm_without x h)
+calm_tidy AnImpl x h = calm_cond (keeps_generics x) x (changed the_generics without_generics x) h
+    (calm_changed the_generics without_generics calm_without x h)
 calm_tidy _ x h = h
 
 -- where all may follow, the last mark stands alone already
-last_mark : (c : ℕ) (spacing : Spacing) (b : Bool) → (c == quote) ≡ b → IsTrue (may_stand (Punct c spacing) []) → Punct c Apart ∷ [] ≡ Punct c spacing ∷ []
+last_mark : (c : ℕ) (spacing : Spacing) (b : Bool) → (c == quote) ≡ b → IsTrue (may_stand (Punct c spacing) [])
+    → Punct c Apart ∷ [] ≡ Punct c spacing ∷ []
 last_mark c Apart b e h = refl
 last_mark c Joint true e h = let f : false ≡ true = sym (ap (λ b. if b then false else false) e) ∙ h in cc f
 last_mark c Joint false e h = let f : false ≡ true = sym (ap (λ b. if b then false else false) e) ∙ h in cc f
@@ -408,8 +455,11 @@ mutual
   calm_normal p (First x) h = calm_normal p x h
   calm_normal p (Second x) h = calm_normal p x h
   calm_normal p End h = tt
-  calm_normal p (Again x y) h =
-      (calm_cond (is_enclosed y (normal_in p y)) _ _ (calm_item (normal_in p x) (calm_normal p x h.0)) (calm_normal p x h.0), calm_normal p y h.1)
+  calm_normal p (Again x y) h = (
+    calm_cond (is_enclosed y (normal_in p y)) _ _ (calm_item (normal_in p x) (calm_normal p x h.0))
+        (calm_normal p x h.0),
+    calm_normal p y h.1,
+  )
   calm_normal p (Final x) h = calm_normal p x h
   calm_normal p (More x c spacing y) h = (calm_normal p x h.0, h.1, refl, calm_normal p y h.3)
   calm_normal p (Group d x) h = (h.0, calm_normal p x h.1)
@@ -425,11 +475,15 @@ mutual
   calm_normal p (Infix l k y r) h = h
 
   calm_formed : (p : Position) (ts : List Token) (x : Tree) → Calm x → Calm (formed p ts x)
-  calm_formed p ts (Alone k y) h = calm_parens (not (takes_what_follows p k ts)) (Alone k (normal_in Plain y)) (calm_normal Plain y h)
+  calm_formed p ts (Alone k y) h = calm_parens (not (takes_what_follows p k ts)) (Alone k (normal_in Plain y))
+      (calm_normal Plain y h)
   calm_formed p ts (Front k y x) h =
       let z : Tree = formed (inside p k) ts x in
-      calm_parens (begins_in p k) (Front k (normal_in Plain y) (with_right p k (normal_in Plain y) z))
-      (calm_normal Plain y h.0, calm_parens (stays_right p k (normal_in Plain y) z) z (calm_formed (inside p k) ts x h.1))
+      calm_parens (begins_in p k) (Front k (normal_in Plain y) (with_right p k (normal_in Plain y) z)) (
+        calm_normal Plain y h.0,
+        calm_parens (stays_right p k (normal_in Plain y) z) z
+            (calm_formed (inside p k) ts x h.1),
+      )
   calm_formed p ts (Back l k y) h =
       let own : Tree = normal_in Plain y in
       let z : Tree = formed p (follow (flat own)) l in
@@ -446,8 +500,11 @@ mutual
   calm_formed p ts _ h = h
 
 -- the tokens of the normal form are well spaced, before all that is
-pub normal_spaced : (k : Kind) (x : Tree) (r s : List Token) → Derives x (ref k) r → IsWellSpaced (flat x ++ r) → RawsEndApart x → IsWellSpaced s → IsWellSpaced (flat (normal (kept x)) ++ s)
-normal_spaced k x r s d w e v = calm_precedes (normal (kept x)) (calm_normal Plain (kept x) (calm_kept x (ref k) r refl d w e)) s v
+pub normal_spaced : (k : Kind) (x : Tree) (r s : List Token) → Derives x (ref k) r → IsWellSpaced (flat x ++ r)
+    → RawsEndApart x → IsWellSpaced s → IsWellSpaced (flat (normal (kept x)) ++ s)
+normal_spaced k x r s d w e v = calm_precedes (normal (kept x))
+    (calm_normal Plain (kept x) (calm_kept x (ref k) r refl d w e)) s v
 
-pub spaced : (k : Kind) (x : Tree) (r : List Token) → Derives x (ref k) r → IsWellSpaced (flat x ++ r) → RawsEndApart x → IsWellSpaced (flat (normal (kept x)))
+pub spaced : (k : Kind) (x : Tree) (r : List Token) → Derives x (ref k) r → IsWellSpaced (flat x ++ r) → RawsEndApart x
+    → IsWellSpaced (flat (normal (kept x)))
 spaced k x r d w e = subst IsWellSpaced (append-nil (flat (normal (kept x)))) (normal_spaced k x r [] d w e tt)

@@ -1,15 +1,33 @@
 -- What each kind of core form reads, by its entry: what readers in code go by, one step at a time.
 use Rattle.std.proofs.Common.{◌≡◌, List, refl, sym, ap, ◌∙◌}
 use Rattle.proc_macro2.specs.Token.{Token}
-use Rattle.syn_grammar.specs.Kind.{Kind, Style, Plus, AtType, WithPlus, Path, Segments, QualifiedPath, AnyPath, Arguments, AnArgument, ParenthesizedArguments, AMacro, Delimited, Member, Index, AType, DynType, ImplType, ReturnType, TupleType, NeverType, ReferenceType, PointerType, BracketType, InferType, FnPtrType, FnPtrArg, Bounds, SomeBounds, Bound, TraitPath, BoundLifetimes, Lifetimes, Abi, Pattern, SeveralPatterns, OnePattern, IdentPattern, WildPattern, RangeToPattern, RestPattern, TuplePattern, SlicePattern, ReferencePattern, LiteralPattern, PathPattern, RangeEnd, RangeBound, FieldPatterns, FieldPattern, OuterAttributes, OuterAttribute, InnerAttributes, InnerAttribute, Meta, Generics, ImplGenerics, GenericParams, GenericParam, LifetimeParam, LifetimeColon, ConstParam, TypeParam, BoundsColon, Where, WhereClause, WherePredicate}
+use Rattle.syn_grammar.specs.Kind.{Kind, Style, Plus, AtType, WithPlus, Path, Segments, QualifiedPath, AnyPath}
+use Rattle.syn_grammar.specs.Kind.{Arguments, AnArgument, ParenthesizedArguments, AMacro, Delimited, Member, Index}
+use Rattle.syn_grammar.specs.Kind.{AType, DynType, ImplType, ReturnType, TupleType, NeverType, ReferenceType}
+use Rattle.syn_grammar.specs.Kind.{PointerType, BracketType, InferType, FnPtrType, FnPtrArg, Bounds, SomeBounds, Bound}
+use Rattle.syn_grammar.specs.Kind.{TraitPath, BoundLifetimes, Lifetimes, Abi, Pattern, SeveralPatterns, OnePattern}
+use Rattle.syn_grammar.specs.Kind.{IdentPattern, WildPattern, RangeToPattern, RestPattern, TuplePattern, SlicePattern}
+use Rattle.syn_grammar.specs.Kind.{ReferencePattern, LiteralPattern, PathPattern, RangeEnd, RangeBound, FieldPatterns}
+use Rattle.syn_grammar.specs.Kind.{FieldPattern, OuterAttributes, OuterAttribute, InnerAttributes, InnerAttribute, Meta}
+use Rattle.syn_grammar.specs.Kind.{Generics, ImplGenerics, GenericParams, GenericParam, LifetimeParam, LifetimeColon}
+use Rattle.syn_grammar.specs.Kind.{ConstParam, TypeParam, BoundsColon, Where, WhereClause, WherePredicate}
 use Rattle.syn_grammar.specs.Tree.{Tree, Node}
-use Rattle.syn_grammar.specs.Paths.{path, segments, qualified_path, any_path, arguments, argument, parenthesized_arguments, macro, delimited, member, index}
-use Rattle.syn_grammar.specs.Types.{type_entry, dyn_type, impl_type, return_type, tuple_type, never_type, reference_type, pointer_type, bracket_type, infer_type, fn_ptr_type, fn_ptr_arg, bounds, some_bounds, bound, trait_path, bound_lifetimes, lifetimes, abi}
-use Rattle.syn_grammar.specs.Patterns.{pattern, several_patterns, one_pattern, ident_pattern, wild_pattern, range_to_pattern, rest_pattern, tuple_pattern, slice_pattern, reference_pattern, literal_pattern, path_pattern, range_end, range_bound, field_patterns, field_pattern}
+use Rattle.syn_grammar.specs.Paths.{path, segments, qualified_path, any_path, arguments, argument}
+use Rattle.syn_grammar.specs.Paths.{parenthesized_arguments, macro, delimited, member, index}
+use Rattle.syn_grammar.specs.Types.{type_entry, dyn_type, impl_type, return_type, tuple_type, never_type}
+use Rattle.syn_grammar.specs.Types.{reference_type, pointer_type, bracket_type, infer_type, fn_ptr_type, fn_ptr_arg}
+use Rattle.syn_grammar.specs.Types.{bounds, some_bounds, bound, trait_path, bound_lifetimes, lifetimes, abi}
+use Rattle.syn_grammar.specs.Patterns.{pattern, several_patterns, one_pattern, ident_pattern, wild_pattern}
+use Rattle.syn_grammar.specs.Patterns.{range_to_pattern, rest_pattern, tuple_pattern, slice_pattern, reference_pattern}
+use Rattle.syn_grammar.specs.Patterns.{literal_pattern, path_pattern, range_end, range_bound, field_patterns}
+use Rattle.syn_grammar.specs.Patterns.{field_pattern}
 use Rattle.syn_grammar.specs.Attributes.{outer_attributes, outer_attribute, inner_attributes, inner_attribute, meta}
-use Rattle.syn_grammar.specs.Generics.{generics, impl_generics, generic_params, generic_param, lifetime_param, lifetime_colon, const_param, type_param, bounds_colon, optional_where, where_clause, where_predicate}
+use Rattle.syn_grammar.specs.Generics.{generics, impl_generics, generic_params, generic_param, lifetime_param}
+use Rattle.syn_grammar.specs.Generics.{lifetime_colon, const_param, type_param, bounds_colon, optional_where}
+use Rattle.syn_grammar.specs.Generics.{where_clause, where_predicate}
 use Rattle.syn_grammar.specs.Table.{table}
-use Rattle.syn_grammar.specs.Kept.{kept, held, listed_bound, unsafe_path, plain_member, plain_index, constant_argument, constant_default}
+use Rattle.syn_grammar.specs.Kept.{kept, held, listed_bound, unsafe_path, plain_member, plain_index, constant_argument}
+use Rattle.syn_grammar.specs.Kept.{constant_default}
 use Rattle.syn_grammar.specs.Name.{the_value}
 use Rattle.syn_grammar.specs.Part.{changed}
 use Rattle.syn_grammar.specs.Keeps.{kepts, keeps, node}
@@ -48,7 +66,8 @@ pub read_arguments : (ts : List Token) → kepts (kind Arguments) ts ≡ wrap (N
 unfolding table held
 read_arguments ts = step Arguments ts
 
-pub read_argument : (ts : List Token) → kepts (kind AnArgument) ts ≡ wrap (λ x. Node AnArgument (constant_argument x)) (keeps argument ts)
+pub read_argument : (ts : List Token) → kepts (kind AnArgument) ts
+    ≡ wrap (λ x. Node AnArgument (constant_argument x)) (keeps argument ts)
 unfolding table held
 read_argument ts = step AnArgument ts
 
@@ -65,7 +84,8 @@ pub read_delimited : (ts : List Token) → kepts (kind Delimited) ts ≡ wrap (N
 unfolding table held
 read_delimited ts = step Delimited ts
 
-pub read_member : (ts : List Token) → kepts (kind Member) ts ≡ wrap (λ x. Node Member (plain_member x)) (keeps member ts)
+pub read_member : (ts : List Token) → kepts (kind Member) ts
+    ≡ wrap (λ x. Node Member (plain_member x)) (keeps member ts)
 unfolding table held
 read_member ts = step Member ts
 
@@ -286,7 +306,8 @@ pub read_lifetime_colon : (ts : List Token)
 unfolding table held
 read_lifetime_colon ts = step LifetimeColon ts
 
-pub read_const_param : (ts : List Token) → kepts (kind ConstParam) ts ≡ wrap (λ x. Node ConstParam (changed the_value constant_default x)) (keeps const_param ts)
+pub read_const_param : (ts : List Token) → kepts (kind ConstParam) ts
+    ≡ wrap (λ x. Node ConstParam (changed the_value constant_default x)) (keeps const_param ts)
 unfolding table held
 read_const_param ts = step ConstParam ts
 

@@ -10,7 +10,8 @@ use Rattle.syn_grammar.specs.Look.{seen, sees, past_marks}
 use Rattle.syn_grammar.specs.Kept.{kept}
 use Rattle.syn_grammar.specs.Keeps.{kepts, keeps, mark_kept}
 use Rattle.syn_grammar.specs.Chains.{again, more, ending, again_front, more_front}
-use Rattle.syn_grammar.specs.Run.{Out, Late, Refused, Got, ◌>>=◌, wrap, loop, list, mark_at, interp, reads, turned, listed}
+use Rattle.syn_grammar.specs.Run.{Out, Late, Refused, Got, ◌>>=◌, wrap, loop, list, mark_at, interp, reads, turned}
+use Rattle.syn_grammar.specs.Run.{listed}
 use Rattle.syn_grammar.proofs.Whole.{reads_step, CallFits}
 use Rattle.syn_grammar.proofs.Founded.{all_founded}
 use Rattle.syn_grammar.proofs.Firm.{firm}

@@ -3,7 +3,8 @@ use Rattle.std.specs.Prelude.{◌≡◌, ℕ, Bool, true, false, ◌&&◌, not, 
 use Rattle.proc_macro2.specs.Token.{Token, Punct}
 use Rattle.rust_leaf.specs.declared.punct.Spacing.TheVariants.{Alone as Apart, Joint}
 use Rattle.proc_macro2.specs.Spacing.{quote, begin_comment, is_visible, IsWellSpaced}
-use Rattle.syn_grammar.specs.Tree.{Tree, AMark, Raw, Pair, First, Second, Again, Final, More, Group, Dropped, Called, Verbatim, Node, Whole, Alone, Front, Back, Infix, flat}
+use Rattle.syn_grammar.specs.Tree.{Tree, AMark, Raw, Pair, First, Second, Again, Final, More, Group, Dropped, Called}
+use Rattle.syn_grammar.specs.Tree.{Verbatim, Node, Whole, Alone, Front, Back, Infix, flat}
 use Rattle.syn_grammar.specs.Gram.{Gram, mark, seq, alt, star, many, group, judged, dropped, called}
 
 -- The last of the tokens is no joint mark.

@@ -5,10 +5,12 @@ use Rattle.proc_macro2.specs.Token.{Token, Opens}
 use Rattle.proc_macro2.specs.declared.delimiter.Delimiter.{Delimiter}
 use Rattle.proc_macro2.specs.Groups.{same_delimiter}
 use Rattle.syn_grammar.specs.Tree.{Tree, Nil, Pair, First, Second, Called, Node, Whole}
-use Rattle.syn_grammar.specs.Gram.{Gram, word, literal, mark, lifetime, raw, nothing, never, seq, alt, star, many, group, judged, dropped, called, ref, operand}
+use Rattle.syn_grammar.specs.Gram.{Gram, word, literal, mark, lifetime, raw, nothing, never, seq, alt, star, many}
+use Rattle.syn_grammar.specs.Gram.{group, judged, dropped, called, ref, operand}
 use Rattle.syn_grammar.specs.Kind.{Kind}
 use Rattle.syn_grammar.specs.Kept.{kept, held, forget}
-use Rattle.syn_grammar.specs.Run.{Out, Refused, Got, ◌>>=◌, wrap, Call, kind, loop, list, tower, word_at, literal_at, mark_at, lifetime_at, raw_at, Split, Unclosed, Inside, split, whole, interp, reads}
+use Rattle.syn_grammar.specs.Run.{Out, Refused, Got, ◌>>=◌, wrap, Call, kind, loop, list, tower, word_at, literal_at}
+use Rattle.syn_grammar.specs.Run.{mark_at, lifetime_at, raw_at, Split, Unclosed, Inside, split, whole, interp, reads}
 
 -- what is kept of what is read
 abbrev pub kepts : Call → List Token → Out

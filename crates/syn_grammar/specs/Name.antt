@@ -12,7 +12,8 @@ pub data Part : Type 0 where
   -- of a parameter: a receiver, a type without a name, its pattern, and ...
   the_receiver the_unnamed the_pattern the_dots : Part
   -- of expressions and statements
-  the_condition the_indices the_base the_rest the_comma the_attributes the_expression the_semicolon the_else the_label : Part
+  the_condition the_indices the_base the_rest the_comma the_attributes the_expression the_semicolon the_else : Part
+  the_label : Part
 
 abbrev pub number : Part → ℕ
 number the_name = 0

@@ -15,9 +15,12 @@ use Rattle.std.specs.Prelude.{Bool, not, ◌&&◌, cond, List, [], ◌∷◌}
 use Rattle.proc_macro2.specs.Token.{Token, Opens, Punct}
 use Rattle.proc_macro2.specs.declared.delimiter.Delimiter.TheVariants.{Brace}
 use Rattle.rust_leaf.specs.declared.punct.Spacing.TheVariants.{Alone as Apart}
-use Rattle.syn_grammar.specs.Kind.{Kind, Position, Plain, InCondition, InArm, InStatement, Expression, AStatement, AnItem, Visibility}
+use Rattle.syn_grammar.specs.Kind.{Kind, Position, Plain, InCondition, InArm, InStatement, Expression, AStatement}
+use Rattle.syn_grammar.specs.Kind.{AnItem, Visibility}
 use Rattle.syn_grammar.specs.Name.{Part, the_condition, the_body, the_expression}
-use Rattle.syn_grammar.specs.Tree.{Tree, AWord, ALiteral, AMark, ALifetime, Raw, Nil, Pair, First, Second, End, Again, Final, More, Group, Dropped, Called, Verbatim, Hidden, Node, Whole, Alone, Front, Back, Infix, flat}
+use Rattle.syn_grammar.specs.Tree.{Tree, AWord, ALiteral, AMark, ALifetime, Raw, Nil, Pair, First, Second, End, Again}
+use Rattle.syn_grammar.specs.Tree.{Final, More, Group, Dropped, Called, Verbatim, Hidden, Node, Whole, Alone, Front}
+use Rattle.syn_grammar.specs.Tree.{Back, Infix, flat}
 use Rattle.syn_grammar.specs.Look.{sees}
 use Rattle.syn_grammar.specs.Say.{parenthesis}
 use Rattle.syn_grammar.specs.Forms.{inside}

@@ -2,14 +2,17 @@
 use Rattle.std.specs.Prelude.{Bool, true, false, not, ◌&&◌, ◌||◌, cond, nat_eq, List, [], ◌∷◌}
 use Rattle.proc_macro2.specs.Token.{Token, Ident}
 use Rattle.proc_macro2.specs.declared.delimiter.Delimiter.TheVariants.{Parenthesis}
-use Rattle.syn_grammar.specs.Kind.{Kind, Position, Plain, InCondition, InStatement, Expression, ExprParen, ExprPath, ExprStruct, ExprCall, ExprField, ExprCast, ExprAttributed, ExprLet, ExprBreak, ExprReturn, ExprYield, ExprRange}
+use Rattle.syn_grammar.specs.Kind.{Kind, Position, Plain, InCondition, InStatement, Expression, ExprParen, ExprPath}
+use Rattle.syn_grammar.specs.Kind.{ExprStruct, ExprCall, ExprField, ExprCast, ExprAttributed, ExprLet, ExprBreak}
+use Rattle.syn_grammar.specs.Kind.{ExprReturn, ExprYield, ExprRange}
 use Rattle.syn_grammar.specs.Name.{the_name, the_label}
 use Rattle.syn_grammar.specs.Words.{is_name, is_path_keyword}
 use Rattle.syn_grammar.specs.Tree.{Tree, Final, Group, Node, Whole, Alone, Front, Back, Infix, flat}
 use Rattle.syn_grammar.specs.Part.{has}
 use Rattle.syn_grammar.specs.Look.{sees, ◌then◌, no, a_lifetime}
 use Rattle.syn_grammar.specs.Say.{marks, brace}
-use Rattle.syn_grammar.specs.Forms.{has_right, level, is_range, may_be_left, ends_there, is_dotted, chains, takes, within, struct_stands}
+use Rattle.syn_grammar.specs.Forms.{has_right, level, is_range, may_be_left, ends_there, is_dotted, chains, takes}
+use Rattle.syn_grammar.specs.Forms.{within, struct_stands}
 
 -- in parentheses, unless it stays as it is
 abbrev pub in_parens : Tree → Tree

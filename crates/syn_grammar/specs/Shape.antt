@@ -1,6 +1,7 @@
--- What decides the parentheses of an operand, as one who writes it in one pass can keep it: each of these is had in a few steps from
--- what it is for the form's own operands.
-use Rattle.std.specs.Prelude.{ℕ, suc, Bool, true, false, not, cond, if◌then◌else◌, ◌&&◌, ◌||◌, nat_lt, nat_eq, min, List}
+-- What decides the parentheses of an operand, as one who writes it in one pass can keep it: each of these is had in a
+-- few steps from what it is for the form's own operands.
+use Rattle.std.specs.Prelude.{ℕ, suc, Bool, true, false, not, cond, if◌then◌else◌, ◌&&◌, ◌||◌, nat_lt, nat_eq, min}
+use Rattle.std.specs.Prelude.{List}
 use Rattle.proc_macro2.specs.Token.{Token}
 use Rattle.syn_grammar.specs.Kind.{Kind}
 use Rattle.syn_grammar.specs.Tree.{Tree, Front, Back, Infix}

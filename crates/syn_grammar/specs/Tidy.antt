@@ -1,8 +1,11 @@
 -- Normal form, of the parts of a kind: nothing empty is written, and lifetimes come first.
 use Rattle.std.specs.Prelude.{Bool, true, false, ◌&&◌, ◌||◌, not, cond}
 use Rattle.rust_leaf.specs.declared.punct.Spacing.TheVariants.{Alone as Apart}
-use Rattle.syn_grammar.specs.Kind.{Kind, AType, AnyPath, QualifiedPath, Path, Segments, GenericParams, GenericParam, AnArgument, Where, WhereClause, Generics, ImplGenerics, BoundsColon, LifetimeColon, Bounds, Lifetimes, Arguments, ATypeAlias, AnImpl}
-use Rattle.syn_grammar.specs.Name.{the_clause, the_parameters, the_bounds, the_lifetime, the_arguments, the_value, the_generics, the_polarity, the_self, the_first}
+use Rattle.syn_grammar.specs.Kind.{Kind, AType, AnyPath, QualifiedPath, Path, Segments, GenericParams, GenericParam}
+use Rattle.syn_grammar.specs.Kind.{AnArgument, Where, WhereClause, Generics, ImplGenerics, BoundsColon, LifetimeColon}
+use Rattle.syn_grammar.specs.Kind.{Bounds, Lifetimes, Arguments, ATypeAlias, AnImpl}
+use Rattle.syn_grammar.specs.Name.{the_clause, the_parameters, the_bounds, the_lifetime, the_arguments, the_value}
+use Rattle.syn_grammar.specs.Name.{the_generics, the_polarity, the_self, the_first}
 use Rattle.syn_grammar.specs.Words.{is_ident}
 use Rattle.syn_grammar.specs.Tree.{Tree, AWord, Nil, Pair, First, Second, End, Final, More, Called, Node}
 use Rattle.syn_grammar.specs.Part.{has, the, changed, choice}
