@@ -14,7 +14,7 @@ use Rattle.syn_grammar.proofs.Whole.{and_true}
 use Rattle.binding_laws.specs.Meets.{NoneGoesOn, LeftMeets, Meets}
 use Rattle.binding_laws.proofs.Sights.{back_same, starts_plain}
 
-not_true : (b : Bool) → not b ≡ true → b ≡ false
+pub not_true : (b : Bool) → not b ≡ true → b ≡ false
 not_true true e = cc
 not_true false e = refl
 
@@ -29,7 +29,7 @@ unfolding stands_left
 one_goes k q n x ts e h =
     ap (takes_kind q n x) e ∙ less_taken (takes n (level k)) (may_be_left k x) (not (ends_there q x) || is_dotted k) h
 
-none_goes : (k : Kind) (us ts : List Token) (l : Tree) (p : Position) → back p ts ≡ Some k → is_struct k ≡ false
+pub none_goes : (k : Kind) (us ts : List Token) (l : Tree) (p : Position) → back p ts ≡ Some k → is_struct k ≡ false
     → is_ended k us l ≡ true → NoneGoesOn p l ts
 none_goes k us ts (Front j y x) p e s h =
     let a = and_true _ _ h in
@@ -42,7 +42,7 @@ none_goes k us ts (Infix l j y r) p e s h =
 none_goes k us ts _ p e s h = tt
 
 -- an operand in parentheses
-or_false : (s b : Bool) → (s || b) ≡ true → s ≡ false → b ≡ true
+pub or_false : (s b : Bool) → (s || b) ≡ true → s ≡ false → b ≡ true
 or_false true b e f = cc
 or_false false b e f = e
 
@@ -55,13 +55,13 @@ unfolding level
 paren_fits ExprStruct x s = cc
 paren_fits _ x s = refl
 
-paren_ends : (p : Position) (x : Tree) → ends_there p (in_parens x) ≡ false
+pub paren_ends : (p : Position) (x : Tree) → ends_there p (in_parens x) ≡ false
 paren_ends Plain x = refl
 paren_ends InCondition x = refl
 paren_ends InArm x = refl
 paren_ends InStatement x = refl
 
-paren_left : (p : Position) (k : Kind) (x : Tree) → is_struct k ≡ false → IsLeft p (in_parens x) k
+pub paren_left : (p : Position) (k : Kind) (x : Tree) → is_struct k ≡ false → IsLeft p (in_parens x) k
 unfolding stands_left chains level
 paren_left p k x s = (
   ap (λ b. b && (not (ends_there p (in_parens x)) || is_dotted k)) (paren_fits k x s) ∙ ap
@@ -83,7 +83,7 @@ left_meets p k y l = go (stays_left p k y l) refl
     go true e = stays_meets p k y l e
     go false e = λ s. (paren_left p k l s, λ ts f. tt)
 
-right_meets : (p : Position) (k : Kind) (y x : Tree) → within (level k) (with_right p k y x) ≡ true
+pub right_meets : (p : Position) (k : Kind) (y x : Tree) → within (level k) (with_right p k y x) ≡ true
 right_meets p k y x = go (stays_right p k y x) refl
   where
     go : (b : Bool) → stays_right p k y x ≡ b → within (level k) (parens_unless b x) ≡ true

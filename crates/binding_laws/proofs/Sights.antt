@@ -349,3 +349,15 @@ brace_struct InStatement (Opens Brace ∷ r) e = refl
 brace_struct InStatement (Opens _ ∷ r) e = cc
 brace_struct InStatement [] e = cc
 brace_struct InStatement (_ ∷ r) e = cc
+
+-- and where a struct is seen there is one
+brace_there : (p : Position) (ts : List Token) → seen (struct_stands p ts) ≡ true → sees brace ts ≡ true
+brace_there Plain ts s = s
+brace_there InCondition ts s = cc
+brace_there InArm ts s = s
+brace_there InStatement ts s = s
+
+pub struct_seen : (p : Position) (ts : List Token) → back p ts ≡ Some ExprStruct → sees brace ts ≡ true
+unfolding back Each
+struct_seen p ts e =
+    first_says (sees brace ts ≡ true) is_struct (backs p) ts ExprStruct (brace_there p ts, tt) refl e

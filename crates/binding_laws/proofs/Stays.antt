@@ -69,7 +69,7 @@ first_none : (o : Option (List Token)) → first_seen o None ≡ o
 first_none None = refl
 first_none (Some ts) = refl
 
-brace_none : (q : Position) (ts : List Token) → sees brace ts ≡ false → brace_ends q ts ≡ None
+pub brace_none : (q : Position) (ts : List Token) → sees brace ts ≡ false → brace_ends q ts ≡ None
 brace_none Plain ts e = refl
 brace_none InCondition ts e = none_seen (brace ts) e
 brace_none InArm ts e = refl
@@ -79,7 +79,7 @@ not_not : (b : Bool) → not (not b) ≡ b
 not_not true = refl
 not_not false = refl
 
-facts_right : (b : Bool) (ts : List Token) → Begins b ts → (q : Position) (k : Kind) → may_lack k ≡ true
+pub facts_right : (b : Bool) (ts : List Token) → Begins b ts → (q : Position) (k : Kind) → may_lack k ≡ true
     → has_right q k ts ≡ b
 unfolding may_lack has_right
 facts_right b ts f q ExprBreak m =
@@ -109,7 +109,7 @@ opening_break : (b : Bool) (d : Delimiter) (r s : List Token)
 opening_break true d r s = refl
 opening_break false d r s = refl
 
-opening_right : (d : Delimiter) (q : Position) (k : Kind) (r s : List Token) → may_lack k ≡ true
+pub opening_right : (d : Delimiter) (q : Position) (k : Kind) (r s : List Token) → may_lack k ≡ true
     → has_right q k (Opens d ∷ r) ≡ has_right q k (Opens d ∷ s)
 unfolding may_lack has_right
 opening_right d q ExprBreak r s m =
@@ -128,7 +128,7 @@ word_begins cs s e = record {
   no_brace = refl;
 }
 
-begun_right : (ts us : List Token) → Begun ts us → (q : Position) (k : Kind) → may_lack k ≡ true → has_right q k ts
+pub begun_right : (ts us : List Token) → Begun ts us → (q : Position) (k : Kind) → may_lack k ≡ true → has_right q k ts
     ≡ true → has_right q k us ≡ true
 begun_right _ us (begun_word cs e) q k m h = facts_right true us (word_begins cs _ e) q k m
 begun_right _ us (an_opening {r = r} {s = s} d) q k m h = sym (opening_right d q k r s m) ∙ h
@@ -141,12 +141,12 @@ pub both : (b : Bool) → b ≡ true → b ≡ false → ⊥
 both true e f = cc
 both false e f = cc
 
-no_colon : (ts us : List Token) → Begun ts us → sees (marks ":") ts ≡ false → sees (marks ":") us ≡ false
+pub no_colon : (ts us : List Token) → Begun ts us → sees (marks ":") ts ≡ false → sees (marks ":") us ≡ false
 no_colon _ _ (colons i j) e = cc
 no_colon _ _ (a_literal cs) e = refl
 no_colon _ _ _ e = refl
 
-no_lifetime : (ts us : List Token) → Begun ts us → sees a_lifetime ts ≡ false → sees a_lifetime us ≡ false
+pub no_lifetime : (ts us : List Token) → Begun ts us → sees a_lifetime ts ≡ false → sees a_lifetime us ≡ false
 no_lifetime _ _ (begun_lifetime cs) e = cc
 no_lifetime _ _ (a_literal cs) e = refl
 no_lifetime _ _ _ e = refl

@@ -1,0 +1,24 @@
+//! Laws of expressions that are printed: each is the contract of a function that does nothing.
+
+ghost use Rattle.expressions_back.specs.Behind.{MayFollow};
+ghost use Rattle.expressions_back.specs.Formed.{Formed};
+ghost use Rattle.proc_macro2.specs.Token.{Token};
+ghost use Rattle.std.specs.Prelude.{◌≡◌, List};
+ghost use Rattle.syn_grammar.specs.Derives.{Derives};
+ghost use Rattle.syn_grammar.specs.Gram.{ref};
+ghost use Rattle.syn_grammar.specs.Kind.{Expression, Position};
+ghost use Rattle.syn_grammar.specs.Normal.{normal_in};
+ghost use Rattle.syn_grammar.specs.Tree.{flat, Node, Tree, Whole};
+
+/// The tokens of the normal form of a formed expression are read back as it, in its place, before all that may follow.
+pub fn read_back()
+    ensures { (p : Position) (x : Tree) (rest : List Token) → Formed x → MayFollow p rest
+        → Derives (normal_in p (Node (Expression p) (Whole x))) (ref (Expression p)) rest }
+{}
+
+/// Two formed expressions of a position whose normal forms have the same tokens have the same normal form.
+pub fn same_tokens()
+    ensures { (p : Position) (x y : Tree) → Formed x → Formed y
+        → flat (normal_in p (Node (Expression p) (Whole x))) ≡ flat (normal_in p (Node (Expression p) (Whole y)))
+        → normal_in p (Node (Expression p) (Whole x)) ≡ normal_in p (Node (Expression p) (Whole y)) }
+{}
