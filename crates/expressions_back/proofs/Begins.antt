@@ -69,7 +69,8 @@ starts (Back l k y) f p ts =
 starts (Infix l k y r) f p ts =
     let m : Tree = formed p (follow (flat (normal y))) l in
     let b : Bool = stays_left p k (normal y) m in
-    starts_more (flat (parens_unless b m)) (flat (normal y) ++ flat (with_right p k (normal y) (formed (inside p k) ts r)))
+    starts_more (flat (parens_unless b m))
+    (flat (normal y) ++ flat (with_right p k (normal y) (formed (inside p k) ts r)))
     (unless_starts b m (starts l f.3 p (follow (flat (normal y)))))
 starts _ f p ts = absurd f
 

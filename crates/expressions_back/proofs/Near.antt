@@ -46,7 +46,8 @@ near_stands p q k (inr e) b = ap (λ r. stands_in r k) e
 or_more : (a b : Bool) → a ≡ false → (not a || b) ≡ true
 or_more a b e = ap (λ c. not c || b) e
 
-near_left : (p q : Position) (k : Kind) (l : Tree) → Near p q → (may_be_left k l && (not (ends_there p l) || is_dotted k))
+near_left : (p q : Position) (k : Kind) (l : Tree) → Near p q
+    → (may_be_left k l && (not (ends_there p l) || is_dotted k))
     ≡ true → (may_be_left k l && (not (ends_there q l) || is_dotted k)) ≡ true
 near_left p q k l (inl e) h = ap (λ r. may_be_left k l && (not (ends_there r l) || is_dotted k)) e ∙ h
 near_left p q k l (inr e) h =
@@ -72,10 +73,12 @@ unless_meets true p x m = m
 unless_meets false p x m = tt
 
 -- each form, of operands that meet them
-pub front_meets : (p q : Position) (k : Kind) (y z : Tree) → Meets (inside q k) z → Meets q (Front k y (with_right p k y z))
+pub front_meets : (p q : Position) (k : Kind) (y z : Tree) → Meets (inside q k) z
+    → Meets q (Front k y (with_right p k y z))
 front_meets p q k y z m = (right_meets p k y z, unless_meets (stays_right p k y z) (inside q k) z m)
 
-pub back_meets : (p q : Position) (k : Kind) (y z : Tree) → Near p q → Meets q z → Meets q (Back (with_left p k y z) k y)
+pub back_meets : (p q : Position) (k : Kind) (y z : Tree) → Near p q → Meets q z
+    → Meets q (Back (with_left p k y z) k y)
 back_meets p q k y z n m = (left_meets p q k y z n, unless_meets (stays_left p k y z) q z m)
 
 pub infix_meets : (p q : Position) (k : Kind) (y l r : Tree) → Near p q → Meets q l → Meets (inside q k) r

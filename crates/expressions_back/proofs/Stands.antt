@@ -213,7 +213,8 @@ have_right q k ts l h = go (may_lack k) refl
     go true m = h m
     go false m = fixed_right q k ts m ∙ sym (ap (λ c. c || not (ends_by_itself k)) m) ∙ l
 
-near_right : (p q : Position) (k : Kind) (ts : List Token) → Near p q → has_right p k ts ≡ true → has_right q k ts ≡ true
+near_right : (p q : Position) (k : Kind) (ts : List Token) → Near p q → has_right p k ts ≡ true
+    → has_right q k ts ≡ true
 near_right p q k ts (inl e) h = ap (λ r. has_right r k ts) e ∙ h
 near_right p q k ts (inr e) h = ap (λ r. has_right r k ts) e ∙ right_plain p k ts h
 
@@ -235,7 +236,8 @@ attributed_is : (k : Kind) → is_attributed k ≡ true → k ≡ ExprAttributed
 attributed_is ExprAttributed e = refl
 attributed_is _ e = cc
 
-unless_attributed : (b : Bool) (z : Tree) → is_attributed_form z ≡ false → is_attributed_form (parens_unless b z) ≡ false
+unless_attributed : (b : Bool) (z : Tree) → is_attributed_form z ≡ false
+    → is_attributed_form (parens_unless b z) ≡ false
 unless_attributed true z e = e
 unless_attributed false z e = refl
 
@@ -341,7 +343,9 @@ struct_stays : (p : Position) (k : Kind) (y m z : Tree) → is_struct k ≡ true
 struct_stays p k y m z s e = ap (λ b. parens_unless (b || stays_plain) m) s ∙ e
   where
     stays_plain : Bool
-    stays_plain = (may_be_left k m && (not (ends_there p m) || is_dotted k)) && (not (chains m k) && is_ended k (flat y) m)
+    stays_plain =
+        (may_be_left k m && (not (ends_there p m) || is_dotted k))
+        && (not (chains m k) && is_ended k (flat y) m)
 
 record Struct (q : Position) (v : Tree) (ts : List Token) : Type 0 where
   stand : Stand q v ts
@@ -429,7 +433,8 @@ front_standing k y x f p ts h q rest b e le = go (begins_in p k) refl le
     go true g le = at q rest b e (near_begins p q k b.near g) le
     go false g le =
         paren_stand (Front k (normal y) w) q rest
-        (front_meets p Plain k (normal y) z (meets x (inside p k) (inside Plain k) ts (near_inside p Plain k (inr refl))))
+        (front_meets p Plain k (normal y) z
+        (meets x (inside p k) (inside Plain k) ts (near_inside p Plain k (inr refl))))
         (at Plain [] (beside_nothing p ts) refl refl (last_nothing w)).spelled
         (starts_more (flat (normal y)) (flat w) (own_starts (BeforeOperand k (normal y)) k (normal y) f.0
         (Opens Parenthesis ∷ []) (paren_operand k (normal y) [])))
@@ -483,7 +488,9 @@ infix_standing l k y r f p ts h j q rest b e le =
     let us : List Token = follow (flat (normal y)) in
     let v : Tree = with_left p k (normal y) (formed p us l) in
     let w : Tree = with_right p k (normal y) (formed (inside p k) ts r) in
-    let a = right_at r f.4 p q k (normal y) ts rest b e f.1 (infix_plain k r _ f.2 (f.0.goes_on Plain (Opens Parenthesis ∷ []) refl (paren_operand k (normal y) []))) j le in
+    let n = infix_plain k r _ f.2
+    (f.0.goes_on Plain (Opens Parenthesis ∷ []) refl (paren_operand k (normal y) [])) in
+    let a = right_at r f.4 p q k (normal y) ts rest b e f.1 n j le in
     let i = f.0.goes_on q (flat w ++ rest) (infix_stands q k f.2) a.before in
     let c = left_at l f.3 p q k (normal y) (flat w ++ rest) b.near (infix_turns_of k (normal y) f.0 f.1) f.2 i h in
     record {

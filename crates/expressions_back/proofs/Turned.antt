@@ -5,12 +5,15 @@ use Rattle.proc_macro2.specs.Token.{Token, Opens}
 use Rattle.proc_macro2.specs.declared.delimiter.Delimiter.{Delimiter}
 use Rattle.proc_macro2.specs.declared.delimiter.Delimiter.TheVariants.{Parenthesis}
 use Rattle.proc_macro2.specs.Groups.{same_delimiter}
-use Rattle.syn_grammar.specs.Kind.{Kind, Position, Plain, ExprCall, ExprMethodCall, ExprField, ExprAwait, ExprIndex, ExprTry}
+use Rattle.syn_grammar.specs.Kind.{Kind, Position, Plain, ExprCall, ExprMethodCall, ExprField, ExprAwait}
+use Rattle.syn_grammar.specs.Kind.{ExprIndex, ExprTry}
 use Rattle.syn_grammar.specs.Look.{seen, sees}
 use Rattle.syn_grammar.specs.Say.{parenthesis}
 use Rattle.syn_grammar.specs.Expressions.{postfix_stands}
 use Rattle.syn_grammar.specs.Forms.{back, level}
-use Rattle.binding_laws.proofs.Turns.{Turn, Begins, lone_less, equals, question, question_joint, dot, parenthesis as a_parenthesis, bracket, dots, minus, star, and, bar, less, and_and, bar_bar, less_less}
+use Rattle.binding_laws.proofs.Turns.{Turn, Begins, lone_less, equals, question, question_joint, dot}
+use Rattle.binding_laws.proofs.Turns.{parenthesis as a_parenthesis, bracket, dots, minus, star, and, bar, less}
+use Rattle.binding_laws.proofs.Turns.{and_and, bar_bar, less_less}
 use Rattle.binding_laws.proofs.Sights.{back_same}
 use Rattle.expressions_back.specs.Behind.{no_end}
 

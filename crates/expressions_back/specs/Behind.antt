@@ -33,10 +33,11 @@ BeforeOperand k y ts =
 abbrev pub AtEnd : List Token → Type 0
 AtEnd ts = sees no_end ts ≡ false
 
--- A cast is followed by no postfix form, and its type takes the arguments that it can; a field with a name is followed by
--- no call.
+-- A cast is followed by no postfix form, and its type takes the arguments that it can; a field with a name is
+-- followed by no call.
 abbrev pub ends_own : Kind → Tree → List Token → Bool
-ends_own ExprCast y ts = not (sees postfix_stands ts || (ends_in_name (flat y) && sees (no (marks "<=") then marks "<") ts))
+ends_own ExprCast y ts =
+    not (sees postfix_stands ts || (ends_in_name (flat y) && sees (no (marks "<=") then marks "<") ts))
 ends_own ExprField y ts = not (has the_name y && sees parenthesis ts)
 ends_own k y ts = true
 

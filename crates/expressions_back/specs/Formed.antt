@@ -13,8 +13,8 @@ use Rattle.syn_grammar.specs.Forms.{front, back, level, is_path_form}
 use Rattle.syn_grammar.specs.Parens.{may_lack, is_struct, begins_in, stands_in}
 use Rattle.expressions_back.specs.Behind.{no_operand, is_attributed, BeforeOperand, AtEnd, BehindOperand}
 
--- An own part in front, behind which M may stand: its form is the one that begins there, and it is read there; its tokens
--- are those of what is held of it; and an operand can begin with it.
+-- An own part in front, behind which M may stand: its form is the one that begins there, and it is read there; its
+-- tokens are those of what is held of it; and an operand can begin with it.
 pub record IsFront (M : List Token → Type 0) (k : Kind) (y : Tree) : Type 0 where
   pub begins : (p : Position) (ts : List Token) → begins_in p k ≡ true → M ts → front p (flat y ++ ts) ≡ Some k
   pub read : (ts : List Token) → M ts → Derives y (table k) ts
