@@ -6,10 +6,8 @@ use Rattle.std.specs.Borrow.{MutBor}
 use Rattle.proc_macro2.specs.Token.{Token, Spanned, plain}
 use Rattle.syn_error.specs.Faults.{IsSyntax}
 use Rattle.syn_error.specs.declared.fault.ParseFault.{ParseFault}
-use Rattle.syn_buffer.specs.Position as place
-use Rattle.syn_buffer.specs.declared.position.Cursor.{Cursor}
 use Rattle.syn_input.specs.Input.{rest}
-use Rattle.syn_input.specs.ReadLists.{IsStill, Reading}
+use Rattle.syn_input.specs.ReadLists.{Reading}
 use Rattle.syn_input.specs.declared.input.ParseBuffer.{ParseBuffer}
 
 -- what a function reads, and what it reads nothing from
@@ -45,16 +43,15 @@ module _ {T P : Type 0} (value : Reading T) (separator : Reading P) (ended follo
       (ws : List T) × (us : List Spanned) × ReadsTurns ts ws ps us × IsEnded us ws vs behind
 
   module _ (no_value no_separator : List Spanned → Type 0) where
-    -- The list has not ended, and no value stands there; or no separator, though it seemed to; or a value and a
-    -- separator were read that have no token.
+    -- The list has not ended, and no value stands there; or no separator, though it seemed to.
     abbrev pub StopsAt : List Spanned → Type 0
     StopsAt us = (ended (plain us) ≡ false) × (no_value us
-        ⊎ ((v : T) × (xs : List Spanned) × value us v xs × (follows (plain xs) ≡ true) × (no_separator xs
-        ⊎ ((p : P) × (a : Cursor) × (b : Cursor) × (place.rest a ≡ us) × separator xs p (place.rest b) × IsStill a b))))
+        ⊎ ((v : T) × (xs : List Spanned) × value us v xs × (follows (plain xs) ≡ true) × no_separator xs))
 
-    -- behind some turns the list can't go on
+    -- Behind some turns the list can't go on, or more values and separators were read than there are tokens.
     abbrev pub StopsMany : List Spanned → Type 0
-    StopsMany ts = (vs : List T) × (ps : List P) × (us : List Spanned) × ReadsTurns ts vs ps us × StopsAt us
+    StopsMany ts = (vs : List T) × (ps : List P) × (us : List Spanned) × ReadsTurns ts vs ps us
+        × (StopsAt us ⊎ (length ts < length vs))
 
   -- a list is read, and tokens are left behind it
   abbrev pub IsShort : List Spanned → Type 0

@@ -18,8 +18,8 @@ use syn_peek::Token;
 /// Reads values by the function, with separators between them, to the end of the list that is read. A separator may
 /// stand behind the last value.
 ///
-/// The fault is the function's own, that of a separator, that a value and a separator were read that have no token, or
-/// that no separator stands where the list goes on.
+/// The fault is the function's own, that of a separator, that more values and separators were read than there are
+/// tokens, or that no separator stands where the list goes on.
 pub fn parse_terminated_with<
     'a,
     T: Drop,
@@ -48,7 +48,8 @@ pub fn parse_terminated_with<
 
 /// Reads a value by the function, and then a separator and a value as long as a separator stands there.
 ///
-/// The fault is the function's own, that of a separator, or that a value and a separator were read that have no token.
+/// The fault is the function's own, that of a separator, or that more values and separators were read than there are
+/// tokens.
 pub fn parse_separated_nonempty_with<
     'a,
     T: Drop,
@@ -71,7 +72,7 @@ pub fn parse_separated_nonempty_with<
 
 /// Reads a value, and then a separator and a value as long as a separator stands there.
 ///
-/// The fault is that of a value or of a separator, or that a value and a separator were read that have no token.
+/// The fault is that of a value or of a separator, or that more values and separators were read than there are tokens.
 pub fn parse_separated_nonempty<T: Parse, P: Parse + Token>(
     input: &mut ParseBuffer<'_>,
 ) -> Result<Punctuated<T, P>, ParseFault>

@@ -15,7 +15,8 @@ use syn_peek::Token;
 /// Reads values by the function, with separators between them, until the kind `E` stands where a value would begin, or
 /// no separator stands behind a value. A separator may stand behind the last value where the list ends at an `E`.
 ///
-/// The fault is the function's own, that of a separator, or that a value and a separator were read that have no token.
+/// The fault is the function's own, that of a separator, or that more values and separators were read than there are
+/// tokens.
 pub fn read_many<
     'a,
     T: Drop,
@@ -35,8 +36,8 @@ pub fn read_many<
     ensures onward { IsOnward input.old input.new }
 {
     let mut list = Punctuated::new(input.allocator());
+    let most = input.cursor().entries_left();
     'turns: while !input.peek::<E>() {
-        let before = input.cursor().entries_left();
         let value = reader(input)?;
         list.push_value(value)?;
         if !input.peek::<P>() {
@@ -44,7 +45,7 @@ pub fn read_many<
         }
         let separator = input.parse::<P>()?;
         list.push_punct(separator)?;
-        if input.cursor().entries_left() == before {
+        if most < list.len() {
             return Err(input.expected("a token"));
         }
     }

@@ -1,4 +1,4 @@
-use Rattle.std.proofs.Common.{◌≡◌, ◌∙◌, ◌++◌, ◌∷◌, [], arith, ap, inl, inr, refl, rules}
+use Rattle.std.proofs.Common.{◌≡◌, ◌∙◌, ◌<◌, ◌++◌, ◌∷◌, [], arith, ap, inl, inr, length, rules}
 use Rattle.std.specs.Prelude.{true, false}
 use Rattle.std.proofs.lemmas.Result.{err_from_is_err_and}
 use Rattle.proc_macro2.specs.Token.{plain}
@@ -8,7 +8,7 @@ use Rattle.syn_input.proofs.ReadPairs.{even_next, past_both}
 use Rattle.syn_lists.specs.Lists.{separators, values}
 use Rattle.syn_read_lists.specs.ReadMany.{ReadsBy}
 use Rattle.syn_read_lists.specs.contracts.many.read_many.F-Fn.{words}
-use Rattle.syn_read_lists.proofs.Turns.{ends_in_value, read_by, refused_by, turns_next}
+use Rattle.syn_read_lists.proofs.Turns.{ends_in_value, few_tokens, read_by, refused_by, turns_next}
 use Rattle.syn_read_lists.proofs.many.read_many.Goals as goal
 
 pub returns-in_err-value-clause-none : goal.returns-in_err-value-clause-none
@@ -21,7 +21,7 @@ returns-in_err-value-clause-none g c =
       separators c.turns.list,
       rest c.turns.input,
       c.turns.invariant.turns,
-      (goes_on, inl (refused_by runs _ _ _ s c.in_err-value.ensures)),
+      inl (goes_on, inl (refused_by runs _ _ _ s c.in_err-value.ensures)),
     ))
 
 pub returns-then-not-peek-clause-found : goal.returns-then-not-peek-clause-found
@@ -45,54 +45,40 @@ returns-in_err-separator-clause-none g c =
       separators c.turns.list,
       rest c.turns.input,
       c.turns.invariant.turns,
-      (
+      inl (
         goes_on,
         inr (
           c.in_ok-value.value,
           rest c.reader.new.arg2,
           read_by runs _ _ _ c.in_ok-value.ensures,
           there,
-          inl (c.in_err-separator.ensures.none s),
+          c.in_err-separator.ensures.none s,
         ),
       ),
     ))
 
-pub returns-then-entries_left-before-clause-none : goal.returns-then-entries_left-before-clause-none
-returns-then-entries_left-before-clause-none g c =
+pub returns-then-most-len-clause-none : goal.returns-then-most-len-clause-none
+returns-then-most-len-clause-none g c =
     let runs = (words g.row.T g.row.P g.row.E g.row.F g.F.Fn).post c.args.reader in
     let goes_on : g.E.Token.stands (plain (rest c.turns.input)) ≡ false = search rules in
     let there : g.P.Token.stands (plain (rest c.reader.new.arg2)) ≡ true = search rules in
-    let still : ahead c.parse.new.self.cursor ≡ ahead c.turns.input.cursor =
-    omega (
+    let vs = c.push_punct.ensures.values ∙ c.in_ok-push_value.ensures.ok in
+    let ps = c.in_ok-push_punct.ensures.ok
+    ∙ ap (λ qs. qs ++ c.in_ok-separator.separator ∷ []) c.push_value.ensures.separators in
+    let many : length (rest c.args.input.now) < length (values c.push_punct.new.self) = omega (
       arith,
-      c.entries_left-before.ensures,
-      c.entries_left.ensures,
+      few_tokens c.args.input.now.cursor,
+      c.entries_left-most.ensures,
       ap ahead c.cursor.ensures,
-      ap ahead c.cursor-in-turns.ensures,
-      c.if-entries_left-before.true,
     ) in
     λ _. (
-      values c.turns.list,
-      separators c.turns.list,
-      rest c.turns.input,
-      c.turns.invariant.turns,
-      (
-        goes_on,
-        inr (
-          c.in_ok-value.value,
-          rest c.reader.new.arg2,
-          read_by runs _ _ _ c.in_ok-value.ensures,
-          there,
-          inr (
-            c.in_ok-separator.separator,
-            c.turns.input.cursor,
-            c.parse.new.self.cursor,
-            refl,
-            c.in_ok-separator.ensures.found,
-            (past_both _ _ _ (c.requires.onward _ _ _ c.reader.ensures) c.parse.ensures.onward, still),
-          ),
-        ),
-      ),
+      values c.push_punct.new.self,
+      separators c.push_punct.new.self,
+      rest c.parse.new.self,
+      turns_next (ReadsBy runs) g.P.Parse.reads g.E.Token.stands g.P.Token.stands _ _ _ _ _ _ _ _ _ _ vs ps
+          c.turns.invariant.turns goes_on (read_by runs _ _ _ c.in_ok-value.ensures) there
+          c.in_ok-separator.ensures.found,
+      inr many,
     )
 
 pub turns-preserved : goal.turns-preserved
@@ -107,6 +93,7 @@ turns-preserved g c =
       turns = turns_next (ReadsBy runs) g.P.Parse.reads g.E.Token.stands g.P.Token.stands _ _ _ _ _ _ _ _ _ _ vs ps
           c.turns.invariant.turns goes_on (read_by runs _ _ _ c.in_ok-value.ensures) there
           c.in_ok-separator.ensures.found;
+      few = omega (arith, ap length vs);
       even = even_next _ _ _ _ _ _ vs ps c.turns.invariant.even;
       noted = λ h. c.in_ok-separator.ensures.noted ∙ h _ _ _ c.in_ok-value.ensures ∙ c.turns.invariant.noted h;
       onward = past_both _ _ _ (past_both _ _ _ c.turns.invariant.onward
