@@ -22,7 +22,7 @@ use Rattle.syn_grammar.specs.Kind.{QualifiedPath, RangeBound, RangeEnd, RangeToP
 use Rattle.syn_grammar.specs.Kind.{RestPattern, ReturnType, Segments, SeveralPatterns, Signature, SlicePattern}
 use Rattle.syn_grammar.specs.Kind.{SomeBounds, TraitPath, TuplePattern, TupleType, TypeParam, UnnamedField}
 use Rattle.syn_grammar.specs.Kind.{UnnamedFields, UseBranch, UseRooted, UseTop, UseTree, Variant, Visibility}
-use Rattle.syn_grammar.specs.Kind.{Where, WhereClause, WildPattern, WithPlus, WithoutPlus}
+use Rattle.syn_grammar.specs.Kind.{Where, WhereClause, WherePredicate, WildPattern, WithPlus, WithoutPlus}
 use Rattle.syn_grammar.specs.Kept.{held}
 use Rattle.syn_grammar.specs.Normal.{passed, place_of}
 use Rattle.syn_grammar.specs.Table.{table}
@@ -36,6 +36,7 @@ use Rattle.grammar_back.proofs.KindLaws.{law_generic_params, law_lifetime_colon,
 use Rattle.grammar_back.proofs.KindLaws.{law_unnamed_field, law_variant, law_const, law_trait_type, law_impl_type}
 use Rattle.grammar_back.proofs.Elements.{law_field_patterns, law_parameters, law_fn_arg, law_field_values}
 use Rattle.grammar_back.proofs.Defaults.{law_const_param}
+use Rattle.grammar_back.proofs.Predicates.{law_where_predicate}
 use Rattle.grammar_back.proofs.StepsOfPaths.{step_path_in_module, step_path_in_expression, step_path_in_type}
 use Rattle.grammar_back.proofs.StepsOfPaths.{step_path_at_type, step_segments_in_module, step_segments_in_type}
 use Rattle.grammar_back.proofs.StepsOfPaths.{step_segments_at_type, step_qualified_path_in_module}
@@ -65,6 +66,7 @@ use Rattle.grammar_back.proofs.ValueSteps.{step_meta, step_a_const}
 use Rattle.grammar_back.proofs.StepsOfGenerics.{step_generics, step_generic_params, step_generic_param}
 use Rattle.grammar_back.proofs.StepsOfGenerics.{step_lifetime_param, step_lifetime_colon, step_const_param}
 use Rattle.grammar_back.proofs.StepsOfGenerics.{step_type_param, step_bounds_colon, step_where, step_where_clause}
+use Rattle.grammar_back.proofs.Predicates.{step_where_predicate}
 use Rattle.grammar_back.proofs.StepsOfItems.{step_named_fields, step_unnamed_fields, step_named_field}
 use Rattle.grammar_back.proofs.StepsOfItems.{step_variant, step_a_struct, step_an_enum, step_a_union}
 use Rattle.grammar_back.proofs.StepsOfItems.{step_a_static, step_an_extern_crate, step_a_use, step_use_top}
@@ -170,6 +172,7 @@ steps TypeParam e = step_type_param
 steps BoundsColon e = step_bounds_colon
 steps Where e = step_where
 steps WhereClause e = step_where_clause
+steps WherePredicate e = step_where_predicate
 steps Visibility e = step_visibility
 steps NamedFields e = step_named_fields
 steps UnnamedFields e = step_unnamed_fields
@@ -348,6 +351,7 @@ laws TypeParam e = simple_kind TypeParam refl (λ x. tt) (λ x. refl) (λ x. ref
 laws BoundsColon e = law_bounds_colon
 laws Where e = law_where
 laws WhereClause e = simple_kind WhereClause refl (λ x. tt) (λ x. refl) (λ x. refl) (λ q. refl) (λ q. refl) refl
+laws WherePredicate e = law_where_predicate
 laws Visibility e = simple_kind Visibility refl (λ x. tt) (λ x. refl) (λ x. refl) (λ q. refl) (λ q. refl) refl
 laws NamedFields e = simple_kind NamedFields refl (λ x. tt) (λ x. refl) (λ x. refl) (λ q. refl) (λ q. refl) refl
 laws UnnamedFields e = simple_kind UnnamedFields refl (λ x. tt) (λ x. refl) (λ x. refl) (λ q. refl) (λ q. refl) refl

@@ -136,7 +136,8 @@ fine_field =
       (unseen_all (at "pub" ∷ []) (starts (AType WithPlus)) (flat y ++ s) (
         ((λ us. refl) & (λ us. refl) & (λ us. refl) & (λ us. refl) & (λ us. refl) & (λ us. refl) & (λ us. refl) &
             (λ us. refl) & (λ us. refl) & (λ us. refl) & (λ us. refl) & (λ us. refl) & (λ us. refl) & (λ us. refl) &
-            (λ us. refl) & (λ us. refl) & (λ cs h us. refl) & (λ us. refl) & (λ us. refl) & (λ us. refl) & (λ us. refl) &
+            (λ us. refl) & (λ us. refl) & (λ cs h us. refl) & (λ us. refl) & (λ us. refl) & (λ us. refl) &
+            (λ us. refl) &
             (λ cs h us. simp (ident_not (codes "pub") cs reserved_pub h) refl) & (λ us. refl) & tt),
         tt,
       ) i.0).0,

@@ -3,10 +3,11 @@
 -- Its kinds are covered. An expression in it is in normal form where it stands, the own part of each of its forms fits
 -- the entry of the form's kind, and no number in it is to be split.
 use Rattle.std.proofs.Common.{◌≡◌, List, [], ◌∷◌, ◌++◌, refl, sym, ap, ◌∙◌}
-use Rattle.std.specs.Prelude.{Bool, true, false}
+use Rattle.std.specs.Prelude.{Bool, true, false, not, ◌||◌}
 use Rattle.proc_macro2.specs.Token.{Token, Opens, Closes, Punct}
 use Rattle.rust_leaf.specs.declared.punct.Spacing.TheVariants.{Alone as Apart}
-use Rattle.syn_grammar.specs.Kind.{Kind, Position, DynType, ImplType, WithoutPlus, AConst, UnnamedField, Meta}
+use Rattle.syn_grammar.specs.Kind.{Kind, Position, DynType, ImplType, WithoutPlus, FnPtrType, WherePredicate}
+use Rattle.syn_grammar.specs.Kind.{AConst, UnnamedField, Meta}
 use Rattle.syn_grammar.specs.Kind.{Expression}
 use Rattle.syn_grammar.specs.Kind.{ExprAttributed}
 use Rattle.syn_grammar.specs.Tree.{Tree, AWord, ALiteral, AMark, ALifetime, Raw, Nil, Pair, First, Second, End}
@@ -17,9 +18,10 @@ use Rattle.syn_grammar.specs.Gram.{Gram, word, literal, mark, lifetime, raw, not
 use Rattle.syn_grammar.specs.Gram.{judged, dropped, called, ref, operand, Keep, is_balanced}
 use Rattle.syn_grammar.specs.Types.{is_path_bound}
 use Rattle.syn_grammar.specs.Table.{table}
-use Rattle.syn_grammar.specs.Kept.{forget, dotted, kept}
+use Rattle.syn_grammar.specs.Kept.{forget, dotted, is_there, kept}
+use Rattle.syn_grammar.specs.Part.{choice}
 use Rattle.syn_grammar.specs.Normal.{stands_behind, formed}
-use Rattle.grammar_back.specs.Covered.{has_clear_type, has_lone_value, is_known}
+use Rattle.grammar_back.specs.Covered.{front, has_clear_type, has_lone_value, is_known}
 
 -- the test can say so
 abbrev pub CanSay : (List Token → Bool) → Bool → Type 0
@@ -46,10 +48,24 @@ abbrev pub has_bare_value : Tree → Bool
 has_bare_value (Pair p (Second (First (Pair s (Second (Called n (Node (Expression q) (Whole x)))))))) = is_bare x
 has_bare_value _ = true
 
+-- a type begins with the for of a function pointer; before the type of a predicate stands a for, or it doesn't
+abbrev pub is_long : Tree → Bool
+is_long (Node FnPtrType y) = is_there (front y)
+is_long _ = false
+
+abbrev pub is_for : Tree → Bool
+is_for (Node k x) = is_long (choice x)
+is_for _ = false
+
+abbrev pub has_own_for : Tree → Bool
+has_own_for (Second (Pair o y)) = is_there o || not (is_for (front y))
+has_own_for _ = true
+
 -- what the tests say of what a kind holds, where its entry's shape doesn't
 abbrev pub IsMeant : Kind → Tree → Type 0
 IsMeant (DynType WithoutPlus) x = has_path_bound x ≡ true
 IsMeant (ImplType WithoutPlus) x = has_path_bound x ≡ true
+IsMeant WherePredicate x = has_own_for x ≡ true
 IsMeant UnnamedField x = has_clear_type x ≡ true
 IsMeant AConst x = has_lone_value x ≡ true
 IsMeant Meta x = has_bare_value x ≡ true

@@ -361,7 +361,7 @@ law_member =
     (simple_law Plain (table Member) refl) member_held
 
 -- Of a constant with a value or a where clause.
-there_normal : (q : Position) (w : Tree) → is_there (normal_in q w) ≡ is_there w
+pub there_normal : (q : Position) (w : Tree) → is_there (normal_in q w) ≡ is_there w
 there_normal q (First w) = refl
 there_normal q _ = refl
 
@@ -455,11 +455,11 @@ law_const = record { entry = λ q l. simple_law Plain (table AConst) refl; node 
         }
 
 -- Of an unnamed field, whose type doesn't follow pub in parentheses.
-chosen_fits : (w : Tree) (g : Gram) → Fits w g → is_there (kept w) ≡ is_there w
+pub chosen_fits : (w : Tree) (g : Gram) → Fits w g → is_there (kept w) ≡ is_there w
 chosen_fits (Back l k y) _ f = absurd f
 chosen_fits _ _ f = refl
 
-chosen_read : (x : Tree) (g : Gram) (r : List Token) → Derives x g r → is_there (kept x) ≡ is_there x
+pub chosen_read : (x : Tree) (g : Gram) (r : List Token) → Derives x g r → is_there (kept x) ≡ is_there x
 chosen_read (Back l k y) _ r d = absurd d
 chosen_read _ _ r d = refl
 

@@ -34,7 +34,7 @@ use Rattle.grammar_back.proofs.Fine.{fine_alt, fine_called, fine_many}
 abbrev pub Told : Look → Bool → List Class → Type 0
 Told l b cs = OfAll (λ ts. sees l ts ≡ b) cs
 
-told_at : (l : Look) (b : Bool) (cs : List Class) (ts : List Token) → Told l b cs → IsAmong cs ts → sees l ts ≡ b
+pub told_at : (l : Look) (b : Bool) (cs : List Class) (ts : List Token) → Told l b cs → IsAmong cs ts → sees l ts ≡ b
 told_at l b cs ts h i = of_all (λ us. sees l us ≡ b) cs ts h i
 
 abbrev pub Unseen : List Look → List Class → Type 0

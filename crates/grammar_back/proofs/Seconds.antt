@@ -44,13 +44,14 @@ past_none p l ts e = go (a_word p ts) e
     go None e = refl
     go (Some us) e = cc
 
-mark_is_none : (p : List ℕ → Bool) (c : ℕ) (cs : List ℕ) (ts : List Token) → sees (past_marks c cs) ts ≡ true
+pub mark_is_none : (p : List ℕ → Bool) (c : ℕ) (cs : List ℕ) (ts : List Token) → sees (past_marks c cs) ts ≡ true
     → Lacks (a_word p) ts
 mark_is_none p c [] (Ident ds ∷ ts) e = cc
 mark_is_none p c (x ∷ xs) (Ident ds ∷ ts) e = cc
 mark_is_none p c cs _ e = refl
 
-group_is_none : (p : List ℕ → Bool) (d : Delimiter) (ts : List Token) → sees (opens d) ts ≡ true → Lacks (a_word p) ts
+pub group_is_none : (p : List ℕ → Bool) (d : Delimiter) (ts : List Token) → sees (opens d) ts ≡ true → Lacks
+    (a_word p) ts
 group_is_none p d (Ident ds ∷ ts) e = cc
 group_is_none p d _ e = refl
 
@@ -64,7 +65,7 @@ word_is_none w (Ident cs ∷ us) r e = go (is_ident cs) refl
         cc f
 word_is_none w _ r e = refl
 
-either_seen : (o p : Option (List Token)) → seen (first_seen o p) ≡ true → (seen o ≡ true) ⊎ (seen p ≡ true)
+pub either_seen : (o p : Option (List Token)) → seen (first_seen o p) ≡ true → (seen o ≡ true) ⊎ (seen p ≡ true)
 either_seen (Some us) p e = inl refl
 either_seen None p e = inr e
 

@@ -22,7 +22,7 @@ use Rattle.syn_grammar.specs.Kind.{QualifiedPath, RangeBound, RangeEnd, RangeToP
 use Rattle.syn_grammar.specs.Kind.{RestPattern, ReturnType, Segments, SeveralPatterns, Signature, SlicePattern}
 use Rattle.syn_grammar.specs.Kind.{SomeBounds, TraitPath, TuplePattern, TupleType, TypeParam, UnnamedField}
 use Rattle.syn_grammar.specs.Kind.{UnnamedFields, UseBranch, UseRooted, UseTop, UseTree, Variant, Visibility}
-use Rattle.syn_grammar.specs.Kind.{Where, WhereClause, WildPattern, WithPlus, WithoutPlus}
+use Rattle.syn_grammar.specs.Kind.{Where, WhereClause, WherePredicate, WildPattern, WithPlus, WithoutPlus}
 use Rattle.syn_grammar.specs.Tree.{Tree, Pair, First, Second, Again, Final, More, Group, Dropped, Called, Verbatim}
 use Rattle.syn_grammar.specs.Tree.{Node, Whole, Alone, Front, Back, Infix}
 use Rattle.syn_grammar.specs.Kept.{is_there}
@@ -101,6 +101,7 @@ has_step TypeParam = true
 has_step BoundsColon = true
 has_step Where = true
 has_step WhereClause = true
+has_step WherePredicate = true
 has_step Visibility = true
 has_step NamedFields = true
 has_step UnnamedFields = true
