@@ -1,17 +1,25 @@
-//! Answers a table of literals by the calls of `syn_leaf`: which literal a text is, and the number that an integer
-//! writes. What is wanted comes from the rules, and stands beside the questions in `stdout`.
+//! Answers a table of literals and operators by the calls of `syn_leaf`: which literal a text is, its value and its
+//! suffix, and what is read from a text. What is wanted comes from the rules, and stands beside the questions in `stdout`.
+//!
+//! - `following`: what stands first in a text, and what is left behind it.
 #![tactic(auto)]
 
+mod following;
+
 use anyhow::{Result, anyhow};
+use following::Front;
 use proc_macro2::tree::TokenStream;
-use rows::{Row, Table, answered, write};
+use rows::{Row, Table, answered, write, write_bytes};
 use rust_leaf::literal::Literal;
 use rust_map::source_map::SourceMap;
 use rust_map::span::Span;
 use std::alloc::Global;
 use std::io::{Read, Write};
 use syn_error::ToTokens;
-use syn_leaf::{Index, Lit, LitBool, LitChar, LitFloat, LitInt, LitStr, Member};
+use syn_leaf::{
+    BinOp, Index, Lit, LitBool, LitByte, LitByteStr, LitCStr, LitChar, LitFloat, LitInt, LitStr,
+    Member, RangeLimits, UnOp,
+};
 use syn_parse::{Parse, parse_str};
 use try_clone::TryClone;
 
@@ -30,11 +38,17 @@ impl Table for Calls {
             "read_lit" => read::<Lit>(alloc, text),
             "read_bool" => read::<LitBool>(alloc, text),
             "read_str" => read::<LitStr>(alloc, text),
+            "read_byte_str" => read::<LitByteStr>(alloc, text),
+            "read_c_str" => read::<LitCStr>(alloc, text),
+            "read_byte" => read::<LitByte>(alloc, text),
             "read_char" => read::<LitChar>(alloc, text),
             "read_int" => read::<LitInt>(alloc, text),
             "read_float" => read::<LitFloat>(alloc, text),
             "read_index" => read::<Index>(alloc, text),
             "read_member" => read::<Member>(alloc, text),
+            "read_binary" => front::<BinOp>(alloc, text),
+            "read_unary" => front::<UnOp>(alloc, text),
+            "read_limits" => front::<RangeLimits>(alloc, text),
             _ => Err(anyhow!("no such call")),
         }
     }
@@ -65,23 +79,25 @@ fn kind(alloc: Global, text: &str) -> Result<String> {
     Ok(String::from_str(alloc, name)?)
 }
 
-// The number that an integer writes.
+// The value of a literal: the number that an integer writes, and what the units of one in quotes spell.
 fn value(alloc: Global, text: &str) -> Result<String> {
     match literal(alloc, text)? {
         Lit::Int(literal) => match literal.value() {
             Some(value) => Ok(format!(in alloc; "{value}")?),
             None => Ok(String::from_str(alloc, "none")?),
         },
-        _ => Err(anyhow!("no integer")),
+        Lit::Str(literal) => write(alloc, literal.value(alloc)?.as_str()),
+        Lit::ByteStr(literal) => write_bytes(alloc, literal.value(alloc)?.as_slice()),
+        Lit::CStr(literal) => write_bytes(alloc, literal.value(alloc)?.as_slice()),
+        Lit::Byte(literal) => write_bytes(alloc, &[literal.value()]),
+        Lit::Char(literal) => write(alloc, literal.value().encode_utf8(&mut [0u8; 4])),
+        _ => Err(anyhow!("no value")),
     }
 }
 
-// The suffix of an integer.
+// The suffix of a literal.
 fn suffix(alloc: Global, text: &str) -> Result<String> {
-    match literal(alloc, text)? {
-        Lit::Int(literal) => write(alloc, literal.suffix()),
-        _ => Err(anyhow!("no integer")),
-    }
+    write(alloc, literal(alloc, text)?.suffix())
 }
 
 // Whether two literals, one space apart, are equal, and a copy is equal to the first.
@@ -119,6 +135,19 @@ fn index(alloc: Global, text: &str) -> Result<String> {
     let mut stream = Index::from(number).to_token_stream(alloc)?;
     Member::from(number).to_tokens(&mut stream)?;
     Ok(stream.to_string(alloc)?)
+}
+
+// What is printed for what stands first in a text and for what is left behind it, or why nothing stands there.
+fn front<T: Parse + ToTokens>(alloc: Global, text: &str) -> Result<String> {
+    let mut map = SourceMap::new(alloc);
+    match parse_str::<Front<T>>(alloc, text, &mut map) {
+        Ok(front) => {
+            let first = front.first.to_token_stream(alloc)?.to_string(alloc)?;
+            let rest = front.rest.to_string(alloc)?;
+            Ok(format!(in alloc; "{first} // {rest}")?)
+        }
+        Err(fault) => Ok(format!(in alloc; "{fault}")?),
+    }
 }
 
 // What is printed for what is read from a text, or why nothing is.

@@ -4,3 +4,10 @@ pub mod OfClass
 pub mod Digits
 pub mod Passed
 pub mod Reading
+pub mod Longest
+pub mod Kept
+pub mod Fenced
+pub mod Apart
+pub mod Spellings
+pub mod Values
+pub mod Suffixes

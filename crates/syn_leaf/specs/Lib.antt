@@ -1,7 +1,10 @@
 pub mod Operators
 pub mod Members
+pub mod Alike
 pub mod Booleans
 pub mod Integers
 pub mod Kinds
 pub mod Lits
+pub mod Longest
+pub mod Quoted
 pub mod Reading

@@ -4,7 +4,8 @@ use Rattle.proc_macro2.specs.Flat.{spanned}
 use Rattle.proc_macro2.specs.Token.{Ident, Literal, Spanned}
 use Rattle.syn_kinds.specs.Values.{word_tokens}
 use Rattle.syn_leaf.specs.Booleans.{bool_text}
-use Rattle.std.specs.Prelude.{ℕ, List, [], ◌∷◌, Option, Some, None}
+use Rattle.syn_leaf.specs.Quoted.{HasSuffix}
+use Rattle.std.specs.Prelude.{◌≡◌, ℕ, List, [], ◌∷◌, Option, Some, None}
 use Rattle.rust_map.specs.declared.span.Span.{Span}
 use Rattle.rust_lex.specs.declared.piece.LiteralKind.{LiteralKind}
 use Rattle.rust_lex.specs.declared.piece.LiteralKind.TheVariants as kinds
@@ -70,3 +71,15 @@ lit_tokens (lit.Int l) = spanned (Literal (literal_text l.token)) (literal_span 
 lit_tokens (lit.Float l) = spanned (Literal (literal_text l.token)) (literal_span l.token) ∷ []
 lit_tokens (lit.Bool l) = word_tokens (bool_text l.value) l.span
 lit_tokens (lit.Verbatim l) = literal_entered (literal_text l) (literal_span l)
+
+-- its suffix, or nothing; true, false and a number behind a minus have none
+abbrev pub HasLitSuffix : Lit → List ℕ → Type 0
+HasLitSuffix (lit.Str l) suffix = HasSuffix kinds.Str (literal_text l.token) suffix
+HasLitSuffix (lit.ByteStr l) suffix = HasSuffix kinds.ByteStr (literal_text l.token) suffix
+HasLitSuffix (lit.CStr l) suffix = HasSuffix kinds.CStr (literal_text l.token) suffix
+HasLitSuffix (lit.Byte l) suffix = HasSuffix kinds.Byte (literal_text l.token) suffix
+HasLitSuffix (lit.Char l) suffix = HasSuffix kinds.Char (literal_text l.token) suffix
+HasLitSuffix (lit.Int l) suffix = HasSuffix kinds.Int (literal_text l.token) suffix
+HasLitSuffix (lit.Float l) suffix = HasSuffix kinds.Float (literal_text l.token) suffix
+HasLitSuffix (lit.Bool l) suffix = suffix ≡ []
+HasLitSuffix (lit.Verbatim l) suffix = suffix ≡ []

@@ -3,6 +3,7 @@
 ghost use Rattle.rust_lex.specs.declared.piece.LiteralKind.TheVariants as kinds;
 
 use crate::literal::LitClass;
+use crate::{float, integer, quoted};
 use rust_lex::piece::LiteralKind;
 
 /// The class of a string, `".."` or `r".."`.
@@ -18,6 +19,10 @@ impl LitClass for IsStr {
 
     fn display() -> &'static str {
         "string literal"
+    }
+
+    fn suffix_of(text: &str) -> &str {
+        quoted::suffix(LiteralKind::Str, text)
     }
 }
 
@@ -35,6 +40,10 @@ impl LitClass for IsByteStr {
     fn display() -> &'static str {
         "byte string literal"
     }
+
+    fn suffix_of(text: &str) -> &str {
+        quoted::suffix(LiteralKind::ByteStr, text)
+    }
 }
 
 /// The class of a C string, `c".."` or `cr".."`.
@@ -50,6 +59,10 @@ impl LitClass for IsCStr {
 
     fn display() -> &'static str {
         "C string literal"
+    }
+
+    fn suffix_of(text: &str) -> &str {
+        quoted::suffix(LiteralKind::CStr, text)
     }
 }
 
@@ -67,6 +80,10 @@ impl LitClass for IsByte {
     fn display() -> &'static str {
         "byte literal"
     }
+
+    fn suffix_of(text: &str) -> &str {
+        quoted::suffix(LiteralKind::Byte, text)
+    }
 }
 
 /// The class of a character, `'.'`.
@@ -83,12 +100,17 @@ impl LitClass for IsChar {
     fn display() -> &'static str {
         "character literal"
     }
+
+    fn suffix_of(text: &str) -> &str {
+        quoted::suffix(LiteralKind::Char, text)
+    }
 }
 
 /// The class of an integer: a number without a fraction and without an exponent, whatever its suffix is.
 #[derive(Clone, Copy, Debug)]
 pub struct IsInt;
 
+#[tactic(auto, using(crate::proofs::Suffixes::int_suffixed))]
 impl LitClass for IsInt {
     ghost kind = { kinds.Int };
 
@@ -99,12 +121,17 @@ impl LitClass for IsInt {
     fn display() -> &'static str {
         "integer literal"
     }
+
+    fn suffix_of(text: &str) -> &str {
+        integer::suffix(text)
+    }
 }
 
 /// The class of a number with a fraction or an exponent.
 #[derive(Clone, Copy, Debug)]
 pub struct IsFloat;
 
+#[tactic(auto, using(crate::proofs::Suffixes::float_suffixed))]
 impl LitClass for IsFloat {
     ghost kind = { kinds.Float };
 
@@ -114,5 +141,9 @@ impl LitClass for IsFloat {
 
     fn display() -> &'static str {
         "floating point literal"
+    }
+
+    fn suffix_of(text: &str) -> &str {
+        float::suffix(text)
     }
 }

@@ -93,7 +93,16 @@ fn behind_digits(digits: &str, base: u32) -> &str
     left
 }
 
-#[tactic(auto, unfolding(crate::specs::Integers::int_value, crate::specs::Integers::int_suffix))]
+/// What stands behind the digits of an integer.
+#[tactic(auto, unfolding(crate::specs::Integers::int_suffix))]
+pub(crate) fn suffix(text: &str) -> &str
+    ensures { chars result.now ≡ int_suffix (chars text.now) }
+{
+    let (base, digits) = split(text);
+    behind_digits(digits, base)
+}
+
+#[tactic(auto, unfolding(crate::specs::Integers::int_value))]
 impl LitToken<IsInt> {
     /// The number that its digits write in their base: 16, 8 or 2 behind `0x`, `0o` or `0b`, else 10. None: it is
     /// past the largest `u128`. The suffix says nothing.
@@ -104,11 +113,10 @@ impl LitToken<IsInt> {
         number(digits, base)
     }
 
-    /// Its suffix, as `u8`, or nothing: what stands behind its digits.
-    pub fn suffix(&self) -> &str
+    // What stands behind its digits.
+    pub(crate) fn behind_digits(&self) -> &str
         ensures { chars result.now ≡ int_suffix (literal_text self.now.token) }
     {
-        let (base, digits) = split(self.token().as_str());
-        behind_digits(digits, base)
+        suffix(self.token().as_str())
     }
 }

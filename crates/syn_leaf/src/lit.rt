@@ -9,7 +9,7 @@ ghost use Rattle.std.specs.Cmp.Lexicographic.{nat_list_eq_equiv};
 ghost use Rattle.std.specs.Cmp.{on_equiv, on_per, partial_equiv_from_equiv};
 ghost use Rattle.std.specs.Str.{bytes_eq, chars};
 ghost use Rattle.syn_leaf.specs.Kinds.{IsKind};
-ghost use Rattle.syn_leaf.specs.Lits.{lit_kind, lit_span, lit_text, lit_token, lit_tokens};
+ghost use Rattle.syn_leaf.specs.Lits.{HasLitSuffix, lit_kind, lit_span, lit_text, lit_token, lit_tokens};
 
 use crate::boolean::LitBool;
 use crate::classes::{IsByte, IsByteStr, IsCStr, IsChar, IsFloat, IsInt, IsStr};
@@ -67,6 +67,7 @@ pub enum Lit {
     Verbatim(Literal),
 }
 
+#[tactic(auto, using(crate::proofs::Spellings::no_word))]
 impl Lit {
     /// The literal that a token is.
     pub fn new(token: Literal) -> Lit
@@ -101,6 +102,22 @@ impl Lit {
             Lit::Float(literal) => literal.token().as_str(),
             Lit::Bool(literal) => literal.text(),
             Lit::Verbatim(literal) => literal.as_str(),
+        }
+    }
+
+    /// Its suffix, or nothing. Of `true`, `false` and a number behind a minus it is nothing.
+    pub fn suffix(&self) -> &str
+        ensures { HasLitSuffix self.now (chars result.now) }
+    {
+        match self {
+            Lit::Str(literal) => literal.suffix(),
+            Lit::ByteStr(literal) => literal.suffix(),
+            Lit::CStr(literal) => literal.suffix(),
+            Lit::Byte(literal) => literal.suffix(),
+            Lit::Char(literal) => literal.suffix(),
+            Lit::Int(literal) => literal.suffix(),
+            Lit::Float(literal) => literal.suffix(),
+            Lit::Bool(_) | Lit::Verbatim(_) => "",
         }
     }
 

@@ -7,8 +7,9 @@ ghost use Rattle.rust_lex.specs.declared.piece.LiteralKind.{LiteralKind};
 ghost use Rattle.std.specs.Cmp.Lexicographic.{nat_list_eq_equiv};
 ghost use Rattle.std.specs.Cmp.{on_equiv, on_per, partial_equiv_from_equiv};
 ghost use Rattle.std.specs.Prelude.{[], ◌++◌, ◌∷◌, ◌≡◌};
-ghost use Rattle.std.specs.Str.{bytes_eq};
+ghost use Rattle.std.specs.Str.{bytes_eq, chars};
 ghost use Rattle.syn_leaf.specs.Kinds.{IsKind};
+ghost use Rattle.syn_leaf.specs.Quoted.{HasSuffix};
 
 use proc_macro2::tree::TokenStream;
 use rust_leaf::literal::Literal;
@@ -29,6 +30,11 @@ pub trait LitClass {
 
     /// What messages call a literal of the class.
     fn display() -> &'static str;
+
+    /// The suffix of the text of a literal of the class, or nothing.
+    fn suffix_of(text: &str) -> &str
+        requires { IsKind kind (chars text.now) }
+        ensures { HasSuffix kind (chars text.now) (chars result.now) };
 }
 
 /// A literal of a class, with its suffix. Two of them are equal by their texts, wherever they stand.
@@ -58,6 +64,13 @@ impl<C: LitClass> LitToken<C> {
         ensures span_is { literal_span result.now ≡ literal_span self.now.token }
     {
         &self.token
+    }
+
+    /// Its suffix, as `u8` of `1u8`, or nothing: the identifier directly behind it, by the lexical rules.
+    pub fn suffix(&self) -> &str
+        ensures { HasSuffix C.kind (literal_text self.now.token) (chars result.now) }
+    {
+        C::suffix_of(self.token().as_str())
     }
 
     /// Where it stands.

@@ -122,7 +122,7 @@ fn index_of(literal: &LitInt) -> Option<u32>
     ensures some { IfSome result (λ index. IsPlain (literal_text literal.now.token) index) }
     ensures none { IfNone result ((number : ℕ) → IsPlain (literal_text literal.now.token) number → ⊥) }
 {
-    if !literal.suffix().is_empty() {
+    if !literal.behind_digits().is_empty() {
         return None;
     }
     let value = literal.value()?;

@@ -1,0 +1,93 @@
+//! Laws of leaves of syntax: two are equal exactly if they are the same but for their spans, and what was read is
+//! printed as the tokens that it was read from, each where it stood.
+//!
+//! Each function does nothing; its contract is the law.
+
+ghost use Rattle.proc_macro2.specs.Token.{Spanned};
+ghost use Rattle.rust_leaf.specs.Leaf.{ident_text, literal_text};
+ghost use Rattle.rust_leaf.specs.Minus.{starts_with_minus};
+ghost use Rattle.rust_leaf.specs.declared.ident.Ident.{Ident as Name};
+ghost use Rattle.std.specs.Prelude.{[], ◌++◌, ◌≡◌, ◌↔◌, IsFalse, IsTrue, List, false};
+ghost use Rattle.syn_leaf.specs.Alike.{unspaced};
+ghost use Rattle.syn_leaf.specs.Lits.{lit_text};
+ghost use Rattle.syn_leaf.specs.Operators.{bin_op_text, range_limits_text, un_op_text};
+ghost use Rattle.syn_leaf.specs.declared.member.Index.{Index as Number};
+ghost use Rattle.syn_leaf.specs.declared.member.Member.TheVariants.{Named, Unnamed};
+ghost use Rattle.syn_leaf.specs.declared.operators.BinOp.{BinOp as Binary};
+ghost use Rattle.syn_leaf.specs.declared.operators.RangeLimits.{RangeLimits as Limits};
+ghost use Rattle.syn_leaf.specs.declared.operators.UnOp.{UnOp as Unary};
+
+use crate::boolean::LitBool;
+use crate::lit::Lit;
+use crate::literal::{LitClass, LitToken};
+use crate::member::{Index, Member};
+use crate::operators::{BinOp, RangeLimits, UnOp};
+use syn_error::to_tokens::ToTokens;
+use syn_parse::Parse;
+
+/// Operators are equal exactly if they are written the same.
+#[tactic(auto, using(crate::proofs::Texts::by_text))]
+pub fn equal_operators()
+    ensures binary { (a b : Binary) → IsTrue (⟦<BinOp as PartialEq>⟧.eq a b) ↔ (bin_op_text a ≡ bin_op_text b) }
+    ensures unary { (a b : Unary) → IsTrue (⟦<UnOp as PartialEq>⟧.eq a b) ↔ (un_op_text a ≡ un_op_text b) }
+    ensures limits { (a b : Limits) → IsTrue (⟦<RangeLimits as PartialEq>⟧.eq a b)
+        ↔ (range_limits_text a ≡ range_limits_text b) }
+{}
+
+/// Literals of one class are equal exactly if they have one text, suffix included.
+#[tactic(auto, using(crate::proofs::Texts::by_text))]
+pub fn equal_of_class<C: LitClass>(a: &LitToken<C>, b: &LitToken<C>)
+    ensures { IsTrue (⟦<LitToken<C> as PartialEq>⟧.eq a.now b.now)
+        ↔ (literal_text a.now.token ≡ literal_text b.now.token) }
+{}
+
+/// And so are literals of any class.
+#[tactic(auto, using(crate::proofs::Texts::by_text))]
+pub fn equal_literals(a: &Lit, b: &Lit)
+    ensures { IsTrue (⟦<Lit as PartialEq>⟧.eq a.now b.now) ↔ (lit_text a.now ≡ lit_text b.now) }
+{}
+
+/// Two of `true` and `false` are equal exactly if their values are.
+pub fn equal_booleans(a: &LitBool, b: &LitBool)
+    ensures { IsTrue (⟦<LitBool as PartialEq>⟧.eq a.now b.now) ↔ (a.now.value ≡ b.now.value) }
+{}
+
+/// Indices are equal exactly if their numbers are.
+pub fn equal_indices(a: &Index, b: &Index)
+    ensures { IsTrue (⟦<Index as PartialEq>⟧.eq a.now b.now) ↔ (a.now.index ≡ b.now.index) }
+{}
+
+/// Members are equal exactly if they are names of one text, or one number.
+#[tactic(auto, using(crate::proofs::Texts::same_names))]
+pub fn equal_members()
+    ensures names { (i j : Name) → IsTrue (⟦<Member as PartialEq>⟧.eq (Named i) (Named j))
+        ↔ (ident_text i ≡ ident_text j) }
+    ensures numbers { (i j : Number) → IsTrue (⟦<Member as PartialEq>⟧.eq (Unnamed i) (Unnamed j))
+        ↔ (i.index ≡ j.index) }
+    ensures apart { (i : Name) (j : Number) → IsFalse (⟦<Member as PartialEq>⟧.eq (Named i) (Unnamed j)) }
+    ensures and_back { (i : Number) (j : Name) → IsFalse (⟦<Member as PartialEq>⟧.eq (Unnamed i) (Named j)) }
+{}
+
+/// A literal of a class that was read is printed as the token that it was read from, its span included.
+pub fn kept_of_class<C: LitClass>(literal: &LitToken<C>)
+    ensures { (ts us : List Spanned) → ⟦<LitToken<C> as Parse>⟧.reads ts literal.now us
+        → ts ≡ ⟦<LitToken<C> as ToTokens>⟧.put literal.now [] ++ us }
+{}
+
+/// And so is a literal of any class, with `true` and `false`; one that begins with a minus is read of no text.
+#[tactic(auto, using(crate::proofs::Kept::kept_lit))]
+pub fn kept_literal(literal: &Lit)
+    ensures { (ts us : List Spanned) → starts_with_minus (lit_text literal.now) ≡ false
+        → ⟦<Lit as Parse>⟧.reads ts literal.now us → ts ≡ ⟦<Lit as ToTokens>⟧.put literal.now [] ++ us }
+{}
+
+/// An operator that was read is printed as its tokens, their spans included. How its last mark was spaced is not kept.
+#[tactic(auto, using(crate::proofs::Kept::kept_marks))]
+pub fn kept_operators()
+    ensures binary { (ts us : List Spanned) (op : Binary) → ⟦<BinOp as Parse>⟧.reads ts op us
+        → unspaced ts ≡ unspaced (⟦<BinOp as ToTokens>⟧.put op [] ++ us) }
+    ensures unary { (ts us : List Spanned) (op : Unary) → ⟦<UnOp as Parse>⟧.reads ts op us
+        → unspaced ts ≡ unspaced (⟦<UnOp as ToTokens>⟧.put op [] ++ us) }
+    ensures limits { (ts us : List Spanned) (op : Limits) → ⟦<RangeLimits as Parse>⟧.reads ts op us
+        → unspaced ts ≡ unspaced (⟦<RangeLimits as ToTokens>⟧.put op [] ++ us) }
+{}
