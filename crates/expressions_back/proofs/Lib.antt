@@ -5,3 +5,5 @@ pub mod Begins
 pub mod Ends
 pub mod Stands
 pub mod ReadBack
+pub mod Signs
+pub mod Owns

@@ -1,2 +1,3 @@
 pub mod Behind
 pub mod Formed
+pub mod Firm

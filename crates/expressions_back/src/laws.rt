@@ -1,12 +1,13 @@
 //! Laws of expressions that are printed: each is the contract of a function that does nothing.
 
-ghost use Rattle.expressions_back.specs.Behind.{MayFollow};
-ghost use Rattle.expressions_back.specs.Formed.{Formed};
+ghost use Rattle.expressions_back.specs.Behind.{AtEnd, BeforeOperand, BehindOperand, MayFollow};
+ghost use Rattle.expressions_back.specs.Firm.{is_firm_behind, is_firm_front, IsOwn};
+ghost use Rattle.expressions_back.specs.Formed.{Formed, IsBehind, IsFront};
 ghost use Rattle.proc_macro2.specs.Token.{Token};
-ghost use Rattle.std.specs.Prelude.{◌≡◌, List};
+ghost use Rattle.std.specs.Prelude.{◌≡◌, List, true};
 ghost use Rattle.syn_grammar.specs.Derives.{Derives};
 ghost use Rattle.syn_grammar.specs.Gram.{ref};
-ghost use Rattle.syn_grammar.specs.Kind.{Expression, Position};
+ghost use Rattle.syn_grammar.specs.Kind.{Expression, Kind, Position};
 ghost use Rattle.syn_grammar.specs.Normal.{normal_in};
 ghost use Rattle.syn_grammar.specs.Tree.{flat, Node, Tree, Whole};
 
@@ -21,4 +22,13 @@ pub fn same_tokens()
     ensures { (p : Position) (x y : Tree) → Formed x → Formed y
         → flat (normal_in p (Node (Expression p) (Whole x))) ≡ flat (normal_in p (Node (Expression p) (Whole y)))
         → normal_in p (Node (Expression p) (Whole x)) ≡ normal_in p (Node (Expression p) (Whole y)) }
+{}
+
+/// Own parts that nothing behind them changes (words, literals, punctuations and groups) need only be read by
+/// themselves: they are read wherever their forms may stand, and begin these there.
+pub fn own_parts()
+    ensures front { (k : Kind) (y : Tree) → is_firm_front k ≡ true → IsOwn k y
+        → IsFront AtEnd k y × IsFront (BeforeOperand k y) k y }
+    ensures behind { (k : Kind) (y : Tree) → is_firm_behind k ≡ true → IsOwn k y
+        → IsBehind (BehindOperand k y) k y × IsBehind (BeforeOperand k y) k y }
 {}

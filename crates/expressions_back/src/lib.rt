@@ -5,7 +5,10 @@
 //! `Opened` (how an own part behind an operand, and an operand, begin, whatever follows), `Near` (an operand in its
 //! position and in plain position meets the conditions of levels, and goes on with nothing), `Begins` (with what an
 //! expression in normal form begins), `Ends` (what stands behind a left operand), `Stands` (the own parts are read
-//! where they stand) and `ReadBack` (the laws).
+//! where they stand) and `ReadBack` (the laws of expressions).
+//!
+//! `specs/Firm` has the kinds of own parts that nothing behind them changes: by `Signs` (punctuations) and `Owns` they
+//! are read wherever their forms may stand, if they are read by themselves.
 //!
 //! - `laws`: the laws.
 #![tactic(auto)]
