@@ -29,6 +29,7 @@ use Rattle.syn_grammar.specs.Table.{table}
 use Rattle.grammar_back.specs.Covered.{has_step}
 use Rattle.grammar_back.proofs.Readies.{Step}
 use Rattle.grammar_back.proofs.Printed.{KindLaw, simple_kind}
+use Rattle.grammar_back.proofs.Turbofish.{law_segments_in_expression}
 use Rattle.grammar_back.proofs.KindLaws.{law_arguments, law_an_argument, law_member, law_index, law_dyn}
 use Rattle.grammar_back.proofs.KindLaws.{law_dyn_alone, law_impl, law_impl_alone, law_some_bounds, law_pattern}
 use Rattle.grammar_back.proofs.KindLaws.{law_several, law_outer, law_inner, law_meta, law_generics}
@@ -46,6 +47,7 @@ use Rattle.grammar_back.proofs.StepsOfPaths.{step_any_path_in_expression, step_a
 use Rattle.grammar_back.proofs.StepsOfPaths.{step_any_path_at_type, step_arguments, step_an_argument}
 use Rattle.grammar_back.proofs.StepsOfPaths.{step_parenthesized_arguments, step_a_macro, step_delimited}
 use Rattle.grammar_back.proofs.StepsOfPaths.{step_member, step_index}
+use Rattle.grammar_back.proofs.Turbofish.{step_segments_in_expression}
 use Rattle.grammar_back.proofs.StepsOfTypes.{step_a_type_with_plus, step_a_type_without_plus}
 use Rattle.grammar_back.proofs.StepsOfTypes.{step_dyn_type_with_plus, step_impl_type_with_plus}
 use Rattle.grammar_back.proofs.StepsOfTypes.{step_return_type_with_plus, step_return_type_without_plus}
@@ -104,6 +106,7 @@ steps (Path InExpression) e = step_path_in_expression
 steps (Path InType) e = step_path_in_type
 steps (Path AtType) e = step_path_at_type
 steps (Segments InModule) e = step_segments_in_module
+steps (Segments InExpression) e = step_segments_in_expression
 steps (Segments InType) e = step_segments_in_type
 steps (Segments AtType) e = step_segments_at_type
 steps (QualifiedPath InModule) e = step_qualified_path_in_module
@@ -268,6 +271,7 @@ laws (Path InType) e = simple_kind (Path InType) refl (λ x. tt) (λ x. refl) (�
 laws (Path AtType) e = simple_kind (Path AtType) refl (λ x. tt) (λ x. refl) (λ x. refl) (λ q. refl) (λ q. refl) refl
 laws (Segments InModule) e = simple_kind (Segments InModule) refl (λ x. tt) (λ x. refl) (λ x. refl) (λ q. refl)
     (λ q. refl) refl
+laws (Segments InExpression) e = law_segments_in_expression
 laws (Segments InType) e = simple_kind (Segments InType) refl (λ x. tt) (λ x. refl) (λ x. refl) (λ q. refl)
     (λ q. refl) refl
 laws (Segments AtType) e = simple_kind (Segments AtType) refl (λ x. tt) (λ x. refl) (λ x. refl) (λ q. refl)

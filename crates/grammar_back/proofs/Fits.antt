@@ -6,7 +6,8 @@ use Rattle.std.proofs.Common.{◌≡◌, List, [], ◌∷◌, ◌++◌, refl, sy
 use Rattle.std.specs.Prelude.{Bool, true, false, not, ◌||◌}
 use Rattle.proc_macro2.specs.Token.{Token, Opens, Closes, Punct}
 use Rattle.rust_leaf.specs.declared.punct.Spacing.TheVariants.{Alone as Apart}
-use Rattle.syn_grammar.specs.Kind.{Kind, Position, DynType, ImplType, WithoutPlus, FnPtrType, WherePredicate}
+use Rattle.syn_grammar.specs.Kind.{Kind, Position, DynType, ImplType, WithoutPlus, InExpression, Segments}
+use Rattle.syn_grammar.specs.Kind.{FnPtrType, WherePredicate}
 use Rattle.syn_grammar.specs.Kind.{AConst, UnnamedField, Meta}
 use Rattle.syn_grammar.specs.Kind.{Expression}
 use Rattle.syn_grammar.specs.Kind.{ExprAttributed}
@@ -21,7 +22,7 @@ use Rattle.syn_grammar.specs.Table.{table}
 use Rattle.syn_grammar.specs.Kept.{forget, dotted, is_there, kept}
 use Rattle.syn_grammar.specs.Part.{choice}
 use Rattle.syn_grammar.specs.Normal.{stands_behind, formed}
-use Rattle.grammar_back.specs.Covered.{front, has_clear_type, has_lone_value, is_known}
+use Rattle.grammar_back.specs.Covered.{front, inner, has_clear_type, has_lone_value, is_known}
 
 -- the test can say so
 abbrev pub CanSay : (List Token → Bool) → Bool → Type 0
@@ -61,11 +62,17 @@ abbrev pub has_own_for : Tree → Bool
 has_own_for (Second (Pair o y)) = is_there o || not (is_for (front y))
 has_own_for _ = true
 
+-- of a path's names in an expression: arguments stand behind ::
+abbrev pub has_turbofish : Tree → Bool
+has_turbofish (Second (Pair n (First x))) = is_there (front (inner (front x)))
+has_turbofish _ = true
+
 -- what the tests say of what a kind holds, where its entry's shape doesn't
 abbrev pub IsMeant : Kind → Tree → Type 0
 IsMeant (DynType WithoutPlus) x = has_path_bound x ≡ true
 IsMeant (ImplType WithoutPlus) x = has_path_bound x ≡ true
 IsMeant WherePredicate x = has_own_for x ≡ true
+IsMeant (Segments InExpression) x = has_turbofish x ≡ true
 IsMeant UnnamedField x = has_clear_type x ≡ true
 IsMeant AConst x = has_lone_value x ≡ true
 IsMeant Meta x = has_bare_value x ≡ true

@@ -33,6 +33,7 @@ has_step (Path InExpression) = true
 has_step (Path InType) = true
 has_step (Path AtType) = true
 has_step (Segments InModule) = true
+has_step (Segments InExpression) = true
 has_step (Segments InType) = true
 has_step (Segments AtType) = true
 has_step (QualifiedPath InModule) = true
