@@ -1,20 +1,22 @@
 -- A literal in quotes by its parts: what stands before its first quote, its inside, what stands behind its last quote.
 use Rattle.std.proofs.Common.{◌≡◌, ℕ, zero, suc, List, [], ◌∷◌, ◌++◌, append_assoc, refl, sym, ap, ◌∙◌, subst, inl}
-use Rattle.std.proofs.Common.{⊎_elim, arith}
+use Rattle.std.proofs.Common.{⊎_elim}
 use Rattle.std.specs.Prelude.{Bool, true, false, ◌==◌, if◌then◌else◌, Option, Some, option_to_list}
-use Rattle.std.proofs.lemmas.Bool.{and_parts, cases_Bool, false≢true, ne_eqb}
+use Rattle.std.proofs.lemmas.Bool.{and_parts, false≢true, ne_eqb}
 use Rattle.std.proofs.lemmas.List.{append-nil}
 use Rattle.rust_escape.specs.Chars.{is_blank}
-use Rattle.rust_escape.specs.Unit.{Rule, Lexical, IsUnit, plain, escape, skip, return, return_value, IsInside, empty, more}
+use Rattle.rust_escape.specs.Unit.{Rule, Lexical, IsUnit, plain, escape, skip, return, return_value, IsInside, empty}
+use Rattle.rust_escape.specs.Unit.{more}
 use Rattle.rust_escape.specs.Mode.{in_double_quotes}
 use Rattle.rust_escape.specs.declared.mode.Mode.{Mode}
 use Rattle.rust_escape.specs.declared.mode.Mode.TheVariants as modes
 use Rattle.rust_escape.specs.declared.value.Value.{Value}
 use Rattle.rust_escape.specs.declared.value.Value.TheVariants.{Character}
-use Rattle.rust_lex.specs.Chars.{begins, is_first, is_hash, is_next, passes, past}
+use Rattle.rust_lex.specs.Chars.{begins, is_hash, is_next, passes, past}
 use Rattle.rust_lex.specs.Number.{IsNumber, base_of, is_split, number_kind}
-use Rattle.rust_lex.specs.Piece.{IsBody, IsLiteral, IsSuffix}
-use Rattle.rust_lex.specs.Quoted.{IsCooked, IsRaw, IsSingle, IsQuotedLiteral, IsTail, hashes, literal_kind, opening_of, raw_closing}
+use Rattle.rust_lex.specs.Piece.{IsSuffix}
+use Rattle.rust_lex.specs.Quoted.{IsQuotedLiteral, IsTail, hashes, literal_kind, opening_of}
+use Rattle.rust_lex.specs.Quoted.{raw_closing}
 use Rattle.rust_lex.specs.declared.piece.LiteralKind.{LiteralKind}
 use Rattle.rust_lex.specs.declared.piece.LiteralKind.TheVariants as kinds
 use Rattle.rust_lex.proofs.Fronts.{first-next}
@@ -196,12 +198,14 @@ of_mode : (mode : Mode) (text tail suffix : List ℕ) → text ≡ (opening_of m
 of_mode modes.Char text tail suffix e t s =
     in_quotes modes.Char text [] t.unit tail suffix (option_to_list t.value) 0
     (e ∙ joined_quotes [] t.unit suffix tail 39 t.joined) no_next.1 refl refl refl
-    (one_alone modes.Char t.unit t.value t.is) (λ d. one_only modes.Char t.unit t.value d t.is) s (spelled_by modes.Char text tail suffix e t s)
+    (one_alone modes.Char t.unit t.value t.is) (λ d. one_only modes.Char t.unit t.value d t.is) s
+    (spelled_by modes.Char text tail suffix e t s)
     (suffix_had modes.Char text tail suffix e t s)
 of_mode modes.Byte text tail suffix e t s =
     in_quotes modes.Byte text (98 ∷ []) t.unit tail suffix (option_to_list t.value) 0
     (e ∙ joined_quotes (98 ∷ []) t.unit suffix tail 39 t.joined) no_next.1 refl refl refl
-    (one_alone modes.Byte t.unit t.value t.is) (λ d. one_only modes.Byte t.unit t.value d t.is) s (spelled_by modes.Byte text tail suffix e t s)
+    (one_alone modes.Byte t.unit t.value t.is) (λ d. one_only modes.Byte t.unit t.value d t.is) s
+    (spelled_by modes.Byte text tail suffix e t s)
     (suffix_had modes.Byte text tail suffix e t s)
 of_mode modes.Str text tail suffix e t s =
     in_quotes modes.Str text [] t.inside tail suffix t.values 0
@@ -222,23 +226,27 @@ of_mode modes.RawStr text tail suffix e t s =
     in_quotes modes.RawStr text (114 ∷ hashes t.count) t.inside tail suffix t.values t.count
     (e ∙ joined_hashes (114 ∷ []) t.inside suffix tail t.count t.joined) no_next.0 refl
     (quote_lacks t.count) refl
-    (inside_alone modes.RawStr 34 t.inside (raw_closing t.count) (hashes t.count) t.values (λ e. cc) refl t.is) (λ d. cc) s
+    (inside_alone modes.RawStr 34 t.inside (raw_closing t.count) (hashes t.count) t.values (λ e. cc) refl t.is)
+    (λ d. cc) s
     (spelled_by modes.RawStr text tail suffix e t s) (suffix_had modes.RawStr text tail suffix e t s)
 of_mode modes.RawByteStr text tail suffix e t s =
     in_quotes modes.RawByteStr text (98 ∷ 114 ∷ hashes t.count) t.inside tail suffix t.values t.count
     (e ∙ joined_hashes (98 ∷ 114 ∷ []) t.inside suffix tail t.count t.joined) no_next.0 refl
     (quote_lacks t.count) refl
-    (inside_alone modes.RawByteStr 34 t.inside (raw_closing t.count) (hashes t.count) t.values (λ e. cc) refl t.is) (λ d. cc) s
+    (inside_alone modes.RawByteStr 34 t.inside (raw_closing t.count) (hashes t.count) t.values (λ e. cc) refl t.is)
+    (λ d. cc) s
     (spelled_by modes.RawByteStr text tail suffix e t s) (suffix_had modes.RawByteStr text tail suffix e t s)
 of_mode modes.RawCStr text tail suffix e t s =
     in_quotes modes.RawCStr text (99 ∷ 114 ∷ hashes t.count) t.inside tail suffix t.values t.count
     (e ∙ joined_hashes (99 ∷ 114 ∷ []) t.inside suffix tail t.count t.joined) no_next.0 refl
     (quote_lacks t.count) refl
-    (inside_alone modes.RawCStr 34 t.inside (raw_closing t.count) (hashes t.count) t.values (λ e. cc) refl t.is) (λ d. cc) s
+    (inside_alone modes.RawCStr 34 t.inside (raw_closing t.count) (hashes t.count) t.values (λ e. cc) refl t.is)
+    (λ d. cc) s
     (spelled_by modes.RawCStr text tail suffix e t s) (suffix_had modes.RawCStr text tail suffix e t s)
 
 -- a number is in no quotes
-bare : (based split : Bool) → is_quoted (if based then (if split then kinds.Float else kinds.Int) else kinds.Int) ≡ false
+bare : (based split : Bool) → is_quoted (if based then (if split then kinds.Float else kinds.Int) else kinds.Int)
+    ≡ false
 bare true true = refl
 bare true false = refl
 bare false split = refl

@@ -137,3 +137,5 @@ pub split_based : (bs mid rest : List ℕ) (c d n : ℕ) → IsUtf8 bs → bs �
 split_based bs mid rest c d n u e f g z =
     let Based : List ℕ → Type 0 = λ cs. (n ≡ int_base cs) × (chars rest ≡ int_digits cs) in
     subst Based (sym (two bs mid rest c d u e f)) (based_two c d n (chars rest) g z)
+
+pub ruleset splits = (split_none, split_one, split_plain, split_based)

@@ -1,6 +1,6 @@
 -- What was read is printed as the tokens that it was read from.
-use Rattle.std.proofs.Common.{◌≡◌, ℕ, List, [], ◌∷◌, ◌++◌, refl, ap, ◌∙◌, sym}
-use Rattle.std.specs.Prelude.{Bool, true, false, drop, if◌then◌else◌}
+use Rattle.std.proofs.Common.{◌≡◌, ℕ, List, [], ◌∷◌, ◌++◌, ap, ◌∙◌, sym}
+use Rattle.std.specs.Prelude.{false, drop, if◌then◌else◌}
 use Rattle.rust_map.specs.declared.span.Span.{Span}
 use Rattle.rust_leaf.specs.Leaf.{literal_span, literal_text}
 use Rattle.rust_leaf.specs.Minus.{minus, starts_with_minus}
@@ -8,7 +8,7 @@ use Rattle.proc_macro2.specs.Flat.{spanned}
 use Rattle.proc_macro2.specs.Token.{Spanned, Literal, Punct, Alone}
 use Rattle.syn_kinds.specs.Values.{marks_tokens}
 use Rattle.syn_parse.specs.Marks.{ReadsMarks}
-use Rattle.syn_leaf.specs.Alike.{alone, unspaced}
+use Rattle.syn_leaf.specs.Alike.{unspaced}
 use Rattle.syn_leaf.specs.Lits.{lit_text, lit_token, lit_tokens}
 use Rattle.syn_leaf.specs.declared.lit.Lit.{Lit}
 use Rattle.syn_leaf.specs.declared.lit.Lit.TheVariants as lit

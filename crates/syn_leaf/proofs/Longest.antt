@@ -1,7 +1,6 @@
 -- The longest of some operators that stand first.
 use Rattle.std.proofs.Common.{◌≡◌, ℕ, List, [], ◌∷◌, ◌++◌, length, refl, ap, ◌∙◌}
-use Rattle.std.specs.Prelude.{Bool, true, false, ◌||◌, nat_lt, filter}
-use Rattle.std.specs.List.{list_any}
+use Rattle.std.specs.Prelude.{Bool, false, nat_lt, filter}
 use Rattle.std.proofs.lemmas.Bool.{or_parts}
 use Rattle.proc_macro2.specs.Token.{Token}
 use Rattle.syn_leaf.specs.Longest.{binary_texts, of_three, assigning, of_two, of_one, one_stands, longer}
@@ -16,7 +15,8 @@ none_both (text ∷ texts) more ts h k =
 abbrev wider : ℕ → List Token → Bool
 wider n ts = one_stands (filter (λ other. nat_lt n (length other)) binary_texts) ts
 
-pub longest_three : (text : List ℕ) (ts : List Token) → length text ≡ 3 → one_stands (longer binary_texts text) ts ≡ false
+pub longest_three : (text : List ℕ) (ts : List Token) → length text ≡ 3
+    → one_stands (longer binary_texts text) ts ≡ false
 longest_three text ts e = ap (λ n. wider n ts) e
 
 pub longest_two : (text : List ℕ) (ts : List Token) → length text ≡ 2 → one_stands of_three ts ≡ false

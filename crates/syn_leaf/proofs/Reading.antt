@@ -1,5 +1,5 @@
 -- Tokens that are read as literals, and those that aren't.
-use Rattle.std.proofs.Common.{◌≡◌, ℕ, List, [], ◌∷◌, length, refl, sym, ap, subst, ◌∙◌, arith}
+use Rattle.std.proofs.Common.{◌≡◌, ℕ, List, [], ◌∷◌, length, sym, ap, subst, ◌∙◌, arith}
 use Rattle.std.specs.Prelude.{Bool, true, false, ◌==◌}
 use Rattle.rust_map.specs.declared.span.Span.{Span}
 use Rattle.rust_lex.specs.declared.piece.LiteralKind.{LiteralKind}

@@ -1,12 +1,13 @@
 -- What the units of an inside spell, by the lexical rule.
 use Rattle.std.proofs.Common.{◌≡◌, ℕ, ◌<◌, List, [], ◌∷◌, refl, sym, ap, ◌∙◌, subst, arith}
-use Rattle.std.specs.Prelude.{Bool, true, false, ◌&&◌, ◌||◌, Option, Some, None, IfSome, nat_lt, not, map, if◌then◌else◌}
+use Rattle.std.specs.Prelude.{Bool, true, false, ◌||◌, Option, Some, None, IfSome, nat_lt, not}
+use Rattle.std.specs.Prelude.{if◌then◌else◌}
 use Rattle.std.specs.Str.{chars}
 use Rattle.std.proofs.lemmas.Bool.{and_parts, ltb-true}
 use Rattle.std.proofs.lemmas.Str.{chars-nil}
 use Rattle.rust_escape.specs.Escape.{may_hold}
 use Rattle.rust_escape.specs.Mode.{holds_bytes, holds_c, is_raw}
-use Rattle.rust_escape.specs.Unit.{Rule, Lexical, IsUnit, barred, is_plain, plain, escape, skip, return, return_value}
+use Rattle.rust_escape.specs.Unit.{Rule, Lexical, IsUnit, barred, plain, escape, skip, return}
 use Rattle.rust_escape.specs.Chars.{is_among}
 use Rattle.rust_escape.specs.Value.{IsByte, IsCharacter}
 use Rattle.rust_escape.specs.declared.mode.Mode.{Mode}
@@ -32,7 +33,8 @@ by_raw : (raw : Bool) → IfSome (if raw then Some (Character 13) else None) IsC
 by_raw true = tt
 by_raw false = tt
 
-character : (rule : Rule) (mode : Mode) (cs rest : List ℕ) (o : Option Value) → (holds_bytes mode || holds_c mode) ≡ false
+character : (rule : Rule) (mode : Mode) (cs rest : List ℕ) (o : Option Value)
+    → (holds_bytes mode || holds_c mode) ≡ false
     → IsUnit rule mode cs rest o → IfSome o IsCharacter
 character rule mode _ rest _ f (plain {c = c} h) = tt
 character rule mode _ rest _ f (escape {cs = cs} {value = v} w h) = takes_texts mode f _ rest v (escape {cs = cs} w h)
@@ -43,7 +45,8 @@ pub text_units : (mode : Mode) → (holds_bytes mode || holds_c mode) ≡ false 
 text_units mode f cs rest v u = character Lexical mode cs rest (Some v) f u
 
 -- a byte literal's unit spells a byte
-byte : (rule : Rule) (mode : Mode) (cs rest : List ℕ) (o : Option Value) → modes.Byte ≡ mode → IsUnit rule mode cs rest o
+byte : (rule : Rule) (mode : Mode) (cs rest : List ℕ) (o : Option Value) → modes.Byte ≡ mode
+    → IsUnit rule mode cs rest o
     → IfSome o IsByte
 byte rule mode _ rest _ m (plain {c = c} h) =
     let held = (and_parts (not (is_among (barred rule mode) c)) _ h).1 in
@@ -54,7 +57,8 @@ byte rule mode _ rest _ m (plain {c = c} h) =
     small true t e f g = ltb-true c 128 e
     small false true e f g = cc
     small false false e f g = cc
-byte rule mode _ rest _ m (escape {cs = cs} {value = v} w h) = takes_bytes mode (sym (ap holds_bytes m)) _ rest v (escape {cs = cs} w h)
+byte rule mode _ rest _ m (escape {cs = cs} {value = v} w h) =
+    takes_bytes mode (sym (ap holds_bytes m)) _ rest v (escape {cs = cs} w h)
 byte rule mode _ rest _ m (skip w d h s) = tt
 byte rule mode _ _ _ m (return d) = cc
 
@@ -78,12 +82,14 @@ read : (mode : Mode) (bs : List ℕ) (v : Value) (reading : Reading) (o : Result
     → o ≡ Ok (Some v)
 read mode bs v reading (Ok (Some w)) u r e =
     let at = rw e at r.found in
-    let (rests, values) = one_unit Lexical mode (between_places bs 0 reading.«end») (rest_at bs reading.«end») (chars bs) []
+    let (rests, values) = one_unit Lexical mode (between_places bs 0 reading.«end») (rest_at bs reading.«end»)
+    (chars bs) []
     (Some w) (Some v) (sym at.joined ∙ sym (append-nil (chars bs))) at.is u in
     ap (λ x. Ok x) values
 read mode bs v reading (Ok None) u r e =
     let at = rw e at r.found in
-    let (rests, values) = one_unit Lexical mode (between_places bs 0 reading.«end») (rest_at bs reading.«end») (chars bs) []
+    let (rests, values) = one_unit Lexical mode (between_places bs 0 reading.«end») (rest_at bs reading.«end»)
+    (chars bs) []
     None (Some v) (sym at.joined ∙ sym (append-nil (chars bs))) at.is u in
     cc
 read mode bs v reading (Err x) u r e =

@@ -1,17 +1,16 @@
 -- The suffixes of numbers, and those of literals of a class.
-use Rattle.std.proofs.Common.{◌≡◌, ℕ, List, [], ◌∷◌, ◌++◌, append_assoc, refl, sym, ap, ◌∙◌, subst, arith, drop, ⊎_elim}
-use Rattle.std.specs.Prelude.{Bool, true, false, ◌==◌, ◌||◌, ◌&&◌, not, if◌then◌else◌, Option, Some, None}
-use Rattle.std.specs.Char.{digit_value}
+use Rattle.std.proofs.Common.{◌≡◌, ℕ, List, [], ◌∷◌, ◌++◌, refl, sym, ap, ◌∙◌, subst, arith, drop, ⊎_elim}
+use Rattle.std.specs.Prelude.{Bool, true, false, ◌==◌, ◌||◌, if◌then◌else◌, Some, None}
 use Rattle.std.proofs.lemmas.Bool.{or_parts, false≢true}
 use Rattle.std.proofs.lemmas.Bool.Decides.{nat_tests}
 use Rattle.std.proofs.lemmas.List.{append-nil}
 use Rattle.rust_escape.specs.declared.mode.Mode.{Mode}
 use Rattle.rust_escape.specs.declared.mode.Mode.TheVariants as modes
-use Rattle.rust_lex.specs.Chars.{begins, is_digit, is_underscore, past}
+use Rattle.rust_lex.specs.Chars.{is_digit, past}
 use Rattle.rust_lex.specs.Number.{IsNumber, base_of, begins_exponent, begins_fraction, decimal_kind, is_digit_of}
-use Rattle.rust_lex.specs.Number.{is_digit_of_or_line, is_digit_or_line, is_split, number_kind, past_based, past_decimal}
+use Rattle.rust_lex.specs.Number.{is_digit_of_or_line, is_digit_or_line, is_split, number_kind, past_based}
+use Rattle.rust_lex.specs.Number.{past_decimal}
 use Rattle.rust_lex.specs.Number.{past_exponent, past_fraction, past_lead, past_number}
-use Rattle.rust_lex.specs.Piece.{IsBody, IsSuffix}
 use Rattle.rust_lex.specs.Quoted.{IsQuotedLiteral, literal_kind}
 use Rattle.rust_lex.specs.declared.piece.LiteralKind.{LiteralKind}
 use Rattle.rust_lex.specs.declared.piece.LiteralKind.TheVariants as kinds
@@ -47,7 +46,8 @@ chosen : (b : Bool) (x rest : List ℕ) → (if b then Some x else None) ≡ Som
 chosen true x rest e = cc
 chosen false x rest e = cc
 
-by_base : (b : Bool) (cs rest : List ℕ) → (if b then Some (past_decimal cs) else past_based (base_of cs) (drop 2 cs)) ≡ Some rest
+by_base : (b : Bool) (cs rest : List ℕ) → (if b then Some (past_decimal cs) else past_based (base_of cs) (drop 2 cs))
+    ≡ Some rest
     → kinds.Int ≡ (if b then decimal_kind cs else kinds.Int)
     → past (is_digit_of_or_line (if b then 10 else base_of cs)) (if b then cs else drop 2 cs) ≡ rest
 by_base true cs rest e k = let same : past_decimal cs ≡ rest = cc in whole cs rest (is_split cs) refl same k
@@ -57,7 +57,8 @@ int_past : (cs rest : List ℕ) → past_number cs ≡ Some rest → kinds.Int �
 unfolding past_number number_kind int_suffix
 int_past cs rest e k = by_base (base_of cs == 0) cs rest e k
 
-float_by : (b : Bool) (cs rest : List ℕ) → (if b then Some (past_decimal cs) else past_based (base_of cs) (drop 2 cs)) ≡ Some rest
+float_by : (b : Bool) (cs rest : List ℕ) → (if b then Some (past_decimal cs) else past_based (base_of cs) (drop 2 cs))
+    ≡ Some rest
     → kinds.Float ≡ (if b then decimal_kind cs else kinds.Int) → past_decimal cs ≡ rest
 float_by true cs rest e k = cc
 float_by false cs rest e k = cc

@@ -13,7 +13,8 @@ both_ways true b f g = sym (f refl)
 both_ways false true f g = g refl
 both_ways false false f g = refl
 
-pub same_texts : (xs ys cs ds : List ℕ) → IsUtf8 xs → IsUtf8 ys → chars xs ≡ cs → chars ys ≡ ds → bytes_eq xs ys ≡ bytes_eq cs ds
+pub same_texts : (xs ys cs ds : List ℕ) → IsUtf8 xs → IsUtf8 ys → chars xs ≡ cs → chars ys ≡ ds
+    → bytes_eq xs ys ≡ bytes_eq cs ds
 same_texts xs ys cs ds u v e f =
     both_ways (bytes_eq xs ys) (bytes_eq cs ds)
     (λ h. (bytes_eq-Decides cs ds).1 (sym e ∙ (bytes_eq-same xs ys u v).0 h ∙ f))

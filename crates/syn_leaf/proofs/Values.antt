@@ -1,6 +1,6 @@
 -- The values of literals of each class in quotes.
-use Rattle.std.proofs.Common.{◌≡◌, ℕ, ◌<◌, ◌≤◌, List, [], ◌∷◌, ◌++◌, refl, sym, ap, ◌∙◌, subst, arith}
-use Rattle.std.specs.Prelude.{Bool, true, false, ◌||◌, Some, nat_lt, map, if◌then◌else◌, Result, Ok, Err, IfOk}
+use Rattle.std.proofs.Common.{◌≡◌, ℕ, ◌<◌, ◌≤◌, List, [], ◌∷◌, refl, sym, ap, ◌∙◌, subst}
+use Rattle.std.specs.Prelude.{Bool, true, false, ◌||◌, Some, map, Result, Ok, Err, IfOk}
 use Rattle.std.specs.List.{flat_map}
 use Rattle.std.proofs.lemmas.Bool.{lt-ltb, le-ltb}
 use Rattle.rust_escape.specs.Mode.{holds_bytes, holds_c, in_double_quotes}
@@ -15,7 +15,7 @@ use Rattle.rust_lex.specs.declared.piece.LiteralKind.{LiteralKind}
 use Rattle.rust_lex.specs.declared.piece.LiteralKind.TheVariants as kinds
 use Rattle.syn_leaf.specs.Kinds.{IsKind}
 use Rattle.syn_leaf.specs.Quoted.{IsTakenApart, Spells, SpellsBytes, TakesUnits, has, is_quoted, mode_of}
-use Rattle.syn_leaf.proofs.Apart.{only_spelled, only_there, spells, units_there}
+use Rattle.syn_leaf.proofs.Apart.{only_spelled, only_there, spells}
 use Rattle.syn_leaf.proofs.OfClass.{kind_had}
 use Rattle.syn_leaf.proofs.Spellings.{byte_unit, text_units}
 
@@ -75,7 +75,8 @@ pub byte_there : (text inside closing : List ℕ) (mode : Mode) → IsKind kinds
 byte_there text inside closing mode k a =
     only_there kinds.Byte text inside closing mode refl (ap in_double_quotes a.mode_is) k a
 
-pub byte_only : (text inside closing : List ℕ) (mode : Mode) (v : Value) → IsTakenApart kinds.Byte text mode inside closing
+pub byte_only : (text inside closing : List ℕ) (mode : Mode) (v : Value)
+    → IsTakenApart kinds.Byte text mode inside closing
     → IsUnit Lexical mode inside [] (Some v) → IsByte v
 byte_only text inside closing mode v a u = subst (TakesUnits IsByte) (sym a.mode_is) byte_unit inside [] v u
 

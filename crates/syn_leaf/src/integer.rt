@@ -21,7 +21,8 @@ fn with_digit(number: u128, base: u32, digit: u32) -> Option<u128>
 fn number(digits: &str, base: u32) -> Option<u128>
     requires low { 2 ≤ base }
     requires high { base ≤ 16 }
-    ensures { MatchOption result (2 ^ 128 ≤ number_from base 0 (chars digits.now)) (λ number. number ≡ number_from base 0 (chars digits.now)) }
+    ensures { MatchOption result (2 ^ 128 ≤ number_from base 0 (chars digits.now))
+        (λ number. number ≡ number_from base 0 (chars digits.now)) }
 {
     let mut number = 0u128;
     let mut rest = digits.chars();
@@ -55,7 +56,7 @@ fn base_by(first: char, second: char) -> u32
 }
 
 // The base of a number, and what stands behind its prefix.
-#[tactic(auto, using(crate::proofs::Digits::split_none, crate::proofs::Digits::split_one, crate::proofs::Digits::split_plain, crate::proofs::Digits::split_based))]
+#[tactic(auto, using(crate::proofs::Digits::splits))]
 fn split(text: &str) -> (u32, &str)
     ensures base { result.0 ≡ int_base (chars text.now) }
     ensures digits { chars result.1.now ≡ int_digits (chars text.now) }
@@ -107,7 +108,8 @@ impl LitToken<IsInt> {
     /// The number that its digits write in their base: 16, 8 or 2 behind `0x`, `0o` or `0b`, else 10. None: it is
     /// past the largest `u128`. The suffix says nothing.
     pub fn value(&self) -> Option<u128>
-        ensures { MatchOption result (2 ^ 128 ≤ int_value (literal_text self.now.token)) (λ number. number ≡ int_value (literal_text self.now.token)) }
+        ensures { MatchOption result (2 ^ 128 ≤ int_value (literal_text self.now.token))
+            (λ number. number ≡ int_value (literal_text self.now.token)) }
     {
         let (base, digits) = split(self.token().as_str());
         number(digits, base)

@@ -39,7 +39,7 @@ impl From<u32> for Index {
     }
 }
 
-#[tactic(auto, using(syn_error::proofs::Fronts::keeps_same, syn_error::proofs::Fronts::push_keeps, crate::proofs::Indices::entered_index))]
+#[tactic(auto, using(crate::proofs::Indices::entered))]
 impl ToTokens for Index {
     ghost put = { λ index tokens. tokens ++ number_tokens index };
 

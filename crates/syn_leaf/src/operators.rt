@@ -7,7 +7,8 @@ ghost use Rattle.std.specs.Hash as fed;
 ghost use Rattle.std.specs.Prelude.{◌++◌, ◌≡◌};
 ghost use Rattle.std.specs.Str.{bytes_eq};
 ghost use Rattle.syn_kinds.specs.Values.{marks_tokens};
-ghost use Rattle.syn_leaf.specs.Operators.{bin_op_spans, bin_op_text, range_limits_spans, range_limits_text, un_op_spans, un_op_text};
+ghost use Rattle.syn_leaf.specs.Operators.{bin_op_spans, bin_op_text, range_limits_spans, range_limits_text};
+ghost use Rattle.syn_leaf.specs.Operators.{un_op_spans, un_op_text};
 
 use proc_macro2::tree::TokenStream;
 use std::alloc::AllocError;

@@ -213,7 +213,8 @@ impl Parse for RangeLimits {
 
     ghost reads = { λ ts op us. ReadsLongest range_texts (range_limits_text op) (range_limits_spans op) ts us };
 
-    ghost refuses = { λ ts. (marks_stand (codes "...") (plain ts) ≡ true) ⊎ (marks_stand (codes "..") (plain ts) ≡ false) };
+    ghost refuses = { λ ts.
+        (marks_stand (codes "...") (plain ts) ≡ true) ⊎ (marks_stand (codes "..") (plain ts) ≡ false) };
 
     fn parse(input: &mut ParseBuffer<'_>) -> Result<RangeLimits, ParseFault> {
         let mut lookahead = input.lookahead1();

@@ -33,7 +33,8 @@ impl LitToken<IsStr> {
     ///
     /// The error is that memory was refused.
     pub fn value(&self, alloc: Global) -> Result<String, AllocError>
-        ensures { IfOk result (λ value. Spells kinds.Str (literal_text self.now.token) (map Character (text_of value))) }
+        ensures { IfOk result
+            (λ value. Spells kinds.Str (literal_text self.now.token) (map Character (text_of value))) }
     {
         let quoted = apart(self);
         spelled::<String>(alloc, quoted.mode, quoted.inside)

@@ -10,7 +10,8 @@ abbrev pub invariant-loop-c : goal.invariant-loop-c
 invariant-loop-c l =
     IsUtf8 (chars_rest l.rest)
     × (l.left ≡ chars_rest l.rest)
-    × (past (is_digit_of_or_line l.base) (chars (chars_rest l.rest)) ≡ past (is_digit_of_or_line l.base) (chars l.digits))
+    × (past (is_digit_of_or_line l.base) (chars (chars_rest l.rest))
+    ≡ past (is_digit_of_or_line l.base) (chars l.digits))
 
 abbrev pub decreases-loop-c : goal.decreases-loop-c
 decreases-loop-c l = length (chars_rest l.rest)

@@ -8,7 +8,8 @@ returns-in_err-piece c = no_piece _ _ c.in_err-piece.ensures c.from_residual.ens
 
 pub returns-then-end-text : goal.returns-then-end-text
 unfolding IsKind
-returns-then-end-text c = kind_is _ _ _ _ c.utf8.text c.in_ok-piece.ensures.0 c.in_ok-piece.ensures.1 c.if-end-text.true c.literal_of.ensures
+returns-then-end-text c = kind_is _ _ _ _ c.utf8.text c.in_ok-piece.ensures.0 c.in_ok-piece.ensures.1 c.if-end-text.true
+    c.literal_of.ensures
 
 pub returns-else-end-text : goal.returns-else-end-text
 unfolding IsKind

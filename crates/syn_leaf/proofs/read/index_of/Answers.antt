@@ -6,7 +6,8 @@ use Rattle.syn_leaf.proofs.read.index_of.Goals as goal
 pub returns-then-not-is_empty-clause-none : goal.returns-then-not-is_empty-clause-none
 returns-then-not-is_empty-clause-none c =
     let full : c.is_empty.result ≡ false = search rules in
-    λ number plain. some_suffix _ c.behind_digits.result.now _ c.behind_digits.utf8 c.is_empty.ensures full c.behind_digits.ensures plain.0
+    λ number plain. some_suffix _ c.behind_digits.result.now _ c.behind_digits.utf8 c.is_empty.ensures full
+    c.behind_digits.ensures plain.0
 
 pub returns-then-value-le-MAX-clause-some : goal.returns-then-value-le-MAX-clause-some
 returns-then-value-le-MAX-clause-some c =

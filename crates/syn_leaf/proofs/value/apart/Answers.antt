@@ -11,4 +11,5 @@ taken_apart-requires-clause-there g c =
     c.args.literal.now.is_of_class
 
 pub returns-clause-kind : goal.returns-clause-kind
-returns-clause-kind g c = kind_had g.C.LitClass.kind (literal_text c.args.literal.now.token) c.args.literal.now.is_of_class
+returns-clause-kind g c = kind_had g.C.LitClass.kind (literal_text c.args.literal.now.token)
+    c.args.literal.now.is_of_class
