@@ -14,7 +14,7 @@ use syn_error::fault::ParseFault;
 use syn_error::to_tokens::ToTokens;
 use syn_kinds::token;
 use syn_parse::ParseBuffer;
-use syn_shape::{Child, Copied, Copier, Hub, Leaf, Reader, Shape};
+use syn_shape::{Child, Copied, Copier, Exact, Hub, Leaf, Reader, Shape};
 
 /// The type `!`.
 #[derive(Drop, PartialEq, Eq)]
@@ -30,6 +30,12 @@ impl ToTokens for Never {
     fn to_tokens(&self, tokens: &mut TokenStream) -> Result<(), AllocError> {
         self.bang_token.to_tokens(tokens)
     }
+}
+
+impl Exact for Never {
+    ghost tree = { never };
+
+    fn equality_is_by_tree(&self, _other: &Never) {}
 }
 
 /// What reads and copies such nodes, from fewer tokens than a number.
@@ -88,7 +94,7 @@ impl Copier<Never> for Nevers {
     }
 }
 
-#[tactic(auto, using(syn_grammar::proofs::Steps::given, syn_grammar::proofs::Steps::none))]
+#[tactic(auto, using(syn_grammar::proofs::Steps::given, syn_grammar::proofs::Steps::none, syn_shape::proofs::Views::both_views))]
 impl Hub for Never {
     ghost tree = { never };
 

@@ -1,7 +1,7 @@
 //! What functions return.
 
 use crate::never::Never;
-use crate::texts::{copies, reads, refuses};
+use crate::texts::{compares, copies, reads, refuses};
 use std::test::Fail;
 use syn_path::ReturnType;
 
@@ -12,6 +12,8 @@ fn outputs(rt: HostRuntime) -> Result<(), Fail> {
     reads::<ReturnType<Never>>(&rt, alloc, "->!", "-> !")?;
     copies::<ReturnType<Never>>(&rt, alloc, "", "")?;
     copies::<ReturnType<Never>>(&rt, alloc, "->!", "-> !")?;
+    compares::<ReturnType<Never>>(&rt, alloc, "->!", "-> !", true)?;
+    compares::<ReturnType<Never>>(&rt, alloc, "", "->!", false)?;
     refuses::<ReturnType<Never>>(&rt, alloc, "- > !");
     refuses::<ReturnType<Never>>(&rt, alloc, "-> ! !");
     Ok(())

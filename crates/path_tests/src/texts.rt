@@ -48,6 +48,21 @@ pub fn copies<T: Parse + ToTokens + TryClone + PartialEq>(
     prints(rt, alloc, &copy, printed)
 }
 
+/// Both texts are read, and what is read of them is equal or not.
+pub fn compares<T: Parse + PartialEq>(
+    rt: &impl Abort,
+    alloc: Global,
+    text: &str,
+    other: &str,
+    equal: bool,
+) -> Result<(), Fail> {
+    let mut map = SourceMap::new(alloc);
+    let value = parse_str::<T>(alloc, text, &mut map)?;
+    let same = value == parse_str::<T>(alloc, other, &mut map)?;
+    assert_eq!(rt; same, equal, "{text} and {other}");
+    Ok(())
+}
+
 /// No value is read from the text, and the fault is one of syntax.
 pub fn refuses<T: Parse>(rt: &impl Abort, alloc: Global, text: &str) {
     let mut map = SourceMap::new(alloc);

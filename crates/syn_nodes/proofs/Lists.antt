@@ -37,7 +37,8 @@ marks_one row = one_of (marks row 1) 126 (marks_count row 1) ∙ ap (λ c. c ∷
 -- a list whose last value has a separator behind it
 pub list_ended : {A P : Type 0} (f : A → Tree) (c : ℕ) (vs : List A) (ps : List P) → length ps ≡ length vs
     → list_tree f c vs ps ≡ more f c vs End
-list_ended f c [] ps e = refl
+list_ended f c [] [] e = refl
+list_ended f c [] (p ∷ ps) e = absurd (omega (arith, e))
 list_ended f c (v ∷ vs) [] e = absurd (omega (arith, e))
 list_ended f c (v ∷ vs) (p ∷ ps) e = ap (λ t. More (f v) c Apart t) (list_ended f c vs ps (omega (arith, e)))
 

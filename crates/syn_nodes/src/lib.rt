@@ -1,8 +1,14 @@
 //! Lists of nodes with separators between them, whatever closes the recursion of the syntax tree.
 //!
 //! - `read`: lists that are read.
+//! - `copy`: copies of lists.
+//! - `equal`: equality of lists.
 #![tactic(auto)]
 
+pub mod copy;
+pub mod equal;
 pub mod read;
 
+pub use copy::copy_nodes;
+pub use equal::nodes_equality_is_by_tree;
 pub use read::nodes;

@@ -1,2 +1,3 @@
+pub mod SameArguments
 pub mod InParentheses
 pub mod Outputs

@@ -1,6 +1,6 @@
--- What functions return is read as the grammar has it, and copied in both its views.
-use Rattle.std.proofs.Common.{◌≡◌, List, [], ◌∷◌, ap, sym, ◌∙◌, rules}
-use Rattle.std.specs.Prelude.{true, cond, Result, Ok, Err, IfOk}
+-- What functions return is read as the grammar has it.
+use Rattle.std.proofs.Common.{◌≡◌, List, [], ◌∷◌, ap, sym, ◌∙◌}
+use Rattle.std.specs.Prelude.{true, cond}
 use Rattle.rust_leaf.specs.declared.punct.Spacing.TheVariants.{Alone as Apart}
 use Rattle.proc_macro2.specs.Token.{Token}
 use Rattle.syn_kinds.specs.Stands.{marks_stand}
@@ -32,12 +32,3 @@ arrow_type ts us vs t m a r =
     (kepts (kind (AType WithPlus)) us) >>= λ y vs. Got (Pair x y) vs))) a
     ∙ ap (λ o. wrap (Node (ReturnType WithPlus)) (wrap First (wrap (Called the_type) o
     >>= λ y vs. Got (Pair (AMark 45 (62 ∷ []) Apart) y) vs))) r
-
-abbrev pair : {A B : Type 0} → A → B → A × B
-pair a b = (a, b)
-
--- a copy with one view and with the other has both
-pub both_views : {X F A B : Type 0} (r : Result X F) (f : X → A) (g : X → B) (a : A) (b : B)
-    → IfOk r (λ x. f x ≡ a) → IfOk r (λ x. g x ≡ b) → IfOk r (λ x. pair (f x) (g x) ≡ pair a b)
-both_views (Ok x) f g a b p q = ap (λ c. pair c (g x)) p ∙ ap (pair a) q
-both_views (Err e) f g a b p q = search rules

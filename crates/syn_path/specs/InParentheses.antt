@@ -2,15 +2,14 @@
 use Rattle.std.specs.Prelude.{[], ◌++◌, codes}
 use Rattle.proc_macro2.specs.declared.delimiter.Delimiter.TheVariants.{Parenthesis}
 use Rattle.syn_error.specs.Tokens.{Put}
-use Rattle.syn_kinds.specs.Values.{enclosed, marks_tokens}
-use Rattle.syn_kinds.specs.declared.punctuation.Punctuation.{Punctuation}
+use Rattle.syn_kinds.specs.Values.{enclosed}
 use Rattle.syn_grammar.specs.Kind.{AType, ParenthesizedArguments, WithoutPlus}
 use Rattle.syn_grammar.specs.Gram.{Gram, ref}
 use Rattle.syn_grammar.specs.Say.{◌▸◌, comma, marks, optional, sign}
 use Rattle.syn_grammar.specs.Tree.{Tree, Nil, Pair, First, Second, Group, Node}
 use Rattle.syn_lists.specs.Lists.{separators, values}
 use Rattle.syn_lists.specs.Put.{put_list}
-use Rattle.syn_nodes.specs.Lists.{list_tree}
+use Rattle.syn_nodes.specs.Lists.{list_tree, put_separator}
 use Rattle.syn_shape.specs.Leaves.{marks_tree}
 use Rattle.syn_path.specs.Outputs.{put_return_type}
 use Rattle.syn_path.specs.declared.parenthesized.ParenthesizedGenericArguments.{ParenthesizedGenericArguments}
@@ -31,11 +30,7 @@ parenthesized_arguments f x =
     Node ParenthesizedArguments (Pair (Group Parenthesis (list_tree f comma (values x.inputs) (separators x.inputs)))
     (output_tree f x.output))
 
--- a comma
-abbrev pub put_comma : Punctuation 7 1 → Put
-put_comma mark tokens = tokens ++ marks_tokens (codes ",") mark.spans
-
 abbrev pub put_parenthesized_arguments : {E : Type 0} → (E → Put) → ParenthesizedGenericArguments E → Put
 put_parenthesized_arguments f x tokens =
     put_return_type f x.output (tokens ++ enclosed Parenthesis x.paren_token.span.join
-    (put_list f put_comma (values x.inputs) (separators x.inputs) []))
+    (put_list f (put_separator 7) (values x.inputs) (separators x.inputs) []))

@@ -10,7 +10,7 @@ use syn_error::to_tokens::ToTokens;
 use syn_kinds::token;
 use syn_parse::{Parse, ParseBuffer};
 use syn_shape::nodes::{boxed, copy_boxed};
-use syn_shape::{Child, Copied, Copier, Hub, Leaf, Reader, Shape};
+use syn_shape::{Child, Copied, Copier, Exact, Hub, Leaf, Reader, Shape};
 use try_clone::TryClone;
 
 /// What a function returns, as it is written: nothing, or `->` and a type.
@@ -89,12 +89,23 @@ impl<E: ToTokens> ToTokens for ReturnType<E> {
 impl<E: Hub> TryClone for ReturnType<E> {
     ghost use Rattle.syn_error.specs.Tokens.{Put};
     ghost use Rattle.syn_grammar.specs.Tree.{Tree};
+    ghost use Rattle.syn_shape.specs.Views.{both};
 
     ghost Shown = { Tree × Put };
 
-    ghost shown = { λ x. (return_type E.tree x, put_return_type E.printed x) };
+    ghost shown = { both (return_type E.tree) (put_return_type E.printed) };
 
     fn try_clone(&self) -> Result<ReturnType<E>, AllocError> {
         E::copy_with::<ReturnType<E>>(self)
+    }
+}
+
+impl<E: Exact> Exact for ReturnType<E> {
+    ghost tree = { return_type E.tree };
+
+    fn equality_is_by_tree(&self, other: &ReturnType<E>) {
+        if let (ReturnType::Type(_, ty), ReturnType::Type(_, other_ty)) = (self, other) {
+            (**ty).equality_is_by_tree(&**other_ty);
+        }
     }
 }

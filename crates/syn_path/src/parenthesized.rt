@@ -17,11 +17,12 @@ use syn_error::fault::ParseFault;
 use syn_error::to_tokens::ToTokens;
 use syn_kinds::token;
 use syn_lists::Punctuated;
-use syn_nodes::nodes;
+use syn_nodes::{copy_nodes, nodes, nodes_equality_is_by_tree};
 use syn_parse::{End, Parse, ParseBuffer};
 use syn_shape::group::enter;
 use syn_shape::nodes::boxed;
-use syn_shape::{Child, Hub, Leaf, Reader, Shape};
+use syn_shape::{Child, Copied, Copier, Exact, Hub, Leaf, Reader, Shape};
+use try_clone::TryClone;
 
 /// Arguments in parentheses: types, and perhaps `->` and a type.
 #[derive(Drop, PartialEq, Eq)]
@@ -81,6 +82,24 @@ impl<E: Drop> Shape<E> for ParenthesizedGenericArguments<E> {
     }
 }
 
+impl<E: Drop> Copied<E> for ParenthesizedGenericArguments<E> {
+    ghost shape = { parenthesized_arguments };
+
+    ghost printed = { put_parenthesized_arguments };
+
+    fn copy<C: Copier<E>>(
+        &self,
+        below: &C,
+    ) -> Result<ParenthesizedGenericArguments<E>, AllocError> {
+        let inputs = copy_nodes(below, &self.inputs)?;
+        Ok(ParenthesizedGenericArguments {
+            paren_token: self.paren_token,
+            inputs,
+            output: self.output.copy(below)?,
+        })
+    }
+}
+
 impl<E: Hub> Parse for ParenthesizedGenericArguments<E> {
     ghost use Rattle.syn_grammar.specs.Read.{IsRead, NoneRead};
 
@@ -103,5 +122,28 @@ impl<E: ToTokens> ToTokens for ParenthesizedGenericArguments<E> {
         self.inputs.to_tokens(&mut inside)?;
         self.paren_token.enclose(tokens, inside)?;
         self.output.to_tokens(tokens)
+    }
+}
+
+impl<E: Hub> TryClone for ParenthesizedGenericArguments<E> {
+    ghost use Rattle.syn_error.specs.Tokens.{Put};
+    ghost use Rattle.syn_grammar.specs.Tree.{Tree};
+    ghost use Rattle.syn_shape.specs.Views.{both};
+
+    ghost Shown = { Tree × Put };
+
+    ghost shown = { both (parenthesized_arguments E.tree) (put_parenthesized_arguments E.printed) };
+
+    fn try_clone(&self) -> Result<ParenthesizedGenericArguments<E>, AllocError> {
+        E::copy_with::<ParenthesizedGenericArguments<E>>(self)
+    }
+}
+
+impl<E: Exact> Exact for ParenthesizedGenericArguments<E> {
+    ghost tree = { parenthesized_arguments E.tree };
+
+    fn equality_is_by_tree(&self, other: &ParenthesizedGenericArguments<E>) {
+        nodes_equality_is_by_tree(&self.inputs, &other.inputs);
+        self.output.equality_is_by_tree(&other.output);
     }
 }

@@ -3,7 +3,7 @@ use Rattle.std.proofs.Common.{◌≡◌, ◌<◌, ℕ, List, [], ◌∷◌, ◌+
 use Rattle.std.proofs.lemmas.Bool.{eq-eqb}
 use Rattle.std.proofs.lemmas.List.{length-map}
 use Rattle.std.proofs.lemmas.Slice.Eq.{bytes_eq-Decides}
-use Rattle.std.specs.Prelude.{Bool, true, false, not, cond, ◌==◌, ◌&&◌}
+use Rattle.std.specs.Prelude.{Bool, true, false, not, cond, ◌==◌, ◌&&◌, ◌↔◌, IfOk, IsTrue, Result, Ok, Err}
 use Rattle.rust_map.specs.declared.span.Span.{Span}
 use Rattle.rust_leaf.specs.declared.punct.Spacing.{Spacing}
 use Rattle.rust_leaf.specs.declared.punct.Spacing.TheVariants.{Joint, Alone as Apart}
@@ -165,3 +165,16 @@ pub marks_none : (cs : List ℕ) (ts : List Spanned) → marks_stand cs (plain t
 unfolding mark_kept
 marks_none [] ts e = refl
 marks_none (c ∷ cs) ts e = ap (wrap kept) (no_marks c cs (plain ts) e)
+
+-- leaves are equal by their texts
+pub by_word : (b : Bool) (cs ds : List ℕ) → IsTrue b ↔ (cs ≡ ds) → IsTrue b ↔ (AWord cs ≡ AWord ds)
+by_word b cs ds h = (λ e. ap AWord (h.0 e), λ (p : AWord cs ≡ AWord ds). h.1 cc)
+
+pub by_lifetime : (b : Bool) (cs ds : List ℕ) → IsTrue b ↔ (cs ≡ ds) → IsTrue b ↔ (ALifetime cs ≡ ALifetime ds)
+by_lifetime b cs ds h = (λ e. ap ALifetime (h.0 e), λ (p : ALifetime cs ≡ ALifetime ds). h.1 cc)
+
+-- what is a function of what a copy shows
+pub by_shown : {X F S B : Type 0} (r : Result X F) (s : X → S) (g : S → B) (a : X) → IfOk r (λ c. s c ≡ s a)
+    → IfOk r (λ c. g (s c) ≡ g (s a))
+by_shown (Ok c) s g a e = ap g e
+by_shown (Err x) s g a e = tt

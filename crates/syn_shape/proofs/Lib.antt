@@ -1,3 +1,5 @@
 pub mod Leaves
 pub mod Groups
 pub mod Looks
+pub mod Views
+pub mod Equal

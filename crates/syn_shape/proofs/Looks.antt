@@ -1,14 +1,16 @@
 -- Kinds stand there exactly where the grammar's looks see them.
-use Rattle.std.proofs.Common.{◌≡◌, ℕ, List, [], ◌∷◌, refl, sym, ap, ◌∙◌}
-use Rattle.std.specs.Prelude.{Bool, true, false, not, cond, ◌==◌, ◌&&◌, Some, None}
+use Rattle.std.proofs.Common.{◌≡◌, ◌<◌, ℕ, List, [], ◌∷◌, length, refl, sym, ap, ◌∙◌, arith}
+use Rattle.std.specs.Prelude.{Bool, true, false, not, cond, ◌==◌, ◌&&◌, ◌||◌, Option, Some, None}
 use Rattle.rust_leaf.specs.declared.punct.Spacing.{Spacing}
 use Rattle.rust_leaf.specs.declared.punct.Spacing.TheVariants.{Joint, Alone as Apart}
 use Rattle.proc_macro2.specs.declared.delimiter.Delimiter.{Delimiter}
 use Rattle.proc_macro2.specs.Groups.{same_delimiter}
 use Rattle.proc_macro2.specs.Token.{Token, Opens, Closes, Ident, Literal, Punct}
 use Rattle.syn_kinds.specs.Stands.{word_stands, marks_stand, ident_stands, lifetime_stands, group_stands}
+use Rattle.syn_kinds.specs.Table.{marks}
+use Rattle.syn_kinds.proofs.Marks.{marks_count}
 use Rattle.syn_parse.specs.Stands.{end_stands}
-use Rattle.syn_grammar.specs.Look.{Look, sees, seen, past_marks, the_mark, the_word, an_ident, a_lifetime, opens}
+use Rattle.syn_grammar.specs.Look.{Look, ◌or◌, first_seen, sees, seen, past_marks, the_mark, the_word, an_ident, a_lifetime, opens}
 use Rattle.syn_grammar.specs.Look.{the_end}
 use Rattle.syn_shape.proofs.Leaves.{same_reserved}
 
@@ -81,6 +83,22 @@ sees_marks c (d ∷ cs) (Opens b ∷ ts) = refl
 sees_marks c (d ∷ cs) (Closes b ∷ ts) = refl
 sees_marks c (d ∷ cs) (Ident ds ∷ ts) = refl
 sees_marks c (d ∷ cs) (Literal ds ∷ ts) = refl
+
+-- one or the other is seen
+pub sees_either : (a b : Look) (ts : List Token) → sees (a or b) ts ≡ (sees a ts || sees b ts)
+sees_either a b ts = by_first (a ts) (b ts)
+  where
+    by_first : (o p : Option (List Token)) → seen (first_seen o p) ≡ (seen o || seen p)
+    by_first (Some us) p = refl
+    by_first None p = refl
+
+-- a punctuation of a row has a mark at least
+pub sees_row : (row n : ℕ) (ts : List Token) → 0 < n → marks_stand (marks row n) ts ≡ sees (the_mark (marks row n)) ts
+sees_row row n ts below = by_marks (marks row n) (marks_count row n)
+  where
+    by_marks : (cs : List ℕ) → length cs ≡ n → marks_stand cs ts ≡ sees (the_mark cs) ts
+    by_marks [] e = absurd (omega (arith, e))
+    by_marks (c ∷ cs) e = sees_marks c cs ts
 
 -- and so as tests
 pub tests_mark : (c : ℕ) (cs : List ℕ) → marks_stand (c ∷ cs) ≡ sees (past_marks c cs)

@@ -1,3 +1,5 @@
 pub mod Reads
 pub mod Leaves
 pub mod Children
+pub mod Views
+pub mod Prints

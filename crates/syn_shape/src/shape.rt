@@ -10,6 +10,7 @@ ghost use Rattle.syn_grammar.specs.Run.{kind};
 ghost use Rattle.syn_grammar.specs.Tree.{Tree};
 ghost use Rattle.syn_parse.specs.Input.{IsOnward, left};
 ghost use Rattle.syn_shape.specs.Reads.{Reads};
+ghost use Rattle.syn_shape.specs.Views.{both};
 
 use crate::reader::{Copier, Reader};
 use std::alloc::AllocError;
@@ -74,6 +75,6 @@ pub trait Hub: Drop {
 
     /// A copy of a value of a type over this one. The error is that memory was refused.
     fn copy_with<S: Copied<Self>>(x: &S) -> Result<S, AllocError>
-        ensures tree { IfOk result (λ copy. S.shape tree copy ≡ S.shape tree x.now) }
-        ensures put { IfOk result (λ copy. S.printed printed copy ≡ S.printed printed x.now) };
+        ensures { IfOk result (λ copy. both (S.shape tree) (S.printed printed) copy
+            ≡ both (S.shape tree) (S.printed printed) x.now) };
 }

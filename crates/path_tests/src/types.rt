@@ -1,0 +1,51 @@
+//! Types.
+
+use crate::never::Never;
+use crate::texts::{compares, copies, reads, refuses};
+use std::test::Fail;
+use syn_type::{TypeInfer, TypeNever, TypePtr, TypeReference};
+
+#[test]
+fn marks_and_words(rt: HostRuntime) -> Result<(), Fail> {
+    let alloc = rt.alloc();
+    reads::<TypeNever>(&rt, alloc, "!", "!")?;
+    copies::<TypeNever>(&rt, alloc, "!", "!")?;
+    compares::<TypeNever>(&rt, alloc, "!", "!", true)?;
+    refuses::<TypeNever>(&rt, alloc, "_");
+    refuses::<TypeNever>(&rt, alloc, "! !");
+    reads::<TypeInfer>(&rt, alloc, "_", "_")?;
+    copies::<TypeInfer>(&rt, alloc, "_", "_")?;
+    compares::<TypeInfer>(&rt, alloc, "_", "_", true)?;
+    refuses::<TypeInfer>(&rt, alloc, "a");
+    Ok(())
+}
+
+#[test]
+fn pointers(rt: HostRuntime) -> Result<(), Fail> {
+    let alloc = rt.alloc();
+    reads::<TypePtr<Never>>(&rt, alloc, "*const!", "* const !")?;
+    copies::<TypePtr<Never>>(&rt, alloc, "*mut !", "* mut !")?;
+    compares::<TypePtr<Never>>(&rt, alloc, "*mut !", "* mut!", true)?;
+    compares::<TypePtr<Never>>(&rt, alloc, "*mut !", "*const !", false)?;
+    refuses::<TypePtr<Never>>(&rt, alloc, "*!");
+    refuses::<TypePtr<Never>>(&rt, alloc, "&mut !");
+    refuses::<TypePtr<Never>>(&rt, alloc, "*mut ! !");
+    Ok(())
+}
+
+#[test]
+fn references(rt: HostRuntime) -> Result<(), Fail> {
+    let alloc = rt.alloc();
+    reads::<TypeReference<Never>>(&rt, alloc, "&!", "& !")?;
+    reads::<TypeReference<Never>>(&rt, alloc, "&mut!", "& mut !")?;
+    copies::<TypeReference<Never>>(&rt, alloc, "&'a!", "& 'a !")?;
+    copies::<TypeReference<Never>>(&rt, alloc, "&'a mut !", "& 'a mut !")?;
+    compares::<TypeReference<Never>>(&rt, alloc, "&'a mut !", "& 'a mut!", true)?;
+    compares::<TypeReference<Never>>(&rt, alloc, "&'a !", "&'b !", false)?;
+    compares::<TypeReference<Never>>(&rt, alloc, "&'a !", "&!", false)?;
+    compares::<TypeReference<Never>>(&rt, alloc, "&mut !", "&!", false)?;
+    refuses::<TypeReference<Never>>(&rt, alloc, "'a &!");
+    refuses::<TypeReference<Never>>(&rt, alloc, "*const !");
+    refuses::<TypeReference<Never>>(&rt, alloc, "&'a mut ! !");
+    Ok(())
+}
