@@ -1,3 +1,5 @@
+pub mod ManyRead
 pub mod MarksBack
 pub mod NamesBack
+pub mod NamesMany
 pub mod Rereading
