@@ -7,3 +7,7 @@ pub mod Stands
 pub mod ReadBack
 pub mod Signs
 pub mod Owns
+pub mod Names
+pub mod Prefixes
+pub mod Simples
+pub mod Examples

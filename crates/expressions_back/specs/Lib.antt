@@ -1,3 +1,4 @@
 pub mod Behind
 pub mod Formed
 pub mod Firm
+pub mod Simple

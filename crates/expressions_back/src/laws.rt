@@ -3,6 +3,7 @@
 ghost use Rattle.expressions_back.specs.Behind.{AtEnd, BeforeOperand, BehindOperand, MayFollow};
 ghost use Rattle.expressions_back.specs.Firm.{is_firm_behind, is_firm_front, IsOwn};
 ghost use Rattle.expressions_back.specs.Formed.{Formed, IsBehind, IsFront};
+ghost use Rattle.expressions_back.specs.Simple.{IsSimple};
 ghost use Rattle.proc_macro2.specs.Token.{Token};
 ghost use Rattle.std.specs.Prelude.{◌≡◌, List, true};
 ghost use Rattle.syn_grammar.specs.Derives.{Derives};
@@ -31,4 +32,10 @@ pub fn own_parts()
         → IsFront AtEnd k y × IsFront (BeforeOperand k y) k y }
     ensures behind { (k : Kind) (y : Tree) → is_firm_behind k ≡ true → IsOwn k y
         → IsBehind (BehindOperand k y) k y × IsBehind (BeforeOperand k y) k y }
+{}
+
+/// An expression of names, literals, operators, ranges, jumps and groups is formed, if the own part of each of its
+/// forms is a name or is read by itself.
+pub fn simple()
+    ensures { (x : Tree) → IsSimple x → Formed x }
 {}
