@@ -13,7 +13,7 @@ use Rattle.proc_macro2.specs.Printed as printed
 use Rattle.rust_leaf.specs.Leaf.{AreCharacters}
 use Rattle.canon_syntax.specs.Tree.{Tree}
 use Rattle.canon_syntax.specs.File.{IsFile, IsParsed, NoFile}
-use Rattle.syn_parse.specs.Seen.{seen}
+use Rattle.syn_buffer.specs.Seen.{seen}
 use Rattle.canon.specs.Program.{IsProgram, IsOutput}
 use Rattle.canon.specs.Faults.{IsFaultOf, IsSyntaxFault}
 use Rattle.canon.specs.Places.{span_place}

@@ -14,7 +14,7 @@ use Rattle.proc_macro2.proofs.Halts.{no_forest}
 use Rattle.proc_macro2.proofs.Total.{forest_or_fault}
 use Rattle.lex_laws.proofs.Forests.{forest_read, forest_spaced}
 use Rattle.lex_laws.proofs.Plain.{one_reading}
-use Rattle.syn_parse.specs.Seen.{is_seen, seen}
+use Rattle.syn_buffer.specs.Seen.{is_seen, seen}
 use Rattle.canon.proofs.Places.{AreBehind, tokens_behind}
 
 -- the tokens of a text do not depend on where its characters stand

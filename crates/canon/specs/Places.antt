@@ -10,7 +10,7 @@ use Rattle.proc_macro2.specs.Token.{Spanned}
 use Rattle.proc_macro2.specs.Pieces.{edged}
 use Rattle.proc_macro2.specs.Forest.{IsForest}
 use Rattle.syn_error.specs.Notes.{place_of}
-use Rattle.syn_parse.specs.Entries.{same_span}
+use Rattle.syn_buffer.specs.Entries.{same_span}
 use Rattle.canon.specs.declared.fault.Fault.{Fault}
 use Rattle.canon.specs.declared.fault.Fault.TheVariants.{NotUtf8, Lexical, Syntax, MapFull, Memory, Reading, Writing}
 

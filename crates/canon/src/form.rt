@@ -11,7 +11,7 @@ ghost use Rattle.rust_map.specs.Sources.{next_position, with_text};
 ghost use Rattle.std.specs.Prelude.{◌≡◌, ◌+◌, ◌^◌, ◌≤◌, ◌↔◌, Err, IfErr, IfOk, OnOk, length, string_bytes};
 ghost use Rattle.std.specs.Str.{chars};
 ghost use Rattle.syn_error.specs.Faults.{IsSyntax};
-ghost use Rattle.syn_parse.specs.Seen.{seen};
+ghost use Rattle.syn_buffer.specs.Seen.{seen};
 
 use crate::fault::Fault;
 use crate::stands::span_place;
@@ -19,8 +19,9 @@ use canon_syntax::parse::parse_file;
 use proc_macro2::TokenStream;
 use rust_map::SourceMap;
 use std::alloc::Global;
+use syn_buffer::TokenBuffer;
 use syn_error::ParseFault;
-use syn_parse::{ParseBuffer, TokenBuffer};
+use syn_input::ParseBuffer;
 
 /// The canonical form of a text: the printed text of its program's normal form. The text is put
 /// behind the others of the map.

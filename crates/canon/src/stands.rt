@@ -5,7 +5,7 @@ ghost use Rattle.proc_macro2.specs.Flat.{group_tokens, tree_tokens, trees_tokens
 ghost use Rattle.rust_map.specs.Spans.{first_of};
 ghost use Rattle.std.specs.List.{list_any};
 ghost use Rattle.std.specs.Prelude.{◌≡◌, ◌==◌, ◌&&◌};
-ghost use Rattle.syn_parse.specs.Entries.{same_span};
+ghost use Rattle.syn_buffer.specs.Entries.{same_span};
 
 use proc_macro2::{Group, TokenStream, TokenTree};
 use rust_map::{LineColumn, SourceMap, Span};

@@ -16,10 +16,10 @@ use Rattle.syn_kinds.specs.Table.{is_reserved, marks, same_text, sign, word}
 use Rattle.syn_kinds.specs.Values.{word_tokens}
 use Rattle.syn_error.specs.Faults.{IsSyntax}
 use Rattle.syn_error.specs.declared.fault.ParseFault.{ParseFault}
-use Rattle.syn_parse.specs.Groups.{IsGroup}
-use Rattle.syn_parse.specs.Leaves.{ident_token}
-use Rattle.syn_parse.specs.Marks.{ReadsMarks}
-use Rattle.syn_parse.specs.Position.{Takes, left, rest}
+use Rattle.syn_buffer.specs.Groups.{IsGroup}
+use Rattle.syn_buffer.specs.Leaves.{ident_token}
+use Rattle.syn_peek.specs.Marks.{ReadsMarks}
+use Rattle.syn_buffer.specs.Position.{Takes, left, rest}
 use Rattle.syn_buffer.specs.declared.position.Cursor.{Cursor}
 use Rattle.canon_syntax.specs.Kind.{AnItem, AStruct, AMacro}
 use Rattle.canon_syntax.specs.Tree.{Tree, Leaf, Last, Raw, Pair, First, Second, Node}

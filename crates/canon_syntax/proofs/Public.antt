@@ -3,7 +3,7 @@ use Rattle.std.proofs.Common.{◌≡◌, ◌<◌, List, [], ◌∷◌, ◌++◌,
 use Rattle.std.specs.Prelude.{true, false}
 use Rattle.std.proofs.lemmas.List.{append-nil}
 use Rattle.proc_macro2.specs.Token.{Token}
-use Rattle.syn_parse.specs.Stands.{end_stands}
+use Rattle.syn_buffer.specs.Stands.{end_stands}
 use Rattle.canon_syntax.specs.declared.tree.Item as Items
 use Rattle.canon_syntax.specs.Kind.{AFile, AnItem}
 use Rattle.canon_syntax.specs.Tree.{Tree, Node, flat}

@@ -5,7 +5,7 @@ use Rattle.rust_leaf.specs.declared.ident.Ident as Idents
 use Rattle.rust_leaf.specs.declared.punct.Spacing.TheVariants.{Alone}
 use Rattle.proc_macro2.specs.Token.{Opens, Closes, Ident}
 use Rattle.proc_macro2.specs.declared.delimiter.Delimiter.TheVariants.{Brace}
-use Rattle.syn_parse.specs.Position.{left}
+use Rattle.syn_buffer.specs.Position.{left}
 use Rattle.canon_syntax.specs.Kind.{AFile, AnItem, AStruct, AMacro}
 use Rattle.canon_syntax.specs.Tree.{Tree, Leaf, Last, Raw, Nil, Pair, First, Second, Node}
 use Rattle.canon_syntax.specs.Table.{struct_text}

@@ -6,14 +6,14 @@ ghost use Rattle.canon_syntax.specs.Tests.{is_ident};
 ghost use Rattle.canon_syntax.specs.Views.{ident_tree, item_tree, macro_tree, struct_tree};
 ghost use Rattle.std.specs.Prelude.{◌≡◌, IfErr, IfOk};
 ghost use Rattle.syn_error.specs.Faults.{IsSyntax};
-ghost use Rattle.syn_parse.specs.Input.{IsOnward, left};
+ghost use Rattle.syn_input.specs.Input.{IsOnward, left};
 
 use crate::tree::{Item, ItemMacro, ItemStruct};
 use proc_macro2::{Delimiter, Ident};
 use syn_error::ParseFault;
+use syn_input::ParseBuffer;
 use syn_kinds::table::is_reserved;
 use syn_kinds::token;
-use syn_parse::ParseBuffer;
 
 // The name that stands first, lent.
 fn name<'a>(input: &mut ParseBuffer<'a>) -> Result<&'a Ident, ParseFault>

@@ -4,12 +4,12 @@ ghost use Rattle.canon_syntax.specs.File.{IsParsed, NoFile};
 ghost use Rattle.canon_syntax.specs.Views.{file_tree};
 ghost use Rattle.std.specs.Prelude.{[], ◌≡◌, IfErr, IfOk, OnOk};
 ghost use Rattle.syn_error.specs.Faults.{IsSyntax};
-ghost use Rattle.syn_parse.specs.Input.{IsOnward, left};
+ghost use Rattle.syn_input.specs.Input.{IsOnward, left};
 
 use crate::items;
 use crate::tree::File;
 use syn_error::ParseFault;
-use syn_parse::ParseBuffer;
+use syn_input::ParseBuffer;
 
 /// Reads a file from the stream, to its end.
 ///

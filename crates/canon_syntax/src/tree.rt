@@ -1,7 +1,7 @@
 //! Files and items, which borrow from the buffer that they are read from.
 
 use proc_macro2::Ident;
-use syn_parse::Cursor;
+use syn_buffer::Cursor;
 
 /// A file.
 #[derive(Drop)]

@@ -6,7 +6,7 @@ use Rattle.rust_map.specs.declared.span.Span.{Span}
 use Rattle.proc_macro2.specs.Token.{Closes, Opens, Spanned}
 use Rattle.proc_macro2.specs.Flat.{spanned, tree_tokens}
 use Rattle.proc_macro2.specs.declared.tree.TokenTree.{TokenTree}
-use Rattle.syn_parse.specs.Entries.{same_span}
+use Rattle.syn_buffer.specs.Entries.{same_span}
 use Rattle.canon.specs.Places.{begins_with}
 use Rattle.canon.proofs.Trees.{any_group, any_trees, part_length}
 use Rattle.canon.proofs.stands.+walking.Goals as goal

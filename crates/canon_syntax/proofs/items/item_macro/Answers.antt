@@ -1,8 +1,8 @@
 use Rattle.std.proofs.Common.{◌≡◌, subst, sym}
 use Rattle.rust_leaf.specs.declared.punct.Spacing.TheVariants.{Alone}
 use Rattle.syn_buffer.specs.declared.position.Cursor.{Cursor}
-use Rattle.syn_parse.specs.Input as input
-use Rattle.syn_parse.specs.Position.{left}
+use Rattle.syn_input.specs.Input as input
+use Rattle.syn_buffer.specs.Position.{left}
 use Rattle.canon_syntax.specs.Kind.{AMacro}
 use Rattle.canon_syntax.specs.Tree.{Last, Node, Pair, Raw}
 use Rattle.canon_syntax.specs.Run.{Got, kind, normals}

@@ -1,5 +1,5 @@
 use Rattle.std.proofs.Common.{length}
-use Rattle.syn_parse.specs.Input.{IsOnward, left}
+use Rattle.syn_input.specs.Input.{IsOnward, left}
 use Rattle.canon_syntax.proofs.Public.{HasRead}
 use Rattle.canon_syntax.proofs.parse.parse_file.Given as goal
 
