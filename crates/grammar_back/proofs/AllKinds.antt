@@ -16,13 +16,14 @@ use Rattle.syn_grammar.specs.Kind.{FnPtrArg, FnPtrType, GenericParam, GenericPar
 use Rattle.syn_grammar.specs.Kind.{ImplType, InExpression, InFile, InForeign, InImpl, InModule, InTrait, InType}
 use Rattle.syn_grammar.specs.Kind.{Index, InferType, InnerAttribute, InnerAttributes, ItemMacro, Label}
 use Rattle.syn_grammar.specs.Kind.{LifetimeColon, LifetimeParam, Lifetimes, LiteralPattern, Member, Meta}
-use Rattle.syn_grammar.specs.Kind.{NamedField, NamedFields, NeverType, OuterAttribute, OuterAttributes}
-use Rattle.syn_grammar.specs.Kind.{Parameters, ParenthesizedArguments, Path, PathPattern, Pattern, PointerType}
-use Rattle.syn_grammar.specs.Kind.{QualifiedPath, RangeBound, RangeEnd, RangeToPattern, Receiver, ReferenceType}
-use Rattle.syn_grammar.specs.Kind.{RestPattern, ReturnType, Segments, SeveralPatterns, Signature, SlicePattern}
-use Rattle.syn_grammar.specs.Kind.{SomeBounds, TraitPath, TuplePattern, TupleType, TypeParam, UnnamedField}
-use Rattle.syn_grammar.specs.Kind.{UnnamedFields, UseBranch, UseRooted, UseTop, UseTree, Variant, Visibility}
-use Rattle.syn_grammar.specs.Kind.{Where, WhereClause, WherePredicate, WildPattern, WithPlus, WithoutPlus}
+use Rattle.syn_grammar.specs.Kind.{NamedField, NamedFields, NeverType, OnePattern, OuterAttribute}
+use Rattle.syn_grammar.specs.Kind.{OuterAttributes, Parameters, ParenthesizedArguments, Path, PathPattern}
+use Rattle.syn_grammar.specs.Kind.{Pattern, PointerType, QualifiedPath, RangeBound, RangeEnd, RangeToPattern}
+use Rattle.syn_grammar.specs.Kind.{Receiver, ReferenceType, RestPattern, ReturnType, Segments, SeveralPatterns}
+use Rattle.syn_grammar.specs.Kind.{Signature, SlicePattern, SomeBounds, TraitPath, TuplePattern, TupleType}
+use Rattle.syn_grammar.specs.Kind.{TypeParam, UnnamedField, UnnamedFields, UseBranch, UseRooted, UseTop, UseTree}
+use Rattle.syn_grammar.specs.Kind.{Variant, Visibility, Where, WhereClause, WherePredicate, WildPattern, WithPlus}
+use Rattle.syn_grammar.specs.Kind.{WithoutPlus}
 use Rattle.syn_grammar.specs.Kept.{held}
 use Rattle.syn_grammar.specs.Normal.{passed, place_of}
 use Rattle.syn_grammar.specs.Table.{table}
@@ -35,6 +36,7 @@ use Rattle.grammar_back.proofs.KindLaws.{law_dyn_alone, law_impl, law_impl_alone
 use Rattle.grammar_back.proofs.KindLaws.{law_several, law_outer, law_inner, law_meta, law_generics}
 use Rattle.grammar_back.proofs.KindLaws.{law_generic_params, law_lifetime_colon, law_bounds_colon, law_where}
 use Rattle.grammar_back.proofs.KindLaws.{law_unnamed_field, law_variant, law_const, law_trait_type, law_impl_type}
+use Rattle.grammar_back.proofs.Alternatives.{law_one_pattern}
 use Rattle.grammar_back.proofs.Elements.{law_field_patterns, law_parameters, law_fn_arg, law_field_values}
 use Rattle.grammar_back.proofs.Defaults.{law_const_param}
 use Rattle.grammar_back.proofs.Predicates.{law_where_predicate}
@@ -62,6 +64,7 @@ use Rattle.grammar_back.proofs.StepsOfPatterns.{step_wild_pattern, step_range_to
 use Rattle.grammar_back.proofs.StepsOfPatterns.{step_tuple_pattern, step_slice_pattern, step_literal_pattern}
 use Rattle.grammar_back.proofs.StepsOfPatterns.{step_path_pattern, step_range_end, step_range_bound}
 use Rattle.grammar_back.proofs.StepsOfPatterns.{step_field_patterns}
+use Rattle.grammar_back.proofs.Alternatives.{step_one_pattern}
 use Rattle.grammar_back.proofs.StepsOfAttributes.{step_outer_attributes, step_outer_attribute}
 use Rattle.grammar_back.proofs.StepsOfAttributes.{step_inner_attributes, step_inner_attribute}
 use Rattle.grammar_back.proofs.ValueSteps.{step_meta, step_a_const}
@@ -149,6 +152,7 @@ steps Lifetimes e = step_lifetimes
 steps Abi e = step_abi
 steps Pattern e = step_pattern
 steps SeveralPatterns e = step_several_patterns
+steps OnePattern e = step_one_pattern
 steps IdentPattern e = step_ident_pattern
 steps WildPattern e = step_wild_pattern
 steps RangeToPattern e = step_range_to_pattern
@@ -329,6 +333,7 @@ laws Lifetimes e = simple_kind Lifetimes refl (λ x. tt) (λ x. refl) (λ x. ref
 laws Abi e = simple_kind Abi refl (λ x. tt) (λ x. refl) (λ x. refl) (λ q. refl) (λ q. refl) refl
 laws Pattern e = law_pattern
 laws SeveralPatterns e = law_several
+laws OnePattern e = law_one_pattern
 laws IdentPattern e = simple_kind IdentPattern refl (λ x. tt) (λ x. refl) (λ x. refl) (λ q. refl) (λ q. refl) refl
 laws WildPattern e = simple_kind WildPattern refl (λ x. tt) (λ x. refl) (λ x. refl) (λ q. refl) (λ q. refl) refl
 laws RangeToPattern e = simple_kind RangeToPattern refl (λ x. tt) (λ x. refl) (λ x. refl) (λ q. refl) (λ q. refl) refl

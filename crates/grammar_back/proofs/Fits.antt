@@ -6,7 +6,7 @@ use Rattle.std.proofs.Common.{◌≡◌, List, [], ◌∷◌, ◌++◌, refl, sy
 use Rattle.std.specs.Prelude.{Bool, true, false, not, ◌||◌}
 use Rattle.proc_macro2.specs.Token.{Token, Opens, Closes, Punct}
 use Rattle.rust_leaf.specs.declared.punct.Spacing.TheVariants.{Alone as Apart}
-use Rattle.syn_grammar.specs.Kind.{Kind, Position, DynType, ImplType, WithoutPlus, InExpression, Segments}
+use Rattle.syn_grammar.specs.Kind.{Kind, Position, DynType, ImplType, WithoutPlus, OnePattern, InExpression, Segments}
 use Rattle.syn_grammar.specs.Kind.{FnPtrType, WherePredicate}
 use Rattle.syn_grammar.specs.Kind.{AConst, UnnamedField, Meta}
 use Rattle.syn_grammar.specs.Kind.{Expression}
@@ -22,7 +22,7 @@ use Rattle.syn_grammar.specs.Table.{table}
 use Rattle.syn_grammar.specs.Kept.{forget, dotted, is_there, kept}
 use Rattle.syn_grammar.specs.Part.{choice}
 use Rattle.syn_grammar.specs.Normal.{stands_behind, formed}
-use Rattle.grammar_back.specs.Covered.{front, inner, has_clear_type, has_lone_value, is_known}
+use Rattle.grammar_back.specs.Covered.{front, inner, has_clear_type, is_lone, has_lone_value, is_known}
 
 -- the test can say so
 abbrev pub CanSay : (List Token → Bool) → Bool → Type 0
@@ -73,6 +73,7 @@ IsMeant (DynType WithoutPlus) x = has_path_bound x ≡ true
 IsMeant (ImplType WithoutPlus) x = has_path_bound x ≡ true
 IsMeant WherePredicate x = has_own_for x ≡ true
 IsMeant (Segments InExpression) x = has_turbofish x ≡ true
+IsMeant OnePattern x = is_lone (choice x) ≡ false
 IsMeant UnnamedField x = has_clear_type x ≡ true
 IsMeant AConst x = has_lone_value x ≡ true
 IsMeant Meta x = has_bare_value x ≡ true

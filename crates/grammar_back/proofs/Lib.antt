@@ -23,6 +23,7 @@ pub mod Seconds
 pub mod Verdicts
 pub mod HandSteps
 pub mod ValueSteps
+pub mod Alternatives
 pub mod Turbofish
 pub mod Predicates
 pub mod Fields

@@ -338,6 +338,32 @@ found_perhaps_then l {c} {cs} {b} {ms} {ds} g one other = record { fine = record
     go (Pair _ y) s d w a = absurd d.0
     go _ s d w a = absurd d
 
+-- the same of one punctuation or another
+pub found_signs_then : (l : Look) {c e : ℕ} {cs es : List ℕ} {b : Gram} {ms : List Look} {ds : List Class} → Found b
+    ms ds
+    → Told l true (each_then c cs ds) → Told l false (each_then e es ds)
+    → Found (seq (alt (sees l) (mark c cs) (mark e es)) b) ms (each_then c cs ds ++ each_then e es ds)
+found_signs_then l {c} {e} {cs} {es} {b} {ms} {ds} g one other = record { fine = record { by = go } }
+  where
+    go : (x : Tree) (s : List Token) → Fits x (seq (alt (sees l) (mark c cs) (mark e es)) b) → Ready x → LacksAll ms s
+        → Derives x (seq (alt (sees l) (mark c cs) (mark e es)) b) s × At (each_then c cs ds ++ each_then e es ds) x s
+    go (Pair (First x) y) s d w a =
+        let (t, i) = (found_then g).fine.by (Pair x y) s (d.0.1, d.1) w a in
+        let j : IsAmong (each_then c cs ds) (flat x ++ (flat y ++ s)) =
+        subst (IsAmong (each_then c cs ds)) (append_assoc (flat x) (flat y) s) i in (
+          ((of_all (λ us. sees l us ≡ true) (each_then c cs ds) (flat x ++ (flat y ++ s)) one j, t.0), t.1),
+          among_left (each_then c cs ds) (each_then e es ds) ((flat x ++ flat y) ++ s) i,
+        )
+    go (Pair (Second x) y) s d w a =
+        let (t, i) = (found_then g).fine.by (Pair x y) s (d.0.1, d.1) w a in
+        let j : IsAmong (each_then e es ds) (flat x ++ (flat y ++ s)) =
+        subst (IsAmong (each_then e es ds)) (append_assoc (flat x) (flat y) s) i in (
+          ((of_all (λ us. sees l us ≡ false) (each_then e es ds) (flat x ++ (flat y ++ s)) other j, t.0), t.1),
+          among_right (each_then c cs ds) (each_then e es ds) ((flat x ++ flat y) ++ s) i,
+        )
+    go (Pair _ y) s d w a = absurd d.0
+    go _ s d w a = absurd d
+
 -- an alternative that is never seen
 none_unseen : (l : Look) → ((ts : List Token) → sees l ts ≡ false) → CanSay (sees l) true → ⊥
 none_unseen l h k = let e : true ≡ false = sym k.1 ∙ h k.0 in cc e

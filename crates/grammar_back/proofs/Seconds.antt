@@ -37,7 +37,7 @@ use Rattle.grammar_back.proofs.Parts.{Found, found_alt, found_mark, found_ref, f
 use Rattle.grammar_back.proofs.Parts.{found_word}
 
 -- where no such word stands, none stands before anything
-past_none : (p : List ℕ → Bool) (l : Look) (ts : List Token) → Lacks (a_word p) ts → Lacks (a_word p then l) ts
+pub past_none : (p : List ℕ → Bool) (l : Look) (ts : List Token) → Lacks (a_word p) ts → Lacks (a_word p then l) ts
 past_none p l ts e = go (a_word p ts) e
   where
     go : (o : Option (List Token)) → seen o ≡ false → seen (behind o l) ≡ false
@@ -55,7 +55,8 @@ pub group_is_none : (p : List ℕ → Bool) (d : Delimiter) (ts : List Token) �
 group_is_none p d (Ident ds ∷ ts) e = cc
 group_is_none p d _ e = refl
 
-word_is_none : (w : List ℕ) (ts : List Token) → is_reserved w ≡ true → sees (the_word w) ts ≡ true → Lacks an_ident ts
+pub word_is_none : (w : List ℕ) (ts : List Token) → is_reserved w ≡ true → sees (the_word w) ts ≡ true → Lacks
+    an_ident ts
 word_is_none w (Ident cs ∷ us) r e = go (is_ident cs) refl
   where
     go : (b : Bool) → is_ident cs ≡ b → seen (cond b (Some us) None) ≡ false
@@ -196,7 +197,7 @@ module _ (l : Look) (colons : (ts : List Token) → sees (marks "::") ts ≡ tru
   type_next _ s d a = absurd d
 
 -- no = stands there
-mark_other : (c d : ℕ) (cs : List ℕ) (ts : List Token) → (c == d) ≡ false → sees (past_marks c cs) ts ≡ true
+pub mark_other : (c d : ℕ) (cs : List ℕ) (ts : List Token) → (c == d) ≡ false → sees (past_marks c cs) ts ≡ true
     → sees (past_marks d []) ts ≡ false
 mark_other c d [] (Punct e spacing ∷ ts) n h = other (e == c) refl h
   where
@@ -217,11 +218,11 @@ no_equals_parens : (ts : List Token) → sees parenthesis ts ≡ true → Lacks 
 no_equals_parens (Punct e spacing ∷ ts) h = cc h
 no_equals_parens _ h = refl
 
-front_seen : (o : Option (List Token)) (l : Look) → seen (behind o l) ≡ true → seen o ≡ true
+pub front_seen : (o : Option (List Token)) (l : Look) → seen (behind o l) ≡ true → seen o ≡ true
 front_seen (Some us) l e = refl
 front_seen None l e = cc
 
-none_seen : (o : Option (List Token)) (l : Look) (ts : List Token)
+pub none_seen : (o : Option (List Token)) (l : Look) (ts : List Token)
     → seen (behind (cond (seen o) None (Some ts)) l) ≡ true → sees l ts ≡ true
 none_seen (Some us) l ts e = cc
 none_seen None l ts e = e

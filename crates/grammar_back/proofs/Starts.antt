@@ -188,29 +188,89 @@ starts BoundLifetimes = TheWord (codes "for") ∷ []
 starts Lifetimes = Tick ∷ []
 starts Abi = TheWord (codes "extern") ∷ []
 starts Pattern = Sign 124 [] ∷ TheWord (codes "ref") ∷ TheWord (codes "mut") ∷ AnyWord is_ident ∷ TheWord (codes "_")
-    ∷ Sign 46 (46 ∷ 61 ∷ []) ∷ Sign 46 (46 ∷ []) ∷ Sign 46 (46 ∷ []) ∷ Opening Parenthesis ∷ Opening Bracket ∷ Sign
-    38 [] ∷ Sign 45 [] ∷ Quoted any_text ∷ TheWord (codes "true") ∷ TheWord (codes "false") ∷ Sign 60 [] ∷ Then 58
-    (58 ∷ []) (TheWord (codes "self")) ∷ Then 58 (58 ∷ []) (TheWord (codes "super")) ∷ Then 58 (58 ∷ [])
-    (TheWord (codes "crate")) ∷ Then 58 (58 ∷ []) (AnyWord is_ident) ∷ Then 58 (58 ∷ []) (TheWord (codes "Self")) ∷
-    TheWord (codes "self") ∷ TheWord (codes "super") ∷ TheWord (codes "crate") ∷ AnyWord is_ident ∷ TheWord
-    (codes "Self") ∷ []
-starts SeveralPatterns = TheWord (codes "ref") ∷ TheWord (codes "mut") ∷ AnyWord is_ident ∷ TheWord (codes "_") ∷
-    Sign 46 (46 ∷ 61 ∷ []) ∷ Sign 46 (46 ∷ []) ∷ Sign 46 (46 ∷ []) ∷ Opening Parenthesis ∷ Opening Bracket ∷ Sign 38
+    ∷ Then 46 (46 ∷ 61 ∷ []) (Sign 45 []) ∷ Then 46 (46 ∷ 61 ∷ []) (Quoted any_text) ∷ Then 46 (46 ∷ 61 ∷ [])
+    (TheWord (codes "true")) ∷ Then 46 (46 ∷ 61 ∷ []) (TheWord (codes "false")) ∷ Then 46 (46 ∷ 61 ∷ []) (Sign 60 [])
+    ∷ Then 46 (46 ∷ 61 ∷ []) (Then 58 (58 ∷ []) (TheWord (codes "self"))) ∷ Then 46 (46 ∷ 61 ∷ [])
+    (Then 58 (58 ∷ []) (TheWord (codes "super"))) ∷ Then 46 (46 ∷ 61 ∷ [])
+    (Then 58 (58 ∷ []) (TheWord (codes "crate"))) ∷ Then 46 (46 ∷ 61 ∷ []) (Then 58 (58 ∷ []) (AnyWord is_ident)) ∷
+    Then 46 (46 ∷ 61 ∷ []) (Then 58 (58 ∷ []) (TheWord (codes "Self"))) ∷ Then 46 (46 ∷ 61 ∷ [])
+    (TheWord (codes "self")) ∷ Then 46 (46 ∷ 61 ∷ []) (TheWord (codes "super")) ∷ Then 46 (46 ∷ 61 ∷ [])
+    (TheWord (codes "crate")) ∷ Then 46 (46 ∷ 61 ∷ []) (AnyWord is_ident) ∷ Then 46 (46 ∷ 61 ∷ [])
+    (TheWord (codes "Self")) ∷ Then 46 (46 ∷ []) (Sign 45 []) ∷ Then 46 (46 ∷ []) (Quoted any_text) ∷ Then 46
+    (46 ∷ []) (TheWord (codes "true")) ∷ Then 46 (46 ∷ []) (TheWord (codes "false")) ∷ Then 46 (46 ∷ []) (Sign 60 [])
+    ∷ Then 46 (46 ∷ []) (Then 58 (58 ∷ []) (TheWord (codes "self"))) ∷ Then 46 (46 ∷ [])
+    (Then 58 (58 ∷ []) (TheWord (codes "super"))) ∷ Then 46 (46 ∷ []) (Then 58 (58 ∷ []) (TheWord (codes "crate"))) ∷
+    Then 46 (46 ∷ []) (Then 58 (58 ∷ []) (AnyWord is_ident)) ∷ Then 46 (46 ∷ [])
+    (Then 58 (58 ∷ []) (TheWord (codes "Self"))) ∷ Then 46 (46 ∷ []) (TheWord (codes "self")) ∷ Then 46 (46 ∷ [])
+    (TheWord (codes "super")) ∷ Then 46 (46 ∷ []) (TheWord (codes "crate")) ∷ Then 46 (46 ∷ []) (AnyWord is_ident) ∷
+    Then 46 (46 ∷ []) (TheWord (codes "Self")) ∷ Sign 46 (46 ∷ []) ∷ Opening Parenthesis ∷ Opening Bracket ∷ Sign 38
     [] ∷ Sign 45 [] ∷ Quoted any_text ∷ TheWord (codes "true") ∷ TheWord (codes "false") ∷ Sign 60 [] ∷ Then 58
     (58 ∷ []) (TheWord (codes "self")) ∷ Then 58 (58 ∷ []) (TheWord (codes "super")) ∷ Then 58 (58 ∷ [])
     (TheWord (codes "crate")) ∷ Then 58 (58 ∷ []) (AnyWord is_ident) ∷ Then 58 (58 ∷ []) (TheWord (codes "Self")) ∷
     TheWord (codes "self") ∷ TheWord (codes "super") ∷ TheWord (codes "crate") ∷ AnyWord is_ident ∷ TheWord
     (codes "Self") ∷ []
-starts OnePattern = TheWord (codes "ref") ∷ TheWord (codes "mut") ∷ AnyWord is_ident ∷ TheWord (codes "_") ∷ Sign 46
-    (46 ∷ 61 ∷ []) ∷ Sign 46 (46 ∷ []) ∷ Sign 46 (46 ∷ []) ∷ Opening Parenthesis ∷ Opening Bracket ∷ Sign 38 [] ∷
-    Sign 45 [] ∷ Quoted any_text ∷ TheWord (codes "true") ∷ TheWord (codes "false") ∷ Sign 60 [] ∷ Then 58 (58 ∷ [])
-    (TheWord (codes "self")) ∷ Then 58 (58 ∷ []) (TheWord (codes "super")) ∷ Then 58 (58 ∷ [])
+starts SeveralPatterns = TheWord (codes "ref") ∷ TheWord (codes "mut") ∷ AnyWord is_ident ∷ TheWord (codes "_") ∷
+    Then 46 (46 ∷ 61 ∷ []) (Sign 45 []) ∷ Then 46 (46 ∷ 61 ∷ []) (Quoted any_text) ∷ Then 46 (46 ∷ 61 ∷ [])
+    (TheWord (codes "true")) ∷ Then 46 (46 ∷ 61 ∷ []) (TheWord (codes "false")) ∷ Then 46 (46 ∷ 61 ∷ []) (Sign 60 [])
+    ∷ Then 46 (46 ∷ 61 ∷ []) (Then 58 (58 ∷ []) (TheWord (codes "self"))) ∷ Then 46 (46 ∷ 61 ∷ [])
+    (Then 58 (58 ∷ []) (TheWord (codes "super"))) ∷ Then 46 (46 ∷ 61 ∷ [])
+    (Then 58 (58 ∷ []) (TheWord (codes "crate"))) ∷ Then 46 (46 ∷ 61 ∷ []) (Then 58 (58 ∷ []) (AnyWord is_ident)) ∷
+    Then 46 (46 ∷ 61 ∷ []) (Then 58 (58 ∷ []) (TheWord (codes "Self"))) ∷ Then 46 (46 ∷ 61 ∷ [])
+    (TheWord (codes "self")) ∷ Then 46 (46 ∷ 61 ∷ []) (TheWord (codes "super")) ∷ Then 46 (46 ∷ 61 ∷ [])
+    (TheWord (codes "crate")) ∷ Then 46 (46 ∷ 61 ∷ []) (AnyWord is_ident) ∷ Then 46 (46 ∷ 61 ∷ [])
+    (TheWord (codes "Self")) ∷ Then 46 (46 ∷ []) (Sign 45 []) ∷ Then 46 (46 ∷ []) (Quoted any_text) ∷ Then 46
+    (46 ∷ []) (TheWord (codes "true")) ∷ Then 46 (46 ∷ []) (TheWord (codes "false")) ∷ Then 46 (46 ∷ []) (Sign 60 [])
+    ∷ Then 46 (46 ∷ []) (Then 58 (58 ∷ []) (TheWord (codes "self"))) ∷ Then 46 (46 ∷ [])
+    (Then 58 (58 ∷ []) (TheWord (codes "super"))) ∷ Then 46 (46 ∷ []) (Then 58 (58 ∷ []) (TheWord (codes "crate"))) ∷
+    Then 46 (46 ∷ []) (Then 58 (58 ∷ []) (AnyWord is_ident)) ∷ Then 46 (46 ∷ [])
+    (Then 58 (58 ∷ []) (TheWord (codes "Self"))) ∷ Then 46 (46 ∷ []) (TheWord (codes "self")) ∷ Then 46 (46 ∷ [])
+    (TheWord (codes "super")) ∷ Then 46 (46 ∷ []) (TheWord (codes "crate")) ∷ Then 46 (46 ∷ []) (AnyWord is_ident) ∷
+    Then 46 (46 ∷ []) (TheWord (codes "Self")) ∷ Sign 46 (46 ∷ []) ∷ Opening Parenthesis ∷ Opening Bracket ∷ Sign 38
+    [] ∷ Sign 45 [] ∷ Quoted any_text ∷ TheWord (codes "true") ∷ TheWord (codes "false") ∷ Sign 60 [] ∷ Then 58
+    (58 ∷ []) (TheWord (codes "self")) ∷ Then 58 (58 ∷ []) (TheWord (codes "super")) ∷ Then 58 (58 ∷ [])
+    (TheWord (codes "crate")) ∷ Then 58 (58 ∷ []) (AnyWord is_ident) ∷ Then 58 (58 ∷ []) (TheWord (codes "Self")) ∷
+    TheWord (codes "self") ∷ TheWord (codes "super") ∷ TheWord (codes "crate") ∷ AnyWord is_ident ∷ TheWord
+    (codes "Self") ∷ []
+starts OnePattern = TheWord (codes "ref") ∷ TheWord (codes "mut") ∷ AnyWord is_ident ∷ TheWord (codes "_") ∷ Then 46
+    (46 ∷ 61 ∷ []) (Sign 45 []) ∷ Then 46 (46 ∷ 61 ∷ []) (Quoted any_text) ∷ Then 46 (46 ∷ 61 ∷ [])
+    (TheWord (codes "true")) ∷ Then 46 (46 ∷ 61 ∷ []) (TheWord (codes "false")) ∷ Then 46 (46 ∷ 61 ∷ []) (Sign 60 [])
+    ∷ Then 46 (46 ∷ 61 ∷ []) (Then 58 (58 ∷ []) (TheWord (codes "self"))) ∷ Then 46 (46 ∷ 61 ∷ [])
+    (Then 58 (58 ∷ []) (TheWord (codes "super"))) ∷ Then 46 (46 ∷ 61 ∷ [])
+    (Then 58 (58 ∷ []) (TheWord (codes "crate"))) ∷ Then 46 (46 ∷ 61 ∷ []) (Then 58 (58 ∷ []) (AnyWord is_ident)) ∷
+    Then 46 (46 ∷ 61 ∷ []) (Then 58 (58 ∷ []) (TheWord (codes "Self"))) ∷ Then 46 (46 ∷ 61 ∷ [])
+    (TheWord (codes "self")) ∷ Then 46 (46 ∷ 61 ∷ []) (TheWord (codes "super")) ∷ Then 46 (46 ∷ 61 ∷ [])
+    (TheWord (codes "crate")) ∷ Then 46 (46 ∷ 61 ∷ []) (AnyWord is_ident) ∷ Then 46 (46 ∷ 61 ∷ [])
+    (TheWord (codes "Self")) ∷ Then 46 (46 ∷ []) (Sign 45 []) ∷ Then 46 (46 ∷ []) (Quoted any_text) ∷ Then 46
+    (46 ∷ []) (TheWord (codes "true")) ∷ Then 46 (46 ∷ []) (TheWord (codes "false")) ∷ Then 46 (46 ∷ []) (Sign 60 [])
+    ∷ Then 46 (46 ∷ []) (Then 58 (58 ∷ []) (TheWord (codes "self"))) ∷ Then 46 (46 ∷ [])
+    (Then 58 (58 ∷ []) (TheWord (codes "super"))) ∷ Then 46 (46 ∷ []) (Then 58 (58 ∷ []) (TheWord (codes "crate"))) ∷
+    Then 46 (46 ∷ []) (Then 58 (58 ∷ []) (AnyWord is_ident)) ∷ Then 46 (46 ∷ [])
+    (Then 58 (58 ∷ []) (TheWord (codes "Self"))) ∷ Then 46 (46 ∷ []) (TheWord (codes "self")) ∷ Then 46 (46 ∷ [])
+    (TheWord (codes "super")) ∷ Then 46 (46 ∷ []) (TheWord (codes "crate")) ∷ Then 46 (46 ∷ []) (AnyWord is_ident) ∷
+    Then 46 (46 ∷ []) (TheWord (codes "Self")) ∷ Sign 46 (46 ∷ []) ∷ Opening Parenthesis ∷ Opening Bracket ∷ Sign 38
+    [] ∷ Sign 45 [] ∷ Quoted any_text ∷ TheWord (codes "true") ∷ TheWord (codes "false") ∷ Sign 60 [] ∷ Then 58
+    (58 ∷ []) (TheWord (codes "self")) ∷ Then 58 (58 ∷ []) (TheWord (codes "super")) ∷ Then 58 (58 ∷ [])
     (TheWord (codes "crate")) ∷ Then 58 (58 ∷ []) (AnyWord is_ident) ∷ Then 58 (58 ∷ []) (TheWord (codes "Self")) ∷
     TheWord (codes "self") ∷ TheWord (codes "super") ∷ TheWord (codes "crate") ∷ AnyWord is_ident ∷ TheWord
     (codes "Self") ∷ []
 starts IdentPattern = TheWord (codes "ref") ∷ TheWord (codes "mut") ∷ AnyWord is_ident ∷ []
 starts WildPattern = TheWord (codes "_") ∷ []
-starts RangeToPattern = Sign 46 (46 ∷ 61 ∷ []) ∷ Sign 46 (46 ∷ []) ∷ []
+starts RangeToPattern = Then 46 (46 ∷ 61 ∷ []) (Sign 45 []) ∷ Then 46 (46 ∷ 61 ∷ []) (Quoted any_text) ∷ Then 46
+    (46 ∷ 61 ∷ []) (TheWord (codes "true")) ∷ Then 46 (46 ∷ 61 ∷ []) (TheWord (codes "false")) ∷ Then 46
+    (46 ∷ 61 ∷ []) (Sign 60 []) ∷ Then 46 (46 ∷ 61 ∷ []) (Then 58 (58 ∷ []) (TheWord (codes "self"))) ∷ Then 46
+    (46 ∷ 61 ∷ []) (Then 58 (58 ∷ []) (TheWord (codes "super"))) ∷ Then 46 (46 ∷ 61 ∷ [])
+    (Then 58 (58 ∷ []) (TheWord (codes "crate"))) ∷ Then 46 (46 ∷ 61 ∷ []) (Then 58 (58 ∷ []) (AnyWord is_ident)) ∷
+    Then 46 (46 ∷ 61 ∷ []) (Then 58 (58 ∷ []) (TheWord (codes "Self"))) ∷ Then 46 (46 ∷ 61 ∷ [])
+    (TheWord (codes "self")) ∷ Then 46 (46 ∷ 61 ∷ []) (TheWord (codes "super")) ∷ Then 46 (46 ∷ 61 ∷ [])
+    (TheWord (codes "crate")) ∷ Then 46 (46 ∷ 61 ∷ []) (AnyWord is_ident) ∷ Then 46 (46 ∷ 61 ∷ [])
+    (TheWord (codes "Self")) ∷ Then 46 (46 ∷ []) (Sign 45 []) ∷ Then 46 (46 ∷ []) (Quoted any_text) ∷ Then 46
+    (46 ∷ []) (TheWord (codes "true")) ∷ Then 46 (46 ∷ []) (TheWord (codes "false")) ∷ Then 46 (46 ∷ []) (Sign 60 [])
+    ∷ Then 46 (46 ∷ []) (Then 58 (58 ∷ []) (TheWord (codes "self"))) ∷ Then 46 (46 ∷ [])
+    (Then 58 (58 ∷ []) (TheWord (codes "super"))) ∷ Then 46 (46 ∷ []) (Then 58 (58 ∷ []) (TheWord (codes "crate"))) ∷
+    Then 46 (46 ∷ []) (Then 58 (58 ∷ []) (AnyWord is_ident)) ∷ Then 46 (46 ∷ [])
+    (Then 58 (58 ∷ []) (TheWord (codes "Self"))) ∷ Then 46 (46 ∷ []) (TheWord (codes "self")) ∷ Then 46 (46 ∷ [])
+    (TheWord (codes "super")) ∷ Then 46 (46 ∷ []) (TheWord (codes "crate")) ∷ Then 46 (46 ∷ []) (AnyWord is_ident) ∷
+    Then 46 (46 ∷ []) (TheWord (codes "Self")) ∷ []
 starts RestPattern = Sign 46 (46 ∷ []) ∷ []
 starts TuplePattern = Opening Parenthesis ∷ []
 starts SlicePattern = Opening Bracket ∷ []
@@ -295,12 +355,28 @@ starts Parameter = Then 35 [] (Opening Bracket) ∷ Sign 38 [] ∷ TheWord (code
     58 (58 ∷ []) (TheWord (codes "super")) ∷ Then 58 (58 ∷ []) (TheWord (codes "crate")) ∷ Then 58 (58 ∷ [])
     (AnyWord is_ident) ∷ Then 58 (58 ∷ []) (TheWord (codes "Self")) ∷ TheWord (codes "self") ∷ TheWord
     (codes "super") ∷ TheWord (codes "crate") ∷ AnyWord is_ident ∷ TheWord (codes "Self") ∷ TheWord (codes "ref") ∷
-    TheWord (codes "mut") ∷ AnyWord is_ident ∷ TheWord (codes "_") ∷ Sign 46 (46 ∷ 61 ∷ []) ∷ Sign 46 (46 ∷ []) ∷
-    Sign 46 (46 ∷ []) ∷ Opening Parenthesis ∷ Opening Bracket ∷ Sign 38 [] ∷ Sign 45 [] ∷ Quoted any_text ∷ TheWord
-    (codes "true") ∷ TheWord (codes "false") ∷ Sign 60 [] ∷ Then 58 (58 ∷ []) (TheWord (codes "self")) ∷ Then 58
-    (58 ∷ []) (TheWord (codes "super")) ∷ Then 58 (58 ∷ []) (TheWord (codes "crate")) ∷ Then 58 (58 ∷ [])
-    (AnyWord is_ident) ∷ Then 58 (58 ∷ []) (TheWord (codes "Self")) ∷ TheWord (codes "self") ∷ TheWord
-    (codes "super") ∷ TheWord (codes "crate") ∷ AnyWord is_ident ∷ TheWord (codes "Self") ∷ []
+    TheWord (codes "mut") ∷ AnyWord is_ident ∷ TheWord (codes "_") ∷ Then 46 (46 ∷ 61 ∷ []) (Sign 45 []) ∷ Then 46
+    (46 ∷ 61 ∷ []) (Quoted any_text) ∷ Then 46 (46 ∷ 61 ∷ []) (TheWord (codes "true")) ∷ Then 46 (46 ∷ 61 ∷ [])
+    (TheWord (codes "false")) ∷ Then 46 (46 ∷ 61 ∷ []) (Sign 60 []) ∷ Then 46 (46 ∷ 61 ∷ [])
+    (Then 58 (58 ∷ []) (TheWord (codes "self"))) ∷ Then 46 (46 ∷ 61 ∷ [])
+    (Then 58 (58 ∷ []) (TheWord (codes "super"))) ∷ Then 46 (46 ∷ 61 ∷ [])
+    (Then 58 (58 ∷ []) (TheWord (codes "crate"))) ∷ Then 46 (46 ∷ 61 ∷ []) (Then 58 (58 ∷ []) (AnyWord is_ident)) ∷
+    Then 46 (46 ∷ 61 ∷ []) (Then 58 (58 ∷ []) (TheWord (codes "Self"))) ∷ Then 46 (46 ∷ 61 ∷ [])
+    (TheWord (codes "self")) ∷ Then 46 (46 ∷ 61 ∷ []) (TheWord (codes "super")) ∷ Then 46 (46 ∷ 61 ∷ [])
+    (TheWord (codes "crate")) ∷ Then 46 (46 ∷ 61 ∷ []) (AnyWord is_ident) ∷ Then 46 (46 ∷ 61 ∷ [])
+    (TheWord (codes "Self")) ∷ Then 46 (46 ∷ []) (Sign 45 []) ∷ Then 46 (46 ∷ []) (Quoted any_text) ∷ Then 46
+    (46 ∷ []) (TheWord (codes "true")) ∷ Then 46 (46 ∷ []) (TheWord (codes "false")) ∷ Then 46 (46 ∷ []) (Sign 60 [])
+    ∷ Then 46 (46 ∷ []) (Then 58 (58 ∷ []) (TheWord (codes "self"))) ∷ Then 46 (46 ∷ [])
+    (Then 58 (58 ∷ []) (TheWord (codes "super"))) ∷ Then 46 (46 ∷ []) (Then 58 (58 ∷ []) (TheWord (codes "crate"))) ∷
+    Then 46 (46 ∷ []) (Then 58 (58 ∷ []) (AnyWord is_ident)) ∷ Then 46 (46 ∷ [])
+    (Then 58 (58 ∷ []) (TheWord (codes "Self"))) ∷ Then 46 (46 ∷ []) (TheWord (codes "self")) ∷ Then 46 (46 ∷ [])
+    (TheWord (codes "super")) ∷ Then 46 (46 ∷ []) (TheWord (codes "crate")) ∷ Then 46 (46 ∷ []) (AnyWord is_ident) ∷
+    Then 46 (46 ∷ []) (TheWord (codes "Self")) ∷ Sign 46 (46 ∷ []) ∷ Opening Parenthesis ∷ Opening Bracket ∷ Sign 38
+    [] ∷ Sign 45 [] ∷ Quoted any_text ∷ TheWord (codes "true") ∷ TheWord (codes "false") ∷ Sign 60 [] ∷ Then 58
+    (58 ∷ []) (TheWord (codes "self")) ∷ Then 58 (58 ∷ []) (TheWord (codes "super")) ∷ Then 58 (58 ∷ [])
+    (TheWord (codes "crate")) ∷ Then 58 (58 ∷ []) (AnyWord is_ident) ∷ Then 58 (58 ∷ []) (TheWord (codes "Self")) ∷
+    TheWord (codes "self") ∷ TheWord (codes "super") ∷ TheWord (codes "crate") ∷ AnyWord is_ident ∷ TheWord
+    (codes "Self") ∷ []
 starts FnArg = Then 35 [] (Opening Bracket) ∷ Sign 38 [] ∷ TheWord (codes "mut") ∷ TheWord (codes "self") ∷ Sign 46
     (46 ∷ 46 ∷ []) ∷ Opening Parenthesis ∷ Sign 33 [] ∷ Sign 38 [] ∷ Sign 42 [] ∷ Opening Bracket ∷ TheWord
     (codes "_") ∷ TheWord (codes "dyn") ∷ TheWord (codes "impl") ∷ TheWord (codes "for") ∷ TheWord (codes "unsafe") ∷
@@ -308,12 +384,28 @@ starts FnArg = Then 35 [] (Opening Bracket) ∷ Sign 38 [] ∷ TheWord (codes "m
     58 (58 ∷ []) (TheWord (codes "super")) ∷ Then 58 (58 ∷ []) (TheWord (codes "crate")) ∷ Then 58 (58 ∷ [])
     (AnyWord is_ident) ∷ Then 58 (58 ∷ []) (TheWord (codes "Self")) ∷ TheWord (codes "self") ∷ TheWord
     (codes "super") ∷ TheWord (codes "crate") ∷ AnyWord is_ident ∷ TheWord (codes "Self") ∷ TheWord (codes "ref") ∷
-    TheWord (codes "mut") ∷ AnyWord is_ident ∷ TheWord (codes "_") ∷ Sign 46 (46 ∷ 61 ∷ []) ∷ Sign 46 (46 ∷ []) ∷
-    Sign 46 (46 ∷ []) ∷ Opening Parenthesis ∷ Opening Bracket ∷ Sign 38 [] ∷ Sign 45 [] ∷ Quoted any_text ∷ TheWord
-    (codes "true") ∷ TheWord (codes "false") ∷ Sign 60 [] ∷ Then 58 (58 ∷ []) (TheWord (codes "self")) ∷ Then 58
-    (58 ∷ []) (TheWord (codes "super")) ∷ Then 58 (58 ∷ []) (TheWord (codes "crate")) ∷ Then 58 (58 ∷ [])
-    (AnyWord is_ident) ∷ Then 58 (58 ∷ []) (TheWord (codes "Self")) ∷ TheWord (codes "self") ∷ TheWord
-    (codes "super") ∷ TheWord (codes "crate") ∷ AnyWord is_ident ∷ TheWord (codes "Self") ∷ []
+    TheWord (codes "mut") ∷ AnyWord is_ident ∷ TheWord (codes "_") ∷ Then 46 (46 ∷ 61 ∷ []) (Sign 45 []) ∷ Then 46
+    (46 ∷ 61 ∷ []) (Quoted any_text) ∷ Then 46 (46 ∷ 61 ∷ []) (TheWord (codes "true")) ∷ Then 46 (46 ∷ 61 ∷ [])
+    (TheWord (codes "false")) ∷ Then 46 (46 ∷ 61 ∷ []) (Sign 60 []) ∷ Then 46 (46 ∷ 61 ∷ [])
+    (Then 58 (58 ∷ []) (TheWord (codes "self"))) ∷ Then 46 (46 ∷ 61 ∷ [])
+    (Then 58 (58 ∷ []) (TheWord (codes "super"))) ∷ Then 46 (46 ∷ 61 ∷ [])
+    (Then 58 (58 ∷ []) (TheWord (codes "crate"))) ∷ Then 46 (46 ∷ 61 ∷ []) (Then 58 (58 ∷ []) (AnyWord is_ident)) ∷
+    Then 46 (46 ∷ 61 ∷ []) (Then 58 (58 ∷ []) (TheWord (codes "Self"))) ∷ Then 46 (46 ∷ 61 ∷ [])
+    (TheWord (codes "self")) ∷ Then 46 (46 ∷ 61 ∷ []) (TheWord (codes "super")) ∷ Then 46 (46 ∷ 61 ∷ [])
+    (TheWord (codes "crate")) ∷ Then 46 (46 ∷ 61 ∷ []) (AnyWord is_ident) ∷ Then 46 (46 ∷ 61 ∷ [])
+    (TheWord (codes "Self")) ∷ Then 46 (46 ∷ []) (Sign 45 []) ∷ Then 46 (46 ∷ []) (Quoted any_text) ∷ Then 46
+    (46 ∷ []) (TheWord (codes "true")) ∷ Then 46 (46 ∷ []) (TheWord (codes "false")) ∷ Then 46 (46 ∷ []) (Sign 60 [])
+    ∷ Then 46 (46 ∷ []) (Then 58 (58 ∷ []) (TheWord (codes "self"))) ∷ Then 46 (46 ∷ [])
+    (Then 58 (58 ∷ []) (TheWord (codes "super"))) ∷ Then 46 (46 ∷ []) (Then 58 (58 ∷ []) (TheWord (codes "crate"))) ∷
+    Then 46 (46 ∷ []) (Then 58 (58 ∷ []) (AnyWord is_ident)) ∷ Then 46 (46 ∷ [])
+    (Then 58 (58 ∷ []) (TheWord (codes "Self"))) ∷ Then 46 (46 ∷ []) (TheWord (codes "self")) ∷ Then 46 (46 ∷ [])
+    (TheWord (codes "super")) ∷ Then 46 (46 ∷ []) (TheWord (codes "crate")) ∷ Then 46 (46 ∷ []) (AnyWord is_ident) ∷
+    Then 46 (46 ∷ []) (TheWord (codes "Self")) ∷ Sign 46 (46 ∷ []) ∷ Opening Parenthesis ∷ Opening Bracket ∷ Sign 38
+    [] ∷ Sign 45 [] ∷ Quoted any_text ∷ TheWord (codes "true") ∷ TheWord (codes "false") ∷ Sign 60 [] ∷ Then 58
+    (58 ∷ []) (TheWord (codes "self")) ∷ Then 58 (58 ∷ []) (TheWord (codes "super")) ∷ Then 58 (58 ∷ [])
+    (TheWord (codes "crate")) ∷ Then 58 (58 ∷ []) (AnyWord is_ident) ∷ Then 58 (58 ∷ []) (TheWord (codes "Self")) ∷
+    TheWord (codes "self") ∷ TheWord (codes "super") ∷ TheWord (codes "crate") ∷ AnyWord is_ident ∷ TheWord
+    (codes "Self") ∷ []
 starts Receiver = Sign 38 [] ∷ TheWord (codes "mut") ∷ TheWord (codes "self") ∷ []
 starts (Signature InFile) = TheWord (codes "const") ∷ TheWord (codes "async") ∷ TheWord (codes "unsafe") ∷ TheWord
     (codes "extern") ∷ TheWord (codes "fn") ∷ []
@@ -415,10 +507,25 @@ starts ExprProduct = Sign 42 [] ∷ Sign 47 [] ∷ Sign 37 [] ∷ []
 starts FieldValues = Opening Brace ∷ []
 starts FieldValue = Then 35 [] (Opening Bracket) ∷ AnyWord is_ident ∷ AnyWord is_ident ∷ Quoted is_index ∷ []
 starts ClosureParam = Then 35 [] (Opening Bracket) ∷ TheWord (codes "ref") ∷ TheWord (codes "mut") ∷ AnyWord is_ident
-    ∷ TheWord (codes "_") ∷ Sign 46 (46 ∷ 61 ∷ []) ∷ Sign 46 (46 ∷ []) ∷ Sign 46 (46 ∷ []) ∷ Opening Parenthesis ∷
-    Opening Bracket ∷ Sign 38 [] ∷ Sign 45 [] ∷ Quoted any_text ∷ TheWord (codes "true") ∷ TheWord (codes "false") ∷
-    Sign 60 [] ∷ Then 58 (58 ∷ []) (TheWord (codes "self")) ∷ Then 58 (58 ∷ []) (TheWord (codes "super")) ∷ Then 58
-    (58 ∷ []) (TheWord (codes "crate")) ∷ Then 58 (58 ∷ []) (AnyWord is_ident) ∷ Then 58 (58 ∷ [])
-    (TheWord (codes "Self")) ∷ TheWord (codes "self") ∷ TheWord (codes "super") ∷ TheWord (codes "crate") ∷ AnyWord
-    is_ident ∷ TheWord (codes "Self") ∷ []
+    ∷ TheWord (codes "_") ∷ Then 46 (46 ∷ 61 ∷ []) (Sign 45 []) ∷ Then 46 (46 ∷ 61 ∷ []) (Quoted any_text) ∷ Then 46
+    (46 ∷ 61 ∷ []) (TheWord (codes "true")) ∷ Then 46 (46 ∷ 61 ∷ []) (TheWord (codes "false")) ∷ Then 46
+    (46 ∷ 61 ∷ []) (Sign 60 []) ∷ Then 46 (46 ∷ 61 ∷ []) (Then 58 (58 ∷ []) (TheWord (codes "self"))) ∷ Then 46
+    (46 ∷ 61 ∷ []) (Then 58 (58 ∷ []) (TheWord (codes "super"))) ∷ Then 46 (46 ∷ 61 ∷ [])
+    (Then 58 (58 ∷ []) (TheWord (codes "crate"))) ∷ Then 46 (46 ∷ 61 ∷ []) (Then 58 (58 ∷ []) (AnyWord is_ident)) ∷
+    Then 46 (46 ∷ 61 ∷ []) (Then 58 (58 ∷ []) (TheWord (codes "Self"))) ∷ Then 46 (46 ∷ 61 ∷ [])
+    (TheWord (codes "self")) ∷ Then 46 (46 ∷ 61 ∷ []) (TheWord (codes "super")) ∷ Then 46 (46 ∷ 61 ∷ [])
+    (TheWord (codes "crate")) ∷ Then 46 (46 ∷ 61 ∷ []) (AnyWord is_ident) ∷ Then 46 (46 ∷ 61 ∷ [])
+    (TheWord (codes "Self")) ∷ Then 46 (46 ∷ []) (Sign 45 []) ∷ Then 46 (46 ∷ []) (Quoted any_text) ∷ Then 46
+    (46 ∷ []) (TheWord (codes "true")) ∷ Then 46 (46 ∷ []) (TheWord (codes "false")) ∷ Then 46 (46 ∷ []) (Sign 60 [])
+    ∷ Then 46 (46 ∷ []) (Then 58 (58 ∷ []) (TheWord (codes "self"))) ∷ Then 46 (46 ∷ [])
+    (Then 58 (58 ∷ []) (TheWord (codes "super"))) ∷ Then 46 (46 ∷ []) (Then 58 (58 ∷ []) (TheWord (codes "crate"))) ∷
+    Then 46 (46 ∷ []) (Then 58 (58 ∷ []) (AnyWord is_ident)) ∷ Then 46 (46 ∷ [])
+    (Then 58 (58 ∷ []) (TheWord (codes "Self"))) ∷ Then 46 (46 ∷ []) (TheWord (codes "self")) ∷ Then 46 (46 ∷ [])
+    (TheWord (codes "super")) ∷ Then 46 (46 ∷ []) (TheWord (codes "crate")) ∷ Then 46 (46 ∷ []) (AnyWord is_ident) ∷
+    Then 46 (46 ∷ []) (TheWord (codes "Self")) ∷ Sign 46 (46 ∷ []) ∷ Opening Parenthesis ∷ Opening Bracket ∷ Sign 38
+    [] ∷ Sign 45 [] ∷ Quoted any_text ∷ TheWord (codes "true") ∷ TheWord (codes "false") ∷ Sign 60 [] ∷ Then 58
+    (58 ∷ []) (TheWord (codes "self")) ∷ Then 58 (58 ∷ []) (TheWord (codes "super")) ∷ Then 58 (58 ∷ [])
+    (TheWord (codes "crate")) ∷ Then 58 (58 ∷ []) (AnyWord is_ident) ∷ Then 58 (58 ∷ []) (TheWord (codes "Self")) ∷
+    TheWord (codes "self") ∷ TheWord (codes "super") ∷ TheWord (codes "crate") ∷ AnyWord is_ident ∷ TheWord
+    (codes "Self") ∷ []
 starts k = []

@@ -149,13 +149,19 @@ step_expr_for_loop = found_step ExprForLoop refl refl
             (λ us. refl, tt),
             (
               (λ us. refl, tt),
-              ((λ us. refl, tt), ((λ us. refl, tt), ((λ us. refl, tt), (((λ us. simp (reserved_in) refl) & tt), tt)))),
+              (
+                (λ us. refl, tt),
+                (
+                  (λ us. refl, tt),
+                  ((λ us. refl, tt), ((λ us. refl, tt), (((λ us. simp (reserved_in) refl) & tt), tt))),
+                ),
+              ),
             ),
           ),
         ),
       ),
-    ))
-    tt) ((λ us. refl, tt), tt))
+    )) tt)
+    ((λ us. refl, tt), tt))
 
 pub step_expr_continue : Step ExprContinue
 unfolding table skips is_path_keyword is_plain_name is_bool is_name
@@ -179,10 +185,11 @@ step_expr_typed_closure = found_step ExprTypedClosure refl refl
         refl,
         (
           refl,
-          (refl, (refl, (refl, (refl, (refl, (refl, (refl, (refl, (refl, (refl, (refl, tt))))))))))),
+          (refl, (refl, (refl, (refl, (refl, (refl, (refl, (refl, (refl, (refl, (refl, (refl, tt)))))))))))),
         ),
       ),
-    ))) found_mark (
+    )))
+    found_mark (
       (λ us. refl, tt),
       (
         (λ us. refl, tt),
@@ -206,7 +213,10 @@ step_expr_typed_closure = found_step ExprTypedClosure refl refl
                           (λ us. refl, tt),
                           (
                             (λ us. refl, tt),
-                            ((λ us. refl, tt), ((λ us. refl, tt), ((λ us. refl, tt), ((λ us. refl, tt), tt)))),
+                            (
+                              (λ us. refl, tt),
+                              ((λ us. refl, tt), ((λ us. refl, tt), ((λ us. refl, tt), ((λ us. refl, tt), tt)))),
+                            ),
                           ),
                         ),
                       ),
@@ -289,7 +299,13 @@ step_expr_let = found_step ExprLet refl refl
           (λ us. refl, tt),
           (
             (λ us. refl, tt),
-            ((λ us. refl, tt), ((λ us. refl, tt), ((λ us. refl, tt), ((λ us. refl, tt), ((λ us. refl, tt), tt))))),
+            (
+              (λ us. refl, tt),
+              (
+                (λ us. refl, tt),
+                ((λ us. refl, tt), ((λ us. refl, tt), ((λ us. refl, tt), ((λ us. refl, tt), tt)))),
+              ),
+            ),
           ),
         ),
       ),
@@ -327,10 +343,11 @@ step_expr_closure = found_step ExprClosure refl refl
         refl,
         (
           refl,
-          (refl, (refl, (refl, (refl, (refl, (refl, (refl, (refl, (refl, (refl, (refl, tt))))))))))),
+          (refl, (refl, (refl, (refl, (refl, (refl, (refl, (refl, (refl, (refl, (refl, (refl, tt)))))))))))),
         ),
       ),
-    ))) found_mark (
+    )))
+    found_mark (
       (λ us. refl, tt),
       (
         (λ us. refl, tt),
@@ -354,7 +371,10 @@ step_expr_closure = found_step ExprClosure refl refl
                           (λ us. refl, tt),
                           (
                             (λ us. refl, tt),
-                            ((λ us. refl, tt), ((λ us. refl, tt), ((λ us. refl, tt), ((λ us. refl, tt), tt)))),
+                            (
+                              (λ us. refl, tt),
+                              ((λ us. refl, tt), ((λ us. refl, tt), ((λ us. refl, tt), ((λ us. refl, tt), tt)))),
+                            ),
                           ),
                         ),
                       ),
@@ -452,14 +472,14 @@ step_field_values = found_step FieldValues refl refl
 pub step_closure_param : Step ClosureParam
 unfolding table skips is_path_keyword is_plain_name is_bool is_name
 step_closure_param = found_step ClosureParam refl refl
-    (weaken ((marks ":") ∷ (marks "::") ∷ (arguments_stand AtType) ∷ (parentheses_stand AtType) ∷ (marks "->") ∷
-    (marks "!") ∷ (marks "@") ∷ range_end_stands ∷ parenthesis ∷ brace ∷ (arguments_stand InExpression) ∷
-    bound_stands ∷ (marks "+") ∷ range_bound_stands ∷ [])
+    (weaken ((marks ":") ∷ (marks "::") ∷ (arguments_stand AtType) ∷ (parentheses_stand AtType) ∷ (marks "..") ∷
+    (marks "->") ∷ (marks "!") ∷ (marks "@") ∷ range_end_stands ∷ parenthesis ∷ brace ∷
+    (arguments_stand InExpression) ∷ bound_stands ∷ (marks "+") ∷ range_bound_stands ∷ [])
     (maybe_seq (maybe_ref OuterAttributes refl)
     (found_before (found_ref OnePattern refl)
     (weaken_maybe ((marks ":") ∷ (marks "::") ∷ (arguments_stand AtType) ∷ (parentheses_stand AtType) ∷ (marks "->")
-    ∷ bound_stands ∷ (marks "+") ∷ (marks "!") ∷ (marks "@") ∷ range_end_stands ∷ parenthesis ∷ brace ∷
-    (arguments_stand InExpression) ∷ range_bound_stands ∷ [])
+    ∷ bound_stands ∷ (marks "+") ∷ (marks "..") ∷ (marks "!") ∷ (marks "@") ∷ range_end_stands ∷ parenthesis ∷ brace
+    ∷ (arguments_stand InExpression) ∷ range_bound_stands ∷ [])
     (found_optional (marks ":") (found_seq found_mark (found_ref (AType WithPlus) refl) tt) (λ us. refl, tt))
     (λ s a. (a.0, (a.1.0, (a.1.1.0, (a.1.1.1.0, (a.1.1.1.1.0, (a.1.1.1.1.1.0, (a.1.1.1.1.1.1.0, tt))))))))) (
       (λ us. refl, tt),
@@ -469,7 +489,7 @@ step_closure_param = found_step ClosureParam refl refl
           (λ us. refl, tt),
           (
             (λ us. refl, tt),
-            ((λ us. refl, tt), ((λ us. refl, tt), ((λ us. refl, tt), ((λ us. refl, tt), tt)))),
+            ((λ us. refl, tt), ((λ us. refl, tt), ((λ us. refl, tt), ((λ us. refl, tt), ((λ us. refl, tt), tt))))),
           ),
         ),
       ),
@@ -482,12 +502,18 @@ step_closure_param = found_step ClosureParam refl refl
           a.1.1.1.1.1.1.1.1.1.0,
           (
             a.1.1.1.1.1.1.1.1.1.1.0,
-            (a.1.1.1.1.1.1.1.1.1.1.1.0, (a.1.0, (a.1.1.1.1.1.1.1.1.1.1.1.1.0, (a.1.1.1.1.1.1.1.1.1.1.1.1.1.0, tt)))),
+            (
+              a.1.1.1.1.1.1.1.1.1.1.1.0,
+              (
+                a.1.1.1.1.1.1.1.1.1.1.1.1.0,
+                (a.1.0, (a.1.1.1.1.1.1.1.1.1.1.1.1.1.0, (a.1.1.1.1.1.1.1.1.1.1.1.1.1.1.0, tt))),
+              ),
+            ),
           ),
         ),
       ),
-    )))
-    ((search), tt)) (λ s a. (
+    ))) ((search), tt))
+    (λ s a. (
       a.0,
       (
         a.1.0,
@@ -496,20 +522,26 @@ step_closure_param = found_step ClosureParam refl refl
           (
             a.1.1.1.0,
             (
-              a.1.1.1.1.0,
+              a.1.1.1.1.1.0,
               (
-                a.1.1.1.1.1.1.1.1.1.1.1.0,
+                a.1.1.1.1.1.1.1.1.1.1.1.1.0,
                 (
-                  a.1.1.1.1.1.1.1.1.1.1.1.1.0,
+                  a.1.1.1.1.1.1.1.1.1.1.1.1.1.0,
                   (
-                    a.1.1.1.1.1.0,
+                    a.1.1.1.1.0,
                     (
                       a.1.1.1.1.1.1.0,
                       (
                         a.1.1.1.1.1.1.1.0,
                         (
                           a.1.1.1.1.1.1.1.1.0,
-                          (a.1.1.1.1.1.1.1.1.1.0, (a.1.1.1.1.1.1.1.1.1.1.0, (a.1.1.1.1.1.1.1.1.1.1.1.1.1.0, tt))),
+                          (
+                            a.1.1.1.1.1.1.1.1.1.0,
+                            (
+                              a.1.1.1.1.1.1.1.1.1.1.0,
+                              (a.1.1.1.1.1.1.1.1.1.1.1.0, (a.1.1.1.1.1.1.1.1.1.1.1.1.1.1.0, tt)),
+                            ),
+                          ),
                         ),
                       ),
                     ),

@@ -3,9 +3,9 @@ use Rattle.grammar_back.proofs.Classes.{◌&◌}
 use Rattle.grammar_back.proofs.Keywords.{reserved_big_self, reserved_crate, reserved_false, reserved_mut}
 use Rattle.grammar_back.proofs.Keywords.{reserved_ref, reserved_self, reserved_super, reserved_true}
 use Rattle.grammar_back.proofs.Parts.{found_alt, found_before, found_group, found_judged, found_literal}
-use Rattle.grammar_back.proofs.Parts.{found_mark, found_never, found_optional, found_ref, found_seq, found_star}
-use Rattle.grammar_back.proofs.Parts.{found_step, found_text, found_to_end, found_word, found_words, maybe_alt}
-use Rattle.grammar_back.proofs.Parts.{maybe_seq, weaken}
+use Rattle.grammar_back.proofs.Parts.{found_mark, found_never, found_optional, found_ref, found_seq}
+use Rattle.grammar_back.proofs.Parts.{found_signs_then, found_star, found_step, found_text, found_to_end}
+use Rattle.grammar_back.proofs.Parts.{found_word, found_words, maybe_alt, maybe_seq, weaken}
 use Rattle.grammar_back.proofs.Readies.{Step}
 use Rattle.grammar_back.proofs.Sights.{ident_not}
 use Rattle.std.specs.Prelude.{codes, refl, [], ◌∷◌}
@@ -34,7 +34,7 @@ step_pattern = found_step Pattern refl refl
           (λ us. refl, tt),
           (
             (λ us. refl, tt),
-            ((λ us. refl, tt), ((λ us. refl, tt), ((λ us. refl, tt), ((λ us. refl, tt), tt)))),
+            ((λ us. refl, tt), ((λ us. refl, tt), ((λ us. refl, tt), ((λ us. refl, tt), ((λ us. refl, tt), tt))))),
           ),
         ),
       ),
@@ -46,7 +46,7 @@ step_pattern = found_step Pattern refl refl
           (λ us. refl, tt),
           (
             (λ us. refl, tt),
-            ((λ us. refl, tt), ((λ us. refl, tt), ((λ us. refl, tt), ((λ us. refl, tt), tt)))),
+            ((λ us. refl, tt), ((λ us. refl, tt), ((λ us. refl, tt), ((λ us. refl, tt), ((λ us. refl, tt), tt))))),
           ),
         ),
       ),
@@ -59,11 +59,12 @@ step_pattern = found_step Pattern refl refl
           a.1.1.1.0,
           (
             a.1.1.1.1.0,
-            (a.1.1.1.1.1.0, (a.1.1.1.1.1.1.0, (a.1.1.1.1.1.1.1.0, (a.1.1.1.1.1.1.1.1.0, tt)))),
+            (a.1.1.1.1.1.0, (a.1.1.1.1.1.1.0, (a.1.1.1.1.1.1.1.0, (a.1.1.1.1.1.1.1.1.0, (a.1.1.1.1.1.1.1.1.1.0, tt))))),
           ),
         ),
       ),
-    ))) ((search), tt))
+    )))
+    ((search), tt))
 
 pub step_several_patterns : Step SeveralPatterns
 unfolding table skips is_path_keyword is_plain_name is_bool is_name
@@ -77,7 +78,7 @@ step_several_patterns = found_step SeveralPatterns refl refl
           (λ us. refl, tt),
           (
             (λ us. refl, tt),
-            ((λ us. refl, tt), ((λ us. refl, tt), ((λ us. refl, tt), ((λ us. refl, tt), tt)))),
+            ((λ us. refl, tt), ((λ us. refl, tt), ((λ us. refl, tt), ((λ us. refl, tt), ((λ us. refl, tt), tt))))),
           ),
         ),
       ),
@@ -89,7 +90,7 @@ step_several_patterns = found_step SeveralPatterns refl refl
           (λ us. refl, tt),
           (
             (λ us. refl, tt),
-            ((λ us. refl, tt), ((λ us. refl, tt), ((λ us. refl, tt), ((λ us. refl, tt), tt)))),
+            ((λ us. refl, tt), ((λ us. refl, tt), ((λ us. refl, tt), ((λ us. refl, tt), ((λ us. refl, tt), tt))))),
           ),
         ),
       ),
@@ -98,14 +99,20 @@ step_several_patterns = found_step SeveralPatterns refl refl
       a.1.0,
       (
         a.1.1.0,
-        (a.1.1.1.0, (a.1.1.1.1.0, (a.1.1.1.1.1.0, (a.1.1.1.1.1.1.0, (a.1.1.1.1.1.1.1.0, (a.1.1.1.1.1.1.1.1.0, tt)))))),
+        (
+          a.1.1.1.0,
+          (
+            a.1.1.1.1.0,
+            (a.1.1.1.1.1.0, (a.1.1.1.1.1.1.0, (a.1.1.1.1.1.1.1.0, (a.1.1.1.1.1.1.1.1.0, (a.1.1.1.1.1.1.1.1.1.0, tt))))),
+          ),
+        ),
       ),
     )))
 
 pub step_ident_pattern : Step IdentPattern
 unfolding table skips is_path_keyword is_plain_name is_bool is_name
 step_ident_pattern = found_step IdentPattern refl refl
-    (weaken ((marks "!") ∷ (marks "@") ∷ range_end_stands ∷ parenthesis ∷ brace ∷ (marks "::") ∷
+    (weaken ((marks "!") ∷ (marks "@") ∷ (marks "..") ∷ range_end_stands ∷ parenthesis ∷ brace ∷ (marks "::") ∷
     (arguments_stand InExpression) ∷ range_bound_stands ∷ [])
     (maybe_seq (found_optional (at "ref") (found_text "ref") (λ us. refl, tt))
     (maybe_seq (found_optional (at "mut") (found_text "mut") (λ us. refl, tt))
@@ -120,12 +127,18 @@ step_ident_pattern = found_step IdentPattern refl refl
       (
         a.1.0,
         (
-          a.0,
+          a.1.1.0,
           (
-            a.1.0,
+            a.0,
             (
-              a.1.1.0,
-              (a.1.1.1.0, (a.1.1.1.1.0, (a.1.1.1.1.1.0, (a.1.1.1.1.1.1.0, (a.1.1.1.1.1.1.1.0, tt))))),
+              a.1.0,
+              (
+                a.1.1.1.0,
+                (
+                  a.1.1.1.1.0,
+                  (a.1.1.1.1.1.0, (a.1.1.1.1.1.1.0, (a.1.1.1.1.1.1.1.0, (a.1.1.1.1.1.1.1.1.0, tt)))),
+                ),
+              ),
             ),
           ),
         ),
@@ -139,8 +152,7 @@ step_wild_pattern = found_step WildPattern refl refl (found_text "_")
 pub step_range_to_pattern : Step RangeToPattern
 unfolding table skips is_path_keyword is_plain_name is_bool is_name
 step_range_to_pattern = found_step RangeToPattern refl refl
-    (found_seq (found_alt (marks "..=") found_mark found_mark (λ us. refl, tt) (λ us. refl, tt))
-    (found_ref RangeBound refl) tt)
+    (found_signs_then (marks "..=") (found_ref RangeBound refl) (search) (search))
 
 pub step_rest_pattern : Step RestPattern
 unfolding table skips is_path_keyword is_plain_name is_bool is_name
@@ -150,15 +162,15 @@ pub step_tuple_pattern : Step TuplePattern
 unfolding table skips is_path_keyword is_plain_name is_bool is_name
 step_tuple_pattern = found_step TuplePattern refl refl
     (found_group (found_to_end (found_ref Pattern refl) (search)
-    (λ ts. (refl, (refl, (refl, (refl, (refl, (refl, (refl, (refl, (refl, tt))))))))))
-    (refl, (refl, (refl, (refl, (refl, (refl, (refl, (refl, (refl, tt)))))))))))
+    (λ ts. (refl, (refl, (refl, (refl, (refl, (refl, (refl, (refl, (refl, (refl, tt)))))))))))
+    (refl, (refl, (refl, (refl, (refl, (refl, (refl, (refl, (refl, (refl, tt))))))))))))
 
 pub step_slice_pattern : Step SlicePattern
 unfolding table skips is_path_keyword is_plain_name is_bool is_name
 step_slice_pattern = found_step SlicePattern refl refl
     (found_group (found_to_end (found_ref Pattern refl) (search)
-    (λ ts. (refl, (refl, (refl, (refl, (refl, (refl, (refl, (refl, (refl, tt))))))))))
-    (refl, (refl, (refl, (refl, (refl, (refl, (refl, (refl, (refl, tt)))))))))))
+    (λ ts. (refl, (refl, (refl, (refl, (refl, (refl, (refl, (refl, (refl, (refl, tt)))))))))))
+    (refl, (refl, (refl, (refl, (refl, (refl, (refl, (refl, (refl, (refl, tt))))))))))))
 
 pub step_literal_pattern : Step LiteralPattern
 unfolding table skips is_path_keyword is_plain_name is_bool is_name
@@ -177,8 +189,8 @@ step_path_pattern = found_step PathPattern refl refl
     (maybe_alt parenthesis
     (weaken (brace ∷ range_end_stands ∷ range_bound_stands ∷ (marks "::") ∷ (arguments_stand InExpression) ∷ [])
     (found_group (found_to_end (found_ref Pattern refl) (search)
-    (λ ts. (refl, (refl, (refl, (refl, (refl, (refl, (refl, (refl, (refl, tt))))))))))
-    (refl, (refl, (refl, (refl, (refl, (refl, (refl, (refl, (refl, tt))))))))))) (λ s a. tt))
+    (λ ts. (refl, (refl, (refl, (refl, (refl, (refl, (refl, (refl, (refl, (refl, tt)))))))))))
+    (refl, (refl, (refl, (refl, (refl, (refl, (refl, (refl, (refl, (refl, tt)))))))))))) (λ s a. tt))
     (maybe_alt brace (weaken
     (range_end_stands ∷ range_bound_stands ∷ (marks "::") ∷ (arguments_stand InExpression) ∷ [])
     (found_ref FieldPatterns refl) (λ s a. tt)) (found_optional range_end_stands (found_ref RangeEnd refl) (search))
@@ -221,5 +233,5 @@ unfolding table skips is_path_keyword is_plain_name is_bool is_name
 step_field_patterns = found_step FieldPatterns refl refl
     (found_judged (found_group
     (found_to_end (found_ref FieldPattern refl) (search)
-    (λ ts. (refl, (refl, (refl, (refl, (refl, (refl, (refl, (refl, (refl, tt))))))))))
-    (refl, (refl, (refl, (refl, (refl, (refl, (refl, (refl, (refl, tt))))))))))))
+    (λ ts. (refl, (refl, (refl, (refl, (refl, (refl, (refl, (refl, (refl, (refl, tt)))))))))))
+    (refl, (refl, (refl, (refl, (refl, (refl, (refl, (refl, (refl, (refl, tt)))))))))))))

@@ -78,24 +78,24 @@ behind Bound = marks "::" ∷ arguments_stand AtType ∷ parentheses_stand AtTyp
 behind TraitPath = marks "::" ∷ arguments_stand AtType ∷ parentheses_stand AtType ∷ marks "->" ∷ []
 behind Lifetimes = a_lifetime ∷ marks "+" ∷ []
 behind Abi = a_quoted is_string ∷ []
-behind Pattern = vert ∷ marks "!" ∷ marks "@" ∷ range_end_stands ∷ parenthesis ∷ brace ∷ marks "::" ∷ arguments_stand
-    InExpression ∷ range_bound_stands ∷ []
-behind SeveralPatterns = vert ∷ marks "!" ∷ marks "@" ∷ range_end_stands ∷ parenthesis ∷ brace ∷ marks "::" ∷
+behind Pattern = vert ∷ marks ".." ∷ marks "!" ∷ marks "@" ∷ range_end_stands ∷ parenthesis ∷ brace ∷ marks "::" ∷
     arguments_stand InExpression ∷ range_bound_stands ∷ []
-behind OnePattern = marks "!" ∷ marks "@" ∷ range_end_stands ∷ parenthesis ∷ brace ∷ marks "::" ∷ arguments_stand
-    InExpression ∷ range_bound_stands ∷ []
-behind IdentPattern = marks "!" ∷ marks "@" ∷ range_end_stands ∷ parenthesis ∷ brace ∷ marks "::" ∷ arguments_stand
-    InExpression ∷ range_bound_stands ∷ []
+behind SeveralPatterns = vert ∷ marks ".." ∷ marks "!" ∷ marks "@" ∷ range_end_stands ∷ parenthesis ∷ brace ∷ marks
+    "::" ∷ arguments_stand InExpression ∷ range_bound_stands ∷ []
+behind OnePattern = marks ".." ∷ marks "!" ∷ marks "@" ∷ range_end_stands ∷ parenthesis ∷ brace ∷ marks "::" ∷
+    arguments_stand InExpression ∷ range_bound_stands ∷ []
+behind IdentPattern = marks "!" ∷ marks "@" ∷ marks ".." ∷ range_end_stands ∷ parenthesis ∷ brace ∷ marks "::" ∷
+    arguments_stand InExpression ∷ range_bound_stands ∷ []
 behind RangeToPattern = marks "::" ∷ arguments_stand InExpression ∷ []
-behind ReferencePattern = marks "!" ∷ marks "@" ∷ range_end_stands ∷ parenthesis ∷ brace ∷ marks "::" ∷
+behind ReferencePattern = marks ".." ∷ marks "!" ∷ marks "@" ∷ range_end_stands ∷ parenthesis ∷ brace ∷ marks "::" ∷
     arguments_stand InExpression ∷ range_bound_stands ∷ []
 behind LiteralPattern = range_end_stands ∷ range_bound_stands ∷ marks "::" ∷ arguments_stand InExpression ∷ []
 behind PathPattern = parenthesis ∷ brace ∷ range_end_stands ∷ marks "::" ∷ arguments_stand InExpression ∷
     range_bound_stands ∷ []
 behind RangeEnd = range_bound_stands ∷ marks "::" ∷ arguments_stand InExpression ∷ []
 behind RangeBound = marks "::" ∷ arguments_stand InExpression ∷ []
-behind FieldPattern = vert ∷ marks "!" ∷ marks "@" ∷ range_end_stands ∷ parenthesis ∷ brace ∷ marks "::" ∷
-    arguments_stand InExpression ∷ range_bound_stands ∷ []
+behind FieldPattern = vert ∷ marks ".." ∷ marks "!" ∷ marks "@" ∷ range_end_stands ∷ parenthesis ∷ brace ∷ marks "::"
+    ∷ arguments_stand InExpression ∷ range_bound_stands ∷ []
 behind OuterAttributes = marks "#" ∷ []
 behind InnerAttributes = (marks "#" then marks "!") ∷ []
 behind Meta = (parenthesis or brace or bracket) ∷ marks "=" ∷ no (the_end or marks "," or marks ";" or marks "=>") ∷
@@ -152,9 +152,9 @@ behind ExprAttributed = marks "#" ∷ []
 behind ExprReference = at "mut" ∷ []
 behind ExprBreak = a_lifetime ∷ marks ":" ∷ []
 behind FieldValue = no (the_end or marks "," or marks ";" or marks "=>") ∷ []
-behind ClosureParam = marks ":" ∷ marks "::" ∷ arguments_stand AtType ∷ parentheses_stand AtType ∷ marks "->" ∷ marks
-    "!" ∷ marks "@" ∷ range_end_stands ∷ parenthesis ∷ brace ∷ arguments_stand InExpression ∷ bound_stands ∷ marks
-    "+" ∷ range_bound_stands ∷ []
+behind ClosureParam = marks ":" ∷ marks "::" ∷ arguments_stand AtType ∷ parentheses_stand AtType ∷ marks ".." ∷ marks
+    "->" ∷ marks "!" ∷ marks "@" ∷ range_end_stands ∷ parenthesis ∷ brace ∷ arguments_stand InExpression ∷
+    bound_stands ∷ marks "+" ∷ range_bound_stands ∷ []
 behind k = []
 
 -- the form of an expression

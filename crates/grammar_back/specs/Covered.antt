@@ -16,15 +16,19 @@ use Rattle.syn_grammar.specs.Kind.{FieldValues, FnArg, FnPtrArg, FnPtrType, Gene
 use Rattle.syn_grammar.specs.Kind.{IdentPattern, ImplType, InExpression, InFile, InForeign, InImpl, InModule}
 use Rattle.syn_grammar.specs.Kind.{InTrait, InType, Index, InferType, InnerAttribute, InnerAttributes, ItemMacro}
 use Rattle.syn_grammar.specs.Kind.{Label, LifetimeColon, LifetimeParam, Lifetimes, LiteralPattern, Member, Meta}
-use Rattle.syn_grammar.specs.Kind.{NamedField, NamedFields, NeverType, OuterAttribute, OuterAttributes}
-use Rattle.syn_grammar.specs.Kind.{Parameters, ParenthesizedArguments, Path, PathPattern, Pattern, PointerType}
-use Rattle.syn_grammar.specs.Kind.{QualifiedPath, RangeBound, RangeEnd, RangeToPattern, Receiver, ReferenceType}
-use Rattle.syn_grammar.specs.Kind.{RestPattern, ReturnType, Segments, SeveralPatterns, Signature, SlicePattern}
-use Rattle.syn_grammar.specs.Kind.{SomeBounds, TraitPath, TuplePattern, TupleType, TypeParam, UnnamedField}
-use Rattle.syn_grammar.specs.Kind.{UnnamedFields, UseBranch, UseRooted, UseTop, UseTree, Variant, Visibility}
-use Rattle.syn_grammar.specs.Kind.{Where, WhereClause, WherePredicate, WildPattern, WithPlus, WithoutPlus}
-use Rattle.syn_grammar.specs.Tree.{Tree, Pair, First, Second, Again, Final, More, Group, Dropped, Called, Verbatim}
+use Rattle.syn_grammar.specs.Kind.{NamedField, NamedFields, NeverType, OnePattern, OuterAttribute}
+use Rattle.syn_grammar.specs.Kind.{OuterAttributes, Parameters, ParenthesizedArguments, Path, PathPattern}
+use Rattle.syn_grammar.specs.Kind.{Pattern, PointerType, QualifiedPath, RangeBound, RangeEnd, RangeToPattern}
+use Rattle.syn_grammar.specs.Kind.{Receiver, ReferenceType, RestPattern, ReturnType, Segments, SeveralPatterns}
+use Rattle.syn_grammar.specs.Kind.{Signature, SlicePattern, SomeBounds, TraitPath, TuplePattern, TupleType}
+use Rattle.syn_grammar.specs.Kind.{TypeParam, UnnamedField, UnnamedFields, UseBranch, UseRooted, UseTop, UseTree}
+use Rattle.syn_grammar.specs.Kind.{Variant, Visibility, Where, WhereClause, WherePredicate, WildPattern, WithPlus}
+use Rattle.syn_grammar.specs.Kind.{WithoutPlus}
+use Rattle.syn_grammar.specs.Tree.{Tree, AWord, Pair, First, Second, Again, Final, More, Group, Dropped, Called}
+use Rattle.syn_grammar.specs.Tree.{Verbatim}
 use Rattle.syn_grammar.specs.Tree.{Node, Whole, Alone, Front, Back, Infix}
+use Rattle.syn_grammar.specs.Words.{is_ident}
+use Rattle.syn_grammar.specs.Part.{choice}
 use Rattle.syn_grammar.specs.Kept.{is_there}
 
 unfoldable pub has_step : Kind → Bool
@@ -76,6 +80,7 @@ has_step Lifetimes = true
 has_step Abi = true
 has_step Pattern = true
 has_step SeveralPatterns = true
+has_step OnePattern = true
 has_step IdentPattern = true
 has_step WildPattern = true
 has_step RangeToPattern = true
@@ -224,10 +229,36 @@ abbrev pub has_clear_type : Tree → Bool
 has_clear_type (Pair o y) = is_clear y
 has_clear_type _ = true
 
+-- One identifier alone is no path pattern, but before ..., which no pattern goes on with.
+abbrev pub lone_names : Tree → Bool
+lone_names (Second (Pair (AWord cs) (Second (Second (Second e))))) = is_ident cs
+lone_names _ = false
+
+abbrev pub lone_path : Tree → Bool
+lone_path (Pair (Second z) y) = lone_names (inner y)
+lone_path _ = false
+
+abbrev pub lone_any : Tree → Bool
+lone_any (Second y) = lone_path (inner y)
+lone_any _ = false
+
+abbrev pub lone_rest : Tree → Bool
+lone_rest (Second (Second (Second e))) = true
+lone_rest _ = false
+
+abbrev pub lone_pattern : Tree → Bool
+lone_pattern (Pair p e) = lone_any (inner p) && lone_rest e
+lone_pattern _ = false
+
+abbrev pub is_lone : Tree → Bool
+is_lone (Node PathPattern y) = lone_pattern y
+is_lone _ = false
+
 -- what is asked of a kind's tree
 abbrev pub is_taken : Kind → Tree → Bool
 is_taken AConst x = has_lone_value x
 is_taken UnnamedField x = has_clear_type x
+is_taken OnePattern x = not (is_lone (choice x))
 is_taken k x = true
 
 abbrev pub is_covered : Tree → Bool

@@ -361,6 +361,9 @@ def found(g):
         if y is NONE: y=Entry(True,[],[],'maybe_none')
         if a[0][1]=='sign' and a[0][2][0][1] in('::','#') and not y.maybe:
             return Entry(False,y.ls,[('then',a[0][2][0][1],c) for c in y.cs],f'(found_then {y.term})')
+        if a[0][1]=='when' and a[0][2][1][1]=='sign'==a[0][2][2][1] and not y.maybe:
+            l=a[0][2][0]; one,two=([('then',g[2][0][1],c) for c in y.cs] for g in a[0][2][1:])
+            return Entry(False,y.ls,one+two,f'(found_signs_then {show(l,False)} {y.term} {told(l,True,one)} {told(l,False,two)})')
         if a[0]==('app','optional',[('app','marks',[('str','::')]),('app','sign',[('str','::')])]) and not y.maybe:
             return Entry(False,y.ls,[('then','::',c) for c in y.cs]+y.cs,f'(found_perhaps_then {a[0][2][0] and show(a[0][2][0],False)} {y.term} {told(a[0][2][0],True,[("then","::",c) for c in y.cs])} {told(a[0][2][0],False,y.cs)})')
         return seq(x,y)
@@ -478,6 +481,8 @@ def entry(k):
     args=[('app',a,[]) for a in k[1:]]
     e=call('table',[('app',k[0],args)])
     return found(e)
+# what more may not follow, where a second token decides
+EXTRA={('OnePattern',):[look_of('marks ".."')]}
 def main():
     for k in GIVEN: behind[k]=[look_of(t) for t in GIVEN[k]]; starts[k]=[]; skips[k]=False; UNKNOWN.add(k) if False else None
     for cat,k in KINDS: behind[k]=[]; starts[k]=[]; skips[k]=k[0] in SKIPS
@@ -493,7 +498,7 @@ def main():
             bad[k]=list(fails)
             if e is NONE: bad[k]=['none']; continue
             if e.cs!=starts[k]: starts[k]=e.cs; change=True
-            ms=union(behind[k],e.ls)
+            ms=union(behind[k],e.ls+EXTRA.get(k,[]))
             if len(ms)!=len(behind[k]): behind[k]=ms; change=True
             if e.maybe!=skips[k]: bad[k].append(f'skips {e.maybe}')
         if not change: break
@@ -711,7 +716,7 @@ After k x s = LacksAll (behind k) s
     lines='unfoldable pub has_step : Kind → Bool\n'+''.join(f'has_step {clause(k)} = true\n' for k in covered)+'has_step k = false\n\n'
     text=text[:i]+lines+text[j:]
     names=sorted({w for k in covered for w in k})
-    text=re.sub(r'(use Rattle.syn_grammar.specs.Kind.{[^}]*}\n)+',lambda m: 'use Rattle.syn_grammar.specs.Kind.{'+', '.join(['Kind','Expression']+sorted(set(names)|{'UnnamedField'}))+'}\n',text,count=1)
+    text=re.sub(r'(use Rattle.syn_grammar.specs.Kind.{[^}]*}\n)+',lambda m: 'use Rattle.syn_grammar.specs.Kind.{'+', '.join(['Kind','Expression']+sorted(set(names)|{'UnnamedField','OnePattern','PathPattern'}))+'}\n',text,count=1)
     open(f'{CRATE}/specs/Covered.antt','w').write(wrapped(text))
     by={}
     for k in covered: by.setdefault(stepof[k][1],[]).append(stepof[k][0])
