@@ -13,7 +13,7 @@ use Rattle.rust_escape.specs.declared.mode.Mode.TheVariants as modes
 use Rattle.rust_escape.specs.declared.value.Value.{Value}
 use Rattle.rust_escape.specs.declared.value.Value.TheVariants.{Character}
 use Rattle.rust_lex.specs.Chars.{begins, is_hash, is_next, passes, past}
-use Rattle.rust_lex.specs.Number.{IsNumber, base_of, is_split, number_kind}
+use Rattle.rust_lex.specs.Number.{IsNumber, base_of, is_split, number_kind, past_number}
 use Rattle.rust_lex.specs.Piece.{IsSuffix}
 use Rattle.rust_lex.specs.Quoted.{IsQuotedLiteral, IsTail, hashes, literal_kind, opening_of}
 use Rattle.rust_lex.specs.Quoted.{raw_closing}
@@ -339,3 +339,82 @@ only_spelled kind text inside closing mode w q d k a x =
     let (rests, values) = one_unit Lexical mode inside [] inside [] (Some v) (Some w) refl unit x in
     let value : v ≡ w = cc in
     subst (Spells kind text) (e ∙ ap (λ y. y ∷ []) value) p.spells
+
+-- a literal spells one list of values
+mode_values : (mode : Mode) (text tail suffix : List ℕ) (e : text ≡ (opening_of mode ++ tail) ++ suffix)
+    (t : IsTail mode tail) (s : IsSuffix suffix [])
+    → ((of_mode mode text tail suffix e t s).values ≡ tail_values mode tail t)
+    × ((of_mode mode text tail suffix e t s).suffix ≡ suffix)
+unfolding of_mode in_quotes
+mode_values modes.Char text tail suffix e t s = (refl, refl)
+mode_values modes.Byte text tail suffix e t s = (refl, refl)
+mode_values modes.Str text tail suffix e t s = (refl, refl)
+mode_values modes.ByteStr text tail suffix e t s = (refl, refl)
+mode_values modes.CStr text tail suffix e t s = (refl, refl)
+mode_values modes.RawStr text tail suffix e t s = (refl, refl)
+mode_values modes.RawByteStr text tail suffix e t s = (refl, refl)
+mode_values modes.RawCStr text tail suffix e t s = (refl, refl)
+
+spelled_parts : (kind : LiteralKind) (text : List ℕ) (values : List Value) → Spells kind text values
+    → (p : Parts kind text) × (p.values ≡ values)
+spelled_parts kind text values w =
+    subst (λ k. (p : Parts k text) × (p.values ≡ values)) (sym w.kind_is) (
+      of_mode w.mode text w.tail w.suffix w.joined w.is w.ends,
+      (mode_values w.mode text w.tail w.suffix w.joined w.is w.ends).0 ∙ sym w.spelled,
+    )
+
+pub one_spelled : (kind : LiteralKind) (text : List ℕ) (xs ys : List Value) → Spells kind text xs → Spells kind text ys
+    → xs ≡ ys
+one_spelled kind text xs ys h k =
+    let (p, e) = spelled_parts kind text xs h in
+    let (r, f) = spelled_parts kind text ys k in
+    let one = same kind text r.inside r.closing r.mode p r.apart in
+    let units = subst (λ m. IsInside Lexical m r.inside [] p.values) one.0
+    (subst (λ i. IsInside Lexical p.mode i [] p.values) one.1 p.units) in
+    sym e ∙ one_list Lexical r.mode r.inside r.inside p.values r.values refl units r.units ∙ f
+
+-- and has one suffix
+quoted_suffix : (kind : LiteralKind) (text body suffix : List ℕ) → text ≡ body ++ suffix → IsSuffix suffix []
+    → IsQuotedLiteral kind body → (p : Parts kind text) × (p.suffix ≡ suffix)
+quoted_suffix kind text body suffix e s (mode, tail, k, f, t) =
+    let joined : text ≡ (opening_of mode ++ tail) ++ suffix = e ∙ ap (λ x. x ++ suffix) f in
+    subst (λ x. (p : Parts x text) × (p.suffix ≡ suffix)) (sym k)
+    (of_mode mode text tail suffix joined t s, (mode_values mode text tail suffix joined t s).1)
+
+pub quoted_kind : (mode : Mode) → is_quoted (literal_kind mode) ≡ true
+quoted_kind modes.Char = refl
+quoted_kind modes.Byte = refl
+quoted_kind modes.Str = refl
+quoted_kind modes.ByteStr = refl
+quoted_kind modes.CStr = refl
+quoted_kind modes.RawStr = refl
+quoted_kind modes.RawByteStr = refl
+quoted_kind modes.RawCStr = refl
+
+never_both : (kind : LiteralKind) (body other rest : List ℕ) → IsQuotedLiteral kind body → IsNumber kind other rest → ⊥
+never_both kind body other rest (mode, tail, k, f, t) n =
+    false≢true (sym (number_bare (other ++ rest)) ∙ sym (ap is_quoted n.2) ∙ ap is_quoted k ∙ quoted_kind mode)
+
+number_end : (kind : LiteralKind) (text body suffix : List ℕ) → text ≡ body ++ suffix
+    → IsNumber kind body (suffix ++ []) → past_number text ≡ Some suffix
+number_end kind text body suffix e n =
+    let all : body ++ (suffix ++ []) ≡ text = ap (λ x. body ++ x) (append-nil suffix) ∙ sym e in
+    sym (ap past_number all) ∙ n.1 ∙ ap (λ x. Some x) (append-nil suffix)
+
+pub one_suffix : (kind : LiteralKind) (text s t : List ℕ) → HasSuffix kind text s → HasSuffix kind text t → s ≡ t
+one_suffix kind text s t h k =
+    ⊎_elim (λ q. ⊎_elim (λ r. quoted q r) (λ n. absurd (never_both kind h.body k.body (t ++ []) q n)) k.is)
+    (λ m. ⊎_elim (λ r. absurd (never_both kind k.body h.body (s ++ []) r m)) (λ n. number m n) k.is) h.is
+  where
+    quoted : IsQuotedLiteral kind h.body → IsQuotedLiteral kind k.body → s ≡ t
+    quoted q r =
+        let (p, e) = quoted_suffix kind text h.body s h.joined h.ends q in
+        let (o, f) = quoted_suffix kind text k.body t k.joined k.ends r in
+        let one = same kind text o.inside o.closing o.mode p o.apart in
+        sym e ∙ sym p.past_is ∙ ap (past is_hash) one.2 ∙ o.past_is ∙ f
+
+    number : IsNumber kind h.body (s ++ []) → IsNumber kind k.body (t ++ []) → s ≡ t
+    number m n =
+        let both : Some s ≡ Some t =
+        sym (number_end kind text h.body s h.joined m) ∙ number_end kind text k.body t k.joined n in
+        cc

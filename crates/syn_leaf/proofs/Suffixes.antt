@@ -4,19 +4,18 @@ use Rattle.std.specs.Prelude.{Bool, true, false, ◌==◌, ◌||◌, if◌then�
 use Rattle.std.proofs.lemmas.Bool.{or_parts, false≢true}
 use Rattle.std.proofs.lemmas.Bool.Decides.{nat_tests}
 use Rattle.std.proofs.lemmas.List.{append-nil}
-use Rattle.rust_escape.specs.declared.mode.Mode.{Mode}
-use Rattle.rust_escape.specs.declared.mode.Mode.TheVariants as modes
 use Rattle.rust_lex.specs.Chars.{is_digit, past}
 use Rattle.rust_lex.specs.Number.{IsNumber, base_of, begins_exponent, begins_fraction, decimal_kind, is_digit_of}
 use Rattle.rust_lex.specs.Number.{is_digit_of_or_line, is_digit_or_line, is_split, number_kind, past_based}
 use Rattle.rust_lex.specs.Number.{past_decimal}
 use Rattle.rust_lex.specs.Number.{past_exponent, past_fraction, past_lead, past_number}
-use Rattle.rust_lex.specs.Quoted.{IsQuotedLiteral, literal_kind}
+use Rattle.rust_lex.specs.Quoted.{IsQuotedLiteral}
 use Rattle.rust_lex.specs.declared.piece.LiteralKind.{LiteralKind}
 use Rattle.rust_lex.specs.declared.piece.LiteralKind.TheVariants as kinds
 use Rattle.syn_leaf.specs.Integers.{int_suffix}
 use Rattle.syn_leaf.specs.Kinds.{IsKind}
 use Rattle.syn_leaf.specs.Quoted.{HasSuffix, is_quoted}
+use Rattle.syn_leaf.proofs.Apart.{quoted_kind}
 use Rattle.syn_leaf.proofs.OfClass.{kind_had}
 
 -- the digits of base 10
@@ -66,16 +65,6 @@ float_by false cs rest e k = cc
 float_past : (cs rest : List ℕ) → past_number cs ≡ Some rest → kinds.Float ≡ number_kind cs → past_decimal cs ≡ rest
 unfolding past_number number_kind
 float_past cs rest e k = float_by (base_of cs == 0) cs rest e k
-
-quoted_kind : (mode : Mode) → is_quoted (literal_kind mode) ≡ true
-quoted_kind modes.Char = refl
-quoted_kind modes.Byte = refl
-quoted_kind modes.Str = refl
-quoted_kind modes.ByteStr = refl
-quoted_kind modes.CStr = refl
-quoted_kind modes.RawStr = refl
-quoted_kind modes.RawByteStr = refl
-quoted_kind modes.RawCStr = refl
 
 -- a number's suffix is what stands behind it
 suffixed : (kind : LiteralKind) (text : List ℕ) (behind : List ℕ → List ℕ) → is_quoted kind ≡ false

@@ -1,5 +1,5 @@
-//! Laws of leaves of syntax: two are equal exactly if they are the same but for their spans, and what was read is
-//! printed as the tokens that it was read from, each where it stood.
+//! Laws of leaves of syntax: each literal has one value and one suffix, two leaves are equal exactly if they are the
+//! same but for their spans, and what was read is printed as the tokens that it was read from, each where it stood.
 //!
 //! Each function does nothing; its contract is the law.
 
@@ -7,9 +7,12 @@ ghost use Rattle.proc_macro2.specs.Token.{Spanned};
 ghost use Rattle.rust_leaf.specs.Leaf.{ident_text, literal_text};
 ghost use Rattle.rust_leaf.specs.Minus.{starts_with_minus};
 ghost use Rattle.rust_leaf.specs.declared.ident.Ident.{Ident as Name};
-ghost use Rattle.std.specs.Prelude.{[], ◌++◌, ◌≡◌, ◌↔◌, IsFalse, IsTrue, List, false};
+ghost use Rattle.rust_escape.specs.declared.value.Value.{Value};
+ghost use Rattle.rust_lex.specs.declared.piece.LiteralKind.{LiteralKind};
+ghost use Rattle.std.specs.Prelude.{[], ◌++◌, ◌≡◌, ◌↔◌, IsFalse, IsTrue, List, false, ℕ};
 ghost use Rattle.syn_leaf.specs.Alike.{unspaced};
 ghost use Rattle.syn_leaf.specs.Lits.{lit_text};
+ghost use Rattle.syn_leaf.specs.Quoted.{HasSuffix, Spells};
 ghost use Rattle.syn_leaf.specs.Operators.{bin_op_text, range_limits_text, un_op_text};
 ghost use Rattle.syn_leaf.specs.declared.member.Index.{Index as Number};
 ghost use Rattle.syn_leaf.specs.declared.member.Member.TheVariants.{Named, Unnamed};
@@ -24,6 +27,14 @@ use crate::member::{Index, Member};
 use crate::operators::{BinOp, RangeLimits, UnOp};
 use syn_error::to_tokens::ToTokens;
 use syn_parse::Parse;
+
+/// A literal in quotes spells one list of values, and a literal has one suffix.
+pub fn one_value()
+    ensures value { (kind : LiteralKind) (text : List ℕ) (xs ys : List Value) → Spells kind text xs
+        → Spells kind text ys → xs ≡ ys }
+    ensures suffix { (kind : LiteralKind) (text xs ys : List ℕ) → HasSuffix kind text xs → HasSuffix kind text ys
+        → xs ≡ ys }
+{}
 
 /// Operators are equal exactly if they are written the same.
 #[tactic(auto, using(crate::proofs::Texts::by_text))]
