@@ -17,12 +17,9 @@ use Rattle.binding_laws.proofs.Begun.{Begun, more, begun, a_word, an_opening}
 use Rattle.expressions_back.specs.Behind.{is_attributed, BeforeOperand, AtEnd}
 use Rattle.expressions_back.specs.Formed.{IsFront, Formed}
 use Rattle.expressions_back.proofs.Opened.{begun_more}
+use Rattle.expressions_back.proofs.Bools.{and_no}
 
 -- a parenthesis stands before an operand
-and_no : (b : Bool) → (b && false) ≡ false
-and_no true = refl
-and_no false = refl
-
 cond_same : (b : Bool) → cond b false false ≡ false
 cond_same true = refl
 cond_same false = refl

@@ -25,13 +25,7 @@ use Rattle.expressions_back.proofs.Begins.{paren_operand}
 use Rattle.expressions_back.proofs.Near.{Near, Beside}
 use Rattle.expressions_back.proofs.Opened.{nothing_right}
 use Rattle.expressions_back.proofs.Turned as T
-
-never : false ≡ true → ⊥
-never e = cc
-
-and_no : (b : Bool) → (b && false) ≡ false
-and_no true = refl
-and_no false = refl
+use Rattle.expressions_back.proofs.Bools.{never, and_no}
 
 -- the last own part of an operand
 abbrev pub LastEnds : List Token → Tree → Type 0

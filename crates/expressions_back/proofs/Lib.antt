@@ -1,3 +1,4 @@
+pub mod Bools
 pub mod Turned
 pub mod Opened
 pub mod Near
@@ -9,5 +10,6 @@ pub mod Signs
 pub mod Owns
 pub mod Names
 pub mod Prefixes
+pub mod Dots
 pub mod Simples
 pub mod Examples

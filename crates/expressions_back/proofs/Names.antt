@@ -19,9 +19,7 @@ use Rattle.syn_grammar.specs.Normal.{passed, normal}
 use Rattle.expressions_back.specs.Behind.{no_operand, AtEnd}
 use Rattle.expressions_back.specs.Formed.{IsFront}
 use Rattle.expressions_back.specs.Simple.{lone_name}
-
-never : false ≡ true → ⊥
-never e = cc
+use Rattle.expressions_back.proofs.Bools.{never, or_none, or_parts}
 
 -- no keyword is a name
 off : (w : List ℕ) → is_plain_name w ≡ false → (cs : List ℕ) → is_plain_name cs ≡ true → same_text w cs ≡ false
@@ -31,18 +29,14 @@ off w e cs h = go (same_text w cs) refl
     go false f = refl
     go true f = sym h ∙ ap is_plain_name (sym ((bytes_eq-Decides w cs).0 f)) ∙ e
 
-or_parts : (o p : Option (List Token)) → seen (first_seen o p) ≡ false → (seen o ≡ false) × (seen p ≡ false)
-or_parts None p e = (refl, e)
-or_parts (Some ts) p e = absurd (never (sym e))
-
 -- what is not seen at an end
-record End (ts : List Token) : Type 0 where
-  colon : sees (marks ":") ts ≡ false
+pub record End (ts : List Token) : Type 0 where
+  pub colon : sees (marks ":") ts ≡ false
   bang : sees (no (marks "!=") then marks "!") ts ≡ false
   const : sees (at "const") ts ≡ false
   mut : sees (at "mut") ts ≡ false
 
-end : (ts : List Token) → AtEnd ts → End ts
+pub end : (ts : List Token) → AtEnd ts → End ts
 end ts e =
     let a = or_parts (marks ":" ts) _ e in
     let b = or_parts ((no (marks "!=") then marks "!") ts) _ a.1 in
@@ -57,7 +51,7 @@ not_seen : (b : Bool) (ts : List Token) (o : Option (List Token)) → seen (cond
 not_seen true ts o e = absurd (never (sym e))
 not_seen false ts o e = refl
 
-colons : (ts : List Token) → sees (marks ":") ts ≡ false → marks "::" ts ≡ None
+pub colons : (ts : List Token) → sees (marks ":") ts ≡ false → marks "::" ts ≡ None
 colons [] e = refl
 colons (Punct d Joint ∷ ts) e = not_seen (d == 58) ts (marks ":" ts) e
 colons (Punct d Apart ∷ ts) e = refl
@@ -96,10 +90,6 @@ or_both : (a b c : Bool) → (a || c) ≡ true → (a || b || c) ≡ true
 or_both true b c e = refl
 or_both false true c e = refl
 or_both false false c e = e
-
-or_none : (o p : Option (List Token)) → seen o ≡ false → seen p ≡ false → seen (first_seen o p) ≡ false
-or_none None p e f = f
-or_none (Some ts) p e f = e
 
 or_no : (b : Bool) (ts : List Token) → seen (first_seen (at "const" ts) (at "mut" ts)) ≡ false
     → seen (behind (cond b (Some ts) None) (at "const" or at "mut")) ≡ false

@@ -19,6 +19,7 @@ use Rattle.binding_laws.specs.Meets.{NoneGoesOn, LeftMeets, Meets}
 use Rattle.binding_laws.proofs.Levels.{paren_left, or_false, not_true, none_goes, right_meets}
 use Rattle.binding_laws.proofs.Sights.{back_same, brace_struct}
 use Rattle.binding_laws.proofs.Stays.{Behind}
+use Rattle.expressions_back.proofs.Bools.{never}
 
 -- where it stands: in its position, or in plain position
 abbrev pub Near : Position → Position → Type 0
@@ -165,9 +166,6 @@ path_alone : (p q : Position) (ts rest : List Token) (k : Kind) (y : Tree) → B
 unfolding may_lack
 path_alone p q ts rest ExprPath y b e i = no_struct p q ts rest b e
 path_alone p q ts rest _ y b e i = cc
-
-never : false ≡ true → ⊥
-never e = cc
 
 pub path_behind : (p q : Position) (ts rest : List Token) (x : Tree) → Beside p q ts rest
     → is_path_form (formed p ts x) ≡ true → sees (struct_stands q) rest ≡ false

@@ -24,9 +24,7 @@ use Rattle.expressions_back.specs.Behind.{no_operand}
 use Rattle.expressions_back.specs.Firm.{is_firm_front, is_firm_behind, IsOwn}
 use Rattle.expressions_back.specs.Formed.{IsFront, IsBehind}
 use Rattle.expressions_back.proofs.Signs.{sign_is, mark_before, signs_before, Each, each_sign}
-
-never : false ≡ true → ⊥
-never e = cc
+use Rattle.expressions_back.proofs.Bools.{never}
 
 -- what is seen at tokens that an own part begins with
 abbrev Fronts : Kind → List Token → Type 0

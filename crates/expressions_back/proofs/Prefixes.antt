@@ -1,6 +1,6 @@
 -- The own parts of references, of raw addresses and of break.
 use Rattle.std.proofs.Common.{◌≡◌, ℕ, List, [], ◌∷◌, refl, sym, ap, ◌∙◌, subst}
-use Rattle.std.specs.Prelude.{Bool, true, false, ◌||◌, cond, Option, Some, None, codes}
+use Rattle.std.specs.Prelude.{Bool, true, false, ◌||◌, cond, Some, codes}
 use Rattle.std.proofs.lemmas.Slice.Eq.{bytes_eq-Decides}
 use Rattle.proc_macro2.specs.Token.{Token, Ident, Punct}
 use Rattle.rust_leaf.specs.declared.punct.Spacing.{Spacing}
@@ -9,7 +9,7 @@ use Rattle.syn_grammar.specs.Kind.{Position, Plain, InCondition, InArm, InStatem
 use Rattle.syn_grammar.specs.Words.{same_text, is_among}
 use Rattle.syn_grammar.specs.Tree.{Tree, AWord, AMark, Nil, Pair, First, Second}
 use Rattle.syn_grammar.specs.Gram.{mark}
-use Rattle.syn_grammar.specs.Look.{seen, sees, first_seen, ◌then◌, ◌or◌}
+use Rattle.syn_grammar.specs.Look.{sees, ◌then◌, ◌or◌}
 use Rattle.syn_grammar.specs.Say.{at, marks}
 use Rattle.syn_grammar.specs.Forms.{front}
 use Rattle.syn_grammar.specs.Table.{table}
@@ -19,9 +19,7 @@ use Rattle.expressions_back.specs.Behind.{no_operand, BeforeOperand}
 use Rattle.expressions_back.specs.Firm.{IsOwn}
 use Rattle.expressions_back.specs.Formed.{IsFront}
 use Rattle.expressions_back.proofs.Signs.{Held}
-
-never : false ≡ true → ⊥
-never e = cc
+use Rattle.expressions_back.proofs.Bools.{never, or_parts}
 
 -- the first of two parts that are held is held
 heads_same : (c : ℕ) (i j : Spacing) (ts us : List Token) → Punct c i ∷ ts ≡ Punct c j ∷ us → i ≡ j
@@ -57,10 +55,6 @@ mut_reference Plain ts = refl
 mut_reference InCondition ts = refl
 mut_reference InArm ts = refl
 mut_reference InStatement ts = refl
-
-or_parts : (o p : Option (List Token)) → seen (first_seen o p) ≡ false → (seen o ≡ false) × (seen p ≡ false)
-or_parts None p e = (refl, e)
-or_parts (Some ts) p e = absurd (never (sym e))
 
 record Operand (ts : List Token) : Type 0 where
   mut : sees (at "mut") ts ≡ false

@@ -27,13 +27,7 @@ use Rattle.expressions_back.specs.Formed.{Formed}
 use Rattle.expressions_back.proofs.Ends.{LastEnds}
 use Rattle.expressions_back.proofs.Near.{Beside, meets, none, whole_ends, all_within}
 use Rattle.expressions_back.proofs.Stands.{standing}
-
-never : false ≡ true → ⊥
-never e = cc
-
-and_no : (b : Bool) → (b && false) ≡ false
-and_no true = refl
-and_no false = refl
+use Rattle.expressions_back.proofs.Bools.{never, and_no, or_none}
 
 -- where no form is seen, each is unseen
 Unseen : List Case → List Token → Type 0
@@ -62,10 +56,6 @@ skip (suc n) [] ts u = u
 skip (suc n) (form k l ∷ cases) ts u = skip n cases ts u.1
 
 -- so neither a postfix form nor < stands there
-or_none : (o p : Option (List Token)) → seen o ≡ false → seen p ≡ false → seen (first_seen o p) ≡ false
-or_none None p e f = f
-or_none (Some ts) p e f = e
-
 or_first : (o p : Option (List Token)) → seen (first_seen o p) ≡ false → seen o ≡ false
 or_first None p e = refl
 or_first (Some ts) p e = e

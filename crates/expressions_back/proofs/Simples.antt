@@ -1,20 +1,22 @@
 -- Simple expressions are formed.
-use Rattle.std.proofs.Common.{◌≡◌, refl, sym, ◌∙◌, subst, inl, inr}
+use Rattle.std.proofs.Common.{◌≡◌, refl, sym, ap, ◌∙◌, subst, inl, inr}
 use Rattle.std.specs.Prelude.{Bool, true, false, ◌&&◌, ◌||◌, ◌⊎◌}
 use Rattle.syn_grammar.specs.Kind.{Kind, ExprPath, ExprRawAddr, ExprReference, ExprStruct, ExprAttributed}
+use Rattle.syn_grammar.specs.Kind.{ExprAwait, ExprField}
 use Rattle.syn_grammar.specs.Tree.{Tree, Alone, Front, Back, Infix}
 use Rattle.syn_grammar.specs.Normal.{normal}
 use Rattle.syn_grammar.specs.Parens.{is_struct}
 use Rattle.expressions_back.specs.Behind.{AtEnd, BeforeOperand, BehindOperand, is_attributed}
 use Rattle.expressions_back.specs.Firm.{is_firm_front, is_firm_behind, IsOwn}
-use Rattle.expressions_back.specs.Formed.{IsFront, Formed, is_attributed_form}
-use Rattle.expressions_back.specs.Simple.{IsName, is_reference, IsSimple}
+use Rattle.expressions_back.specs.Formed.{IsFront, IsBehind, Formed, is_attributed_form}
+use Rattle.expressions_back.specs.Simple.{IsName, IsDotted, lone_await, lone_field, lone_number, is_reference}
+use Rattle.expressions_back.specs.Simple.{IsSimple}
+use Rattle.expressions_back.proofs.Dots.{await_behind, field_behind, number_behind}
+use Rattle.syn_grammar.specs.Words.{is_ident, are_indices, ends_in_dot}
 use Rattle.expressions_back.proofs.Names.{name_front}
 use Rattle.expressions_back.proofs.Owns.{front_part, behind_part}
 use Rattle.expressions_back.proofs.Prefixes.{reference_front, address_front}
-
-never : false ≡ true → ⊥
-never e = cc
+use Rattle.expressions_back.proofs.Bools.{never}
 
 alone_front : (k : Kind) (y : Tree) → ((is_firm_front k ≡ true) × IsOwn k y) ⊎ IsName k y → IsFront AtEnd k y
 alone_front k y (inl o) = front_part AtEnd k y o.0 o.1
@@ -44,17 +46,40 @@ behind_plain : (k : Kind) → is_firm_behind k ≡ true → is_struct k ≡ fals
 behind_plain ExprStruct e = absurd (never e)
 behind_plain _ e = refl
 
-no_struct : (k : Kind) (b : Bool) → is_firm_behind k ≡ true → is_struct k ≡ true → b ≡ true
-no_struct k b e s = absurd (never (sym (behind_plain k e) ∙ s))
+dotted_behind : (k : Kind) (y : Tree) → IsDotted k y → IsBehind (BehindOperand k y) k y
+dotted_behind k y (inl a) =
+    subst (λ j. IsBehind (BehindOperand j y) j y) (sym a.0)
+    (subst (λ z. IsBehind (BehindOperand ExprAwait z) ExprAwait z) (sym a.1)
+    (await_behind (BehindOperand ExprAwait lone_await)))
+dotted_behind k y (inr f) = subst (λ j. IsBehind (BehindOperand j y) j y) (sym f.0) (go f.2)
+  where
+    go : ((is_ident f.1 ≡ true) × (y ≡ lone_field f.1))
+        ⊎ ((are_indices f.1 ≡ true) × (ends_in_dot f.1 ≡ false) × (y ≡ lone_number f.1))
+        → IsBehind (BehindOperand ExprField y) ExprField y
+    go (inl a) =
+        subst (λ z. IsBehind (BehindOperand ExprField z) ExprField z) (sym a.1) (field_behind f.1 a.0)
+    go (inr a) =
+        subst (λ z. IsBehind (BehindOperand ExprField z) ExprField z) (sym a.2)
+        (number_behind (BehindOperand ExprField (lone_number f.1)) f.1 a.0 a.1)
+
+back_behind : (k : Kind) (y : Tree) → ((is_firm_behind k ≡ true) × IsOwn k y) ⊎ IsDotted k y
+    → IsBehind (BehindOperand k y) k y
+back_behind k y (inl o) = behind_part (BehindOperand k y) k y o.0 o.1
+back_behind k y (inr d) = dotted_behind k y d
+
+dotted_plain : (k : Kind) (y : Tree) → ((is_firm_behind k ≡ true) × IsOwn k y) ⊎ IsDotted k y → is_struct k ≡ false
+dotted_plain k y (inl o) = behind_plain k o.0
+dotted_plain k y (inr (inl a)) = ap is_struct a.0
+dotted_plain k y (inr (inr f)) = ap is_struct f.0
 
 pub simple : (x : Tree) → IsSimple x → Formed x
 simple (Alone k y) s = (alone_front k (normal y) s.0, s.1)
 simple (Front k y x) s = (prefix_front k (normal y) s.0 s.1, s.2, prefix_plain k x s.0, simple x s.3)
 simple (Back l k y) s = (
-  behind_part (BehindOperand k (normal y)) k (normal y) s.0 s.1,
-  s.2,
-  no_struct k _ s.0,
-  simple l s.3,
+  back_behind k (normal y) s.0,
+  s.1,
+  λ t. absurd (never (sym (dotted_plain k (normal y) s.0) ∙ t)),
+  simple l s.2,
 )
 simple (Infix l k y r) s = (
   behind_part (BeforeOperand k (normal y)) k (normal y) s.0 s.1,

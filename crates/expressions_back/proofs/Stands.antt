@@ -32,9 +32,7 @@ use Rattle.expressions_back.proofs.Near.{Near, Beside, beside_inside, near_begin
 use Rattle.expressions_back.proofs.Near.{front_meets, back_meets, nothing_goes, nothing_none, all_within}
 use Rattle.expressions_back.proofs.Opened.{nothing_right, no_label, right_same, right_plain, paren_right, fixed_right}
 use Rattle.expressions_back.proofs.Turned as T
-
-never : false ≡ true → ⊥
-never e = cc
+use Rattle.expressions_back.proofs.Bools.{never}
 
 -- what stands somewhere, and begins with no arrow or the like
 pub record Stand (q : Position) (z : Tree) (rest : List Token) : Type 0 where

@@ -16,6 +16,7 @@ use Rattle.binding_laws.proofs.Turns.{parenthesis as a_parenthesis, bracket, dot
 use Rattle.binding_laws.proofs.Turns.{and_and, bar_bar, less_less}
 use Rattle.binding_laws.proofs.Sights.{back_same}
 use Rattle.expressions_back.specs.Behind.{no_end}
+use Rattle.expressions_back.proofs.Bools.{never}
 
 pub at_end : (ts ws vs : List Token) → Turn ts ws → sees no_end (ws ++ vs) ≡ false
 at_end _ _ vs (equals i) = refl
@@ -54,9 +55,6 @@ some_level j k h e = cc
 
 some_call : (k : Kind) → Some ExprCall ≡ Some k → k ≡ ExprCall
 some_call k e = cc
-
-pub never : false ≡ true → ⊥
-never e = cc
 
 opened : (d : Delimiter) → same_delimiter d Parenthesis ≡ true → d ≡ Parenthesis
 opened Parenthesis e = refl

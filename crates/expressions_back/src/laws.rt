@@ -34,8 +34,8 @@ pub fn own_parts()
         → IsBehind (BehindOperand k y) k y × IsBehind (BeforeOperand k y) k y }
 {}
 
-/// An expression of names, literals, operators, ranges, jumps and groups is formed, if the own part of each of its
-/// forms is a name or is read by itself.
+/// An expression of names, literals, operators, ranges, jumps, fields and groups is formed, if the own part of each of
+/// its forms is a name, stands behind a dot (a name, a number or `await`), or is read by itself.
 pub fn simple()
     ensures { (x : Tree) → IsSimple x → Formed x }
 {}
