@@ -1,1 +1,1 @@
-pub mod Line
+pub mod Lines
