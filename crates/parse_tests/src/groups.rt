@@ -1,16 +1,21 @@
 //! Groups that are closed, forks, and invisible groups.
 
+ghost use Rattle.std.specs.Prelude.{OnOk};
+ghost use Rattle.syn_parse.specs.Input.{IsOnward};
+
 use proc_macro2::{Delimiter, Group, Ident, SourceMap, Span, TokenStream, TokenTree};
 use std::alloc::Global;
 use std::test::Fail;
-use syn_error::ParseFault;
+use syn_error::{ParseFault, TextFault};
 use syn_input::parenthesized;
 use syn_kinds::token;
 use syn_parse::parser::parse_stream;
-use syn_parse::{ParseBuffer, TokenBuffer};
+use syn_parse::{ParseBuffer, Parser, TokenBuffer};
 
 // One identifier of a group in parentheses, whatever else stands in it.
-fn first_inside(input: &mut ParseBuffer<'_>) -> Result<Ident, ParseFault> {
+fn first_inside(input: &mut ParseBuffer<'_>) -> Result<Ident, ParseFault>
+    ensures { OnOk result (IsOnward input.old input.new) }
+{
     let (_span, mut content) = input.parse_group(Delimiter::Parenthesis)?;
     let ident = content.parse::<Ident>()?;
     input.close(content);
@@ -36,6 +41,50 @@ fn what_is_left_in_a_closed_group_is_refused(rt: HostRuntime) -> Result<(), Fail
     assert_eq!(rt; behind.as_str(), "unexpected token");
     let none = said(rt.alloc(), "[a]")?;
     assert_eq!(rt; none.as_str(), "expected parentheses");
+    Ok(())
+}
+
+// The same by a fork, to which the stream is advanced.
+fn by_a_fork(input: &mut ParseBuffer<'_>) -> Result<Ident, ParseFault> {
+    let mut fork = input.fork();
+    let ident = first_inside(&mut fork)?;
+    input.advance_to(fork);
+    Ok(ident)
+}
+
+// The same behind a fork that read it and is let go.
+fn behind_a_fork(input: &mut ParseBuffer<'_>) -> Result<Ident, ParseFault> {
+    let mut fork = input.fork();
+    let _ident = first_inside(&mut fork)?;
+    input.discard(fork);
+    let (_span, mut content) = input.parse_group(Delimiter::Parenthesis)?;
+    let _first = content.parse::<Ident>()?;
+    let second = content.parse::<Ident>()?;
+    input.close(content);
+    Ok(second)
+}
+
+// What is said of the answer: the identifier, or the fault.
+fn told(alloc: Global, answer: Result<Ident, TextFault>) -> Result<String, Fail> {
+    match answer {
+        Ok(ident) => Ok(format!(in alloc; "{ident}")?),
+        Err(fault) => Ok(format!(in alloc; "{fault}")?),
+    }
+}
+
+#[test]
+fn what_a_fork_left_over_is_taken_over(rt: HostRuntime) -> Result<(), Fail> {
+    let alloc = rt.alloc();
+    let mut map = SourceMap::new(alloc);
+    let whole = told(alloc, by_a_fork.parse_str(alloc, "(a)", &mut map))?;
+    assert_eq!(rt; whole.as_str(), "a");
+    let short = told(alloc, by_a_fork.parse_str(alloc, "(a b)", &mut map))?;
+    assert_eq!(rt; short.as_str(), "unexpected token, expected `)`");
+    let let_go = told(alloc, behind_a_fork.parse_str(alloc, "(a b)", &mut map))?;
+    assert_eq!(rt; let_go.as_str(), "b");
+    let stream = TokenStream::from_str(alloc, "(a) b", &mut map)?;
+    let behind = by_a_fork.parse2(alloc, stream);
+    assert!(rt; matches!(behind, Err(ParseFault::Syntax(_))));
     Ok(())
 }
 

@@ -1,6 +1,6 @@
 //! Places compared, and steps.
 
-use proc_macro2::{Ident, SourceMap, TokenStream};
+use proc_macro2::{Delimiter, Ident, SourceMap, Span, TokenStream};
 use std::cmp::Ordering;
 use std::test::Fail;
 use syn_kinds::token;
@@ -21,6 +21,35 @@ fn places_are_compared_in_one_buffer(rt: HostRuntime) -> Result<(), Fail> {
     assert_eq!(rt; behind.partial_cmp(&begin), Some(Ordering::Greater));
     assert_eq!(rt; begin.partial_cmp(&other.begin()), None);
     assert!(rt; Cursor::empty() == Cursor::empty());
+    Ok(())
+}
+
+// In which column a span begins, if the map holds it.
+fn column(map: &SourceMap, span: Span) -> Option<usize> {
+    if map.holds(span) {
+        Some(span.start(map).column)
+    } else {
+        None
+    }
+}
+
+#[test]
+fn places_know_what_stands_before_them(rt: HostRuntime) -> Result<(), Fail> {
+    let alloc = rt.alloc();
+    let mut map = SourceMap::new(alloc);
+    let stream = TokenStream::from_str(alloc, "x (yy 'z) w", &mut map)?;
+    let buffer = TokenBuffer::new2(alloc, &stream, 1)?;
+    let (_, at_group) = buffer.begin().ident().ok_or("a name")?;
+    assert_eq!(rt; column(&map, at_group.prev_span()), Some(0));
+    let (inside, _, behind) = at_group.group(Delimiter::Parenthesis).ok_or("a group")?;
+    assert_eq!(rt; column(&map, inside.prev_span()), Some(2));
+    assert_eq!(rt; column(&map, behind.prev_span()), Some(8));
+    assert_eq!(rt; column(&map, inside.at_end().prev_span()), Some(7));
+    let (_, behind_tree) = at_group.token_tree(alloc)?.ok_or("a tree")?;
+    assert_eq!(rt; column(&map, behind_tree.prev_span()), Some(8));
+    let (_, at_lifetime) = inside.ident().ok_or("a name")?;
+    assert!(rt; at_lifetime.punct().is_none() && at_lifetime.mark().is_some());
+    assert!(rt; at_group < inside && inside < at_lifetime && at_lifetime < behind);
     Ok(())
 }
 

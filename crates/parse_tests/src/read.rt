@@ -1,11 +1,14 @@
 //! Values that are read whole, and those that aren't.
 
-use proc_macro2::{Ident, Literal, Punct, SourceMap};
+use proc_macro2::{Delimiter, Ident, Literal, Punct, SourceMap, TokenStream};
+use std::alloc::Global;
+use std::fmt::Debug;
 use std::test::Fail;
 use syn_error::TextFault;
 use syn_kinds::{Nothing, token};
 use syn_parse::lifetime::Lifetime;
 use syn_parse::parser::parse_str;
+use syn_parse::{LifetimeExt, ParseBuffer, TokenBuffer};
 
 // What is said of a text that can't be read.
 fn said<T: Drop>(rt: &HostRuntime, answer: Result<T, TextFault>) -> Result<String, Fail> {
@@ -54,6 +57,8 @@ fn faults_are_said(rt: HostRuntime) -> Result<(), Fail> {
     assert_eq!(rt; said(&rt, answer)?.as_str(), "unexpected token");
     let answer = parse_str::<Lifetime>(alloc, "a", &mut map);
     assert_eq!(rt; said(&rt, answer)?.as_str(), "expected lifetime");
+    let answer = parse_str::<Punct>(alloc, "'a", &mut map);
+    assert_eq!(rt; said(&rt, answer)?.as_str(), "expected punctuation token");
     let answer = parse_str::<token::PathSep>(alloc, ": :", &mut map);
     assert_eq!(rt; said(&rt, answer)?.as_str(), "expected `::`");
     Ok(())
@@ -68,5 +73,29 @@ fn a_lexical_fault_is_told_from_others(rt: HostRuntime) -> Result<(), Fail> {
     let mut full = SourceMap::starting_at(alloc, 4294967294);
     let answer = parse_str::<Ident>(alloc, "abc", &mut full);
     assert!(rt; matches!(answer, Err(TextFault::MapFull)));
+    Ok(())
+}
+
+// What programmers are shown.
+fn debugged<T: Debug>(alloc: Global, value: &T) -> Result<String, Fail> {
+    Ok(format!(in alloc; "{value:?}")?)
+}
+
+#[test]
+fn what_is_left_is_shown(rt: HostRuntime) -> Result<(), Fail> {
+    let alloc = rt.alloc();
+    let mut map = SourceMap::new(alloc);
+    let stream = TokenStream::from_str(alloc, "'fn ( a:: b ) ;c", &mut map)?;
+    let buffer = TokenBuffer::new2(alloc, &stream, 1)?;
+    let mut input = ParseBuffer::new(alloc, buffer.begin());
+    let lifetime = Lifetime::parse_any(&mut input)?;
+    assert!(rt; lifetime.ident.is_text("fn"));
+    assert_eq!(rt; input.to_string(alloc)?.as_str(), "(a :: b) ; c");
+    let (_span, mut content) = input.parse_group(Delimiter::Parenthesis)?;
+    let _name = content.parse::<Ident>()?;
+    assert_eq!(rt; content.to_string(alloc)?.as_str(), ":: b");
+    let left = input.cursor().token_stream(alloc)?;
+    let shown = debugged(alloc, &left)?;
+    assert_eq!(rt; debugged(alloc, &input)?.as_str(), shown.as_str());
     Ok(())
 }

@@ -15,13 +15,16 @@ or_none (Some a) = refl
 or_none None = refl
 
 -- the same commands on two streams at one place, of which the one had something left over before
-along : (fs : List Command) (input fork : ParseBuffer) → ran_all fs (advanced input fork) ≡ advanced input (ran_all fs fork)
+along : (fs : List Command) (input fork : ParseBuffer) →
+    ran_all fs (advanced input fork) ≡ advanced input (ran_all fs fork)
 along [] input fork = refl
 along (f ∷ fs) input fork =
-    ap (λ n. ran_all fs (record input { cursor = (f fork.cursor).0; noted = n })) (first_of_three input.noted fork.noted (f fork.cursor).1)
+    ap (λ n. ran_all fs (record input { cursor = (f fork.cursor).0; noted = n }))
+    (first_of_three input.noted fork.noted (f fork.cursor).1)
     ∙ along fs input (ran f fork)
 
-pub on_a_fork : (fs : List Command) (input : ParseBuffer) → advanced input (ran_all fs (fork_of input)) ≡ ran_all fs input
+pub on_a_fork : (fs : List Command) (input : ParseBuffer) →
+    advanced input (ran_all fs (fork_of input)) ≡ ran_all fs input
 on_a_fork fs input =
     sym (along fs input (fork_of input))
     ∙ ap (λ n. ran_all fs (record input { noted = n })) (or_none input.noted)

@@ -18,22 +18,27 @@ first_seen : (ts : List Spanned) (t : Spanned) (us : List Spanned) → seen ts �
 first_seen [] t us e = cc
 first_seen (x ∷ ts) t us e = by_first (λ h. first_seen ts t us h) (is_seen x.token) refl e
   where
-    by_first : (seen ts ≡ t ∷ us → is_seen t.token ≡ true) → (b : Bool) → is_seen x.token ≡ b → cond b (x ∷ seen ts) (seen ts) ≡ t ∷ us → is_seen t.token ≡ true
+    by_first : (seen ts ≡ t ∷ us → is_seen t.token ≡ true) → (b : Bool) → is_seen x.token ≡ b →
+        cond b (x ∷ seen ts) (seen ts) ≡ t ∷ us → is_seen t.token ≡ true
     by_first more true p h =
         let head : x ≡ t = cc in
         ap (λ (u : Spanned). is_seen u.token) (sym head) ∙ p
     by_first more false p h = more h
 
-opens_seen : (d : Delimiter) (s : Span) (ts : List Spanned) → is_visible d ≡ true → seen (spanned (Opens d) s ∷ ts) ≡ spanned (Opens d) s ∷ seen ts
+opens_seen : (d : Delimiter) (s : Span) (ts : List Spanned) → is_visible d ≡ true →
+    seen (spanned (Opens d) s ∷ ts) ≡ spanned (Opens d) s ∷ seen ts
 opens_seen d s ts v = ap (λ b. cond b (spanned (Opens d) s ∷ seen ts) (seen ts)) v
 
-closes_seen : (d : Delimiter) (s : Span) (ts : List Spanned) → is_visible d ≡ true → seen (spanned (Closes d) s ∷ ts) ≡ spanned (Closes d) s ∷ seen ts
+closes_seen : (d : Delimiter) (s : Span) (ts : List Spanned) → is_visible d ≡ true →
+    seen (spanned (Closes d) s ∷ ts) ≡ spanned (Closes d) s ∷ seen ts
 closes_seen d s ts v = ap (λ b. cond b (spanned (Closes d) s ∷ seen ts) (seen ts)) v
 
 pub group_read : (c inside behind : Cursor) (d : Delimiter) (s : Span) (g : Group) → Enters c d s inside behind →
     g.delimiter ≡ d → g.span ≡ s → seen g.stream ≡ rest inside → rest c ≡ seen (group_tokens g) ++ rest behind
 group_read c inside behind d s g e is_d is_s is_stream =
-    let v : is_visible d ≡ true = first_seen (spanned_entries c.entries.now) (spanned (Opens d) s) (rest inside ++ spanned (Closes d) s ∷ rest behind) e.group.reads in
+    let v : is_visible d ≡ true =
+    first_seen (spanned_entries c.entries.now) (spanned (Opens d) s)
+    (rest inside ++ spanned (Closes d) s ∷ rest behind) e.group.reads in
     let close : List Spanned = spanned (Closes d) s ∷ [] in
     let tokens : group_tokens g ≡ spanned (Opens d) s ∷ g.stream ++ close = cc in
     let shown : seen (group_tokens g) ≡ spanned (Opens d) s ∷ rest inside ++ close =

@@ -1,5 +1,6 @@
 -- Values and separators that are read in turn.
-use Rattle.std.proofs.Common.{◌≡◌, ◌+◌, ◌<◌, length-append, List, [], ◌∷◌, ◌++◌, length, arith, refl, sym, ap, ◌∙◌, subst}
+use Rattle.std.proofs.Common.{◌≡◌, ◌+◌, ◌<◌, length-append, List, [], ◌∷◌, ◌++◌, length, arith, refl, sym, ap, ◌∙◌}
+use Rattle.std.proofs.Common.{subst}
 use Rattle.std.specs.Prelude.{true, false}
 use Rattle.proc_macro2.specs.Token.{Spanned, plain}
 use Rattle.syn_buffer.specs.Stands.{end_stands}
@@ -28,18 +29,22 @@ module _ {T P : Type 0} (value : Reading T) (separator : Reading P) where
   pub pairs_more : (ts : List Spanned) (vs : List T) (ps : List P) (us more rest : List Spanned) (v : T) (p : P)
       → ReadsPairs value separator ts vs ps us → value us v more → separator more p rest
       → ReadsPairs value separator ts (vs ++ v ∷ []) (ps ++ p ∷ []) rest
-  pairs_more ts [] [] us more rest v p (same, none) a b = (more, rest, subst (λ w. value w v more) (sym same) a, b, (refl, refl))
+  pairs_more ts [] [] us more rest v p (same, none) a b =
+      (more, rest, subst (λ w. value w v more) (sym same) a, b, (refl, refl))
   pairs_more ts [] (q ∷ ps) us more rest v p (same, none) a b = absurd (cc)
   pairs_more ts (w ∷ vs) [] us more rest v p h a b = absurd h
-  pairs_more ts (w ∷ vs) (q ∷ ps) us more rest v p (xs, ys, c, d, h) a b = (xs, ys, c, d, pairs_more ys vs ps us more rest v p h a b)
+  pairs_more ts (w ∷ vs) (q ∷ ps) us more rest v p (xs, ys, c, d, h) a b =
+      (xs, ys, c, d, pairs_more ys vs ps us more rest v p h a b)
 
   -- the same, of lists to which they were added
   pub pairs_next : (ts : List Spanned) (vs ws : List T) (ps qs : List P) (us more rest : List Spanned) (v : T) (p : P)
-      → ws ≡ vs ++ v ∷ [] → qs ≡ ps ++ p ∷ [] → ReadsPairs value separator ts vs ps us → value us v more → separator more p rest
+      → ws ≡ vs ++ v ∷ [] → qs ≡ ps ++ p ∷ [] → ReadsPairs value separator ts vs ps us → value us v more →
+      separator more p rest
       → ReadsPairs value separator ts ws qs rest
   pairs_next ts vs ws ps qs us more rest v p e f h a b =
       subst (λ xs. ReadsPairs value separator ts xs qs rest) (sym e)
-      (subst (λ ys. ReadsPairs value separator ts (vs ++ v ∷ []) ys rest) (sym f) (pairs_more ts vs ps us more rest v p h a b))
+      (subst (λ ys. ReadsPairs value separator ts (vs ++ v ∷ []) ys rest) (sym f)
+      (pairs_more ts vs ps us more rest v p h a b))
 
 pub even_next : {T P : Type 0} (vs ws : List T) (ps qs : List P) (v : T) (p : P)
     → ws ≡ vs ++ v ∷ [] → qs ≡ ps ++ p ∷ [] → length vs ≡ length ps → length ws ≡ length qs

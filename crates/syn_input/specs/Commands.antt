@@ -5,7 +5,8 @@ use Rattle.syn_input.specs.Input.{first_of_two}
 use Rattle.syn_input.specs.declared.input.Leftover.{Leftover}
 use Rattle.syn_input.specs.declared.input.ParseBuffer.{ParseBuffer}
 
--- what a command does is known from the place alone: the place behind it, and what it leaves over in groups that it closes
+-- what a command does is known from the place alone: the place behind it, and what it leaves over in groups that it
+-- closes
 abbrev pub Command : Type 0
 Command = Cursor → Cursor × Option Leftover
 

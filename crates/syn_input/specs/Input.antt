@@ -1,5 +1,6 @@
 -- Streams that are read: the place, and what was left over in groups that have been closed.
 use Rattle.std.specs.Prelude.{List, [], ◌∷◌, Option, Some, None}
+use Rattle.rust_map.specs.declared.span.Span.{Span}
 use Rattle.proc_macro2.specs.Token.{Token, Spanned, plain}
 use Rattle.syn_buffer.specs.Position as place
 use Rattle.syn_buffer.specs.declared.position.Cursor.{Cursor}
@@ -13,6 +14,10 @@ rest input = place.rest input.cursor
 -- the tokens alone
 abbrev pub left : ParseBuffer → List Token
 left input = plain (rest input)
+
+-- where the next token stands, a group with all of it, or where the list closes
+abbrev pub next_place : ParseBuffer → Span
+next_place input = place.next_span input.cursor.closing (rest input)
 
 -- the first of two, if there is one
 abbrev pub first_of_two : {A : Type 0} → Option A → Option A → Option A

@@ -7,18 +7,21 @@ use Rattle.rust_map.specs.declared.fault.LexFault.TheVariants.{Lex}
 use Rattle.syn_error.specs.declared.fault.ParseFault.{ParseFault}
 use Rattle.syn_error.specs.declared.fault.TextFault.{TextFault}
 use Rattle.syn_error.specs.declared.fault.TextFault.TheVariants as fault
+use Rattle.syn_buffer.specs.Position.{scope, whole}
 use Rattle.syn_buffer.specs.Seen.{seen}
 use Rattle.syn_input.specs.Input.{leftover, rest}
 use Rattle.syn_input.specs.declared.input.Leftover.{Leftover}
 use Rattle.syn_input.specs.declared.input.ParseBuffer.{ParseBuffer}
 
--- the tokens of the stream are to be read, and nothing is left over yet
+-- the tokens of the stream are to be read, all of a buffer, and nothing is left over yet
 pub record IsBegin (tokens : List Spanned) (begin : ParseBuffer) : Type 0 where
   pub tokens_are : rest begin ≡ seen tokens
+  pub list : (number : ℕ) × (end : ℕ) × (scope begin.cursor ≡ whole number end)
   pub nothing_noted : begin.noted ≡ None
 
 -- the parser read the value from the stream, and nothing is left over
-pub record IsRead {A : Type 0} (runs : ParseBuffer → Result A ParseFault → ParseBuffer → Type 0) (tokens : List Spanned) (value : A) : Type 0 where
+pub record IsRead {A : Type 0} (runs : ParseBuffer → Result A ParseFault → ParseBuffer → Type 0)
+    (tokens : List Spanned) (value : A) : Type 0 where
   pub begin : ParseBuffer
   pub end : ParseBuffer
   pub begins : IsBegin tokens begin
@@ -26,7 +29,8 @@ pub record IsRead {A : Type 0} (runs : ParseBuffer → Result A ParseFault → P
   pub nothing_left : leftover end ≡ None
 
 -- the parser refused the stream, or left something over
-pub record IsRefused {A : Type 0} (runs : ParseBuffer → Result A ParseFault → ParseBuffer → Type 0) (tokens : List Spanned) : Type 0 where
+pub record IsRefused {A : Type 0} (runs : ParseBuffer → Result A ParseFault → ParseBuffer → Type 0)
+    (tokens : List Spanned) : Type 0 where
   pub begin : ParseBuffer
   pub end : ParseBuffer
   pub answer : Result A ParseFault
@@ -35,24 +39,35 @@ pub record IsRefused {A : Type 0} (runs : ParseBuffer → Result A ParseFault �
   pub refused : IfOk answer (λ _. (left : Leftover) × (leftover end ≡ Some left))
 
 -- a value is read from the tokens, and some are left behind it
-pub record ReadsShort {A : Type 0} (reads : List Spanned → A → List Spanned → Type 0) (tokens : List Spanned) : Type 0 where
+pub record ReadsShort {A : Type 0} (reads : List Spanned → A → List Spanned → Type 0) (tokens : List Spanned) :
+    Type 0 where
   pub value : A
   pub next : Spanned
   pub behind : List Spanned
   pub read : reads tokens value (next ∷ behind)
 
--- a value is read from the whole stream of a text whose first character stands at the position base
-pub record ReadsText {A : Type 0} (reads : List Spanned → A → List Spanned → Type 0) (base : ℕ) (text : List ℕ) (value : A) : Type 0 where
+-- the value is read from the whole stream
+abbrev pub reads_whole : {A : Type 0} → (List Spanned → A → List Spanned → Type 0) → List Spanned → A → Type 0
+reads_whole reads tokens value = reads (seen tokens) value []
+
+-- none is, or one is read and tokens are left behind it
+abbrev pub refuses_whole : {A : Type 0} → (List Spanned → A → List Spanned → Type 0) → (List Spanned → Type 0) →
+    List Spanned → Type 0
+refuses_whole reads refuses tokens = refuses (seen tokens) ⊎ ReadsShort reads (seen tokens)
+
+-- a text, whose first character stands at the position base, has a stream, and that is read so
+pub record ReadsText {A : Type 0} (reads : List Spanned → A → Type 0) (base : ℕ) (text : List ℕ) (value : A) :
+    Type 0 where
   pub stream : List Spanned
   pub forest : IsForest base text stream
-  pub read : reads (seen stream) value []
+  pub read : reads stream value
 
--- none is: the text has no stream, or none is read from its stream, or the map has no positions left for it
-abbrev pub RefusesText : {A : Type 0} → (List Spanned → A → List Spanned → Type 0) → (List Spanned → Type 0) → ℕ → List ℕ → TextFault → Type 0
-RefusesText reads refuses base text (fault.Lexical e) = IsFault base text (Lex e)
-RefusesText reads refuses base text (fault.Syntax e) = (stream : List Spanned) × IsForest base text stream × (refuses (seen stream) ⊎ ReadsShort reads (seen stream))
-RefusesText reads refuses base text fault.MapFull = 2 ^ 32 ≤ base + length text
-RefusesText reads refuses base text fault.Memory = Unit {0}
+-- it has none, or its stream is refused so, or the map has no positions left for it
+abbrev pub RefusesText : (List Spanned → Type 0) → ℕ → List ℕ → TextFault → Type 0
+RefusesText refuses base text (fault.Lexical e) = IsFault base text (Lex e)
+RefusesText refuses base text (fault.Syntax e) = (stream : List Spanned) × IsForest base text stream × refuses stream
+RefusesText refuses base text fault.MapFull = 2 ^ 32 ≤ base + length text
+RefusesText refuses base text fault.Memory = Unit {0}
 
 -- what a fault of a text leaves of the map: the text is behind the others once it has been lexed
 abbrev pub LeavesMap : Sources → List ℕ → Sources → TextFault → Type 0

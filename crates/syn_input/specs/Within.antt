@@ -10,7 +10,8 @@ use Rattle.syn_input.specs.Input.{first_of_two, left, leftover}
 use Rattle.syn_input.specs.declared.input.ParseBuffer.{ParseBuffer}
 
 -- the group has been entered, its inside read by the function from its beginning, and closed behind that
-pub record Within (runs : ParseBuffer → ParseBuffer → Type 0) (d : Delimiter) (span : Span) (old new : ParseBuffer) : Type 0 where
+pub record Within (runs : ParseBuffer → ParseBuffer →
+    Type 0) (d : Delimiter) (span : Span) (old new : ParseBuffer) : Type 0 where
   pub begin : ParseBuffer
   pub end : ParseBuffer
   pub enters : Enters old.cursor d span begin.cursor new.cursor
@@ -24,5 +25,6 @@ pub record NotEntered (d : Delimiter) (old : ParseBuffer) (fault : ParseFault) (
   pub same : new ≡ old
 
 -- the group was not entered, or the function answered the fault of its inside
-abbrev pub WithinRefused : (ParseBuffer → ParseBuffer → Type 0) → Delimiter → ParseBuffer → ParseFault → ParseBuffer → Type 0
+abbrev pub WithinRefused : (ParseBuffer → ParseBuffer → Type 0) → Delimiter → ParseBuffer → ParseFault → ParseBuffer →
+    Type 0
 WithinRefused runs d old fault new = NotEntered d old fault new ⊎ ((span : Span) × Within runs d span old new)

@@ -32,7 +32,8 @@ pub type Brackets<'a> = Delimited<'a, 2>;
 impl<'a> ParseBuffer<'a> {
     // Enters the group with these delimiters that stands there.
     fn parse_delimited<const D: usize>(&mut self) -> Result<Delimited<'a, D>, ParseFault>
-        ensures found { IfOk result (λ r. Enters self.old.cursor (delimiter_of D) r.token.span.join r.content.cursor self.new.cursor) }
+        ensures found { IfOk result (λ r.
+            Enters self.old.cursor (delimiter_of D) r.token.span.join r.content.cursor self.new.cursor) }
         ensures fresh { IfOk result (λ r. r.content.noted ≡ None) }
         ensures none { IfErr result (λ e. IsSyntax e → group_stands (delimiter_of D) (left self.old) ≡ false) }
         ensures noted { self.new.noted ≡ self.old.noted }
@@ -51,7 +52,8 @@ impl<'a> ParseBuffer<'a> {
     ///
     /// The fault is that no such group stands there, and the place is then as before.
     pub fn parse_parens(&mut self) -> Result<Parens<'a>, ParseFault>
-        ensures found { IfOk result (λ r. Enters self.old.cursor (delimiter_of 0) r.token.span.join r.content.cursor self.new.cursor) }
+        ensures found { IfOk result (λ r.
+            Enters self.old.cursor (delimiter_of 0) r.token.span.join r.content.cursor self.new.cursor) }
         ensures fresh { IfOk result (λ r. r.content.noted ≡ None) }
         ensures none { IfErr result (λ e. IsSyntax e → group_stands (delimiter_of 0) (left self.old) ≡ false) }
         ensures noted { self.new.noted ≡ self.old.noted }
@@ -64,7 +66,8 @@ impl<'a> ParseBuffer<'a> {
     ///
     /// The fault is that no such group stands there, and the place is then as before.
     pub fn parse_braces(&mut self) -> Result<Braces<'a>, ParseFault>
-        ensures found { IfOk result (λ r. Enters self.old.cursor (delimiter_of 1) r.token.span.join r.content.cursor self.new.cursor) }
+        ensures found { IfOk result (λ r.
+            Enters self.old.cursor (delimiter_of 1) r.token.span.join r.content.cursor self.new.cursor) }
         ensures fresh { IfOk result (λ r. r.content.noted ≡ None) }
         ensures none { IfErr result (λ e. IsSyntax e → group_stands (delimiter_of 1) (left self.old) ≡ false) }
         ensures noted { self.new.noted ≡ self.old.noted }
@@ -77,7 +80,8 @@ impl<'a> ParseBuffer<'a> {
     ///
     /// The fault is that no such group stands there, and the place is then as before.
     pub fn parse_brackets(&mut self) -> Result<Brackets<'a>, ParseFault>
-        ensures found { IfOk result (λ r. Enters self.old.cursor (delimiter_of 2) r.token.span.join r.content.cursor self.new.cursor) }
+        ensures found { IfOk result (λ r.
+            Enters self.old.cursor (delimiter_of 2) r.token.span.join r.content.cursor self.new.cursor) }
         ensures fresh { IfOk result (λ r. r.content.noted ≡ None) }
         ensures none { IfErr result (λ e. IsSyntax e → group_stands (delimiter_of 2) (left self.old) ≡ false) }
         ensures noted { self.new.noted ≡ self.old.noted }
@@ -87,8 +91,8 @@ impl<'a> ParseBuffer<'a> {
     }
 }
 
-/// Enters the group in parentheses that stands there: `parenthesized!(content in input)` puts its inside into the variable
-/// `content`, gives its delimiters, and hands a fault on. Close the inside with `close`.
+/// Enters the group in parentheses that stands there: `parenthesized!(content in input)` puts its inside into the
+/// variable `content`, gives its delimiters, and hands a fault on. Close the inside with `close`.
 #[macro_export]
 macro_rules! parenthesized {
     ($content:ident in $input:expr) => {{

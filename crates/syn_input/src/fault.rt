@@ -1,10 +1,11 @@
 //! What is said of tokens that can't be read.
 
-ghost use Rattle.std.specs.Prelude.{◌≡◌, IfErr, IfOk, Some, codes};
+ghost use Rattle.std.specs.Prelude.{◌≡◌, IfErr, IfOk, Some, codes, false};
+ghost use Rattle.syn_buffer.specs.Position.{left, next_span, rest};
+ghost use Rattle.syn_buffer.specs.Stands.{end_stands};
 ghost use Rattle.syn_error.specs.Notes.{Says};
 ghost use Rattle.syn_input.specs.Input as input;
-ghost use Rattle.syn_buffer.specs.Position.{left, next_span, rest};
-ghost use Rattle.syn_input.specs.Words.{expected_words};
+ghost use Rattle.syn_input.specs.Words.{SaysAt, expected_words, unexpected_words};
 ghost use Rattle.syn_input.specs.declared.fault.Expected.{Expected};
 
 use crate::input::{Leftover, ParseBuffer};
@@ -37,7 +38,9 @@ impl fmt::Display for Expected {
 }
 
 // What is said of a token that is left over in a list that is closed so.
-fn unexpected_words(closer: Delimiter) -> &'static str {
+fn unexpected_words(closer: Delimiter) -> &'static str
+    ensures { result.now ≡ unexpected_words closer }
+{
     match closer {
         Delimiter::Parenthesis => "unexpected token, expected `)`",
         Delimiter::Brace => "unexpected token, expected `}`",
@@ -49,7 +52,10 @@ fn unexpected_words(closer: Delimiter) -> &'static str {
 impl<'a> ParseBuffer<'a> {
     /// The fault that such a thing does not stand there: it says so of the next token, or at an end that the
     /// end was not expected, of what closes the list. Where memory for the words is refused it is that.
-    pub fn expected(&self, what: &'static str) -> ParseFault {
+    pub fn expected(&self, what: &'static str) -> ParseFault
+        ensures { let at_end = end_stands (input.left self.now) in
+            SaysAt (expected_words at_end what.now) (input.next_place self.now) result }
+    {
         self.missing(Expected {
             at_end: self.is_empty(),
             what,
@@ -58,7 +64,9 @@ impl<'a> ParseBuffer<'a> {
 
     /// The fault that such a punctuation does not stand there: it says so of the next token, or at an end of what
     /// closes the list, in the same words. Where memory for the words is refused it is that.
-    pub fn expected_mark(&self, what: &'static str) -> ParseFault {
+    pub fn expected_mark(&self, what: &'static str) -> ParseFault
+        ensures { SaysAt (expected_words false what.now) (input.next_place self.now) result }
+    {
         self.missing(Expected {
             at_end: false,
             what,
@@ -66,7 +74,9 @@ impl<'a> ParseBuffer<'a> {
     }
 
     // The fault of that message, of the next token, or of what closes the list.
-    fn missing(&self, message: Expected) -> ParseFault {
+    fn missing(&self, message: Expected) -> ParseFault
+        ensures { SaysAt (expected_words message.at_end message.what.now) (input.next_place self.now) result }
+    {
         match Error::new(self.alloc, self.cursor.span(), message) {
             Ok(error) => ParseFault::Syntax(error),
             Err(_) => ParseFault::Memory,
@@ -74,7 +84,9 @@ impl<'a> ParseBuffer<'a> {
     }
 
     // The fault that a token was left over.
-    pub(crate) fn left_over(&self, token: Leftover) -> ParseFault {
+    pub(crate) fn left_over(&self, token: Leftover) -> ParseFault
+        ensures { SaysAt (unexpected_words token.closer) token.span result }
+    {
         match Error::new(self.alloc, token.span, unexpected_words(token.closer)) {
             Ok(error) => ParseFault::Syntax(error),
             Err(_) => ParseFault::Memory,
@@ -82,7 +94,9 @@ impl<'a> ParseBuffer<'a> {
     }
 
     // The fault that the next token is not expected.
-    pub(crate) fn unexpected(&self) -> ParseFault {
+    pub(crate) fn unexpected(&self) -> ParseFault
+        ensures { SaysAt (unexpected_words self.now.cursor.closer) (input.next_place self.now) result }
+    {
         self.left_over(Leftover {
             span: self.cursor.span(),
             closer: self.cursor.closer(),
@@ -93,8 +107,7 @@ impl<'a> ParseBuffer<'a> {
     ///
     /// The error of the call is that there was no memory for the message's text.
     pub fn error<M: fmt::Display + Drop>(&self, message: M) -> Result<Error, AllocError>
-        ensures { IfOk result (λ e. let span = next_span self.now.cursor.closing (input.rest self.now) in
-            Says (M.output message) span span e) }
+        ensures { IfOk result (λ e. let span = input.next_place self.now in Says (M.output message) span span e) }
     {
         Error::new(self.alloc, self.cursor.span(), message)
     }

@@ -2,7 +2,6 @@
 
 ghost use Rattle.std.specs.Prelude.{None, ◌≡◌};
 ghost use Rattle.syn_input.specs.Input as input;
-ghost use Rattle.syn_buffer.specs.Position.{next_span};
 ghost use Rattle.syn_buffer.specs.Behind.{stands_behind};
 ghost use Rattle.syn_buffer.specs.Stands.{end_stands};
 
@@ -60,7 +59,7 @@ impl<'a> ParseBuffer<'a> {
 
     /// Where the next token stands, of a group all of it, or at an end what closes the list.
     pub fn span(&self) -> Span
-        ensures { result ≡ next_span self.now.cursor.closing (input.rest self.now) }
+        ensures { result ≡ input.next_place self.now }
     {
         self.cursor.span()
     }
@@ -87,7 +86,8 @@ impl<'a> ParseBuffer<'a> {
         T::peek(self.cursor)
     }
 
-    /// Whether a token of that kind stands behind the tree that stands there. A lifetime is one tree, and so is a group.
+    /// Whether a token of that kind stands behind the tree that stands there. A lifetime is one tree, and so is a
+    /// group.
     pub fn peek2<T: Peek>(&self) -> bool
         ensures { result ≡ stands_behind T.stands (input.left self.now) }
     {

@@ -8,5 +8,6 @@ ghost use Rattle.syn_input.specs.declared.input.ParseBuffer.{ParseBuffer};
 /// answer is known from the places alone, which are the same.
 #[tactic(auto, using(crate::proofs::Forks::on_a_fork))]
 pub fn forks_run_straight()
-    ensures { (fs : List Command) (input : ParseBuffer) → advanced input (ran_all fs (fork_of input)) ≡ ran_all fs input }
+    ensures { (fs : List Command) (input : ParseBuffer)
+        → advanced input (ran_all fs (fork_of input)) ≡ ran_all fs input }
 {}

@@ -6,8 +6,10 @@
 //! - `delimited`: groups that are entered by their kind of delimiters.
 //! - `parse`: what can be read.
 //! - `parse_trees`: reading what holds other syntax.
+//! - `lifetime_ext`: what lifetimes have besides.
 //! - `leaves`, `kinds`, `marks`: reading names, literals and lifetimes, keywords and other kinds, punctuations.
 //! - `trees`: reading token trees and streams.
+//! - `shown`: what is left of a stream, shown.
 //! - `step`, `within`: reading by functions.
 //! - `parser`: whole parses.
 //! - `lists`: reading lists of values with separators.
@@ -22,18 +24,21 @@ pub mod input;
 mod kinds;
 pub mod laws;
 mod leaves;
+pub mod lifetime_ext;
 pub mod lists;
 pub mod lookahead;
 mod marks;
 pub mod parse;
 mod parse_trees;
 pub mod parser;
+mod shown;
 pub mod step;
 mod trees;
 pub mod within;
 
 pub use delimited::{Braces, Brackets, Delimited, Parens};
 pub use input::ParseBuffer;
+pub use lifetime_ext::LifetimeExt;
 pub use lookahead::Lookahead1;
 pub use parse::Parse;
 pub use parser::{Parser, parse_str, parse_stream, parse2};

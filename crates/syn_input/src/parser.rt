@@ -1,16 +1,18 @@
 //! Whole parses.
 
+ghost use Rattle.proc_macro2.specs.Forest.{IsForest};
 ghost use Rattle.proc_macro2.specs.Token.{Spanned};
 ghost use Rattle.rust_map.specs.Sources.{next_position, with_text};
 ghost use Rattle.std.specs.Fn.{FnOnceReturnsAtMut};
-ghost use Rattle.std.specs.Prelude.{[], ◌+◌, ◌^◌, ◌↔◌, ◌≡◌, ◌≤◌, ◌⊎◌, length, Err, IfErr, IfOk, None, Ok, OnOk, Result};
+ghost use Rattle.std.specs.Prelude.{[], ◌+◌, ◌^◌, ◌↔◌, ◌≡◌, ◌≤◌, ◌⊎◌, length, Err, IfErr, IfOk, None, Ok};
+ghost use Rattle.std.specs.Prelude.{OnErr, OnOk, Result};
 ghost use Rattle.std.specs.Str.{chars};
 ghost use Rattle.syn_error.specs.Faults.{IsSyntax};
 ghost use Rattle.syn_error.specs.declared.fault.ParseFault.{ParseFault};
 ghost use Rattle.syn_error.specs.declared.fault.TextFault.TheVariants.{MapFull};
 ghost use Rattle.syn_input.specs.Input.{leftover, rest};
-ghost use Rattle.syn_buffer.specs.Seen.{seen};
 ghost use Rattle.syn_input.specs.Whole.{IsRead, IsRefused, LeavesMap, ReadsShort, ReadsText, RefusesText};
+ghost use Rattle.syn_input.specs.Whole.{reads_whole, refuses_whole};
 ghost use Rattle.syn_input.specs.declared.input.ParseBuffer.{ParseBuffer};
 
 use crate::input::ParseBuffer;
@@ -37,6 +39,48 @@ pub trait Parser {
     fn run(self, input: &mut ParseBuffer<'_>) -> Result<Self::Output, ParseFault>
         requires { may self }
         ensures { runs self input.old result input.new };
+
+    /// Reads a whole stream, as `parse_stream` does.
+    final fn parse2(self, alloc: Global, tokens: TokenStream) -> Result<Self::Output, ParseFault>
+    where
+        Self: Sized,
+        Self: Drop,
+        requires { Self.may self }
+        ensures read { IfOk result (λ x. IsRead (Self.runs self) tokens x) }
+        ensures refused { IfErr result (λ e. IsSyntax e → IsRefused (Self.runs self) tokens) }
+    {
+        parse_stream(alloc, self, &tokens)
+    }
+
+    /// Reads a whole text, and puts the text behind the others of the map.
+    ///
+    /// The fault is `MapFull` exactly if the map has no positions left for the text, else that the text has a lexical
+    /// fault, or as that of `parse_stream`. The first two leave the map as it was.
+    final fn parse_str(
+        self,
+        alloc: Global,
+        text: &str,
+        map: &mut SourceMap,
+    ) -> Result<Self::Output, TextFault>
+    where
+        Self: Sized,
+        Self: Drop,
+        requires { Self.may self }
+        ensures read { IfOk result (λ x.
+            ReadsText (IsRead (Self.runs self)) (next_position map.old) (chars text.now) x) }
+        ensures refused { IfErr result
+            (RefusesText (IsRefused (Self.runs self)) (next_position map.old) (chars text.now)) }
+        ensures full { (result ≡ Err MapFull) ↔ (2 ^ 32 ≤ next_position map.old + length (chars text.now)) }
+        ensures map { OnOk result (map.new ≡ with_text map.old (chars text.now)) }
+        ensures map_err { IfErr result (LeavesMap map.old (chars text.now) map.new) }
+    {
+        let stream = lexed(alloc, text, map)?;
+        match parse_stream(alloc, self, &stream) {
+            Ok(value) => Ok(value),
+            Err(ParseFault::Syntax(error)) => Err(TextFault::Syntax(error)),
+            Err(ParseFault::Memory) => Err(TextFault::Memory),
+        }
+    }
 }
 
 impl<T: Drop, F: FnOnce(&mut ParseBuffer<'_>) -> Result<T, ParseFault>> Parser for F {
@@ -92,8 +136,8 @@ pub fn parse_stream<P: Parser + Drop>(
 ///
 /// The fault is that none is read from the stream, or that tokens are left behind it.
 pub fn parse2<T: Parse>(alloc: Global, tokens: TokenStream) -> Result<T, ParseFault>
-    ensures read { IfOk result (λ x. T.reads (seen tokens) x []) }
-    ensures refused { IfErr result (λ e. IsSyntax e → T.refuses (seen tokens) ⊎ ReadsShort T.reads (seen tokens)) }
+    ensures read { IfOk result (λ x. reads_whole T.reads tokens x) }
+    ensures refused { IfErr result (λ e. IsSyntax e → refuses_whole T.reads T.refuses tokens) }
 {
     let buffer = TokenBuffer::new2(alloc, &tokens, 1)?;
     let mut input = ParseBuffer::new(alloc, buffer.begin());
@@ -103,7 +147,8 @@ pub fn parse2<T: Parse>(alloc: Global, tokens: TokenStream) -> Result<T, ParseFa
 // Reads a value, behind which nothing is left.
 fn read_to_end<T: Parse>(input: &mut ParseBuffer<'_>) -> Result<T, ParseFault>
     ensures read { IfOk result (λ x. T.reads (rest input.old) x []) }
-    ensures refused { IfErr result (λ e. IsSyntax e → T.refuses (rest input.old) ⊎ ReadsShort T.reads (rest input.old)) }
+    ensures refused { IfErr result (λ e. IsSyntax e
+        → T.refuses (rest input.old) ⊎ ReadsShort T.reads (rest input.old)) }
 {
     match T::parse(input) {
         Err(fault) => Err(fault),
@@ -114,25 +159,38 @@ fn read_to_end<T: Parse>(input: &mut ParseBuffer<'_>) -> Result<T, ParseFault>
     }
 }
 
+// The stream of a text, which is put behind the others of the map.
+fn lexed(alloc: Global, text: &str, map: &mut SourceMap) -> Result<TokenStream, TextFault>
+    ensures forest { IfOk result (λ s. IsForest (next_position map.old) (chars text.now) s) }
+    ensures refused { IfErr result (RefusesText (λ _. ⊥) (next_position map.old) (chars text.now)) }
+    ensures full { (result ≡ Err MapFull) ↔ (2 ^ 32 ≤ next_position map.old + length (chars text.now)) }
+    ensures map { OnOk result (map.new ≡ with_text map.old (chars text.now)) }
+    ensures map_err { OnErr result (map.new ≡ map.old) }
+{
+    match TokenStream::from_str(alloc, text, map) {
+        Ok(stream) => Ok(stream),
+        Err(LexFault::Lex(error)) => Err(TextFault::Lexical(error)),
+        Err(LexFault::MapFull) => Err(TextFault::MapFull),
+        Err(LexFault::Memory) => Err(TextFault::Memory),
+    }
+}
+
 /// Reads a whole text as a value of that type, and puts the text behind the others of the map.
 ///
 /// The fault is `MapFull` exactly if the map has no positions left for the text, else that the text has a lexical
 /// fault, or that its stream is not such a value from its beginning to its end. The first two leave the map as it was.
 pub fn parse_str<T: Parse>(alloc: Global, text: &str, map: &mut SourceMap) -> Result<T, TextFault>
-    ensures read { IfOk result (λ x. ReadsText T.reads (next_position map.old) (chars text.now) x) }
-    ensures refused { IfErr result (RefusesText T.reads T.refuses (next_position map.old) (chars text.now)) }
+    ensures read { IfOk result (λ x. ReadsText (reads_whole T.reads) (next_position map.old) (chars text.now) x) }
+    ensures refused { IfErr result
+        (RefusesText (refuses_whole T.reads T.refuses) (next_position map.old) (chars text.now)) }
     ensures full { (result ≡ Err MapFull) ↔ (2 ^ 32 ≤ next_position map.old + length (chars text.now)) }
     ensures map { OnOk result (map.new ≡ with_text map.old (chars text.now)) }
     ensures map_err { IfErr result (LeavesMap map.old (chars text.now) map.new) }
 {
-    match TokenStream::from_str(alloc, text, map) {
-        Err(LexFault::Lex(error)) => Err(TextFault::Lexical(error)),
-        Err(LexFault::MapFull) => Err(TextFault::MapFull),
-        Err(LexFault::Memory) => Err(TextFault::Memory),
-        Ok(stream) => match parse2(alloc, stream) {
-            Ok(value) => Ok(value),
-            Err(ParseFault::Syntax(error)) => Err(TextFault::Syntax(error)),
-            Err(ParseFault::Memory) => Err(TextFault::Memory),
-        },
+    let stream = lexed(alloc, text, map)?;
+    match parse2(alloc, stream) {
+        Ok(value) => Ok(value),
+        Err(ParseFault::Syntax(error)) => Err(TextFault::Syntax(error)),
+        Err(ParseFault::Memory) => Err(TextFault::Memory),
     }
 }

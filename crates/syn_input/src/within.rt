@@ -24,8 +24,10 @@ impl<'a> ParseBuffer<'a> {
         parser: F,
     ) -> Result<(DelimSpan, T), ParseFault>
         requires { F.IsAlwaysCallable parser }
-        ensures read { IfOk result (λ r. Within (λ i e. FnOnceReturnsAtMut F.FnOnce parser i (Ok r.1) e) delimiter r.0.join self.old self.new) }
-        ensures refused { IfErr result (λ f. WithinRefused (λ i e. FnOnceReturnsAtMut F.FnOnce parser i (Err f) e) delimiter self.old f self.new) }
+        ensures read { IfOk result (λ r.
+            Within (λ i e. FnOnceReturnsAtMut F.FnOnce parser i (Ok r.1) e) delimiter r.0.join self.old self.new) }
+        ensures refused { IfErr result (λ f.
+            WithinRefused (λ i e. FnOnceReturnsAtMut F.FnOnce parser i (Err f) e) delimiter self.old f self.new) }
     {
         let (span, mut content) = match self.parse_group(delimiter) {
             Ok(entered) => entered,

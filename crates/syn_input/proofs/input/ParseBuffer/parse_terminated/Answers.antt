@@ -37,10 +37,14 @@ returns-then-entries_left-before-clause-none g c =
 pub values-preserved : goal.values-preserved
 values-preserved g c =
     let vs = c.push_punct.ensures.values ∙ c.in_ok-push_value.ensures.ok in
-    let ps = c.in_ok-push_punct.ensures.ok ∙ ap (λ qs. qs ++ c.in_ok-separator.separator ∷ []) c.push_value.ensures.separators in
+    let ps = c.in_ok-push_punct.ensures.ok
+    ∙ ap (λ qs. qs ++ c.in_ok-separator.separator ∷ []) c.push_value.ensures.separators in
     record {
-      pairs = pairs_next g.T.Parse.reads g.P.Parse.reads _ _ _ _ _ _ _ _ _ _ vs ps c.values.invariant.pairs c.in_ok-value.ensures.found c.in_ok-separator.ensures.found;
+      pairs = pairs_next g.T.Parse.reads g.P.Parse.reads _ _ _ _ _ _ _ _ _ _ vs ps c.values.invariant.pairs
+          c.in_ok-value.ensures.found c.in_ok-separator.ensures.found;
       even = even_next _ _ _ _ _ _ vs ps c.values.invariant.even;
       noted = c.in_ok-separator.ensures.noted ∙ c.in_ok-value.ensures.noted ∙ c.values.invariant.noted;
-      onward = past_both _ _ _ (past_both _ _ _ c.values.invariant.onward c.parse.ensures.onward) c.parse-in-values.ensures.onward;
+      onward =
+          past_both _ _ _
+          (past_both _ _ _ c.values.invariant.onward c.parse.ensures.onward) c.parse-in-values.ensures.onward;
     }

@@ -7,7 +7,8 @@ use Rattle.syn_input.proofs.input.ParseBuffer.parse_terminated.Given as goal
 
 abbrev pub invariant-values : goal.invariant-values
 invariant-values g l = record {
-  pairs : ReadsPairs g.T.Parse.reads g.P.Parse.reads (rest l.initial.self) (values l.list) (separators l.list) (rest l.self);
+  pairs : ReadsPairs g.T.Parse.reads g.P.Parse.reads (rest l.initial.self) (values l.list) (separators l.list)
+      (rest l.self);
   even : length (values l.list) ≡ length (separators l.list);
   noted : l.self.noted ≡ l.initial.self.noted;
   onward : IsOnward l.initial.self l.self;
