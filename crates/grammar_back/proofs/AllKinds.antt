@@ -11,19 +11,19 @@ use Rattle.syn_grammar.specs.Kind.{ExprForLoop, ExprGroup, ExprIf, ExprIndex, Ex
 use Rattle.syn_grammar.specs.Kind.{ExprLoop, ExprMacro, ExprMatch, ExprOr, ExprParen, ExprPath, ExprProduct}
 use Rattle.syn_grammar.specs.Kind.{ExprRange, ExprRangeClosed, ExprRawAddr, ExprReference, ExprRepeat, ExprReturn}
 use Rattle.syn_grammar.specs.Kind.{ExprShift, ExprStruct, ExprSum, ExprTry, ExprTryBlock, ExprTypedClosure}
-use Rattle.syn_grammar.specs.Kind.{ExprUnary, ExprUnsafe, ExprWhile, ExprYield, FieldPatterns, FieldValues, FnArg}
-use Rattle.syn_grammar.specs.Kind.{FnPtrArg, FnPtrType, GenericParam, GenericParams, Generics, IdentPattern}
-use Rattle.syn_grammar.specs.Kind.{ImplType, InExpression, InFile, InForeign, InImpl, InModule, InTrait, InType}
-use Rattle.syn_grammar.specs.Kind.{Index, InferType, InnerAttribute, InnerAttributes, ItemMacro, Label}
-use Rattle.syn_grammar.specs.Kind.{LifetimeColon, LifetimeParam, Lifetimes, LiteralPattern, Member, Meta}
+use Rattle.syn_grammar.specs.Kind.{ExprUnary, ExprUnsafe, ExprWhile, ExprYield, FieldPattern, FieldPatterns}
+use Rattle.syn_grammar.specs.Kind.{FieldValues, FnArg, FnPtrArg, FnPtrType, GenericParam, GenericParams, Generics}
+use Rattle.syn_grammar.specs.Kind.{IdentPattern, ImplType, InExpression, InFile, InForeign, InImpl, InModule}
+use Rattle.syn_grammar.specs.Kind.{InTrait, InType, Index, InferType, InnerAttribute, InnerAttributes, ItemMacro}
+use Rattle.syn_grammar.specs.Kind.{Label, LifetimeColon, LifetimeParam, Lifetimes, LiteralPattern, Member, Meta}
 use Rattle.syn_grammar.specs.Kind.{NamedField, NamedFields, NeverType, OnePattern, OuterAttribute}
 use Rattle.syn_grammar.specs.Kind.{OuterAttributes, Parameters, ParenthesizedArguments, Path, PathPattern}
 use Rattle.syn_grammar.specs.Kind.{Pattern, PointerType, QualifiedPath, RangeBound, RangeEnd, RangeToPattern}
-use Rattle.syn_grammar.specs.Kind.{Receiver, ReferenceType, RestPattern, ReturnType, Segments, SeveralPatterns}
-use Rattle.syn_grammar.specs.Kind.{Signature, SlicePattern, SomeBounds, TraitPath, TuplePattern, TupleType}
-use Rattle.syn_grammar.specs.Kind.{TypeParam, UnnamedField, UnnamedFields, UseBranch, UseRooted, UseTop, UseTree}
-use Rattle.syn_grammar.specs.Kind.{Variant, Visibility, Where, WhereClause, WherePredicate, WildPattern, WithPlus}
-use Rattle.syn_grammar.specs.Kind.{WithoutPlus}
+use Rattle.syn_grammar.specs.Kind.{Receiver, ReferencePattern, ReferenceType, RestPattern, ReturnType, Segments}
+use Rattle.syn_grammar.specs.Kind.{SeveralPatterns, Signature, SlicePattern, SomeBounds, TraitPath, TuplePattern}
+use Rattle.syn_grammar.specs.Kind.{TupleType, TypeParam, UnnamedField, UnnamedFields, UseBranch, UseRooted}
+use Rattle.syn_grammar.specs.Kind.{UseTop, UseTree, Variant, Visibility, Where, WhereClause, WherePredicate}
+use Rattle.syn_grammar.specs.Kind.{WildPattern, WithPlus, WithoutPlus}
 use Rattle.syn_grammar.specs.Kept.{held}
 use Rattle.syn_grammar.specs.Normal.{passed, place_of}
 use Rattle.syn_grammar.specs.Table.{table}
@@ -37,6 +37,7 @@ use Rattle.grammar_back.proofs.KindLaws.{law_several, law_outer, law_inner, law_
 use Rattle.grammar_back.proofs.KindLaws.{law_generic_params, law_lifetime_colon, law_bounds_colon, law_where}
 use Rattle.grammar_back.proofs.KindLaws.{law_unnamed_field, law_variant, law_const, law_trait_type, law_impl_type}
 use Rattle.grammar_back.proofs.Alternatives.{law_one_pattern}
+use Rattle.grammar_back.proofs.References.{law_reference_pattern}
 use Rattle.grammar_back.proofs.Elements.{law_field_patterns, law_parameters, law_fn_arg, law_field_values}
 use Rattle.grammar_back.proofs.Defaults.{law_const_param}
 use Rattle.grammar_back.proofs.Predicates.{law_where_predicate}
@@ -63,8 +64,9 @@ use Rattle.grammar_back.proofs.StepsOfPatterns.{step_pattern, step_several_patte
 use Rattle.grammar_back.proofs.StepsOfPatterns.{step_wild_pattern, step_range_to_pattern, step_rest_pattern}
 use Rattle.grammar_back.proofs.StepsOfPatterns.{step_tuple_pattern, step_slice_pattern, step_literal_pattern}
 use Rattle.grammar_back.proofs.StepsOfPatterns.{step_path_pattern, step_range_end, step_range_bound}
-use Rattle.grammar_back.proofs.StepsOfPatterns.{step_field_patterns}
+use Rattle.grammar_back.proofs.StepsOfPatterns.{step_field_patterns, step_field_pattern}
 use Rattle.grammar_back.proofs.Alternatives.{step_one_pattern}
+use Rattle.grammar_back.proofs.References.{step_reference_pattern}
 use Rattle.grammar_back.proofs.StepsOfAttributes.{step_outer_attributes, step_outer_attribute}
 use Rattle.grammar_back.proofs.StepsOfAttributes.{step_inner_attributes, step_inner_attribute}
 use Rattle.grammar_back.proofs.ValueSteps.{step_meta, step_a_const}
@@ -159,11 +161,13 @@ steps RangeToPattern e = step_range_to_pattern
 steps RestPattern e = step_rest_pattern
 steps TuplePattern e = step_tuple_pattern
 steps SlicePattern e = step_slice_pattern
+steps ReferencePattern e = step_reference_pattern
 steps LiteralPattern e = step_literal_pattern
 steps PathPattern e = step_path_pattern
 steps RangeEnd e = step_range_end
 steps RangeBound e = step_range_bound
 steps FieldPatterns e = step_field_patterns
+steps FieldPattern e = step_field_pattern
 steps OuterAttributes e = step_outer_attributes
 steps OuterAttribute e = step_outer_attribute
 steps InnerAttributes e = step_inner_attributes
@@ -340,11 +344,13 @@ laws RangeToPattern e = simple_kind RangeToPattern refl (λ x. tt) (λ x. refl) 
 laws RestPattern e = simple_kind RestPattern refl (λ x. tt) (λ x. refl) (λ x. refl) (λ q. refl) (λ q. refl) refl
 laws TuplePattern e = simple_kind TuplePattern refl (λ x. tt) (λ x. refl) (λ x. refl) (λ q. refl) (λ q. refl) refl
 laws SlicePattern e = simple_kind SlicePattern refl (λ x. tt) (λ x. refl) (λ x. refl) (λ q. refl) (λ q. refl) refl
+laws ReferencePattern e = law_reference_pattern
 laws LiteralPattern e = simple_kind LiteralPattern refl (λ x. tt) (λ x. refl) (λ x. refl) (λ q. refl) (λ q. refl) refl
 laws PathPattern e = simple_kind PathPattern refl (λ x. tt) (λ x. refl) (λ x. refl) (λ q. refl) (λ q. refl) refl
 laws RangeEnd e = simple_kind RangeEnd refl (λ x. tt) (λ x. refl) (λ x. refl) (λ q. refl) (λ q. refl) refl
 laws RangeBound e = simple_kind RangeBound refl (λ x. tt) (λ x. refl) (λ x. refl) (λ q. refl) (λ q. refl) refl
 laws FieldPatterns e = law_field_patterns
+laws FieldPattern e = simple_kind FieldPattern refl (λ x. tt) (λ x. refl) (λ x. refl) (λ q. refl) (λ q. refl) refl
 laws OuterAttributes e = law_outer
 laws OuterAttribute e = simple_kind OuterAttribute refl (λ x. tt) (λ x. refl) (λ x. refl) (λ q. refl) (λ q. refl) refl
 laws InnerAttributes e = law_inner

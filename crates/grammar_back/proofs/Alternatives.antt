@@ -54,7 +54,7 @@ bound_stands = at "ref" or at "mut" or binding
 abbrev pub goes_on : Look
 goes_on = marks "::" or parenthesis or brace or marks ".."
 
-none_of : (o p : Option (List Token)) → seen o ≡ false → seen p ≡ false → seen (first_seen o p) ≡ false
+pub none_of : (o p : Option (List Token)) → seen o ≡ false → seen p ≡ false → seen (first_seen o p) ≡ false
 none_of None p e f = f
 none_of (Some us) p e f = e
 
@@ -62,7 +62,7 @@ second_seen : (o p : Option (List Token)) → seen p ≡ true → seen (first_se
 second_seen (Some us) p e = refl
 second_seen None p e = e
 
-first_of : (o p : Option (List Token)) → seen o ≡ true → seen (first_seen o p) ≡ true
+pub first_of : (o p : Option (List Token)) → seen o ≡ true → seen (first_seen o p) ≡ true
 first_of (Some us) p e = refl
 first_of None p e = cc
 
@@ -86,7 +86,7 @@ no_bound ts e f g =
 no_word : (ts : List Token) → ((p : List ℕ → Bool) → Lacks (a_word p) ts) → Lacks bound_stands ts
 no_word ts h = no_bound ts (h _) (h _) (past_none is_ident (no goes_on) ts (h is_ident))
 
-other_word : (v w : List ℕ) (ts : List Token) → same_text v w ≡ false → sees (the_word w) ts ≡ true
+pub other_word : (v w : List ℕ) (ts : List Token) → same_text v w ≡ false → sees (the_word w) ts ≡ true
     → Lacks (the_word v) ts
 other_word v w (Ident cs ∷ us) n e = go (same_text w cs) refl
   where

@@ -3,10 +3,11 @@
 -- Its kinds are covered. An expression in it is in normal form where it stands, the own part of each of its forms fits
 -- the entry of the form's kind, and no number in it is to be split.
 use Rattle.std.proofs.Common.{◌≡◌, List, [], ◌∷◌, ◌++◌, refl, sym, ap, ◌∙◌}
-use Rattle.std.specs.Prelude.{Bool, true, false, not, ◌||◌}
+use Rattle.std.specs.Prelude.{Bool, true, false, not, ◌||◌, ◌&&◌}
 use Rattle.proc_macro2.specs.Token.{Token, Opens, Closes, Punct}
 use Rattle.rust_leaf.specs.declared.punct.Spacing.TheVariants.{Alone as Apart}
-use Rattle.syn_grammar.specs.Kind.{Kind, Position, DynType, ImplType, WithoutPlus, OnePattern, InExpression, Segments}
+use Rattle.syn_grammar.specs.Kind.{Kind, Position, DynType, ImplType, WithoutPlus, OnePattern, IdentPattern}
+use Rattle.syn_grammar.specs.Kind.{ReferencePattern, InExpression, Segments}
 use Rattle.syn_grammar.specs.Kind.{FnPtrType, WherePredicate}
 use Rattle.syn_grammar.specs.Kind.{AConst, UnnamedField, Meta}
 use Rattle.syn_grammar.specs.Kind.{Expression}
@@ -67,12 +68,30 @@ abbrev pub has_turbofish : Tree → Bool
 has_turbofish (Second (Pair n (First x))) = is_there (front (inner (front x)))
 has_turbofish _ = true
 
+-- a pattern begins with the mut of a name; behind & stands a mut, or the pattern begins with none
+abbrev pub is_mut_name : Tree → Bool
+is_mut_name (Node IdentPattern (Pair r (Pair m y))) = not (is_there r) && is_there m
+is_mut_name _ = false
+
+abbrev pub is_mut : Tree → Bool
+is_mut (Node k x) = is_mut_name (choice x)
+is_mut _ = false
+
+abbrev pub is_own_mut : Tree → Bool
+is_own_mut (Pair o p) = is_there o || not (is_mut p)
+is_own_mut _ = true
+
+abbrev pub has_own_mut : Tree → Bool
+has_own_mut (Pair u y) = is_own_mut y
+has_own_mut _ = true
+
 -- what the tests say of what a kind holds, where its entry's shape doesn't
 abbrev pub IsMeant : Kind → Tree → Type 0
 IsMeant (DynType WithoutPlus) x = has_path_bound x ≡ true
 IsMeant (ImplType WithoutPlus) x = has_path_bound x ≡ true
 IsMeant WherePredicate x = has_own_for x ≡ true
 IsMeant (Segments InExpression) x = has_turbofish x ≡ true
+IsMeant ReferencePattern x = has_own_mut x ≡ true
 IsMeant OnePattern x = is_lone (choice x) ≡ false
 IsMeant UnnamedField x = has_clear_type x ≡ true
 IsMeant AConst x = has_lone_value x ≡ true

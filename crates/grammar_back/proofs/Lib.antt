@@ -9,6 +9,7 @@ pub mod Fine
 pub mod Parts
 pub mod Sights
 pub mod Passed
+pub mod FieldNames
 pub mod Params
 pub mod Keywords
 pub mod Printed
@@ -24,6 +25,7 @@ pub mod Verdicts
 pub mod HandSteps
 pub mod ValueSteps
 pub mod Alternatives
+pub mod References
 pub mod Turbofish
 pub mod Predicates
 pub mod Fields

@@ -1,25 +1,28 @@
 -- The steps of patterns, of those that go by first tokens alone. Written by tools/steps.py, from the entries.
 use Rattle.grammar_back.proofs.Classes.{◌&◌}
+use Rattle.grammar_back.proofs.FieldNames.{member_seen, no_member_seen}
 use Rattle.grammar_back.proofs.Keywords.{reserved_big_self, reserved_crate, reserved_false, reserved_mut}
 use Rattle.grammar_back.proofs.Keywords.{reserved_ref, reserved_self, reserved_super, reserved_true}
-use Rattle.grammar_back.proofs.Parts.{found_alt, found_before, found_group, found_judged, found_literal}
-use Rattle.grammar_back.proofs.Parts.{found_mark, found_never, found_optional, found_ref, found_seq}
-use Rattle.grammar_back.proofs.Parts.{found_signs_then, found_star, found_step, found_text, found_to_end}
-use Rattle.grammar_back.proofs.Parts.{found_word, found_words, maybe_alt, maybe_seq, weaken}
+use Rattle.grammar_back.proofs.Parts.{found_alt, found_alt_by, found_before, found_called, found_group}
+use Rattle.grammar_back.proofs.Parts.{found_judged, found_literal, found_mark, found_never, found_optional}
+use Rattle.grammar_back.proofs.Parts.{found_ref, found_seq, found_signs_then, found_star, found_step, found_text}
+use Rattle.grammar_back.proofs.Parts.{found_to_end, found_word, found_words, maybe_alt, maybe_ref, maybe_seq}
+use Rattle.grammar_back.proofs.Parts.{weaken}
 use Rattle.grammar_back.proofs.Readies.{Step}
 use Rattle.grammar_back.proofs.Sights.{ident_not}
 use Rattle.std.specs.Prelude.{codes, refl, [], ◌∷◌}
 use Rattle.syn_grammar.specs.Kind.{AnyPath, FieldPattern, FieldPatterns, IdentPattern, InExpression}
-use Rattle.syn_grammar.specs.Kind.{LiteralPattern, OnePattern, PathPattern, Pattern, RangeBound, RangeEnd}
-use Rattle.syn_grammar.specs.Kind.{RangeToPattern, RestPattern, SeveralPatterns, SlicePattern, TuplePattern}
-use Rattle.syn_grammar.specs.Kind.{WildPattern}
-use Rattle.syn_grammar.specs.Look.{a_literal, a_quoted, ◌or◌}
+use Rattle.syn_grammar.specs.Kind.{LiteralPattern, Member, OnePattern, OuterAttributes, PathPattern, Pattern}
+use Rattle.syn_grammar.specs.Kind.{RangeBound, RangeEnd, RangeToPattern, RestPattern, SeveralPatterns}
+use Rattle.syn_grammar.specs.Kind.{SlicePattern, TuplePattern, WildPattern}
+use Rattle.syn_grammar.specs.Look.{an_ident, a_literal, a_quoted, ◌then◌, ◌or◌}
 use Rattle.syn_grammar.specs.Paths.{arguments_stand}
 use Rattle.syn_grammar.specs.Patterns.{vert, range_bound_stands, range_end_stands}
 use Rattle.syn_grammar.specs.Ranks.{skips}
 use Rattle.syn_grammar.specs.Say.{at, marks, parenthesis, brace}
 use Rattle.syn_grammar.specs.Table.{table}
-use Rattle.syn_grammar.specs.Words.{is_ident, any_text, is_number, is_name, is_path_keyword, is_plain_name, is_bool}
+use Rattle.syn_grammar.specs.Words.{is_ident, is_index, any_text, is_number, is_name, is_path_keyword}
+use Rattle.syn_grammar.specs.Words.{is_plain_name, is_bool}
 
 pub step_pattern : Step Pattern
 unfolding table skips is_path_keyword is_plain_name is_bool is_name
@@ -233,5 +236,72 @@ unfolding table skips is_path_keyword is_plain_name is_bool is_name
 step_field_patterns = found_step FieldPatterns refl refl
     (found_judged (found_group
     (found_to_end (found_ref FieldPattern refl) (search)
-    (λ ts. (refl, (refl, (refl, (refl, (refl, (refl, (refl, (refl, (refl, (refl, tt)))))))))))
-    (refl, (refl, (refl, (refl, (refl, (refl, (refl, (refl, (refl, (refl, tt)))))))))))))
+    (λ ts. (refl, (refl, (refl, (refl, (refl, (refl, (refl, (refl, (refl, (refl, (refl, tt))))))))))))
+    (refl, (refl, (refl, (refl, (refl, (refl, (refl, (refl, (refl, (refl, (refl, tt))))))))))))))
+
+pub step_field_pattern : Step FieldPattern
+unfolding table skips is_path_keyword is_plain_name is_bool is_name
+step_field_pattern = found_step FieldPattern refl refl
+    (weaken (vert ∷ (marks ":") ∷ (marks "..") ∷ (marks "!") ∷ (marks "@") ∷ range_end_stands ∷ parenthesis ∷ brace ∷
+    (marks "::") ∷ (arguments_stand InExpression) ∷ range_bound_stands ∷ [])
+    (maybe_seq (maybe_ref OuterAttributes refl)
+    (found_alt (marks "..")
+    (weaken (vert ∷ (marks "..") ∷ (marks "!") ∷ (marks "@") ∷ range_end_stands ∷ parenthesis ∷ brace ∷ (marks "::")
+    ∷ (arguments_stand InExpression) ∷ range_bound_stands ∷ (marks ":") ∷ [])
+    (found_called (found_ref RestPattern refl)) (λ s a. tt))
+    (found_alt_by ((an_ident or a_quoted is_index) then marks ":")
+    (weaken (vert ∷ (marks "..") ∷ (marks "!") ∷ (marks "@") ∷ range_end_stands ∷ parenthesis ∷ brace ∷ (marks "::")
+    ∷ (arguments_stand InExpression) ∷ range_bound_stands ∷ (marks ":") ∷ [])
+    (found_seq (found_ref Member refl) (found_seq found_mark (found_ref Pattern refl) tt) tt)
+    (λ s a. (
+      a.0,
+      (
+        a.1.0,
+        (
+          a.1.1.0,
+          (
+            a.1.1.1.0,
+            (
+              a.1.1.1.1.0,
+              (
+                a.1.1.1.1.1.0,
+                (a.1.1.1.1.1.1.0, (a.1.1.1.1.1.1.1.0, (a.1.1.1.1.1.1.1.1.0, (a.1.1.1.1.1.1.1.1.1.0, tt)))),
+              ),
+            ),
+          ),
+        ),
+      ),
+    )))
+    (weaken (vert ∷ (marks "..") ∷ (marks "!") ∷ (marks "@") ∷ range_end_stands ∷ parenthesis ∷ brace ∷ (marks "::")
+    ∷ (arguments_stand InExpression) ∷ range_bound_stands ∷ (marks ":") ∷ [])
+    (maybe_seq (found_optional (at "ref") (found_text "ref") (λ us. refl, tt))
+    (maybe_seq (found_optional (at "mut") (found_text "mut") (λ us. refl, tt)) (found_word is_ident)
+    (((λ cs h us. simp (ident_not (codes "mut") cs reserved_mut h) refl) & tt), tt))
+    (((λ us. refl) & (λ cs h us. simp (ident_not (codes "ref") cs reserved_ref h) refl) & tt), tt)) (λ s a. tt))
+    (λ x s d c. member_seen x s d) (λ x s d c. no_member_seen x s d c.1.1.1.1.1.1.1.1.1.1.0)) (λ us. refl, tt)
+    (search)) ((search), tt))
+    (λ s a. (
+      a.0,
+      (
+        a.1.1.0,
+        (
+          a.1.1.1.0,
+          (
+            a.1.1.1.1.0,
+            (
+              a.1.1.1.1.1.0,
+              (
+                a.1.1.1.1.1.1.0,
+                (
+                  a.1.1.1.1.1.1.1.0,
+                  (
+                    a.1.1.1.1.1.1.1.1.0,
+                    (a.1.1.1.1.1.1.1.1.1.0, (a.1.1.1.1.1.1.1.1.1.1.0, (a.1.0, tt))),
+                  ),
+                ),
+              ),
+            ),
+          ),
+        ),
+      ),
+    )))

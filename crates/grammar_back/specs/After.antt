@@ -94,8 +94,8 @@ behind PathPattern = parenthesis ∷ brace ∷ range_end_stands ∷ marks "::" �
     range_bound_stands ∷ []
 behind RangeEnd = range_bound_stands ∷ marks "::" ∷ arguments_stand InExpression ∷ []
 behind RangeBound = marks "::" ∷ arguments_stand InExpression ∷ []
-behind FieldPattern = vert ∷ marks ".." ∷ marks "!" ∷ marks "@" ∷ range_end_stands ∷ parenthesis ∷ brace ∷ marks "::"
-    ∷ arguments_stand InExpression ∷ range_bound_stands ∷ []
+behind FieldPattern = vert ∷ marks ":" ∷ marks ".." ∷ marks "!" ∷ marks "@" ∷ range_end_stands ∷ parenthesis ∷ brace
+    ∷ marks "::" ∷ arguments_stand InExpression ∷ range_bound_stands ∷ []
 behind OuterAttributes = marks "#" ∷ []
 behind InnerAttributes = (marks "#" then marks "!") ∷ []
 behind Meta = (parenthesis or brace or bracket) ∷ marks "=" ∷ no (the_end or marks "," or marks ";" or marks "=>") ∷
