@@ -1,0 +1,36 @@
+//! Lists that grow, are copied and are read, and errors that are put together, one behind the other, and whether each
+//! call left what it had to where its growth was refused. `tests/refused.sh` runs it once for each allocation, refusing
+//! that one.
+//!
+//! - `lists`: lists that are built, extended and copied.
+//! - `reading`: lists that are read.
+//! - `errors`: errors that are extended, copied and gone over.
+#![tactic(auto)]
+
+mod errors;
+mod lists;
+mod reading;
+
+use std::io::Write;
+use std::process::ExitCode;
+use stops::{Stop, ended};
+
+fn run(rt: &HostRuntime) -> Result<(), Stop> {
+    let mut answer = String::new(rt.alloc());
+    answer.push_str(lists::put_behind(rt.alloc())?.as_str())?;
+    answer.push_str(lists::inserted(rt.alloc())?.as_str())?;
+    answer.push_str(lists::extended(rt.alloc())?.as_str())?;
+    answer.push_str(lists::extended_by_pairs(rt.alloc())?.as_str())?;
+    answer.push_str(lists::collected(rt.alloc())?.as_str())?;
+    answer.push_str(lists::copied(rt.alloc())?.as_str())?;
+    answer.push_str(reading::lists(rt.alloc())?.as_str())?;
+    answer.push_str(errors::extended(rt.alloc())?.as_str())?;
+    answer.push_str(errors::copied(rt.alloc())?.as_str())?;
+    let written = rt.stdout().write_all(answer.as_bytes());
+    written.map_err(|_| Stop::Elsewhere)
+}
+
+/// Ends as `stops` says.
+fn main(rt: HostRuntime) -> ExitCode {
+    ended(run(&rt))
+}
