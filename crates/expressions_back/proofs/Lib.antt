@@ -11,5 +11,6 @@ pub mod Owns
 pub mod Names
 pub mod Prefixes
 pub mod Dots
+pub mod Jumps
 pub mod Simples
 pub mod Examples

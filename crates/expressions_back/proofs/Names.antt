@@ -7,7 +7,7 @@ use Rattle.rust_leaf.specs.declared.punct.Spacing.TheVariants.{Alone as Apart, J
 use Rattle.syn_grammar.specs.Kind.{Position, Plain, InCondition, InArm, InStatement, ExprPath}
 use Rattle.syn_grammar.specs.Words.{same_text, is_bool, is_name, is_plain_name, is_path_keyword, is_reserved, is_ident}
 use Rattle.syn_grammar.specs.Tree.{flat}
-use Rattle.syn_grammar.specs.Look.{Look, seen, sees, behind, first_seen, the_mark}
+use Rattle.syn_grammar.specs.Look.{a_lifetime, Look, seen, sees, behind, first_seen, the_mark}
 use Rattle.syn_grammar.specs.Look.{a_name, a_path, repeatedly, as_far, ◌then◌, ◌or◌, no}
 use Rattle.syn_grammar.specs.Say.{at, marks}
 use Rattle.syn_grammar.specs.Forms.{Case, form, first_form, fronts, front, closure_stands, typed_closure_stands}
@@ -32,6 +32,7 @@ off w e cs h = go (same_text w cs) refl
 -- what is not seen at an end
 pub record End (ts : List Token) : Type 0 where
   pub colon : sees (marks ":") ts ≡ false
+  pub lifetime : sees a_lifetime ts ≡ false
   bang : sees (no (marks "!=") then marks "!") ts ≡ false
   const : sees (at "const") ts ≡ false
   mut : sees (at "mut") ts ≡ false
@@ -41,10 +42,10 @@ end ts e =
     let a = or_parts (marks ":" ts) _ e in
     let b = or_parts ((no (marks "!=") then marks "!") ts) _ a.1 in
     let c = or_parts (marks "->" ts) _ b.1 in
-    let d = or_parts _ _ c.1 in
+    let d = or_parts (a_lifetime ts) _ c.1 in
     let f = or_parts (at "else" ts) _ d.1 in
     let g = or_parts (at "const" ts) (at "mut" ts) f.1 in
-    record { colon = a.0; bang = b.0; const = g.0; mut = g.1 }
+    record { colon = a.0; lifetime = d.0; bang = b.0; const = g.0; mut = g.1 }
 
 not_seen : (b : Bool) (ts : List Token) (o : Option (List Token)) → seen (cond b (Some ts) None) ≡ false
     → cond b o None ≡ None

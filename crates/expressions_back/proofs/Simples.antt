@@ -2,14 +2,16 @@
 use Rattle.std.proofs.Common.{◌≡◌, refl, sym, ap, ◌∙◌, subst, inl, inr}
 use Rattle.std.specs.Prelude.{Bool, true, false, ◌&&◌, ◌||◌, ◌⊎◌}
 use Rattle.syn_grammar.specs.Kind.{Kind, ExprPath, ExprRawAddr, ExprReference, ExprStruct, ExprAttributed}
-use Rattle.syn_grammar.specs.Kind.{ExprAwait, ExprField}
+use Rattle.syn_grammar.specs.Kind.{ExprAwait, ExprBreak, ExprField}
 use Rattle.syn_grammar.specs.Tree.{Tree, Alone, Front, Back, Infix}
 use Rattle.syn_grammar.specs.Normal.{normal}
 use Rattle.syn_grammar.specs.Parens.{is_struct}
 use Rattle.expressions_back.specs.Behind.{AtEnd, BeforeOperand, BehindOperand, is_attributed}
 use Rattle.expressions_back.specs.Firm.{is_firm_front, is_firm_behind, IsOwn}
 use Rattle.expressions_back.specs.Formed.{IsFront, IsBehind, Formed, is_attributed_form}
-use Rattle.expressions_back.specs.Simple.{IsName, IsDotted, lone_await, lone_field, lone_number, is_reference}
+use Rattle.expressions_back.specs.Simple.{IsName, IsDotted, lone_await, lone_field, lone_number, is_break}
+use Rattle.expressions_back.specs.Simple.{is_reference}
+use Rattle.expressions_back.proofs.Jumps.{break_end, break_operand}
 use Rattle.expressions_back.specs.Simple.{IsSimple}
 use Rattle.expressions_back.proofs.Dots.{await_behind, field_behind, number_behind}
 use Rattle.syn_grammar.specs.Words.{is_ident, are_indices, ends_in_dot}
@@ -18,26 +20,40 @@ use Rattle.expressions_back.proofs.Owns.{front_part, behind_part}
 use Rattle.expressions_back.proofs.Prefixes.{reference_front, address_front}
 use Rattle.expressions_back.proofs.Bools.{never}
 
-alone_front : (k : Kind) (y : Tree) → ((is_firm_front k ≡ true) × IsOwn k y) ⊎ IsName k y → IsFront AtEnd k y
-alone_front k y (inl o) = front_part AtEnd k y o.0 o.1
+break_part : (k : Kind) (y : Tree) → is_break k ≡ true → IsOwn k y → IsFront AtEnd k y
+break_part ExprBreak y e o = break_end y o
+break_part _ y e o = absurd (never e)
+
+end_front : (k : Kind) (y : Tree) → (is_firm_front k || is_break k) ≡ true → IsOwn k y → IsFront AtEnd k y
+end_front k y e o = go (is_firm_front k) refl e
+  where
+    go : (b : Bool) → is_firm_front k ≡ b → (b || is_break k) ≡ true → IsFront AtEnd k y
+    go true f e = front_part AtEnd k y f o
+    go false f e = break_part k y e o
+
+alone_front : (k : Kind) (y : Tree) → (((is_firm_front k || is_break k) ≡ true) × IsOwn k y) ⊎ IsName k y
+    → IsFront AtEnd k y
+alone_front k y (inl o) = end_front k y o.0 o.1
 alone_front k y (inr n) =
     subst (λ j. IsFront AtEnd j y) (sym n.0)
     (subst (λ z. IsFront AtEnd ExprPath z) (sym n.3) (name_front n.1 n.2))
 
-reference_part : (k : Kind) (y : Tree) → is_reference k ≡ true → IsOwn k y → IsFront (BeforeOperand k y) k y
+reference_part : (k : Kind) (y : Tree) → (is_break k || is_reference k) ≡ true → IsOwn k y
+    → IsFront (BeforeOperand k y) k y
+reference_part ExprBreak y e o = break_operand y o
 reference_part ExprReference y e o = reference_front y o
 reference_part ExprRawAddr y e o = address_front (BeforeOperand ExprRawAddr y) y o
 reference_part _ y e o = absurd (never e)
 
-prefix_front : (k : Kind) (y : Tree) → (is_firm_front k || is_reference k) ≡ true → IsOwn k y
+prefix_front : (k : Kind) (y : Tree) → (is_firm_front k || is_break k || is_reference k) ≡ true → IsOwn k y
     → IsFront (BeforeOperand k y) k y
 prefix_front k y e o = go (is_firm_front k) refl e
   where
-    go : (b : Bool) → is_firm_front k ≡ b → (b || is_reference k) ≡ true → IsFront (BeforeOperand k y) k y
+    go : (b : Bool) → is_firm_front k ≡ b → (b || is_break k || is_reference k) ≡ true → IsFront (BeforeOperand k y) k y
     go true f e = front_part (BeforeOperand k y) k y f o
     go false f e = reference_part k y e o
 
-prefix_plain : (k : Kind) (x : Tree) → (is_firm_front k || is_reference k) ≡ true
+prefix_plain : (k : Kind) (x : Tree) → (is_firm_front k || is_break k || is_reference k) ≡ true
     → (is_attributed k && is_attributed_form x) ≡ false
 prefix_plain ExprAttributed x e = absurd (never e)
 prefix_plain _ x e = refl

@@ -3,7 +3,7 @@
 use Rattle.std.specs.Prelude.{◌≡◌, ◌⊎◌, ℕ, Bool, true, false, ◌||◌, List, [], codes}
 use Rattle.rust_leaf.specs.declared.punct.Spacing.TheVariants.{Alone as Apart}
 use Rattle.syn_grammar.specs.Kind.{Kind, InExpression, AnyPath, Path, Segments, ExprPath, ExprRawAddr, ExprReference}
-use Rattle.syn_grammar.specs.Kind.{ExprAwait, ExprField}
+use Rattle.syn_grammar.specs.Kind.{ExprAwait, ExprBreak, ExprField}
 use Rattle.syn_grammar.specs.Name.{the_name, the_value, the_indices}
 use Rattle.syn_grammar.specs.Words.{is_ident, is_plain_name, are_indices, ends_in_dot}
 use Rattle.syn_grammar.specs.Tree.{Tree, AWord, ALiteral, AMark, Nil, Pair, First, Second, End, Called, Node, Alone}
@@ -40,6 +40,11 @@ IsDotted k y =
     × (((is_ident cs ≡ true) × (y ≡ lone_field cs))
     ⊎ ((are_indices cs ≡ true) × (ends_in_dot cs ≡ false) × (y ≡ lone_number cs))))
 
+-- break, with a label or without
+abbrev pub is_break : Kind → Bool
+is_break ExprBreak = true
+is_break k = false
+
 -- & and &mut, &raw const and &raw mut
 abbrev pub is_reference : Kind → Bool
 is_reference ExprReference = true
@@ -48,9 +53,11 @@ is_reference k = false
 
 abbrev pub IsSimple : Tree → Type 0
 IsSimple (Alone k y) =
-    (((is_firm_front k ≡ true) × IsOwn k (normal y)) ⊎ IsName k (normal y)) × (may_lack_operand k ≡ true)
+    ((((is_firm_front k || is_break k) ≡ true) × IsOwn k (normal y)) ⊎ IsName k (normal y))
+    × (may_lack_operand k ≡ true)
 IsSimple (Front k y x) =
-    ((is_firm_front k || is_reference k) ≡ true) × IsOwn k (normal y) × (may_have_operand k ≡ true) × IsSimple x
+    ((is_firm_front k || is_break k || is_reference k) ≡ true) × IsOwn k (normal y) × (may_have_operand k ≡ true)
+    × IsSimple x
 IsSimple (Back l k y) =
     (((is_firm_behind k ≡ true) × IsOwn k (normal y)) ⊎ IsDotted k (normal y)) × (may_lack_operand k ≡ true)
     × IsSimple l

@@ -9,8 +9,8 @@
 //!
 //! `specs/Firm` has the kinds of own parts that nothing behind them changes: by `Signs` (punctuations) and `Owns` they
 //! are read wherever their forms may stand, if they are read by themselves. `specs/Simple` has the expressions of such
-//! forms, of references, of names and of fields: by `Names`, `Prefixes`, `Dots` and `Simples` they are formed.
-//! `Examples` has one.
+//! forms, of references, of `break`, of names and of fields: by `Names`, `Prefixes`, `Dots`, `Jumps` and `Simples` they
+//! are formed. `Examples` has one.
 //!
 //! - `laws`: the laws.
 #![tactic(auto)]
