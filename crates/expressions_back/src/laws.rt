@@ -12,7 +12,9 @@ ghost use Rattle.syn_grammar.specs.Kind.{Expression, Kind, Position};
 ghost use Rattle.syn_grammar.specs.Normal.{normal_in};
 ghost use Rattle.syn_grammar.specs.Tree.{flat, Node, Tree, Whole};
 
-/// The tokens of the normal form of a formed expression are read back as it, in its place, before all that may follow.
+/// The tokens of the normal form of a formed expression are read back as it, in its place: before a brace behind a
+/// condition, and else before what begins no operand and goes on with none. (That a form which ends a statement or an
+/// arm by itself may stand before anything else is not said.)
 pub fn read_back()
     ensures { (p : Position) (x : Tree) (rest : List Token) → Formed x → MayFollow p rest
         → Derives (normal_in p (Node (Expression p) (Whole x))) (ref (Expression p)) rest }
