@@ -12,18 +12,18 @@ use Rattle.syn_grammar.specs.Kind.{ExprLoop, ExprMacro, ExprMatch, ExprOr, ExprP
 use Rattle.syn_grammar.specs.Kind.{ExprRange, ExprRangeClosed, ExprRawAddr, ExprReference, ExprRepeat, ExprReturn}
 use Rattle.syn_grammar.specs.Kind.{ExprShift, ExprStruct, ExprSum, ExprTry, ExprTryBlock, ExprTypedClosure}
 use Rattle.syn_grammar.specs.Kind.{ExprUnary, ExprUnsafe, ExprWhile, ExprYield, FieldPattern, FieldPatterns}
-use Rattle.syn_grammar.specs.Kind.{FieldValues, FnArg, FnPtrArg, FnPtrType, GenericParam, GenericParams, Generics}
-use Rattle.syn_grammar.specs.Kind.{IdentPattern, ImplType, InExpression, InFile, InForeign, InImpl, InModule}
-use Rattle.syn_grammar.specs.Kind.{InTrait, InType, Index, InferType, InnerAttribute, InnerAttributes, ItemMacro}
-use Rattle.syn_grammar.specs.Kind.{Label, LifetimeColon, LifetimeParam, Lifetimes, LiteralPattern, Member, Meta}
-use Rattle.syn_grammar.specs.Kind.{NamedField, NamedFields, NeverType, OnePattern, OuterAttribute}
-use Rattle.syn_grammar.specs.Kind.{OuterAttributes, Parameters, ParenthesizedArguments, Path, PathPattern}
-use Rattle.syn_grammar.specs.Kind.{Pattern, PointerType, QualifiedPath, RangeBound, RangeEnd, RangeToPattern}
-use Rattle.syn_grammar.specs.Kind.{Receiver, ReferencePattern, ReferenceType, RestPattern, ReturnType, Segments}
-use Rattle.syn_grammar.specs.Kind.{SeveralPatterns, Signature, SlicePattern, SomeBounds, TraitPath, TuplePattern}
-use Rattle.syn_grammar.specs.Kind.{TupleType, TypeParam, UnnamedField, UnnamedFields, UseBranch, UseRooted}
-use Rattle.syn_grammar.specs.Kind.{UseTop, UseTree, Variant, Visibility, Where, WhereClause, WherePredicate}
-use Rattle.syn_grammar.specs.Kind.{WildPattern, WithPlus, WithoutPlus}
+use Rattle.syn_grammar.specs.Kind.{FieldValue, FieldValues, FnArg, FnPtrArg, FnPtrType, GenericParam}
+use Rattle.syn_grammar.specs.Kind.{GenericParams, Generics, IdentPattern, ImplType, InExpression, InFile}
+use Rattle.syn_grammar.specs.Kind.{InForeign, InImpl, InModule, InTrait, InType, Index, InferType, InnerAttribute}
+use Rattle.syn_grammar.specs.Kind.{InnerAttributes, ItemMacro, Label, LifetimeColon, LifetimeParam, Lifetimes}
+use Rattle.syn_grammar.specs.Kind.{LiteralPattern, Member, Meta, NamedField, NamedFields, NeverType, OnePattern}
+use Rattle.syn_grammar.specs.Kind.{OuterAttribute, OuterAttributes, Parameters, ParenthesizedArguments, Path}
+use Rattle.syn_grammar.specs.Kind.{PathPattern, Pattern, PointerType, QualifiedPath, RangeBound, RangeEnd}
+use Rattle.syn_grammar.specs.Kind.{RangeToPattern, Receiver, ReferencePattern, ReferenceType, RestPattern}
+use Rattle.syn_grammar.specs.Kind.{ReturnType, Segments, SeveralPatterns, Signature, SlicePattern, SomeBounds}
+use Rattle.syn_grammar.specs.Kind.{TraitPath, TuplePattern, TupleType, TypeParam, UnnamedField, UnnamedFields}
+use Rattle.syn_grammar.specs.Kind.{UseBranch, UseRooted, UseTop, UseTree, Variant, Visibility, Where, WhereClause}
+use Rattle.syn_grammar.specs.Kind.{WherePredicate, WildPattern, WithPlus, WithoutPlus}
 use Rattle.syn_grammar.specs.Kept.{held}
 use Rattle.syn_grammar.specs.Normal.{passed, place_of}
 use Rattle.syn_grammar.specs.Table.{table}
@@ -102,7 +102,7 @@ use Rattle.grammar_back.proofs.StepsOfExpressions.{step_expr_range, step_expr_ra
 use Rattle.grammar_back.proofs.StepsOfExpressions.{step_expr_or, step_expr_and, step_expr_compare}
 use Rattle.grammar_back.proofs.StepsOfExpressions.{step_expr_bit_or, step_expr_bit_xor, step_expr_bit_and}
 use Rattle.grammar_back.proofs.StepsOfExpressions.{step_expr_shift, step_expr_sum, step_expr_product}
-use Rattle.grammar_back.proofs.StepsOfExpressions.{step_field_values, step_closure_param}
+use Rattle.grammar_back.proofs.StepsOfExpressions.{step_field_values, step_field_value, step_closure_param}
 
 pub steps : (k : Kind) → has_step k ≡ true → Step k
 unfolding has_step
@@ -266,6 +266,7 @@ steps ExprShift e = step_expr_shift
 steps ExprSum e = step_expr_sum
 steps ExprProduct e = step_expr_product
 steps FieldValues e = step_field_values
+steps FieldValue e = step_field_value
 steps ClosureParam e = step_closure_param
 steps _ e = let f : false ≡ true = e in cc f
 
@@ -463,5 +464,6 @@ laws ExprShift e = simple_kind ExprShift refl (λ x. tt) (λ x. refl) (λ x. ref
 laws ExprSum e = simple_kind ExprSum refl (λ x. tt) (λ x. refl) (λ x. refl) (λ q. refl) (λ q. refl) refl
 laws ExprProduct e = simple_kind ExprProduct refl (λ x. tt) (λ x. refl) (λ x. refl) (λ q. refl) (λ q. refl) refl
 laws FieldValues e = law_field_values
+laws FieldValue e = simple_kind FieldValue refl (λ x. tt) (λ x. refl) (λ x. refl) (λ q. refl) (λ q. refl) refl
 laws ClosureParam e = simple_kind ClosureParam refl (λ x. tt) (λ x. refl) (λ x. refl) (λ q. refl) (λ q. refl) refl
 laws _ e = let f : false ≡ true = e in cc f

@@ -3,13 +3,14 @@ use Rattle.std.proofs.Common.{◌≡◌, ℕ, List, [], ◌∷◌, ◌++◌, ref
 use Rattle.std.specs.Prelude.{Bool, true, false, cond, codes, Option, Some, None}
 use Rattle.proc_macro2.specs.Token.{Token, Literal}
 use Rattle.rust_leaf.specs.declared.punct.Spacing.{Spacing}
-use Rattle.syn_grammar.specs.Kind.{Member, Pattern}
+use Rattle.syn_grammar.specs.Kind.{Expression, Member, Pattern, Plain}
+use Rattle.syn_grammar.specs.Name.{the_value}
 use Rattle.syn_grammar.specs.Words.{is_index}
 use Rattle.syn_grammar.specs.Tree.{Tree, ALiteral, AMark, AWord, Nil, Pair, First, Second, Node, marks as signs, flat}
 use Rattle.syn_grammar.specs.Gram.{ref}
-use Rattle.syn_grammar.specs.Look.{Look, a_quoted, a_word, an_ident, behind as past, first_seen, seen, sees, ◌or◌}
+use Rattle.syn_grammar.specs.Look.{no, Look, a_quoted, a_word, an_ident, behind as past, first_seen, seen, sees, ◌or◌}
 use Rattle.syn_grammar.specs.Look.{◌then◌}
-use Rattle.syn_grammar.specs.Say.{at, ident, keyword, marks, optional, sign, ◌▸◌}
+use Rattle.syn_grammar.specs.Say.{◌∶◌, at, ident, keyword, marks, optional, sign, ◌▸◌}
 use Rattle.syn_grammar.specs.Table.{table}
 use Rattle.syn_grammar.specs.Derives.{Derives}
 use Rattle.grammar_back.specs.Sees.{Lacks}
@@ -85,3 +86,42 @@ no_member_seen (Pair (Second Nil) _) s d a = absurd d.1
 no_member_seen (Pair (Second _) y) s d a = absurd d.0.1
 no_member_seen (Pair _ y) s d a = absurd d.0
 no_member_seen _ s d a = absurd d
+
+-- of a struct expression: a name alone, or a member with its value
+none_of : (o : Option (List Token)) (ts : List Token) → seen o ≡ false → seen (cond (seen o) None (Some ts)) ≡ true
+none_of None ts e = refl
+none_of (Some us) ts e = cc
+
+some_of : (o : Option (List Token)) (ts : List Token) → seen o ≡ true → seen (cond (seen o) None (Some ts)) ≡ false
+some_of (Some us) ts e = refl
+some_of None ts e = cc
+
+pub short_seen : (x : Tree) (s : List Token) → Derives x ident s → Lacks (marks ":") s
+    → sees (an_ident then no (marks ":")) (flat x ++ s) ≡ true
+short_seen (AWord cs) s d a =
+    ap (λ b. seen (past (cond b (Some s) None) (no (marks ":")))) d ∙ none_of ((marks ":") s) s a
+short_seen _ s d a = absurd d
+
+not_short : (m : Tree) (us : List Token) → Derives m (table Member) us → sees (marks ":") us ≡ true
+    → Lacks (an_ident then no (marks ":")) (flat m ++ us)
+unfolding table
+not_short (First (AWord cs)) us d e =
+    ap (λ b. seen (past (cond b (Some us) None) (no (marks ":")))) d.1 ∙ some_of ((marks ":") us) us e
+not_short (First _) us d e = absurd d.1
+not_short (Second (ALiteral cs)) us d e = refl
+not_short (Second _) us d e = absurd d.1
+not_short _ us d e = absurd d
+
+pub no_short_seen : (x : Tree) (s : List Token)
+    → Derives x (ref Member ▸ sign ":" ▸ the_value ∶ ref (Expression Plain)) s
+    → Lacks (an_ident then no (marks ":")) (flat x ++ s)
+no_short_seen (Pair (Node k m) (Pair (AMark c cs spacing) y)) s d =
+    let us = (signs c cs spacing ++ flat y) ++ s in
+    subst (Lacks (an_ident then no (marks ":"))) (sym (append_assoc (flat m) (signs c cs spacing ++ flat y) s))
+    (not_short m us (subst (λ j. Derives m (table j) us) d.0.0 d.0.1)
+    (subst (λ us. sees (marks ":") us ≡ true) (sym (append_assoc (signs c cs spacing) (flat y) s))
+    (colon_at c cs spacing (flat y ++ s) d.1.0.0 d.1.0.1)))
+no_short_seen (Pair (Node k m) (Pair _ y)) s d = absurd d.1.0
+no_short_seen (Pair (Node k m) _) s d = absurd d.1
+no_short_seen (Pair _ y) s d = absurd d.0
+no_short_seen _ s d = absurd d

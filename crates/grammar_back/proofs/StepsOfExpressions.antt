@@ -1,11 +1,12 @@
 -- The steps of expressions, of those that go by first tokens alone. Written by tools/steps.py, from the entries.
 use Rattle.grammar_back.proofs.Classes.{◌&◌}
+use Rattle.grammar_back.proofs.FieldNames.{short_seen, no_short_seen}
 use Rattle.grammar_back.proofs.Keywords.{reserved_in}
-use Rattle.grammar_back.proofs.Parts.{found_alt, found_before, found_called, found_ended, found_group}
-use Rattle.grammar_back.proofs.Parts.{found_judged, found_lifetime, found_literal, found_many, found_mark}
-use Rattle.grammar_back.proofs.Parts.{found_never, found_optional, found_ref, found_seq, found_step, found_text}
-use Rattle.grammar_back.proofs.Parts.{found_to_end, found_words, maybe_both, maybe_ended, maybe_ref, maybe_seq}
-use Rattle.grammar_back.proofs.Parts.{weaken, weaken_maybe}
+use Rattle.grammar_back.proofs.Parts.{found_alt, found_alt_by, found_before, found_called, found_ended}
+use Rattle.grammar_back.proofs.Parts.{found_group, found_judged, found_lifetime, found_literal, found_many}
+use Rattle.grammar_back.proofs.Parts.{found_mark, found_never, found_optional, found_ref, found_seq, found_step}
+use Rattle.grammar_back.proofs.Parts.{found_text, found_to_end, found_word, found_words, maybe_both, maybe_ended}
+use Rattle.grammar_back.proofs.Parts.{maybe_ref, maybe_seq, weaken, weaken_maybe}
 use Rattle.grammar_back.proofs.Readies.{Step}
 use Rattle.std.specs.Prelude.{codes, refl, [], ◌∷◌}
 use Rattle.syn_grammar.specs.Expressions.{postfix_stands}
@@ -17,17 +18,17 @@ use Rattle.syn_grammar.specs.Kind.{ExprIf, ExprIndex, ExprInfer, ExprLet, ExprLi
 use Rattle.syn_grammar.specs.Kind.{ExprOr, ExprParen, ExprPath, ExprProduct, ExprRange, ExprRangeClosed}
 use Rattle.syn_grammar.specs.Kind.{ExprRawAddr, ExprReference, ExprRepeat, ExprReturn, ExprShift, ExprStruct}
 use Rattle.syn_grammar.specs.Kind.{ExprSum, ExprTry, ExprTryBlock, ExprTypedClosure, ExprUnary, ExprUnsafe}
-use Rattle.syn_grammar.specs.Kind.{ExprWhile, ExprYield, Expression, FieldValues, InCondition, InExpression}
-use Rattle.syn_grammar.specs.Kind.{InnerAttributes, Label, OnePattern, OuterAttribute, OuterAttributes, Pattern}
-use Rattle.syn_grammar.specs.Kind.{Plain, ReturnType, WithPlus, WithoutPlus}
-use Rattle.syn_grammar.specs.Look.{a_quoted, a_lifetime, ◌then◌}
+use Rattle.syn_grammar.specs.Kind.{ExprWhile, ExprYield, Expression, FieldValue, FieldValues, InCondition}
+use Rattle.syn_grammar.specs.Kind.{InExpression, InnerAttributes, Label, Member, OnePattern, OuterAttribute}
+use Rattle.syn_grammar.specs.Kind.{OuterAttributes, Pattern, Plain, ReturnType, WithPlus, WithoutPlus}
+use Rattle.syn_grammar.specs.Look.{no, an_ident, a_quoted, a_lifetime, the_end, ◌then◌, ◌or◌}
 use Rattle.syn_grammar.specs.Paths.{arguments_stand, parentheses_stand}
 use Rattle.syn_grammar.specs.Patterns.{range_bound_stands, range_end_stands}
 use Rattle.syn_grammar.specs.Ranks.{skips}
 use Rattle.syn_grammar.specs.Say.{at, marks, parenthesis, brace}
 use Rattle.syn_grammar.specs.Table.{table}
 use Rattle.syn_grammar.specs.Types.{bound_stands}
-use Rattle.syn_grammar.specs.Words.{any_text, is_name, is_path_keyword, is_plain_name, is_bool}
+use Rattle.syn_grammar.specs.Words.{is_ident, any_text, is_name, is_path_keyword, is_plain_name, is_bool}
 
 pub step_expr_lit : Step ExprLit
 unfolding table skips is_path_keyword is_plain_name is_bool is_name
@@ -468,6 +469,16 @@ pub step_field_values : Step FieldValues
 unfolding table skips is_path_keyword is_plain_name is_bool is_name
 step_field_values = found_step FieldValues refl refl
     (found_judged (found_group (found_to_end (found_ref AFieldValue refl) tt (λ ts. tt) tt)))
+
+pub step_field_value : Step FieldValue
+unfolding table skips is_path_keyword is_plain_name is_bool is_name
+step_field_value = found_step FieldValue refl refl
+    (maybe_seq (maybe_ref OuterAttributes refl)
+    (found_alt_by (an_ident then no (marks ":"))
+    (weaken ((no (the_end or marks "," or marks ";" or marks "=>")) ∷ (marks ":") ∷ []) (found_word is_ident)
+    (λ s a. tt)) (weaken ((no (the_end or marks "," or marks ";" or marks "=>")) ∷ (marks ":") ∷ [])
+    (found_seq (found_ref Member refl) (found_seq found_mark (found_called (found_ref (Expression Plain) refl)) tt)
+    tt) (λ s a. (a.0, tt))) (λ x s d c. short_seen x s d c.1.0) (λ x s d c. no_short_seen x s d)) ((search), tt))
 
 pub step_closure_param : Step ClosureParam
 unfolding table skips is_path_keyword is_plain_name is_bool is_name

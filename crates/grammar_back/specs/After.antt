@@ -151,7 +151,7 @@ behind ExprCast = postfix_stands ∷ marks "::" ∷ arguments_stand AtType ∷ p
 behind ExprAttributed = marks "#" ∷ []
 behind ExprReference = at "mut" ∷ []
 behind ExprBreak = a_lifetime ∷ marks ":" ∷ []
-behind FieldValue = no (the_end or marks "," or marks ";" or marks "=>") ∷ []
+behind FieldValue = no (the_end or marks "," or marks ";" or marks "=>") ∷ marks ":" ∷ []
 behind ClosureParam = marks ":" ∷ marks "::" ∷ arguments_stand AtType ∷ parentheses_stand AtType ∷ marks ".." ∷ marks
     "->" ∷ marks "!" ∷ marks "@" ∷ range_end_stands ∷ parenthesis ∷ brace ∷ arguments_stand InExpression ∷
     bound_stands ∷ marks "+" ∷ range_bound_stands ∷ []

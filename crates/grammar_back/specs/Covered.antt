@@ -12,18 +12,19 @@ use Rattle.syn_grammar.specs.Kind.{ExprLit, ExprLoop, ExprMacro, ExprMatch, Expr
 use Rattle.syn_grammar.specs.Kind.{ExprProduct, ExprRange, ExprRangeClosed, ExprRawAddr, ExprReference}
 use Rattle.syn_grammar.specs.Kind.{ExprRepeat, ExprReturn, ExprShift, ExprStruct, ExprSum, ExprTry, ExprTryBlock}
 use Rattle.syn_grammar.specs.Kind.{ExprTypedClosure, ExprUnary, ExprUnsafe, ExprWhile, ExprYield, FieldPattern}
-use Rattle.syn_grammar.specs.Kind.{FieldPatterns, FieldValues, FnArg, FnPtrArg, FnPtrType, GenericParam}
-use Rattle.syn_grammar.specs.Kind.{GenericParams, Generics, IdentPattern, ImplType, InExpression, InFile}
-use Rattle.syn_grammar.specs.Kind.{InForeign, InImpl, InModule, InTrait, InType, Index, InferType, InnerAttribute}
-use Rattle.syn_grammar.specs.Kind.{InnerAttributes, ItemMacro, Label, LifetimeColon, LifetimeParam, Lifetimes}
-use Rattle.syn_grammar.specs.Kind.{LiteralPattern, Member, Meta, NamedField, NamedFields, NeverType, OnePattern}
-use Rattle.syn_grammar.specs.Kind.{OuterAttribute, OuterAttributes, Parameters, ParenthesizedArguments, Path}
-use Rattle.syn_grammar.specs.Kind.{PathPattern, Pattern, PointerType, QualifiedPath, RangeBound, RangeEnd}
-use Rattle.syn_grammar.specs.Kind.{RangeToPattern, Receiver, ReferencePattern, ReferenceType, RestPattern}
-use Rattle.syn_grammar.specs.Kind.{ReturnType, Segments, SeveralPatterns, Signature, SlicePattern, SomeBounds}
-use Rattle.syn_grammar.specs.Kind.{TraitPath, TuplePattern, TupleType, TypeParam, UnnamedField, UnnamedFields}
-use Rattle.syn_grammar.specs.Kind.{UseBranch, UseRooted, UseTop, UseTree, Variant, Visibility, Where, WhereClause}
-use Rattle.syn_grammar.specs.Kind.{WherePredicate, WildPattern, WithPlus, WithoutPlus}
+use Rattle.syn_grammar.specs.Kind.{FieldPatterns, FieldValue, FieldValues, FnArg, FnPtrArg, FnPtrType}
+use Rattle.syn_grammar.specs.Kind.{GenericParam, GenericParams, Generics, IdentPattern, ImplType, InExpression}
+use Rattle.syn_grammar.specs.Kind.{InFile, InForeign, InImpl, InModule, InTrait, InType, Index, InferType}
+use Rattle.syn_grammar.specs.Kind.{InnerAttribute, InnerAttributes, ItemMacro, Label, LifetimeColon}
+use Rattle.syn_grammar.specs.Kind.{LifetimeParam, Lifetimes, LiteralPattern, Member, Meta, NamedField}
+use Rattle.syn_grammar.specs.Kind.{NamedFields, NeverType, OnePattern, OuterAttribute, OuterAttributes}
+use Rattle.syn_grammar.specs.Kind.{Parameters, ParenthesizedArguments, Path, PathPattern, Pattern, PointerType}
+use Rattle.syn_grammar.specs.Kind.{QualifiedPath, RangeBound, RangeEnd, RangeToPattern, Receiver}
+use Rattle.syn_grammar.specs.Kind.{ReferencePattern, ReferenceType, RestPattern, ReturnType, Segments}
+use Rattle.syn_grammar.specs.Kind.{SeveralPatterns, Signature, SlicePattern, SomeBounds, TraitPath, TuplePattern}
+use Rattle.syn_grammar.specs.Kind.{TupleType, TypeParam, UnnamedField, UnnamedFields, UseBranch, UseRooted}
+use Rattle.syn_grammar.specs.Kind.{UseTop, UseTree, Variant, Visibility, Where, WhereClause, WherePredicate}
+use Rattle.syn_grammar.specs.Kind.{WildPattern, WithPlus, WithoutPlus}
 use Rattle.syn_grammar.specs.Tree.{Tree, AWord, Pair, First, Second, Again, Final, More, Group, Dropped, Called}
 use Rattle.syn_grammar.specs.Tree.{Verbatim}
 use Rattle.syn_grammar.specs.Tree.{Node, Whole, Alone, Front, Back, Infix}
@@ -192,6 +193,7 @@ has_step ExprShift = true
 has_step ExprSum = true
 has_step ExprProduct = true
 has_step FieldValues = true
+has_step FieldValue = true
 has_step ClosureParam = true
 has_step k = false
 
@@ -207,14 +209,14 @@ abbrev pub is_form : Kind → Bool
 is_form (Expression p) = false
 is_form k = has_form_step k
 
--- A constant has a value or a where clause: with both an item is raw.
+-- A constant has no where clause behind a value: an item with both is raw.
 abbrev pub has_lone_value : Tree → Bool
 has_lone_value (Pair c (Pair n (Pair g (Pair s (Pair t (Pair (First v) (Pair (Called m (Node Where w)) e))))))) =
     not (is_there w)
 has_lone_value _ = true
 
--- What stands in parentheses behind pub may be its restriction: an unnamed field is pub, or its type stands in
--- parentheses.
+-- What stands in parentheses behind pub may be its restriction: the type of an unnamed field that is pub stands in
+-- none.
 abbrev pub inner : Tree → Tree
 inner (Node k x) = x
 inner x = x
@@ -231,7 +233,7 @@ abbrev pub has_clear_type : Tree → Bool
 has_clear_type (Pair o y) = is_clear y
 has_clear_type _ = true
 
--- One identifier alone is no path pattern, but before ..., which no pattern goes on with.
+-- One identifier alone is read as a path pattern before ... alone, where no pattern stands.
 abbrev pub lone_names : Tree → Bool
 lone_names (Second (Pair (AWord cs) (Second (Second (Second e))))) = is_ident cs
 lone_names _ = false

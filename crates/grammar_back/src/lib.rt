@@ -11,10 +11,11 @@
 //! `KindLaws` has it, by `Tidied` (normal form tidies their parts), `Verdicts` (what was read is judged) and
 //! `Indices`. A `Step` of a kind (`Readies`): where the parts of a tree that fits are read back before what may
 //! follow them, so is the tree. `Fine` and `Parts` put steps together as the entries are, by what tokens begin with
-//! (`Classes`). Most steps are written by `tools/steps.py` from the entries (`StepsOf..`); the others are in
-//! `HandSteps` and `ValueSteps`, and parts of entries where a second token decides in `Seconds`. What all this needs of
-//! expressions stands in one place (`Expressions`): the steps and laws of the kinds of their forms, and that an
-//! expression is printed where their own parts are.
+//! (`Classes`). Most steps are written by `tools/steps.py` from the entries (`StepsOf..`). By hand are those where more
+//! than first tokens decides: `HandSteps`, `ValueSteps`, `Fields`, `Predicates`, `Turbofish`, `Alternatives` and
+//! `References`, and for the script `Seconds`, `Params` and `FieldNames`; `Passed` has what stands behind attributes.
+//! `Elements` has the verdicts on lists. What all this needs of expressions stands in one place (`Expressions`): the
+//! steps and laws of the kinds of their forms, and that an expression is printed where their own parts are.
 //!
 //! - `laws`: the laws.
 #![tactic(auto)]

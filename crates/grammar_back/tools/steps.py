@@ -339,16 +339,18 @@ def alt(l,a,b):
     if show(l) in BY:
         one,other,more=(BY[show(l)]+((),))[:3]
         ls=union(ls,[look_of(m) for m in more]); at,bt=weak(a,ls),weak(b,ls)
-        for m in more: other=other.replace('@'+m,'c'+'.1'*[show(i) for i in ls].index(m)+'.0')
+        for m in more:
+            place='c'+'.1'*[show(i) for i in ls].index(m)+'.0'; one,other=(t.replace('@'+m,place) for t in(one,other))
         return Entry(False,ls,a.cs+b.cs,f'(found_alt_by {L} {at} {bt} {one} {other})')
     if not b.maybe: return Entry(False,ls,a.cs+b.cs,f'(found_alt {L} {at} {bt} {told(l,True,a.cs)} {told(l,False,b.cs)})')
     return Entry(True,[l]+ls,a.cs+b.cs,f'(maybe_alt {L} {at} {bt} {told(l,True,a.cs)} {told(l,False,b.cs)})')
 def num(s): return f'{ord(s[0])} ({list_of([str(ord(c)) for c in s[1:]])})' if len(s)>1 else f'{ord(s)} []'
 # tests of more than first tokens, and where what they see is proved
 BY={'all_attributes then a_lifetime':('(λ x s d c. lifetime_param_seen x s d)','(λ x s d c. no_lifetime_seen x s d)'),
-  '(an_ident or a_quoted is_index) then marks ":"':('(λ x s d c. member_seen x s d)','(λ x s d c. no_member_seen x s d @marks ":")',('marks ":"',)),
+  'an_ident then no (marks ":")':('(λ x s d c. short_seen x s d @marks ":")','(λ x s d c. no_short_seen x s d)',('marks ":"',)),
+ '(an_ident or a_quoted is_index) then marks ":"':('(λ x s d c. member_seen x s d)','(λ x s d c. no_member_seen x s d @marks ":")',('marks ":"',)),
  'all_attributes then at "const"':('(λ x s d c. (const_param_seen x s d).1)','(λ x s d c. (type_param_seen x s d).1)')}
-BY_HOMES={'member_seen':'FieldNames','no_member_seen':'FieldNames','lifetime_param_seen':'Params','const_param_seen':'Params','type_param_seen':'Params','no_lifetime_seen':'Params'}
+BY_HOMES={'short_seen':'FieldNames','no_short_seen':'FieldNames','member_seen':'FieldNames','no_member_seen':'FieldNames','lifetime_param_seen':'Params','const_param_seen':'Params','type_param_seen':'Params','no_lifetime_seen':'Params'}
 NAME=[('ident',),('word','Self')]
 def found(g):
     if g[0]!='app': raise Skip(str(g))
