@@ -9,8 +9,8 @@ use syn_error::to_tokens::ToTokens;
 use syn_parse::{Parse, parse_str};
 use try_clone::TryClone;
 
-// The value is printed so.
-fn prints<T: ToTokens>(
+/// The value is printed so.
+pub fn prints<T: ToTokens>(
     rt: &impl Abort,
     alloc: Global,
     value: &T,

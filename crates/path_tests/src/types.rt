@@ -1,9 +1,12 @@
 //! Types.
 
 use crate::never::Never;
-use crate::texts::{compares, copies, reads, refuses};
+use crate::texts::{compares, copies, prints, reads, refuses};
+use std::alloc::Global;
 use std::test::Fail;
-use syn_type::{TypeInfer, TypeNever, TypePtr, TypeReference};
+use syn_kinds::token;
+use syn_type::{TypeArray, TypeInfer, TypeNever, TypePtr, TypeReference, TypeSlice};
+use try_clone::TryClone;
 
 #[test]
 fn marks_and_words(rt: HostRuntime) -> Result<(), Fail> {
@@ -48,4 +51,37 @@ fn references(rt: HostRuntime) -> Result<(), Fail> {
     refuses::<TypeReference<Never>>(&rt, alloc, "*const !");
     refuses::<TypeReference<Never>>(&rt, alloc, "&'a mut ! !");
     Ok(())
+}
+
+#[test]
+fn slices(rt: HostRuntime) -> Result<(), Fail> {
+    let alloc = rt.alloc();
+    reads::<TypeSlice<Never>>(&rt, alloc, "[!]", "[!]")?;
+    copies::<TypeSlice<Never>>(&rt, alloc, "[ ! ]", "[!]")?;
+    compares::<TypeSlice<Never>>(&rt, alloc, "[!]", "[ ! ]", true)?;
+    refuses::<TypeSlice<Never>>(&rt, alloc, "(!)");
+    refuses::<TypeSlice<Never>>(&rt, alloc, "[! !]");
+    refuses::<TypeArray<Never>>(&rt, alloc, "[!]");
+    Ok(())
+}
+
+// Nodes of these tests hold no expression, so an array is built by hand.
+fn array(alloc: Global) -> Result<TypeArray<Never>, Fail> {
+    let bang_token = token::Not::default();
+    Ok(TypeArray {
+        bracket_token: token::Bracket::default(),
+        elem: Box::new(alloc, Never { bang_token })?,
+        semi_token: token::Semi::default(),
+        len: Box::new(alloc, Never { bang_token })?,
+    })
+}
+
+#[test]
+fn arrays(rt: HostRuntime) -> Result<(), Fail> {
+    let alloc = rt.alloc();
+    let array = array(alloc)?;
+    prints(&rt, alloc, &array, "[! ; !]")?;
+    let copy = array.try_clone()?;
+    assert!(rt; copy == array);
+    prints(&rt, alloc, &copy, "[! ; !]")
 }

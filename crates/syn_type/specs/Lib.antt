@@ -1,3 +1,4 @@
+pub mod Brackets
 pub mod Leaves
 pub mod Pointers
 pub mod References
