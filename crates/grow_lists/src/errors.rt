@@ -1,9 +1,10 @@
-//! Errors that are extended, copied and gone over.
+//! Errors that are made, extended, copied and gone over.
 
-use proc_macro2::{Ident, Span, TokenStream};
+use proc_macro2::{LexFault, SourceMap, Span, TokenStream};
 use std::alloc::Global;
 use stops::{Stop, looked_at, refused};
 use syn_error::Error;
+use syn_parse::TokenBuffer;
 use try_clone::TryClone;
 
 // The words of all messages, in lines.
@@ -23,6 +24,26 @@ fn error_of(alloc: Global, words: &[&str]) -> Result<Error, Stop> {
         all.combine(Error::new(alloc, Span::call_site(), word)?)?;
     }
     Ok(all)
+}
+
+/// Errors of a lexical fault, and of what lies between two places.
+pub fn made(alloc: Global) -> Result<String, Stop> {
+    let mut map = SourceMap::new(alloc);
+    let fault = match TokenStream::from_str(alloc, "a)", &mut map) {
+        Err(LexFault::Lex(fault)) => fault,
+        Err(LexFault::Memory) => return Err(Stop::Elsewhere),
+        Err(LexFault::MapFull) | Ok(_) => return Err(Stop::Changed),
+    };
+    let mut error = looked_at(Error::from_lex(alloc, fault))?;
+    let Ok(stream) = TokenStream::from_str(alloc, "a b", &mut map) else {
+        return Err(Stop::Elsewhere);
+    };
+    let buffer = TokenBuffer::new2(alloc, &stream, 1)?;
+    let range = buffer.begin()..buffer.begin();
+    error.combine(looked_at(Error::new_range(alloc, range, "nowhere"))?)?;
+    let said = lines(alloc, &error)?;
+    let tokens = looked_at(error.into_compile_error(alloc))?;
+    Ok(format!(in alloc; "{said}{tokens}\n")?)
 }
 
 /// An error that is extended by the messages of another one. Where that is refused, it keeps those before the refused one.

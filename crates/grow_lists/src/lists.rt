@@ -107,7 +107,7 @@ pub fn collected(alloc: Global) -> Result<String, Stop> {
     line(alloc, &names)
 }
 
-/// A list that is copied whole, and pair by pair. Where that is refused, the list is as before.
+/// A list that is copied whole, pair by pair, and with other values. Where that is refused, the list is as before.
 pub fn copied(alloc: Global) -> Result<String, Stop> {
     let names = words(alloc, &["a", "b", "c"])?;
     let before = line(alloc, &names)?;
@@ -118,7 +118,18 @@ pub fn copied(alloc: Global) -> Result<String, Stop> {
         let Ok(pair) = pair.cloned() else {
             return refused(line(alloc, &names)?.as_str() == before.as_str());
         };
+        let Ok(pair) = pair.try_clone() else {
+            return refused(line(alloc, &names)?.as_str() == before.as_str());
+        };
         copy.push(pair.into_value())?;
     }
-    line(alloc, &copy)
+    let others = vec![in alloc; word(alloc, "x")?, word(alloc, "y")?, word(alloc, "z")?]?;
+    if others.len() != names.len() {
+        return Err(Stop::Changed);
+    }
+    let Ok(others) = names.with_values(others) else {
+        return refused(line(alloc, &names)?.as_str() == before.as_str());
+    };
+    let (copy, others) = (line(alloc, &copy)?, line(alloc, &others)?);
+    Ok(format!(in alloc; "{copy}{others}")?)
 }

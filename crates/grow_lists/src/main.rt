@@ -4,10 +4,12 @@
 //!
 //! - `lists`: lists that are built, extended and copied.
 //! - `reading`: lists that are read.
-//! - `errors`: errors that are extended, copied and gone over.
+//! - `errors`: errors that are made, extended, copied and gone over.
+//! - `groups`: groups that are printed round what stands inside.
 #![tactic(auto)]
 
 mod errors;
+mod groups;
 mod lists;
 mod reading;
 
@@ -24,8 +26,10 @@ fn run(rt: &HostRuntime) -> Result<(), Stop> {
     answer.push_str(lists::collected(rt.alloc())?.as_str())?;
     answer.push_str(lists::copied(rt.alloc())?.as_str())?;
     answer.push_str(reading::lists(rt.alloc())?.as_str())?;
+    answer.push_str(errors::made(rt.alloc())?.as_str())?;
     answer.push_str(errors::extended(rt.alloc())?.as_str())?;
     answer.push_str(errors::copied(rt.alloc())?.as_str())?;
+    answer.push_str(groups::printed(rt.alloc())?.as_str())?;
     let written = rt.stdout().write_all(answer.as_bytes());
     written.map_err(|_| Stop::Elsewhere)
 }
