@@ -20,7 +20,7 @@ use syn_leaf::{
     BinOp, Index, Lit, LitBool, LitByte, LitByteStr, LitCStr, LitChar, LitFloat, LitInt, LitStr,
     Member, RangeLimits, UnOp,
 };
-use syn_parse::{Parse, parse_str};
+use syn_parse::{Parse, ParseBuffer, Peek, TokenBuffer, parse_str};
 use try_clone::TryClone;
 
 struct Calls;
@@ -46,6 +46,10 @@ impl Table for Calls {
             "read_float" => read::<LitFloat>(alloc, text),
             "read_index" => read::<Index>(alloc, text),
             "read_member" => read::<Member>(alloc, text),
+            "peek_str" => peek::<LitStr>(alloc, text),
+            "peek_char" => peek::<LitChar>(alloc, text),
+            "peek_int" => peek::<LitInt>(alloc, text),
+            "peek_float" => peek::<LitFloat>(alloc, text),
             "read_binary" => front::<BinOp>(alloc, text),
             "read_unary" => front::<UnOp>(alloc, text),
             "read_limits" => front::<RangeLimits>(alloc, text),
@@ -135,6 +139,17 @@ fn index(alloc: Global, text: &str) -> Result<String> {
     let mut stream = Index::from(number).to_token_stream(alloc)?;
     Member::from(number).to_tokens(&mut stream)?;
     Ok(stream.to_string(alloc)?)
+}
+
+// Whether such a literal stands first in a text.
+fn peek<T: Peek>(alloc: Global, text: &str) -> Result<String> {
+    let mut map = SourceMap::new(alloc);
+    let Ok(stream) = TokenStream::from_str(alloc, text, &mut map) else {
+        return Err(anyhow!("no tokens"));
+    };
+    let buffer = TokenBuffer::new2(alloc, &stream, 1)?;
+    let found = ParseBuffer::new(alloc, buffer.begin()).peek::<T>();
+    Ok(format!(in alloc; "{found}")?)
 }
 
 // What is printed for what stands first in a text and for what is left behind it, or why nothing stands there.

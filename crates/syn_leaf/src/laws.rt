@@ -3,16 +3,18 @@
 //!
 //! Each function does nothing; its contract is the law.
 
-ghost use Rattle.proc_macro2.specs.Token.{Spanned};
+ghost use Rattle.proc_macro2.specs.Token.{Spanned, plain};
 ghost use Rattle.rust_leaf.specs.Leaf.{ident_text, literal_text};
 ghost use Rattle.rust_leaf.specs.Minus.{starts_with_minus};
 ghost use Rattle.rust_leaf.specs.declared.ident.Ident.{Ident as Name};
 ghost use Rattle.rust_escape.specs.declared.value.Value.{Value};
 ghost use Rattle.rust_lex.specs.declared.piece.LiteralKind.{LiteralKind};
-ghost use Rattle.std.specs.Prelude.{[], ◌++◌, ◌≡◌, ◌↔◌, IsFalse, IsTrue, List, false, ℕ};
+ghost use Rattle.std.specs.Prelude.{[], ◌++◌, ◌≡◌, ◌↔◌, IsFalse, IsTrue, List, false, true, ℕ};
 ghost use Rattle.syn_leaf.specs.Alike.{unspaced};
+ghost use Rattle.syn_leaf.specs.Kinds.{IsKind, is_kind, kind_stands};
 ghost use Rattle.syn_leaf.specs.Lits.{lit_text};
 ghost use Rattle.syn_leaf.specs.Quoted.{HasSuffix, Spells};
+ghost use Rattle.syn_leaf.specs.Reading.{LacksClass};
 ghost use Rattle.syn_leaf.specs.Operators.{bin_op_text, range_limits_text, un_op_text};
 ghost use Rattle.syn_leaf.specs.declared.member.Index.{Index as Number};
 ghost use Rattle.syn_leaf.specs.declared.member.Member.TheVariants.{Named, Unnamed};
@@ -34,6 +36,14 @@ pub fn one_value()
         → Spells kind text ys → xs ≡ ys }
     ensures suffix { (kind : LiteralKind) (text xs ys : List ℕ) → HasSuffix kind text xs → HasSuffix kind text ys
         → xs ≡ ys }
+{}
+
+/// The test of which literal a text is says what the lexical rules do, and a literal of a class stands first exactly
+/// where one is read.
+pub fn tested_kinds()
+    ensures test { (kind : LiteralKind) (text : List ℕ) → (is_kind kind text ≡ true) ↔ IsKind kind text }
+    ensures stands { (kind : LiteralKind) (ts : List Spanned) → (kind_stands kind (plain ts) ≡ false)
+        ↔ LacksClass kind ts }
 {}
 
 /// Operators are equal exactly if they are written the same.

@@ -5,7 +5,7 @@ ghost use Rattle.rust_leaf.specs.Leaf.{literal_text};
 ghost use Rattle.std.specs.Prelude.{◌∷◌, ◌≡◌, ◌↔◌, IfNone, IfSome, IsTrue, false, ℕ};
 ghost use Rattle.std.specs.Str.{chars};
 ghost use Rattle.syn_kinds.specs.Stands.{ident_stands, lit_stands};
-ghost use Rattle.syn_leaf.specs.Kinds.{IsKind};
+ghost use Rattle.syn_leaf.specs.Kinds.{IsKind, is_kind, kind_stands};
 ghost use Rattle.syn_leaf.specs.Reading.{IsPlain, LacksClass, LacksIndex, ReadsIndex};
 ghost use Rattle.syn_leaf.specs.Reading.{ReadsLit, ReadsMember, bool_stands};
 ghost use Rattle.syn_parse.specs.Leaves.{literal_token};
@@ -27,6 +27,29 @@ fn is_of_class<C: LitClass>(text: &str) -> bool
     ensures { IsTrue result ↔ IsKind C.kind (chars text.now) }
 {
     kind_of(text) == Some(C::kind())
+}
+
+// The same, by the test of a kind.
+fn passes<C: LitClass>(text: &str) -> bool
+    ensures { result ≡ is_kind C.kind (chars text.now) }
+{
+    is_of_class::<C>(text)
+}
+
+#[tactic(auto, using(crate::proofs::OfClass::first_is, crate::proofs::OfClass::none_first))]
+impl<C: LitClass> Token for LitToken<C> {
+    ghost stands = { kind_stands C.kind };
+
+    fn peek(cursor: Cursor<'_>) -> bool {
+        match cursor.literal() {
+            Some((literal, _)) => passes::<C>(literal.as_str()),
+            None => false,
+        }
+    }
+
+    fn display() -> &'static str {
+        C::display()
+    }
 }
 
 #[tactic(auto, using(crate::proofs::Reading::no_literal, crate::proofs::Reading::other_class))]
