@@ -1,7 +1,7 @@
 //! Calls that grow in reading and printing syntax, one behind the other, and whether each left what it had to where its
 //! growth was refused. `tests/refused.sh` runs it once for each allocation, refusing that one.
 //!
-//! - `reading`: a buffer, a lookahead, a text that is read.
+//! - `reading`: a buffer, a lookahead, a stream that is shown, a text that is read.
 //! - `printing`: a list that grows and is printed, errors that are put together.
 #![tactic(auto)]
 
@@ -17,6 +17,7 @@ fn run(rt: &HostRuntime) -> Result<(), Stop> {
     let mut answer = String::new(rt.alloc());
     answer.push_str(reading::buffer(rt.alloc())?.as_str())?;
     answer.push_str(reading::lookahead(rt.alloc())?.as_str())?;
+    answer.push_str(reading::shown(rt.alloc())?.as_str())?;
     answer.push_str(reading::text(rt.alloc())?.as_str())?;
     answer.push_str(printing::list(rt.alloc())?.as_str())?;
     answer.push_str(printing::errors(rt.alloc())?.as_str())?;

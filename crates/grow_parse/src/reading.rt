@@ -1,4 +1,4 @@
-//! A buffer, a lookahead, a text that is read.
+//! A buffer, a lookahead, a stream that is shown, a text that is read.
 
 use proc_macro2::{LexFault, LineColumn, SourceMap, Span, TokenStream};
 use std::alloc::Global;
@@ -60,7 +60,22 @@ fn place(map: &SourceMap, span: Span) -> Result<LineColumn, Stop> {
     }
 }
 
-/// A number that is read from a text behind an older one. Where it can't be, the map says of the older one what it said.
+/// What is left of a stream behind its first name. Where it can't be shown, the stream stands where it stood.
+pub fn shown(alloc: Global) -> Result<String, Stop> {
+    let stream = stream_of(alloc, "a (b,[c]) ;", &mut SourceMap::new(alloc))?;
+    let buffer = looked_at(TokenBuffer::new2(alloc, &stream, 1))?;
+    let Some((_, behind)) = buffer.begin().ident() else {
+        return Err(Stop::Changed);
+    };
+    let input = ParseBuffer::new(alloc, behind);
+    match input.to_string(alloc) {
+        Ok(words) => Ok(format!(in alloc; "{words}\n")?),
+        Err(_) => refused(input.peek::<token::Paren>()),
+    }
+}
+
+/// A number that is read from a text behind an older one. Where it can't be, the map says of the older one what it
+/// said.
 pub fn text(alloc: Global) -> Result<String, Stop> {
     let mut map = SourceMap::new(alloc);
     let older = stream_of(alloc, "a\n b", &mut map)?;
