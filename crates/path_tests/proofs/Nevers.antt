@@ -3,10 +3,10 @@ use Rattle.std.proofs.Common.{◌≡◌, ◌≤◌, List, [], ◌∷◌, ap, ◌
 use Rattle.std.proofs.lemmas.List.{length-map}
 use Rattle.std.specs.Prelude.{Bool, true, false, cond, codes, filter}
 use Rattle.proc_macro2.specs.Token.{Token, Spanned}
-use Rattle.syn_parse.specs.Entries.{spanned_entries, spanned_entry}
-use Rattle.syn_parse.specs.Position.{ahead, left}
-use Rattle.syn_parse.specs.Seen.{is_seen, seen}
-use Rattle.syn_parse.specs.declared.position.Cursor.{Cursor}
+use Rattle.syn_buffer.specs.Entries.{spanned_entries, spanned_entry}
+use Rattle.syn_buffer.specs.Position.{ahead, left}
+use Rattle.syn_buffer.specs.Seen.{is_seen, seen}
+use Rattle.syn_buffer.specs.declared.position.Cursor.{Cursor}
 use Rattle.syn_kinds.specs.Stands.{marks_stand}
 use Rattle.syn_kinds.specs.Table as table
 use Rattle.syn_grammar.specs.Gram.{punct}

@@ -17,3 +17,6 @@ mod parenthesized;
 mod texts;
 #[cfg(test)]
 mod types;
+
+pub use syn_path::ParenthesizedGenericArguments;
+pub use syn_type::TypeReference;

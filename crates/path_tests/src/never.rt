@@ -5,15 +5,15 @@ ghost use Rattle.std.specs.Prelude.{◌<◌, ◌≡◌, OnOk, length};
 ghost use Rattle.syn_grammar.specs.Keeps.{kepts};
 ghost use Rattle.syn_grammar.specs.Kind.{AType, Plus};
 ghost use Rattle.syn_grammar.specs.Run.{kind};
-ghost use Rattle.syn_parse.specs.Input.{IsOnward, left};
+ghost use Rattle.syn_input.specs.Input.{IsOnward, left};
 ghost use Rattle.syn_shape.specs.Reads.{Reads};
 
 use proc_macro2::tree::TokenStream;
 use std::alloc::AllocError;
 use syn_error::fault::ParseFault;
 use syn_error::to_tokens::ToTokens;
+use syn_input::ParseBuffer;
 use syn_kinds::token;
-use syn_parse::ParseBuffer;
 use syn_shape::{Child, Copied, Copier, Exact, Hub, Leaf, Reader, Shape};
 
 /// The type `!`.

@@ -6,7 +6,7 @@ use std::process::Abort;
 use std::test::Fail;
 use syn_error::fault::TextFault;
 use syn_error::to_tokens::ToTokens;
-use syn_parse::{Parse, parse_str};
+use syn_input::{Parse, parse_str};
 use try_clone::TryClone;
 
 /// The value is printed so.

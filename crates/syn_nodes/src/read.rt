@@ -6,15 +6,16 @@ ghost use Rattle.syn_grammar.specs.Keeps.{kepts};
 ghost use Rattle.syn_grammar.specs.Run.{list};
 ghost use Rattle.syn_lists.specs.Lists.{separators, values};
 ghost use Rattle.syn_nodes.specs.Lists.{list_tree};
-ghost use Rattle.syn_parse.specs.Input.{IsOnward, left};
+ghost use Rattle.syn_input.specs.Input.{IsOnward, left};
 ghost use Rattle.syn_shape.specs.Children.{child_kind};
 ghost use Rattle.syn_shape.specs.Leaves.{mark_of};
 ghost use Rattle.syn_shape.specs.Reads.{Reads};
 
 use syn_error::fault::ParseFault;
+use syn_input::ParseBuffer;
 use syn_kinds::punctuation::Punctuation;
 use syn_lists::Punctuated;
-use syn_parse::{ParseBuffer, Token};
+use syn_peek::Token;
 use syn_shape::{Child, Leaf, Reader};
 
 /// Reads nodes with a separator between each two of them, and perhaps one behind the last: up to where `U` stands in

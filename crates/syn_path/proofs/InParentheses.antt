@@ -6,7 +6,7 @@ use Rattle.proc_macro2.specs.declared.delimiter.Delimiter.TheVariants.{Parenthes
 use Rattle.rust_leaf.specs.declared.punct.Spacing.TheVariants.{Alone as Apart}
 use Rattle.syn_kinds.specs.Stands.{marks_stand}
 use Rattle.syn_kinds.specs.Table as table
-use Rattle.syn_parse.specs.Stands.{end_stands}
+use Rattle.syn_buffer.specs.Stands.{end_stands}
 use Rattle.syn_grammar.specs.Gram.{Gram, group, punct, ref}
 use Rattle.syn_grammar.specs.Keeps.{keeps, kepts, opened}
 use Rattle.syn_grammar.specs.Kind.{AType, ParenthesizedArguments, WithPlus, WithoutPlus}

@@ -8,8 +8,8 @@ use Rattle.proc_macro2.specs.Flat.{spanned}
 use Rattle.proc_macro2.specs.Groups.{IsMatched, groups_behind, groups_closed, groups_open, same_delimiter}
 use Rattle.proc_macro2.specs.Token.{Token, Spanned, Opens, Closes, Ident, Literal, Punct, plain}
 use Rattle.syn_kinds.specs.Stands.{group_stands}
-use Rattle.syn_parse.specs.Groups.{IsGroup}
-use Rattle.syn_parse.specs.Stands.{end_stands}
+use Rattle.syn_buffer.specs.Groups.{IsGroup}
+use Rattle.syn_buffer.specs.Stands.{end_stands}
 use Rattle.syn_grammar.specs.Gram.{Gram, closes_all, group}
 use Rattle.syn_grammar.specs.Keeps.{checked, opened, ended, in_group, keeps}
 use Rattle.syn_grammar.specs.Run.{Out, Refused, Got, Split, Inside, Unclosed, onto, split}

@@ -12,7 +12,7 @@ use Rattle.proc_macro2.specs.Token.{Token, Spanned, Opens, Closes, Ident, Litera
 use Rattle.syn_kinds.specs.Stands.{word_stands, marks_stand, ident_stands, lifetime_stands, is_joint}
 use Rattle.syn_kinds.specs.Table as table
 use Rattle.syn_kinds.specs.Values.{word_tokens}
-use Rattle.syn_parse.specs.Marks.{ReadsMarks}
+use Rattle.syn_peek.specs.Marks.{ReadsMarks}
 use Rattle.syn_grammar.specs.Gram.{lifetime, punct}
 use Rattle.syn_grammar.specs.Keeps.{keeps, mark_kept}
 use Rattle.syn_grammar.specs.Kept.{kept}

@@ -9,7 +9,7 @@ use Rattle.proc_macro2.specs.Token.{Token, Opens, Closes, Ident, Literal, Punct}
 use Rattle.syn_kinds.specs.Stands.{word_stands, marks_stand, ident_stands, lifetime_stands, group_stands}
 use Rattle.syn_kinds.specs.Table.{marks}
 use Rattle.syn_kinds.proofs.Marks.{marks_count}
-use Rattle.syn_parse.specs.Stands.{end_stands}
+use Rattle.syn_buffer.specs.Stands.{end_stands}
 use Rattle.syn_grammar.specs.Look.{Look, ◌or◌, first_seen, sees, seen, past_marks, the_mark, the_word, an_ident, a_lifetime, opens}
 use Rattle.syn_grammar.specs.Look.{the_end}
 use Rattle.syn_shape.proofs.Leaves.{same_reserved}

@@ -4,12 +4,12 @@ ghost use Rattle.std.specs.Prelude.{None, ◌<◌, ◌≡◌, IfErr, IfOk, OnOk,
 ghost use Rattle.syn_error.specs.Faults.{IsSyntax};
 ghost use Rattle.syn_grammar.specs.Keeps.{opened};
 ghost use Rattle.syn_grammar.specs.Run.{Inside, Unclosed};
-ghost use Rattle.syn_parse.specs.Input.{IsOnward, left};
+ghost use Rattle.syn_input.specs.Input.{IsOnward, left};
 
 use proc_macro2::delimiter::Delimiter;
 use proc_macro2::group::DelimSpan;
 use syn_error::fault::ParseFault;
-use syn_parse::ParseBuffer;
+use syn_input::ParseBuffer;
 
 /// Enters the group with that delimiter that stands there: its spans, and its inside as a stream of its own. The
 /// stream is then behind the group.

@@ -6,7 +6,7 @@ ghost use Rattle.syn_grammar.specs.Gram.{Gram};
 ghost use Rattle.syn_grammar.specs.Keeps.{keeps};
 ghost use Rattle.syn_grammar.specs.Look.{Look, sees};
 ghost use Rattle.syn_grammar.specs.Tree.{Tree};
-ghost use Rattle.syn_parse.specs.Input.{IsOnward, left};
+ghost use Rattle.syn_input.specs.Input.{IsOnward, left};
 ghost use Rattle.syn_shape.specs.Leaves.{marks_tree, word_gram};
 ghost use Rattle.syn_shape.specs.Reads.{Reads};
 
@@ -15,11 +15,11 @@ use rust_leaf::laws::equality_is_by_text;
 use std::alloc::AllocError;
 use syn_error::fault::ParseFault;
 use syn_error::to_tokens::ToTokens;
+use syn_input::{Parse, ParseBuffer};
 use syn_kinds::keyword::Keyword;
 use syn_kinds::punctuation::Punctuation;
 use syn_kinds::underscore::Underscore;
-use syn_parse::lifetime::Lifetime;
-use syn_parse::{Parse, ParseBuffer};
+use syn_lifetime::Lifetime;
 use try_clone::TryClone;
 
 /// A kind of leaves: what the grammar calls it, and what a syntax tree holds of one.

@@ -3,14 +3,14 @@
 ghost use Rattle.std.specs.Prelude.{◌<◌, ◌≡◌, IfOk, OnOk, length};
 ghost use Rattle.syn_grammar.specs.Keeps.{kepts};
 ghost use Rattle.syn_grammar.specs.Run.{kind};
-ghost use Rattle.syn_parse.specs.Input.{IsOnward, left};
+ghost use Rattle.syn_input.specs.Input.{IsOnward, left};
 ghost use Rattle.syn_shape.specs.Children.{child_kind};
 ghost use Rattle.syn_shape.specs.Reads.{Reads};
 
 use crate::reader::{Child, Copier, Reader};
 use std::alloc::AllocError;
 use syn_error::fault::ParseFault;
-use syn_parse::ParseBuffer;
+use syn_input::ParseBuffer;
 
 /// Reads the node of a place into a box.
 pub fn boxed<E: Drop, R: Reader<E>>(

@@ -5,14 +5,14 @@ ghost use Rattle.std.specs.Prelude.{◌↔◌, ◌≡◌, ◌≤◌, IfOk, IsTru
 ghost use Rattle.syn_error.specs.Tokens.{put_some};
 ghost use Rattle.syn_grammar.specs.Keeps.{keeps};
 ghost use Rattle.syn_grammar.specs.Say.{optional};
-ghost use Rattle.syn_parse.specs.Input.{IsOnward, left};
+ghost use Rattle.syn_input.specs.Input.{IsOnward, left};
 ghost use Rattle.syn_shape.specs.Reads.{Reads};
 ghost use Rattle.syn_shape.specs.Views.{optional_tree};
 
 use crate::leaf::Leaf;
 use std::alloc::AllocError;
 use syn_error::fault::ParseFault;
-use syn_parse::ParseBuffer;
+use syn_input::ParseBuffer;
 
 /// Reads a leaf where one stands, and else nothing.
 #[tactic(auto, using(crate::proofs::Views::absent, crate::proofs::Views::present, crate::proofs::Views::present_fails))]

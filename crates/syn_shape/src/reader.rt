@@ -5,13 +5,13 @@ ghost use Rattle.syn_error.specs.Tokens.{Put};
 ghost use Rattle.syn_grammar.specs.Keeps.{kepts};
 ghost use Rattle.syn_grammar.specs.Run.{kind};
 ghost use Rattle.syn_grammar.specs.Tree.{Tree};
-ghost use Rattle.syn_parse.specs.Input.{IsOnward, left};
+ghost use Rattle.syn_input.specs.Input.{IsOnward, left};
 ghost use Rattle.syn_shape.specs.Children.{child_kind};
 ghost use Rattle.syn_shape.specs.Reads.{Reads};
 
 use std::alloc::AllocError;
 use syn_error::fault::ParseFault;
-use syn_parse::ParseBuffer;
+use syn_input::ParseBuffer;
 
 /// What stands in a place where a node is held.
 #[derive(Clone, Copy, Debug)]

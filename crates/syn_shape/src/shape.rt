@@ -8,14 +8,14 @@ ghost use Rattle.syn_grammar.specs.Kind.{Kind};
 ghost use Rattle.syn_grammar.specs.Read.{IsRead, NoneRead};
 ghost use Rattle.syn_grammar.specs.Run.{kind};
 ghost use Rattle.syn_grammar.specs.Tree.{Tree};
-ghost use Rattle.syn_parse.specs.Input.{IsOnward, left};
+ghost use Rattle.syn_input.specs.Input.{IsOnward, left};
 ghost use Rattle.syn_shape.specs.Reads.{Reads};
 ghost use Rattle.syn_shape.specs.Views.{both};
 
 use crate::reader::{Copier, Reader};
 use std::alloc::AllocError;
 use syn_error::fault::ParseFault;
-use syn_parse::ParseBuffer;
+use syn_input::ParseBuffer;
 
 /// A type of the syntax tree that holds nodes of the type `E`, and is read by a reader of these.
 pub trait Shape<E: Drop>: Drop {

@@ -3,7 +3,7 @@ use Rattle.std.proofs.Common.{◌≡◌, List, ap, ◌∙◌, refl, subst, sym}
 use Rattle.std.specs.Prelude.{Bool, true, false, ◌&&◌, ◌↔◌, IsTrue}
 use Rattle.proc_macro2.specs.Token.{Token}
 use Rattle.proc_macro2.specs.declared.delimiter.Delimiter.TheVariants.{Bracket}
-use Rattle.syn_parse.specs.Stands.{end_stands}
+use Rattle.syn_buffer.specs.Stands.{end_stands}
 use Rattle.syn_grammar.specs.Gram.{group, ref}
 use Rattle.syn_grammar.specs.Keeps.{keeps, kepts, opened}
 use Rattle.syn_grammar.specs.Kept.{kept}

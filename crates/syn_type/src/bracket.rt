@@ -3,7 +3,7 @@
 ghost use Rattle.std.specs.Prelude.{◌<◌, ◌≡◌, ◌≤◌, OnOk, length};
 ghost use Rattle.syn_grammar.specs.Keeps.{keeps};
 ghost use Rattle.syn_grammar.specs.Kind as kinds;
-ghost use Rattle.syn_parse.specs.Input.{IsOnward, left};
+ghost use Rattle.syn_input.specs.Input.{IsOnward, left};
 ghost use Rattle.syn_shape.specs.Reads.{Reads};
 ghost use Rattle.syn_type.specs.Brackets.{NoArray, NoSlice, bracket_type, inside_gram, inside_tree};
 ghost use Rattle.syn_type.specs.Brackets.{put_type_array, put_type_slice, type_array, type_slice};
@@ -13,8 +13,8 @@ use proc_macro2::tree::TokenStream;
 use std::alloc::AllocError;
 use syn_error::fault::ParseFault;
 use syn_error::to_tokens::ToTokens;
+use syn_input::{Parse, ParseBuffer};
 use syn_kinds::token;
-use syn_parse::{Parse, ParseBuffer};
 use syn_shape::group::enter;
 use syn_shape::nodes::{boxed, copy_boxed};
 use syn_shape::{Child, Copied, Copier, Exact, Hub, Leaf, Reader, Shape};

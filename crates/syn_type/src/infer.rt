@@ -8,8 +8,8 @@ use proc_macro2::tree::TokenStream;
 use std::alloc::AllocError;
 use syn_error::fault::ParseFault;
 use syn_error::to_tokens::ToTokens;
+use syn_input::{Parse, ParseBuffer};
 use syn_kinds::token;
-use syn_parse::{Parse, ParseBuffer};
 use syn_shape::Leaf;
 use try_clone::TryClone;
 

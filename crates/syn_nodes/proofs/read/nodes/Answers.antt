@@ -10,7 +10,7 @@ use Rattle.syn_lists.specs.Lists.{separators, values}
 use Rattle.syn_nodes.specs.Lists.{list_tree}
 use Rattle.syn_nodes.proofs.Lists.{child_listed, marks_one, separator_fails, turned_end}
 use Rattle.syn_nodes.proofs.Lists.{turned_fails, turned_next, turned_stop}
-use Rattle.syn_parse.specs.Input.{left}
+use Rattle.syn_input.specs.Input.{left}
 use Rattle.syn_shape.specs.Children.{child_kind}
 use Rattle.syn_shape.specs.Leaves.{mark_of}
 use Rattle.syn_nodes.proofs.read.nodes.Goals as goal

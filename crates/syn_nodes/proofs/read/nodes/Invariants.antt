@@ -1,6 +1,6 @@
 use Rattle.std.proofs.Common.{◌≡◌, ◌≤◌, length}
 use Rattle.syn_lists.specs.Lists.{separators, values}
-use Rattle.syn_parse.specs.Input.{IsOnward, left}
+use Rattle.syn_input.specs.Input.{IsOnward, left}
 use Rattle.syn_shape.specs.Children.{child_kind}
 use Rattle.syn_shape.specs.Leaves.{mark_of}
 use Rattle.syn_nodes.proofs.Lists.{Turned}

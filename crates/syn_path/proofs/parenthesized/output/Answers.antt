@@ -3,7 +3,7 @@ use Rattle.std.proofs.lemmas.Result.{err_from_is_err_and}
 use Rattle.std.specs.Prelude.{true}
 use Rattle.syn_kinds.specs.Stands.{marks_stand}
 use Rattle.syn_kinds.specs.Table as table
-use Rattle.syn_parse.specs.Input.{left}
+use Rattle.syn_input.specs.Input.{left}
 use Rattle.syn_path.proofs.InParentheses.{arrow_fails, output_read, type_fails}
 use Rattle.syn_path.proofs.parenthesized.output.Goals as goal
 

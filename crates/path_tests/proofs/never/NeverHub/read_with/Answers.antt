@@ -1,5 +1,5 @@
 use Rattle.std.proofs.Common.{ap, arith}
-use Rattle.syn_parse.specs.Position.{ahead}
+use Rattle.syn_buffer.specs.Position.{ahead}
 use Rattle.path_tests.proofs.Nevers.{seen_few}
 use Rattle.path_tests.proofs.never.NeverHub.read_with.Goals as goal
 

@@ -2,7 +2,7 @@ use Rattle.std.proofs.Common.{◌≡◌, rules}
 use Rattle.std.specs.Prelude.{true}
 use Rattle.syn_kinds.specs.Stands.{marks_stand}
 use Rattle.syn_kinds.specs.Table as table
-use Rattle.syn_parse.specs.Input.{left}
+use Rattle.syn_input.specs.Input.{left}
 use Rattle.syn_path.proofs.Outputs.{arrow_type}
 use Rattle.syn_path.proofs.output.ReturnTypeShape.read.Goals as goal
 
