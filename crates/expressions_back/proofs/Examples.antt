@@ -18,12 +18,12 @@ use Rattle.expressions_back.specs.Behind.{MayFollow}
 use Rattle.expressions_back.proofs.ReadBack.{read_back}
 use Rattle.expressions_back.proofs.Simples.{simple}
 
-abbrev sum : Tree
+abbrev pub sum : Tree
 sum =
     Infix (Alone ExprLit (First (ALiteral (codes "1")))) ExprSum (First (AMark 43 [] Apart))
     (Alone ExprPath (lone_name (codes "x")))
 
-abbrev minus : Tree
+abbrev pub minus : Tree
 minus = Front ExprUnary (Second (Second (First (AMark 45 [] Apart)))) sum
 
 is_simple : IsSimple minus

@@ -33,9 +33,9 @@ off w e cs h = go (same_text w cs) refl
 pub record End (ts : List Token) : Type 0 where
   pub colon : sees (marks ":") ts ≡ false
   pub lifetime : sees a_lifetime ts ≡ false
-  bang : sees (no (marks "!=") then marks "!") ts ≡ false
-  const : sees (at "const") ts ≡ false
-  mut : sees (at "mut") ts ≡ false
+  pub bang : sees (no (marks "!=") then marks "!") ts ≡ false
+  pub const : sees (at "const") ts ≡ false
+  pub mut : sees (at "mut") ts ≡ false
 
 pub end : (ts : List Token) → AtEnd ts → End ts
 end ts e =
@@ -61,7 +61,7 @@ colons (Literal cs ∷ ts) e = refl
 colons (Opens d ∷ ts) e = refl
 colons (Closes d ∷ ts) e = refl
 
-no_more : (n : ℕ) (a : Look) (ts : List Token) → a ts ≡ None → as_far n a ts ≡ Some ts
+pub no_more : (n : ℕ) (a : Look) (ts : List Token) → a ts ≡ None → as_far n a ts ≡ Some ts
 no_more zero a ts e = refl
 no_more (suc n) a ts e = ap (λ o. first_seen (behind o (as_far n a)) (Some ts)) e
 
@@ -147,7 +147,8 @@ module _ (cs : List ℕ) (h : is_plain_name cs ≡ true) (ts : List Token) where
   path_last : first_form (form ExprPath (a_name or marks "::" or marks "<") ∷ []) (Ident cs ∷ ts) ≡ Some ExprPath
   path_last = ap (λ b. cond (seen (first_seen (cond b (Some ts) None) None)) (Some ExprPath) None) name_on
 
-  path_front : (p : Position) → AtEnd ts → front p (Ident cs ∷ ts) ≡ Some ExprPath
+  pub path_front : (p : Position) → seen (macro_call_stands (Ident cs ∷ ts)) ≡ false
+      → front p (Ident cs ∷ ts) ≡ Some ExprPath
   unfolding front is_plain_name is_reserved others Unseen
   path_front p e =
       skip 30 (fronts p) (Ident cs ∷ ts) (
@@ -198,7 +199,7 @@ module _ (cs : List ℕ) (h : is_plain_name cs ≡ true) (ts : List Token) where
                                                     at_word (codes "yield") refl,
                                                     (
                                                       let_off p,
-                                                      (refl, (refl, (refl, (refl, (refl, (macro_off e, tt)))))),
+                                                      (refl, (refl, (refl, (refl, (refl, (e, tt)))))),
                                                     ),
                                                   ),
                                                 ),
@@ -224,13 +225,13 @@ module _ (cs : List ℕ) (h : is_plain_name cs ≡ true) (ts : List Token) where
         ),
       ) ∙ path_last
 
-  raw_off : AtEnd ts → sees no_operand (Ident cs ∷ ts) ≡ false
+  pub raw_off : sees (at "const") ts ≡ false → sees (at "mut") ts ≡ false → sees no_operand (Ident cs ∷ ts) ≡ false
   unfolding is_plain_name is_reserved
-  raw_off e =
+  raw_off e f =
       ap (λ b. seen (first_seen (cond b (Some ts) None)
       (behind (cond (same_text (codes "raw") cs) (Some ts) None) (at "const" or at "mut"))))
       (off (codes "mut") refl cs h)
-      ∙ or_no (same_text (codes "raw") cs) ts (or_none (at "const" ts) (at "mut" ts) (end ts e).const (end ts e).mut)
+      ∙ or_no (same_text (codes "raw") cs) ts (or_none (at "const" ts) (at "mut" ts) e f)
 
   name_read : AtEnd ts → Derives (lone_name cs) (table ExprPath) ts
   unfolding table
@@ -266,8 +267,8 @@ name_held cs = refl
 
 pub name_front : (cs : List ℕ) → is_plain_name cs ≡ true → IsFront AtEnd ExprPath (lone_name cs)
 name_front cs h = record {
-  begins = λ p ts s e. path_front cs h ts p e;
+  begins = λ p ts s e. path_front cs h ts p (macro_off cs h ts e);
   read = λ ts e. name_read cs h ts e;
   held = name_held cs;
-  single = λ ts e. raw_off cs h ts e;
+  single = λ ts e. raw_off cs h ts (end ts e).const (end ts e).mut;
 }

@@ -86,7 +86,7 @@ dot_none : (p : List ℕ → Bool) (b : Bool) (l : Look) (ts : List Token)
 dot_none p true l ts e = refl
 dot_none p false l ts e = before_literals p (l ts) e
 
-record Quiet (ts : List Token) : Type 0 where
+pub record Quiet (ts : List Token) : Type 0 where
   postfix : sees postfix_stands ts ≡ false
   less : sees lone_less ts ≡ false
   call : sees parenthesis ts ≡ false
@@ -114,18 +114,18 @@ quiet_own ExprCast y ts q =
 quiet_own ExprField y ts q = ap (λ b. not (has the_name y && b)) q.call ∙ ap not (and_no (has the_name y))
 quiet_own _ y ts q = refl
 
-quiet_last : (x : Tree) (ts : List Token) → Quiet ts → LastEnds ts x
+pub quiet_last : (x : Tree) (ts : List Token) → Quiet ts → LastEnds ts x
 quiet_last (Front k y x) ts q = quiet_last x ts q
 quiet_last (Infix l k y r) ts q = quiet_last r ts q
 quiet_last (Back l k y) ts q = quiet_own k y ts q
 quiet_last _ ts q = tt
 
 -- what follows a whole expression
-record Follows (p : Position) (ts : List Token) : Type 0 where
-  beside : Beside p p (stands_behind p) ts
-  at_end : AtEnd ts
-  none : back InCondition ts ≡ None
-  quiet : Quiet ts
+pub record Follows (p : Position) (ts : List Token) : Type 0 where
+  pub beside : Beside p p (stands_behind p) ts
+  pub at_end : AtEnd ts
+  pub none : back InCondition ts ≡ None
+  pub quiet : Quiet ts
 
 brace_alone : (r : List Token) → Follows InCondition (Opens Brace ∷ r)
 unfolding stands_behind back
@@ -169,7 +169,7 @@ calm_follows p ts f o r e a =
       quiet = quiet ts e;
     }
 
-follows : (p : Position) (ts : List Token) → MayFollow p ts → Follows p ts
+pub follows : (p : Position) (ts : List Token) → MayFollow p ts → Follows p ts
 unfolding stands_behind
 follows Plain ts m = calm_follows Plain ts refl m.0 m.1 m.2 m.3
 follows InCondition ts m = brace_follows ts m

@@ -24,7 +24,7 @@ break_part : (k : Kind) (y : Tree) → is_break k ≡ true → IsOwn k y → IsF
 break_part ExprBreak y e o = break_end y o
 break_part _ y e o = absurd (never e)
 
-end_front : (k : Kind) (y : Tree) → (is_firm_front k || is_break k) ≡ true → IsOwn k y → IsFront AtEnd k y
+pub end_front : (k : Kind) (y : Tree) → (is_firm_front k || is_break k) ≡ true → IsOwn k y → IsFront AtEnd k y
 end_front k y e o = go (is_firm_front k) refl e
   where
     go : (b : Bool) → is_firm_front k ≡ b → (b || is_break k) ≡ true → IsFront AtEnd k y
@@ -45,7 +45,7 @@ reference_part ExprReference y e o = reference_front y o
 reference_part ExprRawAddr y e o = address_front (BeforeOperand ExprRawAddr y) y o
 reference_part _ y e o = absurd (never e)
 
-prefix_front : (k : Kind) (y : Tree) → (is_firm_front k || is_break k || is_reference k) ≡ true → IsOwn k y
+pub prefix_front : (k : Kind) (y : Tree) → (is_firm_front k || is_break k || is_reference k) ≡ true → IsOwn k y
     → IsFront (BeforeOperand k y) k y
 prefix_front k y e o = go (is_firm_front k) refl e
   where
@@ -53,12 +53,12 @@ prefix_front k y e o = go (is_firm_front k) refl e
     go true f e = front_part (BeforeOperand k y) k y f o
     go false f e = reference_part k y e o
 
-prefix_plain : (k : Kind) (x : Tree) → (is_firm_front k || is_break k || is_reference k) ≡ true
+pub prefix_plain : (k : Kind) (x : Tree) → (is_firm_front k || is_break k || is_reference k) ≡ true
     → (is_attributed k && is_attributed_form x) ≡ false
 prefix_plain ExprAttributed x e = absurd (never e)
 prefix_plain _ x e = refl
 
-behind_plain : (k : Kind) → is_firm_behind k ≡ true → is_struct k ≡ false
+pub behind_plain : (k : Kind) → is_firm_behind k ≡ true → is_struct k ≡ false
 behind_plain ExprStruct e = absurd (never e)
 behind_plain _ e = refl
 

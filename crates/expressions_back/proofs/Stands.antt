@@ -73,7 +73,7 @@ or_no : (a b : Bool) → (a || b) ≡ false → a ≡ false
 or_no true b e = e
 or_no false b e = refl
 
-lone_right : (p q : Position) (ts rest : List Token) (k : Kind) → Beside p q ts rest → may_lack_operand k ≡ true
+pub lone_right : (p q : Position) (ts rest : List Token) (k : Kind) → Beside p q ts rest → may_lack_operand k ≡ true
     → takes_what_follows p k ts ≡ false → has_right q k rest ≡ false
 lone_right p q ts rest k b l t = go (may_lack k) refl
   where
@@ -84,7 +84,7 @@ lone_right p q ts rest k b l t = go (may_lack k) refl
     go false m =
         fixed_right q k rest m ∙ ap not (sym (ap (λ c. c || ends_by_itself k) m) ∙ l)
 
-lone_begins : (k : Kind) (q : Position) → may_lack_operand k ≡ true → begins_in q k ≡ true
+pub lone_begins : (k : Kind) (q : Position) → may_lack_operand k ≡ true → begins_in q k ≡ true
 unfolding may_lack level
 lone_begins k Plain l = refl
 lone_begins k InCondition l = refl
@@ -92,7 +92,7 @@ lone_begins k InArm l = refl
 lone_begins ExprLet InStatement l = cc
 lone_begins _ InStatement l = refl
 
-alone_at : (q : Position) (k : Kind) (y : Tree) (rest : List Token) → IsFront AtEnd k y → may_lack_operand k ≡ true
+pub alone_at : (q : Position) (k : Kind) (y : Tree) (rest : List Token) → IsFront AtEnd k y → may_lack_operand k ≡ true
     → AtEnd rest → has_right q k rest ≡ false → Stand q (Alone k y) rest
 alone_at q k y rest o l e h = record {
   spelled = (o.begins q rest (lone_begins k q l) e, o.read rest e, h);
@@ -121,7 +121,7 @@ closed x f p ts h q rest =
     (h Plain [] (beside_nothing p ts) refl (last_nothing z)).spelled (starts x f p ts)
 
 -- No attributes stand before attributes.
-is_no : (b : Bool) → b ≡ true → b ≡ false → ⊥
+pub is_no : (b : Bool) → b ≡ true → b ≡ false → ⊥
 is_no true e f = never (sym f)
 is_no false e f = never e
 
@@ -180,7 +180,7 @@ left_attributed q k l m h n = go (is_struct k) refl
     go true s = path_attributed l (h s)
     go false s = postfix_attributed l (postfix_left k l s n (and_true (may_be_left k l) _ (m s).0.0).0)
 
-no_hash : (z : Tree) (q : Position) (rest : List Token) → Spelled q z rest → Meets q z
+pub no_hash : (z : Tree) (q : Position) (rest : List Token) → Spelled q z rest → Meets q z
     → within (level ExprAttributed) z ≡ true → is_attributed_form z ≡ false → sees (marks "#") (flat z ++ rest) ≡ false
 no_hash (Alone k y) q rest s m w a = hash_front q (flat y ++ rest) k s.0 (lone_attributed q k rest s.2)
 no_hash (Front k y x) q rest s m w a =
@@ -203,7 +203,7 @@ record Right (q : Position) (k : Kind) (y w : Tree) (rest : List Token) : Type 0
   before : BeforeOperand k y (flat w ++ rest)
   right : has_right q k (flat w ++ rest) ≡ true
 
-have_right : (q : Position) (k : Kind) (ts : List Token) → may_have_operand k ≡ true
+pub have_right : (q : Position) (k : Kind) (ts : List Token) → may_have_operand k ≡ true
     → (may_lack k ≡ true → has_right q k ts ≡ true) → has_right q k ts ≡ true
 have_right q k ts l h = go (may_lack k) refl
   where
@@ -221,7 +221,7 @@ unfolding may_lack
 unlabelled ExprBreak y ts m = absurd (never (sym m))
 unlabelled _ y ts m = refl
 
-stays_label : (k : Kind) (y : Tree) (ts : List Token) (h : Bool)
+pub stays_label : (k : Kind) (y : Tree) (ts : List Token) (h : Bool)
     → (not (may_lack k) || (h && not (is_label k y ts))) ≡ true → is_label k y ts ≡ false
 stays_label k y ts h e = go (may_lack k) refl
   where
@@ -230,7 +230,7 @@ stays_label k y ts h e = go (may_lack k) refl
         (and_true h _ (sym (ap (λ c. not c || (h && not (is_label k y ts))) m) ∙ e)).1
     go false m = unlabelled k y ts m
 
-attributed_is : (k : Kind) → is_attributed k ≡ true → k ≡ ExprAttributed
+pub attributed_is : (k : Kind) → is_attributed k ≡ true → k ≡ ExprAttributed
 attributed_is ExprAttributed e = refl
 attributed_is _ e = cc
 
@@ -316,12 +316,12 @@ left_at l f p q k y rest n t s g h = go (stays_left p k y m) refl
     go false e = closed l f p (follow (flat y)) h q (flat y ++ rest)
 
 -- before the braces of a struct
-brace_end : (ts : List Token) → sees brace ts ≡ true → AtEnd ts
+pub brace_end : (ts : List Token) → sees brace ts ≡ true → AtEnd ts
 brace_end [] e = absurd (never e)
 brace_end (Opens d ∷ ts) e = refl
 brace_end (_ ∷ ts) e = absurd (never e)
 
-struct_is : (k : Kind) → is_struct k ≡ true → k ≡ ExprStruct
+pub struct_is : (k : Kind) → is_struct k ≡ true → k ≡ ExprStruct
 struct_is ExprStruct s = refl
 struct_is _ s = cc
 
@@ -329,7 +329,7 @@ path_takes : (p : Position) (ts : List Token) → takes_what_follows p ExprPath 
 unfolding may_lack
 path_takes p ts = path_plain p (follow ts) (follow_plain ts)
 
-path_lone : (q : Position) (ts : List Token) → has_right q ExprPath ts ≡ false
+pub path_lone : (q : Position) (ts : List Token) → has_right q ExprPath ts ≡ false
 unfolding has_right level
 path_lone q ts = refl
 
@@ -382,7 +382,7 @@ before_at l f p q k y rest n t i g h = go (is_struct k) refl
       path = λ r. absurd (is_no (is_struct k) r s);
     }
 
-infix_stands : (q : Position) (k : Kind) → is_struct k ≡ false → stands_in q k ≡ true
+pub infix_stands : (q : Position) (k : Kind) → is_struct k ≡ false → stands_in q k ≡ true
 infix_stands InCondition ExprStruct s = absurd (never (sym s))
 infix_stands InCondition _ s = refl
 infix_stands Plain k s = refl
@@ -472,7 +472,7 @@ back_standing l k y f p ts h q rest b e le = go (stands_in p k && not (takes_wha
         (at Plain [] (inr refl) refl refl (no_right Plain k f.1) (nothing_ends k (normal y))).spelled
         (starts_more (flat v) (flat (normal y)) (unless_starts (stays_left p k (normal y) m) m (starts l f.3 p us)))
 
-infix_plain : (k : Kind) (x : Tree) (ts : List Token) → is_struct k ≡ false → back Plain ts ≡ Some k
+pub infix_plain : (k : Kind) (x : Tree) (ts : List Token) → is_struct k ≡ false → back Plain ts ≡ Some k
     → (is_attributed k && is_attributed_form x) ≡ false
 infix_plain k x ts s e = ap (λ b. b && is_attributed_form x) (behind_plain k (backs_are Plain k ts e))
   where

@@ -2,7 +2,8 @@
 use Rattle.std.specs.Prelude.{◌≡◌, Bool, true, false, List}
 use Rattle.std.proofs.Common.{inl}
 use Rattle.proc_macro2.specs.Token.{Token}
-use Rattle.syn_grammar.specs.Kind.{Kind, Expression, Plain, InCondition, InArm, InStatement}
+use Rattle.syn_grammar.specs.Kind.{Kind, AFieldValue, AType, Expression, ImplGenerics, Plain, InCondition, InArm}
+use Rattle.syn_grammar.specs.Kind.{InStatement, WithPlus}
 use Rattle.syn_grammar.specs.Tree.{Tree, Node}
 use Rattle.grammar_back.specs.After.{behind, After}
 use Rattle.grammar_back.specs.Sees.{LacksAll}
@@ -13,6 +14,8 @@ after_node (Expression Plain) x s a = a
 after_node (Expression InCondition) x s a = a
 after_node (Expression InArm) x s a = a
 after_node (Expression InStatement) x s a = a
+after_node (AType WithPlus) x s a = a
+after_node ImplGenerics x s a = a
 after_node _ x s a = a
 
 -- what the looks don't see may follow
@@ -21,12 +24,18 @@ suffices (Expression Plain) x s a = a
 suffices (Expression InCondition) x s a = a
 suffices (Expression InArm) x s a = inl a
 suffices (Expression InStatement) x s a = inl a
+suffices AFieldValue x s a = inl a
+suffices (AType WithPlus) x s a = inl a
+suffices ImplGenerics x s a = inl a
 suffices _ x s a = a
 
 -- and of these kinds nothing else may
 abbrev pub is_by_tokens : Kind → Bool
 is_by_tokens (Expression InArm) = false
 is_by_tokens (Expression InStatement) = false
+is_by_tokens AFieldValue = false
+is_by_tokens (AType WithPlus) = false
+is_by_tokens ImplGenerics = false
 is_by_tokens k = true
 
 pub by_tokens : (k : Kind) (x : Tree) (s : List Token) → is_by_tokens k ≡ true → After k x s → LacksAll (behind k) s
@@ -34,4 +43,7 @@ by_tokens (Expression Plain) x s e a = a
 by_tokens (Expression InCondition) x s e a = a
 by_tokens (Expression InArm) x s e a = cc
 by_tokens (Expression InStatement) x s e a = cc
+by_tokens AFieldValue x s e a = cc
+by_tokens (AType WithPlus) x s e a = cc
+by_tokens ImplGenerics x s e a = cc
 by_tokens _ x s e a = a

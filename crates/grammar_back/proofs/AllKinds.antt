@@ -1,36 +1,40 @@
 -- The steps of all covered kinds, and what is known of each. Written by tools/steps.py.
 use Rattle.std.proofs.Common.{◌≡◌, refl}
 use Rattle.std.specs.Prelude.{true, false}
-use Rattle.syn_grammar.specs.Kind.{Kind, AConst, AFunction, AMacro, AStatic, AStruct, AType, ATypeAlias, AUnion}
-use Rattle.syn_grammar.specs.Kind.{AUse, Abi, AnArgument, AnEnum, AnExternCrate, AnyPath, Arguments, AtType}
-use Rattle.syn_grammar.specs.Kind.{Bound, BoundLifetimes, Bounds, BoundsColon, BracketType, ClosureParam}
-use Rattle.syn_grammar.specs.Kind.{ConstParam, Delimited, DynType, ExprAnd, ExprArray, ExprAssign, ExprAsync}
-use Rattle.syn_grammar.specs.Kind.{ExprAttributed, ExprBitAnd, ExprBitOr, ExprBitXor, ExprBlock, ExprBreak}
-use Rattle.syn_grammar.specs.Kind.{ExprCall, ExprCast, ExprClosure, ExprCompare, ExprConst, ExprContinue}
+use Rattle.syn_grammar.specs.Kind.{Kind, AConst, AConstTrait, AFieldValue, AFile, AForeignModule, AFunction}
+use Rattle.syn_grammar.specs.Kind.{AMacro, AMacroDefinition, AModule, ARestrictedTrait, AStatic, AStruct, ATrait}
+use Rattle.syn_grammar.specs.Kind.{AType, ATypeAlias, AUnion, AUse, Abi, AnArgument, AnEnum, AnExternCrate}
+use Rattle.syn_grammar.specs.Kind.{AnImpl, AnItem, AnyPath, Arguments, Arms, AtType, Block, Body, Bound}
+use Rattle.syn_grammar.specs.Kind.{BoundLifetimes, Bounds, BoundsColon, BracketType, ClosureParam, ConstParam}
+use Rattle.syn_grammar.specs.Kind.{Delimited, DynType, ExprAnd, ExprArray, ExprAssign, ExprAsync, ExprAttributed}
+use Rattle.syn_grammar.specs.Kind.{ExprAwait, ExprBitAnd, ExprBitOr, ExprBitXor, ExprBlock, ExprBreak, ExprCall}
+use Rattle.syn_grammar.specs.Kind.{ExprCast, ExprClosure, ExprCompare, ExprConst, ExprContinue, ExprField}
 use Rattle.syn_grammar.specs.Kind.{ExprForLoop, ExprGroup, ExprIf, ExprIndex, ExprInfer, ExprLet, ExprLit}
-use Rattle.syn_grammar.specs.Kind.{ExprLoop, ExprMacro, ExprMatch, ExprOr, ExprParen, ExprPath, ExprProduct}
-use Rattle.syn_grammar.specs.Kind.{ExprRange, ExprRangeClosed, ExprRawAddr, ExprReference, ExprRepeat, ExprReturn}
-use Rattle.syn_grammar.specs.Kind.{ExprShift, ExprStruct, ExprSum, ExprTry, ExprTryBlock, ExprTypedClosure}
-use Rattle.syn_grammar.specs.Kind.{ExprUnary, ExprUnsafe, ExprWhile, ExprYield, FieldPattern, FieldPatterns}
-use Rattle.syn_grammar.specs.Kind.{FieldValue, FieldValues, FnArg, FnPtrArg, FnPtrType, GenericParam}
-use Rattle.syn_grammar.specs.Kind.{GenericParams, Generics, IdentPattern, ImplType, InExpression, InFile}
-use Rattle.syn_grammar.specs.Kind.{InForeign, InImpl, InModule, InTrait, InType, Index, InferType, InnerAttribute}
-use Rattle.syn_grammar.specs.Kind.{InnerAttributes, ItemMacro, Label, LifetimeColon, LifetimeParam, Lifetimes}
+use Rattle.syn_grammar.specs.Kind.{ExprLoop, ExprMacro, ExprMatch, ExprMethodCall, ExprOr, ExprParen, ExprPath}
+use Rattle.syn_grammar.specs.Kind.{ExprProduct, ExprRange, ExprRangeClosed, ExprRawAddr, ExprReference}
+use Rattle.syn_grammar.specs.Kind.{ExprRepeat, ExprReturn, ExprShift, ExprStruct, ExprSum, ExprTry, ExprTryBlock}
+use Rattle.syn_grammar.specs.Kind.{ExprTypedClosure, ExprUnary, ExprUnsafe, ExprWhile, ExprYield, FieldPattern}
+use Rattle.syn_grammar.specs.Kind.{FieldPatterns, FieldValue, FieldValues, FnArg, FnPtrArg, FnPtrType}
+use Rattle.syn_grammar.specs.Kind.{ForeignItems, GenericParam, GenericParams, Generics, IdentPattern}
+use Rattle.syn_grammar.specs.Kind.{ImplGenerics, ImplItems, ImplType, InExpression, InFile, InForeign, InImpl}
+use Rattle.syn_grammar.specs.Kind.{InModule, InTrait, InType, Index, InferType, InnerAttribute, InnerAttributes}
+use Rattle.syn_grammar.specs.Kind.{ItemMacro, Items, Label, LifetimeColon, LifetimeParam, Lifetimes}
 use Rattle.syn_grammar.specs.Kind.{LiteralPattern, Member, Meta, NamedField, NamedFields, NeverType, OnePattern}
-use Rattle.syn_grammar.specs.Kind.{OuterAttribute, OuterAttributes, Parameters, ParenthesizedArguments, Path}
-use Rattle.syn_grammar.specs.Kind.{PathPattern, Pattern, PointerType, QualifiedPath, RangeBound, RangeEnd}
+use Rattle.syn_grammar.specs.Kind.{OuterAttribute, OuterAttributes, Parameter, Parameters, ParenthesizedArguments}
+use Rattle.syn_grammar.specs.Kind.{Path, PathPattern, Pattern, PointerType, QualifiedPath, RangeBound, RangeEnd}
 use Rattle.syn_grammar.specs.Kind.{RangeToPattern, Receiver, ReferencePattern, ReferenceType, RestPattern}
-use Rattle.syn_grammar.specs.Kind.{ReturnType, Segments, SeveralPatterns, Signature, SlicePattern, SomeBounds}
-use Rattle.syn_grammar.specs.Kind.{TraitPath, TuplePattern, TupleType, TypeParam, UnnamedField, UnnamedFields}
-use Rattle.syn_grammar.specs.Kind.{UseBranch, UseRooted, UseTop, UseTree, Variant, Visibility, Where, WhereClause}
-use Rattle.syn_grammar.specs.Kind.{WherePredicate, WildPattern, WithPlus, WithoutPlus}
+use Rattle.syn_grammar.specs.Kind.{ReturnType, Segment, Segments, SeveralPatterns, Signature, SlicePattern}
+use Rattle.syn_grammar.specs.Kind.{SomeBounds, Statements, TraitItems, TraitPath, TuplePattern, TupleType}
+use Rattle.syn_grammar.specs.Kind.{TypeParam, UnnamedField, UnnamedFields, UseBranch, UseRooted, UseTop, UseTree}
+use Rattle.syn_grammar.specs.Kind.{Variant, Visibility, Where, WhereClause, WherePredicate, WildPattern, WithPlus}
+use Rattle.syn_grammar.specs.Kind.{WithoutPlus}
 use Rattle.syn_grammar.specs.Kept.{held}
 use Rattle.syn_grammar.specs.Normal.{passed, place_of}
 use Rattle.syn_grammar.specs.Table.{table}
 use Rattle.grammar_back.specs.Covered.{has_step}
 use Rattle.grammar_back.proofs.Readies.{Step}
 use Rattle.grammar_back.proofs.Printed.{KindLaw, simple_kind}
-use Rattle.grammar_back.proofs.Turbofish.{law_segments_in_expression}
+use Rattle.grammar_back.proofs.Turbofish.{law_segments_in_expression, law_segment_in_expression}
 use Rattle.grammar_back.proofs.KindLaws.{law_arguments, law_an_argument, law_member, law_index, law_dyn}
 use Rattle.grammar_back.proofs.KindLaws.{law_dyn_alone, law_impl, law_impl_alone, law_some_bounds, law_pattern}
 use Rattle.grammar_back.proofs.KindLaws.{law_several, law_outer, law_inner, law_meta, law_generics}
@@ -38,27 +42,36 @@ use Rattle.grammar_back.proofs.KindLaws.{law_generic_params, law_lifetime_colon,
 use Rattle.grammar_back.proofs.KindLaws.{law_unnamed_field, law_variant, law_const, law_trait_type, law_impl_type}
 use Rattle.grammar_back.proofs.Alternatives.{law_one_pattern}
 use Rattle.grammar_back.proofs.References.{law_reference_pattern}
-use Rattle.grammar_back.proofs.Elements.{law_field_patterns, law_parameters, law_fn_arg, law_field_values}
+use Rattle.grammar_back.proofs.Elements.{law_field_patterns, law_parameters, law_fn_arg, law_trait}
+use Rattle.grammar_back.proofs.Elements.{law_restricted_trait, law_field_values}
 use Rattle.grammar_back.proofs.Defaults.{law_const_param}
 use Rattle.grammar_back.proofs.Predicates.{law_where_predicate}
+use Rattle.grammar_back.proofs.Receivers.{law_parameter}
+use Rattle.grammar_back.proofs.Aliases.{law_type_in_file, law_type_in_foreign}
+use Rattle.grammar_back.proofs.Turns.{law_statements, law_items, law_foreign_items, law_trait_items}
+use Rattle.grammar_back.proofs.Turns.{law_impl_items, law_arms}
+use Rattle.grammar_back.proofs.Impls.{law_an_impl}
+use Rattle.grammar_back.proofs.WholeItems.{law_an_item}
+use Rattle.grammar_back.proofs.Dotted.{law_expr_method_call, law_expr_field, law_expr_await}
 use Rattle.grammar_back.proofs.StepsOfPaths.{step_path_in_module, step_path_in_expression, step_path_in_type}
 use Rattle.grammar_back.proofs.StepsOfPaths.{step_path_at_type, step_segments_in_module, step_segments_in_type}
-use Rattle.grammar_back.proofs.StepsOfPaths.{step_segments_at_type, step_qualified_path_in_module}
+use Rattle.grammar_back.proofs.StepsOfPaths.{step_segments_at_type, step_segment_in_module, step_segment_in_type}
+use Rattle.grammar_back.proofs.StepsOfPaths.{step_segment_at_type, step_qualified_path_in_module}
 use Rattle.grammar_back.proofs.StepsOfPaths.{step_qualified_path_in_expression, step_qualified_path_in_type}
 use Rattle.grammar_back.proofs.StepsOfPaths.{step_qualified_path_at_type, step_any_path_in_module}
 use Rattle.grammar_back.proofs.StepsOfPaths.{step_any_path_in_expression, step_any_path_in_type}
 use Rattle.grammar_back.proofs.StepsOfPaths.{step_any_path_at_type, step_arguments, step_an_argument}
 use Rattle.grammar_back.proofs.StepsOfPaths.{step_parenthesized_arguments, step_a_macro, step_delimited}
 use Rattle.grammar_back.proofs.StepsOfPaths.{step_member, step_index}
-use Rattle.grammar_back.proofs.Turbofish.{step_segments_in_expression}
-use Rattle.grammar_back.proofs.StepsOfTypes.{step_a_type_with_plus, step_a_type_without_plus}
-use Rattle.grammar_back.proofs.StepsOfTypes.{step_dyn_type_with_plus, step_impl_type_with_plus}
-use Rattle.grammar_back.proofs.StepsOfTypes.{step_return_type_with_plus, step_return_type_without_plus}
-use Rattle.grammar_back.proofs.StepsOfTypes.{step_tuple_type, step_never_type, step_reference_type}
-use Rattle.grammar_back.proofs.StepsOfTypes.{step_pointer_type, step_bracket_type, step_infer_type}
-use Rattle.grammar_back.proofs.StepsOfTypes.{step_fn_ptr_type, step_fn_ptr_arg, step_some_bounds, step_bounds}
-use Rattle.grammar_back.proofs.StepsOfTypes.{step_bound, step_trait_path, step_bound_lifetimes, step_lifetimes}
-use Rattle.grammar_back.proofs.StepsOfTypes.{step_abi}
+use Rattle.grammar_back.proofs.Turbofish.{step_segments_in_expression, step_segment_in_expression}
+use Rattle.grammar_back.proofs.PathTypes.{step_type_with_plus}
+use Rattle.grammar_back.proofs.StepsOfTypes.{step_a_type_without_plus, step_dyn_type_with_plus}
+use Rattle.grammar_back.proofs.StepsOfTypes.{step_impl_type_with_plus, step_return_type_with_plus}
+use Rattle.grammar_back.proofs.StepsOfTypes.{step_return_type_without_plus, step_tuple_type, step_never_type}
+use Rattle.grammar_back.proofs.StepsOfTypes.{step_reference_type, step_pointer_type, step_bracket_type}
+use Rattle.grammar_back.proofs.StepsOfTypes.{step_infer_type, step_fn_ptr_type, step_fn_ptr_arg, step_some_bounds}
+use Rattle.grammar_back.proofs.StepsOfTypes.{step_bounds, step_bound, step_trait_path, step_bound_lifetimes}
+use Rattle.grammar_back.proofs.StepsOfTypes.{step_lifetimes, step_abi}
 use Rattle.grammar_back.proofs.HandSteps.{step_dyn_alone, step_impl_alone, step_visibility}
 use Rattle.grammar_back.proofs.StepsOfPatterns.{step_pattern, step_several_patterns, step_ident_pattern}
 use Rattle.grammar_back.proofs.StepsOfPatterns.{step_wild_pattern, step_range_to_pattern, step_rest_pattern}
@@ -73,6 +86,7 @@ use Rattle.grammar_back.proofs.ValueSteps.{step_meta, step_a_const}
 use Rattle.grammar_back.proofs.StepsOfGenerics.{step_generics, step_generic_params, step_generic_param}
 use Rattle.grammar_back.proofs.StepsOfGenerics.{step_lifetime_param, step_lifetime_colon, step_const_param}
 use Rattle.grammar_back.proofs.StepsOfGenerics.{step_type_param, step_bounds_colon, step_where, step_where_clause}
+use Rattle.grammar_back.proofs.ImplParams.{step_impl_generics}
 use Rattle.grammar_back.proofs.Predicates.{step_where_predicate}
 use Rattle.grammar_back.proofs.StepsOfItems.{step_named_fields, step_unnamed_fields, step_named_field}
 use Rattle.grammar_back.proofs.StepsOfItems.{step_variant, step_a_struct, step_an_enum, step_a_union}
@@ -85,8 +99,17 @@ use Rattle.grammar_back.proofs.StepsOfItems.{step_a_function_in_foreign, step_a_
 use Rattle.grammar_back.proofs.StepsOfItems.{step_a_function_in_impl, step_a_type_alias_in_trait}
 use Rattle.grammar_back.proofs.StepsOfItems.{step_a_type_alias_in_impl, step_item_macro_in_file}
 use Rattle.grammar_back.proofs.StepsOfItems.{step_item_macro_in_foreign, step_item_macro_in_trait}
-use Rattle.grammar_back.proofs.StepsOfItems.{step_item_macro_in_impl, step_label}
+use Rattle.grammar_back.proofs.StepsOfItems.{step_item_macro_in_impl, step_label, step_body, step_block}
+use Rattle.grammar_back.proofs.StepsOfItems.{step_a_module, step_a_foreign_module, step_a_macro_definition}
+use Rattle.grammar_back.proofs.StepsOfItems.{step_a_trait, step_a_const_trait, step_a_restricted_trait}
+use Rattle.grammar_back.proofs.StepsOfItems.{step_a_file}
 use Rattle.grammar_back.proofs.Fields.{step_unnamed_field}
+use Rattle.grammar_back.proofs.Receivers.{step_parameter}
+use Rattle.grammar_back.proofs.Aliases.{step_type_in_file, step_type_in_foreign}
+use Rattle.grammar_back.proofs.Turns.{step_statements, step_items, step_foreign_items, step_trait_items}
+use Rattle.grammar_back.proofs.Turns.{step_impl_items, step_arms}
+use Rattle.grammar_back.proofs.Impls.{step_an_impl}
+use Rattle.grammar_back.proofs.WholeItems.{step_an_item}
 use Rattle.grammar_back.proofs.StepsOfExpressions.{step_expr_lit, step_expr_path, step_expr_macro}
 use Rattle.grammar_back.proofs.StepsOfExpressions.{step_expr_paren, step_expr_array, step_expr_repeat}
 use Rattle.grammar_back.proofs.StepsOfExpressions.{step_expr_group, step_expr_infer, step_expr_block}
@@ -102,7 +125,9 @@ use Rattle.grammar_back.proofs.StepsOfExpressions.{step_expr_range, step_expr_ra
 use Rattle.grammar_back.proofs.StepsOfExpressions.{step_expr_or, step_expr_and, step_expr_compare}
 use Rattle.grammar_back.proofs.StepsOfExpressions.{step_expr_bit_or, step_expr_bit_xor, step_expr_bit_and}
 use Rattle.grammar_back.proofs.StepsOfExpressions.{step_expr_shift, step_expr_sum, step_expr_product}
-use Rattle.grammar_back.proofs.StepsOfExpressions.{step_field_values, step_field_value, step_closure_param}
+use Rattle.grammar_back.proofs.StepsOfExpressions.{step_field_value, step_closure_param}
+use Rattle.grammar_back.proofs.Dotted.{step_expr_method_call, step_expr_field, step_expr_await}
+use Rattle.grammar_back.proofs.FieldValues.{step_field_values, step_a_field_value}
 
 pub steps : (k : Kind) → has_step k ≡ true → Step k
 unfolding has_step
@@ -114,6 +139,10 @@ steps (Segments InModule) e = step_segments_in_module
 steps (Segments InExpression) e = step_segments_in_expression
 steps (Segments InType) e = step_segments_in_type
 steps (Segments AtType) e = step_segments_at_type
+steps (Segment InModule) e = step_segment_in_module
+steps (Segment InExpression) e = step_segment_in_expression
+steps (Segment InType) e = step_segment_in_type
+steps (Segment AtType) e = step_segment_at_type
 steps (QualifiedPath InModule) e = step_qualified_path_in_module
 steps (QualifiedPath InExpression) e = step_qualified_path_in_expression
 steps (QualifiedPath InType) e = step_qualified_path_in_type
@@ -129,7 +158,7 @@ steps AMacro e = step_a_macro
 steps Delimited e = step_delimited
 steps Member e = step_member
 steps Index e = step_index
-steps (AType WithPlus) e = step_a_type_with_plus
+steps (AType WithPlus) e = step_type_with_plus
 steps (AType WithoutPlus) e = step_a_type_without_plus
 steps (DynType WithPlus) e = step_dyn_type_with_plus
 steps (DynType WithoutPlus) e = step_dyn_alone
@@ -174,6 +203,7 @@ steps InnerAttributes e = step_inner_attributes
 steps InnerAttribute e = step_inner_attribute
 steps Meta e = step_meta
 steps Generics e = step_generics
+steps ImplGenerics e = step_impl_generics
 steps GenericParams e = step_generic_params
 steps GenericParam e = step_generic_param
 steps LifetimeParam e = step_lifetime_param
@@ -202,6 +232,7 @@ steps UseTree e = step_use_tree
 steps UseBranch e = step_use_branch
 steps UseRooted e = step_use_rooted
 steps Parameters e = step_parameters
+steps Parameter e = step_parameter
 steps FnArg e = step_fn_arg
 steps Receiver e = step_receiver
 steps (Signature InFile) e = step_signature_in_file
@@ -212,6 +243,8 @@ steps (AFunction InFile) e = step_a_function_in_file
 steps (AFunction InForeign) e = step_a_function_in_foreign
 steps (AFunction InTrait) e = step_a_function_in_trait
 steps (AFunction InImpl) e = step_a_function_in_impl
+steps (ATypeAlias InFile) e = step_type_in_file
+steps (ATypeAlias InForeign) e = step_type_in_foreign
 steps (ATypeAlias InTrait) e = step_a_type_alias_in_trait
 steps (ATypeAlias InImpl) e = step_a_type_alias_in_impl
 steps (ItemMacro InFile) e = step_item_macro_in_file
@@ -219,6 +252,22 @@ steps (ItemMacro InForeign) e = step_item_macro_in_foreign
 steps (ItemMacro InTrait) e = step_item_macro_in_trait
 steps (ItemMacro InImpl) e = step_item_macro_in_impl
 steps Label e = step_label
+steps Body e = step_body
+steps Block e = step_block
+steps Statements e = step_statements
+steps Items e = step_items
+steps ForeignItems e = step_foreign_items
+steps TraitItems e = step_trait_items
+steps ImplItems e = step_impl_items
+steps AModule e = step_a_module
+steps AForeignModule e = step_a_foreign_module
+steps AMacroDefinition e = step_a_macro_definition
+steps ATrait e = step_a_trait
+steps AConstTrait e = step_a_const_trait
+steps ARestrictedTrait e = step_a_restricted_trait
+steps AnImpl e = step_an_impl
+steps AnItem e = step_an_item
+steps AFile e = step_a_file
 steps ExprLit e = step_expr_lit
 steps ExprPath e = step_expr_path
 steps ExprMacro e = step_expr_macro
@@ -241,6 +290,9 @@ steps ExprContinue e = step_expr_continue
 steps ExprTypedClosure e = step_expr_typed_closure
 steps ExprStruct e = step_expr_struct
 steps ExprCall e = step_expr_call
+steps ExprMethodCall e = step_expr_method_call
+steps ExprField e = step_expr_field
+steps ExprAwait e = step_expr_await
 steps ExprIndex e = step_expr_index
 steps ExprTry e = step_expr_try
 steps ExprCast e = step_expr_cast
@@ -266,7 +318,9 @@ steps ExprShift e = step_expr_shift
 steps ExprSum e = step_expr_sum
 steps ExprProduct e = step_expr_product
 steps FieldValues e = step_field_values
+steps AFieldValue e = step_a_field_value
 steps FieldValue e = step_field_value
+steps Arms e = step_arms
 steps ClosureParam e = step_closure_param
 steps _ e = let f : false ≡ true = e in cc f
 
@@ -285,6 +339,13 @@ laws (Segments InType) e = simple_kind (Segments InType) refl (λ x. tt) (λ x. 
     (λ q. refl) refl
 laws (Segments AtType) e = simple_kind (Segments AtType) refl (λ x. tt) (λ x. refl) (λ x. refl) (λ q. refl)
     (λ q. refl) refl
+laws (Segment InModule) e = simple_kind (Segment InModule) refl (λ x. tt) (λ x. refl) (λ x. refl) (λ q. refl)
+    (λ q. refl) refl
+laws (Segment InExpression) e = law_segment_in_expression
+laws (Segment InType) e = simple_kind (Segment InType) refl (λ x. tt) (λ x. refl) (λ x. refl) (λ q. refl) (λ q. refl)
+    refl
+laws (Segment AtType) e = simple_kind (Segment AtType) refl (λ x. tt) (λ x. refl) (λ x. refl) (λ q. refl) (λ q. refl)
+    refl
 laws (QualifiedPath InModule) e = simple_kind (QualifiedPath InModule) refl (λ x. tt) (λ x. refl) (λ x. refl)
     (λ q. refl) (λ q. refl) refl
 laws (QualifiedPath InExpression) e = simple_kind (QualifiedPath InExpression) refl (λ x. tt) (λ x. refl) (λ x. refl)
@@ -358,6 +419,7 @@ laws InnerAttributes e = law_inner
 laws InnerAttribute e = simple_kind InnerAttribute refl (λ x. tt) (λ x. refl) (λ x. refl) (λ q. refl) (λ q. refl) refl
 laws Meta e = law_meta
 laws Generics e = law_generics
+laws ImplGenerics e = simple_kind ImplGenerics refl (λ x. tt) (λ x. refl) (λ x. refl) (λ q. refl) (λ q. refl) refl
 laws GenericParams e = law_generic_params
 laws GenericParam e = simple_kind GenericParam refl (λ x. tt) (λ x. refl) (λ x. refl) (λ q. refl) (λ q. refl) refl
 laws LifetimeParam e = simple_kind LifetimeParam refl (λ x. tt) (λ x. refl) (λ x. refl) (λ q. refl) (λ q. refl) refl
@@ -386,6 +448,7 @@ laws UseTree e = simple_kind UseTree refl (λ x. tt) (λ x. refl) (λ x. refl) (
 laws UseBranch e = simple_kind UseBranch refl (λ x. tt) (λ x. refl) (λ x. refl) (λ q. refl) (λ q. refl) refl
 laws UseRooted e = simple_kind UseRooted refl (λ x. tt) (λ x. refl) (λ x. refl) (λ q. refl) (λ q. refl) refl
 laws Parameters e = law_parameters
+laws Parameter e = law_parameter
 laws FnArg e = law_fn_arg
 laws Receiver e = simple_kind Receiver refl (λ x. tt) (λ x. refl) (λ x. refl) (λ q. refl) (λ q. refl) refl
 laws (Signature InFile) e = simple_kind (Signature InFile) refl (λ x. tt) (λ x. refl) (λ x. refl) (λ q. refl)
@@ -404,6 +467,8 @@ laws (AFunction InTrait) e = simple_kind (AFunction InTrait) refl (λ x. tt) (λ
     (λ q. refl) refl
 laws (AFunction InImpl) e = simple_kind (AFunction InImpl) refl (λ x. tt) (λ x. refl) (λ x. refl) (λ q. refl)
     (λ q. refl) refl
+laws (ATypeAlias InFile) e = law_type_in_file
+laws (ATypeAlias InForeign) e = law_type_in_foreign
 laws (ATypeAlias InTrait) e = law_trait_type
 laws (ATypeAlias InImpl) e = law_impl_type
 laws (ItemMacro InFile) e = simple_kind (ItemMacro InFile) refl (λ x. tt) (λ x. refl) (λ x. refl) (λ q. refl)
@@ -415,6 +480,23 @@ laws (ItemMacro InTrait) e = simple_kind (ItemMacro InTrait) refl (λ x. tt) (λ
 laws (ItemMacro InImpl) e = simple_kind (ItemMacro InImpl) refl (λ x. tt) (λ x. refl) (λ x. refl) (λ q. refl)
     (λ q. refl) refl
 laws Label e = simple_kind Label refl (λ x. tt) (λ x. refl) (λ x. refl) (λ q. refl) (λ q. refl) refl
+laws Body e = simple_kind Body refl (λ x. tt) (λ x. refl) (λ x. refl) (λ q. refl) (λ q. refl) refl
+laws Block e = simple_kind Block refl (λ x. tt) (λ x. refl) (λ x. refl) (λ q. refl) (λ q. refl) refl
+laws Statements e = law_statements
+laws Items e = law_items
+laws ForeignItems e = law_foreign_items
+laws TraitItems e = law_trait_items
+laws ImplItems e = law_impl_items
+laws AModule e = simple_kind AModule refl (λ x. tt) (λ x. refl) (λ x. refl) (λ q. refl) (λ q. refl) refl
+laws AForeignModule e = simple_kind AForeignModule refl (λ x. tt) (λ x. refl) (λ x. refl) (λ q. refl) (λ q. refl) refl
+laws AMacroDefinition e = simple_kind AMacroDefinition refl (λ x. tt) (λ x. refl) (λ x. refl) (λ q. refl) (λ q. refl)
+    refl
+laws ATrait e = law_trait
+laws AConstTrait e = simple_kind AConstTrait refl (λ x. tt) (λ x. refl) (λ x. refl) (λ q. refl) (λ q. refl) refl
+laws ARestrictedTrait e = law_restricted_trait
+laws AnImpl e = law_an_impl
+laws AnItem e = law_an_item
+laws AFile e = simple_kind AFile refl (λ x. tt) (λ x. refl) (λ x. refl) (λ q. refl) (λ q. refl) refl
 laws ExprLit e = simple_kind ExprLit refl (λ x. tt) (λ x. refl) (λ x. refl) (λ q. refl) (λ q. refl) refl
 laws ExprPath e = simple_kind ExprPath refl (λ x. tt) (λ x. refl) (λ x. refl) (λ q. refl) (λ q. refl) refl
 laws ExprMacro e = simple_kind ExprMacro refl (λ x. tt) (λ x. refl) (λ x. refl) (λ q. refl) (λ q. refl) refl
@@ -438,6 +520,9 @@ laws ExprTypedClosure e = simple_kind ExprTypedClosure refl (λ x. tt) (λ x. re
     refl
 laws ExprStruct e = simple_kind ExprStruct refl (λ x. tt) (λ x. refl) (λ x. refl) (λ q. refl) (λ q. refl) refl
 laws ExprCall e = simple_kind ExprCall refl (λ x. tt) (λ x. refl) (λ x. refl) (λ q. refl) (λ q. refl) refl
+laws ExprMethodCall e = law_expr_method_call
+laws ExprField e = law_expr_field
+laws ExprAwait e = law_expr_await
 laws ExprIndex e = simple_kind ExprIndex refl (λ x. tt) (λ x. refl) (λ x. refl) (λ q. refl) (λ q. refl) refl
 laws ExprTry e = simple_kind ExprTry refl (λ x. tt) (λ x. refl) (λ x. refl) (λ q. refl) (λ q. refl) refl
 laws ExprCast e = simple_kind ExprCast refl (λ x. tt) (λ x. refl) (λ x. refl) (λ q. refl) (λ q. refl) refl
@@ -464,6 +549,8 @@ laws ExprShift e = simple_kind ExprShift refl (λ x. tt) (λ x. refl) (λ x. ref
 laws ExprSum e = simple_kind ExprSum refl (λ x. tt) (λ x. refl) (λ x. refl) (λ q. refl) (λ q. refl) refl
 laws ExprProduct e = simple_kind ExprProduct refl (λ x. tt) (λ x. refl) (λ x. refl) (λ q. refl) (λ q. refl) refl
 laws FieldValues e = law_field_values
+laws AFieldValue e = simple_kind AFieldValue refl (λ x. tt) (λ x. refl) (λ x. refl) (λ q. refl) (λ q. refl) refl
 laws FieldValue e = simple_kind FieldValue refl (λ x. tt) (λ x. refl) (λ x. refl) (λ q. refl) (λ q. refl) refl
+laws Arms e = law_arms
 laws ClosureParam e = simple_kind ClosureParam refl (λ x. tt) (λ x. refl) (λ x. refl) (λ q. refl) (λ q. refl) refl
 laws _ e = let f : false ≡ true = e in cc f

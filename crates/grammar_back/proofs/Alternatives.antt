@@ -1,6 +1,6 @@
 -- The step and the law of one alternative of a pattern: an identifier names what it matches, or begins a path.
 use Rattle.std.proofs.Common.{◌≡◌, ℕ, List, [], ◌∷◌, ◌++◌, refl, sym, ap, ◌∙◌, subst, append_assoc, ⊎_elim}
-use Rattle.std.specs.Prelude.{Bool, true, false, not, cond, codes, Option, Some, None, ◌&&◌, ◌||◌, ◌==◌}
+use Rattle.std.specs.Prelude.{Bool, true, false, not, cond, codes, Some, None, ◌&&◌, ◌||◌, ◌==◌}
 use Rattle.std.proofs.lemmas.Slice.Eq.{bytes_eq-Decides}
 use Rattle.proc_macro2.specs.Token.{Token, Ident, Opens, Punct}
 use Rattle.proc_macro2.specs.declared.delimiter.Delimiter.{Delimiter}
@@ -10,11 +10,12 @@ use Rattle.syn_grammar.specs.Kind.{Kind, Position, Plain, AnyPath, FieldPatterns
 use Rattle.syn_grammar.specs.Kind.{LiteralPattern, OnePattern, Path, PathPattern}
 use Rattle.syn_grammar.specs.Kind.{RangeEnd, RangeToPattern, ReferencePattern, RestPattern, Segments, SlicePattern}
 use Rattle.syn_grammar.specs.Kind.{Pattern, TuplePattern, WildPattern}
-use Rattle.syn_grammar.specs.Words.{any_text, is_bool, is_ident, is_path_keyword, is_plain_name, is_reserved, same_text}
+use Rattle.syn_grammar.specs.Words.{any_text, is_bool, is_ident, is_path_keyword, is_plain_name, is_reserved}
+use Rattle.syn_grammar.specs.Words.{same_text}
 use Rattle.syn_grammar.specs.Tree.{Tree, AMark, AWord, Nil, Back, Pair, First, Second, Node, marks as signs, flat}
 use Rattle.syn_grammar.specs.Gram.{Gram, alt, judged, ref}
-use Rattle.syn_grammar.specs.Look.{Look, a_literal, a_quoted, a_word, behind as past, first_seen, no, opens}
-use Rattle.syn_grammar.specs.Look.{past_marks, seen, sees, the_word, ◌or◌, ◌then◌}
+use Rattle.syn_grammar.specs.Look.{Look, a_literal, a_quoted, a_word, behind as past, no, opens}
+use Rattle.syn_grammar.specs.Look.{past_marks, seen, sees, ◌or◌, ◌then◌}
 use Rattle.syn_grammar.specs.Say.{refused, sign, ◌▸◌, at, brace, bracket, in_parentheses, many_to_end, marks}
 use Rattle.syn_grammar.specs.Say.{optional, parenthesis, when◌read◌else◌}
 use Rattle.syn_grammar.specs.Patterns.{binding, dots, range_bound_stands, range_end_stands}
@@ -24,6 +25,7 @@ use Rattle.syn_grammar.specs.Derives.{Derives}
 use Rattle.syn_grammar.specs.Kept.{forget, held, kept}
 use Rattle.syn_grammar.specs.Tidy.{tidy}
 use Rattle.syn_grammar.specs.Normal.{passed, place_of, normal_in}
+use Rattle.grammar_back.proofs.Choices.{both_same, first_of, is_false, none_of, other_word, second_seen}
 use Rattle.grammar_back.proofs.Printed.{KindLaw, IsPlaced, Printed, simple_law}
 use Rattle.syn_grammar.specs.Words.{is_name}
 use Rattle.syn_grammar.specs.Ranks.{skips}
@@ -54,18 +56,6 @@ bound_stands = at "ref" or at "mut" or binding
 abbrev pub goes_on : Look
 goes_on = marks "::" or parenthesis or brace or marks ".."
 
-pub none_of : (o p : Option (List Token)) → seen o ≡ false → seen p ≡ false → seen (first_seen o p) ≡ false
-none_of None p e f = f
-none_of (Some us) p e f = e
-
-second_seen : (o p : Option (List Token)) → seen p ≡ true → seen (first_seen o p) ≡ true
-second_seen (Some us) p e = refl
-second_seen None p e = e
-
-pub first_of : (o p : Option (List Token)) → seen o ≡ true → seen (first_seen o p) ≡ true
-first_of (Some us) p e = refl
-first_of None p e = cc
-
 unseen_then : (cs : List ℕ) (ts : List Token) → is_ident cs ≡ true → Lacks goes_on ts
     → sees binding (Ident cs ∷ ts) ≡ true
 unseen_then cs ts i e =
@@ -83,30 +73,17 @@ no_bound : (ts : List Token) → Lacks (at "ref") ts → Lacks (at "mut") ts →
 no_bound ts e f g =
     none_of ((at "ref") ts) ((at "mut" or binding) ts) e (none_of ((at "mut") ts) (binding ts) f g)
 
-no_word : (ts : List Token) → ((p : List ℕ → Bool) → Lacks (a_word p) ts) → Lacks bound_stands ts
+pub no_word : (ts : List Token) → ((p : List ℕ → Bool) → Lacks (a_word p) ts) → Lacks bound_stands ts
 no_word ts h = no_bound ts (h _) (h _) (past_none is_ident (no goes_on) ts (h is_ident))
 
-pub other_word : (v w : List ℕ) (ts : List Token) → same_text v w ≡ false → sees (the_word w) ts ≡ true
-    → Lacks (the_word v) ts
-other_word v w (Ident cs ∷ us) n e = go (same_text w cs) refl
-  where
-    go : (b : Bool) → same_text w cs ≡ b → seen (cond (same_text v cs) (Some us) None) ≡ false
-    go true i =
-        let f : w ≡ cs = (bytes_eq-Decides w cs).0 i in
-        ap (λ b. seen (cond b (Some us) None)) (ap (same_text v) (sym f) ∙ n)
-    go false i =
-        let f : false ≡ true = sym (ap (λ b. seen (cond b (Some us) None)) i) ∙ e in
-        cc f
-other_word v w _ n e = refl
-
-quoted_is_none : (q p : List ℕ → Bool) (ts : List Token) → sees (a_quoted q) ts ≡ true → Lacks (a_word p) ts
+pub quoted_is_none : (q p : List ℕ → Bool) (ts : List Token) → sees (a_quoted q) ts ≡ true → Lacks (a_word p) ts
 quoted_is_none q p (Ident cs ∷ ts) e = cc
 quoted_is_none q p _ e = refl
 
 abbrev pub bools : List (List ℕ)
 bools = codes "true" ∷ codes "false" ∷ []
 
-true_of : (b : Bool) (us : List Token) → seen (cond b (Some us) None) ≡ true → b ≡ true
+pub true_of : (b : Bool) (us : List Token) → seen (cond b (Some us) None) ≡ true → b ≡ true
 true_of true us e = refl
 true_of false us e = cc
 
@@ -119,10 +96,10 @@ bool_is_none (Ident cs ∷ us) e =
 bool_is_none _ e = cc
 
 -- a range's marks
-dots_seen : (ts : List Token) → sees dots ts ≡ true → sees (marks "..") ts ≡ true
+pub dots_seen : (ts : List Token) → sees dots ts ≡ true → sees (marks "..") ts ≡ true
 dots_seen ts e = none_seen ((marks "..." or marks "..=") ts) (marks "..") ts e
 
-range_marks : (ts : List Token) → sees (marks "..=" or (dots then range_bound_stands)) ts ≡ true
+pub range_marks : (ts : List Token) → sees (marks "..=" or (dots then range_bound_stands)) ts ≡ true
     → (p : List ℕ → Bool) → Lacks (a_word p) ts
 range_marks ts e p =
     ⊎_elim (λ f. mark_is_none p 46 (46 ∷ 61 ∷ []) ts f)
@@ -138,7 +115,7 @@ keyword_bound cs us e =
     (λ us. simp reserved_self refl, (λ us. simp reserved_super refl, (λ us. simp reserved_crate refl, tt)))
     (words_are (codes "self" ∷ codes "super" ∷ codes "crate" ∷ []) cs us e)
 
-name_not : (w cs : List ℕ) → is_reserved w ≡ true → same_text w (codes "Self") ≡ false → is_plain_name cs ≡ true
+pub name_not : (w cs : List ℕ) → is_reserved w ≡ true → same_text w (codes "Self") ≡ false → is_plain_name cs ≡ true
     → same_text w cs ≡ false
 unfolding is_plain_name
 name_not w cs r n p = go (is_ident cs) refl
@@ -255,7 +232,7 @@ lone_bound : (k : Kind) (x : Tree) (s : List Token) → k ≡ PathPattern → De
 lone_bound k x s e d n =
     pattern_bound x s (subst (λ j. Derives x (table j) s) e d) (subst (λ j. is_lone (Node j x) ≡ false) e n)
 
-longer_lacks : (c : ℕ) (cs : List ℕ) (ts : List Token) → sees (past_marks c []) ts ≡ false
+pub longer_lacks : (c : ℕ) (cs : List ℕ) (ts : List Token) → sees (past_marks c []) ts ≡ false
     → sees (past_marks c cs) ts ≡ false
 longer_lacks c [] ts e = e
 longer_lacks c (x ∷ xs) (Punct d Joint ∷ ts) e = go (d == c) e
@@ -265,13 +242,13 @@ longer_lacks c (x ∷ xs) (Punct d Joint ∷ ts) e = go (d == c) e
     go false e = refl
 longer_lacks c (x ∷ xs) _ e = refl
 
-mark_no_group : (c : ℕ) (cs : List ℕ) (d : Delimiter) (ts : List Token) → sees (past_marks c cs) ts ≡ true
+pub mark_no_group : (c : ℕ) (cs : List ℕ) (d : Delimiter) (ts : List Token) → sees (past_marks c cs) ts ≡ true
     → Lacks (opens d) ts
 mark_no_group c [] d (Opens e ∷ ts) h = cc
 mark_no_group c (x ∷ xs) d (Opens e ∷ ts) h = cc
 mark_no_group c cs d _ h = refl
 
-none_read : (x : Tree) (r : List Token) → Derives x refused r → ⊥
+pub none_read : (x : Tree) (r : List Token) → Derives x refused r → ⊥
 none_read (Pair x y) r d = d
 none_read _ r d = d
 
@@ -562,14 +539,14 @@ step_one_pattern =
 -- A kind of which nothing is forgotten or tidied: what is said of what its nodes hold.
 module _ (l : Kind) (as_read : (y : Tree) → forget l y ≡ y) (as_held : (y : Tree) → tidy (held l) y ≡ y)
     (still : passed (held l) Plain ≡ Plain) (says : Tree → Bool) where
-  under_fits : ((y : Tree) → Fits y (table l) → says (kept y) ≡ says y) → (w : Tree) → Fits w (ref l)
+  pub under_fits : ((y : Tree) → Fits y (table l) → says (kept y) ≡ says y) → (w : Tree) → Fits w (ref l)
       → says (inner (kept w)) ≡ says (inner w)
   under_fits h (Node k y) f =
       ap (λ j. says (forget j (kept y))) f.0 ∙ ap says (as_read (kept y))
       ∙ h y (subst (λ j. Fits y (table j)) f.0 f.3)
   under_fits h _ f = absurd f
 
-  under_read : ((y : Tree) (r : List Token) → Derives y (table l) r → says (normal_in Plain (kept y)) ≡ says y)
+  pub under_read : ((y : Tree) (r : List Token) → Derives y (table l) r → says (normal_in Plain (kept y)) ≡ says y)
       → (x : Tree) (r : List Token) → Derives x (ref l) r
       → says (inner (normal_in Plain (kept x))) ≡ says (inner x)
   under_read h (Node k y) r d =
@@ -657,9 +634,6 @@ rest_read (Second (Second _)) r d = absurd d.1.1
 rest_read (Second _) r d = absurd d.1
 rest_read _ r d = absurd d
 
-both_same : (a b c d : Bool) → a ≡ c → b ≡ d → (a && b) ≡ (c && d)
-both_same a b c d e f = ap (λ x. x && b) e ∙ ap (λ x. c && x) f
-
 pattern_fits : (y : Tree) → Fits y (table PathPattern) → lone_pattern (kept y) ≡ lone_pattern y
 unfolding table held passed
 pattern_fits (Pair p e) f =
@@ -702,10 +676,6 @@ lone_read (Node PathPattern y) _ r d = absurd d
 lone_read (Back l k y) _ r d = absurd d
 lone_read _ _ r d = refl
 
-not_lone : (b : Bool) → not b ≡ true → b ≡ false
-not_lone false e = refl
-not_lone true e = cc
-
 pub law_one_pattern : KindLaw OnePattern
 unfolding has_step held passed place_of table
 law_one_pattern = record { entry = λ q l. simple_law Plain (table OnePattern) refl; node = go }
@@ -716,7 +686,7 @@ law_one_pattern = record { entry = λ q l. simple_law Plain (table OnePattern) r
     go q l x r m d i =
         let b : is_lone (choice i.tree) ≡ false =
         sym (lone_fits i.tree (table OnePattern) i.fits) ∙ ap (λ z. is_lone (choice z)) i.kept_is
-        ∙ lone_read x (table OnePattern) r d ∙ not_lone (is_lone (choice x)) m in
+        ∙ lone_read x (table OnePattern) r d ∙ is_false (is_lone (choice x)) m in
         record {
           tree = Node OnePattern i.tree;
           fits = (refl, refl, refl, i.fits, b);

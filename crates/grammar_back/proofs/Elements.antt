@@ -1,25 +1,29 @@
 -- Verdicts on lists, by whether their elements have a part: the same of what was read and of what is printed for it.
 use Rattle.std.proofs.Common.{◌≡◌, ℕ, List, [], ◌∷◌, ◌++◌, refl, sym, ap, ◌∙◌}
-use Rattle.std.specs.Prelude.{Bool, true, ◌&&◌, not}
+use Rattle.std.specs.Prelude.{Bool, true, ◌&&◌, ◌||◌, not}
 use Rattle.proc_macro2.specs.Token.{Token, Punct}
 use Rattle.proc_macro2.specs.declared.delimiter.Delimiter.{Delimiter}
-use Rattle.syn_grammar.specs.Kind.{Position, Plain, AFieldValue, FieldPattern, FieldPatterns, FieldValues, FnArg}
+use Rattle.syn_grammar.specs.Kind.{Position, Plain, AFieldValue, ARestrictedTrait, ATrait, FieldPattern}
+use Rattle.syn_grammar.specs.Kind.{FieldPatterns, FieldValues, FnArg}
 use Rattle.syn_grammar.specs.Kind.{Parameter, Parameters}
-use Rattle.syn_grammar.specs.Name.{Part, same_part, the_base, the_dots, the_receiver, the_rest, the_unnamed}
+use Rattle.syn_grammar.specs.Name.{Part, same_part, the_auto, the_base, the_dots, the_equals, the_receiver}
+use Rattle.syn_grammar.specs.Name.{the_rest, the_safety}
+use Rattle.syn_grammar.specs.Name.{the_unnamed}
 use Rattle.syn_grammar.specs.Tree.{Tree, End, Final, More, Pair, First, Second, Group, Called, Node, Back, flat}
 use Rattle.syn_grammar.specs.Part.{each, each_but_first, each_but_last, each_separated, found, has, in_group}
 use Rattle.syn_grammar.specs.Gram.{Gram, alt, called, group, judged, many, ref, seq}
-use Rattle.syn_grammar.specs.Items.{is_receiver, is_variadic}
+use Rattle.syn_grammar.specs.Items.{is_receiver, is_trait, is_variadic, restriction, trait_form}
 use Rattle.syn_grammar.specs.Expressions.{is_base}
 use Rattle.syn_grammar.specs.Patterns.{is_rest}
 use Rattle.syn_grammar.specs.Types.{kept_if}
 use Rattle.syn_grammar.specs.Table.{table}
 use Rattle.syn_grammar.specs.Derives.{Derives}
 use Rattle.syn_grammar.specs.Kept.{held, kept, named}
-use Rattle.syn_grammar.specs.Normal.{passed, normal_in}
+use Rattle.syn_grammar.specs.Normal.{passed, place_of, normal_in}
+use Rattle.grammar_back.proofs.Choices.{both_same}
 use Rattle.grammar_back.specs.Covered.{has_step}
 use Rattle.grammar_back.proofs.Fits.{Fits}
-use Rattle.grammar_back.proofs.Printed.{KindLaw, VerdictLaw, plain_law}
+use Rattle.grammar_back.proofs.Printed.{KindLaw, VerdictLaw, plain_law, simple_law}
 use Rattle.grammar_back.proofs.Verdicts.{has_normal, some_called, some_either}
 
 -- what is kept has the parts that were there
@@ -163,11 +167,11 @@ in_group_law : (q : Position) (p : Tree → Bool) (d : Delimiter) (g : Gram)
 in_group_law q p d g h i j = go
   where
     go : VerdictLaw q (λ x. kept_if (in_group p x)) (group d g)
-    go (Group a x) (Group b w) r u f e v =
+    go (Group a x) (Group b w) r c u f e v =
         let k : kept w ≡ normal_in q (kept x) = cc in
         ap kept_if (sym (i w f.1) ∙ ap p k ∙ j (kept x) ∙ h x [] u.1) ∙ v
-    go (Group a x) _ r u f e v = absurd f
-    go _ w r u f e v = absurd u
+    go (Group a x) _ r c u f e v = absurd f
+    go _ w r c u f e v = absurd u
 
 -- fields of a pattern, of which .. is the last
 rest_read : (x : Tree) (r : List Token) → Derives x (ref FieldPattern) r → not (is_rest (kept x)) ≡ not (is_rest x)
@@ -279,9 +283,6 @@ is_own x = not (is_receiver x)
 abbrev pub is_fixed : Tree → Bool
 is_fixed x = not (is_variadic x)
 
-both_same : (a b c d : Bool) → a ≡ c → b ≡ d → (a && b) ≡ (c && d)
-both_same a b c d e f = ap (λ x. x && b) e ∙ ap (λ x. c && x) f
-
 pub law_parameters : KindLaw Parameters
 unfolding has_step held passed table
 law_parameters =
@@ -305,10 +306,44 @@ law_parameters =
     ))
 
 fixed_law : VerdictLaw Plain (λ x. kept_if (not (is_variadic x))) (ref Parameter)
-fixed_law x w r d f e v =
+fixed_law x w r c d f e v =
     ap kept_if (sym (dots_fits w f) ∙ ap is_fixed e ∙ dots_normal Plain (kept x) ∙ dots_read x r d) ∙ v
 
 pub law_fn_arg : KindLaw FnArg
 unfolding has_step held passed table
 law_fn_arg =
     plain_law FnArg refl (λ x. tt) (λ x. refl) (λ x. refl) (λ q. refl) (λ q l. (fixed_law, tt))
+
+-- a trait: an alias is neither unsafe nor auto
+trait_verdict : (q : Position) → VerdictLaw q (λ x. kept_if (is_trait x)) trait_form
+trait_verdict q x w r k d f e v = ap kept_if (same_trait (same the_equals) (same the_safety) (same the_auto)) ∙ v
+  where
+    same : (n : Part) → has n w ≡ has n x
+    same n =
+        sym (has_fits n w trait_form f) ∙ ap (has n) e ∙ has_normal n q (kept x) ∙ has_read n x trait_form r d
+
+    same_trait : has the_equals w ≡ has the_equals x → has the_safety w ≡ has the_safety x
+        → has the_auto w ≡ has the_auto x → is_trait w ≡ is_trait x
+    same_trait a b c =
+        ap (λ y. not (y && (has the_safety w || has the_auto w))) a
+        ∙ ap (λ y. not (has the_equals x && (y || has the_auto w))) b
+        ∙ ap (λ y. not (has the_equals x && (has the_safety x || y))) c
+
+pub law_trait : KindLaw ATrait
+unfolding has_step held passed place_of table
+law_trait =
+    plain_law ATrait refl (λ x. tt) (λ x. refl) (λ x. refl) (λ q. refl)
+    (λ q l. (trait_verdict Plain, simple_law Plain trait_form refl))
+
+-- and one with a restriction is no alias
+unaliased : (q : Position) → VerdictLaw q (λ x. kept_if (not (has the_equals x))) trait_form
+unaliased q x w r c d f e v =
+    ap (λ b. kept_if (not b))
+    (sym (has_fits the_equals w trait_form f) ∙ ap (has the_equals) e ∙ has_normal the_equals q (kept x)
+    ∙ has_read the_equals x trait_form r d) ∙ v
+
+pub law_restricted_trait : KindLaw ARestrictedTrait
+unfolding has_step held passed place_of table
+law_restricted_trait =
+    plain_law ARestrictedTrait refl (λ x. tt) (λ x. refl) (λ x. refl) (λ q. refl)
+    (λ q l. (tt, (simple_law Plain restriction refl, ((tt, tt), (unaliased Plain, simple_law Plain trait_form refl)))))

@@ -1,17 +1,18 @@
 -- A tree fits an entry, whatever its tests say of the tokens that stand there: the part of the grammar that normal form
 -- keeps by itself. It is a tree as it is printed: each mark stands apart, and what a kind holds has the kind's tokens.
 -- Its kinds are covered. An expression in it is in normal form where it stands, the own part of each of its forms fits
--- the entry of the form's kind, and no number in it is to be split.
+-- the entry of the form's kind, no number in it is to be split, and its forms have the operands of their kinds.
 use Rattle.std.proofs.Common.{◌≡◌, List, [], ◌∷◌, ◌++◌, refl, sym, ap, ◌∙◌}
-use Rattle.std.specs.Prelude.{Bool, true, false, not, ◌||◌, ◌&&◌}
+use Rattle.std.specs.Prelude.{Bool, true, false, not, ◌||◌, ◌&&◌, codes, Some}
 use Rattle.proc_macro2.specs.Token.{Token, Opens, Closes, Punct}
+use Rattle.proc_macro2.specs.declared.delimiter.Delimiter.TheVariants.{Parenthesis}
 use Rattle.rust_leaf.specs.declared.punct.Spacing.TheVariants.{Alone as Apart}
-use Rattle.syn_grammar.specs.Kind.{Kind, Position, DynType, ImplType, WithoutPlus, OnePattern, IdentPattern}
-use Rattle.syn_grammar.specs.Kind.{ReferencePattern, InExpression, Segments}
-use Rattle.syn_grammar.specs.Kind.{FnPtrType, WherePredicate}
-use Rattle.syn_grammar.specs.Kind.{AConst, UnnamedField, Meta}
+use Rattle.syn_grammar.specs.Kind.{Kind, Position, Plain, DynType, ImplType, WithoutPlus, OnePattern, IdentPattern}
+use Rattle.syn_grammar.specs.Kind.{PathPattern, ReferencePattern, InExpression, Parameter, Segment, Segments}
+use Rattle.syn_grammar.specs.Kind.{ATypeAlias, FnPtrType, InFile, InForeign, WherePredicate}
+use Rattle.syn_grammar.specs.Kind.{AConst, AnImpl, AnItem, NeverType, UnnamedField, Meta}
 use Rattle.syn_grammar.specs.Kind.{Expression}
-use Rattle.syn_grammar.specs.Kind.{ExprAttributed}
+use Rattle.syn_grammar.specs.Kind.{ExprAttributed, ExprAwait, ExprField, ExprMethodCall}
 use Rattle.syn_grammar.specs.Tree.{Tree, AWord, ALiteral, AMark, ALifetime, Raw, Nil, Pair, First, Second, End}
 use Rattle.syn_grammar.specs.Tree.{Again, Final, More, Group, Dropped, Called, Node, Whole, Alone, Front, Back}
 use Rattle.syn_grammar.specs.Tree.{Infix}
@@ -19,11 +20,17 @@ use Rattle.syn_grammar.specs.Tree.{marks, flat}
 use Rattle.syn_grammar.specs.Gram.{Gram, word, literal, mark, lifetime, raw, nothing, seq, alt, star, many, group}
 use Rattle.syn_grammar.specs.Gram.{judged, dropped, called, ref, operand, Keep, is_balanced}
 use Rattle.syn_grammar.specs.Types.{is_path_bound}
+use Rattle.syn_grammar.specs.Words.{ends_in_dot, same_text}
 use Rattle.syn_grammar.specs.Table.{table}
+use Rattle.syn_grammar.specs.Tidy.{begins_bracketed, is_absent}
 use Rattle.syn_grammar.specs.Kept.{forget, dotted, is_there, kept}
+use Rattle.syn_grammar.specs.Forms.{front as form_in_front, back as form_behind, has_right, is_path_form}
+use Rattle.syn_grammar.specs.Parens.{is_struct}
 use Rattle.syn_grammar.specs.Part.{choice}
 use Rattle.syn_grammar.specs.Normal.{stands_behind, formed}
-use Rattle.grammar_back.specs.Covered.{front, inner, has_clear_type, is_lone, has_lone_value, is_known}
+use Rattle.grammar_back.specs.After.{is_any_path, is_generic}
+use Rattle.grammar_back.specs.Covered.{front, inner, has_clear_type, is_lone, has_lone_value, is_known, is_plain_item}
+use Rattle.grammar_back.specs.Covered.{is_form, is_plain_item, item_of}
 
 -- the test can say so
 abbrev pub CanSay : (List Token → Bool) → Bool → Type 0
@@ -68,6 +75,14 @@ abbrev pub has_turbofish : Tree → Bool
 has_turbofish (Second (Pair n (First x))) = is_there (front (inner (front x)))
 has_turbofish _ = true
 
+abbrev pub is_turbofish : Tree → Bool
+is_turbofish (First a) = is_there (front (inner a))
+is_turbofish _ = true
+
+abbrev pub has_own_turbofish : Tree → Bool
+has_own_turbofish (Second (Pair n y)) = is_turbofish y
+has_own_turbofish _ = true
+
 -- a pattern begins with the mut of a name; behind & stands a mut, or the pattern begins with none
 abbrev pub is_mut_name : Tree → Bool
 is_mut_name (Node IdentPattern (Pair r (Pair m y))) = not (is_there r) && is_there m
@@ -85,17 +100,114 @@ abbrev pub has_own_mut : Tree → Bool
 has_own_mut (Pair u y) = is_own_mut y
 has_own_mut _ = true
 
+-- of a function's parameter: its pattern begins as a receiver does, with self alone, which a & may stand before
+abbrev pub is_self_names : Tree → Bool
+is_self_names (First (Pair (AWord cs) (Second m))) = same_text (codes "self") cs
+is_self_names _ = false
+
+abbrev pub is_self_path : Tree → Bool
+is_self_path (Pair (Second z) y) = is_self_names (inner y)
+is_self_path _ = false
+
+abbrev pub is_self_any : Tree → Bool
+is_self_any (Second y) = is_self_path (inner y)
+is_self_any _ = false
+
+abbrev pub is_self_alone : Tree → Bool
+is_self_alone (Node PathPattern (Pair p e)) = is_self_any (inner p)
+is_self_alone _ = false
+
+abbrev pub is_self : Tree → Bool
+is_self (Node ReferencePattern (Pair u (Pair m p))) = is_self_alone (choice (inner p))
+is_self x = is_self_alone x
+
+abbrev pub has_own_name : Tree → Bool
+has_own_name (Pair o (Second (Second (Second (Pair (Called n p) y))))) = not (is_self (choice (inner p)))
+has_own_name _ = true
+
+-- and it has a pattern, if it has a type
+abbrev pub is_named : Tree → Bool
+is_named (Pair o (Second (Second (First t)))) = false
+is_named _ = true
+
+-- of a type's definition and where clause, behind its name, generics and bounds: a where clause stands before the
+-- definition, or behind it where there is one
+abbrev pub back : Tree → Tree
+back (Pair x y) = y
+back x = x
+
+abbrev pub has_own_place : Tree → Bool
+has_own_place (First (Pair w d)) = not (is_absent w)
+has_own_place (Second (Pair d w)) = is_there d || is_absent w
+has_own_place _ = true
+
+abbrev pub has_own_where : Tree → Bool
+has_own_where (Pair (Called n v) e) = has_own_place v
+has_own_where _ = true
+
+-- of what stands behind a dot: each number before the last ends in a dot, and a last one doesn't
+abbrev pub is_dotted : Tree → Bool
+is_dotted (Again (ALiteral cs) x) = ends_in_dot cs && is_dotted x
+is_dotted _ = true
+
+abbrev pub has_dots : Tree → Bool
+has_dots (Pair m (Called n x)) = is_dotted x
+has_dots _ = true
+
+abbrev pub has_last : Tree → Bool
+has_last (Second (Called n (ALiteral cs))) = not (ends_in_dot cs)
+has_last _ = true
+
+-- and the arguments of a method stand behind ::
+abbrev pub has_own_colons : Tree → Bool
+has_own_colons (Pair (First a) g) = is_there (front (inner a))
+has_own_colons _ = true
+
+-- of what is kept of an impl, behind the word: its generics are there, or its type begins with no < Ident >, which would
+-- be them; its ! is there, or its type is no !, or its braces follow that; and before for stands a path
+abbrev pub is_never : Tree → Bool
+is_never (Node NeverType x) = true
+is_never _ = false
+
+abbrev pub is_never_type : Tree → Bool
+is_never_type (Node k x) = is_never (choice x)
+is_never_type _ = false
+
+abbrev pub IsOwn : Bool → Bool → Tree → Bool → Tree → Type 0
+IsOwn g p t f w =
+    ((g || (p || not (begins_bracketed t))) ≡ true)
+    × ((p || (not (is_never_type t) || (not f && is_absent w))) ≡ true)
+    × ((not f || is_any_path t) ≡ true)
+
+abbrev pub IsOwnImpl : Tree → Type 0
+IsOwnImpl (Pair (Called n g) (Pair p (Pair (Called m t) (Pair f (Pair w b))))) =
+    IsOwn (is_generic g) (is_there p) t (is_there f) w
+IsOwnImpl _ = Unit {0}
+
+abbrev pub behind_impl : Tree → Tree
+behind_impl (First x) = back (back (back (back x)))
+behind_impl x = x
+
 -- what the tests say of what a kind holds, where its entry's shape doesn't
 abbrev pub IsMeant : Kind → Tree → Type 0
 IsMeant (DynType WithoutPlus) x = has_path_bound x ≡ true
 IsMeant (ImplType WithoutPlus) x = has_path_bound x ≡ true
 IsMeant WherePredicate x = has_own_for x ≡ true
 IsMeant (Segments InExpression) x = has_turbofish x ≡ true
+IsMeant (Segment InExpression) x = has_own_turbofish x ≡ true
 IsMeant ReferencePattern x = has_own_mut x ≡ true
 IsMeant OnePattern x = is_lone (choice x) ≡ false
 IsMeant UnnamedField x = has_clear_type x ≡ true
 IsMeant AConst x = has_lone_value x ≡ true
 IsMeant Meta x = has_bare_value x ≡ true
+IsMeant (ATypeAlias InFile) x = has_own_where (back (back (back (back x)))) ≡ true
+IsMeant (ATypeAlias InForeign) x = has_own_where (back (back (back (back x)))) ≡ true
+IsMeant AnImpl x = IsOwnImpl (behind_impl (kept x))
+IsMeant AnItem x = is_plain_item (choice (item_of x)) ≡ true
+IsMeant ExprField x = (has_dots (front x) ≡ true) × (has_last (back x) ≡ true)
+IsMeant ExprMethodCall x = (has_dots (front x) ≡ true) × (has_own_colons (back (back x)) ≡ true)
+IsMeant ExprAwait x = has_dots (front x) ≡ true
+IsMeant Parameter x = (is_named x ≡ true) × (has_own_name x ≡ true)
 IsMeant _ x = Unit {0}
 
 -- it is in normal form, where it stands
@@ -105,6 +217,28 @@ IsFormed p x = formed p (stands_behind p) (kept x) ≡ kept x
 -- behind a left operand it is held as it is
 abbrev pub IsWhole : Kind → Tree → Type 0
 IsWhole k y = (l : Tree) → dotted l k (kept y) ≡ Back l k (kept y)
+
+-- a form of that kind begins somewhere, or has its left operand before it
+abbrev pub IsFrontKind : Kind → Type 0
+IsFrontKind k = (is_form k ≡ true) × (p : Position) × (ts : List Token) × (form_in_front p ts ≡ Some k)
+
+abbrev pub IsBackKind : Kind → Type 0
+IsBackKind k = (is_form k ≡ true) × (p : Position) × (ts : List Token) × (form_behind p ts ≡ Some k)
+
+-- it may lack an operand behind it, or may have one
+abbrev pub MayLack : Kind → Type 0
+MayLack k = has_right Plain k [] ≡ false
+
+abbrev pub MayHave : Kind → Type 0
+MayHave k = has_right Plain k (Opens Parenthesis ∷ []) ≡ true
+
+-- the forms are of kinds that have the operands that they have here; before the braces of a struct stands a path
+abbrev pub HasOperands : Tree → Type 0
+HasOperands (Alone k y) = IsFrontKind k × MayLack k
+HasOperands (Front k y x) = IsFrontKind k × MayHave k × HasOperands x
+HasOperands (Back l k y) = IsBackKind k × MayLack k × HasOperands l × (is_struct k ≡ true → is_path_form l ≡ true)
+HasOperands (Infix l k y r) = IsBackKind k × MayHave k × HasOperands l × HasOperands r
+HasOperands _ = ⊥
 
 abbrev mutual
   pub Fits : Tree → Gram → Type 0
@@ -127,7 +261,7 @@ abbrev mutual
   Fits (Dropped x) (dropped g) = (flat x ≡ []) × Fits x g
   Fits (Called n x) (called m g) = (n ≡ m) × Fits x g
   Fits (Node k x) (ref l) = (k ≡ l) × (is_known k ≡ true) × IsPrinted k x × Fits x (table k) × IsMeant k x
-  Fits (Whole x) (operand p n) = (n ≡ 0) × IsFormed p x × FitsForms x
+  Fits (Whole x) (operand p n) = (n ≡ 0) × IsFormed p x × FitsForms x × HasOperands x
   Fits _ _ = ⊥
 
   -- the own part of each of an expression's forms fits the entry of the form's kind

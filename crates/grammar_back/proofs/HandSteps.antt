@@ -1,17 +1,18 @@
 -- The steps of kinds where first tokens alone don't decide.
 use Rattle.std.proofs.Common.{◌≡◌, ℕ, List, [], ◌∷◌, ◌++◌, refl, sym, subst, inl, inr}
-use Rattle.std.specs.Prelude.{true, false, codes, Option, Some, None}
+use Rattle.std.specs.Prelude.{true, false, codes}
 use Rattle.proc_macro2.specs.Token.{Token, Opens, Closes, Ident}
 use Rattle.proc_macro2.specs.declared.delimiter.Delimiter.TheVariants.{Parenthesis}
 use Rattle.syn_grammar.specs.Kind.{Bound, DynType, ImplType, WithoutPlus, InModule, Path, Visibility}
 use Rattle.syn_grammar.specs.Tree.{Tree, AWord, Nil, Pair, First, Second, Group, flat}
 use Rattle.syn_grammar.specs.Gram.{ref}
-use Rattle.syn_grammar.specs.Look.{seen, first_seen, sees, ◌or◌}
+use Rattle.syn_grammar.specs.Look.{sees, ◌or◌}
 use Rattle.syn_grammar.specs.Say.{◌▸◌, at, keyword, in_parentheses, one_word, optional}
 use Rattle.syn_grammar.specs.Items.{restricted, restricted_in, restriction}
 use Rattle.syn_grammar.specs.Ranks.{skips}
 use Rattle.syn_grammar.specs.Table.{table}
 use Rattle.syn_grammar.specs.Derives.{Derives}
+use Rattle.grammar_back.proofs.Choices.{first_of, second_seen}
 use Rattle.grammar_back.specs.Sees.{LacksAll}
 use Rattle.grammar_back.proofs.Classes.{Opening, the_words, of_all}
 use Rattle.grammar_back.proofs.Verdicts.{no_lifetime}
@@ -46,15 +47,7 @@ whose_seen (Group d (AWord cs)) s f = (
 whose_seen (Group d _) s f = absurd f.1
 whose_seen _ s f = absurd f
 
-one_of_two : (o p : Option (List Token)) → seen o ≡ true → seen (first_seen o p) ≡ true
-one_of_two (Some us) p e = refl
-one_of_two None p e = cc
-
-other_of_two : (o p : Option (List Token)) → seen p ≡ true → seen (first_seen o p) ≡ true
-other_of_two (Some us) p e = refl
-other_of_two None p e = e
-
-found_restriction : Found restriction [] (Opening Parenthesis ∷ [])
+pub found_restriction : Found restriction [] (Opening Parenthesis ∷ [])
 unfolding skips
 found_restriction = record { fine = record { by = go } }
   where
@@ -71,9 +64,9 @@ found_restriction = record { fine = record { by = go } }
 
 restriction_seen : (x : Tree) (s : List Token) → Fits x restriction
     → sees (restricted or restricted_in) (flat x ++ s) ≡ true
-restriction_seen (First x) s f = other_of_two (restricted (flat x ++ s)) (restricted_in (flat x ++ s)) (in_seen x s f.1)
+restriction_seen (First x) s f = second_seen (restricted (flat x ++ s)) (restricted_in (flat x ++ s)) (in_seen x s f.1)
 restriction_seen (Second x) s f =
-    one_of_two (restricted (flat x ++ s)) (restricted_in (flat x ++ s)) (whose_seen x s f.1).1
+    first_of (restricted (flat x ++ s)) (restricted_in (flat x ++ s)) (whose_seen x s f.1).1
 restriction_seen _ s f = absurd f
 
 maybe_restriction : Maybe (optional (restricted or restricted_in) restriction) ((restricted or restricted_in) ∷ [])

@@ -1,6 +1,10 @@
 -- Words that are reserved, and some that aren't. Written by tools/steps.py.
-use Rattle.std.specs.Prelude.{◌≡◌, refl, true, codes}
+use Rattle.std.specs.Prelude.{◌≡◌, refl, true, false, codes}
 use Rattle.syn_grammar.specs.Words.{is_reserved}
+
+pub free_of : is_reserved (codes "of") ≡ false
+unfolding is_reserved
+free_of = refl
 
 pub reserved_as : is_reserved (codes "as") ≡ true
 unfolding is_reserved

@@ -1,3 +1,4 @@
+pub mod Choices
 pub mod Classes
 pub mod Starts
 pub mod Afters
@@ -11,6 +12,7 @@ pub mod Sights
 pub mod Passed
 pub mod FieldNames
 pub mod Params
+pub mod ImplParams
 pub mod Keywords
 pub mod Printed
 pub mod StepsOfPaths
@@ -20,12 +22,16 @@ pub mod StepsOfAttributes
 pub mod StepsOfGenerics
 pub mod StepsOfItems
 pub mod StepsOfExpressions
+pub mod PathTypes
 pub mod Seconds
 pub mod Verdicts
 pub mod HandSteps
 pub mod ValueSteps
 pub mod Alternatives
 pub mod References
+pub mod Selves
+pub mod Receivers
+pub mod Bracketed
 pub mod Turbofish
 pub mod Predicates
 pub mod Fields
@@ -34,6 +40,12 @@ pub mod Indices
 pub mod Elements
 pub mod KindLaws
 pub mod Defaults
+pub mod Aliases
+pub mod Dotted
+pub mod FieldValues
+pub mod WholeItems
+pub mod Turns
+pub mod Impls
 pub mod AllKinds
 pub mod Expressions
 pub mod ReadBack

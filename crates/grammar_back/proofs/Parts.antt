@@ -25,7 +25,7 @@ use Rattle.syn_grammar.specs.Table.{table}
 use Rattle.grammar_back.proofs.Classes.{Class, Sign, TheWord, AnyWord, Quoted, Tick, Opening, the_words, IsAmong}
 use Rattle.grammar_back.proofs.Classes.{OfAll, of_all, each_then, then_among, among_left, among_right}
 use Rattle.grammar_back.specs.Sees.{Lacks, LacksAll}
-use Rattle.grammar_back.proofs.Fine.{Fine, Any, Without, Ended, At, AtOrNone, fine_step, fine_ref, fine_word}
+use Rattle.grammar_back.proofs.Fine.{Edge, Fine, Any, Without, Ended, At, AtOrNone, fine_step, fine_ref, fine_word}
 use Rattle.grammar_back.proofs.Fine.{fine_text, fine_words, fine_name, fine_literal, fine_mark, fine_lifetime}
 use Rattle.grammar_back.proofs.Fine.{fine_group, fine_judged, fine_dropped, fine_nothing, fine_weaker, fine_seq}
 use Rattle.grammar_back.proofs.Fine.{fine_alt, fine_called, fine_many}
@@ -428,6 +428,22 @@ found_ended {g} {ls} {cs} f h = fine_weaker Ended Any f.fine (λ x s e. subst (L
 
 pub maybe_ended : {g : Gram} {ls : List Look} {cs : List Class} → Maybe g ls cs → LacksAll ls [] → Fine g Ended Any
 maybe_ended {g} {ls} {cs} f h = fine_weaker Ended Any f.fine (λ x s e. subst (LacksAll ls) (sym e) h) (λ x s i a. tt)
+
+-- an entry before one of which more is known
+pub fine_ahead : {a b : Gram} {ls : List Look} {cs : List Class} {E : Edge} (C : Edge) (ds : List Class) → Found a ls cs
+    → Fine b E (At ds) → Unseen ls ds → ((x y : Tree) (s : List Token) → C (Pair x y) s → E y s)
+    → Fine (seq a b) C (At cs)
+fine_ahead {a} {b} {ls} {cs} {E} C ds f g h k =
+    fine_seq C (At cs) f.fine g k (λ x y s i c. unseen_all ls ds (flat y ++ s) h i)
+    (λ x y s j i c. at_front cs x y s j)
+
+pub maybe_ahead : {a b : Gram} {ls : List Look} {cs : List Class} {E : Edge} (C : Edge) (ds : List Class) → Maybe a ls cs
+    → Fine b E (At ds) → Unseen ls ds → ((x y : Tree) (s : List Token) → C (Pair x y) s → E y s)
+    → Fine (seq a b) C (At (cs ++ ds))
+maybe_ahead {a} {b} {ls} {cs} {E} C ds f g h k =
+    fine_seq C (At (cs ++ ds)) f.fine g k (λ x y s i c. unseen_all ls ds (flat y ++ s) h i)
+    (λ x y s j i c. ⊎_elim (λ e. at_back (cs ++ ds) x y s e (among_right cs ds (flat y ++ s) i))
+    (λ m. at_front (cs ++ ds) x y s (among_left cs ds (flat x ++ (flat y ++ s)) m)) j)
 
 -- many, until a look is seen; while it is
 pub found_many : (l : Look) {c : ℕ} {g : Gram} {ls : List Look} {cs : List Class} → Found g ls cs → Told l false cs

@@ -1,8 +1,7 @@
 -- The step and the law of a where clause's predicate: a `for` before its type is the predicate's own.
 use Rattle.std.proofs.Common.{◌≡◌, ℕ, List, [], ◌∷◌, ◌++◌, refl, sym, ap, ◌∙◌, subst, append_assoc, ⊎_elim, inl, inr}
-use Rattle.std.specs.Prelude.{Bool, true, false, ◌⊎◌, ◌||◌, not, codes, cond, Option, Some, None}
-use Rattle.std.proofs.lemmas.Slice.Eq.{bytes_eq-Decides}
-use Rattle.proc_macro2.specs.Token.{Token, Ident}
+use Rattle.std.specs.Prelude.{Bool, true, false, ◌⊎◌, ◌||◌, not, codes}
+use Rattle.proc_macro2.specs.Token.{Token}
 use Rattle.proc_macro2.specs.declared.delimiter.Delimiter.TheVariants.{Parenthesis, Bracket}
 use Rattle.syn_grammar.specs.Kind.{Kind, Position, Plain, AType, AtType, BoundLifetimes, Bounds, FnPtrType}
 use Rattle.syn_grammar.specs.Kind.{Lifetimes, WherePredicate, WithPlus}
@@ -10,7 +9,7 @@ use Rattle.syn_grammar.specs.Words.{same_text}
 use Rattle.syn_grammar.specs.Tree.{Tree, Nil, Pair, First, Second, Node, Back, flat}
 use Rattle.syn_grammar.specs.Part.{choice}
 use Rattle.syn_grammar.specs.Gram.{Gram, alt, judged, lifetime, ref}
-use Rattle.syn_grammar.specs.Look.{first_seen, seen, sees, ◌or◌, a_lifetime, the_word}
+use Rattle.syn_grammar.specs.Look.{sees, ◌or◌, a_lifetime}
 use Rattle.syn_grammar.specs.Say.{◌▸◌, at, marks, optional, sign}
 use Rattle.syn_grammar.specs.Paths.{arguments_stand, parentheses_stand}
 use Rattle.syn_grammar.specs.Types.{bound_stands, type_entry}
@@ -20,6 +19,7 @@ use Rattle.syn_grammar.specs.Derives.{Derives}
 use Rattle.syn_grammar.specs.Kept.{forget, held, is_there, kept}
 use Rattle.syn_grammar.specs.Tidy.{tidy}
 use Rattle.syn_grammar.specs.Normal.{passed, place_of, normal_in}
+use Rattle.grammar_back.proofs.Choices.{either_or, either_same, first_lacks, other_word}
 use Rattle.grammar_back.specs.After.{behind}
 use Rattle.grammar_back.specs.Covered.{front, has_step, is_taken}
 use Rattle.grammar_back.specs.Sees.{Lacks, LacksAll}
@@ -36,24 +36,6 @@ use Rattle.grammar_back.proofs.Seconds.{group_is_none, mark_is_none}
 
 abbrev pub is_text : List ℕ → Bool
 is_text cs = same_text (codes "for") cs
-
--- where another word stands
-other_word : (w : List ℕ) (ts : List Token) → same_text (codes "for") w ≡ false → sees (the_word w) ts ≡ true
-    → Lacks (at "for") ts
-other_word w (Ident cs ∷ us) n e = go (same_text w cs) refl
-  where
-    go : (b : Bool) → same_text w cs ≡ b → seen (cond (same_text (codes "for") cs) (Some us) None) ≡ false
-    go true i =
-        let f : w ≡ cs = (bytes_eq-Decides w cs).0 i in
-        ap (λ b. seen (cond b (Some us) None)) (ap (same_text (codes "for")) (sym f) ∙ n)
-    go false i =
-        let f : false ≡ true = sym (ap (λ b. seen (cond b (Some us) None)) i) ∙ e in
-        cc f
-other_word w _ n e = refl
-
-either_lacks : (o p : Option (List Token)) → seen (first_seen o p) ≡ false → seen o ≡ false
-either_lacks None p e = refl
-either_lacks (Some us) p e = e
 
 pointer_in : (x : Tree) (s : List Token) → Derives x (table FnPtrType) s → is_there (front x) ≡ false
     → Lacks (at "for") (flat x ++ s)
@@ -79,17 +61,17 @@ entry_lacks (Second (Second (Second (First x)))) s d e = mark_is_none is_text 42
 entry_lacks (Second (Second (Second (Second (First x))))) s d e =
     group_is_none is_text Bracket (flat x ++ s) d.1.1.1.1.0
 entry_lacks (Second (Second (Second (Second (Second (First x)))))) s d e =
-    other_word (codes "_") (flat x ++ s) refl d.1.1.1.1.1.0
+    other_word (codes "for") (codes "_") (flat x ++ s) refl d.1.1.1.1.1.0
 entry_lacks (Second (Second (Second (Second (Second (Second (First x))))))) s d e =
-    other_word (codes "dyn") (flat x ++ s) refl d.1.1.1.1.1.1.0
+    other_word (codes "for") (codes "dyn") (flat x ++ s) refl d.1.1.1.1.1.1.0
 entry_lacks (Second (Second (Second (Second (Second (Second (Second (First x)))))))) s d e =
-    other_word (codes "impl") (flat x ++ s) refl d.1.1.1.1.1.1.1.0
+    other_word (codes "for") (codes "impl") (flat x ++ s) refl d.1.1.1.1.1.1.1.0
 entry_lacks (Second (Second (Second (Second (Second (Second (Second (Second (First (Node k x)))))))))) s d e =
     pointer_lacks k x s d.1.1.1.1.1.1.1.1.1.0 d.1.1.1.1.1.1.1.1.1.1 e
 entry_lacks (Second (Second (Second (Second (Second (Second (Second (Second (First _))))))))) s d e =
     absurd d.1.1.1.1.1.1.1.1.1
 entry_lacks (Second (Second (Second (Second (Second (Second (Second (Second (Second x))))))))) s d e =
-    either_lacks ((at "for") (flat x ++ s)) ((at "unsafe" or at "extern" or at "fn") (flat x ++ s)) d.1.1.1.1.1.1.1.1.0
+    first_lacks ((at "for") (flat x ++ s)) ((at "unsafe" or at "extern" or at "fn") (flat x ++ s)) d.1.1.1.1.1.1.1.1.0
 entry_lacks (Second (Second (Second (Second (Second (Second (Second (Second _)))))))) s d e = absurd d.1.1.1.1.1.1.1.1
 entry_lacks (Second (Second (Second (Second (Second (Second (Second _))))))) s d e = absurd d.1.1.1.1.1.1.1
 entry_lacks (Second (Second (Second (Second (Second (Second _)))))) s d e = absurd d.1.1.1.1.1.1
@@ -176,11 +158,6 @@ abbrev pub is_own : Tree → Bool
 is_own (Pair o y) = is_there o || not (is_for (front y))
 is_own _ = true
 
-either_or : (a b : Bool) → (a || not b) ≡ true → (a ≡ true) ⊎ (b ≡ false)
-either_or true b e = inl refl
-either_or false false e = inr refl
-either_or false true e = cc
-
 abbrev pub TypedEdge : Edge
 TypedEdge x s = LacksAll (behind WherePredicate) s × (is_own x ≡ true)
 
@@ -258,9 +235,6 @@ for_read (Node k x) r d =
     ap (λ j. is_long (choice (tidy (held j) (normal_in (passed (held j) Plain) (forget j (kept x)))))) d.0
     ∙ long_normal Plain (kept x) ∙ long_read x (table k) r d.1
 for_read _ r d = absurd d
-
-either_same : (a b c d : Bool) → a ≡ c → b ≡ d → (a || not b) ≡ (c || not d)
-either_same a b c d e f = ap (λ x. x || not b) e ∙ ap (λ x. c || not x) f
 
 own_fits : (w : Tree) → Fits w (table WherePredicate) → has_own_for (kept w) ≡ has_own_for w
 unfolding table

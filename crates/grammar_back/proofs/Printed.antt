@@ -15,7 +15,9 @@ use Rattle.syn_grammar.specs.Derives.{Derives, Bound}
 use Rattle.syn_grammar.specs.Kept.{held, forget, kept}
 use Rattle.syn_grammar.specs.Tidy.{tidy}
 use Rattle.syn_grammar.specs.Normal.{place_of, passed, private, apart_item, apart_if, is_enclosed, normal_in}
-use Rattle.grammar_back.specs.Covered.{has_step, has_form_step, is_known, is_form, is_taken, is_covered}
+use Rattle.grammar_back.proofs.Choices.{both_true}
+use Rattle.grammar_back.specs.Covered.{has_step, has_form_step, is_known, is_form, is_taken, is_taken_part}
+use Rattle.grammar_back.specs.Covered.{is_covered}
 use Rattle.grammar_back.proofs.Fits.{Fits, IsMeant}
 
 pub record Printed (g : Gram) (z : Tree) : Type 0 where
@@ -30,7 +32,7 @@ IsPlaced q _ = Unit {0}
 
 -- a verdict that keeps a tree keeps what is printed for it
 abbrev pub VerdictLaw : Position → (Tree → Verdict) → Gram → Type 0
-VerdictLaw q v g = (x w : Tree) (r : List Token) → Derives x g r → Fits w g → kept w ≡ normal_in q (kept x) → v x ≡
+VerdictLaw q v g = (x w : Tree) (r : List Token) → is_covered x ≡ true → Derives x g r → Fits w g → kept w ≡ normal_in q (kept x) → v x ≡
     Keep
     → v w ≡ Keep
 
@@ -49,7 +51,7 @@ EntryLaw q (judged v g) = VerdictLaw q v g × EntryLaw q g
 EntryLaw q (dropped g) = Fits private g
 EntryLaw q (called n g) = EntryLaw (place_of n) g
 EntryLaw q (ref k) = IsPlaced q k
-EntryLaw q (operand p n) = (q ≡ p) × (n ≡ 0)
+EntryLaw q (operand p n) = (q ≡ p) × (n ≡ 0) × (is_known (Expression p) ≡ true)
 EntryLaw q _ = Unit {0}
 
 -- and of a kind: its entry, and how what is printed for what it holds is printed for it
@@ -70,15 +72,11 @@ OwnPrinted _ = Unit {0}
 -- An expression is printed where the own parts of its forms are.
 abbrev pub WholeLaw : Type 0
 WholeLaw =
-    (p : Position) (x : Tree) (r : List Token) → Derives (Whole x) (operand p 0) r → is_covered x ≡ true → OwnPrinted
-    x
+    (p : Position) (x : Tree) (r : List Token) → is_known (Expression p) ≡ true → Derives (Whole x) (operand p 0) r
+    → is_covered x ≡ true → OwnPrinted x
     → Printed (operand p 0) (normal_in p (kept (Whole x)))
 
-both_true : (a b : Bool) → (a && b) ≡ true → (a ≡ true) × (b ≡ true)
-both_true true b e = (refl, e)
-both_true false b e = cc
-
-unmoved_if : (b : Bool) (x : Tree) → apart_item x ≡ x → apart_if b x ≡ x
+pub unmoved_if : (b : Bool) (x : Tree) → apart_item x ≡ x → apart_if b x ≡ x
 unmoved_if true x e = e
 unmoved_if false x e = refl
 
@@ -87,7 +85,7 @@ or_right : (a b : Bool) → b ≡ true → (a || b) ≡ true
 or_right true b e = refl
 or_right false b e = e
 
-form_known : (k : Kind) → is_form k ≡ true → is_known k ≡ true
+pub form_known : (k : Kind) → is_form k ≡ true → is_known k ≡ true
 form_known (Expression p) e = cc
 form_known k e = or_right (has_step k) (has_form_step k) e
 
@@ -165,13 +163,13 @@ module _ (laws : (k : Kind) → is_known k ≡ true → KindLaw k) (whole : Whol
         let i = printed x g r q l.1 d.1 c in
         record {
           tree = First i.tree;
-          fits = (l.0 x i.tree r d.1 i.fits i.kept_is d.0, i.fits);
+          fits = (l.0 x i.tree r c d.1 i.fits i.kept_is d.0, i.fits);
           kept_is = ap First i.kept_is;
         }
     printed (Verbatim x) (judged v g) r q l d c = let e : false ≡ true = c in cc e
     printed (Dropped x) (dropped g) r q l d c = record { tree = Dropped private; fits = (refl, l); kept_is = refl }
     printed (Called n x) (called m g) r q l d c =
-        let i = printed x g r (place_of m) l d.1 c in
+        let i = printed x g r (place_of m) l d.1 (both_true (is_taken_part n x) (is_covered x) c).1 in
         record {
           tree = Called m i.tree;
           fits = (refl, i.fits);
@@ -189,7 +187,7 @@ module _ (laws : (k : Kind) → is_known k ≡ true → KindLaw k) (whole : Whol
         let e : Derives (Whole x) (operand p 0) r = subst (λ m. Derives (Whole x) (operand p m) r) l.1 d in
         subst (λ m. Printed (operand p m) (normal_in q (kept (Whole x)))) (sym l.1)
         (subst (λ m. Printed (operand p 0) (normal_in m (kept (Whole x)))) (sym l.0)
-        (whole p x r e c (own_printed x p r d.1 c)))
+        (whole p x r l.2 e c (own_printed x p r d.1 c)))
     printed _ _ r q l d c = absurd d
 
     own_printed : (x : Tree) (p : Position) (r : List Token) → Bound p x r → is_covered x ≡ true → OwnPrinted x

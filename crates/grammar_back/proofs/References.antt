@@ -1,12 +1,12 @@
 -- The step and the law of a reference pattern: a mut behind its & is its own.
 use Rattle.std.proofs.Common.{◌≡◌, List, [], ◌∷◌, ◌++◌, refl, sym, ap, ◌∙◌, subst, append_assoc, ⊎_elim, inl, inr}
-use Rattle.std.specs.Prelude.{Bool, true, false, ◌⊎◌, ◌||◌, ◌&&◌, not, codes, cond, Option, Some, None}
+use Rattle.std.specs.Prelude.{Bool, true, false, ◌⊎◌, ◌&&◌, not, codes, cond, Some, None}
 use Rattle.proc_macro2.specs.Token.{Token}
 use Rattle.syn_grammar.specs.Kind.{Kind, Position, Plain, IdentPattern, OnePattern, ReferencePattern}
 use Rattle.syn_grammar.specs.Tree.{Tree, AWord, Nil, Pair, First, Second, Node, Back, flat}
 use Rattle.syn_grammar.specs.Part.{choice}
 use Rattle.syn_grammar.specs.Gram.{Gram, alt, judged, ref}
-use Rattle.syn_grammar.specs.Look.{first_seen, seen, sees}
+use Rattle.syn_grammar.specs.Look.{seen, sees}
 use Rattle.syn_grammar.specs.Say.{◌▸◌, at, keyword, optional}
 use Rattle.syn_grammar.specs.Patterns.{binding}
 use Rattle.syn_grammar.specs.Ranks.{skips}
@@ -15,6 +15,7 @@ use Rattle.syn_grammar.specs.Tidy.{tidy}
 use Rattle.syn_grammar.specs.Derives.{Derives}
 use Rattle.syn_grammar.specs.Kept.{forget, held, is_there, kept}
 use Rattle.syn_grammar.specs.Normal.{passed, place_of, normal_in}
+use Rattle.grammar_back.proofs.Choices.{either_or, either_same, other_word, second_lacks}
 use Rattle.grammar_back.specs.After.{behind}
 use Rattle.grammar_back.specs.Covered.{has_step, is_taken}
 use Rattle.grammar_back.specs.Sees.{Lacks, LacksAll}
@@ -28,13 +29,6 @@ use Rattle.grammar_back.proofs.Fine.{Fine, Any, Edge, At, Without, fine_seq}
 use Rattle.grammar_back.proofs.Parts.{Found, at_front, found_mark, found_ref, found_text, meant_step, told_at}
 use Rattle.grammar_back.proofs.Printed.{KindLaw, IsPlaced, Printed, simple_law}
 use Rattle.grammar_back.proofs.KindLaws.{chosen_fits, chosen_read, there_normal}
-use Rattle.grammar_back.proofs.Alternatives.{other_word}
-
--- where no name is bound, no mut stands
-second_lacks : (o p q : Option (List Token)) → seen (first_seen o (first_seen p q)) ≡ false → seen p ≡ false
-second_lacks None None q e = refl
-second_lacks None (Some us) q e = e
-second_lacks (Some us) p q e = cc
 
 ident_in : (x : Tree) (s : List Token) → Derives x (table IdentPattern) s → is_mut_name (Node IdentPattern x) ≡ false
     → Lacks (at "mut") (flat x ++ s)
@@ -103,11 +97,6 @@ fine_mut = record { by = go }
     go (Second _) s f w a = absurd f.1
     go _ s f w a = absurd f
 
-either_or : (a b : Bool) → (a || not b) ≡ true → (a ≡ true) ⊎ (b ≡ false)
-either_or true b e = inl refl
-either_or false false e = inr refl
-either_or false true e = cc
-
 abbrev pub OwnEdge : Edge
 OwnEdge x s = LacksAll (behind OnePattern) s × (is_own_mut x ≡ true)
 
@@ -175,9 +164,6 @@ pattern_read (Node k x) r d =
     ap (λ j. is_mut_name (choice (tidy (held j) (normal_in (passed (held j) Plain) (forget j (kept x)))))) d.0
     ∙ mut_read x (table k) r d.1
 pattern_read _ r d = absurd d
-
-either_same : (a b c d : Bool) → a ≡ c → b ≡ d → (a || not b) ≡ (c || not d)
-either_same a b c d e f = ap (λ x. x || not b) e ∙ ap (λ x. c || not x) f
 
 own_fits : (w : Tree) → Fits w (table ReferencePattern) → has_own_mut (kept w) ≡ has_own_mut w
 unfolding table

@@ -9,19 +9,21 @@ use Rattle.proc_macro2.specs.declared.delimiter.Delimiter.TheVariants.{Parenthes
 use Rattle.rust_leaf.specs.declared.punct.Spacing.TheVariants.{Alone as Apart, Joint}
 use Rattle.rust_leaf.specs.declared.punct.Spacing.{Spacing}
 use Rattle.syn_grammar.specs.Words.{same_text, is_reserved, is_ident, is_path_keyword}
-use Rattle.syn_grammar.specs.Kind.{InferType, AtType, Plus, WithPlus, Path, Segments, AnyPath, AType, Arguments}
-use Rattle.syn_grammar.specs.Kind.{ParenthesizedArguments}
+use Rattle.syn_grammar.specs.Kind.{InferType, AtType, Plus, WithPlus, Path, Segments, AnyPath, AType}
 use Rattle.syn_grammar.specs.Tree.{Tree, AWord, AMark, Nil, Pair, First, Second, Node, marks as signs, flat}
 use Rattle.syn_grammar.specs.Gram.{Gram, ref}
 use Rattle.syn_grammar.specs.Look.{Look, seen, behind, first_seen, sees, ◌then◌, ◌or◌, an_ident, opens, past_marks}
 use Rattle.syn_grammar.specs.Look.{a_word}
 use Rattle.syn_grammar.specs.Look.{no, the_word}
 use Rattle.syn_grammar.specs.Say.{keyword, ◌▸◌, when◌read◌else◌, optional, at, sign, marks, ident, parenthesis}
-use Rattle.syn_grammar.specs.Paths.{arguments_stand, parentheses_stand, more_segments}
+use Rattle.syn_grammar.specs.Paths.{arguments_stand}
 use Rattle.syn_grammar.specs.Types.{colon, type_entry}
 use Rattle.syn_grammar.specs.Ranks.{skips}
 use Rattle.syn_grammar.specs.Table.{table}
 use Rattle.syn_grammar.specs.Derives.{Derives}
+use Rattle.syn_grammar.specs.Kept.{held, kept}
+use Rattle.syn_grammar.specs.Tidy.{is_ident_type, is_lone_path, is_lone_segment}
+use Rattle.syn_grammar.specs.Part.{choice}
 use Rattle.grammar_back.specs.After.{behind as kind_behind}
 use Rattle.grammar_back.specs.Sees.{Lacks, LacksAll}
 use Rattle.grammar_back.proofs.Starts.{starts}
@@ -71,7 +73,7 @@ either_seen (Some us) p e = inl refl
 either_seen None p e = inr e
 
 -- behind a word
-past_word : (p : List ℕ → Bool) (l : Look) (cs : List ℕ) (ts : List Token) → Lacks l ts
+pub past_word : (p : List ℕ → Bool) (l : Look) (cs : List ℕ) (ts : List Token) → Lacks l ts
     → Lacks (a_word p then l) (Ident cs ∷ ts)
 past_word p l cs ts a = go (p cs)
   where
@@ -89,60 +91,64 @@ keyword_is_none cs us e =
     (λ us. simp reserved_self refl, (λ us. simp reserved_super refl, (λ us. simp reserved_crate refl, tt)))
     (words_are keywords cs us e)
 
--- what may stand behind the names of a type's path
-abbrev pub name_end : Gram
-name_end =
-    when arguments_stand AtType read ref Arguments ▸ more_segments AtType
-    else when marks "::" read sign "::" ▸ ref (Segments AtType)
-    else optional (parentheses_stand AtType) (ref ParenthesizedArguments)
-
 -- a look that sees none of it
 module _ (l : Look) (colons : (ts : List Token) → sees (marks "::") ts ≡ true → Lacks l ts)
     (angle : (ts : List Token) → sees (arguments_stand AtType) ts ≡ true → Lacks l ts)
     (group : (ts : List Token) → sees parenthesis ts ≡ true → Lacks l ts) where
-  end_next : (x : Tree) (s : List Token) → Derives x name_end s → Lacks l s → Lacks l (flat x ++ s)
-  end_next (First x) s d a = angle (flat x ++ s) d.0
-  end_next (Second (First x)) s d a = colons (flat x ++ s) d.1.0
-  end_next (Second (Second (First x))) s d a = group (flat x ++ s) d.1.1.0
-  end_next (Second (Second (Second Nil))) s d a = a
-  end_next (Second (Second (Second _))) s d a = absurd d.1.1.1
-  end_next (Second (Second _)) s d a = absurd d.1.1
-  end_next (Second _) s d a = absurd d.1
-  end_next _ s d a = absurd d
+  lone_next : (cs : List ℕ) (s : List Token) → (is_ident cs ≡ true → Lacks l s) → Lacks (an_ident then l) (Ident cs ∷ s)
+  lone_next cs s h = go (is_ident cs) refl
+    where
+      go : (b : Bool) → is_ident cs ≡ b → seen (behind (cond b (Some s) None) l) ≡ false
+      go true i = h i
+      go false i = refl
 
-  segments_next : (x : Tree) (s : List Token) → Derives x (table (Segments AtType)) s → Lacks l s
-      → Lacks (an_ident then l) (flat x ++ s)
-  unfolding table
-  segments_next (First (Pair (AWord cs) y)) s d a =
+  segments_next : (x : Tree) (s : List Token) → Derives x (table (Segments AtType)) s
+      → (is_lone_segment (kept (Node (Segments AtType) x)) ≡ true → Lacks l s) → Lacks (an_ident then l) (flat x ++ s)
+  unfolding table held
+  segments_next (First (Pair (AWord cs) y)) s d h =
       past_none is_ident l (Ident cs ∷ flat y ++ s) (keyword_is_none cs (flat y ++ s) d.1.0)
-  segments_next (First (Pair _ y)) s d a = absurd d.1.0
-  segments_next (First _) s d a = absurd d.1
-  segments_next (Second (Pair (AWord cs) y)) s d a = past_word is_ident l cs (flat y ++ s) (end_next y s d.1.1 a)
-  segments_next (Second (Pair _ y)) s d a = absurd d.1.0
-  segments_next (Second _) s d a = absurd d.1
-  segments_next _ s d a = absurd d
+  segments_next (First (Pair _ y)) s d h = absurd d.1.0
+  segments_next (First _) s d h = absurd d.1
+  segments_next (Second (Pair (AWord cs) (First y))) s d h =
+      past_word is_ident l cs (flat y ++ s) (angle (flat y ++ s) d.1.1.0)
+  segments_next (Second (Pair (AWord cs) (Second (First y)))) s d h =
+      past_word is_ident l cs (flat y ++ s) (colons (flat y ++ s) d.1.1.1.0)
+  segments_next (Second (Pair (AWord cs) (Second (Second (First y))))) s d h =
+      past_word is_ident l cs (flat y ++ s) (group (flat y ++ s) d.1.1.1.1.0)
+  segments_next (Second (Pair (AWord cs) (Second (Second (Second Nil))))) s d h = lone_next cs s h
+  segments_next (Second (Pair (AWord cs) (Second (Second (Second _))))) s d h = absurd d.1.1.1.1.1
+  segments_next (Second (Pair (AWord cs) (Second (Second _)))) s d h = absurd d.1.1.1.1
+  segments_next (Second (Pair (AWord cs) (Second _))) s d h = absurd d.1.1.1
+  segments_next (Second (Pair (AWord cs) _)) s d h = absurd d.1.1
+  segments_next (Second (Pair _ y)) s d h = absurd d.1.0
+  segments_next (Second _) s d h = absurd d.1
+  segments_next _ s d h = absurd d
 
-  path_next : (x : Tree) (s : List Token) → Derives x (table (Path AtType)) s → Lacks l s
+  path_next : (x : Tree) (s : List Token) → Derives x (table (Path AtType)) s
+      → (is_lone_path (kept (Node (AnyPath AtType) (Second (Node (Path AtType) x)))) ≡ true → Lacks l s)
       → Lacks (an_ident then l) (flat x ++ s)
-  unfolding table
-  path_next (Pair (First m) y) s d a =
+  unfolding table held
+  path_next (Pair (First m) y) s d h =
       subst (λ us. Lacks (an_ident then l) us) (sym (append_assoc (flat m) (flat y) s))
       (past_none is_ident l (flat m ++ (flat y ++ s))
       (mark_is_none is_ident 58 (58 ∷ []) (flat m ++ (flat y ++ s)) d.0.0))
-  path_next (Pair (Second Nil) (Node k y)) s d a =
-      segments_next y s (subst (λ j. Derives y (table j) s) d.1.0 d.1.1) a
-  path_next (Pair (Second Nil) _) s d a = absurd d.1
-  path_next (Pair (Second _) y) s d a = absurd d.0.1
-  path_next (Pair _ y) s d a = absurd d.0
-  path_next _ s d a = absurd d
+  path_next (Pair (Second Nil) (Node k y)) s d h =
+      segments_next y s (subst (λ j. Derives y (table j) s) d.1.0 d.1.1)
+      (λ e. h (subst (λ j. is_lone_segment (kept (Node j y)) ≡ true) (sym d.1.0) e))
+  path_next (Pair (Second Nil) _) s d h = absurd d.1
+  path_next (Pair (Second _) y) s d h = absurd d.0.1
+  path_next (Pair _ y) s d h = absurd d.0
+  path_next _ s d h = absurd d
 
-  any_next : (x : Tree) (s : List Token) → Derives x (table (AnyPath AtType)) s → Lacks l s
-      → Lacks (an_ident then l) (flat x ++ s)
-  unfolding table
-  any_next (First x) s d a = past_none is_ident l (flat x ++ s) (mark_is_none is_ident 60 [] (flat x ++ s) d.0)
-  any_next (Second (Node k y)) s d a = path_next y s (subst (λ j. Derives y (table j) s) d.1.0 d.1.1) a
-  any_next (Second _) s d a = absurd d.1
-  any_next _ s d a = absurd d
+  any_next : (x : Tree) (s : List Token) → Derives x (table (AnyPath AtType)) s
+      → (is_lone_path (kept (Node (AnyPath AtType) x)) ≡ true → Lacks l s) → Lacks (an_ident then l) (flat x ++ s)
+  unfolding table held
+  any_next (First x) s d h = past_none is_ident l (flat x ++ s) (mark_is_none is_ident 60 [] (flat x ++ s) d.0)
+  any_next (Second (Node k y)) s d h =
+      path_next y s (subst (λ j. Derives y (table j) s) d.1.0 d.1.1)
+      (λ e. h (subst (λ j. is_lone_path (kept (Node (AnyPath AtType) (Second (Node j y)))) ≡ true) (sym d.1.0) e))
+  any_next (Second _) s d h = absurd d.1
+  any_next _ s d h = absurd d
 
   -- for, unsafe, extern or fn
   pointer_next : (ts : List Token) → sees (at "for" or at "unsafe" or at "extern" or at "fn") ts ≡ true
@@ -155,46 +161,54 @@ module _ (l : Look) (colons : (ts : List Token) → sees (marks "::") ts ≡ tru
       (either_seen ((at "unsafe") ts) ((at "extern" or at "fn") ts) f))
       (either_seen ((at "for") ts) ((at "unsafe" or at "extern" or at "fn") ts) e)
 
-  entry_next : (p : Plus) (x : Tree) (s : List Token) → Derives x (type_entry p) s → Lacks l s
-      → Lacks (an_ident then l) (flat x ++ s)
-  entry_next p (First x) s d a =
+  entry_next : (p : Plus) (x : Tree) (s : List Token) → Derives x (type_entry p) s
+      → (is_lone_path (choice (kept x)) ≡ true → Lacks l s) → Lacks (an_ident then l) (flat x ++ s)
+  entry_next p (First x) s d h =
       past_none is_ident l (flat x ++ s) (group_is_none is_ident Parenthesis (flat x ++ s) d.0)
-  entry_next p (Second (First x)) s d a =
+  entry_next p (Second (First x)) s d h =
       past_none is_ident l (flat x ++ s) (mark_is_none is_ident 33 [] (flat x ++ s) d.1.0)
-  entry_next p (Second (Second (First x))) s d a =
+  entry_next p (Second (Second (First x))) s d h =
       past_none is_ident l (flat x ++ s) (mark_is_none is_ident 38 [] (flat x ++ s) d.1.1.0)
-  entry_next p (Second (Second (Second (First x)))) s d a =
+  entry_next p (Second (Second (Second (First x)))) s d h =
       past_none is_ident l (flat x ++ s) (mark_is_none is_ident 42 [] (flat x ++ s) d.1.1.1.0)
-  entry_next p (Second (Second (Second (Second (First x))))) s d a =
+  entry_next p (Second (Second (Second (Second (First x))))) s d h =
       past_none is_ident l (flat x ++ s) (group_is_none is_ident Bracket (flat x ++ s) d.1.1.1.1.0)
-  entry_next p (Second (Second (Second (Second (Second (First x)))))) s d a =
+  entry_next p (Second (Second (Second (Second (Second (First x)))))) s d h =
       past_none is_ident l (flat x ++ s) (word_is_none (codes "_") (flat x ++ s) reserved_underscore d.1.1.1.1.1.0)
-  entry_next p (Second (Second (Second (Second (Second (Second (First x))))))) s d a =
+  entry_next p (Second (Second (Second (Second (Second (Second (First x))))))) s d h =
       past_none is_ident l (flat x ++ s) (word_is_none (codes "dyn") (flat x ++ s) reserved_dyn d.1.1.1.1.1.1.0)
-  entry_next p (Second (Second (Second (Second (Second (Second (Second (First x)))))))) s d a =
+  entry_next p (Second (Second (Second (Second (Second (Second (Second (First x)))))))) s d h =
       past_none is_ident l (flat x ++ s) (word_is_none (codes "impl") (flat x ++ s) reserved_impl d.1.1.1.1.1.1.1.0)
-  entry_next p (Second (Second (Second (Second (Second (Second (Second (Second (First x))))))))) s d a =
+  entry_next p (Second (Second (Second (Second (Second (Second (Second (Second (First x))))))))) s d h =
       past_none is_ident l (flat x ++ s) (pointer_next (flat x ++ s) d.1.1.1.1.1.1.1.1.0)
-  entry_next p (Second (Second (Second (Second (Second (Second (Second (Second (Second (Node k y)))))))))) s d a =
-      any_next y s (subst (λ j. Derives y (table j) s) d.1.1.1.1.1.1.1.1.1.0 d.1.1.1.1.1.1.1.1.1.1) a
-  entry_next p (Second (Second (Second (Second (Second (Second (Second (Second (Second _))))))))) s d a =
+  entry_next p (Second (Second (Second (Second (Second (Second (Second (Second (Second (Node k y)))))))))) s d h =
+      any_next y s (subst (λ j. Derives y (table j) s) d.1.1.1.1.1.1.1.1.1.0 d.1.1.1.1.1.1.1.1.1.1)
+      (λ e. h (subst (λ j. is_lone_path (kept (Node j y)) ≡ true) (sym d.1.1.1.1.1.1.1.1.1.0) e))
+  entry_next p (Second (Second (Second (Second (Second (Second (Second (Second (Second _))))))))) s d h =
       absurd d.1.1.1.1.1.1.1.1.1
-  entry_next p (Second (Second (Second (Second (Second (Second (Second (Second _)))))))) s d a =
+  entry_next p (Second (Second (Second (Second (Second (Second (Second (Second _)))))))) s d h =
       absurd d.1.1.1.1.1.1.1.1
-  entry_next p (Second (Second (Second (Second (Second (Second (Second _))))))) s d a = absurd d.1.1.1.1.1.1.1
-  entry_next p (Second (Second (Second (Second (Second (Second _)))))) s d a = absurd d.1.1.1.1.1.1
-  entry_next p (Second (Second (Second (Second (Second _))))) s d a = absurd d.1.1.1.1.1
-  entry_next p (Second (Second (Second (Second _)))) s d a = absurd d.1.1.1.1
-  entry_next p (Second (Second (Second _))) s d a = absurd d.1.1.1
-  entry_next p (Second (Second _)) s d a = absurd d.1.1
-  entry_next p (Second _) s d a = absurd d.1
-  entry_next p _ s d a = absurd d
+  entry_next p (Second (Second (Second (Second (Second (Second (Second _))))))) s d h = absurd d.1.1.1.1.1.1.1
+  entry_next p (Second (Second (Second (Second (Second (Second _)))))) s d h = absurd d.1.1.1.1.1.1
+  entry_next p (Second (Second (Second (Second (Second _))))) s d h = absurd d.1.1.1.1.1
+  entry_next p (Second (Second (Second (Second _)))) s d h = absurd d.1.1.1.1
+  entry_next p (Second (Second (Second _))) s d h = absurd d.1.1.1
+  entry_next p (Second (Second _)) s d h = absurd d.1.1
+  entry_next p (Second _) s d h = absurd d.1
+  entry_next p _ s d h = absurd d
+
+  -- of a type that isn't one Ident, whatever stands behind it
+  pub long_next : (x : Tree) (s : List Token) → Derives x (ref (AType WithPlus)) s
+      → (is_ident_type (kept x) ≡ true → Lacks l s) → Lacks (an_ident then l) (flat x ++ s)
+  unfolding table held
+  long_next (Node k y) s d h =
+      entry_next WithPlus y s (subst (λ j. Derives y (table j) s) d.0 d.1)
+      (λ e. h (subst (λ j. is_ident_type (kept (Node j y)) ≡ true) (sym d.0) e))
+  long_next _ s d h = absurd d
 
   pub type_next : (x : Tree) (s : List Token) → Derives x (ref (AType WithPlus)) s → Lacks l s
       → Lacks (an_ident then l) (flat x ++ s)
-  unfolding table
-  type_next (Node k y) s d a = entry_next WithPlus y s (subst (λ j. Derives y (table j) s) d.0 d.1) a
-  type_next _ s d a = absurd d
+  type_next x s d a = long_next x s d (λ e. a)
 
 -- no = stands there
 pub mark_other : (c d : ℕ) (cs : List ℕ) (ts : List Token) → (c == d) ≡ false → sees (past_marks c cs) ts ≡ true
@@ -281,10 +295,10 @@ no_colon ts e = go (seen ((marks "::") ts))
     go true = refl
     go false = e
 
-no_colon_colons : (ts : List Token) → sees (marks "::") ts ≡ true → Lacks colon ts
+pub no_colon_colons : (ts : List Token) → sees (marks "::") ts ≡ true → Lacks colon ts
 no_colon_colons ts e = ap (λ b. seen (behind (cond b None (Some ts)) (marks ":"))) e
 
-no_colon_angle : (ts : List Token) → sees (arguments_stand AtType) ts ≡ true → Lacks colon ts
+pub no_colon_angle : (ts : List Token) → sees (arguments_stand AtType) ts ≡ true → Lacks colon ts
 no_colon_angle ts e =
     ⊎_elim (λ f. no_colon_colons ts (front_seen ((marks "::") ts) (marks "<") f))
     (λ f. no_colon ts (mark_other 60 58 [] ts refl (none_seen ((marks "<=") ts) (marks "<") ts f)))

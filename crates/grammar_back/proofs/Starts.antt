@@ -3,31 +3,33 @@ use Rattle.proc_macro2.specs.declared.delimiter.Delimiter.TheVariants as D
 use Rattle.grammar_back.proofs.Classes.{Sign, TheWord, AnyWord, Quoted, Tick, Opening, Then, Class}
 use Rattle.proc_macro2.specs.declared.delimiter.Delimiter.TheVariants.{Parenthesis, Brace, Bracket}
 use Rattle.std.specs.Prelude.{codes, List, [], ◌∷◌}
-use Rattle.syn_grammar.specs.Kind.{Kind, AConst, AFunction, AMacro, AStatic, AStruct, AType, ATypeAlias, AUnion}
-use Rattle.syn_grammar.specs.Kind.{AUse, Abi, AnArgument, AnEnum, AnExternCrate, AnyPath, Arguments, AtType}
-use Rattle.syn_grammar.specs.Kind.{Block, Body, Bound, BoundLifetimes, Bounds, BoundsColon, BracketType}
-use Rattle.syn_grammar.specs.Kind.{ClosureParam, ConstParam, Delimited, DynType, ExprAnd, ExprArray, ExprAssign}
-use Rattle.syn_grammar.specs.Kind.{ExprAsync, ExprAttributed, ExprAwait, ExprBitAnd, ExprBitOr, ExprBitXor}
-use Rattle.syn_grammar.specs.Kind.{ExprBlock, ExprBreak, ExprCall, ExprCast, ExprClosure, ExprCompare, ExprConst}
-use Rattle.syn_grammar.specs.Kind.{ExprContinue, ExprField, ExprForLoop, ExprGroup, ExprIf, ExprIndex, ExprInfer}
-use Rattle.syn_grammar.specs.Kind.{ExprLet, ExprLit, ExprLoop, ExprMacro, ExprMatch, ExprMethodCall, ExprOr}
-use Rattle.syn_grammar.specs.Kind.{ExprParen, ExprPath, ExprProduct, ExprRange, ExprRangeClosed, ExprRawAddr}
-use Rattle.syn_grammar.specs.Kind.{ExprReference, ExprRepeat, ExprReturn, ExprShift, ExprStruct, ExprSum, ExprTry}
-use Rattle.syn_grammar.specs.Kind.{ExprTryBlock, ExprTypedClosure, ExprUnary, ExprUnsafe, ExprWhile, ExprYield}
-use Rattle.syn_grammar.specs.Kind.{Expression, FieldPattern, FieldPatterns, FieldValue, FieldValues, FnArg}
-use Rattle.syn_grammar.specs.Kind.{FnPtrArg, FnPtrType, GenericParam, GenericParams, Generics, IdentPattern}
-use Rattle.syn_grammar.specs.Kind.{ImplGenerics, ImplType, InArm, InCondition, InExpression, InFile, InForeign}
-use Rattle.syn_grammar.specs.Kind.{InImpl, InModule, InStatement, InTrait, InType, Index, InferType}
-use Rattle.syn_grammar.specs.Kind.{InnerAttribute, InnerAttributes, ItemMacro, Label, LifetimeColon}
-use Rattle.syn_grammar.specs.Kind.{LifetimeParam, Lifetimes, LiteralPattern, Member, Meta, NamedField}
-use Rattle.syn_grammar.specs.Kind.{NamedFields, NeverType, OnePattern, OuterAttribute, OuterAttributes, Parameter}
-use Rattle.syn_grammar.specs.Kind.{Parameters, ParenthesizedArguments, Path, PathPattern, Pattern, Plain}
-use Rattle.syn_grammar.specs.Kind.{PointerType, QualifiedPath, RangeBound, RangeEnd, RangeToPattern, Receiver}
-use Rattle.syn_grammar.specs.Kind.{ReferencePattern, ReferenceType, RestPattern, ReturnType, Segments}
-use Rattle.syn_grammar.specs.Kind.{SeveralPatterns, Signature, SlicePattern, SomeBounds, TraitPath, TuplePattern}
-use Rattle.syn_grammar.specs.Kind.{TupleType, TypeParam, UnnamedField, UnnamedFields, UseBranch, UseRooted}
-use Rattle.syn_grammar.specs.Kind.{UseTop, UseTree, Variant, Visibility, Where, WhereClause, WherePredicate}
-use Rattle.syn_grammar.specs.Kind.{WildPattern, WithPlus, WithoutPlus}
+use Rattle.syn_grammar.specs.Kind.{Kind, AConst, AConstTrait, AFieldValue, AFile, AForeignModule, AFunction}
+use Rattle.syn_grammar.specs.Kind.{AMacro, AMacroDefinition, AModule, ARestrictedTrait, AStatic, AStruct, ATrait}
+use Rattle.syn_grammar.specs.Kind.{AType, ATypeAlias, AUnion, AUse, Abi, AnArgument, AnEnum, AnExternCrate}
+use Rattle.syn_grammar.specs.Kind.{AnImpl, AnItem, AnyPath, Arguments, AtType, Block, Body, Bound, BoundLifetimes}
+use Rattle.syn_grammar.specs.Kind.{Bounds, BoundsColon, BracketType, ClosureParam, ConstParam, Delimited, DynType}
+use Rattle.syn_grammar.specs.Kind.{ExprAnd, ExprArray, ExprAssign, ExprAsync, ExprAttributed, ExprAwait}
+use Rattle.syn_grammar.specs.Kind.{ExprBitAnd, ExprBitOr, ExprBitXor, ExprBlock, ExprBreak, ExprCall, ExprCast}
+use Rattle.syn_grammar.specs.Kind.{ExprClosure, ExprCompare, ExprConst, ExprContinue, ExprField, ExprForLoop}
+use Rattle.syn_grammar.specs.Kind.{ExprGroup, ExprIf, ExprIndex, ExprInfer, ExprLet, ExprLit, ExprLoop, ExprMacro}
+use Rattle.syn_grammar.specs.Kind.{ExprMatch, ExprMethodCall, ExprOr, ExprParen, ExprPath, ExprProduct, ExprRange}
+use Rattle.syn_grammar.specs.Kind.{ExprRangeClosed, ExprRawAddr, ExprReference, ExprRepeat, ExprReturn, ExprShift}
+use Rattle.syn_grammar.specs.Kind.{ExprStruct, ExprSum, ExprTry, ExprTryBlock, ExprTypedClosure, ExprUnary}
+use Rattle.syn_grammar.specs.Kind.{ExprUnsafe, ExprWhile, ExprYield, Expression, FieldPattern, FieldPatterns}
+use Rattle.syn_grammar.specs.Kind.{FieldValue, FieldValues, FnArg, FnPtrArg, FnPtrType, GenericParam}
+use Rattle.syn_grammar.specs.Kind.{GenericParams, Generics, IdentPattern, ImplGenerics, ImplType, InArm}
+use Rattle.syn_grammar.specs.Kind.{InCondition, InExpression, InFile, InForeign, InImpl, InModule, InStatement}
+use Rattle.syn_grammar.specs.Kind.{InTrait, InType, Index, InferType, InnerAttribute, InnerAttributes, ItemMacro}
+use Rattle.syn_grammar.specs.Kind.{Items, Label, LifetimeColon, LifetimeParam, Lifetimes, LiteralPattern, Member}
+use Rattle.syn_grammar.specs.Kind.{Meta, NamedField, NamedFields, NeverType, OnePattern, OuterAttribute}
+use Rattle.syn_grammar.specs.Kind.{OuterAttributes, Parameter, Parameters, ParenthesizedArguments, Path}
+use Rattle.syn_grammar.specs.Kind.{PathPattern, Pattern, Plain, PointerType, QualifiedPath, RangeBound, RangeEnd}
+use Rattle.syn_grammar.specs.Kind.{RangeToPattern, Receiver, ReferencePattern, ReferenceType, RestPattern}
+use Rattle.syn_grammar.specs.Kind.{ReturnType, Segment, Segments, SeveralPatterns, Signature, SlicePattern}
+use Rattle.syn_grammar.specs.Kind.{SomeBounds, Statements, TraitPath, TuplePattern, TupleType, TypeParam}
+use Rattle.syn_grammar.specs.Kind.{UnnamedField, UnnamedFields, UseBranch, UseRooted, UseTop, UseTree, Variant}
+use Rattle.syn_grammar.specs.Kind.{Visibility, Where, WhereClause, WherePredicate, WildPattern, WithPlus}
+use Rattle.syn_grammar.specs.Kind.{WithoutPlus}
 use Rattle.syn_grammar.specs.Words.{is_ident, is_index, any_text}
 
 abbrev pub starts : Kind → List Class
@@ -98,6 +100,14 @@ starts (Segments InExpression) = TheWord (codes "self") ∷ TheWord (codes "supe
 starts (Segments InType) = TheWord (codes "self") ∷ TheWord (codes "super") ∷ TheWord (codes "crate") ∷ AnyWord
     is_ident ∷ TheWord (codes "Self") ∷ []
 starts (Segments AtType) = TheWord (codes "self") ∷ TheWord (codes "super") ∷ TheWord (codes "crate") ∷ AnyWord
+    is_ident ∷ TheWord (codes "Self") ∷ []
+starts (Segment InModule) = TheWord (codes "self") ∷ TheWord (codes "super") ∷ TheWord (codes "crate") ∷ AnyWord
+    is_ident ∷ TheWord (codes "Self") ∷ []
+starts (Segment InExpression) = TheWord (codes "self") ∷ TheWord (codes "super") ∷ TheWord (codes "crate") ∷ AnyWord
+    is_ident ∷ TheWord (codes "Self") ∷ []
+starts (Segment InType) = TheWord (codes "self") ∷ TheWord (codes "super") ∷ TheWord (codes "crate") ∷ AnyWord
+    is_ident ∷ TheWord (codes "Self") ∷ []
+starts (Segment AtType) = TheWord (codes "self") ∷ TheWord (codes "super") ∷ TheWord (codes "crate") ∷ AnyWord
     is_ident ∷ TheWord (codes "Self") ∷ []
 starts (QualifiedPath InModule) = Sign 60 [] ∷ []
 starts (QualifiedPath InExpression) = Sign 60 [] ∷ []
@@ -423,6 +433,8 @@ starts (AFunction InTrait) = TheWord (codes "const") ∷ TheWord (codes "async")
     (codes "extern") ∷ TheWord (codes "fn") ∷ []
 starts (AFunction InImpl) = TheWord (codes "const") ∷ TheWord (codes "async") ∷ TheWord (codes "unsafe") ∷ TheWord
     (codes "extern") ∷ TheWord (codes "fn") ∷ []
+starts (ATypeAlias InFile) = TheWord (codes "type") ∷ []
+starts (ATypeAlias InForeign) = TheWord (codes "type") ∷ []
 starts (ATypeAlias InTrait) = TheWord (codes "type") ∷ []
 starts (ATypeAlias InImpl) = TheWord (codes "type") ∷ []
 starts (ItemMacro InFile) = Then 58 (58 ∷ []) (TheWord (codes "self")) ∷ Then 58 (58 ∷ []) (TheWord (codes "super"))
@@ -444,6 +456,21 @@ starts (ItemMacro InImpl) = Then 58 (58 ∷ []) (TheWord (codes "self")) ∷ The
 starts Label = Tick ∷ []
 starts Body = Opening Brace ∷ []
 starts Block = Opening Brace ∷ []
+starts Statements = Sign 59 [] ∷ []
+starts Items = Then 35 [] (Opening Bracket) ∷ TheWord (codes "pub") ∷ TheWord (codes "struct") ∷ TheWord
+    (codes "enum") ∷ []
+starts AModule = TheWord (codes "unsafe") ∷ TheWord (codes "mod") ∷ []
+starts AForeignModule = TheWord (codes "unsafe") ∷ TheWord (codes "extern") ∷ []
+starts AMacroDefinition = TheWord (codes "macro") ∷ []
+starts ATrait = TheWord (codes "unsafe") ∷ TheWord (codes "auto") ∷ TheWord (codes "trait") ∷ []
+starts AConstTrait = TheWord (codes "const") ∷ []
+starts ARestrictedTrait = TheWord (codes "impl") ∷ []
+starts AnImpl = TheWord (codes "default") ∷ TheWord (codes "const") ∷ TheWord (codes "unsafe") ∷ TheWord
+    (codes "impl") ∷ []
+starts AnItem = Then 35 [] (Opening Bracket) ∷ TheWord (codes "pub") ∷ TheWord (codes "struct") ∷ TheWord
+    (codes "enum") ∷ []
+starts AFile = Then 35 [] (Sign 33 []) ∷ Then 35 [] (Opening Bracket) ∷ TheWord (codes "pub") ∷ TheWord
+    (codes "struct") ∷ TheWord (codes "enum") ∷ []
 starts ExprLit = Quoted any_text ∷ TheWord (codes "true") ∷ TheWord (codes "false") ∷ []
 starts ExprPath = Sign 60 [] ∷ Then 58 (58 ∷ []) (TheWord (codes "self")) ∷ Then 58 (58 ∷ [])
     (TheWord (codes "super")) ∷ Then 58 (58 ∷ []) (TheWord (codes "crate")) ∷ Then 58 (58 ∷ []) (AnyWord is_ident) ∷
@@ -505,6 +532,8 @@ starts ExprShift = Sign 60 (60 ∷ []) ∷ Sign 62 (62 ∷ []) ∷ []
 starts ExprSum = Sign 43 [] ∷ Sign 45 [] ∷ []
 starts ExprProduct = Sign 42 [] ∷ Sign 47 [] ∷ Sign 37 [] ∷ []
 starts FieldValues = Opening Brace ∷ []
+starts AFieldValue = Sign 46 (46 ∷ []) ∷ Then 35 [] (Opening Bracket) ∷ AnyWord is_ident ∷ AnyWord is_ident ∷ Quoted
+    is_index ∷ []
 starts FieldValue = Then 35 [] (Opening Bracket) ∷ AnyWord is_ident ∷ AnyWord is_ident ∷ Quoted is_index ∷ []
 starts ClosureParam = Then 35 [] (Opening Bracket) ∷ TheWord (codes "ref") ∷ TheWord (codes "mut") ∷ AnyWord is_ident
     ∷ TheWord (codes "_") ∷ Then 46 (46 ∷ 61 ∷ []) (Sign 45 []) ∷ Then 46 (46 ∷ 61 ∷ []) (Quoted any_text) ∷ Then 46

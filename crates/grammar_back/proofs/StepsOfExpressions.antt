@@ -3,14 +3,14 @@ use Rattle.grammar_back.proofs.Classes.{◌&◌}
 use Rattle.grammar_back.proofs.FieldNames.{short_seen, no_short_seen}
 use Rattle.grammar_back.proofs.Keywords.{reserved_in}
 use Rattle.grammar_back.proofs.Parts.{found_alt, found_alt_by, found_before, found_called, found_ended}
-use Rattle.grammar_back.proofs.Parts.{found_group, found_judged, found_lifetime, found_literal, found_many}
-use Rattle.grammar_back.proofs.Parts.{found_mark, found_never, found_optional, found_ref, found_seq, found_step}
-use Rattle.grammar_back.proofs.Parts.{found_text, found_to_end, found_word, found_words, maybe_both, maybe_ended}
-use Rattle.grammar_back.proofs.Parts.{maybe_ref, maybe_seq, weaken, weaken_maybe}
+use Rattle.grammar_back.proofs.Parts.{found_group, found_lifetime, found_literal, found_many, found_mark}
+use Rattle.grammar_back.proofs.Parts.{found_never, found_optional, found_ref, found_seq, found_step, found_text}
+use Rattle.grammar_back.proofs.Parts.{found_to_end, found_word, found_words, maybe_both, maybe_ended, maybe_ref}
+use Rattle.grammar_back.proofs.Parts.{maybe_seq, weaken, weaken_maybe}
 use Rattle.grammar_back.proofs.Readies.{Step}
 use Rattle.std.specs.Prelude.{codes, refl, [], ◌∷◌}
 use Rattle.syn_grammar.specs.Expressions.{postfix_stands}
-use Rattle.syn_grammar.specs.Kind.{AFieldValue, AMacro, AType, AnyPath, Arms, AtType, Block, Body, BoundLifetimes}
+use Rattle.syn_grammar.specs.Kind.{AMacro, AType, AnyPath, Arms, AtType, Block, Body, BoundLifetimes}
 use Rattle.syn_grammar.specs.Kind.{ClosureParam, ExprAnd, ExprArray, ExprAssign, ExprAsync, ExprAttributed}
 use Rattle.syn_grammar.specs.Kind.{ExprBitAnd, ExprBitOr, ExprBitXor, ExprBlock, ExprBreak, ExprCall, ExprCast}
 use Rattle.syn_grammar.specs.Kind.{ExprClosure, ExprCompare, ExprConst, ExprContinue, ExprForLoop, ExprGroup}
@@ -115,8 +115,8 @@ step_expr_match = found_step ExprMatch refl refl
     (found_seq (found_called (found_ref (Expression InCondition) refl))
     (found_group (maybe_ended
     (maybe_both (maybe_ref InnerAttributes refl)
-    (weaken_maybe ((marks "#" then marks "!") ∷ []) (maybe_ref Arms refl) (λ s a. tt)) (tt, tt) (λ s a. (a.0, tt)))
-    (refl, tt))) ((λ us. refl, tt), tt)) tt)
+    (weaken_maybe ((no the_end) ∷ (marks "#" then marks "!") ∷ []) (maybe_ref Arms refl) (λ s a. (a.0, tt))) (tt, tt)
+    (λ s a. (a.1.0, tt))) (refl, (refl, tt)))) ((λ us. refl, tt), tt)) tt)
 
 pub step_expr_loop : Step ExprLoop
 unfolding table skips is_path_keyword is_plain_name is_bool is_name
@@ -465,11 +465,6 @@ step_expr_product = found_step ExprProduct refl refl
     (found_alt (marks "/") found_mark (found_alt (marks "%") found_mark found_never (λ us. refl, tt) tt)
     (λ us. refl, tt) (λ us. refl, tt)) (λ us. refl, tt) (search))
 
-pub step_field_values : Step FieldValues
-unfolding table skips is_path_keyword is_plain_name is_bool is_name
-step_field_values = found_step FieldValues refl refl
-    (found_judged (found_group (found_to_end (found_ref AFieldValue refl) tt (λ ts. tt) tt)))
-
 pub step_field_value : Step FieldValue
 unfolding table skips is_path_keyword is_plain_name is_bool is_name
 step_field_value = found_step FieldValue refl refl
@@ -548,10 +543,7 @@ step_closure_param = found_step ClosureParam refl refl
                           a.1.1.1.1.1.1.1.1.0,
                           (
                             a.1.1.1.1.1.1.1.1.1.0,
-                            (
-                              a.1.1.1.1.1.1.1.1.1.1.0,
-                              (a.1.1.1.1.1.1.1.1.1.1.1.0, (a.1.1.1.1.1.1.1.1.1.1.1.1.1.1.0, tt)),
-                            ),
+                            (a.1.1.1.1.1.1.1.1.1.1.0, (a.1.1.1.1.1.1.1.1.1.1.1.0, (a.1.1.1.1.1.1.1.1.1.1.1.1.1.1.0, tt))),
                           ),
                         ),
                       ),

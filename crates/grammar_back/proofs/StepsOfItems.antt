@@ -1,25 +1,28 @@
 -- The steps of items, of those that go by first tokens alone. Written by tools/steps.py, from the entries.
 use Rattle.grammar_back.proofs.Classes.{◌&◌}
 use Rattle.grammar_back.proofs.Fine.{fine_raw}
+use Rattle.grammar_back.proofs.HandSteps.{found_restriction}
 use Rattle.grammar_back.proofs.Keywords.{reserved_crate, reserved_mut, reserved_pub, reserved_self}
 use Rattle.grammar_back.proofs.Keywords.{reserved_super, reserved_try, reserved_underscore, reserved_where}
 use Rattle.grammar_back.proofs.Parts.{found_alt, found_before, found_called, found_dropped, found_group}
 use Rattle.grammar_back.proofs.Parts.{found_judged, found_lifetime, found_mark, found_optional, found_ref}
 use Rattle.grammar_back.proofs.Parts.{found_seq, found_step, found_text, found_then, found_to_end, found_word}
-use Rattle.grammar_back.proofs.Parts.{found_words, maybe_alt, maybe_both, maybe_called, maybe_none, maybe_ref}
-use Rattle.grammar_back.proofs.Parts.{maybe_seq, weaken, weaken_maybe}
+use Rattle.grammar_back.proofs.Parts.{found_words, maybe_alt, maybe_both, maybe_called, maybe_ended, maybe_none}
+use Rattle.grammar_back.proofs.Parts.{maybe_ref, maybe_seq, maybe_step, weaken, weaken_maybe}
 use Rattle.grammar_back.proofs.Readies.{Step}
 use Rattle.grammar_back.proofs.Sights.{ident_not}
 use Rattle.std.specs.Prelude.{codes, refl, [], ◌∷◌}
 use Rattle.syn_grammar.specs.Generics.{where_ends}
 use Rattle.syn_grammar.specs.Items.{use_words}
-use Rattle.syn_grammar.specs.Kind.{AFunction, AStatic, AStruct, AType, ATypeAlias, AUnion, AUse, Abi, AnEnum}
-use Rattle.syn_grammar.specs.Kind.{AnExternCrate, AtType, Body, BoundsColon, Expression, FnArg, Generics, InFile}
-use Rattle.syn_grammar.specs.Kind.{InForeign, InImpl, InModule, InTrait, ItemMacro, Label, NamedField}
-use Rattle.syn_grammar.specs.Kind.{NamedFields, OuterAttributes, Parameter, Parameters, Path, Plain, Receiver}
-use Rattle.syn_grammar.specs.Kind.{ReturnType, Signature, UnnamedField, UnnamedFields, UseBranch, UseRooted}
-use Rattle.syn_grammar.specs.Kind.{UseTop, UseTree, Variant, Visibility, Where, WithPlus}
-use Rattle.syn_grammar.specs.Look.{no, one_of, an_ident, a_lifetime, the_end, ◌or◌}
+use Rattle.syn_grammar.specs.Kind.{AConstTrait, AFile, AForeignModule, AFunction, AMacroDefinition, AModule}
+use Rattle.syn_grammar.specs.Kind.{ARestrictedTrait, AStatic, AStruct, ATrait, AType, ATypeAlias, AUnion, AUse}
+use Rattle.syn_grammar.specs.Kind.{Abi, AnEnum, AnExternCrate, AtType, Block, Body, Bounds, BoundsColon}
+use Rattle.syn_grammar.specs.Kind.{Expression, FnArg, ForeignItems, Generics, InFile, InForeign, InImpl, InModule}
+use Rattle.syn_grammar.specs.Kind.{InTrait, InnerAttributes, ItemMacro, Items, Label, NamedField, NamedFields}
+use Rattle.syn_grammar.specs.Kind.{OuterAttributes, Parameter, Parameters, Path, Plain, Receiver, ReturnType}
+use Rattle.syn_grammar.specs.Kind.{Signature, Statements, TraitItems, UnnamedField, UnnamedFields, UseBranch}
+use Rattle.syn_grammar.specs.Kind.{UseRooted, UseTop, UseTree, Variant, Visibility, Where, WithPlus}
+use Rattle.syn_grammar.specs.Look.{no, one_of, an_ident, a_lifetime, the_end, ◌then◌, ◌or◌}
 use Rattle.syn_grammar.specs.Paths.{arguments_stand, parentheses_stand}
 use Rattle.syn_grammar.specs.Ranks.{skips}
 use Rattle.syn_grammar.specs.Say.{at, marks, parenthesis, brace}
@@ -683,3 +686,192 @@ step_item_macro_in_impl = found_step (ItemMacro InImpl) refl refl
 pub step_label : Step Label
 unfolding table skips is_path_keyword is_plain_name is_bool is_name
 step_label = found_step Label refl refl (found_seq found_lifetime found_mark tt)
+
+pub step_body : Step Body
+unfolding table skips is_path_keyword is_plain_name is_bool is_name
+step_body = found_step Body refl refl
+    (found_group (maybe_ended
+    (maybe_both (maybe_ref InnerAttributes refl)
+    (weaken_maybe ((no the_end) ∷ (marks "#" then marks "!") ∷ []) (maybe_ref Statements refl) (λ s a. (a.0, tt)))
+    ((λ us. refl, tt), tt) (λ s a. (a.1.0, tt))) (refl, (refl, tt))))
+
+pub step_block : Step Block
+unfolding table skips is_path_keyword is_plain_name is_bool is_name
+step_block = found_step Block refl refl (found_group (maybe_ended (maybe_ref Statements refl) (refl, tt)))
+
+pub step_a_module : Step AModule
+unfolding table skips is_path_keyword is_plain_name is_bool is_name
+step_a_module = found_step AModule refl refl
+    (maybe_seq (found_optional (at "unsafe") (found_called (found_text "unsafe")) (λ us. refl, tt))
+    (found_seq (found_text "mod")
+    (found_seq (found_called
+    (found_alt (at "try") (found_text "try") (found_word is_ident) (λ us. refl, tt)
+    ((λ cs h us. simp (ident_not (codes "try") cs reserved_try h) refl) & tt)))
+    (found_alt (marks ";") found_mark
+    (found_group (maybe_ended
+    (maybe_both (maybe_ref InnerAttributes refl)
+    (weaken_maybe ((no the_end) ∷ (marks "#" then marks "!") ∷ []) (maybe_ref Items refl) (λ s a. (a.0, tt)))
+    ((search), tt) (λ s a. (a.1.0, tt))) (refl, (refl, tt)))) (λ us. refl, tt) (λ us. refl, tt)) tt) tt)
+    ((λ us. refl, tt), tt))
+
+pub step_a_foreign_module : Step AForeignModule
+unfolding table skips is_path_keyword is_plain_name is_bool is_name
+step_a_foreign_module = found_step AForeignModule refl refl
+    (maybe_seq (found_optional (at "unsafe") (found_called (found_text "unsafe")) (λ us. refl, tt))
+    (found_seq (found_ref Abi refl)
+    (found_group (maybe_ended
+    (maybe_both (maybe_ref InnerAttributes refl)
+    (weaken_maybe ((no the_end) ∷ (marks "#" then marks "!") ∷ []) (maybe_ref ForeignItems refl) (λ s a. (a.0, tt)))
+    (tt, tt) (λ s a. (a.1.0, tt))) (refl, (refl, tt)))) ((λ us. refl, tt), tt)) ((λ us. refl, tt), tt))
+
+pub step_a_macro_definition : Step AMacroDefinition
+unfolding table skips is_path_keyword is_plain_name is_bool is_name
+step_a_macro_definition = found_step AMacroDefinition refl refl
+    (found_seq (found_text "macro")
+    (found_seq (found_word is_ident)
+    (maybe_seq (found_optional parenthesis (found_group fine_raw) (λ us. refl, tt)) (found_group fine_raw)
+    ((λ us. refl, tt), tt)) tt) tt)
+
+pub step_a_trait : Step ATrait
+unfolding table skips is_path_keyword is_plain_name is_bool is_name
+step_a_trait = found_step ATrait refl refl
+    (found_judged (maybe_seq (found_optional (at "unsafe") (found_called (found_text "unsafe")) (λ us. refl, tt))
+    (maybe_seq (found_optional (at "auto") (found_called (found_text "auto")) (λ us. refl, tt))
+    (found_seq (found_text "trait")
+    (found_seq (found_called (found_word is_ident))
+    (maybe_seq (maybe_called (maybe_ref Generics refl))
+    (found_alt (marks "=")
+    (found_seq (found_called found_mark)
+    (maybe_seq (maybe_ref Bounds refl)
+    (maybe_seq (maybe_called (maybe_ref Where refl)) found_mark (
+      (λ us. refl, tt),
+      (
+        (λ us. refl, tt),
+        (
+          (λ us. refl, tt),
+          (
+            (λ us. refl, tt),
+            (
+              (λ us. refl, tt),
+              (
+                (λ us. refl, tt),
+                ((λ us. refl, tt), ((λ us. refl, tt), ((λ us. refl, tt), ((λ us. refl, tt), tt)))),
+              ),
+            ),
+          ),
+        ),
+      ),
+    )) (
+      ((λ us. simp (reserved_where) refl) & (λ us. refl) & tt),
+      ((search), ((search), ((search), ((search), ((search), tt))))),
+    )) tt)
+    (maybe_seq (maybe_ref BoundsColon refl)
+    (maybe_seq (maybe_called (maybe_ref Where refl))
+    (found_group (maybe_ended
+    (maybe_both (maybe_ref InnerAttributes refl)
+    (weaken_maybe ((no the_end) ∷ (marks "#" then marks "!") ∷ []) (maybe_ref TraitItems refl) (λ s a. (a.0, tt)))
+    (tt, tt) (λ s a. (a.1.0, tt))) (refl, (refl, tt)))) (
+      (λ us. refl, tt),
+      (
+        (λ us. refl, tt),
+        (
+          (λ us. refl, tt),
+          (
+            (λ us. refl, tt),
+            (
+              (λ us. refl, tt),
+              (
+                (λ us. refl, tt),
+                ((λ us. refl, tt), ((λ us. refl, tt), ((λ us. refl, tt), ((λ us. refl, tt), tt)))),
+              ),
+            ),
+          ),
+        ),
+      ),
+    )) (
+      (search),
+      (
+        ((λ us. simp (reserved_where) refl) & (λ us. refl) & tt),
+        ((search), ((search), ((search), ((search), ((search), tt))))),
+      ),
+    )) (λ us. refl, tt) (search)) ((search), tt)) tt)
+    tt) ((λ us. refl, tt), tt)) ((search), tt)))
+
+pub step_a_const_trait : Step AConstTrait
+unfolding table skips is_path_keyword is_plain_name is_bool is_name
+step_a_const_trait = found_step AConstTrait refl refl (found_seq (found_text "const") (found_ref ATrait refl) tt)
+
+pub step_a_restricted_trait : Step ARestrictedTrait
+unfolding table skips is_path_keyword is_plain_name is_bool is_name
+step_a_restricted_trait = found_step ARestrictedTrait refl refl
+    (found_seq (found_text "impl")
+    (found_seq found_restriction
+    (maybe_seq (found_optional (at "const") (found_text "const") (λ us. refl, tt))
+    (found_judged (maybe_seq (found_optional (at "unsafe") (found_called (found_text "unsafe")) (λ us. refl, tt))
+    (maybe_seq (found_optional (at "auto") (found_called (found_text "auto")) (λ us. refl, tt))
+    (found_seq (found_text "trait")
+    (found_seq (found_called (found_word is_ident))
+    (maybe_seq (maybe_called (maybe_ref Generics refl))
+    (found_alt (marks "=")
+    (found_seq (found_called found_mark)
+    (maybe_seq (maybe_ref Bounds refl)
+    (maybe_seq (maybe_called (maybe_ref Where refl)) found_mark (
+      (λ us. refl, tt),
+      (
+        (λ us. refl, tt),
+        (
+          (λ us. refl, tt),
+          (
+            (λ us. refl, tt),
+            (
+              (λ us. refl, tt),
+              (
+                (λ us. refl, tt),
+                ((λ us. refl, tt), ((λ us. refl, tt), ((λ us. refl, tt), ((λ us. refl, tt), tt)))),
+              ),
+            ),
+          ),
+        ),
+      ),
+    )) (
+      ((λ us. simp (reserved_where) refl) & (λ us. refl) & tt),
+      ((search), ((search), ((search), ((search), ((search), tt))))),
+    )) tt)
+    (maybe_seq (maybe_ref BoundsColon refl)
+    (maybe_seq (maybe_called (maybe_ref Where refl))
+    (found_group (maybe_ended
+    (maybe_both (maybe_ref InnerAttributes refl)
+    (weaken_maybe ((no the_end) ∷ (marks "#" then marks "!") ∷ []) (maybe_ref TraitItems refl) (λ s a. (a.0, tt)))
+    (tt, tt) (λ s a. (a.1.0, tt))) (refl, (refl, tt)))) (
+      (λ us. refl, tt),
+      (
+        (λ us. refl, tt),
+        (
+          (λ us. refl, tt),
+          (
+            (λ us. refl, tt),
+            (
+              (λ us. refl, tt),
+              (
+                (λ us. refl, tt),
+                ((λ us. refl, tt), ((λ us. refl, tt), ((λ us. refl, tt), ((λ us. refl, tt), tt)))),
+              ),
+            ),
+          ),
+        ),
+      ),
+    )) (
+      (search),
+      (
+        ((λ us. simp (reserved_where) refl) & (λ us. refl) & tt),
+        ((search), ((search), ((search), ((search), ((search), tt))))),
+      ),
+    )) (λ us. refl, tt) (search)) ((search), tt)) tt)
+    tt) ((λ us. refl, tt), tt)) ((search), tt))) ((search), tt)) tt) tt)
+
+pub step_a_file : Step AFile
+unfolding table skips is_path_keyword is_plain_name is_bool is_name
+step_a_file = maybe_step AFile refl refl
+    (maybe_both (maybe_ref InnerAttributes refl)
+    (weaken_maybe ((no the_end) ∷ (marks "#" then marks "!") ∷ []) (maybe_ref Items refl) (λ s a. (a.0, tt)))
+    ((search), tt) (λ s a. (a.1.0, tt)))

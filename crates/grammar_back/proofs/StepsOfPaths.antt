@@ -14,7 +14,7 @@ use Rattle.grammar_back.proofs.Sights.{ident_not}
 use Rattle.std.specs.Prelude.{codes, refl, [], ◌∷◌}
 use Rattle.syn_grammar.specs.Kind.{AMacro, AType, AnArgument, AnyPath, Arguments, AtType, Body, Delimited}
 use Rattle.syn_grammar.specs.Kind.{InExpression, InModule, InType, Index, Member, ParenthesizedArguments, Path}
-use Rattle.syn_grammar.specs.Kind.{QualifiedPath, Segments, WithPlus, WithoutPlus}
+use Rattle.syn_grammar.specs.Kind.{QualifiedPath, Segment, Segments, WithPlus, WithoutPlus}
 use Rattle.syn_grammar.specs.Look.{a_word, an_ident, a_literal, a_quoted, a_lifetime}
 use Rattle.syn_grammar.specs.Paths.{arguments_stand, parentheses_stand}
 use Rattle.syn_grammar.specs.Ranks.{skips}
@@ -106,6 +106,54 @@ step_segments_at_type = found_step (Segments AtType) refl refl
       ident_not (codes "crate") cs reserved_crate h,
     ) refl) & (λ us. refl) & tt))
     (λ s a. (a.0, (a.0, (a.1.0, (a.1.1.0, (a.1.1.1.0, tt)))))))
+
+pub step_segment_in_module : Step (Segment InModule)
+unfolding table skips is_path_keyword is_plain_name is_bool is_name
+step_segment_in_module = found_step (Segment InModule) refl refl
+    (found_alt (a_word is_path_keyword) (found_words (codes "self" ∷ codes "super" ∷ codes "crate" ∷ []))
+    (found_before found_name
+    (maybe_unseen (arguments_stand InModule) (λ ts. refl)
+    (maybe_unseen (parentheses_stand InModule) (λ ts. refl) maybe_none)) tt (λ s a. tt)) (search)
+    ((λ cs h us. simp (
+      ident_not (codes "self") cs reserved_self h,
+      ident_not (codes "super") cs reserved_super h,
+      ident_not (codes "crate") cs reserved_crate h,
+    ) refl) & (λ us. refl) & tt))
+
+pub step_segment_in_type : Step (Segment InType)
+unfolding table skips is_path_keyword is_plain_name is_bool is_name
+step_segment_in_type = found_step (Segment InType) refl refl
+    (found_alt (a_word is_path_keyword)
+    (weaken ((arguments_stand InType) ∷ []) (found_words (codes "self" ∷ codes "super" ∷ codes "crate" ∷ []))
+    (λ s a. tt)) (found_before found_name
+    (maybe_alt (arguments_stand InType) (found_ref Arguments refl)
+    (maybe_unseen (parentheses_stand InType) (λ ts. refl) maybe_none) (search) tt) tt (λ s a. tt)) (search)
+    ((λ cs h us. simp (
+      ident_not (codes "self") cs reserved_self h,
+      ident_not (codes "super") cs reserved_super h,
+      ident_not (codes "crate") cs reserved_crate h,
+    ) refl) & (λ us. refl) & tt))
+
+pub step_segment_at_type : Step (Segment AtType)
+unfolding table skips is_path_keyword is_plain_name is_bool is_name
+step_segment_at_type = found_step (Segment AtType) refl refl
+    (weaken ((arguments_stand AtType) ∷ (parentheses_stand AtType) ∷ (marks "->") ∷ (marks "::") ∷ [])
+    (found_alt (a_word is_path_keyword)
+    (weaken ((arguments_stand AtType) ∷ (parentheses_stand AtType) ∷ (marks "->") ∷ (marks "::") ∷
+    (arguments_stand AtType) ∷ (parentheses_stand AtType) ∷ [])
+    (found_words (codes "self" ∷ codes "super" ∷ codes "crate" ∷ [])) (λ s a. tt))
+    (found_before found_name
+    (maybe_alt (arguments_stand AtType)
+    (weaken ((parentheses_stand AtType) ∷ (marks "->") ∷ (marks "::") ∷ (arguments_stand AtType) ∷
+    (parentheses_stand AtType) ∷ []) (found_ref Arguments refl) (λ s a. tt))
+    (found_optional (parentheses_stand AtType) (found_ref ParenthesizedArguments refl) (λ us. refl, tt)) (search)
+    (λ us. refl, tt)) tt (λ s a. tt)) (search)
+    ((λ cs h us. simp (
+      ident_not (codes "self") cs reserved_self h,
+      ident_not (codes "super") cs reserved_super h,
+      ident_not (codes "crate") cs reserved_crate h,
+    ) refl) & (λ us. refl) & tt))
+    (λ s a. (a.0, (a.1.0, (a.1.1.0, (a.1.1.1.0, (a.0, (a.1.0, tt))))))))
 
 pub step_qualified_path_in_module : Step (QualifiedPath InModule)
 unfolding table skips is_path_keyword is_plain_name is_bool is_name

@@ -7,10 +7,12 @@ use Rattle.grammar_back.proofs.Parts.{found_alt, found_before, found_called, fou
 use Rattle.grammar_back.proofs.Parts.{found_lifetime, found_literal, found_many, found_mark, found_optional}
 use Rattle.grammar_back.proofs.Parts.{found_ref, found_seq, found_step, found_text, found_to_end, found_while}
 use Rattle.grammar_back.proofs.Parts.{maybe_alt, maybe_called, maybe_judged, maybe_ref, maybe_seq, maybe_step}
-use Rattle.grammar_back.proofs.Parts.{weaken, weaken_maybe}
+use Rattle.grammar_back.proofs.Parts.{weaken, weaken_maybe, Found}
 use Rattle.grammar_back.proofs.Readies.{Step}
 use Rattle.grammar_back.proofs.Seconds.{found_named_type}
 use Rattle.grammar_back.proofs.Sights.{ident_not}
+use Rattle.grammar_back.proofs.Starts.{starts}
+use Rattle.grammar_back.specs.After.{behind}
 use Rattle.std.specs.Prelude.{codes, refl, [], ◌∷◌}
 use Rattle.syn_grammar.specs.Kind.{AType, Abi, AnyPath, AtType, Bound, BoundLifetimes, Bounds, BracketType}
 use Rattle.syn_grammar.specs.Kind.{DynType, Expression, FnPtrArg, FnPtrType, ImplType, InferType, LifetimeParam}
@@ -24,9 +26,9 @@ use Rattle.syn_grammar.specs.Table.{table}
 use Rattle.syn_grammar.specs.Types.{bound_stands}
 use Rattle.syn_grammar.specs.Words.{is_string, is_name, is_path_keyword, is_plain_name, is_bool}
 
-pub step_a_type_with_plus : Step (AType WithPlus)
+pub entry_a_type_with_plus : Found (table (AType WithPlus)) (behind (AType WithPlus)) (starts (AType WithPlus))
 unfolding table skips is_path_keyword is_plain_name is_bool is_name
-step_a_type_with_plus = found_step (AType WithPlus) refl refl
+entry_a_type_with_plus =
     (found_alt parenthesis
     (weaken ((marks "::") ∷ (arguments_stand AtType) ∷ (parentheses_stand AtType) ∷ (marks "->") ∷ bound_stands ∷
     (marks "+") ∷ []) (found_ref TupleType refl) (λ s a. tt))
@@ -252,8 +254,7 @@ step_trait_path = found_step TraitPath refl refl
       (search),
       (
         ((λ us. refl) & (λ us. refl) & (λ us. refl) & (λ cs h us. refl) & (λ us. refl) & (λ us. refl) &
-            (λ us. refl) & (λ us. refl) & (λ cs h us. simp (ident_not (codes "for") cs reserved_for h) refl) &
-            (λ us. refl) &
+            (λ us. refl) & (λ us. refl) & (λ cs h us. simp (ident_not (codes "for") cs reserved_for h) refl) & (λ us. refl) &
             tt),
         tt,
       ),

@@ -19,31 +19,42 @@ use Rattle.grammar_back.specs.Covered.{is_known, is_taken}
 use Rattle.grammar_back.proofs.Fits.{Fits, IsMeant}
 use Rattle.grammar_back.proofs.Printed.{Printed, IsPlaced, EntryLaw, KindLaw}
 
--- a kind that holds what it reads
-pub tidied_law : (k : Kind) → is_known k ≡ true → ((x : Tree) → IsMeant k x) → ((x : Tree) → forget k x ≡ x)
+-- a kind that holds what it reads, and of which something is meant
+pub meant_law : (k : Kind) → is_known k ≡ true
+    → ((q : Position) (x w : Tree) (r : List Token) → Derives x (table k) r → Fits w (table k)
+    → kept w ≡ tidy (held k) (normal_in (passed k q) (kept x)) → IsMeant k w) → ((x : Tree) → forget k x ≡ x)
     → ((q : Position) → passed (held k) q ≡ passed k q)
     → ((q : Position) → IsPlaced q k → EntryLaw (passed k q) (table k))
     → ((w : Tree) → Fits w (table k) → Printed (table k) (tidy (held k) (kept w))) → KindLaw k
-tidied_law k h n f p e t = record { entry = e; node = go }
+meant_law k h n f p e t = record { entry = e; node = go }
   where
     go : (q : Position) → IsPlaced q k → (x : Tree) (r : List Token) → is_taken k x ≡ true → Derives x (table k) r
         → Printed (table k) (normal_in (passed k q) (kept x))
         → Printed (ref k) (normal_in q (Node (held k) (forget k (kept x))))
     go q l x r o d i =
         let j = t i.tree i.fits in
+        let u = j.kept_is ∙ ap (tidy (held k)) i.kept_is in
         record {
           tree = Node k j.tree;
-          fits = (refl, h, ap flat (f (kept j.tree)), j.fits, n j.tree);
+          fits = (refl, h, ap flat (f (kept j.tree)), j.fits, n q x j.tree r d j.fits u);
           kept_is =
-              ap (Node (held k)) (f (kept j.tree) ∙ j.kept_is ∙ ap (tidy (held k)) (i.kept_is
-              ∙ sym (ap (λ m. normal_in m (kept x)) (p q)) ∙ sym (ap (normal_in (passed (held k) q)) (f (kept x)))));
+              ap (Node (held k)) (f (kept j.tree) ∙ u
+              ∙ ap (tidy (held k)) (sym (ap (λ m. normal_in m (kept x)) (p q))
+              ∙ sym (ap (normal_in (passed (held k) q)) (f (kept x)))));
         }
+
+-- and of which nothing is
+pub tidied_law : (k : Kind) → is_known k ≡ true → ((x : Tree) → IsMeant k x) → ((x : Tree) → forget k x ≡ x)
+    → ((q : Position) → passed (held k) q ≡ passed k q)
+    → ((q : Position) → IsPlaced q k → EntryLaw (passed k q) (table k))
+    → ((w : Tree) → Fits w (table k) → Printed (table k) (tidy (held k) (kept w))) → KindLaw k
+tidied_law k h n = meant_law k h (λ q x w r d f e. n w)
 
 -- the tree as it is
 pub as_it_is : (g : Gram) (w : Tree) → Fits w g → Printed g (kept w)
 as_it_is g w f = record { tree = w; fits = f; kept_is = refl }
 
-chosen : (g : Gram) (b : Bool) (x y : Tree) → Printed g x → Printed g y → Printed g (cond b x y)
+pub chosen : (g : Gram) (b : Bool) (x y : Tree) → Printed g x → Printed g y → Printed g (cond b x y)
 chosen g true x y i j = i
 chosen g false x y i j = j
 

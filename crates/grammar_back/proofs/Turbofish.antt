@@ -1,9 +1,11 @@
--- The step and the law of a path's names in an expression, where arguments stand behind :: alone.
+-- The steps and the laws of a path's names in an expression, and of one by itself, where arguments stand behind ::
+-- alone.
 use Rattle.std.proofs.Common.{◌≡◌, ℕ, List, [], ◌∷◌, ◌++◌, refl, sym, ap, ◌∙◌, subst, append_assoc, ⊎_elim}
 use Rattle.std.specs.Prelude.{Bool, true, false, codes, Option, Some, None}
 use Rattle.proc_macro2.specs.Token.{Token}
 use Rattle.rust_leaf.specs.declared.punct.Spacing.{Spacing}
-use Rattle.syn_grammar.specs.Kind.{Position, Plain, Arguments, AtType, InExpression, ParenthesizedArguments, Segments}
+use Rattle.syn_grammar.specs.Kind.{Position, Plain, Arguments, AtType, InExpression, ParenthesizedArguments, Segment}
+use Rattle.syn_grammar.specs.Kind.{Segments}
 use Rattle.syn_grammar.specs.Name.{Part, the_arguments}
 use Rattle.syn_grammar.specs.Words.{is_ident, is_name, is_path_keyword, is_plain_name}
 use Rattle.syn_grammar.specs.Tree.{Tree, AMark, Nil, Pair, First, Second, Node, marks as signs, flat}
@@ -24,7 +26,7 @@ use Rattle.grammar_back.proofs.Classes.{AnyWord, Class, TheWord, Then, ◌&◌, 
 use Rattle.grammar_back.proofs.Starts.{starts}
 use Rattle.grammar_back.proofs.Sights.{ident_not}
 use Rattle.grammar_back.proofs.Keywords.{reserved_crate, reserved_self, reserved_super}
-use Rattle.grammar_back.proofs.Fits.{Fits, IsMeant, has_turbofish}
+use Rattle.grammar_back.proofs.Fits.{Fits, IsMeant, has_own_turbofish, has_turbofish, is_turbofish}
 use Rattle.grammar_back.proofs.Readies.{Ready, Step}
 use Rattle.grammar_back.proofs.Fine.{Any, At, Edge, Fine, fine_alt, fine_seq}
 use Rattle.grammar_back.proofs.Parts.{Found, Maybe, at_front, found_before, found_name, found_optional, found_ref}
@@ -57,7 +59,7 @@ arguments_in (Pair (Second o) y) s h e = cc
 arguments_in (Pair _ y) s h e = absurd h.0
 arguments_in _ s h e = absurd h
 
-arguments_seen : (x : Tree) (s : List Token) → Derives x (ref Arguments) s → is_there (front (inner x)) ≡ true
+pub arguments_seen : (x : Tree) (s : List Token) → Derives x (ref Arguments) s → is_there (front (inner x)) ≡ true
     → sees turbofish (flat x ++ s) ≡ true
 arguments_seen (Node k x) s d e = arguments_in x s (subst (λ j. Derives x (table j) s) d.0 d.1) e
 arguments_seen _ s d e = absurd d
@@ -144,12 +146,13 @@ unfolding skips is_path_keyword is_plain_name is_name
 found_keyword = (found_before (found_words (codes "self" ∷ codes "super" ∷ codes "crate" ∷ []))
     (found_optional (marks "::") (found_then (found_ref (Segments InExpression) refl)) (search)) tt (λ s a. tt))
 
-pub step_segments_in_expression : Step (Segments InExpression)
-unfolding table skips is_path_keyword is_plain_name is_name
-step_segments_in_expression =
-    meant_step (Segments InExpression) refl refl
-    (fine_alt (λ x s. SegmentEdge x s × IsMeant (Segments InExpression) x) (At (starts (Segments InExpression)))
-    found_keyword.fine fine_named (λ x s c. (c.0.0, c.0)) (λ x s c. c)
+-- a keyword of paths, or a name
+fine_names : {a b : Gram} {A B : Edge} (C : Edge) → Fine a A (At keywords) → Fine b B (At names)
+    → ((x : Tree) (s : List Token) → C (First x) s → A x s) → ((x : Tree) (s : List Token) → C (Second x) s → B x s)
+    → Fine (when a_word is_path_keyword read a else b) C (At (keywords ++ names))
+unfolding is_path_keyword
+fine_names {a} {b} {A} {B} C f g h k =
+    fine_alt C (At (keywords ++ names)) f g h k
     (λ x s e i c. (
       told_at (a_word is_path_keyword) true keywords (flat x ++ s) (search) i,
       among_left keywords names (flat x ++ s) i,
@@ -163,10 +166,56 @@ step_segments_in_expression =
             ident_not (codes "crate") cs reserved_crate h,
           ) refl) & (λ us. refl) & tt) i,
       among_right keywords names (flat x ++ s) i,
-    )))
+    ))
+
+pub step_segments_in_expression : Step (Segments InExpression)
+unfolding table skips is_path_keyword is_plain_name is_name
+step_segments_in_expression =
+    meant_step (Segments InExpression) refl refl
+    (fine_names (λ x s. SegmentEdge x s × IsMeant (Segments InExpression) x) found_keyword.fine fine_named
+    (λ x s c. (c.0.0, c.0)) (λ x s c. c))
+
+-- one segment by itself
+abbrev pub LoneEdge : Edge
+LoneEdge x s = LacksAll (arguments_stand InExpression ∷ []) s × (is_turbofish x ≡ true)
+
+fine_lone_arguments : Fine (ref Arguments) (λ x s. LoneEdge (First x) s) (λ x s. sees turbofish (flat x ++ s) ≡ true)
+unfolding skips
+fine_lone_arguments = record {
+  by = λ x s f w c.
+      let (d, i) = (found_ref Arguments refl).fine.by x s f w tt in
+      (d, arguments_seen x s d c.1);
+}
+
+fine_lone_tail : Fine (when arguments_stand InExpression read ref Arguments
+    else optional (parentheses_stand InExpression) (ref ParenthesizedArguments)) LoneEdge Any
+fine_lone_tail =
+    fine_alt LoneEdge Any fine_lone_arguments
+    (maybe_unseen (parentheses_stand InExpression) (λ ts. refl) maybe_none).fine (λ x s c. c) (λ x s c. tt)
+    (λ x s e i c. (i, tt))
+    (λ x s e i c. (
+      ⊎_elim (λ n. ap (λ us. sees turbofish (us ++ s)) n ∙ c.0.0) (λ j. absurd j) i,
+      tt,
+    ))
+
+abbrev pub NamedEdge : Edge
+NamedEdge x s = LacksAll (arguments_stand InExpression ∷ []) s × (has_own_turbofish (Second x) ≡ true)
+
+fine_lone_name : Fine (name ▸ (when arguments_stand InExpression read ref Arguments
+    else optional (parentheses_stand InExpression) (ref ParenthesizedArguments))) NamedEdge (At names)
+fine_lone_name =
+    fine_seq NamedEdge (At names) found_name.fine fine_lone_tail (λ x y s c. c) (λ x y s i c. tt)
+    (λ x y s j i c. at_front names x y s j)
+
+pub step_segment_in_expression : Step (Segment InExpression)
+unfolding table skips is_path_keyword is_plain_name is_name
+step_segment_in_expression =
+    meant_step (Segment InExpression) refl refl
+    (fine_names (λ x s. LacksAll (arguments_stand InExpression ∷ []) s × IsMeant (Segment InExpression) x)
+    (found_words (codes "self" ∷ codes "super" ∷ codes "crate" ∷ [])).fine fine_lone_name (λ x s c. tt) (λ x s c. c))
 
 -- the same of what was read and of what is printed
-changed_there : (n : Part) (f : Tree → Tree) (x : Tree) → is_there (changed n f x) ≡ is_there x
+pub changed_there : (n : Part) (f : Tree → Tree) (x : Tree) → is_there (changed n f x) ≡ is_there x
 changed_there n f (First x) = refl
 changed_there n f _ = refl
 
@@ -183,13 +232,13 @@ front_read (Pair o y) r d =
     ∙ there_normal Plain (kept o) ∙ chosen_read o _ (flat y ++ r) d.0
 front_read _ r d = absurd d
 
-argued_fits : (x : Tree) → Fits x (ref Arguments) → is_there (front (inner (kept x))) ≡ is_there (front (inner x))
+pub argued_fits : (x : Tree) → Fits x (ref Arguments) → is_there (front (inner (kept x))) ≡ is_there (front (inner x))
 argued_fits (Node k x) f =
     ap (λ j. is_there (front (forget j (kept x)))) f.0
     ∙ front_fits x (subst (λ j. Fits x (table j)) f.0 f.3)
 argued_fits _ f = absurd f
 
-argued_read : (x : Tree) (r : List Token) → Derives x (ref Arguments) r
+pub argued_read : (x : Tree) (r : List Token) → Derives x (ref Arguments) r
     → is_there (front (inner (normal_in Plain (kept x)))) ≡ is_there (front (inner x))
 unfolding held passed
 argued_read (Node k x) r d =
@@ -262,4 +311,42 @@ law_segments_in_expression =
           tree = Node (Segments InExpression) i.tree;
           fits = (refl, refl, refl, i.fits, b);
           kept_is = ap (Node (Segments AtType)) i.kept_is;
+        }
+
+-- and of one segment by itself
+lone_fits : (w : Tree) → Fits w (table (Segment InExpression)) → has_own_turbofish (kept w) ≡ has_own_turbofish w
+unfolding table
+lone_fits (Second (Pair n (First a))) f = argued_fits a f.1.1.1
+lone_fits (Second (Pair n (Second x))) f = refl
+lone_fits (Second (Pair n _)) f = absurd f.1.1
+lone_fits (Second _) f = absurd f.1
+lone_fits (First x) f = refl
+lone_fits _ f = absurd f
+
+lone_read : (x : Tree) (r : List Token) → Derives x (table (Segment InExpression)) r
+    → has_own_turbofish (normal_in Plain (kept x)) ≡ true
+unfolding table
+lone_read (Second (Pair n (First a))) r d = argued_read a r d.1.1.1 ∙ turbofish_meant a r d.1.1.1 d.1.1.0
+lone_read (Second (Pair n (Second x))) r d = refl
+lone_read (Second (Pair n _)) r d = absurd d.1.1
+lone_read (Second _) r d = absurd d.1
+lone_read (First x) r d = refl
+lone_read _ r d = absurd d
+
+pub law_segment_in_expression : KindLaw (Segment InExpression)
+unfolding has_step held passed place_of table
+law_segment_in_expression =
+    record { entry = λ q l. simple_law Plain (table (Segment InExpression)) refl; node = go }
+  where
+    go : (q : Position) → IsPlaced q (Segment InExpression) → (x : Tree) (r : List Token)
+        → is_taken (Segment InExpression) x ≡ true → Derives x (table (Segment InExpression)) r
+        → Printed (table (Segment InExpression)) (normal_in (passed (Segment InExpression) q) (kept x))
+        → Printed (ref (Segment InExpression)) (normal_in q (Node (held (Segment InExpression)) (kept x)))
+    go q l x r m d i =
+        let b : has_own_turbofish i.tree ≡ true =
+        sym (lone_fits i.tree i.fits) ∙ ap has_own_turbofish i.kept_is ∙ lone_read x r d in
+        record {
+          tree = Node (Segment InExpression) i.tree;
+          fits = (refl, refl, refl, i.fits, b);
+          kept_is = ap (Node (Segment AtType)) i.kept_is;
         }

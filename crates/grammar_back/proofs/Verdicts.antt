@@ -90,7 +90,7 @@ some_fits End f = refl
 some_fits _ f = absurd f
 
 pub some_verdict : (q : Position) → VerdictLaw q (λ x. kept_if (some is_path_bound x)) bounds
-some_verdict q x w r d f e h =
+some_verdict q x w r c d f e h =
     ap kept_if (sym (some_fits w f) ∙ ap (some is_path_bound) e ∙ some_normal q (kept x) ∙ some_kept x r d) ∙ h
 
 -- The one bound of dyn and impl without plus: no lifetime was seen, so it is a path.

@@ -1,20 +1,21 @@
 -- What may not follow a kind's tree, of what the looks see. Written by tools/steps.py, from the entries.
-use Rattle.std.specs.Prelude.{◌≡◌, true, List, [], ◌∷◌}
+use Rattle.std.specs.Prelude.{◌≡◌, true, false, List, [], ◌∷◌}
 use Rattle.syn_grammar.specs.Expressions.{postfix_stands}
 use Rattle.syn_grammar.specs.Generics.{impl_generics_stand, where_ends}
 use Rattle.syn_grammar.specs.Items.{restricted, restricted_in}
-use Rattle.syn_grammar.specs.Kind.{Kind, Position, AType, Abi, AnArgument, AnyPath, AtType, Bound, Bounds}
-use Rattle.syn_grammar.specs.Kind.{BoundsColon, ClosureParam, ConstParam, DynType, ExprAttributed, ExprBreak}
-use Rattle.syn_grammar.specs.Kind.{ExprCast, ExprContinue, ExprIf, ExprPath, ExprReference, Expression}
-use Rattle.syn_grammar.specs.Kind.{FieldPattern, FieldValue, FnArg, FnPtrArg, FnPtrType, GenericParam}
-use Rattle.syn_grammar.specs.Kind.{GenericParams, Generics, IdentPattern, ImplGenerics, ImplType, InArm}
-use Rattle.syn_grammar.specs.Kind.{InCondition, InExpression, InFile, InForeign, InImpl, InModule, InStatement}
-use Rattle.syn_grammar.specs.Kind.{InTrait, InType, InnerAttributes, LifetimeColon, LifetimeParam, Lifetimes}
-use Rattle.syn_grammar.specs.Kind.{LiteralPattern, Meta, NamedField, OnePattern, OuterAttributes, Parameter}
-use Rattle.syn_grammar.specs.Kind.{ParenthesizedArguments, Path, PathPattern, Pattern, Plain, PointerType}
-use Rattle.syn_grammar.specs.Kind.{QualifiedPath, RangeBound, RangeEnd, RangeToPattern, Receiver}
-use Rattle.syn_grammar.specs.Kind.{ReferencePattern, ReferenceType, ReturnType, Segments, SeveralPatterns}
-use Rattle.syn_grammar.specs.Kind.{Signature, SomeBounds, TraitPath, TypeParam, UnnamedField, UseBranch}
+use Rattle.syn_grammar.specs.Kind.{Kind, Position, AFieldValue, AFile, AType, Abi, AnArgument, AnyPath, Arms}
+use Rattle.syn_grammar.specs.Kind.{AtType, Bound, Bounds, BoundsColon, ClosureParam, ConstParam, DynType}
+use Rattle.syn_grammar.specs.Kind.{ExprAttributed, ExprBreak, ExprCast, ExprContinue, ExprIf, ExprPath}
+use Rattle.syn_grammar.specs.Kind.{ExprReference, Expression, FieldPattern, FieldValue, FnArg, FnPtrArg}
+use Rattle.syn_grammar.specs.Kind.{FnPtrType, ForeignItems, GenericParam, GenericParams, Generics, IdentPattern}
+use Rattle.syn_grammar.specs.Kind.{ImplGenerics, ImplItems, ImplType, InArm, InCondition, InExpression, InFile}
+use Rattle.syn_grammar.specs.Kind.{InForeign, InImpl, InModule, InStatement, InTrait, InType, InnerAttributes}
+use Rattle.syn_grammar.specs.Kind.{Items, LifetimeColon, LifetimeParam, Lifetimes, LiteralPattern, Meta}
+use Rattle.syn_grammar.specs.Kind.{NamedField, OnePattern, OuterAttributes, Parameter, ParenthesizedArguments}
+use Rattle.syn_grammar.specs.Kind.{Path, PathPattern, Pattern, Plain, PointerType, QualifiedPath, RangeBound}
+use Rattle.syn_grammar.specs.Kind.{RangeEnd, RangeToPattern, Receiver, ReferencePattern, ReferenceType}
+use Rattle.syn_grammar.specs.Kind.{ReturnType, Segment, Segments, SeveralPatterns, Signature, SomeBounds}
+use Rattle.syn_grammar.specs.Kind.{Statements, TraitItems, TraitPath, TypeParam, UnnamedField, UseBranch}
 use Rattle.syn_grammar.specs.Kind.{UseRooted, UseTop, UseTree, Variant, Visibility, Where, WhereClause}
 use Rattle.syn_grammar.specs.Kind.{WherePredicate, WithPlus, WithoutPlus}
 use Rattle.syn_grammar.specs.Look.{Look, no, a_quoted, a_lifetime, the_end, ◌then◌, ◌or◌}
@@ -23,10 +24,12 @@ use Rattle.syn_grammar.specs.Patterns.{vert, range_bound_stands, range_end_stand
 use Rattle.syn_grammar.specs.Say.{at, marks, parenthesis, brace, bracket}
 use Rattle.syn_grammar.specs.Types.{colon, bound_stands}
 use Rattle.syn_grammar.specs.Words.{is_string}
-use Rattle.syn_grammar.specs.Tree.{Tree, Node, Whole}
+use Rattle.syn_grammar.specs.Tree.{Tree, First, Second, Node, Whole}
+use Rattle.syn_grammar.specs.Name.{the_base}
+use Rattle.syn_grammar.specs.Part.{has}
 use Rattle.syn_grammar.specs.Forms.{ends_there}
 use Rattle.proc_macro2.specs.Token.{Token}
-use Rattle.std.specs.Prelude.{◌⊎◌}
+use Rattle.std.specs.Prelude.{◌⊎◌, Bool}
 use Rattle.grammar_back.specs.Sees.{LacksAll}
 
 abbrev pub behind : Kind → List Look
@@ -42,6 +45,9 @@ behind (Segments InModule) = marks "::" ∷ []
 behind (Segments InExpression) = marks "::" ∷ arguments_stand InExpression ∷ []
 behind (Segments InType) = marks "::" ∷ arguments_stand InType ∷ []
 behind (Segments AtType) = marks "::" ∷ arguments_stand AtType ∷ parentheses_stand AtType ∷ marks "->" ∷ []
+behind (Segment InExpression) = arguments_stand InExpression ∷ []
+behind (Segment InType) = arguments_stand InType ∷ []
+behind (Segment AtType) = arguments_stand AtType ∷ parentheses_stand AtType ∷ marks "->" ∷ marks "::" ∷ []
 behind (QualifiedPath InModule) = marks "::" ∷ []
 behind (QualifiedPath InExpression) = marks "::" ∷ arguments_stand InExpression ∷ []
 behind (QualifiedPath InType) = marks "::" ∷ arguments_stand InType ∷ []
@@ -144,6 +150,12 @@ behind (Signature InTrait) = at "where" ∷ marks "->" ∷ marks "::" ∷ argume
     ∷ no where_ends ∷ marks "," ∷ a_lifetime ∷ marks "+" ∷ bound_stands ∷ []
 behind (Signature InImpl) = at "where" ∷ marks "->" ∷ marks "::" ∷ arguments_stand AtType ∷ parentheses_stand AtType
     ∷ no where_ends ∷ marks "," ∷ a_lifetime ∷ marks "+" ∷ bound_stands ∷ []
+behind Statements = no the_end ∷ []
+behind Items = no the_end ∷ []
+behind ForeignItems = no the_end ∷ []
+behind TraitItems = no the_end ∷ []
+behind ImplItems = no the_end ∷ []
+behind AFile = no the_end ∷ (marks "#" then marks "!") ∷ []
 behind ExprPath = marks "::" ∷ arguments_stand InExpression ∷ []
 behind ExprIf = at "else" ∷ []
 behind ExprContinue = a_lifetime ∷ []
@@ -151,7 +163,9 @@ behind ExprCast = postfix_stands ∷ marks "::" ∷ arguments_stand AtType ∷ p
 behind ExprAttributed = marks "#" ∷ []
 behind ExprReference = at "mut" ∷ []
 behind ExprBreak = a_lifetime ∷ marks ":" ∷ []
+behind AFieldValue = no the_end ∷ []
 behind FieldValue = no (the_end or marks "," or marks ";" or marks "=>") ∷ marks ":" ∷ []
+behind Arms = no the_end ∷ []
 behind ClosureParam = marks ":" ∷ marks "::" ∷ arguments_stand AtType ∷ parentheses_stand AtType ∷ marks ".." ∷ marks
     "->" ∷ marks "!" ∷ marks "@" ∷ range_end_stands ∷ parenthesis ∷ brace ∷ arguments_stand InExpression ∷
     bound_stands ∷ marks "+" ∷ range_bound_stands ∷ []
@@ -169,9 +183,33 @@ EndsThere p x s =
     (ends_there p (whole x) ≡ true)
     × LacksAll ((no (marks "..") then marks ".") ∷ marks "?" ∷ at "else" ∷ []) s
 
+-- of what stands in a struct expression: it is ..
+abbrev pub is_end : Tree → Bool
+is_end (Node k x) = is_end x
+is_end x = has the_base x
+
+-- of a type: it is a path, qualified or not
+abbrev pub is_any_path : Tree → Bool
+is_any_path (Node (AType p) x) = is_any_path x
+is_any_path (Node (AnyPath s) x) = true
+is_any_path (Second x) = is_any_path x
+is_any_path x = false
+
+-- of what stands behind impl: there are generics
+abbrev pub is_generic : Tree → Bool
+is_generic (Node k x) = is_generic x
+is_generic (First x) = true
+is_generic x = false
+
 -- What may follow a kind's tree: what these looks don't see; behind an expression in an arm or a statement also what
--- such a form ends before.
+-- such a form ends before; behind a field of a struct expression what may follow it, and behind .. the end; behind a
+-- type that is a path what may follow one without plus; and behind the generics of an impl that are there anything.
 abbrev pub After : Kind → Tree → List Token → Type 0
 After (Expression InArm) x s = LacksAll (behind (Expression InArm)) s ⊎ EndsThere InArm x s
 After (Expression InStatement) x s = LacksAll (behind (Expression InStatement)) s ⊎ EndsThere InStatement x s
+After AFieldValue x s =
+    LacksAll (behind AFieldValue) s ⊎ ((is_end x ≡ false) × LacksAll (behind FieldValue) s)
+After (AType WithPlus) x s =
+    LacksAll (behind (AType WithPlus)) s ⊎ ((is_any_path x ≡ true) × LacksAll (behind (AType WithoutPlus)) s)
+After ImplGenerics x s = LacksAll (behind ImplGenerics) s ⊎ (is_generic x ≡ true)
 After k x s = LacksAll (behind k) s

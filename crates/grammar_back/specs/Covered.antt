@@ -1,27 +1,30 @@
--- The kinds of which it is proved that their normal forms are read back, and the trees that hold no others, no
--- expression and no raw item.
+-- The kinds of which it is proved that their normal forms are read back, and the trees that hold no others and no raw
+-- item.
 use Rattle.std.specs.Prelude.{Bool, true, false, ◌&&◌, ◌||◌, not}
-use Rattle.syn_grammar.specs.Kind.{Kind, Expression, AConst, AFunction, AMacro, AStatic, AStruct, AType}
-use Rattle.syn_grammar.specs.Kind.{ATypeAlias, AUnion, AUse, Abi, AnArgument, AnEnum, AnExternCrate, AnyPath}
-use Rattle.syn_grammar.specs.Kind.{Arguments, AtType, Bound, BoundLifetimes, Bounds, BoundsColon, BracketType}
-use Rattle.syn_grammar.specs.Kind.{ClosureParam, ConstParam, Delimited, DynType, ExprAnd, ExprArray, ExprAssign}
-use Rattle.syn_grammar.specs.Kind.{ExprAsync, ExprAttributed, ExprBitAnd, ExprBitOr, ExprBitXor, ExprBlock}
+use Rattle.syn_grammar.specs.Kind.{Kind, Expression, AConst, AConstTrait, AFieldValue, AFile, AForeignModule}
+use Rattle.syn_grammar.specs.Kind.{AFunction, AMacro, AMacroDefinition, AModule, ARestrictedTrait, AStatic}
+use Rattle.syn_grammar.specs.Kind.{AStruct, ATrait, AType, ATypeAlias, AUnion, AUse, Abi, AnArgument, AnEnum}
+use Rattle.syn_grammar.specs.Kind.{AnExternCrate, AnImpl, AnItem, AnyPath, Arguments, Arms, AtType, Block, Body}
+use Rattle.syn_grammar.specs.Kind.{Bound, BoundLifetimes, Bounds, BoundsColon, BracketType, ClosureParam}
+use Rattle.syn_grammar.specs.Kind.{ConstParam, Delimited, DynType, ExprAnd, ExprArray, ExprAssign, ExprAsync}
+use Rattle.syn_grammar.specs.Kind.{ExprAttributed, ExprAwait, ExprBitAnd, ExprBitOr, ExprBitXor, ExprBlock}
 use Rattle.syn_grammar.specs.Kind.{ExprBreak, ExprCall, ExprCast, ExprClosure, ExprCompare, ExprConst}
-use Rattle.syn_grammar.specs.Kind.{ExprContinue, ExprForLoop, ExprGroup, ExprIf, ExprIndex, ExprInfer, ExprLet}
-use Rattle.syn_grammar.specs.Kind.{ExprLit, ExprLoop, ExprMacro, ExprMatch, ExprOr, ExprParen, ExprPath}
-use Rattle.syn_grammar.specs.Kind.{ExprProduct, ExprRange, ExprRangeClosed, ExprRawAddr, ExprReference}
-use Rattle.syn_grammar.specs.Kind.{ExprRepeat, ExprReturn, ExprShift, ExprStruct, ExprSum, ExprTry, ExprTryBlock}
-use Rattle.syn_grammar.specs.Kind.{ExprTypedClosure, ExprUnary, ExprUnsafe, ExprWhile, ExprYield, FieldPattern}
-use Rattle.syn_grammar.specs.Kind.{FieldPatterns, FieldValue, FieldValues, FnArg, FnPtrArg, FnPtrType}
-use Rattle.syn_grammar.specs.Kind.{GenericParam, GenericParams, Generics, IdentPattern, ImplType, InExpression}
-use Rattle.syn_grammar.specs.Kind.{InFile, InForeign, InImpl, InModule, InTrait, InType, Index, InferType}
-use Rattle.syn_grammar.specs.Kind.{InnerAttribute, InnerAttributes, ItemMacro, Label, LifetimeColon}
-use Rattle.syn_grammar.specs.Kind.{LifetimeParam, Lifetimes, LiteralPattern, Member, Meta, NamedField}
-use Rattle.syn_grammar.specs.Kind.{NamedFields, NeverType, OnePattern, OuterAttribute, OuterAttributes}
-use Rattle.syn_grammar.specs.Kind.{Parameters, ParenthesizedArguments, Path, PathPattern, Pattern, PointerType}
-use Rattle.syn_grammar.specs.Kind.{QualifiedPath, RangeBound, RangeEnd, RangeToPattern, Receiver}
-use Rattle.syn_grammar.specs.Kind.{ReferencePattern, ReferenceType, RestPattern, ReturnType, Segments}
-use Rattle.syn_grammar.specs.Kind.{SeveralPatterns, Signature, SlicePattern, SomeBounds, TraitPath, TuplePattern}
+use Rattle.syn_grammar.specs.Kind.{ExprContinue, ExprField, ExprForLoop, ExprGroup, ExprIf, ExprIndex, ExprInfer}
+use Rattle.syn_grammar.specs.Kind.{ExprLet, ExprLit, ExprLoop, ExprMacro, ExprMatch, ExprMethodCall, ExprOr}
+use Rattle.syn_grammar.specs.Kind.{ExprParen, ExprPath, ExprProduct, ExprRange, ExprRangeClosed, ExprRawAddr}
+use Rattle.syn_grammar.specs.Kind.{ExprReference, ExprRepeat, ExprReturn, ExprShift, ExprStruct, ExprSum, ExprTry}
+use Rattle.syn_grammar.specs.Kind.{ExprTryBlock, ExprTypedClosure, ExprUnary, ExprUnsafe, ExprWhile, ExprYield}
+use Rattle.syn_grammar.specs.Kind.{FieldPattern, FieldPatterns, FieldValue, FieldValues, FnArg, FnPtrArg}
+use Rattle.syn_grammar.specs.Kind.{FnPtrType, ForeignItems, GenericParam, GenericParams, Generics, IdentPattern}
+use Rattle.syn_grammar.specs.Kind.{ImplGenerics, ImplItems, ImplType, InExpression, InFile, InForeign, InImpl}
+use Rattle.syn_grammar.specs.Kind.{InModule, InTrait, InType, Index, InferType, InnerAttribute, InnerAttributes}
+use Rattle.syn_grammar.specs.Kind.{ItemMacro, Items, Label, LifetimeColon, LifetimeParam, Lifetimes}
+use Rattle.syn_grammar.specs.Kind.{LiteralPattern, Member, Meta, NamedField, NamedFields, NeverType, OnePattern}
+use Rattle.syn_grammar.specs.Kind.{OuterAttribute, OuterAttributes, Parameter, Parameters, ParenthesizedArguments}
+use Rattle.syn_grammar.specs.Kind.{Path, PathPattern, Pattern, Plain, PointerType, QualifiedPath, RangeBound}
+use Rattle.syn_grammar.specs.Kind.{RangeEnd, RangeToPattern, Receiver, ReferencePattern, ReferenceType}
+use Rattle.syn_grammar.specs.Kind.{RestPattern, ReturnType, Segment, Segments, SeveralPatterns, Signature}
+use Rattle.syn_grammar.specs.Kind.{SlicePattern, SomeBounds, Statements, TraitItems, TraitPath, TuplePattern}
 use Rattle.syn_grammar.specs.Kind.{TupleType, TypeParam, UnnamedField, UnnamedFields, UseBranch, UseRooted}
 use Rattle.syn_grammar.specs.Kind.{UseTop, UseTree, Variant, Visibility, Where, WhereClause, WherePredicate}
 use Rattle.syn_grammar.specs.Kind.{WildPattern, WithPlus, WithoutPlus}
@@ -29,8 +32,10 @@ use Rattle.syn_grammar.specs.Tree.{Tree, AWord, Pair, First, Second, Again, Fina
 use Rattle.syn_grammar.specs.Tree.{Verbatim}
 use Rattle.syn_grammar.specs.Tree.{Node, Whole, Alone, Front, Back, Infix}
 use Rattle.syn_grammar.specs.Words.{is_ident}
+use Rattle.syn_grammar.specs.Name.{Part, the_item}
 use Rattle.syn_grammar.specs.Part.{choice}
 use Rattle.syn_grammar.specs.Kept.{is_there}
+use Rattle.syn_grammar.specs.Verdicts.{is_path_type}
 
 unfoldable pub has_step : Kind → Bool
 has_step (Path InModule) = true
@@ -41,6 +46,10 @@ has_step (Segments InModule) = true
 has_step (Segments InExpression) = true
 has_step (Segments InType) = true
 has_step (Segments AtType) = true
+has_step (Segment InModule) = true
+has_step (Segment InExpression) = true
+has_step (Segment InType) = true
+has_step (Segment AtType) = true
 has_step (QualifiedPath InModule) = true
 has_step (QualifiedPath InExpression) = true
 has_step (QualifiedPath InType) = true
@@ -101,6 +110,7 @@ has_step InnerAttributes = true
 has_step InnerAttribute = true
 has_step Meta = true
 has_step Generics = true
+has_step ImplGenerics = true
 has_step GenericParams = true
 has_step GenericParam = true
 has_step LifetimeParam = true
@@ -129,6 +139,7 @@ has_step UseTree = true
 has_step UseBranch = true
 has_step UseRooted = true
 has_step Parameters = true
+has_step Parameter = true
 has_step FnArg = true
 has_step Receiver = true
 has_step (Signature InFile) = true
@@ -139,6 +150,8 @@ has_step (AFunction InFile) = true
 has_step (AFunction InForeign) = true
 has_step (AFunction InTrait) = true
 has_step (AFunction InImpl) = true
+has_step (ATypeAlias InFile) = true
+has_step (ATypeAlias InForeign) = true
 has_step (ATypeAlias InTrait) = true
 has_step (ATypeAlias InImpl) = true
 has_step (ItemMacro InFile) = true
@@ -146,6 +159,22 @@ has_step (ItemMacro InForeign) = true
 has_step (ItemMacro InTrait) = true
 has_step (ItemMacro InImpl) = true
 has_step Label = true
+has_step Body = true
+has_step Block = true
+has_step Statements = true
+has_step Items = true
+has_step ForeignItems = true
+has_step TraitItems = true
+has_step ImplItems = true
+has_step AModule = true
+has_step AForeignModule = true
+has_step AMacroDefinition = true
+has_step ATrait = true
+has_step AConstTrait = true
+has_step ARestrictedTrait = true
+has_step AnImpl = true
+has_step AnItem = true
+has_step AFile = true
 has_step ExprLit = true
 has_step ExprPath = true
 has_step ExprMacro = true
@@ -168,6 +197,9 @@ has_step ExprContinue = true
 has_step ExprTypedClosure = true
 has_step ExprStruct = true
 has_step ExprCall = true
+has_step ExprMethodCall = true
+has_step ExprField = true
+has_step ExprAwait = true
 has_step ExprIndex = true
 has_step ExprTry = true
 has_step ExprCast = true
@@ -193,12 +225,55 @@ has_step ExprShift = true
 has_step ExprSum = true
 has_step ExprProduct = true
 has_step FieldValues = true
+has_step AFieldValue = true
 has_step FieldValue = true
+has_step Arms = true
 has_step ClosureParam = true
 has_step k = false
 
--- The same of expressions and of the kinds of their forms, in the crate `expressions_back`.
+-- The same of expressions and of the kinds of their forms, in the crate `read_back`.
 unfoldable pub has_form_step : Kind → Bool
+has_form_step (Expression Plain) = true
+has_form_step ExprLit = true
+has_form_step ExprPath = true
+has_form_step ExprContinue = true
+has_form_step ExprStruct = true
+has_form_step ExprParen = true
+has_form_step ExprArray = true
+has_form_step ExprRepeat = true
+has_form_step ExprGroup = true
+has_form_step ExprInfer = true
+has_form_step ExprBlock = true
+has_form_step ExprUnsafe = true
+has_form_step ExprAsync = true
+has_form_step ExprConst = true
+has_form_step ExprTryBlock = true
+has_form_step ExprLoop = true
+has_form_step ExprCall = true
+has_form_step ExprMethodCall = true
+has_form_step ExprField = true
+has_form_step ExprAwait = true
+has_form_step ExprIndex = true
+has_form_step ExprTry = true
+has_form_step ExprUnary = true
+has_form_step ExprRawAddr = true
+has_form_step ExprReference = true
+has_form_step ExprLet = true
+has_form_step ExprBreak = true
+has_form_step ExprReturn = true
+has_form_step ExprYield = true
+has_form_step ExprRange = true
+has_form_step ExprRangeClosed = true
+has_form_step ExprAssign = true
+has_form_step ExprOr = true
+has_form_step ExprAnd = true
+has_form_step ExprCompare = true
+has_form_step ExprBitOr = true
+has_form_step ExprBitXor = true
+has_form_step ExprBitAnd = true
+has_form_step ExprShift = true
+has_form_step ExprSum = true
+has_form_step ExprProduct = true
 has_form_step k = false
 
 abbrev pub is_known : Kind → Bool
@@ -258,11 +333,37 @@ abbrev pub is_lone : Tree → Bool
 is_lone (Node PathPattern y) = lone_pattern y
 is_lone _ = false
 
+-- What is implemented is a path: else an item with it is raw.
+abbrev pub has_own_trait : Tree → Bool
+has_own_trait (First (Pair d (Pair c (Pair u (Pair i (Pair g (Pair p (Pair (Called m t) (Pair f y))))))))) =
+    not (is_there f) || is_path_type t
+has_own_trait _ = true
+
+-- Items among others are structs and enums so far.
+abbrev pub is_plain_item : Tree → Bool
+is_plain_item (Node AStruct x) = true
+is_plain_item (Node AnEnum x) = true
+is_plain_item _ = false
+
+-- behind its attributes and its visibility
+abbrev pub item_of : Tree → Tree
+item_of (First x) = item_of x
+item_of (Pair x y) = item_of y
+item_of (Called n y) = y
+item_of x = x
+
+-- what is asked of a part
+abbrev pub is_taken_part : Part → Tree → Bool
+is_taken_part the_item x = is_plain_item (choice x)
+is_taken_part n x = true
+
 -- what is asked of a kind's tree
 abbrev pub is_taken : Kind → Tree → Bool
 is_taken AConst x = has_lone_value x
 is_taken UnnamedField x = has_clear_type x
 is_taken OnePattern x = not (is_lone (choice x))
+is_taken AnImpl x = has_own_trait x
+is_taken AnItem x = is_plain_item (choice (item_of x))
 is_taken k x = true
 
 abbrev pub is_covered : Tree → Bool
@@ -274,7 +375,7 @@ is_covered (Final x) = is_covered x
 is_covered (More x c spacing y) = is_covered x && is_covered y
 is_covered (Group d x) = is_covered x
 is_covered (Dropped x) = is_covered x
-is_covered (Called n x) = is_covered x
+is_covered (Called n x) = is_taken_part n x && is_covered x
 is_covered (Verbatim x) = false
 is_covered (Node k x) = is_known k && (is_taken k x && is_covered x)
 is_covered (Whole x) = is_covered x

@@ -350,7 +350,7 @@ BY={'all_attributes then a_lifetime':('(λ x s d c. lifetime_param_seen x s d)',
   'an_ident then no (marks ":")':('(λ x s d c. short_seen x s d @marks ":")','(λ x s d c. no_short_seen x s d)',('marks ":"',)),
  '(an_ident or a_quoted is_index) then marks ":"':('(λ x s d c. member_seen x s d)','(λ x s d c. no_member_seen x s d @marks ":")',('marks ":"',)),
  'all_attributes then at "const"':('(λ x s d c. (const_param_seen x s d).1)','(λ x s d c. (type_param_seen x s d).1)')}
-BY_HOMES={'short_seen':'FieldNames','no_short_seen':'FieldNames','member_seen':'FieldNames','no_member_seen':'FieldNames','lifetime_param_seen':'Params','const_param_seen':'Params','type_param_seen':'Params','no_lifetime_seen':'Params'}
+BY_HOMES={'found_restriction':'HandSteps','short_seen':'FieldNames','no_short_seen':'FieldNames','member_seen':'FieldNames','no_member_seen':'FieldNames','lifetime_param_seen':'Params','const_param_seen':'Params','type_param_seen':'Params','no_lifetime_seen':'Params'}
 NAME=[('ident',),('word','Self')]
 def found(g):
     if g[0]!='app': raise Skip(str(g))
@@ -372,6 +372,7 @@ def found(g):
         if a[0]==('app','optional',[('app','marks',[('str','::')]),('app','sign',[('str','::')])]) and not y.maybe:
             return Entry(False,y.ls,[('then','::',c) for c in y.cs]+y.cs,f'(found_perhaps_then {a[0][2][0] and show(a[0][2][0],False)} {y.term} {told(a[0][2][0],True,[("then","::",c) for c in y.cs])} {told(a[0][2][0],False,y.cs)})')
         return seq(x,y)
+    if h=='restriction': return Entry(False,[],[('open','Parenthesis')],'found_restriction')
     if h=='∶':
         x=found(a[1]); 
         if isinstance(x,str): return x
@@ -446,7 +447,8 @@ CATEGORIES={
  'Patterns':['Pattern','SeveralPatterns','OnePattern','IdentPattern','WildPattern','RangeToPattern','RestPattern','TuplePattern','SlicePattern','ReferencePattern','LiteralPattern','PathPattern','RangeEnd','RangeBound','FieldPatterns','FieldPattern'],
  'Attributes':['OuterAttributes','OuterAttribute','InnerAttributes','InnerAttribute','Meta'],
  'Generics':['Generics','ImplGenerics','GenericParams','GenericParam','LifetimeParam','LifetimeColon','ConstParam','TypeParam','BoundsColon','Where','WhereClause','WherePredicate'],
- 'Items':['Visibility','NamedFields','UnnamedFields','NamedField','UnnamedField','Variant','AStruct','AnEnum','AUnion','AStatic','AConst','AnExternCrate','AUse','UseTop','UseTree','UseBranch','UseRooted','Parameters','Parameter','FnArg','Receiver','Signature Place','AFunction Place','ATypeAlias Place','ItemMacro Place','Label','Body','Block'],
+ 'Items':['Visibility','NamedFields','UnnamedFields','NamedField','UnnamedField','Variant','AStruct','AnEnum','AUnion','AStatic','AConst','AnExternCrate','AUse','UseTop','UseTree','UseBranch','UseRooted','Parameters','Parameter','FnArg','Receiver','Signature Place','AFunction Place','ATypeAlias Place','ItemMacro Place','Label','Body','Block','Statements',
+ 'Items','ForeignItems','TraitItems','ImplItems','AModule','AForeignModule','AMacroDefinition','ATrait','AConstTrait','ARestrictedTrait','AnImpl','AnItem','AFile'],
  'Expressions':'''ExprLit ExprPath ExprMacro ExprParen ExprArray ExprRepeat ExprGroup ExprInfer ExprBlock ExprUnsafe ExprAsync ExprConst
  ExprTryBlock ExprIf ExprMatch ExprLoop ExprWhile ExprForLoop ExprContinue ExprTypedClosure ExprStruct ExprCall ExprMethodCall ExprField
  ExprAwait ExprIndex ExprTry ExprCast ExprAttributed ExprUnary ExprRawAddr ExprReference ExprLet ExprBreak ExprReturn ExprYield ExprClosure
@@ -464,7 +466,19 @@ def look_of(text): return parse([text])
 # what may follow, where it isn't read off the entry
 GIVEN={('Expression','Plain'):['no (the_end or marks "," or marks ";" or marks "=>")'],('Expression','InCondition'):['no brace'],
  ('Expression','InArm'):['no (the_end or marks ",")'],('Expression','InStatement'):['no (the_end or marks ";")']}
-GIVEN_STARTS={('Body',):[('open','Brace')],('Block',):[('open','Brace')]}
+# what may follow, where it is said of the kind's tree too, and first tokens that are written by hand
+GIVEN_BEHIND={('AFieldValue',):['no the_end'],('Statements',):['no the_end'],('Arms',):['no the_end']}
+LISTS=['Items','ForeignItems','TraitItems','ImplItems']
+for k in LISTS: GIVEN_BEHIND[(k,)]=['no the_end']
+GIVEN_BEHIND[('ImplGenerics',)]=['impl_generics_stand']
+# kinds of which the entry is written, and the step is by hand, since what may follow is said of the kind's tree too
+ENTRIES={('AType','WithPlus')}
+GIVEN_STARTS={('Statements',):[('sign',';')],('Arms',):[],('ATypeAlias','InFile'):[('word','type')],('ATypeAlias','InForeign'):[('word','type')]}
+for k in LISTS: GIVEN_STARTS[(k,)]=[]
+for k in('AnItem','Items'): GIVEN_STARTS[(k,)]=[('then','#',('open','Bracket')),('word','pub'),('word','struct'),('word','enum')]
+GIVEN_STARTS[('ImplGenerics',)]=[('sign','<')]
+GIVEN_STARTS[('AnImpl',)]=[('word',w) for w in('default','const','unsafe','impl')]
+GIVEN_STARTS[('AFieldValue',)]=[('sign','..'),('then','#',('open','Bracket')),('ident',),('ident',),('lit','is_index')]
 NAMES=[('ident',)]+[('word',w) for w in('Self','self','super','crate')]
 FORMS=[('then','#',('open','Bracket')),('lit','any_text'),('tick',)]+[('open',d) for d in('Brace','Parenthesis','Bracket','None')]
 FORMS+=[('word',w) for w in 'true false loop while for static move const async unsafe _ try if match continue break return yield let'.split()]
@@ -492,6 +506,7 @@ def main():
     for k in GIVEN: behind[k]=[look_of(t) for t in GIVEN[k]]; starts[k]=[]; skips[k]=False; UNKNOWN.add(k) if False else None
     for cat,k in KINDS: behind[k]=[]; starts[k]=[]; skips[k]=k[0] in SKIPS
     for k in GIVEN_STARTS: starts[k]=GIVEN_STARTS[k]
+    for k in GIVEN_BEHIND: behind[k]=[look_of(l) for l in GIVEN_BEHIND[k]]
     bad={}
     for turn in range(12):
         change=False
@@ -584,6 +599,7 @@ SAYS='at, marks, parenthesis, brace, bracket'.split(', ')
 HOMES={}
 # proved by hand, where a second token decides
 SECONDS={'found_bound','found_named_type'}
+HANDS={'found_restriction'}
 for n,f in home.items(): HOMES[n]=f
 def imports(text,mine=()):
     """the use lines for the names that a text has"""
@@ -624,8 +640,8 @@ def imports(text,mine=()):
     for w in ['fine_word','fine_text','fine_words','fine_name','fine_literal','fine_mark','fine_lifetime','fine_raw','fine_group']:
         if has(w): add(B+'proofs.Fine',w)
     for w in sorted(set(re.findall(r'\b(?:found|maybe|weaken|stops|as_maybe)(?:_[a-z_]+)?\b',text))):
-        if w not in('maybe',): add(B+('proofs.Seconds' if w in SECONDS else 'proofs.Parts'),w)
-    if has('found') : pass
+        if w not in('maybe',) and w not in HANDS: add(B+('proofs.Seconds' if w in SECONDS else 'proofs.Parts'),w)
+    if has('Found'): add(B+'proofs.Parts','Found')
     for w,m in BY_HOMES.items():
         if has(w): add(B+'proofs.'+m,w)
     if has('ident_not'): add(B+'proofs.Sights','ident_not')
@@ -654,17 +670,41 @@ EndsThere p x s =
     (ends_there p (whole x) ≡ true)
     × LacksAll ((no (marks "..") then marks ".") ∷ marks "?" ∷ at "else" ∷ []) s
 
+-- of what stands in a struct expression: it is ..
+abbrev pub is_end : Tree → Bool
+is_end (Node k x) = is_end x
+is_end x = has the_base x
+
+-- of a type: it is a path, qualified or not
+abbrev pub is_any_path : Tree → Bool
+is_any_path (Node (AType p) x) = is_any_path x
+is_any_path (Node (AnyPath s) x) = true
+is_any_path (Second x) = is_any_path x
+is_any_path x = false
+
+-- of what stands behind impl: there are generics
+abbrev pub is_generic : Tree → Bool
+is_generic (Node k x) = is_generic x
+is_generic (First x) = true
+is_generic x = false
+
 -- What may follow a kind's tree: what these looks don't see; behind an expression in an arm or a statement also what
--- such a form ends before.
+-- such a form ends before; behind a field of a struct expression what may follow it, and behind .. the end; behind a
+-- type that is a path what may follow one without plus; and behind the generics of an impl that are there anything.
 abbrev pub After : Kind → Tree → List Token → Type 0
 After (Expression InArm) x s = LacksAll (behind (Expression InArm)) s ⊎ EndsThere InArm x s
 After (Expression InStatement) x s = LacksAll (behind (Expression InStatement)) s ⊎ EndsThere InStatement x s
+After AFieldValue x s =
+    LacksAll (behind AFieldValue) s ⊎ ((is_end x ≡ false) × LacksAll (behind FieldValue) s)
+After (AType WithPlus) x s =
+    LacksAll (behind (AType WithPlus)) s ⊎ ((is_any_path x ≡ true) × LacksAll (behind (AType WithoutPlus)) s)
+After ImplGenerics x s = LacksAll (behind ImplGenerics) s ⊎ (is_generic x ≡ true)
 After k x s = LacksAll (behind k) s
 """
     head="-- What may not follow a kind's tree, of what the looks see. Written by tools/steps.py, from the entries.\n"
     head+=imports(body,mine=('behind',)).replace('use Rattle.grammar_back.specs.After.{behind}\n','').replace('use Rattle.syn_grammar.specs.Look.{','use Rattle.syn_grammar.specs.Look.{Look, ').replace('use Rattle.syn_grammar.specs.Kind.{','use Rattle.syn_grammar.specs.Kind.{Kind, ')
     head=head.replace('specs.Kind.{Kind, ','specs.Kind.{Kind, Position, ',1)
-    head+='use Rattle.syn_grammar.specs.Tree.{Tree, Node, Whole}\nuse Rattle.syn_grammar.specs.Forms.{ends_there}\nuse Rattle.proc_macro2.specs.Token.{Token}\nuse Rattle.std.specs.Prelude.{◌⊎◌}\nuse Rattle.grammar_back.specs.Sees.{LacksAll}\n'
+    head+='use Rattle.syn_grammar.specs.Tree.{Tree, First, Second, Node, Whole}\nuse Rattle.syn_grammar.specs.Name.{the_base}\nuse Rattle.syn_grammar.specs.Part.{has}\nuse Rattle.syn_grammar.specs.Forms.{ends_there}\nuse Rattle.proc_macro2.specs.Token.{Token}\nuse Rattle.std.specs.Prelude.{◌⊎◌, Bool}\nuse Rattle.grammar_back.specs.Sees.{LacksAll}\n'
     open(f'{CRATE}/specs/After.antt','w').write(wrapped(head+'\n'+body))
     body=''
     for k in list(GIVEN)+order:
@@ -681,6 +721,10 @@ After k x s = LacksAll (behind k) s
             t=weak(e,behind[k])
             extra=['is_path_keyword','is_plain_name','is_bool','is_name']
             if k[0]=='ConstParam' or k[0]=='LiteralPattern' or k[0]=='RangeBound': pass
+            if k in ENTRIES:
+                n=SNAKE(k).replace('step_','entry_',1)
+                body+=f'\npub {n} : Found (table {kshow(k)}) (behind {kshow(k)}) (starts {kshow(k)})\nunfolding table skips {" ".join(extra)}\n{n} = {t}\n'
+                continue
             body+=f'\npub {SNAKE(k)} : Step {kshow(k)}\nunfolding table skips {" ".join(extra)}\n{SNAKE(k)} = {"maybe" if skips[k] else "found"}_step {kshow(k)} refl refl {t}\n'
         head=f"-- The steps of {cat.lower()}, of those that go by first tokens alone. Written by tools/steps.py, from the entries.\n"
         open(f'{CRATE}/proofs/StepsOf{cat}.antt','w').write(wrapped(head+imports(body)+body))
@@ -695,7 +739,7 @@ After k x s = LacksAll (behind k) s
         if f.endswith('.antt') and not f.startswith('StepsOf') and f not in('AllKinds.antt','Readies.antt'):
             for m in re.finditer(r'^pub (step_[a-z_]+) : Step (\w+|\(\w+ \w+\))',open(f'{CRATE}/proofs/{f}').read(),re.M): HANDSTEPS[tuple(m[2].strip('()').split())]=(m[1],f[:-5])
     FORGET={'Parameter','DynType','ImplType','AStatement','Meta','Member','Index','Arm','AnArgument','ConstParam'}
-    TIDY={'Where','Generics','ImplGenerics','BoundsColon','LifetimeColon','GenericParams','Arguments','ATypeAlias','AnImpl'}
+    TIDY={'Where','Generics','BoundsColon','LifetimeColon','GenericParams','Arguments','ATypeAlias','AnImpl'}
     def has_any(g,names,seen=()):
         if g[0]!='app': return False
         if g[1] in names: return True
@@ -704,7 +748,7 @@ After k x s = LacksAll (behind k) s
             b=call(g[1],g[2]); 
             if b is not None and has_any(b,names,seen+(g[1],)): return True
         return any(has_any(a,names,seen) for a in g[2] if a[0]=='app')
-    goodset={k for c,k in good}
+    goodset={k for c,k in good if k not in ENTRIES}
     covered=[]; law={}; stepof={}
     for c,k in KINDS:
         if k in goodset: stepof[k]=(SNAKE(k),'StepsOf'+c)
@@ -721,7 +765,7 @@ After k x s = LacksAll (behind k) s
     lines='unfoldable pub has_step : Kind → Bool\n'+''.join(f'has_step {clause(k)} = true\n' for k in covered)+'has_step k = false\n\n'
     text=text[:i]+lines+text[j:]
     names=sorted({w for k in covered for w in k})
-    text=re.sub(r'(use Rattle.syn_grammar.specs.Kind.{[^}]*}\n)+',lambda m: 'use Rattle.syn_grammar.specs.Kind.{'+', '.join(['Kind','Expression']+sorted(set(names)|{'UnnamedField','OnePattern','PathPattern'}))+'}\n',text,count=1)
+    text=re.sub(r'(use Rattle.syn_grammar.specs.Kind.{[^}]*}\n)+',lambda m: 'use Rattle.syn_grammar.specs.Kind.{'+', '.join(['Kind','Expression']+sorted(set(names)|{'UnnamedField','OnePattern','PathPattern','Plain'}))+'}\n',text,count=1)
     open(f'{CRATE}/specs/Covered.antt','w').write(wrapped(text))
     by={}
     for k in covered: by.setdefault(stepof[k][1],[]).append(stepof[k][0])

@@ -4,6 +4,7 @@
 //!
 //! - `lists`: lists that are built, extended and copied.
 //! - `reading`: lists that are read.
+//! - `names`: identifiers that are read, and made without `r#`.
 //! - `errors`: errors that are made, extended, copied and gone over.
 //! - `groups`: groups that are printed round what stands inside.
 #![tactic(auto)]
@@ -11,6 +12,7 @@
 mod errors;
 mod groups;
 mod lists;
+mod names;
 mod reading;
 
 use std::io::Write;
@@ -26,6 +28,7 @@ fn run(rt: &HostRuntime) -> Result<(), Stop> {
     answer.push_str(lists::collected(rt.alloc())?.as_str())?;
     answer.push_str(lists::copied(rt.alloc())?.as_str())?;
     answer.push_str(reading::lists(rt.alloc())?.as_str())?;
+    answer.push_str(names::read(rt.alloc())?.as_str())?;
     answer.push_str(errors::made(rt.alloc())?.as_str())?;
     answer.push_str(errors::extended(rt.alloc())?.as_str())?;
     answer.push_str(errors::copied(rt.alloc())?.as_str())?;

@@ -3,7 +3,9 @@
 #![tactic(auto)]
 
 use path_tests::never::Never;
-use path_tests::{ParenthesizedGenericArguments, TypeReference};
+use path_tests::{
+    AngleBracketedGenericArguments, ParenthesizedGenericArguments, Path, TypeReference,
+};
 use proc_macro2::{SourceMap, TokenStream};
 use std::alloc::Global;
 use std::io::Write;
@@ -47,7 +49,12 @@ fn run(rt: &HostRuntime) -> Result<(), Stop> {
         "(! , ! , ! , ! , !) -> ! ;",
     )?;
     let reference = node::<TypeReference<Never>>(alloc, "& 'a mut ! ;")?;
-    let answer = format!(in alloc; "{arguments}{reference}")?;
+    let brackets = node::<AngleBracketedGenericArguments<Never>>(
+        alloc,
+        ":: < 'a , A = ! , ! , > ;",
+    )?;
+    let path = node::<Path<Never>>(alloc, ":: a :: b < ! > :: c ;")?;
+    let answer = format!(in alloc; "{arguments}{reference}{brackets}{path}")?;
     let written = rt.stdout().write_all(answer.as_bytes());
     written.map_err(|_| Stop::Elsewhere)
 }

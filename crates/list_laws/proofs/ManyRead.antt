@@ -36,6 +36,26 @@ shorter g ts us x takes_some got =
     let count : length ts ≡ length (flat y) + length us = ap length h.tokens ∙ length-append (flat y) us in
     omega (arith, count, takes all_founded firm y g us h.tree takes_some)
 
+pub length_plain : (ts : List Spanned) → length (plain ts) ≡ length ts
+length_plain [] = refl
+length_plain (t ∷ ts) = let h = length_plain ts in omega (arith, h)
+
+module _ {T P : Type 0} (value : Reading T) (separator : Reading P) (no_value no_separator : List Spanned → Type 0)
+    (ended stands : List Token → Bool) (g : Gram) (view : T → Tree) (c : ℕ) (cs : List ℕ) (fits : IsListable g)
+    (element : IsEntry g view value no_value) (mark_is : IsSeparator c cs separator no_separator stands) where
+  -- some turns take as many tokens
+  pub few_turns : (ts : List Spanned) (vs : List T) (ps : List P) (us : List Spanned)
+      → ReadsTurns value separator ended stands ts vs ps us → length vs ≤ length (plain ts)
+  few_turns ts [] ps us h = omega arith
+  few_turns ts (v ∷ vs) [] us h = absurd h
+  few_turns ts (v ∷ vs) (p ∷ ps) us (xs, ys, e, a, f, b, h) =
+      omega (
+        arith,
+        few_turns ys vs ps us h,
+        shorter g (plain ts) (plain xs) (view v) fits.0 (element.found ts v xs a),
+        shorter (mark c cs) (plain xs) (plain ys) (AMark c cs Apart) refl (mark_is.entry.found xs p ys b),
+      )
+
 module _ {T P : Type 0} (view : T → Tree) (c : ℕ) where
   tree_ended : (vs : List T) (ps : List P) → length ps ≡ length vs → pairs_tree view c (pairs vs ps)
       ≡ more view c vs End
@@ -52,7 +72,7 @@ module _ {T P : Type 0} (view : T → Tree) (c : ℕ) where
 
 module _ {T P : Type 0} (value : Reading T) (separator : Reading P) (no_value no_separator : List Spanned → Type 0)
     (ended stands : List Token → Bool) (g : Gram) (view : T → Tree) (c : ℕ) (fits : IsListable g)
-    (element : IsEntry g view value no_value) (mark_is : IsSeparator c separator no_separator stands) where
+    (element : IsEntry g view value no_value) (mark_is : IsSeparator c [] separator no_separator stands) where
   abbrev run : List Spanned → Out
   run ts = kepts (list ended c g) (plain ts)
 
@@ -79,21 +99,10 @@ module _ {T P : Type 0} (value : Reading T) (separator : Reading P) (no_value no
   even ts (v ∷ vs) [] us h = absurd h
   even ts (v ∷ vs) (p ∷ ps) us (xs, ys, e, a, f, b, h) = omega (arith, even ys vs ps us h)
 
-  few : (ts : List Spanned) (vs : List T) (ps : List P) (us : List Spanned) → Turns ts vs ps us
+  few_all : (ts : List Spanned) (vs : List T) (ps : List P) (us : List Spanned) → Turns ts vs ps us
       → length vs ≤ length (plain ts)
-  few ts [] ps us h = omega arith
-  few ts (v ∷ vs) [] us h = absurd h
-  few ts (v ∷ vs) (p ∷ ps) us (xs, ys, e, a, f, b, h) =
-      omega (
-        arith,
-        few ys vs ps us h,
-        shorter g (plain ts) (plain xs) (view v) fits.0 (element.found ts v xs a),
-        shorter (mark c []) (plain xs) (plain ys) (AMark c [] Apart) refl (mark_is.entry.found xs p ys b),
-      )
-
-  length_plain : (ts : List Spanned) → length (plain ts) ≡ length ts
-  length_plain [] = refl
-  length_plain (t ∷ ts) = let h = length_plain ts in omega (arith, h)
+  few_all ts vs ps us h =
+      few_turns value separator no_value no_separator ended stands g view c [] fits element mark_is ts vs ps us h
 
   pub many_found : (ts : List Spanned) (vs : List T) (ps : List P) (rest : List Spanned)
       → ReadsMany value separator ended stands ts vs ps rest
@@ -133,4 +142,4 @@ module _ {T P : Type 0} (value : Reading T) (separator : Reading P) (no_value no
       refused ts vs ps us h (list_fails ended c g fits (plain us) e (element.none us n))
   many_none ts (vs, ps, us, h, inl (e, inr (v, xs, a, f, n))) = refused ts vs ps us h (no_mark us xs v e a f n)
   many_none ts (vs, ps, us, h, inr more_values) =
-      absurd (omega (arith, few ts vs ps us h, length_plain ts, more_values))
+      absurd (omega (arith, few_all ts vs ps us h, length_plain ts, more_values))

@@ -1,8 +1,11 @@
 -- Marks that are printed, and what they are read back as.
 use Rattle.std.proofs.Common.{◌≡◌, ◌<◌, ℕ, List, [], ◌∷◌, ◌++◌, length, refl, sym, ap, ◌∙◌, subst, arith}
+use Rattle.std.proofs.lemmas.Bool.{eq-eqb}
+use Rattle.std.specs.Prelude.{Bool, true, ◌==◌, ◌&&◌}
 use Rattle.rust_map.specs.declared.span.Span.{Span}
 use Rattle.rust_leaf.specs.declared.punct.Spacing.TheVariants.{Alone}
-use Rattle.proc_macro2.specs.Token.{Spanned}
+use Rattle.proc_macro2.specs.Token.{Spanned, plain}
+use Rattle.syn_kinds.specs.Stands.{marks_stand}
 use Rattle.syn_kinds.specs.Values.{marks_tokens}
 use Rattle.syn_peek.specs.Marks.{ReadsMarks}
 
@@ -42,3 +45,15 @@ marks_one (c ∷ d ∷ cs) (s ∷ ss) (r ∷ rs) xs us n (vs, e, h) =
     subst (λ w. ReadsMarks (d ∷ cs) rs w us) (sym (ap past_first e)) h in
     let both = marks_one (d ∷ cs) ss rs xs us (omega arith) more in
     (ap (λ w. r ∷ w) both.0 ∙ ap (λ w. w ∷ ss) (sym (ap (first_place s) e)), both.1)
+
+-- and stand there
+both_true : (a b : Bool) → a ≡ true → b ≡ true → ((a && true) && b) ≡ true
+both_true a b e f = ap (λ (x : Bool). (x && true) && b) e ∙ f
+
+pub marks_are_seen : (cs : List ℕ) (ss : List Span) (xs : List Spanned) → length ss ≡ length cs
+    → marks_stand cs (plain (marks_tokens cs ss ++ xs)) ≡ true
+marks_are_seen [] ss xs n = refl
+marks_are_seen (c ∷ cs) [] xs n = absurd (omega arith)
+marks_are_seen (c ∷ []) (s ∷ ss) xs n = eq-eqb c c refl
+marks_are_seen (c ∷ d ∷ cs) (s ∷ ss) xs n =
+    both_true (c == c) _ (eq-eqb c c refl) (marks_are_seen (d ∷ cs) ss xs (omega arith))

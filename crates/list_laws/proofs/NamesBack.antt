@@ -87,7 +87,7 @@ module _ (kind width : ℕ) where
       (marks_read cs p xs (omega (arith, l, marks_count kind width)) (m ∙ sym (marks_count kind width))) in
       omega (arith, h, ap (λ (x : List Spanned). length x) e)
 
-  none_behind : (q : List Span) (us more : List Spanned) → us ≡ [] → ReadsMarks cs q us more → ⊥
+  pub none_behind : (q : List Span) (us more : List Spanned) → us ≡ [] → ReadsMarks cs q us more → ⊥
   none_behind q us more e b =
       let h = marks_shorter cs q us more b in omega (arith, h, ap (λ (x : List Spanned). length x) e)
 
@@ -103,7 +103,7 @@ module _ (kind width : ℕ) where
   )
 
   -- one turn of what is read is one of the list
-  turn : (v w : Ident) (p q : List Span) (xs us more : List Spanned) → length p ≡ width
+  pub turn : (v w : Ident) (p q : List Span) (xs us more : List Spanned) → length p ≡ width
       → ident_token v ∷ (marks_tokens cs p ++ xs) ≡ ident_token w ∷ us → ReadsMarks cs q us more
       → (ident_token w ≡ ident_token v) × (q ≡ p) × (more ≡ xs)
   turn v w p q xs us more m e b =

@@ -11,10 +11,11 @@ use Rattle.syn_lists.specs.Lists.{IsSeparated}
 use Rattle.syn_lists.specs.Put.{put_list}
 use Rattle.syn_buffer.specs.Leaves.{ident_token}
 use Rattle.syn_buffer.specs.Seen.{seen}
-use Rattle.syn_input.specs.ReadLists.{ReadsList, ReadsPairs}
-use Rattle.list_laws.specs.ReadBack.{ArePlaces, IsReadFrom, printed, put_marks, put_name}
-use Rattle.list_laws.specs.ReadBack.{reads_marks, reads_name}
+use Rattle.syn_input.specs.ReadLists.{ReadsList, ReadsPairs, StopsList}
+use Rattle.list_laws.specs.ReadBack.{AreNames, ArePlaces, IsReadFrom, IsRefused, printed, put_marks, put_name}
+use Rattle.list_laws.specs.ReadBack.{no_marks, no_name, reads_marks, reads_name}
 use Rattle.list_laws.proofs.NamesBack.{flat, printed_once, put_flat}
+use Rattle.list_laws.proofs.NamesTaken.{never_refused}
 
 -- all that is printed is seen
 seen_marks : (cs : List ℕ) (ss : List Span) (xs : List Spanned)
@@ -62,6 +63,13 @@ module _ {P : Type 0} (places : P → List Span) (kind width : ℕ) where
   length_places [] = refl
   length_places (p ∷ ps) = ap (λ n. suc n) (length_places ps)
 
+  seen_put : (vs : List Ident) (ps : List P) → seen (put_list put_name (λ p. put_marks kind width (places p)) vs ps [])
+      ≡ printed kind width vs (map places ps)
+  seen_put vs ps = ap seen (put_places vs ps []) ∙ seen_printed vs (map places ps)
+
+  even_places : (vs : List Ident) (ps : List P) → IsSeparated vs ps → IsSeparated vs (map places ps)
+  even_places vs ps s = subst (λ n. (n ≤ length vs) × (length vs ≤ n + 1)) (sym (length_places ps)) s
+
   -- what is read of a printed list is that list
   pub reread : (vs ws : List Ident) (ps qs : List P) → 0 < width → ArePlaces kind width (map places ps)
       → IsSeparated vs ps
@@ -69,9 +77,19 @@ module _ {P : Type 0} (places : P → List Span) (kind width : ℕ) where
       (seen (put_list put_name (λ p. put_marks kind width (places p)) vs ps [])) ws qs []
       → (map ident_token ws ≡ map ident_token vs) × (map places qs ≡ map places ps)
   reread vs ws ps qs l a s h =
-      let seen_is : seen (put_list put_name (λ p. put_marks kind width (places p)) vs ps [])
-      ≡ printed kind width vs (map places ps) =
-      ap seen (put_places vs ps []) ∙ seen_printed vs (map places ps) in
-      printed_once kind width vs ws (map places ps) (map places qs) l a
-      (subst (λ n. (n ≤ length vs) × (length vs ≤ n + 1)) (sym (length_places ps)) s)
-      (subst (λ ts. IsReadFrom kind width ts ws (map places qs)) seen_is (read_places _ ws qs h))
+      printed_once kind width vs ws (map places ps) (map places qs) l a (even_places vs ps s)
+      (subst (λ ts. IsReadFrom kind width ts ws (map places qs)) (seen_put vs ps) (read_places _ ws qs h))
+
+  stops_places : (ts : List Spanned)
+      → StopsList reads_name (λ xs p ys. reads_marks kind width xs (places p) ys) no_name (no_marks kind width) ts
+      → IsRefused kind width ts
+  stops_places ts (vs, ps, us, h, s) = (vs, map places ps, us, pairs_places ts vs ps us h, s)
+
+  -- and it is not refused
+  pub not_refused : (vs : List Ident) (ps : List P) → AreNames vs → ArePlaces kind width (map places ps)
+      → IsSeparated vs ps
+      → StopsList reads_name (λ xs p ys. reads_marks kind width xs (places p) ys) no_name (no_marks kind width)
+      (seen (put_list put_name (λ p. put_marks kind width (places p)) vs ps [])) → ⊥
+  not_refused vs ps n a s h =
+      never_refused kind width vs (map places ps) n a (even_places vs ps s)
+      (subst (λ ts. IsRefused kind width ts) (seen_put vs ps) (stops_places _ h))

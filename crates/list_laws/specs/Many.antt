@@ -1,5 +1,5 @@
 -- Lists that code reads, and lists that the written grammar reads.
-use Rattle.std.specs.Prelude.{◌≡◌, ◌≤◌, ℕ, suc, Bool, true, false, List, [], ◌∷◌, Option, Some, None, get_or}
+use Rattle.std.specs.Prelude.{◌≡◌, ◌≤◌, ℕ, suc, Bool, true, false, List, [], ◌∷◌, Option, Some, None}
 use Rattle.proc_macro2.specs.Token.{Token, Spanned, plain}
 use Rattle.rust_leaf.specs.Leaf.{ident_text}
 use Rattle.rust_leaf.specs.declared.ident.Ident.{Ident}
@@ -12,7 +12,6 @@ use Rattle.syn_grammar.specs.Ranks.{top}
 use Rattle.syn_grammar.specs.Run.{Out, Got, Refused}
 use Rattle.syn_grammar.specs.Tree.{Tree, AMark, AWord, End, Final, More}
 use Rattle.syn_input.specs.ReadLists.{Reading}
-use Rattle.syn_kinds.specs.Table.{sign}
 use Rattle.syn_lists.specs.Pairs.{pairs}
 
 -- the tree of values with the separators behind them: the last one may have none
@@ -25,10 +24,7 @@ pairs_tree view c ((v, None) ∷ xs) = Final (view v)
 abbrev pub GivesList : {T P : Type 0} → (T → Tree) → ℕ → List T → List P → List Spanned → Out → Type 0
 GivesList view c vs ps behind run = run ≡ Got (pairs_tree view c (pairs vs ps)) (plain behind)
 
--- the mark of a punctuation that has one, by its row in the table of kinds, and the tree of a name
-abbrev pub mark_of : ℕ → ℕ
-mark_of kind = get_or (sign kind) 0 126
-
+-- the tree of a name
 abbrev pub name_tree : Ident → Tree
 name_tree i = AWord (ident_text i)
 
@@ -44,8 +40,8 @@ pub record IsEntry {T : Type 0} (g : Gram) (view : T → Tree) (value : Reading 
       → keeps g (plain ts) ≡ Got (view v) (plain us)
   pub none : (ts : List Spanned) → no_value ts → keeps g (plain ts) ≡ Refused
 
--- a separator that is one mark, and the test that it stands there
-pub record IsSeparator {P : Type 0} (c : ℕ) (separator : Reading P) (no_separator : List Spanned → Type 0)
+-- a separator that is those marks, and the test that it stands there
+pub record IsSeparator {P : Type 0} (c : ℕ) (cs : List ℕ) (separator : Reading P) (no_separator : List Spanned → Type 0)
     (stands : List Token → Bool) : Type 0 where
-  pub entry : IsEntry (mark c []) (λ p. AMark c [] Apart) separator no_separator
-  pub seen : (ts : List Token) → stands ts ≡ sees (past_marks c []) ts
+  pub entry : IsEntry (mark c cs) (λ p. AMark c cs Apart) separator no_separator
+  pub seen : (ts : List Token) → stands ts ≡ sees (past_marks c cs) ts

@@ -4,14 +4,15 @@ use Rattle.std.specs.List.{All}
 use Rattle.rust_map.specs.declared.span.Span.{Span}
 use Rattle.rust_leaf.specs.Leaf.{ident_text}
 use Rattle.rust_leaf.specs.declared.ident.Ident.{Ident}
-use Rattle.proc_macro2.specs.Token.{Spanned}
+use Rattle.proc_macro2.specs.Token.{Spanned, plain}
 use Rattle.syn_error.specs.Tokens.{Put}
+use Rattle.syn_kinds.specs.Stands.{ident_stands, marks_stand}
 use Rattle.syn_kinds.specs.Table.{is_reserved, marks}
 use Rattle.syn_kinds.specs.Values.{marks_tokens}
 use Rattle.syn_lists.specs.Put.{put_list}
 use Rattle.syn_buffer.specs.Leaves.{ident_token}
 use Rattle.syn_peek.specs.Marks.{ReadsMarks}
-use Rattle.syn_input.specs.ReadLists.{Reading, ReadsList}
+use Rattle.syn_input.specs.ReadLists.{Reading, ReadsList, StopsList}
 
 -- a name is one token, and read from one that is no keyword
 abbrev pub put_name : Ident → Put
@@ -19,6 +20,9 @@ put_name i tokens = tokens ++ ident_token i ∷ []
 
 abbrev pub reads_name : Reading Ident
 reads_name ts i us = (ts ≡ ident_token i ∷ us) × (is_reserved (ident_text i) ≡ false)
+
+abbrev pub no_name : List Spanned → Type 0
+no_name ts = ident_stands (plain ts) ≡ false
 
 abbrev pub AreNames : List Ident → Type 0
 AreNames vs = All (λ i. is_reserved (ident_text i) ≡ false) vs
@@ -31,6 +35,9 @@ module _ (kind width : ℕ) where
   abbrev pub reads_marks : Reading (List Span)
   reads_marks ts spans us = ReadsMarks (marks kind width) spans ts us
 
+  abbrev pub no_marks : List Spanned → Type 0
+  no_marks ts = marks_stand (marks kind width) (plain ts) ≡ false
+
   abbrev pub ArePlaces : List (List Span) → Type 0
   ArePlaces ps = All (λ spans. length spans ≡ width) ps
 
@@ -41,3 +48,7 @@ module _ (kind width : ℕ) where
   -- the list is read from the tokens, and nothing is left behind it
   abbrev pub IsReadFrom : List Spanned → List Ident → List (List Span) → Type 0
   IsReadFrom ts vs ps = ReadsList reads_name reads_marks ts vs ps []
+
+  -- no list is read from the tokens to their end
+  abbrev pub IsRefused : List Spanned → Type 0
+  IsRefused ts = StopsList reads_name reads_marks no_name no_marks ts

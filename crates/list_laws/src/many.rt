@@ -1,9 +1,9 @@
 //! Lists that are read by a function, against the written grammar's `many`: two laws, each the contract of a function
 //! that does nothing, and names, which are read so.
 
-ghost use Rattle.list_laws.specs.Many.{GivesList, IsEntry, IsListable, IsSeparator, mark_of, name_tree};
+ghost use Rattle.list_laws.specs.Many.{GivesList, IsEntry, IsListable, IsSeparator, name_tree};
 ghost use Rattle.proc_macro2.specs.Token.{Spanned, plain};
-ghost use Rattle.std.specs.Prelude.{◌≡◌, false, IfErr, IfOk, List, ℕ};
+ghost use Rattle.std.specs.Prelude.{[], ◌≡◌, false, IfErr, IfOk, List, ℕ};
 ghost use Rattle.syn_error.specs.Faults.{IsSyntax};
 ghost use Rattle.syn_grammar.specs.Gram.{Gram, many};
 ghost use Rattle.syn_grammar.specs.Keeps.{keeps};
@@ -12,6 +12,7 @@ ghost use Rattle.syn_grammar.specs.Say.{ident};
 ghost use Rattle.syn_grammar.specs.Tree.{Tree};
 ghost use Rattle.syn_input.specs.Input.{rest};
 ghost use Rattle.syn_lists.specs.Lists.{separators, values};
+ghost use Rattle.syn_shape.specs.Leaves.{mark_of};
 ghost use Rattle.syn_read_lists.specs.ReadMany.{ReadsBy, ReadsMany, RefusesBy, StopsMany};
 
 use rust_leaf::ident::Ident;
@@ -34,7 +35,7 @@ pub fn read_as_many<
     ensures { (g : Gram) (view : T → Tree) (c : ℕ) (ts : List Spanned) (vs : List T) (ps : List P)
         (behind : List Spanned) → IsListable g
         → IsEntry g view (ReadsBy (F.post reader.now)) (RefusesBy (F.post reader.now))
-        → IsSeparator c P.reads P.refuses P.stands
+        → IsSeparator c [] P.reads P.refuses P.stands
         → ReadsMany (ReadsBy (F.post reader.now)) P.reads E.stands P.stands ts vs ps behind
         → GivesList view c vs ps behind (keeps (many E.stands c g) (plain ts)) }
 {}
@@ -49,7 +50,7 @@ pub fn refused_as_many<
 >(reader: &F)
     ensures { (g : Gram) (view : T → Tree) (c : ℕ) (ts : List Spanned) → IsListable g
         → IsEntry g view (ReadsBy (F.post reader.now)) (RefusesBy (F.post reader.now))
-        → IsSeparator c P.reads P.refuses P.stands
+        → IsSeparator c [] P.reads P.refuses P.stands
         → StopsMany (ReadsBy (F.post reader.now)) P.reads E.stands P.stands (RefusesBy (F.post reader.now)) P.refuses ts
         → keeps (many E.stands c g) (plain ts) ≡ Refused }
 {}

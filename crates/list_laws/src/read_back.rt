@@ -1,10 +1,11 @@
 //! Lists that are printed and read back, by the calls themselves.
 
-ghost use Rattle.list_laws.specs.ReadBack.{ArePlaces};
-ghost use Rattle.std.specs.Prelude.{[], ◌≡◌, IfOk, map};
+ghost use Rattle.list_laws.specs.ReadBack.{AreNames, ArePlaces};
+ghost use Rattle.std.specs.Prelude.{[], ◌≡◌, IfErr, IfOk, map};
+ghost use Rattle.syn_error.specs.Faults.{IsSyntax};
 ghost use Rattle.syn_buffer.specs.Leaves.{ident_token};
 ghost use Rattle.syn_buffer.specs.Seen.{seen};
-ghost use Rattle.syn_input.specs.ReadLists.{ReadsList};
+ghost use Rattle.syn_input.specs.ReadLists.{ReadsList, StopsList};
 ghost use Rattle.syn_lists.specs.Lists.{IsSeparated, separators, values};
 ghost use Rattle.syn_lists.specs.Put.{put_list};
 
@@ -24,8 +25,10 @@ pub fn reread<T: Parse + ToTokens, P: Parse + ToTokens>(
     alloc: Global,
     list: &Punctuated<T, P>,
 ) -> Result<Punctuated<T, P>, ParseFault>
-    ensures { IfOk result (λ back. ReadsList T.reads P.reads
+    ensures read { IfOk result (λ back. ReadsList T.reads P.reads
         (seen (put_list T.put P.put (values list.now) (separators list.now) [])) (values back) (separators back) []) }
+    ensures none { IfErr result (λ e. IsSyntax e → StopsList T.reads P.reads T.refuses P.refuses
+        (seen (put_list T.put P.put (values list.now) (separators list.now) []))) }
 {
     let tokens = list.to_token_stream(alloc)?;
     let buffer = TokenBuffer::new2(alloc, &tokens, 1)?;
@@ -36,7 +39,7 @@ pub fn reread<T: Parse + ToTokens, P: Parse + ToTokens>(
 /// Prints a list of names with punctuations of one mark between them, and reads it back: names of the same texts and
 /// spans, and as many punctuations, each at its place. Each punctuation of the list has a span for each mark.
 ///
-/// The fault is that of `parse_terminated`, or that memory was refused.
+/// Where no name of the list is a keyword or `_`, the only fault is that memory was refused.
 pub fn reread_one<const K: usize>(
     alloc: Global,
     list: &Punctuated<Ident, Punctuation<K, 1>>,
@@ -46,6 +49,7 @@ pub fn reread_one<const K: usize>(
     ensures names { IfOk result (λ back. map ident_token (values back) ≡ map ident_token (values list.now)) }
     ensures marks { IfOk result (λ back.
         map (λ p. p.spans) (separators back) ≡ map (λ p. p.spans) (separators list.now)) }
+    ensures taken { AreNames (values list.now) → IfErr result (λ e. IsSyntax e → ⊥) }
 {
     reread(alloc, list)
 }
@@ -53,7 +57,7 @@ pub fn reread_one<const K: usize>(
 /// Prints a list of names with punctuations of two marks between them, and reads it back: names of the same texts and
 /// spans, and as many punctuations, each at its place. Each punctuation of the list has a span for each mark.
 ///
-/// The fault is that of `parse_terminated`, or that memory was refused.
+/// Where no name of the list is a keyword or `_`, the only fault is that memory was refused.
 pub fn reread_two<const K: usize>(
     alloc: Global,
     list: &Punctuated<Ident, Punctuation<K, 2>>,
@@ -63,6 +67,7 @@ pub fn reread_two<const K: usize>(
     ensures names { IfOk result (λ back. map ident_token (values back) ≡ map ident_token (values list.now)) }
     ensures marks { IfOk result (λ back.
         map (λ p. p.spans) (separators back) ≡ map (λ p. p.spans) (separators list.now)) }
+    ensures taken { AreNames (values list.now) → IfErr result (λ e. IsSyntax e → ⊥) }
 {
     reread(alloc, list)
 }
@@ -70,7 +75,7 @@ pub fn reread_two<const K: usize>(
 /// Prints a list of names with punctuations of three marks between them, and reads it back: names of the same texts and
 /// spans, and as many punctuations, each at its place. Each punctuation of the list has a span for each mark.
 ///
-/// The fault is that of `parse_terminated`, or that memory was refused.
+/// Where no name of the list is a keyword or `_`, the only fault is that memory was refused.
 pub fn reread_three<const K: usize>(
     alloc: Global,
     list: &Punctuated<Ident, Punctuation<K, 3>>,
@@ -80,6 +85,7 @@ pub fn reread_three<const K: usize>(
     ensures names { IfOk result (λ back. map ident_token (values back) ≡ map ident_token (values list.now)) }
     ensures marks { IfOk result (λ back.
         map (λ p. p.spans) (separators back) ≡ map (λ p. p.spans) (separators list.now)) }
+    ensures taken { AreNames (values list.now) → IfErr result (λ e. IsSyntax e → ⊥) }
 {
     reread(alloc, list)
 }

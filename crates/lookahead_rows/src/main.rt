@@ -21,6 +21,7 @@ fn main(rt: HostRuntime) -> Result<(), Error> {
     for text in ["a , b ,", "a , b", "", "a b", ", a", "a , , b"] {
         listed(alloc, &mut lines, text)?;
     }
+    emptied(alloc, &mut lines, "a , b ,")?;
     for text in ["a + b c", "a", "", "a +", "a + +"] {
         summed(alloc, &mut lines, text)?;
     }
@@ -75,6 +76,25 @@ fn listed(alloc: Global, lines: &mut String, text: &str) -> Result<(), Error> {
         |input| input.parse::<Ident>(),
     );
     read_line(lines, read)
+}
+
+// Names with commas between them, of which two are taken out again.
+fn emptied(alloc: Global, lines: &mut String, text: &str) -> Result<(), Error> {
+    let mut map = SourceMap::new(alloc);
+    let stream = TokenStream::from_str(alloc, text, &mut map)?;
+    let buffer = TokenBuffer::new2(alloc, &stream, 1)?;
+    let mut input = ParseBuffer::new(alloc, buffer.begin());
+    let mut names = input.parse_terminated::<Ident, token::Comma>()?;
+    let _ = names.pop();
+    let _ = names.pop();
+    line(
+        lines,
+        if names.is_empty() {
+            "empty"
+        } else {
+            "not empty"
+        },
+    )
 }
 
 type Read<P> = Result<Punctuated<Ident, P>, ParseFault>;

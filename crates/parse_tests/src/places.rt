@@ -1,11 +1,11 @@
-//! Places compared, and steps.
+//! Places compared, steps, and where the end of a stream is said to be.
 
-use proc_macro2::{Delimiter, Ident, SourceMap, Span, TokenStream};
+use proc_macro2::{Delimiter, Ident, SourceMap, Span, TokenStream, TryClone};
 use std::cmp::Ordering;
 use std::test::Fail;
 use syn_kinds::token;
 use syn_lifetime::Lifetime;
-use syn_parse::{Cursor, ParseBuffer, TokenBuffer};
+use syn_parse::{Cursor, ParseBuffer, ParseFault, ParseStream, Parser, TokenBuffer};
 
 #[test]
 fn places_are_compared_in_one_buffer(rt: HostRuntime) -> Result<(), Fail> {
@@ -67,5 +67,37 @@ fn kinds_are_looked_for_behind_trees(rt: HostRuntime) -> Result<(), Fail> {
     let _group = input.parse::<proc_macro2::TokenTree>()?;
     let _comma = input.parse::<token::Comma>()?;
     assert!(rt; input.peek::<Ident>() && !input.peek2::<Ident>() && !input.peek3::<Ident>());
+    Ok(())
+}
+
+// Reads two names.
+fn two_names(input: ParseStream<'_, '_>) -> Result<Ident, ParseFault> {
+    let _first = input.parse::<Ident>()?;
+    input.parse::<Ident>()
+}
+
+// Where the fault of the answer stands.
+fn fault_span(answer: Result<Ident, ParseFault>) -> Result<Span, Fail> {
+    match answer {
+        Err(ParseFault::Syntax(error)) => Ok(error.span()),
+        _ => Err(Fail::new("a fault of syntax was expected")),
+    }
+}
+
+#[test]
+fn a_fault_at_the_end_is_said_where_the_stream_stands(rt: HostRuntime) -> Result<(), Fail> {
+    let alloc = rt.alloc();
+    let mut map = SourceMap::new(alloc);
+    let stream = TokenStream::from_str(alloc, "a b", &mut map)?;
+    let second = two_names.parse_scoped(alloc, Span::call_site(), stream)?;
+    assert!(rt; second.is_text("b"));
+    let stream = TokenStream::from_str(alloc, "  a", &mut map)?;
+    let scope = TokenStream::from_str(alloc, "     ;", &mut map)?;
+    let buffer = TokenBuffer::new2(alloc, &scope, 1)?;
+    let short = two_names.parse_scoped(alloc, buffer.begin().span(), stream.try_clone()?);
+    assert_eq!(rt; column(&map, fault_span(short)?), Some(5));
+    // Else it is the call site, which is the first column.
+    let short = two_names.parse2(alloc, stream);
+    assert_eq!(rt; column(&map, fault_span(short)?), Some(0));
     Ok(())
 }

@@ -14,7 +14,7 @@ use syn_error::fault::ParseFault;
 use syn_error::to_tokens::ToTokens;
 use syn_input::ParseBuffer;
 use syn_kinds::token;
-use syn_shape::{Child, Copied, Copier, Exact, Hub, Leaf, Reader, Shape};
+use syn_shape::{Child, Constant, Copied, Copier, Exact, Hub, Leaf, Reader, Shape};
 
 /// The type `!`.
 #[derive(Drop, PartialEq, Eq)]
@@ -75,8 +75,16 @@ impl Reader<Never> for Nevers {
         match child {
             Child::Type => read_never(input),
             Child::TypeWithoutPlus => read_never(input),
-            Child::Expr => Err(ParseFault::Memory),
+            Child::Expr | Child::PatSingle => Err(ParseFault::Memory),
         }
+    }
+
+    fn constant(
+        &self,
+        _constant: Constant,
+        _input: &mut ParseBuffer<'_>,
+    ) -> Result<Never, ParseFault> {
+        Err(ParseFault::Memory)
     }
 }
 

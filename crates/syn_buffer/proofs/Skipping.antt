@@ -1,6 +1,6 @@
 -- What stands behind the first tree.
-use Rattle.std.proofs.Common.{◌≡◌, ℕ, zero, suc, List, [], ◌∷◌, ◌++◌, length, refl, sym, ap, ◌∙◌}
-use Rattle.std.specs.Prelude.{Bool, true, false, cond, ◌==◌, Option, Some, None}
+use Rattle.std.proofs.Common.{◌≡◌, ℕ, zero, suc, List, [], ◌∷◌, ◌++◌, length, refl, sym, ap, ◌∙◌, arith, append_assoc}
+use Rattle.std.specs.Prelude.{Bool, true, false, cond, ◌<◌, ◌==◌, Option, Some, None}
 use Rattle.std.proofs.lemmas.List.{map-append}
 use Rattle.rust_map.specs.declared.span.Span.{Span}
 use Rattle.proc_macro2.specs.declared.delimiter.Delimiter.{Delimiter}
@@ -17,9 +17,11 @@ use Rattle.rust_leaf.specs.declared.punct.Punct as Puncts
 use Rattle.syn_kinds.specs.Stands.{any_ident_stands, lifetime_stands}
 use Rattle.syn_buffer.specs.Leaves.{ident_token, literal_token, punct_token}
 use Rattle.syn_buffer.specs.Lifetimes.{ReadsLifetime}
-use Rattle.syn_buffer.specs.Behind.{behind_group, behind_tree}
+use Rattle.rust_leaf.specs.Leaf.{ident_span}
+use Rattle.rust_map.specs.Spans.{last_of}
+use Rattle.syn_buffer.specs.Behind.{PassesTree, behind_group, behind_tree, tokens_end}
 use Rattle.syn_buffer.specs.Groups.{Enters, IsGroup}
-use Rattle.syn_buffer.specs.Position.{left, rest}
+use Rattle.syn_buffer.specs.Position.{IsPast, Scope, Takes, ahead, left, rest}
 use Rattle.syn_buffer.specs.declared.position.Cursor.{Cursor}
 
 -- a token that is no mark of a group is passed at any depth
@@ -136,3 +138,67 @@ pub behind_mark : (a b : Cursor) (p : Puncts.Punct) → rest a ≡ punct_token p
 behind_mark a b p r h =
     let same : left a ≡ Punct (punct_char p) (punct_spacing p) ∷ left b = ap (λ (x : List Spanned). plain x) r in
     sym (ap behind_tree same ∙ past_mark (punct_char p) (punct_spacing p) (left b) (sym (ap lifetime_stands same) ∙ h))
+
+-- what each of them is passed as, and where it ends
+last_mark : (ts : List Spanned) (d : Delimiter) (s none : Span) →
+    tokens_end none (ts ++ spanned (Closes d) s ∷ []) ≡ last_of s
+last_mark [] d s none = refl
+last_mark (t ∷ ts) d s none = last_mark ts d s _
+
+pub passes_group : (c : Cursor) (d : Delimiter) (span : Span) (inside behind : Cursor) →
+    Enters c d span inside behind → PassesTree c behind
+passes_group c d span inside behind e =
+    let same : behind.end ≡ c.end = ap (λ (s : Scope). s.end) e.past.same_list in
+    let opening : Spanned = spanned (Opens d) span in
+    let close : Spanned = spanned (Closes d) span in
+    record {
+      tree = opening ∷ rest inside ++ close ∷ [];
+      reads = e.group.reads ∙ ap (λ x. opening ∷ x) (sym (append_assoc (rest inside) (close ∷ []) (rest behind)));
+      behind = behind_entered c d span inside behind e;
+      past = e.past;
+      onward = omega (arith, e.ends, e.within, same);
+      taken = e.passed ∙ sym (last_mark (rest inside) d span span);
+    }
+
+pub passes_lifetime : (a b : Cursor) (apostrophe : Span) (i : Idents.Ident) →
+    ReadsLifetime (rest a) apostrophe i (rest b) → IsPast a b → ahead b < ahead a → b.before ≡ ident_span i →
+    PassesTree a b
+passes_lifetime a b apostrophe i r past onward taken = record {
+  tree = spanned (Punct 39 Joint) apostrophe ∷ ident_token i ∷ [];
+  reads = r;
+  behind = behind_lifetime a b apostrophe i r;
+  past = past;
+  onward = onward;
+  taken = taken;
+}
+
+pub passes_name : (a b : Cursor) (i : Idents.Ident) → Takes a (ident_token i) b → PassesTree a b
+passes_name a b i t = record {
+  tree = ident_token i ∷ [];
+  reads = t.reads;
+  behind = behind_name a b i t.reads;
+  past = t.past;
+  onward = t.onward;
+  taken = t.taken;
+}
+
+pub passes_literal : (a b : Cursor) (l : Literals.Literal) → Takes a (literal_token l) b → PassesTree a b
+passes_literal a b l t = record {
+  tree = literal_token l ∷ [];
+  reads = t.reads;
+  behind = behind_literal a b l t.reads;
+  past = t.past;
+  onward = t.onward;
+  taken = t.taken;
+}
+
+pub passes_mark : (a b : Cursor) (p : Puncts.Punct) → Takes a (punct_token p) b →
+    lifetime_stands (left a) ≡ false → PassesTree a b
+passes_mark a b p t h = record {
+  tree = punct_token p ∷ [];
+  reads = t.reads;
+  behind = behind_mark a b p t.reads h;
+  past = t.past;
+  onward = t.onward;
+  taken = t.taken;
+}

@@ -1,7 +1,11 @@
 -- What stands behind the first tree of tokens. A lifetime is one tree.
-use Rattle.std.specs.Prelude.{ℕ, zero, suc, Bool, not, cond, ◌==◌, ◌&&◌, List, [], ◌∷◌}
-use Rattle.proc_macro2.specs.Token.{Token, Opens, Closes, Ident, Literal, Punct, Joint}
+use Rattle.std.specs.Prelude.{ℕ, zero, suc, Bool, not, cond, ◌≡◌, ◌<◌, ◌==◌, ◌&&◌, List, [], ◌∷◌, ◌++◌}
+use Rattle.rust_map.specs.Spans.{last_of}
+use Rattle.rust_map.specs.declared.span.Span.{Span}
+use Rattle.proc_macro2.specs.Token.{Token, Opens, Closes, Ident, Literal, Punct, Joint, Spanned}
+use Rattle.syn_buffer.specs.Position.{IsPast, ahead, left, rest}
 use Rattle.syn_buffer.specs.Stands.{end_stands}
+use Rattle.syn_buffer.specs.declared.position.Cursor.{Cursor}
 
 -- behind the mark that closes a group in which so many others are open
 abbrev pub behind_group : ℕ → List Token → List Token
@@ -28,3 +32,25 @@ behind_tree (t ∷ ts) = ts
 -- a kind stands behind the first tree, if there is one
 abbrev pub stands_behind : (List Token → Bool) → List Token → Bool
 stands_behind stands ts = not (end_stands ts) && stands (behind_tree ts)
+
+-- where a token ends: the mark that closes a group at the last character of that
+abbrev pub token_end : Token → Span → Span
+token_end (Opens d) s = s
+token_end (Closes d) s = last_of s
+token_end (Ident cs) s = s
+token_end (Literal cs) s = s
+token_end (Punct c spacing) s = s
+
+-- where the last of tokens ends, and of none what is said
+abbrev pub tokens_end : Span → List Spanned → Span
+tokens_end none [] = none
+tokens_end none (t ∷ ts) = tokens_end (token_end t.token t.span) ts
+
+-- the first tree of the one place stands between it and the other; what was taken last is the end of that tree
+pub record PassesTree (before after : Cursor) : Type 0 where
+  pub tree : List Spanned
+  pub reads : rest before ≡ tree ++ rest after
+  pub behind : left after ≡ behind_tree (left before)
+  pub past : IsPast before after
+  pub onward : ahead after < ahead before
+  pub taken : after.before ≡ tokens_end before.before tree

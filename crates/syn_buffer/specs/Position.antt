@@ -34,9 +34,13 @@ pub record Scope : Type 0 where
   pub closing : Span
   pub closer : Delimiter
 
--- the whole of a buffer with that number, of so many entries, which nothing closes
+-- the whole of a buffer with that number, of so many entries, which nothing closes; at its end that span is said
+abbrev pub whole_at : Span → ℕ → ℕ → Scope
+whole_at closing number end = record { number = number; end = end; closing = closing; closer = delimiter.None }
+
+-- by itself it ends at the call site
 abbrev pub whole : ℕ → ℕ → Scope
-whole number end = record { number = number; end = end; closing = call_site; closer = delimiter.None }
+whole number end = whole_at call_site number end
 
 abbrev pub scope : Cursor → Scope
 scope c = record { number = c.number; end = c.end; closing = c.closing; closer = c.closer }

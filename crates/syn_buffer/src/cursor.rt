@@ -7,7 +7,7 @@ ghost use Rattle.syn_buffer.specs.Entries.{is_laid, last_end, spanned_entries};
 ghost use Rattle.syn_buffer.specs.Groups.{Enters, IsNext};
 ghost use Rattle.syn_buffer.specs.Heads.{SeenFirst};
 ghost use Rattle.syn_buffer.specs.Position.{IsPast, Takes, ahead, index, left, next_span, rest, scope};
-ghost use Rattle.syn_buffer.specs.Position.{trees_left, whole};
+ghost use Rattle.syn_buffer.specs.Position.{trees_left, whole, whole_at};
 ghost use Rattle.syn_buffer.specs.Standing.{trees_of};
 ghost use Rattle.syn_buffer.specs.Leaves.{ident_token, literal_token, punct_token};
 ghost use Rattle.syn_buffer.specs.Seen.{is_visible, seen};
@@ -47,12 +47,23 @@ fn settled<'a>(entries: &'a [Entry<'a>]) -> &'a [Entry<'a>]
 }
 
 impl TokenBuffer<'_> {
-    /// The place at the first token.
-    #[tactic(auto, using(crate::proofs::Laid::whole_is_laid))]
+    /// The place at the first token. At its end the call site is said.
     pub fn begin(&self) -> Cursor<'_>
         ensures tokens { rest result ≡ seen (spanned_entries self.now.entries.items) }
         ensures trees { trees_left result ≡ trees_of self.now.entries.items }
         ensures list { scope result ≡ whole self.now.number (length self.now.entries.items) }
+        ensures first { index result ≡ 0 }
+        ensures before { result.before ≡ call_site }
+    {
+        self.begin_within(Span::call_site())
+    }
+
+    /// The place at the first token, of tokens that stand within that span: it is what is said at their end.
+    #[tactic(auto, using(crate::proofs::Laid::whole_is_laid))]
+    pub fn begin_within(&self, closing: Span) -> Cursor<'_>
+        ensures tokens { rest result ≡ seen (spanned_entries self.now.entries.items) }
+        ensures trees { trees_left result ≡ trees_of self.now.entries.items }
+        ensures list { scope result ≡ whole_at closing self.now.number (length self.now.entries.items) }
         ensures first { index result ≡ 0 }
         ensures before { result.before ≡ call_site }
     {
@@ -62,7 +73,7 @@ impl TokenBuffer<'_> {
             number: self.number,
             before: Span::call_site(),
             closer: Delimiter::None,
-            closing: Span::call_site(),
+            closing,
         }
     }
 }

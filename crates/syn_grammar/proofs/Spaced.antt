@@ -45,7 +45,7 @@ end_mark c Apart b e h s = h
 end_mark c Joint true e h s = let f : false ≡ true = sym (ap (λ b. if b then false else false) e) ∙ h in cc f
 end_mark c Joint false e h s = let f : false ≡ true = sym (ap (λ b. if b then false else false) e) ∙ h in cc f
 
-end_any : (t : Token) → IsTrue (may_stand t []) → (s : List Token) → IsTrue (may_stand t s)
+pub end_any : (t : Token) → IsTrue (may_stand t []) → (s : List Token) → IsTrue (may_stand t s)
 end_any (Opens d) h s = h
 end_any (Closes d) h s = h
 end_any (Ident cs) h s = h
@@ -61,7 +61,7 @@ next_mark c (Ident cs) r s = refl
 next_mark c (Literal cs) r s = refl
 next_mark c (Punct d spacing) r s = refl
 
-next_any : (t u : Token) (r s : List Token) → may_stand t (u ∷ r) ≡ may_stand t (u ∷ s)
+pub next_any : (t u : Token) (r s : List Token) → may_stand t (u ∷ r) ≡ may_stand t (u ∷ s)
 next_any (Opens d) u r s = refl
 next_any (Closes d) u r s = refl
 next_any (Ident cs) u r s = refl
@@ -69,7 +69,7 @@ next_any (Literal cs) u r s = refl
 next_any (Punct c Apart) u r s = refl
 next_any (Punct c Joint) u r s = next_mark c u r s
 
-loose : (ts : List Token) → IsWellSpaced (ts ++ []) → MayPrecede ts
+pub loose : (ts : List Token) → IsWellSpaced (ts ++ []) → MayPrecede ts
 loose [] w s v = v
 loose (t ∷ []) w s v = (end_any t w.0 s, v)
 loose (t ∷ u ∷ ts) w s v = (sym (next_any t u (ts ++ []) (ts ++ s)) ∙ w.0, loose (u ∷ ts) w.1 s v)
@@ -81,7 +81,7 @@ closes_mark c Apart b d r e h = h
 closes_mark c Joint true d r e h = let f : false ≡ true = sym (ap (λ b. if b then false else false) e) ∙ h in cc f
 closes_mark c Joint false d r e h = let f : false ≡ true = sym (ap (λ b. if b then false else false) e) ∙ h in cc f
 
-closes_any : (t : Token) (d : Delimiter) (r : List Token) → IsTrue (may_stand t (Closes d ∷ r))
+pub closes_any : (t : Token) (d : Delimiter) (r : List Token) → IsTrue (may_stand t (Closes d ∷ r))
     → IsTrue (may_stand t [])
 closes_any (Opens e) d r h = h
 closes_any (Closes e) d r h = h
@@ -90,12 +90,12 @@ closes_any (Literal cs) d r h = h
 closes_any (Punct c spacing) d r h = closes_mark c spacing (c == quote) d r refl h
 
 -- the inside of a group is well spaced by itself
-cut : (ts : List Token) (d : Delimiter) (r : List Token) → IsWellSpaced (ts ++ Closes d ∷ r) → IsWellSpaced (ts ++ [])
+pub cut : (ts : List Token) (d : Delimiter) (r : List Token) → IsWellSpaced (ts ++ Closes d ∷ r) → IsWellSpaced (ts ++ [])
 cut [] d r w = tt
 cut (t ∷ []) d r w = (closes_any t d r w.0, tt)
 cut (t ∷ u ∷ ts) d r w = (sym (next_any t u (ts ++ Closes d ∷ r) (ts ++ [])) ∙ w.0, cut (u ∷ ts) d r w.1)
 
-spaced_behind : (xs ys : List Token) → IsWellSpaced (xs ++ ys) → IsWellSpaced ys
+pub spaced_behind : (xs ys : List Token) → IsWellSpaced (xs ++ ys) → IsWellSpaced ys
 spaced_behind [] ys w = w
 spaced_behind (x ∷ xs) ys w = spaced_behind xs ys w.1
 
@@ -108,7 +108,7 @@ before_marks : (c d : ℕ) (ds : List ℕ) (s : List Token) → not (begin_comme
 before_marks c d [] s h = h
 before_marks c d (e ∷ es) s h = h
 
-marks_precede : (c : ℕ) (cs : List ℕ) → calm_marks c cs ≡ true → MayPrecede (marks c cs Apart)
+pub marks_precede : (c : ℕ) (cs : List ℕ) → calm_marks c cs ≡ true → MayPrecede (marks c cs Apart)
 marks_precede c [] h s v = (h, v)
 marks_precede c (d ∷ ds) h s v =
     let a = and_true _ _ h in
@@ -118,11 +118,11 @@ marks_precede c (d ∷ ds) h s v =
       marks_precede d ds b.1 s v,
     )
 
-both_precede : (xs ys : List Token) → MayPrecede xs → MayPrecede ys → MayPrecede (xs ++ ys)
+pub both_precede : (xs ys : List Token) → MayPrecede xs → MayPrecede ys → MayPrecede (xs ++ ys)
 both_precede xs ys a b s v = subst IsWellSpaced (sym (append_assoc xs ys s)) (a (ys ++ s) (b s v))
 
 -- what is well spaced, and ends in no joint mark, may stand before all
-last_any : (t : Token) → ends_apart (t ∷ []) ≡ true → (r s : List Token) → IsTrue (may_stand t r)
+pub last_any : (t : Token) → ends_apart (t ∷ []) ≡ true → (r s : List Token) → IsTrue (may_stand t r)
     → IsTrue (may_stand t s)
 last_any (Opens d) e r s h = h
 last_any (Closes d) e r s h = h
@@ -131,7 +131,7 @@ last_any (Literal cs) e r s h = h
 last_any (Punct c Apart) e r s h = h
 last_any (Punct c Joint) e r s h = cc
 
-tail_apart : (t u : Token) (ts : List Token) → ends_apart (t ∷ u ∷ ts) ≡ true → ends_apart (u ∷ ts) ≡ true
+pub tail_apart : (t u : Token) (ts : List Token) → ends_apart (t ∷ u ∷ ts) ≡ true → ends_apart (u ∷ ts) ≡ true
 tail_apart (Opens d) u ts e = e
 tail_apart (Closes d) u ts e = e
 tail_apart (Ident cs) u ts e = e
@@ -139,7 +139,7 @@ tail_apart (Literal cs) u ts e = e
 tail_apart (Punct c Apart) u ts e = e
 tail_apart (Punct c Joint) u ts e = e
 
-apart_precedes : (ts r : List Token) → ends_apart ts ≡ true → IsWellSpaced (ts ++ r) → MayPrecede ts
+pub apart_precedes : (ts r : List Token) → ends_apart ts ≡ true → IsWellSpaced (ts ++ r) → MayPrecede ts
 apart_precedes [] r e w s v = v
 apart_precedes (t ∷ []) r e w s v = (last_any t e r s w.0, v)
 apart_precedes (t ∷ u ∷ ts) r e w s v =
@@ -180,7 +180,7 @@ calm_precedes (Infix l k y r) c s v =
     both_precede (flat l) (flat y ++ flat r) (calm_precedes l c.0)
     (both_precede (flat y) (flat r) (calm_precedes y c.1) (calm_precedes r c.2)) s v
 
-calm_cond : (b : Bool) (x y : Tree) → Calm x → Calm y → Calm (cond b x y)
+pub calm_cond : (b : Bool) (x y : Tree) → Calm x → Calm y → Calm (cond b x y)
 calm_cond true x y c d = c
 calm_cond false x y c d = d
 
@@ -422,7 +422,7 @@ last_mark c Apart b e h = refl
 last_mark c Joint true e h = let f : false ≡ true = sym (ap (λ b. if b then false else false) e) ∙ h in cc f
 last_mark c Joint false e h = let f : false ≡ true = sym (ap (λ b. if b then false else false) e) ∙ h in cc f
 
-apart_same : (ts : List Token) → IsWellSpaced (ts ++ []) → apart ts ≡ ts
+pub apart_same : (ts : List Token) → IsWellSpaced (ts ++ []) → apart ts ≡ ts
 apart_same [] w = refl
 apart_same (Punct c spacing ∷ []) w = last_mark c spacing (c == quote) refl w.0
 apart_same (Punct c spacing ∷ t ∷ ts) w = ap (λ us. Punct c spacing ∷ us) (apart_same (t ∷ ts) w.1)

@@ -1,10 +1,13 @@
 -- Values and separators that are read in turn.
 use Rattle.std.proofs.Common.{◌≡◌, ◌+◌, ◌<◌, length-append, List, [], ◌∷◌, ◌++◌, length, arith, refl, sym, ap, ◌∙◌}
-use Rattle.std.proofs.Common.{subst}
-use Rattle.std.specs.Prelude.{true, false}
+use Rattle.std.proofs.Common.{◌≤◌, subst}
+use Rattle.std.proofs.lemmas.List.{length-map}
+use Rattle.std.specs.Prelude.{Bool, true, false, cond, filter}
 use Rattle.proc_macro2.specs.Token.{Spanned, plain}
 use Rattle.syn_buffer.specs.Stands.{end_stands}
-use Rattle.syn_buffer.specs.Position.{IsPast}
+use Rattle.syn_buffer.specs.Entries.{spanned_entries, spanned_entry}
+use Rattle.syn_buffer.specs.Position.{IsPast, ahead, rest}
+use Rattle.syn_buffer.specs.Seen.{is_seen}
 use Rattle.syn_buffer.specs.declared.position.Cursor.{Cursor}
 use Rattle.syn_input.specs.ReadLists.{Reading, ReadsPairs}
 
@@ -23,6 +26,20 @@ at_end (t ∷ ts) e = cc
 pub not_at_end : (ts : List Spanned) → end_stands (plain ts) ≡ false → 0 < length ts
 not_at_end [] e = cc
 not_at_end (t ∷ ts) e = omega arith
+
+one_more : {X : Type 0} (b : Bool) (x : X) (xs ys : List X) → length ys ≤ length xs
+    → length (cond b (x ∷ ys) ys) ≤ length (x ∷ xs)
+one_more true x xs ys h = omega arith
+one_more false x xs ys h = omega arith
+
+few_pass : {X : Type 0} (p : X → Bool) (xs : List X) → length (filter p xs) ≤ length xs
+few_pass p [] = omega arith
+few_pass p (x ∷ xs) = one_more (p x) x xs (filter p xs) (few_pass p xs)
+
+-- no more tokens are left at a place than entries
+pub few_tokens : (c : Cursor) → length (rest c) ≤ ahead c
+few_tokens c =
+    omega (arith, few_pass (λ t. is_seen t.token) (spanned_entries c.entries.now), length-map c.entries.now spanned_entry)
 
 module _ {T P : Type 0} (value : Reading T) (separator : Reading P) where
   -- one value and its separator more

@@ -8,39 +8,43 @@ use Rattle.syn_buffer.specs.Seen.{seen}
 use Rattle.syn_buffer.specs.declared.position.Cursor.{Cursor}
 use Rattle.syn_input.specs.Input.{leftover}
 use Rattle.syn_buffer.specs.Stands.{end_stands}
-use Rattle.syn_input.specs.Whole.{IsBegin, IsRead, IsRefused, ReadsShort}
+use Rattle.rust_map.specs.declared.span.Span.{Span}
+use Rattle.syn_input.specs.Whole.{IsBegin, IsReadWithin, IsRefusedWithin, ReadsShort}
 use Rattle.syn_input.specs.declared.input.Leftover.{Leftover}
 use Rattle.syn_input.specs.declared.input.ParseBuffer.{ParseBuffer}
 
 -- the beginning of a buffer of tokens
-pub begun : (tokens es : List Spanned) (begin : ParseBuffer) (at : Cursor) (number end : ℕ) → begin.cursor ≡ at →
-    place.rest at ≡ seen es → es ≡ tokens → place.scope at ≡ place.whole number end → begin.noted ≡ None →
-    IsBegin tokens begin
-begun tokens es begin at number end c r t l n = record {
+pub begun : (tokens es : List Spanned) (begin : ParseBuffer) (at : Cursor) (closing : Span) (number end : ℕ) →
+    begin.cursor ≡ at → place.rest at ≡ seen es → es ≡ tokens →
+    place.scope at ≡ place.whole_at closing number end → begin.noted ≡ None →
+    IsBegin closing tokens begin
+begun tokens es begin at closing number end c r t l n = record {
   tokens_are = ap (λ (x : Cursor). place.rest x) c ∙ r ∙ ap (λ (x : List Spanned). seen x) t;
   list = (number, end, ap (λ (x : Cursor). place.scope x) c ∙ l);
   nothing_noted = n;
 }
 
 pub whole_read : {A : Type 0} (runs : ParseBuffer → Result A ParseFault → ParseBuffer →
-    Type 0) (tokens : List Spanned) (begin end : ParseBuffer) (answer : Result A ParseFault) (value : A) →
-    IsBegin tokens begin → runs begin answer end → answer ≡ Ok value → leftover end ≡ None → IsRead runs tokens value
-whole_read runs tokens begin end answer value b r e n =
+    Type 0) (closing : Span) (tokens : List Spanned) (begin end : ParseBuffer) (answer : Result A ParseFault)
+    (value : A) → IsBegin closing tokens begin → runs begin answer end → answer ≡ Ok value → leftover end ≡ None →
+    IsReadWithin closing runs tokens value
+whole_read runs closing tokens begin end answer value b r e n =
     let P : Result _ ParseFault → Type 0 = λ a. runs begin a end in
     record { begin = begin; end = end; begins = b; ran = subst P e r; nothing_left = n }
 
 pub whole_refused : {A : Type 0} (runs : ParseBuffer → Result A ParseFault → ParseBuffer →
-    Type 0) (tokens : List Spanned) (begin end : ParseBuffer) (answer : Result A ParseFault) (fault : ParseFault) →
-    IsBegin tokens begin → runs begin answer end → answer ≡ Err fault → IsRefused runs tokens
-whole_refused {A} runs tokens begin end answer fault b r e =
+    Type 0) (closing : Span) (tokens : List Spanned) (begin end : ParseBuffer) (answer : Result A ParseFault)
+    (fault : ParseFault) → IsBegin closing tokens begin → runs begin answer end → answer ≡ Err fault →
+    IsRefusedWithin closing runs tokens
+whole_refused {A} runs closing tokens begin end answer fault b r e =
     let P : Result A ParseFault → Type 0 = λ a. runs begin a end in
     record { begin = begin; end = end; answer = Err fault; begins = b; ran = subst P e r; refused = tt }
 
 pub whole_left : {A : Type 0} (runs : ParseBuffer → Result A ParseFault → ParseBuffer →
-    Type 0) (tokens : List Spanned) (begin end : ParseBuffer) (answer : Result A ParseFault) (value : A) →
-    IsBegin tokens begin → runs begin answer end → answer ≡ Ok value → (left : Leftover) × (leftover end ≡ Some left) →
-    IsRefused runs tokens
-whole_left {A} runs tokens begin end answer value b r e l =
+    Type 0) (closing : Span) (tokens : List Spanned) (begin end : ParseBuffer) (answer : Result A ParseFault)
+    (value : A) → IsBegin closing tokens begin → runs begin answer end → answer ≡ Ok value →
+    (left : Leftover) × (leftover end ≡ Some left) → IsRefusedWithin closing runs tokens
+whole_left {A} runs closing tokens begin end answer value b r e l =
     let P : Result A ParseFault → Type 0 = λ a. runs begin a end in
     record { begin = begin; end = end; answer = Ok value; begins = b; ran = subst P e r; refused = l }
 

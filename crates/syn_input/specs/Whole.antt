@@ -7,36 +7,47 @@ use Rattle.rust_map.specs.declared.fault.LexFault.TheVariants.{Lex}
 use Rattle.syn_error.specs.declared.fault.ParseFault.{ParseFault}
 use Rattle.syn_error.specs.declared.fault.TextFault.{TextFault}
 use Rattle.syn_error.specs.declared.fault.TextFault.TheVariants as fault
-use Rattle.syn_buffer.specs.Position.{scope, whole}
+use Rattle.rust_map.specs.Spans.{call_site}
+use Rattle.rust_map.specs.declared.span.Span.{Span}
+use Rattle.syn_buffer.specs.Position.{scope, whole_at}
 use Rattle.syn_buffer.specs.Seen.{seen}
 use Rattle.syn_input.specs.Input.{leftover, rest}
 use Rattle.syn_input.specs.declared.input.Leftover.{Leftover}
 use Rattle.syn_input.specs.declared.input.ParseBuffer.{ParseBuffer}
 
--- the tokens of the stream are to be read, all of a buffer, and nothing is left over yet
-pub record IsBegin (tokens : List Spanned) (begin : ParseBuffer) : Type 0 where
+-- the tokens of the stream are to be read, all of a buffer, at whose end that span is said; nothing is left over yet
+pub record IsBegin (closing : Span) (tokens : List Spanned) (begin : ParseBuffer) : Type 0 where
   pub tokens_are : rest begin ≡ seen tokens
-  pub list : (number : ℕ) × (end : ℕ) × (scope begin.cursor ≡ whole number end)
+  pub list : (number : ℕ) × (end : ℕ) × (scope begin.cursor ≡ whole_at closing number end)
   pub nothing_noted : begin.noted ≡ None
 
--- the parser read the value from the stream, and nothing is left over
-pub record IsRead {A : Type 0} (runs : ParseBuffer → Result A ParseFault → ParseBuffer → Type 0)
+-- the parser read the value from the stream, which stands within that span, and nothing is left over
+pub record IsReadWithin {A : Type 0} (closing : Span) (runs : ParseBuffer → Result A ParseFault → ParseBuffer → Type 0)
     (tokens : List Spanned) (value : A) : Type 0 where
   pub begin : ParseBuffer
   pub end : ParseBuffer
-  pub begins : IsBegin tokens begin
+  pub begins : IsBegin closing tokens begin
   pub ran : runs begin (Ok value) end
   pub nothing_left : leftover end ≡ None
 
--- the parser refused the stream, or left something over
-pub record IsRefused {A : Type 0} (runs : ParseBuffer → Result A ParseFault → ParseBuffer → Type 0)
-    (tokens : List Spanned) : Type 0 where
+-- the parser refused the stream, which stands within that span, or left something over
+pub record IsRefusedWithin {A : Type 0} (closing : Span)
+    (runs : ParseBuffer → Result A ParseFault → ParseBuffer → Type 0) (tokens : List Spanned) : Type 0 where
   pub begin : ParseBuffer
   pub end : ParseBuffer
   pub answer : Result A ParseFault
-  pub begins : IsBegin tokens begin
+  pub begins : IsBegin closing tokens begin
   pub ran : runs begin answer end
   pub refused : IfOk answer (λ _. (left : Leftover) × (leftover end ≡ Some left))
+
+-- by itself a stream ends at the call site
+abbrev pub IsRead : {A : Type 0} → (ParseBuffer → Result A ParseFault → ParseBuffer → Type 0) → List Spanned → A →
+    Type 0
+IsRead runs tokens value = IsReadWithin call_site runs tokens value
+
+abbrev pub IsRefused : {A : Type 0} → (ParseBuffer → Result A ParseFault → ParseBuffer → Type 0) → List Spanned →
+    Type 0
+IsRefused runs tokens = IsRefusedWithin call_site runs tokens
 
 -- a value is read from the tokens, and some are left behind it
 pub record ReadsShort {A : Type 0} (reads : List Spanned → A → List Spanned → Type 0) (tokens : List Spanned) :

@@ -32,6 +32,9 @@ pub struct ParseBuffer<'a> {
     pub(crate) alloc: Global,
 }
 
+/// A stream as parsers take it.
+pub type ParseStream<'s, 'a> = &'s mut ParseBuffer<'a>;
+
 impl<'a> ParseBuffer<'a> {
     /// A stream that is read from that place on. What it makes takes memory from the allocator.
     pub fn new(alloc: Global, begin: Cursor<'a>) -> ParseBuffer<'a>

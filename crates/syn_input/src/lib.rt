@@ -37,7 +37,7 @@ mod trees;
 pub mod within;
 
 pub use delimited::{Braces, Brackets, Delimited, Parens};
-pub use input::ParseBuffer;
+pub use input::{ParseBuffer, ParseStream};
 pub use lifetime_ext::LifetimeExt;
 pub use lookahead::Lookahead1;
 pub use parse::Parse;

@@ -15,8 +15,8 @@ impl<'a> ParseBuffer<'a> {
     /// Reads values and separators in turn to the end of the list that is read. A separator may stand behind the
     /// last value.
     ///
-    /// The fault is that of the value or of the separator that does not stand there, or that a value and a
-    /// separator were read that have no token. Want of memory says nothing of the tokens.
+    /// The fault is that of the value or of the separator that does not stand there, or that more values and
+    /// separators were read than there are tokens. Want of memory says nothing of the tokens.
     #[tactic(auto, using(crate::proofs::ReadPairs::at_end, crate::proofs::ReadPairs::not_at_end, crate::proofs::ReadPairs::past_both, crate::proofs::ReadPairs::pairs_more))]
     pub fn parse_terminated<T: Parse, P: Parse>(&mut self) -> Result<Punctuated<T, P>, ParseFault>
         ensures found { IfOk result (λ list.
@@ -28,8 +28,8 @@ impl<'a> ParseBuffer<'a> {
         ensures onward { IsOnward self.old self.new }
     {
         let mut list = Punctuated::new(self.alloc);
+        let most = self.cursor.entries_left();
         'values: while !self.is_empty() {
-            let before = self.cursor.entries_left();
             let value = self.parse::<T>()?;
             list.push_value(value)?;
             if self.is_empty() {
@@ -37,7 +37,7 @@ impl<'a> ParseBuffer<'a> {
             }
             let separator = self.parse::<P>()?;
             list.push_punct(separator)?;
-            if self.cursor.entries_left() == before {
+            if most < list.len() {
                 return Err(self.unexpected());
             }
         }

@@ -11,7 +11,8 @@ ghost use Rattle.syn_error.specs.Faults.{IsSyntax};
 ghost use Rattle.syn_error.specs.declared.fault.ParseFault.{ParseFault};
 ghost use Rattle.syn_error.specs.declared.fault.TextFault.TheVariants.{MapFull};
 ghost use Rattle.syn_input.specs.Input.{leftover, rest};
-ghost use Rattle.syn_input.specs.Whole.{IsRead, IsRefused, LeavesMap, ReadsShort, ReadsText, RefusesText};
+ghost use Rattle.syn_input.specs.Whole.{IsRead, IsReadWithin, IsRefused, IsRefusedWithin, LeavesMap, ReadsShort};
+ghost use Rattle.syn_input.specs.Whole.{ReadsText, RefusesText};
 ghost use Rattle.syn_input.specs.Whole.{reads_whole, refuses_whole};
 ghost use Rattle.syn_input.specs.declared.input.ParseBuffer.{ParseBuffer};
 
@@ -20,6 +21,7 @@ use crate::parse::Parse;
 use proc_macro2::tree::TokenStream;
 use rust_map::fault::LexFault;
 use rust_map::source_map::SourceMap;
+use rust_map::span::Span;
 use std::alloc::Global;
 use syn_buffer::buffer::TokenBuffer;
 use syn_error::fault::{ParseFault, TextFault};
@@ -50,6 +52,24 @@ pub trait Parser {
         ensures refused { IfErr result (λ e. IsSyntax e → IsRefused (Self.runs self) tokens) }
     {
         parse_stream(alloc, self, &tokens)
+    }
+
+    /// Reads a whole stream that stands within that span, as what an attribute has in its parentheses does: a fault at
+    /// the stream's end is said there. Else it is as `parse2`.
+    final fn parse_scoped(
+        self,
+        alloc: Global,
+        scope: Span,
+        tokens: TokenStream,
+    ) -> Result<Self::Output, ParseFault>
+    where
+        Self: Sized,
+        Self: Drop,
+        requires { Self.may self }
+        ensures read { IfOk result (λ x. IsReadWithin scope (Self.runs self) tokens x) }
+        ensures refused { IfErr result (λ e. IsSyntax e → IsRefusedWithin scope (Self.runs self) tokens) }
+    {
+        parse_within(alloc, self, scope, &tokens)
     }
 
     /// Reads a whole text, and puts the text behind the others of the map.
@@ -121,8 +141,22 @@ pub fn parse_stream<P: Parser + Drop>(
     ensures read { IfOk result (λ x. IsRead (P.runs parser) tokens.now x) }
     ensures refused { IfErr result (λ e. IsSyntax e → IsRefused (P.runs parser) tokens.now) }
 {
+    parse_within(alloc, parser, Span::call_site(), tokens)
+}
+
+// As `parse_stream`, of a stream that stands within that span: it is what is said at the stream's end.
+fn parse_within<P: Parser + Drop>(
+    alloc: Global,
+    parser: P,
+    closing: Span,
+    tokens: &TokenStream,
+) -> Result<P::Output, ParseFault>
+    requires { P.may parser }
+    ensures read { IfOk result (λ x. IsReadWithin closing (P.runs parser) tokens.now x) }
+    ensures refused { IfErr result (λ e. IsSyntax e → IsRefusedWithin closing (P.runs parser) tokens.now) }
+{
     let buffer = TokenBuffer::new2(alloc, tokens, 1)?;
-    let mut input = ParseBuffer::new(alloc, buffer.begin());
+    let mut input = ParseBuffer::new(alloc, buffer.begin_within(closing));
     match parser.run(&mut input) {
         Err(fault) => Err(fault),
         Ok(value) => match input.require_all() {

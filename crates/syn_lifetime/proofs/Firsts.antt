@@ -10,5 +10,6 @@ use Rattle.syn_lifetime.specs.Symbols.{is_symbol}
 pub first_of : (bs rest : List ℕ) (c : ℕ) → IsUtf8 bs → bs ≡ encode_utf8 c ++ rest → chars bs ≡ c ∷ chars rest
 first_of bs rest c u e = chars_past_char bs rest c u e
 
-pub symbol_of : (bs rest : List ℕ) (c : ℕ) → IsUtf8 bs → bs ≡ encode_utf8 c ++ rest → is_symbol (chars bs) ≡ ((c == 39) && is_identifier (chars rest))
+pub symbol_of : (bs rest : List ℕ) (c : ℕ) → IsUtf8 bs → bs ≡ encode_utf8 c ++ rest →
+    is_symbol (chars bs) ≡ ((c == 39) && is_identifier (chars rest))
 symbol_of bs rest c u e = ap is_symbol (chars_past_char bs rest c u e)

@@ -1,5 +1,7 @@
 pub mod Adding
 pub mod Behind
+pub mod BothLent
+pub mod EachOf
 pub mod Inserts
 pub mod Kept
 pub mod KeptPairs

@@ -6,7 +6,7 @@ ghost use Rattle.std.specs.Iterator.SizeHint.{IsExactHint, IsWithinCount};
 ghost use Rattle.std.specs.Borrow.{sem};
 ghost use Rattle.std.specs.Prelude.{[], ◌≡◌, IfSome, length};
 ghost use Rattle.syn_lists.specs.Left.{into_iter_left, iter_left, iter_mut_left};
-ghost use Rattle.syn_lists.specs.Lent.{lends_values};
+ghost use Rattle.syn_lists.specs.Lent.{lends_items, lends_values};
 ghost use Rattle.syn_lists.specs.Lists.{values};
 
 use crate::punctuated::Punctuated;
@@ -103,9 +103,17 @@ impl<T, P> Punctuated<T, P> {
         ensures* writes_back { sem 𝓛 (lends_values T.row P.row self.entry result) }
         ensures values { iter_mut_left result ≡ values self.old }
     {
-        IterMut {
-            rest: self.values.iter_mut(),
-        }
+        each_of(&mut self.values)
+    }
+}
+
+// The values of a vector, in order, to be changed: it then holds what was written last through each of them.
+pub(crate) fn each_of<T>(items: &mut Vec<T>) -> IterMut<'_, T>
+    ensures* writes_back { sem 𝓛 (lends_items T.row items.entry result) }
+    ensures values { iter_mut_left result ≡ items.old.items }
+{
+    IterMut {
+        rest: items.iter_mut(),
     }
 }
 

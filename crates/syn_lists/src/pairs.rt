@@ -3,12 +3,14 @@
 ghost use Rattle.std.specs.Iterator.{UpTo, YieldsFirstBy, YieldsLastBy, at_most, item_count};
 ghost use Rattle.std.specs.Iterator.SizeHint.{IsExactHint, IsWithinCount};
 ghost use Rattle.std.specs.Prelude.{◌≡◌, ◌≤◌, IfSome, length, take, vec_len};
+ghost use Rattle.std.specs.Borrow.{sem};
 ghost use Rattle.syn_lists.specs.Left.{iter_mut_left};
+ghost use Rattle.syn_lists.specs.Lent.{lends_pairs};
 ghost use Rattle.syn_lists.specs.Lists.{separators, values};
 ghost use Rattle.syn_lists.specs.PairsLeft.{into_pairs_left, pairs_left, pairs_mut_left};
 ghost use Rattle.syn_lists.specs.Pairs.{lent, lent_mut, pairs, parts};
 
-use crate::iter::IterMut;
+use crate::iter::{IterMut, each_of};
 use crate::pair::Pair;
 use crate::punctuated::Punctuated;
 use std::collections::VecDeque;
@@ -92,17 +94,15 @@ pub struct PairsMut<'a, T, P> {
 }
 
 impl<T, P> Punctuated<T, P> {
-    /// The values with the separators behind them, in order, to be changed.
+    /// The values with the separators behind them, in order, to be changed: the list then holds what was written last
+    /// through each of them.
     pub fn pairs_mut(&mut self) -> PairsMut<'_, T, P>
-        ensures { pairs_mut_left result ≡ pairs (values self.old) (separators self.old) }
+        ensures* writes_back { sem 𝓛 (lends_pairs T.row P.row self.entry result) }
+        ensures pairs { pairs_mut_left result ≡ pairs (values self.old) (separators self.old) }
     {
         PairsMut {
-            values: IterMut {
-                rest: self.values.iter_mut(),
-            },
-            separators: IterMut {
-                rest: self.separators.iter_mut(),
-            },
+            values: each_of(&mut self.values),
+            separators: each_of(&mut self.separators),
         }
     }
 }

@@ -56,6 +56,7 @@ unfolding skips rank forms top
 child_listed child.Type = record { takes = refl; low = omega arith }
 child_listed child.TypeWithoutPlus = record { takes = refl; low = omega arith }
 child_listed child.Expr = record { takes = refl; low = omega arith }
+child_listed child.PatSingle = record { takes = refl; low = omega arith }
 
 -- the list has been read up to there: what is left of it, behind these values, is what there was
 abbrev pub Turned : {A : Type 0} → (A → Tree) → (List Token → Bool) → ℕ → Kind → List A → List Token → List Token

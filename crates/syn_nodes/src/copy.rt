@@ -9,7 +9,7 @@ ghost use Rattle.syn_shape.specs.Leaves.{mark_of};
 use std::alloc::AllocError;
 use syn_kinds::punctuation::Punctuation;
 use syn_lists::Punctuated;
-use syn_shape::Copier;
+use syn_shape::{Copied, Copier};
 
 /// A copy of a list of nodes, with its separators. The error is that memory was refused.
 pub fn copy_nodes<E: Drop, C: Copier<E>, const K: usize>(
@@ -27,4 +27,22 @@ pub fn copy_nodes<E: Drop, C: Copier<E>, const K: usize>(
         copies.push(below.copy_node(node)?)?;
     }
     nodes.with_values(copies)
+}
+
+/// A copy of a list of values over the nodes, with its separators. The error is that memory was refused.
+pub fn copy_shapes<E: Drop, C: Copier<E>, S: Copied<E>, const K: usize>(
+    below: &C,
+    list: &Punctuated<S, Punctuation<K, 1>>,
+) -> Result<Punctuated<S, Punctuation<K, 1>>, AllocError>
+    requires ready { C.ready below.now }
+    ensures tree { IfOk result (λ copy. list_tree (S.shape C.tree) (mark_of K) (values copy) (separators copy)
+        ≡ list_tree (S.shape C.tree) (mark_of K) (values list.now) (separators list.now)) }
+    ensures put { IfOk result (λ copy. put_list (S.printed C.put) (put_separator K) (values copy) (separators copy)
+        ≡ put_list (S.printed C.put) (put_separator K) (values list.now) (separators list.now)) }
+{
+    let mut copies = Vec::with_capacity(list.allocator(), list.len())?;
+    for value in list.as_slice() {
+        copies.push(value.copy(below)?)?;
+    }
+    list.with_values(copies)
 }

@@ -19,9 +19,9 @@ pub use syn_buffer::{
 pub use syn_error::{Error, ErrorPlace, ParseFault, Result, TextFault, ToTokens};
 pub use syn_ext::IdentExt;
 pub use syn_input::{
-    Braces, Brackets, Delimited, LifetimeExt, Lookahead1, Parens, Parse, ParseBuffer, Parser,
-    StepCursor, fault, group, input, lists, lookahead, parse, parse_str, parse_stream, parse2,
-    parser, step, within,
+    Braces, Brackets, Delimited, LifetimeExt, Lookahead1, Parens, Parse, ParseBuffer, ParseStream,
+    Parser, StepCursor, fault, group, input, lists, lookahead, parse, parse_str, parse_stream,
+    parse2, parser, step, within,
 };
 pub use syn_kinds::{End, IdentAny, Nothing};
 pub use syn_lifetime::{Lifetime, lifetime};

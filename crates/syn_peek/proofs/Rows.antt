@@ -20,9 +20,13 @@ pub marks_one : (kind : ℕ) → marks kind 1 ≡ get_or (sign kind) 0 126 ∷ [
 marks_one kind = one_of (marks kind 1) 126 (marks_count kind 1) ∙ ap (λ c. c ∷ []) (mark_at kind 1 0 (omega arith))
 
 pub marks_two : (kind : ℕ) → marks kind 2 ≡ get_or (sign kind) 0 126 ∷ get_or (sign kind) 1 126 ∷ []
-marks_two kind = two_of (marks kind 2) 126 (marks_count kind 2) ∙ ap (λ c. c ∷ get_or (marks kind 2) 1 126 ∷ []) (mark_at kind 2 0 (omega arith)) ∙ ap (λ c. get_or (sign kind) 0 126 ∷ c ∷ []) (mark_at kind 2 1 (omega arith))
+marks_two kind =
+    two_of (marks kind 2) 126 (marks_count kind 2)
+    ∙ ap (λ c. c ∷ get_or (marks kind 2) 1 126 ∷ []) (mark_at kind 2 0 (omega arith))
+    ∙ ap (λ c. get_or (sign kind) 0 126 ∷ c ∷ []) (mark_at kind 2 1 (omega arith))
 
-pub marks_three : (kind : ℕ) → marks kind 3 ≡ get_or (sign kind) 0 126 ∷ get_or (sign kind) 1 126 ∷ get_or (sign kind) 2 126 ∷ []
+pub marks_three : (kind : ℕ) →
+    marks kind 3 ≡ get_or (sign kind) 0 126 ∷ get_or (sign kind) 1 126 ∷ get_or (sign kind) 2 126 ∷ []
 marks_three kind =
     three_of (marks kind 3) 126 (marks_count kind 3)
     ∙ ap (λ c. c ∷ get_or (marks kind 3) 1 126 ∷ get_or (marks kind 3) 2 126 ∷ []) (mark_at kind 3 0 (omega arith))

@@ -31,7 +31,8 @@ fn one_mark<'a>(cursor: Cursor<'a>, c: char) -> Option<([Span; 1], Cursor<'a>)>
 // Where the mark stands, if it stands there and is joint, and the place behind it.
 fn joint_mark<'a>(cursor: Cursor<'a>, c: char) -> Option<(Span, Cursor<'a>)>
     ensures some { IfSome result (λ r. Takes cursor.entry (spanned (token.Punct c Joint) r.0) r.1) }
-    ensures there { IfSome result (λ r. (d : ℕ) (ds : List ℕ) → marks_stand (c ∷ d ∷ ds) (left cursor.entry) ≡ marks_stand (d ∷ ds) (left r.1)) }
+    ensures there { IfSome result (λ r. (d : ℕ) (ds : List ℕ) →
+        marks_stand (c ∷ d ∷ ds) (left cursor.entry) ≡ marks_stand (d ∷ ds) (left r.1)) }
     ensures none { IfNone result ((d : ℕ) (ds : List ℕ) → marks_stand (c ∷ d ∷ ds) (left cursor.entry) ≡ false) }
 {
     match cursor.mark() {

@@ -1,15 +1,9 @@
 -- Values and separators that are read in turn.
-use Rattle.std.proofs.Common.{◌≡◌, ◌≤◌, ◌⊎◌, List, [], ◌∷◌, ◌++◌, length, refl, sym, subst, inl, inr, Result, Ok, Err}
-use Rattle.std.proofs.Common.{arith}
-use Rattle.std.proofs.lemmas.List.{length-map}
+use Rattle.std.proofs.Common.{◌≡◌, ◌⊎◌, List, [], ◌∷◌, ◌++◌, refl, sym, subst, inl, inr, Result, Ok, Err}
 use Rattle.std.proofs.lemmas.Result.{IfErr-weaker, IfOk-weaker}
 use Rattle.std.specs.Borrow.{MutBor}
-use Rattle.std.specs.Prelude.{Bool, true, false, cond, filter, IfErr, IfOk}
+use Rattle.std.specs.Prelude.{Bool, true, false, IfErr, IfOk}
 use Rattle.proc_macro2.specs.Token.{Token, Spanned, plain}
-use Rattle.syn_buffer.specs.Entries.{spanned_entries, spanned_entry}
-use Rattle.syn_buffer.specs.Position as place
-use Rattle.syn_buffer.specs.Seen.{is_seen}
-use Rattle.syn_buffer.specs.declared.position.Cursor.{Cursor}
 use Rattle.syn_error.specs.Faults.{IsSyntax}
 use Rattle.syn_error.specs.declared.fault.ParseFault.{ParseFault}
 use Rattle.syn_input.specs.Input.{rest}
@@ -18,19 +12,6 @@ use Rattle.syn_input.specs.declared.input.ParseBuffer.{ParseBuffer}
 use Rattle.syn_lists.specs.Lists.{separators, values}
 use Rattle.syn_lists.specs.declared.punctuated.Punctuated.{Punctuated}
 use Rattle.syn_read_lists.specs.ReadMany.{IsEnded, ReadsBy, ReadsMany, ReadsTurns, RefusesBy, StopsAt, StopsMany}
-
-one_more : {X : Type 0} (b : Bool) (x : X) (xs ys : List X) → length ys ≤ length xs
-    → length (cond b (x ∷ ys) ys) ≤ length (x ∷ xs)
-one_more true x xs ys h = omega arith
-one_more false x xs ys h = omega arith
-
-few_pass : {X : Type 0} (p : X → Bool) (xs : List X) → length (filter p xs) ≤ length xs
-few_pass p [] = omega arith
-few_pass p (x ∷ xs) = one_more (p x) x xs (filter p xs) (few_pass p xs)
-
--- no more tokens are left at a place than entries
-pub few_tokens : (c : Cursor) → length (place.rest c) ≤ place.ahead c
-few_tokens c = omega (arith, few_pass (λ t. is_seen t.token) (spanned_entries c.entries.now), length-map c.entries.now spanned_entry)
 
 module _ {T P : Type 0} (value : Reading T) (separator : Reading P) (ended follows : List Token → Bool) where
   abbrev Turns : List Spanned → List T → List P → List Spanned → Type 0

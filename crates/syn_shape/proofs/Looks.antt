@@ -1,17 +1,20 @@
 -- Kinds stand there exactly where the grammar's looks see them.
 use Rattle.std.proofs.Common.{◌≡◌, ◌<◌, ℕ, List, [], ◌∷◌, length, refl, sym, ap, ◌∙◌, arith}
-use Rattle.std.specs.Prelude.{Bool, true, false, not, cond, ◌==◌, ◌&&◌, ◌||◌, Option, Some, None}
+use Rattle.std.specs.Prelude.{Bool, true, false, not, codes, cond, ◌==◌, ◌&&◌, ◌||◌, Option, Some, None}
 use Rattle.rust_leaf.specs.declared.punct.Spacing.{Spacing}
 use Rattle.rust_leaf.specs.declared.punct.Spacing.TheVariants.{Joint, Alone as Apart}
 use Rattle.proc_macro2.specs.declared.delimiter.Delimiter.{Delimiter}
 use Rattle.proc_macro2.specs.Groups.{same_delimiter}
 use Rattle.proc_macro2.specs.Token.{Token, Opens, Closes, Ident, Literal, Punct}
-use Rattle.syn_kinds.specs.Stands.{word_stands, marks_stand, ident_stands, lifetime_stands, group_stands}
+use Rattle.syn_kinds.specs.Stands.{word_stands, marks_stand, ident_stands, lifetime_stands, group_stands, lit_stands}
+use Rattle.syn_kinds.specs.Stands.{literal_stands}
 use Rattle.syn_kinds.specs.Table.{marks}
 use Rattle.syn_kinds.proofs.Marks.{marks_count}
+use Rattle.syn_buffer.specs.Behind.{stands_behind}
 use Rattle.syn_buffer.specs.Stands.{end_stands}
 use Rattle.syn_grammar.specs.Look.{Look, ◌or◌, first_seen, sees, seen, past_marks, the_mark, the_word, an_ident, a_lifetime, opens}
-use Rattle.syn_grammar.specs.Look.{the_end}
+use Rattle.syn_grammar.specs.Look.{◌then◌, behind, a_literal, a_quoted, a_word, the_end}
+use Rattle.syn_grammar.specs.Words as words
 use Rattle.syn_shape.proofs.Leaves.{same_reserved}
 
 seen_cond : (b : Bool) (ts : List Token) → seen (cond b (Some ts) None) ≡ b
@@ -91,6 +94,52 @@ sees_either a b ts = by_first (a ts) (b ts)
     by_first : (o p : Option (List Token)) → seen (first_seen o p) ≡ (seen o || seen p)
     by_first (Some us) p = refl
     by_first None p = refl
+
+-- a name, and then what is looked for behind it
+pub sees_behind_ident : (l : Look) (test : List Token → Bool) → ((us : List Token) → test us ≡ sees l us)
+    → (ts : List Token) → (ident_stands ts && stands_behind test ts) ≡ sees (an_ident then l) ts
+sees_behind_ident l test h [] = refl
+sees_behind_ident l test h (Ident cs ∷ ts) =
+    ap (λ b. not b && test ts) (sym (same_reserved cs)) ∙ by_name (words.is_ident cs)
+  where
+    by_name : (b : Bool) → (b && test ts) ≡ seen (behind (cond b (Some ts) None) l)
+    by_name true = h ts
+    by_name false = refl
+sees_behind_ident l test h (Opens d ∷ ts) = refl
+sees_behind_ident l test h (Closes d ∷ ts) = refl
+sees_behind_ident l test h (Literal cs ∷ ts) = refl
+sees_behind_ident l test h (Punct c spacing ∷ ts) = refl
+
+-- a literal, true or false
+or_false : (b : Bool) → (b || false) ≡ b
+or_false true = refl
+or_false false = refl
+
+sees_bool : (ts : List Token) → (word_stands (codes "true") ts || word_stands (codes "false") ts)
+    ≡ sees (a_word words.is_bool) ts
+unfolding words.is_bool
+sees_bool [] = refl
+sees_bool (Ident cs ∷ ts) =
+    ap (λ b. words.same_text (codes "true") cs || b) (sym (or_false (words.same_text (codes "false") cs)))
+    ∙ sym (seen_cond _ ts)
+sees_bool (Opens d ∷ ts) = refl
+sees_bool (Closes d ∷ ts) = refl
+sees_bool (Literal cs ∷ ts) = refl
+sees_bool (Punct c spacing ∷ ts) = refl
+
+sees_literal : (ts : List Token) → literal_stands ts ≡ sees (a_quoted words.any_text) ts
+sees_literal [] = refl
+sees_literal (Ident cs ∷ ts) = refl
+sees_literal (Opens d ∷ ts) = refl
+sees_literal (Closes d ∷ ts) = refl
+sees_literal (Literal cs ∷ ts) = refl
+sees_literal (Punct c spacing ∷ ts) = refl
+
+pub sees_lit : (ts : List Token) → lit_stands ts ≡ sees a_literal ts
+sees_lit ts =
+    ap (λ b. b || (word_stands (codes "true") ts || word_stands (codes "false") ts)) (sees_literal ts)
+    ∙ ap (λ b. sees (a_quoted words.any_text) ts || b) (sees_bool ts)
+    ∙ sym (sees_either (a_quoted words.any_text) (a_word words.is_bool) ts)
 
 -- a punctuation of a row has a mark at least
 pub sees_row : (row n : ℕ) (ts : List Token) → 0 < n → marks_stand (marks row n) ts ≡ sees (the_mark (marks row n)) ts

@@ -20,5 +20,5 @@ pub mod shape;
 pub use exact::Exact;
 pub use leaf::Leaf;
 pub use optional::{copy_optional, optional_equality_is_by_leaf, optional_leaf};
-pub use reader::{Child, Copier, Reader};
+pub use reader::{Child, Constant, Copier, Reader};
 pub use shape::{Copied, Hub, Shape};

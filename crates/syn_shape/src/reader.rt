@@ -6,7 +6,7 @@ ghost use Rattle.syn_grammar.specs.Keeps.{kepts};
 ghost use Rattle.syn_grammar.specs.Run.{kind};
 ghost use Rattle.syn_grammar.specs.Tree.{Tree};
 ghost use Rattle.syn_input.specs.Input.{IsOnward, left};
-ghost use Rattle.syn_shape.specs.Children.{child_kind};
+ghost use Rattle.syn_shape.specs.Children.{child_kind, constant_kept};
 ghost use Rattle.syn_shape.specs.Reads.{Reads};
 
 use std::alloc::AllocError;
@@ -22,6 +22,19 @@ pub enum Child {
     TypeWithoutPlus,
     /// An expression.
     Expr,
+    /// One alternative of a pattern.
+    PatSingle,
+}
+
+/// What a constant is, where it stands among arguments or as the default of a parameter. It is held as an expression.
+#[derive(Clone, Copy, Debug)]
+pub enum Constant {
+    /// A literal, `true` or `false`.
+    Lit,
+    /// A block.
+    Block,
+    /// A name.
+    Name,
 }
 
 /// What reads the nodes further down, of the type `E` that closes the recursion.
@@ -40,6 +53,15 @@ pub trait Reader<E: Drop> {
         requires ready { ready self.now }
         requires fewer { length (left input.old) < bound self.now }
         ensures read { Reads tree result (left input.new) (kepts (kind (child_kind child)) (left input.old)) }
+        ensures shorter { OnOk result (length (left input.new) < length (left input.old)) }
+        ensures noted { OnOk result (input.new.noted ≡ input.old.noted) }
+        ensures onward { IsOnward input.old input.new };
+
+    /// Reads a constant as an expression.
+    fn constant(&self, constant: Constant, input: &mut ParseBuffer<'_>) -> Result<E, ParseFault>
+        requires ready { ready self.now }
+        requires fewer { length (left input.old) < bound self.now }
+        ensures read { Reads tree result (left input.new) (constant_kept constant (left input.old)) }
         ensures shorter { OnOk result (length (left input.new) < length (left input.old)) }
         ensures noted { OnOk result (input.new.noted ≡ input.old.noted) }
         ensures onward { IsOnward input.old input.new };

@@ -41,7 +41,7 @@ module _ (ts us rest : List Token) (entered : opened Bracket ts ≡ Inside us Br
       from_group ts (Got (Group Bracket x) rest) (group_read Bracket inside_gram ts us rest entered vs x h e)
 
 -- of the same tokens one tree is read
-one_read : (k : Kind) (ts : List Token) (x y : Tree) (r s : List Token) → IsRead k ts x r → IsRead k ts y s → x ≡ y
+pub one_read : (k : Kind) (ts : List Token) (x y : Tree) (r s : List Token) → IsRead k ts x r → IsRead k ts y s → x ≡ y
 one_read k ts x y r s p q =
     sym p.kept_is ∙ ap kept (one (ref k) p.tree q.tree r s p.derived q.derived (p.spelled ∙ sym q.spelled)).0
     ∙ q.kept_is

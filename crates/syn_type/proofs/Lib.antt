@@ -1,1 +1,3 @@
 pub mod InBrackets
+pub mod InGroups
+pub mod InParens

@@ -4,11 +4,11 @@ use Rattle.std.proofs.lemmas.Result.{err_from_is_err_and}
 use Rattle.proc_macro2.specs.Token.{plain}
 use Rattle.syn_buffer.specs.Position.{ahead}
 use Rattle.syn_input.specs.Input.{rest}
-use Rattle.syn_input.proofs.ReadPairs.{even_next, past_both}
+use Rattle.syn_input.proofs.ReadPairs.{even_next, few_tokens, past_both}
 use Rattle.syn_lists.specs.Lists.{separators, values}
 use Rattle.syn_read_lists.specs.ReadMany.{ReadsBy}
 use Rattle.syn_read_lists.specs.contracts.many.read_many.F-Fn.{words}
-use Rattle.syn_read_lists.proofs.Turns.{ends_in_value, few_tokens, read_by, refused_by, turns_next}
+use Rattle.syn_read_lists.proofs.Turns.{ends_in_value, read_by, refused_by, turns_next}
 use Rattle.syn_read_lists.proofs.many.read_many.Goals as goal
 
 pub returns-in_err-value-clause-none : goal.returns-in_err-value-clause-none

@@ -1,0 +1,175 @@
+-- The steps and the laws of lists that go to the end, of turns that have a step: of statements these are lone
+-- semicolons, of items those of files, and of arms none.
+use Rattle.std.proofs.Common.{◌≡◌, List, [], ◌∷◌, ◌++◌, refl, sym, ap, ◌∙◌, subst, append_assoc, inl, inr}
+use Rattle.std.specs.Prelude.{true, false, not}
+use Rattle.proc_macro2.specs.Token.{Token}
+use Rattle.syn_grammar.specs.Kind.{Kind, AForeignItem, AStatement, ATraitItem, AnImplItem, AnItem, Arm, Arms}
+use Rattle.syn_grammar.specs.Kind.{ForeignItems, ImplItems, Items, Position, Statements, TraitItems}
+use Rattle.syn_grammar.specs.Tree.{Tree, AMark, First, Second, End, Again, Node, flat}
+use Rattle.syn_grammar.specs.Part.{choice, each_turn_but_last}
+use Rattle.syn_grammar.specs.Gram.{Gram, ref, star}
+use Rattle.syn_grammar.specs.Look.{lacks, no, the_end}
+use Rattle.syn_grammar.specs.Say.{marks, sign, when◌read◌else◌}
+use Rattle.syn_grammar.specs.Types.{kept_if}
+use Rattle.syn_grammar.specs.Statements.{needs_semicolon}
+use Rattle.syn_grammar.specs.Ranks.{skips}
+use Rattle.syn_grammar.specs.Table.{table}
+use Rattle.syn_grammar.specs.Derives.{Derives}
+use Rattle.syn_grammar.specs.Kept.{held}
+use Rattle.syn_grammar.specs.Normal.{passed}
+use Rattle.grammar_back.specs.Covered.{has_form_step, has_step, is_known}
+use Rattle.grammar_back.specs.Sees.{Lacks}
+use Rattle.grammar_back.proofs.Classes.{Class, Sign}
+use Rattle.grammar_back.proofs.Begins.{Begins}
+use Rattle.grammar_back.proofs.FieldValues.{end_is}
+use Rattle.grammar_back.proofs.Fits.{Fits}
+use Rattle.grammar_back.proofs.Readies.{Ready, Step}
+use Rattle.grammar_back.proofs.Fine.{AtOrNone}
+use Rattle.grammar_back.proofs.Parts.{at_front, found_mark, found_ref, told_at}
+use Rattle.grammar_back.proofs.Starts.{starts}
+use Rattle.grammar_back.proofs.Printed.{KindLaw, TurnLaw, VerdictLaw, plain_law}
+
+-- a kind without a step
+unknown : (l k : Kind) → is_known l ≡ false → k ≡ l → is_known k ≡ true → ⊥
+unknown l k n e h =
+    let f : true ≡ false = sym h ∙ ap is_known e ∙ n in
+    cc f
+
+no_statement : is_known AStatement ≡ false
+unfolding has_step has_form_step
+no_statement = refl
+
+-- statements
+abbrev pub a_turn : Gram
+a_turn = when marks ";" read sign ";" else ref AStatement
+
+abbrev pub semicolon : List Class
+semicolon = Sign 59 [] ∷ []
+
+turn_read : (x : Tree) (s : List Token) → Fits x a_turn → Ready x
+    → (lacks the_end (flat x ++ s) ≡ true) × Derives x a_turn s × AtOrNone semicolon x s
+turn_read (First x) s f w =
+    let (d, i) = (found_mark {c = 59} {cs = []}).fine.by x s f.1 w tt in (
+      ap not (told_at the_end false semicolon (flat x ++ s) (λ us. refl, tt) i),
+      (told_at (marks ";") true semicolon (flat x ++ s) (λ us. refl, tt) i, d),
+      inr i,
+    )
+turn_read (Second (Node k x)) s f w = absurd (unknown AStatement k no_statement f.1.0 f.1.1)
+turn_read (Second _) s f w = absurd f.1
+turn_read _ s f w = absurd f
+
+turns_read : (x : Tree) → Fits x (star (lacks the_end) a_turn) → Ready x
+    → Derives x (star (lacks the_end) a_turn) [] × AtOrNone semicolon x []
+turns_read End f w = (refl, inl refl)
+turns_read (Again (First x) y) f w =
+    let d = (turns_read y f.1 w.1).0 in
+    let h = turn_read (First x) (flat y ++ []) f.0 w.0 in
+    let (e, i) = (found_mark {c = 59} {cs = []}).fine.by x (flat y ++ []) f.0.1 w.0 tt in
+    ((ap (lacks the_end) (append_assoc (flat x) (flat y) []) ∙ h.0, h.1, d), inr (at_front semicolon x y [] i))
+turns_read (Again (Second (Node k x)) y) f w = absurd (unknown AStatement k no_statement f.0.1.0 f.0.1.1)
+turns_read (Again (Second _) y) f w = absurd f.0.1
+turns_read (Again _ y) f w = absurd f.0
+turns_read _ f w = absurd f
+
+pub step_statements : Step Statements
+unfolding table skips
+step_statements (First x) s f n w a =
+    let (d, i) = turns_read x f.1 w in
+    subst (λ us. Derives (First x) (table Statements) us × Begins Statements (First x) us) (sym (end_is s a.0))
+    ((f.0, d), i)
+step_statements _ s f n w a = absurd f
+
+turns_pass : (x : Tree) → Fits x (star (lacks the_end) a_turn)
+    → each_turn_but_last (λ y. not (needs_semicolon (choice y))) x ≡ true
+turns_pass (Again (First (AMark c cs spacing)) (Again y z)) f = turns_pass (Again y z) f.1
+turns_pass (Again (First _) (Again y z)) f = absurd f.0.1
+turns_pass (Again (Second (Node k x)) (Again y z)) f = absurd (unknown AStatement k no_statement f.0.1.0 f.0.1.1)
+turns_pass (Again (Second _) (Again y z)) f = absurd f.0.1
+turns_pass (Again _ (Again y z)) f = absurd f.0
+turns_pass _ f = refl
+
+turns_verdict : (q : Position) → VerdictLaw q
+    (λ x. kept_if (each_turn_but_last (λ y. not (needs_semicolon (choice y))) x))
+    (star (lacks the_end) a_turn)
+turns_verdict q x w r c d f e h = ap kept_if (turns_pass w f)
+
+turn_stays : TurnLaw a_turn
+turn_stays (First (AMark c cs spacing)) f = refl
+turn_stays (First _) f = absurd f.1
+turn_stays (Second (Node k x)) f = absurd (unknown AStatement k no_statement f.1.0 f.1.1)
+turn_stays (Second _) f = absurd f.1
+turn_stays _ f = absurd f
+
+pub law_statements : KindLaw Statements
+unfolding has_step held passed table
+law_statements =
+    plain_law Statements refl (λ x. tt) (λ x. refl) (λ x. refl) (λ q. refl)
+    (λ q l. (turns_verdict _, (turn_stays, (tt, tt))))
+
+-- lists of one kind, as long as that has no step
+list_read : (l : Kind) → is_known l ≡ false → (x : Tree) (s : List Token) → Fits x (star (lacks the_end) (ref l))
+    → Lacks (no the_end) s → Derives x (star (lacks the_end) (ref l)) s × (flat x ≡ [])
+list_read l n End s f a = (subst (λ us. lacks the_end us ≡ false) (sym (end_is s a)) refl, refl)
+list_read l n (Again (Node k x) y) s f a = absurd (unknown l k n f.0.0 f.0.1)
+list_read l n (Again _ y) s f a = absurd f.0
+list_read l n _ s f a = absurd f
+
+node_stays : (l : Kind) → TurnLaw (ref l)
+node_stays l (Node k x) f = refl
+node_stays l _ f = absurd f
+
+pub step_arms : Step Arms
+unfolding table skips has_step has_form_step
+step_arms x s f n w a = let (d, e) = list_read Arm refl x s f a.0 in (d, inl e)
+
+-- items, which have one
+items_read : (x : Tree) → Fits x (star (lacks the_end) (ref AnItem)) → Ready x
+    → Derives x (star (lacks the_end) (ref AnItem)) [] × AtOrNone (starts AnItem) x []
+unfolding skips
+items_read End f w = (refl, inl refl)
+items_read (Again x y) f w =
+    let d = (items_read y f.1 w.1).0 in
+    let (u, i) = (found_ref AnItem refl).fine.by x (flat y ++ []) f.0 w.0 tt in
+    let j = at_front (starts AnItem) x y [] i in
+    ((ap not (told_at the_end false (starts AnItem) ((flat x ++ flat y) ++ []) (search) j), u, d), inr j)
+items_read _ f w = absurd f
+
+pub step_items : Step Items
+unfolding table skips
+step_items x s f n w a =
+    subst (λ us. Derives x (table Items) us × Begins Items x us) (sym (end_is s a.0)) (items_read x f w)
+
+pub step_foreign_items : Step ForeignItems
+unfolding table skips has_step has_form_step
+step_foreign_items x s f n w a = let (d, e) = list_read AForeignItem refl x s f a.0 in (d, inl e)
+
+pub step_trait_items : Step TraitItems
+unfolding table skips has_step has_form_step
+step_trait_items x s f n w a = let (d, e) = list_read ATraitItem refl x s f a.0 in (d, inl e)
+
+pub step_impl_items : Step ImplItems
+unfolding table skips has_step has_form_step
+step_impl_items x s f n w a = let (d, e) = list_read AnImplItem refl x s f a.0 in (d, inl e)
+
+pub law_arms : KindLaw Arms
+unfolding has_step held passed table
+law_arms = plain_law Arms refl (λ x. tt) (λ x. refl) (λ x. refl) (λ q. refl) (λ q l. (node_stays Arm, tt))
+
+pub law_items : KindLaw Items
+unfolding has_step held passed table
+law_items = plain_law Items refl (λ x. tt) (λ x. refl) (λ x. refl) (λ q. refl) (λ q l. (node_stays AnItem, tt))
+
+pub law_foreign_items : KindLaw ForeignItems
+unfolding has_step held passed table
+law_foreign_items =
+    plain_law ForeignItems refl (λ x. tt) (λ x. refl) (λ x. refl) (λ q. refl) (λ q l. (node_stays AForeignItem, tt))
+
+pub law_trait_items : KindLaw TraitItems
+unfolding has_step held passed table
+law_trait_items =
+    plain_law TraitItems refl (λ x. tt) (λ x. refl) (λ x. refl) (λ q. refl) (λ q l. (node_stays ATraitItem, tt))
+
+pub law_impl_items : KindLaw ImplItems
+unfolding has_step held passed table
+law_impl_items =
+    plain_law ImplItems refl (λ x. tt) (λ x. refl) (λ x. refl) (λ q. refl) (λ q l. (node_stays AnImplItem, tt))

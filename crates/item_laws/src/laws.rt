@@ -1,0 +1,61 @@
+//! Laws of items and of raw tokens: each is the contract of a function that does nothing.
+
+ghost use Rattle.item_laws.specs.Raws.{HasRaw, IsSetApart};
+ghost use Rattle.item_laws.specs.Readers.{item_parts, ItemParts, Reader, ReadsItem, trait_reader};
+ghost use Rattle.item_laws.specs.Visible.{AllVisible};
+ghost use Rattle.proc_macro2.specs.Spacing.{IsWellSpaced};
+ghost use Rattle.proc_macro2.specs.Token.{Token};
+ghost use Rattle.std.specs.Prelude.{◌≡◌, ◌⊎◌, ℕ, Bool, List, ◌++◌};
+ghost use Rattle.syn_grammar.specs.Derives.{Derives};
+ghost use Rattle.syn_grammar.specs.Gram.{Gram};
+ghost use Rattle.syn_grammar.specs.Kept.{kept};
+ghost use Rattle.syn_grammar.specs.Kind.{AnItem, ATrait, Kind};
+ghost use Rattle.syn_grammar.specs.Look.{past_closing};
+ghost use Rattle.syn_grammar.specs.Name.{the_equals};
+ghost use Rattle.syn_grammar.specs.Normal.{normal};
+ghost use Rattle.syn_grammar.specs.Part.{has};
+ghost use Rattle.syn_grammar.specs.Read.{IsDerived};
+ghost use Rattle.syn_grammar.specs.Tree.{flat, Node, Tree};
+
+/// Raw tokens, whole items and the insides of groups, stand in what is kept as they were read, spacing included; and in
+/// normal form as they were kept, but for the last mark of a raw item that is set apart.
+pub fn raws_stay()
+    ensures kept { (x : Tree) (ts : List Token) → HasRaw ts (kept x) → HasRaw ts x }
+    ensures normal { (x : Tree) (ts : List Token) → HasRaw ts (normal x) → HasRaw ts x ⊎ IsSetApart ts x }
+{}
+
+/// Well spaced tokens hold no invisible group, and where the tokens that were read hold none, those of the normal form
+/// don't either.
+pub fn none_invisible()
+    ensures spaced { (ts : List Token) → IsWellSpaced ts → AllVisible ts }
+    ensures printed { (x : Tree) → AllVisible (flat x) → AllVisible (flat (normal (kept x))) }
+{}
+
+/// Where the reader of one kind of item reads one, the reader of all items reads one of the same attributes,
+/// visibility and form, before the same rest; and where that reads an item of this kind that isn't raw, so does the
+/// reader of the kind.
+pub fn item_readers()
+    ensures alone { (k l : Kind) (ts : List Token) (tree : Tree) (rest : List Token) → Reader k l
+        → IsDerived k ts tree rest → (o : Tree) × (v : Tree) × (x : Tree)
+        × (item_parts tree ≡ ItemParts o v (Node l x)) × ReadsItem AnItem ts o v (Node l x) rest }
+    ensures among { (k l : Kind) (ts : List Token) (o v x : Tree) (rest : List Token) → Reader k l
+        → ReadsItem AnItem ts o v (Node l x) rest → ReadsItem k ts o v (Node l x) rest }
+{}
+
+/// The same of the readers of traits and of aliases of traits, which have one form: the alias has a `=`.
+pub fn trait_readers()
+    ensures alone { (is_alias : Bool) (ts : List Token) (tree : Tree) (rest : List Token)
+        → IsDerived (trait_reader is_alias) ts tree rest → (o : Tree) × (v : Tree) × (x : Tree)
+        × (item_parts tree ≡ ItemParts o v (Node ATrait x)) × (has the_equals x ≡ is_alias)
+        × ReadsItem AnItem ts o v (Node ATrait x) rest }
+    ensures among { (is_alias : Bool) (ts : List Token) (o v x : Tree) (rest : List Token)
+        → has the_equals x ≡ is_alias → ReadsItem AnItem ts o v (Node ATrait x) rest
+        → ReadsItem (trait_reader is_alias) ts o v (Node ATrait x) rest }
+{}
+
+/// A look that goes to where open groups close passes the tokens of a tree whole, those of a raw item too, whatever
+/// stands behind them.
+pub fn trees_pass()
+    ensures { (tree : Tree) (g : Gram) (rest : List Token) → Derives tree g rest → (n : ℕ) (ts : List Token)
+        → past_closing n (flat tree ++ ts) ≡ past_closing n ts }
+{}

@@ -1,0 +1,15 @@
+pub mod Settled
+pub mod Split
+pub mod Indices
+pub mod Dots
+pub mod Semicolons
+pub mod Blocks
+pub mod Held
+pub mod Owned
+pub mod Follow
+pub mod Paths
+pub mod Parts
+pub mod Wholes
+pub mod Forms
+pub mod ReadBack
+pub mod Examples

@@ -1,0 +1,395 @@
+-- The own parts of an expression that fits, and whose parts are read back, are read wherever their forms may stand.
+use Rattle.std.proofs.Common.{◌≡◌, ℕ, List, [], ◌∷◌, ◌++◌, refl, sym, ap, ◌∙◌, subst, append_assoc, ⊎_elim, inl, inr}
+use Rattle.std.specs.Prelude.{zero, suc, Bool, true, false, not, ◌&&◌, ◌||◌, Some, codes}
+use Rattle.std.proofs.lemmas.List.{append-nil}
+use Rattle.proc_macro2.specs.Token.{Token, Opens, Ident}
+use Rattle.proc_macro2.specs.declared.delimiter.Delimiter.TheVariants.{Parenthesis, Brace}
+use Rattle.rust_leaf.specs.declared.punct.Spacing.TheVariants.{Alone as Apart}
+use Rattle.syn_grammar.specs.Kind.{Kind, Position, Plain, Expression, ExprLit, ExprPath, ExprContinue}
+use Rattle.syn_grammar.specs.Kind.{ExprStruct, InCondition, InArm, InStatement, ExprParen, ExprGroup, ExprInfer}
+use Rattle.syn_grammar.specs.Kind.{ExprUnsafe, ExprTryBlock, ExprCall, ExprMethodCall, ExprField, ExprAwait}
+use Rattle.syn_grammar.specs.Kind.{ExprIndex, ExprTry}
+use Rattle.syn_grammar.specs.Kind.{ExprUnary, ExprRawAddr}
+use Rattle.syn_grammar.specs.Kind.{ExprReference, ExprBreak, ExprReturn, ExprYield, ExprRange, ExprRangeClosed}
+use Rattle.syn_grammar.specs.Kind.{ExprAssign, ExprOr, ExprAnd, ExprCompare, ExprBitOr, ExprBitXor, ExprBitAnd}
+use Rattle.syn_grammar.specs.Kind.{ExprShift, ExprSum, ExprProduct}
+use Rattle.syn_grammar.specs.Kind.{ExprArray, ExprAsync, ExprBlock, ExprConst, ExprLet, ExprLoop, ExprRepeat}
+use Rattle.syn_grammar.specs.Tree.{Tree, Alone, Front, Back, Infix, marks, flat}
+use Rattle.syn_grammar.specs.Words.{is_bool, is_reserved}
+use Rattle.syn_grammar.specs.Look.{sees}
+use Rattle.syn_grammar.specs.Derives.{Derives}
+use Rattle.syn_grammar.specs.Ranks.{skips}
+use Rattle.syn_grammar.specs.Table.{table}
+use Rattle.syn_grammar.specs.Kept.{kept}
+use Rattle.syn_grammar.specs.Normal.{normal}
+use Rattle.syn_grammar.specs.Forms.{fronts, front, back, level, inside}
+use Rattle.syn_grammar.specs.Parens.{may_lack, follow, is_struct, stands_in}
+use Rattle.syn_grammar.proofs.Settled.{Settled}
+use Rattle.binding_laws.proofs.Begun.{is_front, first_passes}
+use Rattle.binding_laws.proofs.Shells.{is_dot}
+use Rattle.binding_laws.proofs.Sights.{is_back, backs_are}
+use Rattle.expressions_back.specs.Behind.{no_operand, is_attributed, AtEnd, BeforeOperand, BehindOperand}
+use Rattle.expressions_back.specs.Firm.{is_firm_front, is_firm_behind, IsOwn}
+use Rattle.expressions_back.specs.Formed.{IsFront, IsBehind, ends_by_itself, is_attributed_form}
+use Rattle.expressions_back.specs.Formed.{may_lack_operand, may_have_operand}
+use Rattle.expressions_back.specs.Simple.{is_break, is_reference}
+use Rattle.expressions_back.proofs.Names.{end}
+use Rattle.expressions_back.proofs.Opened.{fixed_right}
+use Rattle.expressions_back.proofs.Owns.{behind_part}
+use Rattle.expressions_back.proofs.Simples.{end_front, prefix_front, prefix_plain, behind_plain}
+use Rattle.grammar_back.specs.After.{After}
+use Rattle.grammar_back.specs.Covered.{has_form_step, is_form}
+use Rattle.grammar_back.proofs.Begins.{Begins}
+use Rattle.grammar_back.proofs.Classes.{Class, Sign, TheWord, AnyWord, Quoted, Tick, Opening, Then, IsAt, IsAmong}
+use Rattle.grammar_back.proofs.Classes.{of_all}
+use Rattle.grammar_back.proofs.Fits.{Fits, FitsForms, HasOperands, IsFrontKind, IsMeant, IsWhole, MayLack, MayHave}
+use Rattle.grammar_back.proofs.Fits.{flat_kept}
+use Rattle.grammar_back.proofs.Readies.{OwnReady, Ready}
+use Rattle.grammar_back.proofs.Starts.{starts}
+use Rattle.read_back.proofs.Blocks.{block_part, is_block, let_part}
+use Rattle.read_back.proofs.Dots.{dot_own}
+use Rattle.read_back.proofs.Owned.{Owned}
+use Rattle.read_back.proofs.Paths.{path_part}
+
+-- the kinds
+abbrev is_let : Kind → Bool
+is_let ExprLet = true
+is_let k = false
+
+fronts_are : (p : Position) (k : Kind) (ts : List Token) → front p ts ≡ Some k → is_front k ≡ true
+unfolding front
+fronts_are p k ts e = first_passes is_front (fronts p) ts k refl e
+
+front_kind : (k : Kind) → is_form k ≡ true → is_front k ≡ true → may_have_operand k ≡ true
+    → (is_let k || (is_firm_front k || is_break k || is_reference k)) ≡ true
+unfolding has_form_step may_lack level
+front_kind ExprUnary e f h = refl
+front_kind _ e f h = cc
+
+abbrev is_path : Kind → Bool
+is_path ExprPath = true
+is_path k = false
+
+abbrev is_continue : Kind → Bool
+is_continue ExprContinue = true
+is_continue k = false
+
+alone_kind : (k : Kind) → is_form k ≡ true → is_front k ≡ true → may_lack_operand k ≡ true
+    → (is_path k || (is_continue k || (is_block k || (is_firm_front k || is_break k)))) ≡ true
+unfolding has_form_step may_lack level
+alone_kind ExprLit e f h = refl
+alone_kind _ e f h = cc
+
+back_kind : (k : Kind) → is_form k ≡ true → is_back k ≡ true → (is_struct k || (is_dot k || is_firm_behind k)) ≡ true
+unfolding has_form_step
+back_kind ExprCall e f = refl
+back_kind _ e f = cc
+
+infix_kind : (k : Kind) → is_form k ≡ true → is_back k ≡ true → may_have_operand k ≡ true → is_firm_behind k ≡ true
+unfolding has_form_step may_lack level
+infix_kind ExprSum e f h = refl
+infix_kind _ e f h = cc
+
+-- whether they have an operand behind them
+not_false : (b : Bool) → not b ≡ false → b ≡ true
+not_false true e = refl
+not_false false e = cc
+
+lacks : (k : Kind) → MayLack k → may_lack_operand k ≡ true
+lacks k h = go (may_lack k) refl
+  where
+    go : (b : Bool) → may_lack k ≡ b → may_lack_operand k ≡ true
+    go true m = ap (λ b. b || ends_by_itself k) m
+    go false m =
+        ap (λ b. b || ends_by_itself k) m
+        ∙ not_false (ends_by_itself k) (sym (fixed_right Plain k [] m) ∙ h)
+
+has_one : (k : Kind) → MayHave k → may_have_operand k ≡ true
+has_one k h = go (may_lack k) refl
+  where
+    go : (b : Bool) → may_lack k ≡ b → may_have_operand k ≡ true
+    go true m = ap (λ b. b || not (ends_by_itself k)) m
+    go false m =
+        ap (λ b. b || not (ends_by_itself k)) m
+        ∙ (sym (fixed_right Plain k (Opens Parenthesis ∷ []) m) ∙ h)
+
+-- nothing may follow
+before_nothing : (k : Kind) (y : Tree) → is_form k ≡ true → After k y []
+unfolding has_form_step
+before_nothing ExprLit y e = tt
+before_nothing ExprPath y e = (refl, (refl, tt))
+before_nothing ExprContinue y e = (refl, tt)
+before_nothing ExprStruct y e = tt
+before_nothing ExprParen y e = tt
+before_nothing ExprArray y e = tt
+before_nothing ExprRepeat y e = tt
+before_nothing ExprGroup y e = tt
+before_nothing ExprInfer y e = tt
+before_nothing ExprBlock y e = tt
+before_nothing ExprUnsafe y e = tt
+before_nothing ExprAsync y e = tt
+before_nothing ExprConst y e = tt
+before_nothing ExprTryBlock y e = tt
+before_nothing ExprLoop y e = tt
+before_nothing ExprCall y e = tt
+before_nothing ExprMethodCall y e = tt
+before_nothing ExprField y e = tt
+before_nothing ExprAwait y e = tt
+before_nothing ExprIndex y e = tt
+before_nothing ExprTry y e = tt
+before_nothing ExprUnary y e = tt
+before_nothing ExprRawAddr y e = tt
+before_nothing ExprReference y e = (refl, tt)
+before_nothing ExprLet y e = tt
+before_nothing ExprBreak y e = (refl, (refl, tt))
+before_nothing ExprReturn y e = tt
+before_nothing ExprYield y e = tt
+before_nothing ExprRange y e = tt
+before_nothing ExprRangeClosed y e = tt
+before_nothing ExprAssign y e = tt
+before_nothing ExprOr y e = tt
+before_nothing ExprAnd y e = tt
+before_nothing ExprCompare y e = tt
+before_nothing ExprBitOr y e = tt
+before_nothing ExprBitXor y e = tt
+before_nothing ExprBitAnd y e = tt
+before_nothing ExprShift y e = tt
+before_nothing ExprSum y e = tt
+before_nothing ExprProduct y e = tt
+before_nothing _ y e = cc
+
+own : (k : Kind) (y : Tree) → is_form k ≡ true → Fits y (table k) → OwnReady k y → normal (kept y) ≡ kept y → IsOwn k y
+own k y e f w n = ((w [] (before_nothing k y e)).0, ap flat n ∙ flat_kept y (table k) f)
+
+-- continue, and the braces of a struct
+continue_front : (p : Position) (us : List Token)
+    → (front p (Ident (codes "continue") ∷ us) ≡ Some ExprContinue)
+    × (sees no_operand (Ident (codes "continue") ∷ us) ≡ false)
+unfolding front is_bool is_reserved
+continue_front Plain us = (refl, refl)
+continue_front InCondition us = (refl, refl)
+continue_front InArm us = (refl, refl)
+continue_front InStatement us = (refl, refl)
+
+continue_part : (y : Tree) → OwnReady ExprContinue y → flat (normal (kept y)) ≡ flat y → IsFront AtEnd ExprContinue y
+unfolding skips
+continue_part y w n = record {
+  begins = λ p ts s e. (at_word p ts (read ts e).1).0;
+  read = λ ts e. (read ts e).0;
+  held = n;
+  single = λ ts e. (at_word Plain ts (read ts e).1).1;
+}
+  where
+    read : (ts : List Token) → AtEnd ts → Derives y (table ExprContinue) ts
+        × IsAmong (TheWord (codes "continue") ∷ []) (flat y ++ ts)
+    read ts e = w ts ((end ts e).lifetime, tt)
+
+    at_word : (p : Position) (ts : List Token) → IsAmong (TheWord (codes "continue") ∷ []) (flat y ++ ts)
+        → (front p (flat y ++ ts) ≡ Some ExprContinue) × (sees no_operand (flat y ++ ts) ≡ false)
+    at_word p ts i =
+        of_all (λ us. (front p us ≡ Some ExprContinue) × (sees no_operand us ≡ false))
+        (TheWord (codes "continue") ∷ []) (flat y ++ ts) ((λ us. continue_front p us), tt) i
+
+brace_back : (p : Position) (us : List Token) → stands_in p ExprStruct ≡ true
+    → back p (Opens Brace ∷ us) ≡ Some ExprStruct
+unfolding back
+brace_back Plain us s = refl
+brace_back InCondition us s = cc
+brace_back InArm us s = refl
+brace_back InStatement us s = refl
+
+struct_part : (y : Tree) → OwnReady ExprStruct y → flat (normal (kept y)) ≡ flat y
+    → IsBehind (BehindOperand ExprStruct y) ExprStruct y
+unfolding skips
+struct_part y w n = record {
+  goes_on = λ p ts s m. of_all (λ us. back p us ≡ Some ExprStruct) (Opening Brace ∷ []) (flat y ++ ts)
+      ((λ us. brace_back p us s), tt) (w ts tt).1;
+  read = λ ts m. (w ts tt).0;
+  held = n;
+}
+
+last_own : (k : Kind) (y : Tree) → (is_dot k || is_firm_behind k) ≡ true → Fits y (table k) → IsMeant k y → IsWhole k y
+    → OwnReady k y → IsOwn k y → IsBehind (BehindOperand k y) k y
+last_own k y m f i h w o = go (is_dot k) refl m
+  where
+    go : (b : Bool) → is_dot k ≡ b → (b || is_firm_behind k) ≡ true → IsBehind (BehindOperand k y) k y
+    go true e m = dot_own k y e f i h w o.1
+    go false e m = behind_part (BehindOperand k y) k y m o
+
+back_own : (k : Kind) (y : Tree) → (is_struct k || (is_dot k || is_firm_behind k)) ≡ true → Fits y (table k)
+    → IsMeant k y → IsWhole k y → OwnReady k y → IsOwn k y → IsBehind (BehindOperand k y) k y
+back_own ExprStruct y m f i h w o = struct_part y w o.1
+back_own k y m f i h w o = last_own k y m f i h w o
+
+end_own : (k : Kind) (y : Tree) → (is_block k || (is_firm_front k || is_break k)) ≡ true → Fits y (table k)
+    → OwnReady k y → IsOwn k y → IsFront AtEnd k y
+end_own k y m f w o = go (is_block k) refl m
+  where
+    go : (b : Bool) → is_block k ≡ b → (b || (is_firm_front k || is_break k)) ≡ true → IsFront AtEnd k y
+    go true e m = block_part k y e f w o.1
+    go false e m = end_front k y m o
+
+alone_own : (k : Kind) (y : Tree)
+    → (is_path k || (is_continue k || (is_block k || (is_firm_front k || is_break k)))) ≡ true → Fits y (table k)
+    → OwnReady k y → IsOwn k y → IsFront AtEnd k y
+alone_own ExprPath y m f w o = path_part y w o.1
+alone_own ExprContinue y m f w o = continue_part y w o.1
+alone_own k y m f w o = end_own k y m f w o
+
+front_own : (k : Kind) (y : Tree) → (is_let k || (is_firm_front k || is_break k || is_reference k)) ≡ true
+    → OwnReady k y
+    → IsOwn k y → IsFront (BeforeOperand k y) k y
+front_own ExprLet y m w o = let_part y w o.1
+front_own k y m w o = prefix_front k y m o
+
+front_plain : (k : Kind) (x : Tree) → (is_let k || (is_firm_front k || is_break k || is_reference k)) ≡ true
+    → (is_attributed k && is_attributed_form x) ≡ false
+front_plain ExprLet x m = refl
+front_plain k x m = prefix_plain k x m
+
+pub owned : (x : Tree) → FitsForms x → HasOperands x → Ready x → (p : Position) (ts : List Token)
+    → Settled p ts (kept x) → Owned x
+owned (Alone k y) h o w p ts s =
+    let l = lacks k o.1 in
+    let m = alone_kind k o.0.0 (fronts_are o.0.1 k o.0.2 o.0.3) l in
+    (alone_own k y m h.1 w (own k y o.0.0 h.1 w s.0), l)
+owned (Front k y x) h o w p ts s =
+    let m = front_kind k o.0.0 (fronts_are o.0.1 k o.0.2 o.0.3) (has_one k o.1) in (
+      front_own k y m w.0 (own k y o.0.0 h.1 w.0 s.0),
+      has_one k o.1,
+      front_plain k x m,
+      owned x h.3 o.2 w.1 (inside p k) ts s.3,
+    )
+owned (Back l k y) h o w p ts s =
+    let t : Settled p ts (Back (kept l) k (kept y)) = subst (Settled p ts) (h.3 (kept l)) s in
+    let m = back_kind k o.0.0 (backs_are o.0.1 k o.0.2 o.0.3) in (
+      back_own k y m h.1 h.2 h.3 w.1 (own k y o.0.0 h.1 w.1 t.0),
+      lacks k o.1,
+      o.3,
+      owned l h.4 o.2 w.0 p (follow (flat (kept y))) t.4,
+    )
+owned (Infix l k y r) h o w p ts s =
+    let m = infix_kind k o.0.0 (backs_are o.0.1 k o.0.2 o.0.3) (has_one k o.1) in (
+      behind_part (BeforeOperand k y) k y m (own k y o.0.0 h.1 w.1 s.0),
+      has_one k o.1,
+      behind_plain k m,
+      owned l h.3 o.2 w.0 p (follow (flat (kept y))) s.2,
+      owned r h.4 o.3 w.2 (inside p k) ts s.4,
+    )
+owned _ h o w p ts s = absurd h
+
+-- What an expression begins with: where a class stands among others,
+abbrev IsThe : ℕ → Class → List Class → Type 0
+IsThe zero c (d ∷ ds) = c ≡ d
+IsThe (suc n) c (d ∷ ds) = IsThe n c ds
+IsThe n c [] = ⊥
+
+abbrev AreThe : List ℕ → List Class → List Class → Type 0
+AreThe (n ∷ ns) (c ∷ cs) ds = IsThe n c ds × AreThe ns cs ds
+AreThe ns [] ds = Unit {0}
+AreThe [] (c ∷ cs) ds = ⊥
+
+one_among : (n : ℕ) (c : Class) (ds : List Class) (ts : List Token) → IsThe n c ds → IsAt c ts → IsAmong ds ts
+one_among zero c (d ∷ ds) ts e i = inl (subst (λ b. IsAt b ts) e i)
+one_among (suc n) c (d ∷ ds) ts e i = inr (one_among n c ds ts e i)
+one_among zero c [] ts e i = absurd e
+one_among (suc n) c [] ts e i = absurd e
+
+among : (ns : List ℕ) (cs ds : List Class) (ts : List Token) → AreThe ns cs ds → IsAmong cs ts → IsAmong ds ts
+among (n ∷ ns) (c ∷ cs) ds ts e i =
+    ⊎_elim (λ j. one_among n c ds ts e.0 j) (λ j. among ns cs ds ts e.1 j) i
+among [] (c ∷ cs) ds ts e i = absurd e
+among (n ∷ ns) [] ds ts e i = absurd i
+among [] [] ds ts e i = absurd i
+
+-- the same before more,
+at_more : (c : Class) (ts us : List Token) → IsAt c ts → IsAt c (ts ++ us)
+at_more (Sign c cs) ts us i =
+    (i.0 ++ us, ap (λ vs. vs ++ us) i.1 ∙ append_assoc (marks c cs Apart) i.0 us)
+at_more (TheWord cs) ts us i = (i.0 ++ us, ap (λ vs. vs ++ us) i.1)
+at_more (AnyWord p) ts us i = (i.0, i.1 ++ us, i.2, ap (λ vs. vs ++ us) i.3)
+at_more (Quoted p) ts us i = (i.0, i.1 ++ us, i.2, ap (λ vs. vs ++ us) i.3)
+at_more Tick ts us i = (i.0, i.1 ++ us, ap (λ vs. vs ++ us) i.2)
+at_more (Opening d) ts us i = (i.0 ++ us, ap (λ vs. vs ++ us) i.1)
+at_more (Then c cs k) ts us i =
+    (i.0 ++ us, ap (λ vs. vs ++ us) i.1 ∙ append_assoc (marks c cs Apart) i.0 us, at_more k i.0 us i.2)
+
+more_among : (cs : List Class) (ts us : List Token) → IsAmong cs ts → IsAmong cs (ts ++ us)
+more_among [] ts us i = absurd i
+more_among (c ∷ cs) ts us i = ⊎_elim (λ j. inl (at_more c ts us j)) (λ j. inr (more_among cs ts us j)) i
+
+-- and of each form in front.
+form_begins : (k : Kind) (y : Tree) (s : List Token) → is_form k ≡ true → is_front k ≡ true → Begins k y s
+    → IsAmong (starts (Expression Plain)) (flat y ++ s)
+unfolding has_form_step skips
+form_begins ExprLit y s e f b =
+    among (1 ∷ 7 ∷ 8 ∷ []) (starts ExprLit) (starts (Expression Plain)) (flat y ++ s) (refl, (refl, (refl, tt))) b
+form_begins ExprPath y s e f b =
+    among (33 ∷ 41 ∷ 42 ∷ 43 ∷ 39 ∷ 40 ∷ 36 ∷ 37 ∷ 38 ∷ 34 ∷ 35 ∷ []) (starts ExprPath) (starts (Expression Plain))
+    (flat y ++ s) (
+      refl,
+      (refl, (refl, (refl, (refl, (refl, (refl, (refl, (refl, (refl, (refl, tt)))))))))),
+    ) b
+form_begins ExprContinue y s e f b =
+    among (21 ∷ []) (starts ExprContinue) (starts (Expression Plain)) (flat y ++ s) (refl, tt) b
+form_begins ExprParen y s e f b =
+    among (4 ∷ []) (starts ExprParen) (starts (Expression Plain)) (flat y ++ s) (refl, tt) b
+form_begins ExprArray y s e f b =
+    among (5 ∷ []) (starts ExprArray) (starts (Expression Plain)) (flat y ++ s) (refl, tt) b
+form_begins ExprRepeat y s e f b =
+    among (5 ∷ []) (starts ExprRepeat) (starts (Expression Plain)) (flat y ++ s) (refl, tt) b
+form_begins ExprBlock y s e f b =
+    among (2 ∷ 3 ∷ []) (starts ExprBlock) (starts (Expression Plain)) (flat y ++ s) (refl, (refl, tt)) b
+form_begins ExprAsync y s e f b =
+    among (15 ∷ []) (starts ExprAsync) (starts (Expression Plain)) (flat y ++ s) (refl, tt) b
+form_begins ExprConst y s e f b =
+    among (14 ∷ []) (starts ExprConst) (starts (Expression Plain)) (flat y ++ s) (refl, tt) b
+form_begins ExprLoop y s e f b =
+    among (2 ∷ 9 ∷ []) (starts ExprLoop) (starts (Expression Plain)) (flat y ++ s) (refl, (refl, tt)) b
+form_begins ExprLet y s e f b =
+    among (25 ∷ []) (starts ExprLet) (starts (Expression Plain)) (flat y ++ s) (refl, tt) b
+form_begins ExprGroup y s e f b =
+    among (6 ∷ []) (starts ExprGroup) (starts (Expression Plain)) (flat y ++ s) (refl, tt) b
+form_begins ExprInfer y s e f b =
+    among (17 ∷ []) (starts ExprInfer) (starts (Expression Plain)) (flat y ++ s) (refl, tt) b
+form_begins ExprUnsafe y s e f b =
+    among (16 ∷ []) (starts ExprUnsafe) (starts (Expression Plain)) (flat y ++ s) (refl, tt) b
+form_begins ExprTryBlock y s e f b =
+    among (18 ∷ []) (starts ExprTryBlock) (starts (Expression Plain)) (flat y ++ s) (refl, tt) b
+form_begins ExprUnary y s e f b =
+    among (28 ∷ 29 ∷ 30 ∷ []) (starts ExprUnary) (starts (Expression Plain)) (flat y ++ s) (refl, (refl, (refl, tt))) b
+form_begins ExprRawAddr y s e f b =
+    among (27 ∷ []) (starts ExprRawAddr) (starts (Expression Plain)) (flat y ++ s) (refl, tt) b
+form_begins ExprReference y s e f b =
+    among (27 ∷ []) (starts ExprReference) (starts (Expression Plain)) (flat y ++ s) (refl, tt) b
+form_begins ExprBreak y s e f b =
+    among (22 ∷ []) (starts ExprBreak) (starts (Expression Plain)) (flat y ++ s) (refl, tt) b
+form_begins ExprReturn y s e f b =
+    among (23 ∷ []) (starts ExprReturn) (starts (Expression Plain)) (flat y ++ s) (refl, tt) b
+form_begins ExprYield y s e f b =
+    among (24 ∷ []) (starts ExprYield) (starts (Expression Plain)) (flat y ++ s) (refl, tt) b
+form_begins ExprRange y s e f b =
+    among (32 ∷ []) (starts ExprRange) (starts (Expression Plain)) (flat y ++ s) (refl, tt) b
+form_begins ExprRangeClosed y s e f b =
+    among (31 ∷ []) (starts ExprRangeClosed) (starts (Expression Plain)) (flat y ++ s) (refl, tt) b
+form_begins _ y s e f b = cc
+
+own_begins : (k : Kind) (y : Tree) → IsFrontKind k → OwnReady k y → (us : List Token)
+    → IsAmong (starts (Expression Plain)) (flat y ++ us)
+own_begins k y o w us =
+    more_among (starts (Expression Plain)) (flat y) us
+    (subst (IsAmong (starts (Expression Plain))) (append-nil (flat y))
+    (form_begins k y [] o.0 (fronts_are o.1 k o.2 o.3) (w [] (before_nothing k y o.0)).1))
+
+pub begins : (x : Tree) → HasOperands x → Ready x → (s : List Token) → IsAmong (starts (Expression Plain)) (flat x ++ s)
+begins (Alone k y) o w s = own_begins k y o.0 w s
+begins (Front k y x) o w s =
+    subst (IsAmong (starts (Expression Plain))) (sym (append_assoc (flat y) (flat x) s))
+    (own_begins k y o.0 w.0 (flat x ++ s))
+begins (Back l k y) o w s =
+    subst (IsAmong (starts (Expression Plain))) (sym (append_assoc (flat l) (flat y) s))
+    (begins l o.2 w.0 (flat y ++ s))
+begins (Infix l k y r) o w s =
+    subst (IsAmong (starts (Expression Plain))) (sym (append_assoc (flat l) (flat y ++ flat r) s))
+    (begins l o.2 w.0 ((flat y ++ flat r) ++ s))
+begins _ o w s = absurd o

@@ -1,0 +1,17 @@
+//! Normal forms are read back, expressions inside: what `expressions_back` proves of expressions, by what is asked of
+//! their own parts, and what `grammar_back` proves of the kinds of nodes, by what is asked of expressions, is joined.
+//! There is no code.
+//!
+//! An expression as it is printed fits its entry (`grammar_back`): it is in normal form where it stands, and its own
+//! parts fit. So it is settled (`Settled`); what is held of it binds as it does itself, and its operands stay as they
+//! stand (`Held`). Its own parts are read back by the steps of their kinds, so wherever their forms may stand (`Parts`,
+//! of paths by `Paths`, behind a dot by `Dots`, of arrays, repeats, blocks and `let` by `Blocks`, of which `Semicolons`
+//! tells the first two apart), and then it is read (`Owned`) before what may follow it (`Follow`). For each expression
+//! that was read there is one as it is printed (`Wholes`), in which a number behind a dot is split as in what is held
+//! (`Split`), and each form that it is split into fits (`Indices`). `Forms` has all that is to be known of expressions,
+//! `ReadBack` the laws, and `Examples` an expression that is covered.
+//!
+//! - `laws`: the laws.
+#![tactic(auto)]
+
+pub mod laws;
