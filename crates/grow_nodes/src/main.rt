@@ -2,8 +2,8 @@
 //! growth was refused. `tests/refused.sh` runs it once for each allocation, refusing that one.
 #![tactic(auto)]
 
-use path_tests::never::Never;
-use path_tests::{
+use node_tests::never::Never;
+use node_tests::{
     AngleBracketedGenericArguments, ParenthesizedGenericArguments, Path, TypeReference,
 };
 use proc_macro2::{SourceMap, TokenStream};

@@ -1,0 +1,2 @@
+mod Nevers
+mod Pointers
