@@ -1,4 +1,4 @@
--- Arrays, repeats and blocks behind words and labels begin their forms, whatever stands behind them.
+-- Arrays, repeats, and blocks and conditions behind words and labels begin their forms, whatever stands behind them.
 use Rattle.std.proofs.Common.{◌≡◌, ℕ, List, [], ◌∷◌, ◌++◌, refl, sym, ap, ◌∙◌, subst, append_assoc}
 use Rattle.std.specs.Prelude.{Bool, true, false, cond, Option, Some, None, codes}
 use Prim.Native.String.{String}
@@ -9,24 +9,22 @@ use Rattle.rust_leaf.specs.declared.punct.Spacing.{Spacing}
 use Rattle.rust_leaf.specs.declared.punct.Spacing.TheVariants.{Alone as Apart, Joint}
 use Rattle.syn_grammar.specs.Kind.{Kind, Position, Plain, InCondition, InArm, InStatement, Block, Body, Label}
 use Rattle.syn_grammar.specs.Kind.{ExprArray, Expression}
-use Rattle.syn_grammar.specs.Kind.{ExprAsync, ExprBlock, ExprConst, ExprLet, ExprLoop, ExprRepeat}
+use Rattle.syn_grammar.specs.Kind.{ExprAsync, ExprBlock, ExprConst, ExprLoop, ExprRepeat, ExprWhile}
 use Rattle.syn_grammar.specs.Words.{is_bool, is_reserved, same_text}
 use Rattle.syn_grammar.specs.Tree.{Tree, AWord, AMark, ALifetime, Nil, Pair, First, Second, Group, Called, Node}
 use Rattle.syn_grammar.specs.Tree.{marks, flat}
 use Rattle.syn_grammar.specs.Gram.{Gram, group, ref}
 use Rattle.syn_grammar.specs.Look.{seen, sees}
-use Rattle.syn_grammar.specs.Ranks.{skips}
+use Rattle.syn_grammar.specs.Say.{◌▸◌, keyword}
 use Rattle.syn_grammar.specs.Table.{table}
 use Rattle.syn_grammar.specs.Derives.{Derives}
 use Rattle.syn_grammar.specs.Kept.{kept}
 use Rattle.syn_grammar.specs.Normal.{normal}
 use Rattle.syn_grammar.specs.Forms.{front}
 use Rattle.syn_grammar.specs.Expressions.{expressions, labelled}
-use Rattle.syn_grammar.specs.Parens.{begins_in}
-use Rattle.expressions_back.specs.Behind.{no_operand, AtEnd, BeforeOperand}
+use Rattle.expressions_back.specs.Behind.{no_operand, AtEnd}
 use Rattle.expressions_back.specs.Formed.{IsFront}
 use Rattle.grammar_back.specs.After.{After}
-use Rattle.grammar_back.proofs.Classes.{TheWord, of_all}
 use Rattle.grammar_back.proofs.Fits.{Fits}
 use Rattle.grammar_back.proofs.Readies.{OwnReady}
 use Rattle.read_back.proofs.Semicolons.{past_semicolon, quiet}
@@ -68,10 +66,7 @@ block_opens _ f = absurd f
 -- const and async
 const_fronts : (us : List Token) → Fronts ExprConst (Ident (codes "const") ∷ Opens Brace ∷ us)
 unfolding front is_bool is_reserved
-const_fronts us Plain ts = (refl, refl)
-const_fronts us InCondition ts = (refl, refl)
-const_fronts us InArm ts = (refl, refl)
-const_fronts us InStatement ts = (refl, refl)
+const_fronts us p ts = (refl, refl)
 
 word_first : (w : String) (cs : List ℕ) (us : List Token) → same_text (codes w) cs ≡ true
     → Ident cs ∷ us ≡ Ident (codes w) ∷ us
@@ -91,17 +86,11 @@ const_tokens _ f = absurd f
 
 async_fronts : (us : List Token) → Fronts ExprAsync (Ident (codes "async") ∷ Opens Brace ∷ us)
 unfolding front is_bool is_reserved
-async_fronts us Plain ts = (refl, refl)
-async_fronts us InCondition ts = (refl, refl)
-async_fronts us InArm ts = (refl, refl)
-async_fronts us InStatement ts = (refl, refl)
+async_fronts us p ts = (refl, refl)
 
 move_fronts : (us : List Token) → Fronts ExprAsync (Ident (codes "async") ∷ Ident (codes "move") ∷ Opens Brace ∷ us)
 unfolding front is_bool is_reserved
-move_fronts us Plain ts = (refl, refl)
-move_fronts us InCondition ts = (refl, refl)
-move_fronts us InArm ts = (refl, refl)
-move_fronts us InStatement ts = (refl, refl)
+move_fronts us p ts = (refl, refl)
 
 async_tokens : (y : Tree) → Fits y (table ExprAsync) → Tokens ExprAsync y
 unfolding table
@@ -131,34 +120,30 @@ async_tokens _ f = absurd f
 -- blocks and loops, with a label or without
 block_fronts : (us : List Token) → Fronts ExprBlock (Opens Brace ∷ us)
 unfolding front
-block_fronts us Plain ts = (refl, refl)
-block_fronts us InCondition ts = (refl, refl)
-block_fronts us InArm ts = (refl, refl)
-block_fronts us InStatement ts = (refl, refl)
+block_fronts us p ts = (refl, refl)
 
 abbrev colon : List ℕ → List Token → List Token
 colon cs us = Punct 39 Joint ∷ Ident cs ∷ Punct 58 Apart ∷ us
 
 labelled_block : (cs : List ℕ) (us : List Token) → Fronts ExprBlock (colon cs (Opens Brace ∷ us))
 unfolding front
-labelled_block cs us Plain ts = (refl, refl)
-labelled_block cs us InCondition ts = (refl, refl)
-labelled_block cs us InArm ts = (refl, refl)
-labelled_block cs us InStatement ts = (refl, refl)
+labelled_block cs us p ts = (refl, refl)
+
+while_fronts : (us : List Token) → Fronts ExprWhile (Ident (codes "while") ∷ us)
+unfolding front is_bool is_reserved
+while_fronts us p ts = (refl, refl)
+
+labelled_while : (cs : List ℕ) (us : List Token) → Fronts ExprWhile (colon cs (Ident (codes "while") ∷ us))
+unfolding front is_bool is_reserved
+labelled_while cs us p ts = (refl, refl)
 
 loop_fronts : (us : List Token) → Fronts ExprLoop (Ident (codes "loop") ∷ us)
 unfolding front is_bool is_reserved
-loop_fronts us Plain ts = (refl, refl)
-loop_fronts us InCondition ts = (refl, refl)
-loop_fronts us InArm ts = (refl, refl)
-loop_fronts us InStatement ts = (refl, refl)
+loop_fronts us p ts = (refl, refl)
 
 labelled_loop : (cs : List ℕ) (us : List Token) → Fronts ExprLoop (colon cs (Ident (codes "loop") ∷ us))
 unfolding front is_bool is_reserved
-labelled_loop cs us Plain ts = (refl, refl)
-labelled_loop cs us InCondition ts = (refl, refl)
-labelled_loop cs us InArm ts = (refl, refl)
-labelled_loop cs us InStatement ts = (refl, refl)
+labelled_loop cs us p ts = (refl, refl)
 
 label_tokens : (x : Tree) → Fits x (ref Label) → (cs : List ℕ) × (flat x ≡ colon cs [])
 unfolding table
@@ -199,17 +184,25 @@ block_tokens (Pair l b) f =
     }
 block_tokens _ f = absurd f
 
+word_tokens : (w : String) (k : Kind) (g : Gram) (y : Tree) → Fits y (labelled ▸ keyword w ▸ g)
+    → ((us : List Token) → Fronts k (Ident (codes w) ∷ us))
+    → ((cs : List ℕ) (us : List Token) → Fronts k (colon cs (Ident (codes w) ∷ us))) → Tokens k y
+word_tokens w k g (Pair l (Pair (AWord cs) b)) f h i = record {
+  us = flat l ++ Ident (codes w) ∷ flat b;
+  is = ap (λ vs. flat l ++ vs) (word_first w cs (flat b) f.1.0);
+  fronts = labelled_by (Fronts k) l (Ident (codes w) ∷ flat b) f.0 (h (flat b)) (λ cs. i cs (flat b));
+}
+word_tokens w k g (Pair l (Pair _ b)) f h i = absurd f.1.0
+word_tokens w k g (Pair l _) f h i = absurd f.1
+word_tokens w k g _ f h i = absurd f
+
 loop_tokens : (y : Tree) → Fits y (table ExprLoop) → Tokens ExprLoop y
 unfolding table
-loop_tokens (Pair l (Pair (AWord cs) b)) f = record {
-  us = flat l ++ Ident (codes "loop") ∷ flat b;
-  is = ap (λ vs. flat l ++ vs) (word_first "loop" cs (flat b) f.1.0);
-  fronts = labelled_by (Fronts ExprLoop) l (Ident (codes "loop") ∷ flat b) f.0 (loop_fronts (flat b))
-      (λ cs. labelled_loop cs (flat b));
-}
-loop_tokens (Pair l (Pair _ b)) f = absurd f.1.0
-loop_tokens (Pair l _) f = absurd f.1
-loop_tokens _ f = absurd f
+loop_tokens y f = word_tokens "loop" ExprLoop _ y f loop_fronts labelled_loop
+
+while_tokens : (y : Tree) → Fits y (table ExprWhile) → Tokens ExprWhile y
+unfolding table
+while_tokens y f = word_tokens "while" ExprWhile _ y f while_fronts labelled_while
 
 -- A repeat has a semicolon in its brackets, and an array has none.
 abbrev chosen : Bool → Option Kind
@@ -275,6 +268,7 @@ is_block ExprBlock = true
 is_block ExprAsync = true
 is_block ExprConst = true
 is_block ExprLoop = true
+is_block ExprWhile = true
 is_block k = false
 
 pub block_part : (k : Kind) (y : Tree) → is_block k ≡ true → Fits y (table k) → OwnReady k y
@@ -285,29 +279,5 @@ block_part ExprBlock y e f w h = front_of ExprBlock y (λ ts. tt) w h (block_tok
 block_part ExprAsync y e f w h = front_of ExprAsync y (λ ts. tt) w h (async_tokens y f)
 block_part ExprConst y e f w h = front_of ExprConst y (λ ts. tt) w h (const_tokens y f)
 block_part ExprLoop y e f w h = front_of ExprLoop y (λ ts. tt) w h (loop_tokens y f)
+block_part ExprWhile y e f w h = front_of ExprWhile y (λ ts. tt) w h (while_tokens y f)
 block_part _ y e f w h = cc
-
--- let, before its operand
-let_front : (p : Position) (us : List Token) → begins_in p ExprLet ≡ true
-    → (front p (Ident (codes "let") ∷ us) ≡ Some ExprLet) × (sees no_operand (Ident (codes "let") ∷ us) ≡ false)
-unfolding front is_bool is_reserved
-let_front Plain us s = (refl, refl)
-let_front InCondition us s = (refl, refl)
-let_front InArm us s = (refl, refl)
-let_front InStatement us s = cc
-
-pub let_part : (y : Tree) → OwnReady ExprLet y → flat (normal (kept y)) ≡ flat y
-    → IsFront (BeforeOperand ExprLet y) ExprLet y
-unfolding skips
-let_part y w n = record {
-  begins = λ p ts s m. (at_word p ts s).0;
-  read = λ ts m. (w ts tt).0;
-  held = n;
-  single = λ ts m. (at_word Plain ts refl).1;
-}
-  where
-    at_word : (p : Position) (ts : List Token) → begins_in p ExprLet ≡ true
-        → (front p (flat y ++ ts) ≡ Some ExprLet) × (sees no_operand (flat y ++ ts) ≡ false)
-    at_word p ts s =
-        of_all (λ us. (front p us ≡ Some ExprLet) × (sees no_operand us ≡ false)) (TheWord (codes "let") ∷ [])
-        (flat y ++ ts) ((λ us. let_front p us s), tt) (w ts tt).1

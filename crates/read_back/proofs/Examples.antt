@@ -1,9 +1,19 @@
--- Covered expressions there are: -(1 + x), as it is read.
-use Rattle.std.proofs.Common.{◌≡◌, [], ◌++◌, refl}
-use Rattle.std.specs.Prelude.{true}
-use Rattle.syn_grammar.specs.Kind.{Plain, Expression}
-use Rattle.syn_grammar.specs.Tree.{Tree, Node, Whole, flat}
-use Rattle.syn_grammar.specs.Forms.{chains, has_right, inside, level, takes}
+-- Covered expressions there are: -(1 + x), as it is read; and m!() in a condition, of a kind that may stand there.
+use Rattle.std.proofs.Common.{◌≡◌, List, [], ◌∷◌, ◌++◌, refl}
+use Rattle.std.specs.Prelude.{true, codes}
+use Rattle.syn_grammar.specs.Kind.{AMacro, Delimited, ExprMacro, InCondition, InModule, Path, Plain, Expression}
+use Rattle.syn_grammar.specs.Kind.{Segments}
+use Rattle.proc_macro2.specs.Token.{Token, Opens, Closes}
+use Rattle.proc_macro2.specs.declared.delimiter.Delimiter.TheVariants.{Parenthesis, Brace}
+use Rattle.rust_leaf.specs.declared.punct.Spacing.TheVariants.{Alone as Apart}
+use Rattle.syn_grammar.specs.Words.{is_bool, is_name, is_path_keyword, is_plain_name, is_reserved}
+use Rattle.syn_grammar.specs.Gram.{ref}
+use Rattle.syn_grammar.specs.Table.{table}
+use Rattle.syn_grammar.specs.Derives.{Derives}
+use Rattle.read_back.specs.Parts.{has_part, has_parts_of}
+use Rattle.read_back.proofs.Positions.{read_in_position}
+use Rattle.syn_grammar.specs.Tree.{Tree, AMark, Alone, AWord, First, Group, Nil, Node, Pair, Raw, Second, Whole, flat}
+use Rattle.syn_grammar.specs.Forms.{back, chains, front, has_right, inside, level, takes}
 use Rattle.syn_grammar.specs.Kept.{kept}
 use Rattle.syn_grammar.specs.Normal.{passed, stands_behind, normal, normal_in}
 use Rattle.syn_grammar.specs.Parens.{may_lack}
@@ -22,3 +32,45 @@ covered = refl
 -- so it is read back
 pub minus_back : IsRead (Expression Plain) (flat (normal (kept printed)) ++ []) (normal (kept printed)) []
 minus_back = read_back (Expression Plain) printed [] [] sum_back covered (refl, tt)
+
+abbrev call : Tree
+call =
+    Alone ExprMacro
+    (Node AMacro
+    (Pair (Node (Path InModule) (Pair (Second Nil)
+    (Node (Segments InModule) (Second (Pair (AWord (codes "m")) (Second (Second (Second Nil))))))))
+    (Pair (AMark 33 [] Apart) (Node Delimited (First (Group Parenthesis (Raw [])))))))
+
+abbrev body : List Token
+body = Opens Brace ∷ Closes Brace ∷ []
+
+call_read : Derives (Node (Expression InCondition) (Whole call)) (ref (Expression InCondition)) body
+unfolding table front back has_right is_bool is_name is_plain_name is_path_keyword is_reserved level
+call_read = (
+  refl,
+  (
+    (refl, refl),
+    (
+      refl,
+      (
+        refl,
+        (
+          (refl, ((refl, tt), (refl, (refl, (refl, (refl, (refl, (refl, tt)))))))),
+          ((refl, refl), (refl, (refl, (refl, (refl, refl))))),
+        ),
+      ),
+      refl,
+    ),
+  ),
+)
+
+call_parts : has_parts_of has_part call ≡ true
+unfolding has_step has_form_step
+call_parts = refl
+
+-- so it is read back before a brace
+pub call_back :
+    IsRead (Expression InCondition)
+    (flat (normal_in InCondition (kept (Node (Expression InCondition) (Whole call)))) ++ body)
+    (normal_in InCondition (kept (Node (Expression InCondition) (Whole call)))) body
+call_back = read_in_position InCondition call body body call_read (λ e. refl) call_parts refl

@@ -8,8 +8,12 @@ pub mod Held
 pub mod Owned
 pub mod Follow
 pub mod Paths
+pub mod Macros
+pub mod Starting
+pub mod Operands
 pub mod Parts
 pub mod Wholes
 pub mod Forms
 pub mod ReadBack
+pub mod Positions
 pub mod Examples

@@ -1,8 +1,8 @@
 -- The own parts of an expression that fits, and whose parts are read back, are read wherever their forms may stand.
 use Rattle.std.proofs.Common.{◌≡◌, ℕ, List, [], ◌∷◌, ◌++◌, refl, sym, ap, ◌∙◌, subst, append_assoc, ⊎_elim, inl, inr}
-use Rattle.std.specs.Prelude.{zero, suc, Bool, true, false, not, ◌&&◌, ◌||◌, Some, codes}
+use Rattle.std.specs.Prelude.{zero, suc, Bool, true, false, not, ◌||◌, Some}
 use Rattle.std.proofs.lemmas.List.{append-nil}
-use Rattle.proc_macro2.specs.Token.{Token, Opens, Ident}
+use Rattle.proc_macro2.specs.Token.{Token, Opens}
 use Rattle.proc_macro2.specs.declared.delimiter.Delimiter.TheVariants.{Parenthesis, Brace}
 use Rattle.rust_leaf.specs.declared.punct.Spacing.TheVariants.{Alone as Apart}
 use Rattle.syn_grammar.specs.Kind.{Kind, Position, Plain, Expression, ExprLit, ExprPath, ExprContinue}
@@ -12,12 +12,10 @@ use Rattle.syn_grammar.specs.Kind.{ExprIndex, ExprTry}
 use Rattle.syn_grammar.specs.Kind.{ExprUnary, ExprRawAddr}
 use Rattle.syn_grammar.specs.Kind.{ExprReference, ExprBreak, ExprReturn, ExprYield, ExprRange, ExprRangeClosed}
 use Rattle.syn_grammar.specs.Kind.{ExprAssign, ExprOr, ExprAnd, ExprCompare, ExprBitOr, ExprBitXor, ExprBitAnd}
-use Rattle.syn_grammar.specs.Kind.{ExprShift, ExprSum, ExprProduct}
+use Rattle.syn_grammar.specs.Kind.{ExprShift, ExprSum, ExprProduct, ExprMacro, ExprIf, ExprMatch, ExprWhile}
+use Rattle.syn_grammar.specs.Kind.{ExprAttributed}
 use Rattle.syn_grammar.specs.Kind.{ExprArray, ExprAsync, ExprBlock, ExprConst, ExprLet, ExprLoop, ExprRepeat}
 use Rattle.syn_grammar.specs.Tree.{Tree, Alone, Front, Back, Infix, marks, flat}
-use Rattle.syn_grammar.specs.Words.{is_bool, is_reserved}
-use Rattle.syn_grammar.specs.Look.{sees}
-use Rattle.syn_grammar.specs.Derives.{Derives}
 use Rattle.syn_grammar.specs.Ranks.{skips}
 use Rattle.syn_grammar.specs.Table.{table}
 use Rattle.syn_grammar.specs.Kept.{kept}
@@ -28,40 +26,39 @@ use Rattle.syn_grammar.proofs.Settled.{Settled}
 use Rattle.binding_laws.proofs.Begun.{is_front, first_passes}
 use Rattle.binding_laws.proofs.Shells.{is_dot}
 use Rattle.binding_laws.proofs.Sights.{is_back, backs_are}
-use Rattle.expressions_back.specs.Behind.{no_operand, is_attributed, AtEnd, BeforeOperand, BehindOperand}
+use Rattle.expressions_back.specs.Behind.{AtEnd, BeforeOperand, BehindOperand}
 use Rattle.expressions_back.specs.Firm.{is_firm_front, is_firm_behind, IsOwn}
-use Rattle.expressions_back.specs.Formed.{IsFront, IsBehind, ends_by_itself, is_attributed_form}
+use Rattle.expressions_back.specs.Formed.{IsFront, IsBehind, ends_by_itself}
 use Rattle.expressions_back.specs.Formed.{may_lack_operand, may_have_operand}
 use Rattle.expressions_back.specs.Simple.{is_break, is_reference}
-use Rattle.expressions_back.proofs.Names.{end}
 use Rattle.expressions_back.proofs.Opened.{fixed_right}
 use Rattle.expressions_back.proofs.Owns.{behind_part}
-use Rattle.expressions_back.proofs.Simples.{end_front, prefix_front, prefix_plain, behind_plain}
+use Rattle.expressions_back.proofs.Simples.{end_front, prefix_front, behind_plain}
 use Rattle.grammar_back.specs.After.{After}
-use Rattle.grammar_back.specs.Covered.{has_form_step, is_form}
+use Rattle.grammar_back.specs.Covered.{has_form_step}
 use Rattle.grammar_back.proofs.Begins.{Begins}
 use Rattle.grammar_back.proofs.Classes.{Class, Sign, TheWord, AnyWord, Quoted, Tick, Opening, Then, IsAt, IsAmong}
 use Rattle.grammar_back.proofs.Classes.{of_all}
-use Rattle.grammar_back.proofs.Fits.{Fits, FitsForms, HasOperands, IsFrontKind, IsMeant, IsWhole, MayLack, MayHave}
+use Rattle.grammar_back.proofs.Fits.{Fits, FitsForms, IsMeant, IsWhole, MayLack, MayHave}
 use Rattle.grammar_back.proofs.Fits.{flat_kept}
 use Rattle.grammar_back.proofs.Readies.{OwnReady, Ready}
 use Rattle.grammar_back.proofs.Starts.{starts}
-use Rattle.read_back.proofs.Blocks.{block_part, is_block, let_part}
+use Rattle.read_back.specs.Parts.{has_part}
+use Rattle.read_back.proofs.Blocks.{block_part, is_block}
 use Rattle.read_back.proofs.Dots.{dot_own}
+use Rattle.read_back.proofs.Macros.{macro_part}
+use Rattle.read_back.proofs.Operands.{HasOperandsOf, IsFrontOf}
 use Rattle.read_back.proofs.Owned.{Owned}
 use Rattle.read_back.proofs.Paths.{path_part}
+use Rattle.read_back.proofs.Starting.{is_started, started_part, is_led, led_part}
 
 -- the kinds
-abbrev is_let : Kind → Bool
-is_let ExprLet = true
-is_let k = false
-
 fronts_are : (p : Position) (k : Kind) (ts : List Token) → front p ts ≡ Some k → is_front k ≡ true
 unfolding front
 fronts_are p k ts e = first_passes is_front (fronts p) ts k refl e
 
-front_kind : (k : Kind) → is_form k ≡ true → is_front k ≡ true → may_have_operand k ≡ true
-    → (is_let k || (is_firm_front k || is_break k || is_reference k)) ≡ true
+front_kind : (k : Kind) → has_part k ≡ true → is_front k ≡ true → may_have_operand k ≡ true
+    → (is_led k || (is_firm_front k || is_break k || is_reference k)) ≡ true
 unfolding has_form_step may_lack level
 front_kind ExprUnary e f h = refl
 front_kind _ e f h = cc
@@ -70,22 +67,22 @@ abbrev is_path : Kind → Bool
 is_path ExprPath = true
 is_path k = false
 
-abbrev is_continue : Kind → Bool
-is_continue ExprContinue = true
-is_continue k = false
+abbrev is_macro : Kind → Bool
+is_macro ExprMacro = true
+is_macro k = false
 
-alone_kind : (k : Kind) → is_form k ≡ true → is_front k ≡ true → may_lack_operand k ≡ true
-    → (is_path k || (is_continue k || (is_block k || (is_firm_front k || is_break k)))) ≡ true
+alone_kind : (k : Kind) → has_part k ≡ true → is_front k ≡ true → may_lack_operand k ≡ true
+    → (is_path k || (is_macro k || (is_started k || (is_block k || (is_firm_front k || is_break k))))) ≡ true
 unfolding has_form_step may_lack level
 alone_kind ExprLit e f h = refl
 alone_kind _ e f h = cc
 
-back_kind : (k : Kind) → is_form k ≡ true → is_back k ≡ true → (is_struct k || (is_dot k || is_firm_behind k)) ≡ true
+back_kind : (k : Kind) → has_part k ≡ true → is_back k ≡ true → (is_struct k || (is_dot k || is_firm_behind k)) ≡ true
 unfolding has_form_step
 back_kind ExprCall e f = refl
 back_kind _ e f = cc
 
-infix_kind : (k : Kind) → is_form k ≡ true → is_back k ≡ true → may_have_operand k ≡ true → is_firm_behind k ≡ true
+infix_kind : (k : Kind) → has_part k ≡ true → is_back k ≡ true → may_have_operand k ≡ true → is_firm_behind k ≡ true
 unfolding has_form_step may_lack level
 infix_kind ExprSum e f h = refl
 infix_kind _ e f h = cc
@@ -114,7 +111,7 @@ has_one k h = go (may_lack k) refl
         ∙ (sym (fixed_right Plain k (Opens Parenthesis ∷ []) m) ∙ h)
 
 -- nothing may follow
-before_nothing : (k : Kind) (y : Tree) → is_form k ≡ true → After k y []
+before_nothing : (k : Kind) (y : Tree) → has_part k ≡ true → After k y []
 unfolding has_form_step
 before_nothing ExprLit y e = tt
 before_nothing ExprPath y e = (refl, (refl, tt))
@@ -156,40 +153,17 @@ before_nothing ExprBitAnd y e = tt
 before_nothing ExprShift y e = tt
 before_nothing ExprSum y e = tt
 before_nothing ExprProduct y e = tt
+before_nothing ExprMacro y e = tt
+before_nothing ExprIf y e = (refl, tt)
+before_nothing ExprMatch y e = tt
+before_nothing ExprWhile y e = tt
+before_nothing ExprAttributed y e = (refl, tt)
 before_nothing _ y e = cc
 
-own : (k : Kind) (y : Tree) → is_form k ≡ true → Fits y (table k) → OwnReady k y → normal (kept y) ≡ kept y → IsOwn k y
+own : (k : Kind) (y : Tree) → has_part k ≡ true → Fits y (table k) → OwnReady k y → normal (kept y) ≡ kept y → IsOwn k y
 own k y e f w n = ((w [] (before_nothing k y e)).0, ap flat n ∙ flat_kept y (table k) f)
 
--- continue, and the braces of a struct
-continue_front : (p : Position) (us : List Token)
-    → (front p (Ident (codes "continue") ∷ us) ≡ Some ExprContinue)
-    × (sees no_operand (Ident (codes "continue") ∷ us) ≡ false)
-unfolding front is_bool is_reserved
-continue_front Plain us = (refl, refl)
-continue_front InCondition us = (refl, refl)
-continue_front InArm us = (refl, refl)
-continue_front InStatement us = (refl, refl)
-
-continue_part : (y : Tree) → OwnReady ExprContinue y → flat (normal (kept y)) ≡ flat y → IsFront AtEnd ExprContinue y
-unfolding skips
-continue_part y w n = record {
-  begins = λ p ts s e. (at_word p ts (read ts e).1).0;
-  read = λ ts e. (read ts e).0;
-  held = n;
-  single = λ ts e. (at_word Plain ts (read ts e).1).1;
-}
-  where
-    read : (ts : List Token) → AtEnd ts → Derives y (table ExprContinue) ts
-        × IsAmong (TheWord (codes "continue") ∷ []) (flat y ++ ts)
-    read ts e = w ts ((end ts e).lifetime, tt)
-
-    at_word : (p : Position) (ts : List Token) → IsAmong (TheWord (codes "continue") ∷ []) (flat y ++ ts)
-        → (front p (flat y ++ ts) ≡ Some ExprContinue) × (sees no_operand (flat y ++ ts) ≡ false)
-    at_word p ts i =
-        of_all (λ us. (front p us ≡ Some ExprContinue) × (sees no_operand us ≡ false))
-        (TheWord (codes "continue") ∷ []) (flat y ++ ts) ((λ us. continue_front p us), tt) i
-
+-- the braces of a struct
 brace_back : (p : Position) (us : List Token) → stands_in p ExprStruct ≡ true
     → back p (Opens Brace ∷ us) ≡ Some ExprStruct
 unfolding back
@@ -230,24 +204,28 @@ end_own k y m f w o = go (is_block k) refl m
     go false e m = end_front k y m o
 
 alone_own : (k : Kind) (y : Tree)
-    → (is_path k || (is_continue k || (is_block k || (is_firm_front k || is_break k)))) ≡ true → Fits y (table k)
+    → (is_path k || (is_macro k || (is_started k || (is_block k || (is_firm_front k || is_break k))))) ≡ true
+    → Fits y (table k)
     → OwnReady k y → IsOwn k y → IsFront AtEnd k y
 alone_own ExprPath y m f w o = path_part y w o.1
-alone_own ExprContinue y m f w o = continue_part y w o.1
-alone_own k y m f w o = end_own k y m f w o
+alone_own ExprMacro y m f w o = macro_part AtEnd y f w o.1
+alone_own k y m f w o = go (is_started k) refl m
+  where
+    go : (b : Bool) → is_started k ≡ b → (b || (is_block k || (is_firm_front k || is_break k))) ≡ true
+        → IsFront AtEnd k y
+    go true e m = started_part k y e w o.1
+    go false e m = end_own k y m f w o
 
-front_own : (k : Kind) (y : Tree) → (is_let k || (is_firm_front k || is_break k || is_reference k)) ≡ true
-    → OwnReady k y
-    → IsOwn k y → IsFront (BeforeOperand k y) k y
-front_own ExprLet y m w o = let_part y w o.1
-front_own k y m w o = prefix_front k y m o
+front_own : (k : Kind) (y : Tree) → (is_led k || (is_firm_front k || is_break k || is_reference k)) ≡ true
+    → OwnReady k y → IsOwn k y → IsFront (BeforeOperand k y) k y
+front_own k y m w o = go (is_led k) refl m
+  where
+    go : (b : Bool) → is_led k ≡ b → (b || (is_firm_front k || is_break k || is_reference k)) ≡ true
+        → IsFront (BeforeOperand k y) k y
+    go true e m = led_part k y e w o.1
+    go false e m = prefix_front k y m o
 
-front_plain : (k : Kind) (x : Tree) → (is_let k || (is_firm_front k || is_break k || is_reference k)) ≡ true
-    → (is_attributed k && is_attributed_form x) ≡ false
-front_plain ExprLet x m = refl
-front_plain k x m = prefix_plain k x m
-
-pub owned : (x : Tree) → FitsForms x → HasOperands x → Ready x → (p : Position) (ts : List Token)
+pub owned : (x : Tree) → FitsForms x → HasOperandsOf has_part x → Ready x → (p : Position) (ts : List Token)
     → Settled p ts (kept x) → Owned x
 owned (Alone k y) h o w p ts s =
     let l = lacks k o.1 in
@@ -257,8 +235,8 @@ owned (Front k y x) h o w p ts s =
     let m = front_kind k o.0.0 (fronts_are o.0.1 k o.0.2 o.0.3) (has_one k o.1) in (
       front_own k y m w.0 (own k y o.0.0 h.1 w.0 s.0),
       has_one k o.1,
-      front_plain k x m,
-      owned x h.3 o.2 w.1 (inside p k) ts s.3,
+      o.2,
+      owned x h.3 o.3 w.1 (inside p k) ts s.3,
     )
 owned (Back l k y) h o w p ts s =
     let t : Settled p ts (Back (kept l) k (kept y)) = subst (Settled p ts) (h.3 (kept l)) s in
@@ -319,7 +297,7 @@ more_among [] ts us i = absurd i
 more_among (c ∷ cs) ts us i = ⊎_elim (λ j. inl (at_more c ts us j)) (λ j. inr (more_among cs ts us j)) i
 
 -- and of each form in front.
-form_begins : (k : Kind) (y : Tree) (s : List Token) → is_form k ≡ true → is_front k ≡ true → Begins k y s
+form_begins : (k : Kind) (y : Tree) (s : List Token) → has_part k ≡ true → is_front k ≡ true → Begins k y s
     → IsAmong (starts (Expression Plain)) (flat y ++ s)
 unfolding has_form_step skips
 form_begins ExprLit y s e f b =
@@ -372,16 +350,28 @@ form_begins ExprRange y s e f b =
     among (32 ∷ []) (starts ExprRange) (starts (Expression Plain)) (flat y ++ s) (refl, tt) b
 form_begins ExprRangeClosed y s e f b =
     among (31 ∷ []) (starts ExprRangeClosed) (starts (Expression Plain)) (flat y ++ s) (refl, tt) b
+form_begins ExprMacro y s e f b =
+    among (41 ∷ 42 ∷ 43 ∷ 39 ∷ 40 ∷ 36 ∷ 37 ∷ 38 ∷ 34 ∷ 35 ∷ []) (starts ExprMacro) (starts (Expression Plain))
+    (flat y ++ s) (refl, (refl, (refl, (refl, (refl, (refl, (refl, (refl, (refl, (refl, tt)))))))))) b
+form_begins ExprIf y s e f b =
+    among (19 ∷ []) (starts ExprIf) (starts (Expression Plain)) (flat y ++ s) (refl, tt) b
+form_begins ExprMatch y s e f b =
+    among (20 ∷ []) (starts ExprMatch) (starts (Expression Plain)) (flat y ++ s) (refl, tt) b
+form_begins ExprWhile y s e f b =
+    among (2 ∷ 10 ∷ []) (starts ExprWhile) (starts (Expression Plain)) (flat y ++ s) (refl, (refl, tt)) b
+form_begins ExprAttributed y s e f b =
+    among (0 ∷ []) (starts ExprAttributed) (starts (Expression Plain)) (flat y ++ s) (refl, tt) b
 form_begins _ y s e f b = cc
 
-own_begins : (k : Kind) (y : Tree) → IsFrontKind k → OwnReady k y → (us : List Token)
+own_begins : (k : Kind) (y : Tree) → IsFrontOf has_part k → OwnReady k y → (us : List Token)
     → IsAmong (starts (Expression Plain)) (flat y ++ us)
 own_begins k y o w us =
     more_among (starts (Expression Plain)) (flat y) us
     (subst (IsAmong (starts (Expression Plain))) (append-nil (flat y))
     (form_begins k y [] o.0 (fronts_are o.1 k o.2 o.3) (w [] (before_nothing k y o.0)).1))
 
-pub begins : (x : Tree) → HasOperands x → Ready x → (s : List Token) → IsAmong (starts (Expression Plain)) (flat x ++ s)
+pub begins : (x : Tree) → HasOperandsOf has_part x → Ready x → (s : List Token)
+    → IsAmong (starts (Expression Plain)) (flat x ++ s)
 begins (Alone k y) o w s = own_begins k y o.0 w s
 begins (Front k y x) o w s =
     subst (IsAmong (starts (Expression Plain))) (sym (append_assoc (flat y) (flat x) s))

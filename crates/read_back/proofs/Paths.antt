@@ -27,10 +27,10 @@ use Rattle.expressions_back.proofs.Bools.{never}
 use Rattle.expressions_back.proofs.Names.{end, colons, no_more, path_front, raw_off}
 use Rattle.grammar_back.proofs.Readies.{OwnReady}
 
-abbrev bang : Look
+abbrev pub bang : Look
 bang = no (marks "!=") then marks "!"
 
-abbrev one_more : Look
+abbrev pub one_more : Look
 one_more = the_mark (codes "::") then a_name
 
 -- behind a name: as far as further names go, no ! stands there
@@ -90,7 +90,7 @@ or_plain true b c e = refl
 or_plain false true c e = refl
 or_plain false false c e = e
 
-is_named : (cs : List ℕ) → (is_plain_name cs ≡ true) ⊎ (is_path_keyword cs ≡ true) → is_name cs ≡ true
+pub is_named : (cs : List ℕ) → (is_plain_name cs ≡ true) ⊎ (is_path_keyword cs ≡ true) → is_name cs ≡ true
 unfolding is_name is_plain_name
 is_named cs (inl h) = or_plain (is_ident cs) (is_path_keyword cs) (same_text (codes "Self") cs) h
 is_named cs (inr h) = or_second (is_ident cs) (is_path_keyword cs) (same_text (codes "Self") cs) h
@@ -256,7 +256,7 @@ less_front InCondition Joint _ = refl
 less_front InArm Joint _ = refl
 less_front InStatement Joint _ = refl
 
-abbrev or_macro : Bool → Option Kind
+abbrev pub or_macro : Bool → Option Kind
 or_macro b = cond b (Some ExprMacro) (Some ExprPath)
 
 macro_off : (cs : List ℕ) (us : List Token) → is_name cs ≡ true → Calm us
@@ -264,14 +264,14 @@ macro_off : (cs : List ℕ) (us : List Token) → is_name cs ≡ true → Calm u
 macro_off cs us h c =
     ap (λ b. seen (behind (behind (cond b (Some us) None) (repeatedly one_more)) bang)) h ∙ c (length us)
 
-root_front : (p : Position) (i : Spacing) (cs : List ℕ) (us : List Token)
-    → seen (macro_call_stands (Ident cs ∷ us)) ≡ false
-    → front p (Punct 58 Joint ∷ Punct 58 i ∷ Ident cs ∷ us) ≡ Some ExprPath
+pub root_front : (p : Position) (i : Spacing) (cs : List ℕ) (us : List Token) (b : Bool)
+    → seen (macro_call_stands (Ident cs ∷ us)) ≡ b
+    → front p (Punct 58 Joint ∷ Punct 58 i ∷ Ident cs ∷ us) ≡ or_macro b
 unfolding front
-root_front Plain i cs us e = ap or_macro e
-root_front InCondition i cs us e = ap or_macro e
-root_front InArm i cs us e = ap or_macro e
-root_front InStatement i cs us e = ap or_macro e
+root_front Plain i cs us b e = ap or_macro e
+root_front InCondition i cs us b e = ap or_macro e
+root_front InArm i cs us b e = ap or_macro e
+root_front InStatement i cs us b e = ap or_macro e
 
 -- self, super and crate
 abbrev IsOneOf : List (List ℕ) → List ℕ → Type 0
@@ -287,45 +287,45 @@ one_of_them : (ws : List (List ℕ)) (cs : List ℕ) → is_among ws cs ≡ true
 one_of_them [] cs h = cc
 one_of_them (w ∷ ws) cs h = one_is w ws cs (same_text w cs) refl h (λ i. one_of_them ws cs i)
 
-record Keyword (cs : List ℕ) : Type 0 where
-  front_is : (p : Position) (us : List Token) → seen (macro_call_stands (Ident cs ∷ us)) ≡ false
-      → front p (Ident cs ∷ us) ≡ Some ExprPath
-  single : (us : List Token) → sees no_operand (Ident cs ∷ us) ≡ false
+pub record Keyword (cs : List ℕ) : Type 0 where
+  pub front_is : (p : Position) (us : List Token) (b : Bool) → seen (macro_call_stands (Ident cs ∷ us)) ≡ b
+      → front p (Ident cs ∷ us) ≡ or_macro b
+  pub single : (us : List Token) → sees no_operand (Ident cs ∷ us) ≡ false
 
 self_is : Keyword (codes "self")
 unfolding front is_bool is_name is_reserved is_path_keyword
 self_is = record { front_is = go; single = λ us. refl }
   where
-    go : (p : Position) (us : List Token) → seen (macro_call_stands (Ident (codes "self") ∷ us)) ≡ false
-        → front p (Ident (codes "self") ∷ us) ≡ Some ExprPath
-    go Plain us e = ap or_macro e
-    go InCondition us e = ap or_macro e
-    go InArm us e = ap or_macro e
-    go InStatement us e = ap or_macro e
+    go : (p : Position) (us : List Token) (b : Bool) → seen (macro_call_stands (Ident (codes "self") ∷ us)) ≡ b
+        → front p (Ident (codes "self") ∷ us) ≡ or_macro b
+    go Plain us b e = ap or_macro e
+    go InCondition us b e = ap or_macro e
+    go InArm us b e = ap or_macro e
+    go InStatement us b e = ap or_macro e
 
 super_is : Keyword (codes "super")
 unfolding front is_bool is_name is_reserved is_path_keyword
 super_is = record { front_is = go; single = λ us. refl }
   where
-    go : (p : Position) (us : List Token) → seen (macro_call_stands (Ident (codes "super") ∷ us)) ≡ false
-        → front p (Ident (codes "super") ∷ us) ≡ Some ExprPath
-    go Plain us e = ap or_macro e
-    go InCondition us e = ap or_macro e
-    go InArm us e = ap or_macro e
-    go InStatement us e = ap or_macro e
+    go : (p : Position) (us : List Token) (b : Bool) → seen (macro_call_stands (Ident (codes "super") ∷ us)) ≡ b
+        → front p (Ident (codes "super") ∷ us) ≡ or_macro b
+    go Plain us b e = ap or_macro e
+    go InCondition us b e = ap or_macro e
+    go InArm us b e = ap or_macro e
+    go InStatement us b e = ap or_macro e
 
 crate_is : Keyword (codes "crate")
 unfolding front is_bool is_name is_reserved is_path_keyword
 crate_is = record { front_is = go; single = λ us. refl }
   where
-    go : (p : Position) (us : List Token) → seen (macro_call_stands (Ident (codes "crate") ∷ us)) ≡ false
-        → front p (Ident (codes "crate") ∷ us) ≡ Some ExprPath
-    go Plain us e = ap or_macro e
-    go InCondition us e = ap or_macro e
-    go InArm us e = ap or_macro e
-    go InStatement us e = ap or_macro e
+    go : (p : Position) (us : List Token) (b : Bool) → seen (macro_call_stands (Ident (codes "crate") ∷ us)) ≡ b
+        → front p (Ident (codes "crate") ∷ us) ≡ or_macro b
+    go Plain us b e = ap or_macro e
+    go InCondition us b e = ap or_macro e
+    go InArm us b e = ap or_macro e
+    go InStatement us b e = ap or_macro e
 
-keyword_is : (cs : List ℕ) → is_path_keyword cs ≡ true → Keyword cs
+pub keyword_is : (cs : List ℕ) → is_path_keyword cs ≡ true → Keyword cs
 unfolding is_path_keyword
 keyword_is cs h = go (one_of_them (codes "self" ∷ codes "super" ∷ codes "crate" ∷ []) cs h)
   where
@@ -345,7 +345,7 @@ named_front p us n =
     go : (is_plain_name n.text ≡ true) ⊎ (is_path_keyword n.text ≡ true)
         → (front p (Ident n.text ∷ n.rest) ≡ Some ExprPath) × (sees no_operand (Ident n.text ∷ n.rest) ≡ false)
     go (inl h) = (path_front n.text h n.rest p off, raw_off n.text h n.rest n.no_const n.no_mut)
-    go (inr h) = let k = keyword_is n.text h in (k.front_is p n.rest off, k.single n.rest)
+    go (inr h) = let k = keyword_is n.text h in (k.front_is p n.rest false off, k.single n.rest)
 
 less_single : (i : Spacing) (vs : List Token) → sees no_operand (Punct 60 i ∷ vs) ≡ false
 less_single Apart vs = refl
@@ -359,7 +359,7 @@ begun_front p us (inl b) =
 begun_front p us (inr (inl b)) =
     subst (λ vs. (front p vs ≡ Some ExprPath) × (sees no_operand vs ≡ false))
     (sym (b.2 ∙ ap (λ vs. Punct 58 Joint ∷ Punct 58 b.0 ∷ vs) b.3.is)) (
-      root_front p b.0 b.3.text b.3.rest
+      root_front p b.0 b.3.text b.3.rest false
           (macro_off b.3.text b.3.rest (is_named b.3.text b.3.passes) b.3.calm),
       refl,
     )

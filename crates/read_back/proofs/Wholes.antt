@@ -1,6 +1,6 @@
 -- An expression that was read is printed where the own parts of its forms are.
-use Rattle.std.proofs.Common.{◌≡◌, List, [], ◌∷◌, ◌++◌, refl, sym, ap, ◌∙◌, subst}
-use Rattle.std.specs.Prelude.{Bool, true, false, ◌&&◌}
+use Rattle.std.proofs.Common.{◌≡◌, List, [], ◌∷◌, ◌++◌, refl, sym, ap, ◌∙◌, subst, append_assoc}
+use Rattle.std.specs.Prelude.{Bool, true, false, not, ◌&&◌, ◌||◌, cond, Some}
 use Rattle.proc_macro2.specs.Token.{Token, Opens}
 use Rattle.proc_macro2.specs.declared.delimiter.Delimiter.TheVariants.{Parenthesis}
 use Rattle.syn_grammar.specs.Kind.{Kind, Position, Plain, InCondition, Expression, ExprField, ExprMethodCall}
@@ -9,28 +9,38 @@ use Rattle.syn_grammar.specs.Kind.{ExprParen, ExprGroup, ExprInfer, ExprUnsafe}
 use Rattle.syn_grammar.specs.Kind.{ExprTryBlock, ExprCall, ExprIndex, ExprTry, ExprUnary, ExprRawAddr, ExprReference}
 use Rattle.syn_grammar.specs.Kind.{ExprBreak, ExprReturn, ExprYield, ExprRange, ExprRangeClosed, ExprAssign, ExprOr}
 use Rattle.syn_grammar.specs.Kind.{ExprAnd, ExprCompare, ExprBitOr, ExprBitXor, ExprBitAnd, ExprShift, ExprSum}
-use Rattle.syn_grammar.specs.Kind.{ExprProduct}
-use Rattle.syn_grammar.specs.Tree.{Tree, Node, Whole, Alone, Front, Back, Infix, flat}
+use Rattle.syn_grammar.specs.Kind.{ExprProduct, ExprMacro, ExprIf, ExprMatch, ExprWhile}
+use Rattle.syn_grammar.specs.Tree.{Tree, Pair, End, Again, Node, Whole, Alone, Front, Back, Infix, flat}
 use Rattle.syn_grammar.specs.Kind.{ExprArray, ExprAsync, ExprBlock, ExprConst, ExprLet, ExprLoop, ExprRepeat}
-use Rattle.syn_grammar.specs.Gram.{operand, ref}
+use Rattle.syn_grammar.specs.Gram.{Gram, star, operand, ref}
 use Rattle.syn_grammar.specs.Table.{table}
-use Rattle.syn_grammar.specs.Forms.{has_right, inside, form_of, is_path_form, stands_left}
+use Rattle.syn_grammar.specs.Look.{sees}
+use Rattle.syn_grammar.specs.Say.{brace, marks}
+use Rattle.syn_grammar.specs.Forms.{Case, first_form, fronts, front, has_right, inside, form_of, is_path_form}
+use Rattle.syn_grammar.specs.Forms.{stands_left}
 use Rattle.syn_grammar.specs.Derives.{Bound, Derives, IsLeft}
 use Rattle.syn_grammar.specs.Kept.{dotted, forget, held, kept}
-use Rattle.syn_grammar.specs.Normal.{passed, stands_behind, normal, formed}
+use Rattle.syn_grammar.specs.Normal.{passed, stands_behind, normal, normal_in, formed}
 use Rattle.syn_grammar.specs.Parens.{may_lack, is_attributed_range, is_struct}
 use Rattle.syn_grammar.proofs.Settled.{normal_twice}
 use Rattle.syn_grammar.proofs.Whole.{and_true}
 use Rattle.binding_laws.specs.Bare.{bare, HasPlainRanges}
 use Rattle.binding_laws.proofs.Gains.{gains_none}
 use Rattle.binding_laws.proofs.Shells.{is_dot, undotted}
+use Rattle.expressions_back.specs.Behind.{is_attributed}
+use Rattle.expressions_back.specs.Formed.{is_attributed_form}
+use Rattle.expressions_back.proofs.Bools.{never}
+use Rattle.binding_laws.proofs.Begun.{first_passes}
+use Rattle.binding_laws.proofs.Levels.{not_true}
 use Rattle.expressions_back.proofs.Opened.{nothing_right, fixed_right, paren_right}
 use Rattle.expressions_back.proofs.Stands.{struct_is}
 use Rattle.grammar_back.specs.Covered.{has_step, has_form_step, inner, is_known, is_form, is_covered}
 use Rattle.grammar_back.proofs.Dotted.{law_expr_await, law_expr_field, law_expr_method_call}
-use Rattle.grammar_back.proofs.Fits.{Fits, FitsForms, HasOperands, IsBackKind, IsMeant, IsFormed, MayLack, MayHave}
-use Rattle.grammar_back.proofs.Printed.{OwnPrinted, Printed, WholeLaw, form_known}
-use Rattle.read_back.proofs.Indices.{dot_fits, dot_read, dotted_fits, dotted_operands}
+use Rattle.grammar_back.proofs.Fits.{Fits, FitsForms, IsMeant, IsFormed, MayLack, MayHave}
+use Rattle.grammar_back.proofs.Printed.{OwnPrinted, Printed, WholeLaw}
+use Rattle.read_back.specs.Parts.{has_part, has_parts_of, is_more}
+use Rattle.read_back.proofs.Operands.{HasOperandsOf, IsBackOf, operands_are}
+use Rattle.read_back.proofs.Indices.{dot_fits, dot_read, dotted_fits, dotted_keeps, dotted_operands}
 use Rattle.read_back.proofs.Split.{dotted_bare, dotted_kept}
 
 -- the position
@@ -45,16 +55,34 @@ unfolding has_form_step
 no_range ExprAttributed x e = cc
 no_range _ x e = refl
 
-plain_ranges : (x : Tree) → is_covered x ≡ true → HasPlainRanges x
-plain_ranges (Front k y x) c =
-    let a = and_true (is_form k) (is_covered y && is_covered x) c in
-    (no_range k x a.0, plain_ranges x (and_true (is_covered y) (is_covered x) a.1).1)
-plain_ranges (Back l k y) c =
-    plain_ranges l (and_true (is_covered l) (is_covered y) (and_true (is_form k) _ c).1).0
-plain_ranges (Infix l k y r) c =
-    let a = and_true (is_covered l) (is_covered r) (and_true (is_covered y) _ (and_true (is_form k) _ c).1).1 in
-    (plain_ranges l a.0, plain_ranges r a.1)
-plain_ranges _ c = tt
+no_range_here : (k : Kind) (x : Tree) (b : Bool) → (is_form k && b) ≡ true
+    → (is_form k && (not (is_attributed_range k x) && b)) ≡ true
+no_range_here k x b e =
+    ap (λ c. is_form k && (not c && b)) (no_range k x (and_true (is_form k) b e).0) ∙ e
+
+-- So what is covered has its own parts covered, and its forms are of those kinds.
+both_parts : (a b c d : Bool) → (a ≡ true → b ≡ true) → (c ≡ true → d ≡ true) → (a && c) ≡ true → (b && d) ≡ true
+both_parts a b c d f g e = let h = and_true a c e in ap (λ i. i && d) (f h.0) ∙ g h.1
+
+covered_parts : (x : Tree) → is_covered x ≡ true → has_parts_of is_form x ≡ true
+covered_parts (Alone k y) c = c
+covered_parts (Front k y x) c =
+    no_range_here k x (is_covered y && has_parts_of is_form x)
+    (both_parts (is_form k) (is_form k) _ _ (λ e. e)
+    (λ e. both_parts (is_covered y) (is_covered y) _ _ (λ f. f) (λ f. covered_parts x f) e) c)
+covered_parts (Back l k y) c =
+    both_parts (is_form k) (is_form k) _ _ (λ e. e)
+    (λ e. both_parts (is_covered l) _ (is_covered y) (is_covered y) (λ f. covered_parts l f) (λ f. f) e) c
+covered_parts (Infix l k y r) c =
+    both_parts (is_form k) (is_form k) _ _ (λ e. e)
+    (λ e. both_parts (is_covered y) (is_covered y) _ _ (λ f. f)
+    (λ f. both_parts (is_covered l) _ (is_covered r) _ (λ g. covered_parts l g) (λ g. covered_parts r g) f) e) c
+covered_parts _ c = refl
+
+pub part_known : (k : Kind) → has_part k ≡ true → is_known k ≡ true
+unfolding has_step has_form_step
+part_known ExprLit e = refl
+part_known _ e = cc
 
 -- An own part is printed as what its kind means: behind a dot by the laws of the kinds.
 record Own (k : Kind) (z : Tree) : Type 0 where
@@ -63,7 +91,7 @@ record Own (k : Kind) (z : Tree) : Type 0 where
   means : IsMeant k tree
   kept_is : kept tree ≡ z
 
-form_meant : (k : Kind) (y : Tree) → is_form k ≡ true → is_dot k ≡ false → IsMeant k y
+form_meant : (k : Kind) (y : Tree) → has_part k ≡ true → is_dot k ≡ false → IsMeant k y
 unfolding has_form_step
 form_meant ExprLit y e f = tt
 form_meant ExprPath y e f = tt
@@ -102,6 +130,11 @@ form_meant ExprBitAnd y e f = tt
 form_meant ExprShift y e f = tt
 form_meant ExprSum y e f = tt
 form_meant ExprProduct y e f = tt
+form_meant ExprMacro y e f = tt
+form_meant ExprIf y e f = tt
+form_meant ExprMatch y e f = tt
+form_meant ExprWhile y e f = tt
+form_meant ExprAttributed y e f = tt
 form_meant _ y e f = cc
 
 of_node : (k : Kind) (t z : Tree) → ((x : Tree) → forget k x ≡ x) → Fits t (ref k) → kept t ≡ Node (held k) z → Own k z
@@ -127,7 +160,7 @@ dot_printed ExprAwait y r e d o =
     of_node ExprAwait i.tree (normal (kept y)) (λ x. refl) i.fits i.kept_is
 dot_printed _ y r e d o = cc
 
-own_printed : (k : Kind) (y : Tree) (r : List Token) → is_form k ≡ true → Derives y (table k) r
+own_printed : (k : Kind) (y : Tree) (r : List Token) → has_part k ≡ true → Derives y (table k) r
     → Printed (table k) (normal (kept y)) → Own k (normal (kept y))
 own_printed k y r h d o = go (is_dot k) refl
   where
@@ -142,28 +175,6 @@ Owns (Front k y x) = Own k (normal (kept y)) × Owns x
 Owns (Back l k y) = Owns l × Own k (normal (kept y))
 Owns (Infix l k y r) = Owns l × Own k (normal (kept y)) × Owns r
 Owns _ = Unit {0}
-
-owns : (x : Tree) (p : Position) (r : List Token) → Bound p x r → is_covered x ≡ true → OwnPrinted x → Owns x
-owns (Alone k y) p r d c o =
-    let a = and_true (is_form k) (is_covered y) c in
-    own_printed k y r a.0 d.1 o
-owns (Front k y x) p r d c o =
-    let a = and_true (is_form k) (is_covered y && is_covered x) c in
-    let b = and_true (is_covered y) (is_covered x) a.1 in
-    (own_printed k y (flat x ++ r) a.0 d.1 o.0, owns x (inside p k) r d.4 b.1 o.1)
-owns (Back l k y) p r d c o =
-    let a = and_true (is_form k) (is_covered l && is_covered y) c in
-    let b = and_true (is_covered l) (is_covered y) a.1 in
-    (owns l p (flat y ++ r) d.4 b.0 o.0, own_printed k y r a.0 d.1 o.1)
-owns (Infix l k y x) p r d c o =
-    let a = and_true (is_form k) (is_covered y && (is_covered l && is_covered x)) c in
-    let b = and_true (is_covered y) (is_covered l && is_covered x) a.1 in
-    let e = and_true (is_covered l) (is_covered x) b.1 in (
-      owns l p (flat y ++ (flat x ++ r)) d.4 e.0 o.0,
-      own_printed k y (flat x ++ r) a.0 d.1 o.1,
-      owns x (inside p k) r d.6 e.1 o.2,
-    )
-owns _ p r d c o = tt
 
 remade : (x : Tree) → Owns x → Tree
 remade (Alone k y) o = Alone k o.tree
@@ -202,40 +213,14 @@ remade_kept (Infix l k y x) o p r d =
 remade_kept _ o p r d = absurd d
 
 -- it fits
-back_fits : (k : Kind) (l y : Tree) → is_form k ≡ true → Fits y (table k) → IsMeant k y → FitsForms l
+back_fits : (k : Kind) (l y : Tree) → has_part k ≡ true → Fits y (table k) → IsMeant k y → FitsForms l
     → FitsForms (dotted l k y)
 back_fits k l y h f m g = go (is_dot k) refl
   where
     go : (b : Bool) → is_dot k ≡ b → FitsForms (dotted l k y)
     go true i = dotted_fits k l y (dot_fits k y i f) f m g
     go false i =
-        subst FitsForms (sym (undotted l k y i)) (form_known k h, f, m, λ z. undotted z k (kept y) i, g)
-
-remade_fits : (x : Tree) (o : Owns x) (p : Position) (r : List Token) → Bound p x r → is_covered x ≡ true
-    → FitsForms (remade x o)
-unfolding remade
-remade_fits (Alone k y) o p r d c =
-    let a = and_true (is_form k) (is_covered y) c in
-    (form_known k a.0, o.fits, o.means)
-remade_fits (Front k y x) o p r d c =
-    let a = and_true (is_form k) (is_covered y && is_covered x) c in
-    let b = and_true (is_covered y) (is_covered x) a.1 in
-    (form_known k a.0, o.0.fits, o.0.means, remade_fits x o.1 (inside p k) r d.4 b.1)
-remade_fits (Back l k y) o p r d c =
-    let a = and_true (is_form k) (is_covered l && is_covered y) c in
-    let b = and_true (is_covered l) (is_covered y) a.1 in
-    back_fits k (remade l o.0) o.1.tree a.0 o.1.fits o.1.means (remade_fits l o.0 p (flat y ++ r) d.4 b.0)
-remade_fits (Infix l k y x) o p r d c =
-    let a = and_true (is_form k) (is_covered y && (is_covered l && is_covered x)) c in
-    let b = and_true (is_covered y) (is_covered l && is_covered x) a.1 in
-    let e = and_true (is_covered l) (is_covered x) b.1 in (
-      form_known k a.0,
-      o.1.fits,
-      o.1.means,
-      remade_fits l o.0 p (flat y ++ (flat x ++ r)) d.4 e.0,
-      remade_fits x o.2 (inside p k) r d.6 e.1,
-    )
-remade_fits _ o p r d c = absurd d
+        subst FitsForms (sym (undotted l k y i)) (part_known k h, f, m, λ z. undotted z k (kept y) i, g)
 
 -- and has the operands that it had
 lacks_one : (p : Position) (k : Kind) (r : List Token) → has_right p k r ≡ false → MayLack k
@@ -263,42 +248,179 @@ unfolding stands_left
 left_path p k l s i =
     (and_true (is_path_form l) _ (subst (λ j. stands_left p l j ≡ true) (struct_is k s) i.0)).0
 
-back_operands : (k : Kind) (l y : Tree) → Fits y (table k) → IsBackKind k → MayLack k → HasOperands l
-    → (is_struct k ≡ true → is_path_form l ≡ true) → HasOperands (dotted l k y)
-back_operands k l y f b m g h = go (is_dot k) refl
-  where
-    go : (c : Bool) → is_dot k ≡ c → HasOperands (dotted l k y)
-    go true i = dotted_operands k l y (dot_fits k y i f) b m g
-    go false i = subst HasOperands (sym (undotted l k y i)) (b, m, g, h)
+-- the operands' forms are of kinds that pass, too
+pub record FrontParts (ks : Kind → Bool) (k : Kind) (y x : Tree) : Type 0 where
+  pub passes : ks k ≡ true
+  pub plain : is_attributed_range k x ≡ false
+  pub own : is_covered y ≡ true
+  pub right : has_parts_of ks x ≡ true
 
-remade_operands : (x : Tree) (o : Owns x) (p : Position) (r : List Token) → Bound p x r → is_covered x ≡ true
-    → HasOperands (remade x o)
+pub front_parts : (ks : Kind → Bool) (k : Kind) (y x : Tree) → has_parts_of ks (Front k y x) ≡ true
+    → FrontParts ks k y x
+front_parts ks k y x c =
+    let a = and_true (ks k) _ c in
+    let b = and_true (not (is_attributed_range k x)) _ a.1 in
+    let e = and_true (is_covered y) (has_parts_of ks x) b.1 in
+    record { passes = a.0; plain = not_true (is_attributed_range k x) b.0; own = e.0; right = e.1 }
+
+pub record InfixParts (ks : Kind → Bool) (l : Tree) (k : Kind) (y x : Tree) : Type 0 where
+  pub passes : ks k ≡ true
+  pub own : is_covered y ≡ true
+  pub left : has_parts_of ks l ≡ true
+  pub right : has_parts_of ks x ≡ true
+
+pub infix_parts : (ks : Kind → Bool) (l : Tree) (k : Kind) (y x : Tree) → has_parts_of ks (Infix l k y x) ≡ true
+    → InfixParts ks l k y x
+infix_parts ks l k y x c =
+    let a = and_true (ks k) _ c in
+    let e = and_true (is_covered y) _ a.1 in
+    let b = and_true (has_parts_of ks l) (has_parts_of ks x) e.1 in
+    record { passes = a.0; own = e.0; left = b.0; right = b.1 }
+
+-- and attributes stand together
+abbrev others : List Case → List Case
+others [] = []
+others (c ∷ cs) = cs
+
+hash_first : (p : Position) (ts : List Token) → front p ts ≡ Some ExprAttributed → sees (marks "#") ts ≡ true
+unfolding front
+hash_first p ts e = go (sees (marks "#") ts) refl
+  where
+    go : (b : Bool) → sees (marks "#") ts ≡ b → b ≡ true
+    go true f = refl
+    go false f =
+        absurd (never (first_passes (λ k. not (is_attributed k)) (others (fronts p)) ts ExprAttributed refl
+        (sym (ap (λ b. cond b (Some ExprAttributed) (first_form (others (fronts p)) ts)) f) ∙ e)))
+
+none_more : (z : Tree) (t : List Token → Bool) (g : Gram) (r : List Token) → Derives z (star t g) r → t r ≡ false
+none_more End t g r d = d
+none_more (Again x y) t g r d = none_more y t g r d.2
+none_more _ t g r d = absurd d
+
+no_hash : (y : Tree) (r : List Token) → Derives y (table ExprAttributed) r → sees (marks "#") r ≡ false
+unfolding table
+no_hash (Pair a (Node j z)) r d =
+    none_more z (sees (marks "#")) _ r (subst (λ k. Derives z (table k) r) d.1.0 d.1.1)
+no_hash (Pair a _) r d = absurd d.1
+no_hash _ r d = absurd d
+
+dotted_plain : (k : Kind) (l y : Tree) → Fits y (table k) → is_attributed_form l ≡ false
+    → is_attributed_form (dotted l k y) ≡ false
+dotted_plain k l y f e = go (is_dot k) refl
+  where
+    go : (b : Bool) → is_dot k ≡ b → is_attributed_form (dotted l k y) ≡ false
+    go true i =
+        dotted_keeps (λ z. is_attributed_form z ≡ false) (λ l k y. refl) k l y (dot_fits k y i f) e
+    go false i = ap is_attributed_form (undotted l k y i)
+
+none_first : (x : Tree) (o : Owns x) (p : Position) (r : List Token) → Bound p x r
+    → sees (marks "#") (flat x ++ r) ≡ false → is_attributed_form (remade x o) ≡ false
 unfolding remade
-remade_operands (Alone k y) o p r d c =
-    let a = and_true (is_form k) (is_covered y) c in
-    ((a.0, p, flat y ++ r, d.0), lacks_one p k r d.2)
-remade_operands (Front k y x) o p r d c =
-    let a = and_true (is_form k) (is_covered y && is_covered x) c in
-    let b = and_true (is_covered y) (is_covered x) a.1 in (
-      (a.0, p, flat y ++ (flat x ++ r), d.0),
-      has_one p k (flat x ++ r) d.2,
-      remade_operands x o.1 (inside p k) r d.4 b.1,
-    )
-remade_operands (Back l k y) o p r d c =
-    let a = and_true (is_form k) (is_covered l && is_covered y) c in
-    let b = and_true (is_covered l) (is_covered y) a.1 in
-    back_operands k (remade l o.0) o.1.tree o.1.fits (a.0, p, flat y ++ r, d.0) (lacks_one p k r d.2)
-    (remade_operands l o.0 p (flat y ++ r) d.4 b.0) (λ s. remade_path l o.0 (left_path p k l s d.3))
-remade_operands (Infix l k y x) o p r d c =
-    let a = and_true (is_form k) (is_covered y && (is_covered l && is_covered x)) c in
-    let b = and_true (is_covered y) (is_covered l && is_covered x) a.1 in
-    let e = and_true (is_covered l) (is_covered x) b.1 in (
-      (a.0, p, flat y ++ (flat x ++ r), d.0),
-      has_one p k (flat x ++ r) d.2,
-      remade_operands l o.0 p (flat y ++ (flat x ++ r)) d.4 e.0,
-      remade_operands x o.2 (inside p k) r d.6 e.1,
-    )
-remade_operands _ o p r d c = absurd d
+none_first (Alone k z) o p r d e = refl
+none_first (Front ExprAttributed z x) o p r d e =
+    absurd (never (sym e ∙ ap (sees (marks "#")) (append_assoc (flat z) (flat x) r) ∙ hash_first p _ d.0))
+none_first (Front _ z x) o p r d e = refl
+none_first (Back l k z) o p r d e =
+    dotted_plain k (remade l o.0) o.1.tree o.1.fits
+    (none_first l o.0 p (flat z ++ r) d.4 (sym (ap (sees (marks "#")) (append_assoc (flat l) (flat z) r)) ∙ e))
+none_first (Infix l k z x) o p r d e = refl
+none_first _ o p r d e = absurd d
+
+none_behind : (p : Position) (k : Kind) (y x : Tree) (r : List Token) → Bound p (Front k y x) r → (o : Owns x)
+    → (is_attributed k && is_attributed_form (remade x o)) ≡ false
+none_behind p ExprAttributed y x r d o = none_first x o (inside p ExprAttributed) r d.4 (no_hash y (flat x ++ r) d.1)
+none_behind p _ y x r d o = refl
+
+-- Of kinds that pass:
+module _ (passes : Kind → Bool) (part : (k : Kind) → passes k ≡ true → has_part k ≡ true) where
+  owns : (x : Tree) (p : Position) (r : List Token) → Bound p x r → has_parts_of passes x ≡ true → OwnPrinted x → Owns x
+  owns (Alone k y) p r d c o =
+      let a = and_true (passes k) (is_covered y) c in
+      own_printed k y r (part k a.0) d.1 o
+  owns (Front k y x) p r d c o =
+      let a = front_parts passes k y x c in
+      (own_printed k y (flat x ++ r) (part k a.passes) d.1 o.0, owns x (inside p k) r d.4 a.right o.1)
+  owns (Back l k y) p r d c o =
+      let a = and_true (passes k) (has_parts_of passes l && is_covered y) c in
+      let b = and_true (has_parts_of passes l) (is_covered y) a.1 in
+      (owns l p (flat y ++ r) d.4 b.0 o.0, own_printed k y r (part k a.0) d.1 o.1)
+  owns (Infix l k y x) p r d c o =
+      let a = infix_parts passes l k y x c in (
+        owns l p (flat y ++ (flat x ++ r)) d.4 a.left o.0,
+        own_printed k y (flat x ++ r) (part k a.passes) d.1 o.1,
+        owns x (inside p k) r d.6 a.right o.2,
+      )
+  owns _ p r d c o = tt
+
+  plain_ranges : (x : Tree) → has_parts_of passes x ≡ true → HasPlainRanges x
+  plain_ranges (Front k y x) c =
+      let a = front_parts passes k y x c in
+      (a.plain, plain_ranges x a.right)
+  plain_ranges (Back l k y) c =
+      plain_ranges l (and_true (has_parts_of passes l) (is_covered y) (and_true (passes k) _ c).1).0
+  plain_ranges (Infix l k y r) c =
+      let a = infix_parts passes l k y r c in
+      (plain_ranges l a.left, plain_ranges r a.right)
+  plain_ranges _ c = tt
+
+  remade_fits : (x : Tree) (o : Owns x) (p : Position) (r : List Token) → Bound p x r → has_parts_of passes x ≡ true
+      → FitsForms (remade x o)
+  unfolding remade
+  remade_fits (Alone k y) o p r d c =
+      let a = and_true (passes k) (is_covered y) c in
+      (part_known k (part k a.0), o.fits, o.means)
+  remade_fits (Front k y x) o p r d c =
+      let a = front_parts passes k y x c in
+      (part_known k (part k a.passes), o.0.fits, o.0.means, remade_fits x o.1 (inside p k) r d.4 a.right)
+  remade_fits (Back l k y) o p r d c =
+      let a = and_true (passes k) (has_parts_of passes l && is_covered y) c in
+      let b = and_true (has_parts_of passes l) (is_covered y) a.1 in
+      back_fits k (remade l o.0) o.1.tree (part k a.0) o.1.fits o.1.means (remade_fits l o.0 p (flat y ++ r) d.4 b.0)
+  remade_fits (Infix l k y x) o p r d c =
+      let a = infix_parts passes l k y x c in (
+        part_known k (part k a.passes),
+        o.1.fits,
+        o.1.means,
+        remade_fits l o.0 p (flat y ++ (flat x ++ r)) d.4 a.left,
+        remade_fits x o.2 (inside p k) r d.6 a.right,
+      )
+  remade_fits _ o p r d c = absurd d
+
+  module _ (fields : passes ExprField ≡ true) where
+    back_operands : (k : Kind) (l y : Tree) → Fits y (table k) → IsBackOf passes k → MayLack k
+        → HasOperandsOf passes l → (is_struct k ≡ true → is_path_form l ≡ true) → HasOperandsOf passes (dotted l k y)
+    back_operands k l y f b m g h = go (is_dot k) refl
+      where
+        go : (c : Bool) → is_dot k ≡ c → HasOperandsOf passes (dotted l k y)
+        go true i = dotted_operands passes fields k l y (dot_fits k y i f) b m g
+        go false i = subst (HasOperandsOf passes) (sym (undotted l k y i)) (b, m, g, h)
+
+    remade_operands : (x : Tree) (o : Owns x) (p : Position) (r : List Token) → Bound p x r
+        → has_parts_of passes x ≡ true → HasOperandsOf passes (remade x o)
+    unfolding remade
+    remade_operands (Alone k y) o p r d c =
+        let a = and_true (passes k) (is_covered y) c in
+        ((a.0, p, flat y ++ r, d.0), lacks_one p k r d.2)
+    remade_operands (Front k y x) o p r d c =
+        let a = front_parts passes k y x c in (
+          (a.passes, p, flat y ++ (flat x ++ r), d.0),
+          has_one p k (flat x ++ r) d.2,
+          none_behind p k y x r d o.1,
+          remade_operands x o.1 (inside p k) r d.4 a.right,
+        )
+    remade_operands (Back l k y) o p r d c =
+        let a = and_true (passes k) (has_parts_of passes l && is_covered y) c in
+        let b = and_true (has_parts_of passes l) (is_covered y) a.1 in
+        back_operands k (remade l o.0) o.1.tree o.1.fits (a.0, p, flat y ++ r, d.0) (lacks_one p k r d.2)
+        (remade_operands l o.0 p (flat y ++ r) d.4 b.0) (λ s. remade_path l o.0 (left_path p k l s d.3))
+    remade_operands (Infix l k y x) o p r d c =
+        let a = infix_parts passes l k y x c in (
+          (a.passes, p, flat y ++ (flat x ++ r), d.0),
+          has_one p k (flat x ++ r) d.2,
+          remade_operands l o.0 p (flat y ++ (flat x ++ r)) d.4 a.left,
+          remade_operands x o.2 (inside p k) r d.6 a.right,
+        )
+    remade_operands _ o p r d c = absurd d
 
 -- It gained no parentheses, so it is in normal form.
 abbrev inside_whole : Tree → Tree
@@ -308,26 +430,49 @@ inside_whole x = x
 no_condition : Plain ≡ InCondition → ⊥
 no_condition e = cc
 
-gains : (p : Position) (x : Tree) (r : List Token) → p ≡ Plain → Derives (Whole x) (operand p 0) r → is_covered x ≡ true
-    → formed p (stands_behind p) (kept x) ≡ bare (kept x)
+gains : (p : Position) (x : Tree) (r : List Token) → (p ≡ InCondition → sees brace r ≡ true)
+    → Derives (Whole x) (operand p 0) r → HasPlainRanges x → formed p (stands_behind p) (kept x) ≡ bare (kept x)
 unfolding table held passed
-gains p x r e d c =
-    ap form_of (gains_none p x r (refl, d) (λ i. absurd (no_condition (sym e ∙ i))) (plain_ranges x c))
+gains p x r e d c = ap form_of (gains_none p x r (refl, d) e c)
 
 formed_twice : (p : Position) (x : Tree) → formed p (stands_behind p) (formed p (stands_behind p) x)
     ≡ formed p (stands_behind p) x
 formed_twice p x = ap inside_whole (normal_twice p (Whole x))
 
-pub whole : WholeLaw
-whole p x r h d c o =
-    let w : Owns x = owns x p r d.1 c o in
+-- what is printed for it
+pub record Remade (passes : Kind → Bool) (p : Position) (x : Tree) : Type 0 where
+  pub tree : Tree
+  pub formed_is : IsFormed p tree
+  pub fits : FitsForms tree
+  pub operands : HasOperandsOf passes tree
+  pub kept_is : kept (Whole tree) ≡ normal_in p (kept (Whole x))
+
+pub remake : (passes : Kind → Bool) → ((k : Kind) → passes k ≡ true → has_part k ≡ true) → passes ExprField ≡ true
+    → (p : Position) (x : Tree) (r : List Token) → (p ≡ InCondition → sees brace r ≡ true)
+    → Derives (Whole x) (operand p 0) r → has_parts_of passes x ≡ true → OwnPrinted x → Remade passes p x
+remake passes part fields p x r b d c o =
+    let w : Owns x = owns passes part x p r d.1 c o in
     let z : Tree = remade x w in
-    let g = gains p x r (known_plain p h) d c in
+    let g = gains p x r b d (plain_ranges passes part x c) in
     let u : kept z ≡ bare (kept x) = remade_kept x w p r d.1 in
-    let f : IsFormed p z =
-    ap (formed p (stands_behind p)) (u ∙ sym g) ∙ formed_twice p (kept x) ∙ g ∙ sym u in
     record {
-      tree = Whole z;
-      fits = (refl, f, remade_fits x w p r d.1 c, remade_operands x w p r d.1 c);
+      tree = z;
+      formed_is = ap (formed p (stands_behind p)) (u ∙ sym g) ∙ formed_twice p (kept x) ∙ g ∙ sym u;
+      fits = remade_fits passes part x w p r d.1 c;
+      operands = remade_operands passes part fields x w p r d.1 c;
       kept_is = ap Whole (u ∙ sym g);
+    }
+
+pub form_part : (k : Kind) → is_form k ≡ true → has_part k ≡ true
+form_part k e = ap (λ b. b || is_more k) e
+
+pub whole : WholeLaw
+unfolding has_form_step
+whole p x r h d c o =
+    let w = remake is_form form_part refl p x r (λ i. absurd (no_condition (sym (known_plain p h) ∙ i))) d
+    (covered_parts x c) o in
+    record {
+      tree = Whole w.tree;
+      fits = (refl, w.formed_is, w.fits, operands_are w.tree w.operands);
+      kept_is = w.kept_is;
     }

@@ -1,16 +1,20 @@
 //! Laws of what is printed: each is the contract of a function that does nothing.
 
+ghost use Rattle.expressions_back.specs.Behind.{MayFollow};
 ghost use Rattle.grammar_back.specs.After.{After};
 ghost use Rattle.grammar_back.specs.Covered.{is_covered};
 ghost use Rattle.proc_macro2.specs.Token.{Token};
+ghost use Rattle.read_back.specs.Parts.{has_part, has_parts_of};
 ghost use Rattle.std.specs.Prelude.{◌≡◌, true, List, ◌++◌};
 ghost use Rattle.syn_grammar.specs.Derives.{Derives};
 ghost use Rattle.syn_grammar.specs.Gram.{ref};
 ghost use Rattle.syn_grammar.specs.Kept.{kept};
-ghost use Rattle.syn_grammar.specs.Kind.{Kind};
-ghost use Rattle.syn_grammar.specs.Normal.{normal};
+ghost use Rattle.syn_grammar.specs.Kind.{Kind, Position, InCondition, Expression};
+ghost use Rattle.syn_grammar.specs.Look.{sees};
+ghost use Rattle.syn_grammar.specs.Normal.{normal, normal_in};
 ghost use Rattle.syn_grammar.specs.Read.{IsRead};
-ghost use Rattle.syn_grammar.specs.Tree.{Tree, flat};
+ghost use Rattle.syn_grammar.specs.Say.{brace};
+ghost use Rattle.syn_grammar.specs.Tree.{Tree, Node, Whole, flat};
 
 /// Of a derived tree that is covered: the tokens of its normal form are read back as its normal form, before all that
 /// may follow its kind.
@@ -24,4 +28,27 @@ pub fn same_tokens()
     ensures { (k : Kind) (x y : Tree) (rest other next : List Token) → Derives x (ref k) rest → Derives y (ref k) other
         → is_covered x ≡ true → is_covered y ≡ true → After k (normal (kept x)) next → After k (normal (kept y)) next
         → flat (normal (kept x)) ≡ flat (normal (kept y)) → normal (kept x) ≡ normal (kept y) }
+{}
+
+/// Of an expression that was read in a position, a condition before a brace: where its forms are of the kinds of
+/// `specs/Parts` and what stands in their own parts is covered, the tokens of its normal form in that position are
+/// read back there, before all that may follow it.
+pub fn read_in_position()
+    ensures { (p : Position) (x : Tree) (rest next : List Token)
+        → Derives (Node (Expression p) (Whole x)) (ref (Expression p)) rest
+        → (p ≡ InCondition → sees brace rest ≡ true) → has_parts_of has_part x ≡ true → MayFollow p next
+        → IsRead (Expression p) (flat (normal_in p (kept (Node (Expression p) (Whole x)))) ++ next)
+        (normal_in p (kept (Node (Expression p) (Whole x)))) next }
+{}
+
+/// Two such have normal forms of the same tokens only if these are the same.
+pub fn same_in_position()
+    ensures { (p : Position) (x y : Tree) (rest other next : List Token)
+        → Derives (Node (Expression p) (Whole x)) (ref (Expression p)) rest
+        → (p ≡ InCondition → sees brace rest ≡ true) → has_parts_of has_part x ≡ true
+        → Derives (Node (Expression p) (Whole y)) (ref (Expression p)) other
+        → (p ≡ InCondition → sees brace other ≡ true) → has_parts_of has_part y ≡ true → MayFollow p next
+        → flat (normal_in p (kept (Node (Expression p) (Whole x))))
+        ≡ flat (normal_in p (kept (Node (Expression p) (Whole y))))
+        → normal_in p (kept (Node (Expression p) (Whole x))) ≡ normal_in p (kept (Node (Expression p) (Whole y))) }
 {}

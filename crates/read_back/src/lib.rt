@@ -5,11 +5,13 @@
 //! An expression as it is printed fits its entry (`grammar_back`): it is in normal form where it stands, and its own
 //! parts fit. So it is settled (`Settled`); what is held of it binds as it does itself, and its operands stay as they
 //! stand (`Held`). Its own parts are read back by the steps of their kinds, so wherever their forms may stand (`Parts`,
-//! of paths by `Paths`, behind a dot by `Dots`, of arrays, repeats, blocks and `let` by `Blocks`, of which `Semicolons`
-//! tells the first two apart), and then it is read (`Owned`) before what may follow it (`Follow`). For each expression
-//! that was read there is one as it is printed (`Wholes`), in which a number behind a dot is split as in what is held
-//! (`Split`), and each form that it is split into fits (`Indices`). `Forms` has all that is to be known of expressions,
-//! `ReadBack` the laws, and `Examples` an expression that is covered.
+//! of paths by `Paths`, of macros by `Macros`, behind a dot by `Dots`, of those that their first token tells by
+//! `Starting`, of arrays, repeats and blocks by `Blocks`, of which `Semicolons` tells the first two apart), and then it
+//! is read (`Owned`) before what may follow it (`Follow`). For each expression that was read there is one as it is
+//! printed (`Wholes`), in which a number behind a dot is split as in what is held (`Split`), each form that it is split
+//! into fits (`Indices`), and each form has its operands (`Operands`). `Forms` has all that is to be known of
+//! expressions, `ReadBack` the laws of kinds, and `Positions` those of an expression where it stands, whose forms may
+//! be of more kinds than a covered tree's (`specs/Parts`): macros and attributes. `Examples` has one of each.
 //!
 //! - `laws`: the laws.
 #![tactic(auto)]

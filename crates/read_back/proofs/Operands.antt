@@ -1,0 +1,50 @@
+-- The forms of an expression are of kinds that pass, and have the operands that they have here.
+use Rattle.std.proofs.Common.{◌≡◌, List, refl}
+use Rattle.std.specs.Prelude.{Bool, true, false, ◌&&◌, Some}
+use Rattle.proc_macro2.specs.Token.{Token}
+use Rattle.syn_grammar.specs.Kind.{Kind, Position, ExprAttributed}
+use Rattle.syn_grammar.specs.Tree.{Tree, Alone, Front, Back, Infix}
+use Rattle.syn_grammar.specs.Forms.{front, back, is_path_form}
+use Rattle.syn_grammar.specs.Parens.{is_struct}
+use Rattle.expressions_back.specs.Behind.{is_attributed}
+use Rattle.expressions_back.specs.Formed.{is_attributed_form}
+use Rattle.grammar_back.specs.Covered.{has_form_step, is_form}
+use Rattle.grammar_back.proofs.Fits.{HasOperands, MayLack, MayHave}
+
+abbrev pub IsFrontOf : (Kind → Bool) → Kind → Type 0
+IsFrontOf passes k = (passes k ≡ true) × (p : Position) × (ts : List Token) × (front p ts ≡ Some k)
+
+abbrev pub IsBackOf : (Kind → Bool) → Kind → Type 0
+IsBackOf passes k = (passes k ≡ true) × (p : Position) × (ts : List Token) × (back p ts ≡ Some k)
+
+abbrev pub HasOperandsOf : (Kind → Bool) → Tree → Type 0
+HasOperandsOf passes (Alone k y) = IsFrontOf passes k × MayLack k
+HasOperandsOf passes (Front k y x) =
+    IsFrontOf passes k × MayHave k × (is_attributed k && is_attributed_form x ≡ false) × HasOperandsOf passes x
+HasOperandsOf passes (Back l k y) =
+    IsBackOf passes k × MayLack k × HasOperandsOf passes l × (is_struct k ≡ true → is_path_form l ≡ true)
+HasOperandsOf passes (Infix l k y r) =
+    IsBackOf passes k × MayHave k × HasOperandsOf passes l × HasOperandsOf passes r
+HasOperandsOf passes x = ⊥
+
+-- Those that `grammar_back` asks for are so, and are of more kinds.
+pub operands_are : (x : Tree) → HasOperandsOf is_form x → HasOperands x
+operands_are (Alone k y) o = o
+operands_are (Front k y x) o = (o.0, o.1, operands_are x o.3)
+operands_are (Back l k y) o = (o.0, o.1, operands_are l o.2, o.3)
+operands_are (Infix l k y r) o = (o.0, o.1, operands_are l o.2, operands_are r o.3)
+operands_are _ o = absurd o
+
+none_attributed : (k : Kind) (x : Tree) → is_form k ≡ true → (is_attributed k && is_attributed_form x) ≡ false
+unfolding has_form_step
+none_attributed ExprAttributed x e = cc
+none_attributed _ x e = refl
+
+module _ (passes : Kind → Bool) (more : (k : Kind) → is_form k ≡ true → passes k ≡ true) where
+  pub operands_of : (x : Tree) → HasOperands x → HasOperandsOf passes x
+  operands_of (Alone k y) o = ((more k o.0.0, o.0.1, o.0.2, o.0.3), o.1)
+  operands_of (Front k y x) o =
+      ((more k o.0.0, o.0.1, o.0.2, o.0.3), o.1, none_attributed k x o.0.0, operands_of x o.2)
+  operands_of (Back l k y) o = ((more k o.0.0, o.0.1, o.0.2, o.0.3), o.1, operands_of l o.2, o.3)
+  operands_of (Infix l k y r) o = ((more k o.0.0, o.0.1, o.0.2, o.0.3), o.1, operands_of l o.2, operands_of r o.3)
+  operands_of _ o = absurd o
