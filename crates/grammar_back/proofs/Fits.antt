@@ -3,7 +3,7 @@
 -- Its kinds are covered. An expression in it is in normal form where it stands, the own part of each of its forms fits
 -- the entry of the form's kind, no number in it is to be split, and its forms have the operands of their kinds.
 use Rattle.std.proofs.Common.{◌≡◌, List, [], ◌∷◌, ◌++◌, refl, sym, ap, ◌∙◌}
-use Rattle.std.specs.Prelude.{Bool, true, false, not, ◌||◌, ◌&&◌, codes, Some}
+use Rattle.std.specs.Prelude.{ℕ, suc, Bool, true, false, cond, not, ◌||◌, ◌&&◌, codes, Some}
 use Rattle.proc_macro2.specs.Token.{Token, Opens, Closes, Punct}
 use Rattle.proc_macro2.specs.declared.delimiter.Delimiter.TheVariants.{Parenthesis}
 use Rattle.rust_leaf.specs.declared.punct.Spacing.TheVariants.{Alone as Apart}
@@ -11,6 +11,8 @@ use Rattle.syn_grammar.specs.Kind.{Kind, Position, Plain, DynType, ImplType, Wit
 use Rattle.syn_grammar.specs.Kind.{PathPattern, ReferencePattern, InExpression, Parameter, Segment, Segments}
 use Rattle.syn_grammar.specs.Kind.{ATypeAlias, FnPtrType, InFile, InForeign, WherePredicate}
 use Rattle.syn_grammar.specs.Kind.{AConst, AnImpl, AnItem, NeverType, UnnamedField, Meta}
+use Rattle.syn_grammar.specs.Kind.{AConstTrait, AForeignModule, AMacroDefinition, AModule, ARestrictedTrait, AStatic}
+use Rattle.syn_grammar.specs.Kind.{AStruct, ATrait, AUnion, AUse, AnEnum, AnExternCrate, ItemMacro}
 use Rattle.syn_grammar.specs.Kind.{Expression}
 use Rattle.syn_grammar.specs.Kind.{ExprAttributed, ExprAwait, ExprField, ExprMethodCall}
 use Rattle.syn_grammar.specs.Tree.{Tree, AWord, ALiteral, AMark, ALifetime, Raw, Nil, Pair, First, Second, End}
@@ -26,11 +28,12 @@ use Rattle.syn_grammar.specs.Tidy.{begins_bracketed, is_absent}
 use Rattle.syn_grammar.specs.Kept.{forget, dotted, is_there, kept}
 use Rattle.syn_grammar.specs.Forms.{front as form_in_front, back as form_behind, has_right, is_path_form}
 use Rattle.syn_grammar.specs.Parens.{is_struct}
-use Rattle.syn_grammar.specs.Part.{choice}
+use Rattle.syn_grammar.specs.Name.{the_const, the_default, the_safety}
+use Rattle.syn_grammar.specs.Part.{choice, has}
 use Rattle.syn_grammar.specs.Normal.{stands_behind, formed}
 use Rattle.grammar_back.specs.After.{is_any_path, is_generic}
-use Rattle.grammar_back.specs.Covered.{front, inner, has_clear_type, is_lone, has_lone_value, is_known, is_plain_item}
-use Rattle.grammar_back.specs.Covered.{is_form, is_plain_item, item_of}
+use Rattle.grammar_back.specs.Covered.{front, inner, has_clear_type, is_lone, has_lone_value, is_known}
+use Rattle.grammar_back.specs.Covered.{is_form, item_of}
 
 -- the test can say so
 abbrev pub CanSay : (List Token → Bool) → Bool → Type 0
@@ -188,6 +191,42 @@ abbrev pub behind_impl : Tree → Tree
 behind_impl (First x) = back (back (back (back x)))
 behind_impl x = x
 
+-- of an item's form: so many alternatives stand before it, and before what was chosen, by its words in front
+abbrev pub place : Tree → ℕ
+place (Second x) = suc (place x)
+place _ = 0
+
+abbrev pub own_place : Tree → ℕ
+own_place (Node AnExternCrate y) = 1
+own_place (Node AForeignModule y) = cond (has the_safety y) 8 2
+own_place (Node AUse y) = 3
+own_place (Node AStatic y) = 4
+own_place (Node AConstTrait y) = 5
+own_place (Node AnImpl y) = cond (has the_default y) 19 (cond (has the_const y) 6 (cond (has the_safety y) 10 19))
+own_place (Node AConst y) = 7
+own_place (Node AModule y) = cond (has the_safety y) 9 12
+own_place (Node ATrait y) = cond (has the_safety y) 11 18
+own_place (Node (ATypeAlias p) y) = 13
+own_place (Node AStruct y) = 14
+own_place (Node AnEnum y) = 15
+own_place (Node AUnion y) = 16
+own_place (Node ARestrictedTrait y) = 17
+own_place (Node AMacroDefinition y) = 20
+own_place (Node (ItemMacro p) y) = 21
+own_place _ = 0
+
+-- it isn't always raw
+abbrev pub is_item_form : Tree → Bool
+is_item_form (Node AConstTrait y) = false
+is_item_form (Node ARestrictedTrait y) = false
+is_item_form (Node AMacroDefinition y) = false
+is_item_form (Node AnImpl y) = not (has the_const y)
+is_item_form (Node (ItemMacro p) y) = false
+is_item_form _ = true
+
+abbrev pub IsItem : Tree → Type 0
+IsItem x = (place x ≡ own_place (choice x)) × (is_item_form (choice x) ≡ true)
+
 -- what the tests say of what a kind holds, where its entry's shape doesn't
 abbrev pub IsMeant : Kind → Tree → Type 0
 IsMeant (DynType WithoutPlus) x = has_path_bound x ≡ true
@@ -203,7 +242,7 @@ IsMeant Meta x = has_bare_value x ≡ true
 IsMeant (ATypeAlias InFile) x = has_own_where (back (back (back (back x)))) ≡ true
 IsMeant (ATypeAlias InForeign) x = has_own_where (back (back (back (back x)))) ≡ true
 IsMeant AnImpl x = IsOwnImpl (behind_impl (kept x))
-IsMeant AnItem x = is_plain_item (choice (item_of x)) ≡ true
+IsMeant AnItem x = IsItem (item_of x)
 IsMeant ExprField x = (has_dots (front x) ≡ true) × (has_last (back x) ≡ true)
 IsMeant ExprMethodCall x = (has_dots (front x) ≡ true) × (has_own_colons (back (back x)) ≡ true)
 IsMeant ExprAwait x = has_dots (front x) ≡ true

@@ -335,7 +335,7 @@ lacks_part n (judged v g) = lacks_part n g
 lacks_part n (called m g) = not (same_part m n)
 lacks_part n _ = true
 
-none_found : (n : Part) (x : Tree) (g : Gram) (r : List Token) → Derives x g r → lacks_part n g ≡ true
+pub none_found : (n : Part) (x : Tree) (g : Gram) (r : List Token) → Derives x g r → lacks_part n g ≡ true
     → found n (normal_in Plain (kept x)) ≡ None
 none_found n (Called m x) (called l g) r d e =
     ap (λ b. cond b (Some (normal_in (place_of m) (kept x))) None)
@@ -483,7 +483,7 @@ generics_read (Node k x) r d e =
     (subst (λ j. is_generic (normal_in Plain (kept (Node j x))) ≡ false) d.0 e)
 generics_read _ r d e = absurd d
 
-contrary : (b : Bool) → b ≡ true → b ≡ false → ⊥
+pub contrary : (b : Bool) → b ≡ true → b ≡ false → ⊥
 contrary true e f = cc
 contrary false e f = cc
 
@@ -634,7 +634,7 @@ impl_meant (Verbatim x) r e h = absurd (never_raw (is_impl x) h.0)
 impl_meant _ r e h = absurd h
 
 -- normal form keeps whether there is a ! or a trait
-changed_has : (n m : Part) (f : Tree → Tree) (x : Tree) → has n (changed m f x) ≡ has n x
+pub changed_has : (n m : Part) (f : Tree → Tree) (x : Tree) → has n (changed m f x) ≡ has n x
 changed_has n m f (Called o x) = some_called (same_part o n) (cond (same_part o m) (f x) x) x
 changed_has n m f (Pair x y) =
     some_either (found n (changed m f x)) (found n (changed m f y)) (found n x) (found n y) (changed_has n m f x)

@@ -43,6 +43,8 @@ pub mod Defaults
 pub mod Aliases
 pub mod Dotted
 pub mod FieldValues
+pub mod ItemPlaces
+pub mod ItemVerdicts
 pub mod WholeItems
 pub mod Turns
 pub mod Impls

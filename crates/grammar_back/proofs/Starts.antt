@@ -457,8 +457,11 @@ starts Label = Tick ∷ []
 starts Body = Opening Brace ∷ []
 starts Block = Opening Brace ∷ []
 starts Statements = Sign 59 [] ∷ []
-starts Items = Then 35 [] (Opening Bracket) ∷ TheWord (codes "pub") ∷ TheWord (codes "struct") ∷ TheWord
-    (codes "enum") ∷ []
+starts Items = Then 35 [] (Opening Bracket) ∷ TheWord (codes "pub") ∷ TheWord (codes "const") ∷ TheWord
+    (codes "async") ∷ TheWord (codes "unsafe") ∷ TheWord (codes "extern") ∷ TheWord (codes "fn") ∷ TheWord
+    (codes "use") ∷ TheWord (codes "static") ∷ TheWord (codes "mod") ∷ TheWord (codes "type") ∷ TheWord
+    (codes "struct") ∷ TheWord (codes "enum") ∷ TheWord (codes "union") ∷ TheWord (codes "auto") ∷ TheWord
+    (codes "trait") ∷ TheWord (codes "default") ∷ TheWord (codes "impl") ∷ []
 starts AModule = TheWord (codes "unsafe") ∷ TheWord (codes "mod") ∷ []
 starts AForeignModule = TheWord (codes "unsafe") ∷ TheWord (codes "extern") ∷ []
 starts AMacroDefinition = TheWord (codes "macro") ∷ []
@@ -467,10 +470,16 @@ starts AConstTrait = TheWord (codes "const") ∷ []
 starts ARestrictedTrait = TheWord (codes "impl") ∷ []
 starts AnImpl = TheWord (codes "default") ∷ TheWord (codes "const") ∷ TheWord (codes "unsafe") ∷ TheWord
     (codes "impl") ∷ []
-starts AnItem = Then 35 [] (Opening Bracket) ∷ TheWord (codes "pub") ∷ TheWord (codes "struct") ∷ TheWord
-    (codes "enum") ∷ []
+starts AnItem = Then 35 [] (Opening Bracket) ∷ TheWord (codes "pub") ∷ TheWord (codes "const") ∷ TheWord
+    (codes "async") ∷ TheWord (codes "unsafe") ∷ TheWord (codes "extern") ∷ TheWord (codes "fn") ∷ TheWord
+    (codes "use") ∷ TheWord (codes "static") ∷ TheWord (codes "mod") ∷ TheWord (codes "type") ∷ TheWord
+    (codes "struct") ∷ TheWord (codes "enum") ∷ TheWord (codes "union") ∷ TheWord (codes "auto") ∷ TheWord
+    (codes "trait") ∷ TheWord (codes "default") ∷ TheWord (codes "impl") ∷ []
 starts AFile = Then 35 [] (Sign 33 []) ∷ Then 35 [] (Opening Bracket) ∷ TheWord (codes "pub") ∷ TheWord
-    (codes "struct") ∷ TheWord (codes "enum") ∷ []
+    (codes "const") ∷ TheWord (codes "async") ∷ TheWord (codes "unsafe") ∷ TheWord (codes "extern") ∷ TheWord
+    (codes "fn") ∷ TheWord (codes "use") ∷ TheWord (codes "static") ∷ TheWord (codes "mod") ∷ TheWord (codes "type")
+    ∷ TheWord (codes "struct") ∷ TheWord (codes "enum") ∷ TheWord (codes "union") ∷ TheWord (codes "auto") ∷ TheWord
+    (codes "trait") ∷ TheWord (codes "default") ∷ TheWord (codes "impl") ∷ []
 starts ExprLit = Quoted any_text ∷ TheWord (codes "true") ∷ TheWord (codes "false") ∷ []
 starts ExprPath = Sign 60 [] ∷ Then 58 (58 ∷ []) (TheWord (codes "self")) ∷ Then 58 (58 ∷ [])
     (TheWord (codes "super")) ∷ Then 58 (58 ∷ []) (TheWord (codes "crate")) ∷ Then 58 (58 ∷ []) (AnyWord is_ident) ∷

@@ -32,7 +32,6 @@ use Rattle.syn_grammar.specs.Tree.{Tree, AWord, Pair, First, Second, Again, Fina
 use Rattle.syn_grammar.specs.Tree.{Verbatim}
 use Rattle.syn_grammar.specs.Tree.{Node, Whole, Alone, Front, Back, Infix}
 use Rattle.syn_grammar.specs.Words.{is_ident}
-use Rattle.syn_grammar.specs.Name.{Part, the_item}
 use Rattle.syn_grammar.specs.Part.{choice}
 use Rattle.syn_grammar.specs.Kept.{is_there}
 use Rattle.syn_grammar.specs.Verdicts.{is_path_type}
@@ -339,11 +338,10 @@ has_own_trait (First (Pair d (Pair c (Pair u (Pair i (Pair g (Pair p (Pair (Call
     not (is_there f) || is_path_type t
 has_own_trait _ = true
 
--- Items among others are structs and enums so far.
-abbrev pub is_plain_item : Tree → Bool
-is_plain_item (Node AStruct x) = true
-is_plain_item (Node AnEnum x) = true
-is_plain_item _ = false
+-- Items among others are no macros so far; and in extern blocks, traits and impls there are none.
+abbrev pub is_no_macro : Tree → Bool
+is_no_macro (Node (ItemMacro p) x) = false
+is_no_macro _ = true
 
 -- behind its attributes and its visibility
 abbrev pub item_of : Tree → Tree
@@ -352,18 +350,13 @@ item_of (Pair x y) = item_of y
 item_of (Called n y) = y
 item_of x = x
 
--- what is asked of a part
-abbrev pub is_taken_part : Part → Tree → Bool
-is_taken_part the_item x = is_plain_item (choice x)
-is_taken_part n x = true
-
 -- what is asked of a kind's tree
 abbrev pub is_taken : Kind → Tree → Bool
 is_taken AConst x = has_lone_value x
 is_taken UnnamedField x = has_clear_type x
 is_taken OnePattern x = not (is_lone (choice x))
 is_taken AnImpl x = has_own_trait x
-is_taken AnItem x = is_plain_item (choice (item_of x))
+is_taken AnItem x = is_no_macro (choice (item_of x))
 is_taken k x = true
 
 abbrev pub is_covered : Tree → Bool
@@ -375,7 +368,7 @@ is_covered (Final x) = is_covered x
 is_covered (More x c spacing y) = is_covered x && is_covered y
 is_covered (Group d x) = is_covered x
 is_covered (Dropped x) = is_covered x
-is_covered (Called n x) = is_taken_part n x && is_covered x
+is_covered (Called n x) = is_covered x
 is_covered (Verbatim x) = false
 is_covered (Node k x) = is_known k && (is_taken k x && is_covered x)
 is_covered (Whole x) = is_covered x
