@@ -10,6 +10,7 @@ pub mod Follow
 pub mod Paths
 pub mod Macros
 pub mod Starting
+pub mod Casts
 pub mod Operands
 pub mod Parts
 pub mod Wholes

@@ -13,7 +13,7 @@ use Rattle.syn_grammar.specs.Kind.{ExprUnary, ExprRawAddr}
 use Rattle.syn_grammar.specs.Kind.{ExprReference, ExprBreak, ExprReturn, ExprYield, ExprRange, ExprRangeClosed}
 use Rattle.syn_grammar.specs.Kind.{ExprAssign, ExprOr, ExprAnd, ExprCompare, ExprBitOr, ExprBitXor, ExprBitAnd}
 use Rattle.syn_grammar.specs.Kind.{ExprShift, ExprSum, ExprProduct, ExprMacro, ExprIf, ExprMatch, ExprWhile}
-use Rattle.syn_grammar.specs.Kind.{ExprAttributed}
+use Rattle.syn_grammar.specs.Kind.{ExprAttributed, ExprCast}
 use Rattle.syn_grammar.specs.Kind.{ExprArray, ExprAsync, ExprBlock, ExprConst, ExprLet, ExprLoop, ExprRepeat}
 use Rattle.syn_grammar.specs.Tree.{Tree, Alone, Front, Back, Infix, marks, flat}
 use Rattle.syn_grammar.specs.Ranks.{skips}
@@ -43,7 +43,8 @@ use Rattle.grammar_back.proofs.Fits.{Fits, FitsForms, IsMeant, IsWhole, MayLack,
 use Rattle.grammar_back.proofs.Fits.{flat_kept}
 use Rattle.grammar_back.proofs.Readies.{OwnReady, Ready}
 use Rattle.grammar_back.proofs.Starts.{starts}
-use Rattle.read_back.specs.Parts.{has_part}
+use Rattle.read_back.specs.Parts.{ends_in_type, has_part}
+use Rattle.read_back.proofs.Casts.{cast_part}
 use Rattle.read_back.proofs.Blocks.{block_part, is_block}
 use Rattle.read_back.proofs.Dots.{dot_own}
 use Rattle.read_back.proofs.Macros.{macro_part}
@@ -77,7 +78,12 @@ unfolding has_form_step may_lack level
 alone_kind ExprLit e f h = refl
 alone_kind _ e f h = cc
 
-back_kind : (k : Kind) → has_part k ≡ true → is_back k ≡ true → (is_struct k || (is_dot k || is_firm_behind k)) ≡ true
+abbrev is_cast : Kind → Bool
+is_cast ExprCast = true
+is_cast k = false
+
+back_kind : (k : Kind) → has_part k ≡ true → is_back k ≡ true
+    → (is_struct k || (is_cast k || (is_dot k || is_firm_behind k))) ≡ true
 unfolding has_form_step
 back_kind ExprCall e f = refl
 back_kind _ e f = cc
@@ -158,6 +164,7 @@ before_nothing ExprIf y e = (refl, tt)
 before_nothing ExprMatch y e = tt
 before_nothing ExprWhile y e = tt
 before_nothing ExprAttributed y e = (refl, tt)
+before_nothing ExprCast y e = (refl, (refl, (refl, (refl, (refl, tt)))))
 before_nothing _ y e = cc
 
 own : (k : Kind) (y : Tree) → has_part k ≡ true → Fits y (table k) → OwnReady k y → normal (kept y) ≡ kept y → IsOwn k y
@@ -190,10 +197,12 @@ last_own k y m f i h w o = go (is_dot k) refl m
     go true e m = dot_own k y e f i h w o.1
     go false e m = behind_part (BehindOperand k y) k y m o
 
-back_own : (k : Kind) (y : Tree) → (is_struct k || (is_dot k || is_firm_behind k)) ≡ true → Fits y (table k)
-    → IsMeant k y → IsWhole k y → OwnReady k y → IsOwn k y → IsBehind (BehindOperand k y) k y
-back_own ExprStruct y m f i h w o = struct_part y w o.1
-back_own k y m f i h w o = last_own k y m f i h w o
+back_own : (k : Kind) (y : Tree) → (is_struct k || (is_cast k || (is_dot k || is_firm_behind k))) ≡ true
+    → ends_in_type k y ≡ true → Fits y (table k) → IsMeant k y → IsWhole k y → OwnReady k y → IsOwn k y
+    → IsBehind (BehindOperand k y) k y
+back_own ExprStruct y m e f i h w o = struct_part y w o.1
+back_own ExprCast y m e f i h w o = cast_part y e w o.1
+back_own k y m e f i h w o = last_own k y m f i h w o
 
 end_own : (k : Kind) (y : Tree) → (is_block k || (is_firm_front k || is_break k)) ≡ true → Fits y (table k)
     → OwnReady k y → IsOwn k y → IsFront AtEnd k y
@@ -241,7 +250,7 @@ owned (Front k y x) h o w p ts s =
 owned (Back l k y) h o w p ts s =
     let t : Settled p ts (Back (kept l) k (kept y)) = subst (Settled p ts) (h.3 (kept l)) s in
     let m = back_kind k o.0.0 (backs_are o.0.1 k o.0.2 o.0.3) in (
-      back_own k y m h.1 h.2 h.3 w.1 (own k y o.0.0 h.1 w.1 t.0),
+      back_own k y m o.4 h.1 h.2 h.3 w.1 (own k y o.0.0 h.1 w.1 t.0),
       lacks k o.1,
       o.3,
       owned l h.4 o.2 w.0 p (follow (flat (kept y))) t.4,

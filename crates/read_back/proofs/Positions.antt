@@ -1,6 +1,6 @@
 -- An expression whose own parts are covered is read back in each position.
 use Rattle.std.proofs.Common.{◌≡◌, List, ◌++◌, refl, sym, ap, ◌∙◌, subst}
-use Rattle.std.specs.Prelude.{true, ◌&&◌}
+use Rattle.std.specs.Prelude.{true}
 use Rattle.proc_macro2.specs.Token.{Token}
 use Rattle.syn_grammar.specs.Kind.{Kind, Position, Plain, InCondition, Expression}
 use Rattle.syn_grammar.specs.Tree.{Tree, Node, Whole, Alone, Front, Back, Infix, flat}
@@ -23,7 +23,7 @@ use Rattle.grammar_back.proofs.Printed.{EntryLaw, IsPlaced, OwnPrinted, Printed,
 use Rattle.grammar_back.proofs.Readies.{ready_forms}
 use Rattle.read_back.specs.Parts.{has_part, has_parts_of}
 use Rattle.read_back.proofs.Forms.{expressions, read_formed}
-use Rattle.read_back.proofs.Wholes.{front_parts, infix_parts, part_known, remake}
+use Rattle.read_back.proofs.Wholes.{back_parts, front_parts, infix_parts, part_known, remake}
 
 -- what is printed for its own parts
 part_placed : (k : Kind) → has_part k ≡ true → IsPlaced Plain k
@@ -55,9 +55,8 @@ parts_printed (Front k y x) p r d c =
     let a = front_parts has_part k y x c in
     (part_printed k y (flat x ++ r) a.passes d.1 a.own, parts_printed x (inside p k) r d.4 a.right)
 parts_printed (Back l k y) p r d c =
-    let a = and_true (has_part k) (has_parts_of has_part l && is_covered y) c in
-    let b = and_true (has_parts_of has_part l) (is_covered y) a.1 in
-    (parts_printed l p (flat y ++ r) d.4 b.0, part_printed k y r a.0 d.1 b.1)
+    let a = back_parts has_part l k y c in
+    (parts_printed l p (flat y ++ r) d.4 a.left, part_printed k y r a.passes d.1 a.own)
 parts_printed (Infix l k y x) p r d c =
     let a = infix_parts has_part l k y x c in (
       parts_printed l p (flat y ++ (flat x ++ r)) d.4 a.left,

@@ -36,12 +36,12 @@ begun_part M k y cs read h n = record {
   single = λ ts m. (of_all (Starts k) cs (flat y ++ ts) h (read ts m).1).1;
 }
 
-no_else : (ts : List Token) → AtEnd ts → sees (at "else") ts ≡ false
-no_else ts e =
+pub no_arrow : (ts : List Token) → AtEnd ts → (sees (marks "->") ts ≡ false) × (sees (at "else") ts ≡ false)
+no_arrow ts e =
     let a = or_parts (marks ":" ts) _ e in
     let b = or_parts _ _ a.1 in
     let c = or_parts (marks "->" ts) _ b.1 in
-    (or_parts (at "else" ts) _ (or_parts (a_lifetime ts) _ c.1).1).0
+    (c.0, (or_parts (at "else" ts) _ (or_parts (a_lifetime ts) _ c.1).1).0)
 
 -- at the end of an operand
 abbrev pub is_started : Kind → Bool
@@ -57,7 +57,7 @@ started_part ExprContinue y e w n =
     begun_part AtEnd ExprContinue y (TheWord (codes "continue") ∷ []) (λ ts m. w ts ((end ts m).lifetime, tt))
     (λ us. (λ p s. refl, refl), tt) n
 started_part ExprIf y e w n =
-    begun_part AtEnd ExprIf y (TheWord (codes "if") ∷ []) (λ ts m. w ts (no_else ts m, tt))
+    begun_part AtEnd ExprIf y (TheWord (codes "if") ∷ []) (λ ts m. w ts ((no_arrow ts m).1, tt))
     (λ us. (λ p s. refl, refl), tt) n
 started_part ExprMatch y e w n =
     begun_part AtEnd ExprMatch y (TheWord (codes "match") ∷ []) (λ ts m. w ts tt) (λ us. (λ p s. refl, refl), tt) n

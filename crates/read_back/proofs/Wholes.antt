@@ -9,7 +9,7 @@ use Rattle.syn_grammar.specs.Kind.{ExprParen, ExprGroup, ExprInfer, ExprUnsafe}
 use Rattle.syn_grammar.specs.Kind.{ExprTryBlock, ExprCall, ExprIndex, ExprTry, ExprUnary, ExprRawAddr, ExprReference}
 use Rattle.syn_grammar.specs.Kind.{ExprBreak, ExprReturn, ExprYield, ExprRange, ExprRangeClosed, ExprAssign, ExprOr}
 use Rattle.syn_grammar.specs.Kind.{ExprAnd, ExprCompare, ExprBitOr, ExprBitXor, ExprBitAnd, ExprShift, ExprSum}
-use Rattle.syn_grammar.specs.Kind.{ExprProduct, ExprMacro, ExprIf, ExprMatch, ExprWhile}
+use Rattle.syn_grammar.specs.Kind.{ExprProduct, ExprMacro, ExprIf, ExprMatch, ExprWhile, ExprCast}
 use Rattle.syn_grammar.specs.Tree.{Tree, Pair, End, Again, Node, Whole, Alone, Front, Back, Infix, flat}
 use Rattle.syn_grammar.specs.Kind.{ExprArray, ExprAsync, ExprBlock, ExprConst, ExprLet, ExprLoop, ExprRepeat}
 use Rattle.syn_grammar.specs.Gram.{Gram, star, operand, ref}
@@ -36,10 +36,11 @@ use Rattle.expressions_back.proofs.Opened.{nothing_right, fixed_right, paren_rig
 use Rattle.expressions_back.proofs.Stands.{struct_is}
 use Rattle.grammar_back.specs.Covered.{has_step, has_form_step, inner, is_known, is_form, is_covered}
 use Rattle.grammar_back.proofs.Dotted.{law_expr_await, law_expr_field, law_expr_method_call}
-use Rattle.grammar_back.proofs.Fits.{Fits, FitsForms, IsMeant, IsFormed, MayLack, MayHave}
+use Rattle.grammar_back.proofs.Fits.{Fits, FitsForms, IsMeant, IsFormed, MayLack, MayHave, flat_kept}
 use Rattle.grammar_back.proofs.Printed.{OwnPrinted, Printed, WholeLaw}
-use Rattle.read_back.specs.Parts.{has_part, has_parts_of, is_more}
-use Rattle.read_back.proofs.Operands.{HasOperandsOf, IsBackOf, operands_are}
+use Rattle.read_back.specs.Parts.{ends_in_type, has_part, has_parts_of, is_more}
+use Rattle.syn_grammar.specs.Parens.{ends_in_name}
+use Rattle.read_back.proofs.Operands.{HasOperandsOf, IsBackOf, no_cast, operands_are}
 use Rattle.read_back.proofs.Indices.{dot_fits, dot_read, dotted_fits, dotted_keeps, dotted_operands}
 use Rattle.read_back.proofs.Split.{dotted_bare, dotted_kept}
 
@@ -71,8 +72,11 @@ covered_parts (Front k y x) c =
     (both_parts (is_form k) (is_form k) _ _ (λ e. e)
     (λ e. both_parts (is_covered y) (is_covered y) _ _ (λ f. f) (λ f. covered_parts x f) e) c)
 covered_parts (Back l k y) c =
-    both_parts (is_form k) (is_form k) _ _ (λ e. e)
-    (λ e. both_parts (is_covered l) _ (is_covered y) (is_covered y) (λ f. covered_parts l f) (λ f. f) e) c
+    let a = and_true (is_form k) (is_covered l && is_covered y) c in
+    let b = and_true (is_covered l) (is_covered y) a.1 in
+    ap (λ e. e && (ends_in_type k (normal (kept y)) && (is_covered y && has_parts_of is_form l))) a.0
+    ∙ ap (λ e. e && (is_covered y && has_parts_of is_form l)) (no_cast k (normal (kept y)) a.0)
+    ∙ ap (λ e. e && has_parts_of is_form l) b.1 ∙ covered_parts l b.0
 covered_parts (Infix l k y r) c =
     both_parts (is_form k) (is_form k) _ _ (λ e. e)
     (λ e. both_parts (is_covered y) (is_covered y) _ _ (λ f. f)
@@ -135,6 +139,7 @@ form_meant ExprIf y e f = tt
 form_meant ExprMatch y e f = tt
 form_meant ExprWhile y e f = tt
 form_meant ExprAttributed y e f = tt
+form_meant ExprCast y e f = tt
 form_meant _ y e f = cc
 
 of_node : (k : Kind) (t z : Tree) → ((x : Tree) → forget k x ≡ x) → Fits t (ref k) → kept t ≡ Node (held k) z → Own k z
@@ -263,6 +268,20 @@ front_parts ks k y x c =
     let e = and_true (is_covered y) (has_parts_of ks x) b.1 in
     record { passes = a.0; plain = not_true (is_attributed_range k x) b.0; own = e.0; right = e.1 }
 
+pub record BackParts (ks : Kind → Bool) (l : Tree) (k : Kind) (y : Tree) : Type 0 where
+  pub passes : ks k ≡ true
+  pub ends : ends_in_type k (normal (kept y)) ≡ true
+  pub own : is_covered y ≡ true
+  pub left : has_parts_of ks l ≡ true
+
+pub back_parts : (ks : Kind → Bool) (l : Tree) (k : Kind) (y : Tree) → has_parts_of ks (Back l k y) ≡ true
+    → BackParts ks l k y
+back_parts ks l k y c =
+    let a = and_true (ks k) _ c in
+    let b = and_true (ends_in_type k (normal (kept y))) _ a.1 in
+    let e = and_true (is_covered y) (has_parts_of ks l) b.1 in
+    record { passes = a.0; ends = b.0; own = e.0; left = e.1 }
+
 pub record InfixParts (ks : Kind → Bool) (l : Tree) (k : Kind) (y x : Tree) : Type 0 where
   pub passes : ks k ≡ true
   pub own : is_covered y ≡ true
@@ -331,6 +350,11 @@ none_behind : (p : Position) (k : Kind) (y x : Tree) (r : List Token) → Bound 
 none_behind p ExprAttributed y x r d o = none_first x o (inside p ExprAttributed) r d.4 (no_hash y (flat x ++ r) d.1)
 none_behind p _ y x r d o = refl
 
+-- a cast's type ends as what is held of it does
+same_end : (k : Kind) (y z : Tree) → Fits y (table k) → kept y ≡ z → ends_in_type k z ≡ true → ends_in_type k y ≡ true
+same_end ExprCast y z f e h = ap ends_in_name (sym (flat_kept y (table ExprCast) f) ∙ ap flat e) ∙ h
+same_end _ y z f e h = refl
+
 -- Of kinds that pass:
 module _ (passes : Kind → Bool) (part : (k : Kind) → passes k ≡ true → has_part k ≡ true) where
   owns : (x : Tree) (p : Position) (r : List Token) → Bound p x r → has_parts_of passes x ≡ true → OwnPrinted x → Owns x
@@ -341,9 +365,8 @@ module _ (passes : Kind → Bool) (part : (k : Kind) → passes k ≡ true → h
       let a = front_parts passes k y x c in
       (own_printed k y (flat x ++ r) (part k a.passes) d.1 o.0, owns x (inside p k) r d.4 a.right o.1)
   owns (Back l k y) p r d c o =
-      let a = and_true (passes k) (has_parts_of passes l && is_covered y) c in
-      let b = and_true (has_parts_of passes l) (is_covered y) a.1 in
-      (owns l p (flat y ++ r) d.4 b.0 o.0, own_printed k y r (part k a.0) d.1 o.1)
+      let a = back_parts passes l k y c in
+      (owns l p (flat y ++ r) d.4 a.left o.0, own_printed k y r (part k a.passes) d.1 o.1)
   owns (Infix l k y x) p r d c o =
       let a = infix_parts passes l k y x c in (
         owns l p (flat y ++ (flat x ++ r)) d.4 a.left o.0,
@@ -357,7 +380,7 @@ module _ (passes : Kind → Bool) (part : (k : Kind) → passes k ≡ true → h
       let a = front_parts passes k y x c in
       (a.plain, plain_ranges x a.right)
   plain_ranges (Back l k y) c =
-      plain_ranges l (and_true (has_parts_of passes l) (is_covered y) (and_true (passes k) _ c).1).0
+      plain_ranges l (back_parts passes l k y c).left
   plain_ranges (Infix l k y r) c =
       let a = infix_parts passes l k y r c in
       (plain_ranges l a.left, plain_ranges r a.right)
@@ -373,9 +396,9 @@ module _ (passes : Kind → Bool) (part : (k : Kind) → passes k ≡ true → h
       let a = front_parts passes k y x c in
       (part_known k (part k a.passes), o.0.fits, o.0.means, remade_fits x o.1 (inside p k) r d.4 a.right)
   remade_fits (Back l k y) o p r d c =
-      let a = and_true (passes k) (has_parts_of passes l && is_covered y) c in
-      let b = and_true (has_parts_of passes l) (is_covered y) a.1 in
-      back_fits k (remade l o.0) o.1.tree (part k a.0) o.1.fits o.1.means (remade_fits l o.0 p (flat y ++ r) d.4 b.0)
+      let a = back_parts passes l k y c in
+      back_fits k (remade l o.0) o.1.tree (part k a.passes) o.1.fits o.1.means
+      (remade_fits l o.0 p (flat y ++ r) d.4 a.left)
   remade_fits (Infix l k y x) o p r d c =
       let a = infix_parts passes l k y x c in (
         part_known k (part k a.passes),
@@ -388,12 +411,13 @@ module _ (passes : Kind → Bool) (part : (k : Kind) → passes k ≡ true → h
 
   module _ (fields : passes ExprField ≡ true) where
     back_operands : (k : Kind) (l y : Tree) → Fits y (table k) → IsBackOf passes k → MayLack k
-        → HasOperandsOf passes l → (is_struct k ≡ true → is_path_form l ≡ true) → HasOperandsOf passes (dotted l k y)
-    back_operands k l y f b m g h = go (is_dot k) refl
+        → HasOperandsOf passes l → (is_struct k ≡ true → is_path_form l ≡ true) → ends_in_type k y ≡ true
+        → HasOperandsOf passes (dotted l k y)
+    back_operands k l y f b m g h e = go (is_dot k) refl
       where
         go : (c : Bool) → is_dot k ≡ c → HasOperandsOf passes (dotted l k y)
         go true i = dotted_operands passes fields k l y (dot_fits k y i f) b m g
-        go false i = subst (HasOperandsOf passes) (sym (undotted l k y i)) (b, m, g, h)
+        go false i = subst (HasOperandsOf passes) (sym (undotted l k y i)) (b, m, g, h, e)
 
     remade_operands : (x : Tree) (o : Owns x) (p : Position) (r : List Token) → Bound p x r
         → has_parts_of passes x ≡ true → HasOperandsOf passes (remade x o)
@@ -409,10 +433,10 @@ module _ (passes : Kind → Bool) (part : (k : Kind) → passes k ≡ true → h
           remade_operands x o.1 (inside p k) r d.4 a.right,
         )
     remade_operands (Back l k y) o p r d c =
-        let a = and_true (passes k) (has_parts_of passes l && is_covered y) c in
-        let b = and_true (has_parts_of passes l) (is_covered y) a.1 in
-        back_operands k (remade l o.0) o.1.tree o.1.fits (a.0, p, flat y ++ r, d.0) (lacks_one p k r d.2)
-        (remade_operands l o.0 p (flat y ++ r) d.4 b.0) (λ s. remade_path l o.0 (left_path p k l s d.3))
+        let a = back_parts passes l k y c in
+        back_operands k (remade l o.0) o.1.tree o.1.fits (a.passes, p, flat y ++ r, d.0) (lacks_one p k r d.2)
+        (remade_operands l o.0 p (flat y ++ r) d.4 a.left) (λ s. remade_path l o.0 (left_path p k l s d.3))
+        (same_end k o.1.tree (normal (kept y)) o.1.fits o.1.kept_is a.ends)
     remade_operands (Infix l k y x) o p r d c =
         let a = infix_parts passes l k y x c in (
           (a.passes, p, flat y ++ (flat x ++ r), d.0),

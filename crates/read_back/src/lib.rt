@@ -11,7 +11,8 @@
 //! printed (`Wholes`), in which a number behind a dot is split as in what is held (`Split`), each form that it is split
 //! into fits (`Indices`), and each form has its operands (`Operands`). `Forms` has all that is to be known of
 //! expressions, `ReadBack` the laws of kinds, and `Positions` those of an expression where it stands, whose forms may
-//! be of more kinds than a covered tree's (`specs/Parts`): macros and attributes. `Examples` has one of each.
+//! be of more kinds than a covered tree's (`specs/Parts`): macros, casts to types that end in a name (`Casts`) and
+//! attributes. `Examples` has one of each law.
 //!
 //! - `laws`: the laws.
 #![tactic(auto)]
