@@ -22,7 +22,7 @@ use Rattle.syn_grammar.specs.Kept.{kept}
 use Rattle.syn_grammar.specs.Normal.{normal}
 use Rattle.syn_grammar.specs.Forms.{front}
 use Rattle.syn_grammar.specs.Expressions.{expressions, labelled}
-use Rattle.expressions_back.specs.Behind.{no_operand, AtEnd}
+use Rattle.expressions_back.specs.Behind.{no_operand}
 use Rattle.expressions_back.specs.Formed.{IsFront}
 use Rattle.grammar_back.specs.After.{After}
 use Rattle.grammar_back.proofs.Fits.{Fits}
@@ -39,9 +39,9 @@ record Tokens (k : Kind) (y : Tree) : Type 0 where
   is : flat y ≡ us
   fronts : Fronts k us
 
-front_of : (k : Kind) (y : Tree) → ((ts : List Token) → After k y ts) → OwnReady k y → flat (normal (kept y)) ≡ flat y
-    → Tokens k y → IsFront AtEnd k y
-front_of k y a w h t = record {
+front_of : (M : List Token → Type 0) (k : Kind) (y : Tree) → ((ts : List Token) → After k y ts) → OwnReady k y
+    → flat (normal (kept y)) ≡ flat y → Tokens k y → IsFront M k y
+front_of M k y a w h t = record {
   begins = λ p ts s m. ap (λ vs. front p (vs ++ ts)) t.is ∙ (t.fronts p ts).0;
   read = λ ts m. (w ts (a ts)).0;
   held = h;
@@ -271,13 +271,13 @@ is_block ExprLoop = true
 is_block ExprWhile = true
 is_block k = false
 
-pub block_part : (k : Kind) (y : Tree) → is_block k ≡ true → Fits y (table k) → OwnReady k y
-    → flat (normal (kept y)) ≡ flat y → IsFront AtEnd k y
-block_part ExprArray y e f w h = front_of ExprArray y (λ ts. tt) w h (array_tokens y f (w [] tt).0)
-block_part ExprRepeat y e f w h = front_of ExprRepeat y (λ ts. tt) w h (repeat_tokens y f (w [] tt).0)
-block_part ExprBlock y e f w h = front_of ExprBlock y (λ ts. tt) w h (block_tokens y f)
-block_part ExprAsync y e f w h = front_of ExprAsync y (λ ts. tt) w h (async_tokens y f)
-block_part ExprConst y e f w h = front_of ExprConst y (λ ts. tt) w h (const_tokens y f)
-block_part ExprLoop y e f w h = front_of ExprLoop y (λ ts. tt) w h (loop_tokens y f)
-block_part ExprWhile y e f w h = front_of ExprWhile y (λ ts. tt) w h (while_tokens y f)
-block_part _ y e f w h = cc
+pub block_part : (M : List Token → Type 0) (k : Kind) (y : Tree) → is_block k ≡ true → Fits y (table k) → OwnReady k y
+    → flat (normal (kept y)) ≡ flat y → IsFront M k y
+block_part M ExprArray y e f w h = front_of M ExprArray y (λ ts. tt) w h (array_tokens y f (w [] tt).0)
+block_part M ExprRepeat y e f w h = front_of M ExprRepeat y (λ ts. tt) w h (repeat_tokens y f (w [] tt).0)
+block_part M ExprBlock y e f w h = front_of M ExprBlock y (λ ts. tt) w h (block_tokens y f)
+block_part M ExprAsync y e f w h = front_of M ExprAsync y (λ ts. tt) w h (async_tokens y f)
+block_part M ExprConst y e f w h = front_of M ExprConst y (λ ts. tt) w h (const_tokens y f)
+block_part M ExprLoop y e f w h = front_of M ExprLoop y (λ ts. tt) w h (loop_tokens y f)
+block_part M ExprWhile y e f w h = front_of M ExprWhile y (λ ts. tt) w h (while_tokens y f)
+block_part M _ y e f w h = cc

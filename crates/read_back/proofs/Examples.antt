@@ -1,9 +1,9 @@
--- Covered expressions there are: -(1 + x), as it is read; and m!() in a condition, of a kind that may stand there.
+-- Covered expressions there are: -(1 + x), as it is read; m!() in a condition; and m!{} before another statement.
 use Rattle.std.proofs.Common.{◌≡◌, List, [], ◌∷◌, ◌++◌, refl}
 use Rattle.std.specs.Prelude.{true, codes}
 use Rattle.syn_grammar.specs.Kind.{AMacro, Delimited, ExprMacro, InCondition, InModule, Path, Plain, Expression}
-use Rattle.syn_grammar.specs.Kind.{Segments}
-use Rattle.proc_macro2.specs.Token.{Token, Opens, Closes}
+use Rattle.syn_grammar.specs.Kind.{InStatement, Segments}
+use Rattle.proc_macro2.specs.Token.{Token, Opens, Closes, Literal, Punct}
 use Rattle.proc_macro2.specs.declared.delimiter.Delimiter.TheVariants.{Parenthesis, Brace}
 use Rattle.rust_leaf.specs.declared.punct.Spacing.TheVariants.{Alone as Apart}
 use Rattle.syn_grammar.specs.Words.{is_bool, is_name, is_path_keyword, is_plain_name, is_reserved}
@@ -11,10 +11,11 @@ use Rattle.syn_grammar.specs.Gram.{ref}
 use Rattle.syn_grammar.specs.Table.{table}
 use Rattle.syn_grammar.specs.Derives.{Derives}
 use Rattle.read_back.specs.Parts.{has_part, has_parts_of}
-use Rattle.read_back.proofs.Positions.{read_in_position}
+use Rattle.grammar_back.specs.After.{EndsThere}
+use Rattle.read_back.proofs.Positions.{read_ended_in, read_in_position}
 use Rattle.syn_grammar.specs.Tree.{Tree, AMark, Alone, AWord, First, Group, Nil, Node, Pair, Raw, Second, Whole, flat}
-use Rattle.syn_grammar.specs.Forms.{back, chains, front, has_right, inside, level, takes}
-use Rattle.syn_grammar.specs.Kept.{kept}
+use Rattle.syn_grammar.specs.Forms.{back, chains, front, has_right, inside, level, stands_left, takes}
+use Rattle.syn_grammar.specs.Kept.{held, kept}
 use Rattle.syn_grammar.specs.Normal.{passed, stands_behind, normal, normal_in}
 use Rattle.syn_grammar.specs.Parens.{may_lack}
 use Rattle.syn_grammar.specs.Read.{IsRead}
@@ -33,13 +34,16 @@ covered = refl
 pub minus_back : IsRead (Expression Plain) (flat (normal (kept printed)) ++ []) (normal (kept printed)) []
 minus_back = read_back (Expression Plain) printed [] [] sum_back covered (refl, tt)
 
-abbrev call : Tree
-call =
+abbrev call_of : Tree → Tree
+call_of group =
     Alone ExprMacro
     (Node AMacro
     (Pair (Node (Path InModule) (Pair (Second Nil)
     (Node (Segments InModule) (Second (Pair (AWord (codes "m")) (Second (Second (Second Nil))))))))
-    (Pair (AMark 33 [] Apart) (Node Delimited (First (Group Parenthesis (Raw [])))))))
+    (Pair (AMark 33 [] Apart) (Node Delimited group))))
+
+abbrev call : Tree
+call = call_of (First (Group Parenthesis (Raw [])))
 
 abbrev body : List Token
 body = Opens Brace ∷ Closes Brace ∷ []
@@ -74,3 +78,46 @@ pub call_back :
     (flat (normal_in InCondition (kept (Node (Expression InCondition) (Whole call)))) ++ body)
     (normal_in InCondition (kept (Node (Expression InCondition) (Whole call)))) body
 call_back = read_in_position InCondition call body body call_read (λ e. refl) call_parts refl
+
+-- and m!{} is, as a statement, before - 1
+abbrev statement : Tree
+statement = call_of (Second (First (Group Brace (Raw []))))
+
+abbrev next : List Token
+next = Punct 45 Apart ∷ Literal (codes "1") ∷ []
+
+statement_read : Derives (Node (Expression InStatement) (Whole statement)) (ref (Expression InStatement)) next
+unfolding table front back has_right is_bool is_name is_plain_name is_path_keyword is_reserved level takes stands_left
+statement_read = (
+  refl,
+  (
+    (refl, refl),
+    (
+      refl,
+      (
+        refl,
+        (
+          (refl, ((refl, tt), (refl, (refl, (refl, (refl, (refl, (refl, tt)))))))),
+          ((refl, refl), (refl, (refl, (refl, (refl, (refl, refl)))))),
+        ),
+      ),
+      refl,
+    ),
+  ),
+)
+
+statement_parts : has_parts_of has_part statement ≡ true
+unfolding has_step has_form_step
+statement_parts = refl
+
+statement_ends : EndsThere InStatement (normal_in InStatement (kept (Node (Expression InStatement) (Whole statement))))
+    next
+unfolding held passed stands_behind may_lack
+statement_ends = (refl, (refl, (refl, (refl, tt))))
+
+pub statement_back :
+    IsRead (Expression InStatement)
+    (flat (normal_in InStatement (kept (Node (Expression InStatement) (Whole statement)))) ++ next)
+    (normal_in InStatement (kept (Node (Expression InStatement) (Whole statement)))) next
+statement_back =
+    read_ended_in InStatement statement next next statement_read statement_parts statement_ends

@@ -105,7 +105,7 @@ within_kept n (Infix l k y r) h = ap (λ b. takes n (level k) && b) (within_kept
 within_kept n _ h = absurd h
 
 -- a form that ends there
-block_kept : (x : Tree) → FitsForms x → is_block_like (kept x) ≡ is_block_like x
+pub block_kept : (x : Tree) → FitsForms x → is_block_like (kept x) ≡ is_block_like x
 block_kept (Alone ExprIf y) h = refl
 block_kept (Alone _ y) h = refl
 block_kept (Front ExprAttributed y x) h = block_kept x h.3

@@ -14,6 +14,7 @@ pub mod Casts
 pub mod Operands
 pub mod Parts
 pub mod Wholes
+pub mod Ended
 pub mod Forms
 pub mod ReadBack
 pub mod Positions

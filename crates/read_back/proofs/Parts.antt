@@ -51,7 +51,7 @@ use Rattle.read_back.proofs.Macros.{macro_part}
 use Rattle.read_back.proofs.Operands.{HasOperandsOf, IsFrontOf}
 use Rattle.read_back.proofs.Owned.{Owned}
 use Rattle.read_back.proofs.Paths.{path_part}
-use Rattle.read_back.proofs.Starting.{is_started, started_part, is_led, led_part}
+use Rattle.read_back.proofs.Starting.{is_started, started_after, started_part, is_led, led_part}
 
 -- the kinds
 fronts_are : (p : Position) (k : Kind) (ts : List Token) → front p ts ≡ Some k → is_front k ≡ true
@@ -167,7 +167,8 @@ before_nothing ExprAttributed y e = (refl, tt)
 before_nothing ExprCast y e = (refl, (refl, (refl, (refl, (refl, tt)))))
 before_nothing _ y e = cc
 
-own : (k : Kind) (y : Tree) → has_part k ≡ true → Fits y (table k) → OwnReady k y → normal (kept y) ≡ kept y → IsOwn k y
+pub own : (k : Kind) (y : Tree) → has_part k ≡ true → Fits y (table k) → OwnReady k y → normal (kept y) ≡ kept y
+    → IsOwn k y
 own k y e f w n = ((w [] (before_nothing k y e)).0, ap flat n ∙ flat_kept y (table k) f)
 
 -- the braces of a struct
@@ -209,7 +210,7 @@ end_own : (k : Kind) (y : Tree) → (is_block k || (is_firm_front k || is_break 
 end_own k y m f w o = go (is_block k) refl m
   where
     go : (b : Bool) → is_block k ≡ b → (b || (is_firm_front k || is_break k)) ≡ true → IsFront AtEnd k y
-    go true e m = block_part k y e f w o.1
+    go true e m = block_part AtEnd k y e f w o.1
     go false e m = end_front k y m o
 
 alone_own : (k : Kind) (y : Tree)
@@ -222,7 +223,7 @@ alone_own k y m f w o = go (is_started k) refl m
   where
     go : (b : Bool) → is_started k ≡ b → (b || (is_block k || (is_firm_front k || is_break k))) ≡ true
         → IsFront AtEnd k y
-    go true e m = started_part k y e w o.1
+    go true e m = started_part AtEnd k y e (started_after k y e) w o.1
     go false e m = end_own k y m f w o
 
 front_own : (k : Kind) (y : Tree) → (is_led k || (is_firm_front k || is_break k || is_reference k)) ≡ true

@@ -8,15 +8,19 @@ use Rattle.syn_grammar.specs.Look.{sees}
 use Rattle.syn_grammar.specs.Say.{brace}
 use Rattle.syn_grammar.specs.Gram.{ref}
 use Rattle.syn_grammar.specs.Table.{table}
-use Rattle.syn_grammar.specs.Forms.{inside}
+use Rattle.syn_grammar.specs.Forms.{ends_there, inside}
 use Rattle.syn_grammar.specs.Derives.{Bound, Derives}
 use Rattle.syn_grammar.specs.Kept.{held, kept}
-use Rattle.syn_grammar.specs.Normal.{passed, normal_in}
+use Rattle.syn_grammar.specs.Normal.{passed, normal_in, stands_behind}
 use Rattle.syn_grammar.specs.Read.{IsRead}
 use Rattle.syn_grammar.proofs.Theorems.{one}
 use Rattle.syn_grammar.proofs.Whole.{and_true}
 use Rattle.expressions_back.specs.Behind.{MayFollow}
+use Rattle.grammar_back.specs.After.{EndsThere, whole}
 use Rattle.grammar_back.specs.Covered.{has_form_step, is_covered}
+use Rattle.expressions_back.proofs.Bools.{never}
+use Rattle.read_back.proofs.Ended.{ends_back, read_ended}
+use Rattle.read_back.proofs.Settled.{settles}
 use Rattle.grammar_back.proofs.Expressions.{all_laws, all_steps}
 use Rattle.grammar_back.proofs.Fits.{flat_forms}
 use Rattle.grammar_back.proofs.Printed.{EntryLaw, IsPlaced, OwnPrinted, Printed, printed}
@@ -77,6 +81,34 @@ read_in_position p x r s d b c m =
     record {
       tree = Node (Expression p) (Whole w.tree);
       derived = (refl, read_formed p w.tree s w.formed_is w.fits w.operands f m);
+      spelled = ap (λ ts. ts ++ s) (sym (flat_forms w.tree w.fits) ∙ ap flat w.kept_is);
+      kept_is = ap (Node (Expression Plain)) w.kept_is;
+    }
+
+-- one that ends a statement or an arm by itself, before all but ., ? and else
+no_condition : (p : Position) (x : Tree) → ends_there p x ≡ true → p ≡ InCondition → ⊥
+no_condition p x e i = never (sym (ap (λ q. ends_there q x) i) ∙ e)
+
+pub read_ended_in : (p : Position) (x : Tree) (r s : List Token)
+    → Derives (Node (Expression p) (Whole x)) (ref (Expression p)) r → has_parts_of has_part x ≡ true
+    → EndsThere p (normal_in p (kept (Node (Expression p) (Whole x)))) s
+    → IsRead (Expression p) (flat (normal_in p (kept (Node (Expression p) (Whole x)))) ++ s)
+    (normal_in p (kept (Node (Expression p) (Whole x)))) s
+unfolding table held passed has_form_step
+read_ended_in p x r s d c h =
+    let w = remake has_part (λ k e. e) refl p x r (λ i. absurd (no_condition p _ h.0 i)) d.1 c
+    (parts_printed x p r d.1.1 c) in
+    let f = ready_forms (all_steps expressions) w.tree w.fits in
+    let e : ends_there p (kept w.tree) ≡ true =
+    ap (λ z. ends_there p (whole z)) w.kept_is ∙ h.0 in
+    record {
+      tree = Node (Expression p) (Whole w.tree);
+      derived = (
+        refl,
+        read_ended w.tree w.fits w.operands f p (stands_behind p)
+            (settles (kept w.tree) p (stands_behind p) w.formed_is)
+            (ends_back p w.tree w.fits e) s h.1,
+      );
       spelled = ap (λ ts. ts ++ s) (sym (flat_forms w.tree w.fits) ∙ ap flat w.kept_is);
       kept_is = ap (Node (Expression Plain)) w.kept_is;
     }

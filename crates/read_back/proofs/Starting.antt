@@ -20,6 +20,7 @@ use Rattle.expressions_back.specs.Behind.{no_operand, AtEnd, BeforeOperand}
 use Rattle.expressions_back.specs.Formed.{IsFront}
 use Rattle.expressions_back.proofs.Bools.{or_parts}
 use Rattle.expressions_back.proofs.Names.{end}
+use Rattle.grammar_back.specs.After.{After}
 use Rattle.grammar_back.proofs.Classes.{Class, Then, TheWord, Opening, IsAmong, OfAll, of_all}
 use Rattle.grammar_back.proofs.Readies.{OwnReady}
 
@@ -50,18 +51,23 @@ is_started ExprIf = true
 is_started ExprMatch = true
 is_started k = false
 
-pub started_part : (k : Kind) (y : Tree) → is_started k ≡ true → OwnReady k y → flat (normal (kept y)) ≡ flat y
-    → IsFront AtEnd k y
+pub started_part : (M : List Token → Type 0) (k : Kind) (y : Tree) → is_started k ≡ true
+    → ((ts : List Token) → M ts → After k y ts) → OwnReady k y → flat (normal (kept y)) ≡ flat y → IsFront M k y
 unfolding skips front is_bool is_reserved
-started_part ExprContinue y e w n =
-    begun_part AtEnd ExprContinue y (TheWord (codes "continue") ∷ []) (λ ts m. w ts ((end ts m).lifetime, tt))
+started_part M ExprContinue y e a w n =
+    begun_part M ExprContinue y (TheWord (codes "continue") ∷ []) (λ ts m. w ts (a ts m))
     (λ us. (λ p s. refl, refl), tt) n
-started_part ExprIf y e w n =
-    begun_part AtEnd ExprIf y (TheWord (codes "if") ∷ []) (λ ts m. w ts ((no_arrow ts m).1, tt))
-    (λ us. (λ p s. refl, refl), tt) n
-started_part ExprMatch y e w n =
-    begun_part AtEnd ExprMatch y (TheWord (codes "match") ∷ []) (λ ts m. w ts tt) (λ us. (λ p s. refl, refl), tt) n
-started_part _ y e w n = cc
+started_part M ExprIf y e a w n =
+    begun_part M ExprIf y (TheWord (codes "if") ∷ []) (λ ts m. w ts (a ts m)) (λ us. (λ p s. refl, refl), tt) n
+started_part M ExprMatch y e a w n =
+    begun_part M ExprMatch y (TheWord (codes "match") ∷ []) (λ ts m. w ts (a ts m)) (λ us. (λ p s. refl, refl), tt) n
+started_part M _ y e a w n = cc
+
+pub started_after : (k : Kind) (y : Tree) → is_started k ≡ true → (ts : List Token) → AtEnd ts → After k y ts
+started_after ExprContinue y e ts m = ((end ts m).lifetime, tt)
+started_after ExprIf y e ts m = ((no_arrow ts m).1, tt)
+started_after ExprMatch y e ts m = tt
+started_after _ y e ts m = cc
 
 -- and before one
 abbrev pub is_led : Kind → Bool

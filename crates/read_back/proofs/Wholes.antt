@@ -297,7 +297,7 @@ infix_parts ks l k y x c =
     record { passes = a.0; own = e.0; left = b.0; right = b.1 }
 
 -- and attributes stand together
-abbrev others : List Case → List Case
+abbrev pub others : List Case → List Case
 others [] = []
 others (c ∷ cs) = cs
 

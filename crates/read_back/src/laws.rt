@@ -1,7 +1,7 @@
 //! Laws of what is printed: each is the contract of a function that does nothing.
 
 ghost use Rattle.expressions_back.specs.Behind.{MayFollow};
-ghost use Rattle.grammar_back.specs.After.{After};
+ghost use Rattle.grammar_back.specs.After.{After, EndsThere};
 ghost use Rattle.grammar_back.specs.Covered.{is_covered};
 ghost use Rattle.proc_macro2.specs.Token.{Token};
 ghost use Rattle.read_back.specs.Parts.{has_part, has_parts_of};
@@ -37,6 +37,15 @@ pub fn read_in_position()
     ensures { (p : Position) (x : Tree) (rest next : List Token)
         → Derives (Node (Expression p) (Whole x)) (ref (Expression p)) rest
         → (p ≡ InCondition → sees brace rest ≡ true) → has_parts_of has_part x ≡ true → MayFollow p next
+        → IsRead (Expression p) (flat (normal_in p (kept (Node (Expression p) (Whole x)))) ++ next)
+        (normal_in p (kept (Node (Expression p) (Whole x)))) next }
+{}
+
+/// One whose normal form ends a statement or an arm by itself is read back there before all but `.`, `?` and `else`.
+pub fn read_ended()
+    ensures { (p : Position) (x : Tree) (rest next : List Token)
+        → Derives (Node (Expression p) (Whole x)) (ref (Expression p)) rest → has_parts_of has_part x ≡ true
+        → EndsThere p (normal_in p (kept (Node (Expression p) (Whole x)))) next
         → IsRead (Expression p) (flat (normal_in p (kept (Node (Expression p) (Whole x)))) ++ next)
         (normal_in p (kept (Node (Expression p) (Whole x)))) next }
 {}

@@ -12,7 +12,8 @@
 //! into fits (`Indices`), and each form has its operands (`Operands`). `Forms` has all that is to be known of
 //! expressions, `ReadBack` the laws of kinds, and `Positions` those of an expression where it stands, whose forms may
 //! be of more kinds than a covered tree's (`specs/Parts`): macros, casts to types that end in a name (`Casts`) and
-//! attributes. `Examples` has one of each law.
+//! attributes; one that ends a statement or an arm by itself is read back there before another (`Ended`). `Examples`
+//! has an expression for each.
 //!
 //! - `laws`: the laws.
 #![tactic(auto)]
