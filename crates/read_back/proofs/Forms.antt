@@ -1,27 +1,34 @@
--- What is to be known of expressions: the step of an expression, and what holds of its kind.
-use Rattle.std.proofs.Common.{◌≡◌, List, refl}
-use Rattle.proc_macro2.specs.Token.{Token}
-use Rattle.syn_grammar.specs.Derives.{Derives}
+-- What is to be known of expressions: the step of an expression in each position, and what holds of its kind.
+use Rattle.std.proofs.Common.{◌≡◌, ℕ, List, [], ◌∷◌, ◌++◌, refl, sym, ap, ◌∙◌, subst, append_assoc, ⊎_elim}
+use Rattle.std.proofs.Common.{inl, inr}
+use Rattle.proc_macro2.specs.Token.{Token, Ident}
+use Rattle.syn_grammar.specs.Derives.{Bound, Derives}
 use Rattle.syn_grammar.specs.Gram.{operand}
 use Rattle.expressions_back.specs.Behind.{MayFollow}
 use Rattle.grammar_back.proofs.Fits.{FitsForms, IsFormed}
-use Rattle.std.specs.Prelude.{Bool, true}
-use Rattle.syn_grammar.specs.Kind.{Kind, Position, Plain, Expression, ExprLit}
-use Rattle.syn_grammar.specs.Tree.{Tree, Whole}
+use Rattle.std.specs.Prelude.{zero, suc, Bool, true, Some, None, codes}
+use Rattle.syn_grammar.specs.Kind.{Kind, Position, Plain, InCondition, InArm, InStatement, Expression, ExprLit}
+use Rattle.syn_grammar.specs.Tree.{Tree, Whole, Alone, Front, Back, Infix, flat}
+use Rattle.syn_grammar.specs.Forms.{front}
+use Rattle.syn_grammar.specs.Words.{is_bool, is_name, is_path_keyword, is_reserved}
 use Rattle.syn_grammar.specs.Ranks.{skips}
 use Rattle.syn_grammar.specs.Table.{table}
 use Rattle.syn_grammar.specs.Kept.{held, kept}
 use Rattle.syn_grammar.specs.Normal.{passed, stands_behind}
 use Rattle.syn_grammar.proofs.Settled.{Settled}
-use Rattle.grammar_back.specs.Covered.{has_step, has_form_step}
+use Rattle.grammar_back.specs.After.{After, EndsThere}
+use Rattle.grammar_back.specs.Covered.{has_step, has_form_step, is_known}
+use Rattle.grammar_back.proofs.Classes.{Class, TheWord, IsAt, IsAmong}
+use Rattle.grammar_back.proofs.Starts.{starts}
 use Rattle.grammar_back.proofs.AllKinds.{steps, laws}
 use Rattle.grammar_back.proofs.Expressions.{Expressions}
 use Rattle.grammar_back.proofs.Printed.{KindLaw, plain_law}
 use Rattle.grammar_back.proofs.Readies.{Ready, Step}
+use Rattle.read_back.proofs.Ended.{read_ended}
 use Rattle.read_back.proofs.Follow.{may_follow}
 use Rattle.read_back.proofs.Held.{stays}
 use Rattle.read_back.proofs.Owned.{read_whole}
-use Rattle.read_back.proofs.Parts.{owned, begins}
+use Rattle.read_back.proofs.Parts.{IsThe, owned, begins}
 use Rattle.read_back.proofs.Settled.{settles}
 use Rattle.read_back.specs.Parts.{has_part}
 use Rattle.read_back.proofs.Operands.{HasOperandsOf, operands_of}
@@ -33,17 +40,81 @@ read_formed p x s i f o w m =
     let e : Settled p (stands_behind p) (kept x) = settles (kept x) p (stands_behind p) i in
     read_whole p x s (owned x f o w p (stands_behind p) e) (stays x f p (stands_behind p) e) m
 
-step : Step (Expression Plain)
-unfolding table skips
-step (Whole x) s f m w a =
-    let o = operands_of has_part form_part x f.3 in
-    (read_formed Plain x s f.1 f.2 o w (may_follow Plain s a), begins x o w s)
-step _ s f m w a = absurd f
+-- before all that may follow it: an arm or a statement may be ended by its form
+read_after : (p : Position) (x : Tree) (s : List Token) → IsFormed p x → FitsForms x → HasOperandsOf has_part x
+    → Ready x → After (Expression p) (Whole x) s → Derives (Whole x) (operand p 0) s
+read_after p x s i f o w a = go p i a
+  where
+    ended : (p : Position) → IsFormed p x → EndsThere p (Whole x) s → Derives (Whole x) (operand p 0) s
+    ended p i e = read_ended x f o w p (stands_behind p) (settles (kept x) p (stands_behind p) i) e.0 s e.1
 
-law : KindLaw (Expression Plain)
-unfolding has_step has_form_step held passed table
-law =
-    plain_law (Expression Plain) refl (λ x. tt) (λ x. refl) (λ x. refl) (λ q. refl) (λ q l. (l, refl, refl))
+    go : (p : Position) → IsFormed p x → After (Expression p) (Whole x) s → Derives (Whole x) (operand p 0) s
+    go Plain i a = read_formed Plain x s i f o w (may_follow Plain s a)
+    go InCondition i a = read_formed InCondition x s i f o w (may_follow InCondition s a)
+    go InArm i a =
+        ⊎_elim (λ l. read_formed InArm x s i f o w (may_follow InArm s l)) (λ e. ended InArm i e) a
+    go InStatement i a =
+        ⊎_elim (λ l. read_formed InStatement x s i f o w (may_follow InStatement s l)) (λ e. ended InStatement i e) a
+
+-- what it begins with: as a statement, with no let
+leads : (x : Tree) (p : Position) (r : List Token) → Bound p x r → (k : Kind) × (front p (flat x ++ r) ≡ Some k)
+leads (Alone k y) p r d = (k, d.0)
+leads (Front k y x) p r d = (k, ap (front p) (append_assoc (flat y) (flat x) r) ∙ d.0)
+leads (Back l k y) p r d =
+    let i = leads l p (flat y ++ r) d.4 in
+    (i.0, ap (front p) (append_assoc (flat l) (flat y) r) ∙ i.1)
+leads (Infix l k y x) p r d =
+    let i = leads l p (flat y ++ (flat x ++ r)) d.4 in (
+      i.0,
+      ap (front p)
+          (append_assoc (flat l) (flat y ++ flat x) r ∙ ap (λ us. flat l ++ us) (append_assoc (flat y) (flat x) r))
+          ∙ i.1,
+    )
+leads _ p r d = absurd d
+
+no_let : (us : List Token) → front InStatement (Ident (codes "let") ∷ us) ≡ None
+unfolding front is_bool is_name is_path_keyword is_reserved
+no_let us = refl
+
+none_let : (ts : List Token) (k : Kind) → front InStatement ts ≡ Some k → IsAt (TheWord (codes "let")) ts → ⊥
+none_let ts k e i = none k (sym (no_let i.0) ∙ sym (ap (front InStatement) i.1) ∙ e)
+  where
+    none : (k : Kind) → None ≡ Some k → ⊥
+    none k e = cc
+
+abbrev without : ℕ → List Class → List Class
+without n [] = []
+without zero (c ∷ cs) = cs
+without (suc n) (c ∷ cs) = c ∷ without n cs
+
+others_among : (n : ℕ) (c : Class) (cs : List Class) (ts : List Token) → IsThe n c cs → (IsAt c ts → ⊥)
+    → IsAmong cs ts → IsAmong (without n cs) ts
+others_among zero c (d ∷ ds) ts e h i = ⊎_elim (λ j. absurd (h (subst (λ b. IsAt b ts) (sym e) j))) (λ j. j) i
+others_among (suc n) c (d ∷ ds) ts e h i = ⊎_elim (λ j. inl j) (λ j. inr (others_among n c ds ts e h j)) i
+others_among n c [] ts e h i = absurd i
+
+begins_in_place : (p : Position) (x : Tree) (s : List Token) → Bound p x s
+    → IsAmong (starts (Expression Plain)) (flat x ++ s) → IsAmong (starts (Expression p)) (flat x ++ s)
+begins_in_place Plain x s d i = i
+begins_in_place InCondition x s d i = i
+begins_in_place InArm x s d i = i
+begins_in_place InStatement x s d i =
+    let l = leads x InStatement s d in
+    others_among 25 (TheWord (codes "let")) (starts (Expression Plain)) (flat x ++ s) refl
+    (none_let (flat x ++ s) l.0 l.1) i
+
+step : (p : Position) → Step (Expression p)
+unfolding table skips
+step p (Whole x) s f m w a =
+    let o = operands_of has_part form_part x f.3 in
+    let d = read_after p x s f.1 f.2 o w a in
+    (d, begins_in_place p x s d.1 (begins x o w s))
+step p _ s f m w a = absurd f
+
+law : (p : Position) → is_known (Expression p) ≡ true → KindLaw (Expression p)
+unfolding held passed table
+law p e =
+    plain_law (Expression p) e (λ x. tt) (λ x. refl) (λ x. refl) (λ q. refl) (λ q l. (l, refl, e))
 
 -- the own parts of the forms
 abbrev is_stepped : Kind → Bool
@@ -57,14 +128,12 @@ stepped _ e = cc
 
 form_steps : (k : Kind) → has_form_step k ≡ true → Step k
 unfolding has_form_step
-form_steps (Expression Plain) e = step
-form_steps (Expression _) e = cc
+form_steps (Expression p) e = step p
 form_steps k e = steps k (stepped k e)
 
 form_laws : (k : Kind) → has_form_step k ≡ true → KindLaw k
-unfolding has_form_step
-form_laws (Expression Plain) e = law
-form_laws (Expression _) e = cc
+unfolding has_step has_form_step
+form_laws (Expression p) e = law p e
 form_laws k e = laws k (stepped k e)
 
 pub expressions : Expressions

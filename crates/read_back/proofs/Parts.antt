@@ -267,7 +267,7 @@ owned (Infix l k y r) h o w p ts s =
 owned _ h o w p ts s = absurd h
 
 -- What an expression begins with: where a class stands among others,
-abbrev IsThe : ℕ → Class → List Class → Type 0
+abbrev pub IsThe : ℕ → Class → List Class → Type 0
 IsThe zero c (d ∷ ds) = c ≡ d
 IsThe (suc n) c (d ∷ ds) = IsThe n c ds
 IsThe n c [] = ⊥

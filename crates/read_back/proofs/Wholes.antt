@@ -3,7 +3,8 @@ use Rattle.std.proofs.Common.{◌≡◌, List, [], ◌∷◌, ◌++◌, refl, sy
 use Rattle.std.specs.Prelude.{Bool, true, false, not, ◌&&◌, ◌||◌, cond, Some}
 use Rattle.proc_macro2.specs.Token.{Token, Opens}
 use Rattle.proc_macro2.specs.declared.delimiter.Delimiter.TheVariants.{Parenthesis}
-use Rattle.syn_grammar.specs.Kind.{Kind, Position, Plain, InCondition, Expression, ExprField, ExprMethodCall}
+use Rattle.syn_grammar.specs.Kind.{Kind, Position, Plain, InCondition, InArm, InStatement, Expression, ExprField}
+use Rattle.syn_grammar.specs.Kind.{ExprMethodCall}
 use Rattle.syn_grammar.specs.Kind.{ExprAwait, ExprAttributed, ExprLit, ExprContinue, ExprStruct, ExprPath}
 use Rattle.syn_grammar.specs.Kind.{ExprParen, ExprGroup, ExprInfer, ExprUnsafe}
 use Rattle.syn_grammar.specs.Kind.{ExprTryBlock, ExprCall, ExprIndex, ExprTry, ExprUnary, ExprRawAddr, ExprReference}
@@ -43,12 +44,6 @@ use Rattle.syn_grammar.specs.Parens.{ends_in_name}
 use Rattle.read_back.proofs.Operands.{HasOperandsOf, IsBackOf, no_cast, operands_are}
 use Rattle.read_back.proofs.Indices.{dot_fits, dot_read, dotted_fits, dotted_keeps, dotted_operands}
 use Rattle.read_back.proofs.Split.{dotted_bare, dotted_kept}
-
--- the position
-known_plain : (p : Position) → is_known (Expression p) ≡ true → p ≡ Plain
-unfolding has_step has_form_step
-known_plain Plain e = refl
-known_plain _ e = cc
 
 -- no form is an attribute
 no_range : (k : Kind) (x : Tree) → is_form k ≡ true → is_attributed_range k x ≡ false
@@ -451,8 +446,13 @@ abbrev inside_whole : Tree → Tree
 inside_whole (Whole x) = x
 inside_whole x = x
 
-no_condition : Plain ≡ InCondition → ⊥
-no_condition e = cc
+-- (of an expression in a condition it is not yet known that a brace stands behind it)
+no_condition : (p : Position) → is_known (Expression p) ≡ true → p ≡ InCondition → ⊥
+unfolding has_step has_form_step
+no_condition InCondition e i = cc
+no_condition Plain e i = cc
+no_condition InArm e i = cc
+no_condition InStatement e i = cc
 
 gains : (p : Position) (x : Tree) (r : List Token) → (p ≡ InCondition → sees brace r ≡ true)
     → Derives (Whole x) (operand p 0) r → HasPlainRanges x → formed p (stands_behind p) (kept x) ≡ bare (kept x)
@@ -493,7 +493,7 @@ form_part k e = ap (λ b. b || is_more k) e
 pub whole : WholeLaw
 unfolding has_form_step
 whole p x r h d c o =
-    let w = remake is_form form_part refl p x r (λ i. absurd (no_condition (sym (known_plain p h) ∙ i))) d
+    let w = remake is_form form_part refl p x r (λ i. absurd (no_condition p h i)) d
     (covered_parts x c) o in
     record {
       tree = Whole w.tree;
