@@ -3,19 +3,19 @@ use Rattle.std.proofs.Common.{◌≡◌, refl}
 use Rattle.std.specs.Prelude.{true, false}
 use Rattle.syn_grammar.specs.Kind.{Kind, AConst, AConstTrait, AFieldValue, AFile, AForeignModule, AFunction}
 use Rattle.syn_grammar.specs.Kind.{AMacro, AMacroDefinition, AModule, ARestrictedTrait, AStatic, AStruct, ATrait}
-use Rattle.syn_grammar.specs.Kind.{AType, ATypeAlias, AUnion, AUse, Abi, AnArgument, AnEnum, AnExternCrate}
-use Rattle.syn_grammar.specs.Kind.{AnImpl, AnItem, AnyPath, Arguments, Arms, AtType, Block, Body, Bound}
-use Rattle.syn_grammar.specs.Kind.{BoundLifetimes, Bounds, BoundsColon, BracketType, ClosureParam, ConstParam}
-use Rattle.syn_grammar.specs.Kind.{Delimited, DynType, ExprAnd, ExprArray, ExprAssign, ExprAsync, ExprAttributed}
-use Rattle.syn_grammar.specs.Kind.{ExprAwait, ExprBitAnd, ExprBitOr, ExprBitXor, ExprBlock, ExprBreak, ExprCall}
-use Rattle.syn_grammar.specs.Kind.{ExprCast, ExprClosure, ExprCompare, ExprConst, ExprContinue, ExprField}
-use Rattle.syn_grammar.specs.Kind.{ExprForLoop, ExprGroup, ExprIf, ExprIndex, ExprInfer, ExprLet, ExprLit}
-use Rattle.syn_grammar.specs.Kind.{ExprLoop, ExprMacro, ExprMatch, ExprMethodCall, ExprOr, ExprParen, ExprPath}
-use Rattle.syn_grammar.specs.Kind.{ExprProduct, ExprRange, ExprRangeClosed, ExprRawAddr, ExprReference}
-use Rattle.syn_grammar.specs.Kind.{ExprRepeat, ExprReturn, ExprShift, ExprStruct, ExprSum, ExprTry, ExprTryBlock}
-use Rattle.syn_grammar.specs.Kind.{ExprTypedClosure, ExprUnary, ExprUnsafe, ExprWhile, ExprYield, FieldPattern}
-use Rattle.syn_grammar.specs.Kind.{FieldPatterns, FieldValue, FieldValues, FnArg, FnPtrArg, FnPtrType}
-use Rattle.syn_grammar.specs.Kind.{ForeignItems, GenericParam, GenericParams, Generics, IdentPattern}
+use Rattle.syn_grammar.specs.Kind.{ATraitItem, AType, ATypeAlias, AUnion, AUse, Abi, AnArgument, AnEnum}
+use Rattle.syn_grammar.specs.Kind.{AnExternCrate, AnImpl, AnImplItem, AnItem, AnyPath, Arguments, Arms, AtType}
+use Rattle.syn_grammar.specs.Kind.{Block, Body, Bound, BoundLifetimes, Bounds, BoundsColon, BracketType}
+use Rattle.syn_grammar.specs.Kind.{ClosureParam, ConstParam, Delimited, DynType, ExprAnd, ExprArray, ExprAssign}
+use Rattle.syn_grammar.specs.Kind.{ExprAsync, ExprAttributed, ExprAwait, ExprBitAnd, ExprBitOr, ExprBitXor}
+use Rattle.syn_grammar.specs.Kind.{ExprBlock, ExprBreak, ExprCall, ExprCast, ExprClosure, ExprCompare, ExprConst}
+use Rattle.syn_grammar.specs.Kind.{ExprContinue, ExprField, ExprForLoop, ExprGroup, ExprIf, ExprIndex, ExprInfer}
+use Rattle.syn_grammar.specs.Kind.{ExprLet, ExprLit, ExprLoop, ExprMacro, ExprMatch, ExprMethodCall, ExprOr}
+use Rattle.syn_grammar.specs.Kind.{ExprParen, ExprPath, ExprProduct, ExprRange, ExprRangeClosed, ExprRawAddr}
+use Rattle.syn_grammar.specs.Kind.{ExprReference, ExprRepeat, ExprReturn, ExprShift, ExprStruct, ExprSum, ExprTry}
+use Rattle.syn_grammar.specs.Kind.{ExprTryBlock, ExprTypedClosure, ExprUnary, ExprUnsafe, ExprWhile, ExprYield}
+use Rattle.syn_grammar.specs.Kind.{FieldPattern, FieldPatterns, FieldValue, FieldValues, FnArg, FnPtrArg}
+use Rattle.syn_grammar.specs.Kind.{FnPtrType, ForeignItems, GenericParam, GenericParams, Generics, IdentPattern}
 use Rattle.syn_grammar.specs.Kind.{ImplGenerics, ImplItems, ImplType, InExpression, InFile, InForeign, InImpl}
 use Rattle.syn_grammar.specs.Kind.{InModule, InTrait, InType, Index, InferType, InnerAttribute, InnerAttributes}
 use Rattle.syn_grammar.specs.Kind.{ItemMacro, Items, Label, LifetimeColon, LifetimeParam, Lifetimes}
@@ -52,6 +52,7 @@ use Rattle.grammar_back.proofs.Turns.{law_statements, law_items, law_foreign_ite
 use Rattle.grammar_back.proofs.Turns.{law_impl_items, law_arms}
 use Rattle.grammar_back.proofs.Impls.{law_an_impl}
 use Rattle.grammar_back.proofs.WholeItems.{law_an_item}
+use Rattle.grammar_back.proofs.Members.{law_a_trait_item, law_an_impl_item}
 use Rattle.grammar_back.proofs.Dotted.{law_expr_method_call, law_expr_field, law_expr_await}
 use Rattle.grammar_back.proofs.StepsOfPaths.{step_path_in_module, step_path_in_expression, step_path_in_type}
 use Rattle.grammar_back.proofs.StepsOfPaths.{step_path_at_type, step_segments_in_module, step_segments_in_type}
@@ -110,6 +111,7 @@ use Rattle.grammar_back.proofs.Turns.{step_statements, step_items, step_foreign_
 use Rattle.grammar_back.proofs.Turns.{step_impl_items, step_arms}
 use Rattle.grammar_back.proofs.Impls.{step_an_impl}
 use Rattle.grammar_back.proofs.WholeItems.{step_an_item}
+use Rattle.grammar_back.proofs.Members.{step_a_trait_item, step_an_impl_item}
 use Rattle.grammar_back.proofs.StepsOfExpressions.{step_expr_lit, step_expr_path, step_expr_macro}
 use Rattle.grammar_back.proofs.StepsOfExpressions.{step_expr_paren, step_expr_array, step_expr_repeat}
 use Rattle.grammar_back.proofs.StepsOfExpressions.{step_expr_group, step_expr_infer, step_expr_block}
@@ -267,6 +269,8 @@ steps AConstTrait e = step_a_const_trait
 steps ARestrictedTrait e = step_a_restricted_trait
 steps AnImpl e = step_an_impl
 steps AnItem e = step_an_item
+steps ATraitItem e = step_a_trait_item
+steps AnImplItem e = step_an_impl_item
 steps AFile e = step_a_file
 steps ExprLit e = step_expr_lit
 steps ExprPath e = step_expr_path
@@ -496,6 +500,8 @@ laws AConstTrait e = simple_kind AConstTrait refl (λ x. tt) (λ x. refl) (λ x.
 laws ARestrictedTrait e = law_restricted_trait
 laws AnImpl e = law_an_impl
 laws AnItem e = law_an_item
+laws ATraitItem e = law_a_trait_item
+laws AnImplItem e = law_an_impl_item
 laws AFile e = simple_kind AFile refl (λ x. tt) (λ x. refl) (λ x. refl) (λ q. refl) (λ q. refl) refl
 laws ExprLit e = simple_kind ExprLit refl (λ x. tt) (λ x. refl) (λ x. refl) (λ q. refl) (λ q. refl) refl
 laws ExprPath e = simple_kind ExprPath refl (λ x. tt) (λ x. refl) (λ x. refl) (λ q. refl) (λ q. refl) refl

@@ -12,7 +12,7 @@ use Rattle.syn_grammar.specs.Kind.{PathPattern, ReferencePattern, InExpression, 
 use Rattle.syn_grammar.specs.Kind.{ATypeAlias, FnPtrType, InFile, InForeign, WherePredicate}
 use Rattle.syn_grammar.specs.Kind.{AConst, AnImpl, AnItem, NeverType, UnnamedField, Meta}
 use Rattle.syn_grammar.specs.Kind.{AConstTrait, AForeignModule, AMacroDefinition, AModule, ARestrictedTrait, AStatic}
-use Rattle.syn_grammar.specs.Kind.{AStruct, ATrait, AUnion, AUse, AnEnum, AnExternCrate, ItemMacro}
+use Rattle.syn_grammar.specs.Kind.{AStruct, ATrait, ATraitItem, AUnion, AnImplItem, AUse, AnEnum, AnExternCrate, ItemMacro}
 use Rattle.syn_grammar.specs.Kind.{Expression}
 use Rattle.syn_grammar.specs.Kind.{ExprAttributed, ExprAwait, ExprField, ExprMethodCall}
 use Rattle.syn_grammar.specs.Tree.{Tree, AWord, ALiteral, AMark, ALifetime, Raw, Nil, Pair, First, Second, End}
@@ -33,7 +33,7 @@ use Rattle.syn_grammar.specs.Part.{choice, has}
 use Rattle.syn_grammar.specs.Normal.{stands_behind, formed}
 use Rattle.grammar_back.specs.After.{is_any_path, is_generic}
 use Rattle.grammar_back.specs.Covered.{front, inner, has_clear_type, is_lone, has_lone_value, is_known}
-use Rattle.grammar_back.specs.Covered.{is_form, item_of}
+use Rattle.grammar_back.specs.Covered.{is_form, is_no_macro, item_of}
 
 -- the test can say so
 abbrev pub CanSay : (List Token → Bool) → Bool → Type 0
@@ -243,6 +243,8 @@ IsMeant (ATypeAlias InFile) x = has_own_where (back (back (back (back x)))) ≡ 
 IsMeant (ATypeAlias InForeign) x = has_own_where (back (back (back (back x)))) ≡ true
 IsMeant AnImpl x = IsOwnImpl (behind_impl (kept x))
 IsMeant AnItem x = IsItem (item_of x)
+IsMeant ATraitItem x = is_no_macro (choice (item_of x)) ≡ true
+IsMeant AnImplItem x = is_no_macro (choice (item_of x)) ≡ true
 IsMeant ExprField x = (has_dots (front x) ≡ true) × (has_last (back x) ≡ true)
 IsMeant ExprMethodCall x = (has_dots (front x) ≡ true) × (has_own_colons (back (back x)) ≡ true)
 IsMeant ExprAwait x = has_dots (front x) ≡ true

@@ -68,7 +68,7 @@ found_end : Found ended [] end_classes
 unfolding skips
 found_end = (maybe_seq (maybe_called (maybe_ref Where refl)) (found_group (maybe_ended (maybe_both
     (maybe_ref InnerAttributes refl) (weaken_maybe ((no the_end) ∷ (marks "#" then marks "!") ∷ [])
-    (maybe_ref ImplItems refl) (λ s a. (a.0, tt))) (tt, tt) (λ s a. (a.1.0, tt))) (refl, (refl, tt)))) (search))
+    (maybe_ref ImplItems refl) (λ s a. (a.0, tt))) ((search), tt) (λ s a. (a.1.0, tt))) (refl, (refl, tt)))) (search))
 
 found_for : Found (keyword "for" ▸ the_self ∶ ref (AType WithPlus)) (behind (AType WithPlus)) for_class
 unfolding skips

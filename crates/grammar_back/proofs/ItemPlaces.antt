@@ -137,7 +137,8 @@ has_either n x y a b e f = go (found n x) (found n y) e f
     go None p e f = f ∙ ap (λ c. c || b) e
     go (Some z) p e f = ap (λ c. c || b) e
 
-has_none : (n : Part) (x : Tree) (g : Gram) (r : List Token) → Derives x g r → lacks_part n g ≡ true → has n x ≡ false
+pub has_none : (n : Part) (x : Tree) (g : Gram) (r : List Token) → Derives x g r → lacks_part n g ≡ true
+    → has n x ≡ false
 has_none n x g r d e =
     sym (has_normal n Plain (kept x) ∙ has_read n x g r d) ∙ ap is_some (none_found n x g r d e)
 

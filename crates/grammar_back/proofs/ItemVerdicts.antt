@@ -6,7 +6,7 @@ use Rattle.syn_grammar.specs.Kind.{Kind, AConst, AConstTrait, AForeignModule, AF
 use Rattle.syn_grammar.specs.Kind.{ARestrictedTrait, AStatic, AStruct, ATrait, AType, ATypeAlias, AUnion, AUse, AnEnum}
 use Rattle.syn_grammar.specs.Kind.{AnExternCrate, AnImpl, AnyPath, BoundsColon, Generics, ImplGenerics, InFile}
 use Rattle.syn_grammar.specs.Kind.{ItemMacro, Plain}
-use Rattle.syn_grammar.specs.Kind.{Position}
+use Rattle.syn_grammar.specs.Kind.{Place, Position}
 use Rattle.syn_grammar.specs.Kind.{UseRooted, UseTop, Where, WithPlus}
 use Rattle.syn_grammar.specs.Name.{Part, same_part, the_body, the_bounds, the_clause, the_const, the_default, the_first}
 use Rattle.syn_grammar.specs.Name.{the_generics, the_parameters, the_path, the_safety, the_self, the_type}
@@ -17,7 +17,8 @@ use Rattle.syn_grammar.specs.Gram.{Gram, Keep, alt, called, group, judged, never
 use Rattle.syn_grammar.specs.Lists.{item_form}
 use Rattle.syn_grammar.specs.Items.{type_end}
 use Rattle.syn_grammar.specs.Say.{in_braces, many_to_end}
-use Rattle.syn_grammar.specs.Verdicts.{form_in_file, has_root, is_bounded, is_generic, is_path, is_path_type, is_where}
+use Rattle.syn_grammar.specs.Verdicts.{const_is_raw, form_in_file, has_bounds, has_root, is_defined, is_bounded}
+use Rattle.syn_grammar.specs.Verdicts.{is_generic, is_path, is_path_type, is_where}
 use Rattle.syn_grammar.specs.Verdicts.{raw_if, refused_if, root_inside}
 use Rattle.syn_grammar.specs.Table.{table}
 use Rattle.syn_grammar.specs.Derives.{Derives}
@@ -40,44 +41,48 @@ SameItem x w =
     ((b : Bool) → form_in_file b x ≡ Keep → form_in_file b w ≡ Keep) × (own_place w ≡ own_place x)
     × (is_item_form w ≡ is_item_form x)
 
-abbrev pub ItemLaw : Kind → Type 0
-ItemLaw k =
+abbrev pub LawOf : (Tree → Tree → Type 0) → Kind → Type 0
+LawOf S k =
     (q : Position) (y v : Tree) (r : List Token) → Derives y (table k) r → Fits v (table k)
-    → kept (Node k v) ≡ normal_in q (kept (Node k y)) → SameItem (Node k y) (Node k v)
+    → kept (Node k v) ≡ normal_in q (kept (Node k y)) → S (Node k y) (Node k v)
 
-abbrev pub EachItem : Gram → Type 0
-EachItem (alt t a b) = EachItem a × EachItem b
-EachItem (ref k) = ItemLaw k
-EachItem never = Unit {0}
-EachItem _ = ⊥
+abbrev pub ItemLaw : Kind → Type 0
+ItemLaw k = LawOf SameItem k
 
-pub item_same : (g : Gram) → EachItem g → (q : Position) (x w : Tree) (r : List Token) → Derives x g r → Fits w g
-    → kept w ≡ normal_in q (kept x) → SameItem (choice x) (choice w)
-item_same (alt t a b) i q (First x) (First w) r d f e = item_same a i.0 q x w r d.1 f.1 (ap inside e)
+abbrev pub EachOf : (Tree → Tree → Type 0) → Gram → Type 0
+EachOf S (alt t a b) = EachOf S a × EachOf S b
+EachOf S (ref k) = LawOf S k
+EachOf S never = Unit {0}
+EachOf S _ = ⊥
+
+pub form_same : (S : Tree → Tree → Type 0) (g : Gram) → EachOf S g → (q : Position) (x w : Tree) (r : List Token)
+    → Derives x g r → Fits w g
+    → kept w ≡ normal_in q (kept x) → S (choice x) (choice w)
+form_same S (alt t a b) i q (First x) (First w) r d f e = form_same S a i.0 q x w r d.1 f.1 (ap inside e)
   where
     inside : Tree → Tree
     inside (First x) = x
     inside x = x
-item_same (alt t a b) i q (First x) (Second w) r d f e = cc e
-item_same (alt t a b) i q (First x) _ r d f e = absurd f
-item_same (alt t a b) i q (Second x) (First w) r d f e = cc e
-item_same (alt t a b) i q (Second x) (Second w) r d f e = item_same b i.1 q x w r d.1 f.1 (ap inside e)
+form_same S (alt t a b) i q (First x) (Second w) r d f e = cc e
+form_same S (alt t a b) i q (First x) _ r d f e = absurd f
+form_same S (alt t a b) i q (Second x) (First w) r d f e = cc e
+form_same S (alt t a b) i q (Second x) (Second w) r d f e = form_same S b i.1 q x w r d.1 f.1 (ap inside e)
   where
     inside : Tree → Tree
     inside (Second x) = x
     inside x = x
-item_same (alt t a b) i q (Second x) _ r d f e = absurd f
-item_same (alt t a b) i q _ w r d f e = absurd d
-item_same (ref k) i q (Node l y) (Node m v) r d f e =
-    subst (λ j. SameItem (Node j y) (Node m v)) (sym d.0)
-    (subst (λ j. SameItem (Node k y) (Node j v)) (sym f.0)
+form_same S (alt t a b) i q (Second x) _ r d f e = absurd f
+form_same S (alt t a b) i q _ w r d f e = absurd d
+form_same S (ref k) i q (Node l y) (Node m v) r d f e =
+    subst (λ j. S (Node j y) (Node m v)) (sym d.0)
+    (subst (λ j. S (Node k y) (Node j v)) (sym f.0)
     (i q y v r (subst (λ j. Derives y (table j) r) d.0 d.1) (subst (λ j. Fits v (table j)) f.0 f.3)
     (subst (λ j. kept (Node j v) ≡ normal_in q (kept (Node k y))) f.0
     (subst (λ j. kept (Node m v) ≡ normal_in q (kept (Node j y))) d.0 e))))
-item_same (ref k) i q (Node l y) _ r d f e = absurd f
-item_same (ref k) i q _ w r d f e = absurd d
-item_same never i q x w r d f e = absurd (none_never w f)
-item_same _ i q x w r d f e = absurd i
+form_same S (ref k) i q (Node l y) _ r d f e = absurd f
+form_same S (ref k) i q _ w r d f e = absurd d
+form_same S never i q x w r d f e = absurd (none_never w f)
+form_same S _ i q x w r d f e = absurd i
 
 -- the parts that were there
 pub same_has : (n : Part) (q : Position) (g : Gram) (y v : Tree) (r : List Token) → Derives y g r → Fits v g
@@ -346,32 +351,43 @@ bounded_normal q (Node BoundsColon x) e = has_tidied the_bounds is_bare_colon (p
 bounded_normal q _ e = e
 
 -- constants
-none_raw : (a b c : Bool) → raw_if (a || (b || c)) ≡ Keep → (a ≡ false) × (b ≡ false) × (c ≡ false)
+pub none_raw : (a b c : Bool) → raw_if (a || (b || c)) ≡ Keep → (a ≡ false) × (b ≡ false) × (c ≡ false)
 none_raw false false false e = (refl, refl, refl)
 none_raw true b c e = cc e
 none_raw false true c e = cc e
 none_raw false false true e = cc e
 
-raw_none : (a b c : Bool) → a ≡ false → b ≡ false → c ≡ false → raw_if (a || (b || c)) ≡ Keep
+pub raw_none : (a b c : Bool) → a ≡ false → b ≡ false → c ≡ false → raw_if (a || (b || c)) ≡ Keep
 raw_none a b c e f h =
     ap (λ x. raw_if (x || (b || c))) e ∙ ap (λ x. raw_if (false || (x || c))) f
     ∙ ap (λ x. raw_if (false || (false || x))) h
 
-law_constant : ItemLaw AConst
-unfolding held passed table same_part
-law_constant q y v r d f e = (
-  λ b h. let i = none_raw (not (has the_value y)) (is_generic (the the_generics y)) (is_where (the the_where y)) h in
-      raw_none (not (has the_value v)) (is_generic (the the_generics v)) (is_where (the the_where v))
-      (ap not (same_has the_value Plain (table AConst) y v r d f (ap inner e)) ∙ i.0)
-      (same_part_law the_generics is_generic Plain (table AConst) y v r
+pub constant_parts : (y v : Tree) (r : List Token) → Derives y (table AConst) r → Fits v (table AConst)
+    → kept v ≡ normal_in Plain (kept y) → (has the_value v ≡ has the_value y)
+    × (is_generic (the the_generics y) ≡ false → is_generic (the the_generics v) ≡ false)
+    × (is_where (the the_where y) ≡ false → is_where (the the_where v) ≡ false)
+unfolding table same_part
+constant_parts y v r d f e = (
+  same_has the_value Plain (table AConst) y v r d f e,
+  same_part_law the_generics is_generic Plain (table AConst) y v r
       (tt, (tt, (generic_read, (tt, (tt, (((tt, tt), tt), (tt, tt)))))))
-      (tt, (tt, (generic_fits, (tt, (tt, (((tt, tt), tt), (tt, tt))))))) generic_normal d f (ap inner e) i.1)
-      (same_part_law the_where is_where Plain (table AConst) y v r
+      (tt, (tt, (generic_fits, (tt, (tt, (((tt, tt), tt), (tt, tt))))))) generic_normal d f e,
+  same_part_law the_where is_where Plain (table AConst) y v r
       (tt, (tt, (tt, (tt, (tt, (((tt, tt), tt), (clause_read, tt)))))))
-      (tt, (tt, (tt, (tt, (tt, (((tt, tt), tt), (clause_fits, tt))))))) clause_normal d f (ap inner e) i.2),
-  refl,
-  refl,
+      (tt, (tt, (tt, (tt, (tt, (((tt, tt), tt), (clause_fits, tt))))))) clause_normal d f e,
 )
+
+pub constant_stays : (y v : Tree) (r : List Token) → Derives y (table AConst) r → Fits v (table AConst)
+    → kept v ≡ normal_in Plain (kept y) → raw_if (const_is_raw true y) ≡ Keep → raw_if (const_is_raw true v) ≡ Keep
+constant_stays y v r d f e h =
+    let i = none_raw (not (has the_value y)) (is_generic (the the_generics y)) (is_where (the the_where y)) h in
+    let j = constant_parts y v r d f e in
+    raw_none (not (has the_value v)) (is_generic (the the_generics v)) (is_where (the the_where v))
+    (ap not j.0 ∙ i.0) (j.1 i.1) (j.2 i.2)
+
+law_constant : ItemLaw AConst
+unfolding held passed
+law_constant q y v r d f e = (λ b h. constant_stays y v r d f (ap inner e) h, refl, refl)
 
 -- types
 commuted : (n : Part) (x y : Tree) → has n (Pair x y) ≡ has n (Pair y x)
@@ -424,21 +440,24 @@ raw_neither false false e f = cc f
 abbrev lacks_type : Tree → Bool
 lacks_type x = not (has the_type x)
 
+pub alias_stays : (p : Place) (y v : Tree) (r : List Token) → Derives y (table (ATypeAlias p)) r
+    → Fits v (table (ATypeAlias p)) → kept v ≡ changed the_value moved (normal_in Plain (kept y))
+    → raw_if (has_bounds y || not (is_defined y)) ≡ Keep → raw_if (has_bounds v || not (is_defined v)) ≡ Keep
+unfolding table same_part
+alias_stays p y v r d f e h =
+    let i = neither_raw (is_bounded (the the_bounds y)) (has the_type (the the_value y)) h in
+    raw_neither (is_bounded (the the_bounds v)) (has the_type (the the_value v))
+    (alias_tree is_bounded the_bounds Plain (table (ATypeAlias p)) y v r
+    (tt, (tt, (tt, (bounded_read, (tt, tt))))) (tt, (tt, (tt, (bounded_fits, (tt, tt))))) bounded_normal
+    bounded_moved d f e i.0)
+    (alias_tree lacks_type the_value Plain (table (ATypeAlias p)) y v r
+    (tt, (tt, (tt, (tt, ((λ x r d e. ap not (has_read the_type x (type_end p) r d) ∙ e), tt)))))
+    (tt, (tt, (tt, (tt, ((λ w f e. ap not (sym (has_fits the_type w (type_end p) f)) ∙ e), tt)))))
+    (λ q x e. ap not (has_normal the_type q x) ∙ e) (λ x e. ap not (has_moved the_type x) ∙ e) d f e i.1)
+
 law_alias : ItemLaw (ATypeAlias InFile)
-unfolding held passed table same_part
-law_alias q y v r d f e = (
-  λ b h. let i = neither_raw (is_bounded (the the_bounds y)) (has the_type (the the_value y)) h in
-      raw_neither (is_bounded (the the_bounds v)) (has the_type (the the_value v))
-      (alias_tree is_bounded the_bounds Plain (table (ATypeAlias InFile)) y v r
-      (tt, (tt, (tt, (bounded_read, (tt, tt))))) (tt, (tt, (tt, (bounded_fits, (tt, tt))))) bounded_normal
-      bounded_moved d f (ap inner e) i.0)
-      (alias_tree lacks_type the_value Plain (table (ATypeAlias InFile)) y v r
-      (tt, (tt, (tt, (tt, ((λ x r d e. ap not (has_read the_type x (type_end InFile) r d) ∙ e), tt)))))
-      (tt, (tt, (tt, (tt, ((λ w f e. ap not (sym (has_fits the_type w (type_end InFile) f)) ∙ e), tt)))))
-      (λ q x e. ap not (has_normal the_type q x) ∙ e) (λ x e. ap not (has_moved the_type x) ∙ e) d f (ap inner e) i.1),
-  refl,
-  refl,
-)
+unfolding held passed
+law_alias q y v r d f e = (λ b h. alias_stays InFile y v r d f (ap inner e) h, refl, refl)
 
 -- uses: a root inside
 root_read : (x : Tree) (g : Gram) (r : List Token) → Derives x g r → has_root (kept x) ≡ has_root x
@@ -656,7 +675,7 @@ law_impl q y v r d f e = (
         sym (has_fits n v (table AnImpl) f) ∙ ap (has n) (ap inner e) ∙ has_tidy_impl n (normal_in Plain (kept y))
         ∙ has_normal n Plain (kept y) ∙ has_read n y (table AnImpl) r d
 
-pub each_item : EachItem item_form
+pub each_item : EachOf SameItem item_form
 each_item = (
   law_function,
   (

@@ -46,6 +46,7 @@ pub mod FieldValues
 pub mod ItemPlaces
 pub mod ItemVerdicts
 pub mod WholeItems
+pub mod Members
 pub mod Turns
 pub mod Impls
 pub mod AllKinds

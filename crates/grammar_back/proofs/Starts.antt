@@ -5,31 +5,31 @@ use Rattle.proc_macro2.specs.declared.delimiter.Delimiter.TheVariants.{Parenthes
 use Rattle.std.specs.Prelude.{codes, List, [], ◌∷◌}
 use Rattle.syn_grammar.specs.Kind.{Kind, AConst, AConstTrait, AFieldValue, AFile, AForeignModule, AFunction}
 use Rattle.syn_grammar.specs.Kind.{AMacro, AMacroDefinition, AModule, ARestrictedTrait, AStatic, AStruct, ATrait}
-use Rattle.syn_grammar.specs.Kind.{AType, ATypeAlias, AUnion, AUse, Abi, AnArgument, AnEnum, AnExternCrate}
-use Rattle.syn_grammar.specs.Kind.{AnImpl, AnItem, AnyPath, Arguments, AtType, Block, Body, Bound, BoundLifetimes}
-use Rattle.syn_grammar.specs.Kind.{Bounds, BoundsColon, BracketType, ClosureParam, ConstParam, Delimited, DynType}
-use Rattle.syn_grammar.specs.Kind.{ExprAnd, ExprArray, ExprAssign, ExprAsync, ExprAttributed, ExprAwait}
-use Rattle.syn_grammar.specs.Kind.{ExprBitAnd, ExprBitOr, ExprBitXor, ExprBlock, ExprBreak, ExprCall, ExprCast}
-use Rattle.syn_grammar.specs.Kind.{ExprClosure, ExprCompare, ExprConst, ExprContinue, ExprField, ExprForLoop}
-use Rattle.syn_grammar.specs.Kind.{ExprGroup, ExprIf, ExprIndex, ExprInfer, ExprLet, ExprLit, ExprLoop, ExprMacro}
-use Rattle.syn_grammar.specs.Kind.{ExprMatch, ExprMethodCall, ExprOr, ExprParen, ExprPath, ExprProduct, ExprRange}
-use Rattle.syn_grammar.specs.Kind.{ExprRangeClosed, ExprRawAddr, ExprReference, ExprRepeat, ExprReturn, ExprShift}
-use Rattle.syn_grammar.specs.Kind.{ExprStruct, ExprSum, ExprTry, ExprTryBlock, ExprTypedClosure, ExprUnary}
-use Rattle.syn_grammar.specs.Kind.{ExprUnsafe, ExprWhile, ExprYield, Expression, FieldPattern, FieldPatterns}
-use Rattle.syn_grammar.specs.Kind.{FieldValue, FieldValues, FnArg, FnPtrArg, FnPtrType, GenericParam}
-use Rattle.syn_grammar.specs.Kind.{GenericParams, Generics, IdentPattern, ImplGenerics, ImplType, InArm}
-use Rattle.syn_grammar.specs.Kind.{InCondition, InExpression, InFile, InForeign, InImpl, InModule, InStatement}
-use Rattle.syn_grammar.specs.Kind.{InTrait, InType, Index, InferType, InnerAttribute, InnerAttributes, ItemMacro}
-use Rattle.syn_grammar.specs.Kind.{Items, Label, LifetimeColon, LifetimeParam, Lifetimes, LiteralPattern, Member}
-use Rattle.syn_grammar.specs.Kind.{Meta, NamedField, NamedFields, NeverType, OnePattern, OuterAttribute}
-use Rattle.syn_grammar.specs.Kind.{OuterAttributes, Parameter, Parameters, ParenthesizedArguments, Path}
-use Rattle.syn_grammar.specs.Kind.{PathPattern, Pattern, Plain, PointerType, QualifiedPath, RangeBound, RangeEnd}
-use Rattle.syn_grammar.specs.Kind.{RangeToPattern, Receiver, ReferencePattern, ReferenceType, RestPattern}
-use Rattle.syn_grammar.specs.Kind.{ReturnType, Segment, Segments, SeveralPatterns, Signature, SlicePattern}
-use Rattle.syn_grammar.specs.Kind.{SomeBounds, Statements, TraitPath, TuplePattern, TupleType, TypeParam}
-use Rattle.syn_grammar.specs.Kind.{UnnamedField, UnnamedFields, UseBranch, UseRooted, UseTop, UseTree, Variant}
-use Rattle.syn_grammar.specs.Kind.{Visibility, Where, WhereClause, WherePredicate, WildPattern, WithPlus}
-use Rattle.syn_grammar.specs.Kind.{WithoutPlus}
+use Rattle.syn_grammar.specs.Kind.{ATraitItem, AType, ATypeAlias, AUnion, AUse, Abi, AnArgument, AnEnum}
+use Rattle.syn_grammar.specs.Kind.{AnExternCrate, AnImpl, AnImplItem, AnItem, AnyPath, Arguments, AtType, Block}
+use Rattle.syn_grammar.specs.Kind.{Body, Bound, BoundLifetimes, Bounds, BoundsColon, BracketType, ClosureParam}
+use Rattle.syn_grammar.specs.Kind.{ConstParam, Delimited, DynType, ExprAnd, ExprArray, ExprAssign, ExprAsync}
+use Rattle.syn_grammar.specs.Kind.{ExprAttributed, ExprAwait, ExprBitAnd, ExprBitOr, ExprBitXor, ExprBlock}
+use Rattle.syn_grammar.specs.Kind.{ExprBreak, ExprCall, ExprCast, ExprClosure, ExprCompare, ExprConst}
+use Rattle.syn_grammar.specs.Kind.{ExprContinue, ExprField, ExprForLoop, ExprGroup, ExprIf, ExprIndex, ExprInfer}
+use Rattle.syn_grammar.specs.Kind.{ExprLet, ExprLit, ExprLoop, ExprMacro, ExprMatch, ExprMethodCall, ExprOr}
+use Rattle.syn_grammar.specs.Kind.{ExprParen, ExprPath, ExprProduct, ExprRange, ExprRangeClosed, ExprRawAddr}
+use Rattle.syn_grammar.specs.Kind.{ExprReference, ExprRepeat, ExprReturn, ExprShift, ExprStruct, ExprSum, ExprTry}
+use Rattle.syn_grammar.specs.Kind.{ExprTryBlock, ExprTypedClosure, ExprUnary, ExprUnsafe, ExprWhile, ExprYield}
+use Rattle.syn_grammar.specs.Kind.{Expression, FieldPattern, FieldPatterns, FieldValue, FieldValues, FnArg}
+use Rattle.syn_grammar.specs.Kind.{FnPtrArg, FnPtrType, GenericParam, GenericParams, Generics, IdentPattern}
+use Rattle.syn_grammar.specs.Kind.{ImplGenerics, ImplItems, ImplType, InArm, InCondition, InExpression, InFile}
+use Rattle.syn_grammar.specs.Kind.{InForeign, InImpl, InModule, InStatement, InTrait, InType, Index, InferType}
+use Rattle.syn_grammar.specs.Kind.{InnerAttribute, InnerAttributes, ItemMacro, Items, Label, LifetimeColon}
+use Rattle.syn_grammar.specs.Kind.{LifetimeParam, Lifetimes, LiteralPattern, Member, Meta, NamedField}
+use Rattle.syn_grammar.specs.Kind.{NamedFields, NeverType, OnePattern, OuterAttribute, OuterAttributes, Parameter}
+use Rattle.syn_grammar.specs.Kind.{Parameters, ParenthesizedArguments, Path, PathPattern, Pattern, Plain}
+use Rattle.syn_grammar.specs.Kind.{PointerType, QualifiedPath, RangeBound, RangeEnd, RangeToPattern, Receiver}
+use Rattle.syn_grammar.specs.Kind.{ReferencePattern, ReferenceType, RestPattern, ReturnType, Segment, Segments}
+use Rattle.syn_grammar.specs.Kind.{SeveralPatterns, Signature, SlicePattern, SomeBounds, Statements, TraitItems}
+use Rattle.syn_grammar.specs.Kind.{TraitPath, TuplePattern, TupleType, TypeParam, UnnamedField, UnnamedFields}
+use Rattle.syn_grammar.specs.Kind.{UseBranch, UseRooted, UseTop, UseTree, Variant, Visibility, Where, WhereClause}
+use Rattle.syn_grammar.specs.Kind.{WherePredicate, WildPattern, WithPlus, WithoutPlus}
 use Rattle.syn_grammar.specs.Words.{is_ident, is_index, any_text}
 
 abbrev pub starts : Kind → List Class
@@ -462,6 +462,12 @@ starts Items = Then 35 [] (Opening Bracket) ∷ TheWord (codes "pub") ∷ TheWor
     (codes "use") ∷ TheWord (codes "static") ∷ TheWord (codes "mod") ∷ TheWord (codes "type") ∷ TheWord
     (codes "struct") ∷ TheWord (codes "enum") ∷ TheWord (codes "union") ∷ TheWord (codes "auto") ∷ TheWord
     (codes "trait") ∷ TheWord (codes "default") ∷ TheWord (codes "impl") ∷ []
+starts TraitItems = Then 35 [] (Opening Bracket) ∷ TheWord (codes "pub") ∷ TheWord (codes "default") ∷ TheWord
+    (codes "const") ∷ TheWord (codes "async") ∷ TheWord (codes "unsafe") ∷ TheWord (codes "extern") ∷ TheWord
+    (codes "fn") ∷ TheWord (codes "const") ∷ TheWord (codes "type") ∷ []
+starts ImplItems = Then 35 [] (Opening Bracket) ∷ TheWord (codes "pub") ∷ TheWord (codes "default") ∷ TheWord
+    (codes "const") ∷ TheWord (codes "async") ∷ TheWord (codes "unsafe") ∷ TheWord (codes "extern") ∷ TheWord
+    (codes "fn") ∷ TheWord (codes "const") ∷ TheWord (codes "type") ∷ []
 starts AModule = TheWord (codes "unsafe") ∷ TheWord (codes "mod") ∷ []
 starts AForeignModule = TheWord (codes "unsafe") ∷ TheWord (codes "extern") ∷ []
 starts AMacroDefinition = TheWord (codes "macro") ∷ []
@@ -475,6 +481,12 @@ starts AnItem = Then 35 [] (Opening Bracket) ∷ TheWord (codes "pub") ∷ TheWo
     (codes "use") ∷ TheWord (codes "static") ∷ TheWord (codes "mod") ∷ TheWord (codes "type") ∷ TheWord
     (codes "struct") ∷ TheWord (codes "enum") ∷ TheWord (codes "union") ∷ TheWord (codes "auto") ∷ TheWord
     (codes "trait") ∷ TheWord (codes "default") ∷ TheWord (codes "impl") ∷ []
+starts ATraitItem = Then 35 [] (Opening Bracket) ∷ TheWord (codes "pub") ∷ TheWord (codes "default") ∷ TheWord
+    (codes "const") ∷ TheWord (codes "async") ∷ TheWord (codes "unsafe") ∷ TheWord (codes "extern") ∷ TheWord
+    (codes "fn") ∷ TheWord (codes "const") ∷ TheWord (codes "type") ∷ []
+starts AnImplItem = Then 35 [] (Opening Bracket) ∷ TheWord (codes "pub") ∷ TheWord (codes "default") ∷ TheWord
+    (codes "const") ∷ TheWord (codes "async") ∷ TheWord (codes "unsafe") ∷ TheWord (codes "extern") ∷ TheWord
+    (codes "fn") ∷ TheWord (codes "const") ∷ TheWord (codes "type") ∷ []
 starts AFile = Then 35 [] (Sign 33 []) ∷ Then 35 [] (Opening Bracket) ∷ TheWord (codes "pub") ∷ TheWord
     (codes "const") ∷ TheWord (codes "async") ∷ TheWord (codes "unsafe") ∷ TheWord (codes "extern") ∷ TheWord
     (codes "fn") ∷ TheWord (codes "use") ∷ TheWord (codes "static") ∷ TheWord (codes "mod") ∷ TheWord (codes "type")

@@ -770,7 +770,7 @@ step_a_trait = found_step ATrait refl refl
     (found_group (maybe_ended
     (maybe_both (maybe_ref InnerAttributes refl)
     (weaken_maybe ((no the_end) ∷ (marks "#" then marks "!") ∷ []) (maybe_ref TraitItems refl) (λ s a. (a.0, tt)))
-    (tt, tt) (λ s a. (a.1.0, tt))) (refl, (refl, tt)))) (
+    ((search), tt) (λ s a. (a.1.0, tt))) (refl, (refl, tt)))) (
       (λ us. refl, tt),
       (
         (λ us. refl, tt),
@@ -842,7 +842,7 @@ step_a_restricted_trait = found_step ARestrictedTrait refl refl
     (found_group (maybe_ended
     (maybe_both (maybe_ref InnerAttributes refl)
     (weaken_maybe ((no the_end) ∷ (marks "#" then marks "!") ∷ []) (maybe_ref TraitItems refl) (λ s a. (a.0, tt)))
-    (tt, tt) (λ s a. (a.1.0, tt))) (refl, (refl, tt)))) (
+    ((search), tt) (λ s a. (a.1.0, tt))) (refl, (refl, tt)))) (
       (λ us. refl, tt),
       (
         (λ us. refl, tt),

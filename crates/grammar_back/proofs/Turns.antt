@@ -25,7 +25,7 @@ use Rattle.grammar_back.proofs.FieldValues.{end_is}
 use Rattle.grammar_back.proofs.Fits.{Fits}
 use Rattle.grammar_back.proofs.Readies.{Ready, Step}
 use Rattle.grammar_back.proofs.Fine.{AtOrNone}
-use Rattle.grammar_back.proofs.Parts.{at_front, found_mark, found_ref, told_at}
+use Rattle.grammar_back.proofs.Parts.{Found, Told, at_front, found_mark, found_ref, told_at}
 use Rattle.grammar_back.proofs.Starts.{starts}
 use Rattle.grammar_back.proofs.Printed.{KindLaw, TurnLaw, VerdictLaw, plain_law}
 
@@ -123,33 +123,38 @@ unfolding table skips has_step has_form_step
 step_arms x s f n w a = let (d, e) = list_read Arm refl x s f a.0 in (d, inl e)
 
 -- items, which have one
-items_read : (x : Tree) → Fits x (star (lacks the_end) (ref AnItem)) → Ready x
-    → Derives x (star (lacks the_end) (ref AnItem)) [] × AtOrNone (starts AnItem) x []
-unfolding skips
-items_read End f w = (refl, inl refl)
-items_read (Again x y) f w =
-    let d = (items_read y f.1 w.1).0 in
-    let (u, i) = (found_ref AnItem refl).fine.by x (flat y ++ []) f.0 w.0 tt in
-    let j = at_front (starts AnItem) x y [] i in
-    ((ap not (told_at the_end false (starts AnItem) ((flat x ++ flat y) ++ []) (search) j), u, d), inr j)
-items_read _ f w = absurd f
+module _ (l : Kind) (found : Found (ref l) [] (starts l)) (some : Told the_end false (starts l)) where
+  items_read : (x : Tree) → Fits x (star (lacks the_end) (ref l)) → Ready x
+      → Derives x (star (lacks the_end) (ref l)) [] × AtOrNone (starts l) x []
+  items_read End f w = (refl, inl refl)
+  items_read (Again x y) f w =
+      let d = (items_read y f.1 w.1).0 in
+      let (u, i) = found.fine.by x (flat y ++ []) f.0 w.0 tt in
+      let j = at_front (starts l) x y [] i in
+      ((ap not (told_at the_end false (starts l) ((flat x ++ flat y) ++ []) some j), u, d), inr j)
+  items_read _ f w = absurd f
 
 pub step_items : Step Items
 unfolding table skips
 step_items x s f n w a =
-    subst (λ us. Derives x (table Items) us × Begins Items x us) (sym (end_is s a.0)) (items_read x f w)
+    subst (λ us. Derives x (table Items) us × Begins Items x us) (sym (end_is s a.0))
+    (items_read AnItem (found_ref AnItem refl) (search) x f w)
+
+pub step_trait_items : Step TraitItems
+unfolding table skips
+step_trait_items x s f n w a =
+    subst (λ us. Derives x (table TraitItems) us × Begins TraitItems x us) (sym (end_is s a.0))
+    (items_read ATraitItem (found_ref ATraitItem refl) (search) x f w)
+
+pub step_impl_items : Step ImplItems
+unfolding table skips
+step_impl_items x s f n w a =
+    subst (λ us. Derives x (table ImplItems) us × Begins ImplItems x us) (sym (end_is s a.0))
+    (items_read AnImplItem (found_ref AnImplItem refl) (search) x f w)
 
 pub step_foreign_items : Step ForeignItems
 unfolding table skips has_step has_form_step
 step_foreign_items x s f n w a = let (d, e) = list_read AForeignItem refl x s f a.0 in (d, inl e)
-
-pub step_trait_items : Step TraitItems
-unfolding table skips has_step has_form_step
-step_trait_items x s f n w a = let (d, e) = list_read ATraitItem refl x s f a.0 in (d, inl e)
-
-pub step_impl_items : Step ImplItems
-unfolding table skips has_step has_form_step
-step_impl_items x s f n w a = let (d, e) = list_read AnImplItem refl x s f a.0 in (d, inl e)
 
 pub law_arms : KindLaw Arms
 unfolding has_step held passed table

@@ -25,7 +25,7 @@ use Rattle.grammar_back.proofs.Fine.{At, Edge, Fine, fine_called, fine_judged, f
 use Rattle.grammar_back.proofs.Parts.{maybe_ahead, maybe_called, maybe_ref, meant_step}
 use Rattle.grammar_back.proofs.Printed.{IsPlaced, KindLaw, Printed, simple_law}
 use Rattle.grammar_back.proofs.ItemPlaces.{fine_form, item_classes, placed_own}
-use Rattle.grammar_back.proofs.ItemVerdicts.{SameItem, each_item, item_same, kept_form, place_fits, place_normal}
+use Rattle.grammar_back.proofs.ItemVerdicts.{SameItem, each_item, form_same, kept_form, place_fits, place_normal}
 use Rattle.grammar_back.proofs.ItemVerdicts.{place_read, same_has}
 
 -- attributes, visibility and the item
@@ -98,7 +98,7 @@ both_shapes P x w (k, o, v, y, e) (l, p, u, z, f) h =
     (sym f) (h _ _ (wholes k o v y l p u z)))
 
 -- the one is pub where the other is
-public_same : (q : Position) (v u : Tree) (r : List Token) → Derives v (ref Visibility) r → Fits u (ref Visibility)
+pub public_same : (q : Position) (v u : Tree) (r : List Token) → Derives v (ref Visibility) r → Fits u (ref Visibility)
     → kept u ≡ normal_in q (kept v) → is_public u ≡ is_public v
 unfolding held passed
 public_same q (Node Visibility v) (Node Visibility u) r d f e =
@@ -127,7 +127,7 @@ WholeLaw x w =
 whole_same : (x w : Tree) → Whole x w → WholeLaw x w
 unfolding place_of behind_both visible same_part
 whole_same x w (wholes k o v y l p u z) r d f e =
-    let s = item_same item_form each_item Plain y z r d.1.1.1 f.1.1.1 (ap behind_both e) in (
+    let s = form_same SameItem item_form each_item Plain y z r d.1.1.1 f.1.1.1 (ap behind_both e) in (
       λ h. ap (λ b. form_in_file b (choice z)) (public_same Plain v u (flat (Called the_item y) ++ r) d.1.0.1 f.1.0.1
           (ap visible e))
           ∙ s.0 (is_public v) h,

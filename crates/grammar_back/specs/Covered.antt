@@ -3,12 +3,12 @@
 use Rattle.std.specs.Prelude.{Bool, true, false, ◌&&◌, ◌||◌, not}
 use Rattle.syn_grammar.specs.Kind.{Kind, Expression, AConst, AConstTrait, AFieldValue, AFile, AForeignModule}
 use Rattle.syn_grammar.specs.Kind.{AFunction, AMacro, AMacroDefinition, AModule, ARestrictedTrait, AStatic}
-use Rattle.syn_grammar.specs.Kind.{AStruct, ATrait, AType, ATypeAlias, AUnion, AUse, Abi, AnArgument, AnEnum}
-use Rattle.syn_grammar.specs.Kind.{AnExternCrate, AnImpl, AnItem, AnyPath, Arguments, Arms, AtType, Block, Body}
-use Rattle.syn_grammar.specs.Kind.{Bound, BoundLifetimes, Bounds, BoundsColon, BracketType, ClosureParam}
-use Rattle.syn_grammar.specs.Kind.{ConstParam, Delimited, DynType, ExprAnd, ExprArray, ExprAssign, ExprAsync}
-use Rattle.syn_grammar.specs.Kind.{ExprAttributed, ExprAwait, ExprBitAnd, ExprBitOr, ExprBitXor, ExprBlock}
-use Rattle.syn_grammar.specs.Kind.{ExprBreak, ExprCall, ExprCast, ExprClosure, ExprCompare, ExprConst}
+use Rattle.syn_grammar.specs.Kind.{AStruct, ATrait, ATraitItem, AType, ATypeAlias, AUnion, AUse, Abi, AnArgument}
+use Rattle.syn_grammar.specs.Kind.{AnEnum, AnExternCrate, AnImpl, AnImplItem, AnItem, AnyPath, Arguments, Arms}
+use Rattle.syn_grammar.specs.Kind.{AtType, Block, Body, Bound, BoundLifetimes, Bounds, BoundsColon, BracketType}
+use Rattle.syn_grammar.specs.Kind.{ClosureParam, ConstParam, Delimited, DynType, ExprAnd, ExprArray, ExprAssign}
+use Rattle.syn_grammar.specs.Kind.{ExprAsync, ExprAttributed, ExprAwait, ExprBitAnd, ExprBitOr, ExprBitXor}
+use Rattle.syn_grammar.specs.Kind.{ExprBlock, ExprBreak, ExprCall, ExprCast, ExprClosure, ExprCompare, ExprConst}
 use Rattle.syn_grammar.specs.Kind.{ExprContinue, ExprField, ExprForLoop, ExprGroup, ExprIf, ExprIndex, ExprInfer}
 use Rattle.syn_grammar.specs.Kind.{ExprLet, ExprLit, ExprLoop, ExprMacro, ExprMatch, ExprMethodCall, ExprOr}
 use Rattle.syn_grammar.specs.Kind.{ExprParen, ExprPath, ExprProduct, ExprRange, ExprRangeClosed, ExprRawAddr}
@@ -173,6 +173,8 @@ has_step AConstTrait = true
 has_step ARestrictedTrait = true
 has_step AnImpl = true
 has_step AnItem = true
+has_step ATraitItem = true
+has_step AnImplItem = true
 has_step AFile = true
 has_step ExprLit = true
 has_step ExprPath = true
@@ -338,7 +340,7 @@ has_own_trait (First (Pair d (Pair c (Pair u (Pair i (Pair g (Pair p (Pair (Call
     not (is_there f) || is_path_type t
 has_own_trait _ = true
 
--- Items among others are no macros so far; and in extern blocks, traits and impls there are none.
+-- Items among others are no macros so far, nor are those in traits and impls; and in extern blocks there are none.
 abbrev pub is_no_macro : Tree → Bool
 is_no_macro (Node (ItemMacro p) x) = false
 is_no_macro _ = true
@@ -357,6 +359,8 @@ is_taken UnnamedField x = has_clear_type x
 is_taken OnePattern x = not (is_lone (choice x))
 is_taken AnImpl x = has_own_trait x
 is_taken AnItem x = is_no_macro (choice (item_of x))
+is_taken ATraitItem x = is_no_macro (choice (item_of x))
+is_taken AnImplItem x = is_no_macro (choice (item_of x))
 is_taken k x = true
 
 abbrev pub is_covered : Tree → Bool

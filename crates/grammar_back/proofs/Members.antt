@@ -1,0 +1,428 @@
+-- The steps and the laws of items in traits and impls: default may stand before their form too.
+use Rattle.std.proofs.Common.{◌≡◌, List, [], ◌∷◌, ◌++◌, refl, sym, ap, ◌∙◌, subst, suc, inl, inr}
+use Rattle.std.specs.Prelude.{Bool, true, false, ◌||◌, not, cond, codes, Option, Some, None, ℕ}
+use Rattle.proc_macro2.specs.Token.{Token}
+use Rattle.syn_grammar.specs.Kind.{Kind, AConst, AFunction, ATraitItem, ATypeAlias, AnImplItem, Body, InFile, InImpl}
+use Rattle.syn_grammar.specs.Kind.{InTrait, ItemMacro, OuterAttributes, Place, Plain, Position, Signature, Visibility}
+use Rattle.syn_grammar.specs.Name.{Part, same_part, the_body, the_default, the_generics, the_item, the_visibility}
+use Rattle.syn_grammar.specs.Name.{the_where}
+use Rattle.syn_grammar.specs.Tree.{Tree, AWord, Called, First, Nil, Node, Pair, Second, Verbatim, flat}
+use Rattle.syn_grammar.specs.Part.{choice, found, has, is_some, or_else, or_nil, the}
+use Rattle.syn_grammar.specs.Gram.{Gram, Keep, judged, ref}
+use Rattle.syn_grammar.specs.Look.{behind as past, no, seen, sees, ◌then◌}
+use Rattle.syn_grammar.specs.Say.{at, brace, keyword, marks, refused, sign, when◌read◌else◌, ◌∶◌, ◌▸◌}
+use Rattle.syn_grammar.specs.Items.{signature, signature_stands}
+use Rattle.syn_grammar.specs.Lists.{default_there, item_form, macro_stands}
+use Rattle.syn_grammar.specs.Verdicts.{form_in, is_generic, is_public, is_where, item_verdict, marked, raw_if}
+use Rattle.syn_grammar.specs.Ranks.{skips}
+use Rattle.syn_grammar.specs.Table.{table}
+use Rattle.syn_grammar.specs.Derives.{Derives}
+use Rattle.syn_grammar.specs.Kept.{held, kept}
+use Rattle.syn_grammar.specs.Normal.{passed, place_of, normal_in}
+use Rattle.item_laws.proofs.Places.{place_const, place_function}
+use Rattle.item_laws.proofs.Readers.{flat_choice}
+use Rattle.grammar_back.specs.Covered.{has_step, inner, is_no_macro, is_taken, item_of}
+use Rattle.grammar_back.specs.Sees.{Lacks, LacksAll}
+use Rattle.grammar_back.proofs.Classes.{Class, TheWord, among_left, among_right}
+use Rattle.grammar_back.proofs.Starts.{starts}
+use Rattle.grammar_back.proofs.Fits.{Fits, IsMeant, own_place, place}
+use Rattle.grammar_back.proofs.Readies.{Ready, Step}
+use Rattle.grammar_back.proofs.Fine.{At, AtOrNone, Edge, Fine, fine_called, fine_judged, fine_weaker}
+use Rattle.grammar_back.proofs.Parts.{Found, Maybe, Told, found_called, found_optional, found_ref, found_text}
+use Rattle.grammar_back.proofs.Parts.{maybe_ahead, maybe_called, maybe_ref, meant_step, none_never, told_at}
+use Rattle.grammar_back.proofs.Printed.{IsPlaced, KindLaw, Printed, simple_law}
+use Rattle.grammar_back.proofs.Impls.{contrary, lacks_part}
+use Rattle.grammar_back.proofs.ItemPlaces.{has_none, placed_own}
+use Rattle.grammar_back.proofs.ItemVerdicts.{EachOf, LawOf, alias_stays, constant_parts, constant_stays, form_same}
+use Rattle.grammar_back.proofs.ItemVerdicts.{none_raw, raw_none, same_has}
+use Rattle.grammar_back.proofs.WholeItems.{public_same}
+
+-- a function, a constant, a type or a macro
+abbrev pub member_form : Place → Gram
+member_form p =
+    when signature_stands p read ref (AFunction p)
+    else when at "const" read ref AConst
+    else when at "type" read ref (ATypeAlias p)
+    else when macro_stands read ref (ItemMacro p)
+    else refused
+
+-- What its words in front are: a signature's, or const and a name.
+first_seen_at : (z : Tree) (r : List Token) → Derives z item_form r → place z ≡ 0
+    → sees (signature_stands InFile) (flat z ++ r) ≡ true
+first_seen_at (First a) r d e = d.0
+first_seen_at (Second a) r d e = cc e
+first_seen_at _ r d e = absurd d
+
+first_unseen_at : (z : Tree) (r : List Token) (n : ℕ) → Derives z item_form r → place z ≡ suc n
+    → sees (signature_stands InFile) (flat z ++ r) ≡ false
+first_unseen_at (First a) r n d e = cc e
+first_unseen_at (Second a) r n d e = d.0
+first_unseen_at _ r n d e = absurd d
+
+signed_in : (s y : Tree) (r : List Token) → Derives s (signature InFile) (flat y ++ r)
+    → Derives y (when brace read the_body ∶ ref Body else sign ";") r
+    → sees (signature_stands InFile) ((flat s ++ flat y) ++ r) ≡ true
+unfolding table
+signed_in s y r d e =
+    let x : Tree = Pair (Node (Signature InFile) s) y in
+    let p = place_function x r ((refl, d), e) in
+    subst (λ us. sees (signature_stands InFile) (us ++ r) ≡ true) (sym (flat_choice p.0) ∙ ap flat p.1)
+    (first_seen_at p.0 r p.2 (placed_own p.0 r p.2 ∙ ap own_place p.1))
+
+const_in : (x : Tree) (r : List Token) → Derives x (table AConst) r → Lacks (signature_stands InFile) (flat x ++ r)
+const_in x r d =
+    let p = place_const x r d in
+    subst (λ us. sees (signature_stands InFile) (us ++ r) ≡ false) (sym (flat_choice p.0) ∙ ap flat p.1)
+    (first_unseen_at p.0 r 6 p.2 (placed_own p.0 r p.2 ∙ ap own_place p.1))
+
+const_unsigned : (x : Tree) (r : List Token) → Derives x (ref AConst) r → Lacks (signature_stands InFile) (flat x ++ r)
+const_unsigned (Node k x) r d = const_in x r (subst (λ j. Derives x (table j) r) d.0 d.1)
+const_unsigned _ r d = absurd d
+
+signed_trait : (x : Tree) (r : List Token) → Derives x (table (AFunction InTrait)) r
+    → sees (signature_stands InTrait) (flat x ++ r) ≡ true
+unfolding table
+signed_trait (Pair (Node k s) y) r d =
+    signed_in s y r (subst (λ j. Derives s (table j) (flat y ++ r)) d.0.0 d.0.1) d.1
+signed_trait (Pair _ y) r d = absurd d.0
+signed_trait _ r d = absurd d
+
+signed_impl : (x : Tree) (r : List Token) → Derives x (table (AFunction InImpl)) r
+    → sees (signature_stands InImpl) (flat x ++ r) ≡ true
+unfolding table
+signed_impl (Pair (Node k s) y) r d =
+    signed_in s y r (subst (λ j. Derives s (table j) (flat y ++ r)) d.0.0 d.0.1) d.1
+signed_impl (Pair _ y) r d = absurd d.0
+signed_impl _ r d = absurd d
+
+not_macro : (p : Place) (x : Tree) → Fits x (ref (ItemMacro p)) → is_no_macro (choice x) ≡ true → ⊥
+not_macro p (Node k x) f e =
+    contrary false (subst (λ j. is_no_macro (Node j x) ≡ true) f.0 e) refl
+not_macro p _ f e = absurd f
+
+abbrev FormEdge : Edge
+FormEdge x s = is_no_macro (choice x) ≡ true
+
+abbrev const_class : List Class
+const_class = TheWord (codes "const") ∷ []
+
+abbrev type_class : List Class
+type_class = TheWord (codes "type") ∷ []
+
+-- What is asked of a place: what functions and types begin with, and that functions are seen.
+module _ (p : Place) (cs : List Class) (functions : Found (ref (AFunction p)) [] cs)
+    (types : Found (ref (ATypeAlias p)) [] type_class)
+    (signed : (x : Tree) (r : List Token) → Derives x (table (AFunction p)) r
+    → sees (signature_stands p) (flat x ++ r) ≡ true)
+    (unsigned : (x : Tree) (r : List Token) → Derives x (ref AConst) r → Lacks (signature_stands p) (flat x ++ r))
+    (no_type : Told (signature_stands p) false type_class) where
+  function_seen : (x : Tree) (r : List Token) → Derives x (ref (AFunction p)) r
+      → sees (signature_stands p) (flat x ++ r) ≡ true
+  function_seen (Node k x) r d = signed x r (subst (λ j. Derives x (table j) r) d.0 d.1)
+  function_seen _ r d = absurd d
+
+  fine_member : Fine (member_form p) FormEdge (At (cs ++ (const_class ++ type_class)))
+  unfolding skips
+  fine_member = record { by = go }
+    where
+      go : (x : Tree) (s : List Token) → Fits x (member_form p) → Ready x → FormEdge x s
+          → Derives x (member_form p) s × At (cs ++ (const_class ++ type_class)) x s
+      go (First x) s f w e =
+          let (d, i) = functions.fine.by x s f.1 w tt in
+          ((function_seen x s d, d), among_left cs (const_class ++ type_class) (flat x ++ s) i)
+      go (Second (First x)) s f w e =
+          let (d, i) = (found_ref AConst refl).fine.by x s f.1.1 w tt in (
+            (unsigned x s d, (told_at (at "const") true const_class (flat x ++ s) (λ us. refl, tt) i, d)),
+            among_right cs (const_class ++ type_class) (flat x ++ s)
+                (among_left const_class type_class (flat x ++ s) i),
+          )
+      go (Second (Second (First x))) s f w e =
+          let (d, i) = types.fine.by x s f.1.1.1 w tt in (
+            (
+              told_at (signature_stands p) false type_class (flat x ++ s) no_type i,
+              (
+                told_at (at "const") false type_class (flat x ++ s) (λ us. refl, tt) i,
+                (told_at (at "type") true type_class (flat x ++ s) (λ us. refl, tt) i, d),
+              ),
+            ),
+            among_right cs (const_class ++ type_class) (flat x ++ s)
+                (among_right const_class type_class (flat x ++ s) i),
+          )
+      go (Second (Second (Second (First x)))) s f w e = absurd (not_macro p x f.1.1.1.1 e)
+      go (Second (Second (Second (Second x)))) s f w e = absurd (none_never x f.1.1.1.1)
+      go (Second (Second (Second _))) s f w e = absurd f.1.1.1
+      go (Second (Second _)) s f w e = absurd f.1.1
+      go (Second _) s f w e = absurd f.1
+      go _ s f w e = absurd f
+
+-- attributes, visibility, default and the form
+abbrev pub whole_member : Place → Gram
+whole_member p =
+    ref OuterAttributes ▸ the_visibility ∶ ref Visibility ▸ default_there p ▸ the_item ∶ member_form p
+
+abbrev MemberEdge : Edge
+MemberEdge x s = is_no_macro (choice (item_of x)) ≡ true
+
+abbrev function_class : List Class
+function_class =
+    TheWord (codes "const") ∷ TheWord (codes "async") ∷ TheWord (codes "unsafe") ∷ TheWord (codes "extern")
+    ∷ TheWord (codes "fn") ∷ []
+
+abbrev form_class : List Class
+form_class = function_class ++ (const_class ++ type_class)
+
+abbrev default_class : List Class
+default_class = TheWord (codes "default") ∷ []
+
+-- in an impl no ! follows it
+default_seen : (x : Tree) (s : List Token) → Fits x (the_default ∶ keyword "default") → Lacks (marks "!") s
+    → sees (at "default" then no (marks "!")) (flat x ++ s) ≡ true
+default_seen (Called n (AWord cs)) s f e =
+    subst (λ b. seen (past (cond b (Some s) None) (no (marks "!"))) ≡ true) (sym f.1)
+    (ap (λ b. seen (cond b None (Some s))) e)
+default_seen (Called n _) s f e = absurd f.1
+default_seen _ s f e = absurd f
+
+maybe_default : Maybe (default_there InImpl) ((at "default" then no (marks "!")) ∷ marks "!" ∷ []) default_class
+maybe_default = record { fine = record { by = go } }
+  where
+    go : (x : Tree) (s : List Token) → Fits x (default_there InImpl) → Ready x
+        → LacksAll ((at "default" then no (marks "!")) ∷ marks "!" ∷ []) s
+        → Derives x (default_there InImpl) s × AtOrNone default_class x s
+    go (First x) s f w a =
+        let (d, i) = (found_called {n = the_default} (found_text "default")).fine.by x s f.1 w tt in
+        ((default_seen x s f.1 a.1.0, d), inr i)
+    go (Second Nil) s f w a = ((a.0, tt), inl refl)
+    go (Second _) s f w a = absurd f.1
+    go _ s f w a = absurd f
+
+fine_trait_item : Fine (whole_member InTrait) MemberEdge (At (starts ATraitItem))
+unfolding skips
+fine_trait_item =
+    maybe_ahead MemberEdge (TheWord (codes "pub") ∷ default_class ++ form_class) (maybe_ref OuterAttributes refl)
+    (maybe_ahead MemberEdge (default_class ++ form_class) (maybe_called (maybe_ref Visibility refl))
+    (maybe_ahead MemberEdge form_class
+    (found_optional (at "default") (found_called (found_text "default")) (λ us. refl, tt))
+    (fine_called {A = MemberEdge} {F = At form_class}
+    (fine_member InTrait function_class (found_ref (AFunction InTrait) refl) (found_ref (ATypeAlias InTrait) refl)
+    signed_trait const_unsigned (λ us. refl, tt))) ((search), tt) (λ x y s c. c)) ((search), ((search), tt))
+    (λ x y s c. c)) ((search), tt) (λ x y s c. c)
+
+fine_impl_item : Fine (whole_member InImpl) MemberEdge (At (starts AnImplItem))
+unfolding skips
+fine_impl_item =
+    maybe_ahead MemberEdge (TheWord (codes "pub") ∷ default_class ++ form_class) (maybe_ref OuterAttributes refl)
+    (maybe_ahead MemberEdge (default_class ++ form_class) (maybe_called (maybe_ref Visibility refl))
+    (maybe_ahead MemberEdge form_class maybe_default
+    (fine_called {A = MemberEdge} {F = At form_class}
+    (fine_member InImpl function_class (found_ref (AFunction InImpl) refl) (found_ref (ATypeAlias InImpl) refl)
+    signed_impl const_unsigned (λ us. refl, tt))) ((search), ((search), tt)) (λ x y s c. c)) ((search), ((search), tt))
+    (λ x y s c. c)) ((search), tt) (λ x y s c. c)
+
+pub step_a_trait_item : Step ATraitItem
+unfolding table skips
+step_a_trait_item =
+    meant_step ATraitItem refl refl
+    (fine_weaker (λ x s. LacksAll [] s × IsMeant ATraitItem x) (At (starts ATraitItem))
+    (fine_judged {A = MemberEdge} {F = At (starts ATraitItem)} fine_trait_item) (λ x s c. c.1) (λ x s i c. i))
+
+pub step_an_impl_item : Step AnImplItem
+unfolding table skips
+step_an_impl_item =
+    meant_step AnImplItem refl refl
+    (fine_weaker (λ x s. LacksAll [] s × IsMeant AnImplItem x) (At (starts AnImplItem))
+    (fine_judged {A = MemberEdge} {F = At (starts AnImplItem)} fine_impl_item) (λ x s c. c.1) (λ x s i c. i))
+
+-- Where a form is kept, it is kept as it is printed.
+abbrev SameMember : Place → Tree → Tree → Type 0
+SameMember p x w =
+    ((b : Bool) → form_in p b x ≡ Keep → form_in p b w ≡ Keep) × (is_no_macro w ≡ is_no_macro x)
+
+trait_function : LawOf (SameMember InTrait) (AFunction InTrait)
+trait_function q y v r d f e = ((λ b h. h), refl)
+
+trait_constant : LawOf (SameMember InTrait) AConst
+unfolding held passed
+trait_constant q y v r d f e = (
+  λ b h. let i = none_raw b (is_generic (the the_generics y)) (is_where (the the_where y)) h in
+      let j = constant_parts y v r d f (ap inner e) in
+      raw_none b (is_generic (the the_generics v)) (is_where (the the_where v)) i.0 (j.1 i.1) (j.2 i.2),
+  refl,
+)
+
+trait_alias : LawOf (SameMember InTrait) (ATypeAlias InTrait)
+trait_alias q y v r d f e = ((λ b h. h), refl)
+
+trait_macro : LawOf (SameMember InTrait) (ItemMacro InTrait)
+trait_macro q y v r d f e = ((λ b h. h), refl)
+
+impl_function : LawOf (SameMember InImpl) (AFunction InImpl)
+unfolding held passed
+impl_function q y v r d f e = (
+  λ b h. ap (λ c. raw_if (not c)) (same_has the_body Plain (table (AFunction InImpl)) y v r d f (ap inner e)) ∙ h,
+  refl,
+)
+
+impl_constant : LawOf (SameMember InImpl) AConst
+unfolding held passed
+impl_constant q y v r d f e = (λ b h. constant_stays y v r d f (ap inner e) h, refl)
+
+impl_alias : LawOf (SameMember InImpl) (ATypeAlias InImpl)
+unfolding held passed
+impl_alias q y v r d f e = (λ b h. alias_stays InImpl y v r d f (ap inner e) h, refl)
+
+impl_macro : LawOf (SameMember InImpl) (ItemMacro InImpl)
+impl_macro q y v r d f e = ((λ b h. h), refl)
+
+-- the parts of such an item
+item_part : (d y : Tree) → has the_item d ≡ false → or_nil (or_else (found the_item d) (Some y)) ≡ y
+item_part d y e = go (found the_item d) e
+  where
+    go : (o : Option Tree) → is_some o ≡ false → or_nil (or_else o (Some y)) ≡ y
+    go None e = refl
+    go (Some x) e = cc e
+
+the_item_is : (k : Kind) (o : Tree) (n : Part) (v d : Tree) (m : Part) (y : Tree) → n ≡ the_visibility → m ≡ the_item
+    → has the_item d ≡ false → the the_item (Pair (Node k o) (Pair (Called n v) (Pair d (Called m y)))) ≡ y
+unfolding same_part
+the_item_is k o n v d m y e f h =
+    ap (λ j. the the_item (Pair (Node k o) (Pair (Called j v) (Pair d (Called m y))))) e
+    ∙ ap (λ j. the the_item (Pair (Node k o) (Pair (Called the_visibility v) (Pair d (Called j y))))) f
+    ∙ item_part d y h
+
+the_visibility_is : (k : Kind) (o : Tree) (n : Part) (v z : Tree) → n ≡ the_visibility
+    → the the_visibility (Pair (Node k o) (Pair (Called n v) z)) ≡ v
+unfolding same_part
+the_visibility_is k o n v z e = ap (λ j. the the_visibility (Pair (Node k o) (Pair (Called j v) z))) e
+
+its_visibility : Tree → Tree
+its_visibility (Pair o (Pair (Called n v) z)) = v
+its_visibility x = x
+
+its_default : Tree → Tree
+its_default (Pair o (Pair v (Pair d y))) = d
+its_default x = x
+
+its_form : Tree → Tree
+its_form (Pair o (Pair v (Pair d (Called m y)))) = y
+its_form x = x
+
+abbrev MemberLaw : Place → Tree → Tree → Type 0
+MemberLaw p x w =
+    (item_verdict p x ≡ Keep → item_verdict p w ≡ Keep)
+    × (is_no_macro (choice (item_of w)) ≡ is_no_macro (choice (item_of x)))
+
+module _ (p : Place) (marks_are : (x : Tree) → marked p x ≡ (is_public (the the_visibility x) || has the_default x))
+    (no_item : lacks_part the_item (default_there p) ≡ true) (each : EachOf (SameMember p) (member_form p)) where
+  member_law : (x w : Tree) (r : List Token) → Derives x (whole_member p) r → Fits w (whole_member p)
+      → kept w ≡ normal_in Plain (kept x) → MemberLaw p x w
+  unfolding its_visibility its_default its_form
+  member_law (Pair (Node k o) (Pair (Called n v) (Pair c (Called m y))))
+      (Pair (Node l a) (Pair (Called i u) (Pair b (Called j z)))) r d f e =
+      let x : Tree = Pair (Node k o) (Pair (Called n v) (Pair c (Called m y))) in
+      let w : Tree = Pair (Node l a) (Pair (Called i u) (Pair b (Called j z))) in
+      let s = form_same (SameMember p) (member_form p) each (place_of m) y z r d.1.1.1.1 f.1.1.1.1 (ap its_form e) in
+      let lacks_c = has_none the_item c (default_there p) (flat y ++ r) d.1.1.0 no_item in
+      let lacks_b = same_has the_item Plain (default_there p) c b (flat y ++ r) d.1.1.0 f.1.1.0 (ap its_default e)
+      ∙ lacks_c in
+      let g : marked p w ≡ marked p x =
+      marks_are w
+      ∙ ap (λ t. t || has the_default w) (ap is_public (the_visibility_is l a i u (Pair b (Called j z)) f.1.0.0)
+      ∙ public_same (place_of n) v u (flat (Pair c (Called m y)) ++ r) d.1.0.1 f.1.0.1 (ap its_visibility e)
+      ∙ sym (ap is_public (the_visibility_is k o n v (Pair c (Called m y)) d.1.0.0)))
+      ∙ ap (λ t. is_public (the the_visibility x) || t) (same_has the_default Plain (whole_member p) x w r d f e)
+      ∙ sym (marks_are x) in (
+        λ h. ap (λ t. form_in p t (choice (the the_item w))) g
+            ∙ ap (λ t. form_in p (marked p x) (choice t)) (the_item_is l a i u b j z f.1.0.0 f.1.1.1.0 lacks_b)
+            ∙ s.0 (marked p x) (sym (ap (λ t. form_in p (marked p x) (choice t))
+            (the_item_is k o n v c m y d.1.0.0 d.1.1.1.0 lacks_c)) ∙ h),
+        s.1,
+      )
+  member_law (Pair (Node k o) (Pair (Called n v) (Pair c (Called m y))))
+      (Pair (Node l a) (Pair (Called i u) (Pair b _))) r d f e = absurd f.1.1.1
+  member_law (Pair (Node k o) (Pair (Called n v) (Pair c (Called m y)))) (Pair (Node l a) (Pair (Called i u) _)) r d f e
+      = absurd f.1.1
+  member_law (Pair (Node k o) (Pair (Called n v) (Pair c (Called m y)))) (Pair (Node l a) (Pair _ z)) r d f e =
+      absurd f.1.0
+  member_law (Pair (Node k o) (Pair (Called n v) (Pair c (Called m y)))) (Pair (Node l a) _) r d f e = absurd f.1
+  member_law (Pair (Node k o) (Pair (Called n v) (Pair c (Called m y)))) (Pair _ z) r d f e = absurd f.0
+  member_law (Pair (Node k o) (Pair (Called n v) (Pair c (Called m y)))) _ r d f e = absurd f
+  member_law (Pair (Node k o) (Pair (Called n v) (Pair c _))) w r d f e = absurd d.1.1.1
+  member_law (Pair (Node k o) (Pair (Called n v) _)) w r d f e = absurd d.1.1
+  member_law (Pair (Node k o) (Pair _ y)) w r d f e = absurd d.1.0
+  member_law (Pair (Node k o) _) w r d f e = absurd d.1
+  member_law (Pair _ y) w r d f e = absurd d.0
+  member_law _ w r d f e = absurd d
+
+  pub member_meant : (x w : Tree) (r : List Token) → Derives x (judged (item_verdict p) (whole_member p)) r
+      → Fits w (judged (item_verdict p) (whole_member p)) → kept w ≡ normal_in Plain (kept x)
+      → is_no_macro (choice (item_of x)) ≡ true → is_no_macro (choice (item_of w)) ≡ true
+  member_meant (First x) (First w) r d f e h = (member_law x w r d.1 f.1 (ap inside e)).1 ∙ h
+    where
+      inside : Tree → Tree
+      inside (First x) = x
+      inside x = x
+  member_meant (First x) _ r d f e h = absurd f
+  member_meant (Verbatim x) (First w) r d f e h = cc e
+  member_meant (Verbatim x) _ r d f e h = absurd f
+  member_meant _ w r d f e h = absurd d
+
+each_trait : EachOf (SameMember InTrait) (member_form InTrait)
+each_trait = (trait_function, (trait_constant, (trait_alias, (trait_macro, tt))))
+
+each_impl : EachOf (SameMember InImpl) (member_form InImpl)
+each_impl = (impl_function, (impl_constant, (impl_alias, (impl_macro, tt))))
+
+pub law_a_trait_item : KindLaw ATraitItem
+unfolding has_step held passed place_of table same_part
+law_a_trait_item =
+    record {
+      entry = λ q l. (
+        λ x w r c d f e h. (member_law InTrait (λ x. refl) refl each_trait x w r d f e).0 h,
+        simple_law Plain (whole_member InTrait) refl,
+      );
+      node = go;
+    }
+  where
+    go : (q : Position) → IsPlaced q ATraitItem → (x : Tree) (r : List Token) → is_taken ATraitItem x ≡ true
+        → Derives x (table ATraitItem) r → Printed (table ATraitItem) (normal_in (passed ATraitItem q) (kept x))
+        → Printed (ref ATraitItem) (normal_in q (Node (held ATraitItem) (kept x)))
+    go q l x r o d i =
+        record {
+          tree = Node ATraitItem i.tree;
+          fits = (
+            refl,
+            refl,
+            refl,
+            i.fits,
+            member_meant InTrait (λ x. refl) refl each_trait x i.tree r d i.fits i.kept_is o,
+          );
+          kept_is = ap (Node ATraitItem) i.kept_is;
+        }
+
+pub law_an_impl_item : KindLaw AnImplItem
+unfolding has_step held passed place_of table same_part
+law_an_impl_item =
+    record {
+      entry = λ q l. (
+        λ x w r c d f e h. (member_law InImpl (λ x. refl) refl each_impl x w r d f e).0 h,
+        simple_law Plain (whole_member InImpl) refl,
+      );
+      node = go;
+    }
+  where
+    go : (q : Position) → IsPlaced q AnImplItem → (x : Tree) (r : List Token) → is_taken AnImplItem x ≡ true
+        → Derives x (table AnImplItem) r → Printed (table AnImplItem) (normal_in (passed AnImplItem q) (kept x))
+        → Printed (ref AnImplItem) (normal_in q (Node (held AnImplItem) (kept x)))
+    go q l x r o d i =
+        record {
+          tree = Node AnImplItem i.tree;
+          fits = (
+            refl,
+            refl,
+            refl,
+            i.fits,
+            member_meant InImpl (λ x. refl) refl each_impl x i.tree r d i.fits i.kept_is o,
+          );
+          kept_is = ap (Node AnImplItem) i.kept_is;
+        }
