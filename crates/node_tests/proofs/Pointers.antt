@@ -7,7 +7,7 @@ use Rattle.syn_grammar.specs.Ranks.{forms, rank, skips, top}
 use Rattle.syn_input.specs.Input.{left, rest}
 use Rattle.syn_input.specs.declared.input.ParseBuffer.{ParseBuffer}
 use Rattle.syn_input.proofs.ReadPairs.{few_tokens}
-use Rattle.syn_nodes.specs.Lists.{IsListed}
+use Rattle.syn_shape.specs.Lists.{IsListed}
 
 pub pointer_listed : IsListed PointerType
 unfolding skips rank forms top

@@ -8,7 +8,7 @@ use syn_error::fault::{ParseFault, TextFault};
 use syn_error::to_tokens::ToTokens;
 use syn_input::{ParseBuffer, Parser};
 use syn_kinds::token;
-use syn_turns::{copy_turns, turns};
+use syn_shape::turn::{copy_turns, turns};
 use syn_type::TypePtr;
 
 fn pointers(input: &mut ParseBuffer<'_>) -> Result<Vec<TypePtr<Never>>, ParseFault> {

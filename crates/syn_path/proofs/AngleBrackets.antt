@@ -15,7 +15,7 @@ use Rattle.syn_kinds.specs.Table as table
 use Rattle.syn_kinds.specs.declared.punctuation.Punctuation.{Punctuation}
 use Rattle.syn_lists.specs.Lists.{separators, values}
 use Rattle.syn_lists.specs.declared.punctuated.Punctuated.{Punctuated}
-use Rattle.syn_nodes.specs.Lists.{IsListed, list_tree}
+use Rattle.syn_shape.specs.Lists.{IsListed, list_tree}
 use Rattle.syn_shape.specs.Leaves.{mark_of}
 use Rattle.syn_shape.specs.Reads.{Reads}
 use Rattle.syn_shape.proofs.Looks.{tests_mark}

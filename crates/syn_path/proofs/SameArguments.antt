@@ -9,7 +9,7 @@ use Rattle.syn_kinds.specs.Table as table
 use Rattle.syn_kinds.specs.Values.{enclosed}
 use Rattle.syn_lists.specs.Lists.{separators, values}
 use Rattle.syn_lists.specs.Put.{put_list}
-use Rattle.syn_nodes.specs.Lists.{list_tree, put_separator}
+use Rattle.syn_shape.specs.Lists.{list_tree, put_separator}
 use Rattle.syn_shape.specs.Leaves.{mark_of}
 use Rattle.syn_path.specs.InParentheses.{output_tree, parenthesized_arguments, put_parenthesized_arguments}
 use Rattle.syn_path.specs.Outputs.{put_return_type, return_type}

@@ -14,8 +14,8 @@ use Rattle.syn_kinds.specs.declared.punctuation.Punctuation.{Punctuation}
 use Rattle.syn_lists.specs.Lists.{separators, values}
 use Rattle.syn_lists.specs.Put.{put_list}
 use Rattle.syn_lists.specs.declared.punctuated.Punctuated.{Punctuated}
-use Rattle.syn_nodes.specs.Lists.{Agrees, without_separators, without_values}
-use Rattle.syn_nodes.proofs.Copies.{spans_of, tree_by}
+use Rattle.syn_shape.specs.Lists.{Agrees, without_separators, without_values}
+use Rattle.syn_shape.proofs.Copies.{spans_of, tree_by}
 use Rattle.syn_shape.specs.Prints.{put_sign}
 use Rattle.syn_path.specs.PathSegments.{further, last_segments, link, linked, path_segments, put_path_segments}
 use Rattle.syn_path.specs.PathSegments.{put_path_sep, segments_tree}

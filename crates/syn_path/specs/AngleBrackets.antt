@@ -11,7 +11,7 @@ use Rattle.syn_kinds.specs.declared.punctuation.Punctuation.{Punctuation}
 use Rattle.syn_lists.specs.Lists.{separators, values}
 use Rattle.syn_lists.specs.Put.{put_list}
 use Rattle.syn_lists.specs.declared.punctuated.Punctuated.{Punctuated}
-use Rattle.syn_nodes.specs.Lists.{list_tree, put_separator}
+use Rattle.syn_shape.specs.Lists.{list_tree, put_separator}
 use Rattle.syn_shape.specs.Leaves.{marks_tree}
 use Rattle.syn_shape.specs.Prints.{put_sign}
 use Rattle.syn_shape.specs.Views.{optional_tree}

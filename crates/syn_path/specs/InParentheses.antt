@@ -9,7 +9,7 @@ use Rattle.syn_grammar.specs.Say.{◌▸◌, comma, marks, optional, sign}
 use Rattle.syn_grammar.specs.Tree.{Tree, Nil, Pair, First, Second, Group, Node}
 use Rattle.syn_lists.specs.Lists.{separators, values}
 use Rattle.syn_lists.specs.Put.{put_list}
-use Rattle.syn_nodes.specs.Lists.{list_tree, put_separator}
+use Rattle.syn_shape.specs.Lists.{list_tree, put_separator}
 use Rattle.syn_shape.specs.Leaves.{marks_tree}
 use Rattle.syn_path.specs.Outputs.{put_return_type}
 use Rattle.syn_path.specs.declared.parenthesized.ParenthesizedGenericArguments.{ParenthesizedGenericArguments}

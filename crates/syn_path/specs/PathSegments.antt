@@ -9,7 +9,7 @@ use Rattle.syn_kinds.specs.declared.punctuation.Punctuation.{Punctuation}
 use Rattle.syn_lists.specs.Lists.{separators, values}
 use Rattle.syn_lists.specs.Put.{put_list}
 use Rattle.syn_lists.specs.declared.punctuated.Punctuated.{Punctuated}
-use Rattle.syn_nodes.specs.Lists.{without_separators, without_values}
+use Rattle.syn_shape.specs.Lists.{without_separators, without_values}
 use Rattle.syn_shape.specs.Leaves.{marks_tree}
 use Rattle.syn_shape.specs.Prints.{put_sign}
 use Rattle.syn_path.specs.Segments.{path_segment, put_path_segment, segment_tree}

@@ -16,7 +16,7 @@ use syn_error::to_tokens::ToTokens;
 use syn_input::{Parse, ParseBuffer};
 use syn_kinds::token;
 use syn_lists::Punctuated;
-use syn_nodes::{copy_shapes, nodes_equality_is_by_tree, shapes};
+use syn_shape::list::{copy_shapes, nodes_equality_is_by_tree, shapes};
 use syn_shape::optional::{optional_equality_is_by_leaf, optional_leaf};
 use syn_shape::{Copied, Copier, Exact, Hub, Leaf, Reader, Shape};
 use try_clone::TryClone;

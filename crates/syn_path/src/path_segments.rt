@@ -5,7 +5,7 @@ ghost use Rattle.syn_grammar.specs.Keeps.{kepts};
 ghost use Rattle.syn_grammar.specs.Kind.{Segments};
 ghost use Rattle.syn_grammar.specs.Run.{kind};
 ghost use Rattle.syn_input.specs.Input.{IsOnward, left};
-ghost use Rattle.syn_nodes.specs.Lists.{Agrees};
+ghost use Rattle.syn_shape.specs.Lists.{Agrees};
 ghost use Rattle.syn_path.specs.PathSegments.{goes_on, path_segments, put_path_segments};
 ghost use Rattle.syn_path.specs.Segments.{style_of};
 ghost use Rattle.syn_shape.specs.Reads.{Reads};

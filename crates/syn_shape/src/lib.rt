@@ -6,16 +6,20 @@
 //! - `reader`: what reads, and what copies, the nodes further down.
 //! - `shape`: the types, and what closes their recursion.
 //! - `nodes`: nodes in boxes.
+//! - `list`: lists of nodes, and of values over them, with separators.
+//! - `turn`: values one after the other.
 //! - `exact`: equality of nodes.
 #![tactic(auto)]
 
 pub mod exact;
 pub mod group;
 pub mod leaf;
+pub mod list;
 pub mod nodes;
 pub mod optional;
 pub mod reader;
 pub mod shape;
+pub mod turn;
 
 pub use exact::Exact;
 pub use leaf::Leaf;

@@ -9,7 +9,7 @@ use Rattle.syn_grammar.specs.Read.{IsRead, NoneRead}
 use Rattle.syn_grammar.specs.Say.{comma}
 use Rattle.syn_grammar.specs.Tree.{Tree, Final}
 use Rattle.syn_lists.specs.Lists.{separators, values}
-use Rattle.syn_nodes.specs.Lists.{list_tree}
+use Rattle.syn_shape.specs.Lists.{list_tree}
 use Rattle.syn_type.specs.Parens.{NoParen, NoTuple, in_parens, is_lone, is_paren, type_tuple}
 use Rattle.syn_type.specs.declared.paren.TypeTuple.{TypeTuple}
 use Rattle.syn_type.proofs.InBrackets.{one_read}

@@ -3,7 +3,7 @@ use Rattle.proc_macro2.specs.declared.delimiter.Delimiter.{Delimiter}
 use Rattle.syn_grammar.specs.Say.{comma}
 use Rattle.syn_grammar.specs.Tree.{Tree, Group}
 use Rattle.syn_lists.specs.Lists.{separators, values}
-use Rattle.syn_nodes.specs.Lists.{list_tree}
+use Rattle.syn_shape.specs.Lists.{list_tree}
 use Rattle.syn_type.specs.declared.delimited.Delimited.{Delimited}
 
 -- nodes with commas between them, in a group

@@ -10,7 +10,7 @@ use Rattle.syn_grammar.specs.Tree.{Tree, Final, Group, Node}
 use Rattle.syn_kinds.specs.Values.{enclosed}
 use Rattle.syn_lists.specs.Lists.{separators, values}
 use Rattle.syn_lists.specs.Put.{put_list}
-use Rattle.syn_nodes.specs.Lists.{list_tree, put_separator}
+use Rattle.syn_shape.specs.Lists.{list_tree, put_separator}
 use Rattle.syn_type.specs.declared.paren.TypeParen.{TypeParen}
 use Rattle.syn_type.specs.declared.paren.TypeTuple.{TypeTuple}
 

@@ -15,8 +15,8 @@ use syn_error::fault::ParseFault;
 use syn_input::ParseBuffer;
 use syn_kinds::{End, token};
 use syn_lists::Punctuated;
-use syn_nodes::nodes;
 use syn_shape::group::enter;
+use syn_shape::list::nodes;
 use syn_shape::{Child, Reader};
 
 /// Nodes in a group, with commas between them, and perhaps one behind the last.

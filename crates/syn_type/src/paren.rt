@@ -15,7 +15,7 @@ use syn_error::to_tokens::ToTokens;
 use syn_input::{Parse, ParseBuffer};
 use syn_kinds::token;
 use syn_lists::Punctuated;
-use syn_nodes::{copy_nodes, nodes_equality_is_by_tree};
+use syn_shape::list::{copy_nodes, nodes_equality_is_by_tree};
 use syn_shape::nodes::copy_boxed;
 use syn_shape::{Child, Copied, Copier, Exact, Hub, Reader, Shape};
 use try_clone::TryClone;

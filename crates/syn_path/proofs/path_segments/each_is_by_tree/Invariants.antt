@@ -1,5 +1,5 @@
 use Rattle.std.proofs.Common.{drop}
-use Rattle.syn_nodes.specs.Lists.{Agrees}
+use Rattle.syn_shape.specs.Lists.{Agrees}
 use Rattle.syn_path.proofs.path_segments.each_is_by_tree.Given as goal
 
 abbrev pub invariant-loop-index : goal.invariant-loop-index

@@ -1,0 +1,71 @@
+use Rattle.std.proofs.Common.{◌≡◌, [], ◌∷◌, ◌∙◌, ap, arith, length, rules, sym}
+use Rattle.std.proofs.lemmas.List.{length-append}
+use Rattle.std.proofs.lemmas.Result.{err_from_is_err_and}
+use Rattle.std.specs.Prelude.{false, true}
+use Rattle.syn_grammar.specs.Run.{Got}
+use Rattle.syn_input.proofs.ReadPairs.{past_both}
+use Rattle.syn_kinds.specs.Stands.{marks_stand}
+use Rattle.syn_kinds.specs.Table.{marks}
+use Rattle.syn_lists.specs.Lists.{separators, values}
+use Rattle.syn_shape.specs.Lists.{list_tree}
+use Rattle.syn_shape.proofs.Lists.{marks_one, separator_fails, turned_end}
+use Rattle.syn_shape.proofs.Lists.{turned_fails, turned_next, turned_stop}
+use Rattle.syn_input.specs.Input.{left}
+use Rattle.syn_shape.specs.Leaves.{mark_of}
+use Rattle.syn_shape.proofs.list.shapes.Goals as goal
+
+pub returns-in_err-read-clause-read : goal.returns-in_err-read-clause-read
+returns-in_err-read-clause-read g c =
+    let open_list : g.U.Token.stands (left c.values.input) ≡ false = search rules in
+    let p = err_from_is_err_and c.from_residual.result c.from_residual.ensures.1 in
+    rw (p.1, p.2) (λ s. turned_fails (g.S.Shape.shape g.R.Reader.tree) g.U.Token.stands (mark_of g.row.K) g.S.Shape.form
+    c.requires.listed (values c.values.list) _ _ c.values.invariant.turned open_list
+    (c.in_err-read.ensures.read s))
+
+pub returns-in_err-read_leaf-clause-read : goal.returns-in_err-read_leaf-clause-read
+returns-in_err-read_leaf-clause-read g c =
+    let more : marks_stand (marks g.row.K 1) (left c.read.new.input) ≡ true = search rules in
+    let p = err_from_is_err_and c.from_residual-in_err-read_leaf.result c.from_residual-in_err-read_leaf.ensures.1 in
+    rw (p.1, p.2) (λ s. separator_fails g.row.K _ more (c.in_err-read_leaf.ensures.read s) _)
+
+pub returns-then-not-peek-clause-read : goal.returns-then-not-peek-clause-read
+returns-then-not-peek-clause-read g c =
+    let open_list : g.U.Token.stands (left c.values.input) ≡ false = search rules in
+    let last : marks_stand (marks g.row.K 1) (left c.read.new.input) ≡ false = search rules in
+    turned_stop (g.S.Shape.shape g.R.Reader.tree) g.U.Token.stands (mark_of g.row.K) g.S.Shape.form (marks g.row.K 1)
+    (marks_one g.row.K) c.requires.listed (values c.values.list) (values c.push_value.new.self) _
+    (separators c.values.list) _ _ _ c.values.invariant.turned c.values.invariant.even c.in_ok-push_value.ensures.ok
+    open_list c.in_ok-read.ensures.read last
+    ∙ ap (λ ps. Got (list_tree (g.S.Shape.shape g.R.Reader.tree) (mark_of g.row.K) (values c.push_value.new.self) ps)
+    (left c.read.new.input)) (sym c.push_value.ensures.separators)
+
+pub values-preserved : goal.values-preserved
+values-preserved g c =
+    let open_list : g.U.Token.stands (left c.values.input) ≡ false = search rules in
+    let more : marks_stand (marks g.row.K 1) (left c.read.new.input) ≡ true = search rules in
+    let vs = c.push_punct.ensures.values ∙ c.in_ok-push_value.ensures.ok in
+    record {
+      even = omega (
+        arith,
+        ap length vs,
+        ap length c.in_ok-push_punct.ensures.ok,
+        ap length c.push_value.ensures.separators,
+        length-append (values c.values.list) (c.in_ok-read.field-0 ∷ []),
+        length-append (separators c.push_value.new.self) (c.in_ok-read_leaf.field-0 ∷ []),
+        c.values.invariant.even,
+      );
+      turned = turned_next (g.S.Shape.shape g.R.Reader.tree) g.U.Token.stands (mark_of g.row.K) g.S.Shape.form
+          (marks g.row.K 1)
+          (marks_one g.row.K) c.requires.listed (values c.values.list) _ _ _ _ _ _ c.values.invariant.turned vs
+          open_list c.in_ok-read.ensures.read more c.in_ok-read_leaf.ensures.read;
+      fewer = omega (arith, c.in_ok-read_leaf.ensures.shorter, c.in_ok-read.ensures.shorter, c.values.invariant.fewer);
+      noted = c.in_ok-read_leaf.ensures.noted ∙ c.in_ok-read.ensures.noted ∙ c.values.invariant.noted;
+      onward = past_both _ _ _ (past_both _ _ _ c.values.invariant.onward c.read.ensures.onward)
+          c.read_leaf.ensures.onward;
+    }
+
+pub returns-clause-read : goal.returns-clause-read
+returns-clause-read g c =
+    let closed : g.U.Token.stands (left c.values.input) ≡ true = search rules in
+    turned_end (g.S.Shape.shape g.R.Reader.tree) g.U.Token.stands (mark_of g.row.K) g.S.Shape.form c.requires.listed
+    (values c.values.list) (separators c.values.list) _ _ c.values.invariant.turned c.values.invariant.even closed
