@@ -1,11 +1,11 @@
 -- The steps of all covered kinds, and what is known of each. Written by tools/steps.py.
 use Rattle.std.proofs.Common.{◌≡◌, refl}
 use Rattle.std.specs.Prelude.{true, false}
-use Rattle.syn_grammar.specs.Kind.{Kind, AConst, AConstTrait, AFieldValue, AFile, AForeignModule, AFunction}
-use Rattle.syn_grammar.specs.Kind.{AMacro, AMacroDefinition, AModule, ARestrictedTrait, AStatic, AStruct, ATrait}
-use Rattle.syn_grammar.specs.Kind.{ATraitItem, AType, ATypeAlias, AUnion, AUse, Abi, AnArgument, AnEnum}
-use Rattle.syn_grammar.specs.Kind.{AnExternCrate, AnImpl, AnImplItem, AnItem, AnyPath, Arguments, Arms, AtType}
-use Rattle.syn_grammar.specs.Kind.{Block, Body, Bound, BoundLifetimes, Bounds, BoundsColon, BracketType}
+use Rattle.syn_grammar.specs.Kind.{Kind, AConst, AConstTrait, AFieldValue, AFile, AForeignModule, AFunction, ALet}
+use Rattle.syn_grammar.specs.Kind.{AMacro, AMacroDefinition, AModule, ARestrictedTrait, AStatement, AStatic}
+use Rattle.syn_grammar.specs.Kind.{AStruct, ATrait, ATraitItem, AType, ATypeAlias, AUnion, AUse, Abi, AnArgument}
+use Rattle.syn_grammar.specs.Kind.{AnEnum, AnExternCrate, AnImpl, AnImplItem, AnItem, AnyPath, Arguments, Arms}
+use Rattle.syn_grammar.specs.Kind.{AtType, Block, Body, Bound, BoundLifetimes, Bounds, BoundsColon, BracketType}
 use Rattle.syn_grammar.specs.Kind.{ClosureParam, ConstParam, Delimited, DynType, ExprAnd, ExprArray, ExprAssign}
 use Rattle.syn_grammar.specs.Kind.{ExprAsync, ExprAttributed, ExprAwait, ExprBitAnd, ExprBitOr, ExprBitXor}
 use Rattle.syn_grammar.specs.Kind.{ExprBlock, ExprBreak, ExprCall, ExprCast, ExprClosure, ExprCompare, ExprConst}
@@ -48,6 +48,7 @@ use Rattle.grammar_back.proofs.Defaults.{law_const_param}
 use Rattle.grammar_back.proofs.Predicates.{law_where_predicate}
 use Rattle.grammar_back.proofs.Receivers.{law_parameter}
 use Rattle.grammar_back.proofs.Aliases.{law_type_in_file, law_type_in_foreign}
+use Rattle.grammar_back.proofs.Lets.{law_a_let, law_a_statement}
 use Rattle.grammar_back.proofs.Turns.{law_statements, law_items, law_foreign_items, law_trait_items}
 use Rattle.grammar_back.proofs.Turns.{law_impl_items, law_arms}
 use Rattle.grammar_back.proofs.Impls.{law_an_impl}
@@ -107,6 +108,7 @@ use Rattle.grammar_back.proofs.StepsOfItems.{step_a_file}
 use Rattle.grammar_back.proofs.Fields.{step_unnamed_field}
 use Rattle.grammar_back.proofs.Receivers.{step_parameter}
 use Rattle.grammar_back.proofs.Aliases.{step_type_in_file, step_type_in_foreign}
+use Rattle.grammar_back.proofs.Lets.{step_a_let, step_a_statement}
 use Rattle.grammar_back.proofs.Turns.{step_statements, step_items, step_foreign_items, step_trait_items}
 use Rattle.grammar_back.proofs.Turns.{step_impl_items, step_arms}
 use Rattle.grammar_back.proofs.Impls.{step_an_impl}
@@ -256,6 +258,8 @@ steps (ItemMacro InImpl) e = step_item_macro_in_impl
 steps Label e = step_label
 steps Body e = step_body
 steps Block e = step_block
+steps ALet e = step_a_let
+steps AStatement e = step_a_statement
 steps Statements e = step_statements
 steps Items e = step_items
 steps ForeignItems e = step_foreign_items
@@ -486,6 +490,8 @@ laws (ItemMacro InImpl) e = simple_kind (ItemMacro InImpl) refl (λ x. tt) (λ x
 laws Label e = simple_kind Label refl (λ x. tt) (λ x. refl) (λ x. refl) (λ q. refl) (λ q. refl) refl
 laws Body e = simple_kind Body refl (λ x. tt) (λ x. refl) (λ x. refl) (λ q. refl) (λ q. refl) refl
 laws Block e = simple_kind Block refl (λ x. tt) (λ x. refl) (λ x. refl) (λ q. refl) (λ q. refl) refl
+laws ALet e = law_a_let
+laws AStatement e = law_a_statement
 laws Statements e = law_statements
 laws Items e = law_items
 laws ForeignItems e = law_foreign_items

@@ -10,9 +10,10 @@ use Rattle.rust_leaf.specs.declared.punct.Spacing.TheVariants.{Alone as Apart}
 use Rattle.syn_grammar.specs.Kind.{Kind, Position, Plain, DynType, ImplType, WithoutPlus, OnePattern, IdentPattern}
 use Rattle.syn_grammar.specs.Kind.{PathPattern, ReferencePattern, InExpression, Parameter, Segment, Segments}
 use Rattle.syn_grammar.specs.Kind.{ATypeAlias, FnPtrType, InFile, InForeign, WherePredicate}
-use Rattle.syn_grammar.specs.Kind.{AConst, AnImpl, AnItem, NeverType, UnnamedField, Meta}
+use Rattle.syn_grammar.specs.Kind.{AConst, ALet, AStatement, AnImpl, AnItem, NeverType, UnnamedField, Meta}
 use Rattle.syn_grammar.specs.Kind.{AConstTrait, AForeignModule, AMacroDefinition, AModule, ARestrictedTrait, AStatic}
-use Rattle.syn_grammar.specs.Kind.{AStruct, ATrait, ATraitItem, AUnion, AnImplItem, AUse, AnEnum, AnExternCrate, ItemMacro}
+use Rattle.syn_grammar.specs.Kind.{AStruct, ATrait, ATraitItem, AUnion, AnImplItem, AUse, AnEnum, AnExternCrate}
+use Rattle.syn_grammar.specs.Kind.{ItemMacro}
 use Rattle.syn_grammar.specs.Kind.{Expression}
 use Rattle.syn_grammar.specs.Kind.{ExprAttributed, ExprAwait, ExprField, ExprMethodCall}
 use Rattle.syn_grammar.specs.Tree.{Tree, AWord, ALiteral, AMark, ALifetime, Raw, Nil, Pair, First, Second, End}
@@ -28,12 +29,12 @@ use Rattle.syn_grammar.specs.Tidy.{begins_bracketed, is_absent}
 use Rattle.syn_grammar.specs.Kept.{forget, dotted, is_there, kept}
 use Rattle.syn_grammar.specs.Forms.{front as form_in_front, back as form_behind, has_right, is_path_form}
 use Rattle.syn_grammar.specs.Parens.{is_struct}
-use Rattle.syn_grammar.specs.Name.{the_const, the_default, the_safety}
+use Rattle.syn_grammar.specs.Name.{the_const, the_default, the_else, the_safety}
 use Rattle.syn_grammar.specs.Part.{choice, has}
 use Rattle.syn_grammar.specs.Normal.{stands_behind, formed}
 use Rattle.grammar_back.specs.After.{is_any_path, is_generic}
 use Rattle.grammar_back.specs.Covered.{front, inner, has_clear_type, is_lone, has_lone_value, is_known}
-use Rattle.grammar_back.specs.Covered.{is_form, is_no_macro, item_of}
+use Rattle.grammar_back.specs.Covered.{is_form, is_let_form, is_no_macro, item_of}
 
 -- the test can say so
 abbrev pub CanSay : (List Token → Bool) → Bool → Type 0
@@ -243,6 +244,8 @@ IsMeant (ATypeAlias InFile) x = has_own_where (back (back (back (back x)))) ≡ 
 IsMeant (ATypeAlias InForeign) x = has_own_where (back (back (back (back x)))) ≡ true
 IsMeant AnImpl x = IsOwnImpl (behind_impl (kept x))
 IsMeant AnItem x = IsItem (item_of x)
+IsMeant ALet x = has the_else x ≡ false
+IsMeant AStatement x = is_let_form x ≡ true
 IsMeant ATraitItem x = is_no_macro (choice (item_of x)) ≡ true
 IsMeant AnImplItem x = is_no_macro (choice (item_of x)) ≡ true
 IsMeant ExprField x = (has_dots (front x) ≡ true) × (has_last (back x) ≡ true)

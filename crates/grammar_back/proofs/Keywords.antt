@@ -50,6 +50,10 @@ pub reserved_in : is_reserved (codes "in") ≡ true
 unfolding is_reserved
 reserved_in = refl
 
+pub reserved_let : is_reserved (codes "let") ≡ true
+unfolding is_reserved
+reserved_let = refl
+
 pub reserved_mut : is_reserved (codes "mut") ≡ true
 unfolding is_reserved
 reserved_mut = refl

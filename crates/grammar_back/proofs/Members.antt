@@ -3,7 +3,7 @@ use Rattle.std.proofs.Common.{◌≡◌, List, [], ◌∷◌, ◌++◌, refl, sy
 use Rattle.std.specs.Prelude.{Bool, true, false, ◌||◌, not, cond, codes, Option, Some, None, ℕ}
 use Rattle.proc_macro2.specs.Token.{Token}
 use Rattle.syn_grammar.specs.Kind.{Kind, AConst, AFunction, ATraitItem, ATypeAlias, AnImplItem, Body, InFile, InImpl}
-use Rattle.syn_grammar.specs.Kind.{InTrait, ItemMacro, OuterAttributes, Place, Plain, Position, Signature, Visibility}
+use Rattle.syn_grammar.specs.Kind.{InTrait, ItemMacro, OuterAttributes, Place, Plain, Signature, Visibility}
 use Rattle.syn_grammar.specs.Name.{Part, same_part, the_body, the_default, the_generics, the_item, the_visibility}
 use Rattle.syn_grammar.specs.Name.{the_where}
 use Rattle.syn_grammar.specs.Tree.{Tree, AWord, Called, First, Nil, Node, Pair, Second, Verbatim, flat}
@@ -21,7 +21,7 @@ use Rattle.syn_grammar.specs.Kept.{held, kept}
 use Rattle.syn_grammar.specs.Normal.{passed, place_of, normal_in}
 use Rattle.item_laws.proofs.Places.{place_const, place_function}
 use Rattle.item_laws.proofs.Readers.{flat_choice}
-use Rattle.grammar_back.specs.Covered.{has_step, inner, is_no_macro, is_taken, item_of}
+use Rattle.grammar_back.specs.Covered.{has_step, inner, is_no_macro, item_of}
 use Rattle.grammar_back.specs.Sees.{Lacks, LacksAll}
 use Rattle.grammar_back.proofs.Classes.{Class, TheWord, among_left, among_right}
 use Rattle.grammar_back.proofs.Starts.{starts}
@@ -30,12 +30,12 @@ use Rattle.grammar_back.proofs.Readies.{Ready, Step}
 use Rattle.grammar_back.proofs.Fine.{At, AtOrNone, Edge, Fine, fine_called, fine_judged, fine_weaker}
 use Rattle.grammar_back.proofs.Parts.{Found, Maybe, Told, found_called, found_optional, found_ref, found_text}
 use Rattle.grammar_back.proofs.Parts.{maybe_ahead, maybe_called, maybe_ref, meant_step, none_never, told_at}
-use Rattle.grammar_back.proofs.Printed.{IsPlaced, KindLaw, Printed, simple_law}
+use Rattle.grammar_back.proofs.Printed.{KindLaw, simple_law}
 use Rattle.grammar_back.proofs.Impls.{contrary, lacks_part}
 use Rattle.grammar_back.proofs.ItemPlaces.{has_none, placed_own}
 use Rattle.grammar_back.proofs.ItemVerdicts.{EachOf, LawOf, alias_stays, constant_parts, constant_stays, form_same}
 use Rattle.grammar_back.proofs.ItemVerdicts.{none_raw, raw_none, same_has}
-use Rattle.grammar_back.proofs.WholeItems.{public_same}
+use Rattle.grammar_back.proofs.WholeItems.{public_same, taken_law}
 
 -- a function, a constant, a type or a macro
 abbrev pub member_form : Place → Gram
@@ -376,53 +376,17 @@ each_impl = (impl_function, (impl_constant, (impl_alias, (impl_macro, tt))))
 pub law_a_trait_item : KindLaw ATraitItem
 unfolding has_step held passed place_of table same_part
 law_a_trait_item =
-    record {
-      entry = λ q l. (
-        λ x w r c d f e h. (member_law InTrait (λ x. refl) refl each_trait x w r d f e).0 h,
-        simple_law Plain (whole_member InTrait) refl,
-      );
-      node = go;
-    }
-  where
-    go : (q : Position) → IsPlaced q ATraitItem → (x : Tree) (r : List Token) → is_taken ATraitItem x ≡ true
-        → Derives x (table ATraitItem) r → Printed (table ATraitItem) (normal_in (passed ATraitItem q) (kept x))
-        → Printed (ref ATraitItem) (normal_in q (Node (held ATraitItem) (kept x)))
-    go q l x r o d i =
-        record {
-          tree = Node ATraitItem i.tree;
-          fits = (
-            refl,
-            refl,
-            refl,
-            i.fits,
-            member_meant InTrait (λ x. refl) refl each_trait x i.tree r d i.fits i.kept_is o,
-          );
-          kept_is = ap (Node ATraitItem) i.kept_is;
-        }
+    taken_law ATraitItem refl (λ x w r d f e o. member_meant InTrait (λ x. refl) refl each_trait x w r d f e o)
+    (λ x. refl) (λ x. refl) (λ q. refl) (λ q. refl) (
+      λ x w r c d f e h. (member_law InTrait (λ x. refl) refl each_trait x w r d f e).0 h,
+      simple_law Plain (whole_member InTrait) refl,
+    )
 
 pub law_an_impl_item : KindLaw AnImplItem
 unfolding has_step held passed place_of table same_part
 law_an_impl_item =
-    record {
-      entry = λ q l. (
-        λ x w r c d f e h. (member_law InImpl (λ x. refl) refl each_impl x w r d f e).0 h,
-        simple_law Plain (whole_member InImpl) refl,
-      );
-      node = go;
-    }
-  where
-    go : (q : Position) → IsPlaced q AnImplItem → (x : Tree) (r : List Token) → is_taken AnImplItem x ≡ true
-        → Derives x (table AnImplItem) r → Printed (table AnImplItem) (normal_in (passed AnImplItem q) (kept x))
-        → Printed (ref AnImplItem) (normal_in q (Node (held AnImplItem) (kept x)))
-    go q l x r o d i =
-        record {
-          tree = Node AnImplItem i.tree;
-          fits = (
-            refl,
-            refl,
-            refl,
-            i.fits,
-            member_meant InImpl (λ x. refl) refl each_impl x i.tree r d i.fits i.kept_is o,
-          );
-          kept_is = ap (Node AnImplItem) i.kept_is;
-        }
+    taken_law AnImplItem refl (λ x w r d f e o. member_meant InImpl (λ x. refl) refl each_impl x w r d f e o)
+    (λ x. refl) (λ x. refl) (λ q. refl) (λ q. refl) (
+      λ x w r c d f e h. (member_law InImpl (λ x. refl) refl each_impl x w r d f e).0 h,
+      simple_law Plain (whole_member InImpl) refl,
+    )

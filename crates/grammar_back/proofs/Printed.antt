@@ -16,7 +16,7 @@ use Rattle.syn_grammar.specs.Kept.{held, forget, kept}
 use Rattle.syn_grammar.specs.Tidy.{tidy}
 use Rattle.syn_grammar.specs.Normal.{place_of, passed, private, apart_item, apart_if, is_enclosed, normal_in}
 use Rattle.grammar_back.proofs.Choices.{both_true}
-use Rattle.grammar_back.specs.Covered.{has_step, has_form_step, is_known, is_form, is_taken}
+use Rattle.grammar_back.specs.Covered.{has_step, has_form_step, is_known, is_form, is_taken, is_taken_part}
 use Rattle.grammar_back.specs.Covered.{is_covered}
 use Rattle.grammar_back.proofs.Fits.{Fits, IsMeant}
 
@@ -169,7 +169,7 @@ module _ (laws : (k : Kind) → is_known k ≡ true → KindLaw k) (whole : Whol
     printed (Verbatim x) (judged v g) r q l d c = let e : false ≡ true = c in cc e
     printed (Dropped x) (dropped g) r q l d c = record { tree = Dropped private; fits = (refl, l); kept_is = refl }
     printed (Called n x) (called m g) r q l d c =
-        let i = printed x g r (place_of m) l d.1 c in
+        let i = printed x g r (place_of m) l d.1 (both_true (is_taken_part n) (is_covered x) c).1 in
         record {
           tree = Called m i.tree;
           fits = (refl, i.fits);

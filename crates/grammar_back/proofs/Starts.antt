@@ -3,14 +3,14 @@ use Rattle.proc_macro2.specs.declared.delimiter.Delimiter.TheVariants as D
 use Rattle.grammar_back.proofs.Classes.{Sign, TheWord, AnyWord, Quoted, Tick, Opening, Then, Class}
 use Rattle.proc_macro2.specs.declared.delimiter.Delimiter.TheVariants.{Parenthesis, Brace, Bracket}
 use Rattle.std.specs.Prelude.{codes, List, [], ◌∷◌}
-use Rattle.syn_grammar.specs.Kind.{Kind, AConst, AConstTrait, AFieldValue, AFile, AForeignModule, AFunction}
-use Rattle.syn_grammar.specs.Kind.{AMacro, AMacroDefinition, AModule, ARestrictedTrait, AStatic, AStruct, ATrait}
-use Rattle.syn_grammar.specs.Kind.{ATraitItem, AType, ATypeAlias, AUnion, AUse, Abi, AnArgument, AnEnum}
-use Rattle.syn_grammar.specs.Kind.{AnExternCrate, AnImpl, AnImplItem, AnItem, AnyPath, Arguments, AtType, Block}
-use Rattle.syn_grammar.specs.Kind.{Body, Bound, BoundLifetimes, Bounds, BoundsColon, BracketType, ClosureParam}
-use Rattle.syn_grammar.specs.Kind.{ConstParam, Delimited, DynType, ExprAnd, ExprArray, ExprAssign, ExprAsync}
-use Rattle.syn_grammar.specs.Kind.{ExprAttributed, ExprAwait, ExprBitAnd, ExprBitOr, ExprBitXor, ExprBlock}
-use Rattle.syn_grammar.specs.Kind.{ExprBreak, ExprCall, ExprCast, ExprClosure, ExprCompare, ExprConst}
+use Rattle.syn_grammar.specs.Kind.{Kind, AConst, AConstTrait, AFieldValue, AFile, AForeignModule, AFunction, ALet}
+use Rattle.syn_grammar.specs.Kind.{AMacro, AMacroDefinition, AModule, ARestrictedTrait, AStatement, AStatic}
+use Rattle.syn_grammar.specs.Kind.{AStruct, ATrait, ATraitItem, AType, ATypeAlias, AUnion, AUse, Abi, AnArgument}
+use Rattle.syn_grammar.specs.Kind.{AnEnum, AnExternCrate, AnImpl, AnImplItem, AnItem, AnyPath, Arguments, AtType}
+use Rattle.syn_grammar.specs.Kind.{Block, Body, Bound, BoundLifetimes, Bounds, BoundsColon, BracketType}
+use Rattle.syn_grammar.specs.Kind.{ClosureParam, ConstParam, Delimited, DynType, ExprAnd, ExprArray, ExprAssign}
+use Rattle.syn_grammar.specs.Kind.{ExprAsync, ExprAttributed, ExprAwait, ExprBitAnd, ExprBitOr, ExprBitXor}
+use Rattle.syn_grammar.specs.Kind.{ExprBlock, ExprBreak, ExprCall, ExprCast, ExprClosure, ExprCompare, ExprConst}
 use Rattle.syn_grammar.specs.Kind.{ExprContinue, ExprField, ExprForLoop, ExprGroup, ExprIf, ExprIndex, ExprInfer}
 use Rattle.syn_grammar.specs.Kind.{ExprLet, ExprLit, ExprLoop, ExprMacro, ExprMatch, ExprMethodCall, ExprOr}
 use Rattle.syn_grammar.specs.Kind.{ExprParen, ExprPath, ExprProduct, ExprRange, ExprRangeClosed, ExprRawAddr}
@@ -456,7 +456,9 @@ starts (ItemMacro InImpl) = Then 58 (58 ∷ []) (TheWord (codes "self")) ∷ The
 starts Label = Tick ∷ []
 starts Body = Opening Brace ∷ []
 starts Block = Opening Brace ∷ []
-starts Statements = Sign 59 [] ∷ []
+starts ALet = TheWord (codes "let") ∷ []
+starts AStatement = Then 35 [] (Opening Bracket) ∷ TheWord (codes "let") ∷ []
+starts Statements = Sign 59 [] ∷ Then 35 [] (Opening Bracket) ∷ TheWord (codes "let") ∷ []
 starts Items = Then 35 [] (Opening Bracket) ∷ TheWord (codes "pub") ∷ TheWord (codes "const") ∷ TheWord
     (codes "async") ∷ TheWord (codes "unsafe") ∷ TheWord (codes "extern") ∷ TheWord (codes "fn") ∷ TheWord
     (codes "use") ∷ TheWord (codes "static") ∷ TheWord (codes "mod") ∷ TheWord (codes "type") ∷ TheWord

@@ -693,7 +693,7 @@ step_body = found_step Body refl refl
     (found_group (maybe_ended
     (maybe_both (maybe_ref InnerAttributes refl)
     (weaken_maybe ((no the_end) ∷ (marks "#" then marks "!") ∷ []) (maybe_ref Statements refl) (λ s a. (a.0, tt)))
-    ((λ us. refl, tt), tt) (λ s a. (a.1.0, tt))) (refl, (refl, tt))))
+    ((search), tt) (λ s a. (a.1.0, tt))) (refl, (refl, tt))))
 
 pub step_block : Step Block
 unfolding table skips is_path_keyword is_plain_name is_bool is_name

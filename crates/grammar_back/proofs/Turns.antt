@@ -1,11 +1,11 @@
 -- The steps and the laws of lists that go to the end, of turns that have a step: of statements these are lone
--- semicolons, of items those of files, and of arms none.
-use Rattle.std.proofs.Common.{◌≡◌, List, [], ◌∷◌, ◌++◌, refl, sym, ap, ◌∙◌, subst, append_assoc, inl, inr}
-use Rattle.std.specs.Prelude.{true, false, not}
+-- semicolons and lets, of items those of files, traits and impls, and of arms none.
+use Rattle.std.proofs.Common.{◌≡◌, List, [], ◌∷◌, ◌++◌, refl, sym, ap, ◌∙◌, subst, inl, inr}
+use Rattle.std.specs.Prelude.{true, false, ◌&&◌, not}
 use Rattle.proc_macro2.specs.Token.{Token}
 use Rattle.syn_grammar.specs.Kind.{Kind, AForeignItem, AStatement, ATraitItem, AnImplItem, AnItem, Arm, Arms}
 use Rattle.syn_grammar.specs.Kind.{ForeignItems, ImplItems, Items, Position, Statements, TraitItems}
-use Rattle.syn_grammar.specs.Tree.{Tree, AMark, First, Second, End, Again, Node, flat}
+use Rattle.syn_grammar.specs.Tree.{Tree, AMark, First, Second, End, Again, Node, Pair, flat}
 use Rattle.syn_grammar.specs.Part.{choice, each_turn_but_last}
 use Rattle.syn_grammar.specs.Gram.{Gram, ref, star}
 use Rattle.syn_grammar.specs.Look.{lacks, no, the_end}
@@ -15,17 +15,17 @@ use Rattle.syn_grammar.specs.Statements.{needs_semicolon}
 use Rattle.syn_grammar.specs.Ranks.{skips}
 use Rattle.syn_grammar.specs.Table.{table}
 use Rattle.syn_grammar.specs.Derives.{Derives}
-use Rattle.syn_grammar.specs.Kept.{held}
-use Rattle.syn_grammar.specs.Normal.{passed}
-use Rattle.grammar_back.specs.Covered.{has_form_step, has_step, is_known}
+use Rattle.syn_grammar.specs.Kept.{held, kept}
+use Rattle.syn_grammar.specs.Normal.{apart_item, passed}
+use Rattle.grammar_back.specs.Covered.{has_form_step, has_step, is_known, is_let_form}
 use Rattle.grammar_back.specs.Sees.{Lacks}
 use Rattle.grammar_back.proofs.Classes.{Class, Sign}
 use Rattle.grammar_back.proofs.Begins.{Begins}
 use Rattle.grammar_back.proofs.FieldValues.{end_is}
-use Rattle.grammar_back.proofs.Fits.{Fits}
+use Rattle.grammar_back.proofs.Fits.{Fits, IsMeant}
 use Rattle.grammar_back.proofs.Readies.{Ready, Step}
 use Rattle.grammar_back.proofs.Fine.{AtOrNone}
-use Rattle.grammar_back.proofs.Parts.{Found, Told, at_front, found_mark, found_ref, told_at}
+use Rattle.grammar_back.proofs.Parts.{Found, Told, at_front, found_alt, found_mark, found_ref, told_at}
 use Rattle.grammar_back.proofs.Starts.{starts}
 use Rattle.grammar_back.proofs.Printed.{KindLaw, TurnLaw, VerdictLaw, plain_law}
 
@@ -35,57 +35,65 @@ unknown l k n e h =
     let f : true ≡ false = sym h ∙ ap is_known e ∙ n in
     cc f
 
-no_statement : is_known AStatement ≡ false
-unfolding has_step has_form_step
-no_statement = refl
+-- turns that have a step
+turns_read : (g : Gram) (cs : List Class) → Found g [] cs → Told the_end false cs → (x : Tree)
+    → Fits x (star (lacks the_end) g) → Ready x → Derives x (star (lacks the_end) g) [] × AtOrNone cs x []
+turns_read g cs found some End f w = (refl, inl refl)
+turns_read g cs found some (Again x y) f w =
+    let d = (turns_read g cs found some y f.1 w.1).0 in
+    let (u, i) = found.fine.by x (flat y ++ []) f.0 w.0 tt in
+    let j = at_front cs x y [] i in
+    ((ap not (told_at the_end false cs ((flat x ++ flat y) ++ []) some j), u, d), inr j)
+turns_read g cs found some _ f w = absurd f
 
 -- statements
 abbrev pub a_turn : Gram
 a_turn = when marks ";" read sign ";" else ref AStatement
 
-abbrev pub semicolon : List Class
-semicolon = Sign 59 [] ∷ []
-
-turn_read : (x : Tree) (s : List Token) → Fits x a_turn → Ready x
-    → (lacks the_end (flat x ++ s) ≡ true) × Derives x a_turn s × AtOrNone semicolon x s
-turn_read (First x) s f w =
-    let (d, i) = (found_mark {c = 59} {cs = []}).fine.by x s f.1 w tt in (
-      ap not (told_at the_end false semicolon (flat x ++ s) (λ us. refl, tt) i),
-      (told_at (marks ";") true semicolon (flat x ++ s) (λ us. refl, tt) i, d),
-      inr i,
-    )
-turn_read (Second (Node k x)) s f w = absurd (unknown AStatement k no_statement f.1.0 f.1.1)
-turn_read (Second _) s f w = absurd f.1
-turn_read _ s f w = absurd f
-
-turns_read : (x : Tree) → Fits x (star (lacks the_end) a_turn) → Ready x
-    → Derives x (star (lacks the_end) a_turn) [] × AtOrNone semicolon x []
-turns_read End f w = (refl, inl refl)
-turns_read (Again (First x) y) f w =
-    let d = (turns_read y f.1 w.1).0 in
-    let h = turn_read (First x) (flat y ++ []) f.0 w.0 in
-    let (e, i) = (found_mark {c = 59} {cs = []}).fine.by x (flat y ++ []) f.0.1 w.0 tt in
-    ((ap (lacks the_end) (append_assoc (flat x) (flat y) []) ∙ h.0, h.1, d), inr (at_front semicolon x y [] i))
-turns_read (Again (Second (Node k x)) y) f w = absurd (unknown AStatement k no_statement f.0.1.0 f.0.1.1)
-turns_read (Again (Second _) y) f w = absurd f.0.1
-turns_read (Again _ y) f w = absurd f.0
-turns_read _ f w = absurd f
+found_turn : Found a_turn [] (Sign 59 [] ∷ starts AStatement)
+unfolding skips
+found_turn = found_alt (marks ";") found_mark (found_ref AStatement refl) (λ us. refl, tt) (search)
 
 pub step_statements : Step Statements
 unfolding table skips
 step_statements (First x) s f n w a =
-    let (d, i) = turns_read x f.1 w in
+    let (d, i) = turns_read a_turn (Sign 59 [] ∷ starts AStatement) found_turn (search) x f.1 w in
     subst (λ us. Derives (First x) (table Statements) us × Begins Statements (First x) us) (sym (end_is s a.0))
     ((f.0, d), i)
 step_statements _ s f n w a = absurd f
 
+-- a let needs no semicolon behind it
+let_needs : (x : Tree) → Fits x (table AStatement) → is_let_form x ≡ true → needs_semicolon (Node AStatement x) ≡ false
+unfolding table
+let_needs (Second (Second (First (Pair (Node k o) (Node l y))))) f n = refl
+let_needs (Second (Second (First (Pair (Node k o) _)))) f n = absurd f.1.1.1.1
+let_needs (Second (Second (First (Pair _ y)))) f n = absurd f.1.1.1.0
+let_needs (Second (Second (First _))) f n = absurd f.1.1.1
+let_needs (Second (Second (Second x))) f n = cc n
+let_needs (Second (Second _)) f n = absurd f.1.1
+let_needs (Second (First x)) f n = cc n
+let_needs (Second _) f n = absurd f.1
+let_needs (First x) f n = cc n
+let_needs _ f n = absurd f
+
+statement_needs : (x : Tree) → Fits x (ref AStatement) → needs_semicolon x ≡ false
+statement_needs (Node k x) f =
+    subst (λ j. needs_semicolon (Node j x) ≡ false) (sym f.0)
+    (let_needs x (subst (λ j. Fits x (table j)) f.0 f.3) (subst (λ j. IsMeant j x) f.0 f.4))
+statement_needs _ f = absurd f
+
+turn_needs : (x : Tree) → Fits x a_turn → needs_semicolon (choice x) ≡ false
+turn_needs (First (AMark c cs spacing)) f = refl
+turn_needs (First _) f = absurd f.1
+turn_needs (Second (Node k x)) f = statement_needs (Node k x) f.1
+turn_needs (Second _) f = absurd f.1
+turn_needs _ f = absurd f
+
 turns_pass : (x : Tree) → Fits x (star (lacks the_end) a_turn)
     → each_turn_but_last (λ y. not (needs_semicolon (choice y))) x ≡ true
-turns_pass (Again (First (AMark c cs spacing)) (Again y z)) f = turns_pass (Again y z) f.1
-turns_pass (Again (First _) (Again y z)) f = absurd f.0.1
-turns_pass (Again (Second (Node k x)) (Again y z)) f = absurd (unknown AStatement k no_statement f.0.1.0 f.0.1.1)
-turns_pass (Again (Second _) (Again y z)) f = absurd f.0.1
-turns_pass (Again _ (Again y z)) f = absurd f.0
+turns_pass (Again x (Again y z)) f =
+    ap (λ b. not b && each_turn_but_last (λ u. not (needs_semicolon (choice u))) (Again y z)) (turn_needs x f.0)
+    ∙ turns_pass (Again y z) f.1
 turns_pass _ f = refl
 
 turns_verdict : (q : Position) → VerdictLaw q
@@ -93,10 +101,21 @@ turns_verdict : (q : Position) → VerdictLaw q
     (star (lacks the_end) a_turn)
 turns_verdict q x w r c d f e h = ap kept_if (turns_pass w f)
 
+statement_stays : (x : Tree) → is_let_form x ≡ true
+    → apart_item (Second (kept (Node AStatement x))) ≡ Second (kept (Node AStatement x))
+unfolding held
+statement_stays (Second (Second (First x))) n = refl
+statement_stays (Second (Second (Second x))) n = cc n
+statement_stays (Second (First x)) n = refl
+statement_stays (First x) n = cc n
+statement_stays _ n = cc n
+
 turn_stays : TurnLaw a_turn
 turn_stays (First (AMark c cs spacing)) f = refl
 turn_stays (First _) f = absurd f.1
-turn_stays (Second (Node k x)) f = absurd (unknown AStatement k no_statement f.1.0 f.1.1)
+turn_stays (Second (Node k x)) f =
+    subst (λ j. apart_item (Second (kept (Node j x))) ≡ Second (kept (Node j x))) (sym f.1.0)
+    (statement_stays x (subst (λ j. IsMeant j x) f.1.0 f.1.4))
 turn_stays (Second _) f = absurd f.1
 turn_stays _ f = absurd f
 
@@ -122,35 +141,24 @@ pub step_arms : Step Arms
 unfolding table skips has_step has_form_step
 step_arms x s f n w a = let (d, e) = list_read Arm refl x s f a.0 in (d, inl e)
 
--- items, which have one
-module _ (l : Kind) (found : Found (ref l) [] (starts l)) (some : Told the_end false (starts l)) where
-  items_read : (x : Tree) → Fits x (star (lacks the_end) (ref l)) → Ready x
-      → Derives x (star (lacks the_end) (ref l)) [] × AtOrNone (starts l) x []
-  items_read End f w = (refl, inl refl)
-  items_read (Again x y) f w =
-      let d = (items_read y f.1 w.1).0 in
-      let (u, i) = found.fine.by x (flat y ++ []) f.0 w.0 tt in
-      let j = at_front (starts l) x y [] i in
-      ((ap not (told_at the_end false (starts l) ((flat x ++ flat y) ++ []) some j), u, d), inr j)
-  items_read _ f w = absurd f
-
+-- items
 pub step_items : Step Items
 unfolding table skips
 step_items x s f n w a =
     subst (λ us. Derives x (table Items) us × Begins Items x us) (sym (end_is s a.0))
-    (items_read AnItem (found_ref AnItem refl) (search) x f w)
+    (turns_read (ref AnItem) (starts AnItem) (found_ref AnItem refl) (search) x f w)
 
 pub step_trait_items : Step TraitItems
 unfolding table skips
 step_trait_items x s f n w a =
     subst (λ us. Derives x (table TraitItems) us × Begins TraitItems x us) (sym (end_is s a.0))
-    (items_read ATraitItem (found_ref ATraitItem refl) (search) x f w)
+    (turns_read (ref ATraitItem) (starts ATraitItem) (found_ref ATraitItem refl) (search) x f w)
 
 pub step_impl_items : Step ImplItems
 unfolding table skips
 step_impl_items x s f n w a =
     subst (λ us. Derives x (table ImplItems) us × Begins ImplItems x us) (sym (end_is s a.0))
-    (items_read AnImplItem (found_ref AnImplItem refl) (search) x f w)
+    (turns_read (ref AnImplItem) (starts AnImplItem) (found_ref AnImplItem refl) (search) x f w)
 
 pub step_foreign_items : Step ForeignItems
 unfolding table skips has_step has_form_step

@@ -13,9 +13,10 @@ use Rattle.syn_grammar.specs.Verdicts.{form_in_file, is_public, item_verdict}
 use Rattle.syn_grammar.specs.Ranks.{skips}
 use Rattle.syn_grammar.specs.Table.{table}
 use Rattle.syn_grammar.specs.Derives.{Derives}
-use Rattle.syn_grammar.specs.Kept.{held, kept}
+use Rattle.syn_grammar.specs.Kept.{forget, held, kept}
+use Rattle.syn_grammar.specs.Tidy.{tidy}
 use Rattle.syn_grammar.specs.Normal.{passed, place_of, normal_in}
-use Rattle.grammar_back.specs.Covered.{has_step, inner, is_no_macro, is_taken, item_of}
+use Rattle.grammar_back.specs.Covered.{has_step, inner, is_known, is_no_macro, is_taken, item_of}
 use Rattle.grammar_back.specs.Sees.{LacksAll}
 use Rattle.grammar_back.proofs.Classes.{TheWord}
 use Rattle.grammar_back.proofs.Starts.{starts}
@@ -23,7 +24,7 @@ use Rattle.grammar_back.proofs.Fits.{Fits, IsItem, IsMeant, is_item_form, own_pl
 use Rattle.grammar_back.proofs.Readies.{Step}
 use Rattle.grammar_back.proofs.Fine.{At, Edge, Fine, fine_called, fine_judged, fine_weaker}
 use Rattle.grammar_back.proofs.Parts.{maybe_ahead, maybe_called, maybe_ref, meant_step}
-use Rattle.grammar_back.proofs.Printed.{IsPlaced, KindLaw, Printed, simple_law}
+use Rattle.grammar_back.proofs.Printed.{EntryLaw, IsPlaced, KindLaw, Printed, simple_law}
 use Rattle.grammar_back.proofs.ItemPlaces.{fine_form, item_classes, placed_own}
 use Rattle.grammar_back.proofs.ItemVerdicts.{SameItem, each_item, form_same, kept_form, place_fits, place_normal}
 use Rattle.grammar_back.proofs.ItemVerdicts.{place_read, same_has}
@@ -156,20 +157,30 @@ item_meant (Verbatim x) (First w) r d f e h = cc e
 item_meant (Verbatim x) _ r d f e h = absurd f
 item_meant _ w r d f e h = absurd d
 
+-- a kind that holds what it reads, of which something is meant where it is taken
+pub taken_law : (k : Kind) → is_known k ≡ true
+    → ((x w : Tree) (r : List Token) → Derives x (table k) r → Fits w (table k) → kept w ≡ normal_in Plain (kept x)
+    → is_taken k x ≡ true → IsMeant k w) → ((x : Tree) → forget k x ≡ x) → ((x : Tree) → tidy (held k) x ≡ x)
+    → ((q : Position) → passed (held k) q ≡ Plain) → ((q : Position) → passed k q ≡ Plain) → EntryLaw Plain (table k)
+    → KindLaw k
+taken_law k h n f t u p e = record { entry = λ q l. subst (λ m. EntryLaw m (table k)) (sym (p q)) e; node = go }
+  where
+    go : (q : Position) → IsPlaced q k → (x : Tree) (r : List Token) → is_taken k x ≡ true → Derives x (table k) r
+        → Printed (table k) (normal_in (passed k q) (kept x))
+        → Printed (ref k) (normal_in q (Node (held k) (forget k (kept x))))
+    go q l x r o d i =
+        let s : kept i.tree ≡ normal_in Plain (kept x) = i.kept_is ∙ ap (λ m. normal_in m (kept x)) (p q) in
+        record {
+          tree = Node k i.tree;
+          fits = (refl, h, ap flat (f (kept i.tree)), i.fits, n x i.tree r d i.fits s o);
+          kept_is =
+              ap (Node (held k)) (f (kept i.tree) ∙ s ∙ sym (ap (λ m. normal_in m (kept x)) (u q))
+              ∙ sym (ap (normal_in (passed (held k) q)) (f (kept x)))
+              ∙ sym (t (normal_in (passed (held k) q) (forget k (kept x)))));
+        }
+
 pub law_an_item : KindLaw AnItem
 unfolding has_step held passed place_of table
 law_an_item =
-    record {
-      entry = λ q l. (λ x w r c d f e h. (whole_law x w r d f e).0 h, simple_law Plain whole_item refl);
-      node = go;
-    }
-  where
-    go : (q : Position) → IsPlaced q AnItem → (x : Tree) (r : List Token) → is_taken AnItem x ≡ true
-        → Derives x (table AnItem) r → Printed (table AnItem) (normal_in (passed AnItem q) (kept x))
-        → Printed (ref AnItem) (normal_in q (Node (held AnItem) (kept x)))
-    go q l x r o d i =
-        record {
-          tree = Node AnItem i.tree;
-          fits = (refl, refl, refl, i.fits, item_meant x i.tree r d i.fits i.kept_is o);
-          kept_is = ap (Node AnItem) i.kept_is;
-        }
+    taken_law AnItem refl (λ x w r d f e o. item_meant x w r d f e o) (λ x. refl) (λ x. refl) (λ q. refl) (λ q. refl)
+    (λ x w r c d f e h. (whole_law x w r d f e).0 h, simple_law Plain whole_item refl)

@@ -2,37 +2,39 @@
 -- item.
 use Rattle.std.specs.Prelude.{Bool, true, false, ◌&&◌, ◌||◌, not}
 use Rattle.syn_grammar.specs.Kind.{Kind, Expression, AConst, AConstTrait, AFieldValue, AFile, AForeignModule}
-use Rattle.syn_grammar.specs.Kind.{AFunction, AMacro, AMacroDefinition, AModule, ARestrictedTrait, AStatic}
-use Rattle.syn_grammar.specs.Kind.{AStruct, ATrait, ATraitItem, AType, ATypeAlias, AUnion, AUse, Abi, AnArgument}
-use Rattle.syn_grammar.specs.Kind.{AnEnum, AnExternCrate, AnImpl, AnImplItem, AnItem, AnyPath, Arguments, Arms}
-use Rattle.syn_grammar.specs.Kind.{AtType, Block, Body, Bound, BoundLifetimes, Bounds, BoundsColon, BracketType}
-use Rattle.syn_grammar.specs.Kind.{ClosureParam, ConstParam, Delimited, DynType, ExprAnd, ExprArray, ExprAssign}
-use Rattle.syn_grammar.specs.Kind.{ExprAsync, ExprAttributed, ExprAwait, ExprBitAnd, ExprBitOr, ExprBitXor}
-use Rattle.syn_grammar.specs.Kind.{ExprBlock, ExprBreak, ExprCall, ExprCast, ExprClosure, ExprCompare, ExprConst}
-use Rattle.syn_grammar.specs.Kind.{ExprContinue, ExprField, ExprForLoop, ExprGroup, ExprIf, ExprIndex, ExprInfer}
-use Rattle.syn_grammar.specs.Kind.{ExprLet, ExprLit, ExprLoop, ExprMacro, ExprMatch, ExprMethodCall, ExprOr}
-use Rattle.syn_grammar.specs.Kind.{ExprParen, ExprPath, ExprProduct, ExprRange, ExprRangeClosed, ExprRawAddr}
-use Rattle.syn_grammar.specs.Kind.{ExprReference, ExprRepeat, ExprReturn, ExprShift, ExprStruct, ExprSum, ExprTry}
-use Rattle.syn_grammar.specs.Kind.{ExprTryBlock, ExprTypedClosure, ExprUnary, ExprUnsafe, ExprWhile, ExprYield}
-use Rattle.syn_grammar.specs.Kind.{FieldPattern, FieldPatterns, FieldValue, FieldValues, FnArg, FnPtrArg}
-use Rattle.syn_grammar.specs.Kind.{FnPtrType, ForeignItems, GenericParam, GenericParams, Generics, IdentPattern}
-use Rattle.syn_grammar.specs.Kind.{ImplGenerics, ImplItems, ImplType, InExpression, InFile, InForeign, InImpl}
-use Rattle.syn_grammar.specs.Kind.{InModule, InTrait, InType, Index, InferType, InnerAttribute, InnerAttributes}
-use Rattle.syn_grammar.specs.Kind.{ItemMacro, Items, Label, LifetimeColon, LifetimeParam, Lifetimes}
-use Rattle.syn_grammar.specs.Kind.{LiteralPattern, Member, Meta, NamedField, NamedFields, NeverType, OnePattern}
-use Rattle.syn_grammar.specs.Kind.{OuterAttribute, OuterAttributes, Parameter, Parameters, ParenthesizedArguments}
-use Rattle.syn_grammar.specs.Kind.{Path, PathPattern, Pattern, Plain, PointerType, QualifiedPath, RangeBound}
-use Rattle.syn_grammar.specs.Kind.{RangeEnd, RangeToPattern, Receiver, ReferencePattern, ReferenceType}
-use Rattle.syn_grammar.specs.Kind.{RestPattern, ReturnType, Segment, Segments, SeveralPatterns, Signature}
-use Rattle.syn_grammar.specs.Kind.{SlicePattern, SomeBounds, Statements, TraitItems, TraitPath, TuplePattern}
-use Rattle.syn_grammar.specs.Kind.{TupleType, TypeParam, UnnamedField, UnnamedFields, UseBranch, UseRooted}
-use Rattle.syn_grammar.specs.Kind.{UseTop, UseTree, Variant, Visibility, Where, WhereClause, WherePredicate}
-use Rattle.syn_grammar.specs.Kind.{WildPattern, WithPlus, WithoutPlus}
+use Rattle.syn_grammar.specs.Kind.{AFunction, ALet, AMacro, AMacroDefinition, AModule, ARestrictedTrait}
+use Rattle.syn_grammar.specs.Kind.{AStatement, AStatic, AStruct, ATrait, ATraitItem, AType, ATypeAlias, AUnion}
+use Rattle.syn_grammar.specs.Kind.{AUse, Abi, AnArgument, AnEnum, AnExternCrate, AnImpl, AnImplItem, AnItem}
+use Rattle.syn_grammar.specs.Kind.{AnyPath, Arguments, Arms, AtType, Block, Body, Bound, BoundLifetimes, Bounds}
+use Rattle.syn_grammar.specs.Kind.{BoundsColon, BracketType, ClosureParam, ConstParam, Delimited, DynType}
+use Rattle.syn_grammar.specs.Kind.{ExprAnd, ExprArray, ExprAssign, ExprAsync, ExprAttributed, ExprAwait}
+use Rattle.syn_grammar.specs.Kind.{ExprBitAnd, ExprBitOr, ExprBitXor, ExprBlock, ExprBreak, ExprCall, ExprCast}
+use Rattle.syn_grammar.specs.Kind.{ExprClosure, ExprCompare, ExprConst, ExprContinue, ExprField, ExprForLoop}
+use Rattle.syn_grammar.specs.Kind.{ExprGroup, ExprIf, ExprIndex, ExprInfer, ExprLet, ExprLit, ExprLoop, ExprMacro}
+use Rattle.syn_grammar.specs.Kind.{ExprMatch, ExprMethodCall, ExprOr, ExprParen, ExprPath, ExprProduct, ExprRange}
+use Rattle.syn_grammar.specs.Kind.{ExprRangeClosed, ExprRawAddr, ExprReference, ExprRepeat, ExprReturn, ExprShift}
+use Rattle.syn_grammar.specs.Kind.{ExprStruct, ExprSum, ExprTry, ExprTryBlock, ExprTypedClosure, ExprUnary}
+use Rattle.syn_grammar.specs.Kind.{ExprUnsafe, ExprWhile, ExprYield, FieldPattern, FieldPatterns, FieldValue}
+use Rattle.syn_grammar.specs.Kind.{FieldValues, FnArg, FnPtrArg, FnPtrType, ForeignItems, GenericParam}
+use Rattle.syn_grammar.specs.Kind.{GenericParams, Generics, IdentPattern, ImplGenerics, ImplItems, ImplType}
+use Rattle.syn_grammar.specs.Kind.{InExpression, InFile, InForeign, InImpl, InModule, InTrait, InType, Index}
+use Rattle.syn_grammar.specs.Kind.{InferType, InnerAttribute, InnerAttributes, ItemMacro, Items, Label}
+use Rattle.syn_grammar.specs.Kind.{LifetimeColon, LifetimeParam, Lifetimes, LiteralPattern, Member, Meta}
+use Rattle.syn_grammar.specs.Kind.{NamedField, NamedFields, NeverType, OnePattern, OuterAttribute}
+use Rattle.syn_grammar.specs.Kind.{OuterAttributes, Parameter, Parameters, ParenthesizedArguments, Path}
+use Rattle.syn_grammar.specs.Kind.{PathPattern, Pattern, Plain, PointerType, QualifiedPath, RangeBound, RangeEnd}
+use Rattle.syn_grammar.specs.Kind.{RangeToPattern, Receiver, ReferencePattern, ReferenceType, RestPattern}
+use Rattle.syn_grammar.specs.Kind.{ReturnType, Segment, Segments, SeveralPatterns, Signature, SlicePattern}
+use Rattle.syn_grammar.specs.Kind.{SomeBounds, Statements, TraitItems, TraitPath, TuplePattern, TupleType}
+use Rattle.syn_grammar.specs.Kind.{TypeParam, UnnamedField, UnnamedFields, UseBranch, UseRooted, UseTop, UseTree}
+use Rattle.syn_grammar.specs.Kind.{Variant, Visibility, Where, WhereClause, WherePredicate, WildPattern, WithPlus}
+use Rattle.syn_grammar.specs.Kind.{WithoutPlus}
 use Rattle.syn_grammar.specs.Tree.{Tree, AWord, Pair, First, Second, Again, Final, More, Group, Dropped, Called}
 use Rattle.syn_grammar.specs.Tree.{Verbatim}
 use Rattle.syn_grammar.specs.Tree.{Node, Whole, Alone, Front, Back, Infix}
 use Rattle.syn_grammar.specs.Words.{is_ident}
-use Rattle.syn_grammar.specs.Part.{choice}
+use Rattle.syn_grammar.specs.Name.{Part, the_else}
+use Rattle.syn_grammar.specs.Part.{choice, has}
 use Rattle.syn_grammar.specs.Kept.{is_there}
 use Rattle.syn_grammar.specs.Verdicts.{is_path_type}
 
@@ -160,6 +162,8 @@ has_step (ItemMacro InImpl) = true
 has_step Label = true
 has_step Body = true
 has_step Block = true
+has_step ALet = true
+has_step AStatement = true
 has_step Statements = true
 has_step Items = true
 has_step ForeignItems = true
@@ -352,6 +356,16 @@ item_of (Pair x y) = item_of y
 item_of (Called n y) = y
 item_of x = x
 
+-- Statements are lets so far.
+abbrev pub is_let_form : Tree → Bool
+is_let_form (Second (Second (First x))) = true
+is_let_form _ = false
+
+-- what is asked of a part: a let has no else
+abbrev pub is_taken_part : Part → Bool
+is_taken_part the_else = false
+is_taken_part n = true
+
 -- what is asked of a kind's tree
 abbrev pub is_taken : Kind → Tree → Bool
 is_taken AConst x = has_lone_value x
@@ -359,6 +373,8 @@ is_taken UnnamedField x = has_clear_type x
 is_taken OnePattern x = not (is_lone (choice x))
 is_taken AnImpl x = has_own_trait x
 is_taken AnItem x = is_no_macro (choice (item_of x))
+is_taken ALet x = not (has the_else x)
+is_taken AStatement x = is_let_form x
 is_taken ATraitItem x = is_no_macro (choice (item_of x))
 is_taken AnImplItem x = is_no_macro (choice (item_of x))
 is_taken k x = true
@@ -372,7 +388,7 @@ is_covered (Final x) = is_covered x
 is_covered (More x c spacing y) = is_covered x && is_covered y
 is_covered (Group d x) = is_covered x
 is_covered (Dropped x) = is_covered x
-is_covered (Called n x) = is_covered x
+is_covered (Called n x) = is_taken_part n && is_covered x
 is_covered (Verbatim x) = false
 is_covered (Node k x) = is_known k && (is_taken k x && is_covered x)
 is_covered (Whole x) = is_covered x

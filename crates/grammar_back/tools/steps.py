@@ -447,7 +447,7 @@ CATEGORIES={
  'Patterns':['Pattern','SeveralPatterns','OnePattern','IdentPattern','WildPattern','RangeToPattern','RestPattern','TuplePattern','SlicePattern','ReferencePattern','LiteralPattern','PathPattern','RangeEnd','RangeBound','FieldPatterns','FieldPattern'],
  'Attributes':['OuterAttributes','OuterAttribute','InnerAttributes','InnerAttribute','Meta'],
  'Generics':['Generics','ImplGenerics','GenericParams','GenericParam','LifetimeParam','LifetimeColon','ConstParam','TypeParam','BoundsColon','Where','WhereClause','WherePredicate'],
- 'Items':['Visibility','NamedFields','UnnamedFields','NamedField','UnnamedField','Variant','AStruct','AnEnum','AUnion','AStatic','AConst','AnExternCrate','AUse','UseTop','UseTree','UseBranch','UseRooted','Parameters','Parameter','FnArg','Receiver','Signature Place','AFunction Place','ATypeAlias Place','ItemMacro Place','Label','Body','Block','Statements',
+ 'Items':['Visibility','NamedFields','UnnamedFields','NamedField','UnnamedField','Variant','AStruct','AnEnum','AUnion','AStatic','AConst','AnExternCrate','AUse','UseTop','UseTree','UseBranch','UseRooted','Parameters','Parameter','FnArg','Receiver','Signature Place','AFunction Place','ATypeAlias Place','ItemMacro Place','Label','Body','Block','ALet','AStatement','Statements',
  'Items','ForeignItems','TraitItems','ImplItems','AModule','AForeignModule','AMacroDefinition','ATrait','AConstTrait','ARestrictedTrait','AnImpl','AnItem','ATraitItem','AnImplItem','AFile'],
  'Expressions':'''ExprLit ExprPath ExprMacro ExprParen ExprArray ExprRepeat ExprGroup ExprInfer ExprBlock ExprUnsafe ExprAsync ExprConst
  ExprTryBlock ExprIf ExprMatch ExprLoop ExprWhile ExprForLoop ExprContinue ExprTypedClosure ExprStruct ExprCall ExprMethodCall ExprField
@@ -473,7 +473,8 @@ for k in LISTS: GIVEN_BEHIND[(k,)]=['no the_end']
 GIVEN_BEHIND[('ImplGenerics',)]=['impl_generics_stand']
 # kinds of which the entry is written, and the step is by hand, since what may follow is said of the kind's tree too
 ENTRIES={('AType','WithPlus')}
-GIVEN_STARTS={('Statements',):[('sign',';')],('Arms',):[],('ATypeAlias','InFile'):[('word','type')],('ATypeAlias','InForeign'):[('word','type')]}
+GIVEN_STARTS={('ALet',):[('word','let')],('AStatement',):[('then','#',('open','Bracket')),('word','let')],
+ ('Statements',):[('sign',';'),('then','#',('open','Bracket')),('word','let')],('Arms',):[],('ATypeAlias','InFile'):[('word','type')],('ATypeAlias','InForeign'):[('word','type')]}
 for k in LISTS: GIVEN_STARTS[(k,)]=[]
 ITEM_WORDS='const async unsafe extern fn use static mod type struct enum union auto trait default impl'.split()
 for k in('AnItem','Items'): GIVEN_STARTS[(k,)]=[('then','#',('open','Bracket'))]+[('word',w) for w in ['pub']+ITEM_WORDS]

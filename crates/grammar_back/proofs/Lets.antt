@@ -1,0 +1,232 @@
+-- The steps and the laws of lets without else, and of statements that are lets.
+use Rattle.std.proofs.Common.{◌≡◌, List, [], ◌∷◌, ◌++◌, refl, sym, ap, ◌∙◌, subst}
+use Rattle.std.specs.Prelude.{true, false, ◌&&◌, not, codes, Option, Some, None}
+use Rattle.proc_macro2.specs.Token.{Token}
+use Rattle.syn_grammar.specs.Kind.{ALet, AStatement, AType, Block, Expression, OnePattern, OuterAttributes}
+use Rattle.syn_grammar.specs.Kind.{Plain, Position, WithPlus}
+use Rattle.syn_grammar.specs.Name.{Part, same_part, the_else, the_type, the_value}
+use Rattle.syn_grammar.specs.Tree.{Tree, Called, First, Group, Nil, Node, Pair, Second, flat}
+use Rattle.syn_grammar.specs.Part.{found, has, is_some, or_else, the}
+use Rattle.syn_grammar.specs.Gram.{Gram, ref}
+use Rattle.syn_grammar.specs.Words.{is_name, is_path_keyword}
+use Rattle.syn_grammar.specs.Say.{at, keyword, marks, optional, sign, ◌∶◌, ◌▸◌}
+use Rattle.syn_grammar.specs.Statements.{ends_in_braces, is_let, let_form, macro_item_stands, macro_statement_stands}
+use Rattle.syn_grammar.specs.Statements.{statement}
+use Rattle.syn_grammar.specs.Types.{kept_if}
+use Rattle.syn_grammar.specs.Ranks.{skips}
+use Rattle.syn_grammar.specs.Table.{table}
+use Rattle.syn_grammar.specs.Derives.{Derives}
+use Rattle.syn_grammar.specs.Kept.{as_statement, held, kept}
+use Rattle.syn_grammar.specs.Normal.{passed, place_of, normal_in}
+use Rattle.grammar_back.specs.After.{behind}
+use Rattle.grammar_back.specs.Covered.{has_step, is_covered, is_let_form}
+use Rattle.grammar_back.specs.Sees.{LacksAll}
+use Rattle.grammar_back.proofs.Choices.{both_true, is_false}
+use Rattle.grammar_back.proofs.Classes.{Class, Sign, TheWord, among_left, among_right}
+use Rattle.grammar_back.proofs.Keywords.{reserved_let}
+use Rattle.grammar_back.proofs.Starts.{starts}
+use Rattle.grammar_back.proofs.Fits.{Fits, IsMeant}
+use Rattle.grammar_back.proofs.Passed.{behind_attributes}
+use Rattle.grammar_back.proofs.Readies.{Ready, Step}
+use Rattle.grammar_back.proofs.Fine.{At, Edge, Fine, fine_judged, fine_weaker}
+use Rattle.grammar_back.proofs.Parts.{at_front, fine_ahead, found_called, found_mark, found_optional, found_ref}
+use Rattle.grammar_back.proofs.Parts.{found_seq, found_text, maybe_ahead, maybe_ref, maybe_seq, meant_step, told_at}
+use Rattle.grammar_back.proofs.Parts.{unseen_all}
+use Rattle.grammar_back.proofs.Printed.{IsPlaced, KindLaw, Printed, VerdictLaw, simple_law}
+use Rattle.grammar_back.proofs.Impls.{contrary}
+use Rattle.grammar_back.proofs.ItemVerdicts.{same_has}
+use Rattle.grammar_back.proofs.WholeItems.{taken_law}
+
+-- what stands behind the pattern
+abbrev pub let_value : Gram
+let_value = the_value ∶ ref (Expression Plain) ▸ optional (at "else") (the_else ∶ (keyword "else" ▸ ref Block))
+
+abbrev pub let_end : Gram
+let_end = optional (marks "=") (sign "=" ▸ let_value) ▸ sign ";"
+
+abbrev pub let_type : Gram
+let_type = optional (marks ":") (sign ":" ▸ the_type ∶ ref (AType WithPlus)) ▸ let_end
+
+abbrev LetEdge : Edge
+LetEdge x s = has the_else x ≡ false
+
+none_pair : (n : Part) (x y : Tree) → has n (Pair x y) ≡ false → (has n x ≡ false) × (has n y ≡ false)
+none_pair n x y e = go (found n x) (found n y) e
+  where
+    go : (o p : Option Tree) → is_some (or_else o p) ≡ false → (is_some o ≡ false) × (is_some p ≡ false)
+    go None p e = (refl, e)
+    go (Some z) p e = cc e
+
+an_else : (n : Part) (x : Tree) → n ≡ the_else → has the_else (Called n x) ≡ false → ⊥
+unfolding same_part
+an_else n x e f =
+    contrary (has the_else (Called n x)) (subst (λ j. has the_else (Called j x) ≡ true) (sym e) refl) f
+
+abbrev equals : List Class
+equals = Sign 61 [] ∷ []
+
+abbrev semicolon : List Class
+semicolon = Sign 59 [] ∷ []
+
+fine_end : Fine let_end LetEdge (At (equals ++ semicolon))
+unfolding skips
+fine_end = record { by = go }
+  where
+    go : (x : Tree) (s : List Token) → Fits x let_end → Ready x → LetEdge x s
+        → Derives x let_end s × At (equals ++ semicolon) x s
+    go (Pair (First (Pair q (Pair e (Second Nil)))) c) s f w n =
+        let us : List Token = flat c ++ s in
+        let (dc, ic) = (found_mark {c = 59} {cs = []}).fine.by c s f.1 w.1 tt in
+        let (de, ie) = (found_called {n = the_value} (found_ref (Expression Plain) refl)).fine.by e us f.0.1.1.0
+        w.0.1.0 (unseen_all (behind (Expression Plain)) semicolon us ((λ us. refl, tt), tt) ic) in
+        let (dq, iq) = (found_mark {c = 61} {cs = []}).fine.by q ((flat e ++ []) ++ us) f.0.1.0 w.0.0 tt in
+        let j = at_front equals q (Pair e (Second Nil)) us iq in (
+          (
+            (
+              told_at (marks "=") true equals ((flat q ++ (flat e ++ [])) ++ us) (λ us. refl, tt) j,
+              (dq, (de, (told_at (at "else") false semicolon us (λ us. refl, tt) ic, tt))),
+            ),
+            dc,
+          ),
+          at_front (equals ++ semicolon) (Pair q (Pair e (Second Nil))) c s
+              (among_left equals semicolon ((flat q ++ (flat e ++ [])) ++ us) j),
+        )
+    go (Pair (First (Pair q (Pair e (First (Called k z))))) c) s f w n =
+        absurd (an_else k z f.0.1.1.1.1.0
+        (none_pair the_else e (First (Called k z)) (none_pair the_else q (Pair e (First (Called k z)))
+        (none_pair the_else (First (Pair q (Pair e (First (Called k z))))) c n).0).1).1)
+    go (Pair (First (Pair q (Pair e (First _)))) c) s f w n = absurd f.0.1.1.1.1
+    go (Pair (First (Pair q (Pair e (Second _)))) c) s f w n = absurd f.0.1.1.1.1
+    go (Pair (First (Pair q (Pair e _))) c) s f w n = absurd f.0.1.1.1
+    go (Pair (First (Pair q _)) c) s f w n = absurd f.0.1.1
+    go (Pair (First _) c) s f w n = absurd f.0.1
+    go (Pair (Second Nil) c) s f w n =
+        let (dc, ic) = (found_mark {c = 59} {cs = []}).fine.by c s f.1 w.1 tt in (
+          ((told_at (marks "=") false semicolon (flat c ++ s) (λ us. refl, tt) ic, tt), dc),
+          among_right equals semicolon (flat c ++ s) ic,
+        )
+    go (Pair (Second _) c) s f w n = absurd f.0.1
+    go (Pair _ c) s f w n = absurd f.0
+    go _ s f w n = absurd f
+
+fine_type : Fine let_type LetEdge (At (Sign 58 [] ∷ (equals ++ semicolon)))
+unfolding skips is_name is_path_keyword
+fine_type =
+    maybe_ahead LetEdge (equals ++ semicolon)
+    (found_optional (marks ":") (found_seq found_mark (found_called (found_ref (AType WithPlus) refl)) tt)
+    (λ us. refl, tt)) fine_end
+    ((search), ((search), ((search), ((search), ((search), ((search), ((search), tt)))))))
+    (λ x y s c. (none_pair the_else x y c).1)
+
+fine_let : Fine let_form LetEdge (At (TheWord (codes "let") ∷ []))
+unfolding skips is_name is_path_keyword
+fine_let =
+    fine_ahead LetEdge (starts OnePattern) (found_text "let")
+    (fine_ahead LetEdge (Sign 58 [] ∷ (equals ++ semicolon)) (found_ref OnePattern refl) fine_type (
+      (search),
+      (
+        (search),
+        ((search), ((search), ((search), ((search), ((search), ((search), ((search), tt))))))),
+      ),
+    )
+    (λ x y s c. (none_pair the_else x y c).1)) tt (λ x y s c. (none_pair the_else x y c).1)
+
+pub step_a_let : Step ALet
+unfolding table skips
+step_a_let =
+    meant_step ALet refl refl
+    (fine_weaker (λ x s. LacksAll [] s × IsMeant ALet x) (At (starts ALet))
+    (fine_judged {A = LetEdge} {F = At (starts ALet)} fine_let) (λ x s c. c.1) (λ x s i c. i))
+
+-- what is covered has no else
+no_else : (x : Tree) → is_covered x ≡ true → has the_else x ≡ false
+unfolding same_part
+no_else (Called the_else x) c = cc c
+no_else (Called n x) c = refl
+no_else (Pair x y) c =
+    let h = both_true (is_covered x) (is_covered y) c in
+    go (found the_else x) (no_else x h.0) (no_else y h.1)
+  where
+    go : (o : Option Tree) → is_some o ≡ false → has the_else y ≡ false
+        → is_some (or_else o (found the_else y)) ≡ false
+    go None e f = f
+    go (Some z) e f = cc e
+no_else (First x) c = no_else x c
+no_else (Second x) c = no_else x c
+no_else (Group d x) c = no_else x c
+no_else _ c = refl
+
+let_verdict : VerdictLaw Plain (λ x. kept_if (is_let x)) let_form
+let_verdict x w r c d f e h =
+    ap (λ b. kept_if (not (b && ends_in_braces (flat (the the_value w)))))
+    (same_has the_else Plain let_form x w r d f e ∙ no_else x c)
+
+pub law_a_let : KindLaw ALet
+unfolding has_step held passed place_of table
+law_a_let =
+    taken_law ALet refl
+    (λ x w r d f e o. same_has the_else Plain (table ALet) x w r d f e ∙ is_false (has the_else x) o) (λ x. refl)
+    (λ x. refl) (λ q. refl) (λ q. refl) (let_verdict, simple_law Plain let_form refl)
+
+-- statements
+pub step_a_statement : Step AStatement
+unfolding table skips is_name is_path_keyword
+step_a_statement (Second (Second (First (Pair o y)))) s f n w a =
+    let g = f.1.1.1 in
+    let (t, i) = (maybe_seq (maybe_ref OuterAttributes refl) (found_ref ALet refl)
+    ((λ us. refl, tt), tt)).fine.by (Pair o y) s g w tt in
+    let j = ((found_ref ALet refl).fine.by y s g.1 w.1 tt).1 in (
+      (
+        behind_attributes o y macro_item_stands s false t.0
+            (told_at macro_item_stands false (starts ALet) (flat y ++ s) ((λ us. simp (reserved_let) refl), tt) j),
+        (
+          behind_attributes o y macro_statement_stands s false t.0
+              (told_at macro_statement_stands false (starts ALet) (flat y ++ s)
+              ((λ us. simp (reserved_let) refl), tt) j),
+          (
+            behind_attributes o y (at "let") s true t.0
+                (told_at (at "let") true (starts ALet) (flat y ++ s) (λ us. refl, tt) j),
+            t,
+          ),
+        ),
+      ),
+      i,
+    )
+step_a_statement (Second (Second (First _))) s f n w a = absurd f.1.1.1
+step_a_statement (Second (Second (Second x))) s f n w a = cc n
+step_a_statement (Second (Second _)) s f n w a = absurd f.1.1
+step_a_statement (Second (First x)) s f n w a = cc n
+step_a_statement (Second _) s f n w a = absurd f.1
+step_a_statement (First x) s f n w a = cc n
+step_a_statement _ s f n w a = absurd f
+
+let_printed : (x w : Tree) → Fits w statement → kept w ≡ normal_in Plain (kept (Second (Second (First x))))
+    → (is_let_form w ≡ true) × (as_statement (kept w) ≡ kept w)
+let_printed x (Second (Second (First w))) f e = (refl, refl)
+let_printed x (Second (Second (Second w))) f e = cc e
+let_printed x (Second (Second _)) f e = absurd f.1.1
+let_printed x (Second (First w)) f e = cc e
+let_printed x (Second _) f e = absurd f.1
+let_printed x (First w) f e = cc e
+let_printed x _ f e = absurd f
+
+pub law_a_statement : KindLaw AStatement
+unfolding has_step held passed place_of table
+law_a_statement = record { entry = λ q l. simple_law Plain statement refl; node = go }
+  where
+    go : (q : Position) → IsPlaced q AStatement → (x : Tree) (r : List Token) → is_let_form x ≡ true
+        → Derives x (table AStatement) r → Printed (table AStatement) (normal_in (passed AStatement q) (kept x))
+        → Printed (ref AStatement) (normal_in q (Node (held AStatement) (as_statement (kept x))))
+    go q l (Second (Second (First x))) r o d i =
+        let s = let_printed x i.tree i.fits i.kept_is in
+        record {
+          tree = Node AStatement i.tree;
+          fits = (refl, refl, ap flat s.1, i.fits, s.0);
+          kept_is = ap (Node AStatement) (s.1 ∙ i.kept_is);
+        }
+    go q l (Second (Second (Second x))) r o d i = cc o
+    go q l (Second (Second _)) r o d i = absurd d.1.1
+    go q l (Second (First x)) r o d i = cc o
+    go q l (Second _) r o d i = absurd d.1
+    go q l (First x) r o d i = cc o
+    go q l _ r o d i = absurd d
