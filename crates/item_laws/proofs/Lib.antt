@@ -1,4 +1,10 @@
 pub mod Every
+pub mod Fronts
+pub mod Statements
+pub mod Spacing
+pub mod Tame
+pub mod Ends
+pub mod Quiet
 pub mod Raws
 pub mod Visible
 pub mod Passed

@@ -10,31 +10,34 @@ use Rattle.syn_grammar.specs.Tree.{Back, Infix, flat}
 use Rattle.syn_grammar.specs.Kept.{kept}
 use Rattle.syn_grammar.specs.Normal.{apart, normal}
 use Rattle.item_laws.specs.Raws.{IsRaw, HasRaw, HasRawItem, IsSetApart}
-use Rattle.item_laws.proofs.Every.{Every, NodeOf, is_item, item_kind, every_kept, every_normal}
+use Rattle.item_laws.proofs.Every.{Every, is_item, no_row, AnyMark, AnyTurn, item_kind, in_node, out_node}
+use Rattle.item_laws.proofs.Every.{every_kept, every_normal}
 
 -- nothing is asked of groups
 abbrev AnyOne : Delimiter → Type 0
 AnyOne d = Unit {0}
 
+abbrev AllRaw : (List Token → Type 0) → (List Token → Type 0) → Tree → Type 0
+AllRaw P Q x = Every false AnyTurn AnyOne AnyMark P Q x
+
 module _ (P Q : List Token → Type 0) where
-  own_item : (x : Tree) → ((ts : List Token) → IsRaw ts x → Q ts) → Every AnyOne P Q x
-      → NodeOf true Q x (Every AnyOne P Q x)
+  own_item : (x : Tree) → ((ts : List Token) → IsRaw ts x → Q ts) → AllRaw P Q x → AllRaw P Q (Node AnItem x)
   own_item (Raw us) g h = g us refl
   own_item (Verbatim x) g h = g (flat x) refl
   own_item _ g h = h
 
-  of_node : (k : Kind) (x : Tree) → ((ts : List Token) → (k ≡ AnItem) × IsRaw ts x → Q ts) → Every AnyOne P Q x
-      → NodeOf (is_item k) Q x (Every AnyOne P Q x)
+  of_node : (k : Kind) (x : Tree) → ((ts : List Token) → (k ≡ AnItem) × IsRaw ts x → Q ts) → AllRaw P Q x
+      → AllRaw P Q (Node k x)
   of_node k x g h = go (is_item k) refl
     where
-      go : (b : Bool) → is_item k ≡ b → NodeOf (is_item k) Q x (Every AnyOne P Q x)
-      go false e = subst (λ b. NodeOf b Q x (Every AnyOne P Q x)) (sym e) h
+      go : (b : Bool) → is_item k ≡ b → AllRaw P Q (Node k x)
+      go false e = in_node false AnyTurn AnyOne AnyMark P Q k x e (no_row k) h
       go true e =
-          subst (λ b. NodeOf b Q x (Every AnyOne P Q x)) (sym e) (own_item x (λ ts i. g ts (item_kind k e, i)) h)
+          subst (λ i. AllRaw P Q (Node i x)) (sym (item_kind k e)) (own_item x (λ ts i. g ts (item_kind k e, i)) h)
 
   -- what holds of each that a tree has holds of all
   all_own : (x : Tree) → ((ts : List Token) → HasRaw ts x → P ts) → ((ts : List Token) → HasRawItem ts x → Q ts)
-      → Every AnyOne P Q x
+      → AllRaw P Q x
   all_own (Raw us) f g = f us refl
   all_own (Verbatim x) f g = f (flat x) refl
   all_own (Pair x y) f g =
@@ -44,8 +47,11 @@ module _ (P Q : List Token → Type 0) where
   all_own (Again x y) f g =
       (all_own x (λ ts i. f ts (inl i)) (λ ts i. g ts (inl i)), all_own y (λ ts i. f ts (inr i)) (λ ts i. g ts (inr i)))
   all_own (Final x) f g = all_own x f g
-  all_own (More x c spacing y) f g =
-      (all_own x (λ ts i. f ts (inl i)) (λ ts i. g ts (inl i)), all_own y (λ ts i. f ts (inr i)) (λ ts i. g ts (inr i)))
+  all_own (More x c spacing y) f g = (
+    all_own x (λ ts i. f ts (inl i)) (λ ts i. g ts (inl i)),
+    tt,
+    all_own y (λ ts i. f ts (inr i)) (λ ts i. g ts (inr i)),
+  )
   all_own (Group d x) f g = (tt, all_own x f g)
   all_own (Dropped x) f g = all_own x f g
   all_own (Called n x) f g = all_own x f g
@@ -65,22 +71,21 @@ module _ (P Q : List Token → Type 0) where
 
 -- and of each where it holds of all
 module _ (P Q : List Token → Type 0) (ts : List Token) (R : Type 0) (f : P ts → R) (g : Q ts → R) where
-  one_item : (x : Tree) → (Every AnyOne P Q x → HasRaw ts x → R) → NodeOf true Q x (Every AnyOne P Q x) → HasRaw ts x
-      → R
+  one_item : (x : Tree) → (AllRaw P Q x → HasRaw ts x → R) → AllRaw P Q (Node AnItem x) → HasRaw ts x → R
   one_item (Raw us) r h i = g (subst Q i h)
   one_item (Verbatim x) r h i = g (subst Q i h)
   one_item _ r h i = r h i
 
-  one_node : (b : Bool) (x : Tree) → (Every AnyOne P Q x → HasRaw ts x → R) → NodeOf b Q x (Every AnyOne P Q x)
-      → HasRaw ts x → R
-  one_node false x r h i = r h i
-  one_node true x r h i = one_item x r h i
+  one_node : (k : Kind) (x : Tree) (b : Bool) → is_item k ≡ b → (AllRaw P Q x → HasRaw ts x → R)
+      → AllRaw P Q (Node k x) → HasRaw ts x → R
+  one_node k x false e r h i = r (out_node false AnyTurn AnyOne AnyMark P Q k x e (no_row k) h) i
+  one_node k x true e r h i = one_item x r (subst (λ j. AllRaw P Q (Node j x)) (item_kind k e) h) i
 
   either : {A B : Type 0} → (A → R) → (B → R) → A ⊎ B → R
   either a b (inl i) = a i
   either a b (inr i) = b i
 
-  one_own : (x : Tree) → Every AnyOne P Q x → HasRaw ts x → R
+  one_own : (x : Tree) → AllRaw P Q x → HasRaw ts x → R
   one_own (Raw us) h i = f (subst P i h)
   one_own (Verbatim x) h i = f (subst P i h)
   one_own (Pair x y) h i = either (λ j. one_own x h.0 j) (λ j. one_own y h.1 j) i
@@ -88,11 +93,11 @@ module _ (P Q : List Token → Type 0) (ts : List Token) (R : Type 0) (f : P ts 
   one_own (Second x) h i = one_own x h i
   one_own (Again x y) h i = either (λ j. one_own x h.0 j) (λ j. one_own y h.1 j) i
   one_own (Final x) h i = one_own x h i
-  one_own (More x c spacing y) h i = either (λ j. one_own x h.0 j) (λ j. one_own y h.1 j) i
+  one_own (More x c spacing y) h i = either (λ j. one_own x h.0 j) (λ j. one_own y h.2 j) i
   one_own (Group d x) h i = one_own x h.1 i
   one_own (Dropped x) h i = one_own x h i
   one_own (Called n x) h i = one_own x h i
-  one_own (Node k x) h i = one_node (is_item k) x (λ a b. one_own x a b) h i
+  one_own (Node k x) h i = one_node k x (is_item k) refl (λ a b. one_own x a b) h i
   one_own (Whole x) h i = one_own x h i
   one_own (Alone k y) h i = one_own y h i
   one_own (Front k y x) h i = either (λ j. one_own y h.0 j) (λ j. one_own x h.1 j) i
@@ -138,7 +143,8 @@ pub kept_raws : (x : Tree) (ts : List Token) → HasRaw ts (kept x) → HasRaw t
 kept_raws x ts i =
     let P : List Token → Type 0 = λ us. HasRaw us x in
     one_own P P ts (HasRaw ts x) (λ h. h) (λ h. h) (kept x)
-    (every_kept AnyOne P P (λ us h. h) x (all_own P P x (λ us h. h) (λ us h. raw_of x us h))) i
+    (every_kept false AnyTurn AnyOne AnyMark P P tt tt tt (λ c cs i h. h) (λ us h. h) no_row x
+    (all_own P P x (λ us h. h) (λ us h. raw_of x us h))) i
 
 -- set apart twice is set apart once
 some_apart : (t : Token) (ts : List Token) → apart (t ∷ ts) ≡ [] → ⊥
@@ -179,4 +185,5 @@ normal_raws x ts i =
     let P : List Token → Type 0 = λ us. HasRaw us x in
     let Q : List Token → Type 0 = AsItem x in
     one_own P Q ts (HasRaw ts x ⊎ IsSetApart ts x) (λ h. inl h) (λ h. as_read x ts h) (normal x)
-    (every_normal AnyOne P Q tt (set_apart x) Plain x (all_own P Q x (λ us h. h) (λ us h. (us, h, inl refl)))) i
+    (every_normal false AnyTurn AnyTurn AnyOne AnyMark P Q tt tt tt (λ c cs i h. h) tt (set_apart x) (λ p a b f h. f h)
+    (λ a b f h. f h) Plain x (all_own P Q x (λ us h. h) (λ us h. (us, h, inl refl)))) i

@@ -1,21 +1,22 @@
 -- What is read and printed holds no invisible group.
-use Rattle.std.proofs.Common.{ℕ, List, [], ◌∷◌, ◌++◌, refl}
+use Rattle.std.proofs.Common.{◌≡◌, ℕ, List, [], ◌∷◌, ◌++◌, refl, sym, subst}
 use Rattle.std.specs.Prelude.{Bool, true, false, IsTrue}
 use Rattle.proc_macro2.specs.Token.{Token, Opens, Closes, Ident, Literal, Punct}
 use Rattle.proc_macro2.specs.declared.delimiter.Delimiter.{Delimiter}
 use Rattle.proc_macro2.specs.Spacing.{is_visible, IsWellSpaced}
 use Rattle.rust_leaf.specs.declared.punct.Spacing.{Spacing}
-use Rattle.syn_grammar.specs.Kind.{Kind, Plain}
+use Rattle.syn_grammar.specs.Kind.{Kind, Plain, AnItem}
 use Rattle.syn_grammar.specs.Tree.{Tree, AWord, ALiteral, AMark, ALifetime, Raw, Nil, Pair, First, Second, End, Again}
 use Rattle.syn_grammar.specs.Tree.{Final, More, Group, Dropped, Called, Verbatim, Hidden, Node, Whole, Alone, Front}
 use Rattle.syn_grammar.specs.Tree.{Back, Infix, marks, flat}
 use Rattle.syn_grammar.specs.Kept.{kept}
 use Rattle.syn_grammar.specs.Normal.{apart, normal}
 use Rattle.item_laws.specs.Visible.{AllVisible}
-use Rattle.item_laws.proofs.Every.{Every, NodeOf, is_item, every_kept, every_normal}
+use Rattle.item_laws.proofs.Every.{Every, is_item, no_row, AnyMark, AnyTurn, item_kind, in_node, out_node}
+use Rattle.item_laws.proofs.Every.{every_kept, every_normal}
 
 abbrev V : Tree → Type 0
-V x = Every (λ d. IsTrue (is_visible d)) AllVisible AllVisible x
+V x = Every false AnyTurn (λ d. IsTrue (is_visible d)) AnyMark AllVisible AllVisible x
 
 pub spaced_visible : (ts : List Token) → IsWellSpaced ts → AllVisible ts
 spaced_visible [] w = tt
@@ -62,14 +63,20 @@ of_apart (Closes d ∷ ts) v = (v.0, of_apart ts v.1)
 of_apart (Ident cs ∷ ts) v = of_apart ts v
 of_apart (Literal cs ∷ ts) v = of_apart ts v
 
+abbrev Printed : Delimiter → Type 0
+Printed d = IsTrue (is_visible d)
+
+of_item : (x : Tree) → AllVisible (flat x) → V x → V (Node AnItem x)
+of_item (Raw ts) v h = v
+of_item (Verbatim x) v h = v
+of_item _ v h = h
+
 of_node : (k : Kind) (x : Tree) → AllVisible (flat x) → V x → V (Node k x)
-of_node k x v h = go (is_item k) x v h
+of_node k x v h = go (is_item k) refl
   where
-    go : (b : Bool) (x : Tree) → AllVisible (flat x) → V x → NodeOf b AllVisible x (V x)
-    go false x v h = h
-    go true (Raw ts) v h = v
-    go true (Verbatim x) v h = v
-    go true _ v h = h
+    go : (b : Bool) → is_item k ≡ b → V (Node k x)
+    go false e = in_node false AnyTurn Printed AnyMark AllVisible AllVisible k x e (no_row k) h
+    go true e = subst (λ i. V (Node i x)) (sym (item_kind k e)) (of_item x v h)
 
 of_tokens : (x : Tree) → AllVisible (flat x) → V x
 of_tokens (Raw ts) v = v
@@ -81,6 +88,7 @@ of_tokens (Again x y) v = (of_tokens x (front (flat x) (flat y) v), of_tokens y 
 of_tokens (Final x) v = of_tokens x v
 of_tokens (More x c spacing y) v = (
   of_tokens x (front (flat x) (Punct c spacing ∷ flat y) v),
+  tt,
   of_tokens y (back (flat x) (Punct c spacing ∷ flat y) v),
 )
 of_tokens (Group d x) v = (v.0, of_tokens x (front (flat x) (Closes d ∷ []) v.1))
@@ -99,14 +107,17 @@ of_tokens (Infix l k y r) v =
     )
 of_tokens _ v = tt
 
+item_tokens : (x : Tree) → (V x → AllVisible (flat x)) → V (Node AnItem x) → AllVisible (flat x)
+item_tokens (Raw ts) f h = h
+item_tokens (Verbatim x) f h = h
+item_tokens x f h = f h
+
 node_tokens : (k : Kind) (x : Tree) → (V x → AllVisible (flat x)) → V (Node k x) → AllVisible (flat x)
-node_tokens k x f h = go (is_item k) x f h
+node_tokens k x f h = go (is_item k) refl
   where
-    go : (b : Bool) (x : Tree) → (V x → AllVisible (flat x)) → NodeOf b AllVisible x (V x) → AllVisible (flat x)
-    go false x f h = f h
-    go true (Raw ts) f h = h
-    go true (Verbatim x) f h = h
-    go true x f h = f h
+    go : (b : Bool) → is_item k ≡ b → AllVisible (flat x)
+    go false e = f (out_node false AnyTurn Printed AnyMark AllVisible AllVisible k x e (no_row k) h)
+    go true e = item_tokens x f (subst (λ i. V (Node i x)) (item_kind k e) h)
 
 tokens : (x : Tree) → V x → AllVisible (flat x)
 tokens (AWord cs) h = tt
@@ -121,7 +132,7 @@ tokens (Second x) h = tokens x h
 tokens End h = tt
 tokens (Again x y) h = both (flat x) (flat y) (tokens x h.0) (tokens y h.1)
 tokens (Final x) h = tokens x h
-tokens (More x c spacing y) h = both (flat x) (Punct c spacing ∷ flat y) (tokens x h.0) (tokens y h.1)
+tokens (More x c spacing y) h = both (flat x) (Punct c spacing ∷ flat y) (tokens x h.0) (tokens y h.2)
 tokens (Group d x) h = (h.0, both (flat x) (Closes d ∷ []) (tokens x h.1) (h.0, tt))
 tokens (Dropped x) h = tokens x h
 tokens (Called n x) h = tokens x h
@@ -138,7 +149,8 @@ tokens (Infix l k y r) h =
 -- of every tree
 pub printed_visible : (x : Tree) → AllVisible (flat x) → AllVisible (flat (normal (kept x)))
 printed_visible x v =
-    let D : Delimiter → Type 0 = λ d. IsTrue (is_visible d) in
     tokens (normal (kept x))
-    (every_normal D AllVisible AllVisible refl of_apart Plain (kept x)
-    (every_kept D AllVisible AllVisible (λ ts h. h) x (of_tokens x v)))
+    (every_normal false AnyTurn AnyTurn Printed AnyMark AllVisible AllVisible tt tt tt (λ c cs i h. h) refl of_apart
+    (λ p a b f h. f h) (λ a b f h. f h) Plain (kept x)
+    (every_kept false AnyTurn Printed AnyMark AllVisible AllVisible tt tt tt (λ c cs i h. h) (λ ts h. h) no_row x
+    (of_tokens x v)))

@@ -1,3 +1,4 @@
 pub mod Raws
 pub mod Visible
 pub mod Readers
+pub mod Begins

@@ -1,13 +1,14 @@
 //! Laws of items and of raw tokens: each is the contract of a function that does nothing.
 
+ghost use Rattle.item_laws.specs.Begins.{first_of, is_element};
 ghost use Rattle.item_laws.specs.Raws.{HasRaw, IsSetApart};
 ghost use Rattle.item_laws.specs.Readers.{item_parts, ItemParts, Reader, ReadsItem, trait_reader};
 ghost use Rattle.item_laws.specs.Visible.{AllVisible};
 ghost use Rattle.proc_macro2.specs.Spacing.{IsWellSpaced};
 ghost use Rattle.proc_macro2.specs.Token.{Token};
-ghost use Rattle.std.specs.Prelude.{◌≡◌, ◌⊎◌, ℕ, Bool, List, ◌++◌};
+ghost use Rattle.std.specs.Prelude.{◌≡◌, ◌⊎◌, ℕ, Bool, false, List, [], ◌++◌};
 ghost use Rattle.syn_grammar.specs.Derives.{Derives};
-ghost use Rattle.syn_grammar.specs.Gram.{Gram};
+ghost use Rattle.syn_grammar.specs.Gram.{Gram, ref};
 ghost use Rattle.syn_grammar.specs.Kept.{kept};
 ghost use Rattle.syn_grammar.specs.Kind.{AnItem, ATrait, Kind};
 ghost use Rattle.syn_grammar.specs.Look.{past_closing};
@@ -58,4 +59,18 @@ pub fn trait_readers()
 pub fn trees_pass()
     ensures { (tree : Tree) (g : Gram) (rest : List Token) → Derives tree g rest → (n : ℕ) (ts : List Token)
         → past_closing n (flat tree ++ ts) ≡ past_closing n ts }
+{}
+
+/// The tokens of a normal form are well spaced where those that were read are, also where a raw form among them ends in
+/// a joint mark: where all tokens were read; before others that begin as those did which followed; and before all
+/// others, but of an item or a statement by itself.
+pub fn well_spaced()
+    ensures whole { (k : Kind) (tree : Tree) → Derives tree (ref k) [] → IsWellSpaced (flat tree)
+        → IsWellSpaced (flat (normal (kept tree))) }
+    ensures before { (k : Kind) (tree : Tree) (rest others : List Token) → Derives tree (ref k) rest
+        → IsWellSpaced (flat tree ++ rest) → first_of rest ≡ first_of others → IsWellSpaced others
+        → IsWellSpaced (flat (normal (kept tree)) ++ others) }
+    ensures anywhere { (k : Kind) (tree : Tree) (rest others : List Token) → is_element k ≡ false
+        → Derives tree (ref k) rest → IsWellSpaced (flat tree ++ rest) → IsWellSpaced others
+        → IsWellSpaced (flat (normal (kept tree)) ++ others) }
 {}
