@@ -14,7 +14,7 @@ use Rattle.syn_grammar.specs.Say.{parenthesis}
 use Rattle.syn_grammar.specs.Table.{table}
 use Rattle.syn_grammar.specs.Derives.{Derives, Bound}
 use Rattle.syn_grammar.specs.Forms.{Case, form, first_form, fronts, front, level, inside}
-use Rattle.syn_grammar.specs.Kept.{attributed, given, is_macro, own_part, is_there, expression_statement}
+use Rattle.syn_grammar.specs.Kept.{attributed, is_macro, own_part, is_there, expression_statement}
 use Rattle.syn_grammar.specs.Kept.{lone_dot, index_field, index_fields, fields_in_front, last_fields}
 use Rattle.syn_grammar.specs.Kept.{dotted_own, dotted}
 use Rattle.syn_grammar.specs.Kept.{as_statement, held, kept}
