@@ -184,7 +184,8 @@ record Ending (p : Position) (k : Kind) (y : Tree) (s : List Token) : Type 0 whe
   plain : sees (marks "#") (flat y ++ s) ≡ false
 
 alone_ended : (k : Kind) (y : Tree) → FitsForms (Alone k y) → has_part k ≡ true → OwnReady k y
-    → normal (kept y) ≡ kept y → (p : Position) → ends_there p (Alone k y) ≡ true → (s : List Token) → Ended s → Ending p k y s
+    → normal (kept y) ≡ kept y → (p : Position) → ends_there p (Alone k y) ≡ true → (s : List Token) → Ended s
+    → Ending p k y s
 alone_ended k y f o w n p h s e =
     let m = ender p k y o h in
     let i = ended_own k y m f.1 w (own k y o f.1 w n) in

@@ -1,11 +1,12 @@
--- Covered expressions there are: -(1 + x), as it is read; m!() in a condition; and m!{} before another statement.
+-- Covered expressions there are: -(1 + x), as it is read; m!() in a condition; m!{} before another
+-- statement; and || 1.
 use Rattle.std.proofs.Common.{◌≡◌, List, [], ◌∷◌, ◌++◌, refl}
 use Rattle.std.specs.Prelude.{true, codes}
 use Rattle.syn_grammar.specs.Kind.{AMacro, Delimited, ExprMacro, InCondition, InModule, Path, Plain, Expression}
-use Rattle.syn_grammar.specs.Kind.{InStatement, Segments}
+use Rattle.syn_grammar.specs.Kind.{ExprClosure, ExprLit, InStatement, Segments}
 use Rattle.proc_macro2.specs.Token.{Token, Opens, Closes, Literal, Punct}
 use Rattle.proc_macro2.specs.declared.delimiter.Delimiter.TheVariants.{Parenthesis, Brace}
-use Rattle.rust_leaf.specs.declared.punct.Spacing.TheVariants.{Alone as Apart}
+use Rattle.rust_leaf.specs.declared.punct.Spacing.TheVariants.{Alone as Apart, Joint}
 use Rattle.syn_grammar.specs.Words.{is_bool, is_name, is_path_keyword, is_plain_name, is_reserved}
 use Rattle.syn_grammar.specs.Gram.{ref}
 use Rattle.syn_grammar.specs.Table.{table}
@@ -13,7 +14,8 @@ use Rattle.syn_grammar.specs.Derives.{Derives}
 use Rattle.read_back.specs.Parts.{has_part, has_parts_of}
 use Rattle.grammar_back.specs.After.{EndsThere}
 use Rattle.read_back.proofs.Positions.{read_ended_in, read_in_position}
-use Rattle.syn_grammar.specs.Tree.{Tree, AMark, Alone, AWord, First, Group, Nil, Node, Pair, Raw, Second, Whole, flat}
+use Rattle.syn_grammar.specs.Tree.{Tree, ALiteral, AMark, End, Front, Alone, AWord, First, Group, Nil, Node, Pair}
+use Rattle.syn_grammar.specs.Tree.{Raw, Second, Whole, flat}
 use Rattle.syn_grammar.specs.Forms.{back, chains, front, has_right, inside, level, stands_left, takes}
 use Rattle.syn_grammar.specs.Kept.{held, kept}
 use Rattle.syn_grammar.specs.Normal.{passed, stands_behind, normal, normal_in}
@@ -121,3 +123,41 @@ pub statement_back :
     (normal_in InStatement (kept (Node (Expression InStatement) (Whole statement)))) next
 statement_back =
     read_ended_in InStatement statement next next statement_read statement_parts statement_ends
+
+-- and || 1 is, whose bars then stand apart
+abbrev closure : Tree
+closure =
+    Front ExprClosure
+    (Pair (Second Nil) (Pair (Second Nil) (Pair (Second Nil) (Pair (Second Nil) (Pair (Second Nil)
+    (Pair (AMark 124 [] Joint) (Pair End (AMark 124 [] Apart))))))))
+    (Alone ExprLit (First (ALiteral (codes "1"))))
+
+closure_read : Derives (Node (Expression Plain) (Whole closure)) (ref (Expression Plain)) []
+unfolding table front back has_right is_bool is_reserved level takes stands_left inside
+closure_read = (
+  refl,
+  (
+    (refl, refl),
+    (
+      refl,
+      (
+        (refl, tt),
+        ((refl, tt), ((refl, tt), ((refl, tt), ((refl, tt), ((refl, refl), (refl, (refl, refl))))))),
+      ),
+      refl,
+      (refl, refl),
+      (refl, (refl, refl), refl),
+    ),
+  ),
+)
+
+closure_parts : has_parts_of has_part closure ≡ true
+unfolding has_step has_form_step level
+closure_parts = refl
+
+pub closure_back :
+    IsRead (Expression Plain) (flat (normal_in Plain (kept (Node (Expression Plain) (Whole closure)))) ++ [])
+    (normal_in Plain (kept (Node (Expression Plain) (Whole closure)))) []
+unfolding back
+closure_back =
+    read_in_position Plain closure [] [] closure_read (λ e. cc) closure_parts (refl, refl, refl, refl)

@@ -2,7 +2,9 @@ pub mod Settled
 pub mod Split
 pub mod Indices
 pub mod Dots
+pub mod Quiet
 pub mod Semicolons
+pub mod Closures
 pub mod Blocks
 pub mod Held
 pub mod Owned

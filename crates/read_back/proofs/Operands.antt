@@ -2,14 +2,14 @@
 use Rattle.std.proofs.Common.{◌≡◌, List, refl}
 use Rattle.std.specs.Prelude.{Bool, true, false, ◌&&◌, Some}
 use Rattle.proc_macro2.specs.Token.{Token}
-use Rattle.syn_grammar.specs.Kind.{Kind, Position, ExprAttributed, ExprCast}
+use Rattle.syn_grammar.specs.Kind.{Kind, Position, ExprAttributed, ExprCast, ExprClosure}
 use Rattle.syn_grammar.specs.Tree.{Tree, Alone, Front, Back, Infix}
 use Rattle.syn_grammar.specs.Forms.{front, back, is_path_form}
 use Rattle.syn_grammar.specs.Parens.{is_struct}
 use Rattle.expressions_back.specs.Behind.{is_attributed}
 use Rattle.expressions_back.specs.Formed.{is_attributed_form}
 use Rattle.grammar_back.specs.Covered.{has_form_step, is_form}
-use Rattle.read_back.specs.Parts.{ends_in_type}
+use Rattle.read_back.specs.Parts.{is_plain_part}
 use Rattle.grammar_back.proofs.Fits.{HasOperands, MayLack, MayHave}
 
 abbrev pub IsFrontOf : (Kind → Bool) → Kind → Type 0
@@ -22,9 +22,10 @@ abbrev pub HasOperandsOf : (Kind → Bool) → Tree → Type 0
 HasOperandsOf passes (Alone k y) = IsFrontOf passes k × MayLack k
 HasOperandsOf passes (Front k y x) =
     IsFrontOf passes k × MayHave k × (is_attributed k && is_attributed_form x ≡ false) × HasOperandsOf passes x
+    × (is_plain_part k y ≡ true)
 HasOperandsOf passes (Back l k y) =
     IsBackOf passes k × MayLack k × HasOperandsOf passes l × (is_struct k ≡ true → is_path_form l ≡ true)
-    × (ends_in_type k y ≡ true)
+    × (is_plain_part k y ≡ true)
 HasOperandsOf passes (Infix l k y r) =
     IsBackOf passes k × MayHave k × HasOperandsOf passes l × HasOperandsOf passes r
 HasOperandsOf passes x = ⊥
@@ -42,17 +43,18 @@ unfolding has_form_step
 none_attributed ExprAttributed x e = cc
 none_attributed _ x e = refl
 
-pub no_cast : (k : Kind) (y : Tree) → is_form k ≡ true → ends_in_type k y ≡ true
+pub plain_part : (k : Kind) (y : Tree) → is_form k ≡ true → is_plain_part k y ≡ true
 unfolding has_form_step
-no_cast ExprCast y e = cc
-no_cast _ y e = refl
+plain_part ExprCast y e = cc
+plain_part ExprClosure y e = cc
+plain_part _ y e = refl
 
 module _ (passes : Kind → Bool) (more : (k : Kind) → is_form k ≡ true → passes k ≡ true) where
   pub operands_of : (x : Tree) → HasOperands x → HasOperandsOf passes x
   operands_of (Alone k y) o = ((more k o.0.0, o.0.1, o.0.2, o.0.3), o.1)
   operands_of (Front k y x) o =
-      ((more k o.0.0, o.0.1, o.0.2, o.0.3), o.1, none_attributed k x o.0.0, operands_of x o.2)
+      ((more k o.0.0, o.0.1, o.0.2, o.0.3), o.1, none_attributed k x o.0.0, operands_of x o.2, plain_part k y o.0.0)
   operands_of (Back l k y) o =
-      ((more k o.0.0, o.0.1, o.0.2, o.0.3), o.1, operands_of l o.2, o.3, no_cast k y o.0.0)
+      ((more k o.0.0, o.0.1, o.0.2, o.0.3), o.1, operands_of l o.2, o.3, plain_part k y o.0.0)
   operands_of (Infix l k y r) o = ((more k o.0.0, o.0.1, o.0.2, o.0.3), o.1, operands_of l o.2, operands_of r o.3)
   operands_of _ o = absurd o

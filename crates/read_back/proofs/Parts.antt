@@ -13,7 +13,7 @@ use Rattle.syn_grammar.specs.Kind.{ExprUnary, ExprRawAddr}
 use Rattle.syn_grammar.specs.Kind.{ExprReference, ExprBreak, ExprReturn, ExprYield, ExprRange, ExprRangeClosed}
 use Rattle.syn_grammar.specs.Kind.{ExprAssign, ExprOr, ExprAnd, ExprCompare, ExprBitOr, ExprBitXor, ExprBitAnd}
 use Rattle.syn_grammar.specs.Kind.{ExprShift, ExprSum, ExprProduct, ExprMacro, ExprIf, ExprMatch, ExprWhile}
-use Rattle.syn_grammar.specs.Kind.{ExprAttributed, ExprCast}
+use Rattle.syn_grammar.specs.Kind.{ExprAttributed, ExprCast, ExprClosure}
 use Rattle.syn_grammar.specs.Kind.{ExprArray, ExprAsync, ExprBlock, ExprConst, ExprLet, ExprLoop, ExprRepeat}
 use Rattle.syn_grammar.specs.Tree.{Tree, Alone, Front, Back, Infix, marks, flat}
 use Rattle.syn_grammar.specs.Ranks.{skips}
@@ -43,8 +43,9 @@ use Rattle.grammar_back.proofs.Fits.{Fits, FitsForms, IsMeant, IsWhole, MayLack,
 use Rattle.grammar_back.proofs.Fits.{flat_kept}
 use Rattle.grammar_back.proofs.Readies.{OwnReady, Ready}
 use Rattle.grammar_back.proofs.Starts.{starts}
-use Rattle.read_back.specs.Parts.{ends_in_type, has_part}
+use Rattle.read_back.specs.Parts.{is_plain_part, has_part}
 use Rattle.read_back.proofs.Casts.{cast_part}
+use Rattle.read_back.proofs.Closures.{closure_part}
 use Rattle.read_back.proofs.Blocks.{block_part, is_block}
 use Rattle.read_back.proofs.Dots.{dot_own}
 use Rattle.read_back.proofs.Macros.{macro_part}
@@ -58,8 +59,12 @@ fronts_are : (p : Position) (k : Kind) (ts : List Token) → front p ts ≡ Some
 unfolding front
 fronts_are p k ts e = first_passes is_front (fronts p) ts k refl e
 
+abbrev is_closure : Kind → Bool
+is_closure ExprClosure = true
+is_closure k = false
+
 front_kind : (k : Kind) → has_part k ≡ true → is_front k ≡ true → may_have_operand k ≡ true
-    → (is_led k || (is_firm_front k || is_break k || is_reference k)) ≡ true
+    → (is_closure k || (is_led k || (is_firm_front k || is_break k || is_reference k))) ≡ true
 unfolding has_form_step may_lack level
 front_kind ExprUnary e f h = refl
 front_kind _ e f h = cc
@@ -165,6 +170,7 @@ before_nothing ExprMatch y e = tt
 before_nothing ExprWhile y e = tt
 before_nothing ExprAttributed y e = (refl, tt)
 before_nothing ExprCast y e = (refl, (refl, (refl, (refl, (refl, tt)))))
+before_nothing ExprClosure y e = tt
 before_nothing _ y e = cc
 
 pub own : (k : Kind) (y : Tree) → has_part k ≡ true → Fits y (table k) → OwnReady k y → normal (kept y) ≡ kept y
@@ -199,7 +205,7 @@ last_own k y m f i h w o = go (is_dot k) refl m
     go false e m = behind_part (BehindOperand k y) k y m o
 
 back_own : (k : Kind) (y : Tree) → (is_struct k || (is_cast k || (is_dot k || is_firm_behind k))) ≡ true
-    → ends_in_type k y ≡ true → Fits y (table k) → IsMeant k y → IsWhole k y → OwnReady k y → IsOwn k y
+    → is_plain_part k y ≡ true → Fits y (table k) → IsMeant k y → IsWhole k y → OwnReady k y → IsOwn k y
     → IsBehind (BehindOperand k y) k y
 back_own ExprStruct y m e f i h w o = struct_part y w o.1
 back_own ExprCast y m e f i h w o = cast_part y e w o.1
@@ -226,9 +232,11 @@ alone_own k y m f w o = go (is_started k) refl m
     go true e m = started_part AtEnd k y e (started_after k y e) w o.1
     go false e m = end_own k y m f w o
 
-front_own : (k : Kind) (y : Tree) → (is_led k || (is_firm_front k || is_break k || is_reference k)) ≡ true
-    → OwnReady k y → IsOwn k y → IsFront (BeforeOperand k y) k y
-front_own k y m w o = go (is_led k) refl m
+front_own : (k : Kind) (y : Tree)
+    → (is_closure k || (is_led k || (is_firm_front k || is_break k || is_reference k))) ≡ true
+    → is_plain_part k y ≡ true → Fits y (table k) → OwnReady k y → IsOwn k y → IsFront (BeforeOperand k y) k y
+front_own ExprClosure y m u f w o = closure_part y f u w o.1
+front_own k y m u f w o = go (is_led k) refl m
   where
     go : (b : Bool) → is_led k ≡ b → (b || (is_firm_front k || is_break k || is_reference k)) ≡ true
         → IsFront (BeforeOperand k y) k y
@@ -243,7 +251,7 @@ owned (Alone k y) h o w p ts s =
     (alone_own k y m h.1 w (own k y o.0.0 h.1 w s.0), l)
 owned (Front k y x) h o w p ts s =
     let m = front_kind k o.0.0 (fronts_are o.0.1 k o.0.2 o.0.3) (has_one k o.1) in (
-      front_own k y m w.0 (own k y o.0.0 h.1 w.0 s.0),
+      front_own k y m o.4 h.1 w.0 (own k y o.0.0 h.1 w.0 s.0),
       has_one k o.1,
       o.2,
       owned x h.3 o.3 w.1 (inside p k) ts s.3,
@@ -371,6 +379,9 @@ form_begins ExprWhile y s e f b =
     among (2 ∷ 10 ∷ []) (starts ExprWhile) (starts (Expression Plain)) (flat y ++ s) (refl, (refl, tt)) b
 form_begins ExprAttributed y s e f b =
     among (0 ∷ []) (starts ExprAttributed) (starts (Expression Plain)) (flat y ++ s) (refl, tt) b
+form_begins ExprClosure y s e f b =
+    among (11 ∷ 14 ∷ 12 ∷ 15 ∷ 13 ∷ 26 ∷ []) (starts ExprClosure) (starts (Expression Plain)) (flat y ++ s)
+    (refl, (refl, (refl, (refl, (refl, (refl, tt)))))) b
 form_begins _ y s e f b = cc
 
 own_begins : (k : Kind) (y : Tree) → IsFrontOf has_part k → OwnReady k y → (us : List Token)

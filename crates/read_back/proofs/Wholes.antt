@@ -11,7 +11,8 @@ use Rattle.syn_grammar.specs.Kind.{ExprTryBlock, ExprCall, ExprIndex, ExprTry, E
 use Rattle.syn_grammar.specs.Kind.{ExprBreak, ExprReturn, ExprYield, ExprRange, ExprRangeClosed, ExprAssign, ExprOr}
 use Rattle.syn_grammar.specs.Kind.{ExprAnd, ExprCompare, ExprBitOr, ExprBitXor, ExprBitAnd, ExprShift, ExprSum}
 use Rattle.syn_grammar.specs.Kind.{ExprProduct, ExprMacro, ExprIf, ExprMatch, ExprWhile, ExprCast}
-use Rattle.syn_grammar.specs.Tree.{Tree, Pair, End, Again, Node, Whole, Alone, Front, Back, Infix, flat}
+use Rattle.syn_grammar.specs.Kind.{ExprClosure}
+use Rattle.syn_grammar.specs.Tree.{Tree, Pair, First, Second, End, Again, Node, Whole, Alone, Front, Back, Infix, flat}
 use Rattle.syn_grammar.specs.Kind.{ExprArray, ExprAsync, ExprBlock, ExprConst, ExprLet, ExprLoop, ExprRepeat}
 use Rattle.syn_grammar.specs.Gram.{Gram, star, operand, ref}
 use Rattle.syn_grammar.specs.Table.{table}
@@ -39,9 +40,9 @@ use Rattle.grammar_back.specs.Covered.{has_step, has_form_step, inner, is_known,
 use Rattle.grammar_back.proofs.Dotted.{law_expr_await, law_expr_field, law_expr_method_call}
 use Rattle.grammar_back.proofs.Fits.{Fits, FitsForms, IsMeant, IsFormed, MayLack, MayHave, flat_kept}
 use Rattle.grammar_back.proofs.Printed.{OwnPrinted, Printed, WholeLaw}
-use Rattle.read_back.specs.Parts.{ends_in_type, has_part, has_parts_of, is_more}
+use Rattle.read_back.specs.Parts.{is_plain_part, has_part, has_parts_of, is_more}
 use Rattle.syn_grammar.specs.Parens.{ends_in_name}
-use Rattle.read_back.proofs.Operands.{HasOperandsOf, IsBackOf, no_cast, operands_are}
+use Rattle.read_back.proofs.Operands.{HasOperandsOf, IsBackOf, plain_part, operands_are}
 use Rattle.read_back.proofs.Indices.{dot_fits, dot_read, dotted_fits, dotted_keeps, dotted_operands}
 use Rattle.read_back.proofs.Split.{dotted_bare, dotted_kept}
 
@@ -63,14 +64,17 @@ both_parts a b c d f g e = let h = and_true a c e in ap (λ i. i && d) (f h.0) �
 covered_parts : (x : Tree) → is_covered x ≡ true → has_parts_of is_form x ≡ true
 covered_parts (Alone k y) c = c
 covered_parts (Front k y x) c =
-    no_range_here k x (is_covered y && has_parts_of is_form x)
-    (both_parts (is_form k) (is_form k) _ _ (λ e. e)
-    (λ e. both_parts (is_covered y) (is_covered y) _ _ (λ f. f) (λ f. covered_parts x f) e) c)
+    let a = and_true (is_form k) (is_covered y && is_covered x) c in
+    let b = and_true (is_covered y) (is_covered x) a.1 in
+    no_range_here k x (is_plain_part k (normal (kept y)) && (is_covered y && has_parts_of is_form x))
+    (ap (λ e. e && (is_plain_part k (normal (kept y)) && (is_covered y && has_parts_of is_form x))) a.0
+    ∙ ap (λ e. e && (is_covered y && has_parts_of is_form x)) (plain_part k (normal (kept y)) a.0)
+    ∙ ap (λ e. e && has_parts_of is_form x) b.0 ∙ covered_parts x b.1)
 covered_parts (Back l k y) c =
     let a = and_true (is_form k) (is_covered l && is_covered y) c in
     let b = and_true (is_covered l) (is_covered y) a.1 in
-    ap (λ e. e && (ends_in_type k (normal (kept y)) && (is_covered y && has_parts_of is_form l))) a.0
-    ∙ ap (λ e. e && (is_covered y && has_parts_of is_form l)) (no_cast k (normal (kept y)) a.0)
+    ap (λ e. e && (is_plain_part k (normal (kept y)) && (is_covered y && has_parts_of is_form l))) a.0
+    ∙ ap (λ e. e && (is_covered y && has_parts_of is_form l)) (plain_part k (normal (kept y)) a.0)
     ∙ ap (λ e. e && has_parts_of is_form l) b.1 ∙ covered_parts l b.0
 covered_parts (Infix l k y r) c =
     both_parts (is_form k) (is_form k) _ _ (λ e. e)
@@ -135,6 +139,7 @@ form_meant ExprMatch y e f = tt
 form_meant ExprWhile y e f = tt
 form_meant ExprAttributed y e f = tt
 form_meant ExprCast y e f = tt
+form_meant ExprClosure y e f = tt
 form_meant _ y e f = cc
 
 of_node : (k : Kind) (t z : Tree) → ((x : Tree) → forget k x ≡ x) → Fits t (ref k) → kept t ≡ Node (held k) z → Own k z
@@ -252,6 +257,7 @@ left_path p k l s i =
 pub record FrontParts (ks : Kind → Bool) (k : Kind) (y x : Tree) : Type 0 where
   pub passes : ks k ≡ true
   pub plain : is_attributed_range k x ≡ false
+  pub ends : is_plain_part k (normal (kept y)) ≡ true
   pub own : is_covered y ≡ true
   pub right : has_parts_of ks x ≡ true
 
@@ -260,12 +266,13 @@ pub front_parts : (ks : Kind → Bool) (k : Kind) (y x : Tree) → has_parts_of 
 front_parts ks k y x c =
     let a = and_true (ks k) _ c in
     let b = and_true (not (is_attributed_range k x)) _ a.1 in
-    let e = and_true (is_covered y) (has_parts_of ks x) b.1 in
-    record { passes = a.0; plain = not_true (is_attributed_range k x) b.0; own = e.0; right = e.1 }
+    let h = and_true (is_plain_part k (normal (kept y))) _ b.1 in
+    let e = and_true (is_covered y) (has_parts_of ks x) h.1 in
+    record { passes = a.0; plain = not_true (is_attributed_range k x) b.0; ends = h.0; own = e.0; right = e.1 }
 
 pub record BackParts (ks : Kind → Bool) (l : Tree) (k : Kind) (y : Tree) : Type 0 where
   pub passes : ks k ≡ true
-  pub ends : ends_in_type k (normal (kept y)) ≡ true
+  pub ends : is_plain_part k (normal (kept y)) ≡ true
   pub own : is_covered y ≡ true
   pub left : has_parts_of ks l ≡ true
 
@@ -273,7 +280,7 @@ pub back_parts : (ks : Kind → Bool) (l : Tree) (k : Kind) (y : Tree) → has_p
     → BackParts ks l k y
 back_parts ks l k y c =
     let a = and_true (ks k) _ c in
-    let b = and_true (ends_in_type k (normal (kept y))) _ a.1 in
+    let b = and_true (is_plain_part k (normal (kept y))) _ a.1 in
     let e = and_true (is_covered y) (has_parts_of ks l) b.1 in
     record { passes = a.0; ends = b.0; own = e.0; left = e.1 }
 
@@ -345,8 +352,18 @@ none_behind : (p : Position) (k : Kind) (y x : Tree) (r : List Token) → Bound 
 none_behind p ExprAttributed y x r d o = none_first x o (inside p ExprAttributed) r d.4 (no_hash y (flat x ++ r) d.1)
 none_behind p _ y x r d o = refl
 
--- a cast's type ends as what is held of it does
-same_end : (k : Kind) (y z : Tree) → Fits y (table k) → kept y ≡ z → ends_in_type k z ≡ true → ends_in_type k y ≡ true
+-- An own part is plain where what is held of it is.
+unbound_back : (y : Tree) → Fits y (table ExprClosure) → is_plain_part ExprClosure (kept y) ≡ true
+    → is_plain_part ExprClosure y ≡ true
+unfolding table
+unbound_back (Pair (Second b) z) f e = refl
+unbound_back (Pair (First b) z) f e = cc
+unbound_back (Pair _ z) f e = absurd f.0
+unbound_back _ f e = absurd f
+
+same_end : (k : Kind) (y z : Tree) → Fits y (table k) → kept y ≡ z → is_plain_part k z ≡ true → is_plain_part k y ≡ true
+same_end ExprClosure y z f e h =
+    unbound_back y f (ap (is_plain_part ExprClosure) e ∙ h)
 same_end ExprCast y z f e h = ap ends_in_name (sym (flat_kept y (table ExprCast) f) ∙ ap flat e) ∙ h
 same_end _ y z f e h = refl
 
@@ -406,7 +423,7 @@ module _ (passes : Kind → Bool) (part : (k : Kind) → passes k ≡ true → h
 
   module _ (fields : passes ExprField ≡ true) where
     back_operands : (k : Kind) (l y : Tree) → Fits y (table k) → IsBackOf passes k → MayLack k
-        → HasOperandsOf passes l → (is_struct k ≡ true → is_path_form l ≡ true) → ends_in_type k y ≡ true
+        → HasOperandsOf passes l → (is_struct k ≡ true → is_path_form l ≡ true) → is_plain_part k y ≡ true
         → HasOperandsOf passes (dotted l k y)
     back_operands k l y f b m g h e = go (is_dot k) refl
       where
@@ -426,6 +443,7 @@ module _ (passes : Kind → Bool) (part : (k : Kind) → passes k ≡ true → h
           has_one p k (flat x ++ r) d.2,
           none_behind p k y x r d o.1,
           remade_operands x o.1 (inside p k) r d.4 a.right,
+          same_end k o.0.tree (normal (kept y)) o.0.fits o.0.kept_is a.ends,
         )
     remade_operands (Back l k y) o p r d c =
         let a = back_parts passes l k y c in

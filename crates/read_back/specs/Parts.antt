@@ -1,10 +1,11 @@
 -- Expressions whose own parts are covered, of all kinds of forms of which it is proved that their own parts are read
 -- wherever their forms may stand: more kinds than `grammar_back` asks for (`has_form_step`). Own parts that hold an
 -- expression in a condition, as those of if, match and while do, are covered by nothing yet. The type of a cast ends in
--- a name: before < another type is not yet proved to end.
+-- a name: before < another type is not yet proved to end. Before a closure stands no for: with attributes behind the <
+-- it would be none.
 use Rattle.std.specs.Prelude.{Bool, true, false, not, ◌&&◌, ◌||◌}
-use Rattle.syn_grammar.specs.Kind.{Kind, ExprAttributed, ExprCast, ExprIf, ExprMacro, ExprMatch, ExprWhile}
-use Rattle.syn_grammar.specs.Tree.{Tree, Alone, Front, Back, Infix, flat}
+use Rattle.syn_grammar.specs.Kind.{Kind, ExprAttributed, ExprCast, ExprClosure, ExprIf, ExprMacro, ExprMatch, ExprWhile}
+use Rattle.syn_grammar.specs.Tree.{Tree, Pair, Second, Alone, Front, Back, Infix, flat}
 use Rattle.syn_grammar.specs.Kept.{kept}
 use Rattle.syn_grammar.specs.Normal.{normal}
 use Rattle.syn_grammar.specs.Parens.{ends_in_name, is_attributed_range}
@@ -17,23 +18,27 @@ is_more ExprMatch = true
 is_more ExprWhile = true
 is_more ExprAttributed = true
 is_more ExprCast = true
+is_more ExprClosure = true
 is_more k = false
 
 abbrev pub has_part : Kind → Bool
 has_part k = is_form k || is_more k
 
--- of a form's own part, in normal form: it is no cast, or its type ends in a name
-abbrev pub ends_in_type : Kind → Tree → Bool
-ends_in_type ExprCast y = ends_in_name (flat y)
-ends_in_type k y = true
+-- of a form's own part, in normal form: the type of a cast ends in a name, and no for stands before a closure
+abbrev pub is_plain_part : Kind → Tree → Bool
+is_plain_part ExprCast y = ends_in_name (flat y)
+is_plain_part ExprClosure (Pair (Second b) y) = true
+is_plain_part ExprClosure y = false
+is_plain_part k y = true
 
 -- The forms of an expression are of kinds that pass, what stands in their own parts is covered, and no range stands
 -- behind attributes: it would be put in parentheses.
 abbrev pub has_parts_of : (Kind → Bool) → Tree → Bool
 has_parts_of passes (Alone k y) = passes k && is_covered y
 has_parts_of passes (Front k y x) =
-    passes k && (not (is_attributed_range k x) && (is_covered y && has_parts_of passes x))
+    passes k && (not (is_attributed_range k x)
+    && (is_plain_part k (normal (kept y)) && (is_covered y && has_parts_of passes x)))
 has_parts_of passes (Back l k y) =
-    passes k && (ends_in_type k (normal (kept y)) && (is_covered y && has_parts_of passes l))
+    passes k && (is_plain_part k (normal (kept y)) && (is_covered y && has_parts_of passes l))
 has_parts_of passes (Infix l k y r) = passes k && (is_covered y && (has_parts_of passes l && has_parts_of passes r))
 has_parts_of passes x = true
