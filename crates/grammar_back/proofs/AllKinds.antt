@@ -1,27 +1,28 @@
 -- The steps of all covered kinds, and what is known of each. Written by tools/steps.py.
 use Rattle.std.proofs.Common.{◌≡◌, refl}
 use Rattle.std.specs.Prelude.{true, false}
-use Rattle.syn_grammar.specs.Kind.{Kind, AConst, AConstTrait, AFieldValue, AFile, AForeignModule, AFunction, ALet}
-use Rattle.syn_grammar.specs.Kind.{AMacro, AMacroDefinition, AModule, ARestrictedTrait, AStatement, AStatic}
-use Rattle.syn_grammar.specs.Kind.{AStruct, ATrait, ATraitItem, AType, ATypeAlias, AUnion, AUse, Abi, AnArgument}
-use Rattle.syn_grammar.specs.Kind.{AnEnum, AnExternCrate, AnImpl, AnImplItem, AnItem, AnyPath, Arguments, Arms}
-use Rattle.syn_grammar.specs.Kind.{AtType, Block, Body, Bound, BoundLifetimes, Bounds, BoundsColon, BracketType}
-use Rattle.syn_grammar.specs.Kind.{ClosureParam, ConstParam, Delimited, DynType, ExprAnd, ExprArray, ExprAssign}
-use Rattle.syn_grammar.specs.Kind.{ExprAsync, ExprAttributed, ExprAwait, ExprBitAnd, ExprBitOr, ExprBitXor}
-use Rattle.syn_grammar.specs.Kind.{ExprBlock, ExprBreak, ExprCall, ExprCast, ExprClosure, ExprCompare, ExprConst}
-use Rattle.syn_grammar.specs.Kind.{ExprContinue, ExprField, ExprForLoop, ExprGroup, ExprIf, ExprIndex, ExprInfer}
-use Rattle.syn_grammar.specs.Kind.{ExprLet, ExprLit, ExprLoop, ExprMacro, ExprMatch, ExprMethodCall, ExprOr}
-use Rattle.syn_grammar.specs.Kind.{ExprParen, ExprPath, ExprProduct, ExprRange, ExprRangeClosed, ExprRawAddr}
-use Rattle.syn_grammar.specs.Kind.{ExprReference, ExprRepeat, ExprReturn, ExprShift, ExprStruct, ExprSum, ExprTry}
-use Rattle.syn_grammar.specs.Kind.{ExprTryBlock, ExprTypedClosure, ExprUnary, ExprUnsafe, ExprWhile, ExprYield}
-use Rattle.syn_grammar.specs.Kind.{FieldPattern, FieldPatterns, FieldValue, FieldValues, FnArg, FnPtrArg}
-use Rattle.syn_grammar.specs.Kind.{FnPtrType, ForeignItems, GenericParam, GenericParams, Generics, IdentPattern}
-use Rattle.syn_grammar.specs.Kind.{ImplGenerics, ImplItems, ImplType, InExpression, InFile, InForeign, InImpl}
-use Rattle.syn_grammar.specs.Kind.{InModule, InTrait, InType, Index, InferType, InnerAttribute, InnerAttributes}
-use Rattle.syn_grammar.specs.Kind.{ItemMacro, Items, Label, LifetimeColon, LifetimeParam, Lifetimes}
-use Rattle.syn_grammar.specs.Kind.{LiteralPattern, Member, Meta, NamedField, NamedFields, NeverType, OnePattern}
-use Rattle.syn_grammar.specs.Kind.{OuterAttribute, OuterAttributes, Parameter, Parameters, ParenthesizedArguments}
-use Rattle.syn_grammar.specs.Kind.{Path, PathPattern, Pattern, PointerType, QualifiedPath, RangeBound, RangeEnd}
+use Rattle.syn_grammar.specs.Kind.{Kind, AConst, AConstTrait, AFieldValue, AFile, AForeignItem, AForeignModule}
+use Rattle.syn_grammar.specs.Kind.{AFunction, ALet, AMacro, AMacroDefinition, AModule, ARestrictedTrait}
+use Rattle.syn_grammar.specs.Kind.{AStatement, AStatic, AStruct, ATrait, ATraitItem, AType, ATypeAlias, AUnion}
+use Rattle.syn_grammar.specs.Kind.{AUse, Abi, AnArgument, AnEnum, AnExternCrate, AnImpl, AnImplItem, AnItem}
+use Rattle.syn_grammar.specs.Kind.{AnyPath, Arguments, Arms, AtType, Block, Body, Bound, BoundLifetimes, Bounds}
+use Rattle.syn_grammar.specs.Kind.{BoundsColon, BracketType, ClosureParam, ConstParam, Delimited, DynType}
+use Rattle.syn_grammar.specs.Kind.{ExprAnd, ExprArray, ExprAssign, ExprAsync, ExprAttributed, ExprAwait}
+use Rattle.syn_grammar.specs.Kind.{ExprBitAnd, ExprBitOr, ExprBitXor, ExprBlock, ExprBreak, ExprCall, ExprCast}
+use Rattle.syn_grammar.specs.Kind.{ExprClosure, ExprCompare, ExprConst, ExprContinue, ExprField, ExprForLoop}
+use Rattle.syn_grammar.specs.Kind.{ExprGroup, ExprIf, ExprIndex, ExprInfer, ExprLet, ExprLit, ExprLoop, ExprMacro}
+use Rattle.syn_grammar.specs.Kind.{ExprMatch, ExprMethodCall, ExprOr, ExprParen, ExprPath, ExprProduct, ExprRange}
+use Rattle.syn_grammar.specs.Kind.{ExprRangeClosed, ExprRawAddr, ExprReference, ExprRepeat, ExprReturn, ExprShift}
+use Rattle.syn_grammar.specs.Kind.{ExprStruct, ExprSum, ExprTry, ExprTryBlock, ExprTypedClosure, ExprUnary}
+use Rattle.syn_grammar.specs.Kind.{ExprUnsafe, ExprWhile, ExprYield, FieldPattern, FieldPatterns, FieldValue}
+use Rattle.syn_grammar.specs.Kind.{FieldValues, FnArg, FnPtrArg, FnPtrType, ForeignItems, GenericParam}
+use Rattle.syn_grammar.specs.Kind.{GenericParams, Generics, IdentPattern, ImplGenerics, ImplItems, ImplType}
+use Rattle.syn_grammar.specs.Kind.{InExpression, InFile, InForeign, InImpl, InModule, InTrait, InType, Index}
+use Rattle.syn_grammar.specs.Kind.{InferType, InnerAttribute, InnerAttributes, ItemMacro, Items, Label}
+use Rattle.syn_grammar.specs.Kind.{LifetimeColon, LifetimeParam, Lifetimes, LiteralPattern, Member, Meta}
+use Rattle.syn_grammar.specs.Kind.{NamedField, NamedFields, NeverType, OnePattern, OuterAttribute}
+use Rattle.syn_grammar.specs.Kind.{OuterAttributes, Parameter, Parameters, ParenthesizedArguments, Path}
+use Rattle.syn_grammar.specs.Kind.{PathPattern, Pattern, PointerType, QualifiedPath, RangeBound, RangeEnd}
 use Rattle.syn_grammar.specs.Kind.{RangeToPattern, Receiver, ReferencePattern, ReferenceType, RestPattern}
 use Rattle.syn_grammar.specs.Kind.{ReturnType, Segment, Segments, SeveralPatterns, Signature, SlicePattern}
 use Rattle.syn_grammar.specs.Kind.{SomeBounds, Statements, TraitItems, TraitPath, TuplePattern, TupleType}
@@ -53,6 +54,7 @@ use Rattle.grammar_back.proofs.Turns.{law_statements, law_items, law_foreign_ite
 use Rattle.grammar_back.proofs.Turns.{law_impl_items, law_arms}
 use Rattle.grammar_back.proofs.Impls.{law_an_impl}
 use Rattle.grammar_back.proofs.WholeItems.{law_an_item}
+use Rattle.grammar_back.proofs.ForeignItems.{law_a_foreign_item}
 use Rattle.grammar_back.proofs.Members.{law_a_trait_item, law_an_impl_item}
 use Rattle.grammar_back.proofs.Dotted.{law_expr_method_call, law_expr_field, law_expr_await}
 use Rattle.grammar_back.proofs.StepsOfPaths.{step_path_in_module, step_path_in_expression, step_path_in_type}
@@ -113,6 +115,7 @@ use Rattle.grammar_back.proofs.Turns.{step_statements, step_items, step_foreign_
 use Rattle.grammar_back.proofs.Turns.{step_impl_items, step_arms}
 use Rattle.grammar_back.proofs.Impls.{step_an_impl}
 use Rattle.grammar_back.proofs.WholeItems.{step_an_item}
+use Rattle.grammar_back.proofs.ForeignItems.{step_a_foreign_item}
 use Rattle.grammar_back.proofs.Members.{step_a_trait_item, step_an_impl_item}
 use Rattle.grammar_back.proofs.StepsOfExpressions.{step_expr_lit, step_expr_path, step_expr_macro}
 use Rattle.grammar_back.proofs.StepsOfExpressions.{step_expr_paren, step_expr_array, step_expr_repeat}
@@ -273,6 +276,7 @@ steps AConstTrait e = step_a_const_trait
 steps ARestrictedTrait e = step_a_restricted_trait
 steps AnImpl e = step_an_impl
 steps AnItem e = step_an_item
+steps AForeignItem e = step_a_foreign_item
 steps ATraitItem e = step_a_trait_item
 steps AnImplItem e = step_an_impl_item
 steps AFile e = step_a_file
@@ -506,6 +510,7 @@ laws AConstTrait e = simple_kind AConstTrait refl (λ x. tt) (λ x. refl) (λ x.
 laws ARestrictedTrait e = law_restricted_trait
 laws AnImpl e = law_an_impl
 laws AnItem e = law_an_item
+laws AForeignItem e = law_a_foreign_item
 laws ATraitItem e = law_a_trait_item
 laws AnImplItem e = law_an_impl_item
 laws AFile e = simple_kind AFile refl (λ x. tt) (λ x. refl) (λ x. refl) (λ q. refl) (λ q. refl) refl

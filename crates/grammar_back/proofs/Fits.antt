@@ -10,7 +10,8 @@ use Rattle.rust_leaf.specs.declared.punct.Spacing.TheVariants.{Alone as Apart}
 use Rattle.syn_grammar.specs.Kind.{Kind, Position, Plain, DynType, ImplType, WithoutPlus, OnePattern, IdentPattern}
 use Rattle.syn_grammar.specs.Kind.{PathPattern, ReferencePattern, InExpression, Parameter, Segment, Segments}
 use Rattle.syn_grammar.specs.Kind.{ATypeAlias, FnPtrType, InFile, InForeign, WherePredicate}
-use Rattle.syn_grammar.specs.Kind.{AConst, ALet, AStatement, AnImpl, AnItem, NeverType, UnnamedField, Meta}
+use Rattle.syn_grammar.specs.Kind.{AConst, AForeignItem, ALet, AStatement, AnImpl, AnItem, NeverType, UnnamedField}
+use Rattle.syn_grammar.specs.Kind.{Meta}
 use Rattle.syn_grammar.specs.Kind.{AConstTrait, AForeignModule, AMacroDefinition, AModule, ARestrictedTrait, AStatic}
 use Rattle.syn_grammar.specs.Kind.{AStruct, ATrait, ATraitItem, AUnion, AnImplItem, AUse, AnEnum, AnExternCrate}
 use Rattle.syn_grammar.specs.Kind.{ItemMacro}
@@ -246,6 +247,7 @@ IsMeant AnImpl x = IsOwnImpl (behind_impl (kept x))
 IsMeant AnItem x = IsItem (item_of x)
 IsMeant ALet x = has the_else x ≡ false
 IsMeant AStatement x = is_let_form x ≡ true
+IsMeant AForeignItem x = is_no_macro (choice (item_of x)) ≡ true
 IsMeant ATraitItem x = is_no_macro (choice (item_of x)) ≡ true
 IsMeant AnImplItem x = is_no_macro (choice (item_of x)) ≡ true
 IsMeant ExprField x = (has_dots (front x) ≡ true) × (has_last (back x) ≡ true)

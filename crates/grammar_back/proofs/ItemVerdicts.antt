@@ -337,16 +337,16 @@ clause_normal : (q : Position) (x : Tree) → is_where x ≡ false → is_where 
 clause_normal q (Node Where x) e = has_tidied the_clause is_bare_where (passed Where q) x e
 clause_normal q _ e = e
 
-bounded_read : (x : Tree) (r : List Token) → Derives x (ref BoundsColon) r → is_bounded x ≡ false
+pub bounded_read : (x : Tree) (r : List Token) → Derives x (ref BoundsColon) r → is_bounded x ≡ false
     → is_bounded (kept x) ≡ false
 unfolding held
 bounded_read = part_read is_bounded BoundsColon the_bounds (λ x. refl) (λ x. refl)
 
-bounded_fits : (w : Tree) → Fits w (ref BoundsColon) → is_bounded (kept w) ≡ false → is_bounded w ≡ false
+pub bounded_fits : (w : Tree) → Fits w (ref BoundsColon) → is_bounded (kept w) ≡ false → is_bounded w ≡ false
 unfolding held
 bounded_fits = part_fits is_bounded BoundsColon the_bounds (λ x. refl) (λ x. refl)
 
-bounded_normal : (q : Position) (x : Tree) → is_bounded x ≡ false → is_bounded (normal_in q x) ≡ false
+pub bounded_normal : (q : Position) (x : Tree) → is_bounded x ≡ false → is_bounded (normal_in q x) ≡ false
 bounded_normal q (Node BoundsColon x) e = has_tidied the_bounds is_bare_colon (passed BoundsColon q) x e
 bounded_normal q _ e = e
 
@@ -399,7 +399,7 @@ commuted n x y = go (found n x) (found n y)
     go (Some x) None = refl
     go (Some x) (Some y) = refl
 
-has_moved : (n : Part) (x : Tree) → has n (moved x) ≡ has n x
+pub has_moved : (n : Part) (x : Tree) → has n (moved x) ≡ has n x
 has_moved n (First (Pair w d)) = go (is_absent w)
   where
     go : (b : Bool) → has n (cond b (Second (Pair d w)) (First (Pair w d))) ≡ has n (First (Pair w d))
@@ -407,7 +407,7 @@ has_moved n (First (Pair w d)) = go (is_absent w)
     go false = refl
 has_moved n _ = refl
 
-bounded_moved : (x : Tree) → is_bounded x ≡ false → is_bounded (moved x) ≡ false
+pub bounded_moved : (x : Tree) → is_bounded x ≡ false → is_bounded (moved x) ≡ false
 bounded_moved (First (Pair w d)) e = go (is_absent w)
   where
     go : (b : Bool) → is_bounded (cond b (Second (Pair d w)) (First (Pair w d))) ≡ false
@@ -415,7 +415,7 @@ bounded_moved (First (Pair w d)) e = go (is_absent w)
     go false = refl
 bounded_moved _ e = e
 
-alias_tree : (p : Tree → Bool) (n : Part) (q : Position) (g : Gram) (y v : Tree) (r : List Token) → EachRead n p g
+pub alias_tree : (p : Tree → Bool) (n : Part) (q : Position) (g : Gram) (y v : Tree) (r : List Token) → EachRead n p g
     → EachFits n p g → ((q : Position) (x : Tree) → p x ≡ false → p (normal_in q x) ≡ false)
     → ((x : Tree) → p x ≡ false → p (moved x) ≡ false) → Derives y g r → Fits v g
     → kept v ≡ changed the_value moved (normal_in q (kept y)) → p (the n y) ≡ false → p (the n v) ≡ false

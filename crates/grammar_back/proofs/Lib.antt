@@ -47,6 +47,7 @@ pub mod ItemPlaces
 pub mod ItemVerdicts
 pub mod WholeItems
 pub mod Members
+pub mod ForeignItems
 pub mod Lets
 pub mod Turns
 pub mod Impls

@@ -95,7 +95,7 @@ signed_impl (Pair (Node k s) y) r d =
 signed_impl (Pair _ y) r d = absurd d.0
 signed_impl _ r d = absurd d
 
-not_macro : (p : Place) (x : Tree) → Fits x (ref (ItemMacro p)) → is_no_macro (choice x) ≡ true → ⊥
+pub not_macro : (p : Place) (x : Tree) → Fits x (ref (ItemMacro p)) → is_no_macro (choice x) ≡ true → ⊥
 not_macro p (Node k x) f e =
     contrary false (subst (λ j. is_no_macro (Node j x) ≡ true) f.0 e) refl
 not_macro p _ f e = absurd f
@@ -234,7 +234,7 @@ step_an_impl_item =
     (fine_judged {A = MemberEdge} {F = At (starts AnImplItem)} fine_impl_item) (λ x s c. c.1) (λ x s i c. i))
 
 -- Where a form is kept, it is kept as it is printed.
-abbrev SameMember : Place → Tree → Tree → Type 0
+abbrev pub SameMember : Place → Tree → Tree → Type 0
 SameMember p x w =
     ((b : Bool) → form_in p b x ≡ Keep → form_in p b w ≡ Keep) × (is_no_macro w ≡ is_no_macro x)
 
@@ -290,7 +290,7 @@ the_item_is k o n v d m y e f h =
     ∙ ap (λ j. the the_item (Pair (Node k o) (Pair (Called the_visibility v) (Pair d (Called j y))))) f
     ∙ item_part d y h
 
-the_visibility_is : (k : Kind) (o : Tree) (n : Part) (v z : Tree) → n ≡ the_visibility
+pub the_visibility_is : (k : Kind) (o : Tree) (n : Part) (v z : Tree) → n ≡ the_visibility
     → the the_visibility (Pair (Node k o) (Pair (Called n v) z)) ≡ v
 unfolding same_part
 the_visibility_is k o n v z e = ap (λ j. the the_visibility (Pair (Node k o) (Pair (Called j v) z))) e

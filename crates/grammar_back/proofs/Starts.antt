@@ -3,28 +3,29 @@ use Rattle.proc_macro2.specs.declared.delimiter.Delimiter.TheVariants as D
 use Rattle.grammar_back.proofs.Classes.{Sign, TheWord, AnyWord, Quoted, Tick, Opening, Then, Class}
 use Rattle.proc_macro2.specs.declared.delimiter.Delimiter.TheVariants.{Parenthesis, Brace, Bracket}
 use Rattle.std.specs.Prelude.{codes, List, [], ◌∷◌}
-use Rattle.syn_grammar.specs.Kind.{Kind, AConst, AConstTrait, AFieldValue, AFile, AForeignModule, AFunction, ALet}
-use Rattle.syn_grammar.specs.Kind.{AMacro, AMacroDefinition, AModule, ARestrictedTrait, AStatement, AStatic}
-use Rattle.syn_grammar.specs.Kind.{AStruct, ATrait, ATraitItem, AType, ATypeAlias, AUnion, AUse, Abi, AnArgument}
-use Rattle.syn_grammar.specs.Kind.{AnEnum, AnExternCrate, AnImpl, AnImplItem, AnItem, AnyPath, Arguments, AtType}
-use Rattle.syn_grammar.specs.Kind.{Block, Body, Bound, BoundLifetimes, Bounds, BoundsColon, BracketType}
-use Rattle.syn_grammar.specs.Kind.{ClosureParam, ConstParam, Delimited, DynType, ExprAnd, ExprArray, ExprAssign}
-use Rattle.syn_grammar.specs.Kind.{ExprAsync, ExprAttributed, ExprAwait, ExprBitAnd, ExprBitOr, ExprBitXor}
-use Rattle.syn_grammar.specs.Kind.{ExprBlock, ExprBreak, ExprCall, ExprCast, ExprClosure, ExprCompare, ExprConst}
-use Rattle.syn_grammar.specs.Kind.{ExprContinue, ExprField, ExprForLoop, ExprGroup, ExprIf, ExprIndex, ExprInfer}
-use Rattle.syn_grammar.specs.Kind.{ExprLet, ExprLit, ExprLoop, ExprMacro, ExprMatch, ExprMethodCall, ExprOr}
-use Rattle.syn_grammar.specs.Kind.{ExprParen, ExprPath, ExprProduct, ExprRange, ExprRangeClosed, ExprRawAddr}
-use Rattle.syn_grammar.specs.Kind.{ExprReference, ExprRepeat, ExprReturn, ExprShift, ExprStruct, ExprSum, ExprTry}
-use Rattle.syn_grammar.specs.Kind.{ExprTryBlock, ExprTypedClosure, ExprUnary, ExprUnsafe, ExprWhile, ExprYield}
-use Rattle.syn_grammar.specs.Kind.{Expression, FieldPattern, FieldPatterns, FieldValue, FieldValues, FnArg}
-use Rattle.syn_grammar.specs.Kind.{FnPtrArg, FnPtrType, GenericParam, GenericParams, Generics, IdentPattern}
-use Rattle.syn_grammar.specs.Kind.{ImplGenerics, ImplItems, ImplType, InArm, InCondition, InExpression, InFile}
-use Rattle.syn_grammar.specs.Kind.{InForeign, InImpl, InModule, InStatement, InTrait, InType, Index, InferType}
-use Rattle.syn_grammar.specs.Kind.{InnerAttribute, InnerAttributes, ItemMacro, Items, Label, LifetimeColon}
-use Rattle.syn_grammar.specs.Kind.{LifetimeParam, Lifetimes, LiteralPattern, Member, Meta, NamedField}
-use Rattle.syn_grammar.specs.Kind.{NamedFields, NeverType, OnePattern, OuterAttribute, OuterAttributes, Parameter}
-use Rattle.syn_grammar.specs.Kind.{Parameters, ParenthesizedArguments, Path, PathPattern, Pattern, Plain}
-use Rattle.syn_grammar.specs.Kind.{PointerType, QualifiedPath, RangeBound, RangeEnd, RangeToPattern, Receiver}
+use Rattle.syn_grammar.specs.Kind.{Kind, AConst, AConstTrait, AFieldValue, AFile, AForeignItem, AForeignModule}
+use Rattle.syn_grammar.specs.Kind.{AFunction, ALet, AMacro, AMacroDefinition, AModule, ARestrictedTrait}
+use Rattle.syn_grammar.specs.Kind.{AStatement, AStatic, AStruct, ATrait, ATraitItem, AType, ATypeAlias, AUnion}
+use Rattle.syn_grammar.specs.Kind.{AUse, Abi, AnArgument, AnEnum, AnExternCrate, AnImpl, AnImplItem, AnItem}
+use Rattle.syn_grammar.specs.Kind.{AnyPath, Arguments, AtType, Block, Body, Bound, BoundLifetimes, Bounds}
+use Rattle.syn_grammar.specs.Kind.{BoundsColon, BracketType, ClosureParam, ConstParam, Delimited, DynType}
+use Rattle.syn_grammar.specs.Kind.{ExprAnd, ExprArray, ExprAssign, ExprAsync, ExprAttributed, ExprAwait}
+use Rattle.syn_grammar.specs.Kind.{ExprBitAnd, ExprBitOr, ExprBitXor, ExprBlock, ExprBreak, ExprCall, ExprCast}
+use Rattle.syn_grammar.specs.Kind.{ExprClosure, ExprCompare, ExprConst, ExprContinue, ExprField, ExprForLoop}
+use Rattle.syn_grammar.specs.Kind.{ExprGroup, ExprIf, ExprIndex, ExprInfer, ExprLet, ExprLit, ExprLoop, ExprMacro}
+use Rattle.syn_grammar.specs.Kind.{ExprMatch, ExprMethodCall, ExprOr, ExprParen, ExprPath, ExprProduct, ExprRange}
+use Rattle.syn_grammar.specs.Kind.{ExprRangeClosed, ExprRawAddr, ExprReference, ExprRepeat, ExprReturn, ExprShift}
+use Rattle.syn_grammar.specs.Kind.{ExprStruct, ExprSum, ExprTry, ExprTryBlock, ExprTypedClosure, ExprUnary}
+use Rattle.syn_grammar.specs.Kind.{ExprUnsafe, ExprWhile, ExprYield, Expression, FieldPattern, FieldPatterns}
+use Rattle.syn_grammar.specs.Kind.{FieldValue, FieldValues, FnArg, FnPtrArg, FnPtrType, ForeignItems}
+use Rattle.syn_grammar.specs.Kind.{GenericParam, GenericParams, Generics, IdentPattern, ImplGenerics, ImplItems}
+use Rattle.syn_grammar.specs.Kind.{ImplType, InArm, InCondition, InExpression, InFile, InForeign, InImpl}
+use Rattle.syn_grammar.specs.Kind.{InModule, InStatement, InTrait, InType, Index, InferType, InnerAttribute}
+use Rattle.syn_grammar.specs.Kind.{InnerAttributes, ItemMacro, Items, Label, LifetimeColon, LifetimeParam}
+use Rattle.syn_grammar.specs.Kind.{Lifetimes, LiteralPattern, Member, Meta, NamedField, NamedFields, NeverType}
+use Rattle.syn_grammar.specs.Kind.{OnePattern, OuterAttribute, OuterAttributes, Parameter, Parameters}
+use Rattle.syn_grammar.specs.Kind.{ParenthesizedArguments, Path, PathPattern, Pattern, Plain, PointerType}
+use Rattle.syn_grammar.specs.Kind.{QualifiedPath, RangeBound, RangeEnd, RangeToPattern, Receiver}
 use Rattle.syn_grammar.specs.Kind.{ReferencePattern, ReferenceType, RestPattern, ReturnType, Segment, Segments}
 use Rattle.syn_grammar.specs.Kind.{SeveralPatterns, Signature, SlicePattern, SomeBounds, Statements, TraitItems}
 use Rattle.syn_grammar.specs.Kind.{TraitPath, TuplePattern, TupleType, TypeParam, UnnamedField, UnnamedFields}
@@ -464,6 +465,10 @@ starts Items = Then 35 [] (Opening Bracket) ∷ TheWord (codes "pub") ∷ TheWor
     (codes "use") ∷ TheWord (codes "static") ∷ TheWord (codes "mod") ∷ TheWord (codes "type") ∷ TheWord
     (codes "struct") ∷ TheWord (codes "enum") ∷ TheWord (codes "union") ∷ TheWord (codes "auto") ∷ TheWord
     (codes "trait") ∷ TheWord (codes "default") ∷ TheWord (codes "impl") ∷ []
+starts ForeignItems = Then 35 [] (Opening Bracket) ∷ TheWord (codes "pub") ∷ TheWord (codes "const") ∷ TheWord
+    (codes "async") ∷ TheWord (codes "unsafe") ∷ TheWord (codes "safe") ∷ TheWord (codes "extern") ∷ TheWord
+    (codes "fn") ∷ TheWord (codes "unsafe") ∷ TheWord (codes "safe") ∷ TheWord (codes "static") ∷ TheWord
+    (codes "type") ∷ []
 starts TraitItems = Then 35 [] (Opening Bracket) ∷ TheWord (codes "pub") ∷ TheWord (codes "default") ∷ TheWord
     (codes "const") ∷ TheWord (codes "async") ∷ TheWord (codes "unsafe") ∷ TheWord (codes "extern") ∷ TheWord
     (codes "fn") ∷ TheWord (codes "const") ∷ TheWord (codes "type") ∷ []
@@ -483,6 +488,10 @@ starts AnItem = Then 35 [] (Opening Bracket) ∷ TheWord (codes "pub") ∷ TheWo
     (codes "use") ∷ TheWord (codes "static") ∷ TheWord (codes "mod") ∷ TheWord (codes "type") ∷ TheWord
     (codes "struct") ∷ TheWord (codes "enum") ∷ TheWord (codes "union") ∷ TheWord (codes "auto") ∷ TheWord
     (codes "trait") ∷ TheWord (codes "default") ∷ TheWord (codes "impl") ∷ []
+starts AForeignItem = Then 35 [] (Opening Bracket) ∷ TheWord (codes "pub") ∷ TheWord (codes "const") ∷ TheWord
+    (codes "async") ∷ TheWord (codes "unsafe") ∷ TheWord (codes "safe") ∷ TheWord (codes "extern") ∷ TheWord
+    (codes "fn") ∷ TheWord (codes "unsafe") ∷ TheWord (codes "safe") ∷ TheWord (codes "static") ∷ TheWord
+    (codes "type") ∷ []
 starts ATraitItem = Then 35 [] (Opening Bracket) ∷ TheWord (codes "pub") ∷ TheWord (codes "default") ∷ TheWord
     (codes "const") ∷ TheWord (codes "async") ∷ TheWord (codes "unsafe") ∷ TheWord (codes "extern") ∷ TheWord
     (codes "fn") ∷ TheWord (codes "const") ∷ TheWord (codes "type") ∷ []

@@ -722,7 +722,7 @@ step_a_foreign_module = found_step AForeignModule refl refl
     (found_group (maybe_ended
     (maybe_both (maybe_ref InnerAttributes refl)
     (weaken_maybe ((no the_end) ∷ (marks "#" then marks "!") ∷ []) (maybe_ref ForeignItems refl) (λ s a. (a.0, tt)))
-    (tt, tt) (λ s a. (a.1.0, tt))) (refl, (refl, tt)))) ((λ us. refl, tt), tt)) ((λ us. refl, tt), tt))
+    ((search), tt) (λ s a. (a.1.0, tt))) (refl, (refl, tt)))) ((λ us. refl, tt), tt)) ((λ us. refl, tt), tt))
 
 pub step_a_macro_definition : Step AMacroDefinition
 unfolding table skips is_path_keyword is_plain_name is_bool is_name

@@ -1,5 +1,5 @@
 -- The steps and the laws of lists that go to the end, of turns that have a step: of statements these are lone
--- semicolons and lets, of items those of files, traits and impls, and of arms none.
+-- semicolons and lets, of items all, and of arms none.
 use Rattle.std.proofs.Common.{◌≡◌, List, [], ◌∷◌, ◌++◌, refl, sym, ap, ◌∙◌, subst, inl, inr}
 use Rattle.std.specs.Prelude.{true, false, ◌&&◌, not}
 use Rattle.proc_macro2.specs.Token.{Token}
@@ -161,8 +161,10 @@ step_impl_items x s f n w a =
     (turns_read (ref AnImplItem) (starts AnImplItem) (found_ref AnImplItem refl) (search) x f w)
 
 pub step_foreign_items : Step ForeignItems
-unfolding table skips has_step has_form_step
-step_foreign_items x s f n w a = let (d, e) = list_read AForeignItem refl x s f a.0 in (d, inl e)
+unfolding table skips
+step_foreign_items x s f n w a =
+    subst (λ us. Derives x (table ForeignItems) us × Begins ForeignItems x us) (sym (end_is s a.0))
+    (turns_read (ref AForeignItem) (starts AForeignItem) (found_ref AForeignItem refl) (search) x f w)
 
 pub law_arms : KindLaw Arms
 unfolding has_step held passed table

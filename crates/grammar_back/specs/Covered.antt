@@ -1,34 +1,34 @@
 -- The kinds of which it is proved that their normal forms are read back, and the trees that hold no others and no raw
 -- item.
 use Rattle.std.specs.Prelude.{Bool, true, false, ◌&&◌, ◌||◌, not}
-use Rattle.syn_grammar.specs.Kind.{Kind, Expression, AConst, AConstTrait, AFieldValue, AFile, AForeignModule}
-use Rattle.syn_grammar.specs.Kind.{AFunction, ALet, AMacro, AMacroDefinition, AModule, ARestrictedTrait}
-use Rattle.syn_grammar.specs.Kind.{AStatement, AStatic, AStruct, ATrait, ATraitItem, AType, ATypeAlias, AUnion}
-use Rattle.syn_grammar.specs.Kind.{AUse, Abi, AnArgument, AnEnum, AnExternCrate, AnImpl, AnImplItem, AnItem}
-use Rattle.syn_grammar.specs.Kind.{AnyPath, Arguments, Arms, AtType, Block, Body, Bound, BoundLifetimes, Bounds}
-use Rattle.syn_grammar.specs.Kind.{BoundsColon, BracketType, ClosureParam, ConstParam, Delimited, DynType}
-use Rattle.syn_grammar.specs.Kind.{ExprAnd, ExprArray, ExprAssign, ExprAsync, ExprAttributed, ExprAwait}
-use Rattle.syn_grammar.specs.Kind.{ExprBitAnd, ExprBitOr, ExprBitXor, ExprBlock, ExprBreak, ExprCall, ExprCast}
-use Rattle.syn_grammar.specs.Kind.{ExprClosure, ExprCompare, ExprConst, ExprContinue, ExprField, ExprForLoop}
-use Rattle.syn_grammar.specs.Kind.{ExprGroup, ExprIf, ExprIndex, ExprInfer, ExprLet, ExprLit, ExprLoop, ExprMacro}
-use Rattle.syn_grammar.specs.Kind.{ExprMatch, ExprMethodCall, ExprOr, ExprParen, ExprPath, ExprProduct, ExprRange}
-use Rattle.syn_grammar.specs.Kind.{ExprRangeClosed, ExprRawAddr, ExprReference, ExprRepeat, ExprReturn, ExprShift}
-use Rattle.syn_grammar.specs.Kind.{ExprStruct, ExprSum, ExprTry, ExprTryBlock, ExprTypedClosure, ExprUnary}
-use Rattle.syn_grammar.specs.Kind.{ExprUnsafe, ExprWhile, ExprYield, FieldPattern, FieldPatterns, FieldValue}
-use Rattle.syn_grammar.specs.Kind.{FieldValues, FnArg, FnPtrArg, FnPtrType, ForeignItems, GenericParam}
-use Rattle.syn_grammar.specs.Kind.{GenericParams, Generics, IdentPattern, ImplGenerics, ImplItems, ImplType}
-use Rattle.syn_grammar.specs.Kind.{InExpression, InFile, InForeign, InImpl, InModule, InTrait, InType, Index}
-use Rattle.syn_grammar.specs.Kind.{InferType, InnerAttribute, InnerAttributes, ItemMacro, Items, Label}
-use Rattle.syn_grammar.specs.Kind.{LifetimeColon, LifetimeParam, Lifetimes, LiteralPattern, Member, Meta}
-use Rattle.syn_grammar.specs.Kind.{NamedField, NamedFields, NeverType, OnePattern, OuterAttribute}
-use Rattle.syn_grammar.specs.Kind.{OuterAttributes, Parameter, Parameters, ParenthesizedArguments, Path}
-use Rattle.syn_grammar.specs.Kind.{PathPattern, Pattern, Plain, PointerType, QualifiedPath, RangeBound, RangeEnd}
-use Rattle.syn_grammar.specs.Kind.{RangeToPattern, Receiver, ReferencePattern, ReferenceType, RestPattern}
-use Rattle.syn_grammar.specs.Kind.{ReturnType, Segment, Segments, SeveralPatterns, Signature, SlicePattern}
-use Rattle.syn_grammar.specs.Kind.{SomeBounds, Statements, TraitItems, TraitPath, TuplePattern, TupleType}
-use Rattle.syn_grammar.specs.Kind.{TypeParam, UnnamedField, UnnamedFields, UseBranch, UseRooted, UseTop, UseTree}
-use Rattle.syn_grammar.specs.Kind.{Variant, Visibility, Where, WhereClause, WherePredicate, WildPattern, WithPlus}
-use Rattle.syn_grammar.specs.Kind.{WithoutPlus}
+use Rattle.syn_grammar.specs.Kind.{Kind, Expression, AConst, AConstTrait, AFieldValue, AFile, AForeignItem}
+use Rattle.syn_grammar.specs.Kind.{AForeignModule, AFunction, ALet, AMacro, AMacroDefinition, AModule}
+use Rattle.syn_grammar.specs.Kind.{ARestrictedTrait, AStatement, AStatic, AStruct, ATrait, ATraitItem, AType}
+use Rattle.syn_grammar.specs.Kind.{ATypeAlias, AUnion, AUse, Abi, AnArgument, AnEnum, AnExternCrate, AnImpl}
+use Rattle.syn_grammar.specs.Kind.{AnImplItem, AnItem, AnyPath, Arguments, Arms, AtType, Block, Body, Bound}
+use Rattle.syn_grammar.specs.Kind.{BoundLifetimes, Bounds, BoundsColon, BracketType, ClosureParam, ConstParam}
+use Rattle.syn_grammar.specs.Kind.{Delimited, DynType, ExprAnd, ExprArray, ExprAssign, ExprAsync, ExprAttributed}
+use Rattle.syn_grammar.specs.Kind.{ExprAwait, ExprBitAnd, ExprBitOr, ExprBitXor, ExprBlock, ExprBreak, ExprCall}
+use Rattle.syn_grammar.specs.Kind.{ExprCast, ExprClosure, ExprCompare, ExprConst, ExprContinue, ExprField}
+use Rattle.syn_grammar.specs.Kind.{ExprForLoop, ExprGroup, ExprIf, ExprIndex, ExprInfer, ExprLet, ExprLit}
+use Rattle.syn_grammar.specs.Kind.{ExprLoop, ExprMacro, ExprMatch, ExprMethodCall, ExprOr, ExprParen, ExprPath}
+use Rattle.syn_grammar.specs.Kind.{ExprProduct, ExprRange, ExprRangeClosed, ExprRawAddr, ExprReference}
+use Rattle.syn_grammar.specs.Kind.{ExprRepeat, ExprReturn, ExprShift, ExprStruct, ExprSum, ExprTry, ExprTryBlock}
+use Rattle.syn_grammar.specs.Kind.{ExprTypedClosure, ExprUnary, ExprUnsafe, ExprWhile, ExprYield, FieldPattern}
+use Rattle.syn_grammar.specs.Kind.{FieldPatterns, FieldValue, FieldValues, FnArg, FnPtrArg, FnPtrType}
+use Rattle.syn_grammar.specs.Kind.{ForeignItems, GenericParam, GenericParams, Generics, IdentPattern}
+use Rattle.syn_grammar.specs.Kind.{ImplGenerics, ImplItems, ImplType, InExpression, InFile, InForeign, InImpl}
+use Rattle.syn_grammar.specs.Kind.{InModule, InTrait, InType, Index, InferType, InnerAttribute, InnerAttributes}
+use Rattle.syn_grammar.specs.Kind.{ItemMacro, Items, Label, LifetimeColon, LifetimeParam, Lifetimes}
+use Rattle.syn_grammar.specs.Kind.{LiteralPattern, Member, Meta, NamedField, NamedFields, NeverType, OnePattern}
+use Rattle.syn_grammar.specs.Kind.{OuterAttribute, OuterAttributes, Parameter, Parameters, ParenthesizedArguments}
+use Rattle.syn_grammar.specs.Kind.{Path, PathPattern, Pattern, Plain, PointerType, QualifiedPath, RangeBound}
+use Rattle.syn_grammar.specs.Kind.{RangeEnd, RangeToPattern, Receiver, ReferencePattern, ReferenceType}
+use Rattle.syn_grammar.specs.Kind.{RestPattern, ReturnType, Segment, Segments, SeveralPatterns, Signature}
+use Rattle.syn_grammar.specs.Kind.{SlicePattern, SomeBounds, Statements, TraitItems, TraitPath, TuplePattern}
+use Rattle.syn_grammar.specs.Kind.{TupleType, TypeParam, UnnamedField, UnnamedFields, UseBranch, UseRooted}
+use Rattle.syn_grammar.specs.Kind.{UseTop, UseTree, Variant, Visibility, Where, WhereClause, WherePredicate}
+use Rattle.syn_grammar.specs.Kind.{WildPattern, WithPlus, WithoutPlus}
 use Rattle.syn_grammar.specs.Tree.{Tree, AWord, Pair, First, Second, Again, Final, More, Group, Dropped, Called}
 use Rattle.syn_grammar.specs.Tree.{Verbatim}
 use Rattle.syn_grammar.specs.Tree.{Node, Whole, Alone, Front, Back, Infix}
@@ -177,6 +177,7 @@ has_step AConstTrait = true
 has_step ARestrictedTrait = true
 has_step AnImpl = true
 has_step AnItem = true
+has_step AForeignItem = true
 has_step ATraitItem = true
 has_step AnImplItem = true
 has_step AFile = true
@@ -344,7 +345,7 @@ has_own_trait (First (Pair d (Pair c (Pair u (Pair i (Pair g (Pair p (Pair (Call
     not (is_there f) || is_path_type t
 has_own_trait _ = true
 
--- Items among others are no macros so far, nor are those in traits and impls; and in extern blocks there are none.
+-- Items among others are no macros so far, nor are those in extern blocks, traits and impls.
 abbrev pub is_no_macro : Tree → Bool
 is_no_macro (Node (ItemMacro p) x) = false
 is_no_macro _ = true
@@ -352,6 +353,7 @@ is_no_macro _ = true
 -- behind its attributes and its visibility
 abbrev pub item_of : Tree → Tree
 item_of (First x) = item_of x
+item_of (Second x) = item_of x
 item_of (Pair x y) = item_of y
 item_of (Called n y) = y
 item_of x = x
@@ -375,6 +377,7 @@ is_taken AnImpl x = has_own_trait x
 is_taken AnItem x = is_no_macro (choice (item_of x))
 is_taken ALet x = not (has the_else x)
 is_taken AStatement x = is_let_form x
+is_taken AForeignItem x = is_no_macro (choice (item_of x))
 is_taken ATraitItem x = is_no_macro (choice (item_of x))
 is_taken AnImplItem x = is_no_macro (choice (item_of x))
 is_taken k x = true

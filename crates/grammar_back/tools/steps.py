@@ -448,7 +448,7 @@ CATEGORIES={
  'Attributes':['OuterAttributes','OuterAttribute','InnerAttributes','InnerAttribute','Meta'],
  'Generics':['Generics','ImplGenerics','GenericParams','GenericParam','LifetimeParam','LifetimeColon','ConstParam','TypeParam','BoundsColon','Where','WhereClause','WherePredicate'],
  'Items':['Visibility','NamedFields','UnnamedFields','NamedField','UnnamedField','Variant','AStruct','AnEnum','AUnion','AStatic','AConst','AnExternCrate','AUse','UseTop','UseTree','UseBranch','UseRooted','Parameters','Parameter','FnArg','Receiver','Signature Place','AFunction Place','ATypeAlias Place','ItemMacro Place','Label','Body','Block','ALet','AStatement','Statements',
- 'Items','ForeignItems','TraitItems','ImplItems','AModule','AForeignModule','AMacroDefinition','ATrait','AConstTrait','ARestrictedTrait','AnImpl','AnItem','ATraitItem','AnImplItem','AFile'],
+ 'Items','ForeignItems','TraitItems','ImplItems','AModule','AForeignModule','AMacroDefinition','ATrait','AConstTrait','ARestrictedTrait','AnImpl','AnItem','AForeignItem','ATraitItem','AnImplItem','AFile'],
  'Expressions':'''ExprLit ExprPath ExprMacro ExprParen ExprArray ExprRepeat ExprGroup ExprInfer ExprBlock ExprUnsafe ExprAsync ExprConst
  ExprTryBlock ExprIf ExprMatch ExprLoop ExprWhile ExprForLoop ExprContinue ExprTypedClosure ExprStruct ExprCall ExprMethodCall ExprField
  ExprAwait ExprIndex ExprTry ExprCast ExprAttributed ExprUnary ExprRawAddr ExprReference ExprLet ExprBreak ExprReturn ExprYield ExprClosure
@@ -478,6 +478,7 @@ GIVEN_STARTS={('ALet',):[('word','let')],('AStatement',):[('then','#',('open','B
 for k in LISTS: GIVEN_STARTS[(k,)]=[]
 ITEM_WORDS='const async unsafe extern fn use static mod type struct enum union auto trait default impl'.split()
 for k in('AnItem','Items'): GIVEN_STARTS[(k,)]=[('then','#',('open','Bracket'))]+[('word',w) for w in ['pub']+ITEM_WORDS]
+for k in('AForeignItem','ForeignItems'): GIVEN_STARTS[(k,)]=[('then','#',('open','Bracket'))]+[('word',w) for w in 'pub const async unsafe safe extern fn unsafe safe static type'.split()]
 for k in('ATraitItem','AnImplItem','TraitItems','ImplItems'): GIVEN_STARTS[(k,)]=[('then','#',('open','Bracket'))]+[('word',w) for w in 'pub default const async unsafe extern fn const type'.split()]
 GIVEN_STARTS[('ImplGenerics',)]=[('sign','<')]
 GIVEN_STARTS[('AnImpl',)]=[('word',w) for w in('default','const','unsafe','impl')]
