@@ -8,6 +8,9 @@ pub mod Quiet
 pub mod Raws
 pub mod Visible
 pub mod Passed
+pub mod Alike
+pub mod Steady
+pub mod Stays
 pub mod Places
 pub mod Impls
 pub mod Readers

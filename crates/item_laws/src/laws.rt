@@ -1,12 +1,13 @@
 //! Laws of items and of raw tokens: each is the contract of a function that does nothing.
 
+ghost use Rattle.item_laws.specs.Bare.{is_bare, is_item};
 ghost use Rattle.item_laws.specs.Begins.{first_of, is_element};
 ghost use Rattle.item_laws.specs.Raws.{HasRaw, IsSetApart};
 ghost use Rattle.item_laws.specs.Readers.{item_parts, ItemParts, Reader, ReadsItem, trait_reader};
 ghost use Rattle.item_laws.specs.Visible.{AllVisible};
 ghost use Rattle.proc_macro2.specs.Spacing.{IsWellSpaced};
 ghost use Rattle.proc_macro2.specs.Token.{Token};
-ghost use Rattle.std.specs.Prelude.{◌≡◌, ◌⊎◌, ℕ, Bool, false, List, [], ◌++◌};
+ghost use Rattle.std.specs.Prelude.{◌≡◌, ◌⊎◌, ℕ, Bool, false, true, List, [], ◌++◌};
 ghost use Rattle.syn_grammar.specs.Derives.{Derives};
 ghost use Rattle.syn_grammar.specs.Gram.{Gram, ref};
 ghost use Rattle.syn_grammar.specs.Kept.{kept};
@@ -15,8 +16,8 @@ ghost use Rattle.syn_grammar.specs.Look.{past_closing};
 ghost use Rattle.syn_grammar.specs.Name.{the_equals};
 ghost use Rattle.syn_grammar.specs.Normal.{normal};
 ghost use Rattle.syn_grammar.specs.Part.{has};
-ghost use Rattle.syn_grammar.specs.Read.{IsDerived};
-ghost use Rattle.syn_grammar.specs.Tree.{flat, Node, Tree};
+ghost use Rattle.syn_grammar.specs.Read.{IsDerived, IsRead};
+ghost use Rattle.syn_grammar.specs.Tree.{flat, Node, Tree, Verbatim};
 
 /// Raw tokens, whole items and the insides of groups, stand in what is kept as they were read, spacing included; and in
 /// normal form as they were kept, but for the last mark of a raw item that is set apart.
@@ -73,4 +74,15 @@ pub fn well_spaced()
     ensures anywhere { (k : Kind) (tree : Tree) (rest others : List Token) → is_element k ≡ false
         → Derives tree (ref k) rest → IsWellSpaced (flat tree ++ rest) → IsWellSpaced others
         → IsWellSpaced (flat (normal (kept tree)) ++ others) }
+{}
+
+/// An item that was read, raw or not, is read as the same tree before whatever follows it, if no expression stands in
+/// it outside groups: it ends in a semicolon or in braces, and no test looks behind that. So a raw one is read back
+/// from its tokens.
+pub fn items_stay()
+    ensures read { (k : Kind) (tree : Tree) (rest next : List Token) → is_item k ≡ true → is_bare tree ≡ true
+        → Derives tree (ref k) rest → Derives tree (ref k) next }
+    ensures raw { (k : Kind) (x : Tree) (rest next : List Token) → is_item k ≡ true → is_bare x ≡ true
+        → Derives (Node k (Verbatim x)) (ref k) rest
+        → IsRead k (flat (normal (kept (Node k (Verbatim x)))) ++ next) (normal (kept (Node k (Verbatim x)))) next }
 {}

@@ -1,0 +1,206 @@
+-- What ends in a stop is read the same before whatever follows it.
+use Rattle.std.proofs.Common.{◌≡◌, ℕ, zero, suc, List, [], ◌∷◌, ◌++◌, refl, sym, ap, ◌∙◌, subst, append_assoc}
+use Rattle.std.specs.Prelude.{Bool, true, false, Some}
+use Rattle.proc_macro2.specs.Token.{Token, Opens, Closes, Ident, Literal, Punct}
+use Rattle.proc_macro2.specs.declared.delimiter.Delimiter.{Delimiter}
+use Rattle.proc_macro2.specs.declared.delimiter.Delimiter.TheVariants.{Brace}
+use Rattle.rust_leaf.specs.declared.punct.Spacing.{Spacing}
+use Rattle.syn_grammar.specs.Kind.{Kind, AnItem, AForeignItem, ATraitItem, AnImplItem}
+use Rattle.syn_grammar.specs.Tree.{Tree, AWord, ALiteral, AMark, ALifetime, Raw, Nil, Pair, First, Second, End, Again}
+use Rattle.syn_grammar.specs.Tree.{Final, More, Group, Dropped, Called, Verbatim, Node, Whole, marks, flat}
+use Rattle.syn_grammar.specs.Gram.{Gram, word, literal, mark, lifetime, raw, nothing, seq, alt, star, many, group}
+use Rattle.syn_grammar.specs.Gram.{judged, dropped, called, ref, operand}
+use Rattle.syn_grammar.specs.Look.{past_closing}
+use Rattle.syn_grammar.specs.Table.{table}
+use Rattle.syn_grammar.specs.Derives.{Derives}
+use Rattle.syn_grammar.specs.Read.{IsRead}
+use Rattle.syn_grammar.specs.Kept.{held, kept}
+use Rattle.syn_grammar.specs.Normal.{passed, normal}
+use Rattle.syn_grammar.proofs.Whole.{and_true}
+use Rattle.item_laws.specs.Bare.{is_bare, is_item}
+use Rattle.item_laws.proofs.Passed.{tree_passed}
+use Rattle.item_laws.proofs.Alike.{Alike, semicolon, brace, a_text, quoted, sign, opened, closed, IsSteady}
+use Rattle.item_laws.proofs.Alike.{blind_sign}
+use Rattle.item_laws.proofs.Steady.{is_steady, is_ended, Steady, Ended, no_kind, steady_table, ended_table}
+
+abbrev Same : List Token → List Token → Type 0
+Same a b = (m : ℕ) × Alike 0 m a b
+
+-- tokens in which what opens closes may stand in front
+some_end : (xs : List Token) (t : Token) → Some (xs ++ t ∷ []) ≡ Some [] → ⊥
+some_end [] t e = cc
+some_end (x ∷ xs) t e = cc
+
+front_of : (k m : ℕ) (xs a b : List Token) → past_closing k (xs ++ Closes Brace ∷ []) ≡ Some [] → Alike 0 m a b
+    → (j : ℕ) × Alike k j (xs ++ a) (xs ++ b)
+front_of zero m [] a b e h = (m, h)
+front_of (suc k) m [] a b e h = cc e
+front_of k m (Ident cs ∷ xs) a b e h = let i = front_of k m xs a b e h in (suc i.0, a_text cs i.1)
+front_of k m (Literal cs ∷ xs) a b e h = let i = front_of k m xs a b e h in (suc i.0, quoted cs i.1)
+front_of k m (Punct c s ∷ xs) a b e h = let i = front_of k m xs a b e h in (suc i.0, sign c s i.1)
+front_of k m (Opens d ∷ xs) a b e h = let i = front_of (suc k) m xs a b e h in (suc i.0, opened d i.1)
+front_of zero m (Closes d ∷ xs) a b e h = absurd (some_end xs (Closes Brace) e)
+front_of (suc k) m (Closes d ∷ xs) a b e h = let i = front_of k m xs a b e h in (suc i.0, closed d i.1)
+
+ahead : (x : Tree) (g : Gram) (r a b : List Token) → Derives x g r → Same a b → Same (flat x ++ a) (flat x ++ b)
+ahead x g r a b d h = front_of 0 h.0 (flat x) a b (tree_passed x g r d 0 (Closes Brace ∷ [])) h.1
+
+joined : (xs ys a b : List Token) → Same (xs ++ (ys ++ a)) (xs ++ (ys ++ b)) → Same ((xs ++ ys) ++ a)
+    ((xs ++ ys) ++ b)
+joined xs ys a b h =
+    subst (λ ts. Same ts ((xs ++ ys) ++ b)) (sym (append_assoc xs ys a))
+    (subst (λ ts. Same (xs ++ (ys ++ a)) ts) (sym (append_assoc xs ys b)) h)
+
+never_empty : (n m : ℕ) (a b : List Token) → Alike n m a b → a ≡ [] → ⊥
+never_empty _ _ _ _ (semicolon i j) e = cc
+never_empty _ _ _ _ brace e = cc
+never_empty _ _ _ _ (a_text cs h) e = cc
+never_empty _ _ _ _ (quoted cs h) e = cc
+never_empty _ _ _ _ (sign c i h) e = cc
+never_empty _ _ _ _ (opened d h) e = cc
+never_empty _ _ _ _ (closed d h) e = cc
+
+tested : (t : List Token → Bool) → IsSteady t → (a b : List Token) (v : Bool) → Same a b → t a ≡ v → t b ≡ v
+tested t s a b v h e = sym (s.by 0 h.0 a b h.1) ∙ e
+
+-- before a stop
+pub shift : (x : Tree) (g : Gram) (a b : List Token) → Steady g → is_bare x ≡ true → Same a b → Derives x g a
+    → Derives x g b
+shift (AWord cs) (word p) a b s e h d = d
+shift (ALiteral cs) (literal p) a b s e h d = d
+shift (AMark c cs spacing) (mark f fs) a b s e h d = d
+shift (ALifetime cs) lifetime a b s e h d = d
+shift (Raw ts) raw a b s e h d = absurd (never_empty 0 h.0 a b h.1 d.1)
+shift Nil nothing a b s e h d = d
+shift (Pair x y) (seq f g) a b s e h d =
+    let i = and_true (is_bare x) (is_bare y) e in (
+      shift x f (flat y ++ a) (flat y ++ b) s.0 i.0 (ahead y g a a b d.1 h) d.0,
+      shift y g a b s.1 i.1 h d.1,
+    )
+shift (First x) (alt t f g) a b s e h d =
+    (tested t s.0 (flat x ++ a) (flat x ++ b) true (ahead x f a a b d.1 h) d.0, shift x f a b s.1 e h d.1)
+shift (Second x) (alt t f g) a b s e h d =
+    (tested t s.0 (flat x ++ a) (flat x ++ b) false (ahead x g a a b d.1 h) d.0, shift x g a b s.2 e h d.1)
+shift End (star t g) a b s e h d = tested t s.0 a b false h d
+shift (Again x y) (star t g) a b s e h d =
+    let i = and_true (is_bare x) (is_bare y) e in
+    let j = ahead y (star t g) a a b d.2 h in (
+      tested t s.0 (flat x ++ flat y ++ a) (flat x ++ flat y ++ b) true
+          (joined (flat x) (flat y) a b (ahead x g (flat y ++ a) (flat y ++ a) (flat y ++ b) d.1 j)) d.0,
+      shift x g (flat y ++ a) (flat y ++ b) s.1 i.0 j d.1,
+      shift y (star t g) a b s i.1 h d.2,
+    )
+shift End (many t c g) a b s e h d = tested t s.0 a b true h d
+shift (Final x) (many t c g) a b s e h d = (
+  tested t s.0 (flat x ++ a) (flat x ++ b) false (ahead x g a a b d.1 h) d.0,
+  shift x g a b s.1 e h d.1,
+  sym ((blind_sign c).by 0 h.0 a b h.1) ∙ d.2,
+)
+shift (More x m spacing y) (many t c g) a b s e h d =
+    let i = and_true (is_bare x) (is_bare y) e in
+    let k = ahead y (many t c g) a a b d.3 h in
+    let j : Same (Punct m spacing ∷ flat y ++ a) (Punct m spacing ∷ flat y ++ b) = (suc k.0, sign m spacing k.1) in (
+      tested t s.0 (flat x ++ Punct m spacing ∷ flat y ++ a) (flat x ++ Punct m spacing ∷ flat y ++ b) false
+          (joined (flat x) (Punct m spacing ∷ flat y) a b (ahead x g (Punct m spacing ∷ flat y ++ a)
+          (Punct m spacing ∷ flat y ++ a) (Punct m spacing ∷ flat y ++ b) d.2 j)) d.0,
+      d.1,
+      shift x g (Punct m spacing ∷ flat y ++ a) (Punct m spacing ∷ flat y ++ b) s.1 i.0 j d.2,
+      shift y (many t c g) a b s i.1 h d.3,
+    )
+shift (Group f x) (group o g) a b s e h d = d
+shift (First x) (judged v g) a b s e h d = (d.0, shift x g a b s e h d.1)
+shift (Verbatim x) (judged v g) a b s e h d = (d.0, shift x g a b s e h d.1)
+shift (Dropped x) (dropped g) a b s e h d = shift x g a b s e h d
+shift (Called n x) (called m g) a b s e h d = (d.0, shift x g a b s e h d.1)
+shift (Node k x) (ref l) a b s e h d =
+    (d.0, shift x (table k) a b (steady_table k (ap is_steady d.0 ∙ s)) e h d.1)
+shift (Whole x) (operand p n) a b s e h d = no_kind e
+shift _ _ a b s e h d = absurd d
+
+-- what ends in one
+end_mark : (c : ℕ) (cs : List ℕ) (spacing : Spacing) (r s : List Token) → c ≡ 59 → cs ≡ []
+    → Same (marks c cs spacing ++ r) (marks c cs spacing ++ s)
+end_mark c cs spacing r s e f =
+    subst (λ n. Same (marks n cs spacing ++ r) (marks n cs spacing ++ s)) (sym e)
+    (subst (λ ns. Same (marks 59 ns spacing ++ r) (marks 59 ns spacing ++ s)) (sym f) (0, semicolon spacing spacing))
+
+end_group : (d : Delimiter) (xs r s : List Token) → d ≡ Brace
+    → Same (Opens d ∷ (xs ++ r)) (Opens d ∷ (xs ++ s))
+end_group d xs r s e = subst (λ f. Same (Opens f ∷ (xs ++ r)) (Opens f ∷ (xs ++ s))) (sym e) (0, brace)
+
+pub ended : (x : Tree) (g : Gram) (r s : List Token) → Ended g → is_bare x ≡ true → Derives x g r
+    → Same (flat x ++ r) (flat x ++ s) × Derives x g s
+ended (AMark c cs spacing) (mark f fs) r s i e d = (end_mark c cs spacing r s (d.0 ∙ i.0) (d.1 ∙ i.1), d)
+ended (Pair x y) (seq f g) r s i e d =
+    let j = and_true (is_bare x) (is_bare y) e in
+    let k = ended y g r s i.1 j.1 d.1 in (
+      joined (flat x) (flat y) r s (ahead x f (flat y ++ r) (flat y ++ r) (flat y ++ s) d.0 k.0),
+      (shift x f (flat y ++ r) (flat y ++ s) i.0 j.0 k.0 d.0, k.1),
+    )
+ended (First x) (alt t f g) r s i e d =
+    let k = ended x f r s i.1 e d.1 in (k.0, (tested t i.0 (flat x ++ r) (flat x ++ s) true k.0 d.0, k.1))
+ended (Second x) (alt t f g) r s i e d =
+    let k = ended x g r s i.2 e d.1 in (k.0, (tested t i.0 (flat x ++ r) (flat x ++ s) false k.0 d.0, k.1))
+ended (Group f x) (group o g) r s i e d = (end_group f (flat x ++ Closes f ∷ []) r s (d.0 ∙ i), d)
+ended (First x) (judged v g) r s i e d = let k = ended x g r s i e d.1 in (k.0, (d.0, k.1))
+ended (Verbatim x) (judged v g) r s i e d = let k = ended x g r s i e d.1 in (k.0, (d.0, k.1))
+ended (Called n x) (called m g) r s i e d = let k = ended x g r s i e d.1 in (k.0, (d.0, k.1))
+ended (Node k x) (ref l) r s i e d =
+    let j = ended x (table k) r s (ended_table k (ap is_ended d.0 ∙ i)) e d.1 in (j.0, (d.0, j.1))
+ended _ (word p) r s i e d = absurd i
+ended _ (literal p) r s i e d = absurd i
+ended _ lifetime r s i e d = absurd i
+ended _ raw r s i e d = absurd i
+ended _ nothing r s i e d = absurd i
+ended _ (star t g) r s i e d = absurd i
+ended _ (many t c g) r s i e d = absurd i
+ended _ (dropped g) r s i e d = absurd i
+ended _ (operand p n) r s i e d = absurd i
+ended _ _ r s i e d = absurd d
+
+-- items, raw or not
+pub item_stays : (k : Kind) (x : Tree) (r s : List Token) → is_item k ≡ true → is_bare x ≡ true → Derives x (ref k) r
+    → Derives x (ref k) s
+item_stays AnItem x r s i e d = (ended x (ref AnItem) r s refl e d).1
+item_stays AForeignItem x r s i e d = (ended x (ref AForeignItem) r s refl e d).1
+item_stays ATraitItem x r s i e d = (ended x (ref ATraitItem) r s refl e d).1
+item_stays AnImplItem x r s i e d = (ended x (ref AnImplItem) r s refl e d).1
+item_stays _ x r s i e d = no_kind i
+
+pub raw_back : (k : Kind) (x : Tree) (r s : List Token) → is_item k ≡ true → is_bare x ≡ true
+    → Derives (Node k (Verbatim x)) (ref k) r
+    → IsRead k (flat (normal (kept (Node k (Verbatim x)))) ++ s) (normal (kept (Node k (Verbatim x)))) s
+unfolding held passed
+raw_back AnItem x r s i e d =
+    record {
+      tree = Node AnItem (Verbatim x);
+      derived = item_stays AnItem (Node AnItem
+          (Verbatim x)) r s i e d;
+      spelled = refl;
+      kept_is = refl;
+    }
+raw_back AForeignItem x r s i e d =
+    record {
+      tree = Node AForeignItem (Verbatim x);
+      derived = item_stays AForeignItem (Node AForeignItem
+          (Verbatim x)) r s i e d;
+      spelled = refl;
+      kept_is = refl;
+    }
+raw_back ATraitItem x r s i e d =
+    record {
+      tree = Node ATraitItem (Verbatim x);
+      derived = item_stays ATraitItem (Node ATraitItem
+          (Verbatim x)) r s i e d;
+      spelled = refl;
+      kept_is = refl;
+    }
+raw_back AnImplItem x r s i e d =
+    record {
+      tree = Node AnImplItem (Verbatim x);
+      derived = item_stays AnImplItem (Node AnImplItem
+          (Verbatim x)) r s i e d;
+      spelled = refl;
+      kept_is = refl;
+    }
+raw_back _ x r s i e d = no_kind i
