@@ -35,7 +35,7 @@ use Rattle.syn_grammar.specs.Part.{choice, has}
 use Rattle.syn_grammar.specs.Normal.{stands_behind, formed}
 use Rattle.grammar_back.specs.After.{is_any_path, is_generic}
 use Rattle.grammar_back.specs.Covered.{front, inner, has_clear_type, is_lone, has_lone_value, is_known}
-use Rattle.grammar_back.specs.Covered.{is_form, is_let_form, is_no_macro, item_of}
+use Rattle.grammar_back.specs.Covered.{is_form, is_statement_form, is_no_macro, item_of}
 
 -- the test can say so
 abbrev pub CanSay : (List Token → Bool) → Bool → Type 0
@@ -246,7 +246,7 @@ IsMeant (ATypeAlias InForeign) x = has_own_where (back (back (back (back x)))) �
 IsMeant AnImpl x = IsOwnImpl (behind_impl (kept x))
 IsMeant AnItem x = IsItem (item_of x)
 IsMeant ALet x = has the_else x ≡ false
-IsMeant AStatement x = is_let_form x ≡ true
+IsMeant AStatement x = is_statement_form x ≡ true
 IsMeant AForeignItem x = is_no_macro (choice (item_of x)) ≡ true
 IsMeant ATraitItem x = is_no_macro (choice (item_of x)) ≡ true
 IsMeant AnImplItem x = is_no_macro (choice (item_of x)) ≡ true

@@ -105,7 +105,7 @@ place_never n Nil r d = absurd d
 place_never n _ r d = absurd d
 
 -- where a word stands, no other is seen
-word_front : (w : List ℕ) (ts : List Token) → sees (the_word w) ts ≡ true → (us : List Token) × (ts ≡ Ident w ∷ us)
+pub word_front : (w : List ℕ) (ts : List Token) → sees (the_word w) ts ≡ true → (us : List Token) × (ts ≡ Ident w ∷ us)
 word_front w (Ident cs ∷ us) e = go (same_text w cs) refl
   where
     go : (b : Bool) → same_text w cs ≡ b → (vs : List Token) × (Ident cs ∷ us ≡ Ident w ∷ vs)

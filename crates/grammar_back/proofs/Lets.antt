@@ -1,8 +1,9 @@
--- The steps and the laws of lets without else, and of statements that are lets.
-use Rattle.std.proofs.Common.{◌≡◌, List, [], ◌∷◌, ◌++◌, refl, sym, ap, ◌∙◌, subst}
-use Rattle.std.specs.Prelude.{true, false, ◌&&◌, not, codes, Option, Some, None}
+-- The steps and the laws of lets without else, and of statements that are lets or items.
+use Rattle.std.proofs.Common.{◌≡◌, List, [], ◌∷◌, ◌++◌, refl, sym, ap, ◌∙◌, subst, append_assoc}
+use Rattle.std.proofs.Common.{⊎_elim, inl, inr}
+use Rattle.std.specs.Prelude.{Bool, true, false, ◌&&◌, not, codes, Option, Some, None}
 use Rattle.proc_macro2.specs.Token.{Token}
-use Rattle.syn_grammar.specs.Kind.{ALet, AStatement, AType, Block, Expression, OnePattern, OuterAttributes}
+use Rattle.syn_grammar.specs.Kind.{ALet, AStatement, AType, AnItem, Block, Expression, OnePattern, OuterAttributes}
 use Rattle.syn_grammar.specs.Kind.{Plain, Position, WithPlus}
 use Rattle.syn_grammar.specs.Name.{Part, same_part, the_else, the_type, the_value}
 use Rattle.syn_grammar.specs.Tree.{Tree, Called, First, Group, Nil, Node, Pair, Second, flat}
@@ -11,7 +12,8 @@ use Rattle.syn_grammar.specs.Gram.{Gram, ref}
 use Rattle.syn_grammar.specs.Words.{is_name, is_path_keyword}
 use Rattle.syn_grammar.specs.Say.{at, keyword, marks, optional, sign, ◌∶◌, ◌▸◌}
 use Rattle.syn_grammar.specs.Statements.{ends_in_braces, is_let, let_form, macro_item_stands, macro_statement_stands}
-use Rattle.syn_grammar.specs.Statements.{statement}
+use Rattle.syn_grammar.specs.Look.{all_attributes, sees, ◌then◌}
+use Rattle.syn_grammar.specs.Statements.{item_stands, statement}
 use Rattle.syn_grammar.specs.Types.{kept_if}
 use Rattle.syn_grammar.specs.Ranks.{skips}
 use Rattle.syn_grammar.specs.Table.{table}
@@ -19,13 +21,14 @@ use Rattle.syn_grammar.specs.Derives.{Derives}
 use Rattle.syn_grammar.specs.Kept.{as_statement, held, kept}
 use Rattle.syn_grammar.specs.Normal.{passed, place_of, normal_in}
 use Rattle.grammar_back.specs.After.{behind}
-use Rattle.grammar_back.specs.Covered.{has_step, is_covered, is_let_form}
+use Rattle.grammar_back.specs.Covered.{has_step, is_covered, is_statement_form, item_of}
 use Rattle.grammar_back.specs.Sees.{LacksAll}
 use Rattle.grammar_back.proofs.Choices.{both_true, is_false}
 use Rattle.grammar_back.proofs.Classes.{Class, Sign, TheWord, among_left, among_right}
 use Rattle.grammar_back.proofs.Keywords.{reserved_let}
 use Rattle.grammar_back.proofs.Starts.{starts}
-use Rattle.grammar_back.proofs.Fits.{Fits, IsMeant}
+use Rattle.grammar_back.proofs.Fits.{Fits, IsItem, IsMeant}
+use Rattle.grammar_back.proofs.FirstWords.{ItemSeen, item_seen, visible_seen}
 use Rattle.grammar_back.proofs.Passed.{behind_attributes}
 use Rattle.grammar_back.proofs.Readies.{Ready, Step}
 use Rattle.grammar_back.proofs.Fine.{At, Edge, Fine, fine_judged, fine_weaker}
@@ -169,10 +172,10 @@ law_a_let =
     (λ x. refl) (λ q. refl) (λ q. refl) (let_verdict, simple_law Plain let_form refl)
 
 -- statements
-pub step_a_statement : Step AStatement
-unfolding table skips is_name is_path_keyword
-step_a_statement (Second (Second (First (Pair o y)))) s f n w a =
-    let g = f.1.1.1 in
+step_let : (x : Tree) (s : List Token) → Fits x (ref OuterAttributes ▸ ref ALet) → Ready x
+    → Derives (Second (Second (First x))) statement s × At (starts AStatement) x s
+unfolding skips is_name is_path_keyword
+step_let (Pair o y) s g w =
     let (t, i) = (maybe_seq (maybe_ref OuterAttributes refl) (found_ref ALet refl)
     ((λ us. refl, tt), tt)).fine.by (Pair o y) s g w tt in
     let j = ((found_ref ALet refl).fine.by y s g.1 w.1 tt).1 in (
@@ -190,10 +193,54 @@ step_a_statement (Second (Second (First (Pair o y)))) s f n w a =
           ),
         ),
       ),
-      i,
+      ⊎_elim (λ h. inl h) (λ h. inr (⊎_elim (λ k. inl k) (λ k. absurd k) h)) i,
     )
-step_a_statement (Second (Second (First _))) s f n w a = absurd f.1.1.1
-step_a_statement (Second (Second (Second x))) s f n w a = cc n
+step_let _ s g w = absurd g
+
+-- statements
+-- an item is seen behind its attributes, and nothing that is looked for before it
+item_stands_there : (y : Tree) (s : List Token) → Fits y (table AnItem) → Derives y (table AnItem) s
+    → IsItem (item_of y)
+    → (sees (all_attributes then macro_item_stands) (flat y ++ s) ≡ false)
+    × (sees (all_attributes then macro_statement_stands) (flat y ++ s) ≡ false)
+    × (sees (all_attributes then at "let") (flat y ++ s) ≡ false)
+    × (sees (all_attributes then item_stands) (flat y ++ s) ≡ true)
+unfolding table
+item_stands_there (First (Pair o (Pair (Called n v) (Called m z)))) s f d e =
+    let r : Tree = Pair (Called n v) (Called m z) in
+    let h : ItemSeen (flat r ++ s) =
+    subst ItemSeen (sym (append_assoc (flat v) (flat z) s))
+    (visible_seen v z s d.1.1.0.1 (item_seen z s d.1.1.1.1 e.1)) in (
+      behind_attributes o r macro_item_stands s false d.1.0 h.0,
+      behind_attributes o r macro_statement_stands s false d.1.0 h.1,
+      behind_attributes o r (at "let") s false d.1.0 h.2,
+      behind_attributes o r item_stands s true d.1.0 h.3,
+    )
+item_stands_there (First (Pair o (Pair (Called n v) _))) s f d e = absurd d.1.1.1
+item_stands_there (First (Pair o (Pair _ z))) s f d e = absurd d.1.1.0
+item_stands_there (First (Pair o _)) s f d e = absurd d.1.1
+item_stands_there (First _) s f d e = absurd d.1
+item_stands_there _ s f d e = absurd f
+
+step_item : (x : Tree) (s : List Token) → Fits x (ref AnItem) → Ready x
+    → Derives (Second (Second (Second (First x)))) statement s × At (starts AStatement) x s
+unfolding skips
+step_item (Node k y) s f w =
+    let (d, i) = (found_ref AnItem refl).fine.by (Node k y) s f w tt in
+    let q =
+    item_stands_there y s (subst (λ j. Fits y (table j)) f.0 f.3) (subst (λ j. Derives y (table j) s) d.0 d.1)
+    (subst (λ j. IsMeant j y) f.0 f.4) in (
+      (q.0, (q.1, (q.2, (q.3, d)))),
+      ⊎_elim (λ h. inl h) (λ h. inr (inr h)) i,
+    )
+step_item _ s f w = absurd f
+
+pub step_a_statement : Step AStatement
+unfolding table skips
+step_a_statement (Second (Second (First x))) s f n w a = step_let x s f.1.1.1 w
+step_a_statement (Second (Second (Second (First x)))) s f n w a = step_item x s f.1.1.1.1 w
+step_a_statement (Second (Second (Second (Second x)))) s f n w a = cc n
+step_a_statement (Second (Second (Second _))) s f n w a = absurd f.1.1.1
 step_a_statement (Second (Second _)) s f n w a = absurd f.1.1
 step_a_statement (Second (First x)) s f n w a = cc n
 step_a_statement (Second _) s f n w a = absurd f.1
@@ -201,7 +248,7 @@ step_a_statement (First x) s f n w a = cc n
 step_a_statement _ s f n w a = absurd f
 
 let_printed : (x w : Tree) → Fits w statement → kept w ≡ normal_in Plain (kept (Second (Second (First x))))
-    → (is_let_form w ≡ true) × (as_statement (kept w) ≡ kept w)
+    → (is_statement_form w ≡ true) × (as_statement (kept w) ≡ kept w)
 let_printed x (Second (Second (First w))) f e = (refl, refl)
 let_printed x (Second (Second (Second w))) f e = cc e
 let_printed x (Second (Second _)) f e = absurd f.1.1
@@ -210,11 +257,27 @@ let_printed x (Second _) f e = absurd f.1
 let_printed x (First w) f e = cc e
 let_printed x _ f e = absurd f
 
+abbrev is_item_place : Tree → Bool
+is_item_place (Second (Second (Second (First x)))) = true
+is_item_place _ = false
+
+item_printed : (w : Tree) → Fits w statement → is_item_place (kept w) ≡ true
+    → (is_statement_form w ≡ true) × (as_statement (kept w) ≡ kept w)
+item_printed (Second (Second (Second (First w)))) f e = (refl, refl)
+item_printed (Second (Second (Second (Second w)))) f e = cc e
+item_printed (Second (Second (Second _))) f e = absurd f.1.1.1
+item_printed (Second (Second (First w))) f e = cc e
+item_printed (Second (Second _)) f e = absurd f.1.1
+item_printed (Second (First w)) f e = cc e
+item_printed (Second _) f e = absurd f.1
+item_printed (First w) f e = cc e
+item_printed _ f e = absurd f
+
 pub law_a_statement : KindLaw AStatement
 unfolding has_step held passed place_of table
 law_a_statement = record { entry = λ q l. simple_law Plain statement refl; node = go }
   where
-    go : (q : Position) → IsPlaced q AStatement → (x : Tree) (r : List Token) → is_let_form x ≡ true
+    go : (q : Position) → IsPlaced q AStatement → (x : Tree) (r : List Token) → is_statement_form x ≡ true
         → Derives x (table AStatement) r → Printed (table AStatement) (normal_in (passed AStatement q) (kept x))
         → Printed (ref AStatement) (normal_in q (Node (held AStatement) (as_statement (kept x))))
     go q l (Second (Second (First x))) r o d i =
@@ -224,7 +287,15 @@ law_a_statement = record { entry = λ q l. simple_law Plain statement refl; node
           fits = (refl, refl, ap flat s.1, i.fits, s.0);
           kept_is = ap (Node AStatement) (s.1 ∙ i.kept_is);
         }
-    go q l (Second (Second (Second x))) r o d i = cc o
+    go q l (Second (Second (Second (First x)))) r o d i =
+        let s = item_printed i.tree i.fits (ap is_item_place i.kept_is) in
+        record {
+          tree = Node AStatement i.tree;
+          fits = (refl, refl, ap flat s.1, i.fits, s.0);
+          kept_is = ap (Node AStatement) (s.1 ∙ i.kept_is);
+        }
+    go q l (Second (Second (Second (Second x)))) r o d i = cc o
+    go q l (Second (Second (Second _))) r o d i = absurd d.1.1.1
     go q l (Second (Second _)) r o d i = absurd d.1.1
     go q l (Second (First x)) r o d i = cc o
     go q l (Second _) r o d i = absurd d.1

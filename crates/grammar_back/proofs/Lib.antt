@@ -45,6 +45,7 @@ pub mod Dotted
 pub mod FieldValues
 pub mod ItemPlaces
 pub mod ItemVerdicts
+pub mod FirstWords
 pub mod WholeItems
 pub mod Members
 pub mod ForeignItems

@@ -458,8 +458,16 @@ starts Label = Tick ∷ []
 starts Body = Opening Brace ∷ []
 starts Block = Opening Brace ∷ []
 starts ALet = TheWord (codes "let") ∷ []
-starts AStatement = Then 35 [] (Opening Bracket) ∷ TheWord (codes "let") ∷ []
-starts Statements = Sign 59 [] ∷ Then 35 [] (Opening Bracket) ∷ TheWord (codes "let") ∷ []
+starts AStatement = Then 35 [] (Opening Bracket) ∷ TheWord (codes "let") ∷ TheWord (codes "pub") ∷ TheWord
+    (codes "const") ∷ TheWord (codes "async") ∷ TheWord (codes "unsafe") ∷ TheWord (codes "extern") ∷ TheWord
+    (codes "fn") ∷ TheWord (codes "use") ∷ TheWord (codes "static") ∷ TheWord (codes "mod") ∷ TheWord (codes "type")
+    ∷ TheWord (codes "struct") ∷ TheWord (codes "enum") ∷ TheWord (codes "union") ∷ TheWord (codes "auto") ∷ TheWord
+    (codes "trait") ∷ TheWord (codes "default") ∷ TheWord (codes "impl") ∷ []
+starts Statements = Sign 59 [] ∷ Then 35 [] (Opening Bracket) ∷ TheWord (codes "let") ∷ TheWord (codes "pub") ∷
+    TheWord (codes "const") ∷ TheWord (codes "async") ∷ TheWord (codes "unsafe") ∷ TheWord (codes "extern") ∷ TheWord
+    (codes "fn") ∷ TheWord (codes "use") ∷ TheWord (codes "static") ∷ TheWord (codes "mod") ∷ TheWord (codes "type")
+    ∷ TheWord (codes "struct") ∷ TheWord (codes "enum") ∷ TheWord (codes "union") ∷ TheWord (codes "auto") ∷ TheWord
+    (codes "trait") ∷ TheWord (codes "default") ∷ TheWord (codes "impl") ∷ []
 starts Items = Then 35 [] (Opening Bracket) ∷ TheWord (codes "pub") ∷ TheWord (codes "const") ∷ TheWord
     (codes "async") ∷ TheWord (codes "unsafe") ∷ TheWord (codes "extern") ∷ TheWord (codes "fn") ∷ TheWord
     (codes "use") ∷ TheWord (codes "static") ∷ TheWord (codes "mod") ∷ TheWord (codes "type") ∷ TheWord

@@ -1,5 +1,5 @@
 -- The steps and the laws of lists that go to the end, of turns that have a step: of statements these are lone
--- semicolons and lets, of items all, and of arms none.
+-- semicolons, lets and items, of items all, and of arms none.
 use Rattle.std.proofs.Common.{◌≡◌, List, [], ◌∷◌, ◌++◌, refl, sym, ap, ◌∙◌, subst, inl, inr}
 use Rattle.std.specs.Prelude.{true, false, ◌&&◌, not}
 use Rattle.proc_macro2.specs.Token.{Token}
@@ -17,7 +17,7 @@ use Rattle.syn_grammar.specs.Table.{table}
 use Rattle.syn_grammar.specs.Derives.{Derives}
 use Rattle.syn_grammar.specs.Kept.{held, kept}
 use Rattle.syn_grammar.specs.Normal.{apart_item, passed}
-use Rattle.grammar_back.specs.Covered.{has_form_step, has_step, is_known, is_let_form}
+use Rattle.grammar_back.specs.Covered.{has_form_step, has_step, is_known, is_statement_form}
 use Rattle.grammar_back.specs.Sees.{Lacks}
 use Rattle.grammar_back.proofs.Classes.{Class, Sign}
 use Rattle.grammar_back.proofs.Begins.{Begins}
@@ -62,24 +62,37 @@ step_statements (First x) s f n w a =
     ((f.0, d), i)
 step_statements _ s f n w a = absurd f
 
--- a let needs no semicolon behind it
-let_needs : (x : Tree) → Fits x (table AStatement) → is_let_form x ≡ true → needs_semicolon (Node AStatement x) ≡ false
+-- The statements that are taken are lets and items.
+each_form : (P : Tree → Type 0)
+    → ((k l : Kind) (o y : Tree) → P (Second (Second (First (Pair (Node k o) (Node l y))))))
+    → ((y : Tree) → Fits y (table AnItem) → P (Second (Second (Second (First (Node AnItem y))))))
+    → (x : Tree) → Fits x (table AStatement) → is_statement_form x ≡ true → P x
 unfolding table
-let_needs (Second (Second (First (Pair (Node k o) (Node l y))))) f n = refl
-let_needs (Second (Second (First (Pair (Node k o) _)))) f n = absurd f.1.1.1.1
-let_needs (Second (Second (First (Pair _ y)))) f n = absurd f.1.1.1.0
-let_needs (Second (Second (First _))) f n = absurd f.1.1.1
-let_needs (Second (Second (Second x))) f n = cc n
-let_needs (Second (Second _)) f n = absurd f.1.1
-let_needs (Second (First x)) f n = cc n
-let_needs (Second _) f n = absurd f.1
-let_needs (First x) f n = cc n
-let_needs _ f n = absurd f
+each_form P one other (Second (Second (First (Pair (Node k o) (Node l y))))) f n = one k l o y
+each_form P one other (Second (Second (First (Pair (Node k o) _)))) f n = absurd f.1.1.1.1
+each_form P one other (Second (Second (First (Pair _ y)))) f n = absurd f.1.1.1.0
+each_form P one other (Second (Second (First _))) f n = absurd f.1.1.1
+each_form P one other (Second (Second (Second (First (Node k y))))) f n =
+    subst (λ j. P (Second (Second (Second (First (Node j y)))))) (sym f.1.1.1.1.0)
+    (other y (subst (λ j. Fits y (table j)) f.1.1.1.1.0 f.1.1.1.1.3))
+each_form P one other (Second (Second (Second (First _)))) f n = absurd f.1.1.1.1
+each_form P one other (Second (Second (Second (Second x)))) f n = cc n
+each_form P one other (Second (Second (Second _))) f n = absurd f.1.1.1
+each_form P one other (Second (Second _)) f n = absurd f.1.1
+each_form P one other (Second (First x)) f n = cc n
+each_form P one other (Second _) f n = absurd f.1
+each_form P one other (First x) f n = cc n
+each_form P one other _ f n = absurd f
+
+-- They need no semicolon behind them.
+form_needs : (x : Tree) → Fits x (table AStatement) → is_statement_form x ≡ true
+    → needs_semicolon (Node AStatement x) ≡ false
+form_needs x f n = each_form (λ y. needs_semicolon (Node AStatement y) ≡ false) (λ k l o y. refl) (λ y g. refl) x f n
 
 statement_needs : (x : Tree) → Fits x (ref AStatement) → needs_semicolon x ≡ false
 statement_needs (Node k x) f =
     subst (λ j. needs_semicolon (Node j x) ≡ false) (sym f.0)
-    (let_needs x (subst (λ j. Fits x (table j)) f.0 f.3) (subst (λ j. IsMeant j x) f.0 f.4))
+    (form_needs x (subst (λ j. Fits x (table j)) f.0 f.3) (subst (λ j. IsMeant j x) f.0 f.4))
 statement_needs _ f = absurd f
 
 turn_needs : (x : Tree) → Fits x a_turn → needs_semicolon (choice x) ≡ false
@@ -101,21 +114,25 @@ turns_verdict : (q : Position) → VerdictLaw q
     (star (lacks the_end) a_turn)
 turns_verdict q x w r c d f e h = ap kept_if (turns_pass w f)
 
-statement_stays : (x : Tree) → is_let_form x ≡ true
-    → apart_item (Second (kept (Node AStatement x))) ≡ Second (kept (Node AStatement x))
+-- an item that fits is not raw
+abbrev Stays : Tree → Type 0
+Stays x = apart_item (Second (kept (Node AStatement x))) ≡ Second (kept (Node AStatement x))
+
+item_stays : (y : Tree) → Fits y (table AnItem) → Stays (Second (Second (Second (First (Node AnItem y)))))
+unfolding held table
+item_stays (First y) f = refl
+item_stays _ f = absurd f
+
+statement_stays : (x : Tree) → Fits x (table AStatement) → is_statement_form x ≡ true → Stays x
 unfolding held
-statement_stays (Second (Second (First x))) n = refl
-statement_stays (Second (Second (Second x))) n = cc n
-statement_stays (Second (First x)) n = refl
-statement_stays (First x) n = cc n
-statement_stays _ n = cc n
+statement_stays x f n = each_form Stays (λ k l o y. refl) item_stays x f n
 
 turn_stays : TurnLaw a_turn
 turn_stays (First (AMark c cs spacing)) f = refl
 turn_stays (First _) f = absurd f.1
 turn_stays (Second (Node k x)) f =
     subst (λ j. apart_item (Second (kept (Node j x))) ≡ Second (kept (Node j x))) (sym f.1.0)
-    (statement_stays x (subst (λ j. IsMeant j x) f.1.0 f.1.4))
+    (statement_stays x (subst (λ j. Fits x (table j)) f.1.0 f.1.3) (subst (λ j. IsMeant j x) f.1.0 f.1.4))
 turn_stays (Second _) f = absurd f.1
 turn_stays _ f = absurd f
 

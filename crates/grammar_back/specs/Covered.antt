@@ -358,10 +358,11 @@ item_of (Pair x y) = item_of y
 item_of (Called n y) = y
 item_of x = x
 
--- Statements are lets so far.
-abbrev pub is_let_form : Tree → Bool
-is_let_form (Second (Second (First x))) = true
-is_let_form _ = false
+-- Statements are lets and items so far, these but macros.
+abbrev pub is_statement_form : Tree → Bool
+is_statement_form (Second (Second (First x))) = true
+is_statement_form (Second (Second (Second (First x)))) = true
+is_statement_form _ = false
 
 -- what is asked of a part: a let has no else
 abbrev pub is_taken_part : Part → Bool
@@ -376,7 +377,7 @@ is_taken OnePattern x = not (is_lone (choice x))
 is_taken AnImpl x = has_own_trait x
 is_taken AnItem x = is_no_macro (choice (item_of x))
 is_taken ALet x = not (has the_else x)
-is_taken AStatement x = is_let_form x
+is_taken AStatement x = is_statement_form x
 is_taken AForeignItem x = is_no_macro (choice (item_of x))
 is_taken ATraitItem x = is_no_macro (choice (item_of x))
 is_taken AnImplItem x = is_no_macro (choice (item_of x))

@@ -473,11 +473,12 @@ for k in LISTS: GIVEN_BEHIND[(k,)]=['no the_end']
 GIVEN_BEHIND[('ImplGenerics',)]=['impl_generics_stand']
 # kinds of which the entry is written, and the step is by hand, since what may follow is said of the kind's tree too
 ENTRIES={('AType','WithPlus')}
-GIVEN_STARTS={('ALet',):[('word','let')],('AStatement',):[('then','#',('open','Bracket')),('word','let')],
- ('Statements',):[('sign',';'),('then','#',('open','Bracket')),('word','let')],('Arms',):[],('ATypeAlias','InFile'):[('word','type')],('ATypeAlias','InForeign'):[('word','type')]}
+GIVEN_STARTS={('ALet',):[('word','let')],('Arms',):[],('ATypeAlias','InFile'):[('word','type')],('ATypeAlias','InForeign'):[('word','type')]}
 for k in LISTS: GIVEN_STARTS[(k,)]=[]
 ITEM_WORDS='const async unsafe extern fn use static mod type struct enum union auto trait default impl'.split()
 for k in('AnItem','Items'): GIVEN_STARTS[(k,)]=[('then','#',('open','Bracket'))]+[('word',w) for w in ['pub']+ITEM_WORDS]
+GIVEN_STARTS[('AStatement',)]=[('then','#',('open','Bracket')),('word','let')]+[('word',w) for w in ['pub']+ITEM_WORDS]
+GIVEN_STARTS[('Statements',)]=[('sign',';')]+GIVEN_STARTS[('AStatement',)]
 for k in('AForeignItem','ForeignItems'): GIVEN_STARTS[(k,)]=[('then','#',('open','Bracket'))]+[('word',w) for w in 'pub const async unsafe safe extern fn unsafe safe static type'.split()]
 for k in('ATraitItem','AnImplItem','TraitItems','ImplItems'): GIVEN_STARTS[(k,)]=[('then','#',('open','Bracket'))]+[('word',w) for w in 'pub default const async unsafe extern fn const type'.split()]
 GIVEN_STARTS[('ImplGenerics',)]=[('sign','<')]
