@@ -8,6 +8,7 @@ use Rattle.proc_macro2.specs.declared.delimiter.Delimiter.{Delimiter}
 use Rattle.proc_macro2.specs.declared.delimiter.Delimiter.TheVariants.{Brace}
 use Rattle.rust_leaf.specs.declared.punct.Spacing.{Spacing}
 use Rattle.rust_leaf.specs.declared.punct.Spacing.TheVariants.{Alone as Apart, Joint}
+use Rattle.syn_grammar.specs.Look.{past_first, opening, past_literals, any_mark}
 use Rattle.syn_grammar.specs.Look.{Look, seen, sees, lacks, behind, ◌then◌, first_seen, ◌or◌, maybe, no, a_word}
 use Rattle.syn_grammar.specs.Look.{a_quoted}
 use Rattle.syn_grammar.specs.Look.{past_marks, the_mark, a_lifetime, opens, closes, past_closing, a_group, the_end}
@@ -365,6 +366,94 @@ group_sight e f _ _ _ _ (closed d h) = unseen
 
 pub sure_group : (d : Delimiter) → not (same_delimiter Brace d) ≡ true → IsSure (a_group d)
 sure_group d e = record { by = group_sight d e }
+
+either_if : {n m : ℕ} {x y : List Token} {o p : Option (List Token)} (b : Bool) → Alike n m x y → Sight m o p
+    → Sight m (cond b (Some x) o) (cond b (Some y) p)
+either_if true h s = alike (le_refl _) h
+either_if false h s = s
+
+-- so a mark that stands there in no other group is found before it
+first_sight : (c j n k m : ℕ) (x y : List Token) → Alike k m x y → k ≡ suc (j + n)
+    → Sight m (past_first c j x) (past_first c j y)
+first_sight c j n _ _ _ _ (semicolon i k) e = cc e
+first_sight c j n _ _ _ _ brace e = cc e
+first_sight c zero n _ (suc m) _ _ (a_text cs h) e = more (up m) (first_sight c zero n _ m _ _ h e)
+first_sight c (suc j) n _ (suc m) _ _ (a_text cs h) e = more (up m) (first_sight c (suc j) n _ m _ _ h e)
+first_sight c zero n _ (suc m) _ _ (quoted cs h) e = more (up m) (first_sight c zero n _ m _ _ h e)
+first_sight c (suc j) n _ (suc m) _ _ (quoted cs h) e = more (up m) (first_sight c (suc j) n _ m _ _ h e)
+first_sight c (suc j) n _ (suc m) _ _ (sign d i h) e = more (up m) (first_sight c (suc j) n _ m _ _ h e)
+first_sight c zero n _ (suc m) _ _ (sign d i h) e =
+    more (up m) (either_if (d == c) h (first_sight c zero n _ m _ _ h e))
+first_sight c zero n _ (suc m) _ _ (opened d h) e = more (up m) (first_sight c 1 n _ m _ _ h (omega (arith, e)))
+first_sight c (suc j) n _ (suc m) _ _ (opened d h) e =
+    more (up m) (first_sight c (suc (suc j)) n _ m _ _ h (omega (arith, e)))
+first_sight c zero n _ (suc m) _ _ (closed d h) e = unseen
+first_sight c (suc j) n _ (suc m) _ _ (closed d h) e = more (up m) (first_sight c j n _ m _ _ h (omega (arith, e)))
+
+first_in_group : (c : ℕ) (e : Delimiter) → not (same_delimiter Brace e) ≡ true → (n m : ℕ) (x y : List Token)
+    → Alike n m x y → Sight m ((opens e then past_first c 0) x) ((opens e then past_first c 0) y)
+first_in_group c e f _ _ _ _ (semicolon i j) = unseen
+first_in_group c e f _ _ _ _ (brace {r = r} {s = s}) = go (same_delimiter Brace e) f
+  where
+    go : (b : Bool) → not b ≡ true
+        → Sight 0 (behind (cond b (Some r) None) (past_first c 0)) (behind (cond b (Some s) None) (past_first c 0))
+    go false g = unseen
+    go true g = cc g
+first_in_group c e f _ _ _ _ (a_text cs h) = unseen
+first_in_group c e f _ _ _ _ (quoted cs h) = unseen
+first_in_group c e f _ _ _ _ (sign d i h) = unseen
+first_in_group c e f n (suc m) (Opens _ ∷ x) (Opens _ ∷ y) (opened d h) = go (same_delimiter d e)
+  where
+    go : (b : Bool)
+        → Sight (suc m) (behind (cond b (Some x) None) (past_first c 0)) (behind (cond b (Some y) None)
+        (past_first c 0))
+    go true = more (up m) (first_sight c 0 n (suc n) m x y h (omega arith))
+    go false = unseen
+first_in_group c e f _ _ _ _ (closed d h) = unseen
+
+pub sure_first : (c : ℕ) (d : Delimiter) → not (same_delimiter Brace d) ≡ true → IsSure (opens d then past_first c 0)
+sure_first c d e = record { by = first_in_group c d e }
+
+-- any opening token
+opening_seen : (n m : ℕ) (x y : List Token) → Alike n m x y → seen (opening x) ≡ seen (opening y)
+opening_seen _ _ _ _ (semicolon i j) = refl
+opening_seen _ _ _ _ brace = refl
+opening_seen _ _ _ _ (a_text cs h) = refl
+opening_seen _ _ _ _ (quoted cs h) = refl
+opening_seen _ _ _ _ (sign d i h) = refl
+opening_seen _ _ _ _ (opened d h) = refl
+opening_seen _ _ _ _ (closed d h) = refl
+
+pub blind_opening : IsBlind opening
+blind_opening = record { by = opening_seen }
+
+-- literals in a row
+which : {n m : ℕ} {u v : List Token} {o q : Option (List Token)} (b : Bool) → Sight m o q → Alike n (suc m) u v
+    → Sight (suc m) (cond b o (Some u)) (cond b q (Some v))
+which true s h = more (up _) s
+which false s h = alike (le_refl _) h
+
+literals_sight : (p : List ℕ → Bool) (n m : ℕ) (x y : List Token) → Alike n m x y
+    → Sight m (past_literals p x) (past_literals p y)
+literals_sight p _ _ _ _ (semicolon i j) = alike (le_refl _) (semicolon i j)
+literals_sight p _ _ _ _ brace = alike (le_refl _) brace
+literals_sight p _ _ _ _ (a_text cs h) = alike (le_refl _) (a_text cs h)
+literals_sight p _ (suc m) _ _ (quoted cs h) = which (p cs) (literals_sight p _ m _ _ h) (quoted cs h)
+literals_sight p _ _ _ _ (sign d i h) = alike (le_refl _) (sign d i h)
+literals_sight p _ _ _ _ (opened d h) = alike (le_refl _) (opened d h)
+literals_sight p _ _ _ _ (closed d h) = alike (le_refl _) (closed d h)
+
+pub sure_literals : (p : List ℕ → Bool) → IsSure (past_literals p)
+sure_literals p = record { by = literals_sight p }
+
+-- one of some marks
+abbrev pub no_semicolons : List (List ℕ) → Bool
+no_semicolons [] = true
+no_semicolons (text ∷ texts) = no_semicolon text && no_semicolons texts
+
+pub sure_marks : (texts : List (List ℕ)) → no_semicolons texts ≡ true → IsSure (any_mark texts)
+sure_marks [] e = sure_none
+sure_marks (text ∷ texts) e = sure_or (sure_mark text (and_left _ _ e)) (sure_marks texts (and_right _ _ e))
 
 end_sight : (n m : ℕ) (x y : List Token) → Alike n m x y → Sight m (the_end x) (the_end y)
 end_sight _ _ _ _ (semicolon i j) = unseen

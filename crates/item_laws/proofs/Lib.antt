@@ -10,6 +10,8 @@ pub mod Visible
 pub mod Passed
 pub mod Alike
 pub mod Steady
+pub mod Ended
+pub mod Forms
 pub mod Stays
 pub mod Places
 pub mod Impls

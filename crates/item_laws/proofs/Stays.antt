@@ -5,23 +5,31 @@ use Rattle.proc_macro2.specs.Token.{Token, Opens, Closes, Ident, Literal, Punct}
 use Rattle.proc_macro2.specs.declared.delimiter.Delimiter.{Delimiter}
 use Rattle.proc_macro2.specs.declared.delimiter.Delimiter.TheVariants.{Brace}
 use Rattle.rust_leaf.specs.declared.punct.Spacing.{Spacing}
-use Rattle.syn_grammar.specs.Kind.{Kind, AnItem, AForeignItem, ATraitItem, AnImplItem}
+use Rattle.syn_grammar.specs.Kind.{Position, Kind, AnItem, AForeignItem, ATraitItem, AnImplItem}
 use Rattle.syn_grammar.specs.Tree.{Tree, AWord, ALiteral, AMark, ALifetime, Raw, Nil, Pair, First, Second, End, Again}
 use Rattle.syn_grammar.specs.Tree.{Final, More, Group, Dropped, Called, Verbatim, Node, Whole, marks, flat}
 use Rattle.syn_grammar.specs.Gram.{Gram, word, literal, mark, lifetime, raw, nothing, seq, alt, star, many, group}
 use Rattle.syn_grammar.specs.Gram.{judged, dropped, called, ref, operand}
 use Rattle.syn_grammar.specs.Look.{past_closing}
+use Rattle.syn_grammar.specs.Tree.{Alone, Front, Back, Infix}
+use Rattle.syn_grammar.specs.Forms.{inside, level, goes_on, takes_kind}
+use Rattle.syn_grammar.specs.Derives.{Bound}
+use Rattle.item_laws.specs.Bare.{is_closure}
+use Rattle.item_laws.proofs.Forms.{front_same, back_same, right_same, front_steady, back_steady}
+use Rattle.item_laws.proofs.Fronts.{not_true}
+use Rattle.std.specs.Prelude.{not, ◌&&◌}
 use Rattle.syn_grammar.specs.Table.{table}
 use Rattle.syn_grammar.specs.Derives.{Derives}
 use Rattle.syn_grammar.specs.Read.{IsRead}
 use Rattle.syn_grammar.specs.Kept.{held, kept}
 use Rattle.syn_grammar.specs.Normal.{passed, normal}
 use Rattle.syn_grammar.proofs.Whole.{and_true}
-use Rattle.item_laws.specs.Bare.{is_bare, is_item}
+use Rattle.item_laws.specs.Bare.{is_bare, is_any_item}
 use Rattle.item_laws.proofs.Passed.{tree_passed}
 use Rattle.item_laws.proofs.Alike.{Alike, semicolon, brace, a_text, quoted, sign, opened, closed, IsSteady}
 use Rattle.item_laws.proofs.Alike.{blind_sign}
-use Rattle.item_laws.proofs.Steady.{is_steady, is_ended, Steady, Ended, no_kind, steady_table, ended_table}
+use Rattle.item_laws.proofs.Steady.{is_steady, Steady, no_kind, steady_table}
+use Rattle.item_laws.proofs.Ended.{is_ended, Ended, ended_table}
 
 abbrev Same : List Token → List Token → Type 0
 Same a b = (m : ℕ) × Alike 0 m a b
@@ -63,59 +71,120 @@ never_empty _ _ _ _ (closed d h) e = cc
 tested : (t : List Token → Bool) → IsSteady t → (a b : List Token) (v : Bool) → Same a b → t a ≡ v → t b ≡ v
 tested t s a b v h e = sym (s.by 0 h.0 a b h.1) ∙ e
 
+-- a right operand goes on with neither
+still : (p : Position) (n : ℕ) (x : Tree) (a b : List Token) → Same a b → goes_on p n x a ≡ false
+    → goes_on p n x b ≡ false
+still p n x a b h e = sym (ap (takes_kind p n x) (back_same 0 h.0 a b h.1 p)) ∙ e
+
 -- before a stop
-pub shift : (x : Tree) (g : Gram) (a b : List Token) → Steady g → is_bare x ≡ true → Same a b → Derives x g a
-    → Derives x g b
-shift (AWord cs) (word p) a b s e h d = d
-shift (ALiteral cs) (literal p) a b s e h d = d
-shift (AMark c cs spacing) (mark f fs) a b s e h d = d
-shift (ALifetime cs) lifetime a b s e h d = d
-shift (Raw ts) raw a b s e h d = absurd (never_empty 0 h.0 a b h.1 d.1)
-shift Nil nothing a b s e h d = d
-shift (Pair x y) (seq f g) a b s e h d =
-    let i = and_true (is_bare x) (is_bare y) e in (
-      shift x f (flat y ++ a) (flat y ++ b) s.0 i.0 (ahead y g a a b d.1 h) d.0,
-      shift y g a b s.1 i.1 h d.1,
-    )
-shift (First x) (alt t f g) a b s e h d =
-    (tested t s.0 (flat x ++ a) (flat x ++ b) true (ahead x f a a b d.1 h) d.0, shift x f a b s.1 e h d.1)
-shift (Second x) (alt t f g) a b s e h d =
-    (tested t s.0 (flat x ++ a) (flat x ++ b) false (ahead x g a a b d.1 h) d.0, shift x g a b s.2 e h d.1)
-shift End (star t g) a b s e h d = tested t s.0 a b false h d
-shift (Again x y) (star t g) a b s e h d =
-    let i = and_true (is_bare x) (is_bare y) e in
-    let j = ahead y (star t g) a a b d.2 h in (
-      tested t s.0 (flat x ++ flat y ++ a) (flat x ++ flat y ++ b) true
-          (joined (flat x) (flat y) a b (ahead x g (flat y ++ a) (flat y ++ a) (flat y ++ b) d.1 j)) d.0,
-      shift x g (flat y ++ a) (flat y ++ b) s.1 i.0 j d.1,
-      shift y (star t g) a b s i.1 h d.2,
-    )
-shift End (many t c g) a b s e h d = tested t s.0 a b true h d
-shift (Final x) (many t c g) a b s e h d = (
-  tested t s.0 (flat x ++ a) (flat x ++ b) false (ahead x g a a b d.1 h) d.0,
-  shift x g a b s.1 e h d.1,
-  sym ((blind_sign c).by 0 h.0 a b h.1) ∙ d.2,
-)
-shift (More x m spacing y) (many t c g) a b s e h d =
-    let i = and_true (is_bare x) (is_bare y) e in
-    let k = ahead y (many t c g) a a b d.3 h in
-    let j : Same (Punct m spacing ∷ flat y ++ a) (Punct m spacing ∷ flat y ++ b) = (suc k.0, sign m spacing k.1) in (
-      tested t s.0 (flat x ++ Punct m spacing ∷ flat y ++ a) (flat x ++ Punct m spacing ∷ flat y ++ b) false
-          (joined (flat x) (Punct m spacing ∷ flat y) a b (ahead x g (Punct m spacing ∷ flat y ++ a)
-          (Punct m spacing ∷ flat y ++ a) (Punct m spacing ∷ flat y ++ b) d.2 j)) d.0,
-      d.1,
-      shift x g (Punct m spacing ∷ flat y ++ a) (Punct m spacing ∷ flat y ++ b) s.1 i.0 j d.2,
-      shift y (many t c g) a b s i.1 h d.3,
-    )
-shift (Group f x) (group o g) a b s e h d = d
-shift (First x) (judged v g) a b s e h d = (d.0, shift x g a b s e h d.1)
-shift (Verbatim x) (judged v g) a b s e h d = (d.0, shift x g a b s e h d.1)
-shift (Dropped x) (dropped g) a b s e h d = shift x g a b s e h d
-shift (Called n x) (called m g) a b s e h d = (d.0, shift x g a b s e h d.1)
-shift (Node k x) (ref l) a b s e h d =
-    (d.0, shift x (table k) a b (steady_table k (ap is_steady d.0 ∙ s)) e h d.1)
-shift (Whole x) (operand p n) a b s e h d = no_kind e
-shift _ _ a b s e h d = absurd d
+mutual
+  pub shift : (x : Tree) (g : Gram) (a b : List Token) → Steady g → is_bare x ≡ true → Same a b → Derives x g a
+      → Derives x g b
+  shift (AWord cs) (word p) a b s e h d = d
+  shift (ALiteral cs) (literal p) a b s e h d = d
+  shift (AMark c cs spacing) (mark f fs) a b s e h d = d
+  shift (ALifetime cs) lifetime a b s e h d = d
+  shift (Raw ts) raw a b s e h d = absurd (never_empty 0 h.0 a b h.1 d.1)
+  shift Nil nothing a b s e h d = d
+  shift (Pair x y) (seq f g) a b s e h d =
+      let i = and_true (is_bare x) (is_bare y) e in (
+        shift x f (flat y ++ a) (flat y ++ b) s.0 i.0 (ahead y g a a b d.1 h) d.0,
+        shift y g a b s.1 i.1 h d.1,
+      )
+  shift (First x) (alt t f g) a b s e h d =
+      (tested t s.0 (flat x ++ a) (flat x ++ b) true (ahead x f a a b d.1 h) d.0, shift x f a b s.1 e h d.1)
+  shift (Second x) (alt t f g) a b s e h d =
+      (tested t s.0 (flat x ++ a) (flat x ++ b) false (ahead x g a a b d.1 h) d.0, shift x g a b s.2 e h d.1)
+  shift End (star t g) a b s e h d = tested t s.0 a b false h d
+  shift (Again x y) (star t g) a b s e h d =
+      let i = and_true (is_bare x) (is_bare y) e in
+      let j = ahead y (star t g) a a b d.2 h in (
+        tested t s.0 (flat x ++ flat y ++ a) (flat x ++ flat y ++ b) true
+            (joined (flat x) (flat y) a b (ahead x g (flat y ++ a) (flat y ++ a) (flat y ++ b) d.1 j)) d.0,
+        shift x g (flat y ++ a) (flat y ++ b) s.1 i.0 j d.1,
+        shift y (star t g) a b s i.1 h d.2,
+      )
+  shift End (many t c g) a b s e h d = tested t s.0 a b true h d
+  shift (Final x) (many t c g) a b s e h d = (
+    tested t s.0 (flat x ++ a) (flat x ++ b) false (ahead x g a a b d.1 h) d.0,
+    shift x g a b s.1 e h d.1,
+    sym ((blind_sign c).by 0 h.0 a b h.1) ∙ d.2,
+  )
+  shift (More x m spacing y) (many t c g) a b s e h d =
+      let i = and_true (is_bare x) (is_bare y) e in
+      let k = ahead y (many t c g) a a b d.3 h in
+      let j : Same (Punct m spacing ∷ flat y ++ a) (Punct m spacing ∷ flat y ++ b) = (
+        suc k.0,
+        sign m spacing k.1,
+      ) in (
+        tested t s.0 (flat x ++ Punct m spacing ∷ flat y ++ a) (flat x ++ Punct m spacing ∷ flat y ++ b) false
+            (joined (flat x) (Punct m spacing ∷ flat y) a b (ahead x g (Punct m spacing ∷ flat y ++ a)
+            (Punct m spacing ∷ flat y ++ a) (Punct m spacing ∷ flat y ++ b) d.2 j)) d.0,
+        d.1,
+        shift x g (Punct m spacing ∷ flat y ++ a) (Punct m spacing ∷ flat y ++ b) s.1 i.0 j d.2,
+        shift y (many t c g) a b s i.1 h d.3,
+      )
+  shift (Group f x) (group o g) a b s e h d = d
+  shift (First x) (judged v g) a b s e h d = (d.0, shift x g a b s e h d.1)
+  shift (Verbatim x) (judged v g) a b s e h d = (d.0, shift x g a b s e h d.1)
+  shift (Dropped x) (dropped g) a b s e h d = shift x g a b s e h d
+  shift (Called n x) (called m g) a b s e h d = (d.0, shift x g a b s e h d.1)
+  shift (Node k x) (ref l) a b s e h d =
+      (d.0, shift x (table k) a b (steady_table k (ap is_steady d.0 ∙ s)) e h d.1)
+  shift (Whole x) (operand p n) a b s e h d =
+      ((d.0.0, still p n x a b h d.0.1), shift_bound x p a b e h d.1)
+  shift _ _ a b s e h d = absurd d
+
+  shift_bound : (x : Tree) (p : Position) (a b : List Token) → is_bare x ≡ true → Same a b → Bound p x a → Bound p x b
+  shift_bound (Alone k y) p a b e h d =
+      let i = and_true (not (is_closure k)) (is_bare y) e in
+      let c = not_true (is_closure k) i.0 in
+      let j = ahead y (table k) a a b d.1 h in (
+        front_same 0 j.0 (flat y ++ a) (flat y ++ b) j.1 p k c d.0,
+        shift y (table k) a b (steady_table k (front_steady p (flat y ++ a) k c d.0)) i.1 h d.1,
+        sym (right_same 0 h.0 a b h.1 p k) ∙ d.2,
+      )
+  shift_bound (Front k y x) p a b e h d =
+      let i = and_true (not (is_closure k)) (is_bare y && is_bare x) e in
+      let o = and_true (is_bare y) (is_bare x) i.1 in
+      let c = not_true (is_closure k) i.0 in
+      let u = ahead (Whole x) (operand (inside p k) (level k)) a a b (d.3, d.4) h in
+      let j = ahead y (table k) (flat x ++ a) (flat x ++ a) (flat x ++ b) d.1 u in (
+        front_same 0 j.0 (flat y ++ (flat x ++ a)) (flat y ++ (flat x ++ b)) j.1 p k c d.0,
+        shift y (table k) (flat x ++ a) (flat x ++ b)
+            (steady_table k (front_steady p (flat y ++ (flat x ++ a)) k c d.0)) o.0 u d.1,
+        sym (right_same 0 u.0 (flat x ++ a) (flat x ++ b) u.1 p k) ∙ d.2,
+        (d.3.0, still (inside p k) (level k) x a b h d.3.1),
+        shift_bound x (inside p k) a b o.1 h d.4,
+      )
+  shift_bound (Back l k y) p a b e h d =
+      let i = and_true (not (is_closure k)) (is_bare l && is_bare y) e in
+      let o = and_true (is_bare l) (is_bare y) i.1 in
+      let c = not_true (is_closure k) i.0 in
+      let j = ahead y (table k) a a b d.1 h in (
+        sym (back_same 0 j.0 (flat y ++ a) (flat y ++ b) j.1 p) ∙ d.0,
+        shift y (table k) a b (steady_table k (back_steady p (flat y ++ a) k c d.0)) o.1 h d.1,
+        sym (right_same 0 h.0 a b h.1 p k) ∙ d.2,
+        d.3,
+        shift_bound l p (flat y ++ a) (flat y ++ b) o.0 j d.4,
+      )
+  shift_bound (Infix l k y r) p a b e h d =
+      let i = and_true (not (is_closure k)) (is_bare l && (is_bare y && is_bare r)) e in
+      let o = and_true (is_bare l) (is_bare y && is_bare r) i.1 in
+      let q = and_true (is_bare y) (is_bare r) o.1 in
+      let c = not_true (is_closure k) i.0 in
+      let u = ahead (Whole r) (operand (inside p k) (level k)) a a b (d.5, d.6) h in
+      let j = ahead y (table k) (flat r ++ a) (flat r ++ a) (flat r ++ b) d.1 u in (
+        sym (back_same 0 j.0 (flat y ++ (flat r ++ a)) (flat y ++ (flat r ++ b)) j.1 p) ∙ d.0,
+        shift y (table k) (flat r ++ a) (flat r ++ b)
+            (steady_table k (back_steady p (flat y ++ (flat r ++ a)) k c d.0)) q.0 u d.1,
+        sym (right_same 0 u.0 (flat r ++ a) (flat r ++ b) u.1 p k) ∙ d.2,
+        d.3,
+        shift_bound l p (flat y ++ (flat r ++ a)) (flat y ++ (flat r ++ b)) o.0 j d.4,
+        (d.5.0, still (inside p k) (level k) r a b h d.5.1),
+        shift_bound r (inside p k) a b q.1 h d.6,
+      )
+  shift_bound _ p a b e h d = absurd d
 
 -- what ends in one
 end_mark : (c : ℕ) (cs : List ℕ) (spacing : Spacing) (r s : List Token) → c ≡ 59 → cs ≡ []
@@ -159,7 +228,8 @@ ended _ (operand p n) r s i e d = absurd i
 ended _ _ r s i e d = absurd d
 
 -- items, raw or not
-pub item_stays : (k : Kind) (x : Tree) (r s : List Token) → is_item k ≡ true → is_bare x ≡ true → Derives x (ref k) r
+pub item_stays : (k : Kind) (x : Tree) (r s : List Token) → is_any_item k ≡ true → is_bare x ≡ true → Derives x
+    (ref k) r
     → Derives x (ref k) s
 item_stays AnItem x r s i e d = (ended x (ref AnItem) r s refl e d).1
 item_stays AForeignItem x r s i e d = (ended x (ref AForeignItem) r s refl e d).1
@@ -167,40 +237,29 @@ item_stays ATraitItem x r s i e d = (ended x (ref ATraitItem) r s refl e d).1
 item_stays AnImplItem x r s i e d = (ended x (ref AnImplItem) r s refl e d).1
 item_stays _ x r s i e d = no_kind i
 
-pub raw_back : (k : Kind) (x : Tree) (r s : List Token) → is_item k ≡ true → is_bare x ≡ true
+-- raw ones are kept as they are in normal form
+raw_same : (k : Kind) (x : Tree) → is_any_item k ≡ true
+    → kept (Node k (Verbatim x)) ≡ normal (kept (Node k (Verbatim x)))
+unfolding held passed
+raw_same AnItem x i = refl
+raw_same AForeignItem x i = refl
+raw_same ATraitItem x i = refl
+raw_same AnImplItem x i = refl
+raw_same _ x i = no_kind i
+
+raw_flat : (k : Kind) (x : Tree) → is_any_item k ≡ true → flat x ≡ flat (kept (Node k (Verbatim x)))
+raw_flat AnItem x i = refl
+raw_flat AForeignItem x i = refl
+raw_flat ATraitItem x i = refl
+raw_flat AnImplItem x i = refl
+raw_flat _ x i = no_kind i
+
+pub raw_back : (k : Kind) (x : Tree) (r s : List Token) → is_any_item k ≡ true → is_bare x ≡ true
     → Derives (Node k (Verbatim x)) (ref k) r
     → IsRead k (flat (normal (kept (Node k (Verbatim x)))) ++ s) (normal (kept (Node k (Verbatim x)))) s
-unfolding held passed
-raw_back AnItem x r s i e d =
-    record {
-      tree = Node AnItem (Verbatim x);
-      derived = item_stays AnItem (Node AnItem
-          (Verbatim x)) r s i e d;
-      spelled = refl;
-      kept_is = refl;
-    }
-raw_back AForeignItem x r s i e d =
-    record {
-      tree = Node AForeignItem (Verbatim x);
-      derived = item_stays AForeignItem (Node AForeignItem
-          (Verbatim x)) r s i e d;
-      spelled = refl;
-      kept_is = refl;
-    }
-raw_back ATraitItem x r s i e d =
-    record {
-      tree = Node ATraitItem (Verbatim x);
-      derived = item_stays ATraitItem (Node ATraitItem
-          (Verbatim x)) r s i e d;
-      spelled = refl;
-      kept_is = refl;
-    }
-raw_back AnImplItem x r s i e d =
-    record {
-      tree = Node AnImplItem (Verbatim x);
-      derived = item_stays AnImplItem (Node AnImplItem
-          (Verbatim x)) r s i e d;
-      spelled = refl;
-      kept_is = refl;
-    }
-raw_back _ x r s i e d = no_kind i
+raw_back k x r s i e d = record {
+  tree = Node k (Verbatim x);
+  derived = item_stays k (Node k (Verbatim x)) r s i e d;
+  spelled = ap (λ ts. ts ++ s) (raw_flat k x i ∙ ap flat (raw_same k x i));
+  kept_is = raw_same k x i;
+}

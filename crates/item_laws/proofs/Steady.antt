@@ -1,8 +1,8 @@
--- Entries whose tests see nothing behind a stop, and entries that end in one: a semicolon, or a group in braces.
+-- Entries whose tests see nothing behind a stop.
 use Prim.Native.String.{String}
-use Rattle.std.proofs.Common.{◌≡◌, [], refl}
+use Rattle.std.proofs.Common.{◌≡◌, ℕ, List, [], ◌∷◌, refl}
 use Rattle.std.specs.Prelude.{Bool, true, false, codes}
-use Rattle.proc_macro2.specs.declared.delimiter.Delimiter.TheVariants.{Parenthesis, Brace, Bracket}
+use Rattle.proc_macro2.specs.declared.delimiter.Delimiter.TheVariants.{Parenthesis, Bracket}
 use Rattle.syn_grammar.specs.Kind.{Kind, Style, Place, InModule, InExpression, InType, AtType, WithPlus, WithoutPlus}
 use Rattle.syn_grammar.specs.Kind.{InFile, InForeign, InTrait, InImpl}
 use Rattle.syn_grammar.specs.Kind.{Path, Segments, QualifiedPath, AnyPath, Arguments, AnArgument}
@@ -11,29 +11,43 @@ use Rattle.syn_grammar.specs.Kind.{ReferenceType, PointerType, BracketType, Infe
 use Rattle.syn_grammar.specs.Kind.{Bound, TraitPath, BoundLifetimes, Lifetimes, Abi, OuterAttributes, OuterAttribute}
 use Rattle.syn_grammar.specs.Kind.{Generics, ImplGenerics, GenericParams, GenericParam, LifetimeParam, LifetimeColon}
 use Rattle.syn_grammar.specs.Kind.{ConstParam, TypeParam, BoundsColon, Where, WhereClause, WherePredicate, Expression}
-use Rattle.syn_grammar.specs.Kind.{Body, Visibility, NamedFields, UnnamedFields, AStruct, AnEnum, AUnion, AStatic}
-use Rattle.syn_grammar.specs.Kind.{AConst, AnExternCrate, AForeignModule, AUse, UseTop, UseTree, UseBranch, UseRooted}
-use Rattle.syn_grammar.specs.Kind.{AModule, ATrait, AConstTrait, ARestrictedTrait, AnImpl, AMacroDefinition}
-use Rattle.syn_grammar.specs.Kind.{Parameters, Signature, AFunction, ATypeAlias, ItemMacro, AnItem, AForeignItem}
-use Rattle.syn_grammar.specs.Kind.{ATraitItem, AnImplItem}
+use Rattle.syn_grammar.specs.Kind.{Body, Visibility, UnnamedFields}
+use Rattle.syn_grammar.specs.Kind.{UseTop, UseTree, UseBranch, UseRooted}
+use Rattle.syn_grammar.specs.Kind.{Parameters, Signature}
+use Rattle.syn_grammar.specs.Kind.{Delimited, AMacro, Label, Block, ExprLit, ExprPath, ExprMacro, ExprParen}
+use Rattle.syn_grammar.specs.Kind.{ExprArray, ExprRepeat, ExprGroup, ExprInfer, ExprBlock, ExprUnsafe, ExprAsync}
+use Rattle.syn_grammar.specs.Kind.{ExprConst, ExprTryBlock, ExprIf, ExprMatch, ExprLoop, ExprWhile, ExprForLoop}
+use Rattle.syn_grammar.specs.Kind.{ExprContinue, ExprStruct, FieldValues, ExprCall, ExprMethodCall, ExprField}
+use Rattle.syn_grammar.specs.Kind.{ExprAwait, ExprIndex, ExprTry, ExprCast, ExprAttributed, ExprUnary, ExprRawAddr}
+use Rattle.syn_grammar.specs.Kind.{ExprReference, ExprLet, ExprBreak, ExprReturn, ExprYield, ExprRange}
+use Rattle.syn_grammar.specs.Kind.{ExprRangeClosed, ExprAssign, ExprOr, ExprAnd, ExprCompare, ExprBitOr, ExprBitXor}
+use Rattle.syn_grammar.specs.Kind.{ExprBitAnd, ExprShift, ExprSum, ExprProduct, Pattern, OnePattern, IdentPattern}
+use Rattle.syn_grammar.specs.Kind.{WildPattern, RangeToPattern, RestPattern, TuplePattern, SlicePattern}
+use Rattle.syn_grammar.specs.Kind.{ReferencePattern, LiteralPattern, PathPattern, FieldPatterns, RangeEnd, RangeBound}
+use Rattle.syn_grammar.specs.Expressions.{labelled, dot, postfix_stands}
+use Rattle.syn_grammar.specs.Patterns.{vert, dots, range_end_stands, range_bound_stands, binding, signed_literal}
+use Rattle.syn_grammar.proofs.Whole.{and_true}
 use Rattle.syn_grammar.specs.Words.{is_name, is_bool, is_string, is_ident, any_text}
-use Rattle.syn_grammar.specs.Gram.{Gram, mark, never, seq, alt, star, many, group, judged, dropped, called, ref}
+use Rattle.syn_grammar.specs.Gram.{Gram, seq, alt, star, many, judged, dropped, called, ref}
 use Rattle.syn_grammar.specs.Look.{sees, no, ◌or◌, ◌then◌, a_literal, all_attributes, a_lifetime}
 use Rattle.syn_grammar.specs.Say.{at, marks, parenthesis, brace, bracket, lit}
 use Rattle.syn_grammar.specs.Paths.{arguments_stand, parentheses_stand, turbofish}
 use Rattle.syn_grammar.specs.Types.{colon, bound_stands}
 use Rattle.syn_grammar.specs.Generics.{impl_generics_stand, where_ends}
 use Rattle.syn_grammar.specs.Items.{restricted, restricted_in, restriction, safety, maybe_safety, signature_stands}
-use Rattle.syn_grammar.specs.Items.{definition, type_end, trait_stands, trait_form, restricted_trait_stands}
+use Rattle.syn_grammar.specs.Items.{definition, type_end, trait_stands, restricted_trait_stands}
 use Rattle.syn_grammar.specs.Items.{macro_name}
-use Rattle.syn_grammar.specs.Lists.{macro_stands, item_form}
+use Rattle.syn_grammar.specs.Lists.{macro_stands}
+use Rattle.syn_grammar.specs.Say.{one_sign}
+use Rattle.syn_grammar.specs.Gram.{punct}
+use Rattle.item_laws.proofs.Alike.{no_semicolons}
 use Rattle.syn_grammar.specs.Table.{table}
 use Rattle.item_laws.proofs.Alike.{IsSure, IsSteady, blind_sure, sure_then, strict_then, sure_or}
 use Rattle.item_laws.proofs.Alike.{blind_or, sure_maybe, sure_no, steady_sees, steady_lacks, sure_none, sure_word}
 use Rattle.item_laws.proofs.Alike.{sure_quoted, no_semicolon, strict_mark, sure_mark, blind_sign, sure_lifetime}
 use Rattle.item_laws.proofs.Alike.{blind_opens, sure_opens, sure_closes, sure_group, sure_end, sure_repeatedly}
 
--- kinds whose tests see nothing behind a stop, but for those of expressions
+-- kinds whose tests see nothing behind a stop, but for those of the forms in an expression
 abbrev pub is_steady : Kind → Bool
 is_steady (Path s) = true
 is_steady (Segments s) = true
@@ -84,34 +98,73 @@ is_steady UseBranch = true
 is_steady UseRooted = true
 is_steady Parameters = true
 is_steady (Signature p) = true
+is_steady Delimited = true
+is_steady AMacro = true
+is_steady Label = true
+is_steady Block = true
+is_steady ExprLit = true
+is_steady ExprPath = true
+is_steady ExprMacro = true
+is_steady ExprParen = true
+is_steady ExprArray = true
+is_steady ExprRepeat = true
+is_steady ExprGroup = true
+is_steady ExprInfer = true
+is_steady ExprBlock = true
+is_steady ExprUnsafe = true
+is_steady ExprAsync = true
+is_steady ExprConst = true
+is_steady ExprTryBlock = true
+is_steady ExprIf = true
+is_steady ExprMatch = true
+is_steady ExprLoop = true
+is_steady ExprWhile = true
+is_steady ExprForLoop = true
+is_steady ExprContinue = true
+is_steady ExprStruct = true
+is_steady FieldValues = true
+is_steady ExprCall = true
+is_steady ExprMethodCall = true
+is_steady ExprField = true
+is_steady ExprAwait = true
+is_steady ExprIndex = true
+is_steady ExprTry = true
+is_steady ExprCast = true
+is_steady ExprAttributed = true
+is_steady ExprUnary = true
+is_steady ExprRawAddr = true
+is_steady ExprReference = true
+is_steady ExprLet = true
+is_steady ExprBreak = true
+is_steady ExprReturn = true
+is_steady ExprYield = true
+is_steady ExprRange = true
+is_steady ExprRangeClosed = true
+is_steady ExprAssign = true
+is_steady ExprOr = true
+is_steady ExprAnd = true
+is_steady ExprCompare = true
+is_steady ExprBitOr = true
+is_steady ExprBitXor = true
+is_steady ExprBitAnd = true
+is_steady ExprShift = true
+is_steady ExprSum = true
+is_steady ExprProduct = true
+is_steady Pattern = true
+is_steady OnePattern = true
+is_steady IdentPattern = true
+is_steady WildPattern = true
+is_steady RangeToPattern = true
+is_steady RestPattern = true
+is_steady TuplePattern = true
+is_steady SlicePattern = true
+is_steady ReferencePattern = true
+is_steady LiteralPattern = true
+is_steady PathPattern = true
+is_steady FieldPatterns = true
+is_steady RangeEnd = true
+is_steady RangeBound = true
 is_steady _ = false
-
--- kinds that end in a stop
-abbrev pub is_ended : Kind → Bool
-is_ended Body = true
-is_ended NamedFields = true
-is_ended AStruct = true
-is_ended AnEnum = true
-is_ended AUnion = true
-is_ended AStatic = true
-is_ended AConst = true
-is_ended AnExternCrate = true
-is_ended AForeignModule = true
-is_ended AUse = true
-is_ended AModule = true
-is_ended ATrait = true
-is_ended AConstTrait = true
-is_ended ARestrictedTrait = true
-is_ended AnImpl = true
-is_ended AMacroDefinition = true
-is_ended (AFunction p) = true
-is_ended (ATypeAlias p) = true
-is_ended (ItemMacro p) = true
-is_ended AnItem = true
-is_ended AForeignItem = true
-is_ended ATraitItem = true
-is_ended AnImplItem = true
-is_ended _ = false
 
 -- of entries; what stands in a group sees nothing behind it
 abbrev pub Steady : Gram → Type 0
@@ -125,37 +178,26 @@ Steady (called n g) = Steady g
 Steady (ref k) = is_steady k ≡ true
 Steady _ = Unit {0}
 
-abbrev pub Ended : Gram → Type 0
-Ended (mark c cs) = (c ≡ 59) × (cs ≡ [])
-Ended never = Unit {0}
-Ended (seq g h) = Steady g × Ended h
-Ended (alt t g h) = IsSteady t × Ended g × Ended h
-Ended (group d g) = d ≡ Brace
-Ended (judged v g) = Ended g
-Ended (called n g) = Ended g
-Ended (ref k) = is_ended k ≡ true
-Ended _ = ⊥
-
 pub no_kind : {A : Type 0} → false ≡ true → A
 no_kind e = cc
 
 -- looks
-a_mark : (s : String) → no_semicolon (codes s) ≡ true → IsSure (marks s)
+pub a_mark : (s : String) → no_semicolon (codes s) ≡ true → IsSure (marks s)
 a_mark s e = sure_mark (codes s) e
 
-the_text : (s : String) → IsSure (at s)
+pub the_text : (s : String) → IsSure (at s)
 the_text s = sure_word _
 
-by_mark : (s : String) → no_semicolon (codes s) ≡ true → IsSteady (sees (marks s))
+pub by_mark : (s : String) → no_semicolon (codes s) ≡ true → IsSteady (sees (marks s))
 by_mark s e = steady_sees (blind_sure (a_mark s e))
 
-by_text : (s : String) → IsSteady (sees (at s))
+pub by_text : (s : String) → IsSteady (sees (at s))
 by_text s = steady_sees (blind_sure (the_text s))
 
-by_brace : IsSteady (sees brace)
+pub by_brace : IsSteady (sees brace)
 by_brace = steady_sees blind_opens
 
-by_parenthesis : IsSteady (sees parenthesis)
+pub by_parenthesis : IsSteady (sees parenthesis)
 by_parenthesis = steady_sees blind_opens
 
 by_bracket : IsSteady (sees bracket)
@@ -164,7 +206,7 @@ by_bracket = steady_sees blind_opens
 by_lifetime : IsSteady (sees a_lifetime)
 by_lifetime = steady_sees (blind_sure sure_lifetime)
 
-sure_literal : IsSure a_literal
+pub sure_literal : IsSure a_literal
 sure_literal = sure_or (sure_quoted any_text) (sure_word is_bool)
 
 sure_colon : IsSure colon
@@ -212,30 +254,30 @@ sure_restricted_in = sure_then (sure_opens Parenthesis refl) (the_text "in")
 sure_restricted : IsSure restricted
 sure_restricted = sure_then (sure_opens Parenthesis refl) (sure_then (sure_word _) sure_closes)
 
-sure_safety : (p : Place) → IsSure (maybe_safety p)
+pub sure_safety : (p : Place) → IsSure (maybe_safety p)
 sure_safety InFile = sure_maybe (the_text "unsafe")
 sure_safety InForeign = sure_maybe (sure_or (the_text "unsafe") (the_text "safe"))
 sure_safety InTrait = sure_maybe (the_text "unsafe")
 sure_safety InImpl = sure_maybe (the_text "unsafe")
 
-by_signature : (p : Place) → IsSteady (sees (signature_stands p))
+pub by_signature : (p : Place) → IsSteady (sees (signature_stands p))
 by_signature p =
     steady_sees (blind_sure (sure_then (sure_maybe (the_text "const")) (sure_then (sure_maybe (the_text "async"))
     (sure_then (sure_safety p) (sure_then (sure_maybe (sure_then (the_text "extern")
     (sure_maybe (sure_quoted is_string)))) (the_text "fn"))))))
 
-by_macro : IsSteady (sees macro_stands)
+pub by_macro : IsSteady (sees macro_stands)
 by_macro = steady_sees (blind_sure (sure_or (sure_word is_ident) (sure_or (sure_word _) (a_mark "::" refl))))
 
-sure_trait : IsSure trait_stands
+pub sure_trait : IsSure trait_stands
 sure_trait = sure_then (sure_maybe (the_text "unsafe")) (sure_then (sure_maybe (the_text "auto")) (the_text "trait"))
 
-by_restricted_trait : IsSteady (sees restricted_trait_stands)
+pub by_restricted_trait : IsSteady (sees restricted_trait_stands)
 by_restricted_trait =
     steady_sees (blind_sure (sure_then (the_text "impl") (sure_then (sure_group Parenthesis refl)
     (sure_or (the_text "const") (sure_or (the_text "unsafe") (sure_or (the_text "auto") (the_text "trait")))))))
 
-by_texts : (s t : String) → IsSteady (sees (at s then at t))
+pub by_texts : (s t : String) → IsSteady (sees (at s then at t))
 by_texts s t = steady_sees (blind_sure (sure_then (the_text s) (the_text t)))
 
 by_fn_type : IsSteady (sees (at "for" or at "unsafe" or at "extern" or at "fn"))
@@ -243,25 +285,52 @@ by_fn_type =
     steady_sees (blind_sure (sure_or (the_text "for") (sure_or (the_text "unsafe") (sure_or (the_text "extern")
     (the_text "fn")))))
 
-by_trait : IsSteady (sees (at "trait" or (at "auto" then at "trait")))
+pub by_trait : IsSteady (sees (at "trait" or (at "auto" then at "trait")))
 by_trait = steady_sees (blind_sure (sure_or (the_text "trait") (sure_then (the_text "auto") (the_text "trait"))))
 
-sure_default : IsSure (at "default" then no (marks "!"))
+pub sure_default : IsSure (at "default" then no (marks "!"))
 sure_default = sure_then (the_text "default") (sure_no (blind_sure (a_mark "!" refl)))
 
-by_impl : IsSteady (sees (at "impl" or (at "default" then no (marks "!"))))
+pub by_impl : IsSteady (sees (at "impl" or (at "default" then no (marks "!"))))
 by_impl = steady_sees (blind_sure (sure_or (the_text "impl") sure_default))
+
+sure_vert : IsSure vert
+sure_vert =
+    sure_then (sure_no (blind_or (blind_sure (a_mark "||" refl)) (blind_sure (a_mark "|=" refl)))) (a_mark "|" refl)
+
+sure_dots : IsSure dots
+sure_dots =
+    sure_then (sure_no (blind_or (blind_sure (a_mark "..." refl)) (blind_sure (a_mark "..=" refl))))
+    (a_mark ".." refl)
+
+sure_range_end : IsSure range_end_stands
+sure_range_end = sure_then (sure_no (blind_sure (a_mark "..." refl))) (a_mark ".." refl)
+
+sure_range_bound : IsSure range_bound_stands
+sure_range_bound =
+    sure_or sure_literal (sure_or (a_mark "-" refl) (sure_or (a_mark "<" refl) (sure_or (a_mark "::" refl)
+    (sure_word is_name))))
+
+sure_binding : IsSure binding
+sure_binding =
+    sure_then (sure_word is_ident) (sure_no (blind_or (blind_sure (a_mark "::" refl)) (blind_or blind_opens
+    (blind_or blind_opens (blind_sure (a_mark ".." refl))))))
+
+pub sure_postfix : IsSure postfix_stands
+sure_postfix =
+    sure_or (sure_then (sure_no (blind_sure (a_mark ".." refl))) (a_mark "." refl)) (sure_or (a_mark "?" refl)
+    (sure_or (sure_opens Parenthesis refl) (sure_opens Bracket refl)))
 
 -- parts of entries
 steady_lit : Steady lit
 steady_lit =
     (steady_sees (blind_sure (sure_quoted any_text)), tt, tt)
 
-steady_restriction : Steady restriction
+pub steady_restriction : Steady restriction
 steady_restriction =
     (steady_sees (blind_sure sure_restricted_in), tt, tt)
 
-steady_safety : (p : Place) → Steady (safety p)
+pub steady_safety : (p : Place) → Steady (safety p)
 steady_safety InFile =
     (by_text "unsafe", tt, tt)
 steady_safety InForeign =
@@ -275,7 +344,7 @@ steady_definition : Steady definition
 steady_definition =
     (by_mark "=" refl, (tt, refl), tt)
 
-steady_type_end : (p : Place) → Steady (type_end p)
+pub steady_type_end : (p : Place) → Steady (type_end p)
 steady_type_end InFile =
     (by_text "where", (refl, steady_definition), (steady_definition, refl))
 steady_type_end InForeign =
@@ -285,7 +354,7 @@ steady_type_end InTrait =
 steady_type_end InImpl =
     (steady_definition, refl)
 
-steady_macro_name : (p : Place) → Steady (macro_name p)
+pub steady_macro_name : (p : Place) → Steady (macro_name p)
 steady_macro_name InFile =
     (steady_sees (blind_sure (sure_or (sure_word is_ident) (the_text "try"))), (by_text "try", tt, tt), tt)
 steady_macro_name InForeign =
@@ -294,6 +363,34 @@ steady_macro_name InTrait =
     tt
 steady_macro_name InImpl =
     tt
+
+steady_labelled : Steady labelled
+steady_labelled = (by_lifetime, refl, tt)
+
+steady_dot : Steady dot
+steady_dot = (tt, (steady_sees (blind_sure (sure_quoted _)), tt))
+
+steady_sign : (text : List ℕ) → Steady (punct text)
+steady_sign [] = tt
+steady_sign (c ∷ cs) = tt
+
+steady_signs : (texts : List (List ℕ)) → no_semicolons texts ≡ true → Steady (one_sign texts)
+steady_signs [] e = tt
+steady_signs (text ∷ texts) e =
+    let i = and_true (no_semicolon text) (no_semicolons texts) e in
+    (steady_sees (blind_sure (sure_mark text i.0)), steady_sign text, steady_signs texts i.1)
+
+steady_signed : Steady signed_literal
+steady_signed = (by_mark "-" refl, (tt, tt), steady_lit)
+
+by_literal : IsSteady (sees (a_literal or marks "-"))
+by_literal = steady_sees (blind_sure (sure_or sure_literal (a_mark "-" refl)))
+
+by_vert : IsSteady (sees vert)
+by_vert = steady_sees (blind_sure sure_vert)
+
+by_range_end : IsSteady (sees range_end_stands)
+by_range_end = steady_sees (blind_sure sure_range_end)
 
 pub steady_table : (k : Kind) → is_steady k ≡ true → Steady (table k)
 unfolding table
@@ -532,115 +629,86 @@ steady_table (Signature p) e = (
     ),
   ),
 )
-steady_table _ e =
-    no_kind e
-
--- entries that end in a stop
-ended_trait : Ended trait_form
-ended_trait = (
-  (by_text "unsafe", tt, tt),
-  (
-    (by_text "auto", tt, tt),
-    (
-      tt,
-      (
-        tt,
-        (
-          refl,
-          (
-            by_mark "=" refl,
-            (
-              tt,
-              (
-                refl,
-                (refl, (refl, refl)),
-              ),
-            ),
-            (refl, (refl, refl)),
-          ),
-        ),
-      ),
-    ),
-  ),
-)
-
-ended_form : Ended item_form
-ended_form = (
-  by_signature InFile,
+steady_table Delimited e = (by_parenthesis, tt, (by_brace, tt, tt))
+steady_table AMacro e = (refl, (tt, refl))
+steady_table Label e = (tt, tt)
+steady_table Block e = tt
+steady_table ExprLit e = steady_lit
+steady_table ExprPath e = refl
+steady_table ExprMacro e = refl
+steady_table ExprParen e = tt
+steady_table ExprArray e = tt
+steady_table ExprRepeat e = tt
+steady_table ExprGroup e = tt
+steady_table ExprInfer e = tt
+steady_table ExprBlock e = (steady_labelled, refl)
+steady_table ExprUnsafe e = (tt, refl)
+steady_table ExprAsync e = (tt, ((by_text "move", tt, tt), refl))
+steady_table ExprConst e = (tt, refl)
+steady_table ExprTryBlock e = (tt, refl)
+steady_table ExprIf e = (tt, (refl, (refl, (by_text "else", (tt, (by_text "if", refl, refl)), tt))))
+steady_table ExprMatch e = (tt, (refl, tt))
+steady_table ExprLoop e = (steady_labelled, (tt, refl))
+steady_table ExprWhile e = (steady_labelled, (tt, (refl, refl)))
+steady_table ExprForLoop e = (steady_labelled, (tt, (refl, (tt, (refl, refl)))))
+steady_table ExprContinue e = (tt, (by_lifetime, tt, tt))
+steady_table ExprStruct e = refl
+steady_table FieldValues e = tt
+steady_table ExprCall e = tt
+steady_table ExprMethodCall e = (steady_dot, (tt, ((by_mark "::" refl, refl, tt), tt)))
+steady_table ExprField e = (steady_dot, (steady_sees (blind_sure (sure_word is_ident)), tt, tt))
+steady_table ExprAwait e = (steady_dot, tt)
+steady_table ExprIndex e = tt
+steady_table ExprTry e = tt
+steady_table ExprCast e = (tt, (refl, (steady_sees (blind_sure sure_postfix), tt, tt)))
+steady_table ExprAttributed e = (refl, refl)
+steady_table ExprUnary e = steady_signs (codes "*" ∷ codes "!" ∷ codes "-" ∷ []) refl
+steady_table ExprRawAddr e = (tt, (tt, tt))
+steady_table ExprReference e = (tt, (by_text "mut", tt, tt))
+steady_table ExprLet e = (tt, (refl, tt))
+steady_table ExprBreak e = (tt, (by_lifetime, (tt, (by_mark ":" refl, tt, tt)), tt))
+steady_table ExprReturn e = tt
+steady_table ExprYield e = tt
+steady_table ExprRange e = tt
+steady_table ExprRangeClosed e = tt
+steady_table ExprAssign e =
+    steady_signs (codes "=" ∷ codes "+=" ∷ codes "-=" ∷ codes "*=" ∷ codes "/=" ∷ codes "%=" ∷ codes "^=" ∷ codes "&="
+    ∷ codes "|=" ∷ codes "<<=" ∷ codes ">>=" ∷ []) refl
+steady_table ExprOr e = tt
+steady_table ExprAnd e = tt
+steady_table ExprCompare e =
+    steady_signs (codes "==" ∷ codes "<=" ∷ codes "!=" ∷ codes ">=" ∷ codes "<" ∷ codes ">"
+    ∷ []) refl
+steady_table ExprBitOr e = tt
+steady_table ExprBitXor e = tt
+steady_table ExprBitAnd e = tt
+steady_table ExprShift e = steady_signs (codes "<<" ∷ codes ">>" ∷ []) refl
+steady_table ExprSum e = steady_signs (codes "+" ∷ codes "-" ∷ []) refl
+steady_table ExprProduct e = steady_signs (codes "*" ∷ codes "/" ∷ codes "%" ∷ []) refl
+steady_table Pattern e = ((by_vert, tt, tt), (refl, (by_vert, (tt, refl))))
+steady_table OnePattern e = (
+  steady_sees (blind_sure (sure_or (the_text "ref") (sure_or (the_text "mut") sure_binding))),
   refl,
   (
-    by_texts "extern" "crate",
+    by_text "_",
     refl,
     (
-      by_text "extern",
+      steady_sees (blind_sure (sure_or (a_mark "..=" refl)
+          (sure_then sure_dots sure_range_bound))),
       refl,
       (
-        by_text "use",
+        steady_sees (blind_sure sure_dots),
         refl,
         (
-          by_text "static",
+          by_parenthesis,
           refl,
           (
-            steady_sees (blind_sure (sure_then (the_text "const") sure_trait)),
+            by_bracket,
             refl,
             (
-              steady_sees (blind_sure (sure_then (the_text "const") (sure_then (sure_maybe (the_text "unsafe"))
-                  (the_text "impl")))),
+              by_mark "&" refl,
               refl,
-              (
-                by_text "const",
-                refl,
-                (
-                  by_texts "unsafe" "extern",
-                  refl,
-                  (
-                    by_texts "unsafe" "mod",
-                    refl,
-                    (
-                      by_texts "unsafe" "impl",
-                      refl,
-                      (
-                        by_text "unsafe",
-                        refl,
-                        (
-                          by_text "mod",
-                          refl,
-                          (
-                            by_text "type",
-                            refl,
-                            (
-                              by_text "struct",
-                              refl,
-                              (
-                                by_text "enum",
-                                refl,
-                                (
-                                  steady_sees (blind_sure
-                                      (sure_then (the_text "union") (sure_word is_ident))),
-                                  refl,
-                                  (
-                                    by_restricted_trait,
-                                    refl,
-                                    (
-                                      by_trait,
-                                      refl,
-                                      (
-                                        by_impl,
-                                        refl,
-                                        (by_text "macro", refl, (by_macro, refl, tt)),
-                                      ),
-                                    ),
-                                  ),
-                                ),
-                              ),
-                            ),
-                          ),
-                        ),
-                      ),
-                    ),
-                  ),
-                ),
-              ),
+              (by_literal, refl, refl),
             ),
           ),
         ),
@@ -648,142 +716,26 @@ ended_form = (
     ),
   ),
 )
-
-pub ended_table : (k : Kind) → is_ended k ≡ true → Ended (table k)
-unfolding table
-ended_table Body e =
-    refl
-ended_table NamedFields e =
-    refl
-ended_table AStruct e =
-    (tt, (tt, (refl, (by_parenthesis, (refl, (refl, (refl, refl))), (refl, (by_brace, refl, (refl, refl)))))))
-ended_table AnEnum e =
-    (tt, (tt, (refl, (refl, refl))))
-ended_table AUnion e =
-    (tt, (tt, (refl, (refl, refl))))
-ended_table AStatic e = (
-  tt,
+steady_table IdentPattern e = (
+  (by_text "ref", tt, tt),
   (
     (by_text "mut", tt, tt),
     (
       tt,
-      (
-        (by_mark ":" refl, (tt, refl), tt),
-        (
-          (by_mark "=" refl, (tt, refl), tt),
-          (refl, refl),
-        ),
-      ),
+      (by_mark "!" refl, tt, (by_mark "@" refl, (tt, refl), tt)),
     ),
   ),
 )
-ended_table AConst e =
-    (tt, ((by_text "_", tt, tt), (refl, (tt, (refl, ((by_mark "=" refl, (tt, refl), tt), (refl, (refl, refl))))))))
-ended_table AnExternCrate e =
-    (tt, (tt, ((by_text "self", tt, tt), ((by_text "as", (tt, (by_text "_", tt, tt)), tt), (refl, refl)))))
-ended_table AForeignModule e =
-    ((by_text "unsafe", tt, tt), (refl, refl))
-ended_table AUse e =
-    (tt, (refl, (refl, refl)))
-ended_table AModule e =
-    ((by_text "unsafe", tt, tt), (tt, ((by_text "try", tt, tt), (steady_sees (blind_sign 59), (refl, refl), refl))))
-ended_table ATrait e =
-    ended_trait
-ended_table AConstTrait e =
-    (tt, refl)
-ended_table ARestrictedTrait e =
-    (tt, (steady_restriction, ((by_text "const", tt, tt), ended_trait)))
-ended_table AnImpl e = (
-  (by_text "default", tt, tt),
-  (
-    (by_text "const", tt, tt),
-    (
-      (by_text "unsafe", tt, tt),
-      (
-        tt,
-        (
-          refl,
-          (
-            (steady_sees (blind_sure (sure_then (a_mark "!" refl) (sure_no blind_opens))), tt, tt),
-            (
-              refl,
-              ((by_text "for", (tt, refl), tt), (refl, refl)),
-            ),
-          ),
-        ),
-      ),
-    ),
-  ),
-)
-ended_table AMacroDefinition e =
-    (tt, (tt, ((by_parenthesis, tt, tt), refl)))
-ended_table (AFunction p) e =
-    (refl, (by_brace, refl, (refl, refl)))
-ended_table (ATypeAlias p) e =
-    (tt, (tt, (refl, (refl, (steady_type_end p, (refl, refl))))))
-ended_table (ItemMacro p) e =
-    (refl, (tt, (steady_macro_name p, (by_brace, refl, ((by_parenthesis, tt, tt), (refl, refl))))))
-ended_table AnItem e =
-    (refl, (refl, ended_form))
-ended_table AForeignItem e = (
-  refl,
-  (
-    refl,
-    (
-      by_signature InForeign,
-      refl,
-      (
-        steady_sees (blind_sure (sure_then (sure_safety InForeign)
-            (the_text "static"))),
-        (steady_safety InForeign, refl),
-        (by_text "type", refl, (by_macro, refl, tt)),
-      ),
-    ),
-  ),
-)
-ended_table ATraitItem e = (
-  refl,
-  (
-    refl,
-    (
-      (by_text "default", tt, tt),
-      (
-        by_signature InTrait,
-        refl,
-        (
-          by_text "const",
-          refl,
-          (by_text "type", refl, (by_macro, refl, tt)),
-        ),
-      ),
-    ),
-  ),
-)
-ended_table AnImplItem e = (
-  refl,
-  (
-    refl,
-    (
-      (
-        steady_sees (blind_sure sure_default),
-        tt,
-        tt,
-      ),
-      (
-        by_signature InImpl,
-        refl,
-        (
-          by_text "const",
-          refl,
-          (
-            by_text "type",
-            refl,
-            (by_macro, refl, tt),
-          ),
-        ),
-      ),
-    ),
-  ),
-)
-ended_table _ e =
-    no_kind e
+steady_table WildPattern e = tt
+steady_table RangeToPattern e = ((by_mark "..=" refl, tt, tt), refl)
+steady_table RestPattern e = tt
+steady_table TuplePattern e = tt
+steady_table SlicePattern e = tt
+steady_table ReferencePattern e = (tt, ((by_text "mut", tt, tt), refl))
+steady_table LiteralPattern e = (steady_signed, (by_range_end, refl, tt))
+steady_table PathPattern e = (refl, (by_parenthesis, tt, (by_brace, refl, (by_range_end, refl, tt))))
+steady_table FieldPatterns e = tt
+steady_table RangeEnd e =
+    (by_mark "..=" refl, (tt, refl), (tt, (steady_sees (blind_sure sure_range_bound), refl, tt)))
+steady_table RangeBound e = (by_literal, steady_signed, refl)
+steady_table _ e = no_kind e
