@@ -1,8 +1,8 @@
 -- The forms of expressions: which begins before a stop, which goes on there and whether it has a right operand is seen
--- without what stands behind the stop. Of closures it is not: whether one has a type is seen behind its parameters.
+-- without what stands behind the stop; of closures, since their two | stand before it.
 use Prim.Native.String.{String}
 use Rattle.std.proofs.Common.{◌≡◌, ℕ, List, [], ◌∷◌, refl, sym, ap, ◌∙◌}
-use Rattle.std.specs.Prelude.{Bool, true, false, not, ◌&&◌, ◌||◌, cond, codes, Option, Some, None}
+use Rattle.std.specs.Prelude.{Bool, true, false, not, ◌&&◌, cond, codes, Option, Some, None}
 use Rattle.proc_macro2.specs.Token.{Token}
 use Rattle.proc_macro2.specs.declared.delimiter.Delimiter.TheVariants.{Bracket}
 use Rattle.syn_grammar.specs.Kind.{Kind, Position, Plain, InCondition, InArm, InStatement}
@@ -18,7 +18,7 @@ use Rattle.syn_grammar.specs.Forms.{closure_stands, past_bar, range_stands}
 use Rattle.syn_grammar.specs.Forms.{let_stands, dot_stands, struct_stands, operand_stands, brace_ends}
 use Rattle.syn_grammar.specs.Forms.{range_is_open, has_right}
 use Rattle.syn_grammar.proofs.Whole.{and_true}
-use Rattle.item_laws.specs.Bare.{is_closure}
+use Rattle.item_laws.proofs.Bars.{Barred, bars_seen}
 use Rattle.item_laws.proofs.Alike.{Alike, IsSure, IsBlind, blind_sure, sure_then, strict_then, blind_then, sure_or}
 use Rattle.item_laws.proofs.Alike.{blind_or, sure_maybe, sure_no, sure_none, sure_word, sure_quoted}
 use Rattle.item_laws.proofs.Alike.{no_semicolon, strict_mark, sure_marks, blind_sign, sure_lifetime, blind_opens}
@@ -99,6 +99,11 @@ blind_range : (p : Position) → IsBlind (range_is_open p)
 blind_range p =
     blind_or (blind_or (blind_sure sure_end) (blind_or blind_marks (blind_or (by_text "as")
     (blind_then (sure_no (by_mark ".." refl)) (by_mark "." refl))))) (blind_brace p)
+
+abbrev pub is_closure : Kind → Bool
+is_closure ExprClosure = true
+is_closure ExprTypedClosure = true
+is_closure _ = false
 
 -- each is seen of both or of neither
 abbrev AreBlind : List Case → Type 0
@@ -334,33 +339,48 @@ module _ (n m : ℕ) (a b : List Token) (h : Alike n m a b) where
       (other_if k e _ _ _ _ _ _ (blind_closure.by n m a b h) (λ v. typed_off (seen (closure_stands b)) v)
       (λ i. sym (cases_same (behind_closures (fronts p)) (others_blind p)) ∙ i))))))
 
--- forms have steady entries, but for closures
+  -- of a closure, where its two | stand before the stop
+  typed_if : (u v : Bool) → u ≡ v → Barred 0 2 a b
+      → seen (behind (cond (seen (cond u None (Some a))) None (Some a)) (past_bar then past_bar then marks "->"))
+      ≡ seen (behind (cond (seen (cond v None (Some b))) None (Some b)) (past_bar then past_bar then marks "->"))
+  typed_if true true e w = bars_seen a b w
+  typed_if false false e w = refl
+  typed_if true false e w = cc e
+  typed_if false true e w = cc e
+
+  pub closure_same : (p : Position) → Barred 0 2 a b → front p a ≡ front p b
+  unfolding front
+  closure_same p w =
+      same_if _ _ _ _ _ ((by_mark "#" refl).by n m a b h) (same_if _ _ _ _ _ ((blind_sure sure_literal).by n m a b h)
+      (same_if _ _ _ _ _ ((blind_then sure_labelled blind_opens).by n m a b h)
+      (same_if _ _ _ _ _ ((blind_then sure_labelled (by_text "loop")).by n m a b h)
+      (same_if _ _ _ _ _ ((blind_then sure_labelled (by_text "while")).by n m a b h)
+      (same_if _ _ _ _ _
+      (typed_if (seen (closure_stands a)) (seen (closure_stands b)) (blind_closure.by n m a b h) w)
+      (same_if _ _ _ _ _ (blind_closure.by n m a b h)
+      (cases_same (behind_closures (fronts p)) (others_blind p))))))))
+
+-- forms have steady entries
 abbrev are_steady : List Case → Bool
 are_steady [] = true
-are_steady (form k l ∷ cases) = (is_closure k || is_steady k) && are_steady cases
+are_steady (form k l ∷ cases) = is_steady k && are_steady cases
 
 some_steady : (cases : List Case) (ts : List Token) (k : Kind) → are_steady cases ≡ true
-    → first_form cases ts ≡ Some k → is_closure k || is_steady k ≡ true
+    → first_form cases ts ≡ Some k → is_steady k ≡ true
 some_steady [] ts k e f = cc f
 some_steady (form j l ∷ cases) ts k e f =
-    let i = and_true (is_closure j || is_steady j) (are_steady cases) e in
+    let i = and_true (is_steady j) (are_steady cases) e in
     go (seen (l ts)) (first_form cases ts) (some_steady cases ts k i.1) i.0 f
   where
-    go : (b : Bool) (o : Option Kind) → (o ≡ Some k → is_closure k || is_steady k ≡ true)
-        → is_closure j || is_steady j ≡ true → cond b (Some j) o ≡ Some k → is_closure k || is_steady k ≡ true
+    go : (b : Bool) (o : Option Kind) → (o ≡ Some k → is_steady k ≡ true) → is_steady j ≡ true
+        → cond b (Some j) o ≡ Some k → is_steady k ≡ true
     go true o g h e = cc
     go false o g h e = g e
 
-no_closure : (b c : Bool) → b || c ≡ true → b ≡ false → c ≡ true
-no_closure true c e f = cc f
-no_closure false c e f = e
-
-pub front_steady : (p : Position) (ts : List Token) (k : Kind) → is_closure k ≡ false → front p ts ≡ Some k
-    → is_steady k ≡ true
+pub front_steady : (p : Position) (ts : List Token) (k : Kind) → front p ts ≡ Some k → is_steady k ≡ true
 unfolding front
-front_steady p ts k e f = no_closure (is_closure k) (is_steady k) (some_steady (fronts p) ts k refl f) e
+front_steady p ts k f = some_steady (fronts p) ts k refl f
 
-pub back_steady : (p : Position) (ts : List Token) (k : Kind) → is_closure k ≡ false → back p ts ≡ Some k
-    → is_steady k ≡ true
+pub back_steady : (p : Position) (ts : List Token) (k : Kind) → back p ts ≡ Some k → is_steady k ≡ true
 unfolding back
-back_steady p ts k e f = no_closure (is_closure k) (is_steady k) (some_steady (backs p) ts k refl f) e
+back_steady p ts k f = some_steady (backs p) ts k refl f

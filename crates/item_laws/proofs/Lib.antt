@@ -12,6 +12,7 @@ pub mod Alike
 pub mod Steady
 pub mod Ended
 pub mod Forms
+pub mod Bars
 pub mod Stays
 pub mod Places
 pub mod Impls

@@ -1,7 +1,7 @@
 -- What ends in a stop is read the same before whatever follows it.
-use Rattle.std.proofs.Common.{◌≡◌, ℕ, zero, suc, List, [], ◌∷◌, ◌++◌, refl, sym, ap, ◌∙◌, subst, append_assoc}
+use Rattle.std.proofs.Common.{◌≡◌, ℕ, suc, List, [], ◌∷◌, ◌++◌, refl, sym, ap, ◌∙◌, subst, append_assoc}
 use Rattle.std.specs.Prelude.{Bool, true, false, Some}
-use Rattle.proc_macro2.specs.Token.{Token, Opens, Closes, Ident, Literal, Punct}
+use Rattle.proc_macro2.specs.Token.{Token, Opens, Closes, Punct}
 use Rattle.proc_macro2.specs.declared.delimiter.Delimiter.{Delimiter}
 use Rattle.proc_macro2.specs.declared.delimiter.Delimiter.TheVariants.{Brace}
 use Rattle.rust_leaf.specs.declared.punct.Spacing.{Spacing}
@@ -10,21 +10,20 @@ use Rattle.syn_grammar.specs.Tree.{Tree, AWord, ALiteral, AMark, ALifetime, Raw,
 use Rattle.syn_grammar.specs.Tree.{Final, More, Group, Dropped, Called, Verbatim, Node, Whole, marks, flat}
 use Rattle.syn_grammar.specs.Gram.{Gram, word, literal, mark, lifetime, raw, nothing, seq, alt, star, many, group}
 use Rattle.syn_grammar.specs.Gram.{judged, dropped, called, ref, operand}
-use Rattle.syn_grammar.specs.Look.{past_closing}
 use Rattle.syn_grammar.specs.Tree.{Alone, Front, Back, Infix}
 use Rattle.syn_grammar.specs.Forms.{inside, level, goes_on, takes_kind}
 use Rattle.syn_grammar.specs.Derives.{Bound}
-use Rattle.item_laws.specs.Bare.{is_closure}
-use Rattle.item_laws.proofs.Forms.{front_same, back_same, right_same, front_steady, back_steady}
-use Rattle.item_laws.proofs.Fronts.{not_true}
-use Rattle.std.specs.Prelude.{not, ◌&&◌}
+use Rattle.item_laws.proofs.Forms.{front_same, closure_same, back_same, right_same, front_steady, back_steady}
+use Rattle.item_laws.proofs.Forms.{is_closure}
+use Rattle.item_laws.proofs.Bars.{Barred, none, alike, front_of, bars, barred}
+use Rattle.syn_grammar.specs.Forms.{front}
+use Rattle.syn_grammar.specs.Kind.{ExprClosure, ExprTypedClosure}
 use Rattle.syn_grammar.specs.Table.{table}
 use Rattle.syn_grammar.specs.Derives.{Derives}
 use Rattle.syn_grammar.specs.Read.{IsRead}
 use Rattle.syn_grammar.specs.Kept.{held, kept}
 use Rattle.syn_grammar.specs.Normal.{passed, normal}
-use Rattle.syn_grammar.proofs.Whole.{and_true}
-use Rattle.item_laws.specs.Bare.{is_bare, is_any_item}
+use Rattle.item_laws.specs.Begins.{is_any_item}
 use Rattle.item_laws.proofs.Passed.{tree_passed}
 use Rattle.item_laws.proofs.Alike.{Alike, semicolon, brace, a_text, quoted, sign, opened, closed, IsSteady}
 use Rattle.item_laws.proofs.Alike.{blind_sign}
@@ -34,24 +33,11 @@ use Rattle.item_laws.proofs.Ended.{is_ended, Ended, ended_table}
 abbrev Same : List Token → List Token → Type 0
 Same a b = (m : ℕ) × Alike 0 m a b
 
--- tokens in which what opens closes may stand in front
-some_end : (xs : List Token) (t : Token) → Some (xs ++ t ∷ []) ≡ Some [] → ⊥
-some_end [] t e = cc
-some_end (x ∷ xs) t e = cc
-
-front_of : (k m : ℕ) (xs a b : List Token) → past_closing k (xs ++ Closes Brace ∷ []) ≡ Some [] → Alike 0 m a b
-    → (j : ℕ) × Alike k j (xs ++ a) (xs ++ b)
-front_of zero m [] a b e h = (m, h)
-front_of (suc k) m [] a b e h = cc e
-front_of k m (Ident cs ∷ xs) a b e h = let i = front_of k m xs a b e h in (suc i.0, a_text cs i.1)
-front_of k m (Literal cs ∷ xs) a b e h = let i = front_of k m xs a b e h in (suc i.0, quoted cs i.1)
-front_of k m (Punct c s ∷ xs) a b e h = let i = front_of k m xs a b e h in (suc i.0, sign c s i.1)
-front_of k m (Opens d ∷ xs) a b e h = let i = front_of (suc k) m xs a b e h in (suc i.0, opened d i.1)
-front_of zero m (Closes d ∷ xs) a b e h = absurd (some_end xs (Closes Brace) e)
-front_of (suc k) m (Closes d ∷ xs) a b e h = let i = front_of k m xs a b e h in (suc i.0, closed d i.1)
-
+-- a tree may stand in front
 ahead : (x : Tree) (g : Gram) (r a b : List Token) → Derives x g r → Same a b → Same (flat x ++ a) (flat x ++ b)
-ahead x g r a b d h = front_of 0 h.0 (flat x) a b (tree_passed x g r d 0 (Closes Brace ∷ [])) h.1
+ahead x g r a b d h =
+    alike 0 0 (flat x ++ a) (flat x ++ b)
+    (front_of 0 0 (flat x) a b (tree_passed x g r d 0 (Closes Brace ∷ [])) (none h.1))
 
 joined : (xs ys a b : List Token) → Same (xs ++ (ys ++ a)) (xs ++ (ys ++ b)) → Same ((xs ++ ys) ++ a)
     ((xs ++ ys) ++ b)
@@ -76,42 +62,60 @@ still : (p : Position) (n : ℕ) (x : Tree) (a b : List Token) → Same a b → 
     → goes_on p n x b ≡ false
 still p n x a b h e = sym (ap (takes_kind p n x) (back_same 0 h.0 a b h.1 p)) ∙ e
 
+-- the form that begins there; of a closure the two | stand before the stop
+two_bars : (k : Kind) → is_closure k ≡ true → bars (table k) 0 ≡ 2
+unfolding table
+two_bars ExprClosure e = refl
+two_bars ExprTypedClosure e = refl
+two_bars _ e = no_kind e
+
+front_there : (y : Tree) (k : Kind) (p : Position) (a b : List Token) → Derives y (table k) a → Same a b
+    → front p (flat y ++ a) ≡ Some k → front p (flat y ++ b) ≡ Some k
+front_there y k p a b d h e = go (is_closure k) refl
+  where
+    go : (c : Bool) → is_closure k ≡ c → front p (flat y ++ b) ≡ Some k
+    go true f =
+        let i = ahead y (table k) a a b d h in
+        sym (closure_same 0 i.0 (flat y ++ a) (flat y ++ b) i.1 p
+        (subst (λ j. Barred 0 j (flat y ++ a) (flat y ++ b)) (two_bars k f)
+        (barred y (table k) a 0 a b d (none h.1)))) ∙ e
+    go false f =
+        let i = ahead y (table k) a a b d h in
+        front_same 0 i.0 (flat y ++ a) (flat y ++ b) i.1 p k f e
+
 -- before a stop
 mutual
-  pub shift : (x : Tree) (g : Gram) (a b : List Token) → Steady g → is_bare x ≡ true → Same a b → Derives x g a
+  pub shift : (x : Tree) (g : Gram) (a b : List Token) → Steady g → Same a b → Derives x g a
       → Derives x g b
-  shift (AWord cs) (word p) a b s e h d = d
-  shift (ALiteral cs) (literal p) a b s e h d = d
-  shift (AMark c cs spacing) (mark f fs) a b s e h d = d
-  shift (ALifetime cs) lifetime a b s e h d = d
-  shift (Raw ts) raw a b s e h d = absurd (never_empty 0 h.0 a b h.1 d.1)
-  shift Nil nothing a b s e h d = d
-  shift (Pair x y) (seq f g) a b s e h d =
-      let i = and_true (is_bare x) (is_bare y) e in (
-        shift x f (flat y ++ a) (flat y ++ b) s.0 i.0 (ahead y g a a b d.1 h) d.0,
-        shift y g a b s.1 i.1 h d.1,
-      )
-  shift (First x) (alt t f g) a b s e h d =
-      (tested t s.0 (flat x ++ a) (flat x ++ b) true (ahead x f a a b d.1 h) d.0, shift x f a b s.1 e h d.1)
-  shift (Second x) (alt t f g) a b s e h d =
-      (tested t s.0 (flat x ++ a) (flat x ++ b) false (ahead x g a a b d.1 h) d.0, shift x g a b s.2 e h d.1)
-  shift End (star t g) a b s e h d = tested t s.0 a b false h d
-  shift (Again x y) (star t g) a b s e h d =
-      let i = and_true (is_bare x) (is_bare y) e in
+  shift (AWord cs) (word p) a b s h d = d
+  shift (ALiteral cs) (literal p) a b s h d = d
+  shift (AMark c cs spacing) (mark f fs) a b s h d = d
+  shift (ALifetime cs) lifetime a b s h d = d
+  shift (Raw ts) raw a b s h d = absurd (never_empty 0 h.0 a b h.1 d.1)
+  shift Nil nothing a b s h d = d
+  shift (Pair x y) (seq f g) a b s h d = (
+    shift x f (flat y ++ a) (flat y ++ b) s.0 (ahead y g a a b d.1 h) d.0,
+    shift y g a b s.1 h d.1,
+  )
+  shift (First x) (alt t f g) a b s h d =
+      (tested t s.0 (flat x ++ a) (flat x ++ b) true (ahead x f a a b d.1 h) d.0, shift x f a b s.1 h d.1)
+  shift (Second x) (alt t f g) a b s h d =
+      (tested t s.0 (flat x ++ a) (flat x ++ b) false (ahead x g a a b d.1 h) d.0, shift x g a b s.2 h d.1)
+  shift End (star t g) a b s h d = tested t s.0 a b false h d
+  shift (Again x y) (star t g) a b s h d =
       let j = ahead y (star t g) a a b d.2 h in (
         tested t s.0 (flat x ++ flat y ++ a) (flat x ++ flat y ++ b) true
             (joined (flat x) (flat y) a b (ahead x g (flat y ++ a) (flat y ++ a) (flat y ++ b) d.1 j)) d.0,
-        shift x g (flat y ++ a) (flat y ++ b) s.1 i.0 j d.1,
-        shift y (star t g) a b s i.1 h d.2,
+        shift x g (flat y ++ a) (flat y ++ b) s.1 j d.1,
+        shift y (star t g) a b s h d.2,
       )
-  shift End (many t c g) a b s e h d = tested t s.0 a b true h d
-  shift (Final x) (many t c g) a b s e h d = (
+  shift End (many t c g) a b s h d = tested t s.0 a b true h d
+  shift (Final x) (many t c g) a b s h d = (
     tested t s.0 (flat x ++ a) (flat x ++ b) false (ahead x g a a b d.1 h) d.0,
-    shift x g a b s.1 e h d.1,
+    shift x g a b s.1 h d.1,
     sym ((blind_sign c).by 0 h.0 a b h.1) ∙ d.2,
   )
-  shift (More x m spacing y) (many t c g) a b s e h d =
-      let i = and_true (is_bare x) (is_bare y) e in
+  shift (More x m spacing y) (many t c g) a b s h d =
       let k = ahead y (many t c g) a a b d.3 h in
       let j : Same (Punct m spacing ∷ flat y ++ a) (Punct m spacing ∷ flat y ++ b) = (
         suc k.0,
@@ -121,70 +125,56 @@ mutual
             (joined (flat x) (Punct m spacing ∷ flat y) a b (ahead x g (Punct m spacing ∷ flat y ++ a)
             (Punct m spacing ∷ flat y ++ a) (Punct m spacing ∷ flat y ++ b) d.2 j)) d.0,
         d.1,
-        shift x g (Punct m spacing ∷ flat y ++ a) (Punct m spacing ∷ flat y ++ b) s.1 i.0 j d.2,
-        shift y (many t c g) a b s i.1 h d.3,
+        shift x g (Punct m spacing ∷ flat y ++ a) (Punct m spacing ∷ flat y ++ b) s.1 j d.2,
+        shift y (many t c g) a b s h d.3,
       )
-  shift (Group f x) (group o g) a b s e h d = d
-  shift (First x) (judged v g) a b s e h d = (d.0, shift x g a b s e h d.1)
-  shift (Verbatim x) (judged v g) a b s e h d = (d.0, shift x g a b s e h d.1)
-  shift (Dropped x) (dropped g) a b s e h d = shift x g a b s e h d
-  shift (Called n x) (called m g) a b s e h d = (d.0, shift x g a b s e h d.1)
-  shift (Node k x) (ref l) a b s e h d =
-      (d.0, shift x (table k) a b (steady_table k (ap is_steady d.0 ∙ s)) e h d.1)
-  shift (Whole x) (operand p n) a b s e h d =
-      ((d.0.0, still p n x a b h d.0.1), shift_bound x p a b e h d.1)
-  shift _ _ a b s e h d = absurd d
+  shift (Group f x) (group o g) a b s h d = d
+  shift (First x) (judged v g) a b s h d = (d.0, shift x g a b s h d.1)
+  shift (Verbatim x) (judged v g) a b s h d = (d.0, shift x g a b s h d.1)
+  shift (Dropped x) (dropped g) a b s h d = shift x g a b s h d
+  shift (Called n x) (called m g) a b s h d = (d.0, shift x g a b s h d.1)
+  shift (Node k x) (ref l) a b s h d =
+      (d.0, shift x (table k) a b (steady_table k (ap is_steady d.0 ∙ s)) h d.1)
+  shift (Whole x) (operand p n) a b s h d =
+      ((d.0.0, still p n x a b h d.0.1), shift_bound x p a b h d.1)
+  shift _ _ a b s h d = absurd d
 
-  shift_bound : (x : Tree) (p : Position) (a b : List Token) → is_bare x ≡ true → Same a b → Bound p x a → Bound p x b
-  shift_bound (Alone k y) p a b e h d =
-      let i = and_true (not (is_closure k)) (is_bare y) e in
-      let c = not_true (is_closure k) i.0 in
-      let j = ahead y (table k) a a b d.1 h in (
-        front_same 0 j.0 (flat y ++ a) (flat y ++ b) j.1 p k c d.0,
-        shift y (table k) a b (steady_table k (front_steady p (flat y ++ a) k c d.0)) i.1 h d.1,
-        sym (right_same 0 h.0 a b h.1 p k) ∙ d.2,
-      )
-  shift_bound (Front k y x) p a b e h d =
-      let i = and_true (not (is_closure k)) (is_bare y && is_bare x) e in
-      let o = and_true (is_bare y) (is_bare x) i.1 in
-      let c = not_true (is_closure k) i.0 in
-      let u = ahead (Whole x) (operand (inside p k) (level k)) a a b (d.3, d.4) h in
-      let j = ahead y (table k) (flat x ++ a) (flat x ++ a) (flat x ++ b) d.1 u in (
-        front_same 0 j.0 (flat y ++ (flat x ++ a)) (flat y ++ (flat x ++ b)) j.1 p k c d.0,
+  shift_bound : (x : Tree) (p : Position) (a b : List Token) → Same a b → Bound p x a → Bound p x b
+  shift_bound (Alone k y) p a b h d = (
+    front_there y k p a b d.1 h d.0,
+    shift y (table k) a b (steady_table k (front_steady p (flat y ++ a) k d.0)) h d.1,
+    sym (right_same 0 h.0 a b h.1 p k) ∙ d.2,
+  )
+  shift_bound (Front k y x) p a b h d =
+      let u = ahead (Whole x) (operand (inside p k) (level k)) a a b (d.3, d.4) h in (
+        front_there y k p (flat x ++ a) (flat x ++ b) d.1 u d.0,
         shift y (table k) (flat x ++ a) (flat x ++ b)
-            (steady_table k (front_steady p (flat y ++ (flat x ++ a)) k c d.0)) o.0 u d.1,
+            (steady_table k (front_steady p (flat y ++ (flat x ++ a)) k d.0)) u d.1,
         sym (right_same 0 u.0 (flat x ++ a) (flat x ++ b) u.1 p k) ∙ d.2,
         (d.3.0, still (inside p k) (level k) x a b h d.3.1),
-        shift_bound x (inside p k) a b o.1 h d.4,
+        shift_bound x (inside p k) a b h d.4,
       )
-  shift_bound (Back l k y) p a b e h d =
-      let i = and_true (not (is_closure k)) (is_bare l && is_bare y) e in
-      let o = and_true (is_bare l) (is_bare y) i.1 in
-      let c = not_true (is_closure k) i.0 in
+  shift_bound (Back l k y) p a b h d =
       let j = ahead y (table k) a a b d.1 h in (
         sym (back_same 0 j.0 (flat y ++ a) (flat y ++ b) j.1 p) ∙ d.0,
-        shift y (table k) a b (steady_table k (back_steady p (flat y ++ a) k c d.0)) o.1 h d.1,
+        shift y (table k) a b (steady_table k (back_steady p (flat y ++ a) k d.0)) h d.1,
         sym (right_same 0 h.0 a b h.1 p k) ∙ d.2,
         d.3,
-        shift_bound l p (flat y ++ a) (flat y ++ b) o.0 j d.4,
+        shift_bound l p (flat y ++ a) (flat y ++ b) j d.4,
       )
-  shift_bound (Infix l k y r) p a b e h d =
-      let i = and_true (not (is_closure k)) (is_bare l && (is_bare y && is_bare r)) e in
-      let o = and_true (is_bare l) (is_bare y && is_bare r) i.1 in
-      let q = and_true (is_bare y) (is_bare r) o.1 in
-      let c = not_true (is_closure k) i.0 in
+  shift_bound (Infix l k y r) p a b h d =
       let u = ahead (Whole r) (operand (inside p k) (level k)) a a b (d.5, d.6) h in
       let j = ahead y (table k) (flat r ++ a) (flat r ++ a) (flat r ++ b) d.1 u in (
         sym (back_same 0 j.0 (flat y ++ (flat r ++ a)) (flat y ++ (flat r ++ b)) j.1 p) ∙ d.0,
         shift y (table k) (flat r ++ a) (flat r ++ b)
-            (steady_table k (back_steady p (flat y ++ (flat r ++ a)) k c d.0)) q.0 u d.1,
+            (steady_table k (back_steady p (flat y ++ (flat r ++ a)) k d.0)) u d.1,
         sym (right_same 0 u.0 (flat r ++ a) (flat r ++ b) u.1 p k) ∙ d.2,
         d.3,
-        shift_bound l p (flat y ++ (flat r ++ a)) (flat y ++ (flat r ++ b)) o.0 j d.4,
+        shift_bound l p (flat y ++ (flat r ++ a)) (flat y ++ (flat r ++ b)) j d.4,
         (d.5.0, still (inside p k) (level k) r a b h d.5.1),
-        shift_bound r (inside p k) a b q.1 h d.6,
+        shift_bound r (inside p k) a b h d.6,
       )
-  shift_bound _ p a b e h d = absurd d
+  shift_bound _ p a b h d = absurd d
 
 -- what ends in one
 end_mark : (c : ℕ) (cs : List ℕ) (spacing : Spacing) (r s : List Token) → c ≡ 59 → cs ≡ []
@@ -197,45 +187,44 @@ end_group : (d : Delimiter) (xs r s : List Token) → d ≡ Brace
     → Same (Opens d ∷ (xs ++ r)) (Opens d ∷ (xs ++ s))
 end_group d xs r s e = subst (λ f. Same (Opens f ∷ (xs ++ r)) (Opens f ∷ (xs ++ s))) (sym e) (0, brace)
 
-pub ended : (x : Tree) (g : Gram) (r s : List Token) → Ended g → is_bare x ≡ true → Derives x g r
+pub ended : (x : Tree) (g : Gram) (r s : List Token) → Ended g → Derives x g r
     → Same (flat x ++ r) (flat x ++ s) × Derives x g s
-ended (AMark c cs spacing) (mark f fs) r s i e d = (end_mark c cs spacing r s (d.0 ∙ i.0) (d.1 ∙ i.1), d)
-ended (Pair x y) (seq f g) r s i e d =
-    let j = and_true (is_bare x) (is_bare y) e in
-    let k = ended y g r s i.1 j.1 d.1 in (
+ended (AMark c cs spacing) (mark f fs) r s i d = (end_mark c cs spacing r s (d.0 ∙ i.0) (d.1 ∙ i.1), d)
+ended (Pair x y) (seq f g) r s i d =
+    let k = ended y g r s i.1 d.1 in (
       joined (flat x) (flat y) r s (ahead x f (flat y ++ r) (flat y ++ r) (flat y ++ s) d.0 k.0),
-      (shift x f (flat y ++ r) (flat y ++ s) i.0 j.0 k.0 d.0, k.1),
+      (shift x f (flat y ++ r) (flat y ++ s) i.0 k.0 d.0, k.1),
     )
-ended (First x) (alt t f g) r s i e d =
-    let k = ended x f r s i.1 e d.1 in (k.0, (tested t i.0 (flat x ++ r) (flat x ++ s) true k.0 d.0, k.1))
-ended (Second x) (alt t f g) r s i e d =
-    let k = ended x g r s i.2 e d.1 in (k.0, (tested t i.0 (flat x ++ r) (flat x ++ s) false k.0 d.0, k.1))
-ended (Group f x) (group o g) r s i e d = (end_group f (flat x ++ Closes f ∷ []) r s (d.0 ∙ i), d)
-ended (First x) (judged v g) r s i e d = let k = ended x g r s i e d.1 in (k.0, (d.0, k.1))
-ended (Verbatim x) (judged v g) r s i e d = let k = ended x g r s i e d.1 in (k.0, (d.0, k.1))
-ended (Called n x) (called m g) r s i e d = let k = ended x g r s i e d.1 in (k.0, (d.0, k.1))
-ended (Node k x) (ref l) r s i e d =
-    let j = ended x (table k) r s (ended_table k (ap is_ended d.0 ∙ i)) e d.1 in (j.0, (d.0, j.1))
-ended _ (word p) r s i e d = absurd i
-ended _ (literal p) r s i e d = absurd i
-ended _ lifetime r s i e d = absurd i
-ended _ raw r s i e d = absurd i
-ended _ nothing r s i e d = absurd i
-ended _ (star t g) r s i e d = absurd i
-ended _ (many t c g) r s i e d = absurd i
-ended _ (dropped g) r s i e d = absurd i
-ended _ (operand p n) r s i e d = absurd i
-ended _ _ r s i e d = absurd d
+ended (First x) (alt t f g) r s i d =
+    let k = ended x f r s i.1 d.1 in (k.0, (tested t i.0 (flat x ++ r) (flat x ++ s) true k.0 d.0, k.1))
+ended (Second x) (alt t f g) r s i d =
+    let k = ended x g r s i.2 d.1 in (k.0, (tested t i.0 (flat x ++ r) (flat x ++ s) false k.0 d.0, k.1))
+ended (Group f x) (group o g) r s i d = (end_group f (flat x ++ Closes f ∷ []) r s (d.0 ∙ i), d)
+ended (First x) (judged v g) r s i d = let k = ended x g r s i d.1 in (k.0, (d.0, k.1))
+ended (Verbatim x) (judged v g) r s i d = let k = ended x g r s i d.1 in (k.0, (d.0, k.1))
+ended (Called n x) (called m g) r s i d = let k = ended x g r s i d.1 in (k.0, (d.0, k.1))
+ended (Node k x) (ref l) r s i d =
+    let j = ended x (table k) r s (ended_table k (ap is_ended d.0 ∙ i)) d.1 in (j.0, (d.0, j.1))
+ended _ (word p) r s i d = absurd i
+ended _ (literal p) r s i d = absurd i
+ended _ lifetime r s i d = absurd i
+ended _ raw r s i d = absurd i
+ended _ nothing r s i d = absurd i
+ended _ (star t g) r s i d = absurd i
+ended _ (many t c g) r s i d = absurd i
+ended _ (dropped g) r s i d = absurd i
+ended _ (operand p n) r s i d = absurd i
+ended _ _ r s i d = absurd d
 
 -- items, raw or not
-pub item_stays : (k : Kind) (x : Tree) (r s : List Token) → is_any_item k ≡ true → is_bare x ≡ true → Derives x
+pub item_stays : (k : Kind) (x : Tree) (r s : List Token) → is_any_item k ≡ true → Derives x
     (ref k) r
     → Derives x (ref k) s
-item_stays AnItem x r s i e d = (ended x (ref AnItem) r s refl e d).1
-item_stays AForeignItem x r s i e d = (ended x (ref AForeignItem) r s refl e d).1
-item_stays ATraitItem x r s i e d = (ended x (ref ATraitItem) r s refl e d).1
-item_stays AnImplItem x r s i e d = (ended x (ref AnImplItem) r s refl e d).1
-item_stays _ x r s i e d = no_kind i
+item_stays AnItem x r s i d = (ended x (ref AnItem) r s refl d).1
+item_stays AForeignItem x r s i d = (ended x (ref AForeignItem) r s refl d).1
+item_stays ATraitItem x r s i d = (ended x (ref ATraitItem) r s refl d).1
+item_stays AnImplItem x r s i d = (ended x (ref AnImplItem) r s refl d).1
+item_stays _ x r s i d = no_kind i
 
 -- raw ones are kept as they are in normal form
 raw_same : (k : Kind) (x : Tree) → is_any_item k ≡ true
@@ -254,12 +243,12 @@ raw_flat ATraitItem x i = refl
 raw_flat AnImplItem x i = refl
 raw_flat _ x i = no_kind i
 
-pub raw_back : (k : Kind) (x : Tree) (r s : List Token) → is_any_item k ≡ true → is_bare x ≡ true
+pub raw_back : (k : Kind) (x : Tree) (r s : List Token) → is_any_item k ≡ true
     → Derives (Node k (Verbatim x)) (ref k) r
     → IsRead k (flat (normal (kept (Node k (Verbatim x)))) ++ s) (normal (kept (Node k (Verbatim x)))) s
-raw_back k x r s i e d = record {
+raw_back k x r s i d = record {
   tree = Node k (Verbatim x);
-  derived = item_stays k (Node k (Verbatim x)) r s i e d;
+  derived = item_stays k (Node k (Verbatim x)) r s i d;
   spelled = ap (λ ts. ts ++ s) (raw_flat k x i ∙ ap flat (raw_same k x i));
   kept_is = raw_same k x i;
 }

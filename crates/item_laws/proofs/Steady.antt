@@ -27,6 +27,8 @@ use Rattle.syn_grammar.specs.Kind.{ReferencePattern, LiteralPattern, PathPattern
 use Rattle.syn_grammar.specs.Expressions.{labelled, dot, postfix_stands}
 use Rattle.syn_grammar.specs.Patterns.{vert, dots, range_end_stands, range_bound_stands, binding, signed_literal}
 use Rattle.syn_grammar.proofs.Whole.{and_true}
+use Rattle.syn_grammar.specs.Kind.{ClosureParam, ExprClosure, ExprTypedClosure}
+use Rattle.syn_grammar.specs.Expressions.{expr_closure}
 use Rattle.syn_grammar.specs.Words.{is_name, is_bool, is_string, is_ident, any_text}
 use Rattle.syn_grammar.specs.Gram.{Gram, seq, alt, star, many, judged, dropped, called, ref}
 use Rattle.syn_grammar.specs.Look.{sees, no, ◌or◌, ◌then◌, a_literal, all_attributes, a_lifetime}
@@ -164,6 +166,9 @@ is_steady PathPattern = true
 is_steady FieldPatterns = true
 is_steady RangeEnd = true
 is_steady RangeBound = true
+is_steady ClosureParam = true
+is_steady ExprClosure = true
+is_steady ExprTypedClosure = true
 is_steady _ = false
 
 -- of entries; what stands in a group sees nothing behind it
@@ -391,6 +396,21 @@ by_vert = steady_sees (blind_sure sure_vert)
 
 by_range_end : IsSteady (sees range_end_stands)
 by_range_end = steady_sees (blind_sure sure_range_end)
+
+steady_closure : Steady expr_closure
+steady_closure = (
+  (by_text "for", refl, tt),
+  (
+    (by_text "const", tt, tt),
+    (
+      (by_text "static", tt, tt),
+      (
+        (by_text "async", tt, tt),
+        ((by_text "move", tt, tt), (tt, ((by_mark "|" refl, refl), tt))),
+      ),
+    ),
+  ),
+)
 
 pub steady_table : (k : Kind) → is_steady k ≡ true → Steady (table k)
 unfolding table
@@ -738,4 +758,7 @@ steady_table FieldPatterns e = tt
 steady_table RangeEnd e =
     (by_mark "..=" refl, (tt, refl), (tt, (steady_sees (blind_sure sure_range_bound), refl, tt)))
 steady_table RangeBound e = (by_literal, steady_signed, refl)
+steady_table ClosureParam e = (refl, (refl, (by_mark ":" refl, (tt, refl), tt)))
+steady_table ExprClosure e = steady_closure
+steady_table ExprTypedClosure e = (steady_closure, (refl, refl))
 steady_table _ e = no_kind e

@@ -23,3 +23,11 @@ is_element AnImplItem = true
 is_element AStatement = true
 is_element OneStatement = true
 is_element _ = false
+
+-- One item among others: of a file, of an extern block, of a trait or of an impl.
+abbrev pub is_any_item : Kind → Bool
+is_any_item AnItem = true
+is_any_item AForeignItem = true
+is_any_item ATraitItem = true
+is_any_item AnImplItem = true
+is_any_item _ = false

@@ -2,4 +2,3 @@ pub mod Raws
 pub mod Visible
 pub mod Readers
 pub mod Begins
-pub mod Bare

@@ -1,7 +1,6 @@
 //! Laws of items and of raw tokens: each is the contract of a function that does nothing.
 
-ghost use Rattle.item_laws.specs.Bare.{is_bare, is_any_item};
-ghost use Rattle.item_laws.specs.Begins.{first_of, is_element};
+ghost use Rattle.item_laws.specs.Begins.{first_of, is_any_item, is_element};
 ghost use Rattle.item_laws.specs.Raws.{HasRaw, IsSetApart};
 ghost use Rattle.item_laws.specs.Readers.{item_parts, ItemParts, Reader, ReadsItem, trait_reader};
 ghost use Rattle.item_laws.specs.Visible.{AllVisible};
@@ -76,13 +75,12 @@ pub fn well_spaced()
         → IsWellSpaced (flat (normal (kept tree)) ++ others) }
 {}
 
-/// An item that was read, raw or not, is read as the same tree before whatever follows it, if no closure stands in it
-/// outside groups: it ends in a semicolon or in braces, and no test looks behind that. So a raw one is read back from
-/// its tokens.
+/// An item that was read, raw or not, is read as the same tree before whatever follows it: it ends in a semicolon or in
+/// braces, and no test looks behind that. So a raw one is read back from its tokens.
 pub fn items_stay()
-    ensures read { (k : Kind) (tree : Tree) (rest next : List Token) → is_any_item k ≡ true → is_bare tree ≡ true
+    ensures read { (k : Kind) (tree : Tree) (rest next : List Token) → is_any_item k ≡ true
         → Derives tree (ref k) rest → Derives tree (ref k) next }
-    ensures raw { (k : Kind) (x : Tree) (rest next : List Token) → is_any_item k ≡ true → is_bare x ≡ true
+    ensures raw { (k : Kind) (x : Tree) (rest next : List Token) → is_any_item k ≡ true
         → Derives (Node k (Verbatim x)) (ref k) rest
         → IsRead k (flat (normal (kept (Node k (Verbatim x)))) ++ next) (normal (kept (Node k (Verbatim x)))) next }
 {}
