@@ -1,11 +1,13 @@
 -- Covered expressions there are: -(1 + x), as it is read; m!() in a condition; m!{} before another
--- statement; and || 1.
+-- statement; || 1; 1 as _ < 1; and #[unsafe] 1.
 use Rattle.std.proofs.Common.{◌≡◌, List, [], ◌∷◌, ◌++◌, refl}
 use Rattle.std.specs.Prelude.{true, codes}
 use Rattle.syn_grammar.specs.Kind.{AMacro, Delimited, ExprMacro, InCondition, InModule, Path, Plain, Expression}
-use Rattle.syn_grammar.specs.Kind.{ExprClosure, ExprLit, InStatement, Segments}
+use Rattle.syn_grammar.specs.Kind.{ExprClosure, ExprLit, InStatement, Segments, AType, ExprAttributed, ExprCast}
+use Rattle.syn_grammar.specs.Kind.{ExprCompare, InferType, Meta, OuterAttribute, OuterAttributes, WithoutPlus}
+use Rattle.syn_grammar.specs.Name.{the_type}
 use Rattle.proc_macro2.specs.Token.{Token, Opens, Closes, Literal, Punct}
-use Rattle.proc_macro2.specs.declared.delimiter.Delimiter.TheVariants.{Parenthesis, Brace}
+use Rattle.proc_macro2.specs.declared.delimiter.Delimiter.TheVariants.{Parenthesis, Brace, Bracket}
 use Rattle.rust_leaf.specs.declared.punct.Spacing.TheVariants.{Alone as Apart, Joint}
 use Rattle.syn_grammar.specs.Words.{is_bool, is_name, is_path_keyword, is_plain_name, is_reserved}
 use Rattle.syn_grammar.specs.Gram.{ref}
@@ -15,7 +17,7 @@ use Rattle.read_back.specs.Parts.{has_part, has_parts_of}
 use Rattle.grammar_back.specs.After.{EndsThere}
 use Rattle.read_back.proofs.Positions.{read_ended_in, read_in_position}
 use Rattle.syn_grammar.specs.Tree.{Tree, ALiteral, AMark, End, Front, Alone, AWord, First, Group, Nil, Node, Pair}
-use Rattle.syn_grammar.specs.Tree.{Raw, Second, Whole, flat}
+use Rattle.syn_grammar.specs.Tree.{Back, Called, Infix, Raw, Second, Whole, flat}
 use Rattle.syn_grammar.specs.Forms.{back, chains, front, has_right, inside, level, stands_left, takes}
 use Rattle.syn_grammar.specs.Kept.{held, kept}
 use Rattle.syn_grammar.specs.Normal.{passed, stands_behind, normal, normal_in}
@@ -161,3 +163,96 @@ pub closure_back :
 unfolding back
 closure_back =
     read_in_position Plain closure [] [] closure_read (λ e. cc) closure_parts (refl, refl, refl, refl)
+
+-- and 1 as _ < 1 is: the type ends before the <
+abbrev number : Tree
+number = Alone ExprLit (First (ALiteral (codes "1")))
+
+abbrev any_type : Tree
+any_type =
+    Node (AType WithoutPlus)
+    (Second (Second (Second (Second (Second (First (Node InferType (AWord (codes "_")))))))))
+
+abbrev cast : Tree
+cast =
+    Infix
+    (Back number ExprCast (Pair (AWord (codes "as")) (Pair (Called the_type any_type) (Second Nil))))
+    ExprCompare (Second (Second (Second (Second (First (AMark 60 [] Apart)))))) number
+
+cast_read : Derives (Node (Expression Plain) (Whole cast)) (ref (Expression Plain)) []
+unfolding table front back has_right is_bool is_reserved level takes stands_left inside chains
+cast_read = (
+  refl,
+  (
+    (refl, refl),
+    (
+      refl,
+      (refl, (refl, (refl, (refl, (refl, (refl, refl)))))),
+      refl,
+      (refl, refl),
+      (
+        refl,
+        (
+          refl,
+          ((refl, (refl, (refl, (refl, (refl, (refl, (refl, (refl, (refl, refl))))))))), (refl, tt)),
+        ),
+        refl,
+        (refl, refl),
+        (refl, (refl, refl), refl),
+      ),
+      (refl, refl),
+      (refl, (refl, refl), refl),
+    ),
+  ),
+)
+
+cast_parts : has_parts_of has_part cast ≡ true
+unfolding has_step has_form_step
+cast_parts = refl
+
+pub cast_back :
+    IsRead (Expression Plain) (flat (normal_in Plain (kept (Node (Expression Plain) (Whole cast)))) ++ [])
+    (normal_in Plain (kept (Node (Expression Plain) (Whole cast)))) []
+unfolding back
+cast_back =
+    read_in_position Plain cast [] [] cast_read (λ e. cc) cast_parts (refl, refl, refl, refl)
+
+-- and #[unsafe] 1
+abbrev attributed : Tree
+attributed =
+    Front ExprAttributed
+    (Pair
+    (Node OuterAttribute
+    (Pair (AMark 35 [] Apart)
+    (Group Bracket (Node Meta (Pair (First (AWord (codes "unsafe"))) (Second (Second Nil)))))))
+    (Node OuterAttributes End)) number
+
+attributed_read : Derives (Node (Expression Plain) (Whole attributed)) (ref (Expression Plain)) []
+unfolding table front back has_right is_bool is_reserved level takes stands_left inside
+attributed_read = (
+  refl,
+  (
+    (refl, refl),
+    (
+      refl,
+      (
+        (refl, ((refl, refl), (refl, (refl, ((refl, refl), (refl, (refl, tt))))))),
+        (refl, refl),
+      ),
+      refl,
+      (refl, refl),
+      (refl, (refl, refl), refl),
+    ),
+  ),
+)
+
+attributed_parts : has_parts_of has_part attributed ≡ true
+unfolding has_step has_form_step level
+attributed_parts = refl
+
+pub attributed_back :
+    IsRead (Expression Plain) (flat (normal_in Plain (kept (Node (Expression Plain) (Whole attributed)))) ++ [])
+    (normal_in Plain (kept (Node (Expression Plain) (Whole attributed)))) []
+unfolding back
+attributed_back =
+    read_in_position Plain attributed [] [] attributed_read (λ e. cc) attributed_parts (refl, refl, refl, refl)

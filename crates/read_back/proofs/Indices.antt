@@ -132,7 +132,6 @@ module _ (passes : Kind → Bool) (passed : passes ExprField ≡ true) where
     refl,
     g,
     λ s. absurd (never s),
-    refl,
   )
 
   fields_operands : (l : Tree) (texts : List (List ℕ)) → HasOperandsOf passes l
@@ -149,10 +148,10 @@ module _ (passes : Kind → Bool) (passed : passes ExprField ≡ true) where
 
   last_operands : (k : Kind) (l d z : Tree) → IsLast k z → IsBackOf passes k → MayLack k → HasOperandsOf passes l
       → HasOperandsOf passes (last_fields l k d z)
-  last_operands ExprField l d (First z) h b m g = (b, m, g, λ s. absurd (never s), refl)
+  last_operands ExprField l d (First z) h b m g = (b, m, g, λ s. absurd (never s))
   last_operands ExprField l d (Second (Called the_value (ALiteral cs))) h b m g = fields_operands l (indices cs) g
-  last_operands ExprMethodCall l d z h b m g = (b, m, g, λ s. absurd (never s), refl)
-  last_operands ExprAwait l d z h b m g = (b, m, g, λ s. absurd (never s), refl)
+  last_operands ExprMethodCall l d z h b m g = (b, m, g, λ s. absurd (never s))
+  last_operands ExprAwait l d z h b m g = (b, m, g, λ s. absurd (never s))
   last_operands _ l d z h b m g = absurd h
 
   own_operands : (k : Kind) (l y : Tree) → IsBehind k y → IsBackOf passes k → MayLack k → HasOperandsOf passes l

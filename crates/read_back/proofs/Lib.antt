@@ -12,6 +12,7 @@ pub mod Follow
 pub mod Paths
 pub mod Macros
 pub mod Starting
+pub mod Lesser
 pub mod Casts
 pub mod Operands
 pub mod Parts

@@ -2,7 +2,7 @@
 use Rattle.std.proofs.Common.{◌≡◌, List, refl}
 use Rattle.std.specs.Prelude.{Bool, true, false, ◌&&◌, Some}
 use Rattle.proc_macro2.specs.Token.{Token}
-use Rattle.syn_grammar.specs.Kind.{Kind, Position, ExprAttributed, ExprCast, ExprClosure}
+use Rattle.syn_grammar.specs.Kind.{Kind, Position, ExprAttributed, ExprClosure}
 use Rattle.syn_grammar.specs.Tree.{Tree, Alone, Front, Back, Infix}
 use Rattle.syn_grammar.specs.Forms.{front, back, is_path_form}
 use Rattle.syn_grammar.specs.Parens.{is_struct}
@@ -25,7 +25,6 @@ HasOperandsOf passes (Front k y x) =
     × (is_plain_part k y ≡ true)
 HasOperandsOf passes (Back l k y) =
     IsBackOf passes k × MayLack k × HasOperandsOf passes l × (is_struct k ≡ true → is_path_form l ≡ true)
-    × (is_plain_part k y ≡ true)
 HasOperandsOf passes (Infix l k y r) =
     IsBackOf passes k × MayHave k × HasOperandsOf passes l × HasOperandsOf passes r
 HasOperandsOf passes x = ⊥
@@ -45,7 +44,6 @@ none_attributed _ x e = refl
 
 pub plain_part : (k : Kind) (y : Tree) → is_form k ≡ true → is_plain_part k y ≡ true
 unfolding has_form_step
-plain_part ExprCast y e = cc
 plain_part ExprClosure y e = cc
 plain_part _ y e = refl
 
@@ -55,6 +53,6 @@ module _ (passes : Kind → Bool) (more : (k : Kind) → is_form k ≡ true → 
   operands_of (Front k y x) o =
       ((more k o.0.0, o.0.1, o.0.2, o.0.3), o.1, none_attributed k x o.0.0, operands_of x o.2, plain_part k y o.0.0)
   operands_of (Back l k y) o =
-      ((more k o.0.0, o.0.1, o.0.2, o.0.3), o.1, operands_of l o.2, o.3, plain_part k y o.0.0)
+      ((more k o.0.0, o.0.1, o.0.2, o.0.3), o.1, operands_of l o.2, o.3)
   operands_of (Infix l k y r) o = ((more k o.0.0, o.0.1, o.0.2, o.0.3), o.1, operands_of l o.2, operands_of r o.3)
   operands_of _ o = absurd o

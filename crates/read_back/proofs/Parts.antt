@@ -205,11 +205,11 @@ last_own k y m f i h w o = go (is_dot k) refl m
     go false e m = behind_part (BehindOperand k y) k y m o
 
 back_own : (k : Kind) (y : Tree) → (is_struct k || (is_cast k || (is_dot k || is_firm_behind k))) ≡ true
-    → is_plain_part k y ≡ true → Fits y (table k) → IsMeant k y → IsWhole k y → OwnReady k y → IsOwn k y
+    → Fits y (table k) → IsMeant k y → IsWhole k y → OwnReady k y → IsOwn k y
     → IsBehind (BehindOperand k y) k y
-back_own ExprStruct y m e f i h w o = struct_part y w o.1
-back_own ExprCast y m e f i h w o = cast_part y e w o.1
-back_own k y m e f i h w o = last_own k y m f i h w o
+back_own ExprStruct y m f i h w o = struct_part y w o.1
+back_own ExprCast y m f i h w o = cast_part y w o.1
+back_own k y m f i h w o = last_own k y m f i h w o
 
 end_own : (k : Kind) (y : Tree) → (is_block k || (is_firm_front k || is_break k)) ≡ true → Fits y (table k)
     → OwnReady k y → IsOwn k y → IsFront AtEnd k y
@@ -259,7 +259,7 @@ owned (Front k y x) h o w p ts s =
 owned (Back l k y) h o w p ts s =
     let t : Settled p ts (Back (kept l) k (kept y)) = subst (Settled p ts) (h.3 (kept l)) s in
     let m = back_kind k o.0.0 (backs_are o.0.1 k o.0.2 o.0.3) in (
-      back_own k y m o.4 h.1 h.2 h.3 w.1 (own k y o.0.0 h.1 w.1 t.0),
+      back_own k y m h.1 h.2 h.3 w.1 (own k y o.0.0 h.1 w.1 t.0),
       lacks k o.1,
       o.3,
       owned l h.4 o.2 w.0 p (follow (flat (kept y))) t.4,

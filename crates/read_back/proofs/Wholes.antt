@@ -38,10 +38,9 @@ use Rattle.expressions_back.proofs.Opened.{nothing_right, fixed_right, paren_rig
 use Rattle.expressions_back.proofs.Stands.{struct_is}
 use Rattle.grammar_back.specs.Covered.{has_step, has_form_step, inner, is_known, is_form, is_covered}
 use Rattle.grammar_back.proofs.Dotted.{law_expr_await, law_expr_field, law_expr_method_call}
-use Rattle.grammar_back.proofs.Fits.{Fits, FitsForms, IsMeant, IsFormed, MayLack, MayHave, flat_kept}
+use Rattle.grammar_back.proofs.Fits.{Fits, FitsForms, IsMeant, IsFormed, MayLack, MayHave}
 use Rattle.grammar_back.proofs.Printed.{OwnPrinted, Printed, WholeLaw}
 use Rattle.read_back.specs.Parts.{is_plain_part, has_part, has_parts_of, is_more}
-use Rattle.syn_grammar.specs.Parens.{ends_in_name}
 use Rattle.read_back.proofs.Operands.{HasOperandsOf, IsBackOf, plain_part, operands_are}
 use Rattle.read_back.proofs.Indices.{dot_fits, dot_read, dotted_fits, dotted_keeps, dotted_operands}
 use Rattle.read_back.proofs.Split.{dotted_bare, dotted_kept}
@@ -73,8 +72,7 @@ covered_parts (Front k y x) c =
 covered_parts (Back l k y) c =
     let a = and_true (is_form k) (is_covered l && is_covered y) c in
     let b = and_true (is_covered l) (is_covered y) a.1 in
-    ap (λ e. e && (is_plain_part k (normal (kept y)) && (is_covered y && has_parts_of is_form l))) a.0
-    ∙ ap (λ e. e && (is_covered y && has_parts_of is_form l)) (plain_part k (normal (kept y)) a.0)
+    ap (λ e. e && (is_covered y && has_parts_of is_form l)) a.0
     ∙ ap (λ e. e && has_parts_of is_form l) b.1 ∙ covered_parts l b.0
 covered_parts (Infix l k y r) c =
     both_parts (is_form k) (is_form k) _ _ (λ e. e)
@@ -272,7 +270,6 @@ front_parts ks k y x c =
 
 pub record BackParts (ks : Kind → Bool) (l : Tree) (k : Kind) (y : Tree) : Type 0 where
   pub passes : ks k ≡ true
-  pub ends : is_plain_part k (normal (kept y)) ≡ true
   pub own : is_covered y ≡ true
   pub left : has_parts_of ks l ≡ true
 
@@ -280,9 +277,8 @@ pub back_parts : (ks : Kind → Bool) (l : Tree) (k : Kind) (y : Tree) → has_p
     → BackParts ks l k y
 back_parts ks l k y c =
     let a = and_true (ks k) _ c in
-    let b = and_true (is_plain_part k (normal (kept y))) _ a.1 in
-    let e = and_true (is_covered y) (has_parts_of ks l) b.1 in
-    record { passes = a.0; ends = b.0; own = e.0; left = e.1 }
+    let e = and_true (is_covered y) (has_parts_of ks l) a.1 in
+    record { passes = a.0; own = e.0; left = e.1 }
 
 pub record InfixParts (ks : Kind → Bool) (l : Tree) (k : Kind) (y x : Tree) : Type 0 where
   pub passes : ks k ≡ true
@@ -364,7 +360,6 @@ unbound_back _ f e = absurd f
 same_end : (k : Kind) (y z : Tree) → Fits y (table k) → kept y ≡ z → is_plain_part k z ≡ true → is_plain_part k y ≡ true
 same_end ExprClosure y z f e h =
     unbound_back y f (ap (is_plain_part ExprClosure) e ∙ h)
-same_end ExprCast y z f e h = ap ends_in_name (sym (flat_kept y (table ExprCast) f) ∙ ap flat e) ∙ h
 same_end _ y z f e h = refl
 
 -- Of kinds that pass:
@@ -423,13 +418,13 @@ module _ (passes : Kind → Bool) (part : (k : Kind) → passes k ≡ true → h
 
   module _ (fields : passes ExprField ≡ true) where
     back_operands : (k : Kind) (l y : Tree) → Fits y (table k) → IsBackOf passes k → MayLack k
-        → HasOperandsOf passes l → (is_struct k ≡ true → is_path_form l ≡ true) → is_plain_part k y ≡ true
+        → HasOperandsOf passes l → (is_struct k ≡ true → is_path_form l ≡ true)
         → HasOperandsOf passes (dotted l k y)
-    back_operands k l y f b m g h e = go (is_dot k) refl
+    back_operands k l y f b m g h = go (is_dot k) refl
       where
         go : (c : Bool) → is_dot k ≡ c → HasOperandsOf passes (dotted l k y)
         go true i = dotted_operands passes fields k l y (dot_fits k y i f) b m g
-        go false i = subst (HasOperandsOf passes) (sym (undotted l k y i)) (b, m, g, h, e)
+        go false i = subst (HasOperandsOf passes) (sym (undotted l k y i)) (b, m, g, h)
 
     remade_operands : (x : Tree) (o : Owns x) (p : Position) (r : List Token) → Bound p x r
         → has_parts_of passes x ≡ true → HasOperandsOf passes (remade x o)
@@ -449,7 +444,6 @@ module _ (passes : Kind → Bool) (part : (k : Kind) → passes k ≡ true → h
         let a = back_parts passes l k y c in
         back_operands k (remade l o.0) o.1.tree o.1.fits (a.passes, p, flat y ++ r, d.0) (lacks_one p k r d.2)
         (remade_operands l o.0 p (flat y ++ r) d.4 a.left) (λ s. remade_path l o.0 (left_path p k l s d.3))
-        (same_end k o.1.tree (normal (kept y)) o.1.fits o.1.kept_is a.ends)
     remade_operands (Infix l k y x) o p r d c =
         let a = infix_parts passes l k y x c in (
           (a.passes, p, flat y ++ (flat x ++ r), d.0),

@@ -1,14 +1,13 @@
 -- Expressions whose own parts are covered, of all kinds of forms of which it is proved that their own parts are read
 -- wherever their forms may stand: more kinds than `grammar_back` asks for (`has_form_step`). Own parts that hold an
--- expression in a condition, as those of if, match and while do, are covered by nothing yet. The type of a cast ends in
--- a name: before < another type is not yet proved to end. Before a closure stands no for: with attributes behind the <
--- it would be none.
+-- expression in a condition, as those of if, match and while do, are covered by nothing yet. Before a closure stands no
+-- for: with attributes behind the < it would be none.
 use Rattle.std.specs.Prelude.{Bool, true, false, not, ◌&&◌, ◌||◌}
 use Rattle.syn_grammar.specs.Kind.{Kind, ExprAttributed, ExprCast, ExprClosure, ExprIf, ExprMacro, ExprMatch, ExprWhile}
-use Rattle.syn_grammar.specs.Tree.{Tree, Pair, Second, Alone, Front, Back, Infix, flat}
+use Rattle.syn_grammar.specs.Tree.{Tree, Pair, Second, Alone, Front, Back, Infix}
 use Rattle.syn_grammar.specs.Kept.{kept}
 use Rattle.syn_grammar.specs.Normal.{normal}
-use Rattle.syn_grammar.specs.Parens.{ends_in_name, is_attributed_range}
+use Rattle.syn_grammar.specs.Parens.{is_attributed_range}
 use Rattle.grammar_back.specs.Covered.{is_form, is_covered}
 
 abbrev pub is_more : Kind → Bool
@@ -24,9 +23,8 @@ is_more k = false
 abbrev pub has_part : Kind → Bool
 has_part k = is_form k || is_more k
 
--- of a form's own part, in normal form: the type of a cast ends in a name, and no for stands before a closure
+-- of a form's own part, in normal form: no for stands before a closure
 abbrev pub is_plain_part : Kind → Tree → Bool
-is_plain_part ExprCast y = ends_in_name (flat y)
 is_plain_part ExprClosure (Pair (Second b) y) = true
 is_plain_part ExprClosure y = false
 is_plain_part k y = true
@@ -38,7 +36,6 @@ has_parts_of passes (Alone k y) = passes k && is_covered y
 has_parts_of passes (Front k y x) =
     passes k && (not (is_attributed_range k x)
     && (is_plain_part k (normal (kept y)) && (is_covered y && has_parts_of passes x)))
-has_parts_of passes (Back l k y) =
-    passes k && (is_plain_part k (normal (kept y)) && (is_covered y && has_parts_of passes l))
+has_parts_of passes (Back l k y) = passes k && (is_covered y && has_parts_of passes l)
 has_parts_of passes (Infix l k y r) = passes k && (is_covered y && (has_parts_of passes l && has_parts_of passes r))
 has_parts_of passes x = true

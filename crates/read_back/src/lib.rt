@@ -5,16 +5,16 @@
 //! An expression as it is printed fits its entry (`grammar_back`): it is in normal form where it stands, and its own
 //! parts fit. So it is settled (`Settled`); what is held of it binds as it does itself, and its operands stay as they
 //! stand (`Held`). Its own parts are read back by the steps of their kinds, so wherever their forms may stand
-//! (`Parts`, of paths by `Paths`, of macros by `Macros`, behind a dot by `Dots`, of casts by `Casts`, of closures by
-//! `Closures`, of those that their first token tells by `Starting`, of arrays, repeats and blocks by `Blocks`, of
-//! which `Semicolons` tells the first two apart, as `Quiet` does it with any mark), and then it is read (`Owned`)
-//! before what may follow it (`Follow`; `Ended` has the forms that end a statement or an arm by themselves). For each
-//! expression that was read there is one as it is printed (`Wholes`), in which a number behind a dot is split as in
-//! what is held (`Split`), each form that it is split into fits (`Indices`), and each form has its operands
-//! (`Operands`). `Forms` has all that is to be known of expressions, `ReadBack` the laws of kinds, and `Positions`
-//! those of an expression where it stands, whose forms may be of more kinds than a covered tree's (`specs/Parts`):
-//! macros, casts to types that end in a name, closures without `->`, and attributes. `Examples` has an expression for
-//! each law.
+//! (`Parts`, of paths by `Paths`, of macros by `Macros`, behind a dot by `Dots`, of casts by `Casts`, whose types are
+//! read before `<` where they are before `<=`, by `Lesser`, of closures by `Closures`, of those that their first token
+//! tells by `Starting`, of arrays, repeats and blocks by `Blocks`, of which `Semicolons` tells the first two apart, as
+//! `Quiet` does it with any mark), and then it is read (`Owned`) before what may follow it (`Follow`; `Ended` has the
+//! forms that end a statement or an arm by themselves). For each expression that was read there is one as it is printed
+//! (`Wholes`), in which a number behind a dot is split as in what is held (`Split`), each form that it is split into
+//! fits (`Indices`), and each form has its operands (`Operands`). `Forms` has all that is to be known of expressions,
+//! `ReadBack` the laws of kinds, and `Positions` those of an expression where it stands, whose forms may be of more
+//! kinds than a covered tree's (`specs/Parts`): macros, casts, closures without `->`, and attributes. `Examples` has an
+//! expression for each law.
 //!
 //! - `laws`: the laws.
 #![tactic(auto)]
