@@ -28,7 +28,9 @@ use Rattle.grammar_back.proofs.Fits.{is_item_form}
 use Rattle.grammar_back.proofs.Impls.{contrary}
 use Rattle.grammar_back.proofs.ItemPlaces.{word_front}
 use Rattle.grammar_back.proofs.Seconds.{either_seen, front_seen}
+use Rattle.grammar_back.proofs.MacroItems.{a_word_lacked, abi_fn, async_fn, safe_fn}
 use Rattle.grammar_back.proofs.Sights.{ident_not}
+use Rattle.grammar_back.specs.Covered.{is_no_macro}
 
 -- an item is seen, and nothing that is looked for before it
 abbrev pub ItemSeen : List Token → Type 0
@@ -80,15 +82,6 @@ maybe_then w l (Ident cs ∷ us) e = go (same_text w cs) refl e
 maybe_then w l _ e = inr e
 
 -- functions
-abbrev abi_fn : Look
-abi_fn = maybe (at "extern" then maybe (a_quoted is_string)) then at "fn"
-
-abbrev safe_fn : Look
-safe_fn = maybe (at "unsafe") then abi_fn
-
-abbrev async_fn : Look
-async_fn = maybe (at "async") then safe_fn
-
 abbrev abi_words : List Class
 abi_words = the_words (codes "extern" ∷ codes "fn" ∷ [])
 
@@ -192,9 +185,6 @@ as_text w cs us e h = subst (λ v. ItemSeen (Ident v ∷ us)) ((bytes_eq-Decides
 
 a_word_seen : (b : Bool) (us : List Token) → b ≡ true → seen (cond b (Some us) None) ≡ true
 a_word_seen b us e = ap (λ c. seen (cond c (Some us) None)) e
-
-a_word_lacked : (b : Bool) (us : List Token) → b ≡ false → seen (cond b (Some us) None) ≡ false
-a_word_lacked b us e = ap (λ c. seen (cond c (Some us) None)) e
 
 -- statics
 static_seen : (us : List Token) → sees (at "mut" or an_ident) us ≡ true → ItemSeen (Ident (codes "static") ∷ us)
@@ -394,49 +384,51 @@ impl_const_seen ts e =
 
 -- the alternatives of an item
 abbrev SeenLaw : Gram → Type 0
-SeenLaw g = (x : Tree) (r : List Token) → Derives x g r → is_item_form (choice x) ≡ true → ItemSeen (flat x ++ r)
+SeenLaw g = (x : Tree) (r : List Token) → Derives x g r → is_item_form (choice x) ≡ true
+    → is_no_macro (choice x) ≡ true → ItemSeen (flat x ++ r)
 
 seen_alt : (l : Look) (k : Kind) (g : Gram)
     → ((y : Tree) (r : List Token) → Derives y (table k) r → is_item_form (Node k y) ≡ true
-    → sees l (flat y ++ r) ≡ true → ItemSeen (flat y ++ r))
+    → is_no_macro (Node k y) ≡ true → sees l (flat y ++ r) ≡ true → ItemSeen (flat y ++ r))
     → SeenLaw g → SeenLaw (alt (sees l) (ref k) g)
-seen_alt l k g one more (First (Node j y)) r d h =
-    one y r (subst (λ i. Derives y (table i) r) d.1.0 d.1.1) (subst (λ i. is_item_form (Node i y) ≡ true) d.1.0 h) d.0
-seen_alt l k g one more (First _) r d h = absurd d.1
-seen_alt l k g one more (Second y) r d h = more y r d.1 h
-seen_alt l k g one more _ r d h = absurd d
+seen_alt l k g one more (First (Node j y)) r d h m =
+    one y r (subst (λ i. Derives y (table i) r) d.1.0 d.1.1) (subst (λ i. is_item_form (Node i y) ≡ true) d.1.0 h)
+    (subst (λ i. is_no_macro (Node i y) ≡ true) d.1.0 m) d.0
+seen_alt l k g one more (First _) r d h m = absurd d.1
+seen_alt l k g one more (Second y) r d h m = more y r d.1 h m
+seen_alt l k g one more _ r d h m = absurd d
 
 seen_never : SeenLaw never
-seen_never Nil r d h = absurd d
-seen_never _ r d h = absurd d
+seen_never Nil r d h m = absurd d
+seen_never _ r d h m = absurd d
 
 pub item_seen : SeenLaw item_form
 unfolding is_name is_path_keyword is_reserved
 item_seen =
-    seen_alt _ _ _ (λ y r d h e. function_seen (flat y ++ r) e)
-    (seen_alt _ _ _ (λ y r d h e. first_seen_at (codes "extern") (flat y ++ r) refl refl refl
+    seen_alt _ _ _ (λ y r d h m e. function_seen (flat y ++ r) e)
+    (seen_alt _ _ _ (λ y r d h m e. first_seen_at (codes "extern") (flat y ++ r) refl refl refl
     (front_seen ((at "extern") (flat y ++ r)) (at "crate") e))
-    (seen_alt _ _ _ (λ y r d h e. first_seen_at (codes "extern") (flat y ++ r) refl refl refl e)
-    (seen_alt _ _ _ (λ y r d h e. first_seen_at (codes "use") (flat y ++ r) refl refl refl e)
-    (seen_alt _ _ _ (λ y r d h e. static_read y r d)
-    (seen_alt _ _ _ (λ y r d h e. absurd (contrary (is_item_form (Node AConstTrait y)) h refl))
-    (seen_alt _ _ _ (λ y r d h e. impl_const_seen (flat y ++ r) e)
-    (seen_alt _ _ _ (λ y r d h e. const_read y r d)
-    (seen_alt _ _ _ (λ y r d h e. unsafe_seen (codes "extern") (flat y ++ r) e)
-    (seen_alt _ _ _ (λ y r d h e. unsafe_seen (codes "mod") (flat y ++ r) e)
-    (seen_alt _ _ _ (λ y r d h e. unsafe_seen (codes "impl") (flat y ++ r) e)
-    (seen_alt _ _ _ (λ y r d h e. trait_read y r d e)
-    (seen_alt _ _ _ (λ y r d h e. first_seen_at (codes "mod") (flat y ++ r) refl refl refl e)
-    (seen_alt _ _ _ (λ y r d h e. first_seen_at (codes "type") (flat y ++ r) refl refl refl e)
-    (seen_alt _ _ _ (λ y r d h e. first_seen_at (codes "struct") (flat y ++ r) refl refl refl e)
-    (seen_alt _ _ _ (λ y r d h e. first_seen_at (codes "enum") (flat y ++ r) refl refl refl e)
-    (seen_alt _ _ _ (λ y r d h e. union_seen (flat y ++ r) e)
-    (seen_alt _ _ _ (λ y r d h e. first_seen_at (codes "impl") (flat y ++ r) refl refl refl
+    (seen_alt _ _ _ (λ y r d h m e. first_seen_at (codes "extern") (flat y ++ r) refl refl refl e)
+    (seen_alt _ _ _ (λ y r d h m e. first_seen_at (codes "use") (flat y ++ r) refl refl refl e)
+    (seen_alt _ _ _ (λ y r d h m e. static_read y r d)
+    (seen_alt _ _ _ (λ y r d h m e. absurd (contrary (is_item_form (Node AConstTrait y)) h refl))
+    (seen_alt _ _ _ (λ y r d h m e. impl_const_seen (flat y ++ r) e)
+    (seen_alt _ _ _ (λ y r d h m e. const_read y r d)
+    (seen_alt _ _ _ (λ y r d h m e. unsafe_seen (codes "extern") (flat y ++ r) e)
+    (seen_alt _ _ _ (λ y r d h m e. unsafe_seen (codes "mod") (flat y ++ r) e)
+    (seen_alt _ _ _ (λ y r d h m e. unsafe_seen (codes "impl") (flat y ++ r) e)
+    (seen_alt _ _ _ (λ y r d h m e. trait_read y r d e)
+    (seen_alt _ _ _ (λ y r d h m e. first_seen_at (codes "mod") (flat y ++ r) refl refl refl e)
+    (seen_alt _ _ _ (λ y r d h m e. first_seen_at (codes "type") (flat y ++ r) refl refl refl e)
+    (seen_alt _ _ _ (λ y r d h m e. first_seen_at (codes "struct") (flat y ++ r) refl refl refl e)
+    (seen_alt _ _ _ (λ y r d h m e. first_seen_at (codes "enum") (flat y ++ r) refl refl refl e)
+    (seen_alt _ _ _ (λ y r d h m e. union_seen (flat y ++ r) e)
+    (seen_alt _ _ _ (λ y r d h m e. first_seen_at (codes "impl") (flat y ++ r) refl refl refl
     (front_seen ((at "impl") (flat y ++ r)) _ e))
-    (seen_alt _ _ _ (λ y r d h e. trait_seen (flat y ++ r) e)
-    (seen_alt _ _ _ (λ y r d h e. impl_seen y r d (is_false (has the_const y) h) e)
-    (seen_alt _ _ _ (λ y r d h e. first_seen_at (codes "macro") (flat y ++ r) refl refl refl e)
-    (seen_alt _ _ _ (λ y r d h e. absurd (contrary (is_item_form (Node (ItemMacro InFile) y)) h refl))
+    (seen_alt _ _ _ (λ y r d h m e. trait_seen (flat y ++ r) e)
+    (seen_alt _ _ _ (λ y r d h m e. impl_seen y r d (is_false (has the_const y) h) e)
+    (seen_alt _ _ _ (λ y r d h m e. first_seen_at (codes "macro") (flat y ++ r) refl refl refl e)
+    (seen_alt _ _ _ (λ y r d h m e. absurd (contrary (is_no_macro (Node (ItemMacro InFile) y)) m refl))
     seen_never)))))))))))))))))))))
 
 -- behind a visibility

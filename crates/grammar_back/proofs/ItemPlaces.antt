@@ -35,8 +35,9 @@ use Rattle.item_laws.proofs.Impls.{place_impl}
 use Rattle.grammar_back.specs.After.{After}
 use Rattle.grammar_back.proofs.Begins.{Begins}
 use Rattle.grammar_back.proofs.Choices.{is_false}
-use Rattle.grammar_back.proofs.Classes.{Class, IsAmong, the_words}
+use Rattle.grammar_back.proofs.Classes.{Class, IsAmong, among_left, among_right, the_words}
 use Rattle.grammar_back.proofs.Fits.{Fits, IsItem, is_item_form, own_place, place}
+use Rattle.grammar_back.proofs.MacroItems.{listed_classes, macro_front, macro_listed, place_macro}
 use Rattle.grammar_back.proofs.Readies.{Ready}
 use Rattle.grammar_back.proofs.Fine.{At, Fine, fine_ref, words_are}
 use Rattle.grammar_back.proofs.Parts.{none_never}
@@ -49,7 +50,7 @@ item_words =
     ∷ codes "default" ∷ codes "impl" ∷ []
 
 abbrev pub item_classes : List Class
-item_classes = the_words item_words
+item_classes = the_words item_words ++ listed_classes
 
 -- What is known of a kind of form: anything may follow it, it begins with such a word, and it has its place.
 record Placing (k : Kind) : Type 0 where
@@ -352,21 +353,26 @@ same_tree _ c w y r f d p e = absurd c
 
 -- each kind's
 words : (vs : List (List ℕ)) (ts : List Token) → all_among vs ≡ true → IsAmong (the_words vs) ts
-    → IsAmong item_classes ts
+    → IsAmong (the_words item_words) ts
 unfolding all_among
 words [] ts e i = absurd i
 words (w ∷ ws) ts e i = go (is_among item_words w) refl e (λ f j. words ws ts f j)
   where
     go : (b : Bool) → is_among item_words w ≡ b → cond b (all_among ws) false ≡ true
-        → (all_among ws ≡ true → IsAmong (the_words ws) ts → IsAmong item_classes ts) → IsAmong item_classes ts
-    go true h f k = ⊎_elim (λ j. subst (IsAmong item_classes) (sym j.1) (words_are item_words w j.0 h)) (λ j. k f j) i
+        → (all_among ws ≡ true → IsAmong (the_words ws) ts → IsAmong (the_words item_words) ts)
+        → IsAmong (the_words item_words) ts
+    go true h f k = ⊎_elim (λ j. subst (IsAmong (the_words item_words)) (sym j.1) (words_are item_words w j.0 h)) (λ j. k f j) i
     go false h f k = cc f
 
 placing : (k : Kind) (vs : List (List ℕ)) → all_among vs ≡ true → ((x : Tree) (s : List Token) → After k x s)
     → ((y : Tree) (s : List Token) → Begins k (Node k y) s → At (the_words vs) y s)
     → ((y : Tree) (s : List Token) → is_item_form (Node k y) ≡ true → Derives y (table k) s → Place k y s) → Placing k
 placing k vs e a b p =
-    record { after = a; placed = λ y s h d i. (p y s h d, words vs (flat y ++ s) e (b y s i)) }
+    record {
+      after = a;
+      placed = λ y s h d i.
+          (p y s h d, among_left (the_words item_words) listed_classes (flat y ++ s) (words vs (flat y ++ s) e (b y s i)));
+    }
 
 unplaced : (k : Kind) → ((x : Tree) (s : List Token) → After k x s)
     → ((y : Tree) → is_item_form (Node k y) ≡ false) → Placing k
@@ -462,7 +468,12 @@ placing_definition : Placing AMacroDefinition
 placing_definition = unplaced AMacroDefinition (λ x s. tt) (λ y. refl)
 
 placing_macro : Placing (ItemMacro InFile)
-placing_macro = unplaced (ItemMacro InFile) (λ x s. tt) (λ y. refl)
+placing_macro =
+    record {
+      after = λ x s. tt;
+      placed = λ y s h d i. let j = macro_front y s d i h in
+          (place_macro y s d j, among_right (the_words item_words) listed_classes (flat y ++ s) (macro_listed (flat y ++ s) j));
+    }
 
 each_placed : EachPlaced item_form
 unfolding EachPlaced

@@ -3,11 +3,11 @@ use Rattle.std.proofs.Common.{◌≡◌, List, [], ◌∷◌, ◌++◌, refl, sy
 use Rattle.std.proofs.Common.{⊎_elim, inl, inr}
 use Rattle.std.specs.Prelude.{Bool, true, false, ◌&&◌, not, codes, Option, Some, None}
 use Rattle.proc_macro2.specs.Token.{Token}
-use Rattle.syn_grammar.specs.Kind.{ALet, AStatement, AType, AnItem, Block, Expression, OnePattern, OuterAttributes}
+use Rattle.syn_grammar.specs.Kind.{Kind, ALet, AStatement, AType, AnItem, Block, Expression, OnePattern, OuterAttributes}
 use Rattle.syn_grammar.specs.Kind.{Plain, Position, WithPlus}
 use Rattle.syn_grammar.specs.Name.{Part, same_part, the_else, the_type, the_value}
 use Rattle.syn_grammar.specs.Tree.{Tree, Called, First, Group, Nil, Node, Pair, Second, flat}
-use Rattle.syn_grammar.specs.Part.{found, has, is_some, or_else, the}
+use Rattle.syn_grammar.specs.Part.{choice, found, has, is_some, or_else, the}
 use Rattle.syn_grammar.specs.Gram.{Gram, ref}
 use Rattle.syn_grammar.specs.Words.{is_name, is_path_keyword}
 use Rattle.syn_grammar.specs.Say.{at, keyword, marks, optional, sign, ◌∶◌, ◌▸◌}
@@ -21,7 +21,7 @@ use Rattle.syn_grammar.specs.Derives.{Derives}
 use Rattle.syn_grammar.specs.Kept.{as_statement, held, kept}
 use Rattle.syn_grammar.specs.Normal.{passed, place_of, normal_in}
 use Rattle.grammar_back.specs.After.{behind}
-use Rattle.grammar_back.specs.Covered.{has_step, is_covered, is_statement_form, item_of}
+use Rattle.grammar_back.specs.Covered.{has_step, is_covered, is_no_macro, is_statement_form, item_of}
 use Rattle.grammar_back.specs.Sees.{LacksAll}
 use Rattle.grammar_back.proofs.Choices.{both_true, is_false}
 use Rattle.grammar_back.proofs.Classes.{Class, Sign, TheWord, among_left, among_right}
@@ -38,7 +38,7 @@ use Rattle.grammar_back.proofs.Parts.{unseen_all}
 use Rattle.grammar_back.proofs.Printed.{IsPlaced, KindLaw, Printed, VerdictLaw, simple_law}
 use Rattle.grammar_back.proofs.Impls.{contrary}
 use Rattle.grammar_back.proofs.ItemVerdicts.{same_has}
-use Rattle.grammar_back.proofs.WholeItems.{taken_law}
+use Rattle.grammar_back.proofs.WholeItems.{taken_law, whole_macro}
 
 -- what stands behind the pattern
 abbrev pub let_value : Gram
@@ -200,45 +200,46 @@ step_let _ s g w = absurd g
 -- statements
 -- an item is seen behind its attributes, and nothing that is looked for before it
 item_stands_there : (y : Tree) (s : List Token) → Fits y (table AnItem) → Derives y (table AnItem) s
-    → IsItem (item_of y)
+    → IsItem (item_of y) → is_no_macro (choice (item_of y)) ≡ true
     → (sees (all_attributes then macro_item_stands) (flat y ++ s) ≡ false)
     × (sees (all_attributes then macro_statement_stands) (flat y ++ s) ≡ false)
     × (sees (all_attributes then at "let") (flat y ++ s) ≡ false)
     × (sees (all_attributes then item_stands) (flat y ++ s) ≡ true)
 unfolding table
-item_stands_there (First (Pair o (Pair (Called n v) (Called m z)))) s f d e =
+item_stands_there (First (Pair o (Pair (Called n v) (Called m z)))) s f d e c =
     let r : Tree = Pair (Called n v) (Called m z) in
     let h : ItemSeen (flat r ++ s) =
     subst ItemSeen (sym (append_assoc (flat v) (flat z) s))
-    (visible_seen v z s d.1.1.0.1 (item_seen z s d.1.1.1.1 e.1)) in (
+    (visible_seen v z s d.1.1.0.1 (item_seen z s d.1.1.1.1 e.1 c)) in (
       behind_attributes o r macro_item_stands s false d.1.0 h.0,
       behind_attributes o r macro_statement_stands s false d.1.0 h.1,
       behind_attributes o r (at "let") s false d.1.0 h.2,
       behind_attributes o r item_stands s true d.1.0 h.3,
     )
-item_stands_there (First (Pair o (Pair (Called n v) _))) s f d e = absurd d.1.1.1
-item_stands_there (First (Pair o (Pair _ z))) s f d e = absurd d.1.1.0
-item_stands_there (First (Pair o _)) s f d e = absurd d.1.1
-item_stands_there (First _) s f d e = absurd d.1
-item_stands_there _ s f d e = absurd f
+item_stands_there (First (Pair o (Pair (Called n v) _))) s f d e c = absurd d.1.1.1
+item_stands_there (First (Pair o (Pair _ z))) s f d e c = absurd d.1.1.0
+item_stands_there (First (Pair o _)) s f d e c = absurd d.1.1
+item_stands_there (First _) s f d e c = absurd d.1
+item_stands_there _ s f d e c = absurd f
 
 step_item : (x : Tree) (s : List Token) → Fits x (ref AnItem) → Ready x
+    → is_statement_form (Second (Second (Second (First x)))) ≡ true
     → Derives (Second (Second (Second (First x)))) statement s × At (starts AStatement) x s
 unfolding skips
-step_item (Node k y) s f w =
+step_item (Node k y) s f w n =
     let (d, i) = (found_ref AnItem refl).fine.by (Node k y) s f w tt in
     let q =
     item_stands_there y s (subst (λ j. Fits y (table j)) f.0 f.3) (subst (λ j. Derives y (table j) s) d.0 d.1)
-    (subst (λ j. IsMeant j y) f.0 f.4) in (
+    (subst (λ j. IsMeant j y) f.0 f.4) n in (
       (q.0, (q.1, (q.2, (q.3, d)))),
       ⊎_elim (λ h. inl h) (λ h. inr (inr h)) i,
     )
-step_item _ s f w = absurd f
+step_item _ s f w n = absurd f
 
 pub step_a_statement : Step AStatement
 unfolding table skips
 step_a_statement (Second (Second (First x))) s f n w a = step_let x s f.1.1.1 w
-step_a_statement (Second (Second (Second (First x)))) s f n w a = step_item x s f.1.1.1.1 w
+step_a_statement (Second (Second (Second (First x)))) s f n w a = step_item x s f.1.1.1.1 w n
 step_a_statement (Second (Second (Second (Second x)))) s f n w a = cc n
 step_a_statement (Second (Second (Second _))) s f n w a = absurd f.1.1.1
 step_a_statement (Second (Second _)) s f n w a = absurd f.1.1
@@ -261,17 +262,31 @@ abbrev is_item_place : Tree → Bool
 is_item_place (Second (Second (Second (First x)))) = true
 is_item_place _ = false
 
-item_printed : (w : Tree) → Fits w statement → is_item_place (kept w) ≡ true
+abbrev item_inside : Tree → Tree
+item_inside (Second (Second (Second (First (Node k x))))) = x
+item_inside x = x
+
+item_printed : (k : Kind) (x w : Tree) (r : List Token) → Derives (Node k x) (ref AnItem) r
+    → is_no_macro (choice (item_of x)) ≡ true → Fits w statement
+    → kept w ≡ normal_in Plain (kept (Second (Second (Second (First (Node AnItem x))))))
     → (is_statement_form w ≡ true) × (as_statement (kept w) ≡ kept w)
-item_printed (Second (Second (Second (First w)))) f e = (refl, refl)
-item_printed (Second (Second (Second (Second w)))) f e = cc e
-item_printed (Second (Second (Second _))) f e = absurd f.1.1.1
-item_printed (Second (Second (First w))) f e = cc e
-item_printed (Second (Second _)) f e = absurd f.1.1
-item_printed (Second (First w)) f e = cc e
-item_printed (Second _) f e = absurd f.1
-item_printed (First w) f e = cc e
-item_printed _ f e = absurd f
+unfolding held passed
+item_printed k x (Second (Second (Second (First (Node l w))))) r d n f e = (
+  whole_macro x w r (subst (λ j. Derives x (table j) r) d.0 d.1)
+      (subst (λ j. Fits w (table j)) f.1.1.1.1.0 f.1.1.1.1.3)
+      (ap item_inside (subst (λ j. kept (Second (Second (Second (First (Node j w)))))
+      ≡ normal_in Plain (kept (Second (Second (Second (First (Node AnItem x))))))) f.1.1.1.1.0 e)) n,
+  refl,
+)
+item_printed k x (Second (Second (Second (First _)))) r d n f e = absurd f.1.1.1.1
+item_printed k x (Second (Second (Second (Second w)))) r d n f e = let g : false ≡ true = ap is_item_place e in cc g
+item_printed k x (Second (Second (Second _))) r d n f e = absurd f.1.1.1
+item_printed k x (Second (Second (First w))) r d n f e = let g : false ≡ true = ap is_item_place e in cc g
+item_printed k x (Second (Second _)) r d n f e = absurd f.1.1
+item_printed k x (Second (First w)) r d n f e = let g : false ≡ true = ap is_item_place e in cc g
+item_printed k x (Second _) r d n f e = absurd f.1
+item_printed k x (First w) r d n f e = let g : false ≡ true = ap is_item_place e in cc g
+item_printed k x _ r d n f e = absurd f
 
 pub law_a_statement : KindLaw AStatement
 unfolding has_step held passed place_of table
@@ -287,13 +302,16 @@ law_a_statement = record { entry = λ q l. simple_law Plain statement refl; node
           fits = (refl, refl, ap flat s.1, i.fits, s.0);
           kept_is = ap (Node AStatement) (s.1 ∙ i.kept_is);
         }
-    go q l (Second (Second (Second (First x)))) r o d i =
-        let s = item_printed i.tree i.fits (ap is_item_place i.kept_is) in
+    go q l (Second (Second (Second (First (Node k x))))) r o d i =
+        let s =
+        item_printed k x i.tree r d.1.1.1.1 o i.fits (subst (λ j. kept i.tree
+        ≡ normal_in Plain (kept (Second (Second (Second (First (Node j x))))))) d.1.1.1.1.0 i.kept_is) in
         record {
           tree = Node AStatement i.tree;
           fits = (refl, refl, ap flat s.1, i.fits, s.0);
           kept_is = ap (Node AStatement) (s.1 ∙ i.kept_is);
         }
+    go q l (Second (Second (Second (First _)))) r o d i = cc o
     go q l (Second (Second (Second (Second x)))) r o d i = cc o
     go q l (Second (Second (Second _))) r o d i = absurd d.1.1.1
     go q l (Second (Second _)) r o d i = absurd d.1.1

@@ -43,6 +43,7 @@ pub mod Defaults
 pub mod Aliases
 pub mod Dotted
 pub mod FieldValues
+pub mod MacroItems
 pub mod ItemPlaces
 pub mod ItemVerdicts
 pub mod FirstWords

@@ -462,17 +462,20 @@ starts AStatement = Then 35 [] (Opening Bracket) ∷ TheWord (codes "let") ∷ T
     (codes "const") ∷ TheWord (codes "async") ∷ TheWord (codes "unsafe") ∷ TheWord (codes "extern") ∷ TheWord
     (codes "fn") ∷ TheWord (codes "use") ∷ TheWord (codes "static") ∷ TheWord (codes "mod") ∷ TheWord (codes "type")
     ∷ TheWord (codes "struct") ∷ TheWord (codes "enum") ∷ TheWord (codes "union") ∷ TheWord (codes "auto") ∷ TheWord
-    (codes "trait") ∷ TheWord (codes "default") ∷ TheWord (codes "impl") ∷ []
+    (codes "trait") ∷ TheWord (codes "default") ∷ TheWord (codes "impl") ∷ AnyWord is_ident ∷ TheWord (codes "self")
+    ∷ TheWord (codes "super") ∷ TheWord (codes "crate") ∷ Sign 58 (58 ∷ []) ∷ []
 starts Statements = Sign 59 [] ∷ Then 35 [] (Opening Bracket) ∷ TheWord (codes "let") ∷ TheWord (codes "pub") ∷
     TheWord (codes "const") ∷ TheWord (codes "async") ∷ TheWord (codes "unsafe") ∷ TheWord (codes "extern") ∷ TheWord
     (codes "fn") ∷ TheWord (codes "use") ∷ TheWord (codes "static") ∷ TheWord (codes "mod") ∷ TheWord (codes "type")
     ∷ TheWord (codes "struct") ∷ TheWord (codes "enum") ∷ TheWord (codes "union") ∷ TheWord (codes "auto") ∷ TheWord
-    (codes "trait") ∷ TheWord (codes "default") ∷ TheWord (codes "impl") ∷ []
+    (codes "trait") ∷ TheWord (codes "default") ∷ TheWord (codes "impl") ∷ AnyWord is_ident ∷ TheWord (codes "self")
+    ∷ TheWord (codes "super") ∷ TheWord (codes "crate") ∷ Sign 58 (58 ∷ []) ∷ []
 starts Items = Then 35 [] (Opening Bracket) ∷ TheWord (codes "pub") ∷ TheWord (codes "const") ∷ TheWord
     (codes "async") ∷ TheWord (codes "unsafe") ∷ TheWord (codes "extern") ∷ TheWord (codes "fn") ∷ TheWord
     (codes "use") ∷ TheWord (codes "static") ∷ TheWord (codes "mod") ∷ TheWord (codes "type") ∷ TheWord
     (codes "struct") ∷ TheWord (codes "enum") ∷ TheWord (codes "union") ∷ TheWord (codes "auto") ∷ TheWord
-    (codes "trait") ∷ TheWord (codes "default") ∷ TheWord (codes "impl") ∷ []
+    (codes "trait") ∷ TheWord (codes "default") ∷ TheWord (codes "impl") ∷ AnyWord is_ident ∷ TheWord (codes "self")
+    ∷ TheWord (codes "super") ∷ TheWord (codes "crate") ∷ Sign 58 (58 ∷ []) ∷ []
 starts ForeignItems = Then 35 [] (Opening Bracket) ∷ TheWord (codes "pub") ∷ TheWord (codes "const") ∷ TheWord
     (codes "async") ∷ TheWord (codes "unsafe") ∷ TheWord (codes "safe") ∷ TheWord (codes "extern") ∷ TheWord
     (codes "fn") ∷ TheWord (codes "unsafe") ∷ TheWord (codes "safe") ∷ TheWord (codes "static") ∷ TheWord
@@ -495,7 +498,8 @@ starts AnItem = Then 35 [] (Opening Bracket) ∷ TheWord (codes "pub") ∷ TheWo
     (codes "async") ∷ TheWord (codes "unsafe") ∷ TheWord (codes "extern") ∷ TheWord (codes "fn") ∷ TheWord
     (codes "use") ∷ TheWord (codes "static") ∷ TheWord (codes "mod") ∷ TheWord (codes "type") ∷ TheWord
     (codes "struct") ∷ TheWord (codes "enum") ∷ TheWord (codes "union") ∷ TheWord (codes "auto") ∷ TheWord
-    (codes "trait") ∷ TheWord (codes "default") ∷ TheWord (codes "impl") ∷ []
+    (codes "trait") ∷ TheWord (codes "default") ∷ TheWord (codes "impl") ∷ AnyWord is_ident ∷ TheWord (codes "self")
+    ∷ TheWord (codes "super") ∷ TheWord (codes "crate") ∷ Sign 58 (58 ∷ []) ∷ []
 starts AForeignItem = Then 35 [] (Opening Bracket) ∷ TheWord (codes "pub") ∷ TheWord (codes "const") ∷ TheWord
     (codes "async") ∷ TheWord (codes "unsafe") ∷ TheWord (codes "safe") ∷ TheWord (codes "extern") ∷ TheWord
     (codes "fn") ∷ TheWord (codes "unsafe") ∷ TheWord (codes "safe") ∷ TheWord (codes "static") ∷ TheWord
@@ -510,7 +514,8 @@ starts AFile = Then 35 [] (Sign 33 []) ∷ Then 35 [] (Opening Bracket) ∷ TheW
     (codes "const") ∷ TheWord (codes "async") ∷ TheWord (codes "unsafe") ∷ TheWord (codes "extern") ∷ TheWord
     (codes "fn") ∷ TheWord (codes "use") ∷ TheWord (codes "static") ∷ TheWord (codes "mod") ∷ TheWord (codes "type")
     ∷ TheWord (codes "struct") ∷ TheWord (codes "enum") ∷ TheWord (codes "union") ∷ TheWord (codes "auto") ∷ TheWord
-    (codes "trait") ∷ TheWord (codes "default") ∷ TheWord (codes "impl") ∷ []
+    (codes "trait") ∷ TheWord (codes "default") ∷ TheWord (codes "impl") ∷ AnyWord is_ident ∷ TheWord (codes "self")
+    ∷ TheWord (codes "super") ∷ TheWord (codes "crate") ∷ Sign 58 (58 ∷ []) ∷ []
 starts ExprLit = Quoted any_text ∷ TheWord (codes "true") ∷ TheWord (codes "false") ∷ []
 starts ExprPath = Sign 60 [] ∷ Then 58 (58 ∷ []) (TheWord (codes "self")) ∷ Then 58 (58 ∷ [])
     (TheWord (codes "super")) ∷ Then 58 (58 ∷ []) (TheWord (codes "crate")) ∷ Then 58 (58 ∷ []) (AnyWord is_ident) ∷

@@ -1,13 +1,14 @@
 -- The step and the law of items among others: their attributes and visibility stand before their form.
 use Rattle.std.proofs.Common.{◌≡◌, List, [], ◌∷◌, ◌++◌, refl, sym, ap, ◌∙◌, subst}
-use Rattle.std.specs.Prelude.{true, codes}
+use Rattle.std.specs.Prelude.{true, false, codes}
 use Rattle.proc_macro2.specs.Token.{Token}
 use Rattle.syn_grammar.specs.Kind.{Kind, AnItem, InFile, OuterAttributes, Plain, Position, Visibility}
 use Rattle.syn_grammar.specs.Name.{same_part, the_item, the_pub, the_visibility}
 use Rattle.syn_grammar.specs.Tree.{Tree, Called, First, Node, Pair, Verbatim, flat}
 use Rattle.syn_grammar.specs.Part.{choice}
 use Rattle.syn_grammar.specs.Gram.{Gram, Keep, ref}
-use Rattle.syn_grammar.specs.Say.{◌∶◌, ◌▸◌}
+use Rattle.syn_grammar.specs.Say.{at, ◌∶◌, ◌▸◌}
+use Rattle.syn_grammar.specs.Words.{same_text}
 use Rattle.syn_grammar.specs.Lists.{item_form}
 use Rattle.syn_grammar.specs.Verdicts.{form_in_file, is_public, item_verdict}
 use Rattle.syn_grammar.specs.Ranks.{skips}
@@ -16,16 +17,19 @@ use Rattle.syn_grammar.specs.Derives.{Derives}
 use Rattle.syn_grammar.specs.Kept.{forget, held, kept}
 use Rattle.syn_grammar.specs.Tidy.{tidy}
 use Rattle.syn_grammar.specs.Normal.{passed, place_of, normal_in}
-use Rattle.grammar_back.specs.Covered.{has_step, inner, is_known, is_no_macro, is_taken, item_of}
+use Rattle.grammar_back.specs.Covered.{has_step, inner, is_known, is_no_macro, is_plain_macro, is_taken, item_of}
 use Rattle.grammar_back.specs.Sees.{LacksAll}
 use Rattle.grammar_back.proofs.Classes.{TheWord}
 use Rattle.grammar_back.proofs.Starts.{starts}
 use Rattle.grammar_back.proofs.Fits.{Fits, IsItem, IsMeant, is_item_form, own_place, place}
 use Rattle.grammar_back.proofs.Readies.{Step}
 use Rattle.grammar_back.proofs.Fine.{At, Edge, Fine, fine_called, fine_judged, fine_weaker}
-use Rattle.grammar_back.proofs.Parts.{maybe_ahead, maybe_called, maybe_ref, meant_step}
+use Rattle.grammar_back.proofs.Parts.{Told, maybe_ahead, maybe_called, maybe_ref, meant_step}
 use Rattle.grammar_back.proofs.Printed.{EntryLaw, IsPlaced, KindLaw, Printed, simple_law}
 use Rattle.grammar_back.proofs.ItemPlaces.{fine_form, item_classes, placed_own}
+use Rattle.grammar_back.proofs.Keywords.{reserved_pub}
+use Rattle.grammar_back.proofs.MacroItems.{a_word_lacked}
+use Rattle.grammar_back.proofs.Sights.{ident_not}
 use Rattle.grammar_back.proofs.ItemVerdicts.{SameItem, each_item, form_same, kept_form, place_fits, place_normal}
 use Rattle.grammar_back.proofs.ItemVerdicts.{place_read, same_has}
 
@@ -36,13 +40,17 @@ whole_item = ref OuterAttributes ▸ the_visibility ∶ ref Visibility ▸ the_i
 abbrev pub ItemEdge : Edge
 ItemEdge x s = IsItem (item_of x)
 
+pub_unseen : Told (at "pub") false item_classes
+pub_unseen =
+    (λ us. refl, (λ us. refl, (λ us. refl, (λ us. refl, (λ us. refl, (λ us. refl, (λ us. refl, (λ us. refl, (λ us. refl, (λ us. refl, (λ us. refl, (λ us. refl, (λ us. refl, (λ us. refl, (λ us. refl, (λ us. refl, ((λ cs h us. a_word_lacked (same_text (codes "pub") cs) us (ident_not (codes "pub") cs reserved_pub h)), (λ us. refl, (λ us. refl, (λ us. refl, (λ us. refl, tt)))))))))))))))))))))
+
 fine_whole : Fine whole_item ItemEdge (At (starts AnItem))
 unfolding skips
 fine_whole =
     maybe_ahead ItemEdge (TheWord (codes "pub") ∷ item_classes) (maybe_ref OuterAttributes refl)
     (maybe_ahead ItemEdge item_classes (maybe_called (maybe_ref Visibility refl))
     (fine_called {A = ItemEdge} {F = At item_classes} fine_form)
-    ((search), ((search), tt)) (λ x y s c. c)) ((search), tt) (λ x y s c. c)
+    (pub_unseen, ((search), tt)) (λ x y s c. c)) ((search), tt) (λ x y s c. c)
 
 pub step_an_item : Step AnItem
 unfolding table skips
@@ -122,7 +130,7 @@ WholeLaw x w =
     (r : List Token) → Derives x whole_item r → Fits w whole_item → kept w ≡ normal_in Plain (kept x)
     → (item_verdict InFile x ≡ Keep → item_verdict InFile w ≡ Keep) × SameItem (choice (item_of x)) (choice (item_of w))
     × (place (item_of w) ≡ own_place (choice (item_of x)))
-    × (item_verdict InFile x ≡ Keep → is_no_macro (choice (item_of x)) ≡ true
+    × (item_verdict InFile x ≡ Keep → is_plain_macro (choice (item_of x)) ≡ true
     → is_item_form (choice (item_of x)) ≡ true)
 
 whole_same : (x w : Tree) → Whole x w → WholeLaw x w
@@ -142,20 +150,28 @@ whole_law : (x w : Tree) → WholeLaw x w
 whole_law x w r d f e =
     both_shapes WholeLaw x w (shape_read x r d) (shape_fits w f) whole_same r d f e
 
-item_meant : (x w : Tree) (r : List Token) → Derives x (table AnItem) r → Fits w (table AnItem)
-    → kept w ≡ normal_in Plain (kept x) → is_no_macro (choice (item_of x)) ≡ true → IsItem (item_of w)
+item_both : (x w : Tree) (r : List Token) → Derives x (table AnItem) r → Fits w (table AnItem)
+    → kept w ≡ normal_in Plain (kept x)
+    → (is_plain_macro (choice (item_of x)) ≡ true → IsItem (item_of w))
+    × (is_no_macro (choice (item_of w)) ≡ is_no_macro (choice (item_of x)))
 unfolding table
-item_meant (First x) (First w) r d f e h =
+item_both (First x) (First w) r d f e =
     let s = whole_law x w r d.1 f.1 (ap inside e) in
-    (s.2 ∙ sym s.1.1, s.1.2 ∙ s.3 d.0 h)
+    ((λ h. (s.2 ∙ sym s.1.1, s.1.2 ∙ s.3 d.0 h)), s.1.3)
   where
     inside : Tree → Tree
     inside (First x) = x
     inside x = x
-item_meant (First x) _ r d f e h = absurd f
-item_meant (Verbatim x) (First w) r d f e h = cc e
-item_meant (Verbatim x) _ r d f e h = absurd f
-item_meant _ w r d f e h = absurd d
+item_both (First x) _ r d f e = absurd f
+item_both (Verbatim x) (First w) r d f e = cc e
+item_both (Verbatim x) _ r d f e = absurd f
+item_both _ w r d f e = absurd d
+
+-- the one is no macro where the other is none
+pub whole_macro : (x w : Tree) (r : List Token) → Derives x (table AnItem) r → Fits w (table AnItem)
+    → kept w ≡ normal_in Plain (kept x) → is_no_macro (choice (item_of x)) ≡ true
+    → is_no_macro (choice (item_of w)) ≡ true
+whole_macro x w r d f e h = (item_both x w r d f e).1 ∙ h
 
 -- a kind that holds what it reads, of which something is meant where it is taken
 pub taken_law : (k : Kind) → is_known k ≡ true
@@ -182,5 +198,5 @@ taken_law k h n f t u p e = record { entry = λ q l. subst (λ m. EntryLaw m (ta
 pub law_an_item : KindLaw AnItem
 unfolding has_step held passed place_of table
 law_an_item =
-    taken_law AnItem refl (λ x w r d f e o. item_meant x w r d f e o) (λ x. refl) (λ x. refl) (λ q. refl) (λ q. refl)
+    taken_law AnItem refl (λ x w r d f e o. (item_both x w r d f e).0 o) (λ x. refl) (λ x. refl) (λ q. refl) (λ q. refl)
     (λ x w r c d f e h. (whole_law x w r d f e).0 h, simple_law Plain whole_item refl)

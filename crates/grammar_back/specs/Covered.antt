@@ -1,6 +1,6 @@
 -- The kinds of which it is proved that their normal forms are read back, and the trees that hold no others and no raw
 -- item.
-use Rattle.std.specs.Prelude.{Bool, true, false, ◌&&◌, ◌||◌, not}
+use Rattle.std.specs.Prelude.{ℕ, Bool, true, false, ◌&&◌, ◌||◌, not, codes, List, []}
 use Rattle.syn_grammar.specs.Kind.{Kind, Expression, AConst, AConstTrait, AFieldValue, AFile, AForeignItem}
 use Rattle.syn_grammar.specs.Kind.{AForeignModule, AFunction, ALet, AMacro, AMacroDefinition, AModule}
 use Rattle.syn_grammar.specs.Kind.{ARestrictedTrait, AStatement, AStatic, AStruct, ATrait, ATraitItem, AType}
@@ -32,7 +32,7 @@ use Rattle.syn_grammar.specs.Kind.{WildPattern, WithPlus, WithoutPlus}
 use Rattle.syn_grammar.specs.Tree.{Tree, AWord, Pair, First, Second, Again, Final, More, Group, Dropped, Called}
 use Rattle.syn_grammar.specs.Tree.{Verbatim}
 use Rattle.syn_grammar.specs.Tree.{Node, Whole, Alone, Front, Back, Infix}
-use Rattle.syn_grammar.specs.Words.{is_ident}
+use Rattle.syn_grammar.specs.Words.{is_ident, same_text}
 use Rattle.syn_grammar.specs.Name.{Part, the_else}
 use Rattle.syn_grammar.specs.Part.{choice, has}
 use Rattle.syn_grammar.specs.Kept.{is_there}
@@ -345,7 +345,30 @@ has_own_trait (First (Pair d (Pair c (Pair u (Pair i (Pair g (Pair p (Pair (Call
     not (is_there f) || is_path_type t
 has_own_trait _ = true
 
--- Items among others are no macros so far, nor are those in extern blocks, traits and impls.
+-- The path of a macro among items begins with ::, or with a word that is none of these. In extern blocks, in traits,
+-- in impls and among statements there are no macros so far.
+abbrev pub is_other : List ℕ → Bool
+is_other cs =
+    same_text (codes "Self") cs
+    || (same_text (codes "union") cs || (same_text (codes "auto") cs || same_text (codes "default") cs))
+
+abbrev pub first_word : Tree → List ℕ
+first_word (First (Pair (AWord cs) y)) = cs
+first_word (Second (Pair (AWord cs) y)) = cs
+first_word _ = []
+
+abbrev pub is_plain_path : Tree → Bool
+is_plain_path (Pair (Second c) (Node k y)) = not (is_other (first_word y))
+is_plain_path _ = true
+
+abbrev pub has_plain_path : Tree → Bool
+has_plain_path (Pair (Node k x) y) = is_plain_path x
+has_plain_path _ = true
+
+abbrev pub is_plain_macro : Tree → Bool
+is_plain_macro (Node (ItemMacro p) x) = has_plain_path x
+is_plain_macro _ = true
+
 abbrev pub is_no_macro : Tree → Bool
 is_no_macro (Node (ItemMacro p) x) = false
 is_no_macro _ = true
@@ -361,7 +384,7 @@ item_of x = x
 -- Statements are lets and items so far, these but macros.
 abbrev pub is_statement_form : Tree → Bool
 is_statement_form (Second (Second (First x))) = true
-is_statement_form (Second (Second (Second (First x)))) = true
+is_statement_form (Second (Second (Second (First (Node k x))))) = is_no_macro (choice (item_of x))
 is_statement_form _ = false
 
 -- what is asked of a part: a let has no else
@@ -375,7 +398,7 @@ is_taken AConst x = has_lone_value x
 is_taken UnnamedField x = has_clear_type x
 is_taken OnePattern x = not (is_lone (choice x))
 is_taken AnImpl x = has_own_trait x
-is_taken AnItem x = is_no_macro (choice (item_of x))
+is_taken AnItem x = is_plain_macro (choice (item_of x))
 is_taken ALet x = not (has the_else x)
 is_taken AStatement x = is_statement_form x
 is_taken AForeignItem x = is_no_macro (choice (item_of x))

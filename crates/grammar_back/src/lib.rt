@@ -15,7 +15,8 @@
 //! (`Classes`). Most steps are written by `tools/steps.py` from the entries (`StepsOf..`). By hand are those where
 //! more than first tokens decides: `HandSteps`, `ValueSteps`, `Fields`, `Predicates`, `Turbofish`, `Alternatives`,
 //! `References`, `Receivers` (by `Selves`), `Aliases`, `Dotted`, `FieldValues`, `Turns`, `PathTypes` (types before
-//! `for`), `ImplParams`, `Impls` (by `Bracketed`), `WholeItems` (by `ItemPlaces` and `ItemVerdicts`), `Members`,
+//! `for`), `ImplParams`, `Impls` (by `Bracketed`), `WholeItems` (by `ItemPlaces`, `MacroItems` and
+//! `ItemVerdicts`), `Members`,
 //! `ForeignItems` and `Lets` (by `FirstWords`), and for the script `Seconds`, `Params` and `FieldNames`; `Passed` has what stands behind
 //! attributes. `Elements` has the verdicts on lists, and `Choices` what is true of booleans and of one look or another.
 //! What all this needs of expressions stands in one place (`Expressions`): the steps and laws of the kinds of their
