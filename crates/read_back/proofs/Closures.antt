@@ -1,12 +1,12 @@
 -- The own part of a closure is read wherever its form may stand, if no for stands before it: between its bars none
 -- stands but in groups.
 use Rattle.std.proofs.Common.{◌≡◌, ℕ, List, [], ◌∷◌, ◌++◌, refl, sym, ap, ◌∙◌, subst, append_assoc}
-use Rattle.std.specs.Prelude.{Bool, true, false, ◌||◌, cond, Option, Some, codes}
+use Rattle.std.specs.Prelude.{Bool, true, false, ◌||◌, ◌==◌, cond, Option, Some, None, codes}
 use Prim.Native.String.{String}
 use Rattle.std.proofs.lemmas.Slice.Eq.{bytes_eq-Decides}
 use Rattle.proc_macro2.specs.Token.{Token, Ident, Punct}
 use Rattle.rust_leaf.specs.declared.punct.Spacing.{Spacing}
-use Rattle.rust_leaf.specs.declared.punct.Spacing.TheVariants.{Alone as Apart}
+use Rattle.rust_leaf.specs.declared.punct.Spacing.TheVariants.{Alone as Apart, Joint}
 use Rattle.syn_grammar.specs.Kind.{Kind, Position, InModule, InExpression, InType, AtType, WithPlus, WithoutPlus}
 use Rattle.syn_grammar.specs.Kind.{Path, Segments, Segment, QualifiedPath, AnyPath, AType, DynType, ImplType}
 use Rattle.syn_grammar.specs.Kind.{ReturnType, ExprClosure, ExprTypedClosure, Arguments, AnArgument}
@@ -29,12 +29,13 @@ use Rattle.syn_grammar.specs.Normal.{normal}
 use Rattle.syn_grammar.specs.Forms.{front, past_bar}
 use Rattle.binding_laws.proofs.Begun.{is_front}
 use Rattle.binding_laws.proofs.Sights.{is_back}
-use Rattle.expressions_back.specs.Behind.{no_operand, BeforeOperand}
+use Rattle.expressions_back.specs.Behind.{no_operand, AtEnd, BeforeOperand}
 use Rattle.expressions_back.specs.Formed.{IsFront}
 use Rattle.expressions_back.proofs.Bools.{or_parts}
 use Rattle.grammar_back.proofs.Fits.{Fits}
 use Rattle.grammar_back.proofs.Readies.{OwnReady}
 use Rattle.read_back.specs.Parts.{is_plain_part}
+use Rattle.read_back.proofs.Lesser.{if_same}
 use Rattle.read_back.proofs.Quiet.{IsQuiet, quiet}
 
 -- the kinds that stand in a closure's parameters, and in these
@@ -152,6 +153,10 @@ a_word w l (Second Nil) f = record { stands = false; is = λ us. refl }
 a_word w l (Second _) f = absurd f.1
 a_word w l _ f = absurd f
 
+no_none : (b : Bool) → seen (cond b None None) ≡ true → ⊥
+no_none true e = cc
+no_none false e = cc
+
 -- the form that they begin
 abbrev typed : Bool → Option Kind
 typed b = cond b (Some ExprTypedClosure) (Some ExprClosure)
@@ -234,6 +239,15 @@ closure (Pair (Second _) z) f u = absurd f.0.1
 closure (Pair _ z) f u = cc
 closure _ f u = absurd f
 
+-- what begins with an arrow, before more
+more_arrow : (ts us : List Token) → sees (marks "->") ts ≡ true → sees (marks "->") (ts ++ us) ≡ true
+more_arrow (Punct c Joint ∷ Punct d i ∷ ts) us e =
+    sym (if_same (c == 45) (cond (d == 62) (Some ts) None) (cond (d == 62) (Some (ts ++ us)) None)
+    (if_same (d == 62) (Some ts) (Some (ts ++ us)) refl)) ∙ e
+more_arrow (Punct c Joint ∷ _) us e = absurd (no_none (c == 45) e)
+more_arrow (Punct c Apart ∷ ts) us e = cc
+more_arrow _ us e = cc
+
 pub closure_part : (y : Tree) → Fits y (table ExprClosure) → is_plain_part ExprClosure y ≡ true → OwnReady ExprClosure y
     → flat (normal (kept y)) ≡ flat y → IsFront (BeforeOperand ExprClosure y) ExprClosure y
 closure_part y f u w n = record {
@@ -257,3 +271,37 @@ closure_part y f u w n = record {
         let d = z.read [] (w [] tt).0 in
         ap (λ o. seen (behind o (marks "->"))) (bar_behind z.params d.0 (Punct 124 Apart ∷ ts) d.1)
         ∙ (or_parts (marks "->" ts) _ m.0).0
+
+-- and of one with a type: behind its bars begins an arrow
+pub typed_part : (y : Tree) → Fits y (table ExprTypedClosure) → is_plain_part ExprTypedClosure y ≡ true
+    → OwnReady ExprTypedClosure y → flat (normal (kept y)) ≡ flat y → IsFront AtEnd ExprTypedClosure y
+unfolding table
+typed_part (Pair (Pair (Second b) c) (Pair r v)) f u w n = record {
+  begins = λ p ts s m. (at_words ts).0 p ∙ ap typed (arrow ts);
+  read = λ ts m. (w ts tt).0;
+  held = n;
+  single = λ ts m. (at_words ts).1;
+}
+  where
+    z : Closure (Pair (Second b) c)
+    z = closure (Pair (Second b) c) f.0 refl
+
+    past : List Token → List Token
+    past ts = flat z.params ++ Punct 124 Apart ∷ (flat (Pair r v) ++ ts)
+
+    at_words : (ts : List Token) → IsClosure (flat (Pair (Pair (Second b) c) (Pair r v)) ++ ts) (past ts)
+    at_words ts =
+        subst (λ us. IsClosure us (past ts))
+        (sym (append_assoc (flat (Pair (Second b) c)) (flat (Pair r v)) ts ∙ z.is (flat (Pair r v) ++ ts)))
+        (closure_front z.const_is z.static_is z.async_is z.move_is (past ts))
+
+    arrow : (ts : List Token) → seen (behind (past_bar (past ts)) (marks "->")) ≡ true
+    arrow ts =
+        let d = z.read (flat (Pair r v) ++ []) (w [] tt).0.0 in
+        ap (λ o. seen (behind o (marks "->")))
+        (bar_behind z.params d.0 (Punct 124 Apart ∷ (flat (Pair r v) ++ ts)) d.1)
+        ∙ ap (sees (marks "->")) (append_assoc (flat r) (flat v) ts) ∙ more_arrow (flat r) (flat v ++ ts) u
+typed_part (Pair (Pair (Second b) c) _) f u w n = absurd f.1
+typed_part (Pair (Pair _ c) z) f u w n = cc
+typed_part (Pair _ z) f u w n = absurd f.0
+typed_part _ f u w n = absurd f

@@ -31,7 +31,7 @@ use Rattle.syn_grammar.specs.Derives.{Derives}
 use Rattle.syn_grammar.specs.Parens.{ends_in_name}
 
 -- what is seen of two texts
-if_same : (b : Bool) (o p : Option (List Token)) → seen o ≡ seen p → seen (cond b o None) ≡ seen (cond b p None)
+pub if_same : (b : Bool) (o p : Option (List Token)) → seen o ≡ seen p → seen (cond b o None) ≡ seen (cond b p None)
 if_same true o p e = e
 if_same false o p e = refl
 

@@ -4,6 +4,7 @@ pub mod Indices
 pub mod Dots
 pub mod Quiet
 pub mod Semicolons
+pub mod Lesser
 pub mod Closures
 pub mod Blocks
 pub mod Held
@@ -12,7 +13,6 @@ pub mod Follow
 pub mod Paths
 pub mod Macros
 pub mod Starting
-pub mod Lesser
 pub mod Casts
 pub mod Operands
 pub mod Parts

@@ -2,7 +2,7 @@
 use Rattle.std.proofs.Common.{◌≡◌, List, refl}
 use Rattle.std.specs.Prelude.{Bool, true, false, ◌&&◌, Some}
 use Rattle.proc_macro2.specs.Token.{Token}
-use Rattle.syn_grammar.specs.Kind.{Kind, Position, ExprAttributed, ExprClosure}
+use Rattle.syn_grammar.specs.Kind.{Kind, Position, ExprAttributed, ExprClosure, ExprTypedClosure}
 use Rattle.syn_grammar.specs.Tree.{Tree, Alone, Front, Back, Infix}
 use Rattle.syn_grammar.specs.Forms.{front, back, is_path_form}
 use Rattle.syn_grammar.specs.Parens.{is_struct}
@@ -19,7 +19,7 @@ abbrev pub IsBackOf : (Kind → Bool) → Kind → Type 0
 IsBackOf passes k = (passes k ≡ true) × (p : Position) × (ts : List Token) × (back p ts ≡ Some k)
 
 abbrev pub HasOperandsOf : (Kind → Bool) → Tree → Type 0
-HasOperandsOf passes (Alone k y) = IsFrontOf passes k × MayLack k
+HasOperandsOf passes (Alone k y) = IsFrontOf passes k × MayLack k × (is_plain_part k y ≡ true)
 HasOperandsOf passes (Front k y x) =
     IsFrontOf passes k × MayHave k × (is_attributed k && is_attributed_form x ≡ false) × HasOperandsOf passes x
     × (is_plain_part k y ≡ true)
@@ -31,7 +31,7 @@ HasOperandsOf passes x = ⊥
 
 -- Those that `grammar_back` asks for are so, and are of more kinds.
 pub operands_are : (x : Tree) → HasOperandsOf is_form x → HasOperands x
-operands_are (Alone k y) o = o
+operands_are (Alone k y) o = (o.0, o.1)
 operands_are (Front k y x) o = (o.0, o.1, operands_are x o.3)
 operands_are (Back l k y) o = (o.0, o.1, operands_are l o.2, o.3)
 operands_are (Infix l k y r) o = (o.0, o.1, operands_are l o.2, operands_are r o.3)
@@ -45,11 +45,12 @@ none_attributed _ x e = refl
 pub plain_part : (k : Kind) (y : Tree) → is_form k ≡ true → is_plain_part k y ≡ true
 unfolding has_form_step
 plain_part ExprClosure y e = cc
+plain_part ExprTypedClosure y e = cc
 plain_part _ y e = refl
 
 module _ (passes : Kind → Bool) (more : (k : Kind) → is_form k ≡ true → passes k ≡ true) where
   pub operands_of : (x : Tree) → HasOperands x → HasOperandsOf passes x
-  operands_of (Alone k y) o = ((more k o.0.0, o.0.1, o.0.2, o.0.3), o.1)
+  operands_of (Alone k y) o = ((more k o.0.0, o.0.1, o.0.2, o.0.3), o.1, plain_part k y o.0.0)
   operands_of (Front k y x) o =
       ((more k o.0.0, o.0.1, o.0.2, o.0.3), o.1, none_attributed k x o.0.0, operands_of x o.2, plain_part k y o.0.0)
   operands_of (Back l k y) o =

@@ -43,9 +43,10 @@ use Rattle.grammar_back.proofs.Fits.{Fits, FitsForms, IsMeant, IsWhole, MayLack,
 use Rattle.grammar_back.proofs.Fits.{flat_kept}
 use Rattle.grammar_back.proofs.Readies.{OwnReady, Ready}
 use Rattle.grammar_back.proofs.Starts.{starts}
+use Rattle.syn_grammar.specs.Kind.{ExprTypedClosure}
 use Rattle.read_back.specs.Parts.{is_plain_part, has_part}
 use Rattle.read_back.proofs.Casts.{cast_part}
-use Rattle.read_back.proofs.Closures.{closure_part}
+use Rattle.read_back.proofs.Closures.{closure_part, typed_part}
 use Rattle.read_back.proofs.Blocks.{block_part, is_block}
 use Rattle.read_back.proofs.Dots.{dot_own}
 use Rattle.read_back.proofs.Macros.{macro_part}
@@ -77,8 +78,13 @@ abbrev is_macro : Kind → Bool
 is_macro ExprMacro = true
 is_macro k = false
 
+abbrev is_typed : Kind → Bool
+is_typed ExprTypedClosure = true
+is_typed k = false
+
 alone_kind : (k : Kind) → has_part k ≡ true → is_front k ≡ true → may_lack_operand k ≡ true
-    → (is_path k || (is_macro k || (is_started k || (is_block k || (is_firm_front k || is_break k))))) ≡ true
+    → (is_path k || (is_macro k || (is_typed k || (is_started k || (is_block k || (is_firm_front k || is_break k))))))
+    ≡ true
 unfolding has_form_step may_lack level
 alone_kind ExprLit e f h = refl
 alone_kind _ e f h = cc
@@ -171,6 +177,7 @@ before_nothing ExprWhile y e = tt
 before_nothing ExprAttributed y e = (refl, tt)
 before_nothing ExprCast y e = (refl, (refl, (refl, (refl, (refl, tt)))))
 before_nothing ExprClosure y e = tt
+before_nothing ExprTypedClosure y e = tt
 before_nothing _ y e = cc
 
 pub own : (k : Kind) (y : Tree) → has_part k ≡ true → Fits y (table k) → OwnReady k y → normal (kept y) ≡ kept y
@@ -220,12 +227,12 @@ end_own k y m f w o = go (is_block k) refl m
     go false e m = end_front k y m o
 
 alone_own : (k : Kind) (y : Tree)
-    → (is_path k || (is_macro k || (is_started k || (is_block k || (is_firm_front k || is_break k))))) ≡ true
-    → Fits y (table k)
-    → OwnReady k y → IsOwn k y → IsFront AtEnd k y
-alone_own ExprPath y m f w o = path_part y w o.1
-alone_own ExprMacro y m f w o = macro_part AtEnd y f w o.1
-alone_own k y m f w o = go (is_started k) refl m
+    → (is_path k || (is_macro k || (is_typed k || (is_started k || (is_block k || (is_firm_front k || is_break k))))))
+    ≡ true → is_plain_part k y ≡ true → Fits y (table k) → OwnReady k y → IsOwn k y → IsFront AtEnd k y
+alone_own ExprPath y m u f w o = path_part y w o.1
+alone_own ExprMacro y m u f w o = macro_part AtEnd y f w o.1
+alone_own ExprTypedClosure y m u f w o = typed_part y f u w o.1
+alone_own k y m u f w o = go (is_started k) refl m
   where
     go : (b : Bool) → is_started k ≡ b → (b || (is_block k || (is_firm_front k || is_break k))) ≡ true
         → IsFront AtEnd k y
@@ -248,7 +255,7 @@ pub owned : (x : Tree) → FitsForms x → HasOperandsOf has_part x → Ready x 
 owned (Alone k y) h o w p ts s =
     let l = lacks k o.1 in
     let m = alone_kind k o.0.0 (fronts_are o.0.1 k o.0.2 o.0.3) l in
-    (alone_own k y m h.1 w (own k y o.0.0 h.1 w s.0), l)
+    (alone_own k y m o.2 h.1 w (own k y o.0.0 h.1 w s.0), l)
 owned (Front k y x) h o w p ts s =
     let m = front_kind k o.0.0 (fronts_are o.0.1 k o.0.2 o.0.3) (has_one k o.1) in (
       front_own k y m o.4 h.1 w.0 (own k y o.0.0 h.1 w.0 s.0),
@@ -381,6 +388,9 @@ form_begins ExprAttributed y s e f b =
     among (0 ∷ []) (starts ExprAttributed) (starts (Expression Plain)) (flat y ++ s) (refl, tt) b
 form_begins ExprClosure y s e f b =
     among (11 ∷ 14 ∷ 12 ∷ 15 ∷ 13 ∷ 26 ∷ []) (starts ExprClosure) (starts (Expression Plain)) (flat y ++ s)
+    (refl, (refl, (refl, (refl, (refl, (refl, tt)))))) b
+form_begins ExprTypedClosure y s e f b =
+    among (11 ∷ 14 ∷ 12 ∷ 15 ∷ 13 ∷ 26 ∷ []) (starts ExprTypedClosure) (starts (Expression Plain)) (flat y ++ s)
     (refl, (refl, (refl, (refl, (refl, (refl, tt)))))) b
 form_begins _ y s e f b = cc
 

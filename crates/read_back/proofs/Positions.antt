@@ -27,7 +27,7 @@ use Rattle.grammar_back.proofs.Printed.{EntryLaw, IsPlaced, OwnPrinted, Printed,
 use Rattle.grammar_back.proofs.Readies.{ready_forms}
 use Rattle.read_back.specs.Parts.{has_part, has_parts_of}
 use Rattle.read_back.proofs.Forms.{expressions, read_formed}
-use Rattle.read_back.proofs.Wholes.{back_parts, front_parts, infix_parts, part_known, remake}
+use Rattle.read_back.proofs.Wholes.{alone_parts, back_parts, front_parts, infix_parts, part_known, remake}
 
 -- what is printed for its own parts
 part_placed : (k : Kind) → has_part k ≡ true → IsPlaced Plain k
@@ -53,8 +53,8 @@ part_printed k y r e d c =
 parts_printed : (x : Tree) (p : Position) (r : List Token) → Bound p x r → has_parts_of has_part x ≡ true
     → OwnPrinted x
 parts_printed (Alone k y) p r d c =
-    let a = and_true (has_part k) (is_covered y) c in
-    part_printed k y r a.0 d.1 a.1
+    let a = alone_parts has_part k y c in
+    part_printed k y r a.passes d.1 a.own
 parts_printed (Front k y x) p r d c =
     let a = front_parts has_part k y x c in
     (part_printed k y (flat x ++ r) a.passes d.1 a.own, parts_printed x (inside p k) r d.4 a.right)

@@ -11,7 +11,7 @@ use Rattle.syn_grammar.specs.Kind.{ExprTryBlock, ExprCall, ExprIndex, ExprTry, E
 use Rattle.syn_grammar.specs.Kind.{ExprBreak, ExprReturn, ExprYield, ExprRange, ExprRangeClosed, ExprAssign, ExprOr}
 use Rattle.syn_grammar.specs.Kind.{ExprAnd, ExprCompare, ExprBitOr, ExprBitXor, ExprBitAnd, ExprShift, ExprSum}
 use Rattle.syn_grammar.specs.Kind.{ExprProduct, ExprMacro, ExprIf, ExprMatch, ExprWhile, ExprCast}
-use Rattle.syn_grammar.specs.Kind.{ExprClosure}
+use Rattle.syn_grammar.specs.Kind.{ExprClosure, ExprTypedClosure, ReturnType, WithPlus}
 use Rattle.syn_grammar.specs.Tree.{Tree, Pair, First, Second, End, Again, Node, Whole, Alone, Front, Back, Infix, flat}
 use Rattle.syn_grammar.specs.Kind.{ExprArray, ExprAsync, ExprBlock, ExprConst, ExprLet, ExprLoop, ExprRepeat}
 use Rattle.syn_grammar.specs.Gram.{Gram, star, operand, ref}
@@ -38,7 +38,7 @@ use Rattle.expressions_back.proofs.Opened.{nothing_right, fixed_right, paren_rig
 use Rattle.expressions_back.proofs.Stands.{struct_is}
 use Rattle.grammar_back.specs.Covered.{has_step, has_form_step, inner, is_known, is_form, is_covered}
 use Rattle.grammar_back.proofs.Dotted.{law_expr_await, law_expr_field, law_expr_method_call}
-use Rattle.grammar_back.proofs.Fits.{Fits, FitsForms, IsMeant, IsFormed, MayLack, MayHave}
+use Rattle.grammar_back.proofs.Fits.{flat_kept, Fits, FitsForms, IsMeant, IsFormed, MayLack, MayHave}
 use Rattle.grammar_back.proofs.Printed.{OwnPrinted, Printed, WholeLaw}
 use Rattle.read_back.specs.Parts.{is_plain_part, has_part, has_parts_of, is_more}
 use Rattle.read_back.proofs.Operands.{HasOperandsOf, IsBackOf, plain_part, operands_are}
@@ -61,7 +61,10 @@ both_parts : (a b c d : Bool) → (a ≡ true → b ≡ true) → (c ≡ true �
 both_parts a b c d f g e = let h = and_true a c e in ap (λ i. i && d) (f h.0) ∙ g h.1
 
 covered_parts : (x : Tree) → is_covered x ≡ true → has_parts_of is_form x ≡ true
-covered_parts (Alone k y) c = c
+covered_parts (Alone k y) c =
+    let a = and_true (is_form k) (is_covered y) c in
+    ap (λ e. e && (is_plain_part k (normal (kept y)) && is_covered y)) a.0
+    ∙ ap (λ e. e && is_covered y) (plain_part k (normal (kept y)) a.0) ∙ a.1
 covered_parts (Front k y x) c =
     let a = and_true (is_form k) (is_covered y && is_covered x) c in
     let b = and_true (is_covered y) (is_covered x) a.1 in
@@ -138,6 +141,7 @@ form_meant ExprWhile y e f = tt
 form_meant ExprAttributed y e f = tt
 form_meant ExprCast y e f = tt
 form_meant ExprClosure y e f = tt
+form_meant ExprTypedClosure y e f = tt
 form_meant _ y e f = cc
 
 of_node : (k : Kind) (t z : Tree) → ((x : Tree) → forget k x ≡ x) → Fits t (ref k) → kept t ≡ Node (held k) z → Own k z
@@ -252,6 +256,17 @@ left_path p k l s i =
     (and_true (is_path_form l) _ (subst (λ j. stands_left p l j ≡ true) (struct_is k s) i.0)).0
 
 -- the operands' forms are of kinds that pass, too
+pub record AloneParts (ks : Kind → Bool) (k : Kind) (y : Tree) : Type 0 where
+  pub passes : ks k ≡ true
+  pub ends : is_plain_part k (normal (kept y)) ≡ true
+  pub own : is_covered y ≡ true
+
+pub alone_parts : (ks : Kind → Bool) (k : Kind) (y : Tree) → has_parts_of ks (Alone k y) ≡ true → AloneParts ks k y
+alone_parts ks k y c =
+    let a = and_true (ks k) _ c in
+    let b = and_true (is_plain_part k (normal (kept y))) (is_covered y) a.1 in
+    record { passes = a.0; ends = b.0; own = b.1 }
+
 pub record FrontParts (ks : Kind → Bool) (k : Kind) (y x : Tree) : Type 0 where
   pub passes : ks k ≡ true
   pub plain : is_attributed_range k x ≡ false
@@ -357,17 +372,28 @@ unbound_back (Pair (First b) z) f e = cc
 unbound_back (Pair _ z) f e = absurd f.0
 unbound_back _ f e = absurd f
 
+untyped_back : (y : Tree) → Fits y (table ExprTypedClosure) → is_plain_part ExprTypedClosure (kept y) ≡ true
+    → is_plain_part ExprTypedClosure y ≡ true
+unfolding table
+untyped_back (Pair (Pair (Second b) c) (Pair r z)) f e =
+    ap (sees (marks "->")) (sym (flat_kept r (ref (ReturnType WithPlus)) f.1.0)) ∙ e
+untyped_back (Pair (Pair (Second b) c) _) f e = absurd f.1
+untyped_back (Pair (Pair (First b) c) z) f e = cc
+untyped_back (Pair (Pair _ c) z) f e = absurd f.0.0
+untyped_back (Pair _ z) f e = absurd f.0
+untyped_back _ f e = absurd f
+
 same_end : (k : Kind) (y z : Tree) → Fits y (table k) → kept y ≡ z → is_plain_part k z ≡ true → is_plain_part k y ≡ true
 same_end ExprClosure y z f e h =
     unbound_back y f (ap (is_plain_part ExprClosure) e ∙ h)
+same_end ExprTypedClosure y z f e h =
+    untyped_back y f (ap (is_plain_part ExprTypedClosure) e ∙ h)
 same_end _ y z f e h = refl
 
 -- Of kinds that pass:
 module _ (passes : Kind → Bool) (part : (k : Kind) → passes k ≡ true → has_part k ≡ true) where
   owns : (x : Tree) (p : Position) (r : List Token) → Bound p x r → has_parts_of passes x ≡ true → OwnPrinted x → Owns x
-  owns (Alone k y) p r d c o =
-      let a = and_true (passes k) (is_covered y) c in
-      own_printed k y r (part k a.0) d.1 o
+  owns (Alone k y) p r d c o = own_printed k y r (part k (alone_parts passes k y c).passes) d.1 o
   owns (Front k y x) p r d c o =
       let a = front_parts passes k y x c in
       (own_printed k y (flat x ++ r) (part k a.passes) d.1 o.0, owns x (inside p k) r d.4 a.right o.1)
@@ -397,8 +423,7 @@ module _ (passes : Kind → Bool) (part : (k : Kind) → passes k ≡ true → h
       → FitsForms (remade x o)
   unfolding remade
   remade_fits (Alone k y) o p r d c =
-      let a = and_true (passes k) (is_covered y) c in
-      (part_known k (part k a.0), o.fits, o.means)
+      (part_known k (part k (alone_parts passes k y c).passes), o.fits, o.means)
   remade_fits (Front k y x) o p r d c =
       let a = front_parts passes k y x c in
       (part_known k (part k a.passes), o.0.fits, o.0.means, remade_fits x o.1 (inside p k) r d.4 a.right)
@@ -430,8 +455,11 @@ module _ (passes : Kind → Bool) (part : (k : Kind) → passes k ≡ true → h
         → has_parts_of passes x ≡ true → HasOperandsOf passes (remade x o)
     unfolding remade
     remade_operands (Alone k y) o p r d c =
-        let a = and_true (passes k) (is_covered y) c in
-        ((a.0, p, flat y ++ r, d.0), lacks_one p k r d.2)
+        let a = alone_parts passes k y c in (
+          (a.passes, p, flat y ++ r, d.0),
+          lacks_one p k r d.2,
+          same_end k o.tree (normal (kept y)) o.fits o.kept_is a.ends,
+        )
     remade_operands (Front k y x) o p r d c =
         let a = front_parts passes k y x c in (
           (a.passes, p, flat y ++ (flat x ++ r), d.0),
