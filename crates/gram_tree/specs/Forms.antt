@@ -1,0 +1,58 @@
+-- The tree of the written grammar that a form is.
+use Rattle.std.specs.Prelude.{ℕ, zero, suc, List, [], ◌∷◌, Option, Some, None, map}
+use Rattle.rust_leaf.specs.Leaf.{ident_text, literal_text}
+use Rattle.rust_leaf.specs.declared.punct.Spacing.{Spacing}
+use Rattle.syn_grammar.specs.Tree as t
+use Rattle.syn_grammar.specs.Tree.{Tree}
+use Rattle.syn_buffer.specs.Entries.{entry_token}
+use Rattle.gram_table.specs.Kinds.{kind_of}
+use Rattle.gram_table.specs.Ops.{separator_of}
+use Rattle.gram_table.specs.Parts.{part_of}
+use Rattle.gram_table.specs.Words.{sign_text}
+use Rattle.gram_tree.specs.declared.tree.Form.{Form}
+use Rattle.gram_tree.specs.declared.tree.Form.TheVariants as forms
+use Rattle.gram_tree.specs.declared.tree.Element.{Element}
+
+abbrev pub mark_of : List ℕ → Spacing → Tree
+mark_of [] spacing = t.Nil
+mark_of (c ∷ cs) spacing = t.AMark c cs spacing
+
+-- behind so many seconds
+abbrev pub seconds : ℕ → Tree → Tree
+seconds zero x = x
+seconds (suc n) x = t.Second (seconds n x)
+
+abbrev pub turns : List Tree → Tree
+turns [] = t.End
+turns (x ∷ xs) = t.Again x (turns xs)
+
+abbrev pub ending : {A : Type 0} → (A → Tree) → Option A → Tree
+ending f None = t.End
+ending f (Some x) = t.Final (f x)
+
+abbrev pub elements : ℕ → List Element → Tree → Tree
+elements c [] y = y
+elements c (e ∷ es) y = t.More e.tree c e.spacing (elements c es y)
+
+abbrev pub tree_of : Form → Tree
+tree_of (forms.Word i) = t.AWord (ident_text i.now)
+tree_of (forms.Literal l) = t.ALiteral (literal_text l.now)
+tree_of (forms.Mark s spacing span) = mark_of (sign_text s) spacing
+tree_of (forms.Lifetime span i) = t.ALifetime (ident_text i.now)
+tree_of (forms.Raw es) = t.Raw (map entry_token es.now)
+tree_of forms.Nil = t.Nil
+tree_of (forms.Pair b) = t.Pair b.value.front b.value.back
+tree_of (forms.First n x) = seconds n (t.First x.value)
+tree_of (forms.Second n x) = t.Second (seconds n x.value)
+tree_of (forms.Turns v) = turns v.items
+tree_of (forms.Elements s v o) = elements (separator_of s) v.items (ending (λ b. b.value) o)
+tree_of (forms.Group d span x) = t.Group d x.value
+tree_of (forms.Dropped x) = t.Dropped x.value
+tree_of (forms.Called n x) = t.Called (part_of n) x.value
+tree_of (forms.Verbatim x) = t.Verbatim x.value
+tree_of (forms.Node k x) = t.Node (kind_of k) x.value
+tree_of (forms.Whole x) = t.Whole x.value
+tree_of (forms.Alone k x) = t.Alone (kind_of k) x.value
+tree_of (forms.Front k b) = t.Front (kind_of k) b.value.front b.value.back
+tree_of (forms.Back k b) = t.Back b.value.front (kind_of k) b.value.back
+tree_of (forms.Infix k b) = t.Infix b.value.left (kind_of k) b.value.own b.value.right

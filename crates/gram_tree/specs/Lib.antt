@@ -1,0 +1,4 @@
+pub mod Pieces
+pub mod Size
+pub mod Forms
+pub mod Falls

@@ -1,0 +1,126 @@
+//! Trees of what was read.
+
+use gram_table::kind::Kind;
+use gram_table::op::Separator;
+use gram_table::part::Part;
+use gram_table::word::Sign;
+use proc_macro2::delimiter::Delimiter;
+use rust_leaf::ident::Ident;
+use rust_leaf::literal::Literal;
+use rust_leaf::punct::Spacing;
+use rust_map::span::Span;
+use std::marker::Model;
+use syn_buffer::entry::Entry;
+
+/// What was read. To a contract it is the tree of the written grammar; spans are no part of that.
+#[cycle(tree)]
+#[derive(Drop)]
+pub struct Tree<'a> {
+    /// What it is made of.
+    pub form: Form<'a>,
+}
+
+/// Two trees.
+#[cycle(tree)]
+#[derive(Drop)]
+pub struct Two<'a> {
+    /// The one that stands first.
+    pub front: Tree<'a>,
+    /// The one behind it.
+    pub back: Tree<'a>,
+}
+
+/// An infix form's left operand, its own part, and its right operand.
+#[cycle(tree)]
+#[derive(Drop)]
+pub struct Three<'a> {
+    /// The left operand.
+    pub left: Tree<'a>,
+    /// The form's own part.
+    pub own: Tree<'a>,
+    /// The right operand.
+    pub right: Tree<'a>,
+}
+
+/// An element of a list, and how the mark behind it is spaced.
+#[cycle(tree)]
+#[derive(Drop)]
+pub struct Element<'a> {
+    /// The element.
+    pub tree: Tree<'a>,
+    /// The spacing of the mark behind it.
+    pub spacing: Spacing,
+}
+
+/// What a tree is made of.
+#[cycle(tree)]
+#[derive(Drop)]
+pub enum Form<'a> {
+    /// An identifier or a keyword.
+    Word(&'a Ident),
+    /// A literal.
+    Literal(&'a Literal),
+    /// A punctuation, how its last mark is spaced, and where its first mark stands.
+    Mark(Sign, Spacing, Span),
+    /// `'`, where it stands, and a word.
+    Lifetime(Span, &'a Ident),
+    /// Tokens that are kept as they are.
+    Raw(&'a [Entry<'a>]),
+    /// No token.
+    Nil,
+    /// One, and then the other.
+    Pair(Box<Two<'a>>),
+    /// Of choices, each the second of the one before it: so many times the second, and then the first.
+    First(usize, Box<Tree<'a>>),
+    /// Of choices, each the second of the one before it: the second, and so many times the second.
+    Second(usize, Box<Tree<'a>>),
+    /// Turns, one behind the other.
+    Turns(Vec<Tree<'a>>),
+    /// Elements that a mark follows each, and a last one that none follows.
+    Elements(Separator, Vec<Element<'a>>, Option<Box<Tree<'a>>>),
+    /// A group, its span, and its inside.
+    Group(Delimiter, Span, Box<Tree<'a>>),
+    /// What was read, and is no part of the program.
+    Dropped(Box<Tree<'a>>),
+    /// A part, by its name.
+    Called(Part, Box<Tree<'a>>),
+    /// What was read so, and is kept as tokens.
+    Verbatim(Box<Tree<'a>>),
+    /// A node of a kind.
+    Node(Kind, Box<Tree<'a>>),
+    /// An expression.
+    Whole(Box<Tree<'a>>),
+    /// A form without operands: its own part.
+    Alone(Kind, Box<Tree<'a>>),
+    /// A form with an operand behind it: its own part, and that.
+    Front(Kind, Box<Two<'a>>),
+    /// A form with an operand before it: that, and its own part.
+    Back(Kind, Box<Two<'a>>),
+    /// A form with an operand on either side.
+    Infix(Kind, Box<Three<'a>>),
+}
+
+impl<'a> Model for Tree<'a> {
+    ghost use Rattle.syn_grammar.specs.Tree.{Tree};
+
+    ghost Value = { Tree };
+
+    ghost use Prim.Native.Nat.{ℕ};
+    ghost use Rattle.std.specs.Prelude.{List};
+    ghost use Rattle.std.specs.Coded.{code_by, codes, coded_list};
+    ghost use Rattle.gram_tree.specs.Pieces.{Piece, from_pieces, pieces, same_again};
+
+    ghost coded = { code_by (List Piece) (Prim.hlevel codes) pieces from_pieces same_again };
+
+    ghost use Rattle.gram_tree.specs.Forms.{tree_of};
+
+    ghost view = { λ t. tree_of t.form };
+
+    ghost use Rattle.gram_tree.specs.Size.{node_count};
+
+    ghost size = { node_count };
+
+    ghost use Rattle.gram_tree.specs.Falls.{falls};
+
+    ghost size_decreases = { λ t h. falls t };
+}
