@@ -1,9 +1,14 @@
 //! Tokens that are to be written.
 
+ghost use Rattle.gram_piece.specs.Pieces.{piece_token};
+ghost use Rattle.std.specs.Prelude.{◌≡◌};
+ghost use Rattle.syn_buffer.specs.Entries.{entry_token};
+
 use proc_macro2::delimiter::Delimiter;
 use rust_leaf::ident::Ident;
 use rust_leaf::literal::Literal;
 use rust_leaf::punct::Spacing;
+use syn_buffer::entry::Entry;
 
 /// A token that is to be written: one that was read, lent, or one that a normal form adds.
 #[derive(Clone, Copy)]
@@ -22,4 +27,19 @@ pub enum Piece<'a> {
     Underscore,
     /// An index, in plain decimal.
     Index(u32),
+}
+
+impl<'a> Piece<'a> {
+    /// A token that was read, to be written again.
+    pub fn of(entry: &Entry<'a>) -> Piece<'a>
+        ensures { piece_token result ≡ entry_token entry.now }
+    {
+        match entry {
+            Entry::Open(delimiter, _, _) => Piece::Open(*delimiter),
+            Entry::Close(delimiter, _) => Piece::Close(*delimiter),
+            Entry::Ident(ident) => Piece::Ident(ident),
+            Entry::Punct(punct) => Piece::Mark(punct.as_char(), punct.spacing()),
+            Entry::Literal(literal) => Piece::Literal(literal),
+        }
+    }
 }
