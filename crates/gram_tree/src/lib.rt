@@ -2,7 +2,9 @@
 //!
 //! - `tree`: trees.
 //! - `made`: trees, made of their parts.
+//! - `part`: their parts.
 #![tactic(auto)]
 
 pub mod made;
+pub mod part;
 pub mod tree;
