@@ -1,1 +1,5 @@
 pub mod Programs
+pub mod Every
+pub mod Stacks
+pub mod Leaves
+pub mod Outputs

@@ -16,7 +16,7 @@ use Rattle.syn_grammar.specs.Tree.{Tree, flat}
 use Rattle.syn_grammar.specs.Gram.{ref}
 use Rattle.syn_grammar.specs.Kept.{kept}
 use Rattle.syn_grammar.specs.Normal.{normal}
-use Rattle.syn_grammar.specs.Read.{IsRead}
+use Rattle.syn_grammar.specs.Read.{IsDerived, NoneRead}
 use Rattle.syn_grammar.proofs.Theorems as theorems
 use Rattle.item_laws.proofs.Quiet as quiet
 use Rattle.canon_laws.specs.Program.{IsFile, NoFile, IsProgram}
@@ -53,21 +53,29 @@ pub syntax_fault : (text : List ℕ) (place : Option LineColumn) (t : Tree) → 
 syntax_fault text place t f p =
     f.no_file t (subst (λ (ts : List Token). IsFile ts t) (same_tokens text p.tokens f.tokens p.forest f.forest) p.file)
 
--- where a tree is read that leaves tokens, no file has them all
-read_file : (ts : List Token) (form : Tree) (rest : List Token) → IsRead AFile ts form rest
-    → ((t : Tree) × IsFile ts t) ⊎ NoFile ts
-read_file ts form [] r =
-    inl (r.tree, record { derived = r.derived; spelled = sym (append-nil (flat r.tree)) ∙ r.spelled })
-read_file ts form (s ∷ rest) r = inr
-    (λ t f. let same = theorems.one (ref AFile) t r.tree [] (s ∷ rest) f.derived r.derived
-    (append-nil (flat t) ∙ f.spelled ∙ sym r.spelled) in
-    let e : [] ≡ s ∷ rest = same.1 in cc)
+-- a tree that leaves no token is the file's, and where one is read that leaves some, or none is read, they are no file
+pub whole_file : (ts : List Token) (t : Tree) → IsDerived AFile ts t [] → IsFile ts t
+whole_file ts t d = record { derived = d.0; spelled = sym (append-nil (flat t)) ∙ d.1 }
 
-pub file_or_none : (ts : List Token) → ((t : Tree) × IsFile ts t) ⊎ NoFile ts
+pub no_whole_file : (ts : List Token) (t : Tree) (s : Token) (rest : List Token) → IsDerived AFile ts t (s ∷ rest)
+    → NoFile ts
+no_whole_file ts t s rest d u f =
+    let same = theorems.one (ref AFile) u t [] (s ∷ rest) f.derived d.0 (append-nil (flat u) ∙ f.spelled ∙ sym d.1) in
+    let e : [] ≡ s ∷ rest = same.1 in cc
+
+pub none_read : (ts : List Token) → NoneRead AFile ts → NoFile ts
+none_read ts n t f = n t [] f.derived (append-nil (flat t) ∙ f.spelled)
+
+read_file : (ts : List Token) (t : Tree) (rest : List Token) → IsDerived AFile ts t rest
+    → ((t : Tree) × IsFile ts t) ⊎ NoFile ts
+read_file ts t [] d = inl (t, whole_file ts t d)
+read_file ts t (s ∷ rest) d = inr (no_whole_file ts t s rest d)
+
+file_or_none : (ts : List Token) → ((t : Tree) × IsFile ts t) ⊎ NoFile ts
 file_or_none ts =
     ⊎_elim
-    (λ (form, rest, r). read_file ts form rest r)
-    (λ n. inr (λ t f. n t [] f.derived (append-nil (flat t) ∙ f.spelled)))
+    (λ (form, rest, r). read_file ts r.tree rest (r.derived, r.spelled))
+    (λ n. inr (none_read ts n))
     (theorems.decided AFile ts)
 
 abbrev pub IsAnswered : List ℕ → Type 0

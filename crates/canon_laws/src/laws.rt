@@ -2,12 +2,14 @@
 //! the laws.
 
 ghost use Rattle.canon_laws.specs.Faults.{IsSyntaxFault};
-ghost use Rattle.canon_laws.specs.Program.{IsProgram};
-ghost use Rattle.proc_macro2.specs.Forest.{IsLexicalFault};
+ghost use Rattle.canon_laws.specs.Program.{IsOutput, IsProgram, written};
+ghost use Rattle.grammar_back.specs.Covered.{is_covered};
+ghost use Rattle.proc_macro2.specs.Forest.{IsForest, IsLexicalFault};
 ghost use Rattle.proc_macro2.specs.Spacing.{IsWellSpaced};
+ghost use Rattle.proc_macro2.specs.Token.{Spanned, plain};
 ghost use Rattle.rust_leaf.specs.Leaf.{AreCharacters};
 ghost use Rattle.rust_map.specs.declared.place.LineColumn.{LineColumn};
-ghost use Rattle.std.specs.Prelude.{ℕ, ◌≡◌, ◌⊎◌, List, Option};
+ghost use Rattle.std.specs.Prelude.{ℕ, ◌≡◌, ◌⊎◌, ◌↔◌, true, List, Option};
 ghost use Rattle.syn_grammar.specs.Kept.{kept};
 ghost use Rattle.syn_grammar.specs.Normal.{normal};
 ghost use Rattle.syn_grammar.specs.Tree.{Tree, flat};
@@ -21,6 +23,37 @@ pub fn one_program()
 pub fn normal_form_is_spaced()
     ensures { (text : List ℕ) (t : Tree) → AreCharacters text → IsProgram text t
         → IsWellSpaced (flat (normal (kept t))) }
+{}
+
+/// The text of a normal form has its tokens, and no others.
+pub fn output_has_tokens()
+    ensures { (text : List ℕ) (t : Tree) → AreCharacters text → IsProgram text t
+        → (read : List Spanned) × IsForest 0 (written t) read × (plain read ≡ flat (normal (kept t))) }
+{}
+
+/// Two accepted texts have one output exactly if their normal forms have the same tokens.
+pub fn one_output_for_the_same_tokens()
+    ensures { (a b : List ℕ) (t u : Tree) → AreCharacters a → AreCharacters b → IsProgram a t → IsProgram b u →
+        (written t ≡ written u) ↔ (flat (normal (kept t)) ≡ flat (normal (kept u))) }
+{}
+
+/// An output is accepted, and is its own output: where the program is covered, so that its normal form is read back.
+pub fn output_is_fixed()
+    ensures { (text output : List ℕ) → AreCharacters text → (o : IsOutput text output) → is_covered o.tree ≡ true
+        → IsOutput output output }
+{}
+
+/// The syntax tree of an output is the normal form of the one that was written, where the program is covered.
+pub fn output_has_normal_form()
+    ensures { (text : List ℕ) (t : Tree) → AreCharacters text → IsProgram text t → is_covered t ≡ true
+        → (u : Tree) × IsProgram (written t) u × (kept u ≡ normal (kept t)) }
+{}
+
+/// Two accepted texts have one output exactly if their syntax trees have the same normal form, where their programs
+/// are covered.
+pub fn one_output_for_one_form()
+    ensures { (a b : List ℕ) (t u : Tree) → AreCharacters a → AreCharacters b → IsProgram a t → IsProgram b u →
+        is_covered t ≡ true → is_covered u ≡ true → (written t ≡ written u) ↔ (normal (kept t) ≡ normal (kept u)) }
 {}
 
 /// A text that is at fault has no program.
