@@ -1,13 +1,11 @@
--- What the parts, the choice and the node of a tree are, by its form.
+-- What the parts and the choice of a tree are, by its form.
 use Rattle.std.specs.Prelude.{◌≡◌, ℕ, zero, suc, List, [], ◌∷◌, Option, Some, None, refl}
 use Rattle.rust_leaf.specs.declared.punct.Spacing.{Spacing}
 use Rattle.syn_grammar.specs.Name.{Part}
-use Rattle.syn_grammar.specs.Tree as t
 use Rattle.syn_grammar.specs.Tree.{Tree}
 use Rattle.syn_grammar.specs.Part.{found, choice}
 use Rattle.gram_tree.specs.declared.tree.Element.{Element}
 use Rattle.gram_tree.specs.Forms.{mark_of, seconds, turns, elements, ending}
-use Rattle.gram_tree.specs.Nodes.{node_of}
 
 pub found_seconds : (p : Part) (n : ℕ) (x : Tree) → found p (seconds n x) ≡ found p x
 found_seconds p zero x = refl
@@ -43,34 +41,5 @@ choice_elements c [] f None = refl
 choice_elements c [] f (Some y) = refl
 choice_elements c (e ∷ es) f o = refl
 
-pub node_first : (n : ℕ) (x : Tree) → node_of (seconds n (t.First x)) ≡ None
-node_first zero x = refl
-node_first (suc n) x = refl
-
-pub node_mark : (cs : List ℕ) (spacing : Spacing) → node_of (mark_of cs spacing) ≡ None
-node_mark [] spacing = refl
-node_mark (c ∷ cs) spacing = refl
-
-pub node_turns : (xs : List Tree) → node_of (turns xs) ≡ None
-node_turns [] = refl
-node_turns (x ∷ xs) = refl
-
-pub node_elements : {A : Type 0} (c : ℕ) (es : List Element) (f : A → Tree) (o : Option A) → node_of (elements c es (ending f o)) ≡ None
-node_elements c [] f None = refl
-node_elements c [] f (Some y) = refl
-node_elements c (e ∷ es) f o = refl
-
-pub ruleset parts = (
-  found_seconds,
-  found_mark,
-  found_turns,
-  found_elements,
-  choice_seconds,
-  choice_mark,
-  choice_turns,
-  choice_elements,
-  node_first,
-  node_mark,
-  node_turns,
-  node_elements,
-)
+pub ruleset parts =
+    (found_seconds, found_mark, found_turns, found_elements, choice_seconds, choice_mark, choice_turns, choice_elements)

@@ -2,4 +2,4 @@ pub mod Pieces
 pub mod Size
 pub mod Forms
 pub mod Falls
-pub mod Nodes
+pub mod Shapes

@@ -3,8 +3,10 @@
 //! - `tree`: trees.
 //! - `made`: trees, made of their parts.
 //! - `part`: their parts.
+//! - `shape`: what a tree is, and what stands in it.
 #![tactic(auto)]
 
 pub mod made;
 pub mod part;
+pub mod shape;
 pub mod tree;

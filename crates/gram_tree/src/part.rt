@@ -1,14 +1,11 @@
 //! The parts of what was read.
 
-ghost use Rattle.gram_table.specs.Kinds.{kind_of};
 ghost use Rattle.gram_table.specs.Parts.{part_of};
-ghost use Rattle.gram_tree.specs.Nodes.{node_of};
 ghost use Rattle.std.specs.Prelude.{◌≡◌, option_map};
 ghost use Rattle.syn_grammar.specs.Name.{number, same_part};
 ghost use Rattle.syn_grammar.specs.Part.{choice, found, has};
 
 use crate::tree::{Form, Tree};
-use gram_table::kind::Kind;
 use gram_table::part::Part;
 
 // The number of a name.
@@ -66,17 +63,6 @@ impl<'a> Tree<'a> {
         match &self.form {
             Form::First(_, inner) | Form::Second(_, inner) => inner.choice(),
             _ => self,
-        }
-    }
-
-    /// Of a node its kind and its inside.
-    #[tactic(auto, using(crate::proofs::Parts::parts))]
-    pub fn node(&self) -> Option<(Kind, &Tree<'a>)>
-        ensures { option_map (λ p. (kind_of p.0, p.1.now)) result ≡ node_of self.now }
-    {
-        match &self.form {
-            Form::Node(kind, inner) => Some((*kind, inner)),
-            _ => None,
         }
     }
 }
