@@ -1,3 +1,4 @@
+pub mod Files
 pub mod Programs
 pub mod Every
 pub mod Stacks

@@ -106,7 +106,7 @@ same_output : (a b : List ℕ) (t u : Tree) → AreCharacters a → AreCharacter
 same_output a b t u c d p q e =
     let (ss, f, g) = output_tokens a t c p in
     let (ts, h, i) = output_tokens b u d q in
-    sym g ∙ same_tokens (written u) ss ts (subst (λ (cs : List ℕ). IsForest 0 cs ss) e f) h ∙ i
+    sym g ∙ same_tokens 0 0 (written u) ss ts (subst (λ (cs : List ℕ). IsForest 0 cs ss) e f) h ∙ i
 
 pub one_text : (a b : List ℕ) (t u : Tree) → AreCharacters a → AreCharacters b → IsProgram a t → IsProgram b u
     → (written t ≡ written u) ↔ (flat (normal (kept t)) ≡ flat (normal (kept u)))

@@ -2,17 +2,35 @@
 //! the laws.
 
 ghost use Rattle.canon_laws.specs.Faults.{IsSyntaxFault};
-ghost use Rattle.canon_laws.specs.Program.{IsOutput, IsProgram, written};
+ghost use Rattle.canon_laws.specs.Program.{IsFile, IsOutput, IsProgram, NoFile, written};
 ghost use Rattle.grammar_back.specs.Covered.{is_covered};
 ghost use Rattle.proc_macro2.specs.Forest.{IsForest, IsLexicalFault};
 ghost use Rattle.proc_macro2.specs.Spacing.{IsWellSpaced};
-ghost use Rattle.proc_macro2.specs.Token.{Spanned, plain};
+ghost use Rattle.proc_macro2.specs.Token.{Spanned, Token, plain};
 ghost use Rattle.rust_leaf.specs.Leaf.{AreCharacters};
 ghost use Rattle.rust_map.specs.declared.place.LineColumn.{LineColumn};
-ghost use Rattle.std.specs.Prelude.{ℕ, ◌≡◌, ◌⊎◌, ◌↔◌, true, List, Option};
+ghost use Rattle.std.specs.Prelude.{ℕ, ◌≡◌, ◌⊎◌, ◌↔◌, true, List, [], Option, None};
 ghost use Rattle.syn_grammar.specs.Kept.{kept};
+ghost use Rattle.syn_grammar.specs.Kind.{AFile};
 ghost use Rattle.syn_grammar.specs.Normal.{normal};
+ghost use Rattle.syn_grammar.specs.Read.{IsDerived, NoneRead};
 ghost use Rattle.syn_grammar.specs.Tree.{Tree, flat};
+
+/// What is read as a file is all of the tokens; where nothing is read, they are no file.
+pub fn files()
+    ensures read { (ts : List Token) (t : Tree) (rest : List Token) → IsDerived AFile ts t rest
+        → IsFile ts t × (rest ≡ []) }
+    ensures refused { (ts : List Token) → NoneRead AFile ts → NoFile ts }
+{}
+
+/// The forest of a text decides, wherever the text's characters stand in a map: if its tokens are a file, the tree of
+/// that is the text's program, and if they are none, the text is at fault.
+pub fn forest_decides()
+    ensures program { (base : ℕ) (text : List ℕ) (ss : List Spanned) (t : Tree) → IsForest base text ss
+        → IsFile (plain ss) t → IsProgram text t }
+    ensures fault { (base : ℕ) (text : List ℕ) (ss : List Spanned) → IsForest base text ss → NoFile (plain ss)
+        → IsSyntaxFault text None }
+{}
 
 /// A text has at most one program.
 pub fn one_program()
