@@ -4,9 +4,8 @@ use Rattle.proc_macro2.specs.Token.{Token}
 use Rattle.syn_grammar.specs.Look as l
 use Rattle.syn_grammar.specs.Look.{◌then◌, ◌or◌}
 use Rattle.syn_grammar.specs.Say.{at}
+use Rattle.gram_table.specs.Composites.{composite_of}
 use Rattle.gram_table.specs.Words.{words_of, literals_of, sign_text}
-use Rattle.gram_table.specs.declared.composite.Composite.{Composite}
-use Rattle.gram_table.specs.declared.composite.Composite.TheVariants as composites
 use Rattle.gram_table.specs.declared.op.Look.{Look}
 use Rattle.gram_table.specs.declared.op.Look.TheVariants as looks
 use Rattle.gram_table.specs.declared.op.Test.{Test}
@@ -16,11 +15,6 @@ use Rattle.gram_table.specs.declared.op.Sight.TheVariants as sights
 
 abbrev pub nowhere : l.Look
 nowhere ts = None
-
--- looks of several steps, by their names
-abbrev pub composite_of : Composite → l.Look
-composite_of composites.ALiteral = l.a_literal
-composite_of composites.LetBehindAttributes = l.all_attributes then at "let"
 
 abbrev pub look_of : Look → l.Look
 look_of (looks.Word w) = l.a_word (words_of w)

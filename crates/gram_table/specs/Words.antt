@@ -58,6 +58,7 @@ keyword_text keywords.Continue = codes "continue"
 keyword_text keywords.Break = codes "break"
 keyword_text keywords.Await = codes "await"
 keyword_text keywords.Super = codes "super"
+keyword_text keywords.SelfType = codes "Self"
 
 -- the words that pass
 abbrev pub words_of : Words → List ℕ → Bool

@@ -126,6 +126,15 @@ pub enum Sight {
     Repeatedly,
 }
 
+/// A form of expressions, and what is seen where it stands.
+#[derive(Clone, Copy)]
+pub struct Case {
+    /// The form's kind.
+    pub kind: Kind,
+    /// What is looked for.
+    pub look: Look,
+}
+
 /// How what was read is judged: it is kept, or its tokens are, or there is none.
 #[derive(Clone, Copy)]
 pub enum Verdicts {

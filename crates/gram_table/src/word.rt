@@ -94,6 +94,8 @@ pub enum Keyword {
     Await,
     /// `super`
     Super,
+    /// `Self`
+    SelfType,
 }
 
 /// Words that pass a test of their text.
@@ -285,6 +287,7 @@ impl Keyword {
             Keyword::Break => "break",
             Keyword::Await => "await",
             Keyword::Super => "super",
+            Keyword::SelfType => "Self",
         }
     }
 }
