@@ -194,7 +194,8 @@ mutual
   good End (many e c g) r d w = tt
   good (Final x) (many e c g) r d w = good x g r d.1 w
   good (More x m spacing y) (many e c g) r d w =
-      let h : Good x = good x g (Punct m spacing ∷ flat y ++ r) d.2 (within_front (flat x) (Punct m spacing ∷ flat y) w) in
+      let h : Good x =
+      good x g (Punct m spacing ∷ flat y ++ r) d.2 (within_front (flat x) (Punct m spacing ∷ flat y) w) in
       let v : IsWithin (Punct m spacing ∷ flat y) =
       within_back (flat x) (Punct m spacing ∷ flat y) (matching x h) w in (
         h,

@@ -74,7 +74,8 @@ lexical_fault text place t f p = no_forest 0 text place p.tokens f p.forest
 pub syntax_fault : (text : List ℕ) (place : Option LineColumn) (t : Tree) → IsSyntaxFault text place
     → IsProgram text t → ⊥
 syntax_fault text place t f p =
-    f.no_file t (subst (λ (ts : List Token). IsFile ts t) (same_tokens 0 0 text p.tokens f.tokens p.forest f.forest) p.file)
+    f.no_file t (subst (λ (ts : List Token). IsFile ts t)
+    (same_tokens 0 0 text p.tokens f.tokens p.forest f.forest) p.file)
 
 abbrev pub IsAnswered : List ℕ → Type 0
 IsAnswered text =
