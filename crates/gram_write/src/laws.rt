@@ -1,0 +1,101 @@
+//! Laws of what is written of a tree that was read, in terms of its parts: each is the contract of a function that does
+//! nothing.
+
+ghost use Rattle.binding_laws.specs.Bare.{bare, HasPlainRanges};
+ghost use Rattle.gram_write.specs.Firsts.{firsts_said};
+ghost use Rattle.gram_write.specs.Plain.{IsPlain};
+ghost use Rattle.gram_write.specs.Said.{bare_impl_said, is_quiet, is_unnamed, own_said, said, said_form};
+ghost use Rattle.proc_macro2.specs.Token.{Ident, Literal, Punct, Token};
+ghost use Rattle.rust_leaf.specs.declared.punct.Spacing.TheVariants.{Alone as Apart};
+ghost use Rattle.std.specs.Prelude.{◌≡◌, ℕ, Bool, cond, codes, false, true, List, [], ◌∷◌, ◌++◌, Some};
+ghost use Rattle.syn_grammar.specs.Derives.{Derives};
+ghost use Rattle.syn_grammar.specs.Forms.{front, is_range};
+ghost use Rattle.syn_grammar.specs.Gram.{ref};
+ghost use Rattle.syn_grammar.specs.Kept.{attributed, kept};
+ghost use Rattle.syn_grammar.specs.Kind.{AnImpl, AStatement, ATypeAlias, BoundsColon, Expression, ExprAttributed};
+ghost use Rattle.syn_grammar.specs.Kind.{GenericParams, Generics, Index, InStatement, Kind, LifetimeColon, Member};
+ghost use Rattle.syn_grammar.specs.Kind.{Parameter, Place, Plain, Position, Where};
+ghost use Rattle.syn_grammar.specs.Name.{Part, the_unnamed};
+ghost use Rattle.syn_grammar.specs.Normal.{formed, normal_in, passed};
+ghost use Rattle.syn_grammar.specs.Part.{has};
+ghost use Rattle.syn_grammar.specs.Table.{table};
+ghost use Rattle.syn_grammar.specs.Tidy.{is_bare_colon, is_bare_generics, is_bare_where, is_lifetime_param};
+ghost use Rattle.syn_grammar.specs.Tidy.{keeps_generics};
+ghost use Rattle.syn_grammar.specs.Tree.{Again, ALiteral, Alone, Back, Called, First, flat, Front, Infix, Node, Pair};
+ghost use Rattle.syn_grammar.specs.Tree.{Second, Tree, Whole};
+ghost use Rattle.syn_grammar.specs.Words.{plain_decimal};
+
+/// Of a quiet kind the tokens of its part are written.
+pub fn quiet_kinds()
+    ensures { (k : Kind) (p : Position) (x : Tree) → is_quiet k ≡ true → said p (Node k x) ≡ said (passed k p) x }
+{}
+
+/// A parameter that is a type alone gets the pattern `_` and a colon; all others are written as they are.
+pub fn parameters()
+    ensures unnamed { (p : Position) (a t : Tree)
+        → said p (Node Parameter (Pair a (Second (Second (First (Called the_unnamed t))))))
+        ≡ said Plain a ++ (Ident (codes "_") ∷ Punct 58 Apart ∷ said Plain t) }
+    ensures named { (p : Position) (x : Tree) → is_unnamed x ≡ false → said p (Node Parameter x) ≡ said Plain x }
+{}
+
+/// The number of a field is written in plain decimal.
+pub fn numbers()
+    ensures index { (p : Position) (cs : List ℕ) → said p (Node Index (ALiteral cs)) ≡ Literal (plain_decimal cs) ∷ [] }
+    ensures member { (p : Position) (cs : List ℕ)
+        → said p (Node Member (Second (ALiteral cs))) ≡ Literal (plain_decimal cs) ∷ [] }
+    ensures name { (p : Position) (x : Tree) → said p (Node Member (First x)) ≡ said Plain x }
+{}
+
+/// A where clause, generics and a colon are removed where there is nothing in them, which is seen in what was read.
+pub fn removed()
+    ensures clause { (p : Position) (x : Tree) → said p (Node Where x) ≡ cond (is_bare_where x) [] (said Plain x) }
+    ensures generics { (p : Position) (x : Tree)
+        → said p (Node Generics x) ≡ cond (is_bare_generics x) [] (said Plain x) }
+    ensures bounds { (p : Position) (x : Tree)
+        → said p (Node BoundsColon x) ≡ cond (is_bare_colon x) [] (said Plain x) }
+    ensures lifetimes { (p : Position) (x : Tree)
+        → said p (Node LifetimeColon x) ≡ cond (is_bare_colon x) [] (said Plain x) }
+{}
+
+/// Lifetimes are written first among generic parameters.
+pub fn params()
+    ensures { (p : Position) (x : Tree) → said p (Node GenericParams x) ≡ firsts_said Plain is_lifetime_param x }
+{}
+
+/// The normal form has the parts that were read.
+pub fn parts_stay()
+    ensures { (n : Part) (p : Position) (x : Tree) → has n (normal_in p (kept x)) ≡ has n x }
+{}
+
+/// The forms of an expression, where no operand is put in parentheses: numbers behind a dot are split.
+pub fn forms()
+    ensures atom { (k : Kind) (y : Tree) → said_form (Alone k y) ≡ said Plain y }
+    ensures prefix { (k : Kind) (y x : Tree) → said_form (Front k y x) ≡ said Plain y ++ said_form x }
+    ensures postfix { (l : Tree) (k : Kind) (y : Tree) → said_form (Back l k y) ≡ said_form l ++ own_said k y }
+    ensures between { (l : Tree) (k : Kind) (y r : Tree)
+        → said_form (Infix l k y r) ≡ said_form l ++ (said Plain y ++ said_form r) }
+{}
+
+/// Of a plain tree elements stand one behind the other, an expression and a statement are written as they stand, and a
+/// type's definition, whose where clause is moved, too; the generics of an impl are removed where they are bare.
+pub fn plain_trees()
+    ensures elements { (p : Position) (x y : Tree) → IsPlain p (Again x y) → said p (Again x y) ≡ said p x ++ said p y }
+    ensures expression { (p q : Position) (x : Tree) → IsPlain p (Node (Expression q) (Whole x))
+        → said p (Node (Expression q) (Whole x)) ≡ said_form x }
+    ensures statement { (p : Position) (x : Tree) → IsPlain p (Node AStatement x)
+        → said p (Node AStatement x) ≡ said Plain x }
+    ensures alias { (p : Position) (s : Place) (x : Tree) → IsPlain p (Node (ATypeAlias s) x)
+        → said p (Node (ATypeAlias s) x) ≡ said Plain x }
+    ensures block { (p : Position) (x : Tree) → IsPlain p (Node AnImpl x)
+        → said p (Node AnImpl x) ≡ cond (keeps_generics (normal_in Plain (kept x))) (said Plain x) (bare_impl_said x) }
+{}
+
+/// The attributes in front of a statement's expression, which are given to its leftmost operand, add no parentheses, if
+/// it is no range.
+pub fn attributes_given()
+    ensures { (x : Tree) (rest : List Token) (a : Tree)
+        → Derives (Node (Expression InStatement) (Whole x)) (ref (Expression InStatement)) rest
+        → is_range x ≡ false → HasPlainRanges x → Derives a (table ExprAttributed) (flat x ++ rest)
+        → front InStatement (flat a ++ (flat x ++ rest)) ≡ Some ExprAttributed
+        → formed InStatement [] (attributed (kept a) (kept x)) ≡ bare (attributed (kept a) (kept x)) }
+{}
