@@ -1,0 +1,4 @@
+pub mod Texts
+pub mod Marks
+pub mod Nested
+pub mod Groups

@@ -1,0 +1,4 @@
+pub mod Tokens
+pub mod Among
+pub mod Marks
+pub mod Nested
