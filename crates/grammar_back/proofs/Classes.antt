@@ -1,10 +1,12 @@
 -- What tokens begin with, and what a look sees there.
 use Rattle.std.proofs.Common.{◌≡◌, ℕ, List, [], ◌∷◌, ◌++◌, refl, sym, subst, ⊎_elim, inl, inr}
-use Rattle.std.specs.Prelude.{Bool, true, ◌⊎◌}
+use Rattle.std.specs.Prelude.{Bool, true, false, ◌⊎◌}
 use Rattle.proc_macro2.specs.Token.{Token, Opens, Ident, Literal, Punct}
 use Rattle.proc_macro2.specs.declared.delimiter.Delimiter.{Delimiter}
 use Rattle.rust_leaf.specs.declared.punct.Spacing.TheVariants.{Alone as Apart, Joint}
 use Rattle.syn_grammar.specs.Tree.{marks}
+use Rattle.syn_grammar.specs.Look.{sees, the_end, ◌then◌}
+use Rattle.syn_grammar.specs.Say.{marks as a_mark}
 
 -- a punctuation, whose last mark stands apart; the word of that text; a word, a literal that passes; a lifetime; a
 -- group
@@ -17,6 +19,13 @@ pub data Class : Type 0 where
   Opening : (delimiter : Delimiter) → Class
   -- a punctuation, and behind it
   Then : (first : ℕ) (others : List ℕ) (next : Class) → Class
+  -- what a raw item begins with
+  RawFront : Class
+
+-- Neither the end, nor a ; nor #! : the marks of a raw item are spaced as they were.
+abbrev pub IsRawFront : List Token → Type 0
+IsRawFront ts =
+    (sees the_end ts ≡ false) × (sees (a_mark ";") ts ≡ false) × (sees (a_mark "#" then a_mark "!") ts ≡ false)
 
 abbrev pub IsAt : Class → List Token → Type 0
 IsAt (Sign c cs) ts = (us : List Token) × (ts ≡ marks c cs Apart ++ us)
@@ -26,6 +35,7 @@ IsAt (Quoted p) ts = (cs : List ℕ) × (us : List Token) × (p cs ≡ true) × 
 IsAt Tick ts = (cs : List ℕ) × (us : List Token) × (ts ≡ Punct 39 Joint ∷ Ident cs ∷ us)
 IsAt (Opening d) ts = (us : List Token) × (ts ≡ Opens d ∷ us)
 IsAt (Then c cs k) ts = (us : List Token) × (ts ≡ marks c cs Apart ++ us) × IsAt k us
+IsAt RawFront ts = IsRawFront ts
 
 -- they begin with one of these
 abbrev pub IsAmong : List Class → List Token → Type 0
@@ -41,6 +51,7 @@ OfEach P (Quoted p) = (cs : List ℕ) → p cs ≡ true → (us : List Token) �
 OfEach P Tick = (cs : List ℕ) → (us : List Token) → P (Punct 39 Joint ∷ Ident cs ∷ us)
 OfEach P (Opening d) = (us : List Token) → P (Opens d ∷ us)
 OfEach P (Then c cs k) = OfEach (λ us. P (marks c cs Apart ++ us)) k
+OfEach P RawFront = (us : List Token) → IsRawFront us → P us
 
 abbrev pub OfAll : (List Token → Type 0) → List Class → Type 0
 OfAll P [] = Unit {0}
@@ -54,10 +65,16 @@ of_each P (Quoted p) ts h i = subst P (sym i.3) (h i.0 i.2 i.1)
 of_each P Tick ts h i = subst P (sym i.2) (h i.0 i.1)
 of_each P (Opening d) ts h i = subst P (sym i.1) (h i.0)
 of_each P (Then c cs k) ts h i = subst P (sym i.1) (of_each (λ us. P (marks c cs Apart ++ us)) k i.0 h i.2)
+of_each P RawFront ts h i = h ts i
 
 pub of_all : (P : List Token → Type 0) (cs : List Class) (ts : List Token) → OfAll P cs → IsAmong cs ts → P ts
 of_all P [] ts h i = absurd i
 of_all P (c ∷ cs) ts h i = ⊎_elim (λ j. of_each P c ts h.0 j) (λ j. of_all P cs ts h.1 j) i
+
+-- but the first
+abbrev pub others : List Class → List Class
+others [] = []
+others (c ∷ cs) = cs
 
 -- the one, and the others
 infixr 8 ◌&◌

@@ -23,7 +23,8 @@ use Rattle.syn_grammar.specs.Normal.{passed, place_of, normal_in}
 use Rattle.grammar_back.proofs.Choices.{both_same}
 use Rattle.grammar_back.specs.Covered.{has_step}
 use Rattle.grammar_back.proofs.Fits.{Fits}
-use Rattle.grammar_back.proofs.Printed.{KindLaw, VerdictLaw, plain_law, simple_law}
+use Rattle.item_laws.proofs.Places.{kept_raw}
+use Rattle.grammar_back.proofs.Printed.{KindLaw, VerdictLaw, kept_entry, plain_law, simple_law}
 use Rattle.grammar_back.proofs.Verdicts.{has_normal, some_called, some_either}
 
 -- what is kept has the parts that were there
@@ -199,6 +200,7 @@ law_field_patterns =
           (λ x r d. separated_read (λ y. not (is_rest y)) (ref FieldPattern) rest_read rest_fits rest_normal x _ _ r d)
           (λ w f. separated_fits (λ y. not (is_rest y)) (ref FieldPattern) rest_read rest_fits rest_normal w _ _ f)
           (λ x. separated_normal (λ y. not (is_rest y)) (ref FieldPattern) rest_read rest_fits rest_normal Plain x),
+      (λ x r d. absurd (kept_raw _ d.0)),
       tt,
     ))
 
@@ -228,6 +230,7 @@ law_field_values =
           (λ x r d. separated_read (λ y. not (is_base y)) (ref AFieldValue) base_read base_fits base_normal x _ _ r d)
           (λ w f. separated_fits (λ y. not (is_base y)) (ref AFieldValue) base_read base_fits base_normal w _ _ f)
           (λ x. separated_normal (λ y. not (is_base y)) (ref AFieldValue) base_read base_fits base_normal Plain x),
+      (λ x r d. absurd (kept_raw _ d.0)),
       tt,
     ))
 
@@ -302,6 +305,7 @@ law_parameters =
           (each_but_first is_own x) (each_but_last is_fixed x)
           (first_normal is_own (ref Parameter) receiver_read receiver_fits receiver_normal Plain x)
           (last_normal is_fixed (ref Parameter) dots_read dots_fits dots_normal Plain x)),
+      (λ x r d. absurd (kept_raw _ d.0)),
       tt,
     ))
 
@@ -312,7 +316,7 @@ fixed_law x w r c d f e v =
 pub law_fn_arg : KindLaw FnArg
 unfolding has_step held passed table
 law_fn_arg =
-    plain_law FnArg refl (λ x. tt) (λ x. refl) (λ x. refl) (λ q. refl) (λ q l. (fixed_law, tt))
+    plain_law FnArg refl (λ x. tt) (λ x. refl) (λ x. refl) (λ q. refl) (λ q l. kept_entry (λ x. not (is_variadic x)) fixed_law tt)
 
 -- a trait: an alias is neither unsafe nor auto
 trait_verdict : (q : Position) → VerdictLaw q (λ x. kept_if (is_trait x)) trait_form
@@ -333,7 +337,7 @@ pub law_trait : KindLaw ATrait
 unfolding has_step held passed place_of table
 law_trait =
     plain_law ATrait refl (λ x. tt) (λ x. refl) (λ x. refl) (λ q. refl)
-    (λ q l. (trait_verdict Plain, simple_law Plain trait_form refl))
+    (λ q l. kept_entry is_trait (trait_verdict Plain) (simple_law Plain trait_form refl))
 
 -- and one with a restriction is no alias
 unaliased : (q : Position) → VerdictLaw q (λ x. kept_if (not (has the_equals x))) trait_form
@@ -346,4 +350,4 @@ pub law_restricted_trait : KindLaw ARestrictedTrait
 unfolding has_step held passed place_of table
 law_restricted_trait =
     plain_law ARestrictedTrait refl (λ x. tt) (λ x. refl) (λ x. refl) (λ q. refl)
-    (λ q l. (tt, (simple_law Plain restriction refl, ((tt, tt), (unaliased Plain, simple_law Plain trait_form refl)))))
+    (λ q l. (tt, (simple_law Plain restriction refl, ((tt, tt), kept_entry (λ x. not (has the_equals x)) (unaliased Plain) (simple_law Plain trait_form refl)))))

@@ -11,15 +11,17 @@ use Rattle.syn_grammar.specs.Name.{Part}
 use Rattle.syn_grammar.specs.Words.{same_text, is_among, is_ident, is_plain_name}
 use Rattle.syn_grammar.specs.Say.{name}
 use Rattle.syn_grammar.specs.Tree.{Tree, AWord, ALiteral, AMark, ALifetime, Raw, Nil, Pair, First, Second, End}
-use Rattle.syn_grammar.specs.Tree.{Final, More, Group, Dropped, Called, Node, marks, flat}
+use Rattle.syn_grammar.specs.Tree.{Final, More, Group, Dropped, Called, Verbatim, Node, marks, flat}
 use Rattle.syn_grammar.specs.Gram.{Gram, word, literal, mark, lifetime, raw, nothing, seq, alt, many, group, judged}
 use Rattle.syn_grammar.specs.Gram.{dropped, called, ref, Verdict}
 use Rattle.syn_grammar.specs.Look.{Look, sees, past_marks}
+use Rattle.syn_grammar.specs.Types.{kept_if}
 use Rattle.syn_grammar.specs.Table.{table}
 use Rattle.syn_grammar.specs.Derives.{Derives}
+use Rattle.item_laws.proofs.Places.{kept_raw}
 use Rattle.grammar_back.specs.After.{After}
 use Rattle.grammar_back.proofs.Begins.{Begins}
-use Rattle.grammar_back.proofs.Fits.{Fits, CanSay}
+use Rattle.grammar_back.proofs.Fits.{Fits, CanSay, raw_reads}
 use Rattle.grammar_back.proofs.Readies.{Ready, Step}
 use Rattle.grammar_back.proofs.Classes.{Class, Sign, TheWord, AnyWord, Quoted, Tick, Opening, IsAmong, the_words}
 use Rattle.grammar_back.specs.Sees.{LacksAll}
@@ -231,13 +233,20 @@ fine_dropped {g} {A} {F} f = record { by = go }
     go (Dropped x) s d w a = ((f.by x s d.1 w a).0, d.0)
     go _ s d w a = absurd d
 
-pub fine_judged : {v : Tree → Verdict} {g : Gram} {A F : Edge} → Fine g (λ x s. A (First x) s) (λ x s. F (First x) s)
-    → Fine (judged v g) A F
-fine_judged {v} {g} {A} {F} f = record { by = go }
+-- where F holds of what is raw too
+pub fine_raw_or : {v : Tree → Verdict} {g : Gram} {A F : Edge} → Fine g (λ x s. A (First x) s) (λ x s. F (First x) s)
+    → ((x : Tree) (s : List Token) → Derives (Verbatim x) (judged v g) s → F (Verbatim x) s) → Fine (judged v g) A F
+fine_raw_or {v} {g} {A} {F} f h = record { by = go }
   where
     go : (x : Tree) (s : List Token) → Fits x (judged v g) → Ready x → A x s → Derives x (judged v g) s × F x s
     go (First x) s d w a = let (t, i) = f.by x s d.1 w a in ((d.0, t), i)
+    go (Verbatim x) s d w a = let t = raw_reads v x g s d in (t, h x s t)
     go _ s d w a = absurd d
+
+pub fine_judged : {g : Gram} {A F : Edge} (p : Tree → Bool)
+    → Fine g (λ x s. A (First x) s) (λ x s. F (First x) s)
+    → Fine (judged (λ x. kept_if (p x)) g) A F
+fine_judged {g} {A} {F} p f = fine_raw_or {A = A} {F = F} f (λ x s d. absurd (kept_raw (p x) d.0))
 
 -- lists: behind each element may stand its separator, or what follows the list
 pub fine_many : {e : List Token → Bool} {c : ℕ} {g : Gram} {A F : Edge} (B H : Edge) → Fine g A F

@@ -14,18 +14,19 @@ use Rattle.syn_grammar.specs.Kind.{AConst, AForeignItem, ALet, AStatement, AnImp
 use Rattle.syn_grammar.specs.Kind.{Meta}
 use Rattle.syn_grammar.specs.Kind.{AConstTrait, AForeignModule, AMacroDefinition, AModule, ARestrictedTrait, AStatic}
 use Rattle.syn_grammar.specs.Kind.{AStruct, ATrait, ATraitItem, AUnion, AnImplItem, AUse, AnEnum, AnExternCrate}
-use Rattle.syn_grammar.specs.Kind.{ItemMacro}
+use Rattle.syn_grammar.specs.Kind.{ItemMacro, OuterAttributes}
 use Rattle.syn_grammar.specs.Kind.{Expression}
 use Rattle.syn_grammar.specs.Kind.{ExprAttributed, ExprAwait, ExprField, ExprMethodCall}
 use Rattle.syn_grammar.specs.Tree.{Tree, AWord, ALiteral, AMark, ALifetime, Raw, Nil, Pair, First, Second, End}
 use Rattle.syn_grammar.specs.Tree.{Again, Final, More, Group, Dropped, Called, Node, Whole, Alone, Front, Back}
-use Rattle.syn_grammar.specs.Tree.{Infix}
+use Rattle.syn_grammar.specs.Tree.{Infix, Verbatim}
 use Rattle.syn_grammar.specs.Tree.{marks, flat}
 use Rattle.syn_grammar.specs.Gram.{Gram, word, literal, mark, lifetime, raw, nothing, seq, alt, star, many, group}
-use Rattle.syn_grammar.specs.Gram.{judged, dropped, called, ref, operand, Keep, is_balanced}
+use Rattle.syn_grammar.specs.Gram.{judged, dropped, called, ref, operand, Verdict, Keep, is_balanced}
 use Rattle.syn_grammar.specs.Types.{is_path_bound}
 use Rattle.syn_grammar.specs.Words.{ends_in_dot, same_text}
 use Rattle.syn_grammar.specs.Table.{table}
+use Rattle.syn_grammar.specs.Derives.{Derives}
 use Rattle.syn_grammar.specs.Tidy.{begins_bracketed, is_absent}
 use Rattle.syn_grammar.specs.Kept.{forget, dotted, is_there, kept}
 use Rattle.syn_grammar.specs.Forms.{front as form_in_front, back as form_behind, has_right, is_path_form}
@@ -286,6 +287,17 @@ HasOperands (Back l k y) = IsBackKind k × MayLack k × HasOperands l × (is_str
 HasOperands (Infix l k y r) = IsBackKind k × MayHave k × HasOperands l × HasOperands r
 HasOperands _ = ⊥
 
+-- A raw item was read so before whatever follows; its attributes and its visibility stand in front.
+abbrev pub FitsRaw : (Tree → Verdict) → Tree → Gram → Type 0
+FitsRaw v x (seq (ref OuterAttributes) (seq (called n g) h)) =
+    (s : List Token) → Derives (Verbatim x) (judged v (seq (ref OuterAttributes) (seq (called n g) h))) s
+FitsRaw v x _ = ⊥
+
+pub raw_reads : (v : Tree → Verdict) (x : Tree) (g : Gram) (s : List Token) → FitsRaw v x g
+    → Derives (Verbatim x) (judged v g) s
+raw_reads v x (seq (ref OuterAttributes) (seq (called n g) h)) s f = f s
+raw_reads v x _ s f = absurd f
+
 abbrev mutual
   pub Fits : Tree → Gram → Type 0
   Fits (AWord cs) (word p) = p cs ≡ true
@@ -304,6 +316,7 @@ abbrev mutual
   Fits (More x d spacing y) (many e c g) = (d ≡ c) × (Apart ≡ spacing) × Fits x g × Fits y (many e c g)
   Fits (Group d x) (group e g) = (d ≡ e) × Fits x g
   Fits (First x) (judged v g) = (v x ≡ Keep) × Fits x g
+  Fits (Verbatim x) (judged v g) = FitsRaw v x g
   Fits (Dropped x) (dropped g) = (flat x ≡ []) × Fits x g
   Fits (Called n x) (called m g) = (n ≡ m) × Fits x g
   Fits (Node k x) (ref l) = (k ≡ l) × (is_known k ≡ true) × IsPrinted k x × Fits x (table k) × IsMeant k x
@@ -342,6 +355,7 @@ mutual
       ∙ ap (λ s. flat x ++ Punct m s ∷ flat y) h.1
   flat_kept (Group d x) (group e g) h = ap (λ us. Opens d ∷ us ++ Closes d ∷ []) (flat_kept x g h.1)
   flat_kept (First x) (judged v g) h = flat_kept x g h.1
+  flat_kept (Verbatim x) (judged v g) h = refl
   flat_kept (Dropped x) (dropped g) h = sym h.0
   flat_kept (Called n x) (called m g) h = flat_kept x g h.1
   flat_kept (Node k x) (ref l) h = h.2 ∙ flat_kept x (table k) h.3

@@ -1,5 +1,6 @@
 -- The step and the law of items in extern blocks: a static's safety stands before it too.
-use Rattle.std.proofs.Common.{◌≡◌, List, [], ◌∷◌, ◌++◌, refl, sym, ap, ◌∙◌, subst, append_assoc}
+use Rattle.std.proofs.Common.{◌≡◌, List, [], ◌∷◌, ◌++◌, refl, sym, ap, ◌∙◌, subst, append_assoc, inl}
+use Rattle.std.proofs.Common.{inr}
 use Rattle.std.proofs.lemmas.Slice.Eq.{bytes_eq-Decides}
 use Rattle.std.specs.Prelude.{Bool, true, false, ◌||◌, not, cond, codes, Option, Some, None, ℕ}
 use Prim.Native.String.{String}
@@ -26,11 +27,13 @@ use Rattle.syn_grammar.specs.Kept.{held, kept}
 use Rattle.syn_grammar.specs.Normal.{passed, place_of, normal_in}
 use Rattle.grammar_back.specs.Covered.{has_step, inner, is_no_macro, item_of}
 use Rattle.grammar_back.specs.Sees.{Lacks, LacksAll}
-use Rattle.grammar_back.proofs.Classes.{Class, TheWord, IsAmong, among_left, among_right, of_all, the_words}
+use Rattle.item_laws.proofs.Stays.{item_stays}
+use Rattle.grammar_back.proofs.RawItems.{raw_front}
+use Rattle.grammar_back.proofs.Classes.{Class, TheWord, IsAmong, among_left, among_right, of_all, others, the_words}
 use Rattle.grammar_back.proofs.Starts.{starts}
 use Rattle.grammar_back.proofs.Fits.{Fits, IsMeant}
 use Rattle.grammar_back.proofs.Readies.{Ready, Step}
-use Rattle.grammar_back.proofs.Fine.{At, Edge, Fine, fine_judged, fine_weaker}
+use Rattle.grammar_back.proofs.Fine.{At, Edge, Fine, fine_raw_or, fine_weaker}
 use Rattle.grammar_back.proofs.Parts.{Found, found_called, found_optional, found_ref, found_words, maybe_ahead}
 use Rattle.grammar_back.proofs.Parts.{maybe_called, maybe_ref, maybe_seq, meant_step, none_never, told_at}
 use Rattle.grammar_back.proofs.Printed.{KindLaw, simple_law}
@@ -270,7 +273,7 @@ fine_form = record { by = go }
 abbrev pub whole_foreign : Gram
 whole_foreign = ref OuterAttributes ▸ the_visibility ∶ ref Visibility ▸ foreign_form
 
-fine_foreign : Fine whole_foreign FormEdge (At (starts AForeignItem))
+fine_foreign : Fine whole_foreign FormEdge (At (others (starts AForeignItem)))
 unfolding skips
 fine_foreign =
     maybe_ahead FormEdge (TheWord (codes "pub") ∷ form_class) (maybe_ref OuterAttributes refl)
@@ -282,7 +285,9 @@ unfolding table skips
 step_a_foreign_item =
     meant_step AForeignItem refl refl
     (fine_weaker (λ x s. LacksAll [] s × IsMeant AForeignItem x) (At (starts AForeignItem))
-    (fine_judged {A = FormEdge} {F = At (starts AForeignItem)} fine_foreign) (λ x s c. c.1) (λ x s i c. i))
+    (fine_raw_or {A = FormEdge} {F = At (starts AForeignItem)}
+    (fine_weaker FormEdge (At (starts AForeignItem)) fine_foreign (λ x s c. c) (λ x s i c. inr i))
+    (λ x s d. inl (raw_front (item_verdict InForeign) foreign_form (search) x s d))) (λ x s c. c.1) (λ x s i c. i))
 
 -- what is kept of each form
 foreign_function : LawOf (SameMember InForeign) (AFunction InForeign)
@@ -473,8 +478,10 @@ foreign_meant : (x w : Tree) (r : List Token) → Derives x (judged (item_verdic
     → is_no_macro (choice (item_of x)) ≡ true → is_no_macro (choice (item_of w)) ≡ true
 unfolding chosen
 foreign_meant (First x) (First w) r d f e h = (foreign_law x w r d.1 f.1 (ap chosen e)).1 ∙ h
+foreign_meant (First x) (Verbatim w) r d f e h = refl
 foreign_meant (First x) _ r d f e h = absurd f
 foreign_meant (Verbatim x) (First w) r d f e h = cc e
+foreign_meant (Verbatim x) (Verbatim w) r d f e h = refl
 foreign_meant (Verbatim x) _ r d f e h = absurd f
 foreign_meant _ w r d f e h = absurd d
 
@@ -482,4 +489,8 @@ pub law_a_foreign_item : KindLaw AForeignItem
 unfolding has_step held passed place_of table
 law_a_foreign_item =
     taken_law AForeignItem refl (λ x w r d f e o. foreign_meant x w r d f e o) (λ x. refl) (λ x. refl) (λ q. refl)
-    (λ q. refl) (λ x w r c d f e h. (foreign_law x w r d f e).0 h, simple_law Plain whole_foreign refl)
+    (λ q. refl) (
+      (λ x w r c d f e h. (foreign_law x w r d f e).0 h),
+      (λ x r d s. (item_stays AForeignItem (Node AForeignItem (Verbatim x)) r s refl (refl, d)).1),
+      simple_law Plain whole_foreign refl,
+    )

@@ -39,7 +39,7 @@ use Rattle.grammar_back.proofs.Fine.{Any, At, Edge, Fine, fine_judged, fine_ref,
 use Rattle.grammar_back.proofs.Parts.{Found, Unseen, at_front, found_called, found_group, found_optional, found_ref}
 use Rattle.grammar_back.proofs.Parts.{found_seq, found_text, maybe_ahead, maybe_both, maybe_called, maybe_ended}
 use Rattle.grammar_back.proofs.Parts.{maybe_ref, maybe_seq, meant_step, told_at, unseen_all, weaken_maybe}
-use Rattle.grammar_back.proofs.Printed.{IsPlaced, KindLaw, Printed, VerdictLaw, simple_law}
+use Rattle.grammar_back.proofs.Printed.{IsPlaced, KindLaw, Printed, VerdictLaw, kept_entry, simple_law}
 use Rattle.grammar_back.proofs.Seconds.{front_seen, group_is_none, mark_other}
 use Rattle.grammar_back.proofs.Verdicts.{has_normal, some_called, some_either}
 use Rattle.grammar_back.proofs.Elements.{has_fits, has_read}
@@ -68,7 +68,7 @@ found_end : Found ended [] end_classes
 unfolding skips
 found_end = (maybe_seq (maybe_called (maybe_ref Where refl)) (found_group (maybe_ended (maybe_both
     (maybe_ref InnerAttributes refl) (weaken_maybe ((no the_end) ∷ (marks "#" then marks "!") ∷ [])
-    (maybe_ref ImplItems refl) (λ s a. (a.0, tt))) ((search), tt) (λ s a. (a.1.0, tt))) (refl, (refl, tt)))) (search))
+    (maybe_ref ImplItems refl) (λ s a. (a.0, tt))) ((λ us h. h.2, (search)), tt) (λ s a. (a.1.0, tt))) (refl, (refl, tt)))) (search))
 
 found_for : Found (keyword "for" ▸ the_self ∶ ref (AType WithPlus)) (behind (AType WithPlus)) for_class
 unfolding skips
@@ -323,7 +323,7 @@ unfolding table skips
 step_an_impl =
     meant_step AnImpl refl refl
     (fine_weaker (λ x s. LacksAll [] s × IsMeant AnImpl x) (At (starts AnImpl))
-    (fine_judged {A = λ x s. IsOwnImpl (behind_impl (kept x))} {F = At (starts AnImpl)} fine_impl) (λ x s c. c.1)
+    (fine_judged {A = λ x s. IsOwnImpl (behind_impl (kept x))} {F = At (starts AnImpl)} is_impl fine_impl) (λ x s c. c.1)
     (λ x s i c. i))
 
 -- What was read: an entry has no part of a name that it doesn't call.
@@ -716,7 +716,7 @@ impl_printed _ f = absurd f
 
 pub law_an_impl : KindLaw AnImpl
 unfolding has_step held passed place_of table
-law_an_impl = record { entry = λ q l. (impl_verdict, simple_law Plain impl_form refl); node = go }
+law_an_impl = record { entry = λ q l. kept_entry is_impl impl_verdict (simple_law Plain impl_form refl); node = go }
   where
     go : (q : Position) → IsPlaced q AnImpl → (x : Tree) (r : List Token) → has_own_trait x ≡ true
         → Derives x (table AnImpl) r → Printed (table AnImpl) (normal_in (passed AnImpl q) (kept x))

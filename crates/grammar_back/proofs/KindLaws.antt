@@ -10,6 +10,8 @@ use Rattle.syn_grammar.specs.Kind.{ATypeAlias, InTrait, InImpl, Meta, Variant, V
 use Rattle.syn_grammar.specs.Kind.{Position, SomeBounds, DynType, ImplType, WithPlus, WithoutPlus}
 use Rattle.syn_grammar.specs.Kind.{Member, Index, Expression, AConst, AType, UnnamedField}
 use Rattle.syn_grammar.specs.Name.{Part, same_part, the_clause, the_bounds, the_arguments, the_value}
+use Rattle.syn_grammar.specs.Part.{some}
+use Rattle.syn_grammar.specs.Types.{is_path_bound}
 use Rattle.syn_grammar.specs.Tree.{Tree, Called, AWord, Nil, Pair, First, Second, Node, Whole, Back, flat}
 use Rattle.syn_grammar.specs.Gram.{Gram, seq, called, ref}
 use Rattle.syn_grammar.specs.Look.{sees}
@@ -28,7 +30,7 @@ use Rattle.grammar_back.proofs.Parts.{none_never}
 use Rattle.grammar_back.proofs.Fits.{Fits, has_bare_value}
 use Rattle.grammar_back.proofs.Bare.{bare_kept, bare_formed, bare_read}
 use Rattle.grammar_back.proofs.Verdicts.{some_verdict, path_meant}
-use Rattle.grammar_back.proofs.Printed.{Printed, IsPlaced, TurnLaw, KindLaw, plain_law, simple_law}
+use Rattle.grammar_back.proofs.Printed.{Printed, IsPlaced, TurnLaw, KindLaw, kept_entry, plain_law, simple_law}
 use Rattle.grammar_back.proofs.Indices.{index_normal, index_held, member_normal, member_held}
 use Rattle.grammar_back.proofs.Tidied.{Held, held_law, tidied_law, as_it_is, removed_printed, lifetimes_printed}
 use Rattle.grammar_back.proofs.Tidied.{changed_printed}
@@ -258,7 +260,7 @@ law_an_argument =
 pub law_some_bounds : KindLaw SomeBounds
 unfolding has_step held passed table
 law_some_bounds =
-    plain_law SomeBounds refl (λ x. tt) (λ x. refl) (λ x. refl) (λ q. refl) (λ q l. (some_verdict Plain, tt))
+    plain_law SomeBounds refl (λ x. tt) (λ x. refl) (λ x. refl) (λ q. refl) (λ q l. kept_entry (some is_path_bound) (some_verdict Plain) tt)
 
 listed_normal : (v : Tree) → listed_bound (normal_in Plain v) ≡ normal_in Plain (listed_bound v)
 unfolding passed place_of

@@ -6,8 +6,8 @@ use Rattle.proc_macro2.specs.Token.{Token}
 use Rattle.syn_grammar.specs.Kind.{Kind, ALet, AStatement, AType, AnItem, Block, Expression, OnePattern, OuterAttributes}
 use Rattle.syn_grammar.specs.Kind.{Plain, Position, WithPlus}
 use Rattle.syn_grammar.specs.Name.{Part, same_part, the_else, the_type, the_value}
-use Rattle.syn_grammar.specs.Tree.{Tree, Called, First, Group, Nil, Node, Pair, Second, flat}
-use Rattle.syn_grammar.specs.Part.{choice, found, has, is_some, or_else, the}
+use Rattle.syn_grammar.specs.Tree.{Tree, Called, First, Group, Nil, Node, Pair, Second, Verbatim, flat}
+use Rattle.syn_grammar.specs.Part.{found, has, is_some, or_else, the}
 use Rattle.syn_grammar.specs.Gram.{Gram, ref}
 use Rattle.syn_grammar.specs.Words.{is_name, is_path_keyword}
 use Rattle.syn_grammar.specs.Say.{at, keyword, marks, optional, sign, ◌∶◌, ◌▸◌}
@@ -21,7 +21,7 @@ use Rattle.syn_grammar.specs.Derives.{Derives}
 use Rattle.syn_grammar.specs.Kept.{as_statement, held, kept}
 use Rattle.syn_grammar.specs.Normal.{passed, place_of, normal_in}
 use Rattle.grammar_back.specs.After.{behind}
-use Rattle.grammar_back.specs.Covered.{has_step, is_covered, is_no_macro, is_statement_form, item_of}
+use Rattle.grammar_back.specs.Covered.{has_step, is_covered, is_kept_item, is_statement_form, item_of}
 use Rattle.grammar_back.specs.Sees.{LacksAll}
 use Rattle.grammar_back.proofs.Choices.{both_true, is_false}
 use Rattle.grammar_back.proofs.Classes.{Class, Sign, TheWord, among_left, among_right}
@@ -35,7 +35,7 @@ use Rattle.grammar_back.proofs.Fine.{At, Edge, Fine, fine_judged, fine_weaker}
 use Rattle.grammar_back.proofs.Parts.{at_front, fine_ahead, found_called, found_mark, found_optional, found_ref}
 use Rattle.grammar_back.proofs.Parts.{found_seq, found_text, maybe_ahead, maybe_ref, maybe_seq, meant_step, told_at}
 use Rattle.grammar_back.proofs.Parts.{unseen_all}
-use Rattle.grammar_back.proofs.Printed.{IsPlaced, KindLaw, Printed, VerdictLaw, simple_law}
+use Rattle.grammar_back.proofs.Printed.{IsPlaced, KindLaw, Printed, VerdictLaw, kept_entry, simple_law}
 use Rattle.grammar_back.proofs.Impls.{contrary}
 use Rattle.grammar_back.proofs.ItemVerdicts.{same_has}
 use Rattle.grammar_back.proofs.WholeItems.{taken_law, whole_macro}
@@ -139,7 +139,7 @@ unfolding table skips
 step_a_let =
     meant_step ALet refl refl
     (fine_weaker (λ x s. LacksAll [] s × IsMeant ALet x) (At (starts ALet))
-    (fine_judged {A = LetEdge} {F = At (starts ALet)} fine_let) (λ x s c. c.1) (λ x s i c. i))
+    (fine_judged {A = LetEdge} {F = At (starts ALet)} is_let fine_let) (λ x s c. c.1) (λ x s i c. i))
 
 -- what is covered has no else
 no_else : (x : Tree) → is_covered x ≡ true → has the_else x ≡ false
@@ -169,7 +169,7 @@ unfolding has_step held passed place_of table
 law_a_let =
     taken_law ALet refl
     (λ x w r d f e o. same_has the_else Plain (table ALet) x w r d f e ∙ is_false (has the_else x) o) (λ x. refl)
-    (λ x. refl) (λ q. refl) (λ q. refl) (let_verdict, simple_law Plain let_form refl)
+    (λ x. refl) (λ q. refl) (λ q. refl) (kept_entry is_let let_verdict (simple_law Plain let_form refl))
 
 -- statements
 step_let : (x : Tree) (s : List Token) → Fits x (ref OuterAttributes ▸ ref ALet) → Ready x
@@ -193,14 +193,14 @@ step_let (Pair o y) s g w =
           ),
         ),
       ),
-      ⊎_elim (λ h. inl h) (λ h. inr (⊎_elim (λ k. inl k) (λ k. absurd k) h)) i,
+      inr (⊎_elim (λ h. inl h) (λ h. inr (⊎_elim (λ k. inl k) (λ k. absurd k) h)) i),
     )
 step_let _ s g w = absurd g
 
 -- statements
 -- an item is seen behind its attributes, and nothing that is looked for before it
 item_stands_there : (y : Tree) (s : List Token) → Fits y (table AnItem) → Derives y (table AnItem) s
-    → IsItem (item_of y) → is_no_macro (choice (item_of y)) ≡ true
+    → IsItem (item_of y) → is_kept_item y ≡ true
     → (sees (all_attributes then macro_item_stands) (flat y ++ s) ≡ false)
     × (sees (all_attributes then macro_statement_stands) (flat y ++ s) ≡ false)
     × (sees (all_attributes then at "let") (flat y ++ s) ≡ false)
@@ -220,6 +220,7 @@ item_stands_there (First (Pair o (Pair (Called n v) _))) s f d e c = absurd d.1.
 item_stands_there (First (Pair o (Pair _ z))) s f d e c = absurd d.1.1.0
 item_stands_there (First (Pair o _)) s f d e c = absurd d.1.1
 item_stands_there (First _) s f d e c = absurd d.1
+item_stands_there (Verbatim y) s f d e c = cc c
 item_stands_there _ s f d e c = absurd f
 
 step_item : (x : Tree) (s : List Token) → Fits x (ref AnItem) → Ready x
@@ -232,7 +233,7 @@ step_item (Node k y) s f w n =
     item_stands_there y s (subst (λ j. Fits y (table j)) f.0 f.3) (subst (λ j. Derives y (table j) s) d.0 d.1)
     (subst (λ j. IsMeant j y) f.0 f.4) n in (
       (q.0, (q.1, (q.2, (q.3, d)))),
-      ⊎_elim (λ h. inl h) (λ h. inr (inr h)) i,
+      ⊎_elim (λ h. inl h) (λ j. inr (⊎_elim (λ h. inl h) (λ h. inr (inr h)) j)) i,
     )
 step_item _ s f w n = absurd f
 
@@ -266,13 +267,22 @@ abbrev item_inside : Tree → Tree
 item_inside (Second (Second (Second (First (Node k x))))) = x
 item_inside x = x
 
+kept_item : (x w : Tree) (r : List Token) → Derives x (table AnItem) r → Fits w (table AnItem)
+    → kept w ≡ normal_in Plain (kept x) → is_kept_item x ≡ true → is_kept_item w ≡ true
+unfolding table
+kept_item (First x) (First w) r d f e h = whole_macro (First x) (First w) r d f e h
+kept_item (First x) (Verbatim w) r d f e h = cc e
+kept_item (First x) _ r d f e h = absurd f
+kept_item (Verbatim x) w r d f e h = cc h
+kept_item _ w r d f e h = absurd d
+
 item_printed : (k : Kind) (x w : Tree) (r : List Token) → Derives (Node k x) (ref AnItem) r
-    → is_no_macro (choice (item_of x)) ≡ true → Fits w statement
+    → is_kept_item x ≡ true → Fits w statement
     → kept w ≡ normal_in Plain (kept (Second (Second (Second (First (Node AnItem x))))))
     → (is_statement_form w ≡ true) × (as_statement (kept w) ≡ kept w)
 unfolding held passed
 item_printed k x (Second (Second (Second (First (Node l w))))) r d n f e = (
-  whole_macro x w r (subst (λ j. Derives x (table j) r) d.0 d.1)
+  kept_item x w r (subst (λ j. Derives x (table j) r) d.0 d.1)
       (subst (λ j. Fits w (table j)) f.1.1.1.1.0 f.1.1.1.1.3)
       (ap item_inside (subst (λ j. kept (Second (Second (Second (First (Node j w)))))
       ≡ normal_in Plain (kept (Second (Second (Second (First (Node AnItem x))))))) f.1.1.1.1.0 e)) n,

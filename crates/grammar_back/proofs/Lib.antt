@@ -5,6 +5,7 @@ pub mod Afters
 pub mod Begins
 pub mod Fits
 pub mod Bare
+pub mod RawItems
 pub mod Readies
 pub mod Fine
 pub mod Parts

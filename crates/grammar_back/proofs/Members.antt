@@ -23,11 +23,13 @@ use Rattle.item_laws.proofs.Places.{place_const, place_function}
 use Rattle.item_laws.proofs.Readers.{flat_choice}
 use Rattle.grammar_back.specs.Covered.{has_step, inner, is_no_macro, item_of}
 use Rattle.grammar_back.specs.Sees.{Lacks, LacksAll}
-use Rattle.grammar_back.proofs.Classes.{Class, TheWord, among_left, among_right}
+use Rattle.item_laws.proofs.Stays.{item_stays}
+use Rattle.grammar_back.proofs.RawItems.{raw_front}
+use Rattle.grammar_back.proofs.Classes.{Class, TheWord, among_left, among_right, others}
 use Rattle.grammar_back.proofs.Starts.{starts}
 use Rattle.grammar_back.proofs.Fits.{Fits, IsMeant, own_place, place}
 use Rattle.grammar_back.proofs.Readies.{Ready, Step}
-use Rattle.grammar_back.proofs.Fine.{At, AtOrNone, Edge, Fine, fine_called, fine_judged, fine_weaker}
+use Rattle.grammar_back.proofs.Fine.{At, AtOrNone, Edge, Fine, fine_called, fine_raw_or, fine_weaker}
 use Rattle.grammar_back.proofs.Parts.{Found, Maybe, Told, found_called, found_optional, found_ref, found_text}
 use Rattle.grammar_back.proofs.Parts.{maybe_ahead, maybe_called, maybe_ref, meant_step, none_never, told_at}
 use Rattle.grammar_back.proofs.Printed.{KindLaw, simple_law}
@@ -196,7 +198,7 @@ maybe_default = record { fine = record { by = go } }
     go (Second _) s f w a = absurd f.1
     go _ s f w a = absurd f
 
-fine_trait_item : Fine (whole_member InTrait) MemberEdge (At (starts ATraitItem))
+fine_trait_item : Fine (whole_member InTrait) MemberEdge (At (others (starts ATraitItem)))
 unfolding skips
 fine_trait_item =
     maybe_ahead MemberEdge (TheWord (codes "pub") ∷ default_class ++ form_class) (maybe_ref OuterAttributes refl)
@@ -208,7 +210,7 @@ fine_trait_item =
     signed_trait const_unsigned (λ us. refl, tt))) ((search), tt) (λ x y s c. c)) ((search), ((search), tt))
     (λ x y s c. c)) ((search), tt) (λ x y s c. c)
 
-fine_impl_item : Fine (whole_member InImpl) MemberEdge (At (starts AnImplItem))
+fine_impl_item : Fine (whole_member InImpl) MemberEdge (At (others (starts AnImplItem)))
 unfolding skips
 fine_impl_item =
     maybe_ahead MemberEdge (TheWord (codes "pub") ∷ default_class ++ form_class) (maybe_ref OuterAttributes refl)
@@ -224,14 +226,20 @@ unfolding table skips
 step_a_trait_item =
     meant_step ATraitItem refl refl
     (fine_weaker (λ x s. LacksAll [] s × IsMeant ATraitItem x) (At (starts ATraitItem))
-    (fine_judged {A = MemberEdge} {F = At (starts ATraitItem)} fine_trait_item) (λ x s c. c.1) (λ x s i c. i))
+    (fine_raw_or {A = MemberEdge} {F = At (starts ATraitItem)}
+    (fine_weaker MemberEdge (At (starts ATraitItem)) fine_trait_item (λ x s c. c) (λ x s i c. inr i))
+    (λ x s d. inl (raw_front (item_verdict InTrait) (default_there InTrait ▸ the_item ∶ member_form InTrait) (search) x s d))) (λ x s c. c.1)
+    (λ x s i c. i))
 
 pub step_an_impl_item : Step AnImplItem
 unfolding table skips
 step_an_impl_item =
     meant_step AnImplItem refl refl
     (fine_weaker (λ x s. LacksAll [] s × IsMeant AnImplItem x) (At (starts AnImplItem))
-    (fine_judged {A = MemberEdge} {F = At (starts AnImplItem)} fine_impl_item) (λ x s c. c.1) (λ x s i c. i))
+    (fine_raw_or {A = MemberEdge} {F = At (starts AnImplItem)}
+    (fine_weaker MemberEdge (At (starts AnImplItem)) fine_impl_item (λ x s c. c) (λ x s i c. inr i))
+    (λ x s d. inl (raw_front (item_verdict InImpl) (default_there InImpl ▸ the_item ∶ member_form InImpl) (search) x s d))) (λ x s c. c.1)
+    (λ x s i c. i))
 
 -- Where a form is kept, it is kept as it is printed.
 abbrev pub SameMember : Place → Tree → Tree → Type 0
@@ -362,8 +370,10 @@ module _ (p : Place) (marks_are : (x : Tree) → marked p x ≡ (is_public (the 
       inside : Tree → Tree
       inside (First x) = x
       inside x = x
+  member_meant (First x) (Verbatim w) r d f e h = refl
   member_meant (First x) _ r d f e h = absurd f
   member_meant (Verbatim x) (First w) r d f e h = cc e
+  member_meant (Verbatim x) (Verbatim w) r d f e h = refl
   member_meant (Verbatim x) _ r d f e h = absurd f
   member_meant _ w r d f e h = absurd d
 
@@ -379,6 +389,7 @@ law_a_trait_item =
     taken_law ATraitItem refl (λ x w r d f e o. member_meant InTrait (λ x. refl) refl each_trait x w r d f e o)
     (λ x. refl) (λ x. refl) (λ q. refl) (λ q. refl) (
       λ x w r c d f e h. (member_law InTrait (λ x. refl) refl each_trait x w r d f e).0 h,
+      λ x r d s. (item_stays ATraitItem (Node ATraitItem (Verbatim x)) r s refl (refl, d)).1,
       simple_law Plain (whole_member InTrait) refl,
     )
 
@@ -388,5 +399,6 @@ law_an_impl_item =
     taken_law AnImplItem refl (λ x w r d f e o. member_meant InImpl (λ x. refl) refl each_impl x w r d f e o)
     (λ x. refl) (λ x. refl) (λ q. refl) (λ q. refl) (
       λ x w r c d f e h. (member_law InImpl (λ x. refl) refl each_impl x w r d f e).0 h,
+      λ x r d s. (item_stays AnImplItem (Node AnImplItem (Verbatim x)) r s refl (refl, d)).1,
       simple_law Plain (whole_member InImpl) refl,
     )

@@ -9,7 +9,7 @@ use Rattle.proc_macro2.specs.declared.delimiter.Delimiter.{Delimiter}
 use Rattle.rust_leaf.specs.declared.punct.Spacing.TheVariants.{Alone as Apart}
 use Rattle.syn_grammar.specs.Name.{Part}
 use Rattle.syn_grammar.specs.Tree.{Tree, Nil, Pair, First, Second, End, Again, AMark, marks, flat}
-use Rattle.syn_grammar.specs.Gram.{Gram, Verdict, word, literal, lifetime, mark, nothing, never, seq, alt, star}
+use Rattle.syn_grammar.specs.Gram.{Gram, word, literal, lifetime, mark, nothing, never, seq, alt, star}
 use Rattle.syn_grammar.specs.Gram.{many, group, judged, dropped, called, ref}
 use Rattle.syn_grammar.specs.Look.{Look, seen, sees, lacks, no, past_marks, the_mark, the_end}
 use Rattle.syn_grammar.specs.Derives.{Derives}
@@ -21,6 +21,7 @@ use Rattle.grammar_back.proofs.Begins.{Begins, BeginsBy}
 use Rattle.grammar_back.proofs.Readies.{Ready, Step}
 use Rattle.syn_grammar.specs.Kind.{Kind}
 use Rattle.syn_grammar.specs.Ranks.{skips}
+use Rattle.syn_grammar.specs.Types.{kept_if}
 use Rattle.syn_grammar.specs.Table.{table}
 use Rattle.grammar_back.proofs.Classes.{Class, Sign, TheWord, AnyWord, Quoted, Tick, Opening, the_words, IsAmong}
 use Rattle.grammar_back.proofs.Classes.{OfAll, of_all, each_then, then_among, among_left, among_right}
@@ -414,13 +415,13 @@ found_dropped {g} {ls} {cs} f =
           (fine_dropped {A = Without ls} {F = AtOrNone cs} f.fine) (λ x s a. a) (λ x s i a. inl i);
     }
 
-pub found_judged : {v : Tree → Verdict} {g : Gram} {ls : List Look} {cs : List Class} → Found g ls cs
-    → Found (judged v g) ls cs
-found_judged {v} {g} {ls} {cs} f = record { fine = fine_judged {A = Without ls} {F = At cs} f.fine }
+pub found_judged : {g : Gram} {ls : List Look} {cs : List Class} (p : Tree → Bool) → Found g ls cs
+    → Found (judged (λ x. kept_if (p x)) g) ls cs
+found_judged {g} {ls} {cs} p f = record { fine = fine_judged {A = Without ls} {F = At cs} p f.fine }
 
-pub maybe_judged : {v : Tree → Verdict} {g : Gram} {ls : List Look} {cs : List Class} → Maybe g ls cs
-    → Maybe (judged v g) ls cs
-maybe_judged {v} {g} {ls} {cs} f = record { fine = fine_judged {A = Without ls} {F = AtOrNone cs} f.fine }
+pub maybe_judged : {g : Gram} {ls : List Look} {cs : List Class} (p : Tree → Bool) → Maybe g ls cs
+    → Maybe (judged (λ x. kept_if (p x)) g) ls cs
+maybe_judged {g} {ls} {cs} p f = record { fine = fine_judged {A = Without ls} {F = AtOrNone cs} p f.fine }
 
 -- the inside of a group
 pub found_ended : {g : Gram} {ls : List Look} {cs : List Class} → Found g ls cs → LacksAll ls [] → Fine g Ended Any

@@ -10,15 +10,17 @@ use Rattle.syn_grammar.specs.Tree.{Back, Infix, flat}
 use Rattle.syn_grammar.specs.Gram.{Gram, word, literal, mark, lifetime, raw, nothing, seq, alt, star, many, group}
 use Rattle.syn_grammar.specs.Gram.{judged, dropped, called, ref, operand, Verdict, Keep}
 use Rattle.syn_grammar.specs.Forms.{inside}
+use Rattle.syn_grammar.specs.Types.{kept_if}
 use Rattle.syn_grammar.specs.Table.{table}
 use Rattle.syn_grammar.specs.Derives.{Derives, Bound}
 use Rattle.syn_grammar.specs.Kept.{held, forget, kept}
 use Rattle.syn_grammar.specs.Tidy.{tidy}
 use Rattle.syn_grammar.specs.Normal.{place_of, passed, private, apart_item, apart_if, is_enclosed, normal_in}
+use Rattle.item_laws.proofs.Places.{kept_raw}
 use Rattle.grammar_back.proofs.Choices.{both_true}
 use Rattle.grammar_back.specs.Covered.{has_step, has_form_step, is_known, is_form, is_taken, is_taken_part}
 use Rattle.grammar_back.specs.Covered.{is_covered}
-use Rattle.grammar_back.proofs.Fits.{Fits, IsMeant}
+use Rattle.grammar_back.proofs.Fits.{Fits, FitsRaw, IsMeant}
 
 pub record Printed (g : Gram) (z : Tree) : Type 0 where
   pub tree : Tree
@@ -36,6 +38,10 @@ VerdictLaw q v g = (x w : Tree) (r : List Token) → is_covered x ≡ true → D
     Keep
     → v w ≡ Keep
 
+-- what it keeps as tokens fits, as it was read
+abbrev pub RawLaw : (Tree → Verdict) → Gram → Type 0
+RawLaw v g = (x : Tree) (r : List Token) → Derives (Verbatim x) (judged v g) r → FitsRaw v x g
+
 -- no turn is a raw item among statements
 abbrev pub TurnLaw : Gram → Type 0
 TurnLaw g = (x : Tree) → Fits x g → apart_item (kept x) ≡ kept x
@@ -47,7 +53,7 @@ EntryLaw q (alt t a b) = EntryLaw q a × EntryLaw q b
 EntryLaw q (star t g) = TurnLaw g × EntryLaw q g
 EntryLaw q (many e c g) = EntryLaw q g
 EntryLaw q (group d g) = EntryLaw q g
-EntryLaw q (judged v g) = VerdictLaw q v g × EntryLaw q g
+EntryLaw q (judged v g) = VerdictLaw q v g × RawLaw v g × EntryLaw q g
 EntryLaw q (dropped g) = Fits private g
 EntryLaw q (called n g) = EntryLaw (place_of n) g
 EntryLaw q (ref k) = IsPlaced q k
@@ -160,13 +166,14 @@ module _ (laws : (k : Kind) → is_known k ≡ true → KindLaw k) (whole : Whol
         let i = printed x g [] q l d.1 c in
         record { tree = Group f i.tree; fits = (d.0, i.fits); kept_is = ap (Group f) i.kept_is }
     printed (First x) (judged v g) r q l d c =
-        let i = printed x g r q l.1 d.1 c in
+        let i = printed x g r q l.2 d.1 c in
         record {
           tree = First i.tree;
           fits = (l.0 x i.tree r c d.1 i.fits i.kept_is d.0, i.fits);
           kept_is = ap First i.kept_is;
         }
-    printed (Verbatim x) (judged v g) r q l d c = let e : false ≡ true = c in cc e
+    printed (Verbatim x) (judged v g) r q l d c =
+        record { tree = Verbatim x; fits = l.1 x r d; kept_is = refl }
     printed (Dropped x) (dropped g) r q l d c = record { tree = Dropped private; fits = (refl, l); kept_is = refl }
     printed (Called n x) (called m g) r q l d c =
         let i = printed x g r (place_of m) l d.1 (both_true (is_taken_part n) (is_covered x) c).1 in
@@ -211,6 +218,11 @@ module _ (laws : (k : Kind) → is_known k ≡ true → KindLaw k) (whole : Whol
           own_printed b (inside p k) r d.6 j.1,
         )
     own_printed _ p r d c = tt
+
+-- a verdict that keeps nothing as tokens
+pub kept_entry : {q : Position} {g : Gram} (p : Tree → Bool) → VerdictLaw q (λ x. kept_if (p x)) g → EntryLaw q g
+    → EntryLaw q (judged (λ x. kept_if (p x)) g)
+kept_entry {q} {g} p a b = (a, (λ x r d. absurd (kept_raw (p x) d.0)), b)
 
 -- entries of which nothing is to be known: no verdict, no turns, nothing dropped
 abbrev pub same_place : Position → Position → Bool

@@ -1,6 +1,6 @@
 -- What a kind's tokens begin with, where it has some. Written by tools/steps.py, from the entries.
 use Rattle.proc_macro2.specs.declared.delimiter.Delimiter.TheVariants as D
-use Rattle.grammar_back.proofs.Classes.{Sign, TheWord, AnyWord, Quoted, Tick, Opening, Then, Class}
+use Rattle.grammar_back.proofs.Classes.{Sign, TheWord, AnyWord, Quoted, Tick, Opening, Then, RawFront, Class}
 use Rattle.proc_macro2.specs.declared.delimiter.Delimiter.TheVariants.{Parenthesis, Brace, Bracket}
 use Rattle.std.specs.Prelude.{codes, List, [], ◌∷◌}
 use Rattle.syn_grammar.specs.Kind.{Kind, AConst, AConstTrait, AFieldValue, AFile, AForeignItem, AForeignModule}
@@ -458,33 +458,34 @@ starts Label = Tick ∷ []
 starts Body = Opening Brace ∷ []
 starts Block = Opening Brace ∷ []
 starts ALet = TheWord (codes "let") ∷ []
-starts AStatement = Then 35 [] (Opening Bracket) ∷ TheWord (codes "let") ∷ TheWord (codes "pub") ∷ TheWord
+starts AStatement = RawFront ∷ Then 35 [] (Opening Bracket) ∷ TheWord (codes "let") ∷ TheWord (codes "pub") ∷ TheWord
     (codes "const") ∷ TheWord (codes "async") ∷ TheWord (codes "unsafe") ∷ TheWord (codes "extern") ∷ TheWord
     (codes "fn") ∷ TheWord (codes "use") ∷ TheWord (codes "static") ∷ TheWord (codes "mod") ∷ TheWord (codes "type")
     ∷ TheWord (codes "struct") ∷ TheWord (codes "enum") ∷ TheWord (codes "union") ∷ TheWord (codes "auto") ∷ TheWord
     (codes "trait") ∷ TheWord (codes "default") ∷ TheWord (codes "impl") ∷ AnyWord is_ident ∷ TheWord (codes "self")
     ∷ TheWord (codes "super") ∷ TheWord (codes "crate") ∷ Sign 58 (58 ∷ []) ∷ []
-starts Statements = Sign 59 [] ∷ Then 35 [] (Opening Bracket) ∷ TheWord (codes "let") ∷ TheWord (codes "pub") ∷
-    TheWord (codes "const") ∷ TheWord (codes "async") ∷ TheWord (codes "unsafe") ∷ TheWord (codes "extern") ∷ TheWord
-    (codes "fn") ∷ TheWord (codes "use") ∷ TheWord (codes "static") ∷ TheWord (codes "mod") ∷ TheWord (codes "type")
-    ∷ TheWord (codes "struct") ∷ TheWord (codes "enum") ∷ TheWord (codes "union") ∷ TheWord (codes "auto") ∷ TheWord
-    (codes "trait") ∷ TheWord (codes "default") ∷ TheWord (codes "impl") ∷ AnyWord is_ident ∷ TheWord (codes "self")
-    ∷ TheWord (codes "super") ∷ TheWord (codes "crate") ∷ Sign 58 (58 ∷ []) ∷ []
-starts Items = Then 35 [] (Opening Bracket) ∷ TheWord (codes "pub") ∷ TheWord (codes "const") ∷ TheWord
+starts Statements = Sign 59 [] ∷ RawFront ∷ Then 35 [] (Opening Bracket) ∷ TheWord (codes "let") ∷ TheWord
+    (codes "pub") ∷ TheWord (codes "const") ∷ TheWord (codes "async") ∷ TheWord (codes "unsafe") ∷ TheWord
+    (codes "extern") ∷ TheWord (codes "fn") ∷ TheWord (codes "use") ∷ TheWord (codes "static") ∷ TheWord
+    (codes "mod") ∷ TheWord (codes "type") ∷ TheWord (codes "struct") ∷ TheWord (codes "enum") ∷ TheWord
+    (codes "union") ∷ TheWord (codes "auto") ∷ TheWord (codes "trait") ∷ TheWord (codes "default") ∷ TheWord
+    (codes "impl") ∷ AnyWord is_ident ∷ TheWord (codes "self") ∷ TheWord (codes "super") ∷ TheWord (codes "crate") ∷
+    Sign 58 (58 ∷ []) ∷ []
+starts Items = RawFront ∷ Then 35 [] (Opening Bracket) ∷ TheWord (codes "pub") ∷ TheWord (codes "const") ∷ TheWord
     (codes "async") ∷ TheWord (codes "unsafe") ∷ TheWord (codes "extern") ∷ TheWord (codes "fn") ∷ TheWord
     (codes "use") ∷ TheWord (codes "static") ∷ TheWord (codes "mod") ∷ TheWord (codes "type") ∷ TheWord
     (codes "struct") ∷ TheWord (codes "enum") ∷ TheWord (codes "union") ∷ TheWord (codes "auto") ∷ TheWord
     (codes "trait") ∷ TheWord (codes "default") ∷ TheWord (codes "impl") ∷ AnyWord is_ident ∷ TheWord (codes "self")
     ∷ TheWord (codes "super") ∷ TheWord (codes "crate") ∷ Sign 58 (58 ∷ []) ∷ []
-starts ForeignItems = Then 35 [] (Opening Bracket) ∷ TheWord (codes "pub") ∷ TheWord (codes "const") ∷ TheWord
-    (codes "async") ∷ TheWord (codes "unsafe") ∷ TheWord (codes "safe") ∷ TheWord (codes "extern") ∷ TheWord
+starts ForeignItems = RawFront ∷ Then 35 [] (Opening Bracket) ∷ TheWord (codes "pub") ∷ TheWord (codes "const") ∷
+    TheWord (codes "async") ∷ TheWord (codes "unsafe") ∷ TheWord (codes "safe") ∷ TheWord (codes "extern") ∷ TheWord
     (codes "fn") ∷ TheWord (codes "unsafe") ∷ TheWord (codes "safe") ∷ TheWord (codes "static") ∷ TheWord
     (codes "type") ∷ []
-starts TraitItems = Then 35 [] (Opening Bracket) ∷ TheWord (codes "pub") ∷ TheWord (codes "default") ∷ TheWord
-    (codes "const") ∷ TheWord (codes "async") ∷ TheWord (codes "unsafe") ∷ TheWord (codes "extern") ∷ TheWord
+starts TraitItems = RawFront ∷ Then 35 [] (Opening Bracket) ∷ TheWord (codes "pub") ∷ TheWord (codes "default") ∷
+    TheWord (codes "const") ∷ TheWord (codes "async") ∷ TheWord (codes "unsafe") ∷ TheWord (codes "extern") ∷ TheWord
     (codes "fn") ∷ TheWord (codes "const") ∷ TheWord (codes "type") ∷ []
-starts ImplItems = Then 35 [] (Opening Bracket) ∷ TheWord (codes "pub") ∷ TheWord (codes "default") ∷ TheWord
-    (codes "const") ∷ TheWord (codes "async") ∷ TheWord (codes "unsafe") ∷ TheWord (codes "extern") ∷ TheWord
+starts ImplItems = RawFront ∷ Then 35 [] (Opening Bracket) ∷ TheWord (codes "pub") ∷ TheWord (codes "default") ∷
+    TheWord (codes "const") ∷ TheWord (codes "async") ∷ TheWord (codes "unsafe") ∷ TheWord (codes "extern") ∷ TheWord
     (codes "fn") ∷ TheWord (codes "const") ∷ TheWord (codes "type") ∷ []
 starts AModule = TheWord (codes "unsafe") ∷ TheWord (codes "mod") ∷ []
 starts AForeignModule = TheWord (codes "unsafe") ∷ TheWord (codes "extern") ∷ []
@@ -494,23 +495,23 @@ starts AConstTrait = TheWord (codes "const") ∷ []
 starts ARestrictedTrait = TheWord (codes "impl") ∷ []
 starts AnImpl = TheWord (codes "default") ∷ TheWord (codes "const") ∷ TheWord (codes "unsafe") ∷ TheWord
     (codes "impl") ∷ []
-starts AnItem = Then 35 [] (Opening Bracket) ∷ TheWord (codes "pub") ∷ TheWord (codes "const") ∷ TheWord
+starts AnItem = RawFront ∷ Then 35 [] (Opening Bracket) ∷ TheWord (codes "pub") ∷ TheWord (codes "const") ∷ TheWord
     (codes "async") ∷ TheWord (codes "unsafe") ∷ TheWord (codes "extern") ∷ TheWord (codes "fn") ∷ TheWord
     (codes "use") ∷ TheWord (codes "static") ∷ TheWord (codes "mod") ∷ TheWord (codes "type") ∷ TheWord
     (codes "struct") ∷ TheWord (codes "enum") ∷ TheWord (codes "union") ∷ TheWord (codes "auto") ∷ TheWord
     (codes "trait") ∷ TheWord (codes "default") ∷ TheWord (codes "impl") ∷ AnyWord is_ident ∷ TheWord (codes "self")
     ∷ TheWord (codes "super") ∷ TheWord (codes "crate") ∷ Sign 58 (58 ∷ []) ∷ []
-starts AForeignItem = Then 35 [] (Opening Bracket) ∷ TheWord (codes "pub") ∷ TheWord (codes "const") ∷ TheWord
-    (codes "async") ∷ TheWord (codes "unsafe") ∷ TheWord (codes "safe") ∷ TheWord (codes "extern") ∷ TheWord
+starts AForeignItem = RawFront ∷ Then 35 [] (Opening Bracket) ∷ TheWord (codes "pub") ∷ TheWord (codes "const") ∷
+    TheWord (codes "async") ∷ TheWord (codes "unsafe") ∷ TheWord (codes "safe") ∷ TheWord (codes "extern") ∷ TheWord
     (codes "fn") ∷ TheWord (codes "unsafe") ∷ TheWord (codes "safe") ∷ TheWord (codes "static") ∷ TheWord
     (codes "type") ∷ []
-starts ATraitItem = Then 35 [] (Opening Bracket) ∷ TheWord (codes "pub") ∷ TheWord (codes "default") ∷ TheWord
-    (codes "const") ∷ TheWord (codes "async") ∷ TheWord (codes "unsafe") ∷ TheWord (codes "extern") ∷ TheWord
+starts ATraitItem = RawFront ∷ Then 35 [] (Opening Bracket) ∷ TheWord (codes "pub") ∷ TheWord (codes "default") ∷
+    TheWord (codes "const") ∷ TheWord (codes "async") ∷ TheWord (codes "unsafe") ∷ TheWord (codes "extern") ∷ TheWord
     (codes "fn") ∷ TheWord (codes "const") ∷ TheWord (codes "type") ∷ []
-starts AnImplItem = Then 35 [] (Opening Bracket) ∷ TheWord (codes "pub") ∷ TheWord (codes "default") ∷ TheWord
-    (codes "const") ∷ TheWord (codes "async") ∷ TheWord (codes "unsafe") ∷ TheWord (codes "extern") ∷ TheWord
+starts AnImplItem = RawFront ∷ Then 35 [] (Opening Bracket) ∷ TheWord (codes "pub") ∷ TheWord (codes "default") ∷
+    TheWord (codes "const") ∷ TheWord (codes "async") ∷ TheWord (codes "unsafe") ∷ TheWord (codes "extern") ∷ TheWord
     (codes "fn") ∷ TheWord (codes "const") ∷ TheWord (codes "type") ∷ []
-starts AFile = Then 35 [] (Sign 33 []) ∷ Then 35 [] (Opening Bracket) ∷ TheWord (codes "pub") ∷ TheWord
+starts AFile = Then 35 [] (Sign 33 []) ∷ RawFront ∷ Then 35 [] (Opening Bracket) ∷ TheWord (codes "pub") ∷ TheWord
     (codes "const") ∷ TheWord (codes "async") ∷ TheWord (codes "unsafe") ∷ TheWord (codes "extern") ∷ TheWord
     (codes "fn") ∷ TheWord (codes "use") ∷ TheWord (codes "static") ∷ TheWord (codes "mod") ∷ TheWord (codes "type")
     ∷ TheWord (codes "struct") ∷ TheWord (codes "enum") ∷ TheWord (codes "union") ∷ TheWord (codes "auto") ∷ TheWord

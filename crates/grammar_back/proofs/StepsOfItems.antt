@@ -249,14 +249,14 @@ step_use_rooted = found_step UseRooted refl refl
 pub step_parameters : Step Parameters
 unfolding table skips is_path_keyword is_plain_name is_bool is_name
 step_parameters = found_step Parameters refl refl
-    (found_judged (found_group
+    (found_judged _ (found_group
     (found_to_end (found_ref Parameter refl) (search)
     (λ ts. (refl, (refl, (refl, (refl, (refl, (refl, (refl, tt))))))))
     (refl, (refl, (refl, (refl, (refl, (refl, (refl, tt))))))))))
 
 pub step_fn_arg : Step FnArg
 unfolding table skips is_path_keyword is_plain_name is_bool is_name
-step_fn_arg = found_step FnArg refl refl (found_judged (found_ref Parameter refl))
+step_fn_arg = found_step FnArg refl refl (found_judged _ (found_ref Parameter refl))
 
 pub step_receiver : Step Receiver
 unfolding table skips is_path_keyword is_plain_name is_bool is_name
@@ -693,7 +693,7 @@ step_body = found_step Body refl refl
     (found_group (maybe_ended
     (maybe_both (maybe_ref InnerAttributes refl)
     (weaken_maybe ((no the_end) ∷ (marks "#" then marks "!") ∷ []) (maybe_ref Statements refl) (λ s a. (a.0, tt)))
-    ((search), tt) (λ s a. (a.1.0, tt))) (refl, (refl, tt))))
+    ((λ us. refl, (λ us h. h.2, (search))), tt) (λ s a. (a.1.0, tt))) (refl, (refl, tt))))
 
 pub step_block : Step Block
 unfolding table skips is_path_keyword is_plain_name is_bool is_name
@@ -711,8 +711,8 @@ step_a_module = found_step AModule refl refl
     (found_group (maybe_ended
     (maybe_both (maybe_ref InnerAttributes refl)
     (weaken_maybe ((no the_end) ∷ (marks "#" then marks "!") ∷ []) (maybe_ref Items refl) (λ s a. (a.0, tt)))
-    ((search), tt) (λ s a. (a.1.0, tt))) (refl, (refl, tt)))) (λ us. refl, tt) (λ us. refl, tt)) tt) tt)
-    ((λ us. refl, tt), tt))
+    ((λ us h. h.2, (search)), tt) (λ s a. (a.1.0, tt))) (refl, (refl, tt)))) (λ us. refl, tt) (λ us. refl, tt)) tt)
+    tt) ((λ us. refl, tt), tt))
 
 pub step_a_foreign_module : Step AForeignModule
 unfolding table skips is_path_keyword is_plain_name is_bool is_name
@@ -722,7 +722,8 @@ step_a_foreign_module = found_step AForeignModule refl refl
     (found_group (maybe_ended
     (maybe_both (maybe_ref InnerAttributes refl)
     (weaken_maybe ((no the_end) ∷ (marks "#" then marks "!") ∷ []) (maybe_ref ForeignItems refl) (λ s a. (a.0, tt)))
-    ((search), tt) (λ s a. (a.1.0, tt))) (refl, (refl, tt)))) ((λ us. refl, tt), tt)) ((λ us. refl, tt), tt))
+    ((λ us h. h.2, (search)), tt) (λ s a. (a.1.0, tt))) (refl, (refl, tt)))) ((λ us. refl, tt), tt))
+    ((λ us. refl, tt), tt))
 
 pub step_a_macro_definition : Step AMacroDefinition
 unfolding table skips is_path_keyword is_plain_name is_bool is_name
@@ -735,7 +736,7 @@ step_a_macro_definition = found_step AMacroDefinition refl refl
 pub step_a_trait : Step ATrait
 unfolding table skips is_path_keyword is_plain_name is_bool is_name
 step_a_trait = found_step ATrait refl refl
-    (found_judged (maybe_seq (found_optional (at "unsafe") (found_called (found_text "unsafe")) (λ us. refl, tt))
+    (found_judged _ (maybe_seq (found_optional (at "unsafe") (found_called (found_text "unsafe")) (λ us. refl, tt))
     (maybe_seq (found_optional (at "auto") (found_called (found_text "auto")) (λ us. refl, tt))
     (found_seq (found_text "trait")
     (found_seq (found_called (found_word is_ident))
@@ -770,7 +771,7 @@ step_a_trait = found_step ATrait refl refl
     (found_group (maybe_ended
     (maybe_both (maybe_ref InnerAttributes refl)
     (weaken_maybe ((no the_end) ∷ (marks "#" then marks "!") ∷ []) (maybe_ref TraitItems refl) (λ s a. (a.0, tt)))
-    ((search), tt) (λ s a. (a.1.0, tt))) (refl, (refl, tt)))) (
+    ((λ us h. h.2, (search)), tt) (λ s a. (a.1.0, tt))) (refl, (refl, tt)))) (
       (λ us. refl, tt),
       (
         (λ us. refl, tt),
@@ -807,7 +808,7 @@ step_a_restricted_trait = found_step ARestrictedTrait refl refl
     (found_seq (found_text "impl")
     (found_seq found_restriction
     (maybe_seq (found_optional (at "const") (found_text "const") (λ us. refl, tt))
-    (found_judged (maybe_seq (found_optional (at "unsafe") (found_called (found_text "unsafe")) (λ us. refl, tt))
+    (found_judged _ (maybe_seq (found_optional (at "unsafe") (found_called (found_text "unsafe")) (λ us. refl, tt))
     (maybe_seq (found_optional (at "auto") (found_called (found_text "auto")) (λ us. refl, tt))
     (found_seq (found_text "trait")
     (found_seq (found_called (found_word is_ident))
@@ -842,7 +843,7 @@ step_a_restricted_trait = found_step ARestrictedTrait refl refl
     (found_group (maybe_ended
     (maybe_both (maybe_ref InnerAttributes refl)
     (weaken_maybe ((no the_end) ∷ (marks "#" then marks "!") ∷ []) (maybe_ref TraitItems refl) (λ s a. (a.0, tt)))
-    ((search), tt) (λ s a. (a.1.0, tt))) (refl, (refl, tt)))) (
+    ((λ us h. h.2, (search)), tt) (λ s a. (a.1.0, tt))) (refl, (refl, tt)))) (
       (λ us. refl, tt),
       (
         (λ us. refl, tt),
@@ -874,4 +875,4 @@ unfolding table skips is_path_keyword is_plain_name is_bool is_name
 step_a_file = maybe_step AFile refl refl
     (maybe_both (maybe_ref InnerAttributes refl)
     (weaken_maybe ((no the_end) ∷ (marks "#" then marks "!") ∷ []) (maybe_ref Items refl) (λ s a. (a.0, tt)))
-    ((search), tt) (λ s a. (a.1.0, tt)))
+    ((λ us h. h.2, (search)), tt) (λ s a. (a.1.0, tt)))

@@ -234,7 +234,7 @@ step_range_bound = found_step RangeBound refl refl
 pub step_field_patterns : Step FieldPatterns
 unfolding table skips is_path_keyword is_plain_name is_bool is_name
 step_field_patterns = found_step FieldPatterns refl refl
-    (found_judged (found_group
+    (found_judged _ (found_group
     (found_to_end (found_ref FieldPattern refl) (search)
     (λ ts. (refl, (refl, (refl, (refl, (refl, (refl, (refl, (refl, (refl, (refl, (refl, tt))))))))))))
     (refl, (refl, (refl, (refl, (refl, (refl, (refl, (refl, (refl, (refl, (refl, tt))))))))))))))

@@ -217,7 +217,7 @@ step_fn_ptr_arg = found_step FnPtrArg refl refl
 pub step_some_bounds : Step SomeBounds
 unfolding table skips is_path_keyword is_plain_name is_bool is_name
 step_some_bounds = maybe_step SomeBounds refl refl
-    (maybe_judged (found_while bound_stands
+    (maybe_judged _ (found_while bound_stands
     (bound_stands ∷ (marks "+") ∷ (marks "::") ∷ (arguments_stand AtType) ∷ (parentheses_stand AtType) ∷ (marks "->")
     ∷ []) (found_ref Bound refl)
     ((λ cs us. refl) & (λ us. refl) & (λ us. refl) & (λ us. refl) & (λ us. refl) & (λ us. refl) & (λ cs h us. refl) &

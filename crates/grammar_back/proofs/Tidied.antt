@@ -6,7 +6,7 @@ use Rattle.rust_leaf.specs.declared.punct.Spacing.TheVariants.{Alone as Apart}
 use Rattle.syn_grammar.specs.Kind.{Kind, Position, Plain}
 use Rattle.syn_grammar.specs.Name.{Part, same_part}
 use Rattle.syn_grammar.specs.Tree.{Tree, AWord, ALiteral, AMark, ALifetime, Raw, Nil, Pair, First, Second, End}
-use Rattle.syn_grammar.specs.Tree.{Again, Final, More, Group, Dropped, Called, Node, Whole, flat}
+use Rattle.syn_grammar.specs.Tree.{Again, Final, More, Group, Dropped, Called, Verbatim, Node, Whole, flat}
 use Rattle.syn_grammar.specs.Part.{changed}
 use Rattle.syn_grammar.specs.Gram.{Gram, word, literal, mark, lifetime, raw, nothing, seq, alt, star, many, group}
 use Rattle.syn_grammar.specs.Gram.{judged, dropped, called, ref, operand}
@@ -154,6 +154,7 @@ changed_printed n f (Group d x) (group e g) l h =
     let i = changed_printed n f x g l h.1 in
     record { tree = Group d i.tree; fits = (h.0, i.fits); kept_is = ap (Group d) i.kept_is }
 changed_printed n f (First x) (judged v g) l h = absurd l
+changed_printed n f (Verbatim x) (judged v g) l h = absurd l
 changed_printed n f (Dropped x) (dropped g) l h = as_it_is (dropped g) (Dropped x) h
 changed_printed n f (Called m x) (called o g) l h =
     let i = l x h.1 in

@@ -5,7 +5,7 @@ use Rattle.std.specs.Prelude.{true, false, ◌&&◌, not}
 use Rattle.proc_macro2.specs.Token.{Token}
 use Rattle.syn_grammar.specs.Kind.{Kind, AForeignItem, AStatement, ATraitItem, AnImplItem, AnItem, Arm, Arms}
 use Rattle.syn_grammar.specs.Kind.{ForeignItems, ImplItems, Items, Position, Statements, TraitItems}
-use Rattle.syn_grammar.specs.Tree.{Tree, AMark, First, Second, End, Again, Node, Pair, flat}
+use Rattle.syn_grammar.specs.Tree.{Tree, AMark, First, Second, End, Again, Node, Pair, Verbatim, flat}
 use Rattle.syn_grammar.specs.Part.{choice, each_turn_but_last}
 use Rattle.syn_grammar.specs.Gram.{Gram, ref, star}
 use Rattle.syn_grammar.specs.Look.{lacks, no, the_end}
@@ -17,7 +17,7 @@ use Rattle.syn_grammar.specs.Table.{table}
 use Rattle.syn_grammar.specs.Derives.{Derives}
 use Rattle.syn_grammar.specs.Kept.{held, kept}
 use Rattle.syn_grammar.specs.Normal.{apart_item, passed}
-use Rattle.grammar_back.specs.Covered.{has_form_step, has_step, is_known, is_statement_form}
+use Rattle.grammar_back.specs.Covered.{has_form_step, has_step, is_kept_item, is_known, is_statement_form}
 use Rattle.grammar_back.specs.Sees.{Lacks}
 use Rattle.grammar_back.proofs.Classes.{Class, Sign}
 use Rattle.grammar_back.proofs.Begins.{Begins}
@@ -27,7 +27,7 @@ use Rattle.grammar_back.proofs.Readies.{Ready, Step}
 use Rattle.grammar_back.proofs.Fine.{AtOrNone}
 use Rattle.grammar_back.proofs.Parts.{Found, Told, at_front, found_alt, found_mark, found_ref, told_at}
 use Rattle.grammar_back.proofs.Starts.{starts}
-use Rattle.grammar_back.proofs.Printed.{KindLaw, TurnLaw, VerdictLaw, plain_law}
+use Rattle.grammar_back.proofs.Printed.{KindLaw, TurnLaw, VerdictLaw, kept_entry, plain_law}
 
 -- a kind without a step
 unknown : (l k : Kind) → is_known l ≡ false → k ≡ l → is_known k ≡ true → ⊥
@@ -52,12 +52,12 @@ a_turn = when marks ";" read sign ";" else ref AStatement
 
 found_turn : Found a_turn [] (Sign 59 [] ∷ starts AStatement)
 unfolding skips
-found_turn = found_alt (marks ";") found_mark (found_ref AStatement refl) (λ us. refl, tt) (search)
+found_turn = found_alt (marks ";") found_mark (found_ref AStatement refl) (λ us. refl, tt) ((λ us h. h.1), (search))
 
 pub step_statements : Step Statements
 unfolding table skips
 step_statements (First x) s f n w a =
-    let (d, i) = turns_read a_turn (Sign 59 [] ∷ starts AStatement) found_turn (search) x f.1 w in
+    let (d, i) = turns_read a_turn (Sign 59 [] ∷ starts AStatement) found_turn ((λ us. refl), ((λ us h. h.0), (search))) x f.1 w in
     subst (λ us. Derives (First x) (table Statements) us × Begins Statements (First x) us) (sym (end_is s a.0))
     ((f.0, d), i)
 step_statements _ s f n w a = absurd f
@@ -65,7 +65,8 @@ step_statements _ s f n w a = absurd f
 -- The statements that are taken are lets and items.
 each_form : (P : Tree → Type 0)
     → ((k l : Kind) (o y : Tree) → P (Second (Second (First (Pair (Node k o) (Node l y))))))
-    → ((y : Tree) → Fits y (table AnItem) → P (Second (Second (Second (First (Node AnItem y))))))
+    → ((y : Tree) → Fits y (table AnItem) → is_kept_item y ≡ true
+    → P (Second (Second (Second (First (Node AnItem y))))))
     → (x : Tree) → Fits x (table AStatement) → is_statement_form x ≡ true → P x
 unfolding table
 each_form P one other (Second (Second (First (Pair (Node k o) (Node l y))))) f n = one k l o y
@@ -74,7 +75,7 @@ each_form P one other (Second (Second (First (Pair _ y)))) f n = absurd f.1.1.1.
 each_form P one other (Second (Second (First _))) f n = absurd f.1.1.1
 each_form P one other (Second (Second (Second (First (Node k y))))) f n =
     subst (λ j. P (Second (Second (Second (First (Node j y)))))) (sym f.1.1.1.1.0)
-    (other y (subst (λ j. Fits y (table j)) f.1.1.1.1.0 f.1.1.1.1.3))
+    (other y (subst (λ j. Fits y (table j)) f.1.1.1.1.0 f.1.1.1.1.3) n)
 each_form P one other (Second (Second (Second (First _)))) f n = absurd f.1.1.1.1
 each_form P one other (Second (Second (Second (Second x)))) f n = cc n
 each_form P one other (Second (Second (Second _))) f n = absurd f.1.1.1
@@ -87,7 +88,7 @@ each_form P one other _ f n = absurd f
 -- They need no semicolon behind them.
 form_needs : (x : Tree) → Fits x (table AStatement) → is_statement_form x ≡ true
     → needs_semicolon (Node AStatement x) ≡ false
-form_needs x f n = each_form (λ y. needs_semicolon (Node AStatement y) ≡ false) (λ k l o y. refl) (λ y g. refl) x f n
+form_needs x f n = each_form (λ y. needs_semicolon (Node AStatement y) ≡ false) (λ k l o y. refl) (λ y g i. refl) x f n
 
 statement_needs : (x : Tree) → Fits x (ref AStatement) → needs_semicolon x ≡ false
 statement_needs (Node k x) f =
@@ -114,14 +115,16 @@ turns_verdict : (q : Position) → VerdictLaw q
     (star (lacks the_end) a_turn)
 turns_verdict q x w r c d f e h = ap kept_if (turns_pass w f)
 
--- an item that fits is not raw
+-- an item that is taken is not raw
 abbrev Stays : Tree → Type 0
 Stays x = apart_item (Second (kept (Node AStatement x))) ≡ Second (kept (Node AStatement x))
 
-item_stays : (y : Tree) → Fits y (table AnItem) → Stays (Second (Second (Second (First (Node AnItem y)))))
+item_stays : (y : Tree) → Fits y (table AnItem) → is_kept_item y ≡ true
+    → Stays (Second (Second (Second (First (Node AnItem y)))))
 unfolding held table
-item_stays (First y) f = refl
-item_stays _ f = absurd f
+item_stays (First y) f n = refl
+item_stays (Verbatim y) f n = cc n
+item_stays _ f n = absurd f
 
 statement_stays : (x : Tree) → Fits x (table AStatement) → is_statement_form x ≡ true → Stays x
 unfolding held
@@ -140,7 +143,7 @@ pub law_statements : KindLaw Statements
 unfolding has_step held passed table
 law_statements =
     plain_law Statements refl (λ x. tt) (λ x. refl) (λ x. refl) (λ q. refl)
-    (λ q l. (turns_verdict _, (turn_stays, (tt, tt))))
+    (λ q l. kept_entry (each_turn_but_last (λ y. not (needs_semicolon (choice y)))) (turns_verdict _) (turn_stays, (tt, tt)))
 
 -- lists of one kind, as long as that has no step
 list_read : (l : Kind) → is_known l ≡ false → (x : Tree) (s : List Token) → Fits x (star (lacks the_end) (ref l))
@@ -163,25 +166,25 @@ pub step_items : Step Items
 unfolding table skips
 step_items x s f n w a =
     subst (λ us. Derives x (table Items) us × Begins Items x us) (sym (end_is s a.0))
-    (turns_read (ref AnItem) (starts AnItem) (found_ref AnItem refl) (search) x f w)
+    (turns_read (ref AnItem) (starts AnItem) (found_ref AnItem refl) ((λ us h. h.0), (search)) x f w)
 
 pub step_trait_items : Step TraitItems
 unfolding table skips
 step_trait_items x s f n w a =
     subst (λ us. Derives x (table TraitItems) us × Begins TraitItems x us) (sym (end_is s a.0))
-    (turns_read (ref ATraitItem) (starts ATraitItem) (found_ref ATraitItem refl) (search) x f w)
+    (turns_read (ref ATraitItem) (starts ATraitItem) (found_ref ATraitItem refl) ((λ us h. h.0), (search)) x f w)
 
 pub step_impl_items : Step ImplItems
 unfolding table skips
 step_impl_items x s f n w a =
     subst (λ us. Derives x (table ImplItems) us × Begins ImplItems x us) (sym (end_is s a.0))
-    (turns_read (ref AnImplItem) (starts AnImplItem) (found_ref AnImplItem refl) (search) x f w)
+    (turns_read (ref AnImplItem) (starts AnImplItem) (found_ref AnImplItem refl) ((λ us h. h.0), (search)) x f w)
 
 pub step_foreign_items : Step ForeignItems
 unfolding table skips
 step_foreign_items x s f n w a =
     subst (λ us. Derives x (table ForeignItems) us × Begins ForeignItems x us) (sym (end_is s a.0))
-    (turns_read (ref AForeignItem) (starts AForeignItem) (found_ref AForeignItem refl) (search) x f w)
+    (turns_read (ref AForeignItem) (starts AForeignItem) (found_ref AForeignItem refl) ((λ us h. h.0), (search)) x f w)
 
 pub law_arms : KindLaw Arms
 unfolding has_step held passed table

@@ -1,5 +1,5 @@
 -- The step and the law of items among others: their attributes and visibility stand before their form.
-use Rattle.std.proofs.Common.{◌≡◌, List, [], ◌∷◌, ◌++◌, refl, sym, ap, ◌∙◌, subst}
+use Rattle.std.proofs.Common.{◌≡◌, List, [], ◌∷◌, ◌++◌, refl, sym, ap, ◌∙◌, subst, inl, inr}
 use Rattle.std.specs.Prelude.{true, false, codes}
 use Rattle.proc_macro2.specs.Token.{Token}
 use Rattle.syn_grammar.specs.Kind.{Kind, AnItem, InFile, OuterAttributes, Plain, Position, Visibility}
@@ -19,11 +19,13 @@ use Rattle.syn_grammar.specs.Tidy.{tidy}
 use Rattle.syn_grammar.specs.Normal.{passed, place_of, normal_in}
 use Rattle.grammar_back.specs.Covered.{has_step, inner, is_known, is_no_macro, is_plain_macro, is_taken, item_of}
 use Rattle.grammar_back.specs.Sees.{LacksAll}
-use Rattle.grammar_back.proofs.Classes.{TheWord}
+use Rattle.item_laws.proofs.Stays.{item_stays}
+use Rattle.grammar_back.proofs.RawItems.{raw_front}
+use Rattle.grammar_back.proofs.Classes.{TheWord, others}
 use Rattle.grammar_back.proofs.Starts.{starts}
 use Rattle.grammar_back.proofs.Fits.{Fits, IsItem, IsMeant, is_item_form, own_place, place}
 use Rattle.grammar_back.proofs.Readies.{Step}
-use Rattle.grammar_back.proofs.Fine.{At, Edge, Fine, fine_called, fine_judged, fine_weaker}
+use Rattle.grammar_back.proofs.Fine.{At, Edge, Fine, fine_called, fine_raw_or, fine_weaker}
 use Rattle.grammar_back.proofs.Parts.{Told, maybe_ahead, maybe_called, maybe_ref, meant_step}
 use Rattle.grammar_back.proofs.Printed.{EntryLaw, IsPlaced, KindLaw, Printed, simple_law}
 use Rattle.grammar_back.proofs.ItemPlaces.{fine_form, item_classes, placed_own}
@@ -44,7 +46,7 @@ pub_unseen : Told (at "pub") false item_classes
 pub_unseen =
     (λ us. refl, (λ us. refl, (λ us. refl, (λ us. refl, (λ us. refl, (λ us. refl, (λ us. refl, (λ us. refl, (λ us. refl, (λ us. refl, (λ us. refl, (λ us. refl, (λ us. refl, (λ us. refl, (λ us. refl, (λ us. refl, ((λ cs h us. a_word_lacked (same_text (codes "pub") cs) us (ident_not (codes "pub") cs reserved_pub h)), (λ us. refl, (λ us. refl, (λ us. refl, (λ us. refl, tt)))))))))))))))))))))
 
-fine_whole : Fine whole_item ItemEdge (At (starts AnItem))
+fine_whole : Fine whole_item ItemEdge (At (others (starts AnItem)))
 unfolding skips
 fine_whole =
     maybe_ahead ItemEdge (TheWord (codes "pub") ∷ item_classes) (maybe_ref OuterAttributes refl)
@@ -57,7 +59,10 @@ unfolding table skips
 step_an_item =
     meant_step AnItem refl refl
     (fine_weaker (λ x s. LacksAll [] s × IsMeant AnItem x) (At (starts AnItem))
-    (fine_judged {A = ItemEdge} {F = At (starts AnItem)} fine_whole) (λ x s c. c.1) (λ x s i c. i))
+    (fine_raw_or {A = ItemEdge} {F = At (starts AnItem)}
+    (fine_weaker ItemEdge (At (starts AnItem)) fine_whole (λ x s c. c) (λ x s i c. inr i))
+    (λ x s d. inl (raw_front (item_verdict InFile) (the_item ∶ item_form) (search) x s d))) (λ x s c. c.1)
+    (λ x s i c. i))
 
 -- Both trees have these parts.
 data Whole : Tree → Tree → Type 0 where
@@ -162,8 +167,10 @@ item_both (First x) (First w) r d f e =
     inside : Tree → Tree
     inside (First x) = x
     inside x = x
+item_both (First x) (Verbatim w) r d f e = cc e
 item_both (First x) _ r d f e = absurd f
 item_both (Verbatim x) (First w) r d f e = cc e
+item_both (Verbatim x) (Verbatim w) r d f e = ((λ h. (refl, refl)), refl)
 item_both (Verbatim x) _ r d f e = absurd f
 item_both _ w r d f e = absurd d
 
@@ -198,5 +205,8 @@ taken_law k h n f t u p e = record { entry = λ q l. subst (λ m. EntryLaw m (ta
 pub law_an_item : KindLaw AnItem
 unfolding has_step held passed place_of table
 law_an_item =
-    taken_law AnItem refl (λ x w r d f e o. (item_both x w r d f e).0 o) (λ x. refl) (λ x. refl) (λ q. refl) (λ q. refl)
-    (λ x w r c d f e h. (whole_law x w r d f e).0 h, simple_law Plain whole_item refl)
+    taken_law AnItem refl (λ x w r d f e o. (item_both x w r d f e).0 o) (λ x. refl) (λ x. refl) (λ q. refl) (λ q. refl) (
+      (λ x w r c d f e h. (whole_law x w r d f e).0 h),
+      (λ x r d s. (item_stays AnItem (Node AnItem (Verbatim x)) r s refl (refl, d)).1),
+      simple_law Plain whole_item refl,
+    )

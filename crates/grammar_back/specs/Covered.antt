@@ -1,5 +1,4 @@
--- The kinds of which it is proved that their normal forms are read back, and the trees that hold no others and no raw
--- item.
+-- The kinds of which it is proved that their normal forms are read back, and the trees that hold no others.
 use Rattle.std.specs.Prelude.{ℕ, Bool, true, false, ◌&&◌, ◌||◌, not, codes, List, []}
 use Rattle.syn_grammar.specs.Kind.{Kind, Expression, AConst, AConstTrait, AFieldValue, AFile, AForeignItem}
 use Rattle.syn_grammar.specs.Kind.{AForeignModule, AFunction, ALet, AMacro, AMacroDefinition, AModule}
@@ -381,10 +380,14 @@ item_of (Pair x y) = item_of y
 item_of (Called n y) = y
 item_of x = x
 
--- Statements are lets and items so far, these but macros.
+-- Statements are lets and items so far, these but macros and raw ones.
+abbrev pub is_kept_item : Tree → Bool
+is_kept_item (Verbatim x) = false
+is_kept_item x = is_no_macro (choice (item_of x))
+
 abbrev pub is_statement_form : Tree → Bool
 is_statement_form (Second (Second (First x))) = true
-is_statement_form (Second (Second (Second (First (Node k x))))) = is_no_macro (choice (item_of x))
+is_statement_form (Second (Second (Second (First (Node k x))))) = is_kept_item x
 is_statement_form _ = false
 
 -- what is asked of a part: a let has no else
@@ -416,7 +419,7 @@ is_covered (More x c spacing y) = is_covered x && is_covered y
 is_covered (Group d x) = is_covered x
 is_covered (Dropped x) = is_covered x
 is_covered (Called n x) = is_taken_part n && is_covered x
-is_covered (Verbatim x) = false
+is_covered (Verbatim x) = true
 is_covered (Node k x) = is_known k && (is_taken k x && is_covered x)
 is_covered (Whole x) = is_covered x
 is_covered (Alone k y) = is_form k && is_covered y

@@ -1,6 +1,6 @@
 //! Normal forms are read back: the tokens of the normal form of a derived tree have a derived tree, of which
-//! that normal form is kept. It is proved of trees that are covered: that hold no raw item, and no kind whose step is
-//! not proved yet; and where what is to be known of expressions is (`Expressions`), which the crate `read_back` proves.
+//! that normal form is kept. It is proved of trees that are covered: that hold no kind whose step is not proved yet, and
+//! no raw item among statements; and where what is to be known of expressions is (`Expressions`), which the crate `read_back` proves.
 //! There the laws stand. There is no code.
 //!
 //! In `specs/`: `After` (what may follow a kind), `Covered` (the kinds whose steps are proved, and the trees that
@@ -17,7 +17,8 @@
 //! `References`, `Receivers` (by `Selves`), `Aliases`, `Dotted`, `FieldValues`, `Turns`, `PathTypes` (types before
 //! `for`), `ImplParams`, `Impls` (by `Bracketed`), `WholeItems` (by `ItemPlaces`, `MacroItems` and
 //! `ItemVerdicts`), `Members`,
-//! `ForeignItems` and `Lets` (by `FirstWords`), and for the script `Seconds`, `Params` and `FieldNames`; `Passed` has what stands behind
+//! `ForeignItems` and `Lets` (by `FirstWords`), and for the script `Seconds`, `Params` and `FieldNames`; `RawItems`
+//! has how raw ones begin, which are read back as `item_laws` says; `Passed` has what stands behind
 //! attributes. `Elements` has the verdicts on lists, and `Choices` what is true of booleans and of one look or another.
 //! What all this needs of expressions stands in one place (`Expressions`): the steps and laws of the kinds of their
 //! forms, and that an expression is printed where their own parts are.

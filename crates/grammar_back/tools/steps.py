@@ -188,8 +188,11 @@ def look(e,p):
 def expand(e):
     while e[0]=='app' and e[1]!='∷' and e[1]!='[]': e=call(e[1],e[2])
     return e
+# what isn't seen where a raw item begins
+RAW=['the_end','marks ";"','marks "#" then marks "!"']
 def sees(e,c):
     if e[0]=='app' and e[1]=='sees': e=e[2][0]
+    if c[0]=='raw': return False if show(e).strip('()') in RAW else None
     return sees_at(e,c)
 def sees_at(e,c):
     """whether a look is seen at a class: True, False, or None if first tokens don't say"""
@@ -267,11 +270,14 @@ def told(l,b,cs):
             eqs=[reserved(t[1:]) for t in dict.fromkeys(TOUCHED) if t[0]=='=']
             out.append('λ us. refl' if not eqs else f'λ us. simp ({", ".join(eqs)}) refl')
         elif c[0]=='tick': out.append('λ cs us. refl')
+        elif c[0]=='raw': out.append(f"λ us h. h.{RAW.index(show(l).strip('()'))}")
         elif c[0]=='lit': out.append('λ cs h us. refl' if c[1]=='any_text' or not b else 'λ cs h us. simp h refl')
         else:
             ws=list(dict.fromkeys(TOUCHED))
             eqs=[f'ident_not (codes "{w}") cs {reserved(w)} h' for w in ws if w!='h' and w in RESERVED]+(['h'] if 'h' in ws else [])
             out.append('λ cs h us. refl' if not eqs else f'λ cs h us. simp ({", ".join(eqs)}) refl')
+    raws=[i for i,c in enumerate(cs) if c[0]=='raw']
+    if raws: return nest(out[:raws[-1]+1]).replace('tt','(search)')
     if len(out)<2 and not any('simp' in x for x in out): return nest(out)
     return '('+' & '.join([f'({x})' for x in out]+['tt'])+')' if any('simp' in x for x in out) else '(search)'
 def unseen(ls,cs):
@@ -418,7 +424,7 @@ def found(g):
             l=l[2][0]
         x=found(a[1]); return Entry(True,[l]+x.ls,x.cs,f'(found_star {show(l,False)} {x.term} {told(l,True,x.cs)} {unseen(x.ls,x.cs)})')
     if h=='judged':
-        x=found(a[1]); return Entry(x.maybe,x.ls,x.cs,f'({"maybe" if x.maybe else "found"}_judged {x.term})')
+        x=found(a[1]); return Entry(x.maybe,x.ls,x.cs,f'({"maybe" if x.maybe else "found"}_judged _ {x.term})')
     if h in defs:
         b=call(h,a)
         if b is None: raise Skip('no clause of '+h)
@@ -476,11 +482,11 @@ ENTRIES={('AType','WithPlus')}
 GIVEN_STARTS={('ALet',):[('word','let')],('Arms',):[],('ATypeAlias','InFile'):[('word','type')],('ATypeAlias','InForeign'):[('word','type')]}
 for k in LISTS: GIVEN_STARTS[(k,)]=[]
 ITEM_WORDS='const async unsafe extern fn use static mod type struct enum union auto trait default impl'.split()
-for k in('AnItem','Items'): GIVEN_STARTS[(k,)]=[('then','#',('open','Bracket'))]+[('word',w) for w in ['pub']+ITEM_WORDS]+[('ident',),('word','self'),('word','super'),('word','crate'),('sign','::')]
-GIVEN_STARTS[('AStatement',)]=GIVEN_STARTS[('AnItem',)][:1]+[('word','let')]+GIVEN_STARTS[('AnItem',)][1:]
+for k in('AnItem','Items'): GIVEN_STARTS[(k,)]=[('raw',),('then','#',('open','Bracket'))]+[('word',w) for w in ['pub']+ITEM_WORDS]+[('ident',),('word','self'),('word','super'),('word','crate'),('sign','::')]
+GIVEN_STARTS[('AStatement',)]=GIVEN_STARTS[('AnItem',)][:2]+[('word','let')]+GIVEN_STARTS[('AnItem',)][2:]
 GIVEN_STARTS[('Statements',)]=[('sign',';')]+GIVEN_STARTS[('AStatement',)]
-for k in('AForeignItem','ForeignItems'): GIVEN_STARTS[(k,)]=[('then','#',('open','Bracket'))]+[('word',w) for w in 'pub const async unsafe safe extern fn unsafe safe static type'.split()]
-for k in('ATraitItem','AnImplItem','TraitItems','ImplItems'): GIVEN_STARTS[(k,)]=[('then','#',('open','Bracket'))]+[('word',w) for w in 'pub default const async unsafe extern fn const type'.split()]
+for k in('AForeignItem','ForeignItems'): GIVEN_STARTS[(k,)]=[('raw',),('then','#',('open','Bracket'))]+[('word',w) for w in 'pub const async unsafe safe extern fn unsafe safe static type'.split()]
+for k in('ATraitItem','AnImplItem','TraitItems','ImplItems'): GIVEN_STARTS[(k,)]=[('raw',),('then','#',('open','Bracket'))]+[('word',w) for w in 'pub default const async unsafe extern fn const type'.split()]
 GIVEN_STARTS[('ImplGenerics',)]=[('sign','<')]
 GIVEN_STARTS[('AnImpl',)]=[('word',w) for w in('default','const','unsafe','impl')]
 GIVEN_STARTS[('AFieldValue',)]=[('sign','..'),('then','#',('open','Bracket')),('ident',),('ident',),('lit','is_index')]
@@ -538,7 +544,7 @@ def main():
 def class_show(c,top=True):
     cs=lambda t: f'{ord(t[0])} ({list_of([str(ord(x)) for x in t[1:]])})' if len(t)>1 else f'{ord(t)} []'
     s={'sign':lambda: f'Sign {cs(c[1])}','word':lambda: f'TheWord (codes "{c[1]}")','ident':lambda: 'AnyWord is_ident',
-       'lit':lambda: f'Quoted {c[1]}','tick':lambda: 'Tick','open':lambda: f'Opening {"D.None" if c[1]=="None" else c[1]}','then':lambda: f'Then {cs(c[1])} {class_show(c[2],False)}'}[c[0]]()
+       'lit':lambda: f'Quoted {c[1]}','tick':lambda: 'Tick','raw':lambda: 'RawFront','open':lambda: f'Opening {"D.None" if c[1]=="None" else c[1]}','then':lambda: f'Then {cs(c[1])} {class_show(c[2],False)}'}[c[0]]()
     return s if top or ' ' not in s else f'({s})'
 def wrap_list(head,items,indent='    '):
     """a list as lines of at most 120 characters"""

@@ -9,7 +9,7 @@ use Rattle.syn_grammar.specs.Kind.{ExprBreak}
 use Rattle.syn_grammar.specs.Name.{Part, the_label, the_name, same_part}
 use Rattle.syn_grammar.specs.Tree.{Tree, AWord, ALiteral, AMark, ALifetime, Raw, Nil, Pair, First, Second, End}
 use Rattle.syn_grammar.specs.Tree.{Again, Final, More, Group, Dropped, Called, Node, Whole, Alone, Front, Back}
-use Rattle.syn_grammar.specs.Tree.{Infix, flat}
+use Rattle.syn_grammar.specs.Tree.{Infix, Verbatim, flat}
 use Rattle.syn_grammar.specs.Gram.{Gram, word, literal, mark, lifetime, raw, nothing, seq, alt, star, many, group}
 use Rattle.syn_grammar.specs.Gram.{judged, dropped, called, ref, operand}
 use Rattle.syn_grammar.specs.Look.{sees, ◌then◌, no, a_lifetime}
@@ -55,6 +55,7 @@ has_kept n (Final x) (many e c g) h = refl
 has_kept n (More x m spacing y) (many e c g) h = refl
 has_kept n (Group d x) (group e g) h = has_kept n x g h.1
 has_kept n (First x) (judged v g) h = has_kept n x g h.1
+has_kept n (Verbatim x) (judged v g) h = refl
 has_kept n (Dropped x) (dropped g) h = refl
 has_kept n (Called m x) (called l g) h = if_some (same_part m n) (kept x) x
 has_kept n (Node k x) (ref l) h = refl

@@ -1,6 +1,6 @@
 -- The own parts of an expression that fits, and whose parts are read back, are read wherever their forms may stand.
 use Rattle.std.proofs.Common.{◌≡◌, ℕ, List, [], ◌∷◌, ◌++◌, refl, sym, ap, ◌∙◌, subst, append_assoc, ⊎_elim, inl, inr}
-use Rattle.std.specs.Prelude.{zero, suc, Bool, true, false, not, ◌||◌, Some}
+use Rattle.std.specs.Prelude.{zero, suc, Bool, true, false, not, ◌&&◌, ◌||◌, Some}
 use Rattle.std.proofs.lemmas.List.{append-nil}
 use Rattle.proc_macro2.specs.Token.{Token, Opens}
 use Rattle.proc_macro2.specs.declared.delimiter.Delimiter.TheVariants.{Parenthesis, Brace}
@@ -38,7 +38,8 @@ use Rattle.grammar_back.specs.After.{After}
 use Rattle.grammar_back.specs.Covered.{has_form_step}
 use Rattle.grammar_back.proofs.Begins.{Begins}
 use Rattle.grammar_back.proofs.Classes.{Class, Sign, TheWord, AnyWord, Quoted, Tick, Opening, Then, IsAt, IsAmong}
-use Rattle.grammar_back.proofs.Classes.{of_all}
+use Rattle.grammar_back.proofs.Classes.{RawFront, of_all}
+use Rattle.syn_grammar.proofs.Whole.{and_true}
 use Rattle.grammar_back.proofs.Fits.{Fits, FitsForms, IsMeant, IsWhole, MayLack, MayHave}
 use Rattle.grammar_back.proofs.Fits.{flat_kept}
 use Rattle.grammar_back.proofs.Readies.{OwnReady, Ready}
@@ -305,21 +306,33 @@ among [] (c ∷ cs) ds ts e i = absurd e
 among (n ∷ ns) [] ds ts e i = absurd i
 among [] [] ds ts e i = absurd i
 
--- the same before more,
-at_more : (c : Class) (ts us : List Token) → IsAt c ts → IsAt c (ts ++ us)
-at_more (Sign c cs) ts us i =
-    (i.0 ++ us, ap (λ vs. vs ++ us) i.1 ∙ append_assoc (marks c cs Apart) i.0 us)
-at_more (TheWord cs) ts us i = (i.0 ++ us, ap (λ vs. vs ++ us) i.1)
-at_more (AnyWord p) ts us i = (i.0, i.1 ++ us, i.2, ap (λ vs. vs ++ us) i.3)
-at_more (Quoted p) ts us i = (i.0, i.1 ++ us, i.2, ap (λ vs. vs ++ us) i.3)
-at_more Tick ts us i = (i.0, i.1 ++ us, ap (λ vs. vs ++ us) i.2)
-at_more (Opening d) ts us i = (i.0 ++ us, ap (λ vs. vs ++ us) i.1)
-at_more (Then c cs k) ts us i =
-    (i.0 ++ us, ap (λ vs. vs ++ us) i.1 ∙ append_assoc (marks c cs Apart) i.0 us, at_more k i.0 us i.2)
+-- the same before more, but of a raw item,
+abbrev is_firm : Class → Bool
+is_firm RawFront = false
+is_firm (Then c cs k) = is_firm k
+is_firm c = true
 
-more_among : (cs : List Class) (ts us : List Token) → IsAmong cs ts → IsAmong cs (ts ++ us)
-more_among [] ts us i = absurd i
-more_among (c ∷ cs) ts us i = ⊎_elim (λ j. inl (at_more c ts us j)) (λ j. inr (more_among cs ts us j)) i
+abbrev are_firm : List Class → Bool
+are_firm [] = true
+are_firm (c ∷ cs) = is_firm c && are_firm cs
+
+at_more : (c : Class) (ts us : List Token) → is_firm c ≡ true → IsAt c ts → IsAt c (ts ++ us)
+at_more (Sign c cs) ts us f i =
+    (i.0 ++ us, ap (λ vs. vs ++ us) i.1 ∙ append_assoc (marks c cs Apart) i.0 us)
+at_more (TheWord cs) ts us f i = (i.0 ++ us, ap (λ vs. vs ++ us) i.1)
+at_more (AnyWord p) ts us f i = (i.0, i.1 ++ us, i.2, ap (λ vs. vs ++ us) i.3)
+at_more (Quoted p) ts us f i = (i.0, i.1 ++ us, i.2, ap (λ vs. vs ++ us) i.3)
+at_more Tick ts us f i = (i.0, i.1 ++ us, ap (λ vs. vs ++ us) i.2)
+at_more (Opening d) ts us f i = (i.0 ++ us, ap (λ vs. vs ++ us) i.1)
+at_more (Then c cs k) ts us f i =
+    (i.0 ++ us, ap (λ vs. vs ++ us) i.1 ∙ append_assoc (marks c cs Apart) i.0 us, at_more k i.0 us f i.2)
+at_more RawFront ts us f i = cc f
+
+more_among : (cs : List Class) (ts us : List Token) → are_firm cs ≡ true → IsAmong cs ts → IsAmong cs (ts ++ us)
+more_among [] ts us f i = absurd i
+more_among (c ∷ cs) ts us f i =
+    let h = and_true (is_firm c) (are_firm cs) f in
+    ⊎_elim (λ j. inl (at_more c ts us h.0 j)) (λ j. inr (more_among cs ts us h.1 j)) i
 
 -- and of each form in front.
 form_begins : (k : Kind) (y : Tree) (s : List Token) → has_part k ≡ true → is_front k ≡ true → Begins k y s
@@ -397,7 +410,7 @@ form_begins _ y s e f b = cc
 own_begins : (k : Kind) (y : Tree) → IsFrontOf has_part k → OwnReady k y → (us : List Token)
     → IsAmong (starts (Expression Plain)) (flat y ++ us)
 own_begins k y o w us =
-    more_among (starts (Expression Plain)) (flat y) us
+    more_among (starts (Expression Plain)) (flat y) us refl
     (subst (IsAmong (starts (Expression Plain))) (append-nil (flat y))
     (form_begins k y [] o.0 (fronts_are o.1 k o.2 o.3) (w [] (before_nothing k y o.0)).1))
 

@@ -14,7 +14,6 @@ use Rattle.syn_grammar.specs.Kept.{held, kept}
 use Rattle.syn_grammar.specs.Normal.{passed, normal_in, stands_behind}
 use Rattle.syn_grammar.specs.Read.{IsRead}
 use Rattle.syn_grammar.proofs.Theorems.{one}
-use Rattle.syn_grammar.proofs.Whole.{and_true}
 use Rattle.expressions_back.specs.Behind.{MayFollow}
 use Rattle.grammar_back.specs.After.{EndsThere, whole}
 use Rattle.grammar_back.specs.Covered.{has_form_step, is_covered}
