@@ -1,12 +1,12 @@
 -- What is left of a tree that is single, and of one that is a choice, by its form.
-use Rattle.std.specs.Prelude.{◌≡◌, ◌≢◌, ℕ, zero, suc, ◌-◌, List, [], ◌∷◌, Option, Some, None, refl}
+use Rattle.std.specs.Prelude.{Bool, false, ◌≡◌, ◌≢◌, ℕ, zero, suc, ◌-◌, List, [], ◌∷◌, Option, Some, None, refl}
 use Rattle.std.proofs.Common.{arith}
 use Rattle.rust_leaf.specs.declared.punct.Spacing.{Spacing}
 use Rattle.syn_grammar.specs.Tree as t
 use Rattle.syn_grammar.specs.Tree.{Tree}
 use Rattle.gram_tree.specs.declared.tree.Element.{Element}
 use Rattle.gram_tree.specs.Forms.{mark_of, seconds, turns, elements, ending}
-use Rattle.gram_tree.specs.Shapes.{single, chosen, last_of}
+use Rattle.gram_tree.specs.Shapes.{single, chosen, last_of, is_list, is_turns}
 
 pub single_first : (n : ℕ) (x : Tree) → single (seconds n (t.First x)) ≡ t.Nil
 single_first zero x = refl
@@ -50,3 +50,30 @@ last_first (suc zero) x = refl
 last_first (suc (suc n)) x = refl
 
 pub ruleset choices = (chosen_mark, chosen_turns, chosen_elements, seconds_more, last_first)
+
+pub list_first : (n : ℕ) (x : Tree) → is_list (seconds n (t.First x)) ≡ false
+list_first zero x = refl
+list_first (suc n) x = refl
+
+pub list_mark : (cs : List ℕ) (spacing : Spacing) → is_list (mark_of cs spacing) ≡ false
+list_mark [] spacing = refl
+list_mark (c ∷ cs) spacing = refl
+
+pub list_turns : (xs : List Tree) → is_list (turns xs) ≡ false
+list_turns [] = refl
+list_turns (x ∷ xs) = refl
+
+pub turns_first : (n : ℕ) (x : Tree) → is_turns (seconds n (t.First x)) ≡ false
+turns_first zero x = refl
+turns_first (suc n) x = refl
+
+pub turns_mark : (cs : List ℕ) (spacing : Spacing) → is_turns (mark_of cs spacing) ≡ false
+turns_mark [] spacing = refl
+turns_mark (c ∷ cs) spacing = refl
+
+pub turns_elements : {A : Type 0} (c : ℕ) (es : List Element) (f : A → Tree) (o : Option A) → is_turns (elements c es (ending f o)) ≡ false
+turns_elements c [] f None = refl
+turns_elements c [] f (Some y) = refl
+turns_elements c (e ∷ es) f o = refl
+
+pub ruleset lists = (list_first, list_mark, list_turns, turns_first, turns_mark, turns_elements)

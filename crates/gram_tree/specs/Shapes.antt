@@ -1,8 +1,10 @@
 -- What a tree is, and what stands in it.
-use Rattle.std.specs.Prelude.{Bool, true, false, Option, Some, None}
+use Rattle.std.specs.Prelude.{◌≡◌, ℕ, Bool, true, false, List, Option, Some, None}
 use Rattle.syn_grammar.specs.Kind.{Kind}
 use Rattle.syn_grammar.specs.Tree.{Tree, AMark, Nil, Pair, First, Second, End, Again, Final, More, Group, Node, Whole}
 use Rattle.syn_grammar.specs.Tree.{Alone, Front, Back, Infix}
+use Rattle.gram_tree.specs.declared.tree.Element.{Element}
+use Rattle.gram_tree.specs.Forms.{elements, ending}
 
 -- a tree that is no mark, no choice, and neither turns nor a list; of those nothing is left
 abbrev pub single : Tree → Tree
@@ -121,3 +123,18 @@ chosen_last _ = None
 
 abbrev pub last_of : Tree → Option Tree
 last_of x = chosen_last (chosen x)
+
+-- a list with an element
+abbrev pub is_list : Tree → Bool
+is_list (More x c spacing y) = true
+is_list (Final x) = true
+is_list _ = false
+
+-- a turn, and others
+abbrev pub is_turns : Tree → Bool
+is_turns (Again x y) = true
+is_turns _ = false
+
+-- the list of elements that a mark follows, and of a last one that none follows
+abbrev pub IsListOf : List Element → Option Tree → Tree → Type 0
+IsListOf es o x = (c : ℕ) × (x ≡ elements c es (ending (λ y. y) o))

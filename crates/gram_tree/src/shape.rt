@@ -3,9 +3,11 @@
 ghost use Rattle.gram_table.specs.Kinds.{kind_of};
 ghost use Rattle.gram_tree.specs.Shapes.{alone_of, first_of, front_of, group_of, is_middle, is_second, is_third};
 ghost use Rattle.gram_tree.specs.Shapes.{last_of, node_of, own_kind, pair_of, whole_of};
-ghost use Rattle.std.specs.Prelude.{◌≡◌, option_map};
+ghost use Rattle.gram_tree.specs.Forms.{turns};
+ghost use Rattle.gram_tree.specs.Shapes.{IsListOf, is_list, is_turns};
+ghost use Rattle.std.specs.Prelude.{◌≡◌, MatchOption, false, option_map};
 
-use crate::tree::{Form, Tree};
+use crate::tree::{Element, Form, Tree};
 use gram_table::kind::Kind;
 
 #[tactic(auto, using(crate::proofs::Shapes::singles))]
@@ -141,6 +143,31 @@ impl<'a> Tree<'a> {
                     None
                 }
             }
+            _ => None,
+        }
+    }
+}
+
+#[tactic(auto, using(crate::proofs::Shapes::lists))]
+impl<'a> Tree<'a> {
+    /// Of a list the elements that a mark follows, and the last one that none follows.
+    pub fn list(&self) -> Option<(&[Element<'a>], Option<&Tree<'a>>)>
+        ensures { MatchOption result (is_list self.now ≡ false)
+            (λ p. IsListOf p.0.now (option_map (λ x. x.now) p.1) self.now) }
+    {
+        match &self.form {
+            Form::Elements(_, before, None) => Some((before.as_slice(), None)),
+            Form::Elements(_, before, Some(last)) => Some((before.as_slice(), Some(last))),
+            _ => None,
+        }
+    }
+
+    /// Of turns each.
+    pub fn turns(&self) -> Option<&[Tree<'a>]>
+        ensures { MatchOption result (is_turns self.now ≡ false) (λ xs. self.now ≡ turns xs.now) }
+    {
+        match &self.form {
+            Form::Turns(turns) => Some(turns.as_slice()),
             _ => None,
         }
     }
