@@ -1,12 +1,12 @@
 -- An item that stands among statements is seen there by its first words: no macro is seen in its place, and no let.
 use Rattle.std.proofs.Common.{◌≡◌, ℕ, List, [], ◌∷◌, ◌++◌, refl, sym, ap, ◌∙◌, subst, ⊎_elim, inl, inr}
-use Rattle.std.specs.Prelude.{Bool, true, false, ◌⊎◌, cond, codes, Option, Some, None}
+use Rattle.std.specs.Prelude.{Bool, true, false, ◌⊎◌, ◌&&◌, not, cond, codes, Option, Some, None}
 use Rattle.std.proofs.lemmas.Slice.Eq.{bytes_eq-Decides}
 use Rattle.proc_macro2.specs.Token.{Token, Ident}
 use Rattle.proc_macro2.specs.declared.delimiter.Delimiter.TheVariants.{Brace}
-use Rattle.syn_grammar.specs.Kind.{Kind, AConst, AConstTrait, AStatic, ATrait, AnImpl, InFile, ItemMacro, Visibility}
+use Rattle.syn_grammar.specs.Kind.{Kind, AConst, AStatic, ATrait, AnImpl, InFile, ItemMacro, Visibility}
 use Rattle.syn_grammar.specs.Tree.{Tree, AWord, Called, First, Nil, Node, Pair, Second, Verbatim, flat}
-use Rattle.syn_grammar.specs.Name.{Part, same_part, the_const}
+use Rattle.syn_grammar.specs.Name.{Part, same_part, the_const, the_default}
 use Rattle.syn_grammar.specs.Part.{choice, found, has, is_some, or_else}
 use Rattle.syn_grammar.specs.Words.{is_among, is_ident, is_name, is_path_keyword, is_reserved, is_string, same_text}
 use Rattle.syn_grammar.specs.Gram.{Gram, alt, never, ref}
@@ -14,7 +14,7 @@ use Rattle.syn_grammar.specs.Look.{Look, a_group, a_name, a_path, a_quoted, an_i
 use Rattle.syn_grammar.specs.Look.{repeatedly, seen, sees}
 use Rattle.syn_grammar.specs.Look.{the_word, ◌or◌, ◌then◌}
 use Rattle.syn_grammar.specs.Say.{at, brace, marks}
-use Rattle.syn_grammar.specs.Items.{is_impl, is_trait, signature_stands}
+use Rattle.syn_grammar.specs.Items.{is_impl, is_trait, signature_stands, trait_stands}
 use Rattle.syn_grammar.specs.Lists.{item_form}
 use Rattle.syn_grammar.specs.Statements.{function_words, item_stands, item_words, macro_item_stands}
 use Rattle.syn_grammar.specs.Statements.{macro_statement_stands}
@@ -22,15 +22,14 @@ use Rattle.syn_grammar.specs.Table.{table}
 use Rattle.syn_grammar.specs.Derives.{Derives}
 use Rattle.item_laws.proofs.Places.{kept_raw, none_then}
 use Rattle.grammar_back.specs.Sees.{Lacks}
-use Rattle.grammar_back.proofs.Choices.{first_of, is_false, none_of, second_seen}
+use Rattle.grammar_back.proofs.Choices.{first_of, none_of, second_seen}
 use Rattle.grammar_back.proofs.Classes.{Class, IsAmong, of_all, the_words}
-use Rattle.grammar_back.proofs.Fits.{is_item_form}
 use Rattle.grammar_back.proofs.Impls.{contrary}
 use Rattle.grammar_back.proofs.ItemPlaces.{word_front}
 use Rattle.grammar_back.proofs.Seconds.{either_seen, front_seen}
 use Rattle.grammar_back.proofs.MacroItems.{a_word_lacked, abi_fn, async_fn, safe_fn}
 use Rattle.grammar_back.proofs.Sights.{ident_not}
-use Rattle.grammar_back.specs.Covered.{is_no_macro}
+use Rattle.grammar_back.specs.Covered.{is_begun, is_no_macro}
 
 -- an item is seen, and nothing that is looked for before it
 abbrev pub ItemSeen : List Token → Type 0
@@ -298,11 +297,23 @@ const_impl x n y u e =
     subst (λ m. has the_const (First (Pair x (Pair (First (Called m y)) u))) ≡ true) (sym e)
     (behind_has the_const x (Pair (First (Called the_const y)) u) refl)
 
-impl_read : (y : Tree) (r : List Token) → Derives y (table AnImpl) r → has the_const y ≡ false
+default_there : (n : Part) (y u : Tree) → n ≡ the_default → has the_default (First (Pair (First (Called n y)) u)) ≡ true
+unfolding same_part
+default_there n y u e =
+    subst (λ m. has the_default (First (Pair (First (Called m y)) u)) ≡ true) (sym e) refl
+
+never_both : (a b : Bool) → a ≡ true → b ≡ true → not (a && b) ≡ true → ⊥
+never_both true true e f h = cc h
+never_both true false e f h = cc f
+never_both false b e f h = cc e
+
+impl_read : (y : Tree) (r : List Token) → Derives y (table AnImpl) r → is_begun (Node AnImpl y) ≡ true
     → sees (at "default") (flat y ++ r) ≡ true → ItemSeen (flat y ++ r)
 unfolding table
 impl_read (First (Pair (First (Called n (AWord w))) (Pair (First (Called m y)) z))) r d h e =
-    absurd (contrary (has the_const (First (Pair (First (Called n (AWord w))) (Pair (First (Called m y)) z))))
+    let u : Tree = First (Pair (First (Called n (AWord w))) (Pair (First (Called m y)) z)) in
+    absurd (never_both (has the_default u) (has the_const u)
+    (default_there n (AWord w) (Pair (First (Called m y)) z) d.1.0.1.0)
     (const_impl (First (Called n (AWord w))) m y z d.1.1.0.1.0) h)
 impl_read (First (Pair (First (Called n (AWord w))) (Pair (First _) z))) r d h e = absurd d.1.1.0.1
 impl_read (First (Pair (First (Called n (AWord w))) (Pair (Second Nil) (Pair (First (Called m (AWord cs))) z)))) r d h e
@@ -333,7 +344,7 @@ impl_read (First _) r d h e = absurd d.1
 impl_read (Verbatim x) r d h e = absurd (kept_raw (is_impl x) d.0)
 impl_read _ r d h e = absurd d
 
-impl_seen : (y : Tree) (r : List Token) → Derives y (table AnImpl) r → has the_const y ≡ false
+impl_seen : (y : Tree) (r : List Token) → Derives y (table AnImpl) r → is_begun (Node AnImpl y) ≡ true
     → sees (at "impl" or (at "default" then no (marks "!"))) (flat y ++ r) ≡ true → ItemSeen (flat y ++ r)
 unfolding is_name is_path_keyword is_reserved
 impl_seen y r d h e =
@@ -382,17 +393,30 @@ impl_const_seen ts e =
     let (us, i, h) = word_then (codes "const") (maybe (at "unsafe") then at "impl") ts e in
     subst ItemSeen (sym i) (const_seen us (const_unsafe us h))
 
+-- traits behind const
+const_trait : (ts : List Token) → sees trait_stands ts ≡ true → Lacks not_const ts
+const_trait ts e =
+    ⊎_elim (λ h. subst (Lacks not_const) (sym h.1) refl) (λ h. ⊎_elim (λ i. subst (Lacks not_const) (sym i.1) refl)
+    (λ i. let (us, j) = word_front (codes "trait") ts i in subst (Lacks not_const) (sym j) refl)
+    (maybe_then (codes "auto") (at "trait") ts h))
+    (maybe_then (codes "unsafe") (maybe (at "auto") then at "trait") ts e)
+
+trait_const_seen : (ts : List Token) → sees (at "const" then trait_stands) ts ≡ true → ItemSeen ts
+trait_const_seen ts e =
+    let (us, i, h) = word_then (codes "const") trait_stands ts e in
+    subst ItemSeen (sym i) (const_seen us (const_trait us h))
+
 -- the alternatives of an item
 abbrev SeenLaw : Gram → Type 0
-SeenLaw g = (x : Tree) (r : List Token) → Derives x g r → is_item_form (choice x) ≡ true
+SeenLaw g = (x : Tree) (r : List Token) → Derives x g r → is_begun (choice x) ≡ true
     → is_no_macro (choice x) ≡ true → ItemSeen (flat x ++ r)
 
 seen_alt : (l : Look) (k : Kind) (g : Gram)
-    → ((y : Tree) (r : List Token) → Derives y (table k) r → is_item_form (Node k y) ≡ true
+    → ((y : Tree) (r : List Token) → Derives y (table k) r → is_begun (Node k y) ≡ true
     → is_no_macro (Node k y) ≡ true → sees l (flat y ++ r) ≡ true → ItemSeen (flat y ++ r))
     → SeenLaw g → SeenLaw (alt (sees l) (ref k) g)
 seen_alt l k g one more (First (Node j y)) r d h m =
-    one y r (subst (λ i. Derives y (table i) r) d.1.0 d.1.1) (subst (λ i. is_item_form (Node i y) ≡ true) d.1.0 h)
+    one y r (subst (λ i. Derives y (table i) r) d.1.0 d.1.1) (subst (λ i. is_begun (Node i y) ≡ true) d.1.0 h)
     (subst (λ i. is_no_macro (Node i y) ≡ true) d.1.0 m) d.0
 seen_alt l k g one more (First _) r d h m = absurd d.1
 seen_alt l k g one more (Second y) r d h m = more y r d.1 h m
@@ -411,7 +435,7 @@ item_seen =
     (seen_alt _ _ _ (λ y r d h m e. first_seen_at (codes "extern") (flat y ++ r) refl refl refl e)
     (seen_alt _ _ _ (λ y r d h m e. first_seen_at (codes "use") (flat y ++ r) refl refl refl e)
     (seen_alt _ _ _ (λ y r d h m e. static_read y r d)
-    (seen_alt _ _ _ (λ y r d h m e. absurd (contrary (is_item_form (Node AConstTrait y)) h refl))
+    (seen_alt _ _ _ (λ y r d h m e. trait_const_seen (flat y ++ r) e)
     (seen_alt _ _ _ (λ y r d h m e. impl_const_seen (flat y ++ r) e)
     (seen_alt _ _ _ (λ y r d h m e. const_read y r d)
     (seen_alt _ _ _ (λ y r d h m e. unsafe_seen (codes "extern") (flat y ++ r) e)
@@ -426,7 +450,7 @@ item_seen =
     (seen_alt _ _ _ (λ y r d h m e. first_seen_at (codes "impl") (flat y ++ r) refl refl refl
     (front_seen ((at "impl") (flat y ++ r)) _ e))
     (seen_alt _ _ _ (λ y r d h m e. trait_seen (flat y ++ r) e)
-    (seen_alt _ _ _ (λ y r d h m e. impl_seen y r d (is_false (has the_const y) h) e)
+    (seen_alt _ _ _ (λ y r d h m e. impl_seen y r d h e)
     (seen_alt _ _ _ (λ y r d h m e. first_seen_at (codes "macro") (flat y ++ r) refl refl refl e)
     (seen_alt _ _ _ (λ y r d h m e. absurd (contrary (is_no_macro (Node (ItemMacro InFile) y)) m refl))
     seen_never)))))))))))))))))))))

@@ -3,11 +3,11 @@ use Rattle.std.proofs.Common.{◌≡◌, List, [], ◌∷◌, ◌++◌, refl, sy
 use Rattle.std.proofs.Common.{⊎_elim, inl, inr}
 use Rattle.std.specs.Prelude.{Bool, true, false, ◌&&◌, not, codes, Option, Some, None}
 use Rattle.proc_macro2.specs.Token.{Token}
-use Rattle.syn_grammar.specs.Kind.{Kind, ALet, AStatement, AType, AnItem, Block, Expression, OnePattern, OuterAttributes}
+use Rattle.syn_grammar.specs.Kind.{ALet, AStatement, AType, AnImpl, AnItem, Block, Expression, OnePattern, OuterAttributes}
 use Rattle.syn_grammar.specs.Kind.{Plain, Position, WithPlus}
-use Rattle.syn_grammar.specs.Name.{Part, same_part, the_else, the_type, the_value}
+use Rattle.syn_grammar.specs.Name.{Part, same_part, the_const, the_default, the_else, the_type, the_value}
 use Rattle.syn_grammar.specs.Tree.{Tree, Called, First, Group, Nil, Node, Pair, Second, Verbatim, flat}
-use Rattle.syn_grammar.specs.Part.{found, has, is_some, or_else, the}
+use Rattle.syn_grammar.specs.Part.{choice, found, has, is_some, or_else, the}
 use Rattle.syn_grammar.specs.Gram.{Gram, ref}
 use Rattle.syn_grammar.specs.Words.{is_name, is_path_keyword}
 use Rattle.syn_grammar.specs.Say.{at, keyword, marks, optional, sign, ◌∶◌, ◌▸◌}
@@ -21,13 +21,15 @@ use Rattle.syn_grammar.specs.Derives.{Derives}
 use Rattle.syn_grammar.specs.Kept.{as_statement, held, kept}
 use Rattle.syn_grammar.specs.Normal.{passed, place_of, normal_in}
 use Rattle.grammar_back.specs.After.{behind}
-use Rattle.grammar_back.specs.Covered.{has_step, is_covered, is_kept_item, is_statement_form, item_of}
+use Rattle.grammar_back.specs.Covered.{ends_apart, has_step, is_begun, is_covered, is_no_macro, is_statement_form}
+use Rattle.grammar_back.specs.Covered.{is_statement_item, item_of}
+use Rattle.item_laws.proofs.Stays.{item_stays}
 use Rattle.grammar_back.specs.Sees.{LacksAll}
 use Rattle.grammar_back.proofs.Choices.{both_true, is_false}
 use Rattle.grammar_back.proofs.Classes.{Class, Sign, TheWord, among_left, among_right}
 use Rattle.grammar_back.proofs.Keywords.{reserved_let}
 use Rattle.grammar_back.proofs.Starts.{starts}
-use Rattle.grammar_back.proofs.Fits.{Fits, IsItem, IsMeant}
+use Rattle.grammar_back.proofs.Fits.{Fits, IsItem, IsMeant, is_item_form}
 use Rattle.grammar_back.proofs.FirstWords.{ItemSeen, item_seen, visible_seen}
 use Rattle.grammar_back.proofs.Passed.{behind_attributes}
 use Rattle.grammar_back.proofs.Readies.{Ready, Step}
@@ -38,7 +40,7 @@ use Rattle.grammar_back.proofs.Parts.{unseen_all}
 use Rattle.grammar_back.proofs.Printed.{IsPlaced, KindLaw, Printed, VerdictLaw, kept_entry, simple_law}
 use Rattle.grammar_back.proofs.Impls.{contrary}
 use Rattle.grammar_back.proofs.ItemVerdicts.{same_has}
-use Rattle.grammar_back.proofs.WholeItems.{taken_law, whole_macro}
+use Rattle.grammar_back.proofs.WholeItems.{taken_law, whole_item, whole_macro}
 
 -- what stands behind the pattern
 abbrev pub let_value : Gram
@@ -199,28 +201,46 @@ step_let _ s g w = absurd g
 
 -- statements
 -- an item is seen behind its attributes, and nothing that is looked for before it
+begun : (x : Tree) → is_item_form x ≡ true → is_begun x ≡ true
+begun (Node AnImpl y) e = go (has the_default y) (has the_const y) e
+  where
+    go : (a b : Bool) → not b ≡ true → not (a && b) ≡ true
+    go true b e = e
+    go false b e = refl
+begun _ e = refl
+
+whole_stands : (y : Tree) (s : List Token) → Derives y whole_item s → is_begun (choice (item_of y)) ≡ true
+    → is_no_macro (choice (item_of y)) ≡ true
+    → (sees (all_attributes then macro_item_stands) (flat y ++ s) ≡ false)
+    × (sees (all_attributes then macro_statement_stands) (flat y ++ s) ≡ false)
+    × (sees (all_attributes then at "let") (flat y ++ s) ≡ false)
+    × (sees (all_attributes then item_stands) (flat y ++ s) ≡ true)
+whole_stands (Pair o (Pair (Called n v) (Called m z))) s d e c =
+    let r : Tree = Pair (Called n v) (Called m z) in
+    let h : ItemSeen (flat r ++ s) =
+    subst ItemSeen (sym (append_assoc (flat v) (flat z) s))
+    (visible_seen v z s d.1.0.1 (item_seen z s d.1.1.1 e c)) in (
+      behind_attributes o r macro_item_stands s false d.0 h.0,
+      behind_attributes o r macro_statement_stands s false d.0 h.1,
+      behind_attributes o r (at "let") s false d.0 h.2,
+      behind_attributes o r item_stands s true d.0 h.3,
+    )
+whole_stands (Pair o (Pair (Called n v) _)) s d e c = absurd d.1.1
+whole_stands (Pair o (Pair _ z)) s d e c = absurd d.1.0
+whole_stands (Pair o _) s d e c = absurd d.1
+whole_stands _ s d e c = absurd d
+
 item_stands_there : (y : Tree) (s : List Token) → Fits y (table AnItem) → Derives y (table AnItem) s
-    → IsItem (item_of y) → is_kept_item y ≡ true
+    → IsItem (item_of y) → is_statement_item y ≡ true
     → (sees (all_attributes then macro_item_stands) (flat y ++ s) ≡ false)
     × (sees (all_attributes then macro_statement_stands) (flat y ++ s) ≡ false)
     × (sees (all_attributes then at "let") (flat y ++ s) ≡ false)
     × (sees (all_attributes then item_stands) (flat y ++ s) ≡ true)
 unfolding table
-item_stands_there (First (Pair o (Pair (Called n v) (Called m z)))) s f d e c =
-    let r : Tree = Pair (Called n v) (Called m z) in
-    let h : ItemSeen (flat r ++ s) =
-    subst ItemSeen (sym (append_assoc (flat v) (flat z) s))
-    (visible_seen v z s d.1.1.0.1 (item_seen z s d.1.1.1.1 e.1 c)) in (
-      behind_attributes o r macro_item_stands s false d.1.0 h.0,
-      behind_attributes o r macro_statement_stands s false d.1.0 h.1,
-      behind_attributes o r (at "let") s false d.1.0 h.2,
-      behind_attributes o r item_stands s true d.1.0 h.3,
-    )
-item_stands_there (First (Pair o (Pair (Called n v) _))) s f d e c = absurd d.1.1.1
-item_stands_there (First (Pair o (Pair _ z))) s f d e c = absurd d.1.1.0
-item_stands_there (First (Pair o _)) s f d e c = absurd d.1.1
-item_stands_there (First _) s f d e c = absurd d.1
-item_stands_there (Verbatim y) s f d e c = cc c
+item_stands_there (First y) s f d e c = whole_stands y s d.1 (begun (choice (item_of y)) e.1) c
+item_stands_there (Verbatim y) s f d e c =
+    let h = both_true (is_no_macro (choice (item_of y))) (is_begun (choice (item_of y)) && ends_apart (flat y)) c in
+    whole_stands y s d.1 (both_true (is_begun (choice (item_of y))) (ends_apart (flat y)) h.1).0 h.0
 item_stands_there _ s f d e c = absurd f
 
 step_item : (x : Tree) (s : List Token) → Fits x (ref AnItem) → Ready x
@@ -267,36 +287,84 @@ abbrev item_inside : Tree → Tree
 item_inside (Second (Second (Second (First (Node k x))))) = x
 item_inside x = x
 
-kept_item : (x w : Tree) (r : List Token) → Derives x (table AnItem) r → Fits w (table AnItem)
-    → kept w ≡ normal_in Plain (kept x) → is_kept_item x ≡ true → is_kept_item w ≡ true
+kept_item : (x w : Tree) (r : List Token) → Derives (First x) (table AnItem) r → Fits w (table AnItem)
+    → kept w ≡ normal_in Plain (kept (First x)) → is_statement_item (First x) ≡ true → is_statement_item w ≡ true
 unfolding table
-kept_item (First x) (First w) r d f e h = whole_macro (First x) (First w) r d f e h
-kept_item (First x) (Verbatim w) r d f e h = cc e
-kept_item (First x) _ r d f e h = absurd f
-kept_item (Verbatim x) w r d f e h = cc h
-kept_item _ w r d f e h = absurd d
+kept_item x (First w) r d f e h = whole_macro (First x) (First w) r d f e h
+kept_item x (Verbatim w) r d f e h = cc e
+kept_item x _ r d f e h = absurd f
 
-item_printed : (k : Kind) (x w : Tree) (r : List Token) → Derives (Node k x) (ref AnItem) r
-    → is_kept_item x ≡ true → Fits w statement
-    → kept w ≡ normal_in Plain (kept (Second (Second (Second (First (Node AnItem x))))))
+-- among statements
+abbrev at_item : Tree → Tree
+at_item x = Second (Second (Second (First (Node AnItem x))))
+
+item_printed : (x w : Tree) (r : List Token) → Derives (First x) (table AnItem) r
+    → is_statement_item (First x) ≡ true → Fits w statement → kept w ≡ normal_in Plain (kept (at_item (First x)))
     → (is_statement_form w ≡ true) × (as_statement (kept w) ≡ kept w)
 unfolding held passed
-item_printed k x (Second (Second (Second (First (Node l w))))) r d n f e = (
-  kept_item x w r (subst (λ j. Derives x (table j) r) d.0 d.1)
-      (subst (λ j. Fits w (table j)) f.1.1.1.1.0 f.1.1.1.1.3)
+item_printed x (Second (Second (Second (First (Node l w))))) r d n f e = (
+  kept_item x w r d (subst (λ j. Fits w (table j)) f.1.1.1.1.0 f.1.1.1.1.3)
       (ap item_inside (subst (λ j. kept (Second (Second (Second (First (Node j w)))))
-      ≡ normal_in Plain (kept (Second (Second (Second (First (Node AnItem x))))))) f.1.1.1.1.0 e)) n,
+      ≡ normal_in Plain (kept (at_item (First x)))) f.1.1.1.1.0 e)) n,
   refl,
 )
-item_printed k x (Second (Second (Second (First _)))) r d n f e = absurd f.1.1.1.1
-item_printed k x (Second (Second (Second (Second w)))) r d n f e = let g : false ≡ true = ap is_item_place e in cc g
-item_printed k x (Second (Second (Second _))) r d n f e = absurd f.1.1.1
-item_printed k x (Second (Second (First w))) r d n f e = let g : false ≡ true = ap is_item_place e in cc g
-item_printed k x (Second (Second _)) r d n f e = absurd f.1.1
-item_printed k x (Second (First w)) r d n f e = let g : false ≡ true = ap is_item_place e in cc g
-item_printed k x (Second _) r d n f e = absurd f.1
-item_printed k x (First w) r d n f e = let g : false ≡ true = ap is_item_place e in cc g
-item_printed k x _ r d n f e = absurd f
+item_printed x (Second (Second (Second (First _)))) r d n f e = absurd f.1.1.1.1
+item_printed x (Second (Second (Second (Second w)))) r d n f e = let g : false ≡ true = ap is_item_place e in cc g
+item_printed x (Second (Second (Second _))) r d n f e = absurd f.1.1.1
+item_printed x (Second (Second (First w))) r d n f e = let g : false ≡ true = ap is_item_place e in cc g
+item_printed x (Second (Second _)) r d n f e = absurd f.1.1
+item_printed x (Second (First w)) r d n f e = let g : false ≡ true = ap is_item_place e in cc g
+item_printed x (Second _) r d n f e = absurd f.1
+item_printed x (First w) r d n f e = let g : false ≡ true = ap is_item_place e in cc g
+item_printed x _ r d n f e = absurd f
+
+-- what is printed for a statement
+abbrev Law : Position → List Token → Tree → Type 0
+Law q r x =
+    is_statement_form x ≡ true → Derives x (table AStatement) r
+    → Printed (table AStatement) (normal_in (passed AStatement q) (kept x))
+    → Printed (ref AStatement) (normal_in q (Node (held AStatement) (as_statement (kept x))))
+
+item_law : (q : Position) (x : Tree) (r : List Token) → Derives x (table AnItem) r → Law q r (at_item x)
+unfolding table held passed has_step
+item_law q (First x) r c o d i =
+    let s = item_printed x i.tree r c o i.fits i.kept_is in
+    record {
+      tree = Node AStatement i.tree;
+      fits = (refl, refl, ap flat s.1, i.fits, s.0);
+      kept_is = ap (Node AStatement) (s.1 ∙ i.kept_is);
+    }
+item_law q (Verbatim x) r c o d i =
+    record {
+      tree = Node AStatement (at_item (Verbatim x));
+      fits = (
+        refl,
+        refl,
+        refl,
+        (
+          (flat x ++ r, d.0),
+          (
+            (flat x ++ r, d.1.0),
+            (
+              (flat x ++ r, d.1.1.0),
+              (
+                (flat x ++ r, d.1.1.1.0),
+                (
+                  refl,
+                  refl,
+                  refl,
+                  (λ s. (item_stays AnItem (Node AnItem (Verbatim x)) r s refl (refl, c)).1),
+                  (refl, refl),
+                ),
+              ),
+            ),
+          ),
+        ),
+        o,
+      );
+      kept_is = refl;
+    }
+item_law q _ r c o d i = absurd c
 
 pub law_a_statement : KindLaw AStatement
 unfolding has_step held passed place_of table
@@ -313,14 +381,9 @@ law_a_statement = record { entry = λ q l. simple_law Plain statement refl; node
           kept_is = ap (Node AStatement) (s.1 ∙ i.kept_is);
         }
     go q l (Second (Second (Second (First (Node k x))))) r o d i =
-        let s =
-        item_printed k x i.tree r d.1.1.1.1 o i.fits (subst (λ j. kept i.tree
-        ≡ normal_in Plain (kept (Second (Second (Second (First (Node j x))))))) d.1.1.1.1.0 i.kept_is) in
-        record {
-          tree = Node AStatement i.tree;
-          fits = (refl, refl, ap flat s.1, i.fits, s.0);
-          kept_is = ap (Node AStatement) (s.1 ∙ i.kept_is);
-        }
+        let e = sym d.1.1.1.1.0 in
+        subst (λ j. Law q r (Second (Second (Second (First (Node j x)))))) e
+        (item_law q x r (subst (λ j. Derives x (table j) r) d.1.1.1.1.0 d.1.1.1.1.1)) o d i
     go q l (Second (Second (Second (First _)))) r o d i = cc o
     go q l (Second (Second (Second (Second x)))) r o d i = cc o
     go q l (Second (Second (Second _))) r o d i = absurd d.1.1.1

@@ -2,10 +2,11 @@
 -- semicolons, lets and items, of items all, and of arms none.
 use Rattle.std.proofs.Common.{◌≡◌, List, [], ◌∷◌, ◌++◌, refl, sym, ap, ◌∙◌, subst, inl, inr}
 use Rattle.std.specs.Prelude.{true, false, ◌&&◌, not}
-use Rattle.proc_macro2.specs.Token.{Token}
+use Rattle.proc_macro2.specs.Token.{Token, Opens, Closes, Ident, Literal, Punct}
+use Rattle.rust_leaf.specs.declared.punct.Spacing.TheVariants.{Alone as Apart, Joint}
 use Rattle.syn_grammar.specs.Kind.{Kind, AForeignItem, AStatement, ATraitItem, AnImplItem, AnItem, Arm, Arms}
 use Rattle.syn_grammar.specs.Kind.{ForeignItems, ImplItems, Items, Position, Statements, TraitItems}
-use Rattle.syn_grammar.specs.Tree.{Tree, AMark, First, Second, End, Again, Node, Pair, Verbatim, flat}
+use Rattle.syn_grammar.specs.Tree.{Tree, AMark, First, Second, End, Again, Node, Pair, Raw, Verbatim, flat}
 use Rattle.syn_grammar.specs.Part.{choice, each_turn_but_last}
 use Rattle.syn_grammar.specs.Gram.{Gram, ref, star}
 use Rattle.syn_grammar.specs.Look.{lacks, no, the_end}
@@ -16,8 +17,10 @@ use Rattle.syn_grammar.specs.Ranks.{skips}
 use Rattle.syn_grammar.specs.Table.{table}
 use Rattle.syn_grammar.specs.Derives.{Derives}
 use Rattle.syn_grammar.specs.Kept.{held, kept}
-use Rattle.syn_grammar.specs.Normal.{apart_item, passed}
-use Rattle.grammar_back.specs.Covered.{has_form_step, has_step, is_kept_item, is_known, is_statement_form}
+use Rattle.syn_grammar.specs.Normal.{apart, apart_item, passed}
+use Rattle.grammar_back.specs.Covered.{ends_apart, has_form_step, has_step, is_begun, is_known, is_no_macro}
+use Rattle.grammar_back.specs.Covered.{is_statement_form, is_statement_item, item_of}
+use Rattle.grammar_back.proofs.Choices.{both_true}
 use Rattle.grammar_back.specs.Sees.{Lacks}
 use Rattle.grammar_back.proofs.Classes.{Class, Sign}
 use Rattle.grammar_back.proofs.Begins.{Begins}
@@ -65,7 +68,7 @@ step_statements _ s f n w a = absurd f
 -- The statements that are taken are lets and items.
 each_form : (P : Tree → Type 0)
     → ((k l : Kind) (o y : Tree) → P (Second (Second (First (Pair (Node k o) (Node l y))))))
-    → ((y : Tree) → Fits y (table AnItem) → is_kept_item y ≡ true
+    → ((y : Tree) → Fits y (table AnItem) → is_statement_item y ≡ true
     → P (Second (Second (Second (First (Node AnItem y))))))
     → (x : Tree) → Fits x (table AStatement) → is_statement_form x ≡ true → P x
 unfolding table
@@ -115,15 +118,33 @@ turns_verdict : (q : Position) → VerdictLaw q
     (star (lacks the_end) a_turn)
 turns_verdict q x w r c d f e h = ap kept_if (turns_pass w f)
 
--- an item that is taken is not raw
+-- an item that is taken is not raw, or its last mark stands apart
+apart_same : (ts : List Token) → ends_apart ts ≡ true → apart ts ≡ ts
+apart_same [] e = refl
+apart_same (Punct c Joint ∷ []) e = cc e
+apart_same (Punct c Apart ∷ []) e = refl
+apart_same (Ident cs ∷ []) e = refl
+apart_same (Literal cs ∷ []) e = refl
+apart_same (Opens d ∷ []) e = refl
+apart_same (Closes d ∷ []) e = refl
+apart_same (Punct c Joint ∷ u ∷ ts) e = ap (λ us. Punct c Joint ∷ us) (apart_same (u ∷ ts) e)
+apart_same (Punct c Apart ∷ u ∷ ts) e = ap (λ us. Punct c Apart ∷ us) (apart_same (u ∷ ts) e)
+apart_same (Ident cs ∷ u ∷ ts) e = ap (λ us. Ident cs ∷ us) (apart_same (u ∷ ts) e)
+apart_same (Literal cs ∷ u ∷ ts) e = ap (λ us. Literal cs ∷ us) (apart_same (u ∷ ts) e)
+apart_same (Opens d ∷ u ∷ ts) e = ap (λ us. Opens d ∷ us) (apart_same (u ∷ ts) e)
+apart_same (Closes d ∷ u ∷ ts) e = ap (λ us. Closes d ∷ us) (apart_same (u ∷ ts) e)
+
 abbrev Stays : Tree → Type 0
 Stays x = apart_item (Second (kept (Node AStatement x))) ≡ Second (kept (Node AStatement x))
 
-item_stays : (y : Tree) → Fits y (table AnItem) → is_kept_item y ≡ true
+item_stays : (y : Tree) → Fits y (table AnItem) → is_statement_item y ≡ true
     → Stays (Second (Second (Second (First (Node AnItem y)))))
 unfolding held table
 item_stays (First y) f n = refl
-item_stays (Verbatim y) f n = cc n
+item_stays (Verbatim y) f n =
+    let h = both_true (is_no_macro (choice (item_of y))) (is_begun (choice (item_of y)) && ends_apart (flat y)) n in
+    ap (λ ts. Second (Node AStatement (Second (Second (Second (First (Node AnItem (Raw ts))))))))
+    (apart_same (flat y) (both_true (is_begun (choice (item_of y))) (ends_apart (flat y)) h.1).1)
 item_stays _ f n = absurd f
 
 statement_stays : (x : Tree) → Fits x (table AStatement) → is_statement_form x ≡ true → Stays x

@@ -1,5 +1,7 @@
 -- The kinds of which it is proved that their normal forms are read back, and the trees that hold no others.
-use Rattle.std.specs.Prelude.{ℕ, Bool, true, false, ◌&&◌, ◌||◌, not, codes, List, []}
+use Rattle.std.specs.Prelude.{ℕ, Bool, true, false, ◌&&◌, ◌||◌, not, codes, List, [], ◌∷◌}
+use Rattle.proc_macro2.specs.Token.{Token, Punct}
+use Rattle.rust_leaf.specs.declared.punct.Spacing.TheVariants.{Joint}
 use Rattle.syn_grammar.specs.Kind.{Kind, Expression, AConst, AConstTrait, AFieldValue, AFile, AForeignItem}
 use Rattle.syn_grammar.specs.Kind.{AForeignModule, AFunction, ALet, AMacro, AMacroDefinition, AModule}
 use Rattle.syn_grammar.specs.Kind.{ARestrictedTrait, AStatement, AStatic, AStruct, ATrait, ATraitItem, AType}
@@ -30,9 +32,9 @@ use Rattle.syn_grammar.specs.Kind.{UseTop, UseTree, Variant, Visibility, Where, 
 use Rattle.syn_grammar.specs.Kind.{WildPattern, WithPlus, WithoutPlus}
 use Rattle.syn_grammar.specs.Tree.{Tree, AWord, Pair, First, Second, Again, Final, More, Group, Dropped, Called}
 use Rattle.syn_grammar.specs.Tree.{Verbatim}
-use Rattle.syn_grammar.specs.Tree.{Node, Whole, Alone, Front, Back, Infix}
+use Rattle.syn_grammar.specs.Tree.{Node, Whole, Alone, Front, Back, Infix, flat}
 use Rattle.syn_grammar.specs.Words.{is_ident, same_text}
-use Rattle.syn_grammar.specs.Name.{Part, the_else}
+use Rattle.syn_grammar.specs.Name.{Part, the_const, the_default, the_else}
 use Rattle.syn_grammar.specs.Part.{choice, has}
 use Rattle.syn_grammar.specs.Kept.{is_there}
 use Rattle.syn_grammar.specs.Verdicts.{is_path_type}
@@ -241,6 +243,8 @@ unfoldable pub has_form_step : Kind → Bool
 has_form_step (Expression Plain) = true
 has_form_step ExprLit = true
 has_form_step ExprPath = true
+has_form_step ExprMacro = true
+has_form_step ExprCast = true
 has_form_step ExprContinue = true
 has_form_step ExprStruct = true
 has_form_step ExprParen = true
@@ -380,14 +384,28 @@ item_of (Pair x y) = item_of y
 item_of (Called n y) = y
 item_of x = x
 
--- Statements are lets and items so far, these but macros and raw ones.
-abbrev pub is_kept_item : Tree → Bool
-is_kept_item (Verbatim x) = false
-is_kept_item x = is_no_macro (choice (item_of x))
+-- the last token is no mark that stands directly before the next
+abbrev pub ends_apart : List Token → Bool
+ends_apart (Punct c Joint ∷ []) = false
+ends_apart (t ∷ u ∷ ts) = ends_apart (u ∷ ts)
+ends_apart _ = true
 
+-- in an impl no const stands behind default: among statements it would begin no item
+abbrev pub is_begun : Tree → Bool
+is_begun (Node AnImpl y) = not (has the_default y && has the_const y)
+is_begun _ = true
+
+-- Items among statements are no macros so far, and a raw one ends in no joint mark: before a parenthesis that was added
+-- it would be set apart.
+abbrev pub is_statement_item : Tree → Bool
+is_statement_item (Verbatim x) =
+    is_no_macro (choice (item_of x)) && (is_begun (choice (item_of x)) && ends_apart (flat x))
+is_statement_item x = is_no_macro (choice (item_of x))
+
+-- Statements are lets and such items so far.
 abbrev pub is_statement_form : Tree → Bool
 is_statement_form (Second (Second (First x))) = true
-is_statement_form (Second (Second (Second (First (Node k x))))) = is_kept_item x
+is_statement_form (Second (Second (Second (First (Node k x))))) = is_statement_item x
 is_statement_form _ = false
 
 -- what is asked of a part: a let has no else

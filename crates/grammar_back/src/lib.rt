@@ -1,6 +1,6 @@
 //! Normal forms are read back: the tokens of the normal form of a derived tree have a derived tree, of which
 //! that normal form is kept. It is proved of trees that are covered: that hold no kind whose step is not proved yet, and
-//! no raw item among statements; and where what is to be known of expressions is (`Expressions`), which the crate `read_back` proves.
+//! among statements no raw item that ends in a joint mark; and where what is to be known of expressions is (`Expressions`), which the crate `read_back` proves.
 //! There the laws stand. There is no code.
 //!
 //! In `specs/`: `After` (what may follow a kind), `Covered` (the kinds whose steps are proved, and the trees that

@@ -3,7 +3,7 @@
 -- expression in a condition, as those of if, match and while do, are covered by nothing yet. Before a closure stands no
 -- for: with attributes behind the < it would be none.
 use Rattle.std.specs.Prelude.{Bool, true, false, not, ◌&&◌, ◌||◌}
-use Rattle.syn_grammar.specs.Kind.{Kind, ExprAttributed, ExprCast, ExprClosure, ExprIf, ExprMacro, ExprMatch}
+use Rattle.syn_grammar.specs.Kind.{Kind, ExprAttributed, ExprClosure, ExprIf, ExprMatch}
 use Rattle.syn_grammar.specs.Kind.{ExprTypedClosure, ExprWhile}
 use Rattle.syn_grammar.specs.Tree.{Tree, Pair, Second, Alone, Front, Back, Infix, flat}
 use Rattle.syn_grammar.specs.Look.{sees}
@@ -14,12 +14,10 @@ use Rattle.syn_grammar.specs.Parens.{is_attributed_range}
 use Rattle.grammar_back.specs.Covered.{is_form, is_covered}
 
 abbrev pub is_more : Kind → Bool
-is_more ExprMacro = true
 is_more ExprIf = true
 is_more ExprMatch = true
 is_more ExprWhile = true
 is_more ExprAttributed = true
-is_more ExprCast = true
 is_more ExprClosure = true
 is_more ExprTypedClosure = true
 is_more k = false

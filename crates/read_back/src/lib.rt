@@ -13,7 +13,7 @@
 //! (`Wholes`), in which a number behind a dot is split as in what is held (`Split`), each form that it is split into
 //! fits (`Indices`), and each form has its operands (`Operands`). `Forms` has all that is to be known of expressions,
 //! `ReadBack` the laws of kinds, and `Positions` those of an expression where it stands, whose forms may be of more
-//! kinds than a covered tree's (`specs/Parts`): macros, casts, closures without `for`, and attributes. `Examples` has an
+//! kinds than a covered tree's (`specs/Parts`): closures without `for`, and attributes. `Examples` has an
 //! expression for each law.
 //!
 //! - `laws`: the laws.
