@@ -2,7 +2,7 @@
 use Rattle.std.proofs.Common.{◌≡◌, ℕ, zero, suc, ◌<◌, List, [], ◌∷◌, ◌++◌, length, take, drop, refl, sym, ap}
 use Rattle.std.proofs.Common.{◌∙◌, arith, append_assoc}
 use Rattle.std.proofs.lemmas.List.{append-nil, map-append}
-use Rattle.std.specs.Prelude.{true, false, not, Some}
+use Rattle.std.specs.Prelude.{true, false, not, Some, ◌&&◌}
 use Rattle.rust_map.specs.declared.span.Span.{Span}
 use Rattle.rust_leaf.specs.Leaf.{literal_text}
 use Rattle.rust_leaf.specs.Minus.{starts_with_minus}
@@ -15,6 +15,7 @@ use Rattle.syn_grammar.proofs.Splits.{neutral_raw}
 use Rattle.syn_buffer.specs.Entries.{closes_with, entry_token, laid, is_whole}
 use Rattle.syn_buffer.specs.declared.entry.Entry.{Entry}
 use Rattle.syn_buffer.specs.declared.entry.Entry.TheVariants as entry
+use Rattle.gram_look.specs.Nested.{is_nested}
 use Rattle.gram_look.specs.Tokens.{tokens}
 use Rattle.gram_look.proofs.Nested.{both, laid_any, parts, within}
 
@@ -124,3 +125,31 @@ whole_group d s n es h =
       behind = laid_any (length es) (length (drop (suc n) es)) (drop (suc n) es) q.1 (omega arith);
       tokens = split_group d s n es p.0 w;
     }
+
+-- a group at the front of nested entries
+pub record OfNested (d : Delimiter) (s : Span) (n : ℕ) (es : List Entry) : Type 0 where
+  pub within : n < length es
+  pub past : past_closing 0 (tokens es) ≡ Some (tokens (drop (suc n) es))
+  pub seeks : (c : ℕ) → past_first c 1 (tokens es) ≡ past_first c 0 (tokens (drop (suc n) es))
+  pub nested : is_nested es ≡ true
+
+pub nested_group : (d : Delimiter) (s : Span) (n : ℕ) (es : List Entry) → is_nested (entry.Open d s n ∷ es) ≡ true
+    → OfNested d s n es
+nested_group d s n es h =
+    let p = both (is_whole (take n es) && closes_with d s (drop n es)) (is_nested es) h in
+    let q = both (is_whole (take n es)) (closes_with d s (drop n es)) p.0 in
+    record {
+      within = within d s n es q.1;
+      past = past_group d s n es q.1 q.0;
+      seeks = λ c. first_behind c d s n es q.1 q.0;
+      nested = p.1;
+    }
+
+-- the same of entries that are a mark which opens a group, and others
+pub opened_nested : (d : Delimiter) (s : Span) (n : ℕ) (at es : List Entry) → at ≡ entry.Open d s n ∷ es
+    → is_nested at ≡ true → OfNested d s n es
+opened_nested d s n at es e h = nested_group d s n es (sym (ap is_nested e) ∙ h)
+
+pub opened_within : (d : Delimiter) (s : Span) (n : ℕ) (at es : List Entry) → at ≡ entry.Open d s n ∷ es
+    → is_nested at ≡ true → n < length es
+opened_within d s n at es e h = (opened_nested d s n at es e h).within

@@ -2,3 +2,4 @@ pub mod Texts
 pub mod Marks
 pub mod Nested
 pub mod Groups
+pub mod Openings

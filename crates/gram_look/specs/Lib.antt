@@ -1,4 +1,5 @@
 pub mod Tokens
 pub mod Among
 pub mod Marks
+pub mod Groups
 pub mod Nested

@@ -1,10 +1,12 @@
 //! Looking at tokens, as the table of the written grammar does.
 //!
 //! - `leaf`: words that pass.
-//! - `sign`: punctuations that stand first.
+//! - `sign`: punctuations and lifetimes that stand first.
+//! - `group`: groups that stand first.
 //! - `laws`: whole entries, and entries in which each group closes where it says.
 #![tactic(auto)]
 
+pub mod group;
 pub mod laws;
 pub mod leaf;
 pub mod sign;

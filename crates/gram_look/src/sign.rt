@@ -6,7 +6,7 @@ ghost use Rattle.gram_table.specs.Words.{sign_text};
 ghost use Rattle.proc_macro2.specs.Token as token;
 ghost use Rattle.rust_leaf.specs.Leaf.{ident_text, punct_char, punct_spacing};
 ghost use Rattle.std.specs.Prelude.{◌==◌, ◌∷◌, ◌≡◌, IfNone, IfSome};
-ghost use Rattle.syn_grammar.specs.Look.{past_marks, the_mark};
+ghost use Rattle.syn_grammar.specs.Look.{a_lifetime, past_marks, the_mark};
 
 use gram_table::word::Sign;
 use rust_leaf::ident::Ident;
@@ -80,4 +80,25 @@ fn first_ident<'a, 'e>(at: &'a [Entry<'e>]) -> Option<(&'e Ident, &'a [Entry<'e>
         Entry::Punct(_) => None,
         Entry::Literal(_) => None,
     }
+}
+
+/// What is left behind a lifetime that stands first: an apostrophe, joint, and a word.
+#[tactic(auto, using(crate::proofs::Marks::no_lifetime, crate::proofs::Marks::no_apostrophe, crate::proofs::Marks::lone_apostrophe, crate::proofs::Marks::no_word_behind, crate::proofs::Marks::is_lifetime))]
+pub fn lifetime<'a, 'e>(at: &'a [Entry<'e>]) -> Option<&'a [Entry<'e>]>
+    ensures { after (λ es. es.now) result ≡ a_lifetime (tokens at.now) }
+{
+    let Some((punct, behind)) = first_mark(at) else {
+        return None;
+    };
+    if !is_mark(punct, b'\'') {
+        return None;
+    }
+    match punct.spacing() {
+        Spacing::Joint => {}
+        Spacing::Alone => return None,
+    }
+    let Some((_, rest)) = first_ident(behind) else {
+        return None;
+    };
+    Some(rest)
 }

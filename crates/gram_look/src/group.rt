@@ -1,0 +1,96 @@
+//! Groups that stand first.
+
+ghost use Rattle.gram_look.specs.Groups.{no_opening};
+ghost use Rattle.gram_look.specs.Nested.{is_nested};
+ghost use Rattle.gram_look.specs.Tokens.{after, tokens};
+ghost use Rattle.proc_macro2.specs.Token as token;
+ghost use Rattle.std.specs.Prelude.{◌+◌, ◌<◌, ◌∷◌, ◌≡◌, IfNone, IfSome, Some, length, true, suc, drop};
+ghost use Rattle.syn_buffer.specs.Entries.{is_whole};
+ghost use Rattle.syn_grammar.specs.Look.{a_group, closes, opening, opens, past_closing};
+ghost use Rattle.proc_macro2.specs.Groups.{same_delimiter};
+
+use proc_macro2::delimiter::Delimiter;
+use syn_buffer::entry::Entry;
+
+// Whether two delimiters are one.
+fn is_same(a: Delimiter, b: Delimiter) -> bool
+    ensures { result ≡ same_delimiter a b }
+{
+    match a {
+        Delimiter::Parenthesis => match b {
+            Delimiter::Parenthesis => true,
+            Delimiter::Brace => false,
+            Delimiter::Bracket => false,
+            Delimiter::None => false,
+        },
+        Delimiter::Brace => match b {
+            Delimiter::Parenthesis => false,
+            Delimiter::Brace => true,
+            Delimiter::Bracket => false,
+            Delimiter::None => false,
+        },
+        Delimiter::Bracket => match b {
+            Delimiter::Parenthesis => false,
+            Delimiter::Brace => false,
+            Delimiter::Bracket => true,
+            Delimiter::None => false,
+        },
+        Delimiter::None => match b {
+            Delimiter::Parenthesis => false,
+            Delimiter::Brace => false,
+            Delimiter::Bracket => false,
+            Delimiter::None => true,
+        },
+    }
+}
+
+// The group that opens first: its delimiter, how many entries stand inside, and what is left behind the mark.
+#[tactic(auto, using(crate::proofs::Groups::opened_nested, crate::proofs::Groups::opened_within))]
+fn first_opening<'a, 'e>(at: &'a [Entry<'e>]) -> Option<(Delimiter, usize, &'a [Entry<'e>])>
+    requires { is_nested at.now ≡ true }
+    ensures some { IfSome result (λ r. tokens at.now ≡ token.Opens r.0 ∷ tokens r.2.now) }
+    ensures within { IfSome result (λ r. r.1 < length r.2.now) }
+    ensures past { IfSome result (λ r. past_closing 0 (tokens r.2.now) ≡ Some (tokens (drop (suc r.1) r.2.now))) }
+    ensures nested { IfSome result (λ r. is_nested r.2.now ≡ true) }
+    ensures none { IfNone result (no_opening (tokens at.now)) }
+{
+    let Some((first, rest)) = at.split_first() else {
+        return None;
+    };
+    match first {
+        Entry::Open(delimiter, _, count) => Some((*delimiter, *count, rest)),
+        Entry::Close(..) => None,
+        Entry::Ident(_) => None,
+        Entry::Punct(_) => None,
+        Entry::Literal(_) => None,
+    }
+}
+
+/// What is left behind the mark that opens such a group. Nothing is known of its inside.
+#[tactic(auto, using(crate::proofs::Openings::none_opens, crate::proofs::Openings::opens_so))]
+pub fn opens<'a, 'e>(delimiter: Delimiter, at: &'a [Entry<'e>]) -> Option<&'a [Entry<'e>]>
+    requires { is_nested at.now ≡ true }
+    ensures after { after (λ es. es.now) result ≡ opens delimiter (tokens at.now) }
+    ensures nested { IfSome result (λ es. is_nested es.now ≡ true) }
+{
+    let (found, _, rest) = first_opening(at)?;
+    if is_same(found, delimiter) {
+        Some(rest)
+    } else {
+        None
+    }
+}
+
+/// What is left behind a whole group that stands first.
+#[tactic(auto, using(crate::proofs::Openings::no_group, crate::proofs::Openings::group_so))]
+pub fn whole<'a, 'e>(delimiter: Delimiter, at: &'a [Entry<'e>]) -> Option<&'a [Entry<'e>]>
+    requires { is_nested at.now ≡ true }
+    ensures after { after (λ es. es.now) result ≡ a_group delimiter (tokens at.now) }
+{
+    let (found, count, rest) = first_opening(at)?;
+    if is_same(found, delimiter) {
+        Some(&rest[count + 1..])
+    } else {
+        None
+    }
+}
