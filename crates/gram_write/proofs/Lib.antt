@@ -4,3 +4,6 @@ pub mod Bare
 pub mod Row
 pub mod Stand
 pub mod Given
+pub mod Fits
+pub mod Begin
+pub mod Read

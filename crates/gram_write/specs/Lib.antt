@@ -1,3 +1,4 @@
 pub mod Said
 pub mod Firsts
 pub mod Plain
+pub mod Ranges

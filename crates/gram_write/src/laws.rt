@@ -4,6 +4,7 @@
 ghost use Rattle.binding_laws.specs.Bare.{bare, HasPlainRanges};
 ghost use Rattle.gram_write.specs.Firsts.{firsts_said};
 ghost use Rattle.gram_write.specs.Plain.{IsPlain};
+ghost use Rattle.gram_write.specs.Ranges.{NoRangeHasAttributes, own_position};
 ghost use Rattle.gram_write.specs.Said.{bare_impl_said, is_quiet, is_unnamed, own_said, said, said_form};
 ghost use Rattle.proc_macro2.specs.Token.{Ident, Literal, Punct, Token};
 ghost use Rattle.rust_leaf.specs.declared.punct.Spacing.TheVariants.{Alone as Apart};
@@ -13,11 +14,13 @@ ghost use Rattle.syn_grammar.specs.Forms.{front, is_range};
 ghost use Rattle.syn_grammar.specs.Gram.{ref};
 ghost use Rattle.syn_grammar.specs.Kept.{attributed, kept};
 ghost use Rattle.syn_grammar.specs.Kind.{AnImpl, AStatement, ATypeAlias, BoundsColon, Expression, ExprAttributed};
-ghost use Rattle.syn_grammar.specs.Kind.{GenericParams, Generics, Index, InStatement, Kind, LifetimeColon, Member};
+ghost use Rattle.syn_grammar.specs.Kind.{GenericParams, Generics, InCondition, Index, InStatement, Kind, LifetimeColon, Member};
 ghost use Rattle.syn_grammar.specs.Kind.{Parameter, Place, Plain, Position, Where};
+ghost use Rattle.syn_grammar.specs.Look.{sees};
 ghost use Rattle.syn_grammar.specs.Name.{Part, the_unnamed};
 ghost use Rattle.syn_grammar.specs.Normal.{formed, normal_in, passed};
 ghost use Rattle.syn_grammar.specs.Part.{has};
+ghost use Rattle.syn_grammar.specs.Say.{brace};
 ghost use Rattle.syn_grammar.specs.Table.{table};
 ghost use Rattle.syn_grammar.specs.Tidy.{is_bare_colon, is_bare_generics, is_bare_where, is_lifetime_param};
 ghost use Rattle.syn_grammar.specs.Tidy.{keeps_generics};
@@ -98,4 +101,12 @@ pub fn attributes_given()
         → is_range x ≡ false → HasPlainRanges x → Derives a (table ExprAttributed) (flat x ++ rest)
         → front InStatement (flat a ++ (flat x ++ rest)) ≡ Some ExprAttributed
         → formed InStatement [] (attributed (kept a) (kept x)) ≡ bare (attributed (kept a) (kept x)) }
+{}
+
+/// What was read is plain, in the position that its kind has by itself, if no range in it has attributes in front of it;
+/// behind a condition stands a brace.
+pub fn plain_read()
+    ensures { (k : Kind) (x : Tree) (rest : List Token) → Derives x (ref k) rest
+        → (k ≡ Expression InCondition → sees brace rest ≡ true) → NoRangeHasAttributes x
+        → IsPlain (own_position k) x }
 {}
