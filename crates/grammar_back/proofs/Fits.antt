@@ -36,7 +36,8 @@ use Rattle.syn_grammar.specs.Part.{choice, has}
 use Rattle.syn_grammar.specs.Normal.{stands_behind, formed}
 use Rattle.grammar_back.specs.After.{is_any_path, is_generic}
 use Rattle.grammar_back.specs.Covered.{front, inner, has_clear_type, has_plain_path, is_lone, has_lone_value, is_known}
-use Rattle.grammar_back.specs.Covered.{is_form, is_statement_form, is_no_macro, item_of}
+use Rattle.grammar_back.specs.Covered.{is_form, is_statement_form, is_no_macro, is_plain_macro}
+use Rattle.grammar_back.specs.Covered.{item_of}
 
 -- the test can say so
 abbrev pub CanSay : (List Token → Bool) → Bool → Type 0
@@ -249,8 +250,8 @@ IsMeant AnItem x = IsItem (item_of x)
 IsMeant ALet x = has the_else x ≡ false
 IsMeant AStatement x = is_statement_form x ≡ true
 IsMeant AForeignItem x = is_no_macro (choice (item_of x)) ≡ true
-IsMeant ATraitItem x = is_no_macro (choice (item_of x)) ≡ true
-IsMeant AnImplItem x = is_no_macro (choice (item_of x)) ≡ true
+IsMeant ATraitItem x = is_plain_macro (choice (item_of x)) ≡ true
+IsMeant AnImplItem x = is_plain_macro (choice (item_of x)) ≡ true
 IsMeant ExprField x = (has_dots (front x) ≡ true) × (has_last (back x) ≡ true)
 IsMeant ExprMethodCall x = (has_dots (front x) ≡ true) × (has_own_colons (back (back x)) ≡ true)
 IsMeant ExprAwait x = has_dots (front x) ≡ true

@@ -25,6 +25,7 @@ use Rattle.syn_grammar.specs.Derives.{Derives}
 use Rattle.syn_grammar.specs.Tidy.{moved}
 use Rattle.syn_grammar.specs.Kept.{held, kept}
 use Rattle.syn_grammar.specs.Normal.{passed, place_of, normal_in}
+use Rattle.grammar_back.proofs.MacroItems.{plain_same}
 use Rattle.grammar_back.specs.Covered.{has_step, inner, is_no_macro, item_of}
 use Rattle.grammar_back.specs.Sees.{Lacks, LacksAll}
 use Rattle.item_laws.proofs.Stays.{item_stays}
@@ -295,6 +296,7 @@ unfolding held passed
 foreign_function q y v r d f e = (
   λ b h. ap raw_if (same_has the_body Plain (table (AFunction InForeign)) y v r d f (ap inner e)) ∙ h,
   refl,
+  refl,
 )
 
 foreign_static : LawOf (SameMember InForeign) AStatic
@@ -304,6 +306,7 @@ foreign_static q y v r d f e = (
       (same_has the_type Plain (table AStatic) y v r d f (ap inner e))
       ∙ ap (λ c. refused_if (not (has the_type y)) (raw_if c))
       (same_has the_value Plain (table AStatic) y v r d f (ap inner e)) ∙ h,
+  refl,
   refl,
 )
 
@@ -337,10 +340,11 @@ alias_keeps y v r d f e h =
 
 foreign_alias : LawOf (SameMember InForeign) (ATypeAlias InForeign)
 unfolding held passed
-foreign_alias q y v r d f e = (λ b h. alias_keeps y v r d f (ap inner e) h, refl)
+foreign_alias q y v r d f e = (λ b h. alias_keeps y v r d f (ap inner e) h, refl, refl)
 
 foreign_macro : LawOf (SameMember InForeign) (ItemMacro InForeign)
-foreign_macro q y v r d f e = ((λ b h. h), refl)
+unfolding held passed table
+foreign_macro q y v r d f e = ((λ b h. h), refl, plain_same InForeign y v r d f (ap inner e))
 
 -- the part that is the form
 safety_none : (x : Tree) (ts : List Token) → Derives x (safety InForeign) ts → found the_item x ≡ None

@@ -116,7 +116,7 @@ law_definition q y v r d f e = ((λ b h. h), refl, refl, refl)
 
 law_macro : ItemLaw (ItemMacro InFile)
 unfolding held passed
-law_macro q y v r d f e = ((λ b h. h), refl, plain_same y v r d f (ap inner e), refl)
+law_macro q y v r d f e = ((λ b h. h), refl, plain_same InFile y v r d f (ap inner e), refl)
 
 law_block : ItemLaw AForeignModule
 unfolding held passed

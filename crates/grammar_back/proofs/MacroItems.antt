@@ -6,7 +6,7 @@ use Prim.Native.String.{String}
 use Rattle.proc_macro2.specs.Token.{Token, Ident}
 use Rattle.proc_macro2.specs.declared.delimiter.Delimiter.TheVariants.{Parenthesis}
 use Rattle.rust_leaf.specs.declared.punct.Spacing.{Spacing}
-use Rattle.syn_grammar.specs.Kind.{Kind, InFile, InModule, ItemMacro, Path, Plain, Position, Segments}
+use Rattle.syn_grammar.specs.Kind.{Kind, InFile, InModule, ItemMacro, Path, Place as ItemPlace, Plain, Position, Segments}
 use Rattle.syn_grammar.specs.Tree.{Tree, AMark, AWord, First, Nil, Node, Pair, Second, marks as signs, flat}
 use Rattle.syn_grammar.specs.Words.{is_ident, is_reserved, is_string, same_text}
 use Rattle.syn_grammar.specs.Look.{Look, a_group, a_quoted, an_ident, behind, first_seen, maybe, no, seen, sees, ◌or◌, ◌then◌}
@@ -103,11 +103,11 @@ keys_lack ts i =
     unseen_all form_looks key_classes ts
     ((λ us. refl, (λ us. refl, (λ us. refl, (λ us. refl, tt)))), ((λ us. refl, (λ us. refl, (λ us. refl, (λ us. refl, tt)))), ((λ us. refl, (λ us. refl, (λ us. refl, (λ us. refl, tt)))), ((λ us. refl, (λ us. refl, (λ us. refl, (λ us. refl, tt)))), ((λ us. refl, (λ us. refl, (λ us. refl, (λ us. refl, tt)))), ((λ us. refl, (λ us. refl, (λ us. refl, (λ us. refl, tt)))), ((λ us. refl, (λ us. refl, (λ us. refl, (λ us. refl, tt)))), ((λ us. refl, (λ us. refl, (λ us. refl, (λ us. refl, tt)))), ((λ us. refl, (λ us. refl, (λ us. refl, (λ us. refl, tt)))), ((λ us. refl, (λ us. refl, (λ us. refl, (λ us. refl, tt)))), ((λ us. refl, (λ us. refl, (λ us. refl, (λ us. refl, tt)))), ((λ us. refl, (λ us. refl, (λ us. refl, (λ us. refl, tt)))), ((λ us. refl, (λ us. refl, (λ us. refl, (λ us. refl, tt)))), ((λ us. refl, (λ us. refl, (λ us. refl, (λ us. refl, tt)))), ((λ us. refl, (λ us. refl, (λ us. refl, (λ us. refl, tt)))), ((λ us. refl, (λ us. refl, (λ us. refl, (λ us. refl, tt)))), ((λ us. refl, (λ us. refl, (λ us. refl, (λ us. refl, tt)))), ((λ us. refl, (λ us. refl, (λ us. refl, (λ us. refl, tt)))), ((λ us. refl, (λ us. refl, (λ us. refl, (λ us. refl, tt)))), ((λ us. refl, (λ us. refl, (λ us. refl, (λ us. refl, tt)))), ((λ us. refl, (λ us. refl, (λ us. refl, (λ us. refl, tt)))), tt))))))))))))))))))))) i
 
-macro_lacks : (ts : List Token) → IsAmong macro_classes ts → LacksAll form_looks ts
+pub macro_lacks : (ts : List Token) → IsAmong macro_classes ts → LacksAll form_looks ts
 macro_lacks ts i =
     ⊎_elim (λ h. subst (LacksAll form_looks) (sym h.3) (word_lacks h.0 h.1 h.2)) (λ h. keys_lack ts h) i
 
-macro_seen : (ts : List Token) → IsAmong macro_classes ts → sees macro_stands ts ≡ true
+pub macro_seen : (ts : List Token) → IsAmong macro_classes ts → sees macro_stands ts ≡ true
 unfolding is_reserved
 macro_seen ts i =
     told_at macro_stands true macro_classes ts (
@@ -165,31 +165,31 @@ word_path (Pair (Second _) y) r cs us d e h = absurd d.0.1
 word_path (Pair _ y) r cs us d e h = absurd d.0
 word_path _ r cs us d e h = absurd d
 
-plain_word : (y : Tree) (s : List Token) (cs : List ℕ) (us : List Token) → Derives y (table (ItemMacro InFile)) s
+plain_word : (p : ItemPlace) (y : Tree) (s : List Token) (cs : List ℕ) (us : List Token) → Derives y (table (ItemMacro p)) s
     → flat y ++ s ≡ Ident cs ∷ us → has_plain_path y ≡ true → is_other cs ≡ false
 unfolding table
-plain_word (Pair (Node k x) z) s cs us d e h =
+plain_word p (Pair (Node k x) z) s cs us d e h =
     word_path x (flat z ++ s) cs us (subst (λ j. Derives x (table j) (flat z ++ s)) d.0.0 d.0.1)
     (sym (append_assoc (flat x) (flat z) s) ∙ e) h
-plain_word (Pair _ z) s cs us d e h = absurd d.0
-plain_word _ s cs us d e h = absurd d
+plain_word p (Pair _ z) s cs us d e h = absurd d.0
+plain_word p _ s cs us d e h = absurd d
 
 -- of all that a macro's tokens begin with
-pub macro_front : (y : Tree) (s : List Token) → Derives y (table (ItemMacro InFile)) s
+pub macro_front : (p : ItemPlace) (y : Tree) (s : List Token) → Derives y (table (ItemMacro p)) s
     → Begins (ItemMacro InFile) (Node (ItemMacro InFile) y) s → has_plain_path y ≡ true
     → IsAmong macro_classes (flat y ++ s)
 unfolding skips
-macro_front y s d i h =
+macro_front p y s d i h =
     ⊎_elim (colons (TheWord (codes "self"))) (⊎_elim (colons (TheWord (codes "super"))) (⊎_elim (colons (TheWord (codes "crate"))) (⊎_elim (colons (AnyWord is_ident)) (⊎_elim (colons (TheWord (codes "Self")))
     (⊎_elim (λ j. inr (inl j)) (⊎_elim (λ j. inr (inr (inl j))) (⊎_elim (λ j. inr (inr (inr (inl j))))
     (⊎_elim (λ j. inl (
       j.0,
       j.1,
       ap (λ b. b && not (is_other j.0)) j.2
-          ∙ ap not (plain_word y s j.0 j.1 d j.3 h),
+          ∙ ap not (plain_word p y s j.0 j.1 d j.3 h),
       j.3,
     ))
-    (⊎_elim (λ j. absurd (contrary (is_other (codes "Self")) refl (plain_word y s (codes "Self") j.0 d j.1 h)))
+    (⊎_elim (λ j. absurd (contrary (is_other (codes "Self")) refl (plain_word p y s (codes "Self") j.0 d j.1 h)))
     (λ j. absurd j)))))))))) i
   where
     colons : (c : Class) → IsAt (Then 58 (58 ∷ []) c) (flat y ++ s) → IsAmong macro_classes (flat y ++ s)
@@ -240,10 +240,10 @@ path_fits (Pair (Second _) y) f = absurd f.0.1
 path_fits (Pair _ y) f = absurd f.0
 path_fits _ f = absurd f
 
-pub plain_same : (y v : Tree) (r : List Token) → Derives y (table (ItemMacro InFile)) r
-    → Fits v (table (ItemMacro InFile)) → kept v ≡ normal_in Plain (kept y) → has_plain_path v ≡ has_plain_path y
+pub plain_same : (p : ItemPlace) (y v : Tree) (r : List Token) → Derives y (table (ItemMacro p)) r
+    → Fits v (table (ItemMacro p)) → kept v ≡ normal_in Plain (kept y) → has_plain_path v ≡ has_plain_path y
 unfolding table held passed
-plain_same (Pair (Node k x) z) (Pair (Node l w) u) r d f e =
+plain_same p (Pair (Node k x) z) (Pair (Node l w) u) r d f e =
     sym (fitting l f.0.0) ∙ ap has_plain_path e ∙ reading k d.0.0
   where
     fitting : (j : Kind) → j ≡ Path InModule → has_plain_path (kept (Pair (Node j w) u)) ≡ is_plain_path w
@@ -256,10 +256,19 @@ plain_same (Pair (Node k x) z) (Pair (Node l w) u) r d f e =
     reading j h =
         subst (λ i. has_plain_path (normal_in Plain (kept (Pair (Node i x) z))) ≡ is_plain_path x) (sym h)
         (path_kept x (flat z ++ r) Plain (subst (λ i. Derives x (table i) (flat z ++ r)) d.0.0 d.0.1))
-plain_same (Pair (Node k x) z) (Pair _ u) r d f e = absurd f.0
-plain_same (Pair (Node k x) z) _ r d f e = absurd f
-plain_same (Pair _ z) v r d f e = absurd d.0
-plain_same _ v r d f e = absurd d
+plain_same p (Pair (Node k x) z) (Pair _ u) r d f e = absurd f.0
+plain_same p (Pair (Node k x) z) _ r d f e = absurd f
+plain_same p (Pair _ z) v r d f e = absurd d.0
+plain_same p _ v r d f e = absurd d
+
+-- its first word is no default
+pub no_default : (cs : List ℕ) → macro_word cs ≡ true → same_text (codes "default") cs ≡ false
+no_default cs e =
+    let a = none_or (same_text (codes "Self") cs) (same_text (codes "union") cs || (same_text (codes "auto") cs
+    || same_text (codes "default") cs))
+    (is_false (is_other cs) (both_true (is_ident cs) (not (is_other cs)) e).1) in
+    let b = none_or (same_text (codes "union") cs) (same_text (codes "auto") cs || same_text (codes "default") cs) a.1 in
+    (none_or (same_text (codes "auto") cs) (same_text (codes "default") cs) b.1).1
 
 -- as they are listed
 abbrev pub listed_classes : List Class
@@ -268,3 +277,8 @@ listed_classes = AnyWord is_ident ∷ key_classes
 pub macro_listed : (ts : List Token) → IsAmong macro_classes ts → IsAmong listed_classes ts
 macro_listed ts i =
     ⊎_elim (λ h. inl (h.0, h.1, (both_true (is_ident h.0) (not (is_other h.0)) h.2).0, h.3)) (λ h. inr h) i
+
+pub with_listed : (cs : List Class) (ts : List Token) → IsAmong (cs ++ macro_classes) ts
+    → IsAmong (cs ++ listed_classes) ts
+with_listed [] ts i = macro_listed ts i
+with_listed (c ∷ cs) ts i = ⊎_elim (λ j. inl j) (λ j. inr (with_listed cs ts j)) i

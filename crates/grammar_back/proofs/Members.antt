@@ -1,7 +1,7 @@
 -- The steps and the laws of items in traits and impls: default may stand before their form too.
 use Rattle.std.proofs.Common.{◌≡◌, List, [], ◌∷◌, ◌++◌, refl, sym, ap, ◌∙◌, subst, suc, inl, inr}
 use Rattle.std.specs.Prelude.{Bool, true, false, ◌||◌, not, cond, codes, Option, Some, None, ℕ}
-use Rattle.proc_macro2.specs.Token.{Token}
+use Rattle.proc_macro2.specs.Token.{Token, Ident}
 use Rattle.syn_grammar.specs.Kind.{Kind, AConst, AFunction, ATraitItem, ATypeAlias, AnImplItem, Body, InFile, InImpl}
 use Rattle.syn_grammar.specs.Kind.{InTrait, ItemMacro, OuterAttributes, Place, Plain, Signature, Visibility}
 use Rattle.syn_grammar.specs.Name.{Part, same_part, the_body, the_default, the_generics, the_item, the_visibility}
@@ -21,11 +21,19 @@ use Rattle.syn_grammar.specs.Kept.{held, kept}
 use Rattle.syn_grammar.specs.Normal.{passed, place_of, normal_in}
 use Rattle.item_laws.proofs.Places.{place_const, place_function}
 use Rattle.item_laws.proofs.Readers.{flat_choice}
-use Rattle.grammar_back.specs.Covered.{has_step, inner, is_no_macro, item_of}
+use Rattle.grammar_back.specs.Covered.{has_step, inner, is_no_macro, is_other, is_plain_macro, item_of}
+use Rattle.grammar_back.proofs.Keywords.{reserved_pub}
+use Rattle.grammar_back.proofs.MacroItems.{a_word_lacked, macro_classes, macro_front, macro_lacks, macro_seen}
+use Rattle.grammar_back.proofs.MacroItems.{no_default, plain_same, with_listed}
+use Rattle.grammar_back.proofs.Choices.{both_true}
+use Rattle.grammar_back.proofs.Sights.{ident_not}
+use Rattle.item_laws.proofs.Places.{none_then}
+use Rattle.syn_grammar.specs.Words.{is_ident, same_text}
+use Rattle.proc_macro2.specs.declared.delimiter.Delimiter.TheVariants.{Bracket}
 use Rattle.grammar_back.specs.Sees.{Lacks, LacksAll}
 use Rattle.item_laws.proofs.Stays.{item_stays}
 use Rattle.grammar_back.proofs.RawItems.{raw_front}
-use Rattle.grammar_back.proofs.Classes.{Class, TheWord, among_left, among_right, others}
+use Rattle.grammar_back.proofs.Classes.{Class, IsAmong, Opening, TheWord, Then, among_left, among_right}
 use Rattle.grammar_back.proofs.Starts.{starts}
 use Rattle.grammar_back.proofs.Fits.{Fits, IsMeant, own_place, place}
 use Rattle.grammar_back.proofs.Readies.{Ready, Step}
@@ -103,7 +111,7 @@ not_macro p (Node k x) f e =
 not_macro p _ f e = absurd f
 
 abbrev FormEdge : Edge
-FormEdge x s = is_no_macro (choice x) ≡ true
+FormEdge x s = is_plain_macro (choice x) ≡ true
 
 abbrev const_class : List Class
 const_class = TheWord (codes "const") ∷ []
@@ -117,26 +125,39 @@ module _ (p : Place) (cs : List Class) (functions : Found (ref (AFunction p)) []
     (signed : (x : Tree) (r : List Token) → Derives x (table (AFunction p)) r
     → sees (signature_stands p) (flat x ++ r) ≡ true)
     (unsigned : (x : Tree) (r : List Token) → Derives x (ref AConst) r → Lacks (signature_stands p) (flat x ++ r))
-    (no_type : Told (signature_stands p) false type_class) where
+    (no_type : Told (signature_stands p) false type_class)
+    (macros : Found (ref (ItemMacro p)) [] (starts (ItemMacro InFile)))
+    (no_signature : (ts : List Token) → IsAmong macro_classes ts → Lacks (signature_stands p) ts) where
   function_seen : (x : Tree) (r : List Token) → Derives x (ref (AFunction p)) r
       → sees (signature_stands p) (flat x ++ r) ≡ true
   function_seen (Node k x) r d = signed x r (subst (λ j. Derives x (table j) r) d.0 d.1)
   function_seen _ r d = absurd d
 
-  fine_member : Fine (member_form p) FormEdge (At (cs ++ (const_class ++ type_class)))
+  macro_begins : (x : Tree) (s : List Token) → Fits x (ref (ItemMacro p)) → Ready x → is_plain_macro (choice x) ≡ true
+      → Derives x (ref (ItemMacro p)) s × IsAmong macro_classes (flat x ++ s)
+  unfolding table skips
+  macro_begins (Node k y) s f w e =
+      let (d, i) = macros.fine.by (Node k y) s f w tt in (
+        d,
+        macro_front p y s (subst (λ j. Derives y (table j) s) d.0 d.1) i
+            (subst (λ j. is_plain_macro (Node j y) ≡ true) f.0 e),
+      )
+  macro_begins _ s f w e = absurd f
+
+  fine_member : Fine (member_form p) FormEdge (At (cs ++ (const_class ++ (type_class ++ macro_classes))))
   unfolding skips
   fine_member = record { by = go }
     where
       go : (x : Tree) (s : List Token) → Fits x (member_form p) → Ready x → FormEdge x s
-          → Derives x (member_form p) s × At (cs ++ (const_class ++ type_class)) x s
+          → Derives x (member_form p) s × At (cs ++ (const_class ++ (type_class ++ macro_classes))) x s
       go (First x) s f w e =
           let (d, i) = functions.fine.by x s f.1 w tt in
-          ((function_seen x s d, d), among_left cs (const_class ++ type_class) (flat x ++ s) i)
+          ((function_seen x s d, d), among_left cs (const_class ++ (type_class ++ macro_classes)) (flat x ++ s) i)
       go (Second (First x)) s f w e =
           let (d, i) = (found_ref AConst refl).fine.by x s f.1.1 w tt in (
             (unsigned x s d, (told_at (at "const") true const_class (flat x ++ s) (λ us. refl, tt) i, d)),
-            among_right cs (const_class ++ type_class) (flat x ++ s)
-                (among_left const_class type_class (flat x ++ s) i),
+            among_right cs (const_class ++ (type_class ++ macro_classes)) (flat x ++ s)
+                (among_left const_class (type_class ++ macro_classes) (flat x ++ s) i),
           )
       go (Second (Second (First x))) s f w e =
           let (d, i) = types.fine.by x s f.1.1.1 w tt in (
@@ -147,10 +168,18 @@ module _ (p : Place) (cs : List Class) (functions : Found (ref (AFunction p)) []
                 (told_at (at "type") true type_class (flat x ++ s) (λ us. refl, tt) i, d),
               ),
             ),
-            among_right cs (const_class ++ type_class) (flat x ++ s)
-                (among_right const_class type_class (flat x ++ s) i),
+            among_right cs (const_class ++ (type_class ++ macro_classes)) (flat x ++ s)
+                (among_right const_class (type_class ++ macro_classes) (flat x ++ s)
+                (among_left type_class macro_classes (flat x ++ s) i)),
           )
-      go (Second (Second (Second (First x)))) s f w e = absurd (not_macro p x f.1.1.1.1 e)
+      go (Second (Second (Second (First x)))) s f w e =
+          let (d, i) = macro_begins x s f.1.1.1.1 w e in
+          let l = macro_lacks (flat x ++ s) i in (
+            (no_signature (flat x ++ s) i, (l.1.1.1.1.1.1.1.0, (l.1.1.1.1.1.1.1.1.1.1.1.1.1.0, (macro_seen (flat x ++ s) i, d)))),
+            among_right cs (const_class ++ (type_class ++ macro_classes)) (flat x ++ s)
+                (among_right const_class (type_class ++ macro_classes) (flat x ++ s)
+                (among_right type_class macro_classes (flat x ++ s) i)),
+          )
       go (Second (Second (Second (Second x)))) s f w e = absurd (none_never x f.1.1.1.1)
       go (Second (Second (Second _))) s f w e = absurd f.1.1.1
       go (Second (Second _)) s f w e = absurd f.1.1
@@ -163,7 +192,7 @@ whole_member p =
     ref OuterAttributes ▸ the_visibility ∶ ref Visibility ▸ default_there p ▸ the_item ∶ member_form p
 
 abbrev MemberEdge : Edge
-MemberEdge x s = is_no_macro (choice (item_of x)) ≡ true
+MemberEdge x s = is_plain_macro (choice (item_of x)) ≡ true
 
 abbrev function_class : List Class
 function_class =
@@ -171,10 +200,16 @@ function_class =
     ∷ TheWord (codes "fn") ∷ []
 
 abbrev form_class : List Class
-form_class = function_class ++ (const_class ++ type_class)
+form_class = function_class ++ (const_class ++ (type_class ++ macro_classes))
 
 abbrev default_class : List Class
 default_class = TheWord (codes "default") ∷ []
+
+-- in front, but of a macro
+abbrev front_classes : List Class
+front_classes =
+    Then 35 [] (Opening Bracket) ∷ TheWord (codes "pub")
+    ∷ (default_class ++ (function_class ++ (const_class ++ type_class)))
 
 -- in an impl no ! follows it
 default_seen : (x : Tree) (s : List Token) → Fits x (the_default ∶ keyword "default") → Lacks (marks "!") s
@@ -198,7 +233,7 @@ maybe_default = record { fine = record { by = go } }
     go (Second _) s f w a = absurd f.1
     go _ s f w a = absurd f
 
-fine_trait_item : Fine (whole_member InTrait) MemberEdge (At (others (starts ATraitItem)))
+fine_trait_item : Fine (whole_member InTrait) MemberEdge (At (front_classes ++ macro_classes))
 unfolding skips
 fine_trait_item =
     maybe_ahead MemberEdge (TheWord (codes "pub") ∷ default_class ++ form_class) (maybe_ref OuterAttributes refl)
@@ -207,10 +242,12 @@ fine_trait_item =
     (found_optional (at "default") (found_called (found_text "default")) (λ us. refl, tt))
     (fine_called {A = MemberEdge} {F = At form_class}
     (fine_member InTrait function_class (found_ref (AFunction InTrait) refl) (found_ref (ATypeAlias InTrait) refl)
-    signed_trait const_unsigned (λ us. refl, tt))) ((search), tt) (λ x y s c. c)) ((search), ((search), tt))
+    signed_trait const_unsigned (λ us. refl, tt) (found_ref (ItemMacro InTrait) refl) (λ ts i. (macro_lacks ts i).0)))
+    (((λ us. refl), ((λ us. refl), ((λ us. refl), ((λ us. refl), ((λ us. refl), ((λ us. refl), ((λ us. refl), ((λ cs h us. a_word_lacked (same_text (codes "default") cs) us (no_default cs h)), ((λ us. refl), ((λ us. refl), ((λ us. refl), ((λ us. refl), tt)))))))))))), tt)
+    (λ x y s c. c)) (((λ us. refl), ((λ us. refl), ((λ us. refl), ((λ us. refl), ((λ us. refl), ((λ us. refl), ((λ us. refl), ((λ us. refl), ((λ cs h us. a_word_lacked (same_text (codes "pub") cs) us (ident_not (codes "pub") cs reserved_pub (both_true (is_ident cs) (not (is_other cs)) h).0)), ((λ us. refl), ((λ us. refl), ((λ us. refl), ((λ us. refl), tt))))))))))))), ((search), tt))
     (λ x y s c. c)) ((search), tt) (λ x y s c. c)
 
-fine_impl_item : Fine (whole_member InImpl) MemberEdge (At (others (starts AnImplItem)))
+fine_impl_item : Fine (whole_member InImpl) MemberEdge (At (front_classes ++ macro_classes))
 unfolding skips
 fine_impl_item =
     maybe_ahead MemberEdge (TheWord (codes "pub") ∷ default_class ++ form_class) (maybe_ref OuterAttributes refl)
@@ -218,7 +255,8 @@ fine_impl_item =
     (maybe_ahead MemberEdge form_class maybe_default
     (fine_called {A = MemberEdge} {F = At form_class}
     (fine_member InImpl function_class (found_ref (AFunction InImpl) refl) (found_ref (ATypeAlias InImpl) refl)
-    signed_impl const_unsigned (λ us. refl, tt))) ((search), ((search), tt)) (λ x y s c. c)) ((search), ((search), tt))
+    signed_impl const_unsigned (λ us. refl, tt) (found_ref (ItemMacro InImpl) refl) (λ ts i. (macro_lacks ts i).0)))
+    (((λ us. refl), ((λ us. refl), ((λ us. refl), ((λ us. refl), ((λ us. refl), ((λ us. refl), ((λ us. refl), ((λ cs h us. none_then (at "default") (no (marks "!")) (Ident cs ∷ us) (a_word_lacked (same_text (codes "default") cs) us (no_default cs h))), ((λ us. refl), ((λ us. refl), ((λ us. refl), ((λ us. refl), tt)))))))))))), ((search), tt)) (λ x y s c. c)) (((λ us. refl), ((λ us. refl), ((λ us. refl), ((λ us. refl), ((λ us. refl), ((λ us. refl), ((λ us. refl), ((λ us. refl), ((λ cs h us. a_word_lacked (same_text (codes "pub") cs) us (ident_not (codes "pub") cs reserved_pub (both_true (is_ident cs) (not (is_other cs)) h).0)), ((λ us. refl), ((λ us. refl), ((λ us. refl), ((λ us. refl), tt))))))))))))), ((search), tt))
     (λ x y s c. c)) ((search), tt) (λ x y s c. c)
 
 pub step_a_trait_item : Step ATraitItem
@@ -227,7 +265,8 @@ step_a_trait_item =
     meant_step ATraitItem refl refl
     (fine_weaker (λ x s. LacksAll [] s × IsMeant ATraitItem x) (At (starts ATraitItem))
     (fine_raw_or {A = MemberEdge} {F = At (starts ATraitItem)}
-    (fine_weaker MemberEdge (At (starts ATraitItem)) fine_trait_item (λ x s c. c) (λ x s i c. inr i))
+    (fine_weaker MemberEdge (At (starts ATraitItem)) fine_trait_item (λ x s c. c)
+    (λ x s i c. inr (with_listed front_classes (flat x ++ s) i)))
     (λ x s d. inl (raw_front (item_verdict InTrait) (default_there InTrait ▸ the_item ∶ member_form InTrait) (search) x s d))) (λ x s c. c.1)
     (λ x s i c. i))
 
@@ -237,7 +276,8 @@ step_an_impl_item =
     meant_step AnImplItem refl refl
     (fine_weaker (λ x s. LacksAll [] s × IsMeant AnImplItem x) (At (starts AnImplItem))
     (fine_raw_or {A = MemberEdge} {F = At (starts AnImplItem)}
-    (fine_weaker MemberEdge (At (starts AnImplItem)) fine_impl_item (λ x s c. c) (λ x s i c. inr i))
+    (fine_weaker MemberEdge (At (starts AnImplItem)) fine_impl_item (λ x s c. c)
+    (λ x s i c. inr (with_listed front_classes (flat x ++ s) i)))
     (λ x s d. inl (raw_front (item_verdict InImpl) (default_there InImpl ▸ the_item ∶ member_form InImpl) (search) x s d))) (λ x s c. c.1)
     (λ x s i c. i))
 
@@ -245,9 +285,10 @@ step_an_impl_item =
 abbrev pub SameMember : Place → Tree → Tree → Type 0
 SameMember p x w =
     ((b : Bool) → form_in p b x ≡ Keep → form_in p b w ≡ Keep) × (is_no_macro w ≡ is_no_macro x)
+    × (is_plain_macro w ≡ is_plain_macro x)
 
 trait_function : LawOf (SameMember InTrait) (AFunction InTrait)
-trait_function q y v r d f e = ((λ b h. h), refl)
+trait_function q y v r d f e = ((λ b h. h), refl, refl)
 
 trait_constant : LawOf (SameMember InTrait) AConst
 unfolding held passed
@@ -256,31 +297,35 @@ trait_constant q y v r d f e = (
       let j = constant_parts y v r d f (ap inner e) in
       raw_none b (is_generic (the the_generics v)) (is_where (the the_where v)) i.0 (j.1 i.1) (j.2 i.2),
   refl,
+  refl,
 )
 
 trait_alias : LawOf (SameMember InTrait) (ATypeAlias InTrait)
-trait_alias q y v r d f e = ((λ b h. h), refl)
+trait_alias q y v r d f e = ((λ b h. h), refl, refl)
 
 trait_macro : LawOf (SameMember InTrait) (ItemMacro InTrait)
-trait_macro q y v r d f e = ((λ b h. h), refl)
+unfolding held passed table
+trait_macro q y v r d f e = ((λ b h. h), refl, plain_same InTrait y v r d f (ap inner e))
 
 impl_function : LawOf (SameMember InImpl) (AFunction InImpl)
 unfolding held passed
 impl_function q y v r d f e = (
   λ b h. ap (λ c. raw_if (not c)) (same_has the_body Plain (table (AFunction InImpl)) y v r d f (ap inner e)) ∙ h,
   refl,
+  refl,
 )
 
 impl_constant : LawOf (SameMember InImpl) AConst
 unfolding held passed
-impl_constant q y v r d f e = (λ b h. constant_stays y v r d f (ap inner e) h, refl)
+impl_constant q y v r d f e = (λ b h. constant_stays y v r d f (ap inner e) h, refl, refl)
 
 impl_alias : LawOf (SameMember InImpl) (ATypeAlias InImpl)
 unfolding held passed
-impl_alias q y v r d f e = (λ b h. alias_stays InImpl y v r d f (ap inner e) h, refl)
+impl_alias q y v r d f e = (λ b h. alias_stays InImpl y v r d f (ap inner e) h, refl, refl)
 
 impl_macro : LawOf (SameMember InImpl) (ItemMacro InImpl)
-impl_macro q y v r d f e = ((λ b h. h), refl)
+unfolding held passed table
+impl_macro q y v r d f e = ((λ b h. h), refl, plain_same InImpl y v r d f (ap inner e))
 
 -- the parts of such an item
 item_part : (d y : Tree) → has the_item d ≡ false → or_nil (or_else (found the_item d) (Some y)) ≡ y
@@ -318,7 +363,7 @@ its_form x = x
 abbrev MemberLaw : Place → Tree → Tree → Type 0
 MemberLaw p x w =
     (item_verdict p x ≡ Keep → item_verdict p w ≡ Keep)
-    × (is_no_macro (choice (item_of w)) ≡ is_no_macro (choice (item_of x)))
+    × (is_plain_macro (choice (item_of w)) ≡ is_plain_macro (choice (item_of x)))
 
 module _ (p : Place) (marks_are : (x : Tree) → marked p x ≡ (is_public (the the_visibility x) || has the_default x))
     (no_item : lacks_part the_item (default_there p) ≡ true) (each : EachOf (SameMember p) (member_form p)) where
@@ -344,7 +389,7 @@ module _ (p : Place) (marks_are : (x : Tree) → marked p x ≡ (is_public (the 
             ∙ ap (λ t. form_in p (marked p x) (choice t)) (the_item_is l a i u b j z f.1.0.0 f.1.1.1.0 lacks_b)
             ∙ s.0 (marked p x) (sym (ap (λ t. form_in p (marked p x) (choice t))
             (the_item_is k o n v c m y d.1.0.0 d.1.1.1.0 lacks_c)) ∙ h),
-        s.1,
+        s.2,
       )
   member_law (Pair (Node k o) (Pair (Called n v) (Pair c (Called m y))))
       (Pair (Node l a) (Pair (Called i u) (Pair b _))) r d f e = absurd f.1.1.1
@@ -364,7 +409,7 @@ module _ (p : Place) (marks_are : (x : Tree) → marked p x ≡ (is_public (the 
 
   pub member_meant : (x w : Tree) (r : List Token) → Derives x (judged (item_verdict p) (whole_member p)) r
       → Fits w (judged (item_verdict p) (whole_member p)) → kept w ≡ normal_in Plain (kept x)
-      → is_no_macro (choice (item_of x)) ≡ true → is_no_macro (choice (item_of w)) ≡ true
+      → is_plain_macro (choice (item_of x)) ≡ true → is_plain_macro (choice (item_of w)) ≡ true
   member_meant (First x) (First w) r d f e h = (member_law x w r d.1 f.1 (ap inside e)).1 ∙ h
     where
       inside : Tree → Tree

@@ -483,10 +483,14 @@ starts ForeignItems = RawFront ∷ Then 35 [] (Opening Bracket) ∷ TheWord (cod
     (codes "type") ∷ []
 starts TraitItems = RawFront ∷ Then 35 [] (Opening Bracket) ∷ TheWord (codes "pub") ∷ TheWord (codes "default") ∷
     TheWord (codes "const") ∷ TheWord (codes "async") ∷ TheWord (codes "unsafe") ∷ TheWord (codes "extern") ∷ TheWord
-    (codes "fn") ∷ TheWord (codes "const") ∷ TheWord (codes "type") ∷ []
+    (codes "fn") ∷ TheWord (codes "const") ∷ TheWord (codes "type") ∷
+    AnyWord is_ident ∷ TheWord (codes "self") ∷ TheWord (codes "super") ∷ TheWord (codes "crate") ∷ Sign 58
+    (58 ∷ []) ∷ []
 starts ImplItems = RawFront ∷ Then 35 [] (Opening Bracket) ∷ TheWord (codes "pub") ∷ TheWord (codes "default") ∷
     TheWord (codes "const") ∷ TheWord (codes "async") ∷ TheWord (codes "unsafe") ∷ TheWord (codes "extern") ∷ TheWord
-    (codes "fn") ∷ TheWord (codes "const") ∷ TheWord (codes "type") ∷ []
+    (codes "fn") ∷ TheWord (codes "const") ∷ TheWord (codes "type") ∷
+    AnyWord is_ident ∷ TheWord (codes "self") ∷ TheWord (codes "super") ∷ TheWord (codes "crate") ∷ Sign 58
+    (58 ∷ []) ∷ []
 starts AModule = TheWord (codes "unsafe") ∷ TheWord (codes "mod") ∷ []
 starts AForeignModule = TheWord (codes "unsafe") ∷ TheWord (codes "extern") ∷ []
 starts AMacroDefinition = TheWord (codes "macro") ∷ []
@@ -507,10 +511,14 @@ starts AForeignItem = RawFront ∷ Then 35 [] (Opening Bracket) ∷ TheWord (cod
     (codes "type") ∷ []
 starts ATraitItem = RawFront ∷ Then 35 [] (Opening Bracket) ∷ TheWord (codes "pub") ∷ TheWord (codes "default") ∷
     TheWord (codes "const") ∷ TheWord (codes "async") ∷ TheWord (codes "unsafe") ∷ TheWord (codes "extern") ∷ TheWord
-    (codes "fn") ∷ TheWord (codes "const") ∷ TheWord (codes "type") ∷ []
+    (codes "fn") ∷ TheWord (codes "const") ∷ TheWord (codes "type") ∷
+    AnyWord is_ident ∷ TheWord (codes "self") ∷ TheWord (codes "super") ∷ TheWord (codes "crate") ∷ Sign 58
+    (58 ∷ []) ∷ []
 starts AnImplItem = RawFront ∷ Then 35 [] (Opening Bracket) ∷ TheWord (codes "pub") ∷ TheWord (codes "default") ∷
     TheWord (codes "const") ∷ TheWord (codes "async") ∷ TheWord (codes "unsafe") ∷ TheWord (codes "extern") ∷ TheWord
-    (codes "fn") ∷ TheWord (codes "const") ∷ TheWord (codes "type") ∷ []
+    (codes "fn") ∷ TheWord (codes "const") ∷ TheWord (codes "type") ∷
+    AnyWord is_ident ∷ TheWord (codes "self") ∷ TheWord (codes "super") ∷ TheWord (codes "crate") ∷ Sign 58
+    (58 ∷ []) ∷ []
 starts AFile = Then 35 [] (Sign 33 []) ∷ RawFront ∷ Then 35 [] (Opening Bracket) ∷ TheWord (codes "pub") ∷ TheWord
     (codes "const") ∷ TheWord (codes "async") ∷ TheWord (codes "unsafe") ∷ TheWord (codes "extern") ∷ TheWord
     (codes "fn") ∷ TheWord (codes "use") ∷ TheWord (codes "static") ∷ TheWord (codes "mod") ∷ TheWord (codes "type")

@@ -348,8 +348,8 @@ has_own_trait (First (Pair d (Pair c (Pair u (Pair i (Pair g (Pair p (Pair (Call
     not (is_there f) || is_path_type t
 has_own_trait _ = true
 
--- The path of a macro among items begins with ::, or with a word that is none of these. In extern blocks, in traits,
--- in impls and among statements there are no macros so far.
+-- The path of a macro among items begins with ::, or with a word that is none of these. In extern blocks and among
+-- statements there are no macros so far.
 abbrev pub is_other : List ℕ → Bool
 is_other cs =
     same_text (codes "Self") cs
@@ -423,8 +423,8 @@ is_taken AnItem x = is_plain_macro (choice (item_of x))
 is_taken ALet x = not (has the_else x)
 is_taken AStatement x = is_statement_form x
 is_taken AForeignItem x = is_no_macro (choice (item_of x))
-is_taken ATraitItem x = is_no_macro (choice (item_of x))
-is_taken AnImplItem x = is_no_macro (choice (item_of x))
+is_taken ATraitItem x = is_plain_macro (choice (item_of x))
+is_taken AnImplItem x = is_plain_macro (choice (item_of x))
 is_taken k x = true
 
 abbrev pub is_covered : Tree → Bool
