@@ -1,0 +1,26 @@
+-- What is made of what was read is what the run makes of what it reads.
+use Rattle.std.proofs.Common.{◌≡◌, ℕ, List, [], ◌∷◌, refl, sym, ap, ◌∙◌}
+use Rattle.std.specs.Prelude.{Result, Ok, Err}
+use Rattle.std.proofs.lemmas.Result.{err_from_is_err_and}
+use Rattle.proc_macro2.specs.Token.{Token}
+use Rattle.syn_buffer.specs.declared.entry.Entry.{Entry}
+use Rattle.syn_grammar.specs.Tree.{Tree}
+use Rattle.syn_grammar.specs.Run.{Out, Late, Refused, Got, ◌>>=◌, wrap}
+use Rattle.gram_run.specs.Answers.{Fails, Gives, tokens}
+use Rattle.gram_run.specs.declared.refusal.Refusal.{Refusal}
+use Rattle.gram_run.specs.declared.refusal.Refusal.TheVariants as refusals
+
+-- a refusal goes up
+pub fails_on : (e : Refusal) (o : Out) (f : Tree → List Token → Out) → Fails e o → Fails e (o >>= f)
+fails_on refusals.Memory o f h = tt
+fails_on refusals.Late o f h = ap (λ o. o >>= f) h
+fails_on (refusals.Syntax w) o f h = ap (λ o. o >>= f) h
+
+-- one run is as good as another that is the same
+pub fails_as : (e : Refusal) (o p : Out) → p ≡ o → Fails e o → Fails e p
+fails_as refusals.Memory o p s h = tt
+fails_as refusals.Late o p s h = s ∙ h
+fails_as (refusals.Syntax w) o p s h = s ∙ h
+
+pub got_on : (o : Out) (f : Tree → List Token → Out) (x : Tree) (us : List Token) → o ≡ Got x us → (o >>= f) ≡ f x us
+got_on o f x us h = ap (λ o. o >>= f) h

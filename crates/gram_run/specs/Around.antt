@@ -1,0 +1,15 @@
+-- What is made of a tree that was read.
+use Rattle.syn_grammar.specs.Tree as t
+use Rattle.syn_grammar.specs.Tree.{Tree}
+use Rattle.gram_table.specs.Kinds.{kind_of}
+use Rattle.gram_table.specs.Parts.{part_of}
+use Rattle.gram_run.specs.declared.around.Around.{Around}
+use Rattle.gram_run.specs.declared.around.Around.TheVariants as arounds
+
+abbrev pub around_of : Around → Tree → Tree
+around_of arounds.First x = t.First x
+around_of arounds.Second x = t.Second x
+around_of arounds.Dropped x = t.Dropped x
+around_of (arounds.Called p) x = t.Called (part_of p) x
+around_of (arounds.Node k) x = t.Node (kind_of k) x
+around_of arounds.Whole x = t.Whole x

@@ -1,0 +1,62 @@
+//! What is made of a tree that was read.
+
+ghost use Rattle.gram_run.specs.Answers.{Gives};
+ghost use Rattle.gram_run.specs.Around.{around_of};
+ghost use Rattle.std.specs.Prelude.{◌≡◌, IfOk, IsTrue};
+ghost use Rattle.syn_buffer.specs.Entries.{is_whole};
+ghost use Rattle.syn_grammar.specs.Run.{Out, wrap};
+
+use crate::refusal::Refusal;
+use gram_table::kind::Kind;
+use gram_table::part::Part;
+use gram_tree::made;
+use gram_tree::tree::Tree;
+use std::alloc::{AllocError, Global};
+use syn_buffer::entry::Entry;
+
+/// What stands around a tree.
+#[derive(Clone, Copy)]
+pub(crate) enum Around {
+    /// It is the first of a choice.
+    First,
+    /// It is the second of a choice.
+    Second,
+    /// It is forgotten.
+    Dropped,
+    /// It is a part, by its name.
+    Called(Part),
+    /// It is a node of a kind.
+    Node(Kind),
+    /// It is an expression.
+    Whole,
+}
+
+// The tree with that around it.
+fn surrounded<'a>(alloc: Global, around: Around, tree: Tree<'a>) -> Result<Tree<'a>, AllocError>
+    ensures { IfOk result (λ x. x ≡ around_of around tree.entry) }
+{
+    match around {
+        Around::First => made::first(alloc, tree),
+        Around::Second => made::second(alloc, tree),
+        Around::Dropped => made::dropped(alloc, tree),
+        Around::Called(part) => made::called(alloc, part, tree),
+        Around::Node(kind) => made::node(alloc, kind, tree),
+        Around::Whole => made::whole(alloc, tree),
+    }
+}
+
+/// What was read, with that around it.
+
+pub(crate) fn surround<'a>(
+    alloc: Global,
+    around: Around,
+    inner: Result<(Tree<'a>, &'a [Entry<'a>]), Refusal>,
+) -> Result<(Tree<'a>, &'a [Entry<'a>]), Refusal>
+    requires { IfOk inner (λ x. IsTrue (is_whole x.1.now)) }
+    ensures answer { (o : Out) → Gives (λ x. x.0) (λ x. x.1.now) inner.entry o
+        → Gives (λ x. x.0) (λ x. x.1.now) result (wrap (around_of around) o) }
+    ensures whole { IfOk result (λ x. IsTrue (is_whole x.1.now)) }
+{
+    let (tree, rest) = inner?;
+    Ok((surrounded(alloc, around, tree)?, rest))
+}

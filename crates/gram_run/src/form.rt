@@ -1,0 +1,43 @@
+//! Forms of expressions, made of what was read of them.
+
+ghost use Rattle.gram_run.specs.Operands.{made_of};
+ghost use Rattle.gram_table.specs.Kinds.{kind_of};
+ghost use Rattle.std.specs.Prelude.{◌≡◌, IfOk};
+ghost use Rattle.syn_grammar.specs.Tree.{Alone, Back, Front, Infix};
+
+use gram_table::kind::Kind;
+use gram_tree::made;
+use gram_tree::tree::Tree;
+use std::alloc::{AllocError, Global};
+
+/// The form that begins with its own part.
+pub(crate) fn begun<'a>(
+    alloc: Global,
+    kind: Kind,
+    own: Tree<'a>,
+    right: Option<Tree<'a>>,
+) -> Result<Tree<'a>, AllocError>
+    ensures { IfOk result (λ x. x ≡ made_of (Alone (kind_of kind)) (Front (kind_of kind)) own.entry right.entry) }
+{
+    match right {
+        Some(right) => made::front(alloc, kind, own, right),
+        None => made::alone(alloc, kind, own),
+    }
+}
+
+/// The form that goes on from its left operand.
+pub(crate) fn extended<'a>(
+    alloc: Global,
+    left: Tree<'a>,
+    kind: Kind,
+    own: Tree<'a>,
+    right: Option<Tree<'a>>,
+) -> Result<Tree<'a>, AllocError>
+    ensures { IfOk result (λ x. x ≡ made_of (Back left.entry (kind_of kind)) (Infix left.entry (kind_of kind)) own.entry
+        right.entry) }
+{
+    match right {
+        Some(right) => made::infix(alloc, left, kind, own, right),
+        None => made::back(alloc, left, kind, own),
+    }
+}

@@ -1,0 +1,106 @@
+//! Groups: what stands inside one, and behind it.
+
+ghost use Rattle.gram_run.specs.Answers.{Fails, Gives, tokens};
+ghost use Rattle.proc_macro2.specs.Groups.{same_delimiter};
+ghost use Rattle.proc_macro2.specs.Token.{Token};
+ghost use Rattle.std.specs.Prelude.{◌≡◌, IfOk, IfSome, IsTrue, List, MatchOption};
+ghost use Rattle.syn_buffer.specs.Entries.{is_whole};
+ghost use Rattle.syn_grammar.specs.Run.{Out, Refused, group_at, whole};
+
+use crate::refusal::{Refusal, Wanted, Wrong};
+use gram_tree::made;
+use gram_tree::tree::Tree;
+use proc_macro2::delimiter::Delimiter;
+use rust_map::span::Span;
+use std::alloc::Global;
+use syn_buffer::entry::Entry;
+
+/// A group that was entered.
+#[derive(Clone, Copy)]
+pub(crate) struct Opened<'a> {
+    /// Where all of it stands.
+    pub(crate) span: Span,
+    /// What stands inside.
+    pub(crate) inside: &'a [Entry<'a>],
+    /// What stands behind it.
+    pub(crate) behind: &'a [Entry<'a>],
+}
+
+// Whether two delimiters are one.
+fn is_same(found: Delimiter, wanted: Delimiter) -> bool
+    ensures { result ≡ same_delimiter found wanted }
+{
+    match wanted {
+        Delimiter::Parenthesis => matches!(found, Delimiter::Parenthesis),
+        Delimiter::Brace => matches!(found, Delimiter::Brace),
+        Delimiter::Bracket => matches!(found, Delimiter::Bracket),
+        Delimiter::None => matches!(found, Delimiter::None),
+    }
+}
+
+/// The group with that delimiter that stands there.
+#[tactic(auto, unfolding(syn_grammar::specs::Run::group_at))]
+pub(crate) fn enter<'a>(delimiter: Delimiter, at: &'a [Entry<'a>]) -> Option<Opened<'a>>
+    requires { IsTrue (is_whole at.now) }
+    ensures enters { MatchOption result
+        ((f : List Token → Out) → group_at delimiter f (tokens at.now) ≡ Refused)
+        (λ o. (f : List Token → Out) → group_at delimiter f (tokens at.now)
+        ≡ whole delimiter (tokens o.behind.now) (f (tokens o.inside.now))) }
+    ensures inside { IfSome result (λ o. IsTrue (is_whole o.inside.now)) }
+    ensures behind { IfSome result (λ o. IsTrue (is_whole o.behind.now)) }
+{
+    let (entry, rest) = at.split_first()?;
+    let Entry::Open(found, span, count) = *entry else {
+        return None;
+    };
+    if !is_same(found, delimiter) {
+        return None;
+    }
+    Some(Opened {
+        span,
+        inside: &rest[..count],
+        behind: &rest[count + 1..],
+    })
+}
+
+// A fault at the end of the inside stands where the group closes.
+fn closed(refusal: Refusal, span: Span) -> Refusal
+    ensures { (o : Out) → Fails refusal o → Fails result o }
+{
+    match refusal {
+        Refusal::Syntax(Wrong { span: None, wanted }) => Refusal::Syntax(Wrong {
+            span: Some(span),
+            wanted,
+        }),
+        other => other,
+    }
+}
+
+/// A group, of what was read of its inside, where that is all of it; and what stands behind it.
+pub(crate) fn grouped<'a>(
+    alloc: Global,
+    delimiter: Delimiter,
+    opened: Opened<'a>,
+    inner: Result<(Tree<'a>, &'a [Entry<'a>]), Refusal>,
+) -> Result<(Tree<'a>, &'a [Entry<'a>]), Refusal>
+    requires { IsTrue (is_whole opened.behind.now) }
+    ensures answer { (o : Out) → Gives (λ x. x.0) (λ x. x.1.now) inner.entry o
+        → Gives (λ x. x.0) (λ x. x.1.now) result (whole delimiter (tokens opened.entry.behind.now) o) }
+    ensures whole { IfOk result (λ x. IsTrue (is_whole x.1.now)) }
+{
+    match inner {
+        Ok((inside, left)) => {
+            if let Some(entry) = left.first() {
+                return Err(Refusal::Syntax(Wrong {
+                    span: Some(entry.span()),
+                    wanted: Wanted::End,
+                }));
+            }
+            Ok((
+                made::group(alloc, delimiter, opened.span, inside)?,
+                opened.behind,
+            ))
+        }
+        Err(refusal) => Err(closed(refusal, opened.span)),
+    }
+}

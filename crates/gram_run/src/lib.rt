@@ -1,0 +1,18 @@
+//! The reader that follows the table of the written grammar: what it is made of.
+//!
+//! Each function answers what a run of the grammar does (`specs/Answers`): a tree and what is left behind it, or a
+//! refusal. In `proofs/`: `Says` (what steps in a row say), `Turns`, `Elements`, `Operands` (a run of repetitions, of
+//! lists and of expressions, one turn, element or form at a time), `Groups` (a run enters the groups of whole
+//! entries).
+//!
+//! - `refusal`: why tokens were not read.
+//! - `leaf`, `group`: tokens that are read one by one, and groups.
+//! - `choice`, `around`, `form`: the parts of a step, and what is made of what was read of them.
+#![tactic(auto)]
+
+mod around;
+mod choice;
+mod form;
+mod group;
+mod leaf;
+pub mod refusal;

@@ -1,0 +1,90 @@
+//! Why tokens were not read.
+
+ghost use Rattle.gram_run.specs.Answers.{IsSyntax};
+
+use gram_table::op::Verdicts;
+use gram_table::word::{Literals, Sign, Words};
+use proc_macro2::delimiter::Delimiter;
+use rust_map::span::Span;
+use std::alloc::{AllocError, AllocFailed};
+use syn_buffer::entry::Entry;
+
+/// What was wanted.
+#[derive(Clone, Copy, Drop)]
+pub enum Wanted {
+    /// A word that passes.
+    Word(Words),
+    /// A literal that passes.
+    Literal(Literals),
+    /// A punctuation.
+    Mark(Sign),
+    /// The mark that separates the elements of a list.
+    Separator,
+    /// `'` and a word.
+    Lifetime,
+    /// A group.
+    Group(Delimiter),
+    /// The end of the group.
+    End,
+    /// An expression.
+    Expression,
+    /// An operator that is not chained with the one before it.
+    Unchained,
+    /// What is judged otherwise.
+    Judged(Verdicts),
+    /// Nothing that could stand there.
+    Nothing,
+}
+
+/// Where tokens could not be read, and what was wanted there.
+#[derive(Clone, Copy, Drop)]
+pub struct Wrong {
+    /// Where the token stands; none at the end of the tokens.
+    pub span: Option<Span>,
+    /// What was wanted in its place.
+    pub wanted: Wanted,
+}
+
+/// Why tokens were not read.
+#[derive(Clone, Copy, Drop)]
+pub enum Refusal {
+    /// Memory ran out.
+    Memory,
+    /// The run was longer than it may be. No public call answers so.
+    Late,
+    /// No tree of the kind begins there.
+    Syntax(Wrong),
+}
+
+impl From<AllocError> for Refusal {
+    ghost use Rattle.gram_run.specs.declared.refusal.Refusal.TheVariants.{Memory};
+    ghost use Rattle.std.specs.Prelude.{◌≡◌};
+
+    ghost from_gives = { λ _ refusal. refusal ≡ Memory };
+
+    fn from(_: AllocError) -> Refusal {
+        Refusal::Memory
+    }
+}
+
+impl<T: Drop> From<AllocFailed<T>> for Refusal {
+    ghost use Rattle.gram_run.specs.declared.refusal.Refusal.TheVariants.{Memory};
+    ghost use Rattle.std.specs.Prelude.{◌≡◌};
+
+    ghost from_gives = { λ _ refusal. refusal ≡ Memory };
+
+    fn from(_: AllocFailed<T>) -> Refusal {
+        Refusal::Memory
+    }
+}
+
+// That is wanted where the first of these stands.
+pub(crate) fn refuse(wanted: Wanted, at: &[Entry<'_>]) -> Refusal
+    ensures { IsSyntax result }
+{
+    let span = match at.first() {
+        Some(entry) => Some(entry.span()),
+        None => None,
+    };
+    Refusal::Syntax(Wrong { span, wanted })
+}
