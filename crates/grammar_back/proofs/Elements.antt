@@ -316,7 +316,8 @@ fixed_law x w r c d f e v =
 pub law_fn_arg : KindLaw FnArg
 unfolding has_step held passed table
 law_fn_arg =
-    plain_law FnArg refl (λ x. tt) (λ x. refl) (λ x. refl) (λ q. refl) (λ q l. kept_entry (λ x. not (is_variadic x)) fixed_law tt)
+    plain_law FnArg refl (λ x. tt) (λ x. refl) (λ x. refl) (λ q. refl)
+    (λ q l. kept_entry (λ x. not (is_variadic x)) fixed_law tt)
 
 -- a trait: an alias is neither unsafe nor auto
 trait_verdict : (q : Position) → VerdictLaw q (λ x. kept_if (is_trait x)) trait_form
@@ -350,4 +351,10 @@ pub law_restricted_trait : KindLaw ARestrictedTrait
 unfolding has_step held passed place_of table
 law_restricted_trait =
     plain_law ARestrictedTrait refl (λ x. tt) (λ x. refl) (λ x. refl) (λ q. refl)
-    (λ q l. (tt, (simple_law Plain restriction refl, ((tt, tt), kept_entry (λ x. not (has the_equals x)) (unaliased Plain) (simple_law Plain trait_form refl)))))
+    (λ q l. (
+      tt,
+      (
+        simple_law Plain restriction refl,
+        ((tt, tt), kept_entry (λ x. not (has the_equals x)) (unaliased Plain) (simple_law Plain trait_form refl)),
+      ),
+    ))

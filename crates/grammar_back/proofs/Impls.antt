@@ -68,7 +68,8 @@ found_end : Found ended [] end_classes
 unfolding skips
 found_end = (maybe_seq (maybe_called (maybe_ref Where refl)) (found_group (maybe_ended (maybe_both
     (maybe_ref InnerAttributes refl) (weaken_maybe ((no the_end) ∷ (marks "#" then marks "!") ∷ [])
-    (maybe_ref ImplItems refl) (λ s a. (a.0, tt))) ((λ us h. h.2, (search)), tt) (λ s a. (a.1.0, tt))) (refl, (refl, tt)))) (search))
+    (maybe_ref ImplItems refl) (λ s a. (a.0, tt))) ((λ us h. h.2, (search)), tt) (λ s a. (a.1.0, tt)))
+    (refl, (refl, tt)))) (search))
 
 found_for : Found (keyword "for" ▸ the_self ∶ ref (AType WithPlus)) (behind (AType WithPlus)) for_class
 unfolding skips
@@ -323,7 +324,8 @@ unfolding table skips
 step_an_impl =
     meant_step AnImpl refl refl
     (fine_weaker (λ x s. LacksAll [] s × IsMeant AnImpl x) (At (starts AnImpl))
-    (fine_judged {A = λ x s. IsOwnImpl (behind_impl (kept x))} {F = At (starts AnImpl)} is_impl fine_impl) (λ x s c. c.1)
+    (fine_judged {A = λ x s. IsOwnImpl (behind_impl (kept x))} {F = At (starts AnImpl)} is_impl fine_impl)
+    (λ x s c. c.1)
     (λ x s i c. i))
 
 -- What was read: an entry has no part of a name that it doesn't call.

@@ -260,7 +260,8 @@ law_an_argument =
 pub law_some_bounds : KindLaw SomeBounds
 unfolding has_step held passed table
 law_some_bounds =
-    plain_law SomeBounds refl (λ x. tt) (λ x. refl) (λ x. refl) (λ q. refl) (λ q l. kept_entry (some is_path_bound) (some_verdict Plain) tt)
+    plain_law SomeBounds refl (λ x. tt) (λ x. refl) (λ x. refl) (λ q. refl)
+    (λ q l. kept_entry (some is_path_bound) (some_verdict Plain) tt)
 
 listed_normal : (v : Tree) → listed_bound (normal_in Plain v) ≡ normal_in Plain (listed_bound v)
 unfolding passed place_of

@@ -175,7 +175,13 @@ module _ (p : Place) (cs : List Class) (functions : Found (ref (AFunction p)) []
       go (Second (Second (Second (First x)))) s f w e =
           let (d, i) = macro_begins x s f.1.1.1.1 w e in
           let l = macro_lacks (flat x ++ s) i in (
-            (no_signature (flat x ++ s) i, (l.1.1.1.1.1.1.1.0, (l.1.1.1.1.1.1.1.1.1.1.1.1.1.0, (macro_seen (flat x ++ s) i, d)))),
+            (
+              no_signature (flat x ++ s) i,
+              (
+                l.1.1.1.1.1.1.1.0,
+                (l.1.1.1.1.1.1.1.1.1.1.1.1.1.0, (macro_seen (flat x ++ s) i, d)),
+              ),
+            ),
             among_right cs (const_class ++ (type_class ++ macro_classes)) (flat x ++ s)
                 (among_right const_class (type_class ++ macro_classes) (flat x ++ s)
                 (among_right type_class macro_classes (flat x ++ s) i)),
@@ -242,9 +248,66 @@ fine_trait_item =
     (found_optional (at "default") (found_called (found_text "default")) (λ us. refl, tt))
     (fine_called {A = MemberEdge} {F = At form_class}
     (fine_member InTrait function_class (found_ref (AFunction InTrait) refl) (found_ref (ATypeAlias InTrait) refl)
-    signed_trait const_unsigned (λ us. refl, tt) (found_ref (ItemMacro InTrait) refl) (λ ts i. (macro_lacks ts i).0)))
-    (((λ us. refl), ((λ us. refl), ((λ us. refl), ((λ us. refl), ((λ us. refl), ((λ us. refl), ((λ us. refl), ((λ cs h us. a_word_lacked (same_text (codes "default") cs) us (no_default cs h)), ((λ us. refl), ((λ us. refl), ((λ us. refl), ((λ us. refl), tt)))))))))))), tt)
-    (λ x y s c. c)) (((λ us. refl), ((λ us. refl), ((λ us. refl), ((λ us. refl), ((λ us. refl), ((λ us. refl), ((λ us. refl), ((λ us. refl), ((λ cs h us. a_word_lacked (same_text (codes "pub") cs) us (ident_not (codes "pub") cs reserved_pub (both_true (is_ident cs) (not (is_other cs)) h).0)), ((λ us. refl), ((λ us. refl), ((λ us. refl), ((λ us. refl), tt))))))))))))), ((search), tt))
+    signed_trait const_unsigned (λ us. refl, tt) (found_ref (ItemMacro InTrait) refl) (λ ts i. (macro_lacks ts i).0))) (
+      (
+        (λ us. refl),
+        (
+          (λ us. refl),
+          (
+            (λ us. refl),
+            (
+              (λ us. refl),
+              (
+                (λ us. refl),
+                (
+                  (λ us. refl),
+                  (
+                    (λ us. refl),
+                    (
+                      (λ cs h us. a_word_lacked (same_text (codes "default") cs) us (no_default cs h)),
+                      ((λ us. refl), ((λ us. refl), ((λ us. refl), ((λ us. refl), tt)))),
+                    ),
+                  ),
+                ),
+              ),
+            ),
+          ),
+        ),
+      ),
+      tt,
+    )
+    (λ x y s c. c)) (
+      (
+        (λ us. refl),
+        (
+          (λ us. refl),
+          (
+            (λ us. refl),
+            (
+              (λ us. refl),
+              (
+                (λ us. refl),
+                (
+                  (λ us. refl),
+                  (
+                    (λ us. refl),
+                    (
+                      (λ us. refl),
+                      (
+                        (λ cs h us. a_word_lacked (same_text (codes "pub") cs) us
+                            (ident_not (codes "pub") cs reserved_pub (both_true (is_ident cs) (not (is_other cs)) h).0)),
+                        ((λ us. refl), ((λ us. refl), ((λ us. refl), ((λ us. refl), tt)))),
+                      ),
+                    ),
+                  ),
+                ),
+              ),
+            ),
+          ),
+        ),
+      ),
+      ((search), tt),
+    )
     (λ x y s c. c)) ((search), tt) (λ x y s c. c)
 
 fine_impl_item : Fine (whole_member InImpl) MemberEdge (At (front_classes ++ macro_classes))
@@ -255,8 +318,66 @@ fine_impl_item =
     (maybe_ahead MemberEdge form_class maybe_default
     (fine_called {A = MemberEdge} {F = At form_class}
     (fine_member InImpl function_class (found_ref (AFunction InImpl) refl) (found_ref (ATypeAlias InImpl) refl)
-    signed_impl const_unsigned (λ us. refl, tt) (found_ref (ItemMacro InImpl) refl) (λ ts i. (macro_lacks ts i).0)))
-    (((λ us. refl), ((λ us. refl), ((λ us. refl), ((λ us. refl), ((λ us. refl), ((λ us. refl), ((λ us. refl), ((λ cs h us. none_then (at "default") (no (marks "!")) (Ident cs ∷ us) (a_word_lacked (same_text (codes "default") cs) us (no_default cs h))), ((λ us. refl), ((λ us. refl), ((λ us. refl), ((λ us. refl), tt)))))))))))), ((search), tt)) (λ x y s c. c)) (((λ us. refl), ((λ us. refl), ((λ us. refl), ((λ us. refl), ((λ us. refl), ((λ us. refl), ((λ us. refl), ((λ us. refl), ((λ cs h us. a_word_lacked (same_text (codes "pub") cs) us (ident_not (codes "pub") cs reserved_pub (both_true (is_ident cs) (not (is_other cs)) h).0)), ((λ us. refl), ((λ us. refl), ((λ us. refl), ((λ us. refl), tt))))))))))))), ((search), tt))
+    signed_impl const_unsigned (λ us. refl, tt) (found_ref (ItemMacro InImpl) refl) (λ ts i. (macro_lacks ts i).0))) (
+      (
+        (λ us. refl),
+        (
+          (λ us. refl),
+          (
+            (λ us. refl),
+            (
+              (λ us. refl),
+              (
+                (λ us. refl),
+                (
+                  (λ us. refl),
+                  (
+                    (λ us. refl),
+                    (
+                      (λ cs h us. none_then (at "default") (no (marks "!")) (Ident cs ∷ us)
+                          (a_word_lacked (same_text (codes "default") cs) us (no_default cs h))),
+                      ((λ us. refl), ((λ us. refl), ((λ us. refl), ((λ us. refl), tt)))),
+                    ),
+                  ),
+                ),
+              ),
+            ),
+          ),
+        ),
+      ),
+      ((search), tt),
+    ) (λ x y s c. c)) (
+      (
+        (λ us. refl),
+        (
+          (λ us. refl),
+          (
+            (λ us. refl),
+            (
+              (λ us. refl),
+              (
+                (λ us. refl),
+                (
+                  (λ us. refl),
+                  (
+                    (λ us. refl),
+                    (
+                      (λ us. refl),
+                      (
+                        (λ cs h us. a_word_lacked (same_text (codes "pub") cs) us
+                            (ident_not (codes "pub") cs reserved_pub (both_true (is_ident cs) (not (is_other cs)) h).0)),
+                        ((λ us. refl), ((λ us. refl), ((λ us. refl), ((λ us. refl), tt)))),
+                      ),
+                    ),
+                  ),
+                ),
+              ),
+            ),
+          ),
+        ),
+      ),
+      ((search), tt),
+    )
     (λ x y s c. c)) ((search), tt) (λ x y s c. c)
 
 pub step_a_trait_item : Step ATraitItem
@@ -267,7 +388,8 @@ step_a_trait_item =
     (fine_raw_or {A = MemberEdge} {F = At (starts ATraitItem)}
     (fine_weaker MemberEdge (At (starts ATraitItem)) fine_trait_item (λ x s c. c)
     (λ x s i c. inr (with_listed front_classes (flat x ++ s) i)))
-    (λ x s d. inl (raw_front (item_verdict InTrait) (default_there InTrait ▸ the_item ∶ member_form InTrait) (search) x s d))) (λ x s c. c.1)
+    (λ x s d. inl (raw_front (item_verdict InTrait) (default_there InTrait ▸ the_item ∶ member_form InTrait) (search)
+    x s d))) (λ x s c. c.1)
     (λ x s i c. i))
 
 pub step_an_impl_item : Step AnImplItem
@@ -278,7 +400,8 @@ step_an_impl_item =
     (fine_raw_or {A = MemberEdge} {F = At (starts AnImplItem)}
     (fine_weaker MemberEdge (At (starts AnImplItem)) fine_impl_item (λ x s c. c)
     (λ x s i c. inr (with_listed front_classes (flat x ++ s) i)))
-    (λ x s d. inl (raw_front (item_verdict InImpl) (default_there InImpl ▸ the_item ∶ member_form InImpl) (search) x s d))) (λ x s c. c.1)
+    (λ x s d. inl (raw_front (item_verdict InImpl) (default_there InImpl ▸ the_item ∶ member_form InImpl) (search) x
+    s d))) (λ x s c. c.1)
     (λ x s i c. i))
 
 -- Where a form is kept, it is kept as it is printed.

@@ -60,7 +60,8 @@ found_turn = found_alt (marks ";") found_mark (found_ref AStatement refl) (λ us
 pub step_statements : Step Statements
 unfolding table skips
 step_statements (First x) s f n w a =
-    let (d, i) = turns_read a_turn (Sign 59 [] ∷ starts AStatement) found_turn ((λ us. refl), ((λ us h. h.0), (search))) x f.1 w in
+    let (d, i) = turns_read a_turn (Sign 59 [] ∷ starts AStatement) found_turn
+    ((λ us. refl), ((λ us h. h.0), (search))) x f.1 w in
     subst (λ us. Derives (First x) (table Statements) us × Begins Statements (First x) us) (sym (end_is s a.0))
     ((f.0, d), i)
 step_statements _ s f n w a = absurd f
@@ -164,7 +165,8 @@ pub law_statements : KindLaw Statements
 unfolding has_step held passed table
 law_statements =
     plain_law Statements refl (λ x. tt) (λ x. refl) (λ x. refl) (λ q. refl)
-    (λ q l. kept_entry (each_turn_but_last (λ y. not (needs_semicolon (choice y)))) (turns_verdict _) (turn_stays, (tt, tt)))
+    (λ q l. kept_entry (each_turn_but_last (λ y. not (needs_semicolon (choice y)))) (turns_verdict _)
+    (turn_stays, (tt, tt)))
 
 -- lists of one kind, as long as that has no step
 list_read : (l : Kind) → is_known l ≡ false → (x : Tree) (s : List Token) → Fits x (star (lacks the_end) (ref l))

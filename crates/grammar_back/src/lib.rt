@@ -1,25 +1,24 @@
-//! Normal forms are read back: the tokens of the normal form of a derived tree have a derived tree, of which
-//! that normal form is kept. It is proved of trees that are covered: that hold no kind whose step is not proved yet, and
-//! among statements no raw item that ends in a joint mark; and where what is to be known of expressions is (`Expressions`), which the crate `read_back` proves.
-//! There the laws stand. There is no code.
+//! Normal forms are read back: the tokens of the normal form of a derived tree have a derived tree, of which that
+//! normal form is kept. It is proved of trees that are covered: that hold no kind whose step is not proved yet, and
+//! among statements no raw item that ends in a joint mark; and where what is to be known of expressions is
+//! (`Expressions`), which the crate `read_back` proves. There the laws stand. There is no code.
 //!
 //! In `specs/`: `After` (what may follow a kind), `Covered` (the kinds whose steps are proved, and the trees that
 //! hold no others).
 //!
 //! The proof goes shape first. `Fits` says that a tree has the form of its entry, whatever the tests say, as it is
-//! printed; of a test that no shape shows, it has what was said (`IsMeant`). `Printed`: for each derived tree there is
-//! one that fits, and of which the normal form is kept; of the kinds where more than their parts is to be known,
+//! printed; of a test that no shape shows, it has what was said (`IsMeant`). `Printed`: for each derived tree there
+//! is one that fits, and of which the normal form is kept; of the kinds where more than their parts is to be known,
 //! `KindLaws` has it, by `Tidied` (normal form tidies their parts), `Verdicts` (what was read is judged) and
-//! `Indices`. A `Step` of a kind (`Readies`): where the parts of a tree that fits are read back before what may follow
-//! them, so is the tree. `Fine` and `Parts` put steps together as the entries are, by what tokens begin with
+//! `Indices`. A `Step` of a kind (`Readies`): where the parts of a tree that fits are read back before what may
+//! follow them, so is the tree. `Fine` and `Parts` put steps together as the entries are, by what tokens begin with
 //! (`Classes`). Most steps are written by `tools/steps.py` from the entries (`StepsOf..`). By hand are those where
 //! more than first tokens decides: `HandSteps`, `ValueSteps`, `Fields`, `Predicates`, `Turbofish`, `Alternatives`,
 //! `References`, `Receivers` (by `Selves`), `Aliases`, `Dotted`, `FieldValues`, `Turns`, `PathTypes` (types before
-//! `for`), `ImplParams`, `Impls` (by `Bracketed`), `WholeItems` (by `ItemPlaces`, `MacroItems` and
-//! `ItemVerdicts`), `Members`,
-//! `ForeignItems` and `Lets` (by `FirstWords`), and for the script `Seconds`, `Params` and `FieldNames`; `RawItems`
-//! has how raw ones begin, which are read back as `item_laws` says; `Passed` has what stands behind
-//! attributes. `Elements` has the verdicts on lists, and `Choices` what is true of booleans and of one look or another.
-//! What all this needs of expressions stands in one place (`Expressions`): the steps and laws of the kinds of their
-//! forms, and that an expression is printed where their own parts are.
+//! `for`), `ImplParams`, `Impls` (by `Bracketed`), `WholeItems` (by `ItemPlaces`, `MacroItems` and `ItemVerdicts`),
+//! `Members`, `ForeignItems` and `Lets` (by `FirstWords`), and for the script `Seconds`, `Params` and `FieldNames`;
+//! `RawItems` has how raw ones begin, which are read back as `item_laws` says; `Passed` has what stands behind
+//! attributes. `Elements` has the verdicts on lists, and `Choices` what is true of booleans and of one look or
+//! another. What all this needs of expressions stands in one place (`Expressions`): the steps and laws of the kinds
+//! of their forms, and that an expression is printed where their own parts are.
 #![tactic(auto)]
