@@ -172,7 +172,8 @@ mutual
   fit (Called m x) (called c g) p b r d f e n =
       fit x g (place_of m) b r d.1 (subst (λ i. fits (place_of i) b g ≡ true) (sym d.0) f) e n
   fit (Node (Expression q) (Whole z)) (ref l) p b r d f e n =
-      let w = and_true (is_position q p) (b || not (is_condition q)) (subst (λ i. fits p b (ref i) ≡ true) (sym d.0) f) in
+      let c : fits p b (ref (Expression q)) ≡ true = subst (λ i. fits p b (ref i) ≡ true) (sym d.0) f in
+      let w = and_true (is_position q p) (b || not (is_condition q)) c in
       (position_is q p w.0, (whole_plain q z r d.1 (condition_flag q b r w.1 e) n.0, fit_form z q r d.1.1 n.1))
   fit (Node (Expression q) _) (ref l) p b r d f e n = absurd d.1
   fit (Node AStatement x) (ref l) p b r d f e n = (

@@ -4,12 +4,16 @@ use Rattle.std.specs.Prelude.{Bool, true, false, not, ◌||◌, cond}
 use Rattle.std.proofs.lemmas.List.{append-nil}
 use Rattle.proc_macro2.specs.Token.{Token, Punct}
 use Rattle.rust_leaf.specs.declared.punct.Spacing.TheVariants.{Alone as Apart}
-use Rattle.syn_grammar.specs.Kind.{Position, Plain, GenericParam, GenericParams}
-use Rattle.syn_grammar.specs.Name.{the_lifetime}
-use Rattle.syn_grammar.specs.Tree.{Tree, End, Final, More, Node, Back, flat}
-use Rattle.syn_grammar.specs.Kept.{held, kept}
+use Rattle.rust_leaf.specs.declared.punct.Spacing.{Spacing}
+use Rattle.syn_grammar.specs.Kind.{Position, Plain, GenericParam, GenericParams, Arguments, AnArgument, Body}
+use Rattle.syn_grammar.specs.Name.{same_part, the_lifetime, the_arguments}
+use Rattle.syn_grammar.specs.Tree.{Tree, AMark, Nil, Pair, First, Second, End, Final, More, Called, Node, Back}
+use Rattle.syn_grammar.specs.Tree.{marks, flat}
+use Rattle.syn_grammar.specs.Part.{has}
+use Rattle.syn_grammar.specs.Kept.{constant_argument, held, kept}
 use Rattle.syn_grammar.specs.Tidy.{is_none, joined, those_then, others_of, lifetimes_first, is_lifetime_param}
-use Rattle.syn_grammar.specs.Normal.{passed, normal_in}
+use Rattle.syn_grammar.specs.Tidy.{is_lifetime_argument}
+use Rattle.syn_grammar.specs.Normal.{place_of, passed, normal_in}
 use Rattle.gram_write.specs.Said.{said}
 use Rattle.gram_write.specs.Firsts.{has_other, those_said, others_said, firsts_said}
 use Rattle.gram_write.proofs.Dots.{dotted_is}
@@ -108,3 +112,72 @@ pub params_said : (p : Position) (x : Tree)
     → said p (Node GenericParams x) ≡ firsts_said Plain is_lifetime_param x
 unfolding passed
 params_said p x = node GenericParams p x ∙ firsts Plain is_lifetime_param is_lifetime_param param_made x
+
+-- arguments in angles
+pub arguments_said : (p : Position) (c d : ℕ) (cs ds : List ℕ) (i j : Spacing) (x : Tree)
+    → said p
+    (Node Arguments (Pair (Second Nil) (Pair (AMark c cs i) (Pair (Called the_arguments x) (AMark d ds j)))))
+    ≡ marks c cs Apart ++ (firsts_said Plain (λ y. is_lifetime_argument (normal_in Plain (kept y))) x
+    ++ marks d ds Apart)
+unfolding passed same_part place_of
+arguments_said p c d cs ds i j x =
+    node Arguments p (Pair (Second Nil) (Pair (AMark c cs i) (Pair (Called the_arguments x) (AMark d ds j))))
+    ∙ ap (λ ts. marks c cs Apart ++ (ts ++ marks d ds Apart))
+    (firsts Plain (λ y. is_lifetime_argument (normal_in Plain (kept y))) is_lifetime_argument (λ y. refl) x)
+
+pub turbofish_said : (p : Position) (b c d : ℕ) (bs cs ds : List ℕ) (h i j : Spacing) (x : Tree)
+    → said p
+    (Node Arguments (Pair (First (AMark b bs h)) (Pair (AMark c cs i) (Pair (Called the_arguments x) (AMark d ds j)))))
+    ≡ marks b bs Apart ++ (marks c cs Apart
+    ++ (firsts_said Plain (λ y. is_lifetime_argument (normal_in Plain (kept y))) x ++ marks d ds Apart))
+unfolding passed same_part place_of
+turbofish_said p b c d bs cs ds h i j x =
+    node Arguments p
+    (Pair (First (AMark b bs h)) (Pair (AMark c cs i) (Pair (Called the_arguments x) (AMark d ds j))))
+    ∙ ap (λ ts. marks b bs Apart ++ (marks c cs Apart ++ (ts ++ marks d ds Apart)))
+    (firsts Plain (λ y. is_lifetime_argument (normal_in Plain (kept y))) is_lifetime_argument (λ y. refl) x)
+
+-- an argument that is a lifetime, which is the first choice
+pub lifetime_seen : (x : Tree)
+    → is_lifetime_argument (normal_in Plain (kept (Node AnArgument (First x)))) ≡ has the_lifetime x
+unfolding held passed
+lifetime_seen x = has_made the_lifetime Plain x
+
+-- and one that is none
+other_constant : (x : Tree) → has the_lifetime x ≡ false
+    → has the_lifetime (normal_in Plain (constant_argument (Second (First (kept x))))) ≡ false
+unfolding held
+other_constant (First x) e = refl
+other_constant (Second x) e = refl
+other_constant (Back l k y) e =
+    dotted_is (λ z. has the_lifetime (normal_in Plain (constant_argument (Second (First z)))) ≡ false) (λ l k y. refl)
+    (kept l) k (kept y)
+other_constant x e = has_made the_lifetime Plain x ∙ e
+
+other_block : (x : Tree) → has the_lifetime x ≡ false
+    → has the_lifetime (normal_in Plain (constant_argument (Second (Second (First (kept x)))))) ≡ false
+unfolding held
+other_block (Node Body x) e = refl
+other_block (Node _ x) e = refl
+other_block (Back l k y) e =
+    dotted_is (λ z. has the_lifetime (normal_in Plain (constant_argument (Second (Second (First z))))) ≡ false)
+    (λ l k y. refl) (kept l) k (kept y)
+other_block x e = has_made the_lifetime Plain x ∙ e
+
+other_choice : (x : Tree) → has the_lifetime x ≡ false
+    → has the_lifetime (normal_in Plain (constant_argument (Second (Second (kept x))))) ≡ false
+other_choice (First x) e = other_block x e
+other_choice (Back l k y) e =
+    dotted_is (λ z. has the_lifetime (normal_in Plain (constant_argument (Second (Second z)))) ≡ false)
+    (λ l k y. refl) (kept l) k (kept y)
+other_choice x e = has_made the_lifetime Plain x ∙ e
+
+pub none_seen : (x : Tree) → has the_lifetime x ≡ false
+    → is_lifetime_argument (normal_in Plain (kept (Node AnArgument (Second x)))) ≡ false
+unfolding held passed
+none_seen (First x) e = other_constant x e
+none_seen (Second x) e = other_choice x e
+none_seen (Back l k y) e =
+    dotted_is (λ z. has the_lifetime (normal_in Plain (constant_argument (Second z))) ≡ false) (λ l k y. refl)
+    (kept l) k (kept y)
+none_seen x e = has_made the_lifetime Plain x ∙ e

@@ -55,7 +55,8 @@ macro_own (Back l k y) b e =
     (kept l) k (kept y) e
 macro_own _ b e = cc
 
-in_front : (a s : Tree) (q : Position) (z : Tree) → IsPlain Plain a → IsPlain InStatement (Node (Expression q) (Whole z))
+in_front : (a s : Tree) (q : Position) (z : Tree) → IsPlain Plain a
+    → IsPlain InStatement (Node (Expression q) (Whole z))
     → AddsNone a z
     → flat (normal_in Plain (Pair (Called the_attributes (left_in_front (kept a)))
     (Pair (Called the_expression (given (kept a) (Node (Expression Plain) (Whole (kept z))))) (kept s))))

@@ -8,24 +8,28 @@ ghost use Rattle.gram_write.specs.Ranges.{NoRangeHasAttributes, own_position};
 ghost use Rattle.gram_write.specs.Said.{bare_impl_said, is_quiet, is_unnamed, own_said, said, said_form};
 ghost use Rattle.proc_macro2.specs.Token.{Ident, Literal, Punct, Token};
 ghost use Rattle.rust_leaf.specs.declared.punct.Spacing.TheVariants.{Alone as Apart};
+ghost use Rattle.rust_leaf.specs.declared.punct.Spacing.{Spacing};
 ghost use Rattle.std.specs.Prelude.{◌≡◌, ℕ, Bool, cond, codes, false, true, List, [], ◌∷◌, ◌++◌, Some};
 ghost use Rattle.syn_grammar.specs.Derives.{Derives};
 ghost use Rattle.syn_grammar.specs.Forms.{front, is_range};
 ghost use Rattle.syn_grammar.specs.Gram.{ref};
 ghost use Rattle.syn_grammar.specs.Kept.{attributed, kept};
-ghost use Rattle.syn_grammar.specs.Kind.{AnImpl, AStatement, ATypeAlias, BoundsColon, Expression, ExprAttributed};
-ghost use Rattle.syn_grammar.specs.Kind.{GenericParams, Generics, InCondition, Index, InStatement, Kind, LifetimeColon, Member};
+ghost use Rattle.syn_grammar.specs.Kind.{AnArgument, AnImpl, Arguments, AStatement, ATypeAlias, BoundsColon};
+ghost use Rattle.syn_grammar.specs.Kind.{Expression, ExprAttributed};
+ghost use Rattle.syn_grammar.specs.Kind.{GenericParams, Generics, InCondition, Index, InStatement, Kind, LifetimeColon};
+ghost use Rattle.syn_grammar.specs.Kind.{Member};
 ghost use Rattle.syn_grammar.specs.Kind.{Parameter, Place, Plain, Position, Where};
 ghost use Rattle.syn_grammar.specs.Look.{sees};
-ghost use Rattle.syn_grammar.specs.Name.{Part, the_unnamed};
+ghost use Rattle.syn_grammar.specs.Name.{Part, the_arguments, the_lifetime, the_unnamed};
 ghost use Rattle.syn_grammar.specs.Normal.{formed, normal_in, passed};
 ghost use Rattle.syn_grammar.specs.Part.{has};
 ghost use Rattle.syn_grammar.specs.Say.{brace};
 ghost use Rattle.syn_grammar.specs.Table.{table};
 ghost use Rattle.syn_grammar.specs.Tidy.{is_bare_colon, is_bare_generics, is_bare_where, is_lifetime_param};
-ghost use Rattle.syn_grammar.specs.Tidy.{keeps_generics};
-ghost use Rattle.syn_grammar.specs.Tree.{Again, ALiteral, Alone, Back, Called, First, flat, Front, Infix, Node, Pair};
-ghost use Rattle.syn_grammar.specs.Tree.{Second, Tree, Whole};
+ghost use Rattle.syn_grammar.specs.Tidy.{is_lifetime_argument, keeps_generics};
+ghost use Rattle.syn_grammar.specs.Tree.{Again, ALiteral, Alone, AMark, Back, Called, First, flat, Front, Infix, Node};
+ghost use Rattle.syn_grammar.specs.Tree.{Pair};
+ghost use Rattle.syn_grammar.specs.Tree.{marks, Nil, Second, Tree, Whole};
 ghost use Rattle.syn_grammar.specs.Words.{plain_decimal};
 
 /// Of a quiet kind the tokens of its part are written.
@@ -103,10 +107,28 @@ pub fn attributes_given()
         → formed InStatement [] (attributed (kept a) (kept x)) ≡ bare (attributed (kept a) (kept x)) }
 {}
 
-/// What was read is plain, in the position that its kind has by itself, if no range in it has attributes in front of it;
-/// behind a condition stands a brace.
+/// What was read is plain, in the position that its kind has by itself, if no range in it has attributes in front of
+/// it; behind a condition stands a brace.
 pub fn plain_read()
     ensures { (k : Kind) (x : Tree) (rest : List Token) → Derives x (ref k) rest
         → (k ≡ Expression InCondition → sees brace rest ≡ true) → NoRangeHasAttributes x
         → IsPlain (own_position k) x }
+{}
+
+/// Lifetimes are written first among arguments in angles; an argument is a lifetime if that was its first choice.
+pub fn arguments()
+    ensures angles { (p : Position) (c d : ℕ) (cs ds : List ℕ) (i j : Spacing) (x : Tree)
+        → said p
+        (Node Arguments (Pair (Second Nil) (Pair (AMark c cs i) (Pair (Called the_arguments x) (AMark d ds j)))))
+        ≡ marks c cs Apart ++ (firsts_said Plain (λ y. is_lifetime_argument (normal_in Plain (kept y))) x
+        ++ marks d ds Apart) }
+    ensures turbofish { (p : Position) (b c d : ℕ) (bs cs ds : List ℕ) (h i j : Spacing) (x : Tree)
+        → said p (Node Arguments
+        (Pair (First (AMark b bs h)) (Pair (AMark c cs i) (Pair (Called the_arguments x) (AMark d ds j)))))
+        ≡ marks b bs Apart ++ (marks c cs Apart
+        ++ (firsts_said Plain (λ y. is_lifetime_argument (normal_in Plain (kept y))) x ++ marks d ds Apart)) }
+    ensures lifetime { (x : Tree)
+        → is_lifetime_argument (normal_in Plain (kept (Node AnArgument (First x)))) ≡ has the_lifetime x }
+    ensures other { (x : Tree) → has the_lifetime x ≡ false
+        → is_lifetime_argument (normal_in Plain (kept (Node AnArgument (Second x)))) ≡ false }
 {}

@@ -3,8 +3,8 @@
 //! `specs/Said` has the tokens of the normal form of what is kept, `specs/Firsts` those of a list whose lifetimes come
 //! first, `specs/Plain` the trees of which no operand is put in parentheses, and `specs/Ranges` those in which no range
 //! has attributes. In `proofs/`, in this order: `Dots` (numbers behind dots), `OfKinds` and `Bare` (kinds one by one),
-//! `Row` (parameters), `Stand` (plain trees), `Given` (the attributes of a statement), `Fits` and `Begin` (where
-//! expressions stand in an entry, and what statements begin with), `Read` (what was read is plain).
+//! `Row` (parameters and arguments), `Stand` (plain trees), `Given` (the attributes of a statement), `Fits` and `Begin`
+//! (where expressions stand in an entry, and what statements begin with), `Read` (what was read is plain).
 //!
 //! - `laws`: what is written of each form and of each kind, in terms of its parts.
 #![tactic(auto)]
