@@ -1,34 +1,30 @@
 //! What is said where kinds that are looked for do not stand, and lists that are read with separators.
-#![tactic(auto)]
 
 use anyhow::Error;
 use proc_macro2::{Ident, SourceMap, TokenStream};
 use std::alloc::Global;
-use std::io::Write;
 use syn_error::{ParseFault, ToTokens};
 use syn_kinds::token;
 use syn_lists::Punctuated;
 use syn_parse::{ParseBuffer, TokenBuffer};
 use syn_read_lists::{parse_separated_nonempty, parse_terminated_with, read_many};
 
-fn main(rt: HostRuntime) -> Result<(), Error> {
-    let alloc = rt.alloc();
-    let mut lines = String::new(alloc);
+/// Lookaheads that find nothing, and lists that are read by each call.
+pub fn lookahead(alloc: Global, lines: &mut String) -> Result<(), Error> {
     for count in 0..4 {
-        looked(alloc, &mut lines, "x", count)?;
+        looked(alloc, lines, "x", count)?;
     }
-    looked(alloc, &mut lines, "", 2)?;
+    looked(alloc, lines, "", 2)?;
     for text in ["a , b ,", "a , b", "", "a b", ", a", "a , , b"] {
-        listed(alloc, &mut lines, text)?;
+        listed(alloc, lines, text)?;
     }
-    emptied(alloc, &mut lines, "a , b ,")?;
+    emptied(alloc, lines, "a , b ,")?;
     for text in ["a + b c", "a", "", "a +", "a + +"] {
-        summed(alloc, &mut lines, text)?;
+        summed(alloc, lines, text)?;
     }
     for text in ["a , b > c", "a , > c", "> c", "a b > c", "a , , > c"] {
-        until(alloc, &mut lines, text)?;
+        until(alloc, lines, text)?;
     }
-    rt.stdout().write_all(lines.as_bytes())?;
     Ok(())
 }
 

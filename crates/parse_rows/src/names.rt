@@ -1,26 +1,22 @@
 //! Identifiers that are read where keywords stand too, and without `r#`; lists of names that are printed and read back.
-#![tactic(auto)]
 
 use anyhow::Error;
 use list_laws::read_back::reread;
 use proc_macro2::{Ident, SourceMap, TokenStream};
 use std::alloc::Global;
-use std::io::Write;
 use syn_kinds::token;
 use syn_parse::{IdentAny, IdentExt, ParseBuffer, ToTokens, TokenBuffer};
 
-fn main(rt: HostRuntime) -> Result<(), Error> {
-    let alloc = rt.alloc();
-    let mut lines = String::new(alloc);
+/// Names that are read, and lists of names that are read back.
+pub fn names(alloc: Global, lines: &mut String) -> Result<(), Error> {
     for text in [
         "x", "fn", "_", "Self", "r#fn", "r#x", "raw", "r", "x y", "", "1", "# x", "'a", "(fn)",
     ] {
-        read(alloc, &mut lines, text)?;
+        read(alloc, lines, text)?;
     }
     for text in ["a :: b ::", "a :: r#b", "a", ""] {
-        read_back(alloc, &mut lines, text)?;
+        read_back(alloc, lines, text)?;
     }
-    rt.stdout().write_all(lines.as_bytes())?;
     Ok(())
 }
 

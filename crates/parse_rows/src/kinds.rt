@@ -1,23 +1,19 @@
 //! Each kind of one token or punctuation by its name: how a message shows it, and its text when it is printed.
-#![tactic(auto)]
 
 use anyhow::Error;
 use std::fmt::Display;
-use std::io::Write;
 use syn_error::ToTokens;
 use syn_kinds::token;
 
-fn main(rt: HostRuntime) -> Result<(), Error> {
-    let mut lines = String::new(rt.alloc());
-    first(&mut lines)?;
-    second(&mut lines)?;
-    third(&mut lines)?;
-    fourth(&mut lines)?;
-    fifth(&mut lines)?;
-    sixth(&mut lines)?;
-    groups(&mut lines)?;
-    rt.stdout().write_all(lines.as_bytes())?;
-    Ok(())
+/// A line for each kind.
+pub fn kinds(lines: &mut String) -> Result<(), Error> {
+    first(lines)?;
+    second(lines)?;
+    third(lines)?;
+    fourth(lines)?;
+    fifth(lines)?;
+    sixth(lines)?;
+    groups(lines)
 }
 
 // The line of a kind.
