@@ -3,7 +3,6 @@ use Rattle.std.specs.Prelude.{ℕ, zero, suc, Bool, cond, nat_le, None, List, []
 use Rattle.proc_macro2.specs.Token.{Token}
 use Rattle.syn_grammar.specs.Look as l
 use Rattle.syn_grammar.specs.Look.{◌then◌, ◌or◌}
-use Rattle.syn_grammar.specs.Say.{at}
 use Rattle.gram_table.specs.Composites.{composite_of}
 use Rattle.gram_table.specs.Words.{words_of, literals_of, sign_text}
 use Rattle.gram_table.specs.declared.op.Look.{Look}

@@ -1,7 +1,7 @@
 #!/usr/bin/env python3
-"""Writes the rows of src/ and the looks of several steps (src/composite.rt, src/sights.rt, specs/Composites.antt)
-from the entries in syn_grammar/specs, as they are written. What it writes needs no trust: each row is proved to be its
-entry. Run it in the crate's folder, and rt fmt behind it."""
+"""Writes the rows of src/, the looks of several steps (src/composite.rt, src/sights.rt, specs/Composites.antt) and the
+answers in proofs/ from the entries in syn_grammar/specs, as they are written. What it writes needs no trust: each row
+is proved to be its entry. Run it in the crate's folder, and rt fmt behind it."""
 import os
 import re
 import sys
@@ -19,16 +19,18 @@ def text(chars):
 
 
 WORDS = {name: (lambda name=name: (name,)) for name in (
-    'is_ident', 'is_name', 'is_plain_name', 'is_path_keyword', 'is_bool', 'any_text', 'is_number', 'is_string', 'is_index',
-    'are_indices', 'ends_in_dot')}
+    'is_ident', 'is_name', 'is_plain_name', 'is_path_keyword', 'is_bool', 'any_text', 'is_number', 'is_string',
+    'is_index', 'are_indices', 'ends_in_dot')}
 SYMBOLS = {
     'Look': {
-        'sees': (1, lambda a: ('Sees', a)), 'lacks': (1, lambda a: ('Lacks', a)), '◌then◌': (2, lambda a, b: ('Then', a, b)),
-        '◌or◌': (2, lambda a, b: ('Or', a, b)), 'maybe': (1, lambda a: ('Maybe', a)), 'no': (1, lambda a: ('No', a)),
+        'sees': (1, lambda a: ('Sees', a)), 'lacks': (1, lambda a: ('Lacks', a)),
+        '◌then◌': (2, lambda a, b: ('Then', a, b)), '◌or◌': (2, lambda a, b: ('Or', a, b)),
+        'maybe': (1, lambda a: ('Maybe', a)), 'no': (1, lambda a: ('No', a)),
         'a_word': (1, lambda p: ('Word', p)), 'the_word': (1, lambda t: ('Word', ('keyword', text(t)))),
         'one_of': (1, lambda ws: ('Word', among(ws))), 'a_quoted': (1, lambda p: ('Quoted', p)),
         'the_mark': (1, lambda t: ('Mark', text(t))), 'any_mark': (1, lambda ts: any_mark(list(items_of(ts)))),
-        'a_lifetime': (0, lambda: ('Lifetime',)), 'opens': (1, lambda d: ('Opens', d[0])), 'closes': (0, lambda: ('Closes',)),
+        'a_lifetime': (0, lambda: ('Lifetime',)), 'opens': (1, lambda d: ('Opens', d[0])),
+        'closes': (0, lambda: ('Closes',)),
         'a_group': (1, lambda d: ('Group', d[0])), 'past_first': (2, lambda c, n: ('PastFirst', c)),
         'opening': (0, lambda: ('Opening',)), 'past_literals': (1, lambda p: ('PastLiterals', p)),
         'the_end': (0, lambda: ('End',)), 'repeatedly': (1, lambda a: ('Repeatedly', a)),
@@ -66,9 +68,6 @@ class Symbols(World):
 PARAMETERS = {'Style': ['InModule', 'InExpression', 'InType', 'AtType'], 'Plus': ['WithPlus', 'WithoutPlus'],
               'Position': ['Plain', 'InCondition', 'InArm', 'InStatement'],
               'Place': ['InFile', 'InForeign', 'InTrait', 'InImpl']}
-
-
-KIND_TYPES = {v: t for t, vs in PARAMETERS.items() for v in vs}
 
 
 def kinds(path):
@@ -142,7 +141,8 @@ RawAddrStands | `&raw const` or `&raw mut` | marks "&" then at "raw" then (at "c
 UnaryStands | `*`, `!` or `-` | marks "*" or marks "!" or marks "-"
 MacroCallStands | a path and `!` | macro_call_stands
 PathStands | a path | a_name or marks "::" or marks "<"
-AssignOpStands | an operator that assigns | any_mark (codes "+=" ∷ codes "-=" ∷ codes "*=" ∷ codes "/=" ∷ codes "%=" ∷ codes "^=" ∷ codes "&=" ∷ codes "|=" ∷ codes "<<=" ∷ codes ">>=" ∷ [])
+AssignOpStands | an operator that assigns | any_mark (codes "+=" ∷ codes "-=" ∷ codes "*=" ∷ codes "/=" ∷ codes "%="\
+ ∷ codes "^=" ∷ codes "&=" ∷ codes "|=" ∷ codes "<<=" ∷ codes ">>=" ∷ [])
 EqualityStands | `==`, `<=`, `!=` or `>=` | any_mark (codes "==" ∷ codes "<=" ∷ codes "!=" ∷ codes ">=" ∷ [])
 AssignStands | `=` that begins no `=>` | no (marks "=>") then marks "="
 ShiftStands | `<<` or `>>` | marks "<<" or marks ">>"
@@ -160,26 +160,30 @@ RangeIsOpenInCondition | no end of a range in a condition | range_is_open k.InCo
 for each in COMPOSITES:
     each[:] = [part.replace('\u2016', '|') for part in each]
 SOURCES = {
-    'Look': 'a_literal a_lifetime all_attributes an_ident a_name a_quoted any_mark maybe no', 'Say': 'at marks parenthesis brace bracket',
-    'Words': 'is_index', 'Paths': 'turbofish arguments_stand', 'Types': 'colon bound_stands', 'Patterns':
-    'vert binding dots range_bound_stands range_end_stands', 'Generics': 'impl_generics_stand where_ends',
-    'Expressions': 'postfix_stands', 'Items': 'restricted restricted_in receiver_stands signature_stands trait_stands '
-    'restricted_trait_stands maybe_safety', 'Lists': 'macro_stands', 'Statements':
-    'macro_item_stands macro_statement_stands item_stands', 'Forms':
-    'labelled typed_closure_stands closure_stands repeat_stands macro_call_stands dot_stands operand_stands range_is_open',
+    'Look': 'a_literal a_lifetime all_attributes an_ident a_name a_quoted any_mark maybe no',
+    'Say': 'at marks parenthesis brace bracket', 'Words': 'is_index', 'Paths': 'turbofish arguments_stand',
+    'Types': 'colon bound_stands', 'Patterns': 'vert binding dots range_bound_stands range_end_stands',
+    'Generics': 'impl_generics_stand where_ends', 'Expressions': 'postfix_stands',
+    'Items': 'restricted restricted_in receiver_stands signature_stands trait_stands restricted_trait_stands '
+             'maybe_safety',
+    'Lists': 'macro_stands', 'Statements': 'macro_item_stands macro_statement_stands item_stands',
+    'Forms': 'labelled typed_closure_stands closure_stands repeat_stands macro_call_stands dot_stands operand_stands '
+             'range_is_open',
 }
 KEYWORDS = {'_': 'Underscore', 'self': 'SelfValue'}
 WORD_CLASSES = {'is_ident': 'Ident', 'is_name': 'Name', 'is_plain_name': 'PlainName', 'is_path_keyword': 'PathKeyword',
                 'is_bool': 'Bool', 'any_text': 'Any'}
 WORD_LISTS = {('crate', 'self', 'super'): 'Restriction', ('self', 'super', 'crate'): 'MacroStart',
-              ('self', 'super', 'crate', 'try'): 'UseWord', ('unsafe', 'safe'): 'Safety', ('const', 'mut'): 'ConstOrMut'}
-LITERALS = {'any_text': 'Any', 'is_number': 'Number', 'is_string': 'Text', 'is_index': 'Index', 'are_indices': 'Indices',
-            'ends_in_dot': 'EndsInDot'}
+              ('self', 'super', 'crate', 'try'): 'UseWord', ('unsafe', 'safe'): 'Safety',
+              ('const', 'mut'): 'ConstOrMut'}
+LITERALS = {'any_text': 'Any', 'is_number': 'Number', 'is_string': 'Text', 'is_index': 'Index',
+            'are_indices': 'Indices', 'ends_in_dot': 'EndsInDot'}
 VERDICTS = {'SomeBounds': 'SomeBounds', 'FieldPatterns': 'FieldPatterns', 'FieldValues': 'FieldValues', 'Arm': 'Arm',
             'Parameters': 'Parameters', 'FnArg': 'FnArg', 'ATrait': 'Trait', 'ARestrictedTrait': 'RestrictedTrait',
             'AnImpl': 'Impl', 'ItemTrait': 'TraitByItself', 'ItemTraitAlias': 'TraitAliasByItself', 'ALet': 'Let',
             'OneStatement': 'OneStatement', 'Statements': 'Statements', 'AnItem': 'Item(Place::InFile)',
-            'AForeignItem': 'Item(Place::InForeign)', 'ATraitItem': 'Item(Place::InTrait)', 'AnImplItem': 'Item(Place::InImpl)',
+            'AForeignItem': 'Item(Place::InForeign)', 'ATraitItem': 'Item(Place::InTrait)',
+            'AnImplItem': 'Item(Place::InImpl)',
             'ForeignItemStatic': 'Typed(Place::InForeign)'}
 
 
@@ -189,6 +193,9 @@ def sign_names():
 
 
 SIGNS = sign_names()
+# Words of the language with which rules begin.
+FIRST_WORDS = {'async', 'break', 'const', 'dyn', 'enum', 'extern', 'for', 'if', 'impl', 'macro', 'match', 'pub', 'ref',
+               'static', 'struct', 'type', 'union', 'unsafe', 'use', 'where'}
 
 
 def snake(name):
@@ -363,6 +370,82 @@ def entries():
     return found
 
 
+# The rules of kinds above whose entries the written grammar has no words.
+RULES = dict(line.split(' | ') for line in '''
+ImplType | impl bounds, of which one at least is a path.
+NeverType | !
+InferType | _
+WildPattern | _
+RestPattern | ..
+SlicePattern | [patterns]
+ImplGenerics | Behind impl generics stand only where < begins parameters.
+GenericParams | Parameters with commas between them, up to > .
+ExprLit | A literal, true or false.
+ExprPath | A path, perhaps a qualified one.
+ExprMacro | A macro.
+ExprArray | [expressions]
+ExprInfer | _
+ExprBlock | Label? body
+ExprUnsafe | unsafe body
+ExprAsync | async move? block
+ExprConst | const body
+ExprTryBlock | try block
+ExprLoop | Label? loop body
+ExprWhile | Label? while condition body
+ExprForLoop | Label? for Pat in condition body
+ExprContinue | continue Lifetime?
+ExprStruct | What stands behind the path: the fields.
+ExprCall | (expressions)
+ExprAwait | . await
+ExprIndex | [Expr]
+ExprTry | ?
+ExprCast | as Type, the type without plus, behind which no postfix form stands.
+ExprUnary | *, ! or -
+ExprRawAddr | & raw const, or & raw mut
+ExprReference | & mut?
+ExprLet | let Pat =
+ExprReturn | return
+ExprYield | yield
+ExprRange | ..
+ExprRangeClosed | ..=
+ExprAssign | =, or an operator and = in one.
+ExprOr | ||
+ExprAnd | &&
+ExprBitOr | |
+ExprBitXor | ^
+ExprBitAnd | &
+ExprShift | << or >>
+ExprSum | + or -
+ExprProduct | *, / or %
+FieldValues | { fields }; a base is the last, without a comma behind it.
+Arms | Arms, to the end.
+NamedFields | { fields }
+UnnamedFields | (fields)
+ATrait | unsafe? auto? trait Ident generics, (: bounds)? where? { inner attributes, items }, or = bounds where? ;
+AConstTrait | const and a trait.
+AnImpl | default? const? unsafe? impl generics !? Type (for Type)? where? { inner attributes, items }
+Items | Items, to the end.
+ForeignItems | Items of an extern block, to the end.
+TraitItems | Items of a trait, to the end.
+ImplItems | Items of an impl, to the end.
+ItemTrait | A trait by itself, which is no alias.
+ItemTraitAlias | An alias of traits by itself.
+OneFunction | A function by itself, as it stands in its place.
+OneTypeAlias | A type by itself, as it stands in its place.
+OneConst | A constant by itself, as it stands in its place.
+ForeignItemStatic | A static of an extern block by itself, with its safety.
+ALet | let alternative (: Type)? (= Expr (else block)?)? ;
+'''.strip().replace(' | |\n', ' | \u2016\n').replace(' | ||\n', ' | \u2016\u2016\n').split('\n'))
+
+
+def rule(kind, words_):
+    """The rule of a kind in words: a word of the language at its beginning stays as it is."""
+    if not words_:
+        return RULES[kind].replace('\u2016', '|')
+    first = re.match(r'\w*', words_)[0]
+    return words_ if first in FIRST_WORDS else words_[:1].upper() + words_[1:]
+
+
 def comment(module, name):
     """The words above an entry."""
     lines = open(os.path.join(CRATES, 'syn_grammar', 'specs', module + '.antt'), encoding='utf8').read().split('\n')
@@ -374,11 +457,13 @@ def comment(module, name):
     return ' '.join(words_above)
 
 
-CATEGORIES = ['Paths', 'Types', 'Patterns', 'Attributes', 'Generics', 'Expressions', 'Items', 'Functions', 'Lists', 'Statements']
+CATEGORIES = ['Paths', 'Types', 'Patterns', 'Attributes', 'Generics', 'Expressions', 'Items', 'Functions', 'Lists',
+              'Statements']
 OF_FUNCTIONS = {'Parameters', 'Parameter', 'FnArg', 'Receiver', 'Signature', 'AFunction'}
 TITLES = {'Paths': 'paths, their arguments, macros and members', 'Types': 'types and bounds', 'Patterns': 'patterns',
           'Attributes': 'attributes', 'Generics': 'generics and where clauses', 'Expressions': 'expressions',
-          'Functions': 'functions and their parameters', 'Items': 'items, behind their attributes and their visibility', 'Lists': 'items among others, and by themselves',
+          'Functions': 'functions and their parameters', 'Items': 'items, behind their attributes and their visibility',
+          'Lists': 'items among others, and by themselves',
           'Statements': 'statements and files'}
 
 
@@ -416,17 +501,32 @@ def static(name, type_, steps):
     return f'static {name}: [{type_}; {len(steps)}] = [{", ".join(steps)}];\n'
 
 
-def called(name, value):
-    """The name of the function of a kind."""
-    return 'optional_where' if name == 'Where' else snake(name + (value or '')).lower()
+def answers(function, uses_, goals, before=()):
+    """The answers of a function, which has a row in each arm: the arm's fact says what was matched, and the rest is
+    evaluation."""
+    head = ['-- Each arm gives a row, and the row is evaluated. Written by tools/rows.py.', *uses_,
+            f'use Rattle.gram_table.proofs.{function.replace("/", ".")}.Goals as goal', '', *before]
+    body = []
+    for name, opened, proof in goals:
+        body += [f'pub returns-in-{name} : goal.returns-in-{name}'] + ([f'unfolding {opened}'] if opened else [])
+        body += [f'returns-in-{name} c = {proof}', '']
+    write(f'proofs/{function}/Answers.antt', '\n'.join(head + body))
 
 
-def function(kind, steps, doc):
-    """The function that answers an entry."""
-    name = called(kind[0], kind[1][0] if len(kind) > 1 else None)
-    shown = f'(kinds.{kind[0]} {KIND_TYPES[kind[1][0]].lower()}s.{kind[1][0]})' if len(kind) > 1 else f'kinds.{kind[0]}'
-    return '\n'.join(doc + ['#[tactic(auto, unfolding(syn_grammar::specs::Table::table))]', f"pub(crate) fn {name}() -> &'static [Op]", f'    ensures {{ gram_of result.now ≡ table (kind_of {shown}) }}',
-                            '{', '    ' + static('ROW', 'Op', steps).rstrip(), '    &ROW', '}', ''])
+def choice(module, name, parameter):
+    """The function that answers the entry of a kind that has a parameter."""
+    given = parameter.lower()
+    answers(f'{module}/{snake(name).lower()}', [
+        'use Rattle.std.proofs.Common.{sym, ap}', 'use Rattle.syn_grammar.specs.Table.{table}',
+        'use Rattle.gram_table.specs.Kinds.{kind_of}',
+        f'use Rattle.gram_table.specs.declared.kind.{parameter}.{{{parameter}}}',
+        'use Rattle.gram_table.specs.declared.kind.Kind.TheVariants as kinds'],
+        [(v, 'table', f'sym (ap (λ (p : {parameter}). table (kind_of (kinds.{name} p))) c.in-{v}.is)')
+         for v in PARAMETERS[parameter]])
+    arms = [f'        {parameter}::{v} => &{snake(name + v)},' for v in PARAMETERS[parameter]]
+    return '\n'.join([f"pub(crate) fn {snake(name).lower()}({given}: {parameter}) -> &'static [Op]",
+                      f'    ensures {{ gram_of result.now ≡ table (kind_of (kinds.{name} {given})) }}',
+                      '{', f'    match {given} {{', *arms, '    }', '}', ''])
 
 
 def write_rows(rows):
@@ -438,20 +538,28 @@ def write_rows(rows):
         module, words_ = home[name]
         module = 'Functions' if name in OF_FUNCTIONS else module
         values = PARAMETERS[parameter] if parameter else [None]
-        doc = wrapped('//', words_[:1].upper() + words_[1:]) if words_ else [f'// {name}.']
+        doc = wrapped('///', rule(name, words_))
         for v in values:
             kind = (name, (v,)) if v else (name,)
-            bodies[module].append(function(kind, rows.ops(table(kind), kind), doc))
-            arms.append(f'Kind::{name}{f"({parameter}::{v})" if v else ""} => {module.lower()}::{called(name, v)}(),')
+            row = static(snake(name + (v or '')), 'Op', rows.ops(table(kind), kind))
+            bodies[module].append('\n'.join(doc + [row if v else f'pub(crate) {row}']))
+        if parameter:
+            given = parameter.lower()
+            bodies[module].append(choice(module.lower(), name, parameter))
+            arms.append(f'Kind::{name}({given}) => {module.lower()}::{snake(name).lower()}({given}),')
+        else:
+            arms.append(f'Kind::{name} => &{module.lower()}::{snake(name)},')
     for module in CATEGORIES:
         body = '\n'.join(bodies[module])
-        head = [f'//! The entries of {TITLES[module]}.', '', '// Written by tools/rows.py from the entries of the written grammar.', '']
-        ghosts = ['ghost use Rattle.gram_table.specs.Kinds.{kind_of};', 'ghost use Rattle.gram_table.specs.Ops.{gram_of};',
-                  'ghost use Rattle.gram_table.specs.declared.kind.Kind.TheVariants as kinds;']
-        ghosts += [f'ghost use Rattle.gram_table.specs.declared.kind.{t}.TheVariants as {t.lower()}s;' for t in PARAMETERS
-                   if f' {t.lower()}s.' in body]
-        ghosts += ['ghost use Rattle.std.specs.Prelude.{◌≡◌};', 'ghost use Rattle.syn_grammar.specs.Table.{table};', '']
-        write(f'src/{module.lower()}.rt', '\n'.join(head + ghosts + uses(body, set()) + ['', body]))
+        head = [f'//! The entries of {TITLES[module]}.', '',
+                '// Written by tools/rows.py from the entries of the written grammar.', '']
+        if 'gram_of' in body:
+            head += ['ghost use Rattle.gram_table.specs.Kinds.{kind_of};',
+                     'ghost use Rattle.gram_table.specs.Ops.{gram_of};',
+                     'ghost use Rattle.gram_table.specs.declared.kind.Kind.TheVariants as kinds;',
+                     'ghost use Rattle.std.specs.Prelude.{◌≡◌};',
+                     'ghost use Rattle.syn_grammar.specs.Table.{table};', '']
+        write(f'src/{module.lower()}.rt', '\n'.join(head + uses(body, set()) + ['', body]))
     return arms
 
 
@@ -463,36 +571,38 @@ def write_composites(rows):
     write('src/composite.rt', '\n'.join(out + ['}', '']))
     of_forms = [c[0] for c in COMPOSITES].index('LabelledBlock')
     write_sights(rows, 'entry_sights', COMPOSITES[:of_forms], 'What looks of several steps see, of entries.')
-    write_sights(rows, 'form_sights', COMPOSITES[of_forms:], 'What looks of several steps see, of how expressions bind.')
-    arms = [f'        Composite::{c[0]} => {"entry" if n < of_forms else "form"}_sights::{snake(c[0]).lower()}(),'
+    write_sights(rows, 'form_sights', COMPOSITES[of_forms:],
+                 'What looks of several steps see, of how expressions bind.')
+    arms = [f'        Composite::{c[0]} => &{"entry" if n < of_forms else "form"}_sights::{snake(c[0])},'
             for n, c in enumerate(COMPOSITES)]
     head = ['//! What looks of several steps see, step by step.', '', '// Written by tools/rows.py.', '',
-            'ghost use Rattle.gram_table.specs.Composites.{composite_of};', 'ghost use Rattle.gram_table.specs.Looks.{sights_of};',
-            'ghost use Rattle.std.specs.Prelude.{◌≡◌};', '', 'use crate::composite::Composite;', 'use crate::op::Sight;',
+            'ghost use Rattle.gram_table.specs.Composites.{composite_of};',
+            'ghost use Rattle.gram_table.specs.Looks.{sights_of};', 'ghost use Rattle.std.specs.Prelude.{◌≡◌};', '',
+            'use crate::composite::Composite;', 'use crate::op::Sight;',
             'use crate::{entry_sights, form_sights};', '', '/// The steps of a look of several.',
             "pub fn sights(composite: Composite) -> &'static [Sight]",
             '    ensures { sights_of result.now ≡ composite_of composite }', '{', '    match composite {'] \
         + arms + ['    }', '}', '']
     write('src/sights.rt', '\n'.join(head))
+    answers('sights/sights', ['use Rattle.std.proofs.Common.{sym, ap}',
+                              'use Rattle.gram_table.specs.Composites.{composite_of}'],
+            [(c[0], None, f'sym (ap composite_of c.in-{c[0]}.is)') for c in COMPOSITES])
     write_composite_spec()
 
 
 def write_sights(rows, module, composites, title):
     body = []
     for name, words_, term in composites:
-        body.append('\n'.join([f'// {words_[:1].upper() + words_[1:]}.', f"pub(crate) fn {snake(name).lower()}() -> &'static [Sight]",
-                               f'    ensures {{ sights_of result.now ≡ composite_of composites.{name} }}', '{',
-                               '    ' + static('ROW', 'Sight', sights(rows.look_of(term))).rstrip(), '    &ROW', '}', '']))
+        row = static(snake(name), 'Sight', sights(rows.look_of(term)))
+        body.append(f'/// {words_[:1].upper() + words_[1:]}.\npub(crate) {row}')
     text_ = '\n'.join(body)
-    head = [f'//! {title}', '', '// Written by tools/rows.py.', '',
-            'ghost use Rattle.gram_table.specs.Composites.{composite_of};', 'ghost use Rattle.gram_table.specs.Looks.{sights_of};',
-            'ghost use Rattle.gram_table.specs.declared.composite.Composite.TheVariants as composites;',
-            'ghost use Rattle.std.specs.Prelude.{◌≡◌};', '']
+    head = [f'//! {title}', '', '// Written by tools/rows.py.', '']
     write(f'src/{module}.rt', '\n'.join(head + uses(re.sub('composite', '', text_), set()) + ['', text_]))
 
 
 def write_composite_spec():
-    spec = ['-- What looks of several steps see, in the words of the written grammar. Written by tools/rows.py.\n'] + imports()
+    spec = ['-- What looks of several steps see, in the words of the written grammar. Written by tools/rows.py.\n']
+    spec += imports()
     spec += ['use Rattle.gram_table.specs.declared.composite.Composite.{Composite}\n',
              'use Rattle.gram_table.specs.declared.composite.Composite.TheVariants as composites\n', '\n',
              'abbrev pub composite_of : Composite → Look\n']
@@ -511,10 +621,17 @@ def write_entry(arms):
     head = ['//! The entry of each kind.', '', '// Written by tools/rows.py.', '',
             'ghost use Rattle.gram_table.specs.Kinds.{kind_of};', 'ghost use Rattle.gram_table.specs.Ops.{gram_of};',
             'ghost use Rattle.std.specs.Prelude.{◌≡◌};', 'ghost use Rattle.syn_grammar.specs.Table.{table};', '',
-            'use crate::kind::{Kind, Place, Plus, Position, Style};', 'use crate::op::Op;', f'use crate::{{{modules}}};', '',
+            'use crate::kind::Kind;', 'use crate::op::Op;', f'use crate::{{{modules}}};', '',
             '/// The entry of a kind, as steps.', "pub fn entry(kind: Kind) -> &'static [Op]",
-            '    ensures { gram_of result.now ≡ table (kind_of kind) }', '{', '    match kind {', body, '    }', '}', '']
+            '    ensures { gram_of result.now ≡ table (kind_of kind) }', '{', '    match kind {', body, '    }', '}',
+            '']
     write('src/entry.rt', '\n'.join(head))
+    plain = [re.match(r'Kind::(\w+) =>', arm) for arm in arms]
+    answers('entry/entry', ['use Rattle.std.proofs.Common.{sym, ap}', 'use Rattle.syn_grammar.specs.Gram.{Gram}',
+                            'use Rattle.syn_grammar.specs.Table.{table}', 'use Rattle.gram_table.specs.Kinds.{kind_of}',
+                            'use Rattle.gram_table.specs.declared.kind.Kind.{Kind}'],
+            [(m.group(1), 'table', f'sym (ap entry_of c.in-{m.group(1)}.is)') for m in plain if m],
+            ['abbrev entry_of : Kind → Gram', 'entry_of k = table (kind_of k)', ''])
 
 
 def write_forms(rows):
@@ -523,24 +640,28 @@ def write_forms(rows):
         for value in PARAMETERS['Position']:
             cases = items_of(rows.world.get(SPECS + 'Forms', which)((value,)))
             steps = [f'Case {{ kind: {kind_code(c[1])}, look: {rows.look(c[2])} }}' for c in cases]
-            name = f'{which}_{snake(value).lower()}'
-            body.append('\n'.join([f"fn {name}() -> &'static [Case]",
-                                   f'    ensures {{ cases_of result.now ≡ {which} (position_of positions.{value}) }}', '{',
-                                   '    ' + static('ROW', 'Case', steps).rstrip(), '    &ROW', '}', '']))
-            arms[which].append(f'        Position::{value} => {name}(),')
+            name = f'{which.upper()}_{snake(value)}'
+            body.append(static(name, 'Case', steps))
+            arms[which].append(f'        Position::{value} => &{name},')
     foot = []
     for which, words_ in (('fronts', 'The forms that begin in a position, in the order in which they are looked for.'),
                           ('backs', 'The forms whose left operand stands before them in a position, in their order.')):
         foot += ['', f'/// {words_}', f"pub fn {which}(position: Position) -> &'static [Case]",
-                 f'    ensures {{ cases_of result.now ≡ {which} (position_of position) }}', '{', '    match position {'] \
-            + arms[which] + ['    }', '}']
+                 f'    ensures {{ cases_of result.now ≡ {which} (position_of position) }}', '{',
+                 '    match position {'] + arms[which] + ['    }', '}']
     text_ = '\n'.join(body)
     head = ['//! Which forms of expressions begin at tokens, and which have their left operand before them.', '',
             '// Written by tools/rows.py.', '',
-            'ghost use Rattle.gram_table.specs.Cases.{cases_of};', 'ghost use Rattle.gram_table.specs.Kinds.{position_of};',
-            'ghost use Rattle.gram_table.specs.declared.kind.Position.TheVariants as positions;',
-            'ghost use Rattle.std.specs.Prelude.{◌≡◌};', 'ghost use Rattle.syn_grammar.specs.Forms.{backs, fronts};', '']
+            'ghost use Rattle.gram_table.specs.Cases.{cases_of};',
+            'ghost use Rattle.gram_table.specs.Kinds.{position_of};', 'ghost use Rattle.std.specs.Prelude.{◌≡◌};',
+            'ghost use Rattle.syn_grammar.specs.Forms.{backs, fronts};', '']
     write('src/form.rt', '\n'.join(head + uses(text_ + 'Position', set()) + ['', text_] + foot + ['']))
+    for which in arms:
+        answers(f'form/{which}', ['use Rattle.std.proofs.Common.{sym, ap}', 'use Rattle.syn_grammar.specs.Forms as f',
+                                  'use Rattle.gram_table.specs.Kinds.{position_of}',
+                                  'use Rattle.gram_table.specs.declared.kind.Position.{Position}'],
+                [(v, None, f'sym (ap (λ (p : Position). f.{which} (position_of p)) c.in-{v}.is)')
+                 for v in PARAMETERS['Position']])
 
 
 def main():
