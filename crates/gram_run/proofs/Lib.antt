@@ -6,3 +6,4 @@ pub mod Turns
 pub mod Elements
 pub mod Operands
 pub mod Choices
+pub mod Public

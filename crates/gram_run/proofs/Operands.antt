@@ -158,3 +158,19 @@ module _ (call : Call → List Token → Out) (alone : Tree → Tree) (both : Tr
   own_right_fails f g y ts us s e h i =
       fails_as f (right_of call alone both p k y us true) (own_of call alone both p k ts) (own_got g y ts us true s e h)
       (fails_on f (call (tower (inside p k) (level k)) us) _ i)
+
+begun_is : (call : Call → List Token → Out) (p : Position) (k : Kind) (ts : List Token) → front p ts ≡ Some k
+    → begun call p ts ≡ own_of call (Alone k) (Front k) p k ts
+begun_is call p k ts e = ap (begun_at call p ts) e
+
+-- an operand begins with a form of the kind
+module _ (m : ℕ) (p : Position) (n i : ℕ) (k : Kind) (ts : List Token) where
+  pub operand_fails : (e : Refusal) → i ≡ suc m → front p ts ≡ Some k
+      → Fails e (own_of (run m) (Alone k) (Front k) p k ts) → Fails e (run i (tower p n) ts)
+  operand_fails e s h f =
+      tower_fails m p n e i ts s (fails_as e (own_of (run m) (Alone k) (Front k) p k ts) (begun (run m) p ts)
+      (begun_is (run m) p k ts h) f)
+
+  pub operand_goes : (us : List Token) (x : Tree) → i ≡ suc m → front p ts ≡ Some k
+      → own_of (run m) (Alone k) (Front k) p k ts ≡ Got x us → run i (tower p n) ts ≡ run m (climb p n x) us
+  operand_goes us x s h g = tower_goes m p n i ts us x s (begun_is (run m) p k ts h ∙ g)

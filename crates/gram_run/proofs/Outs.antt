@@ -6,7 +6,7 @@ use Rattle.proc_macro2.specs.Token.{Token}
 use Rattle.syn_buffer.specs.declared.entry.Entry.{Entry}
 use Rattle.syn_grammar.specs.Tree.{Tree}
 use Rattle.syn_grammar.specs.Run.{Out, Late, Refused, Got, ◌>>=◌, wrap}
-use Rattle.gram_run.specs.Answers.{Fails, Gives, tokens}
+use Rattle.gram_run.specs.Answers.{Fails, Gives, IsSyntax, tokens}
 use Rattle.gram_run.specs.declared.refusal.Refusal.{Refusal}
 use Rattle.gram_run.specs.declared.refusal.Refusal.TheVariants as refusals
 
@@ -24,3 +24,9 @@ fails_as (refusals.Syntax w) o p s h = s ∙ h
 
 pub got_on : (o : Out) (f : Tree → List Token → Out) (x : Tree) (us : List Token) → o ≡ Got x us → (o >>= f) ≡ f x us
 got_on o f x us h = ap (λ o. o >>= f) h
+
+-- tokens that are wrong, where a run refuses
+pub syntax_fails : (e : Refusal) (o : Out) → IsSyntax e → o ≡ Refused → Fails e o
+syntax_fails (refusals.Syntax w) o h r = r
+syntax_fails refusals.Memory o h r = absurd h
+syntax_fails refusals.Late o h r = absurd h

@@ -2,6 +2,9 @@
 use Rattle.syn_grammar.specs.Tree as t
 use Rattle.syn_grammar.specs.Tree.{Tree}
 use Rattle.gram_table.specs.Kinds.{kind_of}
+use Rattle.syn_grammar.specs.Run.{Out, ◌>>=◌, judge}
+use Rattle.gram_table.specs.Verdicts.{verdict_of}
+use Rattle.gram_table.specs.declared.op.Verdicts.{Verdicts}
 use Rattle.gram_table.specs.Parts.{part_of}
 use Rattle.gram_run.specs.declared.around.Around.{Around}
 use Rattle.gram_run.specs.declared.around.Around.TheVariants as arounds
@@ -13,3 +16,6 @@ around_of arounds.Dropped x = t.Dropped x
 around_of (arounds.Called p) x = t.Called (part_of p) x
 around_of (arounds.Node k) x = t.Node (kind_of k) x
 around_of arounds.Whole x = t.Whole x
+
+abbrev pub judged_as : Verdicts → Out → Out
+judged_as v o = o >>= λ x us. judge (verdict_of v x) x us

@@ -4,7 +4,10 @@ use Rattle.proc_macro2.specs.Token.{Token}
 use Rattle.syn_grammar.specs.Kind.{Kind, Position}
 use Rattle.syn_grammar.specs.Tree.{Tree, Alone, Front, Back, Infix}
 use Rattle.syn_grammar.specs.Table.{table}
-use Rattle.syn_grammar.specs.Forms.{front, has_right, level, inside}
+use Rattle.syn_grammar.specs.Forms.{back, chains, front, goes_on, has_right, level, inside}
+use Rattle.gram_table.specs.Kinds.{kind_of}
+use Rattle.gram_run.specs.declared.next.Next.{Next}
+use Rattle.gram_run.specs.declared.next.Next.TheVariants as nexts
 use Rattle.syn_grammar.specs.Run.{Call, Out, Refused, Got, ◌>>=◌, tower, interp}
 
 -- the operand behind an own part, and what is made of both, or of the own part alone
@@ -35,3 +38,10 @@ extended call p l k ts = own_of call (Back l k) (Infix l k) p k ts
 abbrev pub made_of : (Tree → Tree) → (Tree → Tree → Tree) → Tree → Option Tree → Tree
 made_of alone both y None = alone y
 made_of alone both y (Some x) = both y x
+
+-- what goes on from a left operand: nothing, what is not chained with it, or a form of the kind
+abbrev pub IsNext : Next → Position → ℕ → Tree → List Token → Type 0
+IsNext nexts.Nothing p n l ts = goes_on p n l ts ≡ false
+IsNext nexts.Chained p n l ts = (k : Kind) × (back p ts ≡ Some k) × (goes_on p n l ts ≡ true) × (chains l k ≡ true)
+IsNext (nexts.Form j) p n l ts =
+    (back p ts ≡ Some (kind_of j)) × (goes_on p n l ts ≡ true) × (chains l (kind_of j) ≡ false)

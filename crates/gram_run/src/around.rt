@@ -1,13 +1,15 @@
 //! What is made of a tree that was read.
 
 ghost use Rattle.gram_run.specs.Answers.{Gives};
-ghost use Rattle.gram_run.specs.Around.{around_of};
+ghost use Rattle.gram_run.specs.Around.{around_of, judged_as};
 ghost use Rattle.std.specs.Prelude.{◌≡◌, IfOk, IsTrue};
 ghost use Rattle.syn_buffer.specs.Entries.{is_whole};
 ghost use Rattle.syn_grammar.specs.Run.{Out, wrap};
 
-use crate::refusal::Refusal;
+use crate::refusal::{Refusal, Wanted, refuse};
+use crate::rules::{Rules, Verdict};
 use gram_table::kind::Kind;
+use gram_table::op::Verdicts;
 use gram_table::part::Part;
 use gram_tree::made;
 use gram_tree::tree::Tree;
@@ -59,4 +61,24 @@ pub(crate) fn surround<'a>(
 {
     let (tree, rest) = inner?;
     Ok((surrounded(alloc, around, tree)?, rest))
+}
+
+/// What was read, as it is judged.
+pub(crate) fn judged<'a, R: Rules>(
+    rules: &R,
+    alloc: Global,
+    verdicts: Verdicts,
+    inner: Result<(Tree<'a>, &'a [Entry<'a>]), Refusal>,
+) -> Result<(Tree<'a>, &'a [Entry<'a>]), Refusal>
+    requires { IfOk inner (λ x. IsTrue (is_whole x.1.now)) }
+    ensures answer { (o : Out) → Gives (λ x. x.0) (λ x. x.1.now) inner.entry o
+        → Gives (λ x. x.0) (λ x. x.1.now) result (judged_as verdicts o) }
+    ensures whole { IfOk result (λ x. IsTrue (is_whole x.1.now)) }
+{
+    let (tree, rest) = inner?;
+    match rules.judge(verdicts, &tree) {
+        Verdict::Keep => Ok((made::first(alloc, tree)?, rest)),
+        Verdict::AsRaw => Ok((made::verbatim(alloc, tree)?, rest)),
+        Verdict::Refuse => Err(refuse(Wanted::Judged(verdicts), rest)),
+    }
 }

@@ -1,11 +1,19 @@
 //! Parts of entries, and which of them is read there.
 
+ghost use Rattle.gram_run.specs.Answers.{tokens};
+ghost use Rattle.gram_run.specs.Around.{around_of};
 ghost use Rattle.gram_table.specs.Ops.{gram_of};
 ghost use Rattle.gram_table.specs.declared.op.Op.TheVariants as ops;
-ghost use Rattle.std.specs.Prelude.{◌≡◌, ◌≤◌, ◌∷◌, IfSome, MatchOption, length};
+ghost use Rattle.proc_macro2.specs.Token.{Token};
+ghost use Rattle.std.specs.Prelude.{◌≡◌, ◌≤◌, ◌<◌, ◌∷◌, IfNone, IfSome, IsTrue, List, MatchOption, length};
+ghost use Rattle.syn_buffer.specs.Entries.{is_whole};
 ghost use Rattle.syn_grammar.specs.Gram.{never, seq};
+ghost use Rattle.syn_grammar.specs.Run.{Call, Out, Refused, interp, wrap};
 
-use gram_table::op::Op;
+use crate::around::Around;
+use crate::rules::Rules;
+use gram_table::op::{Op, Test};
+use syn_buffer::entry::Entry;
 
 /// The two parts of a sequence, of which the first takes so many steps.
 pub(crate) fn halves(count: usize, parts: &'static [Op]) -> Option<(&'static [Op], &'static [Op])>
@@ -16,4 +24,42 @@ pub(crate) fn halves(count: usize, parts: &'static [Op]) -> Option<(&'static [Op
 {
     let (front, back) = parts.split_at_checked(count)?;
     Some((front, back))
+}
+
+/// A part that is chosen, and what it is of the choice.
+#[derive(Clone, Copy)]
+pub(crate) struct Choice {
+    /// The first, or the second.
+    pub(crate) around: Around,
+    /// What it says.
+    pub(crate) parts: &'static [Op],
+}
+
+/// The part that is chosen there, of two of which the first takes so many steps.
+pub(crate) fn chosen<R: Rules>(
+    rules: &R,
+    test: Test,
+    count: usize,
+    parts: &'static [Op],
+    at: &[Entry<'_>],
+) -> Option<Choice>
+    requires { IsTrue (is_whole at.now) }
+    ensures says { MatchOption result
+        ((call : Call → List Token → Out) → interp call (gram_of (ops.Alt test count ∷ parts.now)) (tokens at.now)
+        ≡ Refused)
+        (λ x. (call : Call → List Token → Out) → interp call (gram_of (ops.Alt test count ∷ parts.now)) (tokens at.now)
+        ≡ wrap (around_of x.around) (interp call (gram_of x.parts.now) (tokens at.now))) }
+    ensures shorter { IfSome result (λ x. length x.parts.now ≤ length parts.now) }
+{
+    let (first, second) = parts.split_at_checked(count)?;
+    if rules.passes(test, at) {
+        return Some(Choice {
+            around: Around::First,
+            parts: first,
+        });
+    }
+    Some(Choice {
+        around: Around::Second,
+        parts: second,
+    })
 }

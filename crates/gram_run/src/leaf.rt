@@ -1,19 +1,82 @@
-//! Lifetimes, separators of lists, and tokens that are kept as they are.
+//! Words, literals, marks, and tokens that are kept as they are.
 
 ghost use Rattle.gram_run.specs.Answers.{Gives, tokens};
 ghost use Rattle.gram_table.specs.Ops.{separator_of};
-ghost use Rattle.std.specs.Prelude.{◌≡◌, IfNone, IfOk, IfSome, IsTrue, [], false, true};
+ghost use Rattle.gram_table.specs.Words.{literals_of, sign_text, words_of};
+ghost use Rattle.proc_macro2.specs.Token.{Token};
+ghost use Rattle.std.specs.Prelude.{◌≡◌, IfNone, IfOk, IfSome, IsTrue, List, [], false, true};
 ghost use Rattle.syn_buffer.specs.Entries.{is_whole};
+ghost use Rattle.syn_grammar.specs.Gram.{punct};
 ghost use Rattle.syn_grammar.specs.Look.{past_marks, sees};
 ghost use Rattle.syn_grammar.specs.Tree.{AMark};
-ghost use Rattle.syn_grammar.specs.Run.{Got, lifetime_at, mark_at, raw_at};
+ghost use Rattle.syn_grammar.specs.Run.{Call, Got, Out, interp, lifetime_at, literal_at, mark_at, raw_at, word_at};
 
 use crate::refusal::{Refusal, Wanted, refuse};
+use crate::rules::Rules;
 use gram_table::op::Separator;
+use gram_table::word::{Literals, Sign, Words};
 use gram_tree::made;
 use gram_tree::tree::Tree;
 use rust_leaf::punct::Spacing;
 use syn_buffer::entry::Entry;
+
+/// A word that passes.
+#[tactic(auto, unfolding(syn_grammar::specs::Run::word_at))]
+pub(crate) fn word<'a>(
+    words: Words,
+    at: &'a [Entry<'a>],
+) -> Result<(Tree<'a>, &'a [Entry<'a>]), Refusal>
+    requires { IsTrue (is_whole at.now) }
+    ensures answer { Gives (λ x. x.0) (λ x. x.1.now) result (word_at (words_of words) (tokens at.now)) }
+    ensures whole { IfOk result (λ x. IsTrue (is_whole x.1.now)) }
+{
+    if let [entry, rest @ ..] = at {
+        if let Entry::Ident(ident) = *entry {
+            if gram_look::leaf::word(words, ident) {
+                return Ok((made::word(ident), rest));
+            }
+        }
+    }
+    Err(refuse(Wanted::Word(words), at))
+}
+
+/// A literal that passes.
+#[tactic(auto, using(crate::proofs::Groups::behind_literal), unfolding(syn_grammar::specs::Run::literal_at))]
+pub(crate) fn literal<'a, R: Rules>(
+    rules: &R,
+    literals: Literals,
+    at: &'a [Entry<'a>],
+) -> Result<(Tree<'a>, &'a [Entry<'a>]), Refusal>
+    requires { IsTrue (is_whole at.now) }
+    ensures answer { Gives (λ x. x.0) (λ x. x.1.now) result (literal_at (literals_of literals) (tokens at.now)) }
+    ensures whole { IfOk result (λ x. IsTrue (is_whole x.1.now)) }
+{
+    if let [entry, rest @ ..] = at {
+        if let Entry::Literal(literal) = *entry {
+            if rules.literal(literals, literal) {
+                return Ok((made::literal(literal), rest));
+            }
+        }
+    }
+    Err(refuse(Wanted::Literal(literals), at))
+}
+
+/// A punctuation.
+pub(crate) fn mark<'a, R: Rules>(
+    rules: &R,
+    sign: Sign,
+    at: &'a [Entry<'a>],
+) -> Result<(Tree<'a>, &'a [Entry<'a>]), Refusal>
+    requires { IsTrue (is_whole at.now) }
+    ensures answer { (call : Call → List Token → Out) → Gives (λ x. x.0) (λ x. x.1.now) result
+        (interp call (punct (sign_text sign)) (tokens at.now)) }
+    ensures whole { IfOk result (λ x. IsTrue (is_whole x.1.now)) }
+{
+    match rules.mark(sign, at) {
+        Some((spacing, span, rest)) => Ok((made::mark(sign, spacing, span), rest)),
+        None => Err(refuse(Wanted::Mark(sign), at)),
+    }
+}
 
 /// `'` and a word.
 #[tactic(auto, unfolding(syn_grammar::specs::Run::lifetime_at))]

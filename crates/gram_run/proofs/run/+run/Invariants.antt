@@ -1,0 +1,60 @@
+-- Each call has less fuel, or as much and fewer steps.
+use Rattle.std.proofs.Common.{◌≡◌, ◌+◌, ◌*◌, ◌≤◌, ◌^◌, length, true}
+use Rattle.syn_grammar.specs.Run.{run, loop, list}
+use Rattle.syn_buffer.specs.Entries.{is_whole}
+use Rattle.gram_table.specs.Looks.{test_of}
+use Rattle.gram_table.specs.Ops.{gram_of, separator_of}
+use Rattle.gram_run.specs.Answers.{tokens}
+use Rattle.gram_run.proofs.Turns.{behind_turns}
+use Rattle.gram_run.proofs.Elements.{behind_elements}
+use Rattle.gram_run.proofs.run.+run.Given as goal
+
+abbrev pub decreases-call : goal.decreases-call
+decreases-call g l = 2 ^ 67 * l.fuel
+
+abbrev pub decreases-interp : goal.decreases-interp
+decreases-interp g l = 2 ^ 67 * l.fuel + 3 * length l.steps.now
+
+abbrev pub decreases-step : goal.decreases-step
+decreases-step g l = 2 ^ 67 * l.fuel + 3 * length l.parts.now + 2
+
+abbrev pub decreases-seq : goal.decreases-seq
+decreases-seq g l = 2 ^ 67 * l.fuel + 3 * length l.parts.now + 1
+
+abbrev pub decreases-star : goal.decreases-star
+decreases-star g l = 2 ^ 67 * l.most + 3 * length l.parts.now + 1
+
+abbrev pub decreases-many : goal.decreases-many
+decreases-many g l = 2 ^ 67 * l.most + 3 * length l.parts.now + 1
+
+abbrev pub decreases-own : goal.decreases-own
+decreases-own g l = 2 ^ 67 * l.fuel + 2 ^ 66
+
+abbrev pub decreases-tower : goal.decreases-tower
+decreases-tower g l = 2 ^ 67 * l.fuel
+
+abbrev pub decreases-climb : goal.decreases-climb
+decreases-climb g l = 2 ^ 67 * l.fuel
+
+abbrev pub invariant-star-turns : goal.invariant-star-turns
+invariant-star-turns g l = record {
+  read : behind_turns l.turns.items (run l.fuel (loop (test_of l.test) (gram_of l.parts)) (tokens l.at.entries.now))
+      ≡ run l.most (loop (test_of l.test) (gram_of l.parts)) (tokens l.begin);
+  whole : is_whole l.at.entries.now ≡ true;
+  least : l.fuel ≤ l.most;
+}
+
+abbrev pub decreases-star-turns : goal.decreases-star-turns
+decreases-star-turns g l = l.fuel
+
+abbrev pub invariant-many-elements : goal.invariant-many-elements
+invariant-many-elements g l = record {
+  read : behind_elements (separator_of l.separator) l.before.items
+      (run l.fuel (list (test_of l.test) (separator_of l.separator) (gram_of l.parts)) (tokens l.at.entries.now))
+      ≡ run l.most (list (test_of l.test) (separator_of l.separator) (gram_of l.parts)) (tokens l.begin);
+  whole : is_whole l.at.entries.now ≡ true;
+  least : l.fuel ≤ l.most;
+}
+
+abbrev pub decreases-many-elements : goal.decreases-many-elements
+decreases-many-elements g l = l.fuel

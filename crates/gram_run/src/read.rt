@@ -1,0 +1,40 @@
+//! The public call.
+
+ghost use Rattle.gram_run.specs.Answers.{IsSyntax, tokens};
+ghost use Rattle.gram_run.specs.declared.refusal.Refusal.TheVariants.{Late};
+ghost use Rattle.gram_table.specs.Kinds.{kind_of};
+ghost use Rattle.std.specs.Prelude.{◌≡◌, IfErr, IfOk, IsTrue};
+ghost use Rattle.syn_buffer.specs.Entries.{is_whole};
+ghost use Rattle.syn_grammar.specs.Read.{IsDerived, NoneRead};
+
+use crate::refusal::{Refusal, Wanted, refuse};
+use crate::rules::Rules;
+use crate::run::call;
+use gram_table::kind::Kind;
+use gram_tree::tree::Tree;
+use std::alloc::Global;
+use syn_buffer::entry::Entry;
+
+/// The tree of the kind with which the entries begin, and what is left behind it. The entries are whole.
+///
+/// The refusal is that they begin with none, and what was wanted where, or that there is no memory for the tree.
+pub fn read<'a, R: Rules>(
+    rules: &R,
+    alloc: Global,
+    kind: Kind,
+    at: &'a [Entry<'a>],
+) -> Result<(Tree<'a>, &'a [Entry<'a>]), Refusal>
+    requires { IsTrue (is_whole at.now) }
+    ensures found { IfOk result (λ x. IsDerived (kind_of kind) (tokens at.now) x.0 (tokens x.1.now)) }
+    ensures none { IfErr result (λ e. IsSyntax e → NoneRead (kind_of kind) (tokens at.now)) }
+    ensures ended { IfErr result (λ e. e ≡ Late → ⊥) }
+    ensures whole { IfOk result (λ x. IsTrue (is_whole x.1.now)) }
+{
+    let fuel = at.len() as u128 * 10 + 10;
+    match call(rules, alloc, kind, at, fuel) {
+        Ok((tree, rest)) => Ok((tree, rest)),
+        Err(Refusal::Syntax(wrong)) => Err(Refusal::Syntax(wrong)),
+        Err(Refusal::Memory) => Err(Refusal::Memory),
+        Err(Refusal::Late) => Err(refuse(Wanted::Nothing, at)),
+    }
+}
