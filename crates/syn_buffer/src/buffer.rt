@@ -103,4 +103,12 @@ impl<'a> TokenBuffer<'a> {
         put_trees(&mut entries, stream.trees())?;
         Ok(TokenBuffer { entries, number })
     }
+
+    /// All of its tokens as one flat list; the groups among them are whole.
+    pub fn entries(&self) -> &[Entry<'a>]
+        ensures tokens { result.now ≡ self.now.entries.items }
+        ensures whole { IsTrue (is_whole result.now) }
+    {
+        self.entries.as_slice()
+    }
 }
