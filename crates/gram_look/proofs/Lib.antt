@@ -3,3 +3,4 @@ pub mod Marks
 pub mod Nested
 pub mod Groups
 pub mod Openings
+pub mod Leaves

@@ -1,6 +1,6 @@
 -- Whole entries are nested, and so is what is left of them.
 use Rattle.std.proofs.Common.{◌≡◌, ℕ, zero, suc, ◌≤◌, ◌<◌, List, [], ◌∷◌, ◌++◌, length, take, drop, refl, sym, ap}
-use Rattle.std.proofs.Common.{◌∙◌, arith, append_assoc, length-drop, length-take}
+use Rattle.std.proofs.Common.{◌∙◌, ◌-◌, arith, append_assoc, length-drop, length-take}
 use Rattle.std.specs.Prelude.{Bool, true, false, ◌&&◌, ◌==◌, not}
 use Rattle.std.proofs.lemmas.List.{append-nil, take-append-drop, take-append-le, drop-append-le}
 use Rattle.rust_map.specs.declared.span.Span.{Span}
@@ -117,3 +117,16 @@ pub nested_drop : (n : ℕ) (es : List Entry) → is_nested es ≡ true → is_n
 nested_drop zero es h = h
 nested_drop (suc n) [] h = refl
 nested_drop (suc n) (e ∷ es) h = nested_drop n es (nested_tail e es h)
+
+pub nested_first : (e : Entry) (es fs : List Entry) → es ≡ e ∷ fs → is_nested es ≡ true → is_nested fs ≡ true
+nested_first e es fs h n = nested_tail e fs (ap is_nested (sym h) ∙ n)
+
+taken_all : (k : ℕ) (es : List Entry) → length es ≤ k → take k es ≡ es
+taken_all zero [] h = refl
+taken_all (suc k) [] h = refl
+taken_all zero (e ∷ es) h = absurd (omega arith)
+taken_all (suc k) (e ∷ es) h = ap (λ x. e ∷ x) (taken_all k es (omega arith))
+
+pub nested_behind : (n : ℕ) (es : List Entry) → is_nested es ≡ true
+    → is_nested (take (length es - n) (drop n es)) ≡ true
+nested_behind n es h = ap is_nested (taken_all (length es - n) (drop n es) (omega (arith, length-drop n es))) ∙ nested_drop n es h

@@ -4,7 +4,7 @@ use Rattle.std.specs.Prelude.{Bool, true, false, cond, Some, None}
 use Rattle.proc_macro2.specs.declared.delimiter.Delimiter.{Delimiter}
 use Rattle.proc_macro2.specs.Groups.{same_delimiter}
 use Rattle.proc_macro2.specs.Token.{Token, Opens, Closes, Ident, Literal, Punct}
-use Rattle.syn_grammar.specs.Look.{a_group, behind, opens, past_closing}
+use Rattle.syn_grammar.specs.Look.{a_group, behind, opening, opens, past_closing}
 use Rattle.gram_look.specs.Groups.{no_opening}
 
 pub none_opens : (d : Delimiter) (ts : List Token) → no_opening ts → None ≡ opens d ts
@@ -30,3 +30,14 @@ group_so d e ts us vs b h f p = by b f ∙ ap (λ x. behind x (past_closing 0)) 
     by : (b : Bool) → b ≡ same_delimiter e d → cond b (Some vs) None ≡ behind (cond b (Some us) None) (past_closing 0)
     by true g = sym p
     by false g = refl
+
+pub none_opening : (ts : List Token) → no_opening ts → None ≡ opening ts
+none_opening [] h = refl
+none_opening (Opens e ∷ ts) h = absurd h
+none_opening (Closes e ∷ ts) h = refl
+none_opening (Ident e ∷ ts) h = refl
+none_opening (Literal e ∷ ts) h = refl
+none_opening (Punct e spacing ∷ ts) h = refl
+
+pub is_opening : (e : Delimiter) (ts us : List Token) → ts ≡ Opens e ∷ us → Some us ≡ opening ts
+is_opening e ts us h = ap opening (sym h)

@@ -82,15 +82,45 @@ pub fn opens<'a, 'e>(delimiter: Delimiter, at: &'a [Entry<'e>]) -> Option<&'a [E
 }
 
 /// What is left behind a whole group that stands first.
-#[tactic(auto, using(crate::proofs::Openings::no_group, crate::proofs::Openings::group_so))]
+#[tactic(auto, using(crate::proofs::Openings::no_group, crate::proofs::Openings::group_so, crate::proofs::Nested::nested_behind))]
 pub fn whole<'a, 'e>(delimiter: Delimiter, at: &'a [Entry<'e>]) -> Option<&'a [Entry<'e>]>
     requires { is_nested at.now ≡ true }
     ensures after { after (λ es. es.now) result ≡ a_group delimiter (tokens at.now) }
+    ensures nested { IfSome result (λ es. is_nested es.now ≡ true) }
 {
     let (found, count, rest) = first_opening(at)?;
     if is_same(found, delimiter) {
         Some(&rest[count + 1..])
     } else {
         None
+    }
+}
+
+/// What is left behind a mark that opens a group of any kind.
+#[tactic(auto, using(crate::proofs::Openings::none_opening, crate::proofs::Openings::is_opening))]
+pub fn opening<'a, 'e>(at: &'a [Entry<'e>]) -> Option<&'a [Entry<'e>]>
+    requires { is_nested at.now ≡ true }
+    ensures after { after (λ es. es.now) result ≡ opening (tokens at.now) }
+    ensures nested { IfSome result (λ es. is_nested es.now ≡ true) }
+{
+    let (_, _, rest) = first_opening(at)?;
+    Some(rest)
+}
+
+/// What is left behind a mark that closes a group.
+#[tactic(auto, using(crate::proofs::Nested::nested_first))]
+pub fn closes<'a, 'e>(at: &'a [Entry<'e>]) -> Option<&'a [Entry<'e>]>
+    ensures after { after (λ es. es.now) result ≡ closes (tokens at.now) }
+    ensures nested { is_nested at.now ≡ true → IfSome result (λ es. is_nested es.now ≡ true) }
+{
+    let Some((first, rest)) = at.split_first() else {
+        return None;
+    };
+    match first {
+        Entry::Close(..) => Some(rest),
+        Entry::Open(..) => None,
+        Entry::Ident(_) => None,
+        Entry::Punct(_) => None,
+        Entry::Literal(_) => None,
     }
 }

@@ -2,16 +2,17 @@
 
 ghost use Rattle.gram_look.specs.Tokens.{after, tokens};
 ghost use Rattle.gram_look.specs.Among.{texts};
+ghost use Rattle.gram_look.specs.Nested.{is_nested};
 ghost use Rattle.gram_table.specs.Words.{keyword_text, words_of};
 ghost use Rattle.rust_leaf.specs.Leaf.{ident_text};
-ghost use Rattle.std.specs.Prelude.{◌≡◌, codes};
+ghost use Rattle.std.specs.Prelude.{◌≡◌, IfSome, codes, true};
 ghost use Rattle.std.specs.Str.{chars};
-ghost use Rattle.syn_grammar.specs.Look.{a_lifetime, a_word, the_mark};
+ghost use Rattle.syn_grammar.specs.Look.{a_word};
 ghost use Rattle.syn_grammar.specs.Words.{is_among, is_bool, is_ident, is_name, is_path_keyword, is_plain_name, same_text};
 
+use crate::sign::first_ident;
 use gram_table::word::{Keyword, Words};
 use rust_leaf::ident::Ident;
-use rust_leaf::punct::Spacing;
 use syn_buffer::entry::Entry;
 use syn_kinds::table::is_reserved;
 
@@ -139,4 +140,14 @@ pub fn word(words: Words, ident: &Ident) -> bool
         Words::ConstOrMut => among(ident, &[Keyword::Const, Keyword::Mut]),
         Words::ItemWord => among(ident, &ITEM_WORDS),
     }
+}
+
+/// What is left behind a word that stands first and passes.
+#[tactic(auto, using(crate::proofs::Leaves::none_word, crate::proofs::Leaves::word_so))]
+pub fn first_word<'a, 'e>(words: Words, at: &'a [Entry<'e>]) -> Option<&'a [Entry<'e>]>
+    ensures after { after (λ es. es.now) result ≡ a_word (words_of words) (tokens at.now) }
+    ensures nested { is_nested at.now ≡ true → IfSome result (λ es. is_nested es.now ≡ true) }
+{
+    let (ident, rest) = first_ident(at)?;
+    if word(words, ident) { Some(rest) } else { None }
 }
