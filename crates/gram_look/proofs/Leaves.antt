@@ -1,6 +1,6 @@
 -- Words and literals that stand first.
 use Rattle.std.proofs.Common.{◌≡◌, ℕ, List, [], ◌∷◌, refl, sym, ap, ◌∙◌}
-use Rattle.std.specs.Prelude.{Bool, cond, Some, None}
+use Rattle.std.specs.Prelude.{Bool, true, false, cond, Option, Some, None}
 use Rattle.proc_macro2.specs.Token.{Token, Opens, Closes, Ident, Literal, Punct}
 use Rattle.syn_grammar.specs.Look.{a_quoted, a_word, past_literals}
 use Rattle.gram_look.specs.Marks.{no_literal, no_word}
@@ -30,17 +30,43 @@ pub quoted_so : (p : List ℕ → Bool) (cs : List ℕ) (ts us : List Token) (b 
     → cond b (Some us) None ≡ a_quoted p ts
 quoted_so p cs ts us b h f = ap (λ x. cond x (Some us) None) f ∙ ap (a_quoted p) (sym h)
 
--- as far as they go
-pub none_past : (p : List ℕ → Bool) (ts : List Token) → no_literal ts → Some ts ≡ past_literals p ts
-none_past p [] h = refl
-none_past p (Opens e ∷ ts) h = refl
-none_past p (Closes e ∷ ts) h = refl
-none_past p (Ident e ∷ ts) h = refl
-none_past p (Literal e ∷ ts) h = absurd h
-none_past p (Punct e spacing ∷ ts) h = refl
+-- as far as they go: by whether one stands first
+past_by : (p : List ℕ → Bool) (cs : List ℕ) (ts : List Token) (b : Bool) (us : List Token)
+    → Some us ≡ cond b (Some ts) None
+    → cond b (past_literals p ts) (Some (Literal cs ∷ ts)) ≡ past_literals p us
+past_by p cs ts true us e = ap (unsome p) (sym e)
+  where
+    unsome : (List ℕ → Bool) → Option (List Token) → Option (List Token)
+    unsome p None = None
+    unsome p (Some vs) = past_literals p vs
+past_by p cs ts false us e = cc
 
-pub past_so : (p : List ℕ → Bool) (cs : List ℕ) (ts us : List Token) (b : Bool) → ts ≡ Literal cs ∷ us → b ≡ p cs
-    → cond b (past_literals p us) (Some ts) ≡ past_literals p ts
-past_so p cs ts us b h f =
-    ap (λ x. cond x (past_literals p us) (Some ts)) f ∙ ap (λ x. cond (p cs) (past_literals p us) (Some x)) h
-    ∙ ap (past_literals p) (sym h)
+past_first : (p : List ℕ → Bool) (ts us : List Token) → Some us ≡ a_quoted p ts
+    → past_literals p ts ≡ past_literals p us
+past_first p [] us e = cc
+past_first p (Opens d ∷ ts) us e = cc
+past_first p (Closes d ∷ ts) us e = cc
+past_first p (Ident cs ∷ ts) us e = cc
+past_first p (Punct c spacing ∷ ts) us e = cc
+past_first p (Literal cs ∷ ts) us e = past_by p cs ts (p cs) us e
+
+pub past_more : (p : List ℕ → Bool) (ts us : List Token) (whole : Option (List Token)) → Some us ≡ a_quoted p ts
+    → past_literals p ts ≡ whole → past_literals p us ≡ whole
+past_more p ts us whole e w = sym (past_first p ts us e) ∙ w
+
+none_by : (p : List ℕ → Bool) (cs : List ℕ) (ts : List Token) (b : Bool) → None ≡ cond b (Some ts) None
+    → cond b (past_literals p ts) (Some (Literal cs ∷ ts)) ≡ Some (Literal cs ∷ ts)
+none_by p cs ts true e = cc
+none_by p cs ts false e = refl
+
+none_past : (p : List ℕ → Bool) (ts : List Token) → None ≡ a_quoted p ts → past_literals p ts ≡ Some ts
+none_past p [] e = refl
+none_past p (Opens d ∷ ts) e = refl
+none_past p (Closes d ∷ ts) e = refl
+none_past p (Ident cs ∷ ts) e = refl
+none_past p (Punct c spacing ∷ ts) e = refl
+none_past p (Literal cs ∷ ts) e = none_by p cs ts (p cs) e
+
+pub past_stop : (p : List ℕ → Bool) (ts : List Token) (whole : Option (List Token)) → None ≡ a_quoted p ts
+    → past_literals p ts ≡ whole → Some ts ≡ whole
+past_stop p ts whole e w = sym (none_past p ts e) ∙ w

@@ -4,3 +4,6 @@ pub mod Nested
 pub mod Groups
 pub mod Openings
 pub mod Leaves
+pub mod Characters
+pub mod Numbers
+pub mod Dots

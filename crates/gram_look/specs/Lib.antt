@@ -3,3 +3,4 @@ pub mod Among
 pub mod Marks
 pub mod Groups
 pub mod Nested
+pub mod Texts

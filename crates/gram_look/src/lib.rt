@@ -1,6 +1,7 @@
 //! Looking at tokens, as the table of the written grammar does.
 //!
 //! - `leaf`: words that pass.
+//! - `literals`: literals that pass; `text` (private): their texts.
 //! - `sign`: punctuations and lifetimes that stand first.
 //! - `group`: groups that stand first.
 //! - `laws`: whole entries, and entries in which each group closes where it says.
@@ -9,4 +10,6 @@
 pub mod group;
 pub mod laws;
 pub mod leaf;
+pub mod literals;
 pub mod sign;
+mod text;
