@@ -7,3 +7,4 @@ pub mod Leaves
 pub mod Characters
 pub mod Numbers
 pub mod Dots
+pub mod Seeking

@@ -121,7 +121,7 @@ nested_drop (suc n) (e ∷ es) h = nested_drop n es (nested_tail e es h)
 pub nested_first : (e : Entry) (es fs : List Entry) → es ≡ e ∷ fs → is_nested es ≡ true → is_nested fs ≡ true
 nested_first e es fs h n = nested_tail e fs (ap is_nested (sym h) ∙ n)
 
-taken_all : (k : ℕ) (es : List Entry) → length es ≤ k → take k es ≡ es
+pub taken_all : (k : ℕ) (es : List Entry) → length es ≤ k → take k es ≡ es
 taken_all zero [] h = refl
 taken_all (suc k) [] h = refl
 taken_all zero (e ∷ es) h = absurd (omega arith)

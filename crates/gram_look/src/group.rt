@@ -4,11 +4,12 @@ ghost use Rattle.gram_look.specs.Groups.{no_opening};
 ghost use Rattle.gram_look.specs.Nested.{is_nested};
 ghost use Rattle.gram_look.specs.Tokens.{after, tokens};
 ghost use Rattle.proc_macro2.specs.Token as token;
-ghost use Rattle.std.specs.Prelude.{◌+◌, ◌<◌, ◌∷◌, ◌≡◌, IfNone, IfSome, Some, length, true, suc, drop};
+ghost use Rattle.std.specs.Prelude.{◌+◌, ◌<◌, ◌≤◌, ◌∷◌, ◌≡◌, [], IfNone, IfSome, Some, length, true, suc, drop};
 ghost use Rattle.syn_buffer.specs.Entries.{is_whole};
-ghost use Rattle.syn_grammar.specs.Look.{a_group, closes, opening, opens, past_closing};
+ghost use Rattle.syn_grammar.specs.Look.{a_group, closes, opening, opens, past_closing, past_first, past_marks};
 ghost use Rattle.proc_macro2.specs.Groups.{same_delimiter};
 
+use crate::sign::first_mark;
 use proc_macro2::delimiter::Delimiter;
 use syn_buffer::entry::Entry;
 
@@ -123,4 +124,60 @@ pub fn closes<'a, 'e>(at: &'a [Entry<'e>]) -> Option<&'a [Entry<'e>]>
         Entry::Punct(_) => None,
         Entry::Literal(_) => None,
     }
+}
+
+// What is left behind a mark of that character that stands first.
+#[tactic(auto, using(crate::proofs::Seeking::none_here, crate::proofs::Seeking::mark_here))]
+fn that_mark<'a, 'e>(character: u32, at: &'a [Entry<'e>]) -> Option<&'a [Entry<'e>]>
+    ensures after { after (λ es. es.now) result ≡ past_marks character [] (tokens at.now) }
+    ensures nested { is_nested at.now ≡ true → IfSome result (λ es. is_nested es.now ≡ true) }
+{
+    let (punct, rest) = first_mark(at)?;
+    if punct.as_char() as u32 == character {
+        Some(rest)
+    } else {
+        None
+    }
+}
+
+// How many entries the search for such a mark passes at once, one or those of a whole group: none where it ends.
+#[tactic(auto, using(crate::proofs::Seeking::seeks_group, crate::proofs::Seeking::nested_group, crate::proofs::Seeking::seeks_ident, crate::proofs::Seeking::seeks_literal, crate::proofs::Seeking::seeks_other, crate::proofs::Seeking::ends_here, crate::proofs::Seeking::ends_there, crate::proofs::Seeking::nested_one, crate::proofs::Groups::opened_within))]
+fn passes(character: u32, at: &[Entry]) -> Option<usize>
+    requires { is_nested at.now ≡ true }
+    ensures on { IfSome result (λ n. past_first character 0 (tokens at.now)
+        ≡ past_first character 0 (tokens (drop n at.now))) }
+    ensures some { IfSome result (λ n. 0 < n) }
+    ensures within { IfSome result (λ n. n ≤ length at.now) }
+    ensures nested { IfSome result (λ n. is_nested (drop n at.now) ≡ true) }
+    ensures ends { IfNone result (past_first character 0 (tokens at.now) ≡ past_marks character [] (tokens at.now)) }
+{
+    let (first, _) = at.split_first()?;
+    match first {
+        Entry::Open(_, _, count) => Some(*count + 2),
+        Entry::Close(..) => None,
+        Entry::Ident(_) => Some(1),
+        Entry::Literal(_) => Some(1),
+        Entry::Punct(punct) => {
+            if punct.as_char() as u32 == character {
+                None
+            } else {
+                Some(1)
+            }
+        }
+    }
+}
+
+/// What is left behind the first mark of that character that stands in no group: none where a group closes before it, or
+/// it stands nowhere.
+#[tactic(auto, using(crate::proofs::Seeking::tail_nested, crate::proofs::Seeking::goes_on, crate::proofs::Seeking::ends_at, crate::proofs::Seeking::further))]
+pub fn past_first<'a, 'e>(character: u32, at: &'a [Entry<'e>]) -> Option<&'a [Entry<'e>]>
+    requires { is_nested at.now ≡ true }
+    ensures after { after (λ es. es.now) result ≡ past_first character 0 (tokens at.now) }
+    ensures nested { IfSome result (λ es. is_nested es.now ≡ true) }
+{
+    let mut passed = 0;
+    while let Some(more) = passes(character, &at[passed..]) {
+        passed += more;
+    }
+    that_mark(character, &at[passed..])
 }
