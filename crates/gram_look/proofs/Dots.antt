@@ -5,7 +5,7 @@ use Rattle.std.proofs.lemmas.Bool.Decides.{nat_tests}
 use Rattle.std.proofs.lemmas.Bool.{eqb-true, ne_eqb}
 use Rattle.syn_grammar.specs.Words.{based_number, before_dot, behind_dots, digit, indices_to_dot, integer, is_below, is_index}
 use Rattle.syn_grammar.specs.Words.{last_is_dot, number_behind}
-use Rattle.gram_look.specs.Texts.{IsFrom, Reads}
+use Rattle.gram_look.specs.Texts.{Reads}
 use Rattle.gram_look.proofs.Numbers.{next_digit, next_line, wrong_digit}
 
 -- whether the last of these characters is a dot; of none, what is said

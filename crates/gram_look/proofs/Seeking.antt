@@ -6,7 +6,7 @@ use Rattle.std.proofs.lemmas.List.{drop-drop}
 use Rattle.std.specs.Prelude.{true, ◌==◌, cond, Option, Some, None}
 use Rattle.std.proofs.lemmas.Bool.{eq-eqb, ne_eqb}
 use Rattle.rust_map.specs.declared.span.Span.{Span}
-use Rattle.rust_leaf.specs.Leaf.{punct_char, punct_spacing}
+use Rattle.rust_leaf.specs.Leaf.{punct_char}
 use Rattle.rust_leaf.specs.declared.ident.Ident.{Ident}
 use Rattle.rust_leaf.specs.declared.literal.Literal.{Literal}
 use Rattle.rust_leaf.specs.declared.punct.Punct.{Punct}

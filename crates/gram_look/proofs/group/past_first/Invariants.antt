@@ -1,5 +1,4 @@
 use Rattle.std.proofs.Common.{◌≡◌, ◌≤◌, ◌-◌, drop, length}
-use Rattle.std.specs.Prelude.{true}
 use Rattle.syn_grammar.specs.Look.{past_first}
 use Rattle.gram_look.specs.Tokens.{tokens}
 use Rattle.gram_look.proofs.group.past_first.Given as goal
