@@ -1,0 +1,3 @@
+pub mod Attributed
+pub mod Decided
+pub mod Sizes
