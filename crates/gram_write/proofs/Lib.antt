@@ -7,3 +7,6 @@ pub mod Given
 pub mod Fits
 pub mod Begin
 pub mod Read
+pub mod Pushing
+pub mod Flat
+pub mod Sizes

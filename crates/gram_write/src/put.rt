@@ -1,0 +1,103 @@
+//! Tokens that are put behind those that are to be written.
+
+ghost use Rattle.gram_piece.specs.Pieces.{piece_token};
+ghost use Rattle.gram_table.specs.Ops.{separator_of};
+ghost use Rattle.gram_table.specs.Words.{sign_text};
+ghost use Rattle.gram_tree.specs.Forms.{mark_of};
+ghost use Rattle.proc_macro2.specs.Token as token;
+ghost use Rattle.rust_leaf.specs.Leaf.{ident_text};
+ghost use Rattle.rust_leaf.specs.declared.punct.Spacing.TheVariants.{Joint};
+ghost use Rattle.std.specs.Prelude.{◌≡◌, ◌++◌, ◌∷◌, [], OnOk, map};
+ghost use Rattle.syn_buffer.specs.Entries.{entry_token};
+ghost use Rattle.syn_grammar.specs.Tree.{flat, marks};
+
+use gram_piece::piece::Piece;
+use gram_table::op::Separator;
+use gram_table::word::Sign;
+use rust_leaf::ident::Ident;
+use rust_leaf::punct::Spacing;
+use std::alloc::AllocError;
+use syn_buffer::entry::Entry;
+
+// One token.
+#[tactic(auto, using(crate::proofs::Pushing::one))]
+pub(crate) fn one<'a>(piece: Piece<'a>, out: &mut Vec<Piece<'a>>) -> Result<(), AllocError>
+    ensures { OnOk result (map piece_token out.new.items
+        ≡ map piece_token out.old.items ++ piece_token piece.entry ∷ []) }
+{
+    out.push(piece)?;
+    Ok(())
+}
+
+// Tokens that were read.
+#[tactic(auto, using(crate::proofs::Pushing::puts))]
+pub(crate) fn entries<'a>(entries: &[Entry<'a>], out: &mut Vec<Piece<'a>>) -> Result<(), AllocError>
+    ensures { OnOk result (map piece_token out.new.items
+        ≡ map piece_token out.old.items ++ map entry_token entries.now) }
+{
+    for entry in entries {
+        one(Piece::of(entry), out)?;
+    }
+    Ok(())
+}
+
+// A mark, and the others behind it, each joint but the last one, which is so spaced.
+#[tactic(auto, using(crate::proofs::Pushing::puts))]
+fn marks<'a>(
+    first: u8,
+    others: &[u8],
+    spacing: Spacing,
+    out: &mut Vec<Piece<'a>>,
+) -> Result<(), AllocError>
+    ensures { OnOk result (map piece_token out.new.items
+        ≡ map piece_token out.old.items ++ marks first others.now spacing) }
+{
+    match others.split_first() {
+        None => one(Piece::Mark(first as char, spacing), out),
+        Some((next, left)) => {
+            one(Piece::Mark(first as char, Spacing::Joint), out)?;
+            marks(*next, left, spacing, out)
+        }
+    }
+}
+
+// A punctuation, whose last mark is so spaced.
+#[tactic(auto, using(crate::proofs::Pushing::puts))]
+pub(crate) fn sign<'a>(
+    sign: Sign,
+    spacing: Spacing,
+    out: &mut Vec<Piece<'a>>,
+) -> Result<(), AllocError>
+    ensures { OnOk result (map piece_token out.new.items
+        ≡ map piece_token out.old.items ++ flat (mark_of (sign_text sign) spacing)) }
+{
+    match sign.text().as_bytes().split_first() {
+        None => Ok(()),
+        Some((first, others)) => marks(*first, others, spacing, out),
+    }
+}
+
+// The mark behind an element, so spaced.
+pub(crate) fn separator<'a>(
+    mark: Separator,
+    spacing: Spacing,
+    out: &mut Vec<Piece<'a>>,
+) -> Result<(), AllocError>
+    ensures { OnOk result (map piece_token out.new.items
+        ≡ map piece_token out.old.items ++ token.Punct (separator_of mark) spacing ∷ []) }
+{
+    match mark {
+        Separator::Comma => one(Piece::Mark(',', spacing), out),
+        Separator::Plus => one(Piece::Mark('+', spacing), out),
+    }
+}
+
+// A lifetime.
+#[tactic(auto, using(crate::proofs::Pushing::puts))]
+pub(crate) fn lifetime<'a>(ident: &'a Ident, out: &mut Vec<Piece<'a>>) -> Result<(), AllocError>
+    ensures { OnOk result (map piece_token out.new.items
+        ≡ map piece_token out.old.items ++ token.Punct 39 Joint ∷ token.Ident (ident_text ident.now) ∷ []) }
+{
+    one(Piece::Mark('\'', Spacing::Joint), out)?;
+    one(Piece::Ident(ident), out)
+}
