@@ -1,0 +1,54 @@
+//! Looks, and the tests of the table.
+
+ghost use Rattle.gram_look.specs.Nested.{is_nested};
+ghost use Rattle.gram_look.specs.Tokens.{after, tokens};
+ghost use Rattle.gram_table.specs.Looks.{look_of, test_of};
+ghost use Rattle.std.specs.Prelude.{◌≡◌, IfSome, true};
+ghost use Rattle.syn_grammar.specs.Look.{sees};
+
+use crate::sights::{end, see};
+use gram_look::group::opens;
+use gram_look::leaf::first_word;
+use gram_look::literals::first_literal;
+use gram_look::sign::{lifetime, sign};
+use gram_table::op::{Look, Test};
+use gram_table::sights::sights;
+use syn_buffer::entry::Entry;
+
+/// What is left behind what is looked for, if it is there.
+pub fn past<'a>(look: Look, at: &'a [Entry<'a>]) -> Option<&'a [Entry<'a>]>
+    requires { is_nested at.now ≡ true }
+    ensures after { after (λ es. es.now) result ≡ look_of look (tokens at.now) }
+    ensures nested { IfSome result (λ es. is_nested es.now ≡ true) }
+{
+    match look {
+        Look::Word(words) => first_word(words, at),
+        Look::Quoted(literals) => first_literal(literals, at),
+        Look::Mark(mark) => sign(mark, at),
+        Look::Lifetime => lifetime(at),
+        Look::Opens(delimiter) => opens(delimiter, at),
+        Look::End => end(at),
+        Look::Nowhere => None,
+        Look::Composite(composite) => see(sights(composite), at),
+    }
+}
+
+/// Whether what is looked for is there.
+#[tactic(auto, using(crate::proofs::Steps::there, crate::proofs::Steps::not_there))]
+pub fn look(look: Look, at: &[Entry<'_>]) -> bool
+    requires { is_nested at.now ≡ true }
+    ensures { result ≡ sees (look_of look) (tokens at.now) }
+{
+    past(look, at).is_some()
+}
+
+/// Whether the test passes.
+pub fn passes(test: Test, at: &[Entry<'_>]) -> bool
+    requires { is_nested at.now ≡ true }
+    ensures { result ≡ test_of test (tokens at.now) }
+{
+    match test {
+        Test::Sees(wanted) => look(wanted, at),
+        Test::Lacks(unwanted) => !look(unwanted, at),
+    }
+}
