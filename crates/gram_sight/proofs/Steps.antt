@@ -17,13 +17,13 @@ use Rattle.gram_table.specs.declared.op.Sight.{Sight}
 use Rattle.gram_table.specs.declared.op.Sight.TheVariants as sights
 use Rattle.gram_look.specs.Tokens.{tokens}
 
--- any bound of the steps is as good as any other
 both_then : (a b c d : l.Look) → a ≡ b → c ≡ d → (a then c) ≡ (b then d)
 both_then a b c d e f = ap (λ x. x then c) e ∙ ap (λ x. b then x) f
 
 both_or : (a b c d : l.Look) → a ≡ b → c ≡ d → (a or c) ≡ (b or d)
 both_or a b c d e f = ap (λ x. x or c) e ∙ ap (λ x. b or x) f
 
+-- any bound of the steps that is no less than their number is as good as any other
 pub within_any : (j k : ℕ) (is : List Sight) → length is ≤ j → length is ≤ k → sights_within j is ≡ sights_within k is
 within_any zero zero [] g h = refl
 within_any zero (suc k) [] g h = refl

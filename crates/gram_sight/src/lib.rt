@@ -2,7 +2,9 @@
 //!
 //! - `sights`: looks of several steps, step by step.
 //! - `look`: looks, and the tests of the table.
+//! - `form`: which form of expressions stands at tokens, and whether it has an operand behind it.
 #![tactic(auto)]
 
+pub mod form;
 pub mod look;
 pub mod sights;
