@@ -10,7 +10,7 @@ use Rattle.gram_tree.specs.declared.tree.Element.{Element}
 use Rattle.gram_read.specs.Ranges.{has_attributed_range, has_turn, in_form, is_range_expression}
 use Rattle.syn_grammar.specs.Forms.{is_range}
 use Rattle.syn_grammar.specs.Kind as k
-use Rattle.gram_table.specs.Kinds.{kind_of, position_of}
+use Rattle.gram_table.specs.Kinds.{kind_of}
 use Rattle.gram_table.specs.declared.kind.Kind.{Kind}
 use Rattle.gram_table.specs.declared.kind.Kind.TheVariants as kinds
 use Rattle.gram_table.specs.declared.kind.Position.{Position}

@@ -1,3 +1,2 @@
 pub mod Attributed
 pub mod Decided
-pub mod Sizes

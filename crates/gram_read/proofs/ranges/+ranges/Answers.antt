@@ -1,12 +1,12 @@
 use Rattle.std.specs.Prelude.{List}
-use Rattle.std.proofs.Common.{arith, ap, sym, ◌∙◌, rules}
+use Rattle.std.proofs.Common.{arith, ap, sym, ◌∙◌}
 use denote.Param.Weighed.{most}
 use Rattle.gram_table.specs.Ops.{separator_of}
 use Rattle.gram_tree.specs.declared.tree.Tree.TheDeep.{size-Tree, size-Element}
 use Rattle.syn_grammar.specs.Tree.{Tree}
 use Rattle.gram_tree.specs.declared.tree.Element.{Element}
 use Rattle.gram_tree.specs.Forms.{tree_of, ending}
-use Rattle.gram_read.proofs.Sizes.{turns_below, elements_below}
+use Rattle.gram_write.proofs.Sizes.{turns_below, elements_below}
 use Rattle.gram_read.proofs.ranges.+ranges.Goals as goal
 
 pub has_attributed_range-any_turn-requires : goal.has_attributed_range-any_turn-requires

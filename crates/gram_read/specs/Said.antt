@@ -1,0 +1,84 @@
+-- What is said of tokens that could not be read: what was expected in their place, by its text or by its name.
+use Rattle.std.specs.Prelude.{ℕ, Bool, true, false, List, [], ◌++◌, Option, Some, None, cond, codes}
+use Rattle.rust_map.specs.Spans.{call_site}
+use Rattle.rust_map.specs.declared.span.Span.{Span}
+use Rattle.proc_macro2.specs.declared.delimiter.Delimiter.{Delimiter}
+use Rattle.proc_macro2.specs.declared.delimiter.Delimiter.TheVariants as delimiters
+use Rattle.gram_table.specs.Words.{keyword_text, sign_text}
+use Rattle.gram_table.specs.declared.word.Words.{Words}
+use Rattle.gram_table.specs.declared.word.Words.TheVariants as words
+use Rattle.gram_table.specs.declared.word.Literals.{Literals}
+use Rattle.gram_table.specs.declared.word.Literals.TheVariants as literals
+use Rattle.gram_run.specs.declared.refusal.Wanted.{Wanted}
+use Rattle.gram_run.specs.declared.refusal.Wanted.TheVariants as wanted
+use Rattle.gram_read.specs.declared.said.Thing.{Thing}
+use Rattle.gram_read.specs.declared.said.Message.{Message}
+
+-- expected, by its text
+abbrev pub quoted : List ℕ → List ℕ
+quoted text = codes "expected `" ++ text ++ codes "`"
+
+-- expected, by its name
+abbrev pub named : List ℕ → List ℕ
+named name = codes "expected " ++ name
+
+-- a thing that was expected
+abbrev pub thing_text : Thing → List ℕ
+thing_text t = cond t.is_text (quoted t.words.now) (named t.words.now)
+
+-- the names of words
+abbrev pub word_name : Words → List ℕ
+word_name words.PathKeyword = codes "`self`, `super` or `crate`"
+word_name words.MacroStart = codes "`self`, `super` or `crate`"
+word_name words.Restriction = codes "`self`, `super` or `crate`"
+word_name words.Bool = codes "`true` or `false`"
+word_name words.Safety = codes "`unsafe` or `safe`"
+word_name words.ConstOrMut = codes "`const` or `mut`"
+word_name words.ItemWord = codes "item"
+word_name w = codes "identifier"
+
+-- of literals
+abbrev pub literal_name : Literals → List ℕ
+literal_name literals.Any = codes "literal"
+literal_name literals.Text = codes "string literal"
+literal_name literals.Number = codes "number"
+literal_name literals.EndsInDot = codes "number"
+literal_name w = codes "index"
+
+-- of groups
+abbrev pub group_name : Delimiter → List ℕ
+group_name delimiters.Parenthesis = codes "parentheses"
+group_name delimiters.Brace = codes "curly braces"
+group_name delimiters.Bracket = codes "square brackets"
+group_name delimiters.None = codes "invisible group"
+
+-- what was wanted
+abbrev pub wanted_text : Wanted → List ℕ
+wanted_text (wanted.Word (words.Keyword k)) = quoted (keyword_text k)
+wanted_text (wanted.Word w) = named (word_name w)
+wanted_text (wanted.Literal w) = named (literal_name w)
+wanted_text (wanted.Mark s) = quoted (sign_text s)
+wanted_text wanted.Separator = named (codes "separator")
+wanted_text wanted.Lifetime = named (codes "lifetime")
+wanted_text (wanted.Group d) = named (group_name d)
+wanted_text wanted.End = named (codes "no token")
+wanted_text wanted.Expression = named (codes "expression")
+wanted_text wanted.Unchained = named (codes "no comparison behind a comparison")
+wanted_text (wanted.Judged v) = named (codes "what may stand here")
+wanted_text wanted.Nothing = named (codes "another token")
+
+-- at an end, which is said first
+abbrev pub message : Bool → Wanted → List ℕ
+message at_end w = cond at_end (codes "unexpected end of input, ") [] ++ wanted_text w
+
+-- where it is said: at the call site, where no token stands
+abbrev pub place : Option Span → Span
+place None = call_site
+place (Some span) = span
+
+abbrev pub is_end : Option Span → Bool
+is_end None = true
+is_end (Some span) = false
+
+abbrev pub message_of : Message → List ℕ
+message_of m = cond m.at_end (codes "unexpected end of input, ") [] ++ thing_text m.thing

@@ -1,0 +1,165 @@
+//! What is said of tokens that could not be read.
+
+ghost use Rattle.gram_read.specs.Said.{group_name, is_end, literal_name, message, named, place, quoted, thing_text, wanted_text, word_name};
+ghost use Rattle.std.specs.Prelude.{◌≡◌, IfOk, Some};
+ghost use Rattle.syn_error.specs.Notes.{Says};
+
+use gram_run::refusal::{Wanted, Wrong};
+use gram_table::word::{Literals, Words};
+use proc_macro2::delimiter::Delimiter;
+use rust_map::span::Span;
+use std::alloc::{AllocError, Global};
+use std::fmt;
+use syn_error::Error;
+
+// What was wanted: its name, or its text between quotes.
+#[derive(Clone, Copy)]
+struct Thing {
+    is_text: bool,
+    words: &'static str,
+}
+
+// The name of a word that is none of the keywords.
+fn word_name(words: Words) -> &'static str
+    ensures { result.now ≡ word_name words }
+{
+    match words {
+        Words::PathKeyword => "`self`, `super` or `crate`",
+        Words::MacroStart => "`self`, `super` or `crate`",
+        Words::Restriction => "`self`, `super` or `crate`",
+        Words::Bool => "`true` or `false`",
+        Words::Safety => "`unsafe` or `safe`",
+        Words::ConstOrMut => "`const` or `mut`",
+        Words::ItemWord => "item",
+        Words::Keyword(_) => "identifier",
+        Words::Any => "identifier",
+        Words::Ident => "identifier",
+        Words::Name => "identifier",
+        Words::PlainName => "identifier",
+        Words::UseWord => "identifier",
+    }
+}
+
+// The name of a literal.
+fn literal_name(literals: Literals) -> &'static str
+    ensures { result.now ≡ literal_name literals }
+{
+    match literals {
+        Literals::Any => "literal",
+        Literals::Text => "string literal",
+        Literals::Number => "number",
+        Literals::EndsInDot => "number",
+        Literals::Index => "index",
+        Literals::Indices => "index",
+    }
+}
+
+// The name of a group.
+fn group_name(delimiter: Delimiter) -> &'static str
+    ensures { result.now ≡ group_name delimiter }
+{
+    match delimiter {
+        Delimiter::Parenthesis => "parentheses",
+        Delimiter::Brace => "curly braces",
+        Delimiter::Bracket => "square brackets",
+        Delimiter::None => "invisible group",
+    }
+}
+
+impl Thing {
+    // What has that name.
+    fn named(words: &'static str) -> Thing
+        ensures { thing_text result ≡ named words.now }
+    {
+        Thing {
+            is_text: false,
+            words,
+        }
+    }
+
+    // What has that text.
+    fn quoted(words: &'static str) -> Thing
+        ensures { thing_text result ≡ quoted words.now }
+    {
+        Thing {
+            is_text: true,
+            words,
+        }
+    }
+
+    // What was wanted.
+    fn of(wanted: Wanted) -> Thing
+        ensures { thing_text result ≡ wanted_text wanted }
+    {
+        match wanted {
+            Wanted::Word(Words::Keyword(keyword)) => Thing::quoted(keyword.text()),
+            Wanted::Word(words) => Thing::named(word_name(words)),
+            Wanted::Literal(literals) => Thing::named(literal_name(literals)),
+            Wanted::Mark(sign) => Thing::quoted(sign.text()),
+            Wanted::Separator => Thing::named("separator"),
+            Wanted::Lifetime => Thing::named("lifetime"),
+            Wanted::Group(delimiter) => Thing::named(group_name(delimiter)),
+            Wanted::End => Thing::named("no token"),
+            Wanted::Expression => Thing::named("expression"),
+            Wanted::Unchained => Thing::named("no comparison behind a comparison"),
+            Wanted::Judged(_) => Thing::named("what may stand here"),
+            Wanted::Nothing => Thing::named("another token"),
+        }
+    }
+}
+
+// A message.
+#[derive(Clone, Copy)]
+struct Message {
+    at_end: bool,
+    thing: Thing,
+}
+
+impl fmt::Display for Message {
+    ghost use Rattle.gram_read.specs.Said.{message_of};
+    ghost use Rattle.std.specs.Prelude.{Some};
+
+    ghost output = { λ m. Some (message_of m) };
+
+    fn fmt<W: fmt::Write>(&self, f: &mut fmt::Formatter<W>) -> fmt::Result {
+        if self.at_end {
+            f.write_str("unexpected end of input, ")?;
+        }
+        let words = self.thing.words;
+        if self.thing.is_text {
+            write!(f, "expected `{words}`")
+        } else {
+            write!(f, "expected {words}")
+        }
+    }
+}
+
+/// The error that says what was wanted, where the token stands that was found, or of the call site, where none was
+/// left.
+///
+/// # Errors
+///
+/// Where memory for the words is refused.
+pub fn error(alloc: Global, wrong: Wrong) -> Result<Error, AllocError>
+    ensures { IfOk result (Says (Some (message (is_end wrong.span) wrong.wanted)) (place wrong.span) (place wrong.span)) }
+{
+    let thing = Thing::of(wrong.wanted);
+    match wrong.span {
+        Some(span) => Error::new(
+            alloc,
+            span,
+            Message {
+                at_end: false,
+                thing,
+            },
+        ),
+        None => Error::new(
+            alloc,
+            Span::call_site(),
+            Message {
+                at_end: true,
+                thing,
+            },
+        ),
+    }
+}
