@@ -8,3 +8,4 @@ pub mod Characters
 pub mod Numbers
 pub mod Dots
 pub mod Seeking
+pub mod Spaced

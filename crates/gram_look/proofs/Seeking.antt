@@ -38,9 +38,6 @@ seeks_group c d s n at es e h =
     ap (λ x. past_first c 0 (tokens x)) e ∙ (opened_nested d s n at es e h).seeks c
     ∙ ap (λ x. past_first c 0 (tokens x)) (sym (ap (drop (n + 2)) e ∙ behind d s n es))
 
-pub nested_group : (n : ℕ) (at : List Entry) → is_nested at ≡ true → is_nested (drop (n + 2) at) ≡ true
-nested_group n at h = nested_drop (n + 2) at h
-
 -- at a word, a literal and a mark
 pub seeks_ident : (c : ℕ) (i : Bor Ident) (at es : List Entry) → at ≡ entry.Ident i ∷ es
     → past_first c 0 (tokens at) ≡ past_first c 0 (tokens (drop 1 at))
@@ -58,9 +55,6 @@ seeks_other c p at es e h =
     ap (λ x. past_first c 0 (tokens x)) e
     ∙ ap (λ v. cond v (Some (tokens es)) (past_first c 0 (tokens es))) (ne_eqb (punct_char p.now) c h)
     ∙ ap (λ x. past_first c 0 (tokens (drop 1 x))) (sym e)
-
-pub nested_one : (at : List Entry) → is_nested at ≡ true → is_nested (drop 1 at) ≡ true
-nested_one at h = nested_drop 1 at h
 
 -- in what is left behind so many entries
 tail : (n : ℕ) (es : List Entry) → take (length es - n) (drop n es) ≡ drop n es

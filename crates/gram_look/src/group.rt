@@ -141,14 +141,13 @@ fn that_mark<'a, 'e>(character: u32, at: &'a [Entry<'e>]) -> Option<&'a [Entry<'
 }
 
 // How many entries the search for such a mark passes at once, one or those of a whole group: none where it ends.
-#[tactic(auto, using(crate::proofs::Seeking::seeks_group, crate::proofs::Seeking::nested_group, crate::proofs::Seeking::seeks_ident, crate::proofs::Seeking::seeks_literal, crate::proofs::Seeking::seeks_other, crate::proofs::Seeking::ends_here, crate::proofs::Seeking::ends_there, crate::proofs::Seeking::nested_one, crate::proofs::Groups::opened_within))]
+#[tactic(auto, using(crate::proofs::Seeking::seeks_group, crate::proofs::Seeking::seeks_ident, crate::proofs::Seeking::seeks_literal, crate::proofs::Seeking::seeks_other, crate::proofs::Seeking::ends_here, crate::proofs::Seeking::ends_there, crate::proofs::Groups::opened_within))]
 fn passes(character: u32, at: &[Entry]) -> Option<usize>
     requires { is_nested at.now ≡ true }
     ensures on { IfSome result (λ n. past_first character 0 (tokens at.now)
         ≡ past_first character 0 (tokens (drop n at.now))) }
     ensures some { IfSome result (λ n. 0 < n) }
     ensures within { IfSome result (λ n. n ≤ length at.now) }
-    ensures nested { IfSome result (λ n. is_nested (drop n at.now) ≡ true) }
     ensures ends { IfNone result (past_first character 0 (tokens at.now) ≡ past_marks character [] (tokens at.now)) }
 {
     let (first, _) = at.split_first()?;

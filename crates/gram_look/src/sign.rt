@@ -4,22 +4,30 @@ ghost use Rattle.gram_look.specs.Tokens.{after, tokens};
 ghost use Rattle.gram_look.specs.Marks.{no_mark, no_word};
 ghost use Rattle.gram_look.specs.Nested.{is_nested};
 ghost use Rattle.gram_table.specs.Words.{sign_text};
+ghost use Rattle.gram_tree.specs.Forms.{mark_of};
 ghost use Rattle.proc_macro2.specs.Token as token;
+ghost use Rattle.proc_macro2.specs.Token.{Token};
 ghost use Rattle.rust_leaf.specs.Leaf.{ident_text, punct_char, punct_spacing};
-ghost use Rattle.std.specs.Prelude.{◌==◌, ◌∷◌, ◌≡◌, IfNone, IfSome, true};
+ghost use Rattle.std.specs.Prelude.{◌==◌, ◌∷◌, ◌≡◌, IfNone, IfSome, IsTrue, List, MatchOption, true};
+ghost use Rattle.syn_buffer.specs.Entries.{is_whole};
+ghost use Rattle.syn_grammar.specs.Gram.{punct};
 ghost use Rattle.syn_grammar.specs.Look.{a_lifetime, past_marks, the_mark};
+ghost use Rattle.syn_grammar.specs.Run.{Call, Got, Out, Refused, interp, mark_at};
+ghost use Rattle.syn_grammar.specs.Tree.{AMark};
 
 use gram_table::word::Sign;
 use rust_leaf::ident::Ident;
 use rust_leaf::punct::{Punct, Spacing};
+use rust_map::span::Span;
 use syn_buffer::entry::Entry;
 
 // The mark that stands first, and what is left behind it.
-#[tactic(auto, using(crate::proofs::Nested::nested_first))]
+#[tactic(auto, using(crate::proofs::Nested::nested_first, crate::proofs::Spaced::whole_behind))]
 pub(crate) fn first_mark<'a, 'e>(at: &'a [Entry<'e>]) -> Option<(&'e Punct, &'a [Entry<'e>])>
     ensures some { IfSome result (λ r. tokens at.now ≡ token.Punct (punct_char r.0.now) (punct_spacing r.0.now) ∷ tokens r.1.now) }
     ensures none { IfNone result (no_mark (tokens at.now)) }
     ensures nested { is_nested at.now ≡ true → IfSome result (λ r. is_nested r.1.now ≡ true) }
+    ensures whole { is_whole at.now ≡ true → IfSome result (λ r. is_whole r.1.now ≡ true) }
 {
     let Some((first, rest)) = at.split_first() else {
         return None;
@@ -68,6 +76,51 @@ pub fn sign<'a, 'e>(sign: Sign, at: &'a [Entry<'e>]) -> Option<&'a [Entry<'e>]>
 {
     let (first, others) = sign.text().as_bytes().split_first()?;
     past(*first, others, at)
+}
+
+// How the last of marks of which all but it are joint is spaced, and what is left behind it.
+#[tactic(auto, using(crate::proofs::Spaced::none_spaced, crate::proofs::Spaced::other_spaced, crate::proofs::Spaced::joint_spaced, crate::proofs::Spaced::joint_refused, crate::proofs::Spaced::lone_spaced))]
+fn spaced<'a, 'e>(
+    first: u8,
+    others: &[u8],
+    at: &'a [Entry<'e>],
+) -> Option<(Spacing, &'a [Entry<'e>])>
+    ensures none { IfNone result (mark_at first others.now (tokens at.now) ≡ Refused) }
+    ensures some { IfSome result (λ r. mark_at first others.now (tokens at.now)
+        ≡ Got (AMark first others.now r.0) (tokens r.1.now)) }
+    ensures whole { is_whole at.now ≡ true → IfSome result (λ r. is_whole r.1.now ≡ true) }
+{
+    let Some((punct, rest)) = first_mark(at) else {
+        return None;
+    };
+    if !is_mark(punct, first) {
+        return None;
+    }
+    let spacing = punct.spacing();
+    match others.split_first() {
+        None => Some((spacing, rest)),
+        Some((next, more)) => match spacing {
+            Spacing::Joint => spaced(*next, more, rest),
+            Spacing::Alone => None,
+        },
+    }
+}
+
+/// A punctuation that stands first: how its last mark is spaced, where its first one stands, and what is left behind it.
+/// None where it doesn't stand there.
+#[tactic(auto, using(crate::proofs::Spaced::empty_sign, crate::proofs::Spaced::no_sign, crate::proofs::Spaced::sign_refused, crate::proofs::Spaced::sign_spaced))]
+pub fn marks<'a>(sign: Sign, at: &'a [Entry<'a>]) -> Option<(Spacing, Span, &'a [Entry<'a>])>
+    requires { IsTrue (is_whole at.now) }
+    ensures mark { MatchOption result
+        ((call : Call → List Token → Out) → interp call (punct (sign_text sign)) (tokens at.now) ≡ Refused)
+        (λ r. (call : Call → List Token → Out) → interp call (punct (sign_text sign)) (tokens at.now)
+        ≡ Got (mark_of (sign_text sign) r.0) (tokens r.2.now)) }
+    ensures whole { IfSome result (λ r. IsTrue (is_whole r.2.now)) }
+{
+    let (first, others) = sign.text().as_bytes().split_first()?;
+    let (punct, _) = first_mark(at)?;
+    let (spacing, rest) = spaced(*first, others, at)?;
+    Some((spacing, punct.span(), rest))
 }
 
 // The identifier that stands first, and what is left behind it.
