@@ -10,3 +10,5 @@ pub mod Read
 pub mod Pushing
 pub mod Flat
 pub mod Sizes
+pub mod Written
+pub mod SpacedForms

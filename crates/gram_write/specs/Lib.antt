@@ -2,3 +2,5 @@ pub mod Said
 pub mod Firsts
 pub mod Plain
 pub mod Ranges
+pub mod Spaced
+pub mod Tidied
