@@ -1,3 +1,6 @@
 pub mod Shapes
 pub mod FormCases
 pub mod Elements
+pub mod Ends
+pub mod Sizes
+pub mod UseRoots

@@ -1,2 +1,4 @@
 pub mod Asked
+pub mod Closing
 pub mod Last
+pub mod Verdict

@@ -1,0 +1,26 @@
+use Rattle.std.specs.Prelude.{List, Option, Bool}
+use Rattle.std.proofs.Common.{◌≡◌, arith, ap, sym, ◌∙◌, ◌<◌, ◌+◌, length, get_or, drop}
+use denote.Param.Weighed.{most}
+use Rattle.gram_tree.specs.declared.tree.Tree.TheDeep.{size-Tree}
+use Rattle.syn_grammar.specs.Tree.{Tree, flat}
+use Rattle.gram_tree.specs.Forms.{tree_of, turns}
+use Rattle.gram_judge.specs.Closing.{ending, later}
+use Rattle.gram_judge.proofs.Sizes.{turns_below}
+use Rattle.gram_judge.proofs.Ends.{ending_turn}
+use Rattle.gram_judge.proofs.closing.+closing.Goals as goal
+
+pub ending-ending_of_turns-requires : goal.ending-ending_of_turns-requires
+ending-ending_of_turns-requires t c =
+    let same = ap (λ (xs : List Tree). most (λ x. size-Tree x) xs) c.as_slice.ensures.value in
+    let below = turns_below c.in-Turns.turns.items c.args.tree.now (sym c.tree.view_is ∙ ap tree_of c.in-Turns.is) in
+    omega (arith, c.decreases, same, below)
+
+pub ending_of_turns-loop-tree-preserved : goal.ending_of_turns-loop-tree-preserved
+ending_of_turns-loop-tree-preserved t c =
+    let xs : List Tree = c.args.trees.now in
+    let x : Tree = c.tree-item.result in
+    let h : c.loop-tree.tree-index < length xs = c.loop-tree-test.true in
+    let e : x ≡ get_or xs c.loop-tree.tree-index x = c.tree-item.is in
+    ap (λ (o : Option Bool). later o (ending (flat (turns (drop (c.loop-tree.tree-index + 1) xs)))))
+    (c.later-found.ensures ∙ ap (later c.loop-tree.found) c.ending.ensures)
+    ∙ ending_turn xs c.loop-tree.tree-index x c.loop-tree.found h e ∙ c.loop-tree.invariant
