@@ -1,8 +1,8 @@
 -- Whether the last token closes braces, by the form of a tree.
-use Rattle.std.specs.Prelude.{◌≡◌, ℕ, zero, suc, Bool, true, false, List, [], ◌∷◌, ◌++◌, Option, Some, None, map, refl}
+use Rattle.std.specs.Prelude.{◌≡◌, ℕ, zero, suc, Bool, false, List, [], ◌∷◌, ◌++◌, Option, Some, None, map, refl}
 use Rattle.std.proofs.Common.{ap, ◌∙◌, sym, length, arith, get_or, drop, ◌+◌, ◌<◌}
 use Rattle.std.proofs.lemmas.List.{at_drop_more}
-use Rattle.proc_macro2.specs.Token.{Token, Opens, Closes, Ident, Literal, Punct}
+use Rattle.proc_macro2.specs.Token.{Token, Opens, Closes, Punct}
 use Rattle.proc_macro2.specs.declared.delimiter.Delimiter.{Delimiter}
 use Rattle.proc_macro2.specs.declared.delimiter.Delimiter.TheVariants.{Brace}
 use Rattle.rust_leaf.specs.declared.punct.Spacing.{Spacing}
@@ -32,7 +32,8 @@ ending_append (x ∷ xs) ys =
     ap (later (Some (closes_braces x))) (ending_append xs ys)
     ∙ later_assoc (Some (closes_braces x)) (ending xs) (ending ys)
 
-pub ending_group : (d : Delimiter) (xs : List Token) → ending (Opens d ∷ xs ++ Closes d ∷ []) ≡ Some (closes_braces (Closes d))
+pub ending_group : (d : Delimiter) (xs : List Token)
+    → ending (Opens d ∷ xs ++ Closes d ∷ []) ≡ Some (closes_braces (Closes d))
 ending_group d xs = ap (later (Some false)) (ending_append xs (Closes d ∷ []))
 
 ending_marks : (c : ℕ) (cs : List ℕ) (spacing : Spacing) → ending (marks c cs spacing) ≡ Some false
@@ -54,19 +55,23 @@ ending_elements c [] y = sym (later_none (ending (flat y)))
 ending_elements c (e ∷ es) y =
     ending_append (flat e.tree) (Punct c e.spacing ∷ flat (elements c es y))
     ∙ ap (λ o. later (ending (flat e.tree)) (later (Some false) o)) (ending_elements c es y)
-    ∙ ap (later (ending (flat e.tree))) (later_assoc (Some false) (ending (flat (elements c es t.End))) (ending (flat y)))
+    ∙ ap (later (ending (flat e.tree)))
+    (later_assoc (Some false) (ending (flat (elements c es t.End))) (ending (flat y)))
     ∙ later_assoc (ending (flat e.tree)) (later (Some false) (ending (flat (elements c es t.End)))) (ending (flat y))
-    ∙ ap (λ o. later o (ending (flat y))) (sym (ending_append (flat e.tree) (Punct c e.spacing ∷ flat (elements c es t.End))))
+    ∙ ap (λ o. later o (ending (flat y)))
+    (sym (ending_append (flat e.tree) (Punct c e.spacing ∷ flat (elements c es t.End))))
 
 pub ruleset endings =
     (later_none, later_assoc, ending_append, ending_group, ending_sign, flat_seconds, ending_elements)
 
 -- one turn more, behind what was found
 pub ending_turn : (xs : List Tree) (i : ℕ) (x : Tree) (o : Option Bool) → i < length xs → x ≡ get_or xs i x
-    → later (later o (ending (flat x))) (ending (flat (turns (drop (i + 1) xs)))) ≡ later o (ending (flat (turns (drop i xs))))
+    → later (later o (ending (flat x))) (ending (flat (turns (drop (i + 1) xs))))
+    ≡ later o (ending (flat (turns (drop i xs))))
 ending_turn xs i x o h e =
     let f : List Tree → Option Bool = λ ys. ending (flat (turns ys)) in
-    sym (ap (later o) (at_drop_more f xs i x h ∙ ap (λ y. f (y ∷ drop (i + 1) xs)) (sym e) ∙ ending_append (flat x) (flat (turns (drop (i + 1) xs))))
+    sym (ap (later o) (at_drop_more f xs i x h ∙ ap (λ y. f (y ∷ drop (i + 1) xs)) (sym e)
+    ∙ ending_append (flat x) (flat (turns (drop (i + 1) xs))))
     ∙ later_assoc o (ending (flat x)) (f (drop (i + 1) xs)))
 
 -- behind one element at least a mark is the last token
@@ -84,11 +89,13 @@ pub some_marks : (c : ℕ) (es : List Element) → (length es ≡ 0 → ⊥) →
 some_marks c [] h = absurd (h refl)
 some_marks c (e ∷ es) h = sym (marks_more c e es)
 
-ending_last : (es : List Entry) (e : Entry) → ending (map entry_token (es ++ e ∷ [])) ≡ Some (closes_braces (entry_token e))
+ending_last : (es : List Entry) (e : Entry)
+    → ending (map entry_token (es ++ e ∷ [])) ≡ Some (closes_braces (entry_token e))
 ending_last [] e = refl
 ending_last (d ∷ es) e = ap (later (Some (closes_braces (entry_token d)))) (ending_last es e)
 
-pub entries_last : (ds es : List Entry) (e : Entry) → ds ≡ es ++ e ∷ [] → Some (closes_braces (entry_token e)) ≡ ending (map entry_token ds)
+pub entries_last : (ds es : List Entry) (e : Entry) → ds ≡ es ++ e ∷ []
+    → Some (closes_braces (entry_token e)) ≡ ending (map entry_token ds)
 entries_last ds es e h = sym (ap (λ xs. ending (map entry_token xs)) h ∙ ending_last es e)
 
 pub no_entries : (es : List Entry) → length es ≡ 0 → None ≡ ending (map entry_token es)

@@ -33,11 +33,14 @@ pub root_turns : (xs : List Tree) → has_root (turns xs) ≡ false
 root_turns [] = refl
 root_turns (x ∷ xs) = refl
 
-pub root_elements : (c : ℕ) (es : List Element) (y : Tree) → has_root (elements c es y) ≡ (list_any (λ e. has_root e.tree) es || has_root y)
+pub root_elements : (c : ℕ) (es : List Element) (y : Tree)
+    → has_root (elements c es y) ≡ (list_any (λ e. has_root e.tree) es || has_root y)
 root_elements c [] y = refl
-root_elements c (e ∷ es) y = ap (λ b. has_root e.tree || b) (root_elements c es y) ∙ or_assoc (has_root e.tree) (list_any (λ e. has_root e.tree) es) (has_root y)
+root_elements c (e ∷ es) y = ap (λ b. has_root e.tree || b) (root_elements c es y)
+    ∙ or_assoc (has_root e.tree) (list_any (λ e. has_root e.tree) es) (has_root y)
 
-node_root : (k : g.Kind) (x : Tree) → (k ≡ kinds.UseTop → ⊥) → (k ≡ kinds.UseRooted → ⊥) → false ≡ has_root (Node (named k) x)
+node_root : (k : g.Kind) (x : Tree) → (k ≡ kinds.UseTop → ⊥) → (k ≡ kinds.UseRooted → ⊥)
+    → false ≡ has_root (Node (named k) x)
 node_root kinds.UseTop x h i = absurd (h refl)
 node_root kinds.UseRooted x h i = absurd (i refl)
 node_root k x h i = refl
@@ -61,7 +64,8 @@ pub top_turns : (xs : List Tree) → has_root (Node UseTop (turns xs)) ≡ false
 top_turns [] = refl
 top_turns (x ∷ xs) = refl
 
-pub top_elements : {A : Type 0} (c : ℕ) (es : List Element) (f : A → Tree) (o : Option A) → has_root (Node UseTop (elements c es (ending f o))) ≡ false
+pub top_elements : {A : Type 0} (c : ℕ) (es : List Element) (f : A → Tree) (o : Option A)
+    → has_root (Node UseTop (elements c es (ending f o))) ≡ false
 top_elements c [] f None = refl
 top_elements c [] f (Some y) = refl
 top_elements c (e ∷ es) f o = refl
@@ -76,7 +80,8 @@ pub rooted_turns : (xs : List Tree) → has_root (Node UseRooted (turns xs)) ≡
 rooted_turns [] = refl
 rooted_turns (x ∷ xs) = refl
 
-pub rooted_elements : {A : Type 0} (c : ℕ) (es : List Element) (f : A → Tree) (o : Option A) → has_root (Node UseRooted (elements c es (ending f o))) ≡ false
+pub rooted_elements : {A : Type 0} (c : ℕ) (es : List Element) (f : A → Tree) (o : Option A)
+    → has_root (Node UseRooted (elements c es (ending f o))) ≡ false
 rooted_elements c [] f None = refl
 rooted_elements c [] f (Some y) = refl
 rooted_elements c (e ∷ es) f o = refl
@@ -91,7 +96,8 @@ pub inside_turns : (xs : List Tree) → root_inside (Node UseTop (turns xs)) ≡
 inside_turns [] = refl
 inside_turns (x ∷ xs) = refl
 
-pub inside_elements : {A : Type 0} (c : ℕ) (es : List Element) (f : A → Tree) (o : Option A) → root_inside (Node UseTop (elements c es (ending f o))) ≡ false
+pub inside_elements : {A : Type 0} (c : ℕ) (es : List Element) (f : A → Tree) (o : Option A)
+    → root_inside (Node UseTop (elements c es (ending f o))) ≡ false
 inside_elements c [] f None = refl
 inside_elements c [] f (Some y) = refl
 inside_elements c (e ∷ es) f o = refl
