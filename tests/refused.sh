@@ -2,10 +2,11 @@
 # Runs built programs once for each allocation that they make, refusing that one: canon_cli on its stored input, on a
 # text at fault, on a large text and on an argument; lex_cli on its stored input; grow_check on each text of
 # tests/texts, behind an older text in its map, on streams that are built by hand, and on literals of texts and their
-# values; grow_parse, grow_leaf, grow_lists and grow_nodes on what they read, build and print by themselves. Each run must
-# give the answer itself, with its status and what it says on standard error, or end with nothing written: with status 3
-# where memory was refused (in the programs grow_ to a call that is looked at, which then left all as it was), or with
-# their status 4 where it was refused elsewhere. canon_cli says "canon: out of memory" then, and the others nothing.
+# values; grow_calls and grow_grammar on what they read, build, write and print by themselves. Each run must give the
+# answer itself, with its status and what it says on standard error, or end with nothing written: with status 3 where
+# memory was refused (in the programs grow_ to a call that is looked at, which then left all as it was), or with their
+# status 4 where it was refused elsewhere.
+# canon_cli says "canon: out of memory" then, and the others nothing.
 # Usage: tests/refused.sh. `rt run` proves and builds the programs first. It needs cc, glibc and python3.
 set -euo pipefail
 cd "$(dirname "$0")"
@@ -51,7 +52,7 @@ sweep() {
     echo "$name: $((n - 1)) allocations refused, $refused with status 3, $elsewhere elsewhere, $((answered - 1)) without effect"
 }
 
-for program in canon_cli lex_cli grow_check grow_parse grow_leaf grow_lists grow_nodes; do
+for program in canon_cli lex_cli grow_check grow_calls grow_grammar; do
     build "$program"
 done
 
@@ -88,11 +89,7 @@ answer=../crates/grow_check/stdout
 sweep "streams by hand" grow_check /dev/null built
 answer=literals.answer
 sweep "literals and their values" grow_check /dev/null literals
-answer=../crates/grow_parse/stdout
-sweep "reading and printing syntax" grow_parse /dev/null
-answer=../crates/grow_leaf/stdout
-sweep "literals and operators" grow_leaf /dev/null
-answer=../crates/grow_lists/stdout
-sweep "lists and errors" grow_lists /dev/null
-answer=../crates/grow_nodes/stdout
-sweep "nodes that are read, copied and printed" grow_nodes /dev/null
+answer=../crates/grow_calls/stdout
+sweep "reading, building and printing syntax" grow_calls /dev/null
+answer=../crates/grow_grammar/stdout
+sweep "reading by the grammar, writing and printing" grow_grammar /dev/null

@@ -3,3 +3,5 @@ pub mod Forests
 pub mod Programs
 pub mod Answers
 pub mod Trees
+pub mod Files
+pub mod Outlined

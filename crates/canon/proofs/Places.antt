@@ -16,7 +16,7 @@ use Rattle.rust_lex.specs.Piece.{Piece}
 use Rattle.proc_macro2.specs.Token.{Token, Opens, Closes, Ident, Literal, Punct, Spanned}
 use Rattle.proc_macro2.specs.Pieces.{edge, edged, edged_at, span_at}
 use Rattle.proc_macro2.proofs.Followed.{tokens_before, tokens_onto}
-use Rattle.canon.specs.Faults.{begins_at, token_place}
+use Rattle.canon_laws.specs.Faults.{begins_at, token_place}
 use Rattle.canon.specs.Places.{begins_with, span_place}
 
 -- tokens that begin so many positions behind others
@@ -102,7 +102,7 @@ module _ (sources : Sources) (text : List ℕ) (there : spot (with_text sources 
   abbrev pub base : ℕ
   base = next_position sources
 
-  place_span : (span : Span) (n : ℕ) → Lies base (base + length text) span → span.start ≡ base + n →
+  pub place_span : (span : Span) (n : ℕ) → Lies base (base + length text) span → span.start ≡ base + n →
       start_place grown span ≡ place_of text n
   place_span span n l e =
       ap (λ o. option_map_or (λ (s : Spot). place_of s.text s.from) o no_place) (spot_of sources text there span l)

@@ -1,23 +1,13 @@
 -- Why a text has no canonical form.
-use Rattle.std.specs.Prelude.{◌≡◌, ℕ, List, Option, slice_get, option_and_then}
-use Rattle.std.specs.Option.{option_map}
+use Rattle.std.specs.Prelude.{◌≡◌, ℕ, List, Option}
 use Rattle.rust_map.specs.declared.place.LineColumn.{LineColumn}
-use Rattle.rust_map.specs.Places.{place_of}
 use Rattle.proc_macro2.specs.Token.{Spanned, plain}
-use Rattle.proc_macro2.specs.Pieces.{edged}
 use Rattle.proc_macro2.specs.Forest.{IsForest, IsLexicalFault}
 use Rattle.canon_syntax.specs.File.{NoFile}
+use Rattle.canon_laws.specs.Faults as whole
+use Rattle.canon_laws.specs.Faults.{token_place}
 use Rattle.canon.specs.declared.fault.Fault.{Fault}
 use Rattle.canon.specs.declared.fault.Fault.TheVariants.{NotUtf8, Lexical, Syntax, MapFull, Memory, Reading, Writing}
-
--- where a token of a text begins whose characters stand at the positions from 0 on: so many of them
--- precede it
-abbrev pub begins_at : List ℕ → Spanned → LineColumn
-begins_at text s = place_of text (edged s).span.start
-
--- where a token stands, by its index; nowhere, where there is no such token
-abbrev pub token_place : List ℕ → List Spanned → Option ℕ → Option LineColumn
-token_place text tokens index = option_map (begins_at text) (option_and_then (slice_get tokens) index)
 
 -- The text has a forest whose tokens are no file. The place is that of one of its tokens, or none.
 pub record IsSyntaxFault (text : List ℕ) (place : Option LineColumn) : Type 0 where
@@ -36,3 +26,13 @@ IsFaultOf text Memory = Unit {0}
 IsFaultOf text NotUtf8 = ⊥
 IsFaultOf text Reading = ⊥
 IsFaultOf text Writing = ⊥
+
+-- what a fault says of a text whose outline was asked for, which is read by the whole grammar
+abbrev pub IsOutlineFaultOf : List ℕ → Fault → Type 0
+IsOutlineFaultOf text (Lexical place) = IsLexicalFault text place
+IsOutlineFaultOf text (Syntax error place) = whole.IsSyntaxFault text place
+IsOutlineFaultOf text MapFull = Unit {0}
+IsOutlineFaultOf text Memory = Unit {0}
+IsOutlineFaultOf text NotUtf8 = ⊥
+IsOutlineFaultOf text Reading = ⊥
+IsOutlineFaultOf text Writing = ⊥

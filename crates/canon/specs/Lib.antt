@@ -5,3 +5,5 @@ pub mod Places
 pub mod Run
 pub mod Causes
 pub mod Maps
+pub mod Outline
+pub mod Unread

@@ -1,23 +1,28 @@
 //! The canonical form of a Rust source text.
 //!
 //! - `form`: the canonical form of a text.
+//! - `outlines`: the names of the items of a text, and where they stand.
 //! - `runs`: a run, from a reader to a writer.
 //! - `fault`: why a text has none, and what the program says then.
 //! - `causes` (private): faults of the parts of a run, as faults of the run.
 //! - `stands` (private): where the tokens stand of which errors speak.
+//! - `file` (private): the file of the whole grammar that tokens are.
 //! - `laws`: laws of programs and their canonical forms.
 #![tactic(auto)]
 
 mod causes;
 pub mod fault;
+mod file;
 pub mod form;
 pub mod laws;
+pub mod outlines;
 pub mod runs;
 mod stands;
 
 pub use canon_io::watched::Watched;
 pub use fault::{Fault, status, write_fault};
 pub use form::canonical;
+pub use outlines::{Row, outline};
 pub use proc_macro2::{LineColumn, MapFull, SourceMap};
 pub use runs::run;
 pub use syn_error::Error;

@@ -3,7 +3,7 @@
 #![tactic(auto)]
 
 use anyhow::{Result, anyhow};
-use canon::{Fault, Watched, canonical, run, status};
+use canon::{Fault, Watched, canonical, outline, run, status};
 use rows::{Row, Table, answered, write};
 use rust_map::SourceMap;
 use std::alloc::Global;
@@ -15,6 +15,7 @@ impl Table for Calls {
     fn answer(&self, alloc: Global, row: &Row) -> Result<String> {
         match row.call {
             "canonical" => told(alloc, row.text.as_str()),
+            "outline" => outlined(alloc, row.text.as_str()),
             _ => Err(anyhow!("no such call")),
         }
     }
@@ -58,6 +59,24 @@ fn runs_alike(alloc: Global, text: &str, answer: &Result<String, Fault>) -> Resu
     };
     let written = writer.get_ref().as_slice() == page.as_bytes();
     Ok(alike && ended == u8::from(answer.is_err()) && written)
+}
+
+// The rows of the outline of a text, or that it is refused.
+fn outlined(alloc: Global, text: &str) -> Result<String> {
+    let Ok(rows) = outline(alloc, text, &mut SourceMap::new(alloc)) else {
+        return Ok(String::from_str(alloc, "refused")?);
+    };
+    let mut said = String::from_str(alloc, "[")?;
+    for row in rows.as_slice() {
+        if said.len() > 1 {
+            said.push_str(", ")?;
+        }
+        let name = row.name.as_str();
+        let (kind, line, column) = (row.kind, row.place.line, row.place.column);
+        write!(said, "{kind} {name} {line}:{column}")?;
+    }
+    said.push(']')?;
+    Ok(said)
 }
 
 fn main(rt: HostRuntime) -> Result<()> {

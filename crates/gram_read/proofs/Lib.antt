@@ -1,2 +1,4 @@
 pub mod Attributed
+pub mod Counted
 pub mod Decided
+pub mod Listed

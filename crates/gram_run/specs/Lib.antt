@@ -1,4 +1,3 @@
 pub mod Answers
 pub mod Around
 pub mod Operands
-pub mod Rules

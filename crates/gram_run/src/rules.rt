@@ -1,7 +1,7 @@
 //! What the reader asks of tokens, and of what was read.
 
+ghost use Rattle.gram_judge.specs.Verdict.{verdict_kind};
 ghost use Rattle.gram_run.specs.Answers.{tokens};
-ghost use Rattle.gram_run.specs.Rules.{verdict_kind};
 ghost use Rattle.gram_table.specs.Kinds.{kind_of, position_of};
 ghost use Rattle.gram_table.specs.Looks.{test_of};
 ghost use Rattle.gram_table.specs.Verdicts.{verdict_of};
@@ -15,6 +15,7 @@ ghost use Rattle.syn_grammar.specs.Forms.{back, front, has_right};
 ghost use Rattle.syn_grammar.specs.Gram.{punct};
 ghost use Rattle.syn_grammar.specs.Run.{Call, Got, Out, Refused, interp};
 
+pub use gram_judge::verdict::Verdict;
 use gram_table::kind::{Kind, Position};
 use gram_table::op::{Test, Verdicts};
 use gram_table::word::{Literals, Sign};
@@ -23,17 +24,6 @@ use rust_leaf::literal::Literal;
 use rust_leaf::punct::Spacing;
 use rust_map::span::Span;
 use syn_buffer::entry::Entry;
-
-/// What becomes of what was read.
-#[derive(Clone, Copy)]
-pub enum Verdict {
-    /// It is kept.
-    Keep,
-    /// Its tokens are kept.
-    AsRaw,
-    /// There is none.
-    Refuse,
-}
 
 /// The tests, the marks and the verdicts of the written grammar, as the reader asks for them.
 pub trait Rules {

@@ -2,7 +2,8 @@
 use Rattle.std.specs.Prelude.{◌≡◌, Bool, true, false, List}
 use Rattle.std.proofs.Common.{inl}
 use Rattle.proc_macro2.specs.Token.{Token}
-use Rattle.syn_grammar.specs.Kind.{Kind, AFieldValue, AType, Expression, ImplGenerics, Plain, InCondition, InArm}
+use Rattle.syn_grammar.specs.Kind.{Kind, AFieldValue, AStatement, AType, Expression, ImplGenerics, Plain, InCondition}
+use Rattle.syn_grammar.specs.Kind.{InArm}
 use Rattle.syn_grammar.specs.Kind.{InStatement, WithPlus}
 use Rattle.syn_grammar.specs.Tree.{Tree, Node}
 use Rattle.grammar_back.specs.After.{behind, After}
@@ -24,6 +25,7 @@ suffices (Expression Plain) x s a = a
 suffices (Expression InCondition) x s a = a
 suffices (Expression InArm) x s a = inl a
 suffices (Expression InStatement) x s a = inl a
+suffices AStatement x s a = inl a
 suffices AFieldValue x s a = inl a
 suffices (AType WithPlus) x s a = inl a
 suffices ImplGenerics x s a = inl a
@@ -33,6 +35,7 @@ suffices _ x s a = a
 abbrev pub is_by_tokens : Kind → Bool
 is_by_tokens (Expression InArm) = false
 is_by_tokens (Expression InStatement) = false
+is_by_tokens AStatement = false
 is_by_tokens AFieldValue = false
 is_by_tokens (AType WithPlus) = false
 is_by_tokens ImplGenerics = false
@@ -43,6 +46,7 @@ by_tokens (Expression Plain) x s e a = a
 by_tokens (Expression InCondition) x s e a = a
 by_tokens (Expression InArm) x s e a = cc
 by_tokens (Expression InStatement) x s e a = cc
+by_tokens AStatement x s e a = cc
 by_tokens AFieldValue x s e a = cc
 by_tokens (AType WithPlus) x s e a = cc
 by_tokens ImplGenerics x s e a = cc

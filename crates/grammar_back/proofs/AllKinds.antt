@@ -3,7 +3,7 @@ use Rattle.std.proofs.Common.{◌≡◌, refl}
 use Rattle.std.specs.Prelude.{true, false}
 use Rattle.syn_grammar.specs.Kind.{Kind, AConst, AConstTrait, AFieldValue, AFile, AForeignItem, AForeignModule}
 use Rattle.syn_grammar.specs.Kind.{AFunction, ALet, AMacro, AMacroDefinition, AModule, ARestrictedTrait}
-use Rattle.syn_grammar.specs.Kind.{AStatement, AStatic, AStruct, ATrait, ATraitItem, AType, ATypeAlias, AUnion}
+use Rattle.syn_grammar.specs.Kind.{AStatic, AStruct, ATrait, ATraitItem, AType, ATypeAlias, AUnion}
 use Rattle.syn_grammar.specs.Kind.{AUse, Abi, AnArgument, AnEnum, AnExternCrate, AnImpl, AnImplItem, AnItem}
 use Rattle.syn_grammar.specs.Kind.{AnyPath, Arguments, Arms, AtType, Block, Body, Bound, BoundLifetimes, Bounds}
 use Rattle.syn_grammar.specs.Kind.{BoundsColon, BracketType, ClosureParam, ConstParam, Delimited, DynType}
@@ -49,8 +49,8 @@ use Rattle.grammar_back.proofs.Defaults.{law_const_param}
 use Rattle.grammar_back.proofs.Predicates.{law_where_predicate}
 use Rattle.grammar_back.proofs.Receivers.{law_parameter}
 use Rattle.grammar_back.proofs.Aliases.{law_type_in_file, law_type_in_foreign}
-use Rattle.grammar_back.proofs.Lets.{law_a_let, law_a_statement}
-use Rattle.grammar_back.proofs.Turns.{law_statements, law_items, law_foreign_items, law_trait_items}
+use Rattle.grammar_back.proofs.Lets.{law_a_let}
+use Rattle.grammar_back.proofs.Turns.{law_items, law_foreign_items, law_trait_items}
 use Rattle.grammar_back.proofs.Turns.{law_impl_items, law_arms}
 use Rattle.grammar_back.proofs.Impls.{law_an_impl}
 use Rattle.grammar_back.proofs.WholeItems.{law_an_item}
@@ -110,8 +110,9 @@ use Rattle.grammar_back.proofs.StepsOfItems.{step_a_file}
 use Rattle.grammar_back.proofs.Fields.{step_unnamed_field}
 use Rattle.grammar_back.proofs.Receivers.{step_parameter}
 use Rattle.grammar_back.proofs.Aliases.{step_type_in_file, step_type_in_foreign}
-use Rattle.grammar_back.proofs.Lets.{step_a_let, step_a_statement}
-use Rattle.grammar_back.proofs.Turns.{step_statements, step_items, step_foreign_items, step_trait_items}
+use Rattle.grammar_back.proofs.Lets.{step_a_let}
+use Rattle.grammar_back.proofs.Statements.{law_statements, step_statements}
+use Rattle.grammar_back.proofs.Turns.{step_items, step_foreign_items, step_trait_items}
 use Rattle.grammar_back.proofs.Turns.{step_impl_items, step_arms}
 use Rattle.grammar_back.proofs.Impls.{step_an_impl}
 use Rattle.grammar_back.proofs.WholeItems.{step_an_item}
@@ -262,7 +263,6 @@ steps Label e = step_label
 steps Body e = step_body
 steps Block e = step_block
 steps ALet e = step_a_let
-steps AStatement e = step_a_statement
 steps Statements e = step_statements
 steps Items e = step_items
 steps ForeignItems e = step_foreign_items
@@ -495,7 +495,6 @@ laws Label e = simple_kind Label refl (λ x. tt) (λ x. refl) (λ x. refl) (λ q
 laws Body e = simple_kind Body refl (λ x. tt) (λ x. refl) (λ x. refl) (λ q. refl) (λ q. refl) refl
 laws Block e = simple_kind Block refl (λ x. tt) (λ x. refl) (λ x. refl) (λ q. refl) (λ q. refl) refl
 laws ALet e = law_a_let
-laws AStatement e = law_a_statement
 laws Statements e = law_statements
 laws Items e = law_items
 laws ForeignItems e = law_foreign_items

@@ -5,8 +5,8 @@ use Rattle.proc_macro2.specs.Token.{Token, Opens, Ident, Literal, Punct}
 use Rattle.proc_macro2.specs.declared.delimiter.Delimiter.{Delimiter}
 use Rattle.rust_leaf.specs.declared.punct.Spacing.TheVariants.{Alone as Apart, Joint}
 use Rattle.syn_grammar.specs.Tree.{marks}
-use Rattle.syn_grammar.specs.Look.{sees, the_end, ◌then◌}
-use Rattle.syn_grammar.specs.Say.{marks as a_mark}
+use Rattle.syn_grammar.specs.Look.{sees, the_end, no, ◌then◌}
+use Rattle.syn_grammar.specs.Say.{at, marks as a_mark}
 
 -- a punctuation, whose last mark stands apart; the word of that text; a word, a literal that passes; a lifetime; a
 -- group
@@ -22,10 +22,12 @@ pub data Class : Type 0 where
   -- what a raw item begins with
   RawFront : Class
 
--- Neither the end, nor a ; nor #! : the marks of a raw item are spaced as they were.
+-- Neither the end, nor a ; nor #! , nor . nor ? nor else: the marks of a raw item are spaced as they were.
 abbrev pub IsRawFront : List Token → Type 0
 IsRawFront ts =
     (sees the_end ts ≡ false) × (sees (a_mark ";") ts ≡ false) × (sees (a_mark "#" then a_mark "!") ts ≡ false)
+    × (sees (no (a_mark "..") then a_mark ".") ts ≡ false) × (sees (a_mark "?") ts ≡ false)
+    × (sees (at "else") ts ≡ false)
 
 abbrev pub IsAt : Class → List Token → Type 0
 IsAt (Sign c cs) ts = (us : List Token) × (ts ≡ marks c cs Apart ++ us)

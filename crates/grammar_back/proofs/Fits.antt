@@ -10,7 +10,8 @@ use Rattle.rust_leaf.specs.declared.punct.Spacing.TheVariants.{Alone as Apart}
 use Rattle.syn_grammar.specs.Kind.{Kind, Position, Plain, DynType, ImplType, WithoutPlus, OnePattern, IdentPattern}
 use Rattle.syn_grammar.specs.Kind.{PathPattern, ReferencePattern, InExpression, Parameter, Segment, Segments}
 use Rattle.syn_grammar.specs.Kind.{ATypeAlias, FnPtrType, InFile, InForeign, WherePredicate}
-use Rattle.syn_grammar.specs.Kind.{AConst, AForeignItem, ALet, AStatement, AnImpl, AnItem, NeverType, UnnamedField}
+use Rattle.syn_grammar.specs.Kind.{AConst, AForeignItem, ALet, AStatement, Statements, AnImpl, AnItem, NeverType}
+use Rattle.syn_grammar.specs.Kind.{UnnamedField}
 use Rattle.syn_grammar.specs.Kind.{Meta}
 use Rattle.syn_grammar.specs.Kind.{AConstTrait, AForeignModule, AMacroDefinition, AModule, ARestrictedTrait, AStatic}
 use Rattle.syn_grammar.specs.Kind.{AStruct, ATrait, ATraitItem, AUnion, AnImplItem, AUse, AnEnum, AnExternCrate}
@@ -34,7 +35,7 @@ use Rattle.syn_grammar.specs.Parens.{is_struct}
 use Rattle.syn_grammar.specs.Name.{the_const, the_default, the_else, the_safety}
 use Rattle.syn_grammar.specs.Part.{choice, has}
 use Rattle.syn_grammar.specs.Normal.{stands_behind, formed}
-use Rattle.grammar_back.specs.After.{is_any_path, is_generic}
+use Rattle.grammar_back.specs.After.{is_any_path, is_generic, is_open}
 use Rattle.grammar_back.specs.Covered.{front, inner, has_clear_type, has_plain_path, is_lone, has_lone_value, is_known}
 use Rattle.grammar_back.specs.Covered.{is_form, is_statement_form, is_no_macro, is_plain_macro}
 use Rattle.grammar_back.specs.Covered.{item_of}
@@ -231,6 +232,23 @@ is_item_form _ = true
 abbrev pub IsItem : Tree → Type 0
 IsItem x = (place x ≡ own_place (choice x)) × (is_item_form (choice x) ≡ true)
 
+-- of statements: behind an expression without its ; stands no lone ; , which would be its own
+abbrev pub is_open_turn : Tree → Bool
+is_open_turn (Second (Node k x)) = is_open x
+is_open_turn _ = false
+
+abbrev pub is_lone_mark : Tree → Bool
+is_lone_mark (Again (First x) y) = true
+is_lone_mark _ = false
+
+abbrev pub are_ended : Tree → Bool
+are_ended (Again x y) = not (is_open_turn x && is_lone_mark y) && are_ended y
+are_ended _ = true
+
+abbrev pub has_own_semicolons : Tree → Bool
+has_own_semicolons (First x) = are_ended x
+has_own_semicolons _ = true
+
 -- what the tests say of what a kind holds, where its entry's shape doesn't
 abbrev pub IsMeant : Kind → Tree → Type 0
 IsMeant (DynType WithoutPlus) x = has_path_bound x ≡ true
@@ -249,6 +267,7 @@ IsMeant AnImpl x = IsOwnImpl (behind_impl (kept x))
 IsMeant AnItem x = IsItem (item_of x)
 IsMeant ALet x = has the_else x ≡ false
 IsMeant AStatement x = is_statement_form x ≡ true
+IsMeant Statements x = has_own_semicolons x ≡ true
 IsMeant AForeignItem x = is_no_macro (choice (item_of x)) ≡ true
 IsMeant ATraitItem x = is_plain_macro (choice (item_of x)) ≡ true
 IsMeant AnImplItem x = is_plain_macro (choice (item_of x)) ≡ true

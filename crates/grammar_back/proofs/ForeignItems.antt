@@ -9,7 +9,7 @@ use Rattle.syn_grammar.specs.Kind.{Kind, AForeignItem, AFunction, AStatic, AType
 use Rattle.syn_grammar.specs.Kind.{OuterAttributes, Plain, Position, Signature, Visibility}
 use Rattle.syn_grammar.specs.Name.{Part, same_part, the_body, the_bounds, the_item, the_safety, the_type, the_value}
 use Rattle.syn_grammar.specs.Name.{the_visibility}
-use Rattle.syn_grammar.specs.Words.{is_among, is_string, same_text}
+use Rattle.syn_grammar.specs.Words.{is_among, is_string, same_text, is_reserved}
 use Rattle.syn_grammar.specs.Tree.{Tree, ALiteral, AWord, Called, First, Nil, Node, Pair, Second, Verbatim, flat}
 use Rattle.syn_grammar.specs.Part.{changed, choice, found, has, or_else, or_nil, the}
 use Rattle.syn_grammar.specs.Gram.{Gram, Keep, alt, judged, literal, ref}
@@ -282,7 +282,7 @@ fine_foreign =
     (λ x y s c. c)) ((search), tt) (λ x y s c. c)
 
 pub step_a_foreign_item : Step AForeignItem
-unfolding table skips
+unfolding table skips is_reserved
 step_a_foreign_item =
     meant_step AForeignItem refl refl
     (fine_weaker (λ x s. LacksAll [] s × IsMeant AForeignItem x) (At (starts AForeignItem))

@@ -26,6 +26,10 @@ pub reserved_dyn : is_reserved (codes "dyn") ≡ true
 unfolding is_reserved
 reserved_dyn = refl
 
+pub reserved_else : is_reserved (codes "else") ≡ true
+unfolding is_reserved
+reserved_else = refl
+
 pub reserved_extern : is_reserved (codes "extern") ≡ true
 unfolding is_reserved
 reserved_extern = refl

@@ -1,9 +1,10 @@
--- The steps and the laws of lets without else, and of statements that are lets or items.
+-- The step and the law of lets without else, and what statements that are lets or items need for theirs.
 use Rattle.std.proofs.Common.{◌≡◌, List, [], ◌∷◌, ◌++◌, refl, sym, ap, ◌∙◌, subst, append_assoc}
 use Rattle.std.proofs.Common.{⊎_elim, inl, inr}
 use Rattle.std.specs.Prelude.{Bool, true, false, ◌&&◌, not, codes, Option, Some, None}
 use Rattle.proc_macro2.specs.Token.{Token}
-use Rattle.syn_grammar.specs.Kind.{ALet, AStatement, AType, AnImpl, AnItem, Block, Expression, OnePattern, OuterAttributes}
+use Rattle.syn_grammar.specs.Kind.{ALet, AStatement, AType, AnImpl, AnItem, Block, Expression, OnePattern}
+use Rattle.syn_grammar.specs.Kind.{OuterAttributes}
 use Rattle.syn_grammar.specs.Kind.{Plain, Position, WithPlus}
 use Rattle.syn_grammar.specs.Name.{Part, same_part, the_const, the_default, the_else, the_type, the_value}
 use Rattle.syn_grammar.specs.Tree.{Tree, Called, First, Group, Nil, Node, Pair, Second, Verbatim, flat}
@@ -21,14 +22,15 @@ use Rattle.syn_grammar.specs.Derives.{Derives}
 use Rattle.syn_grammar.specs.Kept.{as_statement, held, kept}
 use Rattle.syn_grammar.specs.Normal.{passed, place_of, normal_in}
 use Rattle.grammar_back.specs.After.{behind}
-use Rattle.grammar_back.specs.Covered.{ends_apart, has_step, is_begun, is_covered, is_no_macro, is_statement_form}
+use Rattle.grammar_back.specs.Covered.{ends_apart, has_form_step, has_step, is_begun, all_covered, is_no_macro}
+use Rattle.grammar_back.specs.Covered.{is_statement_form}
 use Rattle.grammar_back.specs.Covered.{is_statement_item, item_of}
 use Rattle.item_laws.proofs.Stays.{item_stays}
 use Rattle.grammar_back.specs.Sees.{LacksAll}
 use Rattle.grammar_back.proofs.Choices.{both_true, is_false}
-use Rattle.grammar_back.proofs.Classes.{Class, Sign, TheWord, among_left, among_right}
+use Rattle.grammar_back.proofs.Classes.{Class, Sign, TheWord, among_left, among_right, others}
 use Rattle.grammar_back.proofs.Keywords.{reserved_let}
-use Rattle.grammar_back.proofs.Starts.{starts}
+use Rattle.grammar_back.proofs.Starts.{expression_starts, starts}
 use Rattle.grammar_back.proofs.Fits.{Fits, IsItem, IsMeant, is_item_form}
 use Rattle.grammar_back.proofs.FirstWords.{ItemSeen, item_seen, visible_seen}
 use Rattle.grammar_back.proofs.Passed.{behind_attributes}
@@ -37,7 +39,7 @@ use Rattle.grammar_back.proofs.Fine.{At, Edge, Fine, fine_judged, fine_weaker}
 use Rattle.grammar_back.proofs.Parts.{at_front, fine_ahead, found_called, found_mark, found_optional, found_ref}
 use Rattle.grammar_back.proofs.Parts.{found_seq, found_text, maybe_ahead, maybe_ref, maybe_seq, meant_step, told_at}
 use Rattle.grammar_back.proofs.Parts.{unseen_all}
-use Rattle.grammar_back.proofs.Printed.{IsPlaced, KindLaw, Printed, VerdictLaw, kept_entry, simple_law}
+use Rattle.grammar_back.proofs.Printed.{KindLaw, Printed, VerdictLaw, kept_entry, simple_law}
 use Rattle.grammar_back.proofs.Impls.{contrary}
 use Rattle.grammar_back.proofs.ItemVerdicts.{same_has}
 use Rattle.grammar_back.proofs.WholeItems.{taken_law, whole_item, whole_macro}
@@ -144,12 +146,12 @@ step_a_let =
     (fine_judged {A = LetEdge} {F = At (starts ALet)} is_let fine_let) (λ x s c. c.1) (λ x s i c. i))
 
 -- what is covered has no else
-no_else : (x : Tree) → is_covered x ≡ true → has the_else x ≡ false
+no_else : (x : Tree) → all_covered x ≡ true → has the_else x ≡ false
 unfolding same_part
 no_else (Called the_else x) c = cc c
 no_else (Called n x) c = refl
 no_else (Pair x y) c =
-    let h = both_true (is_covered x) (is_covered y) c in
+    let h = both_true (all_covered x) (all_covered y) c in
     go (found the_else x) (no_else x h.0) (no_else y h.1)
   where
     go : (o : Option Tree) → is_some o ≡ false → has the_else y ≡ false
@@ -174,7 +176,7 @@ law_a_let =
     (λ x. refl) (λ q. refl) (λ q. refl) (kept_entry is_let let_verdict (simple_law Plain let_form refl))
 
 -- statements
-step_let : (x : Tree) (s : List Token) → Fits x (ref OuterAttributes ▸ ref ALet) → Ready x
+pub step_let : (x : Tree) (s : List Token) → Fits x (ref OuterAttributes ▸ ref ALet) → Ready x
     → Derives (Second (Second (First x))) statement s × At (starts AStatement) x s
 unfolding skips is_name is_path_keyword
 step_let (Pair o y) s g w =
@@ -243,7 +245,7 @@ item_stands_there (Verbatim y) s f d e c =
     whole_stands y s d.1 (both_true (is_begun (choice (item_of y))) (ends_apart (flat y)) h.1).0 h.0
 item_stands_there _ s f d e c = absurd f
 
-step_item : (x : Tree) (s : List Token) → Fits x (ref AnItem) → Ready x
+pub step_item : (x : Tree) (s : List Token) → Fits x (ref AnItem) → Ready x
     → is_statement_form (Second (Second (Second (First x)))) ≡ true
     → Derives (Second (Second (Second (First x)))) statement s × At (starts AStatement) x s
 unfolding skips
@@ -253,23 +255,13 @@ step_item (Node k y) s f w n =
     item_stands_there y s (subst (λ j. Fits y (table j)) f.0 f.3) (subst (λ j. Derives y (table j) s) d.0 d.1)
     (subst (λ j. IsMeant j y) f.0 f.4) n in (
       (q.0, (q.1, (q.2, (q.3, d)))),
-      ⊎_elim (λ h. inl h) (λ j. inr (⊎_elim (λ h. inl h) (λ h. inr (inr h)) j)) i,
+      ⊎_elim (λ h. inl h)
+          (λ j. inr (⊎_elim (λ h. inl h) (λ h. inr (inr
+          (among_left (others (others (starts AnItem))) expression_starts (flat (Node k y) ++ s) h))) j)) i,
     )
 step_item _ s f w n = absurd f
 
-pub step_a_statement : Step AStatement
-unfolding table skips
-step_a_statement (Second (Second (First x))) s f n w a = step_let x s f.1.1.1 w
-step_a_statement (Second (Second (Second (First x)))) s f n w a = step_item x s f.1.1.1.1 w n
-step_a_statement (Second (Second (Second (Second x)))) s f n w a = cc n
-step_a_statement (Second (Second (Second _))) s f n w a = absurd f.1.1.1
-step_a_statement (Second (Second _)) s f n w a = absurd f.1.1
-step_a_statement (Second (First x)) s f n w a = cc n
-step_a_statement (Second _) s f n w a = absurd f.1
-step_a_statement (First x) s f n w a = cc n
-step_a_statement _ s f n w a = absurd f
-
-let_printed : (x w : Tree) → Fits w statement → kept w ≡ normal_in Plain (kept (Second (Second (First x))))
+pub let_printed : (x w : Tree) → Fits w statement → kept w ≡ normal_in Plain (kept (Second (Second (First x))))
     → (is_statement_form w ≡ true) × (as_statement (kept w) ≡ kept w)
 let_printed x (Second (Second (First w))) f e = (refl, refl)
 let_printed x (Second (Second (Second w))) f e = cc e
@@ -295,7 +287,7 @@ kept_item x (Verbatim w) r d f e h = cc e
 kept_item x _ r d f e h = absurd f
 
 -- among statements
-abbrev at_item : Tree → Tree
+abbrev pub at_item : Tree → Tree
 at_item x = Second (Second (Second (First (Node AnItem x))))
 
 item_printed : (x w : Tree) (r : List Token) → Derives (First x) (table AnItem) r
@@ -319,14 +311,14 @@ item_printed x (First w) r d n f e = let g : false ≡ true = ap is_item_place e
 item_printed x _ r d n f e = absurd f
 
 -- what is printed for a statement
-abbrev Law : Position → List Token → Tree → Type 0
+abbrev pub Law : Position → List Token → Tree → Type 0
 Law q r x =
     is_statement_form x ≡ true → Derives x (table AStatement) r
     → Printed (table AStatement) (normal_in (passed AStatement q) (kept x))
     → Printed (ref AStatement) (normal_in q (Node (held AStatement) (as_statement (kept x))))
 
-item_law : (q : Position) (x : Tree) (r : List Token) → Derives x (table AnItem) r → Law q r (at_item x)
-unfolding table held passed has_step
+pub item_law : (q : Position) (x : Tree) (r : List Token) → Derives x (table AnItem) r → Law q r (at_item x)
+unfolding table held passed has_step has_form_step
 item_law q (First x) r c o d i =
     let s = item_printed x i.tree r c o i.fits i.kept_is in
     record {
@@ -365,30 +357,3 @@ item_law q (Verbatim x) r c o d i =
       kept_is = refl;
     }
 item_law q _ r c o d i = absurd c
-
-pub law_a_statement : KindLaw AStatement
-unfolding has_step held passed place_of table
-law_a_statement = record { entry = λ q l. simple_law Plain statement refl; node = go }
-  where
-    go : (q : Position) → IsPlaced q AStatement → (x : Tree) (r : List Token) → is_statement_form x ≡ true
-        → Derives x (table AStatement) r → Printed (table AStatement) (normal_in (passed AStatement q) (kept x))
-        → Printed (ref AStatement) (normal_in q (Node (held AStatement) (as_statement (kept x))))
-    go q l (Second (Second (First x))) r o d i =
-        let s = let_printed x i.tree i.fits i.kept_is in
-        record {
-          tree = Node AStatement i.tree;
-          fits = (refl, refl, ap flat s.1, i.fits, s.0);
-          kept_is = ap (Node AStatement) (s.1 ∙ i.kept_is);
-        }
-    go q l (Second (Second (Second (First (Node k x))))) r o d i =
-        let e = sym d.1.1.1.1.0 in
-        subst (λ j. Law q r (Second (Second (Second (First (Node j x)))))) e
-        (item_law q x r (subst (λ j. Derives x (table j) r) d.1.1.1.1.0 d.1.1.1.1.1)) o d i
-    go q l (Second (Second (Second (First _)))) r o d i = cc o
-    go q l (Second (Second (Second (Second x)))) r o d i = cc o
-    go q l (Second (Second (Second _))) r o d i = absurd d.1.1.1
-    go q l (Second (Second _)) r o d i = absurd d.1.1
-    go q l (Second (First x)) r o d i = cc o
-    go q l (Second _) r o d i = absurd d.1
-    go q l (First x) r o d i = cc o
-    go q l _ r o d i = absurd d

@@ -15,6 +15,8 @@ pub mod FieldNames
 pub mod Params
 pub mod ImplParams
 pub mod Keywords
+pub mod Conditions
+pub mod Ends
 pub mod Printed
 pub mod StepsOfPaths
 pub mod StepsOfTypes
@@ -53,6 +55,7 @@ pub mod Members
 pub mod ForeignItems
 pub mod Lets
 pub mod Turns
+pub mod Statements
 pub mod Impls
 pub mod AllKinds
 pub mod Expressions

@@ -28,7 +28,7 @@ use Rattle.grammar_back.proofs.MacroItems.{no_default, plain_same, with_listed}
 use Rattle.grammar_back.proofs.Choices.{both_true}
 use Rattle.grammar_back.proofs.Sights.{ident_not}
 use Rattle.item_laws.proofs.Places.{none_then}
-use Rattle.syn_grammar.specs.Words.{is_ident, same_text}
+use Rattle.syn_grammar.specs.Words.{is_ident, same_text, is_reserved}
 use Rattle.proc_macro2.specs.declared.delimiter.Delimiter.TheVariants.{Bracket}
 use Rattle.grammar_back.specs.Sees.{Lacks, LacksAll}
 use Rattle.item_laws.proofs.Stays.{item_stays}
@@ -381,7 +381,7 @@ fine_impl_item =
     (λ x y s c. c)) ((search), tt) (λ x y s c. c)
 
 pub step_a_trait_item : Step ATraitItem
-unfolding table skips
+unfolding table skips is_reserved
 step_a_trait_item =
     meant_step ATraitItem refl refl
     (fine_weaker (λ x s. LacksAll [] s × IsMeant ATraitItem x) (At (starts ATraitItem))
@@ -393,7 +393,7 @@ step_a_trait_item =
     (λ x s i c. i))
 
 pub step_an_impl_item : Step AnImplItem
-unfolding table skips
+unfolding table skips is_reserved
 step_an_impl_item =
     meant_step AnImplItem refl refl
     (fine_weaker (λ x s. LacksAll [] s × IsMeant AnImplItem x) (At (starts AnImplItem))

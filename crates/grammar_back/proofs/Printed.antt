@@ -1,9 +1,9 @@
 -- For each tree that is derived there is one that fits its entry, and of which the normal form is kept.
 use Rattle.std.proofs.Common.{◌≡◌, List, [], ◌∷◌, ◌++◌, refl, sym, ap, ◌∙◌, subst}
-use Rattle.std.specs.Prelude.{Bool, true, false, ◌&&◌, ◌||◌}
+use Rattle.std.specs.Prelude.{not, Bool, true, false, ◌&&◌, ◌||◌}
 use Rattle.proc_macro2.specs.Token.{Token, Punct}
 use Rattle.rust_leaf.specs.declared.punct.Spacing.TheVariants.{Alone as Apart}
-use Rattle.syn_grammar.specs.Kind.{Kind, Position, Plain, InCondition, InArm, InStatement, Expression}
+use Rattle.syn_grammar.specs.Kind.{AStatement, Kind, Position, Plain, InCondition, InArm, InStatement, Expression}
 use Rattle.syn_grammar.specs.Tree.{Tree, AWord, ALiteral, AMark, ALifetime, Raw, Nil, Pair, First, Second, End}
 use Rattle.syn_grammar.specs.Tree.{Again, Final, More, Group, Dropped, Called, Verbatim, Node, Whole, Alone, Front}
 use Rattle.syn_grammar.specs.Tree.{Back, Infix, flat}
@@ -17,9 +17,13 @@ use Rattle.syn_grammar.specs.Kept.{held, forget, kept}
 use Rattle.syn_grammar.specs.Tidy.{tidy}
 use Rattle.syn_grammar.specs.Normal.{place_of, passed, private, apart_item, apart_if, is_enclosed, normal_in}
 use Rattle.item_laws.proofs.Places.{kept_raw}
-use Rattle.grammar_back.proofs.Choices.{both_true}
+use Rattle.syn_grammar.specs.Look.{sees}
+use Rattle.syn_grammar.specs.Say.{brace}
+use Rattle.grammar_back.proofs.Choices.{both_true, is_false}
+use Rattle.grammar_back.proofs.Conditions.{all_braced, begins_in_braces, brace_stands, condition_ends}
+use Rattle.grammar_back.proofs.Conditions.{ends_in_condition, is_braced, is_condition, is_condition_kind}
 use Rattle.grammar_back.specs.Covered.{has_step, has_form_step, is_known, is_form, is_taken, is_taken_part}
-use Rattle.grammar_back.specs.Covered.{is_covered}
+use Rattle.grammar_back.specs.Covered.{all_covered}
 use Rattle.grammar_back.proofs.Fits.{Fits, FitsRaw, IsMeant}
 
 pub record Printed (g : Gram) (z : Tree) : Type 0 where
@@ -34,9 +38,9 @@ IsPlaced q _ = Unit {0}
 
 -- a verdict that keeps a tree keeps what is printed for it
 abbrev pub VerdictLaw : Position → (Tree → Verdict) → Gram → Type 0
-VerdictLaw q v g = (x w : Tree) (r : List Token) → is_covered x ≡ true → Derives x g r → Fits w g → kept w ≡ normal_in q (kept x) → v x ≡
-    Keep
-    → v w ≡ Keep
+VerdictLaw q v g =
+    (x w : Tree) (r : List Token) → all_covered x ≡ true → Derives x g r → Fits w g → kept w ≡ normal_in q (kept x)
+    → v x ≡ Keep → v w ≡ Keep
 
 -- what it keeps as tokens fits, as it was read
 abbrev pub RawLaw : (Tree → Verdict) → Gram → Type 0
@@ -75,11 +79,11 @@ OwnPrinted (Back l k y) = OwnPrinted l × Printed (table k) (normal_in Plain (ke
 OwnPrinted (Infix l k y r) = OwnPrinted l × Printed (table k) (normal_in Plain (kept y)) × OwnPrinted r
 OwnPrinted _ = Unit {0}
 
--- An expression is printed where the own parts of its forms are.
+-- An expression is printed where the own parts of its forms are, in a condition before a brace.
 abbrev pub WholeLaw : Type 0
 WholeLaw =
     (p : Position) (x : Tree) (r : List Token) → is_known (Expression p) ≡ true → Derives (Whole x) (operand p 0) r
-    → is_covered x ≡ true → OwnPrinted x
+    → (p ≡ InCondition → sees brace r ≡ true) → all_covered x ≡ true → OwnPrinted x
     → Printed (operand p 0) (normal_in p (kept (Whole x)))
 
 pub unmoved_if : (b : Bool) (x : Tree) → apart_item x ≡ x → apart_if b x ≡ x
@@ -93,11 +97,39 @@ or_right false b e = e
 
 pub form_known : (k : Kind) → is_form k ≡ true → is_known k ≡ true
 form_known (Expression p) e = cc
+form_known AStatement e = cc
 form_known k e = or_right (has_step k) (has_form_step k) e
 
 form_placed : (k : Kind) → is_form k ≡ true → IsPlaced Plain k
 form_placed (Expression p) e = cc
 form_placed _ e = tt
+
+form_ends : (k : Kind) → is_form k ≡ true → is_condition_kind k ≡ false
+form_ends (Expression p) e = cc
+form_ends _ e = refl
+
+led_by : (a b : Bool) → (not a || b) ≡ true → a ≡ true → b ≡ true
+led_by true b e h = e
+led_by false b e h = cc h
+
+in_first : (a b : Bool) → a ≡ true → (a || b) ≡ true
+in_first true b e = refl
+in_first false b e = cc e
+
+-- a brace stands behind it, if it is to
+abbrev pub IsBraced : Gram → List Token → Type 0
+IsBraced g r = ends_in_condition g ≡ true → sees brace r ≡ true
+
+pub unneeded : (g : Gram) (r : List Token) → ends_in_condition g ≡ false → IsBraced g r
+unneeded g r e h =
+    let f : true ≡ false = sym h ∙ e in
+    cc f
+
+form_braced : (k : Kind) (r : List Token) → is_form k ≡ true → IsBraced (table k) r
+form_braced k r e = unneeded (table k) r (condition_ends k ∙ form_ends k e)
+
+node_braced : (j k : Kind) (r : List Token) → k ≡ j → IsBraced (ref j) r → IsBraced (table k) r
+node_braced j k r e m h = m (ap is_condition_kind (sym e) ∙ sym (condition_ends k) ∙ h)
 
 form_passed : (k : Kind) → is_form k ≡ true → passed k Plain ≡ Plain
 unfolding passed
@@ -110,35 +142,42 @@ module _ (laws : (k : Kind) → is_known k ≡ true → KindLaw k) (whole : Whol
       ((laws k (form_known k h)).entry Plain (form_placed k h))
 
   mutual
-    pub printed : (x : Tree) (g : Gram) (r : List Token) (q : Position) → EntryLaw q g → Derives x g r → is_covered x
-        ≡ true → Printed g (normal_in q (kept x))
-    printed (AWord cs) (word p) r q l d c = record { tree = AWord cs; fits = d; kept_is = refl }
-    printed (ALiteral cs) (literal p) r q l d c = record { tree = ALiteral cs; fits = d; kept_is = refl }
-    printed (AMark m ms spacing) (mark e es) r q l d c =
-        record { tree = AMark m ms Apart; fits = (d.0, d.1, refl); kept_is = refl }
-    printed (ALifetime cs) lifetime r q l d c = record { tree = ALifetime cs; fits = tt; kept_is = refl }
-    printed (Raw ts) raw r q l d c = record { tree = Raw ts; fits = d.0; kept_is = refl }
-    printed Nil nothing r q l d c = record { tree = Nil; fits = tt; kept_is = refl }
-    printed (Pair x y) (seq a b) r q l d c =
-        let h = both_true (is_covered x) (is_covered y) c in
-        let i = printed x a (flat y ++ r) q l.0 d.0 h.0 in
-        let j = printed y b r q l.1 d.1 h.1 in
+    pub printed : (x : Tree) (g : Gram) (r : List Token) (q : Position) → EntryLaw q g → is_braced g ≡ true
+        → IsBraced g r → Derives x g r → all_covered x ≡ true → Printed g (normal_in q (kept x))
+    printed (AWord cs) (word p) r q l n m d c = record { tree = AWord cs; fits = d; kept_is = refl }
+    printed (ALiteral cs) (literal p) r q l n m d c = record { tree = ALiteral cs; fits = d; kept_is = refl }
+    printed (AMark u us spacing) (mark e es) r q l n m d c =
+        record { tree = AMark u us Apart; fits = (d.0, d.1, refl); kept_is = refl }
+    printed (ALifetime cs) lifetime r q l n m d c = record { tree = ALifetime cs; fits = tt; kept_is = refl }
+    printed (Raw ts) raw r q l n m d c = record { tree = Raw ts; fits = d.0; kept_is = refl }
+    printed Nil nothing r q l n m d c = record { tree = Nil; fits = tt; kept_is = refl }
+    printed (Pair x y) (seq a b) r q l n m d c =
+        let h = both_true (all_covered x) (all_covered y) c in
+        let u = both_true (not (ends_in_condition a) || begins_in_braces b) (is_braced a && is_braced b) n in
+        let v = both_true (is_braced a) (is_braced b) u.1 in
+        let o = led_by (ends_in_condition a) (begins_in_braces b) u.0 in
+        let i = printed x a (flat y ++ r) q l.0 v.0 (λ e. brace_stands b y r (o e) d.1) d.0 h.0 in
+        let j = printed y b r q l.1 v.1 m d.1 h.1 in
         record {
           tree = Pair i.tree j.tree;
           fits = (i.fits, j.fits);
           kept_is = ap (λ z. Pair z (kept j.tree)) i.kept_is ∙ ap (Pair (normal_in q (kept x))) j.kept_is;
         }
-    printed (First x) (alt t a b) r q l d c =
-        let i = printed x a r q l.0 d.1 c in
+    printed (First x) (alt t a b) r q l n m d c =
+        let u = both_true (is_braced a) (is_braced b) n in
+        let i = printed x a r q l.0 u.0 (λ e. m (in_first (ends_in_condition a) (ends_in_condition b) e)) d.1 c in
         record { tree = First i.tree; fits = ((flat x ++ r, d.0), i.fits); kept_is = ap First i.kept_is }
-    printed (Second x) (alt t a b) r q l d c =
-        let i = printed x b r q l.1 d.1 c in
+    printed (Second x) (alt t a b) r q l n m d c =
+        let u = both_true (is_braced a) (is_braced b) n in
+        let i = printed x b r q l.1 u.1 (λ e. m (or_right (ends_in_condition a) (ends_in_condition b) e)) d.1 c in
         record { tree = Second i.tree; fits = ((flat x ++ r, d.0), i.fits); kept_is = ap Second i.kept_is }
-    printed End (star t g) r q l d c = record { tree = End; fits = tt; kept_is = refl }
-    printed (Again x y) (star t g) r q l d c =
-        let h = both_true (is_covered x) (is_covered y) c in
-        let i = printed x g (flat y ++ r) q l.1 d.1 h.0 in
-        let j = printed y (star t g) r q l d.2 h.1 in
+    printed End (star t g) r q l n m d c = record { tree = End; fits = tt; kept_is = refl }
+    printed (Again x y) (star t g) r q l n m d c =
+        let h = both_true (all_covered x) (all_covered y) c in
+        let v = both_true (not (ends_in_condition g)) (is_braced g) n in
+        let o = is_false (ends_in_condition g) v.0 in
+        let i = printed x g (flat y ++ r) q l.1 v.1 (unneeded g (flat y ++ r) o) d.1 h.0 in
+        let j = printed y (star t g) r q l n m d.2 h.1 in
         let b : Bool = is_enclosed (kept y) (normal_in q (kept y)) in
         let u : apart_item (normal_in q (kept x)) ≡ normal_in q (kept x) =
         subst (λ z. apart_item z ≡ z) i.kept_is (l.0 i.tree i.fits) in
@@ -148,73 +187,84 @@ module _ (laws : (k : Kind) → is_known k ≡ true → KindLaw k) (whole : Whol
           kept_is = ap (λ z. Again z (kept j.tree)) (i.kept_is ∙ sym (unmoved_if b (normal_in q (kept x)) u)) ∙ ap
               (Again (apart_if b (normal_in q (kept x)))) j.kept_is;
         }
-    printed End (many e m g) r q l d c = record { tree = End; fits = tt; kept_is = refl }
-    printed (Final x) (many e m g) r q l d c =
-        let i = printed x g r q l d.1 c in
+    printed End (many e z g) r q l n m d c = record { tree = End; fits = tt; kept_is = refl }
+    printed (Final x) (many e z g) r q l n m d c =
+        let v = both_true (not (ends_in_condition g)) (is_braced g) n in
+        let i = printed x g r q l v.1 (unneeded g r (is_false (ends_in_condition g) v.0)) d.1 c in
         record { tree = Final i.tree; fits = i.fits; kept_is = ap Final i.kept_is }
-    printed (More x n spacing y) (many e m g) r q l d c =
-        let h = both_true (is_covered x) (is_covered y) c in
-        let i = printed x g (Punct n spacing ∷ flat y ++ r) q l d.2 h.0 in
-        let j = printed y (many e m g) r q l d.3 h.1 in
+    printed (More x o spacing y) (many e z g) r q l n m d c =
+        let h = both_true (all_covered x) (all_covered y) c in
+        let v = both_true (not (ends_in_condition g)) (is_braced g) n in
+        let us : List Token = Punct o spacing ∷ flat y ++ r in
+        let i = printed x g us q l v.1 (unneeded g us (is_false (ends_in_condition g) v.0)) d.2 h.0 in
+        let j = printed y (many e z g) r q l n m d.3 h.1 in
         record {
-          tree = More i.tree n Apart j.tree;
+          tree = More i.tree o Apart j.tree;
           fits = (d.1, refl, i.fits, j.fits);
-          kept_is = ap (λ z. More z n Apart (kept j.tree)) i.kept_is ∙ ap (More (normal_in q (kept x)) n Apart)
+          kept_is = ap (λ w. More w o Apart (kept j.tree)) i.kept_is ∙ ap (More (normal_in q (kept x)) o Apart)
               j.kept_is;
         }
-    printed (Group f x) (group e g) r q l d c =
-        let i = printed x g [] q l d.1 c in
+    printed (Group f x) (group e g) r q l n m d c =
+        let v = both_true (not (ends_in_condition g)) (is_braced g) n in
+        let i = printed x g [] q l v.1 (unneeded g [] (is_false (ends_in_condition g) v.0)) d.1 c in
         record { tree = Group f i.tree; fits = (d.0, i.fits); kept_is = ap (Group f) i.kept_is }
-    printed (First x) (judged v g) r q l d c =
-        let i = printed x g r q l.2 d.1 c in
+    printed (First x) (judged v g) r q l n m d c =
+        let i = printed x g r q l.2 n m d.1 c in
         record {
           tree = First i.tree;
           fits = (l.0 x i.tree r c d.1 i.fits i.kept_is d.0, i.fits);
           kept_is = ap First i.kept_is;
         }
-    printed (Verbatim x) (judged v g) r q l d c =
+    printed (Verbatim x) (judged v g) r q l n m d c =
         record { tree = Verbatim x; fits = l.1 x r d; kept_is = refl }
-    printed (Dropped x) (dropped g) r q l d c = record { tree = Dropped private; fits = (refl, l); kept_is = refl }
-    printed (Called n x) (called m g) r q l d c =
-        let i = printed x g r (place_of m) l d.1 (both_true (is_taken_part n) (is_covered x) c).1 in
+    printed (Dropped x) (dropped g) r q l n m d c = record { tree = Dropped private; fits = (refl, l); kept_is = refl }
+    printed (Called o x) (called z g) r q l n m d c =
+        let i = printed x g r (place_of z) l n m d.1 (both_true (is_taken_part o) (all_covered x) c).1 in
         record {
-          tree = Called m i.tree;
+          tree = Called z i.tree;
           fits = (refl, i.fits);
-          kept_is = ap (Called m) i.kept_is ∙ ap (λ k. Called k (normal_in (place_of k) (kept x))) (sym d.0);
+          kept_is = ap (Called z) i.kept_is ∙ ap (λ k. Called k (normal_in (place_of k) (kept x))) (sym d.0);
         }
-    printed (Node k x) (ref j) r q l d c =
-        let h = both_true (is_known k) (is_taken k x && is_covered x) c in
-        let t = both_true (is_taken k x) (is_covered x) h.1 in
+    printed (Node k x) (ref j) r q l n m d c =
+        let h = both_true (is_known k) (is_taken k x && all_covered x) c in
+        let t = both_true (is_taken k x) (all_covered x) h.1 in
         let law = laws k h.0 in
         let p : IsPlaced q k = subst (IsPlaced q) (sym d.0) l in
-        let i = printed x (table k) r (passed k q) (law.entry q p) d.1 t.1 in
-        subst (λ m. Printed (ref m) (normal_in q (Node (held k) (forget k (kept x))))) d.0
+        let i =
+        printed x (table k) r (passed k q) (law.entry q p) (all_braced k) (node_braced j k r d.0 m) d.1 t.1 in
+        subst (λ i. Printed (ref i) (normal_in q (Node (held k) (forget k (kept x))))) d.0
         (law.node q p x r t.0 d.1 i)
-    printed (Whole x) (operand p n) r q l d c =
-        let e : Derives (Whole x) (operand p 0) r = subst (λ m. Derives (Whole x) (operand p m) r) l.1 d in
-        subst (λ m. Printed (operand p m) (normal_in q (kept (Whole x)))) (sym l.1)
-        (subst (λ m. Printed (operand p 0) (normal_in m (kept (Whole x)))) (sym l.0)
-        (whole p x r l.2 e c (own_printed x p r d.1 c)))
-    printed _ _ r q l d c = absurd d
+    printed (Whole x) (operand p z) r q l n m d c =
+        let e : Derives (Whole x) (operand p 0) r = subst (λ i. Derives (Whole x) (operand p i) r) l.1 d in
+        subst (λ i. Printed (operand p i) (normal_in q (kept (Whole x)))) (sym l.1)
+        (subst (λ i. Printed (operand p 0) (normal_in i (kept (Whole x)))) (sym l.0)
+        (whole p x r l.2 e (λ h. m (ap is_condition h)) c (own_printed x p r d.1 c)))
+    printed _ _ r q l n m d c = absurd d
 
-    own_printed : (x : Tree) (p : Position) (r : List Token) → Bound p x r → is_covered x ≡ true → OwnPrinted x
+    own_printed : (x : Tree) (p : Position) (r : List Token) → Bound p x r → all_covered x ≡ true → OwnPrinted x
     own_printed (Alone k y) p r d c =
-        let h = both_true (is_form k) (is_covered y) c in
-        printed y (table k) r Plain (own_law k h.0) d.1 h.1
+        let h = both_true (is_form k) (all_covered y) c in
+        printed y (table k) r Plain (own_law k h.0) (all_braced k) (form_braced k r h.0) d.1 h.1
     own_printed (Front k y x) p r d c =
-        let h = both_true (is_form k) (is_covered y && is_covered x) c in
-        let i = both_true (is_covered y) (is_covered x) h.1 in
-        (printed y (table k) (flat x ++ r) Plain (own_law k h.0) d.1 i.0, own_printed x (inside p k) r d.4 i.1)
+        let h = both_true (is_form k) (all_covered y && all_covered x) c in
+        let i = both_true (all_covered y) (all_covered x) h.1 in (
+          printed y (table k) (flat x ++ r) Plain (own_law k h.0) (all_braced k) (form_braced k (flat x ++ r) h.0) d.1
+              i.0,
+          own_printed x (inside p k) r d.4 i.1,
+        )
     own_printed (Back l k y) p r d c =
-        let h = both_true (is_form k) (is_covered l && is_covered y) c in
-        let i = both_true (is_covered l) (is_covered y) h.1 in
-        (own_printed l p (flat y ++ r) d.4 i.0, printed y (table k) r Plain (own_law k h.0) d.1 i.1)
+        let h = both_true (is_form k) (all_covered l && all_covered y) c in
+        let i = both_true (all_covered l) (all_covered y) h.1 in (
+          own_printed l p (flat y ++ r) d.4 i.0,
+          printed y (table k) r Plain (own_law k h.0) (all_braced k) (form_braced k r h.0) d.1 i.1,
+        )
     own_printed (Infix l k y b) p r d c =
-        let h = both_true (is_form k) (is_covered y && (is_covered l && is_covered b)) c in
-        let i = both_true (is_covered y) (is_covered l && is_covered b) h.1 in
-        let j = both_true (is_covered l) (is_covered b) i.1 in (
+        let h = both_true (is_form k) (all_covered y && (all_covered l && all_covered b)) c in
+        let i = both_true (all_covered y) (all_covered l && all_covered b) h.1 in
+        let j = both_true (all_covered l) (all_covered b) i.1 in (
           own_printed l p (flat y ++ (flat b ++ r)) d.4 j.0,
-          printed y (table k) (flat b ++ r) Plain (own_law k h.0) d.1 i.0,
+          printed y (table k) (flat b ++ r) Plain (own_law k h.0) (all_braced k) (form_braced k (flat b ++ r) h.0) d.1
+              i.0,
           own_printed b (inside p k) r d.6 j.1,
         )
     own_printed _ p r d c = tt

@@ -1,8 +1,9 @@
 -- Normal forms are read back: of trees whose kinds have a step, where what is to be known of expressions is.
-use Rattle.std.proofs.Common.{◌≡◌, List, ◌++◌, refl, sym, ap, ◌∙◌, subst, ⊎_elim, inl, inr}
-use Rattle.std.specs.Prelude.{Bool, true, false, ◌&&◌}
+use Rattle.std.proofs.Common.{◌≡◌, List, [], ◌∷◌, ◌++◌, refl, sym, ap, ◌∙◌, subst, ⊎_elim, inl, inr}
+use Rattle.std.specs.Prelude.{true}
 use Rattle.proc_macro2.specs.Token.{Token}
-use Rattle.syn_grammar.specs.Kind.{Kind, Plain, InCondition, InArm, InStatement, AFieldValue, AType, Expression}
+use Rattle.syn_grammar.specs.Kind.{AStatement, Kind, Plain, InCondition, InArm, InStatement, AFieldValue, AType}
+use Rattle.syn_grammar.specs.Kind.{Expression}
 use Rattle.syn_grammar.specs.Kind.{ImplGenerics, WithPlus}
 use Rattle.syn_grammar.specs.Tree.{Tree, Node, flat}
 use Rattle.syn_grammar.specs.Gram.{ref}
@@ -11,8 +12,20 @@ use Rattle.syn_grammar.specs.Kept.{kept}
 use Rattle.syn_grammar.specs.Normal.{normal}
 use Rattle.syn_grammar.specs.Read.{IsRead}
 use Rattle.syn_grammar.proofs.Theorems.{one}
-use Rattle.grammar_back.specs.After.{After}
-use Rattle.grammar_back.specs.Covered.{has_step, has_form_step, is_known, is_taken, is_covered}
+use Rattle.grammar_back.specs.After.{After, EndsStatement, EndsThere, expression_of, is_open}
+use Rattle.grammar_back.specs.Sees.{LacksAll}
+use Rattle.grammar_back.proofs.Ends.{ends_back}
+use Rattle.grammar_back.proofs.Statements.{at_expression, ends_of, held_form, held_open, open_fits}
+use Rattle.syn_grammar.specs.Kept.{as_statement, held}
+use Rattle.syn_grammar.specs.Say.{marks}
+use Rattle.syn_grammar.specs.Table.{table}
+use Rattle.grammar_back.specs.Covered.{is_statement_form}
+use Rattle.grammar_back.proofs.Fits.{IsMeant}
+use Rattle.std.specs.Prelude.{Bool, false}
+use Rattle.syn_grammar.specs.Tree.{Nil, Second, Whole}
+use Rattle.grammar_back.specs.Covered.{all_covered, is_covered, stands_alone}
+use Rattle.grammar_back.proofs.Choices.{both_true}
+use Rattle.grammar_back.proofs.Conditions.{is_condition_kind}
 use Rattle.grammar_back.proofs.FieldValues.{end_fits}
 use Rattle.grammar_back.proofs.Fits.{Fits, flat_kept}
 use Rattle.grammar_back.proofs.ImplParams.{generic_fits}
@@ -22,20 +35,55 @@ use Rattle.grammar_back.proofs.Fine.{fine_ref}
 use Rattle.grammar_back.proofs.Printed.{Printed, IsPlaced, printed}
 use Rattle.grammar_back.proofs.Expressions.{Expressions, all_steps, all_laws}
 
-in_place : (k : Kind) → is_known k ≡ true → IsPlaced Plain k
-unfolding has_step has_form_step
-in_place (Expression Plain) e = refl
-in_place (Expression _) e = cc
-in_place _ e = tt
-
-first_true : (a b : Bool) → (a && b) ≡ true → a ≡ true
-first_true true b e = refl
-first_true false b e = cc
+node_in_place : (k : Kind) (x : Tree) → stands_alone (Node k x) ≡ true → IsPlaced Plain k
+node_in_place (Expression Plain) x e = refl
+node_in_place (Expression _) x e = cc
+node_in_place _ x e = tt
 
 pub node_placed : (k : Kind) (x : Tree) (r : List Token) → Derives x (ref k) r → is_covered x ≡ true → IsPlaced Plain k
-node_placed k (Node l x) r d c = in_place k
-    (ap is_known (sym d.0) ∙ first_true (is_known l) (is_taken l x && is_covered x) c)
+node_placed k (Node l x) r d c =
+    subst (IsPlaced Plain) d.0
+    (node_in_place l x (both_true (stands_alone (Node l x)) (all_covered (Node l x)) c).0)
 node_placed k _ r d c = absurd d
+
+no_condition : (k : Kind) → IsPlaced Plain k → is_condition_kind k ≡ true → ⊥
+no_condition (Expression Plain) p e = cc
+no_condition (Expression InCondition) p e = cc p
+no_condition (Expression InArm) p e = cc
+no_condition (Expression InStatement) p e = cc
+no_condition _ p e = cc
+
+-- what may follow a statement as it is held
+is_ended : (x : Tree) (s : List Token) → Fits (Whole x) (table (Expression InStatement))
+    → EndsStatement (at_expression (held_form (kept x)) (Second Nil)) s
+    → EndsThere InStatement (Node (Expression InStatement) (Whole x)) s × LacksAll (marks ";" ∷ []) s
+unfolding table
+is_ended x s f (inl e) = cc e
+is_ended x s f (inr e) = ((ends_back InStatement x f.2 e.0.0, e.0.1), e.1)
+
+ends_printed : (w : Tree) (s : List Token) → Fits w (table AStatement) → is_statement_form w ≡ true
+    → EndsStatement (as_statement (kept w)) s → EndsStatement w s
+unfolding held
+ends_printed w s f n h = go (is_open w) refl
+  where
+    go : (o : Bool) → is_open w ≡ o → EndsStatement w s
+    go false o = ends_of w s f (inl o)
+    go true o =
+        let p = open_fits w f n o in
+        let e : EndsStatement (at_expression (held_form (kept p.form)) (Second Nil)) s =
+        subst (λ z. EndsStatement z s) (held_open (kept p.form))
+        (subst (λ z. EndsStatement (as_statement (kept z)) s) p.is h) in
+        ends_of w s f (inr (subst (λ z. EndsThere InStatement (expression_of z) s × LacksAll (marks ";" ∷ []) s)
+        (sym p.is) (is_ended p.form s p.fits e)))
+
+statement_printed : (w : Tree) (s : List Token) → Fits w (ref AStatement) → After AStatement (kept w) s
+    → After AStatement w s
+unfolding held
+statement_printed (Node k w) s f (inl a) = inl a
+statement_printed (Node k w) s f (inr a) =
+    inr (ends_printed w s (subst (λ j. Fits w (table j)) f.0 f.3) (subst (λ j. IsMeant j w) f.0 f.4)
+    (subst (λ j. EndsStatement (kept (Node j w)) s) f.0 a))
+statement_printed _ s f a = absurd f
 
 -- what may follow what is kept may follow what is printed
 after_printed : (k : Kind) (w : Tree) (s : List Token) → IsPlaced Plain k → Fits w (ref k) → After k (kept w) s
@@ -44,6 +92,7 @@ after_printed (Expression Plain) w s p f a = a
 after_printed (Expression InCondition) w s p f a = a
 after_printed (Expression InArm) w s p f a = cc p
 after_printed (Expression InStatement) w s p f a = cc p
+after_printed AStatement w s p f a = statement_printed w s f a
 after_printed AFieldValue w s p f a =
     ⊎_elim (λ h. inl h) (λ h. inr (sym (end_fits w f) ∙ h.0, h.1)) a
 after_printed (AType WithPlus) w s p f a =
@@ -57,7 +106,8 @@ module _ (expressions : Expressions) where
       → IsRead k (flat (normal (kept x)) ++ s) (normal (kept x)) s
   read_placed k x r s l d c a =
       let p : Printed (ref k) (normal (kept x)) =
-      printed (all_laws expressions) expressions.whole x (ref k) r Plain l d c in
+      printed (all_laws expressions) expressions.whole x (ref k) r Plain l refl (λ e. absurd (no_condition k l e)) d
+      (both_true (stands_alone x) (all_covered x) c).1 in
       let b : After k p.tree s =
       after_printed k p.tree s l p.fits (subst (λ z. After k z s) (sym p.kept_is) a) in
       let (t, f) = (fine_ref {k = k}).by p.tree s p.fits (ready (all_steps expressions) p.tree (ref k) p.fits) b in

@@ -2,7 +2,7 @@
 use Rattle.proc_macro2.specs.declared.delimiter.Delimiter.TheVariants as D
 use Rattle.grammar_back.proofs.Classes.{Sign, TheWord, AnyWord, Quoted, Tick, Opening, Then, RawFront, Class}
 use Rattle.proc_macro2.specs.declared.delimiter.Delimiter.TheVariants.{Parenthesis, Brace, Bracket}
-use Rattle.std.specs.Prelude.{codes, List, [], ◌∷◌}
+use Rattle.std.specs.Prelude.{codes, List, [], ◌∷◌, ◌++◌}
 use Rattle.syn_grammar.specs.Kind.{Kind, AConst, AConstTrait, AFieldValue, AFile, AForeignItem, AForeignModule}
 use Rattle.syn_grammar.specs.Kind.{AFunction, ALet, AMacro, AMacroDefinition, AModule, ARestrictedTrait}
 use Rattle.syn_grammar.specs.Kind.{AStatement, AStatic, AStruct, ATrait, ATraitItem, AType, ATypeAlias, AUnion}
@@ -32,6 +32,29 @@ use Rattle.syn_grammar.specs.Kind.{TraitPath, TuplePattern, TupleType, TypeParam
 use Rattle.syn_grammar.specs.Kind.{UseBranch, UseRooted, UseTop, UseTree, Variant, Visibility, Where, WhereClause}
 use Rattle.syn_grammar.specs.Kind.{WherePredicate, WildPattern, WithPlus, WithoutPlus}
 use Rattle.syn_grammar.specs.Words.{is_ident, is_index, any_text}
+
+-- an expression, where a statement begins
+abbrev pub expression_starts : List Class
+expression_starts = Then 35 [] (Opening Bracket) ∷ Quoted any_text ∷ Tick ∷ Opening Brace ∷ Opening
+    Parenthesis ∷ Opening Bracket ∷ Opening D.None ∷ TheWord (codes "true") ∷ TheWord (codes "false") ∷ TheWord
+    (codes "loop") ∷ TheWord (codes "while") ∷ TheWord (codes "for") ∷ TheWord (codes "static") ∷ TheWord
+    (codes "move") ∷ TheWord (codes "const") ∷ TheWord (codes "async") ∷ TheWord (codes "unsafe") ∷ TheWord
+    (codes "_") ∷ TheWord (codes "try") ∷ TheWord (codes "if") ∷ TheWord (codes "match") ∷ TheWord (codes "continue")
+    ∷ TheWord (codes "break") ∷ TheWord (codes "return") ∷ TheWord (codes "yield") ∷ Sign 124 [] ∷ Sign 38 [] ∷ Sign
+    42 [] ∷ Sign 33 [] ∷ Sign 45 [] ∷ Sign 46 (46 ∷ 61 ∷ []) ∷ Sign 46 (46 ∷ []) ∷ Sign 60 [] ∷ AnyWord is_ident ∷
+    TheWord (codes "Self") ∷ TheWord (codes "self") ∷ TheWord (codes "super") ∷ TheWord (codes "crate") ∷ Then 58
+    (58 ∷ []) (AnyWord is_ident) ∷ Then 58 (58 ∷ []) (TheWord (codes "Self")) ∷ Then 58 (58 ∷ [])
+    (TheWord (codes "self")) ∷ Then 58 (58 ∷ []) (TheWord (codes "super")) ∷ Then 58 (58 ∷ [])
+    (TheWord (codes "crate")) ∷ []
+
+-- a let or an item among statements
+abbrev pub statement_starts : List Class
+statement_starts = RawFront ∷ Then 35 [] (Opening Bracket) ∷ TheWord (codes "let") ∷ TheWord (codes "pub") ∷ TheWord
+    (codes "const") ∷ TheWord (codes "async") ∷ TheWord (codes "unsafe") ∷ TheWord (codes "extern") ∷ TheWord
+    (codes "fn") ∷ TheWord (codes "use") ∷ TheWord (codes "static") ∷ TheWord (codes "mod") ∷ TheWord (codes "type")
+    ∷ TheWord (codes "struct") ∷ TheWord (codes "enum") ∷ TheWord (codes "union") ∷ TheWord (codes "auto") ∷ TheWord
+    (codes "trait") ∷ TheWord (codes "default") ∷ TheWord (codes "impl") ∷ AnyWord is_ident ∷ TheWord (codes "self")
+    ∷ TheWord (codes "super") ∷ TheWord (codes "crate") ∷ Sign 58 (58 ∷ []) ∷ []
 
 abbrev pub starts : Kind → List Class
 starts (Expression Plain) = Then 35 [] (Opening Bracket) ∷ Quoted any_text ∷ Tick ∷ Opening Brace ∷ Opening
@@ -67,17 +90,7 @@ starts (Expression InArm) = Then 35 [] (Opening Bracket) ∷ Quoted any_text ∷
     (codes "crate") ∷ Then 58 (58 ∷ []) (AnyWord is_ident) ∷ Then 58 (58 ∷ []) (TheWord (codes "Self")) ∷ Then 58
     (58 ∷ []) (TheWord (codes "self")) ∷ Then 58 (58 ∷ []) (TheWord (codes "super")) ∷ Then 58 (58 ∷ [])
     (TheWord (codes "crate")) ∷ []
-starts (Expression InStatement) = Then 35 [] (Opening Bracket) ∷ Quoted any_text ∷ Tick ∷ Opening Brace ∷ Opening
-    Parenthesis ∷ Opening Bracket ∷ Opening D.None ∷ TheWord (codes "true") ∷ TheWord (codes "false") ∷ TheWord
-    (codes "loop") ∷ TheWord (codes "while") ∷ TheWord (codes "for") ∷ TheWord (codes "static") ∷ TheWord
-    (codes "move") ∷ TheWord (codes "const") ∷ TheWord (codes "async") ∷ TheWord (codes "unsafe") ∷ TheWord
-    (codes "_") ∷ TheWord (codes "try") ∷ TheWord (codes "if") ∷ TheWord (codes "match") ∷ TheWord (codes "continue")
-    ∷ TheWord (codes "break") ∷ TheWord (codes "return") ∷ TheWord (codes "yield") ∷ Sign 124 [] ∷ Sign 38 [] ∷ Sign
-    42 [] ∷ Sign 33 [] ∷ Sign 45 [] ∷ Sign 46 (46 ∷ 61 ∷ []) ∷ Sign 46 (46 ∷ []) ∷ Sign 60 [] ∷ AnyWord is_ident ∷
-    TheWord (codes "Self") ∷ TheWord (codes "self") ∷ TheWord (codes "super") ∷ TheWord (codes "crate") ∷ Then 58
-    (58 ∷ []) (AnyWord is_ident) ∷ Then 58 (58 ∷ []) (TheWord (codes "Self")) ∷ Then 58 (58 ∷ [])
-    (TheWord (codes "self")) ∷ Then 58 (58 ∷ []) (TheWord (codes "super")) ∷ Then 58 (58 ∷ [])
-    (TheWord (codes "crate")) ∷ []
+starts (Expression InStatement) = expression_starts
 starts (Path InModule) = Then 58 (58 ∷ []) (TheWord (codes "self")) ∷ Then 58 (58 ∷ []) (TheWord (codes "super")) ∷
     Then 58 (58 ∷ []) (TheWord (codes "crate")) ∷ Then 58 (58 ∷ []) (AnyWord is_ident) ∷ Then 58 (58 ∷ [])
     (TheWord (codes "Self")) ∷ TheWord (codes "self") ∷ TheWord (codes "super") ∷ TheWord (codes "crate") ∷ AnyWord
@@ -458,19 +471,8 @@ starts Label = Tick ∷ []
 starts Body = Opening Brace ∷ []
 starts Block = Opening Brace ∷ []
 starts ALet = TheWord (codes "let") ∷ []
-starts AStatement = RawFront ∷ Then 35 [] (Opening Bracket) ∷ TheWord (codes "let") ∷ TheWord (codes "pub") ∷ TheWord
-    (codes "const") ∷ TheWord (codes "async") ∷ TheWord (codes "unsafe") ∷ TheWord (codes "extern") ∷ TheWord
-    (codes "fn") ∷ TheWord (codes "use") ∷ TheWord (codes "static") ∷ TheWord (codes "mod") ∷ TheWord (codes "type")
-    ∷ TheWord (codes "struct") ∷ TheWord (codes "enum") ∷ TheWord (codes "union") ∷ TheWord (codes "auto") ∷ TheWord
-    (codes "trait") ∷ TheWord (codes "default") ∷ TheWord (codes "impl") ∷ AnyWord is_ident ∷ TheWord (codes "self")
-    ∷ TheWord (codes "super") ∷ TheWord (codes "crate") ∷ Sign 58 (58 ∷ []) ∷ []
-starts Statements = Sign 59 [] ∷ RawFront ∷ Then 35 [] (Opening Bracket) ∷ TheWord (codes "let") ∷ TheWord
-    (codes "pub") ∷ TheWord (codes "const") ∷ TheWord (codes "async") ∷ TheWord (codes "unsafe") ∷ TheWord
-    (codes "extern") ∷ TheWord (codes "fn") ∷ TheWord (codes "use") ∷ TheWord (codes "static") ∷ TheWord
-    (codes "mod") ∷ TheWord (codes "type") ∷ TheWord (codes "struct") ∷ TheWord (codes "enum") ∷ TheWord
-    (codes "union") ∷ TheWord (codes "auto") ∷ TheWord (codes "trait") ∷ TheWord (codes "default") ∷ TheWord
-    (codes "impl") ∷ AnyWord is_ident ∷ TheWord (codes "self") ∷ TheWord (codes "super") ∷ TheWord (codes "crate") ∷
-    Sign 58 (58 ∷ []) ∷ []
+starts AStatement = statement_starts ++ expression_starts
+starts Statements = Sign 59 [] ∷ (statement_starts ++ expression_starts)
 starts Items = RawFront ∷ Then 35 [] (Opening Bracket) ∷ TheWord (codes "pub") ∷ TheWord (codes "const") ∷ TheWord
     (codes "async") ∷ TheWord (codes "unsafe") ∷ TheWord (codes "extern") ∷ TheWord (codes "fn") ∷ TheWord
     (codes "use") ∷ TheWord (codes "static") ∷ TheWord (codes "mod") ∷ TheWord (codes "type") ∷ TheWord

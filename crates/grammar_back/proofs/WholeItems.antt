@@ -8,7 +8,7 @@ use Rattle.syn_grammar.specs.Tree.{Tree, Called, First, Node, Pair, Verbatim, fl
 use Rattle.syn_grammar.specs.Part.{choice}
 use Rattle.syn_grammar.specs.Gram.{Gram, Keep, ref}
 use Rattle.syn_grammar.specs.Say.{at, ◌∶◌, ◌▸◌}
-use Rattle.syn_grammar.specs.Words.{same_text}
+use Rattle.syn_grammar.specs.Words.{same_text, is_reserved}
 use Rattle.syn_grammar.specs.Lists.{item_form}
 use Rattle.syn_grammar.specs.Verdicts.{form_in_file, is_public, item_verdict}
 use Rattle.syn_grammar.specs.Ranks.{skips}
@@ -55,7 +55,7 @@ fine_whole =
     (pub_unseen, ((search), tt)) (λ x y s c. c)) ((search), tt) (λ x y s c. c)
 
 pub step_an_item : Step AnItem
-unfolding table skips
+unfolding table skips is_reserved
 step_an_item =
     meant_step AnItem refl refl
     (fine_weaker (λ x s. LacksAll [] s × IsMeant AnItem x) (At (starts AnItem))

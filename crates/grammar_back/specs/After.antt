@@ -24,7 +24,10 @@ use Rattle.syn_grammar.specs.Patterns.{vert, range_bound_stands, range_end_stand
 use Rattle.syn_grammar.specs.Say.{at, marks, parenthesis, brace, bracket}
 use Rattle.syn_grammar.specs.Types.{colon, bound_stands}
 use Rattle.syn_grammar.specs.Words.{is_string}
-use Rattle.syn_grammar.specs.Tree.{Tree, First, Second, Node, Whole}
+use Rattle.syn_grammar.specs.Tree.{Tree, Pair, First, Second, Called, Node, Whole}
+use Rattle.syn_grammar.specs.Kept.{is_there}
+use Rattle.std.specs.Prelude.{not}
+use Rattle.syn_grammar.specs.Kind.{AStatement}
 use Rattle.syn_grammar.specs.Name.{the_base}
 use Rattle.syn_grammar.specs.Part.{has}
 use Rattle.syn_grammar.specs.Forms.{ends_there}
@@ -150,6 +153,7 @@ behind (Signature InTrait) = at "where" ∷ marks "->" ∷ marks "::" ∷ argume
     ∷ no where_ends ∷ marks "," ∷ a_lifetime ∷ marks "+" ∷ bound_stands ∷ []
 behind (Signature InImpl) = at "where" ∷ marks "->" ∷ marks "::" ∷ arguments_stand AtType ∷ parentheses_stand AtType
     ∷ no where_ends ∷ marks "," ∷ a_lifetime ∷ marks "+" ∷ bound_stands ∷ []
+behind AStatement = no the_end ∷ []
 behind Statements = no the_end ∷ []
 behind Items = no the_end ∷ []
 behind ForeignItems = no the_end ∷ []
@@ -201,12 +205,29 @@ is_generic (Node k x) = is_generic x
 is_generic (First x) = true
 is_generic x = false
 
+-- of a statement: it is an expression without a ; behind it
+abbrev pub is_open : Tree → Bool
+is_open (Second (Second (Second (Second (Pair a (Pair e s)))))) = not (is_there s)
+is_open x = false
+
+abbrev pub expression_of : Tree → Tree
+expression_of (Second (Second (Second (Second (Pair a (Pair (Called n e) s)))))) = e
+expression_of x = x
+
+-- Its expression ends there, and no ; follows it, which would be its own; or it is none that is to end so.
+abbrev pub EndsStatement : Tree → List Token → Type 0
+EndsStatement (Node k x) s = EndsStatement x s
+EndsStatement x s =
+    (is_open x ≡ false) ⊎ (EndsThere InStatement (expression_of x) s × LacksAll (marks ";" ∷ []) s)
+
 -- What may follow a kind's tree: what these looks don't see; behind an expression in an arm or a statement also what
--- such a form ends before; behind a field of a struct expression what may follow it, and behind .. the end; behind a
--- type that is a path what may follow one without plus; and behind the generics of an impl that are there anything.
+-- such a form ends before; behind a statement that has its ; or is no expression anything; behind a field of a struct
+-- expression what may follow it, and behind .. the end; behind a type that is a path what may follow one without plus;
+-- and behind the generics of an impl that are there anything.
 abbrev pub After : Kind → Tree → List Token → Type 0
 After (Expression InArm) x s = LacksAll (behind (Expression InArm)) s ⊎ EndsThere InArm x s
 After (Expression InStatement) x s = LacksAll (behind (Expression InStatement)) s ⊎ EndsThere InStatement x s
+After AStatement x s = LacksAll (behind AStatement) s ⊎ EndsStatement x s
 After AFieldValue x s =
     LacksAll (behind AFieldValue) s ⊎ ((is_end x ≡ false) × LacksAll (behind FieldValue) s)
 After (AType WithPlus) x s =

@@ -33,10 +33,17 @@ use Rattle.syn_grammar.specs.Kind.{WildPattern, WithPlus, WithoutPlus}
 use Rattle.syn_grammar.specs.Tree.{Tree, AWord, Pair, First, Second, Again, Final, More, Group, Dropped, Called}
 use Rattle.syn_grammar.specs.Tree.{Verbatim}
 use Rattle.syn_grammar.specs.Tree.{Node, Whole, Alone, Front, Back, Infix, flat}
-use Rattle.syn_grammar.specs.Words.{is_ident, same_text}
+use Rattle.syn_grammar.specs.Words.{is_among, is_ident, same_text}
+use Rattle.syn_grammar.specs.Look.{sees}
+use Rattle.syn_grammar.specs.Say.{marks}
+use Rattle.syn_grammar.specs.Normal.{normal_in}
+use Rattle.proc_macro2.specs.Token.{Ident}
+use Rattle.syn_grammar.specs.Tree.{End}
+use Rattle.syn_grammar.specs.Kind.{InStatement}
+use Rattle.std.specs.Bool.{◌==◌}
 use Rattle.syn_grammar.specs.Name.{Part, the_const, the_default, the_else}
 use Rattle.syn_grammar.specs.Part.{choice, has}
-use Rattle.syn_grammar.specs.Kept.{is_there}
+use Rattle.syn_grammar.specs.Kept.{is_there, kept}
 use Rattle.syn_grammar.specs.Verdicts.{is_path_type}
 
 unfoldable pub has_step : Kind → Bool
@@ -164,7 +171,6 @@ has_step Label = true
 has_step Body = true
 has_step Block = true
 has_step ALet = true
-has_step AStatement = true
 has_step Statements = true
 has_step Items = true
 has_step ForeignItems = true
@@ -238,9 +244,10 @@ has_step Arms = true
 has_step ClosureParam = true
 has_step k = false
 
--- The same of expressions and of the kinds of their forms, in the crate `read_back`.
+-- The same of expressions, of the kinds of their forms and of statements, in the crate `read_back`.
 unfoldable pub has_form_step : Kind → Bool
-has_form_step (Expression Plain) = true
+has_form_step (Expression p) = true
+has_form_step AStatement = true
 has_form_step ExprLit = true
 has_form_step ExprPath = true
 has_form_step ExprMacro = true
@@ -257,7 +264,10 @@ has_form_step ExprUnsafe = true
 has_form_step ExprAsync = true
 has_form_step ExprConst = true
 has_form_step ExprTryBlock = true
+has_form_step ExprIf = true
+has_form_step ExprMatch = true
 has_form_step ExprLoop = true
+has_form_step ExprWhile = true
 has_form_step ExprCall = true
 has_form_step ExprMethodCall = true
 has_form_step ExprField = true
@@ -291,6 +301,7 @@ is_known k = has_step k || has_form_step k
 -- of a form's own part
 abbrev pub is_form : Kind → Bool
 is_form (Expression p) = false
+is_form AStatement = false
 is_form k = has_form_step k
 
 -- A constant has no where clause behind a value: an item with both is raw.
@@ -402,10 +413,44 @@ is_statement_item (Verbatim x) =
     is_no_macro (choice (item_of x)) && (is_begun (choice (item_of x)) && ends_apart (flat x))
 is_statement_item x = is_no_macro (choice (item_of x))
 
--- Statements are lets and such items so far.
+-- The expression of a statement begins, as it is printed, neither with attributes nor with a word that begins items
+-- too; and crate stands before ::.
+abbrev pub soft_words : List (List ℕ)
+soft_words = codes "union" ∷ codes "auto" ∷ codes "default" ∷ []
+
+abbrev pub is_plain_start : List Token → Bool
+is_plain_start [] = false
+is_plain_start (Ident cs ∷ ts) =
+    not (is_among soft_words cs) && (not (same_text (codes "crate") cs) || sees (marks "::") ts)
+is_plain_start (Punct c spacing ∷ ts) = not (c == 35)
+is_plain_start (t ∷ ts) = true
+
+-- It begins with no macro's call in braces.
+abbrev pub begins_in_call : Tree → Bool
+begins_in_call (Back l k y) = begins_in_call l
+begins_in_call (Infix l k y r) = begins_in_call l
+begins_in_call (Alone ExprMacro (Node AMacro (Pair p (Pair s (Node Delimited (Second (First g))))))) = true
+begins_in_call _ = false
+
+abbrev pub is_plain_expression : Tree → Bool
+is_plain_expression (Node k (Whole x)) = is_plain_start (flat x) && not (begins_in_call x)
+is_plain_expression _ = false
+
+-- Nothing stands in front.
+abbrev pub is_bare_front : Tree → Bool
+is_bare_front (Node k End) = true
+is_bare_front _ = false
+
+abbrev pub is_expression_form : Tree → Bool
+is_expression_form (Pair (Called n a) (Pair (Called m e) s)) =
+    is_bare_front a && is_plain_expression (normal_in InStatement (kept e))
+is_expression_form _ = false
+
+-- Statements are lets, such items and such expressions so far.
 abbrev pub is_statement_form : Tree → Bool
 is_statement_form (Second (Second (First x))) = true
 is_statement_form (Second (Second (Second (First (Node k x))))) = is_statement_item x
+is_statement_form (Second (Second (Second (Second x)))) = is_expression_form x
 is_statement_form _ = false
 
 -- what is asked of a part: a let has no else
@@ -427,21 +472,32 @@ is_taken ATraitItem x = is_plain_macro (choice (item_of x))
 is_taken AnImplItem x = is_plain_macro (choice (item_of x))
 is_taken k x = true
 
+-- All that a tree holds is covered.
+abbrev pub all_covered : Tree → Bool
+all_covered (Pair x y) = all_covered x && all_covered y
+all_covered (First x) = all_covered x
+all_covered (Second x) = all_covered x
+all_covered (Again x y) = all_covered x && all_covered y
+all_covered (Final x) = all_covered x
+all_covered (More x c spacing y) = all_covered x && all_covered y
+all_covered (Group d x) = all_covered x
+all_covered (Dropped x) = all_covered x
+all_covered (Called n x) = is_taken_part n && all_covered x
+all_covered (Verbatim x) = true
+all_covered (Node k x) = is_known k && (is_taken k x && all_covered x)
+all_covered (Whole x) = all_covered x
+all_covered (Alone k y) = is_form k && all_covered y
+all_covered (Front k y x) = is_form k && (all_covered y && all_covered x)
+all_covered (Back l k y) = is_form k && (all_covered l && all_covered y)
+all_covered (Infix l k y r) = is_form k && (all_covered y && (all_covered l && all_covered r))
+all_covered _ = true
+
+-- An expression by itself stands in plain position: in a condition, in an arm and in a statement it stands in what has
+-- these.
+abbrev pub stands_alone : Tree → Bool
+stands_alone (Node (Expression Plain) x) = true
+stands_alone (Node (Expression p) x) = false
+stands_alone x = true
+
 abbrev pub is_covered : Tree → Bool
-is_covered (Pair x y) = is_covered x && is_covered y
-is_covered (First x) = is_covered x
-is_covered (Second x) = is_covered x
-is_covered (Again x y) = is_covered x && is_covered y
-is_covered (Final x) = is_covered x
-is_covered (More x c spacing y) = is_covered x && is_covered y
-is_covered (Group d x) = is_covered x
-is_covered (Dropped x) = is_covered x
-is_covered (Called n x) = is_taken_part n && is_covered x
-is_covered (Verbatim x) = true
-is_covered (Node k x) = is_known k && (is_taken k x && is_covered x)
-is_covered (Whole x) = is_covered x
-is_covered (Alone k y) = is_form k && is_covered y
-is_covered (Front k y x) = is_form k && (is_covered y && is_covered x)
-is_covered (Back l k y) = is_form k && (is_covered l && is_covered y)
-is_covered (Infix l k y r) = is_form k && (is_covered y && (is_covered l && is_covered r))
-is_covered _ = true
+is_covered x = stands_alone x && all_covered x

@@ -473,7 +473,7 @@ def look_of(text): return parse([text])
 GIVEN={('Expression','Plain'):['no (the_end or marks "," or marks ";" or marks "=>")'],('Expression','InCondition'):['no brace'],
  ('Expression','InArm'):['no (the_end or marks ",")'],('Expression','InStatement'):['no (the_end or marks ";")']}
 # what may follow, where it is said of the kind's tree too, and first tokens that are written by hand
-GIVEN_BEHIND={('AFieldValue',):['no the_end'],('Statements',):['no the_end'],('Arms',):['no the_end']}
+GIVEN_BEHIND={('AFieldValue',):['no the_end'],('AStatement',):['no the_end'],('Statements',):['no the_end'],('Arms',):['no the_end']}
 LISTS=['Items','ForeignItems','TraitItems','ImplItems']
 for k in LISTS: GIVEN_BEHIND[(k,)]=['no the_end']
 GIVEN_BEHIND[('ImplGenerics',)]=['impl_generics_stand']
@@ -641,6 +641,7 @@ def imports(text,mine=()):
     if has('≡'):
         for w in('◌≡◌','true','false'): add('Rattle.std.specs.Prelude',w)
     add('Rattle.std.specs.Prelude','List'); add('Rattle.std.specs.Prelude','[]'); add('Rattle.std.specs.Prelude','◌∷◌')
+    if '++' in text: add('Rattle.std.specs.Prelude','◌++◌')
     if has('table'): add(G+'Table','table')
     if has('skips'): add(G+'Ranks','skips')
     B='Rattle.grammar_back.'
@@ -661,6 +662,11 @@ def imports(text,mine=()):
         if has(w): add(B+'proofs.Keywords',w)
     if has('Step'): add(B+'proofs.Readies','Step')
     return ('use Rattle.proc_macro2.specs.declared.delimiter.Delimiter.TheVariants as D\n' if has('D.None') else '')+''.join(f'use {m}.{{{", ".join(ws)}}}\n' for m,ws in sorted(by.items()))
+# lists of first tokens that have a name
+BY_NAME={('Expression','InStatement'):'expression_starts',('AStatement',):'statement_starts ++ expression_starts',
+ ('Statements',):'Sign 59 [] ∷ (statement_starts ++ expression_starts)'}
+# kinds whose step is proved in the crate read_back
+ABOVE={('AStatement',)}
 def write():
     global SOFT
     good,bad=main()
@@ -700,12 +706,29 @@ is_generic (Node k x) = is_generic x
 is_generic (First x) = true
 is_generic x = false
 
+-- of a statement: it is an expression without a ; behind it
+abbrev pub is_open : Tree → Bool
+is_open (Second (Second (Second (Second (Pair a (Pair e s)))))) = not (is_there s)
+is_open x = false
+
+abbrev pub expression_of : Tree → Tree
+expression_of (Second (Second (Second (Second (Pair a (Pair (Called n e) s)))))) = e
+expression_of x = x
+
+-- Its expression ends there, and no ; follows it, which would be its own; or it is none that is to end so.
+abbrev pub EndsStatement : Tree → List Token → Type 0
+EndsStatement (Node k x) s = EndsStatement x s
+EndsStatement x s =
+    (is_open x ≡ false) ⊎ (EndsThere InStatement (expression_of x) s × LacksAll (marks ";" ∷ []) s)
+
 -- What may follow a kind's tree: what these looks don't see; behind an expression in an arm or a statement also what
--- such a form ends before; behind a field of a struct expression what may follow it, and behind .. the end; behind a
--- type that is a path what may follow one without plus; and behind the generics of an impl that are there anything.
+-- such a form ends before; behind a statement that has its ; or is no expression anything; behind a field of a struct
+-- expression what may follow it, and behind .. the end; behind a type that is a path what may follow one without plus;
+-- and behind the generics of an impl that are there anything.
 abbrev pub After : Kind → Tree → List Token → Type 0
 After (Expression InArm) x s = LacksAll (behind (Expression InArm)) s ⊎ EndsThere InArm x s
 After (Expression InStatement) x s = LacksAll (behind (Expression InStatement)) s ⊎ EndsThere InStatement x s
+After AStatement x s = LacksAll (behind AStatement) s ⊎ EndsStatement x s
 After AFieldValue x s =
     LacksAll (behind AFieldValue) s ⊎ ((is_end x ≡ false) × LacksAll (behind FieldValue) s)
 After (AType WithPlus) x s =
@@ -716,12 +739,15 @@ After k x s = LacksAll (behind k) s
     head="-- What may not follow a kind's tree, of what the looks see. Written by tools/steps.py, from the entries.\n"
     head+=imports(body,mine=('behind',)).replace('use Rattle.grammar_back.specs.After.{behind}\n','').replace('use Rattle.syn_grammar.specs.Look.{','use Rattle.syn_grammar.specs.Look.{Look, ').replace('use Rattle.syn_grammar.specs.Kind.{','use Rattle.syn_grammar.specs.Kind.{Kind, ')
     head=head.replace('specs.Kind.{Kind, ','specs.Kind.{Kind, Position, ',1)
-    head+='use Rattle.syn_grammar.specs.Tree.{Tree, First, Second, Node, Whole}\nuse Rattle.syn_grammar.specs.Name.{the_base}\nuse Rattle.syn_grammar.specs.Part.{has}\nuse Rattle.syn_grammar.specs.Forms.{ends_there}\nuse Rattle.proc_macro2.specs.Token.{Token}\nuse Rattle.std.specs.Prelude.{◌⊎◌, Bool}\nuse Rattle.grammar_back.specs.Sees.{LacksAll}\n'
+    head+='use Rattle.syn_grammar.specs.Tree.{Tree, Pair, First, Second, Called, Node, Whole}\nuse Rattle.syn_grammar.specs.Kept.{is_there}\nuse Rattle.std.specs.Prelude.{not}\nuse Rattle.syn_grammar.specs.Name.{the_base}\nuse Rattle.syn_grammar.specs.Part.{has}\nuse Rattle.syn_grammar.specs.Forms.{ends_there}\nuse Rattle.proc_macro2.specs.Token.{Token}\nuse Rattle.std.specs.Prelude.{◌⊎◌, Bool}\nuse Rattle.grammar_back.specs.Sees.{LacksAll}\n'
     open(f'{CRATE}/specs/After.antt','w').write(wrapped(head+'\n'+body))
     body=''
     for k in list(GIVEN)+order:
-        if starts[k]: body+=f'starts {clause(k)} = '+list_of([class_show(c) for c in starts[k]])+'\n'
-    body='abbrev pub starts : Kind → List Class\n'+body+'starts k = []\n'
+        if starts[k]: body+=f'starts {clause(k)} = '+BY_NAME.get(k,list_of([class_show(c) for c in starts[k]]))+'\n'
+    lists=[('an expression, where a statement begins','expression_starts',starts[('Expression','InStatement')]),
+     ('a let or an item among statements','statement_starts',starts[('AStatement',)])]
+    named=''.join(f'-- {doc}\nabbrev pub {n} : List Class\n{n} = '+list_of([class_show(c) for c in cs])+'\n\n' for doc,n,cs in lists)
+    body=named+'abbrev pub starts : Kind → List Class\n'+body+'starts k = []\n'
     head="-- What a kind's tokens begin with, where it has some. Written by tools/steps.py, from the entries.\n"
     head+=imports(body,mine=('starts',)).replace('use Rattle.grammar_back.proofs.Starts.{starts}\n','').replace('use Rattle.syn_grammar.specs.Kind.{','use Rattle.syn_grammar.specs.Kind.{Kind, ')
     open(f'{CRATE}/proofs/Starts.antt','w').write(wrapped(head+'\n'+body))
@@ -763,6 +789,7 @@ After k x s = LacksAll (behind k) s
     goodset={k for c,k in good if k not in ENTRIES}
     covered=[]; law={}; stepof={}
     for c,k in KINDS:
+        if k in ABOVE: continue
         if k in goodset: stepof[k]=(SNAKE(k),'StepsOf'+c)
         elif k in HANDSTEPS: stepof[k]=HANDSTEPS[k]
         else: continue

@@ -53,7 +53,7 @@ opens_brace : (g : Gram) (x : Tree) → Fits x (group Brace g) → (us : List To
 opens_brace g (Group e x) f = (flat x ++ Closes e ∷ [], ap (λ d. Opens d ∷ flat x ++ Closes e ∷ []) f.0)
 opens_brace g _ f = absurd f
 
-body_opens : (x : Tree) → Fits x (ref Body) → (us : List Token) × (flat x ≡ Opens Brace ∷ us)
+pub body_opens : (x : Tree) → Fits x (ref Body) → (us : List Token) × (flat x ≡ Opens Brace ∷ us)
 unfolding table
 body_opens (Node k x) f = opens_brace _ x (subst (λ j. Fits x (table j)) f.0 f.3)
 body_opens _ f = absurd f
@@ -68,7 +68,7 @@ const_fronts : (us : List Token) → Fronts ExprConst (Ident (codes "const") ∷
 unfolding front is_bool is_reserved
 const_fronts us p ts = (refl, refl)
 
-word_first : (w : String) (cs : List ℕ) (us : List Token) → same_text (codes w) cs ≡ true
+pub word_first : (w : String) (cs : List ℕ) (us : List Token) → same_text (codes w) cs ≡ true
     → Ident cs ∷ us ≡ Ident (codes w) ∷ us
 word_first w cs us e = ap (λ v. Ident v ∷ us) (sym ((bytes_eq-Decides (codes w) cs).0 e))
 

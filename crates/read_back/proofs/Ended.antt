@@ -1,11 +1,11 @@
 -- A form that ends a statement or an arm by itself is read before whatever begins another expression.
-use Rattle.std.proofs.Common.{◌≡◌, List, [], ◌∷◌, ◌++◌, refl, sym, ap, ◌∙◌, subst, inl, inr}
+use Rattle.std.proofs.Common.{◌≡◌, List, [], ◌∷◌, ◌++◌, refl, sym, ap, ◌∙◌, inl, inr}
 use Rattle.std.specs.Prelude.{ℕ, Bool, true, false, not, ◌&&◌, ◌||◌, ◌⊎◌, cond, Option, Some, None}
 use Rattle.proc_macro2.specs.Token.{Token}
-use Rattle.syn_grammar.specs.Kind.{Kind, Position, Plain, InCondition, InArm, InStatement, AMacro, Delimited}
+use Rattle.syn_grammar.specs.Kind.{Kind, Position, Plain, InCondition, InArm, InStatement}
 use Rattle.syn_grammar.specs.Kind.{ExprAttributed, ExprBlock, ExprConst, ExprIf, ExprLoop, ExprMacro, ExprMatch}
 use Rattle.syn_grammar.specs.Kind.{ExprLet, ExprTryBlock, ExprUnsafe, ExprWhile}
-use Rattle.syn_grammar.specs.Tree.{Tree, Pair, First, Second, Node, Whole, Alone, Front, Back, Infix, flat}
+use Rattle.syn_grammar.specs.Tree.{Tree, Whole, Alone, Front, flat}
 use Rattle.syn_grammar.specs.Words.{ends_in_dot}
 use Rattle.syn_grammar.specs.Look.{Look, seen, sees, behind, ◌then◌, ◌or◌, no, an_ident, past_literals}
 use Rattle.syn_grammar.specs.Say.{at, marks, parenthesis}
@@ -13,10 +13,10 @@ use Rattle.syn_grammar.specs.Gram.{operand}
 use Rattle.syn_grammar.specs.Table.{table}
 use Rattle.syn_grammar.specs.Forms.{Case, form, first_form, backs, back, dot_stands, fronts, front, has_right}
 use Rattle.syn_grammar.specs.Forms.{inside, level, takes}
-use Rattle.syn_grammar.specs.Forms.{takes_kind, goes_on, may_be_left, stands_left, is_dotted, is_block_like}
-use Rattle.syn_grammar.specs.Forms.{is_brace_macro, ends_there}
+use Rattle.syn_grammar.specs.Forms.{takes_kind, goes_on, may_be_left, stands_left, is_dotted}
+use Rattle.syn_grammar.specs.Forms.{ends_there}
 use Rattle.syn_grammar.specs.Derives.{Bound, Derives}
-use Rattle.syn_grammar.specs.Kept.{held, kept}
+use Rattle.syn_grammar.specs.Kept.{kept}
 use Rattle.syn_grammar.specs.Normal.{normal}
 use Rattle.syn_grammar.specs.Parens.{begins_in}
 use Rattle.syn_grammar.proofs.Settled.{Settled}
@@ -32,7 +32,6 @@ use Rattle.grammar_back.proofs.Readies.{OwnReady, Ready}
 use Rattle.grammar_back.specs.Covered.{has_form_step}
 use Rattle.read_back.specs.Parts.{has_part}
 use Rattle.read_back.proofs.Blocks.{block_part}
-use Rattle.read_back.proofs.Held.{block_kept}
 use Rattle.read_back.proofs.Macros.{macro_part}
 use Rattle.read_back.proofs.Operands.{HasOperandsOf}
 use Rattle.read_back.proofs.Parts.{own}
@@ -244,53 +243,3 @@ read_ended x f o w p ts t h s e = (
   (all_within x, none_goes p 0 x s h e),
   ended_bound x (is_ending p x h) f o w p ts t h s e,
 )
-
--- A form whose held form is such a one is one itself.
-abbrev Turns : Tree → Type 0
-Turns x = is_brace_macro (kept x) ≡ true → is_brace_macro x ≡ true
-
-delimited_back : (a b d : Tree) → Fits d (table Delimited)
-    → Turns (Alone ExprMacro (Node AMacro (Pair a (Pair b (Node Delimited d)))))
-unfolding table held
-delimited_back a b (Second (First g)) f e = refl
-delimited_back a b (Second (Second g)) f e = cc
-delimited_back a b (Second _) f e = absurd f.1
-delimited_back a b (First g) f e = cc
-delimited_back a b _ f e = absurd f
-
-call_back : (z : Tree) → Fits z (table AMacro) → Turns (Alone ExprMacro (Node AMacro z))
-unfolding table
-call_back (Pair a (Pair b (Node j d))) f =
-    subst (λ i. Turns (Alone ExprMacro (Node AMacro (Pair a (Pair b (Node i d)))))) (sym f.1.1.0)
-    (delimited_back a b d (subst (λ i. Fits d (table i)) f.1.1.0 f.1.1.3))
-call_back (Pair a (Pair b _)) f = absurd f.1.1
-call_back (Pair a _) f = absurd f.1
-call_back _ f = absurd f
-
-own_back : (y : Tree) → Fits y (table ExprMacro) → Turns (Alone ExprMacro y)
-unfolding table
-own_back (Node k z) f =
-    subst (λ i. Turns (Alone ExprMacro (Node i z))) (sym f.0) (call_back z (subst (λ i. Fits z (table i)) f.0 f.3))
-own_back _ f = absurd f
-
-macro_back : (x : Tree) → FitsForms x → Turns x
-macro_back (Alone ExprMacro y) f e = own_back y f.1 e
-macro_back (Alone _ y) f e = cc
-macro_back (Front ExprAttributed y x) f e = macro_back x f.3 e
-macro_back (Front _ y x) f e = cc
-macro_back (Back l k y) f e =
-    absurd (never (subst (λ z. is_brace_macro z ≡ true) (f.3 (kept l)) e))
-macro_back (Infix l k y r) f e = cc
-macro_back _ f e = absurd f
-
-or_back : (a b c d : Bool) → a ≡ c → (b ≡ true → d ≡ true) → (a || b) ≡ true → (c || d) ≡ true
-or_back true b c d f g e = ap (λ i. i || d) (sym f)
-or_back false b c d f g e = ap (λ i. i || d) (sym f) ∙ g e
-
-pub ends_back : (p : Position) (x : Tree) → FitsForms x → ends_there p (kept x) ≡ true → ends_there p x ≡ true
-ends_back InArm x f e = sym (block_kept x f) ∙ e
-ends_back InStatement x f e =
-    or_back (is_block_like (kept x)) (is_brace_macro (kept x)) (is_block_like x) (is_brace_macro x) (block_kept x f)
-    (macro_back x f) e
-ends_back Plain x f e = cc
-ends_back InCondition x f e = cc

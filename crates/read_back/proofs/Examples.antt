@@ -1,11 +1,11 @@
 -- Covered expressions there are: -(1 + x), as it is read; m!() in a condition; m!{} before another
--- statement; || 1; 1 as _ < 1; and #[unsafe] 1.
-use Rattle.std.proofs.Common.{◌≡◌, List, [], ◌∷◌, ◌++◌, refl}
+-- statement; || 1; 1 as _ < 1; #[unsafe] 1; and 1; as a statement.
+use Rattle.std.proofs.Common.{◌≡◌, List, [], ◌∷◌, ◌++◌, refl, inl}
 use Rattle.std.specs.Prelude.{true, codes}
-use Rattle.syn_grammar.specs.Kind.{AMacro, Delimited, ExprMacro, InCondition, InModule, Path, Plain, Expression}
+use Rattle.syn_grammar.specs.Kind.{AMacro, AStatement, Delimited, ExprMacro, InCondition, InModule, Path, Plain, Expression}
 use Rattle.syn_grammar.specs.Kind.{ExprClosure, ExprLit, InStatement, Segments, AType, ExprAttributed, ExprCast}
 use Rattle.syn_grammar.specs.Kind.{ExprCompare, InferType, Meta, OuterAttribute, OuterAttributes, WithoutPlus}
-use Rattle.syn_grammar.specs.Name.{the_type}
+use Rattle.syn_grammar.specs.Name.{the_attributes, the_expression, the_semicolon, the_type}
 use Rattle.proc_macro2.specs.Token.{Token, Opens, Closes, Literal, Punct}
 use Rattle.proc_macro2.specs.declared.delimiter.Delimiter.TheVariants.{Parenthesis, Brace, Bracket}
 use Rattle.rust_leaf.specs.declared.punct.Spacing.TheVariants.{Alone as Apart, Joint}
@@ -256,3 +256,47 @@ pub attributed_back :
 unfolding back
 attributed_back =
     read_in_position Plain attributed [] [] attributed_read (λ e. cc) attributed_parts (refl, refl, refl, refl)
+
+-- 1; as a statement
+abbrev semicolon : Tree
+semicolon = First (Called the_semicolon (AMark 59 [] Apart))
+
+abbrev one_statement : Tree
+one_statement =
+    Node AStatement
+    (Second (Second
+    (Second (Second (Pair (Called the_attributes (Node OuterAttributes End))
+    (Pair (Called the_expression (Node (Expression InStatement) (Whole (Alone ExprLit (First (ALiteral (codes "1")))))))
+    semicolon))))))
+
+one_read : Derives one_statement (ref AStatement) []
+unfolding table front back has_right level is_bool is_name is_path_keyword is_reserved
+one_read = (
+  refl,
+  (
+    refl,
+    (
+      refl,
+      (
+        refl,
+        (
+          refl,
+          (
+            (refl, (refl, refl)),
+            (
+              (refl, (refl, ((refl, refl), (refl, (refl, refl), refl)))),
+              (refl, (refl, (refl, refl))),
+            ),
+          ),
+        ),
+      ),
+    ),
+  ),
+)
+
+one_covered : is_covered one_statement ≡ true
+unfolding has_step has_form_step held passed stands_behind level has_right may_lack
+one_covered = refl
+
+pub one_back : IsRead AStatement (flat (normal (kept one_statement)) ++ []) (normal (kept one_statement)) []
+one_back = read_back AStatement one_statement [] [] one_read one_covered (inl (refl, tt))

@@ -7,7 +7,8 @@ use Rattle.syn_grammar.specs.Gram.{operand}
 use Rattle.expressions_back.specs.Behind.{MayFollow}
 use Rattle.grammar_back.proofs.Fits.{FitsForms, IsFormed}
 use Rattle.std.specs.Prelude.{zero, suc, Bool, true, Some, None, codes}
-use Rattle.syn_grammar.specs.Kind.{Kind, Position, Plain, InCondition, InArm, InStatement, Expression, ExprLit}
+use Rattle.syn_grammar.specs.Kind.{AStatement, Kind, Position, Plain, InCondition, InArm, InStatement, Expression}
+use Rattle.syn_grammar.specs.Kind.{ExprLit}
 use Rattle.syn_grammar.specs.Tree.{Tree, Whole, Alone, Front, Back, Infix, flat}
 use Rattle.syn_grammar.specs.Forms.{front}
 use Rattle.syn_grammar.specs.Words.{is_bool, is_name, is_path_keyword, is_reserved}
@@ -29,6 +30,8 @@ use Rattle.read_back.proofs.Follow.{may_follow}
 use Rattle.read_back.proofs.Held.{stays}
 use Rattle.read_back.proofs.Owned.{read_whole}
 use Rattle.read_back.proofs.Parts.{IsThe, owned, begins}
+use Rattle.grammar_back.proofs.Statements.{law_a_statement}
+use Rattle.read_back.proofs.Statements.{step_a_statement}
 use Rattle.read_back.proofs.Settled.{settles}
 use Rattle.read_back.specs.Parts.{has_part}
 use Rattle.read_back.proofs.Operands.{HasOperandsOf, operands_of}
@@ -119,6 +122,7 @@ law p e =
 -- the own parts of the forms
 abbrev is_stepped : Kind → Bool
 is_stepped (Expression p) = true
+is_stepped AStatement = true
 is_stepped k = has_step k
 
 stepped : (k : Kind) → has_form_step k ≡ true → is_stepped k ≡ true
@@ -129,11 +133,13 @@ stepped _ e = cc
 form_steps : (k : Kind) → has_form_step k ≡ true → Step k
 unfolding has_form_step
 form_steps (Expression p) e = step p
+form_steps AStatement e = step_a_statement
 form_steps k e = steps k (stepped k e)
 
 form_laws : (k : Kind) → has_form_step k ≡ true → KindLaw k
 unfolding has_step has_form_step
 form_laws (Expression p) e = law p e
+form_laws AStatement e = law_a_statement
 form_laws k e = laws k (stepped k e)
 
 pub expressions : Expressions

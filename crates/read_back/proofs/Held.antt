@@ -3,7 +3,7 @@
 use Rattle.std.proofs.Common.{◌≡◌, List, refl, sym, ap, ◌∙◌, subst}
 use Rattle.std.specs.Prelude.{ℕ, Bool, true, false, not, ◌&&◌, ◌||◌, cond, nat_eq, Option, Some, None}
 use Rattle.proc_macro2.specs.Token.{Token}
-use Rattle.syn_grammar.specs.Kind.{Kind, Position, Plain, InCondition, InArm, InStatement, AMacro, Delimited, ExprIf}
+use Rattle.syn_grammar.specs.Kind.{Kind, Position, Plain, InCondition, InArm, InStatement, AMacro, Delimited}
 use Rattle.syn_grammar.specs.Kind.{ExprMacro, ExprPath, ExprStruct, ExprCall, ExprField, ExprCast, ExprAttributed}
 use Rattle.syn_grammar.specs.Kind.{ExprBreak}
 use Rattle.syn_grammar.specs.Name.{Part, the_label, the_name, same_part}
@@ -25,6 +25,7 @@ use Rattle.syn_grammar.specs.Parens.{is_ended, is_struct, stays_left, follow}
 use Rattle.syn_grammar.proofs.Settled.{Settled}
 use Rattle.binding_laws.proofs.Stays.{Stays}
 use Rattle.expressions_back.proofs.Bools.{never}
+use Rattle.grammar_back.proofs.Ends.{block_kept}
 use Rattle.grammar_back.proofs.Fits.{Fits, FitsForms, flat_kept, flat_forms}
 
 -- an own part has the parts that what is held of it has
@@ -106,15 +107,6 @@ within_kept n (Infix l k y r) h = ap (λ b. takes n (level k) && b) (within_kept
 within_kept n _ h = absurd h
 
 -- a form that ends there
-pub block_kept : (x : Tree) → FitsForms x → is_block_like (kept x) ≡ is_block_like x
-block_kept (Alone ExprIf y) h = refl
-block_kept (Alone _ y) h = refl
-block_kept (Front ExprAttributed y x) h = block_kept x h.3
-block_kept (Front _ y x) h = refl
-block_kept (Back l k y) h = ap is_block_like (h.3 (kept l))
-block_kept (Infix l k y r) h = refl
-block_kept _ h = absurd h
-
 macro_kept : (x : Tree) → is_brace_macro x ≡ true → is_brace_macro (kept x) ≡ true
 unfolding held
 macro_kept (Front ExprAttributed y x) e = macro_kept x e

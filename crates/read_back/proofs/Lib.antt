@@ -18,6 +18,7 @@ pub mod Operands
 pub mod Parts
 pub mod Wholes
 pub mod Ended
+pub mod Statements
 pub mod Forms
 pub mod ReadBack
 pub mod Positions

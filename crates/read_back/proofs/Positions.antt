@@ -1,6 +1,6 @@
 -- An expression whose own parts are covered is read back in each position.
 use Rattle.std.proofs.Common.{◌≡◌, List, ◌++◌, refl, sym, ap, ◌∙◌, subst}
-use Rattle.std.specs.Prelude.{true}
+use Rattle.std.specs.Prelude.{true, false}
 use Rattle.proc_macro2.specs.Token.{Token}
 use Rattle.syn_grammar.specs.Kind.{Kind, Position, Plain, InCondition, Expression}
 use Rattle.syn_grammar.specs.Tree.{Tree, Node, Whole, Alone, Front, Back, Infix, flat}
@@ -16,13 +16,15 @@ use Rattle.syn_grammar.specs.Read.{IsRead}
 use Rattle.syn_grammar.proofs.Theorems.{one}
 use Rattle.expressions_back.specs.Behind.{MayFollow}
 use Rattle.grammar_back.specs.After.{EndsThere, whole}
-use Rattle.grammar_back.specs.Covered.{has_form_step, is_covered}
+use Rattle.grammar_back.specs.Covered.{has_form_step, all_covered}
 use Rattle.expressions_back.proofs.Bools.{never}
-use Rattle.read_back.proofs.Ended.{ends_back, read_ended}
+use Rattle.grammar_back.proofs.Ends.{ends_back}
+use Rattle.read_back.proofs.Ended.{read_ended}
 use Rattle.read_back.proofs.Settled.{settles}
 use Rattle.grammar_back.proofs.Expressions.{all_laws, all_steps}
 use Rattle.grammar_back.proofs.Fits.{flat_forms}
-use Rattle.grammar_back.proofs.Printed.{EntryLaw, IsPlaced, OwnPrinted, Printed, printed}
+use Rattle.grammar_back.proofs.Conditions.{all_braced, condition_ends, is_condition_kind}
+use Rattle.grammar_back.proofs.Printed.{EntryLaw, IsPlaced, OwnPrinted, Printed, printed, unneeded}
 use Rattle.grammar_back.proofs.Readies.{ready_forms}
 use Rattle.read_back.specs.Parts.{has_part, has_parts_of}
 use Rattle.read_back.proofs.Forms.{expressions, read_formed}
@@ -33,6 +35,10 @@ part_placed : (k : Kind) → has_part k ≡ true → IsPlaced Plain k
 unfolding has_form_step
 part_placed (Expression p) e = cc
 part_placed _ e = tt
+
+part_ends : (k : Kind) → has_part k ≡ true → is_condition_kind k ≡ false
+part_ends (Expression p) e = cc
+part_ends _ e = refl
 
 part_passed : (k : Kind) → has_part k ≡ true → passed k Plain ≡ Plain
 unfolding has_form_step passed
@@ -45,9 +51,10 @@ part_law k e =
     ((all_laws expressions k (part_known k e)).entry Plain (part_placed k e))
 
 part_printed : (k : Kind) (y : Tree) (r : List Token) → has_part k ≡ true → Derives y (table k) r
-    → is_covered y ≡ true → Printed (table k) (normal_in Plain (kept y))
+    → all_covered y ≡ true → Printed (table k) (normal_in Plain (kept y))
 part_printed k y r e d c =
-    printed (all_laws expressions) expressions.whole y (table k) r Plain (part_law k e) d c
+    printed (all_laws expressions) expressions.whole y (table k) r Plain (part_law k e) (all_braced k)
+    (unneeded (table k) r (condition_ends k ∙ part_ends k e)) d c
 
 parts_printed : (x : Tree) (p : Position) (r : List Token) → Bound p x r → has_parts_of has_part x ≡ true
     → OwnPrinted x

@@ -3,7 +3,7 @@ use Rattle.std.proofs.Common.{◌≡◌, List, [], ◌∷◌, ◌++◌, refl, sy
 use Rattle.std.specs.Prelude.{Bool, true, false, not, ◌&&◌, ◌||◌, cond, Some}
 use Rattle.proc_macro2.specs.Token.{Token, Opens}
 use Rattle.proc_macro2.specs.declared.delimiter.Delimiter.TheVariants.{Parenthesis}
-use Rattle.syn_grammar.specs.Kind.{Kind, Position, Plain, InCondition, InArm, InStatement, Expression, ExprField}
+use Rattle.syn_grammar.specs.Kind.{Kind, Position, Plain, InCondition, ExprField}
 use Rattle.syn_grammar.specs.Kind.{ExprMethodCall}
 use Rattle.syn_grammar.specs.Kind.{ExprAwait, ExprAttributed, ExprLit, ExprContinue, ExprStruct, ExprPath}
 use Rattle.syn_grammar.specs.Kind.{ExprParen, ExprGroup, ExprInfer, ExprUnsafe}
@@ -36,7 +36,7 @@ use Rattle.binding_laws.proofs.Begun.{first_passes}
 use Rattle.binding_laws.proofs.Levels.{not_true}
 use Rattle.expressions_back.proofs.Opened.{nothing_right, fixed_right, paren_right}
 use Rattle.expressions_back.proofs.Stands.{struct_is}
-use Rattle.grammar_back.specs.Covered.{has_step, has_form_step, inner, is_known, is_form, is_covered}
+use Rattle.grammar_back.specs.Covered.{has_step, has_form_step, inner, is_known, is_form, all_covered}
 use Rattle.grammar_back.proofs.Dotted.{law_expr_await, law_expr_field, law_expr_method_call}
 use Rattle.grammar_back.proofs.Fits.{flat_kept, Fits, FitsForms, IsMeant, IsFormed, MayLack, MayHave}
 use Rattle.grammar_back.proofs.Printed.{OwnPrinted, Printed, WholeLaw}
@@ -60,27 +60,27 @@ no_range_here k x b e =
 both_parts : (a b c d : Bool) → (a ≡ true → b ≡ true) → (c ≡ true → d ≡ true) → (a && c) ≡ true → (b && d) ≡ true
 both_parts a b c d f g e = let h = and_true a c e in ap (λ i. i && d) (f h.0) ∙ g h.1
 
-covered_parts : (x : Tree) → is_covered x ≡ true → has_parts_of is_form x ≡ true
+covered_parts : (x : Tree) → all_covered x ≡ true → has_parts_of is_form x ≡ true
 covered_parts (Alone k y) c =
-    let a = and_true (is_form k) (is_covered y) c in
-    ap (λ e. e && (is_plain_part k (normal (kept y)) && is_covered y)) a.0
-    ∙ ap (λ e. e && is_covered y) (plain_part k (normal (kept y)) a.0) ∙ a.1
+    let a = and_true (is_form k) (all_covered y) c in
+    ap (λ e. e && (is_plain_part k (normal (kept y)) && all_covered y)) a.0
+    ∙ ap (λ e. e && all_covered y) (plain_part k (normal (kept y)) a.0) ∙ a.1
 covered_parts (Front k y x) c =
-    let a = and_true (is_form k) (is_covered y && is_covered x) c in
-    let b = and_true (is_covered y) (is_covered x) a.1 in
-    no_range_here k x (is_plain_part k (normal (kept y)) && (is_covered y && has_parts_of is_form x))
-    (ap (λ e. e && (is_plain_part k (normal (kept y)) && (is_covered y && has_parts_of is_form x))) a.0
-    ∙ ap (λ e. e && (is_covered y && has_parts_of is_form x)) (plain_part k (normal (kept y)) a.0)
+    let a = and_true (is_form k) (all_covered y && all_covered x) c in
+    let b = and_true (all_covered y) (all_covered x) a.1 in
+    no_range_here k x (is_plain_part k (normal (kept y)) && (all_covered y && has_parts_of is_form x))
+    (ap (λ e. e && (is_plain_part k (normal (kept y)) && (all_covered y && has_parts_of is_form x))) a.0
+    ∙ ap (λ e. e && (all_covered y && has_parts_of is_form x)) (plain_part k (normal (kept y)) a.0)
     ∙ ap (λ e. e && has_parts_of is_form x) b.0 ∙ covered_parts x b.1)
 covered_parts (Back l k y) c =
-    let a = and_true (is_form k) (is_covered l && is_covered y) c in
-    let b = and_true (is_covered l) (is_covered y) a.1 in
-    ap (λ e. e && (is_covered y && has_parts_of is_form l)) a.0
+    let a = and_true (is_form k) (all_covered l && all_covered y) c in
+    let b = and_true (all_covered l) (all_covered y) a.1 in
+    ap (λ e. e && (all_covered y && has_parts_of is_form l)) a.0
     ∙ ap (λ e. e && has_parts_of is_form l) b.1 ∙ covered_parts l b.0
 covered_parts (Infix l k y r) c =
     both_parts (is_form k) (is_form k) _ _ (λ e. e)
-    (λ e. both_parts (is_covered y) (is_covered y) _ _ (λ f. f)
-    (λ f. both_parts (is_covered l) _ (is_covered r) _ (λ g. covered_parts l g) (λ g. covered_parts r g) f) e) c
+    (λ e. both_parts (all_covered y) (all_covered y) _ _ (λ f. f)
+    (λ f. both_parts (all_covered l) _ (all_covered r) _ (λ g. covered_parts l g) (λ g. covered_parts r g) f) e) c
 covered_parts _ c = refl
 
 pub part_known : (k : Kind) → has_part k ≡ true → is_known k ≡ true
@@ -259,19 +259,19 @@ left_path p k l s i =
 pub record AloneParts (ks : Kind → Bool) (k : Kind) (y : Tree) : Type 0 where
   pub passes : ks k ≡ true
   pub ends : is_plain_part k (normal (kept y)) ≡ true
-  pub own : is_covered y ≡ true
+  pub own : all_covered y ≡ true
 
 pub alone_parts : (ks : Kind → Bool) (k : Kind) (y : Tree) → has_parts_of ks (Alone k y) ≡ true → AloneParts ks k y
 alone_parts ks k y c =
     let a = and_true (ks k) _ c in
-    let b = and_true (is_plain_part k (normal (kept y))) (is_covered y) a.1 in
+    let b = and_true (is_plain_part k (normal (kept y))) (all_covered y) a.1 in
     record { passes = a.0; ends = b.0; own = b.1 }
 
 pub record FrontParts (ks : Kind → Bool) (k : Kind) (y x : Tree) : Type 0 where
   pub passes : ks k ≡ true
   pub plain : is_attributed_range k x ≡ false
   pub ends : is_plain_part k (normal (kept y)) ≡ true
-  pub own : is_covered y ≡ true
+  pub own : all_covered y ≡ true
   pub right : has_parts_of ks x ≡ true
 
 pub front_parts : (ks : Kind → Bool) (k : Kind) (y x : Tree) → has_parts_of ks (Front k y x) ≡ true
@@ -280,24 +280,24 @@ front_parts ks k y x c =
     let a = and_true (ks k) _ c in
     let b = and_true (not (is_attributed_range k x)) _ a.1 in
     let h = and_true (is_plain_part k (normal (kept y))) _ b.1 in
-    let e = and_true (is_covered y) (has_parts_of ks x) h.1 in
+    let e = and_true (all_covered y) (has_parts_of ks x) h.1 in
     record { passes = a.0; plain = not_true (is_attributed_range k x) b.0; ends = h.0; own = e.0; right = e.1 }
 
 pub record BackParts (ks : Kind → Bool) (l : Tree) (k : Kind) (y : Tree) : Type 0 where
   pub passes : ks k ≡ true
-  pub own : is_covered y ≡ true
+  pub own : all_covered y ≡ true
   pub left : has_parts_of ks l ≡ true
 
 pub back_parts : (ks : Kind → Bool) (l : Tree) (k : Kind) (y : Tree) → has_parts_of ks (Back l k y) ≡ true
     → BackParts ks l k y
 back_parts ks l k y c =
     let a = and_true (ks k) _ c in
-    let e = and_true (is_covered y) (has_parts_of ks l) a.1 in
+    let e = and_true (all_covered y) (has_parts_of ks l) a.1 in
     record { passes = a.0; own = e.0; left = e.1 }
 
 pub record InfixParts (ks : Kind → Bool) (l : Tree) (k : Kind) (y x : Tree) : Type 0 where
   pub passes : ks k ≡ true
-  pub own : is_covered y ≡ true
+  pub own : all_covered y ≡ true
   pub left : has_parts_of ks l ≡ true
   pub right : has_parts_of ks x ≡ true
 
@@ -305,7 +305,7 @@ pub infix_parts : (ks : Kind → Bool) (l : Tree) (k : Kind) (y x : Tree) → ha
     → InfixParts ks l k y x
 infix_parts ks l k y x c =
     let a = and_true (ks k) _ c in
-    let e = and_true (is_covered y) _ a.1 in
+    let e = and_true (all_covered y) _ a.1 in
     let b = and_true (has_parts_of ks l) (has_parts_of ks x) e.1 in
     record { passes = a.0; own = e.0; left = b.0; right = b.1 }
 
@@ -486,14 +486,6 @@ abbrev inside_whole : Tree → Tree
 inside_whole (Whole x) = x
 inside_whole x = x
 
--- (of an expression in a condition it is not yet known that a brace stands behind it)
-no_condition : (p : Position) → is_known (Expression p) ≡ true → p ≡ InCondition → ⊥
-unfolding has_step has_form_step
-no_condition InCondition e i = cc
-no_condition Plain e i = cc
-no_condition InArm e i = cc
-no_condition InStatement e i = cc
-
 gains : (p : Position) (x : Tree) (r : List Token) → (p ≡ InCondition → sees brace r ≡ true)
     → Derives (Whole x) (operand p 0) r → HasPlainRanges x → formed p (stands_behind p) (kept x) ≡ bare (kept x)
 unfolding table held passed
@@ -532,9 +524,8 @@ form_part k e = ap (λ b. b || is_more k) e
 
 pub whole : WholeLaw
 unfolding has_form_step
-whole p x r h d c o =
-    let w = remake is_form form_part refl p x r (λ i. absurd (no_condition p h i)) d
-    (covered_parts x c) o in
+whole p x r h d b c o =
+    let w = remake is_form form_part refl p x r b d (covered_parts x c) o in
     record {
       tree = Whole w.tree;
       fits = (refl, w.formed_is, w.fits, operands_are w.tree w.operands);

@@ -11,7 +11,8 @@
 //! `Quiet` does it with any mark), and then it is read (`Owned`) before what may follow it (`Follow`; `Ended` has the
 //! forms that end a statement or an arm by themselves). For each expression that was read there is one as it is printed
 //! (`Wholes`), in which a number behind a dot is split as in what is held (`Split`), each form that it is split into
-//! fits (`Indices`), and each form has its operands (`Operands`). `Forms` has all that is to be known of expressions,
+//! fits (`Indices`), and each form has its operands (`Operands`). Where it begins a statement, nothing else is seen
+//! there (`Statements`, which has the step of statements). `Forms` has all that is to be known of expressions,
 //! `ReadBack` the laws of kinds, and `Positions` those of an expression where it stands, whose forms may be of more
 //! kinds than a covered tree's (`specs/Parts`): closures without `for`, and attributes. `Examples` has an
 //! expression for each law.

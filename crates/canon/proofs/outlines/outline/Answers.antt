@@ -1,0 +1,18 @@
+use Rattle.std.proofs.Common.{subst}
+use Rattle.std.specs.Str.{chars}
+use Rattle.proc_macro2.specs.Token.{plain}
+use Rattle.canon.proofs.Outlined.{outline_here, unlisted_is}
+use Rattle.canon.specs.Unread.{IsUnread}
+use Rattle.canon.proofs.outlines.outline.Goals as goal
+
+pub returns-in-Ok-clause-rows : goal.returns-in-Ok-clause-rows
+returns-in-Ok-clause-rows c =
+    outline_here c.args.map.now c.from_str.new.map (chars c.args.text.now) c.in_ok-stream.stream c.in-Ok.rows.items
+    c.in_ok-stream.ensures.parsed c.in_ok-stream.ensures.map_ok c.in_ok-stream.ensures.spot c.in-Ok.ensures.file
+
+pub returns-clause-fault : goal.returns-clause-fault
+returns-clause-fault c =
+    unlisted_is c.args.map.now c.from_str.new.map (chars c.args.text.now) c.in_ok-stream.stream c.span.result _
+    c.in_ok-stream.ensures.parsed c.in_ok-stream.ensures.map_ok c.in_ok-stream.ensures.spot
+    (subst (IsUnread (plain c.in_ok-stream.stream)) c.in-Err-Syntax.field-0-is c.in-Err-Syntax.ensures.refused)
+    c.span_place-place.ensures

@@ -1,0 +1,22 @@
+//! Texts that are read by the written grammar, written and printed, one behind the other, and whether each call left what
+//! it had to where its growth was refused. `tests/refused.sh` runs it once for each allocation, refusing that one.
+//!
+//! - `texts`: the texts, and what is answered for one.
+#![tactic(auto)]
+
+mod texts;
+
+use std::io::Write;
+use std::process::ExitCode;
+use stops::{Stop, ended};
+
+fn run(rt: &HostRuntime) -> Result<(), Stop> {
+    let answer = texts::answered(rt.alloc())?;
+    let written = rt.stdout().write_all(answer.as_bytes());
+    written.map_err(|_| Stop::Elsewhere)
+}
+
+/// Ends as `stops` says.
+fn main(rt: HostRuntime) -> ExitCode {
+    ended(run(&rt))
+}

@@ -1,0 +1,9 @@
+pub mod Parens
+pub mod Dotted
+pub mod InKept
+pub mod Starts
+pub mod Held
+pub mod Given
+pub mod Behind
+pub mod OfStatements
+pub mod Unshelled

@@ -1,0 +1,2 @@
+pub mod Shelled
+pub mod Opens

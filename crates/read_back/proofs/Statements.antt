@@ -1,0 +1,549 @@
+-- An expression where a statement begins: no macro is seen there, no let and no item. So statements are read back.
+use Rattle.std.proofs.Common.{◌≡◌, ℕ, List, [], ◌∷◌, ◌++◌, refl, sym, ap, ◌∙◌, subst, append_assoc, inl, inr}
+use Rattle.std.specs.Prelude.{Bool, true, false, not, ◌&&◌, ◌||◌, codes, cond, Option, Some, None}
+use Rattle.std.specs.Bool.{◌==◌}
+use Rattle.std.proofs.lemmas.Slice.Eq.{bytes_eq-Decides}
+use Rattle.proc_macro2.specs.Token.{Token, Opens, Closes, Ident, Literal, Punct}
+use Rattle.proc_macro2.specs.declared.delimiter.Delimiter.TheVariants.{Brace}
+use Rattle.rust_leaf.specs.declared.punct.Spacing.{Spacing}
+use Rattle.rust_leaf.specs.declared.punct.Spacing.TheVariants.{Alone as Apart, Joint}
+use Rattle.syn_grammar.specs.Kind.{Kind, AMacro, AStatement, Delimited, Expression, ExprClosure, ExprGroup, ExprMacro}
+use Rattle.syn_grammar.specs.Kind.{ExprTypedClosure, ExprUnsafe, InStatement, OuterAttributes}
+use Rattle.syn_grammar.specs.Name.{the_semicolon}
+use Rattle.syn_grammar.specs.Words.{is_among, is_bool, is_ident, is_name, is_path_keyword, is_plain_name, is_reserved}
+use Rattle.syn_grammar.specs.Words.{same_text}
+use Rattle.syn_grammar.specs.Tree.{Tree, AMark, AWord, Alone, Back, Called, First, Front, Group, Infix, Nil, Node, Pair}
+use Rattle.syn_grammar.specs.Tree.{Second, Whole, marks as signs, flat}
+use Rattle.syn_grammar.specs.Gram.{ref}
+use Rattle.syn_grammar.specs.Look.{Look, a_group, a_path, an_ident, behind, first_seen, no, seen, sees}
+use Rattle.syn_grammar.specs.Look.{the_end, ◌or◌, ◌then◌}
+use Rattle.syn_grammar.specs.Say.{at, marks, optional, sign, ◌∶◌}
+use Rattle.syn_grammar.specs.Ranks.{skips}
+use Rattle.syn_grammar.specs.Table.{table}
+use Rattle.syn_grammar.specs.Forms.{front, has_right, level, macro_call_stands, typed_closure_stands}
+use Rattle.syn_grammar.specs.Statements.{item_stands, macro_item_stands, macro_statement_stands, statement}
+use Rattle.syn_grammar.specs.Derives.{Bound, Derives}
+use Rattle.syn_grammar.specs.Kept.{held, kept}
+use Rattle.syn_grammar.specs.Normal.{normal_in, passed, stands_behind}
+use Rattle.grammar_back.specs.After.{After}
+use Rattle.grammar_back.specs.Covered.{begins_in_call, has_form_step, is_form, is_plain_expression}
+use Rattle.grammar_back.specs.Covered.{is_plain_start, soft_words}
+use Rattle.grammar_back.proofs.Choices.{both_true, is_false}
+use Rattle.grammar_back.proofs.Classes.{IsAmong, among_right, of_all, ◌&◌}
+use Rattle.grammar_back.proofs.FieldValues.{end_is}
+use Rattle.grammar_back.proofs.Fits.{Fits, FitsForms, HasOperands, flat_forms}
+use Rattle.grammar_back.proofs.Lets.{step_item, step_let}
+use Rattle.grammar_back.proofs.Passed.{behind_attributes}
+use Rattle.grammar_back.proofs.Readies.{Ready, Step}
+use Rattle.grammar_back.proofs.Starts.{expression_starts, starts, statement_starts}
+use Rattle.grammar_back.proofs.Statements.{at_expression, contrary, fits_expression, held_form, none}
+use Rattle.read_back.proofs.Blocks.{body_opens, word_first}
+use Rattle.read_back.proofs.Macros.{behind_call, delimited_in, name_front, unlike}
+use Rattle.read_back.proofs.Paths.{bang, keyword_is, or_macro, root_front}
+
+-- a macro's call that is an item, and one that is a statement, behind the path and its !
+abbrev item_name : Look
+item_name = an_ident or at "try"
+
+abbrev group_behind : Look
+group_behind = a_group Brace then no (marks "?" or (no (marks "..") then marks "."))
+
+abbrev NoCall : List Token → Type 0
+NoCall us = (sees macro_item_stands us ≡ false) × (sees macro_statement_stands us ≡ false)
+
+abbrev Begun : List Token → Type 0
+Begun us =
+    (sees macro_item_stands us ≡ false) × (sees macro_statement_stands us ≡ false) × (sees (at "let") us ≡ false)
+    × (sees item_stands us ≡ false)
+
+-- the form that begins there
+record Start (k : Kind) (us : List Token) : Type 0 where
+  form : is_form k ≡ true
+  fronts : front InStatement us ≡ Some k
+  plain : is_plain_start us ≡ true
+  unsafe : k ≡ ExprUnsafe → (vs : List Token) × (us ≡ Ident (codes "unsafe") ∷ Opens Brace ∷ vs)
+  call : k ≡ ExprMacro → NoCall us
+
+-- no closure does
+abbrev is_form_there : Option Kind → Bool
+is_form_there (Some k) = is_form k
+is_form_there None = false
+
+closure_not : (b : Bool) (k : Kind) → is_form k ≡ true → cond b (Some ExprTypedClosure) (Some ExprClosure) ≡ Some k → ⊥
+unfolding has_form_step
+closure_not true k h e = contrary (ap is_form_there e ∙ h)
+closure_not false k h e = contrary (ap is_form_there e ∙ h)
+
+no_static : (us : List Token) (k : Kind) → Start k (Ident (codes "static") ∷ us) → ⊥
+unfolding front is_bool
+no_static us k h = closure_not (seen (typed_closure_stands (Ident (codes "static") ∷ us))) k h.form h.fronts
+
+at_const : (us : List Token) (k : Kind) → Start k (Ident (codes "const") ∷ us) → Begun (Ident (codes "const") ∷ us)
+unfolding front is_bool is_name is_path_keyword is_reserved
+at_const (Opens Brace ∷ vs) k h = (refl, refl, refl, refl)
+at_const us k h =
+    absurd (closure_not (seen (typed_closure_stands (Ident (codes "const") ∷ us))) k h.form h.fronts)
+
+async_front : (cs : List ℕ) (us : List Token) → same_text (codes "move") cs ≡ false
+    → front InStatement (Ident (codes "async") ∷ Ident cs ∷ us)
+    ≡ cond (seen (typed_closure_stands (Ident (codes "async") ∷ Ident cs ∷ us))) (Some ExprTypedClosure)
+    (Some ExprClosure)
+unfolding front is_bool
+async_front cs us e = rw e refl
+
+at_async : (us : List Token) (k : Kind) → Start k (Ident (codes "async") ∷ us) → Begun (Ident (codes "async") ∷ us)
+unfolding is_name is_path_keyword is_reserved
+at_async (Ident cs ∷ us) k h = go (same_text (codes "move") cs) refl
+  where
+    go : (b : Bool) → same_text (codes "move") cs ≡ b → Begun (Ident (codes "async") ∷ Ident cs ∷ us)
+    go true i =
+        subst (λ v. Begun (Ident (codes "async") ∷ Ident v ∷ us)) ((bytes_eq-Decides (codes "move") cs).0 i)
+        (refl, refl, refl, refl)
+    go false i =
+        absurd (closure_not (seen (typed_closure_stands (Ident (codes "async") ∷ Ident cs ∷ us))) k h.form
+        (sym (async_front cs us i) ∙ h.fronts))
+at_async _ k h = (refl, refl, refl, refl)
+
+abbrev kind_there : Option Kind → Kind
+kind_there (Some k) = k
+kind_there None = ExprGroup
+
+at_unsafe : (us : List Token) (k : Kind) → Start k (Ident (codes "unsafe") ∷ us) → Begun (Ident (codes "unsafe") ∷ us)
+unfolding front is_bool is_name is_path_keyword is_reserved
+at_unsafe us k h =
+    let (vs, e) = h.unsafe (sym (ap kind_there h.fronts)) in
+    subst Begun (sym e) (refl, refl, refl, refl)
+
+-- where no macro's call is seen, neither of these is
+cond_none : (b : Bool) → cond {A = Option (List Token)} b None None ≡ None
+cond_none true = refl
+cond_none false = refl
+
+bang_off : (l : Look) → ((d : ℕ) (i : Spacing) (xs : List Token) → seen (l (Punct d i ∷ xs)) ≡ false)
+    → (vs : List Token) → seen (bang vs) ≡ false → sees (marks "!" then l) vs ≡ false
+bang_off l h (Punct c Apart ∷ ws) e = go (c == 33) e
+  where
+    go : (b : Bool) → seen (cond b (Some ws) None) ≡ false → seen (behind (cond b (Some ws) None) l) ≡ false
+    go true e = cc e
+    go false e = refl
+bang_off l h (Punct c Joint ∷ Punct d i ∷ xs) e = go (c == 33)
+  where
+    go : (b : Bool) → seen (behind (cond b (Some (Punct d i ∷ xs)) None) l) ≡ false
+    go true = h d i xs
+    go false = refl
+bang_off l h (Punct c Joint ∷ ws) e = go (c == 33) (sym joined ∙ e)
+  where
+    joined : seen (bang (Punct c Joint ∷ ws)) ≡ seen (cond (c == 33) (Some ws) None)
+    joined = ap (λ o. seen (behind (cond (seen o) None (Some (Punct c Joint ∷ ws))) (marks "!"))) (cond_none (c == 33))
+
+    go : (b : Bool) → seen (cond b (Some ws) None) ≡ false → seen (behind (cond b (Some ws) None) l) ≡ false
+    go true e = cc e
+    go false e = refl
+bang_off l h _ e = refl
+
+call_off : (us : List Token) → sees macro_call_stands us ≡ false → NoCall us
+call_off us e = go (a_path us) e
+  where
+    go : (o : Option (List Token)) → seen (behind o bang) ≡ false
+        → (seen (behind o (marks "!" then item_name)) ≡ false) × (seen (behind o (marks "!" then group_behind)) ≡ false)
+    go None e = (refl, refl)
+    go (Some vs) e =
+        (bang_off item_name (λ d i xs. refl) vs e, bang_off group_behind (λ d i xs. refl) vs e)
+
+calls : (us : List Token) (k : Kind) → Start k us
+    → ((b : Bool) → seen (macro_call_stands us) ≡ b → front InStatement us ≡ or_macro b) → NoCall us
+calls us k h f = go (sees macro_call_stands us) refl
+  where
+    go : (b : Bool) → sees macro_call_stands us ≡ b → NoCall us
+    go true e = h.call (sym (ap kind_there (sym (f true e) ∙ h.fronts)))
+    go false e = call_off us e
+
+-- names
+or_split : (a b : Bool) → (a || b) ≡ false → (a ≡ false) × (b ≡ false)
+or_split false b e = (refl, e)
+or_split true b e = cc e
+
+item_off : (cs : List ℕ) (us : List Token) → is_plain_name cs ≡ true → is_among soft_words cs ≡ false
+    → sees item_stands (Ident cs ∷ us) ≡ false
+unfolding is_plain_name is_reserved
+item_off cs us h s =
+    let a = or_split (same_text (codes "union") cs) _ s in
+    let b = or_split (same_text (codes "auto") cs) _ a.1 in
+    let c = or_split (same_text (codes "default") cs) _ b.1 in
+    rw (
+      unlike (codes "extern") cs refl h,
+      unlike (codes "use") cs refl h,
+      unlike (codes "fn") cs refl h,
+      unlike (codes "mod") cs refl h,
+      unlike (codes "type") cs refl h,
+      unlike (codes "struct") cs refl h,
+      unlike (codes "enum") cs refl h,
+      unlike (codes "trait") cs refl h,
+      unlike (codes "impl") cs refl h,
+      unlike (codes "macro") cs refl h,
+      unlike (codes "pub") cs refl h,
+      unlike (codes "crate") cs refl h,
+      unlike (codes "static") cs refl h,
+      unlike (codes "const") cs refl h,
+      unlike (codes "unsafe") cs refl h,
+      unlike (codes "async") cs refl h,
+      a.0,
+      b.0,
+      c.0,
+    ) refl
+
+let_off : (cs : List ℕ) (us : List Token) → is_plain_name cs ≡ true → sees (at "let") (Ident cs ∷ us) ≡ false
+unfolding is_plain_name is_reserved
+let_off cs us h = ap (λ b. seen (cond b (Some us) None)) (unlike (codes "let") cs refl h)
+
+ident_plain : (cs : List ℕ) → is_ident cs ≡ true → is_plain_name cs ≡ true
+unfolding is_plain_name
+ident_plain cs e = ap (λ b. b || same_text (codes "Self") cs) e
+
+at_ident : (cs : List ℕ) (us : List Token) → is_ident cs ≡ true → (k : Kind) → Start k (Ident cs ∷ us)
+    → Begun (Ident cs ∷ us)
+at_ident cs us p k h =
+    let q = ident_plain cs p in
+    let c = calls (Ident cs ∷ us) k h (λ b e. name_front cs q us b InStatement e) in
+    let s = both_true (not (is_among soft_words cs)) _ h.plain in
+    (c.0, c.1, let_off cs us q, item_off cs us q (is_false (is_among soft_words cs) s.0))
+
+at_big_self : (us : List Token) (k : Kind) → Start k (Ident (codes "Self") ∷ us) → Begun (Ident (codes "Self") ∷ us)
+unfolding is_plain_name is_reserved
+at_big_self us k h =
+    let c = calls (Ident (codes "Self") ∷ us) k h (λ b e. name_front (codes "Self") refl us b InStatement e) in
+    (c.0, c.1, refl, refl)
+
+at_self : (us : List Token) (k : Kind) → Start k (Ident (codes "self") ∷ us) → Begun (Ident (codes "self") ∷ us)
+unfolding is_path_keyword
+at_self us k h =
+    let c =
+    calls (Ident (codes "self") ∷ us) k h (λ b e. (keyword_is (codes "self") refl).front_is InStatement us b e) in
+    (c.0, c.1, refl, refl)
+
+at_super : (us : List Token) (k : Kind) → Start k (Ident (codes "super") ∷ us) → Begun (Ident (codes "super") ∷ us)
+unfolding is_path_keyword
+at_super us k h =
+    let c =
+    calls (Ident (codes "super") ∷ us) k h (λ b e. (keyword_is (codes "super") refl).front_is InStatement us b e) in
+    (c.0, c.1, refl, refl)
+
+colons_behind : (us : List Token) → sees (marks "::") us ≡ true
+    → sees item_stands (Ident (codes "crate") ∷ us) ≡ false
+colons_behind us e = go (seen (marks "::" us)) e
+  where
+    go : (b : Bool) → b ≡ true → seen (first_seen (cond b None (Some us)) None) ≡ false
+    go true e = refl
+    go false e = cc e
+
+at_crate : (us : List Token) (k : Kind) → Start k (Ident (codes "crate") ∷ us) → Begun (Ident (codes "crate") ∷ us)
+unfolding is_path_keyword
+at_crate us k h =
+    let c =
+    calls (Ident (codes "crate") ∷ us) k h (λ b e. (keyword_is (codes "crate") refl).front_is InStatement us b e) in
+    (c.0, c.1, refl, colons_behind us h.plain)
+
+at_root : (cs : List ℕ) (us : List Token) (k : Kind) → Start k (Punct 58 Joint ∷ Punct 58 Apart ∷ Ident cs ∷ us)
+    → Begun (Punct 58 Joint ∷ Punct 58 Apart ∷ Ident cs ∷ us)
+at_root cs us k h =
+    let c =
+    calls (Punct 58 Joint ∷ Punct 58 Apart ∷ Ident cs ∷ us) k h (λ b e. root_front InStatement Apart cs us b e) in
+    (c.0, c.1, refl, refl)
+
+-- whatever it begins with
+begun_there : (us : List Token) (k : Kind) → IsAmong expression_starts us → Start k us → Begun us
+unfolding is_name is_path_keyword is_reserved
+begun_there us k i h = of_all (λ vs. (k : Kind) → Start k vs → Begun vs) expression_starts us (
+    (λ us k h. absurd (contrary h.plain)) & (λ cs p us k h. (refl, refl, refl, refl)) &
+    (λ cs us k h. (refl, refl, refl, refl)) & (λ us k h. (refl, refl, refl, refl)) &
+    (λ us k h. (refl, refl, refl, refl)) & (λ us k h. (refl, refl, refl, refl)) &
+    (λ us k h. (refl, refl, refl, refl)) & (λ us k h. (refl, refl, refl, refl)) &
+    (λ us k h. (refl, refl, refl, refl)) & (λ us k h. (refl, refl, refl, refl)) &
+    (λ us k h. (refl, refl, refl, refl)) & (λ us k h. (refl, refl, refl, refl)) &
+    (λ us k h. absurd (no_static us k h)) & (λ us k h. (refl, refl, refl, refl)) & (λ us k h. at_const us k h) &
+    (λ us k h. at_async us k h) & (λ us k h. at_unsafe us k h) & (λ us k h. (refl, refl, refl, refl)) &
+    (λ us k h. (refl, refl, refl, refl)) & (λ us k h. (refl, refl, refl, refl)) &
+    (λ us k h. (refl, refl, refl, refl)) & (λ us k h. (refl, refl, refl, refl)) &
+    (λ us k h. (refl, refl, refl, refl)) & (λ us k h. (refl, refl, refl, refl)) &
+    (λ us k h. (refl, refl, refl, refl)) & (λ us k h. (refl, refl, refl, refl)) &
+    (λ us k h. (refl, refl, refl, refl)) & (λ us k h. (refl, refl, refl, refl)) &
+    (λ us k h. (refl, refl, refl, refl)) & (λ us k h. (refl, refl, refl, refl)) &
+    (λ us k h. (refl, refl, refl, refl)) & (λ us k h. (refl, refl, refl, refl)) &
+    (λ us k h. (refl, refl, refl, refl)) & (λ cs p us k h. at_ident cs us p k h) & (λ us k h. at_big_self us k h) &
+    (λ us k h. at_self us k h) & (λ us k h. at_super us k h) & (λ us k h. at_crate us k h) &
+    (λ cs p us k h. at_root cs us k h) & (λ us k h. at_root (codes "Self") us k h) &
+    (λ us k h. at_root (codes "self") us k h) & (λ us k h. at_root (codes "super") us k h) &
+    (λ us k h. at_root (codes "crate") us k h) & tt
+    ) i k h
+
+-- The form on the left of all begins there.
+unsafe_tokens : (y : Tree) → Fits y (table ExprUnsafe)
+    → (vs : List Token) × (flat y ≡ Ident (codes "unsafe") ∷ Opens Brace ∷ vs)
+unfolding table
+unsafe_tokens (Pair (AWord cs) b) f =
+    let i = body_opens b f.1 in
+    (i.0, word_first "unsafe" cs (flat b) f.0 ∙ ap (λ vs. Ident (codes "unsafe") ∷ vs) i.1)
+unsafe_tokens (Pair _ b) f = absurd f.0
+unsafe_tokens _ f = absurd f
+
+unsafe_there : (y : Tree) (rest us : List Token) → Fits y (table ExprUnsafe) → flat y ++ rest ≡ us
+    → (vs : List Token) × (us ≡ Ident (codes "unsafe") ∷ Opens Brace ∷ vs)
+unsafe_there y rest us f e =
+    let i = unsafe_tokens y f in
+    (i.0 ++ rest, sym e ∙ ap (λ vs. vs ++ rest) i.1)
+
+-- behind the ! of a call that is not in braces
+abbrev Ends : Tree → Type 0
+Ends d =
+    (ts : List Token) → (seen (item_name (flat d ++ ts)) ≡ false) × (seen (group_behind (flat d ++ ts)) ≡ false)
+
+delimited_ends : (p b d : Tree) → Fits d (table Delimited)
+    → begins_in_call (Alone ExprMacro (Node AMacro (Pair p (Pair b (Node Delimited d))))) ≡ false → Ends d
+unfolding table
+delimited_ends p b (First (Group e x)) f n =
+    subst (λ c. Ends (First (Group c x))) (sym f.1.0) (λ ts. (refl, refl))
+delimited_ends p b (First _) f n = absurd f.1
+delimited_ends p b (Second (First g)) f n = absurd (contrary (sym n))
+delimited_ends p b (Second (Second (Group e x))) f n =
+    subst (λ c. Ends (Second (Second (Group c x)))) (sym f.1.1.0) (λ ts. (refl, refl))
+delimited_ends p b (Second (Second _)) f n = absurd f.1.1
+delimited_ends p b (Second _) f n = absurd f.1
+delimited_ends p b _ f n = absurd f
+
+macro_ends : (x : Tree) → Fits x (table AMacro) → begins_in_call (Alone ExprMacro (Node AMacro x)) ≡ false
+    → Ends (delimited_in (Node AMacro x))
+unfolding table
+macro_ends (Pair p (Pair b (Node j d))) f n =
+    delimited_ends p b d (subst (λ i. Fits d (table i)) f.1.1.0 f.1.1.3)
+    (subst (λ i. begins_in_call (Alone ExprMacro (Node AMacro (Pair p (Pair b (Node i d))))) ≡ false) f.1.1.0 n)
+macro_ends (Pair p (Pair b _)) f n = absurd f.1.1
+macro_ends (Pair p _) f n = absurd f.1
+macro_ends _ f n = absurd f
+
+call_ends : (y : Tree) → Fits y (table ExprMacro) → begins_in_call (Alone ExprMacro y) ≡ false → Ends (delimited_in y)
+unfolding table
+call_ends (Node k x) f n =
+    subst (λ i. Ends (delimited_in (Node i x))) (sym f.0)
+    (macro_ends x (subst (λ i. Fits x (table i)) f.0 f.3)
+    (subst (λ i. begins_in_call (Alone ExprMacro (Node i x)) ≡ false) f.0 n))
+call_ends _ f n = absurd f
+
+call_there : (y : Tree) (rest us : List Token) → Fits y (table ExprMacro) → begins_in_call (Alone ExprMacro y) ≡ false
+    → flat y ++ rest ≡ us → NoCall us
+call_there y rest us f n e =
+    let i = call_ends y f n rest in
+    subst NoCall e (behind_call item_name y rest f ∙ i.0, behind_call group_behind y rest f ∙ i.1)
+
+no_operand_behind : (k : Kind) (ts : List Token) → has_right InStatement k ts ≡ true → k ≡ ExprMacro → ⊥
+unfolding has_right level
+no_operand_behind k ts h e = contrary (subst (λ j. has_right InStatement j ts ≡ true) e h)
+
+record Leads (us : List Token) : Type 0 where
+  kind : Kind
+  start : Start kind us
+
+leads : (x : Tree) (rest us : List Token) → flat x ++ rest ≡ us → Bound InStatement x rest → FitsForms x
+    → HasOperands x → begins_in_call x ≡ false → is_plain_start us ≡ true → Leads us
+leads (Alone k y) rest us e d f o n p = record {
+  kind = k;
+  start = record {
+    form = o.0.0;
+    fronts = ap (front InStatement) (sym e) ∙ d.0;
+    plain = p;
+    unsafe = λ i. unsafe_there y rest us (subst (λ j. Fits y (table j)) i f.1) e;
+    call = λ i. call_there y rest us (subst (λ j. Fits y (table j)) i f.1)
+        (subst (λ j. begins_in_call (Alone j y) ≡ false) i n) e;
+  };
+}
+leads (Front k y x) rest us e d f o n p =
+    let g : flat y ++ (flat x ++ rest) ≡ us = sym (append_assoc (flat y) (flat x) rest) ∙ e in
+    record {
+      kind = k;
+      start = record {
+        form = o.0.0;
+        fronts = ap (front InStatement) (sym g) ∙ d.0;
+        plain = p;
+        unsafe = λ i. unsafe_there y (flat x ++ rest) us (subst (λ j. Fits y (table j)) i f.1) g;
+        call = λ i. absurd (no_operand_behind k (flat x ++ rest) d.2 i);
+      };
+    }
+leads (Back l k y) rest us e d f o n p =
+    leads l (flat y ++ rest) us (sym (append_assoc (flat l) (flat y) rest) ∙ e) d.4 f.4 o.2 n p
+leads (Infix l k y r) rest us e d f o n p =
+    leads l (flat y ++ (flat r ++ rest)) us
+    (sym (append_assoc (flat l) (flat y ++ flat r) rest
+    ∙ ap (λ ts. flat l ++ ts) (append_assoc (flat y) (flat r) rest)) ∙ e) d.4 f.3 o.2 n p
+leads _ rest us e d f o n p = absurd d
+
+-- what is held of it is in normal form
+call_kept : (x : Tree) → FitsForms x → begins_in_call x ≡ true → begins_in_call (kept x) ≡ true
+unfolding held
+call_kept (Alone ExprMacro (Node AMacro (Pair p (Pair s (Node Delimited (Second (First g))))))) f e = refl
+call_kept (Alone _ y) f e = cc
+call_kept (Back l k y) f e = ap begins_in_call (f.3 (kept l)) ∙ call_kept l f.4 e
+call_kept (Infix l k y r) f e = call_kept l f.3 e
+call_kept _ f e = cc
+
+no_call : (x : Tree) → FitsForms x → begins_in_call (kept x) ≡ false → begins_in_call x ≡ false
+no_call x f e = go (begins_in_call x) refl
+  where
+    go : (b : Bool) → begins_in_call x ≡ b → begins_in_call x ≡ false
+    go true i = absurd (contrary (sym e ∙ call_kept x f i))
+    go false i = i
+
+colons_more : (ts us : List Token) → sees (marks "::") ts ≡ true → sees (marks "::") (ts ++ us) ≡ true
+colons_more (Punct c Joint ∷ Punct d i ∷ ts) us e = go (c == 58) (d == 58) e
+  where
+    go : (a b : Bool) → seen (cond a (cond b (Some ts) None) None) ≡ true
+        → seen (cond a (cond b (Some (ts ++ us)) None) None) ≡ true
+    go true true e = refl
+    go true false e = cc e
+    go false b e = cc e
+colons_more (Punct c Joint ∷ []) us e = absurd (go (c == 58) e)
+  where
+    go : (a : Bool) → seen (cond a None None) ≡ true → ⊥
+    go true e = contrary e
+    go false e = contrary e
+colons_more (Punct c Joint ∷ t ∷ ts) us e = absurd (go (c == 58) e)
+  where
+    go : (a : Bool) → seen (cond a None None) ≡ true → ⊥
+    go true e = contrary e
+    go false e = contrary e
+colons_more (Punct c Apart ∷ ts) us e = absurd (contrary e)
+colons_more _ us e = absurd (contrary e)
+
+plain_more : (ts us : List Token) → is_plain_start ts ≡ true → is_plain_start (ts ++ us) ≡ true
+plain_more [] us e = cc e
+plain_more (Ident cs ∷ ts) us e = go (not (is_among soft_words cs)) (not (same_text (codes "crate") cs)) e
+  where
+    go : (a b : Bool) → (a && (b || sees (marks "::") ts)) ≡ true → (a && (b || sees (marks "::") (ts ++ us))) ≡ true
+    go true true e = refl
+    go true false e = colons_more ts us e
+    go false b e = cc e
+plain_more (Punct c i ∷ ts) us e = e
+plain_more (Literal cs ∷ ts) us e = e
+plain_more (Opens d ∷ ts) us e = e
+plain_more (Closes d ∷ ts) us e = e
+
+no_hash : (us : List Token) → is_plain_start us ≡ true → sees (marks "#") us ≡ false
+no_hash (Punct c i ∷ ts) e = go (c == 35) e
+  where
+    go : (b : Bool) → not b ≡ true → seen (cond b (Some ts) None) ≡ false
+    go true e = cc e
+    go false e = refl
+no_hash [] e = cc e
+no_hash (Ident cs ∷ ts) e = refl
+no_hash (Literal cs ∷ ts) e = refl
+no_hash (Opens d ∷ ts) e = refl
+no_hash (Closes d ∷ ts) e = refl
+
+-- an expression and what stands behind it in its statement
+record Begins (us : List Token) : Type 0 where
+  seen : Begun us
+  bare : sees (marks "#") us ≡ false
+
+begins : (x : Tree) (ts : List Token) → Fits (Whole x) (table (Expression InStatement))
+    → is_plain_expression (normal_in InStatement (held_form (kept x))) ≡ true
+    → Derives (Whole x) (table (Expression InStatement)) ts → IsAmong expression_starts (flat x ++ ts)
+    → Begins (flat x ++ ts)
+unfolding table passed stands_behind
+begins x ts f p d i =
+    let q : (is_plain_start (flat (kept x)) && not (begins_in_call (kept x))) ≡ true =
+    subst (λ z. (is_plain_start (flat z) && not (begins_in_call z)) ≡ true) f.1 p in
+    let r = both_true (is_plain_start (flat (kept x))) (not (begins_in_call (kept x))) q in
+    let s : is_plain_start (flat x ++ ts) ≡ true =
+    plain_more (flat x) ts (subst (λ us. is_plain_start us ≡ true) (flat_forms x f.2) r.0) in
+    let l = leads x ts (flat x ++ ts) refl d.1 f.2 f.3
+    (no_call x f.2 (is_false (begins_in_call (kept x)) r.1)) s in
+    record { seen = begun_there (flat x ++ ts) l.kind i l.start; bare = no_hash (flat x ++ ts) s }
+
+-- its ;
+abbrev semicolon_end : Look
+semicolon_end = the_end or marks ";"
+
+semicolon_ends : (ts : List Token) → sees (marks ";") ts ≡ true → sees (no semicolon_end) ts ≡ false
+semicolon_ends [] e = refl
+semicolon_ends (t ∷ ts) e = go (sees (marks ";") (t ∷ ts)) e
+  where
+    go : (b : Bool) → b ≡ true → seen (cond b None (Some (t ∷ ts))) ≡ false
+    go true e = refl
+    go false e = cc e
+
+semicolon_seen : (c : ℕ) (cs : List ℕ) (i : Spacing) (s : List Token) → c ≡ 59 → cs ≡ []
+    → sees (marks ";") (signs c cs i ++ s) ≡ true
+semicolon_seen c cs i s e f =
+    subst (λ d. sees (marks ";") (signs d cs i ++ s) ≡ true) (sym e)
+    (subst (λ ds. sees (marks ";") (signs 59 ds i ++ s) ≡ true) (sym f) refl)
+
+record Ended (x t : Tree) (s : List Token) : Type 0 where
+  after : After (Expression InStatement) (Node (Expression InStatement) (Whole x)) (flat t ++ s)
+  derived : Derives t (optional (marks ";") (the_semicolon ∶ sign ";")) s
+
+ended : (x t : Tree) (s : List Token) → Fits t (optional (marks ";") (the_semicolon ∶ sign ";"))
+    → After AStatement (at_expression (Node (Expression InStatement) (Whole x)) t) s → Ended x t s
+ended x (First (Called n (AMark c cs i))) s f a =
+    let e = semicolon_seen c cs i s f.1.1.0 f.1.1.1 in
+    record { after = inl (semicolon_ends (signs c cs i ++ s) e, tt); derived = (e, (f.1.0, (f.1.1.0, f.1.1.1))) }
+ended x (First (Called n _)) s f a = absurd f.1.1
+ended x (First _) s f a = absurd f.1
+ended x (Second Nil) s f (inl a) =
+    subst (Ended x (Second Nil)) (sym (end_is s a.0)) record { after = inl (refl, tt); derived = (refl, tt) }
+ended x (Second Nil) s f (inr (inl e)) = absurd (contrary (sym e))
+ended x (Second Nil) s f (inr (inr e)) = record { after = inr e.0; derived = (e.1.0, tt) }
+ended x (Second _) s f a = absurd f.1
+ended x _ s f a = absurd f
+
+-- the statement
+bare_derived : (us : List Token) → sees (marks "#") us ≡ false → Derives none (ref OuterAttributes) us
+unfolding table
+bare_derived us e = (refl, e)
+
+expression_read : (x t : Tree) (s : List Token) → Fits (Whole x) (table (Expression InStatement))
+    → Fits t (optional (marks ";") (the_semicolon ∶ sign ";"))
+    → is_plain_expression (normal_in InStatement (held_form (kept x))) ≡ true
+    → Ready (Node (Expression InStatement) (Whole x))
+    → After AStatement (at_expression (Node (Expression InStatement) (Whole x)) t) s
+    → Derives (at_expression (Node (Expression InStatement) (Whole x)) t) statement s
+    × IsAmong (starts AStatement) (flat (at_expression (Node (Expression InStatement) (Whole x)) t) ++ s)
+unfolding skips
+expression_read x t s f g p w a =
+    let h = ended x t s g a in
+    let (d, i) = w (flat t ++ s) h.after in
+    let b = begins x (flat t ++ s) f p d.1 i in
+    let e : flat x ++ (flat t ++ s) ≡ (flat x ++ flat t) ++ s = sym (append_assoc (flat x) (flat t) s) in
+    let c = subst Begins e b in
+    let o = bare_derived ((flat x ++ flat t) ++ s) c.bare in
+    let y : Tree = Pair (Whole x) t in (
+      (
+        behind_attributes none y macro_item_stands s false o c.seen.0,
+        (
+          behind_attributes none y macro_statement_stands s false o c.seen.1,
+          (
+            behind_attributes none y (at "let") s false o c.seen.2,
+            (behind_attributes none y item_stands s false o c.seen.3, ((refl, o), ((refl, d), h.derived))),
+          ),
+        ),
+      ),
+      among_right statement_starts expression_starts ((flat x ++ flat t) ++ s)
+          (subst (IsAmong expression_starts) e i),
+    )
+
+pub step_a_statement : Step AStatement
+unfolding table skips
+step_a_statement (Second (Second (First x))) s f n w a = step_let x s f.1.1.1 w
+step_a_statement (Second (Second (Second (First x)))) s f n w a = step_item x s f.1.1.1.1 w n
+step_a_statement (Second (Second (Second (Second x)))) s f n w a =
+    let e = fits_expression x f.1.1.1.1 n in
+    let z : Tree = at_expression (Node (Expression InStatement) (Whole e.form)) e.semicolon in
+    let v : Ready z = subst Ready e.is w in
+    let r =
+    expression_read e.form e.semicolon s e.fits e.ended e.plain v.1.0 (subst (λ y. After AStatement y s) e.is a) in (
+      subst (λ y. Derives y statement s) (sym e.is) r.0,
+      subst (λ y. IsAmong (starts AStatement) (flat y ++ s)) (sym e.is) r.1,
+    )
+step_a_statement (Second (Second (Second _))) s f n w a = absurd f.1.1.1
+step_a_statement (Second (Second _)) s f n w a = absurd f.1.1
+step_a_statement (Second (First x)) s f n w a = absurd (contrary n)
+step_a_statement (Second _) s f n w a = absurd f.1
+step_a_statement (First x) s f n w a = absurd (contrary n)
+step_a_statement _ s f n w a = absurd f
