@@ -122,8 +122,7 @@ unfolding table
 attribute_in (Pair (AMark c cs spacing) (Group e x)) r d =
     subst (λ n. IsRawFront (flat (Pair (AMark n cs spacing) (Group e x)) ++ r)) (sym d.0.0)
     (subst (λ ns. IsRawFront (flat (Pair (AMark 35 ns spacing) (Group e x)) ++ r)) (sym d.0.1)
-    (subst (λ f. IsRawFront (flat (Pair (AMark 35 [] spacing) (Group f x)) ++ r)) (sym d.1.0)
-    (
+    (subst (λ f. IsRawFront (flat (Pair (AMark 35 [] spacing) (Group f x)) ++ r)) (sym d.1.0) (
       refl,
       refl,
       refl,
