@@ -1,6 +1,8 @@
 pub mod Dots
 pub mod OfKinds
 pub mod Bare
+pub mod Lifetimes
+pub mod Impls
 pub mod Row
 pub mod Stand
 pub mod Given
@@ -11,4 +13,5 @@ pub mod Pushing
 pub mod Flat
 pub mod Sizes
 pub mod Written
+pub mod LaidTrees
 pub mod SpacedForms

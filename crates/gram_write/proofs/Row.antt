@@ -5,12 +5,11 @@ use Rattle.std.proofs.lemmas.List.{append-nil}
 use Rattle.proc_macro2.specs.Token.{Token, Punct}
 use Rattle.rust_leaf.specs.declared.punct.Spacing.TheVariants.{Alone as Apart}
 use Rattle.rust_leaf.specs.declared.punct.Spacing.{Spacing}
-use Rattle.syn_grammar.specs.Kind.{Position, Plain, GenericParam, GenericParams, Arguments, AnArgument, Body}
+use Rattle.syn_grammar.specs.Kind.{Position, Plain, GenericParam, GenericParams, Arguments}
 use Rattle.syn_grammar.specs.Name.{same_part, the_lifetime, the_arguments}
 use Rattle.syn_grammar.specs.Tree.{Tree, AMark, Nil, Pair, First, Second, End, Final, More, Called, Node, Back}
 use Rattle.syn_grammar.specs.Tree.{marks, flat}
-use Rattle.syn_grammar.specs.Part.{has}
-use Rattle.syn_grammar.specs.Kept.{constant_argument, held, kept}
+use Rattle.syn_grammar.specs.Kept.{held, kept}
 use Rattle.syn_grammar.specs.Tidy.{is_none, joined, those_then, others_of, lifetimes_first, is_lifetime_param}
 use Rattle.syn_grammar.specs.Tidy.{is_lifetime_argument}
 use Rattle.syn_grammar.specs.Normal.{place_of, passed, normal_in}
@@ -136,48 +135,3 @@ turbofish_said p b c d bs cs ds h i j x =
     (Pair (First (AMark b bs h)) (Pair (AMark c cs i) (Pair (Called the_arguments x) (AMark d ds j))))
     ∙ ap (λ ts. marks b bs Apart ++ (marks c cs Apart ++ (ts ++ marks d ds Apart)))
     (firsts Plain (λ y. is_lifetime_argument (normal_in Plain (kept y))) is_lifetime_argument (λ y. refl) x)
-
--- an argument that is a lifetime, which is the first choice
-pub lifetime_seen : (x : Tree)
-    → is_lifetime_argument (normal_in Plain (kept (Node AnArgument (First x)))) ≡ has the_lifetime x
-unfolding held passed
-lifetime_seen x = has_made the_lifetime Plain x
-
--- and one that is none
-other_constant : (x : Tree) → has the_lifetime x ≡ false
-    → has the_lifetime (normal_in Plain (constant_argument (Second (First (kept x))))) ≡ false
-unfolding held
-other_constant (First x) e = refl
-other_constant (Second x) e = refl
-other_constant (Back l k y) e =
-    dotted_is (λ z. has the_lifetime (normal_in Plain (constant_argument (Second (First z)))) ≡ false) (λ l k y. refl)
-    (kept l) k (kept y)
-other_constant x e = has_made the_lifetime Plain x ∙ e
-
-other_block : (x : Tree) → has the_lifetime x ≡ false
-    → has the_lifetime (normal_in Plain (constant_argument (Second (Second (First (kept x)))))) ≡ false
-unfolding held
-other_block (Node Body x) e = refl
-other_block (Node _ x) e = refl
-other_block (Back l k y) e =
-    dotted_is (λ z. has the_lifetime (normal_in Plain (constant_argument (Second (Second (First z))))) ≡ false)
-    (λ l k y. refl) (kept l) k (kept y)
-other_block x e = has_made the_lifetime Plain x ∙ e
-
-other_choice : (x : Tree) → has the_lifetime x ≡ false
-    → has the_lifetime (normal_in Plain (constant_argument (Second (Second (kept x))))) ≡ false
-other_choice (First x) e = other_block x e
-other_choice (Back l k y) e =
-    dotted_is (λ z. has the_lifetime (normal_in Plain (constant_argument (Second (Second z)))) ≡ false)
-    (λ l k y. refl) (kept l) k (kept y)
-other_choice x e = has_made the_lifetime Plain x ∙ e
-
-pub none_seen : (x : Tree) → has the_lifetime x ≡ false
-    → is_lifetime_argument (normal_in Plain (kept (Node AnArgument (Second x)))) ≡ false
-unfolding held passed
-none_seen (First x) e = other_constant x e
-none_seen (Second x) e = other_choice x e
-none_seen (Back l k y) e =
-    dotted_is (λ z. has the_lifetime (normal_in Plain (constant_argument (Second z))) ≡ false) (λ l k y. refl)
-    (kept l) k (kept y)
-none_seen x e = has_made the_lifetime Plain x ∙ e

@@ -3,6 +3,7 @@
 
 ghost use Rattle.binding_laws.specs.Bare.{bare, HasPlainRanges};
 ghost use Rattle.gram_write.specs.Firsts.{firsts_said};
+ghost use Rattle.gram_write.specs.Laid.{laid};
 ghost use Rattle.gram_write.specs.Plain.{IsPlain};
 ghost use Rattle.gram_write.specs.Ranges.{NoRangeHasAttributes, own_position};
 ghost use Rattle.gram_write.specs.Spaced.{spaced};
@@ -139,4 +140,9 @@ pub fn arguments()
 /// read and not dropped; the last mark of a punctuation, and the mark behind an element, stands alone.
 pub fn tidied_trees()
     ensures { (p : Position) (x : Tree) → IsPlain p x → IsTidied x → said p x ≡ spaced x }
+{}
+
+/// Of a plain tree, at every depth, what is written is said in terms of what was read alone.
+pub fn laid_trees()
+    ensures { (p : Position) (x : Tree) → IsPlain p x → said p x ≡ laid x }
 {}
