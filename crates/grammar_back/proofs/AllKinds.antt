@@ -5,7 +5,7 @@ use Rattle.syn_grammar.specs.Kind.{Kind, AConst, AConstTrait, AFieldValue, AFile
 use Rattle.syn_grammar.specs.Kind.{AFunction, ALet, AMacro, AMacroDefinition, AModule, ARestrictedTrait}
 use Rattle.syn_grammar.specs.Kind.{AStatic, AStruct, ATrait, ATraitItem, AType, ATypeAlias, AUnion}
 use Rattle.syn_grammar.specs.Kind.{AUse, Abi, AnArgument, AnEnum, AnExternCrate, AnImpl, AnImplItem, AnItem}
-use Rattle.syn_grammar.specs.Kind.{AnyPath, Arguments, Arms, AtType, Block, Body, Bound, BoundLifetimes, Bounds}
+use Rattle.syn_grammar.specs.Kind.{AnyPath, Arguments, Arm, Arms, AtType, Block, Body, Bound, BoundLifetimes, Bounds}
 use Rattle.syn_grammar.specs.Kind.{BoundsColon, BracketType, ClosureParam, ConstParam, Delimited, DynType}
 use Rattle.syn_grammar.specs.Kind.{ExprAnd, ExprArray, ExprAssign, ExprAsync, ExprAttributed, ExprAwait}
 use Rattle.syn_grammar.specs.Kind.{ExprBitAnd, ExprBitOr, ExprBitXor, ExprBlock, ExprBreak, ExprCall, ExprCast}
@@ -51,7 +51,8 @@ use Rattle.grammar_back.proofs.Receivers.{law_parameter}
 use Rattle.grammar_back.proofs.Aliases.{law_type_in_file, law_type_in_foreign}
 use Rattle.grammar_back.proofs.Lets.{law_a_let}
 use Rattle.grammar_back.proofs.Turns.{law_items, law_foreign_items, law_trait_items}
-use Rattle.grammar_back.proofs.Turns.{law_impl_items, law_arms}
+use Rattle.grammar_back.proofs.Turns.{law_impl_items}
+use Rattle.grammar_back.proofs.Arms.{law_arms, law_arm}
 use Rattle.grammar_back.proofs.Impls.{law_an_impl}
 use Rattle.grammar_back.proofs.WholeItems.{law_an_item}
 use Rattle.grammar_back.proofs.ForeignItems.{law_a_foreign_item}
@@ -113,7 +114,8 @@ use Rattle.grammar_back.proofs.Aliases.{step_type_in_file, step_type_in_foreign}
 use Rattle.grammar_back.proofs.Lets.{step_a_let}
 use Rattle.grammar_back.proofs.Statements.{law_statements, step_statements}
 use Rattle.grammar_back.proofs.Turns.{step_items, step_foreign_items, step_trait_items}
-use Rattle.grammar_back.proofs.Turns.{step_impl_items, step_arms}
+use Rattle.grammar_back.proofs.Turns.{step_impl_items}
+use Rattle.grammar_back.proofs.Arms.{step_arms, step_arm}
 use Rattle.grammar_back.proofs.Impls.{step_an_impl}
 use Rattle.grammar_back.proofs.WholeItems.{step_an_item}
 use Rattle.grammar_back.proofs.ForeignItems.{step_a_foreign_item}
@@ -333,6 +335,7 @@ steps FieldValues e = step_field_values
 steps AFieldValue e = step_a_field_value
 steps FieldValue e = step_field_value
 steps Arms e = step_arms
+steps Arm e = step_arm
 steps ClosureParam e = step_closure_param
 steps _ e = let f : false ≡ true = e in cc f
 
@@ -568,5 +571,6 @@ laws FieldValues e = law_field_values
 laws AFieldValue e = simple_kind AFieldValue refl (λ x. tt) (λ x. refl) (λ x. refl) (λ q. refl) (λ q. refl) refl
 laws FieldValue e = simple_kind FieldValue refl (λ x. tt) (λ x. refl) (λ x. refl) (λ q. refl) (λ q. refl) refl
 laws Arms e = law_arms
+laws Arm e = law_arm
 laws ClosureParam e = simple_kind ClosureParam refl (λ x. tt) (λ x. refl) (λ x. refl) (λ q. refl) (λ q. refl) refl
 laws _ e = let f : false ≡ true = e in cc f

@@ -1,15 +1,15 @@
 -- Forms that end a statement or an arm by themselves: what is held of such a one, and its normal form, are such ones
 -- too, and what is held of no other is.
 use Rattle.std.proofs.Common.{◌≡◌, [], refl, sym, ap, ◌∙◌, subst}
-use Rattle.std.specs.Prelude.{Bool, true, false, ◌||◌}
+use Rattle.std.specs.Prelude.{Bool, true, false, not, ◌&&◌, ◌||◌}
 use Rattle.syn_grammar.specs.Kind.{Position, Plain, InCondition, InArm, InStatement, AMacro, Delimited}
-use Rattle.syn_grammar.specs.Kind.{ExprAttributed, ExprIf, ExprMacro}
+use Rattle.syn_grammar.specs.Kind.{ExprAttributed, ExprIf, ExprMacro, ExprRange, ExprRangeClosed}
 use Rattle.syn_grammar.specs.Tree.{Tree, Pair, First, Second, Node, Alone, Front, Back, Infix}
 use Rattle.syn_grammar.specs.Table.{table}
-use Rattle.syn_grammar.specs.Forms.{is_block_like, is_brace_macro, ends_there}
+use Rattle.syn_grammar.specs.Forms.{inside, is_block_like, is_brace_macro, is_range, ends_there, level, within}
 use Rattle.syn_grammar.specs.Kept.{held, kept}
 use Rattle.syn_grammar.specs.Normal.{formed}
-use Rattle.syn_grammar.specs.Parens.{may_lack}
+use Rattle.syn_grammar.specs.Parens.{may_lack, parens_unless}
 use Rattle.grammar_back.specs.Covered.{all_covered, has_form_step}
 use Rattle.grammar_back.proofs.Fits.{Fits, FitsForms}
 
@@ -27,6 +27,35 @@ ends_read (Alone _ y) c e = cc
 ends_read (Front ExprAttributed y x) c e = cc c
 ends_read (Front _ y x) c e = cc
 ends_read _ c e = cc
+
+-- the same in an arm, also behind attributes: it is no range
+not_range : (x : Tree) → is_block_like x ≡ true → (is_range x ≡ false) × (within 15 x ≡ true)
+unfolding level
+not_range (Alone ExprRange y) e = absurd (unlike e)
+not_range (Alone ExprRangeClosed y) e = absurd (unlike e)
+not_range (Alone _ y) e = (refl, refl)
+not_range (Front ExprAttributed y x) e = ((not_range x e).0, refl)
+not_range (Front _ y x) e = absurd (unlike e)
+not_range (Back l k y) e = absurd (unlike e)
+not_range (Infix l k y r) e = absurd (unlike e)
+not_range _ e = absurd (unlike e)
+
+both_stay : (a b : Bool) → a ≡ true → b ≡ false → (a && (true && not b)) ≡ true
+both_stay a b e f = ap (λ c. c && (true && not b)) e ∙ ap not f
+
+pub block_read : (x : Tree) → is_block_like x ≡ true → is_block_like (formed InArm [] (kept x)) ≡ true
+unfolding may_lack level inside
+block_read (Alone ExprIf y) e = refl
+block_read (Alone _ y) e = cc
+block_read (Front ExprAttributed y x) e =
+    let z : Tree = formed InArm [] (kept x) in
+    let r = block_read x e in
+    let n = not_range z r in
+    ap (λ b. is_block_like (parens_unless b z)) (both_stay (within 15 z) (is_range z) n.1 n.0) ∙ r
+block_read (Front _ y x) e = absurd (unlike e)
+block_read (Back l k y) e = absurd (unlike e)
+block_read (Infix l k y r) e = absurd (unlike e)
+block_read _ e = absurd (unlike e)
 
 -- a form that ends there
 pub block_kept : (x : Tree) → FitsForms x → is_block_like (kept x) ≡ is_block_like x

@@ -11,7 +11,7 @@ use Rattle.syn_grammar.specs.Kind.{Kind, Position, Plain, DynType, ImplType, Wit
 use Rattle.syn_grammar.specs.Kind.{PathPattern, ReferencePattern, InExpression, Parameter, Segment, Segments}
 use Rattle.syn_grammar.specs.Kind.{ATypeAlias, FnPtrType, InFile, InForeign, WherePredicate}
 use Rattle.syn_grammar.specs.Kind.{AConst, AForeignItem, ALet, AStatement, Statements, AnImpl, AnItem, NeverType}
-use Rattle.syn_grammar.specs.Kind.{UnnamedField}
+use Rattle.syn_grammar.specs.Kind.{Arms, UnnamedField}
 use Rattle.syn_grammar.specs.Kind.{Meta}
 use Rattle.syn_grammar.specs.Kind.{AConstTrait, AForeignModule, AMacroDefinition, AModule, ARestrictedTrait, AStatic}
 use Rattle.syn_grammar.specs.Kind.{AStruct, ATrait, ATraitItem, AUnion, AnImplItem, AUse, AnEnum, AnExternCrate}
@@ -28,7 +28,7 @@ use Rattle.syn_grammar.specs.Types.{is_path_bound}
 use Rattle.syn_grammar.specs.Words.{ends_in_dot, same_text}
 use Rattle.syn_grammar.specs.Table.{table}
 use Rattle.syn_grammar.specs.Derives.{Derives}
-use Rattle.syn_grammar.specs.Tidy.{begins_bracketed, is_absent}
+use Rattle.syn_grammar.specs.Tidy.{begins_bracketed, is_absent, is_none}
 use Rattle.syn_grammar.specs.Kept.{forget, dotted, is_there, kept}
 use Rattle.syn_grammar.specs.Forms.{front as form_in_front, back as form_behind, has_right, is_path_form}
 use Rattle.syn_grammar.specs.Parens.{is_struct}
@@ -249,6 +249,20 @@ abbrev pub has_own_semicolons : Tree → Bool
 has_own_semicolons (First x) = are_ended x
 has_own_semicolons _ = true
 
+-- of arms: one without a comma says whether it is the last
+abbrev pub is_comma : Bool → Tree → Bool
+is_comma last (First z) = last
+is_comma last (Second (Second z)) = not last
+is_comma last c = true
+
+abbrev pub has_comma : Bool → Tree → Bool
+has_comma last (Node k (First (Pair o (Pair p (Pair g (Pair a (Pair e (Called n c)))))))) = is_comma last c
+has_comma last x = true
+
+abbrev pub have_commas : Tree → Bool
+have_commas (Again x y) = has_comma (is_none y) x && have_commas y
+have_commas _ = true
+
 -- what the tests say of what a kind holds, where its entry's shape doesn't
 abbrev pub IsMeant : Kind → Tree → Type 0
 IsMeant (DynType WithoutPlus) x = has_path_bound x ≡ true
@@ -268,6 +282,7 @@ IsMeant AnItem x = IsItem (item_of x)
 IsMeant ALet x = has the_else x ≡ false
 IsMeant AStatement x = is_statement_form x ≡ true
 IsMeant Statements x = has_own_semicolons x ≡ true
+IsMeant Arms x = have_commas x ≡ true
 IsMeant AForeignItem x = is_no_macro (choice (item_of x)) ≡ true
 IsMeant ATraitItem x = is_plain_macro (choice (item_of x)) ≡ true
 IsMeant AnImplItem x = is_plain_macro (choice (item_of x)) ≡ true

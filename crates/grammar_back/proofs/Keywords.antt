@@ -50,6 +50,10 @@ pub reserved_impl : is_reserved (codes "impl") ≡ true
 unfolding is_reserved
 reserved_impl = refl
 
+pub reserved_if : is_reserved (codes "if") ≡ true
+unfolding is_reserved
+reserved_if = refl
+
 pub reserved_in : is_reserved (codes "in") ≡ true
 unfolding is_reserved
 reserved_in = refl

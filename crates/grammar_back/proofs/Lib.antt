@@ -55,6 +55,7 @@ pub mod Members
 pub mod ForeignItems
 pub mod Lets
 pub mod Turns
+pub mod Arms
 pub mod Statements
 pub mod Impls
 pub mod AllKinds

@@ -2,7 +2,7 @@
 use Rattle.std.proofs.Common.{◌≡◌, List, [], ◌∷◌, ◌++◌, refl, sym, ap, ◌∙◌, subst, ⊎_elim, inl, inr}
 use Rattle.std.specs.Prelude.{true}
 use Rattle.proc_macro2.specs.Token.{Token}
-use Rattle.syn_grammar.specs.Kind.{AStatement, Kind, Plain, InCondition, InArm, InStatement, AFieldValue, AType}
+use Rattle.syn_grammar.specs.Kind.{AStatement, Arm, Kind, Plain, InCondition, InArm, InStatement, AFieldValue, AType}
 use Rattle.syn_grammar.specs.Kind.{Expression}
 use Rattle.syn_grammar.specs.Kind.{ImplGenerics, WithPlus}
 use Rattle.syn_grammar.specs.Tree.{Tree, Node, flat}
@@ -15,7 +15,7 @@ use Rattle.syn_grammar.proofs.Theorems.{one}
 use Rattle.grammar_back.specs.After.{After, EndsStatement, EndsThere, expression_of, is_open}
 use Rattle.grammar_back.specs.Sees.{LacksAll}
 use Rattle.grammar_back.proofs.Ends.{ends_back}
-use Rattle.grammar_back.proofs.Statements.{at_expression, ends_of, held_form, held_open, open_fits}
+use Rattle.grammar_back.proofs.Statements.{at_expression, contrary, ends_of, held_form, held_open, open_fits}
 use Rattle.syn_grammar.specs.Kept.{as_statement, held}
 use Rattle.syn_grammar.specs.Say.{marks}
 use Rattle.syn_grammar.specs.Table.{table}
@@ -35,18 +35,28 @@ use Rattle.grammar_back.proofs.Fine.{fine_ref}
 use Rattle.grammar_back.proofs.Printed.{Printed, IsPlaced, printed}
 use Rattle.grammar_back.proofs.Expressions.{Expressions, all_steps, all_laws}
 
-node_in_place : (k : Kind) (x : Tree) → stands_alone (Node k x) ≡ true → IsPlaced Plain k
+-- what stands by itself: no arm does
+abbrev pub IsAlone : Kind → Type 0
+IsAlone Arm = ⊥
+IsAlone k = IsPlaced Plain k
+
+alone_placed : (k : Kind) → IsAlone k → IsPlaced Plain k
+alone_placed Arm p = tt
+alone_placed _ p = p
+
+node_in_place : (k : Kind) (x : Tree) → stands_alone (Node k x) ≡ true → IsAlone k
+node_in_place Arm x e = absurd (contrary e)
 node_in_place (Expression Plain) x e = refl
 node_in_place (Expression _) x e = cc
 node_in_place _ x e = tt
 
-pub node_placed : (k : Kind) (x : Tree) (r : List Token) → Derives x (ref k) r → is_covered x ≡ true → IsPlaced Plain k
+pub node_placed : (k : Kind) (x : Tree) (r : List Token) → Derives x (ref k) r → is_covered x ≡ true → IsAlone k
 node_placed k (Node l x) r d c =
-    subst (IsPlaced Plain) d.0
+    subst IsAlone d.0
     (node_in_place l x (both_true (stands_alone (Node l x)) (all_covered (Node l x)) c).0)
 node_placed k _ r d c = absurd d
 
-no_condition : (k : Kind) → IsPlaced Plain k → is_condition_kind k ≡ true → ⊥
+no_condition : (k : Kind) → IsAlone k → is_condition_kind k ≡ true → ⊥
 no_condition (Expression Plain) p e = cc
 no_condition (Expression InCondition) p e = cc p
 no_condition (Expression InArm) p e = cc
@@ -86,12 +96,13 @@ statement_printed (Node k w) s f (inr a) =
 statement_printed _ s f a = absurd f
 
 -- what may follow what is kept may follow what is printed
-after_printed : (k : Kind) (w : Tree) (s : List Token) → IsPlaced Plain k → Fits w (ref k) → After k (kept w) s
+after_printed : (k : Kind) (w : Tree) (s : List Token) → IsAlone k → Fits w (ref k) → After k (kept w) s
     → After k w s
 after_printed (Expression Plain) w s p f a = a
 after_printed (Expression InCondition) w s p f a = a
 after_printed (Expression InArm) w s p f a = cc p
 after_printed (Expression InStatement) w s p f a = cc p
+after_printed Arm w s p f a = absurd p
 after_printed AStatement w s p f a = statement_printed w s f a
 after_printed AFieldValue w s p f a =
     ⊎_elim (λ h. inl h) (λ h. inr (sym (end_fits w f) ∙ h.0, h.1)) a
@@ -101,12 +112,13 @@ after_printed ImplGenerics w s p f a = ⊎_elim (λ h. inl h) (λ h. inr (sym (g
 after_printed _ w s p f a = a
 
 module _ (expressions : Expressions) where
-  pub read_placed : (k : Kind) (x : Tree) (r s : List Token) → IsPlaced Plain k → Derives x (ref k) r
+  pub read_placed : (k : Kind) (x : Tree) (r s : List Token) → IsAlone k → Derives x (ref k) r
       → is_covered x ≡ true → After k (normal (kept x)) s
       → IsRead k (flat (normal (kept x)) ++ s) (normal (kept x)) s
   read_placed k x r s l d c a =
       let p : Printed (ref k) (normal (kept x)) =
-      printed (all_laws expressions) expressions.whole x (ref k) r Plain l refl (λ e. absurd (no_condition k l e)) d
+      printed (all_laws expressions) expressions.whole x (ref k) r Plain (alone_placed k l) refl
+      (λ e. absurd (no_condition k l e)) d
       (both_true (stands_alone x) (all_covered x) c).1 in
       let b : After k p.tree s =
       after_printed k p.tree s l p.fits (subst (λ z. After k z s) (sym p.kept_is) a) in
@@ -118,7 +130,7 @@ module _ (expressions : Expressions) where
         kept_is = p.kept_is;
       }
 
-  pub same_placed : (k : Kind) (x y : Tree) (r q s : List Token) → IsPlaced Plain k → Derives x (ref k) r
+  pub same_placed : (k : Kind) (x y : Tree) (r q s : List Token) → IsAlone k → Derives x (ref k) r
       → Derives y (ref k) q → is_covered x ≡ true → is_covered y ≡ true → After k (normal (kept x)) s
       → After k (normal (kept y)) s → flat (normal (kept x)) ≡ flat (normal (kept y))
       → normal (kept x) ≡ normal (kept y)

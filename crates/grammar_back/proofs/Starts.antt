@@ -7,7 +7,7 @@ use Rattle.syn_grammar.specs.Kind.{Kind, AConst, AConstTrait, AFieldValue, AFile
 use Rattle.syn_grammar.specs.Kind.{AFunction, ALet, AMacro, AMacroDefinition, AModule, ARestrictedTrait}
 use Rattle.syn_grammar.specs.Kind.{AStatement, AStatic, AStruct, ATrait, ATraitItem, AType, ATypeAlias, AUnion}
 use Rattle.syn_grammar.specs.Kind.{AUse, Abi, AnArgument, AnEnum, AnExternCrate, AnImpl, AnImplItem, AnItem}
-use Rattle.syn_grammar.specs.Kind.{AnyPath, Arguments, AtType, Block, Body, Bound, BoundLifetimes, Bounds}
+use Rattle.syn_grammar.specs.Kind.{AnyPath, Arguments, Arm, Arms, AtType, Block, Body, Bound, BoundLifetimes, Bounds}
 use Rattle.syn_grammar.specs.Kind.{BoundsColon, BracketType, ClosureParam, ConstParam, Delimited, DynType}
 use Rattle.syn_grammar.specs.Kind.{ExprAnd, ExprArray, ExprAssign, ExprAsync, ExprAttributed, ExprAwait}
 use Rattle.syn_grammar.specs.Kind.{ExprBitAnd, ExprBitOr, ExprBitXor, ExprBlock, ExprBreak, ExprCall, ExprCast}
@@ -55,6 +55,31 @@ statement_starts = RawFront ∷ Then 35 [] (Opening Bracket) ∷ TheWord (codes 
     ∷ TheWord (codes "struct") ∷ TheWord (codes "enum") ∷ TheWord (codes "union") ∷ TheWord (codes "auto") ∷ TheWord
     (codes "trait") ∷ TheWord (codes "default") ∷ TheWord (codes "impl") ∷ AnyWord is_ident ∷ TheWord (codes "self")
     ∷ TheWord (codes "super") ∷ TheWord (codes "crate") ∷ Sign 58 (58 ∷ []) ∷ []
+
+-- a pattern
+abbrev pub pattern_starts : List Class
+pattern_starts = Sign 124 [] ∷ TheWord (codes "ref") ∷ TheWord (codes "mut") ∷ AnyWord is_ident ∷ TheWord (codes "_")
+    ∷ Then 46 (46 ∷ 61 ∷ []) (Sign 45 []) ∷ Then 46 (46 ∷ 61 ∷ []) (Quoted any_text) ∷ Then 46 (46 ∷ 61 ∷ [])
+    (TheWord (codes "true")) ∷ Then 46 (46 ∷ 61 ∷ []) (TheWord (codes "false")) ∷ Then 46 (46 ∷ 61 ∷ []) (Sign 60 [])
+    ∷ Then 46 (46 ∷ 61 ∷ []) (Then 58 (58 ∷ []) (TheWord (codes "self"))) ∷ Then 46 (46 ∷ 61 ∷ [])
+    (Then 58 (58 ∷ []) (TheWord (codes "super"))) ∷ Then 46 (46 ∷ 61 ∷ [])
+    (Then 58 (58 ∷ []) (TheWord (codes "crate"))) ∷ Then 46 (46 ∷ 61 ∷ []) (Then 58 (58 ∷ []) (AnyWord is_ident)) ∷
+    Then 46 (46 ∷ 61 ∷ []) (Then 58 (58 ∷ []) (TheWord (codes "Self"))) ∷ Then 46 (46 ∷ 61 ∷ [])
+    (TheWord (codes "self")) ∷ Then 46 (46 ∷ 61 ∷ []) (TheWord (codes "super")) ∷ Then 46 (46 ∷ 61 ∷ [])
+    (TheWord (codes "crate")) ∷ Then 46 (46 ∷ 61 ∷ []) (AnyWord is_ident) ∷ Then 46 (46 ∷ 61 ∷ [])
+    (TheWord (codes "Self")) ∷ Then 46 (46 ∷ []) (Sign 45 []) ∷ Then 46 (46 ∷ []) (Quoted any_text) ∷ Then 46
+    (46 ∷ []) (TheWord (codes "true")) ∷ Then 46 (46 ∷ []) (TheWord (codes "false")) ∷ Then 46 (46 ∷ []) (Sign 60 [])
+    ∷ Then 46 (46 ∷ []) (Then 58 (58 ∷ []) (TheWord (codes "self"))) ∷ Then 46 (46 ∷ [])
+    (Then 58 (58 ∷ []) (TheWord (codes "super"))) ∷ Then 46 (46 ∷ []) (Then 58 (58 ∷ []) (TheWord (codes "crate"))) ∷
+    Then 46 (46 ∷ []) (Then 58 (58 ∷ []) (AnyWord is_ident)) ∷ Then 46 (46 ∷ [])
+    (Then 58 (58 ∷ []) (TheWord (codes "Self"))) ∷ Then 46 (46 ∷ []) (TheWord (codes "self")) ∷ Then 46 (46 ∷ [])
+    (TheWord (codes "super")) ∷ Then 46 (46 ∷ []) (TheWord (codes "crate")) ∷ Then 46 (46 ∷ []) (AnyWord is_ident) ∷
+    Then 46 (46 ∷ []) (TheWord (codes "Self")) ∷ Sign 46 (46 ∷ []) ∷ Opening Parenthesis ∷ Opening Bracket ∷ Sign 38
+    [] ∷ Sign 45 [] ∷ Quoted any_text ∷ TheWord (codes "true") ∷ TheWord (codes "false") ∷ Sign 60 [] ∷ Then 58
+    (58 ∷ []) (TheWord (codes "self")) ∷ Then 58 (58 ∷ []) (TheWord (codes "super")) ∷ Then 58 (58 ∷ [])
+    (TheWord (codes "crate")) ∷ Then 58 (58 ∷ []) (AnyWord is_ident) ∷ Then 58 (58 ∷ []) (TheWord (codes "Self")) ∷
+    TheWord (codes "self") ∷ TheWord (codes "super") ∷ TheWord (codes "crate") ∷ AnyWord is_ident ∷ TheWord
+    (codes "Self") ∷ []
 
 abbrev pub starts : Kind → List Class
 starts (Expression Plain) = Then 35 [] (Opening Bracket) ∷ Quoted any_text ∷ Tick ∷ Opening Brace ∷ Opening
@@ -211,28 +236,7 @@ starts TraitPath = Sign 63 [] ∷ TheWord (codes "for") ∷ Then 58 (58 ∷ []) 
 starts BoundLifetimes = TheWord (codes "for") ∷ []
 starts Lifetimes = Tick ∷ []
 starts Abi = TheWord (codes "extern") ∷ []
-starts Pattern = Sign 124 [] ∷ TheWord (codes "ref") ∷ TheWord (codes "mut") ∷ AnyWord is_ident ∷ TheWord (codes "_")
-    ∷ Then 46 (46 ∷ 61 ∷ []) (Sign 45 []) ∷ Then 46 (46 ∷ 61 ∷ []) (Quoted any_text) ∷ Then 46 (46 ∷ 61 ∷ [])
-    (TheWord (codes "true")) ∷ Then 46 (46 ∷ 61 ∷ []) (TheWord (codes "false")) ∷ Then 46 (46 ∷ 61 ∷ []) (Sign 60 [])
-    ∷ Then 46 (46 ∷ 61 ∷ []) (Then 58 (58 ∷ []) (TheWord (codes "self"))) ∷ Then 46 (46 ∷ 61 ∷ [])
-    (Then 58 (58 ∷ []) (TheWord (codes "super"))) ∷ Then 46 (46 ∷ 61 ∷ [])
-    (Then 58 (58 ∷ []) (TheWord (codes "crate"))) ∷ Then 46 (46 ∷ 61 ∷ []) (Then 58 (58 ∷ []) (AnyWord is_ident)) ∷
-    Then 46 (46 ∷ 61 ∷ []) (Then 58 (58 ∷ []) (TheWord (codes "Self"))) ∷ Then 46 (46 ∷ 61 ∷ [])
-    (TheWord (codes "self")) ∷ Then 46 (46 ∷ 61 ∷ []) (TheWord (codes "super")) ∷ Then 46 (46 ∷ 61 ∷ [])
-    (TheWord (codes "crate")) ∷ Then 46 (46 ∷ 61 ∷ []) (AnyWord is_ident) ∷ Then 46 (46 ∷ 61 ∷ [])
-    (TheWord (codes "Self")) ∷ Then 46 (46 ∷ []) (Sign 45 []) ∷ Then 46 (46 ∷ []) (Quoted any_text) ∷ Then 46
-    (46 ∷ []) (TheWord (codes "true")) ∷ Then 46 (46 ∷ []) (TheWord (codes "false")) ∷ Then 46 (46 ∷ []) (Sign 60 [])
-    ∷ Then 46 (46 ∷ []) (Then 58 (58 ∷ []) (TheWord (codes "self"))) ∷ Then 46 (46 ∷ [])
-    (Then 58 (58 ∷ []) (TheWord (codes "super"))) ∷ Then 46 (46 ∷ []) (Then 58 (58 ∷ []) (TheWord (codes "crate"))) ∷
-    Then 46 (46 ∷ []) (Then 58 (58 ∷ []) (AnyWord is_ident)) ∷ Then 46 (46 ∷ [])
-    (Then 58 (58 ∷ []) (TheWord (codes "Self"))) ∷ Then 46 (46 ∷ []) (TheWord (codes "self")) ∷ Then 46 (46 ∷ [])
-    (TheWord (codes "super")) ∷ Then 46 (46 ∷ []) (TheWord (codes "crate")) ∷ Then 46 (46 ∷ []) (AnyWord is_ident) ∷
-    Then 46 (46 ∷ []) (TheWord (codes "Self")) ∷ Sign 46 (46 ∷ []) ∷ Opening Parenthesis ∷ Opening Bracket ∷ Sign 38
-    [] ∷ Sign 45 [] ∷ Quoted any_text ∷ TheWord (codes "true") ∷ TheWord (codes "false") ∷ Sign 60 [] ∷ Then 58
-    (58 ∷ []) (TheWord (codes "self")) ∷ Then 58 (58 ∷ []) (TheWord (codes "super")) ∷ Then 58 (58 ∷ [])
-    (TheWord (codes "crate")) ∷ Then 58 (58 ∷ []) (AnyWord is_ident) ∷ Then 58 (58 ∷ []) (TheWord (codes "Self")) ∷
-    TheWord (codes "self") ∷ TheWord (codes "super") ∷ TheWord (codes "crate") ∷ AnyWord is_ident ∷ TheWord
-    (codes "Self") ∷ []
+starts Pattern = pattern_starts
 starts SeveralPatterns = TheWord (codes "ref") ∷ TheWord (codes "mut") ∷ AnyWord is_ident ∷ TheWord (codes "_") ∷
     Then 46 (46 ∷ 61 ∷ []) (Sign 45 []) ∷ Then 46 (46 ∷ 61 ∷ []) (Quoted any_text) ∷ Then 46 (46 ∷ 61 ∷ [])
     (TheWord (codes "true")) ∷ Then 46 (46 ∷ 61 ∷ []) (TheWord (codes "false")) ∷ Then 46 (46 ∷ 61 ∷ []) (Sign 60 [])
@@ -591,6 +595,8 @@ starts FieldValues = Opening Brace ∷ []
 starts AFieldValue = Sign 46 (46 ∷ []) ∷ Then 35 [] (Opening Bracket) ∷ AnyWord is_ident ∷ AnyWord is_ident ∷ Quoted
     is_index ∷ []
 starts FieldValue = Then 35 [] (Opening Bracket) ∷ AnyWord is_ident ∷ AnyWord is_ident ∷ Quoted is_index ∷ []
+starts Arms = Then 35 [] (Opening Bracket) ∷ pattern_starts
+starts Arm = Then 35 [] (Opening Bracket) ∷ pattern_starts
 starts ClosureParam = Then 35 [] (Opening Bracket) ∷ TheWord (codes "ref") ∷ TheWord (codes "mut") ∷ AnyWord is_ident
     ∷ TheWord (codes "_") ∷ Then 46 (46 ∷ 61 ∷ []) (Sign 45 []) ∷ Then 46 (46 ∷ 61 ∷ []) (Quoted any_text) ∷ Then 46
     (46 ∷ 61 ∷ []) (TheWord (codes "true")) ∷ Then 46 (46 ∷ 61 ∷ []) (TheWord (codes "false")) ∷ Then 46

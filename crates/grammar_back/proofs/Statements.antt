@@ -644,11 +644,11 @@ turn_needs t (Second _) q b r c d f e n = absurd f.1
 turn_needs t _ q b r c d f e n = absurd f
 
 -- of all of them
-abbrev turn_of : Tree → Tree
+abbrev pub turn_of : Tree → Tree
 turn_of (Again x y) = x
 turn_of x = x
 
-abbrev turns_behind : Tree → Tree
+abbrev pub turns_behind : Tree → Tree
 turns_behind (Again x y) = y
 turns_behind x = x
 
@@ -675,7 +675,7 @@ turns_pass q x End r c d f e n = refl
 turns_pass q x (Again u w) r c d f e n = absurd d
 turns_pass q x _ r c d f e n = absurd f
 
-kept_true : (b : Bool) → kept_if b ≡ Keep → b ≡ true
+pub kept_true : (b : Bool) → kept_if b ≡ Keep → b ≡ true
 kept_true true e = refl
 kept_true false e = cc e
 

@@ -115,8 +115,8 @@ step_expr_match = found_step ExprMatch refl refl
     (found_seq (found_called (found_ref (Expression InCondition) refl))
     (found_group (maybe_ended
     (maybe_both (maybe_ref InnerAttributes refl)
-    (weaken_maybe ((no the_end) ∷ (marks "#" then marks "!") ∷ []) (maybe_ref Arms refl) (λ s a. (a.0, tt))) (tt, tt)
-    (λ s a. (a.1.0, tt))) (refl, (refl, tt)))) ((λ us. refl, tt), tt)) tt)
+    (weaken_maybe ((no the_end) ∷ (marks "#" then marks "!") ∷ []) (maybe_ref Arms refl) (λ s a. (a.0, tt)))
+    ((search), tt) (λ s a. (a.1.0, tt))) (refl, (refl, tt)))) ((λ us. refl, tt), tt)) tt)
 
 pub step_expr_loop : Step ExprLoop
 unfolding table skips is_path_keyword is_plain_name is_bool is_name

@@ -1,20 +1,17 @@
--- The steps and the laws of lists that go to the end, of turns that have a step: of items these are all, and of arms
--- none.
-use Rattle.std.proofs.Common.{◌≡◌, List, [], ◌++◌, refl, sym, ap, ◌∙◌, subst, inl, inr}
-use Rattle.std.specs.Prelude.{true, false, not}
-use Rattle.proc_macro2.specs.Token.{Token}
-use Rattle.syn_grammar.specs.Kind.{Kind, AForeignItem, ATraitItem, AnImplItem, AnItem, Arm, Arms}
+-- The steps and the laws of lists of items, which go to the end.
+use Rattle.std.proofs.Common.{List, [], ◌++◌, refl, sym, ap, subst, inl, inr}
+use Rattle.std.specs.Prelude.{false, not}
+use Rattle.syn_grammar.specs.Kind.{Kind, AForeignItem, ATraitItem, AnImplItem, AnItem}
 use Rattle.syn_grammar.specs.Kind.{ForeignItems, ImplItems, Items, TraitItems}
 use Rattle.syn_grammar.specs.Tree.{Tree, End, Again, Node, flat}
 use Rattle.syn_grammar.specs.Gram.{Gram, ref, star}
-use Rattle.syn_grammar.specs.Look.{lacks, no, the_end}
+use Rattle.syn_grammar.specs.Look.{lacks, the_end}
 use Rattle.syn_grammar.specs.Ranks.{skips}
 use Rattle.syn_grammar.specs.Table.{table}
 use Rattle.syn_grammar.specs.Derives.{Derives}
 use Rattle.syn_grammar.specs.Kept.{held}
 use Rattle.syn_grammar.specs.Normal.{passed}
-use Rattle.grammar_back.specs.Covered.{has_form_step, has_step, is_known}
-use Rattle.grammar_back.specs.Sees.{Lacks}
+use Rattle.grammar_back.specs.Covered.{has_step}
 use Rattle.grammar_back.proofs.Classes.{Class}
 use Rattle.grammar_back.proofs.Begins.{Begins}
 use Rattle.grammar_back.proofs.FieldValues.{end_is}
@@ -24,12 +21,6 @@ use Rattle.grammar_back.proofs.Fine.{AtOrNone}
 use Rattle.grammar_back.proofs.Parts.{Found, Told, at_front, found_ref, told_at}
 use Rattle.grammar_back.proofs.Starts.{starts}
 use Rattle.grammar_back.proofs.Printed.{KindLaw, TurnLaw, plain_law}
-
--- a kind without a step
-unknown : (l k : Kind) → is_known l ≡ false → k ≡ l → is_known k ≡ true → ⊥
-unknown l k n e h =
-    let f : true ≡ false = sym h ∙ ap is_known e ∙ n in
-    cc f
 
 -- turns that have a step
 turns_read : (g : Gram) (cs : List Class) → Found g [] cs → Told the_end false cs → (x : Tree)
@@ -42,21 +33,9 @@ turns_read g cs found some (Again x y) f w =
     ((ap not (told_at the_end false cs ((flat x ++ flat y) ++ []) some j), u, d), inr j)
 turns_read g cs found some _ f w = absurd f
 
--- lists of one kind, as long as that has no step
-list_read : (l : Kind) → is_known l ≡ false → (x : Tree) (s : List Token) → Fits x (star (lacks the_end) (ref l))
-    → Lacks (no the_end) s → Derives x (star (lacks the_end) (ref l)) s × (flat x ≡ [])
-list_read l n End s f a = (subst (λ us. lacks the_end us ≡ false) (sym (end_is s a)) refl, refl)
-list_read l n (Again (Node k x) y) s f a = absurd (unknown l k n f.0.0 f.0.1)
-list_read l n (Again _ y) s f a = absurd f.0
-list_read l n _ s f a = absurd f
-
 pub node_stays : (l : Kind) → TurnLaw (ref l)
 node_stays l (Node k x) f = refl
 node_stays l _ f = absurd f
-
-pub step_arms : Step Arms
-unfolding table skips has_step has_form_step
-step_arms x s f n w a = let (d, e) = list_read Arm refl x s f a.0 in (d, inl e)
 
 -- items
 pub step_items : Step Items
@@ -82,10 +61,6 @@ unfolding table skips
 step_foreign_items x s f n w a =
     subst (λ us. Derives x (table ForeignItems) us × Begins ForeignItems x us) (sym (end_is s a.0))
     (turns_read (ref AForeignItem) (starts AForeignItem) (found_ref AForeignItem refl) ((λ us h. h.0), (search)) x f w)
-
-pub law_arms : KindLaw Arms
-unfolding has_step held passed table
-law_arms = plain_law Arms refl (λ x. tt) (λ x. refl) (λ x. refl) (λ q. refl) (λ q l. (node_stays Arm, tt))
 
 pub law_items : KindLaw Items
 unfolding has_step held passed table

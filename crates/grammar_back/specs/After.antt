@@ -3,7 +3,7 @@ use Rattle.std.specs.Prelude.{◌≡◌, true, false, List, [], ◌∷◌}
 use Rattle.syn_grammar.specs.Expressions.{postfix_stands}
 use Rattle.syn_grammar.specs.Generics.{impl_generics_stand, where_ends}
 use Rattle.syn_grammar.specs.Items.{restricted, restricted_in}
-use Rattle.syn_grammar.specs.Kind.{Kind, Position, AFieldValue, AFile, AType, Abi, AnArgument, AnyPath, Arms}
+use Rattle.syn_grammar.specs.Kind.{Kind, Position, AFieldValue, AFile, AType, Abi, AnArgument, AnyPath, Arm, Arms}
 use Rattle.syn_grammar.specs.Kind.{AtType, Bound, Bounds, BoundsColon, ClosureParam, ConstParam, DynType}
 use Rattle.syn_grammar.specs.Kind.{ExprAttributed, ExprBreak, ExprCast, ExprContinue, ExprIf, ExprPath}
 use Rattle.syn_grammar.specs.Kind.{ExprReference, Expression, FieldPattern, FieldValue, FnArg, FnPtrArg}
@@ -18,7 +18,7 @@ use Rattle.syn_grammar.specs.Kind.{ReturnType, Segment, Segments, SeveralPattern
 use Rattle.syn_grammar.specs.Kind.{Statements, TraitItems, TraitPath, TypeParam, UnnamedField, UseBranch}
 use Rattle.syn_grammar.specs.Kind.{UseRooted, UseTop, UseTree, Variant, Visibility, Where, WhereClause}
 use Rattle.syn_grammar.specs.Kind.{WherePredicate, WithPlus, WithoutPlus}
-use Rattle.syn_grammar.specs.Look.{Look, no, a_quoted, a_lifetime, the_end, ◌then◌, ◌or◌}
+use Rattle.syn_grammar.specs.Look.{Look, maybe, no, a_quoted, a_lifetime, the_end, ◌then◌, ◌or◌}
 use Rattle.syn_grammar.specs.Paths.{arguments_stand, parentheses_stand}
 use Rattle.syn_grammar.specs.Patterns.{vert, range_bound_stands, range_end_stands}
 use Rattle.syn_grammar.specs.Say.{at, marks, parenthesis, brace, bracket}
@@ -170,6 +170,7 @@ behind ExprBreak = a_lifetime ∷ marks ":" ∷ []
 behind AFieldValue = no the_end ∷ []
 behind FieldValue = no (the_end or marks "," or marks ";" or marks "=>") ∷ marks ":" ∷ []
 behind Arms = no the_end ∷ []
+behind Arm = maybe the_end ∷ []
 behind ClosureParam = marks ":" ∷ marks "::" ∷ arguments_stand AtType ∷ parentheses_stand AtType ∷ marks ".." ∷ marks
     "->" ∷ marks "!" ∷ marks "@" ∷ range_end_stands ∷ parenthesis ∷ brace ∷ arguments_stand InExpression ∷
     bound_stands ∷ marks "+" ∷ range_bound_stands ∷ []
@@ -220,14 +221,27 @@ EndsStatement (Node k x) s = EndsStatement x s
 EndsStatement x s =
     (is_open x ≡ false) ⊎ (EndsThere InStatement (expression_of x) s × LacksAll (marks ";" ∷ []) s)
 
+-- Behind an arm: where it has no comma, nothing, if its tree says so; or what it ends before, and no comma, which would
+-- be its own.
+abbrev pub EndsArm : Tree → Tree → List Token → Type 0
+EndsArm e (First z) s = s ≡ []
+EndsArm e (Second (First z)) s = Unit {0}
+EndsArm e c s = EndsThere InArm e s × LacksAll (the_end ∷ marks "," ∷ []) s
+
+abbrev pub FollowsArm : Tree → List Token → Type 0
+FollowsArm (Node k x) s = FollowsArm x s
+FollowsArm (First (Pair o (Pair p (Pair g (Pair a (Pair (Called n e) (Called m c))))))) s = EndsArm e c s
+FollowsArm x s = s ≡ []
+
 -- What may follow a kind's tree: what these looks don't see; behind an expression in an arm or a statement also what
--- such a form ends before; behind a statement that has its ; or is no expression anything; behind a field of a struct
--- expression what may follow it, and behind .. the end; behind a type that is a path what may follow one without plus;
--- and behind the generics of an impl that are there anything.
+-- such a form ends before; behind a statement that has its ; or is no expression anything; behind an arm what is said
+-- above; behind a field of a struct expression what may follow it, and behind .. the end; behind a type that is a path
+-- what may follow one without plus; and behind the generics of an impl that are there anything.
 abbrev pub After : Kind → Tree → List Token → Type 0
 After (Expression InArm) x s = LacksAll (behind (Expression InArm)) s ⊎ EndsThere InArm x s
 After (Expression InStatement) x s = LacksAll (behind (Expression InStatement)) s ⊎ EndsThere InStatement x s
 After AStatement x s = LacksAll (behind AStatement) s ⊎ EndsStatement x s
+After Arm x s = FollowsArm x s
 After AFieldValue x s =
     LacksAll (behind AFieldValue) s ⊎ ((is_end x ≡ false) × LacksAll (behind FieldValue) s)
 After (AType WithPlus) x s =

@@ -6,7 +6,7 @@ use Rattle.syn_grammar.specs.Kind.{Kind, Expression, AConst, AConstTrait, AField
 use Rattle.syn_grammar.specs.Kind.{AForeignModule, AFunction, ALet, AMacro, AMacroDefinition, AModule}
 use Rattle.syn_grammar.specs.Kind.{ARestrictedTrait, AStatement, AStatic, AStruct, ATrait, ATraitItem, AType}
 use Rattle.syn_grammar.specs.Kind.{ATypeAlias, AUnion, AUse, Abi, AnArgument, AnEnum, AnExternCrate, AnImpl}
-use Rattle.syn_grammar.specs.Kind.{AnImplItem, AnItem, AnyPath, Arguments, Arms, AtType, Block, Body, Bound}
+use Rattle.syn_grammar.specs.Kind.{AnImplItem, AnItem, AnyPath, Arguments, Arm, Arms, AtType, Block, Body, Bound}
 use Rattle.syn_grammar.specs.Kind.{BoundLifetimes, Bounds, BoundsColon, BracketType, ClosureParam, ConstParam}
 use Rattle.syn_grammar.specs.Kind.{Delimited, DynType, ExprAnd, ExprArray, ExprAssign, ExprAsync, ExprAttributed}
 use Rattle.syn_grammar.specs.Kind.{ExprAwait, ExprBitAnd, ExprBitOr, ExprBitXor, ExprBlock, ExprBreak, ExprCall}
@@ -241,6 +241,7 @@ has_step FieldValues = true
 has_step AFieldValue = true
 has_step FieldValue = true
 has_step Arms = true
+has_step Arm = true
 has_step ClosureParam = true
 has_step k = false
 
@@ -493,8 +494,9 @@ all_covered (Infix l k y r) = is_form k && (all_covered y && (all_covered l && a
 all_covered _ = true
 
 -- An expression by itself stands in plain position: in a condition, in an arm and in a statement it stands in what has
--- these.
+-- these. An arm stands among arms.
 abbrev pub stands_alone : Tree → Bool
+stands_alone (Node Arm x) = false
 stands_alone (Node (Expression Plain) x) = true
 stands_alone (Node (Expression p) x) = false
 stands_alone x = true

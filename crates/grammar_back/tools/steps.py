@@ -473,13 +473,16 @@ def look_of(text): return parse([text])
 GIVEN={('Expression','Plain'):['no (the_end or marks "," or marks ";" or marks "=>")'],('Expression','InCondition'):['no brace'],
  ('Expression','InArm'):['no (the_end or marks ",")'],('Expression','InStatement'):['no (the_end or marks ";")']}
 # what may follow, where it is said of the kind's tree too, and first tokens that are written by hand
-GIVEN_BEHIND={('AFieldValue',):['no the_end'],('AStatement',):['no the_end'],('Statements',):['no the_end'],('Arms',):['no the_end']}
+GIVEN_BEHIND={('AFieldValue',):['no the_end'],('AStatement',):['no the_end'],('Statements',):['no the_end'],('Arms',):['no the_end'],
+ ('Arm',):['maybe the_end']}
+# arms begin with their attributes and their pattern
+ARMS=[('Arm',),('Arms',)]
 LISTS=['Items','ForeignItems','TraitItems','ImplItems']
 for k in LISTS: GIVEN_BEHIND[(k,)]=['no the_end']
 GIVEN_BEHIND[('ImplGenerics',)]=['impl_generics_stand']
 # kinds of which the entry is written, and the step is by hand, since what may follow is said of the kind's tree too
 ENTRIES={('AType','WithPlus')}
-GIVEN_STARTS={('ALet',):[('word','let')],('Arms',):[],('ATypeAlias','InFile'):[('word','type')],('ATypeAlias','InForeign'):[('word','type')]}
+GIVEN_STARTS={('ALet',):[('word','let')],('ATypeAlias','InFile'):[('word','type')],('ATypeAlias','InForeign'):[('word','type')]}
 for k in LISTS: GIVEN_STARTS[(k,)]=[]
 ITEM_WORDS='const async unsafe extern fn use static mod type struct enum union auto trait default impl'.split()
 MACRO_STARTS=[('ident',),('word','self'),('word','super'),('word','crate'),('sign','::')]
@@ -524,6 +527,10 @@ def main():
         change=False
         for cat,k in KINDS:
             if k in GIVEN_STARTS: continue
+            if k in ARMS:
+                cs=starts[('OuterAttributes',)]+starts[('Pattern',)]
+                if cs!=starts[k]: starts[k]=cs; change=True
+                continue
             fails.clear()
             try: e=entry(k)
             except Skip as x: bad[k]=[str(x)]; continue
@@ -534,7 +541,7 @@ def main():
             if len(ms)!=len(behind[k]): behind[k]=ms; change=True
             if e.maybe!=skips[k]: bad[k].append(f'skips {e.maybe}')
         if not change: break
-    good=[(c,k) for c,k in KINDS if k not in GIVEN_STARTS and not bad[k]]
+    good=[(c,k) for c,k in KINDS if k not in GIVEN_STARTS and k not in ARMS and not bad[k]]
     if '--list' in sys.argv:
         for c,k in KINDS:
             if bad.get(k): print('BY HAND',kshow(k),bad[k][:3])
@@ -664,7 +671,8 @@ def imports(text,mine=()):
     return ('use Rattle.proc_macro2.specs.declared.delimiter.Delimiter.TheVariants as D\n' if has('D.None') else '')+''.join(f'use {m}.{{{", ".join(ws)}}}\n' for m,ws in sorted(by.items()))
 # lists of first tokens that have a name
 BY_NAME={('Expression','InStatement'):'expression_starts',('AStatement',):'statement_starts ++ expression_starts',
- ('Statements',):'Sign 59 [] ∷ (statement_starts ++ expression_starts)'}
+ ('Statements',):'Sign 59 [] ∷ (statement_starts ++ expression_starts)',('Pattern',):'pattern_starts',
+ **{k:'Then 35 [] (Opening Bracket) ∷ pattern_starts' for k in ARMS}}
 # kinds whose step is proved in the crate read_back
 ABOVE={('AStatement',)}
 def write():
@@ -721,14 +729,27 @@ EndsStatement (Node k x) s = EndsStatement x s
 EndsStatement x s =
     (is_open x ≡ false) ⊎ (EndsThere InStatement (expression_of x) s × LacksAll (marks ";" ∷ []) s)
 
+-- Behind an arm: where it has no comma, nothing, if its tree says so; or what it ends before, and no comma, which would
+-- be its own.
+abbrev pub EndsArm : Tree → Tree → List Token → Type 0
+EndsArm e (First z) s = s ≡ []
+EndsArm e (Second (First z)) s = Unit {0}
+EndsArm e c s = EndsThere InArm e s × LacksAll (the_end ∷ marks "," ∷ []) s
+
+abbrev pub FollowsArm : Tree → List Token → Type 0
+FollowsArm (Node k x) s = FollowsArm x s
+FollowsArm (First (Pair o (Pair p (Pair g (Pair a (Pair (Called n e) (Called m c))))))) s = EndsArm e c s
+FollowsArm x s = s ≡ []
+
 -- What may follow a kind's tree: what these looks don't see; behind an expression in an arm or a statement also what
--- such a form ends before; behind a statement that has its ; or is no expression anything; behind a field of a struct
--- expression what may follow it, and behind .. the end; behind a type that is a path what may follow one without plus;
--- and behind the generics of an impl that are there anything.
+-- such a form ends before; behind a statement that has its ; or is no expression anything; behind an arm what is said
+-- above; behind a field of a struct expression what may follow it, and behind .. the end; behind a type that is a path
+-- what may follow one without plus; and behind the generics of an impl that are there anything.
 abbrev pub After : Kind → Tree → List Token → Type 0
 After (Expression InArm) x s = LacksAll (behind (Expression InArm)) s ⊎ EndsThere InArm x s
 After (Expression InStatement) x s = LacksAll (behind (Expression InStatement)) s ⊎ EndsThere InStatement x s
 After AStatement x s = LacksAll (behind AStatement) s ⊎ EndsStatement x s
+After Arm x s = FollowsArm x s
 After AFieldValue x s =
     LacksAll (behind AFieldValue) s ⊎ ((is_end x ≡ false) × LacksAll (behind FieldValue) s)
 After (AType WithPlus) x s =
@@ -745,7 +766,8 @@ After k x s = LacksAll (behind k) s
     for k in list(GIVEN)+order:
         if starts[k]: body+=f'starts {clause(k)} = '+BY_NAME.get(k,list_of([class_show(c) for c in starts[k]]))+'\n'
     lists=[('an expression, where a statement begins','expression_starts',starts[('Expression','InStatement')]),
-     ('a let or an item among statements','statement_starts',starts[('AStatement',)])]
+     ('a let or an item among statements','statement_starts',starts[('AStatement',)]),
+     ('a pattern','pattern_starts',starts[('Pattern',)])]
     named=''.join(f'-- {doc}\nabbrev pub {n} : List Class\n{n} = '+list_of([class_show(c) for c in cs])+'\n\n' for doc,n,cs in lists)
     body=named+'abbrev pub starts : Kind → List Class\n'+body+'starts k = []\n'
     head="-- What a kind's tokens begin with, where it has some. Written by tools/steps.py, from the entries.\n"
