@@ -67,18 +67,15 @@ wanted_text wanted.Unchained = named (codes "no comparison behind a comparison")
 wanted_text (wanted.Judged v) = named (codes "what may stand here")
 wanted_text wanted.Nothing = named (codes "another token")
 
--- at an end, which is said first
+-- where no token is left, in a group or at all, which is said first
 abbrev pub message : Bool → Wanted → List ℕ
 message at_end w = cond at_end (codes "unexpected end of input, ") [] ++ wanted_text w
 
--- where it is said: at the call site, where no token stands
+-- Where it is said: of the token that stands there, or of the mark that closes the group whose inside ends there; of
+-- the call site at the end of all tokens.
 abbrev pub place : Option Span → Span
 place None = call_site
 place (Some span) = span
-
-abbrev pub is_end : Option Span → Bool
-is_end None = true
-is_end (Some span) = false
 
 abbrev pub message_of : Message → List ℕ
 message_of m = cond m.at_end (codes "unexpected end of input, ") [] ++ thing_text m.thing

@@ -1,6 +1,7 @@
 //! What is said of tokens that could not be read.
 
-ghost use Rattle.gram_read.specs.Said.{group_name, is_end, literal_name, message, named, place, quoted, thing_text, wanted_text, word_name};
+ghost use Rattle.gram_read.specs.Said.{group_name, literal_name, message, named, place, quoted, thing_text};
+ghost use Rattle.gram_read.specs.Said.{wanted_text, word_name};
 ghost use Rattle.std.specs.Prelude.{◌≡◌, IfOk, Some};
 ghost use Rattle.syn_error.specs.Notes.{Says};
 
@@ -134,32 +135,21 @@ impl fmt::Display for Message {
     }
 }
 
-/// The error that says what was wanted, where the token stands that was found, or of the call site, where none was
-/// left.
+/// The error that says what was wanted, and that no token was left, where none was: where the refusal stands, or at the
+/// call site, where it stands nowhere.
 ///
 /// # Errors
 ///
 /// Where memory for the words is refused.
 pub fn error(alloc: Global, wrong: Wrong) -> Result<Error, AllocError>
-    ensures { IfOk result (Says (Some (message (is_end wrong.span) wrong.wanted)) (place wrong.span) (place wrong.span)) }
+    ensures { IfOk result (Says (Some (message wrong.is_end wrong.wanted)) (place wrong.span) (place wrong.span)) }
 {
-    let thing = Thing::of(wrong.wanted);
-    match wrong.span {
-        Some(span) => Error::new(
-            alloc,
-            span,
-            Message {
-                at_end: false,
-                thing,
-            },
-        ),
-        None => Error::new(
-            alloc,
-            Span::call_site(),
-            Message {
-                at_end: true,
-                thing,
-            },
-        ),
-    }
+    Error::new(
+        alloc,
+        wrong.span.unwrap_or(Span::call_site()),
+        Message {
+            at_end: wrong.is_end,
+            thing: Thing::of(wrong.wanted),
+        },
+    )
 }

@@ -1,3 +1,4 @@
 pub mod Answers
 pub mod Around
 pub mod Operands
+pub mod Places

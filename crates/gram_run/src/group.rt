@@ -1,9 +1,10 @@
 //! Groups: what stands inside one, and behind it.
 
 ghost use Rattle.gram_run.specs.Answers.{Fails, Gives, tokens};
+ghost use Rattle.gram_run.specs.Places.{closed_by};
 ghost use Rattle.proc_macro2.specs.Groups.{same_delimiter};
 ghost use Rattle.proc_macro2.specs.Token.{Token};
-ghost use Rattle.std.specs.Prelude.{◌≡◌, IfOk, IfSome, IsTrue, List, MatchOption};
+ghost use Rattle.std.specs.Prelude.{◌≡◌, Err, IfErr, IfOk, IfSome, IsTrue, List, MatchOption};
 ghost use Rattle.syn_buffer.specs.Entries.{is_whole};
 ghost use Rattle.syn_grammar.specs.Run.{Out, Refused, group_at, whole};
 
@@ -63,16 +64,19 @@ pub(crate) fn enter<'a>(delimiter: Delimiter, at: &'a [Entry<'a>]) -> Option<Ope
     })
 }
 
-// A fault at the end of the inside stands where the group closes.
+// What was refused inside a group of that span: at the end of the inside it stands where the group closes.
 fn closed(refusal: Refusal, span: Span) -> Refusal
-    ensures { (o : Out) → Fails refusal o → Fails result o }
+    ensures fails { (o : Out) → Fails refusal o → Fails result o }
+    ensures place { result ≡ closed_by span refusal }
 {
     match refusal {
-        Refusal::Syntax(Wrong { span: None, wanted }) => Refusal::Syntax(Wrong {
-            span: Some(span),
-            wanted,
+        Refusal::Syntax(wrong) => Refusal::Syntax(Wrong {
+            span: Some(wrong.span.unwrap_or(span.last_character())),
+            is_end: wrong.is_end,
+            wanted: wrong.wanted,
         }),
-        other => other,
+        Refusal::Memory => Refusal::Memory,
+        Refusal::Late => Refusal::Late,
     }
 }
 
@@ -86,6 +90,7 @@ pub(crate) fn grouped<'a>(
     requires { IsTrue (is_whole opened.behind.now) }
     ensures answer { (o : Out) → Gives (λ x. x.0) (λ x. x.1.now) inner.entry o
         → Gives (λ x. x.0) (λ x. x.1.now) result (whole delimiter (tokens opened.entry.behind.now) o) }
+    ensures place { IfErr inner.entry (λ e. result ≡ Err (closed_by opened.entry.span e)) }
     ensures whole { IfOk result (λ x. IsTrue (is_whole x.1.now)) }
 {
     match inner {
@@ -93,6 +98,7 @@ pub(crate) fn grouped<'a>(
             if let Some(entry) = left.first() {
                 return Err(Refusal::Syntax(Wrong {
                     span: Some(entry.span()),
+                    is_end: false,
                     wanted: Wanted::End,
                 }));
             }

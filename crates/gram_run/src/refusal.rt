@@ -1,6 +1,8 @@
 //! Why tokens were not read.
 
 ghost use Rattle.gram_run.specs.Answers.{IsSyntax};
+ghost use Rattle.gram_run.specs.Places.{refused_at};
+ghost use Rattle.std.specs.Prelude.{◌≡◌};
 
 use gram_table::op::Verdicts;
 use gram_table::word::{Literals, Sign, Words};
@@ -39,9 +41,12 @@ pub enum Wanted {
 /// Where tokens could not be read, and what was wanted there.
 #[derive(Clone, Copy, Drop)]
 pub struct Wrong {
-    /// Where the token stands; none at the end of the tokens.
+    /// Where the token stands, or the last character of the group whose inside ends there; none at the end of all
+    /// tokens.
     pub span: Option<Span>,
-    /// What was wanted in its place.
+    /// Whether no token is left, in the group or at all.
+    pub is_end: bool,
+    /// What was wanted there.
     pub wanted: Wanted,
 }
 
@@ -78,13 +83,18 @@ impl<T: Drop> From<AllocFailed<T>> for Refusal {
     }
 }
 
-// That is wanted where the first of these stands.
+/// That is wanted where the first of these stands.
 pub(crate) fn refuse(wanted: Wanted, at: &[Entry<'_>]) -> Refusal
-    ensures { IsSyntax result }
+    ensures syntax { IsSyntax result }
+    ensures place { result ≡ refused_at wanted at.now }
 {
     let span = match at.first() {
         Some(entry) => Some(entry.span()),
         None => None,
     };
-    Refusal::Syntax(Wrong { span, wanted })
+    Refusal::Syntax(Wrong {
+        span,
+        is_end: at.is_empty(),
+        wanted,
+    })
 }

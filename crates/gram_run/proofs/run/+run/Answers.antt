@@ -135,6 +135,6 @@ pub climb-returns-in-Chained-clause-answer : goal.climb-returns-in-Chained-claus
 climb-returns-in-Chained-clause-answer g t c =
     let s : c.args.fuel ≡ suc (c.args.fuel - 1) = omega arith in
     let h = c.in-Chained.ensures in
-    syntax_fails c.refuse.result _ c.refuse.ensures
+    syntax_fails c.refuse.result _ c.refuse.ensures.syntax
     (climb_chains (c.args.fuel - 1) (position_of c.args.position) c.args.level c.args.fuel c.args.left h.0
     (tokens c.args.at.now) s h.1 h.2 h.3)
