@@ -269,6 +269,7 @@ has_form_step ExprIf = true
 has_form_step ExprMatch = true
 has_form_step ExprLoop = true
 has_form_step ExprWhile = true
+has_form_step ExprForLoop = true
 has_form_step ExprCall = true
 has_form_step ExprMethodCall = true
 has_form_step ExprField = true

@@ -9,13 +9,13 @@ use Rattle.rust_leaf.specs.declared.punct.Spacing.{Spacing}
 use Rattle.rust_leaf.specs.declared.punct.Spacing.TheVariants.{Alone as Apart, Joint}
 use Rattle.syn_grammar.specs.Kind.{Kind, Position, Plain, InCondition, InArm, InStatement, Block, Body, Label}
 use Rattle.syn_grammar.specs.Kind.{ExprArray, Expression}
-use Rattle.syn_grammar.specs.Kind.{ExprAsync, ExprBlock, ExprConst, ExprLoop, ExprRepeat, ExprWhile}
+use Rattle.syn_grammar.specs.Kind.{ExprAsync, ExprBlock, ExprConst, ExprForLoop, ExprLoop, ExprRepeat, ExprWhile}
 use Rattle.syn_grammar.specs.Words.{is_bool, is_reserved, same_text}
 use Rattle.syn_grammar.specs.Tree.{Tree, AWord, AMark, ALifetime, Nil, Pair, First, Second, Group, Called, Node}
 use Rattle.syn_grammar.specs.Tree.{marks, flat}
 use Rattle.syn_grammar.specs.Gram.{Gram, group, ref}
-use Rattle.syn_grammar.specs.Look.{seen, sees}
-use Rattle.syn_grammar.specs.Say.{◌▸◌, keyword}
+use Rattle.syn_grammar.specs.Look.{a_lifetime, seen, sees, ◌then◌, ◌or◌}
+use Rattle.syn_grammar.specs.Say.{◌▸◌, keyword, marks as a_mark}
 use Rattle.syn_grammar.specs.Table.{table}
 use Rattle.syn_grammar.specs.Derives.{Derives}
 use Rattle.syn_grammar.specs.Kept.{kept}
@@ -27,6 +27,7 @@ use Rattle.expressions_back.specs.Formed.{IsFront}
 use Rattle.grammar_back.specs.After.{After}
 use Rattle.grammar_back.proofs.Fits.{Fits}
 use Rattle.grammar_back.proofs.Readies.{OwnReady}
+use Rattle.read_back.proofs.Loops.{NoClosure, pattern_leads}
 use Rattle.read_back.proofs.Semicolons.{past_semicolon, quiet}
 
 -- whatever stands behind these tokens, the form begins there, and an operand may begin so
@@ -204,6 +205,36 @@ while_tokens : (y : Tree) → Fits y (table ExprWhile) → Tokens ExprWhile y
 unfolding table
 while_tokens y f = word_tokens "while" ExprWhile _ y f while_fronts labelled_while
 
+-- behind for no lifetimes of a closure begin
+for_fronts : (us : List Token) → NoClosure us → (p : Position)
+    → (front p (Ident (codes "for") ∷ us) ≡ Some ExprForLoop) × (sees no_operand (Ident (codes "for") ∷ us) ≡ false)
+unfolding front is_bool is_reserved
+for_fronts us e p = go ((a_mark "<" then (a_lifetime or a_mark ">")) us) refl e
+  where
+    go : (o : Option (List Token)) → (a_mark "<" then (a_lifetime or a_mark ">")) us ≡ o → seen o ≡ false
+        → (front p (Ident (codes "for") ∷ us) ≡ Some ExprForLoop) × (sees no_operand (Ident (codes "for") ∷ us) ≡ false)
+    go None i e = (rw i refl, refl)
+    go (Some vs) i e = cc e
+
+labelled_for : (cs : List ℕ) (us : List Token) → Fronts ExprForLoop (colon cs (Ident (codes "for") ∷ us))
+unfolding front is_bool is_reserved
+labelled_for cs us p ts = (refl, refl)
+
+for_tokens : (y : Tree) → Fits y (table ExprForLoop) → Derives y (table ExprForLoop) [] → Tokens ExprForLoop y
+unfolding table
+for_tokens (Pair l (Pair (AWord cs) (Pair q z))) f d = record {
+  us = flat l ++ Ident (codes "for") ∷ (flat q ++ flat z);
+  is = ap (λ vs. flat l ++ vs) (word_first "for" cs (flat q ++ flat z) f.1.0);
+  fronts = labelled_by (Fronts ExprForLoop) l (Ident (codes "for") ∷ (flat q ++ flat z)) f.0
+      (λ p ts. for_fronts ((flat q ++ flat z) ++ ts)
+      (subst NoClosure (sym (append_assoc (flat q) (flat z) ts)) (pattern_leads q _ d.1.1.0 (flat z ++ ts))) p)
+      (λ cs. labelled_for cs (flat q ++ flat z));
+}
+for_tokens (Pair l (Pair (AWord cs) _)) f d = absurd f.1.1
+for_tokens (Pair l (Pair _ b)) f d = absurd f.1.0
+for_tokens (Pair l _) f d = absurd f.1
+for_tokens _ f d = absurd f
+
 -- A repeat has a semicolon in its brackets, and an array has none.
 abbrev chosen : Bool → Option Kind
 chosen b = cond b (Some ExprRepeat) (Some ExprArray)
@@ -269,6 +300,7 @@ is_block ExprAsync = true
 is_block ExprConst = true
 is_block ExprLoop = true
 is_block ExprWhile = true
+is_block ExprForLoop = true
 is_block k = false
 
 pub block_part : (M : List Token → Type 0) (k : Kind) (y : Tree) → is_block k ≡ true → Fits y (table k) → OwnReady k y
@@ -280,4 +312,5 @@ block_part M ExprAsync y e f w h = front_of M ExprAsync y (λ ts. tt) w h (async
 block_part M ExprConst y e f w h = front_of M ExprConst y (λ ts. tt) w h (const_tokens y f)
 block_part M ExprLoop y e f w h = front_of M ExprLoop y (λ ts. tt) w h (loop_tokens y f)
 block_part M ExprWhile y e f w h = front_of M ExprWhile y (λ ts. tt) w h (while_tokens y f)
+block_part M ExprForLoop y e f w h = front_of M ExprForLoop y (λ ts. tt) w h (for_tokens y f (w [] tt).0)
 block_part M _ y e f w h = cc

@@ -4,7 +4,7 @@ use Rattle.std.specs.Prelude.{ℕ, Bool, true, false, not, ◌&&◌, ◌||◌, �
 use Rattle.proc_macro2.specs.Token.{Token}
 use Rattle.syn_grammar.specs.Kind.{Kind, Position, Plain, InCondition, InArm, InStatement}
 use Rattle.syn_grammar.specs.Kind.{ExprAttributed, ExprBlock, ExprConst, ExprIf, ExprLoop, ExprMacro, ExprMatch}
-use Rattle.syn_grammar.specs.Kind.{ExprLet, ExprTryBlock, ExprUnsafe, ExprWhile}
+use Rattle.syn_grammar.specs.Kind.{ExprForLoop, ExprLet, ExprTryBlock, ExprUnsafe, ExprWhile}
 use Rattle.syn_grammar.specs.Tree.{Tree, Whole, Alone, Front, flat}
 use Rattle.syn_grammar.specs.Words.{ends_in_dot}
 use Rattle.syn_grammar.specs.Look.{Look, seen, sees, behind, ◌then◌, ◌or◌, no, an_ident, past_literals}
@@ -110,6 +110,7 @@ none_goes p n x ts h e = go (back p ts) refl
 abbrev is_ender : Kind → Bool
 is_ender ExprIf = true
 is_ender ExprWhile = true
+is_ender ExprForLoop = true
 is_ender ExprLoop = true
 is_ender ExprMatch = true
 is_ender ExprTryBlock = true
@@ -132,6 +133,7 @@ ended_own : (k : Kind) (y : Tree) → is_ender k ≡ true → Fits y (table k) �
 ended_own ExprIf y e f w o = started_part Ended ExprIf y refl (λ ts m. (m.1.1.0, tt)) w o.1
 ended_own ExprMatch y e f w o = started_part Ended ExprMatch y refl (λ ts m. tt) w o.1
 ended_own ExprWhile y e f w o = block_part Ended ExprWhile y refl f w o.1
+ended_own ExprForLoop y e f w o = block_part Ended ExprForLoop y refl f w o.1
 ended_own ExprLoop y e f w o = block_part Ended ExprLoop y refl f w o.1
 ended_own ExprConst y e f w o = block_part Ended ExprConst y refl f w o.1
 ended_own ExprBlock y e f w o = block_part Ended ExprBlock y refl f w o.1
@@ -145,6 +147,7 @@ unfolding has_right level
 no_right p ExprIf ts e = refl
 no_right p ExprMatch ts e = refl
 no_right p ExprWhile ts e = refl
+no_right p ExprForLoop ts e = refl
 no_right p ExprLoop ts e = refl
 no_right p ExprConst ts e = refl
 no_right p ExprBlock ts e = refl

@@ -6,6 +6,7 @@ pub mod Quiet
 pub mod Semicolons
 pub mod Lesser
 pub mod Closures
+pub mod Loops
 pub mod Blocks
 pub mod Held
 pub mod Owned

@@ -13,7 +13,7 @@ use Rattle.syn_grammar.specs.Kind.{ExprUnary, ExprRawAddr}
 use Rattle.syn_grammar.specs.Kind.{ExprReference, ExprBreak, ExprReturn, ExprYield, ExprRange, ExprRangeClosed}
 use Rattle.syn_grammar.specs.Kind.{ExprAssign, ExprOr, ExprAnd, ExprCompare, ExprBitOr, ExprBitXor, ExprBitAnd}
 use Rattle.syn_grammar.specs.Kind.{ExprShift, ExprSum, ExprProduct, ExprMacro, ExprIf, ExprMatch, ExprWhile}
-use Rattle.syn_grammar.specs.Kind.{ExprAttributed, ExprCast, ExprClosure}
+use Rattle.syn_grammar.specs.Kind.{ExprAttributed, ExprCast, ExprClosure, ExprForLoop}
 use Rattle.syn_grammar.specs.Kind.{ExprArray, ExprAsync, ExprBlock, ExprConst, ExprLet, ExprLoop, ExprRepeat}
 use Rattle.syn_grammar.specs.Tree.{Tree, Alone, Front, Back, Infix, marks, flat}
 use Rattle.syn_grammar.specs.Ranks.{skips}
@@ -175,6 +175,7 @@ before_nothing ExprMacro y e = tt
 before_nothing ExprIf y e = (refl, tt)
 before_nothing ExprMatch y e = tt
 before_nothing ExprWhile y e = tt
+before_nothing ExprForLoop y e = tt
 before_nothing ExprAttributed y e = (refl, tt)
 before_nothing ExprCast y e = (refl, (refl, (refl, (refl, (refl, tt)))))
 before_nothing ExprClosure y e = tt
@@ -397,6 +398,8 @@ form_begins ExprMatch y s e f b =
     among (20 ∷ []) (starts ExprMatch) (starts (Expression Plain)) (flat y ++ s) (refl, tt) b
 form_begins ExprWhile y s e f b =
     among (2 ∷ 10 ∷ []) (starts ExprWhile) (starts (Expression Plain)) (flat y ++ s) (refl, (refl, tt)) b
+form_begins ExprForLoop y s e f b =
+    among (2 ∷ 11 ∷ []) (starts ExprForLoop) (starts (Expression Plain)) (flat y ++ s) (refl, (refl, tt)) b
 form_begins ExprAttributed y s e f b =
     among (0 ∷ []) (starts ExprAttributed) (starts (Expression Plain)) (flat y ++ s) (refl, tt) b
 form_begins ExprClosure y s e f b =

@@ -10,7 +10,7 @@ use Rattle.syn_grammar.specs.Kind.{ExprParen, ExprGroup, ExprInfer, ExprUnsafe}
 use Rattle.syn_grammar.specs.Kind.{ExprTryBlock, ExprCall, ExprIndex, ExprTry, ExprUnary, ExprRawAddr, ExprReference}
 use Rattle.syn_grammar.specs.Kind.{ExprBreak, ExprReturn, ExprYield, ExprRange, ExprRangeClosed, ExprAssign, ExprOr}
 use Rattle.syn_grammar.specs.Kind.{ExprAnd, ExprCompare, ExprBitOr, ExprBitXor, ExprBitAnd, ExprShift, ExprSum}
-use Rattle.syn_grammar.specs.Kind.{ExprProduct, ExprMacro, ExprIf, ExprMatch, ExprWhile, ExprCast}
+use Rattle.syn_grammar.specs.Kind.{ExprProduct, ExprForLoop, ExprMacro, ExprIf, ExprMatch, ExprWhile, ExprCast}
 use Rattle.syn_grammar.specs.Kind.{ExprClosure, ExprTypedClosure, ReturnType, WithPlus}
 use Rattle.syn_grammar.specs.Tree.{Tree, Pair, First, Second, End, Again, Node, Whole, Alone, Front, Back, Infix, flat}
 use Rattle.syn_grammar.specs.Kind.{ExprArray, ExprAsync, ExprBlock, ExprConst, ExprLet, ExprLoop, ExprRepeat}
@@ -138,6 +138,7 @@ form_meant ExprMacro y e f = tt
 form_meant ExprIf y e f = tt
 form_meant ExprMatch y e f = tt
 form_meant ExprWhile y e f = tt
+form_meant ExprForLoop y e f = tt
 form_meant ExprAttributed y e f = tt
 form_meant ExprCast y e f = tt
 form_meant ExprClosure y e f = tt
