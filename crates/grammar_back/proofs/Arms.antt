@@ -303,7 +303,7 @@ is_missing x = false
 
 body_ends : (y z : Tree) → FitsForms z → kept z ≡ formed InArm [] (kept y) → is_block_like y ≡ true
     → is_block_like z ≡ true
-body_ends y z f e h = sym (block_kept z f) ∙ ap is_block_like e ∙ block_read y h
+body_ends y z f e h = sym (block_kept z f) ∙ ap is_block_like e ∙ block_read InArm refl y h
 
 same_end : (y b z c : Tree) (r : List Token) → Derives b arm_comma r → Fits c arm_comma → FitsForms z
     → kept z ≡ formed InArm [] (kept y) → kept c ≡ normal (kept b) → ends_well b (in_arm y) ≡ true

@@ -8,54 +8,84 @@ use Rattle.syn_grammar.specs.Tree.{Tree, Pair, First, Second, Node, Alone, Front
 use Rattle.syn_grammar.specs.Table.{table}
 use Rattle.syn_grammar.specs.Forms.{inside, is_block_like, is_brace_macro, is_range, ends_there, level, within}
 use Rattle.syn_grammar.specs.Kept.{held, kept}
-use Rattle.syn_grammar.specs.Normal.{formed}
-use Rattle.syn_grammar.specs.Parens.{may_lack, parens_unless}
-use Rattle.grammar_back.specs.Covered.{all_covered, has_form_step}
+use Rattle.syn_grammar.specs.Normal.{formed, normal}
+use Rattle.syn_grammar.specs.Parens.{begins_in, front_form, may_lack, parens_unless, with_right}
 use Rattle.grammar_back.proofs.Fits.{Fits, FitsForms}
 
 unlike : false ≡ true → ⊥
 unlike e = cc
 
--- what is held of a form that stands alone, and its normal form
-pub ends_read : (x : Tree) → all_covered x ≡ true → ends_there InStatement x ≡ true
-    → ends_there InStatement (formed InStatement [] (kept x)) ≡ true
-unfolding may_lack held has_form_step
-ends_read (Alone ExprMacro (Node AMacro (Pair p (Pair s (Node Delimited (Second (First g))))))) c e = refl
-ends_read (Alone ExprMacro _) c e = cc
-ends_read (Alone ExprIf y) c e = refl
-ends_read (Alone _ y) c e = cc
-ends_read (Front ExprAttributed y x) c e = cc c
-ends_read (Front _ y x) c e = cc
-ends_read _ c e = cc
-
--- the same in an arm, also behind attributes: it is no range
-not_range : (x : Tree) → is_block_like x ≡ true → (is_range x ≡ false) × (within 15 x ≡ true)
+-- Such a form is no range, also behind attributes,
+block_lone : (x : Tree) → is_block_like x ≡ true → (is_range x ≡ false) × (within 15 x ≡ true)
 unfolding level
-not_range (Alone ExprRange y) e = absurd (unlike e)
-not_range (Alone ExprRangeClosed y) e = absurd (unlike e)
-not_range (Alone _ y) e = (refl, refl)
-not_range (Front ExprAttributed y x) e = ((not_range x e).0, refl)
-not_range (Front _ y x) e = absurd (unlike e)
-not_range (Back l k y) e = absurd (unlike e)
-not_range (Infix l k y r) e = absurd (unlike e)
-not_range _ e = absurd (unlike e)
+block_lone (Alone ExprRange y) e = absurd (unlike e)
+block_lone (Alone ExprRangeClosed y) e = absurd (unlike e)
+block_lone (Alone _ y) e = (refl, refl)
+block_lone (Front ExprAttributed y x) e = ((block_lone x e).0, refl)
+block_lone (Front _ y x) e = absurd (unlike e)
+block_lone (Back l k y) e = absurd (unlike e)
+block_lone (Infix l k y r) e = absurd (unlike e)
+block_lone _ e = absurd (unlike e)
 
-both_stay : (a b : Bool) → a ≡ true → b ≡ false → (a && (true && not b)) ≡ true
-both_stay a b e f = ap (λ c. c && (true && not b)) e ∙ ap not f
+macro_lone : (x : Tree) → is_brace_macro x ≡ true → (is_range x ≡ false) × (within 15 x ≡ true)
+unfolding level
+macro_lone (Alone ExprMacro y) e = (refl, refl)
+macro_lone (Alone _ y) e = absurd (unlike e)
+macro_lone (Front ExprAttributed y x) e = ((macro_lone x e).0, refl)
+macro_lone (Front _ y x) e = absurd (unlike e)
+macro_lone (Back l k y) e = absurd (unlike e)
+macro_lone (Infix l k y r) e = absurd (unlike e)
+macro_lone _ e = absurd (unlike e)
 
-pub block_read : (x : Tree) → is_block_like x ≡ true → is_block_like (formed InArm [] (kept x)) ≡ true
-unfolding may_lack level inside
-block_read (Alone ExprIf y) e = refl
-block_read (Alone _ y) e = cc
-block_read (Front ExprAttributed y x) e =
-    let z : Tree = formed InArm [] (kept x) in
-    let r = block_read x e in
-    let n = not_range z r in
-    ap (λ b. is_block_like (parens_unless b z)) (both_stay (within 15 z) (is_range z) n.1 n.0) ∙ r
-block_read (Front _ y x) e = absurd (unlike e)
-block_read (Back l k y) e = absurd (unlike e)
-block_read (Infix l k y r) e = absurd (unlike e)
-block_read _ e = absurd (unlike e)
+-- so it stays as it stands behind them.
+stays_whole : (p : Position) (y x : Tree) → begins_in p ExprAttributed ≡ true
+    → (is_range x ≡ false) × (within 15 x ≡ true) → front_form p ExprAttributed y x ≡ Front ExprAttributed y x
+unfolding may_lack level
+stays_whole p y x h e =
+    ap (λ b. parens_unless b (Front ExprAttributed y (with_right p ExprAttributed y x))) h
+    ∙ ap (λ b. Front ExprAttributed y (parens_unless b x))
+    (ap (λ b. b && (true && not (is_range x))) e.1 ∙ ap not e.0)
+
+-- what is held of it, and its normal form
+pub block_read : (p : Position) → begins_in p ExprAttributed ≡ true → (x : Tree) → is_block_like x ≡ true
+    → is_block_like (formed p [] (kept x)) ≡ true
+unfolding may_lack inside
+block_read p h (Alone ExprIf y) e = refl
+block_read p h (Alone _ y) e = cc
+block_read p h (Front ExprAttributed y x) e =
+    let z : Tree = formed p [] (kept x) in
+    let r = block_read p h x e in
+    ap is_block_like (stays_whole p (normal (kept y)) z h (block_lone z r)) ∙ r
+block_read p h (Front _ y x) e = absurd (unlike e)
+block_read p h (Back l k y) e = absurd (unlike e)
+block_read p h (Infix l k y r) e = absurd (unlike e)
+block_read p h _ e = absurd (unlike e)
+
+macro_read : (p : Position) → begins_in p ExprAttributed ≡ true → (x : Tree) → is_brace_macro x ≡ true
+    → is_brace_macro (formed p [] (kept x)) ≡ true
+unfolding may_lack held inside
+macro_read p h (Alone ExprMacro (Node AMacro (Pair a (Pair s (Node Delimited (Second (First g))))))) e = refl
+macro_read p h (Alone ExprMacro _) e = cc
+macro_read p h (Alone _ y) e = absurd (unlike e)
+macro_read p h (Front ExprAttributed y x) e =
+    let z : Tree = formed p [] (kept x) in
+    let r = macro_read p h x e in
+    ap is_brace_macro (stays_whole p (normal (kept y)) z h (macro_lone z r)) ∙ r
+macro_read p h (Front _ y x) e = absurd (unlike e)
+macro_read p h (Back l k y) e = absurd (unlike e)
+macro_read p h (Infix l k y r) e = absurd (unlike e)
+macro_read p h _ e = absurd (unlike e)
+
+either : (a b c d : Bool) → (a ≡ true → c ≡ true) → (b ≡ true → d ≡ true) → (a || b) ≡ true → (c || d) ≡ true
+either true b c d f g e = ap (λ i. i || d) (f refl)
+either false b true d f g e = refl
+either false b false d f g e = g e
+
+pub ends_read : (x : Tree) → ends_there InStatement x ≡ true
+    → ends_there InStatement (formed InStatement [] (kept x)) ≡ true
+ends_read x e =
+    either (is_block_like x) (is_brace_macro x) (is_block_like (formed InStatement [] (kept x)))
+    (is_brace_macro (formed InStatement [] (kept x))) (block_read InStatement refl x) (macro_read InStatement refl x) e
 
 -- a form that ends there
 pub block_kept : (x : Tree) → FitsForms x → is_block_like (kept x) ≡ is_block_like x

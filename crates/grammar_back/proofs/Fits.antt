@@ -37,7 +37,7 @@ use Rattle.syn_grammar.specs.Part.{choice, has}
 use Rattle.syn_grammar.specs.Normal.{stands_behind, formed}
 use Rattle.grammar_back.specs.After.{is_any_path, is_generic, is_open}
 use Rattle.grammar_back.specs.Covered.{front, inner, has_clear_type, has_plain_path, is_lone, has_lone_value, is_known}
-use Rattle.grammar_back.specs.Covered.{is_form, is_statement_form, is_no_macro, is_plain_macro}
+use Rattle.grammar_back.specs.Covered.{is_form, is_plain_part, is_statement_form, is_no_macro, is_plain_macro}
 use Rattle.grammar_back.specs.Covered.{item_of}
 
 -- the test can say so
@@ -314,10 +314,17 @@ MayLack k = has_right Plain k [] ≡ false
 abbrev pub MayHave : Kind → Type 0
 MayHave k = has_right Plain k (Opens Parenthesis ∷ []) ≡ true
 
--- the forms are of kinds that have the operands that they have here; before the braces of a struct stands a path
+-- attributes stand together
+abbrev pub are_together : Kind → Tree → Bool
+are_together ExprAttributed (Front ExprAttributed y x) = false
+are_together k x = true
+
+-- The forms are of kinds that have the operands that they have here; no for stands before a closure; before the braces
+-- of a struct stands a path.
 abbrev pub HasOperands : Tree → Type 0
-HasOperands (Alone k y) = IsFrontKind k × MayLack k
-HasOperands (Front k y x) = IsFrontKind k × MayHave k × HasOperands x
+HasOperands (Alone k y) = IsFrontKind k × MayLack k × (is_plain_part k y ≡ true)
+HasOperands (Front k y x) =
+    IsFrontKind k × MayHave k × HasOperands x × (is_plain_part k y ≡ true) × (are_together k x ≡ true)
 HasOperands (Back l k y) = IsBackKind k × MayLack k × HasOperands l × (is_struct k ≡ true → is_path_form l ≡ true)
 HasOperands (Infix l k y r) = IsBackKind k × MayHave k × HasOperands l × HasOperands r
 HasOperands _ = ⊥

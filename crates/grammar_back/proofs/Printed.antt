@@ -15,15 +15,16 @@ use Rattle.syn_grammar.specs.Table.{table}
 use Rattle.syn_grammar.specs.Derives.{Derives, Bound}
 use Rattle.syn_grammar.specs.Kept.{held, forget, kept}
 use Rattle.syn_grammar.specs.Tidy.{tidy}
-use Rattle.syn_grammar.specs.Normal.{place_of, passed, private, apart_item, apart_if, is_enclosed, normal_in}
+use Rattle.syn_grammar.specs.Normal.{place_of, passed, private, apart_item, apart_if, is_enclosed, normal, normal_in}
+use Rattle.syn_grammar.specs.Parens.{is_attributed_range}
 use Rattle.item_laws.proofs.Places.{kept_raw}
 use Rattle.syn_grammar.specs.Look.{sees}
 use Rattle.syn_grammar.specs.Say.{brace}
 use Rattle.grammar_back.proofs.Choices.{both_true, is_false}
 use Rattle.grammar_back.proofs.Conditions.{all_braced, begins_in_braces, brace_stands, condition_ends}
 use Rattle.grammar_back.proofs.Conditions.{ends_in_condition, is_braced, is_condition, is_condition_kind}
-use Rattle.grammar_back.specs.Covered.{has_step, has_form_step, is_known, is_form, is_taken, is_taken_part}
-use Rattle.grammar_back.specs.Covered.{all_covered}
+use Rattle.grammar_back.specs.Covered.{has_step, has_form_step, is_known, is_form, is_plain_part, is_taken}
+use Rattle.grammar_back.specs.Covered.{all_covered, is_taken_part}
 use Rattle.grammar_back.proofs.Fits.{Fits, FitsRaw, IsMeant}
 
 pub record Printed (g : Gram) (z : Tree) : Type 0 where
@@ -243,11 +244,14 @@ module _ (laws : (k : Kind) → is_known k ≡ true → KindLaw k) (whole : Whol
 
     own_printed : (x : Tree) (p : Position) (r : List Token) → Bound p x r → all_covered x ≡ true → OwnPrinted x
     own_printed (Alone k y) p r d c =
-        let h = both_true (is_form k) (all_covered y) c in
-        printed y (table k) r Plain (own_law k h.0) (all_braced k) (form_braced k r h.0) d.1 h.1
+        let h = both_true (is_form k) (is_plain_part k (normal (kept y)) && all_covered y) c in
+        printed y (table k) r Plain (own_law k h.0) (all_braced k) (form_braced k r h.0) d.1
+        (both_true (is_plain_part k (normal (kept y))) (all_covered y) h.1).1
     own_printed (Front k y x) p r d c =
-        let h = both_true (is_form k) (all_covered y && all_covered x) c in
-        let i = both_true (all_covered y) (all_covered x) h.1 in (
+        let h = both_true (is_form k) _ c in
+        let m = both_true (not (is_attributed_range k x)) _ h.1 in
+        let e = both_true (is_plain_part k (normal (kept y))) (all_covered y && all_covered x) m.1 in
+        let i = both_true (all_covered y) (all_covered x) e.1 in (
           printed y (table k) (flat x ++ r) Plain (own_law k h.0) (all_braced k) (form_braced k (flat x ++ r) h.0) d.1
               i.0,
           own_printed x (inside p k) r d.4 i.1,

@@ -505,7 +505,6 @@ record Opened (t u : Tree) : Type 0 where
   source_is : t ≡ open_turn source
   made_is : u ≡ open_turn made
   fits : Fits (Whole made) (table (Expression InStatement))
-  covered : all_covered source ≡ true
   same : kept made ≡ formed InStatement [] (kept source)
 
 same_form : (b : Bool) (q : Position) (x y : Tree)
@@ -528,13 +527,6 @@ taken x l e c =
     (both_true (is_statement_form x) (all_covered x)
     (both_true (is_known AStatement) (is_statement_form x && all_covered x)
     (subst (λ j. all_covered (Second (Node j x)) ≡ true) e c)).1).0
-
-open_covered : (x : Tree) → all_covered (open_turn x) ≡ true → all_covered x ≡ true
-unfolding has_step has_form_step
-open_covered x c =
-    (both_true (all_covered x) true
-    (both_true (is_statement_form (at_expression (Node (Expression InStatement) (Whole x)) (Second Nil)))
-    (all_covered x && true) c).1).0
 
 open_held : (l k : Kind) (x w : Tree) (q : Position) (b : Bool) → l ≡ AStatement → Fits (Second (Node k w)) a_turn
     → kept (Second (Node k w)) ≡ apart_if b (normal_in q (kept (Second (Node l x)))) → is_open w ≡ true
@@ -570,7 +562,6 @@ opened (Second (Node l x)) (Second (Node k w)) q b r c d f e o =
       source_is = t;
       made_is = u;
       fits = p.fits;
-      covered = open_covered i.form (subst (λ z. all_covered z ≡ true) t c);
       same = same_form b q i.form p.form
           (subst (λ z. kept (open_turn p.form) ≡ apart_if b (normal_in q (kept (Second (Node AStatement z))))) i.is g);
     }
@@ -639,7 +630,7 @@ turn_needs t (Second (Node k w)) q b r c d f e n = go (is_open w) refl
         (sym (open_needs a.source) ∙ ap (λ z. needs_semicolon (choice z)) (sym a.source_is) ∙ n) in
         ap (λ z. needs_semicolon (choice z)) a.made_is ∙ open_needs a.made
         ∙ ap not (ends_back InStatement a.made a.fits.2
-        (ap (ends_there InStatement) a.same ∙ ends_read a.source a.covered h))
+        (ap (ends_there InStatement) a.same ∙ ends_read a.source h))
 turn_needs t (Second _) q b r c d f e n = absurd f.1
 turn_needs t _ q b r c d f e n = absurd f
 

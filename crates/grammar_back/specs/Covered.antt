@@ -36,7 +36,8 @@ use Rattle.syn_grammar.specs.Tree.{Node, Whole, Alone, Front, Back, Infix, flat}
 use Rattle.syn_grammar.specs.Words.{is_among, is_ident, same_text}
 use Rattle.syn_grammar.specs.Look.{sees}
 use Rattle.syn_grammar.specs.Say.{marks}
-use Rattle.syn_grammar.specs.Normal.{normal_in}
+use Rattle.syn_grammar.specs.Normal.{normal, normal_in}
+use Rattle.syn_grammar.specs.Parens.{is_attributed_range}
 use Rattle.proc_macro2.specs.Token.{Ident}
 use Rattle.syn_grammar.specs.Tree.{End}
 use Rattle.syn_grammar.specs.Kind.{InStatement}
@@ -254,6 +255,7 @@ has_form_step ExprPath = true
 has_form_step ExprMacro = true
 has_form_step ExprCast = true
 has_form_step ExprContinue = true
+has_form_step ExprTypedClosure = true
 has_form_step ExprStruct = true
 has_form_step ExprParen = true
 has_form_step ExprArray = true
@@ -276,6 +278,7 @@ has_form_step ExprField = true
 has_form_step ExprAwait = true
 has_form_step ExprIndex = true
 has_form_step ExprTry = true
+has_form_step ExprAttributed = true
 has_form_step ExprUnary = true
 has_form_step ExprRawAddr = true
 has_form_step ExprReference = true
@@ -283,6 +286,7 @@ has_form_step ExprLet = true
 has_form_step ExprBreak = true
 has_form_step ExprReturn = true
 has_form_step ExprYield = true
+has_form_step ExprClosure = true
 has_form_step ExprRange = true
 has_form_step ExprRangeClosed = true
 has_form_step ExprAssign = true
@@ -427,15 +431,17 @@ is_plain_start (Ident cs ∷ ts) =
 is_plain_start (Punct c spacing ∷ ts) = not (c == 35)
 is_plain_start (t ∷ ts) = true
 
--- It begins with no macro's call in braces.
-abbrev pub begins_in_call : Tree → Bool
-begins_in_call (Back l k y) = begins_in_call l
-begins_in_call (Infix l k y r) = begins_in_call l
-begins_in_call (Alone ExprMacro (Node AMacro (Pair p (Pair s (Node Delimited (Second (First g))))))) = true
-begins_in_call _ = false
+-- It begins with a macro's call in braces, or with a closure.
+abbrev pub begins_in_call_or_closure : Tree → Bool
+begins_in_call_or_closure (Back l k y) = begins_in_call_or_closure l
+begins_in_call_or_closure (Infix l k y r) = begins_in_call_or_closure l
+begins_in_call_or_closure (Front ExprClosure y x) = true
+begins_in_call_or_closure (Alone ExprTypedClosure y) = true
+begins_in_call_or_closure (Alone ExprMacro (Node AMacro (Pair p (Pair s (Node Delimited (Second (First g))))))) = true
+begins_in_call_or_closure _ = false
 
 abbrev pub is_plain_expression : Tree → Bool
-is_plain_expression (Node k (Whole x)) = is_plain_start (flat x) && not (begins_in_call x)
+is_plain_expression (Node k (Whole x)) = is_plain_start (flat x) && not (begins_in_call_or_closure x)
 is_plain_expression _ = false
 
 -- Nothing stands in front.
@@ -474,7 +480,16 @@ is_taken ATraitItem x = is_plain_macro (choice (item_of x))
 is_taken AnImplItem x = is_plain_macro (choice (item_of x))
 is_taken k x = true
 
--- All that a tree holds is covered.
+-- of a form's own part, in normal form: no for stands before a closure, since with attributes behind the < it would be
+-- none; and behind one with a type -> begins it, as it does wherever such a form was read
+abbrev pub is_plain_part : Kind → Tree → Bool
+is_plain_part ExprClosure (Pair (Second b) y) = true
+is_plain_part ExprClosure y = false
+is_plain_part ExprTypedClosure (Pair (Pair (Second b) y) (Pair r z)) = sees (marks "->") (flat r)
+is_plain_part ExprTypedClosure y = false
+is_plain_part k y = true
+
+-- All that a tree holds is covered, and no range stands behind attributes: it would be put in parentheses.
 abbrev pub all_covered : Tree → Bool
 all_covered (Pair x y) = all_covered x && all_covered y
 all_covered (First x) = all_covered x
@@ -488,8 +503,10 @@ all_covered (Called n x) = is_taken_part n && all_covered x
 all_covered (Verbatim x) = true
 all_covered (Node k x) = is_known k && (is_taken k x && all_covered x)
 all_covered (Whole x) = all_covered x
-all_covered (Alone k y) = is_form k && all_covered y
-all_covered (Front k y x) = is_form k && (all_covered y && all_covered x)
+all_covered (Alone k y) = is_form k && (is_plain_part k (normal (kept y)) && all_covered y)
+all_covered (Front k y x) =
+    is_form k && (not (is_attributed_range k x)
+    && (is_plain_part k (normal (kept y)) && (all_covered y && all_covered x)))
 all_covered (Back l k y) = is_form k && (all_covered l && all_covered y)
 all_covered (Infix l k y r) = is_form k && (all_covered y && (all_covered l && all_covered r))
 all_covered _ = true

@@ -34,7 +34,7 @@ use Rattle.expressions_back.specs.Formed.{IsFront}
 use Rattle.expressions_back.proofs.Bools.{or_parts}
 use Rattle.grammar_back.proofs.Fits.{Fits}
 use Rattle.grammar_back.proofs.Readies.{OwnReady}
-use Rattle.read_back.specs.Parts.{is_plain_part}
+use Rattle.grammar_back.specs.Covered.{is_plain_part}
 use Rattle.read_back.proofs.Lesser.{if_same}
 use Rattle.read_back.proofs.Quiet.{IsQuiet, quiet}
 

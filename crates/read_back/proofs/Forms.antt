@@ -35,7 +35,7 @@ use Rattle.read_back.proofs.Statements.{step_a_statement}
 use Rattle.read_back.proofs.Settled.{settles}
 use Rattle.read_back.specs.Parts.{has_part}
 use Rattle.read_back.proofs.Operands.{HasOperandsOf, operands_of}
-use Rattle.read_back.proofs.Wholes.{form_part, whole}
+use Rattle.read_back.proofs.Wholes.{whole}
 
 pub read_formed : (p : Position) (x : Tree) (s : List Token) → IsFormed p x → FitsForms x → HasOperandsOf has_part x
     → Ready x → MayFollow p s → Derives (Whole x) (operand p 0) s
@@ -109,7 +109,7 @@ begins_in_place InStatement x s d i =
 step : (p : Position) → Step (Expression p)
 unfolding table skips
 step p (Whole x) s f m w a =
-    let o = operands_of has_part form_part x f.3 in
+    let o = operands_of x f.3 in
     let d = read_after p x s f.1 f.2 o w a in
     (d, begins_in_place p x s d.1 (begins x o w s))
 step p _ s f m w a = absurd f

@@ -1,16 +1,16 @@
 -- The forms of an expression are of kinds that pass, and have the operands that they have here.
-use Rattle.std.proofs.Common.{◌≡◌, List, refl}
+use Rattle.std.proofs.Common.{◌≡◌, List, refl, sym}
 use Rattle.std.specs.Prelude.{Bool, true, false, ◌&&◌, Some}
 use Rattle.proc_macro2.specs.Token.{Token}
-use Rattle.syn_grammar.specs.Kind.{Kind, Position, ExprAttributed, ExprClosure, ExprTypedClosure}
+use Rattle.syn_grammar.specs.Kind.{Kind, Position, ExprAttributed}
 use Rattle.syn_grammar.specs.Tree.{Tree, Alone, Front, Back, Infix}
 use Rattle.syn_grammar.specs.Forms.{front, back, is_path_form}
 use Rattle.syn_grammar.specs.Parens.{is_struct}
 use Rattle.expressions_back.specs.Behind.{is_attributed}
 use Rattle.expressions_back.specs.Formed.{is_attributed_form}
-use Rattle.grammar_back.specs.Covered.{has_form_step, is_form}
-use Rattle.read_back.specs.Parts.{is_plain_part}
-use Rattle.grammar_back.proofs.Fits.{HasOperands, MayLack, MayHave}
+use Rattle.expressions_back.proofs.Bools.{never}
+use Rattle.grammar_back.specs.Covered.{is_form, is_plain_part}
+use Rattle.grammar_back.proofs.Fits.{HasOperands, MayLack, MayHave, are_together}
 
 abbrev pub IsFrontOf : (Kind → Bool) → Kind → Type 0
 IsFrontOf passes k = (passes k ≡ true) × (p : Position) × (ts : List Token) × (front p ts ≡ Some k)
@@ -29,31 +29,29 @@ HasOperandsOf passes (Infix l k y r) =
     IsBackOf passes k × MayHave k × HasOperandsOf passes l × HasOperandsOf passes r
 HasOperandsOf passes x = ⊥
 
--- Those that `grammar_back` asks for are so, and are of more kinds.
+-- So `grammar_back` has them.
+apart : (k : Kind) (x : Tree) → (is_attributed k && is_attributed_form x) ≡ false → are_together k x ≡ true
+apart ExprAttributed (Front ExprAttributed y x) e = absurd (never (sym e))
+apart ExprAttributed (Front _ y x) e = refl
+apart ExprAttributed _ e = refl
+apart _ x e = refl
+
+together : (k : Kind) (x : Tree) → are_together k x ≡ true → (is_attributed k && is_attributed_form x) ≡ false
+together ExprAttributed (Front ExprAttributed y x) e = absurd (never e)
+together ExprAttributed (Front _ y x) e = refl
+together ExprAttributed _ e = refl
+together _ x e = refl
+
 pub operands_are : (x : Tree) → HasOperandsOf is_form x → HasOperands x
-operands_are (Alone k y) o = (o.0, o.1)
-operands_are (Front k y x) o = (o.0, o.1, operands_are x o.3)
+operands_are (Alone k y) o = o
+operands_are (Front k y x) o = (o.0, o.1, operands_are x o.3, o.4, apart k x o.2)
 operands_are (Back l k y) o = (o.0, o.1, operands_are l o.2, o.3)
 operands_are (Infix l k y r) o = (o.0, o.1, operands_are l o.2, operands_are r o.3)
 operands_are _ o = absurd o
 
-none_attributed : (k : Kind) (x : Tree) → is_form k ≡ true → (is_attributed k && is_attributed_form x) ≡ false
-unfolding has_form_step
-none_attributed ExprAttributed x e = cc
-none_attributed _ x e = refl
-
-pub plain_part : (k : Kind) (y : Tree) → is_form k ≡ true → is_plain_part k y ≡ true
-unfolding has_form_step
-plain_part ExprClosure y e = cc
-plain_part ExprTypedClosure y e = cc
-plain_part _ y e = refl
-
-module _ (passes : Kind → Bool) (more : (k : Kind) → is_form k ≡ true → passes k ≡ true) where
-  pub operands_of : (x : Tree) → HasOperands x → HasOperandsOf passes x
-  operands_of (Alone k y) o = ((more k o.0.0, o.0.1, o.0.2, o.0.3), o.1, plain_part k y o.0.0)
-  operands_of (Front k y x) o =
-      ((more k o.0.0, o.0.1, o.0.2, o.0.3), o.1, none_attributed k x o.0.0, operands_of x o.2, plain_part k y o.0.0)
-  operands_of (Back l k y) o =
-      ((more k o.0.0, o.0.1, o.0.2, o.0.3), o.1, operands_of l o.2, o.3)
-  operands_of (Infix l k y r) o = ((more k o.0.0, o.0.1, o.0.2, o.0.3), o.1, operands_of l o.2, operands_of r o.3)
-  operands_of _ o = absurd o
+pub operands_of : (x : Tree) → HasOperands x → HasOperandsOf is_form x
+operands_of (Alone k y) o = o
+operands_of (Front k y x) o = (o.0, o.1, together k x o.4, operands_of x o.2, o.3)
+operands_of (Back l k y) o = (o.0, o.1, operands_of l o.2, o.3)
+operands_of (Infix l k y r) o = (o.0, o.1, operands_of l o.2, operands_of r o.3)
+operands_of _ o = absurd o

@@ -35,7 +35,7 @@ use Rattle.expressions_back.proofs.Opened.{fixed_right}
 use Rattle.expressions_back.proofs.Owns.{behind_part}
 use Rattle.expressions_back.proofs.Simples.{end_front, prefix_front, behind_plain}
 use Rattle.grammar_back.specs.After.{After}
-use Rattle.grammar_back.specs.Covered.{has_form_step}
+use Rattle.grammar_back.specs.Covered.{has_form_step, is_plain_part}
 use Rattle.grammar_back.proofs.Begins.{Begins}
 use Rattle.grammar_back.proofs.Classes.{Class, Sign, TheWord, AnyWord, Quoted, Tick, Opening, Then, IsAt, IsAmong}
 use Rattle.grammar_back.proofs.Classes.{RawFront, of_all}
@@ -45,7 +45,7 @@ use Rattle.grammar_back.proofs.Fits.{flat_kept}
 use Rattle.grammar_back.proofs.Readies.{OwnReady, Ready}
 use Rattle.grammar_back.proofs.Starts.{starts}
 use Rattle.syn_grammar.specs.Kind.{ExprTypedClosure}
-use Rattle.read_back.specs.Parts.{is_plain_part, has_part}
+use Rattle.read_back.specs.Parts.{has_part}
 use Rattle.read_back.proofs.Casts.{cast_part}
 use Rattle.read_back.proofs.Closures.{closure_part, typed_part}
 use Rattle.read_back.proofs.Blocks.{block_part, is_block}

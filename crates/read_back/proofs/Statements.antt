@@ -26,7 +26,7 @@ use Rattle.syn_grammar.specs.Derives.{Bound, Derives}
 use Rattle.syn_grammar.specs.Kept.{held, kept}
 use Rattle.syn_grammar.specs.Normal.{normal_in, passed, stands_behind}
 use Rattle.grammar_back.specs.After.{After}
-use Rattle.grammar_back.specs.Covered.{begins_in_call, has_form_step, is_form, is_plain_expression}
+use Rattle.grammar_back.specs.Covered.{begins_in_call_or_closure, is_plain_expression}
 use Rattle.grammar_back.specs.Covered.{is_plain_start, soft_words}
 use Rattle.grammar_back.proofs.Choices.{both_true, is_false}
 use Rattle.grammar_back.proofs.Classes.{IsAmong, among_right, of_all, ◌&◌}
@@ -57,32 +57,37 @@ Begun us =
     × (sees item_stands us ≡ false)
 
 -- the form that begins there
+abbrev is_closure : Kind → Bool
+is_closure ExprClosure = true
+is_closure ExprTypedClosure = true
+is_closure k = false
+
 record Start (k : Kind) (us : List Token) : Type 0 where
-  form : is_form k ≡ true
+  other : is_closure k ≡ false
   fronts : front InStatement us ≡ Some k
   plain : is_plain_start us ≡ true
   unsafe : k ≡ ExprUnsafe → (vs : List Token) × (us ≡ Ident (codes "unsafe") ∷ Opens Brace ∷ vs)
   call : k ≡ ExprMacro → NoCall us
 
 -- no closure does
-abbrev is_form_there : Option Kind → Bool
-is_form_there (Some k) = is_form k
-is_form_there None = false
+abbrev is_closure_there : Option Kind → Bool
+is_closure_there (Some k) = is_closure k
+is_closure_there None = false
 
-closure_not : (b : Bool) (k : Kind) → is_form k ≡ true → cond b (Some ExprTypedClosure) (Some ExprClosure) ≡ Some k → ⊥
-unfolding has_form_step
-closure_not true k h e = contrary (ap is_form_there e ∙ h)
-closure_not false k h e = contrary (ap is_form_there e ∙ h)
+closure_not : (b : Bool) (k : Kind) → is_closure k ≡ false → cond b (Some ExprTypedClosure) (Some ExprClosure) ≡ Some k
+    → ⊥
+closure_not true k h e = contrary (sym h ∙ sym (ap is_closure_there e))
+closure_not false k h e = contrary (sym h ∙ sym (ap is_closure_there e))
 
 no_static : (us : List Token) (k : Kind) → Start k (Ident (codes "static") ∷ us) → ⊥
 unfolding front is_bool
-no_static us k h = closure_not (seen (typed_closure_stands (Ident (codes "static") ∷ us))) k h.form h.fronts
+no_static us k h = closure_not (seen (typed_closure_stands (Ident (codes "static") ∷ us))) k h.other h.fronts
 
 at_const : (us : List Token) (k : Kind) → Start k (Ident (codes "const") ∷ us) → Begun (Ident (codes "const") ∷ us)
 unfolding front is_bool is_name is_path_keyword is_reserved
 at_const (Opens Brace ∷ vs) k h = (refl, refl, refl, refl)
 at_const us k h =
-    absurd (closure_not (seen (typed_closure_stands (Ident (codes "const") ∷ us))) k h.form h.fronts)
+    absurd (closure_not (seen (typed_closure_stands (Ident (codes "const") ∷ us))) k h.other h.fronts)
 
 async_front : (cs : List ℕ) (us : List Token) → same_text (codes "move") cs ≡ false
     → front InStatement (Ident (codes "async") ∷ Ident cs ∷ us)
@@ -100,7 +105,7 @@ at_async (Ident cs ∷ us) k h = go (same_text (codes "move") cs) refl
         subst (λ v. Begun (Ident (codes "async") ∷ Ident v ∷ us)) ((bytes_eq-Decides (codes "move") cs).0 i)
         (refl, refl, refl, refl)
     go false i =
-        absurd (closure_not (seen (typed_closure_stands (Ident (codes "async") ∷ Ident cs ∷ us))) k h.form
+        absurd (closure_not (seen (typed_closure_stands (Ident (codes "async") ∷ Ident cs ∷ us))) k h.other
         (sym (async_front cs us i) ∙ h.fronts))
 at_async _ k h = (refl, refl, refl, refl)
 
@@ -298,7 +303,7 @@ Ends d =
     (ts : List Token) → (seen (item_name (flat d ++ ts)) ≡ false) × (seen (group_behind (flat d ++ ts)) ≡ false)
 
 delimited_ends : (p b d : Tree) → Fits d (table Delimited)
-    → begins_in_call (Alone ExprMacro (Node AMacro (Pair p (Pair b (Node Delimited d))))) ≡ false → Ends d
+    → begins_in_call_or_closure (Alone ExprMacro (Node AMacro (Pair p (Pair b (Node Delimited d))))) ≡ false → Ends d
 unfolding table
 delimited_ends p b (First (Group e x)) f n =
     subst (λ c. Ends (First (Group c x))) (sym f.1.0) (λ ts. (refl, refl))
@@ -310,25 +315,28 @@ delimited_ends p b (Second (Second _)) f n = absurd f.1.1
 delimited_ends p b (Second _) f n = absurd f.1
 delimited_ends p b _ f n = absurd f
 
-macro_ends : (x : Tree) → Fits x (table AMacro) → begins_in_call (Alone ExprMacro (Node AMacro x)) ≡ false
+macro_ends : (x : Tree) → Fits x (table AMacro) → begins_in_call_or_closure (Alone ExprMacro (Node AMacro x)) ≡ false
     → Ends (delimited_in (Node AMacro x))
 unfolding table
 macro_ends (Pair p (Pair b (Node j d))) f n =
     delimited_ends p b d (subst (λ i. Fits d (table i)) f.1.1.0 f.1.1.3)
-    (subst (λ i. begins_in_call (Alone ExprMacro (Node AMacro (Pair p (Pair b (Node i d))))) ≡ false) f.1.1.0 n)
+    (subst (λ i. begins_in_call_or_closure (Alone ExprMacro (Node AMacro (Pair p (Pair b (Node i d))))) ≡ false)
+    f.1.1.0 n)
 macro_ends (Pair p (Pair b _)) f n = absurd f.1.1
 macro_ends (Pair p _) f n = absurd f.1
 macro_ends _ f n = absurd f
 
-call_ends : (y : Tree) → Fits y (table ExprMacro) → begins_in_call (Alone ExprMacro y) ≡ false → Ends (delimited_in y)
+call_ends : (y : Tree) → Fits y (table ExprMacro) → begins_in_call_or_closure (Alone ExprMacro y) ≡ false
+    → Ends (delimited_in y)
 unfolding table
 call_ends (Node k x) f n =
     subst (λ i. Ends (delimited_in (Node i x))) (sym f.0)
     (macro_ends x (subst (λ i. Fits x (table i)) f.0 f.3)
-    (subst (λ i. begins_in_call (Alone ExprMacro (Node i x)) ≡ false) f.0 n))
+    (subst (λ i. begins_in_call_or_closure (Alone ExprMacro (Node i x)) ≡ false) f.0 n))
 call_ends _ f n = absurd f
 
-call_there : (y : Tree) (rest us : List Token) → Fits y (table ExprMacro) → begins_in_call (Alone ExprMacro y) ≡ false
+call_there : (y : Tree) (rest us : List Token) → Fits y (table ExprMacro)
+    → begins_in_call_or_closure (Alone ExprMacro y) ≡ false
     → flat y ++ rest ≡ us → NoCall us
 call_there y rest us f n e =
     let i = call_ends y f n rest in
@@ -342,17 +350,31 @@ record Leads (us : List Token) : Type 0 where
   kind : Kind
   start : Start kind us
 
+alone_other : (k : Kind) (y : Tree) (ts : List Token) → has_right InStatement k ts ≡ false
+    → begins_in_call_or_closure (Alone k y) ≡ false → is_closure k ≡ false
+unfolding has_right level
+alone_other ExprClosure y ts h n = absurd (contrary (sym h))
+alone_other ExprTypedClosure y ts h n = absurd (contrary (sym n))
+alone_other _ y ts h n = refl
+
+front_other : (k : Kind) (y x : Tree) (ts : List Token) → has_right InStatement k ts ≡ true
+    → begins_in_call_or_closure (Front k y x) ≡ false → is_closure k ≡ false
+unfolding has_right level
+front_other ExprClosure y x ts h n = absurd (contrary (sym n))
+front_other ExprTypedClosure y x ts h n = absurd (contrary h)
+front_other _ y x ts h n = refl
+
 leads : (x : Tree) (rest us : List Token) → flat x ++ rest ≡ us → Bound InStatement x rest → FitsForms x
-    → HasOperands x → begins_in_call x ≡ false → is_plain_start us ≡ true → Leads us
+    → HasOperands x → begins_in_call_or_closure x ≡ false → is_plain_start us ≡ true → Leads us
 leads (Alone k y) rest us e d f o n p = record {
   kind = k;
   start = record {
-    form = o.0.0;
+    other = alone_other k y rest d.2 n;
     fronts = ap (front InStatement) (sym e) ∙ d.0;
     plain = p;
     unsafe = λ i. unsafe_there y rest us (subst (λ j. Fits y (table j)) i f.1) e;
     call = λ i. call_there y rest us (subst (λ j. Fits y (table j)) i f.1)
-        (subst (λ j. begins_in_call (Alone j y) ≡ false) i n) e;
+        (subst (λ j. begins_in_call_or_closure (Alone j y) ≡ false) i n) e;
   };
 }
 leads (Front k y x) rest us e d f o n p =
@@ -360,7 +382,7 @@ leads (Front k y x) rest us e d f o n p =
     record {
       kind = k;
       start = record {
-        form = o.0.0;
+        other = front_other k y x (flat x ++ rest) d.2 n;
         fronts = ap (front InStatement) (sym g) ∙ d.0;
         plain = p;
         unsafe = λ i. unsafe_there y (flat x ++ rest) us (subst (λ j. Fits y (table j)) i f.1) g;
@@ -376,18 +398,21 @@ leads (Infix l k y r) rest us e d f o n p =
 leads _ rest us e d f o n p = absurd d
 
 -- what is held of it is in normal form
-call_kept : (x : Tree) → FitsForms x → begins_in_call x ≡ true → begins_in_call (kept x) ≡ true
+call_kept : (x : Tree) → FitsForms x → begins_in_call_or_closure x ≡ true → begins_in_call_or_closure (kept x) ≡ true
 unfolding held
 call_kept (Alone ExprMacro (Node AMacro (Pair p (Pair s (Node Delimited (Second (First g))))))) f e = refl
+call_kept (Alone ExprTypedClosure y) f e = refl
 call_kept (Alone _ y) f e = cc
-call_kept (Back l k y) f e = ap begins_in_call (f.3 (kept l)) ∙ call_kept l f.4 e
+call_kept (Front ExprClosure y x) f e = refl
+call_kept (Front _ y x) f e = absurd (contrary e)
+call_kept (Back l k y) f e = ap begins_in_call_or_closure (f.3 (kept l)) ∙ call_kept l f.4 e
 call_kept (Infix l k y r) f e = call_kept l f.3 e
 call_kept _ f e = cc
 
-no_call : (x : Tree) → FitsForms x → begins_in_call (kept x) ≡ false → begins_in_call x ≡ false
-no_call x f e = go (begins_in_call x) refl
+no_call : (x : Tree) → FitsForms x → begins_in_call_or_closure (kept x) ≡ false → begins_in_call_or_closure x ≡ false
+no_call x f e = go (begins_in_call_or_closure x) refl
   where
-    go : (b : Bool) → begins_in_call x ≡ b → begins_in_call x ≡ false
+    go : (b : Bool) → begins_in_call_or_closure x ≡ b → begins_in_call_or_closure x ≡ false
     go true i = absurd (contrary (sym e ∙ call_kept x f i))
     go false i = i
 
@@ -448,13 +473,13 @@ begins : (x : Tree) (ts : List Token) → Fits (Whole x) (table (Expression InSt
     → Begins (flat x ++ ts)
 unfolding table passed stands_behind
 begins x ts f p d i =
-    let q : (is_plain_start (flat (kept x)) && not (begins_in_call (kept x))) ≡ true =
-    subst (λ z. (is_plain_start (flat z) && not (begins_in_call z)) ≡ true) f.1 p in
-    let r = both_true (is_plain_start (flat (kept x))) (not (begins_in_call (kept x))) q in
+    let q : (is_plain_start (flat (kept x)) && not (begins_in_call_or_closure (kept x))) ≡ true =
+    subst (λ z. (is_plain_start (flat z) && not (begins_in_call_or_closure z)) ≡ true) f.1 p in
+    let r = both_true (is_plain_start (flat (kept x))) (not (begins_in_call_or_closure (kept x))) q in
     let s : is_plain_start (flat x ++ ts) ≡ true =
     plain_more (flat x) ts (subst (λ us. is_plain_start us ≡ true) (flat_forms x f.2) r.0) in
     let l = leads x ts (flat x ++ ts) refl d.1 f.2 f.3
-    (no_call x f.2 (is_false (begins_in_call (kept x)) r.1)) s in
+    (no_call x f.2 (is_false (begins_in_call_or_closure (kept x)) r.1)) s in
     record { seen = begun_there (flat x ++ ts) l.kind i l.start; bare = no_hash (flat x ++ ts) s }
 
 -- its ;

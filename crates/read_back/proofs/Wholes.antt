@@ -1,6 +1,6 @@
 -- An expression that was read is printed where the own parts of its forms are.
 use Rattle.std.proofs.Common.{◌≡◌, List, [], ◌∷◌, ◌++◌, refl, sym, ap, ◌∙◌, subst, append_assoc}
-use Rattle.std.specs.Prelude.{Bool, true, false, not, ◌&&◌, ◌||◌, cond, Some}
+use Rattle.std.specs.Prelude.{Bool, true, false, not, ◌&&◌, cond, Some}
 use Rattle.proc_macro2.specs.Token.{Token, Opens}
 use Rattle.proc_macro2.specs.declared.delimiter.Delimiter.TheVariants.{Parenthesis}
 use Rattle.syn_grammar.specs.Kind.{Kind, Position, Plain, InCondition, ExprField}
@@ -36,42 +36,26 @@ use Rattle.binding_laws.proofs.Begun.{first_passes}
 use Rattle.binding_laws.proofs.Levels.{not_true}
 use Rattle.expressions_back.proofs.Opened.{nothing_right, fixed_right, paren_right}
 use Rattle.expressions_back.proofs.Stands.{struct_is}
-use Rattle.grammar_back.specs.Covered.{has_step, has_form_step, inner, is_known, is_form, all_covered}
+use Rattle.grammar_back.specs.Covered.{has_step, has_form_step, inner, is_known, is_form, is_plain_part, all_covered}
 use Rattle.grammar_back.proofs.Dotted.{law_expr_await, law_expr_field, law_expr_method_call}
 use Rattle.grammar_back.proofs.Fits.{flat_kept, Fits, FitsForms, IsMeant, IsFormed, MayLack, MayHave}
 use Rattle.grammar_back.proofs.Printed.{OwnPrinted, Printed, WholeLaw}
-use Rattle.read_back.specs.Parts.{is_plain_part, has_part, has_parts_of, is_more}
-use Rattle.read_back.proofs.Operands.{HasOperandsOf, IsBackOf, plain_part, operands_are}
+use Rattle.read_back.specs.Parts.{has_part, has_parts_of}
+use Rattle.read_back.proofs.Operands.{HasOperandsOf, IsBackOf, operands_are}
 use Rattle.read_back.proofs.Indices.{dot_fits, dot_read, dotted_fits, dotted_keeps, dotted_operands}
 use Rattle.read_back.proofs.Split.{dotted_bare, dotted_kept}
-
--- no form is an attribute
-no_range : (k : Kind) (x : Tree) → is_form k ≡ true → is_attributed_range k x ≡ false
-unfolding has_form_step
-no_range ExprAttributed x e = cc
-no_range _ x e = refl
-
-no_range_here : (k : Kind) (x : Tree) (b : Bool) → (is_form k && b) ≡ true
-    → (is_form k && (not (is_attributed_range k x) && b)) ≡ true
-no_range_here k x b e =
-    ap (λ c. is_form k && (not c && b)) (no_range k x (and_true (is_form k) b e).0) ∙ e
 
 -- So what is covered has its own parts covered, and its forms are of those kinds.
 both_parts : (a b c d : Bool) → (a ≡ true → b ≡ true) → (c ≡ true → d ≡ true) → (a && c) ≡ true → (b && d) ≡ true
 both_parts a b c d f g e = let h = and_true a c e in ap (λ i. i && d) (f h.0) ∙ g h.1
 
 covered_parts : (x : Tree) → all_covered x ≡ true → has_parts_of is_form x ≡ true
-covered_parts (Alone k y) c =
-    let a = and_true (is_form k) (all_covered y) c in
-    ap (λ e. e && (is_plain_part k (normal (kept y)) && all_covered y)) a.0
-    ∙ ap (λ e. e && all_covered y) (plain_part k (normal (kept y)) a.0) ∙ a.1
+covered_parts (Alone k y) c = c
 covered_parts (Front k y x) c =
-    let a = and_true (is_form k) (all_covered y && all_covered x) c in
-    let b = and_true (all_covered y) (all_covered x) a.1 in
-    no_range_here k x (is_plain_part k (normal (kept y)) && (all_covered y && has_parts_of is_form x))
-    (ap (λ e. e && (is_plain_part k (normal (kept y)) && (all_covered y && has_parts_of is_form x))) a.0
-    ∙ ap (λ e. e && (all_covered y && has_parts_of is_form x)) (plain_part k (normal (kept y)) a.0)
-    ∙ ap (λ e. e && has_parts_of is_form x) b.0 ∙ covered_parts x b.1)
+    both_parts (is_form k) (is_form k) _ _ (λ e. e)
+    (λ e. both_parts (not (is_attributed_range k x)) (not (is_attributed_range k x)) _ _ (λ f. f)
+    (λ f. both_parts (is_plain_part k (normal (kept y))) (is_plain_part k (normal (kept y))) _ _ (λ g. g)
+    (λ g. both_parts (all_covered y) (all_covered y) _ _ (λ h. h) (λ h. covered_parts x h) g) f) e) c
 covered_parts (Back l k y) c =
     let a = and_true (is_form k) (all_covered l && all_covered y) c in
     let b = and_true (all_covered l) (all_covered y) a.1 in
@@ -521,7 +505,7 @@ remake passes part fields p x r b d c o =
     }
 
 pub form_part : (k : Kind) → is_form k ≡ true → has_part k ≡ true
-form_part k e = ap (λ b. b || is_more k) e
+form_part k e = e
 
 pub whole : WholeLaw
 unfolding has_form_step
