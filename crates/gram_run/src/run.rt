@@ -330,16 +330,29 @@ fn climb<'a, R: Rules>(
         (run fuel (goes (position_of position) level left.entry) (tokens at.now)) }
     ensures whole { IfOk result (λ x. IsTrue (is_whole x.1.now)) }
 {
-    if fuel == 0 {
-        return Err(Refusal::Late);
-    }
-    match next_of(rules, position, level, &left, at) {
-        Next::Nothing => Ok((left, at)),
-        Next::Chained => Err(refuse(Wanted::Unchained, at)),
-        Next::Form(kind) => {
-            let OwnPart { tree, right, rest } = own(rules, alloc, position, kind, at, fuel - 1)?;
-            let form = extended(alloc, left, kind, tree, right)?;
-            climb(rules, alloc, position, level, form, rest, fuel - 1)
+    let mut form = left;
+    let mut place = Place { entries: at };
+    let mut most = fuel;
+    'forms: loop {
+        if most == 0 {
+            return Err(Refusal::Late);
+        }
+        most -= 1;
+        match next_of(rules, position, level, &form, place.entries) {
+            Next::Nothing => return Ok((form, place.entries)),
+            Next::Chained => return Err(refuse(Wanted::Unchained, place.entries)),
+            Next::Form(kind) => {
+                let OwnPart { tree, right, rest } = own(
+                    rules,
+                    alloc,
+                    position,
+                    kind,
+                    place.entries,
+                    most,
+                )?;
+                form = extended(alloc, form, kind, tree, right)?;
+                place = Place { entries: rest };
+            }
         }
     }
 }

@@ -1,6 +1,6 @@
 use Rattle.std.proofs.Common.{◌≡◌, ◌-◌, suc, sym, ap, ◌∙◌, arith}
 use Rattle.std.proofs.lemmas.Result.{err_from_is_err_and}
-use Rattle.syn_grammar.specs.Run.{kind, wrap, run, interp, Got}
+use Rattle.syn_grammar.specs.Run.{climb, kind, wrap, run, interp, Got}
 use Rattle.syn_grammar.specs.Tree.{Node, Alone, Final, Front, Back, Infix}
 use Rattle.gram_table.specs.Kinds.{kind_of, position_of}
 use Rattle.gram_table.specs.Looks.{test_of}
@@ -10,8 +10,9 @@ use Rattle.gram_run.specs.Answers.{tokens}
 use Rattle.gram_run.specs.Operands.{extended, own_of}
 use Rattle.gram_run.proofs.Turns.{turn_more, turn_none, turn_fails}
 use Rattle.gram_run.proofs.Elements.{element_more, element_none, element_last, element_fails}
-use Rattle.gram_run.proofs.Operands.{kind_read, climb_chains, climb_goes, climb_fails, operand_goes, operand_fails}
-use Rattle.gram_run.proofs.Outs.{syntax_fails}
+use Rattle.gram_run.proofs.Operands.{kind_read, climb_ends, climb_chains, climb_goes, climb_fails, operand_goes}
+use Rattle.gram_run.proofs.Operands.{operand_fails}
+use Rattle.gram_run.proofs.Outs.{fails_as, syntax_fails}
 use Rattle.gram_run.proofs.run.+run.Goals as goal
 
 pub call-returns-clause-answer : goal.call-returns-clause-answer
@@ -20,32 +21,6 @@ call-returns-clause-answer g t c =
     let ts = tokens c.args.at.now in
     rw (kind_read c.args.fuel (c.args.fuel - 1) (kind_of c.args.kind) (gram_of c.entry-steps.result.now) ts s
     c.entry-steps.ensures) (c.surround.ensures.answer _ c.interp.ensures.answer)
-
-pub climb-returns-in_err-tree-in-Form-clause-answer : goal.climb-returns-in_err-tree-in-Form-clause-answer
-climb-returns-in_err-tree-in-Form-clause-answer g t c =
-    let s : c.args.fuel ≡ suc (c.args.fuel - 1) = omega arith in
-    let h = c.in-Form.ensures in
-    let p = err_from_is_err_and c.from_residual.result c.from_residual.ensures.1 in
-    rw (p.1, p.2) (climb_fails (c.args.fuel - 1) (position_of c.args.position) c.args.level _ c.args.fuel c.args.left
-    (kind_of c.in-Form.kind) (tokens c.args.at.now) s h.0 h.1 h.2
-    (c.in_err-tree-in-Form.ensures.answer (Back c.args.left (kind_of c.in-Form.kind))
-    (Infix c.args.left (kind_of c.in-Form.kind))))
-
-pub climb-returns-clause-answer : goal.climb-returns-clause-answer
-climb-returns-clause-answer g t c =
-    let s : c.args.fuel ≡ suc (c.args.fuel - 1) = omega arith in
-    let h = c.in-Form.ensures in
-    let o = c.in_ok-tree-in-Form in
-    let alone = Back c.args.left (kind_of c.in-Form.kind) in
-    let both = Infix c.args.left (kind_of c.in-Form.kind) in
-    let ts = tokens c.args.at.now in
-    let got : extended (run (c.args.fuel - 1)) (position_of c.args.position) c.args.left (kind_of c.in-Form.kind) ts
-    ≡ Got c.in_ok-form-in-Form.form (tokens o.field-0.rest.now) =
-    o.ensures.answer alone both ∙ ap (λ x. Got x (tokens o.field-0.rest.now)) (sym c.in_ok-form-in-Form.ensures) in
-    rw (climb_goes (c.args.fuel - 1) (position_of c.args.position) c.args.level c.args.fuel c.args.left
-    c.in_ok-form-in-Form.form (kind_of c.in-Form.kind) ts (tokens o.field-0.rest.now) s h.0 h.1
-    h.2 got)
-    c.climb.ensures.answer
 
 pub many-returns-in_err-tree-clause-answer : goal.many-returns-in_err-tree-clause-answer
 many-returns-in_err-tree-clause-answer g t c =
@@ -131,10 +106,48 @@ tower-returns-clause-answer g t c =
     rw (operand_goes (c.args.fuel - 1) (position_of c.args.position) c.args.level c.args.fuel k ts
     (tokens o.field-0.rest.now) c.in_ok-left.left s c.in-Some.ensures got) c.climb.ensures.answer
 
+pub climb-returns-in-Nothing-clause-answer : goal.climb-returns-in-Nothing-clause-answer
+climb-returns-in-Nothing-clause-answer g t c =
+    let s : c.forms.most ≡ suc (c.forms.most - 1) = omega arith in
+    sym c.forms.invariant.read
+    ∙ climb_ends (c.forms.most - 1) (position_of c.args.position) c.args.level c.forms.most c.forms.form
+    (tokens c.forms.place.entries.now) s c.in-Nothing.ensures
+
 pub climb-returns-in-Chained-clause-answer : goal.climb-returns-in-Chained-clause-answer
 climb-returns-in-Chained-clause-answer g t c =
-    let s : c.args.fuel ≡ suc (c.args.fuel - 1) = omega arith in
+    let s : c.forms.most ≡ suc (c.forms.most - 1) = omega arith in
     let h = c.in-Chained.ensures in
     syntax_fails c.refuse.result _ c.refuse.ensures.syntax
-    (climb_chains (c.args.fuel - 1) (position_of c.args.position) c.args.level c.args.fuel c.args.left h.0
-    (tokens c.args.at.now) s h.1 h.2 h.3)
+    (sym c.forms.invariant.read
+    ∙ climb_chains (c.forms.most - 1) (position_of c.args.position) c.args.level c.forms.most c.forms.form h.0
+    (tokens c.forms.place.entries.now) s h.1 h.2 h.3)
+
+pub climb-returns-in_err-tree-in-Form-clause-answer : goal.climb-returns-in_err-tree-in-Form-clause-answer
+climb-returns-in_err-tree-in-Form-clause-answer g t c =
+    let s : c.forms.most ≡ suc (c.forms.most - 1) = omega arith in
+    let h = c.in-Form.ensures in
+    let k = kind_of c.in-Form.kind in
+    let p = err_from_is_err_and c.from_residual.result c.from_residual.ensures.1 in
+    rw (p.1, p.2) (fails_as _ _ _ (sym c.forms.invariant.read)
+    (climb_fails (c.forms.most - 1) (position_of c.args.position) c.args.level _ c.forms.most c.forms.form k
+    (tokens c.forms.place.entries.now) s h.0 h.1 h.2
+    (c.in_err-tree-in-Form.ensures.answer (Back c.forms.form k) (Infix c.forms.form k))))
+
+pub climb-forms-preserved : goal.climb-forms-preserved
+climb-forms-preserved g t c =
+    let s : c.forms.most ≡ suc (c.forms.most - 1) = omega arith in
+    let h = c.in-Form.ensures in
+    let k = kind_of c.in-Form.kind in
+    let o = c.in_ok-tree-in-Form in
+    let ts = tokens c.forms.place.entries.now in
+    let us = tokens o.field-0.rest.now in
+    let got : extended (run (c.forms.most - 1)) (position_of c.args.position) c.forms.form k ts
+    ≡ Got c.in_ok-form-in-Form.form us =
+    o.ensures.answer (Back c.forms.form k) (Infix c.forms.form k)
+    ∙ ap (λ x. Got x us) (sym c.in_ok-form-in-Form.ensures) in
+    record {
+      read = sym (climb_goes (c.forms.most - 1) (position_of c.args.position) c.args.level c.forms.most c.forms.form
+          c.in_ok-form-in-Form.form k ts us s h.0 h.1 h.2 got) ∙ c.forms.invariant.read;
+      whole = o.ensures.whole;
+      least = omega arith;
+    }

@@ -1,7 +1,8 @@
 -- Each call has less fuel, or as much and fewer steps.
 use Rattle.std.proofs.Common.{◌≡◌, ◌+◌, ◌*◌, ◌≤◌, ◌^◌, length, true}
-use Rattle.syn_grammar.specs.Run.{run, loop, list}
+use Rattle.syn_grammar.specs.Run.{run, climb, loop, list}
 use Rattle.syn_buffer.specs.Entries.{is_whole}
+use Rattle.gram_table.specs.Kinds.{position_of}
 use Rattle.gram_table.specs.Looks.{test_of}
 use Rattle.gram_table.specs.Ops.{gram_of, separator_of}
 use Rattle.gram_run.specs.Answers.{tokens}
@@ -58,3 +59,14 @@ invariant-many-elements g l = record {
 
 abbrev pub decreases-many-elements : goal.decreases-many-elements
 decreases-many-elements g l = l.fuel
+
+abbrev pub invariant-climb-forms : goal.invariant-climb-forms
+invariant-climb-forms g l = record {
+  read : run l.most (climb (position_of l.position) l.level l.form) (tokens l.place.entries.now)
+      ≡ run l.fuel (climb (position_of l.position) l.level l.fn.left) (tokens l.at);
+  whole : is_whole l.place.entries.now ≡ true;
+  least : l.most ≤ l.fuel;
+}
+
+abbrev pub decreases-climb-forms : goal.decreases-climb-forms
+decreases-climb-forms g l = l.most
