@@ -171,8 +171,8 @@ abbrev pub has_own_colons : Tree → Bool
 has_own_colons (Pair (First a) g) = is_there (front (inner a))
 has_own_colons _ = true
 
--- of what is kept of an impl, behind the word: its generics are there, or its type begins with no < Ident >, which would
--- be them; its ! is there, or its type is no !, or its braces follow that; and before for stands a path
+-- of what is kept of an impl, behind the word: its generics are there, or its type begins with no < Ident >, which
+-- would be them; its ! is there, or its type is no !, or its braces follow that; and before for stands a path
 abbrev pub is_never : Tree → Bool
 is_never (Node NeverType x) = true
 is_never _ = false
@@ -319,8 +319,8 @@ abbrev pub are_together : Kind → Tree → Bool
 are_together ExprAttributed (Front ExprAttributed y x) = false
 are_together k x = true
 
--- The forms are of kinds that have the operands that they have here; no for stands before a closure; before the braces
--- of a struct stands a path.
+-- The forms are of kinds that have the operands that they have here; their own parts begin them (is_plain_part); before
+-- the braces of a struct stands a path.
 abbrev pub HasOperands : Tree → Type 0
 HasOperands (Alone k y) = IsFrontKind k × MayLack k × (is_plain_part k y ≡ true)
 HasOperands (Front k y x) =

@@ -34,8 +34,8 @@ use Rattle.syn_grammar.specs.Tree.{Tree, AWord, Pair, First, Second, Again, Fina
 use Rattle.syn_grammar.specs.Tree.{Verbatim}
 use Rattle.syn_grammar.specs.Tree.{Node, Whole, Alone, Front, Back, Infix, flat}
 use Rattle.syn_grammar.specs.Words.{is_among, is_ident, same_text}
-use Rattle.syn_grammar.specs.Look.{sees}
-use Rattle.syn_grammar.specs.Say.{marks}
+use Rattle.syn_grammar.specs.Look.{a_lifetime, sees, ◌then◌, ◌or◌}
+use Rattle.syn_grammar.specs.Say.{at, marks}
 use Rattle.syn_grammar.specs.Normal.{normal, normal_in}
 use Rattle.syn_grammar.specs.Parens.{is_attributed_range}
 use Rattle.proc_macro2.specs.Token.{Ident}
@@ -480,12 +480,16 @@ is_taken ATraitItem x = is_plain_macro (choice (item_of x))
 is_taken AnImplItem x = is_plain_macro (choice (item_of x))
 is_taken k x = true
 
--- of a form's own part, in normal form: no for stands before a closure, since with attributes behind the < it would be
--- none; and behind one with a type -> begins it, as it does wherever such a form was read
+-- of a form's own part, in normal form: behind the for of a closure begins no attribute, and behind one with a type ->
+-- begins it, as it is wherever such a form was read
+abbrev pub is_bound : Tree → Bool
+is_bound (First b) = sees (at "for" then marks "<" then (a_lifetime or marks ">")) (flat b)
+is_bound b = true
+
 abbrev pub is_plain_part : Kind → Tree → Bool
-is_plain_part ExprClosure (Pair (Second b) y) = true
+is_plain_part ExprClosure (Pair b y) = is_bound b
 is_plain_part ExprClosure y = false
-is_plain_part ExprTypedClosure (Pair (Pair (Second b) y) (Pair r z)) = sees (marks "->") (flat r)
+is_plain_part ExprTypedClosure (Pair (Pair b y) (Pair r z)) = is_bound b && sees (marks "->") (flat r)
 is_plain_part ExprTypedClosure y = false
 is_plain_part k y = true
 

@@ -1,10 +1,10 @@
--- The own part of a closure is read wherever its form may stand, if no for stands before it: between its bars none
--- stands but in groups.
+-- The own part of a closure is read wherever its form may stand: between its bars none stands but in groups, and none
+-- does behind a for before it.
 use Rattle.std.proofs.Common.{◌≡◌, ℕ, List, [], ◌∷◌, ◌++◌, refl, sym, ap, ◌∙◌, subst, append_assoc}
 use Rattle.std.specs.Prelude.{Bool, true, false, ◌||◌, ◌==◌, cond, Option, Some, None, codes}
 use Prim.Native.String.{String}
 use Rattle.std.proofs.lemmas.Slice.Eq.{bytes_eq-Decides}
-use Rattle.proc_macro2.specs.Token.{Token, Ident, Punct}
+use Rattle.proc_macro2.specs.Token.{Token, Opens, Closes, Ident, Literal, Punct}
 use Rattle.rust_leaf.specs.declared.punct.Spacing.{Spacing}
 use Rattle.rust_leaf.specs.declared.punct.Spacing.TheVariants.{Alone as Apart, Joint}
 use Rattle.syn_grammar.specs.Kind.{Kind, Position, InModule, InExpression, InType, AtType, WithPlus, WithoutPlus}
@@ -17,11 +17,11 @@ use Rattle.syn_grammar.specs.Kind.{IdentPattern, WildPattern, RangeToPattern, Re
 use Rattle.syn_grammar.specs.Kind.{SlicePattern, ReferencePattern, LiteralPattern, PathPattern, RangeEnd}
 use Rattle.syn_grammar.specs.Kind.{RangeBound, FieldPatterns, OuterAttributes, OuterAttribute, LifetimeParam}
 use Rattle.syn_grammar.specs.Kind.{LifetimeColon, Body, ClosureParam}
-use Rattle.syn_grammar.specs.Words.{is_bool, is_reserved}
+use Rattle.syn_grammar.specs.Words.{is_bool, is_reserved, same_text}
 use Rattle.syn_grammar.specs.Tree.{Tree, AWord, AMark, Nil, Pair, First, Second, marks as signs, flat}
 use Rattle.syn_grammar.specs.Gram.{many, ref}
-use Rattle.syn_grammar.specs.Look.{Look, seen, sees, behind}
-use Rattle.syn_grammar.specs.Say.{optional, keyword, marks, comma}
+use Rattle.syn_grammar.specs.Look.{Look, a_lifetime, first_seen, seen, sees, behind, ◌then◌, ◌or◌}
+use Rattle.syn_grammar.specs.Say.{at, optional, keyword, marks, comma}
 use Rattle.syn_grammar.specs.Table.{table}
 use Rattle.syn_grammar.specs.Derives.{Derives}
 use Rattle.syn_grammar.specs.Kept.{kept}
@@ -34,7 +34,9 @@ use Rattle.expressions_back.specs.Formed.{IsFront}
 use Rattle.expressions_back.proofs.Bools.{or_parts}
 use Rattle.grammar_back.proofs.Fits.{Fits}
 use Rattle.grammar_back.proofs.Readies.{OwnReady}
-use Rattle.grammar_back.specs.Covered.{is_plain_part}
+use Rattle.syn_grammar.proofs.Whole.{and_true}
+use Rattle.grammar_back.specs.Covered.{is_bound, is_plain_part}
+use Rattle.grammar_back.proofs.Choices.{second_seen}
 use Rattle.read_back.proofs.Lesser.{if_same}
 use Rattle.read_back.proofs.Quiet.{IsQuiet, quiet}
 
@@ -192,52 +194,158 @@ bar : (c : ℕ) (cs : List ℕ) (i : Spacing) (ts : List Token) → c ≡ 124 �
 bar c cs i ts e f g =
     ap (λ d. signs d cs i ++ ts) e ∙ ap (λ ds. signs 124 ds i ++ ts) f ∙ ap (λ j. Punct 124 j ∷ ts) (sym g)
 
+-- behind for, where its lifetimes begin
+abbrev lifetimes_stand : Look
+lifetimes_stand = marks "<" then (a_lifetime or marks ">")
+
+if_more : (b : Bool) (us vs : List Token) → seen (cond b (Some us) None) ≡ true → seen (cond b (Some vs) None) ≡ true
+if_more true us vs e = refl
+if_more false us vs e = cc e
+
+greater_more : (c : ℕ) (i : Spacing) (us ts : List Token) → sees (marks ">") (Punct c i ∷ us) ≡ true
+    → sees (a_lifetime or marks ">") (Punct c i ∷ us ++ ts) ≡ true
+greater_more c i us ts e =
+    second_seen (a_lifetime (Punct c i ∷ us ++ ts)) (marks ">" (Punct c i ∷ us ++ ts))
+    (if_more (c == 62) us (us ++ ts) e)
+
+tick_more : (us ts : List Token) → sees (a_lifetime or marks ">") us ≡ true
+    → sees (a_lifetime or marks ">") (us ++ ts) ≡ true
+tick_more (Punct c Apart ∷ us) ts e = greater_more c Apart us ts e
+tick_more (Punct c Joint ∷ Ident cs ∷ us) ts e = go (c == 39) (c == 62) e
+  where
+    go : (a b : Bool) → seen (first_seen (cond a (Some us) None) (cond b (Some (Ident cs ∷ us)) None)) ≡ true
+        → seen (first_seen (cond a (Some (us ++ ts)) None) (cond b (Some (Ident cs ∷ us ++ ts)) None)) ≡ true
+    go true b e = refl
+    go false true e = refl
+    go false false e = cc e
+tick_more (Punct c Joint ∷ []) ts e = greater_more c Joint [] ts e
+tick_more (Punct c Joint ∷ Literal cs ∷ us) ts e = greater_more c Joint (Literal cs ∷ us) ts e
+tick_more (Punct c Joint ∷ Punct d i ∷ us) ts e = greater_more c Joint (Punct d i ∷ us) ts e
+tick_more (Punct c Joint ∷ Opens d ∷ us) ts e = greater_more c Joint (Opens d ∷ us) ts e
+tick_more (Punct c Joint ∷ Closes d ∷ us) ts e = greater_more c Joint (Closes d ∷ us) ts e
+tick_more _ ts e = cc e
+
+less_more : (us ts : List Token) → sees lifetimes_stand us ≡ true → sees lifetimes_stand (us ++ ts) ≡ true
+less_more (Punct c i ∷ us) ts e = go (c == 60) e
+  where
+    go : (b : Bool) → seen (behind (cond b (Some us) None) (a_lifetime or marks ">")) ≡ true
+        → seen (behind (cond b (Some (us ++ ts)) None) (a_lifetime or marks ">")) ≡ true
+    go true e = tick_more us ts e
+    go false e = cc e
+less_more _ ts e = cc e
+
+record Lifetimed (us : List Token) : Type 0 where
+  rest : List Token
+  is : us ≡ Ident (codes "for") ∷ rest
+  stand : (ts : List Token) → sees lifetimes_stand (rest ++ ts) ≡ true
+
+for_there : (us : List Token) → sees (at "for" then lifetimes_stand) us ≡ true → Lifetimed us
+for_there (Ident cs ∷ us) e = go (same_text (codes "for") cs) refl e
+  where
+    go : (b : Bool) → same_text (codes "for") cs ≡ b → seen (behind (cond b (Some us) None) lifetimes_stand) ≡ true
+        → Lifetimed (Ident cs ∷ us)
+    go true i e = record {
+      rest = us;
+      is = ap (λ v. Ident v ∷ us) (sym ((bytes_eq-Decides (codes "for") cs).0 i));
+      stand = λ ts. less_more us ts e;
+    }
+    go false i e = cc e
+for_there _ e = cc e
+
+for_front : (us : List Token) → sees lifetimes_stand us ≡ true → (p : Position)
+    → front p (Ident (codes "for") ∷ us) ≡ typed (seen (behind (past_bar us) (past_bar then marks "->")))
+unfolding front is_bool is_reserved
+for_front us e p = go (lifetimes_stand us) refl e
+  where
+    go : (o : Option (List Token)) → lifetimes_stand us ≡ o → seen o ≡ true
+        → front p (Ident (codes "for") ∷ us) ≡ typed (seen (behind (past_bar us) (past_bar then marks "->")))
+    go (Some vs) i e = rw i refl
+    go None i e = cc e
+
+bound_closure : (b : Tree) (r us ws : List Token) → sees (at "for" then lifetimes_stand) (flat b) ≡ true
+    → Derives b (ref BoundLifetimes) r → past_bar us ≡ Some ws → IsClosure (flat b ++ us) ws
+bound_closure b r us ws e d q = (
+  λ p. ap (λ vs. front p (vs ++ us)) h.is ∙ for_front (h.rest ++ us) (h.stand us) p
+      ∙ ap (λ o. typed (seen (behind o (past_bar then marks "->")))) past,
+  ap (λ vs. sees no_operand (vs ++ us)) h.is,
+)
+  where
+    h : Lifetimed (flat b)
+    h = for_there (flat b) e
+
+    past : past_bar (h.rest ++ us) ≡ Some ws
+    past =
+        sym (ap (λ vs. past_bar (vs ++ us)) h.is)
+        ∙ quiet 124 is_calm false refl calm_entry no_form b (ref BoundLifetimes) r d refl us ∙ q
+
+word_past : (b : Bool) (w : String) (us : List Token) → past_bar (word_if b w us) ≡ past_bar us
+word_past true w us = refl
+word_past false w us = refl
+
+words_past : (c s a m : Bool) (ws : List Token) → past_bar (words c s a m (Punct 124 Apart ∷ ws)) ≡ Some ws
+words_past c s a m ws =
+    word_past c "const" _ ∙ word_past s "static" _ ∙ word_past a "async" _ ∙ word_past m "move" _
+
 record Closure (y : Tree) : Type 0 where
-  const_is : Bool
-  static_is : Bool
-  async_is : Bool
-  move_is : Bool
   params : Tree
   read : (r : List Token) → Derives y (table ExprClosure) r
       → (q : List Token) × Derives params (many (sees (marks "|")) comma (ref ClosureParam)) q
-  is : (ts : List Token) → flat y ++ ts ≡ words const_is static_is async_is move_is (barred params ts)
+  stands : (ts : List Token) → IsClosure (flat y ++ ts) (flat params ++ Punct 124 Apart ∷ ts)
 
-closure : (y : Tree) → Fits y (table ExprClosure) → is_plain_part ExprClosure y ≡ true → Closure y
+closure : (y : Tree) → Fits y (table ExprClosure) → is_plain_part ExprClosure y ≡ true → (q : List Token)
+    → Derives y (table ExprClosure) q → Closure y
 unfolding table
-closure (Pair (Second Nil) (Pair c (Pair s (Pair a (Pair m (Pair (AMark d ds i) (Pair ps (AMark e es j)))))))) f u =
-    let cw = a_word "const" _ c f.1.0 in
-    let sw = a_word "static" _ s f.1.1.0 in
-    let aw = a_word "async" _ a f.1.1.1.0 in
-    let mw = a_word "move" _ m f.1.1.1.1.0 in
-    let b = f.1.1.1.1.1 in
-    record {
-      const_is = cw.stands;
-      static_is = sw.stands;
-      async_is = aw.stands;
-      move_is = mw.stands;
-      params = ps;
-      read = λ r g. (_, g.1.1.1.1.1.1.0);
-      is = λ ts.
-          append_assoc (flat c) _ ts ∙ cw.is _
-          ∙ ap (word_if cw.stands "const") (append_assoc (flat s) _ ts ∙ sw.is _
-          ∙ ap (word_if sw.stands "static") (append_assoc (flat a) _ ts ∙ aw.is _
-          ∙ ap (word_if aw.stands "async") (append_assoc (flat m) _ ts ∙ mw.is _
-          ∙ ap (word_if mw.stands "move") (append_assoc (signs d ds i) _ ts ∙ bar d ds i _ b.0.0 b.0.1 b.0.2
-          ∙ ap (λ us. Punct 124 Apart ∷ us) (append_assoc (flat ps) _ ts
-          ∙ ap (λ us. flat ps ++ us) (bar e es j ts b.1.1.0 b.1.1.1 b.1.1.2))))));
-    }
-closure (Pair (Second Nil) (Pair c (Pair s (Pair a (Pair m (Pair (AMark d ds i) (Pair ps _))))))) f u =
-    absurd f.1.1.1.1.1.1.1
-closure (Pair (Second Nil) (Pair c (Pair s (Pair a (Pair m (Pair (AMark d ds i) _)))))) f u = absurd f.1.1.1.1.1.1
-closure (Pair (Second Nil) (Pair c (Pair s (Pair a (Pair m (Pair _ z)))))) f u = absurd f.1.1.1.1.1.0
-closure (Pair (Second Nil) (Pair c (Pair s (Pair a (Pair m _))))) f u = absurd f.1.1.1.1.1
-closure (Pair (Second Nil) (Pair c (Pair s (Pair a _)))) f u = absurd f.1.1.1.1
-closure (Pair (Second Nil) (Pair c (Pair s _))) f u = absurd f.1.1.1
-closure (Pair (Second Nil) (Pair c _)) f u = absurd f.1.1
-closure (Pair (Second Nil) _) f u = absurd f.1
-closure (Pair (Second _) z) f u = absurd f.0.1
-closure (Pair _ z) f u = cc
-closure _ f u = absurd f
+closure (Pair o (Pair c (Pair s (Pair a (Pair m (Pair (AMark d ds i) (Pair ps (AMark e es j)))))))) f u q g =
+    record { params = ps; read = λ r g. (_, g.1.1.1.1.1.1.0); stands = λ ts. go o f.0 u g.0 ts }
+  where
+    z : Tree
+    z = Pair c (Pair s (Pair a (Pair m (Pair (AMark d ds i) (Pair ps (AMark e es j))))))
+
+    cw : Word "const" c
+    cw = a_word "const" _ c f.1.0
+
+    sw : Word "static" s
+    sw = a_word "static" _ s f.1.1.0
+
+    aw : Word "async" a
+    aw = a_word "async" _ a f.1.1.1.0
+
+    mw : Word "move" m
+    mw = a_word "move" _ m f.1.1.1.1.0
+
+    is : (ts : List Token) → flat z ++ ts ≡ words cw.stands sw.stands aw.stands mw.stands (barred ps ts)
+    is ts =
+        let b = f.1.1.1.1.1 in
+        append_assoc (flat c) _ ts ∙ cw.is _
+        ∙ ap (word_if cw.stands "const") (append_assoc (flat s) _ ts ∙ sw.is _
+        ∙ ap (word_if sw.stands "static") (append_assoc (flat a) _ ts ∙ aw.is _
+        ∙ ap (word_if aw.stands "async") (append_assoc (flat m) _ ts ∙ mw.is _
+        ∙ ap (word_if mw.stands "move") (append_assoc (signs d ds i) _ ts ∙ bar d ds i _ b.0.0 b.0.1 b.0.2
+        ∙ ap (λ us. Punct 124 Apart ∷ us) (append_assoc (flat ps) _ ts
+        ∙ ap (λ us. flat ps ++ us) (bar e es j ts b.1.1.0 b.1.1.1 b.1.1.2))))))
+
+    go : (o : Tree) → Fits o (optional (at "for") (ref BoundLifetimes)) → is_bound o ≡ true
+        → Derives o (optional (at "for") (ref BoundLifetimes)) (flat z ++ q) → (ts : List Token)
+        → IsClosure ((flat o ++ flat z) ++ ts) (flat ps ++ Punct 124 Apart ∷ ts)
+    go (Second Nil) f u g ts =
+        subst (λ us. IsClosure us (flat ps ++ Punct 124 Apart ∷ ts)) (sym (is ts))
+        (closure_front cw.stands sw.stands aw.stands mw.stands (flat ps ++ Punct 124 Apart ∷ ts))
+    go (First b) f u g ts =
+        subst (λ us. IsClosure us (flat ps ++ Punct 124 Apart ∷ ts)) (sym (append_assoc (flat b) (flat z) ts))
+        (bound_closure b (flat z ++ q) (flat z ++ ts) (flat ps ++ Punct 124 Apart ∷ ts) u g.1
+        (ap past_bar (is ts)
+        ∙ words_past cw.stands sw.stands aw.stands mw.stands (flat ps ++ Punct 124 Apart ∷ ts)))
+    go (Second _) f u g ts = absurd f.1
+    go _ f u g ts = absurd f
+closure (Pair o (Pair c (Pair s (Pair a (Pair m (Pair (AMark d ds i) (Pair ps _))))))) f u q g = absurd f.1.1.1.1.1.1.1
+closure (Pair o (Pair c (Pair s (Pair a (Pair m (Pair (AMark d ds i) _)))))) f u q g = absurd f.1.1.1.1.1.1
+closure (Pair o (Pair c (Pair s (Pair a (Pair m (Pair _ z)))))) f u q g = absurd f.1.1.1.1.1.0
+closure (Pair o (Pair c (Pair s (Pair a (Pair m _))))) f u q g = absurd f.1.1.1.1.1
+closure (Pair o (Pair c (Pair s (Pair a _)))) f u q g = absurd f.1.1.1.1
+closure (Pair o (Pair c (Pair s _))) f u q g = absurd f.1.1.1
+closure (Pair o (Pair c _)) f u q g = absurd f.1.1
+closure (Pair o _) f u q g = absurd f.1
+closure _ f u q g = absurd f
 
 -- what begins with an arrow, before more
 more_arrow : (ts us : List Token) → sees (marks "->") ts ≡ true → sees (marks "->") (ts ++ us) ≡ true
@@ -251,19 +359,14 @@ more_arrow _ us e = cc
 pub closure_part : (y : Tree) → Fits y (table ExprClosure) → is_plain_part ExprClosure y ≡ true → OwnReady ExprClosure y
     → flat (normal (kept y)) ≡ flat y → IsFront (BeforeOperand ExprClosure y) ExprClosure y
 closure_part y f u w n = record {
-  begins = λ p ts s m. (at_words ts).0 p ∙ ap typed (no_type ts m);
+  begins = λ p ts s m. (z.stands ts).0 p ∙ ap typed (no_type ts m);
   read = λ ts m. (w ts tt).0;
   held = n;
-  single = λ ts m. (at_words ts).1;
+  single = λ ts m. (z.stands ts).1;
 }
   where
     z : Closure y
-    z = closure y f u
-
-    at_words : (ts : List Token) → IsClosure (flat y ++ ts) (flat z.params ++ Punct 124 Apart ∷ ts)
-    at_words ts =
-        subst (λ us. IsClosure us (flat z.params ++ Punct 124 Apart ∷ ts)) (sym (z.is ts))
-        (closure_front z.const_is z.static_is z.async_is z.move_is (flat z.params ++ Punct 124 Apart ∷ ts))
+    z = closure y f u [] (w [] tt).0
 
     no_type : (ts : List Token) → BeforeOperand ExprClosure y ts
         → seen (behind (past_bar (flat z.params ++ Punct 124 Apart ∷ ts)) (marks "->")) ≡ false
@@ -276,32 +379,32 @@ closure_part y f u w n = record {
 pub typed_part : (y : Tree) → Fits y (table ExprTypedClosure) → is_plain_part ExprTypedClosure y ≡ true
     → OwnReady ExprTypedClosure y → flat (normal (kept y)) ≡ flat y → IsFront AtEnd ExprTypedClosure y
 unfolding table
-typed_part (Pair (Pair (Second b) c) (Pair r v)) f u w n = record {
+typed_part (Pair (Pair b c) (Pair r v)) f u w n = record {
   begins = λ p ts s m. (at_words ts).0 p ∙ ap typed (arrow ts);
   read = λ ts m. (w ts tt).0;
   held = n;
   single = λ ts m. (at_words ts).1;
 }
   where
-    z : Closure (Pair (Second b) c)
-    z = closure (Pair (Second b) c) f.0 refl
+    z : Closure (Pair b c)
+    z = closure (Pair b c) f.0 (and_true (is_bound b) (sees (marks "->") (flat r)) u).0 (flat (Pair r v) ++ [])
+        (w [] tt).0.0
 
     past : List Token → List Token
     past ts = flat z.params ++ Punct 124 Apart ∷ (flat (Pair r v) ++ ts)
 
-    at_words : (ts : List Token) → IsClosure (flat (Pair (Pair (Second b) c) (Pair r v)) ++ ts) (past ts)
+    at_words : (ts : List Token) → IsClosure (flat (Pair (Pair b c) (Pair r v)) ++ ts) (past ts)
     at_words ts =
-        subst (λ us. IsClosure us (past ts))
-        (sym (append_assoc (flat (Pair (Second b) c)) (flat (Pair r v)) ts ∙ z.is (flat (Pair r v) ++ ts)))
-        (closure_front z.const_is z.static_is z.async_is z.move_is (past ts))
+        subst (λ us. IsClosure us (past ts)) (sym (append_assoc (flat (Pair b c)) (flat (Pair r v)) ts))
+        (z.stands (flat (Pair r v) ++ ts))
 
     arrow : (ts : List Token) → seen (behind (past_bar (past ts)) (marks "->")) ≡ true
     arrow ts =
         let d = z.read (flat (Pair r v) ++ []) (w [] tt).0.0 in
         ap (λ o. seen (behind o (marks "->")))
         (bar_behind z.params d.0 (Punct 124 Apart ∷ (flat (Pair r v) ++ ts)) d.1)
-        ∙ ap (sees (marks "->")) (append_assoc (flat r) (flat v) ts) ∙ more_arrow (flat r) (flat v ++ ts) u
-typed_part (Pair (Pair (Second b) c) _) f u w n = absurd f.1
-typed_part (Pair (Pair _ c) z) f u w n = cc
+        ∙ ap (sees (marks "->")) (append_assoc (flat r) (flat v) ts)
+        ∙ more_arrow (flat r) (flat v ++ ts) (and_true (is_bound b) (sees (marks "->") (flat r)) u).1
+typed_part (Pair (Pair b c) _) f u w n = absurd f.1
 typed_part (Pair _ z) f u w n = absurd f.0
 typed_part _ f u w n = absurd f

@@ -11,13 +11,13 @@ use Rattle.syn_grammar.specs.Kind.{ExprTryBlock, ExprCall, ExprIndex, ExprTry, E
 use Rattle.syn_grammar.specs.Kind.{ExprBreak, ExprReturn, ExprYield, ExprRange, ExprRangeClosed, ExprAssign, ExprOr}
 use Rattle.syn_grammar.specs.Kind.{ExprAnd, ExprCompare, ExprBitOr, ExprBitXor, ExprBitAnd, ExprShift, ExprSum}
 use Rattle.syn_grammar.specs.Kind.{ExprProduct, ExprForLoop, ExprMacro, ExprIf, ExprMatch, ExprWhile, ExprCast}
-use Rattle.syn_grammar.specs.Kind.{ExprClosure, ExprTypedClosure, ReturnType, WithPlus}
-use Rattle.syn_grammar.specs.Tree.{Tree, Pair, First, Second, End, Again, Node, Whole, Alone, Front, Back, Infix, flat}
+use Rattle.syn_grammar.specs.Kind.{BoundLifetimes, ExprClosure, ExprTypedClosure, ReturnType, WithPlus}
+use Rattle.syn_grammar.specs.Tree.{Tree, Pair, First, End, Again, Node, Whole, Alone, Front, Back, Infix, flat}
 use Rattle.syn_grammar.specs.Kind.{ExprArray, ExprAsync, ExprBlock, ExprConst, ExprLet, ExprLoop, ExprRepeat}
 use Rattle.syn_grammar.specs.Gram.{Gram, star, operand, ref}
 use Rattle.syn_grammar.specs.Table.{table}
-use Rattle.syn_grammar.specs.Look.{sees}
-use Rattle.syn_grammar.specs.Say.{brace, marks}
+use Rattle.syn_grammar.specs.Look.{a_lifetime, sees, ◌then◌, ◌or◌}
+use Rattle.syn_grammar.specs.Say.{at, brace, marks, optional}
 use Rattle.syn_grammar.specs.Forms.{Case, first_form, fronts, front, has_right, inside, form_of, is_path_form}
 use Rattle.syn_grammar.specs.Forms.{stands_left}
 use Rattle.syn_grammar.specs.Derives.{Bound, Derives, IsLeft}
@@ -36,7 +36,8 @@ use Rattle.binding_laws.proofs.Begun.{first_passes}
 use Rattle.binding_laws.proofs.Levels.{not_true}
 use Rattle.expressions_back.proofs.Opened.{nothing_right, fixed_right, paren_right}
 use Rattle.expressions_back.proofs.Stands.{struct_is}
-use Rattle.grammar_back.specs.Covered.{has_step, has_form_step, inner, is_known, is_form, is_plain_part, all_covered}
+use Rattle.grammar_back.specs.Covered.{has_step, has_form_step, inner, is_bound, is_known, is_form, is_plain_part}
+use Rattle.grammar_back.specs.Covered.{all_covered}
 use Rattle.grammar_back.proofs.Dotted.{law_expr_await, law_expr_field, law_expr_method_call}
 use Rattle.grammar_back.proofs.Fits.{flat_kept, Fits, FitsForms, IsMeant, IsFormed, MayLack, MayHave}
 use Rattle.grammar_back.proofs.Printed.{OwnPrinted, Printed, WholeLaw}
@@ -349,22 +350,26 @@ none_behind p ExprAttributed y x r d o = none_first x o (inside p ExprAttributed
 none_behind p _ y x r d o = refl
 
 -- An own part is plain where what is held of it is.
+bound_back : (b : Tree) → Fits b (optional (at "for") (ref BoundLifetimes)) → is_bound (kept b) ≡ true
+    → is_bound b ≡ true
+bound_back (First b) f e =
+    ap (sees (at "for" then marks "<" then (a_lifetime or marks ">"))) (sym (flat_kept b (ref BoundLifetimes) f.1)) ∙ e
+bound_back _ f e = refl
+
 unbound_back : (y : Tree) → Fits y (table ExprClosure) → is_plain_part ExprClosure (kept y) ≡ true
     → is_plain_part ExprClosure y ≡ true
 unfolding table
-unbound_back (Pair (Second b) z) f e = refl
-unbound_back (Pair (First b) z) f e = cc
-unbound_back (Pair _ z) f e = absurd f.0
+unbound_back (Pair b z) f e = bound_back b f.0 e
 unbound_back _ f e = absurd f
 
 untyped_back : (y : Tree) → Fits y (table ExprTypedClosure) → is_plain_part ExprTypedClosure (kept y) ≡ true
     → is_plain_part ExprTypedClosure y ≡ true
 unfolding table
-untyped_back (Pair (Pair (Second b) c) (Pair r z)) f e =
-    ap (sees (marks "->")) (sym (flat_kept r (ref (ReturnType WithPlus)) f.1.0)) ∙ e
-untyped_back (Pair (Pair (Second b) c) _) f e = absurd f.1
-untyped_back (Pair (Pair (First b) c) z) f e = cc
-untyped_back (Pair (Pair _ c) z) f e = absurd f.0.0
+untyped_back (Pair (Pair b c) (Pair r z)) f e =
+    let h = and_true (is_bound (kept b)) (sees (marks "->") (flat (kept r))) e in
+    ap (λ i. i && sees (marks "->") (flat r)) (bound_back b f.0.0 h.0)
+    ∙ ap (sees (marks "->")) (sym (flat_kept r (ref (ReturnType WithPlus)) f.1.0)) ∙ h.1
+untyped_back (Pair (Pair b c) _) f e = absurd f.1
 untyped_back (Pair _ z) f e = absurd f.0
 untyped_back _ f e = absurd f
 
