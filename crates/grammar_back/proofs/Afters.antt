@@ -26,7 +26,7 @@ no_such (t ∷ ts) e = cc e
 
 -- what the looks don't see may follow
 pub suffices : (k : Kind) (x : Tree) (s : List Token) → LacksAll (behind k) s → After k x s
-suffices (Expression Plain) x s a = a
+suffices (Expression Plain) x s a = inl a
 suffices (Expression InCondition) x s a = a
 suffices (Expression InArm) x s a = inl a
 suffices (Expression InStatement) x s a = inl a
@@ -39,6 +39,7 @@ suffices _ x s a = a
 
 -- and of these kinds nothing else may
 abbrev pub is_by_tokens : Kind → Bool
+is_by_tokens (Expression Plain) = false
 is_by_tokens (Expression InArm) = false
 is_by_tokens (Expression InStatement) = false
 is_by_tokens AStatement = false
@@ -49,7 +50,7 @@ is_by_tokens ImplGenerics = false
 is_by_tokens k = true
 
 pub by_tokens : (k : Kind) (x : Tree) (s : List Token) → is_by_tokens k ≡ true → After k x s → LacksAll (behind k) s
-by_tokens (Expression Plain) x s e a = a
+by_tokens (Expression Plain) x s e a = cc
 by_tokens (Expression InCondition) x s e a = a
 by_tokens (Expression InArm) x s e a = cc
 by_tokens (Expression InStatement) x s e a = cc

@@ -10,6 +10,7 @@ use Rattle.syn_grammar.specs.Forms.{inside, is_block_like, is_brace_macro, is_ra
 use Rattle.syn_grammar.specs.Kept.{held, kept}
 use Rattle.syn_grammar.specs.Normal.{formed, normal}
 use Rattle.syn_grammar.specs.Parens.{begins_in, front_form, may_lack, parens_unless, with_right}
+use Rattle.grammar_back.specs.After.{is_closed}
 use Rattle.grammar_back.proofs.Fits.{Fits, FitsForms}
 
 unlike : false ≡ true → ⊥
@@ -146,3 +147,11 @@ ends_back InStatement x f e =
     (macro_back x f) e
 ends_back Plain x f e = cc
 ends_back InCondition x f e = cc
+
+-- and one that else may follow
+pub closed_kept : (x : Tree) → FitsForms x → is_closed (kept x) ≡ is_closed x
+closed_kept (Alone k y) f = refl
+closed_kept (Front k y x) f = closed_kept x f.3
+closed_kept (Back l k y) f = ap is_closed (f.3 (kept l))
+closed_kept (Infix l k y r) f = closed_kept r f.4
+closed_kept _ f = absurd f

@@ -12,9 +12,9 @@ use Rattle.syn_grammar.specs.Kept.{kept}
 use Rattle.syn_grammar.specs.Normal.{normal}
 use Rattle.syn_grammar.specs.Read.{IsRead}
 use Rattle.syn_grammar.proofs.Theorems.{one}
-use Rattle.grammar_back.specs.After.{After, EndsStatement, EndsThere, expression_of, is_open}
+use Rattle.grammar_back.specs.After.{After, EndsStatement, EndsThere, expression_of, is_closed, is_open}
 use Rattle.grammar_back.specs.Sees.{LacksAll}
-use Rattle.grammar_back.proofs.Ends.{ends_back}
+use Rattle.grammar_back.proofs.Ends.{closed_kept, ends_back}
 use Rattle.grammar_back.proofs.Statements.{at_expression, contrary, ends_of, held_form, held_open, open_fits}
 use Rattle.syn_grammar.specs.Kept.{as_statement, held}
 use Rattle.syn_grammar.specs.Say.{marks}
@@ -95,10 +95,22 @@ statement_printed (Node k w) s f (inr a) =
     (subst (λ j. EndsStatement (kept (Node j w)) s) f.0 a))
 statement_printed _ s f a = absurd f
 
+closed_form : (x : Tree) → Fits x (table (Expression Plain))
+    → is_closed (kept (Node (Expression Plain) x)) ≡ is_closed x
+unfolding table held
+closed_form (Whole x) f = closed_kept x f.2
+closed_form _ f = absurd f
+
+closed_fits : (w : Tree) → Fits w (ref (Expression Plain)) → is_closed (kept w) ≡ is_closed w
+closed_fits (Node k x) f =
+    subst (λ j. is_closed (kept (Node j x)) ≡ is_closed x) (sym f.0)
+    (closed_form x (subst (λ j. Fits x (table j)) f.0 f.3))
+closed_fits _ f = absurd f
+
 -- what may follow what is kept may follow what is printed
 after_printed : (k : Kind) (w : Tree) (s : List Token) → IsAlone k → Fits w (ref k) → After k (kept w) s
     → After k w s
-after_printed (Expression Plain) w s p f a = a
+after_printed (Expression Plain) w s p f a = ⊎_elim (λ h. inl h) (λ h. inr (sym (closed_fits w f) ∙ h.0, h.1)) a
 after_printed (Expression InCondition) w s p f a = a
 after_printed (Expression InArm) w s p f a = cc p
 after_printed (Expression InStatement) w s p f a = cc p

@@ -18,15 +18,16 @@ use Rattle.syn_grammar.specs.Kind.{ReturnType, Segment, Segments, SeveralPattern
 use Rattle.syn_grammar.specs.Kind.{Statements, TraitItems, TraitPath, TypeParam, UnnamedField, UseBranch}
 use Rattle.syn_grammar.specs.Kind.{UseRooted, UseTop, UseTree, Variant, Visibility, Where, WhereClause}
 use Rattle.syn_grammar.specs.Kind.{WherePredicate, WithPlus, WithoutPlus}
-use Rattle.syn_grammar.specs.Look.{Look, maybe, no, a_quoted, a_lifetime, the_end, ◌then◌, ◌or◌}
+use Rattle.syn_grammar.specs.Look.{Look, maybe, no, sees, a_quoted, a_lifetime, the_end, ◌then◌, ◌or◌}
 use Rattle.syn_grammar.specs.Paths.{arguments_stand, parentheses_stand}
 use Rattle.syn_grammar.specs.Patterns.{vert, range_bound_stands, range_end_stands}
 use Rattle.syn_grammar.specs.Say.{at, marks, parenthesis, brace, bracket}
 use Rattle.syn_grammar.specs.Types.{colon, bound_stands}
 use Rattle.syn_grammar.specs.Words.{is_string}
-use Rattle.syn_grammar.specs.Tree.{Tree, Pair, First, Second, Called, Node, Whole}
+use Rattle.syn_grammar.specs.Tree.{Tree, Pair, First, Second, Called, Node, Whole, Alone, Front, Back, Infix}
+use Rattle.syn_grammar.specs.Parens.{may_lack}
 use Rattle.syn_grammar.specs.Kept.{is_there}
-use Rattle.std.specs.Prelude.{not}
+use Rattle.std.specs.Prelude.{not, ◌||◌}
 use Rattle.syn_grammar.specs.Kind.{AStatement}
 use Rattle.syn_grammar.specs.Name.{the_base}
 use Rattle.syn_grammar.specs.Part.{has}
@@ -188,6 +189,20 @@ EndsThere p x s =
     (ends_there p (whole x) ≡ true)
     × LacksAll ((no (marks "..") then marks ".") ∷ marks "?" ∷ at "else" ∷ []) s
 
+-- An expression that else may follow: it ends neither in a jump or a half-open range without its operand nor in an if.
+abbrev pub is_if : Kind → Bool
+is_if ExprIf = true
+is_if k = false
+
+abbrev pub is_closed : Tree → Bool
+is_closed (Node k x) = is_closed x
+is_closed (Whole x) = is_closed x
+is_closed (Alone k y) = not (may_lack k || is_if k)
+is_closed (Front k y x) = is_closed x
+is_closed (Back l k y) = not (may_lack k)
+is_closed (Infix l k y r) = is_closed r
+is_closed x = false
+
 -- of what stands in a struct expression: it is ..
 abbrev pub is_end : Tree → Bool
 is_end (Node k x) = is_end x
@@ -233,11 +248,14 @@ FollowsArm (Node k x) s = FollowsArm x s
 FollowsArm (First (Pair o (Pair p (Pair g (Pair a (Pair (Called n e) (Called m c))))))) s = EndsArm e c s
 FollowsArm x s = s ≡ []
 
--- What may follow a kind's tree: what these looks don't see; behind an expression in an arm or a statement also what
--- such a form ends before; behind a statement that has its ; or is no expression anything; behind an arm what is said
--- above; behind a field of a struct expression what may follow it, and behind .. the end; behind a type that is a path
--- what may follow one without plus; and behind the generics of an impl that are there anything.
+-- What may follow a kind's tree: what these looks don't see; behind a plain expression also else, as said above; behind
+-- one in an arm or a statement what such a form ends before; behind a statement that has its ; or is no expression
+-- anything; behind an arm what is said above; behind a field of a struct expression what may follow it, and behind ..
+-- the end; behind a type that is a path what may follow one without plus; and behind the generics of an impl that are
+-- there anything.
 abbrev pub After : Kind → Tree → List Token → Type 0
+After (Expression Plain) x s =
+    LacksAll (behind (Expression Plain)) s ⊎ ((is_closed x ≡ true) × (sees (at "else") s ≡ true))
 After (Expression InArm) x s = LacksAll (behind (Expression InArm)) s ⊎ EndsThere InArm x s
 After (Expression InStatement) x s = LacksAll (behind (Expression InStatement)) s ⊎ EndsThere InStatement x s
 After AStatement x s = LacksAll (behind AStatement) s ⊎ EndsStatement x s

@@ -34,7 +34,7 @@ as_back InCondition us = refl
 as_back InArm us = refl
 as_back InStatement us = refl
 
-goes_on_as : (p : Position) (y : Tree) (ts : List Token) → Derives y (table ExprCast) ts
+pub goes_on_as : (p : Position) (y : Tree) (ts : List Token) → Derives y (table ExprCast) ts
     → back p (flat y ++ ts) ≡ Some ExprCast
 unfolding table
 goes_on_as p (Pair (AWord cs) z) ts d =

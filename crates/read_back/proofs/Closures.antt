@@ -29,7 +29,7 @@ use Rattle.syn_grammar.specs.Normal.{normal}
 use Rattle.syn_grammar.specs.Forms.{front, past_bar}
 use Rattle.binding_laws.proofs.Begun.{is_front}
 use Rattle.binding_laws.proofs.Sights.{is_back}
-use Rattle.expressions_back.specs.Behind.{no_operand, AtEnd, BeforeOperand}
+use Rattle.expressions_back.specs.Behind.{no_operand, BeforeOperand}
 use Rattle.expressions_back.specs.Formed.{IsFront}
 use Rattle.expressions_back.proofs.Bools.{or_parts}
 use Rattle.grammar_back.proofs.Fits.{Fits}
@@ -376,10 +376,11 @@ closure_part y f u w n = record {
         ∙ (or_parts (marks "->" ts) _ m.0).0
 
 -- and of one with a type: behind its bars begins an arrow
-pub typed_part : (y : Tree) → Fits y (table ExprTypedClosure) → is_plain_part ExprTypedClosure y ≡ true
-    → OwnReady ExprTypedClosure y → flat (normal (kept y)) ≡ flat y → IsFront AtEnd ExprTypedClosure y
+pub typed_part : (M : List Token → Type 0) (y : Tree) → Fits y (table ExprTypedClosure)
+    → is_plain_part ExprTypedClosure y ≡ true
+    → OwnReady ExprTypedClosure y → flat (normal (kept y)) ≡ flat y → IsFront M ExprTypedClosure y
 unfolding table
-typed_part (Pair (Pair b c) (Pair r v)) f u w n = record {
+typed_part M (Pair (Pair b c) (Pair r v)) f u w n = record {
   begins = λ p ts s m. (at_words ts).0 p ∙ ap typed (arrow ts);
   read = λ ts m. (w ts tt).0;
   held = n;
@@ -405,6 +406,6 @@ typed_part (Pair (Pair b c) (Pair r v)) f u w n = record {
         (bar_behind z.params d.0 (Punct 124 Apart ∷ (flat (Pair r v) ++ ts)) d.1)
         ∙ ap (sees (marks "->")) (append_assoc (flat r) (flat v) ts)
         ∙ more_arrow (flat r) (flat v ++ ts) (and_true (is_bound b) (sees (marks "->") (flat r)) u).1
-typed_part (Pair (Pair b c) _) f u w n = absurd f.1
-typed_part (Pair _ z) f u w n = absurd f.0
-typed_part _ f u w n = absurd f
+typed_part M (Pair (Pair b c) _) f u w n = absurd f.1
+typed_part M (Pair _ z) f u w n = absurd f.0
+typed_part M _ f u w n = absurd f

@@ -22,10 +22,9 @@ use Rattle.syn_grammar.specs.Words.{indices}
 use Rattle.syn_grammar.specs.Normal.{normal}
 use Rattle.binding_laws.proofs.Sights.{back_same}
 use Rattle.binding_laws.proofs.Shells.{is_dot}
-use Rattle.expressions_back.specs.Behind.{BehindOperand}
 use Rattle.expressions_back.specs.Formed.{IsBehind}
 use Rattle.expressions_back.specs.Simple.{behind_dot, lone_await, lone_field, lone_number}
-use Rattle.expressions_back.proofs.Dots.{await_behind, field_behind, number_behind}
+use Rattle.expressions_back.proofs.Dots.{await_behind, number_behind}
 use Rattle.grammar_back.proofs.Fits.{Fits, IsMeant, IsWhole}
 use Rattle.grammar_back.proofs.Readies.{OwnReady}
 use Rattle.read_back.proofs.Split.{IsNumbers}
@@ -83,42 +82,44 @@ lone k (Pair _ x) z e f w = absurd f.0
 lone k _ z e f w = absurd f
 
 -- await, and a name or a number
-await_own : (y : Tree) → Fits y (table ExprAwait) → IsWhole ExprAwait y
-    → IsBehind (BehindOperand ExprAwait y) ExprAwait y
+await_own : (M : Tree → List Token → Type 0) (y : Tree) → Fits y (table ExprAwait) → IsWhole ExprAwait y
+    → IsBehind (M y) ExprAwait y
 unfolding table
-await_own (Pair w (AWord cs)) f i =
+await_own M (Pair w (AWord cs)) f i =
     let e : Pair w (AWord cs) ≡ lone_await =
     lone ExprAwait w (AWord cs) refl f.0 i
     ∙ ap (λ v. behind_dot (AWord v)) (sym ((bytes_eq-Decides (codes "await") cs).0 f.1)) in
-    subst (λ v. IsBehind (BehindOperand ExprAwait v) ExprAwait v) (sym e)
-    (await_behind (BehindOperand ExprAwait lone_await))
-await_own (Pair w _) f i = absurd f.1
-await_own _ f i = absurd f
+    subst (λ v. IsBehind (M v) ExprAwait v) (sym e)
+    (await_behind (M lone_await))
+await_own M (Pair w _) f i = absurd f.1
+await_own M _ f i = absurd f
 
 not_ended : (b : Bool) → not b ≡ true → b ≡ false
 not_ended false e = refl
 not_ended true e = cc
 
-field_own : (y : Tree) → Fits y (table ExprField) → IsMeant ExprField y → IsWhole ExprField y
-    → IsBehind (BehindOperand ExprField y) ExprField y
+field_own : (M : Tree → List Token → Type 0)
+    → ((cs : List ℕ) → is_ident cs ≡ true → IsBehind (M (lone_field cs)) ExprField (lone_field cs)) → (y : Tree)
+    → Fits y (table ExprField) → IsMeant ExprField y → IsWhole ExprField y
+    → IsBehind (M y) ExprField y
 unfolding table
-field_own (Pair w (First (Called n (AWord cs)))) f m i =
+field_own M names (Pair w (First (Called n (AWord cs)))) f m i =
     let e : Pair w (First (Called n (AWord cs))) ≡ lone_field cs =
     lone ExprField w (First (Called n (AWord cs))) refl f.0 i
     ∙ ap (λ v. behind_dot (First (Called v (AWord cs)))) f.1.1.0 in
-    subst (λ v. IsBehind (BehindOperand ExprField v) ExprField v) (sym e) (field_behind cs f.1.1.1)
-field_own (Pair w (First (Called n _))) f m i = absurd f.1.1.1
-field_own (Pair w (First _)) f m i = absurd f.1.1
-field_own (Pair w (Second (Called n (ALiteral cs)))) f m i =
+    subst (λ v. IsBehind (M v) ExprField v) (sym e) (names cs f.1.1.1)
+field_own M names (Pair w (First (Called n _))) f m i = absurd f.1.1.1
+field_own M names (Pair w (First _)) f m i = absurd f.1.1
+field_own M names (Pair w (Second (Called n (ALiteral cs)))) f m i =
     let e : Pair w (Second (Called n (ALiteral cs))) ≡ lone_number cs =
     lone ExprField w (Second (Called n (ALiteral cs))) refl f.0 i
     ∙ ap (λ v. behind_dot (Second (Called v (ALiteral cs)))) f.1.1.0 in
-    subst (λ v. IsBehind (BehindOperand ExprField v) ExprField v) (sym e)
-    (number_behind (BehindOperand ExprField (lone_number cs)) cs f.1.1.1 (not_ended (ends_in_dot cs) m.1))
-field_own (Pair w (Second (Called n _))) f m i = absurd f.1.1.1
-field_own (Pair w (Second _)) f m i = absurd f.1.1
-field_own (Pair w _) f m i = absurd f.1
-field_own _ f m i = absurd f
+    subst (λ v. IsBehind (M v) ExprField v) (sym e)
+    (number_behind (M (lone_number cs)) cs f.1.1.1 (not_ended (ends_in_dot cs) m.1))
+field_own M names (Pair w (Second (Called n _))) f m i = absurd f.1.1.1
+field_own M names (Pair w (Second _)) f m i = absurd f.1.1
+field_own M names (Pair w _) f m i = absurd f.1
+field_own M names _ f m i = absurd f
 
 -- a method: a parenthesis or :: stands behind its name
 no_await : (cs : List ℕ) → is_ident cs ≡ true → same_text (codes "await") cs ≡ false
@@ -163,10 +164,11 @@ call_seen (Pair (Second _) g) ts d = absurd d.0.1
 call_seen (Pair _ g) ts d = absurd d.0
 call_seen _ ts d = absurd d
 
-method_own : (y : Tree) → Fits y (table ExprMethodCall) → IsWhole ExprMethodCall y → OwnReady ExprMethodCall y
-    → flat (normal (kept y)) ≡ flat y → IsBehind (BehindOperand ExprMethodCall y) ExprMethodCall y
+method_own : (M : Tree → List Token → Type 0) (y : Tree) → Fits y (table ExprMethodCall) → IsWhole ExprMethodCall y
+    → OwnReady ExprMethodCall y
+    → flat (normal (kept y)) ≡ flat y → IsBehind (M y) ExprMethodCall y
 unfolding table
-method_own (Pair w (Pair (Called n (AWord cs)) g)) f i r h =
+method_own M (Pair w (Pair (Called n (AWord cs)) g)) f i r h =
     let e : Pair w (Pair (Called n (AWord cs)) g) ≡ behind_dot (Pair (Called n (AWord cs)) g) =
     lone ExprMethodCall w (Pair (Called n (AWord cs)) g) refl f.0 i in
     record {
@@ -176,14 +178,34 @@ method_own (Pair w (Pair (Called n (AWord cs)) g)) f i r h =
       read = λ ts m. (r ts tt).0;
       held = h;
     }
-method_own (Pair w (Pair (Called n _) g)) f i r h = absurd f.1.0.1
-method_own (Pair w (Pair _ g)) f i r h = absurd f.1.0
-method_own (Pair w _) f i r h = absurd f.1
-method_own _ f i r h = absurd f
+method_own M (Pair w (Pair (Called n _) g)) f i r h = absurd f.1.0.1
+method_own M (Pair w (Pair _ g)) f i r h = absurd f.1.0
+method_own M (Pair w _) f i r h = absurd f.1
+method_own M _ f i r h = absurd f
 
-pub dot_own : (k : Kind) (y : Tree) → is_dot k ≡ true → Fits y (table k) → IsMeant k y → IsWhole k y → OwnReady k y
-    → flat (normal (kept y)) ≡ flat y → IsBehind (BehindOperand k y) k y
-dot_own ExprField y e f m i r h = field_own y f m i
-dot_own ExprMethodCall y e f m i r h = method_own y f i r h
-dot_own ExprAwait y e f m i r h = await_own y f i
-dot_own _ y e f m i r h = cc
+pub dot_own : (M : Kind → Tree → List Token → Type 0)
+    → ((cs : List ℕ) → is_ident cs ≡ true → IsBehind (M ExprField (lone_field cs)) ExprField (lone_field cs))
+    → (k : Kind) (y : Tree) → is_dot k ≡ true → Fits y (table k) → IsMeant k y → IsWhole k y → OwnReady k y
+    → flat (normal (kept y)) ≡ flat y → IsBehind (M k y) k y
+dot_own M names ExprField y e f m i r h = field_own (M ExprField) names y f m i
+dot_own M names ExprMethodCall y e f m i r h = method_own (M ExprMethodCall) y f i r h
+dot_own M names ExprAwait y e f m i r h = await_own (M ExprAwait) y f i
+dot_own M names _ y e f m i r h = cc
+
+-- before else
+else_field : (cs : List ℕ) (us : List Token) → is_ident cs ≡ true
+    → back Plain (Punct 46 Apart ∷ Ident cs ∷ Ident (codes "else") ∷ us) ≡ Some ExprField
+unfolding back
+else_field cs us h = rw (no_await cs h, h) refl
+
+pub field_before_else : (M : List Token → Type 0)
+    → ((ts : List Token) → M ts → (us : List Token) × (ts ≡ Ident (codes "else") ∷ us)) → (cs : List ℕ)
+    → is_ident cs ≡ true → IsBehind M ExprField (lone_field cs)
+unfolding table
+field_before_else M is cs h = record {
+  goes_on = λ p ts s m. ap (λ us. back p (Punct 46 Apart ∷ Ident cs ∷ us)) (is ts m).1
+      ∙ back_same p Plain (Punct 46 Apart ∷ Ident cs ∷ Ident (codes "else") ∷ (is ts m).0) refl
+      ∙ else_field cs (is ts m).0 h;
+  read = λ ts m. (((refl, refl), (refl, refl)), (ap (λ b. seen (cond b (Some ts) None)) h, (refl, h)));
+  held = refl;
+}

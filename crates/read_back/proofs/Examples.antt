@@ -2,7 +2,8 @@
 -- statement; || 1; 1 as _ < 1; #[unsafe] 1; and 1; as a statement.
 use Rattle.std.proofs.Common.{◌≡◌, List, [], ◌∷◌, ◌++◌, refl, inl}
 use Rattle.std.specs.Prelude.{true, codes}
-use Rattle.syn_grammar.specs.Kind.{AMacro, AStatement, Delimited, ExprMacro, InCondition, InModule, Path, Plain, Expression}
+use Rattle.syn_grammar.specs.Kind.{AMacro, AStatement, Delimited, ExprMacro, InCondition, InModule, Path, Plain}
+use Rattle.syn_grammar.specs.Kind.{Expression}
 use Rattle.syn_grammar.specs.Kind.{ExprClosure, ExprLit, InStatement, Segments, AType, ExprAttributed, ExprCast}
 use Rattle.syn_grammar.specs.Kind.{ExprCompare, InferType, Meta, OuterAttribute, OuterAttributes, WithoutPlus}
 use Rattle.syn_grammar.specs.Name.{the_attributes, the_expression, the_semicolon, the_type}
@@ -36,7 +37,7 @@ covered = refl
 
 -- so it is read back
 pub minus_back : IsRead (Expression Plain) (flat (normal (kept printed)) ++ []) (normal (kept printed)) []
-minus_back = read_back (Expression Plain) printed [] [] sum_back covered (refl, tt)
+minus_back = read_back (Expression Plain) printed [] [] sum_back covered (inl (refl, tt))
 
 abbrev call_of : Tree → Tree
 call_of group =

@@ -25,6 +25,7 @@ use Rattle.grammar_back.proofs.AllKinds.{steps, laws}
 use Rattle.grammar_back.proofs.Expressions.{Expressions}
 use Rattle.grammar_back.proofs.Printed.{KindLaw, plain_law}
 use Rattle.grammar_back.proofs.Readies.{Ready, Step}
+use Rattle.read_back.proofs.Else.{read_before_else}
 use Rattle.read_back.proofs.Ended.{read_ended}
 use Rattle.read_back.proofs.Follow.{may_follow}
 use Rattle.read_back.proofs.Held.{stays}
@@ -52,7 +53,8 @@ read_after p x s i f o w a = go p i a
     ended p i e = read_ended x f o w p (stands_behind p) (settles (kept x) p (stands_behind p) i) e.0 s e.1
 
     go : (p : Position) → IsFormed p x → After (Expression p) (Whole x) s → Derives (Whole x) (operand p 0) s
-    go Plain i a = read_formed Plain x s i f o w (may_follow Plain s a)
+    go Plain i a =
+        ⊎_elim (λ l. read_formed Plain x s i f o w (may_follow Plain s l)) (λ e. read_before_else x s i f o w e.0 e.1) a
     go InCondition i a = read_formed InCondition x s i f o w (may_follow InCondition s a)
     go InArm i a =
         ⊎_elim (λ l. read_formed InArm x s i f o w (may_follow InArm s l)) (λ e. ended InArm i e) a

@@ -19,6 +19,7 @@ pub mod Operands
 pub mod Parts
 pub mod Wholes
 pub mod Ended
+pub mod Else
 pub mod Statements
 pub mod Forms
 pub mod ReadBack

@@ -9,12 +9,14 @@ use Rattle.syn_grammar.specs.Tree.{Tree, Whole, Alone, Front, Back, Infix, flat}
 use Rattle.syn_grammar.specs.Gram.{operand}
 use Rattle.syn_grammar.specs.Look.{sees}
 use Rattle.syn_grammar.specs.Say.{marks}
-use Rattle.syn_grammar.specs.Forms.{back, has_right, level, inside, within, is_path_form, may_be_left, ends_there}
+use Rattle.syn_grammar.specs.Forms.{back, front, has_right, level, inside, within, is_path_form, may_be_left}
+use Rattle.syn_grammar.specs.Forms.{ends_there}
 use Rattle.syn_grammar.specs.Forms.{is_dotted, chains, struct_stands}
 use Rattle.syn_grammar.specs.Derives.{Derives}
 use Rattle.syn_grammar.specs.Normal.{stands_behind}
 use Rattle.syn_grammar.specs.Parens.{parens_unless, may_lack, takes_what_follows, is_label, stays_right}
-use Rattle.syn_grammar.specs.Parens.{stays_left, is_struct, is_ended, follow, with_right}
+use Rattle.syn_grammar.specs.Parens.{begins_in, stands_in, stays_left, is_struct, is_ended, follow, with_right}
+use Rattle.syn_grammar.specs.Table.{table}
 use Rattle.syn_grammar.proofs.Whole.{and_true}
 use Rattle.binding_laws.specs.Meets.{NoneGoesOn, Meets}
 use Rattle.binding_laws.proofs.Levels.{or_false}
@@ -29,7 +31,8 @@ use Rattle.expressions_back.proofs.Near.{Beside, beside_inside, no_struct, ends_
 use Rattle.expressions_back.proofs.Near.{all_within}
 use Rattle.expressions_back.proofs.Opened.{no_label}
 use Rattle.expressions_back.proofs.ReadBack.{follows, quiet_last}
-use Rattle.expressions_back.proofs.Stands.{Stand, lone_right, alone_at, no_hash, have_right, stays_label, attributed_is}
+use Rattle.expressions_back.proofs.Stands.{Stand, lone_begins, lone_right, alone_at, no_hash, have_right}
+use Rattle.expressions_back.proofs.Stands.{stays_label, attributed_is}
 use Rattle.expressions_back.proofs.Stands.{is_no, infix_stands, infix_plain, brace_end, struct_is, path_lone}
 use Rattle.expressions_back.proofs.Turned as T
 
@@ -94,10 +97,27 @@ none (Infix l k y r) p ts rest s b e =
     )
 none _ p ts rest s b e = tt
 
+-- the last own part is read before what follows, where it begins its form or goes on with it
+abbrev pub Last : List Token → Tree → Type 0
+Last rest (Alone k y) =
+    ((p : Position) → begins_in p k ≡ true → front p (flat y ++ rest) ≡ Some k) × Derives y (table k) rest
+    × (sees no_operand (flat y ++ rest) ≡ false)
+Last rest (Front k y x) = Last rest x
+Last rest (Back l k y) =
+    ((p : Position) → stands_in p k ≡ true → back p (flat y ++ rest) ≡ Some k) × Derives y (table k) rest
+Last rest (Infix l k y r) = Last rest r
+Last rest x = Unit {0}
+
+last_at : (x : Tree) → Owned x → (rest : List Token) → AtEnd rest → LastEnds rest x → Last rest x
+last_at (Alone k y) f rest e le = (λ p s. f.0.begins p rest s e, f.0.read rest e, f.0.single rest e)
+last_at (Front k y x) f rest e le = last_at x f.3 rest e le
+last_at (Back l k y) f rest e le = (λ p s. f.0.goes_on p rest s (e, le), f.0.read rest (e, le))
+last_at (Infix l k y r) f rest e le = last_at r f.4 rest e le
+last_at _ f rest e le = absurd f
+
 -- an operand, before what follows it
 abbrev Standing : Position → List Token → Tree → Type 0
-Standing p ts x =
-    (rest : List Token) → Beside p p ts rest → AtEnd rest → LastEnds rest x → Stand p x rest
+Standing p ts x = (rest : List Token) → Beside p p ts rest → Last rest x → Stand p x rest
 
 record Right (p : Position) (k : Kind) (y x : Tree) (rest : List Token) : Type 0 where
   stand : Stand (inside p k) x rest
@@ -105,11 +125,11 @@ record Right (p : Position) (k : Kind) (y x : Tree) (rest : List Token) : Type 0
   right : has_right p k (flat x ++ rest) ≡ true
 
 right_at : (x : Tree) → Owned x → (p : Position) (k : Kind) (y : Tree) (ts rest : List Token) → Beside p p ts rest
-    → AtEnd rest → may_have_operand k ≡ true → (is_attributed k && is_attributed_form x) ≡ false
-    → stays_right p k y x ≡ true → Stays (inside p k) ts x → Standing (inside p k) ts x → LastEnds rest x
+    → may_have_operand k ≡ true → (is_attributed k && is_attributed_form x) ≡ false
+    → stays_right p k y x ≡ true → Stays (inside p k) ts x → Standing (inside p k) ts x → Last rest x
     → Right p k y x rest
-right_at x f p k y ts rest b e l a s t h le =
-    let st = h rest (beside_inside p p ts rest k b) e le in
+right_at x f p k y ts rest b l a s t h le =
+    let st = h rest (beside_inside p p ts rest k b) le in
     let g = begun_behind (flat x) rest (starts x f) in
     let i = and_true (within (level k) x) _ s in
     let j = and_true (not (may_lack k) || (has_right p k (flat x) && not (is_label k y (flat x)))) _ i.1 in
@@ -134,14 +154,15 @@ right_at x f p k y ts rest b e l a s t h le =
         (sym (ap (λ c. c && is_attributed_form x) i) ∙ a)
     hash st w false i = ap (λ c. c && sees (marks "#") (flat x ++ rest)) i
 
-left_at : (l : Tree) (p : Position) (k : Kind) (y : Tree) (rest : List Token) → Turns (flat y) → is_struct k ≡ false
+left_at : (l : Tree) → Owned l → (p : Position) (k : Kind) (y : Tree) (rest : List Token) → Turns (flat y)
+    → is_struct k ≡ false
     → back p (flat y ++ rest) ≡ Some k → stays_left p k y l ≡ true → Standing p (follow (flat y)) l
     → Stand p l (flat y ++ rest)
-left_at l p k y rest t s g e h =
+left_at l f p k y rest t s g e h =
     let a = and_true (may_be_left k l && (not (ends_there p l) || is_dotted k)) _ (or_false (is_struct k) _ e s) in
     let b = and_true (not (chains l k)) (is_ended k (flat y) l) a.1 in
-    h (flat y ++ rest) (beside_turn p p (flat y) rest (inl refl) t) (T.at_end t.0 (flat y) rest t.1)
-    (last_ended k (flat y) rest t p g l b.1)
+    h (flat y ++ rest) (beside_turn p p (flat y) rest (inl refl) t)
+    (last_at l f (flat y ++ rest) (T.at_end t.0 (flat y) rest t.1) (last_ended k (flat y) rest t p g l b.1))
 
 -- before the braces of a struct
 struct_at : (l : Tree) → Owned l → (p : Position) (k : Kind) (y : Tree) (rest : List Token) → is_struct k ≡ true
@@ -155,24 +176,27 @@ struct_at _ f p k y rest s i g = cc
 
 back_standing : (l : Tree) (k : Kind) (y : Tree) → Owned (Back l k y) → (p : Position) (ts : List Token)
     → Stays p ts (Back l k y) → Standing p (follow (flat y)) l → Standing p ts (Back l k y)
-back_standing l k y f p ts s h rest b e le =
-    let i = f.0.goes_on p rest s.0 (e, le) in
+back_standing l k y f p ts s h rest b le =
+    let i = le.0 p s.0 in
     let a = go i (is_struct k) refl in
     record {
-      spelled = (i, f.0.read rest (e, le), lone_right p p ts rest k b f.1 s.1, f.2, a.spelled);
+      spelled = (i, le.1, lone_right p p ts rest k b f.1 s.1, f.2, a.spelled);
       single = ap (λ us. sees no_operand us) (append_assoc (flat l) (flat y) rest) ∙ a.single;
     }
   where
     go : back p (flat y ++ rest) ≡ Some k → (c : Bool) → is_struct k ≡ c → Stand p l (flat y ++ rest)
     go i true c = struct_at l f.3 p k y rest c (f.2 c) i
-    go i false c = left_at l p k y rest (back_turns k y f.0 f.1 c) c i s.2 h
+    go i false c = left_at l f.3 p k y rest (back_turns k y f.0 f.1 c) c i s.2 h
 
 pub standing : (x : Tree) → Owned x → (p : Position) (ts : List Token) → Stays p ts x → Standing p ts x
 standing (Alone k y) f p ts s =
-    λ rest b e le. alone_at p k y rest f.0 f.1 e (lone_right p p ts rest k b f.1 s)
+    λ rest b le. record {
+      spelled = (le.0 p (lone_begins k p f.1), le.1, lone_right p p ts rest k b f.1 s);
+      single = le.2;
+    }
 standing (Front k y x) f p ts s =
-    λ rest b e le.
-    let r = right_at x f.3 p k y ts rest b e f.1 f.2 s.1 s.2 (standing x f.3 (inside p k) ts s.2) le in
+    λ rest b le.
+    let r = right_at x f.3 p k y ts rest b f.1 f.2 s.1 s.2 (standing x f.3 (inside p k) ts s.2) le in
     record {
       spelled = (
         f.0.begins p (flat x ++ rest) s.0 r.before,
@@ -185,11 +209,11 @@ standing (Front k y x) f p ts s =
     }
 standing (Back l k y) f p ts s = back_standing l k y f p ts s (standing l f.3 p (follow (flat y)) s.3)
 standing (Infix l k y r) f p ts s =
-    λ rest b e le.
+    λ rest b le.
     let n = infix_plain k r _ f.2 (f.0.goes_on Plain (Opens Parenthesis ∷ []) refl (paren_operand k y [])) in
-    let a = right_at r f.4 p k y ts rest b e f.1 n s.2 s.3 (standing r f.4 (inside p k) ts s.3) le in
+    let a = right_at r f.4 p k y ts rest b f.1 n s.2 s.3 (standing r f.4 (inside p k) ts s.3) le in
     let i = f.0.goes_on p (flat r ++ rest) (infix_stands p k f.2) a.before in
-    let c = left_at l p k y (flat r ++ rest) (infix_turns_of k y f.0 f.1) f.2 i s.0
+    let c = left_at l f.3 p k y (flat r ++ rest) (infix_turns_of k y f.0 f.1) f.2 i s.0
     (standing l f.3 p (follow (flat y)) s.1) in
     record {
       spelled = (
@@ -213,6 +237,22 @@ read_whole p x rest f s m =
     let ts : List Token = stands_behind p in (
       (all_within x, ends_here 0 p x rest a.none (path_ends x p ts rest s a.beside)),
       bound x p rest (meets x p ts s)
-          (standing x f p ts s rest a.beside a.at_end (quiet_last x rest a.quiet)).spelled
+          (standing x f p ts s rest a.beside (last_at x f rest a.at_end (quiet_last x rest a.quiet))).spelled
           (none x p ts rest s a.beside a.none),
+    )
+
+-- before what stands behind it where it stays as it stands
+as_it_stands : (p : Position) (ts : List Token) → Beside p p ts ts
+as_it_stands p ts = record {
+  near = inl refl;
+  behind = record { lacks = λ q k m h. h; braces = λ e. e };
+  plain = inl refl;
+}
+
+pub read_before : (p : Position) (x : Tree) (rest : List Token) → Owned x → Stays p rest x → Last rest x
+    → back InCondition rest ≡ None → Derives (Whole x) (operand p 0) rest
+read_before p x rest f s l e =
+    let b = as_it_stands p rest in (
+      (all_within x, ends_here 0 p x rest e (path_ends x p rest rest s b)),
+      bound x p rest (meets x p rest s) (standing x f p rest s rest b l).spelled (none x p rest rest s b e),
     )

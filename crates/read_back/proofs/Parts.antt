@@ -5,7 +5,8 @@ use Rattle.std.proofs.lemmas.List.{append-nil}
 use Rattle.proc_macro2.specs.Token.{Token, Opens}
 use Rattle.proc_macro2.specs.declared.delimiter.Delimiter.TheVariants.{Parenthesis, Brace}
 use Rattle.rust_leaf.specs.declared.punct.Spacing.TheVariants.{Alone as Apart}
-use Rattle.syn_grammar.specs.Kind.{Kind, Position, Plain, Expression, ExprLit, ExprPath, ExprContinue}
+use Rattle.syn_grammar.specs.Kind.{Kind, Position, Plain, InExpression, AtType, Expression, ExprLit, ExprPath}
+use Rattle.syn_grammar.specs.Kind.{ExprContinue}
 use Rattle.syn_grammar.specs.Kind.{ExprStruct, InCondition, InArm, InStatement, ExprParen, ExprGroup, ExprInfer}
 use Rattle.syn_grammar.specs.Kind.{ExprUnsafe, ExprTryBlock, ExprCall, ExprMethodCall, ExprField, ExprAwait}
 use Rattle.syn_grammar.specs.Kind.{ExprIndex, ExprTry}
@@ -16,6 +17,11 @@ use Rattle.syn_grammar.specs.Kind.{ExprShift, ExprSum, ExprProduct, ExprMacro, E
 use Rattle.syn_grammar.specs.Kind.{ExprAttributed, ExprCast, ExprClosure, ExprForLoop}
 use Rattle.syn_grammar.specs.Kind.{ExprArray, ExprAsync, ExprBlock, ExprConst, ExprLet, ExprLoop, ExprRepeat}
 use Rattle.syn_grammar.specs.Tree.{Tree, Alone, Front, Back, Infix, marks, flat}
+use Rattle.syn_grammar.specs.Words.{is_ident}
+use Rattle.syn_grammar.specs.Look.{a_lifetime, sees}
+use Rattle.syn_grammar.specs.Say.{at, marks as a_mark}
+use Rattle.syn_grammar.specs.Expressions.{postfix_stands}
+use Rattle.syn_grammar.specs.Paths.{arguments_stand, parentheses_stand}
 use Rattle.syn_grammar.specs.Ranks.{skips}
 use Rattle.syn_grammar.specs.Table.{table}
 use Rattle.syn_grammar.specs.Kept.{kept}
@@ -30,11 +36,14 @@ use Rattle.expressions_back.specs.Behind.{AtEnd, BeforeOperand, BehindOperand}
 use Rattle.expressions_back.specs.Firm.{is_firm_front, is_firm_behind, IsOwn}
 use Rattle.expressions_back.specs.Formed.{IsFront, IsBehind, ends_by_itself}
 use Rattle.expressions_back.specs.Formed.{may_lack_operand, may_have_operand}
-use Rattle.expressions_back.specs.Simple.{is_break, is_reference}
+use Rattle.expressions_back.specs.Simple.{is_break, is_reference, lone_field}
 use Rattle.expressions_back.proofs.Opened.{fixed_right}
-use Rattle.expressions_back.proofs.Owns.{behind_part}
+use Rattle.expressions_back.proofs.Dots.{field_behind}
+use Rattle.expressions_back.proofs.Names.{End, end}
+use Rattle.expressions_back.proofs.Owns.{behind_part, front_part}
 use Rattle.expressions_back.proofs.Simples.{end_front, prefix_front, behind_plain}
 use Rattle.grammar_back.specs.After.{After}
+use Rattle.grammar_back.specs.Sees.{LacksAll}
 use Rattle.grammar_back.specs.Covered.{has_form_step, is_plain_part}
 use Rattle.grammar_back.proofs.Begins.{Begins}
 use Rattle.grammar_back.proofs.Classes.{Class, Sign, TheWord, AnyWord, Quoted, Tick, Opening, Then, IsAt, IsAmong}
@@ -57,7 +66,7 @@ use Rattle.read_back.proofs.Paths.{path_part}
 use Rattle.read_back.proofs.Starting.{is_started, started_after, started_part, is_led, led_part}
 
 -- the kinds
-fronts_are : (p : Position) (k : Kind) (ts : List Token) → front p ts ≡ Some k → is_front k ≡ true
+pub fronts_are : (p : Position) (k : Kind) (ts : List Token) → front p ts ≡ Some k → is_front k ≡ true
 unfolding front
 fronts_are p k ts e = first_passes is_front (fronts p) ts k refl e
 
@@ -71,30 +80,30 @@ unfolding has_form_step may_lack level
 front_kind ExprUnary e f h = refl
 front_kind _ e f h = cc
 
-abbrev is_path : Kind → Bool
+abbrev pub is_path : Kind → Bool
 is_path ExprPath = true
 is_path k = false
 
-abbrev is_macro : Kind → Bool
+abbrev pub is_macro : Kind → Bool
 is_macro ExprMacro = true
 is_macro k = false
 
-abbrev is_typed : Kind → Bool
+abbrev pub is_typed : Kind → Bool
 is_typed ExprTypedClosure = true
 is_typed k = false
 
-alone_kind : (k : Kind) → has_part k ≡ true → is_front k ≡ true → may_lack_operand k ≡ true
+pub alone_kind : (k : Kind) → has_part k ≡ true → is_front k ≡ true → may_lack_operand k ≡ true
     → (is_path k || (is_macro k || (is_typed k || (is_started k || (is_block k || (is_firm_front k || is_break k))))))
     ≡ true
 unfolding has_form_step may_lack level
 alone_kind ExprLit e f h = refl
 alone_kind _ e f h = cc
 
-abbrev is_cast : Kind → Bool
+abbrev pub is_cast : Kind → Bool
 is_cast ExprCast = true
 is_cast k = false
 
-back_kind : (k : Kind) → has_part k ≡ true → is_back k ≡ true
+pub back_kind : (k : Kind) → has_part k ≡ true → is_back k ≡ true
     → (is_struct k || (is_cast k || (is_dot k || is_firm_behind k))) ≡ true
 unfolding has_form_step
 back_kind ExprCall e f = refl
@@ -110,7 +119,7 @@ not_false : (b : Bool) → not b ≡ false → b ≡ true
 not_false true e = refl
 not_false false e = cc
 
-lacks : (k : Kind) → MayLack k → may_lack_operand k ≡ true
+pub lacks : (k : Kind) → MayLack k → may_lack_operand k ≡ true
 lacks k h = go (may_lack k) refl
   where
     go : (b : Bool) → may_lack k ≡ b → may_lack_operand k ≡ true
@@ -128,59 +137,70 @@ has_one k h = go (may_lack k) refl
         ap (λ b. b || not (ends_by_itself k)) m
         ∙ (sym (fixed_right Plain k (Opens Parenthesis ∷ []) m) ∙ h)
 
--- nothing may follow
-before_nothing : (k : Kind) (y : Tree) → has_part k ≡ true → After k y []
+-- what may follow an own part: nothing that its looks see
+abbrev pub IsCalm : List Token → Type 0
+IsCalm s =
+    LacksAll (a_mark "::" ∷ arguments_stand InExpression ∷ a_lifetime ∷ at "mut" ∷ a_mark ":" ∷ a_mark "#"
+    ∷ postfix_stands ∷ arguments_stand AtType ∷ parentheses_stand AtType ∷ a_mark "->" ∷ []) s
+
+pub before_calm : (k : Kind) (y : Tree) (s : List Token) → has_part k ≡ true → IsCalm s
+    → (k ≡ ExprIf → sees (at "else") s ≡ false) → After k y s
 unfolding has_form_step
-before_nothing ExprLit y e = tt
-before_nothing ExprPath y e = (refl, (refl, tt))
-before_nothing ExprContinue y e = (refl, tt)
-before_nothing ExprStruct y e = tt
-before_nothing ExprParen y e = tt
-before_nothing ExprArray y e = tt
-before_nothing ExprRepeat y e = tt
-before_nothing ExprGroup y e = tt
-before_nothing ExprInfer y e = tt
-before_nothing ExprBlock y e = tt
-before_nothing ExprUnsafe y e = tt
-before_nothing ExprAsync y e = tt
-before_nothing ExprConst y e = tt
-before_nothing ExprTryBlock y e = tt
-before_nothing ExprLoop y e = tt
-before_nothing ExprCall y e = tt
-before_nothing ExprMethodCall y e = tt
-before_nothing ExprField y e = tt
-before_nothing ExprAwait y e = tt
-before_nothing ExprIndex y e = tt
-before_nothing ExprTry y e = tt
-before_nothing ExprUnary y e = tt
-before_nothing ExprRawAddr y e = tt
-before_nothing ExprReference y e = (refl, tt)
-before_nothing ExprLet y e = tt
-before_nothing ExprBreak y e = (refl, (refl, tt))
-before_nothing ExprReturn y e = tt
-before_nothing ExprYield y e = tt
-before_nothing ExprRange y e = tt
-before_nothing ExprRangeClosed y e = tt
-before_nothing ExprAssign y e = tt
-before_nothing ExprOr y e = tt
-before_nothing ExprAnd y e = tt
-before_nothing ExprCompare y e = tt
-before_nothing ExprBitOr y e = tt
-before_nothing ExprBitXor y e = tt
-before_nothing ExprBitAnd y e = tt
-before_nothing ExprShift y e = tt
-before_nothing ExprSum y e = tt
-before_nothing ExprProduct y e = tt
-before_nothing ExprMacro y e = tt
-before_nothing ExprIf y e = (refl, tt)
-before_nothing ExprMatch y e = tt
-before_nothing ExprWhile y e = tt
-before_nothing ExprForLoop y e = tt
-before_nothing ExprAttributed y e = (refl, tt)
-before_nothing ExprCast y e = (refl, (refl, (refl, (refl, (refl, tt)))))
-before_nothing ExprClosure y e = tt
-before_nothing ExprTypedClosure y e = tt
-before_nothing _ y e = cc
+before_calm ExprLit y s e c h = tt
+before_calm ExprPath y s e c h = (c.0, (c.1.0, tt))
+before_calm ExprContinue y s e c h = (c.1.1.0, tt)
+before_calm ExprStruct y s e c h = tt
+before_calm ExprParen y s e c h = tt
+before_calm ExprArray y s e c h = tt
+before_calm ExprRepeat y s e c h = tt
+before_calm ExprGroup y s e c h = tt
+before_calm ExprInfer y s e c h = tt
+before_calm ExprBlock y s e c h = tt
+before_calm ExprUnsafe y s e c h = tt
+before_calm ExprAsync y s e c h = tt
+before_calm ExprConst y s e c h = tt
+before_calm ExprTryBlock y s e c h = tt
+before_calm ExprLoop y s e c h = tt
+before_calm ExprCall y s e c h = tt
+before_calm ExprMethodCall y s e c h = tt
+before_calm ExprField y s e c h = tt
+before_calm ExprAwait y s e c h = tt
+before_calm ExprIndex y s e c h = tt
+before_calm ExprTry y s e c h = tt
+before_calm ExprUnary y s e c h = tt
+before_calm ExprRawAddr y s e c h = tt
+before_calm ExprReference y s e c h = (c.1.1.1.0, tt)
+before_calm ExprLet y s e c h = tt
+before_calm ExprBreak y s e c h = (c.1.1.0, (c.1.1.1.1.0, tt))
+before_calm ExprReturn y s e c h = tt
+before_calm ExprYield y s e c h = tt
+before_calm ExprRange y s e c h = tt
+before_calm ExprRangeClosed y s e c h = tt
+before_calm ExprAssign y s e c h = tt
+before_calm ExprOr y s e c h = tt
+before_calm ExprAnd y s e c h = tt
+before_calm ExprCompare y s e c h = tt
+before_calm ExprBitOr y s e c h = tt
+before_calm ExprBitXor y s e c h = tt
+before_calm ExprBitAnd y s e c h = tt
+before_calm ExprShift y s e c h = tt
+before_calm ExprSum y s e c h = tt
+before_calm ExprProduct y s e c h = tt
+before_calm ExprMacro y s e c h = tt
+before_calm ExprIf y s e c h = (h refl, tt)
+before_calm ExprMatch y s e c h = tt
+before_calm ExprWhile y s e c h = tt
+before_calm ExprForLoop y s e c h = tt
+before_calm ExprAttributed y s e c h = (c.1.1.1.1.1.0, tt)
+before_calm ExprCast y s e c h =
+    (c.1.1.1.1.1.1.0, (c.0, (c.1.1.1.1.1.1.1.0, (c.1.1.1.1.1.1.1.1.0, (c.1.1.1.1.1.1.1.1.1.0, tt)))))
+before_calm ExprClosure y s e c h = tt
+before_calm ExprTypedClosure y s e c h = tt
+before_calm _ y s e c h = cc
+
+before_nothing : (k : Kind) (y : Tree) → has_part k ≡ true → After k y []
+before_nothing k y e =
+    before_calm k y [] e (refl, (refl, (refl, (refl, (refl, (refl, (refl, (refl, (refl, (refl, tt)))))))))) (λ i. refl)
 
 pub own : (k : Kind) (y : Tree) → has_part k ≡ true → Fits y (table k) → OwnReady k y → normal (kept y) ≡ kept y
     → IsOwn k y
@@ -195,51 +215,79 @@ brace_back InCondition us s = cc
 brace_back InArm us s = refl
 brace_back InStatement us s = refl
 
-struct_part : (y : Tree) → OwnReady ExprStruct y → flat (normal (kept y)) ≡ flat y
-    → IsBehind (BehindOperand ExprStruct y) ExprStruct y
+struct_part : (M : List Token → Type 0) (y : Tree) → OwnReady ExprStruct y → flat (normal (kept y)) ≡ flat y
+    → IsBehind M ExprStruct y
 unfolding skips
-struct_part y w n = record {
+struct_part M y w n = record {
   goes_on = λ p ts s m. of_all (λ us. back p us ≡ Some ExprStruct) (Opening Brace ∷ []) (flat y ++ ts)
       ((λ us. brace_back p us s), tt) (w ts tt).1;
   read = λ ts m. (w ts tt).0;
   held = n;
 }
 
-last_own : (k : Kind) (y : Tree) → (is_dot k || is_firm_behind k) ≡ true → Fits y (table k) → IsMeant k y → IsWhole k y
-    → OwnReady k y → IsOwn k y → IsBehind (BehindOperand k y) k y
-last_own k y m f i h w o = go (is_dot k) refl m
+-- By what M says of what stands behind: of a cast and of a field by its name it has to say more.
+pub record Says (M : Kind → Tree → List Token → Type 0) : Type 0 where
+  pub cast : (y : Tree) → OwnReady ExprCast y → flat (normal (kept y)) ≡ flat y → IsBehind (M ExprCast y) ExprCast y
+  pub field : (cs : List ℕ) → is_ident cs ≡ true → IsBehind (M ExprField (lone_field cs)) ExprField (lone_field cs)
+
+last_own : (M : Kind → Tree → List Token → Type 0) → Says M → (k : Kind) (y : Tree)
+    → (is_dot k || is_firm_behind k) ≡ true → Fits y (table k) → IsMeant k y → IsWhole k y
+    → OwnReady k y → IsOwn k y → IsBehind (M k y) k y
+last_own M n k y m f i h w o = go (is_dot k) refl m
   where
-    go : (b : Bool) → is_dot k ≡ b → (b || is_firm_behind k) ≡ true → IsBehind (BehindOperand k y) k y
-    go true e m = dot_own k y e f i h w o.1
-    go false e m = behind_part (BehindOperand k y) k y m o
+    go : (b : Bool) → is_dot k ≡ b → (b || is_firm_behind k) ≡ true → IsBehind (M k y) k y
+    go true e m = dot_own M n.field k y e f i h w o.1
+    go false e m = behind_part (M k y) k y m o
 
-back_own : (k : Kind) (y : Tree) → (is_struct k || (is_cast k || (is_dot k || is_firm_behind k))) ≡ true
-    → Fits y (table k) → IsMeant k y → IsWhole k y → OwnReady k y → IsOwn k y
-    → IsBehind (BehindOperand k y) k y
-back_own ExprStruct y m f i h w o = struct_part y w o.1
-back_own ExprCast y m f i h w o = cast_part y w o.1
-back_own k y m f i h w o = last_own k y m f i h w o
+pub back_own : (M : Kind → Tree → List Token → Type 0) → Says M → (k : Kind) (y : Tree)
+    → (is_struct k || (is_cast k || (is_dot k || is_firm_behind k))) ≡ true
+    → Fits y (table k) → IsMeant k y → IsWhole k y → OwnReady k y → IsOwn k y → IsBehind (M k y) k y
+back_own M n ExprStruct y m f i h w o = struct_part (M ExprStruct y) y w o.1
+back_own M n ExprCast y m f i h w o = n.cast y w o.1
+back_own M n k y m f i h w o = last_own M n k y m f i h w o
 
-end_own : (k : Kind) (y : Tree) → (is_block k || (is_firm_front k || is_break k)) ≡ true → Fits y (table k)
-    → OwnReady k y → IsOwn k y → IsFront AtEnd k y
-end_own k y m f w o = go (is_block k) refl m
+says : Says BehindOperand
+says = record { cast = cast_part; field = field_behind }
+
+-- And at the end: of break, and of what goes on there, it has to say more.
+pub record Ends (M : List Token → Type 0) (k : Kind) (y : Tree) : Type 0 where
+  pub ends : (ts : List Token) → M ts → End ts
+  pub started : is_started k ≡ true → (ts : List Token) → M ts → After k y ts
+  pub jump : is_break k ≡ true → IsFront M k y
+
+end_own : (M : List Token → Type 0) (k : Kind) (y : Tree) → Ends M k y
+    → (is_block k || (is_firm_front k || is_break k)) ≡ true → Fits y (table k)
+    → OwnReady k y → IsOwn k y → IsFront M k y
+end_own M k y n m f w o = go (is_block k) (is_firm_front k) refl refl m
   where
-    go : (b : Bool) → is_block k ≡ b → (b || (is_firm_front k || is_break k)) ≡ true → IsFront AtEnd k y
-    go true e m = block_part AtEnd k y e f w o.1
-    go false e m = end_front k y m o
+    go : (b c : Bool) → is_block k ≡ b → is_firm_front k ≡ c → (b || (c || is_break k)) ≡ true → IsFront M k y
+    go true c e g m = block_part M k y e f w o.1
+    go false true e g m = front_part M k y g o
+    go false false e g m = n.jump m
 
-alone_own : (k : Kind) (y : Tree)
+pub alone_own : (M : List Token → Type 0) (k : Kind) (y : Tree) → Ends M k y
     → (is_path k || (is_macro k || (is_typed k || (is_started k || (is_block k || (is_firm_front k || is_break k))))))
-    ≡ true → is_plain_part k y ≡ true → Fits y (table k) → OwnReady k y → IsOwn k y → IsFront AtEnd k y
-alone_own ExprPath y m u f w o = path_part y w o.1
-alone_own ExprMacro y m u f w o = macro_part AtEnd y f w o.1
-alone_own ExprTypedClosure y m u f w o = typed_part y f u w o.1
-alone_own k y m u f w o = go (is_started k) refl m
+    ≡ true → is_plain_part k y ≡ true → Fits y (table k) → OwnReady k y → IsOwn k y → IsFront M k y
+alone_own M ExprPath y n m u f w o = path_part M n.ends y w o.1
+alone_own M ExprMacro y n m u f w o = macro_part M y f w o.1
+alone_own M ExprTypedClosure y n m u f w o = typed_part M y f u w o.1
+alone_own M k y n m u f w o = go (is_started k) refl m
   where
     go : (b : Bool) → is_started k ≡ b → (b || (is_block k || (is_firm_front k || is_break k))) ≡ true
-        → IsFront AtEnd k y
-    go true e m = started_part AtEnd k y e (started_after k y e) w o.1
-    go false e m = end_own k y m f w o
+        → IsFront M k y
+    go true e m = started_part M k y e (n.started e) w o.1
+    go false e m = end_own M k y n m f w o
+
+or_right : (a b : Bool) → b ≡ true → (a || b) ≡ true
+or_right true b e = refl
+or_right false b e = e
+
+at_end : (k : Kind) (y : Tree) → IsOwn k y → Ends AtEnd k y
+at_end k y o = record {
+  ends = end;
+  started = λ e. started_after k y e;
+  jump = λ e. end_front k y (or_right (is_firm_front k) (is_break k) e) o;
+}
 
 front_own : (k : Kind) (y : Tree)
     → (is_closure k || (is_led k || (is_firm_front k || is_break k || is_reference k))) ≡ true
@@ -257,7 +305,8 @@ pub owned : (x : Tree) → FitsForms x → HasOperandsOf has_part x → Ready x 
 owned (Alone k y) h o w p ts s =
     let l = lacks k o.1 in
     let m = alone_kind k o.0.0 (fronts_are o.0.1 k o.0.2 o.0.3) l in
-    (alone_own k y m o.2 h.1 w (own k y o.0.0 h.1 w s.0), l)
+    let i = own k y o.0.0 h.1 w s.0 in
+    (alone_own AtEnd k y (at_end k y i) m o.2 h.1 w i, l)
 owned (Front k y x) h o w p ts s =
     let m = front_kind k o.0.0 (fronts_are o.0.1 k o.0.2 o.0.3) (has_one k o.1) in (
       front_own k y m o.4 h.1 w.0 (own k y o.0.0 h.1 w.0 s.0),
@@ -268,7 +317,7 @@ owned (Front k y x) h o w p ts s =
 owned (Back l k y) h o w p ts s =
     let t : Settled p ts (Back (kept l) k (kept y)) = subst (Settled p ts) (h.3 (kept l)) s in
     let m = back_kind k o.0.0 (backs_are o.0.1 k o.0.2 o.0.3) in (
-      back_own k y m h.1 h.2 h.3 w.1 (own k y o.0.0 h.1 w.1 t.0),
+      back_own BehindOperand says k y m h.1 h.2 h.3 w.1 (own k y o.0.0 h.1 w.1 t.0),
       lacks k o.1,
       o.3,
       owned l h.4 o.2 w.0 p (follow (flat (kept y))) t.4,

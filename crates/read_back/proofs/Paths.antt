@@ -21,10 +21,10 @@ use Rattle.syn_grammar.specs.Derives.{Derives}
 use Rattle.syn_grammar.specs.Kept.{kept}
 use Rattle.syn_grammar.specs.Normal.{normal}
 use Rattle.syn_grammar.specs.Forms.{front, macro_call_stands}
-use Rattle.expressions_back.specs.Behind.{AtEnd, no_operand}
+use Rattle.expressions_back.specs.Behind.{no_operand}
 use Rattle.expressions_back.specs.Formed.{IsFront}
 use Rattle.expressions_back.proofs.Bools.{never}
-use Rattle.expressions_back.proofs.Names.{end, colons, no_more, path_front, raw_off}
+use Rattle.expressions_back.proofs.Names.{End, colons, no_more, path_front, raw_off}
 use Rattle.grammar_back.proofs.Readies.{OwnReady}
 
 abbrev pub bang : Look
@@ -67,9 +67,8 @@ record Tail (us : List Token) : Type 0 where
   no_const : sees (at "const") us ≡ false
   no_mut : sees (at "mut") us ≡ false
 
-end_tail : (ts : List Token) → AtEnd ts → Tail ts
-end_tail ts e =
-    let f = end ts e in
+end_tail : (ts : List Token) → End ts → Tail ts
+end_tail ts f =
     record {
       calm = calm_end ts (ap (λ o. behind o a_name) (colons ts f.colon)) f.bang;
       no_const = f.const;
@@ -153,7 +152,7 @@ more_tail : (c : ℕ) (cs : List ℕ) (spacing : Spacing) (z : Tree) (ts : List 
 more_tail c cs spacing z ts e f n =
     subst Tail (sym (append_assoc (signs c cs spacing) (flat z) ts)) (name_tail c cs spacing (flat z ++ ts) e f n)
 
-segments_named : (z : Tree) (ts : List Token) → Derives z (table (Segments InExpression)) ts → AtEnd ts
+segments_named : (z : Tree) (ts : List Token) → Derives z (table (Segments InExpression)) ts → End ts
     → Named (flat z ++ ts)
 unfolding table
 segments_named (First (Pair (AWord cs) (First (Pair (AMark c ms spacing) (Node k z))))) ts d e =
@@ -214,7 +213,7 @@ root_begun c cs i z ts e f n =
       n,
     ))
 
-path_begun : (x : Tree) (ts : List Token) → Derives x (table (Path InExpression)) ts → AtEnd ts → Begun (flat x ++ ts)
+path_begun : (x : Tree) (ts : List Token) → Derives x (table (Path InExpression)) ts → End ts → Begun (flat x ++ ts)
 unfolding table Begun
 path_begun (Pair (First (AMark c cs i)) (Node k z)) ts d e =
     root_begun c cs i z ts d.0.1.0 d.0.1.1 (segments_named z ts (subst (λ j. Derives z (table j) ts) d.1.0 d.1.1) e)
@@ -227,7 +226,7 @@ path_begun (Pair (Second _) y) ts d e = absurd d.0.1
 path_begun (Pair _ y) ts d e = absurd d.0
 path_begun _ ts d e = absurd d
 
-any_begun : (x : Tree) (ts : List Token) → Derives x (table (AnyPath InExpression)) ts → AtEnd ts
+any_begun : (x : Tree) (ts : List Token) → Derives x (table (AnyPath InExpression)) ts → End ts
     → Begun (flat x ++ ts)
 unfolding table
 any_begun (First x) ts d e = less_begun (flat x ++ ts) d.0
@@ -235,7 +234,7 @@ any_begun (Second (Node k x)) ts d e = path_begun x ts (subst (λ j. Derives x (
 any_begun (Second _) ts d e = absurd d.1
 any_begun _ ts d e = absurd d
 
-begun : (y : Tree) (ts : List Token) → Derives y (table ExprPath) ts → AtEnd ts → Begun (flat y ++ ts)
+begun : (y : Tree) (ts : List Token) → Derives y (table ExprPath) ts → End ts → Begun (flat y ++ ts)
 unfolding table
 begun (Node k x) ts d e = any_begun x ts (subst (λ j. Derives x (table j) ts) d.0 d.1) e
 begun _ ts d e = absurd d
@@ -365,16 +364,16 @@ begun_front p us (inr (inl b)) =
     )
 begun_front p us (inr (inr n)) = named_front p us n
 
-pub path_part : (y : Tree) → OwnReady ExprPath y → flat (normal (kept y)) ≡ flat y → IsFront AtEnd ExprPath y
-path_part y w n = record {
-  begins = λ p ts s e. (begun_front p (flat y ++ ts) (begun y ts (read ts e) e)).0;
+pub path_part : (M : List Token → Type 0) → ((ts : List Token) → M ts → End ts) → (y : Tree) → OwnReady ExprPath y
+    → flat (normal (kept y)) ≡ flat y → IsFront M ExprPath y
+path_part M ends y w n = record {
+  begins = λ p ts s e. (begun_front p (flat y ++ ts) (begun y ts (read ts e) (ends ts e))).0;
   read = read;
   held = n;
-  single = λ ts e. (begun_front Plain (flat y ++ ts) (begun y ts (read ts e) e)).1;
+  single = λ ts e. (begun_front Plain (flat y ++ ts) (begun y ts (read ts e) (ends ts e))).1;
 }
   where
-    read : (ts : List Token) → AtEnd ts → Derives y (table ExprPath) ts
+    read : (ts : List Token) → M ts → Derives y (table ExprPath) ts
     read ts e =
-        let f = end ts e in
-        let c = colons ts f.colon in
+        let c = colons ts (ends ts e).colon in
         (w ts (ap seen c, (ap (λ o. seen (behind o (marks "<"))) c, tt))).0

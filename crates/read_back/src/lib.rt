@@ -9,7 +9,8 @@
 //! read before `<` where they are before `<=`, by `Lesser`, of closures by `Closures`, of those that their first token
 //! tells by `Starting`, of arrays, repeats, blocks and loops by `Blocks`, of which `Semicolons` tells the first two
 //! apart, as `Quiet` does it with any mark, and `Loops` tells those by `for` from closures), and then it is read
-//! (`Owned`) before what may follow it (`Follow`; `Ended` has the forms that end a statement or an arm by themselves).
+//! (`Owned`) before what may follow it (`Follow`; `Ended` has the forms that end a statement or an arm by themselves,
+//! and `Else` those that else may follow).
 //! For each expression that was read there is one as it is printed (`Wholes`), in which a number behind a dot is split
 //! as in what is held (`Split`), each form that it is split into fits (`Indices`), and each form has its operands
 //! (`Operands`). Where it begins a statement, nothing else is seen there (`Statements`, which has the step of
