@@ -1,0 +1,21 @@
+//! Rust source as trees of named parts: the written grammar of every form, read from tokens.
+//!
+//! A tree is walked by what it is (`Tree::node`, `pair`, `turns`, `list`, `group`, `whole`, `kind`) and by the names of
+//! its parts (`Tree::the`, `Tree::has`). Its kinds and names are those of the grammar, which `docs/GRAMMAR.md` shows how
+//! to read; its leaves lend the tokens, with their spans.
+//!
+//! - `parse`: tokens that are one form of a kind: a file, an item, a type, an expression.
+//! - `leaf`: the leaves of a tree, in their order, with where they stand.
+#![tactic(auto)]
+
+pub mod leaf;
+pub mod parse;
+
+pub use gram_table::kind::{Kind, Place, Plus, Position, Style};
+pub use gram_table::part::Part;
+pub use gram_tree::tree::{Element, Form, Three, Tree, Two};
+pub use leaf::{Leaf, put_leaves};
+pub use parse::{parse_as, parse_file};
+pub use proc_macro2::{LineColumn, SourceMap, Span, TokenStream};
+pub use syn_buffer::TokenBuffer;
+pub use syn_error::{Error, ParseFault};
