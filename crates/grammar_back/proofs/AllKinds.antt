@@ -112,7 +112,7 @@ use Rattle.grammar_back.proofs.Fields.{step_unnamed_field}
 use Rattle.grammar_back.proofs.Receivers.{step_parameter}
 use Rattle.grammar_back.proofs.Aliases.{step_type_in_file, step_type_in_foreign}
 use Rattle.grammar_back.proofs.Lets.{step_a_let}
-use Rattle.grammar_back.proofs.Statements.{law_statements, step_statements}
+use Rattle.grammar_back.proofs.StatementLists.{law_statements, step_statements}
 use Rattle.grammar_back.proofs.Turns.{step_items, step_foreign_items, step_trait_items}
 use Rattle.grammar_back.proofs.Turns.{step_impl_items}
 use Rattle.grammar_back.proofs.Arms.{step_arms, step_arm}

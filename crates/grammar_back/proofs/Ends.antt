@@ -62,7 +62,7 @@ block_read p h (Back l k y) e = absurd (unlike e)
 block_read p h (Infix l k y r) e = absurd (unlike e)
 block_read p h _ e = absurd (unlike e)
 
-macro_read : (p : Position) → begins_in p ExprAttributed ≡ true → (x : Tree) → is_brace_macro x ≡ true
+pub macro_read : (p : Position) → begins_in p ExprAttributed ≡ true → (x : Tree) → is_brace_macro x ≡ true
     → is_brace_macro (formed p [] (kept x)) ≡ true
 unfolding may_lack held inside
 macro_read p h (Alone ExprMacro (Node AMacro (Pair a (Pair s (Node Delimited (Second (First g))))))) e = refl
@@ -111,20 +111,28 @@ delimited_back a b (Second _) f e = absurd f.1
 delimited_back a b (First g) f e = cc
 delimited_back a b _ f e = absurd f
 
-call_back : (z : Tree) → Fits z (table AMacro) → Turns (Alone ExprMacro (Node AMacro z))
+-- a macro, by its path, its ! and its group
+each_macro : (P : Tree → Type 0)
+    → ((a b d : Tree) → Fits d (table Delimited) → P (Node AMacro (Pair a (Pair b (Node Delimited d)))))
+    → (z : Tree) → Fits z (table AMacro) → P (Node AMacro z)
 unfolding table
-call_back (Pair a (Pair b (Node j d))) f =
-    subst (λ i. Turns (Alone ExprMacro (Node AMacro (Pair a (Pair b (Node i d)))))) (sym f.1.1.0)
-    (delimited_back a b d (subst (λ i. Fits d (table i)) f.1.1.0 f.1.1.3))
-call_back (Pair a (Pair b _)) f = absurd f.1.1
-call_back (Pair a _) f = absurd f.1
-call_back _ f = absurd f
+each_macro P h (Pair a (Pair b (Node j d))) f =
+    subst (λ i. P (Node AMacro (Pair a (Pair b (Node i d))))) (sym f.1.1.0)
+    (h a b d (subst (λ i. Fits d (table i)) f.1.1.0 f.1.1.3))
+each_macro P h (Pair a (Pair b _)) f = absurd f.1.1
+each_macro P h (Pair a _) f = absurd f.1
+each_macro P h _ f = absurd f
 
-own_back : (y : Tree) → Fits y (table ExprMacro) → Turns (Alone ExprMacro y)
+pub each_call : (P : Tree → Type 0)
+    → ((a b d : Tree) → Fits d (table Delimited) → P (Node AMacro (Pair a (Pair b (Node Delimited d)))))
+    → (y : Tree) → Fits y (table ExprMacro) → P y
 unfolding table
-own_back (Node k z) f =
-    subst (λ i. Turns (Alone ExprMacro (Node i z))) (sym f.0) (call_back z (subst (λ i. Fits z (table i)) f.0 f.3))
-own_back _ f = absurd f
+each_call P h (Node k z) f =
+    subst (λ i. P (Node i z)) (sym f.0) (each_macro P h z (subst (λ i. Fits z (table i)) f.0 f.3))
+each_call P h _ f = absurd f
+
+pub own_back : (y : Tree) → Fits y (table ExprMacro) → Turns (Alone ExprMacro y)
+own_back y f e = each_call (λ z. Turns (Alone ExprMacro z)) delimited_back y f e
 
 macro_back : (x : Tree) → FitsForms x → Turns x
 macro_back (Alone ExprMacro y) f e = own_back y f.1 e

@@ -57,6 +57,7 @@ pub mod Lets
 pub mod Turns
 pub mod Arms
 pub mod Statements
+pub mod StatementLists
 pub mod Impls
 pub mod AllKinds
 pub mod Expressions

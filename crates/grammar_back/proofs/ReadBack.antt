@@ -12,17 +12,20 @@ use Rattle.syn_grammar.specs.Kept.{kept}
 use Rattle.syn_grammar.specs.Normal.{normal}
 use Rattle.syn_grammar.specs.Read.{IsRead}
 use Rattle.syn_grammar.proofs.Theorems.{one}
-use Rattle.grammar_back.specs.After.{After, EndsStatement, EndsThere, expression_of, is_closed, is_open}
+use Rattle.grammar_back.specs.After.{After, EndsStatement, EndsThere, expression_of, is_closed, is_open, whole}
+use Rattle.syn_grammar.specs.Forms.{ends_there}
 use Rattle.grammar_back.specs.Sees.{LacksAll}
 use Rattle.grammar_back.proofs.Ends.{closed_kept, ends_back}
-use Rattle.grammar_back.proofs.Statements.{at_expression, contrary, ends_of, held_form, held_open, open_fits}
+use Rattle.grammar_back.proofs.Statements.{at_expression, contrary, held_form, held_open, is_macro_statement}
+use Rattle.grammar_back.proofs.Statements.{open_fits, open_kept}
+use Rattle.grammar_back.proofs.StatementLists.{ends_of, macro_ends}
 use Rattle.syn_grammar.specs.Kept.{as_statement, held}
 use Rattle.syn_grammar.specs.Say.{marks}
 use Rattle.syn_grammar.specs.Table.{table}
 use Rattle.grammar_back.specs.Covered.{is_statement_form}
 use Rattle.grammar_back.proofs.Fits.{IsMeant}
 use Rattle.std.specs.Prelude.{Bool, false}
-use Rattle.syn_grammar.specs.Tree.{Nil, Second, Whole}
+use Rattle.syn_grammar.specs.Tree.{First, Nil, Second, Whole}
 use Rattle.grammar_back.specs.Covered.{all_covered, is_covered, stands_alone}
 use Rattle.grammar_back.proofs.Choices.{both_true}
 use Rattle.grammar_back.proofs.Conditions.{is_condition_kind}
@@ -71,15 +74,29 @@ unfolding table
 is_ended x s f (inl e) = cc e
 is_ended x s f (inr e) = ((ends_back InStatement x f.2 e.0.0, e.0.1), e.1)
 
+call_ended : (w : Tree) (s : List Token) → Fits w (table AStatement) → is_statement_form w ≡ true → is_open w ≡ true
+    → is_macro_statement w ≡ true → EndsStatement (as_statement (kept w)) s
+    → EndsThere InStatement (expression_of w) s × LacksAll (marks ";" ∷ []) s
+call_ended w s f n o i h = go w i (open_kept w f n o) (macro_ends w f n i) h
+  where
+    go : (w : Tree) → is_macro_statement w ≡ true → is_open (as_statement (kept w)) ≡ true
+        → ends_there InStatement (whole (expression_of w)) ≡ true → EndsStatement (as_statement (kept w)) s
+        → EndsThere InStatement (expression_of w) s × LacksAll (marks ";" ∷ []) s
+    go (Second (First x)) i o g (inl e) = absurd (contrary (sym e ∙ o))
+    go (Second (First x)) i o g (inr e) = ((g, e.0.1), e.1)
+    go (Second _) i o g h = absurd (contrary i)
+    go _ i o g h = absurd (contrary i)
+
 ends_printed : (w : Tree) (s : List Token) → Fits w (table AStatement) → is_statement_form w ≡ true
     → EndsStatement (as_statement (kept w)) s → EndsStatement w s
 unfolding held
-ends_printed w s f n h = go (is_open w) refl
+ends_printed w s f n h = go (is_open w) (is_macro_statement w) refl refl
   where
-    go : (o : Bool) → is_open w ≡ o → EndsStatement w s
-    go false o = ends_of w s f (inl o)
-    go true o =
-        let p = open_fits w f n o in
+    go : (o c : Bool) → is_open w ≡ o → is_macro_statement w ≡ c → EndsStatement w s
+    go false c o i = ends_of w s f (inl o)
+    go true true o i = ends_of w s f (inr (call_ended w s f n o i h))
+    go true false o i =
+        let p = open_fits w f n o i in
         let e : EndsStatement (at_expression (held_form (kept p.form)) (Second Nil)) s =
         subst (λ z. EndsStatement z s) (held_open (kept p.form))
         (subst (λ z. EndsStatement (as_statement (kept z)) s) p.is h) in

@@ -1,59 +1,37 @@
--- Statements: their law, and the step and the law of lists of them. Behind an expression that has no ; stands none,
--- since none was read there; and it ends where the next statement begins, or nothing follows it.
-use Rattle.std.proofs.Common.{◌≡◌, List, [], ◌∷◌, ◌++◌, refl, sym, ap, ◌∙◌, subst, append_assoc}
-use Rattle.std.proofs.Common.{⊎_elim, inl, inr}
-use Rattle.std.specs.Prelude.{Bool, true, false, ◌&&◌, codes, cond, not}
-use Rattle.proc_macro2.specs.Token.{Token, Opens, Closes, Ident, Literal, Punct}
+-- Statements: their law, and of what is printed for one whether it needs its ; , and whether it is open: an expression
+-- or a macro without it.
+use Rattle.std.proofs.Common.{[], ap, List, refl, subst, sym, ◌++◌, ◌∙◌, ◌∷◌, ◌≡◌}
+use Rattle.std.specs.Prelude.{Bool, cond, false, not, true, ◌&&◌}
+use Rattle.proc_macro2.specs.Token.{Closes, Ident, Literal, Opens, Punct, Token}
 use Rattle.rust_leaf.specs.declared.punct.Spacing.TheVariants.{Alone as Apart, Joint}
-use Rattle.syn_grammar.specs.Kind.{Kind, AStatement, AnItem, Expression, ExprMacro, InStatement, OuterAttributes, Plain}
-use Rattle.syn_grammar.specs.Kind.{Position, Statements}
+use Rattle.syn_grammar.specs.Kind.{AnItem, AStatement, Expression, ExprMacro, InStatement, Kind, OuterAttributes}
+use Rattle.syn_grammar.specs.Kind.{Plain, Position}
 use Rattle.syn_grammar.specs.Name.{Part, same_part, the_attributes, the_expression, the_semicolon}
-use Rattle.syn_grammar.specs.Tree.{Tree, AMark, Again, Alone, Back, Called, End, First, Front, Infix, Nil, Node, Pair}
-use Rattle.syn_grammar.specs.Tree.{Raw}
-use Rattle.syn_grammar.specs.Tree.{Second, Verbatim, Whole, flat}
-use Rattle.syn_grammar.specs.Part.{choice, each_turn_but_last}
-use Rattle.syn_grammar.specs.Gram.{Gram, Keep, ref, star}
-use Rattle.syn_grammar.specs.Look.{lacks, no, sees, the_end, ◌then◌}
-use Rattle.syn_grammar.specs.Say.{at, marks, optional, sign, when◌read◌else◌, ◌∶◌, ◌▸◌}
-use Rattle.syn_grammar.specs.Types.{kept_if}
+use Rattle.syn_grammar.specs.Tree.{Again, Alone, AMark, Back, Called, End, First, flat, Front, Infix, Nil, Node, Pair}
+use Rattle.syn_grammar.specs.Tree.{Raw, Second, Tree, Verbatim, Whole}
+use Rattle.syn_grammar.specs.Part.{choice}
+use Rattle.syn_grammar.specs.Gram.{Gram, ref}
+use Rattle.syn_grammar.specs.Say.{marks, optional, sign, when◌read◌else◌, ◌∶◌, ◌▸◌}
 use Rattle.syn_grammar.specs.Statements.{needs_semicolon, statement}
-use Rattle.syn_grammar.specs.Forms.{ends_there, form_of}
-use Rattle.syn_grammar.specs.Ranks.{skips}
+use Rattle.syn_grammar.specs.Forms.{ends_there, form_of, inside, is_brace_macro}
 use Rattle.syn_grammar.specs.Table.{table}
 use Rattle.syn_grammar.specs.Derives.{Derives}
-use Rattle.syn_grammar.specs.Kept.{as_statement, expression_statement, given, held, is_macro, is_there, kept}
-use Rattle.syn_grammar.specs.Kept.{left_in_front}
-use Rattle.syn_grammar.specs.Kept.{own_part}
-use Rattle.syn_grammar.specs.Normal.{apart, apart_if, apart_item, formed, is_enclosed, normal, normal_in, passed}
-use Rattle.syn_grammar.specs.Normal.{place_of}
+use Rattle.syn_grammar.specs.Kept.{as_statement, held, is_macro, is_there, kept, own_part}
+use Rattle.syn_grammar.specs.Normal.{apart, apart_if, apart_item, formed, normal, normal_in, passed, place_of}
 use Rattle.syn_grammar.specs.Normal.{stands_behind}
-use Rattle.syn_grammar.specs.Parens.{begins_in, may_lack, parens_unless, stands_in, takes_what_follows, with_left}
-use Rattle.syn_grammar.specs.Parens.{follow, with_right}
-use Rattle.syn_grammar.specs.Forms.{inside}
+use Rattle.syn_grammar.specs.Parens.{begins_in, follow, may_lack, parens_unless, stands_in, takes_what_follows}
+use Rattle.syn_grammar.specs.Parens.{with_left, with_right}
 use Rattle.syn_grammar.proofs.Settled.{normal_twice}
-use Rattle.grammar_back.specs.After.{After, EndsStatement, EndsThere, expression_of, is_open}
-use Rattle.item_laws.proofs.Places.{kept_raw}
-use Rattle.std.specs.Prelude.{◌⊎◌}
+use Rattle.grammar_back.specs.After.{expression_of, is_open}
 use Rattle.grammar_back.specs.Covered.{all_covered, ends_apart, has_form_step, has_step, is_bare_front, is_begun}
-use Rattle.grammar_back.specs.Covered.{is_known}
-use Rattle.grammar_back.specs.Covered.{is_expression_form, is_no_macro, is_plain_expression, is_statement_form}
-use Rattle.grammar_back.specs.Covered.{is_statement_item, item_of}
-use Rattle.grammar_back.specs.Sees.{LacksAll}
+use Rattle.grammar_back.specs.Covered.{is_expression_form, is_known, is_macro_form, is_no_macro, is_plain_expression}
+use Rattle.grammar_back.specs.Covered.{is_statement_form, is_statement_item, item_of}
 use Rattle.grammar_back.proofs.Choices.{both_true, is_false}
-use Rattle.grammar_back.proofs.Classes.{IsAmong, Sign, ◌&◌}
-use Rattle.grammar_back.proofs.Begins.{Begins}
-use Rattle.grammar_back.proofs.Ends.{ends_back, ends_read}
-use Rattle.grammar_back.proofs.FieldValues.{end_is}
-use Rattle.grammar_back.proofs.Fits.{Fits, IsMeant, are_ended, has_own_semicolons, is_lone_mark, is_open_turn}
-use Rattle.grammar_back.proofs.Keywords.{reserved_else}
-use Rattle.grammar_back.proofs.Lets.{Law, at_item, item_law, let_printed}
-use Rattle.grammar_back.proofs.Readies.{Ready, Step}
-use Rattle.grammar_back.proofs.Fine.{AtOrNone}
-use Rattle.grammar_back.proofs.Parts.{Told, at_front, found_mark, told_at, unseen_all}
-use Rattle.grammar_back.proofs.Printed.{IsPlaced, KindLaw, Printed, TurnLaw, VerdictLaw, kept_entry, simple_law}
-use Rattle.grammar_back.proofs.Sights.{ident_not}
-use Rattle.grammar_back.proofs.Starts.{starts}
-use Rattle.grammar_back.proofs.WholeItems.{taken_law}
+use Rattle.grammar_back.proofs.Classes.{◌&◌}
+use Rattle.grammar_back.proofs.Ends.{ends_back, ends_read, macro_read, own_back}
+use Rattle.grammar_back.proofs.Fits.{Fits, is_open_turn, IsMeant}
+use Rattle.grammar_back.proofs.Lets.{at_item, item_law, Law, let_printed}
+use Rattle.grammar_back.proofs.Printed.{IsPlaced, KindLaw, Printed, simple_law, TurnLaw}
 
 -- a statement that is an expression with nothing in front
 abbrev pub none : Tree
@@ -204,7 +182,7 @@ form_fits (Whole x) f = (x, refl, f)
 form_fits _ f = absurd f
 
 -- by its parts
-abbrev with_names : Part → Tree → Part → Tree → Tree → Tree
+abbrev pub with_names : Part → Tree → Part → Tree → Tree → Tree
 with_names n a m e s = Second (Second (Second (Second (Pair (Called n a) (Pair (Called m e) s)))))
 
 parts_are : (n m : Part) (k l : Kind) (x y s : Tree) → n ≡ the_attributes → k ≡ OuterAttributes → m ≡ the_expression
@@ -265,6 +243,28 @@ expression_law q x r h =
       kept_is = ap (Node AStatement) (ap as_statement i.kept_is ∙ commutes (kept h.form) (kept h.semicolon));
     })
 
+-- a macro
+abbrev macro_part : Tree → Tree
+macro_part (Second (First (Pair a (Pair m s)))) = m
+macro_part x = x
+
+macro_printed : (x w : Tree) → Fits w statement → kept w ≡ normal_in Plain (kept (Second (First x)))
+    → is_macro_form x ≡ true → (is_statement_form w ≡ true) × (as_statement (kept w) ≡ kept w)
+unfolding may_lack table
+macro_printed (Pair a (Pair m s)) (Second (First (Pair o (Pair y t)))) f e n = (
+  own_back y f.1.1.1.0 (subst (λ z. is_brace_macro (Alone ExprMacro z) ≡ true) (sym (ap macro_part e))
+      (macro_read InStatement refl (Alone ExprMacro m) n)),
+  refl,
+)
+macro_printed (Pair a (Pair m s)) (Second (First (Pair o _))) f e n = absurd f.1.1.1
+macro_printed (Pair a (Pair m s)) (Second (First _)) f e n = absurd f.1.1
+macro_printed (Pair a (Pair m s)) (Second (Second w)) f e n = cc e
+macro_printed (Pair a (Pair m s)) (Second _) f e n = absurd f.1
+macro_printed (Pair a (Pair m s)) (First w) f e n = cc e
+macro_printed (Pair a (Pair m s)) _ f e n = absurd f
+macro_printed (Pair a _) w f e n = absurd (contrary n)
+macro_printed _ w f e n = absurd (contrary n)
+
 pub law_a_statement : KindLaw AStatement
 unfolding has_step has_form_step held passed place_of table
 law_a_statement = record { entry = λ q l. simple_law Plain statement refl; node = go }
@@ -288,7 +288,13 @@ law_a_statement = record { entry = λ q l. simple_law Plain statement refl; node
         expression_law q (Second (Second (Second (Second x)))) r (is_read x r d.1.1.1.1 o) o d i
     go q l (Second (Second (Second _))) r o d i = absurd d.1.1.1
     go q l (Second (Second _)) r o d i = absurd d.1.1
-    go q l (Second (First x)) r o d i = cc o
+    go q l (Second (First x)) r o d i =
+        let s = macro_printed x i.tree i.fits i.kept_is o in
+        record {
+          tree = Node AStatement i.tree;
+          fits = (refl, refl, ap flat s.1, i.fits, s.0);
+          kept_is = ap (Node AStatement) (s.1 ∙ i.kept_is);
+        }
     go q l (Second _) r o d i = absurd d.1
     go q l (First x) r o d i = cc o
     go q l _ r o d i = absurd d
@@ -357,8 +363,13 @@ fits_expression (Pair (Called n _) _) f o = absurd f.1
 fits_expression (Pair _ y) f o = absurd f.0
 fits_expression _ f o = absurd f
 
--- The statements that are taken are lets, items and expressions.
-each_form : (P : Tree → Type 0)
+-- The statements that are taken are macros, lets, items and expressions.
+abbrev at_macro : Kind → Tree → Kind → Tree → Tree → Tree
+at_macro k o l y s = Second (First (Pair (Node k o) (Pair (Node l y) s)))
+
+pub each_form : (P : Tree → Type 0)
+    → ((k l : Kind) (o y s : Tree) → Fits s (optional (marks ";") (the_semicolon ∶ sign ";"))
+    → is_brace_macro (Alone ExprMacro (Node l y)) ≡ true → P (at_macro k o l y s))
     → ((k l : Kind) (o y : Tree) → P (Second (Second (First (Pair (Node k o) (Node l y))))))
     → ((y : Tree) → Fits y (table AnItem) → is_statement_item y ≡ true → P (at_item y))
     → ((x s : Tree) → Fits (Whole x) (table (Expression InStatement))
@@ -366,23 +377,27 @@ each_form : (P : Tree → Type 0)
     → P (at_expression (Node (Expression InStatement) (Whole x)) s))
     → (x : Tree) → Fits x (table AStatement) → is_statement_form x ≡ true → P x
 unfolding table
-each_form P one other third (Second (Second (First (Pair (Node k o) (Node l y))))) f n = one k l o y
-each_form P one other third (Second (Second (First (Pair (Node k o) _)))) f n = absurd f.1.1.1.1
-each_form P one other third (Second (Second (First (Pair _ y)))) f n = absurd f.1.1.1.0
-each_form P one other third (Second (Second (First _))) f n = absurd f.1.1.1
-each_form P one other third (Second (Second (Second (First (Node k y))))) f n =
+each_form P call one other third (Second (Second (First (Pair (Node k o) (Node l y))))) f n = one k l o y
+each_form P call one other third (Second (Second (First (Pair (Node k o) _)))) f n = absurd f.1.1.1.1
+each_form P call one other third (Second (Second (First (Pair _ y)))) f n = absurd f.1.1.1.0
+each_form P call one other third (Second (Second (First _))) f n = absurd f.1.1.1
+each_form P call one other third (Second (Second (Second (First (Node k y))))) f n =
     subst (λ j. P (Second (Second (Second (First (Node j y)))))) (sym f.1.1.1.1.0)
     (other y (subst (λ j. Fits y (table j)) f.1.1.1.1.0 f.1.1.1.1.3) n)
-each_form P one other third (Second (Second (Second (First _)))) f n = absurd f.1.1.1.1
-each_form P one other third (Second (Second (Second (Second x)))) f n =
+each_form P call one other third (Second (Second (Second (First _)))) f n = absurd f.1.1.1.1
+each_form P call one other third (Second (Second (Second (Second x)))) f n =
     let e = fits_expression x f.1.1.1.1 n in
     subst P (sym e.is) (third e.form e.semicolon e.fits e.ended)
-each_form P one other third (Second (Second (Second _))) f n = absurd f.1.1.1
-each_form P one other third (Second (Second _)) f n = absurd f.1.1
-each_form P one other third (Second (First x)) f n = absurd (contrary n)
-each_form P one other third (Second _) f n = absurd f.1
-each_form P one other third (First x) f n = absurd (contrary n)
-each_form P one other third _ f n = absurd f
+each_form P call one other third (Second (Second (Second _))) f n = absurd f.1.1.1
+each_form P call one other third (Second (Second _)) f n = absurd f.1.1
+each_form P call one other third (Second (First (Pair (Node k o) (Pair (Node l y) s)))) f n = call k l o y s f.1.1.1.1 n
+each_form P call one other third (Second (First (Pair (Node k o) (Pair _ s)))) f n = absurd f.1.1.1.0
+each_form P call one other third (Second (First (Pair (Node k o) _))) f n = absurd f.1.1.1
+each_form P call one other third (Second (First (Pair _ y))) f n = absurd f.1.1.0
+each_form P call one other third (Second (First _)) f n = absurd f.1.1
+each_form P call one other third (Second _) f n = absurd f.1
+each_form P call one other third (First x) f n = absurd (contrary n)
+each_form P call one other third _ f n = absurd f
 
 expression_stays : (x s : Tree) → Stays (at_expression (Node (Expression InStatement) (Whole x)) s)
 unfolding held
@@ -399,9 +414,9 @@ expression_stays x s = go (is_macro (kept x) && is_there (kept s))
 
 statement_stays : (x : Tree) → Fits x (table AStatement) → is_statement_form x ≡ true → Stays x
 unfolding held
-statement_stays x f n = each_form Stays (λ k l o y. refl) item_stays (λ y t g h. expression_stays y t) x f n
+statement_stays x f n = each_form Stays (λ k l o y s g h. refl) (λ k l o y. refl) item_stays (λ y t g h. expression_stays y t) x f n
 
-turn_stays : TurnLaw a_turn
+pub turn_stays : TurnLaw a_turn
 turn_stays (First (AMark c cs spacing)) f = refl
 turn_stays (First _) f = absurd f.1
 turn_stays (Second (Node k x)) f =
@@ -437,6 +452,7 @@ open_apart true (Second (Second (Second (Second x)))) = refl
 open_apart true _ = refl
 
 open_normal : (x : Tree) → is_open (normal x) ≡ is_open x
+open_normal (Second (First (Pair a (Pair m s)))) = ap not (there_same s)
 open_normal (Second (Second (Second (Second (Pair a (Pair e s)))))) = ap not (there_same s)
 open_normal _ = refl
 
@@ -452,10 +468,14 @@ record Read (x : Tree) : Type 0 where
   form : Tree
   is : x ≡ at_expression (Node (Expression InStatement) (Whole form)) (Second Nil)
 
+abbrev pub is_macro_statement : Tree → Bool
+is_macro_statement (Second (First x)) = true
+is_macro_statement _ = false
+
 open_read : (x : Tree) (r : List Token) → Derives x (table AStatement) r → is_statement_form x ≡ true
-    → is_open (as_statement (kept x)) ≡ true → Read x
+    → is_open (as_statement (kept x)) ≡ true → is_macro_statement x ≡ false → Read x
 unfolding held table
-open_read (Second (Second (Second (Second y)))) r d n o =
+open_read (Second (Second (Second (Second y)))) r d n o c =
     let e = is_read y r d.1.1.1.1 n in
     go e.form e.semicolon e.is (subst (λ z. Derives z (table AStatement) r) e.is d)
     (subst (λ z. is_open (as_statement (kept z)) ≡ true) e.is o)
@@ -468,32 +488,35 @@ open_read (Second (Second (Second (Second y)))) r d n o =
     go x (Second Nil) e d o = record { form = x; is = e }
     go x (Second _) e d o = absurd d.1.1.1.1.1.1.1
     go x _ e d o = absurd d.1.1.1.1.1.1
-open_read (Second (Second (Second (First x)))) r d n o = absurd (contrary o)
-open_read (Second (Second (Second _))) r d n o = absurd d.1.1.1
-open_read (Second (Second (First x))) r d n o = absurd (contrary o)
-open_read (Second (Second _)) r d n o = absurd d.1.1
-open_read (Second (First x)) r d n o = absurd (contrary o)
-open_read (Second _) r d n o = absurd d.1
-open_read (First x) r d n o = absurd (contrary o)
-open_read _ r d n o = absurd d
+open_read (Second (Second (Second (First x)))) r d n o c = absurd (contrary o)
+open_read (Second (Second (Second _))) r d n o c = absurd d.1.1.1
+open_read (Second (Second (First x))) r d n o c = absurd (contrary o)
+open_read (Second (Second _)) r d n o c = absurd d.1.1
+open_read (Second (First x)) r d n o c = absurd (contrary (sym c))
+open_read (Second _) r d n o c = absurd d.1
+open_read (First x) r d n o c = absurd (contrary o)
+open_read _ r d n o c = absurd d
 
 pub record IsOpen (x : Tree) : Type 0 where
   pub form : Tree
   pub is : x ≡ at_expression (Node (Expression InStatement) (Whole form)) (Second Nil)
   pub fits : Fits (Whole form) (table (Expression InStatement))
 
-pub open_fits : (x : Tree) → Fits x (table AStatement) → is_statement_form x ≡ true → is_open x ≡ true → IsOpen x
-open_fits x f n = each_form (λ y. is_open y ≡ true → IsOpen y) (λ k l o y e. absurd (contrary e))
-    (λ y g i e. absurd (contrary e)) go x f n
+pub open_fits : (x : Tree) → Fits x (table AStatement) → is_statement_form x ≡ true → is_open x ≡ true
+    → is_macro_statement x ≡ false → IsOpen x
+open_fits x f n = each_form (λ y. is_open y ≡ true → is_macro_statement y ≡ false → IsOpen y)
+    (λ k l o y s g h e c. absurd (contrary (sym c))) (λ k l o y e c. absurd (contrary e))
+    (λ y g i e c. absurd (contrary e)) go x f n
   where
     go : (x s : Tree) → Fits (Whole x) (table (Expression InStatement))
         → Fits s (optional (marks ";") (the_semicolon ∶ sign ";"))
         → is_open (at_expression (Node (Expression InStatement) (Whole x)) s) ≡ true
+        → is_macro_statement (at_expression (Node (Expression InStatement) (Whole x)) s) ≡ false
         → IsOpen (at_expression (Node (Expression InStatement) (Whole x)) s)
-    go x (First z) g h e = absurd (contrary e)
-    go x (Second Nil) g h e = record { form = x; is = refl; fits = g }
-    go x (Second _) g h e = absurd h.1
-    go x _ g h e = absurd h
+    go x (First z) g h e c = absurd (contrary e)
+    go x (Second Nil) g h e c = record { form = x; is = refl; fits = g }
+    go x (Second _) g h e c = absurd h.1
+    go x _ g h e c = absurd h
 
 abbrev turn_expression : Tree → Tree
 turn_expression (Second (Node k x)) = expression_of x
@@ -528,32 +551,71 @@ taken x l e c =
     (both_true (is_known AStatement) (is_statement_form x && all_covered x)
     (subst (λ j. all_covered (Second (Node j x)) ≡ true) e c)).1).0
 
-open_held : (l k : Kind) (x w : Tree) (q : Position) (b : Bool) → l ≡ AStatement → Fits (Second (Node k w)) a_turn
+pub open_kept : (w : Tree) → Fits w (table AStatement) → is_statement_form w ≡ true → is_open w ≡ true
+    → is_open (as_statement (kept w)) ≡ true
+unfolding held
+open_kept w f n = each_form (λ y. is_open y ≡ true → is_open (as_statement (kept y)) ≡ true) call
+    (λ k l o y e. absurd (contrary e)) (λ y g i e. absurd (contrary e)) go w f n
+  where
+    call : (k l : Kind) (o y s : Tree) → Fits s (optional (marks ";") (the_semicolon ∶ sign ";"))
+        → is_brace_macro (Alone ExprMacro (Node l y)) ≡ true → is_open (at_macro k o l y s) ≡ true
+        → is_open (as_statement (kept (at_macro k o l y s))) ≡ true
+    call k l o y (First z) g h e = absurd (contrary e)
+    call k l o y (Second z) g h e = refl
+    call k l o y _ g h e = absurd g
+
+    go : (x s : Tree) → Fits (Whole x) (table (Expression InStatement))
+        → Fits s (optional (marks ";") (the_semicolon ∶ sign ";"))
+        → is_open (at_expression (Node (Expression InStatement) (Whole x)) s) ≡ true
+        → is_open (as_statement (kept (at_expression (Node (Expression InStatement) (Whole x)) s))) ≡ true
+    go x (First z) g h e = absurd (contrary e)
+    go x (Second Nil) g h e = ap is_open (held_open (kept x))
+    go x (Second _) g h e = absurd h.1
+    go x _ g h e = absurd h
+
+pub open_held : (l k : Kind) (x w : Tree) (q : Position) (b : Bool) → l ≡ AStatement → Fits (Second (Node k w)) a_turn
     → kept (Second (Node k w)) ≡ apart_if b (normal_in q (kept (Second (Node l x)))) → is_open w ≡ true
     → is_open (as_statement (kept x)) ≡ true
 unfolding held passed
 open_held l k x w q b g f e o =
-    let p = open_fits w (subst (λ j. Fits w (table j)) f.1.0 f.1.3) (subst (λ j. IsMeant j w) f.1.0 f.1.4) o in
-    let u : Second (Node k w) ≡ open_turn p.form =
-    ap (λ j. Second (Node j w)) f.1.0 ∙ ap (λ z. Second (Node AStatement z)) p.is in
-    let h : kept (open_turn p.form) ≡ apart_if b (normal_in q (kept (Second (Node AStatement x)))) =
-    subst (λ z. kept z ≡ apart_if b (normal_in q (kept (Second (Node AStatement x))))) u
+    let h : kept (Second (Node AStatement w)) ≡ apart_if b (normal_in q (kept (Second (Node AStatement x)))) =
+    subst (λ j. kept (Second (Node j w)) ≡ apart_if b (normal_in q (kept (Second (Node AStatement x))))) f.1.0
     (subst (λ j. kept (Second (Node k w)) ≡ apart_if b (normal_in q (kept (Second (Node j x))))) g e) in
     sym (open_normal (as_statement (kept x))) ∙ sym (open_apart b (normal (as_statement (kept x))))
-    ∙ sym (ap is_open_turn h) ∙ ap is_open (held_open (kept p.form))
+    ∙ sym (ap is_open_turn h)
+    ∙ open_kept w (subst (λ j. Fits w (table j)) f.1.0 f.1.3) (subst (λ j. IsMeant j w) f.1.0 f.1.4) o
+
+-- one that is no macro was read as none
+abbrev is_macro_turn : Tree → Bool
+is_macro_turn (Second (Node k x)) = is_macro_statement x
+is_macro_turn x = false
+
+macro_apart : (b : Bool) (x : Tree) → is_macro_turn (apart_if b (Second (Node AStatement (Second (First x))))) ≡ true
+macro_apart true x = refl
+macro_apart false x = refl
+
+as_none : (x w : Tree) (q : Position) (b : Bool) (i : IsOpen w)
+    → kept (open_turn i.form) ≡ apart_if b (normal_in q (kept (Second (Node AStatement x))))
+    → is_macro_statement x ≡ false
+unfolding held passed
+as_none (Second (First x)) w q b i e =
+    absurd (contrary (ap is_macro_statement (sym (held_open (kept i.form))) ∙ ap is_macro_turn e
+    ∙ macro_apart b (normal (kept x))))
+as_none _ w q b i e = refl
 
 opened : (t u : Tree) (q : Position) (b : Bool) (r : List Token) → all_covered t ≡ true → Derives t a_turn r
-    → Fits u a_turn → kept u ≡ apart_if b (normal_in q (kept t)) → is_open_turn u ≡ true → Opened t u
+    → Fits u a_turn → kept u ≡ apart_if b (normal_in q (kept t)) → is_open_turn u ≡ true → is_macro_turn u ≡ false
+    → Opened t u
 unfolding held passed
-opened (Second (Node l x)) (Second (Node k w)) q b r c d f e o =
-    let p = open_fits w (subst (λ j. Fits w (table j)) f.1.0 f.1.3) (subst (λ j. IsMeant j w) f.1.0 f.1.4) o in
+opened (Second (Node l x)) (Second (Node k w)) q b r c d f e o z =
+    let p = open_fits w (subst (λ j. Fits w (table j)) f.1.0 f.1.3) (subst (λ j. IsMeant j w) f.1.0 f.1.4) o z in
     let u : Second (Node k w) ≡ open_turn p.form =
     ap (λ j. Second (Node j w)) f.1.0 ∙ ap (λ z. Second (Node AStatement z)) p.is in
     let g : kept (open_turn p.form) ≡ apart_if b (normal_in q (kept (Second (Node AStatement x)))) =
     subst (λ z. kept z ≡ apart_if b (normal_in q (kept (Second (Node AStatement x))))) u
     (subst (λ j. kept (Second (Node k w)) ≡ apart_if b (normal_in q (kept (Second (Node j x))))) d.1.0 e) in
     let m = open_held l k x w q b d.1.0 f e o in
-    let i = open_read x r (subst (λ j. Derives x (table j) r) d.1.0 d.1.1) (taken x l d.1.0 c) m in
+    let i = open_read x r (subst (λ j. Derives x (table j) r) d.1.0 d.1.1) (taken x l d.1.0 c) m (as_none x w q b p g) in
     let t : Second (Node l x) ≡ open_turn i.form =
     ap (λ j. Second (Node j x)) d.1.0 ∙ ap (λ z. Second (Node AStatement z)) i.is in
     record {
@@ -565,11 +627,11 @@ opened (Second (Node l x)) (Second (Node k w)) q b r c d f e o =
       same = same_form b q i.form p.form
           (subst (λ z. kept (open_turn p.form) ≡ apart_if b (normal_in q (kept (Second (Node AStatement z))))) i.is g);
     }
-opened (Second (Node l x)) (Second _) q b r c d f e o = absurd (contrary o)
-opened (Second (Node l x)) _ q b r c d f e o = absurd (contrary o)
-opened (Second _) u q b r c d f e o = absurd d.1
-opened (First (AMark m ms spacing)) (Second (Node k w)) q b r c d f e o =
-    let p = open_fits w (subst (λ j. Fits w (table j)) f.1.0 f.1.3) (subst (λ j. IsMeant j w) f.1.0 f.1.4) o in
+opened (Second (Node l x)) (Second _) q b r c d f e o z = absurd (contrary o)
+opened (Second (Node l x)) _ q b r c d f e o z = absurd (contrary o)
+opened (Second _) u q b r c d f e o z = absurd d.1
+opened (First (AMark m ms spacing)) (Second (Node k w)) q b r c d f e o z =
+    let p = open_fits w (subst (λ j. Fits w (table j)) f.1.0 f.1.3) (subst (λ j. IsMeant j w) f.1.0 f.1.4) o z in
     let u : Second (Node k w) ≡ open_turn p.form =
     ap (λ j. Second (Node j w)) f.1.0 ∙ ap (λ z. Second (Node AStatement z)) p.is in
     absurd (contrary (sym (no_turn b)
@@ -579,21 +641,34 @@ opened (First (AMark m ms spacing)) (Second (Node k w)) q b r c d f e o =
     no_turn : (b : Bool) → is_open_turn (apart_if b (First (AMark m ms Apart))) ≡ false
     no_turn true = refl
     no_turn false = refl
-opened (First (AMark m ms spacing)) _ q b r c d f e o = absurd (contrary o)
-opened (First _) u q b r c d f e o = absurd d.1
-opened _ u q b r c d f e o = absurd d
+opened (First (AMark m ms spacing)) _ q b r c d f e o z = absurd (contrary o)
+opened (First _) u q b r c d f e o z = absurd d.1
+opened _ u q b r c d f e o z = absurd d
 
 -- One that is open needs a ; unless it ends there; of others it is known that they need none.
-form_needs : (x : Tree) → Fits x (table AStatement) → is_statement_form x ≡ true → is_open x ≡ false
+macro_needs : (k l : Kind) (o y s : Tree) → Fits s (optional (marks ";") (the_semicolon ∶ sign ";"))
+    → needs_semicolon (Node AStatement (at_macro k o l y s)) ≡ false
+unfolding same_part
+macro_needs k l o y (First (Called n z)) g =
+    ap (λ j. needs_semicolon (Node AStatement (at_macro k o l y (First (Called j z))))) g.1.0
+macro_needs k l o y (First _) g = absurd g.1
+macro_needs k l o y (Second Nil) g = refl
+macro_needs k l o y (Second _) g = absurd g.1
+macro_needs k l o y _ g = absurd g
+
+abbrev is_open_expression : Tree → Bool
+is_open_expression x = is_open x && not (is_macro_statement x)
+
+form_needs : (x : Tree) → Fits x (table AStatement) → is_statement_form x ≡ true → is_open_expression x ≡ false
     → needs_semicolon (Node AStatement x) ≡ false
 unfolding same_part
 form_needs x f n =
-    each_form (λ y. is_open y ≡ false → needs_semicolon (Node AStatement y) ≡ false) (λ k l o y e. refl)
-    (λ y g i e. refl) go x f n
+    each_form (λ y. is_open_expression y ≡ false → needs_semicolon (Node AStatement y) ≡ false)
+    (λ k l o y s g h e. macro_needs k l o y s g) (λ k l o y e. refl) (λ y g i e. refl) go x f n
   where
     go : (x s : Tree) → Fits (Whole x) (table (Expression InStatement))
         → Fits s (optional (marks ";") (the_semicolon ∶ sign ";"))
-        → is_open (at_expression (Node (Expression InStatement) (Whole x)) s) ≡ false
+        → is_open_expression (at_expression (Node (Expression InStatement) (Whole x)) s) ≡ false
         → needs_semicolon (Node AStatement (at_expression (Node (Expression InStatement) (Whole x)) s)) ≡ false
     go x (First (Called n z)) g h e =
         ap (λ j. needs_semicolon (Node AStatement
@@ -603,28 +678,29 @@ form_needs x f n =
     go x (Second _) g h e = absurd h.1
     go x _ g h e = absurd h
 
-needs_not : (b : Bool) → not b ≡ false → b ≡ true
+pub needs_not : (b : Bool) → not b ≡ false → b ≡ true
 needs_not true e = refl
 needs_not false e = cc e
 
-open_needs : (x : Tree) → needs_semicolon (choice (open_turn x)) ≡ not (ends_there InStatement x)
+pub open_needs : (x : Tree) → needs_semicolon (choice (open_turn x)) ≡ not (ends_there InStatement x)
 unfolding same_part
 open_needs x = refl
 
-turn_needs : (t u : Tree) (q : Position) (b : Bool) (r : List Token) → all_covered t ≡ true → Derives t a_turn r
+pub turn_needs : (t u : Tree) (q : Position) (b : Bool) (r : List Token) → all_covered t ≡ true → Derives t a_turn r
     → Fits u a_turn → kept u ≡ apart_if b (normal_in q (kept t)) → needs_semicolon (choice t) ≡ false
     → needs_semicolon (choice u) ≡ false
 unfolding table
 turn_needs t (First (AMark m ms spacing)) q b r c d f e n = refl
 turn_needs t (First _) q b r c d f e n = absurd f.1
-turn_needs t (Second (Node k w)) q b r c d f e n = go (is_open w) refl
+turn_needs t (Second (Node k w)) q b r c d f e n = go (is_open_expression w) refl
   where
-    go : (o : Bool) → is_open w ≡ o → needs_semicolon (Node k w) ≡ false
+    go : (o : Bool) → is_open_expression w ≡ o → needs_semicolon (Node k w) ≡ false
     go false i =
         ap (λ j. needs_semicolon (Node j w)) f.1.0
         ∙ form_needs w (subst (λ j. Fits w (table j)) f.1.0 f.1.3) (subst (λ j. IsMeant j w) f.1.0 f.1.4) i
     go true i =
-        let a = opened t (Second (Node k w)) q b r c d f e i in
+        let m = both_true (is_open w) (not (is_macro_statement w)) i in
+        let a = opened t (Second (Node k w)) q b r c d f e m.0 (is_false (is_macro_statement w) m.1) in
         let h : ends_there InStatement a.source ≡ true =
         needs_not (ends_there InStatement a.source)
         (sym (open_needs a.source) ∙ ap (λ z. needs_semicolon (choice z)) (sym a.source_is) ∙ n) in
@@ -633,316 +709,3 @@ turn_needs t (Second (Node k w)) q b r c d f e n = go (is_open w) refl
         (ap (ends_there InStatement) a.same ∙ ends_read a.source h))
 turn_needs t (Second _) q b r c d f e n = absurd f.1
 turn_needs t _ q b r c d f e n = absurd f
-
--- of all of them
-abbrev pub turn_of : Tree → Tree
-turn_of (Again x y) = x
-turn_of x = x
-
-abbrev pub turns_behind : Tree → Tree
-turns_behind (Again x y) = y
-turns_behind x = x
-
-abbrev Passes : Tree → Bool
-Passes x = each_turn_but_last (λ y. not (needs_semicolon (choice y))) x
-
-turns_pass : (q : Position) (x w : Tree) (r : List Token) → all_covered x ≡ true
-    → Derives x (star (lacks the_end) a_turn) r → Fits w (star (lacks the_end) a_turn) → kept w ≡ normal_in q (kept x)
-    → Passes x ≡ true → Passes w ≡ true
-turns_pass q (Again t (Again y z)) (Again u (Again v w)) r c d f e n =
-    let h = both_true (all_covered t) (all_covered (Again y z)) c in
-    let i = both_true (not (needs_semicolon (choice t))) (Passes (Again y z)) n in
-    ap (λ b. not b && Passes (Again v w))
-    (turn_needs t u q _ (flat (Again y z) ++ r) h.0 d.1 f.0 (ap turn_of e) (is_false (needs_semicolon (choice t)) i.0))
-    ∙ turns_pass q (Again y z) (Again v w) r h.1 d.2 f.1 (ap turns_behind e) i.1
-turns_pass q (Again t (Again y z)) (Again u End) r c d f e n = refl
-turns_pass q (Again t (Again y z)) (Again u _) r c d f e n = absurd f.1
-turns_pass q (Again t End) (Again u (Again v w)) r c d f e n = cc (ap turns_behind e)
-turns_pass q (Again t End) (Again u End) r c d f e n = refl
-turns_pass q (Again t End) (Again u _) r c d f e n = absurd f.1
-turns_pass q (Again t _) (Again u w) r c d f e n = absurd d.2
-turns_pass q End (Again u w) r c d f e n = cc e
-turns_pass q x End r c d f e n = refl
-turns_pass q x (Again u w) r c d f e n = absurd d
-turns_pass q x _ r c d f e n = absurd f
-
-pub kept_true : (b : Bool) → kept_if b ≡ Keep → b ≡ true
-kept_true true e = refl
-kept_true false e = cc e
-
-turns_verdict : (q : Position) → VerdictLaw q (λ x. kept_if (Passes x)) (star (lacks the_end) a_turn)
-turns_verdict q x w r c d f e h = ap kept_if (turns_pass q x w r c d f e (kept_true (Passes x) h))
-
--- Behind an expression without its ; stands no lone one: none was read there.
-abbrev is_first : Tree → Bool
-is_first (First x) = true
-is_first x = false
-
-lone_first : (x y : Tree) → is_lone_mark (Again x y) ≡ is_first x
-lone_first (First x) y = refl
-lone_first _ y = refl
-
-closed_as_any : (a e z : Tree) → is_open (expression_statement a e (First z)) ≡ false
-closed_as_any a e z = go (is_macro (form_of e))
-  where
-    go : (b : Bool) → is_open (cond (b && true) (Second (First (Pair a (Pair (own_part (form_of e)) (First z)))))
-        (Second (Second
-        (Second (Second (Pair (Called the_attributes (left_in_front a))
-        (Pair (Called the_expression (given a e)) (First z)))))))) ≡ false
-    go true = refl
-    go false = refl
-
-open_lacks : (x : Tree) (ts : List Token) → Derives x (table AStatement) ts → is_open (as_statement (kept x)) ≡ true
-    → sees (marks ";") ts ≡ false
-unfolding table
-open_lacks (Second (Second (Second (Second (Pair (Called n a) (Pair (Called m e) (First z))))))) ts d o =
-    absurd (contrary (sym (closed_as_any (kept a) (kept e) (kept z))
-    ∙ subst (λ j. is_open (as_statement (kept (with_names the_attributes a j e (First z)))) ≡ true) d.1.1.1.1.1.0.0
-    (subst (λ j. is_open (as_statement (kept (with_names j a m e (First z)))) ≡ true) d.1.1.1.1.0.0 o)))
-open_lacks (Second (Second (Second (Second (Pair (Called n a) (Pair _ (First z))))))) ts d o = absurd d.1.1.1.1.1.0
-open_lacks (Second (Second (Second (Second (Pair _ (Pair e (First z))))))) ts d o = absurd d.1.1.1.1.0
-open_lacks (Second (Second (Second (Second (Pair a (Pair e (Second Nil))))))) ts d o = d.1.1.1.1.1.1.0
-open_lacks (Second (Second (Second (Second (Pair a (Pair e (Second _))))))) ts d o = absurd d.1.1.1.1.1.1.1
-open_lacks (Second (Second (Second (Second (Pair a (Pair e _)))))) ts d o = absurd d.1.1.1.1.1.1
-open_lacks (Second (Second (Second (Second (Pair a _))))) ts d o = absurd d.1.1.1.1.1
-open_lacks (Second (Second (Second (Second _)))) ts d o = absurd d.1.1.1.1
-open_lacks (Second (Second (Second (First x)))) ts d o = absurd (contrary o)
-open_lacks (Second (Second (Second _))) ts d o = absurd d.1.1.1
-open_lacks (Second (Second (First x))) ts d o = absurd (contrary o)
-open_lacks (Second (Second _)) ts d o = absurd d.1.1
-open_lacks (Second (First x)) ts d o = absurd (contrary o)
-open_lacks (Second _) ts d o = absurd d.1
-open_lacks (First x) ts d o = absurd (contrary o)
-open_lacks _ ts d o = absurd d
-
-turn_lacks : (t u : Tree) (q : Position) (b : Bool) (ts : List Token) → Derives t a_turn ts → Fits u a_turn
-    → kept u ≡ apart_if b (normal_in q (kept t)) → is_open_turn u ≡ true → sees (marks ";") ts ≡ false
-turn_lacks (Second (Node l x)) (Second (Node k w)) q b ts d f e o =
-    open_lacks x ts (subst (λ j. Derives x (table j) ts) d.1.0 d.1.1) (open_held l k x w q b d.1.0 f e o)
-turn_lacks (First x) (Second (Node k w)) q b ts d f e o =
-    absurd (contrary (ap is_turn e ∙ sym (ap is_turn (lone_as x b))))
-  where
-    is_turn : Tree → Bool
-    is_turn (Second y) = false
-    is_turn _ = true
-
-    lone_as : (x : Tree) (b : Bool) → First (normal_in q (kept x)) ≡ apart_if b (First (normal_in q (kept x)))
-    lone_as x true = refl
-    lone_as x false = refl
-turn_lacks (Second (Node l x)) (Second _) q b ts d f e o = absurd (contrary o)
-turn_lacks (Second (Node l x)) _ q b ts d f e o = absurd (contrary o)
-turn_lacks (Second _) u q b ts d f e o = absurd d.1
-turn_lacks (First x) (Second _) q b ts d f e o = absurd (contrary o)
-turn_lacks (First x) _ q b ts d f e o = absurd (contrary o)
-turn_lacks _ u q b ts d f e o = absurd d
-
-lone_seen : (y : Tree) (r : List Token) → Derives y (star (lacks the_end) a_turn) r → is_lone_mark y ≡ true
-    → sees (marks ";") (flat y ++ r) ≡ true
-lone_seen (Again (First x) y) r d e =
-    subst (λ us. sees (marks ";") us ≡ true) (sym (append_assoc (flat x) (flat y) r)) d.1.0
-lone_seen (Again _ y) r d e = absurd (contrary e)
-lone_seen _ r d e = absurd (contrary e)
-
-first_apart : (b : Bool) (x : Tree) → is_first (apart_if b (Second (Node AStatement x))) ≡ false
-first_apart false x = refl
-first_apart true (First (Node AnItem (Raw ts))) = refl
-first_apart true (First (Node AnItem _)) = refl
-first_apart true (First (Node _ y)) = refl
-first_apart true (First _) = refl
-first_apart true (Second (Second (Second (First (Node AnItem (Raw ts)))))) = refl
-first_apart true (Second (Second (Second (First (Node AnItem _))))) = refl
-first_apart true (Second (Second (Second (First (Node _ y))))) = refl
-first_apart true (Second (Second (Second (First _)))) = refl
-first_apart true _ = refl
-
-lone_back : (q : Position) (y w : Tree) (r : List Token) → Derives y (star (lacks the_end) a_turn) r
-    → Fits w (star (lacks the_end) a_turn) → kept w ≡ normal_in q (kept y) → is_lone_mark w ≡ true
-    → is_lone_mark y ≡ true
-unfolding held passed
-lone_back q (Again (First x) y) w r d f e h = refl
-lone_back q (Again (Second (Node k x)) y) (Again (First v) w) r d f e h =
-    absurd (contrary (sym (first_apart b (normal (as_statement (kept x))))
-    ∙ sym (ap is_first (subst (λ j. First (kept v) ≡ apart_if b (normal_in q (kept (Second (Node j x))))) d.1.1.0
-    (ap turn_of e)))))
-  where
-    b : Bool
-    b = is_enclosed (kept y) (normal_in q (kept y))
-lone_back q (Again (Second (Node k x)) y) (Again _ v) r d f e h = absurd (contrary h)
-lone_back q (Again (Second (Node k x)) y) _ r d f e h = absurd (contrary h)
-lone_back q (Again (Second _) y) w r d f e h = absurd d.1.1
-lone_back q (Again _ y) w r d f e h = absurd d.1
-lone_back q End (Again v w) r d f e h = cc e
-lone_back q End _ r d f e h = absurd (contrary h)
-lone_back q _ w r d f e h = absurd d
-
-are_back : (q : Position) (x w : Tree) (r : List Token) → Derives x (star (lacks the_end) a_turn) r
-    → Fits w (star (lacks the_end) a_turn) → kept w ≡ normal_in q (kept x) → are_ended w ≡ true
-are_back q (Again t y) (Again u v) r d f e =
-    ap (λ b. not b && are_ended v) (go (is_open_turn u) (is_lone_mark v) refl refl)
-    ∙ are_back q y v r d.2 f.1 (ap turns_behind e)
-  where
-    go : (o l : Bool) → is_open_turn u ≡ o → is_lone_mark v ≡ l → (is_open_turn u && is_lone_mark v) ≡ false
-    go true true i j =
-        absurd (contrary (sym (turn_lacks t u q (is_enclosed (kept y) (normal_in q (kept y))) (flat y ++ r) d.1 f.0
-        (ap turn_of e) i)
-        ∙ lone_seen y r d.2 (lone_back q y v r d.2 f.1 (ap turns_behind e) j)))
-    go true false i j = ap (λ b. b && is_lone_mark v) i ∙ j
-    go false l i j = ap (λ b. b && is_lone_mark v) i
-are_back q (Again t y) End r d f e = refl
-are_back q End End r d f e = refl
-are_back q End (Again u v) r d f e = cc e
-are_back q End _ r d f e = absurd f
-are_back q (Again t y) _ r d f e = absurd f
-are_back q _ w r d f e = absurd d
-
-abbrev turns_in : Tree → Tree
-turns_in (First x) = x
-turns_in x = x
-
-own_semicolons : (x w : Tree) (r : List Token) → Derives x (table Statements) r → Fits w (table Statements)
-    → kept w ≡ normal_in Plain (kept x) → has_own_semicolons w ≡ true
-unfolding table
-own_semicolons (First x) (First w) r d f e = are_back Plain x w r d.1 f.1 (ap turns_in e)
-own_semicolons (First x) _ r d f e = absurd f
-own_semicolons (Verbatim x) w r d f e = absurd (kept_raw (Passes x) d.0)
-own_semicolons _ w r d f e = absurd d
-
-pub law_statements : KindLaw Statements
-unfolding has_step held passed place_of table
-law_statements =
-    taken_law Statements refl (λ x w r d f e o. own_semicolons x w r d f e) (λ x. refl) (λ x. refl) (λ q. refl)
-    (λ q. refl) (kept_entry Passes (turns_verdict Plain) (turn_stays, (tt, tt)))
-
--- what stands behind a turn
-passes_behind : (t y : Tree) → Passes (Again t y) ≡ true → Passes y ≡ true
-passes_behind t (Again v z) n = (both_true (not (needs_semicolon (choice t))) (Passes (Again v z)) n).1
-passes_behind t _ n = refl
-
-passes_here : (t v z : Tree) → Passes (Again t (Again v z)) ≡ true → needs_semicolon (choice t) ≡ false
-passes_here t v z n =
-    is_false (needs_semicolon (choice t)) (both_true (not (needs_semicolon (choice t))) (Passes (Again v z)) n).0
-
-ended_here : (t y : Tree) → is_open_turn t ≡ true → are_ended (Again t y) ≡ true → is_lone_mark y ≡ false
-ended_here t y o a =
-    is_false (is_lone_mark y)
-    (ap (λ b. not (b && is_lone_mark y)) (sym o)
-    ∙ (both_true (not (is_open_turn t && is_lone_mark y)) (are_ended y) a).0)
-
-pub ends_of : (x : Tree) (ts : List Token) → Fits x (table AStatement)
-    → (is_open x ≡ false) ⊎ (EndsThere InStatement (expression_of x) ts × LacksAll (marks ";" ∷ []) ts)
-    → EndsStatement x ts
-unfolding table
-ends_of (First x) ts f h = h
-ends_of (Second x) ts f h = h
-ends_of _ ts f h = absurd f
-
-no_else : Told (at "else") false (starts AStatement)
-no_else =
-    (λ us h. h.5) & (λ us. refl) & (λ us. refl) & (λ us. refl) & (λ us. refl) & (λ us. refl) & (λ us. refl) &
-    (λ us. refl) & (λ us. refl) & (λ us. refl) & (λ us. refl) & (λ us. refl) & (λ us. refl) & (λ us. refl) &
-    (λ us. refl) & (λ us. refl) & (λ us. refl) & (λ us. refl) & (λ us. refl) & (λ us. refl) &
-    (λ cs h us. simp (ident_not (codes "else") cs reserved_else h) refl) & (λ us. refl) & (λ us. refl) &
-    (λ us. refl) & (λ us. refl) & (λ us. refl) & (λ cs h us. refl) & (λ cs us. refl) & (λ us. refl) & (λ us. refl) &
-    (λ us. refl) & (λ us. refl) & (λ us. refl) & (λ us. refl) & (λ us. refl) & (λ us. refl) & (λ us. refl) &
-    (λ us. refl) & (λ us. refl) & (λ us. refl) & (λ us. refl) & (λ us. refl) & (λ us. refl) & (λ us. refl) &
-    (λ us. refl) & (λ us. refl) & (λ us. refl) & (λ us. refl) & (λ us. refl) & (λ us. refl) & (λ us. refl) &
-    (λ us. refl) & (λ us. refl) & (λ us. refl) & (λ us. refl) & (λ us. refl) & (λ us. refl) & (λ us. refl) &
-    (λ cs h us. simp (ident_not (codes "else") cs reserved_else h) refl) & (λ us. refl) & (λ us. refl) &
-    (λ us. refl) & (λ us. refl) & (λ cs h us. refl) & (λ us. refl) & (λ us. refl) & (λ us. refl) & (λ us. refl) & tt
-
-ended_at : (ts : List Token) → IsAmong (starts AStatement) ts
-    → LacksAll ((no (marks "..") then marks ".") ∷ marks "?" ∷ at "else" ∷ []) ts × LacksAll (marks ";" ∷ []) ts
-ended_at ts i = (
-  unseen_all ((no (marks "..") then marks ".") ∷ marks "?" ∷ at "else" ∷ []) (starts AStatement) ts
-      (((λ us h. h.3), (search)), (((λ us h. h.4), (search)), (no_else, tt))) i,
-  unseen_all (marks ";" ∷ []) (starts AStatement) ts (((λ us h. h.1), (search)), tt) i,
-)
-
-open_ends : (x : Tree) (ts : List Token) → Fits x (table AStatement) → is_statement_form x ≡ true → is_open x ≡ true
-    → needs_semicolon (Node AStatement x) ≡ false → IsAmong (starts AStatement) ts → EndsStatement x ts
-open_ends x ts f n o h i =
-    let p = open_fits x f n o in
-    let e = ended_at ts i in
-    let g : ends_there InStatement p.form ≡ true =
-    needs_not (ends_there InStatement p.form)
-    (sym (open_needs p.form) ∙ ap (λ z. needs_semicolon (Node AStatement z)) (sym p.is) ∙ h) in
-    ends_of x ts f
-    (inr (subst (λ z. EndsThere InStatement (expression_of z) ts) (sym p.is) (g, e.0), e.1))
-
-at_end : (x : Tree) (ts : List Token) → ts ≡ [] → After AStatement x ts
-at_end x ts e = subst (After AStatement x) (sym e) (inl (refl, tt))
-
--- they are read
-follows : (x y : Tree) → Fits x (table AStatement) → is_statement_form x ≡ true
-    → are_ended (Again (Second (Node AStatement x)) y) ≡ true
-    → Passes (Again (Second (Node AStatement x)) y) ≡ true → Fits y (star (lacks the_end) a_turn)
-    → (is_lone_mark y ≡ false → AtOrNone (starts AStatement) y []) → After AStatement (Node AStatement x) (flat y ++ [])
-follows x End f n a p g h = inl (refl, tt)
-follows x (Again v z) f n a p g h = go (is_open x) refl
-  where
-    ts : List Token
-    ts = flat (Again v z) ++ []
-
-    go : (o : Bool) → is_open x ≡ o → After AStatement (Node AStatement x) ts
-    go false o = inr (ends_of x ts f (inl o))
-    go true o =
-        ⊎_elim (λ e. at_end (Node AStatement x) ts (ap (λ us. us ++ []) e))
-        (λ i. inr (open_ends x ts f n o (passes_here (Second (Node AStatement x)) v z p) i))
-        (h (ended_here (Second (Node AStatement x)) (Again v z) o a))
-follows x _ f n a p g h = absurd g
-
-statement_read : (k : Kind) (x : Tree) (ts : List Token) → k ≡ AStatement → Ready (Node k x)
-    → After AStatement (Node AStatement x) ts
-    → Derives (Node k x) (ref AStatement) ts × IsAmong (starts AStatement) (flat x ++ ts)
-unfolding skips
-statement_read k x ts e w a =
-    let (d, i) = w ts (subst (λ j. After j (Node j x) ts) (sym e) a) in
-    (subst (λ j. Derives (Node k x) (ref j) ts) e d, subst (λ j. Begins j (Node j x) ts) e i)
-
-statements_read : (x : Tree) → Fits x (star (lacks the_end) a_turn) → Ready x → are_ended x ≡ true → Passes x ≡ true
-    → Derives x (star (lacks the_end) a_turn) [] × AtOrNone (Sign 59 [] ∷ starts AStatement) x []
-    × (is_lone_mark x ≡ false → AtOrNone (starts AStatement) x [])
-statements_read End f w a n = (refl, inl refl, λ e. inl refl)
-statements_read (Again (First m) y) f w a n =
-    let r = statements_read y f.1 w.1 (both_true true (are_ended y) a).1 (passes_behind (First m) y n) in
-    let (d, i) = (found_mark {c = 59} {cs = []}).fine.by m (flat y ++ []) f.0.1 w.0 tt in
-    let j = at_front (Sign 59 [] ∷ []) m y [] i in (
-      (
-        ap not (told_at the_end false (Sign 59 [] ∷ []) ((flat m ++ flat y) ++ []) ((λ us. refl), tt) j),
-        (told_at (marks ";") true (Sign 59 [] ∷ []) (flat m ++ (flat y ++ [])) ((λ us. refl), tt) i, d),
-        r.0,
-      ),
-      inr (⊎_elim (λ h. inl h) (λ h. absurd h) j),
-      λ e. absurd (contrary (sym e)),
-    )
-statements_read (Again (Second (Node k x)) y) f w a n =
-    let r =
-    statements_read y f.1 w.1
-    (both_true (not (is_open_turn (Second (Node k x)) && is_lone_mark y)) (are_ended y) a).1
-    (passes_behind (Second (Node k x)) y n) in
-    let ts : List Token = flat y ++ [] in
-    let g : After AStatement (Node AStatement x) ts =
-    follows x y (subst (λ j. Fits x (table j)) f.0.1.0 f.0.1.3) (subst (λ j. IsMeant j x) f.0.1.0 f.0.1.4)
-    (subst (λ j. are_ended (Again (Second (Node j x)) y) ≡ true) f.0.1.0 a)
-    (subst (λ j. Passes (Again (Second (Node j x)) y) ≡ true) f.0.1.0 n) f.1 r.2 in
-    let (d, i) = statement_read k x ts f.0.1.0 w.0 g in
-    let j = at_front (starts AStatement) (Node k x) y [] i in (
-      (
-        ap not (told_at the_end false (starts AStatement) ((flat x ++ flat y) ++ []) ((λ us h. h.0), (search)) j),
-        (told_at (marks ";") false (starts AStatement) (flat x ++ ts) ((λ us h. h.1), (search)) i, d),
-        r.0,
-      ),
-      inr (inr j),
-      λ e. inr j,
-    )
-statements_read (Again (Second _) y) f w a n = absurd f.0.1
-statements_read (Again _ y) f w a n = absurd f.0
-statements_read _ f w a n = absurd f
-
-pub step_statements : Step Statements
-unfolding table skips
-step_statements (First x) s f n w a =
-    let r = statements_read x f.1 w n (kept_true (Passes x) f.0) in
-    subst (λ us. Derives (First x) (table Statements) us × Begins Statements (First x) us) (sym (end_is s a.0))
-    ((f.0, r.0), r.1)
-step_statements _ s f n w a = absurd f

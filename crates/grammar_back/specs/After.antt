@@ -24,6 +24,7 @@ use Rattle.syn_grammar.specs.Patterns.{vert, range_bound_stands, range_end_stand
 use Rattle.syn_grammar.specs.Say.{at, marks, parenthesis, brace, bracket}
 use Rattle.syn_grammar.specs.Types.{colon, bound_stands}
 use Rattle.syn_grammar.specs.Words.{is_string}
+use Rattle.syn_grammar.specs.Kind.{ExprMacro}
 use Rattle.syn_grammar.specs.Tree.{Tree, Pair, First, Second, Called, Node, Whole, Alone, Front, Back, Infix}
 use Rattle.syn_grammar.specs.Parens.{may_lack}
 use Rattle.syn_grammar.specs.Kept.{is_there}
@@ -221,16 +222,19 @@ is_generic (Node k x) = is_generic x
 is_generic (First x) = true
 is_generic x = false
 
--- of a statement: it is an expression without a ; behind it
+-- of a statement: it is an expression or a macro without a ; behind it
 abbrev pub is_open : Tree → Bool
+is_open (Second (First (Pair a (Pair m s)))) = not (is_there s)
 is_open (Second (Second (Second (Second (Pair a (Pair e s)))))) = not (is_there s)
 is_open x = false
 
 abbrev pub expression_of : Tree → Tree
+expression_of (Second (First (Pair a (Pair m s)))) = Node (Expression InStatement) (Whole (Alone ExprMacro m))
 expression_of (Second (Second (Second (Second (Pair a (Pair (Called n e) s)))))) = e
 expression_of x = x
 
--- Its expression ends there, and no ; follows it, which would be its own; or it is none that is to end so.
+-- Its expression, or its macro as one, ends there, and no ; follows it, which would be its own; or it is none that is to
+-- end so.
 abbrev pub EndsStatement : Tree → List Token → Type 0
 EndsStatement (Node k x) s = EndsStatement x s
 EndsStatement x s =
@@ -249,10 +253,10 @@ FollowsArm (First (Pair o (Pair p (Pair g (Pair a (Pair (Called n e) (Called m c
 FollowsArm x s = s ≡ []
 
 -- What may follow a kind's tree: what these looks don't see; behind a plain expression also else, as said above; behind
--- one in an arm or a statement what such a form ends before; behind a statement that has its ; or is no expression
--- anything; behind an arm what is said above; behind a field of a struct expression what may follow it, and behind ..
--- the end; behind a type that is a path what may follow one without plus; and behind the generics of an impl that are
--- there anything.
+-- one in an arm or a statement what such a form ends before; behind a statement that has its ; or is neither an
+-- expression nor a macro anything; behind an arm what is said above; behind a field of a struct expression what may
+-- follow it, and behind .. the end; behind a type that is a path what may follow one without plus; and behind the
+-- generics of an impl that are there anything.
 abbrev pub After : Kind → Tree → List Token → Type 0
 After (Expression Plain) x s =
     LacksAll (behind (Expression Plain)) s ⊎ ((is_closed x ≡ true) × (sees (at "else") s ≡ true))

@@ -37,6 +37,7 @@ use Rattle.syn_grammar.specs.Words.{is_among, is_ident, same_text}
 use Rattle.syn_grammar.specs.Look.{a_lifetime, sees, ◌then◌, ◌or◌}
 use Rattle.syn_grammar.specs.Say.{at, marks}
 use Rattle.syn_grammar.specs.Normal.{normal, normal_in}
+use Rattle.syn_grammar.specs.Forms.{is_brace_macro}
 use Rattle.syn_grammar.specs.Parens.{is_attributed_range}
 use Rattle.proc_macro2.specs.Token.{Ident}
 use Rattle.syn_grammar.specs.Tree.{End}
@@ -454,8 +455,14 @@ is_expression_form (Pair (Called n a) (Pair (Called m e) s)) =
     is_bare_front a && is_plain_expression (normal_in InStatement (kept e))
 is_expression_form _ = false
 
--- Statements are lets, such items and such expressions so far.
+-- A macro that is a statement has its tokens in braces, as it has wherever such a statement was read.
+abbrev pub is_macro_form : Tree → Bool
+is_macro_form (Pair a (Pair m s)) = is_brace_macro (Alone ExprMacro m)
+is_macro_form _ = false
+
+-- Statements are such macros, lets, such items and such expressions so far.
 abbrev pub is_statement_form : Tree → Bool
+is_statement_form (Second (First x)) = is_macro_form x
 is_statement_form (Second (Second (First x))) = true
 is_statement_form (Second (Second (Second (First (Node k x))))) = is_statement_item x
 is_statement_form (Second (Second (Second (Second x)))) = is_expression_form x

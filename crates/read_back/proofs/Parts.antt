@@ -349,7 +349,7 @@ one_among (suc n) c (d ∷ ds) ts e i = inr (one_among n c ds ts e i)
 one_among zero c [] ts e i = absurd e
 one_among (suc n) c [] ts e i = absurd e
 
-among : (ns : List ℕ) (cs ds : List Class) (ts : List Token) → AreThe ns cs ds → IsAmong cs ts → IsAmong ds ts
+pub among : (ns : List ℕ) (cs ds : List Class) (ts : List Token) → AreThe ns cs ds → IsAmong cs ts → IsAmong ds ts
 among (n ∷ ns) (c ∷ cs) ds ts e i =
     ⊎_elim (λ j. one_among n c ds ts e.0 j) (λ j. among ns cs ds ts e.1 j) i
 among [] (c ∷ cs) ds ts e i = absurd e

@@ -1,5 +1,7 @@
--- An expression where a statement begins: no macro is seen there, no let and no item. So statements are read back.
-use Rattle.std.proofs.Common.{◌≡◌, ℕ, List, [], ◌∷◌, ◌++◌, refl, sym, ap, ◌∙◌, subst, append_assoc, inl, inr}
+-- An expression where a statement begins: no macro is seen there, no let and no item. So statements are read back; those
+-- that are macros by what is seen of their braces.
+use Rattle.std.proofs.Common.{◌≡◌, ℕ, List, [], ◌∷◌, ◌++◌, refl, sym, ap, ◌∙◌, subst, append_assoc, ⊎_elim}
+use Rattle.std.proofs.Common.{inl, inr}
 use Rattle.std.specs.Prelude.{Bool, true, false, not, ◌&&◌, ◌||◌, codes, cond, Option, Some, None}
 use Rattle.std.specs.Bool.{◌==◌}
 use Rattle.std.proofs.lemmas.Slice.Eq.{bytes_eq-Decides}
@@ -14,13 +16,13 @@ use Rattle.syn_grammar.specs.Words.{is_among, is_bool, is_ident, is_name, is_pat
 use Rattle.syn_grammar.specs.Words.{same_text}
 use Rattle.syn_grammar.specs.Tree.{Tree, AMark, AWord, Alone, Back, Called, First, Front, Group, Infix, Nil, Node, Pair}
 use Rattle.syn_grammar.specs.Tree.{Second, Whole, marks as signs, flat}
-use Rattle.syn_grammar.specs.Gram.{ref}
+use Rattle.syn_grammar.specs.Gram.{raw, ref}
 use Rattle.syn_grammar.specs.Look.{Look, a_group, a_path, an_ident, behind, first_seen, no, seen, sees}
 use Rattle.syn_grammar.specs.Look.{the_end, ◌or◌, ◌then◌}
-use Rattle.syn_grammar.specs.Say.{at, marks, optional, sign, ◌∶◌}
+use Rattle.syn_grammar.specs.Say.{at, marks, optional, sign, ◌∶◌, ◌▸◌}
 use Rattle.syn_grammar.specs.Ranks.{skips}
 use Rattle.syn_grammar.specs.Table.{table}
-use Rattle.syn_grammar.specs.Forms.{front, has_right, level, macro_call_stands, typed_closure_stands}
+use Rattle.syn_grammar.specs.Forms.{front, has_right, is_brace_macro, level, macro_call_stands, typed_closure_stands}
 use Rattle.syn_grammar.specs.Statements.{item_stands, macro_item_stands, macro_statement_stands, statement}
 use Rattle.syn_grammar.specs.Derives.{Bound, Derives}
 use Rattle.syn_grammar.specs.Kept.{held, kept}
@@ -28,16 +30,19 @@ use Rattle.syn_grammar.specs.Normal.{normal_in, passed, stands_behind}
 use Rattle.grammar_back.specs.After.{After}
 use Rattle.grammar_back.specs.Covered.{begins_in_call_or_closure, is_plain_expression}
 use Rattle.grammar_back.specs.Covered.{is_plain_start, soft_words}
-use Rattle.grammar_back.proofs.Choices.{both_true, is_false}
+use Rattle.grammar_back.proofs.Choices.{both_true, is_false, none_of}
 use Rattle.grammar_back.proofs.Classes.{IsAmong, among_right, of_all, ◌&◌}
+use Rattle.grammar_back.proofs.Ends.{each_call}
 use Rattle.grammar_back.proofs.FieldValues.{end_is}
 use Rattle.grammar_back.proofs.Fits.{Fits, FitsForms, HasOperands, flat_forms}
 use Rattle.grammar_back.proofs.Lets.{step_item, step_let}
-use Rattle.grammar_back.proofs.Passed.{behind_attributes}
+use Rattle.grammar_back.proofs.Parts.{at_back, at_front, found_ref, maybe_ref, told_at}
+use Rattle.grammar_back.proofs.Passed.{behind_attributes, group_passed}
 use Rattle.grammar_back.proofs.Readies.{Ready, Step}
 use Rattle.grammar_back.proofs.Starts.{expression_starts, starts, statement_starts}
 use Rattle.grammar_back.proofs.Statements.{at_expression, contrary, fits_expression, held_form, none}
 use Rattle.read_back.proofs.Blocks.{body_opens, word_first}
+use Rattle.read_back.proofs.Parts.{among}
 use Rattle.read_back.proofs.Macros.{behind_call, delimited_in, name_front, unlike}
 use Rattle.read_back.proofs.Paths.{bang, keyword_is, or_macro, root_front}
 
@@ -45,8 +50,11 @@ use Rattle.read_back.proofs.Paths.{bang, keyword_is, or_macro, root_front}
 abbrev item_name : Look
 item_name = an_ident or at "try"
 
+abbrev dotted : Look
+dotted = marks "?" or (no (marks "..") then marks ".")
+
 abbrev group_behind : Look
-group_behind = a_group Brace then no (marks "?" or (no (marks "..") then marks "."))
+group_behind = a_group Brace then no dotted
 
 abbrev NoCall : List Token → Type 0
 NoCall us = (sees macro_item_stands us ≡ false) × (sees macro_statement_stands us ≡ false)
@@ -315,25 +323,10 @@ delimited_ends p b (Second (Second _)) f n = absurd f.1.1
 delimited_ends p b (Second _) f n = absurd f.1
 delimited_ends p b _ f n = absurd f
 
-macro_ends : (x : Tree) → Fits x (table AMacro) → begins_in_call_or_closure (Alone ExprMacro (Node AMacro x)) ≡ false
-    → Ends (delimited_in (Node AMacro x))
-unfolding table
-macro_ends (Pair p (Pair b (Node j d))) f n =
-    delimited_ends p b d (subst (λ i. Fits d (table i)) f.1.1.0 f.1.1.3)
-    (subst (λ i. begins_in_call_or_closure (Alone ExprMacro (Node AMacro (Pair p (Pair b (Node i d))))) ≡ false)
-    f.1.1.0 n)
-macro_ends (Pair p (Pair b _)) f n = absurd f.1.1
-macro_ends (Pair p _) f n = absurd f.1
-macro_ends _ f n = absurd f
-
 call_ends : (y : Tree) → Fits y (table ExprMacro) → begins_in_call_or_closure (Alone ExprMacro y) ≡ false
     → Ends (delimited_in y)
-unfolding table
-call_ends (Node k x) f n =
-    subst (λ i. Ends (delimited_in (Node i x))) (sym f.0)
-    (macro_ends x (subst (λ i. Fits x (table i)) f.0 f.3)
-    (subst (λ i. begins_in_call_or_closure (Alone ExprMacro (Node i x)) ≡ false) f.0 n))
-call_ends _ f n = absurd f
+call_ends y f n =
+    each_call (λ z. begins_in_call_or_closure (Alone ExprMacro z) ≡ false → Ends (delimited_in z)) delimited_ends y f n
 
 call_there : (y : Tree) (rest us : List Token) → Fits y (table ExprMacro)
     → begins_in_call_or_closure (Alone ExprMacro y) ≡ false
@@ -553,6 +546,101 @@ expression_read x t s f g p w a =
           (subst (IsAmong expression_starts) e i),
     )
 
+-- a macro in braces
+record Braced (y : Tree) (ts : List Token) : Type 0 where
+  no_item : seen (item_name (flat (delimited_in y) ++ ts)) ≡ false
+  passed : group_behind (flat (delimited_in y) ++ ts) ≡ no dotted ts
+
+delimited_braced : (a b d : Tree) → Fits d (table Delimited)
+    → is_brace_macro (Alone ExprMacro (Node AMacro (Pair a (Pair b (Node Delimited d))))) ≡ true → (ts : List Token)
+    → Derives (Node AMacro (Pair a (Pair b (Node Delimited d)))) (ref AMacro) ts
+    → Braced (Node AMacro (Pair a (Pair b (Node Delimited d)))) ts
+unfolding table
+delimited_braced a b (Second (First (Group e x))) f n ts d =
+    subst (λ c. Braced (Node AMacro (Pair a (Pair b (Node Delimited (Second (First (Group c x))))))) ts)
+    (sym d.1.1.1.1.1.1.0) record {
+      no_item = refl;
+      passed = ap (λ o. behind o (no dotted)) (group_passed Brace x raw ts d.1.1.1.1.1.1.1);
+    }
+delimited_braced a b (Second (First _)) f n ts d = absurd f.1.1
+delimited_braced a b (Second (Second g)) f n ts d = absurd (contrary n)
+delimited_braced a b (Second _) f n ts d = absurd f.1
+delimited_braced a b (First g) f n ts d = absurd (contrary n)
+delimited_braced a b _ f n ts d = absurd f
+
+braced : (y : Tree) → Fits y (table ExprMacro) → is_brace_macro (Alone ExprMacro y) ≡ true → (ts : List Token)
+    → Derives y (ref AMacro) ts → Braced y ts
+braced y f n ts d =
+    each_call (λ z. is_brace_macro (Alone ExprMacro z) ≡ true → (ts : List Token) → Derives z (ref AMacro) ts
+    → Braced z ts) delimited_braced y f n ts d
+
+macro_begins : (ts : List Token) → IsAmong (starts AMacro) ts → IsAmong expression_starts ts
+macro_begins ts i =
+    among (40 ∷ 41 ∷ 42 ∷ 38 ∷ 39 ∷ 35 ∷ 36 ∷ 37 ∷ 33 ∷ 34 ∷ []) (starts AMacro) expression_starts ts
+    (refl, (refl, (refl, (refl, (refl, (refl, (refl, (refl, (refl, (refl, tt)))))))))) i
+
+record CallEnded (t : Tree) (s : List Token) : Type 0 where
+  free : sees dotted (flat t ++ s) ≡ false
+  derived : Derives t (optional (marks ";") (the_semicolon ∶ sign ";")) s
+
+semicolon_free : (c : ℕ) (cs : List ℕ) (i : Spacing) (s : List Token) → c ≡ 59 → cs ≡ [] → Apart ≡ i
+    → sees dotted (signs c cs i ++ s) ≡ false
+semicolon_free c cs i s e f g =
+    ap (λ d. sees dotted (signs d cs i ++ s)) e ∙ ap (λ ds. sees dotted (signs 59 ds i ++ s)) f
+    ∙ ap (λ j. sees dotted (Punct 59 j ∷ s)) (sym g)
+
+call_ended : (o m t : Tree) (s : List Token) → Fits t (optional (marks ";") (the_semicolon ∶ sign ";"))
+    → After AStatement (Second (First (Pair o (Pair m t)))) s → CallEnded t s
+call_ended o m (First (Called n (AMark c cs i))) s f a = record {
+  free = semicolon_free c cs i s f.1.1.0 f.1.1.1 f.1.1.2;
+  derived = (semicolon_seen c cs i s f.1.1.0 f.1.1.1, (f.1.0, (f.1.1.0, f.1.1.1)));
+}
+call_ended o m (First (Called n _)) s f a = absurd f.1.1
+call_ended o m (First _) s f a = absurd f.1
+call_ended o m (Second Nil) s f (inl a) =
+    subst (CallEnded (Second Nil)) (sym (end_is s a.0)) record { free = refl; derived = (refl, tt) }
+call_ended o m (Second Nil) s f (inr (inl e)) = absurd (contrary (sym e))
+call_ended o m (Second Nil) s f (inr (inr e)) =
+    record { free = none_of _ _ e.0.1.1.0 e.0.1.0; derived = (e.1.0, tt) }
+call_ended o m (Second _) s f a = absurd f.1
+call_ended o m _ s f a = absurd f
+
+no_dotted : (ts : List Token) → sees dotted ts ≡ false → sees (no dotted) ts ≡ true
+no_dotted ts e = ap (λ b. seen (cond b None (Some ts))) e
+
+macro_statement_read : (o m t : Tree) (s : List Token)
+    → Fits (Pair o (Pair m t)) (ref OuterAttributes ▸ ref AMacro ▸ optional (marks ";") (the_semicolon ∶ sign ";"))
+    → is_brace_macro (Alone ExprMacro m) ≡ true → Ready (Pair o (Pair m t))
+    → After AStatement (Second (First (Pair o (Pair m t)))) s
+    → Derives (Second (First (Pair o (Pair m t)))) statement s
+    × IsAmong (starts AStatement) (flat (Pair o (Pair m t)) ++ s)
+unfolding table skips
+macro_statement_read o m t s f n w a =
+    let c = call_ended o m t s f.1.1 a in
+    let (d, i) = (found_ref AMacro refl).fine.by m (flat t ++ s) f.1.0 w.1.0 tt in
+    let b = braced m f.1.0 n (flat t ++ s) d in
+    let y : Tree = Pair m t in
+    let e : flat m ++ (flat t ++ s) ≡ flat y ++ s = sym (append_assoc (flat m) (flat t) s) in
+    let j = subst (IsAmong (starts AMacro)) e i in
+    let (g, h) =
+    (maybe_ref OuterAttributes refl).fine.by o (flat y ++ s) f.0 w.0
+    (told_at (marks "#") false (starts AMacro) (flat y ++ s) (search) j, tt) in (
+      (
+        behind_attributes o y macro_item_stands s false g
+            (subst (λ us. sees macro_item_stands us ≡ false) e
+            (behind_call item_name m (flat t ++ s) f.1.0 ∙ b.no_item)),
+        (
+          behind_attributes o y macro_statement_stands s true g
+              (subst (λ us. sees macro_statement_stands us ≡ true) e
+              (behind_call group_behind m (flat t ++ s) f.1.0 ∙ ap seen b.passed ∙ no_dotted (flat t ++ s) c.free)),
+          (g, (d, c.derived)),
+        ),
+      ),
+      among_right statement_starts expression_starts (flat (Pair o y) ++ s)
+          (⊎_elim (λ k. at_back expression_starts o y s k (macro_begins (flat y ++ s) j))
+          (λ k. at_front expression_starts o y s (⊎_elim (λ l. inl l) (λ l. absurd l) k)) h),
+    )
+
 pub step_a_statement : Step AStatement
 unfolding table skips
 step_a_statement (Second (Second (First x))) s f n w a = step_let x s f.1.1.1 w
@@ -568,7 +656,9 @@ step_a_statement (Second (Second (Second (Second x)))) s f n w a =
     )
 step_a_statement (Second (Second (Second _))) s f n w a = absurd f.1.1.1
 step_a_statement (Second (Second _)) s f n w a = absurd f.1.1
-step_a_statement (Second (First x)) s f n w a = absurd (contrary n)
+step_a_statement (Second (First (Pair o (Pair m t)))) s f n w a = macro_statement_read o m t s f.1.1 n w a
+step_a_statement (Second (First (Pair o _))) s f n w a = absurd f.1.1.1
+step_a_statement (Second (First _)) s f n w a = absurd f.1.1
 step_a_statement (Second _) s f n w a = absurd f.1
 step_a_statement (First x) s f n w a = absurd (contrary n)
 step_a_statement _ s f n w a = absurd f
