@@ -1,4 +1,5 @@
 -- What is made of a tree that was read.
+use Rattle.std.specs.Prelude.{ℕ, zero, suc, true, false}
 use Rattle.syn_grammar.specs.Tree as t
 use Rattle.syn_grammar.specs.Tree.{Tree}
 use Rattle.gram_table.specs.Kinds.{kind_of}
@@ -9,9 +10,14 @@ use Rattle.gram_table.specs.Parts.{part_of}
 use Rattle.gram_run.specs.declared.around.Around.{Around}
 use Rattle.gram_run.specs.declared.around.Around.TheVariants as arounds
 
+-- the second of so many choices, each the second of the one before it
+abbrev pub seconds : ℕ → Tree → Tree
+seconds zero x = x
+seconds (suc n) x = t.Second (seconds n x)
+
 abbrev pub around_of : Around → Tree → Tree
-around_of arounds.First x = t.First x
-around_of arounds.Second x = t.Second x
+around_of (arounds.Chosen n true) x = seconds n (t.First x)
+around_of (arounds.Chosen n false) x = seconds n x
 around_of arounds.Dropped x = t.Dropped x
 around_of (arounds.Called p) x = t.Called (part_of p) x
 around_of (arounds.Node k) x = t.Node (kind_of k) x

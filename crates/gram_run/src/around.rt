@@ -1,7 +1,7 @@
 //! What is made of a tree that was read.
 
 ghost use Rattle.gram_run.specs.Answers.{Gives};
-ghost use Rattle.gram_run.specs.Around.{around_of, judged_as};
+ghost use Rattle.gram_run.specs.Around.{around_of, judged_as, seconds};
 ghost use Rattle.std.specs.Prelude.{◌≡◌, IfOk, IsTrue};
 ghost use Rattle.syn_buffer.specs.Entries.{is_whole};
 ghost use Rattle.syn_grammar.specs.Run.{Out, wrap};
@@ -19,10 +19,9 @@ use syn_buffer::entry::Entry;
 /// What stands around a tree.
 #[derive(Clone, Copy)]
 pub(crate) enum Around {
-    /// It is the first of a choice.
-    First,
-    /// It is the second of a choice.
-    Second,
+    /// Of so many choices, each the second of the one before it, it is the second; and the first of a choice in that,
+    /// where it says so.
+    Chosen(usize, bool),
     /// It is forgotten.
     Dropped,
     /// It is a part, by its name.
@@ -33,13 +32,26 @@ pub(crate) enum Around {
     Whole,
 }
 
+// The second of so many choices, each the second of the one before it.
+fn seconds<'a>(alloc: Global, count: usize, tree: Tree<'a>) -> Result<Tree<'a>, AllocError>
+    ensures { IfOk result (λ x. x ≡ seconds count tree.entry) }
+{
+    let mut second = tree;
+    for done in 0..count {
+        let _ = done;
+        second = made::second(alloc, second)?;
+    }
+    Ok(second)
+}
+
 // The tree with that around it.
+#[inline(never)]
 fn surrounded<'a>(alloc: Global, around: Around, tree: Tree<'a>) -> Result<Tree<'a>, AllocError>
     ensures { IfOk result (λ x. x ≡ around_of around tree.entry) }
 {
     match around {
-        Around::First => made::first(alloc, tree),
-        Around::Second => made::second(alloc, tree),
+        Around::Chosen(count, true) => seconds(alloc, count, made::first(alloc, tree)?),
+        Around::Chosen(count, false) => seconds(alloc, count, tree),
         Around::Dropped => made::dropped(alloc, tree),
         Around::Called(part) => made::called(alloc, part, tree),
         Around::Node(kind) => made::node(alloc, kind, tree),
@@ -49,6 +61,7 @@ fn surrounded<'a>(alloc: Global, around: Around, tree: Tree<'a>) -> Result<Tree<
 
 /// What was read, with that around it.
 
+#[inline(never)]
 pub(crate) fn surround<'a>(
     alloc: Global,
     around: Around,
@@ -64,6 +77,7 @@ pub(crate) fn surround<'a>(
 }
 
 /// What was read, as it is judged.
+#[inline(never)]
 pub(crate) fn judged<'a, R: Rules>(
     rules: &R,
     alloc: Global,

@@ -11,6 +11,7 @@ use gram_tree::tree::Tree;
 use std::alloc::{AllocError, Global};
 
 /// The form that begins with its own part.
+#[inline(never)]
 pub(crate) fn begun<'a>(
     alloc: Global,
     kind: Kind,
@@ -26,6 +27,7 @@ pub(crate) fn begun<'a>(
 }
 
 /// The form that goes on from its left operand.
+#[inline(never)]
 pub(crate) fn extended<'a>(
     alloc: Global,
     left: Tree<'a>,

@@ -41,6 +41,7 @@ fn is_same(found: Delimiter, wanted: Delimiter) -> bool
 
 /// The group with that delimiter that stands there.
 #[tactic(auto, unfolding(syn_grammar::specs::Run::group_at))]
+#[inline(never)]
 pub(crate) fn enter<'a>(delimiter: Delimiter, at: &'a [Entry<'a>]) -> Option<Opened<'a>>
     requires { IsTrue (is_whole at.now) }
     ensures enters { MatchOption result
@@ -81,6 +82,7 @@ fn closed(refusal: Refusal, span: Span) -> Refusal
 }
 
 /// A group, of what was read of its inside, where that is all of it; and what stands behind it.
+#[inline(never)]
 pub(crate) fn grouped<'a>(
     alloc: Global,
     delimiter: Delimiter,

@@ -22,6 +22,7 @@ use syn_buffer::entry::Entry;
 
 /// A word that passes.
 #[tactic(auto, unfolding(syn_grammar::specs::Run::word_at))]
+#[inline(never)]
 pub(crate) fn word<'a>(
     words: Words,
     at: &'a [Entry<'a>],
@@ -42,6 +43,7 @@ pub(crate) fn word<'a>(
 
 /// A literal that passes.
 #[tactic(auto, using(crate::proofs::Groups::behind_literal), unfolding(syn_grammar::specs::Run::literal_at))]
+#[inline(never)]
 pub(crate) fn literal<'a, R: Rules>(
     rules: &R,
     literals: Literals,
@@ -62,6 +64,7 @@ pub(crate) fn literal<'a, R: Rules>(
 }
 
 /// A punctuation.
+#[inline(never)]
 pub(crate) fn mark<'a, R: Rules>(
     rules: &R,
     sign: Sign,
@@ -80,6 +83,7 @@ pub(crate) fn mark<'a, R: Rules>(
 
 /// `'` and a word.
 #[tactic(auto, unfolding(syn_grammar::specs::Run::lifetime_at))]
+#[inline(never)]
 pub(crate) fn lifetime<'a>(at: &'a [Entry<'a>]) -> Result<(Tree<'a>, &'a [Entry<'a>]), Refusal>
     requires { IsTrue (is_whole at.now) }
     ensures answer { Gives (λ x. x.0) (λ x. x.1.now) result (lifetime_at (tokens at.now)) }
@@ -97,6 +101,7 @@ pub(crate) fn lifetime<'a>(at: &'a [Entry<'a>]) -> Result<(Tree<'a>, &'a [Entry<
 
 /// All that is left, as it is.
 #[tactic(auto, using(crate::proofs::Leaves::raw_read, crate::proofs::Leaves::dropped_all))]
+#[inline(never)]
 pub(crate) fn raw<'a>(at: &'a [Entry<'a>]) -> (Tree<'a>, &'a [Entry<'a>])
     requires { IsTrue (is_whole at.now) }
     ensures answer { raw_at (tokens at.now) ≡ Got result.0 (tokens result.1.now) }
@@ -107,6 +112,7 @@ pub(crate) fn raw<'a>(at: &'a [Entry<'a>]) -> (Tree<'a>, &'a [Entry<'a>])
 
 /// The mark that separates the elements of a list, and what stands behind it.
 #[tactic(auto, unfolding(syn_grammar::specs::Run::mark_at))]
+#[inline(never)]
 pub(crate) fn separator<'a>(
     separator: Separator,
     at: &'a [Entry<'a>],

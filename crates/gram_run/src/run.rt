@@ -1,9 +1,14 @@
 //! The run: steps of entries, one after the other.
 //!
 //! Each function takes how many calls deep it may go, as a run of the grammar does, and answers what that run does.
+//!
+//! Tokens may stand deep in one another, and a program's stack is small. So the compiler is told to put no function
+//! into another one, but `step` into `interp`: each then takes room on the stack for what it keeps itself.
 
 ghost use Rattle.gram_run.specs.Answers.{Gives, tokens};
+ghost use Rattle.gram_run.specs.Around.{around_of, judged_as};
 ghost use Rattle.gram_run.specs.Operands.{made_of, own_of};
+ghost use Rattle.gram_run.specs.declared.around.Around.TheVariants as arounds;
 ghost use Rattle.gram_table.specs.Kinds.{kind_of, position_of};
 ghost use Rattle.gram_table.specs.Looks.{test_of};
 ghost use Rattle.gram_table.specs.Ops.{gram_of, separator_of};
@@ -12,7 +17,7 @@ ghost use Rattle.std.specs.Prelude.{◌∷◌, ◌≡◌, IfOk, IsTrue};
 ghost use Rattle.syn_buffer.specs.Entries.{is_whole};
 ghost use Rattle.syn_grammar.specs.Gram.{seq as in_row};
 ghost use Rattle.syn_grammar.specs.Run.{climb as goes, interp as says, kind as of_kind, list, loop as again, run};
-ghost use Rattle.syn_grammar.specs.Run.{tower as operand_of};
+ghost use Rattle.syn_grammar.specs.Run.{tower as operand_of, wrap};
 ghost use Rattle.syn_grammar.specs.Tree.{Tree as AnyTree};
 
 use crate::around::{Around, judged, surround};
@@ -26,14 +31,16 @@ use crate::rules::Rules;
 use gram_judge::level::{inside, level as level_of};
 use gram_table::entry::entry;
 use gram_table::kind::{Kind, Position};
-use gram_table::op::{Op, Separator, Test};
+use gram_table::op::{Op, Separator, Test, Verdicts};
 use gram_tree::made;
 use gram_tree::tree::{Element, Tree};
+use proc_macro2::delimiter::Delimiter;
 use std::alloc::Global;
 use syn_buffer::entry::Entry;
 
 /// A tree of the kind.
 #[cycle(run)]
+#[inline(never)]
 pub(crate) fn call<'a, R: Rules>(
     rules: &R,
     alloc: Global,
@@ -50,15 +57,12 @@ pub(crate) fn call<'a, R: Rules>(
     }
     let steps = entry(kind);
     let _bounded = steps.len();
-    surround(
-        alloc,
-        Around::Node(kind),
-        interp(rules, alloc, steps, at, fuel - 1),
-    )
+    within(rules, alloc, Around::Node(kind), steps, at, fuel - 1)
 }
 
 // What the steps say.
 #[cycle(run)]
+#[inline(never)]
 fn interp<'a, R: Rules>(
     rules: &R,
     alloc: Global,
@@ -87,7 +91,8 @@ fn step<'a, R: Rules>(
     fuel: u128,
 ) -> Result<(Tree<'a>, &'a [Entry<'a>]), Refusal>
     requires { IsTrue (is_whole at.now) }
-    ensures answer { Gives (λ x. x.0) (λ x. x.1.now) result (says (run fuel) (gram_of (op ∷ parts.now)) (tokens at.now)) }
+    ensures answer { Gives (λ x. x.0) (λ x. x.1.now) result
+        (says (run fuel) (gram_of (op ∷ parts.now)) (tokens at.now)) }
     ensures whole { IfOk result (λ x. IsTrue (is_whole x.1.now)) }
 {
     match op {
@@ -99,54 +104,134 @@ fn step<'a, R: Rules>(
         Op::Nothing => Ok((made::nil(), at)),
         Op::Never => Err(refuse(Wanted::Nothing, at)),
         Op::Seq(count) => seq(rules, alloc, count, parts, at, fuel),
-        Op::Alt(test, count) => match chosen(rules, test, count, parts, at) {
-            Some(choice) => surround(
-                alloc,
-                choice.around,
-                interp(rules, alloc, choice.parts, at, fuel),
-            ),
-            None => Err(refuse(Wanted::Nothing, at)),
-        },
+        Op::Alt(test, count) => alt(rules, alloc, test, count, parts, at, fuel),
         Op::Star(test) => star(rules, alloc, test, parts, at, fuel),
         Op::Many(test, separator) => many(rules, alloc, test, separator, parts, at, fuel),
-        Op::Group(delimiter) => match enter(delimiter, at) {
-            Some(opened) => grouped(
-                alloc,
-                delimiter,
-                opened,
-                interp(rules, alloc, parts, opened.inside, fuel),
-            ),
-            None => Err(refuse(Wanted::Group(delimiter), at)),
-        },
-        Op::Judged(verdicts) => judged(
-            rules,
-            alloc,
-            verdicts,
-            interp(rules, alloc, parts, at, fuel),
-        ),
-        Op::Dropped => surround(
-            alloc,
-            Around::Dropped,
-            interp(rules, alloc, parts, at, fuel),
-        ),
-        Op::Called(part) => surround(
-            alloc,
-            Around::Called(part),
-            interp(rules, alloc, parts, at, fuel),
-        ),
+        Op::Group(delimiter) => group(rules, alloc, delimiter, parts, at, fuel),
+        Op::Judged(verdicts) => weighed(rules, alloc, verdicts, parts, at, fuel),
+        Op::Dropped => within(rules, alloc, Around::Dropped, parts, at, fuel),
+        Op::Called(part) => within(rules, alloc, Around::Called(part), parts, at, fuel),
         Op::Ref(kind) => call(rules, alloc, kind, at, fuel),
-        Op::Operand(position, level) => {
-            surround(
-                alloc,
-                Around::Whole,
-                tower(rules, alloc, position, level, at, fuel),
-            )
-        }
+        Op::Operand(position, level) => operand(rules, alloc, position, level, at, fuel),
     }
+}
+
+// What the steps say, with that around it.
+#[cycle(run)]
+#[inline(never)]
+fn within<'a, R: Rules>(
+    rules: &R,
+    alloc: Global,
+    around: Around,
+    steps: &'static [Op],
+    at: &'a [Entry<'a>],
+    fuel: u128,
+) -> Result<(Tree<'a>, &'a [Entry<'a>]), Refusal>
+    requires { IsTrue (is_whole at.now) }
+    ensures answer { Gives (λ x. x.0) (λ x. x.1.now) result
+        (wrap (around_of around) (says (run fuel) (gram_of steps.now) (tokens at.now))) }
+    ensures whole { IfOk result (λ x. IsTrue (is_whole x.1.now)) }
+{
+    surround(alloc, around, interp(rules, alloc, steps, at, fuel))
+}
+
+// The part that is chosen.
+#[cycle(run)]
+#[inline(never)]
+fn alt<'a, R: Rules>(
+    rules: &R,
+    alloc: Global,
+    test: Test,
+    count: usize,
+    parts: &'static [Op],
+    at: &'a [Entry<'a>],
+    fuel: u128,
+) -> Result<(Tree<'a>, &'a [Entry<'a>]), Refusal>
+    requires { IsTrue (is_whole at.now) }
+    ensures answer { Gives (λ x. x.0) (λ x. x.1.now) result
+        (says (run fuel) (gram_of (ops.Alt test count ∷ parts.now)) (tokens at.now)) }
+    ensures whole { IfOk result (λ x. IsTrue (is_whole x.1.now)) }
+{
+    let Some(choice) = chosen(rules, test, count, parts, at) else {
+        return Err(refuse(Wanted::Nothing, at));
+    };
+    let around = Around::Chosen(choice.seconds, choice.is_first);
+    within(rules, alloc, around, choice.parts, at, fuel)
+}
+
+// A group, and what its inside says.
+#[cycle(run)]
+#[inline(never)]
+fn group<'a, R: Rules>(
+    rules: &R,
+    alloc: Global,
+    delimiter: Delimiter,
+    parts: &'static [Op],
+    at: &'a [Entry<'a>],
+    fuel: u128,
+) -> Result<(Tree<'a>, &'a [Entry<'a>]), Refusal>
+    requires { IsTrue (is_whole at.now) }
+    ensures answer { Gives (λ x. x.0) (λ x. x.1.now) result
+        (says (run fuel) (gram_of (ops.Group delimiter ∷ parts.now)) (tokens at.now)) }
+    ensures whole { IfOk result (λ x. IsTrue (is_whole x.1.now)) }
+{
+    let Some(opened) = enter(delimiter, at) else {
+        return Err(refuse(Wanted::Group(delimiter), at));
+    };
+    let inner = interp(rules, alloc, parts, opened.inside, fuel);
+    grouped(alloc, delimiter, opened, inner)
+}
+
+// What the steps say, as it is judged.
+#[cycle(run)]
+#[inline(never)]
+fn weighed<'a, R: Rules>(
+    rules: &R,
+    alloc: Global,
+    verdicts: Verdicts,
+    steps: &'static [Op],
+    at: &'a [Entry<'a>],
+    fuel: u128,
+) -> Result<(Tree<'a>, &'a [Entry<'a>]), Refusal>
+    requires { IsTrue (is_whole at.now) }
+    ensures answer { Gives (λ x. x.0) (λ x. x.1.now) result
+        (judged_as verdicts (says (run fuel) (gram_of steps.now) (tokens at.now))) }
+    ensures whole { IfOk result (λ x. IsTrue (is_whole x.1.now)) }
+{
+    judged(
+        rules,
+        alloc,
+        verdicts,
+        interp(rules, alloc, steps, at, fuel),
+    )
+}
+
+// An expression that is an operand of an operator of the level.
+#[cycle(run)]
+#[inline(never)]
+fn operand<'a, R: Rules>(
+    rules: &R,
+    alloc: Global,
+    position: Position,
+    level: usize,
+    at: &'a [Entry<'a>],
+    fuel: u128,
+) -> Result<(Tree<'a>, &'a [Entry<'a>]), Refusal>
+    requires { IsTrue (is_whole at.now) }
+    ensures answer { Gives (λ x. x.0) (λ x. x.1.now) result
+        (wrap (around_of arounds.Whole) (run fuel (operand_of (position_of position) level) (tokens at.now))) }
+    ensures whole { IfOk result (λ x. IsTrue (is_whole x.1.now)) }
+{
+    surround(
+        alloc,
+        Around::Whole,
+        tower(rules, alloc, position, level, at, fuel),
+    )
 }
 
 // A part, and then another.
 #[cycle(run)]
+#[inline(never)]
 fn seq<'a, R: Rules>(
     rules: &R,
     alloc: Global,
@@ -176,6 +261,7 @@ struct Place<'a> {
 
 // Turns, while the test passes.
 #[cycle(run)]
+#[inline(never)]
 fn star<'a, R: Rules>(
     rules: &R,
     alloc: Global,
@@ -209,6 +295,7 @@ fn star<'a, R: Rules>(
 
 // Elements with marks between them, until the test passes.
 #[cycle(run)]
+#[inline(never)]
 fn many<'a, R: Rules>(
     rules: &R,
     alloc: Global,
@@ -255,6 +342,7 @@ struct OwnPart<'a> {
 
 // The own part of a form of the kind, and its operand.
 #[cycle(run)]
+#[inline(never)]
 fn own<'a, R: Rules>(
     rules: &R,
     alloc: Global,
@@ -290,6 +378,7 @@ fn own<'a, R: Rules>(
 
 // An operand of an operator of the level.
 #[cycle(run)]
+#[inline(never)]
 fn tower<'a, R: Rules>(
     rules: &R,
     alloc: Global,
@@ -316,6 +405,7 @@ fn tower<'a, R: Rules>(
 
 // What goes on from a left operand, as an operand of an operator of the level.
 #[cycle(run)]
+#[inline(never)]
 fn climb<'a, R: Rules>(
     rules: &R,
     alloc: Global,

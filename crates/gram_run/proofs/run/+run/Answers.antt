@@ -20,7 +20,7 @@ call-returns-clause-answer g t c =
     let s : c.args.fuel ≡ suc (c.args.fuel - 1) = omega arith in
     let ts = tokens c.args.at.now in
     rw (kind_read c.args.fuel (c.args.fuel - 1) (kind_of c.args.kind) (gram_of c.entry-steps.result.now) ts s
-    c.entry-steps.ensures) (c.surround.ensures.answer _ c.interp.ensures.answer)
+    c.entry-steps.ensures) c.within.ensures.answer
 
 pub many-returns-in_err-tree-clause-answer : goal.many-returns-in_err-tree-clause-answer
 many-returns-in_err-tree-clause-answer g t c =

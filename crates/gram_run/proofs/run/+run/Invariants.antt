@@ -14,19 +14,34 @@ abbrev pub decreases-call : goal.decreases-call
 decreases-call g l = 2 ^ 67 * l.fuel
 
 abbrev pub decreases-interp : goal.decreases-interp
-decreases-interp g l = 2 ^ 67 * l.fuel + 3 * length l.steps.now
+decreases-interp g l = 2 ^ 67 * l.fuel + 4 * length l.steps.now
 
 abbrev pub decreases-step : goal.decreases-step
-decreases-step g l = 2 ^ 67 * l.fuel + 3 * length l.parts.now + 2
+decreases-step g l = 2 ^ 67 * l.fuel + 4 * length l.parts.now + 3
+
+abbrev pub decreases-alt : goal.decreases-alt
+decreases-alt g l = 2 ^ 67 * l.fuel + 4 * length l.parts.now + 2
+
+abbrev pub decreases-within : goal.decreases-within
+decreases-within g l = 2 ^ 67 * l.fuel + 4 * length l.steps.now + 1
+
+abbrev pub decreases-weighed : goal.decreases-weighed
+decreases-weighed g l = 2 ^ 67 * l.fuel + 4 * length l.steps.now + 1
+
+abbrev pub decreases-group : goal.decreases-group
+decreases-group g l = 2 ^ 67 * l.fuel + 4 * length l.parts.now + 1
 
 abbrev pub decreases-seq : goal.decreases-seq
-decreases-seq g l = 2 ^ 67 * l.fuel + 3 * length l.parts.now + 1
+decreases-seq g l = 2 ^ 67 * l.fuel + 4 * length l.parts.now + 1
 
 abbrev pub decreases-star : goal.decreases-star
-decreases-star g l = 2 ^ 67 * l.most + 3 * length l.parts.now + 1
+decreases-star g l = 2 ^ 67 * l.most + 4 * length l.parts.now + 1
 
 abbrev pub decreases-many : goal.decreases-many
-decreases-many g l = 2 ^ 67 * l.most + 3 * length l.parts.now + 1
+decreases-many g l = 2 ^ 67 * l.most + 4 * length l.parts.now + 1
+
+abbrev pub decreases-operand : goal.decreases-operand
+decreases-operand g l = 2 ^ 67 * l.fuel + 1
 
 abbrev pub decreases-own : goal.decreases-own
 decreases-own g l = 2 ^ 67 * l.fuel + 2 ^ 66
