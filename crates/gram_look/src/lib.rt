@@ -1,7 +1,7 @@
 //! Looking at tokens, as the table of the written grammar does.
 //!
 //! - `leaf`: words that pass.
-//! - `literals`: literals that pass; `text` (private): their texts.
+//! - `literals`: literals that pass; `text`: their texts.
 //! - `sign`: punctuations and lifetimes that stand first.
 //! - `group`: groups that stand first.
 //! - `laws`: whole entries, and entries in which each group closes where it says.
@@ -12,4 +12,4 @@ pub mod laws;
 pub mod leaf;
 pub mod literals;
 pub mod sign;
-mod text;
+pub mod text;

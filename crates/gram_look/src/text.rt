@@ -6,9 +6,9 @@ ghost use Rattle.std.specs.Str.{chars};
 ghost use Rattle.syn_grammar.specs.Words.{are_indices, based_number, before_dot, behind_dots, digit, ends_in_dot, indices_to_dot, integer};
 ghost use Rattle.syn_grammar.specs.Words.{is_below, is_digit, is_index, is_number, is_string, last_is_dot, number_behind};
 
-// The first character of a text, and what is left behind it.
+/// The first character of a text, and what is left behind it; none of no text.
 #[tactic(auto, using(crate::proofs::Characters::first_so, crate::proofs::Characters::none_left))]
-fn first_char(text: &str) -> Option<(char, &str)>
+pub fn first_char(text: &str) -> Option<(char, &str)>
     ensures some { IfSome result (λ r. chars text.now ≡ r.0 ∷ chars r.1.now) }
     ensures shorter { IfSome result (λ r. length r.1.now < length text.now) }
     ensures none { IfNone result (chars text.now ≡ []) }
@@ -112,9 +112,10 @@ fn based(rest: &str) -> Option<(u32, &str)>
     }
 }
 
-// The number that an unsuffixed integer below 2 ^ 32 writes, up to a dot, and what is left from there.
+/// The number that an unsuffixed integer below 2 ^ 32 writes, up to a dot, and what is left from there: none where the
+/// text up to there is no such integer.
 #[tactic(auto, using(crate::proofs::Dots::integer_end, crate::proofs::Dots::integer_dot, crate::proofs::Dots::integer_zero, crate::proofs::Dots::integer_digit, crate::proofs::Dots::integer_other))]
-fn integer(text: &str) -> Option<(u32, &str)>
+pub fn integer(text: &str) -> Option<(u32, &str)>
     ensures reads { Reads (integer (before_dot (chars text.now))) (chars text.now)
         (option_map (λ r. (r.0, chars r.1.now)) result) }
     ensures shorter { IfSome result (λ r. length r.1.now ≤ length text.now) }
