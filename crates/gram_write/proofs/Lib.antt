@@ -12,6 +12,8 @@ pub mod Read
 pub mod Pushing
 pub mod Flat
 pub mod Sizes
-pub mod Written
 pub mod LaidTrees
-pub mod SpacedForms
+pub mod Indices
+pub mod SeenForms
+pub mod WayForms
+pub mod Laying

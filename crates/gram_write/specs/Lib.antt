@@ -1,7 +1,7 @@
 pub mod Said
 pub mod Firsts
 pub mod Laid
+pub mod Seen
+pub mod Way
 pub mod Plain
 pub mod Ranges
-pub mod Spaced
-pub mod Tidied

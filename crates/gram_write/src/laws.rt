@@ -6,8 +6,6 @@ ghost use Rattle.gram_write.specs.Firsts.{firsts_said};
 ghost use Rattle.gram_write.specs.Laid.{laid};
 ghost use Rattle.gram_write.specs.Plain.{IsPlain};
 ghost use Rattle.gram_write.specs.Ranges.{NoRangeHasAttributes, own_position};
-ghost use Rattle.gram_write.specs.Spaced.{spaced};
-ghost use Rattle.gram_write.specs.Tidied.{IsTidied};
 ghost use Rattle.gram_write.specs.Said.{bare_impl_said, is_quiet, is_unnamed, own_said, said, said_form};
 ghost use Rattle.proc_macro2.specs.Token.{Ident, Literal, Punct, Token};
 ghost use Rattle.rust_leaf.specs.declared.punct.Spacing.TheVariants.{Alone as Apart};
@@ -134,12 +132,6 @@ pub fn arguments()
         → is_lifetime_argument (normal_in Plain (kept (Node AnArgument (First x)))) ≡ has the_lifetime x }
     ensures other { (x : Tree) → has the_lifetime x ≡ false
         → is_lifetime_argument (normal_in Plain (kept (Node AnArgument (Second x)))) ≡ false }
-{}
-
-/// Of a plain tree, of which normal form removes, adds, moves and splits nothing, those tokens are written that were
-/// read and not dropped; the last mark of a punctuation, and the mark behind an element, stands alone.
-pub fn tidied_trees()
-    ensures { (p : Position) (x : Tree) → IsPlain p x → IsTidied x → said p x ≡ spaced x }
 {}
 
 /// Of a plain tree, at every depth, what is written is said in terms of what was read alone.

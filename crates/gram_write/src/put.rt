@@ -6,8 +6,8 @@ ghost use Rattle.gram_table.specs.Words.{sign_text};
 ghost use Rattle.gram_tree.specs.Forms.{mark_of};
 ghost use Rattle.proc_macro2.specs.Token as token;
 ghost use Rattle.rust_leaf.specs.Leaf.{ident_text};
-ghost use Rattle.rust_leaf.specs.declared.punct.Spacing.TheVariants.{Joint};
-ghost use Rattle.std.specs.Prelude.{◌≡◌, ◌++◌, ◌∷◌, [], OnOk, map};
+ghost use Rattle.rust_leaf.specs.declared.punct.Spacing.TheVariants.{Alone as Apart, Joint};
+ghost use Rattle.std.specs.Prelude.{◌≡◌, ◌++◌, ◌∷◌, [], OnOk, cond, map};
 ghost use Rattle.syn_buffer.specs.Entries.{entry_token};
 ghost use Rattle.syn_grammar.specs.Tree.{flat, marks};
 
@@ -89,6 +89,19 @@ pub(crate) fn separator<'a>(
     match mark {
         Separator::Comma => one(Piece::Mark(',', spacing), out),
         Separator::Plus => one(Piece::Mark('+', spacing), out),
+    }
+}
+
+// A comma, where others follow.
+#[tactic(auto, using(crate::proofs::Pushing::puts))]
+pub(crate) fn comma<'a>(others: bool, out: &mut Vec<Piece<'a>>) -> Result<(), AllocError>
+    ensures { OnOk result (map piece_token out.new.items
+        ≡ map piece_token out.old.items ++ cond others (token.Punct 44 Apart ∷ []) []) }
+{
+    if others {
+        one(Piece::Mark(',', Spacing::Alone), out)
+    } else {
+        Ok(())
     }
 }
 

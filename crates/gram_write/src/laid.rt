@@ -1,0 +1,252 @@
+//! Writing what was read as its normal form has it, where no operand is put in parentheses.
+
+ghost use Rattle.gram_piece.specs.Pieces.{piece_token};
+ghost use Rattle.gram_table.specs.Kinds.{kind_of};
+ghost use Rattle.gram_table.specs.Ops.{separator_of};
+ghost use Rattle.gram_tree.specs.Forms.{elements, turns};
+ghost use Rattle.gram_write.specs.Laid.{behind_laid, firsts_laid, laid, laid_in, others_laid, those_laid};
+ghost use Rattle.gram_write.specs.Way.{passes, way_laid};
+ghost use Rattle.std.specs.Prelude.{[], ◌++◌, ◌≡◌, OnOk, false, map};
+ghost use Rattle.syn_grammar.specs.Kind.{Parameter};
+ghost use Rattle.syn_grammar.specs.Tree as t;
+
+use crate::as_read::put_as_read;
+use crate::fields::{number, put_fields, put_front_fields};
+use crate::put::{comma, entries, lifetime, one, separator, sign};
+use crate::seen::type_alone;
+use crate::way::{
+    Firsts, Way, dotted, is_dotted, lacks_some, last_number, of_node, of_part, passes,
+};
+use crate::within::Within;
+use gram_piece::piece::Piece;
+use gram_table::kind::Kind;
+use gram_table::op::Separator;
+use gram_tree::tree::{Element, Form, Three, Tree, Two};
+use rust_leaf::punct::Spacing;
+use std::alloc::AllocError;
+
+/// Puts the tokens of the normal form of a tree behind those that are to be written, as they stand within the parts of
+/// a kind.
+///
+/// # Errors
+///
+/// Where there is no memory for more tokens.
+#[cycle(laid)]
+#[tactic(auto, using(crate::proofs::Laying::forms))]
+pub(crate) fn put_laid<'a>(
+    within: Within,
+    tree: &Tree<'a>,
+    out: &mut Vec<Piece<'a>>,
+) -> Result<(), AllocError>
+    ensures { OnOk result (map piece_token out.new.items ≡ map piece_token out.old.items ++ laid_in within tree.now) }
+{
+    match &tree.form {
+        Form::Word(ident) => one(Piece::Ident(ident), out),
+        Form::Literal(literal) => one(Piece::Literal(literal), out),
+        Form::Mark(marks, _, _) => sign(*marks, Spacing::Alone, out),
+        Form::Lifetime(_, ident) => lifetime(ident, out),
+        Form::Raw(tokens) => entries(tokens, out),
+        Form::Nil | Form::Dropped(_) => Ok(()),
+        Form::Verbatim(inner) => put_as_read(inner, out),
+        Form::Pair(two) => put_two(within, two, out),
+        Form::Front(_, two) => put_two(Within::Anywhere, two, out),
+        Form::Back(kind, two) => put_back(*kind, two, out),
+        Form::Turns(turns) => put_turns(turns.as_slice(), out),
+        Form::Elements(mark, before, last) => {
+            put_elements(*mark, before.as_slice(), out)?;
+            match last {
+                Some(last) => put_laid(Within::Anywhere, last, out),
+                None => Ok(()),
+            }
+        }
+        Form::Group(delimiter, _, inner) => {
+            one(Piece::Open(*delimiter), out)?;
+            put_laid(within, inner, out)?;
+            one(Piece::Close(*delimiter), out)
+        }
+        Form::Infix(_, three) => put_three(three, out),
+        Form::First(_, inner) | Form::Second(_, inner) => put_laid(within, inner, out),
+        Form::Called(part, inner) => put_so(of_part(within, *part, inner), inner, out),
+        Form::Node(kind, inner) => put_so(of_node(*kind, inner), inner, out),
+        Form::Whole(inner) | Form::Alone(_, inner) => put_laid(Within::Anywhere, inner, out),
+    }
+}
+
+// The tokens of one tree, and then those of another.
+#[cycle(laid)]
+#[tactic(auto, using(crate::proofs::Pushing::puts))]
+fn put_two<'a>(within: Within, two: &Two<'a>, out: &mut Vec<Piece<'a>>) -> Result<(), AllocError>
+    ensures { OnOk result (map piece_token out.new.items
+        ≡ map piece_token out.old.items ++ (laid_in within two.now.front ++ laid_in within two.now.back)) }
+{
+    put_laid(within, &two.front, out)?;
+    put_laid(within, &two.back, out)
+}
+
+// The tokens of an infix form's left operand, of its own part, and of its right operand.
+#[cycle(laid)]
+#[tactic(auto, using(crate::proofs::Pushing::puts))]
+fn put_three<'a>(three: &Three<'a>, out: &mut Vec<Piece<'a>>) -> Result<(), AllocError>
+    ensures { OnOk result (map piece_token out.new.items ≡ map piece_token out.old.items
+        ++ (laid three.now.left ++ (laid three.now.own ++ laid three.now.right))) }
+{
+    put_laid(Within::Anywhere, &three.left, out)?;
+    put_laid(Within::Anywhere, &three.own, out)?;
+    put_laid(Within::Anywhere, &three.right, out)
+}
+
+// The tokens of turns, one behind the other.
+#[cycle(laid)]
+#[tactic(auto, using(crate::proofs::Pushing::puts))]
+fn put_turns<'a>(trees: &[Tree<'a>], out: &mut Vec<Piece<'a>>) -> Result<(), AllocError>
+    ensures { OnOk result (map piece_token out.new.items
+        ≡ map piece_token out.old.items ++ laid (turns trees.now)) }
+{
+    for tree in trees {
+        put_laid(Within::Anywhere, tree, out)?;
+    }
+    Ok(())
+}
+
+// The tokens of elements, and of the mark behind each.
+#[cycle(laid)]
+#[tactic(auto, using(crate::proofs::Pushing::puts))]
+fn put_elements<'a>(
+    mark: Separator,
+    before: &[Element<'a>],
+    out: &mut Vec<Piece<'a>>,
+) -> Result<(), AllocError>
+    ensures { OnOk result (map piece_token out.new.items
+        ≡ map piece_token out.old.items ++ laid (elements (separator_of mark) before.now t.End)) }
+{
+    for element in before {
+        put_laid(Within::Anywhere, &element.tree, out)?;
+        separator(mark, Spacing::Alone, out)?;
+    }
+    Ok(())
+}
+
+// The inside of a node or of a part, written in that way.
+#[cycle(laid)]
+#[tactic(auto, using(crate::proofs::Pushing::puts))]
+fn put_so<'a>(way: Way<'a>, inner: &Tree<'a>, out: &mut Vec<Piece<'a>>) -> Result<(), AllocError>
+    ensures { OnOk result (map piece_token out.new.items
+        ≡ map piece_token out.old.items ++ way_laid way.entry inner.now) }
+{
+    match way {
+        Way::Nothing => Ok(()),
+        Way::Number(literal) => number(literal, out),
+        Way::Parameter => put_parameter(inner, out),
+        Way::Firsts(which) => put_firsts(which, inner, out),
+        Way::Parts(within) => put_laid(within, inner, out),
+    }
+}
+
+// A parameter, which gets the pattern `_` and a colon where it is a type alone.
+#[cycle(laid)]
+#[tactic(auto, using(crate::proofs::Laying::parameters))]
+fn put_parameter<'a>(inner: &Tree<'a>, out: &mut Vec<Piece<'a>>) -> Result<(), AllocError>
+    ensures { OnOk result (map piece_token out.new.items
+        ≡ map piece_token out.old.items ++ laid (t.Node Parameter inner.now)) }
+{
+    let Some((front, given)) = type_alone(inner) else {
+        return put_laid(Within::Anywhere, inner, out);
+    };
+    put_laid(Within::Anywhere, front, out)?;
+    one(Piece::Underscore, out)?;
+    one(Piece::Mark(':', Spacing::Alone), out)?;
+    put_laid(Within::Anywhere, given, out)
+}
+
+// A list: the elements that come first, and then the others. The last one gets a comma where others follow it.
+#[cycle(laid)]
+#[tactic(auto, using(crate::proofs::Laying::lists))]
+fn put_firsts<'a>(
+    which: Firsts,
+    list: &Tree<'a>,
+    out: &mut Vec<Piece<'a>>,
+) -> Result<(), AllocError>
+    ensures { OnOk result (map piece_token out.new.items
+        ≡ map piece_token out.old.items ++ firsts_laid (passes which) list.now) }
+{
+    let Form::Elements(mark, before, last) = &list.form else {
+        return put_laid(Within::Anywhere, list, out);
+    };
+    let elements = before.as_slice();
+    put_those(which, *mark, elements, out)?;
+    let Some(last) = last else {
+        return put_others(which, *mark, elements, out);
+    };
+    if passes(which, last) {
+        put_laid(Within::Anywhere, last, out)?;
+        comma(lacks_some(which, elements), out)?;
+        put_others(which, *mark, elements, out)
+    } else {
+        put_others(which, *mark, elements, out)?;
+        put_laid(Within::Anywhere, last, out)
+    }
+}
+
+// The elements that come first, each with the mark behind it.
+#[cycle(laid)]
+#[tactic(auto, using(crate::proofs::Pushing::puts))]
+fn put_those<'a>(
+    which: Firsts,
+    mark: Separator,
+    before: &[Element<'a>],
+    out: &mut Vec<Piece<'a>>,
+) -> Result<(), AllocError>
+    ensures { OnOk result (map piece_token out.new.items ≡ map piece_token out.old.items
+        ++ those_laid (passes which) false (elements (separator_of mark) before.now t.End)) }
+{
+    for element in before {
+        if passes(which, &element.tree) {
+            put_laid(Within::Anywhere, &element.tree, out)?;
+            separator(mark, Spacing::Alone, out)?;
+        }
+    }
+    Ok(())
+}
+
+// The other elements, each with the mark behind it.
+#[cycle(laid)]
+#[tactic(auto, using(crate::proofs::Laying::others))]
+fn put_others<'a>(
+    which: Firsts,
+    mark: Separator,
+    before: &[Element<'a>],
+    out: &mut Vec<Piece<'a>>,
+) -> Result<(), AllocError>
+    ensures { OnOk result (map piece_token out.new.items ≡ map piece_token out.old.items
+        ++ others_laid (passes which) [] (elements (separator_of mark) before.now t.End)) }
+{
+    for element in before {
+        if !passes(which, &element.tree) {
+            put_laid(Within::Anywhere, &element.tree, out)?;
+            separator(mark, Spacing::Alone, out)?;
+        }
+    }
+    Ok(())
+}
+
+// What stands left of a form's own part, and that part, whose numbers behind a dot are split.
+#[cycle(laid)]
+#[tactic(auto, using(crate::proofs::Laying::owns))]
+fn put_back<'a>(kind: Kind, two: &Two<'a>, out: &mut Vec<Piece<'a>>) -> Result<(), AllocError>
+    ensures { OnOk result (map piece_token out.new.items
+        ≡ map piece_token out.old.items ++ (laid two.now.front ++ behind_laid (kind_of kind) two.now.back)) }
+{
+    put_laid(Within::Anywhere, &two.front, out)?;
+    if !is_dotted(kind) {
+        return put_laid(Within::Anywhere, &two.back, out);
+    }
+    let Some(parts) = dotted(&two.back) else {
+        return put_laid(Within::Anywhere, &two.back, out);
+    };
+    put_front_fields(parts.numbers, out)?;
+    if let Some(literal) = last_number(kind, parts.behind) {
+        return put_fields(literal, out);
+    }
+    put_laid(Within::Anywhere, parts.dot, out)?;
+    put_laid(Within::Anywhere, parts.behind, out)
+}
