@@ -1,6 +1,6 @@
 #!/usr/bin/env bash
 # Runs built programs once for each allocation that they make, refusing that one: canon_cli on its stored input, on a
-# text at fault, on a large text and on an argument; lex_cli on its stored input; grow_check on each text of
+# text at fault, on a large text, on an argument and for an outline; lex_cli on its stored input; grow_check on each text of
 # tests/texts, behind an older text in its map, on streams that are built by hand, and on literals of texts and their
 # values; grow_calls and grow_grammar on what they read, build, write and print by themselves. Each run must give the
 # answer itself, with its status and what it says on standard error, or end with nothing written: with status 3 where
@@ -75,8 +75,10 @@ sweep "canon, a syntax fault" canon_cli "$work/syntax"
 printf '\xff' > "$work/bytes"
 said=$'canon: not UTF-8\n'
 sweep "canon, no text" canon_cli "$work/bytes"
-want=2 said=$'usage: canon\n'
+want=2 said=$'usage: canon [outline]\n'
 sweep "canon, an argument" canon_cli "$work/nothing" x
+want=0 answer=../crates/canon_cli_outline/stdout said=
+sweep "canon outline" canon_cli ../crates/canon_cli_outline/stdin outline
 
 want=0 said= refusal=
 answer=../crates/lex_cli/stdout

@@ -1,9 +1,8 @@
 -- From the parts of a run to what it answers.
-use Rattle.std.proofs.Common.{◌≡◌, ℕ, ◌+◌, ◌^◌, ◌≤◌, List, [], ◌∷◌, ◌++◌, length, refl, sym, ap, ap₂, ◌∙◌, subst, arith}
-use Rattle.std.specs.Prelude.{Option, Some, Result, Ok, Err, IfErr, encode_utf8}
-use Rattle.std.specs.Result.{IsErrAnd}
+use Rattle.std.proofs.Common.{◌≡◌, ℕ, List, sym, ap, ◌∙◌, subst}
+use Rattle.std.specs.Prelude.{Option, Some}
 use Rattle.std.specs.Str.{chars, IsUtf8}
-use Rattle.std.proofs.lemmas.Str.{chars_from_encodes, encodes-chars, length-le-encodes}
+use Rattle.std.proofs.lemmas.Str.{chars_from_encodes}
 use Rattle.rust_map.specs.declared.place.LineColumn.{LineColumn}
 use Rattle.rust_map.specs.declared.span.Span.{Span}
 use Rattle.rust_map.specs.Sources.{Sources, next_position, next_span, next_spot, spot, with_text}
@@ -15,11 +14,8 @@ use Rattle.canon_syntax.specs.Tree.{Tree}
 use Rattle.canon_syntax.specs.File.{IsFile, IsParsed, NoFile}
 use Rattle.syn_buffer.specs.Seen.{seen}
 use Rattle.canon.specs.Program.{IsProgram, IsOutput}
-use Rattle.canon.specs.Faults.{IsFaultOf, IsSyntaxFault}
+use Rattle.canon.specs.Faults.{IsSyntaxFault}
 use Rattle.canon.specs.Places.{span_place}
-use Rattle.canon.specs.Run.{IsPage, IsRunFault, limit}
-use Rattle.canon.specs.declared.fault.Fault.{Fault}
-use Rattle.canon.specs.declared.fault.Fault.TheVariants.{NotUtf8, Lexical, Syntax, MapFull, Memory, Reading, Writing}
 use Rattle.canon.proofs.Forests.{same_tokens, elsewhere, forest_behind, forest_seen}
 use Rattle.proc_macro2.proofs.Lies.{forest_lies}
 use Rattle.canon.proofs.Places.{placed}
@@ -65,36 +61,3 @@ syntax_is old new text ss span place a forest grown there none is =
       index = index;
       there = is ∙ ap (λ (m : Sources). span_place m span ss) grown ∙ same;
     }
-
-line_feed : encode_utf8 10 ≡ 10 ∷ []
-unfolding lib.Utf8.encode
-line_feed = refl
-
--- the output and a line feed are the page
-pub page_is : (bytes out page : List ℕ) → length bytes ≤ limit → IsUtf8 bytes → IsUtf8 out →
-    IsOutput (chars bytes) (chars out) → page ≡ out ++ encode_utf8 10 → IsPage bytes page
-page_is bytes out page short utf8 written o e = record {
-  short = short;
-  text = utf8;
-  output = chars out;
-  canonical = o;
-  is = e ∙ ap₂ (λ x y. x ++ y) (sym (encodes-chars out written)) line_feed;
-}
-
--- a fault of a text that is short enough is the run's; a map of its own has room for the text
-pub run_fault : (bytes : List ℕ) (fault : Fault) → length bytes ≤ limit → IsUtf8 bytes → IsFaultOf (chars bytes) fault →
-    (fault ≡ MapFull → 2 ^ 32 ≤ 1 + length (chars bytes)) → IsRunFault bytes fault
-run_fault bytes (Lexical place) short utf8 f full = (short, utf8, f)
-run_fault bytes (Syntax error place) short utf8 f full = (short, utf8, f)
-run_fault bytes MapFull short utf8 f full = absurd
-    (omega (arith, full refl, length-le-encodes (chars bytes), ap length (encodes-chars bytes utf8)))
-run_fault bytes Memory short utf8 f full = tt
-run_fault bytes NotUtf8 short utf8 f full = absurd f
-run_fault bytes Reading short utf8 f full = absurd f
-run_fault bytes Writing short utf8 f full = absurd f
-
--- what an error is, it is as one of another kind
-pub error_as : {A : Type 0} (r : Result A Fault) (P Q : Fault → Type 0) → IsErrAnd r P → ((f : Fault) → P f → Q f) →
-    IfErr r Q
-error_as (Ok x) P Q e h = absurd e
-error_as (Err f) P Q e h = h f e

@@ -3,9 +3,7 @@ use Rattle.std.proofs.Common.{◌≡◌, ℕ, zero, suc, ◌+◌, List, [], ◌�
 use Rattle.std.proofs.Common.{subst, arith}
 use Rattle.std.specs.Prelude.{Bool, true, false, ◌&&◌, Option, Some, None, IsTrue, slice_get}
 use Rattle.std.specs.Option.{option_map}
-use Rattle.std.specs.List.{list_all}
 use Rattle.rust_map.specs.Answers.{start_place}
-use Rattle.rust_map.specs.Places.{place_of}
 use Rattle.rust_map.specs.Sources.{Sources, spot, is_held, next_position, next_span, next_spot, with_text}
 use Rattle.rust_map.specs.declared.place.LineColumn.{LineColumn}
 use Rattle.proc_macro2.proofs.Lies.{AllLie, Lies, forest_lies}
@@ -13,13 +11,13 @@ use Rattle.proc_macro2.specs.Forest.{IsForest}
 use Rattle.proc_macro2.specs.Held.{are_held}
 use Rattle.proc_macro2.specs.Pieces.{edged}
 use Rattle.proc_macro2.specs.Token.{Token, Opens, Closes, Ident, Literal, Punct, Spanned, plain}
-use Rattle.syn_buffer.specs.Entries.{entry_span, entry_token, spanned_entries}
+use Rattle.syn_buffer.specs.Entries.{entry_span, spanned_entries}
 use Rattle.syn_buffer.specs.declared.entry.Entry.{Entry}
 use Rattle.syn_grammar.specs.Names.{AllStand, Name, StandsIn, names}
-use Rattle.syn_grammar.specs.Tree.{Tree, flat}
+use Rattle.syn_grammar.specs.Tree.{Tree}
 use Rattle.syn_grammar.proofs.NamesStand.{all_stand}
 use Rattle.canon_laws.specs.Faults.{IsSyntaxFault, begins_at, token_place}
-use Rattle.canon_laws.specs.Program.{IsFile, IsProgram, NoFile}
+use Rattle.canon_laws.specs.Program.{IsFile, NoFile}
 use Rattle.canon_laws.proofs.Programs.{same_tokens}
 use Rattle.canon.specs.Outline.{AreThere, IsOutline, Line, kind_word, line_for, line_of, lines_for, lines_of}
 use Rattle.canon.specs.Outline.{span_begins}

@@ -6,8 +6,6 @@ use Rattle.rust_map.specs.Answers.{start_place}
 use Rattle.rust_map.specs.Sources.{Sources}
 use Rattle.rust_map.specs.declared.place.LineColumn.{LineColumn}
 use Rattle.proc_macro2.specs.Token.{Token, Ident, Spanned}
-use Rattle.syn_buffer.specs.Entries.{entry_span, entry_token}
-use Rattle.syn_buffer.specs.declared.entry.Entry.{Entry}
 use Rattle.syn_grammar.specs.Names.{Named, Name, names}
 use Rattle.syn_grammar.specs.Names as kinds
 use Rattle.syn_grammar.specs.Tree.{Tree}

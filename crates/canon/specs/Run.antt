@@ -1,11 +1,16 @@
 -- What a run reads and writes.
-use Rattle.std.specs.Prelude.{◌≡◌, ℕ, ◌^◌, ◌<◌, ◌≤◌, List, [], ◌∷◌, ◌++◌, length, take, Option, encode_utf8_all}
+use Rattle.std.specs.Prelude.{◌≡◌, ℕ, ◌^◌, ◌<◌, ◌≤◌, List, [], ◌∷◌, ◌++◌, codes, length, take, Option, encode_utf8_all}
 use Rattle.std.specs.Str.{chars, IsUtf8}
 use Rattle.std.specs.Io.KnownBytes.{Appends}
+use Rattle.rust_leaf.specs.Leaf.{text_of}
+use Rattle.rust_map.specs.Faults.{shown_place}
 use Rattle.canon.specs.Program.{IsOutput}
-use Rattle.canon.specs.Faults.{IsFaultOf}
+use Rattle.canon.specs.Faults.{IsFaultOf, IsOutlineFaultOf}
+use Rattle.canon.specs.Outline.{IsOutline}
+use Rattle.canon.specs.declared.outlines.Row.{Row}
 use Rattle.canon.specs.declared.fault.Fault.{Fault}
-use Rattle.canon.specs.declared.fault.Fault.TheVariants.{NotUtf8, Lexical, Syntax, MapFull, Memory, Reading, Writing}
+use Rattle.canon.specs.declared.fault.Fault.TheVariants.{NotUtf8, Lexical, Syntax, MapFull, Memory, Reading}
+use Rattle.canon.specs.declared.fault.Fault.TheVariants.{Writing}
 
 -- at most so many bytes are taken
 abbrev pub limit : ℕ
@@ -19,16 +24,34 @@ pub record IsPage (bytes page : List ℕ) : Type 0 where
   pub canonical : IsOutput (chars bytes) output
   pub is : page ≡ encode_utf8_all output ++ 10 ∷ []
 
--- known bytes of a writer grow by all of the page
-pub record WritesPage (bytes : List ℕ) (old new : Option (List ℕ)) : Type 0 where
+-- the line of a row: its kind, its name and its place, with a space between them, and a line feed behind
+abbrev pub row_text : Row → List ℕ
+row_text row =
+    chars row.kind.now ++ codes " " ++ text_of row.name ++ codes " " ++ shown_place row.place ++ 10 ∷ []
+
+-- one line for each row
+abbrev pub rows_text : List Row → List ℕ
+rows_text [] = []
+rows_text (row ∷ rows) = row_text row ++ rows_text rows
+
+-- the lines of the outline of the bytes, as bytes
+pub record IsOutlinePage (bytes page : List ℕ) : Type 0 where
+  pub short : length bytes ≤ limit
+  pub text : IsUtf8 bytes
+  pub rows : List Row
+  pub outline : IsOutline (chars bytes) rows
+  pub is : page ≡ encode_utf8_all (rows_text rows)
+
+-- known bytes of a writer grow by all of a page that is such a one
+pub record Writes (IsSuch : List ℕ → Type 0) (old new : Option (List ℕ)) : Type 0 where
   pub page : List ℕ
-  pub is : IsPage bytes page
+  pub is : IsSuch page
   pub appends : Appends old new page
 
--- known bytes of a writer grow by a front of the page
-pub record WritesFront (bytes : List ℕ) (old new : Option (List ℕ)) : Type 0 where
+-- known bytes of a writer grow by a front of such a page
+pub record WritesFront (IsSuch : List ℕ → Type 0) (old new : Option (List ℕ)) : Type 0 where
   pub page : List ℕ
-  pub is : IsPage bytes page
+  pub is : IsSuch page
   pub count : ℕ
   pub appends : Appends old new (take count page)
 
@@ -42,3 +65,9 @@ IsRunFault bytes (Syntax error place) =
 IsRunFault bytes Memory = Unit {0}
 IsRunFault bytes Reading = Unit {0}
 IsRunFault bytes Writing = Unit {0}
+
+-- the same of a run that asks for the outline
+abbrev pub IsOutlineRunFault : List ℕ → Fault → Type 0
+IsOutlineRunFault bytes (Syntax error place) =
+    (length bytes ≤ limit) × IsUtf8 bytes × IsOutlineFaultOf (chars bytes) (Syntax error place)
+IsOutlineRunFault bytes fault = IsRunFault bytes fault

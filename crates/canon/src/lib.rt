@@ -2,7 +2,7 @@
 //!
 //! - `form`: the canonical form of a text.
 //! - `outlines`: the names of the items of a text, and where they stand.
-//! - `runs`: a run, from a reader to a writer.
+//! - `runs`: runs, from a reader to a writer; `pages` (private): what they write.
 //! - `fault`: why a text has none, and what the program says then.
 //! - `causes` (private): faults of the parts of a run, as faults of the run.
 //! - `stands` (private): where the tokens stand of which errors speak.
@@ -16,6 +16,7 @@ mod file;
 pub mod form;
 pub mod laws;
 pub mod outlines;
+mod pages;
 pub mod runs;
 mod stands;
 
@@ -24,5 +25,5 @@ pub use fault::{Fault, status, write_fault};
 pub use form::canonical;
 pub use outlines::{Row, outline};
 pub use proc_macro2::{LineColumn, MapFull, SourceMap};
-pub use runs::run;
+pub use runs::{run, run_outline};
 pub use syn_error::Error;

@@ -1,20 +1,19 @@
-//! A run: from a reader to a writer.
+//! Runs: from a reader to a writer.
 
-ghost use Rattle.canon.specs.Run.{IsPage, IsRunFault, WritesFront, WritesPage, limit};
+ghost use Rattle.canon.specs.Run.{IsOutlinePage, IsOutlineRunFault, IsPage, IsRunFault, Writes, WritesFront, limit};
 ghost use Rattle.canon_io.specs.Bytes.{ConsumesAtMost};
 ghost use Rattle.canon_io.specs.Watched.{has_failed, inner_of, is_flushed};
-ghost use Rattle.std.specs.Prelude.{◌≡◌, ◌+◌, ◌≤◌, ◌↔◌, Err, IfErr, IfOk, IfSome, IsTrue, OnOk, false, length};
-ghost use Rattle.std.specs.Prelude.{string_bytes};
+ghost use Rattle.std.specs.Io.KnownBytes.{Appends};
+ghost use Rattle.std.specs.Prelude.{◌≡◌, ◌+◌, ◌≤◌, ◌↔◌, ℕ, Err, IfErr, IfOk, IfSome, IsTrue, OnErr, OnOk, false};
+ghost use Rattle.std.specs.Prelude.{string_bytes, take};
 
 use crate::fault::Fault;
-use crate::form::canonical;
+use crate::pages::{outline_of_bytes, page_of_bytes};
 use canon_io::reading::read_within;
 use canon_io::watched::Watched;
 use canon_io::writing::{flush_watched, write_all_watched};
-use rust_map::SourceMap;
 use std::alloc::Global;
 use std::io::{Read, Write};
-use std::str;
 
 /// So many bytes are read, and one more: a text that has more is refused.
 const LIMIT: usize = 1 << 30;
@@ -38,10 +37,10 @@ pub fn run<R: Read, W: Write>(
 
     // What is written, and what is at fault, by the bytes that the reader had.
     ensures page { OnOk result (IfSome (R.remaining (inner_of reader.old)) (λ bytes.
-        WritesPage bytes (W.contents (inner_of writer.old)) (W.contents (inner_of writer.new)))) }
+        Writes (IsPage bytes) (W.contents (inner_of writer.old)) (W.contents (inner_of writer.new)))) }
     ensures fault { IfErr result (λ f. IfSome (R.remaining (inner_of reader.old)) (λ bytes. IsRunFault bytes f)) }
     ensures front { result ≡ Err Fault.Writing → IfSome (R.remaining (inner_of reader.old)) (λ bytes.
-        WritesFront bytes (W.contents (inner_of writer.old)) (W.contents (inner_of writer.new))) }
+        WritesFront (IsPage bytes) (W.contents (inner_of writer.old)) (W.contents (inner_of writer.new))) }
 
     // Nothing is written on a refusal.
     ensures untouched { IfErr result (λ f. (f ≡ Fault.Writing → ⊥) → writer.new ≡ writer.old) }
@@ -56,9 +55,45 @@ pub fn run<R: Read, W: Write>(
     ensures flushed { OnOk result (IsTrue (is_flushed writer.new)) }
 {
     let page = page_of(alloc, reader)?;
-    write_all_watched(writer, page.as_bytes())?;
-    flush_watched(writer)?;
-    Ok(())
+    put_page(writer, page.as_bytes())
+}
+
+/// Reads all, then writes the outline, a line for each row: its kind, its name and its place, as `fn go 2:3`. All else is
+/// as `run` does it.
+///
+/// # Errors
+///
+/// Those of `run`, but the fault that `outline` answers in place of that of `canonical`.
+pub fn run_outline<R: Read, W: Write>(
+    alloc: Global,
+    reader: &mut Watched<R>,
+    writer: &mut Watched<W>,
+) -> Result<(), Fault>
+    requires reader { has_failed reader.old ≡ false }
+    requires writer { has_failed writer.old ≡ false }
+
+    // What is written, and what is at fault, by the bytes that the reader had.
+    ensures page { OnOk result (IfSome (R.remaining (inner_of reader.old)) (λ bytes.
+        Writes (IsOutlinePage bytes) (W.contents (inner_of writer.old)) (W.contents (inner_of writer.new)))) }
+    ensures fault { IfErr result (λ f. IfSome (R.remaining (inner_of reader.old))
+        (λ bytes. IsOutlineRunFault bytes f)) }
+    ensures front { result ≡ Err Fault.Writing → IfSome (R.remaining (inner_of reader.old)) (λ bytes.
+        WritesFront (IsOutlinePage bytes) (W.contents (inner_of writer.old)) (W.contents (inner_of writer.new))) }
+
+    // Nothing is written on a refusal.
+    ensures untouched { IfErr result (λ f. (f ≡ Fault.Writing → ⊥) → writer.new ≡ writer.old) }
+
+    // The streams are at fault exactly where they failed.
+    ensures reading { IsTrue (has_failed reader.new) ↔ (result ≡ Err Fault.Reading) }
+    ensures writing { IsTrue (has_failed writer.new) ↔ (result ≡ Err Fault.Writing) }
+    ensures at_most { ConsumesAtMost (R.remaining (inner_of reader.old)) (R.remaining (inner_of reader.new))
+        (limit + 1) }
+
+    // The last call of the writer was a flush that went well.
+    ensures flushed { OnOk result (IsTrue (is_flushed writer.new)) }
+{
+    let page = outline_of(alloc, reader)?;
+    put_page(writer, page.as_bytes())
 }
 
 // The canonical form of all that the reader has, and a line feed.
@@ -76,17 +111,34 @@ fn page_of<R: Read>(alloc: Global, reader: &mut Watched<R>) -> Result<String, Fa
     page_of_bytes(alloc, bytes.as_slice())
 }
 
-fn page_of_bytes(alloc: Global, bytes: &[u8]) -> Result<String, Fault>
-    requires { length bytes.now ≤ limit }
-    ensures page { IfOk result (λ page. IsPage bytes.now (string_bytes page)) }
-    ensures fault { IfErr result (IsRunFault bytes.now) }
-    ensures reading { result ≡ Err Fault.Reading → ⊥ }
+// The outline of all that the reader has.
+fn outline_of<R: Read>(alloc: Global, reader: &mut Watched<R>) -> Result<String, Fault>
+    requires { has_failed reader.old ≡ false }
+    ensures page { IfOk result (λ page. IfSome (R.remaining (inner_of reader.old))
+        (λ bytes. IsOutlinePage bytes (string_bytes page))) }
+    ensures fault { IfErr result (λ f. IfSome (R.remaining (inner_of reader.old))
+        (λ bytes. IsOutlineRunFault bytes f)) }
+    ensures reading { IsTrue (has_failed reader.new) ↔ (result ≡ Err Fault.Reading) }
     ensures writing { result ≡ Err Fault.Writing → ⊥ }
+    ensures at_most { ConsumesAtMost (R.remaining (inner_of reader.old)) (R.remaining (inner_of reader.new))
+        (limit + 1) }
 {
-    let Ok(text) = str::from_utf8(bytes) else {
-        return Err(Fault::NotUtf8);
-    };
-    let mut page = canonical(alloc, text, &mut SourceMap::new(alloc))?;
-    page.push('\n')?;
-    Ok(page)
+    let bytes = read_within(alloc, LIMIT, reader)?;
+    outline_of_bytes(alloc, bytes.as_slice())
+}
+
+// Writes a page, and flushes.
+fn put_page<W: Write>(writer: &mut Watched<W>, page: &[u8]) -> Result<(), Fault>
+    requires { has_failed writer.old ≡ false }
+    ensures written { OnOk result (Appends (W.contents (inner_of writer.old)) (W.contents (inner_of writer.new))
+        page.now) }
+    ensures front { OnErr result ((count : ℕ) × Appends (W.contents (inner_of writer.old))
+        (W.contents (inner_of writer.new)) (take count page.now)) }
+    ensures fault { IfErr result (λ f. f ≡ Fault.Writing) }
+    ensures failed { IsTrue (has_failed writer.new) ↔ (result ≡ Err Fault.Writing) }
+    ensures flushed { OnOk result (IsTrue (is_flushed writer.new)) }
+{
+    write_all_watched(writer, page)?;
+    flush_watched(writer)?;
+    Ok(())
 }

@@ -1,4 +1,4 @@
-use Rattle.std.proofs.Common.{sym, subst, ap, ap₂, ◌∙◌, ◌≡◌}
+use Rattle.std.proofs.Common.{sym, subst, ap, ◌∙◌}
 use Rattle.std.specs.Prelude.{IsTrue}
 use Rattle.rust_map.specs.Answers.{start_place}
 use Rattle.rust_map.specs.Sources.{is_held}

@@ -8,8 +8,8 @@ use Rattle.canon.specs.Program.{IsOutput}
 use Rattle.canon.specs.Run.{IsRunFault}
 use Rattle.canon.specs.declared.fault.Fault.{Fault}
 use Rattle.canon.specs.declared.fault.Fault.TheVariants.{MapFull}
-use Rattle.canon.proofs.Answers.{error_as, page_is, run_fault}
-use Rattle.canon.proofs.runs.page_of_bytes.Goals as goal
+use Rattle.canon.proofs.Paged.{error_as, page_is, run_fault}
+use Rattle.canon.proofs.pages.page_of_bytes.Goals as goal
 
 pub returns-in_err-page-clause-fault : goal.returns-in_err-page-clause-fault
 returns-in_err-page-clause-fault c =

@@ -1,0 +1,65 @@
+//! Pages: what a run writes.
+
+ghost use Rattle.canon.specs.Run.{IsOutlinePage, IsOutlineRunFault, IsPage, IsRunFault, limit, row_text, rows_text};
+ghost use Rattle.rust_leaf.specs.Leaf.{text_of};
+ghost use Rattle.std.specs.Prelude.{◌≡◌, ◌++◌, ◌≤◌, Err, IfErr, IfOk, OnOk, length, string_bytes};
+
+use crate::fault::Fault;
+use crate::form::canonical;
+use crate::outlines::{Row, outline};
+use rust_map::SourceMap;
+use std::alloc::{AllocError, Global};
+use std::str;
+
+/// The canonical form of bytes, and a line feed.
+pub(crate) fn page_of_bytes(alloc: Global, bytes: &[u8]) -> Result<String, Fault>
+    requires { length bytes.now ≤ limit }
+    ensures page { IfOk result (λ page. IsPage bytes.now (string_bytes page)) }
+    ensures fault { IfErr result (IsRunFault bytes.now) }
+    ensures reading { result ≡ Err Fault.Reading → ⊥ }
+    ensures writing { result ≡ Err Fault.Writing → ⊥ }
+{
+    let Ok(text) = str::from_utf8(bytes) else {
+        return Err(Fault::NotUtf8);
+    };
+    let mut page = canonical(alloc, text, &mut SourceMap::new(alloc))?;
+    page.push('\n')?;
+    Ok(page)
+}
+
+/// The outline of bytes, a line for each row.
+pub(crate) fn outline_of_bytes(alloc: Global, bytes: &[u8]) -> Result<String, Fault>
+    requires { length bytes.now ≤ limit }
+    ensures page { IfOk result (λ page. IsOutlinePage bytes.now (string_bytes page)) }
+    ensures fault { IfErr result (IsOutlineRunFault bytes.now) }
+    ensures reading { result ≡ Err Fault.Reading → ⊥ }
+    ensures writing { result ≡ Err Fault.Writing → ⊥ }
+{
+    let Ok(text) = str::from_utf8(bytes) else {
+        return Err(Fault::NotUtf8);
+    };
+    let rows = outline(alloc, text, &mut SourceMap::new(alloc))?;
+    Ok(lines_of(alloc, rows.as_slice())?)
+}
+
+// The lines of rows.
+#[tactic(auto, using(rust_leaf::proofs::Pushed::no_word))]
+fn lines_of(alloc: Global, rows: &[Row]) -> Result<String, AllocError>
+    ensures { IfOk result (λ page. text_of page ≡ rows_text rows.now) }
+{
+    let mut page = String::new(alloc);
+    for row in rows {
+        push_row(&mut page, row)?;
+    }
+    Ok(page)
+}
+
+// The line of a row.
+fn push_row(out: &mut String, row: &Row) -> Result<(), AllocError>
+    ensures { OnOk result (text_of out.new ≡ text_of out.old ++ row_text row.now) }
+{
+    let (line, column) = (row.place.line, row.place.column);
+    let name = row.name.as_str();
+    out.push_str(row.kind)?;
+    writeln!(out, " {name} {line}:{column}")
+}
