@@ -420,29 +420,25 @@ is_statement_item (Verbatim x) =
     is_no_macro (choice (item_of x)) && (is_begun (choice (item_of x)) && ends_apart (flat x))
 is_statement_item x = is_no_macro (choice (item_of x))
 
--- The expression of a statement begins, as it is printed, neither with attributes nor with a word that begins items
--- too; and crate stands before ::.
+-- The expression of a statement begins, as it is printed, with no attributes; behind a word that begins items too
+-- stands no other word, and behind crate stands ::.
 abbrev pub soft_words : List (List ℕ)
 soft_words = codes "union" ∷ codes "auto" ∷ codes "default" ∷ []
+
+abbrev pub no_word : List Token → Bool
+no_word (Ident cs ∷ ts) = false
+no_word ts = true
 
 abbrev pub is_plain_start : List Token → Bool
 is_plain_start [] = false
 is_plain_start (Ident cs ∷ ts) =
-    not (is_among soft_words cs) && (not (same_text (codes "crate") cs) || sees (marks "::") ts)
+    (not (is_among soft_words cs) || no_word ts) && (not (same_text (codes "crate") cs) || sees (marks "::") ts)
 is_plain_start (Punct c spacing ∷ ts) = not (c == 35)
 is_plain_start (t ∷ ts) = true
 
--- It begins with a macro's call in braces, or with a closure.
-abbrev pub begins_in_call_or_closure : Tree → Bool
-begins_in_call_or_closure (Back l k y) = begins_in_call_or_closure l
-begins_in_call_or_closure (Infix l k y r) = begins_in_call_or_closure l
-begins_in_call_or_closure (Front ExprClosure y x) = true
-begins_in_call_or_closure (Alone ExprTypedClosure y) = true
-begins_in_call_or_closure (Alone ExprMacro (Node AMacro (Pair p (Pair s (Node Delimited (Second (First g))))))) = true
-begins_in_call_or_closure _ = false
-
+-- A macro in braces alone is a statement by itself, and no expression there.
 abbrev pub is_plain_expression : Tree → Bool
-is_plain_expression (Node k (Whole x)) = is_plain_start (flat x) && not (begins_in_call_or_closure x)
+is_plain_expression (Node k (Whole x)) = is_plain_start (flat x) && not (is_brace_macro x)
 is_plain_expression _ = false
 
 -- Nothing stands in front.

@@ -27,6 +27,7 @@ use Rattle.syn_grammar.specs.Derives.{Derives}
 use Rattle.syn_grammar.specs.Kept.{kept}
 use Rattle.syn_grammar.specs.Normal.{normal}
 use Rattle.syn_grammar.specs.Forms.{front, past_bar}
+use Rattle.syn_grammar.specs.Statements.{item_stands}
 use Rattle.binding_laws.proofs.Begun.{is_front}
 use Rattle.binding_laws.proofs.Sights.{is_back}
 use Rattle.expressions_back.specs.Behind.{no_operand, BeforeOperand}
@@ -166,25 +167,26 @@ typed b = cond b (Some ExprTypedClosure) (Some ExprClosure)
 abbrev IsClosure : List Token → List Token → Type 0
 IsClosure us ws =
     ((p : Position) → front p us ≡ typed (seen (behind (past_bar ws) (marks "->")))) × (sees no_operand us ≡ false)
+    × (sees item_stands us ≡ false)
 
 closure_front : (c s a m : Bool) (ws : List Token) → IsClosure (words c s a m (Punct 124 Apart ∷ ws)) ws
 unfolding front is_bool is_reserved
-closure_front true true true true ws = (λ p. refl, refl)
-closure_front true true true false ws = (λ p. refl, refl)
-closure_front true true false true ws = (λ p. refl, refl)
-closure_front true true false false ws = (λ p. refl, refl)
-closure_front true false true true ws = (λ p. refl, refl)
-closure_front true false true false ws = (λ p. refl, refl)
-closure_front true false false true ws = (λ p. refl, refl)
-closure_front true false false false ws = (λ p. refl, refl)
-closure_front false true true true ws = (λ p. refl, refl)
-closure_front false true true false ws = (λ p. refl, refl)
-closure_front false true false true ws = (λ p. refl, refl)
-closure_front false true false false ws = (λ p. refl, refl)
-closure_front false false true true ws = (λ p. refl, refl)
-closure_front false false true false ws = (λ p. refl, refl)
-closure_front false false false true ws = (λ p. refl, refl)
-closure_front false false false false ws = (λ p. refl, refl)
+closure_front true true true true ws = (λ p. refl, refl, refl)
+closure_front true true true false ws = (λ p. refl, refl, refl)
+closure_front true true false true ws = (λ p. refl, refl, refl)
+closure_front true true false false ws = (λ p. refl, refl, refl)
+closure_front true false true true ws = (λ p. refl, refl, refl)
+closure_front true false true false ws = (λ p. refl, refl, refl)
+closure_front true false false true ws = (λ p. refl, refl, refl)
+closure_front true false false false ws = (λ p. refl, refl, refl)
+closure_front false true true true ws = (λ p. refl, refl, refl)
+closure_front false true true false ws = (λ p. refl, refl, refl)
+closure_front false true false true ws = (λ p. refl, refl, refl)
+closure_front false true false false ws = (λ p. refl, refl, refl)
+closure_front false false true true ws = (λ p. refl, refl, refl)
+closure_front false false true false ws = (λ p. refl, refl, refl)
+closure_front false false false true ws = (λ p. refl, refl, refl)
+closure_front false false false false ws = (λ p. refl, refl, refl)
 
 abbrev barred : Tree → List Token → List Token
 barred ps ts = Punct 124 Apart ∷ (flat ps ++ Punct 124 Apart ∷ ts)
@@ -268,6 +270,7 @@ bound_closure b r us ws e d q = (
   λ p. ap (λ vs. front p (vs ++ us)) h.is ∙ for_front (h.rest ++ us) (h.stand us) p
       ∙ ap (λ o. typed (seen (behind o (past_bar then marks "->")))) past,
   ap (λ vs. sees no_operand (vs ++ us)) h.is,
+  ap (λ vs. sees item_stands (vs ++ us)) h.is,
 )
   where
     h : Lifetimed (flat b)
@@ -374,6 +377,23 @@ closure_part y f u w n = record {
         let d = z.read [] (w [] tt).0 in
         ap (λ o. seen (behind o (marks "->"))) (bar_behind z.params d.0 (Punct 124 Apart ∷ ts) d.1)
         ∙ (or_parts (marks "->" ts) _ m.0).0
+
+-- Where it stands no item does.
+pub closure_free : (y : Tree) → Fits y (table ExprClosure) → is_plain_part ExprClosure y ≡ true → (q : List Token)
+    → Derives y (table ExprClosure) q → (ts : List Token) → sees item_stands (flat y ++ ts) ≡ false
+closure_free y f u q d ts = ((closure y f u q d).stands ts).2
+
+pub typed_free : (y : Tree) → Fits y (table ExprTypedClosure) → is_plain_part ExprTypedClosure y ≡ true
+    → (q : List Token) → Derives y (table ExprTypedClosure) q → (ts : List Token)
+    → sees item_stands (flat y ++ ts) ≡ false
+unfolding table
+typed_free (Pair (Pair b c) (Pair r v)) f u q d ts =
+    ap (sees item_stands) (append_assoc (flat (Pair b c)) (flat (Pair r v)) ts)
+    ∙ closure_free (Pair b c) f.0 (and_true (is_bound b) (sees (marks "->") (flat r)) u).0 (flat (Pair r v) ++ q) d.0
+    (flat (Pair r v) ++ ts)
+typed_free (Pair (Pair b c) _) f u q d ts = absurd f.1
+typed_free (Pair _ z) f u q d ts = absurd f.0
+typed_free _ f u q d ts = absurd f
 
 -- and of one with a type: behind its bars begins an arrow
 pub typed_part : (M : List Token → Type 0) (y : Tree) → Fits y (table ExprTypedClosure)

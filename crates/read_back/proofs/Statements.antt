@@ -9,28 +9,31 @@ use Rattle.proc_macro2.specs.Token.{Token, Opens, Closes, Ident, Literal, Punct}
 use Rattle.proc_macro2.specs.declared.delimiter.Delimiter.TheVariants.{Brace}
 use Rattle.rust_leaf.specs.declared.punct.Spacing.{Spacing}
 use Rattle.rust_leaf.specs.declared.punct.Spacing.TheVariants.{Alone as Apart, Joint}
-use Rattle.syn_grammar.specs.Kind.{Kind, AMacro, AStatement, Delimited, Expression, ExprClosure, ExprGroup, ExprMacro}
+use Rattle.syn_grammar.specs.Kind.{Kind, AMacro, AStatement, Delimited, Expression, ExprAttributed, ExprClosure, ExprGroup}
+use Rattle.syn_grammar.specs.Kind.{ExprMacro, ExprPath}
 use Rattle.syn_grammar.specs.Kind.{ExprTypedClosure, ExprUnsafe, InStatement, OuterAttributes}
 use Rattle.syn_grammar.specs.Name.{the_semicolon}
-use Rattle.syn_grammar.specs.Words.{is_among, is_bool, is_ident, is_name, is_path_keyword, is_plain_name, is_reserved}
+use Rattle.syn_grammar.specs.Words.{ends_in_dot, is_among, is_bool, is_ident, is_name, is_path_keyword, is_plain_name, is_reserved}
 use Rattle.syn_grammar.specs.Words.{same_text}
 use Rattle.syn_grammar.specs.Tree.{Tree, AMark, AWord, Alone, Back, Called, First, Front, Group, Infix, Nil, Node, Pair}
 use Rattle.syn_grammar.specs.Tree.{Second, Whole, marks as signs, flat}
 use Rattle.syn_grammar.specs.Gram.{raw, ref}
-use Rattle.syn_grammar.specs.Look.{Look, a_group, a_path, an_ident, behind, first_seen, no, seen, sees}
+use Rattle.syn_grammar.specs.Look.{Look, a_group, a_path, an_ident, behind, first_seen, no, past_literals, seen, sees}
 use Rattle.syn_grammar.specs.Look.{the_end, ◌or◌, ◌then◌}
 use Rattle.syn_grammar.specs.Say.{at, marks, optional, sign, ◌∶◌, ◌▸◌}
 use Rattle.syn_grammar.specs.Ranks.{skips}
 use Rattle.syn_grammar.specs.Table.{table}
-use Rattle.syn_grammar.specs.Forms.{front, has_right, is_brace_macro, level, macro_call_stands, typed_closure_stands}
+use Rattle.syn_grammar.specs.Forms.{Case, back, backs, dot_stands, first_form, form, front, has_right, is_block_like}
+use Rattle.syn_grammar.specs.Forms.{is_brace_macro, is_dotted, level, macro_call_stands, may_be_left, stands_left}
+use Rattle.syn_grammar.specs.Forms.{typed_closure_stands}
 use Rattle.syn_grammar.specs.Statements.{item_stands, macro_item_stands, macro_statement_stands, statement}
 use Rattle.syn_grammar.specs.Derives.{Bound, Derives}
 use Rattle.syn_grammar.specs.Kept.{held, kept}
 use Rattle.syn_grammar.specs.Normal.{normal_in, passed, stands_behind}
 use Rattle.grammar_back.specs.After.{After}
-use Rattle.grammar_back.specs.Covered.{begins_in_call_or_closure, is_plain_expression}
-use Rattle.grammar_back.specs.Covered.{is_plain_start, soft_words}
-use Rattle.grammar_back.proofs.Choices.{both_true, is_false, none_of}
+use Rattle.grammar_back.specs.Covered.{is_plain_expression, is_plain_part}
+use Rattle.grammar_back.specs.Covered.{is_plain_start, no_word, soft_words}
+use Rattle.grammar_back.proofs.Choices.{both_true, first_of, is_false, none_of, second_seen}
 use Rattle.grammar_back.proofs.Classes.{IsAmong, among_right, of_all, ◌&◌}
 use Rattle.grammar_back.proofs.Ends.{each_call}
 use Rattle.grammar_back.proofs.FieldValues.{end_is}
@@ -39,10 +42,12 @@ use Rattle.grammar_back.proofs.Lets.{step_item, step_let}
 use Rattle.grammar_back.proofs.Parts.{at_back, at_front, found_ref, maybe_ref, told_at}
 use Rattle.grammar_back.proofs.Passed.{behind_attributes, group_passed}
 use Rattle.grammar_back.proofs.Readies.{Ready, Step}
+use Rattle.grammar_back.proofs.Seconds.{front_seen}
 use Rattle.grammar_back.proofs.Starts.{expression_starts, starts, statement_starts}
 use Rattle.grammar_back.proofs.Statements.{at_expression, contrary, fits_expression, held_form, none}
 use Rattle.read_back.proofs.Blocks.{body_opens, word_first}
 use Rattle.read_back.proofs.Parts.{among}
+use Rattle.read_back.proofs.Closures.{closure_free, typed_free}
 use Rattle.read_back.proofs.Macros.{behind_call, delimited_in, name_front, unlike}
 use Rattle.read_back.proofs.Paths.{bang, keyword_is, or_macro, root_front}
 
@@ -71,31 +76,40 @@ is_closure ExprTypedClosure = true
 is_closure k = false
 
 record Start (k : Kind) (us : List Token) : Type 0 where
-  other : is_closure k ≡ false
+  free : is_closure k ≡ true → sees item_stands us ≡ false
   fronts : front InStatement us ≡ Some k
   plain : is_plain_start us ≡ true
   unsafe : k ≡ ExprUnsafe → (vs : List Token) × (us ≡ Ident (codes "unsafe") ∷ Opens Brace ∷ vs)
   call : k ≡ ExprMacro → NoCall us
 
--- no closure does
 abbrev is_closure_there : Option Kind → Bool
 is_closure_there (Some k) = is_closure k
 is_closure_there None = false
 
-closure_not : (b : Bool) (k : Kind) → is_closure k ≡ false → cond b (Some ExprTypedClosure) (Some ExprClosure) ≡ Some k
-    → ⊥
-closure_not true k h e = contrary (sym h ∙ sym (ap is_closure_there e))
-closure_not false k h e = contrary (sym h ∙ sym (ap is_closure_there e))
+closure_there : (b : Bool) (k : Kind) → cond b (Some ExprTypedClosure) (Some ExprClosure) ≡ Some k
+    → is_closure k ≡ true
+closure_there true k e = sym (ap is_closure_there e)
+closure_there false k e = sym (ap is_closure_there e)
 
-no_static : (us : List Token) (k : Kind) → Start k (Ident (codes "static") ∷ us) → ⊥
-unfolding front is_bool
-no_static us k h = closure_not (seen (typed_closure_stands (Ident (codes "static") ∷ us))) k h.other h.fronts
+at_static : (us : List Token) (k : Kind) → Start k (Ident (codes "static") ∷ us)
+    → Begun (Ident (codes "static") ∷ us)
+unfolding front is_bool is_name is_path_keyword is_reserved
+at_static us k h = (
+  refl,
+  refl,
+  refl,
+  h.free (closure_there (seen (typed_closure_stands (Ident (codes "static") ∷ us))) k h.fronts),
+)
 
 at_const : (us : List Token) (k : Kind) → Start k (Ident (codes "const") ∷ us) → Begun (Ident (codes "const") ∷ us)
 unfolding front is_bool is_name is_path_keyword is_reserved
 at_const (Opens Brace ∷ vs) k h = (refl, refl, refl, refl)
-at_const us k h =
-    absurd (closure_not (seen (typed_closure_stands (Ident (codes "const") ∷ us))) k h.other h.fronts)
+at_const us k h = (
+  refl,
+  refl,
+  refl,
+  h.free (closure_there (seen (typed_closure_stands (Ident (codes "const") ∷ us))) k h.fronts),
+)
 
 async_front : (cs : List ℕ) (us : List Token) → same_text (codes "move") cs ≡ false
     → front InStatement (Ident (codes "async") ∷ Ident cs ∷ us)
@@ -112,9 +126,13 @@ at_async (Ident cs ∷ us) k h = go (same_text (codes "move") cs) refl
     go true i =
         subst (λ v. Begun (Ident (codes "async") ∷ Ident v ∷ us)) ((bytes_eq-Decides (codes "move") cs).0 i)
         (refl, refl, refl, refl)
-    go false i =
-        absurd (closure_not (seen (typed_closure_stands (Ident (codes "async") ∷ Ident cs ∷ us))) k h.other
-        (sym (async_front cs us i) ∙ h.fronts))
+    go false i = (
+      refl,
+      refl,
+      refl,
+      h.free (closure_there (seen (typed_closure_stands (Ident (codes "async") ∷ Ident cs ∷ us))) k
+          (sym (async_front cs us i) ∙ h.fronts)),
+    )
 at_async _ k h = (refl, refl, refl, refl)
 
 abbrev kind_there : Option Kind → Kind
@@ -213,13 +231,52 @@ ident_plain : (cs : List ℕ) → is_ident cs ≡ true → is_plain_name cs ≡ 
 unfolding is_plain_name
 ident_plain cs e = ap (λ b. b || same_text (codes "Self") cs) e
 
+-- a word that begins items too, and no other word behind it
+each_soft : (P : List ℕ → Type 0) → P (codes "union") → P (codes "auto") → P (codes "default") → (cs : List ℕ)
+    → is_among soft_words cs ≡ true → P cs
+each_soft P a b c cs e =
+    go (same_text (codes "union") cs) (same_text (codes "auto") cs) (same_text (codes "default") cs) refl refl refl e
+  where
+    go : (f g h : Bool) → same_text (codes "union") cs ≡ f → same_text (codes "auto") cs ≡ g
+        → same_text (codes "default") cs ≡ h → (f || (g || (h || false))) ≡ true → P cs
+    go true g h i j k e = subst P ((bytes_eq-Decides (codes "union") cs).0 i) a
+    go false true h i j k e = subst P ((bytes_eq-Decides (codes "auto") cs).0 j) b
+    go false false true i j k e = subst P ((bytes_eq-Decides (codes "default") cs).0 k) c
+    go false false false i j k e = cc e
+
+union_off : (us : List Token) → no_word us ≡ true → sees item_stands (Ident (codes "union") ∷ us) ≡ false
+union_off (Ident cs ∷ us) e = cc e
+union_off _ e = refl
+
+auto_off : (us : List Token) → no_word us ≡ true → sees item_stands (Ident (codes "auto") ∷ us) ≡ false
+auto_off (Ident cs ∷ us) e = cc e
+auto_off _ e = refl
+
+default_off : (us : List Token) → no_word us ≡ true → sees item_stands (Ident (codes "default") ∷ us) ≡ false
+default_off (Ident cs ∷ us) e = cc e
+default_off _ e = refl
+
+soft_off : (cs : List ℕ) (us : List Token) → is_among soft_words cs ≡ true → no_word us ≡ true
+    → sees item_stands (Ident cs ∷ us) ≡ false
+soft_off cs us s e =
+    each_soft (λ v. sees item_stands (Ident v ∷ us) ≡ false) (union_off us e) (auto_off us e) (default_off us e) cs s
+
+word_off : (cs : List ℕ) (us : List Token) → is_plain_name cs ≡ true
+    → (not (is_among soft_words cs) || no_word us) ≡ true → sees item_stands (Ident cs ∷ us) ≡ false
+word_off cs us h e = go (is_among soft_words cs) refl e
+  where
+    go : (b : Bool) → is_among soft_words cs ≡ b → (not b || no_word us) ≡ true
+        → sees item_stands (Ident cs ∷ us) ≡ false
+    go true i e = soft_off cs us i e
+    go false i e = item_off cs us h i
+
 at_ident : (cs : List ℕ) (us : List Token) → is_ident cs ≡ true → (k : Kind) → Start k (Ident cs ∷ us)
     → Begun (Ident cs ∷ us)
 at_ident cs us p k h =
     let q = ident_plain cs p in
     let c = calls (Ident cs ∷ us) k h (λ b e. name_front cs q us b InStatement e) in
-    let s = both_true (not (is_among soft_words cs)) _ h.plain in
-    (c.0, c.1, let_off cs us q, item_off cs us q (is_false (is_among soft_words cs) s.0))
+    let s = both_true (not (is_among soft_words cs) || no_word us) _ h.plain in
+    (c.0, c.1, let_off cs us q, word_off cs us q s.0)
 
 at_big_self : (us : List Token) (k : Kind) → Start k (Ident (codes "Self") ∷ us) → Begun (Ident (codes "Self") ∷ us)
 unfolding is_plain_name is_reserved
@@ -273,7 +330,7 @@ begun_there us k i h = of_all (λ vs. (k : Kind) → Start k vs → Begun vs) ex
     (λ us k h. (refl, refl, refl, refl)) & (λ us k h. (refl, refl, refl, refl)) &
     (λ us k h. (refl, refl, refl, refl)) & (λ us k h. (refl, refl, refl, refl)) &
     (λ us k h. (refl, refl, refl, refl)) & (λ us k h. (refl, refl, refl, refl)) &
-    (λ us k h. absurd (no_static us k h)) & (λ us k h. (refl, refl, refl, refl)) & (λ us k h. at_const us k h) &
+    (λ us k h. at_static us k h) & (λ us k h. (refl, refl, refl, refl)) & (λ us k h. at_const us k h) &
     (λ us k h. at_async us k h) & (λ us k h. at_unsafe us k h) & (λ us k h. (refl, refl, refl, refl)) &
     (λ us k h. (refl, refl, refl, refl)) & (λ us k h. (refl, refl, refl, refl)) &
     (λ us k h. (refl, refl, refl, refl)) & (λ us k h. (refl, refl, refl, refl)) &
@@ -311,7 +368,7 @@ Ends d =
     (ts : List Token) → (seen (item_name (flat d ++ ts)) ≡ false) × (seen (group_behind (flat d ++ ts)) ≡ false)
 
 delimited_ends : (p b d : Tree) → Fits d (table Delimited)
-    → begins_in_call_or_closure (Alone ExprMacro (Node AMacro (Pair p (Pair b (Node Delimited d))))) ≡ false → Ends d
+    → is_brace_macro (Alone ExprMacro (Node AMacro (Pair p (Pair b (Node Delimited d))))) ≡ false → Ends d
 unfolding table
 delimited_ends p b (First (Group e x)) f n =
     subst (λ c. Ends (First (Group c x))) (sym f.1.0) (λ ts. (refl, refl))
@@ -323,17 +380,105 @@ delimited_ends p b (Second (Second _)) f n = absurd f.1.1
 delimited_ends p b (Second _) f n = absurd f.1
 delimited_ends p b _ f n = absurd f
 
-call_ends : (y : Tree) → Fits y (table ExprMacro) → begins_in_call_or_closure (Alone ExprMacro y) ≡ false
+call_ends : (y : Tree) → Fits y (table ExprMacro) → is_brace_macro (Alone ExprMacro y) ≡ false
     → Ends (delimited_in y)
 call_ends y f n =
-    each_call (λ z. begins_in_call_or_closure (Alone ExprMacro z) ≡ false → Ends (delimited_in z)) delimited_ends y f n
+    each_call (λ z. is_brace_macro (Alone ExprMacro z) ≡ false → Ends (delimited_in z)) delimited_ends y f n
 
-call_there : (y : Tree) (rest us : List Token) → Fits y (table ExprMacro)
-    → begins_in_call_or_closure (Alone ExprMacro y) ≡ false
-    → flat y ++ rest ≡ us → NoCall us
-call_there y rest us f n e =
-    let i = call_ends y f n rest in
-    subst NoCall e (behind_call item_name y rest f ∙ i.0, behind_call group_behind y rest f ∙ i.1)
+-- a macro in braces
+record Braced (y : Tree) (ts : List Token) : Type 0 where
+  no_item : seen (item_name (flat (delimited_in y) ++ ts)) ≡ false
+  passed : group_behind (flat (delimited_in y) ++ ts) ≡ no dotted ts
+
+delimited_braced : (a b d : Tree) → Fits d (table Delimited)
+    → is_brace_macro (Alone ExprMacro (Node AMacro (Pair a (Pair b (Node Delimited d))))) ≡ true → (ts : List Token)
+    → Derives (Node AMacro (Pair a (Pair b (Node Delimited d)))) (ref AMacro) ts
+    → Braced (Node AMacro (Pair a (Pair b (Node Delimited d)))) ts
+unfolding table
+delimited_braced a b (Second (First (Group e x))) f n ts d =
+    subst (λ c. Braced (Node AMacro (Pair a (Pair b (Node Delimited (Second (First (Group c x))))))) ts)
+    (sym d.1.1.1.1.1.1.0) record {
+      no_item = refl;
+      passed = ap (λ o. behind o (no dotted)) (group_passed Brace x raw ts d.1.1.1.1.1.1.1);
+    }
+delimited_braced a b (Second (First _)) f n ts d = absurd f.1.1
+delimited_braced a b (Second (Second g)) f n ts d = absurd (contrary n)
+delimited_braced a b (Second _) f n ts d = absurd f.1
+delimited_braced a b (First g) f n ts d = absurd (contrary n)
+delimited_braced a b _ f n ts d = absurd f
+
+braced : (y : Tree) → Fits y (table ExprMacro) → is_brace_macro (Alone ExprMacro y) ≡ true → (ts : List Token)
+    → Derives y (ref AMacro) ts → Braced y ts
+braced y f n ts d =
+    each_call (λ z. is_brace_macro (Alone ExprMacro z) ≡ true → (ts : List Token) → Derives z (ref AMacro) ts
+    → Braced z ts) delimited_braced y f n ts d
+
+-- Behind one in braces the expression goes on with . or ? .
+dotted_off : (ts : List Token) → sees dotted ts ≡ true → sees (no dotted) ts ≡ false
+dotted_off ts e = ap (λ b. seen (cond b None (Some ts))) e
+
+call_there : (y : Tree) (rest us : List Token) → Fits y (table ExprMacro) → Derives y (table ExprMacro) rest
+    → (is_brace_macro (Alone ExprMacro y) ≡ true → sees dotted rest ≡ true) → flat y ++ rest ≡ us → NoCall us
+unfolding table
+call_there y rest us f d m e = subst NoCall e (go (is_brace_macro (Alone ExprMacro y)) refl)
+  where
+    go : (b : Bool) → is_brace_macro (Alone ExprMacro y) ≡ b → NoCall (flat y ++ rest)
+    go true i =
+        let b = braced y f i rest d in (
+          behind_call item_name y rest f ∙ b.no_item,
+          behind_call group_behind y rest f ∙ ap seen b.passed ∙ dotted_off rest (m i),
+        )
+    go false i =
+        let c = call_ends y f i rest in
+        (behind_call item_name y rest f ∙ c.0, behind_call group_behind y rest f ∙ c.1)
+
+-- The forms that go on with these are those that do behind what ends there.
+abbrev Goes : List Case → List Token → Type 0
+Goes [] ts = Unit {0}
+Goes (form k l ∷ cs) ts = (is_dotted k ≡ true → sees l ts ≡ true → sees dotted ts ≡ true) × Goes cs ts
+
+goes : (cs : List Case) (ts : List Token) (k : Kind) → Goes cs ts → first_form cs ts ≡ Some k → is_dotted k ≡ true
+    → sees dotted ts ≡ true
+goes [] ts k g e d = cc e
+goes (form j l ∷ cs) ts k g e d = go (λ i. goes cs ts k g.1 i d) (sees l ts) refl e
+  where
+    go : (first_form cs ts ≡ Some k → sees dotted ts ≡ true) → (b : Bool) → sees l ts ≡ b
+        → cond b (Some j) (first_form cs ts) ≡ Some k → sees dotted ts ≡ true
+    go more true i e = g.0 (subst (λ i. is_dotted i ≡ true) (sym (ap kind_there e)) d) i
+    go more false i e = more e
+
+dot_seen : (ts : List Token) → sees dot_stands ts ≡ true → sees dotted ts ≡ true
+dot_seen ts e = second_seen _ _ (go (no (marks "..") ts) e)
+  where
+    go : (o : Option (List Token)) → seen (behind o (marks "." then past_literals ends_in_dot)) ≡ true
+        → seen (behind o (marks ".")) ≡ true
+    go (Some us) e = front_seen (marks "." us) (past_literals ends_in_dot) e
+    go None e = cc e
+
+dotted_seen : (k : Kind) (ts : List Token) → back InStatement ts ≡ Some k → is_dotted k ≡ true
+    → sees dotted ts ≡ true
+unfolding back
+dotted_seen k ts e d =
+    goes (backs InStatement) ts k
+    (undotted & undotted & undotted & undotted & undotted & undotted & undotted & undotted & undotted & undotted &
+    undotted & undotted & undotted & undotted & undotted & undotted & undotted & undotted &
+    (λ h s. first_of _ _ s) & (λ h s. dot_seen ts (front_seen (dot_stands ts) (at "await") s)) &
+    (λ h s. dot_seen ts (front_seen (dot_stands ts) _ s)) & (λ h s. dot_seen ts s) & tt) e d
+  where
+    undotted : {b : Bool} → false ≡ true → b ≡ true → sees dotted ts ≡ true
+    undotted h s = absurd (contrary h)
+
+left_dotted : (a b c e : Bool) → (a && (not (b || c) || e)) ≡ true → c ≡ true → e ≡ true
+left_dotted true true true e h i = h
+left_dotted true false true e h i = h
+left_dotted true b false e h i = cc i
+left_dotted false b c e h i = cc h
+
+goes_on : (l : Tree) (k : Kind) (ts : List Token) → stands_left InStatement l k ≡ true
+    → back InStatement ts ≡ Some k → is_brace_macro l ≡ true → sees dotted ts ≡ true
+unfolding stands_left
+goes_on l k ts h e n =
+    dotted_seen k ts e (left_dotted (may_be_left k l) (is_block_like l) (is_brace_macro l) (is_dotted k) h n)
 
 no_operand_behind : (k : Kind) (ts : List Token) → has_right InStatement k ts ≡ true → k ≡ ExprMacro → ⊥
 unfolding has_right level
@@ -343,70 +488,60 @@ record Leads (us : List Token) : Type 0 where
   kind : Kind
   start : Start kind us
 
-alone_other : (k : Kind) (y : Tree) (ts : List Token) → has_right InStatement k ts ≡ false
-    → begins_in_call_or_closure (Alone k y) ≡ false → is_closure k ≡ false
-unfolding has_right level
-alone_other ExprClosure y ts h n = absurd (contrary (sym h))
-alone_other ExprTypedClosure y ts h n = absurd (contrary (sym n))
-alone_other _ y ts h n = refl
-
-front_other : (k : Kind) (y x : Tree) (ts : List Token) → has_right InStatement k ts ≡ true
-    → begins_in_call_or_closure (Front k y x) ≡ false → is_closure k ≡ false
-unfolding has_right level
-front_other ExprClosure y x ts h n = absurd (contrary (sym n))
-front_other ExprTypedClosure y x ts h n = absurd (contrary h)
-front_other _ y x ts h n = refl
+own_free : (k : Kind) (y : Tree) (q : List Token) → Fits y (table k) → is_plain_part k y ≡ true
+    → Derives y (table k) q → is_closure k ≡ true → sees item_stands (flat y ++ q) ≡ false
+own_free ExprClosure y q f u d e = closure_free y f u q d q
+own_free ExprTypedClosure y q f u d e = typed_free y f u q d q
+own_free _ y q f u d e = absurd (contrary e)
 
 leads : (x : Tree) (rest us : List Token) → flat x ++ rest ≡ us → Bound InStatement x rest → FitsForms x
-    → HasOperands x → begins_in_call_or_closure x ≡ false → is_plain_start us ≡ true → Leads us
-leads (Alone k y) rest us e d f o n p = record {
+    → HasOperands x → (is_brace_macro x ≡ true → sees dotted rest ≡ true) → is_plain_start us ≡ true → Leads us
+leads (Alone k y) rest us e d f o m p = record {
   kind = k;
   start = record {
-    other = alone_other k y rest d.2 n;
+    free = λ c. ap (sees item_stands) (sym e) ∙ own_free k y rest f.1 o.2 d.1 c;
     fronts = ap (front InStatement) (sym e) ∙ d.0;
     plain = p;
     unsafe = λ i. unsafe_there y rest us (subst (λ j. Fits y (table j)) i f.1) e;
     call = λ i. call_there y rest us (subst (λ j. Fits y (table j)) i f.1)
-        (subst (λ j. begins_in_call_or_closure (Alone j y) ≡ false) i n) e;
+        (subst (λ j. Derives y (table j) rest) i d.1)
+        (λ n. m (subst (λ j. is_brace_macro (Alone j y) ≡ true) (sym i) n)) e;
   };
 }
-leads (Front k y x) rest us e d f o n p =
+leads (Front k y x) rest us e d f o m p =
     let g : flat y ++ (flat x ++ rest) ≡ us = sym (append_assoc (flat y) (flat x) rest) ∙ e in
     record {
       kind = k;
       start = record {
-        other = front_other k y x (flat x ++ rest) d.2 n;
+        free = λ c. ap (sees item_stands) (sym g) ∙ own_free k y (flat x ++ rest) f.1 o.3 d.1 c;
         fronts = ap (front InStatement) (sym g) ∙ d.0;
         plain = p;
         unsafe = λ i. unsafe_there y (flat x ++ rest) us (subst (λ j. Fits y (table j)) i f.1) g;
         call = λ i. absurd (no_operand_behind k (flat x ++ rest) d.2 i);
       };
     }
-leads (Back l k y) rest us e d f o n p =
-    leads l (flat y ++ rest) us (sym (append_assoc (flat l) (flat y) rest) ∙ e) d.4 f.4 o.2 n p
-leads (Infix l k y r) rest us e d f o n p =
+leads (Back l k y) rest us e d f o m p =
+    leads l (flat y ++ rest) us (sym (append_assoc (flat l) (flat y) rest) ∙ e) d.4 f.4 o.2
+    (goes_on l k (flat y ++ rest) d.3.0 d.0) p
+leads (Infix l k y r) rest us e d f o m p =
     leads l (flat y ++ (flat r ++ rest)) us
     (sym (append_assoc (flat l) (flat y ++ flat r) rest
-    ∙ ap (λ ts. flat l ++ ts) (append_assoc (flat y) (flat r) rest)) ∙ e) d.4 f.3 o.2 n p
-leads _ rest us e d f o n p = absurd d
+    ∙ ap (λ ts. flat l ++ ts) (append_assoc (flat y) (flat r) rest)) ∙ e) d.4 f.3 o.2
+    (goes_on l k (flat y ++ (flat r ++ rest)) d.3.0 d.0) p
+leads _ rest us e d f o m p = absurd d
 
 -- what is held of it is in normal form
-call_kept : (x : Tree) → FitsForms x → begins_in_call_or_closure x ≡ true → begins_in_call_or_closure (kept x) ≡ true
+call_kept : (x : Tree) → is_brace_macro x ≡ true → is_brace_macro (kept x) ≡ true
 unfolding held
-call_kept (Alone ExprMacro (Node AMacro (Pair p (Pair s (Node Delimited (Second (First g))))))) f e = refl
-call_kept (Alone ExprTypedClosure y) f e = refl
-call_kept (Alone _ y) f e = cc
-call_kept (Front ExprClosure y x) f e = refl
-call_kept (Front _ y x) f e = absurd (contrary e)
-call_kept (Back l k y) f e = ap begins_in_call_or_closure (f.3 (kept l)) ∙ call_kept l f.4 e
-call_kept (Infix l k y r) f e = call_kept l f.3 e
-call_kept _ f e = cc
+call_kept (Alone ExprMacro (Node AMacro (Pair p (Pair s (Node Delimited (Second (First g))))))) e = refl
+call_kept (Front ExprAttributed y x) e = call_kept x e
+call_kept _ e = absurd (contrary e)
 
-no_call : (x : Tree) → FitsForms x → begins_in_call_or_closure (kept x) ≡ false → begins_in_call_or_closure x ≡ false
-no_call x f e = go (begins_in_call_or_closure x) refl
+no_call : (x : Tree) → is_brace_macro (kept x) ≡ false → is_brace_macro x ≡ false
+no_call x e = go (is_brace_macro x) refl
   where
-    go : (b : Bool) → begins_in_call_or_closure x ≡ b → begins_in_call_or_closure x ≡ false
-    go true i = absurd (contrary (sym e ∙ call_kept x f i))
+    go : (b : Bool) → is_brace_macro x ≡ b → is_brace_macro x ≡ false
+    go true i = absurd (contrary (sym e ∙ call_kept x i))
     go false i = i
 
 colons_more : (ts us : List Token) → sees (marks "::") ts ≡ true → sees (marks "::") (ts ++ us) ≡ true
@@ -430,18 +565,100 @@ colons_more (Punct c Joint ∷ t ∷ ts) us e = absurd (go (c == 58) e)
 colons_more (Punct c Apart ∷ ts) us e = absurd (contrary e)
 colons_more _ us e = absurd (contrary e)
 
-plain_more : (ts us : List Token) → is_plain_start ts ≡ true → is_plain_start (ts ++ us) ≡ true
-plain_more [] us e = cc e
-plain_more (Ident cs ∷ ts) us e = go (not (is_among soft_words cs)) (not (same_text (codes "crate") cs)) e
+-- where such a word is all of the expression, none stands behind it
+abbrev NoneBehind : List Token → List Token → Type 0
+NoneBehind ts us = (cs : List ℕ) → ts ≡ Ident cs ∷ [] → is_among soft_words cs ≡ true → no_word us ≡ true
+
+word_more : (t : Token) (ts us : List Token) → no_word (t ∷ ts) ≡ true → no_word (t ∷ ts ++ us) ≡ true
+word_more (Ident cs) ts us e = cc e
+word_more (Punct c i) ts us e = refl
+word_more (Literal cs) ts us e = refl
+word_more (Opens d) ts us e = refl
+word_more (Closes d) ts us e = refl
+
+soft_more : (cs : List ℕ) (ts us : List Token) → (not (is_among soft_words cs) || no_word ts) ≡ true
+    → NoneBehind (Ident cs ∷ ts) us → (not (is_among soft_words cs) || no_word (ts ++ us)) ≡ true
+soft_more cs ts us e h = go (is_among soft_words cs) refl e
   where
-    go : (a b : Bool) → (a && (b || sees (marks "::") ts)) ≡ true → (a && (b || sees (marks "::") (ts ++ us))) ≡ true
-    go true true e = refl
-    go true false e = colons_more ts us e
-    go false b e = cc e
-plain_more (Punct c i ∷ ts) us e = e
-plain_more (Literal cs ∷ ts) us e = e
-plain_more (Opens d ∷ ts) us e = e
-plain_more (Closes d ∷ ts) us e = e
+    behind : (ts : List Token) → NoneBehind (Ident cs ∷ ts) us → is_among soft_words cs ≡ true → no_word ts ≡ true
+        → no_word (ts ++ us) ≡ true
+    behind [] h i e = h cs refl i
+    behind (t ∷ ts) h i e = word_more t ts us e
+
+    go : (b : Bool) → is_among soft_words cs ≡ b → (not b || no_word ts) ≡ true → (not b || no_word (ts ++ us)) ≡ true
+    go true i e = behind ts h i e
+    go false i e = refl
+
+plain_more : (ts us : List Token) → is_plain_start ts ≡ true → NoneBehind ts us → is_plain_start (ts ++ us) ≡ true
+plain_more [] us e h = cc e
+plain_more (Ident cs ∷ ts) us e h =
+    let i = both_true (not (is_among soft_words cs) || no_word ts) _ e in
+    ap (λ b. b && (not (same_text (codes "crate") cs) || sees (marks "::") (ts ++ us))) (soft_more cs ts us i.0 h)
+    ∙ go (not (same_text (codes "crate") cs)) i.1
+  where
+    go : (b : Bool) → (b || sees (marks "::") ts) ≡ true → (b || sees (marks "::") (ts ++ us)) ≡ true
+    go true e = refl
+    go false e = colons_more ts us e
+plain_more (Punct c i ∷ ts) us e h = e
+plain_more (Literal cs ∷ ts) us e h = e
+plain_more (Opens d ∷ ts) us e h = e
+plain_more (Closes d ∷ ts) us e h = e
+
+-- so it is, since a form that ends there is none of one word
+abbrev is_name_form : Kind → Bool
+is_name_form ExprMacro = true
+is_name_form ExprPath = true
+is_name_form k = false
+
+record Blocked (us : List Token) : Type 0 where
+  kind : Kind
+  fronts : front InStatement us ≡ Some kind
+  other : is_name_form kind ≡ false
+
+block_other : (k : Kind) (y : Tree) → is_block_like (Alone k y) ≡ true → is_name_form k ≡ false
+block_other ExprMacro y e = absurd (contrary e)
+block_other ExprPath y e = absurd (contrary e)
+block_other _ y e = refl
+
+blocked : (x : Tree) (ts : List Token) → Bound InStatement x ts → is_block_like x ≡ true → Blocked (flat x ++ ts)
+blocked (Alone k y) ts d e = record { kind = k; fronts = d.0; other = block_other k y e }
+blocked (Front ExprAttributed y x) ts d e = record {
+  kind = ExprAttributed;
+  fronts = ap (front InStatement) (append_assoc (flat y) (flat x) ts) ∙ d.0;
+  other = refl;
+}
+blocked (Front _ y x) ts d e = absurd (contrary e)
+blocked (Back l k y) ts d e = absurd (contrary e)
+blocked (Infix l k y r) ts d e = absurd (contrary e)
+blocked _ ts d e = absurd d
+
+soft_plain : (cs : List ℕ) → is_among soft_words cs ≡ true → is_plain_name cs ≡ true
+unfolding is_plain_name is_reserved
+soft_plain cs s = each_soft (λ v. is_plain_name v ≡ true) refl refl refl cs s
+
+no_block : (cs : List ℕ) (ts : List Token) → is_among soft_words cs ≡ true → Blocked (Ident cs ∷ ts) → ⊥
+no_block cs ts s b =
+    go (seen (macro_call_stands (Ident cs ∷ ts)))
+    (name_front cs (soft_plain cs s) ts (seen (macro_call_stands (Ident cs ∷ ts))) InStatement refl)
+  where
+    go : (m : Bool) → front InStatement (Ident cs ∷ ts) ≡ or_macro m → ⊥
+    go true e = contrary (sym b.other ∙ ap is_name_form (ap kind_there (sym b.fronts ∙ e)))
+    go false e = contrary (sym b.other ∙ ap is_name_form (ap kind_there (sym b.fronts ∙ e)))
+
+ended_none : (ts : List Token) → sees (no (the_end or marks ";")) ts ≡ false → no_word ts ≡ true
+ended_none (Ident cs ∷ ts) e = cc e
+ended_none _ e = refl
+
+either_block : (a b : Bool) → (a || b) ≡ true → b ≡ false → a ≡ true
+either_block true b e f = refl
+either_block false b e f = absurd (contrary (sym f ∙ e))
+
+none_behind : (x : Tree) (ts : List Token) → Bound InStatement x ts → is_brace_macro x ≡ false
+    → After (Expression InStatement) (Node (Expression InStatement) (Whole x)) ts → NoneBehind (flat x) ts
+none_behind x ts d n (inl a) = λ cs e s. ended_none ts a.0
+none_behind x ts d n (inr a) =
+    λ cs e s. absurd (no_block cs ts s (subst (λ us. Blocked (us ++ ts)) e
+    (blocked x ts d (either_block (is_block_like x) (is_brace_macro x) a.0 n))))
 
 no_hash : (us : List Token) → is_plain_start us ≡ true → sees (marks "#") us ≡ false
 no_hash (Punct c i ∷ ts) e = go (c == 35) e
@@ -461,18 +678,20 @@ record Begins (us : List Token) : Type 0 where
   bare : sees (marks "#") us ≡ false
 
 begins : (x : Tree) (ts : List Token) → Fits (Whole x) (table (Expression InStatement))
+    → After (Expression InStatement) (Node (Expression InStatement) (Whole x)) ts
     → is_plain_expression (normal_in InStatement (held_form (kept x))) ≡ true
     → Derives (Whole x) (table (Expression InStatement)) ts → IsAmong expression_starts (flat x ++ ts)
     → Begins (flat x ++ ts)
 unfolding table passed stands_behind
-begins x ts f p d i =
-    let q : (is_plain_start (flat (kept x)) && not (begins_in_call_or_closure (kept x))) ≡ true =
-    subst (λ z. (is_plain_start (flat z) && not (begins_in_call_or_closure z)) ≡ true) f.1 p in
-    let r = both_true (is_plain_start (flat (kept x))) (not (begins_in_call_or_closure (kept x))) q in
+begins x ts f a p d i =
+    let q : (is_plain_start (flat (kept x)) && not (is_brace_macro (kept x))) ≡ true =
+    subst (λ z. (is_plain_start (flat z) && not (is_brace_macro z)) ≡ true) f.1 p in
+    let r = both_true (is_plain_start (flat (kept x))) (not (is_brace_macro (kept x))) q in
+    let n = no_call x (is_false (is_brace_macro (kept x)) r.1) in
     let s : is_plain_start (flat x ++ ts) ≡ true =
-    plain_more (flat x) ts (subst (λ us. is_plain_start us ≡ true) (flat_forms x f.2) r.0) in
-    let l = leads x ts (flat x ++ ts) refl d.1 f.2 f.3
-    (no_call x f.2 (is_false (begins_in_call_or_closure (kept x)) r.1)) s in
+    plain_more (flat x) ts (subst (λ us. is_plain_start us ≡ true) (flat_forms x f.2) r.0)
+    (none_behind x ts d.1 n a) in
+    let l = leads x ts (flat x ++ ts) refl d.1 f.2 f.3 (λ i. absurd (contrary (sym n ∙ i))) s in
     record { seen = begun_there (flat x ++ ts) l.kind i l.start; bare = no_hash (flat x ++ ts) s }
 
 -- its ;
@@ -527,7 +746,7 @@ unfolding skips
 expression_read x t s f g p w a =
     let h = ended x t s g a in
     let (d, i) = w (flat t ++ s) h.after in
-    let b = begins x (flat t ++ s) f p d.1 i in
+    let b = begins x (flat t ++ s) f h.after p d.1 i in
     let e : flat x ++ (flat t ++ s) ≡ (flat x ++ flat t) ++ s = sym (append_assoc (flat x) (flat t) s) in
     let c = subst Begins e b in
     let o = bare_derived ((flat x ++ flat t) ++ s) c.bare in
@@ -545,34 +764,6 @@ expression_read x t s f g p w a =
       among_right statement_starts expression_starts ((flat x ++ flat t) ++ s)
           (subst (IsAmong expression_starts) e i),
     )
-
--- a macro in braces
-record Braced (y : Tree) (ts : List Token) : Type 0 where
-  no_item : seen (item_name (flat (delimited_in y) ++ ts)) ≡ false
-  passed : group_behind (flat (delimited_in y) ++ ts) ≡ no dotted ts
-
-delimited_braced : (a b d : Tree) → Fits d (table Delimited)
-    → is_brace_macro (Alone ExprMacro (Node AMacro (Pair a (Pair b (Node Delimited d))))) ≡ true → (ts : List Token)
-    → Derives (Node AMacro (Pair a (Pair b (Node Delimited d)))) (ref AMacro) ts
-    → Braced (Node AMacro (Pair a (Pair b (Node Delimited d)))) ts
-unfolding table
-delimited_braced a b (Second (First (Group e x))) f n ts d =
-    subst (λ c. Braced (Node AMacro (Pair a (Pair b (Node Delimited (Second (First (Group c x))))))) ts)
-    (sym d.1.1.1.1.1.1.0) record {
-      no_item = refl;
-      passed = ap (λ o. behind o (no dotted)) (group_passed Brace x raw ts d.1.1.1.1.1.1.1);
-    }
-delimited_braced a b (Second (First _)) f n ts d = absurd f.1.1
-delimited_braced a b (Second (Second g)) f n ts d = absurd (contrary n)
-delimited_braced a b (Second _) f n ts d = absurd f.1
-delimited_braced a b (First g) f n ts d = absurd (contrary n)
-delimited_braced a b _ f n ts d = absurd f
-
-braced : (y : Tree) → Fits y (table ExprMacro) → is_brace_macro (Alone ExprMacro y) ≡ true → (ts : List Token)
-    → Derives y (ref AMacro) ts → Braced y ts
-braced y f n ts d =
-    each_call (λ z. is_brace_macro (Alone ExprMacro z) ≡ true → (ts : List Token) → Derives z (ref AMacro) ts
-    → Braced z ts) delimited_braced y f n ts d
 
 macro_begins : (ts : List Token) → IsAmong (starts AMacro) ts → IsAmong expression_starts ts
 macro_begins ts i =
