@@ -28,7 +28,7 @@ use Rattle.grammar_back.specs.Covered.{is_statement_item, item_of}
 use Rattle.item_laws.proofs.Stays.{item_stays}
 use Rattle.grammar_back.specs.Sees.{LacksAll}
 use Rattle.grammar_back.proofs.Choices.{both_true, is_false}
-use Rattle.grammar_back.proofs.Classes.{Class, Sign, TheWord, among_left, among_right, others}
+use Rattle.grammar_back.proofs.Classes.{Class, IsAmong, Sign, TheWord, among_left, among_right, others}
 use Rattle.grammar_back.proofs.Keywords.{reserved_let}
 use Rattle.grammar_back.proofs.Starts.{expression_starts, starts}
 use Rattle.grammar_back.proofs.Fits.{Fits, IsItem, IsMeant, is_item_form}
@@ -245,6 +245,12 @@ item_stands_there (Verbatim y) s f d e c =
     whole_stands y s d.1 (both_true (is_begun (choice (item_of y))) (ends_apart (flat y)) h.1).0 h.0
 item_stands_there _ s f d e c = absurd f
 
+pub item_begins : (ts : List Token) → IsAmong (starts AnItem) ts → IsAmong (starts AStatement) ts
+item_begins ts i =
+    ⊎_elim (λ h. inl h)
+    (λ j. inr (⊎_elim (λ h. inl h) (λ h. inr (inr
+    (among_left (others (others (starts AnItem))) expression_starts ts h))) j)) i
+
 pub step_item : (x : Tree) (s : List Token) → Fits x (ref AnItem) → Ready x
     → is_statement_form (Second (Second (Second (First x)))) ≡ true
     → Derives (Second (Second (Second (First x)))) statement s × At (starts AStatement) x s
@@ -255,9 +261,7 @@ step_item (Node k y) s f w n =
     item_stands_there y s (subst (λ j. Fits y (table j)) f.0 f.3) (subst (λ j. Derives y (table j) s) d.0 d.1)
     (subst (λ j. IsMeant j y) f.0 f.4) n in (
       (q.0, (q.1, (q.2, (q.3, d)))),
-      ⊎_elim (λ h. inl h)
-          (λ j. inr (⊎_elim (λ h. inl h) (λ h. inr (inr
-          (among_left (others (others (starts AnItem))) expression_starts (flat (Node k y) ++ s) h))) j)) i,
+      item_begins (flat (Node k y) ++ s) i,
     )
 step_item _ s f w n = absurd f
 

@@ -56,6 +56,7 @@ pub mod ForeignItems
 pub mod Lets
 pub mod Turns
 pub mod Arms
+pub mod NamedMacros
 pub mod Statements
 pub mod StatementLists
 pub mod Impls

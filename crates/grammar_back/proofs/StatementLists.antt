@@ -243,7 +243,7 @@ pub macro_ends : (x : Tree) → Fits x (table AStatement) → is_statement_form 
     → ends_there InStatement (whole (expression_of x)) ≡ true
 macro_ends x f n = each_form (λ y. is_macro_statement y ≡ true → ends_there InStatement (whole (expression_of y)) ≡ true)
     (λ k l o y s g h c. h) (λ k l o y c. absurd (contrary c)) (λ y g i c. absurd (contrary c))
-    (λ y s g h c. absurd (contrary c)) x f n
+    (λ y c. absurd (contrary c)) (λ y s g h c. absurd (contrary c)) x f n
 
 pub ends_of : (x : Tree) (ts : List Token) → Fits x (table AStatement)
     → (is_open x ≡ false) ⊎ (EndsThere InStatement (expression_of x) ts × LacksAll (marks ";" ∷ []) ts)

@@ -27,9 +27,9 @@ use Rattle.grammar_back.specs.Covered.{all_covered, ends_apart, has_form_step, h
 use Rattle.grammar_back.specs.Covered.{is_expression_form, is_known, is_macro_form, is_no_macro, is_plain_expression}
 use Rattle.grammar_back.specs.Covered.{is_statement_form, is_statement_item, item_of}
 use Rattle.grammar_back.proofs.Choices.{both_true, is_false}
-use Rattle.grammar_back.proofs.Classes.{◌&◌}
 use Rattle.grammar_back.proofs.Ends.{ends_back, ends_read, macro_read, own_back}
 use Rattle.grammar_back.proofs.Fits.{Fits, is_open_turn, IsMeant}
+use Rattle.grammar_back.proofs.NamedMacros.{named_law}
 use Rattle.grammar_back.proofs.Lets.{at_item, item_law, Law, let_printed}
 use Rattle.grammar_back.proofs.Printed.{IsPlaced, KindLaw, Printed, simple_law, TurnLaw}
 
@@ -296,7 +296,11 @@ law_a_statement = record { entry = λ q l. simple_law Plain statement refl; node
           kept_is = ap (Node AStatement) (s.1 ∙ i.kept_is);
         }
     go q l (Second _) r o d i = absurd d.1
-    go q l (First x) r o d i = cc o
+    go q l (First (Node k x)) r o d i =
+        let e = sym d.1.0 in
+        subst (λ j. Law q r (First (Node j x))) e
+        (named_law q x r (subst (λ j. Derives x (table j) r) d.1.0 d.1.1)) o d i
+    go q l (First _) r o d i = cc o
     go q l _ r o d i = absurd d
 
 -- lists of them
@@ -372,32 +376,36 @@ pub each_form : (P : Tree → Type 0)
     → is_brace_macro (Alone ExprMacro (Node l y)) ≡ true → P (at_macro k o l y s))
     → ((k l : Kind) (o y : Tree) → P (Second (Second (First (Pair (Node k o) (Node l y))))))
     → ((y : Tree) → Fits y (table AnItem) → is_statement_item y ≡ true → P (at_item y))
+    → ((y : Tree) → P (First (Node AnItem (First y))))
     → ((x s : Tree) → Fits (Whole x) (table (Expression InStatement))
     → Fits s (optional (marks ";") (the_semicolon ∶ sign ";"))
     → P (at_expression (Node (Expression InStatement) (Whole x)) s))
     → (x : Tree) → Fits x (table AStatement) → is_statement_form x ≡ true → P x
 unfolding table
-each_form P call one other third (Second (Second (First (Pair (Node k o) (Node l y))))) f n = one k l o y
-each_form P call one other third (Second (Second (First (Pair (Node k o) _)))) f n = absurd f.1.1.1.1
-each_form P call one other third (Second (Second (First (Pair _ y)))) f n = absurd f.1.1.1.0
-each_form P call one other third (Second (Second (First _))) f n = absurd f.1.1.1
-each_form P call one other third (Second (Second (Second (First (Node k y))))) f n =
+each_form P call one other named third (Second (Second (First (Pair (Node k o) (Node l y))))) f n = one k l o y
+each_form P call one other named third (Second (Second (First (Pair (Node k o) _)))) f n = absurd f.1.1.1.1
+each_form P call one other named third (Second (Second (First (Pair _ y)))) f n = absurd f.1.1.1.0
+each_form P call one other named third (Second (Second (First _))) f n = absurd f.1.1.1
+each_form P call one other named third (Second (Second (Second (First (Node k y))))) f n =
     subst (λ j. P (Second (Second (Second (First (Node j y)))))) (sym f.1.1.1.1.0)
     (other y (subst (λ j. Fits y (table j)) f.1.1.1.1.0 f.1.1.1.1.3) n)
-each_form P call one other third (Second (Second (Second (First _)))) f n = absurd f.1.1.1.1
-each_form P call one other third (Second (Second (Second (Second x)))) f n =
+each_form P call one other named third (Second (Second (Second (First _)))) f n = absurd f.1.1.1.1
+each_form P call one other named third (Second (Second (Second (Second x)))) f n =
     let e = fits_expression x f.1.1.1.1 n in
     subst P (sym e.is) (third e.form e.semicolon e.fits e.ended)
-each_form P call one other third (Second (Second (Second _))) f n = absurd f.1.1.1
-each_form P call one other third (Second (Second _)) f n = absurd f.1.1
-each_form P call one other third (Second (First (Pair (Node k o) (Pair (Node l y) s)))) f n = call k l o y s f.1.1.1.1 n
-each_form P call one other third (Second (First (Pair (Node k o) (Pair _ s)))) f n = absurd f.1.1.1.0
-each_form P call one other third (Second (First (Pair (Node k o) _))) f n = absurd f.1.1.1
-each_form P call one other third (Second (First (Pair _ y))) f n = absurd f.1.1.0
-each_form P call one other third (Second (First _)) f n = absurd f.1.1
-each_form P call one other third (Second _) f n = absurd f.1
-each_form P call one other third (First x) f n = absurd (contrary n)
-each_form P call one other third _ f n = absurd f
+each_form P call one other named third (Second (Second (Second _))) f n = absurd f.1.1.1
+each_form P call one other named third (Second (Second _)) f n = absurd f.1.1
+each_form P call one other named third (Second (First (Pair (Node k o) (Pair (Node l y) s)))) f n = call k l o y s f.1.1.1.1 n
+each_form P call one other named third (Second (First (Pair (Node k o) (Pair _ s)))) f n = absurd f.1.1.1.0
+each_form P call one other named third (Second (First (Pair (Node k o) _))) f n = absurd f.1.1.1
+each_form P call one other named third (Second (First (Pair _ y))) f n = absurd f.1.1.0
+each_form P call one other named third (Second (First _)) f n = absurd f.1.1
+each_form P call one other named third (Second _) f n = absurd f.1
+each_form P call one other named third (First (Node k (First y))) f n =
+    subst (λ j. P (First (Node j (First y)))) (sym f.1.0) (named y)
+each_form P call one other named third (First (Node k _)) f n = absurd (contrary n)
+each_form P call one other named third (First _) f n = absurd f.1
+each_form P call one other named third _ f n = absurd f
 
 expression_stays : (x s : Tree) → Stays (at_expression (Node (Expression InStatement) (Whole x)) s)
 unfolding held
@@ -414,7 +422,7 @@ expression_stays x s = go (is_macro (kept x) && is_there (kept s))
 
 statement_stays : (x : Tree) → Fits x (table AStatement) → is_statement_form x ≡ true → Stays x
 unfolding held
-statement_stays x f n = each_form Stays (λ k l o y s g h. refl) (λ k l o y. refl) item_stays (λ y t g h. expression_stays y t) x f n
+statement_stays x f n = each_form Stays (λ k l o y s g h. refl) (λ k l o y. refl) item_stays (λ y. refl) (λ y t g h. expression_stays y t) x f n
 
 pub turn_stays : TurnLaw a_turn
 turn_stays (First (AMark c cs spacing)) f = refl
@@ -506,7 +514,7 @@ pub open_fits : (x : Tree) → Fits x (table AStatement) → is_statement_form x
     → is_macro_statement x ≡ false → IsOpen x
 open_fits x f n = each_form (λ y. is_open y ≡ true → is_macro_statement y ≡ false → IsOpen y)
     (λ k l o y s g h e c. absurd (contrary (sym c))) (λ k l o y e c. absurd (contrary e))
-    (λ y g i e c. absurd (contrary e)) go x f n
+    (λ y g i e c. absurd (contrary e)) (λ y e c. absurd (contrary e)) go x f n
   where
     go : (x s : Tree) → Fits (Whole x) (table (Expression InStatement))
         → Fits s (optional (marks ";") (the_semicolon ∶ sign ";"))
@@ -555,7 +563,7 @@ pub open_kept : (w : Tree) → Fits w (table AStatement) → is_statement_form w
     → is_open (as_statement (kept w)) ≡ true
 unfolding held
 open_kept w f n = each_form (λ y. is_open y ≡ true → is_open (as_statement (kept y)) ≡ true) call
-    (λ k l o y e. absurd (contrary e)) (λ y g i e. absurd (contrary e)) go w f n
+    (λ k l o y e. absurd (contrary e)) (λ y g i e. absurd (contrary e)) (λ y e. absurd (contrary e)) go w f n
   where
     call : (k l : Kind) (o y s : Tree) → Fits s (optional (marks ";") (the_semicolon ∶ sign ";"))
         → is_brace_macro (Alone ExprMacro (Node l y)) ≡ true → is_open (at_macro k o l y s) ≡ true
@@ -664,7 +672,7 @@ form_needs : (x : Tree) → Fits x (table AStatement) → is_statement_form x �
 unfolding same_part
 form_needs x f n =
     each_form (λ y. is_open_expression y ≡ false → needs_semicolon (Node AStatement y) ≡ false)
-    (λ k l o y s g h e. macro_needs k l o y s g) (λ k l o y e. refl) (λ y g i e. refl) go x f n
+    (λ k l o y s g h e. macro_needs k l o y s g) (λ k l o y e. refl) (λ y g i e. refl) (λ y e. refl) go x f n
   where
     go : (x s : Tree) → Fits (Whole x) (table (Expression InStatement))
         → Fits s (optional (marks ";") (the_semicolon ∶ sign ";"))

@@ -366,8 +366,8 @@ has_own_trait (First (Pair d (Pair c (Pair u (Pair i (Pair g (Pair p (Pair (Call
     not (is_there f) || is_path_type t
 has_own_trait _ = true
 
--- The path of a macro among items begins with ::, or with a word that is none of these. In extern blocks and among
--- statements there are no macros so far.
+-- The path of a macro among items begins with ::, or with a word that is none of these. In extern blocks there are no
+-- macros so far.
 abbrev pub is_other : List ℕ → Bool
 is_other cs =
     same_text (codes "Self") cs
@@ -413,8 +413,8 @@ abbrev pub is_begun : Tree → Bool
 is_begun (Node AnImpl y) = not (has the_default y && has the_const y)
 is_begun _ = true
 
--- Items among statements are no macros so far, and a raw one ends in no joint mark: before a parenthesis that was added
--- it would be set apart.
+-- Items among statements that begin with an item's words are no macros, and a raw one ends in no joint mark: before a
+-- parenthesis that was added it would be set apart.
 abbrev pub is_statement_item : Tree → Bool
 is_statement_item (Verbatim x) =
     is_no_macro (choice (item_of x)) && (is_begun (choice (item_of x)) && ends_apart (flat x))
@@ -456,8 +456,23 @@ abbrev pub is_macro_form : Tree → Bool
 is_macro_form (Pair a (Pair m s)) = is_brace_macro (Alone ExprMacro m)
 is_macro_form _ = false
 
+-- A macro that stands among statements as an item has a name behind its !, and nothing but attributes in front, as it
+-- has wherever it was read so.
+abbrev pub is_named_macro : Tree → Bool
+is_named_macro (Node (ItemMacro p) (Pair q (Pair b (Pair n g)))) = is_there n
+is_named_macro _ = false
+
+abbrev pub is_private : Tree → Bool
+is_private (Called n (Node k v)) = not (is_there v)
+is_private _ = false
+
+abbrev pub is_macro_item : Tree → Bool
+is_macro_item (Node k (First (Pair o (Pair v i)))) = is_private v && is_named_macro (choice (item_of i))
+is_macro_item _ = false
+
 -- Statements are such macros, lets, such items and such expressions so far.
 abbrev pub is_statement_form : Tree → Bool
+is_statement_form (First x) = is_macro_item x
 is_statement_form (Second (First x)) = is_macro_form x
 is_statement_form (Second (Second (First x))) = true
 is_statement_form (Second (Second (Second (First (Node k x))))) = is_statement_item x

@@ -20,6 +20,7 @@ pub mod Parts
 pub mod Wholes
 pub mod Ended
 pub mod Else
+pub mod NamedMacros
 pub mod Statements
 pub mod Forms
 pub mod ReadBack

@@ -124,7 +124,7 @@ segments_called (Second _) vs f = absurd f.1
 segments_called _ vs f = absurd f
 
 -- whether :: stands before it or not
-Macro : List Token → List Token → Type 0
+pub Macro : List Token → List Token → Type 0
 Macro rest us =
     ((i : Spacing) × (vs : List Token) × (us ≡ Punct 58 Joint ∷ Punct 58 i ∷ vs) × Called rest vs) ⊎ Called rest us
 
@@ -141,7 +141,7 @@ root_macro rest c cs i z ts e f n =
       n,
     )
 
-path_macro : (x : Tree) (vs : List Token) → Fits x (table (Path InModule)) → Macro vs (flat x ++ Punct 33 Apart ∷ vs)
+pub path_macro : (x : Tree) (vs : List Token) → Fits x (table (Path InModule)) → Macro vs (flat x ++ Punct 33 Apart ∷ vs)
 unfolding table Macro
 path_macro (Pair (First (AMark c cs i)) (Node k z)) vs f =
     root_macro vs c cs i z _ f.0.1.0 f.0.1.1 (segments_called z vs (subst (λ j. Fits z (table j)) f.1.0 f.1.3))
@@ -154,7 +154,7 @@ path_macro (Pair (Second _) y) vs f = absurd f.0.1
 path_macro (Pair _ y) vs f = absurd f.0
 path_macro _ vs f = absurd f
 
-banged : (c : ℕ) (cs : List ℕ) (i : Spacing) (ts : List Token) → c ≡ 33 → cs ≡ [] → Apart ≡ i
+pub banged : (c : ℕ) (cs : List ℕ) (i : Spacing) (ts : List Token) → c ≡ 33 → cs ≡ [] → Apart ≡ i
     → signs c cs i ++ ts ≡ Punct 33 Apart ∷ ts
 banged c cs i ts e f g =
     ap (λ d. signs d cs i ++ ts) e ∙ ap (λ ds. signs 33 ds i ++ ts) f ∙ ap (λ j. Punct 33 j ∷ ts) (sym g)
@@ -265,7 +265,7 @@ macro_front rest us (inl m) =
 macro_front rest us (inr n) = called_front rest us n
 
 -- what is seen behind the path
-macro_behind : (l : Look) (rest us : List Token) → Macro rest us
+pub macro_behind : (l : Look) (rest us : List Token) → Macro rest us
     → sees (a_path then marks "!" then l) us ≡ seen (l rest)
 unfolding Macro
 macro_behind l rest us (inl m) =

@@ -18,7 +18,7 @@ use Rattle.syn_grammar.specs.Words.{same_text}
 use Rattle.syn_grammar.specs.Tree.{Tree, AMark, AWord, Alone, Back, Called, First, Front, Group, Infix, Nil, Node, Pair}
 use Rattle.syn_grammar.specs.Tree.{Second, Whole, marks as signs, flat}
 use Rattle.syn_grammar.specs.Gram.{raw, ref}
-use Rattle.syn_grammar.specs.Look.{Look, a_group, a_path, an_ident, behind, first_seen, no, past_literals, seen, sees}
+use Rattle.syn_grammar.specs.Look.{Look, a_group, a_path, behind, first_seen, no, past_literals, seen, sees}
 use Rattle.syn_grammar.specs.Look.{the_end, ◌or◌, ◌then◌}
 use Rattle.syn_grammar.specs.Say.{at, marks, optional, sign, ◌∶◌, ◌▸◌}
 use Rattle.syn_grammar.specs.Ranks.{skips}
@@ -48,13 +48,11 @@ use Rattle.grammar_back.proofs.Statements.{at_expression, contrary, fits_express
 use Rattle.read_back.proofs.Blocks.{body_opens, word_first}
 use Rattle.read_back.proofs.Parts.{among}
 use Rattle.read_back.proofs.Closures.{closure_free, typed_free}
+use Rattle.read_back.proofs.NamedMacros.{item_name, macro_item_read}
 use Rattle.read_back.proofs.Macros.{behind_call, delimited_in, name_front, unlike}
 use Rattle.read_back.proofs.Paths.{bang, keyword_is, or_macro, root_front}
 
 -- a macro's call that is an item, and one that is a statement, behind the path and its !
-abbrev item_name : Look
-item_name = an_ident or at "try"
-
 abbrev dotted : Look
 dotted = marks "?" or (no (marks "..") then marks ".")
 
@@ -851,5 +849,5 @@ step_a_statement (Second (First (Pair o (Pair m t)))) s f n w a = macro_statemen
 step_a_statement (Second (First (Pair o _))) s f n w a = absurd f.1.1.1
 step_a_statement (Second (First _)) s f n w a = absurd f.1.1
 step_a_statement (Second _) s f n w a = absurd f.1
-step_a_statement (First x) s f n w a = absurd (contrary n)
+step_a_statement (First x) s f n w a = macro_item_read x s f.1 w n
 step_a_statement _ s f n w a = absurd f
