@@ -1,6 +1,6 @@
 #!/usr/bin/env bash
 # Runs built programs once for each allocation that they make, refusing that one: canon_cli on its stored input, on a
-# text at fault, on a large text, on an argument and for an outline; lex_cli on its stored input; grow_check on each text of
+# text at fault, on a large text, on an argument, and for an outline; lex_cli on its stored input; grow_check on each text of
 # tests/texts, behind an older text in its map, on streams that are built by hand, and on literals of texts and their
 # values; grow_calls and grow_grammar on what they read, build, write and print by themselves. Each run must give the
 # answer itself, with its status and what it says on standard error, or end with nothing written: with status 3 where
@@ -59,9 +59,9 @@ done
 refusal=$'canon: out of memory\n'
 want=0 answer=../crates/canon_cli/stdout said=
 sweep "canon" canon_cli ../crates/canon_cli/stdin
-python3 -c 'print("".join(f"struct  S{n} ;\n" for n in range(400)) + "m!{" + "(" * 50 + "x" * 1000 + ")" * 50 + "}")' \
+python3 -c 'print("".join(f"struct  S{n} ;\n" for n in range(40)) + "m!{" + "(" * 50 + "x" * 1000 + ")" * 50 + "}")' \
     > "$work/large"
-python3 -c 'print(" ".join(f"struct S{n} ;" for n in range(400)) + " m ! { " + "(" * 50 + "x" * 1000 + ")" * 50 + " }")' \
+python3 -c 'print(" ".join(f"struct S{n} ;" for n in range(40)) + " m ! { " + "(" * 50 + "x" * 1000 + ")" * 50 + " }")' \
     > "$work/large.answer"
 answer=$work/large.answer
 sweep "canon, a large text" canon_cli "$work/large"
@@ -69,8 +69,8 @@ want=1 answer=$work/nothing
 printf 'struct S;\nm!{(' > "$work/lexical"
 said=$'canon: lexical fault at 2:3\n'
 sweep "canon, a lexical fault" canon_cli "$work/lexical"
-printf 'struct S;\n m!(a)' > "$work/syntax"
-said=$'canon: syntax fault at 2:3: expected curly braces\n'
+printf 'struct S;\n struct 9;' > "$work/syntax"
+said=$'canon: syntax fault at 2:8: expected identifier\n'
 sweep "canon, a syntax fault" canon_cli "$work/syntax"
 printf '\xff' > "$work/bytes"
 said=$'canon: not UTF-8\n'

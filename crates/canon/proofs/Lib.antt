@@ -1,7 +1,6 @@
 pub mod Places
 pub mod Forests
-pub mod Programs
-pub mod Answers
+pub mod Formed
 pub mod Paged
 pub mod Trees
 pub mod Files

@@ -16,13 +16,11 @@ use Rattle.syn_buffer.specs.declared.entry.Entry.{Entry}
 use Rattle.syn_grammar.specs.Names.{AllStand, Name, StandsIn, names}
 use Rattle.syn_grammar.specs.Tree.{Tree}
 use Rattle.syn_grammar.proofs.NamesStand.{all_stand}
-use Rattle.canon_laws.specs.Faults.{IsSyntaxFault, begins_at, token_place}
-use Rattle.canon_laws.specs.Program.{IsFile, NoFile}
+use Rattle.canon_laws.specs.Faults.{begins_at, token_place}
+use Rattle.canon_laws.specs.Program.{IsFile}
 use Rattle.canon_laws.proofs.Programs.{same_tokens}
 use Rattle.canon.specs.Outline.{AreThere, IsOutline, Line, kind_word, line_for, line_of, lines_for, lines_of}
 use Rattle.canon.specs.Outline.{span_begins}
-use Rattle.canon.specs.Places.{span_place}
-use Rattle.rust_map.specs.declared.span.Span.{Span}
 use Rattle.canon.specs.declared.outlines.Row.{Row}
 use Rattle.std.specs.Slice.{IsItemAt}
 use Rattle.gram_read.specs.Names.{name_of, named_of}
@@ -31,7 +29,7 @@ use Rattle.rust_leaf.specs.Leaf.{ident_text, text_of}
 use Rattle.std.proofs.Common.{Bor, Global}
 use Rattle.std.proofs.lemmas.Option.{slice_get_read}
 use Rattle.std.specs.Prelude.{String}
-use Rattle.canon.proofs.Places.{AreBehind, place_span, placed}
+use Rattle.canon.proofs.Places.{AreBehind, place_span}
 use Rattle.canon.proofs.Forests.{elsewhere, forest_behind}
 
 -- the token behind so many
@@ -173,22 +171,3 @@ outline_here old new text ss rows forest grew there found =
     (subst (λ (m : Sources). spot m (next_span old text) ≡ Some (next_spot old text)) grew there) ss rows forest
     (subst (λ (m : Sources). (tree : Tree) × IsFile (plain ss) tree
     × (lines_of rows ≡ lines_for (span_begins m ss) (names tree))) grew found)
-
--- tokens of a text that are no file, and where the map has the one of which an error speaks
-pub unlisted_is : (old new : Sources) (text : List ℕ) (ss : List Spanned) (span : Span) (place : Option LineColumn) →
-    IsForest (next_position old) text ss → new ≡ with_text old text →
-    spot new (next_span old text) ≡ Some (next_spot old text) → NoFile (plain ss) →
-    place ≡ span_place new span ss → IsSyntaxFault text place
-unlisted_is old new text ss span place forest grown there none is =
-    let base : ℕ = next_position old in
-    let (ts, here) = elsewhere base 0 text ss forest in
-    let spot_there = subst (λ (m : Sources). spot m (next_span old text) ≡ Some (next_spot old text)) grown there in
-    let (index, same) = placed old text spot_there span ss ts (forest_lies base text ss forest)
-    (forest_behind base text ss ts forest here) in
-    record {
-      tokens = ts;
-      forest = here;
-      no_file = subst NoFile (same_tokens base 0 text ss ts forest here) none;
-      index = index;
-      there = is ∙ ap (λ (m : Sources). span_place m span ss) grown ∙ same;
-    }

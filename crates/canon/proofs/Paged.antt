@@ -4,13 +4,13 @@ use Rattle.std.specs.Prelude.{Result, Ok, Err, IfErr, encode_utf8, encode_utf8_a
 use Rattle.std.specs.Result.{IsErrAnd}
 use Rattle.std.specs.Str.{chars, IsUtf8}
 use Rattle.std.proofs.lemmas.Str.{encodes-chars, length-le-encodes}
-use Rattle.canon.specs.Program.{IsOutput}
+use Rattle.canon_laws.specs.Program.{IsOutput}
 use Rattle.canon.specs.Faults.{IsFaultOf, IsOutlineFaultOf}
 use Rattle.canon.specs.Outline.{IsOutline}
 use Rattle.canon.specs.Run.{IsOutlinePage, IsOutlineRunFault, IsPage, IsRunFault, limit, rows_text}
 use Rattle.canon.specs.declared.outlines.Row.{Row}
 use Rattle.canon.specs.declared.fault.Fault.{Fault}
-use Rattle.canon.specs.declared.fault.Fault.TheVariants.{NotUtf8, Lexical, Syntax, MapFull, Memory, Reading}
+use Rattle.canon.specs.declared.fault.Fault.TheVariants.{NotUtf8, Lexical, Syntax, Range, MapFull, Memory, Reading}
 use Rattle.canon.specs.declared.fault.Fault.TheVariants.{Writing}
 
 line_feed : encode_utf8 10 ≡ 10 ∷ []
@@ -49,6 +49,7 @@ pub run_fault : (bytes : List ℕ) (fault : Fault) → length bytes ≤ limit �
     (fault ≡ MapFull → 2 ^ 32 ≤ 1 + length (chars bytes)) → IsRunFault bytes fault
 run_fault bytes (Lexical place) short utf8 f full = (short, utf8, f)
 run_fault bytes (Syntax error place) short utf8 f full = (short, utf8, f)
+run_fault bytes Range short utf8 f full = (short, utf8, f)
 run_fault bytes MapFull short utf8 f full = absurd (room bytes short utf8 (full refl))
 run_fault bytes Memory short utf8 f full = tt
 run_fault bytes NotUtf8 short utf8 f full = absurd f
@@ -61,6 +62,7 @@ pub outline_run_fault : (bytes : List ℕ) (fault : Fault) → length bytes ≤ 
     IsOutlineRunFault bytes fault
 outline_run_fault bytes (Lexical place) short utf8 f full = (short, utf8, f)
 outline_run_fault bytes (Syntax error place) short utf8 f full = (short, utf8, f)
+outline_run_fault bytes Range short utf8 f full = absurd f
 outline_run_fault bytes MapFull short utf8 f full = absurd (room bytes short utf8 (full refl))
 outline_run_fault bytes Memory short utf8 f full = tt
 outline_run_fault bytes NotUtf8 short utf8 f full = absurd f

@@ -1,5 +1,4 @@
 pub mod Message
-pub mod Program
 pub mod Faults
 pub mod Places
 pub mod Run

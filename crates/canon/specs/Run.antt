@@ -4,12 +4,12 @@ use Rattle.std.specs.Str.{chars, IsUtf8}
 use Rattle.std.specs.Io.KnownBytes.{Appends}
 use Rattle.rust_leaf.specs.Leaf.{text_of}
 use Rattle.rust_map.specs.Faults.{shown_place}
-use Rattle.canon.specs.Program.{IsOutput}
-use Rattle.canon.specs.Faults.{IsFaultOf, IsOutlineFaultOf}
+use Rattle.canon_laws.specs.Program.{IsOutput}
+use Rattle.canon.specs.Faults.{IsFaultOf}
 use Rattle.canon.specs.Outline.{IsOutline}
 use Rattle.canon.specs.declared.outlines.Row.{Row}
 use Rattle.canon.specs.declared.fault.Fault.{Fault}
-use Rattle.canon.specs.declared.fault.Fault.TheVariants.{NotUtf8, Lexical, Syntax, MapFull, Memory, Reading}
+use Rattle.canon.specs.declared.fault.Fault.TheVariants.{NotUtf8, Lexical, Syntax, Range, MapFull, Memory, Reading}
 use Rattle.canon.specs.declared.fault.Fault.TheVariants.{Writing}
 
 -- at most so many bytes are taken
@@ -62,12 +62,12 @@ IsRunFault bytes NotUtf8 = (length bytes ≤ limit) × (IsUtf8 bytes → ⊥)
 IsRunFault bytes (Lexical place) = (length bytes ≤ limit) × IsUtf8 bytes × IsFaultOf (chars bytes) (Lexical place)
 IsRunFault bytes (Syntax error place) =
     (length bytes ≤ limit) × IsUtf8 bytes × IsFaultOf (chars bytes) (Syntax error place)
+IsRunFault bytes Range = (length bytes ≤ limit) × IsUtf8 bytes × IsFaultOf (chars bytes) Range
 IsRunFault bytes Memory = Unit {0}
 IsRunFault bytes Reading = Unit {0}
 IsRunFault bytes Writing = Unit {0}
 
--- the same of a run that asks for the outline
+-- the same of a run that asks for the outline, to which ranges are no fault
 abbrev pub IsOutlineRunFault : List ℕ → Fault → Type 0
-IsOutlineRunFault bytes (Syntax error place) =
-    (length bytes ≤ limit) × IsUtf8 bytes × IsOutlineFaultOf (chars bytes) (Syntax error place)
+IsOutlineRunFault bytes Range = ⊥
 IsOutlineRunFault bytes fault = IsRunFault bytes fault

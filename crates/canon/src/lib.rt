@@ -6,21 +6,23 @@
 //! - `fault`: why a text has none, and what the program says then.
 //! - `causes` (private): faults of the parts of a run, as faults of the run.
 //! - `stands` (private): where the tokens stand of which errors speak.
-//! - `file` (private): the file of the whole grammar that tokens are.
-//! - `laws`: laws of programs and their canonical forms.
+//! - `file` (private): the file that tokens are.
+//! - `written` (private): the text of a file's normal form.
+//! - `laws`: laws of programs and their canonical forms, which are those of `canon_laws`.
 #![tactic(auto)]
 
 mod causes;
 pub mod fault;
 mod file;
 pub mod form;
-pub mod laws;
 pub mod outlines;
 mod pages;
 pub mod runs;
 mod stands;
+mod written;
 
 pub use canon_io::watched::Watched;
+pub use canon_laws::laws;
 pub use fault::{Fault, status, write_fault};
 pub use form::canonical;
 pub use outlines::{Row, outline};

@@ -20,9 +20,8 @@ ghost use Rattle.syn_grammar.specs.Tree.{Tree};
 
 use crate::fault::Fault;
 use crate::file::{Unread, read_file};
-use crate::stands::span_place;
+use crate::stands::placed_error;
 use gram_read::names::{Name, Named, names};
-use gram_read::said::error;
 use proc_macro2::TokenStream;
 use rust_leaf::ident::Ident;
 use rust_map::{LineColumn, SourceMap};
@@ -129,8 +128,7 @@ fn listed(alloc: Global, map: &SourceMap, stream: &TokenStream) -> Result<Vec<Ro
 ///
 /// # Errors
 ///
-/// Those of `canonical`, and the map is left as it leaves it; but `Syntax` exactly where the text has a forest and the
-/// whole written grammar derives no program from it.
+/// Those of `canonical` but `Range`, and the map is left as it leaves it.
 pub fn outline(alloc: Global, text: &str, map: &mut SourceMap) -> Result<Vec<Row>, Fault>
     ensures rows { IfOk result (λ rows. IsOutline (chars text.now) rows.items) }
     ensures fault { IfErr result (IsOutlineFaultOf (chars text.now)) }
@@ -144,8 +142,7 @@ pub fn outline(alloc: Global, text: &str, map: &mut SourceMap) -> Result<Vec<Row
         Ok(rows) => Ok(rows),
         Err(Unread::Memory) => Err(Fault::Memory),
         Err(Unread::Syntax(wrong)) => {
-            let error = error(alloc, wrong)?;
-            let place = span_place(map, &stream, error.span());
+            let (error, place) = placed_error(alloc, map, &stream, wrong)?;
             Err(Fault::Syntax { error, place })
         }
     }

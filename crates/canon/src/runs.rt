@@ -58,8 +58,8 @@ pub fn run<R: Read, W: Write>(
     put_page(writer, page.as_bytes())
 }
 
-/// Reads all, then writes the outline, a line for each row: its kind, its name and its place, as `fn go 2:3`. All else is
-/// as `run` does it.
+/// Reads all, then writes the outline, a line for each row: its kind, its name and its place, as `fn go 2:3`. All else
+/// is as `run` does it.
 ///
 /// # Errors
 ///

@@ -1,17 +1,40 @@
-// Where the tokens of a text stand of which errors speak.
+//! Where the tokens of a text stand of which errors speak.
 
 ghost use Rattle.canon.specs.Places.{begins_with, span_place};
 ghost use Rattle.proc_macro2.specs.Flat.{group_tokens, tree_tokens, trees_tokens};
 ghost use Rattle.rust_map.specs.Spans.{first_of};
 ghost use Rattle.std.specs.List.{list_any};
-ghost use Rattle.std.specs.Prelude.{◌≡◌, ◌==◌, ◌&&◌};
+ghost use Rattle.std.specs.Prelude.{◌≡◌, ◌==◌, ◌&&◌, IfOk};
 ghost use Rattle.syn_buffer.specs.Entries.{same_span};
+ghost use Rattle.syn_error.specs.Notes.{place_of};
 
+use gram_read::said::error;
+use gram_run::refusal::Wrong;
 use proc_macro2::{Group, TokenStream, TokenTree};
 use rust_map::{LineColumn, SourceMap, Span};
+use std::alloc::{AllocError, Global};
+use syn_error::Error;
 
-/// Where the span starts in the map, if one of the stream's tokens begins there.
-pub(crate) fn span_place(map: &SourceMap, stream: &TokenStream, span: Span) -> Option<LineColumn>
+/// What is said of a stream that is no file, and where the token stands of which that speaks.
+///
+/// # Errors
+///
+/// Where memory for the words is refused.
+pub(crate) fn placed_error(
+    alloc: Global,
+    map: &SourceMap,
+    stream: &TokenStream,
+    wrong: Wrong,
+) -> Result<(Error, Option<LineColumn>), AllocError>
+    ensures { IfOk result (λ said. said.1 ≡ span_place map.now (place_of said.0) stream.now) }
+{
+    let error = error(alloc, wrong)?;
+    let place = span_place(map, stream, error.span());
+    Ok((error, place))
+}
+
+// Where the span starts in the map, if one of the stream's tokens begins there.
+fn span_place(map: &SourceMap, stream: &TokenStream, span: Span) -> Option<LineColumn>
     ensures { result ≡ span_place map.now span stream.now }
 {
     let first = span.first_character();

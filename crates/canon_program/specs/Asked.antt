@@ -3,8 +3,8 @@ use Rattle.std.specs.Prelude.{ℕ, List, [], ◌∷◌, bytes_eq, codes, if◌th
 use Rattle.canon_program.specs.declared.Asked.{Asked}
 use Rattle.canon_program.specs.declared.Asked.TheVariants.{Canonical, Outline, Unknown}
 
--- by no argument for the canonical form, by the one argument `outline` for the outline, and by others for nothing that it
--- knows
+-- by no argument for the canonical form, by the one argument `outline` for the outline, and by others for nothing that
+-- it knows
 abbrev pub asked_by : List (List ℕ) → Asked
 asked_by [] = Canonical
 asked_by (word ∷ []) = if bytes_eq word (codes "outline") then Outline else Unknown

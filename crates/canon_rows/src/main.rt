@@ -1,9 +1,9 @@
-//! Answers a table of texts by `canonical`, and sees that `run` answers alike. What is wanted comes from the rules, and
-//! stands beside the questions in `stdout`.
+//! Answers a table of texts by `canonical` and `outline`, and sees that `run` and `run_outline` answer alike. What is
+//! wanted comes from the rules, and stands beside the questions in `stdout`.
 #![tactic(auto)]
 
 use anyhow::{Result, anyhow};
-use canon::{Fault, Watched, canonical, outline, run, status};
+use canon::{Fault, Watched, canonical, outline, run, run_outline, status};
 use rows::{Row, Table, answered, write};
 use rust_map::SourceMap;
 use std::alloc::Global;
@@ -15,6 +15,7 @@ impl Table for Calls {
     fn answer(&self, alloc: Global, row: &Row) -> Result<String> {
         match row.call {
             "canonical" => told(alloc, row.text.as_str()),
+            "file" => filed(alloc, row.text.as_str()),
             "outline" => outlined(alloc, row.text.as_str()),
             _ => Err(anyhow!("no such call")),
         }
@@ -38,6 +39,14 @@ fn told(alloc: Global, text: &str) -> Result<String> {
     }
 }
 
+// The same, but of a text that is refused no more than that.
+fn filed(alloc: Global, text: &str) -> Result<String> {
+    match canonical(alloc, text, &mut SourceMap::new(alloc)) {
+        Err(Fault::Lexical(_) | Fault::Syntax { .. }) => Ok(String::from_str(alloc, "refused")?),
+        _ => told(alloc, text),
+    }
+}
+
 // Whether `run` of a text writes that output and a line feed, or refuses it by that fault with nothing written.
 fn runs_alike(alloc: Global, text: &str, answer: &Result<String, Fault>) -> Result<bool> {
     let mut reader = Watched::new(text.as_bytes());
@@ -58,15 +67,24 @@ fn runs_alike(alloc: Global, text: &str, answer: &Result<String, Fault>) -> Resu
         _ => false,
     };
     let written = writer.get_ref().as_slice() == page.as_bytes();
-    Ok(alike && ended == u8::from(answer.is_err()) && written)
+    Ok(alike && ended == wanted_status(answer) && written)
+}
+
+// The status that goes with an answer.
+fn wanted_status(answer: &Result<String, Fault>) -> u8 {
+    match answer {
+        Ok(_) => 0,
+        Err(Fault::Range) => 3,
+        Err(_) => 1,
+    }
 }
 
 // The rows of the outline of a text, or that it is refused.
 fn outlined(alloc: Global, text: &str) -> Result<String> {
     let Ok(rows) = outline(alloc, text, &mut SourceMap::new(alloc)) else {
-        return Ok(String::from_str(alloc, "refused")?);
+        return refused(alloc, text);
     };
-    let mut said = String::from_str(alloc, "[")?;
+    let (mut said, mut lines) = (String::from_str(alloc, "[")?, String::new(alloc));
     for row in rows.as_slice() {
         if said.len() > 1 {
             said.push_str(", ")?;
@@ -74,9 +92,25 @@ fn outlined(alloc: Global, text: &str) -> Result<String> {
         let name = row.name.as_str();
         let (kind, line, column) = (row.kind, row.place.line, row.place.column);
         write!(said, "{kind} {name} {line}:{column}")?;
+        write!(lines, "{kind} {name} {line}:{column}\n")?;
     }
     said.push(']')?;
+    let mut writer = Watched::new(Vec::new(alloc));
+    let outcome = run_outline(alloc, &mut Watched::new(text.as_bytes()), &mut writer);
+    if outcome.is_err() || writer.get_ref().as_slice() != lines.as_bytes() {
+        return Ok(String::from_str(alloc, "run_outline does otherwise")?);
+    }
     Ok(said)
+}
+
+// That the outline of a text is refused, also by `run_outline`, which writes nothing.
+fn refused(alloc: Global, text: &str) -> Result<String> {
+    let mut writer = Watched::new(Vec::new(alloc));
+    let outcome = run_outline(alloc, &mut Watched::new(text.as_bytes()), &mut writer);
+    if status(&outcome) != 1 || !writer.get_ref().is_empty() {
+        return Ok(String::from_str(alloc, "run_outline does otherwise")?);
+    }
+    Ok(String::from_str(alloc, "refused")?)
 }
 
 fn main(rt: HostRuntime) -> Result<()> {

@@ -1,6 +1,6 @@
-//! What becomes of the map, by `canonical`.
+//! What becomes of the map, by `canonical` and `outline`.
 
-use canon::{Fault, canonical};
+use canon::{Fault, canonical, outline};
 use rust_map::{LineColumn, SourceMap};
 use std::test::Fail;
 
@@ -24,15 +24,31 @@ fn faults_have_their_place_in_their_own_text(rt: HostRuntime) -> Result<(), Fail
     let mut map = SourceMap::new(rt.alloc());
     let _ = canonical(rt.alloc(), "struct A;\nstruct B;", &mut map)?;
     for _ in 0..2 {
-        match canonical(rt.alloc(), "m!{}\n é!x", &mut map) {
+        match canonical(rt.alloc(), "m!{}\n struct 9;", &mut map) {
             Ok(answer) => panic!(rt; "gave {answer}"),
             Err(Fault::Syntax { error, place }) => {
-                assert_eq!(rt; place, Some(LineColumn { line: 2, column: 3 }));
+                assert_eq!(rt; place, Some(LineColumn { line: 2, column: 8 }));
                 let words = error.to_string(rt.alloc())?;
-                assert_eq!(rt; words.as_str(), "expected curly braces");
+                assert_eq!(rt; words.as_str(), "expected identifier");
             }
             Err(fault) => panic!(rt; "{fault}"),
         }
+    }
+    Ok(())
+}
+
+#[test]
+fn names_have_their_place_in_their_own_text(rt: HostRuntime) -> Result<(), Fail> {
+    let mut map = SourceMap::new(rt.alloc());
+    let _ = canonical(rt.alloc(), "struct A;\nstruct B;", &mut map)?;
+    for _ in 0..2 {
+        let rows = outline(rt.alloc(), "struct S;\nfn go(){}", &mut map)?;
+        let [first, second] = rows.as_slice() else {
+            panic!(rt; "other rows");
+        };
+        assert_eq!(rt; first.place, LineColumn { line: 1, column: 7 });
+        assert_eq!(rt; second.name.as_str(), "go");
+        assert_eq!(rt; second.place, LineColumn { line: 2, column: 3 });
     }
     Ok(())
 }

@@ -1,17 +1,29 @@
-use Rattle.std.proofs.Common.{subst, sym}
-use Rattle.std.proofs.lemmas.Str.{IsUtf8-string_bytes, scalars-chars}
-use Rattle.syn_error.specs.Faults.{IsSyntax}
-use Rattle.canon.proofs.Answers.{output_is, syntax_is}
+use Rattle.std.proofs.Common.{subst}
+use Rattle.std.specs.Str.{chars}
+use Rattle.proc_macro2.specs.Token.{plain}
+use Rattle.canon.proofs.Formed.{none_attributed, output_is, range_is, syntax_is}
+use Rattle.syn_error.specs.Notes.{place_of}
+use Rattle.canon.specs.Unread.{IsUnformed}
 use Rattle.canon.proofs.form.canonical.Goals as goal
 
 pub returns-in-Ok-clause-output : goal.returns-in-Ok-clause-output
 returns-in-Ok-clause-output c =
-    output_is _ c.args.text.now _ _ c.in-Ok.ensures.read.0 (scalars-chars c.args.text.now c.utf8.text)
-    c.in_ok-stream.ensures.parsed c.in-Ok.ensures.read.1 (IsUtf8-string_bytes c.in_ok-format-in-Ok.field-0)
-    c.in_ok-format-in-Ok.ensures.ok
+    output_is _ (chars c.args.text.now) _ c.in_ok-stream.stream c.in_ok-stream.ensures.parsed c.in-Ok.ensures.output
+
+pub returns-in-Ok-clause-written : goal.returns-in-Ok-clause-written
+returns-in-Ok-clause-written c =
+    none_attributed _ (chars c.args.text.now) _ c.in_ok-stream.stream c.in_ok-stream.ensures.parsed
+    c.in-Ok.ensures.output
+
+pub returns-in-Err-Range-clause-fault : goal.returns-in-Err-Range-clause-fault
+returns-in-Err-Range-clause-fault c =
+    range_is _ (chars c.args.text.now) c.in_ok-stream.stream c.in_ok-stream.ensures.parsed
+    (subst (IsUnformed (plain c.in_ok-stream.stream)) c.in-Err-Range.field-0-is c.in-Err-Range.ensures.refused)
 
 pub returns-clause-fault : goal.returns-clause-fault
 returns-clause-fault c =
-    syntax_is c.args.map.now c.from_str.new.map _ _ c.span.result _ (scalars-chars c.args.text.now c.utf8.text)
+    syntax_is c.args.map.now c.from_str.new.map (chars c.args.text.now) c.in_ok-stream.stream
+    (place_of c.in_ok-error-in-Err-Syntax.error) c.in_ok-error-in-Err-Syntax.place
     c.in_ok-stream.ensures.parsed c.in_ok-stream.ensures.map_ok c.in_ok-stream.ensures.spot
-    (c.in-Err-Syntax.ensures.refused (subst IsSyntax (sym c.in-Err-Syntax.field-0-is) tt)) c.span_place-place.ensures
+    (subst (IsUnformed (plain c.in_ok-stream.stream)) c.in-Err-Syntax.field-0-is c.in-Err-Syntax.ensures.refused)
+    c.in_ok-error-in-Err-Syntax.ensures

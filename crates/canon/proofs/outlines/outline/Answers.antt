@@ -1,7 +1,9 @@
 use Rattle.std.proofs.Common.{subst}
 use Rattle.std.specs.Str.{chars}
 use Rattle.proc_macro2.specs.Token.{plain}
-use Rattle.canon.proofs.Outlined.{outline_here, unlisted_is}
+use Rattle.canon.proofs.Formed.{syntax_is}
+use Rattle.canon.proofs.Outlined.{outline_here}
+use Rattle.syn_error.specs.Notes.{place_of}
 use Rattle.canon.specs.Unread.{IsUnread}
 use Rattle.canon.proofs.outlines.outline.Goals as goal
 
@@ -12,7 +14,8 @@ returns-in-Ok-clause-rows c =
 
 pub returns-clause-fault : goal.returns-clause-fault
 returns-clause-fault c =
-    unlisted_is c.args.map.now c.from_str.new.map (chars c.args.text.now) c.in_ok-stream.stream c.span.result _
+    syntax_is c.args.map.now c.from_str.new.map (chars c.args.text.now) c.in_ok-stream.stream
+    (place_of c.in_ok-error-in-Err-Syntax.error) c.in_ok-error-in-Err-Syntax.place
     c.in_ok-stream.ensures.parsed c.in_ok-stream.ensures.map_ok c.in_ok-stream.ensures.spot
     (subst (IsUnread (plain c.in_ok-stream.stream)) c.in-Err-Syntax.field-0-is c.in-Err-Syntax.ensures.refused)
-    c.span_place-place.ensures
+    c.in_ok-error-in-Err-Syntax.ensures

@@ -4,7 +4,7 @@ use Rattle.std.specs.Str.{chars}
 use Rattle.std.proofs.lemmas.Str.{IsUtf8-string_bytes}
 use Rattle.rust_map.specs.Sources.{Sources, next_position}
 use Rattle.canon.specs.Faults.{IsFaultOf}
-use Rattle.canon.specs.Program.{IsOutput}
+use Rattle.canon_laws.specs.Program.{IsOutput}
 use Rattle.canon.specs.Run.{IsRunFault}
 use Rattle.canon.specs.declared.fault.Fault.{Fault}
 use Rattle.canon.specs.declared.fault.Fault.TheVariants.{MapFull}
