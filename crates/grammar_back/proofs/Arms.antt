@@ -42,7 +42,8 @@ use Rattle.grammar_back.proofs.Readies.{Ready, Step}
 use Rattle.grammar_back.proofs.Sights.{ident_not}
 use Rattle.grammar_back.proofs.Starts.{pattern_starts, starts}
 use Rattle.grammar_back.proofs.Statements.{contrary}
-use Rattle.grammar_back.proofs.StatementLists.{kept_true, turn_of, turns_behind}
+use Rattle.grammar_back.proofs.Lets.{kept_true}
+use Rattle.grammar_back.proofs.StatementLists.{turn_of, turns_behind}
 use Rattle.grammar_back.proofs.Tidied.{held_law}
 use Rattle.grammar_back.proofs.Turns.{node_stays}
 

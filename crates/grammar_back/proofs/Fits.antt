@@ -32,10 +32,10 @@ use Rattle.syn_grammar.specs.Tidy.{begins_bracketed, is_absent, is_none}
 use Rattle.syn_grammar.specs.Kept.{forget, dotted, is_there, kept}
 use Rattle.syn_grammar.specs.Forms.{front as form_in_front, back as form_behind, has_right, is_path_form}
 use Rattle.syn_grammar.specs.Parens.{is_struct}
-use Rattle.syn_grammar.specs.Name.{the_const, the_default, the_else, the_safety}
+use Rattle.syn_grammar.specs.Name.{the_const, the_default, the_safety}
 use Rattle.syn_grammar.specs.Part.{choice, has}
 use Rattle.syn_grammar.specs.Normal.{stands_behind, formed}
-use Rattle.grammar_back.specs.After.{is_any_path, is_generic, is_open}
+use Rattle.grammar_back.specs.After.{is_any_path, is_closed, is_generic, is_open}
 use Rattle.grammar_back.specs.Covered.{front, inner, has_clear_type, has_plain_path, is_lone, has_lone_value, is_known}
 use Rattle.grammar_back.specs.Covered.{is_form, is_plain_part, is_statement_form, is_no_macro, is_plain_macro}
 use Rattle.grammar_back.specs.Covered.{item_of}
@@ -249,6 +249,15 @@ abbrev pub has_own_semicolons : Tree → Bool
 has_own_semicolons (First x) = are_ended x
 has_own_semicolons _ = true
 
+-- of a let: before else stands what else may follow
+abbrev pub is_closed_value : Tree → Bool
+is_closed_value (Pair (First (Pair q (Pair (Called n e) (First z)))) c) = is_closed e
+is_closed_value x = true
+
+abbrev pub has_closed_value : Tree → Bool
+has_closed_value (First (Pair k (Pair p (Pair t y)))) = is_closed_value y
+has_closed_value x = true
+
 -- of arms: one without a comma says whether it is the last
 abbrev pub is_comma : Bool → Tree → Bool
 is_comma last (First z) = last
@@ -279,7 +288,7 @@ IsMeant (ATypeAlias InFile) x = has_own_where (back (back (back (back x)))) ≡ 
 IsMeant (ATypeAlias InForeign) x = has_own_where (back (back (back (back x)))) ≡ true
 IsMeant AnImpl x = IsOwnImpl (behind_impl (kept x))
 IsMeant AnItem x = IsItem (item_of x)
-IsMeant ALet x = has the_else x ≡ false
+IsMeant ALet x = has_closed_value x ≡ true
 IsMeant AStatement x = is_statement_form x ≡ true
 IsMeant Statements x = has_own_semicolons x ≡ true
 IsMeant Arms x = have_commas x ≡ true

@@ -49,6 +49,7 @@ pub mod FieldValues
 pub mod MacroItems
 pub mod ItemPlaces
 pub mod ItemVerdicts
+pub mod Braces
 pub mod FirstWords
 pub mod WholeItems
 pub mod Members

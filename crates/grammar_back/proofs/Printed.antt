@@ -24,7 +24,7 @@ use Rattle.grammar_back.proofs.Choices.{both_true, is_false}
 use Rattle.grammar_back.proofs.Conditions.{all_braced, begins_in_braces, brace_stands, condition_ends}
 use Rattle.grammar_back.proofs.Conditions.{ends_in_condition, is_braced, is_condition, is_condition_kind}
 use Rattle.grammar_back.specs.Covered.{has_step, has_form_step, is_known, is_form, is_plain_part, is_taken}
-use Rattle.grammar_back.specs.Covered.{all_covered, is_taken_part}
+use Rattle.grammar_back.specs.Covered.{all_covered}
 use Rattle.grammar_back.proofs.Fits.{Fits, FitsRaw, IsMeant}
 
 pub record Printed (g : Gram) (z : Tree) : Type 0 where
@@ -220,7 +220,7 @@ module _ (laws : (k : Kind) → is_known k ≡ true → KindLaw k) (whole : Whol
         record { tree = Verbatim x; fits = l.1 x r d; kept_is = refl }
     printed (Dropped x) (dropped g) r q l n m d c = record { tree = Dropped private; fits = (refl, l); kept_is = refl }
     printed (Called o x) (called z g) r q l n m d c =
-        let i = printed x g r (place_of z) l n m d.1 (both_true (is_taken_part o) (all_covered x) c).1 in
+        let i = printed x g r (place_of z) l n m d.1 c in
         record {
           tree = Called z i.tree;
           fits = (refl, i.fits);

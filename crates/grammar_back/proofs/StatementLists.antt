@@ -7,7 +7,7 @@ use Rattle.syn_grammar.specs.Kind.{AnItem, AStatement, InStatement, Kind, Plain,
 use Rattle.syn_grammar.specs.Name.{the_attributes, the_expression}
 use Rattle.syn_grammar.specs.Tree.{Again, Called, End, First, flat, Nil, Node, Pair, Raw, Second, Tree, Verbatim}
 use Rattle.syn_grammar.specs.Part.{choice, each_turn_but_last}
-use Rattle.syn_grammar.specs.Gram.{Keep, ref, star}
+use Rattle.syn_grammar.specs.Gram.{ref, star}
 use Rattle.syn_grammar.specs.Look.{lacks, no, sees, the_end, ◌then◌}
 use Rattle.syn_grammar.specs.Say.{at, marks}
 use Rattle.syn_grammar.specs.Types.{kept_if}
@@ -36,6 +36,7 @@ use Rattle.grammar_back.proofs.Printed.{kept_entry, KindLaw, VerdictLaw}
 use Rattle.grammar_back.proofs.Sights.{ident_not}
 use Rattle.grammar_back.proofs.Starts.{starts}
 use Rattle.grammar_back.proofs.WholeItems.{taken_law}
+use Rattle.grammar_back.proofs.Lets.{kept_true}
 use Rattle.grammar_back.proofs.Statements.{a_turn, contrary, each_form, is_macro_statement, needs_not, open_fits}
 use Rattle.grammar_back.proofs.Statements.{open_held, open_needs, turn_needs, turn_stays, with_names}
 
@@ -70,10 +71,6 @@ turns_pass q End (Again u w) r c d f e n = cc e
 turns_pass q x End r c d f e n = refl
 turns_pass q x (Again u w) r c d f e n = absurd d
 turns_pass q x _ r c d f e n = absurd f
-
-pub kept_true : (b : Bool) → kept_if b ≡ Keep → b ≡ true
-kept_true true e = refl
-kept_true false e = cc e
 
 turns_verdict : (q : Position) → VerdictLaw q (λ x. kept_if (Passes x)) (star (lacks the_end) a_turn)
 turns_verdict q x w r c d f e h = ap kept_if (turns_pass q x w r c d f e (kept_true (Passes x) h))

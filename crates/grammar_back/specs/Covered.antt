@@ -43,7 +43,7 @@ use Rattle.proc_macro2.specs.Token.{Ident}
 use Rattle.syn_grammar.specs.Tree.{End}
 use Rattle.syn_grammar.specs.Kind.{InStatement}
 use Rattle.std.specs.Bool.{◌==◌}
-use Rattle.syn_grammar.specs.Name.{Part, the_const, the_default, the_else}
+use Rattle.syn_grammar.specs.Name.{the_const, the_default}
 use Rattle.syn_grammar.specs.Part.{choice, has}
 use Rattle.syn_grammar.specs.Kept.{is_there, kept}
 use Rattle.syn_grammar.specs.Verdicts.{is_path_type}
@@ -479,11 +479,6 @@ is_statement_form (Second (Second (Second (First (Node k x))))) = is_statement_i
 is_statement_form (Second (Second (Second (Second x)))) = is_expression_form x
 is_statement_form _ = false
 
--- what is asked of a part: a let has no else
-abbrev pub is_taken_part : Part → Bool
-is_taken_part the_else = false
-is_taken_part n = true
-
 -- what is asked of a kind's tree
 abbrev pub is_taken : Kind → Tree → Bool
 is_taken AConst x = has_lone_value x
@@ -491,7 +486,6 @@ is_taken UnnamedField x = has_clear_type x
 is_taken OnePattern x = not (is_lone (choice x))
 is_taken AnImpl x = has_own_trait x
 is_taken AnItem x = is_plain_macro (choice (item_of x))
-is_taken ALet x = not (has the_else x)
 is_taken AStatement x = is_statement_form x
 is_taken AForeignItem x = is_no_macro (choice (item_of x))
 is_taken ATraitItem x = is_plain_macro (choice (item_of x))
@@ -521,7 +515,7 @@ all_covered (Final x) = all_covered x
 all_covered (More x c spacing y) = all_covered x && all_covered y
 all_covered (Group d x) = all_covered x
 all_covered (Dropped x) = all_covered x
-all_covered (Called n x) = is_taken_part n && all_covered x
+all_covered (Called n x) = all_covered x
 all_covered (Verbatim x) = true
 all_covered (Node k x) = is_known k && (is_taken k x && all_covered x)
 all_covered (Whole x) = all_covered x

@@ -17,8 +17,8 @@
 //! `Predicates`, `Turbofish`, `Alternatives`,
 //! `References`, `Receivers` (by `Selves`), `Aliases`, `Dotted`, `FieldValues`, `Turns`, `PathTypes` (types before
 //! `for`), `ImplParams`, `Impls` (by `Bracketed`), `WholeItems` (by `ItemPlaces`, `MacroItems` and `ItemVerdicts`),
-//! `Members`, `ForeignItems`, `Lets` (by `FirstWords`), `NamedMacros` (macros that are items among statements),
-//! `Statements` (what is printed for one; by `Ends`, which has the forms that end there by themselves) and
+//! `Members`, `ForeignItems`, `Lets` (by `FirstWords` and `Braces`), `NamedMacros` (macros that are items among
+//! statements), `Statements` (what is printed for one; by `Ends`, which has the forms that end there by themselves) and
 //! `StatementLists`, `Arms`, and for the script `Seconds`, `Params` and `FieldNames`;
 //! `RawItems` has how raw ones begin, which are read back as `item_laws` says; `Passed` has what stands behind
 //! attributes. `Elements` has the verdicts on lists, and `Choices` what is true of booleans and of one look or
