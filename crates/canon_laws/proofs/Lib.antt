@@ -4,3 +4,6 @@ pub mod Every
 pub mod Stacks
 pub mod Leaves
 pub mod Outputs
+pub mod Ledges
+pub mod Pieced
+pub mod Standing

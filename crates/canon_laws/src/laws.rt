@@ -3,6 +3,7 @@
 
 ghost use Rattle.canon_laws.specs.Faults.{IsSyntaxFault};
 ghost use Rattle.canon_laws.specs.Program.{IsFile, IsOutput, IsProgram, NoFile, written};
+ghost use Rattle.canon_laws.specs.Stands.{AllStandIn};
 ghost use Rattle.grammar_back.specs.Covered.{is_covered};
 ghost use Rattle.proc_macro2.specs.Forest.{IsForest, IsLexicalFault};
 ghost use Rattle.proc_macro2.specs.Spacing.{IsWellSpaced};
@@ -12,6 +13,7 @@ ghost use Rattle.rust_map.specs.declared.place.LineColumn.{LineColumn};
 ghost use Rattle.std.specs.Prelude.{ℕ, ◌≡◌, ◌⊎◌, ◌↔◌, true, List, [], Option, None};
 ghost use Rattle.syn_grammar.specs.Kept.{kept};
 ghost use Rattle.syn_grammar.specs.Kind.{AFile};
+ghost use Rattle.syn_grammar.specs.Names.{names};
 ghost use Rattle.syn_grammar.specs.Normal.{normal};
 ghost use Rattle.syn_grammar.specs.Read.{IsDerived, NoneRead};
 ghost use Rattle.syn_grammar.specs.Tree.{Tree, flat};
@@ -87,4 +89,10 @@ pub fn program_or_fault()
     ensures { (text : List ℕ) → ((t : Tree) × IsProgram text t)
         ⊎ ((place : LineColumn) × IsLexicalFault text place)
         ⊎ ((place : Option LineColumn) × IsSyntaxFault text place) }
+{}
+
+/// Each name of a text's program stands in the text, character by character, at the line and the column where its token
+/// begins.
+pub fn names_stand()
+    ensures { (text : List ℕ) (t : Tree) → (p : IsProgram text t) → AllStandIn text p.tokens (names t) }
 {}
