@@ -1,20 +1,17 @@
 -- From what was read of a text's tokens to what is said of the text.
 use Rattle.std.proofs.Common.{◌≡◌, ℕ, List, ap, ◌∙◌, subst}
-use Rattle.std.specs.Prelude.{Bool, true, false, Option, Some}
+use Rattle.std.specs.Prelude.{Option, Some}
 use Rattle.rust_map.specs.declared.place.LineColumn.{LineColumn}
 use Rattle.rust_map.specs.declared.span.Span.{Span}
 use Rattle.rust_map.specs.Sources.{Sources, next_position, next_span, next_spot, spot, with_text}
 use Rattle.proc_macro2.proofs.Lies.{forest_lies}
 use Rattle.proc_macro2.specs.Forest.{IsForest}
 use Rattle.proc_macro2.specs.Token.{Spanned, plain}
-use Rattle.syn_grammar.specs.Tree.{Tree}
-use Rattle.gram_read.specs.Ranges.{has_attributed_range}
-use Rattle.canon_laws.proofs.Programs.{one_program, program_anywhere, same_tokens}
+use Rattle.canon_laws.proofs.Programs.{program_anywhere, same_tokens}
 use Rattle.canon_laws.specs.Faults.{IsSyntaxFault}
-use Rattle.canon_laws.specs.Program.{IsFile, IsOutput, NoFile}
+use Rattle.canon_laws.specs.Program.{IsOutput, NoFile}
 use Rattle.canon.proofs.Forests.{elsewhere, forest_behind}
 use Rattle.canon.proofs.Places.{placed}
-use Rattle.canon.specs.Faults.{HasAttributedRange}
 use Rattle.canon.specs.Places.{span_place}
 use Rattle.canon.specs.Unread.{IsForm}
 
@@ -26,23 +23,6 @@ output_is base text out ss forest form = record {
   program = program_anywhere base text ss form.tree forest form.file;
   is = form.is;
 }
-
-not_both : (b : Bool) → b ≡ true → b ≡ false → ⊥
-not_both true e f = cc
-not_both false e f = cc
-
--- and no range has attributes in the program that it has
-pub none_attributed : (base : ℕ) (text out : List ℕ) (ss : List Spanned) → IsForest base text ss →
-    IsForm (plain ss) out → HasAttributedRange text → ⊥
-none_attributed base text out ss forest form (tree, program, has) =
-    let same : tree ≡ form.tree = one_program text tree form.tree program
-    (program_anywhere base text ss form.tree forest form.file) in
-    not_both (has_attributed_range tree) has (ap has_attributed_range same ∙ form.plain)
-
--- the tokens of a text are a file in which one has
-pub range_is : (base : ℕ) (text : List ℕ) (ss : List Spanned) → IsForest base text ss →
-    (tree : Tree) × IsFile (plain ss) tree × (has_attributed_range tree ≡ true) → HasAttributedRange text
-range_is base text ss forest (tree, file, has) = (tree, program_anywhere base text ss tree forest file, has)
 
 -- tokens of a text that are no file, and where the map has the one of which an error speaks
 pub syntax_is : (old new : Sources) (text : List ℕ) (ss : List Spanned) (span : Span) (place : Option LineColumn) →

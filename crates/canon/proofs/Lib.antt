@@ -5,3 +5,4 @@ pub mod Paged
 pub mod Trees
 pub mod Files
 pub mod Outlined
+pub mod RowsStand

@@ -5,13 +5,12 @@ use Rattle.std.specs.Result.{IsErrAnd}
 use Rattle.std.specs.Str.{chars, IsUtf8}
 use Rattle.std.proofs.lemmas.Str.{encodes-chars, length-le-encodes}
 use Rattle.canon_laws.specs.Program.{IsOutput}
-use Rattle.canon.specs.Faults.{IsFaultOf, IsOutlineFaultOf}
+use Rattle.canon.specs.Faults.{IsFaultOf}
 use Rattle.canon.specs.Outline.{IsOutline}
-use Rattle.canon.specs.Run.{IsOutlinePage, IsOutlineRunFault, IsPage, IsRunFault, limit, rows_text}
+use Rattle.canon.specs.Run.{IsOutlinePage, IsPage, IsRunFault, limit, rows_text}
 use Rattle.canon.specs.declared.outlines.Row.{Row}
 use Rattle.canon.specs.declared.fault.Fault.{Fault}
-use Rattle.canon.specs.declared.fault.Fault.TheVariants.{NotUtf8, Lexical, Syntax, Range, MapFull, Memory, Reading}
-use Rattle.canon.specs.declared.fault.Fault.TheVariants.{Writing}
+use Rattle.canon.specs.declared.fault.Fault.TheVariants.{NotUtf8, Lexical, Syntax, MapFull, Memory, Reading, Writing}
 
 line_feed : encode_utf8 10 ≡ 10 ∷ []
 unfolding lib.Utf8.encode
@@ -49,25 +48,11 @@ pub run_fault : (bytes : List ℕ) (fault : Fault) → length bytes ≤ limit �
     (fault ≡ MapFull → 2 ^ 32 ≤ 1 + length (chars bytes)) → IsRunFault bytes fault
 run_fault bytes (Lexical place) short utf8 f full = (short, utf8, f)
 run_fault bytes (Syntax error place) short utf8 f full = (short, utf8, f)
-run_fault bytes Range short utf8 f full = (short, utf8, f)
 run_fault bytes MapFull short utf8 f full = absurd (room bytes short utf8 (full refl))
 run_fault bytes Memory short utf8 f full = tt
 run_fault bytes NotUtf8 short utf8 f full = absurd f
 run_fault bytes Reading short utf8 f full = absurd f
 run_fault bytes Writing short utf8 f full = absurd f
-
--- the same of one that asks for the outline
-pub outline_run_fault : (bytes : List ℕ) (fault : Fault) → length bytes ≤ limit → IsUtf8 bytes →
-    IsOutlineFaultOf (chars bytes) fault → (fault ≡ MapFull → 2 ^ 32 ≤ 1 + length (chars bytes)) →
-    IsOutlineRunFault bytes fault
-outline_run_fault bytes (Lexical place) short utf8 f full = (short, utf8, f)
-outline_run_fault bytes (Syntax error place) short utf8 f full = (short, utf8, f)
-outline_run_fault bytes Range short utf8 f full = absurd f
-outline_run_fault bytes MapFull short utf8 f full = absurd (room bytes short utf8 (full refl))
-outline_run_fault bytes Memory short utf8 f full = tt
-outline_run_fault bytes NotUtf8 short utf8 f full = absurd f
-outline_run_fault bytes Reading short utf8 f full = absurd f
-outline_run_fault bytes Writing short utf8 f full = absurd f
 
 -- what an error is, it is as one of another kind
 pub error_as : {A : Type 0} (r : Result A Fault) (P Q : Fault → Type 0) → IsErrAnd r P → ((f : Fault) → P f → Q f) →

@@ -4,8 +4,7 @@ use Rattle.rust_map.specs.Faults.{shown_place}
 use Rattle.rust_map.specs.declared.place.LineColumn.{LineColumn}
 use Rattle.syn_error.specs.Notes.{words_of}
 use Rattle.canon.specs.declared.fault.Fault.{Fault}
-use Rattle.canon.specs.declared.fault.Fault.TheVariants.{NotUtf8, Lexical, Syntax, Range, MapFull, Memory, Reading}
-use Rattle.canon.specs.declared.fault.Fault.TheVariants.{Writing}
+use Rattle.canon.specs.declared.fault.Fault.TheVariants.{NotUtf8, Lexical, Syntax, MapFull, Memory, Reading, Writing}
 
 -- of an error that says these words
 abbrev pub syntax_message : List ℕ → Option LineColumn → List ℕ
@@ -16,7 +15,6 @@ abbrev pub message : Fault → List ℕ
 message NotUtf8 = codes "not UTF-8"
 message (Lexical p) = codes "lexical fault at " ++ shown_place p
 message (Syntax error place) = syntax_message (words_of error) place
-message Range = codes "a range with attributes in front of it is not written yet"
 message MapFull = codes "source map full"
 message Memory = codes "out of memory"
 message Reading = codes "reading failed"
@@ -28,7 +26,6 @@ status_of (Ok _) = 0
 status_of (Err NotUtf8) = 1
 status_of (Err (Lexical p)) = 1
 status_of (Err (Syntax error place)) = 1
-status_of (Err Range) = 3
 status_of (Err MapFull) = 3
 status_of (Err Memory) = 3
 status_of (Err Reading) = 3

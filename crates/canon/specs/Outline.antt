@@ -13,6 +13,7 @@ use Rattle.gram_read.specs.Names.{name_of}
 use Rattle.gram_read.specs.declared.names.Name as read
 use Rattle.canon_laws.specs.Faults.{token_place}
 use Rattle.canon_laws.specs.Program.{IsProgram}
+use Rattle.canon_laws.specs.Stands.{StandsAt}
 use Rattle.canon.specs.declared.outlines.Row.{Row}
 
 -- the word of a kind of items
@@ -55,6 +56,11 @@ pub record IsOutline (text : List ℕ) (rows : List Row) : Type 0 where
   pub tree : Tree
   pub program : IsProgram text tree
   pub are : lines_of rows ≡ lines_for (λ index. token_place text program.tokens (Some index)) (names tree)
+
+-- Each row's name stands in the text, character by character, at the row's line and column.
+abbrev pub RowsStand : List ℕ → List Row → Type 0
+RowsStand text [] = Unit {0}
+RowsStand text (row ∷ rows) = StandsAt text (text_of row.name) row.place × RowsStand text rows
 
 -- where the map has a token
 abbrev pub span_begins : Sources → List Spanned → ℕ → Option LineColumn

@@ -12,8 +12,7 @@ use Rattle.proc_macro2.specs.Forest.{IsForest}
 use Rattle.syn_error.specs.Notes.{place_of}
 use Rattle.syn_buffer.specs.Entries.{same_span}
 use Rattle.canon.specs.declared.fault.Fault.{Fault}
-use Rattle.canon.specs.declared.fault.Fault.TheVariants.{NotUtf8, Lexical, Syntax, Range, MapFull, Memory, Reading}
-use Rattle.canon.specs.declared.fault.Fault.TheVariants.{Writing}
+use Rattle.canon.specs.declared.fault.Fault.TheVariants.{NotUtf8, Lexical, Syntax, MapFull, Memory, Reading, Writing}
 
 -- the token begins with that character
 abbrev pub begins_with : Span → Spanned → Bool
@@ -32,7 +31,6 @@ abbrev pub IsPlaced : ℕ → List ℕ → Sources → Fault → Type 0
 IsPlaced base text map (Syntax error place) =
     (tokens : List Spanned) × IsForest base text tokens × (place ≡ span_place map (place_of error) tokens)
 IsPlaced base text map (Lexical place) = Unit {0}
-IsPlaced base text map Range = Unit {0}
 IsPlaced base text map MapFull = Unit {0}
 IsPlaced base text map Memory = Unit {0}
 IsPlaced base text map NotUtf8 = Unit {0}

@@ -9,8 +9,7 @@ use Rattle.canon.specs.Faults.{IsFaultOf}
 use Rattle.canon.specs.Outline.{IsOutline}
 use Rattle.canon.specs.declared.outlines.Row.{Row}
 use Rattle.canon.specs.declared.fault.Fault.{Fault}
-use Rattle.canon.specs.declared.fault.Fault.TheVariants.{NotUtf8, Lexical, Syntax, Range, MapFull, Memory, Reading}
-use Rattle.canon.specs.declared.fault.Fault.TheVariants.{Writing}
+use Rattle.canon.specs.declared.fault.Fault.TheVariants.{NotUtf8, Lexical, Syntax, MapFull, Memory, Reading, Writing}
 
 -- at most so many bytes are taken
 abbrev pub limit : ℕ
@@ -62,12 +61,6 @@ IsRunFault bytes NotUtf8 = (length bytes ≤ limit) × (IsUtf8 bytes → ⊥)
 IsRunFault bytes (Lexical place) = (length bytes ≤ limit) × IsUtf8 bytes × IsFaultOf (chars bytes) (Lexical place)
 IsRunFault bytes (Syntax error place) =
     (length bytes ≤ limit) × IsUtf8 bytes × IsFaultOf (chars bytes) (Syntax error place)
-IsRunFault bytes Range = (length bytes ≤ limit) × IsUtf8 bytes × IsFaultOf (chars bytes) Range
 IsRunFault bytes Memory = Unit {0}
 IsRunFault bytes Reading = Unit {0}
 IsRunFault bytes Writing = Unit {0}
-
--- the same of a run that asks for the outline, to which ranges are no fault
-abbrev pub IsOutlineRunFault : List ℕ → Fault → Type 0
-IsOutlineRunFault bytes Range = ⊥
-IsOutlineRunFault bytes fault = IsRunFault bytes fault

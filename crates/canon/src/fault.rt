@@ -25,8 +25,6 @@ pub enum Fault {
         /// at the text's end none does.
         place: Option<LineColumn>,
     },
-    /// The text has a program, and in that a range has attributes in front of it, which is not written yet.
-    Range,
     /// The map has no positions left for the text, or more bytes were read than a run takes.
     MapFull,
     /// A growth was refused.
@@ -59,10 +57,6 @@ impl fmt::Display for Fault {
                 let column = place.column;
                 write!(f, "syntax fault at {line}:{column}: {error}")
             }
-            Fault::Range => write!(
-                f,
-                "a range with attributes in front of it is not written yet"
-            ),
             Fault::MapFull => write!(f, "source map full"),
             Fault::Memory => write!(f, "out of memory"),
             Fault::Reading => write!(f, "reading failed"),
@@ -79,7 +73,7 @@ pub fn status(outcome: &Result<(), Fault>) -> u8
     match outcome {
         Ok(()) => 0,
         Err(Fault::NotUtf8 | Fault::Lexical(_) | Fault::Syntax { .. }) => 1,
-        Err(Fault::Range | Fault::MapFull | Fault::Memory | Fault::Reading | Fault::Writing) => 3,
+        Err(Fault::MapFull | Fault::Memory | Fault::Reading | Fault::Writing) => 3,
     }
 }
 

@@ -1,9 +1,9 @@
 //! The outline of a text: its items' names, and where they stand.
 
-ghost use Rattle.canon.specs.Faults.{IsOutlineFaultOf};
+ghost use Rattle.canon.specs.Faults.{IsFaultOf};
 ghost use Rattle.canon.specs.Maps.{IsLeft};
 ghost use Rattle.canon.specs.Outline.{AreThere, IsOutline, kind_word, line_for, line_of, lines_for, lines_of};
-ghost use Rattle.canon.specs.Outline.{names_of, span_begins};
+ghost use Rattle.canon.specs.Outline.{RowsStand, names_of, span_begins};
 ghost use Rattle.canon.specs.Places.{IsPlaced};
 ghost use Rattle.canon.specs.Unread.{IsUnread};
 ghost use Rattle.canon_laws.specs.Program.{IsFile};
@@ -128,10 +128,11 @@ fn listed(alloc: Global, map: &SourceMap, stream: &TokenStream) -> Result<Vec<Ro
 ///
 /// # Errors
 ///
-/// Those of `canonical` but `Range`, and the map is left as it leaves it.
+/// Those of `canonical`, and the map is left as it leaves it.
 pub fn outline(alloc: Global, text: &str, map: &mut SourceMap) -> Result<Vec<Row>, Fault>
     ensures rows { IfOk result (λ rows. IsOutline (chars text.now) rows.items) }
-    ensures fault { IfErr result (IsOutlineFaultOf (chars text.now)) }
+    ensures stand { IfOk result (λ rows. RowsStand (chars text.now) rows.items) }
+    ensures fault { IfErr result (IsFaultOf (chars text.now)) }
     ensures place { IfErr result (IsPlaced (next_position map.old) (chars text.now) map.new) }
     ensures full { (result ≡ Err Fault.MapFull) ↔ (2 ^ 32 ≤ next_position map.old + length (chars text.now)) }
     ensures map_ok { OnOk result (map.new ≡ with_text map.old (chars text.now)) }

@@ -1,6 +1,6 @@
 //! Pages: what a run writes.
 
-ghost use Rattle.canon.specs.Run.{IsOutlinePage, IsOutlineRunFault, IsPage, IsRunFault, limit, row_text, rows_text};
+ghost use Rattle.canon.specs.Run.{IsOutlinePage, IsPage, IsRunFault, limit, row_text, rows_text};
 ghost use Rattle.rust_leaf.specs.Leaf.{text_of};
 ghost use Rattle.std.specs.Prelude.{◌≡◌, ◌++◌, ◌≤◌, Err, IfErr, IfOk, OnOk, length, string_bytes};
 
@@ -31,7 +31,7 @@ pub(crate) fn page_of_bytes(alloc: Global, bytes: &[u8]) -> Result<String, Fault
 pub(crate) fn outline_of_bytes(alloc: Global, bytes: &[u8]) -> Result<String, Fault>
     requires { length bytes.now ≤ limit }
     ensures page { IfOk result (λ page. IsOutlinePage bytes.now (string_bytes page)) }
-    ensures fault { IfErr result (IsOutlineRunFault bytes.now) }
+    ensures fault { IfErr result (IsRunFault bytes.now) }
     ensures reading { result ≡ Err Fault.Reading → ⊥ }
     ensures writing { result ≡ Err Fault.Writing → ⊥ }
 {

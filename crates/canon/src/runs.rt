@@ -1,6 +1,6 @@
 //! Runs: from a reader to a writer.
 
-ghost use Rattle.canon.specs.Run.{IsOutlinePage, IsOutlineRunFault, IsPage, IsRunFault, Writes, WritesFront, limit};
+ghost use Rattle.canon.specs.Run.{IsOutlinePage, IsPage, IsRunFault, Writes, WritesFront, limit};
 ghost use Rattle.canon_io.specs.Bytes.{ConsumesAtMost};
 ghost use Rattle.canon_io.specs.Watched.{has_failed, inner_of, is_flushed};
 ghost use Rattle.std.specs.Io.KnownBytes.{Appends};
@@ -63,7 +63,7 @@ pub fn run<R: Read, W: Write>(
 ///
 /// # Errors
 ///
-/// Those of `run`, but the fault that `outline` answers in place of that of `canonical`.
+/// Those of `run`: `outline` answers the faults of `canonical`.
 pub fn run_outline<R: Read, W: Write>(
     alloc: Global,
     reader: &mut Watched<R>,
@@ -75,8 +75,7 @@ pub fn run_outline<R: Read, W: Write>(
     // What is written, and what is at fault, by the bytes that the reader had.
     ensures page { OnOk result (IfSome (R.remaining (inner_of reader.old)) (λ bytes.
         Writes (IsOutlinePage bytes) (W.contents (inner_of writer.old)) (W.contents (inner_of writer.new)))) }
-    ensures fault { IfErr result (λ f. IfSome (R.remaining (inner_of reader.old))
-        (λ bytes. IsOutlineRunFault bytes f)) }
+    ensures fault { IfErr result (λ f. IfSome (R.remaining (inner_of reader.old)) (λ bytes. IsRunFault bytes f)) }
     ensures front { result ≡ Err Fault.Writing → IfSome (R.remaining (inner_of reader.old)) (λ bytes.
         WritesFront (IsOutlinePage bytes) (W.contents (inner_of writer.old)) (W.contents (inner_of writer.new))) }
 
@@ -116,8 +115,7 @@ fn outline_of<R: Read>(alloc: Global, reader: &mut Watched<R>) -> Result<String,
     requires { has_failed reader.old ≡ false }
     ensures page { IfOk result (λ page. IfSome (R.remaining (inner_of reader.old))
         (λ bytes. IsOutlinePage bytes (string_bytes page))) }
-    ensures fault { IfErr result (λ f. IfSome (R.remaining (inner_of reader.old))
-        (λ bytes. IsOutlineRunFault bytes f)) }
+    ensures fault { IfErr result (λ f. IfSome (R.remaining (inner_of reader.old)) (λ bytes. IsRunFault bytes f)) }
     ensures reading { IsTrue (has_failed reader.new) ↔ (result ≡ Err Fault.Reading) }
     ensures writing { result ≡ Err Fault.Writing → ⊥ }
     ensures at_most { ConsumesAtMost (R.remaining (inner_of reader.old)) (R.remaining (inner_of reader.new))

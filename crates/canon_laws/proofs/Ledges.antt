@@ -1,5 +1,5 @@
--- Before the name of an item stands no opening delimiter: what an entry puts before a name ends in a word or a mark, and
--- no group begins with a name.
+-- Before the name of an item stands no opening delimiter: what an entry puts before a name ends in a word or a mark,
+-- and no group begins with a name.
 use Rattle.std.proofs.Common.{◌≡◌, ℕ, ◌+◌, List, [], ◌∷◌, ◌++◌, length, refl, sym, ap, ◌∙◌, subst, append_assoc}
 use Rattle.std.proofs.Common.{length-append, arith, inl, inr, ⊎_elim}
 use Rattle.std.proofs.lemmas.List.{append-nil}

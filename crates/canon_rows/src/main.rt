@@ -74,7 +74,6 @@ fn runs_alike(alloc: Global, text: &str, answer: &Result<String, Fault>) -> Resu
 fn wanted_status(answer: &Result<String, Fault>) -> u8 {
     match answer {
         Ok(_) => 0,
-        Err(Fault::Range) => 3,
         Err(_) => 1,
     }
 }

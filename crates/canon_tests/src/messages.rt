@@ -18,7 +18,7 @@ fn each_fault_has_its_line(rt: HostRuntime) -> Result<(), Fail> {
         line: 12,
         column: 7,
     };
-    let lines: [(Fault, &str); 9] = [
+    let lines: [(Fault, &str); 8] = [
         (Fault::NotUtf8, "canon: not UTF-8\n"),
         (Fault::Lexical(place), "canon: lexical fault at 12:7\n"),
         (
@@ -28,10 +28,6 @@ fn each_fault_has_its_line(rt: HostRuntime) -> Result<(), Fail> {
         (
             syntax(rt.alloc(), None)?,
             "canon: syntax fault at end of input: expected `;`\n",
-        ),
-        (
-            Fault::Range,
-            "canon: a range with attributes in front of it is not written yet\n",
         ),
         (Fault::MapFull, "canon: source map full\n"),
         (Fault::Memory, "canon: out of memory\n"),

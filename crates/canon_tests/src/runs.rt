@@ -107,16 +107,18 @@ fn an_outline_is_a_line_for_each_row(rt: HostRuntime) {
 }
 
 #[test]
-fn a_range_with_attributes_is_not_written_and_has_an_outline(rt: HostRuntime) {
+fn a_range_with_attributes_is_put_in_parentheses_and_has_an_outline(rt: HostRuntime) {
     let text = b"fn f(){#[a] ..2;}".as_slice();
     let mut reader = Watched::new(Source::new(text, Plan::by(usize::MAX)));
     let mut writer = Watched::new(Sink::new(rt.alloc(), Plan::by(1)));
     let outcome = run(rt.alloc(), &mut reader, &mut writer);
-    assert!(rt; matches!(&outcome, Err(Fault::Range)));
-    assert_eq!(rt; status(&outcome), 3);
-    assert!(rt; writer.get_ref().taken.is_empty());
+    assert!(rt; outcome.is_ok());
+    assert_eq!(rt; status(&outcome), 0);
+    let page = b"fn f () { # [a] (.. 2) ; }\n".as_slice();
+    assert_eq!(rt; writer.get_ref().taken.as_slice(), page);
 
     let mut reader = Watched::new(Source::new(text, Plan::by(usize::MAX)));
+    let mut writer = Watched::new(Sink::new(rt.alloc(), Plan::by(1)));
     let outcome = run_outline(rt.alloc(), &mut reader, &mut writer);
     assert!(rt; outcome.is_ok());
     assert_eq!(rt; writer.get_ref().taken.as_slice(), b"fn f 1:3\n".as_slice());

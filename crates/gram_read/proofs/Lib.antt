@@ -1,4 +1,2 @@
-pub mod Attributed
 pub mod Counted
-pub mod Decided
 pub mod Listed

@@ -1,5 +1,5 @@
 -- What is said of tokens that could not be read: what was expected in their place, by its text or by its name.
-use Rattle.std.specs.Prelude.{ℕ, Bool, true, false, List, [], ◌++◌, Option, Some, None, cond, codes}
+use Rattle.std.specs.Prelude.{ℕ, Bool, List, [], ◌++◌, Option, Some, None, cond, codes}
 use Rattle.rust_map.specs.Spans.{call_site}
 use Rattle.rust_map.specs.declared.span.Span.{Span}
 use Rattle.proc_macro2.specs.declared.delimiter.Delimiter.{Delimiter}

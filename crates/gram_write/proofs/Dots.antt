@@ -11,6 +11,8 @@ use Rattle.syn_grammar.specs.Tree.{Alone, Front, Infix, flat}
 use Rattle.syn_grammar.specs.Kept.{index_field, index_fields, fields_in_front, last_fields, dotted_own, dotted, kept}
 use Rattle.syn_grammar.specs.Normal.{normal_in}
 use Rattle.binding_laws.specs.Bare.{bare}
+use Rattle.range_laws.specs.Shelled.{is_shelled, goes_in, enclosed_if}
+use Rattle.range_laws.proofs.Behind.{back_written, front_written, infix_written}
 use Rattle.gram_write.specs.Said.{said, said_form, fields, front_fields, last_said, dotted_said, own_said}
 
 -- it has its left operand before it still, and is of its kind, or a field
@@ -106,23 +108,29 @@ own_dots l k (Back m j w) =
     (kept m) j (kept w)
 own_dots l k _ = refl
 
--- forms, whose operands stand as they are
+back_bare : (l : Tree) (k : Kind) (y : Tree) → flat (bare (kept (Back l k y))) ≡ flat (bare (kept l)) ++ own_said k y
+unfolding said
+back_bare l ExprField y = own_dots (kept l) ExprField y
+back_bare l ExprMethodCall y = own_dots (kept l) ExprMethodCall y
+back_bare l ExprAwait y = own_dots (kept l) ExprAwait y
+back_bare l k y = refl
+
+-- forms, with the parentheses of their operands
 pub alone_said : (k : Kind) (y : Tree) → said_form (Alone k y) ≡ said Plain y
 unfolding said said_form
 alone_said k y = refl
 
-pub prefix_said : (k : Kind) (y x : Tree) → said_form (Front k y x) ≡ said Plain y ++ said_form x
+pub prefix_said : (k : Kind) (y x : Tree)
+    → said_form (Front k y x) ≡ said Plain y ++ enclosed_if (is_shelled k x) (said_form x)
 unfolding said said_form
-prefix_said k y x = refl
+prefix_said k y x = front_written k y x
 
 pub infix_said : (l : Tree) (k : Kind) (y r : Tree)
-    → said_form (Infix l k y r) ≡ said_form l ++ (said Plain y ++ said_form r)
+    → said_form (Infix l k y r) ≡ enclosed_if (goes_in k l) (said_form l) ++ (said Plain y ++ said_form r)
 unfolding said said_form
-infix_said l k y r = refl
+infix_said l k y r = infix_written l k y r
 
-pub back_said : (l : Tree) (k : Kind) (y : Tree) → said_form (Back l k y) ≡ said_form l ++ own_said k y
-unfolding said said_form
-back_said l ExprField y = own_dots (kept l) ExprField y
-back_said l ExprMethodCall y = own_dots (kept l) ExprMethodCall y
-back_said l ExprAwait y = own_dots (kept l) ExprAwait y
-back_said l k y = refl
+pub back_said : (l : Tree) (k : Kind) (y : Tree)
+    → said_form (Back l k y) ≡ enclosed_if (goes_in k l) (said_form l) ++ own_said k y
+unfolding said_form
+back_said l k y = back_written l k y (own_said k y) (back_bare l k y)

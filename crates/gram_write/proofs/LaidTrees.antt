@@ -1,31 +1,41 @@
--- The tokens of the normal form of a plain tree, in terms of what was read.
+-- The tokens of the normal form of a tree that was read, in terms of what was read.
 use Rattle.std.proofs.Common.{◌≡◌, List, [], ◌∷◌, ◌++◌, refl, sym, ap, ◌∙◌}
-use Rattle.std.specs.Prelude.{Bool, true, false, cond, codes}
+use Rattle.std.specs.Prelude.{Bool, true, false, cond, codes, nat_eq}
 use Rattle.proc_macro2.specs.Token.{Token, Opens, Closes, Ident, Punct}
 use Rattle.rust_leaf.specs.declared.punct.Spacing.TheVariants.{Alone as Apart}
 use Rattle.syn_grammar.specs.Kind.{Kind, Position, Plain, Parameter, Member, Index, Where, Generics, BoundsColon}
 use Rattle.syn_grammar.specs.Kind.{LifetimeColon, GenericParams, Arguments, AnImpl, ImplGenerics, ATypeAlias}
-use Rattle.syn_grammar.specs.Kind.{AStatement, Expression, ExprField, ExprMethodCall, ExprAwait}
+use Rattle.syn_grammar.specs.Kind.{AStatement, Expression, OuterAttributes, ExprField, ExprMethodCall, ExprAwait}
+use Rattle.syn_grammar.specs.Kind.{ExprCast, ExprAttributed}
 use Rattle.syn_grammar.specs.Name.{same_part, the_unnamed, the_arguments, the_generics, the_indices, the_value}
+use Rattle.syn_grammar.specs.Name.{the_attributes, the_expression}
 use Rattle.syn_grammar.specs.Tree.{Tree, AWord, ALiteral, AMark, ALifetime, Raw, Nil, Pair, First, Second, End, Again}
 use Rattle.syn_grammar.specs.Tree.{Final, More, Group, Dropped, Called, Verbatim, Hidden, Node, Whole, Alone, Front}
 use Rattle.syn_grammar.specs.Tree.{Back, Infix, flat}
 use Rattle.syn_grammar.specs.Part.{changed}
-use Rattle.syn_grammar.specs.Kept.{kept}
+use Rattle.syn_grammar.specs.Forms.{level, is_range}
+use Rattle.syn_grammar.specs.Kept.{attributed, held, kept}
 use Rattle.syn_grammar.specs.Tidy.{is_bare_where, is_bare_generics, is_bare_colon, is_lifetime_param}
 use Rattle.syn_grammar.specs.Tidy.{is_lifetime_argument, lifetimes_first, keeps_generics}
-use Rattle.syn_grammar.specs.Normal.{place_of, passed, normal_in}
+use Rattle.syn_grammar.specs.Normal.{place_of, passed, normal, normal_in}
 use Rattle.gram_write.specs.declared.within.Within.{Within}
 use Rattle.gram_write.specs.declared.within.Within.TheVariants.{InArguments, InImpl}
 use Rattle.gram_write.specs.Said.{said, said_form, bare_impl_said, front_fields, own_said}
 use Rattle.gram_write.specs.Firsts.{has_other, those_said, others_said}
-use Rattle.gram_write.specs.Plain.{IsPlain, IsPlainForm}
+use Rattle.gram_write.specs.Formed.{GainsGiven, GivesOn, HasFormed, HasGiven, IsFormed, IsFormedStatement}
+use Rattle.gram_write.specs.Turns.{apart_where, is_set_apart}
 use Rattle.gram_write.specs.Laid.{is_lifetime_read, within_impl, laid_in, those_laid, others_laid, laid, behind_laid}
-use Rattle.gram_write.proofs.Dots.{alone_said, prefix_said, back_said, infix_said}
+use Rattle.gram_write.specs.Laid.{has_attributes, statement_laid, given_laid}
+use Rattle.range_laws.specs.Shelled.{is_lone_range, is_shelled, goes_in, parens_if, enclosed_if, shelled}
+use Rattle.range_laws.proofs.Behind.{range_given, infix_given, cast_given}
+use Rattle.range_laws.proofs.InKept.{lone_kept}
+use Rattle.gram_write.proofs.Dots.{dotted_by, alone_said, prefix_said, back_said, infix_said}
 use Rattle.gram_write.proofs.OfKinds.{node, quiet, unnamed, parameter, index, member_index}
 use Rattle.gram_write.proofs.Bare.{where_said, generics_said, bounds_said, lifetimes_said}
 use Rattle.gram_write.proofs.Row.{firsts, params_said}
-use Rattle.gram_write.proofs.Stand.{again_said, whole_said, statement_said, alias_said, impl_said}
+use Rattle.gram_write.proofs.Stand.{again_said, whole_said, attributes_said, behind_said, parts_said}
+use Rattle.gram_write.proofs.Stand.{statement_said, node_said}
+use Rattle.gram_write.proofs.Stand.{alias_said, impl_said}
 use Rattle.gram_write.proofs.Lifetimes.{argument_read}
 use Rattle.gram_write.proofs.Impls.{keeps_made}
 
@@ -40,24 +50,25 @@ pub node_laid : (w : Within) (k : Kind) (x : Tree) → laid_in w (Node k x) ≡ 
 node_laid w Parameter (Pair a (Second (Second (First (Called the_unnamed t))))) = refl
 node_laid w Member (Second (ALiteral cs)) = refl
 node_laid w Index (ALiteral cs) = refl
+node_laid w AStatement (Second (Second (Second (Second x)))) = refl
 node_laid w k x = refl
 
 -- numbers of fields
-index_same : (p : Position) (x : Tree) → IsPlain Plain x → said Plain x ≡ laid x
+index_same : (p : Position) (x : Tree) → IsFormed Plain x → said Plain x ≡ laid x
     → said p (Node Index x) ≡ laid (Node Index x)
 unfolding said passed
 index_same p (ALiteral cs) h e = index p cs
 index_same p (Back l k y) h e = absurd h
 index_same p x h e = node Index p x ∙ e
 
-member_second : (p : Position) (x : Tree) → IsPlain Plain x → said Plain x ≡ laid x
+member_second : (p : Position) (x : Tree) → IsFormed Plain x → said Plain x ≡ laid x
     → said p (Node Member (Second x)) ≡ laid (Node Member (Second x))
 unfolding said passed
 member_second p (ALiteral cs) h e = member_index p cs
 member_second p (Back l k y) h e = absurd h
 member_second p x h e = node Member p (Second x) ∙ e
 
-member_same : (p : Position) (x : Tree) → IsPlain Plain x → said Plain x ≡ laid x
+member_same : (p : Position) (x : Tree) → IsFormed Plain x → said Plain x ≡ laid x
     → said p (Node Member x) ≡ laid (Node Member x)
 unfolding said passed
 member_same p (Second x) h e = member_second p x h e
@@ -94,10 +105,60 @@ own_same ExprAwait (Pair (Pair d (Called the_indices x)) y) e f = dotted_same d 
 own_same ExprAwait y e f = e
 own_same k y e f = e
 
+-- attributes that are given to an expression
+enclosed_flat : (b : Bool) (x : Tree) → flat (parens_if b x) ≡ enclosed_if b (flat x)
+enclosed_flat true x = refl
+enclosed_flat false x = refl
+
+given_front : (a z : Tree) (ts : List Token) → flat (normal a) ≡ ts → said_form z ≡ laid z
+    → flat (shelled (Front ExprAttributed a (kept z))) ≡ ts ++ enclosed_if (is_lone_range z) (laid z)
+unfolding said_form
+given_front a z ts e f =
+    two (flat (normal a)) ts (flat (parens_if (is_lone_range (kept z)) (shelled (kept z))))
+    (enclosed_if (is_lone_range z) (laid z)) e
+    (enclosed_flat (is_lone_range (kept z)) (shelled (kept z))
+    ∙ ap (λ b. enclosed_if b (flat (shelled (kept z)))) (lone_kept z)
+    ∙ ap (λ us. enclosed_if (is_lone_range z) us) f)
+
+given_infix : (b : Bool) (a l : Tree) (k : Kind) (y r : Tree) (ts : List Token) → nat_eq (level k) 3 ≡ b
+    → flat (normal a) ≡ ts → said_form (Infix l k y r) ≡ laid (Infix l k y r) → is_range l ≡ false
+    → flat (shelled (attributed a (kept l))) ≡ given_laid ts (laid l) l → said Plain y ≡ laid y
+    → said_form r ≡ laid r
+    → flat (shelled (attributed a (kept (Infix l k y r))))
+    ≡ cond b (ts ++ enclosed_if true (laid (Infix l k y r)))
+    (enclosed_if (goes_in k l) (given_laid ts (laid l) l) ++ (laid y ++ laid r))
+unfolding said said_form
+given_infix true a l k y r ts i e f n g u v =
+    ap (λ c. flat (shelled (cond c (Front ExprAttributed a (kept (Infix l k y r)))
+    (Infix (attributed a (kept l)) k (kept y) (kept r))))) i
+    ∙ range_given a (Infix l k y r) i
+    ∙ two (flat (normal a)) ts (enclosed_if true (flat (shelled (kept (Infix l k y r)))))
+    (enclosed_if true (laid (Infix l k y r))) e (ap (λ us. enclosed_if true us) f)
+given_infix false a l k y r ts i e f n g u v =
+    infix_given a l k y r i n
+    ∙ two (enclosed_if (goes_in k l) (flat (shelled (attributed a (kept l)))))
+    (enclosed_if (goes_in k l) (given_laid ts (laid l) l)) (said Plain y ++ said_form r) (laid y ++ laid r)
+    (ap (λ us. enclosed_if (goes_in k l) us) g) (two (said Plain y) (laid y) (said_form r) (laid r) u v)
+
+abbrev GivenSame : Tree → Type 0
+GivenSame z = (a : Tree) (ts : List Token) → flat (normal a) ≡ ts
+    → flat (shelled (attributed a (kept z))) ≡ given_laid ts (laid z) z
+
+behind_same : (a z : Tree) → IsFormed Plain a → GainsGiven a z → said Plain a ≡ laid a → said_form z ≡ laid z
+    → (GivesOn z → GivenSame z)
+    → behind_said a z ≡ cond (has_attributes a) (given_laid (laid a) (laid z) z) (laid a ++ laid z)
+unfolding said passed held
+behind_same (Node OuterAttributes (Again t b)) z h g e f s =
+    s g.1 (Pair (kept t) (Node OuterAttributes (kept b))) (laid (Again t b)) (sym (attributes_said t b h g.2) ∙ e)
+behind_same (Node OuterAttributes x) z h g e f s =
+    two (said Plain (Node OuterAttributes x)) (laid (Node OuterAttributes x)) (said_form z) (laid z) e f
+behind_same (Node k x) z h g e f s = two (said Plain (Node k x)) (laid (Node k x)) (said_form z) (laid z) e f
+behind_same a z h g e f s = two (said Plain a) (laid a) (said_form z) (laid z) e f
+
 mutual
   unfolding said passed place_of same_part
 
-  pub laid_same : (p : Position) (x : Tree) → IsPlain p x → said p x ≡ laid x
+  pub laid_same : (p : Position) (x : Tree) → IsFormed p x → said p x ≡ laid x
   laid_same p (AWord cs) h = refl
   laid_same p (ALiteral cs) h = refl
   laid_same p (AMark c cs spacing) h = refl
@@ -110,7 +171,8 @@ mutual
   laid_same p (Second x) h = laid_same p x h
   laid_same p End h = refl
   laid_same p (Again x y) h = again_said p x y h
-      ∙ two (said p x) (laid x) (said p y) (laid y) (laid_same p x h.0) (laid_same p y h.1)
+      ∙ two (apart_where (is_set_apart x y) (said p x)) (apart_where (is_set_apart x y) (laid x)) (said p y) (laid y)
+      (ap (λ ts. apart_where (is_set_apart x y) ts) (laid_same p x h.0)) (laid_same p y h.1)
   laid_same p (Final x) h = laid_same p x h
   laid_same p (More x c spacing y) h =
       two (said p x) (laid x) (Punct c Apart ∷ said p y) (Punct c Apart ∷ laid y) (laid_same p x h.0)
@@ -122,7 +184,7 @@ mutual
   laid_same p (Hidden x) h = absurd h
   laid_same p (Node (Expression q) (Whole z)) h = whole_said p q z h ∙ form_same z h.1.1
   laid_same p (Node (Expression q) x) h = absurd h.1
-  laid_same p (Node AStatement x) h = statement_said p x h ∙ laid_same Plain x h.0
+  laid_same p (Node AStatement x) h = node_said p x h ∙ statement_same x h.0 h.1 (laid_same Plain x h.0)
   laid_same p (Node (ATypeAlias s) x) h = alias_said p s x h ∙ laid_same Plain x h
   laid_same p (Node Parameter (Pair a (Second (Second (First (Called the_unnamed t)))))) h =
       unnamed p a t
@@ -159,7 +221,7 @@ mutual
   laid_same p (Infix l k y r) h = absurd h
 
   -- of elements that pass, and of those that don't
-  those_same : (q : Tree → Bool) (b : Bool) (x : Tree) → IsPlain Plain x
+  those_same : (q : Tree → Bool) (b : Bool) (x : Tree) → IsFormed Plain x
       → those_said Plain q b x ≡ those_laid q b x
   those_same q b (More x c spacing y) h =
       either (q x) (said Plain x ++ Punct c Apart ∷ those_said Plain q b y)
@@ -170,7 +232,7 @@ mutual
       ap (λ ts. cond (q x) (ts ++ cond b (Punct 44 Apart ∷ []) []) []) (laid_same Plain x h)
   those_same q b _ h = refl
 
-  others_same : (q : Tree → Bool) (x : Tree) → IsPlain Plain x → said Plain x ≡ laid x
+  others_same : (q : Tree → Bool) (x : Tree) → IsFormed Plain x → said Plain x ≡ laid x
       → others_said Plain q x ≡ others_laid q (laid x) x
   others_same q (More x c spacing y) h e =
       either (q x) (others_said Plain q y) (others_laid q (laid y) y)
@@ -182,7 +244,7 @@ mutual
   others_same q _ h e = e
 
   -- in arguments
-  arguments_same : (x : Tree) → IsPlain Plain x → said Plain x ≡ laid x
+  arguments_same : (x : Tree) → IsFormed Plain x → said Plain x ≡ laid x
       → flat (changed the_arguments (lifetimes_first is_lifetime_argument) (normal_in Plain (kept x)))
       ≡ laid_in InArguments x
   arguments_same (Called the_arguments x) h e = firsts Plain is_lifetime_read is_lifetime_argument argument_read x
@@ -206,7 +268,7 @@ mutual
   arguments_same _ h e = e
 
   -- in an impl
-  bare_same : (x : Tree) → IsPlain Plain x → said Plain x ≡ laid x → bare_impl_said x ≡ laid_in InImpl x
+  bare_same : (x : Tree) → IsFormed Plain x → said Plain x ≡ laid x → bare_impl_said x ≡ laid_in InImpl x
   bare_same (Called the_generics (Node ImplGenerics x)) h e =
       ap (λ ts. cond (is_bare_generics x) [] ts) (laid_same Plain x h)
   bare_same (Called _ x) h e = e
@@ -219,19 +281,60 @@ mutual
   bare_same (Node k x) h e = e ∙ sym (node_laid InImpl k x)
   bare_same _ h e = e
 
+  -- statements
+  statement_same : (x : Tree) → IsFormed Plain x → IsFormedStatement x → said Plain x ≡ laid x
+      → statement_said x ≡ laid (Node AStatement x)
+  statement_same (Second (Second (Second (Second x)))) h n e = parts_same x h n
+  statement_same (Second (Second (Second (Back l k y)))) h n e = absurd h
+  statement_same (Second (Second (Second x))) h n e = e
+  statement_same (Second (Second (Back l k y))) h n e = absurd h
+  statement_same (Second (Second x)) h n e = e
+  statement_same (Second (Back l k y)) h n e = absurd h
+  statement_same (Second x) h n e = e
+  statement_same _ h n e = e
+
+  parts_same : (x : Tree) → IsFormed Plain x → HasGiven x → parts_said x ≡ statement_laid (laid x) x
+  parts_same (Pair (Called the_attributes a) (Pair (Called the_expression (Node (Expression q) (Whole z))) s)) h n =
+      two (behind_said a z) (cond (has_attributes a) (given_laid (laid a) (laid z) z) (laid a ++ laid z))
+      (said Plain s) (laid s)
+      (behind_same a z h.0 n (laid_same Plain a h.0)
+      (form_same z h.1.0.1.1) (λ g. given_same z h.1.0.1.1 (form_same z h.1.0.1.1) g)) (laid_same Plain s h.1.1)
+  parts_same _ h n = absurd n
+
+  -- attributes that are given
+  given_same : (z : Tree) → HasFormed z → said_form z ≡ laid z → GivesOn z → GivenSame z
+  given_same (Infix l k y r) h f g a ts e =
+      given_infix (nat_eq (level k) 3) a l k y r ts refl e f g.0
+      (given_same l h.0 (form_same l h.0) g.1 a ts e) (laid_same Plain y h.1) (form_same r h.2)
+  given_same (Back l ExprCast y) h f g a ts e =
+      cast_given a l y g.0
+      ∙ two (enclosed_if (goes_in ExprCast l) (flat (shelled (attributed a (kept l)))))
+      (enclosed_if (goes_in ExprCast l) (given_laid ts (laid l) l)) (said Plain y) (laid y)
+      (ap (λ us. enclosed_if (goes_in ExprCast l) us) (given_same l h.0 (form_same l h.0) g.1 a ts e))
+      (laid_same Plain y h.1)
+  given_same (Back l k y) h f g a ts e =
+      ap (λ x. flat (shelled x)) (dotted_by (λ z. attributed a z ≡ Front ExprAttributed a z) (λ l y. refl) (kept l) k
+      (kept y) (λ l y. refl)) ∙ given_front a (Back l k y) ts e f
+  given_same (Alone k y) h f g a ts e = given_front a (Alone k y) ts e f
+  given_same (Front k y x) h f g a ts e = given_front a (Front k y x) ts e f
+  given_same _ h f g a ts e = absurd h
+
   -- forms
-  form_same : (x : Tree) → IsPlainForm x → said_form x ≡ laid x
+  form_same : (x : Tree) → HasFormed x → said_form x ≡ laid x
   form_same (Alone k y) h = alone_said k y ∙ laid_same Plain y h
   form_same (Front k y x) h = prefix_said k y x
-      ∙ two (said Plain y) (laid y) (said_form x) (laid x) (laid_same Plain y h.0) (form_same x h.1)
+      ∙ two (said Plain y) (laid y) (enclosed_if (is_shelled k x) (said_form x)) (enclosed_if (is_shelled k x) (laid x))
+      (laid_same Plain y h.0) (ap (λ ts. enclosed_if (is_shelled k x) ts) (form_same x h.1))
   form_same (Back l k y) h = back_said l k y
-      ∙ two (said_form l) (laid l) (own_said k y) (behind_laid k y) (form_same l h.0)
+      ∙ two (enclosed_if (goes_in k l) (said_form l)) (enclosed_if (goes_in k l) (laid l)) (own_said k y)
+      (behind_laid k y) (ap (λ ts. enclosed_if (goes_in k l) ts) (form_same l h.0))
       (own_same k y (laid_same Plain y h.1) (dot_same y h.1))
   form_same (Infix l k y r) h = infix_said l k y r
-      ∙ two (said_form l) (laid l) (said Plain y ++ said_form r) (laid y ++ laid r) (form_same l h.0)
+      ∙ two (enclosed_if (goes_in k l) (said_form l)) (enclosed_if (goes_in k l) (laid l)) (said Plain y ++ said_form r)
+      (laid y ++ laid r) (ap (λ ts. enclosed_if (goes_in k l) ts) (form_same l h.0))
       (two (said Plain y) (laid y) (said_form r) (laid r) (laid_same Plain y h.1) (form_same r h.2))
   form_same _ h = absurd h
 
-  dot_same : (y : Tree) → IsPlain Plain y → DotSame y
+  dot_same : (y : Tree) → IsFormed Plain y → DotSame y
   dot_same (Pair (Pair d x) y) h = (laid_same Plain d h.0.0, laid_same Plain y h.1)
   dot_same _ h = tt

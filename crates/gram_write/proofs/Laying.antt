@@ -7,7 +7,7 @@ use Rattle.std.proofs.lemmas.List.{append-nil, at_drop_more}
 use Rattle.proc_macro2.specs.Token.{Token, Ident, Punct}
 use Rattle.rust_leaf.specs.declared.punct.Spacing.{Spacing}
 use Rattle.rust_leaf.specs.declared.punct.Spacing.TheVariants.{Alone as Apart}
-use Rattle.syn_grammar.specs.Kind.{Parameter}
+use Rattle.syn_grammar.specs.Kind.{Kind, AStatement, Index, Member, Parameter}
 use Rattle.syn_grammar.specs.Name.{the_unnamed}
 use Rattle.syn_grammar.specs.Tree as t
 use Rattle.syn_grammar.specs.Tree.{Tree, flat}
@@ -21,7 +21,6 @@ use Rattle.gram_write.specs.Laid.{firsts_laid, laid, laid_in, others_laid, those
 use Rattle.gram_write.specs.Seen.{type_alone}
 use Rattle.gram_write.specs.Way.{dotted_of}
 use Rattle.gram_write.proofs.Sizes.{tree_size}
-use Rattle.gram_write.proofs.LaidTrees.{node_laid}
 use Rattle.gram_write.proofs.SeenForms.{same_pair, some_none}
 use Rattle.gram_write.proofs.WayForms.{dotted_is, own_else, own_number, own_plain, own_undotted}
 
@@ -38,6 +37,14 @@ laid_mark w (c ∷ cs) spacing = refl
 pub laid_turns : (w : Within) (xs : List Tree) → laid_in w (turns xs) ≡ laid (turns xs)
 laid_turns w [] = refl
 laid_turns w (x ∷ xs) = refl
+
+-- what is written of a node turns not on where it stands
+pub node_same : (w : Within) (k : Kind) (x : Tree) → laid_in w (t.Node k x) ≡ laid (t.Node k x)
+node_same w Parameter (t.Pair a (t.Second (t.Second (t.First (t.Called the_unnamed y))))) = refl
+node_same w Member (t.Second (t.ALiteral cs)) = refl
+node_same w Index (t.ALiteral cs) = refl
+node_same w AStatement (t.Second (t.Second (t.Second (t.Second x)))) = refl
+node_same w k x = refl
 
 -- the elements that a mark follows, and the last one
 all_elements : (c : ℕ) (es : List Element) (y : Tree) → laid (elements c es y) ≡ laid (elements c es t.End) ++ laid y
@@ -56,7 +63,7 @@ laid_closed w c [] x = refl
 laid_closed w c (e ∷ es) x = all_elements c (e ∷ es) (t.Final x)
 
 pub ruleset forms =
-    (laid_seconds, laid_mark, laid_turns, laid_open, laid_closed, node_laid, append_assoc, append-nil)
+    (laid_seconds, laid_mark, laid_turns, laid_open, laid_closed, node_same, append_assoc, append-nil)
 
 -- what is put one behind the other
 pub three_put : (a b c d x y z w : List Token) → b ≡ a ++ x → c ≡ b ++ y → d ≡ c ++ z → w ≡ y ++ z → d ≡ a ++ (x ++ w)

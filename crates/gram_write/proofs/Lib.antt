@@ -5,9 +5,8 @@ pub mod Lifetimes
 pub mod Impls
 pub mod Row
 pub mod Stand
-pub mod Given
 pub mod Fits
-pub mod Begin
+pub mod Apart
 pub mod Read
 pub mod Pushing
 pub mod Flat
@@ -17,3 +16,9 @@ pub mod Indices
 pub mod SeenForms
 pub mod WayForms
 pub mod Laying
+pub mod Operands
+pub mod Shells
+pub mod Opening
+pub mod Begins
+pub mod Apartness
+pub mod Expressing

@@ -1,21 +1,26 @@
--- The tokens of the normal form of a tree of which no operand is put in parentheses, in terms of what was read.
-use Rattle.std.specs.Prelude.{Bool, false, cond, codes, List, [], ◌∷◌, ◌++◌}
+-- The tokens of the normal form of a tree that was read, in terms of what was read.
+use Rattle.std.specs.Prelude.{Bool, true, false, cond, codes, nat_eq, List, [], ◌∷◌, ◌++◌}
 use Rattle.proc_macro2.specs.Token.{Token, Opens, Closes, Ident, Literal, Punct}
 use Rattle.rust_leaf.specs.declared.punct.Spacing.TheVariants.{Alone as Apart, Joint}
 use Rattle.syn_grammar.specs.Kind.{Kind, Parameter, Member, Index, Where, Generics, BoundsColon, LifetimeColon}
 use Rattle.syn_grammar.specs.Kind.{GenericParams, Arguments, AnArgument, AnImpl, ImplGenerics}
-use Rattle.syn_grammar.specs.Kind.{ExprField, ExprMethodCall, ExprAwait}
+use Rattle.syn_grammar.specs.Kind.{AStatement, Expression, OuterAttributes, ExprField, ExprMethodCall, ExprAwait}
+use Rattle.syn_grammar.specs.Kind.{ExprCast}
 use Rattle.syn_grammar.specs.Name.{the_unnamed, the_arguments, the_generics, the_lifetime, the_indices, the_value}
+use Rattle.syn_grammar.specs.Name.{the_attributes, the_expression}
 use Rattle.syn_grammar.specs.Words.{indices, plain_decimal}
 use Rattle.syn_grammar.specs.Tree.{Tree, AWord, ALiteral, AMark, ALifetime, Raw, Nil, Pair, First, Second, End, Again}
 use Rattle.syn_grammar.specs.Tree.{Final, More, Group, Dropped, Called, Verbatim, Hidden, Node, Whole, Alone, Front}
 use Rattle.syn_grammar.specs.Tree.{Back, Infix, flat, marks}
 use Rattle.syn_grammar.specs.Part.{has}
+use Rattle.syn_grammar.specs.Forms.{level}
 use Rattle.syn_grammar.specs.Tidy.{is_bare_where, is_bare_generics, is_bare_colon, is_lifetime_param, keeps_generics}
 use Rattle.gram_write.specs.declared.within.Within.{Within}
 use Rattle.gram_write.specs.declared.within.Within.TheVariants.{Anywhere, InArguments, InImpl}
+use Rattle.range_laws.specs.Shelled.{is_lone_range, is_shelled, goes_in, enclosed_if}
 use Rattle.gram_write.specs.Firsts.{has_other}
 use Rattle.gram_write.specs.Said.{fields, front_fields}
+use Rattle.gram_write.specs.Turns.{apart_where, is_set_apart}
 
 -- An argument that is a lifetime: no constant is one, whatever stands in it.
 abbrev pub is_lifetime_read : Tree → Bool
@@ -27,6 +32,11 @@ is_lifetime_read x = false
 -- The parts of an impl go without their generics where they are bare, unless its type would then begin with parameters.
 abbrev pub within_impl : Bool → Within
 within_impl keeps = cond keeps Anywhere InImpl
+
+-- attributes in front of a statement's expression, and not none
+abbrev pub has_attributes : Tree → Bool
+has_attributes (Node OuterAttributes (Again t b)) = true
+has_attributes x = false
 
 abbrev mutual
   -- within the parts of a kind
@@ -41,7 +51,8 @@ abbrev mutual
   laid_in w (First x) = laid_in w x
   laid_in w (Second x) = laid_in w x
   laid_in w End = []
-  laid_in w (Again x y) = laid_in Anywhere x ++ laid_in Anywhere y
+  -- a raw item's last mark is set apart before a parenthesis that is added
+  laid_in w (Again x y) = apart_where (is_set_apart x y) (laid_in Anywhere x) ++ laid_in Anywhere y
   laid_in w (Final x) = laid_in Anywhere x
   laid_in w (More x c spacing y) = laid_in Anywhere x ++ Punct c Apart ∷ laid_in Anywhere y
   laid_in w (Group d x) = Opens d ∷ laid_in w x ++ Closes d ∷ []
@@ -70,12 +81,34 @@ abbrev mutual
       ++ others_laid is_lifetime_param (laid_in Anywhere x) x
   laid_in w (Node Arguments x) = laid_in InArguments x
   laid_in w (Node AnImpl x) = laid_in (within_impl (keeps_generics x)) x
+  -- attributes in front of a statement's expression are given to it
+  laid_in w (Node AStatement (Second (Second (Second (Second x))))) = statement_laid (laid_in Anywhere x) x
   laid_in w (Node k x) = laid_in Anywhere x
   laid_in w (Whole x) = laid_in Anywhere x
   laid_in w (Alone k y) = laid_in Anywhere y
-  laid_in w (Front k y x) = laid_in Anywhere y ++ laid_in Anywhere x
-  laid_in w (Back l k y) = laid_in Anywhere l ++ own_laid k (laid_in Anywhere y) y
-  laid_in w (Infix l k y r) = laid_in Anywhere l ++ (laid_in Anywhere y ++ laid_in Anywhere r)
+  -- a range behind attributes is put in parentheses, and a left operand where the form behind it would go in
+  laid_in w (Front k y x) = laid_in Anywhere y ++ enclosed_if (is_shelled k x) (laid_in Anywhere x)
+  laid_in w (Back l k y) = enclosed_if (goes_in k l) (laid_in Anywhere l) ++ own_laid k (laid_in Anywhere y) y
+  laid_in w (Infix l k y r) =
+      enclosed_if (goes_in k l) (laid_in Anywhere l) ++ (laid_in Anywhere y ++ laid_in Anywhere r)
+
+  -- a statement's expression with what stands before and behind it; what is none stands as it is
+  pub statement_laid : List Token → Tree → List Token
+  statement_laid as_it_is
+      (Pair (Called the_attributes a) (Pair (Called the_expression (Node (Expression q) (Whole z))) s)) =
+      cond (has_attributes a) (given_laid (laid_in Anywhere a) (laid_in Anywhere z) z)
+      (laid_in Anywhere a ++ laid_in Anywhere z) ++ laid_in Anywhere s
+  statement_laid as_it_is x = as_it_is
+
+  -- the tokens of attributes before the leftmost operand, inside its parentheses; a range, as it is by itself, is put
+  -- in parentheses behind them
+  pub given_laid : List Token → List Token → Tree → List Token
+  given_laid ts as_it_is (Infix l k y r) =
+      cond (nat_eq (level k) 3) (ts ++ enclosed_if true as_it_is)
+      (enclosed_if (goes_in k l) (given_laid ts (laid_in Anywhere l) l) ++ (laid_in Anywhere y ++ laid_in Anywhere r))
+  given_laid ts as_it_is (Back l ExprCast y) =
+      enclosed_if (goes_in ExprCast l) (given_laid ts (laid_in Anywhere l) l) ++ laid_in Anywhere y
+  given_laid ts as_it_is z = ts ++ enclosed_if (is_lone_range z) as_it_is
 
   -- the elements that pass, each with the comma that it held; the last one gets one where others follow
   pub those_laid : (Tree → Bool) → Bool → Tree → List Token

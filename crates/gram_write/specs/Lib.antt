@@ -1,7 +1,8 @@
 pub mod Said
 pub mod Firsts
+pub mod Turns
 pub mod Laid
 pub mod Seen
 pub mod Way
-pub mod Plain
-pub mod Ranges
+pub mod Operands
+pub mod Formed

@@ -11,15 +11,15 @@ use Rattle.syn_grammar.specs.Tree.{Tree, ALiteral, Pair, First, Second, Again, G
 use Rattle.syn_grammar.specs.Kept.{kept}
 use Rattle.syn_grammar.specs.Tidy.{is_bare_generics}
 use Rattle.syn_grammar.specs.Normal.{normal_in}
-use Rattle.binding_laws.specs.Bare.{bare}
+use Rattle.range_laws.specs.Shelled.{shelled}
 
 -- The tokens of the normal form of what is kept, in a position.
 unfoldable pub said : Position → Tree → List Token
 said p x = flat (normal_in p (kept x))
 
--- The same of an expression, where no operand is put in parentheses.
+-- The same of an expression that gains the parentheses of its ranges behind attributes, and what those force.
 unfoldable pub said_form : Tree → List Token
-said_form x = flat (bare (kept x))
+said_form x = flat (shelled (kept x))
 
 -- Kinds of which the tokens of their part are written as they are in normal form: no token is added, removed or moved.
 abbrev pub is_quiet : Kind → Bool

@@ -2,7 +2,7 @@
 use Rattle.std.specs.Prelude.{ℕ, Bool, true, false, List, [], ◌∷◌, Option, Some, None}
 use Rattle.proc_macro2.specs.Token.{Token, Literal}
 use Rattle.rust_leaf.specs.Leaf.{literal_text}
-use Rattle.syn_grammar.specs.Kind.{Kind, ImplGenerics, Parameter, ExprField, ExprMethodCall, ExprAwait}
+use Rattle.syn_grammar.specs.Kind.{Kind, ImplGenerics, Parameter, AStatement, ExprField, ExprMethodCall, ExprAwait}
 use Rattle.syn_grammar.specs.Name.{the_indices, the_value}
 use Rattle.syn_grammar.specs.Words.{plain_decimal}
 use Rattle.syn_grammar.specs.Tidy.{is_bare_generics, is_lifetime_param}
@@ -24,6 +24,7 @@ abbrev pub way_laid : Way → Tree → List Token
 way_laid ways.Nothing x = []
 way_laid (ways.Number l) x = Literal (plain_decimal (literal_text l.now)) ∷ []
 way_laid ways.Parameter x = laid (Node Parameter x)
+way_laid ways.Statement x = laid (Node AStatement x)
 way_laid (ways.Firsts f) x = firsts_laid (passes f) x
 way_laid (ways.Parts w) x = laid_in w x
 

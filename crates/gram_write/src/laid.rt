@@ -1,27 +1,25 @@
-//! Writing what was read as its normal form has it, where no operand is put in parentheses.
+//! Writing what was read as its normal form has it.
 
 ghost use Rattle.gram_piece.specs.Pieces.{piece_token};
-ghost use Rattle.gram_table.specs.Kinds.{kind_of};
 ghost use Rattle.gram_table.specs.Ops.{separator_of};
-ghost use Rattle.gram_tree.specs.Forms.{elements, turns};
-ghost use Rattle.gram_write.specs.Laid.{behind_laid, firsts_laid, laid, laid_in, others_laid, those_laid};
+ghost use Rattle.gram_tree.specs.Forms.{elements};
+ghost use Rattle.gram_write.specs.Laid.{firsts_laid, laid, laid_in, others_laid, those_laid};
 ghost use Rattle.gram_write.specs.Way.{passes, way_laid};
 ghost use Rattle.std.specs.Prelude.{[], ◌++◌, ◌≡◌, OnOk, false, map};
 ghost use Rattle.syn_grammar.specs.Kind.{Parameter};
 ghost use Rattle.syn_grammar.specs.Tree as t;
 
 use crate::as_read::put_as_read;
-use crate::fields::{number, put_fields, put_front_fields};
+use crate::expressed::{put_back, put_front, put_infix, put_statement};
+use crate::fields::number;
 use crate::put::{comma, entries, lifetime, one, separator, sign};
 use crate::seen::type_alone;
-use crate::way::{
-    Firsts, Way, dotted, is_dotted, lacks_some, last_number, of_node, of_part, passes,
-};
+use crate::turn::put_turns;
+use crate::way::{Firsts, Way, lacks_some, of_node, of_part, passes};
 use crate::within::Within;
 use gram_piece::piece::Piece;
-use gram_table::kind::Kind;
 use gram_table::op::Separator;
-use gram_tree::tree::{Element, Form, Three, Tree, Two};
+use gram_tree::tree::{Element, Form, Tree, Two};
 use rust_leaf::punct::Spacing;
 use std::alloc::AllocError;
 
@@ -49,7 +47,7 @@ pub(crate) fn put_laid<'a>(
         Form::Nil | Form::Dropped(_) => Ok(()),
         Form::Verbatim(inner) => put_as_read(inner, out),
         Form::Pair(two) => put_two(within, two, out),
-        Form::Front(_, two) => put_two(Within::Anywhere, two, out),
+        Form::Front(kind, two) => put_front(*kind, two, out),
         Form::Back(kind, two) => put_back(*kind, two, out),
         Form::Turns(turns) => put_turns(turns.as_slice(), out),
         Form::Elements(mark, before, last) => {
@@ -64,7 +62,7 @@ pub(crate) fn put_laid<'a>(
             put_laid(within, inner, out)?;
             one(Piece::Close(*delimiter), out)
         }
-        Form::Infix(_, three) => put_three(three, out),
+        Form::Infix(kind, three) => put_infix(*kind, three, out),
         Form::First(_, inner) | Form::Second(_, inner) => put_laid(within, inner, out),
         Form::Called(part, inner) => put_so(of_part(within, *part, inner), inner, out),
         Form::Node(kind, inner) => put_so(of_node(*kind, inner), inner, out),
@@ -81,31 +79,6 @@ fn put_two<'a>(within: Within, two: &Two<'a>, out: &mut Vec<Piece<'a>>) -> Resul
 {
     put_laid(within, &two.front, out)?;
     put_laid(within, &two.back, out)
-}
-
-// The tokens of an infix form's left operand, of its own part, and of its right operand.
-#[cycle(laid)]
-#[tactic(auto, using(crate::proofs::Pushing::puts))]
-fn put_three<'a>(three: &Three<'a>, out: &mut Vec<Piece<'a>>) -> Result<(), AllocError>
-    ensures { OnOk result (map piece_token out.new.items ≡ map piece_token out.old.items
-        ++ (laid three.now.left ++ (laid three.now.own ++ laid three.now.right))) }
-{
-    put_laid(Within::Anywhere, &three.left, out)?;
-    put_laid(Within::Anywhere, &three.own, out)?;
-    put_laid(Within::Anywhere, &three.right, out)
-}
-
-// The tokens of turns, one behind the other.
-#[cycle(laid)]
-#[tactic(auto, using(crate::proofs::Pushing::puts))]
-fn put_turns<'a>(trees: &[Tree<'a>], out: &mut Vec<Piece<'a>>) -> Result<(), AllocError>
-    ensures { OnOk result (map piece_token out.new.items
-        ≡ map piece_token out.old.items ++ laid (turns trees.now)) }
-{
-    for tree in trees {
-        put_laid(Within::Anywhere, tree, out)?;
-    }
-    Ok(())
 }
 
 // The tokens of elements, and of the mark behind each.
@@ -137,6 +110,7 @@ fn put_so<'a>(way: Way<'a>, inner: &Tree<'a>, out: &mut Vec<Piece<'a>>) -> Resul
         Way::Nothing => Ok(()),
         Way::Number(literal) => number(literal, out),
         Way::Parameter => put_parameter(inner, out),
+        Way::Statement => put_statement(inner, out),
         Way::Firsts(which) => put_firsts(which, inner, out),
         Way::Parts(within) => put_laid(within, inner, out),
     }
@@ -227,26 +201,4 @@ fn put_others<'a>(
         }
     }
     Ok(())
-}
-
-// What stands left of a form's own part, and that part, whose numbers behind a dot are split.
-#[cycle(laid)]
-#[tactic(auto, using(crate::proofs::Laying::owns))]
-fn put_back<'a>(kind: Kind, two: &Two<'a>, out: &mut Vec<Piece<'a>>) -> Result<(), AllocError>
-    ensures { OnOk result (map piece_token out.new.items
-        ≡ map piece_token out.old.items ++ (laid two.now.front ++ behind_laid (kind_of kind) two.now.back)) }
-{
-    put_laid(Within::Anywhere, &two.front, out)?;
-    if !is_dotted(kind) {
-        return put_laid(Within::Anywhere, &two.back, out);
-    }
-    let Some(parts) = dotted(&two.back) else {
-        return put_laid(Within::Anywhere, &two.back, out);
-    };
-    put_front_fields(parts.numbers, out)?;
-    if let Some(literal) = last_number(kind, parts.behind) {
-        return put_fields(literal, out);
-    }
-    put_laid(Within::Anywhere, parts.dot, out)?;
-    put_laid(Within::Anywhere, parts.behind, out)
 }

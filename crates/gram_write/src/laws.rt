@@ -1,31 +1,29 @@
 //! Laws of what is written of a tree that was read, in terms of its parts: each is the contract of a function that does
 //! nothing.
 
-ghost use Rattle.binding_laws.specs.Bare.{bare, HasPlainRanges};
 ghost use Rattle.gram_write.specs.Firsts.{firsts_said};
 ghost use Rattle.gram_write.specs.Laid.{laid};
-ghost use Rattle.gram_write.specs.Plain.{IsPlain};
-ghost use Rattle.gram_write.specs.Ranges.{NoRangeHasAttributes, own_position};
+ghost use Rattle.gram_write.specs.Formed.{IsFormed, own_position};
 ghost use Rattle.gram_write.specs.Said.{bare_impl_said, is_quiet, is_unnamed, own_said, said, said_form};
 ghost use Rattle.proc_macro2.specs.Token.{Ident, Literal, Punct, Token};
+ghost use Rattle.gram_write.specs.Turns.{apart_where, is_set_apart};
+ghost use Rattle.range_laws.specs.Shelled.{enclosed_if, goes_in, is_shelled};
 ghost use Rattle.rust_leaf.specs.declared.punct.Spacing.TheVariants.{Alone as Apart};
 ghost use Rattle.rust_leaf.specs.declared.punct.Spacing.{Spacing};
 ghost use Rattle.std.specs.Prelude.{◌≡◌, ℕ, Bool, cond, codes, false, true, List, [], ◌∷◌, ◌++◌, Some};
 ghost use Rattle.syn_grammar.specs.Derives.{Derives};
-ghost use Rattle.syn_grammar.specs.Forms.{front, is_range};
 ghost use Rattle.syn_grammar.specs.Gram.{ref};
-ghost use Rattle.syn_grammar.specs.Kept.{attributed, kept};
-ghost use Rattle.syn_grammar.specs.Kind.{AnArgument, AnImpl, Arguments, AStatement, ATypeAlias, BoundsColon};
-ghost use Rattle.syn_grammar.specs.Kind.{Expression, ExprAttributed};
-ghost use Rattle.syn_grammar.specs.Kind.{GenericParams, Generics, InCondition, Index, InStatement, Kind, LifetimeColon};
+ghost use Rattle.syn_grammar.specs.Kept.{kept};
+ghost use Rattle.syn_grammar.specs.Kind.{AnArgument, AnImpl, Arguments, ATypeAlias, BoundsColon};
+ghost use Rattle.syn_grammar.specs.Kind.{Expression};
+ghost use Rattle.syn_grammar.specs.Kind.{GenericParams, Generics, InCondition, Index, Kind, LifetimeColon};
 ghost use Rattle.syn_grammar.specs.Kind.{Member};
 ghost use Rattle.syn_grammar.specs.Kind.{Parameter, Place, Plain, Position, Where};
 ghost use Rattle.syn_grammar.specs.Look.{sees};
 ghost use Rattle.syn_grammar.specs.Name.{Part, the_arguments, the_lifetime, the_unnamed};
-ghost use Rattle.syn_grammar.specs.Normal.{formed, normal_in, passed};
+ghost use Rattle.syn_grammar.specs.Normal.{normal_in, passed};
 ghost use Rattle.syn_grammar.specs.Part.{has};
 ghost use Rattle.syn_grammar.specs.Say.{brace};
-ghost use Rattle.syn_grammar.specs.Table.{table};
 ghost use Rattle.syn_grammar.specs.Tidy.{is_bare_colon, is_bare_generics, is_bare_where, is_lifetime_param};
 ghost use Rattle.syn_grammar.specs.Tidy.{is_lifetime_argument, keeps_generics};
 ghost use Rattle.syn_grammar.specs.Tree.{Again, ALiteral, Alone, AMark, Back, Called, First, flat, Front, Infix, Node};
@@ -75,45 +73,36 @@ pub fn parts_stay()
     ensures { (n : Part) (p : Position) (x : Tree) → has n (normal_in p (kept x)) ≡ has n x }
 {}
 
-/// The forms of an expression, where no operand is put in parentheses: numbers behind a dot are split.
+/// The forms of an expression: a range behind attributes is put in parentheses, and a left operand where the form
+/// behind it would go in. Numbers behind a dot are split.
 pub fn forms()
     ensures atom { (k : Kind) (y : Tree) → said_form (Alone k y) ≡ said Plain y }
-    ensures prefix { (k : Kind) (y x : Tree) → said_form (Front k y x) ≡ said Plain y ++ said_form x }
-    ensures postfix { (l : Tree) (k : Kind) (y : Tree) → said_form (Back l k y) ≡ said_form l ++ own_said k y }
+    ensures prefix { (k : Kind) (y x : Tree)
+        → said_form (Front k y x) ≡ said Plain y ++ enclosed_if (is_shelled k x) (said_form x) }
+    ensures postfix { (l : Tree) (k : Kind) (y : Tree)
+        → said_form (Back l k y) ≡ enclosed_if (goes_in k l) (said_form l) ++ own_said k y }
     ensures between { (l : Tree) (k : Kind) (y r : Tree)
-        → said_form (Infix l k y r) ≡ said_form l ++ (said Plain y ++ said_form r) }
+        → said_form (Infix l k y r) ≡ enclosed_if (goes_in k l) (said_form l) ++ (said Plain y ++ said_form r) }
 {}
 
-/// Of a plain tree elements stand one behind the other, an expression and a statement are written as they stand, and a
-/// type's definition, whose where clause is moved, too; the generics of an impl are removed where they are bare.
-pub fn plain_trees()
-    ensures elements { (p : Position) (x y : Tree) → IsPlain p (Again x y) → said p (Again x y) ≡ said p x ++ said p y }
-    ensures expression { (p q : Position) (x : Tree) → IsPlain p (Node (Expression q) (Whole x))
+/// Of what was read, at every depth: elements stand one behind the other, and a raw item's last mark is set apart
+/// before a parenthesis that is added; expressions are written by their forms, and a type's definition, whose where
+/// clause is moved, as it stands; the generics of an impl are removed where they are bare.
+pub fn formed_trees()
+    ensures elements { (p : Position) (x y : Tree) → IsFormed p (Again x y)
+        → said p (Again x y) ≡ apart_where (is_set_apart x y) (said p x) ++ said p y }
+    ensures expression { (p q : Position) (x : Tree) → IsFormed p (Node (Expression q) (Whole x))
         → said p (Node (Expression q) (Whole x)) ≡ said_form x }
-    ensures statement { (p : Position) (x : Tree) → IsPlain p (Node AStatement x)
-        → said p (Node AStatement x) ≡ said Plain x }
-    ensures alias { (p : Position) (s : Place) (x : Tree) → IsPlain p (Node (ATypeAlias s) x)
+    ensures alias { (p : Position) (s : Place) (x : Tree) → IsFormed p (Node (ATypeAlias s) x)
         → said p (Node (ATypeAlias s) x) ≡ said Plain x }
-    ensures block { (p : Position) (x : Tree) → IsPlain p (Node AnImpl x)
+    ensures block { (p : Position) (x : Tree) → IsFormed p (Node AnImpl x)
         → said p (Node AnImpl x) ≡ cond (keeps_generics (normal_in Plain (kept x))) (said Plain x) (bare_impl_said x) }
 {}
 
-/// The attributes in front of a statement's expression, which are given to its leftmost operand, add no parentheses, if
-/// it is no range.
-pub fn attributes_given()
-    ensures { (x : Tree) (rest : List Token) (a : Tree)
-        → Derives (Node (Expression InStatement) (Whole x)) (ref (Expression InStatement)) rest
-        → is_range x ≡ false → HasPlainRanges x → Derives a (table ExprAttributed) (flat x ++ rest)
-        → front InStatement (flat a ++ (flat x ++ rest)) ≡ Some ExprAttributed
-        → formed InStatement [] (attributed (kept a) (kept x)) ≡ bare (attributed (kept a) (kept x)) }
-{}
-
-/// What was read is plain, in the position that its kind has by itself, if no range in it has attributes in front of
-/// it; behind a condition stands a brace.
-pub fn plain_read()
+/// What was read is so formed, in the position that its kind has by itself; behind a condition stands a brace.
+pub fn formed_read()
     ensures { (k : Kind) (x : Tree) (rest : List Token) → Derives x (ref k) rest
-        → (k ≡ Expression InCondition → sees brace rest ≡ true) → NoRangeHasAttributes x
-        → IsPlain (own_position k) x }
+        → (k ≡ Expression InCondition → sees brace rest ≡ true) → IsFormed (own_position k) x }
 {}
 
 /// Lifetimes are written first among arguments in angles; an argument is a lifetime if that was its first choice.
@@ -134,7 +123,7 @@ pub fn arguments()
         → is_lifetime_argument (normal_in Plain (kept (Node AnArgument (Second x)))) ≡ false }
 {}
 
-/// Of a plain tree, at every depth, what is written is said in terms of what was read alone.
+/// At every depth, what is written is said in terms of what was read alone.
 pub fn laid_trees()
-    ensures { (p : Position) (x : Tree) → IsPlain p x → said p x ≡ laid x }
+    ensures { (p : Position) (x : Tree) → IsFormed p x → said p x ≡ laid x }
 {}

@@ -1,18 +1,19 @@
-//! Writing the normal form of what was read: laws of what is written, and the writer of plain trees, of which no
-//! operand is put in parentheses.
+//! Writing the normal form of what was read: laws of what is written, and the writer.
 //!
 //! `specs/Said` has the tokens of the normal form of what is kept, `specs/Firsts` those of a list whose lifetimes come
-//! first, `specs/Plain` the trees of which no operand is put in parentheses, and `specs/Ranges` those in which no range
-//! has attributes. `specs/Laid` has the tokens of the normal form of a plain tree, in terms of what was read;
-//! `specs/Seen` what is seen in a tree for that, and `specs/Way` the ways in which its nodes and parts are written.
+//! first, `specs/Formed` what of a tree that was read its normal form stands on, and `specs/Turns` where among
+//! statements a raw item's last mark is set apart. `specs/Laid` has the tokens of the normal form of what was read, in
+//! terms of what was read; `specs/Seen` and `specs/Operands` what is seen in a tree for that, and `specs/Way` the ways
+//! in which its nodes and parts are written. Which operands are put in parentheses is said in `range_laws`.
 //!
-//! In `proofs/`, in this order: `Dots` (numbers behind dots), `OfKinds` and `Bare` (kinds one by one), `Lifetimes` and
-//! `Impls` (arguments that are lifetimes, and impls that keep their generics, are seen in what was read), `Row`
-//! (parameters and arguments), `Stand` (plain trees), `Given` (the attributes of a statement), `Fits` and `Begin`
-//! (where expressions stand in an entry, and what statements begin with), `Read` (what was read is plain), `LaidTrees`
-//! (what is laid of plain trees); `Pushing` and `Flat` (tokens that are put), `Sizes` (trees are larger than what
-//! stands in them), `Indices` (numbers in texts), `SeenForms` and `WayForms` (what is seen, and the ways, by the forms
-//! of trees), and `Laying` (what is laid of each form).
+//! In `proofs/`, in this order: `Dots` (numbers behind dots, and forms), `OfKinds` and `Bare` (kinds one by one),
+//! `Lifetimes` and `Impls` (arguments that are lifetimes, and impls that keep their generics, are seen in what was
+//! read), `Row` (parameters and arguments), `Stand` (elements, expressions and statements), `Fits` (where expressions
+//! stand in an entry), `Apart` (raw items among statements), `Read` (what was read is formed), `LaidTrees` (what is laid
+//! of it); `Pushing` and `Flat` (tokens that are put), `Sizes` (trees are larger than what stands in them), `Indices`
+//! (numbers in texts), `SeenForms`, `WayForms` and `Operands` (what is seen, and the ways, by the forms of trees),
+//! `Shells`, `Opening` and `Begins` (parentheses that are added, and that stood there), and `Laying`, `Expressing` and
+//! `Apartness` (what is laid of each form, of expressions and of turns).
 //!
 //! - `laws`: what is written of each form and of each kind, in terms of its parts.
 //! - `put`: tokens that are put behind those that are to be written.
@@ -20,17 +21,29 @@
 //! - `fields`: numbers of fields, and those behind a dot.
 //! - `seen`: what decides how a part is written.
 //! - `way`: the way in which a node, a part and what stands behind a left operand are written.
+//! - `operand`: forms with an operand before them, and statements that are expressions.
+//! - `shell`: which operands are put in parentheses.
+//! - `begun`: whether what was read begins with a parenthesis.
+//! - `opened`: whether an expression or a statement begins with one that is added.
 //! - `within`: where a tree stands in what is laid.
-//! - `laid`: the tokens of the normal form of a plain tree.
+//! - `laid`: the tokens of the normal form of what was read.
+//! - `expressed`: those of expressions and statements.
+//! - `turn`: those of turns, of which raw ones are set apart.
 //! - `write`: its normal form.
 #![tactic(auto)]
 
 pub mod as_read;
+mod begun;
+mod expressed;
 mod fields;
 mod laid;
 pub mod laws;
+mod opened;
+mod operand;
 mod put;
 mod seen;
+mod shell;
+mod turn;
 pub mod way;
 pub mod within;
 pub mod write;

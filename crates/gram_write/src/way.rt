@@ -40,6 +40,8 @@ pub enum Way<'a> {
     Number(&'a Literal),
     /// As a parameter, which may be a type alone.
     Parameter,
+    /// As a statement, whose attributes may be given to its expression.
+    Statement,
     /// As a list of which some elements come first.
     Firsts(Firsts),
     /// As it stands, within such parts.
@@ -122,6 +124,7 @@ pub(crate) fn of_node<'a>(kind: Kind, inner: &Tree<'a>) -> Way<'a>
 {
     match kind {
         Kind::Parameter => Way::Parameter,
+        Kind::AStatement => Way::Statement,
         Kind::Member => of_member(inner),
         Kind::Index => of_index(inner),
         Kind::Where => unless(is_bare_where(inner)),

@@ -1,7 +1,7 @@
 //! Writing the normal form of what was read.
 
 ghost use Rattle.gram_piece.specs.Pieces.{piece_token};
-ghost use Rattle.gram_write.specs.Plain.{IsPlain};
+ghost use Rattle.gram_write.specs.Formed.{IsFormed};
 ghost use Rattle.gram_write.specs.Said.{said};
 ghost use Rattle.std.specs.Prelude.{◌≡◌, ◌++◌, OnOk, map};
 ghost use Rattle.syn_grammar.specs.Kind.{Position};
@@ -13,13 +13,13 @@ use gram_tree::tree::Tree;
 use std::alloc::AllocError;
 
 /// Puts the tokens of the normal form of a tree behind those that are to be written, in any position in which the tree
-/// is plain.
+/// is formed.
 ///
 /// # Errors
 ///
 /// Where there is no memory for more tokens.
 pub fn write<'a>(tree: &Tree<'a>, out: &mut Vec<Piece<'a>>) -> Result<(), AllocError>
-    ensures { OnOk result ((p : Position) → IsPlain p tree.now
+    ensures { OnOk result ((p : Position) → IsFormed p tree.now
         → map piece_token out.new.items ≡ map piece_token out.old.items ++ said p tree.now) }
 {
     put_laid(Within::Anywhere, tree, out)

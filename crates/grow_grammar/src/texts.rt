@@ -55,10 +55,11 @@ const FILES: [&str; 6] = [
     "struct S",
 ];
 
-const STATEMENTS: [&str; 3] = [
+const STATEMENTS: [&str; 4] = [
     "let x : u8 = a + b * - c ; if a { b } else { c } match a { A (x , ..) | B if c => { } }",
     "'a : loop { break 'a b ; } while let A = b { } for a in b { continue ; }",
     "let A = b else { return ; } ; struct S ; f :: < u8 > (a) ; m ! { a }",
+    "fn f () ;# [s] | x | # [a] .. + 1 ; # [a] x .. y",
 ];
 
 const EXPRESSIONS: [&str; 7] = [

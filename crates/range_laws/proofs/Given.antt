@@ -32,7 +32,7 @@ use Rattle.range_laws.proofs.InKept.{lone_kept, goes_given as goes_same}
 use Rattle.range_laws.proofs.Dotted.{dotted_by}
 
 -- levels of forms with a left operand
-infix_level : (k : Kind) (p : Position) (ts : List Token) → is_back k ≡ true → has_right p k ts ≡ true
+pub infix_level : (k : Kind) (p : Position) (ts : List Token) → is_back k ≡ true → has_right p k ts ≡ true
     → (nat_eq (level k) 16 ≡ false) × (takes 15 (level k) ≡ false)
 unfolding has_right level takes
 infix_level ExprStruct p ts b h = cc
@@ -72,7 +72,7 @@ may_postfix : (k : Kind) (l : Tree) → nat_eq (level k) 16 ≡ true → may_be_
 may_postfix ExprStruct l e m = path_postfix l m
 may_postfix k l e m = sym (ap (λ b. cond b (takes_postfix l) (not (is_range l))) e) ∙ m
 
-may_plain : (k : Kind) (l : Tree) → nat_eq (level k) 16 ≡ false → may_be_left k l ≡ not (is_range l)
+pub may_plain : (k : Kind) (l : Tree) → nat_eq (level k) 16 ≡ false → may_be_left k l ≡ not (is_range l)
 unfolding level
 may_plain ExprStruct l e = cc
 may_plain k l e = ap (λ b. cond b (takes_postfix l) (not (is_range l))) e

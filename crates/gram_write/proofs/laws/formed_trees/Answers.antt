@@ -1,11 +1,10 @@
 use Rattle.gram_write.proofs.Stand as Stand
-use Rattle.gram_write.proofs.laws.plain_trees.Goals as goal
+use Rattle.gram_write.proofs.laws.formed_trees.Goals as goal
 
 pub returns : goal.returns
 returns c = record {
   elements = Stand.again_said;
   expression = Stand.whole_said;
-  statement = Stand.statement_said;
   alias = Stand.alias_said;
   block = Stand.impl_said;
 }

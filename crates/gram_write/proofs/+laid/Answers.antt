@@ -1,8 +1,8 @@
-use Rattle.std.specs.Prelude.{Bool, List, [], ◌∷◌, Some, true, false, cond, not}
+use Rattle.std.specs.Prelude.{Bool, List, [], ◌∷◌, OnOk, Some, None, true, false, cond, not}
 use Rattle.std.specs.List.{list_any}
-use Rattle.std.proofs.Common.{arith, ap, sym, rules, ◌≡◌, ◌∙◌, ◌+◌, ◌++◌, drop, map}
+use Rattle.std.proofs.Common.{append_assoc, arith, ap, subst, sym, rules, ◌≡◌, ◌∙◌, ◌+◌, ◌++◌, drop, map}
 use Rattle.std.proofs.lemmas.Result.{on_ok_weaker}
-use denote.Param.Weighed.{at_most, most}
+use denote.Param.Weighed.{most}
 use Rattle.proc_macro2.specs.Token.{Token, Punct}
 use Rattle.rust_leaf.specs.declared.punct.Spacing.TheVariants.{Alone as Apart}
 use Rattle.gram_piece.specs.Pieces.{piece_token}
@@ -17,106 +17,75 @@ use Rattle.syn_grammar.specs.Words.{indices}
 use Rattle.gram_tree.specs.declared.tree.Element.{Element}
 use Rattle.gram_tree.specs.Forms.{elements, tree_of, turns, ending}
 use Rattle.gram_tree.specs.Size.{node_count}
-use Rattle.gram_write.specs.Laid.{behind_laid, firsts_laid, laid, laid_in, others_laid, those_laid}
+use Rattle.gram_write.specs.Laid.{firsts_laid, laid, laid_in, others_laid, those_laid}
 use Rattle.gram_write.specs.Said.{fields, front_fields}
+use Rattle.gram_write.specs.Operands.{giving_of, stated_of}
 use Rattle.gram_write.specs.Way.{dotted_of, is_dotted, last_text, passes, way_laid}
-use Rattle.gram_write.proofs.Laying.{dotted_below, firsts_passing, four_put, others_next, others_skip, three_put}
+use Rattle.gram_write.proofs.Laying.{firsts_passing, four_put, others_next, others_skip}
+use Rattle.gram_write.proofs.Operands.{giving_below, stated_below}
 use Rattle.gram_write.proofs.Sizes.{turns_size, elements_below, tree_size}
-use Rattle.gram_write.proofs.WayForms.{own_number}
-use Rattle.gram_write.proofs.laid.+laid.Goals as goal
-use Rattle.gram_write.proofs.laid.+laid.Goals.{put_others-then-not-passes+in_ok-put_laid+in_ok-separator}
-use Rattle.gram_write.proofs.laid.+laid.Goals.{put_others-else-not-passes}
+use Rattle.gram_write.proofs.WayForms.{own_number, own_undotted}
+use Rattle.gram_write.proofs.+laid.Goals as goal
+use Rattle.gram_write.proofs.+laid.Goals.{laid::put_others-then-not-passes+in_ok-put_laid+in_ok-separator}
+use Rattle.gram_write.proofs.+laid.Goals.{laid::put_others-else-not-passes}
 
 -- what is called is smaller
-pub put_laid-put_turns-requires : goal.put_laid-put_turns-requires
-put_laid-put_turns-requires n c =
+pub laid::put_laid-put_turns-requires : goal.laid::put_laid-put_turns-requires
+laid::put_laid-put_turns-requires n c =
     let same = ap (λ (xs : List Tree). most (λ x. size-Tree x) xs) c.as_slice.ensures.value in
     let view : c.args.tree.now ≡ turns c.in-Turns.turns.items = sym c.tree.view_is ∙ ap tree_of c.in-Turns.is in
     omega (arith, c.decreases, same, turns_size c.in-Turns.turns.items, ap node_count view, tree_size c.args.tree.now)
 
-pub put_laid-put_elements-requires : goal.put_laid-put_elements-requires
-put_laid-put_elements-requires n c =
+pub laid::put_laid-put_elements-requires : goal.laid::put_laid-put_elements-requires
+laid::put_laid-put_elements-requires n c =
     let same = ap (λ (es : List Element). most (λ x. size-Element x) es) c.as_slice-in-Elements.ensures.value in
     let below = elements_below (separator_of c.in-Elements.mark) c.in-Elements.before.items
     (ending (λ b. b.value) c.in-Elements.last) c.args.tree.now (sym c.tree.view_is ∙ ap tree_of c.in-Elements.is) in
     omega (arith, c.decreases, same, below)
 
-pub put_turns-put_laid-requires : goal.put_turns-put_laid-requires
-put_turns-put_laid-requires n c =
-    let below = at_most (λ (x : Tree). size-Tree x) c.args.trees.now c.loop-tree.tree-index c.tree-item.result
-    c.loop-tree-test.true in
-    let same = ap (λ (x : Tree). size-Tree x) c.tree-item.is in
-    omega (arith, c.decreases, same, below)
-
-pub put_firsts-put_those-requires : goal.put_firsts-put_those-requires
-put_firsts-put_those-requires n c =
+pub laid::put_firsts-put_those-requires : goal.laid::put_firsts-put_those-requires
+laid::put_firsts-put_those-requires n c =
     let same = ap (λ (es : List Element). most (λ x. size-Element x) es) c.as_slice-elements.ensures.value in
     let below = elements_below (separator_of c.in-Elements.mark) c.in-Elements.before.items
     (ending (λ b. b.value) c.in-Elements.last) c.args.list.now (sym c.list.view_is ∙ ap tree_of c.in-Elements.is) in
     omega (arith, c.decreases, same, below)
 
-pub put_firsts-put_others-requires : goal.put_firsts-put_others-requires
-put_firsts-put_others-requires n c =
+pub laid::put_firsts-put_others-requires : goal.laid::put_firsts-put_others-requires
+laid::put_firsts-put_others-requires n c =
     let same = ap (λ (es : List Element). most (λ x. size-Element x) es) c.as_slice-elements.ensures.value in
     let below = elements_below (separator_of c.in-Elements.mark) c.in-Elements.before.items
     (ending (λ b. b.value) c.in-Elements.last) c.args.list.now (sym c.list.view_is ∙ ap tree_of c.in-Elements.is) in
     omega (arith, c.decreases, same, below)
 
-pub put_firsts-put_others-requires-then-passes : goal.put_firsts-put_others-requires-then-passes
-put_firsts-put_others-requires-then-passes n c =
+pub laid::put_firsts-put_others-requires-then-passes : goal.laid::put_firsts-put_others-requires-then-passes
+laid::put_firsts-put_others-requires-then-passes n c =
     let same = ap (λ (es : List Element). most (λ x. size-Element x) es) c.as_slice-elements.ensures.value in
     let below = elements_below (separator_of c.in-Elements.mark) c.in-Elements.before.items
     (ending (λ b. b.value) c.in-Elements.last) c.args.list.now (sym c.list.view_is ∙ ap tree_of c.in-Elements.is) in
     omega (arith, c.decreases, same, below)
 
-pub put_firsts-put_others-requires-else-passes : goal.put_firsts-put_others-requires-else-passes
-put_firsts-put_others-requires-else-passes n c =
+pub laid::put_firsts-put_others-requires-else-passes : goal.laid::put_firsts-put_others-requires-else-passes
+laid::put_firsts-put_others-requires-else-passes n c =
     let same = ap (λ (es : List Element). most (λ x. size-Element x) es) c.as_slice-elements.ensures.value in
     let below = elements_below (separator_of c.in-Elements.mark) c.in-Elements.before.items
     (ending (λ b. b.value) c.in-Elements.last) c.args.list.now (sym c.list.view_is ∙ ap tree_of c.in-Elements.is) in
     omega (arith, c.decreases, same, below)
-
-pub put_back-put_laid-requires-3 : goal.put_back-put_laid-requires-3
-put_back-put_laid-requires-3 n c =
-    let dotted : Some (c.in-Some.parts.dot.now, c.in-Some.parts.numbers.now, c.in-Some.parts.behind.now)
-    ≡ dotted_of c.args.two.now.back = search rules in
-    let below = dotted_below c.args.two.now.back c.in-Some.parts.dot.now c.in-Some.parts.numbers.now
-    c.in-Some.parts.behind.now dotted in
-    omega (arith, c.decreases, below.1, tree_size c.args.two.now.back)
 
 -- what is put one behind the other
-pub put_laid-returns-in-Called : goal.put_laid-returns-in-Called
-put_laid-returns-in-Called n c =
+pub laid::put_laid-returns-in-Called : goal.laid::put_laid-returns-in-Called
+laid::put_laid-returns-in-Called n c =
     let way : way_laid c.of_part.result c.in-Called.inner.value
     ≡ laid_in c.args.within (t.Called (part_of c.in-Called.part) c.in-Called.inner.value) = search rules in
     let view : c.args.tree.now ≡ t.Called (part_of c.in-Called.part) c.in-Called.inner.value =
     sym c.tree.view_is ∙ ap tree_of c.in-Called.is in
     let same : c.deref-in-Called-2.result.now ≡ c.in-Called.inner.value = search rules in
-    on_ok_weaker c.put_so.result
-    (λ e. e ∙ ap (λ x. map piece_token c.args.out.now.items ++ way_laid c.of_part.result x) same
-    ∙ ap (λ ts. map piece_token c.args.out.now.items ++ ts) (way ∙ ap (λ x. laid_in c.args.within x) (sym view)))
-    c.put_so.ensures
+    let whole : way_laid c.of_part.result c.deref-in-Called-2.result.now ≡ laid_in c.args.within c.args.tree.now =
+    ap (way_laid c.of_part.result) same ∙ way ∙ ap (λ x. laid_in c.args.within x) (sym view) in
+    subst (λ (ts : List Token). OnOk c.put_so.result (map piece_token c.put_so.new.out.items
+    ≡ map piece_token c.args.out.now.items ++ ts)) whole c.put_so.ensures
 
-pub put_back-returns-in-Some-last_number : goal.put_back-returns-in-Some-last_number
-put_back-returns-in-Some-last_number n c =
-    let is : is_dotted (kind_of c.args.kind) ≡ true = search rules in
-    let dotted : Some (c.in-Some.parts.dot.now, c.in-Some.parts.numbers.now, c.in-Some.parts.behind.now)
-    ≡ dotted_of c.args.two.now.back = search rules in
-    let number : Some (literal_text c.in-Some-last_number.literal.now)
-    ≡ last_text (kind_of c.args.kind) c.in-Some.parts.behind.now = search rules in
-    let own = own_number (kind_of c.args.kind) c.args.two.now.back c.in-Some.parts.dot.now c.in-Some.parts.numbers.now
-    c.in-Some.parts.behind.now (literal_text c.in-Some-last_number.literal.now) is dotted number in
-    on_ok_weaker c.put_fields.result
-    (λ e. three_put (map piece_token c.args.out.now.items) (map piece_token c.put_laid.new.out.items)
-    (map piece_token c.put_front_fields.new.out.items) (map piece_token c.put_fields.new.out.items)
-    (laid c.args.two.now.front) (front_fields c.in-Some.parts.numbers.now)
-    (fields (indices (literal_text c.in-Some-last_number.literal.now)))
-    (behind_laid (kind_of c.args.kind) c.args.two.now.back) c.in_ok-put_laid.ensures c.in_ok-put_front_fields.ensures e
-    own)
-    c.put_fields.ensures
-
-pub put_firsts-returns-in_ok-comma : goal.put_firsts-returns-in_ok-comma
-put_firsts-returns-in_ok-comma n c =
+pub laid::put_firsts-returns-in_ok-comma : goal.laid::put_firsts-returns-in_ok-comma
+laid::put_firsts-returns-in_ok-comma n c =
     let q : Tree → Bool = passes c.args.which in
     let m = separator_of c.in-Elements.mark in
     let es : List Element = c.in-Elements.before.items in
@@ -146,8 +115,8 @@ put_firsts-returns-in_ok-comma n c =
     (ap (firsts_laid q) view ∙ firsts_passing q m es c.in-Some.last.value passing))
     c.put_others-then-passes.ensures
 
-pub put_others-loop-element-preserved : goal.put_others-loop-element-preserved
-put_others-loop-element-preserved n c =
+pub laid::put_others-loop-element-preserved : goal.laid::put_others-loop-element-preserved
+laid::put_others-loop-element-preserved n c =
     let q : Tree → Bool = passes c.args.which in
     let m = separator_of c.args.mark in
     let left : List Token = others_laid q []
@@ -155,7 +124,7 @@ put_others-loop-element-preserved n c =
     let whole : List Token = map piece_token c.args.out.now.items
     ++ others_laid q [] (elements m c.args.before.now t.End) in
     elim c.if-not-passes.branch [
-      | put_others-then-not-passes+in_ok-put_laid+in_ok-separator w ↦
+      | laid::put_others-then-not-passes+in_ok-put_laid+in_ok-separator w ↦
           let fails : q c.element-item.result.tree ≡ false = search rules in
           let same : map piece_token c.if-not-passes.out.items ≡ map piece_token w.separator.new.out.items =
           ap (λ o. map piece_token o.items) w.out-is in
@@ -164,7 +133,7 @@ put_others-loop-element-preserved n c =
           (map piece_token c.loop-element.out.items) whole (map piece_token w.put_laid.new.out.items)
           (map piece_token w.separator.new.out.items) c.loop-element-test.true c.element-item.is fails
           c.loop-element.invariant w.in_ok-put_laid.ensures w.in_ok-separator.ensures
-      | put_others-else-not-passes w ↦
+      | laid::put_others-else-not-passes w ↦
           let passing : q c.element-item.result.tree ≡ true = search rules in
           let same : map piece_token c.if-not-passes.out.items ≡ map piece_token c.loop-element.out.items =
           ap (λ o. map piece_token o.items) w.out-is in
@@ -173,3 +142,58 @@ put_others-loop-element-preserved n c =
           (map piece_token c.loop-element.out.items) whole c.loop-element-test.true c.element-item.is passing
           c.loop-element.invariant
     ]
+
+-- operands, and what stands behind them
+pub expressed::put_front-put_operand-requires : goal.expressed::put_front-put_operand-requires
+expressed::put_front-put_operand-requires n c = omega (arith, c.decreases, tree_size c.args.two.now.back)
+
+pub expressed::put_back-put_operand-requires : goal.expressed::put_back-put_operand-requires
+expressed::put_back-put_operand-requires n c = omega (arith, c.decreases, tree_size c.args.two.now.front)
+
+pub expressed::put_back-put_own-requires : goal.expressed::put_back-put_own-requires
+expressed::put_back-put_own-requires n c = omega (arith, c.decreases, tree_size c.args.two.now.back)
+
+pub expressed::put_infix-put_operand-requires : goal.expressed::put_infix-put_operand-requires
+expressed::put_infix-put_operand-requires n c = omega (arith, c.decreases, tree_size c.args.three.now.left)
+
+pub expressed::put_given-put_given-requires : goal.expressed::put_given-put_given-requires
+expressed::put_given-put_given-requires n c =
+    let given : Some (kind_of c.in-Some.kind, c.in-Some.left.now) ≡ giving_of c.args.tree.now = search rules in
+    let below = giving_below c.args.tree.now (kind_of c.in-Some.kind) c.in-Some.left.now given in
+    omega (arith, c.decreases, below)
+
+pub expressed::put_statement-put_laid-requires-2 : goal.expressed::put_statement-put_laid-requires-2
+expressed::put_statement-put_laid-requires-2 n c =
+    let parts : Some (c.in-Some.parts.before.now, c.in-Some.parts.form.now, c.in-Some.parts.behind.now)
+    ≡ stated_of c.args.inner.now = search rules in
+    let below = stated_below c.args.inner.now c.in-Some.parts.before.now c.in-Some.parts.form.now
+    c.in-Some.parts.behind.now parts in
+    omega (arith, c.decreases, below)
+
+pub expressed::put_own-returns-in_default : goal.expressed::put_own-returns-in_default
+expressed::put_own-returns-in_default n c =
+    let is : is_dotted (kind_of c.args.kind) ≡ true = search rules in
+    let none : None ≡ dotted_of c.args.own.now = search rules in
+    subst (λ (ts : List Token). OnOk c.put_laid-in_default.result (map piece_token c.put_laid-in_default.new.out.items
+    ≡ map piece_token c.args.out.now.items ++ ts))
+    (sym (own_undotted (kind_of c.args.kind) c.args.own.now is none)) c.put_laid-in_default.ensures
+
+pub expressed::put_own-returns-in-Some-last_number : goal.expressed::put_own-returns-in-Some-last_number
+expressed::put_own-returns-in-Some-last_number n c =
+    let is : is_dotted (kind_of c.args.kind) ≡ true = search rules in
+    let dotted : Some (c.in-Some.parts.dot.now, c.in-Some.parts.numbers.now, c.in-Some.parts.behind.now)
+    ≡ dotted_of c.args.own.now = search rules in
+    let number : Some (literal_text c.in-Some-last_number.literal.now)
+    ≡ last_text (kind_of c.args.kind) c.in-Some.parts.behind.now = search rules in
+    let own = own_number (kind_of c.args.kind) c.args.own.now c.in-Some.parts.dot.now c.in-Some.parts.numbers.now
+    c.in-Some.parts.behind.now (literal_text c.in-Some-last_number.literal.now) is dotted number in
+    let fronts : List Token = front_fields c.in-Some.parts.numbers.now in
+    let last : List Token = fields (indices (literal_text c.in-Some-last_number.literal.now)) in
+    let put : OnOk c.put_fields.result (map piece_token c.put_fields.new.out.items
+    ≡ map piece_token c.args.out.now.items ++ (fronts ++ last)) =
+    on_ok_weaker c.put_fields.result
+    (λ e. e ∙ ap (λ ts. ts ++ last) c.in_ok-put_front_fields.ensures
+    ∙ append_assoc (map piece_token c.args.out.now.items) fronts last)
+    c.put_fields.ensures in
+    subst (λ (ts : List Token). OnOk c.put_fields.result (map piece_token c.put_fields.new.out.items
+    ≡ map piece_token c.args.out.now.items ++ ts)) (sym own) put

@@ -1,0 +1,82 @@
+use Rattle.std.specs.Prelude.{false}
+use Rattle.std.proofs.Common.{◌≡◌, ◌+◌, ◌*◌, ◌++◌, [], drop, map}
+use denote.Param.Weighed.{most}
+use Rattle.gram_piece.specs.Pieces.{piece_token}
+use Rattle.gram_table.specs.Ops.{separator_of}
+use Rattle.gram_tree.specs.declared.tree.Tree.TheDeep.{size-Tree}
+use Rattle.gram_tree.specs.Forms.{elements, turns}
+use Rattle.gram_tree.specs.Size.{node_count}
+use Rattle.syn_grammar.specs.Tree as t
+use Rattle.gram_write.specs.Laid.{laid, others_laid, those_laid}
+use Rattle.gram_write.specs.Way.{passes}
+use Rattle.gram_write.proofs.+laid.Given as goal
+
+-- what is left is to stand behind what is put
+abbrev pub invariant-turn::put_turns-loop-index : goal.invariant-turn::put_turns-loop-index
+invariant-turn::put_turns-loop-index l =
+    map piece_token l.out.items ++ laid (turns (drop l.index l.trees))
+    ≡ map piece_token l.initial.out.items ++ laid (turns l.trees)
+
+abbrev pub invariant-laid::put_elements-loop-element : goal.invariant-laid::put_elements-loop-element
+invariant-laid::put_elements-loop-element l =
+    map piece_token l.out.items ++ laid (elements (separator_of l.mark) (drop l.element-index l.before) t.End)
+    ≡ map piece_token l.initial.out.items ++ laid (elements (separator_of l.mark) l.before t.End)
+
+abbrev pub invariant-laid::put_those-loop-element : goal.invariant-laid::put_those-loop-element
+invariant-laid::put_those-loop-element l =
+    map piece_token l.out.items
+    ++ those_laid (passes l.which) false (elements (separator_of l.mark) (drop l.element-index l.before) t.End)
+    ≡ map piece_token l.initial.out.items
+    ++ those_laid (passes l.which) false (elements (separator_of l.mark) l.before t.End)
+
+abbrev pub invariant-laid::put_others-loop-element : goal.invariant-laid::put_others-loop-element
+invariant-laid::put_others-loop-element l =
+    map piece_token l.out.items
+    ++ others_laid (passes l.which) [] (elements (separator_of l.mark) (drop l.element-index l.before) t.End)
+    ≡ map piece_token l.initial.out.items
+    ++ others_laid (passes l.which) [] (elements (separator_of l.mark) l.before t.End)
+
+-- what is handed on is read anew by those that it is handed to
+abbrev pub decreases-turn::put_turns : goal.decreases-turn::put_turns
+decreases-turn::put_turns l = most (λ x. size-Tree x) l.trees.now + 2
+
+abbrev pub decreases-turn::put_turn : goal.decreases-turn::put_turn
+decreases-turn::put_turn l = size-Tree l.turn.now + 1
+
+abbrev pub decreases-laid::put_so : goal.decreases-laid::put_so
+decreases-laid::put_so l = size-Tree l.inner.now + 2
+
+abbrev pub decreases-laid::put_parameter : goal.decreases-laid::put_parameter
+decreases-laid::put_parameter l = size-Tree l.inner.now + 1
+
+abbrev pub decreases-laid::put_firsts : goal.decreases-laid::put_firsts
+decreases-laid::put_firsts l = size-Tree l.list.now + 1
+
+abbrev pub decreases-expressed::put_statement : goal.decreases-expressed::put_statement
+decreases-expressed::put_statement l = size-Tree l.inner.now + 1
+
+abbrev pub decreases-expressed::put_before : goal.decreases-expressed::put_before
+decreases-expressed::put_before l = size-Tree l.before.now + size-Tree l.form.now + 3
+
+abbrev pub decreases-expressed::put_given : goal.decreases-expressed::put_given
+decreases-expressed::put_given l = size-Tree l.attributes.now + size-Tree l.tree.now + 2
+
+abbrev pub decreases-expressed::put_operand : goal.decreases-expressed::put_operand
+decreases-expressed::put_operand l = size-Tree l.tree.now + 1
+
+abbrev pub decreases-expressed::put_own : goal.decreases-expressed::put_own
+decreases-expressed::put_own l = size-Tree l.own.now + 1
+
+abbrev pub decreases-expressed::put_rest : goal.decreases-expressed::put_rest
+decreases-expressed::put_rest l = size-Tree l.tree.now
+
+-- an operand, in parentheses or not, is put by another
+abbrev pub decreases-expressed::put_front : goal.decreases-expressed::put_front
+decreases-expressed::put_front l = 3 * (node_count l.two.now.front + node_count l.two.now.back) + 5
+
+abbrev pub decreases-expressed::put_back : goal.decreases-expressed::put_back
+decreases-expressed::put_back l = 3 * (node_count l.two.now.front + node_count l.two.now.back) + 5
+
+abbrev pub decreases-expressed::put_infix : goal.decreases-expressed::put_infix
+decreases-expressed::put_infix l =
+    3 * (node_count l.three.now.left + node_count l.three.now.own + node_count l.three.now.right) + 5

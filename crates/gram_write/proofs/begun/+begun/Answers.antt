@@ -1,0 +1,26 @@
+use Rattle.std.specs.Prelude.{List, Option, Bool, Some}
+use Rattle.std.proofs.Common.{◌≡◌, arith, ap, sym, ◌∙◌, ◌<◌, ◌+◌, length, get_or, drop, rules}
+use denote.Param.Weighed.{most}
+use Rattle.gram_tree.specs.declared.tree.Tree.TheDeep.{size-Tree}
+use Rattle.syn_grammar.specs.Tree.{Tree, flat}
+use Rattle.gram_tree.specs.Forms.{tree_of, turns}
+use Rattle.gram_write.specs.Turns.{begun, earlier}
+use Rattle.gram_write.proofs.Sizes.{turns_below}
+use Rattle.gram_write.proofs.Begins.{turn_first}
+use Rattle.gram_write.proofs.begun.+begun.Goals as goal
+
+pub begun-begun_turns-requires : goal.begun-begun_turns-requires
+begun-begun_turns-requires t c =
+    let same = ap (λ (xs : List Tree). most (λ x. size-Tree x) xs) c.as_slice.ensures.value in
+    let below = turns_below c.in-Turns.turns.items c.args.tree.now (sym c.tree.view_is ∙ ap tree_of c.in-Turns.is) in
+    omega (arith, c.decreases, same, below)
+
+pub begun_turns-returns-in-Some : goal.begun_turns-returns-in-Some
+begun_turns-returns-in-Some t c =
+    let xs : List Tree = c.args.trees.now in
+    let x : Tree = c.tree-item.result in
+    let h : c.loop-tree.tree-index < length xs = c.loop-tree-test.true in
+    let e : x ≡ get_or xs c.loop-tree.tree-index x = c.tree-item.is in
+    let f : Some c.in-Some.opens ≡ begun (flat x) = search rules in
+    ap (λ (o : Option Bool). earlier o (begun (flat (turns (drop (c.loop-tree.tree-index + 1) xs))))) f
+    ∙ sym (turn_first xs c.loop-tree.tree-index x h e) ∙ c.loop-tree.invariant

@@ -1,0 +1,209 @@
+//! Forms of expressions and statements, with the parentheses that they get.
+
+ghost use Rattle.gram_piece.specs.Pieces.{piece_token};
+ghost use Rattle.gram_table.specs.Kinds.{kind_of};
+ghost use Rattle.gram_write.specs.Laid.{behind_laid, given_laid, has_attributes, laid};
+ghost use Rattle.gram_write.specs.Operands.{rest_laid};
+ghost use Rattle.proc_macro2.specs.Token as token;
+ghost use Rattle.range_laws.specs.Shelled.{enclosed_if, goes_in, is_shelled};
+ghost use Rattle.std.specs.Prelude.{[], ◌++◌, ◌∷◌, ◌≡◌, OnOk, cond, map};
+ghost use Rattle.syn_grammar.specs.Kind.{AStatement};
+ghost use Rattle.syn_grammar.specs.Tree as t;
+
+use crate::fields::{put_fields, put_front_fields};
+use crate::laid::put_laid;
+use crate::operand::{back, giving, has_attributes, infix, stated};
+use crate::put::one;
+use crate::shell::{goes_in, is_lone_range, is_shelled};
+use crate::way::{dotted, is_dotted, last_number};
+use crate::within::Within;
+use gram_piece::piece::Piece;
+use gram_table::kind::Kind;
+use gram_tree::tree::{Three, Tree, Two};
+use proc_macro2::delimiter::Delimiter;
+use std::alloc::AllocError;
+
+// A token, if it is to be put.
+#[tactic(auto, using(crate::proofs::Pushing::puts))]
+fn put_if<'a>(wanted: bool, piece: Piece<'a>, out: &mut Vec<Piece<'a>>) -> Result<(), AllocError>
+    ensures { OnOk result (map piece_token out.new.items
+        ≡ map piece_token out.old.items ++ cond wanted (piece_token piece.entry ∷ []) []) }
+{
+    if wanted { one(piece, out) } else { Ok(()) }
+}
+
+// An operand, in parentheses or not.
+#[cycle(laid)]
+#[tactic(auto, using(crate::proofs::Expressing::operands))]
+fn put_operand<'a>(
+    enclosed: bool,
+    tree: &Tree<'a>,
+    out: &mut Vec<Piece<'a>>,
+) -> Result<(), AllocError>
+    ensures { OnOk result (map piece_token out.new.items
+        ≡ map piece_token out.old.items ++ enclosed_if enclosed (laid tree.now)) }
+{
+    put_if(enclosed, Piece::Open(Delimiter::Parenthesis), out)?;
+    put_laid(Within::Anywhere, tree, out)?;
+    put_if(enclosed, Piece::Close(Delimiter::Parenthesis), out)
+}
+
+/// Puts the tokens of a form with an operand behind it.
+///
+/// # Errors
+///
+/// Where there is no memory for more tokens.
+#[cycle(laid)]
+#[tactic(auto, using(crate::proofs::Pushing::puts))]
+pub(crate) fn put_front<'a>(
+    kind: Kind,
+    two: &Two<'a>,
+    out: &mut Vec<Piece<'a>>,
+) -> Result<(), AllocError>
+    ensures { OnOk result (map piece_token out.new.items ≡ map piece_token out.old.items
+        ++ (laid two.now.front ++ enclosed_if (is_shelled (kind_of kind) two.now.back) (laid two.now.back))) }
+{
+    put_laid(Within::Anywhere, &two.front, out)?;
+    put_operand(is_shelled(kind, &two.back), &two.back, out)
+}
+
+/// Puts the tokens of a form with an operand before it.
+///
+/// # Errors
+///
+/// Where there is no memory for more tokens.
+#[cycle(laid)]
+#[tactic(auto, using(crate::proofs::Pushing::puts))]
+pub(crate) fn put_back<'a>(
+    kind: Kind,
+    two: &Two<'a>,
+    out: &mut Vec<Piece<'a>>,
+) -> Result<(), AllocError>
+    ensures { OnOk result (map piece_token out.new.items ≡ map piece_token out.old.items
+        ++ (enclosed_if (goes_in (kind_of kind) two.now.front) (laid two.now.front)
+        ++ behind_laid (kind_of kind) two.now.back)) }
+{
+    put_operand(goes_in(kind, &two.front), &two.front, out)?;
+    put_own(kind, &two.back, out)
+}
+
+// The own part of a form behind its left operand, whose numbers behind a dot are split.
+#[cycle(laid)]
+#[tactic(auto, using(crate::proofs::Laying::owns))]
+fn put_own<'a>(kind: Kind, own: &Tree<'a>, out: &mut Vec<Piece<'a>>) -> Result<(), AllocError>
+    ensures { OnOk result (map piece_token out.new.items
+        ≡ map piece_token out.old.items ++ behind_laid (kind_of kind) own.now) }
+{
+    if !is_dotted(kind) {
+        return put_laid(Within::Anywhere, own, out);
+    }
+    let Some(parts) = dotted(own) else {
+        return put_laid(Within::Anywhere, own, out);
+    };
+    put_front_fields(parts.numbers, out)?;
+    if let Some(literal) = last_number(kind, parts.behind) {
+        return put_fields(literal, out);
+    }
+    put_laid(Within::Anywhere, parts.dot, out)?;
+    put_laid(Within::Anywhere, parts.behind, out)
+}
+
+/// Puts the tokens of an infix form.
+///
+/// # Errors
+///
+/// Where there is no memory for more tokens.
+#[cycle(laid)]
+#[tactic(auto, using(crate::proofs::Pushing::puts))]
+pub(crate) fn put_infix<'a>(
+    kind: Kind,
+    three: &Three<'a>,
+    out: &mut Vec<Piece<'a>>,
+) -> Result<(), AllocError>
+    ensures { OnOk result (map piece_token out.new.items ≡ map piece_token out.old.items
+        ++ (enclosed_if (goes_in (kind_of kind) three.now.left) (laid three.now.left)
+        ++ (laid three.now.own ++ laid three.now.right))) }
+{
+    put_operand(goes_in(kind, &three.left), &three.left, out)?;
+    put_laid(Within::Anywhere, &three.own, out)?;
+    put_laid(Within::Anywhere, &three.right, out)
+}
+
+// What stands behind a left operand.
+#[cycle(laid)]
+#[tactic(auto, using(crate::proofs::Expressing::rests))]
+fn put_rest<'a>(tree: &Tree<'a>, out: &mut Vec<Piece<'a>>) -> Result<(), AllocError>
+    ensures { OnOk result (map piece_token out.new.items
+        ≡ map piece_token out.old.items ++ rest_laid tree.now) }
+{
+    if let Some((_, three)) = infix(tree) {
+        put_laid(Within::Anywhere, &three.own, out)?;
+        return put_laid(Within::Anywhere, &three.right, out);
+    }
+    match back(tree) {
+        Some((_, two)) => put_laid(Within::Anywhere, &two.back, out),
+        None => Ok(()),
+    }
+}
+
+// An expression with attributes, which are given to the leftmost operand; a range gets parentheses behind them.
+#[cycle(laid)]
+#[tactic(auto, using(crate::proofs::Expressing::gives))]
+fn put_given<'a>(
+    attributes: &Tree<'a>,
+    tree: &Tree<'a>,
+    out: &mut Vec<Piece<'a>>,
+) -> Result<(), AllocError>
+    ensures { OnOk result (map piece_token out.new.items
+        ≡ map piece_token out.old.items ++ given_laid (laid attributes.now) (laid tree.now) tree.now) }
+{
+    let Some((kind, left)) = giving(tree) else {
+        put_laid(Within::Anywhere, attributes, out)?;
+        return put_operand(is_lone_range(tree), tree, out);
+    };
+    let enclosed = goes_in(kind, left);
+    put_if(enclosed, Piece::Open(Delimiter::Parenthesis), out)?;
+    put_given(attributes, left, out)?;
+    put_if(enclosed, Piece::Close(Delimiter::Parenthesis), out)?;
+    put_rest(tree, out)
+}
+
+// An expression behind what stands before it in a statement.
+#[cycle(laid)]
+#[tactic(auto, using(crate::proofs::Pushing::puts))]
+fn put_before<'a>(
+    before: &Tree<'a>,
+    form: &Tree<'a>,
+    out: &mut Vec<Piece<'a>>,
+) -> Result<(), AllocError>
+    ensures { OnOk result (map piece_token out.new.items ≡ map piece_token out.old.items
+        ++ cond (has_attributes before.now) (given_laid (laid before.now) (laid form.now) form.now)
+        (laid before.now ++ laid form.now)) }
+{
+    if has_attributes(before) {
+        return put_given(before, form, out);
+    }
+    put_laid(Within::Anywhere, before, out)?;
+    put_laid(Within::Anywhere, form, out)
+}
+
+/// Puts the tokens of a statement, whose attributes are given to its expression.
+///
+/// # Errors
+///
+/// Where there is no memory for more tokens.
+#[cycle(laid)]
+#[tactic(auto, using(crate::proofs::Expressing::statements))]
+pub(crate) fn put_statement<'a>(
+    inner: &Tree<'a>,
+    out: &mut Vec<Piece<'a>>,
+) -> Result<(), AllocError>
+    ensures { OnOk result (map piece_token out.new.items
+        ≡ map piece_token out.old.items ++ laid (t.Node AStatement inner.now)) }
+{
+    let Some(parts) = stated(inner) else {
+        return put_laid(Within::Anywhere, inner, out);
+    };
+    put_before(parts.before, parts.form, out)?;
+    put_laid(Within::Anywhere, parts.behind, out)
+}
