@@ -1,5 +1,6 @@
 #!/usr/bin/env python3
-"""Writes the stored texts of files as rows of crates/canon_rows, each with its stored answer.
+"""Writes the stored texts as rows of crates/canon_rows (whole files) and crates/syn_rows (forms of other kinds), each
+with its stored answer.
 
   rows.py            writes them behind the other rows of stdin and stdout
   rows.py --check    sees whether they stand there already
@@ -7,19 +8,16 @@
 import glob
 import os
 import sys
-import threading
 
 sys.dont_write_bytecode = True
-from lexer import Lexical, lex
-from reading import Refused, Table, chain
 from run import HERE, stored, wanted_of
 
 CRATES = os.path.join(HERE, '..', '..', 'crates')
-ROWS = os.path.join(CRATES, 'canon_rows')
-HEAD = '# The stored texts of tests/grammar that are whole files (rows.py there writes these rows).\n'
+FILES = '# The stored texts of tests/grammar that are whole files (rows.py there writes these rows).\n'
+FORMS = '# The stored texts of tests/grammar that are forms of other kinds (rows.py there writes these rows).\n'
 
-# What is said of a text whose normal form is not written yet.
-RANGE = 'a range with attributes in front of it is not written yet'
+# Asked elsewhere: names of files, and expressions that are built by hand.
+OTHERS = ('outline', 'built')
 
 
 def row(text):
@@ -27,44 +25,39 @@ def row(text):
     return '«' + ''.join(c if ' ' <= c <= '~' else f'⟨{ord(c):X}⟩' for c in text) + '»'
 
 
-def has_attributed_range(table, source):
-    """Whether the definitions find a range with attributes in front of it in the file that a text is."""
-    try:
-        tree, rest = table.kind(('AFile',), chain(lex(source)))
-    except (Lexical, Refused):
-        return False
-    found = table.world.get('Rattle.gram_read.specs.Ranges', 'has_attributed_range')(tree)
-    return not rest.n and found in (True, ('true',))
-
-
-def answer(table, source, stored_answer):
-    """What is wanted of a text, by its stored answer."""
+def file_answer(stored_answer):
+    """What is wanted of a file, by its stored answer."""
     wanted = wanted_of(stored_answer)
-    if wanted is None or wanted[2]:
+    return 'refused' if wanted is None or wanted[2] else row(wanted[0])
+
+
+def form_answer(stored_answer):
+    """What is wanted of a form: what it is written as, and what is left behind it."""
+    wanted = wanted_of(stored_answer)
+    if wanted is None:
         return 'refused'
-    return RANGE if has_attributed_range(table, source) else row(wanted[0])
+    return row(wanted[0]) + (' // ' + row(wanted[2]) if wanted[2] else '')
 
 
-def rows():
-    """The questions, and the questions with their answers."""
-    table, asked = Table(CRATES), {}
+def rows(passes, answer):
+    """The questions of the kinds that pass, and the questions with their answers."""
+    asked = {}
     for path in sorted(glob.glob(os.path.join(HERE, 'texts', '*.txt'))):
         for _, kind, source, stored_answer in stored(path):
-            if kind == 'file':
-                asked.setdefault(source, stored_answer)
-    questions = [f'file {row(source)}\n' for source in asked]
-    answers = [f'{question[:-1]} = {answer(table, source, asked[source])}\n'
-               for question, source in zip(questions, asked)]
-    return questions, answers
+            if passes(kind):
+                asked.setdefault(f'{kind} {row(source)}', answer(stored_answer))
+    return [f'{question}\n' for question in asked], [f'{question} = {asked[question]}\n' for question in asked]
 
 
-def main(args):
+def put(crate, head, lists, is_check):
+    """Writes rows behind those that stand in a crate above the heading, or sees whether they stand there."""
     off = 0
-    for name, lines in zip(('stdin', 'stdout'), rows()):
-        path = os.path.join(ROWS, name)
+    for name, lines in zip(('stdin', 'stdout'), lists):
+        path = os.path.join(CRATES, crate, name)
         old = open(path, encoding='utf8').read()
-        new = old.partition('\n' + HEAD)[0].rstrip('\n') + '\n\n' + HEAD + ''.join(lines)
-        if args[:1] != ['--check']:
+        own = old.partition(head)[0].rstrip('\n')
+        new = (own + '\n\n' if own else '') + head + ''.join(lines)
+        if not is_check:
             open(path, 'w', encoding='utf8').write(new)
         elif old != new:
             print(f'{path} has other rows')
@@ -72,11 +65,12 @@ def main(args):
     return off
 
 
+def main(args):
+    is_check = args[:1] == ['--check']
+    files = rows(lambda kind: kind == 'file', file_answer)
+    forms = rows(lambda kind: kind != 'file' and kind not in OTHERS, form_answer)
+    return put('canon_rows', FILES, files, is_check) or put('syn_rows', FORMS, forms, is_check)
+
+
 if __name__ == '__main__':
-    sys.setrecursionlimit(1000000)
-    threading.stack_size(512 * 1024 * 1024)
-    status = []
-    worker = threading.Thread(target=lambda: status.append(main(sys.argv[1:])))
-    worker.start()
-    worker.join()
-    sys.exit(status[0] if status else 1)
+    sys.exit(main(sys.argv[1:]))

@@ -1,0 +1,105 @@
+//! Answers a table of texts, each by a form of the kind that its row names: the printed normal form, with what is left
+//! behind it, or that the text is refused. What is wanted comes from the rules, and stands beside the questions in
+//! `stdout`.
+#![tactic(auto)]
+
+mod kinds;
+
+use crate::kinds::kind_of;
+use anyhow::{Result, anyhow};
+use gram_piece::piece::Piece;
+use gram_piece::print::print;
+use gram_write::write::write as put;
+use rows::{Row, Table, answered, write};
+use std::alloc::Global;
+use std::io::{Read, Write};
+use syn::parse::parse_front;
+use syn::{Kind, ParseFault, SourceMap, TokenBuffer, TokenStream, Tree};
+use syn_buffer::entry::Entry;
+
+struct Forms;
+
+impl Table for Forms {
+    fn answer(&self, alloc: Global, row: &Row) -> Result<String> {
+        let kind = kind_of(row.call).ok_or(anyhow!("no such kind"))?;
+        match read_form(alloc, kind, row.text.as_str())? {
+            Some(form) => told(alloc, kind, &form),
+            None => Ok(String::from_str(alloc, "refused")?),
+        }
+    }
+}
+
+// What a text begins with, as its normal form is printed, and what is left behind it.
+#[derive(Drop)]
+struct Formed {
+    written: String,
+    left: String,
+}
+
+// The printed normal form of a tree.
+fn normal(alloc: Global, tree: &Tree) -> Result<String> {
+    let mut pieces = Vec::new(alloc);
+    put(tree, &mut pieces)?;
+    Ok(print(alloc, pieces.as_slice())?)
+}
+
+// The print of tokens that are left.
+fn left_over(alloc: Global, entries: &[Entry]) -> Result<String> {
+    let mut pieces = Vec::new(alloc);
+    for entry in entries {
+        pieces.push(Piece::of(entry))?;
+    }
+    Ok(print(alloc, pieces.as_slice())?)
+}
+
+// What is said of a fault: that the tokens begin with no such form, unless memory was refused.
+fn unread(fault: ParseFault) -> Result<Option<Formed>> {
+    match fault {
+        ParseFault::Syntax(_) => Ok(None),
+        ParseFault::Memory => Err(anyhow!("out of memory")),
+    }
+}
+
+// What the tokens of a buffer begin with as a form of a kind, if they do.
+fn front_form(alloc: Global, kind: Kind, buffer: &TokenBuffer) -> Result<Option<Formed>> {
+    let (tree, rest) = match parse_front(alloc, kind, buffer) {
+        Ok(found) => found,
+        Err(fault) => return unread(fault),
+    };
+    Ok(Some(Formed {
+        written: normal(alloc, &tree)?,
+        left: left_over(alloc, rest)?,
+    }))
+}
+
+// What is read of a text as a form of a kind, unless the text is refused.
+fn read_form(alloc: Global, kind: Kind, text: &str) -> Result<Option<Formed>> {
+    let Ok(stream) = TokenStream::from_str(alloc, text, &mut SourceMap::new(alloc)) else {
+        return Ok(None);
+    };
+    let buffer = TokenBuffer::new2(alloc, &stream, 1)?;
+    front_form(alloc, kind, &buffer)
+}
+
+// What is said of a form: it is its own normal form, where nothing is left behind it.
+fn told(alloc: Global, kind: Kind, form: &Formed) -> Result<String> {
+    let mut said = write(alloc, form.written.as_str())?;
+    if !form.left.is_empty() {
+        said.push_str(" // ")?;
+        said.push_str(write(alloc, form.left.as_str())?.as_str())?;
+        return Ok(said);
+    }
+    match read_form(alloc, kind, form.written.as_str())? {
+        Some(again) if again.left.is_empty() && again.written.as_str() == form.written.as_str() =>
+            Ok(said),
+        _ => Ok(String::from_str(alloc, "not its own")?),
+    }
+}
+
+fn main(rt: HostRuntime) -> Result<()> {
+    let mut lines = String::new(rt.alloc());
+    rt.reader().read_to_string(&mut lines)?;
+    let answers = answered(rt.alloc(), &Forms, lines.as_str())?;
+    rt.stdout().write_all(answers.as_bytes())?;
+    Ok(())
+}
