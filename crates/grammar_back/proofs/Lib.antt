@@ -58,6 +58,7 @@ pub mod Lets
 pub mod Turns
 pub mod Arms
 pub mod NamedMacros
+pub mod InFront
 pub mod Statements
 pub mod StatementLists
 pub mod Impls

@@ -16,7 +16,8 @@ use Rattle.grammar_back.specs.After.{After, EndsStatement, EndsThere, expression
 use Rattle.syn_grammar.specs.Forms.{ends_there}
 use Rattle.grammar_back.specs.Sees.{LacksAll}
 use Rattle.grammar_back.proofs.Ends.{closed_kept, ends_back}
-use Rattle.grammar_back.proofs.Statements.{at_expression, contrary, held_form, held_open, is_macro_statement}
+use Rattle.grammar_back.proofs.InFront.{ends_given, given_to}
+use Rattle.grammar_back.proofs.Statements.{at_expression, contrary, held_form, is_macro_statement, open_as}
 use Rattle.grammar_back.proofs.Statements.{open_fits, open_kept}
 use Rattle.grammar_back.proofs.StatementLists.{ends_of, macro_ends}
 use Rattle.syn_grammar.specs.Kept.{as_statement, held}
@@ -67,12 +68,12 @@ no_condition (Expression InStatement) p e = cc
 no_condition _ p e = cc
 
 -- what may follow a statement as it is held
-is_ended : (x : Tree) (s : List Token) → Fits (Whole x) (table (Expression InStatement))
-    → EndsStatement (at_expression (held_form (kept x)) (Second Nil)) s
+is_ended : (a x : Tree) (s : List Token) → Fits (Whole x) (table (Expression InStatement))
+    → EndsStatement (at_expression (held_form (given_to a (kept x))) (Second Nil)) s
     → EndsThere InStatement (Node (Expression InStatement) (Whole x)) s × LacksAll (marks ";" ∷ []) s
 unfolding table
-is_ended x s f (inl e) = cc e
-is_ended x s f (inr e) = ((ends_back InStatement x f.2 e.0.0, e.0.1), e.1)
+is_ended a x s f (inl e) = cc e
+is_ended a x s f (inr e) = ((ends_back InStatement x f.2 (ends_given a (kept x) e.0.0), e.0.1), e.1)
 
 call_ended : (w : Tree) (s : List Token) → Fits w (table AStatement) → is_statement_form w ≡ true → is_open w ≡ true
     → is_macro_statement w ≡ true → EndsStatement (as_statement (kept w)) s
@@ -97,11 +98,11 @@ ends_printed w s f n h = go (is_open w) (is_macro_statement w) refl refl
     go true true o i = ends_of w s f (inr (call_ended w s f n o i h))
     go true false o i =
         let p = open_fits w f n o i in
-        let e : EndsStatement (at_expression (held_form (kept p.form)) (Second Nil)) s =
-        subst (λ z. EndsStatement z s) (held_open (kept p.form))
+        let e : EndsStatement (at_expression (held_form (given_to (kept p.front) (kept p.form))) (Second Nil)) s =
+        subst (λ z. EndsStatement z s) (open_as p.front p.form p.attributes)
         (subst (λ z. EndsStatement (as_statement (kept z)) s) p.is h) in
         ends_of w s f (inr (subst (λ z. EndsThere InStatement (expression_of z) s × LacksAll (marks ";" ∷ []) s)
-        (sym p.is) (is_ended p.form s p.fits e)))
+        (sym p.is) (is_ended (kept p.front) p.form s p.fits e)))
 
 statement_printed : (w : Tree) (s : List Token) → Fits w (ref AStatement) → After AStatement (kept w) s
     → After AStatement w s

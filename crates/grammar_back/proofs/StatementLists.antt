@@ -240,7 +240,7 @@ pub macro_ends : (x : Tree) → Fits x (table AStatement) → is_statement_form 
     → ends_there InStatement (whole (expression_of x)) ≡ true
 macro_ends x f n = each_form (λ y. is_macro_statement y ≡ true → ends_there InStatement (whole (expression_of y)) ≡ true)
     (λ k l o y s g h c. h) (λ k l o y c. absurd (contrary c)) (λ y g i c. absurd (contrary c))
-    (λ y c. absurd (contrary c)) (λ y s g h c. absurd (contrary c)) x f n
+    (λ y c. absurd (contrary c)) (λ a y s i g h c. absurd (contrary c)) x f n
 
 pub ends_of : (x : Tree) (ts : List Token) → Fits x (table AStatement)
     → (is_open x ≡ false) ⊎ (EndsThere InStatement (expression_of x) ts × LacksAll (marks ";" ∷ []) ts)
@@ -285,7 +285,7 @@ open_ends x ts f n o h i = go (is_macro_statement x) refl
         let p = open_fits x f n o c in
         let g : ends_there InStatement p.form ≡ true =
         needs_not (ends_there InStatement p.form)
-        (sym (open_needs p.form) ∙ ap (λ z. needs_semicolon (Node AStatement z)) (sym p.is) ∙ h) in
+        (sym (open_needs p.front p.form) ∙ ap (λ z. needs_semicolon (Node AStatement z)) (sym p.is) ∙ h) in
         ends_of x ts f (inr (subst (λ z. EndsThere InStatement (expression_of z) ts) (sym p.is) (g, e.0), e.1))
 
 at_end : (x : Tree) (ts : List Token) → ts ≡ [] → After AStatement x ts

@@ -1,8 +1,9 @@
 -- Statements: their law, and of what is printed for one whether it needs its ; , and whether it is open: an expression
 -- or a macro without it.
-use Rattle.std.proofs.Common.{[], ap, List, refl, subst, sym, ◌++◌, ◌∙◌, ◌∷◌, ◌≡◌}
-use Rattle.std.specs.Prelude.{Bool, cond, false, not, true, ◌&&◌}
+use Rattle.std.proofs.Common.{[], ap, append_assoc, List, refl, subst, sym, ◌++◌, ◌∙◌, ◌∷◌, ◌≡◌}
+use Rattle.std.specs.Prelude.{Bool, cond, false, not, true, ◌&&◌, ◌||◌}
 use Rattle.proc_macro2.specs.Token.{Closes, Ident, Literal, Opens, Punct, Token}
+use Rattle.proc_macro2.specs.declared.delimiter.Delimiter.TheVariants.{Parenthesis}
 use Rattle.rust_leaf.specs.declared.punct.Spacing.TheVariants.{Alone as Apart, Joint}
 use Rattle.syn_grammar.specs.Kind.{AnItem, AStatement, Expression, ExprMacro, InStatement, Kind, OuterAttributes}
 use Rattle.syn_grammar.specs.Kind.{Plain, Position}
@@ -13,27 +14,37 @@ use Rattle.syn_grammar.specs.Part.{choice}
 use Rattle.syn_grammar.specs.Gram.{Gram, ref}
 use Rattle.syn_grammar.specs.Say.{marks, optional, sign, when◌read◌else◌, ◌∶◌, ◌▸◌}
 use Rattle.syn_grammar.specs.Statements.{needs_semicolon, statement}
-use Rattle.syn_grammar.specs.Forms.{ends_there, form_of, inside, is_brace_macro}
+use Rattle.syn_grammar.specs.Forms.{ends_there, form_of, front, has_right, inside, is_brace_macro, is_range, level}
 use Rattle.syn_grammar.specs.Table.{table}
 use Rattle.syn_grammar.specs.Derives.{Derives}
-use Rattle.syn_grammar.specs.Kept.{as_statement, held, is_macro, is_there, kept, own_part}
-use Rattle.syn_grammar.specs.Normal.{apart, apart_if, apart_item, formed, normal, normal_in, passed, place_of}
+use Rattle.syn_grammar.specs.Kept.{as_statement, attributed, held, is_macro, is_there, kept, own_part}
+use Rattle.syn_grammar.specs.Normal.{apart, apart_if, apart_item, formed, is_enclosed, normal, normal_in, passed}
+use Rattle.syn_grammar.specs.Normal.{place_of}
 use Rattle.syn_grammar.specs.Normal.{stands_behind}
-use Rattle.syn_grammar.specs.Parens.{begins_in, follow, may_lack, parens_unless, stands_in, takes_what_follows}
+use Rattle.syn_grammar.specs.Parens.{begins_in, follow, in_parens, may_lack, parens_unless, stands_in}
+use Rattle.syn_grammar.specs.Parens.{takes_what_follows}
 use Rattle.syn_grammar.specs.Parens.{with_left, with_right}
 use Rattle.syn_grammar.proofs.Settled.{normal_twice}
 use Rattle.grammar_back.specs.After.{expression_of, is_open}
 use Rattle.grammar_back.specs.Covered.{all_covered, ends_apart, has_form_step, has_step, is_bare_front, is_begun}
 use Rattle.grammar_back.specs.Covered.{is_expression_form, is_known, is_macro_form, is_no_macro, is_plain_expression}
-use Rattle.grammar_back.specs.Covered.{is_statement_form, is_statement_item, item_of}
+use Rattle.grammar_back.specs.Covered.{is_statement_form, is_statement_item, item_of, takes_attributes}
 use Rattle.grammar_back.proofs.Choices.{both_true, is_false}
-use Rattle.grammar_back.proofs.Ends.{ends_back, ends_read, macro_read, own_back}
+use Rattle.grammar_back.proofs.Ends.{ends_back, macro_read, own_back}
 use Rattle.grammar_back.proofs.Fits.{Fits, is_open_turn, IsMeant}
+use Rattle.grammar_back.proofs.InFront.{attribute_apart, attributes_fit, attributes_kept, attributes_normal}
+use Rattle.grammar_back.proofs.InFront.{attributes_read, ends_given, given_ends, given_flat, given_to, is_attributes}
+use Rattle.grammar_back.proofs.InFront.{enclosed, is_ranged, settled_inside, takes_formed}
 use Rattle.grammar_back.proofs.NamedMacros.{named_law}
 use Rattle.grammar_back.proofs.Lets.{at_item, item_law, Law, let_printed}
-use Rattle.grammar_back.proofs.Printed.{IsPlaced, KindLaw, Printed, simple_law, TurnLaw}
+use Rattle.grammar_back.proofs.Printed.{IsPlaced, KindLaw, Printed, simple_law, TurnLaw, unmoved_if}
 
--- a statement that is an expression with nothing in front
+-- a statement that is an expression behind attributes, or with nothing in front
+abbrev pub in_front : Tree → Tree → Tree → Tree
+in_front a e s =
+    Second (Second (Second (Second (Pair (Called the_attributes (Node OuterAttributes a))
+    (Pair (Called the_expression e) s)))))
+
 abbrev pub none : Tree
 none = Node OuterAttributes End
 
@@ -44,76 +55,95 @@ at_expression e s =
 abbrev pub held_form : Tree → Tree
 held_form x = Node (Expression Plain) (Whole x)
 
+pub contrary : false ≡ true → ⊥
+contrary e = cc
+
 -- A macro's call with ; is held as a macro, whether it is in normal form or not.
 unless_macro : (b : Bool) (x : Tree) → is_macro x ≡ false → is_macro (parens_unless b x) ≡ false
 unless_macro true x e = e
 unless_macro false x e = refl
 
-record SameMacro (x : Tree) : Type 0 where
-  same : is_macro (formed InStatement [] x) ≡ is_macro x
-  own : is_macro x ≡ true → own_part (formed InStatement [] x) ≡ normal (own_part x)
+record SameMacro (x v : Tree) : Type 0 where
+  same : is_macro v ≡ is_macro x
+  own : is_macro x ≡ true → own_part v ≡ normal (own_part x)
 
-no_macro : (x : Tree) → is_macro x ≡ false → is_macro (formed InStatement [] x) ≡ false → SameMacro x
-no_macro x e f = record { same = f ∙ sym e; own = λ h. absurd (go (sym h ∙ e)) }
+no_macro : (x v : Tree) → is_macro x ≡ false → is_macro v ≡ false → SameMacro x v
+no_macro x v e f = record { same = f ∙ sym e; own = λ h. absurd (go (sym h ∙ e)) }
   where
     go : true ≡ false → ⊥
     go i = cc i
 
-same_macro : (x : Tree) → SameMacro x
+same_macro : (x : Tree) → SameMacro x (formed InStatement [] x)
 unfolding may_lack
 same_macro (Alone ExprMacro y) = record { same = refl; own = λ h. refl }
 same_macro (Alone k y) =
-    no_macro (Alone k y) refl
+    no_macro (Alone k y) _ refl
     (unless_macro (not (takes_what_follows InStatement k [])) (Alone k (normal_in Plain y)) refl)
 same_macro (Front k y x) =
-    no_macro (Front k y x) refl
+    no_macro (Front k y x) _ refl
     (unless_macro (begins_in InStatement k)
     (Front k (normal_in Plain y) (with_right InStatement k (normal_in Plain y) (formed (inside InStatement k) [] x)))
     refl)
 same_macro (Back l k y) =
     let own : Tree = normal_in Plain y in
-    no_macro (Back l k y) refl
+    no_macro (Back l k y) _ refl
     (unless_macro (stands_in InStatement k && not (takes_what_follows InStatement k []))
     (Back (with_left InStatement k own (formed InStatement (follow (flat own)) l)) k own) refl)
-same_macro (Infix l k y r) = no_macro (Infix l k y r) refl refl
-same_macro x = no_macro x refl refl
+same_macro (Infix l k y r) = no_macro (Infix l k y r) _ refl refl
+same_macro x = no_macro x x refl refl
 
 there_same : (x : Tree) → is_there (normal x) ≡ is_there x
 there_same (First x) = refl
 there_same _ = refl
 
--- what is held of a statement in normal form
-commutes : (x s : Tree)
-    → as_statement (normal (at_expression (held_form x) s)) ≡ normal (as_statement (at_expression (held_form x) s))
+-- what is held of a statement: its macro, or its expression, which has taken what stands in front
+abbrev held_macro : Tree → Tree → Tree → Tree
+held_macro a y s = Second (First (Pair (Node OuterAttributes a) (Pair y s)))
+
+abbrev held_in_front : Tree → Tree → Tree → Tree
+held_in_front a x s =
+    cond (is_macro x && is_there s) (held_macro a (own_part x) s) (at_expression (held_form (given_to a x)) s)
+
+is_held : (a x s : Tree) → is_attributes a ≡ true → as_statement (in_front a (held_form x) s) ≡ held_in_front a x s
+is_held End x s e = refl
+is_held (Again t b) x s e = refl
+is_held _ x s e = absurd (contrary e)
+
+-- and in normal form, where the attributes are given to what stands for the expression there
+commutes : (a x v s : Tree) → SameMacro x v → given_to (normal a) v ≡ formed InStatement [] (given_to a x)
+    → held_in_front (normal a) v (normal s) ≡ normal (held_in_front a x s)
 unfolding place_of passed stands_behind
-commutes x s =
-    let m = same_macro x in
-    go (is_macro x) (is_there s) (is_macro (formed InStatement [] x)) (is_there (normal s)) refl m.own m.same
-    (there_same s)
+commutes a x v s m g =
+    go (is_macro x) (is_there s) (is_macro v) (is_there (normal s)) refl m.own m.same (there_same s)
   where
-    go : (b c d f : Bool) → is_macro x ≡ b
-        → (is_macro x ≡ true → own_part (formed InStatement [] x) ≡ normal (own_part x)) → d ≡ b → f ≡ c
-        → cond (d && f) (Second (First (Pair none (Pair (own_part (formed InStatement [] x)) (normal s)))))
-        (at_expression (held_form (formed InStatement [] x)) (normal s))
-        ≡ normal (cond (b && c) (Second (First (Pair none (Pair (own_part x) s)))) (at_expression (held_form x) s))
-    go true true true true e o i j = ap (λ y. Second (First (Pair none (Pair y (normal s))))) (o e)
-    go true false true false e o i j = refl
-    go false c false f e o i j = refl
+    go : (b c d f : Bool) → is_macro x ≡ b → (is_macro x ≡ true → own_part v ≡ normal (own_part x)) → d ≡ b → f ≡ c
+        → cond (d && f) (held_macro (normal a) (own_part v) (normal s))
+        (at_expression (held_form (given_to (normal a) v)) (normal s))
+        ≡ normal (cond (b && c) (held_macro a (own_part x) s) (at_expression (held_form (given_to a x)) s))
+    go true true true true e o i j = ap (λ y. held_macro (normal a) y (normal s)) (o e)
+    go true false true false e o i j = ap (λ z. at_expression (held_form z) (normal s)) g
+    go false c false f e o i j = ap (λ z. at_expression (held_form z) (normal s)) g
     go true true true false e o i j = cc j
     go true false true true e o i j = cc j
     go true c false f e o i j = cc i
     go false c true f e o i j = cc i
 
-held_flat : (x s : Tree) → flat (as_statement (at_expression (held_form x) s)) ≡ flat (at_expression (held_form x) s)
-held_flat (Alone ExprMacro y) s = go (is_there s)
+-- its tokens
+macro_flat : (a x s : Tree) → is_macro x ≡ true → flat (held_macro a (own_part x) s) ≡ flat a ++ (flat x ++ flat s)
+macro_flat a (Alone ExprMacro y) s e = refl
+macro_flat a (Alone _ y) s e = absurd (contrary e)
+macro_flat a _ s e = absurd (contrary e)
+
+held_flat : (a x s : Tree) → is_attributes a ≡ true
+    → flat (held_in_front a x s) ≡ flat (in_front a (held_form x) s)
+held_flat a x s i = go (is_macro x) (is_there s) refl
   where
-    go : (b : Bool) → flat (cond b (Second (First (Pair none (Pair y s))))
-        (at_expression (held_form (Alone ExprMacro y)) s))
-        ≡ flat (at_expression (held_form (Alone ExprMacro y)) s)
-    go true = refl
-    go false = refl
-held_flat (Alone _ y) s = refl
-held_flat _ s = refl
+    go : (b c : Bool) → is_macro x ≡ b
+        → flat (cond (b && c) (held_macro a (own_part x) s) (at_expression (held_form (given_to a x)) s))
+        ≡ flat a ++ (flat x ++ flat s)
+    go true true e = macro_flat a x s e
+    go true false e = ap (λ ts. ts ++ flat s) (given_flat a x i) ∙ append_assoc (flat a) (flat x) (flat s)
+    go false c e = ap (λ ts. ts ++ flat s) (given_flat a x i) ∙ append_assoc (flat a) (flat x) (flat s)
 
 -- as it is printed
 bare_back : (b : Tree) → Fits b (ref OuterAttributes) → kept b ≡ none → is_bare_front b ≡ true
@@ -136,43 +166,66 @@ abbrev front_of : Tree → Tree
 front_of (Second (Second (Second (Second (Pair (Called n a) y))))) = a
 front_of x = x
 
-expression_printed : (x s w : Tree) → Fits w statement
-    → kept w ≡ normal (at_expression (held_form x) s)
-    → is_plain_expression (normal_in InStatement (held_form x)) ≡ true → is_statement_form w ≡ true
-unfolding place_of passed stands_behind
-expression_printed x s (Second (Second (Second (Second (Pair (Called n b) (Pair (Called m g) t)))))) f e o =
-    let a : is_bare_front b ≡ true = bare_back b f.1.1.1.1.0.1 (ap front_of e) in
+or_back : (b c : Bool) → c ≡ true → (b || c) ≡ true
+or_back true c e = refl
+or_back false c e = e
+
+abbrev takes_front : Tree → Tree → Bool
+takes_front a e = is_bare_front a || takes_attributes e
+
+front_back : (a x b g : Tree) → Fits b (ref OuterAttributes) → kept b ≡ Node OuterAttributes (normal a)
+    → kept g ≡ held_form (formed InStatement [] x) → takes_front (Node OuterAttributes a) (held_form x) ≡ true
+    → takes_front b (kept g) ≡ true
+front_back End x b g f e i v = ap (λ c. c || takes_attributes (kept g)) (bare_back b f e)
+front_back _ x b g f e i v =
+    or_back (is_bare_front b) (takes_attributes (kept g)) (ap takes_attributes i ∙ takes_formed x)
+
+takes_kept : (a e : Tree) → is_attributes a ≡ true → takes_front (Node OuterAttributes a) e ≡ true
+    → takes_front (Node OuterAttributes (kept a)) e ≡ true
+takes_kept End e i o = refl
+takes_kept (Again t b) e i o = o
+takes_kept _ e i o = absurd (contrary i)
+
+expression_printed : (a x s w : Tree) → Fits w statement
+    → kept w ≡ in_front (normal a) (held_form (formed InStatement [] x)) (normal s)
+    → is_plain_expression (normal_in InStatement (held_form x)) ≡ true
+    → takes_front (Node OuterAttributes a) (held_form x) ≡ true → is_statement_form w ≡ true
+unfolding passed stands_behind
+expression_printed a x s (Second (Second (Second (Second (Pair (Called n b) (Pair (Called m g) t)))))) f e o v =
     let i : kept g ≡ normal_in InStatement (held_form x) = ap expression_of e in
-    ap (λ c. c && is_plain_expression (normal_in InStatement (kept g))) a
-    ∙ ap (λ z. is_plain_expression (normal_in InStatement z)) i
-    ∙ ap is_plain_expression (normal_twice InStatement (held_form x)) ∙ o
-expression_printed x s (Second (Second (Second (Second (Pair (Called n b) (Pair _ t)))))) f e o = absurd f.1.1.1.1.1.0
-expression_printed x s (Second (Second (Second (Second (Pair (Called n b) _))))) f e o = absurd f.1.1.1.1.1
-expression_printed x s (Second (Second (Second (Second (Pair _ y))))) f e o = absurd f.1.1.1.1.0
-expression_printed x s (Second (Second (Second (Second _)))) f e o = absurd f.1.1.1.1
-expression_printed x s (Second (Second (Second (First w)))) f e o = let g : false ≡ true = ap is_fourth e in cc g
-expression_printed x s (Second (Second (Second _))) f e o = absurd f.1.1.1
-expression_printed x s (Second (Second (First w))) f e o = let g : false ≡ true = ap is_fourth e in cc g
-expression_printed x s (Second (Second _)) f e o = absurd f.1.1
-expression_printed x s (Second (First w)) f e o = let g : false ≡ true = ap is_fourth e in cc g
-expression_printed x s (Second _) f e o = absurd f.1
-expression_printed x s (First w) f e o = let g : false ≡ true = ap is_fourth e in cc g
-expression_printed x s _ f e o = absurd f
+    let u : takes_front b (kept g) ≡ true = front_back a x b g f.1.1.1.1.0.1 (ap front_of e) i v in
+    ap (λ c. c && takes_front b (kept g))
+    (ap (λ z. is_plain_expression (normal_in InStatement z)) i
+    ∙ ap is_plain_expression (normal_twice InStatement (held_form x)) ∙ o) ∙ u
+expression_printed a x s (Second (Second (Second (Second (Pair (Called n b) (Pair _ t)))))) f e o v =
+    absurd f.1.1.1.1.1.0
+expression_printed a x s (Second (Second (Second (Second (Pair (Called n b) _))))) f e o v = absurd f.1.1.1.1.1
+expression_printed a x s (Second (Second (Second (Second (Pair _ y))))) f e o v = absurd f.1.1.1.1.0
+expression_printed a x s (Second (Second (Second (Second _)))) f e o v = absurd f.1.1.1.1
+expression_printed a x s (Second (Second (Second (First w)))) f e o v = absurd (contrary (ap is_fourth e))
+expression_printed a x s (Second (Second (Second _))) f e o v = absurd f.1.1.1
+expression_printed a x s (Second (Second (First w))) f e o v = absurd (contrary (ap is_fourth e))
+expression_printed a x s (Second (Second _)) f e o v = absurd f.1.1
+expression_printed a x s (Second (First w)) f e o v = absurd (contrary (ap is_fourth e))
+expression_printed a x s (Second _) f e o v = absurd f.1
+expression_printed a x s (First w) f e o v = absurd (contrary (ap is_fourth e))
+expression_printed a x s _ f e o v = absurd f
 
 -- what was read
-pub contrary : false ≡ true → ⊥
-contrary e = cc
-
-record IsExpression (x : Tree) : Type 0 where
+record IsExpression (x : Tree) (r : List Token) : Type 0 where
+  front : Tree
   form : Tree
   semicolon : Tree
-  is : x ≡ at_expression (Node (Expression InStatement) (Whole form)) semicolon
+  is : x ≡ in_front front (Node (Expression InStatement) (Whole form)) semicolon
+  attributes : Derives front (table OuterAttributes) ((flat form ++ flat semicolon) ++ r)
+  derived : Derives (Whole form) (table (Expression InStatement)) (flat semicolon ++ r)
   plain : is_plain_expression (normal_in InStatement (held_form (kept form))) ≡ true
+  takes : takes_front (Node OuterAttributes front) (held_form (kept form)) ≡ true
 
 form_read : (y : Tree) (ts : List Token) → Derives y (table (Expression InStatement)) ts
-    → (x : Tree) × (y ≡ Whole x)
+    → (x : Tree) × (y ≡ Whole x) × Derives (Whole x) (table (Expression InStatement)) ts
 unfolding table
-form_read (Whole x) ts d = (x, refl)
+form_read (Whole x) ts d = (x, refl, d)
 form_read _ ts d = absurd d
 
 form_fits : (y : Tree) → Fits y (table (Expression InStatement))
@@ -185,63 +238,265 @@ form_fits _ f = absurd f
 abbrev pub with_names : Part → Tree → Part → Tree → Tree → Tree
 with_names n a m e s = Second (Second (Second (Second (Pair (Called n a) (Pair (Called m e) s)))))
 
-parts_are : (n m : Part) (k l : Kind) (x y s : Tree) → n ≡ the_attributes → k ≡ OuterAttributes → m ≡ the_expression
+parts_are : (n m : Part) (k l : Kind) (a x y s : Tree) → n ≡ the_attributes → k ≡ OuterAttributes → m ≡ the_expression
     → l ≡ Expression InStatement → y ≡ Whole x
-    → with_names n (Node k End) m (Node l y) s ≡ at_expression (Node (Expression InStatement) (Whole x)) s
-parts_are n m k l x y s e f g h i =
-    ap (λ j. with_names j (Node k End) m (Node l y) s) e
-    ∙ ap (λ j. with_names the_attributes (Node j End) m (Node l y) s) f
-    ∙ ap (λ j. with_names the_attributes none j (Node l y) s) g
-    ∙ ap (λ j. at_expression (Node j y) s) h
-    ∙ ap (λ z. at_expression (Node (Expression InStatement) z) s) i
+    → with_names n (Node k a) m (Node l y) s ≡ in_front a (Node (Expression InStatement) (Whole x)) s
+parts_are n m k l a x y s e f g h i =
+    ap (λ j. with_names j (Node k a) m (Node l y) s) e
+    ∙ ap (λ j. with_names the_attributes (Node j a) m (Node l y) s) f
+    ∙ ap (λ j. with_names the_attributes (Node OuterAttributes a) j (Node l y) s) g
+    ∙ ap (λ j. in_front a (Node j y) s) h
+    ∙ ap (λ z. in_front a (Node (Expression InStatement) z) s) i
 
-plain_form : (l : Kind) (x y : Tree) → l ≡ Expression InStatement → y ≡ Whole x
-    → is_plain_expression (normal_in InStatement (kept (Node l y))) ≡ true
-    → is_plain_expression (normal_in InStatement (held_form (kept x))) ≡ true
+held_as : (l : Kind) (x y : Tree) → l ≡ Expression InStatement → y ≡ Whole x
+    → kept (Node l y) ≡ held_form (kept x)
 unfolding held
-plain_form l x y e f o =
-    subst (λ z. is_plain_expression (normal_in InStatement (kept (Node (Expression InStatement) z))) ≡ true) f
-    (subst (λ j. is_plain_expression (normal_in InStatement (kept (Node j y))) ≡ true) e o)
+held_as l x y e f = ap (λ j. kept (Node j y)) e ∙ ap (λ z. kept (Node (Expression InStatement) z)) f
+
+-- its expression is plain, and takes what stands in front
+abbrev IsTaken : Tree → Tree → Type 0
+IsTaken a e = (is_plain_expression (normal_in InStatement e) ≡ true) × (takes_front a e ≡ true)
+
+taken_form : (k l : Kind) (a x y : Tree) → k ≡ OuterAttributes → l ≡ Expression InStatement → y ≡ Whole x
+    → (is_plain_expression (normal_in InStatement (kept (Node l y))) && takes_front (Node k a) (kept (Node l y)))
+    ≡ true → IsTaken (Node OuterAttributes a) (held_form (kept x))
+taken_form k l a x y e f g o =
+    subst (λ j. IsTaken (Node j a) (held_form (kept x))) e
+    (subst (IsTaken (Node k a)) (held_as l x y f g)
+    (both_true (is_plain_expression (normal_in InStatement (kept (Node l y))))
+    (takes_front (Node k a) (kept (Node l y))) o))
 
 is_read : (y : Tree) (r : List Token)
     → Derives y (the_attributes ∶ ref OuterAttributes ▸ the_expression ∶ ref (Expression InStatement)
     ▸ optional (marks ";") (the_semicolon ∶ sign ";")) r → is_expression_form y ≡ true
-    → IsExpression (Second (Second (Second (Second y))))
-is_read (Pair (Called n (Node k End)) (Pair (Called m (Node l y)) s)) r d o =
+    → IsExpression (Second (Second (Second (Second y)))) r
+is_read (Pair (Called n (Node k a)) (Pair (Called m (Node l y)) s)) r d o =
     let w = form_read y (flat s ++ r) (subst (λ j. Derives y (table j) (flat s ++ r)) d.1.0.1.0 d.1.0.1.1) in
+    let h = taken_form k l a w.0 y d.0.1.0 d.1.0.1.0 w.1 o in
     record {
+      front = a;
       form = w.0;
       semicolon = s;
-      is = parts_are n m k l w.0 y s d.0.0 d.0.1.0 d.1.0.0 d.1.0.1.0 w.1;
-      plain = plain_form l w.0 y d.1.0.1.0 w.1 o;
+      is = parts_are n m k l a w.0 y s d.0.0 d.0.1.0 d.1.0.0 d.1.0.1.0 w.1;
+      attributes = subst (λ z. Derives a (table OuterAttributes) ((flat z ++ flat s) ++ r)) w.1
+          (subst (λ j. Derives a (table j) ((flat y ++ flat s) ++ r)) d.0.1.0 d.0.1.1);
+      derived = w.2;
+      plain = h.0;
+      takes = h.1;
     }
-is_read (Pair (Called n (Node k End)) (Pair (Called m _) s)) r d o = absurd d.1.0.1
-is_read (Pair (Called n (Node k End)) (Pair _ s)) r d o = absurd d.1.0
-is_read (Pair (Called n (Node k End)) _) r d o = absurd d.1
-is_read (Pair (Called n _) (Pair (Called m y) s)) r d o = absurd (contrary o)
-is_read (Pair (Called n _) (Pair _ s)) r d o = absurd d.1.0
-is_read (Pair (Called n _) _) r d o = absurd d.1
+is_read (Pair (Called n (Node k a)) (Pair (Called m _) s)) r d o = absurd d.1.0.1
+is_read (Pair (Called n (Node k a)) (Pair _ s)) r d o = absurd d.1.0
+is_read (Pair (Called n (Node k a)) _) r d o = absurd d.1
+is_read (Pair (Called n _) y) r d o = absurd d.0.1
 is_read (Pair _ y) r d o = absurd d.0
 is_read _ r d o = absurd d
 
-expression_law : (q : Position) (x : Tree) (r : List Token) → IsExpression x → Law q r x
-unfolding held passed has_step has_form_step place_of stands_behind table
-expression_law q x r h =
-    subst (Law q r) (sym h.is)
-    (λ o d i.
-    let u : Tree = at_expression (held_form (kept h.form)) (kept h.semicolon) in
+-- what fits: an expression by its parts
+pub record FitsExpression (x : Tree) : Type 0 where
+  pub front : Tree
+  pub form : Tree
+  pub semicolon : Tree
+  pub is : x ≡ in_front front (Node (Expression InStatement) (Whole form)) semicolon
+  pub attributes : Fits (Node OuterAttributes front) (ref OuterAttributes)
+  pub fits : Fits (Whole form) (table (Expression InStatement))
+  pub ended : Fits semicolon (optional (marks ";") (the_semicolon ∶ sign ";"))
+  pub plain : is_plain_expression (normal_in InStatement (held_form (kept form))) ≡ true
+
+pub fits_expression : (y : Tree) → Fits y (the_attributes ∶ ref OuterAttributes
+    ▸ the_expression ∶ ref (Expression InStatement) ▸ optional (marks ";") (the_semicolon ∶ sign ";"))
+    → is_expression_form y ≡ true → FitsExpression (Second (Second (Second (Second y))))
+fits_expression (Pair (Called n (Node k a)) (Pair (Called m (Node l y)) s)) f o =
+    let w = form_fits y (subst (λ j. Fits y (table j)) f.1.0.1.0 f.1.0.1.3) in
     record {
-      tree = Node AStatement i.tree;
+      front = a;
+      form = w.0;
+      semicolon = s;
+      is = parts_are n m k l a w.0 y s f.0.0 f.0.1.0 f.1.0.0 f.1.0.1.0 w.1;
+      attributes = subst (λ j. Fits (Node j a) (ref OuterAttributes)) f.0.1.0 f.0.1;
+      fits = w.2;
+      ended = f.1.1;
+      plain = (taken_form k l a w.0 y f.0.1.0 f.1.0.1.0 w.1 o).0;
+    }
+fits_expression (Pair (Called n (Node k a)) (Pair (Called m _) s)) f o = absurd f.1.0.1
+fits_expression (Pair (Called n (Node k a)) (Pair _ s)) f o = absurd f.1.0
+fits_expression (Pair (Called n (Node k a)) _) f o = absurd f.1
+fits_expression (Pair (Called n _) y) f o = absurd f.0.1
+fits_expression (Pair _ y) f o = absurd f.0
+fits_expression _ f o = absurd f
+
+-- Attributes that stand in front of an expression which takes them stand there in its normal form: they are given to
+-- it as it is in normal form, a range in parentheses.
+abbrev pub GivenLaw : Type 0
+GivenLaw =
+    (t b x : Tree) (r : List Token) → Derives (Again t b) (table OuterAttributes) (flat x ++ r)
+    → Derives (Whole x) (table (Expression InStatement)) r → takes_attributes (held_form (kept x)) ≡ true
+    → formed InStatement [] (attributed (Pair (kept t) (Node OuterAttributes (kept b))) (kept x))
+    ≡ attributed (Pair (normal (kept t)) (Node OuterAttributes (normal (kept b))))
+    (enclosed (is_range (kept x)) (formed InStatement [] (kept x)))
+
+given_formed : GivenLaw → (a x s : Tree) (r : List Token) → Derives a (table OuterAttributes) ((flat x ++ flat s) ++ r)
+    → Derives (Whole x) (table (Expression InStatement)) (flat s ++ r)
+    → takes_front (Node OuterAttributes a) (held_form (kept x)) ≡ true
+    → given_to (normal (kept a)) (enclosed (is_ranged (kept a) (kept x)) (formed InStatement [] (kept x)))
+    ≡ formed InStatement [] (given_to (kept a) (kept x))
+unfolding table
+given_formed g End x s r d e o = refl
+given_formed g (Again t b) x s r d e o =
+    ap (λ z. attributed (Pair z (Node OuterAttributes (normal (kept b))))
+    (enclosed (is_range (kept x)) (formed InStatement [] (kept x))))
+    (unmoved_if (is_enclosed (kept b) (normal (kept b))) (normal (kept t)) (attribute_apart t _ d.1))
+    ∙ sym (g t b x (flat s ++ r)
+    (subst (Derives (Again t b) (table OuterAttributes)) (append_assoc (flat x) (flat s) r) d) e o)
+given_formed g _ x s r d e o = absurd d
+
+-- what is printed for one: a form stands in it for the expression
+record Stands (a x s : Tree) : Type 0 where
+  tree : Tree
+  form : Tree
+  fits : Fits tree statement
+  kept_is : kept tree ≡ in_front (normal a) (held_form form) (normal s)
+  macro : SameMacro x form
+  gives : given_to (normal a) form ≡ formed InStatement [] (given_to a x)
+  meant : is_statement_form tree ≡ true
+
+stands_held : (a x s : Tree) (h : Stands a x s) → is_attributes a ≡ true
+    → as_statement (kept h.tree) ≡ held_in_front (normal a) h.form (normal s)
+stands_held a x s h e = ap as_statement h.kept_is ∙ is_held (normal a) h.form (normal s) (attributes_normal a e)
+
+stands_printed : (q : Position) (a x s : Tree) → Stands a x s → is_attributes a ≡ true
+    → Printed (ref AStatement) (normal_in q (Node AStatement (as_statement (in_front a (held_form x) s))))
+unfolding passed has_step has_form_step table held
+stands_printed q a x s h e =
+    let v = stands_held a x s h e in
+    record {
+      tree = Node AStatement h.tree;
       fits = (
         refl,
         refl,
-        subst (λ z. flat (as_statement z) ≡ flat z) (sym i.kept_is)
-            (held_flat (formed InStatement [] (kept h.form)) (normal (kept h.semicolon))),
-        i.fits,
-        expression_printed (kept h.form) (kept h.semicolon) i.tree i.fits i.kept_is h.plain,
+        ap flat v ∙ held_flat (normal a) h.form (normal s) (attributes_normal a e) ∙ sym (ap flat h.kept_is),
+        h.fits,
+        h.meant,
       );
-      kept_is = ap (Node AStatement) (ap as_statement i.kept_is ∙ commutes (kept h.form) (kept h.semicolon));
-    })
+      kept_is = ap (Node AStatement)
+          (v ∙ commutes a x h.form s h.macro h.gives ∙ ap normal (sym (is_held a x s e)));
+    }
+
+-- a range in parentheses
+fourth_fits : (w : Tree) → Fits w statement → is_fourth (kept w) ≡ true → is_statement_form w ≡ true → FitsExpression w
+fourth_fits (Second (Second (Second (Second y)))) f i o = fits_expression y f.1.1.1.1 o
+fourth_fits (Second (Second (Second (First w)))) f i o = absurd (contrary i)
+fourth_fits (Second (Second (Second _))) f i o = absurd f.1.1.1
+fourth_fits (Second (Second (First w))) f i o = absurd (contrary i)
+fourth_fits (Second (Second _)) f i o = absurd f.1.1
+fourth_fits (Second (First w)) f i o = absurd (contrary i)
+fourth_fits (Second _) f i o = absurd f.1
+fourth_fits (First w) f i o = absurd (contrary i)
+fourth_fits _ f i o = absurd f
+
+range_macro : (a x u : Tree) → is_ranged a x ≡ true → SameMacro x (in_parens u)
+unfolding level
+range_macro (Again t b) (Alone ExprMacro y) u e = absurd (contrary e)
+range_macro (Again t b) (Alone k y) u e = no_macro (Alone k y) (in_parens u) refl refl
+range_macro (Again t b) x u e = no_macro x (in_parens u) refl refl
+range_macro _ x u e = absurd (contrary e)
+
+parens_fit : (x : Tree) → Fits (Whole x) (table (Expression InStatement)) → formed Plain [] (kept x) ≡ kept x
+    → Fits (Node (Expression InStatement) (Whole (in_parens x))) (ref (Expression InStatement))
+unfolding table held passed stands_behind has_step has_form_step may_lack level has_right front
+parens_fit x f e = (
+  refl,
+  refl,
+  refl,
+  (
+    refl,
+    ap in_parens e,
+    (refl, (refl, (refl, refl, refl, (refl, e, f.2, f.3), tt)), tt),
+    ((refl, Plain, Opens Parenthesis ∷ [], refl), refl, refl),
+  ),
+  tt,
+)
+
+parens_meant : (a x s : Tree)
+    → is_statement_form (in_front a (Node (Expression InStatement) (Whole (in_parens x))) s) ≡ true
+unfolding held passed stands_behind may_lack
+parens_meant a x s = or_back (is_bare_front (Node OuterAttributes a)) true refl
+
+abbrev attributes_of : Tree → Tree
+attributes_of (Second (Second (Second (Second (Pair (Called n (Node k a)) y))))) = a
+attributes_of x = x
+
+abbrev semicolon_of : Tree → Tree
+semicolon_of (Second (Second (Second (Second (Pair a (Pair e s)))))) = s
+semicolon_of x = x
+
+parts_same : (a b x y s t : Tree) → a ≡ b → x ≡ y → s ≡ t
+    → in_front a (held_form (in_parens x)) s ≡ in_front b (held_form (in_parens y)) t
+parts_same a b x y s t e f g =
+    ap (λ z. in_front z (held_form (in_parens x)) s) e ∙ ap (λ z. in_front b (held_form (in_parens z)) s) f
+    ∙ ap (λ z. in_front b (held_form (in_parens y)) z) g
+
+in_parens_fits : (a x s : Tree) → Fits (in_front a (Node (Expression InStatement) (Whole x)) s) statement
+    → Fits (Node (Expression InStatement) (Whole (in_parens x))) (ref (Expression InStatement))
+    → Fits (in_front a (Node (Expression InStatement) (Whole (in_parens x))) s) statement
+in_parens_fits a x s f g =
+    (f.0, (f.1.0, (f.1.1.0, (f.1.1.1.0, (f.1.1.1.1.0, ((f.1.1.1.1.1.0.0, g), f.1.1.1.1.1.1))))))
+
+range_stands : (a x s w : Tree) → is_ranged a x ≡ true
+    → given_to (normal a) (in_parens (formed InStatement [] x)) ≡ formed InStatement [] (given_to a x)
+    → Fits w statement → kept w ≡ in_front (normal a) (held_form (formed InStatement [] x)) (normal s)
+    → is_statement_form w ≡ true → Stands a x s
+unfolding held
+range_stands a x s w e g f i n =
+    let p = fourth_fits w f (ap is_fourth i) n in
+    let h : in_front (kept p.front) (held_form (kept p.form)) (kept p.semicolon)
+    ≡ in_front (normal a) (held_form (formed InStatement [] x)) (normal s) = sym (ap kept p.is) ∙ i in
+    let o : kept p.form ≡ formed InStatement [] x = ap (λ z. form_of (expression_of z)) h in
+    let u = parens_fit p.form p.fits (ap (formed Plain []) o ∙ settled_inside a x e g ∙ sym o) in
+    record {
+      tree = in_front p.front (Node (Expression InStatement) (Whole (in_parens p.form))) p.semicolon;
+      form = in_parens (formed InStatement [] x);
+      fits = in_parens_fits p.front p.form p.semicolon (subst (λ z. Fits z statement) p.is f) u;
+      kept_is = parts_same (kept p.front) (normal a) (kept p.form) (formed InStatement [] x) (kept p.semicolon)
+          (normal s) (ap attributes_of h) o (ap semicolon_of h);
+      macro = range_macro a x (formed InStatement [] x) e;
+      gives = g;
+      meant = parens_meant p.front p.form p.semicolon;
+    }
+
+stands : (a x s w : Tree)
+    → given_to (normal a) (enclosed (is_ranged a x) (formed InStatement [] x)) ≡ formed InStatement [] (given_to a x)
+    → Fits w statement → kept w ≡ in_front (normal a) (held_form (formed InStatement [] x)) (normal s)
+    → is_statement_form w ≡ true → Stands a x s
+stands a x s w g f i n = go (is_ranged a x) refl g
+  where
+    go : (b : Bool) → is_ranged a x ≡ b
+        → given_to (normal a) (enclosed b (formed InStatement [] x)) ≡ formed InStatement [] (given_to a x)
+        → Stands a x s
+    go true e g = range_stands a x s w e g f i n
+    go false e g = record {
+      tree = w;
+      form = formed InStatement [] x;
+      fits = f;
+      kept_is = i;
+      macro = same_macro x;
+      gives = g;
+      meant = n;
+    }
+
+expression_law : GivenLaw → (q : Position) (x : Tree) (r : List Token) → IsExpression x r → Law q r x
+unfolding held passed has_step has_form_step place_of stands_behind table
+expression_law g q x r h =
+    subst (Law q r) (sym h.is)
+    (λ o d i.
+    let a : Tree = kept h.front in
+    let f : Tree = kept h.form in
+    let s : Tree = kept h.semicolon in
+    let b : is_attributes h.front ≡ true = attributes_read h.front _ h.attributes in
+    let n : is_statement_form i.tree ≡ true =
+    expression_printed a f s i.tree i.fits i.kept_is h.plain (takes_kept h.front (held_form f) b h.takes) in
+    let v = given_formed g h.front h.form h.semicolon r h.attributes h.derived h.takes in
+    stands_printed q a f s (stands a f s i.tree v i.fits i.kept_is n)
+    (attributes_kept h.front b))
 
 -- a macro
 abbrev macro_part : Tree → Tree
@@ -265,9 +520,9 @@ macro_printed (Pair a (Pair m s)) _ f e n = absurd f
 macro_printed (Pair a _) w f e n = absurd (contrary n)
 macro_printed _ w f e n = absurd (contrary n)
 
-pub law_a_statement : KindLaw AStatement
+pub law_a_statement : GivenLaw → KindLaw AStatement
 unfolding has_step has_form_step held passed place_of table
-law_a_statement = record { entry = λ q l. simple_law Plain statement refl; node = go }
+law_a_statement given = record { entry = λ q l. simple_law Plain statement refl; node = go }
   where
     go : (q : Position) → IsPlaced q AStatement → (x : Tree) (r : List Token) → is_statement_form x ≡ true
         → Derives x (table AStatement) r → Printed (table AStatement) (normal_in (passed AStatement q) (kept x))
@@ -285,7 +540,7 @@ law_a_statement = record { entry = λ q l. simple_law Plain statement refl; node
         (item_law q x r (subst (λ j. Derives x (table j) r) d.1.1.1.1.0 d.1.1.1.1.1)) o d i
     go q l (Second (Second (Second (First _)))) r o d i = cc o
     go q l (Second (Second (Second (Second x)))) r o d i =
-        expression_law q (Second (Second (Second (Second x)))) r (is_read x r d.1.1.1.1 o) o d i
+        expression_law given q (Second (Second (Second (Second x)))) r (is_read x r d.1.1.1.1 o) o d i
     go q l (Second (Second (Second _))) r o d i = absurd d.1.1.1
     go q l (Second (Second _)) r o d i = absurd d.1.1
     go q l (Second (First x)) r o d i =
@@ -335,38 +590,6 @@ item_stays (Verbatim y) f n =
     (apart_same (flat y) (both_true (is_begun (choice (item_of y))) (ends_apart (flat y)) h.1).1)
 item_stays _ f n = absurd f
 
--- what fits: an expression by its parts
-pub record FitsExpression (x : Tree) : Type 0 where
-  pub form : Tree
-  pub semicolon : Tree
-  pub is : x ≡ at_expression (Node (Expression InStatement) (Whole form)) semicolon
-  pub fits : Fits (Whole form) (table (Expression InStatement))
-  pub ended : Fits semicolon (optional (marks ";") (the_semicolon ∶ sign ";"))
-  pub plain : is_plain_expression (normal_in InStatement (held_form (kept form))) ≡ true
-
-pub fits_expression : (y : Tree) → Fits y (the_attributes ∶ ref OuterAttributes
-    ▸ the_expression ∶ ref (Expression InStatement) ▸ optional (marks ";") (the_semicolon ∶ sign ";"))
-    → is_expression_form y ≡ true → FitsExpression (Second (Second (Second (Second y))))
-unfolding held table
-fits_expression (Pair (Called n (Node k End)) (Pair (Called m (Node l y)) s)) f o =
-    let w = form_fits y (subst (λ j. Fits y (table j)) f.1.0.1.0 f.1.0.1.3) in
-    record {
-      form = w.0;
-      semicolon = s;
-      is = parts_are n m k l w.0 y s f.0.0 f.0.1.0 f.1.0.0 f.1.0.1.0 w.1;
-      fits = w.2;
-      ended = f.1.1;
-      plain = plain_form l w.0 y f.1.0.1.0 w.1 o;
-    }
-fits_expression (Pair (Called n (Node k End)) (Pair (Called m _) s)) f o = absurd f.1.0.1
-fits_expression (Pair (Called n (Node k End)) (Pair _ s)) f o = absurd f.1.0
-fits_expression (Pair (Called n (Node k End)) _) f o = absurd f.1
-fits_expression (Pair (Called n _) (Pair (Called m y) s)) f o = absurd (contrary o)
-fits_expression (Pair (Called n _) (Pair _ s)) f o = absurd f.1.0
-fits_expression (Pair (Called n _) _) f o = absurd f.1
-fits_expression (Pair _ y) f o = absurd f.0
-fits_expression _ f o = absurd f
-
 -- The statements that are taken are macros, lets, items and expressions.
 abbrev at_macro : Kind → Tree → Kind → Tree → Tree → Tree
 at_macro k o l y s = Second (First (Pair (Node k o) (Pair (Node l y) s)))
@@ -377,9 +600,9 @@ pub each_form : (P : Tree → Type 0)
     → ((k l : Kind) (o y : Tree) → P (Second (Second (First (Pair (Node k o) (Node l y))))))
     → ((y : Tree) → Fits y (table AnItem) → is_statement_item y ≡ true → P (at_item y))
     → ((y : Tree) → P (First (Node AnItem (First y))))
-    → ((x s : Tree) → Fits (Whole x) (table (Expression InStatement))
+    → ((a x s : Tree) → is_attributes a ≡ true → Fits (Whole x) (table (Expression InStatement))
     → Fits s (optional (marks ";") (the_semicolon ∶ sign ";"))
-    → P (at_expression (Node (Expression InStatement) (Whole x)) s))
+    → P (in_front a (Node (Expression InStatement) (Whole x)) s))
     → (x : Tree) → Fits x (table AStatement) → is_statement_form x ≡ true → P x
 unfolding table
 each_form P call one other named third (Second (Second (First (Pair (Node k o) (Node l y))))) f n = one k l o y
@@ -392,7 +615,7 @@ each_form P call one other named third (Second (Second (Second (First (Node k y)
 each_form P call one other named third (Second (Second (Second (First _)))) f n = absurd f.1.1.1.1
 each_form P call one other named third (Second (Second (Second (Second x)))) f n =
     let e = fits_expression x f.1.1.1.1 n in
-    subst P (sym e.is) (third e.form e.semicolon e.fits e.ended)
+    subst P (sym e.is) (third e.front e.form e.semicolon (attributes_fit e.front e.attributes) e.fits e.ended)
 each_form P call one other named third (Second (Second (Second _))) f n = absurd f.1.1.1
 each_form P call one other named third (Second (Second _)) f n = absurd f.1.1
 each_form P call one other named third (Second (First (Pair (Node k o) (Pair (Node l y) s)))) f n = call k l o y s f.1.1.1.1 n
@@ -407,22 +630,28 @@ each_form P call one other named third (First (Node k _)) f n = absurd (contrary
 each_form P call one other named third (First _) f n = absurd f.1
 each_form P call one other named third _ f n = absurd f
 
-expression_stays : (x s : Tree) → Stays (at_expression (Node (Expression InStatement) (Whole x)) s)
+expression_stays : (a x s : Tree) → is_attributes a ≡ true
+    → Stays (in_front a (Node (Expression InStatement) (Whole x)) s)
 unfolding held
-expression_stays x s = go (is_macro (kept x) && is_there (kept s))
+expression_stays a x s e =
+    subst (λ y. apart_item (Second (Node AStatement y)) ≡ Second (Node AStatement y))
+    (sym (is_held (kept a) (kept x) (kept s) (attributes_kept a e))) (go (is_macro (kept x) && is_there (kept s)))
   where
-    z : Tree
-    z = at_expression (held_form (kept x)) (kept s)
+    y : Tree
+    y = held_macro (kept a) (own_part (kept x)) (kept s)
 
-    go : (b : Bool) → apart_item (Second (Node AStatement
-        (cond b (Second (First (Pair none (Pair (own_part (kept x)) (kept s))))) z)))
-        ≡ Second (Node AStatement (cond b (Second (First (Pair none (Pair (own_part (kept x)) (kept s))))) z))
+    z : Tree
+    z = at_expression (held_form (given_to (kept a) (kept x))) (kept s)
+
+    go : (b : Bool) → apart_item (Second (Node AStatement (cond b y z))) ≡ Second (Node AStatement (cond b y z))
     go true = refl
     go false = refl
 
 statement_stays : (x : Tree) → Fits x (table AStatement) → is_statement_form x ≡ true → Stays x
 unfolding held
-statement_stays x f n = each_form Stays (λ k l o y s g h. refl) (λ k l o y. refl) item_stays (λ y. refl) (λ y t g h. expression_stays y t) x f n
+statement_stays x f n =
+    each_form Stays (λ k l o y s g h. refl) (λ k l o y. refl) item_stays (λ y. refl)
+    (λ a y t i g h. expression_stays a y t i) x f n
 
 pub turn_stays : TurnLaw a_turn
 turn_stays (First (AMark c cs spacing)) f = refl
@@ -434,17 +663,25 @@ turn_stays (Second _) f = absurd f.1
 turn_stays _ f = absurd f
 
 -- an expression without its ; as it was read, and as it is printed
-abbrev open_turn : Tree → Tree
-open_turn x = Second (Node AStatement (at_expression (Node (Expression InStatement) (Whole x)) (Second Nil)))
+abbrev open_turn : Tree → Tree → Tree
+open_turn a x = Second (Node AStatement (in_front a (Node (Expression InStatement) (Whole x)) (Second Nil)))
 
-pub held_open : (x : Tree) → as_statement (at_expression (held_form x) (Second Nil))
-    ≡ at_expression (held_form x) (Second Nil)
-held_open x = go (is_macro x)
+held_open : (a x : Tree) → is_attributes a ≡ true → as_statement (in_front a (held_form x) (Second Nil))
+    ≡ at_expression (held_form (given_to a x)) (Second Nil)
+held_open a x e = is_held a x (Second Nil) e ∙ go (is_macro x)
   where
-    go : (b : Bool) → cond (b && false) (Second (First (Pair none (Pair (own_part x) (Second Nil)))))
-        (at_expression (held_form x) (Second Nil)) ≡ at_expression (held_form x) (Second Nil)
+    go : (b : Bool) → cond (b && false) (held_macro a (own_part x) (Second Nil))
+        (at_expression (held_form (given_to a x)) (Second Nil))
+        ≡ at_expression (held_form (given_to a x)) (Second Nil)
     go true = refl
     go false = refl
+
+-- as it is held, of what was read
+pub open_as : (a x : Tree) → is_attributes a ≡ true
+    → as_statement (kept (in_front a (Node (Expression InStatement) (Whole x)) (Second Nil)))
+    ≡ at_expression (held_form (given_to (kept a) (kept x))) (Second Nil)
+unfolding held
+open_as a x e = held_open (kept a) (kept x) (attributes_kept a e)
 
 open_apart : (b : Bool) (x : Tree) → is_open_turn (apart_if b (Second (Node AStatement x))) ≡ is_open x
 open_apart false x = refl
@@ -464,17 +701,20 @@ open_normal (Second (First (Pair a (Pair m s)))) = ap not (there_same s)
 open_normal (Second (Second (Second (Second (Pair a (Pair e s)))))) = ap not (there_same s)
 open_normal _ = refl
 
-closed_as : (x z : Tree) → is_open (as_statement (at_expression (held_form x) (First z))) ≡ false
-closed_as x z = go (is_macro x)
+closed_as : (a x z : Tree) → is_attributes a ≡ true
+    → is_open (as_statement (in_front a (held_form x) (First z))) ≡ false
+closed_as a x z e = ap is_open (is_held a x (First z) e) ∙ go (is_macro x)
   where
-    go : (b : Bool) → is_open (cond (b && true) (Second (First (Pair none (Pair (own_part x) (First z)))))
-        (at_expression (held_form x) (First z))) ≡ false
+    go : (b : Bool) → is_open (cond (b && true) (held_macro a (own_part x) (First z))
+        (at_expression (held_form (given_to a x)) (First z))) ≡ false
     go true = refl
     go false = refl
 
 record Read (x : Tree) : Type 0 where
+  front : Tree
   form : Tree
-  is : x ≡ at_expression (Node (Expression InStatement) (Whole form)) (Second Nil)
+  is : x ≡ in_front front (Node (Expression InStatement) (Whole form)) (Second Nil)
+  attributes : is_attributes front ≡ true
 
 abbrev pub is_macro_statement : Tree → Bool
 is_macro_statement (Second (First x)) = true
@@ -485,17 +725,20 @@ open_read : (x : Tree) (r : List Token) → Derives x (table AStatement) r → i
 unfolding held table
 open_read (Second (Second (Second (Second y)))) r d n o c =
     let e = is_read y r d.1.1.1.1 n in
-    go e.form e.semicolon e.is (subst (λ z. Derives z (table AStatement) r) e.is d)
+    go e.front e.form e.semicolon (attributes_read e.front _ e.attributes) e.is
+    (subst (λ z. Derives z (table AStatement) r) e.is d)
     (subst (λ z. is_open (as_statement (kept z)) ≡ true) e.is o)
   where
-    go : (x s : Tree) → Second (Second (Second (Second y))) ≡ at_expression (Node (Expression InStatement) (Whole x)) s
-        → Derives (at_expression (Node (Expression InStatement) (Whole x)) s) (table AStatement) r
-        → is_open (as_statement (kept (at_expression (Node (Expression InStatement) (Whole x)) s))) ≡ true
+    go : (a x s : Tree) → is_attributes a ≡ true
+        → Second (Second (Second (Second y))) ≡ in_front a (Node (Expression InStatement) (Whole x)) s
+        → Derives (in_front a (Node (Expression InStatement) (Whole x)) s) (table AStatement) r
+        → is_open (as_statement (kept (in_front a (Node (Expression InStatement) (Whole x)) s))) ≡ true
         → Read (Second (Second (Second (Second y))))
-    go x (First z) e d o = absurd (contrary (sym (closed_as (kept x) (kept z)) ∙ o))
-    go x (Second Nil) e d o = record { form = x; is = e }
-    go x (Second _) e d o = absurd d.1.1.1.1.1.1.1
-    go x _ e d o = absurd d.1.1.1.1.1.1
+    go a x (First z) i e d o =
+        absurd (contrary (sym (closed_as (kept a) (kept x) (kept z) (attributes_kept a i)) ∙ o))
+    go a x (Second Nil) i e d o = record { front = a; form = x; is = e; attributes = i }
+    go a x (Second _) i e d o = absurd d.1.1.1.1.1.1.1
+    go a x _ i e d o = absurd d.1.1.1.1.1.1
 open_read (Second (Second (Second (First x)))) r d n o c = absurd (contrary o)
 open_read (Second (Second (Second _))) r d n o c = absurd d.1.1.1
 open_read (Second (Second (First x))) r d n o c = absurd (contrary o)
@@ -506,8 +749,10 @@ open_read (First x) r d n o c = absurd (contrary o)
 open_read _ r d n o c = absurd d
 
 pub record IsOpen (x : Tree) : Type 0 where
+  pub front : Tree
   pub form : Tree
-  pub is : x ≡ at_expression (Node (Expression InStatement) (Whole form)) (Second Nil)
+  pub is : x ≡ in_front front (Node (Expression InStatement) (Whole form)) (Second Nil)
+  pub attributes : is_attributes front ≡ true
   pub fits : Fits (Whole form) (table (Expression InStatement))
 
 pub open_fits : (x : Tree) → Fits x (table AStatement) → is_statement_form x ≡ true → is_open x ≡ true
@@ -516,38 +761,42 @@ open_fits x f n = each_form (λ y. is_open y ≡ true → is_macro_statement y �
     (λ k l o y s g h e c. absurd (contrary (sym c))) (λ k l o y e c. absurd (contrary e))
     (λ y g i e c. absurd (contrary e)) (λ y e c. absurd (contrary e)) go x f n
   where
-    go : (x s : Tree) → Fits (Whole x) (table (Expression InStatement))
+    go : (a x s : Tree) → is_attributes a ≡ true → Fits (Whole x) (table (Expression InStatement))
         → Fits s (optional (marks ";") (the_semicolon ∶ sign ";"))
-        → is_open (at_expression (Node (Expression InStatement) (Whole x)) s) ≡ true
-        → is_macro_statement (at_expression (Node (Expression InStatement) (Whole x)) s) ≡ false
-        → IsOpen (at_expression (Node (Expression InStatement) (Whole x)) s)
-    go x (First z) g h e c = absurd (contrary e)
-    go x (Second Nil) g h e c = record { form = x; is = refl; fits = g }
-    go x (Second _) g h e c = absurd h.1
-    go x _ g h e c = absurd h
+        → is_open (in_front a (Node (Expression InStatement) (Whole x)) s) ≡ true
+        → is_macro_statement (in_front a (Node (Expression InStatement) (Whole x)) s) ≡ false
+        → IsOpen (in_front a (Node (Expression InStatement) (Whole x)) s)
+    go a x (First z) i g h e c = absurd (contrary e)
+    go a x (Second Nil) i g h e c = record { front = a; form = x; is = refl; attributes = i; fits = g }
+    go a x (Second _) i g h e c = absurd h.1
+    go a x _ i g h e c = absurd h
 
 abbrev turn_expression : Tree → Tree
 turn_expression (Second (Node k x)) = expression_of x
 turn_expression x = x
 
 record Opened (t u : Tree) : Type 0 where
+  before : Tree
   source : Tree
+  front : Tree
   made : Tree
-  source_is : t ≡ open_turn source
-  made_is : u ≡ open_turn made
+  source_is : t ≡ open_turn before source
+  made_is : u ≡ open_turn front made
+  attributes : is_attributes before ≡ true
   fits : Fits (Whole made) (table (Expression InStatement))
-  same : kept made ≡ formed InStatement [] (kept source)
+  same : given_to (kept front) (kept made) ≡ formed InStatement [] (given_to (kept before) (kept source))
 
-same_form : (b : Bool) (q : Position) (x y : Tree)
-    → kept (open_turn y) ≡ apart_if b (normal_in q (kept (open_turn x))) → kept y ≡ formed InStatement [] (kept x)
+same_form : (b : Bool) (q : Position) (a x c y : Tree) → is_attributes a ≡ true → is_attributes c ≡ true
+    → kept (open_turn c y) ≡ apart_if b (normal_in q (kept (open_turn a x)))
+    → given_to (kept c) (kept y) ≡ formed InStatement [] (given_to (kept a) (kept x))
 unfolding held passed place_of stands_behind
-same_form b q x y e =
+same_form b q a x c y i j e =
     ap (λ z. form_of (turn_expression z))
-    (ap (λ z. Second (Node AStatement z)) (sym (held_open (kept y))) ∙ e
-    ∙ ap (λ z. apart_if b (Second (Node AStatement (normal z)))) (held_open (kept x)) ∙ stays b)
+    (ap (λ z. Second (Node AStatement z)) (sym (open_as c y j)) ∙ e
+    ∙ ap (λ z. apart_if b (Second (Node AStatement (normal z)))) (open_as a x i) ∙ stays b)
   where
     z : Tree
-    z = Second (Node AStatement (normal (at_expression (held_form (kept x)) (Second Nil))))
+    z = Second (Node AStatement (normal (at_expression (held_form (given_to (kept a) (kept x))) (Second Nil))))
 
     stays : (b : Bool) → apart_if b z ≡ z
     stays true = refl
@@ -572,14 +821,14 @@ open_kept w f n = each_form (λ y. is_open y ≡ true → is_open (as_statement 
     call k l o y (Second z) g h e = refl
     call k l o y _ g h e = absurd g
 
-    go : (x s : Tree) → Fits (Whole x) (table (Expression InStatement))
+    go : (a x s : Tree) → is_attributes a ≡ true → Fits (Whole x) (table (Expression InStatement))
         → Fits s (optional (marks ";") (the_semicolon ∶ sign ";"))
-        → is_open (at_expression (Node (Expression InStatement) (Whole x)) s) ≡ true
-        → is_open (as_statement (kept (at_expression (Node (Expression InStatement) (Whole x)) s))) ≡ true
-    go x (First z) g h e = absurd (contrary e)
-    go x (Second Nil) g h e = ap is_open (held_open (kept x))
-    go x (Second _) g h e = absurd h.1
-    go x _ g h e = absurd h
+        → is_open (in_front a (Node (Expression InStatement) (Whole x)) s) ≡ true
+        → is_open (as_statement (kept (in_front a (Node (Expression InStatement) (Whole x)) s))) ≡ true
+    go a x (First z) i g h e = absurd (contrary e)
+    go a x (Second Nil) i g h e = ap is_open (open_as a x i)
+    go a x (Second _) i g h e = absurd h.1
+    go a x _ i g h e = absurd h
 
 pub open_held : (l k : Kind) (x w : Tree) (q : Position) (b : Bool) → l ≡ AStatement → Fits (Second (Node k w)) a_turn
     → kept (Second (Node k w)) ≡ apart_if b (normal_in q (kept (Second (Node l x)))) → is_open w ≡ true
@@ -603,11 +852,11 @@ macro_apart true x = refl
 macro_apart false x = refl
 
 as_none : (x w : Tree) (q : Position) (b : Bool) (i : IsOpen w)
-    → kept (open_turn i.form) ≡ apart_if b (normal_in q (kept (Second (Node AStatement x))))
+    → kept (open_turn i.front i.form) ≡ apart_if b (normal_in q (kept (Second (Node AStatement x))))
     → is_macro_statement x ≡ false
 unfolding held passed
 as_none (Second (First x)) w q b i e =
-    absurd (contrary (ap is_macro_statement (sym (held_open (kept i.form))) ∙ ap is_macro_turn e
+    absurd (contrary (ap is_macro_statement (sym (open_as i.front i.form i.attributes)) ∙ ap is_macro_turn e
     ∙ macro_apart b (normal (kept x))))
 as_none _ w q b i e = refl
 
@@ -617,34 +866,37 @@ opened : (t u : Tree) (q : Position) (b : Bool) (r : List Token) → all_covered
 unfolding held passed
 opened (Second (Node l x)) (Second (Node k w)) q b r c d f e o z =
     let p = open_fits w (subst (λ j. Fits w (table j)) f.1.0 f.1.3) (subst (λ j. IsMeant j w) f.1.0 f.1.4) o z in
-    let u : Second (Node k w) ≡ open_turn p.form =
+    let u : Second (Node k w) ≡ open_turn p.front p.form =
     ap (λ j. Second (Node j w)) f.1.0 ∙ ap (λ z. Second (Node AStatement z)) p.is in
-    let g : kept (open_turn p.form) ≡ apart_if b (normal_in q (kept (Second (Node AStatement x)))) =
+    let g : kept (open_turn p.front p.form) ≡ apart_if b (normal_in q (kept (Second (Node AStatement x)))) =
     subst (λ z. kept z ≡ apart_if b (normal_in q (kept (Second (Node AStatement x))))) u
     (subst (λ j. kept (Second (Node k w)) ≡ apart_if b (normal_in q (kept (Second (Node j x))))) d.1.0 e) in
     let m = open_held l k x w q b d.1.0 f e o in
     let i = open_read x r (subst (λ j. Derives x (table j) r) d.1.0 d.1.1) (taken x l d.1.0 c) m (as_none x w q b p g) in
-    let t : Second (Node l x) ≡ open_turn i.form =
+    let t : Second (Node l x) ≡ open_turn i.front i.form =
     ap (λ j. Second (Node j x)) d.1.0 ∙ ap (λ z. Second (Node AStatement z)) i.is in
     record {
+      before = i.front;
       source = i.form;
+      front = p.front;
       made = p.form;
       source_is = t;
       made_is = u;
+      attributes = i.attributes;
       fits = p.fits;
-      same = same_form b q i.form p.form
-          (subst (λ z. kept (open_turn p.form) ≡ apart_if b (normal_in q (kept (Second (Node AStatement z))))) i.is g);
+      same = same_form b q i.front i.form p.front p.form i.attributes p.attributes (subst
+          (λ z. kept (open_turn p.front p.form) ≡ apart_if b (normal_in q (kept (Second (Node AStatement z))))) i.is g);
     }
 opened (Second (Node l x)) (Second _) q b r c d f e o z = absurd (contrary o)
 opened (Second (Node l x)) _ q b r c d f e o z = absurd (contrary o)
 opened (Second _) u q b r c d f e o z = absurd d.1
 opened (First (AMark m ms spacing)) (Second (Node k w)) q b r c d f e o z =
     let p = open_fits w (subst (λ j. Fits w (table j)) f.1.0 f.1.3) (subst (λ j. IsMeant j w) f.1.0 f.1.4) o z in
-    let u : Second (Node k w) ≡ open_turn p.form =
+    let u : Second (Node k w) ≡ open_turn p.front p.form =
     ap (λ j. Second (Node j w)) f.1.0 ∙ ap (λ z. Second (Node AStatement z)) p.is in
     absurd (contrary (sym (no_turn b)
     ∙ sym (ap is_open_turn (subst (λ z. kept z ≡ apart_if b (First (AMark m ms Apart))) u e))
-    ∙ ap is_open (held_open (kept p.form))))
+    ∙ ap is_open (open_as p.front p.form p.attributes)))
   where
     no_turn : (b : Bool) → is_open_turn (apart_if b (First (AMark m ms Apart))) ≡ false
     no_turn true = refl
@@ -674,25 +926,25 @@ form_needs x f n =
     each_form (λ y. is_open_expression y ≡ false → needs_semicolon (Node AStatement y) ≡ false)
     (λ k l o y s g h e. macro_needs k l o y s g) (λ k l o y e. refl) (λ y g i e. refl) (λ y e. refl) go x f n
   where
-    go : (x s : Tree) → Fits (Whole x) (table (Expression InStatement))
+    go : (a x s : Tree) → is_attributes a ≡ true → Fits (Whole x) (table (Expression InStatement))
         → Fits s (optional (marks ";") (the_semicolon ∶ sign ";"))
-        → is_open_expression (at_expression (Node (Expression InStatement) (Whole x)) s) ≡ false
-        → needs_semicolon (Node AStatement (at_expression (Node (Expression InStatement) (Whole x)) s)) ≡ false
-    go x (First (Called n z)) g h e =
+        → is_open_expression (in_front a (Node (Expression InStatement) (Whole x)) s) ≡ false
+        → needs_semicolon (Node AStatement (in_front a (Node (Expression InStatement) (Whole x)) s)) ≡ false
+    go a x (First (Called n z)) i g h e =
         ap (λ j. needs_semicolon (Node AStatement
-        (at_expression (Node (Expression InStatement) (Whole x)) (First (Called j z))))) h.1.0
-    go x (First _) g h e = absurd h.1
-    go x (Second Nil) g h e = absurd (contrary (sym e))
-    go x (Second _) g h e = absurd h.1
-    go x _ g h e = absurd h
+        (in_front a (Node (Expression InStatement) (Whole x)) (First (Called j z))))) h.1.0
+    go a x (First _) i g h e = absurd h.1
+    go a x (Second Nil) i g h e = absurd (contrary (sym e))
+    go a x (Second _) i g h e = absurd h.1
+    go a x _ i g h e = absurd h
 
 pub needs_not : (b : Bool) → not b ≡ false → b ≡ true
 needs_not true e = refl
 needs_not false e = cc e
 
-pub open_needs : (x : Tree) → needs_semicolon (choice (open_turn x)) ≡ not (ends_there InStatement x)
+pub open_needs : (a x : Tree) → needs_semicolon (choice (open_turn a x)) ≡ not (ends_there InStatement x)
 unfolding same_part
-open_needs x = refl
+open_needs a x = refl
 
 pub turn_needs : (t u : Tree) (q : Position) (b : Bool) (r : List Token) → all_covered t ≡ true → Derives t a_turn r
     → Fits u a_turn → kept u ≡ apart_if b (normal_in q (kept t)) → needs_semicolon (choice t) ≡ false
@@ -711,9 +963,9 @@ turn_needs t (Second (Node k w)) q b r c d f e n = go (is_open_expression w) ref
         let a = opened t (Second (Node k w)) q b r c d f e m.0 (is_false (is_macro_statement w) m.1) in
         let h : ends_there InStatement a.source ≡ true =
         needs_not (ends_there InStatement a.source)
-        (sym (open_needs a.source) ∙ ap (λ z. needs_semicolon (choice z)) (sym a.source_is) ∙ n) in
-        ap (λ z. needs_semicolon (choice z)) a.made_is ∙ open_needs a.made
-        ∙ ap not (ends_back InStatement a.made a.fits.2
-        (ap (ends_there InStatement) a.same ∙ ends_read a.source h))
+        (sym (open_needs a.before a.source) ∙ ap (λ z. needs_semicolon (choice z)) (sym a.source_is) ∙ n) in
+        ap (λ z. needs_semicolon (choice z)) a.made_is ∙ open_needs a.front a.made
+        ∙ ap not (ends_back InStatement a.made a.fits.2 (ends_given (kept a.front) (kept a.made)
+        (ap (ends_there InStatement) a.same ∙ given_ends a.before a.source a.attributes h)))
 turn_needs t (Second _) q b r c d f e n = absurd f.1
 turn_needs t _ q b r c d f e n = absurd f

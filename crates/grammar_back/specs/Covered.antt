@@ -420,8 +420,8 @@ is_statement_item (Verbatim x) =
     is_no_macro (choice (item_of x)) && (is_begun (choice (item_of x)) && ends_apart (flat x))
 is_statement_item x = is_no_macro (choice (item_of x))
 
--- The expression of a statement begins, as it is printed, with no attributes; behind a word that begins items too
--- stands no other word, and behind crate stands ::.
+-- The expression of a statement begins, as it is printed, with no attributes of its own; behind a word that begins
+-- items too stands no other word, and behind crate stands ::.
 abbrev pub soft_words : List (List ℕ)
 soft_words = codes "union" ∷ codes "auto" ∷ codes "default" ∷ []
 
@@ -441,14 +441,25 @@ abbrev pub is_plain_expression : Tree → Bool
 is_plain_expression (Node k (Whole x)) = is_plain_start (flat x) && not (is_brace_macro x)
 is_plain_expression _ = false
 
--- Nothing stands in front.
+-- Nothing stands in front; or what is held of the expression takes the attributes that do, as no range among its
+-- operands has attributes of its own.
 abbrev pub is_bare_front : Tree → Bool
 is_bare_front (Node k End) = true
 is_bare_front _ = false
 
+abbrev pub has_plain_ranges : Tree → Bool
+has_plain_ranges (Front k y x) = not (is_attributed_range k x) && has_plain_ranges x
+has_plain_ranges (Back l k y) = has_plain_ranges l
+has_plain_ranges (Infix l k y r) = has_plain_ranges l && has_plain_ranges r
+has_plain_ranges _ = true
+
+abbrev pub takes_attributes : Tree → Bool
+takes_attributes (Node k (Whole x)) = has_plain_ranges x
+takes_attributes _ = false
+
 abbrev pub is_expression_form : Tree → Bool
 is_expression_form (Pair (Called n a) (Pair (Called m e) s)) =
-    is_bare_front a && is_plain_expression (normal_in InStatement (kept e))
+    is_plain_expression (normal_in InStatement (kept e)) && (is_bare_front a || takes_attributes (kept e))
 is_expression_form _ = false
 
 -- A macro that is a statement has its tokens in braces, as it has wherever such a statement was read.

@@ -1,9 +1,10 @@
 -- Covered expressions there are: -(1 + x), as it is read; m!() in a condition; m!{} before another
--- statement; || 1; 1 as _ < 1; #[unsafe] 1; and 1; as a statement.
+-- statement; || 1; 1 as _ < 1; #[unsafe] 1; and as statements 1; and #[unsafe] 1; and
+-- #[unsafe] ..; , whose range stands in parentheses then.
 use Rattle.std.proofs.Common.{◌≡◌, List, [], ◌∷◌, ◌++◌, refl, inl}
 use Rattle.std.specs.Prelude.{true, codes}
 use Rattle.syn_grammar.specs.Kind.{AMacro, AStatement, Delimited, ExprMacro, InCondition, InModule, Path, Plain}
-use Rattle.syn_grammar.specs.Kind.{Expression}
+use Rattle.syn_grammar.specs.Kind.{ExprRange, Expression}
 use Rattle.syn_grammar.specs.Kind.{ExprClosure, ExprLit, InStatement, Segments, AType, ExprAttributed, ExprCast}
 use Rattle.syn_grammar.specs.Kind.{ExprCompare, InferType, Meta, OuterAttribute, OuterAttributes, WithoutPlus}
 use Rattle.syn_grammar.specs.Name.{the_attributes, the_expression, the_semicolon, the_type}
@@ -18,7 +19,7 @@ use Rattle.read_back.specs.Parts.{has_part, has_parts_of}
 use Rattle.grammar_back.specs.After.{EndsThere}
 use Rattle.read_back.proofs.Positions.{read_ended_in, read_in_position}
 use Rattle.syn_grammar.specs.Tree.{Tree, ALiteral, AMark, End, Front, Alone, AWord, First, Group, Nil, Node, Pair}
-use Rattle.syn_grammar.specs.Tree.{Back, Called, Infix, Raw, Second, Whole, flat}
+use Rattle.syn_grammar.specs.Tree.{Again, Back, Called, Infix, Raw, Second, Whole, flat}
 use Rattle.syn_grammar.specs.Forms.{back, chains, front, has_right, inside, level, stands_left, takes}
 use Rattle.syn_grammar.specs.Kept.{held, kept}
 use Rattle.syn_grammar.specs.Normal.{passed, stands_behind, normal, normal_in}
@@ -219,14 +220,14 @@ cast_back =
     read_in_position Plain cast [] [] cast_read (λ e. cc) cast_parts (refl, refl, refl, refl)
 
 -- and #[unsafe] 1
-abbrev attributed : Tree
-attributed =
-    Front ExprAttributed
-    (Pair
-    (Node OuterAttribute
+abbrev attribute : Tree
+attribute =
+    Node OuterAttribute
     (Pair (AMark 35 [] Apart)
-    (Group Bracket (Node Meta (Pair (First (AWord (codes "unsafe"))) (Second (Second Nil)))))))
-    (Node OuterAttributes End)) number
+    (Group Bracket (Node Meta (Pair (First (AWord (codes "unsafe"))) (Second (Second Nil))))))
+
+abbrev attributed : Tree
+attributed = Front ExprAttributed (Pair attribute (Node OuterAttributes End)) number
 
 attributed_read : Derives (Node (Expression Plain) (Whole attributed)) (ref (Expression Plain)) []
 unfolding table front back has_right is_bool is_reserved level takes stands_left inside
@@ -262,13 +263,15 @@ attributed_back =
 abbrev semicolon : Tree
 semicolon = First (Called the_semicolon (AMark 59 [] Apart))
 
-abbrev one_statement : Tree
-one_statement =
+abbrev behind : Tree → Tree → Tree
+behind attributes form =
     Node AStatement
     (Second (Second
-    (Second (Second (Pair (Called the_attributes (Node OuterAttributes End))
-    (Pair (Called the_expression (Node (Expression InStatement) (Whole (Alone ExprLit (First (ALiteral (codes "1")))))))
-    semicolon))))))
+    (Second (Second (Pair (Called the_attributes (Node OuterAttributes attributes))
+    (Pair (Called the_expression (Node (Expression InStatement) (Whole form))) semicolon))))))
+
+abbrev one_statement : Tree
+one_statement = behind End number
 
 one_read : Derives one_statement (ref AStatement) []
 unfolding table front back has_right level is_bool is_name is_path_keyword is_reserved
@@ -301,3 +304,91 @@ one_covered = refl
 
 pub one_back : IsRead AStatement (flat (normal (kept one_statement)) ++ []) (normal (kept one_statement)) []
 one_back = read_back AStatement one_statement [] [] one_read one_covered (inl (refl, tt))
+
+-- and #[unsafe] 1;
+abbrev attributed_statement : Tree
+attributed_statement = behind (Again attribute End) number
+
+behind_read : Derives attributed_statement (ref AStatement) []
+unfolding table front back has_right level is_bool is_name is_path_keyword is_reserved
+behind_read = (
+  refl,
+  (
+    refl,
+    (
+      refl,
+      (
+        refl,
+        (
+          refl,
+          (
+            (
+              refl,
+              (
+                refl,
+                (refl, (refl, ((refl, refl), (refl, (refl, ((refl, refl), (refl, (refl, tt))))))), refl),
+              ),
+            ),
+            (
+              (refl, (refl, ((refl, refl), (refl, (refl, refl), refl)))),
+              (refl, (refl, (refl, refl))),
+            ),
+          ),
+        ),
+      ),
+    ),
+  ),
+)
+
+behind_covered : is_covered attributed_statement ≡ true
+unfolding has_step has_form_step held passed stands_behind level has_right may_lack
+behind_covered = refl
+
+pub attributed_statement_back :
+    IsRead AStatement (flat (normal (kept attributed_statement)) ++ []) (normal (kept attributed_statement)) []
+attributed_statement_back =
+    read_back AStatement attributed_statement [] [] behind_read behind_covered (inl (refl, tt))
+
+-- and #[unsafe] ..;
+abbrev range_statement : Tree
+range_statement = behind (Again attribute End) (Alone ExprRange (AMark 46 (46 ∷ []) Apart))
+
+range_read : Derives range_statement (ref AStatement) []
+unfolding table front back has_right level is_bool is_name is_path_keyword is_reserved
+range_read = (
+  refl,
+  (
+    refl,
+    (
+      refl,
+      (
+        refl,
+        (
+          refl,
+          (
+            (
+              refl,
+              (
+                refl,
+                (refl, (refl, ((refl, refl), (refl, (refl, ((refl, refl), (refl, (refl, tt))))))), refl),
+              ),
+            ),
+            (
+              (refl, (refl, ((refl, refl), (refl, (refl, refl), refl)))),
+              (refl, (refl, (refl, refl))),
+            ),
+          ),
+        ),
+      ),
+    ),
+  ),
+)
+
+range_covered : is_covered range_statement ≡ true
+unfolding has_step has_form_step held passed stands_behind level has_right may_lack
+range_covered = refl
+
+pub range_statement_back :
+    IsRead AStatement (flat (normal (kept range_statement)) ++ []) (normal (kept range_statement)) []
+range_statement_back =
+    read_back AStatement range_statement [] [] range_read range_covered (inl (refl, tt))

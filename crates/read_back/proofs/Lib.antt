@@ -22,6 +22,7 @@ pub mod Ended
 pub mod Else
 pub mod NamedMacros
 pub mod Statements
+pub mod Given
 pub mod Forms
 pub mod ReadBack
 pub mod Positions

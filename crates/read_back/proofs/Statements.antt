@@ -44,7 +44,7 @@ use Rattle.grammar_back.proofs.Passed.{behind_attributes, group_passed}
 use Rattle.grammar_back.proofs.Readies.{Ready, Step}
 use Rattle.grammar_back.proofs.Seconds.{front_seen}
 use Rattle.grammar_back.proofs.Starts.{expression_starts, starts, statement_starts}
-use Rattle.grammar_back.proofs.Statements.{at_expression, contrary, fits_expression, held_form, none}
+use Rattle.grammar_back.proofs.Statements.{contrary, fits_expression, held_form, in_front}
 use Rattle.read_back.proofs.Blocks.{body_opens, word_first}
 use Rattle.read_back.proofs.Parts.{among}
 use Rattle.read_back.proofs.Closures.{closure_free, typed_free}
@@ -714,53 +714,52 @@ record Ended (x t : Tree) (s : List Token) : Type 0 where
   after : After (Expression InStatement) (Node (Expression InStatement) (Whole x)) (flat t ++ s)
   derived : Derives t (optional (marks ";") (the_semicolon ∶ sign ";")) s
 
-ended : (x t : Tree) (s : List Token) → Fits t (optional (marks ";") (the_semicolon ∶ sign ";"))
-    → After AStatement (at_expression (Node (Expression InStatement) (Whole x)) t) s → Ended x t s
-ended x (First (Called n (AMark c cs i))) s f a =
+ended : (o x t : Tree) (s : List Token) → Fits t (optional (marks ";") (the_semicolon ∶ sign ";"))
+    → After AStatement (in_front o (Node (Expression InStatement) (Whole x)) t) s → Ended x t s
+ended o x (First (Called n (AMark c cs i))) s f a =
     let e = semicolon_seen c cs i s f.1.1.0 f.1.1.1 in
     record { after = inl (semicolon_ends (signs c cs i ++ s) e, tt); derived = (e, (f.1.0, (f.1.1.0, f.1.1.1))) }
-ended x (First (Called n _)) s f a = absurd f.1.1
-ended x (First _) s f a = absurd f.1
-ended x (Second Nil) s f (inl a) =
+ended o x (First (Called n _)) s f a = absurd f.1.1
+ended o x (First _) s f a = absurd f.1
+ended o x (Second Nil) s f (inl a) =
     subst (Ended x (Second Nil)) (sym (end_is s a.0)) record { after = inl (refl, tt); derived = (refl, tt) }
-ended x (Second Nil) s f (inr (inl e)) = absurd (contrary (sym e))
-ended x (Second Nil) s f (inr (inr e)) = record { after = inr e.0; derived = (e.1.0, tt) }
-ended x (Second _) s f a = absurd f.1
-ended x _ s f a = absurd f
+ended o x (Second Nil) s f (inr (inl e)) = absurd (contrary (sym e))
+ended o x (Second Nil) s f (inr (inr e)) = record { after = inr e.0; derived = (e.1.0, tt) }
+ended o x (Second _) s f a = absurd f.1
+ended o x _ s f a = absurd f
 
--- the statement
-bare_derived : (us : List Token) → sees (marks "#") us ≡ false → Derives none (ref OuterAttributes) us
-unfolding table
-bare_derived us e = (refl, e)
-
-expression_read : (x t : Tree) (s : List Token) → Fits (Whole x) (table (Expression InStatement))
-    → Fits t (optional (marks ";") (the_semicolon ∶ sign ";"))
-    → is_plain_expression (normal_in InStatement (held_form (kept x))) ≡ true
+-- the statement, behind its attributes
+expression_read : (a x t : Tree) (s : List Token) → Fits (Node OuterAttributes a) (ref OuterAttributes)
+    → Fits (Whole x) (table (Expression InStatement)) → Fits t (optional (marks ";") (the_semicolon ∶ sign ";"))
+    → is_plain_expression (normal_in InStatement (held_form (kept x))) ≡ true → Ready (Node OuterAttributes a)
     → Ready (Node (Expression InStatement) (Whole x))
-    → After AStatement (at_expression (Node (Expression InStatement) (Whole x)) t) s
-    → Derives (at_expression (Node (Expression InStatement) (Whole x)) t) statement s
-    × IsAmong (starts AStatement) (flat (at_expression (Node (Expression InStatement) (Whole x)) t) ++ s)
+    → After AStatement (in_front a (Node (Expression InStatement) (Whole x)) t) s
+    → Derives (in_front a (Node (Expression InStatement) (Whole x)) t) statement s
+    × IsAmong (starts AStatement) (flat (in_front a (Node (Expression InStatement) (Whole x)) t) ++ s)
 unfolding skips
-expression_read x t s f g p w a =
-    let h = ended x t s g a in
+expression_read a x t s u f g p v w n =
+    let h = ended a x t s g n in
     let (d, i) = w (flat t ++ s) h.after in
     let b = begins x (flat t ++ s) f h.after p d.1 i in
-    let e : flat x ++ (flat t ++ s) ≡ (flat x ++ flat t) ++ s = sym (append_assoc (flat x) (flat t) s) in
+    let o : Tree = Node OuterAttributes a in
+    let y : Tree = Pair (Whole x) t in
+    let e : flat x ++ (flat t ++ s) ≡ flat y ++ s = sym (append_assoc (flat x) (flat t) s) in
     let c = subst Begins e b in
-    let o = bare_derived ((flat x ++ flat t) ++ s) c.bare in
-    let y : Tree = Pair (Whole x) t in (
+    let j = subst (IsAmong expression_starts) e i in
+    let (m, k) = (maybe_ref OuterAttributes refl).fine.by o (flat y ++ s) u v (c.bare, tt) in (
       (
-        behind_attributes none y macro_item_stands s false o c.seen.0,
+        behind_attributes o y macro_item_stands s false m c.seen.0,
         (
-          behind_attributes none y macro_statement_stands s false o c.seen.1,
+          behind_attributes o y macro_statement_stands s false m c.seen.1,
           (
-            behind_attributes none y (at "let") s false o c.seen.2,
-            (behind_attributes none y item_stands s false o c.seen.3, ((refl, o), ((refl, d), h.derived))),
+            behind_attributes o y (at "let") s false m c.seen.2,
+            (behind_attributes o y item_stands s false m c.seen.3, ((refl, m), ((refl, d), h.derived))),
           ),
         ),
       ),
-      among_right statement_starts expression_starts ((flat x ++ flat t) ++ s)
-          (subst (IsAmong expression_starts) e i),
+      among_right statement_starts expression_starts (flat (Pair o y) ++ s)
+          (⊎_elim (λ l. at_back expression_starts o y s l j)
+          (λ l. at_front expression_starts o y s (⊎_elim (λ z. inl z) (λ z. absurd z) l)) k),
     )
 
 macro_begins : (ts : List Token) → IsAmong (starts AMacro) ts → IsAmong expression_starts ts
@@ -836,10 +835,11 @@ step_a_statement (Second (Second (First x))) s f n w a = step_let x s f.1.1.1 w
 step_a_statement (Second (Second (Second (First x)))) s f n w a = step_item x s f.1.1.1.1 w n
 step_a_statement (Second (Second (Second (Second x)))) s f n w a =
     let e = fits_expression x f.1.1.1.1 n in
-    let z : Tree = at_expression (Node (Expression InStatement) (Whole e.form)) e.semicolon in
+    let z : Tree = in_front e.front (Node (Expression InStatement) (Whole e.form)) e.semicolon in
     let v : Ready z = subst Ready e.is w in
     let r =
-    expression_read e.form e.semicolon s e.fits e.ended e.plain v.1.0 (subst (λ y. After AStatement y s) e.is a) in (
+    expression_read e.front e.form e.semicolon s e.attributes e.fits e.ended e.plain v.0 v.1.0
+    (subst (λ y. After AStatement y s) e.is a) in (
       subst (λ y. Derives y statement s) (sym e.is) r.0,
       subst (λ y. IsAmong (starts AStatement) (flat y ++ s)) (sym e.is) r.1,
     )

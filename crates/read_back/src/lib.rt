@@ -14,7 +14,8 @@
 //! For each expression that was read there is one as it is printed (`Wholes`), in which a number behind a dot is split
 //! as in what is held (`Split`), each form that it is split into fits (`Indices`), and each form has its operands
 //! (`Operands`). Where it begins a statement, nothing else is seen there (`Statements`, which has the step of
-//! statements; of macros that are items there by `NamedMacros`). `Forms` has all that is to be known of expressions,
+//! statements; of macros that are items there by `NamedMacros`; `Given` has what attributes in front of an expression
+//! are in its normal form). `Forms` has all that is to be known of expressions,
 //! `ReadBack` the laws of kinds, and `Positions` those of an expression where it stands (`specs/Parts`). `Examples` has
 //! an expression for each law.
 //!
