@@ -22,3 +22,4 @@ pub mod Opening
 pub mod Begins
 pub mod Apartness
 pub mod Expressing
+pub mod OffKinds

@@ -49,7 +49,8 @@ given_some x k l e = absurd (some_none (k, l) e)
 pub given_none : (x : Tree) → None ≡ giving_of x → false ≡ opens_given x
 given_none (t.Infix m j y r) e = by (nat_eq (level j) 3) e
   where
-    by : (b : Bool) → ◌≡◌ {A = Option (Kind × Tree)} None (cond b None (Some (j, m))) → false ≡ (not b && (goes_in j m || opens_given m))
+    by : (b : Bool) → ◌≡◌ {A = Option (Kind × Tree)} None (cond b None (Some (j, m)))
+        → false ≡ (not b && (goes_in j m || opens_given m))
     by true f = refl
     by false f = absurd (some_none (j, m) (sym f))
 given_none (t.Back m ExprCast y) e = absurd (some_none (ExprCast, m) (sym e))

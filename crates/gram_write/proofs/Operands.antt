@@ -1,6 +1,6 @@
 -- What stands in forms with an operand before them, and in a statement that is an expression, by the form of trees.
-use Rattle.std.specs.Prelude.{◌≡◌, ◌≢◌, ℕ, zero, suc, ◌+◌, ◌-◌, ◌<◌, ◌≤◌, ◌==◌, Bool, true, false, not, cond, nat_eq, List}
-use Rattle.std.specs.Prelude.{[], ◌∷◌, Option, Some, None, length, refl}
+use Rattle.std.specs.Prelude.{◌≡◌, ◌≢◌, ℕ, zero, suc, ◌+◌, ◌-◌, ◌<◌, ◌≤◌, ◌==◌, Bool, true, false, not, cond, nat_eq}
+use Rattle.std.specs.Prelude.{List, [], ◌∷◌, Option, Some, None, length, refl}
 use Rattle.std.proofs.Common.{ap, ◌∙◌, sym, arith}
 use Rattle.std.proofs.lemmas.Bool.{ne_eqb}
 use Rattle.rust_leaf.specs.declared.punct.Spacing.{Spacing}
@@ -307,7 +307,8 @@ stated_below x a z s e =
 giving_in : (x : Tree) (k : Kind) (l : Tree) → Some (k, l) ≡ giving_of x → node_count l < node_count x
 giving_in (t.Infix m j y r) k l e = by (nat_eq (level j) 3) e
   where
-    by : (b : Bool) → ◌≡◌ {A = Option (Kind × Tree)} (Some (k, l)) (cond b None (Some (j, m))) → node_count l < node_count (t.Infix m j y r)
+    by : (b : Bool) → ◌≡◌ {A = Option (Kind × Tree)} (Some (k, l)) (cond b None (Some (j, m)))
+        → node_count l < node_count (t.Infix m j y r)
     by true f = absurd (some_none (k, l) f)
     by false f = let s = same_pair k j l m f in omega (arith, ap node_count s.1)
 giving_in (t.Back m ExprCast y) k l e = let s = same_pair k ExprCast l m e in omega (arith, ap node_count s.1)
