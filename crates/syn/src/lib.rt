@@ -6,15 +6,18 @@
 //!
 //! - `parse`: tokens that are one form of a kind: a file, an item, a type, an expression.
 //! - `leaf`: the leaves of a tree, in their order, with where they stand.
+//! - `node`: its nodes and the forms of its expressions, at every depth.
 #![tactic(auto)]
 
 pub mod leaf;
+pub mod node;
 pub mod parse;
 
 pub use gram_table::kind::{Kind, Place, Plus, Position, Style};
 pub use gram_table::part::Part;
 pub use gram_tree::tree::{Element, Form, Three, Tree, Two};
 pub use leaf::{Leaf, put_leaves};
+pub use node::put_nodes;
 pub use parse::{parse_as, parse_file};
 pub use proc_macro2::{LineColumn, SourceMap, Span, TokenStream};
 pub use syn_buffer::TokenBuffer;
