@@ -65,6 +65,10 @@ python3 -c 'print(" ".join(f"struct S{n} ;" for n in range(40)) + " m ! { " + "(
     > "$work/large.answer"
 answer=$work/large.answer
 sweep "canon, a large text" canon_cli "$work/large"
+printf 'fn f(){#[a] x..y; use {::a}; |x| #[a] .. + 1}' > "$work/ranges"
+printf 'fn f () { # [a] (x .. y) ; use { :: a } ; (| x | # [a] (..)) + 1 }\n' > "$work/ranges.answer"
+answer=$work/ranges.answer
+sweep "canon, ranges behind attributes" canon_cli "$work/ranges"
 want=1 answer=$work/nothing
 printf 'struct S;\nm!{(' > "$work/lexical"
 said=$'canon: lexical fault at 2:3\n'
