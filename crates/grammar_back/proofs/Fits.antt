@@ -37,7 +37,7 @@ use Rattle.syn_grammar.specs.Part.{choice, has}
 use Rattle.syn_grammar.specs.Normal.{stands_behind, formed}
 use Rattle.grammar_back.specs.After.{is_any_path, is_closed, is_generic, is_open}
 use Rattle.grammar_back.specs.Covered.{front, inner, has_clear_type, has_plain_path, is_lone, has_lone_value, is_known}
-use Rattle.grammar_back.specs.Covered.{is_form, is_plain_part, is_statement_form, is_no_macro, is_plain_macro}
+use Rattle.grammar_back.specs.Covered.{is_form, is_plain_part, is_statement_form, is_plain_macro}
 use Rattle.grammar_back.specs.Covered.{item_of}
 
 -- the test can say so
@@ -292,7 +292,7 @@ IsMeant ALet x = has_closed_value x ≡ true
 IsMeant AStatement x = is_statement_form x ≡ true
 IsMeant Statements x = has_own_semicolons x ≡ true
 IsMeant Arms x = have_commas x ≡ true
-IsMeant AForeignItem x = is_no_macro (choice (item_of x)) ≡ true
+IsMeant AForeignItem x = is_plain_macro (choice (item_of x)) ≡ true
 IsMeant ATraitItem x = is_plain_macro (choice (item_of x)) ≡ true
 IsMeant AnImplItem x = is_plain_macro (choice (item_of x)) ≡ true
 IsMeant ExprField x = (has_dots (front x) ≡ true) × (has_last (back x) ≡ true)

@@ -5,11 +5,12 @@ use Rattle.std.proofs.lemmas.Slice.Eq.{bytes_eq-Decides}
 use Rattle.std.specs.Prelude.{Bool, true, false, ◌||◌, not, cond, codes, Option, Some, None, ℕ}
 use Prim.Native.String.{String}
 use Rattle.proc_macro2.specs.Token.{Token, Ident, Literal}
+use Rattle.proc_macro2.specs.declared.delimiter.Delimiter.TheVariants.{Bracket}
 use Rattle.syn_grammar.specs.Kind.{Kind, AForeignItem, AFunction, AStatic, ATypeAlias, Abi, InForeign, ItemMacro}
 use Rattle.syn_grammar.specs.Kind.{OuterAttributes, Plain, Position, Signature, Visibility}
 use Rattle.syn_grammar.specs.Name.{Part, same_part, the_body, the_bounds, the_item, the_safety, the_type, the_value}
 use Rattle.syn_grammar.specs.Name.{the_visibility}
-use Rattle.syn_grammar.specs.Words.{is_among, is_string, same_text, is_reserved}
+use Rattle.syn_grammar.specs.Words.{is_among, is_ident, is_string, same_text, is_reserved}
 use Rattle.syn_grammar.specs.Tree.{Tree, ALiteral, AWord, Called, First, Nil, Node, Pair, Second, Verbatim, flat}
 use Rattle.syn_grammar.specs.Part.{changed, choice, found, has, or_else, or_nil, the}
 use Rattle.syn_grammar.specs.Gram.{Gram, Keep, alt, judged, literal, ref}
@@ -25,12 +26,18 @@ use Rattle.syn_grammar.specs.Derives.{Derives}
 use Rattle.syn_grammar.specs.Tidy.{moved}
 use Rattle.syn_grammar.specs.Kept.{held, kept}
 use Rattle.syn_grammar.specs.Normal.{passed, place_of, normal_in}
-use Rattle.grammar_back.proofs.MacroItems.{plain_same}
-use Rattle.grammar_back.specs.Covered.{has_step, inner, is_no_macro, item_of}
+use Rattle.grammar_back.proofs.MacroItems.{a_word_lacked, macro_classes, macro_front, macro_lacks, macro_seen}
+use Rattle.grammar_back.proofs.MacroItems.{plain_same, with_listed}
+use Rattle.grammar_back.proofs.ForeignMacros.{foreign_lacks, foreign_looks}
+use Rattle.grammar_back.proofs.Choices.{both_true}
+use Rattle.grammar_back.proofs.Keywords.{reserved_pub}
+use Rattle.grammar_back.proofs.Sights.{ident_not}
+use Rattle.grammar_back.specs.Covered.{has_step, inner, is_other, is_plain_macro, item_of}
 use Rattle.grammar_back.specs.Sees.{Lacks, LacksAll}
 use Rattle.item_laws.proofs.Stays.{item_stays}
 use Rattle.grammar_back.proofs.RawItems.{raw_front}
-use Rattle.grammar_back.proofs.Classes.{Class, TheWord, IsAmong, among_left, among_right, of_all, others, the_words}
+use Rattle.grammar_back.proofs.Classes.{Class, IsAmong, Opening, TheWord, Then, among_left, among_right, of_all}
+use Rattle.grammar_back.proofs.Classes.{the_words}
 use Rattle.grammar_back.proofs.Starts.{starts}
 use Rattle.grammar_back.proofs.Fits.{Fits, IsMeant}
 use Rattle.grammar_back.proofs.Readies.{Ready, Step}
@@ -42,7 +49,7 @@ use Rattle.grammar_back.proofs.ItemVerdicts.{LawOf, alias_tree, bounded_fits, bo
 use Rattle.grammar_back.proofs.ItemVerdicts.{bounded_read, form_same, has_moved, same_has}
 use Rattle.grammar_back.proofs.Elements.{has_fits, has_read}
 use Rattle.grammar_back.proofs.Verdicts.{has_normal}
-use Rattle.grammar_back.proofs.Members.{SameMember, not_macro, the_visibility_is}
+use Rattle.grammar_back.proofs.Members.{SameMember, the_visibility_is}
 use Rattle.grammar_back.proofs.WholeItems.{public_same, taken_law}
 
 abbrev safety_words : List (List ℕ)
@@ -214,7 +221,7 @@ abbrev safe_class : List Class
 safe_class = the_words safety_words ++ static_class
 
 abbrev form_class : List Class
-form_class = function_class ++ (safe_class ++ type_class)
+form_class = function_class ++ (safe_class ++ (type_class ++ macro_classes))
 
 found_static : Found safe_static [] safe_class
 unfolding skips
@@ -223,7 +230,20 @@ found_static =
     (found_called (found_ref AStatic refl)) ((λ us. refl, tt), tt)
 
 abbrev FormEdge : Edge
-FormEdge x s = is_no_macro (choice (item_of x)) ≡ true
+FormEdge x s = is_plain_macro (choice (item_of x)) ≡ true
+
+macro_begins : (x : Tree) (s : List Token) → Fits x (the_item ∶ ref (ItemMacro InForeign)) → Ready x → FormEdge x s
+    → Derives x (the_item ∶ ref (ItemMacro InForeign)) s × IsAmong macro_classes (flat x ++ s)
+    × LacksAll foreign_looks (flat x ++ s)
+unfolding table skips
+macro_begins (Called n (Node k y)) s f w e =
+    let (d, i) = (found_called {n = the_item} (found_ref (ItemMacro InForeign) refl)).fine.by (Called n (Node k y)) s
+    f w tt in
+    let g : Derives y (table (ItemMacro InForeign)) s = subst (λ j. Derives y (table j) s) d.1.0 d.1.1 in
+    let j = macro_front InForeign y s g i (subst (λ l. is_plain_macro (Node l y) ≡ true) f.1.0 e) in
+    (d, j, foreign_lacks y s g j)
+macro_begins (Called n _) s f w e = absurd f.1
+macro_begins _ s f w e = absurd f
 
 fine_form : Fine foreign_form FormEdge (At form_class)
 unfolding skips
@@ -232,8 +252,10 @@ fine_form = record { by = go }
     go : (x : Tree) (s : List Token) → Fits x foreign_form → Ready x → FormEdge x s
         → Derives x foreign_form s × At form_class x s
     go (First x) s f w e =
-        let (d, i) = (found_called {n = the_item} (found_ref (AFunction InForeign) refl)).fine.by x s f.1 w tt in
-        ((function_seen x s d, d), among_left function_class (safe_class ++ type_class) (flat x ++ s) i)
+        let (d, i) = (found_called {n = the_item} (found_ref (AFunction InForeign) refl)).fine.by x s f.1 w tt in (
+          (function_seen x s d, d),
+          among_left function_class (safe_class ++ (type_class ++ macro_classes)) (flat x ++ s) i,
+        )
     go (Second (First (Pair x z))) s f w e =
         let (d, i) = found_static.fine.by (Pair x z) s f.1.1 w tt in
         let j = ((found_called {n = the_item} (found_ref AStatic refl)).fine.by z s f.1.1.1 w.1 tt).1 in (
@@ -247,8 +269,8 @@ fine_form = record { by = go }
               d,
             ),
           ),
-          among_right function_class (safe_class ++ type_class) (flat (Pair x z) ++ s)
-              (among_left safe_class type_class (flat (Pair x z) ++ s) i),
+          among_right function_class (safe_class ++ (type_class ++ macro_classes)) (flat (Pair x z) ++ s)
+              (among_left safe_class (type_class ++ macro_classes) (flat (Pair x z) ++ s) i),
         )
     go (Second (First _)) s f w e = absurd f.1.1
     go (Second (Second (First x))) s f w e =
@@ -260,11 +282,18 @@ fine_form = record { by = go }
               (told_at (at "type") true type_class (flat x ++ s) (λ us. refl, tt) i, d),
             ),
           ),
-          among_right function_class (safe_class ++ type_class) (flat x ++ s)
-              (among_right safe_class type_class (flat x ++ s) i),
+          among_right function_class (safe_class ++ (type_class ++ macro_classes)) (flat x ++ s)
+              (among_right safe_class (type_class ++ macro_classes) (flat x ++ s)
+              (among_left type_class macro_classes (flat x ++ s) i)),
         )
-    go (Second (Second (Second (First (Called n x))))) s f w e = absurd (not_macro InForeign x f.1.1.1.1.1 e)
-    go (Second (Second (Second (First _)))) s f w e = absurd f.1.1.1.1
+    go (Second (Second (Second (First x)))) s f w e =
+        let m = macro_begins x s f.1.1.1.1 w e in
+        let l = macro_lacks (flat x ++ s) m.1 in (
+          (m.2.0, (m.2.1.0, (l.1.1.1.1.1.1.1.1.1.1.1.1.1.0, (macro_seen (flat x ++ s) m.1, m.0)))),
+          among_right function_class (safe_class ++ (type_class ++ macro_classes)) (flat x ++ s)
+              (among_right safe_class (type_class ++ macro_classes) (flat x ++ s)
+              (among_right type_class macro_classes (flat x ++ s) m.1)),
+        )
     go (Second (Second (Second (Second x)))) s f w e = absurd (none_never x f.1.1.1.1)
     go (Second (Second (Second _))) s f w e = absurd f.1.1.1
     go (Second (Second _)) s f w e = absurd f.1.1
@@ -274,11 +303,54 @@ fine_form = record { by = go }
 abbrev pub whole_foreign : Gram
 whole_foreign = ref OuterAttributes ▸ the_visibility ∶ ref Visibility ▸ foreign_form
 
-fine_foreign : Fine whole_foreign FormEdge (At (others (starts AForeignItem)))
+-- in front, but of a macro
+abbrev front_classes : List Class
+front_classes =
+    Then 35 [] (Opening Bracket) ∷ TheWord (codes "pub") ∷ (function_class ++ (safe_class ++ type_class))
+
+fine_foreign : Fine whole_foreign FormEdge (At (front_classes ++ macro_classes))
 unfolding skips
 fine_foreign =
     maybe_ahead FormEdge (TheWord (codes "pub") ∷ form_class) (maybe_ref OuterAttributes refl)
-    (maybe_ahead FormEdge form_class (maybe_called (maybe_ref Visibility refl)) fine_form ((search), ((search), tt))
+    (maybe_ahead FormEdge form_class (maybe_called (maybe_ref Visibility refl)) fine_form (
+      (
+        (λ us. refl),
+        (
+          (λ us. refl),
+          (
+            (λ us. refl),
+            (
+              (λ us. refl),
+              (
+                (λ us. refl),
+                (
+                  (λ us. refl),
+                  (
+                    (λ us. refl),
+                    (
+                      (λ us. refl),
+                      (
+                        (λ us. refl),
+                        (
+                          (λ us. refl),
+                          (
+                            (λ cs h us. a_word_lacked (same_text (codes "pub") cs) us
+                                (ident_not (codes "pub") cs reserved_pub
+                                (both_true (is_ident cs) (not (is_other cs)) h).0)),
+                            ((λ us. refl), ((λ us. refl), ((λ us. refl), ((λ us. refl), tt)))),
+                          ),
+                        ),
+                      ),
+                    ),
+                  ),
+                ),
+              ),
+            ),
+          ),
+        ),
+      ),
+      ((search), tt),
+    )
     (λ x y s c. c)) ((search), tt) (λ x y s c. c)
 
 pub step_a_foreign_item : Step AForeignItem
@@ -287,7 +359,8 @@ step_a_foreign_item =
     meant_step AForeignItem refl refl
     (fine_weaker (λ x s. LacksAll [] s × IsMeant AForeignItem x) (At (starts AForeignItem))
     (fine_raw_or {A = FormEdge} {F = At (starts AForeignItem)}
-    (fine_weaker FormEdge (At (starts AForeignItem)) fine_foreign (λ x s c. c) (λ x s i c. inr i))
+    (fine_weaker FormEdge (At (starts AForeignItem)) fine_foreign (λ x s c. c)
+    (λ x s i c. inr (with_listed front_classes (flat x ++ s) i)))
     (λ x s d. inl (raw_front (item_verdict InForeign) foreign_form (search) x s d))) (λ x s c. c.1) (λ x s i c. i))
 
 -- what is kept of each form
@@ -295,7 +368,6 @@ foreign_function : LawOf (SameMember InForeign) (AFunction InForeign)
 unfolding held passed
 foreign_function q y v r d f e = (
   λ b h. ap raw_if (same_has the_body Plain (table (AFunction InForeign)) y v r d f (ap inner e)) ∙ h,
-  refl,
   refl,
 )
 
@@ -306,7 +378,6 @@ foreign_static q y v r d f e = (
       (same_has the_type Plain (table AStatic) y v r d f (ap inner e))
       ∙ ap (λ c. refused_if (not (has the_type y)) (raw_if c))
       (same_has the_value Plain (table AStatic) y v r d f (ap inner e)) ∙ h,
-  refl,
   refl,
 )
 
@@ -340,11 +411,11 @@ alias_keeps y v r d f e h =
 
 foreign_alias : LawOf (SameMember InForeign) (ATypeAlias InForeign)
 unfolding held passed
-foreign_alias q y v r d f e = (λ b h. alias_keeps y v r d f (ap inner e) h, refl, refl)
+foreign_alias q y v r d f e = (λ b h. alias_keeps y v r d f (ap inner e) h, refl)
 
 foreign_macro : LawOf (SameMember InForeign) (ItemMacro InForeign)
 unfolding held passed table
-foreign_macro q y v r d f e = ((λ b h. h), refl, plain_same InForeign y v r d f (ap inner e))
+foreign_macro q y v r d f e = ((λ b h. h), plain_same InForeign y v r d f (ap inner e))
 
 -- the part that is the form
 safety_none : (x : Tree) (ts : List Token) → Derives x (safety InForeign) ts → found the_item x ≡ None
@@ -443,7 +514,7 @@ its_form x = x
 abbrev ForeignLaw : Tree → Tree → Type 0
 ForeignLaw x w =
     (item_verdict InForeign x ≡ Keep → item_verdict InForeign w ≡ Keep)
-    × (is_no_macro (choice (item_of w)) ≡ is_no_macro (choice (item_of x)))
+    × (is_plain_macro (choice (item_of w)) ≡ is_plain_macro (choice (item_of x)))
 
 foreign_law : (x w : Tree) (r : List Token) → Derives x whole_foreign r → Fits w whole_foreign
     → kept w ≡ normal_in Plain (kept x) → ForeignLaw x w
@@ -479,7 +550,7 @@ chosen x = x
 
 foreign_meant : (x w : Tree) (r : List Token) → Derives x (judged (item_verdict InForeign) whole_foreign) r
     → Fits w (judged (item_verdict InForeign) whole_foreign) → kept w ≡ normal_in Plain (kept x)
-    → is_no_macro (choice (item_of x)) ≡ true → is_no_macro (choice (item_of w)) ≡ true
+    → is_plain_macro (choice (item_of x)) ≡ true → is_plain_macro (choice (item_of w)) ≡ true
 unfolding chosen
 foreign_meant (First x) (First w) r d f e h = (foreign_law x w r d.1 f.1 (ap chosen e)).1 ∙ h
 foreign_meant (First x) (Verbatim w) r d f e h = refl

@@ -53,6 +53,7 @@ pub mod Braces
 pub mod FirstWords
 pub mod WholeItems
 pub mod Members
+pub mod ForeignMacros
 pub mod ForeignItems
 pub mod Lets
 pub mod Turns

@@ -56,7 +56,7 @@ none_or : (a b : Bool) → (a || b) ≡ false → (a ≡ false) × (b ≡ false)
 none_or false b e = (refl, e)
 none_or true b e = cc
 
-maybe_none : (a l : Look) (ts : List Token) → Lacks a ts → Lacks l ts → Lacks (maybe a then l) ts
+pub maybe_none : (a l : Look) (ts : List Token) → Lacks a ts → Lacks l ts → Lacks (maybe a then l) ts
 maybe_none a l ts e f = go (a ts) e
   where
     go : (o : Option (List Token)) → seen o ≡ false → seen (behind (first_seen o (Some ts)) l) ≡ false

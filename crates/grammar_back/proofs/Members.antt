@@ -21,7 +21,7 @@ use Rattle.syn_grammar.specs.Kept.{held, kept}
 use Rattle.syn_grammar.specs.Normal.{passed, place_of, normal_in}
 use Rattle.item_laws.proofs.Places.{place_const, place_function}
 use Rattle.item_laws.proofs.Readers.{flat_choice}
-use Rattle.grammar_back.specs.Covered.{has_step, inner, is_no_macro, is_other, is_plain_macro, item_of}
+use Rattle.grammar_back.specs.Covered.{has_step, inner, is_other, is_plain_macro, item_of}
 use Rattle.grammar_back.proofs.Keywords.{reserved_pub}
 use Rattle.grammar_back.proofs.MacroItems.{a_word_lacked, macro_classes, macro_front, macro_lacks, macro_seen}
 use Rattle.grammar_back.proofs.MacroItems.{no_default, plain_same, with_listed}
@@ -41,7 +41,7 @@ use Rattle.grammar_back.proofs.Fine.{At, AtOrNone, Edge, Fine, fine_called, fine
 use Rattle.grammar_back.proofs.Parts.{Found, Maybe, Told, found_called, found_optional, found_ref, found_text}
 use Rattle.grammar_back.proofs.Parts.{maybe_ahead, maybe_called, maybe_ref, meant_step, none_never, told_at}
 use Rattle.grammar_back.proofs.Printed.{KindLaw, simple_law}
-use Rattle.grammar_back.proofs.Impls.{contrary, lacks_part}
+use Rattle.grammar_back.proofs.Impls.{lacks_part}
 use Rattle.grammar_back.proofs.ItemPlaces.{has_none, placed_own}
 use Rattle.grammar_back.proofs.ItemVerdicts.{EachOf, LawOf, alias_stays, constant_parts, constant_stays, form_same}
 use Rattle.grammar_back.proofs.ItemVerdicts.{none_raw, raw_none, same_has}
@@ -104,11 +104,6 @@ signed_impl (Pair (Node k s) y) r d =
     signed_in s y r (subst (λ j. Derives s (table j) (flat y ++ r)) d.0.0 d.0.1) d.1
 signed_impl (Pair _ y) r d = absurd d.0
 signed_impl _ r d = absurd d
-
-pub not_macro : (p : Place) (x : Tree) → Fits x (ref (ItemMacro p)) → is_no_macro (choice x) ≡ true → ⊥
-not_macro p (Node k x) f e =
-    contrary false (subst (λ j. is_no_macro (Node j x) ≡ true) f.0 e) refl
-not_macro p _ f e = absurd f
 
 abbrev FormEdge : Edge
 FormEdge x s = is_plain_macro (choice x) ≡ true
@@ -407,11 +402,10 @@ step_an_impl_item =
 -- Where a form is kept, it is kept as it is printed.
 abbrev pub SameMember : Place → Tree → Tree → Type 0
 SameMember p x w =
-    ((b : Bool) → form_in p b x ≡ Keep → form_in p b w ≡ Keep) × (is_no_macro w ≡ is_no_macro x)
-    × (is_plain_macro w ≡ is_plain_macro x)
+    ((b : Bool) → form_in p b x ≡ Keep → form_in p b w ≡ Keep) × (is_plain_macro w ≡ is_plain_macro x)
 
 trait_function : LawOf (SameMember InTrait) (AFunction InTrait)
-trait_function q y v r d f e = ((λ b h. h), refl, refl)
+trait_function q y v r d f e = ((λ b h. h), refl)
 
 trait_constant : LawOf (SameMember InTrait) AConst
 unfolding held passed
@@ -420,35 +414,33 @@ trait_constant q y v r d f e = (
       let j = constant_parts y v r d f (ap inner e) in
       raw_none b (is_generic (the the_generics v)) (is_where (the the_where v)) i.0 (j.1 i.1) (j.2 i.2),
   refl,
-  refl,
 )
 
 trait_alias : LawOf (SameMember InTrait) (ATypeAlias InTrait)
-trait_alias q y v r d f e = ((λ b h. h), refl, refl)
+trait_alias q y v r d f e = ((λ b h. h), refl)
 
 trait_macro : LawOf (SameMember InTrait) (ItemMacro InTrait)
 unfolding held passed table
-trait_macro q y v r d f e = ((λ b h. h), refl, plain_same InTrait y v r d f (ap inner e))
+trait_macro q y v r d f e = ((λ b h. h), plain_same InTrait y v r d f (ap inner e))
 
 impl_function : LawOf (SameMember InImpl) (AFunction InImpl)
 unfolding held passed
 impl_function q y v r d f e = (
   λ b h. ap (λ c. raw_if (not c)) (same_has the_body Plain (table (AFunction InImpl)) y v r d f (ap inner e)) ∙ h,
   refl,
-  refl,
 )
 
 impl_constant : LawOf (SameMember InImpl) AConst
 unfolding held passed
-impl_constant q y v r d f e = (λ b h. constant_stays y v r d f (ap inner e) h, refl, refl)
+impl_constant q y v r d f e = (λ b h. constant_stays y v r d f (ap inner e) h, refl)
 
 impl_alias : LawOf (SameMember InImpl) (ATypeAlias InImpl)
 unfolding held passed
-impl_alias q y v r d f e = (λ b h. alias_stays InImpl y v r d f (ap inner e) h, refl, refl)
+impl_alias q y v r d f e = (λ b h. alias_stays InImpl y v r d f (ap inner e) h, refl)
 
 impl_macro : LawOf (SameMember InImpl) (ItemMacro InImpl)
 unfolding held passed table
-impl_macro q y v r d f e = ((λ b h. h), refl, plain_same InImpl y v r d f (ap inner e))
+impl_macro q y v r d f e = ((λ b h. h), plain_same InImpl y v r d f (ap inner e))
 
 -- the parts of such an item
 item_part : (d y : Tree) → has the_item d ≡ false → or_nil (or_else (found the_item d) (Some y)) ≡ y
@@ -512,7 +504,7 @@ module _ (p : Place) (marks_are : (x : Tree) → marked p x ≡ (is_public (the 
             ∙ ap (λ t. form_in p (marked p x) (choice t)) (the_item_is l a i u b j z f.1.0.0 f.1.1.1.0 lacks_b)
             ∙ s.0 (marked p x) (sym (ap (λ t. form_in p (marked p x) (choice t))
             (the_item_is k o n v c m y d.1.0.0 d.1.1.1.0 lacks_c)) ∙ h),
-        s.2,
+        s.1,
       )
   member_law (Pair (Node k o) (Pair (Called n v) (Pair c (Called m y))))
       (Pair (Node l a) (Pair (Called i u) (Pair b _))) r d f e = absurd f.1.1.1

@@ -486,7 +486,8 @@ starts Items = RawFront ∷ Then 35 [] (Opening Bracket) ∷ TheWord (codes "pub
 starts ForeignItems = RawFront ∷ Then 35 [] (Opening Bracket) ∷ TheWord (codes "pub") ∷ TheWord (codes "const") ∷
     TheWord (codes "async") ∷ TheWord (codes "unsafe") ∷ TheWord (codes "safe") ∷ TheWord (codes "extern") ∷ TheWord
     (codes "fn") ∷ TheWord (codes "unsafe") ∷ TheWord (codes "safe") ∷ TheWord (codes "static") ∷ TheWord
-    (codes "type") ∷ []
+    (codes "type") ∷ AnyWord is_ident ∷ TheWord (codes "self") ∷ TheWord (codes "super") ∷ TheWord (codes "crate") ∷
+    Sign 58 (58 ∷ []) ∷ []
 starts TraitItems = RawFront ∷ Then 35 [] (Opening Bracket) ∷ TheWord (codes "pub") ∷ TheWord (codes "default") ∷
     TheWord (codes "const") ∷ TheWord (codes "async") ∷ TheWord (codes "unsafe") ∷ TheWord (codes "extern") ∷ TheWord
     (codes "fn") ∷ TheWord (codes "const") ∷ TheWord (codes "type") ∷
@@ -514,7 +515,8 @@ starts AnItem = RawFront ∷ Then 35 [] (Opening Bracket) ∷ TheWord (codes "pu
 starts AForeignItem = RawFront ∷ Then 35 [] (Opening Bracket) ∷ TheWord (codes "pub") ∷ TheWord (codes "const") ∷
     TheWord (codes "async") ∷ TheWord (codes "unsafe") ∷ TheWord (codes "safe") ∷ TheWord (codes "extern") ∷ TheWord
     (codes "fn") ∷ TheWord (codes "unsafe") ∷ TheWord (codes "safe") ∷ TheWord (codes "static") ∷ TheWord
-    (codes "type") ∷ []
+    (codes "type") ∷ AnyWord is_ident ∷ TheWord (codes "self") ∷ TheWord (codes "super") ∷ TheWord (codes "crate") ∷
+    Sign 58 (58 ∷ []) ∷ []
 starts ATraitItem = RawFront ∷ Then 35 [] (Opening Bracket) ∷ TheWord (codes "pub") ∷ TheWord (codes "default") ∷
     TheWord (codes "const") ∷ TheWord (codes "async") ∷ TheWord (codes "unsafe") ∷ TheWord (codes "extern") ∷ TheWord
     (codes "fn") ∷ TheWord (codes "const") ∷ TheWord (codes "type") ∷

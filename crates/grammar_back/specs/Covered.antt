@@ -366,8 +366,7 @@ has_own_trait (First (Pair d (Pair c (Pair u (Pair i (Pair g (Pair p (Pair (Call
     not (is_there f) || is_path_type t
 has_own_trait _ = true
 
--- The path of a macro among items begins with ::, or with a word that is none of these. In extern blocks there are no
--- macros so far.
+-- The path of a macro among items begins with ::, or with a word that is none of these.
 abbrev pub is_other : List ℕ → Bool
 is_other cs =
     same_text (codes "Self") cs
@@ -498,7 +497,7 @@ is_taken OnePattern x = not (is_lone (choice x))
 is_taken AnImpl x = has_own_trait x
 is_taken AnItem x = is_plain_macro (choice (item_of x))
 is_taken AStatement x = is_statement_form x
-is_taken AForeignItem x = is_no_macro (choice (item_of x))
+is_taken AForeignItem x = is_plain_macro (choice (item_of x))
 is_taken ATraitItem x = is_plain_macro (choice (item_of x))
 is_taken AnImplItem x = is_plain_macro (choice (item_of x))
 is_taken k x = true

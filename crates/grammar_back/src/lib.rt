@@ -17,12 +17,12 @@
 //! `Predicates`, `Turbofish`, `Alternatives`,
 //! `References`, `Receivers` (by `Selves`), `Aliases`, `Dotted`, `FieldValues`, `Turns`, `PathTypes` (types before
 //! `for`), `ImplParams`, `Impls` (by `Bracketed`), `WholeItems` (by `ItemPlaces`, `MacroItems` and `ItemVerdicts`),
-//! `Members`, `ForeignItems`, `Lets` (by `FirstWords` and `Braces`), `NamedMacros` (macros that are items among
-//! statements), `Statements` (what is printed for one; by `Ends`, which has the forms that end there by themselves, and
-//! `InFront`, which has the attributes in front of an expression) and `StatementLists`, `Arms`, and for the script
-//! `Seconds`, `Params` and `FieldNames`; `RawItems` has how raw ones begin, which are read back as `item_laws` says;
-//! `Passed` has what stands behind attributes. `Elements` has the verdicts on lists, and `Choices` what is true of
-//! booleans and of one look or another. What all this needs of expressions stands in one place (`Expressions`): the
-//! steps and laws of the kinds of their forms and of a statement, and that an expression is printed where their own
-//! parts are.
+//! `Members`, `ForeignItems` (by `ForeignMacros`), `Lets` (by `FirstWords` and `Braces`), `NamedMacros` (macros that
+//! are items among statements), `Statements` (what is printed for one; by `Ends`, which has the forms that end there by
+//! themselves, and `InFront`, which has the attributes in front of an expression) and `StatementLists`, `Arms`, and for
+//! the script `Seconds`, `Params` and `FieldNames`; `RawItems` has how raw ones begin, which are read back as
+//! `item_laws` says; `Passed` has what stands behind attributes. `Elements` has the verdicts on lists, and `Choices`
+//! what is true of booleans and of one look or another. What all this needs of expressions stands in one place
+//! (`Expressions`): the steps and laws of the kinds of their forms and of a statement, and that an expression is
+//! printed where their own parts are.
 #![tactic(auto)]
