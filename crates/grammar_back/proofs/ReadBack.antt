@@ -27,7 +27,8 @@ use Rattle.grammar_back.specs.Covered.{is_statement_form}
 use Rattle.grammar_back.proofs.Fits.{IsMeant}
 use Rattle.std.specs.Prelude.{Bool, false}
 use Rattle.syn_grammar.specs.Tree.{First, Nil, Second, Whole}
-use Rattle.grammar_back.specs.Covered.{all_covered, is_covered, stands_alone}
+use Rattle.grammar_back.specs.Covered.{all_covered, stands_alone}
+use Rattle.std.specs.Prelude.{◌&&◌}
 use Rattle.grammar_back.proofs.Choices.{both_true}
 use Rattle.grammar_back.proofs.Conditions.{is_condition_kind}
 use Rattle.grammar_back.proofs.FieldValues.{end_fits}
@@ -38,6 +39,10 @@ use Rattle.grammar_back.proofs.Readies.{ready}
 use Rattle.grammar_back.proofs.Fine.{fine_ref}
 use Rattle.grammar_back.proofs.Printed.{Printed, IsPlaced, printed}
 use Rattle.grammar_back.proofs.Expressions.{Expressions, all_steps, all_laws}
+
+-- all of it is covered, and it stands by itself
+abbrev pub is_whole : Tree → Bool
+is_whole x = stands_alone x && all_covered x
 
 -- what stands by itself: no arm does
 abbrev pub IsAlone : Kind → Type 0
@@ -54,7 +59,7 @@ node_in_place (Expression Plain) x e = refl
 node_in_place (Expression _) x e = cc
 node_in_place _ x e = tt
 
-pub node_placed : (k : Kind) (x : Tree) (r : List Token) → Derives x (ref k) r → is_covered x ≡ true → IsAlone k
+pub node_placed : (k : Kind) (x : Tree) (r : List Token) → Derives x (ref k) r → is_whole x ≡ true → IsAlone k
 node_placed k (Node l x) r d c =
     subst IsAlone d.0
     (node_in_place l x (both_true (stands_alone (Node l x)) (all_covered (Node l x)) c).0)
@@ -143,7 +148,7 @@ after_printed _ w s p f a = a
 
 module _ (expressions : Expressions) where
   pub read_placed : (k : Kind) (x : Tree) (r s : List Token) → IsAlone k → Derives x (ref k) r
-      → is_covered x ≡ true → After k (normal (kept x)) s
+      → is_whole x ≡ true → After k (normal (kept x)) s
       → IsRead k (flat (normal (kept x)) ++ s) (normal (kept x)) s
   read_placed k x r s l d c a =
       let p : Printed (ref k) (normal (kept x)) =
@@ -161,7 +166,7 @@ module _ (expressions : Expressions) where
       }
 
   pub same_placed : (k : Kind) (x y : Tree) (r q s : List Token) → IsAlone k → Derives x (ref k) r
-      → Derives y (ref k) q → is_covered x ≡ true → is_covered y ≡ true → After k (normal (kept x)) s
+      → Derives y (ref k) q → is_whole x ≡ true → is_whole y ≡ true → After k (normal (kept x)) s
       → After k (normal (kept y)) s → flat (normal (kept x)) ≡ flat (normal (kept y))
       → normal (kept x) ≡ normal (kept y)
   same_placed k x y r q s l d e c f a b h =

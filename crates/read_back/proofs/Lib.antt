@@ -24,6 +24,7 @@ pub mod NamedMacros
 pub mod Statements
 pub mod Given
 pub mod Forms
+pub mod Told
 pub mod ReadBack
 pub mod Positions
 pub mod Examples

@@ -13,13 +13,17 @@ use Rattle.grammar_back.specs.After.{After}
 use Rattle.grammar_back.specs.Covered.{is_covered}
 use Rattle.grammar_back.proofs.ReadBack.{node_placed, read_placed, same_placed}
 use Rattle.read_back.proofs.Forms.{expressions}
+use Rattle.read_back.proofs.Told.{whole_told}
 
 pub read_back : (k : Kind) (x : Tree) (r s : List Token) → Derives x (ref k) r → is_covered x ≡ true
     → After k (normal (kept x)) s → IsRead k (flat (normal (kept x)) ++ s) (normal (kept x)) s
-read_back k x r s d c a = read_placed expressions k x r s (node_placed k x r d c) d c a
+read_back k x r s d c a =
+    let w = whole_told k x r d c in
+    read_placed expressions k x r s (node_placed k x r d w) d w a
 
 pub same_tokens : (k : Kind) (x y : Tree) (r q s : List Token) → Derives x (ref k) r → Derives y (ref k) q
     → is_covered x ≡ true → is_covered y ≡ true → After k (normal (kept x)) s → After k (normal (kept y)) s
     → flat (normal (kept x)) ≡ flat (normal (kept y)) → normal (kept x) ≡ normal (kept y)
 same_tokens k x y r q s d e c f a b h =
-    same_placed expressions k x y r q s (node_placed k x r d c) d e c f a b h
+    let w = whole_told k x r d c in
+    same_placed expressions k x y r q s (node_placed k x r d w) d e w (whole_told k y q e f) a b h
