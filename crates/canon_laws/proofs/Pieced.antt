@@ -82,17 +82,17 @@ three_of ts = ts
 no_open : (ts us : List Token) → ts ≡ us → ends_open ts ≡ true → ends_open us ≡ false → ⊥
 no_open ts us e f g = let h : true ≡ false = sym f ∙ ap ends_open e ∙ g in cc h
 
-outer_doc : (text before left : List Token) (cs ds : List ℕ)
+outer_doc : (before left : List Token) (cs ds : List ℕ)
     → Punct 35 Alone ∷ doc_group ds ≡ before ++ Ident cs ∷ left → ends_open before ≡ false → ⊥
-outer_doc text [] left cs ds e o = cc e
-outer_doc text (a ∷ []) left cs ds e o = cc e
-outer_doc text (a ∷ b ∷ []) left cs ds e o =
+outer_doc [] left cs ds e o = cc e
+outer_doc (a ∷ []) left cs ds e o = cc e
+outer_doc (a ∷ b ∷ []) left cs ds e o =
     no_open (Punct 35 Alone ∷ Opens delimiter.Bracket ∷ []) (a ∷ b ∷ []) (ap two_of e) refl o
-outer_doc text (a ∷ b ∷ c ∷ []) left cs ds e o = cc e
-outer_doc text (a ∷ b ∷ c ∷ d ∷ []) left cs ds e o = cc e
-outer_doc text (a ∷ b ∷ c ∷ d ∷ f ∷ []) left cs ds e o = cc e
-outer_doc text (a ∷ b ∷ c ∷ d ∷ f ∷ g ∷ []) left cs ds e o = cc e
-outer_doc text (a ∷ b ∷ c ∷ d ∷ f ∷ g ∷ h ∷ before) left cs ds e o = cc e
+outer_doc (a ∷ b ∷ c ∷ []) left cs ds e o = cc e
+outer_doc (a ∷ b ∷ c ∷ d ∷ []) left cs ds e o = cc e
+outer_doc (a ∷ b ∷ c ∷ d ∷ f ∷ []) left cs ds e o = cc e
+outer_doc (a ∷ b ∷ c ∷ d ∷ f ∷ g ∷ []) left cs ds e o = cc e
+outer_doc (a ∷ b ∷ c ∷ d ∷ f ∷ g ∷ h ∷ before) left cs ds e o = cc e
 
 inner_doc : (before left : List Token) (cs ds : List ℕ)
     → Punct 35 Alone ∷ Punct 33 Alone ∷ doc_group ds ≡ before ++ Ident cs ∷ left → ends_open before ≡ false → ⊥
@@ -111,7 +111,7 @@ doc_out : (b : Bool) (before left : List Token) (cs ds : List ℕ)
     → cond b (Punct 35 Alone ∷ Punct 33 Alone ∷ []) (Punct 35 Alone ∷ []) ++ doc_group ds ≡ before ++ Ident cs ∷ left
     → ends_open before ≡ false → ⊥
 doc_out true before left cs ds e o = inner_doc before left cs ds e o
-doc_out false before left cs ds e o = outer_doc [] before left cs ds e o
+doc_out false before left cs ds e o = outer_doc before left cs ds e o
 
 -- the piece is that word
 record IsWord (kind : PieceKind) (chars : List ℕ) (before : List Token) (cs : List ℕ) : Type 0 where
