@@ -1,11 +1,13 @@
--- The step of an unnamed field: what stands in parentheses behind its pub is no type.
+-- The step of an unnamed field: what stands in parentheses behind its pub is no restriction.
 use Rattle.std.proofs.Common.{◌≡◌, List, [], ◌∷◌, ◌++◌, refl, sym, subst, append_assoc, ⊎_elim, inl, inr}
-use Rattle.std.specs.Prelude.{Bool, true, false, ◌⊎◌, ◌&&◌, not, codes, Option, Some, None}
-use Rattle.proc_macro2.specs.Token.{Token}
-use Rattle.syn_grammar.specs.Kind.{AType, OuterAttributes, UnnamedField, Visibility, WithPlus}
-use Rattle.syn_grammar.specs.Tree.{Tree, Nil, Pair, First, Second, Node, flat}
+use Rattle.std.specs.Prelude.{Bool, true, false, ◌⊎◌, ◌&&◌, ◌||◌, cond, not, codes, Option, Some, None}
+use Rattle.proc_macro2.specs.Token.{Token, Ident, Opens, Closes}
+use Rattle.proc_macro2.specs.declared.delimiter.Delimiter.TheVariants.{Parenthesis}
+use Rattle.syn_grammar.specs.Kind.{AType, OuterAttributes, TupleType, UnnamedField, Visibility, WithPlus}
+use Rattle.syn_grammar.specs.Tree.{Tree, Nil, Pair, First, Second, Group, Node, flat}
 use Rattle.syn_grammar.specs.Gram.{Gram, nothing, ref}
-use Rattle.syn_grammar.specs.Look.{Look, seen, behind as past, first_seen, ◌or◌}
+use Rattle.syn_grammar.specs.Look.{Look, closes, seen, sees, behind as past, first_seen, ◌or◌}
+use Rattle.syn_grammar.specs.Words.{is_among, same_text}
 use Rattle.syn_grammar.specs.Say.{◌▸◌, at, marks, parenthesis, refused, when◌read◌else◌}
 use Rattle.syn_grammar.specs.Items.{restricted, restricted_in}
 use Rattle.syn_grammar.specs.Types.{bound_stands}
@@ -17,7 +19,7 @@ use Rattle.syn_grammar.specs.Derives.{Derives}
 use Rattle.syn_grammar.specs.Kept.{is_there}
 use Rattle.grammar_back.specs.After.{behind}
 use Rattle.grammar_back.specs.Sees.{Lacks, LacksAll}
-use Rattle.grammar_back.specs.Covered.{front, inner, is_clear}
+use Rattle.grammar_back.specs.Covered.{begins_restriction, front, inner, is_clear}
 use Rattle.grammar_back.proofs.Classes.{Class, ◌&◌, IsAmong, among_left, among_right}
 use Rattle.grammar_back.proofs.Starts.{starts}
 use Rattle.grammar_back.proofs.Sights.{ident_not}
@@ -40,16 +42,48 @@ none_restricted (Some us) l m e = cc
 no_restriction : (ts : List Token) → Lacks parenthesis ts → Lacks a_restriction ts
 no_restriction ts e = none_restricted (parenthesis ts) _ _ e
 
--- a type that stands in no parentheses
-type_in : (x : Tree) (s : List Token) → Derives x (table (AType WithPlus)) s → is_there x ≡ false
+-- and where none of its words stands behind one
+none_first : (a b c d : Bool) (us : List Token)
+    → seen (cond (a || (b || (c || (d || false)))) (Some us) None) ≡ false
+    → seen (first_seen (past (cond (a || (b || (c || false))) (Some us) None) closes) (cond d (Some us) None)) ≡ false
+none_first false false false false us e = refl
+none_first false false false true us e = cc e
+none_first false false true d us e = cc e
+none_first false true c d us e = cc e
+none_first true b c d us e = cc e
+
+no_word_in : (us s : List Token) → sees begins_restriction (Opens Parenthesis ∷ us ++ Closes Parenthesis ∷ []) ≡ false
+    → Lacks a_restriction ((Opens Parenthesis ∷ us ++ Closes Parenthesis ∷ []) ++ s)
+no_word_in (Ident cs ∷ us) s e =
+    none_first (same_text (codes "crate") cs) (same_text (codes "self") cs) (same_text (codes "super") cs)
+    (same_text (codes "in") cs) ((us ++ Closes Parenthesis ∷ []) ++ s)
+    (seen_same (is_among (codes "crate" ∷ codes "self" ∷ codes "super" ∷ codes "in" ∷ []) cs) _ _ e)
+  where
+    seen_same : (b : Bool) (vs ws : List Token) → seen (cond b (Some vs) None) ≡ false
+        → seen (cond b (Some ws) None) ≡ false
+    seen_same true vs ws e = cc e
+    seen_same false vs ws e = refl
+no_word_in _ s e = refl
+
+tuple_clear : (x : Tree) (s : List Token) → Derives x (table TupleType) s → sees begins_restriction (flat x) ≡ false
     → Lacks a_restriction (flat x ++ s)
 unfolding table
+tuple_clear (Group d y) s g e =
+    subst (λ b. sees begins_restriction (flat (Group b y)) ≡ false → Lacks a_restriction (flat (Group b y) ++ s))
+    (sym g.0) (no_word_in (flat y) s) e
+tuple_clear _ s g e = absurd g
+
+type_in : (x : Tree) (s : List Token) → Derives x (table (AType WithPlus)) s
+    → sees begins_restriction (flat x) ≡ false → Lacks a_restriction (flat x ++ s)
+unfolding table
 type_in (Second x) s d e = no_restriction (flat x ++ s) d.0
-type_in (First x) s d e = cc
+type_in (First (Node k x)) s d e =
+    tuple_clear x s (subst (λ j. Derives x (table j) s) d.1.0 d.1.1) e
+type_in (First _) s d e = absurd d.1
 type_in _ s d e = absurd d
 
-type_clear : (x : Tree) (s : List Token) → Derives x (ref (AType WithPlus)) s → is_there (inner x) ≡ false
-    → Lacks a_restriction (flat x ++ s)
+type_clear : (x : Tree) (s : List Token) → Derives x (ref (AType WithPlus)) s
+    → sees begins_restriction (flat x) ≡ false → Lacks a_restriction (flat x ++ s)
 type_clear (Node k x) s d e = type_in x s (subst (λ j. Derives x (table j) s) d.0 d.1) e
 type_clear _ s d e = absurd d
 
@@ -68,7 +102,7 @@ found_type_end = (found_before (found_ref (AType WithPlus) refl)
 abbrev pub TypeEdge : Edge
 TypeEdge y s =
     IsAmong (starts (AType WithPlus)) (flat y ++ s)
-    × (is_there (inner (front y)) ≡ false → Lacks a_restriction (flat y ++ s))
+    × (sees begins_restriction (flat (front y)) ≡ false → Lacks a_restriction (flat y ++ s))
 
 none_else : (y : Tree) → Fits y (when marks "=" read refused else nothing) → flat y ≡ []
 none_else (Second Nil) f = refl
@@ -141,7 +175,7 @@ fine_field =
             (λ cs h us. simp (ident_not (codes "pub") cs reserved_pub h) refl) & (λ us. refl) & tt),
         tt,
       ) i.0).0,
-      ⊎_elim (λ e. inl e) (λ e. inr (i.1 e)) (clear_or (is_there (inner x)) (is_there (inner (front y))) c.1),
+      ⊎_elim (λ e. inl e) (λ e. inr (i.1 e)) (clear_or (is_there (inner x)) (sees begins_restriction (flat (front y))) c.1),
     ))
     (λ x y s j i c. ⊎_elim
     (λ e. at_back classes x y s e (among_right (starts Visibility) (starts (AType WithPlus)) (flat y ++ s) i.0))

@@ -24,49 +24,50 @@ use Rattle.syn_grammar.specs.Kept.{forget, listed_bound, unsafe_path, constant_a
 use Rattle.syn_grammar.specs.Tidy.{is_bare_generics, is_bare_where, is_bare_colon, is_lifetime_param}
 use Rattle.syn_grammar.specs.Tidy.{is_lifetime_argument, lifetimes_first, moved, tidy}
 use Rattle.syn_grammar.specs.Parens.{may_lack}
-use Rattle.syn_grammar.specs.Normal.{passed, stands_behind, place_of, private, normal_in}
-use Rattle.grammar_back.specs.Covered.{has_clear_type, has_step, has_lone_value, inner, is_taken}
+use Rattle.syn_grammar.specs.Normal.{passed, stands_behind, place_of, private, normal, normal_in}
+use Rattle.grammar_back.specs.Covered.{begins_restriction, has_clear_type, has_step, has_lone_value, inner, is_taken}
 use Rattle.grammar_back.proofs.Parts.{none_never}
-use Rattle.grammar_back.proofs.Fits.{Fits, has_bare_value}
+use Rattle.grammar_back.proofs.Fits.{Fits, flat_kept, has_bare_value}
 use Rattle.grammar_back.proofs.Bare.{bare_kept, bare_formed, bare_read}
 use Rattle.grammar_back.proofs.Verdicts.{some_verdict, path_meant}
 use Rattle.grammar_back.proofs.Printed.{Printed, IsPlaced, TurnLaw, KindLaw, kept_entry, plain_law, simple_law}
+use Rattle.grammar_back.proofs.Printed.{unmoved_if}
 use Rattle.grammar_back.proofs.Indices.{index_normal, index_held, member_normal, member_held}
 use Rattle.grammar_back.proofs.Tidied.{Held, held_law, tidied_law, as_it_is, removed_printed, lifetimes_printed}
 use Rattle.grammar_back.proofs.Tidied.{changed_printed}
 
 -- turns that are nodes of other kinds, or sequences
-node_turns : (k : Kind) → TurnLaw (ref k)
-node_turns k (Node l x) d = refl
-node_turns k _ d = absurd d
+node_turns : (q : Position) (t : List Token → Bool) (k : Kind) → TurnLaw q t (ref k)
+node_turns q t k (Node l x) y r f d c = unmoved_if _ (kept (Node l x)) refl
+node_turns q t k _ y r f d c = absurd f
 
-pair_turns : (a b : Gram) → TurnLaw (seq a b)
-pair_turns a b (Pair x y) d = refl
-pair_turns a b _ d = absurd d
+pair_turns : (q : Position) (t : List Token → Bool) (a b : Gram) → TurnLaw q t (seq a b)
+pair_turns q t a b (Pair x z) y r f d c = unmoved_if _ (kept (Pair x z)) refl
+pair_turns q t a b _ y r f d c = absurd f
 
 pub law_outer : KindLaw OuterAttributes
 unfolding has_step held passed table
 law_outer =
     plain_law OuterAttributes refl (λ x. tt) (λ x. refl) (λ x. refl) (λ q. refl)
-    (λ q l. (node_turns OuterAttribute, tt))
+    (λ q l. (node_turns _ _ OuterAttribute, tt))
 
 pub law_inner : KindLaw InnerAttributes
 unfolding has_step held passed table
 law_inner =
     plain_law InnerAttributes refl (λ x. tt) (λ x. refl) (λ x. refl) (λ q. refl)
-    (λ q l. (node_turns InnerAttribute, tt))
+    (λ q l. (node_turns _ _ InnerAttribute, tt))
 
 pub law_pattern : KindLaw Pattern
 unfolding has_step held passed table
 law_pattern =
     plain_law Pattern refl (λ x. tt) (λ x. refl) (λ x. refl) (λ q. refl)
-    (λ q l. ((tt, tt), (tt, (pair_turns _ _, (tt, tt)))))
+    (λ q l. ((tt, tt), (tt, (pair_turns _ _ _ _, (tt, tt)))))
 
 pub law_several : KindLaw SeveralPatterns
 unfolding has_step held passed table
 law_several =
     plain_law SeveralPatterns refl (λ x. tt) (λ x. refl) (λ x. refl) (λ q. refl)
-    (λ q l. (tt, (pair_turns _ _, (tt, tt))))
+    (λ q l. (tt, (pair_turns _ _ _ _, (tt, tt))))
 
 -- Of parts that may be removed.
 pub law_generics : KindLaw Generics
@@ -457,7 +458,7 @@ law_const = record { entry = λ q l. simple_law Plain (table AConst) refl; node 
           kept_is = ap (Node AConst) i.kept_is;
         }
 
--- Of an unnamed field, whose type doesn't follow pub in parentheses.
+-- Of an unnamed field: whether its type begins a restriction, as it is printed.
 pub chosen_fits : (w : Tree) (g : Gram) → Fits w g → is_there (kept w) ≡ is_there w
 chosen_fits (Back l k y) _ f = absurd f
 chosen_fits _ _ f = refl
@@ -466,21 +467,12 @@ pub chosen_read : (x : Tree) (g : Gram) (r : List Token) → Derives x g r → i
 chosen_read (Back l k y) _ r d = absurd d
 chosen_read _ _ r d = refl
 
--- a kind of which nothing is forgotten or tidied
-module _ (l : Kind) (as_read : (y : Tree) → forget l y ≡ y) (as_held : (y : Tree) → tidy (held l) y ≡ y) where
+-- a kind of which nothing is forgotten
+module _ (l : Kind) (as_read : (y : Tree) → forget l y ≡ y) where
   inner_fits : (w : Tree) → Fits w (ref l) → is_there (inner (kept w)) ≡ is_there (inner w)
   inner_fits (Node k x) f =
       ap (λ j. is_there (forget j (kept x))) f.0 ∙ ap is_there (as_read (kept x)) ∙ chosen_fits x (table k) f.3
   inner_fits _ f = absurd f
-
-  inner_read : (q : Position) (x : Tree) (r : List Token) → Derives x (ref l) r
-      → is_there (inner (normal_in q (kept x))) ≡ is_there (inner x)
-  inner_read q (Node k x) r d =
-      ap (λ j. is_there (tidy (held j) (normal_in (passed (held j) q) (forget j (kept x))))) d.0
-      ∙ ap is_there (as_held (normal_in (passed (held l) q) (forget l (kept x))))
-      ∙ there_normal (passed (held l) q) (forget l (kept x)) ∙ ap is_there (as_read (kept x))
-      ∙ chosen_read x (table k) r d.1
-  inner_read q _ r d = absurd d
 
 both_not : (a b c d : Bool) → a ≡ c → b ≡ d → not (a && b) ≡ not (c && d)
 both_not a b c d e f = ap (λ x. not (x && b)) e ∙ ap (λ x. not (c && x)) f
@@ -488,36 +480,24 @@ both_not a b c d e f = ap (λ x. not (x && b)) e ∙ ap (λ x. not (c && x)) f
 clear_fits : (w : Tree) → Fits w (table UnnamedField) → has_clear_type (kept w) ≡ has_clear_type w
 unfolding table held
 clear_fits (Pair o (Pair v (Pair t e))) f =
-    both_not (is_there (inner (kept v))) (is_there (inner (kept t))) (is_there (inner v)) (is_there (inner t))
-    (inner_fits Visibility (λ y. refl) (λ y. refl) v f.1.0)
-    (inner_fits (AType WithPlus) (λ y. refl) (λ y. refl) t f.1.1.0)
+    both_not (is_there (inner (kept v))) (sees begins_restriction (flat (kept t))) (is_there (inner v))
+    (sees begins_restriction (flat t)) (inner_fits Visibility (λ y. refl) v f.1.0)
+    (ap (sees begins_restriction) (flat_kept t (ref (AType WithPlus)) f.1.1.0))
 clear_fits (Pair o (Pair v _)) f = absurd f.1.1
 clear_fits (Pair o _) f = absurd f.1
 clear_fits _ f = absurd f
-
-clear_read : (x : Tree) (r : List Token) → Derives x (table UnnamedField) r
-    → has_clear_type (normal_in Plain (kept x)) ≡ has_clear_type x
-unfolding table held
-clear_read (Pair o (Pair v (Pair t e))) r d =
-    both_not (is_there (inner (normal_in Plain (kept v)))) (is_there (inner (normal_in Plain (kept t))))
-    (is_there (inner v)) (is_there (inner t))
-    (inner_read Visibility (λ y. refl) (λ y. refl) Plain v (flat (Pair t e) ++ r) d.1.0)
-    (inner_read (AType WithPlus) (λ y. refl) (λ y. refl) Plain t (flat e ++ r) d.1.1.0)
-clear_read (Pair o (Pair v _)) r d = absurd d.1.1
-clear_read (Pair o _) r d = absurd d.1
-clear_read _ r d = absurd d
 
 pub law_unnamed_field : KindLaw UnnamedField
 unfolding has_step held passed place_of table
 law_unnamed_field = record { entry = λ q l. simple_law Plain (table UnnamedField) refl; node = go }
   where
-    go : (q : Position) → IsPlaced q UnnamedField → (x : Tree) (r : List Token) → has_clear_type x ≡ true
-        → Derives x (table UnnamedField) r
+    go : (q : Position) → IsPlaced q UnnamedField → (x : Tree) (r : List Token)
+        → has_clear_type (normal (kept x)) ≡ true → Derives x (table UnnamedField) r
         → Printed (table UnnamedField) (normal_in (passed UnnamedField q) (kept x))
         → Printed (ref UnnamedField) (normal_in q (Node (held UnnamedField) (kept x)))
     go q l x r m d i =
         let b : has_clear_type i.tree ≡ true =
-        sym (clear_fits i.tree i.fits) ∙ ap has_clear_type i.kept_is ∙ clear_read x r d ∙ m in
+        sym (clear_fits i.tree i.fits) ∙ ap has_clear_type i.kept_is ∙ m in
         record {
           tree = Node UnnamedField i.tree;
           fits = (refl, refl, refl, i.fits, b);

@@ -24,7 +24,7 @@ use Rattle.syn_grammar.specs.Derives.{Derives}
 use Rattle.syn_grammar.specs.Kept.{as_statement, held, kept}
 use Rattle.syn_grammar.specs.Normal.{passed, place_of, normal_in, stands_behind}
 use Rattle.grammar_back.specs.After.{behind}
-use Rattle.grammar_back.specs.Covered.{ends_apart, has_form_step, has_step, is_begun, is_no_macro}
+use Rattle.grammar_back.specs.Covered.{has_form_step, has_step, is_begun, is_no_macro}
 use Rattle.grammar_back.specs.Covered.{is_statement_form}
 use Rattle.grammar_back.specs.Covered.{is_statement_item, item_of}
 use Rattle.item_laws.proofs.Stays.{item_stays}
@@ -517,8 +517,8 @@ item_stands_there : (y : Tree) (s : List Token) → Fits y (table AnItem) → De
 unfolding table
 item_stands_there (First y) s f d e c = whole_stands y s d.1 (begun (choice (item_of y)) e.1) c
 item_stands_there (Verbatim y) s f d e c =
-    let h = both_true (is_no_macro (choice (item_of y))) (is_begun (choice (item_of y)) && ends_apart (flat y)) c in
-    whole_stands y s d.1 (both_true (is_begun (choice (item_of y))) (ends_apart (flat y)) h.1).0 h.0
+    let h = both_true (is_no_macro (choice (item_of y))) (is_begun (choice (item_of y))) c in
+    whole_stands y s d.1 h.1 h.0
 item_stands_there _ s f d e c = absurd f
 
 pub item_begins : (ts : List Token) → IsAmong (starts AnItem) ts → IsAmong (starts AStatement) ts

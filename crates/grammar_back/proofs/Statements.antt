@@ -4,7 +4,7 @@ use Rattle.std.proofs.Common.{[], ap, append_assoc, List, refl, subst, sym, ◌+
 use Rattle.std.specs.Prelude.{Bool, cond, false, not, true, ◌&&◌, ◌||◌}
 use Rattle.proc_macro2.specs.Token.{Closes, Ident, Literal, Opens, Punct, Token}
 use Rattle.proc_macro2.specs.declared.delimiter.Delimiter.TheVariants.{Parenthesis}
-use Rattle.rust_leaf.specs.declared.punct.Spacing.TheVariants.{Alone as Apart, Joint}
+use Rattle.rust_leaf.specs.declared.punct.Spacing.TheVariants.{Alone as Apart}
 use Rattle.syn_grammar.specs.Kind.{AnItem, AStatement, Expression, ExprMacro, InStatement, Kind, OuterAttributes}
 use Rattle.syn_grammar.specs.Kind.{Plain, Position}
 use Rattle.syn_grammar.specs.Name.{Part, same_part, the_attributes, the_expression, the_semicolon}
@@ -18,7 +18,7 @@ use Rattle.syn_grammar.specs.Forms.{ends_there, form_of, front, has_right, insid
 use Rattle.syn_grammar.specs.Table.{table}
 use Rattle.syn_grammar.specs.Derives.{Derives}
 use Rattle.syn_grammar.specs.Kept.{as_statement, attributed, held, is_macro, is_there, kept, own_part}
-use Rattle.syn_grammar.specs.Normal.{apart, apart_if, apart_item, formed, is_enclosed, normal, normal_in, passed}
+use Rattle.syn_grammar.specs.Normal.{apart_if, formed, is_enclosed, normal, normal_in, passed}
 use Rattle.syn_grammar.specs.Normal.{place_of}
 use Rattle.syn_grammar.specs.Normal.{stands_behind}
 use Rattle.syn_grammar.specs.Parens.{begins_in, follow, in_parens, may_lack, parens_unless, stands_in}
@@ -26,7 +26,7 @@ use Rattle.syn_grammar.specs.Parens.{takes_what_follows}
 use Rattle.syn_grammar.specs.Parens.{with_left, with_right}
 use Rattle.syn_grammar.proofs.Settled.{normal_twice}
 use Rattle.grammar_back.specs.After.{expression_of, is_open}
-use Rattle.grammar_back.specs.Covered.{all_covered, ends_apart, has_form_step, has_step, is_bare_front, is_begun}
+use Rattle.grammar_back.specs.Covered.{all_covered, has_form_step, has_step, is_bare_front, is_begun}
 use Rattle.grammar_back.specs.Covered.{is_expression_form, is_known, is_macro_form, is_no_macro, is_plain_expression}
 use Rattle.grammar_back.specs.Covered.{is_statement_form, is_statement_item, item_of, takes_attributes}
 use Rattle.grammar_back.proofs.Choices.{both_true, is_false}
@@ -37,7 +37,7 @@ use Rattle.grammar_back.proofs.InFront.{attributes_read, ends_given, given_ends,
 use Rattle.grammar_back.proofs.InFront.{enclosed, is_ranged, settled_inside, takes_formed}
 use Rattle.grammar_back.proofs.NamedMacros.{named_law}
 use Rattle.grammar_back.proofs.Lets.{at_item, item_law, Law, let_printed}
-use Rattle.grammar_back.proofs.Printed.{IsPlaced, KindLaw, Printed, simple_law, TurnLaw, unmoved_if}
+use Rattle.grammar_back.proofs.Printed.{IsPlaced, KindLaw, Printed, simple_law, unmoved_if}
 
 -- a statement that is an expression behind attributes, or with nothing in front
 abbrev pub in_front : Tree → Tree → Tree → Tree
@@ -562,34 +562,6 @@ law_a_statement given = record { entry = λ q l. simple_law Plain statement refl
 abbrev pub a_turn : Gram
 a_turn = when marks ";" read sign ";" else ref AStatement
 
--- A raw item that is taken ends in no mark that would be set apart.
-apart_same : (ts : List Token) → ends_apart ts ≡ true → apart ts ≡ ts
-apart_same [] e = refl
-apart_same (Punct c Joint ∷ []) e = cc e
-apart_same (Punct c Apart ∷ []) e = refl
-apart_same (Ident cs ∷ []) e = refl
-apart_same (Literal cs ∷ []) e = refl
-apart_same (Opens d ∷ []) e = refl
-apart_same (Closes d ∷ []) e = refl
-apart_same (Punct c Joint ∷ u ∷ ts) e = ap (λ us. Punct c Joint ∷ us) (apart_same (u ∷ ts) e)
-apart_same (Punct c Apart ∷ u ∷ ts) e = ap (λ us. Punct c Apart ∷ us) (apart_same (u ∷ ts) e)
-apart_same (Ident cs ∷ u ∷ ts) e = ap (λ us. Ident cs ∷ us) (apart_same (u ∷ ts) e)
-apart_same (Literal cs ∷ u ∷ ts) e = ap (λ us. Literal cs ∷ us) (apart_same (u ∷ ts) e)
-apart_same (Opens d ∷ u ∷ ts) e = ap (λ us. Opens d ∷ us) (apart_same (u ∷ ts) e)
-apart_same (Closes d ∷ u ∷ ts) e = ap (λ us. Closes d ∷ us) (apart_same (u ∷ ts) e)
-
-abbrev Stays : Tree → Type 0
-Stays x = apart_item (Second (kept (Node AStatement x))) ≡ Second (kept (Node AStatement x))
-
-item_stays : (y : Tree) → Fits y (table AnItem) → is_statement_item y ≡ true → Stays (at_item y)
-unfolding held table
-item_stays (First y) f n = refl
-item_stays (Verbatim y) f n =
-    let h = both_true (is_no_macro (choice (item_of y))) (is_begun (choice (item_of y)) && ends_apart (flat y)) n in
-    ap (λ ts. Second (Node AStatement (Second (Second (Second (First (Node AnItem (Raw ts))))))))
-    (apart_same (flat y) (both_true (is_begun (choice (item_of y))) (ends_apart (flat y)) h.1).1)
-item_stays _ f n = absurd f
-
 -- The statements that are taken are macros, lets, items and expressions.
 abbrev at_macro : Kind → Tree → Kind → Tree → Tree → Tree
 at_macro k o l y s = Second (First (Pair (Node k o) (Pair (Node l y) s)))
@@ -629,38 +601,6 @@ each_form P call one other named third (First (Node k (First y))) f n =
 each_form P call one other named third (First (Node k _)) f n = absurd (contrary n)
 each_form P call one other named third (First _) f n = absurd f.1
 each_form P call one other named third _ f n = absurd f
-
-expression_stays : (a x s : Tree) → is_attributes a ≡ true
-    → Stays (in_front a (Node (Expression InStatement) (Whole x)) s)
-unfolding held
-expression_stays a x s e =
-    subst (λ y. apart_item (Second (Node AStatement y)) ≡ Second (Node AStatement y))
-    (sym (is_held (kept a) (kept x) (kept s) (attributes_kept a e))) (go (is_macro (kept x) && is_there (kept s)))
-  where
-    y : Tree
-    y = held_macro (kept a) (own_part (kept x)) (kept s)
-
-    z : Tree
-    z = at_expression (held_form (given_to (kept a) (kept x))) (kept s)
-
-    go : (b : Bool) → apart_item (Second (Node AStatement (cond b y z))) ≡ Second (Node AStatement (cond b y z))
-    go true = refl
-    go false = refl
-
-statement_stays : (x : Tree) → Fits x (table AStatement) → is_statement_form x ≡ true → Stays x
-unfolding held
-statement_stays x f n =
-    each_form Stays (λ k l o y s g h. refl) (λ k l o y. refl) item_stays (λ y. refl)
-    (λ a y t i g h. expression_stays a y t i) x f n
-
-pub turn_stays : TurnLaw a_turn
-turn_stays (First (AMark c cs spacing)) f = refl
-turn_stays (First _) f = absurd f.1
-turn_stays (Second (Node k x)) f =
-    subst (λ j. apart_item (Second (kept (Node j x))) ≡ Second (kept (Node j x))) (sym f.1.0)
-    (statement_stays x (subst (λ j. Fits x (table j)) f.1.0 f.1.3) (subst (λ j. IsMeant j x) f.1.0 f.1.4))
-turn_stays (Second _) f = absurd f.1
-turn_stays _ f = absurd f
 
 -- an expression without its ; as it was read, and as it is printed
 abbrev open_turn : Tree → Tree → Tree

@@ -1,7 +1,6 @@
 -- The kinds of which it is proved that their normal forms are read back, and the trees that hold no others.
 use Rattle.std.specs.Prelude.{ℕ, Bool, true, false, ◌&&◌, ◌||◌, not, codes, List, [], ◌∷◌}
 use Rattle.proc_macro2.specs.Token.{Token, Punct}
-use Rattle.rust_leaf.specs.declared.punct.Spacing.TheVariants.{Joint}
 use Rattle.syn_grammar.specs.Kind.{Kind, Expression, AConst, AConstTrait, AFieldValue, AFile, AForeignItem}
 use Rattle.syn_grammar.specs.Kind.{AForeignModule, AFunction, ALet, AMacro, AMacroDefinition, AModule}
 use Rattle.syn_grammar.specs.Kind.{ARestrictedTrait, AStatement, AStatic, AStruct, ATrait, ATraitItem, AType}
@@ -34,8 +33,8 @@ use Rattle.syn_grammar.specs.Tree.{Tree, AWord, Pair, First, Second, Again, Fina
 use Rattle.syn_grammar.specs.Tree.{Verbatim}
 use Rattle.syn_grammar.specs.Tree.{Node, Whole, Alone, Front, Back, Infix, flat}
 use Rattle.syn_grammar.specs.Words.{is_among, is_ident, same_text}
-use Rattle.syn_grammar.specs.Look.{a_lifetime, sees, ◌then◌, ◌or◌}
-use Rattle.syn_grammar.specs.Say.{at, marks}
+use Rattle.syn_grammar.specs.Look.{Look, a_lifetime, one_of, sees, ◌then◌, ◌or◌}
+use Rattle.syn_grammar.specs.Say.{at, marks, parenthesis}
 use Rattle.syn_grammar.specs.Normal.{normal, normal_in}
 use Rattle.syn_grammar.specs.Forms.{is_brace_macro}
 use Rattle.syn_grammar.specs.Parens.{is_attributed_range}
@@ -317,8 +316,12 @@ has_lone_value (Pair c (Pair n (Pair g (Pair s (Pair t (Pair (First v) (Pair (Ca
     not (is_there w)
 has_lone_value _ = true
 
--- What stands in parentheses behind pub may be its restriction: the type of an unnamed field that is pub stands in
--- none.
+-- What stands in parentheses behind pub may be its restriction: where the type of an unnamed field that is pub stands in
+-- some, they begin, as they are printed, with none of the words that begin one.
+abbrev pub begins_restriction : Look
+begins_restriction =
+    parenthesis then one_of (codes "crate" ∷ codes "self" ∷ codes "super" ∷ codes "in" ∷ [])
+
 abbrev pub inner : Tree → Tree
 inner (Node k x) = x
 inner x = x
@@ -328,7 +331,7 @@ front (Pair x y) = x
 front x = x
 
 abbrev pub is_clear : Tree → Bool
-is_clear (Pair v y) = not (is_there (inner v) && is_there (inner (front y)))
+is_clear (Pair v y) = not (is_there (inner v) && sees begins_restriction (flat (front y)))
 is_clear _ = true
 
 abbrev pub has_clear_type : Tree → Bool
@@ -401,22 +404,14 @@ item_of (Pair x y) = item_of y
 item_of (Called n y) = y
 item_of x = x
 
--- the last token is no mark that stands directly before the next
-abbrev pub ends_apart : List Token → Bool
-ends_apart (Punct c Joint ∷ []) = false
-ends_apart (t ∷ u ∷ ts) = ends_apart (u ∷ ts)
-ends_apart _ = true
-
 -- in an impl no const stands behind default: among statements it would begin no item
 abbrev pub is_begun : Tree → Bool
 is_begun (Node AnImpl y) = not (has the_default y && has the_const y)
 is_begun _ = true
 
--- Items among statements that begin with an item's words are no macros, and a raw one ends in no joint mark: before a
--- parenthesis that was added it would be set apart.
+-- Items among statements that begin with an item's words are no macros.
 abbrev pub is_statement_item : Tree → Bool
-is_statement_item (Verbatim x) =
-    is_no_macro (choice (item_of x)) && (is_begun (choice (item_of x)) && ends_apart (flat x))
+is_statement_item (Verbatim x) = is_no_macro (choice (item_of x)) && is_begun (choice (item_of x))
 is_statement_item x = is_no_macro (choice (item_of x))
 
 -- The expression of a statement begins, as it is printed, with no attributes of its own; behind a word that begins
@@ -492,7 +487,7 @@ is_statement_form _ = false
 -- what holds of a kind's tree
 abbrev pub is_taken : Kind → Tree → Bool
 is_taken AConst x = has_lone_value x
-is_taken UnnamedField x = has_clear_type x
+is_taken UnnamedField x = has_clear_type (normal (kept x))
 is_taken OnePattern x = not (is_lone (choice x))
 is_taken AnImpl x = has_own_trait x
 is_taken AnItem x = is_plain_macro (choice (item_of x))
