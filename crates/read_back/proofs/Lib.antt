@@ -25,6 +25,7 @@ pub mod Statements
 pub mod Given
 pub mod Forms
 pub mod Told
+pub mod ToldClosures
 pub mod ReadBack
 pub mod Positions
 pub mod Examples
