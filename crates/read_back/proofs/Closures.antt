@@ -42,7 +42,7 @@ use Rattle.read_back.proofs.Lesser.{if_same}
 use Rattle.read_back.proofs.Quiet.{IsQuiet, quiet}
 
 -- the kinds that stand in a closure's parameters, and in these
-abbrev is_calm : Kind → Bool
+abbrev pub is_calm : Kind → Bool
 is_calm (Path s) = true
 is_calm (Segments s) = true
 is_calm (Segment s) = true
@@ -95,7 +95,7 @@ is_calm Body = true
 is_calm ClosureParam = true
 is_calm k = false
 
-calm_entry : (k : Kind) → is_calm k ≡ true → IsQuiet 124 is_calm false (table k) ≡ true
+pub calm_entry : (k : Kind) → is_calm k ≡ true → IsQuiet 124 is_calm false (table k) ≡ true
 unfolding table
 calm_entry (Path InModule) e = refl
 calm_entry (Path InExpression) e = refl
@@ -127,10 +127,10 @@ calm_entry (ReturnType WithPlus) e = refl
 calm_entry (ReturnType WithoutPlus) e = refl
 calm_entry _ e = cc
 
-no_form : false ≡ true → (k : Kind) → (is_front k || is_back k) ≡ true → IsQuiet 124 is_calm false (table k) ≡ true
+pub no_form : false ≡ true → (k : Kind) → (is_front k || is_back k) ≡ true → IsQuiet 124 is_calm false (table k) ≡ true
 no_form e k f = cc
 
-bar_behind : (x : Tree) (r ts : List Token) → Derives x (many (sees (marks "|")) comma (ref ClosureParam)) r
+pub bar_behind : (x : Tree) (r ts : List Token) → Derives x (many (sees (marks "|")) comma (ref ClosureParam)) r
     → past_bar (flat x ++ ts) ≡ past_bar ts
 bar_behind x r ts d = quiet 124 is_calm false refl calm_entry no_form x _ r d refl ts
 

@@ -1,26 +1,31 @@
 -- A closure that begins with for was read only where its lifetimes were seen, and they are seen in its normal form
 -- too; one with a type was read only where -> stands behind its bars.
 use Rattle.std.proofs.Common.{◌≡◌, ℕ, List, [], ◌∷◌, ◌++◌, refl, sym, ap, ◌∙◌, subst, append_assoc}
-use Rattle.std.specs.Prelude.{Bool, true, false, Option, Some, None, codes}
+use Rattle.std.specs.Prelude.{Bool, true, false, not, cond, Option, Some, None, codes}
 use Rattle.std.proofs.lemmas.Slice.Eq.{bytes_eq-Decides}
 use Rattle.proc_macro2.specs.Token.{Token, Ident, Punct}
 use Rattle.rust_leaf.specs.declared.punct.Spacing.{Spacing}
 use Rattle.rust_leaf.specs.declared.punct.Spacing.TheVariants.{Alone as Apart, Joint}
 use Rattle.syn_grammar.specs.Kind.{Kind, Position, BoundLifetimes, ExprClosure, ExprForLoop, LifetimeParam}
-use Rattle.syn_grammar.specs.Kind.{OuterAttribute, OuterAttributes}
-use Rattle.syn_grammar.specs.Words.{is_bool, is_reserved, same_text}
+use Rattle.syn_grammar.specs.Kind.{ExprAttributed, ExprBlock, ExprLit, ExprLoop, ExprTypedClosure, ExprWhile}
+use Rattle.syn_grammar.specs.Kind.{OuterAttribute, OuterAttributes, ReturnType, WithPlus}
+use Rattle.syn_grammar.specs.Words.{is_bool, is_reserved}
 use Rattle.syn_grammar.specs.Tree.{Tree, ALifetime, AMark, AWord, Again, End, Final, First, More, Nil, Node, Pair}
 use Rattle.syn_grammar.specs.Tree.{Second, marks as signs, flat}
-use Rattle.syn_grammar.specs.Gram.{many, ref}
-use Rattle.syn_grammar.specs.Look.{Look, a_lifetime, seen, sees, ◌then◌, ◌or◌}
-use Rattle.syn_grammar.specs.Say.{at, comma, marks, optional}
+use Rattle.syn_grammar.specs.Gram.{Gram, many, ref}
+use Rattle.syn_grammar.specs.Look.{Look, a_lifetime, a_literal, behind, seen, sees, ◌then◌, ◌or◌}
+use Rattle.syn_grammar.specs.Say.{at, brace, comma, marks, optional}
 use Rattle.syn_grammar.specs.Table.{table}
 use Rattle.syn_grammar.specs.Derives.{Derives}
 use Rattle.syn_grammar.specs.Kept.{held, kept}
 use Rattle.syn_grammar.specs.Normal.{normal, passed}
-use Rattle.syn_grammar.specs.Forms.{front}
+use Rattle.syn_grammar.specs.Forms.{Case, closure_stands, front, fronts, labelled, past_bar, typed_closure_stands}
+use Rattle.binding_laws.proofs.Begun.{first_passes}
 use Rattle.expressions_back.proofs.Bools.{never}
 use Rattle.grammar_back.specs.Covered.{is_bound, is_plain_part}
+use Rattle.grammar_back.proofs.Choices.{both_same}
+use Rattle.read_back.proofs.Closures.{bar_behind, calm_entry, is_calm, no_form}
+use Rattle.read_back.proofs.Quiet.{IsQuiet, quiet}
 
 -- behind < a lifetime or > stands
 abbrev begins_lifetimes : Look
@@ -174,3 +179,123 @@ closure_told p (Pair o y) r f d =
     bound_told p ExprClosure o (flat y ++ r) (flat y ++ r) d.0 refl
     (sym (ap (front p) (append_assoc (flat o) (flat y) r)) ∙ f)
 closure_told p _ r f d = absurd d
+
+-- one with a type was read only where it is seen
+abbrev is_typed : Kind → Bool
+is_typed ExprTypedClosure = true
+is_typed k = false
+
+abbrev is_other : Kind → Bool
+is_other k = not (is_typed k)
+
+of_typed : (f : Kind → Bool) (k : Kind) → Some k ≡ Some ExprTypedClosure → f k ≡ f ExprTypedClosure
+of_typed f k e = cc
+
+not_that : (k : Kind) (b : Bool) (o : Option Kind) → is_typed k ≡ false → cond b (Some k) o ≡ Some ExprTypedClosure
+    → o ≡ Some ExprTypedClosure
+not_that k true o h e = absurd (never (sym h ∙ of_typed is_typed k e))
+not_that k false o h e = e
+
+that : (b : Bool) (o : Option Kind) → (o ≡ Some ExprTypedClosure → ⊥)
+    → cond b (Some ExprTypedClosure) o ≡ Some ExprTypedClosure → b ≡ true
+that true o h e = refl
+that false o h e = absurd (h e)
+
+-- behind the case of a closure with a type
+abbrev others : List Case → List Case
+others (a ∷ b ∷ c ∷ d ∷ e ∷ f ∷ cases) = cases
+others _ = []
+
+typed_seen : (p : Position) (ts : List Token) → front p ts ≡ Some ExprTypedClosure → sees typed_closure_stands ts ≡ true
+unfolding front
+typed_seen p ts e =
+    that (sees typed_closure_stands ts) _
+    (λ f. never (first_passes is_other (others (fronts p)) ts ExprTypedClosure refl f))
+    (not_that ExprWhile (sees (labelled then at "while") ts) _ refl
+    (not_that ExprLoop (sees (labelled then at "loop") ts) _ refl
+    (not_that ExprBlock (sees (labelled then brace) ts) _ refl
+    (not_that ExprLit (sees a_literal ts) _ refl
+    (not_that ExprAttributed (sees (marks "#") ts) _ refl e)))))
+
+-- so behind its bars stands ->
+not_no : (b : Bool) (ts : List Token) (l : Look)
+    → seen (behind (cond (seen (cond b None (Some ts))) None (Some ts)) l) ≡ true → sees l ts ≡ true
+not_no true ts l e = e
+not_no false ts l e = absurd (never e)
+
+quiet_front : (x : Tree) (g : Gram) (r us ts : List Token) → Derives x g r → IsQuiet 124 is_calm false g ≡ true
+    → past_bar ((flat x ++ us) ++ ts) ≡ past_bar (us ++ ts)
+quiet_front x g r us ts d q =
+    ap past_bar (append_assoc (flat x) us ts) ∙ quiet 124 is_calm false refl calm_entry no_form x g r d q (us ++ ts)
+
+bars_behind : (y : Tree) (r ts : List Token) → Derives y (table ExprClosure) r
+    → behind (past_bar (flat y ++ ts)) past_bar ≡ Some ts
+unfolding table
+bars_behind (Pair o (Pair c (Pair s (Pair a (Pair m (Pair (AMark b bs i) (Pair x (AMark e es j)))))))) r ts d =
+    ap (λ o. behind o past_bar)
+    (quiet_front o _ _ _ ts d.0 refl ∙ quiet_front c _ _ _ ts d.1.0 refl ∙ quiet_front s _ _ _ ts d.1.1.0 refl
+    ∙ quiet_front a _ _ _ ts d.1.1.1.0 refl ∙ quiet_front m _ _ _ ts d.1.1.1.1.0 refl
+    ∙ ap (λ n. past_bar ((signs n bs i ++ (flat x ++ signs e es j)) ++ ts)) d.1.1.1.1.1.0.0
+    ∙ ap (λ ns. past_bar ((signs 124 ns i ++ (flat x ++ signs e es j)) ++ ts)) d.1.1.1.1.1.0.1)
+    ∙ ap past_bar (append_assoc (flat x) (signs e es j) ts)
+    ∙ bar_behind x _ (signs e es j ++ ts) d.1.1.1.1.1.1.0
+    ∙ ap (λ n. past_bar (signs n es j ++ ts)) d.1.1.1.1.1.1.1.0
+    ∙ ap (λ ns. past_bar (signs 124 ns j ++ ts)) d.1.1.1.1.1.1.1.1
+bars_behind (Pair o (Pair c (Pair s (Pair a (Pair m (Pair (AMark b bs i) (Pair x _))))))) r ts d =
+    absurd d.1.1.1.1.1.1.1
+bars_behind (Pair o (Pair c (Pair s (Pair a (Pair m (Pair (AMark b bs i) _)))))) r ts d = absurd d.1.1.1.1.1.1
+bars_behind (Pair o (Pair c (Pair s (Pair a (Pair m (Pair _ z)))))) r ts d = absurd d.1.1.1.1.1.0
+bars_behind (Pair o (Pair c (Pair s (Pair a (Pair m _))))) r ts d = absurd d.1.1.1.1.1
+bars_behind (Pair o (Pair c (Pair s (Pair a _)))) r ts d = absurd d.1.1.1.1
+bars_behind (Pair o (Pair c (Pair s _))) r ts d = absurd d.1.1.1
+bars_behind (Pair o (Pair c _)) r ts d = absurd d.1.1
+bars_behind (Pair o _) r ts d = absurd d.1
+bars_behind _ r ts d = absurd d
+
+arrow_behind : (o : Option (List Token)) (ts : List Token) → behind o past_bar ≡ Some ts
+    → seen (behind o (past_bar then marks "->")) ≡ true → sees (marks "->") ts ≡ true
+arrow_behind None ts e f = absurd (never f)
+arrow_behind (Some us) ts e f = sym (ap (λ o. seen (behind o (marks "->"))) e) ∙ f
+
+-- it begins its type, also in normal form
+type_in : (x : Tree) (r : List Token) → Derives x (table (ReturnType WithPlus)) r
+    → sees (marks "->") (flat x ++ r) ≡ true
+    → sees (marks "->") (flat (normal (kept (Node (ReturnType WithPlus) x)))) ≡ true
+unfolding table held passed
+type_in (First (Pair (AMark c cs i) x)) r d e =
+    ap (λ b. sees (marks "->") (signs b cs Apart ++ flat (normal (kept x)))) d.1.0.0
+    ∙ ap (λ bs. sees (marks "->") (signs 45 bs Apart ++ flat (normal (kept x)))) d.1.0.1
+type_in (First (Pair _ x)) r d e = absurd d.1.0
+type_in (First _) r d e = absurd d.1
+type_in (Second Nil) r d e = absurd (never (sym d.0 ∙ e))
+type_in (Second _) r d e = absurd d.1
+type_in _ r d e = absurd d
+
+type_told : (x : Tree) (r : List Token) → Derives x (ref (ReturnType WithPlus)) r
+    → sees (marks "->") (flat x ++ r) ≡ true → sees (marks "->") (flat (normal (kept x))) ≡ true
+type_told (Node k x) r d e =
+    subst (λ l. sees (marks "->") (flat (normal (kept (Node l x)))) ≡ true) (sym d.0)
+    (type_in x r (subst (λ l. Derives x (table l) r) d.0 d.1) e)
+type_told _ r d e = absurd d
+
+pub typed_closure_told : (p : Position) (y : Tree) (r : List Token) → front p (flat y ++ r) ≡ Some ExprTypedClosure
+    → Derives y (table ExprTypedClosure) r → is_plain_part ExprTypedClosure (normal (kept y)) ≡ true
+unfolding table
+typed_closure_told p (Pair (Pair o y) (Pair t v)) r f d =
+    both_same (is_bound (normal (kept o))) (sees (marks "->") (flat (normal (kept t)))) true true
+    (bound_told p ExprTypedClosure o _ (flat y ++ rest) d.0.0 refl
+    (sym (ap (front p) (append_assoc (flat o) (flat y) rest)) ∙ stands))
+    (type_told t (flat v ++ r) d.1.0
+    (sym (ap (sees (marks "->")) (append_assoc (flat t) (flat v) r))
+    ∙ arrow_behind (past_bar (flat (Pair o y) ++ rest)) rest (bars_behind (Pair o y) _ rest d.0)
+    (not_no (sees closure_stands (flat (Pair o y) ++ rest)) (flat (Pair o y) ++ rest)
+    (past_bar then past_bar then marks "->") (typed_seen p (flat (Pair o y) ++ rest) stands))))
+  where
+    rest : List Token
+    rest = (flat t ++ flat v) ++ r
+
+    stands : front p (flat (Pair o y) ++ rest) ≡ Some ExprTypedClosure
+    stands = sym (ap (front p) (append_assoc (flat (Pair o y)) (flat t ++ flat v) r)) ∙ f
+typed_closure_told p (Pair (Pair o y) _) r f d = absurd d.1
+typed_closure_told p (Pair _ z) r f d = absurd d.0
+typed_closure_told p _ r f d = absurd d
