@@ -21,7 +21,7 @@ use Rattle.syn_grammar.specs.Read.{IsRead}
 use Rattle.syn_grammar.specs.Tree.{Tree, flat}
 use Rattle.syn_grammar.proofs.Settled as settled
 use Rattle.grammar_back.specs.After.{After}
-use Rattle.grammar_back.specs.Covered.{is_covered}
+use Rattle.read_back.specs.Asked.{is_covered}
 use Rattle.read_back.proofs.ReadBack as back
 use Rattle.canon_laws.specs.Program.{IsProgram, IsOutput, written}
 use Rattle.canon_laws.proofs.Leaves.{Good, IsWithin, good, good_normal, leaves, matching}

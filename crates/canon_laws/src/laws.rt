@@ -4,10 +4,10 @@
 ghost use Rattle.canon_laws.specs.Faults.{IsSyntaxFault};
 ghost use Rattle.canon_laws.specs.Program.{IsFile, IsOutput, IsProgram, NoFile, written};
 ghost use Rattle.canon_laws.specs.Stands.{AllStandIn};
-ghost use Rattle.grammar_back.specs.Covered.{is_covered};
 ghost use Rattle.proc_macro2.specs.Forest.{IsForest, IsLexicalFault};
 ghost use Rattle.proc_macro2.specs.Spacing.{IsWellSpaced};
 ghost use Rattle.proc_macro2.specs.Token.{Spanned, Token, plain};
+ghost use Rattle.read_back.specs.Asked.{is_covered};
 ghost use Rattle.rust_leaf.specs.Leaf.{AreCharacters};
 ghost use Rattle.rust_map.specs.declared.place.LineColumn.{LineColumn};
 ghost use Rattle.std.specs.Prelude.{ℕ, ◌≡◌, ◌⊎◌, ◌↔◌, true, List, [], Option, None};

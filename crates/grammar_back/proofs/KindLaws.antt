@@ -22,7 +22,7 @@ use Rattle.syn_grammar.specs.Table.{table}
 use Rattle.syn_grammar.specs.Derives.{Derives}
 use Rattle.syn_grammar.specs.Kept.{forget, listed_bound, unsafe_path, constant_argument, is_there, held, kept}
 use Rattle.syn_grammar.specs.Tidy.{is_bare_generics, is_bare_where, is_bare_colon, is_lifetime_param}
-use Rattle.syn_grammar.specs.Tidy.{is_lifetime_argument, lifetimes_first, moved, tidy}
+use Rattle.syn_grammar.specs.Tidy.{is_lifetime_argument, lifetimes_first, moved}
 use Rattle.syn_grammar.specs.Parens.{may_lack}
 use Rattle.syn_grammar.specs.Normal.{passed, stands_behind, place_of, private, normal, normal_in}
 use Rattle.grammar_back.specs.Covered.{begins_restriction, has_clear_type, has_step, has_lone_value, inner, is_taken}

@@ -2,14 +2,14 @@
 -- or a macro without it.
 use Rattle.std.proofs.Common.{[], ap, append_assoc, List, refl, subst, sym, ◌++◌, ◌∙◌, ◌∷◌, ◌≡◌}
 use Rattle.std.specs.Prelude.{Bool, cond, false, not, true, ◌&&◌, ◌||◌}
-use Rattle.proc_macro2.specs.Token.{Closes, Ident, Literal, Opens, Punct, Token}
+use Rattle.proc_macro2.specs.Token.{Opens, Token}
 use Rattle.proc_macro2.specs.declared.delimiter.Delimiter.TheVariants.{Parenthesis}
 use Rattle.rust_leaf.specs.declared.punct.Spacing.TheVariants.{Alone as Apart}
 use Rattle.syn_grammar.specs.Kind.{AnItem, AStatement, Expression, ExprMacro, InStatement, Kind, OuterAttributes}
 use Rattle.syn_grammar.specs.Kind.{Plain, Position}
 use Rattle.syn_grammar.specs.Name.{Part, same_part, the_attributes, the_expression, the_semicolon}
 use Rattle.syn_grammar.specs.Tree.{Again, Alone, AMark, Back, Called, End, First, flat, Front, Infix, Nil, Node, Pair}
-use Rattle.syn_grammar.specs.Tree.{Raw, Second, Tree, Verbatim, Whole}
+use Rattle.syn_grammar.specs.Tree.{Raw, Second, Tree, Whole}
 use Rattle.syn_grammar.specs.Part.{choice}
 use Rattle.syn_grammar.specs.Gram.{Gram, ref}
 use Rattle.syn_grammar.specs.Say.{marks, optional, sign, when◌read◌else◌, ◌∶◌, ◌▸◌}
@@ -26,9 +26,9 @@ use Rattle.syn_grammar.specs.Parens.{takes_what_follows}
 use Rattle.syn_grammar.specs.Parens.{with_left, with_right}
 use Rattle.syn_grammar.proofs.Settled.{normal_twice}
 use Rattle.grammar_back.specs.After.{expression_of, is_open}
-use Rattle.grammar_back.specs.Covered.{all_covered, has_form_step, has_step, is_bare_front, is_begun}
-use Rattle.grammar_back.specs.Covered.{is_expression_form, is_known, is_macro_form, is_no_macro, is_plain_expression}
-use Rattle.grammar_back.specs.Covered.{is_statement_form, is_statement_item, item_of, takes_attributes}
+use Rattle.grammar_back.specs.Covered.{all_covered, has_form_step, has_step, is_bare_front}
+use Rattle.grammar_back.specs.Covered.{is_expression_form, is_known, is_macro_form, is_plain_expression}
+use Rattle.grammar_back.specs.Covered.{is_statement_form, is_statement_item, takes_attributes}
 use Rattle.grammar_back.proofs.Choices.{both_true, is_false}
 use Rattle.grammar_back.proofs.Ends.{ends_back, macro_read, own_back}
 use Rattle.grammar_back.proofs.Fits.{Fits, is_open_turn, IsMeant}

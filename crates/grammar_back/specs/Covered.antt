@@ -532,36 +532,6 @@ all_covered (Back l k y) = is_form k && (all_covered l && all_covered y)
 all_covered (Infix l k y r) = is_form k && (all_covered y && (all_covered l && all_covered r))
 all_covered _ = true
 
--- Of these what is asked of a tree that was read: that a macro which is a statement has its tokens in braces was seen.
-abbrev pub is_asked_form : Tree → Bool
-is_asked_form (Second (First x)) = true
-is_asked_form x = is_statement_form x
-
-abbrev pub is_asked : Kind → Tree → Bool
-is_asked AStatement x = is_asked_form x
-is_asked k x = is_taken k x
-
-abbrev pub all_asked : Tree → Bool
-all_asked (Pair x y) = all_asked x && all_asked y
-all_asked (First x) = all_asked x
-all_asked (Second x) = all_asked x
-all_asked (Again x y) = all_asked x && all_asked y
-all_asked (Final x) = all_asked x
-all_asked (More x c spacing y) = all_asked x && all_asked y
-all_asked (Group d x) = all_asked x
-all_asked (Dropped x) = all_asked x
-all_asked (Called n x) = all_asked x
-all_asked (Verbatim x) = true
-all_asked (Node k x) = is_known k && (is_asked k x && all_asked x)
-all_asked (Whole x) = all_asked x
-all_asked (Alone k y) = is_form k && (is_plain_part k (normal (kept y)) && all_asked y)
-all_asked (Front k y x) =
-    is_form k && (not (is_attributed_range k x)
-    && (is_plain_part k (normal (kept y)) && (all_asked y && all_asked x)))
-all_asked (Back l k y) = is_form k && (all_asked l && all_asked y)
-all_asked (Infix l k y r) = is_form k && (all_asked y && (all_asked l && all_asked r))
-all_asked _ = true
-
 -- An expression by itself stands in plain position: in a condition, in an arm and in a statement it stands in what has
 -- these. An arm stands among arms.
 abbrev pub stands_alone : Tree → Bool
@@ -569,6 +539,3 @@ stands_alone (Node Arm x) = false
 stands_alone (Node (Expression Plain) x) = true
 stands_alone (Node (Expression p) x) = false
 stands_alone x = true
-
-abbrev pub is_covered : Tree → Bool
-is_covered x = stands_alone x && all_asked x

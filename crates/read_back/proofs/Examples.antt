@@ -25,7 +25,8 @@ use Rattle.syn_grammar.specs.Kept.{held, kept}
 use Rattle.syn_grammar.specs.Normal.{passed, stands_behind, normal, normal_in}
 use Rattle.syn_grammar.specs.Parens.{may_lack}
 use Rattle.syn_grammar.specs.Read.{IsRead}
-use Rattle.grammar_back.specs.Covered.{has_step, has_form_step, is_covered}
+use Rattle.grammar_back.specs.Covered.{has_step, has_form_step}
+use Rattle.read_back.specs.Asked.{is_covered}
 use Rattle.expressions_back.proofs.Examples.{minus, sum_back}
 use Rattle.read_back.proofs.ReadBack.{read_back}
 

@@ -24,8 +24,12 @@ pub mod NamedMacros
 pub mod Statements
 pub mod Given
 pub mod Forms
-pub mod Told
 pub mod ToldClosures
+pub mod ToldRanges
+pub mod LonePatterns
+pub mod ToldPatterns
+pub mod Judged
+pub mod Told
 pub mod ReadBack
 pub mod Positions
 pub mod Examples

@@ -10,8 +10,8 @@ use Rattle.syn_grammar.specs.Kept.{kept}
 use Rattle.syn_grammar.specs.Normal.{normal}
 use Rattle.syn_grammar.specs.Read.{IsRead}
 use Rattle.grammar_back.specs.After.{After}
-use Rattle.grammar_back.specs.Covered.{is_covered}
 use Rattle.grammar_back.proofs.ReadBack.{node_placed, read_placed, same_placed}
+use Rattle.read_back.specs.Asked.{is_covered}
 use Rattle.read_back.proofs.Forms.{expressions}
 use Rattle.read_back.proofs.Told.{whole_told}
 

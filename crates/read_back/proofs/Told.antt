@@ -1,13 +1,14 @@
 -- What is asked of a tree that was read is all that the steps go by: the tests of its entries saw the rest.
 use Rattle.std.proofs.Common.{◌≡◌, ℕ, zero, suc, List, [], ◌∷◌, ◌++◌, length, refl, sym, ap, ◌∙◌, subst, append_assoc}
 use Rattle.std.proofs.Common.{inl, inr}
-use Rattle.std.specs.Prelude.{Bool, true, ◌⊎◌, ◌&&◌, not, cond, Some, None}
+use Rattle.std.specs.Prelude.{Bool, true, false, ◌⊎◌, ◌&&◌, ◌||◌, not, cond, Some, None}
 use Rattle.proc_macro2.specs.Token.{Token, Ident, Opens, Punct}
 use Rattle.proc_macro2.specs.declared.delimiter.Delimiter.{Delimiter}
 use Rattle.proc_macro2.specs.declared.delimiter.Delimiter.TheVariants.{Brace, Bracket, Parenthesis}
 use Rattle.rust_leaf.specs.declared.punct.Spacing.{Spacing}
 use Rattle.rust_leaf.specs.declared.punct.Spacing.TheVariants.{Alone as Apart, Joint}
-use Rattle.syn_grammar.specs.Kind.{Kind, Position, AMacro, AStatement, Delimited, ExprMacro, InModule, Path, Segments}
+use Rattle.syn_grammar.specs.Kind.{Kind, Position, AConst, AMacro, AnImpl, AStatement, Delimited, ExprClosure}
+use Rattle.syn_grammar.specs.Kind.{ExprMacro, ExprTypedClosure, InModule, InStatement, OnePattern, Path, Segments}
 use Rattle.syn_grammar.specs.Words.{is_name}
 use Rattle.syn_grammar.specs.Tree.{Tree, AWord, ALiteral, AMark, ALifetime, Raw, Nil, Pair, First, Second, End, Again}
 use Rattle.syn_grammar.specs.Tree.{Final, More, Group, Dropped, Called, Verbatim, Node, Whole, Alone, Front, Back}
@@ -18,18 +19,25 @@ use Rattle.syn_grammar.specs.Look.{first_seen, as_far, repeatedly}
 use Rattle.syn_grammar.specs.Say.{marks}
 use Rattle.syn_grammar.specs.Table.{table}
 use Rattle.syn_grammar.specs.Derives.{Derives, Bound}
-use Rattle.syn_grammar.specs.Forms.{inside, is_brace_macro}
+use Rattle.syn_grammar.specs.Forms.{front, inside, is_brace_macro}
 use Rattle.syn_grammar.specs.Kept.{kept}
-use Rattle.syn_grammar.specs.Normal.{normal}
+use Rattle.syn_grammar.specs.Normal.{normal, normal_in}
 use Rattle.syn_grammar.specs.Parens.{is_attributed_range}
 use Rattle.syn_grammar.specs.Statements.{macro_statement_stands}
 use Rattle.expressions_back.proofs.Bools.{never}
-use Rattle.grammar_back.specs.Covered.{all_asked, all_covered, is_asked, is_asked_form, is_covered, is_form, is_known}
-use Rattle.grammar_back.specs.Covered.{is_plain_part, is_statement_form, is_taken, stands_alone}
+use Rattle.grammar_back.specs.Covered.{all_covered, is_bare_front, is_form, is_known}
+use Rattle.grammar_back.specs.Covered.{is_plain_expression, is_plain_part, is_statement_form, is_taken, stands_alone}
+use Rattle.grammar_back.specs.Covered.{takes_attributes}
 use Rattle.grammar_back.proofs.Choices.{both_same, both_true}
 use Rattle.grammar_back.proofs.Passed.{behind_attributes}
 use Rattle.grammar_back.proofs.ReadBack.{is_whole}
+use Rattle.read_back.specs.Asked.{all_asked, ends_alone, ends_in_pattern, is_asked, is_asked_alone}
+use Rattle.read_back.specs.Asked.{is_asked_form, is_covered, is_no_lone, no_lone}
+use Rattle.read_back.proofs.Judged.{are_settled, settled_inside}
 use Rattle.read_back.proofs.Paths.{one_more, is_named}
+use Rattle.read_back.proofs.ToldClosures.{closure_told, typed_closure_told}
+use Rattle.read_back.proofs.ToldPatterns.{whole_patterns}
+use Rattle.read_back.proofs.ToldRanges.{takes_told}
 
 -- behind a name: further names, as many as there are turns, and then a !
 abbrev plus : ℕ → ℕ → ℕ
@@ -211,79 +219,145 @@ macro_told (Node k x) q d e =
     (macro_in x q (subst (λ l. Derives x (table l) q) d.0 d.1) e)
 macro_told _ q d e = absurd d
 
-form_told : (x : Tree) (r : List Token) → Derives x (table AStatement) r → is_asked_form x ≡ true
-    → is_statement_form x ≡ true
+or_behind : (a b : Bool) → b ≡ true → (a || b) ≡ true
+or_behind true b e = refl
+or_behind false b e = e
+
+-- what is held of an expression takes the attributes in front of its statement
+form_told : (x : Tree) (r : List Token) → Derives x (table AStatement) r → all_covered x ≡ true
+    → is_asked_form x ≡ true → is_statement_form x ≡ true
 unfolding table
-form_told (Second (First (Pair a (Pair m s)))) r d c =
+form_told (Second (First (Pair a (Pair m s)))) r d v c =
     macro_told m (flat s ++ r) d.1.1.1.0
     (sym (ap (sees macro_statement_stands) (append_assoc (flat m) (flat s) r))
     ∙ sym (behind_attributes a (Pair m s) macro_statement_stands r _ d.1.1.0 refl) ∙ d.1.0)
-form_told (Second (First (Pair a _))) r d c = absurd d.1.1.1
-form_told (Second (First _)) r d c = absurd d.1.1
-form_told (Second (Second x)) r d c = c
-form_told (Second x) r d c = c
-form_told x r d c = c
+form_told (Second (First (Pair a _))) r d v c = absurd d.1.1.1
+form_told (Second (First _)) r d v c = absurd d.1.1
+form_told (Second (Second (Second (Second (Pair (Called n a) (Pair (Called m e) s)))))) r d v c =
+    let h = both_true (all_covered a) (all_covered e && all_covered s) v in
+    both_same (is_plain_expression (normal_in InStatement (kept e))) (is_bare_front a || takes_attributes (kept e)) true
+    true c
+    (or_behind (is_bare_front a) (takes_attributes (kept e))
+    (takes_told e (flat s ++ r) d.1.1.1.1.1.0.1 (both_true (all_covered e) (all_covered s) h.1).0))
+form_told (Second (Second (Second (Second (Pair (Called n a) _))))) r d v c = absurd (never c)
+form_told (Second (Second (Second (Second (Pair _ y))))) r d v c = absurd d.1.1.1.1.0
+form_told (Second (Second (Second (Second _)))) r d v c = absurd (never c)
+form_told (Second (Second (Second x))) r d v c = c
+form_told (Second (Second x)) r d v c = c
+form_told (Second x) r d v c = c
+form_told x r d v c = c
 
-node_told : (k : Kind) (x : Tree) (r : List Token) → Derives x (table k) r → is_asked k x ≡ true → is_taken k x ≡ true
-node_told AStatement x r d c = form_told x r d c
-node_told _ x r d c = c
+-- of a kind's tree, and of a form's own part
+node_told : (k : Kind) (x : Tree) (r : List Token) → Derives x (table k) r → are_settled (Node k x) ≡ true
+    → is_no_lone k x ≡ true → all_covered x ≡ true → is_asked k x ≡ true → is_taken k x ≡ true
+node_told AConst x r d s n v c = s
+node_told AnImpl x r d s n v c = s
+node_told OnePattern x r d s n v c = n
+node_told AStatement x r d s n v c = form_told x r d v c
+node_told _ x r d s n v c = c
+
+part_told : (k : Kind) (p : Position) (y : Tree) (r : List Token) → front p (flat y ++ r) ≡ Some k
+    → Derives y (table k) r → is_plain_part k (normal (kept y)) ≡ true
+part_told ExprClosure p y r e d = closure_told p y r e d
+part_told ExprTypedClosure p y r e d = typed_closure_told p y r e d
+part_told _ p y r e d = refl
 
 -- of all that a tree holds
-both : (a b c d : Bool) → (a ≡ true → c ≡ true) → (b ≡ true → d ≡ true) → (a && b) ≡ true → (c && d) ≡ true
-both a b c d f g e = let h = both_true a b e in both_same c d true true (f h.0) (g h.1)
+and_both : (a b : Bool) → a ≡ true → b ≡ true → (a && b) ≡ true
+and_both a b e f = both_same a b true true e f
 
 mutual
-  told : (x : Tree) (g : Gram) (r : List Token) → Derives x g r → all_asked x ≡ true → all_covered x ≡ true
-  told (Pair x y) (seq a b) r d c =
-      both (all_asked x) (all_asked y) (all_covered x) (all_covered y) (told x a _ d.0) (told y b r d.1) c
-  told (First x) (alt t a b) r d c = told x a r d.1 c
-  told (Second x) (alt t a b) r d c = told x b r d.1 c
-  told (Again x y) (star t g) r d c =
-      both (all_asked x) (all_asked y) (all_covered x) (all_covered y) (told x g _ d.1) (told y (star t g) r d.2) c
-  told (Final x) (many e s g) r d c = told x g r d.1 c
-  told (More x o i y) (many e s g) r d c =
-      both (all_asked x) (all_asked y) (all_covered x) (all_covered y) (told x g _ d.2) (told y (many e s g) r d.3) c
-  told (Group e x) (group f g) r d c = told x g [] d.1 c
-  told (First x) (judged v g) r d c = told x g r d.1 c
-  told (Verbatim x) (judged v g) r d c = refl
-  told (Dropped x) (dropped g) r d c = told x g r d c
-  told (Called n x) (called m g) r d c = told x g r d.1 c
-  told (Node k x) (ref l) r d c =
-      both (is_known k) (is_asked k x && all_asked x) (is_known k) (is_taken k x && all_covered x) (λ h. h)
-      (both (is_asked k x) (all_asked x) (is_taken k x) (all_covered x) (node_told k x r d.1)
-      (told x (table k) r d.1)) c
-  told (Whole x) (operand p n) r d c = form_parts x p r d.1 c
-  told (AWord cs) g r d c = refl
-  told (ALiteral cs) g r d c = refl
-  told (AMark e cs i) g r d c = refl
-  told (ALifetime cs) g r d c = refl
-  told (Raw ts) g r d c = refl
-  told Nil g r d c = refl
-  told End g r d c = refl
-  told _ g r d c = absurd d
+  told : (x : Tree) (g : Gram) (r : List Token) → Derives x g r → are_settled x ≡ true → no_lone x ≡ true
+      → all_asked x ≡ true → all_covered x ≡ true
+  told (Pair x y) (seq a b) r d s n c =
+      let t = both_true (are_settled x) (are_settled y) s in
+      let m = both_true (no_lone x) (no_lone y) n in
+      let h = both_true (all_asked x) (all_asked y) c in
+      and_both (all_covered x) (all_covered y) (told x a _ d.0 t.0 m.0 h.0) (told y b r d.1 t.1 m.1 h.1)
+  told (First x) (alt t a b) r d s n c = told x a r d.1 s n c
+  told (Second x) (alt t a b) r d s n c = told x b r d.1 s n c
+  told (Again x y) (star t g) r d s n c =
+      let u = both_true (are_settled x) (are_settled y) s in
+      let m = both_true (no_lone x) (no_lone y) n in
+      let h = both_true (all_asked x) (all_asked y) c in
+      and_both (all_covered x) (all_covered y) (told x g _ d.1 u.0 m.0 h.0) (told y (star t g) r d.2 u.1 m.1 h.1)
+  told (Final x) (many e z g) r d s n c = told x g r d.1 s n c
+  told (More x o i y) (many e z g) r d s n c =
+      let t = both_true (are_settled x) (are_settled y) s in
+      let m = both_true (no_lone x) (no_lone y) n in
+      let h = both_true (all_asked x) (all_asked y) c in
+      and_both (all_covered x) (all_covered y) (told x g _ d.2 t.0 m.0 h.0) (told y (many e z g) r d.3 t.1 m.1 h.1)
+  told (Group e x) (group f g) r d s n c = told x g [] d.1 s n c
+  told (First x) (judged v g) r d s n c = told x g r d.1 s n c
+  told (Verbatim x) (judged v g) r d s n c = refl
+  told (Dropped x) (dropped g) r d s n c = told x g r d s n c
+  told (Called l x) (called m g) r d s n c = told x g r d.1 s n c
+  told (Node k x) (ref l) r d s n c =
+      let m = both_true (is_no_lone k x) (no_lone x) n in
+      let h = both_true (is_known k) (is_asked k x && all_asked x) c in
+      let i = both_true (is_asked k x) (all_asked x) h.1 in
+      let v : all_covered x ≡ true = told x (table k) r d.1 (settled_inside k x r d.1) m.1 i.1 in
+      and_both (is_known k) (is_taken k x && all_covered x) h.0
+      (and_both (is_taken k x) (all_covered x) (node_told k x r d.1 s m.0 v i.0) v)
+  told (Whole x) (operand p l) r d s n c = form_parts x p r d.1 n c
+  told (AWord cs) g r d s n c = refl
+  told (ALiteral cs) g r d s n c = refl
+  told (AMark e cs i) g r d s n c = refl
+  told (ALifetime cs) g r d s n c = refl
+  told (Raw ts) g r d s n c = refl
+  told Nil g r d s n c = refl
+  told End g r d s n c = refl
+  told _ g r d s n c = absurd d
 
-  form_parts : (x : Tree) (p : Position) (r : List Token) → Bound p x r → all_asked x ≡ true → all_covered x ≡ true
-  form_parts (Alone k y) p r d c =
-      both (is_form k) _ (is_form k) _ (λ h. h)
-      (both (is_plain_part k (normal (kept y))) (all_asked y) (is_plain_part k (normal (kept y))) (all_covered y)
-      (λ h. h) (told y (table k) r d.1)) c
-  form_parts (Front k y x) p r d c =
-      both (is_form k) _ (is_form k) _ (λ h. h)
-      (both (not (is_attributed_range k x)) _ (not (is_attributed_range k x)) _ (λ h. h)
-      (both (is_plain_part k (normal (kept y))) _ (is_plain_part k (normal (kept y))) _ (λ h. h)
-      (both (all_asked y) (all_asked x) (all_covered y) (all_covered x) (told y (table k) _ d.1)
-      (form_parts x (inside p k) r d.4)))) c
-  form_parts (Back l k y) p r d c =
-      both (is_form k) _ (is_form k) _ (λ h. h)
-      (both (all_asked l) (all_asked y) (all_covered l) (all_covered y) (form_parts l p _ d.4)
-      (told y (table k) r d.1)) c
-  form_parts (Infix l k y x) p r d c =
-      both (is_form k) _ (is_form k) _ (λ h. h)
-      (both (all_asked y) _ (all_covered y) _ (told y (table k) _ d.1)
-      (both (all_asked l) (all_asked x) (all_covered l) (all_covered x) (form_parts l p _ d.4)
-      (form_parts x (inside p k) r d.6))) c
-  form_parts _ p r d c = absurd d
+  form_parts : (x : Tree) (p : Position) (r : List Token) → Bound p x r → no_lone x ≡ true → all_asked x ≡ true
+      → all_covered x ≡ true
+  form_parts (Alone k y) p r d n c =
+      let h = both_true (is_form k) (all_asked y) c in
+      and_both (is_form k) _ h.0
+      (and_both (is_plain_part k (normal (kept y))) (all_covered y) (part_told k p y r d.0 d.1)
+      (told y (table k) r d.1 (settled_inside k y r d.1) n h.1))
+  form_parts (Front k y x) p r d n c =
+      let m = both_true (no_lone y) (no_lone x) n in
+      let h = both_true (is_form k) _ c in
+      let i = both_true (not (is_attributed_range k x)) (all_asked y && all_asked x) h.1 in
+      let j = both_true (all_asked y) (all_asked x) i.1 in
+      and_both (is_form k) _ h.0
+      (and_both (not (is_attributed_range k x)) _ i.0
+      (and_both (is_plain_part k (normal (kept y))) _ (part_told k p y (flat x ++ r) d.0 d.1)
+      (and_both (all_covered y) (all_covered x) (told y (table k) (flat x ++ r) d.1 (settled_inside k y _ d.1) m.0 j.0)
+      (form_parts x (inside p k) r d.4 m.1 j.1))))
+  form_parts (Back l k y) p r d n c =
+      let m = both_true (no_lone l) (no_lone y) n in
+      let h = both_true (is_form k) (all_asked l && all_asked y) c in
+      let i = both_true (all_asked l) (all_asked y) h.1 in
+      and_both (is_form k) _ h.0
+      (and_both (all_covered l) (all_covered y) (form_parts l p _ d.4 m.0 i.0)
+      (told y (table k) r d.1 (settled_inside k y r d.1) m.1 i.1))
+  form_parts (Infix l k y x) p r d n c =
+      let m = both_true (no_lone y) (no_lone l && no_lone x) n in
+      let o = both_true (no_lone l) (no_lone x) m.1 in
+      let h = both_true (is_form k) _ c in
+      let i = both_true (all_asked y) (all_asked l && all_asked x) h.1 in
+      let j = both_true (all_asked l) (all_asked x) i.1 in
+      and_both (is_form k) _ h.0
+      (and_both (all_covered y) _ (told y (table k) (flat x ++ r) d.1 (settled_inside k y _ d.1) m.0 i.0)
+      (and_both (all_covered l) (all_covered x) (form_parts l p _ d.4 o.0 j.0) (form_parts x (inside p k) r d.6 o.1 j.1)))
+  form_parts _ p r d n c = absurd d
+
+-- A kind that ends in a pattern is asked to hold no path of one identifier alone; of the others that is told.
+lone_told : (k : Kind) (x : Tree) (r : List Token) → Derives x (ref k) r → ends_alone x ≡ true → no_lone x ≡ true
+lone_told k (Node j x) r d c = by_end (ends_in_pattern k) refl
+  where
+    by_end : (b : Bool) → ends_in_pattern k ≡ b → no_lone (Node j x) ≡ true
+    by_end false e = whole_patterns k (Node j x) r e d
+    by_end true e = ap (λ b. not b || no_lone (Node j x)) (sym (ap ends_in_pattern d.0 ∙ e)) ∙ c
+lone_told k _ r d c = absurd d
 
 pub whole_told : (k : Kind) (x : Tree) (r : List Token) → Derives x (ref k) r → is_covered x ≡ true → is_whole x ≡ true
-whole_told k x r d c =
-    both (stands_alone x) (all_asked x) (stands_alone x) (all_covered x) (λ h. h) (told x (ref k) r d) c
+whole_told k (Node l x) r d c =
+    let y : Tree = Node l x in
+    let a = both_true (stands_alone y) (is_asked_alone y && (ends_alone y && all_asked y)) c in
+    let b = both_true (is_asked_alone y) (ends_alone y && all_asked y) a.1 in
+    let e = both_true (ends_alone y) (all_asked y) b.1 in
+    and_both (stands_alone y) (all_covered y) a.0 (told y (ref k) r d b.0 (lone_told k y r d e.0) e.1)
+whole_told k _ r d c = absurd d

@@ -2,8 +2,8 @@
 
 ghost use Rattle.expressions_back.specs.Behind.{MayFollow};
 ghost use Rattle.grammar_back.specs.After.{After, EndsThere};
-ghost use Rattle.grammar_back.specs.Covered.{is_covered};
 ghost use Rattle.proc_macro2.specs.Token.{Token};
+ghost use Rattle.read_back.specs.Asked.{is_covered};
 ghost use Rattle.read_back.specs.Parts.{has_part, has_parts_of};
 ghost use Rattle.std.specs.Prelude.{◌≡◌, true, List, ◌++◌};
 ghost use Rattle.syn_grammar.specs.Derives.{Derives};

@@ -1,0 +1,104 @@
+-- What is asked of a tree that was read, for its normal form to be read back: the tests and the verdicts of the grammar
+-- saw the rest.
+use Rattle.std.specs.Prelude.{Bool, true, false, ◌&&◌, ◌||◌, not}
+use Rattle.syn_grammar.specs.Kind.{Kind, AConst, AnImpl, AStatement, ClosureParam, FieldPattern, IdentPattern}
+use Rattle.syn_grammar.specs.Kind.{InStatement, OnePattern, Pattern, ReferencePattern, SeveralPatterns}
+use Rattle.syn_grammar.specs.Tree.{Tree, Pair, First, Second, Again, Final, More, Group, Dropped, Called, Verbatim}
+use Rattle.syn_grammar.specs.Tree.{Node, Whole, Alone, Front, Back, Infix}
+use Rattle.syn_grammar.specs.Part.{choice}
+use Rattle.syn_grammar.specs.Kept.{kept}
+use Rattle.syn_grammar.specs.Normal.{normal_in}
+use Rattle.syn_grammar.specs.Parens.{is_attributed_range}
+use Rattle.grammar_back.specs.Covered.{has_lone_value, has_own_trait, is_form, is_known, is_lone, is_plain_expression}
+use Rattle.grammar_back.specs.Covered.{is_statement_form, is_taken, stands_alone}
+
+-- Of a statement: what it is taken by, but that a macro which is one has its tokens in braces was seen; and of an
+-- expression only how it begins, as it is printed.
+abbrev pub is_asked_expression : Tree → Bool
+is_asked_expression (Pair a (Pair (Called n e) s)) = is_plain_expression (normal_in InStatement (kept e))
+is_asked_expression _ = false
+
+abbrev pub is_asked_form : Tree → Bool
+is_asked_form (Second (First x)) = true
+is_asked_form (Second (Second (Second (Second x)))) = is_asked_expression x
+is_asked_form x = is_statement_form x
+
+-- Of what stands in a tree: nothing of a constant and of an impl, as an item that is kept was judged by them, nor of a
+-- pattern, as an identifier alone is no path pattern but before .. .
+abbrev pub is_asked : Kind → Tree → Bool
+is_asked AConst x = true
+is_asked AnImpl x = true
+is_asked OnePattern x = true
+is_asked AStatement x = is_asked_form x
+is_asked k x = is_taken k x
+
+-- All that a tree holds is of kinds that have a step, and as is asked of it; no range stands behind attributes.
+abbrev pub all_asked : Tree → Bool
+all_asked (Pair x y) = all_asked x && all_asked y
+all_asked (First x) = all_asked x
+all_asked (Second x) = all_asked x
+all_asked (Again x y) = all_asked x && all_asked y
+all_asked (Final x) = all_asked x
+all_asked (More x c spacing y) = all_asked x && all_asked y
+all_asked (Group d x) = all_asked x
+all_asked (Dropped x) = all_asked x
+all_asked (Called n x) = all_asked x
+all_asked (Verbatim x) = true
+all_asked (Node k x) = is_known k && (is_asked k x && all_asked x)
+all_asked (Whole x) = all_asked x
+all_asked (Alone k y) = is_form k && all_asked y
+all_asked (Front k y x) = is_form k && (not (is_attributed_range k x) && (all_asked y && all_asked x))
+all_asked (Back l k y) = is_form k && (all_asked l && all_asked y)
+all_asked (Infix l k y r) = is_form k && (all_asked y && (all_asked l && all_asked r))
+all_asked _ = true
+
+-- Of a tree by itself: a constant has no where clause behind a value, and what an impl implements is a path. As an item
+-- among others it would be raw.
+abbrev pub is_asked_alone : Tree → Bool
+is_asked_alone (Node AConst x) = has_lone_value x
+is_asked_alone (Node AnImpl x) = has_own_trait x
+is_asked_alone _ = true
+
+-- the kinds that may end in a pattern
+abbrev pub ends_in_pattern : Kind → Bool
+ends_in_pattern Pattern = true
+ends_in_pattern SeveralPatterns = true
+ends_in_pattern OnePattern = true
+ends_in_pattern IdentPattern = true
+ends_in_pattern ReferencePattern = true
+ends_in_pattern FieldPattern = true
+ends_in_pattern ClosureParam = true
+ends_in_pattern k = false
+
+-- No pattern in a tree is a path of one identifier alone; of what is kept as tokens nothing is said.
+abbrev pub is_no_lone : Kind → Tree → Bool
+is_no_lone OnePattern x = not (is_lone (choice x))
+is_no_lone k x = true
+
+abbrev pub no_lone : Tree → Bool
+no_lone (Pair x y) = no_lone x && no_lone y
+no_lone (First x) = no_lone x
+no_lone (Second x) = no_lone x
+no_lone (Again x y) = no_lone x && no_lone y
+no_lone (Final x) = no_lone x
+no_lone (More x c spacing y) = no_lone x && no_lone y
+no_lone (Group d x) = no_lone x
+no_lone (Dropped x) = no_lone x
+no_lone (Called n x) = no_lone x
+no_lone (Verbatim x) = true
+no_lone (Node k x) = is_no_lone k x && no_lone x
+no_lone (Whole x) = no_lone x
+no_lone (Alone k y) = no_lone y
+no_lone (Front k y x) = no_lone y && no_lone x
+no_lone (Back l k y) = no_lone l && no_lone y
+no_lone (Infix l k y r) = no_lone y && (no_lone l && no_lone r)
+no_lone _ = true
+
+-- A kind that ends in a pattern may stand before .., by itself alone.
+abbrev pub ends_alone : Tree → Bool
+ends_alone (Node k x) = not (ends_in_pattern k) || no_lone (Node k x)
+ends_alone x = true
+
+-- of a tree that stands by itself, and of all that it holds
+abbrev pub is_covered : Tree → Bool
+is_covered x = stands_alone x && (is_asked_alone x && (ends_alone x && all_asked x))
