@@ -1,0 +1,301 @@
+#!/usr/bin/env python3
+"""Runs `canon` on real files, as one who uses it would. No part of the gate; docs/CORPUS.md says what came of it.
+
+  tests/corpus.py CANON PLACE..                 CANON is the built program, a PLACE a folder or a file
+  tests/corpus.py --peer PEER CANON PLACE..     asks a peer too
+  --jobs N                                      files at once (2)
+  --seconds N                                   what a run may take (60)
+  --all                                         lists each refusal and each difference, and not only those that need a look
+
+Of each `.rs` file in the folders: is it accepted; if so, is its output accepted and its own output; if not, by which form.
+That is guessed from the text at the fault's place, and `other` is what no guess fits. A run that ends by a signal, or takes
+too long, is listed by itself.
+
+A peer is a program that reads a text on standard input. `PEER file` reads it as a file by syn and prints the tokens of the
+tree, one a line, groups flat, a line feed in a literal as `\\n` and a backslash as two; `PEER lex` only lexes. It prints
+`refused: ..` and ends with 1 where it refuses. Where both accept, the tokens of `PEER file` of the text are compared with those
+of `PEER lex` of canon's output, and each difference is given to the departure that it looks like.
+"""
+import argparse
+import collections
+import os
+import re
+import subprocess
+from concurrent.futures import ThreadPoolExecutor
+
+CASE = collections.namedtuple('Case', 'name outcome fault own peer differences lines')
+
+
+# Runs.
+
+def run(command, text, seconds):
+    """The status (None if it took too long, negative by a signal), standard output and the first line of standard error."""
+    try:
+        done = subprocess.run(command, input=text, capture_output=True, timeout=seconds)
+    except subprocess.TimeoutExpired:
+        return None, b'', ''
+    return done.returncode, done.stdout, done.stderr.decode(errors='replace').strip()
+
+
+def files_of(places):
+    """Each file with the name that is printed for it: its path from the place that was given."""
+    for place in places:
+        place = place.rstrip('/')
+        if os.path.isfile(place):
+            yield place, os.path.basename(place)
+        for folder, _, names in os.walk(place):
+            for name in names:
+                if name.endswith('.rs') and os.path.isfile(os.path.join(folder, name)):
+                    path = os.path.join(folder, name)
+                    yield path, os.path.join(os.path.basename(place), os.path.relpath(path, place))
+
+
+def case_of(path, name, options):
+    with open(path, 'rb') as file:
+        text = file.read()
+    lines = text.count(b'\n')
+    status, output, fault = run([options.canon], text, options.seconds)
+    peer = None
+    if options.peer:
+        peer_status, peer_output, _ = run([options.peer, 'file'], text, options.seconds)
+        peer = 'accepted' if peer_status == 0 else 'refused' if peer_status == 1 else 'ended'
+    if status != 0:
+        outcome = 'refused' if status == 1 else 'too long' if status is None else 'ended with %d' % status
+        return CASE(name, outcome, fault_of(fault, text), None, peer, [], lines)
+    again, own_output, _ = run([options.canon], output, options.seconds)
+    own = again == 0 and own_output == output
+    differences = []
+    if peer == 'accepted':
+        lexed, here, _ = run([options.peer, 'lex'], output, options.seconds)
+        if lexed != 0:
+            differences = [('the peer does not lex the output', '', '')]
+        else:
+            differences = list(differences_of(tokens_of(peer_output), tokens_of(here)))
+    return CASE(name, 'accepted', None, own, peer, differences, lines)
+
+
+# Refusals.
+
+def fault_of(message, text):
+    """The form, the place, the fault's line, and the line of the text with a bar at the place."""
+    text = text.decode(errors='replace')
+    found = re.search(r' at (\d+):(\d+)', message)
+    lines = text.split('\n')
+    if not found:
+        return form_of(message, text, ''), 'end', message, ''
+    line, column = int(found[1]), int(found[2])
+    before = '\n'.join(lines[:line - 1] + [lines[line - 1][:column]])
+    behind = '\n'.join([lines[line - 1][column:]] + lines[line:])
+    shown = (lines[line - 1][:column] + '▮' + lines[line - 1][column:]).strip()
+    return form_of(message, before, behind), '%d:%d' % (line, column), message, shown[:160]
+
+
+def code_of(text):
+    """A front of a text without its comments and attributes, roughly."""
+    text = re.sub(r'(?s)/\*.*?\*/', ' ', text)
+    text = re.sub(r'//[^\n]*', ' ', text)
+    return re.sub(r'(?s)#!?\[[^\]]*\]', ' ', text)
+
+
+def group_end(text):
+    """Behind the group that begins at the front of a text, or 0."""
+    depth = 0
+    for i, c in enumerate(text):
+        depth += (c in '([{') - (c in ')]}')
+        if depth <= 0:
+            return i + 1
+    return 0
+
+
+def form_of(message, before, behind):
+    """The form that is left out, by the text before the fault's place and behind it."""
+    near = code_of(before[-3000:]).rstrip()
+    word = re.search(r'(?:r#)?\w*$', near)[0]
+    first = code_of(behind[:3000]).lstrip()
+    if 'lexical fault' in message:
+        if re.match(r'#![^\[]', before + behind):
+            return 'lexical: a shebang, or what follows it'
+        if re.search(r'(?m)\A[^\n]*\n?-{3,}|\A-{3,}', before + behind):
+            return 'lexical: a frontmatter'
+        return 'lexical'
+    if not code_of(before).strip():
+        return 'no whole file: its first token begins no item'
+    if word == 'try' and re.match(r'!|::', first):
+        return '`try!` and `try::`'
+    if re.match(r'!\s*[(\[{]', first) and word:
+        rest = code_of(first[1:].lstrip()[group_end(first[1:].lstrip()):]).lstrip()
+        path = re.search(r'(?:\w|::|\$)*$', near)
+        left = near[:path.start()].rstrip()
+        if re.match(r'=>|\||if\b', rest) or re.search(r'\blet$|\bfor$|\|$|=>\s*$', left):
+            return 'macro as a pattern'
+        if re.search(r'[:<&*,=(>\[]$|\b(?:as|for|dyn|impl|mut|const)$', left) or re.search(r"'\w+$", left):
+            return 'macro as a type'
+    if word == 'builtin' and first.startswith('#'):
+        return '`builtin #`'
+    if re.match(r'box\b', first):
+        return '`box`'
+    if word == 'box':
+        return '`box`'
+    if re.match(r'~\s*const\b', first):
+        return '`~const`'
+    if re.match(r'const\b', first) and re.search(r'\bimpl\b[^;{}]*$', near):
+        return '`impl const`'
+    if first.startswith('use') and re.match(r'use\s*<', first):
+        return '`use<..>`'
+    if re.match(r'impl\b', first) and re.search(r'\bpub(?:\s*\([^()]*\))?(?:\s+(?:default|unsafe))*$', near):
+        return '`pub impl`'
+    if re.match(r':[^:]', first) and 'expected `>`' in message:
+        return '`Name: Bound` among arguments'
+    if first.startswith('=') and near.endswith('>'):
+        return '`Name<..> =` among arguments'
+    if first.startswith('...'):
+        return '`...` in patterns' if 'expected `=>`' in message else '`...` elsewhere'
+    if re.match(r'\+', first) and re.search(r'[\w>)]$', near):
+        return 'bare trait object'
+    if re.search(r'=\s*$', near) and re.match(r"-?\d|[\"'{]|true|false", first) and 'const' not in word:
+        return 'constant in an equality'
+    return 'other'
+
+
+# Differences.
+
+def tokens_of(output):
+    return output.decode(errors='replace').split('\n')[:-1]
+
+
+def differences_of(there, here):
+    """(departure, the peer's tokens, ours) of each place where two lists of tokens differ."""
+    i = j = 0
+    keep = 6
+    while True:
+        while i < len(there) and j < len(here) and there[i] == here[j]:
+            i += 1
+            j += 1
+        if i == len(there) and j == len(here):
+            return
+        p, q = len(there) - i, len(here) - j
+        found = False
+        for total in range(1, 3000):
+            for a in range(max(0, total - (len(here) - j)), min(total, len(there) - i) + 1):
+                b = total - a
+                one, two = there[i + a:i + a + keep], here[j + b:j + b + keep]
+                if one == two and (len(one) == keep or i + a + len(one) == len(there) and j + b + len(two) == len(here)):
+                    p, q, found = a, b, True
+                    break
+            if found:
+                break
+        yield (departure_of(there, here, i, j, p, q), ' '.join(there[max(0, i - 8):i + p + 4])[:200],
+               ' '.join(here[max(0, j - 8):j + q + 4])[:200])
+        i, j = i + p, j + q
+
+
+def number_of(token):
+    try:
+        return int(re.sub(r'_', '', re.sub(r'[ui](?:8|16|32|64|128|size)$', '', token)), 0)
+    except ValueError:
+        return None
+
+
+def unescaped(token):
+    return re.sub(r"\\\\(?:u\{([0-9a-fA-F]+)\}|(.))", lambda m: chr(int(m[1], 16)) if m[1] else m[2], token)
+
+
+def departure_of(there, here, i, j, p, q):
+    theirs, ours = there[i:i + p], here[j:j + q]
+    around = there[max(0, i - 3):i]
+    if not ours and theirs == ['<', '>']:
+        return 'empty generics are dropped'
+    if not ours and theirs == ['where']:
+        return 'an empty where clause is dropped'
+    if len(theirs) == len(ours) == 1:
+        a, b = theirs[0], ours[0]
+        if a[:1] == b[:1] == '"' and unescaped(a) == unescaped(b):
+            return 'another escape in the text of a doc comment'
+        if around[-1:] == ['.'] or number_of(a) is not None:
+            if number_of(a) is not None and number_of(a) == number_of(b):
+                return 'an index in plain decimal'
+    if not theirs and ours == [',']:
+        return 'a comma is added'
+    if not ours and theirs == [',']:
+        return 'a comma is dropped'
+    if not theirs and ours == [';']:
+        return 'a semicolon is added'
+    if not ours and theirs == [';']:
+        return 'a semicolon is dropped'
+    if not theirs and ours == ['_', ':']:
+        return 'a parameter gets the pattern `_`'
+    if not ours and theirs[:1] == ['pub']:
+        return 'a visibility is dropped'
+    if not ours and theirs == ['+']:
+        return 'a trailing `+` is dropped'
+    if not theirs and ours == ['+']:
+        return 'a trailing `+` is kept'
+    if sorted(theirs) == sorted(ours) and any(t == "'" for t in theirs):
+        return 'lifetimes stand first'
+    if set(theirs + ours) <= {'(', ')'}:
+        return 'parentheses'
+    if i == 0 and theirs[:2] == ['#', '!']:
+        return 'shebang'
+    return 'other'
+
+
+# The report.
+
+def main():
+    parser = argparse.ArgumentParser(description=__doc__, formatter_class=argparse.RawDescriptionHelpFormatter)
+    parser.add_argument('canon')
+    parser.add_argument('places', nargs='+')
+    parser.add_argument('--peer')
+    parser.add_argument('--jobs', type=int, default=2)
+    parser.add_argument('--seconds', type=float, default=60)
+    parser.add_argument('--all', action='store_true')
+    options = parser.parse_args()
+    found = sorted(files_of(options.places), key=lambda pair: pair[1])
+    with ThreadPoolExecutor(options.jobs) as pool:
+        cases = list(pool.map(lambda pair: case_of(*pair, options), found))
+    accepted = [c for c in cases if c.outcome == 'accepted']
+    refused = [c for c in cases if c.outcome == 'refused']
+    print('%d files, %d lines' % (len(cases), sum(c.lines for c in cases)))
+    print('%d accepted, %d refused' % (len(accepted), len(refused)))
+    print('%d outputs are accepted and their own output' % sum(c.own for c in accepted))
+    for c in accepted:
+        if not c.own:
+            print('  NOT ITS OWN OUTPUT: ' + c.name)
+    for c in cases:
+        if c.outcome not in ('accepted', 'refused'):
+            print('  %s: %s%s' % (c.outcome.upper(), c.name, ' (the peer: %s)' % c.peer if c.peer else ''))
+    if options.peer:
+        print('\nThe peer')
+        for (here, there), count in sorted(collections.Counter((c.outcome, c.peer) for c in cases).items()):
+            print('  here %s, there %s: %d' % (here, there, count))
+        for c in accepted:
+            if c.peer != 'accepted' and options.all:
+                print('    accepted here alone: ' + c.name)
+    print('\nRefused, by form' + (' (of which the peer accepts)' if options.peer else ''))
+    forms = collections.defaultdict(list)
+    for c in refused:
+        forms[c.fault[0]].append(c)
+    for form in sorted(forms, key=lambda f: (f == 'other', -len(forms[f]), f)):
+        them = forms[form]
+        taken = ' (%d)' % sum(c.peer == 'accepted' for c in them) if options.peer else ''
+        print('  %4d%s %s' % (len(them), taken, form))
+        for c in them:
+            if options.all or form == 'other' and c.peer != 'refused':
+                mark = '+ ' if c.peer == 'accepted' else ''
+                print('         %s%s:%s: %s | %s' % (mark, c.name, c.fault[1], c.fault[2], c.fault[3]))
+    if options.peer:
+        both = [c for c in accepted if c.peer == 'accepted']
+        print('\nThe same tokens: %d of %d files that both accept' % (sum(not c.differences for c in both), len(both)))
+        departures = collections.defaultdict(list)
+        for c in both:
+            for departure, theirs, ours in c.differences:
+                departures[departure].append((c.name, theirs, ours))
+        for departure in sorted(departures, key=lambda d: (d == 'other', -len(departures[d]), d)):
+            them = departures[departure]
+            print('  %5d in %d files: %s' % (len(them), len({name for name, _, _ in them}), departure))
+            for name, theirs, ours in them if departure == 'other' or options.all else them[:1]:
+                print('          %s\n            there %s\n            here  %s' % (name, theirs, ours))
+
+
+if __name__ == '__main__':
+    main()
