@@ -14,7 +14,8 @@ too long, is listed by itself.
 A peer is a program that reads a text on standard input. `PEER file` reads it as a file by syn and prints the tokens of the
 tree, one a line, groups flat, a line feed in a literal as `\\n` and a backslash as two; `PEER lex` only lexes. It prints
 `refused: ..` and ends with 1 where it refuses. Where both accept, the tokens of `PEER file` of the text are compared with those
-of `PEER lex` of canon's output, and each difference is given to the departure that it looks like.
+of `PEER lex` of canon's output, and each difference is given to the departure that it looks like. Likewise the tokens of
+each accepted text with those of its output: what differs there is what normal form does.
 """
 import argparse
 import collections
@@ -23,7 +24,7 @@ import re
 import subprocess
 from concurrent.futures import ThreadPoolExecutor
 
-CASE = collections.namedtuple('Case', 'name outcome fault own peer differences lines')
+CASE = collections.namedtuple('Case', 'name outcome fault own peer differences changes lines')
 
 
 # Runs.
@@ -61,17 +62,20 @@ def case_of(path, name, options):
         peer = 'accepted' if peer_status == 0 else 'refused' if peer_status == 1 else 'ended'
     if status != 0:
         outcome = 'refused' if status == 1 else 'too long' if status is None else 'ended with %d' % status
-        return CASE(name, outcome, fault_of(fault, text), None, peer, [], lines)
+        return CASE(name, outcome, fault_of(fault, text), None, peer, [], [], lines)
     again, own_output, _ = run([options.canon], output, options.seconds)
     own = again == 0 and own_output == output
-    differences = []
-    if peer == 'accepted':
+    differences, changes = [], []
+    if options.peer:
         lexed, here, _ = run([options.peer, 'lex'], output, options.seconds)
-        if lexed != 0:
-            differences = [('the peer does not lex the output', '', '')]
+        read, there, _ = run([options.peer, 'lex'], text, options.seconds)
+        if lexed != 0 or read != 0:
+            changes = [('the peer does not lex the %s' % ('output' if read == 0 else 'text'), '', '')]
         else:
+            changes = list(differences_of(tokens_of(there), tokens_of(here)))
+        if peer == 'accepted' and lexed == 0:
             differences = list(differences_of(tokens_of(peer_output), tokens_of(here)))
-    return CASE(name, 'accepted', None, own, peer, differences, lines)
+    return CASE(name, 'accepted', None, own, peer, differences, changes, lines)
 
 
 # Refusals.
@@ -97,6 +101,11 @@ def code_of(text):
     return re.sub(r'(?s)#!?\[[^\]]*\]', ' ', text)
 
 
+def code_of_front(text):
+    """The same of a text whose first line may be a shebang: its marks stay, and what is behind them is without comments."""
+    return '#!' + re.sub(r'//[^\n]*', ' ', re.sub(r'(?s)/\*.*?\*/', ' ', text[2:400]))
+
+
 def group_end(text):
     """Behind the group that begins at the front of a text, or 0."""
     depth = 0
@@ -112,16 +121,19 @@ def form_of(message, before, behind):
     near = code_of(before[-3000:]).rstrip()
     word = re.search(r'(?:r#)?\w*$', near)[0]
     first = code_of(behind[:3000]).lstrip()
+    whole = before + behind
+    if re.match(r'#!', whole) and not re.match(r'#!\s*\[', code_of_front(whole)):
+        return 'shebang'
+    if re.match(r'(?:#![^\n]*\n)?\s*---', whole):
+        return 'frontmatter'
     if 'lexical fault' in message:
-        if re.match(r'#![^\[]', before + behind):
-            return 'lexical: a shebang, or what follows it'
-        if re.search(r'(?m)\A[^\n]*\n?-{3,}|\A-{3,}', before + behind):
-            return 'lexical: a frontmatter'
         return 'lexical'
     if not code_of(before).strip():
         return 'no whole file: its first token begins no item'
     if word == 'try' and re.match(r'!|::', first):
         return '`try!` and `try::`'
+    if 'may stand here' in message and refused_item(near):
+        return refused_item(near)
     if re.match(r'!\s*[(\[{]', first) and word:
         rest = code_of(first[1:].lstrip()[group_end(first[1:].lstrip()):]).lstrip()
         path = re.search(r'(?:\w|::|\$)*$', near)
@@ -149,12 +161,62 @@ def form_of(message, before, behind):
     if first.startswith('=') and near.endswith('>'):
         return '`Name<..> =` among arguments'
     if first.startswith('...'):
-        return '`...` in patterns' if 'expected `=>`' in message else '`...` elsewhere'
+        if re.search(r'\bfn\s*\([^()]*$', near):
+            return '`...` in a function pointer, or not at the end'
+        return '`...` in patterns'
     if re.match(r'\+', first) and re.search(r'[\w>)]$', near):
         return 'bare trait object'
     if re.search(r'=\s*$', near) and re.match(r"-?\d|[\"'{]|true|false", first) and 'const' not in word:
         return 'constant in an equality'
+    if word == 'try' and first.startswith('(') or re.match(r'(?:async|await|dyn|try)\b', first) and (
+            'expected identifier' in message or first.startswith('await!')):
+        return '`async`, `await`, `dyn` or `try` as a name'
+    if first.startswith('(') and re.search(r'(?:\b(?:dyn|impl)|\+|\w\s*:)$', near):
+        return 'bound in parentheses'
+    if re.match(r'const\s*\{', first):
+        return '`const` pattern'
+    if re.match(r'-\s*\d', first) and re.search(r'[<,]$', near):
+        return 'negative literal as an argument'
+    if re.match(r'_\s*[>,]', first) and re.search(r'[<,]$', near):
+        return '`_` as a parameter'
+    if re.search(r'\?$', near) and first.startswith('for'):
+        return '`for<..>` behind `?`'
+    if 'expected `fn`' in message and near.endswith('>'):
+        return '`for<..>` before a type'
+    if first.startswith('=') and re.search(r'\btype\b[^;{}=]*\bwhere\b[^;{}=]*$', near):
+        return 'a where clause before `=` in an impl or a trait'
+    if first.startswith('|') and re.search(r'\blet\b[^;=]*$|\bfn\b[^{};]*$', near):
+        return 'alternatives without parentheses behind `let` or as a parameter'
+    if re.search(r'#!?\[[^\]]*$', near) and re.match(r'[^\n]*\]', first):
+        return 'an attribute that is none by its path and value'
+    if 'comparison' in message:
+        return 'chained comparison'
+    if re.match(r'\.\.', first) and re.search(r'\.\.=?\s*[^;]{1,80}$', near):
+        return 'chained range'
+    if re.search(r'\.\.=$', near):
+        return '`..=` without an end'
+    if re.match(r':(?!:)', first) and re.search(r'[\w)\]}>]$', near) and re.search(r'expected (?:`;`|expression|no token)', message):
+        return 'type ascription'
+    if re.match(r'mut\s+self', first):
+        return '`mut self` in a function pointer'
+    if re.search(r'\bself(?:\s*:[^(),]*)?\)$', near):
+        return 'a receiver that is not first'
     return 'other'
+
+
+def refused_item(near):
+    """The form of the item that ends with a text, where it is read and then refused."""
+    heads = list(re.finditer(r'(?m)(?:^|[;{}])\s*((?:pub(?:\s*\([^()]*\))?\s+)?(?:default\s+)?(?:unsafe\s+)?(?:impl\b|extern\b|\w+\s*!)[^{;]*)[{;]', near))
+    if not heads or not re.search(r'[};]$', near):
+        return None
+    head = heads[-1][1]
+    if re.match(r'pub\b.*?\bimpl\b', head, re.S):
+        return '`pub impl`'
+    if re.match(r'pub\b', head):
+        return '`pub` before a macro or an extern block'
+    if re.match(r'(?:unsafe\s+)?impl\b(?:\s*<[^{]*>)?\s*!', head) and not re.search(r'\bfor\b', head):
+        return '`impl !Trait` without `for`'
+    return None
 
 
 # Differences.
@@ -166,7 +228,7 @@ def tokens_of(output):
 def differences_of(there, here):
     """(departure, the peer's tokens, ours) of each place where two lists of tokens differ."""
     i = j = 0
-    keep = 6
+    keep = 4
     while True:
         while i < len(there) and j < len(here) and there[i] == here[j]:
             i += 1
@@ -230,7 +292,9 @@ def departure_of(there, here, i, j, p, q):
         return 'a trailing `+` is dropped'
     if not theirs and ours == ['+']:
         return 'a trailing `+` is kept'
-    if sorted(theirs) == sorted(ours) and any(t == "'" for t in theirs):
+    if not ours and theirs == [':']:
+        return 'a colon before no bounds is dropped'
+    if "'" in theirs + ours and sorted(t for t in theirs if t != ',') == sorted(t for t in ours if t != ','):
         return 'lifetimes stand first'
     if set(theirs + ours) <= {'(', ')'}:
         return 'parentheses'
@@ -285,16 +349,25 @@ def main():
                 print('         %s%s:%s: %s | %s' % (mark, c.name, c.fault[1], c.fault[2], c.fault[3]))
     if options.peer:
         both = [c for c in accepted if c.peer == 'accepted']
-        print('\nThe same tokens: %d of %d files that both accept' % (sum(not c.differences for c in both), len(both)))
-        departures = collections.defaultdict(list)
-        for c in both:
-            for departure, theirs, ours in c.differences:
-                departures[departure].append((c.name, theirs, ours))
-        for departure in sorted(departures, key=lambda d: (d == 'other', -len(departures[d]), d)):
-            them = departures[departure]
-            print('  %5d in %d files: %s' % (len(them), len({name for name, _, _ in them}), departure))
-            for name, theirs, ours in them if departure == 'other' or options.all else them[:1]:
-                print('          %s\n            there %s\n            here  %s' % (name, theirs, ours))
+        print('\nThe tokens of the output are those of the peer\'s tree: %d of %d files that both accept'
+              % (sum(not c.differences for c in both), len(both)))
+        departures('there', [(c.name, c.differences) for c in both], options.all)
+        print('\nThe tokens of the output are those of the text: %d of %d files that are accepted'
+              % (sum(not c.changes for c in accepted), len(accepted)))
+        departures('text', [(c.name, c.changes) for c in accepted], options.all)
+
+
+def departures(other, lists, everything):
+    """Prints what (name, differences) lists say, by departure: an example of each, and all of `other`."""
+    found = collections.defaultdict(list)
+    for name, differences in lists:
+        for departure, theirs, ours in differences:
+            found[departure].append((name, theirs, ours))
+    for departure in sorted(found, key=lambda d: (d == 'other', -len(found[d]), d)):
+        them = found[departure]
+        print('  %5d in %d files: %s' % (len(them), len({name for name, _, _ in them}), departure))
+        for name, theirs, ours in them if departure == 'other' or everything else them[:1]:
+            print('          %s\n            %-6s%s\n            here  %s' % (name, other, theirs, ours))
 
 
 if __name__ == '__main__':
