@@ -195,7 +195,8 @@ def form_of(message, before, behind):
         return 'chained range'
     if re.search(r'\.\.=$', near):
         return '`..=` without an end'
-    if re.match(r':(?!:)', first) and re.search(r'[\w)\]}>]$', near) and re.search(r'expected (?:`;`|expression|no token)', message):
+    if (re.match(r':(?!:)', first) and re.search(r'[\w)\]}>]$', near)
+            and re.search(r'expected (?:`;`|expression|no token)', message)):
         return 'type ascription'
     if re.match(r'mut\s+self', first):
         return '`mut self` in a function pointer'
@@ -206,7 +207,8 @@ def form_of(message, before, behind):
 
 def refused_item(near):
     """The form of the item that ends with a text, where it is read and then refused."""
-    heads = list(re.finditer(r'(?m)(?:^|[;{}])\s*((?:pub(?:\s*\([^()]*\))?\s+)?(?:default\s+)?(?:unsafe\s+)?(?:impl\b|extern\b|\w+\s*!)[^{;]*)[{;]', near))
+    heads = list(re.finditer(r'(?m)(?:^|[;{}])\s*((?:pub(?:\s*\([^()]*\))?\s+)?(?:default\s+)?(?:unsafe\s+)?'
+                             r'(?:impl\b|extern\b|\w+\s*!)[^{;]*)[{;]', near))
     if not heads or not re.search(r'[};]$', near):
         return None
     head = heads[-1][1]
@@ -241,7 +243,8 @@ def differences_of(there, here):
             for a in range(max(0, total - (len(here) - j)), min(total, len(there) - i) + 1):
                 b = total - a
                 one, two = there[i + a:i + a + keep], here[j + b:j + b + keep]
-                if one == two and (len(one) == keep or i + a + len(one) == len(there) and j + b + len(two) == len(here)):
+                both_end = i + a + len(one) == len(there) and j + b + len(two) == len(here)
+                if one == two and (len(one) == keep or both_end):
                     p, q, found = a, b, True
                     break
             if found:
@@ -252,10 +255,24 @@ def differences_of(there, here):
 
 
 def number_of(token):
+    """The number that an integer's digits are, whatever their base."""
+    digits = re.fullmatch(r'(0[xob])?([0-9a-fA-F]+)', token.replace('_', ''))
     try:
-        return int(re.sub(r'_', '', re.sub(r'[ui](?:8|16|32|64|128|size)$', '', token)), 0)
+        return int(digits[2], {'0x': 16, '0o': 8, '0b': 2, None: 10}[digits[1]]) if digits else None
     except ValueError:
         return None
+
+
+def split(tokens):
+    """A float behind a dot as the indices that it is."""
+    parts = [part for token in tokens for part in re.split(r'(\.)', token) if part]
+    return [str(number_of(part)) if number_of(part) is not None else part for part in parts]
+
+
+def behind(short, long):
+    """Whether the tokens of a list stand in another one, in their order."""
+    rest = iter(long)
+    return all(token in rest for token in short)
 
 
 def unescaped(token):
@@ -294,8 +311,21 @@ def departure_of(there, here, i, j, p, q):
         return 'a trailing `+` is kept'
     if not ours and theirs == [':']:
         return 'a colon before no bounds is dropped'
-    if "'" in theirs + ours and sorted(t for t in theirs if t != ',') == sorted(t for t in ours if t != ','):
+    # Lifetimes that move leave a difference at each end.
+    near = there[max(0, i - 4):i + p + 4]
+    if "'" in theirs + ours or "'" in near and '<' in there[max(0, i - 20):i + p] and not (theirs and ours):
         return 'lifetimes stand first'
+    if '.' in around + theirs and split(theirs) == ours:
+        return 'a float behind a dot is two indices'
+    if behind(ours, theirs):
+        gone = collections.Counter(theirs) - collections.Counter(ours)
+        if set(gone) <= {'<', '>', 'where'}:
+            return 'empty generics and empty where clauses are dropped'
+        if set(gone) <= {'pub', '(', ')', 'crate', 'super', 'self', 'in'}:
+            return 'a visibility is dropped'
+    if len(theirs) == len(ours) and all(a == b or number_of(a) is not None and number_of(a) == number_of(b)
+                                        for a, b in zip(theirs, ours)):
+        return 'an index in plain decimal'
     if set(theirs + ours) <= {'(', ')'}:
         return 'parentheses'
     if i == 0 and theirs[:2] == ['#', '!']:
