@@ -1,16 +1,19 @@
 #!/usr/bin/env python3
 """Asks of each accepted file whether the laws of read-back cover its program (`is_covered` in the specs of read_back).
 
-  covered.py          the stored texts of files: which are not covered, and by what
-  covered.py PATH..   all .rs files below the paths
+  covered.py                  the stored texts of files: which are not covered, and by what
+  covered.py PATH..           all .rs files below the paths
+  covered.py --texts SECONDS  stored texts with a few tokens changed, those of other kinds than files in one
 
 Of a program that isn't covered the kinds are said, innermost first, in which it is seen.
 """
 import collections
 import glob
 import os
+import random
 import sys
 import threading
+import time
 
 sys.dont_write_bytecode = True
 from antt import Fault
@@ -18,6 +21,7 @@ from lexer import Lexical, lex, text
 from reading import Refused, Table, chain
 from antt import items_of
 from run import HERE, stored
+from search import texts_made
 
 COVERED = 'Rattle.read_back.specs.Asked'
 
@@ -76,11 +80,33 @@ def sources(paths):
             yield name, source
 
 
+IN_FILE = {
+    'Statements': 'fn f() {%s}', 'Stmt': 'fn f() {%s}', 'Expr': 'const A: B = %s;', 'Expr-statement': 'fn f() {%s}',
+    'Expr-condition': 'fn f() {if %s {}}', 'Expr-arm': 'fn f() {match a {b => %s}}', 'Arm': 'fn f() {match a {%s}}',
+    'Pat': 'fn f() {match a {%s => b}}', 'Pat-single': 'fn f() {let %s = a;}', 'Type': 'struct A(pub %s);',
+    'Field-unnamed': 'struct A(%s);', 'Item': '%s', 'ForeignItem': 'extern {%s}', 'TraitItem': 'trait A {%s}',
+    'ImplItem': 'impl A {%s}',
+}
+
+
+def at_random(seconds):
+    """Changed texts as files, for so long."""
+    end = time.time() + seconds
+    for number, (kind, source) in enumerate(texts_made(), 1):
+        if time.time() > end:
+            return
+        if kind == 'file' or kind in IN_FILE:
+            text_of_file = IN_FILE.get(kind, '%s').replace('%s', source)
+            yield text_of_file.replace('\n', ' '), text_of_file
+
+
 def main(paths):
     table = Table(os.path.join(HERE, '..', '..', 'crates'))
     coverage = Coverage(table)
+    random.seed(1)
     programs, covered, causes = 0, 0, collections.Counter()
-    for name, source in sources(paths):
+    rows = at_random(float(paths[1])) if paths[:1] == ['--texts'] else sources(paths)
+    for name, source in rows:
         tree = coverage.program(source)
         if tree is None:
             continue
