@@ -12,13 +12,12 @@ import glob
 import os
 import random
 import sys
-import threading
 import time
 
 sys.dont_write_bytecode = True
 from antt import Fault
 from lexer import Lexical, lex, text
-from reading import Refused, Table, chain
+from reading import Refused, Table, chain, deeply
 from antt import items_of
 from run import HERE, stored
 from search import texts_made
@@ -124,10 +123,4 @@ def main(paths):
 
 
 if __name__ == '__main__':
-    sys.setrecursionlimit(1000000)
-    threading.stack_size(512 * 1024 * 1024)
-    status = []
-    worker = threading.Thread(target=lambda: status.append(main(sys.argv[1:])))
-    worker.start()
-    worker.join()
-    sys.exit(1 if not status or status[0] else 0)
+    sys.exit(deeply(main, sys.argv[1:]))

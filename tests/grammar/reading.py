@@ -4,6 +4,9 @@ An entry is what the definitions compute for a kind: a value of `Gram`. Its test
 expressions are the definitions' own, translated by antt.py. Only the walk along an entry is written here: it takes the
 one way that the tests leave open.
 """
+import sys
+import threading
+
 from antt import Cons, NIL, World, chain, items_of
 
 SPECS = 'Rattle.syn_grammar.specs.'
@@ -225,3 +228,14 @@ def verbatims(tree):
         elif x[0] != 'Raw':
             todo += [y for y in x[1:] if isinstance(y, tuple) and y and isinstance(y[0], str)]
     return count
+
+
+def deeply(main, args):
+    """The exit status of a program whose trees may be deep: `main` answers how much is wrong."""
+    sys.setrecursionlimit(1000000)
+    threading.stack_size(512 * 1024 * 1024)
+    status = []
+    worker = threading.Thread(target=lambda: status.append(main(args)))
+    worker.start()
+    worker.join()
+    return 1 if not status or status[0] else 0

@@ -12,13 +12,12 @@ import glob
 import os
 import re
 import sys
-import threading
 import time
 
 sys.dont_write_bytecode = True
 from antt import Fault, items_of
 from lexer import Lexical, lex, string, text
-from reading import Refused, Table, chain, verbatims
+from reading import Refused, Table, chain, deeply, verbatims
 
 HERE = os.path.dirname(os.path.abspath(__file__))
 
@@ -220,10 +219,4 @@ def main(args):
 
 
 if __name__ == '__main__':
-    sys.setrecursionlimit(1000000)
-    threading.stack_size(512 * 1024 * 1024)
-    status = []
-    worker = threading.Thread(target=lambda: status.append(main(sys.argv[1:])))
-    worker.start()
-    worker.join()
-    sys.exit(1 if not status or status[0] else 0)
+    sys.exit(deeply(main, sys.argv[1:]))

@@ -12,12 +12,11 @@ import os
 import random
 import re
 import sys
-import threading
 import time
 
 sys.dont_write_bytecode = True
 from lexer import Lexical, lex, text
-from reading import Refused, Table, chain
+from reading import Refused, Table, chain, deeply
 from antt import items_of, same
 from run import kind_of, stored
 
@@ -184,10 +183,4 @@ def main(args):
 
 
 if __name__ == '__main__':
-    sys.setrecursionlimit(1000000)
-    threading.stack_size(512 * 1024 * 1024)
-    status = []
-    worker = threading.Thread(target=lambda: status.append(main(sys.argv[1:])))
-    worker.start()
-    worker.join()
-    sys.exit(1 if not status or status[0] else 0)
+    sys.exit(deeply(main, sys.argv[1:]))
