@@ -82,7 +82,7 @@ pub read_in_position : (p : Position) (x : Tree) (r s : List Token)
     (normal_in p (kept (Node (Expression p) (Whole x)))) s
 unfolding table held passed has_form_step
 read_in_position p x r s d b c m =
-    let w = remake has_part (λ k e. e) refl p x r b d.1 c (parts_printed x p r d.1.1 c) in
+    let w = remake p x r b d.1 c (parts_printed x p r d.1.1 c) in
     let f = ready_forms (all_steps expressions) w.tree w.fits in
     record {
       tree = Node (Expression p) (Whole w.tree);
@@ -102,7 +102,7 @@ pub read_ended_in : (p : Position) (x : Tree) (r s : List Token)
     (normal_in p (kept (Node (Expression p) (Whole x)))) s
 unfolding table held passed has_form_step
 read_ended_in p x r s d c h =
-    let w = remake has_part (λ k e. e) refl p x r (λ i. absurd (no_condition p _ h.0 i)) d.1 c
+    let w = remake p x r (λ i. absurd (no_condition p _ h.0 i)) d.1 c
     (parts_printed x p r d.1.1 c) in
     let f = ready_forms (all_steps expressions) w.tree w.fits in
     let e : ends_there p (kept w.tree) ≡ true =

@@ -1,10 +1,16 @@
 -- An expression that is in normal form where it stands is settled: none of its operands is put in parentheses, and its
 -- own parts are in normal form.
-use Rattle.std.proofs.Common.{◌≡◌, List, [], refl, sym, ap, ◌∙◌, subst}
+use Rattle.std.proofs.Common.{◌≡◌, ℕ, List, [], ◌∷◌, refl, sym, ap, ◌∙◌, subst}
 use Rattle.std.specs.Prelude.{Bool, true, false, not, ◌&&◌, ◌||◌}
 use Rattle.proc_macro2.specs.Token.{Token}
-use Rattle.syn_grammar.specs.Kind.{Kind, Position, Plain, ExprParen, ExprAttributed}
-use Rattle.syn_grammar.specs.Tree.{Tree, Alone, Front, Back, Infix, flat}
+use Rattle.proc_macro2.specs.declared.delimiter.Delimiter.TheVariants.{Parenthesis}
+use Rattle.syn_grammar.specs.Kind.{Kind, Position, Plain, Expression, ExprParen, ExprAttributed, ExprAwait, ExprField}
+use Rattle.syn_grammar.specs.Kind.{ExprMethodCall}
+use Rattle.syn_grammar.specs.Name.{the_indices, the_value}
+use Rattle.syn_grammar.specs.Words.{indices}
+use Rattle.syn_grammar.specs.Tree.{Tree, ALiteral, Pair, Second, Again, Final, Group, Called, Node, Whole, Alone}
+use Rattle.syn_grammar.specs.Tree.{Front, Back, Infix, flat}
+use Rattle.syn_grammar.specs.Kept.{dotted, dotted_own, fields_in_front, index_field, index_fields, last_fields}
 use Rattle.syn_grammar.specs.Forms.{has_right, level, inside, kind_of, stands_left, chains}
 use Rattle.syn_grammar.specs.Parens.{in_parens, parens_unless, may_lack, takes_what_follows, is_label, stays_right}
 use Rattle.syn_grammar.specs.Parens.{is_attributed_range, stays_left, is_struct, begins_in, stands_in, follow}
@@ -161,3 +167,48 @@ settles (Infix l k y x) p ts e =
       settles x (inside p k) ts b.same,
     )
 settles _ p ts e = tt
+
+-- So what it has in parentheses is in normal form by itself,
+abbrev inside_parens : Tree → Tree
+inside_parens (Group d (Final (Node k (Whole x)))) = x
+inside_parens x = x
+
+pub settled_inside : (x : Tree) → normal (Group Parenthesis (Final (Node (Expression Plain) (Whole x))))
+    ≡ Group Parenthesis (Final (Node (Expression Plain) (Whole x))) → formed Plain (stands_behind Plain) x ≡ x
+unfolding passed
+settled_inside x e = ap inside_parens e
+
+-- and what stands left of its form is settled, though numbers stand between them.
+pub record Within (p : Position) (x : Tree) : Type 0 where
+  pub behind : List Token
+  pub settled : Settled p behind x
+
+fields_within : (texts : List (List ℕ)) (l : Tree) (p : Position) (ts : List Token)
+    → Settled p ts (index_fields l texts) → Within p l
+fields_within [] l p ts s = record { behind = ts; settled = s }
+fields_within (cs ∷ texts) l p ts s =
+    let w = fields_within texts (index_field l cs) p ts s in record { behind = _; settled = w.settled.4 }
+
+front_within : (x l : Tree) (p : Position) (ts : List Token) → Settled p ts (fields_in_front l x) → Within p l
+front_within (Again (ALiteral cs) x) l p ts s =
+    let w = front_within x (index_fields l (indices cs)) p ts s in
+    fields_within (indices cs) l p w.behind w.settled
+front_within _ l p ts s = record { behind = ts; settled = s }
+
+last_within : (l : Tree) (k : Kind) (d x : Tree) (p : Position) (ts : List Token)
+    → Settled p ts (last_fields l k d x) → Within p l
+last_within l ExprField d (Second (Called the_value (ALiteral cs))) p ts s = fields_within (indices cs) l p ts s
+last_within l _ d x p ts s = record { behind = _; settled = s.4 }
+
+own_within : (l : Tree) (k : Kind) (y : Tree) (p : Position) (ts : List Token)
+    → Settled p ts (dotted_own l k y) → Within p l
+own_within l k (Pair (Pair d (Called the_indices x)) y) p ts s =
+    let w = last_within (fields_in_front l x) k d y p ts s in front_within x l p w.behind w.settled
+own_within l k _ p ts s = record { behind = _; settled = s.4 }
+
+pub dotted_within : (l : Tree) (k : Kind) (y : Tree) (p : Position) (ts : List Token) → Settled p ts (dotted l k y)
+    → Within p l
+dotted_within l ExprField y p ts s = own_within l ExprField y p ts s
+dotted_within l ExprMethodCall y p ts s = own_within l ExprMethodCall y p ts s
+dotted_within l ExprAwait y p ts s = own_within l ExprAwait y p ts s
+dotted_within l _ y p ts s = record { behind = _; settled = s.4 }

@@ -3,14 +3,15 @@
 use Rattle.std.proofs.Common.{◌≡◌, ℕ, List, [], ◌∷◌, refl, sym, ap, ◌∙◌}
 use Rattle.syn_grammar.specs.Kind.{Kind, Position, ExprAwait, ExprField, ExprMethodCall}
 use Rattle.syn_grammar.specs.Name.{the_indices, the_value}
-use Rattle.syn_grammar.specs.Words.{indices}
-use Rattle.syn_grammar.specs.Words.{plain_decimal}
+use Rattle.syn_grammar.specs.Words.{before_dot, behind_dots, indices, plain_decimal, texts_of}
 use Rattle.syn_grammar.specs.Tree.{Tree, ALiteral, Pair, First, Second, End, Again, Called, Back}
 use Rattle.syn_grammar.specs.Kept.{lone_dot, index_field, index_fields, fields_in_front, last_fields, dotted_own}
 use Rattle.syn_grammar.specs.Kept.{dotted, kept}
 use Rattle.syn_grammar.specs.Normal.{place_of, is_enclosed, normal_in, normal}
 use Rattle.syn_grammar.proofs.Decimals.{decimal_twice, one_index}
-use Rattle.binding_laws.specs.Bare.{bare}
+use Rattle.syn_grammar.specs.Forms.{level}
+use Rattle.range_laws.specs.Shelled.{goes_in, parens_if, shelled}
+use Rattle.range_laws.proofs.InKept.{goes_level}
 use Rattle.grammar_back.proofs.Printed.{unmoved_if}
 
 -- the own part of a form behind a dot: numbers that end in one, and what stands behind them
@@ -81,37 +82,56 @@ dotted_kept ExprMethodCall l y h = own_kept ExprMethodCall l y h
 dotted_kept ExprAwait l y h = own_kept ExprAwait l y h
 dotted_kept _ l y h = absurd h
 
--- and so is what is tidied of its own parts alone
-bare_fields : (l : Tree) (texts : List (List ℕ)) → bare (index_fields l texts) ≡ index_fields (bare l) texts
-bare_fields l [] = refl
-bare_fields l (cs ∷ texts) = bare_fields (index_field l cs) texts
+-- And so is what is put in parentheses before a dot, with its own parts tidied: what stands behind one field stands
+-- so as it is.
+abbrev inner : Kind → Tree → Tree
+inner k l = parens_if (goes_in k l) (shelled l)
 
-bare_front : (q : Position) (l x : Tree) → IsNumbers x
-    → bare (fields_in_front l x) ≡ fields_in_front (bare l) (normal_in q x)
-bare_front q l End h = refl
-bare_front q l (Again (ALiteral cs) x) h =
-    bare_front q (index_fields l (indices cs)) x h
-    ∙ ap (λ m. fields_in_front m (normal_in q x)) (bare_fields l (indices cs))
-    ∙ ap (λ t. fields_in_front (bare l) (Again t (normal_in q x)))
+inner_field : (k : Kind) (l : Tree) → level k ≡ level ExprField → inner k l ≡ inner ExprField l
+inner_field k l e = ap (λ b. parens_if b (shelled l)) (goes_level k ExprField l e)
+
+inner_fields : (l : Tree) (texts : List (List ℕ))
+    → inner ExprField (index_fields l texts) ≡ index_fields (inner ExprField l) texts
+inner_fields l [] = refl
+inner_fields l (cs ∷ texts) = inner_fields (index_field l cs) texts
+
+shelled_fields : (l : Tree) (cs : List ℕ) (texts : List (List ℕ))
+    → shelled (index_fields l (cs ∷ texts)) ≡ index_fields (inner ExprField l) (cs ∷ texts)
+shelled_fields l cs [] = refl
+shelled_fields l cs (ds ∷ texts) = shelled_fields (index_field l cs) ds texts
+
+inner_front : (q : Position) (l x : Tree) → IsNumbers x
+    → inner ExprField (fields_in_front l x) ≡ fields_in_front (inner ExprField l) (normal_in q x)
+inner_front q l End h = refl
+inner_front q l (Again (ALiteral cs) x) h =
+    inner_front q (index_fields l (indices cs)) x h
+    ∙ ap (λ m. fields_in_front m (normal_in q x)) (inner_fields l (indices cs))
+    ∙ ap (λ t. fields_in_front (inner ExprField l) (Again t (normal_in q x)))
     (sym (unmoved_if (is_enclosed x (normal_in q x)) (ALiteral cs) refl))
-bare_front q l _ h = absurd h
+inner_front q l _ h = absurd h
 
-bare_last : (k : Kind) (l d z : Tree) → IsLast k z
-    → bare (last_fields l k d z) ≡ last_fields (bare l) k (normal d) (normal z)
-bare_last ExprField l d (First x) h = refl
-bare_last ExprField l d (Second (Called the_value (ALiteral cs))) h = bare_fields l (indices cs)
-bare_last ExprMethodCall l d z h = refl
-bare_last ExprAwait l d z h = refl
-bare_last _ l d z h = absurd h
+shelled_last : (k : Kind) (l d z : Tree) → IsLast k z
+    → shelled (last_fields l k d z) ≡ last_fields (inner k l) k (normal d) (normal z)
+shelled_last ExprField l d (First x) h = refl
+shelled_last ExprField l d (Second (Called the_value (ALiteral cs))) h =
+    shelled_fields l (before_dot cs) (texts_of (behind_dots cs))
+shelled_last ExprMethodCall l d z h = refl
+shelled_last ExprAwait l d z h = refl
+shelled_last _ l d z h = absurd h
 
-own_bare : (k : Kind) (l y : Tree) → IsBehind k y → bare (dotted_own l k y) ≡ dotted_own (bare l) k (normal y)
-own_bare k l (Pair (Pair d (Called the_indices x)) z) h =
-    bare_last k (fields_in_front l x) d z h.1
-    ∙ ap (λ m. last_fields m k (normal d) (normal z)) (bare_front (place_of the_indices) l x h.0)
-own_bare k l _ h = absurd h
+own_shelled : (k : Kind) (l y : Tree) → level k ≡ level ExprField → IsBehind k y
+    → shelled (dotted_own l k y) ≡ dotted_own (inner k l) k (normal y)
+own_shelled k l (Pair (Pair d (Called the_indices x)) z) e h =
+    shelled_last k (fields_in_front l x) d z h.1
+    ∙ ap (λ m. last_fields m k (normal d) (normal z)) (inner_field k (fields_in_front l x) e
+    ∙ inner_front (place_of the_indices) l x h.0
+    ∙ ap (λ m. fields_in_front m (normal_in (place_of the_indices) x)) (sym (inner_field k l e)))
+own_shelled k l _ e h = absurd h
 
-pub dotted_bare : (k : Kind) (l y : Tree) → IsDot k y → bare (dotted l k y) ≡ dotted (bare l) k (normal y)
-dotted_bare ExprField l y h = own_bare ExprField l y h
-dotted_bare ExprMethodCall l y h = own_bare ExprMethodCall l y h
-dotted_bare ExprAwait l y h = own_bare ExprAwait l y h
-dotted_bare _ l y h = absurd h
+pub dotted_shelled : (k : Kind) (l y : Tree) → IsDot k y
+    → shelled (dotted l k y) ≡ dotted (parens_if (goes_in k l) (shelled l)) k (normal y)
+unfolding level
+dotted_shelled ExprField l y h = own_shelled ExprField l y refl h
+dotted_shelled ExprMethodCall l y h = own_shelled ExprMethodCall l y refl h
+dotted_shelled ExprAwait l y h = own_shelled ExprAwait l y refl h
+dotted_shelled _ l y h = absurd h

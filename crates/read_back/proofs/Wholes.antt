@@ -18,22 +18,19 @@ use Rattle.syn_grammar.specs.Gram.{Gram, star, operand, ref}
 use Rattle.syn_grammar.specs.Table.{table}
 use Rattle.syn_grammar.specs.Look.{a_lifetime, sees, ◌then◌, ◌or◌}
 use Rattle.syn_grammar.specs.Say.{at, brace, marks, optional}
-use Rattle.syn_grammar.specs.Forms.{Case, first_form, fronts, front, has_right, inside, form_of, is_path_form}
-use Rattle.syn_grammar.specs.Forms.{stands_left}
+use Rattle.syn_grammar.specs.Forms.{Case, first_form, fronts, front, has_right, inside, is_path_form}
+use Rattle.syn_grammar.specs.Forms.{level, stands_left}
 use Rattle.syn_grammar.specs.Derives.{Bound, Derives, IsLeft}
 use Rattle.syn_grammar.specs.Kept.{dotted, forget, held, kept}
 use Rattle.syn_grammar.specs.Normal.{passed, stands_behind, normal, normal_in, formed}
-use Rattle.syn_grammar.specs.Parens.{may_lack, is_attributed_range, is_struct}
+use Rattle.syn_grammar.specs.Parens.{follow, may_lack, is_attributed_range, is_struct}
 use Rattle.syn_grammar.proofs.Settled.{normal_twice}
 use Rattle.syn_grammar.proofs.Whole.{and_true}
-use Rattle.binding_laws.specs.Bare.{bare, HasPlainRanges}
-use Rattle.binding_laws.proofs.Gains.{gains_none}
 use Rattle.binding_laws.proofs.Shells.{is_dot, undotted}
 use Rattle.expressions_back.specs.Behind.{is_attributed}
 use Rattle.expressions_back.specs.Formed.{is_attributed_form}
 use Rattle.expressions_back.proofs.Bools.{never}
 use Rattle.binding_laws.proofs.Begun.{first_passes}
-use Rattle.binding_laws.proofs.Levels.{not_true}
 use Rattle.expressions_back.proofs.Opened.{nothing_right, fixed_right, paren_right}
 use Rattle.expressions_back.proofs.Stands.{struct_is}
 use Rattle.grammar_back.specs.Covered.{has_step, has_form_step, inner, is_bound, is_known, is_form, is_plain_part}
@@ -44,24 +41,29 @@ use Rattle.grammar_back.proofs.Printed.{OwnPrinted, Printed, WholeLaw}
 use Rattle.read_back.specs.Parts.{has_part, has_parts_of}
 use Rattle.read_back.proofs.Operands.{HasOperandsOf, IsBackOf, operands_are}
 use Rattle.read_back.proofs.Indices.{dot_fits, dot_read, dotted_fits, dotted_keeps, dotted_operands}
-use Rattle.read_back.proofs.Split.{dotted_bare, dotted_kept}
+use Rattle.range_laws.specs.Shelled.{goes_in, is_lone_range, is_shelled, parens_if, shelled}
+use Rattle.range_laws.proofs.Held.{gains_shells}
+use Rattle.range_laws.proofs.InKept.{goes_kept, shelled_kept}
+use Rattle.syn_grammar.proofs.Settled.{Settled}
+use Rattle.read_back.proofs.Settled.{Within, dotted_within, settled_inside, settles}
+use Rattle.read_back.proofs.Split.{dotted_kept, dotted_shelled}
 
 -- So what is covered has its own parts covered, and its forms are of those kinds.
 both_parts : (a b c d : Bool) → (a ≡ true → b ≡ true) → (c ≡ true → d ≡ true) → (a && c) ≡ true → (b && d) ≡ true
 both_parts a b c d f g e = let h = and_true a c e in ap (λ i. i && d) (f h.0) ∙ g h.1
 
-covered_parts : (x : Tree) → all_covered x ≡ true → has_parts_of is_form x ≡ true
+covered_parts : (x : Tree) → all_covered x ≡ true → has_parts_of has_part x ≡ true
 covered_parts (Alone k y) c = c
 covered_parts (Front k y x) c =
     both_parts (is_form k) (is_form k) _ _ (λ e. e)
-    (λ e. both_parts (not (is_attributed_range k x)) (not (is_attributed_range k x)) _ _ (λ f. f)
-    (λ f. both_parts (is_plain_part k (normal (kept y))) (is_plain_part k (normal (kept y))) _ _ (λ g. g)
-    (λ g. both_parts (all_covered y) (all_covered y) _ _ (λ h. h) (λ h. covered_parts x h) g) f) e) c
+    (λ e. both_parts (is_plain_part k (normal (kept y))) (is_plain_part k (normal (kept y))) _ _ (λ g. g)
+    (λ g. both_parts (all_covered y) (all_covered y) _ _ (λ h. h) (λ h. covered_parts x h) g)
+    (and_true (not (is_attributed_range k x)) _ e).1) c
 covered_parts (Back l k y) c =
     let a = and_true (is_form k) (all_covered l && all_covered y) c in
     let b = and_true (all_covered l) (all_covered y) a.1 in
-    ap (λ e. e && (all_covered y && has_parts_of is_form l)) a.0
-    ∙ ap (λ e. e && has_parts_of is_form l) b.1 ∙ covered_parts l b.0
+    ap (λ e. e && (all_covered y && has_parts_of has_part l)) a.0
+    ∙ ap (λ e. e && has_parts_of has_part l) b.1 ∙ covered_parts l b.0
 covered_parts (Infix l k y r) c =
     both_parts (is_form k) (is_form k) _ _ (λ e. e)
     (λ e. both_parts (all_covered y) (all_covered y) _ _ (λ f. f)
@@ -161,7 +163,7 @@ own_printed k y r h d o = go (is_dot k) refl
     go true e = dot_printed k y r e d o
     go false e = record { tree = o.tree; fits = o.fits; means = form_meant k o.tree h e; kept_is = o.kept_is }
 
--- with what is printed for its own parts, and numbers split at their dots
+-- with what is printed for its own parts, numbers split at their dots, and the parentheses of its normal form
 abbrev Owns : Tree → Type 0
 Owns (Alone k y) = Own k (normal (kept y))
 Owns (Front k y x) = Own k (normal (kept y)) × Owns x
@@ -171,51 +173,65 @@ Owns _ = Unit {0}
 
 remade : (x : Tree) → Owns x → Tree
 remade (Alone k y) o = Alone k o.tree
-remade (Front k y x) o = Front k o.0.tree (remade x o.1)
-remade (Back l k y) o = dotted (remade l o.0) k o.1.tree
-remade (Infix l k y r) o = Infix (remade l o.0) k o.1.tree (remade r o.2)
+remade (Front k y x) o = Front k o.0.tree (parens_if (is_shelled k x) (remade x o.1))
+remade (Back l k y) o = dotted (parens_if (goes_in k l) (remade l o.0)) k o.1.tree
+remade (Infix l k y r) o = Infix (parens_if (goes_in k l) (remade l o.0)) k o.1.tree (remade r o.2)
 remade x o = x
 
+parens_kept : (b : Bool) (z : Tree) → kept (parens_if b z) ≡ parens_if b (kept z)
+unfolding held
+parens_kept true z = refl
+parens_kept false z = refl
+
+left_kept : (k : Kind) (l z : Tree) → kept z ≡ shelled (kept l)
+    → kept (parens_if (goes_in k l) z) ≡ parens_if (goes_in k (kept l)) (shelled (kept l))
+left_kept k l z e =
+    parens_kept (goes_in k l) z
+    ∙ ap (λ b. parens_if b (kept z)) (sym (goes_kept k l)) ∙ ap (parens_if (goes_in k (kept l))) e
+
+right_kept : (k : Kind) (x z : Tree) → kept z ≡ shelled (kept x)
+    → kept (parens_if (is_shelled k x) z) ≡ parens_if (is_shelled k (kept x)) (shelled (kept x))
+right_kept k x z e =
+    parens_kept (is_shelled k x) z
+    ∙ ap (λ b. parens_if b (kept z)) (sym (shelled_kept k x)) ∙ ap (parens_if (is_shelled k (kept x))) e
+
 kept_back : (k : Kind) (l m y w : Tree) (r : List Token) → Derives y (table k) r → Fits w (table k)
-    → kept w ≡ normal (kept y) → kept m ≡ bare l → kept (dotted m k w) ≡ bare (dotted l k (kept y))
+    → kept w ≡ normal (kept y) → kept m ≡ parens_if (goes_in k l) (shelled l)
+    → kept (dotted m k w) ≡ shelled (dotted l k (kept y))
 kept_back k l m y w r d f e g = go (is_dot k) refl
   where
-    parts : dotted (kept m) k (kept w) ≡ dotted (bare l) k (normal (kept y))
+    n : Tree
+    n = parens_if (goes_in k l) (shelled l)
+
+    parts : dotted (kept m) k (kept w) ≡ dotted n k (normal (kept y))
     parts = ap (λ z. dotted (kept m) k z) e ∙ ap (λ z. dotted z k (normal (kept y))) g
 
-    go : (b : Bool) → is_dot k ≡ b → kept (dotted m k w) ≡ bare (dotted l k (kept y))
+    go : (b : Bool) → is_dot k ≡ b → kept (dotted m k w) ≡ shelled (dotted l k (kept y))
     go true i =
-        dotted_kept k m w (dot_fits k w i f) ∙ parts ∙ sym (dotted_bare k l (kept y) (dot_read k y r i d))
+        dotted_kept k m w (dot_fits k w i f) ∙ parts ∙ sym (dotted_shelled k l (kept y) (dot_read k y r i d))
     go false i =
-        ap kept (undotted m k w i) ∙ parts ∙ undotted (bare l) k (normal (kept y)) i
-        ∙ ap bare (sym (undotted l k (kept y) i))
+        ap kept (undotted m k w i) ∙ parts ∙ undotted n k (normal (kept y)) i
+        ∙ ap shelled (sym (undotted l k (kept y) i))
 
-remade_kept : (x : Tree) (o : Owns x) (p : Position) (r : List Token) → Bound p x r → kept (remade x o) ≡ bare (kept x)
+remade_kept : (x : Tree) (o : Owns x) (p : Position) (r : List Token) → Bound p x r
+    → kept (remade x o) ≡ shelled (kept x)
 unfolding remade
 remade_kept (Alone k y) o p r d = ap (Alone k) o.kept_is
 remade_kept (Front k y x) o p r d =
-    ap (λ z. Front k z (kept (remade x o.1))) o.0.kept_is
-    ∙ ap (Front k (normal (kept y))) (remade_kept x o.1 (inside p k) r d.4)
+    ap (λ z. Front k z (kept (parens_if (is_shelled k x) (remade x o.1)))) o.0.kept_is
+    ∙ ap (Front k (normal (kept y))) (right_kept k x (remade x o.1) (remade_kept x o.1 (inside p k) r d.4))
 remade_kept (Back l k y) o p r d =
-    kept_back k (kept l) (remade l o.0) y o.1.tree r d.1 o.1.fits o.1.kept_is (remade_kept l o.0 p (flat y ++ r) d.4)
+    kept_back k (kept l) (parens_if (goes_in k l) (remade l o.0)) y o.1.tree r d.1 o.1.fits o.1.kept_is
+    (left_kept k l (remade l o.0) (remade_kept l o.0 p (flat y ++ r) d.4))
 remade_kept (Infix l k y x) o p r d =
-    ap (λ z. Infix (kept (remade l o.0)) k z (kept (remade x o.2))) o.1.kept_is
+    ap (λ z. Infix (kept (parens_if (goes_in k l) (remade l o.0))) k z (kept (remade x o.2))) o.1.kept_is
     ∙ ap (λ z. Infix z k (normal (kept y)) (kept (remade x o.2)))
-    (remade_kept l o.0 p (flat y ++ (flat x ++ r)) d.4)
-    ∙ ap (Infix (bare (kept l)) k (normal (kept y))) (remade_kept x o.2 (inside p k) r d.6)
+    (left_kept k l (remade l o.0) (remade_kept l o.0 p (flat y ++ (flat x ++ r)) d.4))
+    ∙ ap (Infix (parens_if (goes_in k (kept l)) (shelled (kept l))) k (normal (kept y)))
+    (remade_kept x o.2 (inside p k) r d.6)
 remade_kept _ o p r d = absurd d
 
--- it fits
-back_fits : (k : Kind) (l y : Tree) → has_part k ≡ true → Fits y (table k) → IsMeant k y → FitsForms l
-    → FitsForms (dotted l k y)
-back_fits k l y h f m g = go (is_dot k) refl
-  where
-    go : (b : Bool) → is_dot k ≡ b → FitsForms (dotted l k y)
-    go true i = dotted_fits k l y (dot_fits k y i f) f m g
-    go false i =
-        subst FitsForms (sym (undotted l k y i)) (part_known k h, f, m, λ z. undotted z k (kept y) i, g)
-
--- and has the operands that it had
+-- It has the operands that it had, some in parentheses.
 lacks_one : (p : Position) (k : Kind) (r : List Token) → has_right p k r ≡ false → MayLack k
 lacks_one p k r h = go (may_lack k) refl
   where
@@ -236,6 +252,11 @@ remade_path (Alone ExprPath y) o e = refl
 remade_path (Alone _ y) o e = cc
 remade_path _ o e = cc
 
+in_path : (k : Kind) (x : Tree) (o : Owns x) → is_path_form x ≡ true
+    → is_path_form (parens_if (goes_in k x) (remade x o)) ≡ true
+in_path k (Alone j y) o e = remade_path (Alone j y) o e
+in_path k _ o e = cc
+
 left_path : (p : Position) (k : Kind) (l : Tree) → is_struct k ≡ true → IsLeft p l k → is_path_form l ≡ true
 unfolding stands_left
 left_path p k l s i =
@@ -255,7 +276,6 @@ alone_parts ks k y c =
 
 pub record FrontParts (ks : Kind → Bool) (k : Kind) (y x : Tree) : Type 0 where
   pub passes : ks k ≡ true
-  pub plain : is_attributed_range k x ≡ false
   pub ends : is_plain_part k (normal (kept y)) ≡ true
   pub own : all_covered y ≡ true
   pub right : has_parts_of ks x ≡ true
@@ -264,10 +284,9 @@ pub front_parts : (ks : Kind → Bool) (k : Kind) (y x : Tree) → has_parts_of 
     → FrontParts ks k y x
 front_parts ks k y x c =
     let a = and_true (ks k) _ c in
-    let b = and_true (not (is_attributed_range k x)) _ a.1 in
-    let h = and_true (is_plain_part k (normal (kept y))) _ b.1 in
+    let h = and_true (is_plain_part k (normal (kept y))) _ a.1 in
     let e = and_true (all_covered y) (has_parts_of ks x) h.1 in
-    record { passes = a.0; plain = not_true (is_attributed_range k x) b.0; ends = h.0; own = e.0; right = e.1 }
+    record { passes = a.0; ends = h.0; own = e.0; right = e.1 }
 
 pub record BackParts (ks : Kind → Bool) (l : Tree) (k : Kind) (y : Tree) : Type 0 where
   pub passes : ks k ≡ true
@@ -331,6 +350,10 @@ dotted_plain k l y f e = go (is_dot k) refl
         dotted_keeps (λ z. is_attributed_form z ≡ false) (λ l k y. refl) k l y (dot_fits k y i f) e
     go false i = ap is_attributed_form (undotted l k y i)
 
+paren_plain : (b : Bool) (z : Tree) → is_attributed_form z ≡ false → is_attributed_form (parens_if b z) ≡ false
+paren_plain true z e = refl
+paren_plain false z e = e
+
 none_first : (x : Tree) (o : Owns x) (p : Position) (r : List Token) → Bound p x r
     → sees (marks "#") (flat x ++ r) ≡ false → is_attributed_form (remade x o) ≡ false
 unfolding remade
@@ -339,14 +362,17 @@ none_first (Front ExprAttributed z x) o p r d e =
     absurd (never (sym e ∙ ap (sees (marks "#")) (append_assoc (flat z) (flat x) r) ∙ hash_first p _ d.0))
 none_first (Front _ z x) o p r d e = refl
 none_first (Back l k z) o p r d e =
-    dotted_plain k (remade l o.0) o.1.tree o.1.fits
-    (none_first l o.0 p (flat z ++ r) d.4 (sym (ap (sees (marks "#")) (append_assoc (flat l) (flat z) r)) ∙ e))
+    dotted_plain k (parens_if (goes_in k l) (remade l o.0)) o.1.tree o.1.fits
+    (paren_plain (goes_in k l) (remade l o.0)
+    (none_first l o.0 p (flat z ++ r) d.4 (sym (ap (sees (marks "#")) (append_assoc (flat l) (flat z) r)) ∙ e)))
 none_first (Infix l k z x) o p r d e = refl
 none_first _ o p r d e = absurd d
 
 none_behind : (p : Position) (k : Kind) (y x : Tree) (r : List Token) → Bound p (Front k y x) r → (o : Owns x)
-    → (is_attributed k && is_attributed_form (remade x o)) ≡ false
-none_behind p ExprAttributed y x r d o = none_first x o (inside p ExprAttributed) r d.4 (no_hash y (flat x ++ r) d.1)
+    → (is_attributed k && is_attributed_form (parens_if (is_shelled k x) (remade x o))) ≡ false
+none_behind p ExprAttributed y x r d o =
+    paren_plain (is_lone_range x) (remade x o)
+    (none_first x o (inside p ExprAttributed) r d.4 (no_hash y (flat x ++ r) d.1))
 none_behind p _ y x r d o = refl
 
 -- An own part is plain where what is held of it is.
@@ -380,142 +406,173 @@ same_end ExprTypedClosure y z f e h =
     untyped_back y f (ap (is_plain_part ExprTypedClosure) e ∙ h)
 same_end _ y z f e h = refl
 
--- Of kinds that pass:
-module _ (passes : Kind → Bool) (part : (k : Kind) → passes k ≡ true → has_part k ≡ true) where
-  owns : (x : Tree) (p : Position) (r : List Token) → Bound p x r → has_parts_of passes x ≡ true → OwnPrinted x → Owns x
-  owns (Alone k y) p r d c o = own_printed k y r (part k (alone_parts passes k y c).passes) d.1 o
-  owns (Front k y x) p r d c o =
-      let a = front_parts passes k y x c in
-      (own_printed k y (flat x ++ r) (part k a.passes) d.1 o.0, owns x (inside p k) r d.4 a.right o.1)
-  owns (Back l k y) p r d c o =
-      let a = back_parts passes l k y c in
-      (owns l p (flat y ++ r) d.4 a.left o.0, own_printed k y r (part k a.passes) d.1 o.1)
-  owns (Infix l k y x) p r d c o =
-      let a = infix_parts passes l k y x c in (
-        owns l p (flat y ++ (flat x ++ r)) d.4 a.left o.0,
-        own_printed k y (flat x ++ r) (part k a.passes) d.1 o.1,
-        owns x (inside p k) r d.6 a.right o.2,
-      )
-  owns _ p r d c o = tt
+-- What it has is there in each form's own part;
+owns : (x : Tree) (p : Position) (r : List Token) → Bound p x r → has_parts_of has_part x ≡ true → OwnPrinted x → Owns x
+owns (Alone k y) p r d c o = own_printed k y r (alone_parts has_part k y c).passes d.1 o
+owns (Front k y x) p r d c o =
+    let a = front_parts has_part k y x c in
+    (own_printed k y (flat x ++ r) a.passes d.1 o.0, owns x (inside p k) r d.4 a.right o.1)
+owns (Back l k y) p r d c o =
+    let a = back_parts has_part l k y c in
+    (owns l p (flat y ++ r) d.4 a.left o.0, own_printed k y r a.passes d.1 o.1)
+owns (Infix l k y x) p r d c o =
+    let a = infix_parts has_part l k y x c in (
+      owns l p (flat y ++ (flat x ++ r)) d.4 a.left o.0,
+      own_printed k y (flat x ++ r) a.passes d.1 o.1,
+      owns x (inside p k) r d.6 a.right o.2,
+    )
+owns _ p r d c o = tt
 
-  plain_ranges : (x : Tree) → has_parts_of passes x ≡ true → HasPlainRanges x
-  plain_ranges (Front k y x) c =
-      let a = front_parts passes k y x c in
-      (a.plain, plain_ranges x a.right)
-  plain_ranges (Back l k y) c =
-      plain_ranges l (back_parts passes l k y c).left
-  plain_ranges (Infix l k y r) c =
-      let a = infix_parts passes l k y r c in
-      (plain_ranges l a.left, plain_ranges r a.right)
-  plain_ranges _ c = tt
+-- its operands are there;
+parens_operands : (b : Bool) (z : Tree) → HasOperandsOf has_part z → HasOperandsOf has_part (parens_if b z)
+unfolding has_form_step front has_right level
+parens_operands true z o = ((refl, Plain, Opens Parenthesis ∷ [], refl), refl, refl)
+parens_operands false z o = o
 
-  remade_fits : (x : Tree) (o : Owns x) (p : Position) (r : List Token) → Bound p x r → has_parts_of passes x ≡ true
-      → FitsForms (remade x o)
-  unfolding remade
-  remade_fits (Alone k y) o p r d c =
-      (part_known k (part k (alone_parts passes k y c).passes), o.fits, o.means)
-  remade_fits (Front k y x) o p r d c =
-      let a = front_parts passes k y x c in
-      (part_known k (part k a.passes), o.0.fits, o.0.means, remade_fits x o.1 (inside p k) r d.4 a.right)
-  remade_fits (Back l k y) o p r d c =
-      let a = back_parts passes l k y c in
-      back_fits k (remade l o.0) o.1.tree (part k a.passes) o.1.fits o.1.means
-      (remade_fits l o.0 p (flat y ++ r) d.4 a.left)
-  remade_fits (Infix l k y x) o p r d c =
-      let a = infix_parts passes l k y x c in (
-        part_known k (part k a.passes),
-        o.1.fits,
-        o.1.means,
-        remade_fits l o.0 p (flat y ++ (flat x ++ r)) d.4 a.left,
-        remade_fits x o.2 (inside p k) r d.6 a.right,
-      )
-  remade_fits _ o p r d c = absurd d
+back_operands : (k : Kind) (l y : Tree) → Fits y (table k) → IsBackOf has_part k → MayLack k
+    → HasOperandsOf has_part l → (is_struct k ≡ true → is_path_form l ≡ true)
+    → HasOperandsOf has_part (dotted l k y)
+unfolding has_form_step
+back_operands k l y f b m g h = go (is_dot k) refl
+  where
+    go : (c : Bool) → is_dot k ≡ c → HasOperandsOf has_part (dotted l k y)
+    go true i = dotted_operands has_part refl k l y (dot_fits k y i f) b m g
+    go false i = subst (HasOperandsOf has_part) (sym (undotted l k y i)) (b, m, g, h)
 
-  module _ (fields : passes ExprField ≡ true) where
-    back_operands : (k : Kind) (l y : Tree) → Fits y (table k) → IsBackOf passes k → MayLack k
-        → HasOperandsOf passes l → (is_struct k ≡ true → is_path_form l ≡ true)
-        → HasOperandsOf passes (dotted l k y)
-    back_operands k l y f b m g h = go (is_dot k) refl
-      where
-        go : (c : Bool) → is_dot k ≡ c → HasOperandsOf passes (dotted l k y)
-        go true i = dotted_operands passes fields k l y (dot_fits k y i f) b m g
-        go false i = subst (HasOperandsOf passes) (sym (undotted l k y i)) (b, m, g, h)
+remade_operands : (x : Tree) (o : Owns x) (p : Position) (r : List Token) → Bound p x r
+    → has_parts_of has_part x ≡ true → HasOperandsOf has_part (remade x o)
+unfolding remade
+remade_operands (Alone k y) o p r d c =
+    let a = alone_parts has_part k y c in (
+      (a.passes, p, flat y ++ r, d.0),
+      lacks_one p k r d.2,
+      same_end k o.tree (normal (kept y)) o.fits o.kept_is a.ends,
+    )
+remade_operands (Front k y x) o p r d c =
+    let a = front_parts has_part k y x c in (
+      (a.passes, p, flat y ++ (flat x ++ r), d.0),
+      has_one p k (flat x ++ r) d.2,
+      none_behind p k y x r d o.1,
+      parens_operands (is_shelled k x) (remade x o.1) (remade_operands x o.1 (inside p k) r d.4 a.right),
+      same_end k o.0.tree (normal (kept y)) o.0.fits o.0.kept_is a.ends,
+    )
+remade_operands (Back l k y) o p r d c =
+    let a = back_parts has_part l k y c in
+    back_operands k (parens_if (goes_in k l) (remade l o.0)) o.1.tree o.1.fits (a.passes, p, flat y ++ r, d.0)
+    (lacks_one p k r d.2)
+    (parens_operands (goes_in k l) (remade l o.0) (remade_operands l o.0 p (flat y ++ r) d.4 a.left))
+    (λ s. in_path k l o.0 (left_path p k l s d.3))
+remade_operands (Infix l k y x) o p r d c =
+    let a = infix_parts has_part l k y x c in (
+      (a.passes, p, flat y ++ (flat x ++ r), d.0),
+      has_one p k (flat x ++ r) d.2,
+      parens_operands (goes_in k l) (remade l o.0) (remade_operands l o.0 p (flat y ++ (flat x ++ r)) d.4 a.left),
+      remade_operands x o.2 (inside p k) r d.6 a.right,
+    )
+remade_operands _ o p r d c = absurd d
 
-    remade_operands : (x : Tree) (o : Owns x) (p : Position) (r : List Token) → Bound p x r
-        → has_parts_of passes x ≡ true → HasOperandsOf passes (remade x o)
-    unfolding remade
-    remade_operands (Alone k y) o p r d c =
-        let a = alone_parts passes k y c in (
-          (a.passes, p, flat y ++ r, d.0),
-          lacks_one p k r d.2,
-          same_end k o.tree (normal (kept y)) o.fits o.kept_is a.ends,
-        )
-    remade_operands (Front k y x) o p r d c =
-        let a = front_parts passes k y x c in (
-          (a.passes, p, flat y ++ (flat x ++ r), d.0),
-          has_one p k (flat x ++ r) d.2,
-          none_behind p k y x r d o.1,
-          remade_operands x o.1 (inside p k) r d.4 a.right,
-          same_end k o.0.tree (normal (kept y)) o.0.fits o.0.kept_is a.ends,
-        )
-    remade_operands (Back l k y) o p r d c =
-        let a = back_parts passes l k y c in
-        back_operands k (remade l o.0) o.1.tree o.1.fits (a.passes, p, flat y ++ r, d.0) (lacks_one p k r d.2)
-        (remade_operands l o.0 p (flat y ++ r) d.4 a.left) (λ s. remade_path l o.0 (left_path p k l s d.3))
-    remade_operands (Infix l k y x) o p r d c =
-        let a = infix_parts passes l k y x c in (
-          (a.passes, p, flat y ++ (flat x ++ r), d.0),
-          has_one p k (flat x ++ r) d.2,
-          remade_operands l o.0 p (flat y ++ (flat x ++ r)) d.4 a.left,
-          remade_operands x o.2 (inside p k) r d.6 a.right,
-        )
-    remade_operands _ o p r d c = absurd d
+-- and it fits: what is put in parentheses is in normal form there, as the whole is settled.
+parens_fit : (b : Bool) (z : Tree) (q : Position) (ts : List Token) → Settled q ts (kept (parens_if b z))
+    → ((i : Position) (us : List Token) → Settled i us (kept z) → FitsForms z) → HasOperandsOf has_part z
+    → FitsForms (parens_if b z)
+unfolding held passed table has_step has_form_step
+parens_fit true z q ts s f o =
+    let e : IsFormed Plain z = settled_inside (kept z) s.0 in
+    let i : FitsForms z = f Plain (stands_behind Plain) (settles (kept z) Plain (stands_behind Plain) e) in
+    (refl, (refl, (refl, refl, refl, (refl, e, i, operands_are z o), tt)), tt)
+parens_fit false z q ts s f o = f q ts s
 
--- It gained no parentheses, so it is in normal form.
+back_settled : (q : Position) (ts : List Token) (k : Kind) (m w : Tree) → Fits w (table k)
+    → Settled q ts (kept (dotted m k w)) → Within q (kept m)
+back_settled q ts k m w f s = go (is_dot k) refl
+  where
+    go : (b : Bool) → is_dot k ≡ b → Within q (kept m)
+    go true i =
+        dotted_within (kept m) k (kept w) q ts (subst (Settled q ts) (dotted_kept k m w (dot_fits k w i f)) s)
+    go false i = dotted_within (kept m) k (kept w) q ts (subst (λ z. Settled q ts (kept z)) (undotted m k w i) s)
+
+back_fits : (k : Kind) (l y : Tree) → has_part k ≡ true → Fits y (table k) → IsMeant k y → FitsForms l
+    → FitsForms (dotted l k y)
+back_fits k l y h f m g = go (is_dot k) refl
+  where
+    go : (b : Bool) → is_dot k ≡ b → FitsForms (dotted l k y)
+    go true i = dotted_fits k l y (dot_fits k y i f) f m g
+    go false i =
+        subst FitsForms (sym (undotted l k y i)) (part_known k h, f, m, λ z. undotted z k (kept y) i, g)
+
+remade_fits : (x : Tree) (o : Owns x) (p : Position) (r : List Token) → Bound p x r → has_parts_of has_part x ≡ true
+    → (q : Position) (ts : List Token) → Settled q ts (kept (remade x o)) → FitsForms (remade x o)
+unfolding remade
+remade_fits (Alone k y) o p r d c q ts s = (part_known k (alone_parts has_part k y c).passes, o.fits, o.means)
+remade_fits (Front k y x) o p r d c q ts s =
+    let a = front_parts has_part k y x c in (
+      part_known k a.passes,
+      o.0.fits,
+      o.0.means,
+      parens_fit (is_shelled k x) (remade x o.1) (inside q k) ts s.3
+          (λ i us h. remade_fits x o.1 (inside p k) r d.4 a.right i us h)
+          (remade_operands x o.1 (inside p k) r d.4 a.right),
+    )
+remade_fits (Back l k y) o p r d c q ts s =
+    let a = back_parts has_part l k y c in
+    let w = back_settled q ts k (parens_if (goes_in k l) (remade l o.0)) o.1.tree o.1.fits s in
+    back_fits k (parens_if (goes_in k l) (remade l o.0)) o.1.tree a.passes o.1.fits o.1.means
+    (parens_fit (goes_in k l) (remade l o.0) q w.behind w.settled
+    (λ i us h. remade_fits l o.0 p (flat y ++ r) d.4 a.left i us h)
+    (remade_operands l o.0 p (flat y ++ r) d.4 a.left))
+remade_fits (Infix l k y x) o p r d c q ts s =
+    let a = infix_parts has_part l k y x c in (
+      part_known k a.passes,
+      o.1.fits,
+      o.1.means,
+      parens_fit (goes_in k l) (remade l o.0) q (follow (flat (kept o.1.tree))) s.2
+          (λ i us h. remade_fits l o.0 p (flat y ++ (flat x ++ r)) d.4 a.left i us h)
+          (remade_operands l o.0 p (flat y ++ (flat x ++ r)) d.4 a.left),
+      remade_fits x o.2 (inside p k) r d.6 a.right (inside q k) ts s.4,
+    )
+remade_fits _ o p r d c q ts s = absurd d
+
+-- It has the parentheses of its normal form, so it is in normal form.
 abbrev inside_whole : Tree → Tree
 inside_whole (Whole x) = x
 inside_whole x = x
 
 gains : (p : Position) (x : Tree) (r : List Token) → (p ≡ InCondition → sees brace r ≡ true)
-    → Derives (Whole x) (operand p 0) r → HasPlainRanges x → formed p (stands_behind p) (kept x) ≡ bare (kept x)
-unfolding table held passed
-gains p x r e d c = ap form_of (gains_none p x r (refl, d) e c)
+    → Derives (Whole x) (operand p 0) r → formed p (stands_behind p) (kept x) ≡ shelled (kept x)
+unfolding table
+gains p x r e d = gains_shells p x r (refl, d) e
 
 formed_twice : (p : Position) (x : Tree) → formed p (stands_behind p) (formed p (stands_behind p) x)
     ≡ formed p (stands_behind p) x
 formed_twice p x = ap inside_whole (normal_twice p (Whole x))
 
 -- what is printed for it
-pub record Remade (passes : Kind → Bool) (p : Position) (x : Tree) : Type 0 where
+pub record Remade (p : Position) (x : Tree) : Type 0 where
   pub tree : Tree
   pub formed_is : IsFormed p tree
   pub fits : FitsForms tree
-  pub operands : HasOperandsOf passes tree
+  pub operands : HasOperandsOf has_part tree
   pub kept_is : kept (Whole tree) ≡ normal_in p (kept (Whole x))
 
-pub remake : (passes : Kind → Bool) → ((k : Kind) → passes k ≡ true → has_part k ≡ true) → passes ExprField ≡ true
-    → (p : Position) (x : Tree) (r : List Token) → (p ≡ InCondition → sees brace r ≡ true)
-    → Derives (Whole x) (operand p 0) r → has_parts_of passes x ≡ true → OwnPrinted x → Remade passes p x
-remake passes part fields p x r b d c o =
-    let w : Owns x = owns passes part x p r d.1 c o in
+pub remake : (p : Position) (x : Tree) (r : List Token) → (p ≡ InCondition → sees brace r ≡ true)
+    → Derives (Whole x) (operand p 0) r → has_parts_of has_part x ≡ true → OwnPrinted x → Remade p x
+remake p x r b d c o =
+    let w : Owns x = owns x p r d.1 c o in
     let z : Tree = remade x w in
-    let g = gains p x r b d (plain_ranges passes part x c) in
-    let u : kept z ≡ bare (kept x) = remade_kept x w p r d.1 in
+    let g = gains p x r b d in
+    let u : kept z ≡ shelled (kept x) = remade_kept x w p r d.1 in
+    let e : IsFormed p z = ap (formed p (stands_behind p)) (u ∙ sym g) ∙ formed_twice p (kept x) ∙ g ∙ sym u in
     record {
       tree = z;
-      formed_is = ap (formed p (stands_behind p)) (u ∙ sym g) ∙ formed_twice p (kept x) ∙ g ∙ sym u;
-      fits = remade_fits passes part x w p r d.1 c;
-      operands = remade_operands passes part fields x w p r d.1 c;
+      formed_is = e;
+      fits = remade_fits x w p r d.1 c p (stands_behind p) (settles (kept z) p (stands_behind p) e);
+      operands = remade_operands x w p r d.1 c;
       kept_is = ap Whole (u ∙ sym g);
     }
 
-pub form_part : (k : Kind) → is_form k ≡ true → has_part k ≡ true
-form_part k e = e
-
 pub whole : WholeLaw
-unfolding has_form_step
 whole p x r h d b c o =
-    let w = remake is_form form_part refl p x r b d (covered_parts x c) o in
+    let w = remake p x r b d (covered_parts x c) o in
     record {
       tree = Whole w.tree;
       fits = (refl, w.formed_is, w.fits, operands_are w.tree w.operands);
