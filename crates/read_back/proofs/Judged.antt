@@ -98,7 +98,7 @@ plain_settled End g r d h = refl
 plain_settled _ g r d h = absurd d
 
 -- an entry that has no part of that name
-abbrev lacks_part : Part → Gram → Bool
+abbrev pub lacks_part : Part → Gram → Bool
 lacks_part n (seq a b) = lacks_part n a && lacks_part n b
 lacks_part n (alt t a b) = lacks_part n a && lacks_part n b
 lacks_part n (group d g) = lacks_part n g
@@ -107,7 +107,7 @@ lacks_part n (called m g) = not (same_part m n)
 lacks_part n _ = true
 
 -- what it reads has none
-no_part : (n : Part) (x : Tree) (g : Gram) (r : List Token) → Derives x g r → lacks_part n g ≡ true
+pub no_part : (n : Part) (x : Tree) (g : Gram) (r : List Token) → Derives x g r → lacks_part n g ≡ true
     → found n x ≡ None
 no_part n (Pair x y) (seq a b) r d h =
     let k = both_true (lacks_part n a) (lacks_part n b) h in

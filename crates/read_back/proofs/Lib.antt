@@ -29,6 +29,8 @@ pub mod ToldRanges
 pub mod LonePatterns
 pub mod ToldPatterns
 pub mod Judged
+pub mod ToldPaths
+pub mod ToldItems
 pub mod Told
 pub mod ReadBack
 pub mod Positions

@@ -35,137 +35,11 @@ use Rattle.read_back.specs.Asked.{all_asked, ends_alone, ends_in_pattern, is_ask
 use Rattle.read_back.specs.Asked.{is_asked_form, is_covered, is_no_lone, no_lone}
 use Rattle.read_back.proofs.Judged.{are_settled, settled_inside}
 use Rattle.read_back.proofs.Paths.{one_more, is_named}
+use Rattle.read_back.proofs.ToldItems.{named_told, raw_told}
+use Rattle.read_back.proofs.ToldPaths.{call_behind}
 use Rattle.read_back.proofs.ToldClosures.{closure_told, typed_closure_told}
 use Rattle.read_back.proofs.ToldPatterns.{whole_patterns}
 use Rattle.read_back.proofs.ToldRanges.{takes_told}
-
--- behind a name: further names, as many as there are turns, and then a !
-abbrev plus : ℕ → ℕ → ℕ
-plus zero m = m
-plus (suc n) m = suc (plus n m)
-
-plus_suc : (n m : ℕ) → plus n (suc m) ≡ suc (plus n m)
-plus_suc zero m = refl
-plus_suc (suc n) m = ap suc (plus_suc n m)
-
-record Chain (j : Spacing) (vs us : List Token) : Type 0 where
-  count : ℕ
-  left : ℕ
-  turns : length us ≡ plus count left
-  far : (m : ℕ) → as_far (plus count m) one_more us ≡ Some (Punct 33 j ∷ vs)
-
--- tokens that begin with the name of a macro
-record Named (j : Spacing) (vs us : List Token) : Type 0 where
-  text : List ℕ
-  rest : List Token
-  is : us ≡ Ident text ∷ rest
-  passes : is_name text ≡ true
-  chain : Chain j vs rest
-
-none_at : (j : Spacing) (vs : List Token) (m : ℕ) → as_far m one_more (Punct 33 j ∷ vs) ≡ Some (Punct 33 j ∷ vs)
-none_at j vs zero = refl
-none_at Apart vs (suc m) = refl
-none_at Joint vs (suc m) = refl
-
-chain_end : (j : Spacing) (vs : List Token) → Chain j vs (Punct 33 j ∷ vs)
-chain_end j vs = record { count = 0; left = length (Punct 33 j ∷ vs); turns = refl; far = none_at j vs }
-
-chain_more : (j : Spacing) (vs : List Token) (i : Spacing) (us : List Token) → Named j vs us
-    → Chain j vs (Punct 58 Joint ∷ Punct 58 i ∷ us)
-chain_more j vs i us n = subst (λ ws. Chain j vs (Punct 58 Joint ∷ Punct 58 i ∷ ws)) (sym n.is) record {
-  count = suc n.chain.count;
-  left = suc (suc n.chain.left);
-  turns = ap (λ m. suc (suc (suc m))) n.chain.turns
-      ∙ sym (ap suc (plus_suc n.chain.count (suc n.chain.left) ∙ ap suc (plus_suc n.chain.count n.chain.left)));
-  far = λ m. ap (λ b. first_seen (behind (cond b (Some n.rest) None)
-      (as_far (plus n.chain.count m) one_more)) (Some (Punct 58 Joint ∷ Punct 58 i ∷ Ident n.text ∷ n.rest)))
-      n.passes
-      ∙ ap (λ o. first_seen o (Some (Punct 58 Joint ∷ Punct 58 i ∷ Ident n.text ∷ n.rest))) (n.chain.far m);
-}
-
--- the names of a path
-a_named : (j : Spacing) (vs : List Token) (cs : List ℕ) (us : List Token) → is_name cs ≡ true → Chain j vs us
-    → Named j vs (Ident cs ∷ us)
-a_named j vs cs us h c = record { text = cs; rest = us; is = refl; passes = h; chain = c }
-
-behind_colons : (j : Spacing) (vs : List Token) (c : ℕ) (cs : List ℕ) (i : Spacing) (z : Tree) (ts : List Token)
-    → c ≡ 58 → cs ≡ 58 ∷ [] → Named j vs (flat z ++ ts) → Chain j vs ((signs c cs i ++ flat z) ++ ts)
-behind_colons j vs c cs i z ts e f n =
-    subst (λ d. Chain j vs ((signs d cs i ++ flat z) ++ ts)) (sym e)
-    (subst (λ ds. Chain j vs ((signs 58 ds i ++ flat z) ++ ts)) (sym f) (chain_more j vs i (flat z ++ ts) n))
-
-segments_named : (z : Tree) (j : Spacing) (vs r : List Token) → Derives z (table (Segments InModule)) r
-    → Named j vs (flat z ++ Punct 33 j ∷ vs)
-unfolding table
-segments_named (First (Pair (AWord cs) (First (Pair (AMark c ms i) (Node k z))))) j vs r d =
-    a_named j vs cs _ (is_named cs (inr d.1.0))
-    (behind_colons j vs c ms i z _ d.1.1.1.0.0 d.1.1.1.0.1
-    (segments_named z j vs r (subst (λ l. Derives z (table l) r) d.1.1.1.1.0 d.1.1.1.1.1)))
-segments_named (First (Pair (AWord cs) (First (Pair (AMark c ms i) _)))) j vs r d = absurd d.1.1.1.1
-segments_named (First (Pair (AWord cs) (First (Pair _ y)))) j vs r d = absurd d.1.1.1.0
-segments_named (First (Pair (AWord cs) (First _))) j vs r d = absurd d.1.1.1
-segments_named (First (Pair (AWord cs) (Second Nil))) j vs r d =
-    a_named j vs cs _ (is_named cs (inr d.1.0)) (chain_end j vs)
-segments_named (First (Pair (AWord cs) (Second _))) j vs r d = absurd d.1.1.1
-segments_named (First (Pair (AWord cs) _)) j vs r d = absurd d.1.1
-segments_named (First (Pair _ y)) j vs r d = absurd d.1.0
-segments_named (First _) j vs r d = absurd d.1
-segments_named (Second (Pair (AWord cs) (First x))) j vs r d = absurd (never d.1.1.0)
-segments_named (Second (Pair (AWord cs) (Second (First (Pair (AMark c ms i) (Node k z)))))) j vs r d =
-    a_named j vs cs _ (is_named cs (inl d.1.0))
-    (behind_colons j vs c ms i z _ d.1.1.1.1.0.0 d.1.1.1.1.0.1
-    (segments_named z j vs r (subst (λ l. Derives z (table l) r) d.1.1.1.1.1.0 d.1.1.1.1.1.1)))
-segments_named (Second (Pair (AWord cs) (Second (First (Pair (AMark c ms i) _))))) j vs r d = absurd d.1.1.1.1.1
-segments_named (Second (Pair (AWord cs) (Second (First (Pair _ y))))) j vs r d = absurd d.1.1.1.1.0
-segments_named (Second (Pair (AWord cs) (Second (First _)))) j vs r d = absurd d.1.1.1.1
-segments_named (Second (Pair (AWord cs) (Second (Second (Second Nil))))) j vs r d =
-    a_named j vs cs _ (is_named cs (inl d.1.0)) (chain_end j vs)
-segments_named (Second (Pair (AWord cs) (Second (Second (Second _))))) j vs r d = absurd d.1.1.1.1.1
-segments_named (Second (Pair (AWord cs) (Second (Second (First y))))) j vs r d = absurd (never d.1.1.1.1.0)
-segments_named (Second (Pair (AWord cs) (Second (Second _)))) j vs r d = absurd d.1.1.1.1
-segments_named (Second (Pair (AWord cs) (Second _))) j vs r d = absurd d.1.1.1
-segments_named (Second (Pair (AWord cs) _)) j vs r d = absurd d.1.1
-segments_named (Second (Pair _ y)) j vs r d = absurd d.1.0
-segments_named (Second _) j vs r d = absurd d.1
-segments_named _ j vs r d = absurd d
-
--- what is seen behind the path and its !
-abbrev IsBehind : Spacing → List Token → List Token → Type 0
-IsBehind j vs us = (l : Look) → sees (a_path then marks "!" then l) us ≡ seen (l vs)
-
-name_then : (l : Look) (j : Spacing) (vs : List Token) (cs : List ℕ) (us : List Token) → is_name cs ≡ true
-    → Chain j vs us → sees (a_path then marks "!" then l) (Ident cs ∷ us) ≡ seen (l vs)
-name_then l j vs cs us h c =
-    ap (λ b. seen (behind (behind (cond b (Some us) None) (repeatedly one_more)) (marks "!" then l))) h
-    ∙ ap (λ n. seen (behind (as_far n one_more us) (marks "!" then l))) c.turns
-    ∙ ap (λ o. seen (behind o (marks "!" then l))) (c.far c.left)
-
-named_behind : (j : Spacing) (vs us : List Token) → Named j vs us → IsBehind j vs us
-named_behind j vs us n l =
-    ap (sees (a_path then marks "!" then l)) n.is ∙ name_then l j vs n.text n.rest n.passes n.chain
-
-root_behind : (j : Spacing) (vs : List Token) (c : ℕ) (cs : List ℕ) (i : Spacing) (z : Tree) (ts : List Token)
-    → c ≡ 58 → cs ≡ 58 ∷ [] → Named j vs (flat z ++ ts) → IsBehind j vs ((signs c cs i ++ flat z) ++ ts)
-root_behind j vs c cs i z ts e f n l =
-    ap (λ d. sees (a_path then marks "!" then l) ((signs d cs i ++ flat z) ++ ts)) e
-    ∙ ap (λ ds. sees (a_path then marks "!" then l) ((signs 58 ds i ++ flat z) ++ ts)) f
-    ∙ ap (λ us. sees (a_path then marks "!" then l) (Punct 58 Joint ∷ Punct 58 i ∷ us)) n.is
-    ∙ name_then l j vs n.text n.rest n.passes n.chain
-
-path_behind : (x : Tree) (j : Spacing) (vs r : List Token) → Derives x (table (Path InModule)) r
-    → IsBehind j vs (flat x ++ Punct 33 j ∷ vs)
-unfolding table
-path_behind (Pair (First (AMark c cs i)) (Node k z)) j vs r d l =
-    root_behind j vs c cs i z _ d.0.1.0 d.0.1.1
-    (segments_named z j vs r (subst (λ m. Derives z (table m) r) d.1.0 d.1.1)) l
-path_behind (Pair (First (AMark c cs i)) _) j vs r d l = absurd d.1
-path_behind (Pair (First _) y) j vs r d l = absurd d.0.1
-path_behind (Pair (Second Nil) (Node k z)) j vs r d l =
-    named_behind j vs _ (segments_named z j vs r (subst (λ m. Derives z (table m) r) d.1.0 d.1.1)) l
-path_behind (Pair (Second Nil) _) j vs r d l = absurd d.1
-path_behind (Pair (Second _) y) j vs r d l = absurd d.0.1
-path_behind (Pair _ y) j vs r d l = absurd d.0
-path_behind _ j vs r d l = absurd d
 
 -- braces
 abbrev dotless : Look
@@ -188,10 +62,6 @@ braces_told p s (Second (Second _)) q g e = absurd g.1.1
 braces_told p s (Second _) q g e = absurd g.1
 braces_told p s _ q g e = absurd g
 
-bang_is : (c : ℕ) (cs : List ℕ) (i : Spacing) (ts : List Token) → c ≡ 33 → cs ≡ []
-    → signs c cs i ++ ts ≡ Punct 33 i ∷ ts
-bang_is c cs i ts e f = ap (λ d. signs d cs i ++ ts) e ∙ ap (λ ds. signs 33 ds i ++ ts) f
-
 macro_in : (x : Tree) (q : List Token) → Derives x (table AMacro) q
     → sees macro_statement_stands (flat x ++ q) ≡ true → is_brace_macro (Alone ExprMacro (Node AMacro x)) ≡ true
 unfolding table
@@ -199,13 +69,8 @@ macro_in (Pair (Node k x) (Pair (AMark c cs i) (Node j g))) q d e =
     subst (λ l. is_brace_macro (Alone ExprMacro (Node AMacro (Pair (Node k x) (Pair (AMark c cs i) (Node l g)))))
     ≡ true) (sym d.1.1.0)
     (braces_told (Node k x) (AMark c cs i) g q (subst (λ l. Derives g (table l) q) d.1.1.0 d.1.1.1)
-    (sym (ap (sees macro_statement_stands)
-    (append_assoc (flat x) (signs c cs i ++ flat g) q
-    ∙ ap (λ us. flat x ++ us) (append_assoc (signs c cs i) (flat g) q
-    ∙ bang_is c cs i (flat g ++ q) d.1.0.0 d.1.0.1))
-    ∙ path_behind x i (flat g ++ q) _ (subst (λ l. Derives x (table l) ((signs c cs i ++ flat g) ++ q)) d.0.0 d.0.1)
-    (a_group Brace then dotless))
-    ∙ e))
+    (sym (call_behind x c cs i (flat g) q _ d.1.0.0 d.1.0.1
+    (subst (λ l. Derives x (table l) ((signs c cs i ++ flat g) ++ q)) d.0.0 d.0.1) (a_group Brace then dotless)) ∙ e))
 macro_in (Pair (Node k x) (Pair (AMark c cs i) _)) q d e = absurd d.1.1
 macro_in (Pair (Node k x) (Pair _ y)) q d e = absurd d.1.0
 macro_in (Pair (Node k x) _) q d e = absurd d.1
@@ -242,9 +107,12 @@ form_told (Second (Second (Second (Second (Pair (Called n a) (Pair (Called m e) 
 form_told (Second (Second (Second (Second (Pair (Called n a) _))))) r d v c = absurd (never c)
 form_told (Second (Second (Second (Second (Pair _ y))))) r d v c = absurd d.1.1.1.1.0
 form_told (Second (Second (Second (Second _)))) r d v c = absurd (never c)
+form_told (Second (Second (Second (First (Node k (Verbatim x)))))) r d v c =
+    raw_told k x r d.1.1.1.1 d.1.1.1.0
 form_told (Second (Second (Second x))) r d v c = c
 form_told (Second (Second x)) r d v c = c
 form_told (Second x) r d v c = c
+form_told (First x) r d v c = named_told x r d.1 d.0
 form_told x r d v c = c
 
 -- of a kind's tree, and of a form's own part

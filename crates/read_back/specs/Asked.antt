@@ -12,14 +12,17 @@ use Rattle.syn_grammar.specs.Parens.{is_attributed_range}
 use Rattle.grammar_back.specs.Covered.{has_lone_value, has_own_trait, is_form, is_known, is_lone, is_plain_expression}
 use Rattle.grammar_back.specs.Covered.{is_statement_form, is_taken, stands_alone}
 
--- Of a statement: what it is taken by, but that a macro which is one has its tokens in braces was seen; and of an
--- expression only how it begins, as it is printed.
+-- Of a statement: what it is taken by, but that a macro which is one has its tokens in braces was seen, and a name behind
+-- the ! of one that is an item; of an item that is kept as tokens nothing; and of an expression only how it begins, as
+-- it is printed.
 abbrev pub is_asked_expression : Tree → Bool
 is_asked_expression (Pair a (Pair (Called n e) s)) = is_plain_expression (normal_in InStatement (kept e))
 is_asked_expression _ = false
 
 abbrev pub is_asked_form : Tree → Bool
+is_asked_form (First x) = true
 is_asked_form (Second (First x)) = true
+is_asked_form (Second (Second (Second (First (Node k (Verbatim x)))))) = true
 is_asked_form (Second (Second (Second (Second x)))) = is_asked_expression x
 is_asked_form x = is_statement_form x
 

@@ -17,7 +17,8 @@
 //! statements; of macros that are items there by `NamedMacros`; `Given` has what attributes in front of an expression
 //! are in its normal form). `Forms` has all that is to be known of expressions,
 //! `ReadBack` the laws of kinds, and `Positions` those of an expression where it stands (`specs/Parts`). What is asked
-//! of a tree is less than what the steps go by: `Told` has what the tests of the entries saw, wherever it was read.
+//! of a tree is less than what the steps go by: `Told` has what the tests of the entries saw, wherever it was read
+//! (`ToldItems` of an item among statements).
 //! `Examples` has an expression for each law.
 //!
 //! - `laws`: the laws.
