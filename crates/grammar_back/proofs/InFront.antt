@@ -1,8 +1,8 @@
 -- Attributes in front of a statement's expression, and the expression that is held, which has taken them.
 use Rattle.std.proofs.Common.{◌≡◌, [], List, ◌++◌, refl, sym, ap, ◌∙◌, append_assoc}
-use Rattle.std.specs.Prelude.{Bool, true, false, not, ◌&&◌, cond, nat_eq}
+use Rattle.std.specs.Prelude.{Bool, true, false, cond, nat_eq}
 use Rattle.proc_macro2.specs.Token.{Token}
-use Rattle.syn_grammar.specs.Kind.{Kind, Position, Plain, InStatement, Expression, ExprAttributed, ExprCast}
+use Rattle.syn_grammar.specs.Kind.{Plain, InStatement, ExprAttributed, ExprCast}
 use Rattle.syn_grammar.specs.Kind.{OuterAttribute, OuterAttributes}
 use Rattle.syn_grammar.specs.Tree.{Tree, Pair, End, Again, Final, Group, Node, Whole, Alone, Front, Back, Infix, flat}
 use Rattle.syn_grammar.specs.Gram.{ref}
@@ -11,12 +11,8 @@ use Rattle.syn_grammar.specs.Derives.{Derives}
 use Rattle.syn_grammar.specs.Forms.{ends_there, inside, is_range, level}
 use Rattle.syn_grammar.specs.Kept.{attributed, held, kept}
 use Rattle.syn_grammar.specs.Normal.{apart_item, formed, normal, passed, stands_behind}
-use Rattle.syn_grammar.specs.Parens.{begins_in, follow, in_parens, is_attributed_range, may_lack, parens_unless}
-use Rattle.syn_grammar.specs.Parens.{stands_in}
-use Rattle.syn_grammar.specs.Parens.{stays_left, stays_right, takes_what_follows, with_left, with_right}
+use Rattle.syn_grammar.specs.Parens.{in_parens, may_lack}
 use Rattle.syn_grammar.proofs.Settled.{normal_twice}
-use Rattle.grammar_back.specs.Covered.{has_plain_ranges, takes_attributes}
-use Rattle.grammar_back.proofs.Choices.{both_true}
 use Rattle.grammar_back.proofs.Ends.{ends_read}
 use Rattle.grammar_back.proofs.Fits.{Fits}
 
@@ -80,50 +76,6 @@ pub given_flat : (a x : Tree) → is_attributes a ≡ true → flat (given_to a 
 given_flat End x e = refl
 given_flat (Again t b) x e = attributed_flat (Pair t (Node OuterAttributes b)) x
 given_flat _ x e = absurd (unlike e)
-
--- In normal form no range stands behind attributes.
-and_both : (a b : Bool) → a ≡ true → b ≡ true → (a && b) ≡ true
-and_both a b e f = ap (λ i. i && b) e ∙ f
-
-plain_unless : (b : Bool) (x : Tree) → has_plain_ranges x ≡ true → has_plain_ranges (parens_unless b x) ≡ true
-plain_unless true x e = e
-plain_unless false x e = refl
-
-paren_range : (k : Kind) (x : Tree) → is_attributed_range k (in_parens x) ≡ false
-unfolding level
-paren_range ExprAttributed x = refl
-paren_range _ x = refl
-
-front_plain : (p : Position) (k : Kind) (y x : Tree) → has_plain_ranges x ≡ true
-    → has_plain_ranges (Front k y (with_right p k y x)) ≡ true
-front_plain p k y x e = go (stays_right p k y x) refl
-  where
-    go : (b : Bool) → stays_right p k y x ≡ b → has_plain_ranges (Front k y (parens_unless b x)) ≡ true
-    go true i =
-        and_both (not (is_attributed_range k x)) (has_plain_ranges x) (both_true _ _ (both_true _ _ i).1).1 e
-    go false i = ap (λ b. not b && true) (paren_range k x)
-
-plain_formed : (p : Position) (ts : List Token) (x : Tree) → has_plain_ranges (formed p ts x) ≡ true
-plain_formed p ts (Alone k y) = plain_unless (not (takes_what_follows p k ts)) (Alone k (normal y)) refl
-plain_formed p ts (Front k y x) =
-    let z : Tree = formed (inside p k) ts x in
-    plain_unless (begins_in p k) (Front k (normal y) (with_right p k (normal y) z))
-    (front_plain p k (normal y) z (plain_formed (inside p k) ts x))
-plain_formed p ts (Back l k y) =
-    let z : Tree = formed p (follow (flat (normal y))) l in
-    plain_unless (stands_in p k && not (takes_what_follows p k ts))
-    (Back (with_left p k (normal y) z) k (normal y))
-    (plain_unless (stays_left p k (normal y) z) z (plain_formed p (follow (flat (normal y))) l))
-plain_formed p ts (Infix l k y r) =
-    let z : Tree = formed p (follow (flat (normal y))) l in
-    let w : Tree = formed (inside p k) ts r in
-    and_both (has_plain_ranges (with_left p k (normal y) z)) (has_plain_ranges (with_right p k (normal y) w))
-    (plain_unless (stays_left p k (normal y) z) z (plain_formed p (follow (flat (normal y))) l))
-    (plain_unless (stays_right p k (normal y) w) w (plain_formed (inside p k) ts r))
-plain_formed p ts _ = refl
-
-pub takes_formed : (x : Tree) → takes_attributes (Node (Expression Plain) (Whole (formed InStatement [] x))) ≡ true
-takes_formed x = plain_formed InStatement [] x
 
 -- A range is put in parentheses behind them; what stands in these is in normal form there too.
 abbrev pub is_ranged : Tree → Tree → Bool

@@ -1,18 +1,19 @@
 -- Statements: their law, and of what is printed for one whether it needs its ; , and whether it is open: an expression
 -- or a macro without it.
 use Rattle.std.proofs.Common.{[], ap, append_assoc, List, refl, subst, sym, ◌++◌, ◌∙◌, ◌∷◌, ◌≡◌}
-use Rattle.std.specs.Prelude.{Bool, cond, false, not, true, ◌&&◌, ◌||◌}
+use Rattle.std.specs.Prelude.{Bool, cond, false, not, true, ◌&&◌}
 use Rattle.proc_macro2.specs.Token.{Opens, Token}
 use Rattle.proc_macro2.specs.declared.delimiter.Delimiter.TheVariants.{Parenthesis}
 use Rattle.rust_leaf.specs.declared.punct.Spacing.TheVariants.{Alone as Apart}
-use Rattle.syn_grammar.specs.Kind.{AnItem, AStatement, Expression, ExprMacro, InStatement, Kind, OuterAttributes}
+use Rattle.syn_grammar.specs.Kind.{AnItem, AStatement, Expression, ExprCast, ExprMacro, InStatement, Kind, OuterAttributes}
 use Rattle.syn_grammar.specs.Kind.{Plain, Position}
 use Rattle.syn_grammar.specs.Name.{Part, same_part, the_attributes, the_expression, the_semicolon}
 use Rattle.syn_grammar.specs.Tree.{Again, Alone, AMark, Back, Called, End, First, flat, Front, Infix, Nil, Node, Pair}
 use Rattle.syn_grammar.specs.Tree.{Raw, Second, Tree, Whole}
 use Rattle.syn_grammar.specs.Part.{choice}
 use Rattle.syn_grammar.specs.Gram.{Gram, ref}
-use Rattle.syn_grammar.specs.Say.{marks, optional, sign, when◌read◌else◌, ◌∶◌, ◌▸◌}
+use Rattle.syn_grammar.specs.Look.{sees}
+use Rattle.syn_grammar.specs.Say.{marks, optional, parenthesis, sign, when◌read◌else◌, ◌∶◌, ◌▸◌}
 use Rattle.syn_grammar.specs.Statements.{needs_semicolon, statement}
 use Rattle.syn_grammar.specs.Forms.{ends_there, form_of, front, has_right, inside, is_brace_macro, is_range, level}
 use Rattle.syn_grammar.specs.Table.{table}
@@ -26,15 +27,16 @@ use Rattle.syn_grammar.specs.Parens.{takes_what_follows}
 use Rattle.syn_grammar.specs.Parens.{with_left, with_right}
 use Rattle.syn_grammar.proofs.Settled.{normal_twice}
 use Rattle.grammar_back.specs.After.{expression_of, is_open}
-use Rattle.grammar_back.specs.Covered.{all_covered, has_form_step, has_step, is_bare_front}
+use Rattle.range_laws.specs.Opens.{opens_given}
+use Rattle.grammar_back.specs.Covered.{all_covered, has_form_step, has_step}
 use Rattle.grammar_back.specs.Covered.{is_expression_form, is_known, is_macro_form, is_plain_expression}
-use Rattle.grammar_back.specs.Covered.{is_statement_form, is_statement_item, takes_attributes}
+use Rattle.grammar_back.specs.Covered.{is_plain_start, is_statement_form, is_statement_item}
 use Rattle.grammar_back.proofs.Choices.{both_true, is_false}
 use Rattle.grammar_back.proofs.Ends.{ends_back, macro_read, own_back}
 use Rattle.grammar_back.proofs.Fits.{Fits, is_open_turn, IsMeant}
 use Rattle.grammar_back.proofs.InFront.{attribute_apart, attributes_fit, attributes_kept, attributes_normal}
 use Rattle.grammar_back.proofs.InFront.{attributes_read, ends_given, given_ends, given_flat, given_to, is_attributes}
-use Rattle.grammar_back.proofs.InFront.{enclosed, is_ranged, settled_inside, takes_formed}
+use Rattle.grammar_back.proofs.InFront.{enclosed, is_ranged, settled_inside}
 use Rattle.grammar_back.proofs.NamedMacros.{named_law}
 use Rattle.grammar_back.proofs.Lets.{at_item, item_law, Law, let_printed}
 use Rattle.grammar_back.proofs.Printed.{IsPlaced, KindLaw, Printed, simple_law, unmoved_if}
@@ -146,70 +148,31 @@ held_flat a x s i = go (is_macro x) (is_there s) refl
     go false c e = ap (λ ts. ts ++ flat s) (given_flat a x i) ∙ append_assoc (flat a) (flat x) (flat s)
 
 -- as it is printed
-bare_back : (b : Tree) → Fits b (ref OuterAttributes) → kept b ≡ none → is_bare_front b ≡ true
-unfolding held table
-bare_back (Node k v) f e =
-    go v (subst (λ j. Fits v (table j)) f.0 f.3) (subst (λ j. kept (Node j v) ≡ none) f.0 e)
-  where
-    go : (v : Tree) → Fits v (table OuterAttributes) → kept (Node OuterAttributes v) ≡ none
-        → is_bare_front (Node k v) ≡ true
-    go End f e = refl
-    go (Again x y) f e = cc e
-    go _ f e = absurd f
-bare_back _ f e = absurd f
-
 abbrev is_fourth : Tree → Bool
 is_fourth (Second (Second (Second (Second x)))) = true
 is_fourth x = false
 
-abbrev front_of : Tree → Tree
-front_of (Second (Second (Second (Second (Pair (Called n a) y))))) = a
-front_of x = x
-
-or_back : (b c : Bool) → c ≡ true → (b || c) ≡ true
-or_back true c e = refl
-or_back false c e = e
-
-abbrev takes_front : Tree → Tree → Bool
-takes_front a e = is_bare_front a || takes_attributes e
-
-front_back : (a x b g : Tree) → Fits b (ref OuterAttributes) → kept b ≡ Node OuterAttributes (normal a)
-    → kept g ≡ held_form (formed InStatement [] x) → takes_front (Node OuterAttributes a) (held_form x) ≡ true
-    → takes_front b (kept g) ≡ true
-front_back End x b g f e i v = ap (λ c. c || takes_attributes (kept g)) (bare_back b f e)
-front_back _ x b g f e i v =
-    or_back (is_bare_front b) (takes_attributes (kept g)) (ap takes_attributes i ∙ takes_formed x)
-
-takes_kept : (a e : Tree) → is_attributes a ≡ true → takes_front (Node OuterAttributes a) e ≡ true
-    → takes_front (Node OuterAttributes (kept a)) e ≡ true
-takes_kept End e i o = refl
-takes_kept (Again t b) e i o = o
-takes_kept _ e i o = absurd (contrary i)
-
 expression_printed : (a x s w : Tree) → Fits w statement
     → kept w ≡ in_front (normal a) (held_form (formed InStatement [] x)) (normal s)
-    → is_plain_expression (normal_in InStatement (held_form x)) ≡ true
-    → takes_front (Node OuterAttributes a) (held_form x) ≡ true → is_statement_form w ≡ true
+    → is_plain_expression (normal_in InStatement (held_form x)) ≡ true → is_statement_form w ≡ true
 unfolding passed stands_behind
-expression_printed a x s (Second (Second (Second (Second (Pair (Called n b) (Pair (Called m g) t)))))) f e o v =
+expression_printed a x s (Second (Second (Second (Second (Pair (Called n b) (Pair (Called m g) t)))))) f e o =
     let i : kept g ≡ normal_in InStatement (held_form x) = ap expression_of e in
-    let u : takes_front b (kept g) ≡ true = front_back a x b g f.1.1.1.1.0.1 (ap front_of e) i v in
-    ap (λ c. c && takes_front b (kept g))
-    (ap (λ z. is_plain_expression (normal_in InStatement z)) i
-    ∙ ap is_plain_expression (normal_twice InStatement (held_form x)) ∙ o) ∙ u
-expression_printed a x s (Second (Second (Second (Second (Pair (Called n b) (Pair _ t)))))) f e o v =
+    ap (λ z. is_plain_expression (normal_in InStatement z)) i
+    ∙ ap is_plain_expression (normal_twice InStatement (held_form x)) ∙ o
+expression_printed a x s (Second (Second (Second (Second (Pair (Called n b) (Pair _ t)))))) f e o =
     absurd f.1.1.1.1.1.0
-expression_printed a x s (Second (Second (Second (Second (Pair (Called n b) _))))) f e o v = absurd f.1.1.1.1.1
-expression_printed a x s (Second (Second (Second (Second (Pair _ y))))) f e o v = absurd f.1.1.1.1.0
-expression_printed a x s (Second (Second (Second (Second _)))) f e o v = absurd f.1.1.1.1
-expression_printed a x s (Second (Second (Second (First w)))) f e o v = absurd (contrary (ap is_fourth e))
-expression_printed a x s (Second (Second (Second _))) f e o v = absurd f.1.1.1
-expression_printed a x s (Second (Second (First w))) f e o v = absurd (contrary (ap is_fourth e))
-expression_printed a x s (Second (Second _)) f e o v = absurd f.1.1
-expression_printed a x s (Second (First w)) f e o v = absurd (contrary (ap is_fourth e))
-expression_printed a x s (Second _) f e o v = absurd f.1
-expression_printed a x s (First w) f e o v = absurd (contrary (ap is_fourth e))
-expression_printed a x s _ f e o v = absurd f
+expression_printed a x s (Second (Second (Second (Second (Pair (Called n b) _))))) f e o = absurd f.1.1.1.1.1
+expression_printed a x s (Second (Second (Second (Second (Pair _ y))))) f e o = absurd f.1.1.1.1.0
+expression_printed a x s (Second (Second (Second (Second _)))) f e o = absurd f.1.1.1.1
+expression_printed a x s (Second (Second (Second (First w)))) f e o = absurd (contrary (ap is_fourth e))
+expression_printed a x s (Second (Second (Second _))) f e o = absurd f.1.1.1
+expression_printed a x s (Second (Second (First w))) f e o = absurd (contrary (ap is_fourth e))
+expression_printed a x s (Second (Second _)) f e o = absurd f.1.1
+expression_printed a x s (Second (First w)) f e o = absurd (contrary (ap is_fourth e))
+expression_printed a x s (Second _) f e o = absurd f.1
+expression_printed a x s (First w) f e o = absurd (contrary (ap is_fourth e))
+expression_printed a x s _ f e o = absurd f
 
 -- what was read
 record IsExpression (x : Tree) (r : List Token) : Type 0 where
@@ -220,7 +183,6 @@ record IsExpression (x : Tree) (r : List Token) : Type 0 where
   attributes : Derives front (table OuterAttributes) ((flat form ++ flat semicolon) ++ r)
   derived : Derives (Whole form) (table (Expression InStatement)) (flat semicolon ++ r)
   plain : is_plain_expression (normal_in InStatement (held_form (kept form))) ≡ true
-  takes : takes_front (Node OuterAttributes front) (held_form (kept form)) ≡ true
 
 form_read : (y : Tree) (ts : List Token) → Derives y (table (Expression InStatement)) ts
     → (x : Tree) × (y ≡ Whole x) × Derives (Whole x) (table (Expression InStatement)) ts
@@ -253,26 +215,12 @@ held_as : (l : Kind) (x y : Tree) → l ≡ Expression InStatement → y ≡ Who
 unfolding held
 held_as l x y e f = ap (λ j. kept (Node j y)) e ∙ ap (λ z. kept (Node (Expression InStatement) z)) f
 
--- its expression is plain, and takes what stands in front
-abbrev IsTaken : Tree → Tree → Type 0
-IsTaken a e = (is_plain_expression (normal_in InStatement e) ≡ true) × (takes_front a e ≡ true)
-
-taken_form : (k l : Kind) (a x y : Tree) → k ≡ OuterAttributes → l ≡ Expression InStatement → y ≡ Whole x
-    → (is_plain_expression (normal_in InStatement (kept (Node l y))) && takes_front (Node k a) (kept (Node l y)))
-    ≡ true → IsTaken (Node OuterAttributes a) (held_form (kept x))
-taken_form k l a x y e f g o =
-    subst (λ j. IsTaken (Node j a) (held_form (kept x))) e
-    (subst (IsTaken (Node k a)) (held_as l x y f g)
-    (both_true (is_plain_expression (normal_in InStatement (kept (Node l y))))
-    (takes_front (Node k a) (kept (Node l y))) o))
-
 is_read : (y : Tree) (r : List Token)
     → Derives y (the_attributes ∶ ref OuterAttributes ▸ the_expression ∶ ref (Expression InStatement)
     ▸ optional (marks ";") (the_semicolon ∶ sign ";")) r → is_expression_form y ≡ true
     → IsExpression (Second (Second (Second (Second y)))) r
 is_read (Pair (Called n (Node k a)) (Pair (Called m (Node l y)) s)) r d o =
     let w = form_read y (flat s ++ r) (subst (λ j. Derives y (table j) (flat s ++ r)) d.1.0.1.0 d.1.0.1.1) in
-    let h = taken_form k l a w.0 y d.0.1.0 d.1.0.1.0 w.1 o in
     record {
       front = a;
       form = w.0;
@@ -281,8 +229,7 @@ is_read (Pair (Called n (Node k a)) (Pair (Called m (Node l y)) s)) r d o =
       attributes = subst (λ z. Derives a (table OuterAttributes) ((flat z ++ flat s) ++ r)) w.1
           (subst (λ j. Derives a (table j) ((flat y ++ flat s) ++ r)) d.0.1.0 d.0.1.1);
       derived = w.2;
-      plain = h.0;
-      takes = h.1;
+      plain = ap (λ z. is_plain_expression (normal_in InStatement z)) (sym (held_as l w.0 y d.1.0.1.0 w.1)) ∙ o;
     }
 is_read (Pair (Called n (Node k a)) (Pair (Called m _) s)) r d o = absurd d.1.0.1
 is_read (Pair (Called n (Node k a)) (Pair _ s)) r d o = absurd d.1.0
@@ -315,7 +262,7 @@ fits_expression (Pair (Called n (Node k a)) (Pair (Called m (Node l y)) s)) f o 
       attributes = subst (λ j. Fits (Node j a) (ref OuterAttributes)) f.0.1.0 f.0.1;
       fits = w.2;
       ended = f.1.1;
-      plain = (taken_form k l a w.0 y f.0.1.0 f.1.0.1.0 w.1 o).0;
+      plain = ap (λ z. is_plain_expression (normal_in InStatement z)) (sym (held_as l w.0 y f.1.0.1.0 w.1)) ∙ o;
     }
 fits_expression (Pair (Called n (Node k a)) (Pair (Called m _) s)) f o = absurd f.1.0.1
 fits_expression (Pair (Called n (Node k a)) (Pair _ s)) f o = absurd f.1.0
@@ -324,61 +271,101 @@ fits_expression (Pair (Called n _) y) f o = absurd f.0.1
 fits_expression (Pair _ y) f o = absurd f.0
 fits_expression _ f o = absurd f
 
--- Attributes that stand in front of an expression which takes them stand there in its normal form: they are given to
--- it as it is in normal form, a range in parentheses.
+-- Attributes in front of an expression, no left operand of which is put in parentheses, stand in front in its normal
+-- form: they are given to it as it is in normal form, a range in parentheses.
 abbrev pub GivenLaw : Type 0
 GivenLaw =
     (t b x : Tree) (r : List Token) → Derives (Again t b) (table OuterAttributes) (flat x ++ r)
-    → Derives (Whole x) (table (Expression InStatement)) r → takes_attributes (held_form (kept x)) ≡ true
+    → Derives (Whole x) (table (Expression InStatement)) r → opens_given x ≡ false
     → formed InStatement [] (attributed (Pair (kept t) (Node OuterAttributes (kept b))) (kept x))
     ≡ attributed (Pair (normal (kept t)) (Node OuterAttributes (normal (kept b))))
     (enclosed (is_range (kept x)) (formed InStatement [] (kept x)))
 
+-- In front of one that has such an operand they stand inside its parentheses: it is printed with them.
+abbrev pub has_left_operand : Tree → Bool
+has_left_operand (Back l k y) = true
+has_left_operand (Infix l k y r) = true
+has_left_operand x = false
+
+pub record Taker (z : Tree) : Type 0 where
+  pub tree : Tree
+  pub fits : Fits (Whole tree) (table (Expression InStatement))
+  pub kept_is : kept tree ≡ formed InStatement [] z
+  pub begins : sees parenthesis (flat (kept tree)) ≡ true
+  pub has_left : has_left_operand (kept tree) ≡ true
+
+abbrev pub TakenLaw : Type 0
+TakenLaw =
+    (t b x : Tree) (r : List Token) → Derives (Again t b) (table OuterAttributes) (flat x ++ r)
+    → Derives (Whole x) (table (Expression InStatement)) r → opens_given x ≡ true
+    → (c f : Tree) → Fits c (table OuterAttributes) → kept c ≡ Again (normal (kept t)) (normal (kept b))
+    → Fits (Whole f) (table (Expression InStatement)) → kept f ≡ formed InStatement [] (kept x)
+    → Taker (attributed (Pair (kept t) (Node OuterAttributes (kept b))) (kept x))
+
+abbrev opens_in : Tree → Tree → Bool
+opens_in (Again t b) x = opens_given x
+opens_in _ x = false
+
+again_normal : (t b : Tree) (r : List Token) → Derives (Again t b) (table OuterAttributes) r
+    → normal (kept (Again t b)) ≡ Again (normal (kept t)) (normal (kept b))
+unfolding table
+again_normal t b r d =
+    ap (λ z. Again z (normal (kept b)))
+    (unmoved_if (is_enclosed (kept b) (normal (kept b))) (normal (kept t)) (attribute_apart t _ d.1))
+
 given_formed : GivenLaw → (a x s : Tree) (r : List Token) → Derives a (table OuterAttributes) ((flat x ++ flat s) ++ r)
-    → Derives (Whole x) (table (Expression InStatement)) (flat s ++ r)
-    → takes_front (Node OuterAttributes a) (held_form (kept x)) ≡ true
+    → Derives (Whole x) (table (Expression InStatement)) (flat s ++ r) → opens_in a x ≡ false
     → given_to (normal (kept a)) (enclosed (is_ranged (kept a) (kept x)) (formed InStatement [] (kept x)))
     ≡ formed InStatement [] (given_to (kept a) (kept x))
 unfolding table
 given_formed g End x s r d e o = refl
 given_formed g (Again t b) x s r d e o =
-    ap (λ z. attributed (Pair z (Node OuterAttributes (normal (kept b))))
-    (enclosed (is_range (kept x)) (formed InStatement [] (kept x))))
-    (unmoved_if (is_enclosed (kept b) (normal (kept b))) (normal (kept t)) (attribute_apart t _ d.1))
+    ap (λ z. given_to z (enclosed (is_range (kept x)) (formed InStatement [] (kept x)))) (again_normal t b _ d)
     ∙ sym (g t b x (flat s ++ r)
     (subst (Derives (Again t b) (table OuterAttributes)) (append_assoc (flat x) (flat s) r) d) e o)
 given_formed g _ x s r d e o = absurd d
 
+taken_formed : TakenLaw → (a x s : Tree) (r : List Token) → Derives a (table OuterAttributes) ((flat x ++ flat s) ++ r)
+    → Derives (Whole x) (table (Expression InStatement)) (flat s ++ r) → opens_in a x ≡ true
+    → (c f : Tree) → Fits c (table OuterAttributes) → kept c ≡ normal (kept a)
+    → Fits (Whole f) (table (Expression InStatement)) → kept f ≡ formed InStatement [] (kept x)
+    → Taker (given_to (kept a) (kept x))
+taken_formed g (Again t b) x s r d e o c f h i j k =
+    g t b x (flat s ++ r)
+    (subst (Derives (Again t b) (table OuterAttributes)) (append_assoc (flat x) (flat s) r) d) e o c f h
+    (i ∙ again_normal t b _ d) j k
+taken_formed g _ x s r d e o c f h i j k = absurd (contrary o)
+
 -- what is printed for one: a form stands in it for the expression
 record Stands (a x s : Tree) : Type 0 where
   tree : Tree
+  before : Tree
   form : Tree
   fits : Fits tree statement
-  kept_is : kept tree ≡ in_front (normal a) (held_form form) (normal s)
-  macro : SameMacro x form
-  gives : given_to (normal a) form ≡ formed InStatement [] (given_to a x)
+  kept_is : kept tree ≡ in_front before (held_form form) (normal s)
+  attributes : is_attributes before ≡ true
+  held_is : held_in_front before form (normal s) ≡ normal (held_in_front a x s)
   meant : is_statement_form tree ≡ true
 
-stands_held : (a x s : Tree) (h : Stands a x s) → is_attributes a ≡ true
-    → as_statement (kept h.tree) ≡ held_in_front (normal a) h.form (normal s)
-stands_held a x s h e = ap as_statement h.kept_is ∙ is_held (normal a) h.form (normal s) (attributes_normal a e)
+stands_held : (a x s : Tree) (h : Stands a x s)
+    → as_statement (kept h.tree) ≡ held_in_front h.before h.form (normal s)
+stands_held a x s h = ap as_statement h.kept_is ∙ is_held h.before h.form (normal s) h.attributes
 
 stands_printed : (q : Position) (a x s : Tree) → Stands a x s → is_attributes a ≡ true
     → Printed (ref AStatement) (normal_in q (Node AStatement (as_statement (in_front a (held_form x) s))))
 unfolding passed has_step has_form_step table held
 stands_printed q a x s h e =
-    let v = stands_held a x s h e in
+    let v = stands_held a x s h in
     record {
       tree = Node AStatement h.tree;
       fits = (
         refl,
         refl,
-        ap flat v ∙ held_flat (normal a) h.form (normal s) (attributes_normal a e) ∙ sym (ap flat h.kept_is),
+        ap flat v ∙ held_flat h.before h.form (normal s) h.attributes ∙ sym (ap flat h.kept_is),
         h.fits,
         h.meant,
       );
-      kept_is = ap (Node AStatement)
-          (v ∙ commutes a x h.form s h.macro h.gives ∙ ap normal (sym (is_held a x s e)));
+      kept_is = ap (Node AStatement) (v ∙ h.held_is ∙ ap normal (sym (is_held a x s e)));
     }
 
 -- a range in parentheses
@@ -419,7 +406,7 @@ parens_fit x f e = (
 parens_meant : (a x s : Tree)
     → is_statement_form (in_front a (Node (Expression InStatement) (Whole (in_parens x))) s) ≡ true
 unfolding held passed stands_behind may_lack
-parens_meant a x s = or_back (is_bare_front (Node OuterAttributes a)) true refl
+parens_meant a x s = refl
 
 abbrev attributes_of : Tree → Tree
 attributes_of (Second (Second (Second (Second (Pair (Called n (Node k a)) y))))) = a
@@ -441,12 +428,12 @@ in_parens_fits : (a x s : Tree) → Fits (in_front a (Node (Expression InStateme
 in_parens_fits a x s f g =
     (f.0, (f.1.0, (f.1.1.0, (f.1.1.1.0, (f.1.1.1.1.0, ((f.1.1.1.1.1.0.0, g), f.1.1.1.1.1.1))))))
 
-range_stands : (a x s w : Tree) → is_ranged a x ≡ true
+range_stands : (a x s w : Tree) → is_attributes a ≡ true → is_ranged a x ≡ true
     → given_to (normal a) (in_parens (formed InStatement [] x)) ≡ formed InStatement [] (given_to a x)
     → Fits w statement → kept w ≡ in_front (normal a) (held_form (formed InStatement [] x)) (normal s)
     → is_statement_form w ≡ true → Stands a x s
 unfolding held
-range_stands a x s w e g f i n =
+range_stands a x s w v e g f i n =
     let p = fourth_fits w f (ap is_fourth i) n in
     let h : in_front (kept p.front) (held_form (kept p.form)) (kept p.semicolon)
     ≡ in_front (normal a) (held_form (formed InStatement [] x)) (normal s) = sym (ap kept p.is) ∙ i in
@@ -454,49 +441,143 @@ range_stands a x s w e g f i n =
     let u = parens_fit p.form p.fits (ap (formed Plain []) o ∙ settled_inside a x e g ∙ sym o) in
     record {
       tree = in_front p.front (Node (Expression InStatement) (Whole (in_parens p.form))) p.semicolon;
+      before = normal a;
       form = in_parens (formed InStatement [] x);
       fits = in_parens_fits p.front p.form p.semicolon (subst (λ z. Fits z statement) p.is f) u;
       kept_is = parts_same (kept p.front) (normal a) (kept p.form) (formed InStatement [] x) (kept p.semicolon)
           (normal s) (ap attributes_of h) o (ap semicolon_of h);
-      macro = range_macro a x (formed InStatement [] x) e;
-      gives = g;
+      attributes = attributes_normal a v;
+      held_is = commutes a x (in_parens (formed InStatement [] x)) s (range_macro a x (formed InStatement [] x) e) g;
       meant = parens_meant p.front p.form p.semicolon;
     }
 
-stands : (a x s w : Tree)
+stands : (a x s w : Tree) → is_attributes a ≡ true
     → given_to (normal a) (enclosed (is_ranged a x) (formed InStatement [] x)) ≡ formed InStatement [] (given_to a x)
     → Fits w statement → kept w ≡ in_front (normal a) (held_form (formed InStatement [] x)) (normal s)
     → is_statement_form w ≡ true → Stands a x s
-stands a x s w g f i n = go (is_ranged a x) refl g
+stands a x s w v g f i n = go (is_ranged a x) refl g
   where
     go : (b : Bool) → is_ranged a x ≡ b
         → given_to (normal a) (enclosed b (formed InStatement [] x)) ≡ formed InStatement [] (given_to a x)
         → Stands a x s
-    go true e g = range_stands a x s w e g f i n
+    go true e g = range_stands a x s w v e g f i n
     go false e g = record {
       tree = w;
+      before = normal a;
       form = formed InStatement [] x;
       fits = f;
       kept_is = i;
-      macro = same_macro x;
-      gives = g;
+      attributes = attributes_normal a v;
+      held_is = commutes a x (formed InStatement [] x) s (same_macro x) g;
       meant = n;
     }
 
-expression_law : GivenLaw → (q : Position) (x : Tree) (r : List Token) → IsExpression x r → Law q r x
+-- with its attributes in parentheses
+left_macro : (x : Tree) → has_left_operand x ≡ true → is_macro x ≡ false
+left_macro (Back l k y) e = refl
+left_macro (Infix l k y r) e = refl
+left_macro _ e = absurd (contrary e)
+
+left_brace : (x : Tree) → has_left_operand x ≡ true → is_brace_macro x ≡ false
+left_brace (Back l k y) e = refl
+left_brace (Infix l k y r) e = refl
+left_brace _ e = absurd (contrary e)
+
+opened_macro : (a x : Tree) → opens_in a x ≡ true → is_macro (kept x) ≡ false
+opened_macro (Again t b) (Back l ExprCast y) e = refl
+opened_macro (Again t b) (Infix l k y r) e = refl
+opened_macro (Again t b) _ e = absurd (contrary e)
+opened_macro _ x e = absurd (contrary e)
+
+paren_start : (ts : List Token) → sees parenthesis ts ≡ true → is_plain_start ts ≡ true
+paren_start (Opens d ∷ ts) e = refl
+paren_start _ e = absurd (contrary e)
+
+taker_meant : (x s : Tree) → Fits (Whole x) (table (Expression InStatement)) → sees parenthesis (flat (kept x)) ≡ true
+    → has_left_operand (kept x) ≡ true
+    → is_statement_form (in_front End (Node (Expression InStatement) (Whole x)) s) ≡ true
+unfolding held passed table stands_behind
+taker_meant x s f e h =
+    ap (λ z. is_plain_start (flat z) && not (is_brace_macro z)) f.1
+    ∙ ap (λ b. b && not (is_brace_macro (kept x))) (paren_start (flat (kept x)) e)
+    ∙ ap not (left_brace (kept x) h)
+
+taken_fits : (a x z s : Tree) → Fits (in_front a (Node (Expression InStatement) (Whole x)) s) statement
+    → Fits (Whole z) (table (Expression InStatement))
+    → Fits (in_front End (Node (Expression InStatement) (Whole z)) s) statement
+unfolding held table has_step has_form_step
+taken_fits a x z s f g = (
+  f.0,
+  (
+    f.1.0,
+    (
+      f.1.1.0,
+      (
+        f.1.1.1.0,
+        (
+          (refl, (refl, refl, refl, tt, tt)),
+          ((f.1.1.1.1.1.0.0, (refl, refl, refl, g, tt)), f.1.1.1.1.1.1),
+        ),
+      ),
+    ),
+  ),
+)
+
+no_macros : (a x v s : Tree) → is_macro x ≡ false → is_macro v ≡ false → v ≡ formed InStatement [] (given_to a x)
+    → held_in_front End v (normal s) ≡ normal (held_in_front a x s)
+unfolding place_of passed stands_behind
+no_macros a x v s e f g =
+    ap (λ b. cond (b && is_there (normal s)) (held_macro End (own_part v) (normal s))
+    (at_expression (held_form v) (normal s))) f
+    ∙ ap (λ z. at_expression (held_form z) (normal s)) g
+    ∙ ap (λ b. normal (cond (b && is_there s) (held_macro a (own_part x) s)
+    (at_expression (held_form (given_to a x)) s))) (sym e)
+
+taker_stands : (a x s w : Tree) → Fits w statement
+    → kept w ≡ in_front (normal a) (held_form (formed InStatement [] x)) (normal s) → is_statement_form w ≡ true
+    → is_macro x ≡ false
+    → ((c f : Tree) → Fits c (table OuterAttributes) → kept c ≡ normal a
+    → Fits (Whole f) (table (Expression InStatement)) → kept f ≡ formed InStatement [] x → Taker (given_to a x))
+    → Stands a x s
+unfolding held
+taker_stands a x s w f i n m g =
+    let p = fourth_fits w f (ap is_fourth i) n in
+    let h : in_front (kept p.front) (held_form (kept p.form)) (kept p.semicolon)
+    ≡ in_front (normal a) (held_form (formed InStatement [] x)) (normal s) = sym (ap kept p.is) ∙ i in
+    let u =
+    g p.front p.form p.attributes.3 (ap attributes_of h) p.fits (ap (λ z. form_of (expression_of z)) h) in
+    record {
+      tree = in_front End (Node (Expression InStatement) (Whole u.tree)) p.semicolon;
+      before = End;
+      form = kept u.tree;
+      fits = taken_fits p.front p.form u.tree p.semicolon (subst (λ z. Fits z statement) p.is f) u.fits;
+      kept_is = ap (in_front End (held_form (kept u.tree))) (ap semicolon_of h);
+      attributes = refl;
+      held_is = no_macros a x (kept u.tree) s m (left_macro (kept u.tree) u.has_left) u.kept_is;
+      meant = taker_meant u.tree p.semicolon u.fits u.begins u.has_left;
+    }
+
+expression_law : GivenLaw → TakenLaw → (q : Position) (x : Tree) (r : List Token) → IsExpression x r → Law q r x
 unfolding held passed has_step has_form_step place_of stands_behind table
-expression_law g q x r h =
+expression_law given taken q x r h =
     subst (Law q r) (sym h.is)
     (λ o d i.
-    let a : Tree = kept h.front in
-    let f : Tree = kept h.form in
-    let s : Tree = kept h.semicolon in
-    let b : is_attributes h.front ≡ true = attributes_read h.front _ h.attributes in
     let n : is_statement_form i.tree ≡ true =
-    expression_printed a f s i.tree i.fits i.kept_is h.plain (takes_kept h.front (held_form f) b h.takes) in
-    let v = given_formed g h.front h.form h.semicolon r h.attributes h.derived h.takes in
-    stands_printed q a f s (stands a f s i.tree v i.fits i.kept_is n)
-    (attributes_kept h.front b))
+    expression_printed (kept h.front) (kept h.form) (kept h.semicolon) i.tree i.fits i.kept_is h.plain in
+    let b = attributes_kept h.front (attributes_read h.front _ h.attributes) in
+    stands_printed q (kept h.front) (kept h.form) (kept h.semicolon)
+    (go i.tree i.fits i.kept_is n b (opens_in h.front h.form) refl) b)
+  where
+    go : (w : Tree) → Fits w statement
+        → kept w ≡ in_front (normal (kept h.front)) (held_form (formed InStatement [] (kept h.form)))
+        (normal (kept h.semicolon)) → is_statement_form w ≡ true → is_attributes (kept h.front) ≡ true
+        → (b : Bool) → opens_in h.front h.form ≡ b → Stands (kept h.front) (kept h.form) (kept h.semicolon)
+    go w f i n v false e =
+        stands (kept h.front) (kept h.form) (kept h.semicolon) w v
+        (given_formed given h.front h.form h.semicolon r h.attributes h.derived e) f i n
+    go w f i n v true e =
+        taker_stands (kept h.front) (kept h.form) (kept h.semicolon) w f i n (opened_macro h.front h.form e)
+        (taken_formed taken h.front h.form h.semicolon r h.attributes h.derived e)
 
 -- a macro
 abbrev macro_part : Tree → Tree
@@ -520,9 +601,9 @@ macro_printed (Pair a (Pair m s)) _ f e n = absurd f
 macro_printed (Pair a _) w f e n = absurd (contrary n)
 macro_printed _ w f e n = absurd (contrary n)
 
-pub law_a_statement : GivenLaw → KindLaw AStatement
+pub law_a_statement : GivenLaw → TakenLaw → KindLaw AStatement
 unfolding has_step has_form_step held passed place_of table
-law_a_statement given = record { entry = λ q l. simple_law Plain statement refl; node = go }
+law_a_statement given taken = record { entry = λ q l. simple_law Plain statement refl; node = go }
   where
     go : (q : Position) → IsPlaced q AStatement → (x : Tree) (r : List Token) → is_statement_form x ≡ true
         → Derives x (table AStatement) r → Printed (table AStatement) (normal_in (passed AStatement q) (kept x))
@@ -540,7 +621,7 @@ law_a_statement given = record { entry = λ q l. simple_law Plain statement refl
         (item_law q x r (subst (λ j. Derives x (table j) r) d.1.1.1.1.0 d.1.1.1.1.1)) o d i
     go q l (Second (Second (Second (First _)))) r o d i = cc o
     go q l (Second (Second (Second (Second x)))) r o d i =
-        expression_law given q (Second (Second (Second (Second x)))) r (is_read x r d.1.1.1.1 o) o d i
+        expression_law given taken q (Second (Second (Second (Second x)))) r (is_read x r d.1.1.1.1 o) o d i
     go q l (Second (Second (Second _))) r o d i = absurd d.1.1.1
     go q l (Second (Second _)) r o d i = absurd d.1.1
     go q l (Second (First x)) r o d i =

@@ -39,7 +39,6 @@ use Rattle.syn_grammar.specs.Normal.{normal, normal_in}
 use Rattle.syn_grammar.specs.Forms.{is_brace_macro}
 use Rattle.syn_grammar.specs.Parens.{is_attributed_range}
 use Rattle.proc_macro2.specs.Token.{Ident}
-use Rattle.syn_grammar.specs.Tree.{End}
 use Rattle.syn_grammar.specs.Kind.{InStatement}
 use Rattle.std.specs.Bool.{◌==◌}
 use Rattle.syn_grammar.specs.Name.{the_const, the_default}
@@ -435,25 +434,8 @@ abbrev pub is_plain_expression : Tree → Bool
 is_plain_expression (Node k (Whole x)) = is_plain_start (flat x) && not (is_brace_macro x)
 is_plain_expression _ = false
 
--- Nothing stands in front; or what is held of the expression takes the attributes that do, as no range among its
--- operands has attributes of its own.
-abbrev pub is_bare_front : Tree → Bool
-is_bare_front (Node k End) = true
-is_bare_front _ = false
-
-abbrev pub has_plain_ranges : Tree → Bool
-has_plain_ranges (Front k y x) = not (is_attributed_range k x) && has_plain_ranges x
-has_plain_ranges (Back l k y) = has_plain_ranges l
-has_plain_ranges (Infix l k y r) = has_plain_ranges l && has_plain_ranges r
-has_plain_ranges _ = true
-
-abbrev pub takes_attributes : Tree → Bool
-takes_attributes (Node k (Whole x)) = has_plain_ranges x
-takes_attributes _ = false
-
 abbrev pub is_expression_form : Tree → Bool
-is_expression_form (Pair (Called n a) (Pair (Called m e) s)) =
-    is_plain_expression (normal_in InStatement (kept e)) && (is_bare_front a || takes_attributes (kept e))
+is_expression_form (Pair (Called n a) (Pair (Called m e) s)) = is_plain_expression (normal_in InStatement (kept e))
 is_expression_form _ = false
 
 -- A macro that is a statement has its tokens in braces, as it has wherever such a statement was read.

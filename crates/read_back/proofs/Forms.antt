@@ -28,6 +28,7 @@ use Rattle.grammar_back.proofs.Readies.{Ready, Step}
 use Rattle.read_back.proofs.Else.{read_before_else}
 use Rattle.read_back.proofs.Ended.{read_ended}
 use Rattle.read_back.proofs.Follow.{may_follow}
+use Rattle.read_back.proofs.Enclosed.{taken}
 use Rattle.read_back.proofs.Given.{given}
 use Rattle.read_back.proofs.Held.{stays}
 use Rattle.read_back.proofs.Owned.{read_whole}
@@ -142,7 +143,7 @@ form_steps k e = steps k (stepped k e)
 form_laws : (k : Kind) → has_form_step k ≡ true → KindLaw k
 unfolding has_step has_form_step
 form_laws (Expression p) e = law p e
-form_laws AStatement e = law_a_statement given
+form_laws AStatement e = law_a_statement given taken
 form_laws k e = laws k (stepped k e)
 
 pub expressions : Expressions

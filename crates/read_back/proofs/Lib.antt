@@ -23,9 +23,9 @@ pub mod Else
 pub mod NamedMacros
 pub mod Statements
 pub mod Given
+pub mod Enclosed
 pub mod Forms
 pub mod ToldClosures
-pub mod ToldRanges
 pub mod LonePatterns
 pub mod ToldPatterns
 pub mod Judged

@@ -1,45 +1,38 @@
 -- What is asked of a tree that was read is all that the steps go by: the tests of its entries saw the rest.
-use Rattle.std.proofs.Common.{◌≡◌, ℕ, zero, suc, List, [], ◌∷◌, ◌++◌, length, refl, sym, ap, ◌∙◌, subst, append_assoc}
+use Rattle.std.proofs.Common.{◌≡◌, List, [], ◌∷◌, ◌++◌, refl, sym, ap, ◌∙◌, subst, append_assoc}
 use Rattle.std.proofs.Common.{inl, inr}
-use Rattle.std.specs.Prelude.{Bool, true, false, ◌⊎◌, ◌&&◌, ◌||◌, not, cond, Some, None}
-use Rattle.proc_macro2.specs.Token.{Token, Ident, Opens, Punct}
+use Rattle.std.specs.Prelude.{Bool, true, false, ◌⊎◌, ◌&&◌, ◌||◌, not, Some}
+use Rattle.proc_macro2.specs.Token.{Token, Opens}
 use Rattle.proc_macro2.specs.declared.delimiter.Delimiter.{Delimiter}
 use Rattle.proc_macro2.specs.declared.delimiter.Delimiter.TheVariants.{Brace, Bracket, Parenthesis}
-use Rattle.rust_leaf.specs.declared.punct.Spacing.{Spacing}
-use Rattle.rust_leaf.specs.declared.punct.Spacing.TheVariants.{Alone as Apart, Joint}
 use Rattle.syn_grammar.specs.Kind.{Kind, Position, AConst, AMacro, AnImpl, AStatement, Delimited, ExprClosure}
-use Rattle.syn_grammar.specs.Kind.{ExprMacro, ExprTypedClosure, InModule, InStatement, OnePattern, Path, Segments}
-use Rattle.syn_grammar.specs.Words.{is_name}
+use Rattle.syn_grammar.specs.Kind.{ExprMacro, ExprTypedClosure, OnePattern}
 use Rattle.syn_grammar.specs.Tree.{Tree, AWord, ALiteral, AMark, ALifetime, Raw, Nil, Pair, First, Second, End, Again}
 use Rattle.syn_grammar.specs.Tree.{Final, More, Group, Dropped, Called, Verbatim, Node, Whole, Alone, Front, Back}
 use Rattle.syn_grammar.specs.Tree.{Infix, marks as signs, flat}
 use Rattle.syn_grammar.specs.Gram.{Gram, seq, alt, star, many, group, judged, dropped, called, ref, operand}
-use Rattle.syn_grammar.specs.Look.{Look, ◌then◌, ◌or◌, a_group, a_path, no, seen, sees, behind}
-use Rattle.syn_grammar.specs.Look.{first_seen, as_far, repeatedly}
+use Rattle.syn_grammar.specs.Look.{Look, ◌then◌, ◌or◌, a_group, no, sees}
 use Rattle.syn_grammar.specs.Say.{marks}
 use Rattle.syn_grammar.specs.Table.{table}
 use Rattle.syn_grammar.specs.Derives.{Derives, Bound}
 use Rattle.syn_grammar.specs.Forms.{front, inside, is_brace_macro}
 use Rattle.syn_grammar.specs.Kept.{kept}
-use Rattle.syn_grammar.specs.Normal.{normal, normal_in}
+use Rattle.syn_grammar.specs.Normal.{normal}
 use Rattle.syn_grammar.specs.Parens.{is_attributed_range}
 use Rattle.syn_grammar.specs.Statements.{macro_statement_stands}
 use Rattle.expressions_back.proofs.Bools.{never}
-use Rattle.grammar_back.specs.Covered.{all_covered, is_bare_front, is_form, is_known}
-use Rattle.grammar_back.specs.Covered.{is_plain_expression, is_plain_part, is_statement_form, is_taken, stands_alone}
-use Rattle.grammar_back.specs.Covered.{takes_attributes}
+use Rattle.grammar_back.specs.Covered.{all_covered, is_form, is_known}
+use Rattle.grammar_back.specs.Covered.{is_plain_part, is_statement_form, is_taken, stands_alone}
 use Rattle.grammar_back.proofs.Choices.{both_same, both_true}
 use Rattle.grammar_back.proofs.Passed.{behind_attributes}
 use Rattle.grammar_back.proofs.ReadBack.{is_whole}
 use Rattle.read_back.specs.Asked.{all_asked, ends_alone, ends_in_pattern, is_asked, is_asked_alone}
 use Rattle.read_back.specs.Asked.{is_asked_form, is_covered, is_no_lone, no_lone}
 use Rattle.read_back.proofs.Judged.{are_settled, settled_inside}
-use Rattle.read_back.proofs.Paths.{one_more, is_named}
 use Rattle.read_back.proofs.ToldItems.{named_told, raw_told}
 use Rattle.read_back.proofs.ToldPaths.{call_behind}
 use Rattle.read_back.proofs.ToldClosures.{closure_told, typed_closure_told}
 use Rattle.read_back.proofs.ToldPatterns.{whole_patterns}
-use Rattle.read_back.proofs.ToldRanges.{takes_told}
 
 -- braces
 abbrev dotless : Look
@@ -84,45 +77,35 @@ macro_told (Node k x) q d e =
     (macro_in x q (subst (λ l. Derives x (table l) q) d.0 d.1) e)
 macro_told _ q d e = absurd d
 
-or_behind : (a b : Bool) → b ≡ true → (a || b) ≡ true
-or_behind true b e = refl
-or_behind false b e = e
-
--- what is held of an expression takes the attributes in front of its statement
-form_told : (x : Tree) (r : List Token) → Derives x (table AStatement) r → all_covered x ≡ true
-    → is_asked_form x ≡ true → is_statement_form x ≡ true
+form_told : (x : Tree) (r : List Token) → Derives x (table AStatement) r → is_asked_form x ≡ true
+    → is_statement_form x ≡ true
 unfolding table
-form_told (Second (First (Pair a (Pair m s)))) r d v c =
+form_told (Second (First (Pair a (Pair m s)))) r d c =
     macro_told m (flat s ++ r) d.1.1.1.0
     (sym (ap (sees macro_statement_stands) (append_assoc (flat m) (flat s) r))
     ∙ sym (behind_attributes a (Pair m s) macro_statement_stands r _ d.1.1.0 refl) ∙ d.1.0)
-form_told (Second (First (Pair a _))) r d v c = absurd d.1.1.1
-form_told (Second (First _)) r d v c = absurd d.1.1
-form_told (Second (Second (Second (Second (Pair (Called n a) (Pair (Called m e) s)))))) r d v c =
-    let h = both_true (all_covered a) (all_covered e && all_covered s) v in
-    both_same (is_plain_expression (normal_in InStatement (kept e))) (is_bare_front a || takes_attributes (kept e)) true
-    true c
-    (or_behind (is_bare_front a) (takes_attributes (kept e))
-    (takes_told e (flat s ++ r) d.1.1.1.1.1.0.1 (both_true (all_covered e) (all_covered s) h.1).0))
-form_told (Second (Second (Second (Second (Pair (Called n a) _))))) r d v c = absurd (never c)
-form_told (Second (Second (Second (Second (Pair _ y))))) r d v c = absurd d.1.1.1.1.0
-form_told (Second (Second (Second (Second _)))) r d v c = absurd (never c)
-form_told (Second (Second (Second (First (Node k (Verbatim x)))))) r d v c =
+form_told (Second (First (Pair a _))) r d c = absurd d.1.1.1
+form_told (Second (First _)) r d c = absurd d.1.1
+form_told (Second (Second (Second (Second (Pair (Called n a) (Pair (Called m e) s)))))) r d c = c
+form_told (Second (Second (Second (Second (Pair (Called n a) _))))) r d c = absurd (never c)
+form_told (Second (Second (Second (Second (Pair _ y))))) r d c = absurd d.1.1.1.1.0
+form_told (Second (Second (Second (Second _)))) r d c = absurd (never c)
+form_told (Second (Second (Second (First (Node k (Verbatim x)))))) r d c =
     raw_told k x r d.1.1.1.1 d.1.1.1.0
-form_told (Second (Second (Second x))) r d v c = c
-form_told (Second (Second x)) r d v c = c
-form_told (Second x) r d v c = c
-form_told (First x) r d v c = named_told x r d.1 d.0
-form_told x r d v c = c
+form_told (Second (Second (Second x))) r d c = c
+form_told (Second (Second x)) r d c = c
+form_told (Second x) r d c = c
+form_told (First x) r d c = named_told x r d.1 d.0
+form_told x r d c = c
 
 -- of a kind's tree, and of a form's own part
 node_told : (k : Kind) (x : Tree) (r : List Token) → Derives x (table k) r → are_settled (Node k x) ≡ true
-    → is_no_lone k x ≡ true → all_covered x ≡ true → is_asked k x ≡ true → is_taken k x ≡ true
-node_told AConst x r d s n v c = s
-node_told AnImpl x r d s n v c = s
-node_told OnePattern x r d s n v c = n
-node_told AStatement x r d s n v c = form_told x r d v c
-node_told _ x r d s n v c = c
+    → is_no_lone k x ≡ true → is_asked k x ≡ true → is_taken k x ≡ true
+node_told AConst x r d s n c = s
+node_told AnImpl x r d s n c = s
+node_told OnePattern x r d s n c = n
+node_told AStatement x r d s n c = form_told x r d c
+node_told _ x r d s n c = c
 
 part_told : (k : Kind) (p : Position) (y : Tree) (r : List Token) → front p (flat y ++ r) ≡ Some k
     → Derives y (table k) r → is_plain_part k (normal (kept y)) ≡ true
@@ -166,7 +149,7 @@ mutual
       let i = both_true (is_asked k x) (all_asked x) h.1 in
       let v : all_covered x ≡ true = told x (table k) r d.1 (settled_inside k x r d.1) m.1 i.1 in
       and_both (is_known k) (is_taken k x && all_covered x) h.0
-      (and_both (is_taken k x) (all_covered x) (node_told k x r d.1 s m.0 v i.0) v)
+      (and_both (is_taken k x) (all_covered x) (node_told k x r d.1 s m.0 i.0) v)
   told (Whole x) (operand p l) r d s n c = form_parts x p r d.1 n c
   told (AWord cs) g r d s n c = refl
   told (ALiteral cs) g r d s n c = refl

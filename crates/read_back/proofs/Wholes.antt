@@ -178,7 +178,7 @@ remade (Back l k y) o = dotted (parens_if (goes_in k l) (remade l o.0)) k o.1.tr
 remade (Infix l k y r) o = Infix (parens_if (goes_in k l) (remade l o.0)) k o.1.tree (remade r o.2)
 remade x o = x
 
-parens_kept : (b : Bool) (z : Tree) → kept (parens_if b z) ≡ parens_if b (kept z)
+pub parens_kept : (b : Bool) (z : Tree) → kept (parens_if b z) ≡ parens_if b (kept z)
 unfolding held
 parens_kept true z = refl
 parens_kept false z = refl
@@ -319,7 +319,7 @@ abbrev pub others : List Case → List Case
 others [] = []
 others (c ∷ cs) = cs
 
-hash_first : (p : Position) (ts : List Token) → front p ts ≡ Some ExprAttributed → sees (marks "#") ts ≡ true
+pub hash_first : (p : Position) (ts : List Token) → front p ts ≡ Some ExprAttributed → sees (marks "#") ts ≡ true
 unfolding front
 hash_first p ts e = go (sees (marks "#") ts) refl
   where
@@ -329,7 +329,7 @@ hash_first p ts e = go (sees (marks "#") ts) refl
         absurd (never (first_passes (λ k. not (is_attributed k)) (others (fronts p)) ts ExprAttributed refl
         (sym (ap (λ b. cond b (Some ExprAttributed) (first_form (others (fronts p)) ts)) f) ∙ e)))
 
-none_more : (z : Tree) (t : List Token → Bool) (g : Gram) (r : List Token) → Derives z (star t g) r → t r ≡ false
+pub none_more : (z : Tree) (t : List Token → Bool) (g : Gram) (r : List Token) → Derives z (star t g) r → t r ≡ false
 none_more End t g r d = d
 none_more (Again x y) t g r d = none_more y t g r d.2
 none_more _ t g r d = absurd d
@@ -424,7 +424,7 @@ owns (Infix l k y x) p r d c o =
 owns _ p r d c o = tt
 
 -- its operands are there;
-parens_operands : (b : Bool) (z : Tree) → HasOperandsOf has_part z → HasOperandsOf has_part (parens_if b z)
+pub parens_operands : (b : Bool) (z : Tree) → HasOperandsOf has_part z → HasOperandsOf has_part (parens_if b z)
 unfolding has_form_step front has_right level
 parens_operands true z o = ((refl, Plain, Opens Parenthesis ∷ [], refl), refl, refl)
 parens_operands false z o = o
@@ -472,7 +472,7 @@ remade_operands (Infix l k y x) o p r d c =
 remade_operands _ o p r d c = absurd d
 
 -- and it fits: what is put in parentheses is in normal form there, as the whole is settled.
-parens_fit : (b : Bool) (z : Tree) (q : Position) (ts : List Token) → Settled q ts (kept (parens_if b z))
+pub parens_fit : (b : Bool) (z : Tree) (q : Position) (ts : List Token) → Settled q ts (kept (parens_if b z))
     → ((i : Position) (us : List Token) → Settled i us (kept z) → FitsForms z) → HasOperandsOf has_part z
     → FitsForms (parens_if b z)
 unfolding held passed table has_step has_form_step
@@ -542,7 +542,7 @@ gains : (p : Position) (x : Tree) (r : List Token) → (p ≡ InCondition → se
 unfolding table
 gains p x r e d = gains_shells p x r (refl, d) e
 
-formed_twice : (p : Position) (x : Tree) → formed p (stands_behind p) (formed p (stands_behind p) x)
+pub formed_twice : (p : Position) (x : Tree) → formed p (stands_behind p) (formed p (stands_behind p) x)
     ≡ formed p (stands_behind p) x
 formed_twice p x = ap inside_whole (normal_twice p (Whole x))
 
