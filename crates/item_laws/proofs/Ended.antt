@@ -14,6 +14,7 @@ use Rattle.syn_grammar.specs.Gram.{Gram, mark, never, seq, alt, group, judged, c
 use Rattle.syn_grammar.specs.Items.{trait_form}
 use Rattle.syn_grammar.specs.Lists.{item_form}
 use Rattle.syn_grammar.specs.Table.{table}
+use Rattle.item_laws.proofs.Apart.{SaysSame, alias_same, polarity_same, trait_same, verdict_same}
 use Rattle.item_laws.proofs.Alike.{IsSteady, blind_sure, sure_then}
 use Rattle.item_laws.proofs.Alike.{sure_maybe, sure_no, steady_sees, sure_word}
 use Rattle.item_laws.proofs.Alike.{blind_sign}
@@ -50,14 +51,14 @@ is_ended ATraitItem = true
 is_ended AnImplItem = true
 is_ended _ = false
 
--- the parts in front see nothing behind it
+-- the parts in front see nothing behind it, and no verdict sees how the stop is spaced
 abbrev pub Ended : Gram → Type 0
 Ended (mark c cs) = (c ≡ 59) × (cs ≡ [])
 Ended never = Unit {0}
 Ended (seq g h) = Steady g × Ended h
 Ended (alt t g h) = IsSteady t × Ended g × Ended h
 Ended (group d g) = d ≡ Brace
-Ended (judged v g) = Ended g
+Ended (judged v g) = SaysSame v × Ended g
 Ended (called n g) = Ended g
 Ended (ref k) = is_ended k ≡ true
 Ended _ = ⊥
@@ -215,26 +216,29 @@ ended_table AUse e =
 ended_table AModule e =
     ((by_text "unsafe", tt, tt), (tt, ((by_text "try", tt, tt), (steady_sees (blind_sign 59), (refl, refl), refl))))
 ended_table ATrait e =
-    ended_trait
+    (trait_same, ended_trait)
 ended_table AConstTrait e =
     (tt, refl)
 ended_table ARestrictedTrait e =
-    (tt, (steady_restriction, ((by_text "const", tt, tt), ended_trait)))
+    (tt, (steady_restriction, ((by_text "const", tt, tt), (alias_same, ended_trait))))
 ended_table AnImpl e = (
-  (by_text "default", tt, tt),
+  polarity_same,
   (
-    (by_text "const", tt, tt),
+    (by_text "default", tt, tt),
     (
-      (by_text "unsafe", tt, tt),
+      (by_text "const", tt, tt),
       (
-        tt,
+        (by_text "unsafe", tt, tt),
         (
-          refl,
+          tt,
           (
-            (steady_sees (blind_sure (sure_then (a_mark "!" refl) (sure_no blind_opens))), tt, tt),
+            refl,
             (
-              refl,
-              ((by_text "for", (tt, refl), tt), (refl, refl)),
+              (steady_sees (blind_sure (sure_then (a_mark "!" refl) (sure_no blind_opens))), tt, tt),
+              (
+                refl,
+                ((by_text "for", (tt, refl), tt), (refl, refl)),
+              ),
             ),
           ),
         ),
@@ -251,61 +255,70 @@ ended_table (ATypeAlias p) e =
 ended_table (ItemMacro p) e =
     (refl, (tt, (steady_macro_name p, (by_brace, refl, ((by_parenthesis, tt, tt), (refl, refl))))))
 ended_table AnItem e =
-    (refl, (refl, ended_form))
+    (verdict_same InFile, (refl, (refl, ended_form)))
 ended_table AForeignItem e = (
-  refl,
+  verdict_same InForeign,
   (
     refl,
     (
-      by_signature InForeign,
       refl,
       (
-        steady_sees (blind_sure (sure_then (sure_safety InForeign)
-            (the_text "static"))),
-        (steady_safety InForeign, refl),
-        (by_text "type", refl, (by_macro, refl, tt)),
-      ),
-    ),
-  ),
-)
-ended_table ATraitItem e = (
-  refl,
-  (
-    refl,
-    (
-      (by_text "default", tt, tt),
-      (
-        by_signature InTrait,
+        by_signature InForeign,
         refl,
         (
-          by_text "const",
-          refl,
+          steady_sees (blind_sure (sure_then (sure_safety InForeign)
+              (the_text "static"))),
+          (steady_safety InForeign, refl),
           (by_text "type", refl, (by_macro, refl, tt)),
         ),
       ),
     ),
   ),
 )
-ended_table AnImplItem e = (
-  refl,
+ended_table ATraitItem e = (
+  verdict_same InTrait,
   (
     refl,
     (
+      refl,
       (
-        steady_sees (blind_sure sure_default),
-        tt,
-        tt,
-      ),
-      (
-        by_signature InImpl,
-        refl,
+        (by_text "default", tt, tt),
         (
-          by_text "const",
+          by_signature InTrait,
           refl,
           (
-            by_text "type",
+            by_text "const",
             refl,
-            (by_macro, refl, tt),
+            (by_text "type", refl, (by_macro, refl, tt)),
+          ),
+        ),
+      ),
+    ),
+  ),
+)
+ended_table AnImplItem e = (
+  verdict_same InImpl,
+  (
+    refl,
+    (
+      refl,
+      (
+        (
+          steady_sees (blind_sure sure_default),
+          tt,
+          tt,
+        ),
+        (
+          by_signature InImpl,
+          refl,
+          (
+            by_text "const",
+            refl,
+            (
+              by_text "type",
+              refl,
+              (by_macro, refl, tt),
+            ),
           ),
         ),
       ),

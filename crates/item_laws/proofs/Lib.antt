@@ -10,10 +10,12 @@ pub mod Visible
 pub mod Passed
 pub mod Alike
 pub mod Steady
+pub mod Apart
 pub mod Ended
 pub mod Forms
 pub mod Bars
 pub mod Stays
+pub mod SetApart
 pub mod Places
 pub mod Impls
 pub mod Readers

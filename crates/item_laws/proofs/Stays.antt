@@ -30,20 +30,20 @@ use Rattle.item_laws.proofs.Alike.{blind_sign}
 use Rattle.item_laws.proofs.Steady.{is_steady, Steady, no_kind, steady_table}
 use Rattle.item_laws.proofs.Ended.{is_ended, Ended, ended_table}
 
-abbrev Same : List Token → List Token → Type 0
+abbrev pub Same : List Token → List Token → Type 0
 Same a b = (m : ℕ) × Alike 0 m a b
 
 -- a tree may stand in front
-ahead : (x : Tree) (g : Gram) (r a b : List Token) → Derives x g r → Same a b → Same (flat x ++ a) (flat x ++ b)
+pub ahead : (x : Tree) (g : Gram) (r a b : List Token) → Derives x g r → Same a b → Same (flat x ++ a) (flat x ++ b)
 ahead x g r a b d h =
     alike 0 0 (flat x ++ a) (flat x ++ b)
     (front_of 0 0 (flat x) a b (tree_passed x g r d 0 (Closes Brace ∷ [])) (none h.1))
 
-joined : (xs ys a b : List Token) → Same (xs ++ (ys ++ a)) (xs ++ (ys ++ b)) → Same ((xs ++ ys) ++ a)
-    ((xs ++ ys) ++ b)
-joined xs ys a b h =
-    subst (λ ts. Same ts ((xs ++ ys) ++ b)) (sym (append_assoc xs ys a))
-    (subst (λ ts. Same (xs ++ (ys ++ a)) ts) (sym (append_assoc xs ys b)) h)
+pub joined : (xs ys zs a b : List Token) → Same (xs ++ (ys ++ a)) (xs ++ (zs ++ b))
+    → Same ((xs ++ ys) ++ a) ((xs ++ zs) ++ b)
+joined xs ys zs a b h =
+    subst (λ ts. Same ts ((xs ++ zs) ++ b)) (sym (append_assoc xs ys a))
+    (subst (λ ts. Same (xs ++ (ys ++ a)) ts) (sym (append_assoc xs zs b)) h)
 
 never_empty : (n m : ℕ) (a b : List Token) → Alike n m a b → a ≡ [] → ⊥
 never_empty _ _ _ _ (semicolon i j) e = cc
@@ -54,7 +54,7 @@ never_empty _ _ _ _ (sign c i h) e = cc
 never_empty _ _ _ _ (opened d h) e = cc
 never_empty _ _ _ _ (closed d h) e = cc
 
-tested : (t : List Token → Bool) → IsSteady t → (a b : List Token) (v : Bool) → Same a b → t a ≡ v → t b ≡ v
+pub tested : (t : List Token → Bool) → IsSteady t → (a b : List Token) (v : Bool) → Same a b → t a ≡ v → t b ≡ v
 tested t s a b v h e = sym (s.by 0 h.0 a b h.1) ∙ e
 
 -- a right operand goes on with neither
@@ -105,7 +105,7 @@ mutual
   shift (Again x y) (star t g) a b s h d =
       let j = ahead y (star t g) a a b d.2 h in (
         tested t s.0 (flat x ++ flat y ++ a) (flat x ++ flat y ++ b) true
-            (joined (flat x) (flat y) a b (ahead x g (flat y ++ a) (flat y ++ a) (flat y ++ b) d.1 j)) d.0,
+            (joined (flat x) (flat y) (flat y) a b (ahead x g (flat y ++ a) (flat y ++ a) (flat y ++ b) d.1 j)) d.0,
         shift x g (flat y ++ a) (flat y ++ b) s.1 j d.1,
         shift y (star t g) a b s h d.2,
       )
@@ -122,8 +122,9 @@ mutual
         sign m spacing k.1,
       ) in (
         tested t s.0 (flat x ++ Punct m spacing ∷ flat y ++ a) (flat x ++ Punct m spacing ∷ flat y ++ b) false
-            (joined (flat x) (Punct m spacing ∷ flat y) a b (ahead x g (Punct m spacing ∷ flat y ++ a)
-            (Punct m spacing ∷ flat y ++ a) (Punct m spacing ∷ flat y ++ b) d.2 j)) d.0,
+            (joined (flat x) (Punct m spacing ∷ flat y) (Punct m spacing ∷ flat y) a b
+            (ahead x g (Punct m spacing ∷ flat y ++ a) (Punct m spacing ∷ flat y ++ a) (Punct m spacing ∷ flat y ++ b)
+            d.2 j)) d.0,
         d.1,
         shift x g (Punct m spacing ∷ flat y ++ a) (Punct m spacing ∷ flat y ++ b) s.1 j d.2,
         shift y (many t c g) a b s h d.3,
@@ -183,7 +184,7 @@ end_mark c cs spacing r s e f =
     subst (λ n. Same (marks n cs spacing ++ r) (marks n cs spacing ++ s)) (sym e)
     (subst (λ ns. Same (marks 59 ns spacing ++ r) (marks 59 ns spacing ++ s)) (sym f) (0, semicolon spacing spacing))
 
-end_group : (d : Delimiter) (xs r s : List Token) → d ≡ Brace
+pub end_group : (d : Delimiter) (xs r s : List Token) → d ≡ Brace
     → Same (Opens d ∷ (xs ++ r)) (Opens d ∷ (xs ++ s))
 end_group d xs r s e = subst (λ f. Same (Opens f ∷ (xs ++ r)) (Opens f ∷ (xs ++ s))) (sym e) (0, brace)
 
@@ -192,7 +193,7 @@ pub ended : (x : Tree) (g : Gram) (r s : List Token) → Ended g → Derives x g
 ended (AMark c cs spacing) (mark f fs) r s i d = (end_mark c cs spacing r s (d.0 ∙ i.0) (d.1 ∙ i.1), d)
 ended (Pair x y) (seq f g) r s i d =
     let k = ended y g r s i.1 d.1 in (
-      joined (flat x) (flat y) r s (ahead x f (flat y ++ r) (flat y ++ r) (flat y ++ s) d.0 k.0),
+      joined (flat x) (flat y) (flat y) r s (ahead x f (flat y ++ r) (flat y ++ r) (flat y ++ s) d.0 k.0),
       (shift x f (flat y ++ r) (flat y ++ s) i.0 k.0 d.0, k.1),
     )
 ended (First x) (alt t f g) r s i d =
@@ -200,8 +201,8 @@ ended (First x) (alt t f g) r s i d =
 ended (Second x) (alt t f g) r s i d =
     let k = ended x g r s i.2 d.1 in (k.0, (tested t i.0 (flat x ++ r) (flat x ++ s) false k.0 d.0, k.1))
 ended (Group f x) (group o g) r s i d = (end_group f (flat x ++ Closes f ∷ []) r s (d.0 ∙ i), d)
-ended (First x) (judged v g) r s i d = let k = ended x g r s i d.1 in (k.0, (d.0, k.1))
-ended (Verbatim x) (judged v g) r s i d = let k = ended x g r s i d.1 in (k.0, (d.0, k.1))
+ended (First x) (judged v g) r s i d = let k = ended x g r s i.1 d.1 in (k.0, (d.0, k.1))
+ended (Verbatim x) (judged v g) r s i d = let k = ended x g r s i.1 d.1 in (k.0, (d.0, k.1))
 ended (Called n x) (called m g) r s i d = let k = ended x g r s i d.1 in (k.0, (d.0, k.1))
 ended (Node k x) (ref l) r s i d =
     let j = ended x (table k) r s (ended_table k (ap is_ended d.0 ∙ i)) d.1 in (j.0, (d.0, j.1))

@@ -1,5 +1,6 @@
 //! Laws of items and of raw tokens: each is the contract of a function that does nothing.
 
+ghost use Rattle.item_laws.specs.Apart.{set_apart};
 ghost use Rattle.item_laws.specs.Begins.{first_of, is_any_item, is_element};
 ghost use Rattle.item_laws.specs.Raws.{HasRaw, IsSetApart};
 ghost use Rattle.item_laws.specs.Readers.{item_parts, ItemParts, Reader, ReadsItem, trait_reader};
@@ -13,10 +14,10 @@ ghost use Rattle.syn_grammar.specs.Kept.{kept};
 ghost use Rattle.syn_grammar.specs.Kind.{AnItem, ATrait, Kind};
 ghost use Rattle.syn_grammar.specs.Look.{past_closing};
 ghost use Rattle.syn_grammar.specs.Name.{the_equals};
-ghost use Rattle.syn_grammar.specs.Normal.{normal};
+ghost use Rattle.syn_grammar.specs.Normal.{apart, normal};
 ghost use Rattle.syn_grammar.specs.Part.{has};
 ghost use Rattle.syn_grammar.specs.Read.{IsDerived, IsRead};
-ghost use Rattle.syn_grammar.specs.Tree.{flat, Node, Tree, Verbatim};
+ghost use Rattle.syn_grammar.specs.Tree.{flat, Node, Raw, Tree, Verbatim};
 
 /// Raw tokens, whole items and the insides of groups, stand in what is kept as they were read, spacing included; and in
 /// normal form as they were kept, but for the last mark of a raw item that is set apart.
@@ -83,4 +84,16 @@ pub fn items_stay()
     ensures raw { (k : Kind) (x : Tree) (rest next : List Token) → is_any_item k ≡ true
         → Derives (Node k (Verbatim x)) (ref k) rest
         → IsRead k (flat (normal (kept (Node k (Verbatim x)))) ++ next) (normal (kept (Node k (Verbatim x)))) next }
+{}
+
+/// An item that was read, raw or not, is read before whatever follows it with its last mark set apart too, as the same
+/// tree but for how that mark is spaced: it is a semicolon, and no verdict looks at how one is spaced. So a raw one
+/// whose last mark normal form sets apart is read back.
+pub fn items_set_apart()
+    ensures read { (k : Kind) (tree : Tree) (rest next : List Token) → is_any_item k ≡ true
+        → Derives tree (ref k) rest
+        → Derives (set_apart tree) (ref k) next × (flat (set_apart tree) ≡ apart (flat tree)) }
+    ensures raw { (k : Kind) (x : Tree) (rest next : List Token) → is_any_item k ≡ true
+        → Derives (Node k (Verbatim x)) (ref k) rest
+        → IsRead k (apart (flat x) ++ next) (Node k (Raw (apart (flat x)))) next }
 {}
