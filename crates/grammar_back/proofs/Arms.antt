@@ -530,7 +530,7 @@ arranged _ w r d f e = absurd d
 
 pub law_arms : KindLaw Arms
 unfolding has_step held passed table
-law_arms = record { entry = λ q l. (node_stays _ _ Arm, tt); node = go }
+law_arms = record { entry = λ q l. (node_stays Arm, tt); node = go }
   where
     go : (q : Position) → IsPlaced q Arms → (x : Tree) (r : List Token) → is_taken Arms x ≡ true
         → Derives x (table Arms) r → Printed (table Arms) (normal_in (passed Arms q) (kept x))

@@ -29,7 +29,7 @@ use Rattle.grammar_back.proofs.Fine.{Any, At, Fine, fine_called, fine_seq}
 use Rattle.grammar_back.proofs.Parts.{Found, at_front, fine_ahead, found_called, found_group}
 use Rattle.grammar_back.proofs.Parts.{found_mark, found_ref, found_text, found_to_end, found_word, meant_step}
 use Rattle.grammar_back.proofs.Parts.{told_at}
-use Rattle.grammar_back.proofs.Printed.{KindLaw, TurnLaw, unmoved_if}
+use Rattle.grammar_back.proofs.Printed.{KindLaw, TurnLaw, unmoved_if, unmoved_turn}
 use Rattle.grammar_back.proofs.Alternatives.{true_of}
 use Rattle.grammar_back.proofs.Seconds.{front_seen}
 use Rattle.grammar_back.proofs.Tidied.{as_it_is, meant_law}
@@ -266,26 +266,26 @@ method_meant (Pair x (Pair n y)) _ r d f e = absurd f
 method_meant (Pair x _) w r d f e = absurd d.1
 method_meant _ w r d f e = absurd d
 
-literal_turns : (q : Position) (t : List Token → Bool) (p : List ℕ → Bool) → TurnLaw q t (literal p)
-literal_turns q t p (ALiteral cs) y r f d c = unmoved_if _ (ALiteral cs) refl
-literal_turns q t p _ y r f d c = absurd f
+literal_turns : (p : List ℕ → Bool) → TurnLaw (literal p)
+literal_turns p b (ALiteral cs) f = unmoved_turn b (ALiteral cs) (literal p) f refl
+literal_turns p b _ f = absurd f
 
 pub law_expr_await : KindLaw ExprAwait
 unfolding has_step held passed place_of table
 law_expr_await =
     meant_law ExprAwait refl (λ q x w r d f e. dots_meant (keyword "await") x w r d f e) (λ x. refl) (λ q. refl)
-    (λ q l. ((tt, (literal_turns _ _ are_indices, tt)), tt)) (λ w f. as_it_is expr_await w f)
+    (λ q l. ((tt, (literal_turns are_indices, tt)), tt)) (λ w f. as_it_is expr_await w f)
 
 pub law_expr_field : KindLaw ExprField
 unfolding has_step held passed place_of table
 law_expr_field =
     meant_law ExprField refl (λ q x w r d f e. (dots_meant field_end x w r d f e, last_meant x w r d f e)) (λ x. refl)
-    (λ q. refl) (λ q l. ((tt, (literal_turns _ _ are_indices, tt)), (tt, tt))) (λ w f. as_it_is expr_field w f)
+    (λ q. refl) (λ q l. ((tt, (literal_turns are_indices, tt)), (tt, tt))) (λ w f. as_it_is expr_field w f)
 
 pub law_expr_method_call : KindLaw ExprMethodCall
 unfolding has_step held passed place_of table
 law_expr_method_call =
     meant_law ExprMethodCall refl
     (λ q x w r d f e. (dots_meant (the_name ∶ ident ▸ call_end) x w r d f e, method_meant x w r d f e))
-    (λ x. refl) (λ q. refl) (λ q l. ((tt, (literal_turns _ _ are_indices, tt)), (tt, ((tt, tt), refl))))
+    (λ x. refl) (λ q. refl) (λ q l. ((tt, (literal_turns are_indices, tt)), (tt, ((tt, tt), refl))))
     (λ w f. as_it_is expr_method_call w f)

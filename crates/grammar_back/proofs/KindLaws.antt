@@ -31,43 +31,43 @@ use Rattle.grammar_back.proofs.Fits.{Fits, flat_kept, has_bare_value}
 use Rattle.grammar_back.proofs.Bare.{bare_kept, bare_formed, bare_read}
 use Rattle.grammar_back.proofs.Verdicts.{some_verdict, path_meant}
 use Rattle.grammar_back.proofs.Printed.{Printed, IsPlaced, TurnLaw, KindLaw, kept_entry, plain_law, simple_law}
-use Rattle.grammar_back.proofs.Printed.{unmoved_if}
+use Rattle.grammar_back.proofs.Printed.{unmoved_turn}
 use Rattle.grammar_back.proofs.Indices.{index_normal, index_held, member_normal, member_held}
 use Rattle.grammar_back.proofs.Tidied.{Held, held_law, tidied_law, as_it_is, removed_printed, lifetimes_printed}
 use Rattle.grammar_back.proofs.Tidied.{changed_printed}
 
 -- turns that are nodes of other kinds, or sequences
-node_turns : (q : Position) (t : List Token → Bool) (k : Kind) → TurnLaw q t (ref k)
-node_turns q t k (Node l x) y r f d c = unmoved_if _ (kept (Node l x)) refl
-node_turns q t k _ y r f d c = absurd f
+node_turns : (k : Kind) → TurnLaw (ref k)
+node_turns k b (Node l x) f = unmoved_turn b (Node l x) (ref k) f refl
+node_turns k b _ f = absurd f
 
-pair_turns : (q : Position) (t : List Token → Bool) (a b : Gram) → TurnLaw q t (seq a b)
-pair_turns q t a b (Pair x z) y r f d c = unmoved_if _ (kept (Pair x z)) refl
-pair_turns q t a b _ y r f d c = absurd f
+pair_turns : (g h : Gram) → TurnLaw (seq g h)
+pair_turns g h b (Pair x z) f = unmoved_turn b (Pair x z) (seq g h) f refl
+pair_turns g h b _ f = absurd f
 
 pub law_outer : KindLaw OuterAttributes
 unfolding has_step held passed table
 law_outer =
     plain_law OuterAttributes refl (λ x. tt) (λ x. refl) (λ x. refl) (λ q. refl)
-    (λ q l. (node_turns _ _ OuterAttribute, tt))
+    (λ q l. (node_turns OuterAttribute, tt))
 
 pub law_inner : KindLaw InnerAttributes
 unfolding has_step held passed table
 law_inner =
     plain_law InnerAttributes refl (λ x. tt) (λ x. refl) (λ x. refl) (λ q. refl)
-    (λ q l. (node_turns _ _ InnerAttribute, tt))
+    (λ q l. (node_turns InnerAttribute, tt))
 
 pub law_pattern : KindLaw Pattern
 unfolding has_step held passed table
 law_pattern =
     plain_law Pattern refl (λ x. tt) (λ x. refl) (λ x. refl) (λ q. refl)
-    (λ q l. ((tt, tt), (tt, (pair_turns _ _ _ _, (tt, tt)))))
+    (λ q l. ((tt, tt), (tt, (pair_turns _ _, (tt, tt)))))
 
 pub law_several : KindLaw SeveralPatterns
 unfolding has_step held passed table
 law_several =
     plain_law SeveralPatterns refl (λ x. tt) (λ x. refl) (λ x. refl) (λ q. refl)
-    (λ q l. (tt, (pair_turns _ _ _ _, (tt, tt))))
+    (λ q l. (tt, (pair_turns _ _, (tt, tt))))
 
 -- Of parts that may be removed.
 pub law_generics : KindLaw Generics

@@ -61,7 +61,7 @@ pub mod Arms
 pub mod NamedMacros
 pub mod InFront
 pub mod Statements
-pub mod Unopened
+pub mod RawTurns
 pub mod StatementLists
 pub mod Impls
 pub mod AllKinds

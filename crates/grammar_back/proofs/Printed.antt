@@ -47,17 +47,15 @@ VerdictLaw q v g =
 abbrev pub RawLaw : (Tree → Verdict) → Gram → Type 0
 RawLaw v g = (x : Tree) (r : List Token) → Derives (Verbatim x) (judged v g) r → FitsRaw v x g
 
--- a turn stays as it is before those behind it: it is no raw item among statements, or no parenthesis is added there
-abbrev pub TurnLaw : Position → (List Token → Bool) → Gram → Type 0
-TurnLaw q t g =
-    (x y : Tree) (r : List Token) → Fits x g → Derives y (star t g) r → all_covered y ≡ true
-    → apart_if (is_enclosed (kept y) (normal_in q (kept y))) (kept x) ≡ kept x
+-- a turn is printed as it is, and where its last mark is set apart, as that of a raw item among statements may be
+abbrev pub TurnLaw : Gram → Type 0
+TurnLaw g = (b : Bool) (x : Tree) → Fits x g → Printed g (apart_if b (kept x))
 
 -- what is to be known of an entry, beside its kinds
 abbrev pub EntryLaw : Position → Gram → Type 0
 EntryLaw q (seq a b) = EntryLaw q a × EntryLaw q b
 EntryLaw q (alt t a b) = EntryLaw q a × EntryLaw q b
-EntryLaw q (star t g) = TurnLaw q t g × EntryLaw q g
+EntryLaw q (star t g) = TurnLaw g × EntryLaw q g
 EntryLaw q (many e c g) = EntryLaw q g
 EntryLaw q (group d g) = EntryLaw q g
 EntryLaw q (judged v g) = VerdictLaw q v g × RawLaw v g × EntryLaw q g
@@ -92,6 +90,11 @@ WholeLaw =
 pub unmoved_if : (b : Bool) (x : Tree) → apart_item x ≡ x → apart_if b x ≡ x
 unmoved_if true x e = e
 unmoved_if false x e = refl
+
+-- a turn that is no raw item among statements
+pub unmoved_turn : (b : Bool) (x : Tree) (g : Gram) → Fits x g → apart_item (kept x) ≡ kept x
+    → Printed g (apart_if b (kept x))
+unmoved_turn b x g f e = record { tree = x; fits = f; kept_is = sym (unmoved_if b (kept x) e) }
 
 -- a form's kind stands in no position
 or_right : (a b : Bool) → b ≡ true → (a || b) ≡ true
@@ -182,13 +185,12 @@ module _ (laws : (k : Kind) → is_known k ≡ true → KindLaw k) (whole : Whol
         let i = printed x g (flat y ++ r) q l.1 v.1 (unneeded g (flat y ++ r) o) d.1 h.0 in
         let j = printed y (star t g) r q l n m d.2 h.1 in
         let b : Bool = is_enclosed (kept y) (normal_in q (kept y)) in
-        let u : apart_if b (normal_in q (kept x)) ≡ normal_in q (kept x) =
-        subst (λ z. apart_if b z ≡ z) i.kept_is (l.0 i.tree y r i.fits d.2 h.1) in
+        let u = l.0 b i.tree i.fits in
         record {
-          tree = Again i.tree j.tree;
-          fits = (i.fits, j.fits);
-          kept_is = ap (λ z. Again z (kept j.tree)) (i.kept_is ∙ sym u) ∙ ap (Again (apart_if b (normal_in q (kept x))))
-              j.kept_is;
+          tree = Again u.tree j.tree;
+          fits = (u.fits, j.fits);
+          kept_is = ap (λ z. Again z (kept j.tree)) (u.kept_is ∙ ap (apart_if b) i.kept_is)
+              ∙ ap (Again (apart_if b (normal_in q (kept x)))) j.kept_is;
         }
     printed End (many e z g) r q l n m d c = record { tree = End; fits = tt; kept_is = refl }
     printed (Final x) (many e z g) r q l n m d c =

@@ -39,7 +39,7 @@ use Rattle.grammar_back.proofs.WholeItems.{taken_law}
 use Rattle.grammar_back.proofs.Lets.{kept_true}
 use Rattle.grammar_back.proofs.Statements.{a_turn, contrary, each_form, is_macro_statement, needs_not, open_fits}
 use Rattle.grammar_back.proofs.Statements.{open_held, open_needs, turn_needs, with_names}
-use Rattle.grammar_back.proofs.Unopened.{turn_stays}
+use Rattle.grammar_back.proofs.RawTurns.{turn_printed}
 
 -- of all of them
 abbrev pub turn_of : Tree → Tree
@@ -219,7 +219,7 @@ pub law_statements : KindLaw Statements
 unfolding has_step held passed place_of table
 law_statements =
     taken_law Statements refl (λ x w r d f e o. own_semicolons x w r d f e) (λ x. refl) (λ x. refl) (λ q. refl)
-    (λ q. refl) (kept_entry Passes (turns_verdict Plain) (turn_stays _ _, (tt, tt)))
+    (λ q. refl) (kept_entry Passes (turns_verdict Plain) (turn_printed, (tt, tt)))
 
 -- what stands behind a turn
 passes_behind : (t y : Tree) → Passes (Again t y) ≡ true → Passes y ≡ true

@@ -1,16 +1,15 @@
 -- The steps and the laws of lists of items, which go to the end.
 use Rattle.std.proofs.Common.{List, [], ◌++◌, refl, sym, ap, subst, inl, inr}
-use Rattle.std.specs.Prelude.{Bool, false, not}
-use Rattle.syn_grammar.specs.Kind.{Kind, Position, AForeignItem, ATraitItem, AnImplItem, AnItem}
+use Rattle.std.specs.Prelude.{false, not}
+use Rattle.syn_grammar.specs.Kind.{Kind, AForeignItem, ATraitItem, AnImplItem, AnItem}
 use Rattle.syn_grammar.specs.Kind.{ForeignItems, ImplItems, Items, TraitItems}
 use Rattle.syn_grammar.specs.Tree.{Tree, End, Again, Node, flat}
 use Rattle.syn_grammar.specs.Gram.{Gram, ref, star}
 use Rattle.syn_grammar.specs.Look.{lacks, the_end}
 use Rattle.syn_grammar.specs.Ranks.{skips}
-use Rattle.proc_macro2.specs.Token.{Token}
 use Rattle.syn_grammar.specs.Table.{table}
 use Rattle.syn_grammar.specs.Derives.{Derives}
-use Rattle.syn_grammar.specs.Kept.{held, kept}
+use Rattle.syn_grammar.specs.Kept.{held}
 use Rattle.syn_grammar.specs.Normal.{passed}
 use Rattle.grammar_back.specs.Covered.{has_step}
 use Rattle.grammar_back.proofs.Classes.{Class}
@@ -21,7 +20,7 @@ use Rattle.grammar_back.proofs.Readies.{Ready, Step}
 use Rattle.grammar_back.proofs.Fine.{AtOrNone}
 use Rattle.grammar_back.proofs.Parts.{Found, Told, at_front, found_ref, told_at}
 use Rattle.grammar_back.proofs.Starts.{starts}
-use Rattle.grammar_back.proofs.Printed.{KindLaw, TurnLaw, plain_law, unmoved_if}
+use Rattle.grammar_back.proofs.Printed.{KindLaw, TurnLaw, plain_law, unmoved_turn}
 
 -- turns that have a step
 turns_read : (g : Gram) (cs : List Class) → Found g [] cs → Told the_end false cs → (x : Tree)
@@ -34,9 +33,10 @@ turns_read g cs found some (Again x y) f w =
     ((ap not (told_at the_end false cs ((flat x ++ flat y) ++ []) some j), u, d), inr j)
 turns_read g cs found some _ f w = absurd f
 
-pub node_stays : (q : Position) (t : List Token → Bool) (l : Kind) → TurnLaw q t (ref l)
-node_stays q t l (Node k x) y r f d c = unmoved_if _ (kept (Node k x)) refl
-node_stays q t l _ y r f d c = absurd f
+-- none of them is a statement
+pub node_stays : (l : Kind) → TurnLaw (ref l)
+node_stays l b (Node k x) f = unmoved_turn b (Node k x) (ref l) f refl
+node_stays l b _ f = absurd f
 
 -- items
 pub step_items : Step Items
@@ -65,19 +65,19 @@ step_foreign_items x s f n w a =
 
 pub law_items : KindLaw Items
 unfolding has_step held passed table
-law_items = plain_law Items refl (λ x. tt) (λ x. refl) (λ x. refl) (λ q. refl) (λ q l. (node_stays _ _ AnItem, tt))
+law_items = plain_law Items refl (λ x. tt) (λ x. refl) (λ x. refl) (λ q. refl) (λ q l. (node_stays AnItem, tt))
 
 pub law_foreign_items : KindLaw ForeignItems
 unfolding has_step held passed table
 law_foreign_items =
-    plain_law ForeignItems refl (λ x. tt) (λ x. refl) (λ x. refl) (λ q. refl) (λ q l. (node_stays _ _ AForeignItem, tt))
+    plain_law ForeignItems refl (λ x. tt) (λ x. refl) (λ x. refl) (λ q. refl) (λ q l. (node_stays AForeignItem, tt))
 
 pub law_trait_items : KindLaw TraitItems
 unfolding has_step held passed table
 law_trait_items =
-    plain_law TraitItems refl (λ x. tt) (λ x. refl) (λ x. refl) (λ q. refl) (λ q l. (node_stays _ _ ATraitItem, tt))
+    plain_law TraitItems refl (λ x. tt) (λ x. refl) (λ x. refl) (λ q. refl) (λ q l. (node_stays ATraitItem, tt))
 
 pub law_impl_items : KindLaw ImplItems
 unfolding has_step held passed table
 law_impl_items =
-    plain_law ImplItems refl (λ x. tt) (λ x. refl) (λ x. refl) (λ q. refl) (λ q l. (node_stays _ _ AnImplItem, tt))
+    plain_law ImplItems refl (λ x. tt) (λ x. refl) (λ x. refl) (λ q. refl) (λ q l. (node_stays AnImplItem, tt))

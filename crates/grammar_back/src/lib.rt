@@ -1,7 +1,7 @@
 //! Normal forms are read back: the tokens of the normal form of a derived tree have a derived tree, of which that
-//! normal form is kept. It is proved of trees that are covered: that hold no kind whose step is not proved yet, and
-//! among statements no raw item that ends in a joint mark; and where what is to be known of expressions is
-//! (`Expressions`), which the crate `read_back` proves. There the laws stand. There is no code.
+//! normal form is kept. It is proved of trees that are covered: that hold no kind whose step is not proved yet; and
+//! where what is to be known of expressions is (`Expressions`), which the crate `read_back` proves. There the laws
+//! stand. There is no code.
 //!
 //! In `specs/`: `After` (what may follow a kind), `Covered` (the kinds whose steps are proved, and the trees that
 //! hold no others).
@@ -20,8 +20,9 @@
 //! `Members`, `ForeignItems` (by `ForeignMacros`), `Lets` (by `FirstWords` and `Braces`), `NamedMacros` (macros that
 //! are items among statements), `Statements` (what is printed for one; by `Ends`, which has the forms that end there by
 //! themselves, and `InFront`, which has the attributes in front of an expression) and `StatementLists`, `Arms`, and for
-//! the script `Seconds`, `Params` and `FieldNames`; `RawItems` has how raw ones begin, which are read back as
-//! `item_laws` says; `Passed` has what stands behind attributes. `Elements` has the verdicts on lists, and `Choices`
+//! the script `Seconds`, `Params` and `FieldNames`; `RawItems` has how raw ones begin, and `RawTurns` those among
+//! statements whose last mark is set apart, which are read back as `item_laws` says; `Passed` has what stands behind
+//! attributes. `Elements` has the verdicts on lists, and `Choices`
 //! what is true of booleans and of one look or another. What all this needs of expressions stands in one place
 //! (`Expressions`): the steps and laws of the kinds of their forms and of a statement, and that an expression is
 //! printed where their own parts are.
