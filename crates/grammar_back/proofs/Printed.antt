@@ -16,7 +16,6 @@ use Rattle.syn_grammar.specs.Derives.{Derives, Bound}
 use Rattle.syn_grammar.specs.Kept.{held, forget, kept}
 use Rattle.syn_grammar.specs.Tidy.{tidy}
 use Rattle.syn_grammar.specs.Normal.{place_of, passed, private, apart_item, apart_if, is_enclosed, normal, normal_in}
-use Rattle.syn_grammar.specs.Parens.{is_attributed_range}
 use Rattle.item_laws.proofs.Places.{kept_raw}
 use Rattle.syn_grammar.specs.Look.{sees}
 use Rattle.syn_grammar.specs.Say.{brace}
@@ -253,8 +252,7 @@ module _ (laws : (k : Kind) → is_known k ≡ true → KindLaw k) (whole : Whol
         (both_true (is_plain_part k (normal (kept y))) (all_covered y) h.1).1
     own_printed (Front k y x) p r d c =
         let h = both_true (is_form k) _ c in
-        let m = both_true (not (is_attributed_range k x)) _ h.1 in
-        let e = both_true (is_plain_part k (normal (kept y))) (all_covered y && all_covered x) m.1 in
+        let e = both_true (is_plain_part k (normal (kept y))) (all_covered y && all_covered x) h.1 in
         let i = both_true (all_covered y) (all_covered x) e.1 in (
           printed y (table k) (flat x ++ r) Plain (own_law k h.0) (all_braced k) (form_braced k (flat x ++ r) h.0) d.1
               i.0,

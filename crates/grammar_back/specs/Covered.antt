@@ -37,7 +37,6 @@ use Rattle.syn_grammar.specs.Look.{Look, a_lifetime, one_of, sees, ◌then◌, �
 use Rattle.syn_grammar.specs.Say.{at, marks, parenthesis}
 use Rattle.syn_grammar.specs.Normal.{normal, normal_in}
 use Rattle.syn_grammar.specs.Forms.{is_brace_macro}
-use Rattle.syn_grammar.specs.Parens.{is_attributed_range}
 use Rattle.proc_macro2.specs.Token.{Ident}
 use Rattle.syn_grammar.specs.Kind.{InStatement}
 use Rattle.std.specs.Bool.{◌==◌}
@@ -492,7 +491,7 @@ is_plain_part ExprTypedClosure (Pair (Pair b y) (Pair r z)) = is_bound b && sees
 is_plain_part ExprTypedClosure y = false
 is_plain_part k y = true
 
--- All that a tree holds is covered, and no range stands behind attributes: it would be put in parentheses.
+-- All that a tree holds is covered.
 abbrev pub all_covered : Tree → Bool
 all_covered (Pair x y) = all_covered x && all_covered y
 all_covered (First x) = all_covered x
@@ -508,8 +507,7 @@ all_covered (Node k x) = is_known k && (is_taken k x && all_covered x)
 all_covered (Whole x) = all_covered x
 all_covered (Alone k y) = is_form k && (is_plain_part k (normal (kept y)) && all_covered y)
 all_covered (Front k y x) =
-    is_form k && (not (is_attributed_range k x)
-    && (is_plain_part k (normal (kept y)) && (all_covered y && all_covered x)))
+    is_form k && (is_plain_part k (normal (kept y)) && (all_covered y && all_covered x))
 all_covered (Back l k y) = is_form k && (all_covered l && all_covered y)
 all_covered (Infix l k y r) = is_form k && (all_covered y && (all_covered l && all_covered r))
 all_covered _ = true

@@ -18,7 +18,6 @@ use Rattle.syn_grammar.specs.Derives.{Derives, Bound}
 use Rattle.syn_grammar.specs.Forms.{front, inside, is_brace_macro}
 use Rattle.syn_grammar.specs.Kept.{kept}
 use Rattle.syn_grammar.specs.Normal.{normal}
-use Rattle.syn_grammar.specs.Parens.{is_attributed_range}
 use Rattle.syn_grammar.specs.Statements.{macro_statement_stands}
 use Rattle.expressions_back.proofs.Bools.{never}
 use Rattle.grammar_back.specs.Covered.{all_covered, is_form, is_known}
@@ -170,13 +169,11 @@ mutual
   form_parts (Front k y x) p r d n c =
       let m = both_true (no_lone y) (no_lone x) n in
       let h = both_true (is_form k) _ c in
-      let i = both_true (not (is_attributed_range k x)) (all_asked y && all_asked x) h.1 in
-      let j = both_true (all_asked y) (all_asked x) i.1 in
+      let j = both_true (all_asked y) (all_asked x) h.1 in
       and_both (is_form k) _ h.0
-      (and_both (not (is_attributed_range k x)) _ i.0
       (and_both (is_plain_part k (normal (kept y))) _ (part_told k p y (flat x ++ r) d.0 d.1)
       (and_both (all_covered y) (all_covered x) (told y (table k) (flat x ++ r) d.1 (settled_inside k y _ d.1) m.0 j.0)
-      (form_parts x (inside p k) r d.4 m.1 j.1))))
+      (form_parts x (inside p k) r d.4 m.1 j.1)))
   form_parts (Back l k y) p r d n c =
       let m = both_true (no_lone l) (no_lone y) n in
       let h = both_true (is_form k) (all_asked l && all_asked y) c in

@@ -23,7 +23,7 @@ use Rattle.syn_grammar.specs.Forms.{level, stands_left}
 use Rattle.syn_grammar.specs.Derives.{Bound, Derives, IsLeft}
 use Rattle.syn_grammar.specs.Kept.{dotted, forget, held, kept}
 use Rattle.syn_grammar.specs.Normal.{passed, stands_behind, normal, normal_in, formed}
-use Rattle.syn_grammar.specs.Parens.{follow, may_lack, is_attributed_range, is_struct}
+use Rattle.syn_grammar.specs.Parens.{follow, may_lack, is_struct}
 use Rattle.syn_grammar.proofs.Settled.{normal_twice}
 use Rattle.syn_grammar.proofs.Whole.{and_true}
 use Rattle.binding_laws.proofs.Shells.{is_dot, undotted}
@@ -57,8 +57,7 @@ covered_parts (Alone k y) c = c
 covered_parts (Front k y x) c =
     both_parts (is_form k) (is_form k) _ _ (λ e. e)
     (λ e. both_parts (is_plain_part k (normal (kept y))) (is_plain_part k (normal (kept y))) _ _ (λ g. g)
-    (λ g. both_parts (all_covered y) (all_covered y) _ _ (λ h. h) (λ h. covered_parts x h) g)
-    (and_true (not (is_attributed_range k x)) _ e).1) c
+    (λ g. both_parts (all_covered y) (all_covered y) _ _ (λ h. h) (λ h. covered_parts x h) g) e) c
 covered_parts (Back l k y) c =
     let a = and_true (is_form k) (all_covered l && all_covered y) c in
     let b = and_true (all_covered l) (all_covered y) a.1 in

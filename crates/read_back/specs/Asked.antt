@@ -8,7 +8,6 @@ use Rattle.syn_grammar.specs.Tree.{Node, Whole, Alone, Front, Back, Infix}
 use Rattle.syn_grammar.specs.Part.{choice}
 use Rattle.syn_grammar.specs.Kept.{kept}
 use Rattle.syn_grammar.specs.Normal.{normal_in}
-use Rattle.syn_grammar.specs.Parens.{is_attributed_range}
 use Rattle.grammar_back.specs.Covered.{has_lone_value, has_own_trait, is_form, is_known, is_lone, is_plain_expression}
 use Rattle.grammar_back.specs.Covered.{is_statement_form, is_taken, stands_alone}
 
@@ -35,7 +34,7 @@ is_asked OnePattern x = true
 is_asked AStatement x = is_asked_form x
 is_asked k x = is_taken k x
 
--- All that a tree holds is of kinds that have a step, and as is asked of it; no range stands behind attributes.
+-- All that a tree holds is of kinds that have a step, and as is asked of it.
 abbrev pub all_asked : Tree → Bool
 all_asked (Pair x y) = all_asked x && all_asked y
 all_asked (First x) = all_asked x
@@ -50,7 +49,7 @@ all_asked (Verbatim x) = true
 all_asked (Node k x) = is_known k && (is_asked k x && all_asked x)
 all_asked (Whole x) = all_asked x
 all_asked (Alone k y) = is_form k && all_asked y
-all_asked (Front k y x) = is_form k && (not (is_attributed_range k x) && (all_asked y && all_asked x))
+all_asked (Front k y x) = is_form k && (all_asked y && all_asked x)
 all_asked (Back l k y) = is_form k && (all_asked l && all_asked y)
 all_asked (Infix l k y r) = is_form k && (all_asked y && (all_asked l && all_asked r))
 all_asked _ = true
