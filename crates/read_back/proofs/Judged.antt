@@ -197,7 +197,8 @@ const_alone (Pair c (Pair n (Pair g (Pair s (Pair t (Pair (First v) (Pair (Calle
     (ap (λ j. cond (same_part j the_where) (Some (Node k w)) None) f.1.0.0)) in
     let a : is_there w ≡ false =
     where_is k w _ f.1.0.1.0 f.1.0.1.1 (sym (ap (λ o. is_where (or_nil o)) i) ∙ h) in
-    subst (λ j. has_lone_value (Pair c (Pair n (Pair g (Pair s (Pair t (Pair (First v) (Pair (Called m (Node j w)) e)))))))
+    subst (λ j. has_lone_value (Pair c (Pair n (Pair g (Pair s (Pair t (Pair (First v) (Pair (Called m
+    (Node j w)) e)))))))
     ≡ true) (sym f.1.0.1.0) (ap not a)
 const_alone _ r d h = refl
 
@@ -318,7 +319,8 @@ entry_settled p v _ (seq a b) r d h e = absurd d
 entry_settled p v (Called n x) (called m g) r d h e =
     let k = both_true (same_part m the_item) (is_choice p g) h in
     chosen_settled p v x g r d.1 k.1
-    (sym (ap (λ b. form_in p v (choice (or_nil (cond b (Some x) None)))) (ap (λ j. same_part j the_item) d.0 ∙ k.0)) ∙ e)
+    (sym (ap (λ b. form_in p v (choice (or_nil (cond b (Some x) None)))) (ap (λ j. same_part j the_item) d.0
+    ∙ k.0)) ∙ e)
 entry_settled p v _ (called m g) r d h e = absurd d
 entry_settled p v x _ r d h e = absurd (never h)
 

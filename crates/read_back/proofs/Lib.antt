@@ -31,6 +31,9 @@ pub mod ToldPatterns
 pub mod Judged
 pub mod ToldPaths
 pub mod ToldItems
+pub mod ToldBraces
+pub mod ToldStarts
+pub mod ToldExpressions
 pub mod Told
 pub mod ReadBack
 pub mod Positions

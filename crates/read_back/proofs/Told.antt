@@ -28,6 +28,7 @@ use Rattle.grammar_back.proofs.ReadBack.{is_whole}
 use Rattle.read_back.specs.Asked.{all_asked, ends_alone, ends_in_pattern, is_asked, is_asked_alone}
 use Rattle.read_back.specs.Asked.{is_asked_form, is_covered, is_no_lone, no_lone}
 use Rattle.read_back.proofs.Judged.{are_settled, settled_inside}
+use Rattle.read_back.proofs.ToldExpressions.{plain_told}
 use Rattle.read_back.proofs.ToldItems.{named_told, raw_told}
 use Rattle.read_back.proofs.ToldPaths.{call_behind}
 use Rattle.read_back.proofs.ToldClosures.{closure_told, typed_closure_told}
@@ -85,10 +86,12 @@ form_told (Second (First (Pair a (Pair m s)))) r d c =
     ∙ sym (behind_attributes a (Pair m s) macro_statement_stands r _ d.1.1.0 refl) ∙ d.1.0)
 form_told (Second (First (Pair a _))) r d c = absurd d.1.1.1
 form_told (Second (First _)) r d c = absurd d.1.1
-form_told (Second (Second (Second (Second (Pair (Called n a) (Pair (Called m e) s)))))) r d c = c
-form_told (Second (Second (Second (Second (Pair (Called n a) _))))) r d c = absurd (never c)
+form_told (Second (Second (Second (Second (Pair (Called n a) (Pair (Called m e) s)))))) r d c =
+    let f = d.1.1.1.1 in plain_told a e s r f.0.1 f.1.0.1 d.1.0 d.1.1.1.0 c
+form_told (Second (Second (Second (Second (Pair (Called n a) (Pair _ s)))))) r d c = absurd d.1.1.1.1.1.0
+form_told (Second (Second (Second (Second (Pair (Called n a) _))))) r d c = absurd d.1.1.1.1.1
 form_told (Second (Second (Second (Second (Pair _ y))))) r d c = absurd d.1.1.1.1.0
-form_told (Second (Second (Second (Second _)))) r d c = absurd (never c)
+form_told (Second (Second (Second (Second _)))) r d c = absurd d.1.1.1.1
 form_told (Second (Second (Second (First (Node k (Verbatim x)))))) r d c =
     raw_told k x r d.1.1.1.1 d.1.1.1.0
 form_told (Second (Second (Second x))) r d c = c
@@ -189,7 +192,8 @@ mutual
       let j = both_true (all_asked l) (all_asked x) i.1 in
       and_both (is_form k) _ h.0
       (and_both (all_covered y) _ (told y (table k) (flat x ++ r) d.1 (settled_inside k y _ d.1) m.0 i.0)
-      (and_both (all_covered l) (all_covered x) (form_parts l p _ d.4 o.0 j.0) (form_parts x (inside p k) r d.6 o.1 j.1)))
+      (and_both (all_covered l) (all_covered x) (form_parts l p _ d.4 o.0 j.0) (form_parts x
+      (inside p k) r d.6 o.1 j.1)))
   form_parts _ p r d n c = absurd d
 
 -- A kind that ends in a pattern is asked to hold no path of one identifier alone; of the others that is told.

@@ -1,5 +1,5 @@
--- An item that stands among statements, as the tests in front of it saw it: one that was seen by a path, ! and a name is
--- such a macro, behind no visibility; and one that is kept as tokens is no macro, and begins as a statement may.
+-- An item that stands among statements, as the tests in front of it saw it: one that was seen by a path, ! and a name
+-- is such a macro, behind no visibility; and one that is kept as tokens is no macro, and begins as a statement may.
 use Rattle.std.proofs.Common.{◌≡◌, ℕ, List, [], ◌∷◌, ◌++◌, refl, sym, ap, ◌∙◌, subst, append_assoc, ⊎_elim}
 use Rattle.std.specs.Prelude.{Bool, true, false, ◌&&◌, not, cond, codes, Option, Some, None}
 use Rattle.std.proofs.lemmas.Slice.Eq.{bytes_eq-Decides}
@@ -14,7 +14,8 @@ use Rattle.syn_grammar.specs.Words.{is_ident, is_name, is_path_keyword, is_reser
 use Rattle.syn_grammar.specs.Tree.{Tree, AMark, AWord, Called, First, Nil, Node, Pair, Second, Verbatim, flat}
 use Rattle.syn_grammar.specs.Part.{choice, found, has, is_some, or_else, the}
 use Rattle.syn_grammar.specs.Gram.{Gram, Verdict, AsRaw, alt, ref, never as none}
-use Rattle.syn_grammar.specs.Look.{Look, ◌then◌, ◌or◌, a_group, a_path, a_quoted, a_word, all_attributes, an_ident, behind, first_seen}
+use Rattle.syn_grammar.specs.Look.{Look, ◌then◌, ◌or◌, a_group, a_path, a_quoted, a_word, all_attributes, an_ident}
+use Rattle.syn_grammar.specs.Look.{behind, first_seen}
 use Rattle.syn_grammar.specs.Look.{maybe, no, repeatedly, seen, sees, the_word}
 use Rattle.syn_grammar.specs.Say.{◌∶◌, ◌▸◌, at, brace, in_braces, keyword, marks, optional, sign}
 use Rattle.syn_grammar.specs.Items.{is_impl, signature_stands, trait_stands}
@@ -100,7 +101,8 @@ unnamed : (w cs : List ℕ) → is_name w ≡ false → same_text w cs ≡ true 
 unnamed w cs n e = sym (ap is_name ((bytes_eq-Decides w cs).0 e)) ∙ n
 
 worded : (n : Part) (w : String) (x z : Tree) (r : List Token) → is_name (codes w) ≡ false
-    → Derives x (optional (at w) (n ∶ keyword w)) (flat z ++ r) → Worded (flat z ++ r) → Worded ((flat x ++ flat z) ++ r)
+    → Derives x (optional (at w) (n ∶ keyword w)) (flat z ++ r) → Worded (flat z ++ r)
+    → Worded ((flat x ++ flat z) ++ r)
 worded n w (First (Called m (AWord cs))) z r i d o = (cs, flat z ++ r, refl, unnamed (codes w) cs i d.1.1)
 worded n w (First (Called m _)) z r i d o = absurd d.1.1
 worded n w (First _) z r i d o = absurd d.1
@@ -317,7 +319,8 @@ named_told _ r d e = absurd d
 public_none : (v : Tree) (r : List Token) → Derives v (table Visibility) r → has the_pub v ≡ false → flat v ≡ []
 unfolding table same_part
 public_none (First (Pair (Called m z) y)) r d e =
-    absurd (never (sym e ∙ ap (λ j. is_some (or_else (cond (same_part j the_pub) (Some z) None) (found the_pub y))) d.1.0.0))
+    absurd (never (sym e ∙ ap (λ j. is_some (or_else (cond (same_part j the_pub) (Some z) None)
+    (found the_pub y))) d.1.0.0))
 public_none (First (Pair _ y)) r d e = absurd d.1.0
 public_none (First _) r d e = absurd d.1
 public_none (Second Nil) r d e = refl
@@ -354,7 +357,8 @@ words_seen : (cs ds : List ℕ) (us : List Token) → same_text (codes "default"
     → same_text (codes "const") ds ≡ true → sees item_stands (Ident cs ∷ Ident ds ∷ us) ≡ false
 words_seen cs ds us e f =
     sym (ap (λ w. sees item_stands (Ident w ∷ Ident ds ∷ us)) ((bytes_eq-Decides (codes "default") cs).0 e))
-    ∙ sym (ap (λ w. sees item_stands (Ident (codes "default") ∷ Ident w ∷ us)) ((bytes_eq-Decides (codes "const") ds).0 f))
+    ∙ sym (ap (λ w. sees item_stands (Ident (codes "default") ∷ Ident w ∷ us)) ((bytes_eq-Decides
+    (codes "const") ds).0 f))
 
 -- so it has not both
 has_front : (n : Part) (x y : Tree) (g : Gram) (r : List Token) → Derives y g r → lacks_part n g ≡ true
@@ -384,7 +388,8 @@ both_there (Second Nil) c y r d e f g = never f
 both_there (Second _) c y r d e f g = d.0.1
 both_there _ c y r d e f g = d.0
 
-impl_begun : (y : Tree) (r : List Token) (v : Bool) → Derives y (table AnImpl) r → form_in_file v (Node AnImpl y) ≡ AsRaw
+impl_begun : (y : Tree) (r : List Token) (v : Bool) → Derives y (table AnImpl) r
+    → form_in_file v (Node AnImpl y) ≡ AsRaw
     → (v ≡ false → sees item_stands (flat y ++ r) ≡ true) → is_begun (Node AnImpl y) ≡ true
 unfolding table same_part
 impl_begun (First (Pair d (Pair c y))) r v h e s =

@@ -1,22 +1,28 @@
 -- What is asked of a tree that was read, for its normal form to be read back: the tests and the verdicts of the grammar
 -- saw the rest.
-use Rattle.std.specs.Prelude.{Bool, true, false, ◌&&◌, ◌||◌, not}
+use Rattle.std.specs.Prelude.{Bool, true, false, ◌&&◌, ◌||◌, not, List, ◌∷◌}
+use Rattle.proc_macro2.specs.Token.{Token, Ident}
 use Rattle.syn_grammar.specs.Kind.{Kind, AConst, AnImpl, AStatement, ClosureParam, FieldPattern, IdentPattern}
 use Rattle.syn_grammar.specs.Kind.{InStatement, OnePattern, Pattern, ReferencePattern, SeveralPatterns}
 use Rattle.syn_grammar.specs.Tree.{Tree, Pair, First, Second, Again, Final, More, Group, Dropped, Called, Verbatim}
-use Rattle.syn_grammar.specs.Tree.{Node, Whole, Alone, Front, Back, Infix}
+use Rattle.syn_grammar.specs.Tree.{Node, Whole, Alone, Front, Back, Infix, flat}
+use Rattle.syn_grammar.specs.Words.{is_among}
 use Rattle.syn_grammar.specs.Part.{choice}
 use Rattle.syn_grammar.specs.Kept.{kept}
 use Rattle.syn_grammar.specs.Normal.{normal_in}
-use Rattle.grammar_back.specs.Covered.{has_lone_value, has_own_trait, is_form, is_known, is_lone, is_plain_expression}
-use Rattle.grammar_back.specs.Covered.{is_statement_form, is_taken, stands_alone}
+use Rattle.grammar_back.specs.Covered.{has_lone_value, has_own_trait, is_form, is_known, is_lone, is_statement_form}
+use Rattle.grammar_back.specs.Covered.{is_taken, soft_words, stands_alone}
 
--- Of a statement: what it is taken by, but that a macro which is one has its tokens in braces was seen, and a name behind
--- the ! of one that is an item; of an item that is kept as tokens nothing; and of an expression only how it begins, as
--- it is printed.
+-- Of a statement: what it is taken by, but that a macro which is one has its tokens in braces was seen, and a name
+-- behind the ! of one that is an item; of an item that is kept as tokens nothing; and of an expression only that, as it
+-- is printed, no word stands behind one that begins items too.
+abbrev pub begins_cast : List Token → Bool
+begins_cast (Ident cs ∷ Ident ds ∷ ts) = is_among soft_words cs
+begins_cast ts = false
+
 abbrev pub is_asked_expression : Tree → Bool
-is_asked_expression (Pair a (Pair (Called n e) s)) = is_plain_expression (normal_in InStatement (kept e))
-is_asked_expression _ = false
+is_asked_expression (Pair a (Pair (Called n e) s)) = not (begins_cast (flat (normal_in InStatement (kept e))))
+is_asked_expression _ = true
 
 abbrev pub is_asked_form : Tree → Bool
 is_asked_form (First x) = true

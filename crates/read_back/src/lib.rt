@@ -19,7 +19,8 @@
 //! parentheses that its left operand gets (`Enclosed`). `Forms` has all that is to be known of expressions,
 //! `ReadBack` the laws of kinds, and `Positions` those of an expression where it stands (`specs/Parts`). What is asked
 //! of a tree is less than what the steps go by: `Told` has what the tests of the entries saw, wherever it was read
-//! (`ToldItems` of an item among statements).
+//! (`ToldItems` of an item among statements, `ToldExpressions` of an expression there, by `ToldStarts` and
+//! `ToldBraces`).
 //! `Examples` has an expression for each law.
 //!
 //! - `laws`: the laws.
