@@ -34,6 +34,7 @@ pub mod ToldItems
 pub mod ToldBraces
 pub mod ToldStarts
 pub mod ToldExpressions
+pub mod ToldKinds
 pub mod Told
 pub mod ReadBack
 pub mod Positions

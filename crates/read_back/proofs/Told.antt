@@ -30,6 +30,7 @@ use Rattle.read_back.specs.Asked.{is_asked_form, is_covered, is_no_lone, no_lone
 use Rattle.read_back.proofs.Judged.{are_settled, settled_inside}
 use Rattle.read_back.proofs.ToldExpressions.{plain_told}
 use Rattle.read_back.proofs.ToldItems.{named_told, raw_told}
+use Rattle.read_back.proofs.ToldKinds.{all_known, back_form, front_form, refs_known}
 use Rattle.read_back.proofs.ToldPaths.{call_behind}
 use Rattle.read_back.proofs.ToldClosures.{closure_told, typed_closure_told}
 use Rattle.read_back.proofs.ToldPatterns.{whole_patterns}
@@ -120,80 +121,79 @@ and_both : (a b : Bool) → a ≡ true → b ≡ true → (a && b) ≡ true
 and_both a b e f = both_same a b true true e f
 
 mutual
-  told : (x : Tree) (g : Gram) (r : List Token) → Derives x g r → are_settled x ≡ true → no_lone x ≡ true
-      → all_asked x ≡ true → all_covered x ≡ true
-  told (Pair x y) (seq a b) r d s n c =
+  told : (x : Tree) (g : Gram) (r : List Token) → Derives x g r → refs_known g ≡ true → are_settled x ≡ true
+      → no_lone x ≡ true → all_asked x ≡ true → all_covered x ≡ true
+  told (Pair x y) (seq a b) r d k s n c =
+      let i = both_true (refs_known a) (refs_known b) k in
       let t = both_true (are_settled x) (are_settled y) s in
       let m = both_true (no_lone x) (no_lone y) n in
       let h = both_true (all_asked x) (all_asked y) c in
-      and_both (all_covered x) (all_covered y) (told x a _ d.0 t.0 m.0 h.0) (told y b r d.1 t.1 m.1 h.1)
-  told (First x) (alt t a b) r d s n c = told x a r d.1 s n c
-  told (Second x) (alt t a b) r d s n c = told x b r d.1 s n c
-  told (Again x y) (star t g) r d s n c =
+      and_both (all_covered x) (all_covered y) (told x a _ d.0 i.0 t.0 m.0 h.0) (told y b r d.1 i.1 t.1 m.1 h.1)
+  told (First x) (alt t a b) r d k s n c = told x a r d.1 (both_true (refs_known a) (refs_known b) k).0 s n c
+  told (Second x) (alt t a b) r d k s n c = told x b r d.1 (both_true (refs_known a) (refs_known b) k).1 s n c
+  told (Again x y) (star t g) r d k s n c =
       let u = both_true (are_settled x) (are_settled y) s in
       let m = both_true (no_lone x) (no_lone y) n in
       let h = both_true (all_asked x) (all_asked y) c in
-      and_both (all_covered x) (all_covered y) (told x g _ d.1 u.0 m.0 h.0) (told y (star t g) r d.2 u.1 m.1 h.1)
-  told (Final x) (many e z g) r d s n c = told x g r d.1 s n c
-  told (More x o i y) (many e z g) r d s n c =
+      and_both (all_covered x) (all_covered y) (told x g _ d.1 k u.0 m.0 h.0) (told y (star t g) r d.2 k u.1 m.1 h.1)
+  told (Final x) (many e z g) r d k s n c = told x g r d.1 k s n c
+  told (More x o i y) (many e z g) r d k s n c =
       let t = both_true (are_settled x) (are_settled y) s in
       let m = both_true (no_lone x) (no_lone y) n in
       let h = both_true (all_asked x) (all_asked y) c in
-      and_both (all_covered x) (all_covered y) (told x g _ d.2 t.0 m.0 h.0) (told y (many e z g) r d.3 t.1 m.1 h.1)
-  told (Group e x) (group f g) r d s n c = told x g [] d.1 s n c
-  told (First x) (judged v g) r d s n c = told x g r d.1 s n c
-  told (Verbatim x) (judged v g) r d s n c = refl
-  told (Dropped x) (dropped g) r d s n c = told x g r d s n c
-  told (Called l x) (called m g) r d s n c = told x g r d.1 s n c
-  told (Node k x) (ref l) r d s n c =
-      let m = both_true (is_no_lone k x) (no_lone x) n in
-      let h = both_true (is_known k) (is_asked k x && all_asked x) c in
-      let i = both_true (is_asked k x) (all_asked x) h.1 in
-      let v : all_covered x ≡ true = told x (table k) r d.1 (settled_inside k x r d.1) m.1 i.1 in
-      and_both (is_known k) (is_taken k x && all_covered x) h.0
-      (and_both (is_taken k x) (all_covered x) (node_told k x r d.1 s m.0 i.0) v)
-  told (Whole x) (operand p l) r d s n c = form_parts x p r d.1 n c
-  told (AWord cs) g r d s n c = refl
-  told (ALiteral cs) g r d s n c = refl
-  told (AMark e cs i) g r d s n c = refl
-  told (ALifetime cs) g r d s n c = refl
-  told (Raw ts) g r d s n c = refl
-  told Nil g r d s n c = refl
-  told End g r d s n c = refl
-  told _ g r d s n c = absurd d
+      and_both (all_covered x) (all_covered y) (told x g _ d.2 k t.0 m.0 h.0)
+      (told y (many e z g) r d.3 k t.1 m.1 h.1)
+  told (Group e x) (group f g) r d k s n c = told x g [] d.1 k s n c
+  told (First x) (judged v g) r d k s n c = told x g r d.1 k s n c
+  told (Verbatim x) (judged v g) r d k s n c = refl
+  told (Dropped x) (dropped g) r d k s n c = told x g r d k s n c
+  told (Called l x) (called m g) r d k s n c = told x g r d.1 k s n c
+  told (Node j x) (ref l) r d k s n c =
+      let m = both_true (is_no_lone j x) (no_lone x) n in
+      let h = both_true (is_asked j x) (all_asked x) c in
+      let v : all_covered x ≡ true =
+      told x (table j) r d.1 (all_known j) (settled_inside j x r d.1) m.1 h.1 in
+      and_both (is_known j) (is_taken j x && all_covered x) (ap is_known d.0 ∙ k)
+      (and_both (is_taken j x) (all_covered x) (node_told j x r d.1 s m.0 h.0) v)
+  told (Whole x) (operand p l) r d k s n c = form_parts x p r d.1 n c
+  told (AWord cs) g r d k s n c = refl
+  told (ALiteral cs) g r d k s n c = refl
+  told (AMark e cs i) g r d k s n c = refl
+  told (ALifetime cs) g r d k s n c = refl
+  told (Raw ts) g r d k s n c = refl
+  told Nil g r d k s n c = refl
+  told End g r d k s n c = refl
+  told _ g r d k s n c = absurd d
 
   form_parts : (x : Tree) (p : Position) (r : List Token) → Bound p x r → no_lone x ≡ true → all_asked x ≡ true
       → all_covered x ≡ true
   form_parts (Alone k y) p r d n c =
-      let h = both_true (is_form k) (all_asked y) c in
-      and_both (is_form k) _ h.0
+      and_both (is_form k) _ (front_form p k _ d.0)
       (and_both (is_plain_part k (normal (kept y))) (all_covered y) (part_told k p y r d.0 d.1)
-      (told y (table k) r d.1 (settled_inside k y r d.1) n h.1))
+      (told y (table k) r d.1 (all_known k) (settled_inside k y _ d.1) n c))
   form_parts (Front k y x) p r d n c =
       let m = both_true (no_lone y) (no_lone x) n in
-      let h = both_true (is_form k) _ c in
-      let j = both_true (all_asked y) (all_asked x) h.1 in
-      and_both (is_form k) _ h.0
+      let j = both_true (all_asked y) (all_asked x) c in
+      and_both (is_form k) _ (front_form p k _ d.0)
       (and_both (is_plain_part k (normal (kept y))) _ (part_told k p y (flat x ++ r) d.0 d.1)
-      (and_both (all_covered y) (all_covered x) (told y (table k) (flat x ++ r) d.1 (settled_inside k y _ d.1) m.0 j.0)
+      (and_both (all_covered y) (all_covered x) (told y (table k) (flat x ++ r) d.1 (all_known k)
+      (settled_inside k y _ d.1) m.0 j.0)
       (form_parts x (inside p k) r d.4 m.1 j.1)))
   form_parts (Back l k y) p r d n c =
       let m = both_true (no_lone l) (no_lone y) n in
-      let h = both_true (is_form k) (all_asked l && all_asked y) c in
-      let i = both_true (all_asked l) (all_asked y) h.1 in
-      and_both (is_form k) _ h.0
-      (and_both (all_covered l) (all_covered y) (form_parts l p _ d.4 m.0 i.0)
-      (told y (table k) r d.1 (settled_inside k y r d.1) m.1 i.1))
+      let i = both_true (all_asked l) (all_asked y) c in
+      and_both (is_form k) _ (back_form p k _ d.0)
+      (and_both (all_covered l) (all_covered y) (form_parts l p _ d.4 m.0 i.0) (told y (table k) r d.1 (all_known k)
+      (settled_inside k y _ d.1) m.1 i.1))
   form_parts (Infix l k y x) p r d n c =
       let m = both_true (no_lone y) (no_lone l && no_lone x) n in
       let o = both_true (no_lone l) (no_lone x) m.1 in
-      let h = both_true (is_form k) _ c in
-      let i = both_true (all_asked y) (all_asked l && all_asked x) h.1 in
+      let i = both_true (all_asked y) (all_asked l && all_asked x) c in
       let j = both_true (all_asked l) (all_asked x) i.1 in
-      and_both (is_form k) _ h.0
-      (and_both (all_covered y) _ (told y (table k) (flat x ++ r) d.1 (settled_inside k y _ d.1) m.0 i.0)
-      (and_both (all_covered l) (all_covered x) (form_parts l p _ d.4 o.0 j.0) (form_parts x
-      (inside p k) r d.6 o.1 j.1)))
+      and_both (is_form k) _ (back_form p k _ d.0)
+      (and_both (all_covered y) _ (told y (table k) (flat x ++ r) d.1 (all_known k) (settled_inside k y _ d.1) m.0 i.0)
+      (and_both (all_covered l) (all_covered x) (form_parts l p _ d.4 o.0 j.0)
+      (form_parts x (inside p k) r d.6 o.1 j.1)))
   form_parts _ p r d n c = absurd d
 
 -- A kind that ends in a pattern is asked to hold no path of one identifier alone; of the others that is told.
@@ -205,11 +205,14 @@ lone_told k (Node j x) r d c = by_end (ends_in_pattern k) refl
     by_end true e = ap (λ b. not b || no_lone (Node j x)) (sym (ap ends_in_pattern d.0 ∙ e)) ∙ c
 lone_told k _ r d c = absurd d
 
-pub whole_told : (k : Kind) (x : Tree) (r : List Token) → Derives x (ref k) r → is_covered x ≡ true → is_whole x ≡ true
+pub whole_told : (k : Kind) (x : Tree) (r : List Token) → Derives x (ref k) r → is_covered x ≡ true
+    → is_whole x ≡ true
 whole_told k (Node l x) r d c =
     let y : Tree = Node l x in
-    let a = both_true (stands_alone y) (is_asked_alone y && (ends_alone y && all_asked y)) c in
-    let b = both_true (is_asked_alone y) (ends_alone y && all_asked y) a.1 in
-    let e = both_true (ends_alone y) (all_asked y) b.1 in
-    and_both (stands_alone y) (all_covered y) a.0 (told y (ref k) r d b.0 (lone_told k y r d e.0) e.1)
+    let a = both_true (stands_alone y) _ c in
+    let b = both_true (is_known l) _ a.1 in
+    let e = both_true (is_asked_alone y) (ends_alone y && all_asked y) b.1 in
+    let f = both_true (ends_alone y) (all_asked y) e.1 in
+    and_both (stands_alone y) (all_covered y) a.0
+    (told y (ref k) r d (sym (ap is_known d.0) ∙ b.0) e.0 (lone_told k y r d f.0) f.1)
 whole_told k _ r d c = absurd d

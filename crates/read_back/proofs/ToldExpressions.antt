@@ -1,7 +1,7 @@
 -- What is held of an expression that is a statement begins no item there, and is no macro in braces: its tests saw it.
 use Rattle.std.proofs.Common.{◌≡◌, List, [], ◌∷◌, ◌++◌, refl, sym, ap, ◌∙◌, subst, append_assoc}
 use Rattle.std.specs.Prelude.{Bool, true, false, ◌&&◌, ◌||◌, codes, not}
-use Rattle.proc_macro2.specs.Token.{Token, Ident, Punct}
+use Rattle.proc_macro2.specs.Token.{Token, Ident}
 use Rattle.syn_grammar.specs.Kind.{Expression, InStatement, OuterAttributes}
 use Rattle.syn_grammar.specs.Words.{is_among, same_text}
 use Rattle.syn_grammar.specs.Tree.{Tree, Again, End, Node, Pair, Whole, flat}
@@ -15,11 +15,11 @@ use Rattle.syn_grammar.specs.Kept.{held, kept}
 use Rattle.syn_grammar.specs.Normal.{formed, normal_in, passed, stands_behind}
 use Rattle.syn_grammar.specs.Forms.{is_brace_macro}
 use Rattle.grammar_back.specs.Covered.{is_plain_expression, is_plain_start, soft_words}
-use Rattle.grammar_back.proofs.Choices.{both_same, both_true}
+use Rattle.grammar_back.proofs.Choices.{both_same}
 use Rattle.grammar_back.proofs.Passed.{behind_attributes}
 use Rattle.read_back.specs.Asked.{begins_cast}
 use Rattle.read_back.proofs.ToldBraces.{unbraced}
-use Rattle.read_back.proofs.ToldStarts.{begins_told, lets_as, starts_so}
+use Rattle.read_back.proofs.ToldStarts.{begins_told, starts_so}
 
 -- behind attributes begins none
 none_more : (z : Tree) (t : List Token → Bool) (g : Gram) (r : List Token) → Derives z (star t g) r → t r ≡ false

@@ -1,14 +1,13 @@
 -- An expression that is a statement was read only where no item is seen: so it begins, also in normal form, with no
 -- word behind which one would be seen.
 use Rattle.std.proofs.Common.{◌≡◌, ℕ, List, [], ◌∷◌, ◌++◌, refl, sym, ap, ◌∙◌, subst, append_assoc}
-use Rattle.std.specs.Prelude.{Bool, true, false, ◌&&◌, ◌||◌, ◌==◌, not, cond, codes, Option, Some, None}
+use Rattle.std.specs.Prelude.{Bool, true, false, ◌&&◌, ◌||◌, ◌==◌, not, cond, codes, Some, None}
 use Rattle.std.proofs.lemmas.List.{append-nil}
 use Rattle.std.proofs.lemmas.Slice.Eq.{bytes_eq-Decides}
-use Rattle.proc_macro2.specs.Token.{Token, Ident, Opens, Punct}
-use Rattle.proc_macro2.specs.declared.delimiter.Delimiter.TheVariants.{Parenthesis}
+use Rattle.proc_macro2.specs.Token.{Token, Ident, Punct}
 use Rattle.rust_leaf.specs.declared.punct.Spacing.{Spacing}
 use Rattle.rust_leaf.specs.declared.punct.Spacing.TheVariants.{Alone as Apart, Joint}
-use Rattle.syn_grammar.specs.Kind.{Kind, Plain, Position, Style, AMacro, AnyPath, Arguments, ExprAttributed, ExprField}
+use Rattle.syn_grammar.specs.Kind.{Kind, Plain, Position, Style, AMacro, AnyPath, Arguments, ExprField}
 use Rattle.syn_grammar.specs.Kind.{ExprMacro}
 use Rattle.syn_grammar.specs.Kind.{ExprAnd, ExprAssign, ExprAwait, ExprBitAnd, ExprBitOr, ExprBitXor, ExprCall}
 use Rattle.syn_grammar.specs.Kind.{ExprCast, ExprCompare, ExprIndex, ExprMethodCall, ExprOr, ExprProduct, ExprRange}
@@ -24,15 +23,14 @@ use Rattle.syn_grammar.specs.Tree.{Nil, Node, Pair, Second, Verbatim, marks as s
 use Rattle.syn_grammar.specs.Look.{first_seen, seen, sees}
 use Rattle.syn_grammar.specs.Gram.{Gram, AsRaw, alt, mark, never as none, ref}
 use Rattle.syn_grammar.specs.Types.{kept_if}
-use Rattle.syn_grammar.specs.Say.{at, marks, one_sign}
-use Rattle.syn_grammar.specs.Gram.{punct}
+use Rattle.syn_grammar.specs.Say.{marks}
 use Rattle.syn_grammar.specs.Statements.{item_stands}
 use Rattle.syn_grammar.specs.Table.{table}
 use Rattle.syn_grammar.specs.Derives.{Derives, Bound}
 use Rattle.syn_grammar.specs.Kept.{dotted, held, index_field, kept, lone_dot}
 use Rattle.syn_grammar.specs.Normal.{formed, normal, normal_in, passed}
 use Rattle.syn_grammar.specs.Forms.{back, front, has_right, inside, level}
-use Rattle.syn_grammar.specs.Parens.{begins_in, follow, parens_unless, stands_in, stays_left, stays_right}
+use Rattle.syn_grammar.specs.Parens.{begins_in, follow, parens_unless, stands_in, stays_left}
 use Rattle.syn_grammar.specs.Parens.{takes_what_follows, with_left, with_right}
 use Rattle.binding_laws.proofs.Begun.{Begun, a_word, a_literal, an_opening, a_lifetime, a_bang, a_hash, an_and, a_star}
 use Rattle.binding_laws.proofs.Begun.{a_minus, a_less, a_bar, dots, colons, begun}

@@ -10,7 +10,7 @@ use Rattle.syn_grammar.specs.Words.{is_among}
 use Rattle.syn_grammar.specs.Part.{choice}
 use Rattle.syn_grammar.specs.Kept.{kept}
 use Rattle.syn_grammar.specs.Normal.{normal_in}
-use Rattle.grammar_back.specs.Covered.{has_lone_value, has_own_trait, is_form, is_known, is_lone, is_statement_form}
+use Rattle.grammar_back.specs.Covered.{has_lone_value, has_own_trait, is_known, is_lone, is_statement_form}
 use Rattle.grammar_back.specs.Covered.{is_taken, soft_words, stands_alone}
 
 -- Of a statement: what it is taken by, but that a macro which is one has its tokens in braces was seen, and a name
@@ -40,25 +40,29 @@ is_asked OnePattern x = true
 is_asked AStatement x = is_asked_form x
 is_asked k x = is_taken k x
 
--- All that a tree holds is of kinds that have a step, and as is asked of it.
+-- Each node that a tree holds is as is asked of its kind; nothing is asked of what is kept as tokens.
+abbrev pub all_nodes : (Kind → Tree → Bool) → Tree → Bool
+all_nodes node (Pair x y) = all_nodes node x && all_nodes node y
+all_nodes node (First x) = all_nodes node x
+all_nodes node (Second x) = all_nodes node x
+all_nodes node (Again x y) = all_nodes node x && all_nodes node y
+all_nodes node (Final x) = all_nodes node x
+all_nodes node (More x c spacing y) = all_nodes node x && all_nodes node y
+all_nodes node (Group d x) = all_nodes node x
+all_nodes node (Dropped x) = all_nodes node x
+all_nodes node (Called n x) = all_nodes node x
+all_nodes node (Verbatim x) = true
+all_nodes node (Node k x) = node k x && all_nodes node x
+all_nodes node (Whole x) = all_nodes node x
+all_nodes node (Alone k y) = all_nodes node y
+all_nodes node (Front k y x) = all_nodes node y && all_nodes node x
+all_nodes node (Back l k y) = all_nodes node l && all_nodes node y
+all_nodes node (Infix l k y r) = all_nodes node y && (all_nodes node l && all_nodes node r)
+all_nodes node _ = true
+
+-- All that a tree holds is as is asked of it.
 abbrev pub all_asked : Tree → Bool
-all_asked (Pair x y) = all_asked x && all_asked y
-all_asked (First x) = all_asked x
-all_asked (Second x) = all_asked x
-all_asked (Again x y) = all_asked x && all_asked y
-all_asked (Final x) = all_asked x
-all_asked (More x c spacing y) = all_asked x && all_asked y
-all_asked (Group d x) = all_asked x
-all_asked (Dropped x) = all_asked x
-all_asked (Called n x) = all_asked x
-all_asked (Verbatim x) = true
-all_asked (Node k x) = is_known k && (is_asked k x && all_asked x)
-all_asked (Whole x) = all_asked x
-all_asked (Alone k y) = is_form k && all_asked y
-all_asked (Front k y x) = is_form k && (all_asked y && all_asked x)
-all_asked (Back l k y) = is_form k && (all_asked l && all_asked y)
-all_asked (Infix l k y r) = is_form k && (all_asked y && (all_asked l && all_asked r))
-all_asked _ = true
+all_asked x = all_nodes is_asked x
 
 -- Of a tree by itself: a constant has no where clause behind a value, and what an impl implements is a path. As an item
 -- among others it would be raw.
@@ -84,29 +88,18 @@ is_no_lone OnePattern x = not (is_lone (choice x))
 is_no_lone k x = true
 
 abbrev pub no_lone : Tree → Bool
-no_lone (Pair x y) = no_lone x && no_lone y
-no_lone (First x) = no_lone x
-no_lone (Second x) = no_lone x
-no_lone (Again x y) = no_lone x && no_lone y
-no_lone (Final x) = no_lone x
-no_lone (More x c spacing y) = no_lone x && no_lone y
-no_lone (Group d x) = no_lone x
-no_lone (Dropped x) = no_lone x
-no_lone (Called n x) = no_lone x
-no_lone (Verbatim x) = true
-no_lone (Node k x) = is_no_lone k x && no_lone x
-no_lone (Whole x) = no_lone x
-no_lone (Alone k y) = no_lone y
-no_lone (Front k y x) = no_lone y && no_lone x
-no_lone (Back l k y) = no_lone l && no_lone y
-no_lone (Infix l k y r) = no_lone y && (no_lone l && no_lone r)
-no_lone _ = true
+no_lone x = all_nodes is_no_lone x
 
 -- A kind that ends in a pattern may stand before .., by itself alone.
 abbrev pub ends_alone : Tree → Bool
 ends_alone (Node k x) = not (ends_in_pattern k) || no_lone (Node k x)
 ends_alone x = true
 
+-- It is of a kind that has a step, as all that it holds is.
+abbrev pub is_known_alone : Tree → Bool
+is_known_alone (Node k x) = is_known k
+is_known_alone x = false
+
 -- of a tree that stands by itself, and of all that it holds
 abbrev pub is_covered : Tree → Bool
-is_covered x = stands_alone x && (is_asked_alone x && (ends_alone x && all_asked x))
+is_covered x = stands_alone x && (is_known_alone x && (is_asked_alone x && (ends_alone x && all_asked x)))

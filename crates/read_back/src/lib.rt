@@ -20,7 +20,7 @@
 //! `ReadBack` the laws of kinds, and `Positions` those of an expression where it stands (`specs/Parts`). What is asked
 //! of a tree is less than what the steps go by: `Told` has what the tests of the entries saw, wherever it was read
 //! (`ToldItems` of an item among statements, `ToldExpressions` of an expression there, by `ToldStarts` and
-//! `ToldBraces`).
+//! `ToldBraces`; by `ToldKinds` each entry refers to kinds that have a step).
 //! `Examples` has an expression for each law.
 //!
 //! - `laws`: the laws.
