@@ -17,6 +17,8 @@ pub data Class : Type 0 where
   Quoted : (passes : List ℕ → Bool) → Class
   Tick : Class
   Opening : (delimiter : Delimiter) → Class
+  -- a word that passes with what stands behind it
+  AnyFront : (passes : List ℕ → List Token → Bool) → Class
   -- a punctuation, and behind it
   Then : (first : ℕ) (others : List ℕ) (next : Class) → Class
   -- what a raw item begins with
@@ -33,6 +35,7 @@ abbrev pub IsAt : Class → List Token → Type 0
 IsAt (Sign c cs) ts = (us : List Token) × (ts ≡ marks c cs Apart ++ us)
 IsAt (TheWord cs) ts = (us : List Token) × (ts ≡ Ident cs ∷ us)
 IsAt (AnyWord p) ts = (cs : List ℕ) × (us : List Token) × (p cs ≡ true) × (ts ≡ Ident cs ∷ us)
+IsAt (AnyFront p) ts = (cs : List ℕ) × (us : List Token) × (p cs us ≡ true) × (ts ≡ Ident cs ∷ us)
 IsAt (Quoted p) ts = (cs : List ℕ) × (us : List Token) × (p cs ≡ true) × (ts ≡ Literal cs ∷ us)
 IsAt Tick ts = (cs : List ℕ) × (us : List Token) × (ts ≡ Punct 39 Joint ∷ Ident cs ∷ us)
 IsAt (Opening d) ts = (us : List Token) × (ts ≡ Opens d ∷ us)
@@ -49,6 +52,7 @@ abbrev pub OfEach : (List Token → Type 0) → Class → Type 0
 OfEach P (Sign c cs) = (us : List Token) → P (marks c cs Apart ++ us)
 OfEach P (TheWord cs) = (us : List Token) → P (Ident cs ∷ us)
 OfEach P (AnyWord p) = (cs : List ℕ) → p cs ≡ true → (us : List Token) → P (Ident cs ∷ us)
+OfEach P (AnyFront p) = (cs : List ℕ) → (us : List Token) → p cs us ≡ true → P (Ident cs ∷ us)
 OfEach P (Quoted p) = (cs : List ℕ) → p cs ≡ true → (us : List Token) → P (Literal cs ∷ us)
 OfEach P Tick = (cs : List ℕ) → (us : List Token) → P (Punct 39 Joint ∷ Ident cs ∷ us)
 OfEach P (Opening d) = (us : List Token) → P (Opens d ∷ us)
@@ -63,6 +67,7 @@ pub of_each : (P : List Token → Type 0) (c : Class) (ts : List Token) → OfEa
 of_each P (Sign c cs) ts h i = subst P (sym i.1) (h i.0)
 of_each P (TheWord cs) ts h i = subst P (sym i.1) (h i.0)
 of_each P (AnyWord p) ts h i = subst P (sym i.3) (h i.0 i.2 i.1)
+of_each P (AnyFront p) ts h i = subst P (sym i.3) (h i.0 i.1 i.2)
 of_each P (Quoted p) ts h i = subst P (sym i.3) (h i.0 i.2 i.1)
 of_each P Tick ts h i = subst P (sym i.2) (h i.0 i.1)
 of_each P (Opening d) ts h i = subst P (sym i.1) (h i.0)

@@ -10,7 +10,7 @@ use Rattle.syn_grammar.specs.Kind.{Kind, AForeignItem, AFunction, AStatic, AType
 use Rattle.syn_grammar.specs.Kind.{OuterAttributes, Plain, Position, Signature, Visibility}
 use Rattle.syn_grammar.specs.Name.{Part, same_part, the_body, the_bounds, the_item, the_safety, the_type, the_value}
 use Rattle.syn_grammar.specs.Name.{the_visibility}
-use Rattle.syn_grammar.specs.Words.{is_among, is_ident, is_string, same_text, is_reserved}
+use Rattle.syn_grammar.specs.Words.{is_among, is_string, same_text, is_reserved}
 use Rattle.syn_grammar.specs.Tree.{Tree, ALiteral, AWord, Called, First, Nil, Node, Pair, Second, Verbatim, flat}
 use Rattle.syn_grammar.specs.Part.{changed, choice, found, has, or_else, or_nil, the}
 use Rattle.syn_grammar.specs.Gram.{Gram, Keep, alt, judged, literal, ref}
@@ -26,13 +26,14 @@ use Rattle.syn_grammar.specs.Derives.{Derives}
 use Rattle.syn_grammar.specs.Tidy.{moved}
 use Rattle.syn_grammar.specs.Kept.{held, kept}
 use Rattle.syn_grammar.specs.Normal.{passed, place_of, normal_in}
-use Rattle.grammar_back.proofs.MacroItems.{a_word_lacked, macro_classes, macro_front, macro_lacks, macro_seen}
-use Rattle.grammar_back.proofs.MacroItems.{plain_same, with_listed}
+use Rattle.grammar_back.proofs.MacroItems.{a_word_lacked, front_is, macro_classes, macro_front, macro_seen}
+use Rattle.grammar_back.proofs.MacroItems.{place_lacks, plain_same, with_listed}
 use Rattle.grammar_back.proofs.ForeignMacros.{foreign_lacks, foreign_looks}
-use Rattle.grammar_back.proofs.Choices.{both_true}
 use Rattle.grammar_back.proofs.Keywords.{reserved_pub}
 use Rattle.grammar_back.proofs.Sights.{ident_not}
-use Rattle.grammar_back.specs.Covered.{has_step, inner, is_other, is_plain_macro, item_of}
+use Rattle.grammar_back.specs.Covered.{has_step, inner, item_of}
+use Rattle.grammar_back.proofs.MacroPaths.{is_plain_macro}
+use Rattle.grammar_back.proofs.ReadMacros.{other_read, own_read}
 use Rattle.grammar_back.specs.Sees.{Lacks, LacksAll}
 use Rattle.item_laws.proofs.Stays.{item_stays}
 use Rattle.grammar_back.proofs.RawItems.{raw_front}
@@ -221,7 +222,7 @@ abbrev safe_class : List Class
 safe_class = the_words safety_words ++ static_class
 
 abbrev form_class : List Class
-form_class = function_class ++ (safe_class ++ (type_class ++ macro_classes))
+form_class = function_class ++ (safe_class ++ (type_class ++ macro_classes InForeign))
 
 found_static : Found safe_static [] safe_class
 unfolding skips
@@ -233,7 +234,7 @@ abbrev FormEdge : Edge
 FormEdge x s = is_plain_macro (choice (item_of x)) ≡ true
 
 macro_begins : (x : Tree) (s : List Token) → Fits x (the_item ∶ ref (ItemMacro InForeign)) → Ready x → FormEdge x s
-    → Derives x (the_item ∶ ref (ItemMacro InForeign)) s × IsAmong macro_classes (flat x ++ s)
+    → Derives x (the_item ∶ ref (ItemMacro InForeign)) s × IsAmong (macro_classes InForeign) (flat x ++ s)
     × LacksAll foreign_looks (flat x ++ s)
 unfolding table skips
 macro_begins (Called n (Node k y)) s f w e =
@@ -241,7 +242,7 @@ macro_begins (Called n (Node k y)) s f w e =
     f w tt in
     let g : Derives y (table (ItemMacro InForeign)) s = subst (λ j. Derives y (table j) s) d.1.0 d.1.1 in
     let j = macro_front InForeign y s g i (subst (λ l. is_plain_macro (Node l y) ≡ true) f.1.0 e) in
-    (d, j, foreign_lacks y s g j)
+    (d, j, foreign_lacks (flat y ++ s) j)
 macro_begins (Called n _) s f w e = absurd f.1
 macro_begins _ s f w e = absurd f
 
@@ -254,7 +255,7 @@ fine_form = record { by = go }
     go (First x) s f w e =
         let (d, i) = (found_called {n = the_item} (found_ref (AFunction InForeign) refl)).fine.by x s f.1 w tt in (
           (function_seen x s d, d),
-          among_left function_class (safe_class ++ (type_class ++ macro_classes)) (flat x ++ s) i,
+          among_left function_class (safe_class ++ (type_class ++ macro_classes InForeign)) (flat x ++ s) i,
         )
     go (Second (First (Pair x z))) s f w e =
         let (d, i) = found_static.fine.by (Pair x z) s f.1.1 w tt in
@@ -269,8 +270,8 @@ fine_form = record { by = go }
               d,
             ),
           ),
-          among_right function_class (safe_class ++ (type_class ++ macro_classes)) (flat (Pair x z) ++ s)
-              (among_left safe_class (type_class ++ macro_classes) (flat (Pair x z) ++ s) i),
+          among_right function_class (safe_class ++ (type_class ++ macro_classes InForeign)) (flat (Pair x z) ++ s)
+              (among_left safe_class (type_class ++ macro_classes InForeign) (flat (Pair x z) ++ s) i),
         )
     go (Second (First _)) s f w e = absurd f.1.1
     go (Second (Second (First x))) s f w e =
@@ -282,17 +283,17 @@ fine_form = record { by = go }
               (told_at (at "type") true type_class (flat x ++ s) (λ us. refl, tt) i, d),
             ),
           ),
-          among_right function_class (safe_class ++ (type_class ++ macro_classes)) (flat x ++ s)
-              (among_right safe_class (type_class ++ macro_classes) (flat x ++ s)
-              (among_left type_class macro_classes (flat x ++ s) i)),
+          among_right function_class (safe_class ++ (type_class ++ macro_classes InForeign)) (flat x ++ s)
+              (among_right safe_class (type_class ++ macro_classes InForeign) (flat x ++ s)
+              (among_left type_class (macro_classes InForeign) (flat x ++ s) i)),
         )
     go (Second (Second (Second (First x)))) s f w e =
         let m = macro_begins x s f.1.1.1.1 w e in
-        let l = macro_lacks (flat x ++ s) m.1 in (
-          (m.2.0, (m.2.1.0, (l.1.1.1.1.1.1.1.1.1.1.1.1.1.0, (macro_seen (flat x ++ s) m.1, m.0)))),
-          among_right function_class (safe_class ++ (type_class ++ macro_classes)) (flat x ++ s)
-              (among_right safe_class (type_class ++ macro_classes) (flat x ++ s)
-              (among_right type_class macro_classes (flat x ++ s) m.1)),
+        let l = place_lacks InForeign (flat x ++ s) m.1 in (
+          (m.2.0, (m.2.1.0, (l.1.1.0, (macro_seen InForeign (flat x ++ s) m.1, m.0)))),
+          among_right function_class (safe_class ++ (type_class ++ macro_classes InForeign)) (flat x ++ s)
+              (among_right safe_class (type_class ++ macro_classes InForeign) (flat x ++ s)
+              (among_right type_class (macro_classes InForeign) (flat x ++ s) m.1)),
         )
     go (Second (Second (Second (Second x)))) s f w e = absurd (none_never x f.1.1.1.1)
     go (Second (Second (Second _))) s f w e = absurd f.1.1.1
@@ -308,7 +309,7 @@ abbrev front_classes : List Class
 front_classes =
     Then 35 [] (Opening Bracket) ∷ TheWord (codes "pub") ∷ (function_class ++ (safe_class ++ type_class))
 
-fine_foreign : Fine whole_foreign FormEdge (At (front_classes ++ macro_classes))
+fine_foreign : Fine whole_foreign FormEdge (At (front_classes ++ macro_classes InForeign))
 unfolding skips
 fine_foreign =
     maybe_ahead FormEdge (TheWord (codes "pub") ∷ form_class) (maybe_ref OuterAttributes refl)
@@ -334,9 +335,8 @@ fine_foreign =
                         (
                           (λ us. refl),
                           (
-                            (λ cs h us. a_word_lacked (same_text (codes "pub") cs) us
-                                (ident_not (codes "pub") cs reserved_pub
-                                (both_true (is_ident cs) (not (is_other cs)) h).0)),
+                            (λ cs us h. a_word_lacked (same_text (codes "pub") cs) us
+                                (ident_not (codes "pub") cs reserved_pub (front_is InForeign cs us h).0)),
                             ((λ us. refl), ((λ us. refl), ((λ us. refl), ((λ us. refl), tt)))),
                           ),
                         ),
@@ -360,7 +360,7 @@ step_a_foreign_item =
     (fine_weaker (λ x s. LacksAll [] s × IsMeant AForeignItem x) (At (starts AForeignItem))
     (fine_raw_or {A = FormEdge} {F = At (starts AForeignItem)}
     (fine_weaker FormEdge (At (starts AForeignItem)) fine_foreign (λ x s c. c)
-    (λ x s i c. inr (with_listed front_classes (flat x ++ s) i)))
+    (λ x s i c. inr (with_listed InForeign front_classes (flat x ++ s) i)))
     (λ x s d. inl (raw_front (item_verdict InForeign) foreign_form (search) x s d))) (λ x s c. c.1) (λ x s i c. i))
 
 -- what is kept of each form
@@ -548,22 +548,47 @@ chosen : Tree → Tree
 chosen (First x) = x
 chosen x = x
 
+-- what was read is a macro as they begin there
+form_plain : (x : Tree) (r : List Token) → Derives x foreign_form r → is_plain_macro (choice (item_of x)) ≡ true
+form_plain (First (Called n y)) r d = other_read (AFunction InForeign) (λ z. refl) y r d.1.1
+form_plain (First _) r d = absurd d.1
+form_plain (Second (First (Pair x (Called n y)))) r d = other_read AStatic (λ z. refl) y r d.1.1.1.1
+form_plain (Second (First (Pair x _))) r d = absurd d.1.1.1
+form_plain (Second (First _)) r d = absurd d.1.1
+form_plain (Second (Second (First (Called n y)))) r d = other_read (ATypeAlias InForeign) (λ z. refl) y r d.1.1.1.1
+form_plain (Second (Second (First _))) r d = absurd d.1.1.1
+form_plain (Second (Second (Second (First (Called n (Node k y)))))) r d =
+    own_read InForeign (Node k y) r d.1.1.1.1.1 d.1.1.1.0 refl
+form_plain (Second (Second (Second (First (Called n _))))) r d = absurd d.1.1.1.1.1
+form_plain (Second (Second (Second (First _)))) r d = absurd d.1.1.1.1
+form_plain (Second (Second (Second (Second Nil)))) r d = absurd d.1.1.1.1
+form_plain (Second (Second (Second (Second _)))) r d = absurd d.1.1.1.1
+form_plain (Second (Second (Second _))) r d = absurd d.1.1.1
+form_plain (Second (Second _)) r d = absurd d.1.1
+form_plain (Second _) r d = absurd d.1
+form_plain _ r d = absurd d
+
+whole_plain : (x : Tree) (r : List Token) → Derives x whole_foreign r → is_plain_macro (choice (item_of x)) ≡ true
+whole_plain (Pair o (Pair v y)) r d = form_plain y r d.1.1
+whole_plain (Pair o _) r d = absurd d.1
+whole_plain _ r d = absurd d
+
 foreign_meant : (x w : Tree) (r : List Token) → Derives x (judged (item_verdict InForeign) whole_foreign) r
     → Fits w (judged (item_verdict InForeign) whole_foreign) → kept w ≡ normal_in Plain (kept x)
-    → is_plain_macro (choice (item_of x)) ≡ true → is_plain_macro (choice (item_of w)) ≡ true
+    → is_plain_macro (choice (item_of w)) ≡ true
 unfolding chosen
-foreign_meant (First x) (First w) r d f e h = (foreign_law x w r d.1 f.1 (ap chosen e)).1 ∙ h
-foreign_meant (First x) (Verbatim w) r d f e h = refl
-foreign_meant (First x) _ r d f e h = absurd f
-foreign_meant (Verbatim x) (First w) r d f e h = cc e
-foreign_meant (Verbatim x) (Verbatim w) r d f e h = refl
-foreign_meant (Verbatim x) _ r d f e h = absurd f
-foreign_meant _ w r d f e h = absurd d
+foreign_meant (First x) (First w) r d f e = (foreign_law x w r d.1 f.1 (ap chosen e)).1 ∙ whole_plain x r d.1
+foreign_meant (First x) (Verbatim w) r d f e = refl
+foreign_meant (First x) _ r d f e = absurd f
+foreign_meant (Verbatim x) (First w) r d f e = cc e
+foreign_meant (Verbatim x) (Verbatim w) r d f e = refl
+foreign_meant (Verbatim x) _ r d f e = absurd f
+foreign_meant _ w r d f e = absurd d
 
 pub law_a_foreign_item : KindLaw AForeignItem
 unfolding has_step held passed place_of table
 law_a_foreign_item =
-    taken_law AForeignItem refl (λ x w r d f e o. foreign_meant x w r d f e o) (λ x. refl) (λ x. refl) (λ q. refl)
+    taken_law AForeignItem refl (λ x w r d f e o. foreign_meant x w r d f e) (λ x. refl) (λ x. refl) (λ q. refl)
     (λ q. refl) (
       (λ x w r c d f e h. (foreign_law x w r d f e).0 h),
       (λ x r d s. (item_stays AForeignItem (Node AForeignItem (Verbatim x)) r s refl (refl, d)).1),

@@ -471,8 +471,10 @@ placing_macro : Placing (ItemMacro InFile)
 placing_macro =
     record {
       after = λ x s. tt;
-      placed = λ y s h d i. let j = macro_front InFile y s d i h in
-          (place_macro y s d j, among_right (the_words item_words) listed_classes (flat y ++ s) (macro_listed (flat y ++ s) j));
+      placed = λ y s h d i. let j = macro_front InFile y s d i h in (
+        place_macro y s d j,
+        among_right (the_words item_words) listed_classes (flat y ++ s) (macro_listed InFile (flat y ++ s) j),
+      );
     }
 
 each_placed : EachPlaced item_form

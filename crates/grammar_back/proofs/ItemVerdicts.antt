@@ -27,12 +27,13 @@ use Rattle.syn_grammar.specs.Tidy.{is_absent, is_bare_colon, is_bare_generics, i
 use Rattle.syn_grammar.specs.Tidy.{tidy_impl, keeps_generics}
 use Rattle.syn_grammar.specs.Tidy.{without_generics}
 use Rattle.syn_grammar.specs.Normal.{passed, place_of, normal_in}
-use Rattle.grammar_back.specs.Covered.{inner, is_no_macro, is_plain_macro}
+use Rattle.grammar_back.specs.Covered.{inner, is_no_macro}
 use Rattle.grammar_back.proofs.Choices.{or_same}
 use Rattle.grammar_back.proofs.Elements.{has_fits, has_read}
 use Rattle.grammar_back.proofs.Fits.{Fits, is_item_form, own_place, place}
 use Rattle.grammar_back.proofs.Impls.{changed_has}
 use Rattle.grammar_back.proofs.MacroItems.{plain_same}
+use Rattle.grammar_back.proofs.MacroPaths.{is_plain_macro}
 use Rattle.grammar_back.proofs.Parts.{none_never}
 use Rattle.grammar_back.proofs.Verdicts.{has_normal}
 

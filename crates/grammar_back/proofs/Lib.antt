@@ -3,6 +3,7 @@ pub mod Classes
 pub mod Starts
 pub mod Afters
 pub mod Begins
+pub mod MacroPaths
 pub mod Fits
 pub mod Bare
 pub mod RawItems
@@ -47,6 +48,7 @@ pub mod Aliases
 pub mod Dotted
 pub mod FieldValues
 pub mod MacroItems
+pub mod ReadMacros
 pub mod ItemPlaces
 pub mod ItemVerdicts
 pub mod Braces

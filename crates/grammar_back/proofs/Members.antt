@@ -1,7 +1,7 @@
 -- The steps and the laws of items in traits and impls: default may stand before their form too.
 use Rattle.std.proofs.Common.{◌≡◌, List, [], ◌∷◌, ◌++◌, refl, sym, ap, ◌∙◌, subst, suc, inl, inr}
 use Rattle.std.specs.Prelude.{Bool, true, false, ◌||◌, not, cond, codes, Option, Some, None, ℕ}
-use Rattle.proc_macro2.specs.Token.{Token, Ident}
+use Rattle.proc_macro2.specs.Token.{Token}
 use Rattle.syn_grammar.specs.Kind.{Kind, AConst, AFunction, ATraitItem, ATypeAlias, AnImplItem, Body, InFile, InImpl}
 use Rattle.syn_grammar.specs.Kind.{InTrait, ItemMacro, OuterAttributes, Place, Plain, Signature, Visibility}
 use Rattle.syn_grammar.specs.Name.{Part, same_part, the_body, the_default, the_generics, the_item, the_visibility}
@@ -9,8 +9,8 @@ use Rattle.syn_grammar.specs.Name.{the_where}
 use Rattle.syn_grammar.specs.Tree.{Tree, AWord, Called, First, Nil, Node, Pair, Second, Verbatim, flat}
 use Rattle.syn_grammar.specs.Part.{choice, found, has, is_some, or_else, or_nil, the}
 use Rattle.syn_grammar.specs.Gram.{Gram, Keep, judged, ref}
-use Rattle.syn_grammar.specs.Look.{behind as past, no, seen, sees, ◌then◌}
-use Rattle.syn_grammar.specs.Say.{at, brace, keyword, marks, refused, sign, when◌read◌else◌, ◌∶◌, ◌▸◌}
+use Rattle.syn_grammar.specs.Look.{Look, behind as past, no, seen, sees, ◌then◌}
+use Rattle.syn_grammar.specs.Say.{at, brace, keyword, marks, optional, refused, sign, when◌read◌else◌, ◌∶◌, ◌▸◌}
 use Rattle.syn_grammar.specs.Items.{signature, signature_stands}
 use Rattle.syn_grammar.specs.Lists.{default_there, item_form, macro_stands}
 use Rattle.syn_grammar.specs.Verdicts.{form_in, is_generic, is_public, is_where, item_verdict, marked, raw_if}
@@ -21,14 +21,15 @@ use Rattle.syn_grammar.specs.Kept.{held, kept}
 use Rattle.syn_grammar.specs.Normal.{passed, place_of, normal_in}
 use Rattle.item_laws.proofs.Places.{place_const, place_function}
 use Rattle.item_laws.proofs.Readers.{flat_choice}
-use Rattle.grammar_back.specs.Covered.{has_step, inner, is_other, is_plain_macro, item_of}
+use Rattle.grammar_back.specs.Covered.{has_step, inner, is_no_macro, item_of}
+use Rattle.grammar_back.proofs.MacroPaths.{is_plain_macro}
+use Rattle.grammar_back.proofs.ReadMacros.{default_look, other_read, own_read}
 use Rattle.grammar_back.proofs.Keywords.{reserved_pub}
-use Rattle.grammar_back.proofs.MacroItems.{a_word_lacked, macro_classes, macro_front, macro_lacks, macro_seen}
-use Rattle.grammar_back.proofs.MacroItems.{no_default, plain_same, with_listed}
-use Rattle.grammar_back.proofs.Choices.{both_true}
+use Rattle.grammar_back.proofs.MacroItems.{a_word_lacked, default_lacked, front_is, macro_classes}
+use Rattle.grammar_back.proofs.MacroItems.{macro_front, macro_seen, never, no_default, place_lacks, plain_same}
+use Rattle.grammar_back.proofs.MacroItems.{with_listed}
 use Rattle.grammar_back.proofs.Sights.{ident_not}
-use Rattle.item_laws.proofs.Places.{none_then}
-use Rattle.syn_grammar.specs.Words.{is_ident, same_text, is_reserved}
+use Rattle.syn_grammar.specs.Words.{same_text, is_reserved}
 use Rattle.proc_macro2.specs.declared.delimiter.Delimiter.TheVariants.{Bracket}
 use Rattle.grammar_back.specs.Sees.{Lacks, LacksAll}
 use Rattle.item_laws.proofs.Stays.{item_stays}
@@ -122,14 +123,14 @@ module _ (p : Place) (cs : List Class) (functions : Found (ref (AFunction p)) []
     (unsigned : (x : Tree) (r : List Token) → Derives x (ref AConst) r → Lacks (signature_stands p) (flat x ++ r))
     (no_type : Told (signature_stands p) false type_class)
     (macros : Found (ref (ItemMacro p)) [] (starts (ItemMacro InFile)))
-    (no_signature : (ts : List Token) → IsAmong macro_classes ts → Lacks (signature_stands p) ts) where
+    (no_signature : (ts : List Token) → IsAmong (macro_classes p) ts → Lacks (signature_stands p) ts) where
   function_seen : (x : Tree) (r : List Token) → Derives x (ref (AFunction p)) r
       → sees (signature_stands p) (flat x ++ r) ≡ true
   function_seen (Node k x) r d = signed x r (subst (λ j. Derives x (table j) r) d.0 d.1)
   function_seen _ r d = absurd d
 
   macro_begins : (x : Tree) (s : List Token) → Fits x (ref (ItemMacro p)) → Ready x → is_plain_macro (choice x) ≡ true
-      → Derives x (ref (ItemMacro p)) s × IsAmong macro_classes (flat x ++ s)
+      → Derives x (ref (ItemMacro p)) s × IsAmong (macro_classes p) (flat x ++ s)
   unfolding table skips
   macro_begins (Node k y) s f w e =
       let (d, i) = macros.fine.by (Node k y) s f w tt in (
@@ -139,20 +140,20 @@ module _ (p : Place) (cs : List Class) (functions : Found (ref (AFunction p)) []
       )
   macro_begins _ s f w e = absurd f
 
-  fine_member : Fine (member_form p) FormEdge (At (cs ++ (const_class ++ (type_class ++ macro_classes))))
+  fine_member : Fine (member_form p) FormEdge (At (cs ++ (const_class ++ (type_class ++ macro_classes p))))
   unfolding skips
   fine_member = record { by = go }
     where
       go : (x : Tree) (s : List Token) → Fits x (member_form p) → Ready x → FormEdge x s
-          → Derives x (member_form p) s × At (cs ++ (const_class ++ (type_class ++ macro_classes))) x s
+          → Derives x (member_form p) s × At (cs ++ (const_class ++ (type_class ++ macro_classes p))) x s
       go (First x) s f w e =
           let (d, i) = functions.fine.by x s f.1 w tt in
-          ((function_seen x s d, d), among_left cs (const_class ++ (type_class ++ macro_classes)) (flat x ++ s) i)
+          ((function_seen x s d, d), among_left cs (const_class ++ (type_class ++ macro_classes p)) (flat x ++ s) i)
       go (Second (First x)) s f w e =
           let (d, i) = (found_ref AConst refl).fine.by x s f.1.1 w tt in (
             (unsigned x s d, (told_at (at "const") true const_class (flat x ++ s) (λ us. refl, tt) i, d)),
-            among_right cs (const_class ++ (type_class ++ macro_classes)) (flat x ++ s)
-                (among_left const_class (type_class ++ macro_classes) (flat x ++ s) i),
+            among_right cs (const_class ++ (type_class ++ macro_classes p)) (flat x ++ s)
+                (among_left const_class (type_class ++ macro_classes p) (flat x ++ s) i),
           )
       go (Second (Second (First x))) s f w e =
           let (d, i) = types.fine.by x s f.1.1.1 w tt in (
@@ -163,23 +164,23 @@ module _ (p : Place) (cs : List Class) (functions : Found (ref (AFunction p)) []
                 (told_at (at "type") true type_class (flat x ++ s) (λ us. refl, tt) i, d),
               ),
             ),
-            among_right cs (const_class ++ (type_class ++ macro_classes)) (flat x ++ s)
-                (among_right const_class (type_class ++ macro_classes) (flat x ++ s)
-                (among_left type_class macro_classes (flat x ++ s) i)),
+            among_right cs (const_class ++ (type_class ++ macro_classes p)) (flat x ++ s)
+                (among_right const_class (type_class ++ macro_classes p) (flat x ++ s)
+                (among_left type_class (macro_classes p) (flat x ++ s) i)),
           )
       go (Second (Second (Second (First x)))) s f w e =
           let (d, i) = macro_begins x s f.1.1.1.1 w e in
-          let l = macro_lacks (flat x ++ s) i in (
+          let l = place_lacks p (flat x ++ s) i in (
             (
               no_signature (flat x ++ s) i,
               (
-                l.1.1.1.1.1.1.1.0,
-                (l.1.1.1.1.1.1.1.1.1.1.1.1.1.0, (macro_seen (flat x ++ s) i, d)),
+                l.1.0,
+                (l.1.1.0, (macro_seen p (flat x ++ s) i, d)),
               ),
             ),
-            among_right cs (const_class ++ (type_class ++ macro_classes)) (flat x ++ s)
-                (among_right const_class (type_class ++ macro_classes) (flat x ++ s)
-                (among_right type_class macro_classes (flat x ++ s) i)),
+            among_right cs (const_class ++ (type_class ++ macro_classes p)) (flat x ++ s)
+                (among_right const_class (type_class ++ macro_classes p) (flat x ++ s)
+                (among_right type_class (macro_classes p) (flat x ++ s) i)),
           )
       go (Second (Second (Second (Second x)))) s f w e = absurd (none_never x f.1.1.1.1)
       go (Second (Second (Second _))) s f w e = absurd f.1.1.1
@@ -200,8 +201,8 @@ function_class =
     TheWord (codes "const") ∷ TheWord (codes "async") ∷ TheWord (codes "unsafe") ∷ TheWord (codes "extern")
     ∷ TheWord (codes "fn") ∷ []
 
-abbrev form_class : List Class
-form_class = function_class ++ (const_class ++ (type_class ++ macro_classes))
+abbrev form_class : Place → List Class
+form_class p = function_class ++ (const_class ++ (type_class ++ macro_classes p))
 
 abbrev default_class : List Class
 default_class = TheWord (codes "default") ∷ []
@@ -234,16 +235,18 @@ maybe_default = record { fine = record { by = go } }
     go (Second _) s f w a = absurd f.1
     go _ s f w a = absurd f
 
-fine_trait_item : Fine (whole_member InTrait) MemberEdge (At (front_classes ++ macro_classes))
+fine_trait_item : Fine (whole_member InTrait) MemberEdge (At (front_classes ++ macro_classes InTrait))
 unfolding skips
 fine_trait_item =
-    maybe_ahead MemberEdge (TheWord (codes "pub") ∷ default_class ++ form_class) (maybe_ref OuterAttributes refl)
-    (maybe_ahead MemberEdge (default_class ++ form_class) (maybe_called (maybe_ref Visibility refl))
-    (maybe_ahead MemberEdge form_class
+    maybe_ahead MemberEdge (TheWord (codes "pub") ∷ default_class ++ form_class InTrait)
+    (maybe_ref OuterAttributes refl)
+    (maybe_ahead MemberEdge (default_class ++ form_class InTrait) (maybe_called (maybe_ref Visibility refl))
+    (maybe_ahead MemberEdge (form_class InTrait)
     (found_optional (at "default") (found_called (found_text "default")) (λ us. refl, tt))
-    (fine_called {A = MemberEdge} {F = At form_class}
+    (fine_called {A = MemberEdge} {F = At (form_class InTrait)}
     (fine_member InTrait function_class (found_ref (AFunction InTrait) refl) (found_ref (ATypeAlias InTrait) refl)
-    signed_trait const_unsigned (λ us. refl, tt) (found_ref (ItemMacro InTrait) refl) (λ ts i. (macro_lacks ts i).0))) (
+    signed_trait const_unsigned (λ us. refl, tt) (found_ref (ItemMacro InTrait) refl)
+    (λ ts i. (place_lacks InTrait ts i).0))) (
       (
         (λ us. refl),
         (
@@ -259,7 +262,7 @@ fine_trait_item =
                   (
                     (λ us. refl),
                     (
-                      (λ cs h us. a_word_lacked (same_text (codes "default") cs) us (no_default cs h)),
+                      (λ cs us h. no_default cs us h),
                       ((λ us. refl), ((λ us. refl), ((λ us. refl), ((λ us. refl), tt)))),
                     ),
                   ),
@@ -289,8 +292,8 @@ fine_trait_item =
                     (
                       (λ us. refl),
                       (
-                        (λ cs h us. a_word_lacked (same_text (codes "pub") cs) us
-                            (ident_not (codes "pub") cs reserved_pub (both_true (is_ident cs) (not (is_other cs)) h).0)),
+                        (λ cs us h. a_word_lacked (same_text (codes "pub") cs) us
+                            (ident_not (codes "pub") cs reserved_pub (front_is InTrait cs us h).0)),
                         ((λ us. refl), ((λ us. refl), ((λ us. refl), ((λ us. refl), tt)))),
                       ),
                     ),
@@ -305,15 +308,16 @@ fine_trait_item =
     )
     (λ x y s c. c)) ((search), tt) (λ x y s c. c)
 
-fine_impl_item : Fine (whole_member InImpl) MemberEdge (At (front_classes ++ macro_classes))
+fine_impl_item : Fine (whole_member InImpl) MemberEdge (At (front_classes ++ macro_classes InImpl))
 unfolding skips
 fine_impl_item =
-    maybe_ahead MemberEdge (TheWord (codes "pub") ∷ default_class ++ form_class) (maybe_ref OuterAttributes refl)
-    (maybe_ahead MemberEdge (default_class ++ form_class) (maybe_called (maybe_ref Visibility refl))
-    (maybe_ahead MemberEdge form_class maybe_default
-    (fine_called {A = MemberEdge} {F = At form_class}
+    maybe_ahead MemberEdge (TheWord (codes "pub") ∷ default_class ++ form_class InImpl) (maybe_ref OuterAttributes refl)
+    (maybe_ahead MemberEdge (default_class ++ form_class InImpl) (maybe_called (maybe_ref Visibility refl))
+    (maybe_ahead MemberEdge (form_class InImpl) maybe_default
+    (fine_called {A = MemberEdge} {F = At (form_class InImpl)}
     (fine_member InImpl function_class (found_ref (AFunction InImpl) refl) (found_ref (ATypeAlias InImpl) refl)
-    signed_impl const_unsigned (λ us. refl, tt) (found_ref (ItemMacro InImpl) refl) (λ ts i. (macro_lacks ts i).0))) (
+    signed_impl const_unsigned (λ us. refl, tt) (found_ref (ItemMacro InImpl) refl)
+    (λ ts i. (place_lacks InImpl ts i).0))) (
       (
         (λ us. refl),
         (
@@ -329,8 +333,7 @@ fine_impl_item =
                   (
                     (λ us. refl),
                     (
-                      (λ cs h us. none_then (at "default") (no (marks "!")) (Ident cs ∷ us)
-                          (a_word_lacked (same_text (codes "default") cs) us (no_default cs h))),
+                      (λ cs us h. default_lacked InImpl (λ b e. e) cs us (front_is InImpl cs us h).2),
                       ((λ us. refl), ((λ us. refl), ((λ us. refl), ((λ us. refl), tt)))),
                     ),
                   ),
@@ -359,8 +362,8 @@ fine_impl_item =
                     (
                       (λ us. refl),
                       (
-                        (λ cs h us. a_word_lacked (same_text (codes "pub") cs) us
-                            (ident_not (codes "pub") cs reserved_pub (both_true (is_ident cs) (not (is_other cs)) h).0)),
+                        (λ cs us h. a_word_lacked (same_text (codes "pub") cs) us
+                            (ident_not (codes "pub") cs reserved_pub (front_is InImpl cs us h).0)),
                         ((λ us. refl), ((λ us. refl), ((λ us. refl), ((λ us. refl), tt)))),
                       ),
                     ),
@@ -382,7 +385,7 @@ step_a_trait_item =
     (fine_weaker (λ x s. LacksAll [] s × IsMeant ATraitItem x) (At (starts ATraitItem))
     (fine_raw_or {A = MemberEdge} {F = At (starts ATraitItem)}
     (fine_weaker MemberEdge (At (starts ATraitItem)) fine_trait_item (λ x s c. c)
-    (λ x s i c. inr (with_listed front_classes (flat x ++ s) i)))
+    (λ x s i c. inr (with_listed InTrait front_classes (flat x ++ s) i)))
     (λ x s d. inl (raw_front (item_verdict InTrait) (default_there InTrait ▸ the_item ∶ member_form InTrait) (search)
     x s d))) (λ x s c. c.1)
     (λ x s i c. i))
@@ -394,7 +397,7 @@ step_an_impl_item =
     (fine_weaker (λ x s. LacksAll [] s × IsMeant AnImplItem x) (At (starts AnImplItem))
     (fine_raw_or {A = MemberEdge} {F = At (starts AnImplItem)}
     (fine_weaker MemberEdge (At (starts AnImplItem)) fine_impl_item (λ x s c. c)
-    (λ x s i c. inr (with_listed front_classes (flat x ++ s) i)))
+    (λ x s i c. inr (with_listed InImpl front_classes (flat x ++ s) i)))
     (λ x s d. inl (raw_front (item_verdict InImpl) (default_there InImpl ▸ the_item ∶ member_form InImpl) (search) x
     s d))) (λ x s c. c.1)
     (λ x s i c. i))
@@ -475,13 +478,61 @@ its_form : Tree → Tree
 its_form (Pair o (Pair v (Pair d (Called m y)))) = y
 its_form x = x
 
+-- default is not there, as a macro behind it is refused
+second_none : (a b : Bool) → (a || b) ≡ false → b ≡ false
+second_none false b e = e
+second_none true b e = cc e
+
+default_none : (k : Kind) (o : Tree) (n : Part) (v c z : Tree) → n ≡ the_visibility
+    → has the_default (Pair (Node k o) (Pair (Called n v) (Pair c z))) ≡ false → has the_default c ≡ false
+unfolding same_part
+default_none k o n v c z e h =
+    go (found the_default c) (found the_default z)
+    (subst (λ j. has the_default (Pair (Node k o) (Pair (Called j v) (Pair c z))) ≡ false) e h)
+  where
+    go : (a b : Option Tree) → is_some (or_else a b) ≡ false → is_some a ≡ false
+    go None b f = refl
+    go (Some y) b f = f
+
+module _ (l : Look) where
+  undefaulted : (c : Tree) (ts : List Token) → Derives c (optional l (the_default ∶ keyword "default")) ts
+      → has the_default c ≡ false → Lacks l ts
+  unfolding same_part
+  undefaulted (First (Called n y)) ts d h =
+      absurd (never (sym h ∙ ap (λ j. has the_default (First (Called j y))) d.1.0))
+  undefaulted (First _) ts d h = absurd d.1
+  undefaulted (Second Nil) ts d h = d.0
+  undefaulted (Second _) ts d h = absurd d.1
+  undefaulted _ ts d h = absurd d
+
+unmarked_trait : (b : Bool) (x : Tree) → is_no_macro x ≡ false → form_in InTrait b x ≡ Keep → b ≡ false
+unmarked_trait false x n e = refl
+unmarked_trait true (Node (ItemMacro q) y) n e = cc e
+unmarked_trait true _ n e = absurd (never (sym n))
+
+unmarked_impl : (b : Bool) (x : Tree) → is_no_macro x ≡ false → form_in InImpl b x ≡ Keep → b ≡ false
+unmarked_impl false x n e = refl
+unmarked_impl true (Node (ItemMacro q) y) n e = cc e
+unmarked_impl true _ n e = absurd (never (sym n))
+
+abbrev InFront : Gram → Look → Type 0
+InFront g l = (c : Tree) (ts : List Token) → Derives c g ts → has the_default c ≡ false → Lacks l ts
+
+trait_default : InFront (default_there InTrait) (default_look InTrait)
+trait_default c ts d e = undefaulted (at "default") c ts d e
+
+impl_default : InFront (default_there InImpl) (default_look InImpl)
+impl_default c ts d e = undefaulted (at "default" then no (marks "!")) c ts d e
+
 abbrev MemberLaw : Place → Tree → Tree → Type 0
 MemberLaw p x w =
     (item_verdict p x ≡ Keep → item_verdict p w ≡ Keep)
     × (is_plain_macro (choice (item_of w)) ≡ is_plain_macro (choice (item_of x)))
 
 module _ (p : Place) (marks_are : (x : Tree) → marked p x ≡ (is_public (the the_visibility x) || has the_default x))
-    (no_item : lacks_part the_item (default_there p) ≡ true) (each : EachOf (SameMember p) (member_form p)) where
+    (no_item : lacks_part the_item (default_there p) ≡ true) (each : EachOf (SameMember p) (member_form p))
+    (no_default_there : InFront (default_there p) (default_look p))
+    (unmarked : (b : Bool) (x : Tree) → is_no_macro x ≡ false → form_in p b x ≡ Keep → b ≡ false) where
   member_law : (x w : Tree) (r : List Token) → Derives x (whole_member p) r → Fits w (whole_member p)
       → kept w ≡ normal_in Plain (kept x) → MemberLaw p x w
   unfolding its_visibility its_default its_form
@@ -522,20 +573,54 @@ module _ (p : Place) (marks_are : (x : Tree) → marked p x ≡ (is_public (the 
   member_law (Pair _ y) w r d f e = absurd d.0
   member_law _ w r d f e = absurd d
 
+  -- what was read is a macro as they begin there
+  form_plain : (y : Tree) (r : List Token) → Derives y (member_form p) r
+      → (is_no_macro (choice y) ≡ false → Lacks (default_look p) (flat y ++ r)) → is_plain_macro (choice y) ≡ true
+  form_plain (First y) r d f = other_read (AFunction p) (λ z. refl) y r d.1
+  form_plain (Second (First y)) r d f = other_read AConst (λ z. refl) y r d.1.1
+  form_plain (Second (Second (First y))) r d f = other_read (ATypeAlias p) (λ z. refl) y r d.1.1.1
+  form_plain (Second (Second (Second (First (Node k y))))) r d f =
+      own_read p (Node k y) r d.1.1.1.1 d.1.1.1.0 (f (ap (λ j. is_no_macro (Node j y)) d.1.1.1.1.0))
+  form_plain (Second (Second (Second (First _)))) r d f = absurd d.1.1.1.1
+  form_plain (Second (Second (Second (Second Nil)))) r d f = absurd d.1.1.1.1
+  form_plain (Second (Second (Second (Second _)))) r d f = absurd d.1.1.1.1
+  form_plain (Second (Second (Second _))) r d f = absurd d.1.1.1
+  form_plain (Second (Second _)) r d f = absurd d.1.1
+  form_plain (Second _) r d f = absurd d.1
+  form_plain _ r d f = absurd d
+
+  whole_plain : (x : Tree) (r : List Token) → item_verdict p x ≡ Keep → Derives x (whole_member p) r
+      → is_plain_macro (choice (item_of x)) ≡ true
+  whole_plain (Pair (Node k o) (Pair (Called n v) (Pair c (Called m y)))) r e d =
+      let x : Tree = Pair (Node k o) (Pair (Called n v) (Pair c (Called m y))) in
+      let lacks_c = has_none the_item c (default_there p) (flat y ++ r) d.1.1.0 no_item in
+      form_plain y r d.1.1.1.1
+      (λ h. no_default_there c (flat y ++ r) d.1.1.0 (default_none k o n v c (Called m y) d.1.0.0
+      (second_none (is_public (the the_visibility x)) (has the_default x) (sym (marks_are x) ∙ unmarked (marked p x)
+      (choice y) h (sym (ap (λ t. form_in p (marked p x) (choice t))
+      (the_item_is k o n v c m y d.1.0.0 d.1.1.1.0 lacks_c)) ∙ e)))))
+  whole_plain (Pair (Node k o) (Pair (Called n v) (Pair c _))) r e d = absurd d.1.1.1
+  whole_plain (Pair (Node k o) (Pair (Called n v) _)) r e d = absurd d.1.1
+  whole_plain (Pair (Node k o) (Pair _ y)) r e d = absurd d.1.0
+  whole_plain (Pair (Node k o) _) r e d = absurd d.1
+  whole_plain (Pair _ y) r e d = absurd d.0
+  whole_plain _ r e d = absurd d
+
   pub member_meant : (x w : Tree) (r : List Token) → Derives x (judged (item_verdict p) (whole_member p)) r
       → Fits w (judged (item_verdict p) (whole_member p)) → kept w ≡ normal_in Plain (kept x)
-      → is_plain_macro (choice (item_of x)) ≡ true → is_plain_macro (choice (item_of w)) ≡ true
-  member_meant (First x) (First w) r d f e h = (member_law x w r d.1 f.1 (ap inside e)).1 ∙ h
+      → is_plain_macro (choice (item_of w)) ≡ true
+  member_meant (First x) (First w) r d f e =
+      (member_law x w r d.1 f.1 (ap inside e)).1 ∙ whole_plain x r d.0 d.1
     where
       inside : Tree → Tree
       inside (First x) = x
       inside x = x
-  member_meant (First x) (Verbatim w) r d f e h = refl
-  member_meant (First x) _ r d f e h = absurd f
-  member_meant (Verbatim x) (First w) r d f e h = cc e
-  member_meant (Verbatim x) (Verbatim w) r d f e h = refl
-  member_meant (Verbatim x) _ r d f e h = absurd f
-  member_meant _ w r d f e h = absurd d
+  member_meant (First x) (Verbatim w) r d f e = refl
+  member_meant (First x) _ r d f e = absurd f
+  member_meant (Verbatim x) (First w) r d f e = cc e
+  member_meant (Verbatim x) (Verbatim w) r d f e = refl
+  member_meant (Verbatim x) _ r d f e = absurd f
+  member_meant _ w r d f e = absurd d
 
 each_trait : EachOf (SameMember InTrait) (member_form InTrait)
 each_trait = (trait_function, (trait_constant, (trait_alias, (trait_macro, tt))))
@@ -546,9 +631,10 @@ each_impl = (impl_function, (impl_constant, (impl_alias, (impl_macro, tt))))
 pub law_a_trait_item : KindLaw ATraitItem
 unfolding has_step held passed place_of table same_part
 law_a_trait_item =
-    taken_law ATraitItem refl (λ x w r d f e o. member_meant InTrait (λ x. refl) refl each_trait x w r d f e o)
+    taken_law ATraitItem refl
+    (λ x w r d f e o. member_meant InTrait (λ x. refl) refl each_trait trait_default unmarked_trait x w r d f e)
     (λ x. refl) (λ x. refl) (λ q. refl) (λ q. refl) (
-      λ x w r c d f e h. (member_law InTrait (λ x. refl) refl each_trait x w r d f e).0 h,
+      λ x w r c d f e h. (member_law InTrait (λ x. refl) refl each_trait trait_default unmarked_trait x w r d f e).0 h,
       λ x r d s. (item_stays ATraitItem (Node ATraitItem (Verbatim x)) r s refl (refl, d)).1,
       simple_law Plain (whole_member InTrait) refl,
     )
@@ -556,9 +642,10 @@ law_a_trait_item =
 pub law_an_impl_item : KindLaw AnImplItem
 unfolding has_step held passed place_of table same_part
 law_an_impl_item =
-    taken_law AnImplItem refl (λ x w r d f e o. member_meant InImpl (λ x. refl) refl each_impl x w r d f e o)
+    taken_law AnImplItem refl
+    (λ x w r d f e o. member_meant InImpl (λ x. refl) refl each_impl impl_default unmarked_impl x w r d f e)
     (λ x. refl) (λ x. refl) (λ q. refl) (λ q. refl) (
-      λ x w r c d f e h. (member_law InImpl (λ x. refl) refl each_impl x w r d f e).0 h,
+      λ x w r c d f e h. (member_law InImpl (λ x. refl) refl each_impl impl_default unmarked_impl x w r d f e).0 h,
       λ x r d s. (item_stays AnImplItem (Node AnImplItem (Verbatim x)) r s refl (refl, d)).1,
       simple_law Plain (whole_member InImpl) refl,
     )

@@ -17,7 +17,7 @@ use Rattle.syn_grammar.specs.Derives.{Derives}
 use Rattle.syn_grammar.specs.Kept.{forget, held, kept}
 use Rattle.syn_grammar.specs.Tidy.{tidy}
 use Rattle.syn_grammar.specs.Normal.{passed, place_of, normal_in}
-use Rattle.grammar_back.specs.Covered.{has_step, inner, is_known, is_no_macro, is_plain_macro, is_taken, item_of}
+use Rattle.grammar_back.specs.Covered.{has_step, inner, is_known, is_no_macro, is_taken, item_of}
 use Rattle.grammar_back.specs.Sees.{LacksAll}
 use Rattle.item_laws.proofs.Stays.{item_stays}
 use Rattle.grammar_back.proofs.RawItems.{raw_front}
@@ -31,6 +31,7 @@ use Rattle.grammar_back.proofs.Printed.{EntryLaw, IsPlaced, KindLaw, Printed, si
 use Rattle.grammar_back.proofs.ItemPlaces.{fine_form, item_classes, placed_own}
 use Rattle.grammar_back.proofs.Keywords.{reserved_pub}
 use Rattle.grammar_back.proofs.MacroItems.{a_word_lacked}
+use Rattle.grammar_back.proofs.ReadMacros.{form_read}
 use Rattle.grammar_back.proofs.Sights.{ident_not}
 use Rattle.grammar_back.proofs.ItemVerdicts.{SameItem, each_item, form_same, kept_form, place_fits, place_normal}
 use Rattle.grammar_back.proofs.ItemVerdicts.{place_read, same_has}
@@ -135,8 +136,7 @@ WholeLaw x w =
     (r : List Token) → Derives x whole_item r → Fits w whole_item → kept w ≡ normal_in Plain (kept x)
     → (item_verdict InFile x ≡ Keep → item_verdict InFile w ≡ Keep) × SameItem (choice (item_of x)) (choice (item_of w))
     × (place (item_of w) ≡ own_place (choice (item_of x)))
-    × (item_verdict InFile x ≡ Keep → is_plain_macro (choice (item_of x)) ≡ true
-    → is_item_form (choice (item_of x)) ≡ true)
+    × (item_verdict InFile x ≡ Keep → is_item_form (choice (item_of x)) ≡ true)
 
 whole_same : (x w : Tree) → Whole x w → WholeLaw x w
 unfolding place_of behind_both visible same_part
@@ -148,7 +148,7 @@ whole_same x w (wholes k o v y l p u z) r d f e =
       s,
       sym (place_fits z item_form f.1.1.1) ∙ ap place (ap behind_both e) ∙ place_normal Plain (kept y)
           ∙ place_read y item_form r d.1.1.1 ∙ placed_own y r d.1.1.1,
-      λ h n. kept_form (is_public v) (choice y) n h,
+      λ h. kept_form (is_public v) (choice y) (form_read y r d.1.1.1) h,
     )
 
 whole_law : (x w : Tree) → WholeLaw x w
@@ -157,12 +157,11 @@ whole_law x w r d f e =
 
 item_both : (x w : Tree) (r : List Token) → Derives x (table AnItem) r → Fits w (table AnItem)
     → kept w ≡ normal_in Plain (kept x)
-    → (is_plain_macro (choice (item_of x)) ≡ true → IsItem (item_of w))
-    × (is_no_macro (choice (item_of w)) ≡ is_no_macro (choice (item_of x)))
+    → IsItem (item_of w) × (is_no_macro (choice (item_of w)) ≡ is_no_macro (choice (item_of x)))
 unfolding table
 item_both (First x) (First w) r d f e =
     let s = whole_law x w r d.1 f.1 (ap inside e) in
-    ((λ h. (s.2 ∙ sym s.1.1, s.1.2 ∙ s.3 d.0 h)), s.1.3)
+    ((s.2 ∙ sym s.1.1, s.1.2 ∙ s.3 d.0), s.1.3)
   where
     inside : Tree → Tree
     inside (First x) = x
@@ -170,7 +169,7 @@ item_both (First x) (First w) r d f e =
 item_both (First x) (Verbatim w) r d f e = cc e
 item_both (First x) _ r d f e = absurd f
 item_both (Verbatim x) (First w) r d f e = cc e
-item_both (Verbatim x) (Verbatim w) r d f e = ((λ h. (refl, refl)), refl)
+item_both (Verbatim x) (Verbatim w) r d f e = ((refl, refl), refl)
 item_both (Verbatim x) _ r d f e = absurd f
 item_both _ w r d f e = absurd d
 
@@ -205,7 +204,7 @@ taken_law k h n f t u p e = record { entry = λ q l. subst (λ m. EntryLaw m (ta
 pub law_an_item : KindLaw AnItem
 unfolding has_step held passed place_of table
 law_an_item =
-    taken_law AnItem refl (λ x w r d f e o. (item_both x w r d f e).0 o) (λ x. refl) (λ x. refl) (λ q. refl) (λ q. refl) (
+    taken_law AnItem refl (λ x w r d f e o. (item_both x w r d f e).0) (λ x. refl) (λ x. refl) (λ q. refl) (λ q. refl) (
       (λ x w r c d f e h. (whole_law x w r d f e).0 h),
       (λ x r d s. (item_stays AnItem (Node AnItem (Verbatim x)) r s refl (refl, d)).1),
       simple_law Plain whole_item refl,

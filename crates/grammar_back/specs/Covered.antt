@@ -367,29 +367,6 @@ has_own_trait (First (Pair d (Pair c (Pair u (Pair i (Pair g (Pair p (Pair (Call
     not (is_there f) || is_path_type t
 has_own_trait _ = true
 
--- The path of a macro among items begins with ::, or with a word that is none of these.
-abbrev pub is_other : List ℕ → Bool
-is_other cs =
-    same_text (codes "Self") cs
-    || (same_text (codes "union") cs || (same_text (codes "auto") cs || same_text (codes "default") cs))
-
-abbrev pub first_word : Tree → List ℕ
-first_word (First (Pair (AWord cs) y)) = cs
-first_word (Second (Pair (AWord cs) y)) = cs
-first_word _ = []
-
-abbrev pub is_plain_path : Tree → Bool
-is_plain_path (Pair (Second c) (Node k y)) = not (is_other (first_word y))
-is_plain_path _ = true
-
-abbrev pub has_plain_path : Tree → Bool
-has_plain_path (Pair (Node k x) y) = is_plain_path x
-has_plain_path _ = true
-
-abbrev pub is_plain_macro : Tree → Bool
-is_plain_macro (Node (ItemMacro p) x) = has_plain_path x
-is_plain_macro _ = true
-
 abbrev pub is_no_macro : Tree → Bool
 is_no_macro (Node (ItemMacro p) x) = false
 is_no_macro _ = true
@@ -471,11 +448,7 @@ is_taken AConst x = has_lone_value x
 is_taken UnnamedField x = has_clear_type (normal (kept x))
 is_taken OnePattern x = not (is_lone (choice x))
 is_taken AnImpl x = has_own_trait x
-is_taken AnItem x = is_plain_macro (choice (item_of x))
 is_taken AStatement x = is_statement_form x
-is_taken AForeignItem x = is_plain_macro (choice (item_of x))
-is_taken ATraitItem x = is_plain_macro (choice (item_of x))
-is_taken AnImplItem x = is_plain_macro (choice (item_of x))
 is_taken k x = true
 
 -- of a form's own part, in normal form: behind the for of a closure begins no attribute, and behind one with a type ->

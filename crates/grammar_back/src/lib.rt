@@ -16,9 +16,9 @@
 //! (`StepsOf..`). By hand are those where more than first tokens decides: `HandSteps`, `ValueSteps`, `Fields`,
 //! `Predicates`, `Turbofish`, `Alternatives`,
 //! `References`, `Receivers` (by `Selves`), `Aliases`, `Dotted`, `FieldValues`, `Turns`, `PathTypes` (types before
-//! `for`), `ImplParams`, `Impls` (by `Bracketed`), `WholeItems` (by `ItemPlaces`, `MacroItems` and `ItemVerdicts`),
-//! `Members`, `ForeignItems` (by `ForeignMacros`), `Lets` (by `FirstWords` and `Braces`), `NamedMacros` (macros that
-//! are items among statements), `Statements` (what is printed for one; by `Ends`, which has the forms that end there by
+//! `for`), `ImplParams`, `Impls` (by `Bracketed`), `WholeItems` (by `ItemPlaces`, `MacroItems`, `ReadMacros` and
+//! `ItemVerdicts`), `Members`, `ForeignItems` (by `ForeignMacros`), `Lets` (by `FirstWords` and `Braces`), `NamedMacros`
+//! (macros that are items among statements), `Statements` (what is printed for one; by `Ends`, which has the forms that end there by
 //! themselves, and `InFront`, which has the attributes in front of an expression) and `StatementLists`, `Arms`, and for
 //! the script `Seconds`, `Params` and `FieldNames`; `RawItems` has how raw ones begin, and `RawTurns` those among
 //! statements whose last mark is set apart, which are read back as `item_laws` says; `Passed` has what stands behind

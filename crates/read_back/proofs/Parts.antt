@@ -47,7 +47,7 @@ use Rattle.grammar_back.specs.Sees.{LacksAll}
 use Rattle.grammar_back.specs.Covered.{has_form_step, is_plain_part}
 use Rattle.grammar_back.proofs.Begins.{Begins}
 use Rattle.grammar_back.proofs.Classes.{Class, Sign, TheWord, AnyWord, Quoted, Tick, Opening, Then, IsAt, IsAmong}
-use Rattle.grammar_back.proofs.Classes.{RawFront, of_all}
+use Rattle.grammar_back.proofs.Classes.{AnyFront, RawFront, of_all}
 use Rattle.syn_grammar.proofs.Whole.{and_true}
 use Rattle.grammar_back.proofs.Fits.{Fits, FitsForms, IsMeant, IsWhole, MayLack, MayHave}
 use Rattle.grammar_back.proofs.Fits.{flat_kept}
@@ -359,6 +359,7 @@ among [] [] ds ts e i = absurd i
 -- the same before more, but of a raw item,
 abbrev is_firm : Class → Bool
 is_firm RawFront = false
+is_firm (AnyFront p) = false
 is_firm (Then c cs k) = is_firm k
 is_firm c = true
 
@@ -377,6 +378,7 @@ at_more (Opening d) ts us f i = (i.0 ++ us, ap (λ vs. vs ++ us) i.1)
 at_more (Then c cs k) ts us f i =
     (i.0 ++ us, ap (λ vs. vs ++ us) i.1 ∙ append_assoc (marks c cs Apart) i.0 us, at_more k i.0 us f i.2)
 at_more RawFront ts us f i = cc f
+at_more (AnyFront p) ts us f i = cc f
 
 more_among : (cs : List Class) (ts us : List Token) → are_firm cs ≡ true → IsAmong cs ts → IsAmong cs (ts ++ us)
 more_among [] ts us f i = absurd i
