@@ -38,4 +38,5 @@ pub mod ToldKinds
 pub mod Told
 pub mod ReadBack
 pub mod Positions
+pub mod ToldPositions
 pub mod Examples

@@ -6,7 +6,7 @@ use Rattle.proc_macro2.specs.Token.{Token, Opens}
 use Rattle.proc_macro2.specs.declared.delimiter.Delimiter.{Delimiter}
 use Rattle.proc_macro2.specs.declared.delimiter.Delimiter.TheVariants.{Brace, Bracket, Parenthesis}
 use Rattle.syn_grammar.specs.Kind.{Kind, Position, AConst, AMacro, AnImpl, AStatement, Delimited, ExprClosure}
-use Rattle.syn_grammar.specs.Kind.{ExprMacro, ExprTypedClosure, OnePattern}
+use Rattle.syn_grammar.specs.Kind.{Expression, ExprMacro, ExprTypedClosure, OnePattern}
 use Rattle.syn_grammar.specs.Tree.{Tree, AWord, ALiteral, AMark, ALifetime, Raw, Nil, Pair, First, Second, End, Again}
 use Rattle.syn_grammar.specs.Tree.{Final, More, Group, Dropped, Called, Verbatim, Node, Whole, Alone, Front, Back}
 use Rattle.syn_grammar.specs.Tree.{Infix, marks as signs, flat}
@@ -195,6 +195,13 @@ mutual
       (and_both (all_covered l) (all_covered x) (form_parts l p _ d.4 o.0 j.0)
       (form_parts x (inside p k) r d.6 o.1 j.1)))
   form_parts _ p r d n c = absurd d
+
+-- of an expression in a position
+pub expression_covered : (p : Position) (x : Tree) (r : List Token)
+    → Derives (Node (Expression p) (Whole x)) (ref (Expression p)) r → all_asked x ≡ true → all_covered x ≡ true
+unfolding table
+expression_covered p x r d c =
+    form_parts x p r d.1.1 (whole_patterns (Expression p) (Node (Expression p) (Whole x)) r refl d) c
 
 -- A kind that ends in a pattern is asked to hold no path of one identifier alone; of the others that is told.
 lone_told : (k : Kind) (x : Tree) (r : List Token) → Derives x (ref k) r → ends_alone x ≡ true → no_lone x ≡ true

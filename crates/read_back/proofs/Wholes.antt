@@ -52,7 +52,7 @@ use Rattle.read_back.proofs.Split.{dotted_kept, dotted_shelled}
 both_parts : (a b c d : Bool) → (a ≡ true → b ≡ true) → (c ≡ true → d ≡ true) → (a && c) ≡ true → (b && d) ≡ true
 both_parts a b c d f g e = let h = and_true a c e in ap (λ i. i && d) (f h.0) ∙ g h.1
 
-covered_parts : (x : Tree) → all_covered x ≡ true → has_parts_of has_part x ≡ true
+pub covered_parts : (x : Tree) → all_covered x ≡ true → has_parts_of has_part x ≡ true
 covered_parts (Alone k y) c = c
 covered_parts (Front k y x) c =
     both_parts (is_form k) (is_form k) _ _ (λ e. e)

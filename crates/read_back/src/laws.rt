@@ -3,8 +3,7 @@
 ghost use Rattle.expressions_back.specs.Behind.{MayFollow};
 ghost use Rattle.grammar_back.specs.After.{After, EndsThere};
 ghost use Rattle.proc_macro2.specs.Token.{Token};
-ghost use Rattle.read_back.specs.Asked.{is_covered};
-ghost use Rattle.read_back.specs.Parts.{has_part, has_parts_of};
+ghost use Rattle.read_back.specs.Asked.{all_asked, is_covered};
 ghost use Rattle.std.specs.Prelude.{◌≡◌, true, List, ◌++◌};
 ghost use Rattle.syn_grammar.specs.Derives.{Derives};
 ghost use Rattle.syn_grammar.specs.Gram.{ref};
@@ -30,13 +29,12 @@ pub fn same_tokens()
         → flat (normal (kept x)) ≡ flat (normal (kept y)) → normal (kept x) ≡ normal (kept y) }
 {}
 
-/// Of an expression that was read in a position, a condition before a brace: where its forms are of the kinds of
-/// `specs/Parts` and what stands in their own parts is covered, the tokens of its normal form in that position are
-/// read back there, before all that may follow it.
+/// Of an expression that was read in a position, a condition before a brace: where all that it holds is as is asked,
+/// the tokens of its normal form in that position are read back there, before all that may follow it.
 pub fn read_in_position()
     ensures { (p : Position) (x : Tree) (rest next : List Token)
         → Derives (Node (Expression p) (Whole x)) (ref (Expression p)) rest
-        → (p ≡ InCondition → sees brace rest ≡ true) → has_parts_of has_part x ≡ true → MayFollow p next
+        → (p ≡ InCondition → sees brace rest ≡ true) → all_asked x ≡ true → MayFollow p next
         → IsRead (Expression p) (flat (normal_in p (kept (Node (Expression p) (Whole x)))) ++ next)
         (normal_in p (kept (Node (Expression p) (Whole x)))) next }
 {}
@@ -44,7 +42,7 @@ pub fn read_in_position()
 /// One whose normal form ends a statement or an arm by itself is read back there before all but `.`, `?` and `else`.
 pub fn read_ended()
     ensures { (p : Position) (x : Tree) (rest next : List Token)
-        → Derives (Node (Expression p) (Whole x)) (ref (Expression p)) rest → has_parts_of has_part x ≡ true
+        → Derives (Node (Expression p) (Whole x)) (ref (Expression p)) rest → all_asked x ≡ true
         → EndsThere p (normal_in p (kept (Node (Expression p) (Whole x)))) next
         → IsRead (Expression p) (flat (normal_in p (kept (Node (Expression p) (Whole x)))) ++ next)
         (normal_in p (kept (Node (Expression p) (Whole x)))) next }
@@ -54,9 +52,9 @@ pub fn read_ended()
 pub fn same_in_position()
     ensures { (p : Position) (x y : Tree) (rest other next : List Token)
         → Derives (Node (Expression p) (Whole x)) (ref (Expression p)) rest
-        → (p ≡ InCondition → sees brace rest ≡ true) → has_parts_of has_part x ≡ true
+        → (p ≡ InCondition → sees brace rest ≡ true) → all_asked x ≡ true
         → Derives (Node (Expression p) (Whole y)) (ref (Expression p)) other
-        → (p ≡ InCondition → sees brace other ≡ true) → has_parts_of has_part y ≡ true → MayFollow p next
+        → (p ≡ InCondition → sees brace other ≡ true) → all_asked y ≡ true → MayFollow p next
         → flat (normal_in p (kept (Node (Expression p) (Whole x))))
         ≡ flat (normal_in p (kept (Node (Expression p) (Whole y))))
         → normal_in p (kept (Node (Expression p) (Whole x))) ≡ normal_in p (kept (Node (Expression p) (Whole y))) }

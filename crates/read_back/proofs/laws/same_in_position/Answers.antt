@@ -1,5 +1,5 @@
-use Rattle.read_back.proofs.Positions as Positions
+use Rattle.read_back.proofs.ToldPositions as ToldPositions
 use Rattle.read_back.proofs.laws.same_in_position.Goals as goal
 
 pub returns : goal.returns
-returns c = Positions.same_in_position
+returns c = ToldPositions.same_in_position
