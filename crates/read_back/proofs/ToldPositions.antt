@@ -1,5 +1,5 @@
 -- An expression that was read in a position is read back there where it is as is asked.
-use Rattle.std.proofs.Common.{◌≡◌, List, ◌++◌, refl}
+use Rattle.std.proofs.Common.{◌≡◌, List, ◌++◌}
 use Rattle.std.specs.Prelude.{true}
 use Rattle.proc_macro2.specs.Token.{Token}
 use Rattle.syn_grammar.specs.Kind.{Position, Expression, InCondition}
