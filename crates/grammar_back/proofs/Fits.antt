@@ -36,8 +36,9 @@ use Rattle.syn_grammar.specs.Name.{the_const, the_default, the_safety}
 use Rattle.syn_grammar.specs.Part.{choice, has}
 use Rattle.syn_grammar.specs.Normal.{stands_behind, formed}
 use Rattle.grammar_back.specs.After.{is_any_path, is_closed, is_generic, is_open}
-use Rattle.grammar_back.specs.Covered.{front, inner, has_clear_type, is_lone, has_lone_value, is_known}
+use Rattle.grammar_back.specs.Covered.{front, inner, is_lone, has_lone_value, is_known}
 use Rattle.grammar_back.specs.Covered.{is_form, is_plain_part, is_statement_form, item_of}
+use Rattle.grammar_back.proofs.FieldTypes.{has_clear_type}
 use Rattle.grammar_back.proofs.MacroPaths.{has_plain_path, is_plain_macro}
 
 -- the test can say so

@@ -27,7 +27,7 @@ use Rattle.grammar_back.proofs.Parts.{found_optional, found_ref, found_seq, foun
 abbrev pub whose : List (List ℕ)
 whose = codes "crate" ∷ codes "self" ∷ codes "super" ∷ []
 
-in_seen : (x : Tree) (s : List Token) → Fits x (in_parentheses (keyword "in" ▸ ref (Path InModule)))
+pub in_seen : (x : Tree) (s : List Token) → Fits x (in_parentheses (keyword "in" ▸ ref (Path InModule)))
     → sees restricted_in (flat x ++ s) ≡ true
 in_seen (Group d (Pair (AWord cs) y)) s f =
     subst (λ e. sees restricted_in (Opens e ∷ Ident cs ∷ (flat y ++ Closes d ∷ []) ++ s) ≡ true) (sym f.0)
@@ -36,7 +36,7 @@ in_seen (Group d (Pair _ y)) s f = absurd f.1.0
 in_seen (Group d _) s f = absurd f.1
 in_seen _ s f = absurd f
 
-whose_seen : (x : Tree) (s : List Token) → Fits x (in_parentheses (one_word whose))
+pub whose_seen : (x : Tree) (s : List Token) → Fits x (in_parentheses (one_word whose))
     → (sees restricted_in (flat x ++ s) ≡ false) × (sees restricted (flat x ++ s) ≡ true)
 whose_seen (Group d (AWord cs)) s f = (
   subst (λ e. sees restricted_in (Opens e ∷ Ident cs ∷ Closes d ∷ s) ≡ false) (sym f.0)
@@ -62,7 +62,7 @@ found_restriction = record { fine = record { by = go } }
         (((whose_seen x s d.1).0, t), i)
     go _ s d w a = absurd d
 
-restriction_seen : (x : Tree) (s : List Token) → Fits x restriction
+pub restriction_seen : (x : Tree) (s : List Token) → Fits x restriction
     → sees (restricted or restricted_in) (flat x ++ s) ≡ true
 restriction_seen (First x) s f = second_seen (restricted (flat x ++ s)) (restricted_in (flat x ++ s)) (in_seen x s f.1)
 restriction_seen (Second x) s f =

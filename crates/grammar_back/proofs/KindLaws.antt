@@ -1,6 +1,6 @@
 -- What is known of the kinds whose entries have turns, whose parts are tidied, or that hold another tree than was read.
 use Rattle.std.proofs.Common.{◌≡◌, [], refl, sym, subst, List, ap, ◌∙◌, ◌++◌}
-use Rattle.std.specs.Prelude.{Bool, true, false, not, cond, ◌&&◌}
+use Rattle.std.specs.Prelude.{Bool, true, false, not, cond}
 use Rattle.proc_macro2.specs.Token.{Token}
 use Rattle.syn_grammar.specs.Kind.{Kind, Plain, OuterAttributes, OuterAttribute, InnerAttributes, InnerAttribute}
 use Rattle.syn_grammar.specs.Kind.{Pattern, SeveralPatterns, Generics, GenericParams, GenericParam, Where}
@@ -8,7 +8,7 @@ use Rattle.syn_grammar.specs.Kind.{WhereClause, BoundsColon, Bounds, LifetimeCol
 use Rattle.syn_grammar.specs.Kind.{AnArgument}
 use Rattle.syn_grammar.specs.Kind.{ATypeAlias, InTrait, InImpl, Meta, Variant, Visibility, Body}
 use Rattle.syn_grammar.specs.Kind.{Position, SomeBounds, DynType, ImplType, WithPlus, WithoutPlus}
-use Rattle.syn_grammar.specs.Kind.{Member, Index, Expression, AConst, AType, UnnamedField}
+use Rattle.syn_grammar.specs.Kind.{Member, Index, Expression, AConst, UnnamedField}
 use Rattle.syn_grammar.specs.Name.{Part, same_part, the_clause, the_bounds, the_arguments, the_value}
 use Rattle.syn_grammar.specs.Part.{some}
 use Rattle.syn_grammar.specs.Types.{is_path_bound}
@@ -20,14 +20,16 @@ use Rattle.syn_grammar.specs.Generics.{angled_params}
 use Rattle.syn_grammar.specs.Items.{type_end}
 use Rattle.syn_grammar.specs.Table.{table}
 use Rattle.syn_grammar.specs.Derives.{Derives}
-use Rattle.syn_grammar.specs.Kept.{forget, listed_bound, unsafe_path, constant_argument, is_there, held, kept}
+use Rattle.syn_grammar.specs.Kept.{listed_bound, unsafe_path, constant_argument, is_there, held, kept}
 use Rattle.syn_grammar.specs.Tidy.{is_bare_generics, is_bare_where, is_bare_colon, is_lifetime_param}
 use Rattle.syn_grammar.specs.Tidy.{is_lifetime_argument, lifetimes_first, moved}
 use Rattle.syn_grammar.specs.Parens.{may_lack}
-use Rattle.syn_grammar.specs.Normal.{passed, stands_behind, place_of, private, normal, normal_in}
-use Rattle.grammar_back.specs.Covered.{begins_restriction, has_clear_type, has_step, has_lone_value, inner, is_taken}
+use Rattle.syn_grammar.specs.Normal.{passed, stands_behind, place_of, private, normal_in}
+use Rattle.grammar_back.specs.Covered.{has_step, has_lone_value, is_taken}
 use Rattle.grammar_back.proofs.Parts.{none_never}
-use Rattle.grammar_back.proofs.Fits.{Fits, flat_kept, has_bare_value}
+use Rattle.grammar_back.proofs.ClearFields.{clear_fits, clear_normal, clear_read}
+use Rattle.grammar_back.proofs.FieldTypes.{has_clear_type}
+use Rattle.grammar_back.proofs.Fits.{Fits, has_bare_value}
 use Rattle.grammar_back.proofs.Bare.{bare_kept, bare_formed, bare_read}
 use Rattle.grammar_back.proofs.Verdicts.{some_verdict, path_meant}
 use Rattle.grammar_back.proofs.Printed.{Printed, IsPlaced, TurnLaw, KindLaw, kept_entry, plain_law, simple_law}
@@ -467,37 +469,17 @@ pub chosen_read : (x : Tree) (g : Gram) (r : List Token) → Derives x g r → i
 chosen_read (Back l k y) _ r d = absurd d
 chosen_read _ _ r d = refl
 
--- a kind of which nothing is forgotten
-module _ (l : Kind) (as_read : (y : Tree) → forget l y ≡ y) where
-  inner_fits : (w : Tree) → Fits w (ref l) → is_there (inner (kept w)) ≡ is_there (inner w)
-  inner_fits (Node k x) f =
-      ap (λ j. is_there (forget j (kept x))) f.0 ∙ ap is_there (as_read (kept x)) ∙ chosen_fits x (table k) f.3
-  inner_fits _ f = absurd f
-
-both_not : (a b c d : Bool) → a ≡ c → b ≡ d → not (a && b) ≡ not (c && d)
-both_not a b c d e f = ap (λ x. not (x && b)) e ∙ ap (λ x. not (c && x)) f
-
-clear_fits : (w : Tree) → Fits w (table UnnamedField) → has_clear_type (kept w) ≡ has_clear_type w
-unfolding table held
-clear_fits (Pair o (Pair v (Pair t e))) f =
-    both_not (is_there (inner (kept v))) (sees begins_restriction (flat (kept t))) (is_there (inner v))
-    (sees begins_restriction (flat t)) (inner_fits Visibility (λ y. refl) v f.1.0)
-    (ap (sees begins_restriction) (flat_kept t (ref (AType WithPlus)) f.1.1.0))
-clear_fits (Pair o (Pair v _)) f = absurd f.1.1
-clear_fits (Pair o _) f = absurd f.1
-clear_fits _ f = absurd f
-
 pub law_unnamed_field : KindLaw UnnamedField
 unfolding has_step held passed place_of table
 law_unnamed_field = record { entry = λ q l. simple_law Plain (table UnnamedField) refl; node = go }
   where
     go : (q : Position) → IsPlaced q UnnamedField → (x : Tree) (r : List Token)
-        → has_clear_type (normal (kept x)) ≡ true → Derives x (table UnnamedField) r
+        → is_taken UnnamedField x ≡ true → Derives x (table UnnamedField) r
         → Printed (table UnnamedField) (normal_in (passed UnnamedField q) (kept x))
         → Printed (ref UnnamedField) (normal_in q (Node (held UnnamedField) (kept x)))
     go q l x r m d i =
         let b : has_clear_type i.tree ≡ true =
-        sym (clear_fits i.tree i.fits) ∙ ap has_clear_type i.kept_is ∙ m in
+        sym (clear_fits i.tree i.fits) ∙ ap has_clear_type i.kept_is ∙ clear_normal Plain x r d ∙ clear_read x r d in
         record {
           tree = Node UnnamedField i.tree;
           fits = (refl, refl, refl, i.fits, b);

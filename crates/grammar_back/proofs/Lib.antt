@@ -4,6 +4,7 @@ pub mod Starts
 pub mod Afters
 pub mod Begins
 pub mod MacroPaths
+pub mod FieldTypes
 pub mod Fits
 pub mod Bare
 pub mod RawItems
@@ -42,6 +43,7 @@ pub mod Fields
 pub mod Tidied
 pub mod Indices
 pub mod Elements
+pub mod ClearFields
 pub mod KindLaws
 pub mod Defaults
 pub mod Aliases

@@ -33,8 +33,8 @@ use Rattle.syn_grammar.specs.Tree.{Tree, AWord, Pair, First, Second, Again, Fina
 use Rattle.syn_grammar.specs.Tree.{Verbatim}
 use Rattle.syn_grammar.specs.Tree.{Node, Whole, Alone, Front, Back, Infix, flat}
 use Rattle.syn_grammar.specs.Words.{is_among, is_ident, same_text}
-use Rattle.syn_grammar.specs.Look.{Look, a_lifetime, one_of, sees, ◌then◌, ◌or◌}
-use Rattle.syn_grammar.specs.Say.{at, marks, parenthesis}
+use Rattle.syn_grammar.specs.Look.{a_lifetime, sees, ◌then◌, ◌or◌}
+use Rattle.syn_grammar.specs.Say.{at, marks}
 use Rattle.syn_grammar.specs.Normal.{normal, normal_in}
 use Rattle.syn_grammar.specs.Forms.{is_brace_macro}
 use Rattle.proc_macro2.specs.Token.{Ident}
@@ -314,12 +314,6 @@ has_lone_value (Pair c (Pair n (Pair g (Pair s (Pair t (Pair (First v) (Pair (Ca
     not (is_there w)
 has_lone_value _ = true
 
--- What stands in parentheses behind pub may be its restriction: where the type of an unnamed field that is pub stands in
--- some, they begin, as they are printed, with none of the words that begin one.
-abbrev pub begins_restriction : Look
-begins_restriction =
-    parenthesis then one_of (codes "crate" ∷ codes "self" ∷ codes "super" ∷ codes "in" ∷ [])
-
 abbrev pub inner : Tree → Tree
 inner (Node k x) = x
 inner x = x
@@ -327,14 +321,6 @@ inner x = x
 abbrev pub front : Tree → Tree
 front (Pair x y) = x
 front x = x
-
-abbrev pub is_clear : Tree → Bool
-is_clear (Pair v y) = not (is_there (inner v) && sees begins_restriction (flat (front y)))
-is_clear _ = true
-
-abbrev pub has_clear_type : Tree → Bool
-has_clear_type (Pair o y) = is_clear y
-has_clear_type _ = true
 
 -- One identifier alone is read as a path pattern before ... alone, where no pattern stands.
 abbrev pub lone_names : Tree → Bool
@@ -445,7 +431,6 @@ is_statement_form _ = false
 -- what holds of a kind's tree
 abbrev pub is_taken : Kind → Tree → Bool
 is_taken AConst x = has_lone_value x
-is_taken UnnamedField x = has_clear_type (normal (kept x))
 is_taken OnePattern x = not (is_lone (choice x))
 is_taken AnImpl x = has_own_trait x
 is_taken AStatement x = is_statement_form x

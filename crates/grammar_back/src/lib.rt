@@ -13,9 +13,8 @@
 //! `Indices`; behind a condition stands a brace (`Conditions`). A `Step` of a kind (`Readies`): where the parts of a
 //! tree that fits are read back before what may follow them, so is the tree. `Fine` and `Parts` put steps together as
 //! the entries are, by what tokens begin with (`Classes`). Most steps are written by `tools/steps.py` from the entries
-//! (`StepsOf..`). By hand are those where more than first tokens decides: `HandSteps`, `ValueSteps`, `Fields`,
-//! `Predicates`, `Turbofish`, `Alternatives`,
-//! `References`, `Receivers` (by `Selves`), `Aliases`, `Dotted`, `FieldValues`, `Turns`, `PathTypes` (types before
+//! (`StepsOf..`). By hand are those where more than first tokens decides: `HandSteps`, `ValueSteps`, `Fields`
+//! (by `ClearFields`), `Predicates`, `Turbofish`, `Alternatives`, `References`, `Receivers` (by `Selves`), `Aliases`, `Dotted`, `FieldValues`, `Turns`, `PathTypes` (types before
 //! `for`), `ImplParams`, `Impls` (by `Bracketed`), `WholeItems` (by `ItemPlaces`, `MacroItems`, `ReadMacros` and
 //! `ItemVerdicts`), `Members`, `ForeignItems` (by `ForeignMacros`), `Lets` (by `FirstWords` and `Braces`), `NamedMacros`
 //! (macros that are items among statements), `Statements` (what is printed for one; by `Ends`, which has the forms that end there by
