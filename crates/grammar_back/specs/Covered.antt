@@ -376,12 +376,12 @@ is_statement_item (Verbatim x) = is_no_macro (choice (item_of x)) && is_begun (c
 is_statement_item x = is_no_macro (choice (item_of x))
 
 -- The expression of a statement begins, as it is printed, with no attributes of its own; behind a word that begins
--- items too stands no other word, and behind crate stands ::.
+-- items too stands no other word but as, and behind crate stands ::.
 abbrev pub soft_words : List (List ℕ)
 soft_words = codes "union" ∷ codes "auto" ∷ codes "default" ∷ []
 
 abbrev pub no_word : List Token → Bool
-no_word (Ident cs ∷ ts) = false
+no_word (Ident cs ∷ ts) = same_text (codes "as") cs
 no_word ts = true
 
 abbrev pub is_plain_start : List Token → Bool

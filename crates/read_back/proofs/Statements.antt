@@ -229,7 +229,7 @@ ident_plain : (cs : List ℕ) → is_ident cs ≡ true → is_plain_name cs ≡ 
 unfolding is_plain_name
 ident_plain cs e = ap (λ b. b || same_text (codes "Self") cs) e
 
--- a word that begins items too, and no other word behind it
+-- a word that begins items too, and no other word behind it but as
 each_soft : (P : List ℕ → Type 0) → P (codes "union") → P (codes "auto") → P (codes "default") → (cs : List ℕ)
     → is_among soft_words cs ≡ true → P cs
 each_soft P a b c cs e =
@@ -242,16 +242,22 @@ each_soft P a b c cs e =
     go false false true i j k e = subst P ((bytes_eq-Decides (codes "default") cs).0 k) c
     go false false false i j k e = cc e
 
+as_off : (w cs : List ℕ) (us : List Token) → sees item_stands (Ident w ∷ Ident (codes "as") ∷ us) ≡ false
+    → same_text (codes "as") cs ≡ true → sees item_stands (Ident w ∷ Ident cs ∷ us) ≡ false
+as_off w cs us h e =
+    subst (λ v. sees item_stands (Ident w ∷ Ident v ∷ us) ≡ false) ((bytes_eq-Decides (codes "as") cs).0 e) h
+
 union_off : (us : List Token) → no_word us ≡ true → sees item_stands (Ident (codes "union") ∷ us) ≡ false
-union_off (Ident cs ∷ us) e = cc e
+unfolding is_reserved
+union_off (Ident cs ∷ us) e = as_off (codes "union") cs us refl e
 union_off _ e = refl
 
 auto_off : (us : List Token) → no_word us ≡ true → sees item_stands (Ident (codes "auto") ∷ us) ≡ false
-auto_off (Ident cs ∷ us) e = cc e
+auto_off (Ident cs ∷ us) e = as_off (codes "auto") cs us refl e
 auto_off _ e = refl
 
 default_off : (us : List Token) → no_word us ≡ true → sees item_stands (Ident (codes "default") ∷ us) ≡ false
-default_off (Ident cs ∷ us) e = cc e
+default_off (Ident cs ∷ us) e = as_off (codes "default") cs us refl e
 default_off _ e = refl
 
 soft_off : (cs : List ℕ) (us : List Token) → is_among soft_words cs ≡ true → no_word us ≡ true
@@ -568,7 +574,7 @@ abbrev NoneBehind : List Token → List Token → Type 0
 NoneBehind ts us = (cs : List ℕ) → ts ≡ Ident cs ∷ [] → is_among soft_words cs ≡ true → no_word us ≡ true
 
 word_more : (t : Token) (ts us : List Token) → no_word (t ∷ ts) ≡ true → no_word (t ∷ ts ++ us) ≡ true
-word_more (Ident cs) ts us e = cc e
+word_more (Ident cs) ts us e = e
 word_more (Punct c i) ts us e = refl
 word_more (Literal cs) ts us e = refl
 word_more (Opens d) ts us e = refl
