@@ -27,13 +27,12 @@ use Rattle.grammar_back.specs.After.{After, is_closed, is_if}
 use Rattle.grammar_back.specs.Covered.{has_form_step}
 use Rattle.grammar_back.proofs.Choices.{is_false}
 use Rattle.grammar_back.proofs.Ends.{closed_kept}
-use Rattle.grammar_back.proofs.Fits.{FitsForms, IsFormed}
+use Rattle.grammar_back.proofs.Fits.{FitsForms, IsFormed, HasOperands}
 use Rattle.grammar_back.proofs.Readies.{OwnReady, Ready}
-use Rattle.read_back.specs.Parts.{has_part}
+use Rattle.grammar_back.specs.Covered.{is_form}
 use Rattle.read_back.proofs.Casts.{goes_on_as}
 use Rattle.read_back.proofs.Dots.{field_before_else}
 use Rattle.read_back.proofs.Held.{stays}
-use Rattle.read_back.proofs.Operands.{HasOperandsOf}
 use Rattle.read_back.proofs.Owned.{Last, read_before}
 use Rattle.read_back.proofs.Parts.{Ends, IsCalm, Says, alone_kind, alone_own, back_kind, back_own, before_calm}
 use Rattle.read_back.proofs.Parts.{fronts_are, lacks, own, owned}
@@ -90,7 +89,7 @@ formed_else _ p us c = cc c
 calm_else : (us : List Token) → IsCalm (behind_else us)
 calm_else us = (refl, (refl, (refl, (refl, (refl, (refl, (refl, (refl, (refl, (refl, tt))))))))))
 
-after_else : (k : Kind) (y : Tree) (ts : List Token) → has_part k ≡ true → is_if k ≡ false → IsElse ts → After k y ts
+after_else : (k : Kind) (y : Tree) (ts : List Token) → is_form k ≡ true → is_if k ≡ false → IsElse ts → After k y ts
 after_else k y ts h e m =
     subst (After k y) (sym m.1)
     (before_calm k y (behind_else m.0) h (calm_else m.0) (λ i. absurd (never (sym e ∙ ap is_if i))))
@@ -100,7 +99,7 @@ unfolding may_lack
 break_lacks ExprBreak e = refl
 break_lacks _ e = cc e
 
-ends_else : (k : Kind) (y : Tree) → has_part k ≡ true → is_closed (Alone k y) ≡ true → Ends IsElse k y
+ends_else : (k : Kind) (y : Tree) → is_form k ≡ true → is_closed (Alone k y) ≡ true → Ends IsElse k y
 ends_else k y h c =
     let n = neither (may_lack k) (is_if k) c in
     record {
@@ -121,7 +120,7 @@ cast_else y w n = record {
 says_else : Says (λ k y. IsElse)
 says_else = record { cast = cast_else; field = field_before_else IsElse (λ ts m. m) }
 
-last_else : (x : Tree) → FitsForms x → HasOperandsOf has_part x → Ready x → (p : Position) (ts : List Token)
+last_else : (x : Tree) → FitsForms x → HasOperands x → Ready x → (p : Position) (ts : List Token)
     → Settled p ts (kept x) → is_closed x ≡ true → (us : List Token) → Last (behind_else us) x
 last_else (Alone k y) h o w p ts s c us =
     let m = alone_kind k o.0.0 (fronts_are o.0.1 k o.0.2 o.0.3) (lacks k o.1) in
@@ -130,7 +129,7 @@ last_else (Alone k y) h o w p ts s c us =
       i.read (behind_else us) (us, refl),
       i.single (behind_else us) (us, refl),
     )
-last_else (Front k y x) h o w p ts s c us = last_else x h.3 o.3 w.1 (inside p k) ts s.3 c us
+last_else (Front k y x) h o w p ts s c us = last_else x h.3 o.2 w.1 (inside p k) ts s.3 c us
 last_else (Back l k y) h o w p ts s c us =
     let t : Settled p ts (Back (kept l) k (kept y)) = subst (Settled p ts) (h.3 (kept l)) s in
     let m = back_kind k o.0.0 (backs_are o.0.1 k o.0.2 o.0.3) in
@@ -143,7 +142,7 @@ none_back : (us : List Token) → back InCondition (behind_else us) ≡ None
 unfolding back
 none_back us = refl
 
-pub read_before_else : (x : Tree) (ts : List Token) → IsFormed Plain x → FitsForms x → HasOperandsOf has_part x
+pub read_before_else : (x : Tree) (ts : List Token) → IsFormed Plain x → FitsForms x → HasOperands x
     → Ready x → is_closed x ≡ true → sees (at "else") ts ≡ true → Derives (Whole x) (operand Plain 0) ts
 unfolding stands_behind
 read_before_else x ts i f o w c e =

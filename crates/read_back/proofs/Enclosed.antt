@@ -8,7 +8,8 @@ use Rattle.proc_macro2.specs.declared.delimiter.Delimiter.TheVariants.{Parenthes
 use Rattle.rust_leaf.specs.declared.punct.Spacing.TheVariants.{Alone as Apart}
 use Rattle.syn_grammar.specs.Kind.{Kind, Position, Plain, InStatement, Expression, ExprAttributed, ExprCast, ExprParen}
 use Rattle.syn_grammar.specs.Kind.{OuterAttributes}
-use Rattle.syn_grammar.specs.Tree.{Tree, Pair, Again, End, Final, More, Group, Node, Whole, Alone, Front, Back, Infix, flat}
+use Rattle.syn_grammar.specs.Tree.{Tree, Pair, Again, End, Final, More, Group, Node, Whole, Alone, Front, Back, Infix}
+use Rattle.syn_grammar.specs.Tree.{flat}
 use Rattle.syn_grammar.specs.Look.{sees}
 use Rattle.syn_grammar.specs.Say.{marks, parenthesis}
 use Rattle.syn_grammar.specs.Table.{table}
@@ -30,7 +31,7 @@ use Rattle.range_laws.proofs.Given.{given_opened, given_shelled}
 use Rattle.range_laws.proofs.Held.{gains_shells}
 use Rattle.range_laws.proofs.InKept.{goes_given, lone_kept, range_kept}
 use Rattle.read_back.proofs.Given.{attributes_seen, no_lone, no_range}
-use Rattle.read_back.proofs.Operands.{operands_are, operands_of}
+use Rattle.read_back.proofs.Operands.{apart}
 use Rattle.read_back.proofs.Settled.{settled_inside, settles}
 use Rattle.read_back.proofs.Wholes.{formed_twice, hash_first, none_more, parens_fit, parens_kept, parens_operands}
 
@@ -152,7 +153,8 @@ opened false f u g o e = record { tree = f; fits = g; operands = o; kept_is = e 
 -- It is settled there, too.
 opened_settled : (b : Bool) (u : Tree) (p : Position) (ts : List Token) → Settled p ts (parens_if b u)
     → (q : Position) × (us : List Token) × Settled q us u
-opened_settled true u p ts s = (Plain, stands_behind Plain, settles u Plain (stands_behind Plain) (settled_inside u s.0))
+opened_settled true u p ts s =
+    (Plain, stands_behind Plain, settles u Plain (stands_behind Plain) (settled_inside u s.0))
 opened_settled false u p ts s = (p, ts, s)
 
 -- No attributes stand in front of an expression where none are seen.
@@ -164,10 +166,9 @@ unattributed (Back l k y) p r d e =
     dotted_is (λ z. is_attributed_form (shelled z) ≡ false) (λ l k y. refl) (kept l) k (kept y)
 unattributed _ p r d e = refl
 
-apart : (f : Tree) → is_attributed_form (kept f) ≡ false → are_together ExprAttributed f ≡ true
-apart (Front ExprAttributed y x) e = absurd (never (sym e))
-apart (Front _ y x) e = refl
-apart _ e = refl
+attributed_kept : (f : Tree) → is_attributed_form (kept f) ≡ false → is_attributed_form f ≡ false
+attributed_kept (Front ExprAttributed y x) e = e
+attributed_kept _ e = refl
 
 -- With attributes, and what is printed for these: they stand in front of the leftmost operand.
 module _ (a w : Tree) (same : kept w ≡ normal a) (own : Fits w (table ExprAttributed)) where
@@ -189,7 +190,7 @@ module _ (a w : Tree) (same : kept w ≡ normal a) (own : Fits w (table ExprAttr
       refl,
       o,
       refl,
-      apart f (ap is_attributed_form e ∙ h),
+      apart ExprAttributed f (attributed_kept f (ap is_attributed_form e ∙ h)),
     );
     kept_is = ap (λ z. Front ExprAttributed z (kept f)) same
         ∙ ap (Front ExprAttributed (normal a))
@@ -215,12 +216,13 @@ module _ (a w : Tree) (same : kept w ≡ normal a) (own : Fits w (table ExprAttr
       parens_kept b t.tree ∙ ap (parens_if b) t.kept_is in
       record {
         tree = parens_if b t.tree;
-        fits = parens_fit b t.tree q ts (subst (Settled q ts) (sym v) s) (λ p us j. t.fits) (operands_of t.tree t.operands);
-        operands = operands_are (parens_if b t.tree) (parens_operands b t.tree (operands_of t.tree t.operands));
+        fits = parens_fit b t.tree q ts (subst (Settled q ts) (sym v) s) (λ p us j. t.fits) t.operands;
+        operands = parens_operands b t.tree t.operands;
         kept_is = v;
       }
 
-  takes_cast : (l y f : Tree) (m : AsBack f (parens_if (goes_in ExprCast (kept l)) (shelled (kept l))) ExprCast (normal (kept y)))
+  takes_cast : (l y f : Tree)
+      (m : AsBack f (parens_if (goes_in ExprCast (kept l)) (shelled (kept l))) ExprCast (normal (kept y)))
       → FitsForms f → HasOperands f
       → ((g : Tree) → FitsForms g → HasOperands g → kept g ≡ parens_if (goes_in ExprCast (kept l)) (shelled (kept l))
       → Takes (parens_if (goes_in ExprCast (attributed a (kept l))) (shelled (attributed a (kept l)))))
@@ -358,8 +360,8 @@ taken t b x r d e o c f g h i j =
     ap (formed InStatement []) (sym u) ∙ formed_twice InStatement (attributed (kept a) (kept x)) ∙ u in
     let s = settles (shelled (attributed (kept a) (kept x))) InStatement [] n in
     let z =
-    takes (kept a) own.own own.kept_is own.fits x InStatement r e.1 (opens_range x o) (none_more b _ _ (flat x ++ r) d.2) f i.2 i.3 v
-    InStatement [] s in
+    takes (kept a) own.own own.kept_is own.fits x InStatement r e.1 (opens_range x o)
+    (none_more b _ _ (flat x ++ r) d.2) f i.2 i.3 v InStatement [] s in
     record {
       tree = z.tree;
       fits = (refl, ap (formed InStatement []) z.kept_is ∙ n ∙ sym z.kept_is, z.fits, z.operands);

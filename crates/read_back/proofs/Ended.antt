@@ -27,13 +27,12 @@ use Rattle.expressions_back.proofs.Bools.{never}
 use Rattle.expressions_back.proofs.Owns.{front_part}
 use Rattle.grammar_back.specs.Sees.{LacksAll}
 use Rattle.grammar_back.proofs.Classes.{◌&◌}
-use Rattle.grammar_back.proofs.Fits.{Fits, FitsForms, flat_kept}
+use Rattle.grammar_back.proofs.Fits.{Fits, FitsForms, flat_kept, HasOperands}
 use Rattle.grammar_back.proofs.Readies.{OwnReady, Ready}
 use Rattle.grammar_back.specs.Covered.{has_form_step}
-use Rattle.read_back.specs.Parts.{has_part}
+use Rattle.grammar_back.specs.Covered.{is_form}
 use Rattle.read_back.proofs.Blocks.{block_part}
 use Rattle.read_back.proofs.Macros.{macro_part}
-use Rattle.read_back.proofs.Operands.{HasOperandsOf}
 use Rattle.read_back.proofs.Parts.{own}
 use Rattle.expressions_back.proofs.Near.{all_within}
 use Rattle.read_back.proofs.Starting.{started_part, led_part}
@@ -120,7 +119,7 @@ is_ender ExprBlock = true
 is_ender ExprMacro = true
 is_ender k = false
 
-ender : (p : Position) (k : Kind) (y : Tree) → has_part k ≡ true → ends_there p (Alone k y) ≡ true → is_ender k ≡ true
+ender : (p : Position) (k : Kind) (y : Tree) → is_form k ≡ true → ends_there p (Alone k y) ≡ true → is_ender k ≡ true
 unfolding has_form_step
 ender InArm ExprIf y h e = refl
 ender InArm _ y h e = cc
@@ -185,7 +184,7 @@ record Ending (p : Position) (k : Kind) (y : Tree) (s : List Token) : Type 0 whe
   single : sees no_operand (flat y ++ s) ≡ false
   plain : sees (marks "#") (flat y ++ s) ≡ false
 
-alone_ended : (k : Kind) (y : Tree) → FitsForms (Alone k y) → has_part k ≡ true → OwnReady k y
+alone_ended : (k : Kind) (y : Tree) → FitsForms (Alone k y) → is_form k ≡ true → OwnReady k y
     → normal (kept y) ≡ kept y → (p : Position) → ends_there p (Alone k y) ≡ true → (s : List Token) → Ended s
     → Ending p k y s
 alone_ended k y f o w n p h s e =
@@ -221,13 +220,13 @@ is_ending InStatement _ e = cc
 is_ending Plain x e = cc
 is_ending InCondition x e = cc
 
-ended_bound : (x : Tree) → IsEnding x → FitsForms x → HasOperandsOf has_part x → Ready x → (p : Position)
+ended_bound : (x : Tree) → IsEnding x → FitsForms x → HasOperands x → Ready x → (p : Position)
     (ts : List Token) → Settled p ts (kept x) → ends_there p x ≡ true → (s : List Token) → Ended s → Bound p x s
 unfolding has_right level inside
 ended_bound (Alone k y) i f o w p ts t h s e = (alone_ended k y f o.0.0 w t.0 p h s e).bound
 ended_bound (Front ExprAttributed y (Alone k z)) i f o w p ts t h s e =
     let g = attributed_ends p y (Alone k z) h in
-    let r = alone_ended k z f.3 o.3.0.0 w.1 t.3.0 p g s e in
+    let r = alone_ended k z f.3 o.2.0.0 w.1 t.3.0 p g s e in
     let j = led_part ExprAttributed y refl w.0 (ap flat t.0 ∙ flat_kept y (table ExprAttributed) f.1) in
     let b : BeforeOperand ExprAttributed y (flat z ++ s) = (r.single, refl, r.plain) in (
       j.begins p (flat z ++ s) t.1 b,
@@ -236,11 +235,11 @@ ended_bound (Front ExprAttributed y (Alone k z)) i f o w p ts t h s e =
       (refl, none_goes p 15 (Alone k z) s g e),
       r.bound,
     )
-ended_bound (Front ExprAttributed y (Front ExprAttributed z x)) i f o w p ts t h s e = absurd (never (sym o.2))
+ended_bound (Front ExprAttributed y (Front ExprAttributed z x)) i f o w p ts t h s e = absurd (never o.4)
 ended_bound (Front ExprAttributed y _) i f o w p ts t h s e = absurd i
 ended_bound _ i f o w p ts t h s e = absurd i
 
-pub read_ended : (x : Tree) → FitsForms x → HasOperandsOf has_part x → Ready x → (p : Position) (ts : List Token)
+pub read_ended : (x : Tree) → FitsForms x → HasOperands x → Ready x → (p : Position) (ts : List Token)
     → Settled p ts (kept x) → ends_there p x ≡ true → (s : List Token) → Ended s → Derives (Whole x) (operand p 0) s
 read_ended x f o w p ts t h s e = (
   (all_within x, none_goes p 0 x s h e),

@@ -15,7 +15,6 @@ use Rattle.syn_grammar.specs.Words.{is_bool, is_name, is_path_keyword, is_plain_
 use Rattle.syn_grammar.specs.Gram.{ref}
 use Rattle.syn_grammar.specs.Table.{table}
 use Rattle.syn_grammar.specs.Derives.{Derives}
-use Rattle.read_back.specs.Parts.{has_part, has_parts_of}
 use Rattle.grammar_back.specs.After.{EndsThere}
 use Rattle.read_back.proofs.Positions.{read_ended_in, read_in_position}
 use Rattle.syn_grammar.specs.Tree.{Tree, ALiteral, AMark, End, Front, Alone, AWord, First, Group, Nil, Node, Pair}
@@ -25,7 +24,7 @@ use Rattle.syn_grammar.specs.Kept.{held, kept}
 use Rattle.syn_grammar.specs.Normal.{passed, stands_behind, normal, normal_in}
 use Rattle.syn_grammar.specs.Parens.{may_lack}
 use Rattle.syn_grammar.specs.Read.{IsRead}
-use Rattle.grammar_back.specs.Covered.{has_step, has_form_step}
+use Rattle.grammar_back.specs.Covered.{all_covered, has_step, has_form_step}
 use Rattle.read_back.specs.Asked.{is_covered}
 use Rattle.expressions_back.proofs.Examples.{minus, sum_back}
 use Rattle.read_back.proofs.ReadBack.{read_back}
@@ -75,7 +74,7 @@ call_read = (
   ),
 )
 
-call_parts : has_parts_of has_part call ≡ true
+call_parts : all_covered call ≡ true
 unfolding has_step has_form_step
 call_parts = refl
 
@@ -113,7 +112,7 @@ statement_read = (
   ),
 )
 
-statement_parts : has_parts_of has_part statement ≡ true
+statement_parts : all_covered statement ≡ true
 unfolding has_step has_form_step
 statement_parts = refl
 
@@ -156,7 +155,7 @@ closure_read = (
   ),
 )
 
-closure_parts : has_parts_of has_part closure ≡ true
+closure_parts : all_covered closure ≡ true
 unfolding has_step has_form_step level
 closure_parts = refl
 
@@ -209,7 +208,7 @@ cast_read = (
   ),
 )
 
-cast_parts : has_parts_of has_part cast ≡ true
+cast_parts : all_covered cast ≡ true
 unfolding has_step has_form_step
 cast_parts = refl
 
@@ -249,7 +248,7 @@ attributed_read = (
   ),
 )
 
-attributed_parts : has_parts_of has_part attributed ≡ true
+attributed_parts : all_covered attributed ≡ true
 unfolding has_step has_form_step level
 attributed_parts = refl
 

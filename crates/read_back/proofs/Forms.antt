@@ -5,7 +5,7 @@ use Rattle.proc_macro2.specs.Token.{Token, Ident}
 use Rattle.syn_grammar.specs.Derives.{Bound, Derives}
 use Rattle.syn_grammar.specs.Gram.{operand}
 use Rattle.expressions_back.specs.Behind.{MayFollow}
-use Rattle.grammar_back.proofs.Fits.{FitsForms, IsFormed}
+use Rattle.grammar_back.proofs.Fits.{FitsForms, IsFormed, HasOperands}
 use Rattle.std.specs.Prelude.{zero, suc, Bool, true, Some, None, codes}
 use Rattle.syn_grammar.specs.Kind.{AStatement, Kind, Position, Plain, InCondition, InArm, InStatement, Expression}
 use Rattle.syn_grammar.specs.Kind.{ExprLit}
@@ -36,18 +36,17 @@ use Rattle.read_back.proofs.Parts.{IsThe, owned, begins}
 use Rattle.grammar_back.proofs.Statements.{law_a_statement}
 use Rattle.read_back.proofs.Statements.{step_a_statement}
 use Rattle.read_back.proofs.Settled.{settles}
-use Rattle.read_back.specs.Parts.{has_part}
-use Rattle.read_back.proofs.Operands.{HasOperandsOf, operands_of}
+use Rattle.grammar_back.specs.Covered.{is_form}
 use Rattle.read_back.proofs.Wholes.{whole}
 
-pub read_formed : (p : Position) (x : Tree) (s : List Token) → IsFormed p x → FitsForms x → HasOperandsOf has_part x
+pub read_formed : (p : Position) (x : Tree) (s : List Token) → IsFormed p x → FitsForms x → HasOperands x
     → Ready x → MayFollow p s → Derives (Whole x) (operand p 0) s
 read_formed p x s i f o w m =
     let e : Settled p (stands_behind p) (kept x) = settles (kept x) p (stands_behind p) i in
     read_whole p x s (owned x f o w p (stands_behind p) e) (stays x f p (stands_behind p) e) m
 
 -- before all that may follow it: an arm or a statement may be ended by its form
-read_after : (p : Position) (x : Tree) (s : List Token) → IsFormed p x → FitsForms x → HasOperandsOf has_part x
+read_after : (p : Position) (x : Tree) (s : List Token) → IsFormed p x → FitsForms x → HasOperands x
     → Ready x → After (Expression p) (Whole x) s → Derives (Whole x) (operand p 0) s
 read_after p x s i f o w a = go p i a
   where
@@ -113,9 +112,8 @@ begins_in_place InStatement x s d i =
 step : (p : Position) → Step (Expression p)
 unfolding table skips
 step p (Whole x) s f m w a =
-    let o = operands_of x f.3 in
-    let d = read_after p x s f.1 f.2 o w a in
-    (d, begins_in_place p x s d.1 (begins x o w s))
+    let d = read_after p x s f.1 f.2 f.3 w a in
+    (d, begins_in_place p x s d.1 (begins x f.3 w s))
 step p _ s f m w a = absurd f
 
 law : (p : Position) → is_known (Expression p) ≡ true → KindLaw (Expression p)

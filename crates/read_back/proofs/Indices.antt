@@ -22,8 +22,7 @@ use Rattle.syn_grammar.proofs.Decimals.{integer_decimal, one_index}
 use Rattle.binding_laws.proofs.Shells.{is_dot}
 use Rattle.expressions_back.proofs.Bools.{never}
 use Rattle.grammar_back.specs.Covered.{has_step, has_form_step}
-use Rattle.grammar_back.proofs.Fits.{Fits, FitsForms, IsMeant, MayLack}
-use Rattle.read_back.proofs.Operands.{HasOperandsOf, IsBackOf}
+use Rattle.grammar_back.proofs.Fits.{Fits, FitsForms, HasOperands, IsBackKind, IsMeant, MayLack}
 use Rattle.grammar_back.proofs.Dotted.{field_end}
 use Rattle.read_back.proofs.Split.{IsBehind, IsDot, IsLast, IsNumbers, lone_index, own_number}
 
@@ -124,48 +123,47 @@ dotted_fits ExprAwait l y h f m g = own_fits ExprAwait l y h f m g
 dotted_fits _ l y h f m g = absurd h
 
 -- and its form has the operand that it can have
-module _ (passes : Kind → Bool) (passed : passes ExprField ≡ true) where
-  field_operands : (l : Tree) (y : Tree) → HasOperandsOf passes l → HasOperandsOf passes (Back l ExprField y)
-  unfolding has_form_step back has_right level ends_in_dot
-  field_operands l y g = (
-    (passed, Plain, Punct 46 Apart ∷ Literal (codes "0") ∷ [], refl),
-    refl,
-    g,
-    λ s. absurd (never s),
-  )
+field_operands : (l : Tree) (y : Tree) → HasOperands l → HasOperands (Back l ExprField y)
+unfolding has_form_step back has_right level ends_in_dot
+field_operands l y g = (
+  (refl, Plain, Punct 46 Apart ∷ Literal (codes "0") ∷ [], refl),
+  refl,
+  g,
+  λ s. absurd (never s),
+)
 
-  fields_operands : (l : Tree) (texts : List (List ℕ)) → HasOperandsOf passes l
-      → HasOperandsOf passes (index_fields l texts)
-  fields_operands l [] g = g
-  fields_operands l (cs ∷ texts) g =
-      fields_operands (index_field l cs) texts (field_operands l (own_number (plain_decimal cs)) g)
+fields_operands : (l : Tree) (texts : List (List ℕ)) → HasOperands l
+    → HasOperands (index_fields l texts)
+fields_operands l [] g = g
+fields_operands l (cs ∷ texts) g =
+    fields_operands (index_field l cs) texts (field_operands l (own_number (plain_decimal cs)) g)
 
-  front_operands : (l x : Tree) → IsNumbers x → HasOperandsOf passes l → HasOperandsOf passes (fields_in_front l x)
-  front_operands l End h g = g
-  front_operands l (Again (ALiteral cs) x) h g =
-      front_operands (index_fields l (indices cs)) x h (fields_operands l (indices cs) g)
-  front_operands l _ h g = absurd h
+front_operands : (l x : Tree) → IsNumbers x → HasOperands l → HasOperands (fields_in_front l x)
+front_operands l End h g = g
+front_operands l (Again (ALiteral cs) x) h g =
+    front_operands (index_fields l (indices cs)) x h (fields_operands l (indices cs) g)
+front_operands l _ h g = absurd h
 
-  last_operands : (k : Kind) (l d z : Tree) → IsLast k z → IsBackOf passes k → MayLack k → HasOperandsOf passes l
-      → HasOperandsOf passes (last_fields l k d z)
-  last_operands ExprField l d (First z) h b m g = (b, m, g, λ s. absurd (never s))
-  last_operands ExprField l d (Second (Called the_value (ALiteral cs))) h b m g = fields_operands l (indices cs) g
-  last_operands ExprMethodCall l d z h b m g = (b, m, g, λ s. absurd (never s))
-  last_operands ExprAwait l d z h b m g = (b, m, g, λ s. absurd (never s))
-  last_operands _ l d z h b m g = absurd h
+last_operands : (k : Kind) (l d z : Tree) → IsLast k z → IsBackKind k → MayLack k → HasOperands l
+    → HasOperands (last_fields l k d z)
+last_operands ExprField l d (First z) h b m g = (b, m, g, λ s. absurd (never s))
+last_operands ExprField l d (Second (Called the_value (ALiteral cs))) h b m g = fields_operands l (indices cs) g
+last_operands ExprMethodCall l d z h b m g = (b, m, g, λ s. absurd (never s))
+last_operands ExprAwait l d z h b m g = (b, m, g, λ s. absurd (never s))
+last_operands _ l d z h b m g = absurd h
 
-  own_operands : (k : Kind) (l y : Tree) → IsBehind k y → IsBackOf passes k → MayLack k → HasOperandsOf passes l
-      → HasOperandsOf passes (dotted_own l k y)
-  own_operands k l (Pair (Pair d (Called the_indices x)) z) h b m g =
-      last_operands k (fields_in_front l x) d z h.1 b m (front_operands l x h.0 g)
-  own_operands k l _ h b m g = absurd h
+own_operands : (k : Kind) (l y : Tree) → IsBehind k y → IsBackKind k → MayLack k → HasOperands l
+    → HasOperands (dotted_own l k y)
+own_operands k l (Pair (Pair d (Called the_indices x)) z) h b m g =
+    last_operands k (fields_in_front l x) d z h.1 b m (front_operands l x h.0 g)
+own_operands k l _ h b m g = absurd h
 
-  pub dotted_operands : (k : Kind) (l y : Tree) → IsDot k y → IsBackOf passes k → MayLack k → HasOperandsOf passes l
-      → HasOperandsOf passes (dotted l k y)
-  dotted_operands ExprField l y h b m g = own_operands ExprField l y h b m g
-  dotted_operands ExprMethodCall l y h b m g = own_operands ExprMethodCall l y h b m g
-  dotted_operands ExprAwait l y h b m g = own_operands ExprAwait l y h b m g
-  dotted_operands _ l y h b m g = absurd h
+pub dotted_operands : (k : Kind) (l y : Tree) → IsDot k y → IsBackKind k → MayLack k → HasOperands l
+    → HasOperands (dotted l k y)
+dotted_operands ExprField l y h b m g = own_operands ExprField l y h b m g
+dotted_operands ExprMethodCall l y h b m g = own_operands ExprMethodCall l y h b m g
+dotted_operands ExprAwait l y h b m g = own_operands ExprAwait l y h b m g
+dotted_operands _ l y h b m g = absurd h
 
 -- and what holds of each form behind an operand holds of it, if it holds of the operand
 module _ (P : Tree → Type 0) (behind : (l : Tree) (k : Kind) (y : Tree) → P (Back l k y)) where

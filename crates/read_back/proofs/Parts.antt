@@ -49,18 +49,18 @@ use Rattle.grammar_back.proofs.Begins.{Begins}
 use Rattle.grammar_back.proofs.Classes.{Class, Sign, TheWord, AnyWord, Quoted, Tick, Opening, Then, IsAt, IsAmong}
 use Rattle.grammar_back.proofs.Classes.{AnyFront, RawFront, of_all}
 use Rattle.syn_grammar.proofs.Whole.{and_true}
-use Rattle.grammar_back.proofs.Fits.{Fits, FitsForms, IsMeant, IsWhole, MayLack, MayHave}
+use Rattle.grammar_back.proofs.Fits.{Fits, FitsForms, HasOperands, IsFrontKind, IsMeant, IsWhole, MayLack, MayHave}
 use Rattle.grammar_back.proofs.Fits.{flat_kept}
 use Rattle.grammar_back.proofs.Readies.{OwnReady, Ready}
 use Rattle.grammar_back.proofs.Starts.{starts}
 use Rattle.syn_grammar.specs.Kind.{ExprTypedClosure}
-use Rattle.read_back.specs.Parts.{has_part}
+use Rattle.grammar_back.specs.Covered.{is_form}
 use Rattle.read_back.proofs.Casts.{cast_part}
 use Rattle.read_back.proofs.Closures.{closure_part, typed_part}
 use Rattle.read_back.proofs.Blocks.{block_part, is_block}
 use Rattle.read_back.proofs.Dots.{dot_own}
 use Rattle.read_back.proofs.Macros.{macro_part}
-use Rattle.read_back.proofs.Operands.{HasOperandsOf, IsFrontOf}
+use Rattle.read_back.proofs.Operands.{together}
 use Rattle.read_back.proofs.Owned.{Owned}
 use Rattle.read_back.proofs.Paths.{path_part}
 use Rattle.read_back.proofs.Starting.{is_started, started_after, started_part, is_led, led_part}
@@ -74,7 +74,7 @@ abbrev is_closure : Kind → Bool
 is_closure ExprClosure = true
 is_closure k = false
 
-front_kind : (k : Kind) → has_part k ≡ true → is_front k ≡ true → may_have_operand k ≡ true
+front_kind : (k : Kind) → is_form k ≡ true → is_front k ≡ true → may_have_operand k ≡ true
     → (is_closure k || (is_led k || (is_firm_front k || is_break k || is_reference k))) ≡ true
 unfolding has_form_step may_lack level
 front_kind ExprUnary e f h = refl
@@ -92,7 +92,7 @@ abbrev pub is_typed : Kind → Bool
 is_typed ExprTypedClosure = true
 is_typed k = false
 
-pub alone_kind : (k : Kind) → has_part k ≡ true → is_front k ≡ true → may_lack_operand k ≡ true
+pub alone_kind : (k : Kind) → is_form k ≡ true → is_front k ≡ true → may_lack_operand k ≡ true
     → (is_path k || (is_macro k || (is_typed k || (is_started k || (is_block k || (is_firm_front k || is_break k))))))
     ≡ true
 unfolding has_form_step may_lack level
@@ -103,13 +103,13 @@ abbrev pub is_cast : Kind → Bool
 is_cast ExprCast = true
 is_cast k = false
 
-pub back_kind : (k : Kind) → has_part k ≡ true → is_back k ≡ true
+pub back_kind : (k : Kind) → is_form k ≡ true → is_back k ≡ true
     → (is_struct k || (is_cast k || (is_dot k || is_firm_behind k))) ≡ true
 unfolding has_form_step
 back_kind ExprCall e f = refl
 back_kind _ e f = cc
 
-infix_kind : (k : Kind) → has_part k ≡ true → is_back k ≡ true → may_have_operand k ≡ true → is_firm_behind k ≡ true
+infix_kind : (k : Kind) → is_form k ≡ true → is_back k ≡ true → may_have_operand k ≡ true → is_firm_behind k ≡ true
 unfolding has_form_step may_lack level
 infix_kind ExprSum e f h = refl
 infix_kind _ e f h = cc
@@ -143,7 +143,7 @@ IsCalm s =
     LacksAll (a_mark "::" ∷ arguments_stand InExpression ∷ a_lifetime ∷ at "mut" ∷ a_mark ":" ∷ a_mark "#"
     ∷ postfix_stands ∷ arguments_stand AtType ∷ parentheses_stand AtType ∷ a_mark "->" ∷ []) s
 
-pub before_calm : (k : Kind) (y : Tree) (s : List Token) → has_part k ≡ true → IsCalm s
+pub before_calm : (k : Kind) (y : Tree) (s : List Token) → is_form k ≡ true → IsCalm s
     → (k ≡ ExprIf → sees (at "else") s ≡ false) → After k y s
 unfolding has_form_step
 before_calm ExprLit y s e c h = tt
@@ -198,11 +198,11 @@ before_calm ExprClosure y s e c h = tt
 before_calm ExprTypedClosure y s e c h = tt
 before_calm _ y s e c h = cc
 
-before_nothing : (k : Kind) (y : Tree) → has_part k ≡ true → After k y []
+before_nothing : (k : Kind) (y : Tree) → is_form k ≡ true → After k y []
 before_nothing k y e =
     before_calm k y [] e (refl, (refl, (refl, (refl, (refl, (refl, (refl, (refl, (refl, (refl, tt)))))))))) (λ i. refl)
 
-pub own : (k : Kind) (y : Tree) → has_part k ≡ true → Fits y (table k) → OwnReady k y → normal (kept y) ≡ kept y
+pub own : (k : Kind) (y : Tree) → is_form k ≡ true → Fits y (table k) → OwnReady k y → normal (kept y) ≡ kept y
     → IsOwn k y
 own k y e f w n = ((w [] (before_nothing k y e)).0, ap flat n ∙ flat_kept y (table k) f)
 
@@ -300,7 +300,7 @@ front_own k y m u f w o = go (is_led k) refl m
     go true e m = led_part k y e w o.1
     go false e m = prefix_front k y m o
 
-pub owned : (x : Tree) → FitsForms x → HasOperandsOf has_part x → Ready x → (p : Position) (ts : List Token)
+pub owned : (x : Tree) → FitsForms x → HasOperands x → Ready x → (p : Position) (ts : List Token)
     → Settled p ts (kept x) → Owned x
 owned (Alone k y) h o w p ts s =
     let l = lacks k o.1 in
@@ -309,10 +309,10 @@ owned (Alone k y) h o w p ts s =
     (alone_own AtEnd k y (at_end k y i) m o.2 h.1 w i, l)
 owned (Front k y x) h o w p ts s =
     let m = front_kind k o.0.0 (fronts_are o.0.1 k o.0.2 o.0.3) (has_one k o.1) in (
-      front_own k y m o.4 h.1 w.0 (own k y o.0.0 h.1 w.0 s.0),
+      front_own k y m o.3 h.1 w.0 (own k y o.0.0 h.1 w.0 s.0),
       has_one k o.1,
-      o.2,
-      owned x h.3 o.3 w.1 (inside p k) ts s.3,
+      together k x o.4,
+      owned x h.3 o.2 w.1 (inside p k) ts s.3,
     )
 owned (Back l k y) h o w p ts s =
     let t : Settled p ts (Back (kept l) k (kept y)) = subst (Settled p ts) (h.3 (kept l)) s in
@@ -387,7 +387,7 @@ more_among (c ∷ cs) ts us f i =
     ⊎_elim (λ j. inl (at_more c ts us h.0 j)) (λ j. inr (more_among cs ts us h.1 j)) i
 
 -- and of each form in front.
-form_begins : (k : Kind) (y : Tree) (s : List Token) → has_part k ≡ true → is_front k ≡ true → Begins k y s
+form_begins : (k : Kind) (y : Tree) (s : List Token) → is_form k ≡ true → is_front k ≡ true → Begins k y s
     → IsAmong (starts (Expression Plain)) (flat y ++ s)
 unfolding has_form_step skips
 form_begins ExprLit y s e f b =
@@ -461,14 +461,14 @@ form_begins ExprTypedClosure y s e f b =
     (refl, (refl, (refl, (refl, (refl, (refl, tt)))))) b
 form_begins _ y s e f b = cc
 
-own_begins : (k : Kind) (y : Tree) → IsFrontOf has_part k → OwnReady k y → (us : List Token)
+own_begins : (k : Kind) (y : Tree) → IsFrontKind k → OwnReady k y → (us : List Token)
     → IsAmong (starts (Expression Plain)) (flat y ++ us)
 own_begins k y o w us =
     more_among (starts (Expression Plain)) (flat y) us refl
     (subst (IsAmong (starts (Expression Plain))) (append-nil (flat y))
     (form_begins k y [] o.0 (fronts_are o.1 k o.2 o.3) (w [] (before_nothing k y o.0)).1))
 
-pub begins : (x : Tree) → HasOperandsOf has_part x → Ready x → (s : List Token)
+pub begins : (x : Tree) → HasOperands x → Ready x → (s : List Token)
     → IsAmong (starts (Expression Plain)) (flat x ++ s)
 begins (Alone k y) o w s = own_begins k y o.0 w s
 begins (Front k y x) o w s =

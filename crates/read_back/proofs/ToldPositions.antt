@@ -14,28 +14,22 @@ use Rattle.syn_grammar.specs.Read.{IsRead}
 use Rattle.expressions_back.specs.Behind.{MayFollow}
 use Rattle.grammar_back.specs.After.{EndsThere}
 use Rattle.read_back.specs.Asked.{all_asked}
-use Rattle.read_back.specs.Parts.{has_part, has_parts_of}
 use Rattle.read_back.proofs.Positions as Positions
 use Rattle.read_back.proofs.Told.{expression_covered}
-use Rattle.read_back.proofs.Wholes.{covered_parts}
-
-has_parts : (p : Position) (x : Tree) (r : List Token) → Derives (Node (Expression p) (Whole x)) (ref (Expression p)) r
-    → all_asked x ≡ true → has_parts_of has_part x ≡ true
-has_parts p x r d c = covered_parts x (expression_covered p x r d c)
 
 pub read_in_position : (p : Position) (x : Tree) (r s : List Token)
     → Derives (Node (Expression p) (Whole x)) (ref (Expression p)) r → (p ≡ InCondition → sees brace r ≡ true)
     → all_asked x ≡ true → MayFollow p s
     → IsRead (Expression p) (flat (normal_in p (kept (Node (Expression p) (Whole x)))) ++ s)
     (normal_in p (kept (Node (Expression p) (Whole x)))) s
-read_in_position p x r s d b c m = Positions.read_in_position p x r s d b (has_parts p x r d c) m
+read_in_position p x r s d b c m = Positions.read_in_position p x r s d b (expression_covered p x r d c) m
 
 pub read_ended : (p : Position) (x : Tree) (r s : List Token)
     → Derives (Node (Expression p) (Whole x)) (ref (Expression p)) r → all_asked x ≡ true
     → EndsThere p (normal_in p (kept (Node (Expression p) (Whole x)))) s
     → IsRead (Expression p) (flat (normal_in p (kept (Node (Expression p) (Whole x)))) ++ s)
     (normal_in p (kept (Node (Expression p) (Whole x)))) s
-read_ended p x r s d c e = Positions.read_ended_in p x r s d (has_parts p x r d c) e
+read_ended p x r s d c e = Positions.read_ended_in p x r s d (expression_covered p x r d c) e
 
 pub same_in_position : (p : Position) (x y : Tree) (r q s : List Token)
     → Derives (Node (Expression p) (Whole x)) (ref (Expression p)) r → (p ≡ InCondition → sees brace r ≡ true)
@@ -45,4 +39,4 @@ pub same_in_position : (p : Position) (x y : Tree) (r q s : List Token)
     ≡ flat (normal_in p (kept (Node (Expression p) (Whole y))))
     → normal_in p (kept (Node (Expression p) (Whole x))) ≡ normal_in p (kept (Node (Expression p) (Whole y)))
 same_in_position p x y r q s d a c e b f m h =
-    Positions.same_in_position p x y r q s d a (has_parts p x r d c) e b (has_parts p y q e f) m h
+    Positions.same_in_position p x y r q s d a (expression_covered p x r d c) e b (expression_covered p y q e f) m h

@@ -37,9 +37,9 @@ use Rattle.grammar_back.specs.Covered.{has_step, has_form_step, inner, is_bound,
 use Rattle.grammar_back.specs.Covered.{all_covered}
 use Rattle.grammar_back.proofs.Dotted.{law_expr_await, law_expr_field, law_expr_method_call}
 use Rattle.grammar_back.proofs.Fits.{flat_kept, Fits, FitsForms, IsMeant, IsFormed, MayLack, MayHave}
+use Rattle.grammar_back.proofs.Fits.{HasOperands, IsBackKind}
 use Rattle.grammar_back.proofs.Printed.{OwnPrinted, Printed, WholeLaw}
-use Rattle.read_back.specs.Parts.{has_part, has_parts_of}
-use Rattle.read_back.proofs.Operands.{HasOperandsOf, IsBackOf, operands_are}
+use Rattle.read_back.proofs.Operands.{apart}
 use Rattle.read_back.proofs.Indices.{dot_fits, dot_read, dotted_fits, dotted_keeps, dotted_operands}
 use Rattle.range_laws.specs.Shelled.{goes_in, is_lone_range, is_shelled, parens_if, shelled}
 use Rattle.range_laws.proofs.Held.{gains_shells}
@@ -48,28 +48,7 @@ use Rattle.syn_grammar.proofs.Settled.{Settled}
 use Rattle.read_back.proofs.Settled.{Within, dotted_within, settled_inside, settles}
 use Rattle.read_back.proofs.Split.{dotted_kept, dotted_shelled}
 
--- So what is covered has its own parts covered, and its forms are of those kinds.
-both_parts : (a b c d : Bool) → (a ≡ true → b ≡ true) → (c ≡ true → d ≡ true) → (a && c) ≡ true → (b && d) ≡ true
-both_parts a b c d f g e = let h = and_true a c e in ap (λ i. i && d) (f h.0) ∙ g h.1
-
-pub covered_parts : (x : Tree) → all_covered x ≡ true → has_parts_of has_part x ≡ true
-covered_parts (Alone k y) c = c
-covered_parts (Front k y x) c =
-    both_parts (is_form k) (is_form k) _ _ (λ e. e)
-    (λ e. both_parts (is_plain_part k (normal (kept y))) (is_plain_part k (normal (kept y))) _ _ (λ g. g)
-    (λ g. both_parts (all_covered y) (all_covered y) _ _ (λ h. h) (λ h. covered_parts x h) g) e) c
-covered_parts (Back l k y) c =
-    let a = and_true (is_form k) (all_covered l && all_covered y) c in
-    let b = and_true (all_covered l) (all_covered y) a.1 in
-    ap (λ e. e && (all_covered y && has_parts_of has_part l)) a.0
-    ∙ ap (λ e. e && has_parts_of has_part l) b.1 ∙ covered_parts l b.0
-covered_parts (Infix l k y r) c =
-    both_parts (is_form k) (is_form k) _ _ (λ e. e)
-    (λ e. both_parts (all_covered y) (all_covered y) _ _ (λ f. f)
-    (λ f. both_parts (all_covered l) _ (all_covered r) _ (λ g. covered_parts l g) (λ g. covered_parts r g) f) e) c
-covered_parts _ c = refl
-
-pub part_known : (k : Kind) → has_part k ≡ true → is_known k ≡ true
+pub part_known : (k : Kind) → is_form k ≡ true → is_known k ≡ true
 unfolding has_step has_form_step
 part_known ExprLit e = refl
 part_known _ e = cc
@@ -81,7 +60,7 @@ record Own (k : Kind) (z : Tree) : Type 0 where
   means : IsMeant k tree
   kept_is : kept tree ≡ z
 
-form_meant : (k : Kind) (y : Tree) → has_part k ≡ true → is_dot k ≡ false → IsMeant k y
+form_meant : (k : Kind) (y : Tree) → is_form k ≡ true → is_dot k ≡ false → IsMeant k y
 unfolding has_form_step
 form_meant ExprLit y e f = tt
 form_meant ExprPath y e f = tt
@@ -154,7 +133,7 @@ dot_printed ExprAwait y r e d o =
     of_node ExprAwait i.tree (normal (kept y)) (λ x. refl) i.fits i.kept_is
 dot_printed _ y r e d o = cc
 
-own_printed : (k : Kind) (y : Tree) (r : List Token) → has_part k ≡ true → Derives y (table k) r
+own_printed : (k : Kind) (y : Tree) (r : List Token) → is_form k ≡ true → Derives y (table k) r
     → Printed (table k) (normal (kept y)) → Own k (normal (kept y))
 own_printed k y r h d o = go (is_dot k) refl
   where
@@ -261,56 +240,53 @@ unfolding stands_left
 left_path p k l s i =
     (and_true (is_path_form l) _ (subst (λ j. stands_left p l j ≡ true) (struct_is k s) i.0)).0
 
--- the operands' forms are of kinds that pass, too
-pub record AloneParts (ks : Kind → Bool) (k : Kind) (y : Tree) : Type 0 where
-  pub passes : ks k ≡ true
-  pub ends : is_plain_part k (normal (kept y)) ≡ true
-  pub own : all_covered y ≡ true
+-- the operands are covered, too
+record AloneParts (k : Kind) (y : Tree) : Type 0 where
+  passes : is_form k ≡ true
+  ends : is_plain_part k (normal (kept y)) ≡ true
+  own : all_covered y ≡ true
 
-pub alone_parts : (ks : Kind → Bool) (k : Kind) (y : Tree) → has_parts_of ks (Alone k y) ≡ true → AloneParts ks k y
-alone_parts ks k y c =
-    let a = and_true (ks k) _ c in
+alone_parts : (k : Kind) (y : Tree) → all_covered (Alone k y) ≡ true → AloneParts k y
+alone_parts k y c =
+    let a = and_true (is_form k) _ c in
     let b = and_true (is_plain_part k (normal (kept y))) (all_covered y) a.1 in
     record { passes = a.0; ends = b.0; own = b.1 }
 
-pub record FrontParts (ks : Kind → Bool) (k : Kind) (y x : Tree) : Type 0 where
-  pub passes : ks k ≡ true
-  pub ends : is_plain_part k (normal (kept y)) ≡ true
-  pub own : all_covered y ≡ true
-  pub right : has_parts_of ks x ≡ true
+record FrontParts (k : Kind) (y x : Tree) : Type 0 where
+  passes : is_form k ≡ true
+  ends : is_plain_part k (normal (kept y)) ≡ true
+  own : all_covered y ≡ true
+  right : all_covered x ≡ true
 
-pub front_parts : (ks : Kind → Bool) (k : Kind) (y x : Tree) → has_parts_of ks (Front k y x) ≡ true
-    → FrontParts ks k y x
-front_parts ks k y x c =
-    let a = and_true (ks k) _ c in
+front_parts : (k : Kind) (y x : Tree) → all_covered (Front k y x) ≡ true → FrontParts k y x
+front_parts k y x c =
+    let a = and_true (is_form k) _ c in
     let h = and_true (is_plain_part k (normal (kept y))) _ a.1 in
-    let e = and_true (all_covered y) (has_parts_of ks x) h.1 in
+    let e = and_true (all_covered y) (all_covered x) h.1 in
     record { passes = a.0; ends = h.0; own = e.0; right = e.1 }
 
-pub record BackParts (ks : Kind → Bool) (l : Tree) (k : Kind) (y : Tree) : Type 0 where
-  pub passes : ks k ≡ true
-  pub own : all_covered y ≡ true
-  pub left : has_parts_of ks l ≡ true
+record BackParts (l : Tree) (k : Kind) (y : Tree) : Type 0 where
+  passes : is_form k ≡ true
+  own : all_covered y ≡ true
+  left : all_covered l ≡ true
 
-pub back_parts : (ks : Kind → Bool) (l : Tree) (k : Kind) (y : Tree) → has_parts_of ks (Back l k y) ≡ true
-    → BackParts ks l k y
-back_parts ks l k y c =
-    let a = and_true (ks k) _ c in
-    let e = and_true (all_covered y) (has_parts_of ks l) a.1 in
-    record { passes = a.0; own = e.0; left = e.1 }
+back_parts : (l : Tree) (k : Kind) (y : Tree) → all_covered (Back l k y) ≡ true → BackParts l k y
+back_parts l k y c =
+    let a = and_true (is_form k) _ c in
+    let e = and_true (all_covered l) (all_covered y) a.1 in
+    record { passes = a.0; own = e.1; left = e.0 }
 
-pub record InfixParts (ks : Kind → Bool) (l : Tree) (k : Kind) (y x : Tree) : Type 0 where
-  pub passes : ks k ≡ true
-  pub own : all_covered y ≡ true
-  pub left : has_parts_of ks l ≡ true
-  pub right : has_parts_of ks x ≡ true
+record InfixParts (l : Tree) (k : Kind) (y x : Tree) : Type 0 where
+  passes : is_form k ≡ true
+  own : all_covered y ≡ true
+  left : all_covered l ≡ true
+  right : all_covered x ≡ true
 
-pub infix_parts : (ks : Kind → Bool) (l : Tree) (k : Kind) (y x : Tree) → has_parts_of ks (Infix l k y x) ≡ true
-    → InfixParts ks l k y x
-infix_parts ks l k y x c =
-    let a = and_true (ks k) _ c in
+infix_parts : (l : Tree) (k : Kind) (y x : Tree) → all_covered (Infix l k y x) ≡ true → InfixParts l k y x
+infix_parts l k y x c =
+    let a = and_true (is_form k) _ c in
     let e = and_true (all_covered y) _ a.1 in
-    let b = and_true (has_parts_of ks l) (has_parts_of ks x) e.1 in
+    let b = and_true (all_covered l) (all_covered x) e.1 in
     record { passes = a.0; own = e.0; left = b.0; right = b.1 }
 
 -- and attributes stand together
@@ -406,16 +382,16 @@ same_end ExprTypedClosure y z f e h =
 same_end _ y z f e h = refl
 
 -- What it has is there in each form's own part;
-owns : (x : Tree) (p : Position) (r : List Token) → Bound p x r → has_parts_of has_part x ≡ true → OwnPrinted x → Owns x
-owns (Alone k y) p r d c o = own_printed k y r (alone_parts has_part k y c).passes d.1 o
+owns : (x : Tree) (p : Position) (r : List Token) → Bound p x r → all_covered x ≡ true → OwnPrinted x → Owns x
+owns (Alone k y) p r d c o = own_printed k y r (alone_parts k y c).passes d.1 o
 owns (Front k y x) p r d c o =
-    let a = front_parts has_part k y x c in
+    let a = front_parts k y x c in
     (own_printed k y (flat x ++ r) a.passes d.1 o.0, owns x (inside p k) r d.4 a.right o.1)
 owns (Back l k y) p r d c o =
-    let a = back_parts has_part l k y c in
+    let a = back_parts l k y c in
     (owns l p (flat y ++ r) d.4 a.left o.0, own_printed k y r a.passes d.1 o.1)
 owns (Infix l k y x) p r d c o =
-    let a = infix_parts has_part l k y x c in (
+    let a = infix_parts l k y x c in (
       owns l p (flat y ++ (flat x ++ r)) d.4 a.left o.0,
       own_printed k y (flat x ++ r) a.passes d.1 o.1,
       owns x (inside p k) r d.6 a.right o.2,
@@ -423,46 +399,46 @@ owns (Infix l k y x) p r d c o =
 owns _ p r d c o = tt
 
 -- its operands are there;
-pub parens_operands : (b : Bool) (z : Tree) → HasOperandsOf has_part z → HasOperandsOf has_part (parens_if b z)
+pub parens_operands : (b : Bool) (z : Tree) → HasOperands z → HasOperands (parens_if b z)
 unfolding has_form_step front has_right level
 parens_operands true z o = ((refl, Plain, Opens Parenthesis ∷ [], refl), refl, refl)
 parens_operands false z o = o
 
-back_operands : (k : Kind) (l y : Tree) → Fits y (table k) → IsBackOf has_part k → MayLack k
-    → HasOperandsOf has_part l → (is_struct k ≡ true → is_path_form l ≡ true)
-    → HasOperandsOf has_part (dotted l k y)
+back_operands : (k : Kind) (l y : Tree) → Fits y (table k) → IsBackKind k → MayLack k
+    → HasOperands l → (is_struct k ≡ true → is_path_form l ≡ true)
+    → HasOperands (dotted l k y)
 unfolding has_form_step
 back_operands k l y f b m g h = go (is_dot k) refl
   where
-    go : (c : Bool) → is_dot k ≡ c → HasOperandsOf has_part (dotted l k y)
-    go true i = dotted_operands has_part refl k l y (dot_fits k y i f) b m g
-    go false i = subst (HasOperandsOf has_part) (sym (undotted l k y i)) (b, m, g, h)
+    go : (c : Bool) → is_dot k ≡ c → HasOperands (dotted l k y)
+    go true i = dotted_operands k l y (dot_fits k y i f) b m g
+    go false i = subst HasOperands (sym (undotted l k y i)) (b, m, g, h)
 
 remade_operands : (x : Tree) (o : Owns x) (p : Position) (r : List Token) → Bound p x r
-    → has_parts_of has_part x ≡ true → HasOperandsOf has_part (remade x o)
+    → all_covered x ≡ true → HasOperands (remade x o)
 unfolding remade
 remade_operands (Alone k y) o p r d c =
-    let a = alone_parts has_part k y c in (
+    let a = alone_parts k y c in (
       (a.passes, p, flat y ++ r, d.0),
       lacks_one p k r d.2,
       same_end k o.tree (normal (kept y)) o.fits o.kept_is a.ends,
     )
 remade_operands (Front k y x) o p r d c =
-    let a = front_parts has_part k y x c in (
+    let a = front_parts k y x c in (
       (a.passes, p, flat y ++ (flat x ++ r), d.0),
       has_one p k (flat x ++ r) d.2,
-      none_behind p k y x r d o.1,
       parens_operands (is_shelled k x) (remade x o.1) (remade_operands x o.1 (inside p k) r d.4 a.right),
       same_end k o.0.tree (normal (kept y)) o.0.fits o.0.kept_is a.ends,
+      apart k (parens_if (is_shelled k x) (remade x o.1)) (none_behind p k y x r d o.1),
     )
 remade_operands (Back l k y) o p r d c =
-    let a = back_parts has_part l k y c in
+    let a = back_parts l k y c in
     back_operands k (parens_if (goes_in k l) (remade l o.0)) o.1.tree o.1.fits (a.passes, p, flat y ++ r, d.0)
     (lacks_one p k r d.2)
     (parens_operands (goes_in k l) (remade l o.0) (remade_operands l o.0 p (flat y ++ r) d.4 a.left))
     (λ s. in_path k l o.0 (left_path p k l s d.3))
 remade_operands (Infix l k y x) o p r d c =
-    let a = infix_parts has_part l k y x c in (
+    let a = infix_parts l k y x c in (
       (a.passes, p, flat y ++ (flat x ++ r), d.0),
       has_one p k (flat x ++ r) d.2,
       parens_operands (goes_in k l) (remade l o.0) (remade_operands l o.0 p (flat y ++ (flat x ++ r)) d.4 a.left),
@@ -472,13 +448,13 @@ remade_operands _ o p r d c = absurd d
 
 -- and it fits: what is put in parentheses is in normal form there, as the whole is settled.
 pub parens_fit : (b : Bool) (z : Tree) (q : Position) (ts : List Token) → Settled q ts (kept (parens_if b z))
-    → ((i : Position) (us : List Token) → Settled i us (kept z) → FitsForms z) → HasOperandsOf has_part z
+    → ((i : Position) (us : List Token) → Settled i us (kept z) → FitsForms z) → HasOperands z
     → FitsForms (parens_if b z)
 unfolding held passed table has_step has_form_step
 parens_fit true z q ts s f o =
     let e : IsFormed Plain z = settled_inside (kept z) s.0 in
     let i : FitsForms z = f Plain (stands_behind Plain) (settles (kept z) Plain (stands_behind Plain) e) in
-    (refl, (refl, (refl, refl, refl, (refl, e, i, operands_are z o), tt)), tt)
+    (refl, (refl, (refl, refl, refl, (refl, e, i, o), tt)), tt)
 parens_fit false z q ts s f o = f q ts s
 
 back_settled : (q : Position) (ts : List Token) (k : Kind) (m w : Tree) → Fits w (table k)
@@ -490,7 +466,7 @@ back_settled q ts k m w f s = go (is_dot k) refl
         dotted_within (kept m) k (kept w) q ts (subst (Settled q ts) (dotted_kept k m w (dot_fits k w i f)) s)
     go false i = dotted_within (kept m) k (kept w) q ts (subst (λ z. Settled q ts (kept z)) (undotted m k w i) s)
 
-back_fits : (k : Kind) (l y : Tree) → has_part k ≡ true → Fits y (table k) → IsMeant k y → FitsForms l
+back_fits : (k : Kind) (l y : Tree) → is_form k ≡ true → Fits y (table k) → IsMeant k y → FitsForms l
     → FitsForms (dotted l k y)
 back_fits k l y h f m g = go (is_dot k) refl
   where
@@ -499,12 +475,12 @@ back_fits k l y h f m g = go (is_dot k) refl
     go false i =
         subst FitsForms (sym (undotted l k y i)) (part_known k h, f, m, λ z. undotted z k (kept y) i, g)
 
-remade_fits : (x : Tree) (o : Owns x) (p : Position) (r : List Token) → Bound p x r → has_parts_of has_part x ≡ true
+remade_fits : (x : Tree) (o : Owns x) (p : Position) (r : List Token) → Bound p x r → all_covered x ≡ true
     → (q : Position) (ts : List Token) → Settled q ts (kept (remade x o)) → FitsForms (remade x o)
 unfolding remade
-remade_fits (Alone k y) o p r d c q ts s = (part_known k (alone_parts has_part k y c).passes, o.fits, o.means)
+remade_fits (Alone k y) o p r d c q ts s = (part_known k (alone_parts k y c).passes, o.fits, o.means)
 remade_fits (Front k y x) o p r d c q ts s =
-    let a = front_parts has_part k y x c in (
+    let a = front_parts k y x c in (
       part_known k a.passes,
       o.0.fits,
       o.0.means,
@@ -513,14 +489,14 @@ remade_fits (Front k y x) o p r d c q ts s =
           (remade_operands x o.1 (inside p k) r d.4 a.right),
     )
 remade_fits (Back l k y) o p r d c q ts s =
-    let a = back_parts has_part l k y c in
+    let a = back_parts l k y c in
     let w = back_settled q ts k (parens_if (goes_in k l) (remade l o.0)) o.1.tree o.1.fits s in
     back_fits k (parens_if (goes_in k l) (remade l o.0)) o.1.tree a.passes o.1.fits o.1.means
     (parens_fit (goes_in k l) (remade l o.0) q w.behind w.settled
     (λ i us h. remade_fits l o.0 p (flat y ++ r) d.4 a.left i us h)
     (remade_operands l o.0 p (flat y ++ r) d.4 a.left))
 remade_fits (Infix l k y x) o p r d c q ts s =
-    let a = infix_parts has_part l k y x c in (
+    let a = infix_parts l k y x c in (
       part_known k a.passes,
       o.1.fits,
       o.1.means,
@@ -545,35 +521,17 @@ pub formed_twice : (p : Position) (x : Tree) → formed p (stands_behind p) (for
     ≡ formed p (stands_behind p) x
 formed_twice p x = ap inside_whole (normal_twice p (Whole x))
 
--- what is printed for it
-pub record Remade (p : Position) (x : Tree) : Type 0 where
-  pub tree : Tree
-  pub formed_is : IsFormed p tree
-  pub fits : FitsForms tree
-  pub operands : HasOperandsOf has_part tree
-  pub kept_is : kept (Whole tree) ≡ normal_in p (kept (Whole x))
-
-pub remake : (p : Position) (x : Tree) (r : List Token) → (p ≡ InCondition → sees brace r ≡ true)
-    → Derives (Whole x) (operand p 0) r → has_parts_of has_part x ≡ true → OwnPrinted x → Remade p x
-remake p x r b d c o =
+-- So it is printed.
+pub whole : WholeLaw
+whole p x r h d b c o =
     let w : Owns x = owns x p r d.1 c o in
     let z : Tree = remade x w in
     let g = gains p x r b d in
     let u : kept z ≡ shelled (kept x) = remade_kept x w p r d.1 in
     let e : IsFormed p z = ap (formed p (stands_behind p)) (u ∙ sym g) ∙ formed_twice p (kept x) ∙ g ∙ sym u in
+    let s = settles (kept z) p (stands_behind p) e in
     record {
-      tree = z;
-      formed_is = e;
-      fits = remade_fits x w p r d.1 c p (stands_behind p) (settles (kept z) p (stands_behind p) e);
-      operands = remade_operands x w p r d.1 c;
+      tree = Whole z;
+      fits = (refl, e, remade_fits x w p r d.1 c p (stands_behind p) s, remade_operands x w p r d.1 c);
       kept_is = ap Whole (u ∙ sym g);
-    }
-
-pub whole : WholeLaw
-whole p x r h d b c o =
-    let w = remake p x r b d (covered_parts x c) o in
-    record {
-      tree = Whole w.tree;
-      fits = (refl, w.formed_is, w.fits, operands_are w.tree w.operands);
-      kept_is = w.kept_is;
     }
