@@ -87,19 +87,24 @@ form_told (Second (First (Pair a (Pair m s)))) r d c =
     ∙ sym (behind_attributes a (Pair m s) macro_statement_stands r _ d.1.1.0 refl) ∙ d.1.0)
 form_told (Second (First (Pair a _))) r d c = absurd d.1.1.1
 form_told (Second (First _)) r d c = absurd d.1.1
+form_told (Second (Second (First x))) r d c = refl
+form_told (Second (Second (Second (First (Node k (First x)))))) r d c = c
+form_told (Second (Second (Second (First (Node k (Verbatim x)))))) r d c =
+    raw_told k x r d.1.1.1.1 d.1.1.1.0
+form_told (Second (Second (Second (First (Node k x))))) r d c =
+    absurd (subst (λ j. Derives x (table j) r) d.1.1.1.1.0 d.1.1.1.1.1)
+form_told (Second (Second (Second (First _)))) r d c = absurd d.1.1.1.1
 form_told (Second (Second (Second (Second (Pair (Called n a) (Pair (Called m e) s)))))) r d c =
-    let f = d.1.1.1.1 in plain_told a e s r f.0.1 f.1.0.1 d.1.0 d.1.1.1.0 c
+    let f = d.1.1.1.1 in plain_told a e s r f.0.1 f.1.0.1 d.1.0 d.1.1.1.0
 form_told (Second (Second (Second (Second (Pair (Called n a) (Pair _ s)))))) r d c = absurd d.1.1.1.1.1.0
 form_told (Second (Second (Second (Second (Pair (Called n a) _))))) r d c = absurd d.1.1.1.1.1
 form_told (Second (Second (Second (Second (Pair _ y))))) r d c = absurd d.1.1.1.1.0
 form_told (Second (Second (Second (Second _)))) r d c = absurd d.1.1.1.1
-form_told (Second (Second (Second (First (Node k (Verbatim x)))))) r d c =
-    raw_told k x r d.1.1.1.1 d.1.1.1.0
-form_told (Second (Second (Second x))) r d c = c
-form_told (Second (Second x)) r d c = c
-form_told (Second x) r d c = c
+form_told (Second (Second (Second _))) r d c = absurd d.1.1.1
+form_told (Second (Second _)) r d c = absurd d.1.1
+form_told (Second _) r d c = absurd d.1
 form_told (First x) r d c = named_told x r d.1 d.0
-form_told x r d c = c
+form_told _ r d c = absurd d
 
 -- of a kind's tree, and of a form's own part
 node_told : (k : Kind) (x : Tree) (r : List Token) → Derives x (table k) r → are_settled (Node k x) ≡ true
@@ -108,7 +113,7 @@ node_told AConst x r d s n c = s
 node_told AnImpl x r d s n c = s
 node_told OnePattern x r d s n c = n
 node_told AStatement x r d s n c = form_told x r d c
-node_told _ x r d s n c = c
+node_told _ x r d s n c = refl
 
 part_told : (k : Kind) (p : Position) (y : Tree) (r : List Token) → front p (flat y ++ r) ≡ Some k
     → Derives y (table k) r → is_plain_part k (normal (kept y)) ≡ true

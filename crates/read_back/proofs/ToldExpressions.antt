@@ -1,9 +1,8 @@
 -- What is held of an expression that is a statement begins no item there, and is no macro in braces: its tests saw it.
-use Rattle.std.proofs.Common.{◌≡◌, List, [], ◌∷◌, ◌++◌, refl, sym, ap, ◌∙◌, subst, append_assoc}
-use Rattle.std.specs.Prelude.{Bool, true, false, ◌&&◌, ◌||◌, codes, not}
-use Rattle.proc_macro2.specs.Token.{Token, Ident}
+use Rattle.std.proofs.Common.{◌≡◌, List, [], ◌++◌, refl, sym, ap, ◌∙◌, subst, append_assoc}
+use Rattle.std.specs.Prelude.{Bool, true, false, not}
+use Rattle.proc_macro2.specs.Token.{Token}
 use Rattle.syn_grammar.specs.Kind.{Expression, InStatement, OuterAttributes}
-use Rattle.syn_grammar.specs.Words.{is_among, same_text}
 use Rattle.syn_grammar.specs.Tree.{Tree, Again, End, Node, Pair, Whole, flat}
 use Rattle.syn_grammar.specs.Gram.{Gram, ref, star}
 use Rattle.syn_grammar.specs.Look.{◌then◌, all_attributes, sees}
@@ -14,12 +13,11 @@ use Rattle.syn_grammar.specs.Derives.{Derives}
 use Rattle.syn_grammar.specs.Kept.{held, kept}
 use Rattle.syn_grammar.specs.Normal.{formed, normal_in, passed, stands_behind}
 use Rattle.syn_grammar.specs.Forms.{is_brace_macro}
-use Rattle.grammar_back.specs.Covered.{is_plain_expression, is_plain_start, soft_words}
+use Rattle.grammar_back.specs.Covered.{is_plain_expression, is_plain_start}
 use Rattle.grammar_back.proofs.Choices.{both_same}
 use Rattle.grammar_back.proofs.Passed.{behind_attributes}
-use Rattle.read_back.specs.Asked.{begins_cast}
 use Rattle.read_back.proofs.ToldBraces.{unbraced}
-use Rattle.read_back.proofs.ToldStarts.{begins_told, starts_so}
+use Rattle.read_back.proofs.ToldStarts.{begins_told}
 
 -- behind attributes begins none
 none_more : (z : Tree) (t : List Token → Bool) (g : Gram) (r : List Token) → Derives z (star t g) r → t r ≡ false
@@ -32,57 +30,36 @@ unfolding table
 no_hash (Node k z) r d = none_more z (sees (marks "#")) _ r (subst (λ j. Derives z (table j) r) d.0 d.1)
 no_hash _ r d = absurd d
 
--- behind a word that begins items too stands no word, where as is asked not to
-no_cast : (a b c d : Bool) → ((not a || b) && c) ≡ true → (a ≡ true → d ≡ true) → ((not a || d) && c) ≡ true
-no_cast true true c d e f = ap (λ i. i && c) (f refl) ∙ e
-no_cast true false c d e f = cc e
-no_cast false b c d e f = e
-
-so_plain : (us : List Token) → starts_so us ≡ true → not (begins_cast us) ≡ true → is_plain_start us ≡ true
-so_plain (Ident cs ∷ Ident ds ∷ ts) e c =
-    no_cast (is_among soft_words cs) (same_text (codes "as") ds) _ false e (λ h. absurd (soft
-    (is_among soft_words cs) h c))
-  where
-    soft : (b : Bool) → b ≡ true → not b ≡ true → ⊥
-    soft true h c = cc c
-    soft false h c = cc h
-so_plain (Ident cs ∷ []) e c = e
-so_plain (Ident cs ∷ _ ∷ ts) e c = e
-so_plain _ e c = e
-
 expression_in : (x : Tree) (q : List Token) → Derives x (table (Expression InStatement)) q
     → sees macro_statement_stands (flat x ++ q) ≡ false → sees item_stands (flat x ++ q) ≡ false
     → sees (marks "#") (flat x ++ q) ≡ false
-    → not (begins_cast (flat (normal_in InStatement (kept (Node (Expression InStatement) x))))) ≡ true
     → is_plain_expression (normal_in InStatement (kept (Node (Expression InStatement) x))) ≡ true
 unfolding table held passed stands_behind
-expression_in (Whole x) q d f i h c =
+expression_in (Whole x) q d f i h =
     let z : Tree = formed InStatement [] (kept x) in
     both_same (is_plain_start (flat z)) (not (is_brace_macro z)) true true
-    (so_plain (flat z) (begins_told x q d.1 h i) c) (ap not (unbraced x q d.1 d.0.1 f h))
-expression_in _ q d f i h c = absurd d
+    (begins_told x q d.1 h i) (ap not (unbraced x q d.1 d.0.1 f h))
+expression_in _ q d f i h = absurd d
 
 expression_told : (e : Tree) (q : List Token) → Derives e (ref (Expression InStatement)) q
     → sees macro_statement_stands (flat e ++ q) ≡ false → sees item_stands (flat e ++ q) ≡ false
-    → sees (marks "#") (flat e ++ q) ≡ false → not (begins_cast (flat (normal_in InStatement (kept e)))) ≡ true
+    → sees (marks "#") (flat e ++ q) ≡ false
     → is_plain_expression (normal_in InStatement (kept e)) ≡ true
-expression_told (Node k x) q d f i h c =
+expression_told (Node k x) q d f i h =
     subst (λ j. is_plain_expression (normal_in InStatement (kept (Node j x))) ≡ true) (sym d.0)
-    (expression_in x q (subst (λ j. Derives x (table j) q) d.0 d.1) f i h
-    (subst (λ j. not (begins_cast (flat (normal_in InStatement (kept (Node j x))))) ≡ true) d.0 c))
-expression_told _ q d f i h c = absurd d
+    (expression_in x q (subst (λ j. Derives x (table j) q) d.0 d.1) f i h)
+expression_told _ q d f i h = absurd d
 
 -- behind the attributes of its statement
 pub plain_told : (a e s : Tree) (r : List Token) → Derives a (ref OuterAttributes) ((flat e ++ flat s) ++ r)
     → Derives e (ref (Expression InStatement)) (flat s ++ r)
     → sees (all_attributes then macro_statement_stands) ((flat a ++ (flat e ++ flat s)) ++ r) ≡ false
     → sees (all_attributes then item_stands) ((flat a ++ (flat e ++ flat s)) ++ r) ≡ false
-    → not (begins_cast (flat (normal_in InStatement (kept e)))) ≡ true
     → is_plain_expression (normal_in InStatement (kept e)) ≡ true
-plain_told a e s r da d f i c =
+plain_told a e s r da d f i =
     let o : (flat e ++ flat s) ++ r ≡ flat e ++ (flat s ++ r) = append_assoc (flat e) (flat s) r in
     expression_told e (flat s ++ r) d
     (sym (ap (sees macro_statement_stands) o)
     ∙ sym (behind_attributes a (Pair e s) macro_statement_stands r _ da refl) ∙ f)
     (sym (ap (sees item_stands) o) ∙ sym (behind_attributes a (Pair e s) item_stands r _ da refl) ∙ i)
-    (sym (ap (sees (marks "#")) o) ∙ no_hash a ((flat e ++ flat s) ++ r) da) c
+    (sym (ap (sees (marks "#")) o) ∙ no_hash a ((flat e ++ flat s) ++ r) da)

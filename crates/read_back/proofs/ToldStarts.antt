@@ -38,56 +38,43 @@ use Rattle.binding_laws.proofs.Leads as Leads
 use Rattle.binding_laws.proofs.Shells as Shells
 use Rattle.binding_laws.proofs.Sights.{backs_are, is_back}
 use Rattle.expressions_back.proofs.Bools.{never}
-use Rattle.grammar_back.specs.Covered.{soft_words}
+use Rattle.grammar_back.specs.Covered.{is_plain_start, no_word, soft_words}
 use Rattle.grammar_back.proofs.Choices.{both_true}
 
--- no word but `as` stands there
-abbrev pub lets_as : List Token → Bool
-lets_as (Ident cs ∷ ts) = same_text (codes "as") cs
-lets_as ts = true
-
--- so begins what may be a statement, by its first tokens
-abbrev pub starts_so : List Token → Bool
-starts_so [] = false
-starts_so (Ident cs ∷ ts) =
-    (not (is_among soft_words cs) || lets_as ts) && (not (same_text (codes "crate") cs) || sees (marks "::") ts)
-starts_so (Punct c spacing ∷ ts) = not (c == 35)
-starts_so (t ∷ ts) = true
-
--- these do, before all that begins with no other word than as; and these before all
+-- These begin what may be a statement, before all that begins with no other word than as; and these before all.
 abbrev Starts : List Token → Type 0
-Starts us = (vs : List Token) → lets_as vs ≡ true → starts_so (us ++ vs) ≡ true
+Starts us = (vs : List Token) → no_word vs ≡ true → is_plain_start (us ++ vs) ≡ true
 
 abbrev Firm : List Token → Type 0
-Firm us = (vs : List Token) → starts_so (us ++ vs) ≡ true
+Firm us = (vs : List Token) → is_plain_start (us ++ vs) ≡ true
 
 -- and these begin with no other word
 abbrev Behind : List Token → Type 0
-Behind us = (vs : List Token) → lets_as (us ++ vs) ≡ true
+Behind us = (vs : List Token) → no_word (us ++ vs) ≡ true
 
 starts_more : (us vs : List Token) → Starts us → Behind vs → Starts (us ++ vs)
 starts_more us vs s b ws h =
-    ap starts_so (append_assoc us vs ws) ∙ s (vs ++ ws) (b ws)
+    ap is_plain_start (append_assoc us vs ws) ∙ s (vs ++ ws) (b ws)
 
 firm_more : (us vs : List Token) → Firm us → Starts (us ++ vs)
-firm_more us vs f ws h = ap starts_so (append_assoc us vs ws) ∙ f (vs ++ ws)
+firm_more us vs f ws h = ap is_plain_start (append_assoc us vs ws) ∙ f (vs ++ ws)
 
 -- a word that is none of these four
 abbrev is_special : List ℕ → Bool
 is_special cs = is_among soft_words cs || same_text (codes "crate") cs
 
-plain_word : (cs : List ℕ) (ts : List Token) → is_special cs ≡ false → starts_so (Ident cs ∷ ts) ≡ true
+plain_word : (cs : List ℕ) (ts : List Token) → is_special cs ≡ false → is_plain_start (Ident cs ∷ ts) ≡ true
 plain_word cs ts e = go (is_among soft_words cs) (same_text (codes "crate") cs) e
   where
-    go : (a b : Bool) → (a || b) ≡ false → ((not a || lets_as ts) && (not b || sees (marks "::") ts)) ≡ true
+    go : (a b : Bool) → (a || b) ≡ false → ((not a || no_word ts) && (not b || sees (marks "::") ts)) ≡ true
     go false false e = refl
     go true b e = absurd (never (sym e))
     go false true e = absurd (never (sym e))
 
 -- a word that is not crate, before others than a word; and any word before ::
-soft_word : (cs : List ℕ) (ts : List Token) → same_text (codes "crate") cs ≡ false → lets_as ts ≡ true
-    → starts_so (Ident cs ∷ ts) ≡ true
-soft_word cs ts e f = go (is_among soft_words cs) (same_text (codes "crate") cs) e (lets_as ts) f
+soft_word : (cs : List ℕ) (ts : List Token) → same_text (codes "crate") cs ≡ false → no_word ts ≡ true
+    → is_plain_start (Ident cs ∷ ts) ≡ true
+soft_word cs ts e f = go (is_among soft_words cs) (same_text (codes "crate") cs) e (no_word ts) f
   where
     go : (a b : Bool) → b ≡ false → (c : Bool) → c ≡ true → ((not a || c) && (not b || sees (marks "::") ts)) ≡ true
     go true false e true f = refl
@@ -96,7 +83,7 @@ soft_word cs ts e f = go (is_among soft_words cs) (same_text (codes "crate") cs)
     go a b e false f = absurd (never f)
 
 colon_word : (cs : List ℕ) (i : Spacing) (ts : List Token)
-    → starts_so (Ident cs ∷ Punct 58 Joint ∷ Punct 58 i ∷ ts) ≡ true
+    → is_plain_start (Ident cs ∷ Punct 58 Joint ∷ Punct 58 i ∷ ts) ≡ true
 colon_word cs i ts = go (is_among soft_words cs) (same_text (codes "crate") cs)
   where
     go : (a b : Bool) → ((not a || true) && (not b || true)) ≡ true
@@ -199,10 +186,11 @@ colons_behind c cs ts e f =
 starts_colons : (w : List ℕ) (c : ℕ) (cs : List ℕ) (ts : List Token) → c ≡ 58 → cs ≡ 58 ∷ []
     → Starts (Ident w ∷ (signs c cs Apart ++ ts))
 starts_colons w c cs ts e f vs h =
-    ap (λ us. starts_so (Ident w ∷ (us ++ vs))) (colons_behind c cs ts e f) ∙ colon_word w Apart (ts ++ vs)
+    ap (λ us. is_plain_start (Ident w ∷ (us ++ vs))) (colons_behind c cs ts e f) ∙ colon_word w Apart (ts ++ vs)
 
-starts_soft : (w : List ℕ) (ts : List Token) → same_text (codes "crate") w ≡ false → Behind ts → Starts (Ident w ∷ ts)
-starts_soft w ts e b vs h = soft_word w (ts ++ vs) e (b vs)
+is_plain_startft : (w : List ℕ) (ts : List Token) → same_text (codes "crate") w ≡ false → Behind ts
+    → Starts (Ident w ∷ ts)
+is_plain_startft w ts e b vs h = soft_word w (ts ++ vs) e (b vs)
 
 mark_behind : (c : ℕ) (cs : List ℕ) (us ts : List Token) → Behind ((signs c cs Apart ++ us) ++ ts)
 mark_behind c [] us ts vs = refl
@@ -250,7 +238,7 @@ segments_start s (First (Pair _ z)) r d h = absurd d.1.0
 segments_start s (First _) r d h = absurd d.1
 segments_start s (Second (Pair (AWord cs) (First (Pair (Node k a) y)))) r d h =
     subst (λ j. Starts (Ident cs ∷ (flat (normal (kept (Node j a))) ++ flat (normal (kept y))))) (sym d.1.1.1.0.0)
-    (starts_soft cs (flat (normal (kept (Node Arguments a))) ++ flat (normal (kept y))) (plain_crate cs d.1.0)
+    (is_plain_startft cs (flat (normal (kept (Node Arguments a))) ++ flat (normal (kept y))) (plain_crate cs d.1.0)
     (arguments_behind a (flat y ++ r) (flat (normal (kept y)))
     (subst (λ j. Derives a (table j) (flat y ++ r)) d.1.1.1.0.0 d.1.1.1.0.1)))
 segments_start s (Second (Pair (AWord cs) (First (Pair _ y)))) r d h = absurd d.1.1.1.0
@@ -261,7 +249,7 @@ segments_start s (Second (Pair (AWord cs) (Second (First (Pair _ z))))) r d h = 
 segments_start s (Second (Pair (AWord cs) (Second (First _)))) r d h = absurd d.1.1.1.1
 segments_start s (Second (Pair (AWord cs) (Second (Second (First (Node k a)))))) r d h =
     subst (λ j. Starts (Ident cs ∷ flat (normal (kept (Node j a))))) (sym d.1.1.1.1.1.0)
-    (starts_soft cs (flat (normal (kept (Node ParenthesizedArguments a)))) (plain_crate cs d.1.0)
+    (is_plain_startft cs (flat (normal (kept (Node ParenthesizedArguments a)))) (plain_crate cs d.1.0)
     (parenthesized_behind a r (subst (λ j. Derives a (table j) r) d.1.1.1.1.1.0 d.1.1.1.1.1.1)))
 segments_start s (Second (Pair (AWord cs) (Second (Second (First _))))) r d h = absurd d.1.1.1.1.1
 segments_start s (Second (Pair (AWord cs) (Second (Second (Second Nil))))) r d h =
@@ -334,7 +322,7 @@ call_start _ r d h = absurd d
 
 -- An own part behind an operand begins with no other word than as.
 behind_more : (ts us vs : List Token) → Behind us → Behind (us ++ vs)
-behind_more ts us vs b ws = ap lets_as (append_assoc us vs ws) ∙ b (vs ++ ws)
+behind_more ts us vs b ws = ap no_word (append_assoc us vs ws) ∙ b (vs ++ ws)
 
 abbrev Leading : Gram → Type 0
 Leading g = Leads.Leads (λ ts us. Behind us) behind_more g
@@ -369,7 +357,7 @@ fields_lead = Leads.ref_leads (λ ts us. Behind us) behind_more go
     go q (Verbatim x) r d vs = refused_raw _ d.0
       where
         refused_raw : (b : Bool) → kept_if b ≡ AsRaw
-            → lets_as (flat (normal_in q (kept (Node FieldValues (Verbatim x)))) ++ vs) ≡ true
+            → no_word (flat (normal_in q (kept (Node FieldValues (Verbatim x)))) ++ vs) ≡ true
         refused_raw true e = cc e
         refused_raw false e = cc e
     go q _ r d vs = absurd d
@@ -505,7 +493,7 @@ starts_told (Infix l k y r) q d h i =
 starts_told _ q d h i = absurd d
 
 pub begins_told : (x : Tree) (q : List Token) → Bound InStatement x q → sees (marks "#") (flat x ++ q) ≡ false
-    → sees item_stands (flat x ++ q) ≡ false → starts_so (flat (formed InStatement [] (kept x))) ≡ true
+    → sees item_stands (flat x ++ q) ≡ false → is_plain_start (flat (formed InStatement [] (kept x))) ≡ true
 begins_told x q d h i =
     let us : List Token = flat (formed InStatement [] (kept x)) in
-    sym (ap starts_so (append-nil us)) ∙ starts_told x q d h i InStatement [] [] refl
+    sym (ap is_plain_start (append-nil us)) ∙ starts_told x q d h i InStatement [] [] refl

@@ -1,44 +1,24 @@
 -- What is asked of a tree that was read, for its normal form to be read back: the tests and the verdicts of the grammar
 -- saw the rest.
-use Rattle.std.specs.Prelude.{Bool, true, false, ◌&&◌, ◌||◌, not, List, ◌∷◌}
-use Rattle.proc_macro2.specs.Token.{Token, Ident}
+use Rattle.std.specs.Prelude.{Bool, true, false, ◌&&◌, ◌||◌, not}
 use Rattle.syn_grammar.specs.Kind.{Kind, AConst, AnImpl, AStatement, ClosureParam, FieldPattern, IdentPattern}
-use Rattle.syn_grammar.specs.Kind.{InStatement, OnePattern, Pattern, ReferencePattern, SeveralPatterns}
+use Rattle.syn_grammar.specs.Kind.{OnePattern, Pattern, ReferencePattern, SeveralPatterns}
 use Rattle.syn_grammar.specs.Tree.{Tree, Pair, First, Second, Again, Final, More, Group, Dropped, Called, Verbatim}
-use Rattle.syn_grammar.specs.Tree.{Node, Whole, Alone, Front, Back, Infix, flat}
-use Rattle.syn_grammar.specs.Words.{is_among}
+use Rattle.syn_grammar.specs.Tree.{Node, Whole, Alone, Front, Back, Infix}
 use Rattle.syn_grammar.specs.Part.{choice}
-use Rattle.syn_grammar.specs.Kept.{kept}
-use Rattle.syn_grammar.specs.Normal.{normal_in}
-use Rattle.grammar_back.specs.Covered.{has_lone_value, has_own_trait, is_known, is_lone, is_statement_form}
-use Rattle.grammar_back.specs.Covered.{is_taken, soft_words, stands_alone}
+use Rattle.grammar_back.specs.Covered.{has_lone_value, has_own_trait, is_known, is_lone, is_no_macro, item_of}
+use Rattle.grammar_back.specs.Covered.{stands_alone}
 
--- Of a statement: what it is taken by, but that a macro which is one has its tokens in braces was seen, and a name
--- behind the ! of one that is an item; of an item that is kept as tokens nothing; and of an expression only that, as it
--- is printed, no word stands behind one that begins items too.
-abbrev pub begins_cast : List Token → Bool
-begins_cast (Ident cs ∷ Ident ds ∷ ts) = is_among soft_words cs
-begins_cast ts = false
-
-abbrev pub is_asked_expression : Tree → Bool
-is_asked_expression (Pair a (Pair (Called n e) s)) = not (begins_cast (flat (normal_in InStatement (kept e))))
-is_asked_expression _ = true
-
+-- Of a statement: a macro crate!, which is an item there by its first word, is not covered yet. The tests saw the rest.
 abbrev pub is_asked_form : Tree → Bool
-is_asked_form (First x) = true
-is_asked_form (Second (First x)) = true
-is_asked_form (Second (Second (Second (First (Node k (Verbatim x)))))) = true
-is_asked_form (Second (Second (Second (Second x)))) = is_asked_expression x
-is_asked_form x = is_statement_form x
+is_asked_form (Second (Second (Second (First (Node k (First x)))))) = is_no_macro (choice (item_of x))
+is_asked_form x = true
 
--- Of what stands in a tree: nothing of a constant and of an impl, as an item that is kept was judged by them, nor of a
--- pattern, as an identifier alone is no path pattern but before .. .
+-- Of what else stands in a tree nothing is asked: an item that is kept was judged, an identifier alone is no path pattern
+-- but before .. .
 abbrev pub is_asked : Kind → Tree → Bool
-is_asked AConst x = true
-is_asked AnImpl x = true
-is_asked OnePattern x = true
 is_asked AStatement x = is_asked_form x
-is_asked k x = is_taken k x
+is_asked k x = true
 
 -- Each node that a tree holds is as is asked of its kind; nothing is asked of what is kept as tokens.
 abbrev pub all_nodes : (Kind → Tree → Bool) → Tree → Bool
