@@ -5,8 +5,8 @@ use Rattle.std.specs.Prelude.{Bool, cond, false, not, true, ◌&&◌}
 use Rattle.proc_macro2.specs.Token.{Opens, Token}
 use Rattle.proc_macro2.specs.declared.delimiter.Delimiter.TheVariants.{Parenthesis}
 use Rattle.rust_leaf.specs.declared.punct.Spacing.TheVariants.{Alone as Apart}
-use Rattle.syn_grammar.specs.Kind.{AnItem, AStatement, Expression, ExprCast, ExprMacro, InStatement, Kind, OuterAttributes}
-use Rattle.syn_grammar.specs.Kind.{Plain, Position}
+use Rattle.syn_grammar.specs.Kind.{AnItem, AStatement, Expression, ExprCast, ExprMacro, InStatement, Kind}
+use Rattle.syn_grammar.specs.Kind.{OuterAttributes, Plain, Position}
 use Rattle.syn_grammar.specs.Name.{Part, same_part, the_attributes, the_expression, the_semicolon}
 use Rattle.syn_grammar.specs.Tree.{Again, Alone, AMark, Back, Called, End, First, flat, Front, Infix, Nil, Node, Pair}
 use Rattle.syn_grammar.specs.Tree.{Raw, Second, Tree, Whole}

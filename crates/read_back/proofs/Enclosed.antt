@@ -22,7 +22,7 @@ use Rattle.syn_grammar.proofs.Settled.{Settled}
 use Rattle.expressions_back.specs.Formed.{is_attributed_form}
 use Rattle.expressions_back.proofs.Bools.{never}
 use Rattle.grammar_back.specs.Covered.{has_form_step, has_step}
-use Rattle.grammar_back.proofs.Fits.{are_together, Fits, FitsForms, HasOperands}
+use Rattle.grammar_back.proofs.Fits.{Fits, FitsForms, HasOperands}
 use Rattle.grammar_back.proofs.Statements.{contrary, has_left_operand, TakenLaw}
 use Rattle.range_laws.specs.Opens.{opens_given}
 use Rattle.range_laws.specs.Shelled.{goes_in, parens_if, shelled}

@@ -36,7 +36,6 @@ use Rattle.read_back.proofs.Parts.{IsThe, owned, begins}
 use Rattle.grammar_back.proofs.Statements.{law_a_statement}
 use Rattle.read_back.proofs.Statements.{step_a_statement}
 use Rattle.read_back.proofs.Settled.{settles}
-use Rattle.grammar_back.specs.Covered.{is_form}
 use Rattle.read_back.proofs.Wholes.{whole}
 
 pub read_formed : (p : Position) (x : Tree) (s : List Token) → IsFormed p x → FitsForms x → HasOperands x

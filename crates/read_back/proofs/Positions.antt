@@ -1,15 +1,15 @@
--- An expression whose own parts are covered is read back in each position.
-use Rattle.std.proofs.Common.{◌≡◌, List, ◌++◌, refl, sym, ap, ◌∙◌, subst}
-use Rattle.std.specs.Prelude.{true, false}
+-- An expression that is covered is read back in each position.
+use Rattle.std.proofs.Common.{◌≡◌, List, ◌++◌, refl, sym, ap, ◌∙◌}
+use Rattle.std.specs.Prelude.{true}
 use Rattle.proc_macro2.specs.Token.{Token}
 use Rattle.syn_grammar.specs.Kind.{Position, Plain, InArm, InCondition, InStatement, Expression}
-use Rattle.syn_grammar.specs.Tree.{Tree, Node, Whole, Alone, Front, Back, Infix, flat}
+use Rattle.syn_grammar.specs.Tree.{Tree, Node, Whole, flat}
 use Rattle.syn_grammar.specs.Look.{sees}
 use Rattle.syn_grammar.specs.Say.{brace}
 use Rattle.syn_grammar.specs.Gram.{operand, ref}
 use Rattle.syn_grammar.specs.Table.{table}
-use Rattle.syn_grammar.specs.Forms.{ends_there, inside}
-use Rattle.syn_grammar.specs.Derives.{Bound, Derives}
+use Rattle.syn_grammar.specs.Forms.{ends_there}
+use Rattle.syn_grammar.specs.Derives.{Derives}
 use Rattle.syn_grammar.specs.Kept.{held, kept}
 use Rattle.syn_grammar.specs.Normal.{passed, normal_in, stands_behind}
 use Rattle.syn_grammar.specs.Read.{IsRead}

@@ -22,7 +22,7 @@ use Rattle.syn_grammar.specs.Forms.{Case, first_form, fronts, front, has_right, 
 use Rattle.syn_grammar.specs.Forms.{level, stands_left}
 use Rattle.syn_grammar.specs.Derives.{Bound, Derives, IsLeft}
 use Rattle.syn_grammar.specs.Kept.{dotted, forget, held, kept}
-use Rattle.syn_grammar.specs.Normal.{passed, stands_behind, normal, normal_in, formed}
+use Rattle.syn_grammar.specs.Normal.{passed, stands_behind, normal, formed}
 use Rattle.syn_grammar.specs.Parens.{follow, may_lack, is_struct}
 use Rattle.syn_grammar.proofs.Settled.{normal_twice}
 use Rattle.syn_grammar.proofs.Whole.{and_true}

@@ -13,10 +13,10 @@
 //! and `Else` those that else may follow).
 //! For each expression that was read there is one as it is printed (`Wholes`), in which a number behind a dot is split
 //! as in what is held (`Split`), each form that it is split into fits (`Indices`), each form has its operands
-//! (`Operands`), and those that normal form puts in parentheses stand in some. Where it begins a statement, nothing else
-//! is seen there (`Statements`, which has the step of statements; of macros that are items there by `NamedMacros`).
-//! Attributes in front of a statement's expression stand in its normal form where they stood (`Given`), or in the
-//! parentheses that its left operand gets (`Enclosed`). `Forms` has all that is to be known of expressions,
+//! (attributes stand together, `Operands`), and those that normal form puts in parentheses stand in some. Where it
+//! begins a statement, nothing else is seen there (`Statements`, which has the step of statements; of macros that are
+//! items there by `NamedMacros`). Attributes in front of a statement's expression stand in its normal form where they
+//! stood (`Given`), or in the parentheses that its left operand gets (`Enclosed`). `Forms` has all that is to be known of expressions,
 //! `ReadBack` the laws of kinds, and `Positions` those of an expression where it stands. What is asked
 //! of a tree is less than what the steps go by: `Told` has what the tests of the entries saw, wherever it was read
 //! (`ToldItems` of an item among statements, `ToldExpressions` of an expression there, by `ToldStarts` and
