@@ -1,10 +1,11 @@
 -- Covered expressions there are: -(1 + x), as it is read; m!() in a condition; m!{} before another
 -- statement; || 1; 1 as _ < 1; #[unsafe] 1; and as statements 1; and #[unsafe] 1; and
--- #[unsafe] ..; , whose range stands in parentheses then.
+-- #[unsafe] ..; , whose range stands in parentheses then; and #[unsafe] 1 && #[unsafe] .. == 1; , whose first
+-- attribute stands inside parentheses then: (#[unsafe] 1 && #[unsafe] (..)) == 1; .
 use Rattle.std.proofs.Common.{◌≡◌, List, [], ◌∷◌, ◌++◌, refl, inl}
 use Rattle.std.specs.Prelude.{true, codes}
 use Rattle.syn_grammar.specs.Kind.{AMacro, AStatement, Delimited, ExprMacro, InCondition, InModule, Path, Plain}
-use Rattle.syn_grammar.specs.Kind.{ExprRange, Expression}
+use Rattle.syn_grammar.specs.Kind.{ExprAnd, ExprRange, Expression}
 use Rattle.syn_grammar.specs.Kind.{ExprClosure, ExprLit, InStatement, Segments, AType, ExprAttributed, ExprCast}
 use Rattle.syn_grammar.specs.Kind.{ExprCompare, InferType, Meta, OuterAttribute, OuterAttributes, WithoutPlus}
 use Rattle.syn_grammar.specs.Name.{the_attributes, the_expression, the_semicolon, the_type}
@@ -21,7 +22,9 @@ use Rattle.syn_grammar.specs.Tree.{Tree, ALiteral, AMark, End, Front, Alone, AWo
 use Rattle.syn_grammar.specs.Tree.{Again, Back, Called, Infix, Raw, Second, Whole, flat}
 use Rattle.syn_grammar.specs.Forms.{back, chains, front, has_right, inside, level, stands_left, takes}
 use Rattle.syn_grammar.specs.Kept.{held, kept}
-use Rattle.syn_grammar.specs.Normal.{passed, stands_behind, normal, normal_in}
+use Rattle.syn_grammar.specs.Look.{sees}
+use Rattle.syn_grammar.specs.Say.{parenthesis}
+use Rattle.syn_grammar.specs.Normal.{passed, place_of, stands_behind, normal, normal_in}
 use Rattle.syn_grammar.specs.Parens.{may_lack}
 use Rattle.syn_grammar.specs.Read.{IsRead}
 use Rattle.grammar_back.specs.Covered.{all_covered, has_step, has_form_step}
@@ -392,3 +395,91 @@ pub range_statement_back :
     IsRead AStatement (flat (normal (kept range_statement)) ++ []) (normal (kept range_statement)) []
 range_statement_back =
     read_back AStatement range_statement [] [] range_read range_covered (inl (refl, tt))
+
+-- and #[unsafe] 1 && #[unsafe] .. == 1;
+abbrev opened_statement : Tree
+opened_statement =
+    behind (Again attribute End)
+    (Infix
+    (Infix number ExprAnd (AMark 38 (38 ∷ []) Apart)
+    (Front ExprAttributed (Pair attribute (Node OuterAttributes End)) (Alone ExprRange (AMark 46 (46 ∷ []) Apart))))
+    ExprCompare (First (AMark 61 (61 ∷ []) Apart)) number)
+
+opened_read : Derives opened_statement (ref AStatement) []
+unfolding table front back has_right level is_bool is_name is_path_keyword is_reserved takes stands_left inside chains
+opened_read = (
+  refl,
+  (
+    refl,
+    (
+      refl,
+      (
+        refl,
+        (
+          refl,
+          (
+            (
+              refl,
+              (
+                refl,
+                (refl, (refl, ((refl, refl), (refl, (refl, ((refl, refl), (refl, (refl, tt))))))), refl),
+              ),
+            ),
+            (
+              (
+                refl,
+                (
+                  refl,
+                  (
+                    (refl, refl),
+                    (
+                      refl,
+                      (refl, (refl, refl)),
+                      refl,
+                      (refl, refl),
+                      (
+                        refl,
+                        (refl, refl),
+                        refl,
+                        (refl, refl),
+                        (refl, (refl, refl), refl),
+                        (refl, refl),
+                        (
+                          refl,
+                          (
+                            (refl, ((refl, refl), (refl, (refl, ((refl, refl), (refl, (refl, tt))))))),
+                            (refl, refl),
+                          ),
+                          refl,
+                          (refl, refl),
+                          (refl, (refl, refl), refl),
+                        ),
+                      ),
+                      (refl, refl),
+                      (refl, (refl, refl), refl),
+                    ),
+                  ),
+                ),
+              ),
+              (refl, (refl, (refl, refl))),
+            ),
+          ),
+        ),
+      ),
+    ),
+  ),
+)
+
+opened_covered : is_covered opened_statement ≡ true
+unfolding has_step has_form_step held passed stands_behind level has_right may_lack
+opened_covered = refl
+
+pub opened_statement_back :
+    IsRead AStatement (flat (normal (kept opened_statement)) ++ []) (normal (kept opened_statement)) []
+opened_statement_back =
+    read_back AStatement opened_statement [] [] opened_read opened_covered (inl (refl, tt))
+
+-- which begins with a parenthesis
+opened_begins : sees parenthesis (flat (normal (kept opened_statement))) ≡ true
+unfolding held passed place_of stands_behind level has_right may_lack takes stands_left inside chains
+opened_begins = refl
