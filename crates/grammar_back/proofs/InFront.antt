@@ -1,5 +1,5 @@
 -- Attributes in front of a statement's expression, and the expression that is held, which has taken them.
-use Rattle.std.proofs.Common.{◌≡◌, [], List, ◌++◌, refl, sym, ap, ◌∙◌, append_assoc}
+use Rattle.std.proofs.Common.{◌≡◌, [], List, ◌++◌, refl, sym, ap, ◌∙◌}
 use Rattle.std.specs.Prelude.{Bool, true, false, cond, nat_eq}
 use Rattle.proc_macro2.specs.Token.{Token}
 use Rattle.syn_grammar.specs.Kind.{Plain, InStatement, ExprAttributed, ExprCast}
@@ -13,6 +13,7 @@ use Rattle.syn_grammar.specs.Kept.{attributed, held, kept}
 use Rattle.syn_grammar.specs.Normal.{apart_item, formed, normal, passed, stands_behind}
 use Rattle.syn_grammar.specs.Parens.{in_parens, may_lack}
 use Rattle.syn_grammar.proofs.Settled.{normal_twice}
+use Rattle.range_laws.proofs.Given.{attributed_flat}
 use Rattle.grammar_back.proofs.Ends.{ends_read}
 use Rattle.grammar_back.proofs.Fits.{Fits}
 
@@ -59,18 +60,6 @@ attribute_apart _ r d = absurd d
 abbrev pub given_to : Tree → Tree → Tree
 given_to (Again t b) x = attributed (Pair t (Node OuterAttributes b)) x
 given_to _ x = x
-
-attributed_flat : (a x : Tree) → flat (attributed a x) ≡ flat a ++ flat x
-attributed_flat a (Infix l k y r) = go (nat_eq (level k) 3) (attributed_flat a l)
-  where
-    go : (b : Bool) → flat (attributed a l) ≡ flat a ++ flat l
-        → flat (cond b (Front ExprAttributed a (Infix l k y r)) (Infix (attributed a l) k y r))
-        ≡ flat a ++ (flat l ++ (flat y ++ flat r))
-    go true e = refl
-    go false e = ap (λ ts. ts ++ (flat y ++ flat r)) e ∙ append_assoc (flat a) (flat l) (flat y ++ flat r)
-attributed_flat a (Back l ExprCast y) =
-    ap (λ ts. ts ++ flat y) (attributed_flat a l) ∙ append_assoc (flat a) (flat l) (flat y)
-attributed_flat a _ = refl
 
 pub given_flat : (a x : Tree) → is_attributes a ≡ true → flat (given_to a x) ≡ flat a ++ flat x
 given_flat End x e = refl

@@ -276,7 +276,7 @@ given_bound (Back l k y) p rest a d n g s =
 given_bound _ p rest a d n g s = absurd d
 
 -- what it needs besides, at its left edge
-no_range : (p : Position) (l : Tree) (k : Kind) → nat_eq (level k) 16 ≡ false → IsLeft p l k → is_range l ≡ false
+pub no_range : (p : Position) (l : Tree) (k : Kind) → nat_eq (level k) 16 ≡ false → IsLeft p l k → is_range l ≡ false
 unfolding stands_left
 no_range p l k e i =
     not_false (is_range l)
@@ -338,7 +338,7 @@ given_plain x rest a d n own seen =
     (gains_shells InStatement (attributed a x) rest g (λ e. cc))
 
 -- a range
-range_keeps : (a x : Tree) → is_range x ≡ true → attributed a x ≡ Front ExprAttributed a x
+pub range_keeps : (a x : Tree) → is_range x ≡ true → attributed a x ≡ Front ExprAttributed a x
 unfolding level
 range_keeps a (Infix l k y r) e =
     ap (λ b. cond b (Front ExprAttributed a (Infix l k y r)) (Infix (attributed a l) k y r)) e
@@ -404,7 +404,7 @@ no_paren (Opens _ ∷ ts) e = refl
 no_paren [] e = refl
 no_paren (_ ∷ ts) e = refl
 
-attributed_flat : (a x : Tree) → flat (attributed a x) ≡ flat a ++ flat x
+pub attributed_flat : (a x : Tree) → flat (attributed a x) ≡ flat a ++ flat x
 attributed_flat a (Infix l k y r) = go (nat_eq (level k) 3) (attributed_flat a l)
   where
     go : (b : Bool) → flat (attributed a l) ≡ flat a ++ flat l

@@ -107,7 +107,7 @@ and_no : (b : Bool) → (b && false) ≡ false
 and_no true = refl
 and_no false = refl
 
-no_shell : (x : Tree) → is_range x ≡ false → (is_lone_range x ≡ false) × (has_shell x ≡ false)
+pub no_shell : (x : Tree) → is_range x ≡ false → (is_lone_range x ≡ false) × (has_shell x ≡ false)
 no_shell x e = go (is_lone_range x) (has_shell x) (sym (range_split x) ∙ e)
   where
     go : (a b : Bool) → (a || b) ≡ false → (a ≡ false) × (b ≡ false)

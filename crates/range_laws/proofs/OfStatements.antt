@@ -83,7 +83,7 @@ first_head : (k : Kind) (l : Look) (cases : List Case) (ts : List Token) → see
     → first_form (form k l ∷ cases) ts ≡ Some k
 first_head k l cases ts e = ap (λ b. cond b (Some k) (first_form cases ts)) e
 
-attributes_seen : (ts : List Token) → sees (marks "#") ts ≡ true → front InStatement ts ≡ Some ExprAttributed
+pub attributes_seen : (ts : List Token) → sees (marks "#") ts ≡ true → front InStatement ts ≡ Some ExprAttributed
 unfolding front
 attributes_seen ts e = first_head ExprAttributed (marks "#") (behind_first (fronts InStatement)) ts e
 

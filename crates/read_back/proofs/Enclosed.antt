@@ -29,8 +29,9 @@ use Rattle.range_laws.specs.Shelled.{goes_in, parens_if, shelled}
 use Rattle.range_laws.proofs.Dotted.{dotted_by, dotted_is}
 use Rattle.range_laws.proofs.Given.{given_opened, given_shelled}
 use Rattle.range_laws.proofs.Held.{gains_shells}
-use Rattle.range_laws.proofs.InKept.{goes_given, lone_kept, range_kept}
-use Rattle.read_back.proofs.Given.{attributes_seen, no_lone, no_range}
+use Rattle.range_laws.proofs.InKept.{goes_given, lone_kept, range_kept, no_shell}
+use Rattle.range_laws.proofs.OfStatements.{attributes_seen}
+use Rattle.read_back.proofs.Given.{cast_left, infix_left}
 use Rattle.read_back.proofs.Operands.{apart}
 use Rattle.read_back.proofs.Settled.{settled_inside, settles}
 use Rattle.read_back.proofs.Wholes.{formed_twice, hash_first, none_more, parens_fit, parens_kept, parens_operands}
@@ -194,7 +195,7 @@ module _ (a w : Tree) (same : kept w ≡ normal a) (own : Fits w (table ExprAttr
     );
     kept_is = ap (λ z. Front ExprAttributed z (kept f)) same
         ∙ ap (Front ExprAttributed (normal a))
-        (e ∙ ap (λ b. parens_if b (shelled (kept x))) (sym (lone_kept x ∙ no_lone x n)))
+        (e ∙ ap (λ b. parens_if b (shelled (kept x))) (sym (lone_kept x ∙ (no_shell x n).0)))
         ∙ ap shelled (sym i);
   }
 
@@ -273,7 +274,7 @@ module _ (a w : Tree) (same : kept w ≡ normal a) (own : Fits w (table ExprAttr
   takes (Front k y x) p r d n h f g o e q ts s =
       whole (Front k y x) f refl n (unattributed (Front k y x) p r d h) g o e
   takes (Back l ExprCast y) p r d n h f g o e q ts s =
-      let i = no_range p l ExprCast d.3 in
+      let i = cast_left l y p r d in
       let v = sym (ap (sees (marks "#")) (append_assoc (flat l) (flat y) r)) ∙ h in
       takes_cast l y f (as_back f _ ExprCast (normal (kept y)) g e) g o
       (λ m g o e. inside_left ExprCast l m i g o e
@@ -282,7 +283,7 @@ module _ (a w : Tree) (same : kept w ≡ normal a) (own : Fits w (table ExprAttr
       whole (Back l k y) f (dotted_by (λ z. attributed a z ≡ Front ExprAttributed a z) (λ m v. refl) (kept l) k (kept y)
       (λ m v. refl)) n (unattributed (Back l k y) p r d h) g o e
   takes (Infix l k y x) p r d n h f g o e q ts s =
-      let i = no_range p l k d.3 in
+      let i = infix_left l k y x p r d in
       let v =
       sym (ap (sees (marks "#")) (append_assoc (flat l) (flat y ++ flat x) r
       ∙ ap (λ us. flat l ++ us) (append_assoc (flat y) (flat x) r))) ∙ h in

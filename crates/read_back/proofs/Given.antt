@@ -1,32 +1,30 @@
 -- Attributes in front of a statement's expression stand in its normal form where they stood, before a range's
 -- parentheses, unless its left operand gets some.
-use Rattle.std.proofs.Common.{◌≡◌, ℕ, [], ◌∷◌, List, ◌++◌, refl, sym, ap, ◌∙◌, append_assoc}
-use Rattle.std.specs.Prelude.{Bool, true, false, not, ◌&&◌, ◌||◌, cond, nat_eq, Some}
-use Rattle.std.proofs.lemmas.Bool.{eqb-true}
+use Rattle.std.proofs.Common.{◌≡◌, [], List, ◌++◌, refl, sym, ap, ◌∙◌, append_assoc}
+use Rattle.std.specs.Prelude.{Bool, true, false, not, ◌&&◌, ◌||◌, cond, nat_eq}
 use Rattle.proc_macro2.specs.Token.{Token}
 use Rattle.syn_grammar.specs.Kind.{Kind, Position, InStatement, ExprAttributed, ExprCast}
-use Rattle.syn_grammar.specs.Kind.{ExprPath, ExprStruct, OuterAttributes}
+use Rattle.syn_grammar.specs.Kind.{OuterAttributes}
 use Rattle.syn_grammar.specs.Tree.{Tree, Pair, Node, Alone, Front, Back, Infix, flat}
-use Rattle.syn_grammar.specs.Look.{Look, sees}
+use Rattle.syn_grammar.specs.Look.{sees}
 use Rattle.syn_grammar.specs.Say.{marks}
 use Rattle.syn_grammar.specs.Table.{table}
-use Rattle.syn_grammar.specs.Derives.{Bound, IsLeft}
-use Rattle.syn_grammar.specs.Forms.{Case, ends_there, first_form, form, front, fronts, is_dotted, is_path_form}
-use Rattle.syn_grammar.specs.Forms.{is_range, level, may_be_left, stands_left, takes_postfix}
+use Rattle.syn_grammar.specs.Derives.{Bound}
+use Rattle.syn_grammar.specs.Forms.{is_range, level}
 use Rattle.syn_grammar.specs.Kept.{attributed, held, kept}
 use Rattle.syn_grammar.specs.Normal.{formed, normal, passed, stands_behind}
 use Rattle.syn_grammar.specs.Parens.{in_parens}
 use Rattle.expressions_back.proofs.Bools.{never}
-use Rattle.grammar_back.proofs.Choices.{both_true, is_false}
 use Rattle.grammar_back.proofs.InFront.{enclosed}
 use Rattle.grammar_back.proofs.Statements.{contrary, GivenLaw}
 use Rattle.range_laws.specs.Opens.{opens_given}
-use Rattle.range_laws.specs.Shelled.{goes_in, has_shell, is_lone_range, parens_if, shelled}
+use Rattle.range_laws.specs.Shelled.{goes_in, is_lone_range, parens_if, shelled}
 use Rattle.range_laws.proofs.Dotted.{dotted_by}
-use Rattle.range_laws.proofs.Given.{given_shelled}
+use Rattle.range_laws.proofs.Given.{given_shelled, infix_level, no_range, range_keeps}
 use Rattle.range_laws.proofs.Held.{gains_shells}
-use Rattle.range_laws.proofs.InKept.{goes_given, goes_kept, lone_kept, range_kept}
-use Rattle.range_laws.proofs.Parens.{range_split}
+use Rattle.range_laws.proofs.InKept.{goes_given, goes_kept, lone_kept, no_shell, range_kept}
+use Rattle.range_laws.proofs.OfStatements.{attributes_seen}
+use Rattle.binding_laws.proofs.Sights.{backs_are}
 use Rattle.read_back.proofs.Wholes.{hash_first, none_more}
 
 or_left : (b c : Bool) → (b || c) ≡ false → b ≡ false
@@ -37,45 +35,14 @@ or_right : (b c : Bool) → (b || c) ≡ false → c ≡ false
 or_right true c e = absurd (contrary (sym e))
 or_right false c e = e
 
--- What is no range, in attributes or not, gets no parentheses behind attributes.
-pub no_lone : (x : Tree) → is_range x ≡ false → is_lone_range x ≡ false
-no_lone x n = or_left (is_lone_range x) (has_shell x) (sym (range_split x) ∙ n)
+-- What stands left of an infix form or of a cast is no range.
+pub infix_left : (l : Tree) (k : Kind) (y r : Tree) (p : Position) (rest : List Token) → Bound p (Infix l k y r) rest
+    → is_range l ≡ false
+infix_left l k y r p rest d = no_range p l k (infix_level k p _ (backs_are p k _ d.0) d.2).0 d.3
 
--- What stands left of a form is no range.
-no_level : (n : ℕ) → (nat_eq n 16 || nat_eq n 1) ≡ true → nat_eq n 3 ≡ false
-no_level n e = go (nat_eq n 16) (nat_eq n 1) refl refl e
-  where
-    go : (b c : Bool) → nat_eq n 16 ≡ b → nat_eq n 1 ≡ c → (b || c) ≡ true → nat_eq n 3 ≡ false
-    go true c f g e = ap (λ m. nat_eq m 3) (eqb-true n 16 f)
-    go false true f g e = ap (λ m. nat_eq m 3) (eqb-true n 1 g)
-    go false false f g e = absurd (contrary e)
-
-postfix_range : (x : Tree) → takes_postfix x ≡ true → is_range x ≡ false
+pub cast_left : (l y : Tree) (p : Position) (rest : List Token) → Bound p (Back l ExprCast y) rest → is_range l ≡ false
 unfolding level
-postfix_range (Front ExprAttributed y x) e = absurd (contrary e)
-postfix_range (Front k y x) e = no_level (level k) e
-postfix_range (Alone k y) e = no_level (level k) e
-postfix_range (Back l k y) e = no_level (level k) e
-postfix_range (Infix l k y r) e = no_level (level k) e
-postfix_range _ e = refl
-
-path_range : (x : Tree) → is_path_form x ≡ true → is_range x ≡ false
-unfolding level
-path_range (Alone ExprPath y) e = refl
-path_range (Alone _ y) e = absurd (contrary e)
-path_range _ e = absurd (contrary e)
-
-left_range : (k : Kind) (x : Tree) → may_be_left k x ≡ true → is_range x ≡ false
-left_range ExprStruct x e = path_range x e
-left_range k x e = go (nat_eq (level k) 16) e
-  where
-    go : (b : Bool) → cond b (takes_postfix x) (not (is_range x)) ≡ true → is_range x ≡ false
-    go true e = postfix_range x e
-    go false e = is_false (is_range x) e
-
-pub no_range : (p : Position) (x : Tree) (k : Kind) → IsLeft p x k → is_range x ≡ false
-unfolding stands_left
-no_range p x k i = left_range k x (both_true (may_be_left k x) (not (ends_there p x) || is_dotted k) i.0).0
+cast_left l y p rest d = no_range p l ExprCast refl d.3
 
 -- So they stand in front of the leftmost operand, as they are given to it.
 abbrev Gives : Tree → Tree → Type 0
@@ -84,7 +51,7 @@ Gives a x = shelled (attributed a x) ≡ attributed (normal a) (shelled x)
 gives_whole : (a x : Tree) → is_range x ≡ false
     → Front ExprAttributed (normal a) (parens_if (is_lone_range x) (shelled x))
     ≡ Front ExprAttributed (normal a) (shelled x)
-gives_whole a x n = ap (λ b. Front ExprAttributed (normal a) (parens_if b (shelled x))) (no_lone x n)
+gives_whole a x n = ap (λ b. Front ExprAttributed (normal a) (parens_if b (shelled x))) (no_shell x n).0
 
 gives_inside : (a l : Tree) (k : Kind) → is_range l ≡ false → goes_in k l ≡ false → Gives a l
     → parens_if (goes_in k (attributed a l)) (shelled (attributed a l))
@@ -114,7 +81,7 @@ gives a (Alone k y) p rest d n h = gives_whole a (Alone k (kept y)) n
 gives a (Front k y x) p rest d n h =
     gives_whole a (Front k (kept y) (kept x)) (range_kept (Front k y x) ∙ n)
 gives a (Back l ExprCast y) p rest d n h =
-    let i = no_range p l ExprCast d.3 in
+    let i = cast_left l y p rest d in
     let o = or_left (goes_in ExprCast l) (opens_given l) h in
     ap (λ z. Back z ExprCast (normal (kept y)))
     (gives_inside a (kept l) ExprCast (range_kept l ∙ i) (goes_kept ExprCast l ∙ o)
@@ -123,7 +90,7 @@ gives a (Back l k y) p rest d n h =
     dotted_by (λ z. is_range z ≡ false → Gives a z) (λ m v e. gives_whole a (Back m _ v) e) (kept l) k (kept y)
     (λ m v e. gives_whole a (Back m k v) e) (range_kept (Back l k y) ∙ n)
 gives a (Infix l k y r) p rest d n h =
-    let i = no_range p l k d.3 in
+    let i = infix_left l k y r p rest d in
     let e : (goes_in k l || opens_given l) ≡ false =
     sym (ap (λ b. not b && (goes_in k l || opens_given l)) n) ∙ h in
     gives_infix a (kept l) k (kept y) (kept r) n
@@ -131,27 +98,7 @@ gives a (Infix l k y r) p rest d n h =
     (gives a l p (flat y ++ (flat r ++ rest)) d.4 i (or_right (goes_in k l) (opens_given l) e)))
 gives a _ p rest d n h = absurd d
 
--- attributes begin there
-abbrev behind_first : List Case → List Case
-behind_first [] = []
-behind_first (c ∷ cases) = cases
-
-first_head : (k : Kind) (l : Look) (cases : List Case) (ts : List Token) → sees l ts ≡ true
-    → first_form (form k l ∷ cases) ts ≡ Some k
-first_head k l cases ts e = ap (λ b. cond b (Some k) (first_form cases ts)) e
-
-pub attributes_seen : (ts : List Token) → sees (marks "#") ts ≡ true → front InStatement ts ≡ Some ExprAttributed
-unfolding front
-attributes_seen ts e = first_head ExprAttributed (marks "#") (behind_first (fronts InStatement)) ts e
-
 -- a range
-range_keeps : (a x : Tree) → is_range x ≡ true → attributed a x ≡ Front ExprAttributed a x
-unfolding level
-range_keeps a (Infix l k y r) e =
-    ap (λ b. cond b (Front ExprAttributed a (Infix l k y r)) (Infix (attributed a l) k y r)) e
-range_keeps a (Back l ExprCast y) e = absurd (contrary e)
-range_keeps a _ e = refl
-
 lone_range : (x : Tree) (p : Position) (rest : List Token) → Bound p x rest
     → sees (marks "#") (flat x ++ rest) ≡ false → is_range x ≡ true → is_lone_range x ≡ true
 unfolding level
