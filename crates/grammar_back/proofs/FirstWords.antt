@@ -2,34 +2,41 @@
 use Rattle.std.proofs.Common.{◌≡◌, ℕ, List, [], ◌∷◌, ◌++◌, refl, sym, ap, ◌∙◌, subst, ⊎_elim, inl, inr}
 use Rattle.std.specs.Prelude.{Bool, true, false, ◌⊎◌, ◌&&◌, not, cond, codes, Option, Some, None}
 use Rattle.std.proofs.lemmas.Slice.Eq.{bytes_eq-Decides}
-use Rattle.proc_macro2.specs.Token.{Token, Ident}
-use Rattle.proc_macro2.specs.declared.delimiter.Delimiter.TheVariants.{Brace}
-use Rattle.syn_grammar.specs.Kind.{Kind, AConst, AStatic, ATrait, AnImpl, InFile, ItemMacro, Visibility}
-use Rattle.syn_grammar.specs.Tree.{Tree, AWord, Called, First, Nil, Node, Pair, Second, Verbatim, flat}
+use Rattle.proc_macro2.specs.Token.{Token, Ident, Opens, Punct}
+use Rattle.proc_macro2.specs.declared.delimiter.Delimiter.{Delimiter}
+use Rattle.proc_macro2.specs.declared.delimiter.Delimiter.TheVariants.{Brace, Bracket, Parenthesis}
+use Rattle.rust_leaf.specs.declared.punct.Spacing.{Spacing}
+use Rattle.rust_leaf.specs.declared.punct.Spacing.TheVariants.{Alone as Apart, Joint}
+use Rattle.syn_grammar.specs.Kind.{Kind, AConst, AStatic, ATrait, AnImpl, InFile, InModule, ItemMacro, Path}
+use Rattle.syn_grammar.specs.Kind.{Segments, Visibility}
+use Rattle.syn_grammar.specs.Tree.{Tree, AMark, AWord, Called, First, Group, Nil, Node, Pair, Second}
+use Rattle.syn_grammar.specs.Tree.{Verbatim, marks as signs, flat}
 use Rattle.syn_grammar.specs.Name.{Part, same_part, the_const, the_default}
 use Rattle.syn_grammar.specs.Part.{choice, found, has, is_some, or_else}
 use Rattle.syn_grammar.specs.Words.{is_among, is_ident, is_name, is_path_keyword, is_reserved, is_string, same_text}
-use Rattle.syn_grammar.specs.Gram.{Gram, alt, never, ref}
+use Rattle.syn_grammar.specs.Gram.{Gram, alt, never, raw, ref}
 use Rattle.syn_grammar.specs.Look.{Look, a_group, a_name, a_path, a_quoted, an_ident, behind, first_seen, maybe, no}
 use Rattle.syn_grammar.specs.Look.{repeatedly, seen, sees}
 use Rattle.syn_grammar.specs.Look.{the_word, ◌or◌, ◌then◌}
-use Rattle.syn_grammar.specs.Say.{at, brace, marks}
+use Rattle.syn_grammar.specs.Say.{at, brace, in_braces, in_brackets, in_parentheses, marks, parenthesis, sign}
+use Rattle.syn_grammar.specs.Say.{when◌read◌else◌, ◌▸◌}
 use Rattle.syn_grammar.specs.Items.{is_impl, is_trait, signature_stands, trait_stands}
 use Rattle.syn_grammar.specs.Lists.{item_form}
 use Rattle.syn_grammar.specs.Statements.{function_words, item_stands, item_words, macro_item_stands}
 use Rattle.syn_grammar.specs.Statements.{macro_statement_stands}
 use Rattle.syn_grammar.specs.Table.{table}
 use Rattle.syn_grammar.specs.Derives.{Derives}
+use Rattle.syn_grammar.specs.Kept.{is_there}
 use Rattle.item_laws.proofs.Places.{kept_raw, none_then}
 use Rattle.grammar_back.specs.Sees.{Lacks}
-use Rattle.grammar_back.proofs.Choices.{first_of, none_of, second_seen}
+use Rattle.grammar_back.proofs.Choices.{both_true, first_of, is_false, none_of, second_seen}
 use Rattle.grammar_back.proofs.Classes.{Class, IsAmong, of_all, the_words}
 use Rattle.grammar_back.proofs.Impls.{contrary}
 use Rattle.grammar_back.proofs.ItemPlaces.{word_front}
 use Rattle.grammar_back.proofs.Seconds.{either_seen, front_seen}
 use Rattle.grammar_back.proofs.MacroItems.{a_word_lacked, abi_fn, async_fn, safe_fn}
 use Rattle.grammar_back.proofs.Sights.{ident_not}
-use Rattle.grammar_back.specs.Covered.{is_begun, is_no_macro}
+use Rattle.grammar_back.specs.Covered.{is_begun, is_crate_macro, is_crate_path, is_no_call}
 
 -- an item is seen, and nothing that is looked for before it
 abbrev pub ItemSeen : List Token → Type 0
@@ -406,18 +413,110 @@ trait_const_seen ts e =
     let (us, i, h) = word_then (codes "const") trait_stands ts e in
     subst ItemSeen (sym i) (const_seen us (const_trait us h))
 
+-- a macro by the word crate alone
+crate_front : (cs : List ℕ) (i : Spacing) (d : Delimiter) (us : List Token) → same_text (codes "crate") cs ≡ true
+    → (d ≡ Parenthesis) ⊎ (d ≡ Bracket) → ItemSeen (Ident cs ∷ Punct 33 i ∷ Opens d ∷ us)
+unfolding is_name is_path_keyword is_reserved
+crate_front cs i d us e f =
+    subst (λ w. ItemSeen (Ident w ∷ Punct 33 i ∷ Opens d ∷ us)) ((bytes_eq-Decides (codes "crate") cs).0 e)
+    (⊎_elim (λ g. subst (λ b. ItemSeen (Ident (codes "crate") ∷ Punct 33 i ∷ Opens b ∷ us)) (sym g) (round i))
+    (λ g. subst (λ b. ItemSeen (Ident (codes "crate") ∷ Punct 33 i ∷ Opens b ∷ us)) (sym g) (square i)) f)
+  where
+    round : (i : Spacing) → ItemSeen (Ident (codes "crate") ∷ Punct 33 i ∷ Opens Parenthesis ∷ us)
+    round Apart = (refl, refl, refl, refl)
+    round Joint = (refl, refl, refl, refl)
+
+    square : (i : Spacing) → ItemSeen (Ident (codes "crate") ∷ Punct 33 i ∷ Opens Bracket ∷ us)
+    square Apart = (refl, refl, refl, refl)
+    square Joint = (refl, refl, refl, refl)
+
+-- its tokens
+abbrev macro_tokens : Gram
+macro_tokens = when brace read in_braces raw else (when parenthesis read in_parentheses raw else in_brackets raw) ▸ sign ";"
+
+IsCall : List Token → Type 0
+IsCall ts =
+    (cs : List ℕ) × (i : Spacing) × (d : Delimiter) × (us : List Token) × (same_text (codes "crate") cs ≡ true)
+    × ((d ≡ Parenthesis) ⊎ (d ≡ Bracket)) × (ts ≡ Ident cs ∷ Punct 33 i ∷ Opens d ∷ us)
+
+bang_is : (cs : List ℕ) (c : ℕ) (ds : List ℕ) (i : Spacing) (ts : List Token) → c ≡ 33 → ds ≡ []
+    → Ident cs ∷ (signs c ds i ++ ts) ≡ Ident cs ∷ Punct 33 i ∷ ts
+bang_is cs c ds i ts e f =
+    ap (λ b. Ident cs ∷ (signs b ds i ++ ts)) e ∙ ap (λ bs. Ident cs ∷ (signs 33 bs i ++ ts)) f
+
+delimited_called : (cs : List ℕ) (c : ℕ) (ds : List ℕ) (i : Spacing) (g : Tree) (r : List Token)
+    → same_text (codes "crate") cs ≡ true → c ≡ 33 → ds ≡ [] → Derives g macro_tokens r → is_there g ≡ false
+    → IsCall ((Ident cs ∷ (signs c ds i ++ flat g)) ++ r)
+unfolding IsCall
+delimited_called cs c ds i (Second (Pair (First (Group d x)) t)) r k e f h n =
+    (cs, i, d, _, k, inl h.1.0.1.0, ap (λ ts. ts ++ r) (bang_is cs c ds i _ e f))
+delimited_called cs c ds i (Second (Pair (First _) t)) r k e f h n = absurd h.1.0.1
+delimited_called cs c ds i (Second (Pair (Second (Group d x)) t)) r k e f h n =
+    (cs, i, d, _, k, inr h.1.0.1.0, ap (λ ts. ts ++ r) (bang_is cs c ds i _ e f))
+delimited_called cs c ds i (Second (Pair (Second _) t)) r k e f h n = absurd h.1.0.1
+delimited_called cs c ds i (Second (Pair _ t)) r k e f h n = absurd h.1.0
+delimited_called cs c ds i (Second _) r k e f h n = absurd h.1
+delimited_called cs c ds i (First x) r k e f h n = cc n
+delimited_called cs c ds i _ r k e f h n = absurd h
+
+-- its path
+OneWord : Tree → Type 0
+OneWord q = (cs : List ℕ) × (same_text (codes "crate") cs ≡ true) × (flat q ≡ Ident cs ∷ [])
+
+names_crate : (z : Tree) (r : List Token) → Derives z (table (Segments InModule)) r
+    → is_crate_path (Node (Path InModule) (Pair (Second Nil) (Node (Segments InModule) z))) ≡ true → OneWord z
+unfolding table OneWord
+names_crate (First (Pair (AWord cs) (Second Nil))) r d e = (cs, e, refl)
+names_crate (First (Pair (AWord cs) (Second _))) r d e = absurd d.1.1.1
+names_crate _ r d e = cc e
+
+path_crate : (p : Tree) (r : List Token) → Derives p (table (Path InModule)) r
+    → is_crate_path (Node (Path InModule) p) ≡ true → OneWord p
+unfolding table OneWord
+path_crate (Pair (Second Nil) (Node l z)) r d e =
+    names_crate z r (subst (λ j. Derives z (table j) r) d.1.0 d.1.1)
+    (subst (λ j. is_crate_path (Node (Path InModule) (Pair (Second Nil) (Node j z))) ≡ true) d.1.0 e)
+path_crate (Pair (Second Nil) _) r d e = absurd d.1
+path_crate (Pair (Second _) z) r d e = absurd d.0.1
+path_crate _ r d e = cc e
+
+whole_crate : (q : Tree) (r : List Token) → Derives q (ref (Path InModule)) r → is_crate_path q ≡ true → OneWord q
+unfolding OneWord
+whole_crate (Node k p) r d e =
+    path_crate p r (subst (λ j. Derives p (table j) r) d.0 d.1)
+    (subst (λ j. is_crate_path (Node j p) ≡ true) d.0 e)
+whole_crate _ r d e = absurd d
+
+macro_seen : (y : Tree) (r : List Token) → Derives y (table (ItemMacro InFile)) r → is_crate_macro y ≡ true
+    → ItemSeen (flat y ++ r)
+unfolding table OneWord IsCall
+macro_seen (Pair q (Pair (AMark c ds i) (Pair (Second Nil) g))) r d e =
+    let h = both_true (is_crate_path q) (not (is_there g)) e in
+    let (cs, k, f) = whole_crate q _ d.0 h.0 in
+    let (ws, j, b, us, l, m, n) =
+    delimited_called cs c ds i g r k d.1.0.0 d.1.0.1 d.1.1.1 (is_false (is_there g) h.1) in
+    subst ItemSeen (sym (ap (λ ts. (ts ++ (signs c ds i ++ flat g)) ++ r) f ∙ n)) (crate_front ws j b us l m)
+macro_seen (Pair q (Pair (AMark c ds i) (Pair (First n) g))) r d e =
+    let h = both_true (is_crate_path q) (false && not (is_there g)) e in cc h.1
+macro_seen (Pair q (Pair (AMark c ds i) (Pair (Second _) g))) r d e = absurd d.1.1.0.1
+macro_seen (Pair q (Pair (AMark c ds i) (Pair _ g))) r d e = absurd d.1.1.0
+macro_seen (Pair q (Pair (AMark c ds i) _)) r d e = absurd d.1.1
+macro_seen (Pair q (Pair _ n)) r d e = absurd d.1.0
+macro_seen (Pair q _) r d e = absurd d.1
+macro_seen _ r d e = absurd d
+
 -- the alternatives of an item
 abbrev SeenLaw : Gram → Type 0
 SeenLaw g = (x : Tree) (r : List Token) → Derives x g r → is_begun (choice x) ≡ true
-    → is_no_macro (choice x) ≡ true → ItemSeen (flat x ++ r)
+    → is_no_call (choice x) ≡ true → ItemSeen (flat x ++ r)
 
 seen_alt : (l : Look) (k : Kind) (g : Gram)
     → ((y : Tree) (r : List Token) → Derives y (table k) r → is_begun (Node k y) ≡ true
-    → is_no_macro (Node k y) ≡ true → sees l (flat y ++ r) ≡ true → ItemSeen (flat y ++ r))
+    → is_no_call (Node k y) ≡ true → sees l (flat y ++ r) ≡ true → ItemSeen (flat y ++ r))
     → SeenLaw g → SeenLaw (alt (sees l) (ref k) g)
 seen_alt l k g one more (First (Node j y)) r d h m =
     one y r (subst (λ i. Derives y (table i) r) d.1.0 d.1.1) (subst (λ i. is_begun (Node i y) ≡ true) d.1.0 h)
-    (subst (λ i. is_no_macro (Node i y) ≡ true) d.1.0 m) d.0
+    (subst (λ i. is_no_call (Node i y) ≡ true) d.1.0 m) d.0
 seen_alt l k g one more (First _) r d h m = absurd d.1
 seen_alt l k g one more (Second y) r d h m = more y r d.1 h m
 seen_alt l k g one more _ r d h m = absurd d
@@ -452,7 +551,7 @@ item_seen =
     (seen_alt _ _ _ (λ y r d h m e. trait_seen (flat y ++ r) e)
     (seen_alt _ _ _ (λ y r d h m e. impl_seen y r d h e)
     (seen_alt _ _ _ (λ y r d h m e. first_seen_at (codes "macro") (flat y ++ r) refl refl refl e)
-    (seen_alt _ _ _ (λ y r d h m e. absurd (contrary (is_no_macro (Node (ItemMacro InFile) y)) m refl))
+    (seen_alt _ _ _ (λ y r d h m e. macro_seen y r d m)
     seen_never)))))))))))))))))))))
 
 -- behind a visibility

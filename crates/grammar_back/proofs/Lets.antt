@@ -4,7 +4,7 @@ use Rattle.std.proofs.Common.{⊎_elim, inl, inr}
 use Rattle.std.specs.Prelude.{ℕ, Bool, true, false, ◌&&◌, cond, not, codes, Some, None}
 use Rattle.proc_macro2.specs.Token.{Token, Ident}
 use Rattle.syn_grammar.specs.Kind.{ALet, AStatement, AType, AnImpl, AnItem, Block, Expression, OnePattern}
-use Rattle.syn_grammar.specs.Kind.{OuterAttributes}
+use Rattle.syn_grammar.specs.Kind.{ItemMacro, OuterAttributes}
 use Rattle.syn_grammar.specs.Kind.{Plain, Position, WithPlus}
 use Rattle.syn_grammar.specs.Name.{Part, same_part, the_const, the_default, the_else, the_type, the_value}
 use Rattle.rust_leaf.specs.declared.punct.Spacing.{Spacing}
@@ -24,7 +24,7 @@ use Rattle.syn_grammar.specs.Derives.{Derives}
 use Rattle.syn_grammar.specs.Kept.{as_statement, held, kept}
 use Rattle.syn_grammar.specs.Normal.{passed, place_of, normal_in, stands_behind}
 use Rattle.grammar_back.specs.After.{behind}
-use Rattle.grammar_back.specs.Covered.{has_form_step, has_step, is_begun, is_no_macro}
+use Rattle.grammar_back.specs.Covered.{has_form_step, has_step, is_begun, is_no_call, is_no_macro}
 use Rattle.grammar_back.specs.Covered.{is_statement_form}
 use Rattle.grammar_back.specs.Covered.{is_statement_item, item_of}
 use Rattle.item_laws.proofs.Stays.{item_stays}
@@ -46,7 +46,8 @@ use Rattle.item_laws.proofs.Places.{kept_raw}
 use Rattle.grammar_back.specs.After.{is_closed}
 use Rattle.grammar_back.proofs.Braces.{else_printed, unlike}
 use Rattle.grammar_back.proofs.ItemVerdicts.{same_has}
-use Rattle.grammar_back.proofs.WholeItems.{taken_law, whole_item, whole_macro}
+use Rattle.grammar_back.proofs.WholeItems.{taken_law, whole_item}
+use Rattle.grammar_back.proofs.CrateMacros.{call_printed}
 
 -- what stands behind the pattern
 abbrev pub let_value : Gram
@@ -487,8 +488,12 @@ begun (Node AnImpl y) e = go (has the_default y) (has the_const y) e
     go false b e = refl
 begun _ e = refl
 
+no_call : (x : Tree) → is_no_macro x ≡ true → is_no_call x ≡ true
+no_call (Node (ItemMacro p) y) e = cc e
+no_call _ e = refl
+
 whole_stands : (y : Tree) (s : List Token) → Derives y whole_item s → is_begun (choice (item_of y)) ≡ true
-    → is_no_macro (choice (item_of y)) ≡ true
+    → is_no_call (choice (item_of y)) ≡ true
     → (sees (all_attributes then macro_item_stands) (flat y ++ s) ≡ false)
     × (sees (all_attributes then macro_statement_stands) (flat y ++ s) ≡ false)
     × (sees (all_attributes then at "let") (flat y ++ s) ≡ false)
@@ -518,7 +523,7 @@ unfolding table
 item_stands_there (First y) s f d e c = whole_stands y s d.1 (begun (choice (item_of y)) e.1) c
 item_stands_there (Verbatim y) s f d e c =
     let h = both_true (is_no_macro (choice (item_of y))) (is_begun (choice (item_of y))) c in
-    whole_stands y s d.1 h.1 h.0
+    whole_stands y s d.1 h.1 (no_call (choice (item_of y)) h.0)
 item_stands_there _ s f d e c = absurd f
 
 pub item_begins : (ts : List Token) → IsAmong (starts AnItem) ts → IsAmong (starts AStatement) ts
@@ -562,7 +567,7 @@ item_inside x = x
 kept_item : (x w : Tree) (r : List Token) → Derives (First x) (table AnItem) r → Fits w (table AnItem)
     → kept w ≡ normal_in Plain (kept (First x)) → is_statement_item (First x) ≡ true → is_statement_item w ≡ true
 unfolding table
-kept_item x (First w) r d f e h = whole_macro (First x) (First w) r d f e h
+kept_item x (First w) r d f e h = call_printed x w r d f e h
 kept_item x (Verbatim w) r d f e h = cc e
 kept_item x _ r d f e h = absurd f
 

@@ -59,6 +59,7 @@ pub mod WholeItems
 pub mod Members
 pub mod ForeignMacros
 pub mod ForeignItems
+pub mod CrateMacros
 pub mod Lets
 pub mod Turns
 pub mod Arms

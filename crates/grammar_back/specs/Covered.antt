@@ -370,10 +370,24 @@ abbrev pub is_begun : Tree → Bool
 is_begun (Node AnImpl y) = not (has the_default y && has the_const y)
 is_begun _ = true
 
--- Items among statements that begin with an item's words are no macros.
+-- A macro by the word crate alone stands among statements as an item by that word: no name stands behind its !, and its
+-- tokens stand in no braces.
+abbrev pub is_crate_path : Tree → Bool
+is_crate_path (Node k (Pair (Second z) (Node l (First (Pair (AWord cs) (Second y)))))) = same_text (codes "crate") cs
+is_crate_path _ = false
+
+abbrev pub is_crate_macro : Tree → Bool
+is_crate_macro (Pair q (Pair b (Pair n g))) = is_crate_path q && (not (is_there n) && not (is_there g))
+is_crate_macro _ = false
+
+abbrev pub is_no_call : Tree → Bool
+is_no_call (Node (ItemMacro p) x) = is_crate_macro x
+is_no_call _ = true
+
+-- Items among statements that begin with an item's words are no other macros.
 abbrev pub is_statement_item : Tree → Bool
 is_statement_item (Verbatim x) = is_no_macro (choice (item_of x)) && is_begun (choice (item_of x))
-is_statement_item x = is_no_macro (choice (item_of x))
+is_statement_item x = is_no_call (choice (item_of x))
 
 -- The expression of a statement begins, as it is printed, with no attributes of its own; behind a word that begins
 -- items too stands no other word but as, and behind crate stands ::.
