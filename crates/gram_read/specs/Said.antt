@@ -5,6 +5,10 @@ use Rattle.rust_map.specs.declared.span.Span.{Span}
 use Rattle.proc_macro2.specs.declared.delimiter.Delimiter.{Delimiter}
 use Rattle.proc_macro2.specs.declared.delimiter.Delimiter.TheVariants as delimiters
 use Rattle.gram_table.specs.Words.{keyword_text, sign_text}
+use Rattle.gram_table.specs.declared.kind.Kind.{Kind}
+use Rattle.gram_table.specs.declared.kind.Kind.TheVariants as kinds
+use Rattle.gram_table.specs.declared.op.Verdicts.{Verdicts}
+use Rattle.gram_table.specs.declared.op.Verdicts.TheVariants as verdicts
 use Rattle.gram_table.specs.declared.word.Words.{Words}
 use Rattle.gram_table.specs.declared.word.Words.TheVariants as words
 use Rattle.gram_table.specs.declared.word.Literals.{Literals}
@@ -43,6 +47,7 @@ literal_name literals.Any = codes "literal"
 literal_name literals.Text = codes "string literal"
 literal_name literals.Number = codes "number"
 literal_name literals.EndsInDot = codes "number"
+literal_name literals.Indices = codes "field name or index"
 literal_name w = codes "index"
 
 -- of groups
@@ -51,6 +56,36 @@ group_name delimiters.Parenthesis = codes "parentheses"
 group_name delimiters.Brace = codes "curly braces"
 group_name delimiters.Bracket = codes "square brackets"
 group_name delimiters.None = codes "invisible group"
+
+-- Of what was judged: what may stand there.
+abbrev pub verdict_name : Verdicts → List ℕ
+verdict_name (verdicts.Item p) = codes "item that may stand here"
+verdict_name (verdicts.Typed p) = codes "item that may stand here"
+verdict_name verdicts.SomeBounds = codes "trait among the bounds"
+verdict_name verdicts.FieldPatterns = codes "`..` behind all fields"
+verdict_name verdicts.FieldValues = codes "`..` behind all fields"
+verdict_name verdicts.Arm = codes "comma behind the arm"
+verdict_name verdicts.Parameters = codes "`self` before all parameters, and `...` behind them"
+verdict_name verdicts.FnArg = codes "parameter without `...`"
+verdict_name verdicts.Trait = codes "alias of traits without `unsafe` and `auto`"
+verdict_name verdicts.RestrictedTrait = codes "trait that is no alias"
+verdict_name verdicts.TraitByItself = codes "trait that is no alias"
+verdict_name verdicts.TraitAliasByItself = codes "alias of traits"
+verdict_name verdicts.Impl = codes "trait behind `!`"
+verdict_name verdicts.Let = codes "no `else` behind a value that ends in braces"
+verdict_name v = codes "semicolon behind the statement"
+
+-- The names of kinds of which no token stands there.
+abbrev pub kind_name : Kind → List ℕ
+kind_name (kinds.AType p) = codes "type"
+kind_name kinds.Pattern = codes "pattern"
+kind_name kinds.SeveralPatterns = codes "pattern"
+kind_name kinds.AnItem = codes "item"
+kind_name kinds.DeriveInput = codes "item"
+kind_name kinds.AForeignItem = codes "item of an extern block"
+kind_name kinds.ATraitItem = codes "item of a trait"
+kind_name kinds.AnImplItem = codes "item of an impl"
+kind_name k = codes "another token"
 
 -- what was wanted
 abbrev pub wanted_text : Wanted → List ℕ
@@ -64,7 +99,8 @@ wanted_text (wanted.Group d) = named (group_name d)
 wanted_text wanted.End = named (codes "no token")
 wanted_text wanted.Expression = named (codes "expression")
 wanted_text wanted.Unchained = named (codes "no comparison behind a comparison")
-wanted_text (wanted.Judged v) = named (codes "what may stand here")
+wanted_text (wanted.Judged v) = named (verdict_name v)
+wanted_text (wanted.Node k) = named (kind_name k)
 wanted_text wanted.Nothing = named (codes "another token")
 
 -- where no token is left, in a group or at all, which is said first

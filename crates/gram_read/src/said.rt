@@ -1,11 +1,13 @@
 //! What is said of tokens that could not be read.
 
-ghost use Rattle.gram_read.specs.Said.{group_name, literal_name, message, named, place, quoted, thing_text};
-ghost use Rattle.gram_read.specs.Said.{wanted_text, word_name};
+ghost use Rattle.gram_read.specs.Said.{group_name, kind_name, literal_name, message, named, place, quoted, thing_text};
+ghost use Rattle.gram_read.specs.Said.{verdict_name, wanted_text, word_name};
 ghost use Rattle.std.specs.Prelude.{◌≡◌, IfOk, Some};
 ghost use Rattle.syn_error.specs.Notes.{Says};
 
 use gram_run::refusal::{Wanted, Wrong};
+use gram_table::kind::Kind;
+use gram_table::op::Verdicts;
 use gram_table::word::{Literals, Words};
 use proc_macro2::delimiter::Delimiter;
 use rust_map::span::Span;
@@ -51,7 +53,42 @@ fn literal_name(literals: Literals) -> &'static str
         Literals::Number => "number",
         Literals::EndsInDot => "number",
         Literals::Index => "index",
-        Literals::Indices => "index",
+        Literals::Indices => "field name or index",
+    }
+}
+
+// The name of what a verdict refused in its place.
+fn verdict_name(verdicts: Verdicts) -> &'static str
+    ensures { result.now ≡ verdict_name verdicts }
+{
+    match verdicts {
+        Verdicts::Item(_) | Verdicts::Typed(_) => "item that may stand here",
+        Verdicts::SomeBounds => "trait among the bounds",
+        Verdicts::FieldPatterns | Verdicts::FieldValues => "`..` behind all fields",
+        Verdicts::Arm => "comma behind the arm",
+        Verdicts::Parameters => "`self` before all parameters, and `...` behind them",
+        Verdicts::FnArg => "parameter without `...`",
+        Verdicts::Trait => "alias of traits without `unsafe` and `auto`",
+        Verdicts::RestrictedTrait | Verdicts::TraitByItself => "trait that is no alias",
+        Verdicts::TraitAliasByItself => "alias of traits",
+        Verdicts::Impl => "trait behind `!`",
+        Verdicts::Let => "no `else` behind a value that ends in braces",
+        Verdicts::OneStatement | Verdicts::Statements => "semicolon behind the statement",
+    }
+}
+
+// The name of a kind.
+fn kind_name(kind: Kind) -> &'static str
+    ensures { result.now ≡ kind_name kind }
+{
+    match kind {
+        Kind::AType(_) => "type",
+        Kind::Pattern | Kind::SeveralPatterns => "pattern",
+        Kind::AnItem | Kind::DeriveInput => "item",
+        Kind::AForeignItem => "item of an extern block",
+        Kind::ATraitItem => "item of a trait",
+        Kind::AnImplItem => "item of an impl",
+        _ => "another token",
     }
 }
 
@@ -103,7 +140,8 @@ impl Thing {
             Wanted::End => Thing::named("no token"),
             Wanted::Expression => Thing::named("expression"),
             Wanted::Unchained => Thing::named("no comparison behind a comparison"),
-            Wanted::Judged(_) => Thing::named("what may stand here"),
+            Wanted::Judged(verdicts) => Thing::named(verdict_name(verdicts)),
+            Wanted::Node(kind) => Thing::named(kind_name(kind)),
             Wanted::Nothing => Thing::named("another token"),
         }
     }

@@ -9,10 +9,10 @@ use Rattle.syn_grammar.specs.Table.{table}
 use Rattle.syn_grammar.specs.Forms.{front, back, has_right, level, inside, chains, goes_on, stands_left, takes, takes_kind}
 use Rattle.syn_grammar.specs.Run.{Call, Out, Late, Refused, Got, ◌>>=◌, tower, climb, kind, interp, run, front_right, back_right, from_front, from_back, wrap}
 use Rattle.syn_grammar.specs.Tree.{Node}
-use Rattle.gram_run.specs.Answers.{Fails}
+use Rattle.gram_run.specs.Answers.{Fails, IsSyntax}
 use Rattle.gram_run.specs.Operands.{right_of, own_of, begun_at, begun, extended}
 use Rattle.gram_run.specs.declared.refusal.Refusal.{Refusal}
-use Rattle.gram_run.proofs.Outs.{fails_as, fails_on}
+use Rattle.gram_run.proofs.Outs.{fails_as, fails_on, syntax_fails}
 
 -- a call of a kind is one step of its entry
 pub kind_read : (n m : ℕ) (k : Kind) (g : Gram) (ts : List Token) → n ≡ suc m → g ≡ table k
@@ -162,6 +162,12 @@ module _ (call : Call → List Token → Out) (alone : Tree → Tree) (both : Tr
 begun_is : (call : Call → List Token → Out) (p : Position) (k : Kind) (ts : List Token) → front p ts ≡ Some k
     → begun call p ts ≡ own_of call (Alone k) (Front k) p k ts
 begun_is call p k ts e = ap (begun_at call p ts) e
+
+-- an operand begins with no form
+pub none_stands : (m : ℕ) (p : Position) (n i : ℕ) (ts : List Token) (e : Refusal) → i ≡ suc m → IsSyntax e
+    → front p ts ≡ None → Fails e (run i (tower p n) ts)
+none_stands m p n i ts e s h f =
+    tower_fails m p n e i ts s (syntax_fails e (begun (run m) p ts) h (ap (begun_at (run m) p ts) f))
 
 -- an operand begins with a form of the kind
 module _ (m : ℕ) (p : Position) (n i : ℕ) (k : Kind) (ts : List Token) where

@@ -8,6 +8,10 @@ use Rattle.gram_run.specs.declared.refusal.Refusal.{Refusal}
 use Rattle.gram_run.specs.declared.refusal.Refusal.TheVariants.{Syntax}
 use Rattle.gram_run.specs.declared.refusal.Wanted.{Wanted}
 
+-- what is wanted in place of a token
+abbrev pub refused_span : Wanted → Span → Refusal
+refused_span w s = Syntax (record { span = Some s; is_end = false; wanted = w })
+
 -- what is wanted in place of the first token that is left, or at the end, where none is left
 abbrev pub refused_at : Wanted → List Entry → Refusal
 refused_at w [] = Syntax (record { span = None; is_end = true; wanted = w })

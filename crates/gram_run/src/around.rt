@@ -1,13 +1,14 @@
 //! What is made of a tree that was read.
 
-ghost use Rattle.gram_run.specs.Answers.{Gives};
+ghost use Rattle.gram_run.specs.Answers.{Fails, Gives};
 ghost use Rattle.gram_run.specs.Around.{around_of, judged_as, seconds};
 ghost use Rattle.std.specs.Prelude.{◌≡◌, IfOk, IsTrue};
 ghost use Rattle.syn_buffer.specs.Entries.{is_whole};
 ghost use Rattle.syn_grammar.specs.Run.{Out, wrap};
 
-use crate::refusal::{Refusal, Wanted, refuse};
+use crate::refusal::Refusal;
 use crate::rules::{Rules, Verdict};
+use crate::unfit::{named, unfit};
 use gram_table::kind::Kind;
 use gram_table::op::Verdicts;
 use gram_table::part::Part;
@@ -59,12 +60,22 @@ fn surrounded<'a>(alloc: Global, around: Around, tree: Tree<'a>) -> Result<Tree<
     }
 }
 
-/// What was read, with that around it.
+// What was refused, said of what was to stand around it, where no token of that stands there.
+fn around_wanted(around: Around, at: &[Entry<'_>], refusal: Refusal) -> Refusal
+    ensures { (o : Out) → Fails refusal o → Fails result o }
+{
+    match around {
+        Around::Node(kind) => named(kind, at, refusal),
+        _ => refusal,
+    }
+}
 
+/// What was read, from there on, with that around it.
 #[inline(never)]
 pub(crate) fn surround<'a>(
     alloc: Global,
     around: Around,
+    at: &[Entry<'_>],
     inner: Result<(Tree<'a>, &'a [Entry<'a>]), Refusal>,
 ) -> Result<(Tree<'a>, &'a [Entry<'a>]), Refusal>
     requires { IfOk inner (λ x. IsTrue (is_whole x.1.now)) }
@@ -72,8 +83,10 @@ pub(crate) fn surround<'a>(
         → Gives (λ x. x.0) (λ x. x.1.now) result (wrap (around_of around) o) }
     ensures whole { IfOk result (λ x. IsTrue (is_whole x.1.now)) }
 {
-    let (tree, rest) = inner?;
-    Ok((surrounded(alloc, around, tree)?, rest))
+    match inner {
+        Ok((tree, rest)) => Ok((surrounded(alloc, around, tree)?, rest)),
+        Err(refusal) => Err(around_wanted(around, at, refusal)),
+    }
 }
 
 /// What was read, as it is judged.
@@ -93,6 +106,6 @@ pub(crate) fn judged<'a, R: Rules>(
     match rules.judge(verdicts, &tree) {
         Verdict::Keep => Ok((made::first(alloc, tree)?, rest)),
         Verdict::AsRaw => Ok((made::verbatim(alloc, tree)?, rest)),
-        Verdict::Refuse => Err(refuse(Wanted::Judged(verdicts), rest)),
+        Verdict::Refuse => Err(unfit(verdicts, &tree, rest)),
     }
 }

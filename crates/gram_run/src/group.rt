@@ -8,7 +8,8 @@ ghost use Rattle.std.specs.Prelude.{◌≡◌, Err, IfErr, IfOk, IfSome, IsTrue,
 ghost use Rattle.syn_buffer.specs.Entries.{is_whole};
 ghost use Rattle.syn_grammar.specs.Run.{Out, Refused, group_at, whole};
 
-use crate::refusal::{Refusal, Wanted, Wrong};
+use crate::refusal::{Refusal, Wrong, refuse_at};
+use crate::unfit::wanted_behind;
 use gram_tree::made;
 use gram_tree::tree::Tree;
 use proc_macro2::delimiter::Delimiter;
@@ -98,11 +99,7 @@ pub(crate) fn grouped<'a>(
     match inner {
         Ok((inside, left)) => {
             if let Some(entry) = left.first() {
-                return Err(Refusal::Syntax(Wrong {
-                    span: Some(entry.span()),
-                    is_end: false,
-                    wanted: Wanted::End,
-                }));
+                return Err(refuse_at(wanted_behind(&inside), entry.span()));
             }
             Ok((
                 made::group(alloc, delimiter, opened.span, inside)?,

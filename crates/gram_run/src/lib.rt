@@ -11,6 +11,7 @@
 //! - `run`: the run: steps of entries, one after the other; `next`: what goes on from a left operand.
 //! - `leaf`, `group`: tokens that are read one by one, and groups.
 //! - `choice`, `around`, `form`: the parts of a step, and what is made of what was read of them.
+//! - `unfit`: what is said where what was read may not stand there.
 #![tactic(auto)]
 
 mod around;
@@ -23,3 +24,4 @@ pub mod read;
 pub mod refusal;
 pub mod rules;
 mod run;
+mod unfit;

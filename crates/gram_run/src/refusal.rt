@@ -1,9 +1,10 @@
 //! Why tokens were not read.
 
 ghost use Rattle.gram_run.specs.Answers.{IsSyntax};
-ghost use Rattle.gram_run.specs.Places.{refused_at};
+ghost use Rattle.gram_run.specs.Places.{refused_at, refused_span};
 ghost use Rattle.std.specs.Prelude.{◌≡◌};
 
+use gram_table::kind::Kind;
 use gram_table::op::Verdicts;
 use gram_table::word::{Literals, Sign, Words};
 use proc_macro2::delimiter::Delimiter;
@@ -34,6 +35,8 @@ pub enum Wanted {
     Unchained,
     /// What is judged otherwise.
     Judged(Verdicts),
+    /// A node of that kind, no token of which stands there.
+    Node(Kind),
     /// Nothing that could stand there.
     Nothing,
 }
@@ -81,6 +84,18 @@ impl<T: Drop> From<AllocFailed<T>> for Refusal {
     fn from(_: AllocFailed<T>) -> Refusal {
         Refusal::Memory
     }
+}
+
+/// That is wanted where that stands.
+pub(crate) fn refuse_at(wanted: Wanted, span: Span) -> Refusal
+    ensures syntax { IsSyntax result }
+    ensures place { result ≡ refused_span wanted span }
+{
+    Refusal::Syntax(Wrong {
+        span: Some(span),
+        is_end: false,
+        wanted,
+    })
 }
 
 /// That is wanted where the first of these stands.

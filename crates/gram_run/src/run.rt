@@ -132,7 +132,7 @@ fn within<'a, R: Rules>(
         (wrap (around_of around) (says (run fuel) (gram_of steps.now) (tokens at.now))) }
     ensures whole { IfOk result (λ x. IsTrue (is_whole x.1.now)) }
 {
-    surround(alloc, around, interp(rules, alloc, steps, at, fuel))
+    surround(alloc, around, at, interp(rules, alloc, steps, at, fuel))
 }
 
 // The part that is chosen.
@@ -225,6 +225,7 @@ fn operand<'a, R: Rules>(
     surround(
         alloc,
         Around::Whole,
+        at,
         tower(rules, alloc, position, level, at, fuel),
     )
 }

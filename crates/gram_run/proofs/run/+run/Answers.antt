@@ -11,7 +11,7 @@ use Rattle.gram_run.specs.Operands.{extended, own_of}
 use Rattle.gram_run.proofs.Turns.{turn_more, turn_none, turn_fails}
 use Rattle.gram_run.proofs.Elements.{element_more, element_none, element_last, element_fails}
 use Rattle.gram_run.proofs.Operands.{kind_read, climb_ends, climb_chains, climb_goes, climb_fails, operand_goes}
-use Rattle.gram_run.proofs.Operands.{operand_fails}
+use Rattle.gram_run.proofs.Operands.{none_stands, operand_fails}
 use Rattle.gram_run.proofs.Outs.{fails_as, syntax_fails}
 use Rattle.gram_run.proofs.run.+run.Goals as goal
 
@@ -93,6 +93,12 @@ tower-returns-in_err-tree-clause-answer g t c =
     let p = err_from_is_err_and c.from_residual.result c.from_residual.ensures.1 in
     rw (p.1, p.2) (operand_fails (c.args.fuel - 1) (position_of c.args.position) c.args.level c.args.fuel k
     (tokens c.args.at.now) _ s c.in-Some.ensures (c.in_err-tree.ensures.answer (Alone k) (Front k)))
+
+pub tower-returns-in_default-clause-answer : goal.tower-returns-in_default-clause-answer
+tower-returns-in_default-clause-answer g t c =
+    let s : c.args.fuel ≡ suc (c.args.fuel - 1) = omega arith in
+    none_stands (c.args.fuel - 1) (position_of c.args.position) c.args.level c.args.fuel (tokens c.args.at.now)
+    c.refuse.result s c.refuse.ensures.syntax c.in_default.ensures
 
 pub tower-returns-clause-answer : goal.tower-returns-clause-answer
 tower-returns-clause-answer g t c =

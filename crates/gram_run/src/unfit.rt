@@ -1,0 +1,212 @@
+//! What was wanted where what was read is refused, and where that is said: as a reader of the text would say it.
+
+ghost use Rattle.gram_run.specs.Answers.{Fails, IsSyntax};
+ghost use Rattle.syn_grammar.specs.Run.{Out};
+
+use crate::refusal::{Refusal, Wanted, Wrong, refuse, refuse_at};
+use gram_judge::asked::{Asked, is};
+use gram_judge::statements::needs_semicolon;
+use gram_table::kind::Kind;
+use gram_table::op::{Separator, Verdicts};
+use gram_table::part::Part;
+use gram_table::word::Sign;
+use gram_tree::tree::{Element, Form, Tree, Two};
+use rust_map::span::Span;
+use syn_buffer::entry::Entry;
+
+// Where the first of tokens stands.
+fn begin_of_tokens(tokens: &[Entry<'_>]) -> Option<Span> {
+    match tokens.first() {
+        Some(entry) => Some(entry.span()),
+        None => None,
+    }
+}
+
+// Where the first token of two trees stands.
+#[cycle(begin)]
+fn begin_of_two(two: &Two<'_>) -> Option<Span> {
+    match begin(&two.front) {
+        Some(span) => Some(span),
+        None => begin(&two.back),
+    }
+}
+
+// Where the first token of turns stands.
+#[cycle(begin)]
+fn begin_of_turns(turns: &[Tree<'_>]) -> Option<Span> {
+    match turns.first() {
+        Some(turn) => begin(turn),
+        None => None,
+    }
+}
+
+// Where the first token of elements that a mark follows stands.
+#[cycle(begin)]
+fn begin_of_elements(before: &[Element<'_>]) -> Option<Span> {
+    match before.first() {
+        Some(element) => begin(&element.tree),
+        None => None,
+    }
+}
+
+// Where the first token of a tree stands, if it has one.
+#[cycle(begin)]
+fn begin(tree: &Tree<'_>) -> Option<Span> {
+    match &tree.form {
+        Form::Word(ident) => Some(ident.span()),
+        Form::Literal(literal) => Some(literal.span()),
+        Form::Mark(_, _, span) | Form::Lifetime(span, _) | Form::Group(_, span, _) => Some(*span),
+        Form::Raw(tokens) => begin_of_tokens(tokens),
+        Form::Nil => None,
+        Form::Pair(two) | Form::Front(_, two) | Form::Back(_, two) => begin_of_two(two),
+        Form::Turns(turns) => begin_of_turns(turns.as_slice()),
+        Form::Elements(_, before, None) => begin_of_elements(before.as_slice()),
+        Form::Elements(_, before, Some(last)) => match begin_of_elements(before.as_slice()) {
+            Some(span) => Some(span),
+            None => begin(last),
+        },
+        Form::Infix(_, three) => begin(&three.left),
+        Form::First(_, inner) | Form::Second(_, inner) | Form::Dropped(inner) => begin(inner),
+        Form::Called(_, inner) | Form::Verbatim(inner) | Form::Node(_, inner) => begin(inner),
+        Form::Whole(inner) | Form::Alone(_, inner) => begin(inner),
+    }
+}
+
+// Where the turn begins that stands behind the first that needs a `;`.
+fn behind_open(tree: &Tree<'_>) -> Option<Span> {
+    let mut is_open = false;
+    for turn in tree.turns()? {
+        if is_open {
+            return begin(turn);
+        }
+        is_open = needs_semicolon(turn.choice());
+    }
+    None
+}
+
+// Where the first element stands that is what is asked.
+fn first_asked(asked: Asked, elements: &[Element<'_>]) -> Option<Span> {
+    for element in elements {
+        if is(asked, &element.tree) {
+            return begin(&element.tree);
+        }
+    }
+    None
+}
+
+// Where the first element of a group's list stands that is what is asked, and has a mark behind it.
+fn separated(asked: Asked, tree: &Tree<'_>) -> Option<Span> {
+    let (before, _) = tree.group()?.list()?;
+    first_asked(asked, before)
+}
+
+// Where a parameter stands that may not stand there: a receiver behind others, or `...` before others.
+fn misplaced(tree: &Tree<'_>) -> Option<Span> {
+    let (before, last) = tree.group()?.list()?;
+    let (_, others) = before.split_first()?;
+    if let Some(span) = first_asked(Asked::Receiver, others) {
+        return Some(span);
+    }
+    match last {
+        Some(tree) if is(Asked::Receiver, tree) => begin(tree),
+        _ => first_asked(Asked::Variadic, before),
+    }
+}
+
+// Where that is said of what was judged.
+fn place(verdicts: Verdicts, tree: &Tree<'_>) -> Option<Span> {
+    match verdicts {
+        Verdicts::Statements => behind_open(tree),
+        Verdicts::FieldPatterns => separated(Asked::Rest, tree),
+        Verdicts::FieldValues => separated(Asked::Base, tree),
+        Verdicts::Parameters => misplaced(tree),
+        Verdicts::Let => begin(tree.the(Part::Else)?),
+        Verdicts::Arm | Verdicts::OneStatement => None,
+        _ => begin(tree),
+    }
+}
+
+/// What was read is refused, as it is judged. A `;` is wanted where the next statement begins, a `,` behind an arm; of
+/// lists it is said at the first element that stands where it may not, of all else where it begins, or where `else`
+/// does; and where no such place is, before these entries.
+pub(crate) fn unfit(verdicts: Verdicts, tree: &Tree<'_>, rest: &[Entry<'_>]) -> Refusal
+    ensures { IsSyntax result }
+{
+    let wanted = match verdicts {
+        Verdicts::Statements | Verdicts::OneStatement => Wanted::Mark(Sign::Semi),
+        Verdicts::Arm => Wanted::Mark(Sign::Comma),
+        _ => Wanted::Judged(verdicts),
+    };
+    match place(verdicts, tree) {
+        Some(span) => refuse_at(wanted, span),
+        None => refuse(wanted, rest),
+    }
+}
+
+// Whether a kind is one that a reader knows by a name.
+fn has_name(kind: Kind) -> bool {
+    matches!(
+        kind,
+        Kind::AType(_)
+            | Kind::Pattern
+            | Kind::SeveralPatterns
+            | Kind::AnItem
+            | Kind::AForeignItem
+            | Kind::ATraitItem
+            | Kind::AnImplItem
+            | Kind::DeriveInput
+    )
+}
+
+// Whether that stands where the first of the entries does.
+fn stands_first(wrong: &Wrong, at: &[Entry<'_>]) -> bool {
+    match (at.first(), &wrong.span) {
+        (Some(entry), Some(span)) => entry.span().eq(span),
+        (None, _) => wrong.is_end,
+        (Some(_), None) => false,
+    }
+}
+
+// Whether the node of the kind is wanted itself: where nothing else is, and, if it has a name, where none of its tokens
+// stands.
+fn is_node(kind: Kind, wrong: &Wrong, at: &[Entry<'_>]) -> bool {
+    match wrong.wanted {
+        Wanted::Nothing => true,
+        Wanted::Judged(_) => false,
+        _ => has_name(kind) && stands_first(wrong, at),
+    }
+}
+
+/// What was refused of a node of the kind: the node is wanted, by its name, where none of its tokens stands, and where
+/// none of its forms goes on.
+pub(crate) fn named(kind: Kind, at: &[Entry<'_>], refusal: Refusal) -> Refusal
+    ensures { (o : Out) → Fails refusal o → Fails result o }
+{
+    match refusal {
+        Refusal::Syntax(wrong) => {
+            if is_node(kind, &wrong, at) {
+                Refusal::Syntax(Wrong {
+                    span: wrong.span,
+                    is_end: wrong.is_end,
+                    wanted: Wanted::Node(kind),
+                })
+            } else {
+                Refusal::Syntax(wrong)
+            }
+        }
+        Refusal::Memory => Refusal::Memory,
+        Refusal::Late => Refusal::Late,
+    }
+}
+
+/// What is wanted where tokens are left of a group's inside: a mark, where that is a list whose last element has none.
+pub(crate) fn wanted_behind(tree: &Tree<'_>) -> Wanted {
+    match &tree.form {
+        Form::Elements(Separator::Comma, _, Some(_)) => Wanted::Mark(Sign::Comma),
+        Form::Elements(Separator::Plus, _, Some(_)) => Wanted::Mark(Sign::Plus),
+        Form::Pair(two) => wanted_behind(&two.back),
+        Form::First(_, inner) | Form::Second(_, inner) => wanted_behind(inner),
+        Form::Called(_, inner) | Form::Node(_, inner) => wanted_behind(inner),
+        _ => Wanted::End,
+    }
+}
