@@ -1,9 +1,9 @@
 -- A macro by the word crate alone among statements: what is printed for one is such a macro.
-use Rattle.std.proofs.Common.{◌≡◌, List, ◌++◌, refl, sym, ap, ◌∙◌, subst}
-use Rattle.std.specs.Prelude.{Bool, true, false, ◌&&◌, not}
+use Rattle.std.proofs.Common.{◌≡◌, List, refl, sym, ap, ◌∙◌, subst}
+use Rattle.std.specs.Prelude.{Bool, true, ◌&&◌, not}
 use Rattle.proc_macro2.specs.Token.{Token}
-use Rattle.syn_grammar.specs.Kind.{Kind, AnItem, InFile, InModule, ItemMacro, Path, Plain, Position, Segments}
-use Rattle.syn_grammar.specs.Tree.{Tree, AMark, AWord, Called, First, Nil, Node, Pair, Second, flat}
+use Rattle.syn_grammar.specs.Kind.{Kind, AnItem, InFile, InModule, ItemMacro, Path, Plain, Segments}
+use Rattle.syn_grammar.specs.Tree.{Tree, AWord, Called, First, Nil, Node, Pair, Second}
 use Rattle.syn_grammar.specs.Part.{choice}
 use Rattle.syn_grammar.specs.Gram.{Gram, alt, ref}
 use Rattle.syn_grammar.specs.Lists.{item_form}
@@ -11,7 +11,7 @@ use Rattle.syn_grammar.specs.Table.{table}
 use Rattle.syn_grammar.specs.Derives.{Derives}
 use Rattle.syn_grammar.specs.Kept.{held, is_there, kept}
 use Rattle.syn_grammar.specs.Normal.{normal_in, passed, place_of}
-use Rattle.grammar_back.specs.Covered.{is_crate_macro, is_crate_path, is_no_call, item_of}
+use Rattle.grammar_back.specs.Covered.{is_crate_path, is_no_call, item_of}
 use Rattle.grammar_back.proofs.Choices.{both_same, both_true}
 use Rattle.grammar_back.proofs.Fits.{Fits}
 use Rattle.grammar_back.proofs.ItemVerdicts.{EachOf, LawOf, form_same}
@@ -130,7 +130,67 @@ other k n q y v r d f e h = n v
 each_call : EachOf SameCall item_form
 each_call = (
   other _ (λ y. refl),
-  (other _ (λ y. refl), (other _ (λ y. refl), (other _ (λ y. refl), (other _ (λ y. refl), (other _ (λ y. refl), (other _ (λ y. refl), (other _ (λ y. refl), (other _ (λ y. refl), (other _ (λ y. refl), (other _ (λ y. refl), (other _ (λ y. refl), (other _ (λ y. refl), (other _ (λ y. refl), (other _ (λ y. refl), (other _ (λ y. refl), (other _ (λ y. refl), (other _ (λ y. refl), (other _ (λ y. refl), (other _ (λ y. refl), (other _ (λ y. refl), (call_same, tt))))))))))))))))))))),
+  (
+    other _ (λ y. refl),
+    (
+      other _ (λ y. refl),
+      (
+        other _ (λ y. refl),
+        (
+          other _ (λ y. refl),
+          (
+            other _ (λ y. refl),
+            (
+              other _ (λ y. refl),
+              (
+                other _ (λ y. refl),
+                (
+                  other _ (λ y. refl),
+                  (
+                    other _ (λ y. refl),
+                    (
+                      other _ (λ y. refl),
+                      (
+                        other _ (λ y. refl),
+                        (
+                          other _ (λ y. refl),
+                          (
+                            other _ (λ y. refl),
+                            (
+                              other _ (λ y. refl),
+                              (
+                                other _ (λ y. refl),
+                                (
+                                  other _ (λ y. refl),
+                                  (
+                                    other _ (λ y. refl),
+                                    (
+                                      other _ (λ y. refl),
+                                      (
+                                        other _ (λ y. refl),
+                                        (
+                                          other _ (λ y. refl),
+                                          (call_same, tt),
+                                        ),
+                                      ),
+                                    ),
+                                  ),
+                                ),
+                              ),
+                            ),
+                          ),
+                        ),
+                      ),
+                    ),
+                  ),
+                ),
+              ),
+            ),
+          ),
+        ),
+      ),
+    ),
+  ),
 )
 
 -- the item

@@ -432,7 +432,8 @@ crate_front cs i d us e f =
 
 -- its tokens
 abbrev macro_tokens : Gram
-macro_tokens = when brace read in_braces raw else (when parenthesis read in_parentheses raw else in_brackets raw) ▸ sign ";"
+macro_tokens = when brace read in_braces raw else
+    (when parenthesis read in_parentheses raw else in_brackets raw) ▸ sign ";"
 
 IsCall : List Token → Type 0
 IsCall ts =

@@ -101,10 +101,12 @@ fine_end = record { by = go }
         let (db, ib) = (found_ref Block refl).fine.by b us f.0.1.1.1.1.1.1 w.0.1.1.1 tt in
         let (dw, iw) = (found_text "else").fine.by (AWord cs) (flat b ++ us) f.0.1.1.1.1.1.0 tt tt in
         let vs : List Token = (Ident cs ∷ flat b) ++ us in
-        let i : sees (at "else") vs ≡ true = told_at (at "else") true (TheWord (codes "else") ∷ []) vs (λ us. refl, tt) iw
+        let i : sees (at "else") vs ≡ true = told_at (at "else") true (TheWord (codes "else") ∷ []) vs
+        (λ us. refl, tt) iw
         in
         let (de, ie) = (fine_ref {k = Expression Plain}).by e vs f.0.1.1.0.1 w.0.1.0 (inr (n, i)) in
-        let (dq, iq) = (found_mark {c = 61} {cs = []}).fine.by q ((flat e ++ (Ident cs ∷ flat b)) ++ us) f.0.1.0 w.0.0 tt
+        let (dq, iq) = (found_mark {c = 61} {cs = []}).fine.by q ((flat e ++
+        (Ident cs ∷ flat b)) ++ us) f.0.1.0 w.0.0 tt
         in
         let j = at_front equals q (Pair (Called o e) (First (Called k (Pair (AWord cs) b)))) us iq in (
           (

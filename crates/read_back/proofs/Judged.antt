@@ -1,8 +1,9 @@
 -- What the verdict on an item saw of a constant and of an impl: they need not be asked of one that was kept.
-use Rattle.std.proofs.Common.{◌≡◌, List, [], refl, sym, ap, ◌∙◌, subst}
+use Rattle.std.proofs.Common.{◌≡◌, List, [], ◌++◌, refl, sym, ap, ◌∙◌, subst}
 use Rattle.std.specs.Prelude.{Bool, true, false, ◌&&◌, ◌||◌, not, cond, Option, Some, None}
 use Rattle.proc_macro2.specs.Token.{Token}
-use Rattle.syn_grammar.specs.Kind.{Kind, Place, AConst, AnImpl, AnImplItem, AnItem, AnyPath, AFunction, AType}
+use Rattle.syn_grammar.specs.Kind.{Kind, Place, AConst, AStatement, OneStatement, Statements, AnImpl, AnImplItem}
+use Rattle.syn_grammar.specs.Kind.{AnItem, AnyPath, AFunction, AType}
 use Rattle.syn_grammar.specs.Kind.{ATraitItem, ATypeAlias, DynType, Expression, ImplType, InForeign, InFile, InImpl}
 use Rattle.syn_grammar.specs.Kind.{InTrait, ItemConst, ItemImpl, ItemMacro, OneConst, OneFunction, OneMacro}
 use Rattle.syn_grammar.specs.Kind.{OneTypeAlias, Path, QualifiedPath, ReturnType, Segment, Segments, Signature, Where}
@@ -11,10 +12,11 @@ use Rattle.syn_grammar.specs.Kind.{Plain, InCondition, InArm, InStatement}
 use Rattle.syn_grammar.specs.Name.{Part, same_part, the_clause, the_first, the_generics, the_item, the_self, the_value}
 use Rattle.syn_grammar.specs.Name.{the_where}
 use Rattle.syn_grammar.specs.Tree.{Tree, AWord, ALiteral, AMark, ALifetime, Raw, Nil, Pair, First, Second, End, Again}
-use Rattle.syn_grammar.specs.Tree.{Final, More, Group, Dropped, Called, Verbatim, Node, Whole}
+use Rattle.syn_grammar.specs.Tree.{Final, More, Group, Dropped, Called, Verbatim, Node, Whole, flat}
 use Rattle.syn_grammar.specs.Part.{choice, found, has, is_some, or_else, or_nil, the}
 use Rattle.syn_grammar.specs.Gram.{Gram, Verdict, Keep, AsRaw, Refuse, seq, alt, star, many, group, judged, dropped}
 use Rattle.syn_grammar.specs.Gram.{called, ref, never as none}
+use Rattle.syn_grammar.specs.Look.{lacks, sees, the_end}
 use Rattle.syn_grammar.specs.Lists.{typed}
 use Rattle.syn_grammar.specs.Verdicts.{const_is_raw, form_in, is_generic, is_path_type, is_where, item_verdict}
 use Rattle.syn_grammar.specs.Verdicts.{marked, raw_if, refused_if, strictly}
@@ -22,9 +24,13 @@ use Rattle.syn_grammar.specs.Table.{table}
 use Rattle.syn_grammar.specs.Derives.{Derives}
 use Rattle.syn_grammar.specs.Kept.{is_there}
 use Rattle.expressions_back.proofs.Bools.{never}
-use Rattle.grammar_back.specs.Covered.{has_lone_value, has_own_trait}
+use Rattle.grammar_back.specs.Covered.{has_form_step, has_lone_value, has_own_trait, has_step, is_known}
+use Rattle.grammar_back.proofs.Statements.{a_turn}
 use Rattle.grammar_back.proofs.Choices.{both_same, both_true, is_false}
 use Rattle.read_back.specs.Asked.{is_asked_alone}
+use Rattle.read_back.proofs.ToldBraces.{goes_there}
+use Rattle.read_back.proofs.ToldCalls.{statement_told}
+use Rattle.read_back.proofs.ToldTurns.{turns_free}
 
 -- Down to the nodes that a tree holds, each constant and each impl is as it is asked to be by itself.
 abbrev pub are_settled : Tree → Bool
@@ -44,13 +50,14 @@ are_settled _ = true
 both_are : (a b : Bool) → a ≡ true → b ≡ true → (a && b) ≡ true
 both_are a b e f = both_same a b true true e f
 
--- a kind that is neither a constant nor an impl
+-- a kind that is neither a constant nor an impl nor a statement
 abbrev is_plain_kind : Kind → Bool
 is_plain_kind AConst = false
 is_plain_kind AnImpl = false
+is_plain_kind AStatement = false
 is_plain_kind k = true
 
--- an entry in which neither a constant nor an impl stands
+-- an entry in which none of them stands
 abbrev is_plain : Gram → Bool
 is_plain (seq a b) = is_plain a && is_plain b
 is_plain (alt t a b) = is_plain a && is_plain b
@@ -67,6 +74,7 @@ is_plain _ = true
 plain_node : (k : Kind) (x : Tree) → is_plain_kind k ≡ true → are_settled (Node k x) ≡ true
 plain_node AConst x h = absurd (never h)
 plain_node AnImpl x h = absurd (never h)
+plain_node AStatement x h = absurd (never h)
 plain_node _ x h = refl
 
 -- nor of what such an entry reads
@@ -260,8 +268,9 @@ const_settled InTrait v x r d e =
 const_settled InImpl v x r d e = const_alone x r d (clear_where true x (raw_none (const_is_raw true x) e))
 const_settled InForeign v x r d e = cc e
 
--- in a trait stands no impl
+-- in a trait stands no impl, and a statement is no item
 abbrev stands_in : Place → Kind → Bool
+stands_in p AStatement = false
 stands_in InTrait AnImpl = false
 stands_in p k = true
 
@@ -278,6 +287,7 @@ node_settled : (p : Place) (v : Bool) (k : Kind) (x : Tree) (r : List Token) →
     → stands_in p k ≡ true → form_in p v (Node k x) ≡ Keep → are_settled (Node k x) ≡ true
 node_settled p v AConst x r d h e = const_settled p v x r d e
 node_settled p v AnImpl x r d h e = impl_settled p v x r d h e
+node_settled p v AStatement x r d h e = absurd (never h)
 node_settled p v _ x r d h e = refl
 
 -- the alternatives of an item, each of which may stand in that place
@@ -338,76 +348,102 @@ typed_settled p g (First x) r d h = entry_settled p (marked p x) x g r d.1 h (st
 typed_settled p g (Verbatim x) r d h = refl
 typed_settled p g _ r d h = absurd d
 
+-- statements: behind each begins another one, or nothing
+turn_settled : (x : Tree) (r : List Token) → Derives x a_turn r → sees goes_there r ≡ false → are_settled x ≡ true
+turn_settled (First (AMark c cs i)) r d f = refl
+turn_settled (First _) r d f = absurd d.1
+turn_settled (Second (Node k s)) r d f =
+    subst (λ j. are_settled (Node j s) ≡ true) (sym d.1.0)
+    (statement_told s r (subst (λ j. Derives s (table j) r) d.1.0 d.1.1) f)
+turn_settled (Second _) r d f = absurd d.1
+turn_settled _ r d f = absurd d
+
+turns_settled : (x : Tree) (r : List Token) → Derives x (star (lacks the_end) a_turn) r → are_settled x ≡ true
+turns_settled End r d = refl
+turns_settled (Again x y) r d =
+    both_are (are_settled x) (are_settled y) (turn_settled x (flat y ++ r) d.1 (turns_free y r d.2))
+    (turns_settled y r d.2)
+turns_settled _ r d = absurd d
+
+statements_settled : (x : Tree) (r : List Token) → Derives x (table Statements) r → are_settled x ≡ true
+unfolding table
+statements_settled (First x) r d = turns_settled x r d.1
+statements_settled (Verbatim x) r d = refl
+statements_settled _ r d = absurd d
+
 -- of each kind
-pub settled_inside : (k : Kind) (x : Tree) (r : List Token) → Derives x (table k) r → are_settled x ≡ true
-unfolding table same_part
-settled_inside AnItem x r d = judged_settled InFile _ x r d refl
-settled_inside ATraitItem x r d = judged_settled InTrait _ x r d refl
-settled_inside AnImplItem x r d = judged_settled InImpl _ x r d refl
-settled_inside ItemConst x r d = typed_settled InFile _ x r d refl
-settled_inside ItemImpl x r d = typed_settled InFile _ x r d refl
-settled_inside (Path InModule) x r d = plain_settled x _ r d refl
-settled_inside (Path InExpression) x r d = plain_settled x _ r d refl
-settled_inside (Path InType) x r d = plain_settled x _ r d refl
-settled_inside (Path AtType) x r d = plain_settled x _ r d refl
-settled_inside (Segments InModule) x r d = plain_settled x _ r d refl
-settled_inside (Segments InExpression) x r d = plain_settled x _ r d refl
-settled_inside (Segments InType) x r d = plain_settled x _ r d refl
-settled_inside (Segments AtType) x r d = plain_settled x _ r d refl
-settled_inside (Segment InModule) x r d = plain_settled x _ r d refl
-settled_inside (Segment InExpression) x r d = plain_settled x _ r d refl
-settled_inside (Segment InType) x r d = plain_settled x _ r d refl
-settled_inside (Segment AtType) x r d = plain_settled x _ r d refl
-settled_inside (QualifiedPath InModule) x r d = plain_settled x _ r d refl
-settled_inside (QualifiedPath InExpression) x r d = plain_settled x _ r d refl
-settled_inside (QualifiedPath InType) x r d = plain_settled x _ r d refl
-settled_inside (QualifiedPath AtType) x r d = plain_settled x _ r d refl
-settled_inside (AnyPath InModule) x r d = plain_settled x _ r d refl
-settled_inside (AnyPath InExpression) x r d = plain_settled x _ r d refl
-settled_inside (AnyPath InType) x r d = plain_settled x _ r d refl
-settled_inside (AnyPath AtType) x r d = plain_settled x _ r d refl
-settled_inside (AType WithPlus) x r d = plain_settled x _ r d refl
-settled_inside (AType WithoutPlus) x r d = plain_settled x _ r d refl
-settled_inside (DynType WithPlus) x r d = plain_settled x _ r d refl
-settled_inside (DynType WithoutPlus) x r d = plain_settled x _ r d refl
-settled_inside (ImplType WithPlus) x r d = plain_settled x _ r d refl
-settled_inside (ImplType WithoutPlus) x r d = plain_settled x _ r d refl
-settled_inside (ReturnType WithPlus) x r d = plain_settled x _ r d refl
-settled_inside (ReturnType WithoutPlus) x r d = plain_settled x _ r d refl
-settled_inside (Expression Plain) x r d = plain_settled x _ r d refl
-settled_inside (Expression InCondition) x r d = plain_settled x _ r d refl
-settled_inside (Expression InArm) x r d = plain_settled x _ r d refl
-settled_inside (Expression InStatement) x r d = plain_settled x _ r d refl
-settled_inside (Signature InFile) x r d = plain_settled x _ r d refl
-settled_inside (Signature InForeign) x r d = plain_settled x _ r d refl
-settled_inside (Signature InTrait) x r d = plain_settled x _ r d refl
-settled_inside (Signature InImpl) x r d = plain_settled x _ r d refl
-settled_inside (AFunction InFile) x r d = plain_settled x _ r d refl
-settled_inside (AFunction InForeign) x r d = plain_settled x _ r d refl
-settled_inside (AFunction InTrait) x r d = plain_settled x _ r d refl
-settled_inside (AFunction InImpl) x r d = plain_settled x _ r d refl
-settled_inside (ATypeAlias InFile) x r d = plain_settled x _ r d refl
-settled_inside (ATypeAlias InForeign) x r d = plain_settled x _ r d refl
-settled_inside (ATypeAlias InTrait) x r d = plain_settled x _ r d refl
-settled_inside (ATypeAlias InImpl) x r d = plain_settled x _ r d refl
-settled_inside (ItemMacro InFile) x r d = plain_settled x _ r d refl
-settled_inside (ItemMacro InForeign) x r d = plain_settled x _ r d refl
-settled_inside (ItemMacro InTrait) x r d = plain_settled x _ r d refl
-settled_inside (ItemMacro InImpl) x r d = plain_settled x _ r d refl
-settled_inside (OneMacro InFile) x r d = plain_settled x _ r d refl
-settled_inside (OneMacro InForeign) x r d = plain_settled x _ r d refl
-settled_inside (OneMacro InTrait) x r d = plain_settled x _ r d refl
-settled_inside (OneMacro InImpl) x r d = plain_settled x _ r d refl
-settled_inside (OneFunction InFile) x r d = plain_settled x _ r d refl
-settled_inside (OneFunction InForeign) x r d = plain_settled x _ r d refl
-settled_inside (OneFunction InTrait) x r d = plain_settled x _ r d refl
-settled_inside (OneFunction InImpl) x r d = plain_settled x _ r d refl
-settled_inside (OneTypeAlias InFile) x r d = plain_settled x _ r d refl
-settled_inside (OneTypeAlias InForeign) x r d = plain_settled x _ r d refl
-settled_inside (OneTypeAlias InTrait) x r d = plain_settled x _ r d refl
-settled_inside (OneTypeAlias InImpl) x r d = plain_settled x _ r d refl
-settled_inside (OneConst InFile) x r d = typed_settled InFile _ x r d refl
-settled_inside (OneConst InForeign) x r d = typed_settled InForeign _ x r d refl
-settled_inside (OneConst InTrait) x r d = typed_settled InTrait _ x r d refl
-settled_inside (OneConst InImpl) x r d = typed_settled InImpl _ x r d refl
-settled_inside _ x r d = plain_settled x _ r d refl
+pub settled_inside : (k : Kind) (x : Tree) (r : List Token) → Derives x (table k) r → is_known k ≡ true
+    → are_settled x ≡ true
+unfolding table same_part has_step has_form_step
+settled_inside OneStatement x r d n = absurd (never n)
+settled_inside Statements x r d n = statements_settled x r d
+settled_inside AnItem x r d n = judged_settled InFile _ x r d refl
+settled_inside ATraitItem x r d n = judged_settled InTrait _ x r d refl
+settled_inside AnImplItem x r d n = judged_settled InImpl _ x r d refl
+settled_inside ItemConst x r d n = typed_settled InFile _ x r d refl
+settled_inside ItemImpl x r d n = typed_settled InFile _ x r d refl
+settled_inside (Path InModule) x r d n = plain_settled x _ r d refl
+settled_inside (Path InExpression) x r d n = plain_settled x _ r d refl
+settled_inside (Path InType) x r d n = plain_settled x _ r d refl
+settled_inside (Path AtType) x r d n = plain_settled x _ r d refl
+settled_inside (Segments InModule) x r d n = plain_settled x _ r d refl
+settled_inside (Segments InExpression) x r d n = plain_settled x _ r d refl
+settled_inside (Segments InType) x r d n = plain_settled x _ r d refl
+settled_inside (Segments AtType) x r d n = plain_settled x _ r d refl
+settled_inside (Segment InModule) x r d n = plain_settled x _ r d refl
+settled_inside (Segment InExpression) x r d n = plain_settled x _ r d refl
+settled_inside (Segment InType) x r d n = plain_settled x _ r d refl
+settled_inside (Segment AtType) x r d n = plain_settled x _ r d refl
+settled_inside (QualifiedPath InModule) x r d n = plain_settled x _ r d refl
+settled_inside (QualifiedPath InExpression) x r d n = plain_settled x _ r d refl
+settled_inside (QualifiedPath InType) x r d n = plain_settled x _ r d refl
+settled_inside (QualifiedPath AtType) x r d n = plain_settled x _ r d refl
+settled_inside (AnyPath InModule) x r d n = plain_settled x _ r d refl
+settled_inside (AnyPath InExpression) x r d n = plain_settled x _ r d refl
+settled_inside (AnyPath InType) x r d n = plain_settled x _ r d refl
+settled_inside (AnyPath AtType) x r d n = plain_settled x _ r d refl
+settled_inside (AType WithPlus) x r d n = plain_settled x _ r d refl
+settled_inside (AType WithoutPlus) x r d n = plain_settled x _ r d refl
+settled_inside (DynType WithPlus) x r d n = plain_settled x _ r d refl
+settled_inside (DynType WithoutPlus) x r d n = plain_settled x _ r d refl
+settled_inside (ImplType WithPlus) x r d n = plain_settled x _ r d refl
+settled_inside (ImplType WithoutPlus) x r d n = plain_settled x _ r d refl
+settled_inside (ReturnType WithPlus) x r d n = plain_settled x _ r d refl
+settled_inside (ReturnType WithoutPlus) x r d n = plain_settled x _ r d refl
+settled_inside (Expression Plain) x r d n = plain_settled x _ r d refl
+settled_inside (Expression InCondition) x r d n = plain_settled x _ r d refl
+settled_inside (Expression InArm) x r d n = plain_settled x _ r d refl
+settled_inside (Expression InStatement) x r d n = plain_settled x _ r d refl
+settled_inside (Signature InFile) x r d n = plain_settled x _ r d refl
+settled_inside (Signature InForeign) x r d n = plain_settled x _ r d refl
+settled_inside (Signature InTrait) x r d n = plain_settled x _ r d refl
+settled_inside (Signature InImpl) x r d n = plain_settled x _ r d refl
+settled_inside (AFunction InFile) x r d n = plain_settled x _ r d refl
+settled_inside (AFunction InForeign) x r d n = plain_settled x _ r d refl
+settled_inside (AFunction InTrait) x r d n = plain_settled x _ r d refl
+settled_inside (AFunction InImpl) x r d n = plain_settled x _ r d refl
+settled_inside (ATypeAlias InFile) x r d n = plain_settled x _ r d refl
+settled_inside (ATypeAlias InForeign) x r d n = plain_settled x _ r d refl
+settled_inside (ATypeAlias InTrait) x r d n = plain_settled x _ r d refl
+settled_inside (ATypeAlias InImpl) x r d n = plain_settled x _ r d refl
+settled_inside (ItemMacro InFile) x r d n = plain_settled x _ r d refl
+settled_inside (ItemMacro InForeign) x r d n = plain_settled x _ r d refl
+settled_inside (ItemMacro InTrait) x r d n = plain_settled x _ r d refl
+settled_inside (ItemMacro InImpl) x r d n = plain_settled x _ r d refl
+settled_inside (OneMacro InFile) x r d n = plain_settled x _ r d refl
+settled_inside (OneMacro InForeign) x r d n = plain_settled x _ r d refl
+settled_inside (OneMacro InTrait) x r d n = plain_settled x _ r d refl
+settled_inside (OneMacro InImpl) x r d n = plain_settled x _ r d refl
+settled_inside (OneFunction InFile) x r d n = plain_settled x _ r d refl
+settled_inside (OneFunction InForeign) x r d n = plain_settled x _ r d refl
+settled_inside (OneFunction InTrait) x r d n = plain_settled x _ r d refl
+settled_inside (OneFunction InImpl) x r d n = plain_settled x _ r d refl
+settled_inside (OneTypeAlias InFile) x r d n = plain_settled x _ r d refl
+settled_inside (OneTypeAlias InForeign) x r d n = plain_settled x _ r d refl
+settled_inside (OneTypeAlias InTrait) x r d n = plain_settled x _ r d refl
+settled_inside (OneTypeAlias InImpl) x r d n = plain_settled x _ r d refl
+settled_inside (OneConst InFile) x r d n = typed_settled InFile _ x r d refl
+settled_inside (OneConst InForeign) x r d n = typed_settled InForeign _ x r d refl
+settled_inside (OneConst InTrait) x r d n = typed_settled InTrait _ x r d refl
+settled_inside (OneConst InImpl) x r d n = typed_settled InImpl _ x r d refl
+settled_inside _ x r d n = plain_settled x _ r d refl

@@ -28,10 +28,13 @@ pub mod Forms
 pub mod ToldClosures
 pub mod LonePatterns
 pub mod ToldPatterns
-pub mod Judged
 pub mod ToldPaths
-pub mod ToldItems
 pub mod ToldBraces
+pub mod ToldParts
+pub mod ToldTurns
+pub mod ToldCalls
+pub mod Judged
+pub mod ToldItems
 pub mod ToldStarts
 pub mod ToldExpressions
 pub mod ToldKinds

@@ -5,7 +5,7 @@ use Rattle.std.specs.Prelude.{Bool, true, false, ◌⊎◌, ◌&&◌, ◌||◌, 
 use Rattle.proc_macro2.specs.Token.{Token, Opens}
 use Rattle.proc_macro2.specs.declared.delimiter.Delimiter.{Delimiter}
 use Rattle.proc_macro2.specs.declared.delimiter.Delimiter.TheVariants.{Brace, Bracket, Parenthesis}
-use Rattle.syn_grammar.specs.Kind.{Kind, Position, AConst, AMacro, AnImpl, AStatement, Delimited, ExprClosure}
+use Rattle.syn_grammar.specs.Kind.{Kind, Position, AConst, AFile, AMacro, AnImpl, AStatement, Delimited, ExprClosure}
 use Rattle.syn_grammar.specs.Kind.{Expression, ExprMacro, ExprTypedClosure, OnePattern}
 use Rattle.syn_grammar.specs.Tree.{Tree, AWord, ALiteral, AMark, ALifetime, Raw, Nil, Pair, First, Second, End, Again}
 use Rattle.syn_grammar.specs.Tree.{Final, More, Group, Dropped, Called, Verbatim, Node, Whole, Alone, Front, Back}
@@ -20,13 +20,14 @@ use Rattle.syn_grammar.specs.Kept.{kept}
 use Rattle.syn_grammar.specs.Normal.{normal}
 use Rattle.syn_grammar.specs.Statements.{macro_statement_stands}
 use Rattle.expressions_back.proofs.Bools.{never}
+use Rattle.grammar_back.specs.Covered.{has_step}
 use Rattle.grammar_back.specs.Covered.{all_covered, is_form, is_known}
 use Rattle.grammar_back.specs.Covered.{is_plain_part, is_statement_form, is_taken, stands_alone}
 use Rattle.grammar_back.proofs.Choices.{both_same, both_true}
 use Rattle.grammar_back.proofs.Passed.{behind_attributes}
 use Rattle.grammar_back.proofs.ReadBack.{is_whole}
-use Rattle.read_back.specs.Asked.{all_asked, ends_alone, ends_in_pattern, is_asked, is_asked_alone}
-use Rattle.read_back.specs.Asked.{is_asked_form, is_covered, is_no_lone, no_lone}
+use Rattle.read_back.specs.Asked.{ends_alone, ends_in_pattern, is_asked_alone, is_asked_statement, is_covered}
+use Rattle.read_back.specs.Asked.{is_no_lone, no_lone}
 use Rattle.read_back.proofs.Judged.{are_settled, settled_inside}
 use Rattle.read_back.proofs.ToldExpressions.{plain_told}
 use Rattle.read_back.proofs.ToldItems.{named_told, raw_told}
@@ -34,6 +35,7 @@ use Rattle.read_back.proofs.ToldKinds.{all_known, back_form, front_form, refs_kn
 use Rattle.read_back.proofs.ToldPaths.{call_behind}
 use Rattle.read_back.proofs.ToldClosures.{closure_told, typed_closure_told}
 use Rattle.read_back.proofs.ToldPatterns.{whole_patterns}
+use Rattle.read_back.proofs.Wholes.{part_known}
 
 -- braces
 abbrev dotless : Look
@@ -78,7 +80,7 @@ macro_told (Node k x) q d e =
     (macro_in x q (subst (λ l. Derives x (table l) q) d.0 d.1) e)
 macro_told _ q d e = absurd d
 
-form_told : (x : Tree) (r : List Token) → Derives x (table AStatement) r → is_asked_form x ≡ true
+form_told : (x : Tree) (r : List Token) → Derives x (table AStatement) r → is_asked_statement x ≡ true
     → is_statement_form x ≡ true
 unfolding table
 form_told (Second (First (Pair a (Pair m s)))) r d c =
@@ -108,12 +110,12 @@ form_told _ r d c = absurd d
 
 -- of a kind's tree, and of a form's own part
 node_told : (k : Kind) (x : Tree) (r : List Token) → Derives x (table k) r → are_settled (Node k x) ≡ true
-    → is_no_lone k x ≡ true → is_asked k x ≡ true → is_taken k x ≡ true
-node_told AConst x r d s n c = s
-node_told AnImpl x r d s n c = s
-node_told OnePattern x r d s n c = n
-node_told AStatement x r d s n c = form_told x r d c
-node_told _ x r d s n c = refl
+    → is_no_lone k x ≡ true → is_taken k x ≡ true
+node_told AConst x r d s n = s
+node_told AnImpl x r d s n = s
+node_told OnePattern x r d s n = n
+node_told AStatement x r d s n = form_told x r d s
+node_told _ x r d s n = refl
 
 part_told : (k : Kind) (p : Position) (y : Tree) (r : List Token) → front p (flat y ++ r) ≡ Some k
     → Derives y (table k) r → is_plain_part k (normal (kept y)) ≡ true
@@ -127,86 +129,80 @@ and_both a b e f = both_same a b true true e f
 
 mutual
   told : (x : Tree) (g : Gram) (r : List Token) → Derives x g r → refs_known g ≡ true → are_settled x ≡ true
-      → no_lone x ≡ true → all_asked x ≡ true → all_covered x ≡ true
-  told (Pair x y) (seq a b) r d k s n c =
+      → no_lone x ≡ true → all_covered x ≡ true
+  told (Pair x y) (seq a b) r d k s n =
       let i = both_true (refs_known a) (refs_known b) k in
       let t = both_true (are_settled x) (are_settled y) s in
       let m = both_true (no_lone x) (no_lone y) n in
-      let h = both_true (all_asked x) (all_asked y) c in
-      and_both (all_covered x) (all_covered y) (told x a _ d.0 i.0 t.0 m.0 h.0) (told y b r d.1 i.1 t.1 m.1 h.1)
-  told (First x) (alt t a b) r d k s n c = told x a r d.1 (both_true (refs_known a) (refs_known b) k).0 s n c
-  told (Second x) (alt t a b) r d k s n c = told x b r d.1 (both_true (refs_known a) (refs_known b) k).1 s n c
-  told (Again x y) (star t g) r d k s n c =
+      and_both (all_covered x) (all_covered y) (told x a _ d.0 i.0 t.0 m.0) (told y b r d.1 i.1 t.1 m.1)
+  told (First x) (alt t a b) r d k s n = told x a r d.1 (both_true (refs_known a) (refs_known b) k).0 s n
+  told (Second x) (alt t a b) r d k s n = told x b r d.1 (both_true (refs_known a) (refs_known b) k).1 s n
+  told (Again x y) (star t g) r d k s n =
       let u = both_true (are_settled x) (are_settled y) s in
       let m = both_true (no_lone x) (no_lone y) n in
-      let h = both_true (all_asked x) (all_asked y) c in
-      and_both (all_covered x) (all_covered y) (told x g _ d.1 k u.0 m.0 h.0) (told y (star t g) r d.2 k u.1 m.1 h.1)
-  told (Final x) (many e z g) r d k s n c = told x g r d.1 k s n c
-  told (More x o i y) (many e z g) r d k s n c =
+      and_both (all_covered x) (all_covered y) (told x g _ d.1 k u.0 m.0) (told y (star t g) r d.2 k u.1 m.1)
+  told (Final x) (many e z g) r d k s n = told x g r d.1 k s n
+  told (More x o i y) (many e z g) r d k s n =
       let t = both_true (are_settled x) (are_settled y) s in
       let m = both_true (no_lone x) (no_lone y) n in
-      let h = both_true (all_asked x) (all_asked y) c in
-      and_both (all_covered x) (all_covered y) (told x g _ d.2 k t.0 m.0 h.0)
-      (told y (many e z g) r d.3 k t.1 m.1 h.1)
-  told (Group e x) (group f g) r d k s n c = told x g [] d.1 k s n c
-  told (First x) (judged v g) r d k s n c = told x g r d.1 k s n c
-  told (Verbatim x) (judged v g) r d k s n c = refl
-  told (Dropped x) (dropped g) r d k s n c = told x g r d k s n c
-  told (Called l x) (called m g) r d k s n c = told x g r d.1 k s n c
-  told (Node j x) (ref l) r d k s n c =
+      and_both (all_covered x) (all_covered y) (told x g _ d.2 k t.0 m.0) (told y (many e z g) r d.3 k t.1 m.1)
+  told (Group e x) (group f g) r d k s n = told x g [] d.1 k s n
+  told (First x) (judged v g) r d k s n = told x g r d.1 k s n
+  told (Verbatim x) (judged v g) r d k s n = refl
+  told (Dropped x) (dropped g) r d k s n = told x g r d k s n
+  told (Called l x) (called m g) r d k s n = told x g r d.1 k s n
+  told (Node j x) (ref l) r d k s n =
       let m = both_true (is_no_lone j x) (no_lone x) n in
-      let h = both_true (is_asked j x) (all_asked x) c in
-      let v : all_covered x ≡ true =
-      told x (table j) r d.1 (all_known j) (settled_inside j x r d.1) m.1 h.1 in
-      and_both (is_known j) (is_taken j x && all_covered x) (ap is_known d.0 ∙ k)
-      (and_both (is_taken j x) (all_covered x) (node_told j x r d.1 s m.0 h.0) v)
-  told (Whole x) (operand p l) r d k s n c = form_parts x p r d.1 n c
-  told (AWord cs) g r d k s n c = refl
-  told (ALiteral cs) g r d k s n c = refl
-  told (AMark e cs i) g r d k s n c = refl
-  told (ALifetime cs) g r d k s n c = refl
-  told (Raw ts) g r d k s n c = refl
-  told Nil g r d k s n c = refl
-  told End g r d k s n c = refl
-  told _ g r d k s n c = absurd d
+      let i : is_known j ≡ true = ap is_known d.0 ∙ k in
+      and_both (is_known j) (is_taken j x && all_covered x) i
+      (and_both (is_taken j x) (all_covered x) (node_told j x r d.1 s m.0)
+      (told x (table j) r d.1 (all_known j) (settled_inside j x r d.1 i) m.1))
+  told (Whole x) (operand p l) r d k s n = form_parts x p r d.1 n
+  told (AWord cs) g r d k s n = refl
+  told (ALiteral cs) g r d k s n = refl
+  told (AMark e cs i) g r d k s n = refl
+  told (ALifetime cs) g r d k s n = refl
+  told (Raw ts) g r d k s n = refl
+  told Nil g r d k s n = refl
+  told End g r d k s n = refl
+  told _ g r d k s n = absurd d
 
-  form_parts : (x : Tree) (p : Position) (r : List Token) → Bound p x r → no_lone x ≡ true → all_asked x ≡ true
-      → all_covered x ≡ true
-  form_parts (Alone k y) p r d n c =
-      and_both (is_form k) _ (front_form p k _ d.0)
+  form_parts : (x : Tree) (p : Position) (r : List Token) → Bound p x r → no_lone x ≡ true → all_covered x ≡ true
+  form_parts (Alone k y) p r d n =
+      let f = front_form p k _ d.0 in
+      and_both (is_form k) _ f
       (and_both (is_plain_part k (normal (kept y))) (all_covered y) (part_told k p y r d.0 d.1)
-      (told y (table k) r d.1 (all_known k) (settled_inside k y _ d.1) n c))
-  form_parts (Front k y x) p r d n c =
+      (told y (table k) r d.1 (all_known k) (settled_inside k y r d.1 (part_known k f)) n))
+  form_parts (Front k y x) p r d n =
       let m = both_true (no_lone y) (no_lone x) n in
-      let j = both_true (all_asked y) (all_asked x) c in
-      and_both (is_form k) _ (front_form p k _ d.0)
+      let f = front_form p k _ d.0 in
+      and_both (is_form k) _ f
       (and_both (is_plain_part k (normal (kept y))) _ (part_told k p y (flat x ++ r) d.0 d.1)
-      (and_both (all_covered y) (all_covered x) (told y (table k) (flat x ++ r) d.1 (all_known k)
-      (settled_inside k y _ d.1) m.0 j.0)
-      (form_parts x (inside p k) r d.4 m.1 j.1)))
-  form_parts (Back l k y) p r d n c =
+      (and_both (all_covered y) (all_covered x)
+      (told y (table k) (flat x ++ r) d.1 (all_known k) (settled_inside k y _ d.1 (part_known k f)) m.0)
+      (form_parts x (inside p k) r d.4 m.1)))
+  form_parts (Back l k y) p r d n =
       let m = both_true (no_lone l) (no_lone y) n in
-      let i = both_true (all_asked l) (all_asked y) c in
-      and_both (is_form k) _ (back_form p k _ d.0)
-      (and_both (all_covered l) (all_covered y) (form_parts l p _ d.4 m.0 i.0) (told y (table k) r d.1 (all_known k)
-      (settled_inside k y _ d.1) m.1 i.1))
-  form_parts (Infix l k y x) p r d n c =
+      let f = back_form p k _ d.0 in
+      and_both (is_form k) _ f
+      (and_both (all_covered l) (all_covered y) (form_parts l p _ d.4 m.0)
+      (told y (table k) r d.1 (all_known k) (settled_inside k y r d.1 (part_known k f)) m.1))
+  form_parts (Infix l k y x) p r d n =
       let m = both_true (no_lone y) (no_lone l && no_lone x) n in
       let o = both_true (no_lone l) (no_lone x) m.1 in
-      let i = both_true (all_asked y) (all_asked l && all_asked x) c in
-      let j = both_true (all_asked l) (all_asked x) i.1 in
-      and_both (is_form k) _ (back_form p k _ d.0)
-      (and_both (all_covered y) _ (told y (table k) (flat x ++ r) d.1 (all_known k) (settled_inside k y _ d.1) m.0 i.0)
-      (and_both (all_covered l) (all_covered x) (form_parts l p _ d.4 o.0 j.0)
-      (form_parts x (inside p k) r d.6 o.1 j.1)))
-  form_parts _ p r d n c = absurd d
+      let f = back_form p k _ d.0 in
+      and_both (is_form k) _ f
+      (and_both (all_covered y) _
+      (told y (table k) (flat x ++ r) d.1 (all_known k) (settled_inside k y _ d.1 (part_known k f)) m.0)
+      (and_both (all_covered l) (all_covered x) (form_parts l p _ d.4 o.0) (form_parts x (inside p k) r d.6 o.1)))
+  form_parts _ p r d n = absurd d
 
 -- of an expression in a position
 pub expression_covered : (p : Position) (x : Tree) (r : List Token)
-    → Derives (Node (Expression p) (Whole x)) (ref (Expression p)) r → all_asked x ≡ true → all_covered x ≡ true
+    → Derives (Node (Expression p) (Whole x)) (ref (Expression p)) r → all_covered x ≡ true
 unfolding table
-expression_covered p x r d c =
-    form_parts x p r d.1.1 (whole_patterns (Expression p) (Node (Expression p) (Whole x)) r refl d) c
+expression_covered p x r d =
+    form_parts x p r d.1.1 (whole_patterns (Expression p) (Node (Expression p) (Whole x)) r refl d)
 
 -- A kind that ends in a pattern is asked to hold no path of one identifier alone; of the others that is told.
 lone_told : (k : Kind) (x : Tree) (r : List Token) → Derives x (ref k) r → ends_alone x ≡ true → no_lone x ≡ true
@@ -223,8 +219,16 @@ whole_told k (Node l x) r d c =
     let y : Tree = Node l x in
     let a = both_true (stands_alone y) _ c in
     let b = both_true (is_known l) _ a.1 in
-    let e = both_true (is_asked_alone y) (ends_alone y && all_asked y) b.1 in
-    let f = both_true (ends_alone y) (all_asked y) e.1 in
+    let e = both_true (is_asked_alone y) (ends_alone y) b.1 in
     and_both (stands_alone y) (all_covered y) a.0
-    (told y (ref k) r d (sym (ap is_known d.0) ∙ b.0) e.0 (lone_told k y r d f.0) f.1)
+    (told y (ref k) r d (sym (ap is_known d.0) ∙ b.0) e.0 (lone_told k y r d e.1))
 whole_told k _ r d c = absurd d
+
+-- Of a file nothing is asked.
+file_in : (x : Tree) → is_covered (Node AFile x) ≡ true
+unfolding has_step
+file_in x = refl
+
+pub file_covered : (x : Tree) (r : List Token) → Derives x (ref AFile) r → is_covered x ≡ true
+file_covered (Node k x) r d = subst (λ j. is_covered (Node j x) ≡ true) (sym d.0) (file_in x)
+file_covered _ r d = absurd d

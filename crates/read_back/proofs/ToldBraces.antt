@@ -35,7 +35,7 @@ use Rattle.read_back.proofs.ToldPaths.{call_behind}
 -- A macro in braces by itself: behind it no expression goes on, so the test sees it.
 
 -- behind braces ? or a . that begins no ..
-abbrev goes_there : Look
+abbrev pub goes_there : Look
 goes_there = marks "?" or (no (marks "..") then marks ".")
 
 abbrev Dotted : List Token → Type 0
@@ -64,7 +64,7 @@ unfolding back
 question_goes Apart ts = (ExprTry, refl, refl)
 question_goes Joint ts = (ExprTry, refl, refl)
 
-past_no : (l m : Look) (ts : List Token) → sees m ts ≡ false → sees (no l then m) ts ≡ false
+pub past_no : (l m : Look) (ts : List Token) → sees m ts ≡ false → sees (no l then m) ts ≡ false
 past_no l m ts e = go (sees l ts)
   where
     go : (b : Bool) → seen (behind (cond b None (Some ts)) m) ≡ false

@@ -8,11 +8,11 @@ use Rattle.proc_macro2.specs.Token.{Token, Ident}
 use Rattle.proc_macro2.specs.declared.delimiter.Delimiter.TheVariants.{Parenthesis}
 use Rattle.syn_grammar.specs.Kind.{Kind, AType, AnImpl, AnItem, ImplGenerics, ImplItems, InFile, InnerAttributes}
 use Rattle.syn_grammar.specs.Kind.{ItemMacro, Visibility, Where, WithPlus}
-use Rattle.syn_grammar.specs.Name.{Part, same_part, the_const, the_default, the_first, the_generics, the_item}
-use Rattle.syn_grammar.specs.Name.{the_polarity, the_pub, the_safety, the_self, the_visibility, the_where}
+use Rattle.syn_grammar.specs.Name.{Part, same_part, the_const, the_default, the_first, the_generics}
+use Rattle.syn_grammar.specs.Name.{the_polarity, the_pub, the_safety, the_self, the_where}
 use Rattle.syn_grammar.specs.Words.{is_ident, is_name, is_path_keyword, is_reserved, is_string, same_text}
 use Rattle.syn_grammar.specs.Tree.{Tree, AMark, AWord, Called, First, Nil, Node, Pair, Second, Verbatim, flat}
-use Rattle.syn_grammar.specs.Part.{choice, found, has, is_some, or_else, the}
+use Rattle.syn_grammar.specs.Part.{choice, found, has, is_some, or_else}
 use Rattle.syn_grammar.specs.Gram.{Gram, Verdict, AsRaw, alt, ref, never as none}
 use Rattle.syn_grammar.specs.Look.{Look, ◌then◌, ◌or◌, a_group, a_path, a_quoted, a_word, all_attributes, an_ident}
 use Rattle.syn_grammar.specs.Look.{behind, first_seen}
@@ -21,7 +21,7 @@ use Rattle.syn_grammar.specs.Say.{◌∶◌, ◌▸◌, at, brace, in_braces, ke
 use Rattle.syn_grammar.specs.Items.{is_impl, signature_stands, trait_stands}
 use Rattle.syn_grammar.specs.Lists.{item_form, macro_stands}
 use Rattle.syn_grammar.specs.Statements.{item_stands, macro_item_stands}
-use Rattle.syn_grammar.specs.Verdicts.{form_in_file, is_public, item_verdict, refused_if}
+use Rattle.syn_grammar.specs.Verdicts.{form_in_file, item_verdict, refused_if}
 use Rattle.syn_grammar.specs.Types.{kept_if}
 use Rattle.syn_grammar.specs.Table.{table}
 use Rattle.syn_grammar.specs.Derives.{Derives}
@@ -35,6 +35,7 @@ use Rattle.grammar_back.proofs.Seconds.{either_seen, front_seen}
 use Rattle.grammar_back.proofs.WholeItems.{whole_item}
 use Rattle.read_back.proofs.Judged.{lacks_part, no_part}
 use Rattle.read_back.proofs.Paths.{one_more}
+use Rattle.read_back.proofs.ToldParts.{of_whole, public_none}
 use Rattle.read_back.proofs.ToldPaths.{call_behind}
 
 -- No path begins with a word that is no name; and where a word stands behind the first one, no ! does.
@@ -257,22 +258,6 @@ whole_named (Pair o (Pair _ i)) r d e = absurd d.1.0
 whole_named (Pair o _) r d e = absurd d.1
 whole_named _ r d e = absurd d
 
--- its parts
-abbrev parts : Kind → Tree → Part → Kind → Tree → Part → Tree → Tree
-parts l p n k v m i = Pair (Node l p) (Pair (Called n (Node k v)) (Called m i))
-
-item_is : (l : Kind) (p : Tree) (n : Part) (k : Kind) (v : Tree) (m : Part) (i : Tree) → n ≡ the_visibility
-    → m ≡ the_item → the the_item (parts l p n k v m i) ≡ i
-unfolding same_part
-item_is l p n k v m i e f =
-    ap (λ j. the the_item (parts l p j k v m i)) e ∙ ap (λ j. the the_item (parts l p the_visibility k v j i)) f
-
-visible_is : (l : Kind) (p : Tree) (n : Part) (k : Kind) (v : Tree) (m : Part) (i : Tree) → n ≡ the_visibility
-    → k ≡ Visibility → is_public (the the_visibility (parts l p n k v m i)) ≡ has the_pub v
-unfolding same_part
-visible_is l p n k v m i e f =
-    ap (λ j. is_public (the the_visibility (parts l p j k v m i))) e ∙ ap (λ j. is_public (Node j v)) f
-
 -- no macro is kept as tokens
 no_raw_macro : (v : Bool) (z : Tree) → form_in_file v z ≡ AsRaw → is_no_macro z ≡ true
 no_raw_macro true (Node (ItemMacro p) y) e = cc e
@@ -283,19 +268,12 @@ macro_named : (z : Tree) → is_named_macro z ≡ true → is_no_macro z ≡ fal
 macro_named (Node (ItemMacro p) y) e = refl
 macro_named _ e = absurd (never e)
 
-of_whole : (l : Kind) (p : Tree) (n : Part) (k : Kind) (v : Tree) (m : Part) (i : Tree) → n ≡ the_visibility
-    → m ≡ the_item → k ≡ Visibility → item_verdict InFile (parts l p n k v m i) ≡ AsRaw
-    → form_in_file (has the_pub v) (choice i) ≡ AsRaw
-of_whole l p n k v m i e f g h =
-    sym (ap (λ b. form_in_file b (choice (the the_item (parts l p n k v m i)))) (visible_is l p n k v m i e g)
-    ∙ ap (λ z. form_in_file (has the_pub v) (choice z)) (item_is l p n k v m i e f)) ∙ h
-
 raw_unnamed : (x : Tree) (r : List Token) → Derives x whole_item r → item_verdict InFile x ≡ AsRaw
     → is_macro_item (Node AnItem (First x)) ≡ true → ⊥
 raw_unnamed (Pair (Node l p) (Pair (Called n (Node k v)) (Called m i))) r d e h =
     let c = both_true (not (is_there v)) (is_named_macro (choice i)) h in
     never (sym (macro_named (choice i) c.1)
-    ∙ no_raw_macro (has the_pub v) (choice i) (of_whole l p n k v m i d.1.0.0 d.1.1.0 d.1.0.1.0 e))
+    ∙ no_raw_macro (has the_pub v) (choice i) (of_whole l p n k v m i AsRaw d.1.0.0 d.1.1.0 d.1.0.1.0 e))
 raw_unnamed (Pair (Node l p) (Pair (Called n (Node k v)) _)) r d e h = d.1.1
 raw_unnamed (Pair (Node l p) (Pair (Called n _) i)) r d e h = d.1.0.1
 raw_unnamed (Pair (Node l p) (Pair _ i)) r d e h = d.1.0
@@ -316,18 +294,7 @@ named_told (Node k x) r d e = named_in k x r (subst (λ j. Derives x (table j) r
 named_told _ r d e = absurd d
 
 -- An impl that is kept as tokens, by the words in front of it: behind default stands const only behind pub.
-public_none : (v : Tree) (r : List Token) → Derives v (table Visibility) r → has the_pub v ≡ false → flat v ≡ []
-unfolding table same_part
-public_none (First (Pair (Called m z) y)) r d e =
-    absurd (never (sym e ∙ ap (λ j. is_some (or_else (cond (same_part j the_pub) (Some z) None)
-    (found the_pub y))) d.1.0.0))
-public_none (First (Pair _ y)) r d e = absurd d.1.0
-public_none (First _) r d e = absurd d.1
-public_none (Second Nil) r d e = refl
-public_none (Second _) r d e = absurd d.1
-public_none _ r d e = absurd d
-
--- default and const in front of an impl: with neither of them there is nothing to show
+-- With neither of them there is nothing to show.
 abbrev default_front : Gram
 default_front = optional (at "default") (the_default ∶ keyword "default")
 
@@ -435,7 +402,7 @@ raw_in : (x : Tree) (r : List Token) → Derives x whole_item r → item_verdict
     → sees (all_attributes then item_stands) (flat x ++ r) ≡ true → is_statement_item (Verbatim x) ≡ true
 raw_in (Pair (Node l p) (Pair (Called n (Node k v)) (Called m i))) r d e h =
     let w : form_in_file (has the_pub v) (choice i) ≡ AsRaw =
-    of_whole l p n k v m i d.1.0.0 d.1.1.0 d.1.0.1.0 e in
+    of_whole l p n k v m i AsRaw d.1.0.0 d.1.1.0 d.1.0.1.0 e in
     let b : sees item_stands ((flat v ++ flat i) ++ r) ≡ true =
     sym (behind_attributes (Node l p) (Pair (Called n (Node k v)) (Called m i)) item_stands r _ d.0 refl) ∙ h in
     both_same (is_no_macro (choice i)) (is_begun (choice i)) true true (no_raw_macro (has the_pub v) (choice i) w)

@@ -1,5 +1,5 @@
--- Each entry refers to kinds that have a step, and each form is of a kind that has one: so only the kind of a whole tree
--- is to be asked.
+-- Each entry refers to kinds that have a step, and each form is of a kind that has one: so only the kind of a whole
+-- tree is to be asked.
 use Rattle.std.proofs.Common.{◌≡◌, List, refl}
 use Rattle.std.specs.Prelude.{Bool, true, ◌&&◌, Some}
 use Rattle.proc_macro2.specs.Token.{Token}

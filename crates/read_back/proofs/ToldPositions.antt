@@ -1,4 +1,4 @@
--- An expression that was read in a position is read back there where it is as is asked.
+-- An expression that was read in a position is read back there.
 use Rattle.std.proofs.Common.{◌≡◌, List, ◌++◌}
 use Rattle.std.specs.Prelude.{true}
 use Rattle.proc_macro2.specs.Token.{Token}
@@ -13,30 +13,29 @@ use Rattle.syn_grammar.specs.Normal.{normal_in}
 use Rattle.syn_grammar.specs.Read.{IsRead}
 use Rattle.expressions_back.specs.Behind.{MayFollow}
 use Rattle.grammar_back.specs.After.{EndsThere}
-use Rattle.read_back.specs.Asked.{all_asked}
 use Rattle.read_back.proofs.Positions as Positions
 use Rattle.read_back.proofs.Told.{expression_covered}
 
 pub read_in_position : (p : Position) (x : Tree) (r s : List Token)
     → Derives (Node (Expression p) (Whole x)) (ref (Expression p)) r → (p ≡ InCondition → sees brace r ≡ true)
-    → all_asked x ≡ true → MayFollow p s
+    → MayFollow p s
     → IsRead (Expression p) (flat (normal_in p (kept (Node (Expression p) (Whole x)))) ++ s)
     (normal_in p (kept (Node (Expression p) (Whole x)))) s
-read_in_position p x r s d b c m = Positions.read_in_position p x r s d b (expression_covered p x r d c) m
+read_in_position p x r s d b m = Positions.read_in_position p x r s d b (expression_covered p x r d) m
 
 pub read_ended : (p : Position) (x : Tree) (r s : List Token)
-    → Derives (Node (Expression p) (Whole x)) (ref (Expression p)) r → all_asked x ≡ true
+    → Derives (Node (Expression p) (Whole x)) (ref (Expression p)) r
     → EndsThere p (normal_in p (kept (Node (Expression p) (Whole x)))) s
     → IsRead (Expression p) (flat (normal_in p (kept (Node (Expression p) (Whole x)))) ++ s)
     (normal_in p (kept (Node (Expression p) (Whole x)))) s
-read_ended p x r s d c e = Positions.read_ended_in p x r s d (expression_covered p x r d c) e
+read_ended p x r s d e = Positions.read_ended_in p x r s d (expression_covered p x r d) e
 
 pub same_in_position : (p : Position) (x y : Tree) (r q s : List Token)
     → Derives (Node (Expression p) (Whole x)) (ref (Expression p)) r → (p ≡ InCondition → sees brace r ≡ true)
-    → all_asked x ≡ true → Derives (Node (Expression p) (Whole y)) (ref (Expression p)) q
-    → (p ≡ InCondition → sees brace q ≡ true) → all_asked y ≡ true → MayFollow p s
+    → Derives (Node (Expression p) (Whole y)) (ref (Expression p)) q → (p ≡ InCondition → sees brace q ≡ true)
+    → MayFollow p s
     → flat (normal_in p (kept (Node (Expression p) (Whole x))))
     ≡ flat (normal_in p (kept (Node (Expression p) (Whole y))))
     → normal_in p (kept (Node (Expression p) (Whole x))) ≡ normal_in p (kept (Node (Expression p) (Whole y)))
-same_in_position p x y r q s d a c e b f m h =
-    Positions.same_in_position p x y r q s d a (expression_covered p x r d c) e b (expression_covered p y q e f) m h
+same_in_position p x y r q s d a e b m h =
+    Positions.same_in_position p x y r q s d a (expression_covered p x r d) e b (expression_covered p y q e) m h

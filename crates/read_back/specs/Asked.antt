@@ -6,49 +6,20 @@ use Rattle.syn_grammar.specs.Kind.{OnePattern, Pattern, ReferencePattern, Severa
 use Rattle.syn_grammar.specs.Tree.{Tree, Pair, First, Second, Again, Final, More, Group, Dropped, Called, Verbatim}
 use Rattle.syn_grammar.specs.Tree.{Node, Whole, Alone, Front, Back, Infix}
 use Rattle.syn_grammar.specs.Part.{choice}
-use Rattle.grammar_back.specs.Covered.{has_lone_value, has_own_trait, is_known, is_lone, is_no_macro, item_of}
+use Rattle.grammar_back.specs.Covered.{has_lone_value, has_own_trait, is_known, is_lone, is_no_call, item_of}
 use Rattle.grammar_back.specs.Covered.{stands_alone}
 
--- Of a statement: a macro crate!, which is an item there by its first word, is not covered yet. The tests saw the rest.
-abbrev pub is_asked_form : Tree → Bool
-is_asked_form (Second (Second (Second (First (Node k (First x)))))) = is_no_macro (choice (item_of x))
-is_asked_form x = true
-
--- Of what else stands in a tree nothing is asked: an item that is kept was judged, an identifier alone is no path pattern
--- but before .. .
-abbrev pub is_asked : Kind → Tree → Bool
-is_asked AStatement x = is_asked_form x
-is_asked k x = true
-
--- Each node that a tree holds is as is asked of its kind; nothing is asked of what is kept as tokens.
-abbrev pub all_nodes : (Kind → Tree → Bool) → Tree → Bool
-all_nodes node (Pair x y) = all_nodes node x && all_nodes node y
-all_nodes node (First x) = all_nodes node x
-all_nodes node (Second x) = all_nodes node x
-all_nodes node (Again x y) = all_nodes node x && all_nodes node y
-all_nodes node (Final x) = all_nodes node x
-all_nodes node (More x c spacing y) = all_nodes node x && all_nodes node y
-all_nodes node (Group d x) = all_nodes node x
-all_nodes node (Dropped x) = all_nodes node x
-all_nodes node (Called n x) = all_nodes node x
-all_nodes node (Verbatim x) = true
-all_nodes node (Node k x) = node k x && all_nodes node x
-all_nodes node (Whole x) = all_nodes node x
-all_nodes node (Alone k y) = all_nodes node y
-all_nodes node (Front k y x) = all_nodes node y && all_nodes node x
-all_nodes node (Back l k y) = all_nodes node l && all_nodes node y
-all_nodes node (Infix l k y r) = all_nodes node y && (all_nodes node l && all_nodes node r)
-all_nodes node _ = true
-
--- All that a tree holds is as is asked of it.
-abbrev pub all_asked : Tree → Bool
-all_asked x = all_nodes is_asked x
-
 -- Of a tree by itself: a constant has no where clause behind a value, and what an impl implements is a path. As an item
--- among others it would be raw.
+-- among others it would be raw. An item that is a statement is no macro crate! in braces: it is one only before . and
+-- ? , and among other statements none of these stands behind it.
+abbrev pub is_asked_statement : Tree → Bool
+is_asked_statement (Second (Second (Second (First (Node k (First x)))))) = is_no_call (choice (item_of x))
+is_asked_statement x = true
+
 abbrev pub is_asked_alone : Tree → Bool
 is_asked_alone (Node AConst x) = has_lone_value x
 is_asked_alone (Node AnImpl x) = has_own_trait x
+is_asked_alone (Node AStatement x) = is_asked_statement x
 is_asked_alone _ = true
 
 -- the kinds that may end in a pattern
@@ -68,7 +39,23 @@ is_no_lone OnePattern x = not (is_lone (choice x))
 is_no_lone k x = true
 
 abbrev pub no_lone : Tree → Bool
-no_lone x = all_nodes is_no_lone x
+no_lone (Pair x y) = no_lone x && no_lone y
+no_lone (First x) = no_lone x
+no_lone (Second x) = no_lone x
+no_lone (Again x y) = no_lone x && no_lone y
+no_lone (Final x) = no_lone x
+no_lone (More x c spacing y) = no_lone x && no_lone y
+no_lone (Group d x) = no_lone x
+no_lone (Dropped x) = no_lone x
+no_lone (Called n x) = no_lone x
+no_lone (Verbatim x) = true
+no_lone (Node k x) = is_no_lone k x && no_lone x
+no_lone (Whole x) = no_lone x
+no_lone (Alone k y) = no_lone y
+no_lone (Front k y x) = no_lone y && no_lone x
+no_lone (Back l k y) = no_lone l && no_lone y
+no_lone (Infix l k y r) = no_lone y && (no_lone l && no_lone r)
+no_lone _ = true
 
 -- A kind that ends in a pattern may stand before .., by itself alone.
 abbrev pub ends_alone : Tree → Bool
@@ -80,6 +67,6 @@ abbrev pub is_known_alone : Tree → Bool
 is_known_alone (Node k x) = is_known k
 is_known_alone x = false
 
--- of a tree that stands by itself, and of all that it holds
+-- So it is asked of a tree that stands by itself; of what stands in it nothing is asked.
 abbrev pub is_covered : Tree → Bool
-is_covered x = stands_alone x && (is_known_alone x && (is_asked_alone x && (ends_alone x && all_asked x)))
+is_covered x = stands_alone x && (is_known_alone x && (is_asked_alone x && ends_alone x))
