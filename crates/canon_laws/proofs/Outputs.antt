@@ -1,4 +1,4 @@
--- Outputs: the text of a normal form has its tokens, and is read as its own output where it is read back.
+-- Outputs: the text of a normal form has its tokens, and is read as its own output.
 use Rattle.std.proofs.Common.{◌≡◌, ℕ, List, [], ◌∷◌, ◌++◌, refl, sym, ap, ◌∙◌, subst}
 use Rattle.std.specs.Prelude.{true, ◌↔◌}
 use Rattle.std.proofs.lemmas.List.{append-nil}
@@ -21,8 +21,8 @@ use Rattle.syn_grammar.specs.Read.{IsRead}
 use Rattle.syn_grammar.specs.Tree.{Tree, flat}
 use Rattle.syn_grammar.proofs.Settled as settled
 use Rattle.grammar_back.specs.After.{After}
-use Rattle.read_back.specs.Asked.{is_covered}
 use Rattle.read_back.proofs.ReadBack as back
+use Rattle.read_back.proofs.Told.{file_covered}
 use Rattle.canon_laws.specs.Program.{IsProgram, IsOutput, written}
 use Rattle.canon_laws.proofs.Leaves.{Good, IsWithin, good, good_normal, leaves, matching}
 use Rattle.canon_laws.proofs.Programs.{normal_spaced, same_tokens}
@@ -71,13 +71,13 @@ output_tokens text t a p =
 at_end : (x : Tree) → After AFile x []
 at_end x = (refl, (refl, tt))
 
--- where it is read back, it has a program, of which the normal form is kept
-pub output_program : (text : List ℕ) (t : Tree) → AreCharacters text → IsProgram text t → is_covered t ≡ true
+-- it has a program, of which the normal form is kept
+pub output_program : (text : List ℕ) (t : Tree) → AreCharacters text → IsProgram text t
     → (u : Tree) × IsProgram (written t) u × (kept u ≡ normal (kept t))
-output_program text t a p c =
+output_program text t a p =
     let (read, forest, same) = output_tokens text t a p in
     let r : IsRead AFile (flat (normal (kept t)) ++ []) (normal (kept t)) [] =
-    back.read_back AFile t [] [] p.file.derived c (at_end (normal (kept t))) in (
+    back.read_back AFile t [] [] p.file.derived (file_covered t [] p.file.derived) (at_end (normal (kept t))) in (
       r.tree,
       record {
         tokens = read;
@@ -90,10 +90,9 @@ output_program text t a p c =
       r.kept_is,
     )
 
-pub fixed : (text output : List ℕ) → AreCharacters text → (o : IsOutput text output) → is_covered o.tree ≡ true
-    → IsOutput output output
-fixed text output a o c =
-    let (u, p, e) = output_program text o.tree a o.program c in record {
+pub fixed : (text output : List ℕ) → AreCharacters text → IsOutput text output → IsOutput output output
+fixed text output a o =
+    let (u, p, e) = output_program text o.tree a o.program in record {
       tree = u;
       program = subst (λ (cs : List ℕ). IsProgram cs u) (sym o.is) p;
       is = o.is ∙ sym (ap (λ (x : Tree). printed.text (flat (normal x))) e
@@ -113,10 +112,10 @@ pub one_text : (a b : List ℕ) (t u : Tree) → AreCharacters a → AreCharacte
 one_text a b t u c d p q = (same_output a b t u c d p q, ap printed.text)
 
 pub one_form : (a b : List ℕ) (t u : Tree) → AreCharacters a → AreCharacters b → IsProgram a t → IsProgram b u
-    → is_covered t ≡ true → is_covered u ≡ true → (written t ≡ written u) ↔ (normal (kept t) ≡ normal (kept u))
-one_form a b t u c d p q v w = (
-  λ e. back.same_tokens AFile t u [] [] [] p.file.derived q.file.derived v w (at_end (normal (kept t)))
-      (at_end (normal (kept u)))
+    → (written t ≡ written u) ↔ (normal (kept t) ≡ normal (kept u))
+one_form a b t u c d p q = (
+  λ e. back.same_tokens AFile t u [] [] [] p.file.derived q.file.derived (file_covered t [] p.file.derived)
+      (file_covered u [] q.file.derived) (at_end (normal (kept t))) (at_end (normal (kept u)))
       (same_output a b t u c d p q e),
   ap (λ (x : Tree). printed.text (flat x)),
 )

@@ -7,10 +7,9 @@ ghost use Rattle.canon_laws.specs.Stands.{AllStandIn};
 ghost use Rattle.proc_macro2.specs.Forest.{IsForest, IsLexicalFault};
 ghost use Rattle.proc_macro2.specs.Spacing.{IsWellSpaced};
 ghost use Rattle.proc_macro2.specs.Token.{Spanned, Token, plain};
-ghost use Rattle.read_back.specs.Asked.{is_covered};
 ghost use Rattle.rust_leaf.specs.Leaf.{AreCharacters};
 ghost use Rattle.rust_map.specs.declared.place.LineColumn.{LineColumn};
-ghost use Rattle.std.specs.Prelude.{ℕ, ◌≡◌, ◌⊎◌, ◌↔◌, true, List, [], Option, None};
+ghost use Rattle.std.specs.Prelude.{ℕ, ◌≡◌, ◌⊎◌, ◌↔◌, List, [], Option, None};
 ghost use Rattle.syn_grammar.specs.Kept.{kept};
 ghost use Rattle.syn_grammar.specs.Kind.{AFile};
 ghost use Rattle.syn_grammar.specs.Names.{names};
@@ -57,23 +56,21 @@ pub fn one_output_for_the_same_tokens()
         (written t ≡ written u) ↔ (flat (normal (kept t)) ≡ flat (normal (kept u))) }
 {}
 
-/// An output is accepted, and is its own output: where the program is covered, so that its normal form is read back.
+/// An output is accepted, and is its own output.
 pub fn output_is_fixed()
-    ensures { (text output : List ℕ) → AreCharacters text → (o : IsOutput text output) → is_covered o.tree ≡ true
-        → IsOutput output output }
+    ensures { (text output : List ℕ) → AreCharacters text → IsOutput text output → IsOutput output output }
 {}
 
-/// The syntax tree of an output is the normal form of the one that was written, where the program is covered.
+/// The syntax tree of an output is the normal form of the one that was written.
 pub fn output_has_normal_form()
-    ensures { (text : List ℕ) (t : Tree) → AreCharacters text → IsProgram text t → is_covered t ≡ true
+    ensures { (text : List ℕ) (t : Tree) → AreCharacters text → IsProgram text t
         → (u : Tree) × IsProgram (written t) u × (kept u ≡ normal (kept t)) }
 {}
 
-/// Two accepted texts have one output exactly if their syntax trees have the same normal form, where their programs
-/// are covered.
+/// Two accepted texts have one output exactly if their syntax trees have the same normal form.
 pub fn one_output_for_one_form()
     ensures { (a b : List ℕ) (t u : Tree) → AreCharacters a → AreCharacters b → IsProgram a t → IsProgram b u →
-        is_covered t ≡ true → is_covered u ≡ true → (written t ≡ written u) ↔ (normal (kept t) ≡ normal (kept u)) }
+        (written t ≡ written u) ↔ (normal (kept t) ≡ normal (kept u)) }
 {}
 
 /// A text that is at fault has no program.
