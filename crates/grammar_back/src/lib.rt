@@ -1,10 +1,10 @@
 //! Normal forms are read back: the tokens of the normal form of a derived tree have a derived tree, of which that
-//! normal form is kept. It is proved of trees that are covered: that hold no kind whose step is not proved yet; and
-//! where what is to be known of expressions is (`Expressions`), which the crate `read_back` proves. There the laws
-//! stand. There is no code.
+//! normal form is kept. It is proved of trees that are covered (which those that were read are, as the crate
+//! `read_back` shows), where what is to be known of expressions is (`Expressions`), which that crate proves too. There
+//! the laws stand. There is no code.
 //!
-//! In `specs/`: `After` (what may follow a kind), `Covered` (the kinds whose steps are proved, and the trees that
-//! hold no others).
+//! In `specs/`: `After` (what may follow a kind), `Covered` (the kinds whose steps are proved, and what the steps go
+//! by).
 //!
 //! The proof goes shape first. `Fits` says that a tree has the form of its entry, whatever the tests say, as it is
 //! printed; of a test that no shape shows, it has what was said (`IsMeant`). `Printed`: for each derived tree there is
