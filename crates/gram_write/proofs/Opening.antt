@@ -2,6 +2,7 @@
 use Rattle.std.specs.Prelude.{◌≡◌, Bool, true, false, cond, not, nat_eq, ◌&&◌, ◌||◌, List, [], ◌∷◌, Option, Some}
 use Rattle.std.specs.Prelude.{None, length, refl}
 use Rattle.std.proofs.Common.{ap, ◌∙◌, sym, arith}
+use Rattle.std.proofs.lemmas.Bool.{false≢true}
 use Rattle.syn_grammar.specs.Kind.{Kind, ExprCast, AStatement, OuterAttributes, Expression}
 use Rattle.syn_grammar.specs.Name.{the_attributes, the_expression}
 use Rattle.syn_grammar.specs.Forms.{level}
@@ -61,10 +62,10 @@ pub ruleset giving = (given_some, given_none)
 -- behind what stands before a statement's expression
 pub behind_given : (a x : Tree) → has_attributes a ≡ true → opens_given x ≡ opens_behind a x
 behind_given (t.Node OuterAttributes (t.Again y z)) x e = refl
-behind_given a x e = cc
+behind_given a x e = absurd (false≢true e)
 
 pub behind_plain : (a x : Tree) → has_attributes a ≡ false → opens x ≡ opens_behind a x
-behind_plain (t.Node OuterAttributes (t.Again y z)) x e = cc
+behind_plain (t.Node OuterAttributes (t.Again y z)) x e = absurd (false≢true (sym e))
 behind_plain a x e = refl
 
 pub ruleset behind = (behind_given, behind_plain)
@@ -75,7 +76,7 @@ statement_some x a z s e = ap opens_statement (sym (stated_is x a z s e).1)
 
 pub statement_none : (x : Tree) → None ≡ stated_of x → false ≡ opens_statement x
 statement_none (t.Second (t.Second (t.Second (t.Second (t.Pair (t.Called the_attributes a)
-    (t.Pair (t.Called the_expression (t.Node (Expression p) (t.Whole y))) u)))))) e = cc
+    (t.Pair (t.Called the_expression (t.Node (Expression p) (t.Whole y))) u)))))) e = absurd (some_none (a, y, u) (sym e))
 statement_none x e = refl
 
 pub ruleset stating = (statement_some, statement_none)

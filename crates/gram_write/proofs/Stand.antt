@@ -2,6 +2,7 @@
 use Rattle.std.proofs.Common.{◌≡◌, List, [], ◌∷◌, ◌++◌, refl, sym, ap, ◌∙◌, append_assoc}
 use Rattle.std.specs.Prelude.{Bool, true, false, ◌&&◌, cond}
 use Rattle.std.proofs.lemmas.List.{append-nil}
+use Rattle.std.proofs.lemmas.Bool.{false≢true}
 use Rattle.proc_macro2.specs.Token.{Token, Opens, Closes}
 use Rattle.syn_grammar.specs.Kind.{Kind, Position, Plain, InStatement, Expression, AStatement, OuterAttributes, Where}
 use Rattle.syn_grammar.specs.Kind.{ExprMacro, ATypeAlias, AnImpl, ImplGenerics, Place}
@@ -79,14 +80,14 @@ macro_own (Alone k y) b e = refl
 macro_own (Back l k y) b e =
     dotted_is (λ z. (is_macro z && b) ≡ true → flat (normal_in Plain (own_part z)) ≡ flat (shelled z)) (λ l k y e. cc)
     (kept l) k (kept y) e
-macro_own _ b e = cc
+macro_own _ b e = absurd (false≢true e)
 
 macro_given : (a x : Tree) (b : Bool) → (is_macro x && b) ≡ true
     → flat (shelled (attributed a x)) ≡ flat (normal_in Plain a) ++ flat (shelled x)
 unfolding level
 macro_given a (Alone ExprMacro y) b e = refl
-macro_given a (Alone k y) b e = cc
-macro_given a _ b e = cc
+macro_given a (Alone k y) b e = absurd (false≢true e)
+macro_given a _ b e = absurd (false≢true e)
 
 macro_behind : (a z : Tree) (b : Bool) → (is_macro (kept z) && b) ≡ true → IsFormed Plain a → GainsGiven a z
     → said Plain a ++ said_form z ≡ behind_said a z
@@ -184,7 +185,7 @@ absent_inner : (n : Part) (p : Position) (x : Tree) → IsFormed p (Node Where x
     → is_absent (Called n (Node Where (normal_in p (kept x)))) ≡ true → flat (normal_in p (kept x)) ≡ []
 absent_inner n p (Second x) h e = ap (λ z. flat (normal_in p (kept z))) h
 absent_inner n p (Back l k y) h e = absurd h
-absent_inner n p _ h e = cc
+absent_inner n p _ h e = absurd (false≢true e)
 
 absent_node : (n : Part) (k : Kind) (x : Tree) → IsFormed Plain (Node k x)
     → is_absent (Called n (normal_in (place_of n) (kept (Node k x)))) ≡ true
@@ -192,7 +193,7 @@ absent_node : (n : Part) (k : Kind) (x : Tree) → IsFormed Plain (Node k x)
 unfolding held passed
 absent_node n Where x h e =
     absent_if (is_bare_where (normal_in Plain (kept x))) n (normal_in Plain (kept x)) (absent_inner n Plain x h) e
-absent_node n k x h e = cc
+absent_node n k x h e = absurd (false≢true e)
 
 plain_where : (p : Position) (k : Kind) (x : Tree) → IsFormed p (Node Where x) → IsFormed Plain (Node Where x)
 unfolding passed
@@ -203,15 +204,15 @@ absent_part : (n : Part) (x : Tree) → IsFormed (place_of n) x
     → is_absent (Called n (normal_in (place_of n) (kept x))) ≡ true → flat (normal_in (place_of n) (kept x)) ≡ []
 unfolding held
 absent_part n (Node Where x) h e = absent_node n Where x (plain_where (place_of n) Where x h) e
-absent_part n (Node _ x) h e = cc
+absent_part n (Node _ x) h e = absurd (false≢true e)
 absent_part n (Back l k y) h e = absurd h
-absent_part n _ h e = cc
+absent_part n _ h e = absurd (false≢true e)
 
 absent_said : (p : Position) (x : Tree) → IsFormed p x → is_absent (normal_in p (kept x)) ≡ true
     → flat (normal_in p (kept x)) ≡ []
 absent_said p (Called n x) h e = absent_part n x h e
 absent_said p (Back l k y) h e = absurd h
-absent_said p _ h e = cc
+absent_said p _ h e = absurd (false≢true e)
 
 -- so it is moved in silence
 moved_pair : (b : Bool) (w d : Tree) → (b ≡ true → flat w ≡ [])

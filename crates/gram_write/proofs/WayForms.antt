@@ -24,25 +24,27 @@ use Rattle.gram_write.specs.Seen.{text_of_literal}
 use Rattle.gram_write.proofs.SeenForms.{last_is, pair_is, some_none}
 
 -- a number by itself
+literal_is : (x : Tree) (cs : List ℕ) → Some cs ≡ text_of_literal x → x ≡ t.ALiteral cs
+literal_is (t.ALiteral ds) cs e = let s : ds ≡ cs = cc in ap t.ALiteral s
+literal_is x cs e = absurd (some_none cs e)
+
 pub index_none : (x : Tree) → None ≡ text_of_literal x → laid x ≡ laid (t.Node Index x)
-index_none (t.ALiteral cs) e = cc
+index_none (t.ALiteral cs) e = absurd (some_none cs (sym e))
 index_none x e = refl
 
 pub index_some : (x : Tree) (cs : List ℕ) → Some cs ≡ text_of_literal x
     → Literal (plain_decimal cs) ∷ [] ≡ laid (t.Node Index x)
-index_some (t.ALiteral ds) cs e = let s : cs ≡ ds = cc in ap (λ es. Literal (plain_decimal es) ∷ []) s
-index_some x cs e = cc
+index_some x cs e = ap (λ z. laid (t.Node Index z)) (sym (literal_is x cs e))
 
 pub ruleset numbers = (index_none, index_some)
 
 -- a member
 number_member : (y : Tree) (cs : List ℕ) → Some cs ≡ text_of_literal y
     → Literal (plain_decimal cs) ∷ [] ≡ laid (t.Node Member (t.Second y))
-number_member (t.ALiteral ds) cs e = let s : cs ≡ ds = cc in ap (λ es. Literal (plain_decimal es) ∷ []) s
-number_member y cs e = cc
+number_member y cs e = ap (λ z. laid (t.Node Member (t.Second z))) (sym (literal_is y cs e))
 
 plain_member : (y : Tree) → None ≡ text_of_literal y → laid (t.Second y) ≡ laid (t.Node Member (t.Second y))
-plain_member (t.ALiteral cs) e = cc
+plain_member (t.ALiteral cs) e = absurd (some_none cs (sym e))
 plain_member y e = refl
 
 pub member_number : (x y : Tree) (cs : List ℕ) → Some y ≡ last_of x → Some cs ≡ text_of_literal y
@@ -167,15 +169,15 @@ own_plain ExprAwait x e = absurd (false≢true (sym e))
 own_plain k x e = refl
 
 field_undotted : (x : Tree) → None ≡ dotted_of x → behind_laid ExprField x ≡ laid x
-field_undotted (t.Pair (t.Pair d (t.Called the_indices y)) z) e = cc
+field_undotted (t.Pair (t.Pair d (t.Called the_indices y)) z) e = absurd (some_none (d, y, z) (sym e))
 field_undotted x e = refl
 
 call_undotted : (x : Tree) → None ≡ dotted_of x → behind_laid ExprMethodCall x ≡ laid x
-call_undotted (t.Pair (t.Pair d (t.Called the_indices y)) z) e = cc
+call_undotted (t.Pair (t.Pair d (t.Called the_indices y)) z) e = absurd (some_none (d, y, z) (sym e))
 call_undotted x e = refl
 
 await_undotted : (x : Tree) → None ≡ dotted_of x → behind_laid ExprAwait x ≡ laid x
-await_undotted (t.Pair (t.Pair d (t.Called the_indices y)) z) e = cc
+await_undotted (t.Pair (t.Pair d (t.Called the_indices y)) z) e = absurd (some_none (d, y, z) (sym e))
 await_undotted x e = refl
 
 pub own_undotted : (k : Kind) (x : Tree) → is_dotted k ≡ true → None ≡ dotted_of x → behind_laid k x ≡ laid x
@@ -202,11 +204,11 @@ field_number : (d y z : Tree) (cs : List ℕ) → Some cs ≡ last_text ExprFiel
     → behind_laid ExprField (t.Pair (t.Pair d (t.Called the_indices y)) z) ≡ front_fields y ++ fields (indices cs)
 field_number d y (t.Second (t.Called the_value (t.ALiteral ds))) cs e =
     let s : ds ≡ cs = cc in ap (λ es. front_fields y ++ fields (indices es)) s
-field_number d y z cs e = cc
+field_number d y z cs e = absurd (some_none cs e)
 
 field_else : (d y z : Tree) → None ≡ last_text ExprField z
     → behind_laid ExprField (t.Pair (t.Pair d (t.Called the_indices y)) z) ≡ front_fields y ++ (laid d ++ laid z)
-field_else d y (t.Second (t.Called the_value (t.ALiteral ds))) e = cc
+field_else d y (t.Second (t.Called the_value (t.ALiteral ds))) e = absurd (some_none ds (sym e))
 field_else d y z e = refl
 
 pub own_number : (k : Kind) (x d y z : Tree) (cs : List ℕ) → is_dotted k ≡ true → Some (d, y, z) ≡ dotted_of x
@@ -216,7 +218,7 @@ own_number k x d y z cs e h =
     (sym (dotted_is x d y z h))
     (dotted_by (λ j. Some cs ≡ last_text j z
     → behind_laid j (t.Pair (t.Pair d (t.Called the_indices y)) z) ≡ front_fields y ++ fields (indices cs))
-    (field_number d y z cs) (λ f. cc) (λ f. cc) k e)
+    (field_number d y z cs) (λ f. absurd (some_none cs f)) (λ f. absurd (some_none cs f)) k e)
 
 pub own_else : (k : Kind) (x d y z : Tree) → is_dotted k ≡ true → Some (d, y, z) ≡ dotted_of x
     → None ≡ last_text k z → behind_laid k x ≡ front_fields y ++ (laid d ++ laid z)
