@@ -4,6 +4,7 @@ use Rattle.syn_grammar.specs.Forms.{level}
 use Rattle.gram_table.specs.Kinds.{kind_of}
 use Rattle.gram_write.specs.Operands.{back_of}
 use Rattle.gram_write.proofs.Operands.{giving_back, giving_cast}
+use Rattle.gram_write.proofs.Operands.{givings}
 use Rattle.gram_write.proofs.operand.giving.Goals as goal
 
 pub returns-then-level-eq14 : goal.returns-then-level-eq14
@@ -22,3 +23,12 @@ returns-else-level-eq14 c =
     λ e. c.if-level-eq14.false (c.level-in-Some-back.ensures ∙ e) in
     giving_back c.args.tree.now (kind_of c.in-Some-back.kind) c.in-Some-back.two.now.front c.in-Some-back.two.now.back
     back other
+
+pub returns-then-level-eq3 : goal.returns-then-level-eq3
+returns-then-level-eq3 c = search (rules, givings)
+
+pub returns-else-level-eq3 : goal.returns-else-level-eq3
+returns-else-level-eq3 c = search (rules, givings)
+
+pub returns-in-None-back : goal.returns-in-None-back
+returns-in-None-back c = search (rules, givings)
