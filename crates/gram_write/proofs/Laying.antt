@@ -105,6 +105,25 @@ dotted_below x d y z e =
     let n = ap node_count (dotted_is x d y z e) in
     (omega (arith, n, tree_size d, tree_size x), omega (arith, n, tree_size z, tree_size x))
 
+-- what is left of elements: past one of which nothing is put, and past one that is put with a mark behind it
+module _ (l : List Element → List Token) (es : List Element) (i : ℕ) (x : Element) where
+  next_is : i < length es → x ≡ get_or es i x → l (drop i es) ≡ l (x ∷ drop (i + 1) es)
+  next_is h e = at_drop_more l es i x h ∙ ap (λ y. l (y ∷ drop (i + 1) es)) (sym e)
+
+  skipped : (ts us : List Token) → i < length es → x ≡ get_or es i x
+      → l (x ∷ drop (i + 1) es) ≡ l (drop (i + 1) es) → ts ++ l (drop i es) ≡ us → ts ++ l (drop (i + 1) es) ≡ us
+  skipped ts us h e o w = ap (λ vs. ts ++ vs) (sym (next_is h e ∙ o)) ∙ w
+
+  put_next : (m : Token) (ts us vs ws : List Token) → i < length es → x ≡ get_or es i x
+      → l (x ∷ drop (i + 1) es) ≡ laid x.tree ++ m ∷ l (drop (i + 1) es) → ts ++ l (drop i es) ≡ us
+      → vs ≡ ts ++ laid x.tree → ws ≡ vs ++ m ∷ [] → ws ++ l (drop (i + 1) es) ≡ us
+  put_next m ts us vs ws h e o w f g =
+      ap (λ zs. zs ++ l (drop (i + 1) es)) (g ∙ ap (λ zs. zs ++ m ∷ []) f ∙ append_assoc ts (laid x.tree) (m ∷ []))
+      ∙ append_assoc ts (laid x.tree ++ m ∷ []) (l (drop (i + 1) es))
+      ∙ ap (λ zs. ts ++ zs)
+      (append_assoc (laid x.tree) (m ∷ []) (l (drop (i + 1) es)) ∙ sym (next_is h e ∙ o))
+      ∙ w
+
 -- of a list whose elements come first that pass
 module _ (q : Tree → Bool) where
   abbrev pub lacks : List Element → Bool
@@ -223,30 +242,37 @@ module _ (q : Tree → Bool) where
       (laid x.tree ++ Punct c Apart ∷ others_laid q (laid (elements c es t.End)) (elements c es t.End))) h
       ∙ ap (λ ts. laid x.tree ++ Punct c Apart ∷ ts) (others_open c es)
 
-  next_is : (c : ℕ) (es : List Element) (i : ℕ) (x : Element) → i < length es → x ≡ get_or es i x
-      → others_laid q [] (elements c (drop i es) t.End) ≡ others_laid q [] (elements c (x ∷ drop (i + 1) es) t.End)
-  next_is c es i x h e =
-      at_drop_more (λ ds. others_laid q [] (elements c ds t.End)) es i x h
-      ∙ ap (λ y. others_laid q [] (elements c (y ∷ drop (i + 1) es) t.End)) (sym e)
-
   pub others_skip : (c : ℕ) (es : List Element) (i : ℕ) (x : Element) (ts us : List Token) → i < length es
       → x ≡ get_or es i x → q x.tree ≡ true → ts ++ others_laid q [] (elements c (drop i es) t.End) ≡ us
       → ts ++ others_laid q [] (elements c (drop (i + 1) es) t.End) ≡ us
   others_skip c es i x ts us h e p w =
-      ap (λ vs. ts ++ vs) (sym (next_is c es i x h e ∙ others_passed c (drop (i + 1) es) x p)) ∙ w
+      skipped (λ ds. others_laid q [] (elements c ds t.End)) es i x ts us h e (others_passed c (drop (i + 1) es) x p) w
 
   pub others_next : (c : ℕ) (es : List Element) (i : ℕ) (x : Element) (ts us vs ws : List Token) → i < length es
       → x ≡ get_or es i x → q x.tree ≡ false → ts ++ others_laid q [] (elements c (drop i es) t.End) ≡ us
       → vs ≡ ts ++ laid x.tree → ws ≡ vs ++ Punct c Apart ∷ []
       → ws ++ others_laid q [] (elements c (drop (i + 1) es) t.End) ≡ us
   others_next c es i x ts us vs ws h e p w f g =
-      ap (λ zs. zs ++ others_laid q [] (elements c (drop (i + 1) es) t.End))
-      (g ∙ ap (λ zs. zs ++ Punct c Apart ∷ []) f ∙ append_assoc ts (laid x.tree) (Punct c Apart ∷ []))
-      ∙ append_assoc ts (laid x.tree ++ Punct c Apart ∷ []) (others_laid q [] (elements c (drop (i + 1) es) t.End))
-      ∙ ap (λ zs. ts ++ zs)
-      (append_assoc (laid x.tree) (Punct c Apart ∷ []) (others_laid q [] (elements c (drop (i + 1) es) t.End))
-      ∙ sym (next_is c es i x h e ∙ others_one c (drop (i + 1) es) x p))
-      ∙ w
+      put_next (λ ds. others_laid q [] (elements c ds t.End)) es i x (Punct c Apart) ts us vs ws h e
+      (others_one c (drop (i + 1) es) x p) w f g
+
+  -- and the other way round among those that pass
+  pub those_skip : (c : ℕ) (es : List Element) (i : ℕ) (x : Element) (ts us : List Token) → i < length es
+      → x ≡ get_or es i x → q x.tree ≡ false → ts ++ those_laid q false (elements c (drop i es) t.End) ≡ us
+      → ts ++ those_laid q false (elements c (drop (i + 1) es) t.End) ≡ us
+  those_skip c es i x ts us h e p w =
+      let left : List Token = those_laid q false (elements c (drop (i + 1) es) t.End) in
+      skipped (λ ds. those_laid q false (elements c ds t.End)) es i x ts us h e
+      (ap (λ b. cond b (laid x.tree ++ Punct c Apart ∷ left) left) p) w
+
+  pub those_next : (c : ℕ) (es : List Element) (i : ℕ) (x : Element) (ts us vs ws : List Token) → i < length es
+      → x ≡ get_or es i x → q x.tree ≡ true → ts ++ those_laid q false (elements c (drop i es) t.End) ≡ us
+      → vs ≡ ts ++ laid x.tree → ws ≡ vs ++ Punct c Apart ∷ []
+      → ws ++ those_laid q false (elements c (drop (i + 1) es) t.End) ≡ us
+  those_next c es i x ts us vs ws h e p w f g =
+      let left : List Token = those_laid q false (elements c (drop (i + 1) es) t.End) in
+      put_next (λ ds. those_laid q false (elements c ds t.End)) es i x (Punct c Apart) ts us vs ws h e
+      (ap (λ b. cond b (laid x.tree ++ Punct c Apart ∷ left) left) p) w f g
 
   -- what is no list
   pub firsts_first : (n : ℕ) (x : Tree) → firsts_laid q (seconds n (t.First x)) ≡ laid (seconds n (t.First x))

@@ -2,7 +2,7 @@ use Rattle.std.specs.Prelude.{Bool, List, [], ◌∷◌, OnOk, Some, None, true,
 use Rattle.std.specs.List.{list_any}
 use Rattle.std.proofs.Common.{append_assoc, arith, ap, subst, sym, rules, ◌≡◌, ◌∙◌, ◌+◌, ◌++◌, drop, map}
 use Rattle.std.proofs.lemmas.Result.{on_ok_weaker}
-use denote.Param.Weighed.{most}
+use denote.Param.Weighed.{at_most, most}
 use Rattle.proc_macro2.specs.Token.{Token, Punct}
 use Rattle.rust_leaf.specs.declared.punct.Spacing.TheVariants.{Alone as Apart}
 use Rattle.gram_piece.specs.Pieces.{piece_token}
@@ -21,13 +21,15 @@ use Rattle.gram_write.specs.Laid.{firsts_laid, laid, laid_in, others_laid, those
 use Rattle.gram_write.specs.Said.{fields, front_fields}
 use Rattle.gram_write.specs.Operands.{giving_of, stated_of}
 use Rattle.gram_write.specs.Way.{dotted_of, is_dotted, last_text, passes, way_laid}
-use Rattle.gram_write.proofs.Laying.{firsts_passing, four_put, others_next, others_skip}
+use Rattle.gram_write.proofs.Laying.{firsts_passing, four_put, node_same, others_next, others_skip, those_next, those_skip}
 use Rattle.gram_write.proofs.Operands.{giving_below, stated_below}
-use Rattle.gram_write.proofs.Sizes.{turns_size, elements_below, tree_size}
+use Rattle.gram_write.proofs.Sizes.{element_size, turns_size, elements_below, tree_size}
 use Rattle.gram_write.proofs.WayForms.{own_number, own_undotted}
 use Rattle.gram_write.proofs.+laid.Goals as goal
 use Rattle.gram_write.proofs.+laid.Goals.{laid::put_others-then-not-passes+in_ok-put_laid+in_ok-separator}
 use Rattle.gram_write.proofs.+laid.Goals.{laid::put_others-else-not-passes}
+use Rattle.gram_write.proofs.+laid.Goals.{laid::put_those-then-passes+in_ok-put_laid+in_ok-separator}
+use Rattle.gram_write.proofs.+laid.Goals.{laid::put_those-else-passes}
 
 -- what is called is smaller
 pub laid::put_laid-put_turns-requires : goal.laid::put_laid-put_turns-requires
@@ -71,6 +73,27 @@ laid::put_firsts-put_others-requires-else-passes n c =
     (ending (λ b. b.value) c.in-Elements.last) c.args.list.now (sym c.list.view_is ∙ ap tree_of c.in-Elements.is) in
     omega (arith, c.decreases, same, below)
 
+pub laid::put_elements-put_laid-requires : goal.laid::put_elements-put_laid-requires
+laid::put_elements-put_laid-requires n c =
+    let below = at_most (λ (e : Element). size-Element e) c.args.before.now c.loop-element.element-index
+    c.element-item.result c.loop-element-test.true in
+    let same = ap (λ (e : Element). size-Element e) c.element-item.is in
+    omega (arith, c.decreases, below, same, element_size c.element-item.result, tree_size c.element-item.result.tree)
+
+pub laid::put_those-put_laid-requires : goal.laid::put_those-put_laid-requires
+laid::put_those-put_laid-requires n c =
+    let below = at_most (λ (e : Element). size-Element e) c.args.before.now c.loop-element.element-index
+    c.element-item.result c.loop-element-test.true in
+    let same = ap (λ (e : Element). size-Element e) c.element-item.is in
+    omega (arith, c.decreases, below, same, element_size c.element-item.result, tree_size c.element-item.result.tree)
+
+pub laid::put_others-put_laid-requires : goal.laid::put_others-put_laid-requires
+laid::put_others-put_laid-requires n c =
+    let below = at_most (λ (e : Element). size-Element e) c.args.before.now c.loop-element.element-index
+    c.element-item.result c.loop-element-test.true in
+    let same = ap (λ (e : Element). size-Element e) c.element-item.is in
+    omega (arith, c.decreases, below, same, element_size c.element-item.result, tree_size c.element-item.result.tree)
+
 -- what is put one behind the other
 pub laid::put_laid-returns-in-Called : goal.laid::put_laid-returns-in-Called
 laid::put_laid-returns-in-Called n c =
@@ -83,6 +106,21 @@ laid::put_laid-returns-in-Called n c =
     ap (way_laid c.of_part.result) same ∙ way ∙ ap (λ x. laid_in c.args.within x) (sym view) in
     subst (λ (ts : List Token). OnOk c.put_so.result (map piece_token c.put_so.new.out.items
     ≡ map piece_token c.args.out.now.items ++ ts)) whole c.put_so.ensures
+
+pub laid::put_laid-returns-in-Node : goal.laid::put_laid-returns-in-Node
+laid::put_laid-returns-in-Node n c =
+    let k = kind_of c.in-Node.kind in
+    let given : c.deref-in-Node.result.now ≡ c.in-Node.inner.value = search rules in
+    let way : way_laid c.of_node.result c.deref-in-Node.result.now ≡ laid (t.Node k c.deref-in-Node.result.now) =
+    c.of_node.ensures in
+    let view : c.args.tree.now ≡ t.Node k c.in-Node.inner.value = sym c.tree.view_is ∙ ap tree_of c.in-Node.is in
+    let same : c.deref-in-Node-2.result.now ≡ c.in-Node.inner.value = search rules in
+    let whole : way_laid c.of_node.result c.deref-in-Node-2.result.now ≡ laid_in c.args.within c.args.tree.now =
+    ap (way_laid c.of_node.result) (same ∙ sym given) ∙ way ∙ ap (λ x. laid (t.Node k x)) given
+    ∙ sym (node_same c.args.within k c.in-Node.inner.value)
+    ∙ ap (λ x. laid_in c.args.within x) (sym view) in
+    subst (λ (ts : List Token). OnOk c.put_so-in-Node.result (map piece_token c.put_so-in-Node.new.out.items
+    ≡ map piece_token c.args.out.now.items ++ ts)) whole c.put_so-in-Node.ensures
 
 pub laid::put_firsts-returns-in_ok-comma : goal.laid::put_firsts-returns-in_ok-comma
 laid::put_firsts-returns-in_ok-comma n c =
@@ -114,6 +152,34 @@ laid::put_firsts-returns-in_ok-comma n c =
     c.as_slice-elements.ensures.value)
     (ap (firsts_laid q) view ∙ firsts_passing q m es c.in-Some.last.value passing))
     c.put_others-then-passes.ensures
+
+pub laid::put_those-loop-element-preserved : goal.laid::put_those-loop-element-preserved
+laid::put_those-loop-element-preserved n c =
+    let q : Tree → Bool = passes c.args.which in
+    let m = separator_of c.args.mark in
+    let left : List Token = those_laid q false
+    (elements m (drop (c.loop-element.element-index + 1) c.args.before.now) t.End) in
+    let whole : List Token = map piece_token c.args.out.now.items
+    ++ those_laid q false (elements m c.args.before.now t.End) in
+    elim c.if-passes.branch [
+      | laid::put_those-then-passes+in_ok-put_laid+in_ok-separator w ↦
+          let passing : q c.element-item.result.tree ≡ true = search rules in
+          let same : map piece_token c.if-passes.out.items ≡ map piece_token w.separator.new.out.items =
+          ap (λ o. map piece_token o.items) w.out-is in
+          ap (λ ts. ts ++ left) same
+          ∙ those_next q m c.args.before.now c.loop-element.element-index c.element-item.result
+          (map piece_token c.loop-element.out.items) whole (map piece_token w.put_laid.new.out.items)
+          (map piece_token w.separator.new.out.items) c.loop-element-test.true c.element-item.is passing
+          c.loop-element.invariant w.in_ok-put_laid.ensures w.in_ok-separator.ensures
+      | laid::put_those-else-passes w ↦
+          let fails : q c.element-item.result.tree ≡ false = search rules in
+          let same : map piece_token c.if-passes.out.items ≡ map piece_token c.loop-element.out.items =
+          ap (λ o. map piece_token o.items) w.out-is in
+          ap (λ ts. ts ++ left) same
+          ∙ those_skip q m c.args.before.now c.loop-element.element-index c.element-item.result
+          (map piece_token c.loop-element.out.items) whole c.loop-element-test.true c.element-item.is fails
+          c.loop-element.invariant
+    ]
 
 pub laid::put_others-loop-element-preserved : goal.laid::put_others-loop-element-preserved
 laid::put_others-loop-element-preserved n c =
