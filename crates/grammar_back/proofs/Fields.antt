@@ -320,13 +320,6 @@ TypeEdge y s =
     IsAmong (starts (AType WithPlus)) (flat y ++ s)
     × (begins_restricting y ≡ false → Lacks a_restriction (flat y ++ s))
 
-none_else : (y : Tree) → Fits y (when marks "=" read refused else nothing) → flat y ≡ []
-none_else (Second Nil) f = refl
-none_else (Second _) f = absurd f.1
-none_else (First (Pair x y)) f = absurd f.1
-none_else (First _) f = absurd f.1
-none_else _ f = absurd f
-
 fine_typed : Fine type_end (Without (behind UnnamedField)) TypeEdge
 fine_typed = record { by = go }
   where

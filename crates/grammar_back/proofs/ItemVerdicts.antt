@@ -27,7 +27,7 @@ use Rattle.syn_grammar.specs.Tidy.{is_absent, is_bare_colon, is_bare_generics, i
 use Rattle.syn_grammar.specs.Tidy.{tidy_impl, keeps_generics}
 use Rattle.syn_grammar.specs.Tidy.{without_generics}
 use Rattle.syn_grammar.specs.Normal.{passed, place_of, normal_in}
-use Rattle.grammar_back.specs.Covered.{inner, is_no_macro}
+use Rattle.grammar_back.specs.Covered.{inner}
 use Rattle.grammar_back.proofs.Choices.{or_same}
 use Rattle.grammar_back.proofs.Elements.{has_fits, has_read}
 use Rattle.grammar_back.proofs.Fits.{Fits, is_item_form, own_place, place}
@@ -42,7 +42,6 @@ abbrev pub SameItem : Tree → Tree → Type 0
 SameItem x w =
     ((b : Bool) → form_in_file b x ≡ Keep → form_in_file b w ≡ Keep) × (own_place w ≡ own_place x)
     × (is_item_form w ≡ is_item_form x)
-    × (is_no_macro w ≡ is_no_macro x)
 
 abbrev pub LawOf : (Tree → Tree → Type 0) → Kind → Type 0
 LawOf S k =
@@ -95,51 +94,50 @@ same_has n q g y v r d f e =
 
 -- forms that are always kept, or only behind no visibility
 law_struct : ItemLaw AStruct
-law_struct q y v r d f e = ((λ b h. h), refl, refl, refl)
+law_struct q y v r d f e = ((λ b h. h), refl, refl)
 
 law_enum : ItemLaw AnEnum
-law_enum q y v r d f e = ((λ b h. h), refl, refl, refl)
+law_enum q y v r d f e = ((λ b h. h), refl, refl)
 
 law_union : ItemLaw AUnion
-law_union q y v r d f e = ((λ b h. h), refl, refl, refl)
+law_union q y v r d f e = ((λ b h. h), refl, refl)
 
 law_crate : ItemLaw AnExternCrate
-law_crate q y v r d f e = ((λ b h. h), refl, refl, refl)
+law_crate q y v r d f e = ((λ b h. h), refl, refl)
 
 law_const_trait : ItemLaw AConstTrait
-law_const_trait q y v r d f e = ((λ b h. h), refl, refl, refl)
+law_const_trait q y v r d f e = ((λ b h. h), refl, refl)
 
 law_restricted : ItemLaw ARestrictedTrait
-law_restricted q y v r d f e = ((λ b h. h), refl, refl, refl)
+law_restricted q y v r d f e = ((λ b h. h), refl, refl)
 
 law_definition : ItemLaw AMacroDefinition
-law_definition q y v r d f e = ((λ b h. h), refl, refl, refl)
+law_definition q y v r d f e = ((λ b h. h), refl, refl)
 
 law_macro : ItemLaw (ItemMacro InFile)
 unfolding held passed
-law_macro q y v r d f e = ((λ b h. h), refl, plain_same InFile y v r d f (ap inner e), refl)
+law_macro q y v r d f e = ((λ b h. h), refl, plain_same InFile y v r d f (ap inner e))
 
 law_block : ItemLaw AForeignModule
 unfolding held passed
 law_block q y v r d f e =
-    ((λ b h. h), ap (λ c. cond c 8 2) (same_has the_safety Plain (table AForeignModule) y v r d f (ap inner e)), refl, refl)
+    ((λ b h. h), ap (λ c. cond c 8 2) (same_has the_safety Plain (table AForeignModule) y v r d f (ap inner e)), refl)
 
 law_module : ItemLaw AModule
 unfolding held passed
 law_module q y v r d f e =
-    ((λ b h. h), ap (λ c. cond c 9 12) (same_has the_safety Plain (table AModule) y v r d f (ap inner e)), refl, refl)
+    ((λ b h. h), ap (λ c. cond c 9 12) (same_has the_safety Plain (table AModule) y v r d f (ap inner e)), refl)
 
 law_trait : ItemLaw ATrait
 unfolding held passed
 law_trait q y v r d f e =
-    ((λ b h. h), ap (λ c. cond c 11 18) (same_has the_safety Plain (table ATrait) y v r d f (ap inner e)), refl, refl)
+    ((λ b h. h), ap (λ c. cond c 11 18) (same_has the_safety Plain (table ATrait) y v r d f (ap inner e)), refl)
 
 -- forms that need a body, a type, a value
 law_function : ItemLaw (AFunction InFile)
 unfolding held passed
 law_function q y v r d f e = (
   λ b h. ap (λ c. raw_if (not c)) (same_has the_body Plain (table (AFunction InFile)) y v r d f (ap inner e)) ∙ h,
-  refl,
   refl,
   refl,
 )
@@ -150,7 +148,6 @@ law_static q y v r d f e = (
   λ b h. ap (λ c. refused_if (not c && not (has the_value v)) (raw_if (not (c && has the_value v)))) (same the_type)
       ∙ ap (λ c. refused_if (not (has the_type y) && not c) (raw_if (not (has the_type y && c)))) (same the_value)
       ∙ h,
-  refl,
   refl,
   refl,
 )
@@ -393,7 +390,7 @@ constant_stays y v r d f e h =
 
 law_constant : ItemLaw AConst
 unfolding held passed
-law_constant q y v r d f e = (λ b h. constant_stays y v r d f (ap inner e) h, refl, refl, refl)
+law_constant q y v r d f e = (λ b h. constant_stays y v r d f (ap inner e) h, refl, refl)
 
 -- types
 commuted : (n : Part) (x y : Tree) → has n (Pair x y) ≡ has n (Pair y x)
@@ -463,7 +460,7 @@ alias_stays p y v r d f e h =
 
 law_alias : ItemLaw (ATypeAlias InFile)
 unfolding held passed
-law_alias q y v r d f e = (λ b h. alias_stays InFile y v r d f (ap inner e) h, refl, refl, refl)
+law_alias q y v r d f e = (λ b h. alias_stays InFile y v r d f (ap inner e) h, refl, refl)
 
 -- uses: a root inside
 root_read : (x : Tree) (g : Gram) (r : List Token) → Derives x g r → has_root (kept x) ≡ has_root x
@@ -551,7 +548,6 @@ law_use q y v r d f e = (
   λ b h. ap raw_if (same_part_law the_path root_inside Plain (table AUse) y v r
       (tt, ((λ x r d e. inside_read x r d ∙ e), tt)) (tt, ((λ w f e. sym (inside_fits w f) ∙ e), tt))
       (λ q x e. inside_normal q x ∙ e) d f (ap inner e) (not_raw (root_inside (the the_path y)) h)),
-  refl,
   refl,
   refl,
 )
@@ -675,7 +671,6 @@ law_impl q y v r d f e = (
       ∙ ap (λ c. cond (has the_default y) 19 (cond c 6 (cond (has the_safety v) 10 19))) (same the_const)
       ∙ ap (λ c. cond (has the_default y) 19 (cond (has the_const y) 6 (cond c 10 19))) (same the_safety),
   ap not (same the_const),
-  refl,
 )
   where
     same : (n : Part) → has n v ≡ has n y

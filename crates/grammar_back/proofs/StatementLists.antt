@@ -81,10 +81,6 @@ abbrev is_first : Tree → Bool
 is_first (First x) = true
 is_first x = false
 
-lone_first : (x y : Tree) → is_lone_mark (Again x y) ≡ is_first x
-lone_first (First x) y = refl
-lone_first _ y = refl
-
 closed_as_any : (a e z : Tree) → is_open (expression_statement a e (First z)) ≡ false
 closed_as_any a e z = go (is_macro (form_of e))
   where

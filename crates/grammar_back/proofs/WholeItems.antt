@@ -17,7 +17,7 @@ use Rattle.syn_grammar.specs.Derives.{Derives}
 use Rattle.syn_grammar.specs.Kept.{forget, held, kept}
 use Rattle.syn_grammar.specs.Tidy.{tidy}
 use Rattle.syn_grammar.specs.Normal.{passed, place_of, normal_in}
-use Rattle.grammar_back.specs.Covered.{has_step, inner, is_known, is_no_macro, is_taken, item_of}
+use Rattle.grammar_back.specs.Covered.{has_step, inner, is_known, is_taken, item_of}
 use Rattle.grammar_back.specs.Sees.{LacksAll}
 use Rattle.item_laws.proofs.Stays.{item_stays}
 use Rattle.grammar_back.proofs.RawItems.{raw_front}
@@ -155,29 +155,22 @@ whole_law : (x w : Tree) → WholeLaw x w
 whole_law x w r d f e =
     both_shapes WholeLaw x w (shape_read x r d) (shape_fits w f) whole_same r d f e
 
-item_both : (x w : Tree) (r : List Token) → Derives x (table AnItem) r → Fits w (table AnItem)
-    → kept w ≡ normal_in Plain (kept x)
-    → IsItem (item_of w) × (is_no_macro (choice (item_of w)) ≡ is_no_macro (choice (item_of x)))
+item_meant : (x w : Tree) (r : List Token) → Derives x (table AnItem) r → Fits w (table AnItem)
+    → kept w ≡ normal_in Plain (kept x) → IsItem (item_of w)
 unfolding table
-item_both (First x) (First w) r d f e =
+item_meant (First x) (First w) r d f e =
     let s = whole_law x w r d.1 f.1 (ap inside e) in
-    ((s.2 ∙ sym s.1.1, s.1.2 ∙ s.3 d.0), s.1.3)
+    (s.2 ∙ sym s.1.1, s.1.2 ∙ s.3 d.0)
   where
     inside : Tree → Tree
     inside (First x) = x
     inside x = x
-item_both (First x) (Verbatim w) r d f e = cc e
-item_both (First x) _ r d f e = absurd f
-item_both (Verbatim x) (First w) r d f e = cc e
-item_both (Verbatim x) (Verbatim w) r d f e = ((refl, refl), refl)
-item_both (Verbatim x) _ r d f e = absurd f
-item_both _ w r d f e = absurd d
-
--- the one is no macro where the other is none
-pub whole_macro : (x w : Tree) (r : List Token) → Derives x (table AnItem) r → Fits w (table AnItem)
-    → kept w ≡ normal_in Plain (kept x) → is_no_macro (choice (item_of x)) ≡ true
-    → is_no_macro (choice (item_of w)) ≡ true
-whole_macro x w r d f e h = (item_both x w r d f e).1 ∙ h
+item_meant (First x) (Verbatim w) r d f e = cc e
+item_meant (First x) _ r d f e = absurd f
+item_meant (Verbatim x) (First w) r d f e = cc e
+item_meant (Verbatim x) (Verbatim w) r d f e = (refl, refl)
+item_meant (Verbatim x) _ r d f e = absurd f
+item_meant _ w r d f e = absurd d
 
 -- a kind that holds what it reads, of which something is meant where it is taken
 pub taken_law : (k : Kind) → is_known k ≡ true
@@ -204,7 +197,7 @@ taken_law k h n f t u p e = record { entry = λ q l. subst (λ m. EntryLaw m (ta
 pub law_an_item : KindLaw AnItem
 unfolding has_step held passed place_of table
 law_an_item =
-    taken_law AnItem refl (λ x w r d f e o. (item_both x w r d f e).0) (λ x. refl) (λ x. refl) (λ q. refl) (λ q. refl) (
+    taken_law AnItem refl (λ x w r d f e o. item_meant x w r d f e) (λ x. refl) (λ x. refl) (λ q. refl) (λ q. refl) (
       (λ x w r c d f e h. (whole_law x w r d f e).0 h),
       (λ x r d s. (item_stays AnItem (Node AnItem (Verbatim x)) r s refl (refl, d)).1),
       simple_law Plain whole_item refl,

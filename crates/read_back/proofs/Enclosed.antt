@@ -346,10 +346,6 @@ given_left a (Infix l k y r) e = go (nat_eq (level k) 3) e
     go true e = absurd (contrary e)
 given_left a _ e = absurd (contrary e)
 
-abbrev whole_form : Tree → Tree
-whole_form (Whole x) = x
-whole_form x = x
-
 pub taken : TakenLaw
 unfolding table held passed stands_behind
 taken t b x r d e o c f g h i j =

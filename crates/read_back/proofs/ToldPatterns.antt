@@ -21,7 +21,7 @@ use Rattle.syn_grammar.specs.Table.{table}
 use Rattle.syn_grammar.specs.Derives.{Derives, Bound}
 use Rattle.syn_grammar.specs.Forms.{back, backs, front, fronts, inside}
 use Rattle.binding_laws.proofs.Begun.{first_passes}
-use Rattle.expressions_back.proofs.Bools.{and_no, never as no_truth}
+use Rattle.expressions_back.proofs.Bools.{never as no_truth}
 use Rattle.grammar_back.specs.Covered.{is_lone}
 use Rattle.read_back.specs.Asked.{ends_in_pattern, is_no_lone, no_lone}
 use Rattle.grammar_back.proofs.Choices.{both_same, both_true, is_false}
@@ -247,17 +247,13 @@ lacks_dots : (b c : Bool) → (b && c) ≡ false → b ≡ true → c ≡ false
 lacks_dots true c e h = e
 lacks_dots false c e h = absurd (no_truth h)
 
-pub patterns_told : (k : Kind) (x : Tree) (r : List Token) → (ends_in_pattern k && sees (marks "..") r) ≡ false
+patterns_told : (k : Kind) (x : Tree) (r : List Token) → (ends_in_pattern k && sees (marks "..") r) ≡ false
     → Derives x (ref k) r → no_lone x ≡ true
 patterns_told k x r e d =
     patterns (ends_in_pattern k) x (ref k) r d (self (ends_in_pattern k))
     (lacks_dots (ends_in_pattern k) (sees (marks "..") r) e)
 
--- So it is of a kind that ends in none, before any rest; and of each kind before what begins with no .. .
+-- So it is of a kind that ends in none, before any rest.
 pub whole_patterns : (k : Kind) (x : Tree) (r : List Token) → ends_in_pattern k ≡ false → Derives x (ref k) r
     → no_lone x ≡ true
 whole_patterns k x r e d = patterns_told k x r (ap (λ b. b && sees (marks "..") r) e) d
-
-pub patterns_before : (k : Kind) (x : Tree) (r : List Token) → sees (marks "..") r ≡ false → Derives x (ref k) r
-    → no_lone x ≡ true
-patterns_before k x r e d = patterns_told k x r (ap (λ b. ends_in_pattern k && b) e ∙ and_no (ends_in_pattern k)) d
