@@ -39,6 +39,8 @@ pub mod ToldStarts
 pub mod ToldExpressions
 pub mod ToldKinds
 pub mod Told
+pub mod OneKind
+pub mod OneItems
 pub mod ReadBack
 pub mod Positions
 pub mod ToldPositions
