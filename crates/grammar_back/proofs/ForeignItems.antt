@@ -53,7 +53,7 @@ use Rattle.grammar_back.proofs.Verdicts.{has_normal}
 use Rattle.grammar_back.proofs.Members.{SameMember, the_visibility_is}
 use Rattle.grammar_back.proofs.WholeItems.{public_same, taken_law}
 
-abbrev safety_words : List (List ℕ)
+abbrev pub safety_words : List (List ℕ)
 safety_words = codes "unsafe" ∷ codes "safe" ∷ []
 
 abbrev safe_static : Gram
@@ -364,14 +364,14 @@ step_a_foreign_item =
     (λ x s d. inl (raw_front (item_verdict InForeign) foreign_form (search) x s d))) (λ x s c. c.1) (λ x s i c. i))
 
 -- what is kept of each form
-foreign_function : LawOf (SameMember InForeign) (AFunction InForeign)
+pub foreign_function : LawOf (SameMember InForeign) (AFunction InForeign)
 unfolding held passed
 foreign_function q y v r d f e = (
   λ b h. ap raw_if (same_has the_body Plain (table (AFunction InForeign)) y v r d f (ap inner e)) ∙ h,
   refl,
 )
 
-foreign_static : LawOf (SameMember InForeign) AStatic
+pub foreign_static : LawOf (SameMember InForeign) AStatic
 unfolding held passed
 foreign_static q y v r d f e = (
   λ b h. ap (λ c. refused_if (not c) (raw_if (has the_value v)))
@@ -409,7 +409,7 @@ alias_keeps y v r d f e h =
     (tt, (tt, (tt, (tt, ((λ w f e. sym (has_fits the_type w (type_end InForeign) f) ∙ e), tt)))))
     (λ q x e. has_normal the_type q x ∙ e) (λ x e. has_moved the_type x ∙ e) d f e i.1)
 
-foreign_alias : LawOf (SameMember InForeign) (ATypeAlias InForeign)
+pub foreign_alias : LawOf (SameMember InForeign) (ATypeAlias InForeign)
 unfolding held passed
 foreign_alias q y v r d f e = (λ b h. alias_keeps y v r d f (ap inner e) h, refl)
 

@@ -204,7 +204,7 @@ function_class =
 abbrev form_class : Place → List Class
 form_class p = function_class ++ (const_class ++ (type_class ++ macro_classes p))
 
-abbrev default_class : List Class
+abbrev pub default_class : List Class
 default_class = TheWord (codes "default") ∷ []
 
 -- in front, but of a macro
@@ -222,7 +222,7 @@ default_seen (Called n (AWord cs)) s f e =
 default_seen (Called n _) s f e = absurd f.1
 default_seen _ s f e = absurd f
 
-maybe_default : Maybe (default_there InImpl) ((at "default" then no (marks "!")) ∷ marks "!" ∷ []) default_class
+pub maybe_default : Maybe (default_there InImpl) ((at "default" then no (marks "!")) ∷ marks "!" ∷ []) default_class
 maybe_default = record { fine = record { by = go } }
   where
     go : (x : Tree) (s : List Token) → Fits x (default_there InImpl) → Ready x
@@ -622,10 +622,10 @@ module _ (p : Place) (marks_are : (x : Tree) → marked p x ≡ (is_public (the 
   member_meant (Verbatim x) _ r d f e = absurd f
   member_meant _ w r d f e = absurd d
 
-each_trait : EachOf (SameMember InTrait) (member_form InTrait)
+pub each_trait : EachOf (SameMember InTrait) (member_form InTrait)
 each_trait = (trait_function, (trait_constant, (trait_alias, (trait_macro, tt))))
 
-each_impl : EachOf (SameMember InImpl) (member_form InImpl)
+pub each_impl : EachOf (SameMember InImpl) (member_form InImpl)
 each_impl = (impl_function, (impl_constant, (impl_alias, (impl_macro, tt))))
 
 pub law_a_trait_item : KindLaw ATraitItem

@@ -4,16 +4,18 @@ use Rattle.std.proofs.Common.{◌≡◌, List, [], ◌∷◌, ◌++◌, refl, sy
 use Rattle.std.specs.Prelude.{Bool, true, false, ◌||◌, Option, Some, None}
 use Rattle.proc_macro2.specs.Token.{Token}
 use Rattle.syn_grammar.specs.Kind.{Kind, AConst, AForeignModule, AFunction, AModule, AStatic, AStruct, ATypeAlias}
-use Rattle.syn_grammar.specs.Kind.{AUnion, AUse, AnEnum, AnExternCrate, AnImpl, InFile, InForeign, InImpl, InTrait}
-use Rattle.syn_grammar.specs.Kind.{ItemConst, ItemEnum, ItemExternCrate, ItemFn, ItemForeignMod, ItemImpl, ItemMod}
-use Rattle.syn_grammar.specs.Kind.{ItemStatic, ItemStruct, ItemType, ItemUnion, ItemUse, OuterAttributes, Place}
-use Rattle.syn_grammar.specs.Kind.{Plain, Visibility}
+use Rattle.syn_grammar.specs.Kind.{AUnion, AUse, AnEnum, AnExternCrate, AnImpl, ForeignItemStatic, InFile, InForeign}
+use Rattle.syn_grammar.specs.Kind.{InImpl, InTrait, ItemConst, ItemEnum, ItemExternCrate, ItemFn, ItemForeignMod}
+use Rattle.syn_grammar.specs.Kind.{ItemImpl, ItemMod, ItemStatic, ItemStruct, ItemType, ItemUnion, ItemUse, OneConst}
+use Rattle.syn_grammar.specs.Kind.{OneFunction, OneTypeAlias, OuterAttributes, Place, Plain, Visibility}
 use Rattle.syn_grammar.specs.Name.{Part, same_part, the_default, the_item, the_visibility}
-use Rattle.syn_grammar.specs.Tree.{Tree, Called, Node, Pair}
+use Rattle.syn_grammar.specs.Tree.{Tree, Called, Node, Pair, flat}
 use Rattle.syn_grammar.specs.Part.{choice, found, has, is_some, or_else, or_nil, the}
 use Rattle.syn_grammar.specs.Gram.{AsRaw, Gram, Keep, Refuse, Verdict, judged, ref}
-use Rattle.syn_grammar.specs.Say.{◌∶◌, ◌▸◌}
-use Rattle.syn_grammar.specs.Lists.{only, typed}
+use Rattle.syn_grammar.specs.Look.{◌or◌}
+use Rattle.syn_grammar.specs.Say.{at, ◌∶◌, ◌▸◌}
+use Rattle.syn_grammar.specs.Items.{safety}
+use Rattle.syn_grammar.specs.Lists.{default_there, only, typed}
 use Rattle.syn_grammar.specs.Verdicts.{form_in, is_public, item_verdict, marked, strictly}
 use Rattle.syn_grammar.specs.Ranks.{skips}
 use Rattle.syn_grammar.specs.Table.{table}
@@ -23,11 +25,16 @@ use Rattle.syn_grammar.specs.Normal.{passed, place_of, normal}
 use Rattle.grammar_back.specs.After.{behind}
 use Rattle.grammar_back.proofs.Classes.{Class}
 use Rattle.grammar_back.proofs.Conditions.{is_condition_kind}
-use Rattle.grammar_back.proofs.Fine.{Any, At, Fine, Without, fine_raw_or, fine_weaker}
+use Rattle.grammar_back.proofs.Fine.{Any, Fine, fine_raw_or, fine_weaker}
 use Rattle.grammar_back.proofs.Fits.{Fits}
+use Rattle.grammar_back.proofs.ForeignItems.{foreign_alias, foreign_function, foreign_static, safety_words}
+use Rattle.grammar_back.proofs.Impls.{lacks_part}
+use Rattle.grammar_back.proofs.ItemPlaces.{has_none}
 use Rattle.grammar_back.proofs.ItemVerdicts.{EachOf, LawOf, SameItem, each_item, form_same, same_has}
-use Rattle.grammar_back.proofs.Parts.{Found, Unseen, found_called, found_ref, maybe_called, maybe_ref, maybe_seq}
-use Rattle.grammar_back.proofs.Printed.{EntryLaw, IsPlaced, is_simple, simple_law}
+use Rattle.grammar_back.proofs.Members.{SameMember, each_impl, each_trait, maybe_default}
+use Rattle.grammar_back.proofs.Parts.{Found, Unseen, found_called, found_optional, found_ref, found_text, found_words}
+use Rattle.grammar_back.proofs.Parts.{maybe_called, maybe_none, maybe_ref, maybe_seq}
+use Rattle.grammar_back.proofs.Printed.{EntryLaw, is_placed, is_simple, simple_law}
 use Rattle.grammar_back.proofs.Starts.{starts}
 use Rattle.grammar_back.proofs.WholeItems.{public_same}
 use Rattle.read_back.proofs.OneKind.{OneKind}
@@ -119,101 +126,236 @@ one_fine p {g} {cs} f h i =
     (maybe_seq (maybe_called {n = the_visibility} (maybe_ref Visibility refl)) f h) i in
     fine_raw_or {A = Any} {F = Any} (fine_weaker Any Any t.fine (λ x s a. tt) (λ x s i a. tt)) (λ x s d. tt)
 
+-- Where such a form is kept, it is kept as it is printed.
+abbrev Same : Place → Tree → Tree → Type 0
+Same p x w = (b : Bool) → form_in p b x ≡ Keep → form_in p b w ≡ Keep
+
+of_item : (l : Kind) → LawOf SameItem l → LawOf (Same InFile) l
+of_item l h q y v r d f e = (h q y v r d f e).0
+
+of_member : (p : Place) (l : Kind) → LawOf (SameMember p) l → LawOf (Same p) l
+of_member p l h q y v r d f e = (h q y v r d f e).0
+
 -- of a form alone
 inside : Tree → Tree
 inside (Called n x) = x
 inside x = x
 
-form_law : (g : Gram) → EachOf SameItem g → FormLaw InFile (the_item ∶ g)
+form_alone : (p : Place) (g : Gram) → EachOf (Same p) g → FormLaw p (the_item ∶ g)
 unfolding inside same_part place_of
-form_law g i (Called n y) (Called m z) r d f e b h =
-    ap (λ j. form_in InFile b (choice (the the_item (Called j z)))) f.0
-    ∙ (form_same SameItem g i (place_of n) y z r d.1 f.1 (ap inside e)).0 b
-    (sym (ap (λ j. form_in InFile b (choice (the the_item (Called j y)))) d.0) ∙ h)
-form_law g i (Called n y) _ r d f e b h = absurd f
-form_law g i _ w r d f e b h = absurd d
+form_alone p g i (Called n y) (Called m z) r d f e b h =
+    ap (λ j. form_in p b (choice (the the_item (Called j z)))) f.0
+    ∙ form_same (Same p) g i (place_of n) y z r d.1 f.1 (ap inside e) b
+    (sym (ap (λ j. form_in p b (choice (the the_item (Called j y)))) d.0) ∙ h)
+form_alone p g i (Called n y) _ r d f e b h = absurd f
+form_alone p g i _ w r d f e b h = absurd d
 
-one_item : (k l : Kind) → table k ≡ only l → LawOf SameItem l → Found (ref l) [] (starts l)
-    → Unseen (behind Visibility) (starts l) → Unseen (behind OuterAttributes) (starts Visibility ++ starts l)
-    → ((x : Tree) → Node (held k) (forget k x) ≡ Node k x) → ((x : Tree) → normal (Node k x) ≡ Node k (normal x))
-    → is_condition_kind k ≡ false → IsPlaced Plain l → OneKind k Any
-unfolding place_of
-one_item k l e i f u v h n c m = record {
-  law = subst (EntryLaw Plain) (sym e) (one_law InFile (the_item ∶ ref l) (form_law (ref l) i) m);
-  fine = subst (λ g. Fine g Any Any) (sym e) (one_fine InFile (found_called f) u v);
-  holds = h;
-  is_normal = n;
-  ends = c;
+-- behind what is no item
+first_of : Tree → Tree
+first_of (Pair x y) = x
+first_of x = x
+
+second_of : Tree → Tree
+second_of (Pair x y) = y
+second_of x = x
+
+past : (x y : Tree) → has the_item x ≡ false → the the_item (Pair x y) ≡ the the_item y
+past x y e = go (found the_item x) e
+  where
+    go : (o : Option Tree) → is_some o ≡ false → or_nil (or_else o (found the_item y)) ≡ or_nil (found the_item y)
+    go None e = refl
+    go (Some z) e = cc e
+
+form_behind : (p : Place) (a g : Gram) → lacks_part the_item a ≡ true → FormLaw p g → FormLaw p (a ▸ g)
+unfolding first_of second_of
+form_behind p a g l i (Pair x y) (Pair w z) r d f e b h =
+    let k = has_none the_item x a (flat y ++ r) d.0 l in
+    let n = same_has the_item Plain a x w (flat y ++ r) d.0 f.0 (ap first_of e) ∙ k in
+    ap (λ t. form_in p b (choice t)) (past w z n)
+    ∙ i y z r d.1 f.1 (ap second_of e) b (sym (ap (λ t. form_in p b (choice t)) (past x y k)) ∙ h)
+form_behind p a g l i (Pair x y) _ r d f e b h = absurd f
+form_behind p a g l i _ w r d f e b h = absurd d
+
+-- What is to be known of a kind, beside its entry, is said by computing it.
+abbrev Held : Kind → Type 0
+Held k =
+    ((x : Tree) → Node (held k) (forget k x) ≡ Node k x) × ((x : Tree) → normal (Node k x) ≡ Node k (normal x))
+    × (is_condition_kind k ≡ false)
+
+one_item : (p : Place) (k : Kind) (g : Gram) (cs : List Class) → table k ≡ judged (typed p) (in_front g)
+    → FormLaw p g → is_simple Plain g ≡ true → Found g [] cs → Unseen (behind Visibility) cs
+    → Unseen (behind OuterAttributes) (starts Visibility ++ cs) → Held k → OneKind k Any
+one_item p k g cs e i l f u v h = record {
+  law = subst (EntryLaw Plain) (sym e) (one_law p g i (simple_law Plain g l));
+  fine = subst (λ g. Fine g Any Any) (sym e) (one_fine p f u v);
+  holds = h.0;
+  is_normal = h.1;
+  ends = h.2;
 }
+
+-- items of a file, without any word in front
+only_item : (k l : Kind) → table k ≡ only l → LawOf SameItem l → Found (ref l) [] (starts l)
+    → Unseen (behind Visibility) (starts l) → Unseen (behind OuterAttributes) (starts Visibility ++ starts l)
+    → is_placed Plain l ≡ true → Held k → OneKind k Any
+unfolding place_of
+only_item k l e i f u v m h =
+    one_item InFile k (the_item ∶ ref l) (starts l) e (form_alone InFile (ref l) (of_item l i)) m (found_called f) u v h
 
 pub one_of_functions : OneKind ItemFn Any
 unfolding table held passed skips place_of
 one_of_functions =
-    one_item ItemFn (AFunction InFile) refl each_item.0 (found_ref (AFunction InFile) refl) ((search), ((search), tt)) ((search), tt)
-    (λ x. refl) (λ x. refl) refl tt
+    only_item ItemFn (AFunction InFile) refl each_item.0 (found_ref (AFunction InFile) refl) ((search), ((search), tt))
+    ((search), tt) refl ((λ x. refl), (λ x. refl), refl)
 
 pub one_of_extern_crates : OneKind ItemExternCrate Any
 unfolding table held passed skips place_of
 one_of_extern_crates =
-    one_item ItemExternCrate AnExternCrate refl each_item.1.0 (found_ref AnExternCrate refl) ((search), ((search), tt)) ((search), tt)
-    (λ x. refl) (λ x. refl) refl tt
+    only_item ItemExternCrate AnExternCrate refl each_item.1.0 (found_ref AnExternCrate refl) ((search), ((search), tt))
+    ((search), tt) refl ((λ x. refl), (λ x. refl), refl)
 
 pub one_of_extern_blocks : OneKind ItemForeignMod Any
 unfolding table held passed skips place_of
 one_of_extern_blocks =
-    one_item ItemForeignMod AForeignModule refl each_item.1.1.0 (found_ref AForeignModule refl) ((search), ((search), tt)) ((search), tt)
-    (λ x. refl) (λ x. refl) refl tt
+    only_item ItemForeignMod AForeignModule refl each_item.1.1.0 (found_ref AForeignModule refl) ((search), ((search), tt))
+    ((search), tt) refl ((λ x. refl), (λ x. refl), refl)
 
 pub one_of_uses : OneKind ItemUse Any
 unfolding table held passed skips place_of
 one_of_uses =
-    one_item ItemUse AUse refl each_item.1.1.1.0 (found_ref AUse refl) ((search), ((search), tt)) ((search), tt)
-    (λ x. refl) (λ x. refl) refl tt
+    only_item ItemUse AUse refl each_item.1.1.1.0 (found_ref AUse refl) ((search), ((search), tt))
+    ((search), tt) refl ((λ x. refl), (λ x. refl), refl)
 
 pub one_of_statics : OneKind ItemStatic Any
 unfolding table held passed skips place_of
 one_of_statics =
-    one_item ItemStatic AStatic refl each_item.1.1.1.1.0 (found_ref AStatic refl) ((search), ((search), tt)) ((search), tt)
-    (λ x. refl) (λ x. refl) refl tt
+    only_item ItemStatic AStatic refl each_item.1.1.1.1.0 (found_ref AStatic refl) ((search), ((search), tt))
+    ((search), tt) refl ((λ x. refl), (λ x. refl), refl)
 
 pub one_of_constants : OneKind ItemConst Any
 unfolding table held passed skips place_of
 one_of_constants =
-    one_item ItemConst AConst refl each_item.1.1.1.1.1.1.1.0 (found_ref AConst refl) ((search), ((search), tt)) ((search), tt)
-    (λ x. refl) (λ x. refl) refl tt
+    only_item ItemConst AConst refl each_item.1.1.1.1.1.1.1.0 (found_ref AConst refl) ((search), ((search), tt))
+    ((search), tt) refl ((λ x. refl), (λ x. refl), refl)
 
 pub one_of_modules : OneKind ItemMod Any
 unfolding table held passed skips place_of
 one_of_modules =
-    one_item ItemMod AModule refl each_item.1.1.1.1.1.1.1.1.1.1.1.1.0 (found_ref AModule refl) ((search), ((search), tt)) ((search), tt)
-    (λ x. refl) (λ x. refl) refl tt
+    only_item ItemMod AModule refl each_item.1.1.1.1.1.1.1.1.1.1.1.1.0 (found_ref AModule refl) ((search), ((search), tt))
+    ((search), tt) refl ((λ x. refl), (λ x. refl), refl)
 
 pub one_of_aliases : OneKind ItemType Any
 unfolding table held passed skips place_of
 one_of_aliases =
-    one_item ItemType (ATypeAlias InFile) refl each_item.1.1.1.1.1.1.1.1.1.1.1.1.1.0 (found_ref (ATypeAlias InFile) refl) ((search), ((search), tt)) ((search), tt)
-    (λ x. refl) (λ x. refl) refl tt
+    only_item ItemType (ATypeAlias InFile) refl each_item.1.1.1.1.1.1.1.1.1.1.1.1.1.0 (found_ref (ATypeAlias InFile) refl) ((search), ((search), tt))
+    ((search), tt) refl ((λ x. refl), (λ x. refl), refl)
 
 pub one_of_structs : OneKind ItemStruct Any
 unfolding table held passed skips place_of
 one_of_structs =
-    one_item ItemStruct AStruct refl each_item.1.1.1.1.1.1.1.1.1.1.1.1.1.1.0 (found_ref AStruct refl) ((search), ((search), tt)) ((search), tt)
-    (λ x. refl) (λ x. refl) refl tt
+    only_item ItemStruct AStruct refl each_item.1.1.1.1.1.1.1.1.1.1.1.1.1.1.0 (found_ref AStruct refl) ((search), ((search), tt))
+    ((search), tt) refl ((λ x. refl), (λ x. refl), refl)
 
 pub one_of_enums : OneKind ItemEnum Any
 unfolding table held passed skips place_of
 one_of_enums =
-    one_item ItemEnum AnEnum refl each_item.1.1.1.1.1.1.1.1.1.1.1.1.1.1.1.0 (found_ref AnEnum refl) ((search), ((search), tt)) ((search), tt)
-    (λ x. refl) (λ x. refl) refl tt
+    only_item ItemEnum AnEnum refl each_item.1.1.1.1.1.1.1.1.1.1.1.1.1.1.1.0 (found_ref AnEnum refl) ((search), ((search), tt))
+    ((search), tt) refl ((λ x. refl), (λ x. refl), refl)
 
 pub one_of_unions : OneKind ItemUnion Any
 unfolding table held passed skips place_of
 one_of_unions =
-    one_item ItemUnion AUnion refl each_item.1.1.1.1.1.1.1.1.1.1.1.1.1.1.1.1.0 (found_ref AUnion refl) ((search), ((search), tt)) ((search), tt)
-    (λ x. refl) (λ x. refl) refl tt
+    only_item ItemUnion AUnion refl each_item.1.1.1.1.1.1.1.1.1.1.1.1.1.1.1.1.0 (found_ref AUnion refl) ((search), ((search), tt))
+    ((search), tt) refl ((λ x. refl), (λ x. refl), refl)
 
 pub one_of_impls : OneKind ItemImpl Any
 unfolding table held passed skips place_of
 one_of_impls =
-    one_item ItemImpl AnImpl refl each_item.1.1.1.1.1.1.0 (found_ref AnImpl refl) ((search), ((search), tt)) ((search), tt)
-    (λ x. refl) (λ x. refl) refl tt
+    only_item ItemImpl AnImpl refl each_item.1.1.1.1.1.1.0 (found_ref AnImpl refl) ((search), ((search), tt))
+    ((search), tt) refl ((λ x. refl), (λ x. refl), refl)
+
+-- functions, type aliases and constants in each place, behind default
+behind_default : (p : Place) (l : Kind) → lacks_part the_item (default_there p) ≡ true → LawOf (Same p) l
+    → FormLaw p (default_there p ▸ the_item ∶ ref l)
+behind_default p l e i = form_behind p (default_there p) (the_item ∶ ref l) e (form_alone p (ref l) i)
+
+no_constant : LawOf (Same InForeign) AConst
+no_constant q y v r d f e b h = cc h
+
+pub one_function_in_a_file : OneKind (OneFunction InFile) Any
+unfolding table held passed skips place_of same_part
+one_function_in_a_file =
+    one_item InFile (OneFunction InFile) (default_there InFile ▸ the_item ∶ ref (AFunction InFile)) _ refl
+    (behind_default InFile (AFunction InFile) refl (of_item (AFunction InFile) each_item.0)) refl (maybe_seq maybe_none (found_called (found_ref (AFunction InFile) refl)) tt) ((search), ((search), tt)) ((search), tt) ((λ x. refl), (λ x. refl), refl)
+
+pub one_function_in_an_extern_block : OneKind (OneFunction InForeign) Any
+unfolding table held passed skips place_of same_part
+one_function_in_an_extern_block =
+    one_item InForeign (OneFunction InForeign) (default_there InForeign ▸ the_item ∶ ref (AFunction InForeign)) _ refl
+    (behind_default InForeign (AFunction InForeign) refl (of_member InForeign (AFunction InForeign) foreign_function)) refl (maybe_seq maybe_none (found_called (found_ref (AFunction InForeign) refl)) tt) ((search), ((search), tt)) ((search), tt) ((λ x. refl), (λ x. refl), refl)
+
+pub one_function_in_a_trait : OneKind (OneFunction InTrait) Any
+unfolding table held passed skips place_of same_part
+one_function_in_a_trait =
+    one_item InTrait (OneFunction InTrait) (default_there InTrait ▸ the_item ∶ ref (AFunction InTrait)) _ refl
+    (behind_default InTrait (AFunction InTrait) refl (of_member InTrait (AFunction InTrait) each_trait.0)) refl (maybe_seq (found_optional (at "default") (found_called (found_text "default")) (λ us. refl, tt)) (found_called (found_ref (AFunction InTrait) refl)) ((search), tt)) ((search), ((search), tt)) ((search), tt) ((λ x. refl), (λ x. refl), refl)
+
+pub one_function_in_an_impl : OneKind (OneFunction InImpl) Any
+unfolding table held passed skips place_of same_part
+one_function_in_an_impl =
+    one_item InImpl (OneFunction InImpl) (default_there InImpl ▸ the_item ∶ ref (AFunction InImpl)) _ refl
+    (behind_default InImpl (AFunction InImpl) refl (of_member InImpl (AFunction InImpl) each_impl.0)) refl (maybe_seq maybe_default (found_called (found_ref (AFunction InImpl) refl)) ((search), ((search), tt))) ((search), ((search), tt)) ((search), tt) ((λ x. refl), (λ x. refl), refl)
+
+pub one_alias_in_a_file : OneKind (OneTypeAlias InFile) Any
+unfolding table held passed skips place_of same_part
+one_alias_in_a_file =
+    one_item InFile (OneTypeAlias InFile) (default_there InFile ▸ the_item ∶ ref (ATypeAlias InFile)) _ refl
+    (behind_default InFile (ATypeAlias InFile) refl (of_item (ATypeAlias InFile) each_item.1.1.1.1.1.1.1.1.1.1.1.1.1.0)) refl (maybe_seq maybe_none (found_called (found_ref (ATypeAlias InFile) refl)) tt) ((search), ((search), tt)) ((search), tt) ((λ x. refl), (λ x. refl), refl)
+
+pub one_alias_in_an_extern_block : OneKind (OneTypeAlias InForeign) Any
+unfolding table held passed skips place_of same_part
+one_alias_in_an_extern_block =
+    one_item InForeign (OneTypeAlias InForeign) (default_there InForeign ▸ the_item ∶ ref (ATypeAlias InForeign)) _ refl
+    (behind_default InForeign (ATypeAlias InForeign) refl (of_member InForeign (ATypeAlias InForeign) foreign_alias)) refl (maybe_seq maybe_none (found_called (found_ref (ATypeAlias InForeign) refl)) tt) ((search), ((search), tt)) ((search), tt) ((λ x. refl), (λ x. refl), refl)
+
+pub one_alias_in_a_trait : OneKind (OneTypeAlias InTrait) Any
+unfolding table held passed skips place_of same_part
+one_alias_in_a_trait =
+    one_item InTrait (OneTypeAlias InTrait) (default_there InTrait ▸ the_item ∶ ref (ATypeAlias InTrait)) _ refl
+    (behind_default InTrait (ATypeAlias InTrait) refl (of_member InTrait (ATypeAlias InTrait) each_trait.1.1.0)) refl (maybe_seq (found_optional (at "default") (found_called (found_text "default")) (λ us. refl, tt)) (found_called (found_ref (ATypeAlias InTrait) refl)) ((search), tt)) ((search), ((search), tt)) ((search), tt) ((λ x. refl), (λ x. refl), refl)
+
+pub one_alias_in_an_impl : OneKind (OneTypeAlias InImpl) Any
+unfolding table held passed skips place_of same_part
+one_alias_in_an_impl =
+    one_item InImpl (OneTypeAlias InImpl) (default_there InImpl ▸ the_item ∶ ref (ATypeAlias InImpl)) _ refl
+    (behind_default InImpl (ATypeAlias InImpl) refl (of_member InImpl (ATypeAlias InImpl) each_impl.1.1.0)) refl (maybe_seq maybe_default (found_called (found_ref (ATypeAlias InImpl) refl)) ((search), ((search), tt))) ((search), ((search), tt)) ((search), tt) ((λ x. refl), (λ x. refl), refl)
+
+pub one_constant_in_a_file : OneKind (OneConst InFile) Any
+unfolding table held passed skips place_of same_part
+one_constant_in_a_file =
+    one_item InFile (OneConst InFile) (default_there InFile ▸ the_item ∶ ref AConst) _ refl
+    (behind_default InFile AConst refl (of_item AConst each_item.1.1.1.1.1.1.1.0)) refl (maybe_seq maybe_none (found_called (found_ref AConst refl)) tt) ((search), ((search), tt)) ((search), tt) ((λ x. refl), (λ x. refl), refl)
+
+pub one_constant_in_an_extern_block : OneKind (OneConst InForeign) Any
+unfolding table held passed skips place_of same_part
+one_constant_in_an_extern_block =
+    one_item InForeign (OneConst InForeign) (default_there InForeign ▸ the_item ∶ ref AConst) _ refl
+    (behind_default InForeign AConst refl (no_constant)) refl (maybe_seq maybe_none (found_called (found_ref AConst refl)) tt) ((search), ((search), tt)) ((search), tt) ((λ x. refl), (λ x. refl), refl)
+
+pub one_constant_in_a_trait : OneKind (OneConst InTrait) Any
+unfolding table held passed skips place_of same_part
+one_constant_in_a_trait =
+    one_item InTrait (OneConst InTrait) (default_there InTrait ▸ the_item ∶ ref AConst) _ refl
+    (behind_default InTrait AConst refl (of_member InTrait AConst each_trait.1.0)) refl (maybe_seq (found_optional (at "default") (found_called (found_text "default")) (λ us. refl, tt)) (found_called (found_ref AConst refl)) ((search), tt)) ((search), ((search), tt)) ((search), tt) ((λ x. refl), (λ x. refl), refl)
+
+pub one_constant_in_an_impl : OneKind (OneConst InImpl) Any
+unfolding table held passed skips place_of same_part
+one_constant_in_an_impl =
+    one_item InImpl (OneConst InImpl) (default_there InImpl ▸ the_item ∶ ref AConst) _ refl
+    (behind_default InImpl AConst refl (of_member InImpl AConst each_impl.1.0)) refl (maybe_seq maybe_default (found_called (found_ref AConst refl)) ((search), ((search), tt))) ((search), ((search), tt)) ((search), tt) ((λ x. refl), (λ x. refl), refl)
+
+-- a static of an extern block, behind its safety
+pub one_static_in_an_extern_block : OneKind ForeignItemStatic Any
+unfolding table held passed skips place_of same_part
+one_static_in_an_extern_block =
+    one_item InForeign ForeignItemStatic (safety InForeign ▸ the_item ∶ ref AStatic) _ refl
+    (form_behind InForeign (safety InForeign) (the_item ∶ ref AStatic) refl (form_alone InForeign (ref AStatic) (of_member InForeign AStatic foreign_static))) refl (maybe_seq (found_optional (at "unsafe" or at "safe") (found_called (found_words safety_words)) (search)) (found_called (found_ref AStatic refl)) ((search), tt)) ((search), ((search), tt)) ((search), tt) ((λ x. refl), (λ x. refl), refl)
