@@ -41,6 +41,7 @@ pub mod ToldKinds
 pub mod Told
 pub mod OneKind
 pub mod OneItems
+pub mod OneTraits
 pub mod ReadBack
 pub mod Positions
 pub mod ToldPositions
