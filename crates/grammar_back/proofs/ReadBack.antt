@@ -11,7 +11,6 @@ use Rattle.syn_grammar.specs.Derives.{Derives}
 use Rattle.syn_grammar.specs.Kept.{kept}
 use Rattle.syn_grammar.specs.Normal.{normal}
 use Rattle.syn_grammar.specs.Read.{IsRead}
-use Rattle.syn_grammar.proofs.Theorems.{one}
 use Rattle.grammar_back.specs.After.{After, EndsStatement, EndsThere, expression_of, is_closed, is_open, whole}
 use Rattle.syn_grammar.specs.Forms.{ends_there}
 use Rattle.grammar_back.specs.Sees.{LacksAll}
@@ -109,7 +108,7 @@ ends_printed w s f n h = go (is_open w) (is_macro_statement w) refl refl
         ends_of w s f (inr (subst (λ z. EndsThere InStatement (expression_of z) s × LacksAll (marks ";" ∷ []) s)
         (sym p.is) (is_ended (kept p.front) p.form s p.fits e)))
 
-statement_printed : (w : Tree) (s : List Token) → Fits w (ref AStatement) → After AStatement (kept w) s
+pub statement_printed : (w : Tree) (s : List Token) → Fits w (ref AStatement) → After AStatement (kept w) s
     → After AStatement w s
 unfolding held
 statement_printed (Node k w) s f (inl a) = inl a
@@ -164,13 +163,3 @@ module _ (expressions : Expressions) where
         spelled = ap (λ ts. ts ++ s) (sym (flat_kept p.tree (ref k) p.fits) ∙ ap flat p.kept_is);
         kept_is = p.kept_is;
       }
-
-  pub same_placed : (k : Kind) (x y : Tree) (r q s : List Token) → IsAlone k → Derives x (ref k) r
-      → Derives y (ref k) q → is_whole x ≡ true → is_whole y ≡ true → After k (normal (kept x)) s
-      → After k (normal (kept y)) s → flat (normal (kept x)) ≡ flat (normal (kept y))
-      → normal (kept x) ≡ normal (kept y)
-  same_placed k x y r q s l d e c f a b h =
-      let i = read_placed k x r s l d c a in
-      let j = read_placed k y q s l e f b in
-      let t = one (ref k) i.tree j.tree s s i.derived j.derived (i.spelled ∙ ap (λ ts. ts ++ s) h ∙ sym j.spelled) in
-      sym i.kept_is ∙ ap kept t.0 ∙ j.kept_is

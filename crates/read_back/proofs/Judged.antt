@@ -24,10 +24,10 @@ use Rattle.syn_grammar.specs.Table.{table}
 use Rattle.syn_grammar.specs.Derives.{Derives}
 use Rattle.syn_grammar.specs.Kept.{is_there}
 use Rattle.expressions_back.proofs.Bools.{never}
-use Rattle.grammar_back.specs.Covered.{has_form_step, has_lone_value, has_own_trait, has_step, is_known}
+use Rattle.grammar_back.specs.Covered.{has_lone_value, has_own_trait}
 use Rattle.grammar_back.proofs.Statements.{a_turn}
 use Rattle.grammar_back.proofs.Choices.{both_same, both_true, is_false}
-use Rattle.read_back.specs.Asked.{is_asked_alone}
+use Rattle.read_back.specs.Asked.{is_asked_alone, is_one_statement}
 use Rattle.read_back.proofs.ToldBraces.{goes_there}
 use Rattle.read_back.proofs.ToldCalls.{statement_told}
 use Rattle.read_back.proofs.ToldTurns.{turns_free}
@@ -372,10 +372,10 @@ statements_settled (Verbatim x) r d = refl
 statements_settled _ r d = absurd d
 
 -- of each kind
-pub settled_inside : (k : Kind) (x : Tree) (r : List Token) → Derives x (table k) r → is_known k ≡ true
+pub settled_inside : (k : Kind) (x : Tree) (r : List Token) → Derives x (table k) r → is_one_statement k ≡ false
     → are_settled x ≡ true
-unfolding table same_part has_step has_form_step
-settled_inside OneStatement x r d n = absurd (never n)
+unfolding table same_part
+settled_inside OneStatement x r d n = absurd (never (sym n))
 settled_inside Statements x r d n = statements_settled x r d
 settled_inside AnItem x r d n = judged_settled InFile _ x r d refl
 settled_inside ATraitItem x r d n = judged_settled InTrait _ x r d refl

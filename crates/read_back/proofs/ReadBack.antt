@@ -1,6 +1,6 @@
--- Normal forms are read back: of trees whose kinds have a step, expressions inside.
-use Rattle.std.proofs.Common.{◌≡◌, List, ◌++◌}
-use Rattle.std.specs.Prelude.{true}
+-- Normal forms are read back, of each kind: of those that have a step by it, of the others by themselves.
+use Rattle.std.proofs.Common.{◌≡◌, List, ◌++◌, refl, sym, ap, ◌∙◌}
+use Rattle.std.specs.Prelude.{Bool, true, false}
 use Rattle.proc_macro2.specs.Token.{Token}
 use Rattle.syn_grammar.specs.Kind.{Kind}
 use Rattle.syn_grammar.specs.Tree.{Tree, flat}
@@ -9,21 +9,29 @@ use Rattle.syn_grammar.specs.Derives.{Derives}
 use Rattle.syn_grammar.specs.Kept.{kept}
 use Rattle.syn_grammar.specs.Normal.{normal}
 use Rattle.syn_grammar.specs.Read.{IsRead}
+use Rattle.syn_grammar.proofs.Theorems.{one}
 use Rattle.grammar_back.specs.After.{After}
-use Rattle.grammar_back.proofs.ReadBack.{node_placed, read_placed, same_placed}
+use Rattle.grammar_back.proofs.ReadBack.{node_placed, read_placed}
 use Rattle.read_back.specs.Asked.{is_covered}
 use Rattle.read_back.proofs.Forms.{expressions}
+use Rattle.read_back.proofs.OneKinds.{all_others, is_one_kind, no_statement, one_back}
 use Rattle.read_back.proofs.Told.{whole_told}
 
 pub read_back : (k : Kind) (x : Tree) (r s : List Token) → Derives x (ref k) r → is_covered x ≡ true
     → After k (normal (kept x)) s → IsRead k (flat (normal (kept x)) ++ s) (normal (kept x)) s
-read_back k x r s d c a =
-    let w = whole_told k x r d c in
-    read_placed expressions k x r s (node_placed k x r d w) d w a
+read_back k x r s d c a = go (is_one_kind k) refl
+  where
+    go : (b : Bool) → is_one_kind k ≡ b → IsRead k (flat (normal (kept x)) ++ s) (normal (kept x)) s
+    go true e = one_back k x r s e d c
+    go false e =
+        let w = whole_told k x r (all_others k e (no_statement k x r d c)) d c in
+        read_placed expressions k x r s (node_placed k x r d w) d w a
 
 pub same_tokens : (k : Kind) (x y : Tree) (r q s : List Token) → Derives x (ref k) r → Derives y (ref k) q
     → is_covered x ≡ true → is_covered y ≡ true → After k (normal (kept x)) s → After k (normal (kept y)) s
     → flat (normal (kept x)) ≡ flat (normal (kept y)) → normal (kept x) ≡ normal (kept y)
 same_tokens k x y r q s d e c f a b h =
-    let w = whole_told k x r d c in
-    same_placed expressions k x y r q s (node_placed k x r d w) d e w (whole_told k y q e f) a b h
+    let i = read_back k x r s d c a in
+    let j = read_back k y q s e f b in
+    let t = one (ref k) i.tree j.tree s s i.derived j.derived (i.spelled ∙ ap (λ ts. ts ++ s) h ∙ sym j.spelled) in
+    sym i.kept_is ∙ ap kept t.0 ∙ j.kept_is

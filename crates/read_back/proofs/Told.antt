@@ -6,7 +6,7 @@ use Rattle.proc_macro2.specs.Token.{Token, Opens}
 use Rattle.proc_macro2.specs.declared.delimiter.Delimiter.{Delimiter}
 use Rattle.proc_macro2.specs.declared.delimiter.Delimiter.TheVariants.{Brace, Bracket, Parenthesis}
 use Rattle.syn_grammar.specs.Kind.{Kind, Position, AConst, AFile, AMacro, AnImpl, AStatement, Delimited, ExprClosure}
-use Rattle.syn_grammar.specs.Kind.{Expression, ExprMacro, ExprTypedClosure, OnePattern}
+use Rattle.syn_grammar.specs.Kind.{Expression, ExprMacro, ExprTypedClosure, OnePattern, OneStatement}
 use Rattle.syn_grammar.specs.Tree.{Tree, AWord, ALiteral, AMark, ALifetime, Raw, Nil, Pair, First, Second, End, Again}
 use Rattle.syn_grammar.specs.Tree.{Final, More, Group, Dropped, Called, Verbatim, Node, Whole, Alone, Front, Back}
 use Rattle.syn_grammar.specs.Tree.{Infix, marks as signs, flat}
@@ -20,13 +20,13 @@ use Rattle.syn_grammar.specs.Kept.{kept}
 use Rattle.syn_grammar.specs.Normal.{normal}
 use Rattle.syn_grammar.specs.Statements.{macro_statement_stands}
 use Rattle.expressions_back.proofs.Bools.{never}
-use Rattle.grammar_back.specs.Covered.{has_step}
-use Rattle.grammar_back.specs.Covered.{all_covered, is_form, is_known}
+use Rattle.grammar_back.specs.Covered.{all_covered, has_form_step, has_step, is_form, is_known}
 use Rattle.grammar_back.specs.Covered.{is_plain_part, is_statement_form, is_taken, stands_alone}
-use Rattle.grammar_back.proofs.Choices.{both_same, both_true}
+use Rattle.grammar_back.proofs.Choices.{both_same, both_true, is_false}
 use Rattle.grammar_back.proofs.Passed.{behind_attributes}
 use Rattle.grammar_back.proofs.ReadBack.{is_whole}
 use Rattle.read_back.specs.Asked.{ends_alone, ends_in_pattern, is_asked_alone, is_asked_statement, is_covered}
+use Rattle.read_back.specs.Asked.{is_known_alone, is_one_statement}
 use Rattle.read_back.specs.Asked.{is_no_lone, no_lone}
 use Rattle.read_back.proofs.Judged.{are_settled, settled_inside}
 use Rattle.read_back.proofs.ToldExpressions.{plain_told}
@@ -123,6 +123,12 @@ part_told ExprClosure p y r e d = closure_told p y r e d
 part_told ExprTypedClosure p y r e d = typed_closure_told p y r e d
 part_told _ p y r e d = refl
 
+-- one statement by itself has no step
+known_none : (k : Kind) → is_known k ≡ true → is_one_statement k ≡ false
+unfolding has_step has_form_step
+known_none OneStatement e = absurd (never e)
+known_none _ e = refl
+
 -- of all that a tree holds
 and_both : (a b : Bool) → a ≡ true → b ≡ true → (a && b) ≡ true
 and_both a b e f = both_same a b true true e f
@@ -156,7 +162,7 @@ mutual
       let i : is_known j ≡ true = ap is_known d.0 ∙ k in
       and_both (is_known j) (is_taken j x && all_covered x) i
       (and_both (is_taken j x) (all_covered x) (node_told j x r d.1 s m.0)
-      (told x (table j) r d.1 (all_known j) (settled_inside j x r d.1 i) m.1))
+      (told x (table j) r d.1 (all_known j) (settled_inside j x r d.1 (known_none j i)) m.1))
   told (Whole x) (operand p l) r d k s n = form_parts x p r d.1 n
   told (AWord cs) g r d k s n = refl
   told (ALiteral cs) g r d k s n = refl
@@ -172,28 +178,28 @@ mutual
       let f = front_form p k _ d.0 in
       and_both (is_form k) _ f
       (and_both (is_plain_part k (normal (kept y))) (all_covered y) (part_told k p y r d.0 d.1)
-      (told y (table k) r d.1 (all_known k) (settled_inside k y r d.1 (part_known k f)) n))
+      (told y (table k) r d.1 (all_known k) (settled_inside k y r d.1 (known_none k (part_known k f))) n))
   form_parts (Front k y x) p r d n =
       let m = both_true (no_lone y) (no_lone x) n in
       let f = front_form p k _ d.0 in
       and_both (is_form k) _ f
       (and_both (is_plain_part k (normal (kept y))) _ (part_told k p y (flat x ++ r) d.0 d.1)
       (and_both (all_covered y) (all_covered x)
-      (told y (table k) (flat x ++ r) d.1 (all_known k) (settled_inside k y _ d.1 (part_known k f)) m.0)
+      (told y (table k) (flat x ++ r) d.1 (all_known k) (settled_inside k y _ d.1 (known_none k (part_known k f))) m.0)
       (form_parts x (inside p k) r d.4 m.1)))
   form_parts (Back l k y) p r d n =
       let m = both_true (no_lone l) (no_lone y) n in
       let f = back_form p k _ d.0 in
       and_both (is_form k) _ f
       (and_both (all_covered l) (all_covered y) (form_parts l p _ d.4 m.0)
-      (told y (table k) r d.1 (all_known k) (settled_inside k y r d.1 (part_known k f)) m.1))
+      (told y (table k) r d.1 (all_known k) (settled_inside k y r d.1 (known_none k (part_known k f))) m.1))
   form_parts (Infix l k y x) p r d n =
       let m = both_true (no_lone y) (no_lone l && no_lone x) n in
       let o = both_true (no_lone l) (no_lone x) m.1 in
       let f = back_form p k _ d.0 in
       and_both (is_form k) _ f
       (and_both (all_covered y) _
-      (told y (table k) (flat x ++ r) d.1 (all_known k) (settled_inside k y _ d.1 (part_known k f)) m.0)
+      (told y (table k) (flat x ++ r) d.1 (all_known k) (settled_inside k y _ d.1 (known_none k (part_known k f))) m.0)
       (and_both (all_covered l) (all_covered x) (form_parts l p _ d.4 o.0) (form_parts x (inside p k) r d.6 o.1)))
   form_parts _ p r d n = absurd d
 
@@ -213,16 +219,26 @@ lone_told k (Node j x) r d c = by_end (ends_in_pattern k) refl
     by_end true e = ap (λ b. not b || no_lone (Node j x)) (sym (ap ends_in_pattern d.0 ∙ e)) ∙ c
 lone_told k _ r d c = absurd d
 
-pub whole_told : (k : Kind) (x : Tree) (r : List Token) → Derives x (ref k) r → is_covered x ≡ true
-    → is_whole x ≡ true
-whole_told k (Node l x) r d c =
+pub whole_told : (k : Kind) (x : Tree) (r : List Token) → is_known k ≡ true → Derives x (ref k) r
+    → is_covered x ≡ true → is_whole x ≡ true
+whole_told k (Node l x) r h d c =
     let y : Tree = Node l x in
     let a = both_true (stands_alone y) _ c in
-    let b = both_true (is_known l) _ a.1 in
+    let b = both_true (is_known_alone y) _ a.1 in
     let e = both_true (is_asked_alone y) (ends_alone y) b.1 in
-    and_both (stands_alone y) (all_covered y) a.0
-    (told y (ref k) r d (sym (ap is_known d.0) ∙ b.0) e.0 (lone_told k y r d e.1))
-whole_told k _ r d c = absurd d
+    and_both (stands_alone y) (all_covered y) a.0 (told y (ref k) r d h e.0 (lone_told k y r d e.1))
+whole_told k _ r h d c = absurd d
+
+-- what stands in a tree, of a kind that has no step too
+pub inside_told : (k : Kind) (x : Tree) (r : List Token) → Derives (Node k x) (ref k) r
+    → is_covered (Node k x) ≡ true → all_covered x ≡ true
+inside_told k x r d c =
+    let y : Tree = Node k x in
+    let a = both_true (stands_alone y) _ c in
+    let b = both_true (is_known_alone y) _ a.1 in
+    let e = both_true (is_asked_alone y) (ends_alone y) b.1 in
+    told x (table k) r d.1 (all_known k) (settled_inside k x r d.1 (is_false (is_one_statement k) b.0))
+    (both_true (is_no_lone k x) (no_lone x) (lone_told k y r d e.1)).1
 
 -- Of a file nothing is asked.
 file_in : (x : Tree) → is_covered (Node AFile x) ≡ true

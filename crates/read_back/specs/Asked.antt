@@ -2,11 +2,11 @@
 -- saw the rest.
 use Rattle.std.specs.Prelude.{Bool, true, false, ◌&&◌, ◌||◌, not}
 use Rattle.syn_grammar.specs.Kind.{Kind, AConst, AnImpl, AStatement, ClosureParam, FieldPattern, IdentPattern}
-use Rattle.syn_grammar.specs.Kind.{OnePattern, Pattern, ReferencePattern, SeveralPatterns}
+use Rattle.syn_grammar.specs.Kind.{OnePattern, OneStatement, Pattern, ReferencePattern, SeveralPatterns}
 use Rattle.syn_grammar.specs.Tree.{Tree, Pair, First, Second, Again, Final, More, Group, Dropped, Called, Verbatim}
 use Rattle.syn_grammar.specs.Tree.{Node, Whole, Alone, Front, Back, Infix}
 use Rattle.syn_grammar.specs.Part.{choice}
-use Rattle.grammar_back.specs.Covered.{has_lone_value, has_own_trait, is_known, is_lone, is_no_call, item_of}
+use Rattle.grammar_back.specs.Covered.{has_lone_value, has_own_trait, is_lone, is_no_call, item_of}
 use Rattle.grammar_back.specs.Covered.{stands_alone}
 
 -- Of a tree by itself: a constant has no where clause behind a value, and what an impl implements is a path. As an item
@@ -62,11 +62,14 @@ abbrev pub ends_alone : Tree → Bool
 ends_alone (Node k x) = not (ends_in_pattern k) || no_lone (Node k x)
 ends_alone x = true
 
--- It is of a kind that has a step, as all that it holds is.
+-- So it is asked of a tree that stands by itself; of what stands in it nothing is asked.
+abbrev pub is_one_statement : Kind → Bool
+is_one_statement OneStatement = true
+is_one_statement k = false
+
 abbrev pub is_known_alone : Tree → Bool
-is_known_alone (Node k x) = is_known k
+is_known_alone (Node k x) = not (is_one_statement k)
 is_known_alone x = false
 
--- So it is asked of a tree that stands by itself; of what stands in it nothing is asked.
 abbrev pub is_covered : Tree → Bool
 is_covered x = stands_alone x && (is_known_alone x && (is_asked_alone x && ends_alone x))
