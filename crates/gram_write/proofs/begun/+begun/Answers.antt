@@ -1,6 +1,6 @@
 use Rattle.std.specs.Prelude.{List, Option, Bool, Some}
 use Rattle.std.proofs.Common.{◌≡◌, arith, ap, sym, ◌∙◌, ◌<◌, ◌+◌, length, get_or, drop, rules}
-use denote.Param.Weighed.{most}
+use denote.Param.Weighed.{at_most, most}
 use Rattle.gram_tree.specs.declared.tree.Tree.TheDeep.{size-Tree}
 use Rattle.syn_grammar.specs.Tree.{Tree, flat}
 use Rattle.gram_tree.specs.Forms.{tree_of, turns}
@@ -24,3 +24,9 @@ begun_turns-returns-in-Some t c =
     let f : Some c.in-Some.opens ≡ begun (flat x) = search rules in
     ap (λ (o : Option Bool). earlier o (begun (flat (turns (drop (c.loop-tree.tree-index + 1) xs))))) f
     ∙ sym (turn_first xs c.loop-tree.tree-index x h e) ∙ c.loop-tree.invariant
+
+pub begun_turns-begun-requires : goal.begun_turns-begun-requires
+begun_turns-begun-requires n c =
+    let below = at_most (λ (x : Tree). size-Tree x) c.args.trees.now c.loop-tree.tree-index c.tree-item.result
+    c.loop-tree-test.true in
+    omega (arith, c.decreases, below, ap (λ (x : Tree). size-Tree x) c.tree-item.is)
