@@ -3,7 +3,7 @@ use Rattle.std.specs.Prelude.{◌≡◌, Bool, true, false, List, [], ◌∷◌}
 use Rattle.std.proofs.Common.{inl}
 use Rattle.proc_macro2.specs.Token.{Token}
 use Rattle.syn_grammar.specs.Kind.{Kind, AFieldValue, AStatement, AType, Arm, Expression, ImplGenerics, Plain}
-use Rattle.syn_grammar.specs.Kind.{InArm, InCondition, InStatement, WithPlus}
+use Rattle.syn_grammar.specs.Kind.{InArm, InCondition, InStatement, OneStatement, WithPlus}
 use Rattle.syn_grammar.specs.Look.{maybe, sees, the_end}
 use Rattle.syn_grammar.specs.Tree.{Tree, Node}
 use Rattle.grammar_back.specs.After.{behind, After}
@@ -31,6 +31,7 @@ suffices (Expression InCondition) x s a = a
 suffices (Expression InArm) x s a = inl a
 suffices (Expression InStatement) x s a = inl a
 suffices AStatement x s a = inl a
+suffices OneStatement x s a = inl a
 suffices Arm x s a = absurd (no_such s a.0)
 suffices AFieldValue x s a = inl a
 suffices (AType WithPlus) x s a = inl a
@@ -43,6 +44,7 @@ is_by_tokens (Expression Plain) = false
 is_by_tokens (Expression InArm) = false
 is_by_tokens (Expression InStatement) = false
 is_by_tokens AStatement = false
+is_by_tokens OneStatement = false
 is_by_tokens Arm = false
 is_by_tokens AFieldValue = false
 is_by_tokens (AType WithPlus) = false
@@ -55,6 +57,7 @@ by_tokens (Expression InCondition) x s e a = a
 by_tokens (Expression InArm) x s e a = cc
 by_tokens (Expression InStatement) x s e a = cc
 by_tokens AStatement x s e a = cc
+by_tokens OneStatement x s e a = cc
 by_tokens Arm x s e a = cc
 by_tokens AFieldValue x s e a = cc
 by_tokens (AType WithPlus) x s e a = cc

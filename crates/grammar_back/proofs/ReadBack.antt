@@ -4,7 +4,7 @@ use Rattle.std.specs.Prelude.{true}
 use Rattle.proc_macro2.specs.Token.{Token}
 use Rattle.syn_grammar.specs.Kind.{AStatement, Arm, Kind, Plain, InCondition, InArm, InStatement, AFieldValue, AType}
 use Rattle.syn_grammar.specs.Kind.{Expression}
-use Rattle.syn_grammar.specs.Kind.{ImplGenerics, WithPlus}
+use Rattle.syn_grammar.specs.Kind.{ImplGenerics, OneStatement, WithPlus}
 use Rattle.syn_grammar.specs.Tree.{Tree, Node, flat}
 use Rattle.syn_grammar.specs.Gram.{ref}
 use Rattle.syn_grammar.specs.Derives.{Derives}
@@ -26,7 +26,7 @@ use Rattle.grammar_back.specs.Covered.{is_statement_form}
 use Rattle.grammar_back.proofs.Fits.{IsMeant}
 use Rattle.std.specs.Prelude.{Bool, false}
 use Rattle.syn_grammar.specs.Tree.{First, Nil, Second, Whole}
-use Rattle.grammar_back.specs.Covered.{all_covered, stands_alone}
+use Rattle.grammar_back.specs.Covered.{all_covered, has_form_step, has_step, is_known, stands_alone}
 use Rattle.std.specs.Prelude.{◌&&◌}
 use Rattle.grammar_back.proofs.Choices.{both_true}
 use Rattle.grammar_back.proofs.Conditions.{is_condition_kind}
@@ -129,6 +129,12 @@ closed_fits (Node k x) f =
     (closed_form x (subst (λ j. Fits x (table j)) f.0 f.3))
 closed_fits _ f = absurd f
 
+-- one statement by itself has no step
+none_one : (w : Tree) → Fits w (ref OneStatement) → ⊥
+unfolding has_step has_form_step
+none_one (Node k x) f = contrary (subst (λ j. is_known j ≡ true) f.0 f.1)
+none_one _ f = f
+
 -- what may follow what is kept may follow what is printed
 after_printed : (k : Kind) (w : Tree) (s : List Token) → IsAlone k → Fits w (ref k) → After k (kept w) s
     → After k w s
@@ -138,6 +144,7 @@ after_printed (Expression InArm) w s p f a = cc p
 after_printed (Expression InStatement) w s p f a = cc p
 after_printed Arm w s p f a = absurd p
 after_printed AStatement w s p f a = statement_printed w s f a
+after_printed OneStatement w s p f a = absurd (none_one w f)
 after_printed AFieldValue w s p f a =
     ⊎_elim (λ h. inl h) (λ h. inr (sym (end_fits w f) ∙ h.0, h.1)) a
 after_printed (AType WithPlus) w s p f a =

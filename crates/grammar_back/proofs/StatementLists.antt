@@ -37,8 +37,8 @@ use Rattle.grammar_back.proofs.Sights.{ident_not}
 use Rattle.grammar_back.proofs.Starts.{starts}
 use Rattle.grammar_back.proofs.WholeItems.{taken_law}
 use Rattle.grammar_back.proofs.Lets.{kept_true}
-use Rattle.grammar_back.proofs.Statements.{a_turn, contrary, each_form, is_macro_statement, needs_not, open_fits}
-use Rattle.grammar_back.proofs.Statements.{open_held, open_needs, turn_needs, with_names}
+use Rattle.grammar_back.proofs.Statements.{a_turn, contrary, each_form, is_macro_statement, is_turn, needs_not}
+use Rattle.grammar_back.proofs.Statements.{open_fits, open_held, open_needs, turn_needs, with_names}
 use Rattle.grammar_back.proofs.RawTurns.{turn_printed}
 
 -- of all of them
@@ -60,7 +60,7 @@ turns_pass q (Again t (Again y z)) (Again u (Again v w)) r c d f e n =
     let h = both_true (all_covered t) (all_covered (Again y z)) c in
     let i = both_true (not (needs_semicolon (choice t))) (Passes (Again y z)) n in
     ap (λ b. not b && Passes (Again v w))
-    (turn_needs t u q _ (flat (Again y z) ++ r) h.0 d.1 f.0 (ap turn_of e) (is_false (needs_semicolon (choice t)) i.0))
+    (turn_needs t u q _ (flat (Again y z) ++ r) h.0 (is_turn t _ d.1) f.0 (ap turn_of e) (is_false (needs_semicolon (choice t)) i.0))
     ∙ turns_pass q (Again y z) (Again v w) r h.1 d.2 f.1 (ap turns_behind e) i.1
 turns_pass q (Again t (Again y z)) (Again u End) r c d f e n = refl
 turns_pass q (Again t (Again y z)) (Again u _) r c d f e n = absurd f.1

@@ -881,7 +881,16 @@ as_none (Second (First x)) w q b i e =
     ∙ macro_apart b (normal (kept x))))
 as_none _ w q b i e = refl
 
-opened : (t u : Tree) (q : Position) (b : Bool) (r : List Token) → all_covered t ≡ true → Derives t a_turn r
+-- a turn that was read, or a statement by itself
+abbrev pub IsTurn : Tree → List Token → Type 0
+IsTurn (Second x) r = Derives x (ref AStatement) r
+IsTurn t r = Derives t a_turn r
+
+pub is_turn : (t : Tree) (r : List Token) → Derives t a_turn r → IsTurn t r
+is_turn (Second x) r d = d.1
+is_turn _ r d = d
+
+opened : (t u : Tree) (q : Position) (b : Bool) (r : List Token) → all_covered t ≡ true → IsTurn t r
     → Fits u a_turn → kept u ≡ apart_if b (normal_in q (kept t)) → is_open_turn u ≡ true → is_macro_turn u ≡ false
     → Opened t u
 unfolding held passed
@@ -891,11 +900,11 @@ opened (Second (Node l x)) (Second (Node k w)) q b r c d f e o z =
     ap (λ j. Second (Node j w)) f.1.0 ∙ ap (λ z. Second (Node AStatement z)) p.is in
     let g : kept (open_turn p.front p.form) ≡ apart_if b (normal_in q (kept (Second (Node AStatement x)))) =
     subst (λ z. kept z ≡ apart_if b (normal_in q (kept (Second (Node AStatement x))))) u
-    (subst (λ j. kept (Second (Node k w)) ≡ apart_if b (normal_in q (kept (Second (Node j x))))) d.1.0 e) in
-    let m = open_held l k x w q b d.1.0 f e o in
-    let i = open_read x r (subst (λ j. Derives x (table j) r) d.1.0 d.1.1) (taken x l d.1.0 c) m (as_none x w q b p g) in
+    (subst (λ j. kept (Second (Node k w)) ≡ apart_if b (normal_in q (kept (Second (Node j x))))) d.0 e) in
+    let m = open_held l k x w q b d.0 f e o in
+    let i = open_read x r (subst (λ j. Derives x (table j) r) d.0 d.1) (taken x l d.0 c) m (as_none x w q b p g) in
     let t : Second (Node l x) ≡ open_turn i.front i.form =
-    ap (λ j. Second (Node j x)) d.1.0 ∙ ap (λ z. Second (Node AStatement z)) i.is in
+    ap (λ j. Second (Node j x)) d.0 ∙ ap (λ z. Second (Node AStatement z)) i.is in
     record {
       before = i.front;
       source = i.form;
@@ -910,7 +919,7 @@ opened (Second (Node l x)) (Second (Node k w)) q b r c d f e o z =
     }
 opened (Second (Node l x)) (Second _) q b r c d f e o z = absurd (contrary o)
 opened (Second (Node l x)) _ q b r c d f e o z = absurd (contrary o)
-opened (Second _) u q b r c d f e o z = absurd d.1
+opened (Second _) u q b r c d f e o z = absurd d
 opened (First (AMark m ms spacing)) (Second (Node k w)) q b r c d f e o z =
     let p = open_fits w (subst (λ j. Fits w (table j)) f.1.0 f.1.3) (subst (λ j. IsMeant j w) f.1.0 f.1.4) o z in
     let u : Second (Node k w) ≡ open_turn p.front p.form =
@@ -967,7 +976,7 @@ pub open_needs : (a x : Tree) → needs_semicolon (choice (open_turn a x)) ≡ n
 unfolding same_part
 open_needs a x = refl
 
-pub turn_needs : (t u : Tree) (q : Position) (b : Bool) (r : List Token) → all_covered t ≡ true → Derives t a_turn r
+pub turn_needs : (t u : Tree) (q : Position) (b : Bool) (r : List Token) → all_covered t ≡ true → IsTurn t r
     → Fits u a_turn → kept u ≡ apart_if b (normal_in q (kept t)) → needs_semicolon (choice t) ≡ false
     → needs_semicolon (choice u) ≡ false
 unfolding table

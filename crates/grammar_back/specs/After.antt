@@ -10,7 +10,7 @@ use Rattle.syn_grammar.specs.Kind.{ExprReference, Expression, FieldPattern, Fiel
 use Rattle.syn_grammar.specs.Kind.{FnPtrType, ForeignItems, GenericParam, GenericParams, Generics, IdentPattern}
 use Rattle.syn_grammar.specs.Kind.{ImplGenerics, ImplItems, ImplType, InArm, InCondition, InExpression, InFile}
 use Rattle.syn_grammar.specs.Kind.{InForeign, InImpl, InModule, InStatement, InTrait, InType, InnerAttributes}
-use Rattle.syn_grammar.specs.Kind.{Items, LifetimeColon, LifetimeParam, Lifetimes, LiteralPattern, Meta}
+use Rattle.syn_grammar.specs.Kind.{Items, LifetimeColon, LifetimeParam, Lifetimes, LiteralPattern, Meta, OneStatement}
 use Rattle.syn_grammar.specs.Kind.{NamedField, OnePattern, OuterAttributes, Parameter, ParenthesizedArguments}
 use Rattle.syn_grammar.specs.Kind.{Path, PathPattern, Pattern, Plain, PointerType, QualifiedPath, RangeBound}
 use Rattle.syn_grammar.specs.Kind.{RangeEnd, RangeToPattern, Receiver, ReferencePattern, ReferenceType}
@@ -157,6 +157,7 @@ behind (Signature InImpl) = at "where" ∷ marks "->" ∷ marks "::" ∷ argumen
     ∷ no where_ends ∷ marks "," ∷ a_lifetime ∷ marks "+" ∷ bound_stands ∷ []
 behind AStatement = no the_end ∷ []
 behind Statements = no the_end ∷ []
+behind OneStatement = no the_end ∷ []
 behind Items = no the_end ∷ []
 behind ForeignItems = no the_end ∷ []
 behind TraitItems = no the_end ∷ []
@@ -240,6 +241,12 @@ EndsStatement (Node k x) s = EndsStatement x s
 EndsStatement x s =
     (is_open x ≡ false) ⊎ (EndsThere InStatement (expression_of x) s × LacksAll (marks ";" ∷ []) s)
 
+-- the statement that stands by itself
+abbrev pub in_one : Tree → Tree
+in_one (Node k x) = in_one x
+in_one (First x) = x
+in_one x = x
+
 -- Behind an arm: where it has no comma, nothing, if its tree says so; or what it ends before, and no comma, which would
 -- be its own.
 abbrev pub EndsArm : Tree → Tree → List Token → Type 0
@@ -253,16 +260,17 @@ FollowsArm (First (Pair o (Pair p (Pair g (Pair a (Pair (Called n e) (Called m c
 FollowsArm x s = s ≡ []
 
 -- What may follow a kind's tree: what these looks don't see; behind a plain expression also else, as said above; behind
--- one in an arm or a statement what such a form ends before; behind a statement that has its ; or is neither an
--- expression nor a macro anything; behind an arm what is said above; behind a field of a struct expression what may
--- follow it, and behind .. the end; behind a type that is a path what may follow one without plus; and behind the
--- generics of an impl that are there anything.
+-- one in an arm or a statement what such a form ends before; behind a statement, by itself or among others, that has its
+-- ; or is neither an expression nor a macro anything; behind an arm what is said above; behind a field of a struct
+-- expression what may follow it, and behind .. the end; behind a type that is a path what may follow one without plus;
+-- and behind the generics of an impl that are there anything.
 abbrev pub After : Kind → Tree → List Token → Type 0
 After (Expression Plain) x s =
     LacksAll (behind (Expression Plain)) s ⊎ ((is_closed x ≡ true) × (sees (at "else") s ≡ true))
 After (Expression InArm) x s = LacksAll (behind (Expression InArm)) s ⊎ EndsThere InArm x s
 After (Expression InStatement) x s = LacksAll (behind (Expression InStatement)) s ⊎ EndsThere InStatement x s
 After AStatement x s = LacksAll (behind AStatement) s ⊎ EndsStatement x s
+After OneStatement x s = LacksAll (behind OneStatement) s ⊎ EndsStatement (in_one x) s
 After Arm x s = FollowsArm x s
 After AFieldValue x s =
     LacksAll (behind AFieldValue) s ⊎ ((is_end x ≡ false) × LacksAll (behind FieldValue) s)

@@ -682,6 +682,7 @@ def write():
     body=''
     for k in list(GIVEN)+order:
         if behind[k]: body+=f'behind {clause(k)} = '+list_of([show(l,l[1] not in('then','or')) for l in behind[k]])+'\n'
+        if k==('Statements',): body+='behind OneStatement = no the_end ∷ []\n'
     body='abbrev pub behind : Kind → List Look\n'+body+'behind k = []\n'
     body+="""
 -- the form of an expression
@@ -743,6 +744,12 @@ EndsStatement (Node k x) s = EndsStatement x s
 EndsStatement x s =
     (is_open x ≡ false) ⊎ (EndsThere InStatement (expression_of x) s × LacksAll (marks ";" ∷ []) s)
 
+-- the statement that stands by itself
+abbrev pub in_one : Tree → Tree
+in_one (Node k x) = in_one x
+in_one (First x) = x
+in_one x = x
+
 -- Behind an arm: where it has no comma, nothing, if its tree says so; or what it ends before, and no comma, which would
 -- be its own.
 abbrev pub EndsArm : Tree → Tree → List Token → Type 0
@@ -756,16 +763,17 @@ FollowsArm (First (Pair o (Pair p (Pair g (Pair a (Pair (Called n e) (Called m c
 FollowsArm x s = s ≡ []
 
 -- What may follow a kind's tree: what these looks don't see; behind a plain expression also else, as said above; behind
--- one in an arm or a statement what such a form ends before; behind a statement that has its ; or is no expression
--- anything; behind an arm what is said above; behind a field of a struct expression what may follow it, and behind ..
--- the end; behind a type that is a path what may follow one without plus; and behind the generics of an impl that are
--- there anything.
+-- one in an arm or a statement what such a form ends before; behind a statement, by itself or among others, that has its
+-- ; or is neither an expression nor a macro anything; behind an arm what is said above; behind a field of a struct
+-- expression what may follow it, and behind .. the end; behind a type that is a path what may follow one without plus;
+-- and behind the generics of an impl that are there anything.
 abbrev pub After : Kind → Tree → List Token → Type 0
 After (Expression Plain) x s =
     LacksAll (behind (Expression Plain)) s ⊎ ((is_closed x ≡ true) × (sees (at "else") s ≡ true))
 After (Expression InArm) x s = LacksAll (behind (Expression InArm)) s ⊎ EndsThere InArm x s
 After (Expression InStatement) x s = LacksAll (behind (Expression InStatement)) s ⊎ EndsThere InStatement x s
 After AStatement x s = LacksAll (behind AStatement) s ⊎ EndsStatement x s
+After OneStatement x s = LacksAll (behind OneStatement) s ⊎ EndsStatement (in_one x) s
 After Arm x s = FollowsArm x s
 After AFieldValue x s =
     LacksAll (behind AFieldValue) s ⊎ ((is_end x ≡ false) × LacksAll (behind FieldValue) s)

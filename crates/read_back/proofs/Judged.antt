@@ -27,7 +27,7 @@ use Rattle.expressions_back.proofs.Bools.{never}
 use Rattle.grammar_back.specs.Covered.{has_lone_value, has_own_trait}
 use Rattle.grammar_back.proofs.Statements.{a_turn}
 use Rattle.grammar_back.proofs.Choices.{both_same, both_true, is_false}
-use Rattle.read_back.specs.Asked.{is_asked_alone, is_one_statement}
+use Rattle.read_back.specs.Asked.{is_asked_alone, is_asked_statement}
 use Rattle.read_back.proofs.ToldBraces.{goes_there}
 use Rattle.read_back.proofs.ToldCalls.{statement_told}
 use Rattle.read_back.proofs.ToldTurns.{turns_free}
@@ -55,6 +55,7 @@ abbrev is_plain_kind : Kind → Bool
 is_plain_kind AConst = false
 is_plain_kind AnImpl = false
 is_plain_kind AStatement = false
+is_plain_kind OneStatement = false
 is_plain_kind k = true
 
 -- an entry in which none of them stands
@@ -75,6 +76,7 @@ plain_node : (k : Kind) (x : Tree) → is_plain_kind k ≡ true → are_settled 
 plain_node AConst x h = absurd (never h)
 plain_node AnImpl x h = absurd (never h)
 plain_node AStatement x h = absurd (never h)
+plain_node OneStatement x h = absurd (never h)
 plain_node _ x h = refl
 
 -- nor of what such an entry reads
@@ -271,6 +273,7 @@ const_settled InForeign v x r d e = cc e
 -- in a trait stands no impl, and a statement is no item
 abbrev stands_in : Place → Kind → Bool
 stands_in p AStatement = false
+stands_in p OneStatement = false
 stands_in InTrait AnImpl = false
 stands_in p k = true
 
@@ -288,6 +291,7 @@ node_settled : (p : Place) (v : Bool) (k : Kind) (x : Tree) (r : List Token) →
 node_settled p v AConst x r d h e = const_settled p v x r d e
 node_settled p v AnImpl x r d h e = impl_settled p v x r d h e
 node_settled p v AStatement x r d h e = absurd (never h)
+node_settled p v OneStatement x r d h e = absurd (never h)
 node_settled p v _ x r d h e = refl
 
 -- the alternatives of an item, each of which may stand in that place
@@ -371,7 +375,20 @@ statements_settled (First x) r d = turns_settled x r d.1
 statements_settled (Verbatim x) r d = refl
 statements_settled _ r d = absurd d
 
--- of each kind
+-- one by itself, as it is asked
+pub statement_settled : (x : Tree) (r : List Token) → Derives x (table OneStatement) r
+    → is_asked_alone (Node OneStatement x) ≡ true → are_settled x ≡ true
+unfolding table
+statement_settled (First (Node k x)) r d c = subst (λ j. are_settled (Node j x) ≡ true) (sym d.1.0) c
+statement_settled (First _) r d c = absurd d.1
+statement_settled (Verbatim x) r d c = refl
+statement_settled _ r d c = absurd d
+
+abbrev pub is_one_statement : Kind → Bool
+is_one_statement OneStatement = true
+is_one_statement k = false
+
+-- of each other kind
 pub settled_inside : (k : Kind) (x : Tree) (r : List Token) → Derives x (table k) r → is_one_statement k ≡ false
     → are_settled x ≡ true
 unfolding table same_part

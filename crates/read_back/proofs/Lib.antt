@@ -42,6 +42,7 @@ pub mod Told
 pub mod OneKind
 pub mod OneItems
 pub mod OneTraits
+pub mod OneStatement
 pub mod OneKinds
 pub mod ReadBack
 pub mod Positions

@@ -1,4 +1,4 @@
--- Each kind has a step, or it stands nowhere but by itself and ends by itself.
+-- Each kind has a step, or it stands nowhere but by itself: then it ends by itself, or it is a statement.
 use Rattle.std.proofs.Common.{◌≡◌, List, ◌++◌, refl, sym, ap, ◌∙◌, subst}
 use Rattle.std.specs.Prelude.{Bool, true, false}
 use Rattle.proc_macro2.specs.Token.{Token}
@@ -16,13 +16,15 @@ use Rattle.syn_grammar.specs.Kept.{kept}
 use Rattle.syn_grammar.specs.Normal.{normal}
 use Rattle.syn_grammar.specs.Read.{IsRead}
 use Rattle.expressions_back.proofs.Bools.{never}
-use Rattle.grammar_back.specs.Covered.{has_form_step, has_step, is_known, stands_alone}
-use Rattle.grammar_back.proofs.Choices.{both_true, is_false}
+use Rattle.grammar_back.specs.After.{After}
+use Rattle.grammar_back.specs.Covered.{has_form_step, has_step, is_known}
 use Rattle.grammar_back.proofs.Fine.{Any}
-use Rattle.read_back.specs.Asked.{is_covered, is_known_alone, is_one_statement}
+use Rattle.read_back.specs.Asked.{is_covered}
+use Rattle.read_back.proofs.Judged.{is_one_statement}
 use Rattle.read_back.proofs.OneItems as items
 use Rattle.read_back.proofs.OneTraits as traits
 use Rattle.read_back.proofs.OneKind.{OneKind, read_one}
+use Rattle.read_back.proofs.OneStatement.{read_statement}
 use Rattle.read_back.proofs.Told.{inside_told}
 
 -- they have no step
@@ -163,9 +165,13 @@ one_back k (Node l x) r s h d c =
     (read_one k Any (all_ones k h) x r s e.1 (inside_told k x r e i) (λ w e f. tt))
 one_back k _ r s h d c = absurd d
 
-pub no_statement : (k : Kind) (x : Tree) (r : List Token) → Derives x (ref k) r → is_covered x ≡ true
-    → is_one_statement k ≡ false
-no_statement k (Node l x) r d c =
-    sym (ap is_one_statement d.0)
-    ∙ is_false (is_one_statement l) (both_true (is_known_alone (Node l x)) _ (both_true (stands_alone (Node l x)) _ c).1).0
-no_statement k _ r d c = absurd d
+pub statement_back : (k : Kind) (x : Tree) (r s : List Token) → is_one_statement k ≡ true → Derives x (ref k) r
+    → is_covered x ≡ true → After k (normal (kept x)) s → IsRead k (flat (normal (kept x)) ++ s) (normal (kept x)) s
+statement_back OneStatement (Node l x) r s h d c a =
+    let e = subst (λ j. Derives (Node j x) (ref OneStatement) r) d.0 d in
+    let i : is_covered (Node OneStatement x) ≡ true = subst (λ j. is_covered (Node j x) ≡ true) d.0 c in
+    subst (λ j. IsRead OneStatement (flat (normal (kept (Node j x))) ++ s) (normal (kept (Node j x))) s) (sym d.0)
+    (read_statement x r s e.1 (inside_told OneStatement x r e i)
+    (subst (λ j. After OneStatement (normal (kept (Node j x))) s) d.0 a))
+statement_back OneStatement _ r s h d c a = absurd d
+statement_back _ x r s h d c a = absurd (never h)

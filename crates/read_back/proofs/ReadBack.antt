@@ -14,17 +14,20 @@ use Rattle.grammar_back.specs.After.{After}
 use Rattle.grammar_back.proofs.ReadBack.{node_placed, read_placed}
 use Rattle.read_back.specs.Asked.{is_covered}
 use Rattle.read_back.proofs.Forms.{expressions}
-use Rattle.read_back.proofs.OneKinds.{all_others, is_one_kind, no_statement, one_back}
+use Rattle.read_back.proofs.Judged.{is_one_statement}
+use Rattle.read_back.proofs.OneKinds.{all_others, is_one_kind, one_back, statement_back}
 use Rattle.read_back.proofs.Told.{whole_told}
 
 pub read_back : (k : Kind) (x : Tree) (r s : List Token) → Derives x (ref k) r → is_covered x ≡ true
     → After k (normal (kept x)) s → IsRead k (flat (normal (kept x)) ++ s) (normal (kept x)) s
-read_back k x r s d c a = go (is_one_kind k) refl
+read_back k x r s d c a = by_kind (is_one_kind k) (is_one_statement k) refl refl
   where
-    go : (b : Bool) → is_one_kind k ≡ b → IsRead k (flat (normal (kept x)) ++ s) (normal (kept x)) s
-    go true e = one_back k x r s e d c
-    go false e =
-        let w = whole_told k x r (all_others k e (no_statement k x r d c)) d c in
+    by_kind : (b e : Bool) → is_one_kind k ≡ b → is_one_statement k ≡ e
+        → IsRead k (flat (normal (kept x)) ++ s) (normal (kept x)) s
+    by_kind true e h i = one_back k x r s h d c
+    by_kind false true h i = statement_back k x r s i d c a
+    by_kind false false h i =
+        let w = whole_told k x r (all_others k h i) d c in
         read_placed expressions k x r s (node_placed k x r d w) d w a
 
 pub same_tokens : (k : Kind) (x y : Tree) (r q s : List Token) → Derives x (ref k) r → Derives y (ref k) q

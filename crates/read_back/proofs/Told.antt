@@ -22,13 +22,12 @@ use Rattle.syn_grammar.specs.Statements.{macro_statement_stands}
 use Rattle.expressions_back.proofs.Bools.{never}
 use Rattle.grammar_back.specs.Covered.{all_covered, has_form_step, has_step, is_form, is_known}
 use Rattle.grammar_back.specs.Covered.{is_plain_part, is_statement_form, is_taken, stands_alone}
-use Rattle.grammar_back.proofs.Choices.{both_same, both_true, is_false}
+use Rattle.grammar_back.proofs.Choices.{both_same, both_true}
 use Rattle.grammar_back.proofs.Passed.{behind_attributes}
 use Rattle.grammar_back.proofs.ReadBack.{is_whole}
 use Rattle.read_back.specs.Asked.{ends_alone, ends_in_pattern, is_asked_alone, is_asked_statement, is_covered}
-use Rattle.read_back.specs.Asked.{is_known_alone, is_one_statement}
 use Rattle.read_back.specs.Asked.{is_no_lone, no_lone}
-use Rattle.read_back.proofs.Judged.{are_settled, settled_inside}
+use Rattle.read_back.proofs.Judged.{are_settled, is_one_statement, settled_inside, statement_settled}
 use Rattle.read_back.proofs.ToldExpressions.{plain_told}
 use Rattle.read_back.proofs.ToldItems.{named_told, raw_told}
 use Rattle.read_back.proofs.ToldKinds.{all_known, back_form, front_form, refs_known}
@@ -224,25 +223,36 @@ pub whole_told : (k : Kind) (x : Tree) (r : List Token) → is_known k ≡ true 
 whole_told k (Node l x) r h d c =
     let y : Tree = Node l x in
     let a = both_true (stands_alone y) _ c in
-    let b = both_true (is_known_alone y) _ a.1 in
-    let e = both_true (is_asked_alone y) (ends_alone y) b.1 in
+    let e = both_true (is_asked_alone y) (ends_alone y) a.1 in
     and_both (stands_alone y) (all_covered y) a.0 (told y (ref k) r d h e.0 (lone_told k y r d e.1))
 whole_told k _ r h d c = absurd d
 
 -- what stands in a tree, of a kind that has no step too
+one_statement : (k : Kind) → is_one_statement k ≡ true → k ≡ OneStatement
+one_statement OneStatement e = refl
+one_statement _ e = absurd (never e)
+
+inside_settled : (k : Kind) (x : Tree) (r : List Token) → Derives x (table k) r → is_asked_alone (Node k x) ≡ true
+    → are_settled x ≡ true
+inside_settled k x r d c = go (is_one_statement k) refl
+  where
+    go : (b : Bool) → is_one_statement k ≡ b → are_settled x ≡ true
+    go false e = settled_inside k x r d e
+    go true e =
+        let i = one_statement k e in
+        statement_settled x r (subst (λ j. Derives x (table j) r) i d)
+        (subst (λ j. is_asked_alone (Node j x) ≡ true) i c)
+
 pub inside_told : (k : Kind) (x : Tree) (r : List Token) → Derives (Node k x) (ref k) r
     → is_covered (Node k x) ≡ true → all_covered x ≡ true
 inside_told k x r d c =
     let y : Tree = Node k x in
-    let a = both_true (stands_alone y) _ c in
-    let b = both_true (is_known_alone y) _ a.1 in
-    let e = both_true (is_asked_alone y) (ends_alone y) b.1 in
-    told x (table k) r d.1 (all_known k) (settled_inside k x r d.1 (is_false (is_one_statement k) b.0))
+    let e = both_true (is_asked_alone y) (ends_alone y) (both_true (stands_alone y) _ c).1 in
+    told x (table k) r d.1 (all_known k) (inside_settled k x r d.1 e.0)
     (both_true (is_no_lone k x) (no_lone x) (lone_told k y r d e.1)).1
 
 -- Of a file nothing is asked.
 file_in : (x : Tree) → is_covered (Node AFile x) ≡ true
-unfolding has_step
 file_in x = refl
 
 pub file_covered : (x : Tree) (r : List Token) → Derives x (ref AFile) r → is_covered x ≡ true

@@ -20,6 +20,7 @@ abbrev pub is_asked_alone : Tree → Bool
 is_asked_alone (Node AConst x) = has_lone_value x
 is_asked_alone (Node AnImpl x) = has_own_trait x
 is_asked_alone (Node AStatement x) = is_asked_statement x
+is_asked_alone (Node OneStatement (First (Node k x))) = is_asked_statement x
 is_asked_alone _ = true
 
 -- the kinds that may end in a pattern
@@ -63,13 +64,5 @@ ends_alone (Node k x) = not (ends_in_pattern k) || no_lone (Node k x)
 ends_alone x = true
 
 -- So it is asked of a tree that stands by itself; of what stands in it nothing is asked.
-abbrev pub is_one_statement : Kind → Bool
-is_one_statement OneStatement = true
-is_one_statement k = false
-
-abbrev pub is_known_alone : Tree → Bool
-is_known_alone (Node k x) = not (is_one_statement k)
-is_known_alone x = false
-
 abbrev pub is_covered : Tree → Bool
-is_covered x = stands_alone x && (is_known_alone x && (is_asked_alone x && ends_alone x))
+is_covered x = stands_alone x && (is_asked_alone x && ends_alone x)
