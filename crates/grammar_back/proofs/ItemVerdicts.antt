@@ -93,16 +93,16 @@ same_has n q g y v r d f e =
     sym (has_fits n v g f) ∙ ap (has n) e ∙ has_normal n q (kept y) ∙ has_read n y g r d
 
 -- forms that are always kept, or only behind no visibility
-law_struct : ItemLaw AStruct
+pub law_struct : ItemLaw AStruct
 law_struct q y v r d f e = ((λ b h. h), refl, refl)
 
-law_enum : ItemLaw AnEnum
+pub law_enum : ItemLaw AnEnum
 law_enum q y v r d f e = ((λ b h. h), refl, refl)
 
-law_union : ItemLaw AUnion
+pub law_union : ItemLaw AUnion
 law_union q y v r d f e = ((λ b h. h), refl, refl)
 
-law_crate : ItemLaw AnExternCrate
+pub law_crate : ItemLaw AnExternCrate
 law_crate q y v r d f e = ((λ b h. h), refl, refl)
 
 law_const_trait : ItemLaw AConstTrait
@@ -118,12 +118,12 @@ law_macro : ItemLaw (ItemMacro InFile)
 unfolding held passed
 law_macro q y v r d f e = ((λ b h. h), refl, plain_same InFile y v r d f (ap inner e))
 
-law_block : ItemLaw AForeignModule
+pub law_block : ItemLaw AForeignModule
 unfolding held passed
 law_block q y v r d f e =
     ((λ b h. h), ap (λ c. cond c 8 2) (same_has the_safety Plain (table AForeignModule) y v r d f (ap inner e)), refl)
 
-law_module : ItemLaw AModule
+pub law_module : ItemLaw AModule
 unfolding held passed
 law_module q y v r d f e =
     ((λ b h. h), ap (λ c. cond c 9 12) (same_has the_safety Plain (table AModule) y v r d f (ap inner e)), refl)
@@ -134,7 +134,7 @@ law_trait q y v r d f e =
     ((λ b h. h), ap (λ c. cond c 11 18) (same_has the_safety Plain (table ATrait) y v r d f (ap inner e)), refl)
 
 -- forms that need a body, a type, a value
-law_function : ItemLaw (AFunction InFile)
+pub law_function : ItemLaw (AFunction InFile)
 unfolding held passed
 law_function q y v r d f e = (
   λ b h. ap (λ c. raw_if (not c)) (same_has the_body Plain (table (AFunction InFile)) y v r d f (ap inner e)) ∙ h,
@@ -142,7 +142,7 @@ law_function q y v r d f e = (
   refl,
 )
 
-law_static : ItemLaw AStatic
+pub law_static : ItemLaw AStatic
 unfolding held passed
 law_static q y v r d f e = (
   λ b h. ap (λ c. refused_if (not c && not (has the_value v)) (raw_if (not (c && has the_value v)))) (same the_type)
@@ -388,7 +388,7 @@ constant_stays y v r d f e h =
     raw_none (not (has the_value v)) (is_generic (the the_generics v)) (is_where (the the_where v))
     (ap not j.0 ∙ i.0) (j.1 i.1) (j.2 i.2)
 
-law_constant : ItemLaw AConst
+pub law_constant : ItemLaw AConst
 unfolding held passed
 law_constant q y v r d f e = (λ b h. constant_stays y v r d f (ap inner e) h, refl, refl)
 
@@ -458,7 +458,7 @@ alias_stays p y v r d f e h =
     (tt, (tt, (tt, (tt, ((λ w f e. ap not (sym (has_fits the_type w (type_end p) f)) ∙ e), tt)))))
     (λ q x e. ap not (has_normal the_type q x) ∙ e) (λ x e. ap not (has_moved the_type x) ∙ e) d f e i.1)
 
-law_alias : ItemLaw (ATypeAlias InFile)
+pub law_alias : ItemLaw (ATypeAlias InFile)
 unfolding held passed
 law_alias q y v r d f e = (λ b h. alias_stays InFile y v r d f (ap inner e) h, refl, refl)
 
@@ -542,7 +542,7 @@ not_raw : (b : Bool) → raw_if b ≡ Keep → b ≡ false
 not_raw false e = refl
 not_raw true e = cc e
 
-law_use : ItemLaw AUse
+pub law_use : ItemLaw AUse
 unfolding held passed table same_part
 law_use q y v r d f e = (
   λ b h. ap raw_if (same_part_law the_path root_inside Plain (table AUse) y v r
@@ -656,7 +656,7 @@ first_same y v r d f e i =
     (related no_path (found the_first y) (found the_first (kept y)) (related_read the_first no_path y (table AnImpl) r
     ((tt, tt), ((tt, tt), ((tt, tt), (tt, (tt, ((tt, tt), (type_read, (((tt, tt), tt), (tt, (tt, tt)))))))))) d) i)))
 
-law_impl : ItemLaw AnImpl
+pub law_impl : ItemLaw AnImpl
 unfolding held passed
 law_impl q y v r d f e = (
   λ b h. ap (λ c. refused_if (b && not (c && not (has the_default v))) (raw_if (c || (has the_self v && no_path

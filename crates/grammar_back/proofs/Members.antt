@@ -407,10 +407,10 @@ abbrev pub SameMember : Place → Tree → Tree → Type 0
 SameMember p x w =
     ((b : Bool) → form_in p b x ≡ Keep → form_in p b w ≡ Keep) × (is_plain_macro w ≡ is_plain_macro x)
 
-trait_function : LawOf (SameMember InTrait) (AFunction InTrait)
+pub trait_function : LawOf (SameMember InTrait) (AFunction InTrait)
 trait_function q y v r d f e = ((λ b h. h), refl)
 
-trait_constant : LawOf (SameMember InTrait) AConst
+pub trait_constant : LawOf (SameMember InTrait) AConst
 unfolding held passed
 trait_constant q y v r d f e = (
   λ b h. let i = none_raw b (is_generic (the the_generics y)) (is_where (the the_where y)) h in
@@ -419,25 +419,25 @@ trait_constant q y v r d f e = (
   refl,
 )
 
-trait_alias : LawOf (SameMember InTrait) (ATypeAlias InTrait)
+pub trait_alias : LawOf (SameMember InTrait) (ATypeAlias InTrait)
 trait_alias q y v r d f e = ((λ b h. h), refl)
 
 trait_macro : LawOf (SameMember InTrait) (ItemMacro InTrait)
 unfolding held passed table
 trait_macro q y v r d f e = ((λ b h. h), plain_same InTrait y v r d f (ap inner e))
 
-impl_function : LawOf (SameMember InImpl) (AFunction InImpl)
+pub impl_function : LawOf (SameMember InImpl) (AFunction InImpl)
 unfolding held passed
 impl_function q y v r d f e = (
   λ b h. ap (λ c. raw_if (not c)) (same_has the_body Plain (table (AFunction InImpl)) y v r d f (ap inner e)) ∙ h,
   refl,
 )
 
-impl_constant : LawOf (SameMember InImpl) AConst
+pub impl_constant : LawOf (SameMember InImpl) AConst
 unfolding held passed
 impl_constant q y v r d f e = (λ b h. constant_stays y v r d f (ap inner e) h, refl)
 
-impl_alias : LawOf (SameMember InImpl) (ATypeAlias InImpl)
+pub impl_alias : LawOf (SameMember InImpl) (ATypeAlias InImpl)
 unfolding held passed
 impl_alias q y v r d f e = (λ b h. alias_stays InImpl y v r d f (ap inner e) h, refl)
 
@@ -622,10 +622,10 @@ module _ (p : Place) (marks_are : (x : Tree) → marked p x ≡ (is_public (the 
   member_meant (Verbatim x) _ r d f e = absurd f
   member_meant _ w r d f e = absurd d
 
-pub each_trait : EachOf (SameMember InTrait) (member_form InTrait)
+each_trait : EachOf (SameMember InTrait) (member_form InTrait)
 each_trait = (trait_function, (trait_constant, (trait_alias, (trait_macro, tt))))
 
-pub each_impl : EachOf (SameMember InImpl) (member_form InImpl)
+each_impl : EachOf (SameMember InImpl) (member_form InImpl)
 each_impl = (impl_function, (impl_constant, (impl_alias, (impl_macro, tt))))
 
 pub law_a_trait_item : KindLaw ATraitItem

@@ -60,7 +60,8 @@ turns_pass q (Again t (Again y z)) (Again u (Again v w)) r c d f e n =
     let h = both_true (all_covered t) (all_covered (Again y z)) c in
     let i = both_true (not (needs_semicolon (choice t))) (Passes (Again y z)) n in
     ap (λ b. not b && Passes (Again v w))
-    (turn_needs t u q _ (flat (Again y z) ++ r) h.0 (is_turn t _ d.1) f.0 (ap turn_of e) (is_false (needs_semicolon (choice t)) i.0))
+    (turn_needs t u q _ (flat (Again y z) ++ r) h.0 (is_turn t _ d.1) f.0 (ap turn_of e)
+    (is_false (needs_semicolon (choice t)) i.0))
     ∙ turns_pass q (Again y z) (Again v w) r h.1 d.2 f.1 (ap turns_behind e) i.1
 turns_pass q (Again t (Again y z)) (Again u End) r c d f e n = refl
 turns_pass q (Again t (Again y z)) (Again u _) r c d f e n = absurd f.1

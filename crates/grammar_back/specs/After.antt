@@ -234,8 +234,8 @@ expression_of (Second (First (Pair a (Pair m s)))) = Node (Expression InStatemen
 expression_of (Second (Second (Second (Second (Pair a (Pair (Called n e) s)))))) = e
 expression_of x = x
 
--- Its expression, or its macro as one, ends there, and no ; follows it, which would be its own; or it is none that is to
--- end so.
+-- Its expression, or its macro as one, ends there, and no ; follows it, which would be its own; or it is none that is
+-- to end so.
 abbrev pub EndsStatement : Tree → List Token → Type 0
 EndsStatement (Node k x) s = EndsStatement x s
 EndsStatement x s =
@@ -260,8 +260,8 @@ FollowsArm (First (Pair o (Pair p (Pair g (Pair a (Pair (Called n e) (Called m c
 FollowsArm x s = s ≡ []
 
 -- What may follow a kind's tree: what these looks don't see; behind a plain expression also else, as said above; behind
--- one in an arm or a statement what such a form ends before; behind a statement, by itself or among others, that has its
--- ; or is neither an expression nor a macro anything; behind an arm what is said above; behind a field of a struct
+-- one in an arm or a statement what such a form ends before; behind a statement, by itself or among others, that has
+-- its ; or is neither an expression nor a macro anything; behind an arm what is said above; behind a field of a struct
 -- expression what may follow it, and behind .. the end; behind a type that is a path what may follow one without plus;
 -- and behind the generics of an impl that are there anything.
 abbrev pub After : Kind → Tree → List Token → Type 0

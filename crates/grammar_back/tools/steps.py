@@ -763,8 +763,8 @@ FollowsArm (First (Pair o (Pair p (Pair g (Pair a (Pair (Called n e) (Called m c
 FollowsArm x s = s ≡ []
 
 -- What may follow a kind's tree: what these looks don't see; behind a plain expression also else, as said above; behind
--- one in an arm or a statement what such a form ends before; behind a statement, by itself or among others, that has its
--- ; or is neither an expression nor a macro anything; behind an arm what is said above; behind a field of a struct
+-- one in an arm or a statement what such a form ends before; behind a statement, by itself or among others, that has
+-- its ; or is neither an expression nor a macro anything; behind an arm what is said above; behind a field of a struct
 -- expression what may follow it, and behind .. the end; behind a type that is a path what may follow one without plus;
 -- and behind the generics of an impl that are there anything.
 abbrev pub After : Kind → Tree → List Token → Type 0

@@ -27,7 +27,7 @@ use Rattle.expressions_back.proofs.Bools.{never}
 use Rattle.grammar_back.specs.Covered.{has_lone_value, has_own_trait}
 use Rattle.grammar_back.proofs.Statements.{a_turn}
 use Rattle.grammar_back.proofs.Choices.{both_same, both_true, is_false}
-use Rattle.read_back.specs.Asked.{is_asked_alone, is_asked_statement}
+use Rattle.read_back.specs.Asked.{is_asked_alone}
 use Rattle.read_back.proofs.ToldBraces.{goes_there}
 use Rattle.read_back.proofs.ToldCalls.{statement_told}
 use Rattle.read_back.proofs.ToldTurns.{turns_free}

@@ -11,9 +11,9 @@ use Rattle.syn_grammar.specs.Kind.{OneFunction, OneTypeAlias, OuterAttributes, P
 use Rattle.syn_grammar.specs.Name.{Part, same_part, the_default, the_item, the_visibility}
 use Rattle.syn_grammar.specs.Tree.{Tree, Called, Node, Pair, flat}
 use Rattle.syn_grammar.specs.Part.{choice, found, has, is_some, or_else, or_nil, the}
-use Rattle.syn_grammar.specs.Gram.{AsRaw, Gram, Keep, Refuse, Verdict, judged, ref}
-use Rattle.syn_grammar.specs.Look.{◌or◌}
-use Rattle.syn_grammar.specs.Say.{at, ◌∶◌, ◌▸◌}
+use Rattle.syn_grammar.specs.Gram.{AsRaw, Gram, Keep, Refuse, Verdict, judged, nothing, ref}
+use Rattle.syn_grammar.specs.Look.{no, ◌or◌, ◌then◌}
+use Rattle.syn_grammar.specs.Say.{at, marks, ◌∶◌, ◌▸◌}
 use Rattle.syn_grammar.specs.Items.{safety}
 use Rattle.syn_grammar.specs.Lists.{default_there, only, typed}
 use Rattle.syn_grammar.specs.Verdicts.{form_in, is_public, item_verdict, marked, strictly}
@@ -23,15 +23,18 @@ use Rattle.syn_grammar.specs.Derives.{Derives}
 use Rattle.syn_grammar.specs.Kept.{forget, held, kept}
 use Rattle.syn_grammar.specs.Normal.{passed, place_of, normal}
 use Rattle.grammar_back.specs.After.{behind}
-use Rattle.grammar_back.proofs.Classes.{Class}
+use Rattle.grammar_back.proofs.Classes.{Class, the_words}
 use Rattle.grammar_back.proofs.Conditions.{is_condition_kind}
 use Rattle.grammar_back.proofs.Fine.{Any, Fine, fine_raw_or, fine_weaker}
 use Rattle.grammar_back.proofs.Fits.{Fits}
 use Rattle.grammar_back.proofs.ForeignItems.{foreign_alias, foreign_function, foreign_static, safety_words}
 use Rattle.grammar_back.proofs.Impls.{lacks_part}
 use Rattle.grammar_back.proofs.ItemPlaces.{has_none}
-use Rattle.grammar_back.proofs.ItemVerdicts.{EachOf, LawOf, SameItem, each_item, form_same, same_has}
-use Rattle.grammar_back.proofs.Members.{SameMember, each_impl, each_trait, maybe_default}
+use Rattle.grammar_back.proofs.ItemVerdicts.{EachOf, LawOf, SameItem, form_same, law_alias, law_block, law_constant}
+use Rattle.grammar_back.proofs.ItemVerdicts.{law_crate, law_enum, law_function, law_impl, law_module, law_static}
+use Rattle.grammar_back.proofs.ItemVerdicts.{law_struct, law_union, law_use, same_has}
+use Rattle.grammar_back.proofs.Members.{SameMember, default_class, impl_alias, impl_constant, impl_function}
+use Rattle.grammar_back.proofs.Members.{maybe_default, trait_alias, trait_constant, trait_function}
 use Rattle.grammar_back.proofs.Parts.{Found, Unseen, found_called, found_optional, found_ref, found_text, found_words}
 use Rattle.grammar_back.proofs.Parts.{maybe_called, maybe_none, maybe_ref, maybe_seq}
 use Rattle.grammar_back.proofs.Printed.{EntryLaw, is_placed, is_simple, simple_law}
@@ -204,158 +207,207 @@ only_item k l e i f u v m h =
 pub one_of_functions : OneKind ItemFn Any
 unfolding table held passed skips place_of
 one_of_functions =
-    only_item ItemFn (AFunction InFile) refl each_item.0 (found_ref (AFunction InFile) refl) ((search), ((search), tt))
-    ((search), tt) refl ((λ x. refl), (λ x. refl), refl)
+    only_item ItemFn (AFunction InFile) refl law_function (found_ref (AFunction InFile) refl)
+    ((search), ((search), tt)) ((search), tt) refl ((λ x. refl), (λ x. refl), refl)
 
 pub one_of_extern_crates : OneKind ItemExternCrate Any
 unfolding table held passed skips place_of
 one_of_extern_crates =
-    only_item ItemExternCrate AnExternCrate refl each_item.1.0 (found_ref AnExternCrate refl) ((search), ((search), tt))
-    ((search), tt) refl ((λ x. refl), (λ x. refl), refl)
+    only_item ItemExternCrate AnExternCrate refl law_crate (found_ref AnExternCrate refl)
+    ((search), ((search), tt)) ((search), tt) refl ((λ x. refl), (λ x. refl), refl)
 
 pub one_of_extern_blocks : OneKind ItemForeignMod Any
 unfolding table held passed skips place_of
 one_of_extern_blocks =
-    only_item ItemForeignMod AForeignModule refl each_item.1.1.0 (found_ref AForeignModule refl) ((search), ((search), tt))
-    ((search), tt) refl ((λ x. refl), (λ x. refl), refl)
+    only_item ItemForeignMod AForeignModule refl law_block (found_ref AForeignModule refl)
+    ((search), ((search), tt)) ((search), tt) refl ((λ x. refl), (λ x. refl), refl)
 
 pub one_of_uses : OneKind ItemUse Any
 unfolding table held passed skips place_of
 one_of_uses =
-    only_item ItemUse AUse refl each_item.1.1.1.0 (found_ref AUse refl) ((search), ((search), tt))
-    ((search), tt) refl ((λ x. refl), (λ x. refl), refl)
+    only_item ItemUse AUse refl law_use (found_ref AUse refl)
+    ((search), ((search), tt)) ((search), tt) refl ((λ x. refl), (λ x. refl), refl)
 
 pub one_of_statics : OneKind ItemStatic Any
 unfolding table held passed skips place_of
 one_of_statics =
-    only_item ItemStatic AStatic refl each_item.1.1.1.1.0 (found_ref AStatic refl) ((search), ((search), tt))
-    ((search), tt) refl ((λ x. refl), (λ x. refl), refl)
+    only_item ItemStatic AStatic refl law_static (found_ref AStatic refl)
+    ((search), ((search), tt)) ((search), tt) refl ((λ x. refl), (λ x. refl), refl)
 
 pub one_of_constants : OneKind ItemConst Any
 unfolding table held passed skips place_of
 one_of_constants =
-    only_item ItemConst AConst refl each_item.1.1.1.1.1.1.1.0 (found_ref AConst refl) ((search), ((search), tt))
-    ((search), tt) refl ((λ x. refl), (λ x. refl), refl)
+    only_item ItemConst AConst refl law_constant (found_ref AConst refl)
+    ((search), ((search), tt)) ((search), tt) refl ((λ x. refl), (λ x. refl), refl)
 
 pub one_of_modules : OneKind ItemMod Any
 unfolding table held passed skips place_of
 one_of_modules =
-    only_item ItemMod AModule refl each_item.1.1.1.1.1.1.1.1.1.1.1.1.0 (found_ref AModule refl) ((search), ((search), tt))
-    ((search), tt) refl ((λ x. refl), (λ x. refl), refl)
+    only_item ItemMod AModule refl law_module (found_ref AModule refl)
+    ((search), ((search), tt)) ((search), tt) refl ((λ x. refl), (λ x. refl), refl)
 
 pub one_of_aliases : OneKind ItemType Any
 unfolding table held passed skips place_of
 one_of_aliases =
-    only_item ItemType (ATypeAlias InFile) refl each_item.1.1.1.1.1.1.1.1.1.1.1.1.1.0 (found_ref (ATypeAlias InFile) refl) ((search), ((search), tt))
-    ((search), tt) refl ((λ x. refl), (λ x. refl), refl)
+    only_item ItemType (ATypeAlias InFile) refl law_alias (found_ref (ATypeAlias InFile) refl)
+    ((search), ((search), tt)) ((search), tt) refl ((λ x. refl), (λ x. refl), refl)
 
 pub one_of_structs : OneKind ItemStruct Any
 unfolding table held passed skips place_of
 one_of_structs =
-    only_item ItemStruct AStruct refl each_item.1.1.1.1.1.1.1.1.1.1.1.1.1.1.0 (found_ref AStruct refl) ((search), ((search), tt))
-    ((search), tt) refl ((λ x. refl), (λ x. refl), refl)
+    only_item ItemStruct AStruct refl law_struct (found_ref AStruct refl)
+    ((search), ((search), tt)) ((search), tt) refl ((λ x. refl), (λ x. refl), refl)
 
 pub one_of_enums : OneKind ItemEnum Any
 unfolding table held passed skips place_of
 one_of_enums =
-    only_item ItemEnum AnEnum refl each_item.1.1.1.1.1.1.1.1.1.1.1.1.1.1.1.0 (found_ref AnEnum refl) ((search), ((search), tt))
-    ((search), tt) refl ((λ x. refl), (λ x. refl), refl)
+    only_item ItemEnum AnEnum refl law_enum (found_ref AnEnum refl)
+    ((search), ((search), tt)) ((search), tt) refl ((λ x. refl), (λ x. refl), refl)
 
 pub one_of_unions : OneKind ItemUnion Any
 unfolding table held passed skips place_of
 one_of_unions =
-    only_item ItemUnion AUnion refl each_item.1.1.1.1.1.1.1.1.1.1.1.1.1.1.1.1.0 (found_ref AUnion refl) ((search), ((search), tt))
-    ((search), tt) refl ((λ x. refl), (λ x. refl), refl)
+    only_item ItemUnion AUnion refl law_union (found_ref AUnion refl)
+    ((search), ((search), tt)) ((search), tt) refl ((λ x. refl), (λ x. refl), refl)
 
 pub one_of_impls : OneKind ItemImpl Any
 unfolding table held passed skips place_of
 one_of_impls =
-    only_item ItemImpl AnImpl refl each_item.1.1.1.1.1.1.0 (found_ref AnImpl refl) ((search), ((search), tt))
-    ((search), tt) refl ((λ x. refl), (λ x. refl), refl)
+    only_item ItemImpl AnImpl refl law_impl (found_ref AnImpl refl)
+    ((search), ((search), tt)) ((search), tt) refl ((λ x. refl), (λ x. refl), refl)
 
--- functions, type aliases and constants in each place, behind default
-behind_default : (p : Place) (l : Kind) → lacks_part the_item (default_there p) ≡ true → LawOf (Same p) l
-    → FormLaw p (default_there p ▸ the_item ∶ ref l)
-behind_default p l e i = form_behind p (default_there p) (the_item ∶ ref l) e (form_alone p (ref l) i)
+-- Functions, type aliases and constants in each place stand behind default, where it may stand there.
+one_member : (p : Place) (k l : Kind) (cs : List Class)
+    → table k ≡ judged (typed p) (in_front (default_there p ▸ the_item ∶ ref l))
+    → lacks_part the_item (default_there p) ≡ true → LawOf (Same p) l
+    → is_simple Plain (default_there p ▸ the_item ∶ ref l) ≡ true
+    → Found (default_there p ▸ the_item ∶ ref l) [] cs → Unseen (behind Visibility) cs
+    → Unseen (behind OuterAttributes) (starts Visibility ++ cs) → Held k → OneKind k Any
+one_member p k l cs e m i n f u v h =
+    one_item p k (default_there p ▸ the_item ∶ ref l) cs e
+    (form_behind p (default_there p) (the_item ∶ ref l) m (form_alone p (ref l) i)) n f u v h
 
 no_constant : LawOf (Same InForeign) AConst
 no_constant q y v r d f e b h = cc h
 
+behind_none : {l : Kind} → Found (ref l) [] (starts l) → Found (nothing ▸ the_item ∶ ref l) [] (starts l)
+behind_none f = maybe_seq maybe_none (found_called f) tt
+
+in_trait : {l : Kind} → Found (ref l) [] (starts l) → Unseen (at "default" ∷ []) (starts l)
+    → Found (default_there InTrait ▸ the_item ∶ ref l) [] (default_class ++ starts l)
+in_trait f h =
+    maybe_seq (found_optional (at "default") (found_called (found_text "default")) (λ us. refl, tt)) (found_called f) h
+
+in_impl : {l : Kind} → Found (ref l) [] (starts l)
+    → Unseen ((at "default" then no (marks "!")) ∷ marks "!" ∷ []) (starts l)
+    → Found (default_there InImpl ▸ the_item ∶ ref l) [] (default_class ++ starts l)
+in_impl f h = maybe_seq maybe_default (found_called f) h
+
 pub one_function_in_a_file : OneKind (OneFunction InFile) Any
 unfolding table held passed skips place_of same_part
 one_function_in_a_file =
-    one_item InFile (OneFunction InFile) (default_there InFile ▸ the_item ∶ ref (AFunction InFile)) _ refl
-    (behind_default InFile (AFunction InFile) refl (of_item (AFunction InFile) each_item.0)) refl (maybe_seq maybe_none (found_called (found_ref (AFunction InFile) refl)) tt) ((search), ((search), tt)) ((search), tt) ((λ x. refl), (λ x. refl), refl)
+    one_member InFile (OneFunction InFile) (AFunction InFile) _ refl refl (of_item (AFunction InFile) law_function) refl
+    (behind_none (found_ref (AFunction InFile) refl)) ((search), ((search), tt)) ((search), tt)
+    ((λ x. refl), (λ x. refl), refl)
 
 pub one_function_in_an_extern_block : OneKind (OneFunction InForeign) Any
 unfolding table held passed skips place_of same_part
 one_function_in_an_extern_block =
-    one_item InForeign (OneFunction InForeign) (default_there InForeign ▸ the_item ∶ ref (AFunction InForeign)) _ refl
-    (behind_default InForeign (AFunction InForeign) refl (of_member InForeign (AFunction InForeign) foreign_function)) refl (maybe_seq maybe_none (found_called (found_ref (AFunction InForeign) refl)) tt) ((search), ((search), tt)) ((search), tt) ((λ x. refl), (λ x. refl), refl)
+    one_member InForeign (OneFunction InForeign) (AFunction InForeign) _ refl refl
+    (of_member InForeign (AFunction InForeign) foreign_function) refl
+    (behind_none (found_ref (AFunction InForeign) refl)) ((search), ((search), tt)) ((search), tt)
+    ((λ x. refl), (λ x. refl), refl)
 
 pub one_function_in_a_trait : OneKind (OneFunction InTrait) Any
 unfolding table held passed skips place_of same_part
 one_function_in_a_trait =
-    one_item InTrait (OneFunction InTrait) (default_there InTrait ▸ the_item ∶ ref (AFunction InTrait)) _ refl
-    (behind_default InTrait (AFunction InTrait) refl (of_member InTrait (AFunction InTrait) each_trait.0)) refl (maybe_seq (found_optional (at "default") (found_called (found_text "default")) (λ us. refl, tt)) (found_called (found_ref (AFunction InTrait) refl)) ((search), tt)) ((search), ((search), tt)) ((search), tt) ((λ x. refl), (λ x. refl), refl)
+    one_member InTrait (OneFunction InTrait) (AFunction InTrait) _ refl refl
+    (of_member InTrait (AFunction InTrait) trait_function) refl
+    (in_trait (found_ref (AFunction InTrait) refl) ((search), tt)) ((search), ((search), tt)) ((search), tt)
+    ((λ x. refl), (λ x. refl), refl)
 
 pub one_function_in_an_impl : OneKind (OneFunction InImpl) Any
 unfolding table held passed skips place_of same_part
 one_function_in_an_impl =
-    one_item InImpl (OneFunction InImpl) (default_there InImpl ▸ the_item ∶ ref (AFunction InImpl)) _ refl
-    (behind_default InImpl (AFunction InImpl) refl (of_member InImpl (AFunction InImpl) each_impl.0)) refl (maybe_seq maybe_default (found_called (found_ref (AFunction InImpl) refl)) ((search), ((search), tt))) ((search), ((search), tt)) ((search), tt) ((λ x. refl), (λ x. refl), refl)
+    one_member InImpl (OneFunction InImpl) (AFunction InImpl) _ refl refl
+    (of_member InImpl (AFunction InImpl) impl_function) refl
+    (in_impl (found_ref (AFunction InImpl) refl) ((search), ((search), tt))) ((search), ((search), tt)) ((search), tt)
+    ((λ x. refl), (λ x. refl), refl)
 
 pub one_alias_in_a_file : OneKind (OneTypeAlias InFile) Any
 unfolding table held passed skips place_of same_part
 one_alias_in_a_file =
-    one_item InFile (OneTypeAlias InFile) (default_there InFile ▸ the_item ∶ ref (ATypeAlias InFile)) _ refl
-    (behind_default InFile (ATypeAlias InFile) refl (of_item (ATypeAlias InFile) each_item.1.1.1.1.1.1.1.1.1.1.1.1.1.0)) refl (maybe_seq maybe_none (found_called (found_ref (ATypeAlias InFile) refl)) tt) ((search), ((search), tt)) ((search), tt) ((λ x. refl), (λ x. refl), refl)
+    one_member InFile (OneTypeAlias InFile) (ATypeAlias InFile) _ refl refl (of_item (ATypeAlias InFile) law_alias) refl
+    (behind_none (found_ref (ATypeAlias InFile) refl)) ((search), ((search), tt)) ((search), tt)
+    ((λ x. refl), (λ x. refl), refl)
 
 pub one_alias_in_an_extern_block : OneKind (OneTypeAlias InForeign) Any
 unfolding table held passed skips place_of same_part
 one_alias_in_an_extern_block =
-    one_item InForeign (OneTypeAlias InForeign) (default_there InForeign ▸ the_item ∶ ref (ATypeAlias InForeign)) _ refl
-    (behind_default InForeign (ATypeAlias InForeign) refl (of_member InForeign (ATypeAlias InForeign) foreign_alias)) refl (maybe_seq maybe_none (found_called (found_ref (ATypeAlias InForeign) refl)) tt) ((search), ((search), tt)) ((search), tt) ((λ x. refl), (λ x. refl), refl)
+    one_member InForeign (OneTypeAlias InForeign) (ATypeAlias InForeign) _ refl refl
+    (of_member InForeign (ATypeAlias InForeign) foreign_alias) refl
+    (behind_none (found_ref (ATypeAlias InForeign) refl)) ((search), ((search), tt)) ((search), tt)
+    ((λ x. refl), (λ x. refl), refl)
 
 pub one_alias_in_a_trait : OneKind (OneTypeAlias InTrait) Any
 unfolding table held passed skips place_of same_part
 one_alias_in_a_trait =
-    one_item InTrait (OneTypeAlias InTrait) (default_there InTrait ▸ the_item ∶ ref (ATypeAlias InTrait)) _ refl
-    (behind_default InTrait (ATypeAlias InTrait) refl (of_member InTrait (ATypeAlias InTrait) each_trait.1.1.0)) refl (maybe_seq (found_optional (at "default") (found_called (found_text "default")) (λ us. refl, tt)) (found_called (found_ref (ATypeAlias InTrait) refl)) ((search), tt)) ((search), ((search), tt)) ((search), tt) ((λ x. refl), (λ x. refl), refl)
+    one_member InTrait (OneTypeAlias InTrait) (ATypeAlias InTrait) _ refl refl
+    (of_member InTrait (ATypeAlias InTrait) trait_alias) refl
+    (in_trait (found_ref (ATypeAlias InTrait) refl) ((search), tt)) ((search), ((search), tt)) ((search), tt)
+    ((λ x. refl), (λ x. refl), refl)
 
 pub one_alias_in_an_impl : OneKind (OneTypeAlias InImpl) Any
 unfolding table held passed skips place_of same_part
 one_alias_in_an_impl =
-    one_item InImpl (OneTypeAlias InImpl) (default_there InImpl ▸ the_item ∶ ref (ATypeAlias InImpl)) _ refl
-    (behind_default InImpl (ATypeAlias InImpl) refl (of_member InImpl (ATypeAlias InImpl) each_impl.1.1.0)) refl (maybe_seq maybe_default (found_called (found_ref (ATypeAlias InImpl) refl)) ((search), ((search), tt))) ((search), ((search), tt)) ((search), tt) ((λ x. refl), (λ x. refl), refl)
+    one_member InImpl (OneTypeAlias InImpl) (ATypeAlias InImpl) _ refl refl
+    (of_member InImpl (ATypeAlias InImpl) impl_alias) refl
+    (in_impl (found_ref (ATypeAlias InImpl) refl) ((search), ((search), tt))) ((search), ((search), tt)) ((search), tt)
+    ((λ x. refl), (λ x. refl), refl)
 
 pub one_constant_in_a_file : OneKind (OneConst InFile) Any
 unfolding table held passed skips place_of same_part
 one_constant_in_a_file =
-    one_item InFile (OneConst InFile) (default_there InFile ▸ the_item ∶ ref AConst) _ refl
-    (behind_default InFile AConst refl (of_item AConst each_item.1.1.1.1.1.1.1.0)) refl (maybe_seq maybe_none (found_called (found_ref AConst refl)) tt) ((search), ((search), tt)) ((search), tt) ((λ x. refl), (λ x. refl), refl)
+    one_member InFile (OneConst InFile) AConst _ refl refl (of_item AConst law_constant) refl
+    (behind_none (found_ref AConst refl)) ((search), ((search), tt)) ((search), tt)
+    ((λ x. refl), (λ x. refl), refl)
 
 pub one_constant_in_an_extern_block : OneKind (OneConst InForeign) Any
 unfolding table held passed skips place_of same_part
 one_constant_in_an_extern_block =
-    one_item InForeign (OneConst InForeign) (default_there InForeign ▸ the_item ∶ ref AConst) _ refl
-    (behind_default InForeign AConst refl (no_constant)) refl (maybe_seq maybe_none (found_called (found_ref AConst refl)) tt) ((search), ((search), tt)) ((search), tt) ((λ x. refl), (λ x. refl), refl)
+    one_member InForeign (OneConst InForeign) AConst _ refl refl no_constant refl
+    (behind_none (found_ref AConst refl)) ((search), ((search), tt)) ((search), tt)
+    ((λ x. refl), (λ x. refl), refl)
 
 pub one_constant_in_a_trait : OneKind (OneConst InTrait) Any
 unfolding table held passed skips place_of same_part
 one_constant_in_a_trait =
-    one_item InTrait (OneConst InTrait) (default_there InTrait ▸ the_item ∶ ref AConst) _ refl
-    (behind_default InTrait AConst refl (of_member InTrait AConst each_trait.1.0)) refl (maybe_seq (found_optional (at "default") (found_called (found_text "default")) (λ us. refl, tt)) (found_called (found_ref AConst refl)) ((search), tt)) ((search), ((search), tt)) ((search), tt) ((λ x. refl), (λ x. refl), refl)
+    one_member InTrait (OneConst InTrait) AConst _ refl refl (of_member InTrait AConst trait_constant) refl
+    (in_trait (found_ref AConst refl) ((search), tt)) ((search), ((search), tt)) ((search), tt)
+    ((λ x. refl), (λ x. refl), refl)
 
 pub one_constant_in_an_impl : OneKind (OneConst InImpl) Any
 unfolding table held passed skips place_of same_part
 one_constant_in_an_impl =
-    one_item InImpl (OneConst InImpl) (default_there InImpl ▸ the_item ∶ ref AConst) _ refl
-    (behind_default InImpl AConst refl (of_member InImpl AConst each_impl.1.0)) refl (maybe_seq maybe_default (found_called (found_ref AConst refl)) ((search), ((search), tt))) ((search), ((search), tt)) ((search), tt) ((λ x. refl), (λ x. refl), refl)
+    one_member InImpl (OneConst InImpl) AConst _ refl refl (of_member InImpl AConst impl_constant) refl
+    (in_impl (found_ref AConst refl) ((search), ((search), tt))) ((search), ((search), tt)) ((search), tt)
+    ((λ x. refl), (λ x. refl), refl)
 
--- a static of an extern block, behind its safety
+-- a static of an extern block stands behind its safety
+static_law : FormLaw InForeign (safety InForeign ▸ the_item ∶ ref AStatic)
+unfolding same_part
+static_law =
+    form_behind InForeign (safety InForeign) (the_item ∶ ref AStatic) refl
+    (form_alone InForeign (ref AStatic) (of_member InForeign AStatic foreign_static))
+
+static_found : Found (safety InForeign ▸ the_item ∶ ref AStatic) [] (the_words safety_words ++ starts AStatic)
+unfolding skips
+static_found =
+    maybe_seq (found_optional (at "unsafe" or at "safe") (found_called (found_words safety_words)) (search))
+    (found_called (found_ref AStatic refl)) ((search), tt)
+
 pub one_static_in_an_extern_block : OneKind ForeignItemStatic Any
-unfolding table held passed skips place_of same_part
+unfolding table held passed skips place_of
 one_static_in_an_extern_block =
-    one_item InForeign ForeignItemStatic (safety InForeign ▸ the_item ∶ ref AStatic) _ refl
-    (form_behind InForeign (safety InForeign) (the_item ∶ ref AStatic) refl (form_alone InForeign (ref AStatic) (of_member InForeign AStatic foreign_static))) refl (maybe_seq (found_optional (at "unsafe" or at "safe") (found_called (found_words safety_words)) (search)) (found_called (found_ref AStatic refl)) ((search), tt)) ((search), ((search), tt)) ((search), tt) ((λ x. refl), (λ x. refl), refl)
+    one_item InForeign ForeignItemStatic (safety InForeign ▸ the_item ∶ ref AStatic) _ refl static_law refl static_found
+    ((search), ((search), tt)) ((search), tt) ((λ x. refl), (λ x. refl), refl)

@@ -1,6 +1,6 @@
 -- A kind that stands nowhere but by itself has no step: what its entry reads is printed by the steps of the kinds that
 -- the entry refers to, and is read back before all that may follow it.
-use Rattle.std.proofs.Common.{◌≡◌, List, [], ◌++◌, refl, sym, ap, ◌∙◌}
+use Rattle.std.proofs.Common.{◌≡◌, List, ◌++◌, refl, sym, ap, ◌∙◌}
 use Rattle.std.specs.Prelude.{true, false}
 use Rattle.proc_macro2.specs.Token.{Token}
 use Rattle.syn_grammar.specs.Kind.{Kind, Plain}

@@ -1,5 +1,5 @@
 -- Each kind has a step, or it stands nowhere but by itself: then it ends by itself, or it is a statement.
-use Rattle.std.proofs.Common.{◌≡◌, List, ◌++◌, refl, sym, ap, ◌∙◌, subst}
+use Rattle.std.proofs.Common.{◌≡◌, List, ◌++◌, refl, sym, subst}
 use Rattle.std.specs.Prelude.{Bool, true, false}
 use Rattle.proc_macro2.specs.Token.{Token}
 use Rattle.syn_grammar.specs.Kind.{AFunction, AType, ATypeAlias, AnyPath, AtType, DeriveInput, DynType}
@@ -27,7 +27,7 @@ use Rattle.read_back.proofs.OneKind.{OneKind, read_one}
 use Rattle.read_back.proofs.OneStatement.{read_statement}
 use Rattle.read_back.proofs.Told.{inside_told}
 
--- they have no step
+-- the kinds that end by themselves and stand in no other
 abbrev pub is_one_kind : Kind → Bool
 is_one_kind ItemStruct = true
 is_one_kind ItemEnum = true

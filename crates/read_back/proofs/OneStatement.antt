@@ -1,6 +1,6 @@
 -- One statement by itself: it needs no ; that it lacks, and one that is printed for it needs none either.
-use Rattle.std.proofs.Common.{◌≡◌, List, [], ◌∷◌, ◌++◌, refl, sym, ap, ◌∙◌, subst}
-use Rattle.std.specs.Prelude.{Bool, true, false, not}
+use Rattle.std.proofs.Common.{◌≡◌, List, [], ◌++◌, refl, sym, ap, ◌∙◌, subst}
+use Rattle.std.specs.Prelude.{true, false, not}
 use Rattle.proc_macro2.specs.Token.{Token}
 use Rattle.syn_grammar.specs.Kind.{AStatement, OneStatement, Plain}
 use Rattle.syn_grammar.specs.Tree.{Tree, First, Node, Second, flat}

@@ -1,15 +1,15 @@
 -- The readers of a trait or of an alias of traits, of what is derived for, and of a macro, by themselves.
-use Rattle.std.proofs.Common.{◌≡◌, List, [], ◌∷◌, ◌++◌, refl, sym, ap, ◌∙◌, subst}
-use Rattle.std.specs.Prelude.{Bool, true, false, not}
+use Rattle.std.proofs.Common.{◌≡◌, List, [], refl, sym, ap, ◌∙◌, subst}
+use Rattle.std.specs.Prelude.{true, not}
 use Rattle.proc_macro2.specs.Token.{Token}
-use Rattle.syn_grammar.specs.Kind.{Kind, ATrait, AStruct, AUnion, AnEnum, DeriveInput, InFile, InForeign, InImpl}
+use Rattle.syn_grammar.specs.Kind.{ATrait, AStruct, AUnion, AnEnum, DeriveInput, InFile, InForeign, InImpl}
 use Rattle.syn_grammar.specs.Kind.{InTrait, ItemMacro, ItemTrait, ItemTraitAlias, OneMacro, OuterAttributes, Place}
 use Rattle.syn_grammar.specs.Kind.{Plain, Visibility}
 use Rattle.syn_grammar.specs.Name.{same_part, the_equals, the_item}
 use Rattle.syn_grammar.specs.Tree.{Tree, Called, Node, Pair}
-use Rattle.syn_grammar.specs.Part.{has, the}
+use Rattle.syn_grammar.specs.Part.{the}
 use Rattle.syn_grammar.specs.Words.{is_name, is_path_keyword, is_reserved}
-use Rattle.syn_grammar.specs.Gram.{Gram, judged, ref}
+use Rattle.syn_grammar.specs.Gram.{Gram, ref}
 use Rattle.syn_grammar.specs.Look.{a_name, ◌or◌}
 use Rattle.syn_grammar.specs.Types.{kept_if}
 use Rattle.syn_grammar.specs.Say.{at, marks, ◌∶◌, ◌▸◌}

@@ -15,8 +15,8 @@ ghost use Rattle.syn_grammar.specs.Read.{IsRead};
 ghost use Rattle.syn_grammar.specs.Say.{brace};
 ghost use Rattle.syn_grammar.specs.Tree.{Tree, Node, Whole, flat};
 
-/// Of a derived tree that is covered: the tokens of its normal form are read back as its normal form, before all that
-/// may follow its kind.
+/// Of a derived tree that is covered, of each kind: the tokens of its normal form are read back as its normal form,
+/// before all that may follow its kind.
 pub fn read_back()
     ensures { (k : Kind) (tree : Tree) (rest next : List Token) → Derives tree (ref k) rest → is_covered tree ≡ true
         → After k (normal (kept tree)) next → IsRead k (flat (normal (kept tree)) ++ next) (normal (kept tree)) next }

@@ -17,11 +17,14 @@
 //! begins a statement, nothing else is seen there (`Statements`, which has the step of statements; of macros that are
 //! items there by `NamedMacros`). Attributes in front of a statement's expression stand in its normal form where they
 //! stood (`Given`), or in the parentheses that its left operand gets (`Enclosed`). `Forms` has all that is to be known
-//! of expressions, `ReadBack` the laws of kinds, and `Positions` those of an expression where it stands. What is asked
-//! of a tree is less than what the steps go by, and nothing of what stands in it: `Told` has what the tests of the
-//! entries saw, wherever it was read (`ToldItems` of an item among statements, `ToldExpressions` of an expression there,
-//! by `ToldStarts` and `ToldBraces`; of a macro by the word `crate` there `ToldCalls`, as by `ToldTurns` no statement
-//! begins with `.` or `?`; by `ToldKinds` each entry refers to kinds that have a step).
+//! of expressions, `ReadBack` the laws of kinds, and `Positions` those of an expression where it stands. The readers
+//! of one kind of item and of one statement have no step, as they stand nowhere but by themselves: `OneKind` reads back
+//! what their entries read (`OneItems` by the verdicts on items, `OneTraits`, `OneStatement` of one that needs no `;`;
+//! `OneKinds` has each). What is asked of a tree is less than what the steps go by, and nothing of what stands in it:
+//! `Told` has what the tests of the entries saw, wherever it was read (`ToldItems` of an item among statements,
+//! `ToldExpressions` of an expression there, by `ToldStarts` and `ToldBraces`; of a macro by the word `crate` there
+//! `ToldCalls`, as by `ToldTurns` no statement begins with `.` or `?`; by `ToldKinds` each entry refers to kinds that
+//! have a step).
 //! `Examples` has an expression for each law.
 //!
 //! - `laws`: the laws.
