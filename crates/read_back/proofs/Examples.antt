@@ -1,14 +1,17 @@
 -- Covered expressions there are: -(1 + x), as it is read; m!() in a condition; m!{} before another
 -- statement; || 1; 1 as _ < 1; #[unsafe] 1; and as statements 1; and #[unsafe] 1; and
 -- #[unsafe] ..; , whose range stands in parentheses then; and #[unsafe] 1 && #[unsafe] .. == 1; , whose first
--- attribute stands inside parentheses then: (#[unsafe] 1 && #[unsafe] (..)) == 1; .
-use Rattle.std.proofs.Common.{◌≡◌, List, [], ◌∷◌, ◌++◌, refl, inl}
+-- attribute stands inside parentheses then: (#[unsafe] 1 && #[unsafe] (..)) == 1; . One statement and one item, 1; and
+-- struct a; , are read back by their own readers.
+use Rattle.std.proofs.Common.{◌≡◌, List, [], ◌∷◌, ◌++◌, refl, inl, inr}
 use Rattle.std.specs.Prelude.{true, codes}
 use Rattle.syn_grammar.specs.Kind.{AMacro, AStatement, Delimited, ExprMacro, InCondition, InModule, Path, Plain}
-use Rattle.syn_grammar.specs.Kind.{ExprAnd, ExprRange, Expression}
+use Rattle.syn_grammar.specs.Kind.{AStruct, ExprAnd, ExprRange, Expression, Generics, ItemStruct, OneStatement}
+use Rattle.syn_grammar.specs.Kind.{Visibility, Where}
 use Rattle.syn_grammar.specs.Kind.{ExprClosure, ExprLit, InStatement, Segments, AType, ExprAttributed, ExprCast}
 use Rattle.syn_grammar.specs.Kind.{ExprCompare, InferType, Meta, OuterAttribute, OuterAttributes, WithoutPlus}
-use Rattle.syn_grammar.specs.Name.{the_attributes, the_expression, the_semicolon, the_type}
+use Rattle.syn_grammar.specs.Name.{same_part, the_attributes, the_expression, the_generics, the_item, the_name}
+use Rattle.syn_grammar.specs.Name.{the_semicolon, the_type, the_visibility, the_where}
 use Rattle.proc_macro2.specs.Token.{Token, Opens, Closes, Literal, Punct}
 use Rattle.proc_macro2.specs.declared.delimiter.Delimiter.TheVariants.{Parenthesis, Brace, Bracket}
 use Rattle.rust_leaf.specs.declared.punct.Spacing.TheVariants.{Alone as Apart, Joint}
@@ -483,3 +486,68 @@ opened_statement_back =
 opened_begins : sees parenthesis (flat (normal (kept opened_statement))) ≡ true
 unfolding held passed place_of stands_behind level has_right may_lack takes stands_left inside chains
 opened_begins = refl
+
+-- Readers that stand nowhere but by themselves: of one statement, as of 1; before whatever follows it
+abbrev alone_statement : Tree
+alone_statement = Node OneStatement (First one_statement)
+
+alone_read : Derives alone_statement (ref OneStatement) []
+unfolding table same_part
+alone_read = (refl, (refl, one_read))
+
+alone_covered : is_covered alone_statement ≡ true
+alone_covered = refl
+
+pub alone_back :
+    (s : List Token)
+    → IsRead OneStatement (flat (normal (kept alone_statement)) ++ s) (normal (kept alone_statement)) s
+unfolding held passed stands_behind level has_right may_lack
+alone_back s = read_back OneStatement alone_statement [] s alone_read alone_covered (inr (inl refl))
+
+-- and of one kind of item, as of struct a;
+abbrev struct : Tree
+struct =
+    Node ItemStruct
+    (First
+    (Pair (Node OuterAttributes End)
+    (Pair (Called the_visibility (Node Visibility (Second Nil)))
+    (Called the_item
+    (Node AStruct
+    (Pair (AWord (codes "struct"))
+    (Pair (Called the_name (AWord (codes "a")))
+    (Pair (Called the_generics (Node Generics (Second Nil)))
+    (Second (Pair (Called the_where (Node Where (Second Nil))) (Second (AMark 59 [] Apart))))))))))))
+
+struct_read : Derives struct (ref ItemStruct) []
+unfolding table same_part is_reserved
+struct_read = (
+  refl,
+  (
+    refl,
+    (
+      (refl, refl),
+      (
+        (refl, (refl, (refl, tt))),
+        (
+          refl,
+          (
+            refl,
+            (
+              refl,
+              (
+                (refl, refl),
+                ((refl, (refl, (refl, tt))), (refl, ((refl, (refl, (refl, tt))), (refl, (refl, refl))))),
+              ),
+            ),
+          ),
+        ),
+      ),
+    ),
+  ),
+)
+
+struct_covered : is_covered struct ≡ true
+struct_covered = refl
+
+pub struct_back : (s : List Token) → IsRead ItemStruct (flat (normal (kept struct)) ++ s) (normal (kept struct)) s
+struct_back s = read_back ItemStruct struct [] s struct_read struct_covered tt
