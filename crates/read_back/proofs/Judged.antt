@@ -166,7 +166,7 @@ refused_none true v e = cc e
 refused_none false v e = e
 
 -- one on an item by itself
-strictly_kept : (v : Verdict) → strictly v ≡ Keep → v ≡ Keep
+pub strictly_kept : (v : Verdict) → strictly v ≡ Keep → v ≡ Keep
 strictly_kept Keep e = refl
 strictly_kept AsRaw e = cc e
 strictly_kept Refuse e = cc e

@@ -23,10 +23,11 @@ use Rattle.syn_grammar.specs.Derives.{Derives}
 use Rattle.syn_grammar.specs.Kept.{forget, held, kept}
 use Rattle.syn_grammar.specs.Normal.{passed, place_of, normal}
 use Rattle.grammar_back.specs.After.{behind}
+use Rattle.grammar_back.specs.Covered.{front, item_of}
 use Rattle.grammar_back.proofs.Classes.{Class, the_words}
 use Rattle.grammar_back.proofs.Conditions.{is_condition_kind}
 use Rattle.grammar_back.proofs.Fine.{Any, Fine, fine_raw_or, fine_weaker}
-use Rattle.grammar_back.proofs.Fits.{Fits}
+use Rattle.grammar_back.proofs.Fits.{Fits, back}
 use Rattle.grammar_back.proofs.ForeignItems.{foreign_alias, foreign_function, foreign_static, safety_words}
 use Rattle.grammar_back.proofs.Impls.{lacks_part}
 use Rattle.grammar_back.proofs.ItemPlaces.{has_none}
@@ -40,24 +41,20 @@ use Rattle.grammar_back.proofs.Parts.{maybe_called, maybe_none, maybe_ref, maybe
 use Rattle.grammar_back.proofs.Printed.{EntryLaw, is_placed, is_simple, simple_law}
 use Rattle.grammar_back.proofs.Starts.{starts}
 use Rattle.grammar_back.proofs.WholeItems.{public_same}
+use Rattle.read_back.proofs.Judged.{strictly_kept}
 use Rattle.read_back.proofs.OneKind.{OneKind}
 
 -- attributes and visibility, and what stands behind them
-abbrev pub in_front : Gram → Gram
+abbrev in_front : Gram → Gram
 in_front g = ref OuterAttributes ▸ the_visibility ∶ ref Visibility ▸ g
 
 -- Where the form is kept, it is kept as it is printed.
-abbrev pub FormLaw : Place → Gram → Type 0
+abbrev FormLaw : Place → Gram → Type 0
 FormLaw p g =
     (x w : Tree) (r : List Token) → Derives x g r → Fits w g → kept w ≡ normal (kept x) → (b : Bool)
     → form_in p b (choice (the the_item x)) ≡ Keep → form_in p b (choice (the the_item w)) ≡ Keep
 
-keeps : (v : Verdict) → strictly v ≡ Keep → v ≡ Keep
-keeps Keep e = refl
-keeps AsRaw e = cc
-keeps Refuse e = cc
-
-pub never_raw : (v : Verdict) → strictly v ≡ AsRaw → ⊥
+never_raw : (v : Verdict) → strictly v ≡ AsRaw → ⊥
 never_raw Keep e = cc
 never_raw AsRaw e = cc
 never_raw Refuse e = cc
@@ -102,7 +99,7 @@ module _ (p : Place) (g : Gram) (form : FormLaw p g) where
       ∙ sym (ap is_public i.0)) (same_has the_default Plain (in_front g) x w r d f e) in
       ap strictly (ap (λ b. form_in p b (choice (the the_item w))) s ∙ ap (λ t. form_in p (marked p x) (choice t)) j.1
       ∙ form y z r d.1.1 f.1.1 (ap behind_front e) (marked p x)
-      (sym (ap (λ t. form_in p (marked p x) (choice t)) i.1) ∙ keeps (item_verdict p x) h))
+      (sym (ap (λ t. form_in p (marked p x) (choice t)) i.1) ∙ strictly_kept (item_verdict p x) h))
   stays (Pair (Node k o) (Pair (Called n v) y)) (Pair (Node l a) (Pair _ z)) r d f e h = absurd f.1.0
   stays (Pair (Node k o) (Pair (Called n v) y)) (Pair (Node l a) _) r d f e h = absurd f.1
   stays (Pair (Node k o) (Pair (Called n v) y)) (Pair _ z) r d f e h = absurd f.0
@@ -112,7 +109,7 @@ module _ (p : Place) (g : Gram) (form : FormLaw p g) where
   stays (Pair _ y) w r d f e h = absurd d.0
   stays _ w r d f e h = absurd d
 
-  pub one_law : EntryLaw Plain g → EntryLaw Plain (judged (typed p) (in_front g))
+  one_law : EntryLaw Plain g → EntryLaw Plain (judged (typed p) (in_front g))
   unfolding place_of
   one_law l = (
     λ x w r c d f e h. stays x w r d f e h,
@@ -121,7 +118,7 @@ module _ (p : Place) (g : Gram) (form : FormLaw p g) where
   )
 
 -- Its tokens are told by their first.
-pub one_fine : (p : Place) {g : Gram} {cs : List Class} → Found g [] cs → Unseen (behind Visibility) cs
+one_fine : (p : Place) {g : Gram} {cs : List Class} → Found g [] cs → Unseen (behind Visibility) cs
     → Unseen (behind OuterAttributes) (starts Visibility ++ cs) → Fine (judged (typed p) (in_front g)) Any Any
 unfolding skips
 one_fine p {g} {cs} f h i =
@@ -140,28 +137,16 @@ of_member : (p : Place) (l : Kind) → LawOf (SameMember p) l → LawOf (Same p)
 of_member p l h q y v r d f e = (h q y v r d f e).0
 
 -- of a form alone
-inside : Tree → Tree
-inside (Called n x) = x
-inside x = x
-
 form_alone : (p : Place) (g : Gram) → EachOf (Same p) g → FormLaw p (the_item ∶ g)
-unfolding inside same_part place_of
+unfolding same_part place_of
 form_alone p g i (Called n y) (Called m z) r d f e b h =
     ap (λ j. form_in p b (choice (the the_item (Called j z)))) f.0
-    ∙ form_same (Same p) g i (place_of n) y z r d.1 f.1 (ap inside e) b
+    ∙ form_same (Same p) g i (place_of n) y z r d.1 f.1 (ap item_of e) b
     (sym (ap (λ j. form_in p b (choice (the the_item (Called j y)))) d.0) ∙ h)
 form_alone p g i (Called n y) _ r d f e b h = absurd f
 form_alone p g i _ w r d f e b h = absurd d
 
 -- behind what is no item
-first_of : Tree → Tree
-first_of (Pair x y) = x
-first_of x = x
-
-second_of : Tree → Tree
-second_of (Pair x y) = y
-second_of x = x
-
 past : (x y : Tree) → has the_item x ≡ false → the the_item (Pair x y) ≡ the the_item y
 past x y e = go (found the_item x) e
   where
@@ -170,12 +155,11 @@ past x y e = go (found the_item x) e
     go (Some z) e = cc e
 
 form_behind : (p : Place) (a g : Gram) → lacks_part the_item a ≡ true → FormLaw p g → FormLaw p (a ▸ g)
-unfolding first_of second_of
 form_behind p a g l i (Pair x y) (Pair w z) r d f e b h =
     let k = has_none the_item x a (flat y ++ r) d.0 l in
-    let n = same_has the_item Plain a x w (flat y ++ r) d.0 f.0 (ap first_of e) ∙ k in
+    let n = same_has the_item Plain a x w (flat y ++ r) d.0 f.0 (ap front e) ∙ k in
     ap (λ t. form_in p b (choice t)) (past w z n)
-    ∙ i y z r d.1 f.1 (ap second_of e) b (sym (ap (λ t. form_in p b (choice t)) (past x y k)) ∙ h)
+    ∙ i y z r d.1 f.1 (ap back e) b (sym (ap (λ t. form_in p b (choice t)) (past x y k)) ∙ h)
 form_behind p a g l i (Pair x y) _ r d f e b h = absurd f
 form_behind p a g l i _ w r d f e b h = absurd d
 
