@@ -185,7 +185,7 @@ whole (Node k x) = whole x
 whole (Whole x) = x
 whole x = x
 
--- It is a form that ends an arm or a statement, and neither . nor ? nor else follows it.
+-- It is a form that ends an arm or a statement, and neither a . that begins no .. nor ? nor else follows it.
 abbrev pub EndsThere : Position → Tree → List Token → Type 0
 EndsThere p x s =
     (ends_there p (whole x) ≡ true)

@@ -433,7 +433,7 @@ abbrev pub is_macro_item : Tree → Bool
 is_macro_item (Node k (First (Pair o (Pair v i)))) = is_private v && is_named_macro (choice (item_of i))
 is_macro_item _ = false
 
--- Statements are such macros, lets, such items and such expressions so far.
+-- Statements are such macros, lets, such items and such expressions.
 abbrev pub is_statement_form : Tree → Bool
 is_statement_form (First x) = is_macro_item x
 is_statement_form (Second (First x)) = is_macro_form x

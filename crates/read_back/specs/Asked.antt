@@ -58,7 +58,7 @@ no_lone (Back l k y) = no_lone l && no_lone y
 no_lone (Infix l k y r) = no_lone y && (no_lone l && no_lone r)
 no_lone _ = true
 
--- A kind that ends in a pattern may stand before .., by itself alone.
+-- A kind that ends in a pattern may stand before ... , by itself alone.
 abbrev pub ends_alone : Tree → Bool
 ends_alone (Node k x) = not (ends_in_pattern k) || no_lone (Node k x)
 ends_alone x = true

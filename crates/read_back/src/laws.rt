@@ -44,7 +44,8 @@ pub fn read_in_position()
         (normal_in p (kept (Node (Expression p) (Whole x)))) next }
 {}
 
-/// One whose normal form ends a statement or an arm by itself is read back there before all but `.`, `?` and `else`.
+/// One whose normal form ends a statement or an arm by itself is read back there before all but a `.` that begins no
+/// `..`, `?` and `else`.
 pub fn read_ended()
     ensures { (p : Position) (x : Tree) (rest next : List Token)
         → Derives (Node (Expression p) (Whole x)) (ref (Expression p)) rest
