@@ -80,7 +80,8 @@ statement_some x a z s e = ap (λ y. laid (t.Node AStatement y)) (sym (stated_is
 
 pub statement_none : (x : Tree) → None ≡ stated_of x → laid x ≡ laid (t.Node AStatement x)
 statement_none (t.Second (t.Second (t.Second (t.Second (t.Pair (t.Called the_attributes a)
-    (t.Pair (t.Called the_expression (t.Node (Expression p) (t.Whole y))) u)))))) e = absurd (some_none (a, y, u) (sym e))
+    (t.Pair (t.Called the_expression (t.Node (Expression p) (t.Whole y))) u)))))) e =
+    absurd (some_none (a, y, u) (sym e))
 statement_none x e = refl
 
 pub ruleset statements = (statement_some, statement_none, append_assoc, append-nil)

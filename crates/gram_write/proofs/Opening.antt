@@ -76,7 +76,8 @@ statement_some x a z s e = ap opens_statement (sym (stated_is x a z s e).1)
 
 pub statement_none : (x : Tree) → None ≡ stated_of x → false ≡ opens_statement x
 statement_none (t.Second (t.Second (t.Second (t.Second (t.Pair (t.Called the_attributes a)
-    (t.Pair (t.Called the_expression (t.Node (Expression p) (t.Whole y))) u)))))) e = absurd (some_none (a, y, u) (sym e))
+    (t.Pair (t.Called the_expression (t.Node (Expression p) (t.Whole y))) u)))))) e =
+    absurd (some_none (a, y, u) (sym e))
 statement_none x e = refl
 
 pub ruleset stating = (statement_some, statement_none)

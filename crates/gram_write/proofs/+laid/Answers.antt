@@ -21,7 +21,8 @@ use Rattle.gram_write.specs.Laid.{firsts_laid, laid, laid_in, others_laid, those
 use Rattle.gram_write.specs.Said.{fields, front_fields}
 use Rattle.gram_write.specs.Operands.{giving_of, stated_of}
 use Rattle.gram_write.specs.Way.{dotted_of, is_dotted, last_text, passes, way_laid}
-use Rattle.gram_write.proofs.Laying.{firsts_passing, four_put, node_same, others_next, others_skip, those_next, those_skip}
+use Rattle.gram_write.proofs.Laying.{firsts_passing, four_put, node_same, others_next, others_skip, those_next}
+use Rattle.gram_write.proofs.Laying.{those_skip}
 use Rattle.gram_write.proofs.Operands.{giving_below, stated_below}
 use Rattle.gram_write.proofs.Sizes.{element_size, turns_size, elements_below, tree_size}
 use Rattle.gram_write.proofs.WayForms.{own_number, own_undotted}
