@@ -4,7 +4,7 @@ use Rattle.std.specs.Prelude.{Bool, true, false, ◌==◌, cond, Some, None}
 use Rattle.rust_leaf.specs.declared.punct.Spacing.{Spacing}
 use Rattle.rust_leaf.specs.declared.punct.Spacing.TheVariants.{Alone, Joint}
 use Rattle.proc_macro2.specs.Token.{Token, Opens, Closes, Ident, Literal, Punct}
-use Rattle.syn_grammar.specs.Look.{a_lifetime, past_marks}
+use Rattle.syn_grammar.specs.Look.{a_lifetime, past_marks, the_mark}
 use Rattle.gram_look.specs.Marks.{no_mark, no_word}
 
 -- where no mark stands no punctuation does
@@ -20,6 +20,10 @@ none_marked c (d ∷ ds) (Ident e ∷ ts) h = refl
 none_marked c [] (Literal e ∷ ts) h = refl
 none_marked c (d ∷ ds) (Literal e ∷ ts) h = refl
 none_marked c cs (Punct e spacing ∷ ts) h = absurd h
+
+pub none_signed : (cs : List ℕ) (ts : List Token) → no_mark ts → None ≡ the_mark cs ts
+none_signed [] ts h = refl
+none_signed (c ∷ cs) ts h = sym (none_marked c cs ts h)
 
 -- another mark stands there
 pub other_mark : (c d : ℕ) (cs : List ℕ) (spacing : Spacing) (ts us : List Token) (b : Bool)

@@ -70,10 +70,15 @@ fn past<'a, 'e>(first: u8, others: &[u8], at: &'a [Entry<'e>]) -> Option<&'a [En
 }
 
 /// What is left behind a punctuation that stands first. What follows its last mark isn't looked at.
+#[tactic(auto, using(crate::proofs::Marks::none_signed))]
 pub fn sign<'a, 'e>(sign: Sign, at: &'a [Entry<'e>]) -> Option<&'a [Entry<'e>]>
     ensures after { after (λ es. es.now) result ≡ the_mark (sign_text sign) (tokens at.now) }
     ensures nested { is_nested at.now ≡ true → IfSome result (λ es. is_nested es.now ≡ true) }
 {
+    // Most looks end here, before the punctuation's text is looked up.
+    if first_mark(at).is_none() {
+        return None;
+    }
     let (first, others) = sign.text().as_bytes().split_first()?;
     past(*first, others, at)
 }
