@@ -1,18 +1,29 @@
 //! Which form of expressions stands at tokens.
 
+ghost use Rattle.gram_look.specs.Marks.{no_mark};
 ghost use Rattle.gram_look.specs.Nested.{is_nested};
 ghost use Rattle.gram_look.specs.Tokens.{tokens};
+ghost use Rattle.gram_sight.specs.Words.{early_words, late_words};
 ghost use Rattle.gram_table.specs.Cases.{cases_of};
 ghost use Rattle.gram_table.specs.Kinds.{kind_of, position_of};
-ghost use Rattle.std.specs.Prelude.{◌≡◌, MatchOption, None, Some, true};
+ghost use Rattle.gram_table.specs.Words.{keyword_text};
+ghost use Rattle.proc_macro2.specs.Token as token;
+ghost use Rattle.rust_leaf.specs.Leaf.{ident_text, punct_char, punct_spacing};
+ghost use Rattle.std.specs.Prelude.{◌∷◌, ◌≡◌, MatchOption, None, Some, false, true};
 ghost use Rattle.syn_grammar.specs.Forms.{back, brace_ends, first_form, front, has_right, operand_stands, range_is_open};
 ghost use Rattle.syn_grammar.specs.Look.{no, sees, ◌then◌};
+ghost use Rattle.syn_grammar.specs.Words.{is_among, same_text};
 
 use crate::look::look;
+use gram_look::leaf::word;
 use gram_table::composite::Composite;
 use gram_table::form::{backs, fronts};
 use gram_table::kind::{Kind, Position};
 use gram_table::op::{Case, Look};
+use gram_table::word::{Keyword, Words};
+use proc_macro2::delimiter::Delimiter;
+use rust_leaf::ident::Ident;
+use rust_leaf::punct::{Punct, Spacing};
 use syn_buffer::entry::Entry;
 
 // The first form of these that is seen.
@@ -34,14 +45,164 @@ fn first_form(cases: &[Case], at: &[Entry<'_>]) -> Option<Kind>
     }
 }
 
-/// The form of expressions that begins at the entries.
+// The form that begins with a group.
+fn group_front(
+    position: Position,
+    delimiter: Delimiter,
+    at: &[Entry<'_>],
+    rest: &[Entry<'_>],
+) -> Option<Kind>
+    requires nested { is_nested at.now ≡ true }
+    requires first { tokens at.now ≡ token.Opens delimiter ∷ tokens rest.now }
+    ensures { MatchOption result (front (position_of position) (tokens at.now) ≡ None)
+        (λ k. front (position_of position) (tokens at.now) ≡ Some (kind_of k)) }
+{
+    let _behind = rest.len();
+    match delimiter {
+        Delimiter::Parenthesis => Some(Kind::ExprParen),
+        Delimiter::Brace => Some(Kind::ExprBlock),
+        Delimiter::None => Some(Kind::ExprGroup),
+        Delimiter::Bracket => {
+            if look(Look::Composite(Composite::RepeatStands), at) {
+                Some(Kind::ExprRepeat)
+            } else {
+                Some(Kind::ExprArray)
+            }
+        }
+    }
+}
+
+// The form that begins with a mark.
 #[tactic(auto, using(crate::proofs::Forms::front_is))]
+fn mark_front(
+    position: Position,
+    mark: &Punct,
+    at: &[Entry<'_>],
+    rest: &[Entry<'_>],
+) -> Option<Kind>
+    requires nested { is_nested at.now ≡ true }
+    requires first { tokens at.now ≡ token.Punct (punct_char mark.now) (punct_spacing mark.now) ∷ tokens rest.now }
+    ensures { MatchOption result (front (position_of position) (tokens at.now) ≡ None)
+        (λ k. front (position_of position) (tokens at.now) ≡ Some (kind_of k)) }
+{
+    let _behind = rest.len();
+    match mark.spacing() {
+        Spacing::Alone => match mark.as_char() {
+            '#' => Some(Kind::ExprAttributed),
+            '*' => Some(Kind::ExprUnary),
+            '!' => Some(Kind::ExprUnary),
+            '-' => Some(Kind::ExprUnary),
+            '<' => Some(Kind::ExprPath),
+            _ => first_form(fronts(position), at),
+        },
+        Spacing::Joint => first_form(fronts(position), at),
+    }
+}
+
+// Whether the word is that keyword.
+fn is(ident: &Ident, keyword: Keyword) -> bool
+    ensures { result ≡ same_text (keyword_text keyword) (ident_text ident.now) }
+{
+    word(Words::Keyword(keyword), ident)
+}
+
+// Whether the word is one of those.
+fn is_early(ident: &Ident) -> bool
+    ensures { result ≡ is_among early_words (ident_text ident.now) }
+{
+    is(ident, Keyword::Loop)
+        || is(ident, Keyword::While)
+        || is(ident, Keyword::Static)
+        || is(ident, Keyword::Move)
+        || is(ident, Keyword::Const)
+        || is(ident, Keyword::Async)
+        || is(ident, Keyword::For)
+}
+
+// Whether the word is one of these.
+fn is_late(ident: &Ident) -> bool
+    ensures { result ≡ is_among late_words (ident_text ident.now) }
+{
+    is(ident, Keyword::Underscore)
+        || is(ident, Keyword::Unsafe)
+        || is(ident, Keyword::Try)
+        || is(ident, Keyword::If)
+        || is(ident, Keyword::Match)
+        || is(ident, Keyword::Continue)
+        || is(ident, Keyword::Break)
+        || is(ident, Keyword::Return)
+        || is(ident, Keyword::Yield)
+        || is(ident, Keyword::Let)
+}
+
+// Whether a mark stands first.
+fn is_mark_first(at: &[Entry<'_>]) -> bool
+    ensures { result ≡ false → no_mark (tokens at.now) }
+{
+    let Some((first, _)) = at.split_first() else {
+        return false;
+    };
+    match first {
+        Entry::Punct(_) => true,
+        Entry::Open(..) => false,
+        Entry::Close(..) => false,
+        Entry::Ident(_) => false,
+        Entry::Literal(_) => false,
+    }
+}
+
+// The form that begins with a word.
+#[tactic(auto, using(crate::proofs::Forms::front_is))]
+fn word_front(
+    position: Position,
+    ident: &Ident,
+    at: &[Entry<'_>],
+    rest: &[Entry<'_>],
+) -> Option<Kind>
+    requires nested { is_nested at.now ≡ true }
+    requires first { tokens at.now ≡ token.Ident (ident_text ident.now) ∷ tokens rest.now }
+    ensures { MatchOption result (front (position_of position) (tokens at.now) ≡ None)
+        (λ k. front (position_of position) (tokens at.now) ≡ Some (kind_of k)) }
+{
+    if word(Words::Bool, ident) {
+        return Some(Kind::ExprLit);
+    }
+    if is_early(ident) {
+        return first_form(fronts(position), at);
+    }
+    if is_late(ident) {
+        return first_form(fronts(position), at);
+    }
+    if !word(Words::Name, ident) {
+        return None;
+    }
+    if !is_mark_first(rest) {
+        return Some(Kind::ExprPath);
+    }
+    if look(Look::Composite(Composite::MacroCallStands), at) {
+        Some(Kind::ExprMacro)
+    } else {
+        Some(Kind::ExprPath)
+    }
+}
+
+/// The form of expressions that begins at the entries.
+#[tactic(auto, using(crate::proofs::Fronts::closing_front))]
 pub fn front(position: Position, at: &[Entry<'_>]) -> Option<Kind>
     requires { is_nested at.now ≡ true }
     ensures { MatchOption result (front (position_of position) (tokens at.now) ≡ None)
         (λ k. front (position_of position) (tokens at.now) ≡ Some (kind_of k)) }
 {
-    first_form(fronts(position), at)
+    let Some((first, rest)) = at.split_first() else {
+        return None;
+    };
+    match first {
+        Entry::Ident(ident) => word_front(position, ident, at, rest),
+        Entry::Punct(mark) => mark_front(position, mark, at, rest),
+        Entry::Literal(_) => Some(Kind::ExprLit),
+        Entry::Open(delimiter, ..) => group_front(position, *delimiter, at, rest),
+        Entry::Close(..) => None,
+    }
 }
 
 /// The form of expressions whose left operand stands before the entries.

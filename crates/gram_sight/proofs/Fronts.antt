@@ -1,0 +1,142 @@
+-- Which form begins is known by the first token, but for words and marks that begin several forms: each look at another
+-- one sees nothing.
+use Rattle.std.proofs.Common.{Bor, ◌≡◌, ℕ, List, [], ◌∷◌, length, refl, sym, ap, ◌∙◌}
+use Rattle.std.specs.Prelude.{Bool, true, false, cond, Option, Some, None}
+use Rattle.proc_macro2.specs.Token.{Token, Opens, Closes, Punct}
+use Rattle.proc_macro2.specs.declared.delimiter.Delimiter.{Delimiter}
+use Rattle.proc_macro2.specs.declared.delimiter.Delimiter.TheVariants as D
+use Rattle.rust_leaf.specs.declared.punct.Spacing.{Spacing}
+use Rattle.rust_leaf.specs.declared.punct.Spacing.TheVariants.{Alone}
+use Rattle.rust_leaf.specs.declared.literal.Literal.{Literal}
+use Rattle.rust_map.specs.declared.span.Span.{Span}
+use Rattle.syn_buffer.specs.Entries.{entry_token}
+use Rattle.syn_buffer.specs.declared.entry.Entry.{Entry}
+use Rattle.syn_buffer.specs.declared.entry.Entry.TheVariants as entry
+use Rattle.syn_grammar.specs.Forms as f
+use Rattle.syn_grammar.specs.Kind as k
+use Rattle.syn_grammar.specs.Look.{sees}
+use Rattle.gram_look.specs.Tokens.{tokens}
+
+-- no token, a mark that closes, and a literal
+pub none_front : (p : k.Position) (es : List Entry) → length es ≡ 0 → f.front p (tokens es) ≡ None
+unfolding f.front
+none_front p (e ∷ es) h = absurd (cc h)
+none_front p [] h = step p
+  where
+    step : (p : k.Position) → f.front p [] ≡ None
+    step k.Plain = refl
+    step k.InCondition = refl
+    step k.InArm = refl
+    step k.InStatement = refl
+
+pub closing_front : (p : k.Position) (x : Entry) (d : Delimiter) (n : Span) (es fs : List Entry) → es ≡ x ∷ fs
+    → x ≡ entry.Close d n → f.front p (tokens es) ≡ None
+unfolding f.front
+closing_front p x d n es fs e h =
+    ap (λ x. f.front p (tokens x)) e ∙ ap (λ x. f.front p (entry_token x ∷ tokens fs)) h ∙ step p
+  where
+    step : (p : k.Position) → f.front p (Closes d ∷ tokens fs) ≡ None
+    step k.Plain = refl
+    step k.InCondition = refl
+    step k.InArm = refl
+    step k.InStatement = refl
+
+pub literal_front : (p : k.Position) (x : Entry) (l : Bor Literal) (es fs : List Entry) → es ≡ x ∷ fs
+    → x ≡ entry.Literal l → f.front p (tokens es) ≡ Some k.ExprLit
+unfolding f.front
+literal_front p x l es fs e h =
+    ap (λ x. f.front p (tokens x)) e ∙ ap (λ x. f.front p (entry_token x ∷ tokens fs)) h
+
+-- a group
+pub parenthesis_front : (p : k.Position) (d : Delimiter) (ts us : List Token) → ts ≡ Opens d ∷ us → d ≡ D.Parenthesis
+    → f.front p ts ≡ Some k.ExprParen
+unfolding f.front
+parenthesis_front p d ts us e h = ap (f.front p) e ∙ ap (λ x. f.front p (Opens x ∷ us)) h
+
+pub brace_front : (p : k.Position) (d : Delimiter) (ts us : List Token) → ts ≡ Opens d ∷ us → d ≡ D.Brace
+    → f.front p ts ≡ Some k.ExprBlock
+unfolding f.front
+brace_front p d ts us e h = ap (f.front p) e ∙ ap (λ x. f.front p (Opens x ∷ us)) h
+
+pub bare_front : (p : k.Position) (d : Delimiter) (ts us : List Token) → ts ≡ Opens d ∷ us → d ≡ D.None
+    → f.front p ts ≡ Some k.ExprGroup
+unfolding f.front
+bare_front p d ts us e h = ap (f.front p) e ∙ ap (λ x. f.front p (Opens x ∷ us)) h
+
+bracket_front : (p : k.Position) (d : Delimiter) (ts us : List Token) (b : Bool) → ts ≡ Opens d ∷ us
+    → d ≡ D.Bracket → b ≡ sees f.repeat_stands ts → f.front p ts ≡ cond b (Some k.ExprRepeat) (Some k.ExprArray)
+unfolding f.front
+bracket_front p d ts us b e h g =
+    ap (f.front p) e ∙ ap (λ x. f.front p (Opens x ∷ us)) h
+    ∙ ap (λ x. cond (sees f.repeat_stands (Opens x ∷ us)) (Some k.ExprRepeat) (Some k.ExprArray)) (sym h)
+    ∙ ap (λ x. cond (sees f.repeat_stands x) (Some k.ExprRepeat) (Some k.ExprArray)) (sym e)
+    ∙ ap (λ x. cond x (Some k.ExprRepeat) (Some k.ExprArray)) (sym g)
+
+pub repeat_front : (p : k.Position) (d : Delimiter) (ts us : List Token) → ts ≡ Opens d ∷ us → d ≡ D.Bracket
+    → true ≡ sees f.repeat_stands ts → f.front p ts ≡ Some k.ExprRepeat
+repeat_front p d ts us e h g = bracket_front p d ts us true e h g
+
+pub array_front : (p : k.Position) (d : Delimiter) (ts us : List Token) → ts ≡ Opens d ∷ us → d ≡ D.Bracket
+    → false ≡ sees f.repeat_stands ts → f.front p ts ≡ Some k.ExprArray
+array_front p d ts us e h g = bracket_front p d ts us false e h g
+
+-- a mark that none follows at once
+by_mark : (p : k.Position) (c d : ℕ) (s : Spacing) (ts us : List Token) → ts ≡ Punct c s ∷ us → s ≡ Alone → c ≡ d
+    → f.front p ts ≡ f.front p (Punct d Alone ∷ us)
+by_mark p c d s ts us e h g =
+    ap (f.front p) e ∙ ap (λ x. f.front p (Punct c x ∷ us)) h ∙ ap (λ x. f.front p (Punct x Alone ∷ us)) g
+
+pub pound_front : (p : k.Position) (c : ℕ) (s : Spacing) (ts us : List Token) → ts ≡ Punct c s ∷ us → s ≡ Alone
+    → c ≡ 35 → f.front p ts ≡ Some k.ExprAttributed
+unfolding f.front
+pound_front p c s ts us e h g = by_mark p c 35 s ts us e h g ∙ step p
+  where
+    step : (p : k.Position) → f.front p (Punct 35 Alone ∷ us) ≡ Some k.ExprAttributed
+    step k.Plain = refl
+    step k.InCondition = refl
+    step k.InArm = refl
+    step k.InStatement = refl
+
+pub star_front : (p : k.Position) (c : ℕ) (s : Spacing) (ts us : List Token) → ts ≡ Punct c s ∷ us → s ≡ Alone
+    → c ≡ 42 → f.front p ts ≡ Some k.ExprUnary
+unfolding f.front
+star_front p c s ts us e h g = by_mark p c 42 s ts us e h g ∙ step p
+  where
+    step : (p : k.Position) → f.front p (Punct 42 Alone ∷ us) ≡ Some k.ExprUnary
+    step k.Plain = refl
+    step k.InCondition = refl
+    step k.InArm = refl
+    step k.InStatement = refl
+
+pub not_front : (p : k.Position) (c : ℕ) (s : Spacing) (ts us : List Token) → ts ≡ Punct c s ∷ us → s ≡ Alone
+    → c ≡ 33 → f.front p ts ≡ Some k.ExprUnary
+unfolding f.front
+not_front p c s ts us e h g = by_mark p c 33 s ts us e h g ∙ step p
+  where
+    step : (p : k.Position) → f.front p (Punct 33 Alone ∷ us) ≡ Some k.ExprUnary
+    step k.Plain = refl
+    step k.InCondition = refl
+    step k.InArm = refl
+    step k.InStatement = refl
+
+pub minus_front : (p : k.Position) (c : ℕ) (s : Spacing) (ts us : List Token) → ts ≡ Punct c s ∷ us → s ≡ Alone
+    → c ≡ 45 → f.front p ts ≡ Some k.ExprUnary
+unfolding f.front
+minus_front p c s ts us e h g = by_mark p c 45 s ts us e h g ∙ step p
+  where
+    step : (p : k.Position) → f.front p (Punct 45 Alone ∷ us) ≡ Some k.ExprUnary
+    step k.Plain = refl
+    step k.InCondition = refl
+    step k.InArm = refl
+    step k.InStatement = refl
+
+pub less_front : (p : k.Position) (c : ℕ) (s : Spacing) (ts us : List Token) → ts ≡ Punct c s ∷ us → s ≡ Alone
+    → c ≡ 60 → f.front p ts ≡ Some k.ExprPath
+unfolding f.front
+less_front p c s ts us e h g = by_mark p c 60 s ts us e h g ∙ step p
+  where
+    step : (p : k.Position) → f.front p (Punct 60 Alone ∷ us) ≡ Some k.ExprPath
+    step k.Plain = refl
+    step k.InCondition = refl
+    step k.InArm = refl
+    step k.InStatement = refl

@@ -1,0 +1,31 @@
+-- Each arm is a group of that kind.
+use Rattle.std.proofs.Common.{rules}
+use Rattle.gram_look.specs.Tokens.{tokens}
+use Rattle.gram_table.specs.Kinds.{position_of}
+use Rattle.gram_sight.proofs.Fronts.{parenthesis_front, brace_front, bare_front, repeat_front, array_front}
+use Rattle.gram_sight.proofs.form.group_front.Goals as goal
+
+pub returns-in-Parenthesis : goal.returns-in-Parenthesis
+returns-in-Parenthesis c =
+    parenthesis_front (position_of c.args.position) c.args.delimiter (tokens c.args.at.now) (tokens c.args.rest.now)
+    c.requires.first c.in-Parenthesis.is
+
+pub returns-in-Brace : goal.returns-in-Brace
+returns-in-Brace c =
+    brace_front (position_of c.args.position) c.args.delimiter (tokens c.args.at.now) (tokens c.args.rest.now)
+    c.requires.first c.in-Brace.is
+
+pub returns-in-None : goal.returns-in-None
+returns-in-None c =
+    bare_front (position_of c.args.position) c.args.delimiter (tokens c.args.at.now) (tokens c.args.rest.now)
+    c.requires.first c.in-None.is
+
+pub returns-then-look : goal.returns-then-look
+returns-then-look c =
+    repeat_front (position_of c.args.position) c.args.delimiter (tokens c.args.at.now) (tokens c.args.rest.now)
+    c.requires.first c.in-Bracket.is (search rules)
+
+pub returns-else-look : goal.returns-else-look
+returns-else-look c =
+    array_front (position_of c.args.position) c.args.delimiter (tokens c.args.at.now) (tokens c.args.rest.now)
+    c.requires.first c.in-Bracket.is (search rules)
