@@ -1,6 +1,6 @@
 -- Outputs: the text of a normal form has its tokens, and is read as its own output.
 use Rattle.std.proofs.Common.{◌≡◌, ℕ, List, [], ◌∷◌, ◌++◌, refl, sym, ap, ◌∙◌, subst}
-use Rattle.std.specs.Prelude.{true, ◌↔◌}
+use Rattle.std.specs.Prelude.{◌↔◌}
 use Rattle.std.proofs.lemmas.List.{append-nil}
 use Rattle.rust_map.specs.Spans.{call_site}
 use Rattle.rust_leaf.specs.Leaf.{AreCharacters}
