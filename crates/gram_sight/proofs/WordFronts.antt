@@ -80,7 +80,8 @@ abbrev names : List f.Case
 names = f.form k.ExprMacro f.macro_call_stands ∷ f.form k.ExprPath (a_name or marks "::" or marks "<") ∷ []
 
 other_word : (p : k.Position) (w : List ℕ) (us : List Token) → is_bool w ≡ false
-    → is_among early_words w ≡ false → is_among late_words w ≡ false → f.front p (Ident w ∷ us) ≡ f.first_form names (Ident w ∷ us)
+    → is_among early_words w ≡ false → is_among late_words w ≡ false
+    → f.front p (Ident w ∷ us) ≡ f.first_form names (Ident w ∷ us)
 unfolding f.front
 other_word p w us n d e =
     let h : Others early_words w = others early_words w d in
@@ -171,16 +172,19 @@ pub bool_front : (p : k.Position) (w : List ℕ) (ts us : List Token) → ts ≡
 unfolding f.front
 bool_front p w ts us e h =
     ap (f.front p) e
-    ∙ ap (λ b. cond (seen (cond b (Some us) None)) (Some k.ExprLit) (f.first_form (drop 2 (f.fronts p)) (Ident w ∷ us))) h
+    ∙ ap (λ b. cond (seen (cond b (Some us) None)) (Some k.ExprLit)
+    (f.first_form (drop 2 (f.fronts p)) (Ident w ∷ us))) h
 
 -- by whether it is a name, and by whether a macro's call begins with it
-by_name : (p : k.Position) (w : List ℕ) (us : List Token) (b c : Bool) → is_bool w ≡ false → is_among early_words w ≡ false
+by_name : (p : k.Position) (w : List ℕ) (us : List Token) (b c : Bool) → is_bool w ≡ false
+    → is_among early_words w ≡ false
     → is_among late_words w ≡ false → is_name w ≡ b → sees f.macro_call_stands (Ident w ∷ us) ≡ c
     → f.front p (Ident w ∷ us) ≡ cond c (Some k.ExprMacro) (cond b (Some k.ExprPath) None)
 by_name p w us b c i d e n m =
     other_word p w us i d e
     ∙ ap (λ x. cond x (Some k.ExprMacro) (f.first_form (drop 1 names) (Ident w ∷ us))) m
-    ∙ ap (λ x. cond c (Some k.ExprMacro) (cond (seen (first_seen (cond x (Some us) None) None)) (Some k.ExprPath) None)) n
+    ∙ ap (λ x. cond c (Some k.ExprMacro) (cond (seen (first_seen
+    (cond x (Some us) None) None)) (Some k.ExprPath) None)) n
     ∙ named b c
   where
     named : (b c : Bool)
@@ -212,12 +216,14 @@ pub no_name : (p : k.Position) (w : List ℕ) (ts us : List Token) → ts ≡ Id
 no_name p w ts us e i g d n = ap (f.front p) e ∙ by_name p w us false false i g d n (no_call w us false n refl)
 
 pub is_call : (p : k.Position) (w : List ℕ) (ts us : List Token) → ts ≡ Ident w ∷ us → is_bool w ≡ false
-    → is_among early_words w ≡ false → is_among late_words w ≡ false → is_name w ≡ true → sees f.macro_call_stands ts ≡ true → f.front p ts ≡ Some k.ExprMacro
+    → is_among early_words w ≡ false → is_among late_words w ≡ false → is_name w ≡ true
+    → sees f.macro_call_stands ts ≡ true → f.front p ts ≡ Some k.ExprMacro
 is_call p w ts us e i g d n m =
     ap (f.front p) e ∙ by_name p w us true true i g d n (ap (λ x. sees f.macro_call_stands x) (sym e) ∙ m)
 
 pub is_path : (p : k.Position) (w : List ℕ) (ts us : List Token) → ts ≡ Ident w ∷ us → is_bool w ≡ false
-    → is_among early_words w ≡ false → is_among late_words w ≡ false → is_name w ≡ true → sees f.macro_call_stands ts ≡ false → f.front p ts ≡ Some k.ExprPath
+    → is_among early_words w ≡ false → is_among late_words w ≡ false → is_name w ≡ true
+    → sees f.macro_call_stands ts ≡ false → f.front p ts ≡ Some k.ExprPath
 is_path p w ts us e i g d n m =
     ap (f.front p) e ∙ by_name p w us true false i g d n (ap (λ x. sees f.macro_call_stands x) (sym e) ∙ m)
 
@@ -231,6 +237,7 @@ no_mark_behind (Literal x ∷ us) h = refl
 no_mark_behind (Punct x s ∷ us) h = absurd h
 
 pub path_alone : (p : k.Position) (w : List ℕ) (ts us : List Token) → ts ≡ Ident w ∷ us → is_bool w ≡ false
-    → is_among early_words w ≡ false → is_among late_words w ≡ false → is_name w ≡ true → no_mark us → f.front p ts ≡ Some k.ExprPath
+    → is_among early_words w ≡ false → is_among late_words w ≡ false → is_name w ≡ true → no_mark us
+    → f.front p ts ≡ Some k.ExprPath
 path_alone p w ts us e i g d n h =
     ap (f.front p) e ∙ by_name p w us true false i g d n (no_call w us true n (no_mark_behind us h))

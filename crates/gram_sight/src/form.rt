@@ -9,6 +9,7 @@ ghost use Rattle.gram_table.specs.Kinds.{kind_of, position_of};
 ghost use Rattle.gram_table.specs.Words.{keyword_text};
 ghost use Rattle.proc_macro2.specs.Token as token;
 ghost use Rattle.rust_leaf.specs.Leaf.{ident_text, punct_char, punct_spacing};
+ghost use Rattle.rust_leaf.specs.declared.punct.Spacing.TheVariants.{Alone};
 ghost use Rattle.std.specs.Prelude.{◌∷◌, ◌≡◌, MatchOption, None, Some, false, true};
 ghost use Rattle.syn_grammar.specs.Forms.{back, brace_ends, first_form, front, has_right, operand_stands, range_is_open};
 ghost use Rattle.syn_grammar.specs.Look.{no, sees, ◌then◌};
@@ -205,14 +206,119 @@ pub fn front(position: Position, at: &[Entry<'_>]) -> Option<Kind>
     }
 }
 
-/// The form of expressions whose left operand stands before the entries.
+// The form whose left operand stands before a dot that none follows at once.
+fn dot_back(position: Position, mark: &Punct, at: &[Entry<'_>], rest: &[Entry<'_>]) -> Option<Kind>
+    requires nested { is_nested at.now ≡ true }
+    requires first { tokens at.now ≡ token.Punct (punct_char mark.now) (punct_spacing mark.now) ∷ tokens rest.now }
+    requires dot { punct_char mark.now ≡ 46 }
+    requires lone { punct_spacing mark.now ≡ Alone }
+    ensures { MatchOption result (back (position_of position) (tokens at.now) ≡ None)
+        (λ k. back (position_of position) (tokens at.now) ≡ Some (kind_of k)) }
+{
+    let _behind = (position, mark.as_char(), rest.len());
+    if look(Look::Composite(Composite::AwaitStands), at) {
+        return Some(Kind::ExprAwait);
+    }
+    if look(Look::Composite(Composite::MethodStands), at) {
+        return Some(Kind::ExprMethodCall);
+    }
+    if look(Look::Composite(Composite::DotStands), at) {
+        Some(Kind::ExprField)
+    } else {
+        None
+    }
+}
+
+// The form whose left operand stands before a mark.
 #[tactic(auto, using(crate::proofs::Forms::back_is))]
+fn mark_back(position: Position, mark: &Punct, at: &[Entry<'_>], rest: &[Entry<'_>]) -> Option<Kind>
+    requires nested { is_nested at.now ≡ true }
+    requires first { tokens at.now ≡ token.Punct (punct_char mark.now) (punct_spacing mark.now) ∷ tokens rest.now }
+    ensures { MatchOption result (back (position_of position) (tokens at.now) ≡ None)
+        (λ k. back (position_of position) (tokens at.now) ≡ Some (kind_of k)) }
+{
+    let _behind = rest.len();
+    match mark.as_char() {
+        ',' => return None,
+        ';' => return None,
+        '?' => return Some(Kind::ExprTry),
+        _ => {}
+    }
+    match mark.spacing() {
+        Spacing::Alone => match mark.as_char() {
+            '=' => Some(Kind::ExprAssign),
+            '+' => Some(Kind::ExprSum),
+            '-' => Some(Kind::ExprSum),
+            '*' => Some(Kind::ExprProduct),
+            '/' => Some(Kind::ExprProduct),
+            '<' => Some(Kind::ExprCompare),
+            '>' => Some(Kind::ExprCompare),
+            '.' => dot_back(position, mark, at, rest),
+            _ => first_form(backs(position), at),
+        },
+        Spacing::Joint => first_form(backs(position), at),
+    }
+}
+
+// The form whose left operand stands before a group.
+#[tactic(auto, using(crate::proofs::Forms::back_is))]
+fn group_back(
+    position: Position,
+    delimiter: Delimiter,
+    at: &[Entry<'_>],
+    rest: &[Entry<'_>],
+) -> Option<Kind>
+    requires nested { is_nested at.now ≡ true }
+    requires first { tokens at.now ≡ token.Opens delimiter ∷ tokens rest.now }
+    ensures { MatchOption result (back (position_of position) (tokens at.now) ≡ None)
+        (λ k. back (position_of position) (tokens at.now) ≡ Some (kind_of k)) }
+{
+    let _behind = rest.len();
+    match delimiter {
+        Delimiter::Parenthesis => Some(Kind::ExprCall),
+        Delimiter::Bracket => Some(Kind::ExprIndex),
+        Delimiter::None => None,
+        Delimiter::Brace => first_form(backs(position), at),
+    }
+}
+
+// The form whose left operand stands before a word: a cast, if the word is `as`.
+fn word_back(
+    position: Position,
+    ident: &Ident,
+    at: &[Entry<'_>],
+    rest: &[Entry<'_>],
+) -> Option<Kind>
+    requires nested { is_nested at.now ≡ true }
+    requires first { tokens at.now ≡ token.Ident (ident_text ident.now) ∷ tokens rest.now }
+    ensures { MatchOption result (back (position_of position) (tokens at.now) ≡ None)
+        (λ k. back (position_of position) (tokens at.now) ≡ Some (kind_of k)) }
+{
+    let _behind = (position, at.len(), rest.len());
+    if is(ident, Keyword::As) {
+        Some(Kind::ExprCast)
+    } else {
+        None
+    }
+}
+
+/// The form of expressions whose left operand stands before the entries.
+#[tactic(auto, using(crate::proofs::Backs::closing_back))]
 pub fn back(position: Position, at: &[Entry<'_>]) -> Option<Kind>
     requires { is_nested at.now ≡ true }
     ensures { MatchOption result (back (position_of position) (tokens at.now) ≡ None)
         (λ k. back (position_of position) (tokens at.now) ≡ Some (kind_of k)) }
 {
-    first_form(backs(position), at)
+    let Some((first, rest)) = at.split_first() else {
+        return None;
+    };
+    match first {
+        Entry::Ident(ident) => word_back(position, ident, at, rest),
+        Entry::Punct(mark) => mark_back(position, mark, at, rest),
+        Entry::Literal(_) => None,
+        Entry::Open(delimiter, ..) => group_back(position, *delimiter, at, rest),
+        Entry::Close(..) => None,
+    }
 }
 
 // Whether a break has an operand there.

@@ -1,6 +1,5 @@
 -- No token, and a literal.
 use Rattle.std.proofs.Common.{rules}
-use Rattle.gram_look.specs.Tokens.{tokens}
 use Rattle.gram_table.specs.Kinds.{position_of}
 use Rattle.gram_sight.proofs.Fronts.{none_front, literal_front}
 use Rattle.gram_sight.proofs.form.front.Goals as goal

@@ -1,0 +1,17 @@
+-- By whether it is that word.
+use Rattle.std.proofs.Common.{rules}
+use Rattle.gram_look.specs.Tokens.{tokens}
+use Rattle.gram_table.specs.Kinds.{position_of}
+use Rattle.rust_leaf.specs.Leaf.{ident_text}
+use Rattle.gram_sight.proofs.Backs.{cast_back, word_back}
+use Rattle.gram_sight.proofs.form.word_back.Goals as goal
+
+pub returns-then-is : goal.returns-then-is
+returns-then-is c =
+    cast_back (position_of c.args.position) (ident_text c.args.ident.now) (tokens c.args.at.now) (tokens c.args.rest.now)
+    c.requires.first (search rules)
+
+pub returns-else-is : goal.returns-else-is
+returns-else-is c =
+    word_back (position_of c.args.position) (ident_text c.args.ident.now) (tokens c.args.at.now) (tokens c.args.rest.now)
+    c.requires.first (search rules)
