@@ -121,6 +121,26 @@ bare_back p d ts us e h = by_group p d D.None ts us e h ∙ step p
     step k.InArm = refl
     step k.InStatement = refl
 
+pub struct_back : (p : k.Position) (d : Delimiter) (ts us : List Token) (o : Option k.Kind) → ts ≡ Opens d ∷ us
+    → d ≡ D.Brace → f.back p (Opens D.Brace ∷ us) ≡ o → f.back p ts ≡ o
+struct_back p d ts us o e h g = by_group p d D.Brace ts us e h ∙ g
+
+pub brace_plain : (us : List Token) → f.back k.Plain (Opens D.Brace ∷ us) ≡ Some k.ExprStruct
+unfolding f.back
+brace_plain us = refl
+
+pub brace_condition : (us : List Token) → f.back k.InCondition (Opens D.Brace ∷ us) ≡ None
+unfolding f.back
+brace_condition us = refl
+
+pub brace_arm : (us : List Token) → f.back k.InArm (Opens D.Brace ∷ us) ≡ Some k.ExprStruct
+unfolding f.back
+brace_arm us = refl
+
+pub brace_statement : (us : List Token) → f.back k.InStatement (Opens D.Brace ∷ us) ≡ Some k.ExprStruct
+unfolding f.back
+brace_statement us = refl
+
 -- a mark that none follows at once
 by_mark : (p : k.Position) (c d : ℕ) (s t : Spacing) (ts us : List Token) → ts ≡ Punct c s ∷ us → s ≡ t → c ≡ d
     → f.back p ts ≡ f.back p (Punct d t ∷ us)

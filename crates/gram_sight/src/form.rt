@@ -8,6 +8,7 @@ ghost use Rattle.gram_table.specs.Cases.{cases_of};
 ghost use Rattle.gram_table.specs.Kinds.{kind_of, position_of};
 ghost use Rattle.gram_table.specs.Words.{keyword_text};
 ghost use Rattle.proc_macro2.specs.Token as token;
+ghost use Rattle.proc_macro2.specs.declared.delimiter.Delimiter.TheVariants.{Brace};
 ghost use Rattle.rust_leaf.specs.Leaf.{ident_text, punct_char, punct_spacing};
 ghost use Rattle.rust_leaf.specs.declared.punct.Spacing.TheVariants.{Alone};
 ghost use Rattle.std.specs.Prelude.{◌∷◌, ◌≡◌, MatchOption, None, Some, false, true};
@@ -260,8 +261,28 @@ fn mark_back(position: Position, mark: &Punct, at: &[Entry<'_>], rest: &[Entry<'
     }
 }
 
+// The form whose left operand stands before braces: a struct, but in a condition.
+fn brace_back(
+    position: Position,
+    delimiter: Delimiter,
+    at: &[Entry<'_>],
+    rest: &[Entry<'_>],
+) -> Option<Kind>
+    requires first { tokens at.now ≡ token.Opens delimiter ∷ tokens rest.now }
+    requires brace { delimiter ≡ Brace }
+    ensures { MatchOption result (back (position_of position) (tokens at.now) ≡ None)
+        (λ k. back (position_of position) (tokens at.now) ≡ Some (kind_of k)) }
+{
+    let _around = (delimiter, at.len(), rest.len());
+    match position {
+        Position::Plain => Some(Kind::ExprStruct),
+        Position::InCondition => None,
+        Position::InArm => Some(Kind::ExprStruct),
+        Position::InStatement => Some(Kind::ExprStruct),
+    }
+}
+
 // The form whose left operand stands before a group.
-#[tactic(auto, using(crate::proofs::Forms::back_is))]
 fn group_back(
     position: Position,
     delimiter: Delimiter,
@@ -278,7 +299,7 @@ fn group_back(
         Delimiter::Parenthesis => Some(Kind::ExprCall),
         Delimiter::Bracket => Some(Kind::ExprIndex),
         Delimiter::None => None,
-        Delimiter::Brace => first_form(backs(position), at),
+        Delimiter::Brace => brace_back(position, delimiter, at, rest),
     }
 }
 
