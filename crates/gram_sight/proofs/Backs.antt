@@ -307,7 +307,8 @@ by_dot p c s ts us a m d e h g i j l =
 pub await_back : (p : k.Position) (c : ℕ) (s : Spacing) (ts us : List Token) → ts ≡ Punct c s ∷ us
     → s ≡ Alone → c ≡ 46 → true ≡ sees (f.dot_stands then at "await") ts → f.back p ts ≡ Some k.ExprAwait
 await_back p c s ts us e h g i =
-    by_dot p c s ts us true (sees (f.dot_stands then an_ident then (parenthesis or marks "::")) ts) (sees f.dot_stands ts)
+    by_dot p c s ts us true (sees (f.dot_stands then an_ident then (parenthesis or marks "::")) ts)
+    (sees f.dot_stands ts)
     e h g i refl refl
 
 pub method_back : (p : k.Position) (c : ℕ) (s : Spacing) (ts us : List Token) → ts ≡ Punct c s ∷ us

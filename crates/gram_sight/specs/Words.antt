@@ -1,4 +1,5 @@
--- The words that begin a form of expressions, but for names, true and false: in two lists, each of which is tested at once.
+-- The words that begin a form of expressions, but for names, true and false: in two lists, each of which is tested
+-- at once.
 use Rattle.std.specs.Prelude.{ℕ, List, [], ◌∷◌, codes}
 
 abbrev pub early_words : List (List ℕ)

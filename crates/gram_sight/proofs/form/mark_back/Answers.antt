@@ -3,7 +3,8 @@ use Rattle.std.proofs.Common.{rules}
 use Rattle.gram_look.specs.Tokens.{tokens}
 use Rattle.gram_table.specs.Kinds.{position_of}
 use Rattle.rust_leaf.specs.Leaf.{punct_char, punct_spacing}
-use Rattle.gram_sight.proofs.Backs.{comma_back, semi_back, question_back, assign_back, plus_back, minus_back, star_back, slash_back, less_back, more_back}
+use Rattle.gram_sight.proofs.Backs.{comma_back, semi_back, question_back, assign_back, plus_back}
+use Rattle.gram_sight.proofs.Backs.{minus_back, star_back, slash_back, less_back, more_back}
 use Rattle.gram_sight.proofs.form.mark_back.Goals as goal
 
 pub returns-in-44 : goal.returns-in-44

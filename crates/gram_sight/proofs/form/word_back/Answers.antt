@@ -8,10 +8,12 @@ use Rattle.gram_sight.proofs.form.word_back.Goals as goal
 
 pub returns-then-is : goal.returns-then-is
 returns-then-is c =
-    cast_back (position_of c.args.position) (ident_text c.args.ident.now) (tokens c.args.at.now) (tokens c.args.rest.now)
+    cast_back (position_of c.args.position) (ident_text c.args.ident.now) (tokens c.args.at.now)
+    (tokens c.args.rest.now)
     c.requires.first (search rules)
 
 pub returns-else-is : goal.returns-else-is
 returns-else-is c =
-    word_back (position_of c.args.position) (ident_text c.args.ident.now) (tokens c.args.at.now) (tokens c.args.rest.now)
+    word_back (position_of c.args.position) (ident_text c.args.ident.now) (tokens c.args.at.now)
+    (tokens c.args.rest.now)
     c.requires.first (search rules)

@@ -18,7 +18,8 @@ returns-then-not-word c =
 
 pub returns-then-not-is_mark_first : goal.returns-then-not-is_mark_first
 returns-then-not-is_mark_first c =
-    path_alone (position_of c.args.position) (ident_text c.args.ident.now) (tokens c.args.at.now) (tokens c.args.rest.now)
+    path_alone (position_of c.args.position) (ident_text c.args.ident.now) (tokens c.args.at.now)
+    (tokens c.args.rest.now)
     c.requires.first (search rules) (search rules) (search rules) (search rules) (search rules)
 
 pub returns-then-look : goal.returns-then-look
