@@ -1,0 +1,3 @@
+pub mod Shape
+pub mod Leaves
+pub mod Types

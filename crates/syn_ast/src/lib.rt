@@ -1,0 +1,6 @@
+//! The syntax tree's types, made of the tree that was read.
+#![tactic(auto)]
+
+pub mod leaf;
+pub mod take;
+pub mod types;
