@@ -1,19 +1,15 @@
 -- A tree that a form is has the shape of entries of few kinds alone: a choice of a choice's, a mark of a mark's, turns
 -- and lists of those that say again and again.
-use Rattle.std.specs.Prelude.{◌≡◌, ℕ, zero, suc, Bool, true, false, List, [], ◌∷◌, Option, Some, None, refl}
+use Rattle.std.specs.Prelude.{◌≡◌, ◌≢◌, ℕ, zero, suc, Bool, true, false, List, [], ◌∷◌, Option, Some, None, length, refl}
 use Rattle.rust_leaf.specs.declared.punct.Spacing.{Spacing}
+use Rattle.proc_macro2.specs.Token.{Token}
 use Rattle.syn_grammar.specs.Gram.{Gram, word, literal, mark, lifetime, raw, nothing, seq, alt, star, many, group}
 use Rattle.syn_grammar.specs.Gram.{judged, dropped, called, ref, operand}
 use Rattle.syn_grammar.specs.Tree as t
 use Rattle.syn_grammar.specs.Tree.{Tree}
 use Rattle.gram_tree.specs.declared.tree.Element.{Element}
 use Rattle.gram_tree.specs.Forms.{mark_of, seconds, turns, elements, ending}
-use Rattle.syn_ast.specs.Shape.{IsShaped}
-
-abbrev pub may_choose : Gram → Bool
-may_choose (alt t a b) = true
-may_choose (judged v g) = true
-may_choose _ = false
+use Rattle.syn_ast.specs.Shape.{IsShaped, may_choose}
 
 abbrev pub may_mark : Gram → Bool
 may_mark (mark c cs) = true
@@ -30,6 +26,15 @@ shaped_first n x (alt t a b) h = refl
 shaped_first n x (judged v g) h = refl
 shaped_first zero x _ h = absurd h
 shaped_first (suc n) x _ h = absurd h
+
+pub shaped_second : (x : Tree) (g : Gram) → IsShaped (t.Second x) g → may_choose g ≡ true
+shaped_second x (alt t a b) h = refl
+shaped_second x (judged v g) h = refl
+shaped_second x _ h = absurd h
+
+not_both : (b : Bool) → b ≡ true → b ≡ false → ⊥
+not_both true e d = cc
+not_both false e d = cc
 
 pub shaped_mark : (cs : List ℕ) (spacing : Spacing) (g : Gram) → IsShaped (mark_of cs spacing) g → may_mark g ≡ true
 shaped_mark cs spacing (mark c ds) h = refl
@@ -51,4 +56,36 @@ shaped_elements c [] f None _ h = absurd h
 shaped_elements c [] f (Some y) _ h = absurd h
 shaped_elements c (e ∷ es) f o _ h = absurd h
 
+-- of two of which the second is no choice again
+pub first_chosen : (n : ℕ) (x : Tree) (test : List Token → Bool) (a b : Gram) → n ≢ 0 → may_choose b ≡ false
+    → IsShaped (seconds n (t.First x)) (alt test a b) → ⊥
+first_chosen zero x test a b d e h = absurd (d refl)
+first_chosen (suc n) x test a b d e h = not_both (may_choose b) (shaped_first n x b h) e
+
+pub second_chosen : (n : ℕ) (x : Tree) (test : List Token → Bool) (a b : Gram) → n ≢ 0 → may_choose b ≡ false
+    → IsShaped (t.Second (seconds n x)) (alt test a b) → ⊥
+second_chosen zero x test a b d e h = absurd (d refl)
+second_chosen (suc n) x test a b d e h = not_both (may_choose b) (shaped_second (seconds n x) b h) e
+
+-- turns, at least one, are no list
+pub turns_listed : (xs : List Tree) (e : List Token → Bool) (c : ℕ) (g : Gram) → length xs ≢ 0
+    → IsShaped (turns xs) (many e c g) → ⊥
+turns_listed [] e c g d h = absurd (d refl)
+turns_listed (x ∷ xs) e c g d h = absurd h
+
+-- a list, of at least one element, is no turns
+pub list_turned : {A : Type 0} (c : ℕ) (es : List Element) (f : A → Tree) (o : Option A) (e : List Token → Bool) (g : Gram)
+    → length es ≢ 0 → IsShaped (elements c es (ending f o)) (star e g) → ⊥
+list_turned c [] f o e g d h = absurd (d refl)
+list_turned c (x ∷ es) f o e g d h = absurd h
+
+pub last_turned : (c : ℕ) (es : List Element) (x : Tree) (e : List Token → Bool) (g : Gram)
+    → IsShaped (elements c es (t.Final x)) (star e g) → ⊥
+last_turned c [] x e g h = absurd h
+last_turned c (y ∷ es) x e g h = absurd h
+
 pub ruleset takes = (shaped_first, shaped_mark, shaped_turns, shaped_elements)
+
+pub ruleset choices = (first_chosen, second_chosen)
+
+pub ruleset lists = (shaped_first, shaped_mark, shaped_turns, shaped_elements, turns_listed, list_turned, last_turned)

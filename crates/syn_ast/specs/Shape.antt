@@ -1,5 +1,5 @@
 -- The shape of an entry: a tree that is of the entry, but for the tests that look at tokens, and for verdicts.
-use Rattle.std.specs.Prelude.{◌≡◌, true}
+use Rattle.std.specs.Prelude.{◌≡◌, Bool, true, false}
 use Rattle.syn_grammar.specs.Tree.{Tree, AWord, ALiteral, AMark, ALifetime, Raw, Nil, Pair, First, Second, End, Again}
 use Rattle.syn_grammar.specs.Tree.{Final, More, Group, Dropped, Called, Verbatim, Node, Whole, Alone, Front, Back}
 use Rattle.syn_grammar.specs.Tree.{Infix}
@@ -39,3 +39,9 @@ abbrev mutual
   HasShapes (Back l k y) = HasShapes l × IsShaped y (table k)
   HasShapes (Infix l k y r) = HasShapes l × IsShaped y (table k) × HasShapes r
   HasShapes _ = ⊥
+
+-- an entry that is a choice
+abbrev pub may_choose : Gram → Bool
+may_choose (alt t a b) = true
+may_choose (judged v g) = true
+may_choose _ = false

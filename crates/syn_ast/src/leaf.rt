@@ -1,6 +1,7 @@
-//! Leaves: what a field of a type holds that is a token.
+//! Leaves: what a field of a type holds that is a token, and the delimiters of a group.
 
 use gram_table::word::Sign;
+use proc_macro2::delimiter::Delimiter;
 use rust_leaf::ident::Ident;
 use rust_leaf::punct::Spacing;
 use rust_map::span::Span;
@@ -23,4 +24,13 @@ pub struct Lifetime<'a> {
     pub apostrophe: Span,
     /// Its name.
     pub ident: &'a Ident,
+}
+
+/// The delimiters of a group.
+#[derive(Clone, Copy)]
+pub struct Delimiters {
+    /// Which they are.
+    pub delimiter: Delimiter,
+    /// Where the group stands.
+    pub span: Span,
 }

@@ -2,5 +2,6 @@
 #![tactic(auto)]
 
 pub mod leaf;
+pub mod list;
 pub mod take;
 pub mod types;
