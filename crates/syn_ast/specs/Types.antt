@@ -1,11 +1,47 @@
--- The tree that each type of a type is, a line a struct.
+-- The trees that the types of types are.
+use Rattle.syn_ast.specs.Leaves.{lifetime_tree, list_tree, mark_tree, node_tree, optional_tree, word_tree}
+use Rattle.syn_ast.specs.Sub.{marked_type_tree, marked_value_tree}
+use Rattle.syn_ast.specs.declared.types.BoundLifetimes.{BoundLifetimes}
+use Rattle.syn_ast.specs.declared.types.ReturnType.{ReturnType}
+use Rattle.syn_ast.specs.declared.types.TypeBracketed.{TypeBracketed}
+use Rattle.syn_ast.specs.declared.types.TypeFnPtr.{TypeFnPtr}
+use Rattle.syn_ast.specs.declared.types.TypeInfer.{TypeInfer}
+use Rattle.syn_ast.specs.declared.types.TypeNever.{TypeNever}
+use Rattle.syn_ast.specs.declared.types.TypeParenthesized.{TypeParenthesized}
+use Rattle.syn_ast.specs.declared.types.TypeReference.{TypeReference}
+use Rattle.gram_table.specs.Kinds.{plus_of}
 use Rattle.syn_grammar.specs.Kind as k
 use Rattle.syn_grammar.specs.Tree as t
 use Rattle.syn_grammar.specs.Tree.{Tree}
-use Rattle.syn_ast.specs.Leaves.{mark_tree, lifetime_tree, optional_tree, word_tree}
-use Rattle.syn_ast.specs.declared.types.TypeReference.{TypeReference}
 
+-- a reference: &'a mut T
 abbrev pub type_reference : TypeReference → Tree
-type_reference x =
-    t.Node k.ReferenceType (t.Pair (mark_tree x.and_token) (t.Pair (optional_tree lifetime_tree x.lifetime)
-    (t.Pair (optional_tree word_tree x.mutability) x.elem.now)))
+type_reference x = t.Node k.ReferenceType (t.Pair (mark_tree x.and_token) (t.Pair (optional_tree lifetime_tree x.lifetime) (t.Pair (optional_tree word_tree x.mutability) x.elem.now)))
+
+-- the type of what never returns: !
+abbrev pub type_never : TypeNever → Tree
+type_never x = t.Node k.NeverType (mark_tree x.bang_token)
+
+-- a type that is to be inferred: _
+abbrev pub type_infer : TypeInfer → Tree
+type_infer x = t.Node k.InferType (word_tree x.underscore_token)
+
+-- a function pointer: for<'a> unsafe extern "C" fn(A, B) -> C
+abbrev pub type_fn_ptr : TypeFnPtr → Tree
+type_fn_ptr x = t.Node k.FnPtrType (t.Pair (optional_tree node_tree x.lifetimes) (t.Pair (optional_tree word_tree x.unsafety) (t.Pair (optional_tree node_tree x.abi) (t.Pair (word_tree x.fn_token) (t.Pair (t.Group x.paren_token.delimiter (list_tree x.inputs)) x.output.now)))))
+
+-- lifetimes that are bound: for<'a>
+abbrev pub bound_lifetimes : BoundLifetimes → Tree
+bound_lifetimes x = t.Node k.BoundLifetimes (t.Pair (word_tree x.for_token) (t.Pair (mark_tree x.lt_token) (t.Pair (list_tree x.lifetimes) (mark_tree x.gt_token))))
+
+-- what a function returns: -> T, or nothing
+abbrev pub return_type : ReturnType → Tree
+return_type x = t.Node (k.ReturnType (plus_of x.plus)) (optional_tree marked_type_tree x.ty)
+
+-- a slice or an array
+abbrev pub type_bracketed : TypeBracketed → Tree
+type_bracketed x = t.Node k.BracketType (t.Group x.bracket_token.delimiter (t.Pair x.elem.now (optional_tree marked_value_tree x.len)))
+
+-- a tuple, or a type in parentheses
+abbrev pub type_parenthesized : TypeParenthesized → Tree
+type_parenthesized x = t.Node k.TupleType (t.Group x.paren_token.delimiter (list_tree x.elems))

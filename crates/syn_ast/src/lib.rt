@@ -1,7 +1,9 @@
-//! The syntax tree's types, made of the tree that was read.
+//! The syntax tree's types: what was read as a tree, one layer at a time, as structs whose fields are its parts.
 #![tactic(auto)]
 
 pub mod leaf;
 pub mod list;
+pub mod paths;
+pub mod sub;
 pub mod take;
 pub mod types;

@@ -2,13 +2,15 @@
 
 ghost use Rattle.std.specs.Prelude.{◌≡◌, MatchOption};
 ghost use Rattle.syn_ast.specs.Shape.{IsShaped};
-ghost use Rattle.syn_ast.specs.Types.{type_reference};
-ghost use Rattle.syn_grammar.specs.Gram.{ref};
+ghost use Rattle.syn_ast.specs.Types.{bound_lifetimes, return_type, type_bracketed, type_fn_ptr, type_infer, type_never, type_parenthesized, type_reference};
+ghost use Rattle.syn_grammar.specs.Gram as g;
 ghost use Rattle.syn_grammar.specs.Kind as k;
 
-use crate::leaf::{Lifetime, Mark};
-use crate::take::{mark, node, optional_lifetime, optional_word, pair};
-use gram_table::kind::Kind;
+use crate::leaf::{Delimiters, Lifetime, Mark};
+use crate::list::Elements;
+use crate::sub::{MarkedType, MarkedValue, optional_as_marked_type, optional_as_marked_value};
+use crate::take;
+use gram_table::kind::{Kind, Plus};
 use gram_tree::tree::Tree;
 use rust_leaf::ident::Ident;
 
@@ -26,30 +28,24 @@ pub struct TypeReference<'t, 'a> {
 }
 
 impl<'t, 'a> TypeReference<'t, 'a> {
-    /// The reference that a tree is.
+    /// What a tree is, if it is that.
     #[tactic(auto, unfolding(syn_grammar::specs::Table::table))]
     pub fn of(tree: &'t Tree<'a>) -> Option<TypeReference<'t, 'a>>
-        ensures { MatchOption result (IsShaped tree.now (ref k.ReferenceType) → ⊥) (λ x. tree.now ≡ type_reference x) }
+        ensures { MatchOption result (IsShaped tree.now (g.ref k.ReferenceType) → ⊥) (λ x. tree.now ≡ type_reference x) }
     {
-        let Some((Kind::ReferenceType, inner)) = node(tree) else {
+        let Some((Kind::ReferenceType, inner)) = take::node(tree) else {
             return None;
         };
-        let Some((and_token, behind)) = pair(inner) else {
+        let Some((and_token, lifetime, mutability, elem)) = take::four(inner) else {
             return None;
         };
-        let Some((lifetime, behind)) = pair(behind) else {
+        let Some(and_token) = take::mark(and_token) else {
             return None;
         };
-        let Some((mutability, elem)) = pair(behind) else {
+        let Some(lifetime) = take::optional_lifetime(lifetime) else {
             return None;
         };
-        let Some(and_token) = mark(and_token) else {
-            return None;
-        };
-        let Some(lifetime) = optional_lifetime(lifetime) else {
-            return None;
-        };
-        let Some(mutability) = optional_word(mutability) else {
+        let Some(mutability) = take::optional_word(mutability) else {
             return None;
         };
         Some(TypeReference {
@@ -58,5 +54,249 @@ impl<'t, 'a> TypeReference<'t, 'a> {
             mutability,
             elem,
         })
+    }
+}
+
+/// The type of what never returns: `!`.
+#[derive(Clone, Copy)]
+pub struct TypeNever {
+    /// `!`
+    pub bang_token: Mark,
+}
+
+impl TypeNever {
+    /// What a tree is, if it is that.
+    #[tactic(auto, unfolding(syn_grammar::specs::Table::table))]
+    pub fn of(tree: &Tree<'_>) -> Option<TypeNever>
+        ensures { MatchOption result (IsShaped tree.now (g.ref k.NeverType) → ⊥) (λ x. tree.now ≡ type_never x) }
+    {
+        let Some((Kind::NeverType, inner)) = take::node(tree) else {
+            return None;
+        };
+        let Some(bang_token) = take::mark(inner) else {
+            return None;
+        };
+        Some(TypeNever { bang_token })
+    }
+}
+
+/// A type that is to be inferred: `_`.
+#[derive(Clone, Copy)]
+pub struct TypeInfer<'a> {
+    /// `_`
+    pub underscore_token: &'a Ident,
+}
+
+impl<'a> TypeInfer<'a> {
+    /// What a tree is, if it is that.
+    #[tactic(auto, unfolding(syn_grammar::specs::Table::table))]
+    pub fn of(tree: &Tree<'a>) -> Option<TypeInfer<'a>>
+        ensures { MatchOption result (IsShaped tree.now (g.ref k.InferType) → ⊥) (λ x. tree.now ≡ type_infer x) }
+    {
+        let Some((Kind::InferType, inner)) = take::node(tree) else {
+            return None;
+        };
+        let Some(underscore_token) = take::word(inner) else {
+            return None;
+        };
+        Some(TypeInfer { underscore_token })
+    }
+}
+
+/// A function pointer: `for<'a> unsafe extern "C" fn(A, B) -> C`.
+#[derive(Clone, Copy)]
+pub struct TypeFnPtr<'t, 'a> {
+    /// `for<'a>`
+    pub lifetimes: Option<&'t Tree<'a>>,
+    /// `unsafe`
+    pub unsafety: Option<&'a Ident>,
+    /// `extern "C"`
+    pub abi: Option<&'t Tree<'a>>,
+    /// `fn`
+    pub fn_token: &'a Ident,
+    /// The parentheses.
+    pub paren_token: Delimiters,
+    /// What it takes.
+    pub inputs: Elements<'t, 'a>,
+    /// What it returns.
+    pub output: &'t Tree<'a>,
+}
+
+impl<'t, 'a> TypeFnPtr<'t, 'a> {
+    /// What a tree is, if it is that.
+    #[tactic(auto, unfolding(syn_grammar::specs::Table::table))]
+    pub fn of(tree: &'t Tree<'a>) -> Option<TypeFnPtr<'t, 'a>>
+        ensures { MatchOption result (IsShaped tree.now (g.ref k.FnPtrType) → ⊥) (λ x. tree.now ≡ type_fn_ptr x) }
+    {
+        let Some((Kind::FnPtrType, inner)) = take::node(tree) else {
+            return None;
+        };
+        let Some((lifetimes, unsafety, abi, fn_token, paren_token, output)) = take::six(inner)
+        else {
+            return None;
+        };
+        let Some(lifetimes) = take::optional(lifetimes) else {
+            return None;
+        };
+        let Some(unsafety) = take::optional_word(unsafety) else {
+            return None;
+        };
+        let Some(abi) = take::optional(abi) else {
+            return None;
+        };
+        let Some(fn_token) = take::word(fn_token) else {
+            return None;
+        };
+        let Some((paren_token, inside)) = take::group(paren_token) else {
+            return None;
+        };
+        let Some(inputs) = take::list(inside) else {
+            return None;
+        };
+        Some(TypeFnPtr {
+            lifetimes,
+            unsafety,
+            abi,
+            fn_token,
+            paren_token,
+            inputs,
+            output,
+        })
+    }
+}
+
+/// Lifetimes that are bound: `for<'a>`.
+#[derive(Clone, Copy)]
+pub struct BoundLifetimes<'t, 'a> {
+    /// `for`
+    pub for_token: &'a Ident,
+    /// `<`
+    pub lt_token: Mark,
+    /// The lifetimes, each as a parameter.
+    pub lifetimes: Elements<'t, 'a>,
+    /// `>`
+    pub gt_token: Mark,
+}
+
+impl<'t, 'a> BoundLifetimes<'t, 'a> {
+    /// What a tree is, if it is that.
+    #[tactic(auto, unfolding(syn_grammar::specs::Table::table))]
+    pub fn of(tree: &'t Tree<'a>) -> Option<BoundLifetimes<'t, 'a>>
+        ensures { MatchOption result (IsShaped tree.now (g.ref k.BoundLifetimes) → ⊥) (λ x. tree.now ≡ bound_lifetimes x) }
+    {
+        let Some((Kind::BoundLifetimes, inner)) = take::node(tree) else {
+            return None;
+        };
+        let Some((for_token, lt_token, lifetimes, gt_token)) = take::four(inner) else {
+            return None;
+        };
+        let Some(for_token) = take::word(for_token) else {
+            return None;
+        };
+        let Some(lt_token) = take::mark(lt_token) else {
+            return None;
+        };
+        let Some(lifetimes) = take::list(lifetimes) else {
+            return None;
+        };
+        let Some(gt_token) = take::mark(gt_token) else {
+            return None;
+        };
+        Some(BoundLifetimes {
+            for_token,
+            lt_token,
+            lifetimes,
+            gt_token,
+        })
+    }
+}
+
+/// What a function returns: `-> T`, or nothing.
+#[derive(Clone, Copy)]
+pub struct ReturnType<'t, 'a> {
+    /// Whether it may hold bounds with a `+` between them.
+    pub plus: Plus,
+    /// `->` and the type.
+    pub ty: Option<MarkedType<'t, 'a>>,
+}
+
+impl<'t, 'a> ReturnType<'t, 'a> {
+    /// What a tree is, if it is that.
+    #[tactic(auto, unfolding(syn_grammar::specs::Table::table))]
+    pub fn of(tree: &'t Tree<'a>) -> Option<ReturnType<'t, 'a>>
+        ensures { MatchOption result ((p : k.Plus) → IsShaped tree.now (g.ref (k.ReturnType p)) → ⊥) (λ x. tree.now ≡ return_type x) }
+    {
+        let Some((Kind::ReturnType(plus), inner)) = take::node(tree) else {
+            return None;
+        };
+        let Some(ty) = optional_as_marked_type(inner) else {
+            return None;
+        };
+        Some(ReturnType { plus, ty })
+    }
+}
+
+/// A slice or an array.
+#[derive(Clone, Copy)]
+pub struct TypeBracketed<'t, 'a> {
+    /// The brackets.
+    pub bracket_token: Delimiters,
+    /// The type of its elements.
+    pub elem: &'t Tree<'a>,
+    /// `;` and how many elements there are.
+    pub len: Option<MarkedValue<'t, 'a>>,
+}
+
+impl<'t, 'a> TypeBracketed<'t, 'a> {
+    /// What a tree is, if it is that.
+    #[tactic(auto, unfolding(syn_grammar::specs::Table::table))]
+    pub fn of(tree: &'t Tree<'a>) -> Option<TypeBracketed<'t, 'a>>
+        ensures { MatchOption result (IsShaped tree.now (g.ref k.BracketType) → ⊥) (λ x. tree.now ≡ type_bracketed x) }
+    {
+        let Some((Kind::BracketType, inner)) = take::node(tree) else {
+            return None;
+        };
+        let Some((bracket_token, inside)) = take::group(inner) else {
+            return None;
+        };
+        let Some((elem, len)) = take::pair(inside) else {
+            return None;
+        };
+        let Some(len) = optional_as_marked_value(len) else {
+            return None;
+        };
+        Some(TypeBracketed {
+            bracket_token,
+            elem,
+            len,
+        })
+    }
+}
+
+/// A tuple, or a type in parentheses.
+#[derive(Clone, Copy)]
+pub struct TypeParenthesized<'t, 'a> {
+    /// The parentheses.
+    pub paren_token: Delimiters,
+    /// The types in them.
+    pub elems: Elements<'t, 'a>,
+}
+
+impl<'t, 'a> TypeParenthesized<'t, 'a> {
+    /// What a tree is, if it is that.
+    #[tactic(auto, unfolding(syn_grammar::specs::Table::table))]
+    pub fn of(tree: &'t Tree<'a>) -> Option<TypeParenthesized<'t, 'a>>
+        ensures { MatchOption result (IsShaped tree.now (g.ref k.TupleType) → ⊥) (λ x. tree.now ≡ type_parenthesized x) }
+    {
+        let Some((Kind::TupleType, inner)) = take::node(tree) else {
+            return None;
+        };
+        let Some((paren_token, inside)) = take::group(inner) else {
+            return None;
+        };
+        let Some(elems) = take::list(inside) else {
+            return None;
+        };
+        Some(TypeParenthesized { paren_token, elems })
     }
 }

@@ -1,0 +1,30 @@
+-- The trees that these parts are.
+use Rattle.syn_ast.specs.Leaves.{mark_tree, word_tree}
+use Rattle.syn_ast.specs.declared.sub.Marked.{Marked}
+use Rattle.syn_ast.specs.declared.sub.MarkedBounds.{MarkedBounds}
+use Rattle.syn_ast.specs.declared.sub.MarkedType.{MarkedType}
+use Rattle.syn_ast.specs.declared.sub.MarkedValue.{MarkedValue}
+use Rattle.syn_ast.specs.declared.sub.Worded.{Worded}
+use Rattle.syn_grammar.specs.Name as n
+use Rattle.syn_grammar.specs.Tree as t
+use Rattle.syn_grammar.specs.Tree.{Tree}
+
+-- a part behind a mark
+abbrev pub marked_tree : Marked → Tree
+marked_tree x = t.Pair (mark_tree x.mark) x.node.now
+
+-- a part behind a keyword
+abbrev pub worded_tree : Worded → Tree
+worded_tree x = t.Pair (word_tree x.word) x.node.now
+
+-- a value behind a mark
+abbrev pub marked_value_tree : MarkedValue → Tree
+marked_value_tree x = t.Pair (mark_tree x.mark) (t.Called n.the_value x.node.now)
+
+-- a type behind a mark
+abbrev pub marked_type_tree : MarkedType → Tree
+marked_type_tree x = t.Pair (mark_tree x.mark) (t.Called n.the_type x.node.now)
+
+-- bounds behind a mark
+abbrev pub marked_bounds_tree : MarkedBounds → Tree
+marked_bounds_tree x = t.Pair (mark_tree x.mark) (t.Called n.the_bounds x.node.now)
