@@ -1,1 +1,3 @@
 pub mod Takes
+pub mod Derived
+pub mod TypeForms

@@ -1,18 +1,43 @@
 -- The trees that the types of types are.
 use Rattle.syn_ast.specs.Leaves.{lifetime_tree, list_tree, mark_tree, node_tree, optional_tree, word_tree}
 use Rattle.syn_ast.specs.Sub.{marked_type_tree, marked_value_tree}
+use Rattle.syn_ast.specs.declared.types.AnyPath.{AnyPath}
 use Rattle.syn_ast.specs.declared.types.BoundLifetimes.{BoundLifetimes}
+use Rattle.syn_ast.specs.declared.types.PointerMutability.{PointerMutability}
 use Rattle.syn_ast.specs.declared.types.ReturnType.{ReturnType}
+use Rattle.syn_ast.specs.declared.types.TypeBounds.{TypeBounds}
 use Rattle.syn_ast.specs.declared.types.TypeBracketed.{TypeBracketed}
 use Rattle.syn_ast.specs.declared.types.TypeFnPtr.{TypeFnPtr}
+use Rattle.syn_ast.specs.declared.types.TypeImplTrait.{TypeImplTrait}
 use Rattle.syn_ast.specs.declared.types.TypeInfer.{TypeInfer}
 use Rattle.syn_ast.specs.declared.types.TypeNever.{TypeNever}
 use Rattle.syn_ast.specs.declared.types.TypeParenthesized.{TypeParenthesized}
+use Rattle.syn_ast.specs.declared.types.TypePath.{TypePath}
+use Rattle.syn_ast.specs.declared.types.TypePtr.{TypePtr}
 use Rattle.syn_ast.specs.declared.types.TypeReference.{TypeReference}
-use Rattle.gram_table.specs.Kinds.{plus_of}
+use Rattle.syn_ast.specs.declared.types.TypeTraitObject.{TypeTraitObject}
+use Rattle.syn_ast.specs.declared.types.TypeBounds.TheVariants as boundses
+use Rattle.syn_ast.specs.declared.types.AnyPath.TheVariants as paths
+use Rattle.syn_ast.specs.declared.types.PointerMutability.TheVariants as mutabilities
+use Rattle.gram_table.specs.Kinds.{style_of, plus_of}
 use Rattle.syn_grammar.specs.Kind as k
+use Rattle.syn_grammar.specs.Name as n
 use Rattle.syn_grammar.specs.Tree as t
 use Rattle.syn_grammar.specs.Tree.{Tree}
+
+-- which of both words stands there
+abbrev pub pointer_mutability : PointerMutability → Tree
+pointer_mutability (mutabilities.Const i) = t.First (word_tree i)
+pointer_mutability (mutabilities.Mut i) = t.Second (word_tree i)
+
+-- several bounds, or one
+abbrev pub type_bounds : TypeBounds → Tree
+type_bounds (boundses.Several x) = t.Called n.the_bounds x.now
+type_bounds (boundses.One x) = t.Second x.now
+
+-- a pointer: *const T
+abbrev pub type_ptr : TypePtr → Tree
+type_ptr x = t.Node k.PointerType (t.Pair (mark_tree x.star_token) (t.Pair (pointer_mutability x.mutability) x.elem.now))
 
 -- a reference: &'a mut T
 abbrev pub type_reference : TypeReference → Tree
@@ -45,3 +70,19 @@ type_bracketed x = t.Node k.BracketType (t.Group x.bracket_token.delimiter (t.Pa
 -- a tuple, or a type in parentheses
 abbrev pub type_parenthesized : TypeParenthesized → Tree
 type_parenthesized x = t.Node k.TupleType (t.Group x.paren_token.delimiter (list_tree x.elems))
+
+-- the word, and bounds
+abbrev pub type_trait_object : TypeTraitObject → Tree
+type_trait_object x = t.Node (k.DynType (plus_of x.plus)) (t.Pair (word_tree x.dyn_token) (type_bounds x.bounds))
+
+-- the word, and bounds
+abbrev pub type_impl_trait : TypeImplTrait → Tree
+type_impl_trait x = t.Node (k.ImplType (plus_of x.plus)) (t.Pair (word_tree x.impl_token) (type_bounds x.bounds))
+
+-- a qualified path, or another
+abbrev pub any_path : AnyPath → Tree
+any_path (paths.Qualified x) = t.First x.now
+any_path (paths.Plain x) = t.Second x.now
+
+abbrev pub type_path : TypePath → Tree
+type_path x = t.Node (k.AnyPath (style_of x.style)) (any_path x.path)

@@ -1,6 +1,7 @@
 //! The syntax tree's types: what was read as a tree, one layer at a time, as structs whose fields are its parts.
 #![tactic(auto)]
 
+pub mod laws;
 pub mod leaf;
 pub mod list;
 pub mod paths;

@@ -1,18 +1,120 @@
 //! Types.
 
-ghost use Rattle.std.specs.Prelude.{◌≡◌, MatchOption};
-ghost use Rattle.syn_ast.specs.Shape.{IsShaped};
-ghost use Rattle.syn_ast.specs.Types.{bound_lifetimes, return_type, type_bracketed, type_fn_ptr, type_infer, type_never, type_parenthesized, type_reference};
+ghost use Rattle.proc_macro2.specs.Token.{Token};
+ghost use Rattle.std.specs.Prelude.{◌≡◌, MatchOption, Bool, List, false, ℕ};
+ghost use Rattle.syn_ast.specs.Shape.{IsShaped, may_choose};
+ghost use Rattle.syn_ast.specs.Types.{bound_lifetimes, pointer_mutability, return_type, type_bounds, type_bracketed, type_fn_ptr, type_impl_trait, type_infer, type_never, type_parenthesized, type_path, type_ptr, type_reference, type_trait_object};
 ghost use Rattle.syn_grammar.specs.Gram as g;
 ghost use Rattle.syn_grammar.specs.Kind as k;
+ghost use Rattle.syn_grammar.specs.Name as n;
 
 use crate::leaf::{Delimiters, Lifetime, Mark};
 use crate::list::Elements;
 use crate::sub::{MarkedType, MarkedValue, optional_as_marked_type, optional_as_marked_value};
-use crate::take;
-use gram_table::kind::{Kind, Plus};
+use crate::take::{self, Choice};
+use gram_table::kind::{Kind, Plus, Style};
+use gram_table::part::Part;
 use gram_tree::tree::Tree;
 use rust_leaf::ident::Ident;
+
+/// Whether what a pointer points to can be written.
+#[derive(Clone, Copy)]
+pub enum PointerMutability<'a> {
+    /// `const`
+    Const(&'a Ident),
+    /// `mut`
+    Mut(&'a Ident),
+}
+
+// Which of both words stands there.
+fn as_pointer_mutability<'a>(tree: &Tree<'a>) -> Option<PointerMutability<'a>>
+    ensures { MatchOption result ((test : List Token → Bool) (p q : List ℕ → Bool)
+        → IsShaped tree.now (g.alt test (g.word p) (g.word q)) → ⊥)
+        (λ m. tree.now ≡ pointer_mutability m) }
+{
+    let Some(which) = take::chosen(tree) else {
+        return None;
+    };
+    match which {
+        Choice::First(inner) => match take::word(inner) {
+            Some(word) => Some(PointerMutability::Const(word)),
+            None => None,
+        },
+        Choice::Second(inner) => match take::word(inner) {
+            Some(word) => Some(PointerMutability::Mut(word)),
+            None => None,
+        },
+    }
+}
+
+/// The bounds of a trait object, or of an `impl` type.
+#[derive(Clone, Copy)]
+pub enum TypeBounds<'t, 'a> {
+    /// Those with `+` between them, as a form of the kind `SomeBounds`.
+    Several(&'t Tree<'a>),
+    /// One, where no `+` may stand, as a form of the kind `Bound`.
+    One(&'t Tree<'a>),
+}
+
+// Those with + between them.
+fn several_bounds<'t, 'a>(tree: &'t Tree<'a>) -> Option<TypeBounds<'t, 'a>>
+    ensures { MatchOption result ((a : g.Gram) → IsShaped tree.now (g.called n.the_bounds a) → ⊥)
+        (λ b. tree.now ≡ type_bounds b) }
+{
+    let Some((Part::Bounds, bounds)) = take::called(tree) else {
+        return None;
+    };
+    Some(TypeBounds::Several(bounds))
+}
+
+// One.
+fn one_bound<'t, 'a>(tree: &'t Tree<'a>) -> Option<TypeBounds<'t, 'a>>
+    ensures { MatchOption result ((test : List Token → Bool) (a : g.Gram) → may_choose a ≡ false
+        → IsShaped tree.now (g.alt test g.never a) → ⊥)
+        (λ b. tree.now ≡ type_bounds b) }
+{
+    let Some(Choice::Second(bound)) = take::chosen(tree) else {
+        return None;
+    };
+    Some(TypeBounds::One(bound))
+}
+
+/// A pointer: `*const T`.
+#[derive(Clone, Copy)]
+pub struct TypePtr<'t, 'a> {
+    /// `*`
+    pub star_token: Mark,
+    /// `const` or `mut`
+    pub mutability: PointerMutability<'a>,
+    /// The type that it points to.
+    pub elem: &'t Tree<'a>,
+}
+
+impl<'t, 'a> TypePtr<'t, 'a> {
+    /// What a tree is, if it is that.
+    #[tactic(auto, unfolding(syn_grammar::specs::Table::table))]
+    pub fn of(tree: &'t Tree<'a>) -> Option<TypePtr<'t, 'a>>
+        ensures { MatchOption result (IsShaped tree.now (g.ref k.PointerType) → ⊥) (λ x. tree.now ≡ type_ptr x) }
+    {
+        let Some((Kind::PointerType, inner)) = take::node(tree) else {
+            return None;
+        };
+        let Some((star_token, mutability, elem)) = take::three(inner) else {
+            return None;
+        };
+        let Some(star_token) = take::mark(star_token) else {
+            return None;
+        };
+        let Some(mutability) = as_pointer_mutability(mutability) else {
+            return None;
+        };
+        Some(TypePtr {
+            star_token,
+            mutability,
+            elem,
+        })
+    }
+}
 
 /// A reference: `&'a mut T`.
 #[derive(Clone, Copy)]
@@ -298,5 +400,192 @@ impl<'t, 'a> TypeParenthesized<'t, 'a> {
             return None;
         };
         Some(TypeParenthesized { paren_token, elems })
+    }
+}
+
+/// A trait object: `dyn A + B`.
+#[derive(Clone, Copy)]
+pub struct TypeTraitObject<'t, 'a> {
+    /// Whether it may hold bounds with a `+` between them.
+    pub plus: Plus,
+    /// `dyn`
+    pub dyn_token: &'a Ident,
+    /// Its bounds.
+    pub bounds: TypeBounds<'t, 'a>,
+}
+
+impl<'t, 'a> TypeTraitObject<'t, 'a> {
+    // With + between them.
+    #[tactic(auto, unfolding(syn_grammar::specs::Table::table))]
+    fn with_plus(tree: &'t Tree<'a>) -> Option<TypeTraitObject<'t, 'a>>
+        ensures { MatchOption result (IsShaped tree.now (g.ref (k.DynType k.WithPlus)) → ⊥) (λ x. tree.now ≡ type_trait_object x) }
+    {
+        let Some((Kind::DynType(Plus::WithPlus), inner)) = take::node(tree) else {
+            return None;
+        };
+        let Some((dyn_token, bounds)) = take::pair(inner) else {
+            return None;
+        };
+        let Some(dyn_token) = take::word(dyn_token) else {
+            return None;
+        };
+        let Some(bounds) = several_bounds(bounds) else {
+            return None;
+        };
+        Some(TypeTraitObject {
+            plus: Plus::WithPlus,
+            dyn_token,
+            bounds,
+        })
+    }
+
+    // Without.
+    #[tactic(auto, unfolding(syn_grammar::specs::Table::table))]
+    fn without_plus(tree: &'t Tree<'a>) -> Option<TypeTraitObject<'t, 'a>>
+        ensures { MatchOption result (IsShaped tree.now (g.ref (k.DynType k.WithoutPlus)) → ⊥) (λ x. tree.now ≡ type_trait_object x) }
+    {
+        let Some((Kind::DynType(Plus::WithoutPlus), inner)) = take::node(tree) else {
+            return None;
+        };
+        let Some((dyn_token, bounds)) = take::pair(inner) else {
+            return None;
+        };
+        let Some(dyn_token) = take::word(dyn_token) else {
+            return None;
+        };
+        let Some(bounds) = one_bound(bounds) else {
+            return None;
+        };
+        Some(TypeTraitObject {
+            plus: Plus::WithoutPlus,
+            dyn_token,
+            bounds,
+        })
+    }
+
+    /// What a tree is, if it is that.
+    #[tactic(auto, using(crate::proofs::TypeForms::either_plus_DynType))]
+    pub fn of(tree: &'t Tree<'a>) -> Option<TypeTraitObject<'t, 'a>>
+        ensures { MatchOption result ((p : k.Plus) → IsShaped tree.now (g.ref (k.DynType p)) → ⊥) (λ x. tree.now ≡ type_trait_object x) }
+    {
+        match TypeTraitObject::with_plus(tree) {
+            Some(found) => Some(found),
+            None => TypeTraitObject::without_plus(tree),
+        }
+    }
+}
+
+/// An opaque type: `impl A + B`.
+#[derive(Clone, Copy)]
+pub struct TypeImplTrait<'t, 'a> {
+    /// Whether it may hold bounds with a `+` between them.
+    pub plus: Plus,
+    /// `impl`
+    pub impl_token: &'a Ident,
+    /// Its bounds.
+    pub bounds: TypeBounds<'t, 'a>,
+}
+
+impl<'t, 'a> TypeImplTrait<'t, 'a> {
+    // With + between them.
+    #[tactic(auto, unfolding(syn_grammar::specs::Table::table))]
+    fn with_plus(tree: &'t Tree<'a>) -> Option<TypeImplTrait<'t, 'a>>
+        ensures { MatchOption result (IsShaped tree.now (g.ref (k.ImplType k.WithPlus)) → ⊥) (λ x. tree.now ≡ type_impl_trait x) }
+    {
+        let Some((Kind::ImplType(Plus::WithPlus), inner)) = take::node(tree) else {
+            return None;
+        };
+        let Some((impl_token, bounds)) = take::pair(inner) else {
+            return None;
+        };
+        let Some(impl_token) = take::word(impl_token) else {
+            return None;
+        };
+        let Some(bounds) = several_bounds(bounds) else {
+            return None;
+        };
+        Some(TypeImplTrait {
+            plus: Plus::WithPlus,
+            impl_token,
+            bounds,
+        })
+    }
+
+    // Without.
+    #[tactic(auto, unfolding(syn_grammar::specs::Table::table))]
+    fn without_plus(tree: &'t Tree<'a>) -> Option<TypeImplTrait<'t, 'a>>
+        ensures { MatchOption result (IsShaped tree.now (g.ref (k.ImplType k.WithoutPlus)) → ⊥) (λ x. tree.now ≡ type_impl_trait x) }
+    {
+        let Some((Kind::ImplType(Plus::WithoutPlus), inner)) = take::node(tree) else {
+            return None;
+        };
+        let Some((impl_token, bounds)) = take::pair(inner) else {
+            return None;
+        };
+        let Some(impl_token) = take::word(impl_token) else {
+            return None;
+        };
+        let Some(bounds) = one_bound(bounds) else {
+            return None;
+        };
+        Some(TypeImplTrait {
+            plus: Plus::WithoutPlus,
+            impl_token,
+            bounds,
+        })
+    }
+
+    /// What a tree is, if it is that.
+    #[tactic(auto, using(crate::proofs::TypeForms::either_plus_ImplType))]
+    pub fn of(tree: &'t Tree<'a>) -> Option<TypeImplTrait<'t, 'a>>
+        ensures { MatchOption result ((p : k.Plus) → IsShaped tree.now (g.ref (k.ImplType p)) → ⊥) (λ x. tree.now ≡ type_impl_trait x) }
+    {
+        match TypeImplTrait::with_plus(tree) {
+            Some(found) => Some(found),
+            None => TypeImplTrait::without_plus(tree),
+        }
+    }
+}
+
+/// A type that is a path, perhaps a qualified one.
+#[derive(Clone, Copy)]
+pub struct TypePath<'t, 'a> {
+    /// How it is written.
+    pub style: Style,
+    /// The path, as a form of the kind `QualifiedPath` or `Path`.
+    pub path: AnyPath<'t, 'a>,
+}
+
+/// A path, perhaps a qualified one.
+#[derive(Clone, Copy)]
+pub enum AnyPath<'t, 'a> {
+    /// A qualified one, as a form of the kind `QualifiedPath`.
+    Qualified(&'t Tree<'a>),
+    /// Another, as a form of the kind `Path`.
+    Plain(&'t Tree<'a>),
+}
+
+impl<'t, 'a> TypePath<'t, 'a> {
+    /// What a tree is, if it is that.
+    #[tactic(auto, unfolding(syn_grammar::specs::Table::table))]
+    pub fn of(tree: &'t Tree<'a>) -> Option<TypePath<'t, 'a>>
+        ensures { MatchOption result ((s : k.Style) → IsShaped tree.now (g.ref (k.AnyPath s)) → ⊥) (λ x. tree.now ≡ type_path x) }
+    {
+        let Some((Kind::AnyPath(style), inner)) = take::node(tree) else {
+            return None;
+        };
+        let Some(which) = take::chosen(inner) else {
+            return None;
+        };
+        match which {
+            Choice::First(path) => Some(TypePath {
+                style,
+                path: AnyPath::Qualified(path),
+            }),
+            Choice::Second(path) => Some(TypePath {
+                style,
+                path: AnyPath::Plain(path),
+            }),
+        }
     }
 }
