@@ -1,3 +1,4 @@
 pub mod Takes
 pub mod Derived
 pub mod TypeForms
+pub mod Chosen

@@ -84,6 +84,12 @@ pub last_turned : (c : ℕ) (es : List Element) (x : Tree) (e : List Token → B
 last_turned c [] x e g h = absurd h
 last_turned c (y ∷ es) x e g h = absurd h
 
+-- a list with a mark is no lone element
+pub elements_final : {A : Type 0} (c : ℕ) (es : List Element) (f : A → Tree) (o : Option A) (x : Tree) → length es ≢ 0
+    → elements c es (ending f o) ≡ t.Final x → ⊥
+elements_final c [] f o x d e = absurd (d refl)
+elements_final c (y ∷ es) f o x d e = cc
+
 pub ruleset takes = (shaped_first, shaped_mark, shaped_turns, shaped_elements)
 
 pub ruleset choices = (first_chosen, second_chosen)

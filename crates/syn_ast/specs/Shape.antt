@@ -1,5 +1,5 @@
 -- The shape of an entry: a tree that is of the entry, but for the tests that look at tokens, and for verdicts.
-use Rattle.std.specs.Prelude.{◌≡◌, Bool, true, false}
+use Rattle.std.specs.Prelude.{◌≡◌, ◌⊎◌, Bool, true, false}
 use Rattle.syn_grammar.specs.Tree.{Tree, AWord, ALiteral, AMark, ALifetime, Raw, Nil, Pair, First, Second, End, Again}
 use Rattle.syn_grammar.specs.Tree.{Final, More, Group, Dropped, Called, Verbatim, Node, Whole, Alone, Front, Back}
 use Rattle.syn_grammar.specs.Tree.{Infix}
@@ -45,3 +45,9 @@ abbrev pub may_choose : Gram → Bool
 may_choose (alt t a b) = true
 may_choose (judged v g) = true
 may_choose _ = false
+
+-- what may be chosen by an entry: a tree of the shape of one of its alternatives
+abbrev pub IsAmong : Tree → Gram → Type 0
+IsAmong x (alt t a b) = IsAmong x a ⊎ IsAmong x b
+IsAmong x (judged v g) = Unit {0}
+IsAmong x g = IsShaped x g

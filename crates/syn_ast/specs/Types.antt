@@ -5,20 +5,27 @@ use Rattle.syn_ast.specs.declared.types.AnyPath.{AnyPath}
 use Rattle.syn_ast.specs.declared.types.BoundLifetimes.{BoundLifetimes}
 use Rattle.syn_ast.specs.declared.types.PointerMutability.{PointerMutability}
 use Rattle.syn_ast.specs.declared.types.ReturnType.{ReturnType}
+use Rattle.syn_ast.specs.declared.types.«Type».{«Type» as Type'}
+use Rattle.syn_ast.specs.declared.types.TypeArray.{TypeArray}
 use Rattle.syn_ast.specs.declared.types.TypeBounds.{TypeBounds}
 use Rattle.syn_ast.specs.declared.types.TypeBracketed.{TypeBracketed}
 use Rattle.syn_ast.specs.declared.types.TypeFnPtr.{TypeFnPtr}
 use Rattle.syn_ast.specs.declared.types.TypeImplTrait.{TypeImplTrait}
 use Rattle.syn_ast.specs.declared.types.TypeInfer.{TypeInfer}
 use Rattle.syn_ast.specs.declared.types.TypeNever.{TypeNever}
+use Rattle.syn_ast.specs.declared.types.TypeParen.{TypeParen}
 use Rattle.syn_ast.specs.declared.types.TypeParenthesized.{TypeParenthesized}
 use Rattle.syn_ast.specs.declared.types.TypePath.{TypePath}
 use Rattle.syn_ast.specs.declared.types.TypePtr.{TypePtr}
 use Rattle.syn_ast.specs.declared.types.TypeReference.{TypeReference}
+use Rattle.syn_ast.specs.declared.types.TypeSlice.{TypeSlice}
 use Rattle.syn_ast.specs.declared.types.TypeTraitObject.{TypeTraitObject}
-use Rattle.syn_ast.specs.declared.types.TypeBounds.TheVariants as boundses
-use Rattle.syn_ast.specs.declared.types.AnyPath.TheVariants as paths
+use Rattle.syn_ast.specs.declared.types.TypeTuple.{TypeTuple}
 use Rattle.syn_ast.specs.declared.types.PointerMutability.TheVariants as mutabilities
+use Rattle.syn_ast.specs.declared.types.AnyPath.TheVariants as paths
+use Rattle.syn_ast.specs.declared.types.«Type».TheVariants as types
+use Rattle.syn_ast.specs.declared.types.TypeBounds.TheVariants as boundses
+use Rattle.syn_grammar.specs.Part.{choice}
 use Rattle.gram_table.specs.Kinds.{style_of, plus_of}
 use Rattle.syn_grammar.specs.Kind as k
 use Rattle.syn_grammar.specs.Name as n
@@ -86,3 +93,39 @@ any_path (paths.Plain x) = t.Second x.now
 
 abbrev pub type_path : TypePath → Tree
 type_path x = t.Node (k.AnyPath (style_of x.style)) (any_path x.path)
+
+-- a slice and an array
+abbrev pub type_slice : TypeSlice → Tree
+type_slice x = t.Node k.BracketType (t.Group x.bracket_token.delimiter (t.Pair x.elem.now (t.Second t.Nil)))
+
+abbrev pub type_array : TypeArray → Tree
+type_array x =
+    t.Node k.BracketType (t.Group x.bracket_token.delimiter
+    (t.Pair x.elem.now (t.First (t.Pair (mark_tree x.semi_token) (t.Called n.the_value x.len.now)))))
+
+-- a type in parentheses and a tuple
+abbrev pub type_paren : TypeParen → Tree
+type_paren x = t.Node k.TupleType (t.Group x.paren_token.delimiter (t.Final x.elem.now))
+
+abbrev pub type_tuple : TypeTuple → Tree
+type_tuple x = t.Node k.TupleType (t.Group x.paren_token.delimiter (list_tree x.elems))
+
+-- the form of a type
+abbrev pub type_tree : Type' → Tree
+type_tree (types.Array x) = type_array x
+type_tree (types.FnPtr x) = type_fn_ptr x
+type_tree (types.ImplTrait x) = type_impl_trait x
+type_tree (types.Infer x) = type_infer x
+type_tree (types.Never x) = type_never x
+type_tree (types.Paren x) = type_paren x
+type_tree (types.Path x) = type_path x
+type_tree (types.Ptr x) = type_ptr x
+type_tree (types.Reference x) = type_reference x
+type_tree (types.Slice x) = type_slice x
+type_tree (types.TraitObject x) = type_trait_object x
+type_tree (types.Tuple x) = type_tuple x
+
+-- of a type that was read, its form
+abbrev pub form_of_type : Tree → Tree
+form_of_type (t.Node (k.AType p) x) = choice x
+form_of_type _ = t.Nil

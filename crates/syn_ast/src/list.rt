@@ -1,5 +1,10 @@
 //! Lists.
 
+ghost use Rattle.std.specs.Prelude.{◌≡◌, MatchOption};
+ghost use Rattle.syn_ast.specs.Leaves.{list_tree};
+ghost use Rattle.syn_grammar.specs.Tree as t;
+ghost use Rattle.syn_grammar.specs.Tree.{Tree as GivenTree};
+
 use gram_table::op::Separator;
 use gram_tree::tree::{Element, Tree};
 
@@ -19,4 +24,19 @@ pub struct Elements<'t, 'a> {
 pub struct Turns<'t, 'a> {
     /// Each of them.
     pub each: &'t [Tree<'a>],
+}
+
+impl<'t, 'a> Elements<'t, 'a> {
+    /// The only element, if it is one and no mark follows it.
+    #[tactic(auto, using(crate::proofs::Takes::elements_final))]
+    pub fn only(&self) -> Option<&'t Tree<'a>>
+        ensures { MatchOption result ((x : GivenTree) → list_tree self.now ≡ t.Final x → ⊥)
+            (λ x. list_tree self.now ≡ t.Final x.now) }
+    {
+        if self.before.is_empty() {
+            self.last
+        } else {
+            None
+        }
+    }
 }

@@ -2,11 +2,12 @@
 
 ghost use Rattle.proc_macro2.specs.Token.{Token};
 ghost use Rattle.std.specs.Prelude.{◌≡◌, MatchOption, Bool, List, false, ℕ};
-ghost use Rattle.syn_ast.specs.Shape.{IsShaped, may_choose};
-ghost use Rattle.syn_ast.specs.Types.{bound_lifetimes, pointer_mutability, return_type, type_bounds, type_bracketed, type_fn_ptr, type_impl_trait, type_infer, type_never, type_parenthesized, type_path, type_ptr, type_reference, type_trait_object};
+ghost use Rattle.syn_ast.specs.Shape.{IsAmong, IsShaped, may_choose};
+ghost use Rattle.syn_ast.specs.Types.{bound_lifetimes, form_of_type, pointer_mutability, return_type, type_bounds, type_bracketed, type_fn_ptr, type_impl_trait, type_infer, type_never, type_parenthesized, type_path, type_ptr, type_reference, type_trait_object, type_tree};
 ghost use Rattle.syn_grammar.specs.Gram as g;
 ghost use Rattle.syn_grammar.specs.Kind as k;
 ghost use Rattle.syn_grammar.specs.Name as n;
+ghost use Rattle.syn_grammar.specs.Types.{type_entry};
 
 use crate::leaf::{Delimiters, Lifetime, Mark};
 use crate::list::Elements;
@@ -587,5 +588,161 @@ impl<'t, 'a> TypePath<'t, 'a> {
                 path: AnyPath::Plain(path),
             }),
         }
+    }
+}
+
+/// A slice: `[T]`.
+#[derive(Clone, Copy)]
+pub struct TypeSlice<'t, 'a> {
+    /// The brackets.
+    pub bracket_token: Delimiters,
+    /// The type of its elements.
+    pub elem: &'t Tree<'a>,
+}
+
+/// An array: `[T; N]`.
+#[derive(Clone, Copy)]
+pub struct TypeArray<'t, 'a> {
+    /// The brackets.
+    pub bracket_token: Delimiters,
+    /// The type of its elements.
+    pub elem: &'t Tree<'a>,
+    /// `;`
+    pub semi_token: Mark,
+    /// How many there are, as an expression.
+    pub len: &'t Tree<'a>,
+}
+
+/// A type in parentheses: `(T)`.
+#[derive(Clone, Copy)]
+pub struct TypeParen<'t, 'a> {
+    /// The parentheses.
+    pub paren_token: Delimiters,
+    /// The type in them.
+    pub elem: &'t Tree<'a>,
+}
+
+/// A tuple: `(A, B)`.
+#[derive(Clone, Copy)]
+pub struct TypeTuple<'t, 'a> {
+    /// The parentheses.
+    pub paren_token: Delimiters,
+    /// The types in them.
+    pub elems: Elements<'t, 'a>,
+}
+
+/// A type, by its form.
+#[derive(Clone, Copy)]
+pub enum Type<'t, 'a> {
+    /// `[T; N]`
+    Array(TypeArray<'t, 'a>),
+    /// `fn(A) -> B`
+    FnPtr(TypeFnPtr<'t, 'a>),
+    /// `impl A + B`
+    ImplTrait(TypeImplTrait<'t, 'a>),
+    /// `_`
+    Infer(TypeInfer<'a>),
+    /// `!`
+    Never(TypeNever),
+    /// `(T)`
+    Paren(TypeParen<'t, 'a>),
+    /// `a::B<C>`, `<T as A>::B`
+    Path(TypePath<'t, 'a>),
+    /// `*const T`
+    Ptr(TypePtr<'t, 'a>),
+    /// `&'a mut T`
+    Reference(TypeReference<'t, 'a>),
+    /// `[T]`
+    Slice(TypeSlice<'t, 'a>),
+    /// `dyn A + B`
+    TraitObject(TypeTraitObject<'t, 'a>),
+    /// `(A, B)`
+    Tuple(TypeTuple<'t, 'a>),
+}
+
+// A slice, or an array.
+fn slice_or_array<'t, 'a>(found: TypeBracketed<'t, 'a>) -> Type<'t, 'a>
+    ensures { type_tree result ≡ type_bracketed found.entry }
+{
+    let bracket_token = found.bracket_token;
+    let elem = found.elem;
+    match found.len {
+        None => Type::Slice(TypeSlice {
+            bracket_token,
+            elem,
+        }),
+        Some(len) => Type::Array(TypeArray {
+            bracket_token,
+            elem,
+            semi_token: len.mark,
+            len: len.node,
+        }),
+    }
+}
+
+// A tuple, or a type in parentheses.
+fn tuple_or_paren<'t, 'a>(found: TypeParenthesized<'t, 'a>) -> Type<'t, 'a>
+    ensures { type_tree result ≡ type_parenthesized found.entry }
+{
+    let paren_token = found.paren_token;
+    let elems = found.elems;
+    if let Some(elem) = elems.only() {
+        return Type::Paren(TypeParen { paren_token, elem });
+    }
+    Type::Tuple(TypeTuple { paren_token, elems })
+}
+
+impl<'t, 'a> Type<'t, 'a> {
+    /// The type that a tree is, by its form, if the tree is a type.
+    #[tactic(auto, using(crate::proofs::TypeForms::type_inside))]
+    pub fn of(tree: &'t Tree<'a>) -> Option<Type<'t, 'a>>
+        ensures { MatchOption result ((p : k.Plus) → IsShaped tree.now (g.ref (k.AType p)) → ⊥)
+            (λ x. form_of_type tree.now ≡ type_tree x) }
+    {
+        let Some((Kind::AType(_), inner)) = take::node(tree) else {
+            return None;
+        };
+        let form = inner.choice();
+        match Type::of_form(form) {
+            Some(found) => Some(found),
+            None => None,
+        }
+    }
+
+    // The type that a form of one is.
+    fn of_form(tree: &'t Tree<'a>) -> Option<Type<'t, 'a>>
+        ensures { MatchOption result ((p : k.Plus) → IsAmong tree.now (type_entry p) → ⊥) (λ x. tree.now ≡ type_tree x) }
+    {
+        if let Some(found) = TypeParenthesized::of(tree) {
+            return Some(tuple_or_paren(found));
+        }
+        if let Some(found) = TypeNever::of(tree) {
+            return Some(Type::Never(found));
+        }
+        if let Some(found) = TypeReference::of(tree) {
+            return Some(Type::Reference(found));
+        }
+        if let Some(found) = TypePtr::of(tree) {
+            return Some(Type::Ptr(found));
+        }
+        if let Some(found) = TypeBracketed::of(tree) {
+            return Some(slice_or_array(found));
+        }
+        if let Some(found) = TypeInfer::of(tree) {
+            return Some(Type::Infer(found));
+        }
+        if let Some(found) = TypeTraitObject::of(tree) {
+            return Some(Type::TraitObject(found));
+        }
+        if let Some(found) = TypeImplTrait::of(tree) {
+            return Some(Type::ImplTrait(found));
+        }
+        if let Some(found) = TypeFnPtr::of(tree) {
+            return Some(Type::FnPtr(found));
+        }
+        if let Some(found) = TypePath::of(tree) {
+            return Some(Type::Path(found));
+        }
+        None
     }
 }
