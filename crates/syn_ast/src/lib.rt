@@ -1,6 +1,9 @@
 //! The syntax tree's types: what was read as a tree, one layer at a time, as structs whose fields are its parts.
 #![tactic(auto)]
 
+pub mod attributes;
+pub mod data;
+pub mod generics;
 pub mod laws;
 pub mod leaf;
 pub mod list;
