@@ -90,6 +90,12 @@ pub elements_final : {A : Type 0} (c : ℕ) (es : List Element) (f : A → Tree)
 elements_final c [] f o x d e = absurd (d refl)
 elements_final c (y ∷ es) f o x d e = cc
 
+-- a list with an element does not end at once
+pub elements_end : {A : Type 0} (c : ℕ) (es : List Element) (f : A → Tree) (o : Option A) → length es ≢ 0
+    → elements c es (ending f o) ≡ t.End → ⊥
+elements_end c [] f o d e = absurd (d refl)
+elements_end c (y ∷ es) f o d e = cc
+
 pub ruleset takes = (shaped_first, shaped_mark, shaped_turns, shaped_elements)
 
 pub ruleset choices = (first_chosen, second_chosen)

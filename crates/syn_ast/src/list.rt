@@ -1,6 +1,6 @@
 //! Lists.
 
-ghost use Rattle.std.specs.Prelude.{◌≡◌, MatchOption};
+ghost use Rattle.std.specs.Prelude.{◌+◌, ◌≡◌, MatchOption, cond, length};
 ghost use Rattle.syn_ast.specs.Leaves.{list_tree};
 ghost use Rattle.syn_grammar.specs.Tree as t;
 ghost use Rattle.syn_grammar.specs.Tree.{Tree as GivenTree};
@@ -38,5 +38,24 @@ impl<'t, 'a> Elements<'t, 'a> {
         } else {
             None
         }
+    }
+
+    /// How many elements there are.
+    pub fn len(&self) -> usize
+        ensures { MatchOption self.now.last (result ≡ length self.now.before.now)
+            (λ _. result ≡ length self.now.before.now + 1) }
+    {
+        match self.last {
+            Some(_) => self.before.len() + 1,
+            None => self.before.len(),
+        }
+    }
+
+    /// Whether there is none.
+    #[tactic(auto, using(crate::proofs::Takes::elements_end))]
+    pub fn is_empty(&self) -> bool
+        ensures { cond result (list_tree self.now ≡ t.End) ((list_tree self.now ≡ t.End) → ⊥) }
+    {
+        self.before.is_empty() && self.last.is_none()
     }
 }
