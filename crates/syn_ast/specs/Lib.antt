@@ -6,3 +6,5 @@ pub mod Paths
 pub mod Generics
 pub mod Attributes
 pub mod Data
+pub mod Patterns
+pub mod Blocks

@@ -21,11 +21,11 @@ use Rattle.syn_ast.specs.declared.types.TypeReference.{TypeReference}
 use Rattle.syn_ast.specs.declared.types.TypeSlice.{TypeSlice}
 use Rattle.syn_ast.specs.declared.types.TypeTraitObject.{TypeTraitObject}
 use Rattle.syn_ast.specs.declared.types.TypeTuple.{TypeTuple}
+use Rattle.syn_ast.specs.declared.types.AnyPath.TheVariants as paths
 use Rattle.syn_ast.specs.declared.types.TypeBounds.TheVariants as boundses
-use Rattle.syn_ast.specs.declared.types.PointerMutability.TheVariants as mutabilities
 use Rattle.syn_ast.specs.declared.types.«Type».TheVariants as types
 use Rattle.syn_grammar.specs.Part.{choice}
-use Rattle.syn_ast.specs.declared.types.AnyPath.TheVariants as paths
+use Rattle.syn_ast.specs.declared.types.PointerMutability.TheVariants as mutabilities
 use Rattle.gram_table.specs.Kinds.{style_of, plus_of}
 use Rattle.syn_grammar.specs.Kind as k
 use Rattle.syn_grammar.specs.Name as n

@@ -2,12 +2,14 @@
 #![tactic(auto)]
 
 pub mod attributes;
+pub mod blocks;
 pub mod data;
 pub mod generics;
 pub mod laws;
 pub mod leaf;
 pub mod list;
 pub mod paths;
+pub mod patterns;
 pub mod sub;
 pub mod take;
 pub mod types;

@@ -13,6 +13,7 @@ ghost use Rattle.syn_grammar.specs.Gram as g;
 ghost use Rattle.syn_grammar.specs.Kind.{Kind as GivenKind};
 ghost use Rattle.syn_grammar.specs.Name.{Part as GivenPart};
 ghost use Rattle.syn_grammar.specs.Tree as t;
+ghost use Rattle.syn_grammar.specs.Tree.{Tree as GivenTree};
 
 use crate::leaf::{Delimiters, Lifetime, Mark};
 use crate::list::{Elements, Turns};
@@ -441,5 +442,17 @@ pub(crate) fn optional_mark(tree: &Tree<'_>) -> Option<Option<Mark>>
             Some(found) => Some(Some(found)),
             None => None,
         },
+    }
+}
+
+// Of an expression that is a form by itself its kind and its own part.
+#[tactic(auto, using(crate::proofs::Takes::forms))]
+pub(crate) fn alone<'t, 'a>(tree: &'t Tree<'a>) -> Option<(Kind, &'t Tree<'a>)>
+    ensures { MatchOption result ((k : GivenKind) (y : GivenTree) → tree.now ≡ t.Alone k y → ⊥)
+        (λ p. tree.now ≡ t.Alone (kind_of p.0) p.1.now) }
+{
+    match &tree.form {
+        Form::Alone(kind, own) => Some((*kind, own)),
+        _ => None,
     }
 }
