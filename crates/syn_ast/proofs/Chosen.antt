@@ -1,7 +1,7 @@
 -- What was chosen has the shape of one of the alternatives.
 use Rattle.std.proofs.Common.{inl, inr}
 use Rattle.syn_grammar.specs.Tree.{Tree, AWord, ALiteral, AMark, ALifetime, Raw, Nil, Pair, First, Second, End, Again}
-use Rattle.syn_grammar.specs.Tree.{Final, More, Group, Dropped, Called, Verbatim, Node, Whole}
+use Rattle.syn_grammar.specs.Tree.{Final, More, Group, Dropped, Called, Node, Whole}
 use Rattle.syn_grammar.specs.Gram.{Gram, word, literal, mark, lifetime, raw, nothing, seq, alt, star, many, group}
 use Rattle.syn_grammar.specs.Gram.{judged, dropped, called, ref, operand}
 use Rattle.syn_grammar.specs.Part.{choice}

@@ -4,8 +4,8 @@ use Rattle.std.specs.Prelude.{◌≡◌, ◌≢◌, ℕ, zero, suc, Bool, true, 
 use Rattle.rust_leaf.specs.declared.punct.Spacing.{Spacing}
 use Rattle.proc_macro2.specs.Token.{Token}
 use Rattle.syn_grammar.specs.Kind.{Kind}
-use Rattle.syn_grammar.specs.Gram.{Gram, word, literal, mark, lifetime, raw, nothing, seq, alt, star, many, group}
-use Rattle.syn_grammar.specs.Gram.{judged, dropped, called, ref, operand}
+use Rattle.syn_grammar.specs.Gram.{Gram, mark, nothing, alt, star, many}
+use Rattle.syn_grammar.specs.Gram.{judged}
 use Rattle.syn_grammar.specs.Tree as t
 use Rattle.syn_grammar.specs.Tree.{Tree}
 use Rattle.gram_tree.specs.declared.tree.Element.{Element}

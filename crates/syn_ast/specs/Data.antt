@@ -1,7 +1,6 @@
 -- The trees that the types of data are.
 use Rattle.syn_ast.specs.Leaves.{list_tree, mark_tree, optional_tree, word_tree}
 use Rattle.syn_ast.specs.Sub.{marked_type_tree, marked_value_tree}
-use Rattle.syn_ast.specs.Generics.{generics}
 use Rattle.syn_ast.specs.declared.data.FieldsNamed.{FieldsNamed}
 use Rattle.syn_ast.specs.declared.data.FieldsUnnamed.{FieldsUnnamed}
 use Rattle.syn_ast.specs.declared.data.ItemEnum.{ItemEnum}

@@ -8,7 +8,6 @@ use Rattle.syn_grammar.specs.Tree.{Tree}
 use Rattle.gram_table.specs.Ops.{separator_of}
 use Rattle.gram_table.specs.Words.{sign_text}
 use Rattle.gram_tree.specs.Forms.{elements, ending, mark_of, turns}
-use Rattle.gram_tree.specs.declared.tree.Tree.{Tree as Read}
 use Rattle.syn_ast.specs.declared.leaf.Mark.{Mark}
 use Rattle.syn_ast.specs.declared.leaf.Lifetime.{Lifetime}
 use Rattle.syn_ast.specs.declared.list.Elements.{Elements}

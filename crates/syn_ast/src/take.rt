@@ -4,7 +4,6 @@ ghost use Rattle.gram_table.specs.Kinds.{kind_of};
 ghost use Rattle.gram_table.specs.Parts.{part_of};
 ghost use Rattle.proc_macro2.specs.Token.{Token};
 ghost use Rattle.proc_macro2.specs.declared.delimiter.Delimiter.{Delimiter as GivenDelimiter};
-ghost use Rattle.rust_leaf.specs.Leaf.{ident_text, literal_text};
 ghost use Rattle.std.specs.Prelude.{◌≡◌, Bool, List, MatchOption, [], cond, false, ℕ};
 ghost use Rattle.syn_ast.specs.Leaves.{choice_tree, lifetime_tree, list_tree, literal_tree, mark_tree};
 ghost use Rattle.syn_ast.specs.Leaves.{node_tree, optional_tree, turns_tree, word_tree};
