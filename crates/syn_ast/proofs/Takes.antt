@@ -1,6 +1,7 @@
 -- A tree that a form is has the shape of entries of few kinds alone: a choice of a choice's, a mark of a mark's, turns
 -- and lists of those that say again and again.
-use Rattle.std.specs.Prelude.{◌≡◌, ◌≢◌, ℕ, zero, suc, Bool, true, false, List, [], ◌∷◌, Option, Some, None, length, refl}
+use Rattle.std.specs.Prelude.{◌≡◌, ◌≢◌, ℕ, zero, suc, Bool, true, false, List, [], ◌∷◌, Option, Some, None, length}
+use Rattle.std.specs.Prelude.{refl}
 use Rattle.rust_leaf.specs.declared.punct.Spacing.{Spacing}
 use Rattle.proc_macro2.specs.Token.{Token}
 use Rattle.syn_grammar.specs.Kind.{Kind}
@@ -75,7 +76,8 @@ turns_listed [] e c g d h = absurd (d refl)
 turns_listed (x ∷ xs) e c g d h = absurd h
 
 -- a list, of at least one element, is no turns
-pub list_turned : {A : Type 0} (c : ℕ) (es : List Element) (f : A → Tree) (o : Option A) (e : List Token → Bool) (g : Gram)
+pub list_turned : {A : Type 0} (c : ℕ) (es : List Element) (f : A → Tree) (o : Option A) (e : List Token → Bool)
+    (g : Gram)
     → length es ≢ 0 → IsShaped (elements c es (ending f o)) (star e g) → ⊥
 list_turned c [] f o e g d h = absurd (d refl)
 list_turned c (x ∷ es) f o e g d h = absurd h

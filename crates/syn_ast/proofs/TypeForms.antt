@@ -22,7 +22,8 @@ either_plus_ImplType x a b k.WithPlus h = a h
 either_plus_ImplType x a b k.WithoutPlus h = b h
 
 -- a node whose inside chose none of them is no type
-pub type_inside : (x y : Tree) (q p : k.Plus) → x ≡ Node (k.AType q) y → ((r : k.Plus) → IsAmong (choice y) (type_entry r) → ⊥)
+pub type_inside : (x y : Tree) (q p : k.Plus) → x ≡ Node (k.AType q) y → ((r : k.Plus) → IsAmong (choice y)
+    (type_entry r) → ⊥)
     → IsShaped x (g.ref (k.AType p)) → ⊥
 unfolding table
 type_inside x y q p e f h =

@@ -18,8 +18,10 @@ inner_attributes x = t.Node k.InnerAttributes (turns_tree x.attrs)
 
 -- an outer attribute: #[a]
 abbrev pub outer_attribute : OuterAttribute → Tree
-outer_attribute x = t.Node k.OuterAttribute (t.Pair (mark_tree x.pound_token) (t.Group x.bracket_token.delimiter x.meta.now))
+outer_attribute x = t.Node k.OuterAttribute (t.Pair (mark_tree x.pound_token)
+    (t.Group x.bracket_token.delimiter x.meta.now))
 
 -- an inner attribute: #![a]
 abbrev pub inner_attribute : InnerAttribute → Tree
-inner_attribute x = t.Node k.InnerAttribute (t.Pair (mark_tree x.pound_token) (t.Pair (mark_tree x.not_token) (t.Group x.bracket_token.delimiter x.meta.now)))
+inner_attribute x = t.Node k.InnerAttribute (t.Pair (mark_tree x.pound_token) (t.Pair (mark_tree x.not_token)
+    (t.Group x.bracket_token.delimiter x.meta.now)))

@@ -64,27 +64,33 @@ expr_unsafe x = t.Alone k.ExprUnsafe (t.Pair (word_tree x.unsafe_token) x.block.
 
 -- an async block: async move { .. }
 abbrev pub expr_async : ExprAsync → Tree
-expr_async x = t.Alone k.ExprAsync (t.Pair (word_tree x.async_token) (t.Pair (optional_tree word_tree x.capture) x.block.now))
+expr_async x = t.Alone k.ExprAsync (t.Pair (word_tree x.async_token) (t.Pair
+    (optional_tree word_tree x.capture) x.block.now))
 
 -- a loop: 'a: loop { .. }
 abbrev pub expr_loop : ExprLoop → Tree
-expr_loop x = t.Alone k.ExprLoop (t.Pair (optional_tree labelled_tree x.label) (t.Pair (word_tree x.loop_token) x.body.now))
+expr_loop x = t.Alone k.ExprLoop (t.Pair (optional_tree labelled_tree x.label) (t.Pair
+    (word_tree x.loop_token) x.body.now))
 
 -- a loop with a condition: 'a: while b { .. }
 abbrev pub expr_while : ExprWhile → Tree
-expr_while x = t.Alone k.ExprWhile (t.Pair (optional_tree labelled_tree x.label) (t.Pair (word_tree x.while_token) (t.Pair (t.Called n.the_condition x.cond.now) x.body.now)))
+expr_while x = t.Alone k.ExprWhile (t.Pair (optional_tree labelled_tree x.label) (t.Pair (word_tree x.while_token)
+    (t.Pair (t.Called n.the_condition x.cond.now) x.body.now)))
 
 -- a loop over values: 'a: for b in c { .. }
 abbrev pub expr_for_loop : ExprForLoop → Tree
-expr_for_loop x = t.Alone k.ExprForLoop (t.Pair (optional_tree labelled_tree x.label) (t.Pair (word_tree x.for_token) (t.Pair x.pat.now (t.Pair (word_tree x.in_token) (t.Pair (t.Called n.the_condition x.expr.now) x.body.now)))))
+expr_for_loop x = t.Alone k.ExprForLoop (t.Pair (optional_tree labelled_tree x.label) (t.Pair (word_tree x.for_token)
+    (t.Pair x.pat.now (t.Pair (word_tree x.in_token) (t.Pair (t.Called n.the_condition x.expr.now) x.body.now)))))
 
 -- a choice by patterns: match a { .. }
 abbrev pub expr_match : ExprMatch → Tree
-expr_match x = t.Alone k.ExprMatch (t.Pair (word_tree x.match_token) (t.Pair (t.Called n.the_condition x.expr.now) (t.Group x.brace_token.delimiter (t.Pair x.attrs.now x.arms.now))))
+expr_match x = t.Alone k.ExprMatch (t.Pair (word_tree x.match_token) (t.Pair (t.Called n.the_condition x.expr.now)
+    (t.Group x.brace_token.delimiter (t.Pair x.attrs.now x.arms.now))))
 
 -- a choice by a condition: if a { .. } else { .. }
 abbrev pub expr_if : ExprIf → Tree
-expr_if x = t.Alone k.ExprIf (t.Pair (word_tree x.if_token) (t.Pair (t.Called n.the_condition x.cond.now) (t.Pair x.then_branch.now (optional_tree worded_tree x.else_branch))))
+expr_if x = t.Alone k.ExprIf (t.Pair (word_tree x.if_token) (t.Pair (t.Called n.the_condition x.cond.now)
+    (t.Pair x.then_branch.now (optional_tree worded_tree x.else_branch))))
 
 -- a tuple, or an expression in parentheses
 abbrev pub expr_parenthesized : ExprParenthesized → Tree
@@ -96,7 +102,8 @@ expr_array x = t.Alone k.ExprArray (t.Group x.bracket_token.delimiter (list_tree
 
 -- an array of one value: [a; b]
 abbrev pub expr_repeat : ExprRepeat → Tree
-expr_repeat x = t.Alone k.ExprRepeat (t.Group x.bracket_token.delimiter (t.Pair x.expr.now (t.Pair (mark_tree x.semi_token) x.len.now)))
+expr_repeat x = t.Alone k.ExprRepeat (t.Group x.bracket_token.delimiter (t.Pair x.expr.now (t.Pair
+    (mark_tree x.semi_token) x.len.now)))
 
 -- a macro: a!(b)
 abbrev pub expr_macro : ExprMacro → Tree

@@ -18,7 +18,8 @@ use Rattle.syn_grammar.specs.Tree.{Tree}
 
 -- parameters in angle brackets: <A, B>
 abbrev pub angled_params_tree : AngledParams → Tree
-angled_params_tree x = t.Pair (mark_tree x.lt_token) (t.Pair (t.Called n.the_parameters x.params.now) (mark_tree x.gt_token))
+angled_params_tree x = t.Pair (mark_tree x.lt_token) (t.Pair (t.Called n.the_parameters x.params.now)
+    (mark_tree x.gt_token))
 
 -- generic parameters: <A, B>, or none
 abbrev pub generics : Generics → Tree
@@ -46,7 +47,8 @@ bounds_colon x = t.Node k.BoundsColon (optional_tree marked_bounds_tree x.bounds
 
 -- a type as a parameter: T: A = B
 abbrev pub type_param : TypeParam → Tree
-type_param x = t.Node k.TypeParam (t.Pair x.attrs.now (t.Pair (word_tree x.ident) (t.Pair x.colon.now (optional_tree marked_tree x.default))))
+type_param x = t.Node k.TypeParam (t.Pair x.attrs.now (t.Pair (word_tree x.ident) (t.Pair x.colon.now
+    (optional_tree marked_tree x.default))))
 
 -- bounds with + between them
 abbrev pub bounds : Bounds → Tree

@@ -18,15 +18,19 @@ path x = t.Node (k.Path (style_of x.style)) (t.Pair (optional_tree mark_tree x.l
 
 -- a qualified path: <T as A>::B
 abbrev pub qualified_path : QualifiedPath → Tree
-qualified_path x = t.Node (k.QualifiedPath (style_of x.style)) (t.Pair (mark_tree x.lt_token) (t.Pair x.ty.now (t.Pair (optional_tree worded_tree x.as_token) (t.Pair (mark_tree x.gt_token) (t.Pair (mark_tree x.colon2_token) x.segments.now)))))
+qualified_path x = t.Node (k.QualifiedPath (style_of x.style)) (t.Pair (mark_tree x.lt_token) (t.Pair x.ty.now (t.Pair
+    (optional_tree worded_tree x.as_token) (t.Pair (mark_tree x.gt_token) (t.Pair
+    (mark_tree x.colon2_token) x.segments.now)))))
 
 -- arguments in angle brackets: ::<A, B>
 abbrev pub angle_bracketed_generic_arguments : AngleBracketedGenericArguments → Tree
-angle_bracketed_generic_arguments x = t.Node k.Arguments (t.Pair (optional_tree mark_tree x.colon2_token) (t.Pair (mark_tree x.lt_token) (t.Pair (t.Called n.the_arguments (list_tree x.args)) (mark_tree x.gt_token))))
+angle_bracketed_generic_arguments x = t.Node k.Arguments (t.Pair (optional_tree mark_tree x.colon2_token) (t.Pair
+    (mark_tree x.lt_token) (t.Pair (t.Called n.the_arguments (list_tree x.args)) (mark_tree x.gt_token))))
 
 -- arguments in parentheses: (A, B) -> C
 abbrev pub parenthesized_generic_arguments : ParenthesizedGenericArguments → Tree
-parenthesized_generic_arguments x = t.Node k.ParenthesizedArguments (t.Pair (t.Group x.paren_token.delimiter (list_tree x.inputs)) (optional_tree marked_tree x.output))
+parenthesized_generic_arguments x = t.Node k.ParenthesizedArguments (t.Pair (t.Group x.paren_token.delimiter
+    (list_tree x.inputs)) (optional_tree marked_tree x.output))
 
 -- a macro: a::b!(c)
 abbrev pub macro : Macro → Tree

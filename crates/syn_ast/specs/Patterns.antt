@@ -20,7 +20,8 @@ pat_rest x = t.Node k.RestPattern (mark_tree x.dot2_token)
 
 -- a reference: &mut a
 abbrev pub pat_reference : PatReference → Tree
-pat_reference x = t.Node k.ReferencePattern (t.Pair (mark_tree x.and_token) (t.Pair (optional_tree word_tree x.mutability) x.pat.now))
+pat_reference x = t.Node k.ReferencePattern (t.Pair (mark_tree x.and_token) (t.Pair
+    (optional_tree word_tree x.mutability) x.pat.now))
 
 -- a slice or an array: [a, b]
 abbrev pub pat_slice : PatSlice → Tree

@@ -44,11 +44,13 @@ type_bounds (boundses.One x) = t.Second x.now
 
 -- a pointer: *const T
 abbrev pub type_ptr : TypePtr → Tree
-type_ptr x = t.Node k.PointerType (t.Pair (mark_tree x.star_token) (t.Pair (pointer_mutability x.mutability) x.elem.now))
+type_ptr x = t.Node k.PointerType (t.Pair (mark_tree x.star_token) (t.Pair
+    (pointer_mutability x.mutability) x.elem.now))
 
 -- a reference: &'a mut T
 abbrev pub type_reference : TypeReference → Tree
-type_reference x = t.Node k.ReferenceType (t.Pair (mark_tree x.and_token) (t.Pair (optional_tree lifetime_tree x.lifetime) (t.Pair (optional_tree word_tree x.mutability) x.elem.now)))
+type_reference x = t.Node k.ReferenceType (t.Pair (mark_tree x.and_token) (t.Pair
+    (optional_tree lifetime_tree x.lifetime) (t.Pair (optional_tree word_tree x.mutability) x.elem.now)))
 
 -- the type of what never returns: !
 abbrev pub type_never : TypeNever → Tree
@@ -60,11 +62,14 @@ type_infer x = t.Node k.InferType (word_tree x.underscore_token)
 
 -- a function pointer: for<'a> unsafe extern "C" fn(A, B) -> C
 abbrev pub type_fn_ptr : TypeFnPtr → Tree
-type_fn_ptr x = t.Node k.FnPtrType (t.Pair (optional_tree node_tree x.lifetimes) (t.Pair (optional_tree word_tree x.unsafety) (t.Pair (optional_tree node_tree x.abi) (t.Pair (word_tree x.fn_token) (t.Pair (t.Group x.paren_token.delimiter (list_tree x.inputs)) x.output.now)))))
+type_fn_ptr x = t.Node k.FnPtrType (t.Pair (optional_tree node_tree x.lifetimes) (t.Pair
+    (optional_tree word_tree x.unsafety) (t.Pair (optional_tree node_tree x.abi) (t.Pair (word_tree x.fn_token)
+    (t.Pair (t.Group x.paren_token.delimiter (list_tree x.inputs)) x.output.now)))))
 
 -- lifetimes that are bound: for<'a>
 abbrev pub bound_lifetimes : BoundLifetimes → Tree
-bound_lifetimes x = t.Node k.BoundLifetimes (t.Pair (word_tree x.for_token) (t.Pair (mark_tree x.lt_token) (t.Pair (list_tree x.lifetimes) (mark_tree x.gt_token))))
+bound_lifetimes x = t.Node k.BoundLifetimes (t.Pair (word_tree x.for_token) (t.Pair (mark_tree x.lt_token) (t.Pair
+    (list_tree x.lifetimes) (mark_tree x.gt_token))))
 
 -- what a function returns: -> T, or nothing
 abbrev pub return_type : ReturnType → Tree
@@ -72,7 +77,8 @@ return_type x = t.Node (k.ReturnType (plus_of x.plus)) (optional_tree marked_typ
 
 -- a slice or an array
 abbrev pub type_bracketed : TypeBracketed → Tree
-type_bracketed x = t.Node k.BracketType (t.Group x.bracket_token.delimiter (t.Pair x.elem.now (optional_tree marked_value_tree x.len)))
+type_bracketed x = t.Node k.BracketType (t.Group x.bracket_token.delimiter (t.Pair x.elem.now
+    (optional_tree marked_value_tree x.len)))
 
 -- a tuple, or a type in parentheses
 abbrev pub type_parenthesized : TypeParenthesized → Tree

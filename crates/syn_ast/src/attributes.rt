@@ -23,7 +23,8 @@ impl<'t, 'a> OuterAttributes<'t, 'a> {
     /// What a tree is, if it is that.
     #[tactic(auto, unfolding(syn_grammar::specs::Table::table))]
     pub fn of(tree: &'t Tree<'a>) -> Option<OuterAttributes<'t, 'a>>
-        ensures { MatchOption result (IsShaped tree.now (g.ref k.OuterAttributes) → ⊥) (λ x. tree.now ≡ outer_attributes x) }
+        ensures { MatchOption result (IsShaped tree.now (g.ref k.OuterAttributes) → ⊥)
+            (λ x. tree.now ≡ outer_attributes x) }
     {
         let Some((Kind::OuterAttributes, inner)) = take::node(tree) else {
             return None;
@@ -46,7 +47,8 @@ impl<'t, 'a> InnerAttributes<'t, 'a> {
     /// What a tree is, if it is that.
     #[tactic(auto, unfolding(syn_grammar::specs::Table::table))]
     pub fn of(tree: &'t Tree<'a>) -> Option<InnerAttributes<'t, 'a>>
-        ensures { MatchOption result (IsShaped tree.now (g.ref k.InnerAttributes) → ⊥) (λ x. tree.now ≡ inner_attributes x) }
+        ensures { MatchOption result (IsShaped tree.now (g.ref k.InnerAttributes) → ⊥)
+            (λ x. tree.now ≡ inner_attributes x) }
     {
         let Some((Kind::InnerAttributes, inner)) = take::node(tree) else {
             return None;
@@ -73,7 +75,8 @@ impl<'t, 'a> OuterAttribute<'t, 'a> {
     /// What a tree is, if it is that.
     #[tactic(auto, unfolding(syn_grammar::specs::Table::table))]
     pub fn of(tree: &'t Tree<'a>) -> Option<OuterAttribute<'t, 'a>>
-        ensures { MatchOption result (IsShaped tree.now (g.ref k.OuterAttribute) → ⊥) (λ x. tree.now ≡ outer_attribute x) }
+        ensures { MatchOption result (IsShaped tree.now (g.ref k.OuterAttribute) → ⊥)
+            (λ x. tree.now ≡ outer_attribute x) }
     {
         let Some((Kind::OuterAttribute, inner)) = take::node(tree) else {
             return None;
@@ -113,7 +116,8 @@ impl<'t, 'a> InnerAttribute<'t, 'a> {
     /// What a tree is, if it is that.
     #[tactic(auto, unfolding(syn_grammar::specs::Table::table))]
     pub fn of(tree: &'t Tree<'a>) -> Option<InnerAttribute<'t, 'a>>
-        ensures { MatchOption result (IsShaped tree.now (g.ref k.InnerAttribute) → ⊥) (λ x. tree.now ≡ inner_attribute x) }
+        ensures { MatchOption result (IsShaped tree.now (g.ref k.InnerAttribute) → ⊥)
+            (λ x. tree.now ≡ inner_attribute x) }
     {
         let Some((Kind::InnerAttribute, inner)) = take::node(tree) else {
             return None;

@@ -2,7 +2,9 @@
 
 ghost use Rattle.proc_macro2.specs.Token.{Token};
 ghost use Rattle.std.specs.Prelude.{◌≡◌, MatchOption, Bool, List, cond};
-ghost use Rattle.syn_ast.specs.Blocks.{arms, block, body, closure_param, expr_array, expr_async, expr_block, expr_for_loop, expr_if, expr_loop, expr_macro, expr_match, expr_parenthesized, expr_path, expr_repeat, expr_unsafe, expr_while, file, label, labelled_tree};
+ghost use Rattle.syn_ast.specs.Blocks.{arms, block, body, closure_param, expr_array, expr_async, expr_block};
+ghost use Rattle.syn_ast.specs.Blocks.{expr_for_loop, expr_if, expr_loop, expr_macro, expr_match, expr_parenthesized};
+ghost use Rattle.syn_ast.specs.Blocks.{expr_path, expr_repeat, expr_unsafe, expr_while, file, label, labelled_tree};
 ghost use Rattle.syn_ast.specs.Leaves.{optional_tree};
 ghost use Rattle.syn_ast.specs.Paths.{macro, path};
 ghost use Rattle.syn_ast.specs.Shape.{IsShaped};
@@ -202,7 +204,8 @@ pub struct Labelled<'t, 'a> {
 // What a tree is, if it is that.
 #[tactic(auto, unfolding(syn_grammar::specs::Table::table))]
 pub(crate) fn as_labelled<'t, 'a>(tree: &'t Tree<'a>) -> Option<Labelled<'t, 'a>>
-    ensures { MatchOption result ((a1 : g.Gram) → IsShaped tree.now (g.called n.the_label a1) → ⊥) (λ x. tree.now ≡ labelled_tree x) }
+    ensures { MatchOption result ((a1 : g.Gram) → IsShaped tree.now (g.called n.the_label a1) → ⊥)
+        (λ x. tree.now ≡ labelled_tree x) }
 {
     let Some((Part::Label, tree)) = take::called(tree) else {
         return None;
@@ -214,7 +217,8 @@ pub(crate) fn as_labelled<'t, 'a>(tree: &'t Tree<'a>) -> Option<Labelled<'t, 'a>
 // What stands there, if anything does.
 #[tactic(auto, unfolding(syn_grammar::specs::Table::table))]
 pub(crate) fn optional_as_labelled<'t, 'a>(tree: &'t Tree<'a>) -> Option<Option<Labelled<'t, 'a>>>
-    ensures { MatchOption result ((test : List Token → Bool) (a1 : g.Gram) → IsShaped tree.now (g.alt test (g.called n.the_label a1) g.nothing) → ⊥)
+    ensures { MatchOption result ((test : List Token → Bool) (a1 : g.Gram) → IsShaped tree.now (g.alt test
+        (g.called n.the_label a1) g.nothing) → ⊥)
         (λ x. tree.now ≡ optional_tree labelled_tree x) }
 {
     match take::optional(tree) {
@@ -240,7 +244,8 @@ impl<'t, 'a> ExprBlock<'t, 'a> {
     /// What a tree is, if it is that.
     #[tactic(auto, unfolding(syn_grammar::specs::Table::table))]
     pub fn of(tree: &'t Tree<'a>) -> Option<ExprBlock<'t, 'a>>
-        ensures { MatchOption result ((y : GivenTree) → tree.now ≡ t.Alone k.ExprBlock y → IsShaped y (table k.ExprBlock) → ⊥)
+        ensures { MatchOption result ((y : GivenTree) → tree.now ≡ t.Alone k.ExprBlock y → IsShaped y
+            (table k.ExprBlock) → ⊥)
             (λ x. tree.now ≡ expr_block x) }
     {
         let Some((Kind::ExprBlock, inner)) = take::alone(tree) else {
@@ -269,7 +274,8 @@ impl<'t, 'a> ExprUnsafe<'t, 'a> {
     /// What a tree is, if it is that.
     #[tactic(auto, unfolding(syn_grammar::specs::Table::table))]
     pub fn of(tree: &'t Tree<'a>) -> Option<ExprUnsafe<'t, 'a>>
-        ensures { MatchOption result ((y : GivenTree) → tree.now ≡ t.Alone k.ExprUnsafe y → IsShaped y (table k.ExprUnsafe) → ⊥)
+        ensures { MatchOption result ((y : GivenTree) → tree.now ≡ t.Alone k.ExprUnsafe y → IsShaped y
+            (table k.ExprUnsafe) → ⊥)
             (λ x. tree.now ≡ expr_unsafe x) }
     {
         let Some((Kind::ExprUnsafe, inner)) = take::alone(tree) else {
@@ -303,7 +309,8 @@ impl<'t, 'a> ExprAsync<'t, 'a> {
     /// What a tree is, if it is that.
     #[tactic(auto, unfolding(syn_grammar::specs::Table::table))]
     pub fn of(tree: &'t Tree<'a>) -> Option<ExprAsync<'t, 'a>>
-        ensures { MatchOption result ((y : GivenTree) → tree.now ≡ t.Alone k.ExprAsync y → IsShaped y (table k.ExprAsync) → ⊥)
+        ensures { MatchOption result ((y : GivenTree) → tree.now ≡ t.Alone k.ExprAsync y → IsShaped y
+            (table k.ExprAsync) → ⊥)
             (λ x. tree.now ≡ expr_async x) }
     {
         let Some((Kind::ExprAsync, inner)) = take::alone(tree) else {
@@ -341,7 +348,8 @@ impl<'t, 'a> ExprLoop<'t, 'a> {
     /// What a tree is, if it is that.
     #[tactic(auto, unfolding(syn_grammar::specs::Table::table))]
     pub fn of(tree: &'t Tree<'a>) -> Option<ExprLoop<'t, 'a>>
-        ensures { MatchOption result ((y : GivenTree) → tree.now ≡ t.Alone k.ExprLoop y → IsShaped y (table k.ExprLoop) → ⊥)
+        ensures { MatchOption result ((y : GivenTree) → tree.now ≡ t.Alone k.ExprLoop y → IsShaped y
+            (table k.ExprLoop) → ⊥)
             (λ x. tree.now ≡ expr_loop x) }
     {
         let Some((Kind::ExprLoop, inner)) = take::alone(tree) else {
@@ -381,7 +389,8 @@ impl<'t, 'a> ExprWhile<'t, 'a> {
     /// What a tree is, if it is that.
     #[tactic(auto, unfolding(syn_grammar::specs::Table::table))]
     pub fn of(tree: &'t Tree<'a>) -> Option<ExprWhile<'t, 'a>>
-        ensures { MatchOption result ((y : GivenTree) → tree.now ≡ t.Alone k.ExprWhile y → IsShaped y (table k.ExprWhile) → ⊥)
+        ensures { MatchOption result ((y : GivenTree) → tree.now ≡ t.Alone k.ExprWhile y → IsShaped y
+            (table k.ExprWhile) → ⊥)
             (λ x. tree.now ≡ expr_while x) }
     {
         let Some((Kind::ExprWhile, inner)) = take::alone(tree) else {
@@ -429,7 +438,8 @@ impl<'t, 'a> ExprForLoop<'t, 'a> {
     /// What a tree is, if it is that.
     #[tactic(auto, unfolding(syn_grammar::specs::Table::table))]
     pub fn of(tree: &'t Tree<'a>) -> Option<ExprForLoop<'t, 'a>>
-        ensures { MatchOption result ((y : GivenTree) → tree.now ≡ t.Alone k.ExprForLoop y → IsShaped y (table k.ExprForLoop) → ⊥)
+        ensures { MatchOption result ((y : GivenTree) → tree.now ≡ t.Alone k.ExprForLoop y → IsShaped y
+            (table k.ExprForLoop) → ⊥)
             (λ x. tree.now ≡ expr_for_loop x) }
     {
         let Some((Kind::ExprForLoop, inner)) = take::alone(tree) else {
@@ -480,7 +490,8 @@ impl<'t, 'a> ExprMatch<'t, 'a> {
     /// What a tree is, if it is that.
     #[tactic(auto, unfolding(syn_grammar::specs::Table::table))]
     pub fn of(tree: &'t Tree<'a>) -> Option<ExprMatch<'t, 'a>>
-        ensures { MatchOption result ((y : GivenTree) → tree.now ≡ t.Alone k.ExprMatch y → IsShaped y (table k.ExprMatch) → ⊥)
+        ensures { MatchOption result ((y : GivenTree) → tree.now ≡ t.Alone k.ExprMatch y → IsShaped y
+            (table k.ExprMatch) → ⊥)
             (λ x. tree.now ≡ expr_match x) }
     {
         let Some((Kind::ExprMatch, inner)) = take::alone(tree) else {
@@ -568,7 +579,8 @@ impl<'t, 'a> ExprParenthesized<'t, 'a> {
     /// What a tree is, if it is that.
     #[tactic(auto, unfolding(syn_grammar::specs::Table::table))]
     pub fn of(tree: &'t Tree<'a>) -> Option<ExprParenthesized<'t, 'a>>
-        ensures { MatchOption result ((y : GivenTree) → tree.now ≡ t.Alone k.ExprParen y → IsShaped y (table k.ExprParen) → ⊥)
+        ensures { MatchOption result ((y : GivenTree) → tree.now ≡ t.Alone k.ExprParen y → IsShaped y
+            (table k.ExprParen) → ⊥)
             (λ x. tree.now ≡ expr_parenthesized x) }
     {
         let Some((Kind::ExprParen, inner)) = take::alone(tree) else {
@@ -597,7 +609,8 @@ impl<'t, 'a> ExprArray<'t, 'a> {
     /// What a tree is, if it is that.
     #[tactic(auto, unfolding(syn_grammar::specs::Table::table))]
     pub fn of(tree: &'t Tree<'a>) -> Option<ExprArray<'t, 'a>>
-        ensures { MatchOption result ((y : GivenTree) → tree.now ≡ t.Alone k.ExprArray y → IsShaped y (table k.ExprArray) → ⊥)
+        ensures { MatchOption result ((y : GivenTree) → tree.now ≡ t.Alone k.ExprArray y → IsShaped y
+            (table k.ExprArray) → ⊥)
             (λ x. tree.now ≡ expr_array x) }
     {
         let Some((Kind::ExprArray, inner)) = take::alone(tree) else {
@@ -633,7 +646,8 @@ impl<'t, 'a> ExprRepeat<'t, 'a> {
     /// What a tree is, if it is that.
     #[tactic(auto, unfolding(syn_grammar::specs::Table::table))]
     pub fn of(tree: &'t Tree<'a>) -> Option<ExprRepeat<'t, 'a>>
-        ensures { MatchOption result ((y : GivenTree) → tree.now ≡ t.Alone k.ExprRepeat y → IsShaped y (table k.ExprRepeat) → ⊥)
+        ensures { MatchOption result ((y : GivenTree) → tree.now ≡ t.Alone k.ExprRepeat y → IsShaped y
+            (table k.ExprRepeat) → ⊥)
             (λ x. tree.now ≡ expr_repeat x) }
     {
         let Some((Kind::ExprRepeat, inner)) = take::alone(tree) else {
@@ -668,7 +682,8 @@ impl<'t, 'a> ExprMacro<'t, 'a> {
     /// What a tree is, if it is that.
     #[tactic(auto, unfolding(syn_grammar::specs::Table::table))]
     pub fn of(tree: &'t Tree<'a>) -> Option<ExprMacro<'t, 'a>>
-        ensures { MatchOption result ((y : GivenTree) → tree.now ≡ t.Alone k.ExprMacro y → IsShaped y (table k.ExprMacro) → ⊥)
+        ensures { MatchOption result ((y : GivenTree) → tree.now ≡ t.Alone k.ExprMacro y → IsShaped y
+            (table k.ExprMacro) → ⊥)
             (λ x. tree.now ≡ expr_macro x) }
     {
         let Some((Kind::ExprMacro, inner)) = take::alone(tree) else {
@@ -690,7 +705,8 @@ impl<'t, 'a> ExprPath<'t, 'a> {
     /// What a tree is, if it is that.
     #[tactic(auto, unfolding(syn_grammar::specs::Table::table))]
     pub fn of(tree: &'t Tree<'a>) -> Option<ExprPath<'t, 'a>>
-        ensures { MatchOption result ((y : GivenTree) → tree.now ≡ t.Alone k.ExprPath y → IsShaped y (table k.ExprPath) → ⊥)
+        ensures { MatchOption result ((y : GivenTree) → tree.now ≡ t.Alone k.ExprPath y → IsShaped y
+            (table k.ExprPath) → ⊥)
             (λ x. tree.now ≡ expr_path x) }
     {
         let Some((Kind::ExprPath, inner)) = take::alone(tree) else {

@@ -2,7 +2,8 @@
 
 ghost use Rattle.proc_macro2.specs.Token.{Token};
 ghost use Rattle.std.specs.Prelude.{◌≡◌, MatchOption, Bool, List, ℕ};
-ghost use Rattle.syn_ast.specs.Data.{fields_named, fields_unnamed, item_enum, item_extern_crate, item_static, item_union, item_use, name_tree, named_field, renamed_tree, word_of_name};
+ghost use Rattle.syn_ast.specs.Data.{fields_named, fields_unnamed, item_enum, item_extern_crate, item_static};
+ghost use Rattle.syn_ast.specs.Data.{item_union, item_use, name_tree, named_field, renamed_tree, word_of_name};
 ghost use Rattle.syn_ast.specs.Generics.{generics};
 ghost use Rattle.syn_ast.specs.Leaves.{optional_tree, word_tree};
 ghost use Rattle.syn_ast.specs.Shape.{IsShaped};
@@ -74,7 +75,9 @@ pub struct Renamed<'a> {
 // What a tree is, if it is that.
 #[tactic(auto, unfolding(syn_grammar::specs::Table::table))]
 pub(crate) fn as_renamed<'a>(tree: &Tree<'a>) -> Option<Renamed<'a>>
-    ensures { MatchOption result ((p1 : List ℕ → Bool) (t2 : List Token → Bool) (p3 : List ℕ → Bool) (q4 : List ℕ → Bool) → IsShaped tree.now (g.seq (g.word p1) (g.alt t2 (g.word p3) (g.word q4))) → ⊥) (λ x. tree.now ≡ renamed_tree x) }
+    ensures { MatchOption result ((p1 : List ℕ → Bool) (t2 : List Token → Bool) (p3 : List ℕ → Bool) (q4 : List ℕ
+        → Bool) → IsShaped tree.now (g.seq (g.word p1) (g.alt t2 (g.word p3) (g.word q4))) → ⊥)
+        (λ x. tree.now ≡ renamed_tree x) }
 {
     let Some((as_token, rename)) = take::pair(tree) else {
         return None;
@@ -91,7 +94,9 @@ pub(crate) fn as_renamed<'a>(tree: &Tree<'a>) -> Option<Renamed<'a>>
 // What stands there, if anything does.
 #[tactic(auto, unfolding(syn_grammar::specs::Table::table))]
 pub(crate) fn optional_as_renamed<'a>(tree: &Tree<'a>) -> Option<Option<Renamed<'a>>>
-    ensures { MatchOption result ((test : List Token → Bool) (p1 : List ℕ → Bool) (t2 : List Token → Bool) (p3 : List ℕ → Bool) (q4 : List ℕ → Bool) → IsShaped tree.now (g.alt test (g.seq (g.word p1) (g.alt t2 (g.word p3) (g.word q4))) g.nothing) → ⊥)
+    ensures { MatchOption result ((test : List Token → Bool) (p1 : List ℕ → Bool) (t2 : List Token → Bool)
+        (p3 : List ℕ → Bool) (q4 : List ℕ → Bool) → IsShaped tree.now (g.alt test (g.seq (g.word p1) (g.alt t2
+        (g.word p3) (g.word q4))) g.nothing) → ⊥)
         (λ x. tree.now ≡ optional_tree renamed_tree x) }
 {
     match take::optional(tree) {
@@ -123,7 +128,8 @@ impl<'a> ItemExternCrate<'a> {
     /// What a tree is, if it is that.
     #[tactic(auto, unfolding(syn_grammar::specs::Table::table))]
     pub fn of(tree: &Tree<'a>) -> Option<ItemExternCrate<'a>>
-        ensures { MatchOption result (IsShaped tree.now (g.ref k.AnExternCrate) → ⊥) (λ x. tree.now ≡ item_extern_crate x) }
+        ensures { MatchOption result (IsShaped tree.now (g.ref k.AnExternCrate) → ⊥)
+            (λ x. tree.now ≡ item_extern_crate x) }
     {
         let Some((Kind::AnExternCrate, inner)) = take::node(tree) else {
             return None;
@@ -249,7 +255,8 @@ impl<'t, 'a> FieldsUnnamed<'t, 'a> {
     /// What a tree is, if it is that.
     #[tactic(auto, unfolding(syn_grammar::specs::Table::table))]
     pub fn of(tree: &'t Tree<'a>) -> Option<FieldsUnnamed<'t, 'a>>
-        ensures { MatchOption result (IsShaped tree.now (g.ref k.UnnamedFields) → ⊥) (λ x. tree.now ≡ fields_unnamed x) }
+        ensures { MatchOption result (IsShaped tree.now (g.ref k.UnnamedFields) → ⊥)
+            (λ x. tree.now ≡ fields_unnamed x) }
     {
         let Some((Kind::UnnamedFields, inner)) = take::node(tree) else {
             return None;

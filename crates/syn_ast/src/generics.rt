@@ -2,7 +2,8 @@
 
 ghost use Rattle.proc_macro2.specs.Token.{Token};
 ghost use Rattle.std.specs.Prelude.{◌≡◌, MatchOption, Bool, List, ℕ};
-ghost use Rattle.syn_ast.specs.Generics.{angled_params_tree, bounds, bounds_colon, generic_params, generics, impl_generics, lifetime_colon, lifetime_param, lifetimes, type_param};
+ghost use Rattle.syn_ast.specs.Generics.{angled_params_tree, bounds, bounds_colon, generic_params, generics};
+ghost use Rattle.syn_ast.specs.Generics.{impl_generics, lifetime_colon, lifetime_param, lifetimes, type_param};
 ghost use Rattle.syn_ast.specs.Leaves.{optional_tree};
 ghost use Rattle.syn_ast.specs.Shape.{IsShaped};
 ghost use Rattle.syn_grammar.specs.Gram as g;
@@ -32,7 +33,9 @@ pub struct AngledParams<'t, 'a> {
 // What a tree is, if it is that.
 #[tactic(auto, unfolding(syn_grammar::specs::Table::table))]
 pub(crate) fn as_angled_params<'t, 'a>(tree: &'t Tree<'a>) -> Option<AngledParams<'t, 'a>>
-    ensures { MatchOption result ((c1 : ℕ) (cs2 : List ℕ) (a3 : g.Gram) (c4 : ℕ) (cs5 : List ℕ) → IsShaped tree.now (g.seq (g.mark c1 cs2) (g.seq (g.called n.the_parameters a3) (g.mark c4 cs5))) → ⊥) (λ x. tree.now ≡ angled_params_tree x) }
+    ensures { MatchOption result ((c1 : ℕ) (cs2 : List ℕ) (a3 : g.Gram) (c4 : ℕ) (cs5 : List ℕ) → IsShaped tree.now
+        (g.seq (g.mark c1 cs2) (g.seq (g.called n.the_parameters a3) (g.mark c4 cs5))) → ⊥)
+        (λ x. tree.now ≡ angled_params_tree x) }
 {
     let Some((lt_token, params, gt_token)) = take::three(tree) else {
         return None;
@@ -58,7 +61,9 @@ pub(crate) fn as_angled_params<'t, 'a>(tree: &'t Tree<'a>) -> Option<AngledParam
 pub(crate) fn optional_as_angled_params<'t, 'a>(
     tree: &'t Tree<'a>,
 ) -> Option<Option<AngledParams<'t, 'a>>>
-    ensures { MatchOption result ((test : List Token → Bool) (c1 : ℕ) (cs2 : List ℕ) (a3 : g.Gram) (c4 : ℕ) (cs5 : List ℕ) → IsShaped tree.now (g.alt test (g.seq (g.mark c1 cs2) (g.seq (g.called n.the_parameters a3) (g.mark c4 cs5))) g.nothing) → ⊥)
+    ensures { MatchOption result ((test : List Token → Bool) (c1 : ℕ) (cs2 : List ℕ) (a3 : g.Gram) (c4 : ℕ)
+        (cs5 : List ℕ) → IsShaped tree.now (g.alt test (g.seq (g.mark c1 cs2) (g.seq (g.called n.the_parameters a3)
+        (g.mark c4 cs5))) g.nothing) → ⊥)
         (λ x. tree.now ≡ optional_tree angled_params_tree x) }
 {
     match take::optional(tree) {
@@ -128,7 +133,8 @@ impl<'t, 'a> GenericParams<'t, 'a> {
     /// What a tree is, if it is that.
     #[tactic(auto, unfolding(syn_grammar::specs::Table::table))]
     pub fn of(tree: &'t Tree<'a>) -> Option<GenericParams<'t, 'a>>
-        ensures { MatchOption result (IsShaped tree.now (g.ref k.GenericParams) → ⊥) (λ x. tree.now ≡ generic_params x) }
+        ensures { MatchOption result (IsShaped tree.now (g.ref k.GenericParams) → ⊥)
+            (λ x. tree.now ≡ generic_params x) }
     {
         let Some((Kind::GenericParams, inner)) = take::node(tree) else {
             return None;
@@ -155,7 +161,8 @@ impl<'t, 'a> LifetimeParam<'t, 'a> {
     /// What a tree is, if it is that.
     #[tactic(auto, unfolding(syn_grammar::specs::Table::table))]
     pub fn of(tree: &'t Tree<'a>) -> Option<LifetimeParam<'t, 'a>>
-        ensures { MatchOption result (IsShaped tree.now (g.ref k.LifetimeParam) → ⊥) (λ x. tree.now ≡ lifetime_param x) }
+        ensures { MatchOption result (IsShaped tree.now (g.ref k.LifetimeParam) → ⊥)
+            (λ x. tree.now ≡ lifetime_param x) }
     {
         let Some((Kind::LifetimeParam, inner)) = take::node(tree) else {
             return None;
@@ -185,7 +192,8 @@ impl<'t, 'a> LifetimeColon<'t, 'a> {
     /// What a tree is, if it is that.
     #[tactic(auto, unfolding(syn_grammar::specs::Table::table))]
     pub fn of(tree: &'t Tree<'a>) -> Option<LifetimeColon<'t, 'a>>
-        ensures { MatchOption result (IsShaped tree.now (g.ref k.LifetimeColon) → ⊥) (λ x. tree.now ≡ lifetime_colon x) }
+        ensures { MatchOption result (IsShaped tree.now (g.ref k.LifetimeColon) → ⊥)
+            (λ x. tree.now ≡ lifetime_colon x) }
     {
         let Some((Kind::LifetimeColon, inner)) = take::node(tree) else {
             return None;

@@ -1,7 +1,8 @@
 //! Paths.
 
 ghost use Rattle.std.specs.Prelude.{◌≡◌, MatchOption};
-ghost use Rattle.syn_ast.specs.Paths.{angle_bracketed_generic_arguments, macro, parenthesized_generic_arguments, path, qualified_path};
+ghost use Rattle.syn_ast.specs.Paths.{angle_bracketed_generic_arguments, macro, parenthesized_generic_arguments};
+ghost use Rattle.syn_ast.specs.Paths.{path, qualified_path};
 ghost use Rattle.syn_ast.specs.Shape.{IsShaped};
 ghost use Rattle.syn_grammar.specs.Gram as g;
 ghost use Rattle.syn_grammar.specs.Kind as k;
@@ -29,7 +30,8 @@ impl<'t, 'a> Path<'t, 'a> {
     /// What a tree is, if it is that.
     #[tactic(auto, unfolding(syn_grammar::specs::Table::table))]
     pub fn of(tree: &'t Tree<'a>) -> Option<Path<'t, 'a>>
-        ensures { MatchOption result ((p : k.Style) → IsShaped tree.now (g.ref (k.Path p)) → ⊥) (λ x. tree.now ≡ path x) }
+        ensures { MatchOption result ((p : k.Style) → IsShaped tree.now (g.ref (k.Path p)) → ⊥)
+            (λ x. tree.now ≡ path x) }
     {
         let Some((Kind::Path(style), inner)) = take::node(tree) else {
             return None;
@@ -71,7 +73,8 @@ impl<'t, 'a> QualifiedPath<'t, 'a> {
     /// What a tree is, if it is that.
     #[tactic(auto, unfolding(syn_grammar::specs::Table::table))]
     pub fn of(tree: &'t Tree<'a>) -> Option<QualifiedPath<'t, 'a>>
-        ensures { MatchOption result ((p : k.Style) → IsShaped tree.now (g.ref (k.QualifiedPath p)) → ⊥) (λ x. tree.now ≡ qualified_path x) }
+        ensures { MatchOption result ((p : k.Style) → IsShaped tree.now (g.ref (k.QualifiedPath p)) → ⊥)
+            (λ x. tree.now ≡ qualified_path x) }
     {
         let Some((Kind::QualifiedPath(style), inner)) = take::node(tree) else {
             return None;
@@ -121,7 +124,8 @@ impl<'t, 'a> AngleBracketedGenericArguments<'t, 'a> {
     /// What a tree is, if it is that.
     #[tactic(auto, unfolding(syn_grammar::specs::Table::table))]
     pub fn of(tree: &'t Tree<'a>) -> Option<AngleBracketedGenericArguments<'t, 'a>>
-        ensures { MatchOption result (IsShaped tree.now (g.ref k.Arguments) → ⊥) (λ x. tree.now ≡ angle_bracketed_generic_arguments x) }
+        ensures { MatchOption result (IsShaped tree.now (g.ref k.Arguments) → ⊥)
+            (λ x. tree.now ≡ angle_bracketed_generic_arguments x) }
     {
         let Some((Kind::Arguments, inner)) = take::node(tree) else {
             return None;
@@ -168,7 +172,8 @@ impl<'t, 'a> ParenthesizedGenericArguments<'t, 'a> {
     /// What a tree is, if it is that.
     #[tactic(auto, unfolding(syn_grammar::specs::Table::table))]
     pub fn of(tree: &'t Tree<'a>) -> Option<ParenthesizedGenericArguments<'t, 'a>>
-        ensures { MatchOption result (IsShaped tree.now (g.ref k.ParenthesizedArguments) → ⊥) (λ x. tree.now ≡ parenthesized_generic_arguments x) }
+        ensures { MatchOption result (IsShaped tree.now (g.ref k.ParenthesizedArguments) → ⊥)
+            (λ x. tree.now ≡ parenthesized_generic_arguments x) }
     {
         let Some((Kind::ParenthesizedArguments, inner)) = take::node(tree) else {
             return None;

@@ -74,7 +74,8 @@ impl<'t, 'a> PatReference<'t, 'a> {
     /// What a tree is, if it is that.
     #[tactic(auto, unfolding(syn_grammar::specs::Table::table))]
     pub fn of(tree: &'t Tree<'a>) -> Option<PatReference<'t, 'a>>
-        ensures { MatchOption result (IsShaped tree.now (g.ref k.ReferencePattern) → ⊥) (λ x. tree.now ≡ pat_reference x) }
+        ensures { MatchOption result (IsShaped tree.now (g.ref k.ReferencePattern) → ⊥)
+            (λ x. tree.now ≡ pat_reference x) }
     {
         let Some((Kind::ReferencePattern, inner)) = take::node(tree) else {
             return None;
@@ -140,7 +141,8 @@ impl<'t, 'a> PatParenthesized<'t, 'a> {
     /// What a tree is, if it is that.
     #[tactic(auto, unfolding(syn_grammar::specs::Table::table))]
     pub fn of(tree: &'t Tree<'a>) -> Option<PatParenthesized<'t, 'a>>
-        ensures { MatchOption result (IsShaped tree.now (g.ref k.TuplePattern) → ⊥) (λ x. tree.now ≡ pat_parenthesized x) }
+        ensures { MatchOption result (IsShaped tree.now (g.ref k.TuplePattern) → ⊥)
+            (λ x. tree.now ≡ pat_parenthesized x) }
     {
         let Some((Kind::TuplePattern, inner)) = take::node(tree) else {
             return None;

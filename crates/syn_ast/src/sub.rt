@@ -26,7 +26,8 @@ pub struct Marked<'t, 'a> {
 // What a tree is, if it is that.
 #[tactic(auto, unfolding(syn_grammar::specs::Table::table))]
 pub(crate) fn as_marked<'t, 'a>(tree: &'t Tree<'a>) -> Option<Marked<'t, 'a>>
-    ensures { MatchOption result ((c1 : ℕ) (cs2 : List ℕ) (a3 : g.Gram) → IsShaped tree.now (g.seq (g.mark c1 cs2) a3) → ⊥) (λ x. tree.now ≡ marked_tree x) }
+    ensures { MatchOption result ((c1 : ℕ) (cs2 : List ℕ) (a3 : g.Gram) → IsShaped tree.now (g.seq (g.mark c1 cs2) a3)
+        → ⊥) (λ x. tree.now ≡ marked_tree x) }
 {
     let Some((mark, node)) = take::pair(tree) else {
         return None;
@@ -40,7 +41,8 @@ pub(crate) fn as_marked<'t, 'a>(tree: &'t Tree<'a>) -> Option<Marked<'t, 'a>>
 // What stands there, if anything does.
 #[tactic(auto, unfolding(syn_grammar::specs::Table::table))]
 pub(crate) fn optional_as_marked<'t, 'a>(tree: &'t Tree<'a>) -> Option<Option<Marked<'t, 'a>>>
-    ensures { MatchOption result ((test : List Token → Bool) (c1 : ℕ) (cs2 : List ℕ) (a3 : g.Gram) → IsShaped tree.now (g.alt test (g.seq (g.mark c1 cs2) a3) g.nothing) → ⊥)
+    ensures { MatchOption result ((test : List Token → Bool) (c1 : ℕ) (cs2 : List ℕ) (a3 : g.Gram) → IsShaped tree.now
+        (g.alt test (g.seq (g.mark c1 cs2) a3) g.nothing) → ⊥)
         (λ x. tree.now ≡ optional_tree marked_tree x) }
 {
     match take::optional(tree) {
@@ -65,7 +67,8 @@ pub struct Worded<'t, 'a> {
 // What a tree is, if it is that.
 #[tactic(auto, unfolding(syn_grammar::specs::Table::table))]
 pub(crate) fn as_worded<'t, 'a>(tree: &'t Tree<'a>) -> Option<Worded<'t, 'a>>
-    ensures { MatchOption result ((p1 : List ℕ → Bool) (a2 : g.Gram) → IsShaped tree.now (g.seq (g.word p1) a2) → ⊥) (λ x. tree.now ≡ worded_tree x) }
+    ensures { MatchOption result ((p1 : List ℕ → Bool) (a2 : g.Gram) → IsShaped tree.now (g.seq (g.word p1) a2) → ⊥)
+        (λ x. tree.now ≡ worded_tree x) }
 {
     let Some((word, node)) = take::pair(tree) else {
         return None;
@@ -79,7 +82,8 @@ pub(crate) fn as_worded<'t, 'a>(tree: &'t Tree<'a>) -> Option<Worded<'t, 'a>>
 // What stands there, if anything does.
 #[tactic(auto, unfolding(syn_grammar::specs::Table::table))]
 pub(crate) fn optional_as_worded<'t, 'a>(tree: &'t Tree<'a>) -> Option<Option<Worded<'t, 'a>>>
-    ensures { MatchOption result ((test : List Token → Bool) (p1 : List ℕ → Bool) (a2 : g.Gram) → IsShaped tree.now (g.alt test (g.seq (g.word p1) a2) g.nothing) → ⊥)
+    ensures { MatchOption result ((test : List Token → Bool) (p1 : List ℕ → Bool) (a2 : g.Gram) → IsShaped tree.now
+        (g.alt test (g.seq (g.word p1) a2) g.nothing) → ⊥)
         (λ x. tree.now ≡ optional_tree worded_tree x) }
 {
     match take::optional(tree) {
@@ -104,7 +108,8 @@ pub struct MarkedValue<'t, 'a> {
 // What a tree is, if it is that.
 #[tactic(auto, unfolding(syn_grammar::specs::Table::table))]
 pub(crate) fn as_marked_value<'t, 'a>(tree: &'t Tree<'a>) -> Option<MarkedValue<'t, 'a>>
-    ensures { MatchOption result ((c1 : ℕ) (cs2 : List ℕ) (a3 : g.Gram) → IsShaped tree.now (g.seq (g.mark c1 cs2) (g.called n.the_value a3)) → ⊥) (λ x. tree.now ≡ marked_value_tree x) }
+    ensures { MatchOption result ((c1 : ℕ) (cs2 : List ℕ) (a3 : g.Gram) → IsShaped tree.now (g.seq (g.mark c1 cs2)
+        (g.called n.the_value a3)) → ⊥) (λ x. tree.now ≡ marked_value_tree x) }
 {
     let Some((mark, node)) = take::pair(tree) else {
         return None;
@@ -123,7 +128,8 @@ pub(crate) fn as_marked_value<'t, 'a>(tree: &'t Tree<'a>) -> Option<MarkedValue<
 pub(crate) fn optional_as_marked_value<'t, 'a>(
     tree: &'t Tree<'a>,
 ) -> Option<Option<MarkedValue<'t, 'a>>>
-    ensures { MatchOption result ((test : List Token → Bool) (c1 : ℕ) (cs2 : List ℕ) (a3 : g.Gram) → IsShaped tree.now (g.alt test (g.seq (g.mark c1 cs2) (g.called n.the_value a3)) g.nothing) → ⊥)
+    ensures { MatchOption result ((test : List Token → Bool) (c1 : ℕ) (cs2 : List ℕ) (a3 : g.Gram) → IsShaped tree.now
+        (g.alt test (g.seq (g.mark c1 cs2) (g.called n.the_value a3)) g.nothing) → ⊥)
         (λ x. tree.now ≡ optional_tree marked_value_tree x) }
 {
     match take::optional(tree) {
@@ -148,7 +154,8 @@ pub struct MarkedType<'t, 'a> {
 // What a tree is, if it is that.
 #[tactic(auto, unfolding(syn_grammar::specs::Table::table))]
 pub(crate) fn as_marked_type<'t, 'a>(tree: &'t Tree<'a>) -> Option<MarkedType<'t, 'a>>
-    ensures { MatchOption result ((c1 : ℕ) (cs2 : List ℕ) (a3 : g.Gram) → IsShaped tree.now (g.seq (g.mark c1 cs2) (g.called n.the_type a3)) → ⊥) (λ x. tree.now ≡ marked_type_tree x) }
+    ensures { MatchOption result ((c1 : ℕ) (cs2 : List ℕ) (a3 : g.Gram) → IsShaped tree.now (g.seq (g.mark c1 cs2)
+        (g.called n.the_type a3)) → ⊥) (λ x. tree.now ≡ marked_type_tree x) }
 {
     let Some((mark, node)) = take::pair(tree) else {
         return None;
@@ -167,7 +174,8 @@ pub(crate) fn as_marked_type<'t, 'a>(tree: &'t Tree<'a>) -> Option<MarkedType<'t
 pub(crate) fn optional_as_marked_type<'t, 'a>(
     tree: &'t Tree<'a>,
 ) -> Option<Option<MarkedType<'t, 'a>>>
-    ensures { MatchOption result ((test : List Token → Bool) (c1 : ℕ) (cs2 : List ℕ) (a3 : g.Gram) → IsShaped tree.now (g.alt test (g.seq (g.mark c1 cs2) (g.called n.the_type a3)) g.nothing) → ⊥)
+    ensures { MatchOption result ((test : List Token → Bool) (c1 : ℕ) (cs2 : List ℕ) (a3 : g.Gram) → IsShaped tree.now
+        (g.alt test (g.seq (g.mark c1 cs2) (g.called n.the_type a3)) g.nothing) → ⊥)
         (λ x. tree.now ≡ optional_tree marked_type_tree x) }
 {
     match take::optional(tree) {
@@ -192,7 +200,8 @@ pub struct MarkedBounds<'t, 'a> {
 // What a tree is, if it is that.
 #[tactic(auto, unfolding(syn_grammar::specs::Table::table))]
 pub(crate) fn as_marked_bounds<'t, 'a>(tree: &'t Tree<'a>) -> Option<MarkedBounds<'t, 'a>>
-    ensures { MatchOption result ((c1 : ℕ) (cs2 : List ℕ) (a3 : g.Gram) → IsShaped tree.now (g.seq (g.mark c1 cs2) (g.called n.the_bounds a3)) → ⊥) (λ x. tree.now ≡ marked_bounds_tree x) }
+    ensures { MatchOption result ((c1 : ℕ) (cs2 : List ℕ) (a3 : g.Gram) → IsShaped tree.now (g.seq (g.mark c1 cs2)
+        (g.called n.the_bounds a3)) → ⊥) (λ x. tree.now ≡ marked_bounds_tree x) }
 {
     let Some((mark, node)) = take::pair(tree) else {
         return None;
@@ -211,7 +220,8 @@ pub(crate) fn as_marked_bounds<'t, 'a>(tree: &'t Tree<'a>) -> Option<MarkedBound
 pub(crate) fn optional_as_marked_bounds<'t, 'a>(
     tree: &'t Tree<'a>,
 ) -> Option<Option<MarkedBounds<'t, 'a>>>
-    ensures { MatchOption result ((test : List Token → Bool) (c1 : ℕ) (cs2 : List ℕ) (a3 : g.Gram) → IsShaped tree.now (g.alt test (g.seq (g.mark c1 cs2) (g.called n.the_bounds a3)) g.nothing) → ⊥)
+    ensures { MatchOption result ((test : List Token → Bool) (c1 : ℕ) (cs2 : List ℕ) (a3 : g.Gram) → IsShaped tree.now
+        (g.alt test (g.seq (g.mark c1 cs2) (g.called n.the_bounds a3)) g.nothing) → ⊥)
         (λ x. tree.now ≡ optional_tree marked_bounds_tree x) }
 {
     match take::optional(tree) {

@@ -105,7 +105,8 @@ pub(crate) fn five<'t, 'a>(
         &'t Tree<'a>,
     ),
 >
-    ensures { MatchOption result ((a b c d e : g.Gram) → IsShaped tree.now (g.seq a (g.seq b (g.seq c (g.seq d e)))) → ⊥)
+    ensures { MatchOption result ((a b c d e : g.Gram) → IsShaped tree.now (g.seq a (g.seq b (g.seq c (g.seq d e))))
+        → ⊥)
         (λ p. tree.now ≡ t.Pair p.0.now (t.Pair p.1.now (t.Pair p.2.now (t.Pair p.3.now p.4.now)))) }
 {
     let Some((front, behind)) = pair(tree) else {
@@ -131,7 +132,8 @@ pub(crate) fn six<'t, 'a>(
         &'t Tree<'a>,
     ),
 >
-    ensures { MatchOption result ((a b c d e f : g.Gram) → IsShaped tree.now (g.seq a (g.seq b (g.seq c (g.seq d (g.seq e f))))) → ⊥)
+    ensures { MatchOption result ((a b c d e f : g.Gram) → IsShaped tree.now (g.seq a (g.seq b (g.seq c (g.seq d
+        (g.seq e f))))) → ⊥)
         (λ p. tree.now ≡ t.Pair p.0.now (t.Pair p.1.now (t.Pair p.2.now (t.Pair p.3.now (t.Pair p.4.now p.5.now))))) }
 {
     let Some((front, behind)) = pair(tree) else {
@@ -158,8 +160,10 @@ pub(crate) fn seven<'t, 'a>(
         &'t Tree<'a>,
     ),
 >
-    ensures { MatchOption result ((a b c d e f i : g.Gram) → IsShaped tree.now (g.seq a (g.seq b (g.seq c (g.seq d (g.seq e (g.seq f i)))))) → ⊥)
-        (λ p. tree.now ≡ t.Pair p.0.now (t.Pair p.1.now (t.Pair p.2.now (t.Pair p.3.now (t.Pair p.4.now (t.Pair p.5.now p.6.now)))))) }
+    ensures { MatchOption result ((a b c d e f i : g.Gram) → IsShaped tree.now (g.seq a (g.seq b (g.seq c (g.seq d
+        (g.seq e (g.seq f i)))))) → ⊥)
+        (λ p. tree.now ≡ t.Pair p.0.now (t.Pair p.1.now (t.Pair p.2.now (t.Pair p.3.now (t.Pair p.4.now
+        (t.Pair p.5.now p.6.now)))))) }
 {
     let Some((front, behind)) = pair(tree) else {
         return None;
@@ -186,8 +190,10 @@ pub(crate) fn eight<'t, 'a>(
         &'t Tree<'a>,
     ),
 >
-    ensures { MatchOption result ((a b c d e f i j : g.Gram) → IsShaped tree.now (g.seq a (g.seq b (g.seq c (g.seq d (g.seq e (g.seq f (g.seq i j))))))) → ⊥)
-        (λ p. tree.now ≡ t.Pair p.0.now (t.Pair p.1.now (t.Pair p.2.now (t.Pair p.3.now (t.Pair p.4.now (t.Pair p.5.now (t.Pair p.6.now p.7.now))))))) }
+    ensures { MatchOption result ((a b c d e f i j : g.Gram) → IsShaped tree.now (g.seq a (g.seq b (g.seq c (g.seq d
+        (g.seq e (g.seq f (g.seq i j))))))) → ⊥)
+        (λ p. tree.now ≡ t.Pair p.0.now (t.Pair p.1.now (t.Pair p.2.now (t.Pair p.3.now (t.Pair p.4.now
+        (t.Pair p.5.now (t.Pair p.6.now p.7.now))))))) }
 {
     let Some((front, behind)) = pair(tree) else {
         return None;
@@ -415,7 +421,8 @@ pub(crate) fn optional_lifetime<'a>(tree: &Tree<'a>) -> Option<Option<Lifetime<'
 // The word that stands there, if one does.
 #[tactic(auto, using(crate::proofs::Takes::takes))]
 pub(crate) fn optional_word<'a>(tree: &Tree<'a>) -> Option<Option<&'a Ident>>
-    ensures { MatchOption result ((t : List Token → Bool) (p : List ℕ → Bool) → IsShaped tree.now (g.alt t (g.word p) g.nothing) → ⊥)
+    ensures { MatchOption result ((t : List Token → Bool) (p : List ℕ → Bool) → IsShaped tree.now (g.alt t
+        (g.word p) g.nothing) → ⊥)
         (λ o. tree.now ≡ optional_tree word_tree o) }
 {
     match optional(tree) {
@@ -431,7 +438,8 @@ pub(crate) fn optional_word<'a>(tree: &Tree<'a>) -> Option<Option<&'a Ident>>
 // The punctuation that stands there, if one does.
 #[tactic(auto, using(crate::proofs::Takes::takes))]
 pub(crate) fn optional_mark(tree: &Tree<'_>) -> Option<Option<Mark>>
-    ensures { MatchOption result ((t : List Token → Bool) (c : ℕ) (cs : List ℕ) → IsShaped tree.now (g.alt t (g.mark c cs) g.nothing) → ⊥)
+    ensures { MatchOption result ((t : List Token → Bool) (c : ℕ) (cs : List ℕ) → IsShaped tree.now (g.alt t
+        (g.mark c cs) g.nothing) → ⊥)
         (λ o. tree.now ≡ optional_tree mark_tree o) }
 {
     match optional(tree) {

@@ -3,7 +3,10 @@
 ghost use Rattle.proc_macro2.specs.Token.{Token};
 ghost use Rattle.std.specs.Prelude.{◌≡◌, MatchOption, Bool, List, false, ℕ};
 ghost use Rattle.syn_ast.specs.Shape.{IsAmong, IsShaped, may_choose};
-ghost use Rattle.syn_ast.specs.Types.{bound_lifetimes, form_of_type, pointer_mutability, return_type, type_bounds, type_bracketed, type_fn_ptr, type_impl_trait, type_infer, type_never, type_parenthesized, type_path, type_ptr, type_reference, type_trait_object, type_tree};
+ghost use Rattle.syn_ast.specs.Types.{bound_lifetimes, form_of_type, pointer_mutability, return_type, type_bounds};
+ghost use Rattle.syn_ast.specs.Types.{type_bracketed, type_fn_ptr, type_impl_trait, type_infer, type_never};
+ghost use Rattle.syn_ast.specs.Types.{type_parenthesized, type_path, type_ptr, type_reference, type_trait_object};
+ghost use Rattle.syn_ast.specs.Types.{type_tree};
 ghost use Rattle.syn_grammar.specs.Gram as g;
 ghost use Rattle.syn_grammar.specs.Kind as k;
 ghost use Rattle.syn_grammar.specs.Name as n;
@@ -134,7 +137,8 @@ impl<'t, 'a> TypeReference<'t, 'a> {
     /// What a tree is, if it is that.
     #[tactic(auto, unfolding(syn_grammar::specs::Table::table))]
     pub fn of(tree: &'t Tree<'a>) -> Option<TypeReference<'t, 'a>>
-        ensures { MatchOption result (IsShaped tree.now (g.ref k.ReferenceType) → ⊥) (λ x. tree.now ≡ type_reference x) }
+        ensures { MatchOption result (IsShaped tree.now (g.ref k.ReferenceType) → ⊥)
+            (λ x. tree.now ≡ type_reference x) }
     {
         let Some((Kind::ReferenceType, inner)) = take::node(tree) else {
             return None;
@@ -285,7 +289,8 @@ impl<'t, 'a> BoundLifetimes<'t, 'a> {
     /// What a tree is, if it is that.
     #[tactic(auto, unfolding(syn_grammar::specs::Table::table))]
     pub fn of(tree: &'t Tree<'a>) -> Option<BoundLifetimes<'t, 'a>>
-        ensures { MatchOption result (IsShaped tree.now (g.ref k.BoundLifetimes) → ⊥) (λ x. tree.now ≡ bound_lifetimes x) }
+        ensures { MatchOption result (IsShaped tree.now (g.ref k.BoundLifetimes) → ⊥)
+            (λ x. tree.now ≡ bound_lifetimes x) }
     {
         let Some((Kind::BoundLifetimes, inner)) = take::node(tree) else {
             return None;
@@ -327,7 +332,8 @@ impl<'t, 'a> ReturnType<'t, 'a> {
     /// What a tree is, if it is that.
     #[tactic(auto, unfolding(syn_grammar::specs::Table::table))]
     pub fn of(tree: &'t Tree<'a>) -> Option<ReturnType<'t, 'a>>
-        ensures { MatchOption result ((p : k.Plus) → IsShaped tree.now (g.ref (k.ReturnType p)) → ⊥) (λ x. tree.now ≡ return_type x) }
+        ensures { MatchOption result ((p : k.Plus) → IsShaped tree.now (g.ref (k.ReturnType p)) → ⊥)
+            (λ x. tree.now ≡ return_type x) }
     {
         let Some((Kind::ReturnType(plus), inner)) = take::node(tree) else {
             return None;
@@ -389,7 +395,8 @@ impl<'t, 'a> TypeParenthesized<'t, 'a> {
     /// What a tree is, if it is that.
     #[tactic(auto, unfolding(syn_grammar::specs::Table::table))]
     pub fn of(tree: &'t Tree<'a>) -> Option<TypeParenthesized<'t, 'a>>
-        ensures { MatchOption result (IsShaped tree.now (g.ref k.TupleType) → ⊥) (λ x. tree.now ≡ type_parenthesized x) }
+        ensures { MatchOption result (IsShaped tree.now (g.ref k.TupleType) → ⊥)
+            (λ x. tree.now ≡ type_parenthesized x) }
     {
         let Some((Kind::TupleType, inner)) = take::node(tree) else {
             return None;
@@ -419,7 +426,8 @@ impl<'t, 'a> TypeTraitObject<'t, 'a> {
     // With + between them.
     #[tactic(auto, unfolding(syn_grammar::specs::Table::table))]
     fn with_plus(tree: &'t Tree<'a>) -> Option<TypeTraitObject<'t, 'a>>
-        ensures { MatchOption result (IsShaped tree.now (g.ref (k.DynType k.WithPlus)) → ⊥) (λ x. tree.now ≡ type_trait_object x) }
+        ensures { MatchOption result (IsShaped tree.now (g.ref (k.DynType k.WithPlus)) → ⊥)
+            (λ x. tree.now ≡ type_trait_object x) }
     {
         let Some((Kind::DynType(Plus::WithPlus), inner)) = take::node(tree) else {
             return None;
@@ -443,7 +451,8 @@ impl<'t, 'a> TypeTraitObject<'t, 'a> {
     // Without.
     #[tactic(auto, unfolding(syn_grammar::specs::Table::table))]
     fn without_plus(tree: &'t Tree<'a>) -> Option<TypeTraitObject<'t, 'a>>
-        ensures { MatchOption result (IsShaped tree.now (g.ref (k.DynType k.WithoutPlus)) → ⊥) (λ x. tree.now ≡ type_trait_object x) }
+        ensures { MatchOption result (IsShaped tree.now (g.ref (k.DynType k.WithoutPlus)) → ⊥)
+            (λ x. tree.now ≡ type_trait_object x) }
     {
         let Some((Kind::DynType(Plus::WithoutPlus), inner)) = take::node(tree) else {
             return None;
@@ -467,7 +476,8 @@ impl<'t, 'a> TypeTraitObject<'t, 'a> {
     /// What a tree is, if it is that.
     #[tactic(auto, using(crate::proofs::TypeForms::either_plus_DynType))]
     pub fn of(tree: &'t Tree<'a>) -> Option<TypeTraitObject<'t, 'a>>
-        ensures { MatchOption result ((p : k.Plus) → IsShaped tree.now (g.ref (k.DynType p)) → ⊥) (λ x. tree.now ≡ type_trait_object x) }
+        ensures { MatchOption result ((p : k.Plus) → IsShaped tree.now (g.ref (k.DynType p)) → ⊥)
+            (λ x. tree.now ≡ type_trait_object x) }
     {
         match TypeTraitObject::with_plus(tree) {
             Some(found) => Some(found),
@@ -491,7 +501,8 @@ impl<'t, 'a> TypeImplTrait<'t, 'a> {
     // With + between them.
     #[tactic(auto, unfolding(syn_grammar::specs::Table::table))]
     fn with_plus(tree: &'t Tree<'a>) -> Option<TypeImplTrait<'t, 'a>>
-        ensures { MatchOption result (IsShaped tree.now (g.ref (k.ImplType k.WithPlus)) → ⊥) (λ x. tree.now ≡ type_impl_trait x) }
+        ensures { MatchOption result (IsShaped tree.now (g.ref (k.ImplType k.WithPlus)) → ⊥)
+            (λ x. tree.now ≡ type_impl_trait x) }
     {
         let Some((Kind::ImplType(Plus::WithPlus), inner)) = take::node(tree) else {
             return None;
@@ -515,7 +526,8 @@ impl<'t, 'a> TypeImplTrait<'t, 'a> {
     // Without.
     #[tactic(auto, unfolding(syn_grammar::specs::Table::table))]
     fn without_plus(tree: &'t Tree<'a>) -> Option<TypeImplTrait<'t, 'a>>
-        ensures { MatchOption result (IsShaped tree.now (g.ref (k.ImplType k.WithoutPlus)) → ⊥) (λ x. tree.now ≡ type_impl_trait x) }
+        ensures { MatchOption result (IsShaped tree.now (g.ref (k.ImplType k.WithoutPlus)) → ⊥)
+            (λ x. tree.now ≡ type_impl_trait x) }
     {
         let Some((Kind::ImplType(Plus::WithoutPlus), inner)) = take::node(tree) else {
             return None;
@@ -539,7 +551,8 @@ impl<'t, 'a> TypeImplTrait<'t, 'a> {
     /// What a tree is, if it is that.
     #[tactic(auto, using(crate::proofs::TypeForms::either_plus_ImplType))]
     pub fn of(tree: &'t Tree<'a>) -> Option<TypeImplTrait<'t, 'a>>
-        ensures { MatchOption result ((p : k.Plus) → IsShaped tree.now (g.ref (k.ImplType p)) → ⊥) (λ x. tree.now ≡ type_impl_trait x) }
+        ensures { MatchOption result ((p : k.Plus) → IsShaped tree.now (g.ref (k.ImplType p)) → ⊥)
+            (λ x. tree.now ≡ type_impl_trait x) }
     {
         match TypeImplTrait::with_plus(tree) {
             Some(found) => Some(found),
@@ -570,7 +583,8 @@ impl<'t, 'a> TypePath<'t, 'a> {
     /// What a tree is, if it is that.
     #[tactic(auto, unfolding(syn_grammar::specs::Table::table))]
     pub fn of(tree: &'t Tree<'a>) -> Option<TypePath<'t, 'a>>
-        ensures { MatchOption result ((s : k.Style) → IsShaped tree.now (g.ref (k.AnyPath s)) → ⊥) (λ x. tree.now ≡ type_path x) }
+        ensures { MatchOption result ((s : k.Style) → IsShaped tree.now (g.ref (k.AnyPath s)) → ⊥)
+            (λ x. tree.now ≡ type_path x) }
     {
         let Some((Kind::AnyPath(style), inner)) = take::node(tree) else {
             return None;
@@ -711,7 +725,8 @@ impl<'t, 'a> Type<'t, 'a> {
 
     // The type that a form of one is.
     fn of_form(tree: &'t Tree<'a>) -> Option<Type<'t, 'a>>
-        ensures { MatchOption result ((p : k.Plus) → IsAmong tree.now (type_entry p) → ⊥) (λ x. tree.now ≡ type_tree x) }
+        ensures { MatchOption result ((p : k.Plus) → IsAmong tree.now (type_entry p) → ⊥)
+            (λ x. tree.now ≡ type_tree x) }
     {
         if let Some(found) = TypeParenthesized::of(tree) {
             return Some(tuple_or_paren(found));
