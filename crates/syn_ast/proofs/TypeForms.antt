@@ -1,5 +1,5 @@
--- What a type with bounds is, whether or not a + may stand in it; and that a tree which is none of the forms of a type is
--- no type.
+-- What a type with bounds is, whether or not a + may stand in it; and that a tree which is none of the forms of a type
+-- is no type.
 use Rattle.std.specs.Prelude.{◌≡◌}
 use Rattle.std.proofs.Common.{subst}
 use Rattle.syn_grammar.specs.Kind as k

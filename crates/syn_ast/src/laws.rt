@@ -7,8 +7,8 @@ ghost use Rattle.syn_grammar.specs.Derives.{Derives};
 ghost use Rattle.syn_grammar.specs.Gram as g;
 ghost use Rattle.syn_grammar.specs.Tree as t;
 
-/// What was read has the shape of its entry. So where a tree was read as a form of its kind, each function of this crate
-/// that asks what it is finds it.
+/// What was read has the shape of its entry. So where a tree was read as a form of its kind, each function of this
+/// crate that asks what it is finds it.
 #[tactic(auto, using(crate::proofs::Derived::shaped))]
 pub fn read_are_shaped()
     ensures { (x : t.Tree) (a : g.Gram) (rest : List Token) → Derives x a rest → IsShaped x a }
