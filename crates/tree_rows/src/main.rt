@@ -1,0 +1,65 @@
+//! Expressions that are built by hand, and what is put round their operands: each is printed, read again, and is up to
+//! parentheses the one that was built.
+//!
+//! The standard input has rows: a position and an expression, in which an operand that was put there by hand stands
+//! between `‹` and `›`. What is wanted comes from the rules, and stands beside the rows in `stdout`. Behind them stands
+//! what is answered for the table of forms, of which each is put into each.
+//!
+//! - `text`: texts, and the tokens that they lend.
+//! - `built`: trees, made of what is read of texts.
+//! - `facts`: what is kept of an operand that is written.
+//! - `written`: the tokens of a tree that was built, with the parentheses that it needs.
+//! - `shape`: what a tree is, up to parentheses.
+//! - `judged`: what is wrong with what is printed of a tree.
+//! - `forms`: the table of forms.
+//! - `tables`: each form in each.
+#![tactic(auto)]
+
+mod built;
+mod facts;
+mod forms;
+mod judged;
+mod shape;
+mod tables;
+mod text;
+mod written;
+
+use crate::judged::judged;
+use anyhow::{Result, anyhow};
+use rows::{Row, Table, answered, write};
+use std::alloc::Global;
+use std::io::{Read, Write};
+use syn::Position;
+
+struct Rows;
+
+// The position that a row names.
+fn position_of(name: &str) -> Option<Position> {
+    Some(match name {
+        "plain" => Position::Plain,
+        "condition" => Position::InCondition,
+        "arm" => Position::InArm,
+        "statement" => Position::InStatement,
+        _ => return None,
+    })
+}
+
+impl Table for Rows {
+    fn answer(&self, alloc: Global, row: &Row) -> Result<String> {
+        let position = position_of(row.call).ok_or(anyhow!("no such position"))?;
+        let found = judged(alloc, row.text.as_str(), &[position])?;
+        match found.wrong {
+            None => write(alloc, found.printed.as_str()),
+            Some(wrong) => Ok(wrong),
+        }
+    }
+}
+
+fn main(rt: HostRuntime) -> Result<()> {
+    let mut lines = String::new(rt.alloc());
+    rt.reader().read_to_string(&mut lines)?;
+    let mut answers = answered(rt.alloc(), &Rows, lines.as_str())?;
+    tables::put(rt.alloc(), &mut answers)?;
+    rt.stdout().write_all(answers.as_bytes())?;
+    Ok(())
+}
