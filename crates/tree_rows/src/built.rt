@@ -18,7 +18,7 @@ fn form_of<'a>(tree: Tree<'a>) -> Result<Tree<'a>> {
 }
 
 // The form that all tokens of a buffer are.
-fn form_read<'a>(alloc: Global, buffer: &'a TokenBuffer<'a>) -> Result<Tree<'a>> {
+fn form_read<'a>(alloc: Global, buffer: &'a TokenBuffer<'_>) -> Result<Tree<'a>> {
     match parse_as(alloc, Kind::Expression(Position::Plain), buffer) {
         Ok(tree) => form_of(tree),
         Err(ParseFault::Syntax(error)) => Err(anyhow!("refused: {error}")),
@@ -82,7 +82,7 @@ fn filled<'a>(
 }
 
 /// The form that is built of texts, of which the first is the outermost.
-pub(crate) fn built<'a>(alloc: Global, buffers: &'a [TokenBuffer<'a>]) -> Result<Tree<'a>> {
+pub(crate) fn built<'a>(alloc: Global, buffers: &'a [TokenBuffer<'_>]) -> Result<Tree<'a>> {
     let mut all = Vec::new(alloc);
     for _ in buffers {
         all.push(None)?;

@@ -7,11 +7,11 @@ use crate::written::{behind, written};
 use anyhow::{Result, anyhow};
 use std::alloc::Global;
 use syn::parse::parse_front;
-use syn::{Kind, ParseFault, Position, TokenBuffer, Tree};
+use syn::{Kind, ParseFault, Position, TokenBuffer, TokenStream, Tree};
 
 /// What is found of an expression that was built.
 #[derive(Drop)]
-pub(crate) struct Judged {
+pub(crate) struct Finding {
     /// Its print, in the last position.
     pub(crate) printed: String,
     /// In how many of the positions it gains parentheses.
@@ -22,7 +22,7 @@ pub(crate) struct Judged {
 
 // What is read of a text: its forms, and its print, as it is written of what was read and of what was built.
 #[derive(Drop)]
-struct Seen {
+struct Reading {
     shape: String,
     as_read: String,
     as_built: String,
@@ -42,37 +42,70 @@ fn shape(alloc: Global, form: &Tree<'_>) -> Result<String> {
 }
 
 // What is seen of an expression that was read.
-fn seen(alloc: Global, position: Position, tree: &Tree<'_>) -> Result<Seen> {
+fn seen(alloc: Global, position: Position, tree: &Tree<'_>) -> Result<Reading> {
     let form = form_of(tree)?;
-    Ok(Seen {
+    Ok(Reading {
         shape: shape(alloc, form)?,
         as_read: printed(alloc, tree)?,
         as_built: written(alloc, position, form)?,
     })
 }
 
-// What is read of a buffer in a position, if so many tokens are left.
-fn seen_before(
+// What is read of a buffer in a position, if all but what stands behind a whole expression is.
+fn whole<'a>(
     alloc: Global,
     position: Position,
-    buffer: &TokenBuffer<'_>,
-    left: usize,
-) -> Result<Option<Seen>> {
+    buffer: &'a TokenBuffer<'a>,
+) -> Result<Option<Tree<'a>>> {
+    let left = if behind(position).is_empty() { 0 } else { 2 };
     match parse_front(alloc, Kind::Expression(position), buffer) {
-        Ok((tree, rest)) if rest.len() == left => Ok(Some(seen(alloc, position, &tree)?)),
+        Ok((tree, rest)) if rest.len() == left => Ok(Some(tree)),
         Ok(_) | Err(ParseFault::Syntax(_)) => Ok(None),
         Err(ParseFault::Memory) => Err(anyhow!("out of memory")),
     }
 }
 
-// What is read of a text in a position, if all of it is.
-fn read(alloc: Global, position: Position, text: &str) -> Result<Option<Seen>> {
+// The tokens of a text in a position, with what stands behind it.
+fn placed(alloc: Global, position: Position, text: &str) -> Result<TokenStream> {
     let behind = behind(position);
-    let left = if behind.is_empty() { 0 } else { 2 };
     let whole = format!(in alloc; "{text} {behind}")?;
-    let stream = stream(alloc, whole.as_str())?;
+    stream(alloc, whole.as_str())
+}
+
+// What is seen of a buffer in a position, if all of it is read.
+fn seen_of(alloc: Global, position: Position, buffer: &TokenBuffer<'_>) -> Result<Option<Reading>> {
+    let Some(tree) = whole(alloc, position, buffer)? else {
+        return Ok(None);
+    };
+    Ok(Some(seen(alloc, position, &tree)?))
+}
+
+// What is read of a text in a position, if all of it is.
+fn read(alloc: Global, position: Position, text: &str) -> Result<Option<Reading>> {
+    let stream = placed(alloc, position, text)?;
     let buffer = TokenBuffer::new2(alloc, &stream, 1)?;
-    seen_before(alloc, position, &buffer, left)
+    seen_of(alloc, position, &buffer)
+}
+
+// Whether all of a buffer is read in a position, with these forms.
+fn is_same_of(
+    alloc: Global,
+    position: Position,
+    wanted: &str,
+    buffer: &TokenBuffer<'_>,
+) -> Result<bool> {
+    let Some(tree) = whole(alloc, position, buffer)? else {
+        return Ok(false);
+    };
+    let found = shape(alloc, form_of(&tree)?)?;
+    Ok(found.as_str() == wanted)
+}
+
+// Whether all of a text is read in a position, with these forms.
+fn is_same(alloc: Global, position: Position, wanted: &str, text: &str) -> Result<bool> {
+    let stream = placed(alloc, position, text)?;
+    let buffer = TokenBuffer::new2(alloc, &stream, 1)?;
+    is_same_of(alloc, position, wanted, &buffer)
 }
 
 // How many parentheses a text opens.
@@ -80,54 +113,36 @@ fn opened(text: &str) -> usize {
     text.chars().filter(|c| *c == '(').count()
 }
 
-// A text without some parentheses, and whether these stand at the end of others.
-#[derive(Drop)]
-struct Less {
-    text: String,
-    at_end: bool,
-}
-
-// A text without the parentheses of which so many are opened before.
-fn without(alloc: Global, text: &str, number: usize) -> Result<Less> {
+// A text without some parentheses that stand in no others: those of which so many are opened before. None where there
+// are no such.
+fn without(alloc: Global, text: &str, number: usize) -> Result<Option<String>> {
     let mut out = String::new(alloc);
     let (mut before, mut depth) = (0usize, 0usize);
-    let (mut open_at, mut is_behind, mut at_end) = (None, false, false);
     for c in text.chars() {
         if c == ')' {
             depth = depth.saturating_sub(1);
         }
-        let is_one = match c {
-            '(' => before == number,
-            ')' => open_at == Some(depth),
-            _ => false,
-        };
-        at_end = at_end || (is_behind && c == ')');
-        is_behind = is_one && c == ')';
+        let is_outer = depth == 0 && (c == '(' || c == ')');
+        if is_outer && c == '(' {
+            before = before.saturating_add(1);
+        }
+        let is_one = is_outer && before == number;
         out.push(if is_one { ' ' } else { c })?;
         if c == '(' {
-            if is_one {
-                open_at = Some(depth);
-            }
-            before = before.saturating_add(1);
             depth = depth.saturating_add(1);
-        } else if is_one {
-            open_at = None;
         }
     }
-    Ok(Less { text: out, at_end })
+    Ok(if before < number { None } else { Some(out) })
 }
 
-// How many parentheses of a text can be left out, each by itself, with the same expression read: of those that don't
-// stand at the end of others. Those do it by what follows the others, from which these part them.
+// How many parentheses of a text can be left out, each by itself, with the same expression read: of those that stand in
+// no others, since those within are decided as if the others weren't there.
 fn spare(alloc: Global, position: Position, shape: &str, text: &str) -> Result<usize> {
     let mut spare = 0usize;
     for number in 0..opened(text) {
-        let less = without(alloc, text, number)?;
-        if !less.at_end {
-            if let Some(seen) = read(alloc, position, less.text.as_str())? {
-                if seen.shape.as_str() == shape {
-                    spare = spare.saturating_add(1);
-                }
+        if let Some(less) = without(alloc, text, number.saturating_add(1))? {
+            if is_same(alloc, position, shape, less.as_str())? {
+                spare = spare.saturating_add(1);
             }
         }
     }
@@ -139,6 +154,11 @@ fn may_shelter(text: &str) -> bool {
     text.contains('#') && text.contains("..")
 }
 
+// What is said of a print.
+fn said(alloc: Global, what: &str, text: &str) -> Result<Option<String>> {
+    Ok(Some(format!(in alloc; "{what}: {text}")?))
+}
+
 // What is wrong with the print of an expression, of which so many parentheses may be left out.
 fn fault(
     alloc: Global,
@@ -147,16 +167,19 @@ fn fault(
     text: &str,
     own: usize,
 ) -> Result<Option<String>> {
-    let what = match read(alloc, position, text)? {
-        None => "not read again",
-        Some(seen) if seen.shape.as_str() != shape => "read as another",
-        Some(seen) if seen.as_read.as_str() != text => "written otherwise as it was read",
-        Some(seen) if seen.as_built.as_str() != text => "written otherwise once more",
-        Some(_) if !may_shelter(text) && spare(alloc, position, shape, text)? > own =>
-            "with parentheses that it doesn't need",
-        Some(_) => return Ok(None),
+    let Some(seen) = read(alloc, position, text)? else {
+        return said(alloc, "not read again", text);
     };
-    Ok(Some(format!(in alloc; "{what}: {text}")?))
+    if seen.shape.as_str() != shape {
+        return said(alloc, "read as another", text);
+    }
+    if seen.as_read.as_str() != text || seen.as_built.as_str() != text {
+        return said(alloc, "written otherwise as it was read", text);
+    }
+    if !may_shelter(text) && spare(alloc, position, shape, text)? > own {
+        return said(alloc, "with parentheses that it doesn't need", text);
+    }
+    Ok(None)
 }
 
 // How many atoms of a text are expressions in parentheses.
@@ -164,35 +187,39 @@ fn own_parentheses(text: &str) -> usize {
     text.matches("(c)").count()
 }
 
+// What is found of an expression that is built of these buffers, which are a text's.
+fn found(
+    alloc: Global,
+    text: &str,
+    buffers: &[TokenBuffer<'_>],
+    positions: &[Position],
+) -> Result<Finding> {
+    let tree = built(alloc, buffers)?;
+    let wanted = shape(alloc, &tree)?;
+    let (own, before) = (own_parentheses(text), opened(text));
+    let (mut print, mut gaining, mut wrong) = (String::new(alloc), 0usize, None);
+    for position in positions {
+        print = written(alloc, *position, &tree)?;
+        if opened(print.as_str()) > before {
+            gaining = gaining.saturating_add(1);
+        }
+        if wrong.is_none() {
+            wrong = fault(alloc, *position, wanted.as_str(), print.as_str(), own)?;
+        }
+    }
+    Ok(Finding {
+        printed: print,
+        gaining,
+        wrong,
+    })
+}
+
 /// What is found of an expression that is built of a text.
-pub(crate) fn judged(alloc: Global, text: &str, positions: &[Position]) -> Result<Judged> {
+pub(crate) fn judged(alloc: Global, text: &str, positions: &[Position]) -> Result<Finding> {
     let texts = texts(alloc, text)?;
     let streams = streams(alloc, texts.as_slice())?;
     let buffers = buffers(alloc, streams.as_slice())?;
-    let tree = built(alloc, buffers.as_slice())?;
-    let wanted = shape(alloc, &tree)?;
-    let (own, before) = (own_parentheses(text), opened(text));
-    let mut found = Judged {
-        printed: String::new(alloc),
-        gaining: 0,
-        wrong: None,
-    };
-    for position in positions {
-        found.printed = written(alloc, *position, &tree)?;
-        if opened(found.printed.as_str()) > before {
-            found.gaining = found.gaining.saturating_add(1);
-        }
-        if found.wrong.is_none() {
-            found.wrong = fault(
-                alloc,
-                *position,
-                wanted.as_str(),
-                found.printed.as_str(),
-                own,
-            )?;
-        }
-    }
-    Ok(found)
+    found(alloc, text, buffers.as_slice(), positions)
 }
 
 // What is wrong with the print of an expression that is read of a text: it gains no parentheses, unless a range stands

@@ -24,7 +24,7 @@ mod tables;
 mod text;
 mod written;
 
-use crate::judged::judged;
+use crate::judged::{Finding, judged};
 use anyhow::{Result, anyhow};
 use rows::{Row, Table, answered, write};
 use std::alloc::Global;
@@ -47,9 +47,9 @@ fn position_of(name: &str) -> Option<Position> {
 impl Table for Rows {
     fn answer(&self, alloc: Global, row: &Row) -> Result<String> {
         let position = position_of(row.call).ok_or(anyhow!("no such position"))?;
-        let found = judged(alloc, row.text.as_str(), &[position])?;
-        match found.wrong {
-            None => write(alloc, found.printed.as_str()),
+        let Finding { printed, wrong, .. } = judged(alloc, row.text.as_str(), &[position])?;
+        match wrong {
+            None => write(alloc, printed.as_str()),
             Some(wrong) => Ok(wrong),
         }
     }

@@ -21,7 +21,7 @@ use syn::{Form, Kind, Part, Position, Three, Tree, Two};
 
 /// An operand that is written: its tokens, and what is kept of it.
 #[derive(Drop)]
-pub(crate) struct Written<'a> {
+pub(crate) struct Operand<'a> {
     /// Its tokens.
     pub(crate) pieces: Vec<Piece<'a>>,
     facts: Facts,
@@ -51,13 +51,13 @@ fn joined<'a>(front: Vec<Piece<'a>>, back: &[Piece<'a>]) -> Result<Vec<Piece<'a>
 }
 
 // The same, or in parentheses.
-fn in_parens_unless<'a>(alloc: Global, stays: bool, operand: Written<'a>) -> Result<Written<'a>> {
+fn in_parens_unless<'a>(alloc: Global, stays: bool, operand: Operand<'a>) -> Result<Operand<'a>> {
     if stays {
         return Ok(operand);
     }
     let open = vec![in alloc; Piece::Open(Delimiter::Parenthesis)]?;
     let pieces = joined(open, operand.pieces.as_slice())?;
-    Ok(Written {
+    Ok(Operand {
         pieces: joined(pieces, &[Piece::Close(Delimiter::Parenthesis)])?,
         facts: IN_PARENTHESES,
     })
@@ -95,12 +95,15 @@ fn is_taken(
     position: Position,
     kind: Kind,
     own: &Tree<'_>,
-    operand: &str,
+    operand: &[Piece<'_>],
 ) -> Result<bool> {
+    if !may_lack(kind) {
+        return Ok(true);
+    }
+    let text = print(alloc, operand)?;
     Ok(
-        !may_lack(kind)
-            || (has_right(alloc, position, kind, operand)?
-                && !is_label(alloc, kind, own, operand)?),
+        has_right(alloc, position, kind, text.as_str())?
+            && !is_label(alloc, kind, own, text.as_str())?,
     )
 }
 
@@ -110,12 +113,11 @@ fn stays_right(
     position: Position,
     kind: Kind,
     own: &Tree<'_>,
-    right: &Written<'_>,
+    right: &Operand<'_>,
 ) -> Result<bool> {
-    let text = print(alloc, right.pieces.as_slice())?;
     Ok(
         lowest(level(kind)) <= right.facts.least
-            && is_taken(alloc, position, kind, own, text.as_str())?
+            && is_taken(alloc, position, kind, own, right.pieces.as_slice())?
             && !(matches!(kind, Kind::ExprAttributed) && right.facts.range),
     )
 }
@@ -185,8 +187,8 @@ fn alone<'a>(
     tree: &Tree<'a>,
     own: &Tree<'a>,
     kind: Kind,
-) -> Result<Written<'a>> {
-    let written = Written {
+) -> Result<Operand<'a>> {
+    let written = Operand {
         pieces: own_pieces(alloc, own)?,
         facts: facts::alone(kind, is_block_like(tree), is_brace_macro(tree)),
     };
@@ -195,7 +197,7 @@ fn alone<'a>(
 
 // A form with an operand behind it. A let begins no statement.
 #[cycle(written)]
-fn front<'a>(two: &Two<'a>, alloc: Global, spot: Spot<'_>, kind: Kind) -> Result<Written<'a>> {
+fn front<'a>(two: &Two<'a>, alloc: Global, spot: Spot<'_>, kind: Kind) -> Result<Operand<'a>> {
     let within = Spot {
         position: inside(spot.position, kind),
         ..spot
@@ -203,7 +205,7 @@ fn front<'a>(two: &Two<'a>, alloc: Global, spot: Spot<'_>, kind: Kind) -> Result
     let right = form_in(&two.back, alloc, within)?;
     let stays = stays_right(alloc, spot.position, kind, &two.front, &right)?;
     let right = in_parens_unless(alloc, stays, right)?;
-    let written = Written {
+    let written = Operand {
         pieces: joined(own_pieces(alloc, &two.front)?, right.pieces.as_slice())?,
         facts: facts::front(kind, right.facts),
     };
@@ -222,7 +224,7 @@ fn left<'a>(
     position: Position,
     kind: Kind,
     own: &[Piece<'a>],
-) -> Result<Written<'a>> {
+) -> Result<Operand<'a>> {
     let text = print(alloc, own)?;
     let behind = follow(text.as_str());
     let operand = form_in(tree, alloc, Spot { position, behind })?;
@@ -232,11 +234,11 @@ fn left<'a>(
 
 // A form with an operand before it. A struct stands in no condition.
 #[cycle(written)]
-fn back<'a>(two: &Two<'a>, alloc: Global, spot: Spot<'_>, kind: Kind) -> Result<Written<'a>> {
+fn back<'a>(two: &Two<'a>, alloc: Global, spot: Spot<'_>, kind: Kind) -> Result<Operand<'a>> {
     let own = own_pieces(alloc, &two.back)?;
     let operand = left(&two.front, alloc, spot.position, kind, own.as_slice())?;
     let last = last_of(kind, &two.back, own.as_slice());
-    let written = Written {
+    let written = Operand {
         facts: facts::back(operand.facts, kind, last),
         pieces: joined(operand.pieces, own.as_slice())?,
     };
@@ -250,7 +252,7 @@ fn back<'a>(two: &Two<'a>, alloc: Global, spot: Spot<'_>, kind: Kind) -> Result<
 
 // A form with both.
 #[cycle(written)]
-fn infix<'a>(three: &Three<'a>, alloc: Global, spot: Spot<'_>, kind: Kind) -> Result<Written<'a>> {
+fn infix<'a>(three: &Three<'a>, alloc: Global, spot: Spot<'_>, kind: Kind) -> Result<Operand<'a>> {
     let own = own_pieces(alloc, &three.own)?;
     let before = left(&three.left, alloc, spot.position, kind, own.as_slice())?;
     let within = Spot {
@@ -262,7 +264,7 @@ fn infix<'a>(three: &Three<'a>, alloc: Global, spot: Spot<'_>, kind: Kind) -> Re
     let right = in_parens_unless(alloc, stays, right)?;
     let facts = facts::infix(before.facts, kind, right.facts);
     let pieces = joined(before.pieces, own.as_slice())?;
-    Ok(Written {
+    Ok(Operand {
         pieces: joined(pieces, right.pieces.as_slice())?,
         facts,
     })
@@ -270,7 +272,7 @@ fn infix<'a>(three: &Three<'a>, alloc: Global, spot: Spot<'_>, kind: Kind) -> Re
 
 // A form, where it stands.
 #[cycle(written)]
-fn form_in<'a>(tree: &Tree<'a>, alloc: Global, spot: Spot<'_>) -> Result<Written<'a>> {
+fn form_in<'a>(tree: &Tree<'a>, alloc: Global, spot: Spot<'_>) -> Result<Operand<'a>> {
     match &tree.form {
         Form::Alone(kind, own) => alone(alloc, spot, tree, own, *kind),
         Form::Front(kind, two) => front(two, alloc, spot, *kind),
