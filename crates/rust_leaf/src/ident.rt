@@ -11,7 +11,7 @@ ghost use Rattle.std.specs.Cmp.Lexicographic.{texts_po, texts_ties};
 ghost use Rattle.std.specs.Hash as fed;
 ghost use Rattle.std.specs.Ordering.{nat_cmp};
 ghost use Rattle.std.specs.Prelude.{◌≡◌, ◌++◌, ◌==◌, IfErr, IfOk, OnOk, Option, None, Some, IsTrue, codes};
-ghost use Rattle.std.specs.Prelude.{encode_utf8_all, ◌↔◌};
+ghost use Rattle.std.specs.Prelude.{encode_utf8_all, length, ◌↔◌};
 ghost use Rattle.std.specs.List.{list_all};
 ghost use Rattle.std.specs.Str.{bytes_eq, chars};
 ghost use Rattle.unicode_ident.specs.Ident.{is_xid_continue};
@@ -176,6 +176,14 @@ impl Ident {
         ensures text_stays { ident_text self.new ≡ ident_text self.old }
     {
         self.span = span;
+    }
+
+    /// How many bytes the identifier is printed as, a raw one with its `r#`.
+    #[tactic(auto, using(crate::proofs::Texts::printed_leaf))]
+    pub fn len(&self) -> usize
+        ensures { result ≡ length (encode_utf8_all (ident_text self.now)) }
+    {
+        self.text.as_str().len()
     }
 
     /// Whether the identifier is printed as `text`. A raw one is printed with its `r#`.
