@@ -66,7 +66,7 @@ rest_ascii [] e i = omega arith
 rest_ascii (c ∷ cs) e zero = ltb-true c 128 (and_true _ _ (and_true _ _ e).0).0
 rest_ascii (c ∷ cs) e (suc i) = rest_ascii cs (and_true _ _ e).1 i
 
-plain_ascii : (cs : List ℕ) → is_plain cs ≡ true → IsAscii cs
+pub plain_ascii : (cs : List ℕ) → is_plain cs ≡ true → IsAscii cs
 plain_ascii [] e i = cc
 plain_ascii (c ∷ cs) e zero = ltb-true c 128 (and_true _ _ (and_true _ _ e).0).0
 plain_ascii (c ∷ cs) e (suc i) = rest_ascii cs (and_true _ _ e).1 i
@@ -74,7 +74,7 @@ plain_ascii (c ∷ cs) e (suc i) = rest_ascii cs (and_true _ _ e).1 i
 words_are_plain : list_all is_plain words ≡ true
 words_are_plain = refl
 
-word_is_plain : (kind : ℕ) → is_plain (word kind) ≡ true
+pub word_is_plain : (kind : ℕ) → is_plain (word kind) ≡ true
 unfolding word
 word_is_plain kind = row_passes is_plain words (codes "union") kind words_are_plain refl
 

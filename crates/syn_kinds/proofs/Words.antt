@@ -5,8 +5,11 @@ use Rattle.std.specs.List.{list_any}
 use Rattle.std.specs.Str.{bytes_eq, chars}
 use Rattle.std.proofs.lemmas.List.{at_drop_more, drop_all, get_or-take, get_or_default}
 use Rattle.std.proofs.lemmas.Slice.Eq.{bytes_eq-Decides}
-use Rattle.syn_kinds.proofs.Rows.{word_chars}
-use Rattle.syn_kinds.specs.Table.{kept_words, same_text, word, words}
+use Rattle.std.specs.Prelude.{◌-◌, ◌∷◌, encode_utf8_all}
+use Rattle.std.proofs.Common.{length-append}
+use Rattle.std.proofs.lemmas.Str.{encodes-IsAscii}
+use Rattle.syn_kinds.proofs.Rows.{plain_ascii, word_chars, word_is_plain}
+use Rattle.syn_kinds.specs.Table.{kept_words, quoted, same_text, word, words}
 
 both_ways : (a b : Bool) → (a ≡ true → b ≡ true) → (b ≡ true → a ≡ true) → a ≡ b
 both_ways true b f g = sym (f refl)
@@ -55,3 +58,23 @@ pub word_tested : (b tested : Bool) (row cs : List ℕ) (kind : ℕ) → row ≡
     → tested ≡ b → same_text (word kind) cs ≡ b
 word_tested b tested row cs kind is_row is_test e =
     ap (λ w. same_text w cs) (sym (word_chars kind)) ∙ ap (λ w. same_text (chars w) cs) (sym is_row) ∙ sym is_test ∙ e
+
+quoted_length : (cs : List ℕ) → length (quoted cs) - 2 ≡ length cs
+quoted_length cs = omega (arith, length-append cs (96 ∷ []))
+
+same_length : (kind : ℕ) (cs : List ℕ) → same_text (word kind) cs ≡ true
+    → length (word kind) ≡ length (encode_utf8_all cs)
+same_length kind cs same =
+    ap length (sym (encodes-IsAscii (word kind) (plain_ascii (word kind) (word_is_plain kind))))
+    ∙ ap (λ ds. length (encode_utf8_all ds)) ((bytes_eq-Decides (word kind) cs).0 same)
+
+never_true : (b : Bool) → (b ≡ true → ⊥) → false ≡ b
+never_true true never = absurd (never refl)
+never_true false never = refl
+
+-- an identifier of another length is not that word
+pub other_length : (kind n : ℕ) (row cs : List ℕ) → row ≡ quoted (word kind) → n ≡ length (encode_utf8_all cs)
+    → (length row - 2 ≡ n → ⊥) → false ≡ same_text (word kind) cs
+other_length kind n row cs is_row is_length differ =
+    never_true (same_text (word kind) cs) (λ same. differ (ap (λ r. length r - 2) is_row ∙ quoted_length (word kind)
+    ∙ same_length kind cs same ∙ sym is_length))

@@ -127,12 +127,23 @@ fn is_word(ident: &Ident, word: &str) -> bool
     ident.is_text(word)
 }
 
+// Whether an identifier is printed as a keyword. Its length is looked at first, since most words have another.
+fn is_keyword(ident: &Ident, kind: usize) -> bool
+    ensures { result ≡ same_text (word kind) (ident_text ident.now) }
+{
+    if word_row(kind).len() - 2 == ident.len() {
+        is_word(ident, word(kind))
+    } else {
+        false
+    }
+}
+
 // Whether an identifier is one of the words that are no names.
 fn is_kept(ident: &Ident) -> bool
     ensures { result ≡ list_any (λ word. same_text word (ident_text ident.now)) kept_words }
 {
     for kind in 0..KEPT {
-        if is_word(ident, word(kind)) {
+        if is_keyword(ident, kind) {
             return true;
         }
     }
