@@ -4,12 +4,10 @@
 //! - `parse`: what is read and printed of syntax.
 //! - `lists`: lists that grow, are copied and are read, and errors that are put together.
 //! - `leaf`: literals and operators.
-//! - `nodes`: nodes that are read, copied and printed.
 #![tactic(auto)]
 
 mod leaf;
 mod lists;
-mod nodes;
 mod parse;
 
 use std::io::Write;
@@ -21,7 +19,6 @@ fn run(rt: &HostRuntime) -> Result<(), Stop> {
     answer.push_str(parse::answered(rt.alloc())?.as_str())?;
     answer.push_str(lists::answered(rt.alloc())?.as_str())?;
     answer.push_str(leaf::answered(rt.alloc())?.as_str())?;
-    answer.push_str(nodes::answered(rt.alloc())?.as_str())?;
     let written = rt.stdout().write_all(answer.as_bytes());
     written.map_err(|_| Stop::Elsewhere)
 }

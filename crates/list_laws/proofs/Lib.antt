@@ -1,3 +1,4 @@
+pub mod Leaves
 pub mod ChainRead
 pub mod ManyRead
 pub mod MarksBack

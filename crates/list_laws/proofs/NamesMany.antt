@@ -14,8 +14,8 @@ use Rattle.syn_peek.specs.Marks.{ReadsMarks}
 use Rattle.syn_grammar.specs.Look.{past_marks, seen, sees}
 use Rattle.syn_grammar.specs.Ranks.{top}
 use Rattle.syn_grammar.specs.Say.{ident}
-use Rattle.syn_shape.specs.Leaves.{mark_of}
-use Rattle.syn_shape.proofs.Leaves.{ident_none, ident_read, marks_none, marks_read}
+use Rattle.list_laws.specs.Leaves.{mark_of}
+use Rattle.list_laws.proofs.Leaves.{ident_none, ident_read, marks_none, marks_read}
 use Rattle.list_laws.specs.Chain.{others_of}
 use Rattle.list_laws.specs.Many.{IsEntry, IsListable, IsSeparator, name_tree}
 

@@ -1,3 +1,4 @@
+pub mod Leaves
 pub mod Chain
 pub mod Many
 pub mod ReadBack

@@ -12,7 +12,7 @@ ghost use Rattle.syn_grammar.specs.Say.{ident};
 ghost use Rattle.syn_grammar.specs.Tree.{Tree};
 ghost use Rattle.syn_input.specs.Input.{rest};
 ghost use Rattle.syn_lists.specs.Lists.{separators, values};
-ghost use Rattle.syn_shape.specs.Leaves.{mark_of};
+ghost use Rattle.list_laws.specs.Leaves.{mark_of};
 ghost use Rattle.syn_read_lists.specs.ReadMany.{ReadsBy, ReadsMany, RefusesBy, StopsMany};
 
 use rust_leaf::ident::Ident;

@@ -6,7 +6,7 @@ use Rattle.syn_kinds.specs.Stands.{marks_stand}
 use Rattle.syn_kinds.specs.Table.{marks}
 use Rattle.syn_lists.specs.Lists.{separators, values}
 use Rattle.list_laws.specs.Chain.{others_of}
-use Rattle.syn_shape.specs.Leaves.{mark_of}
+use Rattle.list_laws.specs.Leaves.{mark_of}
 use Rattle.list_laws.specs.Many.{name_tree}
 use Rattle.list_laws.proofs.ChainRead.{chain_found, chain_none}
 use Rattle.list_laws.proofs.NamesMany.{marks_separator, name_entry, name_listable}

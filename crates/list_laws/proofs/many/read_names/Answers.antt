@@ -5,7 +5,7 @@ use Rattle.syn_input.specs.Input.{rest}
 use Rattle.syn_kinds.specs.Stands.{marks_stand}
 use Rattle.syn_kinds.specs.Table.{marks}
 use Rattle.syn_lists.specs.Lists.{separators, values}
-use Rattle.syn_shape.specs.Leaves.{mark_of}
+use Rattle.list_laws.specs.Leaves.{mark_of}
 use Rattle.list_laws.specs.Many.{name_tree}
 use Rattle.list_laws.proofs.ManyRead.{many_found, many_none}
 use Rattle.list_laws.proofs.NamesMany.{mark_separator, name_entry, name_listable}

@@ -20,43 +20,7 @@ use Rattle.syn_grammar.specs.Run.{Out, Refused, Got, wrap, word_at, mark_at, mar
 use Rattle.syn_grammar.specs.Say.{ident}
 use Rattle.syn_grammar.specs.Tree.{Tree, AWord, AMark, ALifetime}
 use Rattle.syn_grammar.specs.Words as words
-use Rattle.syn_shape.specs.Leaves.{marks_tree, word_gram}
-
--- what is read takes tokens
-pub shorter_by_one : (t : Spanned) (ts us : List Spanned) → ts ≡ t ∷ us → length (plain us) < length (plain ts)
-shorter_by_one t ts us e = omega (arith, ap (λ (vs : List Spanned). length (plain vs)) e)
-
-pub shorter_by_two : (t u : Spanned) (ts us : List Spanned) → ts ≡ t ∷ u ∷ us → length (plain us) < length (plain ts)
-shorter_by_two t u ts us e = omega (arith, ap (λ (vs : List Spanned). length (plain vs)) e)
-
-length_plain : (ts : List Spanned) → length (plain ts) ≡ length ts
-length_plain [] = refl
-length_plain (t ∷ ts) = let h = length_plain ts in omega (arith, h)
-
-pub plain_shorter : (ts us : List Spanned) → length us < length ts → length (plain us) < length (plain ts)
-plain_shorter ts us h = omega (arith, h, length_plain ts, length_plain us)
-
--- words
-pub word_read : (cs : List ℕ) (s : Span) (ts us : List Spanned) → ts ≡ word_tokens cs s ++ us
-    → keeps (word_gram cs) (plain ts) ≡ Got (AWord cs) (plain us)
-unfolding word_at
-word_read cs s ts us e =
-    ap (λ vs. keeps (word_gram cs) (plain vs)) e
-    ∙ ap (λ b. cond b (Got (AWord cs) (plain us)) Refused) ((bytes_eq-Decides cs cs).1 refl)
-
-no_word : (cs : List ℕ) (ts : List Token) → word_stands cs ts ≡ false → word_at (λ ds. words.same_text cs ds) ts
-    ≡ Refused
-unfolding word_at
-no_word cs [] e = refl
-no_word cs (Ident ds ∷ ts) e = ap (λ b. cond b (Got (AWord ds) ts) Refused) e
-no_word cs (Opens d ∷ ts) e = refl
-no_word cs (Closes d ∷ ts) e = refl
-no_word cs (Literal ds ∷ ts) e = refl
-no_word cs (Punct c spacing ∷ ts) e = refl
-
-pub word_none : (cs : List ℕ) (ts : List Spanned) → word_stands cs (plain ts) ≡ false
-    → keeps (word_gram cs) (plain ts) ≡ Refused
-word_none cs ts e = no_word cs (plain ts) e
+use Rattle.list_laws.specs.Leaves.{marks_tree, word_gram}
 
 -- names
 pub same_reserved : (cs : List ℕ) → words.is_reserved cs ≡ table.is_reserved cs
@@ -81,31 +45,6 @@ no_ident (Punct c spacing ∷ ts) e = refl
 
 pub ident_none : (ts : List Spanned) → ident_stands (plain ts) ≡ false → keeps ident (plain ts) ≡ Refused
 ident_none ts e = no_ident (plain ts) e
-
--- lifetimes
-pub lifetime_read : (cs : List ℕ) (s t : Span) (ts us : List Spanned)
-    → ts ≡ spanned (Punct 39 Joint) s ∷ spanned (Ident cs) t ∷ us → keeps lifetime (plain ts)
-    ≡ Got (ALifetime cs) (plain us)
-unfolding lifetime_at
-lifetime_read cs s t ts us e = ap (λ vs. keeps lifetime (plain vs)) e
-
-no_lifetime : (ts : List Token) → lifetime_stands ts ≡ false → lifetime_at ts ≡ Refused
-unfolding lifetime_at
-no_lifetime [] e = refl
-no_lifetime (Punct c Joint ∷ Ident cs ∷ ts) e = ap (λ b. cond b (Got (ALifetime cs) ts) Refused) e
-no_lifetime (Punct c Joint ∷ []) e = refl
-no_lifetime (Punct c Joint ∷ Punct d s ∷ ts) e = refl
-no_lifetime (Punct c Joint ∷ Opens d ∷ ts) e = refl
-no_lifetime (Punct c Joint ∷ Closes d ∷ ts) e = refl
-no_lifetime (Punct c Joint ∷ Literal d ∷ ts) e = refl
-no_lifetime (Punct c Apart ∷ ts) e = refl
-no_lifetime (Opens d ∷ ts) e = refl
-no_lifetime (Closes d ∷ ts) e = refl
-no_lifetime (Ident cs ∷ ts) e = refl
-no_lifetime (Literal cs ∷ ts) e = refl
-
-pub lifetime_none : (ts : List Spanned) → lifetime_stands (plain ts) ≡ false → keeps lifetime (plain ts) ≡ Refused
-lifetime_none ts e = no_lifetime (plain ts) e
 
 -- punctuations: each mark but the last is joint
 marks_at : (c : ℕ) (cs : List ℕ) (spans : List Span) (ts us : List Spanned) → ReadsMarks (c ∷ cs) spans ts us
@@ -165,16 +104,3 @@ pub marks_none : (cs : List ℕ) (ts : List Spanned) → marks_stand cs (plain t
 unfolding mark_kept
 marks_none [] ts e = refl
 marks_none (c ∷ cs) ts e = ap (wrap kept) (no_marks c cs (plain ts) e)
-
--- leaves are equal by their texts
-pub by_word : (b : Bool) (cs ds : List ℕ) → IsTrue b ↔ (cs ≡ ds) → IsTrue b ↔ (AWord cs ≡ AWord ds)
-by_word b cs ds h = (λ e. ap AWord (h.0 e), λ (p : AWord cs ≡ AWord ds). h.1 cc)
-
-pub by_lifetime : (b : Bool) (cs ds : List ℕ) → IsTrue b ↔ (cs ≡ ds) → IsTrue b ↔ (ALifetime cs ≡ ALifetime ds)
-by_lifetime b cs ds h = (λ e. ap ALifetime (h.0 e), λ (p : ALifetime cs ≡ ALifetime ds). h.1 cc)
-
--- what is a function of what a copy shows
-pub by_shown : {X F S B : Type 0} (r : Result X F) (s : X → S) (g : S → B) (a : X) → IfOk r (λ c. s c ≡ s a)
-    → IfOk r (λ c. g (s c) ≡ g (s a))
-by_shown (Ok c) s g a e = ap g e
-by_shown (Err x) s g a e = tt

@@ -1,14 +1,8 @@
 -- The trees of leaves.
 use Rattle.std.specs.Prelude.{ℕ, List, [], ◌∷◌, get_or}
 use Rattle.rust_leaf.specs.declared.punct.Spacing.TheVariants.{Alone as Apart}
-use Rattle.syn_grammar.specs.Gram.{Gram, word}
 use Rattle.syn_grammar.specs.Tree.{Tree, AMark, Nil}
-use Rattle.syn_grammar.specs.Words.{same_text}
 use Rattle.syn_kinds.specs.Table.{sign}
-
--- the keyword of that text
-abbrev pub word_gram : List ℕ → Gram
-word_gram text = word (λ cs. same_text text cs)
 
 -- a punctuation of these marks; how its last one is spaced is not kept
 abbrev pub marks_tree : List ℕ → Tree

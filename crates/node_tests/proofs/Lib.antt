@@ -1,2 +1,0 @@
-mod Nevers
-mod Pointers

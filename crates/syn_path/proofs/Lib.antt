@@ -1,9 +1,0 @@
-pub mod AngleBrackets
-pub mod Arguments
-pub mod SameArguments
-pub mod InParentheses
-pub mod Outputs
-pub mod Segments
-pub mod PathSegments
-pub mod SamePaths
-pub mod Words

@@ -1,9 +1,0 @@
-pub mod Leaves
-pub mod Groups
-pub mod Looks
-pub mod Views
-pub mod Equal
-pub mod Lists
-pub mod Copies
-pub mod EqualLists
-pub mod InTurn

@@ -1,3 +1,0 @@
-pub mod InBrackets
-pub mod InGroups
-pub mod InParens

@@ -1,6 +1,0 @@
-pub mod Brackets
-pub mod InGroups
-pub mod Leaves
-pub mod Parens
-pub mod Pointers
-pub mod References
