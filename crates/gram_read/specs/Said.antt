@@ -1,5 +1,5 @@
 -- What is said of tokens that could not be read: what was expected in their place, by its text or by its name.
-use Rattle.std.specs.Prelude.{ℕ, Bool, List, [], ◌++◌, Option, Some, None, cond, codes}
+use Rattle.std.specs.Prelude.{ℕ, Bool, true, false, ◌&&◌, List, [], ◌++◌, Option, Some, None, cond, codes}
 use Rattle.rust_map.specs.Spans.{call_site}
 use Rattle.rust_map.specs.declared.span.Span.{Span}
 use Rattle.proc_macro2.specs.declared.delimiter.Delimiter.{Delimiter}
@@ -15,6 +15,8 @@ use Rattle.gram_table.specs.declared.word.Literals.{Literals}
 use Rattle.gram_table.specs.declared.word.Literals.TheVariants as literals
 use Rattle.gram_run.specs.declared.refusal.Wanted.{Wanted}
 use Rattle.gram_run.specs.declared.refusal.Wanted.TheVariants as wanted
+use Rattle.gram_read.specs.declared.said.Shown.{Shown}
+use Rattle.gram_read.specs.declared.said.Shown.TheVariants as shows
 use Rattle.gram_read.specs.declared.said.Thing.{Thing}
 use Rattle.gram_read.specs.declared.said.Message.{Message}
 
@@ -26,9 +28,14 @@ quoted text = codes "expected `" ++ text ++ codes "`"
 abbrev pub named : List ℕ → List ℕ
 named name = codes "expected " ++ name
 
--- a thing that was expected
+-- a thing that was expected, by its text or by its name; or a sentence of its own
+abbrev pub shown : Shown → List ℕ → List ℕ
+shown shows.Text text = quoted text
+shown shows.Name name = named name
+shown shows.Sentence words = words
+
 abbrev pub thing_text : Thing → List ℕ
-thing_text t = cond t.is_text (quoted t.words.now) (named t.words.now)
+thing_text t = shown t.shown t.words.now
 
 -- the names of words
 abbrev pub word_name : Words → List ℕ
@@ -80,6 +87,7 @@ abbrev pub kind_name : Kind → List ℕ
 kind_name (kinds.AType p) = codes "type"
 kind_name kinds.Pattern = codes "pattern"
 kind_name kinds.SeveralPatterns = codes "pattern"
+kind_name kinds.OnePattern = codes "pattern"
 kind_name kinds.AnItem = codes "item"
 kind_name kinds.DeriveInput = codes "item"
 kind_name kinds.AForeignItem = codes "item of an extern block"
@@ -98,14 +106,20 @@ wanted_text wanted.Lifetime = named (codes "lifetime")
 wanted_text (wanted.Group d) = named (group_name d)
 wanted_text wanted.End = named (codes "no token")
 wanted_text wanted.Expression = named (codes "expression")
-wanted_text wanted.Unchained = named (codes "no comparison behind a comparison")
+wanted_text wanted.Unchained = codes "comparison operators cannot be chained"
 wanted_text (wanted.Judged v) = named (verdict_name v)
 wanted_text (wanted.Node k) = named (kind_name k)
 wanted_text wanted.Nothing = named (codes "another token")
 
--- where no token is left, in a group or at all, which is said first
+-- where no token is left, in a group or at all, that is said first, unless a punctuation was expected; and of a
+-- comparison behind a comparison, which is there
+abbrev pub says_end : Wanted → Bool
+says_end (wanted.Mark s) = false
+says_end wanted.Unchained = false
+says_end w = true
+
 abbrev pub message : Bool → Wanted → List ℕ
-message at_end w = cond at_end (codes "unexpected end of input, ") [] ++ wanted_text w
+message at_end w = cond (at_end && says_end w) (codes "unexpected end of input, ") [] ++ wanted_text w
 
 -- Where it is said: of the token that stands there, or of the mark that closes the group whose inside ends there; of
 -- the call site at the end of all tokens.
@@ -114,4 +128,4 @@ place None = call_site
 place (Some span) = span
 
 abbrev pub message_of : Message → List ℕ
-message_of m = cond m.at_end (codes "unexpected end of input, ") [] ++ thing_text m.thing
+message_of m = cond m.says_end (codes "unexpected end of input, ") [] ++ thing_text m.thing

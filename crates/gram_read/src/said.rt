@@ -1,7 +1,7 @@
 //! What is said of tokens that could not be read.
 
 ghost use Rattle.gram_read.specs.Said.{group_name, kind_name, literal_name, message, named, place, quoted, thing_text};
-ghost use Rattle.gram_read.specs.Said.{verdict_name, wanted_text, word_name};
+ghost use Rattle.gram_read.specs.Said.{says_end, verdict_name, wanted_text, word_name};
 ghost use Rattle.std.specs.Prelude.{◌≡◌, IfOk, Some};
 ghost use Rattle.syn_error.specs.Notes.{Says};
 
@@ -15,10 +15,21 @@ use std::alloc::{AllocError, Global};
 use std::fmt;
 use syn_error::Error;
 
-// What was wanted: its name, or its text between quotes.
+// How what was wanted is shown.
+#[derive(Clone, Copy)]
+enum Shown {
+    // By its text, between quotes.
+    Text,
+    // By its name.
+    Name,
+    // By a sentence of its own.
+    Sentence,
+}
+
+// What was wanted.
 #[derive(Clone, Copy)]
 struct Thing {
-    is_text: bool,
+    shown: Shown,
     words: &'static str,
 }
 
@@ -83,7 +94,7 @@ fn kind_name(kind: Kind) -> &'static str
 {
     match kind {
         Kind::AType(_) => "type",
-        Kind::Pattern | Kind::SeveralPatterns => "pattern",
+        Kind::Pattern | Kind::SeveralPatterns | Kind::OnePattern => "pattern",
         Kind::AnItem | Kind::DeriveInput => "item",
         Kind::AForeignItem => "item of an extern block",
         Kind::ATraitItem => "item of a trait",
@@ -110,7 +121,7 @@ impl Thing {
         ensures { thing_text result ≡ named words.now }
     {
         Thing {
-            is_text: false,
+            shown: Shown::Name,
             words,
         }
     }
@@ -120,7 +131,17 @@ impl Thing {
         ensures { thing_text result ≡ quoted words.now }
     {
         Thing {
-            is_text: true,
+            shown: Shown::Text,
+            words,
+        }
+    }
+
+    // What is told by that sentence.
+    fn told(words: &'static str) -> Thing
+        ensures { thing_text result ≡ words.now }
+    {
+        Thing {
+            shown: Shown::Sentence,
             words,
         }
     }
@@ -139,7 +160,7 @@ impl Thing {
             Wanted::Group(delimiter) => Thing::named(group_name(delimiter)),
             Wanted::End => Thing::named("no token"),
             Wanted::Expression => Thing::named("expression"),
-            Wanted::Unchained => Thing::named("no comparison behind a comparison"),
+            Wanted::Unchained => Thing::told("comparison operators cannot be chained"),
             Wanted::Judged(verdicts) => Thing::named(verdict_name(verdicts)),
             Wanted::Node(kind) => Thing::named(kind_name(kind)),
             Wanted::Nothing => Thing::named("another token"),
@@ -147,10 +168,17 @@ impl Thing {
     }
 }
 
+// Whether the end is told of what was wanted there.
+fn says_end(wanted: Wanted) -> bool
+    ensures { result ≡ says_end wanted }
+{
+    !matches!(wanted, Wanted::Mark(_) | Wanted::Unchained)
+}
+
 // A message.
 #[derive(Clone, Copy)]
 struct Message {
-    at_end: bool,
+    says_end: bool,
     thing: Thing,
 }
 
@@ -161,14 +189,14 @@ impl fmt::Display for Message {
     ghost output = { λ m. Some (message_of m) };
 
     fn fmt<W: fmt::Write>(&self, f: &mut fmt::Formatter<W>) -> fmt::Result {
-        if self.at_end {
+        if self.says_end {
             f.write_str("unexpected end of input, ")?;
         }
         let words = self.thing.words;
-        if self.thing.is_text {
-            write!(f, "expected `{words}`")
-        } else {
-            write!(f, "expected {words}")
+        match self.thing.shown {
+            Shown::Text => write!(f, "expected `{words}`"),
+            Shown::Name => write!(f, "expected {words}"),
+            Shown::Sentence => f.write_str(words),
         }
     }
 }
@@ -186,7 +214,7 @@ pub fn error(alloc: Global, wrong: Wrong) -> Result<Error, AllocError>
         alloc,
         wrong.span.unwrap_or(Span::call_site()),
         Message {
-            at_end: wrong.is_end,
+            says_end: wrong.is_end && says_end(wrong.wanted),
             thing: Thing::of(wrong.wanted),
         },
     )

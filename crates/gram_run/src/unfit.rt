@@ -150,6 +150,7 @@ fn has_name(kind: Kind) -> bool {
         Kind::AType(_)
             | Kind::Pattern
             | Kind::SeveralPatterns
+            | Kind::OnePattern
             | Kind::AnItem
             | Kind::AForeignItem
             | Kind::ATraitItem
