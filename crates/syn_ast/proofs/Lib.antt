@@ -2,3 +2,4 @@ pub mod Takes
 pub mod Derived
 pub mod TypeForms
 pub mod Chosen
+pub mod ExprForms

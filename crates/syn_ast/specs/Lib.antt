@@ -8,3 +8,6 @@ pub mod Attributes
 pub mod Data
 pub mod Patterns
 pub mod Blocks
+pub mod ExprForms
+pub mod ExprParts
+pub mod ExprPostfix

@@ -4,6 +4,7 @@
 pub mod attributes;
 pub mod blocks;
 pub mod data;
+pub mod expr;
 pub mod generics;
 pub mod laws;
 pub mod leaf;

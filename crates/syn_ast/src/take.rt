@@ -376,7 +376,7 @@ pub(crate) fn each_turn<'t, 'a>(tree: &'t Tree<'a>) -> Option<Turns<'t, 'a>>
 
 // Whether nothing stands there.
 #[tactic(auto, using(crate::proofs::Takes::takes))]
-fn is_nothing(tree: &Tree<'_>) -> bool
+pub(crate) fn is_nothing(tree: &Tree<'_>) -> bool
     ensures { cond result (tree.now ≡ t.Nil) (IsShaped tree.now g.nothing → ⊥) }
 {
     match &tree.form {

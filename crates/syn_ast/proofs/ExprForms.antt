@@ -1,0 +1,54 @@
+-- A tree that a form is, where it is none of an expression's; and where nothing is chosen.
+use Rattle.std.specs.Prelude.{◌≡◌, Bool, false, ℕ, zero, suc, List, [], ◌∷◌, Option, Some, None, refl}
+use Rattle.std.proofs.Common.{subst, sym}
+use Rattle.proc_macro2.specs.Token.{Token}
+use Rattle.rust_leaf.specs.declared.punct.Spacing.{Spacing}
+use Rattle.syn_grammar.specs.Kind.{Kind}
+use Rattle.syn_grammar.specs.Gram.{Gram, never, nothing, alt}
+use Rattle.syn_grammar.specs.Tree as t
+use Rattle.syn_grammar.specs.Tree.{Tree}
+use Rattle.gram_tree.specs.declared.tree.Element.{Element}
+use Rattle.gram_tree.specs.Forms.{mark_of, seconds, turns, elements, ending}
+use Rattle.syn_ast.specs.Shape.{IsShaped}
+use Rattle.syn_ast.specs.ExprForms.{IsBack, IsForm}
+
+-- none of these is a form of an expression
+pub first_form : (n : ℕ) (x : Tree) (k : Kind) → IsForm (seconds n (t.First x)) k → ⊥
+first_form zero x k h = absurd h
+first_form (suc n) x k h = absurd h
+
+pub mark_form : (cs : List ℕ) (spacing : Spacing) (k : Kind) → IsForm (mark_of cs spacing) k → ⊥
+mark_form [] spacing k h = absurd h
+mark_form (c ∷ cs) spacing k h = absurd h
+
+pub turns_form : (xs : List Tree) (k : Kind) → IsForm (turns xs) k → ⊥
+turns_form [] k h = absurd h
+turns_form (x ∷ xs) k h = absurd h
+
+pub elements_form : {A : Type 0} (c : ℕ) (es : List Element) (f : A → Tree) (o : Option A) (k : Kind)
+    → IsForm (elements c es (ending f o)) k → ⊥
+elements_form c [] f None k h = absurd h
+elements_form c [] f (Some x) k h = absurd h
+elements_form c (x ∷ es) f o k h = absurd h
+
+-- one with an operand before it is a form
+pub back_form : (x : Tree) (k : Kind) → IsBack x k → IsForm x k
+back_form (t.Back l j y) k h = h
+back_form _ k h = absurd h
+
+pub ruleset backs = (first_form, mark_form, turns_form, elements_form, back_form)
+
+-- never has no tree
+pub shaped_never : (x : Tree) → IsShaped x never → ⊥
+shaped_never t.Nil h = absurd h
+shaped_never _ h = absurd h
+
+-- Where nothing is chosen but nothing, or where nothing is refused, that is what stands there.
+pub never_or : (x : Tree) (test : List Token → Bool) → IsShaped x (alt test never nothing) → x ≡ t.Second t.Nil
+never_or (t.First y) test h = absurd (shaped_never y h)
+never_or (t.Second t.Nil) test h = refl
+never_or _ test h = absurd h
+
+pub missing_none : (x : Tree) → ((test : List Token → Bool) (a : Gram) → IsShaped x (alt test a nothing) → ⊥)
+    → x ≡ t.Second t.Nil → ⊥
+missing_none x h e = h (λ ts. false) never (subst (λ y. IsShaped y (alt (λ ts. false) never nothing)) (sym e) tt)

@@ -1,0 +1,35 @@
+//! What a form of an expression is made of. Each answers nothing only where a tree is no such form.
+
+ghost use Rattle.gram_table.specs.Kinds.{kind_of};
+ghost use Rattle.std.specs.Prelude.{◌≡◌, MatchOption, cond};
+ghost use Rattle.syn_ast.specs.ExprForms.{IsBack};
+ghost use Rattle.syn_grammar.specs.Kind.{Kind as GivenKind};
+ghost use Rattle.syn_grammar.specs.Tree as t;
+
+use crate::take;
+use gram_table::kind::Kind;
+use gram_tree::tree::{Form, Tree};
+
+// Of a form with an operand before it that, its kind, and its own part.
+#[tactic(auto, using(crate::proofs::ExprForms::backs))]
+pub(crate) fn back<'t, 'a>(tree: &'t Tree<'a>) -> Option<(&'t Tree<'a>, Kind, &'t Tree<'a>)>
+    ensures { MatchOption result ((k : GivenKind) → IsBack tree.now k → ⊥)
+        (λ p. tree.now ≡ t.Back p.0.now (kind_of p.1) p.2.now) }
+{
+    match &tree.form {
+        Form::Back(kind, two) => Some((&two.front, *kind, &two.back)),
+        _ => None,
+    }
+}
+
+// Whether nothing is chosen there, where something might be.
+#[tactic(auto, using(crate::proofs::ExprForms::missing_none))]
+pub(crate) fn nothing(tree: &Tree<'_>) -> bool
+    ensures { cond result (tree.now ≡ t.Second t.Nil) (tree.now ≡ t.Second t.Nil → ⊥) }
+{
+    match take::optional(tree) {
+        Some(None) => true,
+        Some(Some(_)) => false,
+        None => false,
+    }
+}

@@ -1,0 +1,5 @@
+//! Expressions.
+
+pub(crate) mod forms;
+pub mod parts;
+pub mod postfix;
