@@ -1,4 +1,5 @@
 pub mod Takes
+pub mod Choices
 pub mod Derived
 pub mod TypeForms
 pub mod Chosen

@@ -34,7 +34,7 @@ shaped_second x (alt t a b) h = refl
 shaped_second x (judged v g) h = refl
 shaped_second x _ h = absurd h
 
-not_both : (b : Bool) → b ≡ true → b ≡ false → ⊥
+pub not_both : (b : Bool) → b ≡ true → b ≡ false → ⊥
 not_both true e d = cc
 not_both false e d = cc
 

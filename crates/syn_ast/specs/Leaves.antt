@@ -1,5 +1,5 @@
 -- The trees that leaves are, that lists are, and what may be missing or was chosen.
-use Rattle.std.specs.Prelude.{Option, Some, None}
+use Rattle.std.specs.Prelude.{List, Option, Some, None, map}
 use Rattle.rust_leaf.specs.Leaf.{ident_text, literal_text}
 use Rattle.rust_leaf.specs.declared.ident.Ident.{Ident}
 use Rattle.rust_leaf.specs.declared.literal.Literal.{Literal}
@@ -7,13 +7,25 @@ use Rattle.syn_grammar.specs.Tree as t
 use Rattle.syn_grammar.specs.Tree.{Tree}
 use Rattle.gram_table.specs.Ops.{separator_of}
 use Rattle.gram_table.specs.Words.{sign_text}
-use Rattle.gram_tree.specs.Forms.{elements, ending, mark_of, turns}
+use Rattle.gram_tree.specs.Forms.{elements, ending, mark_of, seconds, turns}
+use Rattle.syn_buffer.specs.Entries.{entry_token}
+use Rattle.syn_buffer.specs.declared.entry.Entry.{Entry}
 use Rattle.syn_ast.specs.declared.leaf.Mark.{Mark}
 use Rattle.syn_ast.specs.declared.leaf.Lifetime.{Lifetime}
 use Rattle.syn_ast.specs.declared.list.Elements.{Elements}
 use Rattle.syn_ast.specs.declared.list.Turns.{Turns}
 use Rattle.syn_ast.specs.declared.take.Choice.{Choice}
 use Rattle.syn_ast.specs.declared.take.Choice.TheVariants as choices
+use Rattle.syn_ast.specs.declared.take.Behind.{Behind}
+use Rattle.syn_ast.specs.declared.take.Behind.TheVariants as behinds
+use Rattle.syn_ast.specs.declared.take.Step.{Step}
+use Rattle.syn_ast.specs.declared.take.Step.TheVariants as steps
+use Rattle.syn_ast.specs.declared.take.Choice3.{Choice3}
+use Rattle.syn_ast.specs.declared.take.Choice3.TheVariants as choices3
+use Rattle.syn_ast.specs.declared.take.Choice4.{Choice4}
+use Rattle.syn_ast.specs.declared.take.Choice4.TheVariants as choices4
+use Rattle.syn_ast.specs.declared.take.Choice5.{Choice5}
+use Rattle.syn_ast.specs.declared.take.Choice5.TheVariants as choices5
 use denote.Bor.{Bor}
 
 abbrev pub word_tree : Bor Ident → Tree
@@ -46,3 +58,37 @@ turns_tree r = turns r.each.now
 abbrev pub choice_tree : Choice → Tree
 choice_tree (choices.First x) = t.First x.now
 choice_tree (choices.Second x) = t.Second x.now
+
+-- of a choice among several: what stands behind those that were not chosen, and whether the first was
+abbrev pub behind_tree : Behind → Tree
+behind_tree (behinds.First n x) = seconds n (t.First x.now)
+behind_tree (behinds.Second n x) = seconds n x.now
+
+abbrev pub step_tree : Step → Tree
+step_tree (steps.First x) = t.First x.now
+step_tree (steps.Behind b) = t.Second (behind_tree b)
+
+-- which of three was chosen
+abbrev pub choice3_tree : Choice3 → Tree
+choice3_tree (choices3.First x) = t.First x.now
+choice3_tree (choices3.Second x) = t.Second (t.First x.now)
+choice3_tree (choices3.Third x) = t.Second (t.Second x.now)
+
+-- which of four was chosen
+abbrev pub choice4_tree : Choice4 → Tree
+choice4_tree (choices4.First x) = t.First x.now
+choice4_tree (choices4.Second x) = t.Second (t.First x.now)
+choice4_tree (choices4.Third x) = t.Second (t.Second (t.First x.now))
+choice4_tree (choices4.Fourth x) = t.Second (t.Second (t.Second x.now))
+
+-- which of five was chosen
+abbrev pub choice5_tree : Choice5 → Tree
+choice5_tree (choices5.First x) = t.First x.now
+choice5_tree (choices5.Second x) = t.Second (t.First x.now)
+choice5_tree (choices5.Third x) = t.Second (t.Second (t.First x.now))
+choice5_tree (choices5.Fourth x) = t.Second (t.Second (t.Second (t.First x.now)))
+choice5_tree (choices5.Fifth x) = t.Second (t.Second (t.Second (t.Second x.now)))
+
+-- tokens that are kept as they are
+abbrev pub raw_tree : Bor (List Entry) → Tree
+raw_tree r = t.Raw (map entry_token r.now)

@@ -1,5 +1,6 @@
 pub mod Shape
 pub mod Leaves
+pub mod Kept
 pub mod Sub
 pub mod Types
 pub mod Paths

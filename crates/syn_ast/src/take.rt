@@ -5,8 +5,11 @@ ghost use Rattle.gram_table.specs.Parts.{part_of};
 ghost use Rattle.proc_macro2.specs.Token.{Token};
 ghost use Rattle.proc_macro2.specs.declared.delimiter.Delimiter.{Delimiter as GivenDelimiter};
 ghost use Rattle.std.specs.Prelude.{◌≡◌, Bool, List, MatchOption, [], cond, false, ℕ};
-ghost use Rattle.syn_ast.specs.Leaves.{choice_tree, lifetime_tree, list_tree, literal_tree, mark_tree};
-ghost use Rattle.syn_ast.specs.Leaves.{node_tree, optional_tree, turns_tree, word_tree};
+ghost use Rattle.syn_ast.specs.Kept.{IsFirst};
+ghost use Rattle.syn_ast.specs.Leaves.{behind_tree, choice3_tree, choice4_tree, choice5_tree, choice_tree};
+ghost use Rattle.syn_ast.specs.Leaves.{lifetime_tree, list_tree, literal_tree, mark_tree, node_tree, optional_tree};
+ghost use Rattle.syn_ast.specs.Leaves.{raw_tree, step_tree, turns_tree, word_tree};
+ghost use Rattle.gram_tree.specs.Forms.{seconds};
 ghost use Rattle.syn_ast.specs.Shape.{IsShaped, may_choose};
 ghost use Rattle.syn_grammar.specs.Gram as g;
 ghost use Rattle.syn_grammar.specs.Kind.{Kind as GivenKind};
@@ -22,6 +25,7 @@ use gram_table::part::Part;
 use gram_tree::tree::{Element, Form, Tree};
 use rust_leaf::ident::Ident;
 use rust_leaf::literal::Literal;
+use syn_buffer::entry::Entry;
 
 /// Which of two was chosen.
 #[derive(Clone, Copy)]
@@ -460,6 +464,275 @@ pub(crate) fn alone<'t, 'a>(tree: &'t Tree<'a>) -> Option<(Kind, &'t Tree<'a>)>
 {
     match &tree.form {
         Form::Alone(kind, own) => Some((*kind, own)),
+        _ => None,
+    }
+}
+
+// Choices among several: each alternative but the last is a first, and what stands behind it the second.
+
+// What stands behind alternatives that were not chosen.
+#[derive(Clone, Copy)]
+pub(crate) enum Behind<'t, 'a> {
+    // So many times the second, and then the first.
+    First(usize, &'t Tree<'a>),
+    // So many times the second, and then this.
+    Second(usize, &'t Tree<'a>),
+}
+
+// Whether the first alternative was chosen.
+#[derive(Clone, Copy)]
+pub(crate) enum Step<'t, 'a> {
+    // It was.
+    First(&'t Tree<'a>),
+    // It was not.
+    Behind(Behind<'t, 'a>),
+}
+
+/// Which of three was chosen.
+#[derive(Clone, Copy)]
+pub(crate) enum Choice3<'t, 'a> {
+    /// The first.
+    First(&'t Tree<'a>),
+    /// The second.
+    Second(&'t Tree<'a>),
+    /// The third.
+    Third(&'t Tree<'a>),
+}
+
+/// Which of four was chosen.
+#[derive(Clone, Copy)]
+pub(crate) enum Choice4<'t, 'a> {
+    /// The first.
+    First(&'t Tree<'a>),
+    /// The second.
+    Second(&'t Tree<'a>),
+    /// The third.
+    Third(&'t Tree<'a>),
+    /// The fourth.
+    Fourth(&'t Tree<'a>),
+}
+
+/// Which of five was chosen.
+#[derive(Clone, Copy)]
+pub(crate) enum Choice5<'t, 'a> {
+    /// The first.
+    First(&'t Tree<'a>),
+    /// The second.
+    Second(&'t Tree<'a>),
+    /// The third.
+    Third(&'t Tree<'a>),
+    /// The fourth.
+    Fourth(&'t Tree<'a>),
+    /// The fifth.
+    Fifth(&'t Tree<'a>),
+}
+
+// So many times the second, and then the first: it, or what stands behind the first.
+#[tactic(auto, using(crate::proofs::Choices::seconds_less))]
+fn step_to_first<'t, 'a>(depth: usize, tree: &'t Tree<'a>) -> Step<'t, 'a>
+    ensures { seconds depth (t.First tree.now) ≡ step_tree result }
+{
+    if depth == 0 {
+        Step::First(tree)
+    } else {
+        Step::Behind(Behind::First(depth - 1, tree))
+    }
+}
+
+// Whether the first was chosen, of a choice.
+#[tactic(auto, using(crate::proofs::Takes::takes))]
+fn first_step<'t, 'a>(tree: &'t Tree<'a>) -> Option<Step<'t, 'a>>
+    ensures { MatchOption result ((t : List Token → Bool) (a b : g.Gram) → IsShaped tree.now (g.alt t a b) → ⊥)
+        (λ s. tree.now ≡ step_tree s) }
+{
+    match &tree.form {
+        Form::First(depth, inner) => Some(step_to_first(*depth, inner)),
+        Form::Second(depth, inner) => Some(Step::Behind(Behind::Second(*depth, inner))),
+        _ => None,
+    }
+}
+
+// Whether the first was chosen, of a choice behind others.
+#[tactic(auto, using(crate::proofs::Choices::seconds_less))]
+fn next_step<'t, 'a>(behind: Behind<'t, 'a>) -> Option<Step<'t, 'a>>
+    ensures { MatchOption result ((t : List Token → Bool) (a b : g.Gram) → IsShaped (behind_tree behind.entry)
+        (g.alt t a b) → ⊥)
+        (λ s. behind_tree behind.entry ≡ step_tree s) }
+{
+    match behind {
+        Behind::First(depth, tree) => Some(step_to_first(depth, tree)),
+        Behind::Second(depth, tree) => if depth == 0 {
+            first_step(tree)
+        } else {
+            Some(Step::Behind(Behind::Second(depth - 1, tree)))
+        },
+    }
+}
+
+// The last alternative, which is no choice again.
+fn last_of_all<'t, 'a>(behind: Behind<'t, 'a>) -> Option<&'t Tree<'a>>
+    ensures { MatchOption result ((a : g.Gram) → may_choose a ≡ false → IsShaped (behind_tree behind.entry) a → ⊥)
+        (λ x. behind_tree behind.entry ≡ x.now) }
+{
+    match behind {
+        Behind::First(_, _) => None,
+        Behind::Second(depth, tree) => if depth == 0 { Some(tree) } else { None },
+    }
+}
+
+// Which of the last two was chosen.
+pub(crate) fn two_behind<'t, 'a>(behind: Behind<'t, 'a>) -> Option<Choice<'t, 'a>>
+    ensures { MatchOption result ((t : List Token → Bool) (a b : g.Gram) → may_choose b ≡ false
+        → IsShaped (behind_tree behind.entry) (g.alt t a b) → ⊥)
+        (λ o. behind_tree behind.entry ≡ choice_tree o) }
+{
+    let Some(step) = next_step(behind) else {
+        return None;
+    };
+    match step {
+        Step::First(tree) => Some(Choice::First(tree)),
+        Step::Behind(last) => match last_of_all(last) {
+            Some(tree) => Some(Choice::Second(tree)),
+            None => None,
+        },
+    }
+}
+
+// Which of the last three was chosen.
+pub(crate) fn three_behind<'t, 'a>(behind: Behind<'t, 'a>) -> Option<Choice3<'t, 'a>>
+    ensures { MatchOption result ((t u : List Token → Bool) (a b c : g.Gram) → may_choose c ≡ false
+        → IsShaped (behind_tree behind.entry) (g.alt t a (g.alt u b c)) → ⊥)
+        (λ o. behind_tree behind.entry ≡ choice3_tree o) }
+{
+    let Some(step) = next_step(behind) else {
+        return None;
+    };
+    match step {
+        Step::First(tree) => Some(Choice3::First(tree)),
+        Step::Behind(others) => match two_behind(others) {
+            Some(Choice::First(tree)) => Some(Choice3::Second(tree)),
+            Some(Choice::Second(tree)) => Some(Choice3::Third(tree)),
+            None => None,
+        },
+    }
+}
+
+// Which of three was chosen, of which the last is no choice again.
+pub(crate) fn chosen3<'t, 'a>(tree: &'t Tree<'a>) -> Option<Choice3<'t, 'a>>
+    ensures { MatchOption result ((t u : List Token → Bool) (a b c : g.Gram) → may_choose c ≡ false
+        → IsShaped tree.now (g.alt t a (g.alt u b c)) → ⊥)
+        (λ o. tree.now ≡ choice3_tree o) }
+{
+    three_behind(Behind::Second(0, tree))
+}
+
+// Which of the last four was chosen.
+pub(crate) fn four_behind<'t, 'a>(behind: Behind<'t, 'a>) -> Option<Choice4<'t, 'a>>
+    ensures { MatchOption result ((t u v : List Token → Bool) (a b c d : g.Gram) → may_choose d ≡ false
+        → IsShaped (behind_tree behind.entry) (g.alt t a (g.alt u b (g.alt v c d))) → ⊥)
+        (λ o. behind_tree behind.entry ≡ choice4_tree o) }
+{
+    let Some(step) = next_step(behind) else {
+        return None;
+    };
+    match step {
+        Step::First(tree) => Some(Choice4::First(tree)),
+        Step::Behind(others) => match three_behind(others) {
+            Some(Choice3::First(tree)) => Some(Choice4::Second(tree)),
+            Some(Choice3::Second(tree)) => Some(Choice4::Third(tree)),
+            Some(Choice3::Third(tree)) => Some(Choice4::Fourth(tree)),
+            None => None,
+        },
+    }
+}
+
+// Which of four was chosen, of which the last is no choice again.
+pub(crate) fn chosen4<'t, 'a>(tree: &'t Tree<'a>) -> Option<Choice4<'t, 'a>>
+    ensures { MatchOption result ((t u v : List Token → Bool) (a b c d : g.Gram) → may_choose d ≡ false
+        → IsShaped tree.now (g.alt t a (g.alt u b (g.alt v c d))) → ⊥)
+        (λ o. tree.now ≡ choice4_tree o) }
+{
+    four_behind(Behind::Second(0, tree))
+}
+
+// Which of the last five was chosen.
+pub(crate) fn five_behind<'t, 'a>(behind: Behind<'t, 'a>) -> Option<Choice5<'t, 'a>>
+    ensures { MatchOption result ((t u v w : List Token → Bool) (a b c d e : g.Gram) → may_choose e ≡ false
+        → IsShaped (behind_tree behind.entry) (g.alt t a (g.alt u b (g.alt v c (g.alt w d e)))) → ⊥)
+        (λ o. behind_tree behind.entry ≡ choice5_tree o) }
+{
+    let Some(step) = next_step(behind) else {
+        return None;
+    };
+    match step {
+        Step::First(tree) => Some(Choice5::First(tree)),
+        Step::Behind(others) => match four_behind(others) {
+            Some(Choice4::First(tree)) => Some(Choice5::Second(tree)),
+            Some(Choice4::Second(tree)) => Some(Choice5::Third(tree)),
+            Some(Choice4::Third(tree)) => Some(Choice5::Fourth(tree)),
+            Some(Choice4::Fourth(tree)) => Some(Choice5::Fifth(tree)),
+            None => None,
+        },
+    }
+}
+
+// Which of five was chosen, of which the last is no choice again.
+pub(crate) fn chosen5<'t, 'a>(tree: &'t Tree<'a>) -> Option<Choice5<'t, 'a>>
+    ensures { MatchOption result ((t u v w : List Token → Bool) (a b c d e : g.Gram) → may_choose e ≡ false
+        → IsShaped tree.now (g.alt t a (g.alt u b (g.alt v c (g.alt w d e)))) → ⊥)
+        (λ o. tree.now ≡ choice5_tree o) }
+{
+    five_behind(Behind::Second(0, tree))
+}
+
+// Tokens that are kept as they are.
+#[tactic(auto, using(crate::proofs::Takes::takes))]
+pub(crate) fn raw<'a>(tree: &Tree<'a>) -> Option<&'a [Entry<'a>]>
+    ensures { MatchOption result (IsShaped tree.now g.raw → ⊥) (λ r. tree.now ≡ raw_tree r) }
+{
+    match &tree.form {
+        Form::Raw(tokens) => Some(*tokens),
+        _ => None,
+    }
+}
+
+// The literal that stands there, if one does.
+#[tactic(auto, using(crate::proofs::Takes::takes))]
+pub(crate) fn optional_literal<'a>(tree: &Tree<'a>) -> Option<Option<&'a Literal>>
+    ensures { MatchOption result ((t : List Token → Bool) (p : List ℕ → Bool) → IsShaped tree.now (g.alt t
+        (g.literal p) g.nothing) → ⊥)
+        (λ o. tree.now ≡ optional_tree literal_tree o) }
+{
+    match optional(tree) {
+        None => None,
+        Some(None) => Some(None),
+        Some(Some(inner)) => match literal(inner) {
+            Some(found) => Some(Some(found)),
+            None => None,
+        },
+    }
+}
+
+// Whether nothing stands there, where else the entry would refuse.
+#[tactic(auto, using(crate::proofs::Takes::takes))]
+pub(crate) fn is_ended(tree: &Tree<'_>) -> bool
+    ensures { cond result (tree.now ≡ t.First t.Nil) ((t : List Token → Bool) → IsShaped tree.now (g.alt t g.nothing
+        g.never) → ⊥) }
+{
+    match chosen(tree) {
+        Some(Choice::First(inner)) => is_nothing(inner),
+        Some(Choice::Second(_)) => false,
+        None => false,
+    }
+}
+
+// Of what is judged, what is kept as it was read.
+#[tactic(auto, using(crate::proofs::Choices::firsts))]
+pub(crate) fn kept<'t, 'a>(tree: &'t Tree<'a>) -> Option<&'t Tree<'a>>
+    ensures { MatchOption result (IsFirst tree.now → ⊥) (λ x. tree.now ≡ t.First x.now) }
+{
+    match &tree.form {
+        Form::First(depth, inner) => if *depth == 0 { Some(inner) } else { None },
         _ => None,
     }
 }
