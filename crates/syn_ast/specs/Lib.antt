@@ -3,6 +3,7 @@ pub mod Leaves
 pub mod Kept
 pub mod Sub
 pub mod Types
+pub mod TypeBounds
 pub mod Paths
 pub mod Generics
 pub mod Attributes

@@ -1,5 +1,7 @@
 -- The trees that these parts are.
-use Rattle.syn_ast.specs.Leaves.{mark_tree, word_tree}
+use Rattle.syn_ast.specs.Leaves.{literal_tree, mark_tree, word_tree}
+use Rattle.syn_ast.specs.declared.sub.Lit.{Lit}
+use Rattle.syn_ast.specs.declared.sub.Lit.TheVariants as lits
 use Rattle.syn_ast.specs.declared.sub.Marked.{Marked}
 use Rattle.syn_ast.specs.declared.sub.MarkedBounds.{MarkedBounds}
 use Rattle.syn_ast.specs.declared.sub.MarkedType.{MarkedType}
@@ -28,3 +30,8 @@ marked_type_tree x = t.Pair (mark_tree x.mark) (t.Called n.the_type x.node.now)
 -- bounds behind a mark
 abbrev pub marked_bounds_tree : MarkedBounds → Tree
 marked_bounds_tree x = t.Pair (mark_tree x.mark) (t.Called n.the_bounds x.node.now)
+
+-- a literal of one token, or true or false
+abbrev pub lit_tree : Lit → Tree
+lit_tree (lits.Token l) = t.First (literal_tree l)
+lit_tree (lits.Bool i) = t.Second (word_tree i)

@@ -3,6 +3,7 @@
 
 pub mod attributes;
 pub mod blocks;
+pub mod bounds;
 pub mod data;
 pub mod expr;
 pub mod generics;

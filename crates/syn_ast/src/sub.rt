@@ -4,15 +4,17 @@ ghost use Rattle.proc_macro2.specs.Token.{Token};
 ghost use Rattle.std.specs.Prelude.{◌≡◌, MatchOption, Bool, List, ℕ};
 ghost use Rattle.syn_ast.specs.Leaves.{optional_tree};
 ghost use Rattle.syn_ast.specs.Shape.{IsShaped};
-ghost use Rattle.syn_ast.specs.Sub.{marked_bounds_tree, marked_tree, marked_type_tree, marked_value_tree, worded_tree};
+ghost use Rattle.syn_ast.specs.Sub.{lit_tree, marked_bounds_tree, marked_tree, marked_type_tree, marked_value_tree};
+ghost use Rattle.syn_ast.specs.Sub.{worded_tree};
 ghost use Rattle.syn_grammar.specs.Gram as g;
 ghost use Rattle.syn_grammar.specs.Name as n;
 
 use crate::leaf::Mark;
-use crate::take;
+use crate::take::{self, Choice};
 use gram_table::part::Part;
 use gram_tree::tree::Tree;
 use rust_leaf::ident::Ident;
+use rust_leaf::literal::Literal;
 
 /// A part behind a mark.
 #[derive(Clone, Copy)]
@@ -229,6 +231,36 @@ pub(crate) fn optional_as_marked_bounds<'t, 'a>(
         Some(None) => Some(None),
         Some(Some(inner)) => match as_marked_bounds(inner) {
             Some(found) => Some(Some(found)),
+            None => None,
+        },
+    }
+}
+
+/// A literal, or a truth value.
+#[derive(Clone, Copy)]
+pub enum Lit<'a> {
+    /// A literal that is one token: a number, a character or a string.
+    Token(&'a Literal),
+    /// `true` or `false`
+    Bool(&'a Ident),
+}
+
+// What a tree is, if it is that.
+pub(crate) fn as_lit<'a>(tree: &Tree<'a>) -> Option<Lit<'a>>
+    ensures { MatchOption result ((test : List Token → Bool) (p q : List ℕ → Bool)
+        → IsShaped tree.now (g.alt test (g.literal p) (g.word q)) → ⊥)
+        (λ l. tree.now ≡ lit_tree l) }
+{
+    let Some(which) = take::chosen(tree) else {
+        return None;
+    };
+    match which {
+        Choice::First(inner) => match take::literal(inner) {
+            Some(literal) => Some(Lit::Token(literal)),
+            None => None,
+        },
+        Choice::Second(inner) => match take::word(inner) {
+            Some(word) => Some(Lit::Bool(word)),
             None => None,
         },
     }
