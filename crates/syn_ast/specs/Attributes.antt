@@ -1,10 +1,16 @@
 -- The trees that the types of attributes are.
-use Rattle.syn_ast.specs.Leaves.{mark_tree, turns_tree}
+use Rattle.syn_ast.specs.Leaves.{mark_tree, turns_tree, word_tree}
 use Rattle.syn_ast.specs.declared.attributes.InnerAttribute.{InnerAttribute}
 use Rattle.syn_ast.specs.declared.attributes.InnerAttributes.{InnerAttributes}
+use Rattle.syn_ast.specs.declared.attributes.Meta.{Meta}
+use Rattle.syn_ast.specs.declared.attributes.MetaPath.{MetaPath}
 use Rattle.syn_ast.specs.declared.attributes.OuterAttribute.{OuterAttribute}
 use Rattle.syn_ast.specs.declared.attributes.OuterAttributes.{OuterAttributes}
+use Rattle.syn_ast.specs.declared.attributes.Meta.TheVariants as metas
+use Rattle.syn_ast.specs.declared.attributes.MetaPath.TheVariants as paths
+use Rattle.syn_ast.specs.declared.leaf.Mark.{Mark}
 use Rattle.syn_grammar.specs.Kind as k
+use Rattle.syn_grammar.specs.Name as n
 use Rattle.syn_grammar.specs.Tree as t
 use Rattle.syn_grammar.specs.Tree.{Tree}
 
@@ -25,3 +31,23 @@ outer_attribute x = t.Node k.OuterAttribute (t.Pair (mark_tree x.pound_token)
 abbrev pub inner_attribute : InnerAttribute → Tree
 inner_attribute x = t.Node k.InnerAttribute (t.Pair (mark_tree x.pound_token) (t.Pair (mark_tree x.not_token)
     (t.Group x.bracket_token.delimiter x.meta.now)))
+
+-- unsafe, or a path
+abbrev pub meta_path_tree : MetaPath → Tree
+meta_path_tree (paths.Unsafe i) = t.First (word_tree i)
+meta_path_tree (paths.Path x) = t.Second x.now
+
+-- = and a value
+abbrev pub meta_value_tree : Mark → Tree → Tree
+meta_value_tree m x = t.Pair (mark_tree m) (t.Second (t.Called n.the_value x))
+
+-- a path alone, with tokens in a group, or with a value
+abbrev pub meta_inside : Meta → Tree
+meta_inside (metas.Path p) = t.Pair (meta_path_tree p) (t.Second (t.Second t.Nil))
+meta_inside (metas.List x) = t.Pair (meta_path_tree x.path) (t.First x.delimited.now)
+meta_inside (metas.NameValue x) =
+    t.Pair (meta_path_tree x.path) (t.Second (t.First (meta_value_tree x.eq_token x.value.now)))
+
+-- what stands in an attribute: a, a(b), a = b
+abbrev pub meta : Meta → Tree
+meta x = t.Node k.Meta (meta_inside x)

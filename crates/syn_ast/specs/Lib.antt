@@ -7,6 +7,7 @@ pub mod TypeBounds
 pub mod Paths
 pub mod Generics
 pub mod Attributes
+pub mod Visibility
 pub mod Data
 pub mod Patterns
 pub mod Blocks

@@ -1,16 +1,21 @@
 //! Attributes.
 
-ghost use Rattle.std.specs.Prelude.{◌≡◌, MatchOption};
-ghost use Rattle.syn_ast.specs.Attributes.{inner_attribute, inner_attributes, outer_attribute, outer_attributes};
-ghost use Rattle.syn_ast.specs.Shape.{IsShaped};
+ghost use Rattle.proc_macro2.specs.Token.{Token};
+ghost use Rattle.std.specs.Prelude.{◌≡◌, MatchOption, Bool, List, ℕ, false};
+ghost use Rattle.syn_ast.specs.Attributes.{inner_attribute, inner_attributes, meta, meta_path_tree, meta_value_tree};
+ghost use Rattle.syn_ast.specs.Attributes.{outer_attribute, outer_attributes};
+ghost use Rattle.syn_ast.specs.Shape.{IsShaped, may_choose};
 ghost use Rattle.syn_grammar.specs.Gram as g;
 ghost use Rattle.syn_grammar.specs.Kind as k;
+ghost use Rattle.syn_grammar.specs.Name as n;
 
 use crate::leaf::{Delimiters, Mark};
 use crate::list::Turns;
-use crate::take;
+use crate::take::{self, Choice, Choice3};
 use gram_table::kind::Kind;
+use gram_table::part::Part;
 use gram_tree::tree::Tree;
+use rust_leaf::ident::Ident;
 
 /// Outer attributes.
 #[derive(Clone, Copy)]
@@ -141,5 +146,121 @@ impl<'t, 'a> InnerAttribute<'t, 'a> {
             bracket_token,
             meta,
         })
+    }
+}
+
+/// The path of an attribute.
+#[derive(Clone, Copy)]
+pub enum MetaPath<'t, 'a> {
+    /// `unsafe`
+    Unsafe(&'a Ident),
+    /// A path, as a form of the kind `Path`.
+    Path(&'t Tree<'a>),
+}
+
+/// What stands in an attribute, with tokens in a group: `a(b)`.
+#[derive(Clone, Copy)]
+pub struct MetaList<'t, 'a> {
+    /// Its path.
+    pub path: MetaPath<'t, 'a>,
+    /// Its delimiters and the tokens in them, as a form of the kind `Delimited`.
+    pub delimited: &'t Tree<'a>,
+}
+
+/// What stands in an attribute, with a value: `a = b`.
+#[derive(Clone, Copy)]
+pub struct MetaNameValue<'t, 'a> {
+    /// Its path.
+    pub path: MetaPath<'t, 'a>,
+    /// `=`
+    pub eq_token: Mark,
+    /// Its value, as an expression.
+    pub value: &'t Tree<'a>,
+}
+
+/// What stands in an attribute.
+#[derive(Clone, Copy)]
+pub enum Meta<'t, 'a> {
+    /// A path: `a`.
+    Path(MetaPath<'t, 'a>),
+    /// A path and tokens in a group: `a(b)`.
+    List(MetaList<'t, 'a>),
+    /// A path and a value: `a = b`.
+    NameValue(MetaNameValue<'t, 'a>),
+}
+
+// What a tree is, if it is that.
+fn as_meta_path<'t, 'a>(tree: &'t Tree<'a>) -> Option<MetaPath<'t, 'a>>
+    ensures { MatchOption result ((test : List Token → Bool) (p : List ℕ → Bool) (a : g.Gram) → may_choose a ≡ false
+        → IsShaped tree.now (g.alt test (g.word p) a) → ⊥)
+        (λ x. tree.now ≡ meta_path_tree x) }
+{
+    let Some(which) = take::chosen(tree) else {
+        return None;
+    };
+    match which {
+        Choice::First(inner) => match take::word(inner) {
+            Some(word) => Some(MetaPath::Unsafe(word)),
+            None => None,
+        },
+        Choice::Second(inner) => Some(MetaPath::Path(inner)),
+    }
+}
+
+// = and a value, which does not begin with #.
+fn as_meta_value<'t, 'a>(tree: &'t Tree<'a>) -> Option<(Mark, &'t Tree<'a>)>
+    ensures { MatchOption result ((c : ℕ) (cs : List ℕ) (test : List Token → Bool) (a : g.Gram) → IsShaped tree.now
+        (g.seq (g.mark c cs) (g.alt test g.never (g.called n.the_value a))) → ⊥)
+        (λ p. tree.now ≡ meta_value_tree p.0 p.1.now) }
+{
+    let Some((eq_token, value)) = take::pair(tree) else {
+        return None;
+    };
+    let Some(eq_token) = take::mark(eq_token) else {
+        return None;
+    };
+    let Some(Choice::Second(value)) = take::chosen(value) else {
+        return None;
+    };
+    let Some((Part::Value, value)) = take::called(value) else {
+        return None;
+    };
+    Some((eq_token, value))
+}
+
+impl<'t, 'a> Meta<'t, 'a> {
+    /// What a tree is, if it is that.
+    #[tactic(auto, unfolding(syn_grammar::specs::Table::table))]
+    pub fn of(tree: &'t Tree<'a>) -> Option<Meta<'t, 'a>>
+        ensures { MatchOption result (IsShaped tree.now (g.ref k.Meta) → ⊥) (λ x. tree.now ≡ meta x) }
+    {
+        let Some((Kind::Meta, inner)) = take::node(tree) else {
+            return None;
+        };
+        let Some((path, behind)) = take::pair(inner) else {
+            return None;
+        };
+        let Some(path) = as_meta_path(path) else {
+            return None;
+        };
+        let Some(which) = take::chosen3(behind) else {
+            return None;
+        };
+        match which {
+            Choice3::First(delimited) => Some(Meta::List(MetaList { path, delimited })),
+            Choice3::Second(inner) => match as_meta_value(inner) {
+                Some((eq_token, value)) => Some(Meta::NameValue(MetaNameValue {
+                    path,
+                    eq_token,
+                    value,
+                })),
+                None => None,
+            },
+            Choice3::Third(inner) => if take::is_nothing(inner) {
+                Some(Meta::Path(path))
+            } else {
+                None
+            },
+        }
     }
 }

@@ -15,3 +15,4 @@ pub mod patterns;
 pub mod sub;
 pub mod take;
 pub mod types;
+pub mod visibility;

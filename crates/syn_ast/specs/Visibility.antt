@@ -1,0 +1,33 @@
+-- The trees that visibilities are.
+use Rattle.std.specs.Prelude.{None}
+use Rattle.syn_ast.specs.Leaves.{optional_tree, word_tree}
+use Rattle.syn_ast.specs.Sub.{worded_tree}
+use Rattle.syn_ast.specs.declared.leaf.Delimiters.{Delimiters}
+use Rattle.syn_ast.specs.declared.visibility.RestrictedTo.{RestrictedTo}
+use Rattle.syn_ast.specs.declared.visibility.Restriction.{Restriction}
+use Rattle.syn_ast.specs.declared.visibility.Visibility.{Visibility}
+use Rattle.syn_ast.specs.declared.visibility.RestrictedTo.TheVariants as places
+use Rattle.syn_ast.specs.declared.visibility.Visibility.TheVariants as visibilities
+use Rattle.syn_grammar.specs.Kind as k
+use Rattle.syn_grammar.specs.Name as n
+use Rattle.syn_grammar.specs.Tree as t
+use Rattle.syn_grammar.specs.Tree.{Tree}
+
+-- (in a::b), or (crate), (self) or (super)
+abbrev pub restriction_inside : Delimiters → RestrictedTo → Tree
+restriction_inside d (places.Path x) = t.First (t.Group d.delimiter (worded_tree x))
+restriction_inside d (places.Keyword i) = t.Second (t.Group d.delimiter (word_tree i))
+
+abbrev pub restriction_tree : Restriction → Tree
+restriction_tree x = restriction_inside x.paren_token x.path
+
+-- pub, pub and a restriction, or nothing
+abbrev pub visibility_inside : Visibility → Tree
+visibility_inside (visibilities.Public i) = t.First (t.Pair (t.Called n.the_pub (word_tree i)) (t.Second t.Nil))
+visibility_inside (visibilities.Restricted x) =
+    t.First (t.Pair (t.Called n.the_pub (word_tree x.pub_token)) (t.First (restriction_tree x.restriction)))
+visibility_inside visibilities.Inherited = t.Second t.Nil
+
+-- a visibility
+abbrev pub visibility : Visibility → Tree
+visibility x = t.Node k.Visibility (visibility_inside x)
