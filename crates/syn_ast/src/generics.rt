@@ -2,18 +2,24 @@
 
 ghost use Rattle.proc_macro2.specs.Token.{Token};
 ghost use Rattle.std.specs.Prelude.{◌≡◌, MatchOption, Bool, List, ℕ};
-ghost use Rattle.syn_ast.specs.Generics.{angled_params_tree, bounds, bounds_colon, generic_params, generics};
-ghost use Rattle.syn_ast.specs.Generics.{impl_generics, lifetime_colon, lifetime_param, lifetimes, type_param};
+ghost use Rattle.syn_ast.specs.Generics.{angled_params_tree, bounds, bounds_colon, clause_tree, const_default_tree};
+ghost use Rattle.syn_ast.specs.Generics.{const_param, const_value, generic_param, generic_params, generics};
+ghost use Rattle.syn_ast.specs.Generics.{impl_generics};
+ghost use Rattle.syn_ast.specs.Generics.{lifetime_colon, lifetime_param, lifetimes, optional_where, predicate_lifetime};
+ghost use Rattle.syn_ast.specs.Generics.{predicate_type, type_param, where_clause, where_predicate};
 ghost use Rattle.syn_ast.specs.Leaves.{optional_tree};
 ghost use Rattle.syn_ast.specs.Shape.{IsShaped};
 ghost use Rattle.syn_grammar.specs.Gram as g;
 ghost use Rattle.syn_grammar.specs.Kind as k;
 ghost use Rattle.syn_grammar.specs.Name as n;
+ghost use Rattle.syn_grammar.specs.Tree as t;
 
 use crate::leaf::{Lifetime, Mark};
 use crate::list::Elements;
-use crate::sub::{Marked, MarkedBounds, optional_as_marked, optional_as_marked_bounds};
-use crate::take;
+use crate::sub::{
+    Lit, Marked, MarkedBounds, as_lit, optional_as_marked, optional_as_marked_bounds,
+};
+use crate::take::{self, Choice, Choice3};
 use gram_table::kind::Kind;
 use gram_table::part::Part;
 use gram_tree::tree::Tree;
@@ -311,5 +317,372 @@ impl<'t, 'a> Lifetimes<'t, 'a> {
             return None;
         };
         Some(Lifetimes { lifetimes })
+    }
+}
+
+/// The value of a constant that is a parameter, where none is given.
+#[derive(Clone, Copy)]
+pub enum ConstValue<'t, 'a> {
+    /// A literal.
+    Lit(Lit<'a>),
+    /// A block, as a form of the kind `Body`.
+    Block(&'t Tree<'a>),
+    /// A name.
+    Ident(&'a Ident),
+}
+
+// What a tree is, if it is that.
+fn as_const_value<'t, 'a>(tree: &'t Tree<'a>) -> Option<ConstValue<'t, 'a>>
+    ensures { MatchOption result ((r s u : List Token → Bool) (o p q : List ℕ → Bool) (a : g.Gram) → IsShaped tree.now
+        (g.alt r (g.alt s (g.literal o) (g.word p)) (g.alt u a (g.word q))) → ⊥)
+        (λ x. tree.now ≡ const_value x) }
+{
+    let Some(which) = take::chosen3(tree) else {
+        return None;
+    };
+    match which {
+        Choice3::First(inner) => match as_lit(inner) {
+            Some(lit) => Some(ConstValue::Lit(lit)),
+            None => None,
+        },
+        Choice3::Second(inner) => Some(ConstValue::Block(inner)),
+        Choice3::Third(inner) => match take::word(inner) {
+            Some(ident) => Some(ConstValue::Ident(ident)),
+            None => None,
+        },
+    }
+}
+
+/// What stands for a constant where none is given: `= 1`.
+#[derive(Clone, Copy)]
+pub struct ConstDefault<'t, 'a> {
+    /// `=`
+    pub eq_token: Mark,
+    /// The value.
+    pub value: ConstValue<'t, 'a>,
+}
+
+// What a tree is, if it is that.
+fn as_const_default<'t, 'a>(tree: &'t Tree<'a>) -> Option<ConstDefault<'t, 'a>>
+    ensures { MatchOption result ((c : ℕ) (cs : List ℕ) (r s u : List Token → Bool) (o p q : List ℕ → Bool)
+        (a : g.Gram) → IsShaped tree.now (g.seq (g.mark c cs) (g.called n.the_value (g.alt r (g.alt s (g.literal o)
+        (g.word p)) (g.alt u a (g.word q))))) → ⊥)
+        (λ x. tree.now ≡ const_default_tree x) }
+{
+    let Some((eq_token, value)) = take::pair(tree) else {
+        return None;
+    };
+    let Some(eq_token) = take::mark(eq_token) else {
+        return None;
+    };
+    let Some((Part::Value, value)) = take::called(value) else {
+        return None;
+    };
+    let Some(value) = as_const_value(value) else {
+        return None;
+    };
+    Some(ConstDefault { eq_token, value })
+}
+
+// What stands there, if anything does.
+fn optional_as_const_default<'t, 'a>(tree: &'t Tree<'a>) -> Option<Option<ConstDefault<'t, 'a>>>
+    ensures { MatchOption result ((there : List Token → Bool) (c : ℕ) (cs : List ℕ) (r s u : List Token → Bool)
+        (o p q : List ℕ → Bool) (a : g.Gram) → IsShaped tree.now (g.alt there (g.seq (g.mark c cs)
+        (g.called n.the_value (g.alt r (g.alt s (g.literal o) (g.word p)) (g.alt u a (g.word q))))) g.nothing) → ⊥)
+        (λ x. tree.now ≡ optional_tree const_default_tree x) }
+{
+    match take::optional(tree) {
+        None => None,
+        Some(None) => Some(None),
+        Some(Some(inner)) => match as_const_default(inner) {
+            Some(found) => Some(Some(found)),
+            None => None,
+        },
+    }
+}
+
+/// A constant as a parameter: `const N: T = 1`.
+#[derive(Clone, Copy)]
+pub struct ConstParam<'t, 'a> {
+    /// Its attributes.
+    pub attrs: &'t Tree<'a>,
+    /// `const`
+    pub const_token: &'a Ident,
+    /// Its name.
+    pub ident: &'a Ident,
+    /// `:`
+    pub colon_token: Mark,
+    /// Its type.
+    pub ty: &'t Tree<'a>,
+    /// `=` and the value that stands for it where none is given.
+    pub default: Option<ConstDefault<'t, 'a>>,
+}
+
+impl<'t, 'a> ConstParam<'t, 'a> {
+    /// What a tree is, if it is that.
+    #[tactic(auto, unfolding(syn_grammar::specs::Table::table))]
+    pub fn of(tree: &'t Tree<'a>) -> Option<ConstParam<'t, 'a>>
+        ensures { MatchOption result (IsShaped tree.now (g.ref k.ConstParam) → ⊥) (λ x. tree.now ≡ const_param x) }
+    {
+        let Some((Kind::ConstParam, inner)) = take::node(tree) else {
+            return None;
+        };
+        let Some((attrs, const_token, ident, colon_token, ty, default)) = take::six(inner) else {
+            return None;
+        };
+        let Some(const_token) = take::word(const_token) else {
+            return None;
+        };
+        let Some(ident) = take::word(ident) else {
+            return None;
+        };
+        let Some(colon_token) = take::mark(colon_token) else {
+            return None;
+        };
+        let Some(default) = optional_as_const_default(default) else {
+            return None;
+        };
+        Some(ConstParam {
+            attrs,
+            const_token,
+            ident,
+            colon_token,
+            ty,
+            default,
+        })
+    }
+}
+
+/// A generic parameter.
+#[derive(Clone, Copy)]
+pub enum GenericParam<'t, 'a> {
+    /// A lifetime: `'a: 'b`.
+    Lifetime(LifetimeParam<'t, 'a>),
+    /// A type: `T: A = B`.
+    Type(TypeParam<'t, 'a>),
+    /// A constant: `const N: T = 1`.
+    Const(ConstParam<'t, 'a>),
+}
+
+impl<'t, 'a> GenericParam<'t, 'a> {
+    // A lifetime, by its name as a part.
+    fn of_lifetime(tree: &'t Tree<'a>) -> Option<LifetimeParam<'t, 'a>>
+        ensures { MatchOption result (IsShaped tree.now (g.called n.the_lifetime (g.ref k.LifetimeParam)) → ⊥)
+            (λ x. tree.now ≡ t.Called n.the_lifetime (lifetime_param x)) }
+    {
+        let Some((Part::Lifetime, inner)) = take::called(tree) else {
+            return None;
+        };
+        LifetimeParam::of(inner)
+    }
+
+    /// What a tree is, if it is that.
+    #[tactic(auto, unfolding(syn_grammar::specs::Table::table))]
+    pub fn of(tree: &'t Tree<'a>) -> Option<GenericParam<'t, 'a>>
+        ensures { MatchOption result (IsShaped tree.now (g.ref k.GenericParam) → ⊥) (λ x. tree.now ≡ generic_param x) }
+    {
+        let Some((Kind::GenericParam, inner)) = take::node(tree) else {
+            return None;
+        };
+        let Some(which) = take::chosen3(inner) else {
+            return None;
+        };
+        match which {
+            Choice3::First(inner) => match GenericParam::of_lifetime(inner) {
+                Some(found) => Some(GenericParam::Lifetime(found)),
+                None => None,
+            },
+            Choice3::Second(inner) => match ConstParam::of(inner) {
+                Some(found) => Some(GenericParam::Const(found)),
+                None => None,
+            },
+            Choice3::Third(inner) => match TypeParam::of(inner) {
+                Some(found) => Some(GenericParam::Type(found)),
+                None => None,
+            },
+        }
+    }
+}
+
+/// A where clause: `where A: B, C: D`.
+#[derive(Clone, Copy)]
+pub struct WhereClause<'t, 'a> {
+    /// `where`
+    pub where_token: &'a Ident,
+    /// What it asks, each as a form of the kind `WherePredicate`.
+    pub predicates: Elements<'t, 'a>,
+}
+
+impl<'t, 'a> WhereClause<'t, 'a> {
+    /// What a tree is, if it is that.
+    #[tactic(auto, unfolding(syn_grammar::specs::Table::table))]
+    pub fn of(tree: &'t Tree<'a>) -> Option<WhereClause<'t, 'a>>
+        ensures { MatchOption result (IsShaped tree.now (g.ref k.WhereClause) → ⊥) (λ x. tree.now ≡ where_clause x) }
+    {
+        let Some((Kind::WhereClause, inner)) = take::node(tree) else {
+            return None;
+        };
+        let Some((where_token, predicates, end)) = take::three(inner) else {
+            return None;
+        };
+        let Some(where_token) = take::word(where_token) else {
+            return None;
+        };
+        let Some((Part::Parameters, predicates)) = take::called(predicates) else {
+            return None;
+        };
+        let Some(predicates) = take::list(predicates) else {
+            return None;
+        };
+        if !take::is_ended(end) {
+            return None;
+        }
+        Some(WhereClause {
+            where_token,
+            predicates,
+        })
+    }
+}
+
+/// A where clause, where one stands.
+#[derive(Clone, Copy)]
+pub struct OptionalWhere<'t, 'a> {
+    /// It, as a form of the kind `WhereClause`.
+    pub clause: Option<&'t Tree<'a>>,
+}
+
+// What stands there, if anything does.
+fn optional_clause<'t, 'a>(tree: &'t Tree<'a>) -> Option<Option<&'t Tree<'a>>>
+    ensures { MatchOption result ((there : List Token → Bool) (a : g.Gram) → IsShaped tree.now (g.alt there
+        (g.called n.the_clause a) g.nothing) → ⊥)
+        (λ x. tree.now ≡ optional_tree clause_tree x) }
+{
+    match take::optional(tree) {
+        None => None,
+        Some(None) => Some(None),
+        Some(Some(inner)) => match take::called(inner) {
+            Some((Part::Clause, clause)) => Some(Some(clause)),
+            _ => None,
+        },
+    }
+}
+
+impl<'t, 'a> OptionalWhere<'t, 'a> {
+    /// What a tree is, if it is that.
+    #[tactic(auto, unfolding(syn_grammar::specs::Table::table))]
+    pub fn of(tree: &'t Tree<'a>) -> Option<OptionalWhere<'t, 'a>>
+        ensures { MatchOption result (IsShaped tree.now (g.ref k.Where) → ⊥) (λ x. tree.now ≡ optional_where x) }
+    {
+        let Some((Kind::Where, inner)) = take::node(tree) else {
+            return None;
+        };
+        let Some(clause) = optional_clause(inner) else {
+            return None;
+        };
+        Some(OptionalWhere { clause })
+    }
+}
+
+/// What is asked of a lifetime: `'a: 'b + 'c`.
+#[derive(Clone, Copy)]
+pub struct PredicateLifetime<'t, 'a> {
+    /// The lifetime.
+    pub lifetime: Lifetime<'a>,
+    /// `:`
+    pub colon_token: Mark,
+    /// What it outlives, as a form of the kind `Lifetimes`.
+    pub bounds: &'t Tree<'a>,
+}
+
+// What a tree is, if it is that.
+fn as_predicate_lifetime<'t, 'a>(tree: &'t Tree<'a>) -> Option<PredicateLifetime<'t, 'a>>
+    ensures { MatchOption result ((c : ℕ) (cs : List ℕ) (a : g.Gram) → IsShaped tree.now (g.seq g.lifetime
+        (g.seq (g.mark c cs) a)) → ⊥)
+        (λ x. tree.now ≡ predicate_lifetime x) }
+{
+    let Some((lifetime, colon_token, bounds)) = take::three(tree) else {
+        return None;
+    };
+    let Some(lifetime) = take::lifetime(lifetime) else {
+        return None;
+    };
+    let Some(colon_token) = take::mark(colon_token) else {
+        return None;
+    };
+    Some(PredicateLifetime {
+        lifetime,
+        colon_token,
+        bounds,
+    })
+}
+
+/// What is asked of a type: `for<'a> A: B + C`.
+#[derive(Clone, Copy)]
+pub struct PredicateType<'t, 'a> {
+    /// `for<'a>`, as a form of the kind `BoundLifetimes`.
+    pub lifetimes: Option<&'t Tree<'a>>,
+    /// The type.
+    pub bounded_ty: &'t Tree<'a>,
+    /// `:`
+    pub colon_token: Mark,
+    /// Its bounds, as a form of the kind `Bounds`.
+    pub bounds: &'t Tree<'a>,
+}
+
+// What a tree is, if it is that.
+fn as_predicate_type<'t, 'a>(tree: &'t Tree<'a>) -> Option<PredicateType<'t, 'a>>
+    ensures { MatchOption result ((there : List Token → Bool) (a b d : g.Gram) (c : ℕ) (cs : List ℕ)
+        → IsShaped tree.now (g.seq (g.alt there a g.nothing) (g.seq b (g.seq (g.mark c cs) d))) → ⊥)
+        (λ x. tree.now ≡ predicate_type x) }
+{
+    let Some((lifetimes, bounded_ty, colon_token, bounds)) = take::four(tree) else {
+        return None;
+    };
+    let Some(lifetimes) = take::optional(lifetimes) else {
+        return None;
+    };
+    let Some(colon_token) = take::mark(colon_token) else {
+        return None;
+    };
+    Some(PredicateType {
+        lifetimes,
+        bounded_ty,
+        colon_token,
+        bounds,
+    })
+}
+
+/// What a where clause asks.
+#[derive(Clone, Copy)]
+pub enum WherePredicate<'t, 'a> {
+    /// Of a lifetime: `'a: 'b + 'c`.
+    Lifetime(PredicateLifetime<'t, 'a>),
+    /// Of a type: `for<'a> A: B + C`.
+    Type(PredicateType<'t, 'a>),
+}
+
+impl<'t, 'a> WherePredicate<'t, 'a> {
+    /// What a tree is, if it is that.
+    #[tactic(auto, unfolding(syn_grammar::specs::Table::table))]
+    pub fn of(tree: &'t Tree<'a>) -> Option<WherePredicate<'t, 'a>>
+        ensures { MatchOption result (IsShaped tree.now (g.ref k.WherePredicate) → ⊥)
+            (λ x. tree.now ≡ where_predicate x) }
+    {
+        let Some((Kind::WherePredicate, inner)) = take::node(tree) else {
+            return None;
+        };
+        let Some(which) = take::chosen(inner) else {
+            return None;
+        };
+        match which {
+            Choice::First(inner) => match as_predicate_lifetime(inner) {
+                Some(found) => Some(WherePredicate::Lifetime(found)),
+                None => None,
+            },
+            Choice::Second(inner) => match as_predicate_type(inner) {
+                Some(found) => Some(WherePredicate::Type(found)),
+                None => None,
+            },
+        }
     }
 }
