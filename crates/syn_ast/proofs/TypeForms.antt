@@ -1,14 +1,15 @@
 -- What a type with bounds is, whether or not a + may stand in it; and that a tree which is none of the forms of a type
 -- is no type.
-use Rattle.std.specs.Prelude.{◌≡◌}
+use Rattle.std.specs.Prelude.{◌≡◌, refl}
 use Rattle.std.proofs.Common.{subst}
 use Rattle.syn_grammar.specs.Kind as k
 use Rattle.syn_grammar.specs.Gram as g
-use Rattle.syn_grammar.specs.Tree.{Tree, Node}
+use Rattle.syn_grammar.specs.Tree.{Tree, Node, Final}
 use Rattle.syn_grammar.specs.Part.{choice}
 use Rattle.syn_grammar.specs.Table.{table}
 use Rattle.syn_grammar.specs.Types.{type_entry}
 use Rattle.syn_ast.specs.Shape.{IsShaped, IsAmong}
+use Rattle.syn_ast.specs.Types.{no_lone}
 use Rattle.syn_ast.proofs.Chosen.{choice_is}
 
 pub either_plus_DynType : (x : Tree) → (IsShaped x (g.ref (k.DynType k.WithPlus)) → ⊥)
@@ -29,3 +30,8 @@ unfolding table
 type_inside x y q p e f h =
     let s : IsShaped (Node (k.AType q) y) (g.ref (k.AType p)) = subst (λ z. IsShaped z (g.ref (k.AType p))) e h in
     f q (choice_is y (type_entry q) s.1)
+
+-- what is no lone type is a tuple
+pub several_types : (l : Tree) → ((x : Tree) → l ≡ Final x → ⊥) → no_lone l ≡ l
+several_types (Final x) d = absurd (d x refl)
+several_types l d = refl

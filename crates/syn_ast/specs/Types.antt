@@ -1,8 +1,12 @@
 -- The trees that the types of types are.
-use Rattle.syn_ast.specs.Leaves.{lifetime_tree, list_tree, mark_tree, node_tree, optional_tree, word_tree}
+use Rattle.syn_ast.specs.Data.{name_tree}
+use Rattle.syn_ast.specs.Leaves.{lifetime_tree, list_tree, literal_tree, mark_tree, node_tree, optional_tree, word_tree}
 use Rattle.syn_ast.specs.Sub.{marked_type_tree, marked_value_tree}
+use Rattle.syn_ast.specs.declared.types.Abi.{Abi}
 use Rattle.syn_ast.specs.declared.types.AnyPath.{AnyPath}
+use Rattle.syn_ast.specs.declared.types.ArgumentName.{ArgumentName}
 use Rattle.syn_ast.specs.declared.types.BoundLifetimes.{BoundLifetimes}
+use Rattle.syn_ast.specs.declared.types.FnPtrArg.{FnPtrArg}
 use Rattle.syn_ast.specs.declared.types.PointerMutability.{PointerMutability}
 use Rattle.syn_ast.specs.declared.types.ReturnType.{ReturnType}
 use Rattle.syn_ast.specs.declared.types.«Type».{«Type» as Type'}
@@ -66,6 +70,18 @@ type_fn_ptr x = t.Node k.FnPtrType (t.Pair (optional_tree node_tree x.lifetimes)
     (optional_tree word_tree x.unsafety) (t.Pair (optional_tree node_tree x.abi) (t.Pair (word_tree x.fn_token)
     (t.Pair (t.Group x.paren_token.delimiter (list_tree x.inputs)) x.output.now)))))
 
+-- the name of an argument of a function pointer: a:
+abbrev pub argument_name_tree : ArgumentName → Tree
+argument_name_tree x = t.Pair (name_tree x.ident) (mark_tree x.colon_token)
+
+-- an argument of a function pointer: a: T
+abbrev pub fn_ptr_arg : FnPtrArg → Tree
+fn_ptr_arg x = t.Node k.FnPtrArg (t.Pair x.attrs.now (t.Pair (optional_tree argument_name_tree x.name) x.ty.now))
+
+-- the binary interface of a function: extern "C"
+abbrev pub abi : Abi → Tree
+abi x = t.Node k.Abi (t.Pair (word_tree x.extern_token) (optional_tree literal_tree x.name))
+
 -- lifetimes that are bound: for<'a>
 abbrev pub bound_lifetimes : BoundLifetimes → Tree
 bound_lifetimes x = t.Node k.BoundLifetimes (t.Pair (word_tree x.for_token) (t.Pair (mark_tree x.lt_token) (t.Pair
@@ -113,8 +129,13 @@ type_array x =
 abbrev pub type_paren : TypeParen → Tree
 type_paren x = t.Node k.TupleType (t.Group x.paren_token.delimiter (t.Final x.elem.now))
 
+-- one type without a comma is no tuple
+abbrev pub no_lone : Tree → Tree
+no_lone (t.Final x) = t.Nil
+no_lone l = l
+
 abbrev pub type_tuple : TypeTuple → Tree
-type_tuple x = t.Node k.TupleType (t.Group x.paren_token.delimiter (list_tree x.elems))
+type_tuple x = t.Node k.TupleType (t.Group x.paren_token.delimiter (no_lone (list_tree x.elems)))
 
 -- the form of a type
 abbrev pub type_tree : Type' → Tree

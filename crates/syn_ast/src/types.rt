@@ -2,8 +2,10 @@
 
 ghost use Rattle.proc_macro2.specs.Token.{Token};
 ghost use Rattle.std.specs.Prelude.{◌≡◌, MatchOption, Bool, List, false, ℕ};
+ghost use Rattle.syn_ast.specs.Leaves.{optional_tree};
 ghost use Rattle.syn_ast.specs.Shape.{IsAmong, IsShaped, may_choose};
-ghost use Rattle.syn_ast.specs.Types.{bound_lifetimes, form_of_type, pointer_mutability, return_type, type_bounds};
+ghost use Rattle.syn_ast.specs.Types.{abi, argument_name_tree, bound_lifetimes, fn_ptr_arg, form_of_type};
+ghost use Rattle.syn_ast.specs.Types.{pointer_mutability, return_type, type_bounds};
 ghost use Rattle.syn_ast.specs.Types.{type_bracketed, type_fn_ptr, type_impl_trait, type_infer, type_never};
 ghost use Rattle.syn_ast.specs.Types.{type_parenthesized, type_path, type_ptr, type_reference, type_trait_object};
 ghost use Rattle.syn_ast.specs.Types.{type_tree};
@@ -12,6 +14,7 @@ ghost use Rattle.syn_grammar.specs.Kind as k;
 ghost use Rattle.syn_grammar.specs.Name as n;
 ghost use Rattle.syn_grammar.specs.Types.{type_entry};
 
+use crate::data::{Name, as_name};
 use crate::leaf::{Delimiters, Lifetime, Mark};
 use crate::list::Elements;
 use crate::sub::{MarkedType, MarkedValue, optional_as_marked_type, optional_as_marked_value};
@@ -20,6 +23,7 @@ use gram_table::kind::{Kind, Plus, Style};
 use gram_table::part::Part;
 use gram_tree::tree::Tree;
 use rust_leaf::ident::Ident;
+use rust_leaf::literal::Literal;
 
 /// Whether what a pointer points to can be written.
 #[derive(Clone, Copy)]
@@ -269,6 +273,110 @@ impl<'t, 'a> TypeFnPtr<'t, 'a> {
             inputs,
             output,
         })
+    }
+}
+
+/// The name of a function pointer's argument: `a:`, `_:`.
+#[derive(Clone, Copy)]
+pub struct ArgumentName<'a> {
+    /// The name, or `_`.
+    pub ident: Name<'a>,
+    /// `:`
+    pub colon_token: Mark,
+}
+
+// What a tree is, if it is that.
+fn as_argument_name<'a>(tree: &Tree<'a>) -> Option<ArgumentName<'a>>
+    ensures { MatchOption result ((test : List Token → Bool) (p q : List ℕ → Bool) (c : ℕ) (cs : List ℕ)
+        → IsShaped tree.now (g.seq (g.alt test (g.word p) (g.word q)) (g.mark c cs)) → ⊥)
+        (λ x. tree.now ≡ argument_name_tree x) }
+{
+    let Some((ident, colon_token)) = take::pair(tree) else {
+        return None;
+    };
+    let Some(ident) = as_name(ident) else {
+        return None;
+    };
+    let Some(colon_token) = take::mark(colon_token) else {
+        return None;
+    };
+    Some(ArgumentName { ident, colon_token })
+}
+
+// What stands there, if anything does.
+fn optional_as_argument_name<'a>(tree: &Tree<'a>) -> Option<Option<ArgumentName<'a>>>
+    ensures { MatchOption result ((there test : List Token → Bool) (p q : List ℕ → Bool) (c : ℕ) (cs : List ℕ)
+        → IsShaped tree.now (g.alt there (g.seq (g.alt test (g.word p) (g.word q)) (g.mark c cs)) g.nothing) → ⊥)
+        (λ x. tree.now ≡ optional_tree argument_name_tree x) }
+{
+    match take::optional(tree) {
+        None => None,
+        Some(None) => Some(None),
+        Some(Some(inner)) => match as_argument_name(inner) {
+            Some(found) => Some(Some(found)),
+            None => None,
+        },
+    }
+}
+
+/// An argument of a function pointer: `a: T`.
+#[derive(Clone, Copy)]
+pub struct FnPtrArg<'t, 'a> {
+    /// Its attributes.
+    pub attrs: &'t Tree<'a>,
+    /// Its name and `:`.
+    pub name: Option<ArgumentName<'a>>,
+    /// Its type.
+    pub ty: &'t Tree<'a>,
+}
+
+impl<'t, 'a> FnPtrArg<'t, 'a> {
+    /// What a tree is, if it is that.
+    #[tactic(auto, unfolding(syn_grammar::specs::Table::table))]
+    pub fn of(tree: &'t Tree<'a>) -> Option<FnPtrArg<'t, 'a>>
+        ensures { MatchOption result (IsShaped tree.now (g.ref k.FnPtrArg) → ⊥) (λ x. tree.now ≡ fn_ptr_arg x) }
+    {
+        let Some((Kind::FnPtrArg, inner)) = take::node(tree) else {
+            return None;
+        };
+        let Some((attrs, name, ty)) = take::three(inner) else {
+            return None;
+        };
+        let Some(name) = optional_as_argument_name(name) else {
+            return None;
+        };
+        Some(FnPtrArg { attrs, name, ty })
+    }
+}
+
+/// The binary interface of a function: `extern "C"`.
+#[derive(Clone, Copy)]
+pub struct Abi<'a> {
+    /// `extern`
+    pub extern_token: &'a Ident,
+    /// `"C"`
+    pub name: Option<&'a Literal>,
+}
+
+impl<'a> Abi<'a> {
+    /// What a tree is, if it is that.
+    #[tactic(auto, unfolding(syn_grammar::specs::Table::table))]
+    pub fn of(tree: &Tree<'a>) -> Option<Abi<'a>>
+        ensures { MatchOption result (IsShaped tree.now (g.ref k.Abi) → ⊥) (λ x. tree.now ≡ abi x) }
+    {
+        let Some((Kind::Abi, inner)) = take::node(tree) else {
+            return None;
+        };
+        let Some((extern_token, name)) = take::pair(inner) else {
+            return None;
+        };
+        let Some(extern_token) = take::word(extern_token) else {
+            return None;
+        };
+        let Some(name) = take::optional_literal(name) else {
+            return None;
+        };
+        Some(Abi { extern_token, name })
     }
 }
 
@@ -695,6 +803,7 @@ fn slice_or_array<'t, 'a>(found: TypeBracketed<'t, 'a>) -> Type<'t, 'a>
 }
 
 // A tuple, or a type in parentheses.
+#[tactic(auto, using(crate::proofs::TypeForms::several_types))]
 fn tuple_or_paren<'t, 'a>(found: TypeParenthesized<'t, 'a>) -> Type<'t, 'a>
     ensures { type_tree result ≡ type_parenthesized found.entry }
 {
