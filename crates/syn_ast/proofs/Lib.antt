@@ -4,3 +4,4 @@ pub mod Derived
 pub mod TypeForms
 pub mod Chosen
 pub mod ExprForms
+pub mod Judged

@@ -7,6 +7,7 @@ pub mod bounds;
 pub mod data;
 pub mod expr;
 pub mod generics;
+pub mod kept;
 pub mod laws;
 pub mod leaf;
 pub mod list;
