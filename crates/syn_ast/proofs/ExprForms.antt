@@ -10,7 +10,7 @@ use Rattle.syn_grammar.specs.Tree.{Tree}
 use Rattle.gram_tree.specs.declared.tree.Element.{Element}
 use Rattle.gram_tree.specs.Forms.{mark_of, seconds, turns, elements, ending}
 use Rattle.syn_ast.specs.Shape.{IsShaped}
-use Rattle.syn_ast.specs.ExprForms.{IsBack, IsForm}
+use Rattle.syn_ast.specs.ExprForms.{IsAlone, IsBack, IsForm, IsFront, IsJump}
 
 -- none of these is a form of an expression
 pub first_form : (n : ℕ) (x : Tree) (k : Kind) → IsForm (seconds n (t.First x)) k → ⊥
@@ -31,12 +31,33 @@ elements_form c [] f None k h = absurd h
 elements_form c [] f (Some x) k h = absurd h
 elements_form c (x ∷ es) f o k h = absurd h
 
--- one with an operand before it is a form
+-- one with these operands is a form
+pub alone_form : (x : Tree) (k : Kind) → IsAlone x k → IsForm x k
+alone_form (t.Alone j y) k h = h
+alone_form _ k h = absurd h
+
+pub front_form : (x : Tree) (k : Kind) → IsFront x k → IsForm x k
+front_form (t.Front j y r) k h = h
+front_form _ k h = absurd h
+
 pub back_form : (x : Tree) (k : Kind) → IsBack x k → IsForm x k
 back_form (t.Back l j y) k h = h
 back_form _ k h = absurd h
 
+pub jump_form : (x : Tree) (k : Kind) → IsJump x k → IsForm x k
+jump_form (t.Alone j y) k h = h
+jump_form (t.Front j y r) k h = h
+jump_form _ k h = absurd h
+
+pub ruleset forms = (first_form, mark_form, turns_form, elements_form)
+
+pub ruleset alones = (first_form, mark_form, turns_form, elements_form, alone_form)
+
+pub ruleset fronts = (first_form, mark_form, turns_form, elements_form, front_form)
+
 pub ruleset backs = (first_form, mark_form, turns_form, elements_form, back_form)
+
+pub ruleset jumps = (first_form, mark_form, turns_form, elements_form, jump_form)
 
 -- never has no tree
 pub shaped_never : (x : Tree) → IsShaped x never → ⊥

@@ -13,4 +13,6 @@ pub mod Patterns
 pub mod Blocks
 pub mod ExprForms
 pub mod ExprParts
+pub mod ExprAtoms
 pub mod ExprPostfix
+pub mod ExprPrefix

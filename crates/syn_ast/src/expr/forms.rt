@@ -2,13 +2,37 @@
 
 ghost use Rattle.gram_table.specs.Kinds.{kind_of};
 ghost use Rattle.std.specs.Prelude.{◌≡◌, MatchOption, cond};
-ghost use Rattle.syn_ast.specs.ExprForms.{IsBack};
+ghost use Rattle.syn_ast.specs.ExprForms.{IsAlone, IsBack, IsFront};
 ghost use Rattle.syn_grammar.specs.Kind.{Kind as GivenKind};
 ghost use Rattle.syn_grammar.specs.Tree as t;
 
 use crate::take;
 use gram_table::kind::Kind;
 use gram_tree::tree::{Form, Tree};
+
+// Of a form by itself its kind and its own part.
+#[tactic(auto, using(crate::proofs::ExprForms::alones))]
+pub(crate) fn alone<'t, 'a>(tree: &'t Tree<'a>) -> Option<(Kind, &'t Tree<'a>)>
+    ensures { MatchOption result ((k : GivenKind) → IsAlone tree.now k → ⊥)
+        (λ p. tree.now ≡ t.Alone (kind_of p.0) p.1.now) }
+{
+    match &tree.form {
+        Form::Alone(kind, own) => Some((*kind, own)),
+        _ => None,
+    }
+}
+
+// Of a form with an operand behind it its kind, its own part, and that.
+#[tactic(auto, using(crate::proofs::ExprForms::fronts))]
+pub(crate) fn front<'t, 'a>(tree: &'t Tree<'a>) -> Option<(Kind, &'t Tree<'a>, &'t Tree<'a>)>
+    ensures { MatchOption result ((k : GivenKind) → IsFront tree.now k → ⊥)
+        (λ p. tree.now ≡ t.Front (kind_of p.0) p.1.now p.2.now) }
+{
+    match &tree.form {
+        Form::Front(kind, two) => Some((*kind, &two.front, &two.back)),
+        _ => None,
+    }
+}
 
 // Of a form with an operand before it that, its kind, and its own part.
 #[tactic(auto, using(crate::proofs::ExprForms::backs))]

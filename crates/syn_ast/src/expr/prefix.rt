@@ -1,0 +1,333 @@
+//! Expressions with an operand behind them.
+
+ghost use Rattle.proc_macro2.specs.Token.{Token};
+ghost use Rattle.std.specs.Prelude.{Bool, List, MatchOption, ℕ, ◌≡◌, ◌⊎◌};
+ghost use Rattle.syn_ast.specs.ExprForms.{IsAlone, IsFront};
+ghost use Rattle.syn_ast.specs.ExprPrefix.{closure_head, closure_tree, expr_attributed, expr_closure, expr_let};
+ghost use Rattle.syn_ast.specs.ExprPrefix.{expr_raw_addr, expr_reference};
+ghost use Rattle.syn_ast.specs.Leaves.{optional_tree, word_tree};
+ghost use Rattle.syn_ast.specs.Shape.{IsShaped};
+ghost use Rattle.syn_grammar.specs.Gram as g;
+ghost use Rattle.syn_grammar.specs.Kind as k;
+ghost use Rattle.syn_grammar.specs.Expressions as entries;
+
+use crate::expr::forms;
+use crate::leaf::Mark;
+use crate::list::Elements;
+use crate::take;
+use gram_table::kind::Kind;
+use gram_tree::tree::Tree;
+use rust_leaf::ident::Ident;
+
+/// An expression with attributes: `#[a] b`.
+#[derive(Clone, Copy)]
+pub struct ExprAttributed<'t, 'a> {
+    /// The first attribute.
+    pub attr: &'t Tree<'a>,
+    /// The others.
+    pub attrs: &'t Tree<'a>,
+    /// The expression.
+    pub expr: &'t Tree<'a>,
+}
+
+impl<'t, 'a> ExprAttributed<'t, 'a> {
+    /// What a tree is, if it is that.
+    #[tactic(auto, unfolding(syn_grammar::specs::Table::table))]
+    pub fn of(tree: &'t Tree<'a>) -> Option<ExprAttributed<'t, 'a>>
+        ensures { MatchOption result (IsFront tree.now k.ExprAttributed → ⊥) (λ x. tree.now ≡ expr_attributed x) }
+    {
+        let Some((Kind::ExprAttributed, own, expr)) = forms::front(tree) else {
+            return None;
+        };
+        let Some((attr, attrs)) = take::pair(own) else {
+            return None;
+        };
+        Some(ExprAttributed { attr, attrs, expr })
+    }
+}
+
+/// A raw address: `&raw const a`.
+#[derive(Clone, Copy)]
+pub struct ExprRawAddr<'t, 'a> {
+    /// `&`
+    pub and_token: Mark,
+    /// `raw`
+    pub raw: &'a Ident,
+    /// `const` or `mut`
+    pub mutability: &'a Ident,
+    /// Of what it is one.
+    pub expr: &'t Tree<'a>,
+}
+
+impl<'t, 'a> ExprRawAddr<'t, 'a> {
+    /// What a tree is, if it is that.
+    #[tactic(auto, unfolding(syn_grammar::specs::Table::table))]
+    pub fn of(tree: &'t Tree<'a>) -> Option<ExprRawAddr<'t, 'a>>
+        ensures { MatchOption result (IsFront tree.now k.ExprRawAddr → ⊥) (λ x. tree.now ≡ expr_raw_addr x) }
+    {
+        let Some((Kind::ExprRawAddr, own, expr)) = forms::front(tree) else {
+            return None;
+        };
+        let Some((and_token, raw, mutability)) = take::three(own) else {
+            return None;
+        };
+        let Some(and_token) = take::mark(and_token) else {
+            return None;
+        };
+        let Some(raw) = take::word(raw) else {
+            return None;
+        };
+        let Some(mutability) = take::word(mutability) else {
+            return None;
+        };
+        Some(ExprRawAddr {
+            and_token,
+            raw,
+            mutability,
+            expr,
+        })
+    }
+}
+
+/// A reference: `&mut a`.
+#[derive(Clone, Copy)]
+pub struct ExprReference<'t, 'a> {
+    /// `&`
+    pub and_token: Mark,
+    /// `mut`
+    pub mutability: Option<&'a Ident>,
+    /// What it refers to.
+    pub expr: &'t Tree<'a>,
+}
+
+impl<'t, 'a> ExprReference<'t, 'a> {
+    /// What a tree is, if it is that.
+    #[tactic(auto, unfolding(syn_grammar::specs::Table::table))]
+    pub fn of(tree: &'t Tree<'a>) -> Option<ExprReference<'t, 'a>>
+        ensures { MatchOption result (IsFront tree.now k.ExprReference → ⊥) (λ x. tree.now ≡ expr_reference x) }
+    {
+        let Some((Kind::ExprReference, own, expr)) = forms::front(tree) else {
+            return None;
+        };
+        let Some((and_token, mutability)) = take::pair(own) else {
+            return None;
+        };
+        let Some(and_token) = take::mark(and_token) else {
+            return None;
+        };
+        let Some(mutability) = take::optional_word(mutability) else {
+            return None;
+        };
+        Some(ExprReference {
+            and_token,
+            mutability,
+            expr,
+        })
+    }
+}
+
+/// A condition by a pattern: `let a = b`.
+#[derive(Clone, Copy)]
+pub struct ExprLet<'t, 'a> {
+    /// `let`
+    pub let_token: &'a Ident,
+    /// The pattern.
+    pub pat: &'t Tree<'a>,
+    /// `=`
+    pub eq_token: Mark,
+    /// The value.
+    pub expr: &'t Tree<'a>,
+}
+
+impl<'t, 'a> ExprLet<'t, 'a> {
+    /// What a tree is, if it is that.
+    #[tactic(auto, unfolding(syn_grammar::specs::Table::table))]
+    pub fn of(tree: &'t Tree<'a>) -> Option<ExprLet<'t, 'a>>
+        ensures { MatchOption result (IsFront tree.now k.ExprLet → ⊥) (λ x. tree.now ≡ expr_let x) }
+    {
+        let Some((Kind::ExprLet, own, expr)) = forms::front(tree) else {
+            return None;
+        };
+        let Some((let_token, pat, eq_token)) = take::three(own) else {
+            return None;
+        };
+        let Some(let_token) = take::word(let_token) else {
+            return None;
+        };
+        let Some(eq_token) = take::mark(eq_token) else {
+            return None;
+        };
+        Some(ExprLet {
+            let_token,
+            pat,
+            eq_token,
+            expr,
+        })
+    }
+}
+
+// What stands before a closure's body.
+#[derive(Clone, Copy)]
+pub(crate) struct ClosureHead<'t, 'a> {
+    // The lifetimes that it binds.
+    pub(crate) lifetimes: Option<&'t Tree<'a>>,
+    // `const`
+    pub(crate) constness: Option<&'a Ident>,
+    // `static`
+    pub(crate) movability: Option<&'a Ident>,
+    // `async`
+    pub(crate) asyncness: Option<&'a Ident>,
+    // `move`
+    pub(crate) capture: Option<&'a Ident>,
+    // `|`
+    pub(crate) or1_token: Mark,
+    // Its parameters.
+    pub(crate) inputs: Elements<'t, 'a>,
+    // `|`
+    pub(crate) or2_token: Mark,
+}
+
+// What a tree is, if it is that.
+fn as_closure_head<'t, 'a>(tree: &'t Tree<'a>) -> Option<ClosureHead<'t, 'a>>
+    ensures { MatchOption result (IsShaped tree.now entries.expr_closure → ⊥) (λ h. tree.now ≡ closure_head h) }
+{
+    let Some((lifetimes, constness, movability, asyncness, capture, or1_token, inputs, or2_token)) =
+        take::eight(tree) else {
+        return None;
+    };
+    let Some(lifetimes) = take::optional(lifetimes) else {
+        return None;
+    };
+    let Some((constness, movability)) = two_words(constness, movability) else {
+        return None;
+    };
+    let Some((asyncness, capture)) = two_words(asyncness, capture) else {
+        return None;
+    };
+    let Some(or1_token) = take::mark(or1_token) else {
+        return None;
+    };
+    let Some(inputs) = take::list(inputs) else {
+        return None;
+    };
+    let Some(or2_token) = take::mark(or2_token) else {
+        return None;
+    };
+    Some(ClosureHead {
+        lifetimes,
+        constness,
+        movability,
+        asyncness,
+        capture,
+        or1_token,
+        inputs,
+        or2_token,
+    })
+}
+
+/// A closure: `move |a, b| c`, `|a| -> T { .. }`.
+#[derive(Clone, Copy)]
+pub struct ExprClosure<'t, 'a> {
+    /// The lifetimes that it binds: `for<'a>`.
+    pub lifetimes: Option<&'t Tree<'a>>,
+    /// `const`
+    pub constness: Option<&'a Ident>,
+    /// `static`
+    pub movability: Option<&'a Ident>,
+    /// `async`
+    pub asyncness: Option<&'a Ident>,
+    /// `move`
+    pub capture: Option<&'a Ident>,
+    /// `|`
+    pub or1_token: Mark,
+    /// Its parameters, each as a form of the kind `ClosureParam`.
+    pub inputs: Elements<'t, 'a>,
+    /// `|`
+    pub or2_token: Mark,
+    /// What it returns, as a form of the kind `ReturnType`, where its body is a block behind that.
+    pub output: Option<&'t Tree<'a>>,
+    /// Its body: an expression, or behind a type a form of the kind `Block`.
+    pub body: &'t Tree<'a>,
+}
+
+// A closure, from its parts.
+fn closure<'t, 'a>(
+    head: ClosureHead<'t, 'a>,
+    output: Option<&'t Tree<'a>>,
+    body: &'t Tree<'a>,
+) -> ExprClosure<'t, 'a>
+    ensures { expr_closure result ≡ closure_tree (closure_head head.entry) output.entry body.now }
+{
+    ExprClosure {
+        lifetimes: head.lifetimes,
+        constness: head.constness,
+        movability: head.movability,
+        asyncness: head.asyncness,
+        capture: head.capture,
+        or1_token: head.or1_token,
+        inputs: head.inputs,
+        or2_token: head.or2_token,
+        output,
+        body,
+    }
+}
+
+impl<'t, 'a> ExprClosure<'t, 'a> {
+    // One that says no type.
+    #[tactic(auto, unfolding(syn_grammar::specs::Table::table))]
+    fn untyped(tree: &'t Tree<'a>) -> Option<ExprClosure<'t, 'a>>
+        ensures { MatchOption result (IsFront tree.now k.ExprClosure → ⊥) (λ x. tree.now ≡ expr_closure x) }
+    {
+        let Some((Kind::ExprClosure, own, body)) = forms::front(tree) else {
+            return None;
+        };
+        let Some(head) = as_closure_head(own) else {
+            return None;
+        };
+        Some(closure(head, None, body))
+    }
+
+    // One that says a type.
+    #[tactic(auto, unfolding(syn_grammar::specs::Table::table))]
+    fn typed(tree: &'t Tree<'a>) -> Option<ExprClosure<'t, 'a>>
+        ensures { MatchOption result (IsAlone tree.now k.ExprTypedClosure → ⊥) (λ x. tree.now ≡ expr_closure x) }
+    {
+        let Some((Kind::ExprTypedClosure, own)) = forms::alone(tree) else {
+            return None;
+        };
+        let Some((head, output, body)) = take::three(own) else {
+            return None;
+        };
+        let Some(head) = as_closure_head(head) else {
+            return None;
+        };
+        Some(closure(head, Some(output), body))
+    }
+
+    /// What a tree is, if it is that.
+    pub fn of(tree: &'t Tree<'a>) -> Option<ExprClosure<'t, 'a>>
+        ensures { MatchOption result (IsFront tree.now k.ExprClosure ⊎ IsAlone tree.now k.ExprTypedClosure → ⊥)
+            (λ x. tree.now ≡ expr_closure x) }
+    {
+        match ExprClosure::untyped(tree) {
+            Some(found) => Some(found),
+            None => ExprClosure::typed(tree),
+        }
+    }
+}
+
+// The words that stand at both places.
+fn two_words<'a>(one: &Tree<'a>, other: &Tree<'a>) -> Option<(Option<&'a Ident>, Option<&'a Ident>)>
+    ensures { MatchOption result ((t1 : List Token → Bool) (p2 : List ℕ → Bool) (t3 : List Token → Bool)
+        (p4 : List ℕ → Bool) → IsShaped one.now (g.alt t1 (g.word p2) g.nothing)
+        → IsShaped other.now (g.alt t3 (g.word p4) g.nothing) → ⊥)
+        (λ w. (one.now ≡ optional_tree word_tree w.0) × (other.now ≡ optional_tree word_tree w.1)) }
+{
+    let Some(one) = take::optional_word(one) else {
+        return None;
+    };
+    let Some(other) = take::optional_word(other) else {
+        return None;
+    };
+    Some((one, other))
+}
