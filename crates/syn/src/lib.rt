@@ -6,13 +6,16 @@
 //!
 //! - `parse`: tokens that are one form of a kind: a file, an item, a type, an expression.
 //! - `leaf`: the leaves of a tree, in their order, with where they stand.
+//! - `copy`: a tree once more, over the same tokens.
 //! - `node`: its nodes and the forms of its expressions, at every depth.
 #![tactic(auto)]
 
+pub mod copy;
 pub mod leaf;
 pub mod node;
 pub mod parse;
 
+pub use copy::copied;
 pub use gram_table::kind::{Kind, Place, Plus, Position, Style};
 pub use gram_table::part::Part;
 pub use gram_tree::tree::{Element, Form, Three, Tree, Two};

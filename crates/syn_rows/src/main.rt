@@ -1,6 +1,6 @@
 //! Answers a table of texts, each by a form of the kind that its row names: the printed normal form, with what is left
 //! behind it, or that the text is refused. What is wanted comes from the rules, and stands beside the questions in
-//! `stdout`.
+//! `stdout`. A copy of each form is written too.
 #![tactic(auto)]
 
 mod kinds;
@@ -14,7 +14,7 @@ use rows::{Row, Table, answered, write};
 use std::alloc::Global;
 use std::io::{Read, Write};
 use syn::parse::parse_front;
-use syn::{Kind, ParseFault, SourceMap, TokenBuffer, TokenStream, Tree};
+use syn::{Kind, ParseFault, SourceMap, TokenBuffer, TokenStream, Tree, copied};
 use syn_buffer::entry::Entry;
 
 struct Forms;
@@ -66,8 +66,13 @@ fn front_form(alloc: Global, kind: Kind, buffer: &TokenBuffer) -> Result<Option<
         Ok(found) => found,
         Err(fault) => return unread(fault),
     };
+    let written = normal(alloc, &tree)?;
+    let copy = copied(alloc, &tree)?;
+    if normal(alloc, &copy)?.as_str() != written.as_str() {
+        return Err(anyhow!("a copy is another tree"));
+    }
     Ok(Some(Formed {
-        written: normal(alloc, &tree)?,
+        written,
         left: left_over(alloc, rest)?,
     }))
 }
