@@ -1,6 +1,6 @@
 -- Of choices among several, one after the other: what stands behind the first, and the last one.
 use Rattle.std.specs.Prelude.{◌≡◌, ◌≢◌, ◌-◌, ℕ, zero, suc, refl}
-use Rattle.std.specs.Prelude.{Bool, false, List, [], ◌∷◌, Option, Some, None}
+use Rattle.std.specs.Prelude.{false, List, [], ◌∷◌, Option, Some, None}
 use Rattle.rust_leaf.specs.declared.punct.Spacing.{Spacing}
 use Rattle.std.proofs.Common.{arith}
 use Rattle.syn_grammar.specs.Gram.{Gram}

@@ -8,7 +8,6 @@ use Rattle.syn_ast.specs.declared.expr.atoms.ExprContinue.{ExprContinue}
 use Rattle.syn_grammar.specs.Kind as k
 use Rattle.syn_grammar.specs.Tree as t
 use Rattle.syn_grammar.specs.Tree.{Tree}
-use Rattle.std.specs.Prelude.{true, false}
 
 -- an expression in a group without delimiters
 abbrev pub expr_group : ExprGroup → Tree

@@ -1,6 +1,5 @@
 -- The trees that visibilities are.
-use Rattle.std.specs.Prelude.{None}
-use Rattle.syn_ast.specs.Leaves.{optional_tree, word_tree}
+use Rattle.syn_ast.specs.Leaves.{word_tree}
 use Rattle.syn_ast.specs.Sub.{worded_tree}
 use Rattle.syn_ast.specs.declared.leaf.Delimiters.{Delimiters}
 use Rattle.syn_ast.specs.declared.visibility.RestrictedTo.{RestrictedTo}
