@@ -1,21 +1,22 @@
 //! Fields, variants, structs, enums and unions.
 
 ghost use Rattle.proc_macro2.specs.Token.{Token};
-ghost use Rattle.std.specs.Prelude.{◌≡◌, MatchOption, Bool, List, ℕ};
-ghost use Rattle.syn_ast.specs.Data.{fields_named, fields_unnamed, item_enum, item_extern_crate, item_static};
-ghost use Rattle.syn_ast.specs.Data.{item_union, item_use, name_tree, named_field, renamed_tree, word_of_name};
-ghost use Rattle.syn_ast.specs.Generics.{generics};
+ghost use Rattle.std.specs.Prelude.{◌≡◌, ◌⊎◌, MatchOption, Bool, List, cond, ℕ};
+ghost use Rattle.syn_ast.specs.Data.{derive_input, derived, field, fields_named, fields_unnamed, item_enum};
+ghost use Rattle.syn_ast.specs.Data.{item_extern_crate, item_static, item_struct, item_union, item_use, name_tree};
+ghost use Rattle.syn_ast.specs.Data.{named_field, renamed_tree, struct_end, unnamed_field, variant, variant_fields};
+ghost use Rattle.syn_ast.specs.Data.{word_of_name};
 ghost use Rattle.syn_ast.specs.Leaves.{optional_tree, word_tree};
 ghost use Rattle.syn_ast.specs.Shape.{IsShaped};
 ghost use Rattle.syn_grammar.specs.Gram as g;
 ghost use Rattle.syn_grammar.specs.Kind as k;
+ghost use Rattle.syn_grammar.specs.Name as n;
+ghost use Rattle.syn_grammar.specs.Tree as t;
 
-use crate::generics::Generics;
 use crate::leaf::{Delimiters, Mark};
 use crate::list::Elements;
-use crate::paths::Path;
 use crate::sub::{MarkedType, MarkedValue, optional_as_marked_type, optional_as_marked_value};
-use crate::take::{self, Choice};
+use crate::take::{self, Choice, Choice3};
 use gram_table::kind::Kind;
 use gram_table::part::Part;
 use gram_tree::tree::Tree;
@@ -486,5 +487,428 @@ impl<'t, 'a> ItemUse<'t, 'a> {
             tree,
             semi_token,
         })
+    }
+}
+
+/// A field without a name: `pub T`.
+#[derive(Clone, Copy)]
+pub struct UnnamedField<'t, 'a> {
+    /// Its attributes.
+    pub attrs: &'t Tree<'a>,
+    /// Its visibility.
+    pub vis: &'t Tree<'a>,
+    /// Its type.
+    pub ty: &'t Tree<'a>,
+}
+
+impl<'t, 'a> UnnamedField<'t, 'a> {
+    /// What a tree is, if it is that.
+    #[tactic(auto, unfolding(syn_grammar::specs::Table::table))]
+    pub fn of(tree: &'t Tree<'a>) -> Option<UnnamedField<'t, 'a>>
+        ensures { MatchOption result (IsShaped tree.now (g.ref k.UnnamedField) → ⊥) (λ x. tree.now ≡ unnamed_field x) }
+    {
+        let Some((Kind::UnnamedField, inner)) = take::node(tree) else {
+            return None;
+        };
+        let (attrs, vis, ty, end) = take::four(inner)?;
+        if take::is_missing(end) {
+            Some(UnnamedField { attrs, vis, ty })
+        } else {
+            None
+        }
+    }
+}
+
+/// A field, with a name or without: `pub a: T = b`, `pub T`.
+#[derive(Clone, Copy)]
+pub struct Field<'t, 'a> {
+    /// Its attributes.
+    pub attrs: &'t Tree<'a>,
+    /// Its visibility.
+    pub vis: &'t Tree<'a>,
+    /// Its name, or `_`.
+    pub ident: Option<Name<'a>>,
+    /// `:`
+    pub colon_token: Option<Mark>,
+    /// Its type.
+    pub ty: &'t Tree<'a>,
+    /// `=` and its value by default.
+    pub default: Option<MarkedValue<'t, 'a>>,
+}
+
+impl<'t, 'a> Field<'t, 'a> {
+    /// What a tree is, if it is a field with a name or one without.
+    pub fn of(tree: &'t Tree<'a>) -> Option<Field<'t, 'a>>
+        ensures { MatchOption result ((IsShaped tree.now (g.ref k.NamedField) ⊎ IsShaped tree.now
+            (g.ref k.UnnamedField)) → ⊥) (λ x. tree.now ≡ field x) }
+    {
+        match NamedField::of(tree) {
+            Some(found) => Some(Field {
+                attrs: found.attrs,
+                vis: found.vis,
+                ident: Some(found.ident),
+                colon_token: Some(found.colon_token),
+                ty: found.ty,
+                default: found.default,
+            }),
+            None => match UnnamedField::of(tree) {
+                Some(found) => Some(Field {
+                    attrs: found.attrs,
+                    vis: found.vis,
+                    ident: None,
+                    colon_token: None,
+                    ty: found.ty,
+                    default: None,
+                }),
+                None => None,
+            },
+        }
+    }
+}
+
+/// Fields: `{ a: T }`, `(T)`, or none.
+#[derive(Clone, Copy)]
+pub enum Fields<'t, 'a> {
+    /// `{ a: T }`
+    Named(FieldsNamed<'t, 'a>),
+    /// `(T)`
+    Unnamed(FieldsUnnamed<'t, 'a>),
+    /// None.
+    Unit,
+}
+
+// What stands behind the name of a variant.
+fn as_fields<'t, 'a>(tree: &'t Tree<'a>) -> Option<Fields<'t, 'a>>
+    ensures { MatchOption result ((s u : List Token → Bool) → IsShaped tree.now (g.alt s (g.ref k.NamedFields) (g.alt u
+        (g.ref k.UnnamedFields) g.nothing)) → ⊥) (λ x. tree.now ≡ variant_fields x) }
+{
+    match take::chosen3(tree) {
+        Some(Choice3::First(inner)) => {
+            let found = FieldsNamed::of(inner)?;
+            Some(Fields::Named(found))
+        }
+        Some(Choice3::Second(inner)) => {
+            let found = FieldsUnnamed::of(inner)?;
+            Some(Fields::Unnamed(found))
+        }
+        Some(Choice3::Third(inner)) => if take::is_nothing(inner) {
+            Some(Fields::Unit)
+        } else {
+            None
+        },
+        None => None,
+    }
+}
+
+/// A variant of an enum: `A { b: T } = c`.
+#[derive(Clone, Copy)]
+pub struct Variant<'t, 'a> {
+    /// Its attributes.
+    pub attrs: &'t Tree<'a>,
+    /// A visibility, which was read and is no part of the program.
+    pub vis: &'t Tree<'a>,
+    /// Its name.
+    pub ident: &'a Ident,
+    /// Its fields.
+    pub fields: Fields<'t, 'a>,
+    /// `=` and its value.
+    pub discriminant: Option<MarkedValue<'t, 'a>>,
+}
+
+impl<'t, 'a> Variant<'t, 'a> {
+    /// What a tree is, if it is that.
+    #[tactic(auto, unfolding(syn_grammar::specs::Table::table))]
+    pub fn of(tree: &'t Tree<'a>) -> Option<Variant<'t, 'a>>
+        ensures { MatchOption result (IsShaped tree.now (g.ref k.Variant) → ⊥) (λ x. tree.now ≡ variant x) }
+    {
+        let Some((Kind::Variant, inner)) = take::node(tree) else {
+            return None;
+        };
+        let (attrs, vis, ident, fields, discriminant) = take::five(inner)?;
+        let vis = take::dropped(vis)?;
+        let ident = take::word(ident)?;
+        let fields = as_fields(fields)?;
+        let discriminant = optional_as_marked_value(discriminant)?;
+        Some(Variant {
+            attrs,
+            vis,
+            ident,
+            fields,
+            discriminant,
+        })
+    }
+}
+
+/// A struct: `struct A<T> where .. { b: B }`, behind its attributes and its visibility.
+#[derive(Clone, Copy)]
+pub struct ItemStruct<'t, 'a> {
+    /// `struct`
+    pub struct_token: &'a Ident,
+    /// Its name.
+    pub ident: &'a Ident,
+    /// Its generic parameters.
+    pub generics: &'t Tree<'a>,
+    /// Its where clause: before braces, and behind parentheses.
+    pub where_clause: &'t Tree<'a>,
+    /// Its fields.
+    pub fields: Fields<'t, 'a>,
+    /// `;`, where they have no braces.
+    pub semi_token: Option<Mark>,
+}
+
+// What stands behind the generic parameters of a struct.
+#[derive(Clone, Copy)]
+pub(crate) struct StructEnd<'t, 'a> {
+    // Its where clause.
+    pub(crate) where_clause: &'t Tree<'a>,
+    // Its fields.
+    pub(crate) fields: Fields<'t, 'a>,
+    // `;`, where they have no braces.
+    pub(crate) semi_token: Option<Mark>,
+}
+
+// Fields without names, and what stands behind them.
+fn unnamed_end<'t, 'a>(tree: &'t Tree<'a>) -> Option<StructEnd<'t, 'a>>
+    ensures { MatchOption result ((a : g.Gram) (c : ℕ) (cs : List ℕ) → IsShaped tree.now (g.seq (g.ref k.UnnamedFields)
+        (g.seq (g.called n.the_where a) (g.mark c cs))) → ⊥)
+        (λ x. t.First tree.now ≡ struct_end x.fields x.where_clause x.semi_token) }
+{
+    let (fields, where_clause, semi_token) = take::three(tree)?;
+    let fields = FieldsUnnamed::of(fields)?;
+    let Some((Part::Where, where_clause)) = take::called(where_clause) else {
+        return None;
+    };
+    let semi_token = take::mark(semi_token)?;
+    Some(StructEnd {
+        where_clause,
+        fields: Fields::Unnamed(fields),
+        semi_token: Some(semi_token),
+    })
+}
+
+// A where clause, and fields with names or none.
+fn where_end<'t, 'a>(tree: &'t Tree<'a>) -> Option<StructEnd<'t, 'a>>
+    ensures { MatchOption result ((s : List Token → Bool) (a : g.Gram) (c : ℕ) (cs : List ℕ) → IsShaped tree.now
+        (g.seq (g.called n.the_where a) (g.alt s (g.ref k.NamedFields) (g.mark c cs))) → ⊥)
+        (λ x. t.Second tree.now ≡ struct_end x.fields x.where_clause x.semi_token) }
+{
+    let (where_clause, end) = take::pair(tree)?;
+    let Some((Part::Where, where_clause)) = take::called(where_clause) else {
+        return None;
+    };
+    match take::chosen(end) {
+        Some(Choice::First(inner)) => {
+            let found = FieldsNamed::of(inner)?;
+            Some(StructEnd {
+                where_clause,
+                fields: Fields::Named(found),
+                semi_token: None,
+            })
+        }
+        Some(Choice::Second(inner)) => {
+            let semi_token = take::mark(inner)?;
+            Some(StructEnd {
+                where_clause,
+                fields: Fields::Unit,
+                semi_token: Some(semi_token),
+            })
+        }
+        None => None,
+    }
+}
+
+// What stands behind the generic parameters of a struct.
+fn as_struct_end<'t, 'a>(tree: &'t Tree<'a>) -> Option<StructEnd<'t, 'a>>
+    ensures { MatchOption result ((s u : List Token → Bool) (a b : g.Gram) (c d : ℕ) (cs ds : List ℕ) → IsShaped tree.now
+        (g.alt s (g.seq (g.ref k.UnnamedFields) (g.seq (g.called n.the_where a) (g.mark c cs))) (g.seq
+        (g.called n.the_where b) (g.alt u (g.ref k.NamedFields) (g.mark d ds)))) → ⊥)
+        (λ x. tree.now ≡ struct_end x.fields x.where_clause x.semi_token) }
+{
+    match take::chosen(tree) {
+        Some(Choice::First(inner)) => unnamed_end(inner),
+        Some(Choice::Second(inner)) => where_end(inner),
+        None => None,
+    }
+}
+
+impl<'t, 'a> ItemStruct<'t, 'a> {
+    /// What a tree is, if it is that.
+    #[tactic(auto, unfolding(syn_grammar::specs::Table::table))]
+    pub fn of(tree: &'t Tree<'a>) -> Option<ItemStruct<'t, 'a>>
+        ensures { MatchOption result (IsShaped tree.now (g.ref k.AStruct) → ⊥) (λ x. tree.now ≡ item_struct x) }
+    {
+        let Some((Kind::AStruct, inner)) = take::node(tree) else {
+            return None;
+        };
+        let (struct_token, ident, generics, end) = take::four(inner)?;
+        let struct_token = take::word(struct_token)?;
+        let Some((Part::Name, ident)) = take::called(ident) else {
+            return None;
+        };
+        let ident = take::word(ident)?;
+        let Some((Part::Generics, generics)) = take::called(generics) else {
+            return None;
+        };
+        let end = as_struct_end(end)?;
+        Some(ItemStruct {
+            struct_token,
+            ident,
+            generics,
+            where_clause: end.where_clause,
+            fields: end.fields,
+            semi_token: end.semi_token,
+        })
+    }
+}
+
+/// What a struct is, beside its name, its generic parameters and its where clause.
+#[derive(Clone, Copy)]
+pub struct DataStruct<'t, 'a> {
+    /// `struct`
+    pub struct_token: &'a Ident,
+    /// Its fields.
+    pub fields: Fields<'t, 'a>,
+    /// `;`, where they have no braces.
+    pub semi_token: Option<Mark>,
+}
+
+/// What an enum is, beside its name, its generic parameters and its where clause.
+#[derive(Clone, Copy)]
+pub struct DataEnum<'t, 'a> {
+    /// `enum`
+    pub enum_token: &'a Ident,
+    /// The braces.
+    pub brace_token: Delimiters,
+    /// Its variants.
+    pub variants: Elements<'t, 'a>,
+}
+
+/// What a union is, beside its name, its generic parameters and its where clause.
+#[derive(Clone, Copy)]
+pub struct DataUnion<'t, 'a> {
+    /// `union`
+    pub union_token: &'a Ident,
+    /// Its fields.
+    pub fields: &'t Tree<'a>,
+}
+
+/// A struct, an enum or a union.
+#[derive(Clone, Copy)]
+pub enum Data<'t, 'a> {
+    /// A struct.
+    Struct(DataStruct<'t, 'a>),
+    /// An enum.
+    Enum(DataEnum<'t, 'a>),
+    /// A union.
+    Union(DataUnion<'t, 'a>),
+}
+
+/// A struct, an enum or a union, with its attributes and its visibility.
+#[derive(Clone, Copy)]
+pub struct DeriveInput<'t, 'a> {
+    /// Its attributes.
+    pub attrs: &'t Tree<'a>,
+    /// Its visibility.
+    pub vis: &'t Tree<'a>,
+    /// Its name.
+    pub ident: &'a Ident,
+    /// Its generic parameters.
+    pub generics: &'t Tree<'a>,
+    /// Its where clause.
+    pub where_clause: &'t Tree<'a>,
+    /// What it is.
+    pub data: Data<'t, 'a>,
+}
+
+impl<'t, 'a> DeriveInput<'t, 'a> {
+    // Of a struct.
+    fn of_struct(
+        attrs: &'t Tree<'a>,
+        vis: &'t Tree<'a>,
+        found: ItemStruct<'t, 'a>,
+    ) -> DeriveInput<'t, 'a>
+        ensures { derive_input result ≡ derived attrs.now vis.now (t.First (item_struct found.entry)) }
+    {
+        DeriveInput {
+            attrs,
+            vis,
+            ident: found.ident,
+            generics: found.generics,
+            where_clause: found.where_clause,
+            data: Data::Struct(DataStruct {
+                struct_token: found.struct_token,
+                fields: found.fields,
+                semi_token: found.semi_token,
+            }),
+        }
+    }
+
+    // Of an enum.
+    fn of_enum(
+        attrs: &'t Tree<'a>,
+        vis: &'t Tree<'a>,
+        found: ItemEnum<'t, 'a>,
+    ) -> DeriveInput<'t, 'a>
+        ensures { derive_input result ≡ derived attrs.now vis.now (t.Second (t.First (item_enum found.entry))) }
+    {
+        DeriveInput {
+            attrs,
+            vis,
+            ident: found.ident,
+            generics: found.generics,
+            where_clause: found.where_clause,
+            data: Data::Enum(DataEnum {
+                enum_token: found.enum_token,
+                brace_token: found.brace_token,
+                variants: found.variants,
+            }),
+        }
+    }
+
+    // Of a union.
+    fn of_union(
+        attrs: &'t Tree<'a>,
+        vis: &'t Tree<'a>,
+        found: ItemUnion<'t, 'a>,
+    ) -> DeriveInput<'t, 'a>
+        ensures { derive_input result ≡ derived attrs.now vis.now (t.Second (t.Second (item_union found.entry))) }
+    {
+        DeriveInput {
+            attrs,
+            vis,
+            ident: found.ident,
+            generics: found.generics,
+            where_clause: found.where_clause,
+            data: Data::Union(DataUnion {
+                union_token: found.union_token,
+                fields: found.fields,
+            }),
+        }
+    }
+
+    /// What a tree is, if it is that.
+    #[tactic(auto, unfolding(syn_grammar::specs::Table::table))]
+    pub fn of(tree: &'t Tree<'a>) -> Option<DeriveInput<'t, 'a>>
+        ensures { MatchOption result (IsShaped tree.now (g.ref k.DeriveInput) → ⊥) (λ x. tree.now ≡ derive_input x) }
+    {
+        let Some((Kind::DeriveInput, inner)) = take::node(tree) else {
+            return None;
+        };
+        let (attrs, vis, which) = take::three(inner)?;
+        match take::chosen3(which) {
+            Some(Choice3::First(inner)) => {
+                let found = ItemStruct::of(inner)?;
+                Some(DeriveInput::of_struct(attrs, vis, found))
+            }
+            Some(Choice3::Second(inner)) => {
+                let found = ItemEnum::of(inner)?;
+                Some(DeriveInput::of_enum(attrs, vis, found))
+            }
+            Some(Choice3::Third(inner)) => {
+                let found = ItemUnion::of(inner)?;
+                Some(DeriveInput::of_union(attrs, vis, found))
+            }
+            None => None,
+        }
     }
 }

@@ -1,15 +1,22 @@
-//! Parts of expressions.
+//! Parts of expressions: members, literals, fields and arms.
 
 ghost use Rattle.proc_macro2.specs.Token.{Token};
-ghost use Rattle.std.specs.Prelude.{Bool, List, MatchOption, ℕ, ◌≡◌};
-ghost use Rattle.syn_ast.specs.ExprParts.{field_member_tree, member, member_tree};
+ghost use Rattle.std.specs.Prelude.{Bool, List, MatchOption, false, ℕ, ◌≡◌};
+ghost use Rattle.syn_ast.specs.ExprForms.{IsKept};
+ghost use Rattle.syn_ast.specs.ExprParts.{a_field_value, arm, arm_comma_tree, comma_of, field_init_tree};
+ghost use Rattle.syn_ast.specs.ExprParts.{field_member_tree, field_value, field_values, lit_tree, member};
+ghost use Rattle.syn_ast.specs.ExprParts.{member_tree, member_value_tree, rest_tree, struct_rest_tree};
 ghost use Rattle.syn_ast.specs.Leaves.{literal_tree, word_tree};
-ghost use Rattle.syn_ast.specs.Shape.{IsShaped};
+ghost use Rattle.syn_ast.specs.Shape.{IsShaped, may_choose};
 ghost use Rattle.syn_grammar.specs.Gram as g;
 ghost use Rattle.syn_grammar.specs.Kind as k;
 ghost use Rattle.syn_grammar.specs.Name as n;
 ghost use Rattle.syn_grammar.specs.Tree as t;
 
+use crate::expr::forms;
+use crate::leaf::{Delimiters, Mark};
+use crate::list::Elements;
+use crate::sub::{Worded, optional_as_worded};
 use crate::take::{self, Choice};
 use gram_table::kind::Kind;
 use gram_table::part::Part;
@@ -100,5 +107,347 @@ impl<'a> Member<'a> {
             return None;
         };
         as_member(inner)
+    }
+}
+
+/// A literal.
+#[derive(Clone, Copy)]
+pub enum Lit<'a> {
+    /// A number, a text, a character or the like.
+    Literal(&'a Literal),
+    /// `true` or `false`.
+    Bool(&'a Ident),
+}
+
+// Which of both stands there.
+pub(crate) fn as_lit<'a>(tree: &Tree<'a>) -> Option<Lit<'a>>
+    ensures { MatchOption result ((test : List Token → Bool) (p q : List ℕ → Bool) → IsShaped tree.now
+        (g.alt test (g.literal p) (g.word q)) → ⊥)
+        (λ l. tree.now ≡ lit_tree l) }
+{
+    let Some(which) = take::chosen(tree) else {
+        return None;
+    };
+    match which {
+        Choice::First(inner) => match take::literal(inner) {
+            Some(literal) => Some(Lit::Literal(literal)),
+            None => None,
+        },
+        Choice::Second(inner) => match take::word(inner) {
+            Some(word) => Some(Lit::Bool(word)),
+            None => None,
+        },
+    }
+}
+
+/// The fields of a struct, in their braces: `{ a: b, ..c }`.
+#[derive(Clone, Copy)]
+pub struct FieldValues<'t, 'a> {
+    /// The braces.
+    pub brace_token: Delimiters,
+    /// Each as a form of the kind `AFieldValue`.
+    pub fields: Elements<'t, 'a>,
+}
+
+impl<'t, 'a> FieldValues<'t, 'a> {
+    /// What a tree is, if it is that.
+    #[tactic(auto, unfolding(syn_grammar::specs::Table::table))]
+    pub fn of(tree: &'t Tree<'a>) -> Option<FieldValues<'t, 'a>>
+        ensures { MatchOption result (IsKept tree.now k.FieldValues → ⊥) (λ x. tree.now ≡ field_values x) }
+    {
+        let Some((Kind::FieldValues, kept)) = forms::kept(tree) else {
+            return None;
+        };
+        let Some((brace_token, inside)) = take::group(kept) else {
+            return None;
+        };
+        let Some(fields) = take::list(inside) else {
+            return None;
+        };
+        Some(FieldValues {
+            brace_token,
+            fields,
+        })
+    }
+}
+
+/// An arm of a `match`: `a if b => c,`.
+#[derive(Clone, Copy)]
+pub struct Arm<'t, 'a> {
+    /// Its attributes.
+    pub attrs: &'t Tree<'a>,
+    /// Its pattern.
+    pub pat: &'t Tree<'a>,
+    /// `if` and a condition.
+    pub guard: Option<Worded<'t, 'a>>,
+    /// `=>`
+    pub fat_arrow_token: Mark,
+    /// What is done.
+    pub body: &'t Tree<'a>,
+    /// `,`, or why none stands there.
+    pub comma: ArmComma,
+}
+
+impl<'t, 'a> Arm<'t, 'a> {
+    /// What a tree is, if it is that.
+    #[tactic(auto, unfolding(syn_grammar::specs::Table::table))]
+    pub fn of(tree: &'t Tree<'a>) -> Option<Arm<'t, 'a>>
+        ensures { MatchOption result (IsKept tree.now k.Arm → ⊥) (λ x. tree.now ≡ arm x) }
+    {
+        let Some((Kind::Arm, kept)) = forms::kept(tree) else {
+            return None;
+        };
+        let Some((attrs, pat, guard, fat_arrow_token, body, comma)) = take::six(kept) else {
+            return None;
+        };
+        let Some(guard) = optional_as_worded(guard) else {
+            return None;
+        };
+        let Some(fat_arrow_token) = take::mark(fat_arrow_token) else {
+            return None;
+        };
+        let Some((Part::Body, body)) = take::called(body) else {
+            return None;
+        };
+        let Some((Part::Comma, comma)) = take::called(comma) else {
+            return None;
+        };
+        let Some(comma) = as_arm_comma(comma) else {
+            return None;
+        };
+        Some(Arm {
+            attrs,
+            pat,
+            guard,
+            fat_arrow_token,
+            body,
+            comma,
+        })
+    }
+}
+
+// The rest of a struct's fields, or nothing at the end.
+fn as_rest<'t, 'a>(tree: &'t Tree<'a>) -> Option<Option<&'t Tree<'a>>>
+    ensures { MatchOption result ((test : List Token → Bool) (a : g.Gram) → may_choose a ≡ false
+        → IsShaped tree.now (g.alt test g.nothing a) → ⊥)
+        (λ o. tree.now ≡ rest_tree o) }
+{
+    let Some(which) = take::chosen(tree) else {
+        return None;
+    };
+    match which {
+        Choice::First(inner) => if take::is_nothing(inner) {
+            Some(None)
+        } else {
+            None
+        },
+        Choice::Second(inner) => Some(Some(inner)),
+    }
+}
+
+/// The fields that another struct has: `..a`.
+#[derive(Clone, Copy)]
+pub struct StructRest<'t, 'a> {
+    /// `..`
+    pub dot2_token: Mark,
+    /// The other struct.
+    pub rest: Option<&'t Tree<'a>>,
+}
+
+// What a tree is, if it is that.
+fn as_struct_rest<'t, 'a>(tree: &'t Tree<'a>) -> Option<StructRest<'t, 'a>>
+    ensures { MatchOption result ((c1 : ℕ) (cs2 : List ℕ) (t3 : List Token → Bool) (a4 : g.Gram)
+        → may_choose a4 ≡ false → IsShaped tree.now (g.called n.the_base (g.seq (g.mark c1 cs2)
+        (g.alt t3 g.nothing a4))) → ⊥)
+        (λ r. tree.now ≡ struct_rest_tree r) }
+{
+    let Some((Part::Base, inner)) = take::called(tree) else {
+        return None;
+    };
+    let Some((dot2_token, rest)) = take::pair(inner) else {
+        return None;
+    };
+    let Some(dot2_token) = take::mark(dot2_token) else {
+        return None;
+    };
+    let Some(rest) = as_rest(rest) else {
+        return None;
+    };
+    Some(StructRest { dot2_token, rest })
+}
+
+/// What stands among the fields of a struct.
+#[derive(Clone, Copy)]
+pub enum AFieldValue<'t, 'a> {
+    /// The fields that another struct has.
+    Rest(StructRest<'t, 'a>),
+    /// A field, as a form of the kind `FieldValue`.
+    Field(&'t Tree<'a>),
+}
+
+impl<'t, 'a> AFieldValue<'t, 'a> {
+    /// What a tree is, if it is that.
+    #[tactic(auto, unfolding(syn_grammar::specs::Table::table))]
+    pub fn of(tree: &'t Tree<'a>) -> Option<AFieldValue<'t, 'a>>
+        ensures { MatchOption result (IsShaped tree.now (g.ref k.AFieldValue) → ⊥) (λ x. tree.now ≡ a_field_value x) }
+    {
+        let Some((Kind::AFieldValue, inner)) = take::node(tree) else {
+            return None;
+        };
+        let Some(which) = take::chosen(inner) else {
+            return None;
+        };
+        match which {
+            Choice::First(rest) => match as_struct_rest(rest) {
+                Some(rest) => Some(AFieldValue::Rest(rest)),
+                None => None,
+            },
+            Choice::Second(field) => Some(AFieldValue::Field(field)),
+        }
+    }
+}
+
+/// A member and its value: `a: b`.
+#[derive(Clone, Copy)]
+pub struct MemberValue<'t, 'a> {
+    /// Its name or its index, as a form of the kind `Member`.
+    pub member: &'t Tree<'a>,
+    /// `:`
+    pub colon_token: Mark,
+    /// Its value.
+    pub expr: &'t Tree<'a>,
+}
+
+// What a tree is, if it is that.
+fn as_member_value<'t, 'a>(tree: &'t Tree<'a>) -> Option<MemberValue<'t, 'a>>
+    ensures { MatchOption result ((a1 : g.Gram) (c2 : ℕ) (cs3 : List ℕ) (a4 : g.Gram) → IsShaped tree.now (g.seq a1
+        (g.seq (g.mark c2 cs3) (g.called n.the_value a4))) → ⊥)
+        (λ x. tree.now ≡ member_value_tree x) }
+{
+    let Some((member, colon_token, expr)) = take::three(tree) else {
+        return None;
+    };
+    let Some(colon_token) = take::mark(colon_token) else {
+        return None;
+    };
+    let Some((Part::Value, expr)) = take::called(expr) else {
+        return None;
+    };
+    Some(MemberValue {
+        member,
+        colon_token,
+        expr,
+    })
+}
+
+/// A field's name by itself, or a member and its value.
+#[derive(Clone, Copy)]
+pub enum FieldInit<'t, 'a> {
+    /// The name, which is its value too.
+    Shorthand(&'a Ident),
+    /// A member and its value.
+    Value(MemberValue<'t, 'a>),
+}
+
+// Which of both stands there.
+fn as_field_init<'t, 'a>(tree: &'t Tree<'a>) -> Option<FieldInit<'t, 'a>>
+    ensures { MatchOption result ((t1 : List Token → Bool) (p2 : List ℕ → Bool) (a3 : g.Gram) (c4 : ℕ) (cs5 : List ℕ)
+        (a6 : g.Gram) → IsShaped tree.now (g.alt t1 (g.word p2) (g.seq a3 (g.seq (g.mark c4 cs5)
+        (g.called n.the_value a6)))) → ⊥)
+        (λ i. tree.now ≡ field_init_tree i) }
+{
+    let Some(which) = take::chosen(tree) else {
+        return None;
+    };
+    match which {
+        Choice::First(inner) => match take::word(inner) {
+            Some(word) => Some(FieldInit::Shorthand(word)),
+            None => None,
+        },
+        Choice::Second(inner) => match as_member_value(inner) {
+            Some(value) => Some(FieldInit::Value(value)),
+            None => None,
+        },
+    }
+}
+
+/// A field of a struct's value: `a: b`, `a`.
+#[derive(Clone, Copy)]
+pub struct FieldValue<'t, 'a> {
+    /// Its attributes.
+    pub attrs: &'t Tree<'a>,
+    /// Its member and its value.
+    pub init: FieldInit<'t, 'a>,
+}
+
+impl<'t, 'a> FieldValue<'t, 'a> {
+    /// What a tree is, if it is that.
+    #[tactic(auto, unfolding(syn_grammar::specs::Table::table))]
+    pub fn of(tree: &'t Tree<'a>) -> Option<FieldValue<'t, 'a>>
+        ensures { MatchOption result (IsShaped tree.now (g.ref k.FieldValue) → ⊥) (λ x. tree.now ≡ field_value x) }
+    {
+        let Some((Kind::FieldValue, inner)) = take::node(tree) else {
+            return None;
+        };
+        let Some((attrs, init)) = take::pair(inner) else {
+            return None;
+        };
+        let Some(init) = as_field_init(init) else {
+            return None;
+        };
+        Some(FieldValue { attrs, init })
+    }
+}
+
+/// What stands behind an arm's body.
+#[derive(Clone, Copy)]
+pub enum ArmComma {
+    /// Nothing: it is the last arm.
+    AtEnd,
+    /// A comma.
+    Comma(Mark),
+    /// No comma, and another arm.
+    Missing,
+}
+
+impl ArmComma {
+    /// The comma, if one stands there.
+    pub fn mark(self) -> Option<Mark>
+        ensures { result ≡ comma_of self }
+    {
+        match self {
+            ArmComma::Comma(mark) => Some(mark),
+            ArmComma::AtEnd | ArmComma::Missing => None,
+        }
+    }
+}
+
+// Which of them stands there.
+#[tactic(auto, using(crate::proofs::ExprParts::arm_commas))]
+fn as_arm_comma(tree: &Tree<'_>) -> Option<ArmComma>
+    ensures { MatchOption result ((t1 t2 : List Token → Bool) (c3 : ℕ) (cs4 : List ℕ) → IsShaped tree.now
+        (g.alt t1 g.nothing (g.alt t2 (g.mark c3 cs4) g.nothing)) → ⊥)
+        (λ o. tree.now ≡ arm_comma_tree o) }
+{
+    if let Some(inner) = forms::nth(tree, 0) {
+        return if take::is_nothing(inner) {
+            Some(ArmComma::AtEnd)
+        } else {
+            None
+        };
+    }
+    if let Some(inner) = forms::nth(tree, 1) {
+        return match take::mark(inner) {
+            Some(mark) => Some(ArmComma::Comma(mark)),
+            None => None,
+        };
+    }
+    match forms::rest(tree, 2) {
+        Some(inner) => if take::is_nothing(inner) {
+            Some(ArmComma::Missing)
+        } else {
+            None
+        },
+        None => None,
     }
 }

@@ -1,0 +1,5 @@
+pub mod Begins
+pub mod Heads
+pub mod Behind
+pub mod Kept
+pub mod Asked

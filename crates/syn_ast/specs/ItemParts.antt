@@ -1,0 +1,42 @@
+-- The trees that these parts are.
+use Rattle.syn_ast.specs.Data.{name_tree}
+use Rattle.syn_ast.specs.Leaves.{mark_tree, raw_tree, word_tree}
+use Rattle.syn_ast.specs.declared.item.part.Braced.{Braced}
+use Rattle.syn_ast.specs.declared.data.Name.{Name}
+use Rattle.syn_ast.specs.declared.item.part.RawGroup.{RawGroup}
+use Rattle.rust_leaf.specs.declared.ident.Ident.{Ident}
+use Rattle.syn_ast.specs.declared.leaf.Mark.{Mark}
+use Rattle.syn_grammar.specs.Name as n
+use Rattle.syn_grammar.specs.Tree as t
+use Rattle.syn_grammar.specs.Tree.{Tree}
+use denote.Bor.{Bor}
+
+-- a name, as a part
+abbrev pub named_tree : Bor Ident → Tree
+named_tree i = t.Called n.the_name (word_tree i)
+
+abbrev pub name_or_tree : Name → Tree
+name_or_tree i = t.Called n.the_name (name_tree i)
+
+abbrev pub safety_tree : Bor Ident → Tree
+safety_tree i = t.Called n.the_safety (word_tree i)
+
+abbrev pub default_tree : Bor Ident → Tree
+default_tree i = t.Called n.the_default (word_tree i)
+
+abbrev pub const_tree : Bor Ident → Tree
+const_tree i = t.Called n.the_const (word_tree i)
+
+abbrev pub auto_tree : Bor Ident → Tree
+auto_tree i = t.Called n.the_auto (word_tree i)
+
+abbrev pub polarity_tree : Mark → Tree
+polarity_tree s = t.Called n.the_polarity (mark_tree s)
+
+-- braces, with attributes and items in them
+abbrev pub braced_tree : Braced → Tree
+braced_tree x = t.Group x.brace_token.delimiter (t.Pair x.attrs.now x.items.now)
+
+-- a group of tokens that are kept as they are
+abbrev pub raw_group_tree : RawGroup → Tree
+raw_group_tree x = t.Group x.delimiters.delimiter (raw_tree x.tokens)
