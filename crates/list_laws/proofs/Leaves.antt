@@ -1,26 +1,23 @@
 -- Leaves are read as the entries of the grammar have them.
-use Rattle.std.proofs.Common.{◌≡◌, ◌<◌, ℕ, List, [], ◌∷◌, ◌++◌, length, refl, sym, ap, ◌∙◌, arith}
+use Rattle.std.proofs.Common.{◌≡◌, ℕ, List, [], ◌∷◌, refl, ap, ◌∙◌}
 use Rattle.std.proofs.lemmas.Bool.{eq-eqb}
-use Rattle.std.proofs.lemmas.List.{length-map}
-use Rattle.std.proofs.lemmas.Slice.Eq.{bytes_eq-Decides}
-use Rattle.std.specs.Prelude.{Bool, true, false, not, cond, ◌==◌, ◌&&◌, ◌↔◌, IfOk, IsTrue, Result, Ok, Err}
+use Rattle.std.specs.Prelude.{Bool, true, false, not, cond, ◌==◌, ◌&&◌}
 use Rattle.rust_map.specs.declared.span.Span.{Span}
 use Rattle.rust_leaf.specs.declared.punct.Spacing.{Spacing}
 use Rattle.rust_leaf.specs.declared.punct.Spacing.TheVariants.{Joint, Alone as Apart}
 use Rattle.proc_macro2.specs.Flat.{spanned}
 use Rattle.proc_macro2.specs.Token.{Token, Spanned, Opens, Closes, Ident, Literal, Punct, plain}
-use Rattle.syn_kinds.specs.Stands.{word_stands, marks_stand, ident_stands, lifetime_stands, is_joint}
+use Rattle.syn_kinds.specs.Stands.{marks_stand, ident_stands}
 use Rattle.syn_kinds.specs.Table as table
-use Rattle.syn_kinds.specs.Values.{word_tokens}
 use Rattle.syn_peek.specs.Marks.{ReadsMarks}
-use Rattle.syn_grammar.specs.Gram.{lifetime, punct}
+use Rattle.syn_grammar.specs.Gram.{punct}
 use Rattle.syn_grammar.specs.Keeps.{keeps, mark_kept}
 use Rattle.syn_grammar.specs.Kept.{kept}
-use Rattle.syn_grammar.specs.Run.{Out, Refused, Got, wrap, word_at, mark_at, mark_onto, lifetime_at}
+use Rattle.syn_grammar.specs.Run.{Out, Refused, Got, wrap, word_at, mark_at, mark_onto}
 use Rattle.syn_grammar.specs.Say.{ident}
-use Rattle.syn_grammar.specs.Tree.{Tree, AWord, AMark, ALifetime}
+use Rattle.syn_grammar.specs.Tree.{AWord, AMark}
 use Rattle.syn_grammar.specs.Words as words
-use Rattle.list_laws.specs.Leaves.{marks_tree, word_gram}
+use Rattle.list_laws.specs.Leaves.{marks_tree}
 
 -- names
 pub same_reserved : (cs : List ℕ) → words.is_reserved cs ≡ table.is_reserved cs
