@@ -201,9 +201,9 @@ pub struct Labelled<'t, 'a> {
     pub label: &'t Tree<'a>,
 }
 
-// What a tree is, if it is that.
+/// What a tree is, if it is that.
 #[tactic(auto, unfolding(syn_grammar::specs::Table::table))]
-pub(crate) fn as_labelled<'t, 'a>(tree: &'t Tree<'a>) -> Option<Labelled<'t, 'a>>
+pub fn as_labelled<'t, 'a>(tree: &'t Tree<'a>) -> Option<Labelled<'t, 'a>>
     ensures { MatchOption result ((a1 : g.Gram) → IsShaped tree.now (g.called n.the_label a1) → ⊥)
         (λ x. tree.now ≡ labelled_tree x) }
 {
@@ -214,9 +214,9 @@ pub(crate) fn as_labelled<'t, 'a>(tree: &'t Tree<'a>) -> Option<Labelled<'t, 'a>
     Some(Labelled { label })
 }
 
-// What stands there, if anything does.
+/// What stands there, if anything does.
 #[tactic(auto, unfolding(syn_grammar::specs::Table::table))]
-pub(crate) fn optional_as_labelled<'t, 'a>(tree: &'t Tree<'a>) -> Option<Option<Labelled<'t, 'a>>>
+pub fn optional_as_labelled<'t, 'a>(tree: &'t Tree<'a>) -> Option<Option<Labelled<'t, 'a>>>
     ensures { MatchOption result ((test : List Token → Bool) (a1 : g.Gram) → IsShaped tree.now (g.alt test
         (g.called n.the_label a1) g.nothing) → ⊥)
         (λ x. tree.now ≡ optional_tree labelled_tree x) }

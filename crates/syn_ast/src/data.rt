@@ -42,8 +42,8 @@ impl<'a> Name<'a> {
     }
 }
 
-// Which of both words stands there.
-pub(crate) fn as_name<'a>(tree: &Tree<'a>) -> Option<Name<'a>>
+/// Which of both words stands there.
+pub fn as_name<'a>(tree: &Tree<'a>) -> Option<Name<'a>>
     ensures { MatchOption result ((test : List Token → Bool) (p q : List ℕ → Bool)
         → IsShaped tree.now (g.alt test (g.word p) (g.word q)) → ⊥)
         (λ m. tree.now ≡ name_tree m) }
@@ -72,9 +72,9 @@ pub struct Renamed<'a> {
     pub rename: Name<'a>,
 }
 
-// What a tree is, if it is that.
+/// What a tree is, if it is that.
 #[tactic(auto, unfolding(syn_grammar::specs::Table::table))]
-pub(crate) fn as_renamed<'a>(tree: &Tree<'a>) -> Option<Renamed<'a>>
+pub fn as_renamed<'a>(tree: &Tree<'a>) -> Option<Renamed<'a>>
     ensures { MatchOption result ((p1 : List ℕ → Bool) (t2 : List Token → Bool) (p3 : List ℕ → Bool) (q4 : List ℕ
         → Bool) → IsShaped tree.now (g.seq (g.word p1) (g.alt t2 (g.word p3) (g.word q4))) → ⊥)
         (λ x. tree.now ≡ renamed_tree x) }
@@ -91,9 +91,9 @@ pub(crate) fn as_renamed<'a>(tree: &Tree<'a>) -> Option<Renamed<'a>>
     Some(Renamed { as_token, rename })
 }
 
-// What stands there, if anything does.
+/// What stands there, if anything does.
 #[tactic(auto, unfolding(syn_grammar::specs::Table::table))]
-pub(crate) fn optional_as_renamed<'a>(tree: &Tree<'a>) -> Option<Option<Renamed<'a>>>
+pub fn optional_as_renamed<'a>(tree: &Tree<'a>) -> Option<Option<Renamed<'a>>>
     ensures { MatchOption result ((test : List Token → Bool) (p1 : List ℕ → Bool) (t2 : List Token → Bool)
         (p3 : List ℕ → Bool) (q4 : List ℕ → Bool) → IsShaped tree.now (g.alt test (g.seq (g.word p1) (g.alt t2
         (g.word p3) (g.word q4))) g.nothing) → ⊥)

@@ -36,9 +36,9 @@ pub struct AngledParams<'t, 'a> {
     pub gt_token: Mark,
 }
 
-// What a tree is, if it is that.
+/// What a tree is, if it is that.
 #[tactic(auto, unfolding(syn_grammar::specs::Table::table))]
-pub(crate) fn as_angled_params<'t, 'a>(tree: &'t Tree<'a>) -> Option<AngledParams<'t, 'a>>
+pub fn as_angled_params<'t, 'a>(tree: &'t Tree<'a>) -> Option<AngledParams<'t, 'a>>
     ensures { MatchOption result ((c1 : ℕ) (cs2 : List ℕ) (a3 : g.Gram) (c4 : ℕ) (cs5 : List ℕ) → IsShaped tree.now
         (g.seq (g.mark c1 cs2) (g.seq (g.called n.the_parameters a3) (g.mark c4 cs5))) → ⊥)
         (λ x. tree.now ≡ angled_params_tree x) }
@@ -62,9 +62,9 @@ pub(crate) fn as_angled_params<'t, 'a>(tree: &'t Tree<'a>) -> Option<AngledParam
     })
 }
 
-// What stands there, if anything does.
+/// What stands there, if anything does.
 #[tactic(auto, unfolding(syn_grammar::specs::Table::table))]
-pub(crate) fn optional_as_angled_params<'t, 'a>(
+pub fn optional_as_angled_params<'t, 'a>(
     tree: &'t Tree<'a>,
 ) -> Option<Option<AngledParams<'t, 'a>>>
     ensures { MatchOption result ((test : List Token → Bool) (c1 : ℕ) (cs2 : List ℕ) (a3 : g.Gram) (c4 : ℕ)

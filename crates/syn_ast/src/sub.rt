@@ -25,9 +25,9 @@ pub struct Marked<'t, 'a> {
     pub node: &'t Tree<'a>,
 }
 
-// What a tree is, if it is that.
+/// What a tree is, if it is that.
 #[tactic(auto, unfolding(syn_grammar::specs::Table::table))]
-pub(crate) fn as_marked<'t, 'a>(tree: &'t Tree<'a>) -> Option<Marked<'t, 'a>>
+pub fn as_marked<'t, 'a>(tree: &'t Tree<'a>) -> Option<Marked<'t, 'a>>
     ensures { MatchOption result ((c1 : ℕ) (cs2 : List ℕ) (a3 : g.Gram) → IsShaped tree.now (g.seq (g.mark c1 cs2) a3)
         → ⊥) (λ x. tree.now ≡ marked_tree x) }
 {
@@ -40,9 +40,9 @@ pub(crate) fn as_marked<'t, 'a>(tree: &'t Tree<'a>) -> Option<Marked<'t, 'a>>
     Some(Marked { mark, node })
 }
 
-// What stands there, if anything does.
+/// What stands there, if anything does.
 #[tactic(auto, unfolding(syn_grammar::specs::Table::table))]
-pub(crate) fn optional_as_marked<'t, 'a>(tree: &'t Tree<'a>) -> Option<Option<Marked<'t, 'a>>>
+pub fn optional_as_marked<'t, 'a>(tree: &'t Tree<'a>) -> Option<Option<Marked<'t, 'a>>>
     ensures { MatchOption result ((test : List Token → Bool) (c1 : ℕ) (cs2 : List ℕ) (a3 : g.Gram) → IsShaped tree.now
         (g.alt test (g.seq (g.mark c1 cs2) a3) g.nothing) → ⊥)
         (λ x. tree.now ≡ optional_tree marked_tree x) }
@@ -66,9 +66,9 @@ pub struct Worded<'t, 'a> {
     pub node: &'t Tree<'a>,
 }
 
-// What a tree is, if it is that.
+/// What a tree is, if it is that.
 #[tactic(auto, unfolding(syn_grammar::specs::Table::table))]
-pub(crate) fn as_worded<'t, 'a>(tree: &'t Tree<'a>) -> Option<Worded<'t, 'a>>
+pub fn as_worded<'t, 'a>(tree: &'t Tree<'a>) -> Option<Worded<'t, 'a>>
     ensures { MatchOption result ((p1 : List ℕ → Bool) (a2 : g.Gram) → IsShaped tree.now (g.seq (g.word p1) a2) → ⊥)
         (λ x. tree.now ≡ worded_tree x) }
 {
@@ -81,9 +81,9 @@ pub(crate) fn as_worded<'t, 'a>(tree: &'t Tree<'a>) -> Option<Worded<'t, 'a>>
     Some(Worded { word, node })
 }
 
-// What stands there, if anything does.
+/// What stands there, if anything does.
 #[tactic(auto, unfolding(syn_grammar::specs::Table::table))]
-pub(crate) fn optional_as_worded<'t, 'a>(tree: &'t Tree<'a>) -> Option<Option<Worded<'t, 'a>>>
+pub fn optional_as_worded<'t, 'a>(tree: &'t Tree<'a>) -> Option<Option<Worded<'t, 'a>>>
     ensures { MatchOption result ((test : List Token → Bool) (p1 : List ℕ → Bool) (a2 : g.Gram) → IsShaped tree.now
         (g.alt test (g.seq (g.word p1) a2) g.nothing) → ⊥)
         (λ x. tree.now ≡ optional_tree worded_tree x) }
@@ -107,9 +107,9 @@ pub struct MarkedValue<'t, 'a> {
     pub node: &'t Tree<'a>,
 }
 
-// What a tree is, if it is that.
+/// What a tree is, if it is that.
 #[tactic(auto, unfolding(syn_grammar::specs::Table::table))]
-pub(crate) fn as_marked_value<'t, 'a>(tree: &'t Tree<'a>) -> Option<MarkedValue<'t, 'a>>
+pub fn as_marked_value<'t, 'a>(tree: &'t Tree<'a>) -> Option<MarkedValue<'t, 'a>>
     ensures { MatchOption result ((c1 : ℕ) (cs2 : List ℕ) (a3 : g.Gram) → IsShaped tree.now (g.seq (g.mark c1 cs2)
         (g.called n.the_value a3)) → ⊥) (λ x. tree.now ≡ marked_value_tree x) }
 {
@@ -125,9 +125,9 @@ pub(crate) fn as_marked_value<'t, 'a>(tree: &'t Tree<'a>) -> Option<MarkedValue<
     Some(MarkedValue { mark, node })
 }
 
-// What stands there, if anything does.
+/// What stands there, if anything does.
 #[tactic(auto, unfolding(syn_grammar::specs::Table::table))]
-pub(crate) fn optional_as_marked_value<'t, 'a>(
+pub fn optional_as_marked_value<'t, 'a>(
     tree: &'t Tree<'a>,
 ) -> Option<Option<MarkedValue<'t, 'a>>>
     ensures { MatchOption result ((test : List Token → Bool) (c1 : ℕ) (cs2 : List ℕ) (a3 : g.Gram) → IsShaped tree.now
@@ -153,9 +153,9 @@ pub struct MarkedType<'t, 'a> {
     pub node: &'t Tree<'a>,
 }
 
-// What a tree is, if it is that.
+/// What a tree is, if it is that.
 #[tactic(auto, unfolding(syn_grammar::specs::Table::table))]
-pub(crate) fn as_marked_type<'t, 'a>(tree: &'t Tree<'a>) -> Option<MarkedType<'t, 'a>>
+pub fn as_marked_type<'t, 'a>(tree: &'t Tree<'a>) -> Option<MarkedType<'t, 'a>>
     ensures { MatchOption result ((c1 : ℕ) (cs2 : List ℕ) (a3 : g.Gram) → IsShaped tree.now (g.seq (g.mark c1 cs2)
         (g.called n.the_type a3)) → ⊥) (λ x. tree.now ≡ marked_type_tree x) }
 {
@@ -171,9 +171,9 @@ pub(crate) fn as_marked_type<'t, 'a>(tree: &'t Tree<'a>) -> Option<MarkedType<'t
     Some(MarkedType { mark, node })
 }
 
-// What stands there, if anything does.
+/// What stands there, if anything does.
 #[tactic(auto, unfolding(syn_grammar::specs::Table::table))]
-pub(crate) fn optional_as_marked_type<'t, 'a>(
+pub fn optional_as_marked_type<'t, 'a>(
     tree: &'t Tree<'a>,
 ) -> Option<Option<MarkedType<'t, 'a>>>
     ensures { MatchOption result ((test : List Token → Bool) (c1 : ℕ) (cs2 : List ℕ) (a3 : g.Gram) → IsShaped tree.now
@@ -199,9 +199,9 @@ pub struct MarkedBounds<'t, 'a> {
     pub node: &'t Tree<'a>,
 }
 
-// What a tree is, if it is that.
+/// What a tree is, if it is that.
 #[tactic(auto, unfolding(syn_grammar::specs::Table::table))]
-pub(crate) fn as_marked_bounds<'t, 'a>(tree: &'t Tree<'a>) -> Option<MarkedBounds<'t, 'a>>
+pub fn as_marked_bounds<'t, 'a>(tree: &'t Tree<'a>) -> Option<MarkedBounds<'t, 'a>>
     ensures { MatchOption result ((c1 : ℕ) (cs2 : List ℕ) (a3 : g.Gram) → IsShaped tree.now (g.seq (g.mark c1 cs2)
         (g.called n.the_bounds a3)) → ⊥) (λ x. tree.now ≡ marked_bounds_tree x) }
 {
@@ -217,9 +217,9 @@ pub(crate) fn as_marked_bounds<'t, 'a>(tree: &'t Tree<'a>) -> Option<MarkedBound
     Some(MarkedBounds { mark, node })
 }
 
-// What stands there, if anything does.
+/// What stands there, if anything does.
 #[tactic(auto, unfolding(syn_grammar::specs::Table::table))]
-pub(crate) fn optional_as_marked_bounds<'t, 'a>(
+pub fn optional_as_marked_bounds<'t, 'a>(
     tree: &'t Tree<'a>,
 ) -> Option<Option<MarkedBounds<'t, 'a>>>
     ensures { MatchOption result ((test : List Token → Bool) (c1 : ℕ) (cs2 : List ℕ) (a3 : g.Gram) → IsShaped tree.now
@@ -245,8 +245,8 @@ pub enum Lit<'a> {
     Bool(&'a Ident),
 }
 
-// What a tree is, if it is that.
-pub(crate) fn as_lit<'a>(tree: &Tree<'a>) -> Option<Lit<'a>>
+/// What a tree is, if it is that.
+pub fn as_lit<'a>(tree: &Tree<'a>) -> Option<Lit<'a>>
     ensures { MatchOption result ((test : List Token → Bool) (p q : List ℕ → Bool)
         → IsShaped tree.now (g.alt test (g.literal p) (g.word q)) → ⊥)
         (λ l. tree.now ≡ lit_tree l) }

@@ -29,7 +29,7 @@ use syn_buffer::entry::Entry;
 
 /// Which of two was chosen.
 #[derive(Clone, Copy)]
-pub(crate) enum Choice<'t, 'a> {
+pub enum Choice<'t, 'a> {
     /// The first.
     First(&'t Tree<'a>),
     /// The second.
@@ -50,9 +50,9 @@ fn no_turn<'t, 'a>() -> Turns<'t, 'a>
     Turns { each: &[] }
 }
 
-// Of two trees both.
+/// Of two trees both.
 #[tactic(auto, using(crate::proofs::Takes::takes))]
-pub(crate) fn pair<'t, 'a>(tree: &'t Tree<'a>) -> Option<(&'t Tree<'a>, &'t Tree<'a>)>
+pub fn pair<'t, 'a>(tree: &'t Tree<'a>) -> Option<(&'t Tree<'a>, &'t Tree<'a>)>
     ensures { MatchOption result ((a b : g.Gram) → IsShaped tree.now (g.seq a b) → ⊥)
         (λ p. tree.now ≡ t.Pair p.0.now p.1.now) }
 {
@@ -62,9 +62,9 @@ pub(crate) fn pair<'t, 'a>(tree: &'t Tree<'a>) -> Option<(&'t Tree<'a>, &'t Tree
     }
 }
 
-// Of three trees, one behind the other, each.
+/// Of three trees, one behind the other, each.
 #[tactic(auto, using(crate::proofs::Takes::takes))]
-pub(crate) fn three<'t, 'a>(
+pub fn three<'t, 'a>(
     tree: &'t Tree<'a>,
 ) -> Option<(&'t Tree<'a>, &'t Tree<'a>, &'t Tree<'a>)>
     ensures { MatchOption result ((a b c : g.Gram) → IsShaped tree.now (g.seq a (g.seq b c)) → ⊥)
@@ -79,9 +79,9 @@ pub(crate) fn three<'t, 'a>(
     Some((front, second, third))
 }
 
-// Of four trees, one behind the other, each.
+/// Of four trees, one behind the other, each.
 #[tactic(auto, using(crate::proofs::Takes::takes))]
-pub(crate) fn four<'t, 'a>(
+pub fn four<'t, 'a>(
     tree: &'t Tree<'a>,
 ) -> Option<(&'t Tree<'a>, &'t Tree<'a>, &'t Tree<'a>, &'t Tree<'a>)>
     ensures { MatchOption result ((a b c d : g.Gram) → IsShaped tree.now (g.seq a (g.seq b (g.seq c d))) → ⊥)
@@ -96,9 +96,9 @@ pub(crate) fn four<'t, 'a>(
     Some((front, second, third, fourth))
 }
 
-// Of five trees, one behind the other, each.
+/// Of five trees, one behind the other, each.
 #[tactic(auto, using(crate::proofs::Takes::takes))]
-pub(crate) fn five<'t, 'a>(
+pub fn five<'t, 'a>(
     tree: &'t Tree<'a>,
 ) -> Option<
     (
@@ -122,9 +122,9 @@ pub(crate) fn five<'t, 'a>(
     Some((front, second, third, fourth, fifth))
 }
 
-// Of six trees, one behind the other, each.
+/// Of six trees, one behind the other, each.
 #[tactic(auto, using(crate::proofs::Takes::takes))]
-pub(crate) fn six<'t, 'a>(
+pub fn six<'t, 'a>(
     tree: &'t Tree<'a>,
 ) -> Option<
     (
@@ -149,9 +149,9 @@ pub(crate) fn six<'t, 'a>(
     Some((front, second, third, fourth, fifth, sixth))
 }
 
-// Of seven trees, one behind the other, each.
+/// Of seven trees, one behind the other, each.
 #[tactic(auto, using(crate::proofs::Takes::takes))]
-pub(crate) fn seven<'t, 'a>(
+pub fn seven<'t, 'a>(
     tree: &'t Tree<'a>,
 ) -> Option<
     (
@@ -178,9 +178,9 @@ pub(crate) fn seven<'t, 'a>(
     Some((front, second, third, fourth, fifth, sixth, seventh))
 }
 
-// Of eight trees, one behind the other, each.
+/// Of eight trees, one behind the other, each.
 #[tactic(auto, using(crate::proofs::Takes::takes))]
-pub(crate) fn eight<'t, 'a>(
+pub fn eight<'t, 'a>(
     tree: &'t Tree<'a>,
 ) -> Option<
     (
@@ -208,9 +208,9 @@ pub(crate) fn eight<'t, 'a>(
     Some((front, second, third, fourth, fifth, sixth, seventh, last))
 }
 
-// A word.
+/// A word.
 #[tactic(auto, using(crate::proofs::Takes::takes))]
-pub(crate) fn word<'a>(tree: &Tree<'a>) -> Option<&'a Ident>
+pub fn word<'a>(tree: &Tree<'a>) -> Option<&'a Ident>
     ensures { MatchOption result ((p : List ℕ → Bool) → IsShaped tree.now (g.word p) → ⊥)
         (λ i. tree.now ≡ word_tree i) }
 {
@@ -220,9 +220,9 @@ pub(crate) fn word<'a>(tree: &Tree<'a>) -> Option<&'a Ident>
     }
 }
 
-// A literal.
+/// A literal.
 #[tactic(auto, using(crate::proofs::Takes::takes))]
-pub(crate) fn literal<'a>(tree: &Tree<'a>) -> Option<&'a Literal>
+pub fn literal<'a>(tree: &Tree<'a>) -> Option<&'a Literal>
     ensures { MatchOption result ((p : List ℕ → Bool) → IsShaped tree.now (g.literal p) → ⊥)
         (λ l. tree.now ≡ literal_tree l) }
 {
@@ -232,9 +232,9 @@ pub(crate) fn literal<'a>(tree: &Tree<'a>) -> Option<&'a Literal>
     }
 }
 
-// A punctuation.
+/// A punctuation.
 #[tactic(auto, using(crate::proofs::Takes::takes))]
-pub(crate) fn mark(tree: &Tree<'_>) -> Option<Mark>
+pub fn mark(tree: &Tree<'_>) -> Option<Mark>
     ensures { MatchOption result ((c : ℕ) (cs : List ℕ) → IsShaped tree.now (g.mark c cs) → ⊥)
         (λ m. tree.now ≡ mark_tree m) }
 {
@@ -248,9 +248,9 @@ pub(crate) fn mark(tree: &Tree<'_>) -> Option<Mark>
     }
 }
 
-// A lifetime.
+/// A lifetime.
 #[tactic(auto, using(crate::proofs::Takes::takes))]
-pub(crate) fn lifetime<'a>(tree: &Tree<'a>) -> Option<Lifetime<'a>>
+pub fn lifetime<'a>(tree: &Tree<'a>) -> Option<Lifetime<'a>>
     ensures { MatchOption result (IsShaped tree.now g.lifetime → ⊥) (λ l. tree.now ≡ lifetime_tree l) }
 {
     match &tree.form {
@@ -262,9 +262,9 @@ pub(crate) fn lifetime<'a>(tree: &Tree<'a>) -> Option<Lifetime<'a>>
     }
 }
 
-// Of a node its kind and its inside.
+/// Of a node its kind and its inside.
 #[tactic(auto, using(crate::proofs::Takes::takes))]
-pub(crate) fn node<'t, 'a>(tree: &'t Tree<'a>) -> Option<(Kind, &'t Tree<'a>)>
+pub fn node<'t, 'a>(tree: &'t Tree<'a>) -> Option<(Kind, &'t Tree<'a>)>
     ensures { MatchOption result ((k : GivenKind) → IsShaped tree.now (g.ref k) → ⊥)
         (λ p. tree.now ≡ t.Node (kind_of p.0) p.1.now) }
 {
@@ -274,9 +274,9 @@ pub(crate) fn node<'t, 'a>(tree: &'t Tree<'a>) -> Option<(Kind, &'t Tree<'a>)>
     }
 }
 
-// Of a group its delimiters and its inside.
+/// Of a group its delimiters and its inside.
 #[tactic(auto, using(crate::proofs::Takes::takes))]
-pub(crate) fn group<'t, 'a>(tree: &'t Tree<'a>) -> Option<(Delimiters, &'t Tree<'a>)>
+pub fn group<'t, 'a>(tree: &'t Tree<'a>) -> Option<(Delimiters, &'t Tree<'a>)>
     ensures { MatchOption result ((d : GivenDelimiter) (a : g.Gram) → IsShaped tree.now (g.group d a) → ⊥)
         (λ p. tree.now ≡ t.Group p.0.delimiter p.1.now) }
 {
@@ -292,9 +292,9 @@ pub(crate) fn group<'t, 'a>(tree: &'t Tree<'a>) -> Option<(Delimiters, &'t Tree<
     }
 }
 
-// Of a part its name and what it is.
+/// Of a part its name and what it is.
 #[tactic(auto, using(crate::proofs::Takes::takes))]
-pub(crate) fn called<'t, 'a>(tree: &'t Tree<'a>) -> Option<(Part, &'t Tree<'a>)>
+pub fn called<'t, 'a>(tree: &'t Tree<'a>) -> Option<(Part, &'t Tree<'a>)>
     ensures { MatchOption result ((n : GivenPart) (a : g.Gram) → IsShaped tree.now (g.called n a) → ⊥)
         (λ p. tree.now ≡ t.Called (part_of p.0) p.1.now) }
 {
@@ -304,9 +304,9 @@ pub(crate) fn called<'t, 'a>(tree: &'t Tree<'a>) -> Option<(Part, &'t Tree<'a>)>
     }
 }
 
-// Which of two was chosen, of which the second is no choice again.
+/// Which of two was chosen, of which the second is no choice again.
 #[tactic(auto, using(crate::proofs::Takes::takes, crate::proofs::Takes::choices))]
-pub(crate) fn chosen<'t, 'a>(tree: &'t Tree<'a>) -> Option<Choice<'t, 'a>>
+pub fn chosen<'t, 'a>(tree: &'t Tree<'a>) -> Option<Choice<'t, 'a>>
     ensures { MatchOption result ((t : List Token → Bool) (a b : g.Gram) → may_choose b ≡ false
         → IsShaped tree.now (g.alt t a b) → ⊥)
         (λ o. tree.now ≡ choice_tree o) }
@@ -326,9 +326,9 @@ pub(crate) fn chosen<'t, 'a>(tree: &'t Tree<'a>) -> Option<Choice<'t, 'a>>
     }
 }
 
-// A list of elements.
+/// A list of elements.
 #[tactic(auto, using(crate::proofs::Takes::lists))]
-pub(crate) fn list<'t, 'a>(tree: &'t Tree<'a>) -> Option<Elements<'t, 'a>>
+pub fn list<'t, 'a>(tree: &'t Tree<'a>) -> Option<Elements<'t, 'a>>
     ensures { MatchOption result ((e : List Token → Bool) (c : ℕ) (a : g.Gram) → IsShaped tree.now (g.many e c a) → ⊥)
         (λ l. tree.now ≡ list_tree l) }
 {
@@ -356,9 +356,9 @@ pub(crate) fn list<'t, 'a>(tree: &'t Tree<'a>) -> Option<Elements<'t, 'a>>
     }
 }
 
-// Turns, one behind the other.
+/// Turns, one behind the other.
 #[tactic(auto, using(crate::proofs::Takes::lists))]
-pub(crate) fn each_turn<'t, 'a>(tree: &'t Tree<'a>) -> Option<Turns<'t, 'a>>
+pub fn each_turn<'t, 'a>(tree: &'t Tree<'a>) -> Option<Turns<'t, 'a>>
     ensures { MatchOption result ((e : List Token → Bool) (a : g.Gram) → IsShaped tree.now (g.star e a) → ⊥)
         (λ r. tree.now ≡ turns_tree r) }
 {
@@ -378,9 +378,9 @@ pub(crate) fn each_turn<'t, 'a>(tree: &'t Tree<'a>) -> Option<Turns<'t, 'a>>
     }
 }
 
-// Whether nothing stands there.
+/// Whether nothing stands there.
 #[tactic(auto, using(crate::proofs::Takes::takes))]
-pub(crate) fn is_nothing(tree: &Tree<'_>) -> bool
+pub fn is_nothing(tree: &Tree<'_>) -> bool
     ensures { cond result (tree.now ≡ t.Nil) (IsShaped tree.now g.nothing → ⊥) }
 {
     match &tree.form {
@@ -389,9 +389,9 @@ pub(crate) fn is_nothing(tree: &Tree<'_>) -> bool
     }
 }
 
-// What stands there, if anything does.
+/// What stands there, if anything does.
 #[tactic(auto, using(crate::proofs::Takes::takes))]
-pub(crate) fn optional<'t, 'a>(tree: &'t Tree<'a>) -> Option<Option<&'t Tree<'a>>>
+pub fn optional<'t, 'a>(tree: &'t Tree<'a>) -> Option<Option<&'t Tree<'a>>>
     ensures { MatchOption result ((t : List Token → Bool) (a : g.Gram) → IsShaped tree.now (g.alt t a g.nothing) → ⊥)
         (λ o. tree.now ≡ optional_tree node_tree o) }
 {
@@ -406,9 +406,9 @@ pub(crate) fn optional<'t, 'a>(tree: &'t Tree<'a>) -> Option<Option<&'t Tree<'a>
     }
 }
 
-// The lifetime that stands there, if one does.
+/// The lifetime that stands there, if one does.
 #[tactic(auto, using(crate::proofs::Takes::takes))]
-pub(crate) fn optional_lifetime<'a>(tree: &Tree<'a>) -> Option<Option<Lifetime<'a>>>
+pub fn optional_lifetime<'a>(tree: &Tree<'a>) -> Option<Option<Lifetime<'a>>>
     ensures { MatchOption result ((t : List Token → Bool) → IsShaped tree.now (g.alt t g.lifetime g.nothing) → ⊥)
         (λ o. tree.now ≡ optional_tree lifetime_tree o) }
 {
@@ -422,9 +422,9 @@ pub(crate) fn optional_lifetime<'a>(tree: &Tree<'a>) -> Option<Option<Lifetime<'
     }
 }
 
-// The word that stands there, if one does.
+/// The word that stands there, if one does.
 #[tactic(auto, using(crate::proofs::Takes::takes))]
-pub(crate) fn optional_word<'a>(tree: &Tree<'a>) -> Option<Option<&'a Ident>>
+pub fn optional_word<'a>(tree: &Tree<'a>) -> Option<Option<&'a Ident>>
     ensures { MatchOption result ((t : List Token → Bool) (p : List ℕ → Bool) → IsShaped tree.now (g.alt t
         (g.word p) g.nothing) → ⊥)
         (λ o. tree.now ≡ optional_tree word_tree o) }
@@ -439,9 +439,9 @@ pub(crate) fn optional_word<'a>(tree: &Tree<'a>) -> Option<Option<&'a Ident>>
     }
 }
 
-// The punctuation that stands there, if one does.
+/// The punctuation that stands there, if one does.
 #[tactic(auto, using(crate::proofs::Takes::takes))]
-pub(crate) fn optional_mark(tree: &Tree<'_>) -> Option<Option<Mark>>
+pub fn optional_mark(tree: &Tree<'_>) -> Option<Option<Mark>>
     ensures { MatchOption result ((t : List Token → Bool) (c : ℕ) (cs : List ℕ) → IsShaped tree.now (g.alt t
         (g.mark c cs) g.nothing) → ⊥)
         (λ o. tree.now ≡ optional_tree mark_tree o) }
@@ -456,9 +456,9 @@ pub(crate) fn optional_mark(tree: &Tree<'_>) -> Option<Option<Mark>>
     }
 }
 
-// Of an expression that is a form by itself its kind and its own part.
+/// Of an expression that is a form by itself its kind and its own part.
 #[tactic(auto, using(crate::proofs::Takes::forms))]
-pub(crate) fn alone<'t, 'a>(tree: &'t Tree<'a>) -> Option<(Kind, &'t Tree<'a>)>
+pub fn alone<'t, 'a>(tree: &'t Tree<'a>) -> Option<(Kind, &'t Tree<'a>)>
     ensures { MatchOption result ((k : GivenKind) (y : GivenTree) → tree.now ≡ t.Alone k y → ⊥)
         (λ p. tree.now ≡ t.Alone (kind_of p.0) p.1.now) }
 {
@@ -470,18 +470,18 @@ pub(crate) fn alone<'t, 'a>(tree: &'t Tree<'a>) -> Option<(Kind, &'t Tree<'a>)>
 
 // Choices among several: each alternative but the last is a first, and what stands behind it the second.
 
-// What stands behind alternatives that were not chosen.
+/// What stands behind alternatives that were not chosen.
 #[derive(Clone, Copy)]
-pub(crate) enum Behind<'t, 'a> {
+pub enum Behind<'t, 'a> {
     // So many times the second, and then the first.
     First(usize, &'t Tree<'a>),
     // So many times the second, and then this.
     Second(usize, &'t Tree<'a>),
 }
 
-// Whether the first alternative was chosen.
+/// Whether the first alternative was chosen.
 #[derive(Clone, Copy)]
-pub(crate) enum Step<'t, 'a> {
+pub enum Step<'t, 'a> {
     // It was.
     First(&'t Tree<'a>),
     // It was not.
@@ -490,7 +490,7 @@ pub(crate) enum Step<'t, 'a> {
 
 /// Which of three was chosen.
 #[derive(Clone, Copy)]
-pub(crate) enum Choice3<'t, 'a> {
+pub enum Choice3<'t, 'a> {
     /// The first.
     First(&'t Tree<'a>),
     /// The second.
@@ -501,7 +501,7 @@ pub(crate) enum Choice3<'t, 'a> {
 
 /// Which of four was chosen.
 #[derive(Clone, Copy)]
-pub(crate) enum Choice4<'t, 'a> {
+pub enum Choice4<'t, 'a> {
     /// The first.
     First(&'t Tree<'a>),
     /// The second.
@@ -514,7 +514,7 @@ pub(crate) enum Choice4<'t, 'a> {
 
 /// Which of five was chosen.
 #[derive(Clone, Copy)]
-pub(crate) enum Choice5<'t, 'a> {
+pub enum Choice5<'t, 'a> {
     /// The first.
     First(&'t Tree<'a>),
     /// The second.
@@ -580,8 +580,8 @@ fn last_of_all<'t, 'a>(behind: Behind<'t, 'a>) -> Option<&'t Tree<'a>>
     }
 }
 
-// Which of the last two was chosen.
-pub(crate) fn two_behind<'t, 'a>(behind: Behind<'t, 'a>) -> Option<Choice<'t, 'a>>
+/// Which of the last two was chosen.
+pub fn two_behind<'t, 'a>(behind: Behind<'t, 'a>) -> Option<Choice<'t, 'a>>
     ensures { MatchOption result ((t : List Token → Bool) (a b : g.Gram) → may_choose b ≡ false
         → IsShaped (behind_tree behind.entry) (g.alt t a b) → ⊥)
         (λ o. behind_tree behind.entry ≡ choice_tree o) }
@@ -598,8 +598,8 @@ pub(crate) fn two_behind<'t, 'a>(behind: Behind<'t, 'a>) -> Option<Choice<'t, 'a
     }
 }
 
-// Which of the last three was chosen.
-pub(crate) fn three_behind<'t, 'a>(behind: Behind<'t, 'a>) -> Option<Choice3<'t, 'a>>
+/// Which of the last three was chosen.
+pub fn three_behind<'t, 'a>(behind: Behind<'t, 'a>) -> Option<Choice3<'t, 'a>>
     ensures { MatchOption result ((t u : List Token → Bool) (a b c : g.Gram) → may_choose c ≡ false
         → IsShaped (behind_tree behind.entry) (g.alt t a (g.alt u b c)) → ⊥)
         (λ o. behind_tree behind.entry ≡ choice3_tree o) }
@@ -617,8 +617,8 @@ pub(crate) fn three_behind<'t, 'a>(behind: Behind<'t, 'a>) -> Option<Choice3<'t,
     }
 }
 
-// Which of three was chosen, of which the last is no choice again.
-pub(crate) fn chosen3<'t, 'a>(tree: &'t Tree<'a>) -> Option<Choice3<'t, 'a>>
+/// Which of three was chosen, of which the last is no choice again.
+pub fn chosen3<'t, 'a>(tree: &'t Tree<'a>) -> Option<Choice3<'t, 'a>>
     ensures { MatchOption result ((t u : List Token → Bool) (a b c : g.Gram) → may_choose c ≡ false
         → IsShaped tree.now (g.alt t a (g.alt u b c)) → ⊥)
         (λ o. tree.now ≡ choice3_tree o) }
@@ -626,8 +626,8 @@ pub(crate) fn chosen3<'t, 'a>(tree: &'t Tree<'a>) -> Option<Choice3<'t, 'a>>
     three_behind(Behind::Second(0, tree))
 }
 
-// Which of the last four was chosen.
-pub(crate) fn four_behind<'t, 'a>(behind: Behind<'t, 'a>) -> Option<Choice4<'t, 'a>>
+/// Which of the last four was chosen.
+pub fn four_behind<'t, 'a>(behind: Behind<'t, 'a>) -> Option<Choice4<'t, 'a>>
     ensures { MatchOption result ((t u v : List Token → Bool) (a b c d : g.Gram) → may_choose d ≡ false
         → IsShaped (behind_tree behind.entry) (g.alt t a (g.alt u b (g.alt v c d))) → ⊥)
         (λ o. behind_tree behind.entry ≡ choice4_tree o) }
@@ -646,8 +646,8 @@ pub(crate) fn four_behind<'t, 'a>(behind: Behind<'t, 'a>) -> Option<Choice4<'t, 
     }
 }
 
-// Which of four was chosen, of which the last is no choice again.
-pub(crate) fn chosen4<'t, 'a>(tree: &'t Tree<'a>) -> Option<Choice4<'t, 'a>>
+/// Which of four was chosen, of which the last is no choice again.
+pub fn chosen4<'t, 'a>(tree: &'t Tree<'a>) -> Option<Choice4<'t, 'a>>
     ensures { MatchOption result ((t u v : List Token → Bool) (a b c d : g.Gram) → may_choose d ≡ false
         → IsShaped tree.now (g.alt t a (g.alt u b (g.alt v c d))) → ⊥)
         (λ o. tree.now ≡ choice4_tree o) }
@@ -655,8 +655,8 @@ pub(crate) fn chosen4<'t, 'a>(tree: &'t Tree<'a>) -> Option<Choice4<'t, 'a>>
     four_behind(Behind::Second(0, tree))
 }
 
-// Which of the last five was chosen.
-pub(crate) fn five_behind<'t, 'a>(behind: Behind<'t, 'a>) -> Option<Choice5<'t, 'a>>
+/// Which of the last five was chosen.
+pub fn five_behind<'t, 'a>(behind: Behind<'t, 'a>) -> Option<Choice5<'t, 'a>>
     ensures { MatchOption result ((t u v w : List Token → Bool) (a b c d e : g.Gram) → may_choose e ≡ false
         → IsShaped (behind_tree behind.entry) (g.alt t a (g.alt u b (g.alt v c (g.alt w d e)))) → ⊥)
         (λ o. behind_tree behind.entry ≡ choice5_tree o) }
@@ -676,8 +676,8 @@ pub(crate) fn five_behind<'t, 'a>(behind: Behind<'t, 'a>) -> Option<Choice5<'t, 
     }
 }
 
-// Which of five was chosen, of which the last is no choice again.
-pub(crate) fn chosen5<'t, 'a>(tree: &'t Tree<'a>) -> Option<Choice5<'t, 'a>>
+/// Which of five was chosen, of which the last is no choice again.
+pub fn chosen5<'t, 'a>(tree: &'t Tree<'a>) -> Option<Choice5<'t, 'a>>
     ensures { MatchOption result ((t u v w : List Token → Bool) (a b c d e : g.Gram) → may_choose e ≡ false
         → IsShaped tree.now (g.alt t a (g.alt u b (g.alt v c (g.alt w d e)))) → ⊥)
         (λ o. tree.now ≡ choice5_tree o) }
@@ -685,9 +685,9 @@ pub(crate) fn chosen5<'t, 'a>(tree: &'t Tree<'a>) -> Option<Choice5<'t, 'a>>
     five_behind(Behind::Second(0, tree))
 }
 
-// Tokens that are kept as they are.
+/// Tokens that are kept as they are.
 #[tactic(auto, using(crate::proofs::Takes::takes))]
-pub(crate) fn raw<'a>(tree: &Tree<'a>) -> Option<&'a [Entry<'a>]>
+pub fn raw<'a>(tree: &Tree<'a>) -> Option<&'a [Entry<'a>]>
     ensures { MatchOption result (IsShaped tree.now g.raw → ⊥) (λ r. tree.now ≡ raw_tree r) }
 {
     match &tree.form {
@@ -696,9 +696,9 @@ pub(crate) fn raw<'a>(tree: &Tree<'a>) -> Option<&'a [Entry<'a>]>
     }
 }
 
-// The literal that stands there, if one does.
+/// The literal that stands there, if one does.
 #[tactic(auto, using(crate::proofs::Takes::takes))]
-pub(crate) fn optional_literal<'a>(tree: &Tree<'a>) -> Option<Option<&'a Literal>>
+pub fn optional_literal<'a>(tree: &Tree<'a>) -> Option<Option<&'a Literal>>
     ensures { MatchOption result ((t : List Token → Bool) (p : List ℕ → Bool) → IsShaped tree.now (g.alt t
         (g.literal p) g.nothing) → ⊥)
         (λ o. tree.now ≡ optional_tree literal_tree o) }
@@ -713,9 +713,9 @@ pub(crate) fn optional_literal<'a>(tree: &Tree<'a>) -> Option<Option<&'a Literal
     }
 }
 
-// Whether nothing stands there, where else the entry would refuse.
+/// Whether nothing stands there, where else the entry would refuse.
 #[tactic(auto, using(crate::proofs::Takes::takes))]
-pub(crate) fn is_ended(tree: &Tree<'_>) -> bool
+pub fn is_ended(tree: &Tree<'_>) -> bool
     ensures { cond result (tree.now ≡ t.First t.Nil) ((t : List Token → Bool) → IsShaped tree.now (g.alt t g.nothing
         g.never) → ⊥) }
 {
@@ -726,9 +726,9 @@ pub(crate) fn is_ended(tree: &Tree<'_>) -> bool
     }
 }
 
-// Of what is judged, what is kept as it was read.
+/// Of what is judged, what is kept as it was read.
 #[tactic(auto, using(crate::proofs::Choices::firsts))]
-pub(crate) fn kept<'t, 'a>(tree: &'t Tree<'a>) -> Option<&'t Tree<'a>>
+pub fn kept<'t, 'a>(tree: &'t Tree<'a>) -> Option<&'t Tree<'a>>
     ensures { MatchOption result (IsFirst tree.now → ⊥) (λ x. tree.now ≡ t.First x.now) }
 {
     match &tree.form {

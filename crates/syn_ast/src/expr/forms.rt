@@ -10,9 +10,9 @@ use crate::take;
 use gram_table::kind::Kind;
 use gram_tree::tree::{Form, Tree};
 
-// Of a form by itself its kind and its own part.
+/// Of a form by itself its kind and its own part.
 #[tactic(auto, using(crate::proofs::ExprForms::alones))]
-pub(crate) fn alone<'t, 'a>(tree: &'t Tree<'a>) -> Option<(Kind, &'t Tree<'a>)>
+pub fn alone<'t, 'a>(tree: &'t Tree<'a>) -> Option<(Kind, &'t Tree<'a>)>
     ensures { MatchOption result ((k : GivenKind) → IsAlone tree.now k → ⊥)
         (λ p. tree.now ≡ t.Alone (kind_of p.0) p.1.now) }
 {
@@ -22,9 +22,9 @@ pub(crate) fn alone<'t, 'a>(tree: &'t Tree<'a>) -> Option<(Kind, &'t Tree<'a>)>
     }
 }
 
-// Of a form with an operand behind it its kind, its own part, and that.
+/// Of a form with an operand behind it its kind, its own part, and that.
 #[tactic(auto, using(crate::proofs::ExprForms::fronts))]
-pub(crate) fn front<'t, 'a>(tree: &'t Tree<'a>) -> Option<(Kind, &'t Tree<'a>, &'t Tree<'a>)>
+pub fn front<'t, 'a>(tree: &'t Tree<'a>) -> Option<(Kind, &'t Tree<'a>, &'t Tree<'a>)>
     ensures { MatchOption result ((k : GivenKind) → IsFront tree.now k → ⊥)
         (λ p. tree.now ≡ t.Front (kind_of p.0) p.1.now p.2.now) }
 {
@@ -34,9 +34,9 @@ pub(crate) fn front<'t, 'a>(tree: &'t Tree<'a>) -> Option<(Kind, &'t Tree<'a>, &
     }
 }
 
-// Of a form with an operand before it that, its kind, and its own part.
+/// Of a form with an operand before it that, its kind, and its own part.
 #[tactic(auto, using(crate::proofs::ExprForms::backs))]
-pub(crate) fn back<'t, 'a>(tree: &'t Tree<'a>) -> Option<(&'t Tree<'a>, Kind, &'t Tree<'a>)>
+pub fn back<'t, 'a>(tree: &'t Tree<'a>) -> Option<(&'t Tree<'a>, Kind, &'t Tree<'a>)>
     ensures { MatchOption result ((k : GivenKind) → IsBack tree.now k → ⊥)
         (λ p. tree.now ≡ t.Back p.0.now (kind_of p.1) p.2.now) }
 {
@@ -46,9 +46,9 @@ pub(crate) fn back<'t, 'a>(tree: &'t Tree<'a>) -> Option<(&'t Tree<'a>, Kind, &'
     }
 }
 
-// Whether nothing is chosen there, where something might be.
+/// Whether nothing is chosen there, where something might be.
 #[tactic(auto, using(crate::proofs::ExprForms::missing_none))]
-pub(crate) fn nothing(tree: &Tree<'_>) -> bool
+pub fn nothing(tree: &Tree<'_>) -> bool
     ensures { cond result (tree.now ≡ t.Second t.Nil) (tree.now ≡ t.Second t.Nil → ⊥) }
 {
     match take::optional(tree) {

@@ -26,8 +26,8 @@ pub enum Member<'a> {
     Unnamed(&'a Literal),
 }
 
-// Which of both stands there.
-pub(crate) fn as_member<'a>(tree: &Tree<'a>) -> Option<Member<'a>>
+/// Which of both stands there.
+pub fn as_member<'a>(tree: &Tree<'a>) -> Option<Member<'a>>
     ensures { MatchOption result ((test : List Token → Bool) (p q : List ℕ → Bool) → IsShaped tree.now
         (g.alt test (g.word p) (g.literal q)) → ⊥)
         (λ m. tree.now ≡ member_tree m) }
@@ -47,8 +47,8 @@ pub(crate) fn as_member<'a>(tree: &Tree<'a>) -> Option<Member<'a>>
     }
 }
 
-// Which of both stands there, each by its name.
-pub(crate) fn as_field_member<'a>(tree: &Tree<'a>) -> Option<Member<'a>>
+/// Which of both stands there, each by its name.
+pub fn as_field_member<'a>(tree: &Tree<'a>) -> Option<Member<'a>>
     ensures { MatchOption result ((test : List Token → Bool) (p q : List ℕ → Bool) → IsShaped tree.now
         (g.alt test (g.called n.the_name (g.word p)) (g.called n.the_value (g.literal q))) → ⊥)
         (λ m. tree.now ≡ field_member_tree m) }

@@ -20,8 +20,8 @@ use gram_table::part::Part;
 use gram_tree::tree::Tree;
 use rust_leaf::ident::Ident;
 
-// A dot, and the numbers behind it that end in one.
-pub(crate) fn as_dot<'t, 'a>(tree: &'t Tree<'a>) -> Option<(Mark, Turns<'t, 'a>)>
+/// A dot, and the numbers behind it that end in one.
+pub fn as_dot<'t, 'a>(tree: &'t Tree<'a>) -> Option<(Mark, Turns<'t, 'a>)>
     ensures { MatchOption result ((c1 : ℕ) (cs2 : List ℕ) (t3 : List Token → Bool) (a4 : g.Gram) → IsShaped tree.now
         (g.seq (g.mark c1 cs2) (g.called n.the_indices (g.star t3 a4))) → ⊥) (λ d. tree.now ≡ dot_tree d.0 d.1) }
 {

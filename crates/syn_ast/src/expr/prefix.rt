@@ -166,25 +166,25 @@ impl<'t, 'a> ExprLet<'t, 'a> {
     }
 }
 
-// What stands before a closure's body.
+/// What stands before a closure's body.
 #[derive(Clone, Copy)]
-pub(crate) struct ClosureHead<'t, 'a> {
+pub struct ClosureHead<'t, 'a> {
     // The lifetimes that it binds.
-    pub(crate) lifetimes: Option<&'t Tree<'a>>,
-    // `const`
-    pub(crate) constness: Option<&'a Ident>,
+    pub lifetimes: Option<&'t Tree<'a>>,
+    /// `const`
+    pub constness: Option<&'a Ident>,
     // `static`
-    pub(crate) movability: Option<&'a Ident>,
+    pub movability: Option<&'a Ident>,
     // `async`
-    pub(crate) asyncness: Option<&'a Ident>,
+    pub asyncness: Option<&'a Ident>,
     // `move`
-    pub(crate) capture: Option<&'a Ident>,
+    pub capture: Option<&'a Ident>,
     // `|`
-    pub(crate) or1_token: Mark,
+    pub or1_token: Mark,
     // Its parameters.
-    pub(crate) inputs: Elements<'t, 'a>,
+    pub inputs: Elements<'t, 'a>,
     // `|`
-    pub(crate) or2_token: Mark,
+    pub or2_token: Mark,
 }
 
 // What a tree is, if it is that.
