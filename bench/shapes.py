@@ -1,6 +1,6 @@
 #!/usr/bin/env python3
-"""Times lexing on texts of many shapes beside proc-macro2's own lexer, with and without span locations, lexing and
-printing, and `canon`, all in one run. Prints tables: for each program the least processor time of several runs and its
+"""Times lexing on texts of many shapes beside proc-macro2's own lexer, with and without span locations, and lexing and
+printing, all in one run. Prints tables: for each program the least processor time of several runs and its
 peak memory for each byte of the text.
 
 Usage: bench/shapes.py [RUNS]. It builds the programs first, which proves what isn't proved yet, and fetches Debian's
@@ -78,16 +78,8 @@ def shapes(std):
     yield "one doc comment", b"///" + b"d" * LONG + b"\n"
 
 
-def canon_shapes(std):
-    """The same of texts that `canon` takes."""
-    items = subprocess.run([sys.executable, HERE + "/items.py", "10"], capture_output=True, check=True).stdout
-    yield "generated items (`bench/items.py`)", items
-    yield "`struct S;` items", b"struct S;\n" * (SIZE // 10)
-    yield "one macro with std inside", b"m!{" + std + b"}"
-
-
 def built(work):
-    """The programs: this lexer, the peer with and without span locations, and canon."""
+    """The programs: this lexer, and the peer with and without span locations."""
     ident = glob.glob(REGISTRY + "/unicode-ident-*")[0]
     peer = glob.glob(REGISTRY + "/proc-macro2-*")[0]
     for name, flags in [("spans", ["--cfg", "span_locations"]), ("plain", [])]:
@@ -100,14 +92,12 @@ def built(work):
         subprocess.run(with_ident + ["--crate-name", "proc_macro2", peer + "/src/lib.rs"], check=True)
         with_peer = rustc + ["--edition", "2021", "-L", out, "--extern", f"proc_macro2={out}/libproc_macro2.rlib"]
         subprocess.run(with_peer + ["--crate-name", "peer", HERE + "/peer.rs"], check=True)
-    for name in ["lex_cli", "canon_cli"]:
-        folder = f"{TOP}/crates/{name}"
-        subprocess.run(["rt", "run"], cwd=folder, stdin=subprocess.DEVNULL, capture_output=True, check=True)
+    folder = f"{TOP}/crates/lex_cli"
+    subprocess.run(["rt", "run"], cwd=folder, stdin=subprocess.DEVNULL, capture_output=True, check=True)
     return {
         "this": f"{TOP}/crates/lex_cli/out/lex_cli",
         "peer with spans": f"{work}/spans/peer",
         "peer without": f"{work}/plain/peer",
-        "canon": f"{TOP}/crates/canon_cli/out/canon_cli",
     }
 
 
@@ -169,18 +159,6 @@ def lexing_table(runner, title, programs, arguments, texts, path, runs):
         print(f"| {name} | {len(text) / 1e6:.1f} | {times} | {each} |", flush=True)
 
 
-def canon_table(runner, programs, texts, path, runs):
-    """Each text's row: `canon` alone."""
-    print("\n| `canon` on | MB | Time | Rate | Bytes a byte |\n|---|---|---|---|---|")
-    for name, text in texts:
-        with open(path, "wb") as file:
-            file.write(text)
-        (seconds,), (peak,) = measured(runner, [[programs["canon"]]], path, runs)
-        size = len(text) / 1e6
-        rate = f"{seconds:.3f} s | {size / seconds:.0f} MB/s"
-        print(f"| {name} | {size:.1f} | {rate} | {peak / len(text):.1f} |", flush=True)
-
-
 def main():
     runs = int(sys.argv[1]) if len(sys.argv) > 1 else 5
     fetch()
@@ -191,7 +169,6 @@ def main():
         path = os.path.join(work, "text")
         lexing_table(runner, "Lexing", programs, [], shapes(std), path, runs)
         lexing_table(runner, "Lexing and printing", programs, ["print"], [("std, joined", std)], path, runs)
-        canon_table(runner, programs, canon_shapes(std), path, runs)
 
 
 if __name__ == "__main__":
