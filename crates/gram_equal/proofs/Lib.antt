@@ -1,0 +1,6 @@
+pub mod Numbers
+pub mod Sorts
+pub mod Lefts
+pub mod Pointwise
+pub mod Sizes
+pub mod Texts
