@@ -5,3 +5,5 @@ pub mod TypeForms
 pub mod Chosen
 pub mod ExprForms
 pub mod Judged
+pub mod Lists
+pub mod PatForms

@@ -1,5 +1,6 @@
 pub mod Shape
 pub mod Leaves
+pub mod Iter
 pub mod Kept
 pub mod Sub
 pub mod Types
@@ -10,6 +11,7 @@ pub mod Attributes
 pub mod Visibility
 pub mod Data
 pub mod Patterns
+pub mod Pat
 pub mod Blocks
 pub mod ExprForms
 pub mod ExprParts

@@ -1,0 +1,110 @@
+-- The trees that patterns are, by their form.
+use Rattle.std.specs.Prelude.{◌≡◌, ◌⊎◌, Bool, true, false, Option, Some, None}
+use Rattle.syn_ast.specs.Leaves.{list_tree, mark_tree, optional_tree, turns_tree}
+use Rattle.syn_ast.specs.Patterns.{pat_ident, pat_or, pat_range_to, pat_reference, pat_rest, pat_slice, pat_wild}
+use Rattle.syn_ast.specs.Patterns.{path_behind, range_end, range_limits, signed_lit_tree}
+use Rattle.syn_ast.specs.Shape.{IsAmong, IsShaped}
+use Rattle.syn_ast.specs.declared.leaf.Delimiters.{Delimiters}
+use Rattle.syn_ast.specs.declared.pat.Pat.{Pat}
+use Rattle.syn_ast.specs.declared.pat.PatRange.{PatRange}
+use Rattle.syn_ast.specs.declared.pat.Read.{Read}
+use Rattle.syn_ast.specs.declared.patterns.PatOr.{PatOr}
+use Rattle.syn_ast.specs.declared.patterns.RangeBound.{RangeBound}
+use Rattle.syn_ast.specs.declared.patterns.RangeLimits.{RangeLimits}
+use Rattle.syn_ast.specs.declared.pat.Pat.TheVariants as pats
+use Rattle.syn_ast.specs.declared.pat.Read.TheVariants as reads
+use Rattle.syn_ast.specs.declared.patterns.PathBehind.TheVariants as behind
+use Rattle.syn_ast.specs.declared.patterns.RangeBound.TheVariants as bounds
+use Rattle.syn_grammar.specs.Gram as g
+use Rattle.syn_grammar.specs.Kind as k
+use Rattle.syn_grammar.specs.Part.{choice}
+use Rattle.syn_grammar.specs.Patterns.{one_pattern}
+use Rattle.syn_grammar.specs.Tree as t
+use Rattle.syn_grammar.specs.Tree.{Tree}
+use denote.Bor.{Bor}
+
+-- of one alternative, its form
+abbrev pub one_form : Tree → Tree
+one_form (t.Node k.OnePattern x) = choice x
+one_form _ = t.Nil
+
+-- of alternatives: one without a | in front is itself
+abbrev pub alternatives : Tree → Tree → Tree → Tree
+alternatives (t.Second t.Nil) x t.End = one_form x
+alternatives leading x others = t.Node k.Pattern (t.Pair leading (t.Pair x others))
+
+-- of a pattern that was read, whether as alternatives or as one of them, its form
+abbrev pub form_of_pat : Tree → Tree
+form_of_pat (t.Node k.OnePattern x) = choice x
+form_of_pat (t.Node k.Pattern (t.Pair leading (t.Pair x others))) = alternatives leading x others
+form_of_pat (t.Node k.SeveralPatterns (t.Pair x others)) = alternatives (t.Second t.Nil) x others
+form_of_pat _ = t.Nil
+
+-- it is a pattern
+abbrev pub IsAPattern : Tree → Type 0
+IsAPattern x = IsShaped x (g.ref k.Pattern) ⊎ (IsShaped x (g.ref k.SeveralPatterns) ⊎ IsShaped x (g.ref k.OnePattern))
+
+-- .. alone
+abbrev pub is_rest_form : Tree → Bool
+is_rest_form (t.Node k.RestPattern x) = true
+is_rest_form _ = false
+
+abbrev pub is_rest_pattern : Tree → Bool
+is_rest_pattern x = is_rest_form (form_of_pat x)
+
+abbrev pub alternatives_tree : PatOr → Tree
+alternatives_tree x = alternatives (optional_tree mark_tree x.leading_vert) x.first.now (turns_tree x.others)
+
+-- what a pattern was read as
+abbrev pub read_tree : Read → Tree
+read_tree (reads.One x) = x.now
+read_tree (reads.Several x) = pat_or x
+
+abbrev pub IsRead : Read → Type 0
+IsRead (reads.One x) = IsAmong x.now one_pattern
+IsRead (reads.Several x) = Unit {0}
+
+-- a range: without a start, with one that is a literal, or with one that is a path
+abbrev pub started : RangeBound → Tree → Tree
+started (bounds.Lit l) x = t.Node k.LiteralPattern (t.Pair (signed_lit_tree l) (t.First x))
+started (bounds.Path p) x = t.Node k.PathPattern (t.Pair p.now (t.Second (t.Second (t.First x))))
+
+abbrev pub range_inside : Option RangeBound → RangeLimits → Option (Bor Tree) → Tree
+range_inside None l (Some x) = t.Node k.RangeToPattern (t.Pair (range_limits l) x.now)
+range_inside (Some b) l o = started b (t.Node k.RangeEnd (range_end l o))
+range_inside None l None = t.Nil
+
+abbrev pub range_form : PatRange → Tree
+range_form x = range_inside x.start x.limits x.end
+
+abbrev pub parenthesized : Delimiters → Tree → Tree
+parenthesized d x = t.Node k.TuplePattern (t.Group d.delimiter x)
+
+abbrev pub by_path : Tree → Tree → Tree
+by_path path x = t.Node k.PathPattern (t.Pair path x)
+
+-- the form of a pattern
+abbrev pub pat_tree : Pat → Tree
+pat_tree (pats.«Ident» x) = pat_ident x
+pat_tree (pats.Lit x) = t.Node k.LiteralPattern (t.Pair (signed_lit_tree x.lit) (t.Second t.Nil))
+pat_tree (pats.Or x) = pat_or x
+pat_tree (pats.Paren x) = parenthesized x.paren_token (t.Final x.pat.now)
+pat_tree (pats.Path x) = by_path x.path.now (path_behind behind.None)
+pat_tree (pats.Range x) = range_form x
+pat_tree (pats.Reference x) = pat_reference x
+pat_tree (pats.Rest x) = pat_rest x
+pat_tree (pats.Slice x) = pat_slice x
+pat_tree (pats.Struct x) = by_path x.path.now (path_behind (behind.Struct x.fields))
+pat_tree (pats.Tuple x) = parenthesized x.paren_token (list_tree x.elems)
+pat_tree (pats.TupleStruct x) = by_path x.path.now (path_behind (behind.Tuple x.paren_token x.elems))
+pat_tree (pats.Wild x) = pat_wild x
+
+-- in parentheses, one pattern without a comma is no tuple, unless it is ..
+abbrev pub lone_rest : Tree → Bool
+lone_rest (t.Final x) = is_rest_pattern x
+lone_rest _ = true
+
+abbrev pub IsApart : Pat → Type 0
+IsApart (pats.Paren x) = is_rest_pattern x.pat.now ≡ false
+IsApart (pats.Tuple x) = lone_rest (list_tree x.elems) ≡ true
+IsApart _ = Unit {0}
