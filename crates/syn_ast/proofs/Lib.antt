@@ -3,7 +3,6 @@ pub mod Choices
 pub mod Derived
 pub mod TypeForms
 pub mod Chosen
-pub mod ExprForms
 pub mod Judged
 pub mod Lists
 pub mod PatForms

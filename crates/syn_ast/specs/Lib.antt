@@ -12,9 +12,3 @@ pub mod Visibility
 pub mod Data
 pub mod Patterns
 pub mod Pat
-pub mod Blocks
-pub mod ExprForms
-pub mod ExprParts
-pub mod ExprAtoms
-pub mod ExprPostfix
-pub mod ExprPrefix

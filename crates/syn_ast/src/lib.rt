@@ -2,10 +2,8 @@
 #![tactic(auto)]
 
 pub mod attributes;
-pub mod blocks;
 pub mod bounds;
 pub mod data;
-pub mod expr;
 pub mod generics;
 pub mod iter;
 pub mod kept;

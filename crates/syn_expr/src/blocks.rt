@@ -2,28 +2,27 @@
 
 ghost use Rattle.proc_macro2.specs.Token.{Token};
 ghost use Rattle.std.specs.Prelude.{◌≡◌, MatchOption, Bool, List, cond};
-ghost use Rattle.syn_ast.specs.Blocks.{arms, block, body, closure_param, expr_array, expr_async, expr_block};
-ghost use Rattle.syn_ast.specs.Blocks.{expr_for_loop, expr_if, expr_loop, expr_macro, expr_match, expr_parenthesized};
-ghost use Rattle.syn_ast.specs.Blocks.{expr_path, expr_repeat, expr_unsafe, expr_while, file, label, labelled_tree};
 ghost use Rattle.syn_ast.specs.Leaves.{optional_tree};
 ghost use Rattle.syn_ast.specs.Paths.{macro, path};
 ghost use Rattle.syn_ast.specs.Shape.{IsShaped};
+ghost use Rattle.syn_expr.specs.Blocks.{arms, block, body, closure_param, expr_array, expr_async, expr_block};
+ghost use Rattle.syn_expr.specs.Blocks.{expr_for_loop, expr_if, expr_loop, expr_macro, expr_match, expr_parenthesized};
+ghost use Rattle.syn_expr.specs.Blocks.{expr_path, expr_repeat, expr_unsafe, expr_while, file, label, labelled_tree};
+ghost use Rattle.syn_expr.specs.ExprForms.{IsAlone};
 ghost use Rattle.syn_grammar.specs.Gram as g;
 ghost use Rattle.syn_grammar.specs.Kind as k;
 ghost use Rattle.syn_grammar.specs.Name as n;
-ghost use Rattle.syn_grammar.specs.Table.{table};
-ghost use Rattle.syn_grammar.specs.Tree as t;
-ghost use Rattle.syn_grammar.specs.Tree.{Tree as GivenTree};
 
-use crate::leaf::{Delimiters, Lifetime, Mark};
-use crate::list::{Elements, Turns};
-use crate::sub::{Marked, Worded, optional_as_marked, optional_as_worded};
-use crate::take;
-use crate::types::AnyPath;
+use crate::expr::forms;
 use gram_table::kind::Kind;
 use gram_table::part::Part;
 use gram_tree::tree::Tree;
 use rust_leaf::ident::Ident;
+use syn_ast::leaf::{Delimiters, Lifetime, Mark};
+use syn_ast::list::{Elements, Turns};
+use syn_ast::sub::{Marked, Worded, optional_as_marked, optional_as_worded};
+use syn_ast::take;
+use syn_ast::types::AnyPath;
 
 /// A file.
 #[derive(Clone, Copy)]
@@ -244,11 +243,9 @@ impl<'t, 'a> ExprBlock<'t, 'a> {
     /// What a tree is, if it is that.
     #[tactic(auto, unfolding(syn_grammar::specs::Table::table))]
     pub fn of(tree: &'t Tree<'a>) -> Option<ExprBlock<'t, 'a>>
-        ensures { MatchOption result ((y : GivenTree) → tree.now ≡ t.Alone k.ExprBlock y → IsShaped y
-            (table k.ExprBlock) → ⊥)
-            (λ x. tree.now ≡ expr_block x) }
+        ensures { MatchOption result (IsAlone tree.now k.ExprBlock → ⊥) (λ x. tree.now ≡ expr_block x) }
     {
-        let Some((Kind::ExprBlock, inner)) = take::alone(tree) else {
+        let Some((Kind::ExprBlock, inner)) = forms::alone(tree) else {
             return None;
         };
         let Some((label, block)) = take::pair(inner) else {
@@ -274,11 +271,9 @@ impl<'t, 'a> ExprUnsafe<'t, 'a> {
     /// What a tree is, if it is that.
     #[tactic(auto, unfolding(syn_grammar::specs::Table::table))]
     pub fn of(tree: &'t Tree<'a>) -> Option<ExprUnsafe<'t, 'a>>
-        ensures { MatchOption result ((y : GivenTree) → tree.now ≡ t.Alone k.ExprUnsafe y → IsShaped y
-            (table k.ExprUnsafe) → ⊥)
-            (λ x. tree.now ≡ expr_unsafe x) }
+        ensures { MatchOption result (IsAlone tree.now k.ExprUnsafe → ⊥) (λ x. tree.now ≡ expr_unsafe x) }
     {
-        let Some((Kind::ExprUnsafe, inner)) = take::alone(tree) else {
+        let Some((Kind::ExprUnsafe, inner)) = forms::alone(tree) else {
             return None;
         };
         let Some((unsafe_token, block)) = take::pair(inner) else {
@@ -309,11 +304,9 @@ impl<'t, 'a> ExprAsync<'t, 'a> {
     /// What a tree is, if it is that.
     #[tactic(auto, unfolding(syn_grammar::specs::Table::table))]
     pub fn of(tree: &'t Tree<'a>) -> Option<ExprAsync<'t, 'a>>
-        ensures { MatchOption result ((y : GivenTree) → tree.now ≡ t.Alone k.ExprAsync y → IsShaped y
-            (table k.ExprAsync) → ⊥)
-            (λ x. tree.now ≡ expr_async x) }
+        ensures { MatchOption result (IsAlone tree.now k.ExprAsync → ⊥) (λ x. tree.now ≡ expr_async x) }
     {
-        let Some((Kind::ExprAsync, inner)) = take::alone(tree) else {
+        let Some((Kind::ExprAsync, inner)) = forms::alone(tree) else {
             return None;
         };
         let Some((async_token, capture, block)) = take::three(inner) else {
@@ -348,11 +341,9 @@ impl<'t, 'a> ExprLoop<'t, 'a> {
     /// What a tree is, if it is that.
     #[tactic(auto, unfolding(syn_grammar::specs::Table::table))]
     pub fn of(tree: &'t Tree<'a>) -> Option<ExprLoop<'t, 'a>>
-        ensures { MatchOption result ((y : GivenTree) → tree.now ≡ t.Alone k.ExprLoop y → IsShaped y
-            (table k.ExprLoop) → ⊥)
-            (λ x. tree.now ≡ expr_loop x) }
+        ensures { MatchOption result (IsAlone tree.now k.ExprLoop → ⊥) (λ x. tree.now ≡ expr_loop x) }
     {
-        let Some((Kind::ExprLoop, inner)) = take::alone(tree) else {
+        let Some((Kind::ExprLoop, inner)) = forms::alone(tree) else {
             return None;
         };
         let Some((label, loop_token, body)) = take::three(inner) else {
@@ -389,11 +380,9 @@ impl<'t, 'a> ExprWhile<'t, 'a> {
     /// What a tree is, if it is that.
     #[tactic(auto, unfolding(syn_grammar::specs::Table::table))]
     pub fn of(tree: &'t Tree<'a>) -> Option<ExprWhile<'t, 'a>>
-        ensures { MatchOption result ((y : GivenTree) → tree.now ≡ t.Alone k.ExprWhile y → IsShaped y
-            (table k.ExprWhile) → ⊥)
-            (λ x. tree.now ≡ expr_while x) }
+        ensures { MatchOption result (IsAlone tree.now k.ExprWhile → ⊥) (λ x. tree.now ≡ expr_while x) }
     {
-        let Some((Kind::ExprWhile, inner)) = take::alone(tree) else {
+        let Some((Kind::ExprWhile, inner)) = forms::alone(tree) else {
             return None;
         };
         let Some((label, while_token, cond, body)) = take::four(inner) else {
@@ -438,11 +427,9 @@ impl<'t, 'a> ExprForLoop<'t, 'a> {
     /// What a tree is, if it is that.
     #[tactic(auto, unfolding(syn_grammar::specs::Table::table))]
     pub fn of(tree: &'t Tree<'a>) -> Option<ExprForLoop<'t, 'a>>
-        ensures { MatchOption result ((y : GivenTree) → tree.now ≡ t.Alone k.ExprForLoop y → IsShaped y
-            (table k.ExprForLoop) → ⊥)
-            (λ x. tree.now ≡ expr_for_loop x) }
+        ensures { MatchOption result (IsAlone tree.now k.ExprForLoop → ⊥) (λ x. tree.now ≡ expr_for_loop x) }
     {
-        let Some((Kind::ExprForLoop, inner)) = take::alone(tree) else {
+        let Some((Kind::ExprForLoop, inner)) = forms::alone(tree) else {
             return None;
         };
         let Some((label, for_token, pat, in_token, expr, body)) = take::six(inner) else {
@@ -490,11 +477,9 @@ impl<'t, 'a> ExprMatch<'t, 'a> {
     /// What a tree is, if it is that.
     #[tactic(auto, unfolding(syn_grammar::specs::Table::table))]
     pub fn of(tree: &'t Tree<'a>) -> Option<ExprMatch<'t, 'a>>
-        ensures { MatchOption result ((y : GivenTree) → tree.now ≡ t.Alone k.ExprMatch y → IsShaped y
-            (table k.ExprMatch) → ⊥)
-            (λ x. tree.now ≡ expr_match x) }
+        ensures { MatchOption result (IsAlone tree.now k.ExprMatch → ⊥) (λ x. tree.now ≡ expr_match x) }
     {
-        let Some((Kind::ExprMatch, inner)) = take::alone(tree) else {
+        let Some((Kind::ExprMatch, inner)) = forms::alone(tree) else {
             return None;
         };
         let Some((match_token, expr, brace_token)) = take::three(inner) else {
@@ -539,10 +524,9 @@ impl<'t, 'a> ExprIf<'t, 'a> {
     /// What a tree is, if it is that.
     #[tactic(auto, unfolding(syn_grammar::specs::Table::table))]
     pub fn of(tree: &'t Tree<'a>) -> Option<ExprIf<'t, 'a>>
-        ensures { MatchOption result ((y : GivenTree) → tree.now ≡ t.Alone k.ExprIf y → IsShaped y (table k.ExprIf) → ⊥)
-            (λ x. tree.now ≡ expr_if x) }
+        ensures { MatchOption result (IsAlone tree.now k.ExprIf → ⊥) (λ x. tree.now ≡ expr_if x) }
     {
-        let Some((Kind::ExprIf, inner)) = take::alone(tree) else {
+        let Some((Kind::ExprIf, inner)) = forms::alone(tree) else {
             return None;
         };
         let Some((if_token, cond, then_branch, else_branch)) = take::four(inner) else {
@@ -579,11 +563,9 @@ impl<'t, 'a> ExprParenthesized<'t, 'a> {
     /// What a tree is, if it is that.
     #[tactic(auto, unfolding(syn_grammar::specs::Table::table))]
     pub fn of(tree: &'t Tree<'a>) -> Option<ExprParenthesized<'t, 'a>>
-        ensures { MatchOption result ((y : GivenTree) → tree.now ≡ t.Alone k.ExprParen y → IsShaped y
-            (table k.ExprParen) → ⊥)
-            (λ x. tree.now ≡ expr_parenthesized x) }
+        ensures { MatchOption result (IsAlone tree.now k.ExprParen → ⊥) (λ x. tree.now ≡ expr_parenthesized x) }
     {
-        let Some((Kind::ExprParen, inner)) = take::alone(tree) else {
+        let Some((Kind::ExprParen, inner)) = forms::alone(tree) else {
             return None;
         };
         let Some((paren_token, inside)) = take::group(inner) else {
@@ -609,11 +591,9 @@ impl<'t, 'a> ExprArray<'t, 'a> {
     /// What a tree is, if it is that.
     #[tactic(auto, unfolding(syn_grammar::specs::Table::table))]
     pub fn of(tree: &'t Tree<'a>) -> Option<ExprArray<'t, 'a>>
-        ensures { MatchOption result ((y : GivenTree) → tree.now ≡ t.Alone k.ExprArray y → IsShaped y
-            (table k.ExprArray) → ⊥)
-            (λ x. tree.now ≡ expr_array x) }
+        ensures { MatchOption result (IsAlone tree.now k.ExprArray → ⊥) (λ x. tree.now ≡ expr_array x) }
     {
-        let Some((Kind::ExprArray, inner)) = take::alone(tree) else {
+        let Some((Kind::ExprArray, inner)) = forms::alone(tree) else {
             return None;
         };
         let Some((bracket_token, inside)) = take::group(inner) else {
@@ -646,11 +626,9 @@ impl<'t, 'a> ExprRepeat<'t, 'a> {
     /// What a tree is, if it is that.
     #[tactic(auto, unfolding(syn_grammar::specs::Table::table))]
     pub fn of(tree: &'t Tree<'a>) -> Option<ExprRepeat<'t, 'a>>
-        ensures { MatchOption result ((y : GivenTree) → tree.now ≡ t.Alone k.ExprRepeat y → IsShaped y
-            (table k.ExprRepeat) → ⊥)
-            (λ x. tree.now ≡ expr_repeat x) }
+        ensures { MatchOption result (IsAlone tree.now k.ExprRepeat → ⊥) (λ x. tree.now ≡ expr_repeat x) }
     {
-        let Some((Kind::ExprRepeat, inner)) = take::alone(tree) else {
+        let Some((Kind::ExprRepeat, inner)) = forms::alone(tree) else {
             return None;
         };
         let Some((bracket_token, inside)) = take::group(inner) else {
@@ -682,11 +660,9 @@ impl<'t, 'a> ExprMacro<'t, 'a> {
     /// What a tree is, if it is that.
     #[tactic(auto, unfolding(syn_grammar::specs::Table::table))]
     pub fn of(tree: &'t Tree<'a>) -> Option<ExprMacro<'t, 'a>>
-        ensures { MatchOption result ((y : GivenTree) → tree.now ≡ t.Alone k.ExprMacro y → IsShaped y
-            (table k.ExprMacro) → ⊥)
-            (λ x. tree.now ≡ expr_macro x) }
+        ensures { MatchOption result (IsAlone tree.now k.ExprMacro → ⊥) (λ x. tree.now ≡ expr_macro x) }
     {
-        let Some((Kind::ExprMacro, inner)) = take::alone(tree) else {
+        let Some((Kind::ExprMacro, inner)) = forms::alone(tree) else {
             return None;
         };
         let mac = inner;
@@ -705,11 +681,9 @@ impl<'t, 'a> ExprPath<'t, 'a> {
     /// What a tree is, if it is that.
     #[tactic(auto, unfolding(syn_grammar::specs::Table::table))]
     pub fn of(tree: &'t Tree<'a>) -> Option<ExprPath<'t, 'a>>
-        ensures { MatchOption result ((y : GivenTree) → tree.now ≡ t.Alone k.ExprPath y → IsShaped y
-            (table k.ExprPath) → ⊥)
-            (λ x. tree.now ≡ expr_path x) }
+        ensures { MatchOption result (IsAlone tree.now k.ExprPath → ⊥) (λ x. tree.now ≡ expr_path x) }
     {
-        let Some((Kind::ExprPath, inner)) = take::alone(tree) else {
+        let Some((Kind::ExprPath, inner)) = forms::alone(tree) else {
             return None;
         };
         let path = inner;

@@ -1,26 +1,26 @@
 -- The trees that the types of blocks are.
 use Rattle.syn_ast.specs.Leaves.{lifetime_tree, list_tree, mark_tree, optional_tree, turns_tree, word_tree}
 use Rattle.syn_ast.specs.Sub.{marked_tree, worded_tree}
-use Rattle.syn_ast.specs.declared.blocks.Arms.{Arms}
-use Rattle.syn_ast.specs.declared.blocks.Block.{Block}
-use Rattle.syn_ast.specs.declared.blocks.Body.{Body}
-use Rattle.syn_ast.specs.declared.blocks.ClosureParam.{ClosureParam}
-use Rattle.syn_ast.specs.declared.blocks.ExprArray.{ExprArray}
-use Rattle.syn_ast.specs.declared.blocks.ExprAsync.{ExprAsync}
-use Rattle.syn_ast.specs.declared.blocks.ExprBlock.{ExprBlock}
-use Rattle.syn_ast.specs.declared.blocks.ExprForLoop.{ExprForLoop}
-use Rattle.syn_ast.specs.declared.blocks.ExprIf.{ExprIf}
-use Rattle.syn_ast.specs.declared.blocks.ExprLoop.{ExprLoop}
-use Rattle.syn_ast.specs.declared.blocks.ExprMacro.{ExprMacro}
-use Rattle.syn_ast.specs.declared.blocks.ExprMatch.{ExprMatch}
-use Rattle.syn_ast.specs.declared.blocks.ExprParenthesized.{ExprParenthesized}
-use Rattle.syn_ast.specs.declared.blocks.ExprPath.{ExprPath}
-use Rattle.syn_ast.specs.declared.blocks.ExprRepeat.{ExprRepeat}
-use Rattle.syn_ast.specs.declared.blocks.ExprUnsafe.{ExprUnsafe}
-use Rattle.syn_ast.specs.declared.blocks.ExprWhile.{ExprWhile}
-use Rattle.syn_ast.specs.declared.blocks.File.{File}
-use Rattle.syn_ast.specs.declared.blocks.Label.{Label}
-use Rattle.syn_ast.specs.declared.blocks.Labelled.{Labelled}
+use Rattle.syn_expr.specs.declared.blocks.Arms.{Arms}
+use Rattle.syn_expr.specs.declared.blocks.Block.{Block}
+use Rattle.syn_expr.specs.declared.blocks.Body.{Body}
+use Rattle.syn_expr.specs.declared.blocks.ClosureParam.{ClosureParam}
+use Rattle.syn_expr.specs.declared.blocks.ExprArray.{ExprArray}
+use Rattle.syn_expr.specs.declared.blocks.ExprAsync.{ExprAsync}
+use Rattle.syn_expr.specs.declared.blocks.ExprBlock.{ExprBlock}
+use Rattle.syn_expr.specs.declared.blocks.ExprForLoop.{ExprForLoop}
+use Rattle.syn_expr.specs.declared.blocks.ExprIf.{ExprIf}
+use Rattle.syn_expr.specs.declared.blocks.ExprLoop.{ExprLoop}
+use Rattle.syn_expr.specs.declared.blocks.ExprMacro.{ExprMacro}
+use Rattle.syn_expr.specs.declared.blocks.ExprMatch.{ExprMatch}
+use Rattle.syn_expr.specs.declared.blocks.ExprParenthesized.{ExprParenthesized}
+use Rattle.syn_expr.specs.declared.blocks.ExprPath.{ExprPath}
+use Rattle.syn_expr.specs.declared.blocks.ExprRepeat.{ExprRepeat}
+use Rattle.syn_expr.specs.declared.blocks.ExprUnsafe.{ExprUnsafe}
+use Rattle.syn_expr.specs.declared.blocks.ExprWhile.{ExprWhile}
+use Rattle.syn_expr.specs.declared.blocks.File.{File}
+use Rattle.syn_expr.specs.declared.blocks.Label.{Label}
+use Rattle.syn_expr.specs.declared.blocks.Labelled.{Labelled}
 use Rattle.syn_grammar.specs.Kind as k
 use Rattle.syn_grammar.specs.Name as n
 use Rattle.syn_grammar.specs.Tree as t

@@ -1,7 +1,7 @@
 -- The trees that the parts of expressions are.
 use Rattle.syn_ast.specs.Leaves.{literal_tree, word_tree}
-use Rattle.syn_ast.specs.declared.expr.parts.Member.{Member}
-use Rattle.syn_ast.specs.declared.expr.parts.Member.TheVariants as members
+use Rattle.syn_expr.specs.declared.expr.parts.Member.{Member}
+use Rattle.syn_expr.specs.declared.expr.parts.Member.TheVariants as members
 use Rattle.syn_grammar.specs.Kind as k
 use Rattle.syn_grammar.specs.Name as n
 use Rattle.syn_grammar.specs.Tree as t

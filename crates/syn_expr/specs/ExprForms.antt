@@ -1,9 +1,9 @@
 -- Forms of expressions by the operands that they have, and alternatives of a choice.
-use Rattle.std.specs.Prelude.{◌≡◌, ℕ, Bool, true, false, Option, Some, None}
+use Rattle.std.specs.Prelude.{◌≡◌, ℕ, Option, Some, None}
 use Rattle.gram_tree.specs.Forms.{seconds}
-use Rattle.syn_grammar.specs.Kind.{Kind, FieldValues, Arm, Statements, OneStatement, ALet}
+use Rattle.syn_grammar.specs.Kind.{Kind}
 use Rattle.syn_grammar.specs.Table.{table}
-use Rattle.syn_grammar.specs.Tree.{Tree, First, Second, Node, Alone, Front, Back, Infix}
+use Rattle.syn_grammar.specs.Tree.{Tree, First, Alone, Front, Back, Infix}
 use Rattle.syn_ast.specs.Shape.{IsShaped}
 use denote.Bor.{Bor}
 
@@ -41,11 +41,6 @@ IsForm (Back l j y) k = (j ≡ k) × IsShaped y (table k)
 IsForm (Infix l j y r) k = (j ≡ k) × IsShaped y (table k)
 IsForm _ k = ⊥
 
--- a node of the kind, which is judged, that was kept as a tree
-abbrev pub IsKept : Tree → Kind → Type 0
-IsKept (Node j (First y)) k = (j ≡ k) × IsShaped (First y) (table k)
-IsKept _ k = ⊥
-
 -- a form of the kind, with its own part and the operand that it may have behind it
 abbrev pub jump_tree : Kind → Tree → Option (Bor Tree) → Tree
 jump_tree k y None = Alone k y
@@ -60,18 +55,3 @@ form_tree (Some l) k y (Some r) = Infix l.now k y r.now
 -- of several alternatives that one, counted from 0
 abbrev pub nth_tree : ℕ → Tree → Tree
 nth_tree n x = seconds n (First x)
-
--- a choice
-abbrev pub is_choice : Tree → Bool
-is_choice (First x) = true
-is_choice (Second x) = true
-is_choice _ = false
-
--- the kinds among these that are judged: what is read of them is kept as a tree
-abbrev pub keeps_trees : Kind → Bool
-keeps_trees FieldValues = true
-keeps_trees Arm = true
-keeps_trees Statements = true
-keeps_trees OneStatement = true
-keeps_trees ALet = true
-keeps_trees _ = false

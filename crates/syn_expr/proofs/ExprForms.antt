@@ -10,7 +10,7 @@ use Rattle.syn_grammar.specs.Tree.{Tree}
 use Rattle.gram_tree.specs.declared.tree.Element.{Element}
 use Rattle.gram_tree.specs.Forms.{mark_of, seconds, turns, elements, ending}
 use Rattle.syn_ast.specs.Shape.{IsShaped}
-use Rattle.syn_ast.specs.ExprForms.{IsAlone, IsBack, IsForm, IsFront, IsJump}
+use Rattle.syn_expr.specs.ExprForms.{IsAlone, IsBack, IsForm, IsFront, IsJump}
 
 -- none of these is a form of an expression
 pub first_form : (n : ℕ) (x : Tree) (k : Kind) → IsForm (seconds n (t.First x)) k → ⊥

@@ -2,13 +2,13 @@
 
 ghost use Rattle.gram_table.specs.Kinds.{kind_of};
 ghost use Rattle.std.specs.Prelude.{◌≡◌, MatchOption, cond};
-ghost use Rattle.syn_ast.specs.ExprForms.{IsAlone, IsBack, IsFront};
+ghost use Rattle.syn_expr.specs.ExprForms.{IsAlone, IsBack, IsFront};
 ghost use Rattle.syn_grammar.specs.Kind.{Kind as GivenKind};
 ghost use Rattle.syn_grammar.specs.Tree as t;
 
-use crate::take;
 use gram_table::kind::Kind;
 use gram_tree::tree::{Form, Tree};
+use syn_ast::take;
 
 /// Of a form by itself its kind and its own part.
 #[tactic(auto, using(crate::proofs::ExprForms::alones))]

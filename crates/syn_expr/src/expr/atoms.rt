@@ -1,17 +1,17 @@
 //! Expressions that stand by themselves; blocks and what is made of them stand elsewhere.
 
 ghost use Rattle.std.specs.Prelude.{MatchOption, ◌≡◌};
-ghost use Rattle.syn_ast.specs.ExprAtoms.{expr_const, expr_continue, expr_group, expr_infer};
-ghost use Rattle.syn_ast.specs.ExprAtoms.{expr_try_block};
-ghost use Rattle.syn_ast.specs.ExprForms.{IsAlone};
+ghost use Rattle.syn_expr.specs.ExprAtoms.{expr_const, expr_continue, expr_group, expr_infer};
+ghost use Rattle.syn_expr.specs.ExprAtoms.{expr_try_block};
+ghost use Rattle.syn_expr.specs.ExprForms.{IsAlone};
 ghost use Rattle.syn_grammar.specs.Kind as k;
 
 use crate::expr::forms;
-use crate::leaf::{Delimiters, Lifetime};
-use crate::take;
 use gram_table::kind::Kind;
 use gram_tree::tree::Tree;
 use rust_leaf::ident::Ident;
+use syn_ast::leaf::{Delimiters, Lifetime};
+use syn_ast::take;
 
 /// An expression in a group without delimiters.
 #[derive(Clone, Copy)]

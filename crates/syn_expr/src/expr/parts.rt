@@ -2,20 +2,20 @@
 
 ghost use Rattle.proc_macro2.specs.Token.{Token};
 ghost use Rattle.std.specs.Prelude.{Bool, List, MatchOption, ℕ, ◌≡◌};
-ghost use Rattle.syn_ast.specs.ExprParts.{field_member_tree, member, member_tree};
 ghost use Rattle.syn_ast.specs.Leaves.{literal_tree, word_tree};
 ghost use Rattle.syn_ast.specs.Shape.{IsShaped};
+ghost use Rattle.syn_expr.specs.ExprParts.{field_member_tree, member, member_tree};
 ghost use Rattle.syn_grammar.specs.Gram as g;
 ghost use Rattle.syn_grammar.specs.Kind as k;
 ghost use Rattle.syn_grammar.specs.Name as n;
 ghost use Rattle.syn_grammar.specs.Tree as t;
 
-use crate::take::{self, Choice};
 use gram_table::kind::Kind;
 use gram_table::part::Part;
 use gram_tree::tree::Tree;
 use rust_leaf::ident::Ident;
 use rust_leaf::literal::Literal;
+use syn_ast::take::{self, Choice};
 
 /// A field's name, or its index.
 #[derive(Clone, Copy)]

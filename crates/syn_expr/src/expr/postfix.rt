@@ -2,23 +2,23 @@
 
 ghost use Rattle.proc_macro2.specs.Token.{Token};
 ghost use Rattle.std.specs.Prelude.{Bool, List, MatchOption, ℕ, ◌≡◌};
-ghost use Rattle.syn_ast.specs.ExprForms.{IsBack};
-ghost use Rattle.syn_ast.specs.ExprPostfix.{dot_tree, expr_await, expr_call, expr_cast, expr_field, expr_index};
-ghost use Rattle.syn_ast.specs.ExprPostfix.{expr_method_call, expr_struct, expr_try};
 ghost use Rattle.syn_ast.specs.Shape.{IsShaped};
+ghost use Rattle.syn_expr.specs.ExprForms.{IsBack};
+ghost use Rattle.syn_expr.specs.ExprPostfix.{dot_tree, expr_await, expr_call, expr_cast, expr_field, expr_index};
+ghost use Rattle.syn_expr.specs.ExprPostfix.{expr_method_call, expr_struct, expr_try};
 ghost use Rattle.syn_grammar.specs.Gram as g;
 ghost use Rattle.syn_grammar.specs.Kind as k;
 ghost use Rattle.syn_grammar.specs.Name as n;
 
 use crate::expr::forms;
 use crate::expr::parts::{Member, as_field_member};
-use crate::leaf::{Delimiters, Mark};
-use crate::list::{Elements, Turns};
-use crate::take;
 use gram_table::kind::Kind;
 use gram_table::part::Part;
 use gram_tree::tree::Tree;
 use rust_leaf::ident::Ident;
+use syn_ast::leaf::{Delimiters, Mark};
+use syn_ast::list::{Elements, Turns};
+use syn_ast::take;
 
 /// A dot, and the numbers behind it that end in one.
 pub fn as_dot<'t, 'a>(tree: &'t Tree<'a>) -> Option<(Mark, Turns<'t, 'a>)>

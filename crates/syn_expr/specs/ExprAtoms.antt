@@ -1,10 +1,10 @@
 -- The trees that these expressions are.
 use Rattle.syn_ast.specs.Leaves.{lifetime_tree, optional_tree, word_tree}
-use Rattle.syn_ast.specs.declared.expr.atoms.ExprGroup.{ExprGroup}
-use Rattle.syn_ast.specs.declared.expr.atoms.ExprInfer.{ExprInfer}
-use Rattle.syn_ast.specs.declared.expr.atoms.ExprConst.{ExprConst}
-use Rattle.syn_ast.specs.declared.expr.atoms.ExprTryBlock.{ExprTryBlock}
-use Rattle.syn_ast.specs.declared.expr.atoms.ExprContinue.{ExprContinue}
+use Rattle.syn_expr.specs.declared.expr.atoms.ExprGroup.{ExprGroup}
+use Rattle.syn_expr.specs.declared.expr.atoms.ExprInfer.{ExprInfer}
+use Rattle.syn_expr.specs.declared.expr.atoms.ExprConst.{ExprConst}
+use Rattle.syn_expr.specs.declared.expr.atoms.ExprTryBlock.{ExprTryBlock}
+use Rattle.syn_expr.specs.declared.expr.atoms.ExprContinue.{ExprContinue}
 use Rattle.syn_grammar.specs.Kind as k
 use Rattle.syn_grammar.specs.Tree as t
 use Rattle.syn_grammar.specs.Tree.{Tree}

@@ -1,11 +1,11 @@
 -- The trees that expressions with an operand behind them are.
 use Rattle.syn_ast.specs.Leaves.{list_tree, mark_tree, node_tree, optional_tree, word_tree}
-use Rattle.syn_ast.specs.declared.expr.prefix.ExprAttributed.{ExprAttributed}
-use Rattle.syn_ast.specs.declared.expr.prefix.ExprRawAddr.{ExprRawAddr}
-use Rattle.syn_ast.specs.declared.expr.prefix.ExprReference.{ExprReference}
-use Rattle.syn_ast.specs.declared.expr.prefix.ExprLet.{ExprLet}
-use Rattle.syn_ast.specs.declared.expr.prefix.ClosureHead.{ClosureHead}
-use Rattle.syn_ast.specs.declared.expr.prefix.ExprClosure.{ExprClosure}
+use Rattle.syn_expr.specs.declared.expr.prefix.ExprAttributed.{ExprAttributed}
+use Rattle.syn_expr.specs.declared.expr.prefix.ExprRawAddr.{ExprRawAddr}
+use Rattle.syn_expr.specs.declared.expr.prefix.ExprReference.{ExprReference}
+use Rattle.syn_expr.specs.declared.expr.prefix.ExprLet.{ExprLet}
+use Rattle.syn_expr.specs.declared.expr.prefix.ClosureHead.{ClosureHead}
+use Rattle.syn_expr.specs.declared.expr.prefix.ExprClosure.{ExprClosure}
 use Rattle.syn_grammar.specs.Kind as k
 use Rattle.syn_grammar.specs.Tree as t
 use Rattle.syn_grammar.specs.Tree.{Tree}
