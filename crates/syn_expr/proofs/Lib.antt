@@ -1,1 +1,2 @@
 pub mod ExprForms
+pub mod ExprKept

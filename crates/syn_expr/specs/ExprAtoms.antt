@@ -1,5 +1,7 @@
 -- The trees that these expressions are.
 use Rattle.syn_ast.specs.Leaves.{lifetime_tree, optional_tree, word_tree}
+use Rattle.syn_ast.specs.Sub.{lit_tree}
+use Rattle.syn_expr.specs.declared.expr.atoms.ExprLit.{ExprLit}
 use Rattle.syn_expr.specs.declared.expr.atoms.ExprGroup.{ExprGroup}
 use Rattle.syn_expr.specs.declared.expr.atoms.ExprInfer.{ExprInfer}
 use Rattle.syn_expr.specs.declared.expr.atoms.ExprConst.{ExprConst}
@@ -8,6 +10,10 @@ use Rattle.syn_expr.specs.declared.expr.atoms.ExprContinue.{ExprContinue}
 use Rattle.syn_grammar.specs.Kind as k
 use Rattle.syn_grammar.specs.Tree as t
 use Rattle.syn_grammar.specs.Tree.{Tree}
+
+-- a literal: 1, "a", true
+abbrev pub expr_lit : ExprLit → Tree
+expr_lit x = t.Alone k.ExprLit (lit_tree x.lit)
 
 -- an expression in a group without delimiters
 abbrev pub expr_group : ExprGroup → Tree

@@ -4,3 +4,4 @@ pub mod ExprParts
 pub mod ExprAtoms
 pub mod ExprPostfix
 pub mod ExprPrefix
+pub mod Judged

@@ -1,7 +1,7 @@
 //! Expressions that stand by themselves; blocks and what is made of them stand elsewhere.
 
 ghost use Rattle.std.specs.Prelude.{MatchOption, ◌≡◌};
-ghost use Rattle.syn_expr.specs.ExprAtoms.{expr_const, expr_continue, expr_group, expr_infer};
+ghost use Rattle.syn_expr.specs.ExprAtoms.{expr_const, expr_continue, expr_group, expr_infer, expr_lit};
 ghost use Rattle.syn_expr.specs.ExprAtoms.{expr_try_block};
 ghost use Rattle.syn_expr.specs.ExprForms.{IsAlone};
 ghost use Rattle.syn_grammar.specs.Kind as k;
@@ -11,7 +11,31 @@ use gram_table::kind::Kind;
 use gram_tree::tree::Tree;
 use rust_leaf::ident::Ident;
 use syn_ast::leaf::{Delimiters, Lifetime};
+use syn_ast::sub::{Lit, as_lit};
 use syn_ast::take;
+
+/// A literal: `1`, `"a"`, `true`.
+#[derive(Clone, Copy)]
+pub struct ExprLit<'a> {
+    /// The literal.
+    pub lit: Lit<'a>,
+}
+
+impl<'a> ExprLit<'a> {
+    /// What a tree is, if it is that.
+    #[tactic(auto, unfolding(syn_grammar::specs::Table::table))]
+    pub fn of(tree: &Tree<'a>) -> Option<ExprLit<'a>>
+        ensures { MatchOption result (IsAlone tree.now k.ExprLit → ⊥) (λ x. tree.now ≡ expr_lit x) }
+    {
+        let Some((Kind::ExprLit, own)) = forms::alone(tree) else {
+            return None;
+        };
+        let Some(lit) = as_lit(own) else {
+            return None;
+        };
+        Some(ExprLit { lit })
+    }
+}
 
 /// An expression in a group without delimiters.
 #[derive(Clone, Copy)]

@@ -2,6 +2,7 @@
 
 pub mod atoms;
 pub mod forms;
+pub mod laws;
 pub mod parts;
 pub mod postfix;
 pub mod prefix;
