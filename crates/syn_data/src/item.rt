@@ -1,0 +1,288 @@
+//! Structs, enums and unions; statics, uses and crates.
+
+ghost use Rattle.std.specs.Prelude.{◌≡◌, MatchOption};
+ghost use Rattle.syn_ast.specs.Shape.{IsShaped};
+ghost use Rattle.syn_data.specs.Items.{item_enum, item_extern_crate, item_static, item_union, item_use};
+ghost use Rattle.syn_grammar.specs.Gram as g;
+ghost use Rattle.syn_grammar.specs.Kind as k;
+
+use gram_table::kind::Kind;
+use gram_table::part::Part;
+use gram_tree::tree::Tree;
+use rust_leaf::ident::Ident;
+use syn_ast::data::{Name, Renamed, as_name, optional_as_renamed};
+use syn_ast::leaf::{Delimiters, Mark};
+use syn_ast::list::Elements;
+use syn_ast::sub::{MarkedType, MarkedValue, optional_as_marked_type, optional_as_marked_value};
+use syn_ast::take;
+
+/// An enum: `enum A<T> where .. { B, C }`, behind its attributes and its visibility.
+#[derive(Clone, Copy)]
+pub struct ItemEnum<'t, 'a> {
+    /// `enum`
+    pub enum_token: &'a Ident,
+    /// Its name.
+    pub ident: &'a Ident,
+    /// Its generic parameters.
+    pub generics: &'t Tree<'a>,
+    /// Its where clause.
+    pub where_clause: &'t Tree<'a>,
+    /// The braces.
+    pub brace_token: Delimiters,
+    /// Its variants.
+    pub variants: Elements<'t, 'a>,
+}
+
+impl<'t, 'a> ItemEnum<'t, 'a> {
+    /// What a tree is, if it is that.
+    #[tactic(auto, unfolding(syn_grammar::specs::Table::table))]
+    pub fn of(tree: &'t Tree<'a>) -> Option<ItemEnum<'t, 'a>>
+        ensures { MatchOption result (IsShaped tree.now (g.ref k.AnEnum) → ⊥) (λ x. tree.now ≡ item_enum x) }
+    {
+        let Some((Kind::AnEnum, inner)) = take::node(tree) else {
+            return None;
+        };
+        let Some((enum_token, ident, generics, where_clause, brace_token)) = take::five(inner)
+        else {
+            return None;
+        };
+        let Some(enum_token) = take::word(enum_token) else {
+            return None;
+        };
+        let Some((Part::Name, ident)) = take::called(ident) else {
+            return None;
+        };
+        let Some(ident) = take::word(ident) else {
+            return None;
+        };
+        let Some((Part::Generics, generics)) = take::called(generics) else {
+            return None;
+        };
+        let Some((Part::Where, where_clause)) = take::called(where_clause) else {
+            return None;
+        };
+        let Some((brace_token, inside)) = take::group(brace_token) else {
+            return None;
+        };
+        let Some(variants) = take::list(inside) else {
+            return None;
+        };
+        Some(ItemEnum {
+            enum_token,
+            ident,
+            generics,
+            where_clause,
+            brace_token,
+            variants,
+        })
+    }
+}
+
+/// A union: `union A<T> where .. { b: B }`, behind its attributes and its visibility.
+#[derive(Clone, Copy)]
+pub struct ItemUnion<'t, 'a> {
+    /// `union`
+    pub union_token: &'a Ident,
+    /// Its name.
+    pub ident: &'a Ident,
+    /// Its generic parameters.
+    pub generics: &'t Tree<'a>,
+    /// Its where clause.
+    pub where_clause: &'t Tree<'a>,
+    /// Its fields.
+    pub fields: &'t Tree<'a>,
+}
+
+impl<'t, 'a> ItemUnion<'t, 'a> {
+    /// What a tree is, if it is that.
+    #[tactic(auto, unfolding(syn_grammar::specs::Table::table))]
+    pub fn of(tree: &'t Tree<'a>) -> Option<ItemUnion<'t, 'a>>
+        ensures { MatchOption result (IsShaped tree.now (g.ref k.AUnion) → ⊥) (λ x. tree.now ≡ item_union x) }
+    {
+        let Some((Kind::AUnion, inner)) = take::node(tree) else {
+            return None;
+        };
+        let Some((union_token, ident, generics, where_clause, fields)) = take::five(inner) else {
+            return None;
+        };
+        let Some(union_token) = take::word(union_token) else {
+            return None;
+        };
+        let Some((Part::Name, ident)) = take::called(ident) else {
+            return None;
+        };
+        let Some(ident) = take::word(ident) else {
+            return None;
+        };
+        let Some((Part::Generics, generics)) = take::called(generics) else {
+            return None;
+        };
+        let Some((Part::Where, where_clause)) = take::called(where_clause) else {
+            return None;
+        };
+        Some(ItemUnion {
+            union_token,
+            ident,
+            generics,
+            where_clause,
+            fields,
+        })
+    }
+}
+
+/// A static: `static mut A: T = b;`, behind its attributes and its visibility.
+#[derive(Clone, Copy)]
+pub struct ItemStatic<'t, 'a> {
+    /// `static`
+    pub static_token: &'a Ident,
+    /// `mut`
+    pub mutability: Option<&'a Ident>,
+    /// Its name.
+    pub ident: &'a Ident,
+    /// `:` and its type.
+    pub ty: Option<MarkedType<'t, 'a>>,
+    /// `=` and its value.
+    pub expr: Option<MarkedValue<'t, 'a>>,
+    /// `;`
+    pub semi_token: Mark,
+}
+
+impl<'t, 'a> ItemStatic<'t, 'a> {
+    /// What a tree is, if it is that.
+    #[tactic(auto, unfolding(syn_grammar::specs::Table::table))]
+    pub fn of(tree: &'t Tree<'a>) -> Option<ItemStatic<'t, 'a>>
+        ensures { MatchOption result (IsShaped tree.now (g.ref k.AStatic) → ⊥) (λ x. tree.now ≡ item_static x) }
+    {
+        let Some((Kind::AStatic, inner)) = take::node(tree) else {
+            return None;
+        };
+        let Some((static_token, mutability, ident, ty, expr, semi_token)) = take::six(inner) else {
+            return None;
+        };
+        let Some(static_token) = take::word(static_token) else {
+            return None;
+        };
+        let Some(mutability) = take::optional_word(mutability) else {
+            return None;
+        };
+        let Some((Part::Name, ident)) = take::called(ident) else {
+            return None;
+        };
+        let Some(ident) = take::word(ident) else {
+            return None;
+        };
+        let Some(ty) = optional_as_marked_type(ty) else {
+            return None;
+        };
+        let Some(expr) = optional_as_marked_value(expr) else {
+            return None;
+        };
+        let Some(semi_token) = take::mark(semi_token) else {
+            return None;
+        };
+        Some(ItemStatic {
+            static_token,
+            mutability,
+            ident,
+            ty,
+            expr,
+            semi_token,
+        })
+    }
+}
+
+/// A use declaration: `use a::b;`, behind its attributes and its visibility.
+#[derive(Clone, Copy)]
+pub struct ItemUse<'t, 'a> {
+    /// `use`
+    pub use_token: &'a Ident,
+    /// What it names.
+    pub tree: &'t Tree<'a>,
+    /// `;`
+    pub semi_token: Mark,
+}
+
+impl<'t, 'a> ItemUse<'t, 'a> {
+    /// What a tree is, if it is that.
+    #[tactic(auto, unfolding(syn_grammar::specs::Table::table))]
+    pub fn of(tree: &'t Tree<'a>) -> Option<ItemUse<'t, 'a>>
+        ensures { MatchOption result (IsShaped tree.now (g.ref k.AUse) → ⊥) (λ x. tree.now ≡ item_use x) }
+    {
+        let Some((Kind::AUse, inner)) = take::node(tree) else {
+            return None;
+        };
+        let Some((use_token, tree, semi_token)) = take::three(inner) else {
+            return None;
+        };
+        let Some(use_token) = take::word(use_token) else {
+            return None;
+        };
+        let Some((Part::Path, tree)) = take::called(tree) else {
+            return None;
+        };
+        let Some(semi_token) = take::mark(semi_token) else {
+            return None;
+        };
+        Some(ItemUse {
+            use_token,
+            tree,
+            semi_token,
+        })
+    }
+}
+
+/// A crate: `extern crate a as b;`, behind its attributes and its visibility.
+#[derive(Clone, Copy)]
+pub struct ItemExternCrate<'a> {
+    /// `extern`
+    pub extern_token: &'a Ident,
+    /// `crate`
+    pub crate_token: &'a Ident,
+    /// Its name, or `self`.
+    pub ident: Name<'a>,
+    /// `as` and another name.
+    pub rename: Option<Renamed<'a>>,
+    /// `;`
+    pub semi_token: Mark,
+}
+
+impl<'a> ItemExternCrate<'a> {
+    /// What a tree is, if it is that.
+    #[tactic(auto, unfolding(syn_grammar::specs::Table::table))]
+    pub fn of(tree: &Tree<'a>) -> Option<ItemExternCrate<'a>>
+        ensures { MatchOption result (IsShaped tree.now (g.ref k.AnExternCrate) → ⊥)
+            (λ x. tree.now ≡ item_extern_crate x) }
+    {
+        let Some((Kind::AnExternCrate, inner)) = take::node(tree) else {
+            return None;
+        };
+        let Some((extern_token, crate_token, ident, rename, semi_token)) = take::five(inner) else {
+            return None;
+        };
+        let Some(extern_token) = take::word(extern_token) else {
+            return None;
+        };
+        let Some(crate_token) = take::word(crate_token) else {
+            return None;
+        };
+        let Some((Part::Name, ident)) = take::called(ident) else {
+            return None;
+        };
+        let Some(ident) = as_name(ident) else {
+            return None;
+        };
+        let Some(rename) = optional_as_renamed(rename) else {
+            return None;
+        };
+        let Some(semi_token) = take::mark(semi_token) else {
+            return None;
+        };
+        Some(ItemExternCrate {
+            extern_token,
+            crate_token,
+            ident,
+            rename,
+            semi_token,
+        })
+    }
+}
