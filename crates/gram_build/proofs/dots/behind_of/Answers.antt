@@ -1,0 +1,17 @@
+use Rattle.std.proofs.Common.{◌≡◌, ◌∙◌, sym, inl}
+use Rattle.std.proofs.lemmas.Result.{IfOk-weaker}
+use Rattle.syn_grammar.specs.Kind.{Plain}
+use Rattle.gram_table.specs.Kinds.{kind_of}
+use Rattle.gram_write.specs.Formed.{IsFormed}
+use Rattle.gram_build.specs.Found.{HasNoDot, IsBehind}
+use Rattle.gram_build.proofs.dots.behind_of.Goals as goal
+
+-- it has no dot by its kind
+pub returns-then-not-has_dot-clause-same : goal.returns-then-not-has_dot-clause-same
+returns-then-not-has_dot-clause-same c =
+    IfOk-weaker c.plain.result
+    (λ b. HasNoDot (kind_of c.args.kind) c.args.own.now → IsFormed Plain c.args.own.now
+    → IsBehind (kind_of c.args.kind) c.args.own.now b)
+    (λ b. IsFormed Plain c.args.own.now → IsBehind (kind_of c.args.kind) c.args.own.now b)
+    (λ b h formed. h (inl (sym c.has_dot.ensures ∙ c.if-not-has_dot.true)) formed)
+    c.plain.ensures.same

@@ -1,0 +1,9 @@
+pub mod Begins
+pub mod Heads
+pub mod Behind
+pub mod Numbers
+pub mod Facts
+pub mod Ropes
+pub mod Kept
+pub mod Found
+pub mod Asked

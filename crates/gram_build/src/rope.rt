@@ -1,0 +1,89 @@
+//! Tokens that are to be written, in the order in which they are found: joined and put in parentheses without a copy.
+
+ghost use Rattle.gram_build.specs.Ropes.{rope_tokens};
+ghost use Rattle.gram_piece.specs.Pieces.{piece_token};
+ghost use Rattle.proc_macro2.specs.Token.{Closes, Opens};
+ghost use Rattle.proc_macro2.specs.declared.delimiter.Delimiter.TheVariants.{Parenthesis};
+ghost use Rattle.std.specs.Prelude.{[], ◌++◌, ◌∷◌, ◌≡◌, IfOk, OnOk, map};
+
+use gram_piece::piece::Piece;
+use proc_macro2::delimiter::Delimiter;
+use std::alloc::{AllocError, Global};
+
+/// Tokens that are to be written.
+#[derive(Drop)]
+pub(crate) enum Rope<'a> {
+    /// These.
+    Own(Vec<Piece<'a>>),
+    /// Those of one, and then those of the other.
+    Joined(Box<Rope<'a>>, Box<Rope<'a>>),
+    /// Those of one, in parentheses.
+    Enclosed(Box<Rope<'a>>),
+}
+
+/// The tokens of one, and then those of the other.
+///
+/// # Errors
+///
+/// Where there is no memory for it.
+pub(crate) fn joined<'a>(
+    alloc: Global,
+    front: Rope<'a>,
+    back: Rope<'a>,
+) -> Result<Rope<'a>, AllocError>
+    ensures { IfOk result (λ r. rope_tokens r ≡ rope_tokens front.entry ++ rope_tokens back.entry) }
+{
+    let first = Box::new(alloc, front)?;
+    let second = Box::new(alloc, back)?;
+    Ok(Rope::Joined(first, second))
+}
+
+/// Those of one, in parentheses.
+///
+/// # Errors
+///
+/// Where there is no memory for it.
+pub(crate) fn enclosed<'a>(alloc: Global, inside: Rope<'a>) -> Result<Rope<'a>, AllocError>
+    ensures { IfOk result (λ r. rope_tokens r
+        ≡ Opens Parenthesis ∷ rope_tokens inside.entry ++ Closes Parenthesis ∷ []) }
+{
+    let within = Box::new(alloc, inside)?;
+    Ok(Rope::Enclosed(within))
+}
+
+// Puts tokens behind those that are to be written.
+#[tactic(auto, using(crate::proofs::Pushing::puts))]
+fn put_pieces<'a>(pieces: &[Piece<'a>], out: &mut Vec<Piece<'a>>) -> Result<(), AllocError>
+    ensures { OnOk result (map piece_token out.new.items
+        ≡ map piece_token out.old.items ++ map piece_token pieces.now) }
+{
+    for piece in pieces {
+        out.push(*piece)?;
+    }
+    Ok(())
+}
+
+/// Puts the tokens of a rope behind those that are to be written: each once.
+///
+/// # Errors
+///
+/// Where there is no memory for more tokens.
+#[tactic(auto, using(crate::proofs::Pushing::puts))]
+pub(crate) fn put_rope<'a>(rope: &Rope<'a>, out: &mut Vec<Piece<'a>>) -> Result<(), AllocError>
+    ensures { OnOk result (map piece_token out.new.items
+        ≡ map piece_token out.old.items ++ rope_tokens rope.now) }
+{
+    match rope {
+        Rope::Own(pieces) => put_pieces(pieces.as_slice(), out),
+        Rope::Joined(front, back) => {
+            put_rope(front, out)?;
+            put_rope(back, out)
+        }
+        Rope::Enclosed(inside) => {
+            out.push(Piece::Open(Delimiter::Parenthesis))?;
+            put_rope(inside, out)?;
+            out.push(Piece::Close(Delimiter::Parenthesis))?;
+            Ok(())
+        }
+    }
+}
