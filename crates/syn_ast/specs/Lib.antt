@@ -9,6 +9,6 @@ pub mod Paths
 pub mod Generics
 pub mod Attributes
 pub mod Visibility
-pub mod Data
+pub mod Name
 pub mod Patterns
 pub mod Pat

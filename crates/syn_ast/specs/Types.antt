@@ -1,5 +1,5 @@
 -- The trees that the types of types are.
-use Rattle.syn_ast.specs.Data.{name_tree}
+use Rattle.syn_ast.specs.Name.{name_tree}
 use Rattle.syn_ast.specs.Leaves.{lifetime_tree, list_tree, literal_tree, mark_tree, node_tree, optional_tree, word_tree}
 use Rattle.syn_ast.specs.Sub.{marked_type_tree, marked_value_tree}
 use Rattle.syn_ast.specs.declared.types.Abi.{Abi}

@@ -64,9 +64,7 @@ pub fn as_angled_params<'t, 'a>(tree: &'t Tree<'a>) -> Option<AngledParams<'t, '
 
 /// What stands there, if anything does.
 #[tactic(auto, unfolding(syn_grammar::specs::Table::table))]
-pub fn optional_as_angled_params<'t, 'a>(
-    tree: &'t Tree<'a>,
-) -> Option<Option<AngledParams<'t, 'a>>>
+pub fn optional_as_angled_params<'t, 'a>(tree: &'t Tree<'a>) -> Option<Option<AngledParams<'t, 'a>>>
     ensures { MatchOption result ((test : List Token → Bool) (c1 : ℕ) (cs2 : List ℕ) (a3 : g.Gram) (c4 : ℕ)
         (cs5 : List ℕ) → IsShaped tree.now (g.alt test (g.seq (g.mark c1 cs2) (g.seq (g.called n.the_parameters a3)
         (g.mark c4 cs5))) g.nothing) → ⊥)

@@ -1,15 +1,25 @@
-//! The syntax tree's types: what was read as a tree, one layer at a time, as structs whose fields are its parts.
+//! The syntax tree's types: what was read as a tree, one layer at a time, as structs whose fields are its parts. Here
+//! are those that other forms have in common; `syn_expr`, `syn_data` and `syn_item` have the rest.
+//!
+//! - `leaf`: marks, lifetimes and delimiters; `list`, `iter`: lists, and their elements one by one.
+//! - `take`: what a tree is made of, as the other modules ask for it; `sub`, `name`: what stands in several types.
+//! - `types`, `bounds`: types.
+//! - `paths`: paths, members and macros.
+//! - `generics`: generics and where clauses.
+//! - `attributes`, `visibility`.
+//! - `patterns`: what patterns are read as; `pat`: patterns by their form.
+//! - `laws`, `kept`: that what was read is what these functions ask for.
 #![tactic(auto)]
 
 pub mod attributes;
 pub mod bounds;
-pub mod data;
 pub mod generics;
 pub mod iter;
 pub mod kept;
 pub mod laws;
 pub mod leaf;
 pub mod list;
+pub mod name;
 pub mod pat;
 pub mod paths;
 pub mod patterns;

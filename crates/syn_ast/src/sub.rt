@@ -127,9 +127,7 @@ pub fn as_marked_value<'t, 'a>(tree: &'t Tree<'a>) -> Option<MarkedValue<'t, 'a>
 
 /// What stands there, if anything does.
 #[tactic(auto, unfolding(syn_grammar::specs::Table::table))]
-pub fn optional_as_marked_value<'t, 'a>(
-    tree: &'t Tree<'a>,
-) -> Option<Option<MarkedValue<'t, 'a>>>
+pub fn optional_as_marked_value<'t, 'a>(tree: &'t Tree<'a>) -> Option<Option<MarkedValue<'t, 'a>>>
     ensures { MatchOption result ((test : List Token → Bool) (c1 : ℕ) (cs2 : List ℕ) (a3 : g.Gram) → IsShaped tree.now
         (g.alt test (g.seq (g.mark c1 cs2) (g.called n.the_value a3)) g.nothing) → ⊥)
         (λ x. tree.now ≡ optional_tree marked_value_tree x) }
@@ -173,9 +171,7 @@ pub fn as_marked_type<'t, 'a>(tree: &'t Tree<'a>) -> Option<MarkedType<'t, 'a>>
 
 /// What stands there, if anything does.
 #[tactic(auto, unfolding(syn_grammar::specs::Table::table))]
-pub fn optional_as_marked_type<'t, 'a>(
-    tree: &'t Tree<'a>,
-) -> Option<Option<MarkedType<'t, 'a>>>
+pub fn optional_as_marked_type<'t, 'a>(tree: &'t Tree<'a>) -> Option<Option<MarkedType<'t, 'a>>>
     ensures { MatchOption result ((test : List Token → Bool) (c1 : ℕ) (cs2 : List ℕ) (a3 : g.Gram) → IsShaped tree.now
         (g.alt test (g.seq (g.mark c1 cs2) (g.called n.the_type a3)) g.nothing) → ⊥)
         (λ x. tree.now ≡ optional_tree marked_type_tree x) }
@@ -219,9 +215,7 @@ pub fn as_marked_bounds<'t, 'a>(tree: &'t Tree<'a>) -> Option<MarkedBounds<'t, '
 
 /// What stands there, if anything does.
 #[tactic(auto, unfolding(syn_grammar::specs::Table::table))]
-pub fn optional_as_marked_bounds<'t, 'a>(
-    tree: &'t Tree<'a>,
-) -> Option<Option<MarkedBounds<'t, 'a>>>
+pub fn optional_as_marked_bounds<'t, 'a>(tree: &'t Tree<'a>) -> Option<Option<MarkedBounds<'t, 'a>>>
     ensures { MatchOption result ((test : List Token → Bool) (c1 : ℕ) (cs2 : List ℕ) (a3 : g.Gram) → IsShaped tree.now
         (g.alt test (g.seq (g.mark c1 cs2) (g.called n.the_bounds a3)) g.nothing) → ⊥)
         (λ x. tree.now ≡ optional_tree marked_bounds_tree x) }

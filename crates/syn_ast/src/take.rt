@@ -64,9 +64,7 @@ pub fn pair<'t, 'a>(tree: &'t Tree<'a>) -> Option<(&'t Tree<'a>, &'t Tree<'a>)>
 
 /// Of three trees, one behind the other, each.
 #[tactic(auto, using(crate::proofs::Takes::takes))]
-pub fn three<'t, 'a>(
-    tree: &'t Tree<'a>,
-) -> Option<(&'t Tree<'a>, &'t Tree<'a>, &'t Tree<'a>)>
+pub fn three<'t, 'a>(tree: &'t Tree<'a>) -> Option<(&'t Tree<'a>, &'t Tree<'a>, &'t Tree<'a>)>
     ensures { MatchOption result ((a b c : g.Gram) → IsShaped tree.now (g.seq a (g.seq b c)) → ⊥)
         (λ p. tree.now ≡ t.Pair p.0.now (t.Pair p.1.now p.2.now)) }
 {

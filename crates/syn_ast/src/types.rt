@@ -14,9 +14,9 @@ ghost use Rattle.syn_grammar.specs.Kind as k;
 ghost use Rattle.syn_grammar.specs.Name as n;
 ghost use Rattle.syn_grammar.specs.Types.{type_entry};
 
-use crate::data::{Name, as_name};
 use crate::leaf::{Delimiters, Lifetime, Mark};
 use crate::list::Elements;
+use crate::name::{Name, as_name};
 use crate::sub::{MarkedType, MarkedValue, optional_as_marked_type, optional_as_marked_value};
 use crate::take::{self, Choice};
 use gram_table::kind::{Kind, Plus, Style};

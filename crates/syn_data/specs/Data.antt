@@ -1,5 +1,5 @@
 -- The trees that fields and variants are.
-use Rattle.syn_ast.specs.Data.{name_tree}
+use Rattle.syn_ast.specs.Name.{name_tree}
 use Rattle.syn_ast.specs.Leaves.{list_tree, mark_tree, optional_tree}
 use Rattle.syn_ast.specs.Sub.{marked_value_tree}
 use Rattle.syn_data.specs.declared.data.FieldsNamed.{FieldsNamed}

@@ -1,5 +1,5 @@
 -- The trees that these items are, behind their attributes and their visibility.
-use Rattle.syn_ast.specs.Data.{name_tree, renamed_tree}
+use Rattle.syn_ast.specs.Name.{name_tree, renamed_tree}
 use Rattle.syn_ast.specs.Leaves.{list_tree, mark_tree, optional_tree, word_tree}
 use Rattle.syn_ast.specs.Sub.{marked_type_tree, marked_value_tree}
 use Rattle.syn_data.specs.declared.item.ItemEnum.{ItemEnum}

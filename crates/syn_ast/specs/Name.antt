@@ -1,8 +1,8 @@
 -- The trees that names are, of which a keyword may stand in the place.
 use Rattle.syn_ast.specs.Leaves.{word_tree}
-use Rattle.syn_ast.specs.declared.data.Name.{Name}
-use Rattle.syn_ast.specs.declared.data.Renamed.{Renamed}
-use Rattle.syn_ast.specs.declared.data.Name.TheVariants as names
+use Rattle.syn_ast.specs.declared.name.Name.{Name}
+use Rattle.syn_ast.specs.declared.name.Renamed.{Renamed}
+use Rattle.syn_ast.specs.declared.name.Name.TheVariants as names
 use Rattle.syn_grammar.specs.Tree as t
 use Rattle.syn_grammar.specs.Tree.{Tree}
 

@@ -2,7 +2,7 @@
 
 ghost use Rattle.proc_macro2.specs.Token.{Token};
 ghost use Rattle.std.specs.Prelude.{◌≡◌, MatchOption, Bool, List, ℕ};
-ghost use Rattle.syn_ast.specs.Data.{name_tree, renamed_tree, word_of_name};
+ghost use Rattle.syn_ast.specs.Name.{name_tree, renamed_tree, word_of_name};
 ghost use Rattle.syn_ast.specs.Leaves.{optional_tree, word_tree};
 ghost use Rattle.syn_ast.specs.Shape.{IsShaped};
 ghost use Rattle.syn_grammar.specs.Gram as g;
