@@ -8,9 +8,9 @@ ghost use Rattle.syn_grammar.specs.Kind as k;
 
 use gram_table::kind::Kind;
 use gram_tree::tree::Tree;
-use syn_ast::name::{Name, as_name};
 use syn_ast::leaf::{Delimiters, Mark};
 use syn_ast::list::Elements;
+use syn_ast::name::{Name, as_name};
 use syn_ast::sub::{MarkedValue, optional_as_marked_value};
 use syn_ast::take;
 

@@ -10,9 +10,9 @@ use gram_table::kind::Kind;
 use gram_table::part::Part;
 use gram_tree::tree::Tree;
 use rust_leaf::ident::Ident;
-use syn_ast::name::{Name, Renamed, as_name, optional_as_renamed};
 use syn_ast::leaf::{Delimiters, Mark};
 use syn_ast::list::Elements;
+use syn_ast::name::{Name, Renamed, as_name, optional_as_renamed};
 use syn_ast::sub::{MarkedType, MarkedValue, optional_as_marked_type, optional_as_marked_value};
 use syn_ast::take;
 

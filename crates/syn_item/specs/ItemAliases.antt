@@ -1,0 +1,64 @@
+-- The trees that type aliases and constants are.
+use Rattle.gram_table.specs.Kinds.{place_of}
+use Rattle.gram_table.specs.declared.kind.Place.{Place}
+use Rattle.gram_table.specs.declared.kind.Place.TheVariants as places
+use Rattle.std.specs.Prelude.{Option}
+use Rattle.syn_ast.specs.Leaves.{mark_tree, optional_tree, word_tree}
+use Rattle.syn_ast.specs.Sub.{marked_type_tree, marked_value_tree}
+use Rattle.syn_ast.specs.declared.sub.MarkedType.{MarkedType}
+use Rattle.syn_grammar.specs.Kind as k
+use Rattle.syn_grammar.specs.Name as n
+use Rattle.syn_grammar.specs.Tree as t
+use Rattle.syn_grammar.specs.Tree.{Tree}
+use Rattle.syn_item.specs.ItemParts.{name_or_tree, named_tree}
+use Rattle.syn_item.specs.declared.alias.ItemType.{ItemType}
+use Rattle.syn_item.specs.declared.alias.WhereClausePlacement.{WhereClausePlacement}
+use Rattle.syn_item.specs.declared.alias.WhereClausePlacement.TheVariants as placements
+use Rattle.syn_item.specs.declared.alias.WhereOrder.{WhereOrder}
+use Rattle.syn_item.specs.declared.alias.WhereOrder.TheVariants as orders
+use Rattle.syn_item.specs.declared.constant.ItemConst.{ItemConst}
+use denote.Bor.{Bor}
+
+-- a definition, and a where clause behind it
+abbrev pub late_tree : Option MarkedType → Bor Tree → Tree
+late_tree d w = t.Pair (optional_tree marked_type_tree d) (t.Called n.the_where w.now)
+
+-- a where clause, and a definition behind it
+abbrev pub early_tree : Option MarkedType → Bor Tree → Tree
+early_tree d w = t.Pair (t.Called n.the_where w.now) (optional_tree marked_type_tree d)
+
+-- a where clause is written, and behind the definition
+abbrev pub IsLate : WhereClausePlacement → Type 0
+IsLate placements.Early = ⊥
+IsLate placements.Late = Unit {0}
+
+-- a definition and a where clause, in either order
+abbrev pub either_tree : WhereOrder → Option MarkedType → Bor Tree → Tree
+either_tree orders.Before d w = t.First (early_tree d w)
+either_tree orders.Behind d w = t.Second (late_tree d w)
+
+-- a definition and a where clause in a trait or an impl: behind it alone
+abbrev pub sole_tree : WhereOrder → Option MarkedType → Bor Tree → Tree
+sole_tree orders.Before d w = t.Nil
+sole_tree orders.Behind d w = late_tree d w
+
+-- a definition and a where clause, as the place has them
+abbrev pub type_end_tree : Place → WhereOrder → Option MarkedType → Bor Tree → Tree
+type_end_tree places.InFile l d w = either_tree l d w
+type_end_tree places.InForeign l d w = either_tree l d w
+type_end_tree places.InTrait l d w = sole_tree l d w
+type_end_tree places.InImpl l d w = sole_tree l d w
+
+-- a type: type A<T>: B = C where ..;
+abbrev pub item_type : ItemType → Tree
+item_type x = t.Node (k.ATypeAlias (place_of x.place)) (t.Pair (word_tree x.type_token) (t.Pair (named_tree x.ident)
+    (t.Pair (t.Called n.the_generics x.generics.now) (t.Pair (t.Called n.the_bounds x.bounds.now) (t.Pair
+    (t.Called n.the_value (type_end_tree x.place x.where_order x.ty x.where_clause))
+    (mark_tree x.semi_token))))))
+
+-- a constant: const A: T = b;, behind its attributes and its visibility
+abbrev pub item_const : ItemConst → Tree
+item_const x = t.Node k.AConst (t.Pair (word_tree x.const_token) (t.Pair (name_or_tree x.ident) (t.Pair
+    (t.Called n.the_generics x.generics.now) (t.Pair (mark_tree x.colon_token) (t.Pair (t.Called n.the_type x.ty.now)
+    (t.Pair (optional_tree marked_value_tree x.expr) (t.Pair (t.Called n.the_where x.where_clause.now)
+    (mark_tree x.semi_token))))))))

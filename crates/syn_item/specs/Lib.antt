@@ -1,0 +1,5 @@
+pub mod ItemParts
+pub mod ItemFunctions
+pub mod ItemUses
+pub mod ItemModules
+pub mod ItemAliases

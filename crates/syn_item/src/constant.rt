@@ -1,0 +1,88 @@
+//! Constants.
+
+ghost use Rattle.std.specs.Prelude.{◌≡◌, MatchOption};
+ghost use Rattle.syn_ast.specs.Shape.{IsShaped};
+ghost use Rattle.syn_grammar.specs.Gram as g;
+ghost use Rattle.syn_grammar.specs.Kind as k;
+ghost use Rattle.syn_item.specs.ItemAliases.{item_const};
+
+use crate::part;
+use gram_table::kind::Kind;
+use gram_table::part::Part;
+use gram_tree::tree::Tree;
+use rust_leaf::ident::Ident;
+use syn_ast::leaf::Mark;
+use syn_ast::name::Name;
+use syn_ast::sub::{MarkedValue, optional_as_marked_value};
+use syn_ast::take;
+
+/// A constant: `const A: T = b;`, behind its attributes and its visibility.
+#[derive(Clone, Copy)]
+pub struct ItemConst<'t, 'a> {
+    /// `const`
+    pub const_token: &'a Ident,
+    /// Its name, or `_`.
+    pub ident: Name<'a>,
+    /// Its generic parameters.
+    pub generics: &'t Tree<'a>,
+    /// `:`
+    pub colon_token: Mark,
+    /// Its type.
+    pub ty: &'t Tree<'a>,
+    /// `=` and its value.
+    pub expr: Option<MarkedValue<'t, 'a>>,
+    /// Its where clause.
+    pub where_clause: &'t Tree<'a>,
+    /// `;`
+    pub semi_token: Mark,
+}
+
+impl<'t, 'a> ItemConst<'t, 'a> {
+    /// What a tree is, if it is that.
+    #[tactic(auto, unfolding(syn_grammar::specs::Table::table))]
+    pub fn of(tree: &'t Tree<'a>) -> Option<ItemConst<'t, 'a>>
+        ensures { MatchOption result (IsShaped tree.now (g.ref k.AConst) → ⊥) (λ x. tree.now ≡ item_const x) }
+    {
+        let Some((Kind::AConst, inner)) = take::node(tree) else {
+            return None;
+        };
+        let Some((const_token, ident, generics, colon_token, ty, expr, where_clause, semi_token)) =
+            take::eight(inner) else {
+            return None;
+        };
+        let Some(const_token) = take::word(const_token) else {
+            return None;
+        };
+        let Some(ident) = part::name_or(ident) else {
+            return None;
+        };
+        let Some(generics) = part::generics(generics) else {
+            return None;
+        };
+        let Some(colon_token) = take::mark(colon_token) else {
+            return None;
+        };
+        let Some((Part::Type, ty)) = take::called(ty) else {
+            return None;
+        };
+        let Some(expr) = optional_as_marked_value(expr) else {
+            return None;
+        };
+        let Some(where_clause) = part::where_clause(where_clause) else {
+            return None;
+        };
+        let Some(semi_token) = take::mark(semi_token) else {
+            return None;
+        };
+        Some(ItemConst {
+            const_token,
+            ident,
+            generics,
+            colon_token,
+            ty,
+            expr,
+            where_clause,
+            semi_token,
+        })
+    }
+}

@@ -1,0 +1,435 @@
+//! Functions: their signatures, parameters and receivers.
+
+ghost use Rattle.gram_table.specs.Kinds.{place_of};
+ghost use Rattle.proc_macro2.specs.Token.{Token};
+ghost use Rattle.std.specs.Prelude.{◌≡◌, Bool, IfSome, List, MatchOption, ℕ};
+ghost use Rattle.syn_ast.specs.Kept.{IsKept};
+ghost use Rattle.syn_ast.specs.Shape.{IsShaped};
+ghost use Rattle.syn_grammar.specs.Gram as g;
+ghost use Rattle.syn_grammar.specs.Items.{safety};
+ghost use Rattle.syn_grammar.specs.Kind as k;
+ghost use Rattle.syn_grammar.specs.Name as n;
+ghost use Rattle.syn_grammar.specs.Tree as t;
+ghost use Rattle.syn_item.specs.ItemFunctions.{IsSafety, fn_arg_tree, item_fn, one_parameter, parameter, parameters};
+ghost use Rattle.syn_item.specs.ItemFunctions.{receiver, receiver_tree, safety_is, signature};
+ghost use Rattle.syn_item.specs.ItemParts.{safety_tree};
+
+use crate::part;
+use gram_table::kind::{Kind, Place};
+use gram_tree::tree::Tree;
+use rust_leaf::ident::Ident;
+use syn_ast::leaf::{Delimiters, Lifetime, Mark};
+use syn_ast::list::Elements;
+use syn_ast::sub::optional_as_marked;
+use syn_ast::take::{self, Choice, Choice4};
+
+/// The parameters of a function: `(a: A, b: B)`.
+#[derive(Clone, Copy)]
+pub struct Parameters<'t, 'a> {
+    /// The parentheses.
+    pub paren_token: Delimiters,
+    /// Each, as a form of the kind `Parameter`.
+    pub inputs: Elements<'t, 'a>,
+}
+
+impl<'t, 'a> Parameters<'t, 'a> {
+    /// What a tree is, if it is that. Parameters that were read are kept as they were read.
+    #[tactic(auto, unfolding(syn_grammar::specs::Table::table))]
+    pub fn of(tree: &'t Tree<'a>) -> Option<Parameters<'t, 'a>>
+        ensures { MatchOption result (IsKept tree.now → IsShaped tree.now (g.ref k.Parameters) → ⊥)
+            (λ x. tree.now ≡ parameters x) }
+    {
+        let Some((Kind::Parameters, inner)) = take::node(tree) else {
+            return None;
+        };
+        let Some(inner) = take::kept(inner) else {
+            return None;
+        };
+        let Some((paren_token, inside)) = take::group(inner) else {
+            return None;
+        };
+        let Some(inputs) = take::list(inside) else {
+            return None;
+        };
+        Some(Parameters {
+            paren_token,
+            inputs,
+        })
+    }
+}
+
+/// A pattern and its type: `a: A`.
+#[derive(Clone, Copy)]
+pub struct PatType<'t, 'a> {
+    /// The pattern.
+    pub pat: &'t Tree<'a>,
+    /// `:`
+    pub colon_token: Mark,
+    /// The type.
+    pub ty: &'t Tree<'a>,
+}
+
+/// A pattern before `...`: `a:`.
+#[derive(Clone, Copy)]
+pub struct VariadicPat<'t, 'a> {
+    /// The pattern.
+    pub pat: &'t Tree<'a>,
+    /// `:`
+    pub colon_token: Mark,
+}
+
+/// Any number of further arguments: `a: ...`.
+#[derive(Clone, Copy)]
+pub struct Variadic<'t, 'a> {
+    /// The pattern, and `:`.
+    pub pat: Option<VariadicPat<'t, 'a>>,
+    /// `...`
+    pub dots: Mark,
+}
+
+/// What a parameter is.
+#[derive(Clone, Copy)]
+pub enum FnArg<'t, 'a> {
+    /// A receiver, as a form of the kind `Receiver`.
+    Receiver(&'t Tree<'a>),
+    /// A pattern and its type.
+    Typed(PatType<'t, 'a>),
+    /// A type alone.
+    Unnamed(&'t Tree<'a>),
+    /// Any number of further arguments.
+    Variadic(Variadic<'t, 'a>),
+}
+
+// A pattern with its type, or with dots.
+fn as_typed<'t, 'a>(tree: &'t Tree<'a>) -> Option<FnArg<'t, 'a>>
+    ensures { MatchOption result ((a b : g.Gram) (c d : ℕ) (cs ds : List ℕ) (test : List Token → Bool)
+        → IsShaped tree.now (g.seq (g.called n.the_pattern a) (g.seq (g.mark c cs) (g.alt test (g.called n.the_dots
+        (g.mark d ds)) (g.called n.the_type b)))) → ⊥) (λ x. t.Second (t.Second (t.Second tree.now)) ≡ fn_arg_tree x) }
+{
+    let (pat, colon_token, behind) = take::three(tree)?;
+    let pat = part::pattern(pat)?;
+    let colon_token = take::mark(colon_token)?;
+    match take::chosen(behind) {
+        Some(Choice::First(inner)) => {
+            let dots = part::dots(inner)?;
+            Some(FnArg::Variadic(Variadic {
+                pat: Some(VariadicPat { pat, colon_token }),
+                dots,
+            }))
+        }
+        Some(Choice::Second(inner)) => {
+            let ty = part::ty(inner)?;
+            Some(FnArg::Typed(PatType {
+                pat,
+                colon_token,
+                ty,
+            }))
+        }
+        None => None,
+    }
+}
+
+// What a parameter is behind its attributes.
+fn as_fn_arg<'t, 'a>(tree: &'t Tree<'a>) -> Option<FnArg<'t, 'a>>
+    ensures { MatchOption result ((s u v w : List Token → Bool) (a b i j : g.Gram) (c d e : ℕ) (cs ds es : List ℕ)
+        → IsShaped tree.now (g.alt s (g.called n.the_receiver i) (g.alt u (g.called n.the_dots (g.mark e es)) (g.alt v
+        (g.called n.the_unnamed j) (g.seq (g.called n.the_pattern a) (g.seq (g.mark c cs) (g.alt w (g.called n.the_dots
+        (g.mark d ds)) (g.called n.the_type b))))))) → ⊥) (λ x. tree.now ≡ fn_arg_tree x) }
+{
+    match take::chosen4(tree) {
+        Some(Choice4::First(inner)) => {
+            let receiver = part::receiver(inner)?;
+            Some(FnArg::Receiver(receiver))
+        }
+        Some(Choice4::Second(inner)) => {
+            let dots = part::dots(inner)?;
+            Some(FnArg::Variadic(Variadic { pat: None, dots }))
+        }
+        Some(Choice4::Third(inner)) => {
+            let ty = part::unnamed(inner)?;
+            Some(FnArg::Unnamed(ty))
+        }
+        Some(Choice4::Fourth(inner)) => as_typed(inner),
+        None => None,
+    }
+}
+
+/// A parameter of a function.
+#[derive(Clone, Copy)]
+pub struct Parameter<'t, 'a> {
+    /// Its attributes.
+    pub attrs: &'t Tree<'a>,
+    /// What it is.
+    pub arg: FnArg<'t, 'a>,
+}
+
+impl<'t, 'a> Parameter<'t, 'a> {
+    /// What a tree is, if it is that.
+    #[tactic(auto, unfolding(syn_grammar::specs::Table::table))]
+    pub fn of(tree: &'t Tree<'a>) -> Option<Parameter<'t, 'a>>
+        ensures { MatchOption result (IsShaped tree.now (g.ref k.Parameter) → ⊥) (λ x. tree.now ≡ parameter x) }
+    {
+        let Some((Kind::Parameter, inner)) = take::node(tree) else {
+            return None;
+        };
+        let Some((attrs, arg)) = take::pair(inner) else {
+            return None;
+        };
+        let Some(arg) = as_fn_arg(arg) else {
+            return None;
+        };
+        Some(Parameter { attrs, arg })
+    }
+}
+
+/// One parameter by itself.
+#[derive(Clone, Copy)]
+pub struct OneParameter<'t, 'a> {
+    /// The parameter, as a form of the kind `Parameter`.
+    pub parameter: &'t Tree<'a>,
+}
+
+impl<'t, 'a> OneParameter<'t, 'a> {
+    /// What a tree is, if it is that. One that was read is kept as it was read.
+    #[tactic(auto, unfolding(syn_grammar::specs::Table::table))]
+    pub fn of(tree: &'t Tree<'a>) -> Option<OneParameter<'t, 'a>>
+        ensures { MatchOption result (IsKept tree.now → IsShaped tree.now (g.ref k.FnArg) → ⊥)
+            (λ x. tree.now ≡ one_parameter x) }
+    {
+        let Some((Kind::FnArg, inner)) = take::node(tree) else {
+            return None;
+        };
+        let parameter = take::kept(inner)?;
+        Some(OneParameter { parameter })
+    }
+}
+
+/// How a receiver is taken.
+#[derive(Clone, Copy)]
+pub enum ReceiverKind<'t, 'a> {
+    /// `self`
+    Value,
+    /// `&`, a lifetime, and `mut`: `&'a mut self`.
+    Reference(Mark, Option<Lifetime<'a>>, Option<&'a Ident>),
+    /// `:` and a type: `self: T`.
+    Typed(Mark, &'t Tree<'a>),
+}
+
+/// A receiver: `&'a mut self`, `mut self: T`.
+#[derive(Clone, Copy)]
+pub struct Receiver<'t, 'a> {
+    /// `mut`, where it is not taken by reference.
+    pub mutability: Option<&'a Ident>,
+    /// `self`
+    pub self_token: &'a Ident,
+    /// How it is taken.
+    pub kind: ReceiverKind<'t, 'a>,
+}
+
+// One that is taken by reference.
+fn as_reference<'t, 'a>(tree: &'t Tree<'a>) -> Option<Receiver<'t, 'a>>
+    ensures { MatchOption result ((c : ℕ) (cs : List ℕ) (t u : List Token → Bool) (p q : List ℕ → Bool)
+        → IsShaped tree.now (g.seq (g.mark c cs) (g.seq (g.alt t g.lifetime g.nothing) (g.seq (g.alt u
+        (g.word p) g.nothing) (g.word q)))) → ⊥) (λ x. t.First tree.now ≡ receiver_tree x) }
+{
+    let (and_token, lifetime, mutability, self_token) = take::four(tree)?;
+    let and_token = take::mark(and_token)?;
+    let lifetime = take::optional_lifetime(lifetime)?;
+    let mutability = take::optional_word(mutability)?;
+    let self_token = take::word(self_token)?;
+    Some(Receiver {
+        mutability: None,
+        self_token,
+        kind: ReceiverKind::Reference(and_token, lifetime, mutability),
+    })
+}
+
+// Another.
+fn as_value<'t, 'a>(tree: &'t Tree<'a>) -> Option<Receiver<'t, 'a>>
+    ensures { MatchOption result ((t u : List Token → Bool) (p q : List ℕ → Bool) (c : ℕ) (cs : List ℕ) (a : g.Gram)
+        → IsShaped tree.now (g.seq (g.alt t (g.word p) g.nothing) (g.seq (g.word q) (g.alt u (g.seq
+        (g.mark c cs) a) g.nothing))) → ⊥) (λ x. t.Second tree.now ≡ receiver_tree x) }
+{
+    let (mutability, self_token, typed) = take::three(tree)?;
+    let mutability = take::optional_word(mutability)?;
+    let self_token = take::word(self_token)?;
+    match optional_as_marked(typed) {
+        Some(Some(found)) => Some(Receiver {
+            mutability,
+            self_token,
+            kind: ReceiverKind::Typed(found.mark, found.node),
+        }),
+        Some(None) => Some(Receiver {
+            mutability,
+            self_token,
+            kind: ReceiverKind::Value,
+        }),
+        None => None,
+    }
+}
+
+impl<'t, 'a> Receiver<'t, 'a> {
+    /// What a tree is, if it is that.
+    #[tactic(auto, unfolding(syn_grammar::specs::Table::table))]
+    pub fn of(tree: &'t Tree<'a>) -> Option<Receiver<'t, 'a>>
+        ensures { MatchOption result (IsShaped tree.now (g.ref k.Receiver) → ⊥) (λ x. tree.now ≡ receiver x) }
+    {
+        let Some((Kind::Receiver, inner)) = take::node(tree) else {
+            return None;
+        };
+        match take::chosen(inner) {
+            Some(Choice::First(reference)) => as_reference(reference),
+            Some(Choice::Second(value)) => as_value(value),
+            None => None,
+        }
+    }
+}
+
+/// Whether it is safe to call a function.
+#[derive(Clone, Copy)]
+pub enum Safety<'a> {
+    /// `unsafe`
+    Unsafe(&'a Ident),
+    /// `safe`, in an extern block.
+    Safe(&'a Ident),
+    /// Neither is written.
+    Default,
+}
+
+// Which of both words it is.
+fn as_unsafe_or_safe<'a>(word: &'a Ident) -> Safety<'a>
+    ensures tree_is { safety_is result ≡ t.First (safety_tree word.entry) }
+    ensures which { IsSafety result }
+{
+    if word.is_text("unsafe") {
+        Safety::Unsafe(word)
+    } else {
+        Safety::Safe(word)
+    }
+}
+
+// Whether it is safe, as the place has it.
+#[tactic(auto, using(crate::proofs::ItemPlaces::no_safety))]
+pub(crate) fn as_safety<'a>(tree: &Tree<'a>) -> Option<Safety<'a>>
+    ensures tree_is { MatchOption result ((p : k.Place) → IsShaped tree.now (safety p) → ⊥)
+        (λ s. tree.now ≡ safety_is s) }
+    ensures which { IfSome result (λ s. IsSafety s) }
+{
+    match part::optional_safety(tree) {
+        Some(Some(word)) => Some(as_unsafe_or_safe(word)),
+        Some(None) => Some(Safety::Default),
+        None => None,
+    }
+}
+
+/// A signature: `const async unsafe extern "C" fn a<T>(b: B) -> C where ..`.
+#[derive(Clone, Copy)]
+pub struct Signature<'t, 'a> {
+    /// Where it stands.
+    pub place: Place,
+    /// `const`
+    pub constness: Option<&'a Ident>,
+    /// `async`
+    pub asyncness: Option<&'a Ident>,
+    /// Whether it is safe to call.
+    pub safety: Safety<'a>,
+    /// `extern "C"`
+    pub abi: Option<&'t Tree<'a>>,
+    /// `fn`
+    pub fn_token: &'a Ident,
+    /// Its name.
+    pub ident: &'a Ident,
+    /// Its generic parameters.
+    pub generics: &'t Tree<'a>,
+    /// What it takes, as a form of the kind `Parameters`.
+    pub inputs: &'t Tree<'a>,
+    /// What it returns.
+    pub output: &'t Tree<'a>,
+    /// Its where clause.
+    pub where_clause: &'t Tree<'a>,
+}
+
+impl<'t, 'a> Signature<'t, 'a> {
+    /// What a tree is, if it is that.
+    #[tactic(auto, unfolding(syn_grammar::specs::Table::table))]
+    pub fn of(tree: &'t Tree<'a>) -> Option<Signature<'t, 'a>>
+        ensures tree_is { MatchOption result ((p : k.Place) → IsShaped tree.now (g.ref (k.Signature p)) → ⊥)
+            (λ x. tree.now ≡ signature x) }
+        ensures which { IfSome result (λ x. IsSafety x.safety) }
+    {
+        let Some((Kind::Signature(place), inner)) = take::node(tree) else {
+            return None;
+        };
+        let (constness, asyncness, safety, abi, rest) = take::five(inner)?;
+        let constness = take::optional_word(constness)?;
+        let asyncness = take::optional_word(asyncness)?;
+        let safety = as_safety(safety)?;
+        let abi = take::optional(abi)?;
+        let (fn_token, ident, generics, inputs, output, where_clause) = take::six(rest)?;
+        let fn_token = take::word(fn_token)?;
+        let ident = part::name(ident)?;
+        let generics = part::generics(generics)?;
+        let where_clause = part::where_clause(where_clause)?;
+        Some(Signature {
+            place,
+            constness,
+            asyncness,
+            safety,
+            abi,
+            fn_token,
+            ident,
+            generics,
+            inputs,
+            output,
+            where_clause,
+        })
+    }
+}
+
+/// A function: a signature, and a block or `;`.
+#[derive(Clone, Copy)]
+pub struct ItemFn<'t, 'a> {
+    /// Where it stands.
+    pub place: Place,
+    /// Its signature.
+    pub sig: &'t Tree<'a>,
+    /// Its block, as a form of the kind `Body`.
+    pub block: Option<&'t Tree<'a>>,
+    /// `;`, where it has no block.
+    pub semi_token: Option<Mark>,
+}
+
+impl<'t, 'a> ItemFn<'t, 'a> {
+    /// What a tree is, if it is that.
+    #[tactic(auto, unfolding(syn_grammar::specs::Table::table))]
+    pub fn of(tree: &'t Tree<'a>) -> Option<ItemFn<'t, 'a>>
+        ensures { MatchOption result ((p : k.Place) → IsShaped tree.now (g.ref (k.AFunction p)) → ⊥)
+            (λ x. tree.now ≡ item_fn x) }
+    {
+        let Some((Kind::AFunction(place), inner)) = take::node(tree) else {
+            return None;
+        };
+        let (sig, end) = take::pair(inner)?;
+        match take::chosen(end) {
+            Some(Choice::First(body)) => {
+                let body = part::body(body)?;
+                Some(ItemFn {
+                    place,
+                    sig,
+                    block: Some(body),
+                    semi_token: None,
+                })
+            }
+            Some(Choice::Second(semi)) => {
+                let semi = take::mark(semi)?;
+                Some(ItemFn {
+                    place,
+                    sig,
+                    block: None,
+                    semi_token: Some(semi),
+                })
+            }
+            None => None,
+        }
+    }
+}
