@@ -1,28 +1,70 @@
 -- The trees that these items are, behind their attributes and their visibility.
+use Rattle.rust_leaf.specs.declared.ident.Ident.{Ident}
+use Rattle.std.specs.Prelude.{None, Option, Some}
 use Rattle.syn_ast.specs.Name.{name_tree, renamed_tree}
 use Rattle.syn_ast.specs.Leaves.{list_tree, mark_tree, optional_tree, word_tree}
 use Rattle.syn_ast.specs.Sub.{marked_type_tree, marked_value_tree}
+use Rattle.syn_ast.specs.declared.leaf.Delimiters.{Delimiters}
+use Rattle.syn_ast.specs.declared.leaf.Mark.{Mark}
+use Rattle.syn_ast.specs.declared.list.Elements.{Elements}
+use Rattle.syn_data.specs.Data.{fields_named, fields_unnamed}
+use Rattle.syn_data.specs.declared.data.Fields.{Fields}
+use Rattle.syn_data.specs.declared.data.Fields.TheVariants as fields
+use Rattle.syn_data.specs.declared.data.FieldsNamed.{FieldsNamed}
 use Rattle.syn_data.specs.declared.item.ItemEnum.{ItemEnum}
 use Rattle.syn_data.specs.declared.item.ItemExternCrate.{ItemExternCrate}
 use Rattle.syn_data.specs.declared.item.ItemStatic.{ItemStatic}
+use Rattle.syn_data.specs.declared.item.ItemStruct.{ItemStruct}
 use Rattle.syn_data.specs.declared.item.ItemUnion.{ItemUnion}
 use Rattle.syn_data.specs.declared.item.ItemUse.{ItemUse}
 use Rattle.syn_grammar.specs.Kind as k
 use Rattle.syn_grammar.specs.Name as n
 use Rattle.syn_grammar.specs.Tree as t
 use Rattle.syn_grammar.specs.Tree.{Tree}
+use denote.Bor.{Bor}
 
--- an enum: enum A<T> where .. { B, C }, behind its attributes and its visibility
+-- a semicolon stands behind a struct exactly if its fields don't stand in braces
+abbrev pub IsClosed : Fields → Option Mark → Type 0
+IsClosed (fields.Named x) None = Unit {0}
+IsClosed (fields.Unnamed x) (Some m) = Unit {0}
+IsClosed fields.Unit (Some m) = Unit {0}
+IsClosed _ _ = ⊥
+
+-- behind the generic parameters of a struct: fields without names, a where clause and ; or a where clause, and fields
+-- with names or ;
+abbrev pub struct_end : Fields → Bor Tree → Option Mark → Tree
+struct_end (fields.Unnamed x) w (Some m) = t.First (t.Pair (fields_unnamed x) (t.Pair (t.Called n.the_where w.now)
+    (mark_tree m)))
+struct_end (fields.Named x) w None = t.Second (t.Pair (t.Called n.the_where w.now) (t.First (fields_named x)))
+struct_end fields.Unit w (Some m) = t.Second (t.Pair (t.Called n.the_where w.now) (t.Second (mark_tree m)))
+struct_end _ w _ = t.Nil
+
+-- a struct of these parts
+abbrev pub struct_tree : Bor Ident → Bor Ident → Bor Tree → Bor Tree → Fields → Option Mark → Tree
+struct_tree s i a w x m = t.Node k.AStruct (t.Pair (word_tree s) (t.Pair (t.Called n.the_name (word_tree i)) (t.Pair
+    (t.Called n.the_generics a.now) (struct_end x w m))))
+
+-- a struct: struct A<T> where .. { b: B }
+abbrev pub item_struct : ItemStruct → Tree
+item_struct x = struct_tree x.struct_token x.ident x.generics x.where_clause x.fields x.semi_token
+
+-- an enum of these parts
+abbrev pub enum_tree : Bor Ident → Bor Ident → Bor Tree → Bor Tree → Delimiters → Elements → Tree
+enum_tree e i a w d x = t.Node k.AnEnum (t.Pair (word_tree e) (t.Pair (t.Called n.the_name (word_tree i))
+    (t.Pair (t.Called n.the_generics a.now) (t.Pair (t.Called n.the_where w.now) (t.Group d.delimiter (list_tree x))))))
+
+-- an enum: enum A<T> where .. { B, C }
 abbrev pub item_enum : ItemEnum → Tree
-item_enum x = t.Node k.AnEnum (t.Pair (word_tree x.enum_token) (t.Pair (t.Called n.the_name (word_tree x.ident))
-    (t.Pair (t.Called n.the_generics x.generics.now) (t.Pair (t.Called n.the_where x.where_clause.now)
-    (t.Group x.brace_token.delimiter (list_tree x.variants))))))
+item_enum x = enum_tree x.enum_token x.ident x.generics x.where_clause x.brace_token x.variants
 
--- a union: union A<T> where .. { b: B }, behind its attributes and its visibility
+-- a union of these parts
+abbrev pub union_tree : Bor Ident → Bor Ident → Bor Tree → Bor Tree → FieldsNamed → Tree
+union_tree u i a w x = t.Node k.AUnion (t.Pair (word_tree u) (t.Pair (t.Called n.the_name (word_tree i))
+    (t.Pair (t.Called n.the_generics a.now) (t.Pair (t.Called n.the_where w.now) (fields_named x)))))
+
+-- a union: union A<T> where .. { b: B }
 abbrev pub item_union : ItemUnion → Tree
-item_union x = t.Node k.AUnion (t.Pair (word_tree x.union_token) (t.Pair (t.Called n.the_name (word_tree x.ident))
-    (t.Pair (t.Called n.the_generics x.generics.now) (t.Pair
-    (t.Called n.the_where x.where_clause.now) x.fields.now))))
+item_union x = union_tree x.union_token x.ident x.generics x.where_clause x.fields
 
 -- a static: static mut A: T = b;, behind its attributes and its visibility
 abbrev pub item_static : ItemStatic → Tree

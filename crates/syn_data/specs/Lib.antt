@@ -1,2 +1,4 @@
 pub mod Data
 pub mod Items
+pub mod Derive
+pub mod Members

@@ -1,18 +1,22 @@
 //! Fields and variants.
 
-ghost use Rattle.std.specs.Prelude.{◌≡◌, MatchOption};
+ghost use Rattle.proc_macro2.specs.Token.{Token};
+ghost use Rattle.std.specs.Prelude.{◌≡◌, ◌⊎◌, Bool, List, MatchOption};
 ghost use Rattle.syn_ast.specs.Shape.{IsShaped};
-ghost use Rattle.syn_data.specs.Data.{fields_named, fields_unnamed, named_field};
+ghost use Rattle.syn_data.specs.Data.{IsField, fields_named, fields_unnamed, named_field, unnamed_field, variant};
+ghost use Rattle.syn_data.specs.Data.{variant_fields};
 ghost use Rattle.syn_grammar.specs.Gram as g;
 ghost use Rattle.syn_grammar.specs.Kind as k;
 
+use crate::part;
 use gram_table::kind::Kind;
 use gram_tree::tree::Tree;
+use rust_leaf::ident::Ident;
 use syn_ast::leaf::{Delimiters, Mark};
 use syn_ast::list::Elements;
 use syn_ast::name::{Name, as_name};
 use syn_ast::sub::{MarkedValue, optional_as_marked_value};
-use syn_ast::take;
+use syn_ast::take::{self, Choice3};
 
 /// A field with a name: `pub a: T = b`.
 #[derive(Clone, Copy)]
@@ -60,6 +64,84 @@ impl<'t, 'a> NamedField<'t, 'a> {
             ty,
             default,
         })
+    }
+}
+
+/// A field without a name: `pub T`.
+#[derive(Clone, Copy)]
+pub struct UnnamedField<'t, 'a> {
+    /// Its attributes.
+    pub attrs: &'t Tree<'a>,
+    /// Its visibility.
+    pub vis: &'t Tree<'a>,
+    /// Its type.
+    pub ty: &'t Tree<'a>,
+}
+
+impl<'t, 'a> UnnamedField<'t, 'a> {
+    /// What a tree is, if it is that.
+    #[tactic(auto, unfolding(syn_grammar::specs::Table::table))]
+    pub fn of(tree: &'t Tree<'a>) -> Option<UnnamedField<'t, 'a>>
+        ensures { MatchOption result (IsShaped tree.now (g.ref k.UnnamedField) → ⊥) (λ x. tree.now ≡ unnamed_field x) }
+    {
+        let Some((Kind::UnnamedField, inner)) = take::node(tree) else {
+            return None;
+        };
+        let Some((attrs, vis, ty, end)) = take::four(inner) else {
+            return None;
+        };
+        if part::is_missing(end) {
+            Some(UnnamedField { attrs, vis, ty })
+        } else {
+            None
+        }
+    }
+}
+
+/// A field, with a name or without: `pub a: T = b`, `pub T`.
+#[derive(Clone, Copy)]
+pub struct Field<'t, 'a> {
+    /// Its attributes.
+    pub attrs: &'t Tree<'a>,
+    /// Its visibility.
+    pub vis: &'t Tree<'a>,
+    /// Its name, or `_`.
+    pub ident: Option<Name<'a>>,
+    /// `:`, if it has a name.
+    pub colon_token: Option<Mark>,
+    /// Its type.
+    pub ty: &'t Tree<'a>,
+    /// `=` and its value by default.
+    pub default: Option<MarkedValue<'t, 'a>>,
+}
+
+impl<'t, 'a> Field<'t, 'a> {
+    /// What a tree is, if it is a field with a name or one without.
+    pub fn of(tree: &'t Tree<'a>) -> Option<Field<'t, 'a>>
+        ensures { MatchOption result (IsShaped tree.now (g.ref k.NamedField) ⊎ IsShaped tree.now (g.ref k.UnnamedField)
+            → ⊥) (λ x. IsField x tree.now) }
+    {
+        match NamedField::of(tree) {
+            Some(found) => Some(Field {
+                attrs: found.attrs,
+                vis: found.vis,
+                ident: Some(found.ident),
+                colon_token: Some(found.colon_token),
+                ty: found.ty,
+                default: found.default,
+            }),
+            None => match UnnamedField::of(tree) {
+                Some(found) => Some(Field {
+                    attrs: found.attrs,
+                    vis: found.vis,
+                    ident: None,
+                    colon_token: None,
+                    ty: found.ty,
+                    default: None,
+                }),
+                None => None,
+            },
+        }
     }
 }
 
@@ -119,6 +201,91 @@ impl<'t, 'a> FieldsUnnamed<'t, 'a> {
         Some(FieldsUnnamed {
             paren_token,
             unnamed,
+        })
+    }
+}
+
+/// Fields: `{ a: T }`, `(T)`, or none.
+#[derive(Clone, Copy)]
+pub enum Fields<'t, 'a> {
+    /// `{ a: T }`
+    Named(FieldsNamed<'t, 'a>),
+    /// `(T)`
+    Unnamed(FieldsUnnamed<'t, 'a>),
+    /// None.
+    Unit,
+}
+
+// The fields that stand behind the name of a variant.
+fn as_variant_fields<'t, 'a>(tree: &'t Tree<'a>) -> Option<Fields<'t, 'a>>
+    ensures { MatchOption result ((s u : List Token → Bool) → IsShaped tree.now (g.alt s (g.ref k.NamedFields) (g.alt u
+        (g.ref k.UnnamedFields) g.nothing)) → ⊥) (λ x. tree.now ≡ variant_fields x) }
+{
+    let Some(which) = take::chosen3(tree) else {
+        return None;
+    };
+    match which {
+        Choice3::First(inner) => match FieldsNamed::of(inner) {
+            Some(found) => Some(Fields::Named(found)),
+            None => None,
+        },
+        Choice3::Second(inner) => match FieldsUnnamed::of(inner) {
+            Some(found) => Some(Fields::Unnamed(found)),
+            None => None,
+        },
+        Choice3::Third(inner) => if take::is_nothing(inner) {
+            Some(Fields::Unit)
+        } else {
+            None
+        },
+    }
+}
+
+/// A variant of an enum: `A { b: T } = c`.
+#[derive(Clone, Copy)]
+pub struct Variant<'t, 'a> {
+    /// Its attributes.
+    pub attrs: &'t Tree<'a>,
+    /// A visibility, which was read and is no part of the program.
+    pub vis: &'t Tree<'a>,
+    /// Its name.
+    pub ident: &'a Ident,
+    /// Its fields.
+    pub fields: Fields<'t, 'a>,
+    /// `=` and its value.
+    pub discriminant: Option<MarkedValue<'t, 'a>>,
+}
+
+impl<'t, 'a> Variant<'t, 'a> {
+    /// What a tree is, if it is that.
+    #[tactic(auto, unfolding(syn_grammar::specs::Table::table))]
+    pub fn of(tree: &'t Tree<'a>) -> Option<Variant<'t, 'a>>
+        ensures { MatchOption result (IsShaped tree.now (g.ref k.Variant) → ⊥) (λ x. tree.now ≡ variant x) }
+    {
+        let Some((Kind::Variant, inner)) = take::node(tree) else {
+            return None;
+        };
+        let Some((attrs, vis, ident, fields, discriminant)) = take::five(inner) else {
+            return None;
+        };
+        let Some(vis) = part::dropped(vis) else {
+            return None;
+        };
+        let Some(ident) = take::word(ident) else {
+            return None;
+        };
+        let Some(fields) = as_variant_fields(fields) else {
+            return None;
+        };
+        let Some(discriminant) = optional_as_marked_value(discriminant) else {
+            return None;
+        };
+        Some(Variant {
+            attrs,
+            vis,
+            ident,
+            fields,
+            discriminant,
         })
     }
 }

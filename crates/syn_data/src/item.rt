@@ -1,11 +1,17 @@
 //! Structs, enums and unions; statics, uses and crates.
 
-ghost use Rattle.std.specs.Prelude.{◌≡◌, MatchOption};
+ghost use Rattle.proc_macro2.specs.Token.{Token};
+ghost use Rattle.std.specs.Prelude.{◌≡◌, Bool, List, MatchOption, ℕ};
 ghost use Rattle.syn_ast.specs.Shape.{IsShaped};
-ghost use Rattle.syn_data.specs.Items.{item_enum, item_extern_crate, item_static, item_union, item_use};
+ghost use Rattle.syn_data.specs.Items.{IsClosed, item_enum, item_extern_crate, item_static, item_struct, item_union};
+ghost use Rattle.syn_data.specs.Items.{item_use, struct_end};
 ghost use Rattle.syn_grammar.specs.Gram as g;
 ghost use Rattle.syn_grammar.specs.Kind as k;
+ghost use Rattle.syn_grammar.specs.Name as n;
+ghost use Rattle.syn_grammar.specs.Tree as t;
 
+use crate::data::{Fields, FieldsNamed, FieldsUnnamed};
+use crate::part;
 use gram_table::kind::Kind;
 use gram_table::part::Part;
 use gram_tree::tree::Tree;
@@ -14,7 +20,162 @@ use syn_ast::leaf::{Delimiters, Mark};
 use syn_ast::list::Elements;
 use syn_ast::name::{Name, Renamed, as_name, optional_as_renamed};
 use syn_ast::sub::{MarkedType, MarkedValue, optional_as_marked_type, optional_as_marked_value};
-use syn_ast::take;
+use syn_ast::take::{self, Choice};
+
+/// A struct: `struct A<T> where .. { b: B }`, behind its attributes and its visibility.
+#[derive(Clone, Copy)]
+pub struct ItemStruct<'t, 'a> {
+    /// `struct`
+    pub struct_token: &'a Ident,
+    /// Its name.
+    pub ident: &'a Ident,
+    /// Its generic parameters, as a form of the kind `Generics`.
+    pub generics: &'t Tree<'a>,
+    /// Its where clause, before braces and behind parentheses, as a form of the kind `Where`.
+    pub where_clause: &'t Tree<'a>,
+    /// Its fields.
+    pub fields: Fields<'t, 'a>,
+    /// `;`, unless its fields stand in braces.
+    pub semi_token: Option<Mark>,
+}
+
+// What stands behind the generic parameters of a struct.
+#[derive(Clone, Copy)]
+struct StructEnd<'t, 'a> {
+    // Its where clause.
+    where_clause: &'t Tree<'a>,
+    // Its fields.
+    fields: Fields<'t, 'a>,
+    // `;`, unless its fields stand in braces.
+    semi_token: Option<Mark>,
+}
+
+// Fields without names, and what stands behind them.
+fn unnamed_end<'t, 'a>(tree: &'t Tree<'a>) -> Option<StructEnd<'t, 'a>>
+    ensures { MatchOption result ((a : g.Gram) (c : ℕ) (cs : List ℕ) → IsShaped tree.now (g.seq (g.ref k.UnnamedFields)
+        (g.seq (g.called n.the_where a) (g.mark c cs))) → ⊥) (λ x. IsClosed x.fields x.semi_token
+        × (t.First tree.now ≡ struct_end x.fields x.where_clause x.semi_token)) }
+{
+    let Some((fields, where_clause, semi_token)) = take::three(tree) else {
+        return None;
+    };
+    let Some(fields) = FieldsUnnamed::of(fields) else {
+        return None;
+    };
+    let Some(where_clause) = part::where_clause(where_clause) else {
+        return None;
+    };
+    let Some(semi_token) = take::mark(semi_token) else {
+        return None;
+    };
+    Some(StructEnd {
+        where_clause,
+        fields: Fields::Unnamed(fields),
+        semi_token: Some(semi_token),
+    })
+}
+
+// Fields with names, or none and a semicolon.
+fn named_end<'t, 'a>(where_clause: &'t Tree<'a>, tree: &'t Tree<'a>) -> Option<StructEnd<'t, 'a>>
+    ensures { MatchOption result ((s : List Token → Bool) (c : ℕ) (cs : List ℕ) → IsShaped tree.now
+        (g.alt s (g.ref k.NamedFields) (g.mark c cs)) → ⊥) (λ x. IsClosed x.fields x.semi_token
+        × (t.Second (t.Pair (t.Called n.the_where where_clause.now) tree.now)
+        ≡ struct_end x.fields x.where_clause x.semi_token)) }
+{
+    let Some(which) = take::chosen(tree) else {
+        return None;
+    };
+    match which {
+        Choice::First(inner) => {
+            let Some(found) = FieldsNamed::of(inner) else {
+                return None;
+            };
+            Some(StructEnd {
+                where_clause,
+                fields: Fields::Named(found),
+                semi_token: None,
+            })
+        }
+        Choice::Second(inner) => {
+            let Some(semi_token) = take::mark(inner) else {
+                return None;
+            };
+            Some(StructEnd {
+                where_clause,
+                fields: Fields::Unit,
+                semi_token: Some(semi_token),
+            })
+        }
+    }
+}
+
+// A where clause, and what stands behind it.
+fn where_end<'t, 'a>(tree: &'t Tree<'a>) -> Option<StructEnd<'t, 'a>>
+    ensures { MatchOption result ((s : List Token → Bool) (a : g.Gram) (c : ℕ) (cs : List ℕ) → IsShaped tree.now
+        (g.seq (g.called n.the_where a) (g.alt s (g.ref k.NamedFields) (g.mark c cs))) → ⊥)
+        (λ x. IsClosed x.fields x.semi_token
+        × (t.Second tree.now ≡ struct_end x.fields x.where_clause x.semi_token)) }
+{
+    let Some((where_clause, end)) = take::pair(tree) else {
+        return None;
+    };
+    let Some(where_clause) = part::where_clause(where_clause) else {
+        return None;
+    };
+    named_end(where_clause, end)
+}
+
+// What stands behind the generic parameters of a struct.
+fn as_struct_end<'t, 'a>(tree: &'t Tree<'a>) -> Option<StructEnd<'t, 'a>>
+    ensures { MatchOption result ((s u : List Token → Bool) (a b : g.Gram) (c d : ℕ) (cs ds : List ℕ)
+        → IsShaped tree.now (g.alt s (g.seq (g.ref k.UnnamedFields) (g.seq (g.called n.the_where a) (g.mark c cs)))
+        (g.seq (g.called n.the_where b) (g.alt u (g.ref k.NamedFields) (g.mark d ds)))) → ⊥)
+        (λ x. IsClosed x.fields x.semi_token × (tree.now ≡ struct_end x.fields x.where_clause x.semi_token)) }
+{
+    let Some(which) = take::chosen(tree) else {
+        return None;
+    };
+    match which {
+        Choice::First(inner) => unnamed_end(inner),
+        Choice::Second(inner) => where_end(inner),
+    }
+}
+
+impl<'t, 'a> ItemStruct<'t, 'a> {
+    /// What a tree is, if it is that.
+    #[tactic(auto, unfolding(syn_grammar::specs::Table::table))]
+    pub fn of(tree: &'t Tree<'a>) -> Option<ItemStruct<'t, 'a>>
+        ensures { MatchOption result (IsShaped tree.now (g.ref k.AStruct) → ⊥)
+            (λ x. IsClosed x.fields x.semi_token × (tree.now ≡ item_struct x)) }
+    {
+        let Some((Kind::AStruct, inner)) = take::node(tree) else {
+            return None;
+        };
+        let Some((struct_token, ident, generics, end)) = take::four(inner) else {
+            return None;
+        };
+        let Some(struct_token) = take::word(struct_token) else {
+            return None;
+        };
+        let Some(ident) = part::name(ident) else {
+            return None;
+        };
+        let Some(generics) = part::generics(generics) else {
+            return None;
+        };
+        let Some(end) = as_struct_end(end) else {
+            return None;
+        };
+        Some(ItemStruct {
+            struct_token,
+            ident,
+            generics,
+            where_clause: end.where_clause,
+            fields: end.fields,
+            semi_token: end.semi_token,
+        })
+    }
+}
 
 /// An enum: `enum A<T> where .. { B, C }`, behind its attributes and its visibility.
 #[derive(Clone, Copy)]
@@ -23,9 +184,9 @@ pub struct ItemEnum<'t, 'a> {
     pub enum_token: &'a Ident,
     /// Its name.
     pub ident: &'a Ident,
-    /// Its generic parameters.
+    /// Its generic parameters, as a form of the kind `Generics`.
     pub generics: &'t Tree<'a>,
-    /// Its where clause.
+    /// Its where clause, as a form of the kind `Where`.
     pub where_clause: &'t Tree<'a>,
     /// The braces.
     pub brace_token: Delimiters,
@@ -42,26 +203,22 @@ impl<'t, 'a> ItemEnum<'t, 'a> {
         let Some((Kind::AnEnum, inner)) = take::node(tree) else {
             return None;
         };
-        let Some((enum_token, ident, generics, where_clause, brace_token)) = take::five(inner)
-        else {
+        let Some((enum_token, ident, generics, where_clause, variants)) = take::five(inner) else {
             return None;
         };
         let Some(enum_token) = take::word(enum_token) else {
             return None;
         };
-        let Some((Part::Name, ident)) = take::called(ident) else {
+        let Some(ident) = part::name(ident) else {
             return None;
         };
-        let Some(ident) = take::word(ident) else {
+        let Some(generics) = part::generics(generics) else {
             return None;
         };
-        let Some((Part::Generics, generics)) = take::called(generics) else {
+        let Some(where_clause) = part::where_clause(where_clause) else {
             return None;
         };
-        let Some((Part::Where, where_clause)) = take::called(where_clause) else {
-            return None;
-        };
-        let Some((brace_token, inside)) = take::group(brace_token) else {
+        let Some((brace_token, inside)) = take::group(variants) else {
             return None;
         };
         let Some(variants) = take::list(inside) else {
@@ -85,12 +242,12 @@ pub struct ItemUnion<'t, 'a> {
     pub union_token: &'a Ident,
     /// Its name.
     pub ident: &'a Ident,
-    /// Its generic parameters.
+    /// Its generic parameters, as a form of the kind `Generics`.
     pub generics: &'t Tree<'a>,
-    /// Its where clause.
+    /// Its where clause, as a form of the kind `Where`.
     pub where_clause: &'t Tree<'a>,
     /// Its fields.
-    pub fields: &'t Tree<'a>,
+    pub fields: FieldsNamed<'t, 'a>,
 }
 
 impl<'t, 'a> ItemUnion<'t, 'a> {
@@ -108,16 +265,16 @@ impl<'t, 'a> ItemUnion<'t, 'a> {
         let Some(union_token) = take::word(union_token) else {
             return None;
         };
-        let Some((Part::Name, ident)) = take::called(ident) else {
+        let Some(ident) = part::name(ident) else {
             return None;
         };
-        let Some(ident) = take::word(ident) else {
+        let Some(generics) = part::generics(generics) else {
             return None;
         };
-        let Some((Part::Generics, generics)) = take::called(generics) else {
+        let Some(where_clause) = part::where_clause(where_clause) else {
             return None;
         };
-        let Some((Part::Where, where_clause)) = take::called(where_clause) else {
+        let Some(fields) = FieldsNamed::of(fields) else {
             return None;
         };
         Some(ItemUnion {

@@ -2,4 +2,8 @@
 #![tactic(auto)]
 
 pub mod data;
+pub mod derive;
 pub mod item;
+pub mod laws;
+pub mod members;
+mod part;

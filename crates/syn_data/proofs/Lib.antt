@@ -1,0 +1,3 @@
+pub mod DataItems
+pub mod Listed
+pub mod ReadItems

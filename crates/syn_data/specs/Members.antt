@@ -1,0 +1,51 @@
+-- What fields are named by: their names, or how many stand before them.
+use Rattle.std.specs.List.{range_with_len}
+use Rattle.std.specs.Prelude.{◌≡◌, ℕ, suc, Bool, List, [], ◌∷◌, map}
+use Rattle.proc_macro2.specs.Token.{Token}
+use Rattle.syn_ast.specs.Name.{word_of_name}
+use Rattle.syn_ast.specs.Leaves.{list_tree}
+use Rattle.syn_ast.specs.Shape.{IsShaped}
+use Rattle.syn_data.specs.declared.data.Fields.{Fields}
+use Rattle.syn_data.specs.declared.data.Fields.TheVariants as fields
+use Rattle.syn_data.specs.declared.members.Member.{Member}
+use Rattle.syn_data.specs.declared.members.Member.TheVariants as members
+use Rattle.syn_grammar.specs.Gram as g
+use Rattle.syn_grammar.specs.Kind as k
+use Rattle.syn_grammar.specs.Part.{choice}
+use Rattle.syn_grammar.specs.Tree as t
+use Rattle.syn_grammar.specs.Tree.{Tree}
+
+-- the name of a field: an identifier, or _
+abbrev pub name_of : Tree → Tree
+name_of (t.Node k.NamedField (t.Pair a (t.Pair v (t.Pair i x)))) = choice i
+name_of _ = t.Nil
+
+-- the names of fields, in their order
+abbrev pub names_in : Tree → List Tree
+names_in (t.More x c spacing y) = name_of x ∷ names_in y
+names_in (t.Final x) = name_of x ∷ []
+names_in _ = []
+
+-- how many elements a list has
+abbrev pub elements_in : Tree → ℕ
+elements_in (t.More x c spacing y) = suc (elements_in y)
+elements_in (t.Final x) = 1
+elements_in _ = 0
+
+-- the name that a member is
+abbrev pub member_name : Member → Tree
+member_name (members.Named i) = word_of_name i
+member_name (members.Unnamed n) = t.Nil
+
+-- how many fields there are
+abbrev pub field_count : Fields → ℕ
+field_count (fields.Named x) = elements_in (list_tree x.named)
+field_count (fields.Unnamed x) = elements_in (list_tree x.unnamed)
+field_count fields.Unit = 0
+
+-- fields with names, where each is such a field, are named by these; those without by the numbers from 0 on
+abbrev pub AreMembers : Fields → List Member → Type 0
+AreMembers (fields.Named x) ms = (e : List Token → Bool) (c : ℕ)
+    → IsShaped (list_tree x.named) (g.many e c (g.ref k.NamedField)) → map member_name ms ≡ names_in (list_tree x.named)
+AreMembers (fields.Unnamed x) ms = ms ≡ map members.Unnamed (range_with_len 0 (elements_in (list_tree x.unnamed)))
+AreMembers fields.Unit ms = ms ≡ []
