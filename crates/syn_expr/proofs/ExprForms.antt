@@ -10,7 +10,7 @@ use Rattle.syn_grammar.specs.Tree.{Tree}
 use Rattle.gram_tree.specs.declared.tree.Element.{Element}
 use Rattle.gram_tree.specs.Forms.{mark_of, seconds, turns, elements, ending}
 use Rattle.syn_ast.specs.Shape.{IsShaped}
-use Rattle.syn_expr.specs.ExprForms.{IsAlone, IsBack, IsForm, IsFront, IsJump}
+use Rattle.syn_expr.specs.ExprForms.{IsAlone, IsBack, IsForm, IsFront, IsInfix, IsJump}
 
 -- none of these is a form of an expression
 pub first_form : (n : ℕ) (x : Tree) (k : Kind) → IsForm (seconds n (t.First x)) k → ⊥
@@ -44,6 +44,10 @@ pub back_form : (x : Tree) (k : Kind) → IsBack x k → IsForm x k
 back_form (t.Back l j y) k h = h
 back_form _ k h = absurd h
 
+pub infix_form : (x : Tree) (k : Kind) → IsInfix x k → IsForm x k
+infix_form (t.Infix l j y r) k h = h
+infix_form _ k h = absurd h
+
 pub jump_form : (x : Tree) (k : Kind) → IsJump x k → IsForm x k
 jump_form (t.Alone j y) k h = h
 jump_form (t.Front j y r) k h = h
@@ -56,6 +60,8 @@ pub ruleset alones = (first_form, mark_form, turns_form, elements_form, alone_fo
 pub ruleset fronts = (first_form, mark_form, turns_form, elements_form, front_form)
 
 pub ruleset backs = (first_form, mark_form, turns_form, elements_form, back_form)
+
+pub ruleset infixes = (first_form, mark_form, turns_form, elements_form, infix_form)
 
 pub ruleset jumps = (first_form, mark_form, turns_form, elements_form, jump_form)
 

@@ -1,2 +1,5 @@
 pub mod ExprForms
+pub mod Alternatives
+pub mod ExprOps
+pub mod ExprInfix
 pub mod ExprKept

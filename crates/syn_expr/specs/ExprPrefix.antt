@@ -1,9 +1,11 @@
 -- The trees that expressions with an operand behind them are.
 use Rattle.syn_ast.specs.Leaves.{list_tree, mark_tree, node_tree, optional_tree, word_tree}
+use Rattle.syn_expr.specs.ExprOps.{un_op_tree}
 use Rattle.syn_expr.specs.declared.expr.prefix.ExprAttributed.{ExprAttributed}
 use Rattle.syn_expr.specs.declared.expr.prefix.ExprRawAddr.{ExprRawAddr}
 use Rattle.syn_expr.specs.declared.expr.prefix.ExprReference.{ExprReference}
 use Rattle.syn_expr.specs.declared.expr.prefix.ExprLet.{ExprLet}
+use Rattle.syn_expr.specs.declared.expr.prefix.ExprUnary.{ExprUnary}
 use Rattle.syn_expr.specs.declared.expr.prefix.ClosureHead.{ClosureHead}
 use Rattle.syn_expr.specs.declared.expr.prefix.ExprClosure.{ExprClosure}
 use Rattle.syn_grammar.specs.Kind as k
@@ -15,6 +17,10 @@ use Rattle.std.specs.Prelude.{Option, Some, None}
 -- an expression with attributes: #[a] b
 abbrev pub expr_attributed : ExprAttributed → Tree
 expr_attributed x = t.Front k.ExprAttributed (t.Pair x.attr.now x.attrs.now) x.expr.now
+
+-- a unary operator before an operand: !a
+abbrev pub expr_unary : ExprUnary → Tree
+expr_unary x = t.Front k.ExprUnary (un_op_tree x.op) x.expr.now
 
 -- a raw address: &raw const a
 abbrev pub expr_raw_addr : ExprRawAddr → Tree

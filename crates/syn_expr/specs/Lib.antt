@@ -4,4 +4,6 @@ pub mod ExprParts
 pub mod ExprAtoms
 pub mod ExprPostfix
 pub mod ExprPrefix
+pub mod ExprOps
+pub mod ExprInfix
 pub mod Judged

@@ -1,5 +1,5 @@
-//! The types of expressions and of blocks: what was read as a tree, one layer at a time, as structs whose fields are its
-//! parts.
+//! The types of expressions and blocks: what was read as a tree, one layer at a time, as structs whose
+//! fields are its parts.
 #![tactic(auto)]
 
 pub mod blocks;

@@ -2,7 +2,9 @@
 
 pub mod atoms;
 pub mod forms;
+pub mod infix;
 pub mod laws;
+pub mod ops;
 pub mod parts;
 pub mod postfix;
 pub mod prefix;

@@ -6,12 +6,13 @@ ghost use Rattle.syn_ast.specs.Leaves.{optional_tree, word_tree};
 ghost use Rattle.syn_ast.specs.Shape.{IsShaped};
 ghost use Rattle.syn_expr.specs.ExprForms.{IsAlone, IsFront};
 ghost use Rattle.syn_expr.specs.ExprPrefix.{closure_head, closure_tree, expr_attributed, expr_closure, expr_let};
-ghost use Rattle.syn_expr.specs.ExprPrefix.{expr_raw_addr, expr_reference};
+ghost use Rattle.syn_expr.specs.ExprPrefix.{expr_raw_addr, expr_reference, expr_unary};
 ghost use Rattle.syn_grammar.specs.Expressions as entries;
 ghost use Rattle.syn_grammar.specs.Gram as g;
 ghost use Rattle.syn_grammar.specs.Kind as k;
 
 use crate::expr::forms;
+use crate::expr::ops::{UnOp, as_un_op};
 use gram_table::kind::Kind;
 use gram_tree::tree::Tree;
 use rust_leaf::ident::Ident;
@@ -43,6 +44,31 @@ impl<'t, 'a> ExprAttributed<'t, 'a> {
             return None;
         };
         Some(ExprAttributed { attr, attrs, expr })
+    }
+}
+
+/// A unary operator before an operand: `!a`.
+#[derive(Clone, Copy)]
+pub struct ExprUnary<'t, 'a> {
+    /// The operator.
+    pub op: UnOp,
+    /// Its operand.
+    pub expr: &'t Tree<'a>,
+}
+
+impl<'t, 'a> ExprUnary<'t, 'a> {
+    /// What a tree is, if it is that.
+    #[tactic(auto, unfolding(syn_grammar::specs::Table::table))]
+    pub fn of(tree: &'t Tree<'a>) -> Option<ExprUnary<'t, 'a>>
+        ensures { MatchOption result (IsFront tree.now k.ExprUnary → ⊥) (λ x. tree.now ≡ expr_unary x) }
+    {
+        let Some((Kind::ExprUnary, own, expr)) = forms::front(tree) else {
+            return None;
+        };
+        let Some(op) = as_un_op(own) else {
+            return None;
+        };
+        Some(ExprUnary { op, expr })
     }
 }
 
@@ -169,21 +195,21 @@ impl<'t, 'a> ExprLet<'t, 'a> {
 /// What stands before a closure's body.
 #[derive(Clone, Copy)]
 pub struct ClosureHead<'t, 'a> {
-    // The lifetimes that it binds.
+    /// The lifetimes that it binds.
     pub lifetimes: Option<&'t Tree<'a>>,
     /// `const`
     pub constness: Option<&'a Ident>,
-    // `static`
+    /// `static`
     pub movability: Option<&'a Ident>,
-    // `async`
+    /// `async`
     pub asyncness: Option<&'a Ident>,
-    // `move`
+    /// `move`
     pub capture: Option<&'a Ident>,
-    // `|`
+    /// `|`
     pub or1_token: Mark,
-    // Its parameters.
+    /// Its parameters.
     pub inputs: Elements<'t, 'a>,
-    // `|`
+    /// `|`
     pub or2_token: Mark,
 }
 

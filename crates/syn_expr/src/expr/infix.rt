@@ -1,0 +1,72 @@
+//! Expressions with an operand on either side.
+
+ghost use Rattle.std.specs.Prelude.{MatchOption, ◌≡◌};
+ghost use Rattle.syn_expr.specs.ExprInfix.{IsAssign, IsBinary, expr_assign, expr_binary};
+
+use crate::expr::forms;
+use crate::expr::ops::{BinOp, bin_op};
+use gram_table::kind::Kind;
+use gram_tree::tree::Tree;
+use syn_ast::leaf::Mark;
+use syn_ast::take;
+
+/// An assignment: `a = b`.
+#[derive(Clone, Copy)]
+pub struct ExprAssign<'t, 'a> {
+    /// What is assigned to.
+    pub left: &'t Tree<'a>,
+    /// `=`
+    pub eq_token: Mark,
+    /// The value.
+    pub right: &'t Tree<'a>,
+}
+
+impl<'t, 'a> ExprAssign<'t, 'a> {
+    /// What a tree is, if it is that.
+    #[tactic(auto, unfolding(syn_grammar::specs::Table::table), using(crate::proofs::ExprInfix::assign_infix))]
+    pub fn of(tree: &'t Tree<'a>) -> Option<ExprAssign<'t, 'a>>
+        ensures { MatchOption result (IsAssign tree.now → ⊥) (λ x. tree.now ≡ expr_assign x) }
+    {
+        let Some((left, Kind::ExprAssign, own, right)) = forms::infix(tree) else {
+            return None;
+        };
+        let Some(eq_token) = take::kept(own) else {
+            return None;
+        };
+        let Some(eq_token) = take::mark(eq_token) else {
+            return None;
+        };
+        Some(ExprAssign {
+            left,
+            eq_token,
+            right,
+        })
+    }
+}
+
+/// A binary operator: `a + b`, `a += b`.
+#[derive(Clone, Copy)]
+pub struct ExprBinary<'t, 'a> {
+    /// Its left operand.
+    pub left: &'t Tree<'a>,
+    /// The operator.
+    pub op: BinOp,
+    /// Its right operand.
+    pub right: &'t Tree<'a>,
+}
+
+impl<'t, 'a> ExprBinary<'t, 'a> {
+    /// What a tree is, if it is that.
+    #[tactic(auto, using(crate::proofs::ExprInfix::binary_infix))]
+    pub fn of(tree: &'t Tree<'a>) -> Option<ExprBinary<'t, 'a>>
+        ensures { MatchOption result (IsBinary tree.now → ⊥) (λ x. tree.now ≡ expr_binary x) }
+    {
+        let Some((left, kind, own, right)) = forms::infix(tree) else {
+            return None;
+        };
+        let Some(op) = bin_op(kind, own) else {
+            return None;
+        };
+        Some(ExprBinary { left, op, right })
+    }
+}
