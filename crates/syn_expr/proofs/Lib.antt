@@ -2,4 +2,5 @@ pub mod ExprForms
 pub mod Alternatives
 pub mod ExprOps
 pub mod ExprInfix
+pub mod ExprJumps
 pub mod ExprKept

@@ -6,4 +6,5 @@ pub mod ExprPostfix
 pub mod ExprPrefix
 pub mod ExprOps
 pub mod ExprInfix
+pub mod ExprJumps
 pub mod Judged

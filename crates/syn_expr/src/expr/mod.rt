@@ -3,6 +3,7 @@
 pub mod atoms;
 pub mod forms;
 pub mod infix;
+pub mod jumps;
 pub mod laws;
 pub mod ops;
 pub mod parts;
