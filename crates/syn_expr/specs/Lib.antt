@@ -7,4 +7,5 @@ pub mod ExprPrefix
 pub mod ExprOps
 pub mod ExprInfix
 pub mod ExprJumps
+pub mod Statements
 pub mod Judged

@@ -1,0 +1,387 @@
+//! Statements.
+
+ghost use Rattle.proc_macro2.specs.Token.{Token};
+ghost use Rattle.std.specs.Prelude.{Bool, List, MatchOption, false, ℕ, ◌≡◌};
+ghost use Rattle.syn_ast.specs.Kept.{IsKept};
+ghost use Rattle.syn_ast.specs.Leaves.{optional_tree};
+ghost use Rattle.syn_ast.specs.Shape.{IsShaped, may_choose};
+ghost use Rattle.syn_expr.specs.Statements.{IsAlternative, IsStmt, block_stmt, diverge_tree, local, local_init_tree};
+ghost use Rattle.syn_expr.specs.Statements.{one_statement, semicolon_tree, statements, stmt_expr, stmt_local};
+ghost use Rattle.syn_expr.specs.Statements.{stmt_macro};
+ghost use Rattle.syn_grammar.specs.Gram as g;
+ghost use Rattle.syn_grammar.specs.Kind as k;
+ghost use Rattle.syn_grammar.specs.Name as n;
+ghost use Rattle.syn_grammar.specs.Statements.{statement};
+
+use gram_table::kind::Kind;
+use gram_table::part::Part;
+use gram_tree::tree::Tree;
+use rust_leaf::ident::Ident;
+use syn_ast::leaf::Mark;
+use syn_ast::list::Turns;
+use syn_ast::sub::{MarkedType, Worded, as_worded, optional_as_marked_type};
+use syn_ast::take::{self, Choice, Choice5};
+
+/// A statement of a block, or a lone `;`.
+#[derive(Clone, Copy)]
+pub enum BlockStmt<'t, 'a> {
+    /// A lone `;`.
+    Semi(Mark),
+    /// A statement, as a form of the kind `AStatement`.
+    Stmt(&'t Tree<'a>),
+}
+
+impl<'t, 'a> BlockStmt<'t, 'a> {
+    /// What one of the turns of `Statements` is.
+    pub fn of(tree: &'t Tree<'a>) -> Option<BlockStmt<'t, 'a>>
+        ensures { MatchOption result ((test : List Token → Bool) (c : ℕ) (cs : List ℕ) (a : g.Gram)
+            → may_choose a ≡ false → IsShaped tree.now (g.alt test (g.mark c cs) a) → ⊥)
+            (λ x. tree.now ≡ block_stmt x) }
+    {
+        let Some(which) = take::chosen(tree) else {
+            return None;
+        };
+        match which {
+            Choice::First(inner) => match take::mark(inner) {
+                Some(mark) => Some(BlockStmt::Semi(mark)),
+                None => None,
+            },
+            Choice::Second(stmt) => Some(BlockStmt::Stmt(stmt)),
+        }
+    }
+}
+
+/// The value of a `let`: `= a else { .. }`.
+#[derive(Clone, Copy)]
+pub struct LocalInit<'t, 'a> {
+    /// `=`
+    pub eq_token: Mark,
+    /// The value.
+    pub expr: &'t Tree<'a>,
+    /// `else` and a block, where the pattern may not fit.
+    pub diverge: Option<Worded<'t, 'a>>,
+}
+
+// What stands behind `else`, if it does.
+fn optional_as_diverge<'t, 'a>(tree: &'t Tree<'a>) -> Option<Option<Worded<'t, 'a>>>
+    ensures { MatchOption result ((test : List Token → Bool) (p1 : List ℕ → Bool) (a2 : g.Gram) → IsShaped tree.now
+        (g.alt test (g.called n.the_else (g.seq (g.word p1) a2)) g.nothing) → ⊥)
+        (λ o. tree.now ≡ optional_tree diverge_tree o) }
+{
+    match take::optional(tree) {
+        None => None,
+        Some(None) => Some(None),
+        Some(Some(inner)) => match take::called(inner) {
+            Some((Part::Else, inner)) => match as_worded(inner) {
+                Some(found) => Some(Some(found)),
+                None => None,
+            },
+            _ => None,
+        },
+    }
+}
+
+// What a tree is, if it is that.
+fn as_local_init<'t, 'a>(tree: &'t Tree<'a>) -> Option<LocalInit<'t, 'a>>
+    ensures { MatchOption result ((c1 : ℕ) (cs2 : List ℕ) (a3 : g.Gram) (t4 : List Token → Bool) (p5 : List ℕ → Bool)
+        (a6 : g.Gram) → IsShaped tree.now (g.seq (g.mark c1 cs2) (g.seq (g.called n.the_value a3) (g.alt t4
+        (g.called n.the_else (g.seq (g.word p5) a6)) g.nothing))) → ⊥)
+        (λ x. tree.now ≡ local_init_tree x) }
+{
+    let Some((eq_token, expr, diverge)) = take::three(tree) else {
+        return None;
+    };
+    let Some(eq_token) = take::mark(eq_token) else {
+        return None;
+    };
+    let Some((Part::Value, expr)) = take::called(expr) else {
+        return None;
+    };
+    let Some(diverge) = optional_as_diverge(diverge) else {
+        return None;
+    };
+    Some(LocalInit {
+        eq_token,
+        expr,
+        diverge,
+    })
+}
+
+// What stands there, if anything does.
+fn optional_as_local_init<'t, 'a>(tree: &'t Tree<'a>) -> Option<Option<LocalInit<'t, 'a>>>
+    ensures { MatchOption result ((test : List Token → Bool) (c1 : ℕ) (cs2 : List ℕ) (a3 : g.Gram)
+        (t4 : List Token → Bool) (p5 : List ℕ → Bool) (a6 : g.Gram) → IsShaped tree.now (g.alt test
+        (g.seq (g.mark c1 cs2) (g.seq (g.called n.the_value a3) (g.alt t4
+        (g.called n.the_else (g.seq (g.word p5) a6)) g.nothing))) g.nothing) → ⊥)
+        (λ x. tree.now ≡ optional_tree local_init_tree x) }
+{
+    match take::optional(tree) {
+        None => None,
+        Some(None) => Some(None),
+        Some(Some(inner)) => match as_local_init(inner) {
+            Some(found) => Some(Some(found)),
+            None => None,
+        },
+    }
+}
+
+/// The statements of a block.
+#[derive(Clone, Copy)]
+pub struct Statements<'t, 'a> {
+    /// Each, or a lone `;`, of which `BlockStmt` says which it is.
+    pub stmts: Turns<'t, 'a>,
+}
+
+impl<'t, 'a> Statements<'t, 'a> {
+    /// What a tree is, if it is that.
+    #[tactic(auto, unfolding(syn_grammar::specs::Table::table))]
+    pub fn of(tree: &'t Tree<'a>) -> Option<Statements<'t, 'a>>
+        ensures { MatchOption result (IsKept tree.now → IsShaped tree.now (g.ref k.Statements) → ⊥)
+            (λ x. tree.now ≡ statements x) }
+    {
+        let Some((Kind::Statements, inner)) = take::node(tree) else {
+            return None;
+        };
+        let Some(kept) = take::kept(inner) else {
+            return None;
+        };
+        let Some(stmts) = take::each_turn(kept) else {
+            return None;
+        };
+        Some(Statements { stmts })
+    }
+}
+
+/// A statement by itself.
+#[derive(Clone, Copy)]
+pub struct OneStatement<'t, 'a> {
+    /// The statement, as a form of the kind `AStatement`.
+    pub stmt: &'t Tree<'a>,
+}
+
+impl<'t, 'a> OneStatement<'t, 'a> {
+    /// What a tree is, if it is that.
+    #[tactic(auto, unfolding(syn_grammar::specs::Table::table))]
+    pub fn of(tree: &'t Tree<'a>) -> Option<OneStatement<'t, 'a>>
+        ensures { MatchOption result (IsKept tree.now → IsShaped tree.now (g.ref k.OneStatement) → ⊥)
+            (λ x. tree.now ≡ one_statement x) }
+    {
+        let Some((Kind::OneStatement, inner)) = take::node(tree) else {
+            return None;
+        };
+        let Some(stmt) = take::kept(inner) else {
+            return None;
+        };
+        Some(OneStatement { stmt })
+    }
+}
+
+/// A `let`, behind its attributes: `let a: T = b else { .. };`.
+#[derive(Clone, Copy)]
+pub struct Local<'t, 'a> {
+    /// `let`
+    pub let_token: &'a Ident,
+    /// Its pattern.
+    pub pat: &'t Tree<'a>,
+    /// `:` and its type.
+    pub ty: Option<MarkedType<'t, 'a>>,
+    /// `=` and its value.
+    pub init: Option<LocalInit<'t, 'a>>,
+    /// `;`
+    pub semi_token: Mark,
+}
+
+impl<'t, 'a> Local<'t, 'a> {
+    /// What a tree is, if it is that.
+    #[tactic(auto, unfolding(syn_grammar::specs::Table::table))]
+    pub fn of(tree: &'t Tree<'a>) -> Option<Local<'t, 'a>>
+        ensures { MatchOption result (IsKept tree.now → IsShaped tree.now (g.ref k.ALet) → ⊥)
+            (λ x. tree.now ≡ local x) }
+    {
+        let Some((Kind::ALet, inner)) = take::node(tree) else {
+            return None;
+        };
+        let Some(kept) = take::kept(inner) else {
+            return None;
+        };
+        let Some((let_token, pat, ty, init, semi_token)) = take::five(kept) else {
+            return None;
+        };
+        let Some(let_token) = take::word(let_token) else {
+            return None;
+        };
+        let Some(ty) = optional_as_marked_type(ty) else {
+            return None;
+        };
+        let Some(init) = optional_as_local_init(init) else {
+            return None;
+        };
+        let Some(semi_token) = take::mark(semi_token) else {
+            return None;
+        };
+        Some(Local {
+            let_token,
+            pat,
+            ty,
+            init,
+            semi_token,
+        })
+    }
+}
+
+// The `;` that stands there, if one does.
+fn optional_semicolon(tree: &Tree<'_>) -> Option<Option<Mark>>
+    ensures { MatchOption result ((test : List Token → Bool) (c1 : ℕ) (cs2 : List ℕ) → IsShaped tree.now
+        (g.alt test (g.called n.the_semicolon (g.mark c1 cs2)) g.nothing) → ⊥)
+        (λ o. tree.now ≡ optional_tree semicolon_tree o) }
+{
+    match take::optional(tree) {
+        None => None,
+        Some(None) => Some(None),
+        Some(Some(inner)) => match take::called(inner) {
+            Some((Part::Semicolon, inner)) => match take::mark(inner) {
+                Some(mark) => Some(Some(mark)),
+                None => None,
+            },
+            _ => None,
+        },
+    }
+}
+
+/// A macro that is a statement: `a! { b };`.
+#[derive(Clone, Copy)]
+pub struct StmtMacro<'t, 'a> {
+    /// Its attributes.
+    pub attrs: &'t Tree<'a>,
+    /// The macro, as a form of the kind `AMacro`.
+    pub mac: &'t Tree<'a>,
+    /// `;`
+    pub semi_token: Option<Mark>,
+}
+
+/// A `let` that is a statement.
+#[derive(Clone, Copy)]
+pub struct StmtLocal<'t, 'a> {
+    /// Its attributes.
+    pub attrs: &'t Tree<'a>,
+    /// The `let`, as a form of the kind `ALet`.
+    pub local: &'t Tree<'a>,
+}
+
+/// An expression that is a statement: `a;`.
+#[derive(Clone, Copy)]
+pub struct StmtExpr<'t, 'a> {
+    /// Its attributes.
+    pub attrs: &'t Tree<'a>,
+    /// The expression.
+    pub expr: &'t Tree<'a>,
+    /// `;`
+    pub semi_token: Option<Mark>,
+}
+
+/// A statement, by its form.
+#[derive(Clone, Copy)]
+pub enum Stmt<'t, 'a> {
+    /// `let a = b;`
+    Local(StmtLocal<'t, 'a>),
+    /// An item, as a form of the kind `AnItem`.
+    Item(&'t Tree<'a>),
+    /// `a;`
+    Expr(StmtExpr<'t, 'a>),
+    /// `a! { b }`
+    Macro(StmtMacro<'t, 'a>),
+}
+
+// A macro.
+fn as_macro<'t, 'a>(tree: &'t Tree<'a>) -> Option<StmtMacro<'t, 'a>>
+    ensures { MatchOption result ((a1 a2 : g.Gram) (test : List Token → Bool) (c3 : ℕ) (cs4 : List ℕ)
+        → IsShaped tree.now (g.seq a1 (g.seq a2 (g.alt test (g.called n.the_semicolon (g.mark c3 cs4)) g.nothing)))
+        → ⊥) (λ s. tree.now ≡ stmt_macro s) }
+{
+    let Some((attrs, mac, semi_token)) = take::three(tree) else {
+        return None;
+    };
+    let Some(semi_token) = optional_semicolon(semi_token) else {
+        return None;
+    };
+    Some(StmtMacro {
+        attrs,
+        mac,
+        semi_token,
+    })
+}
+
+// An expression.
+fn as_expression<'t, 'a>(tree: &'t Tree<'a>) -> Option<StmtExpr<'t, 'a>>
+    ensures { MatchOption result ((a1 a2 : g.Gram) (test : List Token → Bool) (c3 : ℕ) (cs4 : List ℕ)
+        → IsShaped tree.now (g.seq (g.called n.the_attributes a1) (g.seq (g.called n.the_expression a2)
+        (g.alt test (g.called n.the_semicolon (g.mark c3 cs4)) g.nothing))) → ⊥)
+        (λ s. tree.now ≡ stmt_expr s) }
+{
+    let Some((attrs, expr, semi_token)) = take::three(tree) else {
+        return None;
+    };
+    let Some((Part::Attributes, attrs)) = take::called(attrs) else {
+        return None;
+    };
+    let Some((Part::Expression, expr)) = take::called(expr) else {
+        return None;
+    };
+    let Some(semi_token) = optional_semicolon(semi_token) else {
+        return None;
+    };
+    Some(StmtExpr {
+        attrs,
+        expr,
+        semi_token,
+    })
+}
+
+// A `let`.
+fn as_local<'t, 'a>(tree: &'t Tree<'a>) -> Option<StmtLocal<'t, 'a>>
+    ensures { MatchOption result ((a b : g.Gram) → IsShaped tree.now (g.seq a b) → ⊥)
+        (λ s. tree.now ≡ stmt_local s) }
+{
+    let Some((attrs, local)) = take::pair(tree) else {
+        return None;
+    };
+    Some(StmtLocal { attrs, local })
+}
+
+// What an alternative of a statement is.
+fn as_stmt<'t, 'a>(tree: &'t Tree<'a>) -> Option<Stmt<'t, 'a>>
+    ensures { MatchOption result (IsShaped tree.now statement → ⊥) (λ s. IsAlternative tree.now s) }
+{
+    let Some(which) = take::chosen5(tree) else {
+        return None;
+    };
+    match which {
+        Choice5::First(item) => Some(Stmt::Item(item)),
+        Choice5::Second(inner) => match as_macro(inner) {
+            Some(found) => Some(Stmt::Macro(found)),
+            None => None,
+        },
+        Choice5::Third(inner) => match as_local(inner) {
+            Some(found) => Some(Stmt::Local(found)),
+            None => None,
+        },
+        Choice5::Fourth(item) => Some(Stmt::Item(item)),
+        Choice5::Fifth(inner) => match as_expression(inner) {
+            Some(found) => Some(Stmt::Expr(found)),
+            None => None,
+        },
+    }
+}
+
+impl<'t, 'a> Stmt<'t, 'a> {
+    /// What a tree is, if it is that.
+    #[tactic(auto, unfolding(syn_grammar::specs::Table::table))]
+    pub fn of(tree: &'t Tree<'a>) -> Option<Stmt<'t, 'a>>
+        ensures { MatchOption result (IsShaped tree.now (g.ref k.AStatement) → ⊥) (λ s. IsStmt tree.now s) }
+    {
+        let Some((Kind::AStatement, inner)) = take::node(tree) else {
+            return None;
+        };
+        as_stmt(inner)
+    }
+}
