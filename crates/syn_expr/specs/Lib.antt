@@ -7,5 +7,6 @@ pub mod ExprPrefix
 pub mod ExprOps
 pub mod ExprInfix
 pub mod ExprJumps
+pub mod ExprWhole
 pub mod Statements
 pub mod Judged

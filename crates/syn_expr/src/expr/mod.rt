@@ -9,3 +9,4 @@ pub mod ops;
 pub mod parts;
 pub mod postfix;
 pub mod prefix;
+pub mod whole;
