@@ -1,11 +1,13 @@
 //! Whether two trees of what was read are one: the same tree of the written grammar, wherever their tokens stand.
 //!
 //! - `tree`: trees compared.
+//! - `laws`: what holds of that.
 //! - `rest` (private): what is left to be compared, once what two trees are made of has been looked at.
 //! - `leaf` (private): kinds, names, words and tokens compared.
 //! - `number` (private): kinds by their numbers.
 #![tactic(auto)]
 
+pub mod laws;
 mod leaf;
 mod number;
 mod rest;
