@@ -1,5 +1,9 @@
 //! The types of expressions, statements and blocks: what was read as a tree, one layer at a time, as structs whose
 //! fields are its parts.
+//!
+//! - `expr`: forms of expressions; `expr::whole`: which of them an expression is.
+//! - `blocks`: blocks, files and expressions that hold other ones in delimiters.
+//! - `stmt`: statements.
 #![tactic(auto)]
 
 pub mod blocks;
