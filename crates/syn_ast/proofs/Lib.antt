@@ -6,3 +6,4 @@ pub mod Chosen
 pub mod Judged
 pub mod Lists
 pub mod PatForms
+pub mod Absent

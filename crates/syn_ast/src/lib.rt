@@ -2,7 +2,7 @@
 //! are those that other forms have in common; `syn_expr`, `syn_data` and `syn_item` have the rest.
 //!
 //! - `leaf`: marks, lifetimes and delimiters; `list`, `iter`: lists, and their elements one by one.
-//! - `take`: what a tree is made of, as the other modules ask for it; `sub`, `name`: what stands in several types.
+//! - `take`: what a tree is made of, as the other modules ask for it; `sub`, `name`, `missing`: what stands in several types.
 //! - `types`, `bounds`: types.
 //! - `paths`: paths, members and macros.
 //! - `generics`: generics and where clauses.
@@ -19,6 +19,7 @@ pub mod kept;
 pub mod laws;
 pub mod leaf;
 pub mod list;
+pub mod missing;
 pub mod name;
 pub mod pat;
 pub mod paths;

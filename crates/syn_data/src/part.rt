@@ -15,7 +15,7 @@ ghost use Rattle.syn_grammar.specs.Tree.{Tree as GivenTree};
 use gram_table::part::Part;
 use gram_tree::tree::{Form, Tree};
 use rust_leaf::ident::Ident;
-use syn_ast::expr::forms;
+use syn_ast::missing::nothing;
 use syn_ast::take;
 
 /// A name.
@@ -64,12 +64,12 @@ pub fn dropped<'t, 'a>(tree: &'t Tree<'a>) -> Option<&'t Tree<'a>>
 }
 
 /// Whether nothing stands there, where else the entry would refuse.
-#[tactic(auto, using(syn_ast::proofs::ExprForms::never_or))]
+#[tactic(auto, using(syn_ast::proofs::Absent::never_or))]
 pub fn is_missing(tree: &Tree<'_>) -> bool
     ensures { cond result (tree.now ≡ t.Second t.Nil) ((test : List Token → Bool)
         → IsShaped tree.now (g.alt test g.never g.nothing) → ⊥) }
 {
-    forms::nothing(tree)
+    nothing(tree)
 }
 
 /// A visibility, by its name as a part.

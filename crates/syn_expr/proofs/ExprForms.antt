@@ -1,15 +1,11 @@
--- A tree that a form is, where it is none of an expression's; and where nothing is chosen.
-use Rattle.std.specs.Prelude.{◌≡◌, Bool, false, ℕ, zero, suc, List, [], ◌∷◌, Option, Some, None, refl}
-use Rattle.std.proofs.Common.{subst, sym}
-use Rattle.proc_macro2.specs.Token.{Token}
+-- A tree that a form is, where it is none of an expression's.
+use Rattle.std.specs.Prelude.{ℕ, zero, suc, List, [], ◌∷◌, Option, Some, None}
 use Rattle.rust_leaf.specs.declared.punct.Spacing.{Spacing}
 use Rattle.syn_grammar.specs.Kind.{Kind}
-use Rattle.syn_grammar.specs.Gram.{Gram, never, nothing, alt}
 use Rattle.syn_grammar.specs.Tree as t
 use Rattle.syn_grammar.specs.Tree.{Tree}
 use Rattle.gram_tree.specs.declared.tree.Element.{Element}
 use Rattle.gram_tree.specs.Forms.{mark_of, seconds, turns, elements, ending}
-use Rattle.syn_ast.specs.Shape.{IsShaped}
 use Rattle.syn_expr.specs.ExprForms.{IsAlone, IsBack, IsForm, IsFront, IsInfix, IsJump}
 
 -- none of these is a form of an expression
@@ -64,18 +60,3 @@ pub ruleset backs = (first_form, mark_form, turns_form, elements_form, back_form
 pub ruleset infixes = (first_form, mark_form, turns_form, elements_form, infix_form)
 
 pub ruleset jumps = (first_form, mark_form, turns_form, elements_form, jump_form)
-
--- never has no tree
-pub shaped_never : (x : Tree) → IsShaped x never → ⊥
-shaped_never t.Nil h = absurd h
-shaped_never _ h = absurd h
-
--- Where nothing is chosen but nothing, or where nothing is refused, that is what stands there.
-pub never_or : (x : Tree) (test : List Token → Bool) → IsShaped x (alt test never nothing) → x ≡ t.Second t.Nil
-never_or (t.First y) test h = absurd (shaped_never y h)
-never_or (t.Second t.Nil) test h = refl
-never_or _ test h = absurd h
-
-pub missing_none : (x : Tree) → ((test : List Token → Bool) (a : Gram) → IsShaped x (alt test a nothing) → ⊥)
-    → x ≡ t.Second t.Nil → ⊥
-missing_none x h e = h (λ ts. false) never (subst (λ y. IsShaped y (alt (λ ts. false) never nothing)) (sym e) tt)

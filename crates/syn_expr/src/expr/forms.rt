@@ -52,18 +52,6 @@ pub fn back<'t, 'a>(tree: &'t Tree<'a>) -> Option<(&'t Tree<'a>, Kind, &'t Tree<
     }
 }
 
-/// Whether nothing is chosen there, where something might be.
-#[tactic(auto, using(crate::proofs::ExprForms::missing_none))]
-pub fn nothing(tree: &Tree<'_>) -> bool
-    ensures { cond result (tree.now ≡ t.Second t.Nil) (tree.now ≡ t.Second t.Nil → ⊥) }
-{
-    match take::optional(tree) {
-        Some(None) => true,
-        Some(Some(_)) => false,
-        None => false,
-    }
-}
-
 /// Of a form with an operand on either side these, its kind, and its own part.
 #[tactic(auto, using(crate::proofs::ExprForms::infixes))]
 pub fn infix<'t, 'a>(tree: &'t Tree<'a>) -> Option<(&'t Tree<'a>, Kind, &'t Tree<'a>, &'t Tree<'a>)>

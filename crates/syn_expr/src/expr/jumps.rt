@@ -17,6 +17,7 @@ use gram_table::part::Part;
 use gram_tree::tree::Tree;
 use rust_leaf::ident::Ident;
 use syn_ast::leaf::Lifetime;
+use syn_ast::missing::nothing;
 use syn_ast::take;
 
 /// A loop or a block that is left: `break 'a b`.
@@ -47,7 +48,7 @@ fn as_break_label<'a>(tree: &Tree<'a>) -> Option<Option<Lifetime<'a>>>
 }
 
 // One, behind which nothing stands.
-#[tactic(auto, using(crate::proofs::ExprForms::never_or))]
+#[tactic(auto, using(syn_ast::proofs::Absent::never_or))]
 fn whole_break_label<'a>(tree: &Tree<'a>) -> Option<Lifetime<'a>>
     ensures { MatchOption result ((t2 : List Token → Bool) → IsShaped tree.now
         (g.seq (g.called n.the_label g.lifetime) (g.alt t2 g.never g.nothing)) → ⊥)
@@ -59,7 +60,7 @@ fn whole_break_label<'a>(tree: &Tree<'a>) -> Option<Lifetime<'a>>
     let Some((Part::Label, label)) = take::called(label) else {
         return None;
     };
-    if !forms::nothing(behind) {
+    if !nothing(behind) {
         return None;
     }
     take::lifetime(label)

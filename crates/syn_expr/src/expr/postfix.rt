@@ -18,6 +18,7 @@ use gram_tree::tree::Tree;
 use rust_leaf::ident::Ident;
 use syn_ast::leaf::{Delimiters, Mark};
 use syn_ast::list::{Elements, Turns};
+use syn_ast::missing::nothing;
 use syn_ast::take;
 
 /// A dot, and the numbers behind it that end in one.
@@ -309,7 +310,7 @@ pub struct ExprCast<'t, 'a> {
 
 impl<'t, 'a> ExprCast<'t, 'a> {
     /// What a tree is, if it is that.
-    #[tactic(auto, unfolding(syn_grammar::specs::Table::table), using(crate::proofs::ExprForms::never_or))]
+    #[tactic(auto, unfolding(syn_grammar::specs::Table::table), using(syn_ast::proofs::Absent::never_or))]
     pub fn of(tree: &'t Tree<'a>) -> Option<ExprCast<'t, 'a>>
         ensures { MatchOption result (IsBack tree.now k.ExprCast → ⊥) (λ x. tree.now ≡ expr_cast x) }
     {
@@ -325,7 +326,7 @@ impl<'t, 'a> ExprCast<'t, 'a> {
         let Some((Part::Type, ty)) = take::called(ty) else {
             return None;
         };
-        if !forms::nothing(behind) {
+        if !nothing(behind) {
             return None;
         }
         Some(ExprCast { expr, as_token, ty })
