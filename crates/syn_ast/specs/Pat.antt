@@ -1,7 +1,7 @@
 -- The trees that patterns are, by their form.
 use Rattle.std.specs.Prelude.{◌≡◌, ◌⊎◌, Bool, true, false, Option, Some, None}
 use Rattle.syn_ast.specs.Leaves.{list_tree, mark_tree, optional_tree, turns_tree}
-use Rattle.syn_ast.specs.Patterns.{pat_ident, pat_or, pat_range_to, pat_reference, pat_rest, pat_slice, pat_wild}
+use Rattle.syn_ast.specs.Patterns.{pat_ident, pat_or, pat_reference, pat_rest, pat_slice, pat_wild}
 use Rattle.syn_ast.specs.Patterns.{path_behind, range_end, range_limits, signed_lit_tree}
 use Rattle.syn_ast.specs.Shape.{IsAmong, IsShaped}
 use Rattle.syn_ast.specs.declared.leaf.Delimiters.{Delimiters}
