@@ -3,3 +3,4 @@ pub mod ItemFunctions
 pub mod ItemUses
 pub mod ItemModules
 pub mod ItemAliases
+pub mod ItemMacros

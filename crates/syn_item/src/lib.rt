@@ -5,12 +5,14 @@
 //! - `uses`: what use declarations name.
 //! - `modules`: modules and extern blocks.
 //! - `alias`, `constant`: type aliases and constants.
+//! - `macros`: macros as items.
 //! - `part`: what several of these have.
 #![tactic(auto)]
 
 pub mod alias;
 pub mod constant;
 pub mod function;
+pub mod macros;
 pub mod modules;
 pub mod part;
 pub mod uses;
