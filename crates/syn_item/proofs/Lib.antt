@@ -1,1 +1,2 @@
 pub mod ItemPlaces
+pub mod ItemJudged

@@ -5,14 +5,17 @@
 //! - `uses`: what use declarations name.
 //! - `modules`: modules and extern blocks.
 //! - `alias`, `constant`: type aliases and constants.
+//! - `traits`: traits and their aliases.
 //! - `macros`: macros as items.
-//! - `part`: what several of these have.
+//! - `part`, `judged`: what several of these have.
 #![tactic(auto)]
 
 pub mod alias;
 pub mod constant;
 pub mod function;
+pub mod judged;
 pub mod macros;
 pub mod modules;
 pub mod part;
+pub mod traits;
 pub mod uses;
