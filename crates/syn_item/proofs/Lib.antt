@@ -1,2 +1,3 @@
 pub mod ItemPlaces
 pub mod ItemJudged
+pub mod ItemEntries

@@ -5,4 +5,7 @@ pub mod ItemUses
 pub mod ItemModules
 pub mod ItemAliases
 pub mod ItemTraits
+pub mod ItemImpls
 pub mod ItemMacros
+pub mod ItemMembers
+pub mod ItemEntries

@@ -322,6 +322,19 @@ pub(crate) fn as_safety<'a>(tree: &Tree<'a>) -> Option<Safety<'a>>
     }
 }
 
+// Whether it is safe, as an extern block has it.
+pub(crate) fn as_foreign_safety<'a>(tree: &Tree<'a>) -> Option<Safety<'a>>
+    ensures tree_is { MatchOption result ((test : List Token → Bool) (p : List ℕ → Bool) → IsShaped tree.now (g.alt test
+        (g.called n.the_safety (g.word p)) g.nothing) → ⊥) (λ s. tree.now ≡ safety_is s) }
+    ensures which { IfSome result (λ s. IsSafety s) }
+{
+    match part::optional_safety(tree) {
+        Some(Some(word)) => Some(as_unsafe_or_safe(word)),
+        Some(None) => Some(Safety::Default),
+        None => None,
+    }
+}
+
 /// A signature: `const async unsafe extern "C" fn a<T>(b: B) -> C where ..`.
 #[derive(Clone, Copy)]
 pub struct Signature<'t, 'a> {

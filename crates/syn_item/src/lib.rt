@@ -1,20 +1,25 @@
 //! The types of items other than data: what was read as a tree, one layer at a time, as structs whose fields are its
 //! parts.
 //!
+//! - `entry`: items with their attributes and their visibility.
 //! - `function`: functions, with their signatures, parameters and receivers.
 //! - `uses`: what use declarations name.
 //! - `modules`: modules and extern blocks.
 //! - `alias`, `constant`: type aliases and constants.
-//! - `traits`: traits and their aliases.
+//! - `traits`, `impls`: traits, their aliases, and impls.
+//! - `members`: the items of traits, impls and extern blocks, by their form.
 //! - `macros`: macros as items.
 //! - `part`, `judged`: what several of these have.
 #![tactic(auto)]
 
 pub mod alias;
 pub mod constant;
+pub mod entry;
 pub mod function;
+pub mod impls;
 pub mod judged;
 pub mod macros;
+pub mod members;
 pub mod modules;
 pub mod part;
 pub mod traits;

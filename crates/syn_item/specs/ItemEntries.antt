@@ -1,0 +1,63 @@
+-- The trees that items are, with their attributes and their visibility.
+use Rattle.gram_table.specs.Kinds.{kind_of, place_of}
+use Rattle.gram_table.specs.declared.kind.Place.{Place}
+use Rattle.gram_table.specs.declared.kind.Place.TheVariants as places
+use Rattle.rust_leaf.specs.declared.ident.Ident.{Ident}
+use Rattle.std.specs.Prelude.{None, Option, Some}
+use Rattle.syn_ast.specs.Leaves.{optional_tree}
+use Rattle.syn_grammar.specs.Gram.{Gram, Verdict, called, judged, ref, seq}
+use Rattle.syn_grammar.specs.Kind as k
+use Rattle.syn_grammar.specs.Name as n
+use Rattle.syn_grammar.specs.Tree as t
+use Rattle.syn_grammar.specs.Tree.{Tree}
+use Rattle.syn_item.specs.ItemFunctions.{safety_is}
+use Rattle.syn_item.specs.ItemParts.{default_tree}
+use Rattle.syn_item.specs.declared.entry.ForeignItemStatic.{ForeignItemStatic}
+use Rattle.syn_item.specs.declared.entry.ForeignParts.{ForeignParts}
+use Rattle.syn_item.specs.declared.entry.ItemParts.{ItemParts}
+use Rattle.syn_item.specs.declared.entry.OneMacro.{OneMacro}
+use Rattle.syn_item.specs.declared.entry.OneTrait.{OneTrait}
+use Rattle.syn_item.specs.declared.entry.PlacedParts.{PlacedParts}
+use denote.Bor.{Bor}
+
+-- attributes, a visibility, and an item, as they are judged
+abbrev pub entry_of : (Tree → Verdict) → Gram → Gram
+entry_of v a = judged v (seq (ref k.OuterAttributes) (seq (called n.the_visibility (ref k.Visibility))
+    (called n.the_item a)))
+
+-- an item that is kept as it was read, with its attributes and its visibility
+abbrev pub item_parts : ItemParts → Tree
+item_parts x = t.Node (kind_of x.kind) (t.First (t.Pair x.attrs.now (t.Pair (t.Called n.the_visibility x.vis.now)
+    (t.Called n.the_item x.item.now))))
+
+-- default, in a trait or an impl, and nothing elsewhere
+abbrev pub defaultness_tree : Place → Option (Bor Ident) → Tree
+defaultness_tree places.InTrait o = optional_tree default_tree o
+defaultness_tree places.InImpl o = optional_tree default_tree o
+defaultness_tree places.InFile None = t.Nil
+defaultness_tree places.InForeign None = t.Nil
+defaultness_tree places.InFile (Some i) = t.End
+defaultness_tree places.InForeign (Some i) = t.End
+
+-- an item of a trait or an impl that is kept as it was read, or one by itself that could stand there
+abbrev pub placed_parts : PlacedParts → Tree
+placed_parts x = t.First (t.Pair x.attrs.now (t.Pair (t.Called n.the_visibility x.vis.now) (t.Pair
+    (defaultness_tree x.place x.defaultness) (t.Called n.the_item x.item.now))))
+
+-- a trait or an alias of traits by itself
+abbrev pub one_trait : OneTrait → Tree
+one_trait x = t.First (t.Pair x.attrs.now (t.Pair x.vis.now (t.Called n.the_item x.item.now)))
+
+-- a macro by itself
+abbrev pub one_macro : OneMacro → Tree
+one_macro x = t.Node (k.OneMacro (place_of x.place)) (t.Pair x.attrs.now (t.First x.mac.now))
+
+-- a static of an extern block by itself
+abbrev pub foreign_item_static : ForeignItemStatic → Tree
+foreign_item_static x = t.Node k.ForeignItemStatic (t.First (t.Pair x.attrs.now (t.Pair
+    (t.Called n.the_visibility x.vis.now) (t.Pair (safety_is x.safety) (t.Called n.the_item x.item.now)))))
+
+-- an item of an extern block that is kept as it was read, with its attributes and its visibility
+abbrev pub foreign_parts : ForeignParts → Tree
+foreign_parts x = t.Node k.AForeignItem (t.First (t.Pair x.attrs.now (t.Pair
+    (t.Called n.the_visibility x.vis.now) x.item.now)))
