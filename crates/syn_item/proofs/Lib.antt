@@ -1,3 +1,5 @@
 pub mod ItemPlaces
 pub mod ItemJudged
 pub mod ItemEntries
+pub mod ItemKinds
+pub mod ItemKept

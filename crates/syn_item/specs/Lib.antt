@@ -9,3 +9,4 @@ pub mod ItemImpls
 pub mod ItemMacros
 pub mod ItemMembers
 pub mod ItemEntries
+pub mod ItemForms

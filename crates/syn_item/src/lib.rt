@@ -9,6 +9,8 @@
 //! - `traits`, `impls`: traits, their aliases, and impls.
 //! - `members`: the items of traits, impls and extern blocks, by their form.
 //! - `macros`: macros as items.
+//! - `item`: items, by their form.
+//! - `kept`: that what was read is kept as it was read.
 //! - `part`, `judged`: what several of these have.
 #![tactic(auto)]
 
@@ -17,7 +19,9 @@ pub mod constant;
 pub mod entry;
 pub mod function;
 pub mod impls;
+pub mod item;
 pub mod judged;
+pub mod kept;
 pub mod macros;
 pub mod members;
 pub mod modules;
