@@ -1,6 +1,5 @@
 //! Functions: their signatures, parameters and receivers.
 
-ghost use Rattle.gram_table.specs.Kinds.{place_of};
 ghost use Rattle.proc_macro2.specs.Token.{Token};
 ghost use Rattle.std.specs.Prelude.{◌≡◌, Bool, IfSome, List, MatchOption, ℕ};
 ghost use Rattle.syn_ast.specs.Kept.{IsKept};
@@ -308,11 +307,10 @@ fn as_unsafe_or_safe<'a>(word: &'a Ident) -> Safety<'a>
     }
 }
 
-// Whether it is safe, as the place has it.
-#[tactic(auto, using(crate::proofs::ItemPlaces::no_safety))]
-pub(crate) fn as_safety<'a>(tree: &Tree<'a>) -> Option<Safety<'a>>
-    ensures tree_is { MatchOption result ((p : k.Place) → IsShaped tree.now (safety p) → ⊥)
-        (λ s. tree.now ≡ safety_is s) }
+// Whether it is safe, as an extern block has it, where the word may be `safe` too.
+pub(crate) fn as_foreign_safety<'a>(tree: &Tree<'a>) -> Option<Safety<'a>>
+    ensures tree_is { MatchOption result ((test : List Token → Bool) (p : List ℕ → Bool) → IsShaped tree.now (g.alt test
+        (g.called n.the_safety (g.word p)) g.nothing) → ⊥) (λ s. tree.now ≡ safety_is s) }
     ensures which { IfSome result (λ s. IsSafety s) }
 {
     match part::optional_safety(tree) {
@@ -322,15 +320,15 @@ pub(crate) fn as_safety<'a>(tree: &Tree<'a>) -> Option<Safety<'a>>
     }
 }
 
-// Whether it is safe, as an extern block has it.
-pub(crate) fn as_foreign_safety<'a>(tree: &Tree<'a>) -> Option<Safety<'a>>
-    ensures tree_is { MatchOption result ((test : List Token → Bool) (p : List ℕ → Bool) → IsShaped tree.now (g.alt test
-        (g.called n.the_safety (g.word p)) g.nothing) → ⊥) (λ s. tree.now ≡ safety_is s) }
+// Whether it is safe, as the place has it.
+#[tactic(auto, using(crate::proofs::ItemPlaces::no_safety))]
+pub(crate) fn as_safety<'a>(tree: &Tree<'a>) -> Option<Safety<'a>>
+    ensures tree_is { MatchOption result ((p : k.Place) → IsShaped tree.now (safety p) → ⊥)
+        (λ s. tree.now ≡ safety_is s) }
     ensures which { IfSome result (λ s. IsSafety s) }
 {
-    match part::optional_safety(tree) {
-        Some(Some(word)) => Some(as_unsafe_or_safe(word)),
-        Some(None) => Some(Safety::Default),
+    match as_foreign_safety(tree) {
+        Some(found) => Some(found),
         None => None,
     }
 }
