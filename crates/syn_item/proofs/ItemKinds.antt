@@ -9,7 +9,7 @@ use Rattle.syn_grammar.specs.Part.{choice}
 use Rattle.syn_grammar.specs.Lists.{item_form}
 use Rattle.syn_ast.specs.Shape.{IsShaped, IsAmong}
 use Rattle.syn_ast.proofs.Chosen.{choice_is}
-use Rattle.syn_ast.proofs.ExprForms.{shaped_never}
+use Rattle.syn_ast.proofs.Absent.{shaped_never}
 use Rattle.syn_item.specs.ItemForms.{HasNoBody, IsNoOther, MayBeKept}
 
 -- a form of these kinds is not kept

@@ -259,7 +259,7 @@ pub struct OneMacro<'t, 'a> {
 
 impl<'t, 'a> OneMacro<'t, 'a> {
     /// What a tree is, if it is that.
-    #[tactic(auto, using(syn_ast::proofs::ExprForms::shaped_never), unfolding(syn_grammar::specs::Table::table))]
+    #[tactic(auto, using(syn_ast::proofs::Absent::shaped_never), unfolding(syn_grammar::specs::Table::table))]
     pub fn of(tree: &'t Tree<'a>) -> Option<OneMacro<'t, 'a>>
         ensures { MatchOption result ((p : k.Place) → IsShaped tree.now (g.ref (k.OneMacro p)) → ⊥)
             (λ x. tree.now ≡ one_macro x) }

@@ -89,7 +89,7 @@ pub type ImplItem<'t, 'a> = AssociatedItem<'t, 'a>;
 
 impl<'t, 'a> AssociatedItem<'t, 'a> {
     // One that is kept as it was read, as it was chosen.
-    #[tactic(auto, using(syn_ast::proofs::ExprForms::shaped_never))]
+    #[tactic(auto, using(syn_ast::proofs::Absent::shaped_never))]
     fn chosen(tree: &'t Tree<'a>) -> Option<AssociatedItem<'t, 'a>>
         ensures { MatchOption result ((s u v w : List Token → Bool) (a b c d : g.Gram) → IsShaped tree.now (g.alt s a
             (g.alt u b (g.alt v c (g.alt w d g.never)))) → ⊥)
@@ -220,7 +220,7 @@ pub struct ForeignItem<'t, 'a> {
 
 impl<'t, 'a> ForeignItem<'t, 'a> {
     // One that is kept as it was read, as it was chosen.
-    #[tactic(auto, using(syn_ast::proofs::ExprForms::shaped_never))]
+    #[tactic(auto, using(syn_ast::proofs::Absent::shaped_never))]
     fn chosen(tree: &'t Tree<'a>) -> Option<ForeignItem<'t, 'a>>
         ensures { MatchOption result ((s u v w : List Token → Bool) (a b c d : g.Gram) → IsShaped tree.now (g.alt s
             (g.called n.the_item a) (g.alt u b (g.alt v (g.called n.the_item c) (g.alt w (g.called n.the_item d)
