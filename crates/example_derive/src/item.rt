@@ -1,10 +1,14 @@
 //! What an impl for an item needs of it.
 
-use crate::walk::{behind, elements, members, node, pair, part};
 use anyhow::{Result, anyhow};
 use proc_macro2::Ident;
 use std::alloc::Global;
-use syn::{Form, Kind, Part, Tree};
+use syn::Tree;
+use syn_ast::generics::{GenericParam, GenericParams, Generics};
+use syn_ast::list::Elements;
+use syn_data::data::{Fields, Variant};
+use syn_data::derive::{Data, DeriveInput};
+use syn_data::members::Member;
 
 /// A struct, a union or an enum, by its parts, which are lent.
 #[derive(Drop)]
@@ -12,21 +16,13 @@ pub struct Item<'t, 'a> {
     /// Its name.
     pub name: &'a Ident,
     /// Its generic parameters.
-    pub parameters: Vec<&'t Tree<'a>>,
+    pub parameters: Vec<GenericParam<'t, 'a>>,
     /// Its where clause, or no token.
     pub clause: &'t Tree<'a>,
     /// The name of the list: `FIELDS`, or of an enum `VARIANTS`.
     pub list: &'static str,
     /// The names of its fields, or of its variants.
     pub members: Vec<String>,
-}
-
-/// The identifier that a tree is.
-pub fn ident<'a>(tree: &Tree<'a>) -> Result<&'a Ident> {
-    match &tree.choice().form {
-        Form::Word(ident) => Ok(*ident),
-        _ => Err(anyhow!("no identifier")),
-    }
 }
 
 // A name as a text, without `r#`.
@@ -38,84 +34,54 @@ fn plain_name(alloc: Global, name: &Ident) -> Result<String> {
     }
 }
 
-// The names of fields or of variants, each of which stands behind attributes and a visibility.
-fn names(alloc: Global, members: &[&Tree]) -> Result<Vec<String>> {
+// The names of fields: of unnamed ones their numbers.
+fn fields(alloc: Global, fields: &Fields) -> Result<Vec<String>> {
     let mut names = Vec::new(alloc);
-    for member in members {
-        let (_, inside) = node(member)?;
-        names.push(plain_name(alloc, ident(part(inside, 2)?)?)?)?;
+    for member in fields.members(alloc)?.as_slice() {
+        match member {
+            Member::Named(name) => names.push(plain_name(alloc, name.word())?)?,
+            Member::Unnamed(index) => names.push(format!(in alloc; "{index}")?)?,
+        }
     }
     Ok(names)
 }
 
-// So many numbers, from 0.
-fn numbers(alloc: Global, count: usize) -> Result<Vec<String>> {
-    let mut numbers = Vec::new(alloc);
-    for index in 0..count {
-        numbers.push(format!(in alloc; "{index}")?)?;
+// The names of variants.
+fn variants(alloc: Global, variants: &Elements) -> Result<Vec<String>> {
+    let mut names = Vec::new(alloc);
+    for variant in variants.iter() {
+        let variant = Variant::of(variant).ok_or(anyhow!("no variant"))?;
+        names.push(plain_name(alloc, variant.ident)?)?;
     }
-    Ok(numbers)
-}
-
-// The names of the fields that a tree is: of unnamed ones their numbers, of what is none no name.
-fn fields(alloc: Global, tree: &Tree) -> Result<Vec<String>> {
-    match tree.node() {
-        Some((Kind::NamedFields, inside)) => names(alloc, members(alloc, inside)?.as_slice()),
-        Some((Kind::UnnamedFields, inside)) => numbers(alloc, members(alloc, inside)?.len()),
-        _ => Ok(Vec::new(alloc)),
-    }
-}
-
-// The names of a struct's fields, which stand before its where clause or behind it.
-fn struct_fields(alloc: Global, inside: &Tree) -> Result<Vec<String>> {
-    let (front, back) = pair(behind(inside, 3)?.choice())?;
-    match front.node() {
-        Some(_) => fields(alloc, front),
-        None => fields(alloc, back.choice()),
-    }
+    Ok(names)
 }
 
 // The generic parameters of an item.
-fn parameters<'t, 'a>(alloc: Global, inside: &'t Tree<'a>) -> Result<Vec<&'t Tree<'a>>> {
-    let generics = inside.the(Part::Generics).ok_or(anyhow!("no generics"))?;
-    match node(generics)?.1.the(Part::Parameters) {
-        Some(parameters) => elements(alloc, node(parameters)?.1),
-        None => Ok(Vec::new(alloc)),
+fn parameters<'t, 'a>(alloc: Global, generics: &'t Tree<'a>) -> Result<Vec<GenericParam<'t, 'a>>> {
+    let mut parameters = Vec::new(alloc);
+    let generics = Generics::of(generics).ok_or(anyhow!("no generics"))?;
+    if let Some(angled) = generics.params {
+        let params = GenericParams::of(angled.params).ok_or(anyhow!("no parameters"))?;
+        for param in params.params.iter() {
+            parameters.push(GenericParam::of(param).ok_or(anyhow!("no parameter"))?)?;
+        }
     }
-}
-
-// An item, of its inside, with the names in a list of that name.
-fn item_with<'t, 'a>(
-    alloc: Global,
-    inside: &'t Tree<'a>,
-    list: &'static str,
-    members: Vec<String>,
-) -> Result<Item<'t, 'a>> {
-    Ok(Item {
-        name: ident(inside.the(Part::Name).ok_or(anyhow!("no name"))?)?,
-        parameters: parameters(alloc, inside)?,
-        clause: inside.the(Part::Where).ok_or(anyhow!("no where clause"))?,
-        list,
-        members,
-    })
+    Ok(parameters)
 }
 
 /// The item that was read as a `DeriveInput`: it stands behind its attributes and its visibility.
 pub fn item_of<'t, 'a>(alloc: Global, tree: &'t Tree<'a>) -> Result<Item<'t, 'a>> {
-    let (_, input) = node(tree)?;
-    let (kind, inside) = node(behind(input, 2)?.choice())?;
-    match kind {
-        Kind::AStruct => item_with(alloc, inside, "FIELDS", struct_fields(alloc, inside)?),
-        Kind::AUnion => item_with(alloc, inside, "FIELDS", fields(alloc, behind(inside, 4)?)?),
-        Kind::AnEnum => {
-            let variants = members(alloc, behind(inside, 4)?)?;
-            item_with(
-                alloc,
-                inside,
-                "VARIANTS",
-                names(alloc, variants.as_slice())?,
-            )
-        }
-        _ => Err(anyhow!("no struct, union or enum")),
-    }
+    let input = DeriveInput::of(tree).ok_or(anyhow!("no struct, union or enum"))?;
+    let (list, members) = match input.data {
+        Data::Struct(data) => ("FIELDS", fields(alloc, &data.fields)?),
+        Data::Union(data) => ("FIELDS", fields(alloc, &Fields::Named(data.fields))?),
+        Data::Enum(data) => ("VARIANTS", variants(alloc, &data.variants)?),
+    };
+    Ok(Item {
+        name: input.ident,
+        parameters: parameters(alloc, input.generics)?,
+        clause: input.where_clause,
+        list,
+        members,
+    })
 }

@@ -2,11 +2,11 @@
 
 use crate::item::Item;
 use crate::tokens::{put_group, put_ident, put_lifetime, put_mark, put_text, put_tree, put_word};
-use crate::walk::{node, pair, part};
 use anyhow::Result;
 use proc_macro2::{Delimiter, Spacing, TokenStream};
 use std::alloc::Global;
-use syn::{Kind, Part, Tree};
+use syn_ast::generics::GenericParam;
+use syn_ast::leaf::Lifetime;
 
 // How a generic parameter is put.
 #[derive(Clone, Copy)]
@@ -17,42 +17,57 @@ enum Way {
     Named,
 }
 
-// The kind of a generic parameter, and its inside.
-fn parameter<'t, 'a>(tree: &'t Tree<'a>) -> Result<(Kind, &'t Tree<'a>)> {
-    let (_, inside) = node(tree)?;
-    match inside.the(Part::Lifetime) {
-        Some(lifetime) => node(lifetime),
-        None => node(inside.choice()),
+// Puts a lifetime that was read.
+#[tactic(auto, using(proc_macro2::proofs::Marks::known_mark))]
+fn put_lifetime_again(lifetime: Lifetime, out: &mut TokenStream) -> Result<()> {
+    put_mark('\'', Spacing::Joint, out)?;
+    put_ident(lifetime.ident, out)
+}
+
+// Puts a generic parameter with its attributes and its bounds, and without its default.
+#[tactic(auto, using(proc_macro2::proofs::Marks::known_mark))]
+fn put_declared(parameter: &GenericParam, out: &mut TokenStream) -> Result<()> {
+    match parameter {
+        GenericParam::Lifetime(param) => {
+            put_tree(param.attrs, out)?;
+            put_lifetime_again(param.lifetime, out)?;
+            put_tree(param.colon, out)
+        }
+        GenericParam::Type(param) => {
+            put_tree(param.attrs, out)?;
+            put_ident(param.ident, out)?;
+            put_tree(param.colon, out)
+        }
+        GenericParam::Const(param) => {
+            put_tree(param.attrs, out)?;
+            put_ident(param.const_token, out)?;
+            put_ident(param.ident, out)?;
+            put_mark(':', Spacing::Alone, out)?;
+            put_tree(param.ty, out)
+        }
     }
 }
 
-// Puts so many parts that stand one behind the other.
-fn put_parts(tree: &Tree, count: usize, out: &mut TokenStream) -> Result<()> {
-    if count == 0 {
-        return Ok(());
+// Puts the name of a generic parameter.
+fn put_named(parameter: &GenericParam, out: &mut TokenStream) -> Result<()> {
+    match parameter {
+        GenericParam::Lifetime(param) => put_lifetime_again(param.lifetime, out),
+        GenericParam::Type(param) => put_ident(param.ident, out),
+        GenericParam::Const(param) => put_ident(param.ident, out),
     }
-    let (front, back) = pair(tree)?;
-    put_tree(front, out)?;
-    put_parts(back, count - 1, out)
 }
 
 // Puts a generic parameter.
-fn put_parameter(tree: &Tree, way: Way, out: &mut TokenStream) -> Result<()> {
-    let (kind, inside) = parameter(tree)?;
-    match (way, kind) {
-        // attributes, `const`, its name, `:` and its type
-        (Way::Declared, Kind::ConstParam) => put_parts(inside, 5, out),
-        // attributes, its name and its bounds
-        (Way::Declared, Kind::TypeParam) => put_parts(inside, 3, out),
-        (Way::Declared, _) => put_tree(inside, out),
-        (Way::Named, Kind::ConstParam) => put_tree(part(inside, 2)?, out),
-        (Way::Named, _) => put_tree(part(inside, 1)?, out),
+fn put_parameter(parameter: &GenericParam, way: Way, out: &mut TokenStream) -> Result<()> {
+    match way {
+        Way::Declared => put_declared(parameter, out),
+        Way::Named => put_named(parameter, out),
     }
 }
 
 // Puts generic parameters in angle brackets, or nothing where there are none.
 #[tactic(auto, using(proc_macro2::proofs::Marks::known_mark))]
-fn put_parameters(parameters: &[&Tree], way: Way, out: &mut TokenStream) -> Result<()> {
+fn put_parameters(parameters: &[GenericParam], way: Way, out: &mut TokenStream) -> Result<()> {
     if parameters.is_empty() {
         return Ok(());
     }

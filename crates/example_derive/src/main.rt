@@ -3,7 +3,6 @@
 //! built of tokens, and is printed only where it is read back as the same tokens.
 //!
 //! - `item`: what is needed of the item.
-//! - `walk`: its parts, and the elements of its lists.
 //! - `listing`: the impl.
 //! - `tokens`: tokens, put behind others.
 #![tactic(auto)]
@@ -11,7 +10,6 @@
 mod item;
 mod listing;
 mod tokens;
-mod walk;
 
 use crate::item::item_of;
 use crate::listing::impl_of;
