@@ -3,9 +3,8 @@
 use crate::built::built;
 use crate::shape::{printed, put_shape};
 use crate::text::{buffers, stream, streams, texts};
+use crate::written::{behind, written};
 use anyhow::{Result, anyhow};
-use gram_build::build::write_in;
-use gram_piece::print::print;
 use std::alloc::Global;
 use syn::parse::parse_front;
 use syn::{Kind, ParseFault, Position, TokenBuffer, TokenStream, Tree};
@@ -27,21 +26,6 @@ struct Reading {
     shape: String,
     as_read: String,
     as_built: String,
-}
-
-// The print of a form in a position.
-fn written(alloc: Global, position: Position, tree: &Tree<'_>) -> Result<String> {
-    let mut pieces = Vec::new(alloc);
-    write_in(position, tree, &mut pieces)?;
-    Ok(print(alloc, pieces.as_slice())?)
-}
-
-// What stands behind a whole expression: of a condition a block.
-fn behind(position: Position) -> &'static str {
-    match position {
-        Position::InCondition => "{ }",
-        _ => "",
-    }
 }
 
 // The form of an expression.

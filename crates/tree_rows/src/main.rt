@@ -7,6 +7,8 @@
 //!
 //! - `text`: texts, and the tokens that they lend.
 //! - `built`: trees, made of what is read of texts.
+//! - `facts`: what is kept of an operand that is written.
+//! - `written`: the tokens of a tree that was built, with the parentheses that it needs.
 //! - `shape`: what a tree is, up to parentheses.
 //! - `judged`: what is wrong with what is printed of a tree.
 //! - `forms`: the table of forms.
@@ -14,11 +16,13 @@
 #![tactic(auto)]
 
 mod built;
+mod facts;
 mod forms;
 mod judged;
 mod shape;
 mod tables;
 mod text;
+mod written;
 
 use crate::judged::{Finding, judged};
 use anyhow::{Result, anyhow};

@@ -1,8 +1,11 @@
 //! Texts, and the tokens that they lend.
 
 use anyhow::{Result, anyhow};
+use gram_look::laws::whole_entries;
+use gram_sight::{form, look};
+use gram_table::op::Look;
 use std::alloc::Global;
-use syn::{SourceMap, TokenBuffer, TokenStream};
+use syn::{Kind, Position, SourceMap, TokenBuffer, TokenStream};
 
 /// The texts of an expression, from the outermost on. In the place of what stands between `‹` and `›` each has the word
 /// `hole` with the number of the text that stands there.
@@ -54,4 +57,20 @@ pub(crate) fn buffers<'a>(
         all.push(TokenBuffer::new2(alloc, stream, 1)?)?;
     }
     Ok(all)
+}
+
+/// Whether a form of the kind has an operand behind it, where this text follows it.
+pub(crate) fn has_right(alloc: Global, position: Position, kind: Kind, text: &str) -> Result<bool> {
+    let stream = stream(alloc, text)?;
+    let buffer = TokenBuffer::new2(alloc, &stream, 1)?;
+    whole_entries();
+    Ok(form::has_right(position, kind, buffer.entries()))
+}
+
+/// Whether a text begins with that.
+pub(crate) fn begins(alloc: Global, wanted: Look, text: &str) -> Result<bool> {
+    let stream = stream(alloc, text)?;
+    let buffer = TokenBuffer::new2(alloc, &stream, 1)?;
+    whole_entries();
+    Ok(look::look(wanted, buffer.entries()))
 }
