@@ -17,11 +17,12 @@ abbrev pub front2 : List Token → List Token
 front2 (a ∷ b ∷ ts) = a ∷ b ∷ []
 front2 ts = ts
 
--- a mark, however it is spaced, and one before another
+-- a mark, however it is spaced
 abbrev pub is_mark : ℕ → Token → Bool
 is_mark c (Punct d spacing) = d == c
 is_mark c t = false
 
+-- a mark that touches the one behind it
 abbrev pub is_joint : ℕ → Token → Bool
 is_joint c (Punct d Joint) = d == c
 is_joint c t = false
@@ -31,15 +32,17 @@ abbrev pub is_word : Token → Bool
 is_word (Ident cs) = true
 is_word t = false
 
--- a punctuation of one mark, of two and of three
+-- a punctuation of one mark
 abbrev pub one_mark : ℕ → List Token → Bool
 one_mark c (t ∷ ts) = is_mark c t
 one_mark c [] = false
 
+-- of two marks
 abbrev pub two_marks : ℕ → ℕ → List Token → Bool
 two_marks c d (t ∷ u ∷ ts) = is_joint c t && is_mark d u
 two_marks c d ts = false
 
+-- of three marks
 abbrev pub three_marks : ℕ → ℕ → ℕ → List Token → Bool
 three_marks c d e (t ∷ u ∷ v ∷ ts) = is_joint c t && (is_joint d u && is_mark e v)
 three_marks c d e ts = false
@@ -48,72 +51,80 @@ three_marks c d e ts = false
 abbrev pub lone_mark : ℕ → ℕ → List Token → Bool
 lone_mark c d ts = not (two_marks c d ts) && one_mark c ts
 
--- nothing
+-- no token
 abbrev pub is_end : List Token → Bool
 is_end [] = true
 is_end (t ∷ ts) = false
 
--- the word as, and any other word
+-- the word as
 abbrev pub begins_as : List Token → Bool
 begins_as (Ident cs ∷ ts) = same_text (codes "as") cs
 begins_as ts = false
 
+-- any other word
 abbrev pub begins_word : List Token → Bool
 begins_word (Ident cs ∷ ts) = not (same_text (codes "as") cs)
 begins_word ts = false
 
--- a group, and one in braces
+-- a group
 abbrev pub begins_group : List Token → Bool
 begins_group (Opens d ∷ ts) = true
 begins_group ts = false
 
+-- a group in braces
 abbrev pub begins_brace : List Token → Bool
 begins_brace (Opens d ∷ ts) = same_delimiter d Brace
 begins_brace ts = false
 
+-- a literal
 abbrev pub begins_literal : List Token → Bool
 begins_literal (Literal cs ∷ ts) = true
 begins_literal ts = false
 
+-- a lifetime: ' (39) and a word
 abbrev pub begins_lifetime : List Token → Bool
 begins_lifetime (t ∷ u ∷ ts) = is_joint 39 t && is_word u
 begins_lifetime ts = false
 
--- the operators that begin an operand: .. < :: #, and before these ! - * | &
+-- of the operators that begin an operand, .. (46 46), < (60) but not <= or <<=, :: (58 58) and # (35)
 abbrev pub begins_other : List Token → Bool
 begins_other ts =
     two_marks 46 46 ts || ((not (two_marks 60 61 ts || three_marks 60 60 61 ts) && one_mark 60 ts)
     || (two_marks 58 58 ts || one_mark 35 ts))
 
+-- and ! (33) but not !=, - (45) but not -= or ->, * (42), | (124) and & (38) but not before =
 abbrev pub begins_prefix : List Token → Bool
 begins_prefix ts =
     lone_mark 33 61 ts || ((not (two_marks 45 61 ts || two_marks 45 62 ts) && one_mark 45 ts)
     || (lone_mark 42 61 ts || (lone_mark 124 61 ts || (lone_mark 38 61 ts || begins_other ts))))
 
--- an operand
+-- an operand, as it may stand behind return
 abbrev pub begins_operand : List Token → Bool
 begins_operand ts =
     begins_word ts || (begins_group ts || (begins_literal ts || (begins_lifetime ts || begins_prefix ts)))
 
--- what no half-open range goes on with: <= != -= *= &= |= <<=, and before these , ; ? = + / % ^ >
+-- of what no half-open range goes on with, <= != -= *= &= |= and <<=
 abbrev pub ends_by_two : List Token → Bool
 ends_by_two ts =
     two_marks 60 61 ts || (two_marks 33 61 ts || (two_marks 45 61 ts || (two_marks 42 61 ts || (two_marks 38 61 ts
     || (two_marks 124 61 ts || three_marks 60 60 61 ts)))))
 
+-- and , (44) ; (59) ? (63) = (61) + (43) / (47) % (37) ^ (94) and > (62)
 abbrev pub ends_by_mark : List Token → Bool
 ends_by_mark ts =
     one_mark 44 ts || (one_mark 59 ts || (one_mark 63 ts || (one_mark 61 ts || (one_mark 43 ts || (one_mark 47 ts
     || (one_mark 37 ts || (one_mark 94 ts || (one_mark 62 ts || ends_by_two ts))))))))
 
+-- A half-open range has no end there: at the end, before one of these, before as, and before a . that begins no .. .
 abbrev pub ends_range : List Token → Bool
 ends_range ts = is_end ts || (ends_by_mark ts || (begins_as ts || lone_mark 46 46 ts))
 
--- a brace that ends a condition, and one that does not
+-- a brace that ends a condition
 abbrev pub brace_in : Position → List Token → Bool
 brace_in InCondition ts = begins_brace ts
 brace_in p ts = false
 
+-- a brace, where no condition is
 abbrev pub brace_out : Position → List Token → Bool
 brace_out InCondition ts = false
 brace_out p ts = begins_brace ts

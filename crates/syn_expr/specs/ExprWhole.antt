@@ -15,10 +15,11 @@ use Rattle.syn_grammar.specs.Tree as t
 use Rattle.syn_grammar.specs.Tree.{Tree}
 use Rattle.std.specs.Prelude.{Bool, Option, Some, None, true, false}
 
--- an expression in parentheses and a tuple
+-- an expression in parentheses: (a)
 abbrev pub expr_paren : ExprParen → Tree
 expr_paren x = t.Alone k.ExprParen (t.Group x.paren_token.delimiter (t.Final x.expr.now))
 
+-- a tuple: (a, b)
 abbrev pub expr_tuple : ExprTuple → Tree
 expr_tuple x = t.Alone k.ExprParen (t.Group x.paren_token.delimiter (list_tree x.elems))
 
