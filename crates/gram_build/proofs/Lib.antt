@@ -4,6 +4,5 @@ pub mod Heads
 pub mod Lasts
 pub mod Owns
 pub mod Fielded
-pub mod Numbers
 pub mod Parts
 pub mod Builds

@@ -1,7 +1,6 @@
 pub mod Begins
 pub mod Heads
 pub mod Behind
-pub mod Numbers
 pub mod Facts
 pub mod Ropes
 pub mod Kept

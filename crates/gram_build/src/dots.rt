@@ -5,18 +5,15 @@ ghost use Rattle.binding_laws.specs.Written.{other};
 ghost use Rattle.gram_build.specs.Behind.{is_numbered, last_named};
 ghost use Rattle.gram_build.specs.Facts.{last_of};
 ghost use Rattle.gram_build.specs.Found.{HasNoDot, IsBehind, IsFound};
-ghost use Rattle.gram_build.specs.Numbers.{number_alone};
 ghost use Rattle.gram_build.specs.Kept.{HasOwnHead};
 ghost use Rattle.gram_piece.specs.Pieces.{piece_token};
 ghost use Rattle.gram_table.specs.Kinds.{kind_of};
-ghost use Rattle.gram_table.specs.Parts.{part_of};
 ghost use Rattle.gram_tree.specs.Forms.{turns};
 ghost use Rattle.gram_write.specs.Formed.{IsFormed};
 ghost use Rattle.gram_write.specs.Said.{fields, front_fields, said};
-ghost use Rattle.gram_write.specs.Seen.{called_of, text_of_literal};
-ghost use Rattle.gram_write.specs.Way.{dotted_of, indices_of, is_dotted, last_text, value_text};
+ghost use Rattle.gram_write.specs.Way.{dotted_of, is_dotted};
 ghost use Rattle.rust_leaf.specs.Leaf.{literal_text};
-ghost use Rattle.std.specs.Prelude.{◌++◌, ◌≡◌, IfOk, OnOk, Some, map, option_map, true};
+ghost use Rattle.std.specs.Prelude.{◌++◌, ◌≡◌, IfOk, OnOk, Some, map, true};
 ghost use Rattle.syn_grammar.specs.Kind.{Plain};
 ghost use Rattle.syn_grammar.specs.Name.{the_name};
 ghost use Rattle.syn_grammar.specs.Part.{has};
@@ -30,8 +27,10 @@ use crate::stays::last_of;
 use gram_piece::piece::Piece;
 use gram_table::kind::{Kind, Position};
 use gram_table::part::Part;
-use gram_tree::made;
 use gram_tree::tree::{Form, Tree};
+use gram_write::fields::{put_fields, put_front_fields};
+use gram_write::seen::literal;
+use gram_write::way::{Behind as BehindDot, dotted, is_dotted, last_number};
 use gram_write::write::write;
 use rust_leaf::literal::Literal;
 use std::alloc::{AllocError, Global};
@@ -47,84 +46,13 @@ pub(crate) struct Behind<'a> {
     pub(crate) last: Last,
 }
 
-// The own part of a form behind a dot.
-#[derive(Clone, Copy)]
-struct DotParts<'t, 'a> {
-    dot: &'t Tree<'a>,
-    numbers: &'t Tree<'a>,
-    behind: &'t Tree<'a>,
-}
-
-// The literal that it is.
-#[tactic(auto, using(gram_write::proofs::SeenForms::lone_literals))]
-fn number<'a>(tree: &Tree<'a>) -> Option<&'a Literal>
-    ensures { option_map (λ l. literal_text l.now) result ≡ text_of_literal tree.now }
-{
-    match &tree.form {
-        Form::Literal(literal) => Some(literal),
-        _ => None,
-    }
-}
-
-// A field by its number, which stands behind nothing.
-fn lone_field<'a>(alloc: Global, number: &'a Literal) -> Result<Tree<'a>, AllocError>
-    ensures { IfOk result (λ x. x ≡ number_alone (literal_text number.now)) }
-{
-    let none = made::called(alloc, Part::Indices, made::turns(Vec::new(alloc)))?;
-    let dot = made::pair(alloc, made::nil(), none)?;
-    let value = made::called(alloc, Part::Value, made::literal(number))?;
-    let second = made::second(alloc, value)?;
-    let own = made::pair(alloc, dot, second)?;
-    let nothing = made::alone(alloc, Kind::ExprLit, made::nil())?;
-    let field = made::back(alloc, nothing, Kind::ExprField, own)?;
-    let whole = made::whole(alloc, field)?;
-    made::node(alloc, Kind::Expression(Position::Plain), whole)
-}
-
-// Puts the indices that a number behind a dot writes, each behind a dot: those of a field, which stands behind nothing.
-fn put_number<'a>(number: &'a Literal, out: &mut Vec<Piece<'a>>) -> Result<(), AllocError>
-    ensures { OnOk result (map piece_token out.new.items
-        ≡ map piece_token out.old.items ++ fields (indices (literal_text number.now))) }
-{
-    let alloc = *out.allocator();
-    let field = lone_field(alloc, number)?;
-    write(&field, out)
-}
-
-// Puts those of the numbers in front, which end in a dot, up to what is none.
-#[tactic(auto, using(gram_write::proofs::Indices::fronts))]
-fn put_each<'a>(numbers: &[Tree<'a>], out: &mut Vec<Piece<'a>>) -> Result<(), AllocError>
-    ensures { OnOk result (map piece_token out.new.items
-        ≡ map piece_token out.old.items ++ front_fields (turns numbers.now)) }
-{
-    for first in numbers {
-        let Some(literal) = number(first) else {
-            return Ok(());
-        };
-        put_number(literal, out)?;
-    }
-    Ok(())
-}
-
-// The same of turns.
-#[tactic(auto, using(gram_write::proofs::Indices::fronts))]
-fn put_fronts<'a>(numbers: &Tree<'a>, out: &mut Vec<Piece<'a>>) -> Result<(), AllocError>
-    ensures { OnOk result (map piece_token out.new.items
-        ≡ map piece_token out.old.items ++ front_fields numbers.now) }
-{
-    match &numbers.form {
-        Form::Turns(turns) => put_each(turns.as_slice(), out),
-        _ => Ok(()),
-    }
-}
-
 // Whether the first of some turns is a number.
 #[tactic(auto, using(crate::proofs::Parts::numbered))]
 fn is_first_numbered(numbers: &[Tree<'_>]) -> bool
     ensures { result ≡ is_numbered (turns numbers.now) }
 {
     match numbers.split_first() {
-        Some((first, _)) => number(first).is_some(),
+        Some((first, _)) => literal(first).is_some(),
         None => false,
     }
 }
@@ -136,82 +64,6 @@ fn is_numbered(numbers: &Tree<'_>) -> bool
 {
     match &numbers.form {
         Form::Turns(turns) => is_first_numbered(turns.as_slice()),
-        _ => false,
-    }
-}
-
-// Of a part its name and its inside.
-#[tactic(auto, using(gram_write::proofs::SeenForms::calleds))]
-fn called<'t, 'a>(tree: &'t Tree<'a>) -> Option<(Part, &'t Tree<'a>)>
-    ensures { option_map (λ p. (part_of p.0, p.1.now)) result ≡ called_of tree.now }
-{
-    match &tree.form {
-        Form::Called(part, inner) => Some((*part, inner)),
-        _ => None,
-    }
-}
-
-// What stands in the part of numbers in front.
-fn fronts<'t, 'a>(tree: &'t Tree<'a>) -> Option<&'t Tree<'a>>
-    ensures { option_map (λ x. x.now) result ≡ indices_of tree.now }
-{
-    match called(tree) {
-        Some((part, inner)) => match part {
-            Part::Indices => Some(inner),
-            _ => None,
-        },
-        None => None,
-    }
-}
-
-// The parts of an own part that begins with a dot.
-#[tactic(auto, using(gram_write::proofs::WayForms::dots))]
-fn dotted<'t, 'a>(own: &'t Tree<'a>) -> Option<DotParts<'t, 'a>>
-    ensures { option_map (λ d. (d.dot.now, d.numbers.now, d.behind.now)) result ≡ dotted_of own.now }
-{
-    let (front, behind) = own.pair()?;
-    let (dot, called) = front.pair()?;
-    let numbers = fronts(called)?;
-    Some(DotParts {
-        dot,
-        numbers,
-        behind,
-    })
-}
-
-// The number that a part is, if it is a value.
-fn value<'a>(tree: &Tree<'a>) -> Option<&'a Literal>
-    ensures { option_map (λ l. literal_text l.now) result ≡ value_text tree.now }
-{
-    match called(tree) {
-        Some((part, inner)) => match part {
-            Part::Value => number(inner),
-            _ => None,
-        },
-        None => None,
-    }
-}
-
-// Of a field the number that stands behind its last dot, if it is one.
-#[tactic(auto, using(gram_write::proofs::WayForms::lasts))]
-fn last_number<'a>(kind: Kind, behind: &Tree<'a>) -> Option<&'a Literal>
-    ensures { option_map (λ l. literal_text l.now) result ≡ last_text (kind_of kind) behind.now }
-{
-    match kind {
-        Kind::ExprField => value(behind.last()?),
-        _ => None,
-    }
-}
-
-// Whether the own part of a form of the kind begins with a dot.
-#[tactic(auto, using(gram_write::proofs::WayForms::undotted))]
-fn has_dot(kind: Kind) -> bool
-    ensures { result ≡ is_dotted (kind_of kind) }
-{
-    match kind {
-        Kind::ExprField => true,
-        Kind::ExprMethodCall => true,
-        Kind::ExprAwait => true,
         _ => false,
     }
 }
@@ -251,8 +103,8 @@ fn by_number<'a>(
         ++ fields (indices (literal_text literal.now))) true other b) }
 {
     let mut pieces = Vec::new(alloc);
-    put_fronts(numbers, &mut pieces)?;
-    put_number(literal, &mut pieces)?;
+    put_front_fields(numbers, &mut pieces)?;
+    put_fields(literal, &mut pieces)?;
     Ok(found(pieces, true, Last::Other))
 }
 
@@ -274,7 +126,7 @@ fn by_other<'a>(
     alloc: Global,
     kind: Kind,
     named: bool,
-    parts: DotParts<'_, 'a>,
+    parts: BehindDot<'_, 'a>,
 ) -> Result<Behind<'a>, AllocError>
     ensures head { IfOk result (λ b. HasOwnHead b.own) }
     ensures same { IfOk result (λ b. IsFormed Plain parts.entry.dot.now → IsFormed Plain parts.entry.behind.now
@@ -283,7 +135,7 @@ fn by_other<'a>(
         (is_numbered parts.entry.numbers.now) (last_named (kind_of kind) named) b) }
 {
     let mut pieces = Vec::new(alloc);
-    put_fronts(parts.numbers, &mut pieces)?;
+    put_front_fields(parts.numbers, &mut pieces)?;
     put_last(parts.dot, parts.behind, &mut pieces)?;
     Ok(found(pieces, is_numbered(parts.numbers), last_named(kind, named)))
 }
@@ -293,7 +145,7 @@ fn behind_dot<'a>(
     alloc: Global,
     kind: Kind,
     named: bool,
-    parts: DotParts<'_, 'a>,
+    parts: BehindDot<'_, 'a>,
 ) -> Result<Behind<'a>, AllocError>
     ensures head { IfOk result (λ b. HasOwnHead b.own) }
     ensures same { IfOk result (λ b. (y : GivenTree) → is_dotted (kind_of kind) ≡ true
@@ -334,7 +186,7 @@ pub(crate) fn behind_of<'a>(
     ensures head { IfOk result (λ b. HasOwnHead b.own) }
     ensures same { IfOk result (λ b. IsFormed Plain own.now → IsBehind (kind_of kind) own.now b) }
 {
-    if !has_dot(kind) {
+    if !is_dotted(kind) {
         return plain(alloc, kind, own);
     }
     match dotted(own) {

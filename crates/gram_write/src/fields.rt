@@ -111,7 +111,7 @@ fn text_fields<'a>(text: &str, out: &mut Vec<Piece<'a>>) -> Result<(), AllocErro
 /// # Errors
 ///
 /// Where there is no memory for more tokens.
-pub(crate) fn put_fields<'a>(literal: &Literal, out: &mut Vec<Piece<'a>>) -> Result<(), AllocError>
+pub fn put_fields<'a>(literal: &Literal, out: &mut Vec<Piece<'a>>) -> Result<(), AllocError>
     ensures { OnOk result (map piece_token out.new.items
         ≡ map piece_token out.old.items ++ fields (indices (literal_text literal.now))) }
 {
@@ -124,7 +124,7 @@ pub(crate) fn put_fields<'a>(literal: &Literal, out: &mut Vec<Piece<'a>>) -> Res
 ///
 /// Where there is no memory for more tokens.
 #[tactic(auto, using(crate::proofs::Indices::fronts))]
-pub(crate) fn put_front_fields<'a>(
+pub fn put_front_fields<'a>(
     numbers: &Tree<'_>,
     out: &mut Vec<Piece<'a>>,
 ) -> Result<(), AllocError>

@@ -36,13 +36,13 @@
 pub mod as_read;
 mod begun;
 mod expressed;
-mod fields;
+pub mod fields;
 mod laid;
 pub mod laws;
 mod opened;
 mod operand;
 mod put;
-mod seen;
+pub mod seen;
 mod shell;
 mod turn;
 pub mod way;

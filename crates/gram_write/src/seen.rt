@@ -197,7 +197,7 @@ pub(crate) fn called<'t, 'a>(tree: &'t Tree<'a>) -> Option<(Part, &'t Tree<'a>)>
 
 /// The literal that it is.
 #[tactic(auto, using(crate::proofs::SeenForms::lone_literals))]
-pub(crate) fn literal<'a>(tree: &Tree<'a>) -> Option<&'a Literal>
+pub fn literal<'a>(tree: &Tree<'a>) -> Option<&'a Literal>
     ensures { option_map (λ l. literal_text l.now) result ≡ text_of_literal tree.now }
 {
     match &tree.form {

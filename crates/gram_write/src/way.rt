@@ -182,7 +182,7 @@ pub(crate) fn of_part<'a>(within: Within, part: Part, inner: &Tree<'a>) -> Way<'
 
 /// Whether the own part of a kind begins with a dot, behind which numbers may stand.
 #[tactic(auto, using(crate::proofs::WayForms::undotted))]
-pub(crate) fn is_dotted(kind: Kind) -> bool
+pub fn is_dotted(kind: Kind) -> bool
     ensures { result ≡ is_dotted (kind_of kind) }
 {
     match kind {
@@ -208,7 +208,7 @@ fn indices<'t, 'a>(tree: &'t Tree<'a>) -> Option<&'t Tree<'a>>
 
 /// What stands behind a left operand, where it begins with a dot.
 #[tactic(auto, using(crate::proofs::WayForms::dots))]
-pub(crate) fn dotted<'t, 'a>(own: &'t Tree<'a>) -> Option<Behind<'t, 'a>>
+pub fn dotted<'t, 'a>(own: &'t Tree<'a>) -> Option<Behind<'t, 'a>>
     ensures { option_map (λ d. (d.dot.now, d.numbers.now, d.behind.now)) result ≡ dotted_of own.now }
 {
     let (front, behind) = own.pair()?;
@@ -236,7 +236,7 @@ fn value<'a>(tree: &Tree<'a>) -> Option<&'a Literal>
 
 /// Of a field the number that stands behind the last dot, if it is one.
 #[tactic(auto, using(crate::proofs::WayForms::lasts))]
-pub(crate) fn last_number<'a>(kind: Kind, behind: &Tree<'a>) -> Option<&'a Literal>
+pub fn last_number<'a>(kind: Kind, behind: &Tree<'a>) -> Option<&'a Literal>
     ensures { option_map (λ l. literal_text l.now) result ≡ last_text (kind_of kind) behind.now }
 {
     match kind {

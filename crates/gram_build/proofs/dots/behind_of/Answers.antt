@@ -7,11 +7,11 @@ use Rattle.gram_build.specs.Found.{HasNoDot, IsBehind}
 use Rattle.gram_build.proofs.dots.behind_of.Goals as goal
 
 -- it has no dot by its kind
-pub returns-then-not-has_dot-clause-same : goal.returns-then-not-has_dot-clause-same
-returns-then-not-has_dot-clause-same c =
+pub returns-then-not-is_dotted-clause-same : goal.returns-then-not-is_dotted-clause-same
+returns-then-not-is_dotted-clause-same c =
     IfOk-weaker c.plain.result
     (λ b. HasNoDot (kind_of c.args.kind) c.args.own.now → IsFormed Plain c.args.own.now
     → IsBehind (kind_of c.args.kind) c.args.own.now b)
     (λ b. IsFormed Plain c.args.own.now → IsBehind (kind_of c.args.kind) c.args.own.now b)
-    (λ b h formed. h (inl (sym c.has_dot.ensures ∙ c.if-not-has_dot.true)) formed)
+    (λ b h formed. h (inl (sym c.is_dotted.ensures ∙ c.if-not-is_dotted.true)) formed)
     c.plain.ensures.same
