@@ -1,7 +1,7 @@
 -- What the looks of the written grammar see is seen at the first three tokens.
-use Rattle.std.proofs.Common.{◌≡◌, ℕ, List, [], ◌∷◌, ◌++◌, refl, sym, ap, ◌∙◌}
+use Rattle.std.proofs.Common.{◌≡◌, ℕ, List, [], ◌∷◌, refl, sym, ap, ◌∙◌}
 use Rattle.std.specs.Prelude.{Bool, true, false, not, cond, ◌&&◌, ◌||◌, ◌==◌, Option, Some, None, codes}
-use Rattle.proc_macro2.specs.Token.{Token, Opens, Closes, Ident, Literal, Punct}
+use Rattle.proc_macro2.specs.Token.{Token, Opens, Ident, Literal, Punct}
 use Rattle.proc_macro2.specs.declared.delimiter.Delimiter.TheVariants.{Brace}
 use Rattle.proc_macro2.specs.Groups.{same_delimiter}
 use Rattle.rust_leaf.specs.declared.punct.Spacing.TheVariants.{Alone as Apart, Joint}
@@ -12,11 +12,11 @@ use Rattle.syn_grammar.specs.Name.{the_label}
 use Rattle.syn_grammar.specs.Part.{has}
 use Rattle.syn_grammar.specs.Tree.{Tree}
 use Rattle.syn_grammar.specs.Look.{Look, seen, sees, behind, first_seen, ◌then◌, ◌or◌, no, a_word, a_quoted, a_lifetime}
-use Rattle.syn_grammar.specs.Look.{any_mark, opening, opens, past_marks, the_mark, the_end}
+use Rattle.syn_grammar.specs.Look.{any_mark, opening, the_mark, the_end}
 use Rattle.syn_grammar.specs.Say.{at, marks, brace}
 use Rattle.syn_grammar.specs.Forms.{operand_stands, brace_ends, range_ends, range_is_open, has_right, struct_stands}
-use Rattle.syn_grammar.specs.Parens.{may_lack, takes_braces, takes_what_follows, is_label, follow}
-use Rattle.gram_build.specs.Begins.{front3, is_word, is_mark, is_joint, one_mark, two_marks, three_marks, lone_mark}
+use Rattle.syn_grammar.specs.Parens.{may_lack, takes_what_follows, is_label, follow}
+use Rattle.gram_build.specs.Begins.{front3, one_mark, two_marks, three_marks, lone_mark}
 use Rattle.gram_build.specs.Begins.{is_end, begins_as, begins_word, begins_group, begins_brace, begins_literal}
 use Rattle.gram_build.specs.Begins.{begins_lifetime, begins_prefix, begins_other, begins_operand, ends_by_mark}
 use Rattle.gram_build.specs.Begins.{ends_by_two, ends_range, brace_in, brace_out, takes_next, is_label_next}

@@ -2,11 +2,11 @@
 use Rattle.std.proofs.Common.{◌≡◌, ℕ, List, [], ◌∷◌, refl, sym, ap, ◌∙◌}
 use Rattle.std.specs.Prelude.{zero, suc, Bool, not, ◌&&◌, Option, Some, None}
 use Rattle.proc_macro2.specs.Token.{Token}
-use Rattle.syn_grammar.specs.Kind.{Kind, Position, Plain, Expression}
+use Rattle.syn_grammar.specs.Kind.{Kind, Position, Plain}
 use Rattle.syn_grammar.specs.Name.{the_label}
 use Rattle.syn_grammar.specs.Part.{has}
 use Rattle.rust_leaf.specs.declared.punct.Spacing.{Spacing}
-use Rattle.syn_grammar.specs.Tree.{Tree, First, Alone, Front, Back, Infix, Node, Whole, flat}
+use Rattle.syn_grammar.specs.Tree.{Tree, First, Alone, Front, Back, Infix, flat}
 use Rattle.syn_grammar.specs.Forms.{is_block_like, is_brace_macro, inside}
 use Rattle.syn_grammar.specs.Kept.{kept, held}
 use Rattle.syn_grammar.specs.Normal.{normal, passed, stands_behind}

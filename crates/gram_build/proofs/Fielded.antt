@@ -1,14 +1,14 @@
 -- A form behind its left operand, of which numbers behind dots make several: what is written of it.
 use Rattle.std.proofs.Common.{◌≡◌, ℕ, List, [], ◌∷◌, ◌++◌, refl, sym, ap, ◌∙◌, append_assoc, arith}
 use Rattle.std.proofs.lemmas.List.{append-nil}
-use Rattle.std.specs.Prelude.{Bool, true, false, not, ◌&&◌, ◌||◌, min}
+use Rattle.std.specs.Prelude.{true, false, not, ◌&&◌, ◌||◌, min}
 use Rattle.proc_macro2.specs.Token.{Token}
 use Rattle.syn_grammar.specs.Kind.{Kind, Position, Plain, InCondition, InArm, InStatement, ExprField, ExprMethodCall}
 use Rattle.syn_grammar.specs.Kind.{ExprAwait}
-use Rattle.syn_grammar.specs.Name.{the_indices, the_value, the_name, same_part}
+use Rattle.syn_grammar.specs.Name.{the_indices, the_value, same_part}
 use Rattle.syn_grammar.specs.Words.{indices, before_dot, behind_dots, texts_of}
 use Rattle.syn_grammar.specs.Tree.{Tree, ALiteral, Pair, Second, End, Again, Called, Back, flat}
-use Rattle.syn_grammar.specs.Kept.{index_field, index_fields, fields_in_front, last_fields, dotted_own, dotted, kept}
+use Rattle.syn_grammar.specs.Kept.{index_field, index_fields, fields_in_front, last_fields, dotted, kept}
 use Rattle.syn_grammar.specs.Normal.{normal, place_of}
 use Rattle.syn_grammar.specs.Forms.{level}
 use Rattle.syn_grammar.specs.Parens.{may_lack, takes_what_follows, stands_in, follow}

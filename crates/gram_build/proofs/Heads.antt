@@ -1,5 +1,5 @@
 -- The first tokens of what stands one behind the other.
-use Rattle.std.proofs.Common.{◌≡◌, List, [], ◌∷◌, ◌++◌, refl, sym, ap, ◌∙◌}
+use Rattle.std.proofs.Common.{◌≡◌, List, [], ◌∷◌, ◌++◌, refl, ap, ◌∙◌}
 use Rattle.proc_macro2.specs.Token.{Token}
 use Rattle.gram_build.specs.declared.head.Head.{Head}
 use Rattle.gram_build.specs.declared.head.Head.TheVariants as heads

@@ -6,3 +6,4 @@ pub mod Owns
 pub mod Fielded
 pub mod Parts
 pub mod Builds
+pub mod Fronts

@@ -1,5 +1,5 @@
 -- Own parts in normal form: what is seen in them is seen in what was read.
-use Rattle.std.proofs.Common.{◌≡◌, refl, sym, ap, ◌∙◌}
+use Rattle.std.proofs.Common.{◌≡◌, refl}
 use Rattle.std.specs.Prelude.{Bool}
 use Rattle.syn_grammar.specs.Kind.{Kind, Plain, AMacro, Delimited, ExprIf, ExprMacro}
 use Rattle.syn_grammar.specs.Tree.{Tree, Pair, First, Second, Node, Alone, Back}

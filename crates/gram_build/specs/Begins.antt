@@ -1,6 +1,6 @@
 -- What tokens begin with, as far as the first three of them say.
 use Rattle.std.specs.Prelude.{ℕ, Bool, true, false, not, cond, ◌&&◌, ◌||◌, ◌==◌, List, [], ◌∷◌, codes}
-use Rattle.proc_macro2.specs.Token.{Token, Opens, Closes, Ident, Literal, Punct}
+use Rattle.proc_macro2.specs.Token.{Token, Opens, Ident, Literal, Punct}
 use Rattle.proc_macro2.specs.declared.delimiter.Delimiter.TheVariants.{Brace}
 use Rattle.proc_macro2.specs.Groups.{same_delimiter}
 use Rattle.rust_leaf.specs.declared.punct.Spacing.TheVariants.{Joint}

@@ -6,3 +6,4 @@ pub mod Ropes
 pub mod Kept
 pub mod Found
 pub mod Asked
+pub mod Front

@@ -3,6 +3,7 @@
 ghost use Rattle.binding_laws.specs.Written.{Written, may_left, may_right, paren_unless, write};
 ghost use Rattle.gram_build.specs.Asked.{IsWritten, said_in};
 ghost use Rattle.gram_build.specs.Begins.{front3};
+ghost use Rattle.gram_build.specs.Front.{Keeps};
 ghost use Rattle.gram_build.specs.Heads.{head_tokens};
 ghost use Rattle.gram_build.specs.Kept.{HasHead, kept_of};
 ghost use Rattle.gram_piece.specs.Pieces.{piece_token};
@@ -207,20 +208,25 @@ fn written<'a>(
     }
 }
 
-/// Puts the tokens of the normal form of an expression behind those that are to be written, in a position: the tree is
-/// its form, which may have been built by hand. Its operands get just the parentheses that they need, each decided in
-/// constant time from what is handed down and what is known of the operand; each token is put once.
+/// Puts the tokens of the normal form of an expression behind those that are to be written, in a position. The tree is
+/// its form, which may have been put together by hand, and so may be the operands in it, at every depth: they get just
+/// the parentheses that they need, each decided in constant time from what is handed down and what is known of the
+/// operand; each token is put once. The own parts of the forms, a call's arguments or a block, are written as parts that
+/// were read: of an expression that was put into one of these by hand nothing is promised.
 ///
 /// # Errors
 ///
-/// Where there is no memory for more tokens.
+/// Where there is no memory for more tokens. Those that stood there stand in front then too, perhaps with some of the
+/// expression's behind them.
+#[tactic(auto, using(crate::proofs::Fronts::keeps_same))]
 pub fn write_in<'a>(
     position: Position,
     tree: &Tree<'a>,
     out: &mut Vec<Piece<'a>>,
 ) -> Result<(), AllocError>
-    ensures { OnOk result (HasFormed tree.now → map piece_token out.new.items
+    ensures put { OnOk result (HasFormed tree.now → map piece_token out.new.items
         ≡ map piece_token out.old.items ++ said_in (position_of position) tree.now) }
+    ensures keeps { Keeps out.old.items out.new.items }
 {
     let alloc = *out.allocator();
     let behind = behind_whole(position);

@@ -1,5 +1,6 @@
 //! Tokens that are to be written, in the order in which they are found: joined and put in parentheses without a copy.
 
+ghost use Rattle.gram_build.specs.Front.{Keeps};
 ghost use Rattle.gram_build.specs.Ropes.{rope_tokens};
 ghost use Rattle.gram_piece.specs.Pieces.{piece_token};
 ghost use Rattle.proc_macro2.specs.Token.{Closes, Opens};
@@ -51,14 +52,26 @@ pub(crate) fn enclosed<'a>(alloc: Global, inside: Rope<'a>) -> Result<Rope<'a>, 
     Ok(Rope::Enclosed(within))
 }
 
+// Puts a token behind those that are to be written.
+#[tactic(auto, using(crate::proofs::Pushing::puts, crate::proofs::Fronts::kept))]
+fn put<'a>(piece: Piece<'a>, out: &mut Vec<Piece<'a>>) -> Result<(), AllocError>
+    ensures put { OnOk result (map piece_token out.new.items
+        ≡ map piece_token out.old.items ++ piece_token piece.entry ∷ []) }
+    ensures keeps { Keeps out.old.items out.new.items }
+{
+    out.push(piece)?;
+    Ok(())
+}
+
 // Puts tokens behind those that are to be written.
-#[tactic(auto, using(crate::proofs::Pushing::puts))]
+#[tactic(auto, using(crate::proofs::Pushing::puts, crate::proofs::Fronts::kept))]
 fn put_pieces<'a>(pieces: &[Piece<'a>], out: &mut Vec<Piece<'a>>) -> Result<(), AllocError>
-    ensures { OnOk result (map piece_token out.new.items
+    ensures put { OnOk result (map piece_token out.new.items
         ≡ map piece_token out.old.items ++ map piece_token pieces.now) }
+    ensures keeps { Keeps out.old.items out.new.items }
 {
     for piece in pieces {
-        out.push(*piece)?;
+        put(*piece, out)?;
     }
     Ok(())
 }
@@ -67,11 +80,12 @@ fn put_pieces<'a>(pieces: &[Piece<'a>], out: &mut Vec<Piece<'a>>) -> Result<(), 
 ///
 /// # Errors
 ///
-/// Where there is no memory for more tokens.
-#[tactic(auto, using(crate::proofs::Pushing::puts))]
+/// Where there is no memory for more tokens. Those that stood there stand in front then too.
+#[tactic(auto, using(crate::proofs::Pushing::puts, crate::proofs::Fronts::kept))]
 pub(crate) fn put_rope<'a>(rope: &Rope<'a>, out: &mut Vec<Piece<'a>>) -> Result<(), AllocError>
-    ensures { OnOk result (map piece_token out.new.items
+    ensures put { OnOk result (map piece_token out.new.items
         ≡ map piece_token out.old.items ++ rope_tokens rope.now) }
+    ensures keeps { Keeps out.old.items out.new.items }
 {
     match rope {
         Rope::Own(pieces) => put_pieces(pieces.as_slice(), out),
@@ -80,10 +94,9 @@ pub(crate) fn put_rope<'a>(rope: &Rope<'a>, out: &mut Vec<Piece<'a>>) -> Result<
             put_rope(back, out)
         }
         Rope::Enclosed(inside) => {
-            out.push(Piece::Open(Delimiter::Parenthesis))?;
+            put(Piece::Open(Delimiter::Parenthesis), out)?;
             put_rope(inside, out)?;
-            out.push(Piece::Close(Delimiter::Parenthesis))?;
-            Ok(())
+            put(Piece::Close(Delimiter::Parenthesis), out)
         }
     }
 }

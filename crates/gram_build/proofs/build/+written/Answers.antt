@@ -1,7 +1,6 @@
 -- Each form by its operands, in its place.
-use Rattle.std.proofs.Common.{◌≡◌, List, arith, ap, subst, ◌∙◌, rules}
+use Rattle.std.proofs.Common.{◌≡◌, List, arith, ap, subst, ◌∙◌}
 use Rattle.std.proofs.lemmas.Result.{IfOk-weaker}
-use Rattle.std.specs.Prelude.{◌&&◌, not}
 use Rattle.proc_macro2.specs.Token.{Token}
 use Rattle.syn_grammar.specs.Kind.{Kind, Position}
 use Rattle.syn_grammar.specs.Name.{the_label}
@@ -9,7 +8,7 @@ use Rattle.syn_grammar.specs.Part.{has}
 use Rattle.syn_grammar.specs.Tree.{Tree, Front, Back, Infix, flat}
 use Rattle.syn_grammar.specs.Forms.{inside}
 use Rattle.syn_grammar.specs.Kept.{kept}
-use Rattle.syn_grammar.specs.Parens.{follow, stands_in}
+use Rattle.syn_grammar.specs.Parens.{follow}
 use Rattle.binding_laws.specs.Written.{write, infix_of, paren_unless, may_left, may_right}
 use Rattle.gram_table.specs.Kinds.{kind_of, position_of}
 use Rattle.gram_write.specs.Formed.{HasFormed}

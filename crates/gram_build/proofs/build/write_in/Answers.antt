@@ -1,4 +1,4 @@
-use Rattle.std.proofs.Common.{◌≡◌, ◌∙◌, ◌++◌, ap, map}
+use Rattle.std.proofs.Common.{◌∙◌, ◌++◌, ap, map}
 use Rattle.std.proofs.lemmas.Result.{on_ok_weaker}
 use Rattle.gram_piece.specs.Pieces.{piece_token}
 use Rattle.gram_table.specs.Kinds.{position_of}
@@ -9,11 +9,11 @@ use Rattle.gram_build.proofs.Builds.{whole_said}
 use Rattle.gram_build.proofs.build.write_in.Goals as goal
 
 -- what is put is what is written of the whole expression
-pub returns : goal.returns
-returns c =
+pub returns-clause-put : goal.returns-clause-put
+returns-clause-put c =
     let p : Position = position_of c.args.position in
     on_ok_weaker c.put_rope.result
     (λ e formed. e ∙ ap (λ ts. map piece_token c.args.out.now.items ++ ts)
     (whole_said p c.args.tree.now (kept_of c.in_ok-operand.operand)
     (c.in_ok-operand.ensures.same (stands_behind p) c.behind_whole-behind.ensures formed)))
-    c.put_rope.ensures
+    c.put_rope.ensures.put

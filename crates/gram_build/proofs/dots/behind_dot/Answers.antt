@@ -1,6 +1,5 @@
-use Rattle.std.specs.Prelude.{◌≡◌, ◌++◌, List, Some, true}
+use Rattle.std.specs.Prelude.{◌≡◌, ◌++◌, Some, true}
 use Rattle.std.proofs.lemmas.Result.{IfOk-weaker}
-use Rattle.proc_macro2.specs.Token.{Token}
 use Rattle.rust_leaf.specs.Leaf.{literal_text}
 use Rattle.binding_laws.specs.Written.{other}
 use Rattle.syn_grammar.specs.Kind.{Kind, Plain}

@@ -1,4 +1,4 @@
-use Rattle.std.proofs.Common.{◌≡◌, ◌∙◌, sym, inl}
+use Rattle.std.proofs.Common.{◌∙◌, sym, inl}
 use Rattle.std.proofs.lemmas.Result.{IfOk-weaker}
 use Rattle.syn_grammar.specs.Kind.{Plain}
 use Rattle.gram_table.specs.Kinds.{kind_of}

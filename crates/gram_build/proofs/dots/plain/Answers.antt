@@ -1,4 +1,4 @@
-use Rattle.std.proofs.Common.{◌≡◌, ◌∙◌, List, ap, map}
+use Rattle.std.proofs.Common.{◌∙◌, List, ap, map}
 use Rattle.gram_piece.specs.Pieces.{piece_token}
 use Rattle.gram_piece.specs.declared.piece.Piece.{Piece}
 use Rattle.gram_table.specs.Kinds.{kind_of}

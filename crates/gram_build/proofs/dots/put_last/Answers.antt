@@ -1,4 +1,4 @@
-use Rattle.std.proofs.Common.{◌≡◌, ◌∙◌, ◌++◌, ap, append_assoc, map}
+use Rattle.std.proofs.Common.{◌∙◌, ◌++◌, ap, append_assoc, map}
 use Rattle.std.proofs.lemmas.Result.{on_ok_weaker}
 use Rattle.syn_grammar.specs.Kind.{Plain}
 use Rattle.gram_piece.specs.Pieces.{piece_token}

@@ -1,11 +1,10 @@
-use Rattle.std.proofs.Common.{◌≡◌, ◌∙◌, ◌++◌, ap, sym}
-use Rattle.gram_table.specs.Kinds.{kind_of}
-use Rattle.gram_build.specs.Facts.{facts_of, last_of}
+use Rattle.std.proofs.Common.{◌∙◌, ap, sym}
+use Rattle.gram_build.specs.Facts.{facts_of}
 use Rattle.gram_build.specs.Begins.{front3}
 use Rattle.gram_build.specs.Heads.{head_tokens}
 use Rattle.gram_build.specs.Kept.{own_tokens}
 use Rattle.gram_build.specs.Ropes.{rope_tokens}
-use Rattle.gram_build.proofs.Heads.{fronts_join, fronts_enclosed}
+use Rattle.gram_build.proofs.Heads.{fronts_join}
 use Rattle.gram_build.proofs.operand.back.Goals as goal
 
 pub returns-clause-head : goal.returns-clause-head

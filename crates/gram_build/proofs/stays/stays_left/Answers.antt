@@ -1,4 +1,4 @@
-use Rattle.std.proofs.Common.{◌≡◌, ◌∙◌, ap, sym}
+use Rattle.std.proofs.Common.{◌∙◌, ap, sym}
 use Rattle.std.specs.Prelude.{◌&&◌, ◌||◌, Bool, nat_eq, not}
 use Rattle.binding_laws.specs.Written.{Written, ends_in, fits_left, is_over}
 use Rattle.syn_grammar.specs.Forms.{is_dotted, level}
