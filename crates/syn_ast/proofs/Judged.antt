@@ -17,7 +17,8 @@ kept_alone : (b : Bool) → kept_if b ≡ AsRaw → ⊥
 kept_alone true e = cc
 kept_alone false e = cc
 
-kept_judged : (x : Tree) (p : Tree → Bool) (g : Gram) (rest : List Token)
+-- what is read by a judged entry whose verdict is whether it is kept is kept
+pub kept_judged : (x : Tree) (p : Tree → Bool) (g : Gram) (rest : List Token)
     → Derives x (judged (λ y. kept_if (p y)) g) rest → IsFirst x
 kept_judged (First x) p g rest d = tt
 kept_judged (Verbatim x) p g rest d = absurd (kept_alone (p x) d.0)

@@ -99,28 +99,7 @@ pub elements_end : {A : Type 0} (c : ℕ) (es : List Element) (f : A → Tree) (
 elements_end c [] f o d e = absurd (d refl)
 elements_end c (y ∷ es) f o d e = cc
 
--- none of these is a form by itself
-pub first_alone : (n : ℕ) (x : Tree) (k : Kind) (y : Tree) → seconds n (t.First x) ≡ t.Alone k y → ⊥
-first_alone zero x k y e = cc
-first_alone (suc n) x k y e = cc
-
-pub mark_alone : (cs : List ℕ) (spacing : Spacing) (k : Kind) (y : Tree) → mark_of cs spacing ≡ t.Alone k y → ⊥
-mark_alone [] spacing k y e = cc
-mark_alone (c ∷ cs) spacing k y e = cc
-
-pub turns_alone : (xs : List Tree) (k : Kind) (y : Tree) → turns xs ≡ t.Alone k y → ⊥
-turns_alone [] k y e = cc
-turns_alone (x ∷ xs) k y e = cc
-
-pub elements_alone : {A : Type 0} (c : ℕ) (es : List Element) (f : A → Tree) (o : Option A) (k : Kind) (y : Tree)
-    → elements c es (ending f o) ≡ t.Alone k y → ⊥
-elements_alone c [] f None k y e = cc
-elements_alone c [] f (Some x) k y e = cc
-elements_alone c (x ∷ es) f o k y e = cc
-
 pub ruleset takes = (shaped_first, shaped_mark, shaped_turns, shaped_elements)
-
-pub ruleset forms = (first_alone, mark_alone, turns_alone, elements_alone)
 
 pub ruleset choices = (first_chosen, second_chosen)
 

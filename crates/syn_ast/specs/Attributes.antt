@@ -1,11 +1,12 @@
 -- The trees that the types of attributes are.
 use Rattle.syn_ast.specs.Leaves.{mark_tree, turns_tree, word_tree}
-use Rattle.syn_ast.specs.declared.attributes.InnerAttribute.{InnerAttribute}
+use Rattle.syn_ast.specs.declared.attributes.AttrStyle.{AttrStyle}
+use Rattle.syn_ast.specs.declared.attributes.Attribute.{Attribute}
 use Rattle.syn_ast.specs.declared.attributes.InnerAttributes.{InnerAttributes}
 use Rattle.syn_ast.specs.declared.attributes.Meta.{Meta}
 use Rattle.syn_ast.specs.declared.attributes.MetaPath.{MetaPath}
-use Rattle.syn_ast.specs.declared.attributes.OuterAttribute.{OuterAttribute}
 use Rattle.syn_ast.specs.declared.attributes.OuterAttributes.{OuterAttributes}
+use Rattle.syn_ast.specs.declared.attributes.AttrStyle.TheVariants as styles
 use Rattle.syn_ast.specs.declared.attributes.Meta.TheVariants as metas
 use Rattle.syn_ast.specs.declared.attributes.MetaPath.TheVariants as paths
 use Rattle.syn_ast.specs.declared.leaf.Mark.{Mark}
@@ -22,15 +23,14 @@ outer_attributes x = t.Node k.OuterAttributes (turns_tree x.attrs)
 abbrev pub inner_attributes : InnerAttributes → Tree
 inner_attributes x = t.Node k.InnerAttributes (turns_tree x.attrs)
 
--- an outer attribute: #[a]
-abbrev pub outer_attribute : OuterAttribute → Tree
-outer_attribute x = t.Node k.OuterAttribute (t.Pair (mark_tree x.pound_token)
-    (t.Group x.bracket_token.delimiter x.meta.now))
+-- an attribute by its style: #[a], or with a ! behind the #
+abbrev pub styled : AttrStyle → Mark → Tree → Tree
+styled styles.Outer m x = t.Node k.OuterAttribute (t.Pair (mark_tree m) x)
+styled (styles.Inner n) m x = t.Node k.InnerAttribute (t.Pair (mark_tree m) (t.Pair (mark_tree n) x))
 
--- an inner attribute: #![a]
-abbrev pub inner_attribute : InnerAttribute → Tree
-inner_attribute x = t.Node k.InnerAttribute (t.Pair (mark_tree x.pound_token) (t.Pair (mark_tree x.not_token)
-    (t.Group x.bracket_token.delimiter x.meta.now)))
+-- an attribute: #[a], #![a]
+abbrev pub attribute : Attribute → Tree
+attribute x = styled x.style x.pound_token (t.Group x.bracket_token.delimiter x.meta.now)
 
 -- unsafe, or a path
 abbrev pub meta_path_tree : MetaPath → Tree

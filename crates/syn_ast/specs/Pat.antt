@@ -69,10 +69,11 @@ abbrev pub started : RangeBound → Tree → Tree
 started (bounds.Lit l) x = t.Node k.LiteralPattern (t.Pair (signed_lit_tree l) (t.First x))
 started (bounds.Path p) x = t.Node k.PathPattern (t.Pair p.now (t.Second (t.Second (t.First x))))
 
+-- a range has a start or an end; with neither it is what no tree's form is
 abbrev pub range_inside : Option RangeBound → RangeLimits → Option (Bor Tree) → Tree
 range_inside None l (Some x) = t.Node k.RangeToPattern (t.Pair (range_limits l) x.now)
 range_inside (Some b) l o = started b (t.Node k.RangeEnd (range_end l o))
-range_inside None l None = t.Nil
+range_inside None l None = t.First t.Nil
 
 abbrev pub range_form : PatRange → Tree
 range_form x = range_inside x.start x.limits x.end

@@ -35,8 +35,8 @@ path x = t.Node (k.Path (style_of x.style)) (t.Pair (optional_tree mark_tree x.l
 
 -- a qualified path: <T as A>::B
 abbrev pub qualified_path : QualifiedPath → Tree
-qualified_path x = t.Node (k.QualifiedPath (style_of x.style)) (t.Pair (mark_tree x.lt_token) (t.Pair x.ty.now (t.Pair
-    (optional_tree worded_tree x.as_token) (t.Pair (mark_tree x.gt_token) (t.Pair
+qualified_path x = t.Node (k.QualifiedPath (style_of x.style)) (t.Pair (mark_tree x.qself.lt_token) (t.Pair
+    x.qself.ty.now (t.Pair (optional_tree worded_tree x.qself.as_token) (t.Pair (mark_tree x.qself.gt_token) (t.Pair
     (mark_tree x.colon2_token) x.segments.now)))))
 
 -- arguments in angle brackets: ::<A, B>

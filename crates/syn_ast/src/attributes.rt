@@ -1,9 +1,9 @@
 //! Attributes.
 
 ghost use Rattle.proc_macro2.specs.Token.{Token};
-ghost use Rattle.std.specs.Prelude.{◌≡◌, MatchOption, Bool, List, ℕ, false};
-ghost use Rattle.syn_ast.specs.Attributes.{inner_attribute, inner_attributes, meta, meta_path_tree, meta_value_tree};
-ghost use Rattle.syn_ast.specs.Attributes.{outer_attribute, outer_attributes};
+ghost use Rattle.std.specs.Prelude.{◌≡◌, ◌⊎◌, MatchOption, Bool, List, ℕ, false};
+ghost use Rattle.syn_ast.specs.Attributes.{attribute, inner_attributes, meta, meta_path_tree, meta_value_tree};
+ghost use Rattle.syn_ast.specs.Attributes.{outer_attributes};
 ghost use Rattle.syn_ast.specs.Shape.{IsShaped, may_choose};
 ghost use Rattle.syn_grammar.specs.Gram as g;
 ghost use Rattle.syn_grammar.specs.Kind as k;
@@ -20,12 +20,12 @@ use rust_leaf::ident::Ident;
 /// Outer attributes.
 #[derive(Clone, Copy)]
 pub struct OuterAttributes<'t, 'a> {
-    /// Each.
+    /// Each, as a form of the kind `OuterAttribute`.
     pub attrs: Turns<'t, 'a>,
 }
 
 impl<'t, 'a> OuterAttributes<'t, 'a> {
-    /// What a tree is, if it is that.
+    /// A tree of the kind `OuterAttributes`, as its parts. `None` only of trees that have another shape.
     #[tactic(auto, unfolding(syn_grammar::specs::Table::table))]
     pub fn of(tree: &'t Tree<'a>) -> Option<OuterAttributes<'t, 'a>>
         ensures { MatchOption result (IsShaped tree.now (g.ref k.OuterAttributes) → ⊥)
@@ -44,12 +44,12 @@ impl<'t, 'a> OuterAttributes<'t, 'a> {
 /// Inner attributes.
 #[derive(Clone, Copy)]
 pub struct InnerAttributes<'t, 'a> {
-    /// Each.
+    /// Each, as a form of the kind `InnerAttribute`.
     pub attrs: Turns<'t, 'a>,
 }
 
 impl<'t, 'a> InnerAttributes<'t, 'a> {
-    /// What a tree is, if it is that.
+    /// A tree of the kind `InnerAttributes`, as its parts. `None` only of trees that have another shape.
     #[tactic(auto, unfolding(syn_grammar::specs::Table::table))]
     pub fn of(tree: &'t Tree<'a>) -> Option<InnerAttributes<'t, 'a>>
         ensures { MatchOption result (IsShaped tree.now (g.ref k.InnerAttributes) → ⊥)
@@ -65,69 +65,63 @@ impl<'t, 'a> InnerAttributes<'t, 'a> {
     }
 }
 
-/// An outer attribute: `#[a]`.
+/// Whether an attribute stands before what it is of, or within that.
 #[derive(Clone, Copy)]
-pub struct OuterAttribute<'t, 'a> {
+pub enum AttrStyle {
+    /// Before it: `#[a]`.
+    Outer,
+    /// Within it, with its `!`: `#![a]`.
+    Inner(Mark),
+}
+
+/// An attribute: `#[a]`, `#![a]`.
+#[derive(Clone, Copy)]
+pub struct Attribute<'t, 'a> {
     /// `#`
     pub pound_token: Mark,
+    /// Whether it stands before what it is of.
+    pub style: AttrStyle,
     /// The brackets.
     pub bracket_token: Delimiters,
-    /// What stands in them.
+    /// What stands in them, as a form of the kind `Meta`.
     pub meta: &'t Tree<'a>,
 }
 
-impl<'t, 'a> OuterAttribute<'t, 'a> {
-    /// What a tree is, if it is that.
+impl<'t, 'a> Attribute<'t, 'a> {
+    // One before what it is of.
     #[tactic(auto, unfolding(syn_grammar::specs::Table::table))]
-    pub fn of(tree: &'t Tree<'a>) -> Option<OuterAttribute<'t, 'a>>
-        ensures { MatchOption result (IsShaped tree.now (g.ref k.OuterAttribute) → ⊥)
-            (λ x. tree.now ≡ outer_attribute x) }
+    fn outer(tree: &'t Tree<'a>) -> Option<Attribute<'t, 'a>>
+        ensures { MatchOption result (IsShaped tree.now (g.ref k.OuterAttribute) → ⊥) (λ x. tree.now ≡ attribute x) }
     {
         let Some((Kind::OuterAttribute, inner)) = take::node(tree) else {
             return None;
         };
-        let Some((pound_token, bracket_token)) = take::pair(inner) else {
+        let Some((pound_token, bracketed)) = take::pair(inner) else {
             return None;
         };
         let Some(pound_token) = take::mark(pound_token) else {
             return None;
         };
-        let Some((bracket_token, inside)) = take::group(bracket_token) else {
+        let Some((bracket_token, meta)) = take::group(bracketed) else {
             return None;
         };
-        let meta = inside;
-        Some(OuterAttribute {
+        Some(Attribute {
             pound_token,
+            style: AttrStyle::Outer,
             bracket_token,
             meta,
         })
     }
-}
 
-/// An inner attribute: `#![a]`.
-#[derive(Clone, Copy)]
-pub struct InnerAttribute<'t, 'a> {
-    /// `#`
-    pub pound_token: Mark,
-    /// `!`
-    pub not_token: Mark,
-    /// The brackets.
-    pub bracket_token: Delimiters,
-    /// What stands in them.
-    pub meta: &'t Tree<'a>,
-}
-
-impl<'t, 'a> InnerAttribute<'t, 'a> {
-    /// What a tree is, if it is that.
+    // One within it.
     #[tactic(auto, unfolding(syn_grammar::specs::Table::table))]
-    pub fn of(tree: &'t Tree<'a>) -> Option<InnerAttribute<'t, 'a>>
-        ensures { MatchOption result (IsShaped tree.now (g.ref k.InnerAttribute) → ⊥)
-            (λ x. tree.now ≡ inner_attribute x) }
+    fn inner(tree: &'t Tree<'a>) -> Option<Attribute<'t, 'a>>
+        ensures { MatchOption result (IsShaped tree.now (g.ref k.InnerAttribute) → ⊥) (λ x. tree.now ≡ attribute x) }
     {
         let Some((Kind::InnerAttribute, inner)) = take::node(tree) else {
             return None;
         };
-        let Some((pound_token, not_token, bracket_token)) = take::three(inner) else {
+        let Some((pound_token, not_token, bracketed)) = take::three(inner) else {
             return None;
         };
         let Some(pound_token) = take::mark(pound_token) else {
@@ -136,16 +130,27 @@ impl<'t, 'a> InnerAttribute<'t, 'a> {
         let Some(not_token) = take::mark(not_token) else {
             return None;
         };
-        let Some((bracket_token, inside)) = take::group(bracket_token) else {
+        let Some((bracket_token, meta)) = take::group(bracketed) else {
             return None;
         };
-        let meta = inside;
-        Some(InnerAttribute {
+        Some(Attribute {
             pound_token,
-            not_token,
+            style: AttrStyle::Inner(not_token),
             bracket_token,
             meta,
         })
+    }
+
+    /// A tree of the kind `OuterAttribute` or `InnerAttribute`, as its parts. `None` only of trees that have another
+    /// shape.
+    pub fn of(tree: &'t Tree<'a>) -> Option<Attribute<'t, 'a>>
+        ensures { MatchOption result (IsShaped tree.now (g.ref k.OuterAttribute)
+            ⊎ IsShaped tree.now (g.ref k.InnerAttribute) → ⊥) (λ x. tree.now ≡ attribute x) }
+    {
+        match Attribute::outer(tree) {
+            Some(found) => Some(found),
+            None => Attribute::inner(tree),
+        }
     }
 }
 
@@ -189,7 +194,7 @@ pub enum Meta<'t, 'a> {
     NameValue(MetaNameValue<'t, 'a>),
 }
 
-// What a tree is, if it is that.
+// The path of an attribute: `unsafe`, or another.
 fn as_meta_path<'t, 'a>(tree: &'t Tree<'a>) -> Option<MetaPath<'t, 'a>>
     ensures { MatchOption result ((test : List Token → Bool) (p : List ℕ → Bool) (a : g.Gram) → may_choose a ≡ false
         → IsShaped tree.now (g.alt test (g.word p) a) → ⊥)
@@ -229,7 +234,7 @@ fn as_meta_value<'t, 'a>(tree: &'t Tree<'a>) -> Option<(Mark, &'t Tree<'a>)>
 }
 
 impl<'t, 'a> Meta<'t, 'a> {
-    /// What a tree is, if it is that.
+    /// A tree of the kind `Meta`, as its parts. `None` only of trees that have another shape.
     #[tactic(auto, unfolding(syn_grammar::specs::Table::table))]
     pub fn of(tree: &'t Tree<'a>) -> Option<Meta<'t, 'a>>
         ensures { MatchOption result (IsShaped tree.now (g.ref k.Meta) → ⊥) (λ x. tree.now ≡ meta x) }

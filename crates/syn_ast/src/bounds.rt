@@ -25,7 +25,7 @@ pub enum TypeParamBound<'t, 'a> {
 }
 
 impl<'t, 'a> TypeParamBound<'t, 'a> {
-    /// What a tree is, if it is that.
+    /// A tree of the kind `Bound`, as its parts. `None` only of trees that have another shape.
     #[tactic(auto, unfolding(syn_grammar::specs::Table::table))]
     pub fn of(tree: &'t Tree<'a>) -> Option<TypeParamBound<'t, 'a>>
         ensures { MatchOption result (IsShaped tree.now (g.ref k.Bound) → ⊥) (λ x. tree.now ≡ type_param_bound x) }
@@ -93,7 +93,7 @@ fn as_trait_front<'t, 'a>(tree: &'t Tree<'a>) -> Option<(TraitBoundModifier, Opt
 }
 
 impl<'t, 'a> TraitBound<'t, 'a> {
-    /// What a tree is, if it is that.
+    /// A tree of the kind `TraitPath`, as its parts. `None` only of trees that have another shape.
     #[tactic(auto, unfolding(syn_grammar::specs::Table::table))]
     pub fn of(tree: &'t Tree<'a>) -> Option<TraitBound<'t, 'a>>
         ensures { MatchOption result (IsShaped tree.now (g.ref k.TraitPath) → ⊥) (λ x. tree.now ≡ trait_bound x) }
@@ -123,7 +123,8 @@ pub struct SomeBounds<'t, 'a> {
 }
 
 impl<'t, 'a> SomeBounds<'t, 'a> {
-    /// What a tree is, if it is that. The bounds that were read are kept as they were read.
+    /// A tree of the kind `SomeBounds`, as its parts. `None` only of trees that have another shape, or are
+    /// kept as tokens alone. Bounds that were read are never that.
     #[tactic(auto, unfolding(syn_grammar::specs::Table::table))]
     pub fn of(tree: &'t Tree<'a>) -> Option<SomeBounds<'t, 'a>>
         ensures { MatchOption result (IsKept tree.now → IsShaped tree.now (g.ref k.SomeBounds) → ⊥)

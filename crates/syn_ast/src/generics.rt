@@ -36,7 +36,7 @@ pub struct AngledParams<'t, 'a> {
     pub gt_token: Mark,
 }
 
-/// What a tree is, if it is that.
+/// Parameters in their angle brackets, as their parts. `None` only of trees that have another shape.
 #[tactic(auto, unfolding(syn_grammar::specs::Table::table))]
 pub fn as_angled_params<'t, 'a>(tree: &'t Tree<'a>) -> Option<AngledParams<'t, 'a>>
     ensures { MatchOption result ((c1 : ℕ) (cs2 : List ℕ) (a3 : g.Gram) (c4 : ℕ) (cs5 : List ℕ) → IsShaped tree.now
@@ -62,7 +62,8 @@ pub fn as_angled_params<'t, 'a>(tree: &'t Tree<'a>) -> Option<AngledParams<'t, '
     })
 }
 
-/// What stands there, if anything does.
+/// Parameters in angle brackets, where they stand; `Some(None)` where nothing does. `None` only of trees that
+/// have another shape.
 #[tactic(auto, unfolding(syn_grammar::specs::Table::table))]
 pub fn optional_as_angled_params<'t, 'a>(tree: &'t Tree<'a>) -> Option<Option<AngledParams<'t, 'a>>>
     ensures { MatchOption result ((test : List Token → Bool) (c1 : ℕ) (cs2 : List ℕ) (a3 : g.Gram) (c4 : ℕ)
@@ -88,7 +89,7 @@ pub struct Generics<'t, 'a> {
 }
 
 impl<'t, 'a> Generics<'t, 'a> {
-    /// What a tree is, if it is that.
+    /// A tree of the kind `Generics`, as its parts. `None` only of trees that have another shape.
     #[tactic(auto, unfolding(syn_grammar::specs::Table::table))]
     pub fn of(tree: &'t Tree<'a>) -> Option<Generics<'t, 'a>>
         ensures { MatchOption result (IsShaped tree.now (g.ref k.Generics) → ⊥) (λ x. tree.now ≡ generics x) }
@@ -111,7 +112,7 @@ pub struct ImplGenerics<'t, 'a> {
 }
 
 impl<'t, 'a> ImplGenerics<'t, 'a> {
-    /// What a tree is, if it is that.
+    /// A tree of the kind `ImplGenerics`, as its parts. `None` only of trees that have another shape.
     #[tactic(auto, unfolding(syn_grammar::specs::Table::table))]
     pub fn of(tree: &'t Tree<'a>) -> Option<ImplGenerics<'t, 'a>>
         ensures { MatchOption result (IsShaped tree.now (g.ref k.ImplGenerics) → ⊥) (λ x. tree.now ≡ impl_generics x) }
@@ -134,7 +135,7 @@ pub struct GenericParams<'t, 'a> {
 }
 
 impl<'t, 'a> GenericParams<'t, 'a> {
-    /// What a tree is, if it is that.
+    /// A tree of the kind `GenericParams`, as its parts. `None` only of trees that have another shape.
     #[tactic(auto, unfolding(syn_grammar::specs::Table::table))]
     pub fn of(tree: &'t Tree<'a>) -> Option<GenericParams<'t, 'a>>
         ensures { MatchOption result (IsShaped tree.now (g.ref k.GenericParams) → ⊥)
@@ -162,7 +163,7 @@ pub struct LifetimeParam<'t, 'a> {
 }
 
 impl<'t, 'a> LifetimeParam<'t, 'a> {
-    /// What a tree is, if it is that.
+    /// A tree of the kind `LifetimeParam`, as its parts. `None` only of trees that have another shape.
     #[tactic(auto, unfolding(syn_grammar::specs::Table::table))]
     pub fn of(tree: &'t Tree<'a>) -> Option<LifetimeParam<'t, 'a>>
         ensures { MatchOption result (IsShaped tree.now (g.ref k.LifetimeParam) → ⊥)
@@ -193,7 +194,7 @@ pub struct LifetimeColon<'t, 'a> {
 }
 
 impl<'t, 'a> LifetimeColon<'t, 'a> {
-    /// What a tree is, if it is that.
+    /// A tree of the kind `LifetimeColon`, as its parts. `None` only of trees that have another shape.
     #[tactic(auto, unfolding(syn_grammar::specs::Table::table))]
     pub fn of(tree: &'t Tree<'a>) -> Option<LifetimeColon<'t, 'a>>
         ensures { MatchOption result (IsShaped tree.now (g.ref k.LifetimeColon) → ⊥)
@@ -217,7 +218,7 @@ pub struct BoundsColon<'t, 'a> {
 }
 
 impl<'t, 'a> BoundsColon<'t, 'a> {
-    /// What a tree is, if it is that.
+    /// A tree of the kind `BoundsColon`, as its parts. `None` only of trees that have another shape.
     #[tactic(auto, unfolding(syn_grammar::specs::Table::table))]
     pub fn of(tree: &'t Tree<'a>) -> Option<BoundsColon<'t, 'a>>
         ensures { MatchOption result (IsShaped tree.now (g.ref k.BoundsColon) → ⊥) (λ x. tree.now ≡ bounds_colon x) }
@@ -246,7 +247,7 @@ pub struct TypeParam<'t, 'a> {
 }
 
 impl<'t, 'a> TypeParam<'t, 'a> {
-    /// What a tree is, if it is that.
+    /// A tree of the kind `TypeParam`, as its parts. `None` only of trees that have another shape.
     #[tactic(auto, unfolding(syn_grammar::specs::Table::table))]
     pub fn of(tree: &'t Tree<'a>) -> Option<TypeParam<'t, 'a>>
         ensures { MatchOption result (IsShaped tree.now (g.ref k.TypeParam) → ⊥) (λ x. tree.now ≡ type_param x) }
@@ -280,7 +281,7 @@ pub struct Bounds<'t, 'a> {
 }
 
 impl<'t, 'a> Bounds<'t, 'a> {
-    /// What a tree is, if it is that.
+    /// A tree of the kind `Bounds`, as its parts. `None` only of trees that have another shape.
     #[tactic(auto, unfolding(syn_grammar::specs::Table::table))]
     pub fn of(tree: &'t Tree<'a>) -> Option<Bounds<'t, 'a>>
         ensures { MatchOption result (IsShaped tree.now (g.ref k.Bounds) → ⊥) (λ x. tree.now ≡ bounds x) }
@@ -303,7 +304,7 @@ pub struct Lifetimes<'t, 'a> {
 }
 
 impl<'t, 'a> Lifetimes<'t, 'a> {
-    /// What a tree is, if it is that.
+    /// A tree of the kind `Lifetimes`, as its parts. `None` only of trees that have another shape.
     #[tactic(auto, unfolding(syn_grammar::specs::Table::table))]
     pub fn of(tree: &'t Tree<'a>) -> Option<Lifetimes<'t, 'a>>
         ensures { MatchOption result (IsShaped tree.now (g.ref k.Lifetimes) → ⊥) (λ x. tree.now ≡ lifetimes x) }
@@ -329,7 +330,7 @@ pub enum ConstValue<'t, 'a> {
     Ident(&'a Ident),
 }
 
-// What a tree is, if it is that.
+// The value of a constant, by what it is.
 fn as_const_value<'t, 'a>(tree: &'t Tree<'a>) -> Option<ConstValue<'t, 'a>>
     ensures { MatchOption result ((r s u : List Token → Bool) (o p q : List ℕ → Bool) (a : g.Gram) → IsShaped tree.now
         (g.alt r (g.alt s (g.literal o) (g.word p)) (g.alt u a (g.word q))) → ⊥)
@@ -360,7 +361,7 @@ pub struct ConstDefault<'t, 'a> {
     pub value: ConstValue<'t, 'a>,
 }
 
-// What a tree is, if it is that.
+// `=` and the value of a constant.
 fn as_const_default<'t, 'a>(tree: &'t Tree<'a>) -> Option<ConstDefault<'t, 'a>>
     ensures { MatchOption result ((c : ℕ) (cs : List ℕ) (r s u : List Token → Bool) (o p q : List ℕ → Bool)
         (a : g.Gram) → IsShaped tree.now (g.seq (g.mark c cs) (g.called n.the_value (g.alt r (g.alt s (g.literal o)
@@ -382,7 +383,7 @@ fn as_const_default<'t, 'a>(tree: &'t Tree<'a>) -> Option<ConstDefault<'t, 'a>>
     Some(ConstDefault { eq_token, value })
 }
 
-// What stands there, if anything does.
+// `=` and a value, where one stands.
 fn optional_as_const_default<'t, 'a>(tree: &'t Tree<'a>) -> Option<Option<ConstDefault<'t, 'a>>>
     ensures { MatchOption result ((there : List Token → Bool) (c : ℕ) (cs : List ℕ) (r s u : List Token → Bool)
         (o p q : List ℕ → Bool) (a : g.Gram) → IsShaped tree.now (g.alt there (g.seq (g.mark c cs)
@@ -417,7 +418,7 @@ pub struct ConstParam<'t, 'a> {
 }
 
 impl<'t, 'a> ConstParam<'t, 'a> {
-    /// What a tree is, if it is that.
+    /// A tree of the kind `ConstParam`, as its parts. `None` only of trees that have another shape.
     #[tactic(auto, unfolding(syn_grammar::specs::Table::table))]
     pub fn of(tree: &'t Tree<'a>) -> Option<ConstParam<'t, 'a>>
         ensures { MatchOption result (IsShaped tree.now (g.ref k.ConstParam) → ⊥) (λ x. tree.now ≡ const_param x) }
@@ -474,7 +475,7 @@ impl<'t, 'a> GenericParam<'t, 'a> {
         LifetimeParam::of(inner)
     }
 
-    /// What a tree is, if it is that.
+    /// A tree of the kind `GenericParam`, as its parts. `None` only of trees that have another shape.
     #[tactic(auto, unfolding(syn_grammar::specs::Table::table))]
     pub fn of(tree: &'t Tree<'a>) -> Option<GenericParam<'t, 'a>>
         ensures { MatchOption result (IsShaped tree.now (g.ref k.GenericParam) → ⊥) (λ x. tree.now ≡ generic_param x) }
@@ -512,7 +513,7 @@ pub struct WhereClause<'t, 'a> {
 }
 
 impl<'t, 'a> WhereClause<'t, 'a> {
-    /// What a tree is, if it is that.
+    /// A tree of the kind `WhereClause`, as its parts. `None` only of trees that have another shape.
     #[tactic(auto, unfolding(syn_grammar::specs::Table::table))]
     pub fn of(tree: &'t Tree<'a>) -> Option<WhereClause<'t, 'a>>
         ensures { MatchOption result (IsShaped tree.now (g.ref k.WhereClause) → ⊥) (λ x. tree.now ≡ where_clause x) }
@@ -566,7 +567,7 @@ fn optional_clause<'t, 'a>(tree: &'t Tree<'a>) -> Option<Option<&'t Tree<'a>>>
 }
 
 impl<'t, 'a> OptionalWhere<'t, 'a> {
-    /// What a tree is, if it is that.
+    /// A tree of the kind `Where`, as its parts. `None` only of trees that have another shape.
     #[tactic(auto, unfolding(syn_grammar::specs::Table::table))]
     pub fn of(tree: &'t Tree<'a>) -> Option<OptionalWhere<'t, 'a>>
         ensures { MatchOption result (IsShaped tree.now (g.ref k.Where) → ⊥) (λ x. tree.now ≡ optional_where x) }
@@ -592,7 +593,7 @@ pub struct PredicateLifetime<'t, 'a> {
     pub bounds: &'t Tree<'a>,
 }
 
-// What a tree is, if it is that.
+// What is asked of a lifetime, as its parts.
 fn as_predicate_lifetime<'t, 'a>(tree: &'t Tree<'a>) -> Option<PredicateLifetime<'t, 'a>>
     ensures { MatchOption result ((c : ℕ) (cs : List ℕ) (a : g.Gram) → IsShaped tree.now (g.seq g.lifetime
         (g.seq (g.mark c cs) a)) → ⊥)
@@ -627,7 +628,7 @@ pub struct PredicateType<'t, 'a> {
     pub bounds: &'t Tree<'a>,
 }
 
-// What a tree is, if it is that.
+// What is asked of a type, as its parts.
 fn as_predicate_type<'t, 'a>(tree: &'t Tree<'a>) -> Option<PredicateType<'t, 'a>>
     ensures { MatchOption result ((there : List Token → Bool) (a b d : g.Gram) (c : ℕ) (cs : List ℕ)
         → IsShaped tree.now (g.seq (g.alt there a g.nothing) (g.seq b (g.seq (g.mark c cs) d))) → ⊥)
@@ -660,7 +661,7 @@ pub enum WherePredicate<'t, 'a> {
 }
 
 impl<'t, 'a> WherePredicate<'t, 'a> {
-    /// What a tree is, if it is that.
+    /// A tree of the kind `WherePredicate`, as its parts. `None` only of trees that have another shape.
     #[tactic(auto, unfolding(syn_grammar::specs::Table::table))]
     pub fn of(tree: &'t Tree<'a>) -> Option<WherePredicate<'t, 'a>>
         ensures { MatchOption result (IsShaped tree.now (g.ref k.WherePredicate) → ⊥)

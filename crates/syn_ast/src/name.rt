@@ -62,7 +62,7 @@ pub struct Renamed<'a> {
     pub rename: Name<'a>,
 }
 
-/// What a tree is, if it is that.
+/// `as` and another name, as its parts. `None` only of trees that have another shape.
 #[tactic(auto, unfolding(syn_grammar::specs::Table::table))]
 pub fn as_renamed<'a>(tree: &Tree<'a>) -> Option<Renamed<'a>>
     ensures { MatchOption result ((p1 : List ℕ → Bool) (t2 : List Token → Bool) (p3 : List ℕ → Bool) (q4 : List ℕ
@@ -81,7 +81,8 @@ pub fn as_renamed<'a>(tree: &Tree<'a>) -> Option<Renamed<'a>>
     Some(Renamed { as_token, rename })
 }
 
-/// What stands there, if anything does.
+/// Another name, where one stands; `Some(None)` where nothing does. `None` only of trees that have another
+/// shape.
 #[tactic(auto, unfolding(syn_grammar::specs::Table::table))]
 pub fn optional_as_renamed<'a>(tree: &Tree<'a>) -> Option<Option<Renamed<'a>>>
     ensures { MatchOption result ((test : List Token → Bool) (p1 : List ℕ → Bool) (t2 : List Token → Bool)

@@ -35,12 +35,12 @@ pub struct Path<'t, 'a> {
     pub style: Style,
     /// `::`
     pub leading_colon: Option<Mark>,
-    /// Its segments.
+    /// Its segments, as a form of the kind `Segments`.
     pub segments: &'t Tree<'a>,
 }
 
 impl<'t, 'a> Path<'t, 'a> {
-    /// What a tree is, if it is that.
+    /// A tree of the kind `Path`, as its parts. `None` only of trees that have another shape.
     #[tactic(auto, unfolding(syn_grammar::specs::Table::table))]
     pub fn of(tree: &'t Tree<'a>) -> Option<Path<'t, 'a>>
         ensures { MatchOption result ((p : k.Style) → IsShaped tree.now (g.ref (k.Path p)) → ⊥)
@@ -63,27 +63,34 @@ impl<'t, 'a> Path<'t, 'a> {
     }
 }
 
+/// What qualifies a path: `<T as A>`. The trait's path is its own, so that no count of segments says where it ends.
+#[derive(Clone, Copy)]
+pub struct QSelf<'t, 'a> {
+    /// `<`
+    pub lt_token: Mark,
+    /// The type.
+    pub ty: &'t Tree<'a>,
+    /// `as` and the trait's path, as a form of the kind `Path`.
+    pub as_token: Option<Worded<'t, 'a>>,
+    /// `>`
+    pub gt_token: Mark,
+}
+
 /// A qualified path: `<T as A>::B`.
 #[derive(Clone, Copy)]
 pub struct QualifiedPath<'t, 'a> {
     /// How it is written.
     pub style: Style,
-    /// `<`
-    pub lt_token: Mark,
-    /// The type.
-    pub ty: &'t Tree<'a>,
-    /// `as` and a path.
-    pub as_token: Option<Worded<'t, 'a>>,
-    /// `>`
-    pub gt_token: Mark,
+    /// What qualifies it.
+    pub qself: QSelf<'t, 'a>,
     /// `::`
     pub colon2_token: Mark,
-    /// The segments behind it.
+    /// The segments behind it, as a form of the kind `Segments`.
     pub segments: &'t Tree<'a>,
 }
 
 impl<'t, 'a> QualifiedPath<'t, 'a> {
-    /// What a tree is, if it is that.
+    /// A tree of the kind `QualifiedPath`, as its parts. `None` only of trees that have another shape.
     #[tactic(auto, unfolding(syn_grammar::specs::Table::table))]
     pub fn of(tree: &'t Tree<'a>) -> Option<QualifiedPath<'t, 'a>>
         ensures { MatchOption result ((p : k.Style) → IsShaped tree.now (g.ref (k.QualifiedPath p)) → ⊥)
@@ -108,12 +115,15 @@ impl<'t, 'a> QualifiedPath<'t, 'a> {
         let Some(colon2_token) = take::mark(colon2_token) else {
             return None;
         };
-        Some(QualifiedPath {
-            style,
+        let qself = QSelf {
             lt_token,
             ty,
             as_token,
             gt_token,
+        };
+        Some(QualifiedPath {
+            style,
+            qself,
             colon2_token,
             segments,
         })
@@ -134,7 +144,7 @@ pub struct AngleBracketedGenericArguments<'t, 'a> {
 }
 
 impl<'t, 'a> AngleBracketedGenericArguments<'t, 'a> {
-    /// What a tree is, if it is that.
+    /// A tree of the kind `Arguments`, as its parts. `None` only of trees that have another shape.
     #[tactic(auto, unfolding(syn_grammar::specs::Table::table))]
     pub fn of(tree: &'t Tree<'a>) -> Option<AngleBracketedGenericArguments<'t, 'a>>
         ensures { MatchOption result (IsShaped tree.now (g.ref k.Arguments) → ⊥)
@@ -182,7 +192,8 @@ pub struct ParenthesizedGenericArguments<'t, 'a> {
 }
 
 impl<'t, 'a> ParenthesizedGenericArguments<'t, 'a> {
-    /// What a tree is, if it is that.
+    /// A tree of the kind `ParenthesizedArguments`, as its parts. `None` only of trees that have another
+    /// shape.
     #[tactic(auto, unfolding(syn_grammar::specs::Table::table))]
     pub fn of(tree: &'t Tree<'a>) -> Option<ParenthesizedGenericArguments<'t, 'a>>
         ensures { MatchOption result (IsShaped tree.now (g.ref k.ParenthesizedArguments) → ⊥)
@@ -223,7 +234,7 @@ pub struct Macro<'t, 'a> {
 }
 
 impl<'t, 'a> Macro<'t, 'a> {
-    /// What a tree is, if it is that.
+    /// A tree of the kind `AMacro`, as its parts. `None` only of trees that have another shape.
     #[tactic(auto, unfolding(syn_grammar::specs::Table::table))]
     pub fn of(tree: &'t Tree<'a>) -> Option<Macro<'t, 'a>>
         ensures { MatchOption result (IsShaped tree.now (g.ref k.AMacro) → ⊥) (λ x. tree.now ≡ macro x) }
@@ -371,7 +382,7 @@ impl<'t, 'a> Segments<'t, 'a> {
         })
     }
 
-    /// What a tree is, if it is that.
+    /// A tree of the kind `Segments`, as its parts. `None` only of trees that have another shape.
     #[tactic(auto, unfolding(syn_grammar::specs::Table::table))]
     pub fn of(tree: &'t Tree<'a>) -> Option<Segments<'t, 'a>>
         ensures { MatchOption result ((p : k.Style) → IsShaped tree.now (g.ref (k.Segments p)) → ⊥)
@@ -481,7 +492,7 @@ fn as_named_segment<'t, 'a>(tree: &'t Tree<'a>) -> Option<PathSegment<'t, 'a>>
 }
 
 impl<'t, 'a> OneSegment<'t, 'a> {
-    /// What a tree is, if it is that.
+    /// A tree of the kind `Segment`, as its parts. `None` only of trees that have another shape.
     #[tactic(auto, unfolding(syn_grammar::specs::Table::table))]
     pub fn of(tree: &'t Tree<'a>) -> Option<OneSegment<'t, 'a>>
         ensures { MatchOption result ((p : k.Style) → IsShaped tree.now (g.ref (k.Segment p)) → ⊥)
@@ -578,7 +589,7 @@ fn as_assoc_type<'t, 'a>(tree: &'t Tree<'a>) -> Option<AssocType<'t, 'a>>
 }
 
 impl<'t, 'a> GenericArgument<'t, 'a> {
-    /// What a tree is, if it is that.
+    /// A tree of the kind `AnArgument`, as its parts. `None` only of trees that have another shape.
     #[tactic(auto, unfolding(syn_grammar::specs::Table::table))]
     pub fn of(tree: &'t Tree<'a>) -> Option<GenericArgument<'t, 'a>>
         ensures { MatchOption result (IsShaped tree.now (g.ref k.AnArgument) → ⊥)
@@ -612,12 +623,12 @@ impl<'t, 'a> GenericArgument<'t, 'a> {
 /// A field's index: `0`.
 #[derive(Clone, Copy)]
 pub struct Index<'a> {
-    /// The number.
+    /// The number; behind the dot of an expression perhaps several, with dots between them: `0.1` in `a.0.1`.
     pub index: &'a Literal,
 }
 
 impl<'a> Index<'a> {
-    /// What a tree is, if it is that.
+    /// A tree of the kind `Index`, as its parts. `None` only of trees that have another shape.
     #[tactic(auto, unfolding(syn_grammar::specs::Table::table))]
     pub fn of(tree: &Tree<'a>) -> Option<Index<'a>>
         ensures { MatchOption result (IsShaped tree.now (g.ref k.Index) → ⊥) (λ x. tree.now ≡ index x) }
@@ -642,7 +653,7 @@ pub enum Member<'a> {
 }
 
 impl<'a> Member<'a> {
-    /// What a tree is, if it is that.
+    /// A tree of the kind `Member`, as its parts. `None` only of trees that have another shape.
     #[tactic(auto, unfolding(syn_grammar::specs::Table::table))]
     pub fn of(tree: &Tree<'a>) -> Option<Member<'a>>
         ensures { MatchOption result (IsShaped tree.now (g.ref k.Member) → ⊥) (λ x. tree.now ≡ member x) }
@@ -701,7 +712,7 @@ fn as_raw_group<'a>(tree: &Tree<'a>) -> Option<(Delimiters, &'a [Entry<'a>])>
 }
 
 impl<'a> Delimited<'a> {
-    /// What a tree is, if it is that.
+    /// A tree of the kind `Delimited`, as its parts. `None` only of trees that have another shape.
     #[tactic(auto, unfolding(syn_grammar::specs::Table::table))]
     pub fn of(tree: &Tree<'a>) -> Option<Delimited<'a>>
         ensures { MatchOption result (IsShaped tree.now (g.ref k.Delimited) → ⊥) (λ x. tree.now ≡ delimited x) }

@@ -34,7 +34,7 @@ pub struct PatWild<'a> {
 }
 
 impl<'a> PatWild<'a> {
-    /// What a tree is, if it is that.
+    /// A tree of the kind `WildPattern`, as its parts. `None` only of trees that have another shape.
     #[tactic(auto, unfolding(syn_grammar::specs::Table::table))]
     pub fn of(tree: &Tree<'a>) -> Option<PatWild<'a>>
         ensures { MatchOption result (IsShaped tree.now (g.ref k.WildPattern) → ⊥) (λ x. tree.now ≡ pat_wild x) }
@@ -57,7 +57,7 @@ pub struct PatRest {
 }
 
 impl PatRest {
-    /// What a tree is, if it is that.
+    /// A tree of the kind `RestPattern`, as its parts. `None` only of trees that have another shape.
     #[tactic(auto, unfolding(syn_grammar::specs::Table::table))]
     pub fn of(tree: &Tree<'_>) -> Option<PatRest>
         ensures { MatchOption result (IsShaped tree.now (g.ref k.RestPattern) → ⊥) (λ x. tree.now ≡ pat_rest x) }
@@ -84,7 +84,7 @@ pub struct PatReference<'t, 'a> {
 }
 
 impl<'t, 'a> PatReference<'t, 'a> {
-    /// What a tree is, if it is that.
+    /// A tree of the kind `ReferencePattern`, as its parts. `None` only of trees that have another shape.
     #[tactic(auto, unfolding(syn_grammar::specs::Table::table))]
     pub fn of(tree: &'t Tree<'a>) -> Option<PatReference<'t, 'a>>
         ensures { MatchOption result (IsShaped tree.now (g.ref k.ReferencePattern) → ⊥)
@@ -120,7 +120,7 @@ pub struct PatSlice<'t, 'a> {
 }
 
 impl<'t, 'a> PatSlice<'t, 'a> {
-    /// What a tree is, if it is that.
+    /// A tree of the kind `SlicePattern`, as its parts. `None` only of trees that have another shape.
     #[tactic(auto, unfolding(syn_grammar::specs::Table::table))]
     pub fn of(tree: &'t Tree<'a>) -> Option<PatSlice<'t, 'a>>
         ensures { MatchOption result (IsShaped tree.now (g.ref k.SlicePattern) → ⊥) (λ x. tree.now ≡ pat_slice x) }
@@ -151,7 +151,7 @@ pub struct PatParenthesized<'t, 'a> {
 }
 
 impl<'t, 'a> PatParenthesized<'t, 'a> {
-    /// What a tree is, if it is that.
+    /// A tree of the kind `TuplePattern`, as its parts. `None` only of trees that have another shape.
     #[tactic(auto, unfolding(syn_grammar::specs::Table::table))]
     pub fn of(tree: &'t Tree<'a>) -> Option<PatParenthesized<'t, 'a>>
         ensures { MatchOption result (IsShaped tree.now (g.ref k.TuplePattern) → ⊥)
@@ -182,7 +182,7 @@ pub struct PatOr<'t, 'a> {
 }
 
 impl<'t, 'a> PatOr<'t, 'a> {
-    /// What a tree is, if it is that.
+    /// A tree of the kind `Pattern`, as its parts. `None` only of trees that have another shape.
     #[tactic(auto, unfolding(syn_grammar::specs::Table::table))]
     pub fn of(tree: &'t Tree<'a>) -> Option<PatOr<'t, 'a>>
         ensures { MatchOption result (IsShaped tree.now (g.ref k.Pattern) → ⊥) (λ x. tree.now ≡ pat_or x) }
@@ -217,7 +217,7 @@ pub struct PatSeveral<'t, 'a> {
 }
 
 impl<'t, 'a> PatSeveral<'t, 'a> {
-    /// What a tree is, if it is that.
+    /// A tree of the kind `SeveralPatterns`, as its parts. `None` only of trees that have another shape.
     #[tactic(auto, unfolding(syn_grammar::specs::Table::table))]
     pub fn of(tree: &'t Tree<'a>) -> Option<PatSeveral<'t, 'a>>
         ensures { MatchOption result (IsShaped tree.now (g.ref k.SeveralPatterns) → ⊥) (λ x. tree.now ≡ pat_several x) }
@@ -272,7 +272,7 @@ pub struct PatIdent<'t, 'a> {
 }
 
 impl<'t, 'a> PatIdent<'t, 'a> {
-    /// What a tree is, if it is that.
+    /// A tree of the kind `IdentPattern`, as its parts. `None` only of trees that have another shape.
     #[tactic(auto, unfolding(syn_grammar::specs::Table::table))]
     pub fn of(tree: &'t Tree<'a>) -> Option<PatIdent<'t, 'a>>
         ensures { MatchOption result (IsShaped tree.now (g.ref k.IdentPattern) → ⊥) (λ x. tree.now ≡ pat_ident x) }
@@ -304,12 +304,12 @@ impl<'t, 'a> PatIdent<'t, 'a> {
     }
 }
 
-/// Whether a range has its end.
+/// Whether the end of a range is in it.
 #[derive(Clone, Copy)]
 pub enum RangeLimits {
-    /// `..`: it has not.
+    /// `..`: it is not.
     HalfOpen(Mark),
-    /// `..=`: it has.
+    /// `..=`: it is.
     Closed(Mark),
 }
 
@@ -344,7 +344,7 @@ pub struct PatRangeTo<'t, 'a> {
 }
 
 impl<'t, 'a> PatRangeTo<'t, 'a> {
-    /// What a tree is, if it is that.
+    /// A tree of the kind `RangeToPattern`, as its parts. `None` only of trees that have another shape.
     #[tactic(auto, unfolding(syn_grammar::specs::Table::table))]
     pub fn of(tree: &'t Tree<'a>) -> Option<PatRangeTo<'t, 'a>>
         ensures { MatchOption result (IsShaped tree.now (g.ref k.RangeToPattern) → ⊥)
@@ -405,7 +405,7 @@ fn as_open_end<'t, 'a>(tree: &'t Tree<'a>) -> Option<RangeEnd<'t, 'a>>
 }
 
 impl<'t, 'a> RangeEnd<'t, 'a> {
-    /// What a tree is, if it is that.
+    /// A tree of the kind `RangeEnd`, as its parts. `None` only of trees that have another shape.
     #[tactic(auto, unfolding(syn_grammar::specs::Table::table))]
     pub fn of(tree: &'t Tree<'a>) -> Option<RangeEnd<'t, 'a>>
         ensures { MatchOption result (IsShaped tree.now (g.ref k.RangeEnd) → ⊥)
@@ -451,7 +451,7 @@ fn as_negative<'a>(tree: &Tree<'a>) -> Option<SignedLit<'a>>
     Some(SignedLit::Negative(mark, literal))
 }
 
-// What a tree is, if it is that.
+// A literal, or a number behind `-`.
 fn as_signed_lit<'a>(tree: &Tree<'a>) -> Option<SignedLit<'a>>
     ensures { MatchOption result ((r s : List Token → Bool) (c : ℕ) (cs : List ℕ) (o p q : List ℕ → Bool)
         → IsShaped tree.now (g.alt r (g.seq (g.mark c cs) (g.literal o)) (g.alt s (g.literal p) (g.word q))) → ⊥)
@@ -483,7 +483,7 @@ pub struct LiteralPattern<'t, 'a> {
 }
 
 impl<'t, 'a> LiteralPattern<'t, 'a> {
-    /// What a tree is, if it is that.
+    /// A tree of the kind `LiteralPattern`, as its parts. `None` only of trees that have another shape.
     #[tactic(auto, unfolding(syn_grammar::specs::Table::table))]
     pub fn of(tree: &'t Tree<'a>) -> Option<LiteralPattern<'t, 'a>>
         ensures { MatchOption result (IsShaped tree.now (g.ref k.LiteralPattern) → ⊥)
@@ -515,7 +515,7 @@ pub enum RangeBound<'t, 'a> {
 }
 
 impl<'t, 'a> RangeBound<'t, 'a> {
-    /// What a tree is, if it is that.
+    /// A tree of the kind `RangeBound`, as its parts. `None` only of trees that have another shape.
     #[tactic(auto, unfolding(syn_grammar::specs::Table::table))]
     pub fn of(tree: &'t Tree<'a>) -> Option<RangeBound<'t, 'a>>
         ensures { MatchOption result (IsShaped tree.now (g.ref k.RangeBound) → ⊥) (λ x. tree.now ≡ range_bound x) }
@@ -564,7 +564,7 @@ fn as_tuple_patterns<'t, 'a>(tree: &'t Tree<'a>) -> Option<PathBehind<'t, 'a>>
     Some(PathBehind::Tuple(paren_token, elems))
 }
 
-// What a tree is, if it is that.
+// What stands behind the path of a pattern, by what it is.
 fn as_path_behind<'t, 'a>(tree: &'t Tree<'a>) -> Option<PathBehind<'t, 'a>>
     ensures { MatchOption result ((r s u : List Token → Bool) (d : GivenDelimiter) (e : List Token → Bool) (c : ℕ)
         (a b f : g.Gram) → IsShaped tree.now (g.alt r (g.group d (g.many e c a)) (g.alt s b (g.alt u f g.nothing)))
@@ -596,7 +596,7 @@ pub struct PathPattern<'t, 'a> {
 }
 
 impl<'t, 'a> PathPattern<'t, 'a> {
-    /// What a tree is, if it is that.
+    /// A tree of the kind `PathPattern`, as its parts. `None` only of trees that have another shape.
     #[tactic(auto, unfolding(syn_grammar::specs::Table::table))]
     pub fn of(tree: &'t Tree<'a>) -> Option<PathPattern<'t, 'a>>
         ensures { MatchOption result (IsShaped tree.now (g.ref k.PathPattern) → ⊥) (λ x. tree.now ≡ path_pattern x) }
@@ -624,7 +624,8 @@ pub struct FieldPatterns<'t, 'a> {
 }
 
 impl<'t, 'a> FieldPatterns<'t, 'a> {
-    /// What a tree is, if it is that. The fields that were read are kept as they were read.
+    /// A tree of the kind `FieldPatterns`, as its parts. `None` only of trees that have another shape, or are
+    /// kept as tokens alone. Fields that were read are never that.
     #[tactic(auto, unfolding(syn_grammar::specs::Table::table))]
     pub fn of(tree: &'t Tree<'a>) -> Option<FieldPatterns<'t, 'a>>
         ensures { MatchOption result (IsKept tree.now → IsShaped tree.now (g.ref k.FieldPatterns) → ⊥)
@@ -660,7 +661,7 @@ pub struct MemberPattern<'t, 'a> {
     pub pat: &'t Tree<'a>,
 }
 
-// What a tree is, if it is that.
+// A field with a pattern, as its parts.
 fn as_member_pattern<'t, 'a>(tree: &'t Tree<'a>) -> Option<MemberPattern<'t, 'a>>
     ensures { MatchOption result ((a b : g.Gram) (c : ℕ) (cs : List ℕ) → IsShaped tree.now (g.seq a
         (g.seq (g.mark c cs) b)) → ⊥)
@@ -690,7 +691,7 @@ pub struct Shorthand<'a> {
     pub ident: &'a Ident,
 }
 
-// What a tree is, if it is that.
+// A field by its name alone, as its parts.
 fn as_shorthand<'a>(tree: &Tree<'a>) -> Option<Shorthand<'a>>
     ensures { MatchOption result ((r s : List Token → Bool) (o p q : List ℕ → Bool) → IsShaped tree.now (g.seq
         (g.alt r (g.word o) g.nothing) (g.seq (g.alt s (g.word p) g.nothing) (g.word q))) → ⊥)
@@ -726,7 +727,7 @@ pub enum FieldPattern<'t, 'a> {
     Shorthand(Shorthand<'a>),
 }
 
-// What a tree is, if it is that.
+// What stands for a field, by what it is.
 fn as_field_pattern<'t, 'a>(tree: &'t Tree<'a>) -> Option<FieldPattern<'t, 'a>>
     ensures { MatchOption result ((u v r s : List Token → Bool) (e a b : g.Gram) (c : ℕ) (cs : List ℕ)
         (o p q : List ℕ → Bool) → IsShaped tree.now (g.alt u (g.called n.the_rest e) (g.alt v (g.seq a
@@ -763,7 +764,7 @@ pub struct FieldPat<'t, 'a> {
 }
 
 impl<'t, 'a> FieldPat<'t, 'a> {
-    /// What a tree is, if it is that.
+    /// A tree of the kind `FieldPattern`, as its parts. `None` only of trees that have another shape.
     #[tactic(auto, unfolding(syn_grammar::specs::Table::table))]
     pub fn of(tree: &'t Tree<'a>) -> Option<FieldPat<'t, 'a>>
         ensures { MatchOption result (IsShaped tree.now (g.ref k.FieldPattern) → ⊥) (λ x. tree.now ≡ field_pat x) }

@@ -25,7 +25,7 @@ pub struct Marked<'t, 'a> {
     pub node: &'t Tree<'a>,
 }
 
-/// What a tree is, if it is that.
+/// A part behind a mark, as both. `None` only of trees that have another shape.
 #[tactic(auto, unfolding(syn_grammar::specs::Table::table))]
 pub fn as_marked<'t, 'a>(tree: &'t Tree<'a>) -> Option<Marked<'t, 'a>>
     ensures { MatchOption result ((c1 : ℕ) (cs2 : List ℕ) (a3 : g.Gram) → IsShaped tree.now (g.seq (g.mark c1 cs2) a3)
@@ -40,7 +40,8 @@ pub fn as_marked<'t, 'a>(tree: &'t Tree<'a>) -> Option<Marked<'t, 'a>>
     Some(Marked { mark, node })
 }
 
-/// What stands there, if anything does.
+/// A part behind a mark, where one stands; `Some(None)` where nothing does. `None` only of trees that have
+/// another shape.
 #[tactic(auto, unfolding(syn_grammar::specs::Table::table))]
 pub fn optional_as_marked<'t, 'a>(tree: &'t Tree<'a>) -> Option<Option<Marked<'t, 'a>>>
     ensures { MatchOption result ((test : List Token → Bool) (c1 : ℕ) (cs2 : List ℕ) (a3 : g.Gram) → IsShaped tree.now
@@ -66,7 +67,7 @@ pub struct Worded<'t, 'a> {
     pub node: &'t Tree<'a>,
 }
 
-/// What a tree is, if it is that.
+/// A part behind a keyword, as both. `None` only of trees that have another shape.
 #[tactic(auto, unfolding(syn_grammar::specs::Table::table))]
 pub fn as_worded<'t, 'a>(tree: &'t Tree<'a>) -> Option<Worded<'t, 'a>>
     ensures { MatchOption result ((p1 : List ℕ → Bool) (a2 : g.Gram) → IsShaped tree.now (g.seq (g.word p1) a2) → ⊥)
@@ -81,7 +82,8 @@ pub fn as_worded<'t, 'a>(tree: &'t Tree<'a>) -> Option<Worded<'t, 'a>>
     Some(Worded { word, node })
 }
 
-/// What stands there, if anything does.
+/// A part behind a keyword, where one stands; `Some(None)` where nothing does. `None` only of trees that have
+/// another shape.
 #[tactic(auto, unfolding(syn_grammar::specs::Table::table))]
 pub fn optional_as_worded<'t, 'a>(tree: &'t Tree<'a>) -> Option<Option<Worded<'t, 'a>>>
     ensures { MatchOption result ((test : List Token → Bool) (p1 : List ℕ → Bool) (a2 : g.Gram) → IsShaped tree.now
@@ -107,7 +109,7 @@ pub struct MarkedValue<'t, 'a> {
     pub node: &'t Tree<'a>,
 }
 
-/// What a tree is, if it is that.
+/// A value behind a mark, as both. `None` only of trees that have another shape.
 #[tactic(auto, unfolding(syn_grammar::specs::Table::table))]
 pub fn as_marked_value<'t, 'a>(tree: &'t Tree<'a>) -> Option<MarkedValue<'t, 'a>>
     ensures { MatchOption result ((c1 : ℕ) (cs2 : List ℕ) (a3 : g.Gram) → IsShaped tree.now (g.seq (g.mark c1 cs2)
@@ -125,7 +127,8 @@ pub fn as_marked_value<'t, 'a>(tree: &'t Tree<'a>) -> Option<MarkedValue<'t, 'a>
     Some(MarkedValue { mark, node })
 }
 
-/// What stands there, if anything does.
+/// A value behind a mark, where one stands; `Some(None)` where nothing does. `None` only of trees that have
+/// another shape.
 #[tactic(auto, unfolding(syn_grammar::specs::Table::table))]
 pub fn optional_as_marked_value<'t, 'a>(tree: &'t Tree<'a>) -> Option<Option<MarkedValue<'t, 'a>>>
     ensures { MatchOption result ((test : List Token → Bool) (c1 : ℕ) (cs2 : List ℕ) (a3 : g.Gram) → IsShaped tree.now
@@ -151,7 +154,7 @@ pub struct MarkedType<'t, 'a> {
     pub node: &'t Tree<'a>,
 }
 
-/// What a tree is, if it is that.
+/// A type behind a mark, as both. `None` only of trees that have another shape.
 #[tactic(auto, unfolding(syn_grammar::specs::Table::table))]
 pub fn as_marked_type<'t, 'a>(tree: &'t Tree<'a>) -> Option<MarkedType<'t, 'a>>
     ensures { MatchOption result ((c1 : ℕ) (cs2 : List ℕ) (a3 : g.Gram) → IsShaped tree.now (g.seq (g.mark c1 cs2)
@@ -169,7 +172,8 @@ pub fn as_marked_type<'t, 'a>(tree: &'t Tree<'a>) -> Option<MarkedType<'t, 'a>>
     Some(MarkedType { mark, node })
 }
 
-/// What stands there, if anything does.
+/// A type behind a mark, where one stands; `Some(None)` where nothing does. `None` only of trees that have
+/// another shape.
 #[tactic(auto, unfolding(syn_grammar::specs::Table::table))]
 pub fn optional_as_marked_type<'t, 'a>(tree: &'t Tree<'a>) -> Option<Option<MarkedType<'t, 'a>>>
     ensures { MatchOption result ((test : List Token → Bool) (c1 : ℕ) (cs2 : List ℕ) (a3 : g.Gram) → IsShaped tree.now
@@ -195,7 +199,7 @@ pub struct MarkedBounds<'t, 'a> {
     pub node: &'t Tree<'a>,
 }
 
-/// What a tree is, if it is that.
+/// Bounds behind a mark, as both. `None` only of trees that have another shape.
 #[tactic(auto, unfolding(syn_grammar::specs::Table::table))]
 pub fn as_marked_bounds<'t, 'a>(tree: &'t Tree<'a>) -> Option<MarkedBounds<'t, 'a>>
     ensures { MatchOption result ((c1 : ℕ) (cs2 : List ℕ) (a3 : g.Gram) → IsShaped tree.now (g.seq (g.mark c1 cs2)
@@ -213,7 +217,8 @@ pub fn as_marked_bounds<'t, 'a>(tree: &'t Tree<'a>) -> Option<MarkedBounds<'t, '
     Some(MarkedBounds { mark, node })
 }
 
-/// What stands there, if anything does.
+/// Bounds behind a mark, where they stand; `Some(None)` where nothing does. `None` only of trees that have
+/// another shape.
 #[tactic(auto, unfolding(syn_grammar::specs::Table::table))]
 pub fn optional_as_marked_bounds<'t, 'a>(tree: &'t Tree<'a>) -> Option<Option<MarkedBounds<'t, 'a>>>
     ensures { MatchOption result ((test : List Token → Bool) (c1 : ℕ) (cs2 : List ℕ) (a3 : g.Gram) → IsShaped tree.now
@@ -239,7 +244,7 @@ pub enum Lit<'a> {
     Bool(&'a Ident),
 }
 
-/// What a tree is, if it is that.
+/// A literal, or a truth value. `None` only of trees that have another shape.
 pub fn as_lit<'a>(tree: &Tree<'a>) -> Option<Lit<'a>>
     ensures { MatchOption result ((test : List Token → Bool) (p q : List ℕ → Bool)
         → IsShaped tree.now (g.alt test (g.literal p) (g.word q)) → ⊥)

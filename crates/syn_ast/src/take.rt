@@ -15,7 +15,6 @@ ghost use Rattle.syn_grammar.specs.Gram as g;
 ghost use Rattle.syn_grammar.specs.Kind.{Kind as GivenKind};
 ghost use Rattle.syn_grammar.specs.Name.{Part as GivenPart};
 ghost use Rattle.syn_grammar.specs.Tree as t;
-ghost use Rattle.syn_grammar.specs.Tree.{Tree as GivenTree};
 
 use crate::leaf::{Delimiters, Lifetime, Mark};
 use crate::list::{Elements, Turns};
@@ -454,35 +453,23 @@ pub fn optional_mark(tree: &Tree<'_>) -> Option<Option<Mark>>
     }
 }
 
-/// Of an expression that is a form by itself its kind and its own part.
-#[tactic(auto, using(crate::proofs::Takes::forms))]
-pub fn alone<'t, 'a>(tree: &'t Tree<'a>) -> Option<(Kind, &'t Tree<'a>)>
-    ensures { MatchOption result ((k : GivenKind) (y : GivenTree) → tree.now ≡ t.Alone k y → ⊥)
-        (λ p. tree.now ≡ t.Alone (kind_of p.0) p.1.now) }
-{
-    match &tree.form {
-        Form::Alone(kind, own) => Some((*kind, own)),
-        _ => None,
-    }
-}
-
 // Choices among several: each alternative but the last is a first, and what stands behind it the second.
 
 /// What stands behind alternatives that were not chosen.
 #[derive(Clone, Copy)]
 pub enum Behind<'t, 'a> {
-    // So many times the second, and then the first.
+    /// So many times the second, and then the first.
     First(usize, &'t Tree<'a>),
-    // So many times the second, and then this.
+    /// So many times the second, and then this.
     Second(usize, &'t Tree<'a>),
 }
 
 /// Whether the first alternative was chosen.
 #[derive(Clone, Copy)]
 pub enum Step<'t, 'a> {
-    // It was.
+    /// It was.
     First(&'t Tree<'a>),
-    // It was not.
+    /// It was not.
     Behind(Behind<'t, 'a>),
 }
 

@@ -99,7 +99,7 @@ pub struct TypePtr<'t, 'a> {
 }
 
 impl<'t, 'a> TypePtr<'t, 'a> {
-    /// What a tree is, if it is that.
+    /// A tree of the kind `PointerType`, as its parts. `None` only of trees that have another shape.
     #[tactic(auto, unfolding(syn_grammar::specs::Table::table))]
     pub fn of(tree: &'t Tree<'a>) -> Option<TypePtr<'t, 'a>>
         ensures { MatchOption result (IsShaped tree.now (g.ref k.PointerType) → ⊥) (λ x. tree.now ≡ type_ptr x) }
@@ -138,7 +138,7 @@ pub struct TypeReference<'t, 'a> {
 }
 
 impl<'t, 'a> TypeReference<'t, 'a> {
-    /// What a tree is, if it is that.
+    /// A tree of the kind `ReferenceType`, as its parts. `None` only of trees that have another shape.
     #[tactic(auto, unfolding(syn_grammar::specs::Table::table))]
     pub fn of(tree: &'t Tree<'a>) -> Option<TypeReference<'t, 'a>>
         ensures { MatchOption result (IsShaped tree.now (g.ref k.ReferenceType) → ⊥)
@@ -176,7 +176,7 @@ pub struct TypeNever {
 }
 
 impl TypeNever {
-    /// What a tree is, if it is that.
+    /// A tree of the kind `NeverType`, as its parts. `None` only of trees that have another shape.
     #[tactic(auto, unfolding(syn_grammar::specs::Table::table))]
     pub fn of(tree: &Tree<'_>) -> Option<TypeNever>
         ensures { MatchOption result (IsShaped tree.now (g.ref k.NeverType) → ⊥) (λ x. tree.now ≡ type_never x) }
@@ -199,7 +199,7 @@ pub struct TypeInfer<'a> {
 }
 
 impl<'a> TypeInfer<'a> {
-    /// What a tree is, if it is that.
+    /// A tree of the kind `InferType`, as its parts. `None` only of trees that have another shape.
     #[tactic(auto, unfolding(syn_grammar::specs::Table::table))]
     pub fn of(tree: &Tree<'a>) -> Option<TypeInfer<'a>>
         ensures { MatchOption result (IsShaped tree.now (g.ref k.InferType) → ⊥) (λ x. tree.now ≡ type_infer x) }
@@ -234,7 +234,7 @@ pub struct TypeFnPtr<'t, 'a> {
 }
 
 impl<'t, 'a> TypeFnPtr<'t, 'a> {
-    /// What a tree is, if it is that.
+    /// A tree of the kind `FnPtrType`, as its parts. `None` only of trees that have another shape.
     #[tactic(auto, unfolding(syn_grammar::specs::Table::table))]
     pub fn of(tree: &'t Tree<'a>) -> Option<TypeFnPtr<'t, 'a>>
         ensures { MatchOption result (IsShaped tree.now (g.ref k.FnPtrType) → ⊥) (λ x. tree.now ≡ type_fn_ptr x) }
@@ -285,7 +285,7 @@ pub struct ArgumentName<'a> {
     pub colon_token: Mark,
 }
 
-// What a tree is, if it is that.
+// The name of an argument, as its parts.
 fn as_argument_name<'a>(tree: &Tree<'a>) -> Option<ArgumentName<'a>>
     ensures { MatchOption result ((test : List Token → Bool) (p q : List ℕ → Bool) (c : ℕ) (cs : List ℕ)
         → IsShaped tree.now (g.seq (g.alt test (g.word p) (g.word q)) (g.mark c cs)) → ⊥)
@@ -303,7 +303,7 @@ fn as_argument_name<'a>(tree: &Tree<'a>) -> Option<ArgumentName<'a>>
     Some(ArgumentName { ident, colon_token })
 }
 
-// What stands there, if anything does.
+// The name of an argument, where one stands.
 fn optional_as_argument_name<'a>(tree: &Tree<'a>) -> Option<Option<ArgumentName<'a>>>
     ensures { MatchOption result ((there test : List Token → Bool) (p q : List ℕ → Bool) (c : ℕ) (cs : List ℕ)
         → IsShaped tree.now (g.alt there (g.seq (g.alt test (g.word p) (g.word q)) (g.mark c cs)) g.nothing) → ⊥)
@@ -331,7 +331,7 @@ pub struct FnPtrArg<'t, 'a> {
 }
 
 impl<'t, 'a> FnPtrArg<'t, 'a> {
-    /// What a tree is, if it is that.
+    /// A tree of the kind `FnPtrArg`, as its parts. `None` only of trees that have another shape.
     #[tactic(auto, unfolding(syn_grammar::specs::Table::table))]
     pub fn of(tree: &'t Tree<'a>) -> Option<FnPtrArg<'t, 'a>>
         ensures { MatchOption result (IsShaped tree.now (g.ref k.FnPtrArg) → ⊥) (λ x. tree.now ≡ fn_ptr_arg x) }
@@ -359,7 +359,7 @@ pub struct Abi<'a> {
 }
 
 impl<'a> Abi<'a> {
-    /// What a tree is, if it is that.
+    /// A tree of the kind `Abi`, as its parts. `None` only of trees that have another shape.
     #[tactic(auto, unfolding(syn_grammar::specs::Table::table))]
     pub fn of(tree: &Tree<'a>) -> Option<Abi<'a>>
         ensures { MatchOption result (IsShaped tree.now (g.ref k.Abi) → ⊥) (λ x. tree.now ≡ abi x) }
@@ -394,7 +394,7 @@ pub struct BoundLifetimes<'t, 'a> {
 }
 
 impl<'t, 'a> BoundLifetimes<'t, 'a> {
-    /// What a tree is, if it is that.
+    /// A tree of the kind `BoundLifetimes`, as its parts. `None` only of trees that have another shape.
     #[tactic(auto, unfolding(syn_grammar::specs::Table::table))]
     pub fn of(tree: &'t Tree<'a>) -> Option<BoundLifetimes<'t, 'a>>
         ensures { MatchOption result (IsShaped tree.now (g.ref k.BoundLifetimes) → ⊥)
@@ -437,7 +437,7 @@ pub struct ReturnType<'t, 'a> {
 }
 
 impl<'t, 'a> ReturnType<'t, 'a> {
-    /// What a tree is, if it is that.
+    /// A tree of the kind `ReturnType`, as its parts. `None` only of trees that have another shape.
     #[tactic(auto, unfolding(syn_grammar::specs::Table::table))]
     pub fn of(tree: &'t Tree<'a>) -> Option<ReturnType<'t, 'a>>
         ensures { MatchOption result ((p : k.Plus) → IsShaped tree.now (g.ref (k.ReturnType p)) → ⊥)
@@ -465,7 +465,7 @@ pub struct TypeBracketed<'t, 'a> {
 }
 
 impl<'t, 'a> TypeBracketed<'t, 'a> {
-    /// What a tree is, if it is that.
+    /// A tree of the kind `BracketType`, as its parts. `None` only of trees that have another shape.
     #[tactic(auto, unfolding(syn_grammar::specs::Table::table))]
     pub fn of(tree: &'t Tree<'a>) -> Option<TypeBracketed<'t, 'a>>
         ensures { MatchOption result (IsShaped tree.now (g.ref k.BracketType) → ⊥) (λ x. tree.now ≡ type_bracketed x) }
@@ -500,7 +500,7 @@ pub struct TypeParenthesized<'t, 'a> {
 }
 
 impl<'t, 'a> TypeParenthesized<'t, 'a> {
-    /// What a tree is, if it is that.
+    /// A tree of the kind `TupleType`, as its parts. `None` only of trees that have another shape.
     #[tactic(auto, unfolding(syn_grammar::specs::Table::table))]
     pub fn of(tree: &'t Tree<'a>) -> Option<TypeParenthesized<'t, 'a>>
         ensures { MatchOption result (IsShaped tree.now (g.ref k.TupleType) → ⊥)
@@ -581,7 +581,7 @@ impl<'t, 'a> TypeTraitObject<'t, 'a> {
         })
     }
 
-    /// What a tree is, if it is that.
+    /// A tree of the kind `DynType`, as its parts. `None` only of trees that have another shape.
     #[tactic(auto, using(crate::proofs::TypeForms::either_plus_DynType))]
     pub fn of(tree: &'t Tree<'a>) -> Option<TypeTraitObject<'t, 'a>>
         ensures { MatchOption result ((p : k.Plus) → IsShaped tree.now (g.ref (k.DynType p)) → ⊥)
@@ -656,7 +656,7 @@ impl<'t, 'a> TypeImplTrait<'t, 'a> {
         })
     }
 
-    /// What a tree is, if it is that.
+    /// A tree of the kind `ImplType`, as its parts. `None` only of trees that have another shape.
     #[tactic(auto, using(crate::proofs::TypeForms::either_plus_ImplType))]
     pub fn of(tree: &'t Tree<'a>) -> Option<TypeImplTrait<'t, 'a>>
         ensures { MatchOption result ((p : k.Plus) → IsShaped tree.now (g.ref (k.ImplType p)) → ⊥)
@@ -688,7 +688,7 @@ pub enum AnyPath<'t, 'a> {
 }
 
 impl<'t, 'a> TypePath<'t, 'a> {
-    /// What a tree is, if it is that.
+    /// A tree of the kind `AnyPath`, as its parts. `None` only of trees that have another shape.
     #[tactic(auto, unfolding(syn_grammar::specs::Table::table))]
     pub fn of(tree: &'t Tree<'a>) -> Option<TypePath<'t, 'a>>
         ensures { MatchOption result ((s : k.Style) → IsShaped tree.now (g.ref (k.AnyPath s)) → ⊥)

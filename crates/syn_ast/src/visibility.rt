@@ -37,7 +37,7 @@ pub struct Restriction<'t, 'a> {
     pub path: RestrictedTo<'t, 'a>,
 }
 
-// What a tree is, if it is that.
+// A restriction, as its parts.
 fn as_restriction<'t, 'a>(tree: &'t Tree<'a>) -> Option<Restriction<'t, 'a>>
     ensures { MatchOption result ((test : List Token → Bool) (d e : GivenDelimiter) (p q : List ℕ → Bool) (a : g.Gram)
         → IsShaped tree.now (g.alt test (g.group d (g.seq (g.word p) a)) (g.group e (g.word q))) → ⊥)
@@ -142,7 +142,7 @@ impl<'t, 'a> Visibility<'t, 'a> {
         }
     }
 
-    /// What a tree is, if it is that.
+    /// A tree of the kind `Visibility`, as its parts. `None` only of trees that have another shape.
     #[tactic(auto, unfolding(syn_grammar::specs::Table::table))]
     pub fn of(tree: &'t Tree<'a>) -> Option<Visibility<'t, 'a>>
         ensures { MatchOption result (IsShaped tree.now (g.ref k.Visibility) → ⊥) (λ x. tree.now ≡ visibility x) }
