@@ -1,28 +1,18 @@
 -- What is read of a kind that is judged, and never kept as tokens alone, is kept as a tree.
-use Rattle.std.specs.Prelude.{◌≡◌, Bool, true, false, List, not}
+use Rattle.std.specs.Prelude.{◌≡◌, true, List, not}
 use Rattle.std.proofs.Common.{subst}
 use Rattle.proc_macro2.specs.Token.{Token}
 use Rattle.syn_grammar.specs.Derives.{Derives}
 use Rattle.syn_grammar.specs.Expressions.{is_arm, is_base}
-use Rattle.syn_grammar.specs.Gram.{Gram, AsRaw, judged, ref}
+use Rattle.syn_grammar.specs.Gram.{ref}
 use Rattle.syn_grammar.specs.Kind.{Kind, FieldValues, Arm, Statements, OneStatement, ALet}
 use Rattle.syn_grammar.specs.Part.{choice, each_separated, each_turn_but_last, in_group}
 use Rattle.syn_grammar.specs.Statements.{is_let, needs_semicolon}
 use Rattle.syn_grammar.specs.Table.{table}
-use Rattle.syn_grammar.specs.Tree.{Tree, First, Verbatim, Node}
-use Rattle.syn_grammar.specs.Types.{kept_if}
+use Rattle.syn_grammar.specs.Tree.{Tree, Node}
 use Rattle.syn_ast.specs.Kept.{IsFirst, IsKept}
+use Rattle.syn_ast.proofs.Judged.{kept_judged}
 use Rattle.syn_expr.specs.Judged.{keeps_trees}
-
-never_raw : (b : Bool) → kept_if b ≡ AsRaw → ⊥
-never_raw true e = cc
-never_raw false e = cc
-
-kept_judged : (x : Tree) (p : Tree → Bool) (g : Gram) (rest : List Token)
-    → Derives x (judged (λ y. kept_if (p y)) g) rest → IsFirst x
-kept_judged (First x) p g rest d = tt
-kept_judged (Verbatim x) p g rest d = absurd (never_raw (p x) d.0)
-kept_judged _ p g rest d = absurd d
 
 inside : (k : Kind) (x : Tree) (rest : List Token) → keeps_trees k ≡ true → Derives x (table k) rest → IsFirst x
 unfolding table

@@ -6,3 +6,4 @@ pub mod ExprJumps
 pub mod ExprWhole
 pub mod ExprRead
 pub mod ExprKept
+pub mod ExprUnread

@@ -5,10 +5,10 @@ use Rattle.syn_ast.specs.Shape.{IsShaped}
 use Rattle.syn_grammar.specs.Table.{table}
 use Rattle.std.specs.Prelude.{◌≡◌}
 use Rattle.syn_expr.specs.declared.expr.ops.UnOp.{UnOp}
-use Rattle.syn_expr.specs.declared.expr.ops.RangeLimits.{RangeLimits}
+use Rattle.syn_ast.specs.declared.patterns.RangeLimits.{RangeLimits}
 use Rattle.syn_expr.specs.declared.expr.ops.BinOp.{BinOp}
 use Rattle.syn_expr.specs.declared.expr.ops.UnOp.TheVariants as uns
-use Rattle.syn_expr.specs.declared.expr.ops.RangeLimits.TheVariants as limits
+use Rattle.syn_ast.specs.declared.patterns.RangeLimits.TheVariants as limits
 use Rattle.syn_expr.specs.declared.expr.ops.BinOp.TheVariants as bins
 use Rattle.syn_grammar.specs.Kind as k
 use Rattle.syn_grammar.specs.Kind.{Kind}

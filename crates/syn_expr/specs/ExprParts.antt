@@ -1,14 +1,15 @@
 -- The trees that the parts of expressions are.
 use Rattle.syn_ast.specs.Leaves.{list_tree, literal_tree, mark_tree, optional_tree, word_tree}
 use Rattle.syn_ast.specs.Sub.{worded_tree}
-use Rattle.syn_expr.specs.declared.expr.parts.Member.{Member}
+use Rattle.syn_ast.specs.Paths.{member}
+use Rattle.syn_ast.specs.declared.paths.Member.{Member}
 use Rattle.syn_expr.specs.declared.expr.parts.FieldValues.{FieldValues}
 use Rattle.syn_expr.specs.declared.expr.parts.Arm.{Arm}
 use Rattle.syn_expr.specs.declared.expr.parts.StructRest.{StructRest}
 use Rattle.syn_expr.specs.declared.expr.parts.AFieldValue.{AFieldValue}
 use Rattle.syn_expr.specs.declared.expr.parts.FieldValue.{FieldValue}
 use Rattle.syn_ast.specs.declared.leaf.Mark.{Mark}
-use Rattle.syn_expr.specs.declared.expr.parts.Member.TheVariants as members
+use Rattle.syn_ast.specs.declared.paths.Member.TheVariants as members
 use Rattle.syn_expr.specs.declared.expr.parts.AFieldValue.TheVariants as values
 use Rattle.syn_grammar.specs.Kind as k
 use Rattle.syn_grammar.specs.Name as n
@@ -17,19 +18,10 @@ use Rattle.syn_grammar.specs.Tree.{Tree}
 use denote.Bor.{Bor}
 use Rattle.std.specs.Prelude.{Bool, true, false, Option, Some, None}
 
--- a name or an index, which of both stands there
-abbrev pub member_tree : Member → Tree
-member_tree (members.Named i) = t.First (word_tree i)
-member_tree (members.Unnamed l) = t.Second (literal_tree l)
-
--- the same where each is a part by its name
+-- a name or an index, each as a part by its name
 abbrev pub field_member_tree : Member → Tree
 field_member_tree (members.Named i) = t.First (t.Called n.the_name (word_tree i))
-field_member_tree (members.Unnamed l) = t.Second (t.Called n.the_value (literal_tree l))
-
--- a field's name, or its index
-abbrev pub member : Member → Tree
-member m = t.Node k.Member (member_tree m)
+field_member_tree (members.Unnamed x) = t.Second (t.Called n.the_value (literal_tree x.index))
 
 -- nothing at the end, or what stands there
 abbrev pub rest_tree : Option (Bor Tree) → Tree
@@ -52,12 +44,14 @@ member_value_tree m c e = t.Pair (member m) (t.Pair (mark_tree c) (t.Called n.th
 -- a member by itself
 abbrev pub member_alone : Member → Tree
 member_alone (members.Named i) = word_tree i
-member_alone (members.Unnamed l) = literal_tree l
+member_alone (members.Unnamed x) = literal_tree x.index
 
--- a name by itself, where no value stands, or that
+-- a name by itself, where neither : nor a value stands, or that
 abbrev pub field_init_tree : Member → Option Mark → Option (Bor Tree) → Tree
 field_init_tree m (Some c) (Some e) = t.Second (member_value_tree m c e.now)
-field_init_tree m _ _ = t.First (member_alone m)
+field_init_tree m None None = t.First (member_alone m)
+field_init_tree m (Some c) None = t.Nil
+field_init_tree m None (Some e) = t.Nil
 
 -- a field of a struct's value: a: b, a
 abbrev pub field_value : FieldValue → Tree
@@ -65,7 +59,8 @@ field_value x = t.Node k.FieldValue (t.Pair x.attrs.now (field_init_tree x.membe
 
 -- behind an arm's body: nothing at the end, a comma, or none
 abbrev pub arm_comma_tree : Bool → Option Mark → Tree
-arm_comma_tree true o = t.First t.Nil
+arm_comma_tree true None = t.First t.Nil
+arm_comma_tree true (Some m) = t.Nil
 arm_comma_tree false (Some m) = t.Second (t.First (mark_tree m))
 arm_comma_tree false None = t.Second (t.Second t.Nil)
 

@@ -1,5 +1,6 @@
 -- The trees that expressions are.
 use Rattle.syn_ast.specs.Leaves.{list_tree}
+use Rattle.syn_ast.specs.Types.{no_lone}
 use Rattle.syn_expr.specs.ExprForms.{IsAlone, IsBack, IsForm, IsFront, IsJump}
 use Rattle.syn_ast.specs.Shape.{IsShaped}
 use Rattle.syn_grammar.specs.Table.{table}
@@ -19,9 +20,9 @@ use Rattle.std.specs.Prelude.{Bool, Option, Some, None, true, false}
 abbrev pub expr_paren : ExprParen → Tree
 expr_paren x = t.Alone k.ExprParen (t.Group x.paren_token.delimiter (t.Final x.expr.now))
 
--- a tuple: (a, b)
+-- a tuple: (a, b); one expression without a comma is none
 abbrev pub expr_tuple : ExprTuple → Tree
-expr_tuple x = t.Alone k.ExprParen (t.Group x.paren_token.delimiter (list_tree x.elems))
+expr_tuple x = t.Alone k.ExprParen (t.Group x.paren_token.delimiter (no_lone (list_tree x.elems)))
 
 -- one element stands there, and no mark behind it
 abbrev pub is_final : Tree → Bool

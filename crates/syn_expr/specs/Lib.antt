@@ -10,3 +10,4 @@ pub mod ExprJumps
 pub mod ExprWhole
 pub mod Statements
 pub mod Judged
+pub mod ExprPlaceholder

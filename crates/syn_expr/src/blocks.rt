@@ -1,7 +1,7 @@
 //! Files, blocks, and the forms of expressions that are made of them.
 
 ghost use Rattle.proc_macro2.specs.Token.{Token};
-ghost use Rattle.std.specs.Prelude.{◌≡◌, MatchOption, Bool, List, cond};
+ghost use Rattle.std.specs.Prelude.{◌≡◌, IfSome, MatchOption, Bool, List, None};
 ghost use Rattle.syn_ast.specs.Leaves.{optional_tree};
 ghost use Rattle.syn_ast.specs.Paths.{macro, path};
 ghost use Rattle.syn_ast.specs.Shape.{IsShaped};
@@ -14,6 +14,7 @@ ghost use Rattle.syn_grammar.specs.Kind as k;
 ghost use Rattle.syn_grammar.specs.Name as n;
 
 use crate::expr::forms;
+use crate::modifiers::BlockModifiers;
 use gram_table::kind::Kind;
 use gram_table::part::Part;
 use gram_tree::tree::Tree;
@@ -24,9 +25,16 @@ use syn_ast::sub::{Marked, Worded, optional_as_marked, optional_as_worded};
 use syn_ast::take;
 use syn_ast::types::AnyPath;
 
+/// A section between lines of `---`, at the head of a file. It holds nothing: the grammar has no such section, so none is
+/// read.
+#[derive(Clone, Copy)]
+pub struct Frontmatter {}
+
 /// A file.
 #[derive(Clone, Copy)]
 pub struct File<'t, 'a> {
+    /// The section at its head: none of a file that was read.
+    pub frontmatter: Option<Frontmatter>,
     /// Its attributes.
     pub attrs: &'t Tree<'a>,
     /// Its items, as a form of the kind `Items`.
@@ -34,10 +42,11 @@ pub struct File<'t, 'a> {
 }
 
 impl<'t, 'a> File<'t, 'a> {
-    /// What a tree is, if it is that.
+    /// A tree of the kind `AFile`, as its parts. `None` only of trees that have another shape.
     #[tactic(auto, unfolding(syn_grammar::specs::Table::table))]
     pub fn of(tree: &'t Tree<'a>) -> Option<File<'t, 'a>>
-        ensures { MatchOption result (IsShaped tree.now (g.ref k.AFile) → ⊥) (λ x. tree.now ≡ file x) }
+        ensures parts { MatchOption result (IsShaped tree.now (g.ref k.AFile) → ⊥) (λ x. tree.now ≡ file x) }
+        ensures frontmatter { IfSome result (λ x. x.frontmatter ≡ None) }
     {
         let Some((Kind::AFile, inner)) = take::node(tree) else {
             return None;
@@ -45,7 +54,11 @@ impl<'t, 'a> File<'t, 'a> {
         let Some((attrs, items)) = take::pair(inner) else {
             return None;
         };
-        Some(File { attrs, items })
+        Some(File {
+            frontmatter: None,
+            attrs,
+            items,
+        })
     }
 }
 
@@ -59,7 +72,7 @@ pub struct Block<'t, 'a> {
 }
 
 impl<'t, 'a> Block<'t, 'a> {
-    /// What a tree is, if it is that.
+    /// A tree of the kind `Block`, as its parts. `None` only of trees that have another shape.
     #[tactic(auto, unfolding(syn_grammar::specs::Table::table))]
     pub fn of(tree: &'t Tree<'a>) -> Option<Block<'t, 'a>>
         ensures { MatchOption result (IsShaped tree.now (g.ref k.Block) → ⊥) (λ x. tree.now ≡ block x) }
@@ -87,7 +100,7 @@ pub struct Body<'t, 'a> {
 }
 
 impl<'t, 'a> Body<'t, 'a> {
-    /// What a tree is, if it is that.
+    /// A tree of the kind `Body`, as its parts. `None` only of trees that have another shape.
     #[tactic(auto, unfolding(syn_grammar::specs::Table::table))]
     pub fn of(tree: &'t Tree<'a>) -> Option<Body<'t, 'a>>
         ensures { MatchOption result (IsShaped tree.now (g.ref k.Body) → ⊥) (λ x. tree.now ≡ body x) }
@@ -119,7 +132,7 @@ pub struct Label<'a> {
 }
 
 impl<'a> Label<'a> {
-    /// What a tree is, if it is that.
+    /// A tree of the kind `Label`, as its parts. `None` only of trees that have another shape.
     #[tactic(auto, unfolding(syn_grammar::specs::Table::table))]
     pub fn of(tree: &Tree<'a>) -> Option<Label<'a>>
         ensures { MatchOption result (IsShaped tree.now (g.ref k.Label) → ⊥) (λ x. tree.now ≡ label x) }
@@ -152,7 +165,7 @@ pub struct ClosureParam<'t, 'a> {
 }
 
 impl<'t, 'a> ClosureParam<'t, 'a> {
-    /// What a tree is, if it is that.
+    /// A tree of the kind `ClosureParam`, as its parts. `None` only of trees that have another shape.
     #[tactic(auto, unfolding(syn_grammar::specs::Table::table))]
     pub fn of(tree: &'t Tree<'a>) -> Option<ClosureParam<'t, 'a>>
         ensures { MatchOption result (IsShaped tree.now (g.ref k.ClosureParam) → ⊥) (λ x. tree.now ≡ closure_param x) }
@@ -178,7 +191,7 @@ pub struct Arms<'t, 'a> {
 }
 
 impl<'t, 'a> Arms<'t, 'a> {
-    /// What a tree is, if it is that.
+    /// A tree of the kind `Arms`, as its parts. `None` only of trees that have another shape.
     #[tactic(auto, unfolding(syn_grammar::specs::Table::table))]
     pub fn of(tree: &'t Tree<'a>) -> Option<Arms<'t, 'a>>
         ensures { MatchOption result (IsShaped tree.now (g.ref k.Arms) → ⊥) (λ x. tree.now ≡ arms x) }
@@ -200,7 +213,7 @@ pub struct Labelled<'t, 'a> {
     pub label: &'t Tree<'a>,
 }
 
-/// What a tree is, if it is that.
+/// A label, by its name as a part. `None` only of trees that have another shape.
 #[tactic(auto, unfolding(syn_grammar::specs::Table::table))]
 pub fn as_labelled<'t, 'a>(tree: &'t Tree<'a>) -> Option<Labelled<'t, 'a>>
     ensures { MatchOption result ((a1 : g.Gram) → IsShaped tree.now (g.called n.the_label a1) → ⊥)
@@ -213,7 +226,7 @@ pub fn as_labelled<'t, 'a>(tree: &'t Tree<'a>) -> Option<Labelled<'t, 'a>>
     Some(Labelled { label })
 }
 
-/// What stands there, if anything does.
+/// A label, where one stands; `Some(None)` where nothing does. `None` only of trees that have another shape.
 #[tactic(auto, unfolding(syn_grammar::specs::Table::table))]
 pub fn optional_as_labelled<'t, 'a>(tree: &'t Tree<'a>) -> Option<Option<Labelled<'t, 'a>>>
     ensures { MatchOption result ((test : List Token → Bool) (a1 : g.Gram) → IsShaped tree.now (g.alt test
@@ -235,12 +248,14 @@ pub fn optional_as_labelled<'t, 'a>(tree: &'t Tree<'a>) -> Option<Option<Labelle
 pub struct ExprBlock<'t, 'a> {
     /// Its label.
     pub label: Option<Labelled<'t, 'a>>,
+    /// What stands beside its parts: nothing.
+    pub modifiers: BlockModifiers,
     /// The block.
     pub block: &'t Tree<'a>,
 }
 
 impl<'t, 'a> ExprBlock<'t, 'a> {
-    /// What a tree is, if it is that.
+    /// A tree of the kind `ExprBlock`, as its parts. `None` only of trees that have another shape.
     #[tactic(auto, unfolding(syn_grammar::specs::Table::table))]
     pub fn of(tree: &'t Tree<'a>) -> Option<ExprBlock<'t, 'a>>
         ensures { MatchOption result (IsAlone tree.now k.ExprBlock → ⊥) (λ x. tree.now ≡ expr_block x) }
@@ -254,7 +269,11 @@ impl<'t, 'a> ExprBlock<'t, 'a> {
         let Some(label) = optional_as_labelled(label) else {
             return None;
         };
-        Some(ExprBlock { label, block })
+        Some(ExprBlock {
+            label,
+            modifiers: BlockModifiers {},
+            block,
+        })
     }
 }
 
@@ -268,7 +287,7 @@ pub struct ExprUnsafe<'t, 'a> {
 }
 
 impl<'t, 'a> ExprUnsafe<'t, 'a> {
-    /// What a tree is, if it is that.
+    /// A tree of the kind `ExprUnsafe`, as its parts. `None` only of trees that have another shape.
     #[tactic(auto, unfolding(syn_grammar::specs::Table::table))]
     pub fn of(tree: &'t Tree<'a>) -> Option<ExprUnsafe<'t, 'a>>
         ensures { MatchOption result (IsAlone tree.now k.ExprUnsafe → ⊥) (λ x. tree.now ≡ expr_unsafe x) }
@@ -301,7 +320,7 @@ pub struct ExprAsync<'t, 'a> {
 }
 
 impl<'t, 'a> ExprAsync<'t, 'a> {
-    /// What a tree is, if it is that.
+    /// A tree of the kind `ExprAsync`, as its parts. `None` only of trees that have another shape.
     #[tactic(auto, unfolding(syn_grammar::specs::Table::table))]
     pub fn of(tree: &'t Tree<'a>) -> Option<ExprAsync<'t, 'a>>
         ensures { MatchOption result (IsAlone tree.now k.ExprAsync → ⊥) (λ x. tree.now ≡ expr_async x) }
@@ -338,7 +357,7 @@ pub struct ExprLoop<'t, 'a> {
 }
 
 impl<'t, 'a> ExprLoop<'t, 'a> {
-    /// What a tree is, if it is that.
+    /// A tree of the kind `ExprLoop`, as its parts. `None` only of trees that have another shape.
     #[tactic(auto, unfolding(syn_grammar::specs::Table::table))]
     pub fn of(tree: &'t Tree<'a>) -> Option<ExprLoop<'t, 'a>>
         ensures { MatchOption result (IsAlone tree.now k.ExprLoop → ⊥) (λ x. tree.now ≡ expr_loop x) }
@@ -377,7 +396,7 @@ pub struct ExprWhile<'t, 'a> {
 }
 
 impl<'t, 'a> ExprWhile<'t, 'a> {
-    /// What a tree is, if it is that.
+    /// A tree of the kind `ExprWhile`, as its parts. `None` only of trees that have another shape.
     #[tactic(auto, unfolding(syn_grammar::specs::Table::table))]
     pub fn of(tree: &'t Tree<'a>) -> Option<ExprWhile<'t, 'a>>
         ensures { MatchOption result (IsAlone tree.now k.ExprWhile → ⊥) (λ x. tree.now ≡ expr_while x) }
@@ -424,7 +443,7 @@ pub struct ExprForLoop<'t, 'a> {
 }
 
 impl<'t, 'a> ExprForLoop<'t, 'a> {
-    /// What a tree is, if it is that.
+    /// A tree of the kind `ExprForLoop`, as its parts. `None` only of trees that have another shape.
     #[tactic(auto, unfolding(syn_grammar::specs::Table::table))]
     pub fn of(tree: &'t Tree<'a>) -> Option<ExprForLoop<'t, 'a>>
         ensures { MatchOption result (IsAlone tree.now k.ExprForLoop → ⊥) (λ x. tree.now ≡ expr_for_loop x) }
@@ -474,7 +493,7 @@ pub struct ExprMatch<'t, 'a> {
 }
 
 impl<'t, 'a> ExprMatch<'t, 'a> {
-    /// What a tree is, if it is that.
+    /// A tree of the kind `ExprMatch`, as its parts. `None` only of trees that have another shape.
     #[tactic(auto, unfolding(syn_grammar::specs::Table::table))]
     pub fn of(tree: &'t Tree<'a>) -> Option<ExprMatch<'t, 'a>>
         ensures { MatchOption result (IsAlone tree.now k.ExprMatch → ⊥) (λ x. tree.now ≡ expr_match x) }
@@ -521,7 +540,7 @@ pub struct ExprIf<'t, 'a> {
 }
 
 impl<'t, 'a> ExprIf<'t, 'a> {
-    /// What a tree is, if it is that.
+    /// A tree of the kind `ExprIf`, as its parts. `None` only of trees that have another shape.
     #[tactic(auto, unfolding(syn_grammar::specs::Table::table))]
     pub fn of(tree: &'t Tree<'a>) -> Option<ExprIf<'t, 'a>>
         ensures { MatchOption result (IsAlone tree.now k.ExprIf → ⊥) (λ x. tree.now ≡ expr_if x) }
@@ -560,7 +579,7 @@ pub struct ExprParenthesized<'t, 'a> {
 }
 
 impl<'t, 'a> ExprParenthesized<'t, 'a> {
-    /// What a tree is, if it is that.
+    /// A tree of the kind `ExprParen`, as its parts. `None` only of trees that have another shape.
     #[tactic(auto, unfolding(syn_grammar::specs::Table::table))]
     pub fn of(tree: &'t Tree<'a>) -> Option<ExprParenthesized<'t, 'a>>
         ensures { MatchOption result (IsAlone tree.now k.ExprParen → ⊥) (λ x. tree.now ≡ expr_parenthesized x) }
@@ -588,7 +607,7 @@ pub struct ExprArray<'t, 'a> {
 }
 
 impl<'t, 'a> ExprArray<'t, 'a> {
-    /// What a tree is, if it is that.
+    /// A tree of the kind `ExprArray`, as its parts. `None` only of trees that have another shape.
     #[tactic(auto, unfolding(syn_grammar::specs::Table::table))]
     pub fn of(tree: &'t Tree<'a>) -> Option<ExprArray<'t, 'a>>
         ensures { MatchOption result (IsAlone tree.now k.ExprArray → ⊥) (λ x. tree.now ≡ expr_array x) }
@@ -623,7 +642,7 @@ pub struct ExprRepeat<'t, 'a> {
 }
 
 impl<'t, 'a> ExprRepeat<'t, 'a> {
-    /// What a tree is, if it is that.
+    /// A tree of the kind `ExprRepeat`, as its parts. `None` only of trees that have another shape.
     #[tactic(auto, unfolding(syn_grammar::specs::Table::table))]
     pub fn of(tree: &'t Tree<'a>) -> Option<ExprRepeat<'t, 'a>>
         ensures { MatchOption result (IsAlone tree.now k.ExprRepeat → ⊥) (λ x. tree.now ≡ expr_repeat x) }
@@ -657,7 +676,7 @@ pub struct ExprMacro<'t, 'a> {
 }
 
 impl<'t, 'a> ExprMacro<'t, 'a> {
-    /// What a tree is, if it is that.
+    /// A tree of the kind `ExprMacro`, as its parts. `None` only of trees that have another shape.
     #[tactic(auto, unfolding(syn_grammar::specs::Table::table))]
     pub fn of(tree: &'t Tree<'a>) -> Option<ExprMacro<'t, 'a>>
         ensures { MatchOption result (IsAlone tree.now k.ExprMacro → ⊥) (λ x. tree.now ≡ expr_macro x) }
@@ -678,7 +697,7 @@ pub struct ExprPath<'t, 'a> {
 }
 
 impl<'t, 'a> ExprPath<'t, 'a> {
-    /// What a tree is, if it is that.
+    /// A tree of the kind `ExprPath`, as its parts. `None` only of trees that have another shape.
     #[tactic(auto, unfolding(syn_grammar::specs::Table::table))]
     pub fn of(tree: &'t Tree<'a>) -> Option<ExprPath<'t, 'a>>
         ensures { MatchOption result (IsAlone tree.now k.ExprPath → ⊥) (λ x. tree.now ≡ expr_path x) }

@@ -4,8 +4,10 @@
 //! - `expr`: forms of expressions; `expr::whole`: which of them an expression is.
 //! - `blocks`: blocks, files and expressions that hold other ones in delimiters.
 //! - `stmt`: statements.
+//! - `modifiers`: what may stand beside the parts of closures, blocks and `let`s.
 #![tactic(auto)]
 
 pub mod blocks;
 pub mod expr;
+pub mod modifiers;
 pub mod stmt;

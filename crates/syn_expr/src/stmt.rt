@@ -13,6 +13,7 @@ ghost use Rattle.syn_grammar.specs.Kind as k;
 ghost use Rattle.syn_grammar.specs.Name as n;
 ghost use Rattle.syn_grammar.specs.Statements.{statement};
 
+use crate::modifiers::LocalModifiers;
 use gram_table::kind::Kind;
 use gram_table::part::Part;
 use gram_tree::tree::Tree;
@@ -81,7 +82,7 @@ fn optional_as_diverge<'t, 'a>(tree: &'t Tree<'a>) -> Option<Option<Worded<'t, '
     }
 }
 
-// What a tree is, if it is that.
+// The value of a `let`, as its parts.
 fn as_local_init<'t, 'a>(tree: &'t Tree<'a>) -> Option<LocalInit<'t, 'a>>
     ensures { MatchOption result ((c1 : ℕ) (cs2 : List ℕ) (a3 : g.Gram) (t4 : List Token → Bool) (p5 : List ℕ → Bool)
         (a6 : g.Gram) → IsShaped tree.now (g.seq (g.mark c1 cs2) (g.seq (g.called n.the_value a3) (g.alt t4
@@ -107,7 +108,7 @@ fn as_local_init<'t, 'a>(tree: &'t Tree<'a>) -> Option<LocalInit<'t, 'a>>
     })
 }
 
-// What stands there, if anything does.
+// The value of a `let`, where one stands.
 fn optional_as_local_init<'t, 'a>(tree: &'t Tree<'a>) -> Option<Option<LocalInit<'t, 'a>>>
     ensures { MatchOption result ((test : List Token → Bool) (c1 : ℕ) (cs2 : List ℕ) (a3 : g.Gram)
         (t4 : List Token → Bool) (p5 : List ℕ → Bool) (a6 : g.Gram) → IsShaped tree.now (g.alt test
@@ -133,7 +134,8 @@ pub struct Statements<'t, 'a> {
 }
 
 impl<'t, 'a> Statements<'t, 'a> {
-    /// What a tree is, if it is that.
+    /// A tree of the kind `Statements`, as its parts. `None` only of trees that have another shape, or are
+    /// kept as tokens alone. Statements that were read are never that.
     #[tactic(auto, unfolding(syn_grammar::specs::Table::table))]
     pub fn of(tree: &'t Tree<'a>) -> Option<Statements<'t, 'a>>
         ensures { MatchOption result (IsKept tree.now → IsShaped tree.now (g.ref k.Statements) → ⊥)
@@ -160,7 +162,8 @@ pub struct OneStatement<'t, 'a> {
 }
 
 impl<'t, 'a> OneStatement<'t, 'a> {
-    /// What a tree is, if it is that.
+    /// A tree of the kind `OneStatement`, as its parts. `None` only of trees that have another shape, or are
+    /// kept as tokens alone. One that was read is never that.
     #[tactic(auto, unfolding(syn_grammar::specs::Table::table))]
     pub fn of(tree: &'t Tree<'a>) -> Option<OneStatement<'t, 'a>>
         ensures { MatchOption result (IsKept tree.now → IsShaped tree.now (g.ref k.OneStatement) → ⊥)
@@ -181,6 +184,8 @@ impl<'t, 'a> OneStatement<'t, 'a> {
 pub struct Local<'t, 'a> {
     /// `let`
     pub let_token: &'a Ident,
+    /// What stands beside its parts: nothing.
+    pub modifiers: LocalModifiers,
     /// Its pattern.
     pub pat: &'t Tree<'a>,
     /// `:` and its type.
@@ -192,7 +197,8 @@ pub struct Local<'t, 'a> {
 }
 
 impl<'t, 'a> Local<'t, 'a> {
-    /// What a tree is, if it is that.
+    /// A tree of the kind `ALet`, as its parts. `None` only of trees that have another shape, or are kept as
+    /// tokens alone. One that was read is never that.
     #[tactic(auto, unfolding(syn_grammar::specs::Table::table))]
     pub fn of(tree: &'t Tree<'a>) -> Option<Local<'t, 'a>>
         ensures { MatchOption result (IsKept tree.now → IsShaped tree.now (g.ref k.ALet) → ⊥)
@@ -221,6 +227,7 @@ impl<'t, 'a> Local<'t, 'a> {
         };
         Some(Local {
             let_token,
+            modifiers: LocalModifiers {},
             pat,
             ty,
             init,
@@ -374,7 +381,7 @@ fn as_stmt<'t, 'a>(tree: &'t Tree<'a>) -> Option<Stmt<'t, 'a>>
 }
 
 impl<'t, 'a> Stmt<'t, 'a> {
-    /// What a tree is, if it is that.
+    /// A tree of the kind `AStatement`, as its parts. `None` only of trees that have another shape.
     #[tactic(auto, unfolding(syn_grammar::specs::Table::table))]
     pub fn of(tree: &'t Tree<'a>) -> Option<Stmt<'t, 'a>>
         ensures { MatchOption result (IsShaped tree.now (g.ref k.AStatement) → ⊥) (λ s. IsStmt tree.now s) }

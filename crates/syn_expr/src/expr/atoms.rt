@@ -22,7 +22,7 @@ pub struct ExprLit<'a> {
 }
 
 impl<'a> ExprLit<'a> {
-    /// What a tree is, if it is that.
+    /// A tree of the kind `ExprLit`, as its parts. `None` only of trees that have another shape.
     #[tactic(auto, unfolding(syn_grammar::specs::Table::table))]
     pub fn of(tree: &Tree<'a>) -> Option<ExprLit<'a>>
         ensures { MatchOption result (IsAlone tree.now k.ExprLit → ⊥) (λ x. tree.now ≡ expr_lit x) }
@@ -47,7 +47,7 @@ pub struct ExprGroup<'t, 'a> {
 }
 
 impl<'t, 'a> ExprGroup<'t, 'a> {
-    /// What a tree is, if it is that.
+    /// A tree of the kind `ExprGroup`, as its parts. `None` only of trees that have another shape.
     #[tactic(auto, unfolding(syn_grammar::specs::Table::table))]
     pub fn of(tree: &'t Tree<'a>) -> Option<ExprGroup<'t, 'a>>
         ensures { MatchOption result (IsAlone tree.now k.ExprGroup → ⊥) (λ x. tree.now ≡ expr_group x) }
@@ -70,7 +70,7 @@ pub struct ExprInfer<'a> {
 }
 
 impl<'a> ExprInfer<'a> {
-    /// What a tree is, if it is that.
+    /// A tree of the kind `ExprInfer`, as its parts. `None` only of trees that have another shape.
     #[tactic(auto, unfolding(syn_grammar::specs::Table::table))]
     pub fn of(tree: &Tree<'a>) -> Option<ExprInfer<'a>>
         ensures { MatchOption result (IsAlone tree.now k.ExprInfer → ⊥) (λ x. tree.now ≡ expr_infer x) }
@@ -95,7 +95,7 @@ pub struct ExprConst<'t, 'a> {
 }
 
 impl<'t, 'a> ExprConst<'t, 'a> {
-    /// What a tree is, if it is that.
+    /// A tree of the kind `ExprConst`, as its parts. `None` only of trees that have another shape.
     #[tactic(auto, unfolding(syn_grammar::specs::Table::table))]
     pub fn of(tree: &'t Tree<'a>) -> Option<ExprConst<'t, 'a>>
         ensures { MatchOption result (IsAlone tree.now k.ExprConst → ⊥) (λ x. tree.now ≡ expr_const x) }
@@ -123,7 +123,7 @@ pub struct ExprTryBlock<'t, 'a> {
 }
 
 impl<'t, 'a> ExprTryBlock<'t, 'a> {
-    /// What a tree is, if it is that.
+    /// A tree of the kind `ExprTryBlock`, as its parts. `None` only of trees that have another shape.
     #[tactic(auto, unfolding(syn_grammar::specs::Table::table))]
     pub fn of(tree: &'t Tree<'a>) -> Option<ExprTryBlock<'t, 'a>>
         ensures { MatchOption result (IsAlone tree.now k.ExprTryBlock → ⊥) (λ x. tree.now ≡ expr_try_block x) }
@@ -151,7 +151,7 @@ pub struct ExprContinue<'a> {
 }
 
 impl<'a> ExprContinue<'a> {
-    /// What a tree is, if it is that.
+    /// A tree of the kind `ExprContinue`, as its parts. `None` only of trees that have another shape.
     #[tactic(auto, unfolding(syn_grammar::specs::Table::table))]
     pub fn of(tree: &Tree<'a>) -> Option<ExprContinue<'a>>
         ensures { MatchOption result (IsAlone tree.now k.ExprContinue → ⊥) (λ x. tree.now ≡ expr_continue x) }

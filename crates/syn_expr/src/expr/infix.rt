@@ -22,7 +22,8 @@ pub struct ExprAssign<'t, 'a> {
 }
 
 impl<'t, 'a> ExprAssign<'t, 'a> {
-    /// What a tree is, if it is that.
+    /// A tree of the kind `ExprAssign` whose operator is `=`, as its parts. `None` only of trees that have
+    /// another shape.
     #[tactic(auto, unfolding(syn_grammar::specs::Table::table), using(crate::proofs::ExprInfix::assign_infix))]
     pub fn of(tree: &'t Tree<'a>) -> Option<ExprAssign<'t, 'a>>
         ensures { MatchOption result (IsAssign tree.now → ⊥) (λ x. tree.now ≡ expr_assign x) }
@@ -56,7 +57,8 @@ pub struct ExprBinary<'t, 'a> {
 }
 
 impl<'t, 'a> ExprBinary<'t, 'a> {
-    /// What a tree is, if it is that.
+    /// A form of a kind of binary operators, as its parts; an assignment by `=` is none. `None` only of trees
+    /// that have another shape.
     #[tactic(auto, using(crate::proofs::ExprInfix::binary_infix))]
     pub fn of(tree: &'t Tree<'a>) -> Option<ExprBinary<'t, 'a>>
         ensures { MatchOption result (IsBinary tree.now → ⊥) (λ x. tree.now ≡ expr_binary x) }

@@ -11,13 +11,14 @@ ghost use Rattle.syn_grammar.specs.Kind as k;
 ghost use Rattle.syn_grammar.specs.Name as n;
 
 use crate::expr::forms;
-use crate::expr::ops::{RangeLimits, range_limits};
+use crate::expr::ops::range_limits;
 use gram_table::kind::Kind;
 use gram_table::part::Part;
 use gram_tree::tree::Tree;
 use rust_leaf::ident::Ident;
 use syn_ast::leaf::Lifetime;
 use syn_ast::missing::nothing;
+use syn_ast::patterns::RangeLimits;
 use syn_ast::take;
 
 /// A loop or a block that is left: `break 'a b`.
@@ -67,7 +68,7 @@ fn whole_break_label<'a>(tree: &Tree<'a>) -> Option<Lifetime<'a>>
 }
 
 impl<'t, 'a> ExprBreak<'t, 'a> {
-    /// What a tree is, if it is that.
+    /// A tree of the kind `ExprBreak`, as its parts. `None` only of trees that have another shape.
     #[tactic(auto, unfolding(syn_grammar::specs::Table::table), using(crate::proofs::ExprJumps::jumps))]
     pub fn of(tree: &'t Tree<'a>) -> Option<ExprBreak<'t, 'a>>
         ensures { MatchOption result (IsJump tree.now k.ExprBreak → ⊥) (λ x. tree.now ≡ expr_break x) }
@@ -102,7 +103,7 @@ pub struct ExprReturn<'t, 'a> {
 }
 
 impl<'t, 'a> ExprReturn<'t, 'a> {
-    /// What a tree is, if it is that.
+    /// A tree of the kind `ExprReturn`, as its parts. `None` only of trees that have another shape.
     #[tactic(auto, unfolding(syn_grammar::specs::Table::table), using(crate::proofs::ExprJumps::jumps))]
     pub fn of(tree: &'t Tree<'a>) -> Option<ExprReturn<'t, 'a>>
         ensures { MatchOption result (IsJump tree.now k.ExprReturn → ⊥) (λ x. tree.now ≡ expr_return x) }
@@ -127,7 +128,7 @@ pub struct ExprYield<'t, 'a> {
 }
 
 impl<'t, 'a> ExprYield<'t, 'a> {
-    /// What a tree is, if it is that.
+    /// A tree of the kind `ExprYield`, as its parts. `None` only of trees that have another shape.
     #[tactic(auto, unfolding(syn_grammar::specs::Table::table), using(crate::proofs::ExprJumps::jumps))]
     pub fn of(tree: &'t Tree<'a>) -> Option<ExprYield<'t, 'a>>
         ensures { MatchOption result (IsJump tree.now k.ExprYield → ⊥) (λ x. tree.now ≡ expr_yield x) }
@@ -154,7 +155,8 @@ pub struct ExprRange<'t, 'a> {
 }
 
 impl<'t, 'a> ExprRange<'t, 'a> {
-    /// What a tree is, if it is that.
+    /// A form of the kind `ExprRange` or `ExprRangeClosed`, as its parts. `None` only of trees that have
+    /// another shape.
     #[tactic(auto, using(crate::proofs::ExprJumps::range_limited))]
     pub fn of(tree: &'t Tree<'a>) -> Option<ExprRange<'t, 'a>>
         ensures { MatchOption result (IsForm tree.now k.ExprRange ⊎ IsForm tree.now k.ExprRangeClosed → ⊥)

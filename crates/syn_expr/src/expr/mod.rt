@@ -7,6 +7,7 @@ pub mod jumps;
 pub mod laws;
 pub mod ops;
 pub mod parts;
+pub mod placeholder;
 pub mod postfix;
 pub mod prefix;
 pub mod whole;

@@ -14,6 +14,7 @@ use crate::expr::forms;
 use gram_table::kind::Kind;
 use gram_tree::tree::Tree;
 use syn_ast::leaf::Mark;
+use syn_ast::patterns::RangeLimits;
 use syn_ast::take;
 
 /// A unary operator.
@@ -39,15 +40,6 @@ pub fn as_un_op(tree: &Tree<'_>) -> Option<UnOp>
         Some(_) => None,
         None => None,
     }
-}
-
-/// How a range ends.
-#[derive(Clone, Copy)]
-pub enum RangeLimits {
-    /// `..`
-    HalfOpen(Mark),
-    /// `..=`
-    Closed(Mark),
 }
 
 /// A binary operator.
@@ -226,7 +218,7 @@ pub fn bin_op(kind: Kind, own: &Tree<'_>) -> Option<BinOp>
     }
 }
 
-/// How a range's form of the kind ends.
+/// Whether the end of a range's form of the kind is in it.
 #[tactic(auto, unfolding(syn_grammar::specs::Table::table))]
 pub fn range_limits(kind: Kind, own: &Tree<'_>) -> Option<RangeLimits>
     ensures { MatchOption result (IsLimits (kind_of kind) own.now → ⊥)

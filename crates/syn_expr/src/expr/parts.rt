@@ -1,4 +1,4 @@
-//! Parts of expressions: members, fields and arms.
+//! Parts of expressions: fields and arms.
 
 ghost use Rattle.proc_macro2.specs.Token.{Token};
 ghost use Rattle.std.specs.Prelude.{Bool, List, MatchOption, false, ℕ, ◌≡◌};
@@ -6,7 +6,7 @@ ghost use Rattle.syn_ast.specs.Kept.{IsKept};
 ghost use Rattle.syn_ast.specs.Leaves.{literal_tree, word_tree};
 ghost use Rattle.syn_ast.specs.Shape.{IsShaped, may_choose};
 ghost use Rattle.syn_expr.specs.ExprParts.{a_field_value, arm, arm_comma_tree, field_init_tree};
-ghost use Rattle.syn_expr.specs.ExprParts.{field_member_tree, field_value, field_values, member, member_tree};
+ghost use Rattle.syn_expr.specs.ExprParts.{field_member_tree, field_value, field_values};
 ghost use Rattle.syn_expr.specs.ExprParts.{member_value_tree, rest_tree, struct_rest_tree};
 ghost use Rattle.syn_grammar.specs.Gram as g;
 ghost use Rattle.syn_grammar.specs.Kind as k;
@@ -20,40 +20,11 @@ use rust_leaf::ident::Ident;
 use rust_leaf::literal::Literal;
 use syn_ast::leaf::{Delimiters, Mark};
 use syn_ast::list::Elements;
+use syn_ast::paths::{Index, Member};
 use syn_ast::sub::{Worded, optional_as_worded};
 use syn_ast::take::{self, Choice, Choice3};
 
-/// A field's name, or its index.
-#[derive(Clone, Copy)]
-pub enum Member<'a> {
-    /// Its name.
-    Named(&'a Ident),
-    /// Its index; behind a dot perhaps several, with dots between them: `0.1` in `a.0.1`.
-    Unnamed(&'a Literal),
-}
-
-/// Which of both stands there.
-pub fn as_member<'a>(tree: &Tree<'a>) -> Option<Member<'a>>
-    ensures { MatchOption result ((test : List Token → Bool) (p q : List ℕ → Bool) → IsShaped tree.now
-        (g.alt test (g.word p) (g.literal q)) → ⊥)
-        (λ m. tree.now ≡ member_tree m) }
-{
-    let Some(which) = take::chosen(tree) else {
-        return None;
-    };
-    match which {
-        Choice::First(inner) => match take::word(inner) {
-            Some(word) => Some(Member::Named(word)),
-            None => None,
-        },
-        Choice::Second(inner) => match take::literal(inner) {
-            Some(literal) => Some(Member::Unnamed(literal)),
-            None => None,
-        },
-    }
-}
-
-/// Which of both stands there, each by its name.
+/// A name or an index behind a dot, each by its name as a part. `None` only of trees that have another shape.
 pub fn as_field_member<'a>(tree: &Tree<'a>) -> Option<Member<'a>>
     ensures { MatchOption result ((test : List Token → Bool) (p q : List ℕ → Bool) → IsShaped tree.now
         (g.alt test (g.called n.the_name (g.word p)) (g.called n.the_value (g.literal q))) → ⊥)
@@ -68,7 +39,7 @@ pub fn as_field_member<'a>(tree: &Tree<'a>) -> Option<Member<'a>>
             None => None,
         },
         Choice::Second(inner) => match called_literal(inner) {
-            Some(literal) => Some(Member::Unnamed(literal)),
+            Some(index) => Some(Member::Unnamed(Index { index })),
             None => None,
         },
     }
@@ -96,19 +67,6 @@ fn called_literal<'a>(tree: &Tree<'a>) -> Option<&'a Literal>
     take::literal(inner)
 }
 
-impl<'a> Member<'a> {
-    /// What a tree is, if it is that.
-    #[tactic(auto, unfolding(syn_grammar::specs::Table::table))]
-    pub fn of(tree: &Tree<'a>) -> Option<Member<'a>>
-        ensures { MatchOption result (IsShaped tree.now (g.ref k.Member) → ⊥) (λ m. tree.now ≡ member m) }
-    {
-        let Some((Kind::Member, inner)) = take::node(tree) else {
-            return None;
-        };
-        as_member(inner)
-    }
-}
-
 /// The fields of a struct, in their braces: `{ a: b, ..c }`.
 #[derive(Clone, Copy)]
 pub struct FieldValues<'t, 'a> {
@@ -119,7 +77,8 @@ pub struct FieldValues<'t, 'a> {
 }
 
 impl<'t, 'a> FieldValues<'t, 'a> {
-    /// What a tree is, if it is that. The fields that were read are kept as they were read.
+    /// A tree of the kind `FieldValues`, as its parts. `None` only of trees that have another shape, or are
+    /// kept as tokens alone. Fields that were read are never that.
     #[tactic(auto, unfolding(syn_grammar::specs::Table::table))]
     pub fn of(tree: &'t Tree<'a>) -> Option<FieldValues<'t, 'a>>
         ensures { MatchOption result (IsKept tree.now → IsShaped tree.now (g.ref k.FieldValues) → ⊥)
@@ -191,7 +150,8 @@ pub struct Arm<'t, 'a> {
 }
 
 impl<'t, 'a> Arm<'t, 'a> {
-    /// What a tree is, if it is that. An arm that was read is kept as it was read.
+    /// A tree of the kind `Arm`, as its parts. `None` only of trees that have another shape, or are kept as
+    /// tokens alone. One that was read is never that.
     #[tactic(auto, unfolding(syn_grammar::specs::Table::table))]
     pub fn of(tree: &'t Tree<'a>) -> Option<Arm<'t, 'a>>
         ensures { MatchOption result (IsKept tree.now → IsShaped tree.now (g.ref k.Arm) → ⊥)
@@ -261,7 +221,7 @@ pub struct StructRest<'t, 'a> {
     pub rest: Option<&'t Tree<'a>>,
 }
 
-// What a tree is, if it is that.
+// The rest of a struct, as its parts.
 fn as_struct_rest<'t, 'a>(tree: &'t Tree<'a>) -> Option<StructRest<'t, 'a>>
     ensures { MatchOption result ((c1 : ℕ) (cs2 : List ℕ) (t3 : List Token → Bool) (a4 : g.Gram)
         → may_choose a4 ≡ false → IsShaped tree.now (g.called n.the_base (g.seq (g.mark c1 cs2)
@@ -293,7 +253,7 @@ pub enum AFieldValue<'t, 'a> {
 }
 
 impl<'t, 'a> AFieldValue<'t, 'a> {
-    /// What a tree is, if it is that.
+    /// A tree of the kind `AFieldValue`, as its parts. `None` only of trees that have another shape.
     #[tactic(auto, unfolding(syn_grammar::specs::Table::table))]
     pub fn of(tree: &'t Tree<'a>) -> Option<AFieldValue<'t, 'a>>
         ensures { MatchOption result (IsShaped tree.now (g.ref k.AFieldValue) → ⊥) (λ x. tree.now ≡ a_field_value x) }
@@ -373,7 +333,7 @@ pub struct FieldValue<'t, 'a> {
 }
 
 impl<'t, 'a> FieldValue<'t, 'a> {
-    /// What a tree is, if it is that.
+    /// A tree of the kind `FieldValue`, as its parts. `None` only of trees that have another shape.
     #[tactic(auto, unfolding(syn_grammar::specs::Table::table))]
     pub fn of(tree: &'t Tree<'a>) -> Option<FieldValue<'t, 'a>>
         ensures { MatchOption result (IsShaped tree.now (g.ref k.FieldValue) → ⊥) (λ x. tree.now ≡ field_value x) }

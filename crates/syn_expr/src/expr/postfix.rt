@@ -11,7 +11,7 @@ ghost use Rattle.syn_grammar.specs.Kind as k;
 ghost use Rattle.syn_grammar.specs.Name as n;
 
 use crate::expr::forms;
-use crate::expr::parts::{Member, as_field_member};
+use crate::expr::parts::as_field_member;
 use gram_table::kind::Kind;
 use gram_table::part::Part;
 use gram_tree::tree::Tree;
@@ -19,6 +19,7 @@ use rust_leaf::ident::Ident;
 use syn_ast::leaf::{Delimiters, Mark};
 use syn_ast::list::{Elements, Turns};
 use syn_ast::missing::nothing;
+use syn_ast::paths::Member;
 use syn_ast::take;
 
 /// A dot, and the numbers behind it that end in one.
@@ -53,7 +54,7 @@ pub struct ExprCall<'t, 'a> {
 }
 
 impl<'t, 'a> ExprCall<'t, 'a> {
-    /// What a tree is, if it is that.
+    /// A tree of the kind `ExprCall`, as its parts. `None` only of trees that have another shape.
     #[tactic(auto, unfolding(syn_grammar::specs::Table::table))]
     pub fn of(tree: &'t Tree<'a>) -> Option<ExprCall<'t, 'a>>
         ensures { MatchOption result (IsBack tree.now k.ExprCall → ⊥) (λ x. tree.now ≡ expr_call x) }
@@ -95,7 +96,7 @@ pub struct ExprMethodCall<'t, 'a> {
 }
 
 impl<'t, 'a> ExprMethodCall<'t, 'a> {
-    /// What a tree is, if it is that.
+    /// A tree of the kind `ExprMethodCall`, as its parts. `None` only of trees that have another shape.
     #[tactic(auto, unfolding(syn_grammar::specs::Table::table))]
     pub fn of(tree: &'t Tree<'a>) -> Option<ExprMethodCall<'t, 'a>>
         ensures { MatchOption result (IsBack tree.now k.ExprMethodCall → ⊥) (λ x. tree.now ≡ expr_method_call x) }
@@ -150,7 +151,7 @@ pub struct ExprField<'t, 'a> {
 }
 
 impl<'t, 'a> ExprField<'t, 'a> {
-    /// What a tree is, if it is that.
+    /// A tree of the kind `ExprField`, as its parts. `None` only of trees that have another shape.
     #[tactic(auto, unfolding(syn_grammar::specs::Table::table))]
     pub fn of(tree: &'t Tree<'a>) -> Option<ExprField<'t, 'a>>
         ensures { MatchOption result (IsBack tree.now k.ExprField → ⊥) (λ x. tree.now ≡ expr_field x) }
@@ -190,7 +191,7 @@ pub struct ExprAwait<'t, 'a> {
 }
 
 impl<'t, 'a> ExprAwait<'t, 'a> {
-    /// What a tree is, if it is that.
+    /// A tree of the kind `ExprAwait`, as its parts. `None` only of trees that have another shape.
     #[tactic(auto, unfolding(syn_grammar::specs::Table::table))]
     pub fn of(tree: &'t Tree<'a>) -> Option<ExprAwait<'t, 'a>>
         ensures { MatchOption result (IsBack tree.now k.ExprAwait → ⊥) (λ x. tree.now ≡ expr_await x) }
@@ -228,7 +229,7 @@ pub struct ExprIndex<'t, 'a> {
 }
 
 impl<'t, 'a> ExprIndex<'t, 'a> {
-    /// What a tree is, if it is that.
+    /// A tree of the kind `ExprIndex`, as its parts. `None` only of trees that have another shape.
     #[tactic(auto, unfolding(syn_grammar::specs::Table::table))]
     pub fn of(tree: &'t Tree<'a>) -> Option<ExprIndex<'t, 'a>>
         ensures { MatchOption result (IsBack tree.now k.ExprIndex → ⊥) (λ x. tree.now ≡ expr_index x) }
@@ -257,7 +258,7 @@ pub struct ExprTry<'t, 'a> {
 }
 
 impl<'t, 'a> ExprTry<'t, 'a> {
-    /// What a tree is, if it is that.
+    /// A tree of the kind `ExprTry`, as its parts. `None` only of trees that have another shape.
     #[tactic(auto, unfolding(syn_grammar::specs::Table::table))]
     pub fn of(tree: &'t Tree<'a>) -> Option<ExprTry<'t, 'a>>
         ensures { MatchOption result (IsBack tree.now k.ExprTry → ⊥) (λ x. tree.now ≡ expr_try x) }
@@ -285,7 +286,7 @@ pub struct ExprStruct<'t, 'a> {
 }
 
 impl<'t, 'a> ExprStruct<'t, 'a> {
-    /// What a tree is, if it is that.
+    /// A tree of the kind `ExprStruct`, as its parts. `None` only of trees that have another shape.
     #[tactic(auto, unfolding(syn_grammar::specs::Table::table))]
     pub fn of(tree: &'t Tree<'a>) -> Option<ExprStruct<'t, 'a>>
         ensures { MatchOption result (IsBack tree.now k.ExprStruct → ⊥) (λ x. tree.now ≡ expr_struct x) }
@@ -309,7 +310,7 @@ pub struct ExprCast<'t, 'a> {
 }
 
 impl<'t, 'a> ExprCast<'t, 'a> {
-    /// What a tree is, if it is that.
+    /// A tree of the kind `ExprCast`, as its parts. `None` only of trees that have another shape.
     #[tactic(auto, unfolding(syn_grammar::specs::Table::table), using(syn_ast::proofs::Absent::never_or))]
     pub fn of(tree: &'t Tree<'a>) -> Option<ExprCast<'t, 'a>>
         ensures { MatchOption result (IsBack tree.now k.ExprCast → ⊥) (λ x. tree.now ≡ expr_cast x) }

@@ -13,6 +13,7 @@ ghost use Rattle.syn_grammar.specs.Kind as k;
 
 use crate::expr::forms;
 use crate::expr::ops::{UnOp, as_un_op};
+use crate::modifiers::ClosureModifiers;
 use gram_table::kind::Kind;
 use gram_tree::tree::Tree;
 use rust_leaf::ident::Ident;
@@ -32,7 +33,7 @@ pub struct ExprAttributed<'t, 'a> {
 }
 
 impl<'t, 'a> ExprAttributed<'t, 'a> {
-    /// What a tree is, if it is that.
+    /// A tree of the kind `ExprAttributed`, as its parts. `None` only of trees that have another shape.
     #[tactic(auto, unfolding(syn_grammar::specs::Table::table))]
     pub fn of(tree: &'t Tree<'a>) -> Option<ExprAttributed<'t, 'a>>
         ensures { MatchOption result (IsFront tree.now k.ExprAttributed → ⊥) (λ x. tree.now ≡ expr_attributed x) }
@@ -57,7 +58,7 @@ pub struct ExprUnary<'t, 'a> {
 }
 
 impl<'t, 'a> ExprUnary<'t, 'a> {
-    /// What a tree is, if it is that.
+    /// A tree of the kind `ExprUnary`, as its parts. `None` only of trees that have another shape.
     #[tactic(auto, unfolding(syn_grammar::specs::Table::table))]
     pub fn of(tree: &'t Tree<'a>) -> Option<ExprUnary<'t, 'a>>
         ensures { MatchOption result (IsFront tree.now k.ExprUnary → ⊥) (λ x. tree.now ≡ expr_unary x) }
@@ -86,7 +87,7 @@ pub struct ExprRawAddr<'t, 'a> {
 }
 
 impl<'t, 'a> ExprRawAddr<'t, 'a> {
-    /// What a tree is, if it is that.
+    /// A tree of the kind `ExprRawAddr`, as its parts. `None` only of trees that have another shape.
     #[tactic(auto, unfolding(syn_grammar::specs::Table::table))]
     pub fn of(tree: &'t Tree<'a>) -> Option<ExprRawAddr<'t, 'a>>
         ensures { MatchOption result (IsFront tree.now k.ExprRawAddr → ⊥) (λ x. tree.now ≡ expr_raw_addr x) }
@@ -127,7 +128,7 @@ pub struct ExprReference<'t, 'a> {
 }
 
 impl<'t, 'a> ExprReference<'t, 'a> {
-    /// What a tree is, if it is that.
+    /// A tree of the kind `ExprReference`, as its parts. `None` only of trees that have another shape.
     #[tactic(auto, unfolding(syn_grammar::specs::Table::table))]
     pub fn of(tree: &'t Tree<'a>) -> Option<ExprReference<'t, 'a>>
         ensures { MatchOption result (IsFront tree.now k.ExprReference → ⊥) (λ x. tree.now ≡ expr_reference x) }
@@ -166,7 +167,7 @@ pub struct ExprLet<'t, 'a> {
 }
 
 impl<'t, 'a> ExprLet<'t, 'a> {
-    /// What a tree is, if it is that.
+    /// A tree of the kind `ExprLet`, as its parts. `None` only of trees that have another shape.
     #[tactic(auto, unfolding(syn_grammar::specs::Table::table))]
     pub fn of(tree: &'t Tree<'a>) -> Option<ExprLet<'t, 'a>>
         ensures { MatchOption result (IsFront tree.now k.ExprLet → ⊥) (λ x. tree.now ≡ expr_let x) }
@@ -213,7 +214,7 @@ pub struct ClosureHead<'t, 'a> {
     pub or2_token: Mark,
 }
 
-// What a tree is, if it is that.
+// What stands before the body of a closure, as its parts.
 fn as_closure_head<'t, 'a>(tree: &'t Tree<'a>) -> Option<ClosureHead<'t, 'a>>
     ensures { MatchOption result (IsShaped tree.now entries.expr_closure → ⊥) (λ h. tree.now ≡ closure_head h) }
 {
@@ -264,6 +265,8 @@ pub struct ExprClosure<'t, 'a> {
     pub asyncness: Option<&'a Ident>,
     /// `move`
     pub capture: Option<&'a Ident>,
+    /// What stands beside its parts: nothing.
+    pub modifiers: ClosureModifiers,
     /// `|`
     pub or1_token: Mark,
     /// Its parameters, each as a form of the kind `ClosureParam`.
@@ -290,6 +293,7 @@ fn closure<'t, 'a>(
         movability: head.movability,
         asyncness: head.asyncness,
         capture: head.capture,
+        modifiers: ClosureModifiers {},
         or1_token: head.or1_token,
         inputs: head.inputs,
         or2_token: head.or2_token,
@@ -330,7 +334,8 @@ impl<'t, 'a> ExprClosure<'t, 'a> {
         Some(closure(head, Some(output), body))
     }
 
-    /// What a tree is, if it is that.
+    /// A form of the kind `ExprClosure` or `ExprTypedClosure`, as its parts. `None` only of trees that have
+    /// another shape.
     pub fn of(tree: &'t Tree<'a>) -> Option<ExprClosure<'t, 'a>>
         ensures { MatchOption result (IsFront tree.now k.ExprClosure ⊎ IsAlone tree.now k.ExprTypedClosure → ⊥)
             (λ x. tree.now ≡ expr_closure x) }

@@ -313,7 +313,8 @@ pub struct ExprParen<'t, 'a> {
 }
 
 impl<'t, 'a> ExprParen<'t, 'a> {
-    /// What a tree is, if it is that.
+    /// A tree of the kind `ExprParen` with one expression and no comma, as its parts. `None` only of trees
+    /// that have another shape.
     #[tactic(auto, using(crate::proofs::ExprWhole::parens))]
     pub fn of(tree: &'t Tree<'a>) -> Option<ExprParen<'t, 'a>>
         ensures { MatchOption result (IsOf exprs.Paren tree.now → ⊥) (λ x. tree.now ≡ expr_paren x) }
@@ -339,8 +340,9 @@ pub struct ExprTuple<'t, 'a> {
 }
 
 impl<'t, 'a> ExprTuple<'t, 'a> {
-    /// What a tree is, if it is that.
-    #[tactic(auto, using(crate::proofs::ExprWhole::parens))]
+    /// A tree of the kind `ExprParen` that is no lone expression without a comma, as its parts. `None` only
+    /// of trees that have another shape.
+    #[tactic(auto, using(crate::proofs::ExprWhole::parens, syn_ast::proofs::TypeForms::several_types))]
     pub fn of(tree: &'t Tree<'a>) -> Option<ExprTuple<'t, 'a>>
         ensures { MatchOption result (IsOf exprs.Tuple tree.now → ⊥) (λ x. tree.now ≡ expr_tuple x) }
     {
