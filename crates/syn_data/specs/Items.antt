@@ -15,6 +15,8 @@ use Rattle.syn_data.specs.declared.item.ItemEnum.{ItemEnum}
 use Rattle.syn_data.specs.declared.item.ItemExternCrate.{ItemExternCrate}
 use Rattle.syn_data.specs.declared.item.ItemStatic.{ItemStatic}
 use Rattle.syn_data.specs.declared.item.ItemStruct.{ItemStruct}
+use Rattle.syn_data.specs.declared.item.StaticMutability.{StaticMutability}
+use Rattle.syn_data.specs.declared.item.StaticMutability.TheVariants as mutabilities
 use Rattle.syn_data.specs.declared.item.ItemUnion.{ItemUnion}
 use Rattle.syn_data.specs.declared.item.ItemUse.{ItemUse}
 use Rattle.syn_grammar.specs.Kind as k
@@ -66,9 +68,14 @@ union_tree u i a w x = t.Node k.AUnion (t.Pair (word_tree u) (t.Pair (t.Called n
 abbrev pub item_union : ItemUnion → Tree
 item_union x = union_tree x.union_token x.ident x.generics x.where_clause x.fields
 
+-- mut, or nothing
+abbrev pub mutability_tree : StaticMutability → Tree
+mutability_tree (mutabilities.Mut i) = t.First (word_tree i)
+mutability_tree mutabilities.None = t.Second t.Nil
+
 -- a static: static mut A: T = b;, behind its attributes and its visibility
 abbrev pub item_static : ItemStatic → Tree
-item_static x = t.Node k.AStatic (t.Pair (word_tree x.static_token) (t.Pair (optional_tree word_tree x.mutability)
+item_static x = t.Node k.AStatic (t.Pair (word_tree x.static_token) (t.Pair (mutability_tree x.mutability)
     (t.Pair (t.Called n.the_name (word_tree x.ident)) (t.Pair (optional_tree marked_type_tree x.ty) (t.Pair
     (optional_tree marked_value_tree x.expr) (mark_tree x.semi_token))))))
 

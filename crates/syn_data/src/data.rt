@@ -1,7 +1,7 @@
 //! Fields and variants.
 
 ghost use Rattle.proc_macro2.specs.Token.{Token};
-ghost use Rattle.std.specs.Prelude.{◌≡◌, ◌⊎◌, Bool, List, MatchOption};
+ghost use Rattle.std.specs.Prelude.{◌≡◌, ◌⊎◌, Bool, IsOk, List, MatchOption};
 ghost use Rattle.syn_ast.specs.Shape.{IsShaped};
 ghost use Rattle.syn_data.specs.Data.{IsField, fields_named, fields_unnamed, named_field, unnamed_field, variant};
 ghost use Rattle.syn_data.specs.Data.{variant_fields};
@@ -17,6 +17,7 @@ use syn_ast::list::Elements;
 use syn_ast::name::{Name, as_name};
 use syn_ast::sub::{MarkedValue, optional_as_marked_value};
 use syn_ast::take::{self, Choice3};
+use syn_error::fault::ParseFault;
 
 /// A field with a name: `pub a: T = b`.
 #[derive(Clone, Copy)]
@@ -98,6 +99,23 @@ impl<'t, 'a> UnnamedField<'t, 'a> {
     }
 }
 
+/// What may stand in front of a field behind its visibility: nothing.
+#[derive(Clone, Copy, Default)]
+pub struct FieldModifiers {}
+
+impl FieldModifiers {
+    /// That nothing stands there. It takes no memory.
+    ///
+    /// # Errors
+    ///
+    /// None.
+    pub fn require_empty(&self) -> Result<(), ParseFault>
+        ensures { IsOk result }
+    {
+        Ok(())
+    }
+}
+
 /// A field, with a name or without: `pub a: T = b`, `pub T`.
 #[derive(Clone, Copy)]
 pub struct Field<'t, 'a> {
@@ -105,6 +123,8 @@ pub struct Field<'t, 'a> {
     pub attrs: &'t Tree<'a>,
     /// Its visibility.
     pub vis: &'t Tree<'a>,
+    /// What stands in front of it behind its visibility.
+    pub modifiers: FieldModifiers,
     /// Its name, or `_`.
     pub ident: Option<Name<'a>>,
     /// `:`, if it has a name.
@@ -125,6 +145,7 @@ impl<'t, 'a> Field<'t, 'a> {
             Some(found) => Some(Field {
                 attrs: found.attrs,
                 vis: found.vis,
+                modifiers: FieldModifiers {},
                 ident: Some(found.ident),
                 colon_token: Some(found.colon_token),
                 ty: found.ty,
@@ -134,6 +155,7 @@ impl<'t, 'a> Field<'t, 'a> {
                 Some(found) => Some(Field {
                     attrs: found.attrs,
                     vis: found.vis,
+                    modifiers: FieldModifiers {},
                     ident: None,
                     colon_token: None,
                     ty: found.ty,

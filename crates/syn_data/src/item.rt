@@ -4,7 +4,7 @@ ghost use Rattle.proc_macro2.specs.Token.{Token};
 ghost use Rattle.std.specs.Prelude.{◌≡◌, Bool, List, MatchOption, ℕ};
 ghost use Rattle.syn_ast.specs.Shape.{IsShaped};
 ghost use Rattle.syn_data.specs.Items.{IsClosed, item_enum, item_extern_crate, item_static, item_struct, item_union};
-ghost use Rattle.syn_data.specs.Items.{item_use, struct_end};
+ghost use Rattle.syn_data.specs.Items.{item_use, mutability_tree, struct_end};
 ghost use Rattle.syn_grammar.specs.Gram as g;
 ghost use Rattle.syn_grammar.specs.Kind as k;
 ghost use Rattle.syn_grammar.specs.Name as n;
@@ -287,13 +287,34 @@ impl<'t, 'a> ItemUnion<'t, 'a> {
     }
 }
 
+/// Whether a static may be written.
+#[derive(Clone, Copy)]
+pub enum StaticMutability<'a> {
+    /// `mut`
+    Mut(&'a Ident),
+    /// `mut` is not written.
+    None,
+}
+
+// Whether a static may be written.
+fn as_mutability<'a>(tree: &Tree<'a>) -> Option<StaticMutability<'a>>
+    ensures { MatchOption result ((test : List Token → Bool) (p : List ℕ → Bool) → IsShaped tree.now (g.alt test
+        (g.word p) g.nothing) → ⊥) (λ m. tree.now ≡ mutability_tree m) }
+{
+    match take::optional_word(tree) {
+        Some(Some(word)) => Some(StaticMutability::Mut(word)),
+        Some(None) => Some(StaticMutability::None),
+        None => None,
+    }
+}
+
 /// A static: `static mut A: T = b;`, behind its attributes and its visibility.
 #[derive(Clone, Copy)]
 pub struct ItemStatic<'t, 'a> {
     /// `static`
     pub static_token: &'a Ident,
-    /// `mut`
-    pub mutability: Option<&'a Ident>,
+    /// Whether it may be written.
+    pub mutability: StaticMutability<'a>,
     /// Its name.
     pub ident: &'a Ident,
     /// `:` and its type.
@@ -319,7 +340,7 @@ impl<'t, 'a> ItemStatic<'t, 'a> {
         let Some(static_token) = take::word(static_token) else {
             return None;
         };
-        let Some(mutability) = take::optional_word(mutability) else {
+        let Some(mutability) = as_mutability(mutability) else {
             return None;
         };
         let Some((Part::Name, ident)) = take::called(ident) else {
