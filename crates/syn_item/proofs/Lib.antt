@@ -3,3 +3,4 @@ pub mod ItemJudged
 pub mod ItemEntries
 pub mod ItemKinds
 pub mod ItemKept
+pub mod ItemArgumentLaws

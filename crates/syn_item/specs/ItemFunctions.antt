@@ -1,9 +1,11 @@
 -- The trees that functions are, with their signatures, parameters and receivers.
 use Rattle.gram_table.specs.Kinds.{place_of}
+use Rattle.gram_table.specs.declared.kind.Place.{Place}
 use Rattle.std.specs.Prelude.{◌≡◌, ◌≢◌, None, Option, Some, codes}
 use Rattle.rust_leaf.specs.Leaf.{ident_text}
 use Rattle.rust_leaf.specs.declared.ident.Ident.{Ident}
 use Rattle.syn_ast.specs.Leaves.{lifetime_tree, list_tree, mark_tree, node_tree, optional_tree, word_tree}
+use Rattle.syn_ast.specs.declared.leaf.Lifetime.{Lifetime}
 use Rattle.syn_ast.specs.declared.leaf.Mark.{Mark}
 use Rattle.syn_grammar.specs.Kind as k
 use Rattle.syn_grammar.specs.Name as n
@@ -51,24 +53,26 @@ parameter x = t.Node k.Parameter (t.Pair x.attrs.now (fn_arg_tree x.arg))
 abbrev pub one_parameter : OneParameter → Tree
 one_parameter x = t.Node k.FnArg (t.First x.parameter.now)
 
--- how a receiver is taken, with what stands before it: the mut of one by reference stands behind its &, and none in
--- front of it
-abbrev pub receiver_form : ReceiverKind → Option (Bor Ident) → Bor Ident → Tree
-receiver_form receivers.Value m s = t.Second (t.Pair (optional_tree word_tree m) (t.Pair (word_tree s)
-    (t.Second t.Nil)))
-receiver_form (receivers.Typed c x) m s = t.Second (t.Pair (optional_tree word_tree m) (t.Pair (word_tree s) (t.First
-    (t.Pair (mark_tree c) x.now))))
-receiver_form (receivers.Reference a l m) None s = t.First (t.Pair (mark_tree a) (t.Pair
-    (optional_tree lifetime_tree l) (t.Pair (optional_tree word_tree m) (word_tree s))))
-receiver_form (receivers.Reference a l m) (Some w) s = t.Nil
+-- a receiver that is not taken by reference: mut self: T
+abbrev pub value_tree : Option (Bor Ident) → Bor Ident → Tree → Tree
+value_tree m s y = t.Node k.Receiver (t.Second (t.Pair (optional_tree word_tree m) (t.Pair (word_tree s) y)))
 
--- a receiver, by its own fields
-abbrev pub receiver_tree : Receiver → Tree
-receiver_tree x = receiver_form x.kind x.mutability x.self_token
+-- a receiver that is taken by reference: &'a mut self
+abbrev pub reference_tree : Mark → Option Lifetime → Option (Bor Ident) → Bor Ident → Tree
+reference_tree a l m s = t.Node k.Receiver (t.First (t.Pair (mark_tree a) (t.Pair (optional_tree lifetime_tree l)
+    (t.Pair (optional_tree word_tree m) (word_tree s)))))
 
--- a receiver: &'a mut self, mut self: T
-abbrev pub receiver : Receiver → Tree
-receiver x = t.Node k.Receiver (receiver_tree x)
+-- the tree is a receiver that is taken so, with a mut in front of self, unless it is taken by reference: its mut
+-- stands behind the &
+abbrev pub IsReceiverOf : ReceiverKind → Option (Bor Ident) → Bor Ident → Tree → Type 0
+IsReceiverOf receivers.Value m s y = y ≡ value_tree m s (t.Second t.Nil)
+IsReceiverOf (receivers.Typed c x) m s y = y ≡ value_tree m s (t.First (t.Pair (mark_tree c) x.now))
+IsReceiverOf (receivers.Reference a l m) None s y = y ≡ reference_tree a l m s
+IsReceiverOf (receivers.Reference a l m) (Some w) s y = ⊥
+
+-- the tree is that receiver
+abbrev pub IsReceiver : Receiver → Tree → Type 0
+IsReceiver x y = IsReceiverOf x.kind x.mutability x.self_token y
 
 -- whether it is safe to call a function
 abbrev pub safety_is : Safety → Tree
@@ -89,12 +93,16 @@ signature x = t.Node (k.Signature (place_of x.place)) (t.Pair (optional_tree wor
     (word_tree x.fn_token) (t.Pair (named_tree x.ident) (t.Pair (t.Called n.the_generics x.generics.now)
     (t.Pair x.inputs.now (t.Pair x.output.now (t.Called n.the_where x.where_clause.now))))))))))
 
--- a block, or ; and never both
-abbrev pub function_end : Option (Bor Tree) → Option Mark → Tree
-function_end (Some b) None = t.First (t.Called n.the_body b.now)
-function_end None (Some m) = t.Second (mark_tree m)
-function_end _ _ = t.Nil
+-- a function of this signature, and of what stands behind it
+abbrev pub function_tree : Place → Bor Tree → Tree → Tree
+function_tree p s y = t.Node (k.AFunction (place_of p)) (t.Pair s.now y)
 
--- a function: a signature, and a block or ;
-abbrev pub item_fn : ItemFn → Tree
-item_fn x = t.Node (k.AFunction (place_of x.place)) (t.Pair x.sig.now (function_end x.block x.semi_token))
+-- the tree is a function of a signature and a block, or of a signature and a semicolon, and never of both
+abbrev pub IsFunctionOf : Place → Bor Tree → Option (Bor Tree) → Option Mark → Tree → Type 0
+IsFunctionOf p s (Some b) None y = y ≡ function_tree p s (t.First (t.Called n.the_body b.now))
+IsFunctionOf p s None (Some m) y = y ≡ function_tree p s (t.Second (mark_tree m))
+IsFunctionOf p s _ _ y = ⊥
+
+-- the tree is that function
+abbrev pub IsItemFn : ItemFn → Tree → Type 0
+IsItemFn x y = IsFunctionOf x.place x.sig x.block x.semi_token y

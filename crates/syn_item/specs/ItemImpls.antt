@@ -39,8 +39,9 @@ impl_body_tree (Some i) s w y = t.Pair (t.Called n.the_first i.path.now) (t.Pair
 
 -- an impl: default unsafe impl<T> !A for B where .. { .. }
 abbrev pub impl_inside : ItemImpl → Tree
-impl_inside x = impl_words x.defaultness x.constness x.unsafety x.impl_token x.generics x.polarity (impl_body_tree
-    x.trait_ x.self_ty x.where_clause (t.Group x.brace_token.delimiter (t.Pair x.attrs.now x.items.now)))
+impl_inside x = impl_words x.modifiers.defaultness x.constness x.unsafety x.impl_token x.generics x.modifiers.polarity
+    (impl_body_tree x.trait_ x.self_ty x.where_clause (t.Group x.brace_token.delimiter (t.Pair x.attrs.now
+    x.items.now)))
 
 -- an impl that is kept as it was read, behind its attributes
 abbrev pub item_impl : ItemImpl → Tree

@@ -20,10 +20,10 @@ trait_head x y = t.Pair (optional_tree safety_tree x.unsafety) (t.Pair (optional
 
 -- a trait: unsafe auto trait A<T>: B where .. { .. }
 abbrev pub trait_inside : ItemTrait → Tree
-trait_inside x = t.Pair (optional_tree safety_tree x.unsafety) (t.Pair (optional_tree auto_tree x.auto_token) (t.Pair
-    (word_tree x.trait_token) (t.Pair (named_tree x.ident) (t.Pair (t.Called n.the_generics x.generics.now) (t.Second
-    (t.Pair x.supertraits.now (t.Pair (t.Called n.the_where x.where_clause.now) (t.Group x.brace_token.delimiter
-    (t.Pair x.attrs.now x.items.now)))))))))
+trait_inside x = t.Pair (optional_tree safety_tree x.unsafety) (t.Pair (optional_tree auto_tree x.modifiers.auto_token)
+    (t.Pair (word_tree x.trait_token) (t.Pair (named_tree x.ident) (t.Pair (t.Called n.the_generics x.generics.now)
+    (t.Second (t.Pair x.supertraits.now (t.Pair (t.Called n.the_where x.where_clause.now)
+    (t.Group x.brace_token.delimiter (t.Pair x.attrs.now x.items.now)))))))))
 
 -- an alias of traits: trait A<T> = B where ..;
 abbrev pub alias_inside : ItemTraitAlias → Tree

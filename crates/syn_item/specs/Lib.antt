@@ -1,6 +1,8 @@
 pub mod ItemParts
 pub mod ItemJudged
+pub mod ItemModifiers
 pub mod ItemFunctions
+pub mod ItemArguments
 pub mod ItemUses
 pub mod ItemModules
 pub mod ItemAliases

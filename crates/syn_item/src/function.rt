@@ -9,8 +9,8 @@ ghost use Rattle.syn_grammar.specs.Items.{safety};
 ghost use Rattle.syn_grammar.specs.Kind as k;
 ghost use Rattle.syn_grammar.specs.Name as n;
 ghost use Rattle.syn_grammar.specs.Tree as t;
-ghost use Rattle.syn_item.specs.ItemFunctions.{IsSafety, fn_arg_tree, item_fn, one_parameter, parameter, parameters};
-ghost use Rattle.syn_item.specs.ItemFunctions.{receiver, receiver_tree, safety_is, signature};
+ghost use Rattle.syn_item.specs.ItemFunctions.{IsItemFn, IsReceiver, IsSafety, fn_arg_tree, one_parameter, parameter};
+ghost use Rattle.syn_item.specs.ItemFunctions.{parameters, safety_is, signature};
 ghost use Rattle.syn_item.specs.ItemParts.{safety_tree};
 
 use crate::part;
@@ -229,7 +229,7 @@ pub struct Receiver<'t, 'a> {
 fn as_reference<'t, 'a>(tree: &'t Tree<'a>) -> Option<Receiver<'t, 'a>>
     ensures { MatchOption result ((c : ℕ) (cs : List ℕ) (t u : List Token → Bool) (p q : List ℕ → Bool)
         → IsShaped tree.now (g.seq (g.mark c cs) (g.seq (g.alt t g.lifetime g.nothing) (g.seq (g.alt u
-        (g.word p) g.nothing) (g.word q)))) → ⊥) (λ x. t.First tree.now ≡ receiver_tree x) }
+        (g.word p) g.nothing) (g.word q)))) → ⊥) (λ x. IsReceiver x (t.Node k.Receiver (t.First tree.now))) }
 {
     let (and_token, lifetime, mutability, self_token) = take::four(tree)?;
     let and_token = take::mark(and_token)?;
@@ -247,7 +247,7 @@ fn as_reference<'t, 'a>(tree: &'t Tree<'a>) -> Option<Receiver<'t, 'a>>
 fn as_value<'t, 'a>(tree: &'t Tree<'a>) -> Option<Receiver<'t, 'a>>
     ensures { MatchOption result ((t u : List Token → Bool) (p q : List ℕ → Bool) (c : ℕ) (cs : List ℕ) (a : g.Gram)
         → IsShaped tree.now (g.seq (g.alt t (g.word p) g.nothing) (g.seq (g.word q) (g.alt u (g.seq
-        (g.mark c cs) a) g.nothing))) → ⊥) (λ x. t.Second tree.now ≡ receiver_tree x) }
+        (g.mark c cs) a) g.nothing))) → ⊥) (λ x. IsReceiver x (t.Node k.Receiver (t.Second tree.now))) }
 {
     let (mutability, self_token, typed) = take::three(tree)?;
     let mutability = take::optional_word(mutability)?;
@@ -271,7 +271,7 @@ impl<'t, 'a> Receiver<'t, 'a> {
     /// What a tree is, if it is that.
     #[tactic(auto, unfolding(syn_grammar::specs::Table::table))]
     pub fn of(tree: &'t Tree<'a>) -> Option<Receiver<'t, 'a>>
-        ensures { MatchOption result (IsShaped tree.now (g.ref k.Receiver) → ⊥) (λ x. tree.now ≡ receiver x) }
+        ensures { MatchOption result (IsShaped tree.now (g.ref k.Receiver) → ⊥) (λ x. IsReceiver x tree.now) }
     {
         let Some((Kind::Receiver, inner)) = take::node(tree) else {
             return None;
@@ -415,7 +415,7 @@ impl<'t, 'a> ItemFn<'t, 'a> {
     #[tactic(auto, unfolding(syn_grammar::specs::Table::table))]
     pub fn of(tree: &'t Tree<'a>) -> Option<ItemFn<'t, 'a>>
         ensures { MatchOption result ((p : k.Place) → IsShaped tree.now (g.ref (k.AFunction p)) → ⊥)
-            (λ x. tree.now ≡ item_fn x) }
+            (λ x. IsItemFn x tree.now) }
     {
         let Some((Kind::AFunction(place), inner)) = take::node(tree) else {
             return None;

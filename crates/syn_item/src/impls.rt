@@ -13,6 +13,7 @@ ghost use Rattle.syn_grammar.specs.Name as n;
 ghost use Rattle.syn_item.specs.ItemImpls.{for_tree, impl_body_tree, impl_head, impl_inside, impl_items, item_impl};
 ghost use Rattle.syn_item.specs.ItemParts.{braced_tree};
 
+use crate::modifiers::ImplModifiers;
 use crate::part;
 use crate::part::{Braced, as_braced};
 use gram_table::kind::Kind;
@@ -35,8 +36,8 @@ pub struct ImplTrait<'t, 'a> {
 /// An impl: `default unsafe impl<T> !A for B where .. { .. }`, behind its attributes.
 #[derive(Clone, Copy)]
 pub struct ItemImpl<'t, 'a> {
-    /// `default`
-    pub defaultness: Option<&'a Ident>,
+    /// `default`, and the `!` of its trait.
+    pub modifiers: ImplModifiers<'a>,
     /// `const`: the tokens of an item with one are kept.
     pub constness: Option<&'a Ident>,
     /// `unsafe`
@@ -45,8 +46,6 @@ pub struct ItemImpl<'t, 'a> {
     pub impl_token: &'a Ident,
     /// Its generic parameters, as a form of the kind `ImplGenerics`.
     pub generics: &'t Tree<'a>,
-    /// `!`
-    pub polarity: Option<Mark>,
     /// The trait that it is of.
     pub trait_: Option<ImplTrait<'t, 'a>>,
     /// The type that it is for.
@@ -193,12 +192,14 @@ fn as_impl<'t, 'a>(tree: &'t Tree<'a>) -> Option<ItemImpl<'t, 'a>>
         return None;
     };
     Some(ItemImpl {
-        defaultness: head.defaultness,
+        modifiers: ImplModifiers {
+            defaultness: head.defaultness,
+            polarity: head.polarity,
+        },
         constness: head.constness,
         unsafety: head.unsafety,
         impl_token: head.impl_token,
         generics: head.generics,
-        polarity: head.polarity,
         trait_: body.trait_,
         self_ty: body.self_ty,
         where_clause: body.where_clause,

@@ -12,6 +12,7 @@ ghost use Rattle.syn_grammar.specs.Tree as t;
 ghost use Rattle.syn_item.specs.ItemTraits.{IsAlias, IsTrait, item_trait, item_trait_alias, trait_form_inside};
 ghost use Rattle.syn_item.specs.ItemTraits.{trait_form_tree, trait_head, trait_items};
 
+use crate::modifiers::TraitModifiers;
 use crate::part;
 use crate::part::as_braced;
 use gram_table::kind::Kind;
@@ -25,10 +26,10 @@ use syn_ast::take::{self, Choice};
 /// A trait: `unsafe auto trait A<T>: B where .. { .. }`, behind its attributes and its visibility.
 #[derive(Clone, Copy)]
 pub struct ItemTrait<'t, 'a> {
+    /// `auto`
+    pub modifiers: TraitModifiers<'a>,
     /// `unsafe`
     pub unsafety: Option<&'a Ident>,
-    /// `auto`
-    pub auto_token: Option<&'a Ident>,
     /// `trait`
     pub trait_token: &'a Ident,
     /// Its name.
@@ -130,8 +131,10 @@ fn with_trait_end<'t, 'a>(head: TraitHead<'t, 'a>, tree: &'t Tree<'a>) -> Option
     let where_clause = part::where_clause(where_clause)?;
     let body = as_braced(body)?;
     Some(TraitForm::Trait(ItemTrait {
+        modifiers: TraitModifiers {
+            auto_token: head.auto_token,
+        },
         unsafety: head.unsafety,
-        auto_token: head.auto_token,
         trait_token: head.trait_token,
         ident: head.ident,
         generics: head.generics,
