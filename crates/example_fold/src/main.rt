@@ -1,0 +1,81 @@
+//! Computes constant arithmetic in expressions. Each line of standard input is an expression; it is printed again with
+//! `+`, `-`, `*`, `/` and `%` of integers without suffix computed, and with just the parentheses that it needs then.
+//!
+//! What overflows an `i128`, or divides by zero, stays as it is; so does what stands in the own part of a form, as the
+//! arguments of a call. A line that is no expression is said to be none; at one that is none of tokens the program ends.
+//!
+//! - `number`: the numbers that literals write, and what is computed of them.
+//! - `fold`: an expression with its constant arithmetic computed.
+#![tactic(auto)]
+
+mod fold;
+mod number;
+
+use crate::fold::folded;
+use anyhow::{Result, anyhow};
+use bumpalo::Bump;
+use gram_build::build::write_in;
+use gram_piece::print::print;
+use std::alloc::Global;
+use std::io::{Read, Write};
+use syn::{Form, Kind, ParseFault, Position, SourceMap, TokenBuffer, TokenStream, Tree, parse_as};
+
+// The form of an expression.
+fn form_of<'a>(tree: Tree<'a>) -> Result<Tree<'a>> {
+    let Form::Node(_, inner) = tree.form else {
+        return Err(anyhow!("no node"));
+    };
+    let Form::Whole(form) = Box::into_inner(inner).form else {
+        return Err(anyhow!("no expression"));
+    };
+    Ok(Box::into_inner(form))
+}
+
+// The line that is said of an expression that a buffer holds. What is computed is kept in the arena.
+fn put_expression<'a>(
+    arena: &'a Bump,
+    buffer: &'a TokenBuffer<'a>,
+    out: &mut String,
+) -> Result<()> {
+    let alloc = *out.allocator();
+    let tree = match parse_as(alloc, Kind::Expression(Position::Plain), buffer) {
+        Ok(tree) => tree,
+        Err(ParseFault::Syntax(_)) => {
+            writeln!(out, "no expression")?;
+            return Ok(());
+        }
+        Err(ParseFault::Memory) => return Err(anyhow!("out of memory")),
+    };
+    let form = folded(form_of(tree)?, alloc, arena)?;
+    let mut pieces = Vec::new(alloc);
+    write_in(Position::Plain, &form, &mut pieces)?;
+    let text = print(alloc, pieces.as_slice())?;
+    writeln!(out, "{text}")?;
+    Ok(())
+}
+
+// The line that is said of what a buffer holds.
+fn put_line(buffer: &TokenBuffer, out: &mut String) -> Result<()> {
+    let arena = Bump::new(*out.allocator());
+    put_expression(&arena, buffer, out)
+}
+
+// The line that is said of a text.
+fn put_text(text: &str, out: &mut String) -> Result<()> {
+    let alloc = *out.allocator();
+    let mut map = SourceMap::new(alloc);
+    let stream = TokenStream::from_str(alloc, text, &mut map)?;
+    let buffer = TokenBuffer::new2(alloc, &stream, 1)?;
+    put_line(&buffer, out)
+}
+
+fn main(rt: HostRuntime) -> Result<()> {
+    let mut lines = String::new(rt.alloc());
+    rt.reader().read_to_string(&mut lines)?;
+    let mut out = String::new(rt.alloc());
+    for text in lines.as_str().lines() {
+        put_text(text, &mut out)?;
+    }
+    rt.stdout().write_all(out.as_bytes())?;
+    Ok(())
+}
