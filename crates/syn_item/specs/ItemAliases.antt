@@ -2,7 +2,7 @@
 use Rattle.gram_table.specs.Kinds.{place_of}
 use Rattle.gram_table.specs.declared.kind.Place.{Place}
 use Rattle.gram_table.specs.declared.kind.Place.TheVariants as places
-use Rattle.std.specs.Prelude.{Option}
+use Rattle.std.specs.Prelude.{◌≡◌, Option}
 use Rattle.syn_ast.specs.Leaves.{mark_tree, optional_tree, word_tree}
 use Rattle.syn_ast.specs.Sub.{marked_type_tree, marked_value_tree}
 use Rattle.syn_ast.specs.declared.sub.MarkedType.{MarkedType}
@@ -37,17 +37,19 @@ abbrev pub either_tree : WhereOrder → Option MarkedType → Bor Tree → Tree
 either_tree orders.Before d w = t.First (early_tree d w)
 either_tree orders.Behind d w = t.Second (late_tree d w)
 
--- a definition and a where clause in a trait or an impl: behind it alone
-abbrev pub sole_tree : WhereOrder → Option MarkedType → Bor Tree → Tree
-sole_tree orders.Before d w = t.Nil
-sole_tree orders.Behind d w = late_tree d w
+-- in a trait or an impl a where clause stands behind the definition alone
+abbrev pub IsOrderIn : Place → WhereOrder → Type 0
+IsOrderIn places.InFile l = Unit {0}
+IsOrderIn places.InForeign l = Unit {0}
+IsOrderIn places.InTrait l = l ≡ orders.Behind
+IsOrderIn places.InImpl l = l ≡ orders.Behind
 
 -- a definition and a where clause, as the place has them
 abbrev pub type_end_tree : Place → WhereOrder → Option MarkedType → Bor Tree → Tree
 type_end_tree places.InFile l d w = either_tree l d w
 type_end_tree places.InForeign l d w = either_tree l d w
-type_end_tree places.InTrait l d w = sole_tree l d w
-type_end_tree places.InImpl l d w = sole_tree l d w
+type_end_tree places.InTrait l d w = late_tree d w
+type_end_tree places.InImpl l d w = late_tree d w
 
 -- a type: type A<T>: B = C where ..;
 abbrev pub item_type : ItemType → Tree

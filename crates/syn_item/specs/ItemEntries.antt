@@ -3,7 +3,7 @@ use Rattle.gram_table.specs.Kinds.{kind_of, place_of}
 use Rattle.gram_table.specs.declared.kind.Place.{Place}
 use Rattle.gram_table.specs.declared.kind.Place.TheVariants as places
 use Rattle.rust_leaf.specs.declared.ident.Ident.{Ident}
-use Rattle.std.specs.Prelude.{None, Option, Some}
+use Rattle.std.specs.Prelude.{◌≡◌, None, Option}
 use Rattle.syn_ast.specs.Leaves.{optional_tree}
 use Rattle.syn_grammar.specs.Gram.{Gram, Verdict, called, judged, ref, seq}
 use Rattle.syn_grammar.specs.Kind as k
@@ -30,14 +30,19 @@ abbrev pub item_parts : ItemParts → Tree
 item_parts x = t.Node (kind_of x.kind) (t.First (t.Pair x.attrs.now (t.Pair (t.Called n.the_visibility x.vis.now)
     (t.Called n.the_item x.item.now))))
 
--- default, in a trait or an impl, and nothing elsewhere
+-- default stands in a trait or an impl alone
+abbrev pub IsDefaultIn : Place → Option (Bor Ident) → Type 0
+IsDefaultIn places.InTrait o = Unit {0}
+IsDefaultIn places.InImpl o = Unit {0}
+IsDefaultIn places.InFile o = o ≡ None
+IsDefaultIn places.InForeign o = o ≡ None
+
+-- default, or that it is missing, in a trait or an impl, and nothing elsewhere
 abbrev pub defaultness_tree : Place → Option (Bor Ident) → Tree
 defaultness_tree places.InTrait o = optional_tree default_tree o
 defaultness_tree places.InImpl o = optional_tree default_tree o
-defaultness_tree places.InFile None = t.Nil
-defaultness_tree places.InForeign None = t.Nil
-defaultness_tree places.InFile (Some i) = t.End
-defaultness_tree places.InForeign (Some i) = t.End
+defaultness_tree places.InFile o = t.Nil
+defaultness_tree places.InForeign o = t.Nil
 
 -- an item of a trait or an impl that is kept as it was read, or one by itself that could stand there
 abbrev pub placed_parts : PlacedParts → Tree

@@ -9,8 +9,8 @@ ghost use Rattle.syn_grammar.specs.Items.{type_end};
 ghost use Rattle.syn_grammar.specs.Kind as k;
 ghost use Rattle.syn_grammar.specs.Name as n;
 ghost use Rattle.syn_grammar.specs.Verdicts.{is_where};
-ghost use Rattle.syn_item.specs.ItemAliases.{IsLate, early_tree, either_tree, item_type, late_tree};
-ghost use Rattle.syn_item.specs.ItemAliases.{type_end_tree};
+ghost use Rattle.syn_item.specs.ItemAliases.{IsLate, IsOrderIn, early_tree, either_tree, item_type};
+ghost use Rattle.syn_item.specs.ItemAliases.{late_tree, type_end_tree};
 
 use crate::part;
 use gram_table::kind::{Kind, Place};
@@ -101,8 +101,9 @@ fn either_first<'t, 'a>(tree: &'t Tree<'a>) -> Option<TypeEnd<'t, 'a>>
 
 // As the place has it.
 fn as_type_end<'t, 'a>(place: Place, tree: &'t Tree<'a>) -> Option<TypeEnd<'t, 'a>>
-    ensures { MatchOption result (IsShaped tree.now (type_end (place_of place)) → ⊥)
+    ensures tree_is { MatchOption result (IsShaped tree.now (type_end (place_of place)) → ⊥)
         (λ x. tree.now ≡ type_end_tree place x.order x.definition x.where_clause) }
+    ensures order { IfSome result (λ x. IsOrderIn place x.order) }
 {
     match place {
         Place::InFile => either_first(tree),
@@ -139,8 +140,9 @@ impl<'t, 'a> ItemType<'t, 'a> {
     /// What a tree is, if it is that.
     #[tactic(auto, unfolding(syn_grammar::specs::Table::table))]
     pub fn of(tree: &'t Tree<'a>) -> Option<ItemType<'t, 'a>>
-        ensures { MatchOption result ((p : k.Place) → IsShaped tree.now (g.ref (k.ATypeAlias p)) → ⊥)
+        ensures tree_is { MatchOption result ((p : k.Place) → IsShaped tree.now (g.ref (k.ATypeAlias p)) → ⊥)
             (λ x. tree.now ≡ item_type x) }
+        ensures order { IfSome result (λ x. IsOrderIn x.place x.where_order) }
     {
         let Some((Kind::ATypeAlias(place), inner)) = take::node(tree) else {
             return None;

@@ -6,7 +6,7 @@ ghost use Rattle.syn_ast.specs.Leaves.{list_tree};
 ghost use Rattle.syn_ast.specs.Shape.{IsShaped};
 ghost use Rattle.syn_grammar.specs.Gram as g;
 ghost use Rattle.syn_grammar.specs.Kind as k;
-ghost use Rattle.syn_item.specs.ItemArguments.{first_element, first_receiver, inputs_of, last_element, last_variadic};
+ghost use Rattle.syn_item.specs.ItemArguments.{first_element, first_receiver, last_element, last_variadic};
 ghost use Rattle.syn_item.specs.ItemArguments.{receiver_in, variadic_in};
 ghost use Rattle.syn_item.specs.ItemFunctions.{IsReceiver, variadic_tree};
 

@@ -13,8 +13,8 @@ ghost use Rattle.syn_grammar.specs.Name as n;
 ghost use Rattle.syn_grammar.specs.Table.{table};
 ghost use Rattle.syn_grammar.specs.Tree as t;
 ghost use Rattle.syn_grammar.specs.Tree.{Tree as GivenTree};
-ghost use Rattle.syn_item.specs.ItemEntries.{defaultness_tree, entry_of, foreign_item_static, foreign_parts};
-ghost use Rattle.syn_item.specs.ItemEntries.{item_parts, one_macro, one_trait, placed_parts};
+ghost use Rattle.syn_item.specs.ItemEntries.{IsDefaultIn, defaultness_tree, entry_of, foreign_item_static};
+ghost use Rattle.syn_item.specs.ItemEntries.{foreign_parts, item_parts, one_macro, one_trait, placed_parts};
 
 use crate::function::{Safety, as_foreign_safety};
 use crate::part;
@@ -81,8 +81,9 @@ fn no_defaultness<'a>(tree: &Tree<'a>) -> Option<Option<&'a Ident>>
 
 // `default`, as the place has it.
 fn as_defaultness<'a>(place: Place, tree: &Tree<'a>) -> Option<Option<&'a Ident>>
-    ensures { MatchOption result (IsShaped tree.now (default_there (place_of place)) → ⊥)
+    ensures tree_is { MatchOption result (IsShaped tree.now (default_there (place_of place)) → ⊥)
         (λ o. tree.now ≡ defaultness_tree place o) }
+    ensures which { IfSome result (λ o. IsDefaultIn place o) }
 {
     match place {
         Place::InTrait => part::optional_defaultness(tree),
@@ -109,10 +110,11 @@ pub struct PlacedParts<'t, 'a> {
 
 // What a tree is, if it is that.
 fn as_placed<'t, 'a>(place: Place, tree: &'t Tree<'a>) -> Option<PlacedParts<'t, 'a>>
-    ensures { MatchOption result ((v : GivenTree → GivenVerdict) (a b c : g.Gram) → IsFirst tree.now
+    ensures tree_is { MatchOption result ((v : GivenTree → GivenVerdict) (a b c : g.Gram) → IsFirst tree.now
         → IsShaped tree.now (g.judged v (g.seq a (g.seq (g.called n.the_visibility b) (g.seq
         (default_there (place_of place)) (g.called n.the_item c))))) → ⊥)
         (λ x. (x.place ≡ place) × (tree.now ≡ placed_parts x)) }
+    ensures which { IfSome result (λ x. IsDefaultIn x.place x.defaultness) }
 {
     let parts = take::kept(tree)?;
     let (attrs, vis, defaultness, item) = take::four(parts)?;
@@ -162,8 +164,10 @@ impl<'t, 'a> PlacedParts<'t, 'a> {
     /// What a tree is, if it is a function by itself. One that was read is kept as it was read.
     #[tactic(auto, unfolding(syn_grammar::specs::Table::table))]
     pub fn one_function(tree: &'t Tree<'a>) -> Option<PlacedParts<'t, 'a>>
-        ensures { MatchOption result ((p : k.Place) → IsKept tree.now → IsShaped tree.now (g.ref (k.OneFunction p)) → ⊥)
+        ensures tree_is { MatchOption result ((p : k.Place) → IsKept tree.now
+            → IsShaped tree.now (g.ref (k.OneFunction p)) → ⊥)
             (λ x. tree.now ≡ t.Node (k.OneFunction (place_of x.place)) (placed_parts x)) }
+        ensures which { IfSome result (λ x. IsDefaultIn x.place x.defaultness) }
     {
         let Some((Kind::OneFunction(place), inner)) = take::node(tree) else {
             return None;
@@ -174,9 +178,10 @@ impl<'t, 'a> PlacedParts<'t, 'a> {
     /// What a tree is, if it is a type by itself. One that was read is kept as it was read.
     #[tactic(auto, unfolding(syn_grammar::specs::Table::table))]
     pub fn one_type_alias(tree: &'t Tree<'a>) -> Option<PlacedParts<'t, 'a>>
-        ensures { MatchOption result ((p : k.Place) → IsKept tree.now → IsShaped tree.now (g.ref (k.OneTypeAlias p))
-            → ⊥)
+        ensures tree_is { MatchOption result ((p : k.Place) → IsKept tree.now
+            → IsShaped tree.now (g.ref (k.OneTypeAlias p)) → ⊥)
             (λ x. tree.now ≡ t.Node (k.OneTypeAlias (place_of x.place)) (placed_parts x)) }
+        ensures which { IfSome result (λ x. IsDefaultIn x.place x.defaultness) }
     {
         let Some((Kind::OneTypeAlias(place), inner)) = take::node(tree) else {
             return None;
@@ -187,8 +192,10 @@ impl<'t, 'a> PlacedParts<'t, 'a> {
     /// What a tree is, if it is a constant by itself. One that was read is kept as it was read.
     #[tactic(auto, unfolding(syn_grammar::specs::Table::table))]
     pub fn one_const(tree: &'t Tree<'a>) -> Option<PlacedParts<'t, 'a>>
-        ensures { MatchOption result ((p : k.Place) → IsKept tree.now → IsShaped tree.now (g.ref (k.OneConst p)) → ⊥)
+        ensures tree_is { MatchOption result ((p : k.Place) → IsKept tree.now
+            → IsShaped tree.now (g.ref (k.OneConst p)) → ⊥)
             (λ x. tree.now ≡ t.Node (k.OneConst (place_of x.place)) (placed_parts x)) }
+        ensures which { IfSome result (λ x. IsDefaultIn x.place x.defaultness) }
     {
         let Some((Kind::OneConst(place), inner)) = take::node(tree) else {
             return None;
