@@ -3,20 +3,18 @@
 #![tactic(auto)]
 
 use anyhow::{Result, anyhow};
-use gram_piece::print::print;
-use gram_write::write::write as put;
 use std::alloc::Global;
 use std::io::{Read, Write};
-use syn::{Kind, ParseFault, Plus, SourceMap, TokenBuffer, TokenStream, Tree, parse_as};
-use syn_ast::types::{
-    AnyPath, PointerMutability, Type, TypeArray, TypeFnPtr, TypeParen, TypePath, TypePtr,
-    TypeReference, TypeSlice, TypeTuple,
+use syn::{
+    AnyPath, Kind, ParseFault, Plus, PointerMutability, SourceMap, TokenBuffer, TokenStream, Tree,
+    Type, TypeArray, TypeFnPtr, TypeParen, TypePath, TypePtr, TypeReference, TypeSlice, TypeTuple,
+    parse_as, print, write,
 };
 
 // The printed normal form of a part.
 fn normal(alloc: Global, tree: &Tree) -> Result<String> {
     let mut pieces = Vec::new(alloc);
-    put(tree, &mut pieces)?;
+    write(tree, &mut pieces)?;
     Ok(print(alloc, pieces.as_slice())?)
 }
 

@@ -2,8 +2,10 @@
 //! it had to where its growth was refused. `tests/refused.sh` runs it once for each allocation, refusing that one.
 //!
 //! - `texts`: the texts, and what is answered for one.
+//! - `built`: expressions that are built by hand, and the members of fields.
 #![tactic(auto)]
 
+mod built;
 mod texts;
 
 use std::io::Write;
@@ -11,7 +13,8 @@ use std::process::ExitCode;
 use stops::{Stop, ended};
 
 fn run(rt: &HostRuntime) -> Result<(), Stop> {
-    let answer = texts::answered(rt.alloc())?;
+    let mut answer = texts::answered(rt.alloc())?;
+    answer.push_str(built::answered(rt.alloc())?.as_str())?;
     let written = rt.stdout().write_all(answer.as_bytes());
     written.map_err(|_| Stop::Elsewhere)
 }

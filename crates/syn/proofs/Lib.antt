@@ -1,3 +1,5 @@
 pub mod Wholes
 pub mod Leaves
 pub mod Nodes
+pub mod Firsts
+pub mod Nests

@@ -1,3 +1,5 @@
 pub mod Parsed
 pub mod Leaves
 pub mod Nodes
+pub mod Reading
+pub mod Nests

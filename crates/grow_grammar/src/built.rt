@@ -1,0 +1,132 @@
+//! Expressions that are built by hand and written, and the members of fields.
+
+use gram_build::build::write_in;
+use gram_piece::piece::Piece;
+use gram_piece::print::print;
+use gram_table::kind::{Kind, Position};
+use gram_tree::made;
+use gram_tree::tree::{Form, Three, Tree};
+use proc_macro2::{SourceMap, TokenStream};
+use std::alloc::{AllocError, Global};
+use std::io::Write;
+use stops::{Stop, looked_at, refused};
+use syn::{copied, parse_as};
+use syn_buffer::TokenBuffer;
+use syn_data::data::Fields;
+use syn_data::derive::{Data, DeriveInput};
+use syn_data::members::Member;
+use syn_error::ParseFault;
+
+// The tokens of a text.
+fn lexed(alloc: Global, text: &str) -> Result<TokenStream, Stop> {
+    let stream = TokenStream::from_str(alloc, text, &mut SourceMap::new(alloc));
+    stream.map_err(|_| Stop::Elsewhere)
+}
+
+// All of the tokens as a form of the kind.
+fn parsed<'a>(
+    alloc: Global,
+    kind: Kind,
+    buffer: &'a TokenBuffer<'a>,
+) -> Result<Tree<'a>, Stop> {
+    parse_as(alloc, kind, buffer).map_err(|fault| match fault {
+        ParseFault::Memory => Stop::Refused,
+        ParseFault::Syntax(_) => Stop::Changed,
+    })
+}
+
+// A form, with another one in the place of its left operand.
+fn with_left<'a>(
+    alloc: Global,
+    left: &Tree<'a>,
+    kind: Kind,
+    form: &Three<'a>,
+) -> Result<Tree<'a>, AllocError> {
+    let own = copied(alloc, &form.own)?;
+    let right = copied(alloc, &form.right)?;
+    made::infix(alloc, copied(alloc, left)?, kind, own, right)
+}
+
+// The text of what is written of an expression behind older tokens. Where that is refused, those stand in front.
+fn written(alloc: Global, position: Position, form: &Tree<'_>) -> Result<String, Stop> {
+    let mut out = vec![in alloc; Piece::Underscore, Piece::Index(7)]?;
+    if write_in(position, form, &mut out).is_err() {
+        return refused(print(alloc, out.as_slice())?.starts_with("_ 7"));
+    }
+    looked_at(print(alloc, out.as_slice()))
+}
+
+// The form of an expression that was read.
+fn form_of<'t, 'a>(tree: &'t Tree<'a>) -> Option<&'t Tree<'a>> {
+    let (_, expression) = tree.node()?;
+    expression.whole()
+}
+
+// What is written in a position of the one text's form, with that of the other text as its left operand.
+fn replaced(alloc: Global, position: Position, outer: &str, left: &str) -> Result<String, Stop> {
+    let plain = Kind::Expression(Position::Plain);
+    let (outer, left) = (lexed(alloc, outer)?, lexed(alloc, left)?);
+    let outer = TokenBuffer::new2(alloc, &outer, 1)?;
+    let left = TokenBuffer::new2(alloc, &left, 2)?;
+    let (outer, left) = (parsed(alloc, plain, &outer)?, parsed(alloc, plain, &left)?);
+    let (Some(outer), Some(left)) = (form_of(&outer), form_of(&left)) else {
+        return Err(Stop::Changed);
+    };
+    match &outer.form {
+        Form::Infix(kind, form) => {
+            let built = looked_at(with_left(alloc, left, *kind, form))?;
+            written(alloc, position, &built)
+        }
+        _ => Err(Stop::Changed),
+    }
+}
+
+// The members of a struct's fields, with a space behind each.
+fn shown(alloc: Global, fields: &Fields) -> Result<String, Stop> {
+    let mut line = String::new(alloc);
+    for member in looked_at(fields.members(alloc))?.as_slice() {
+        let put = match member {
+            Member::Named(name) => write!(line, "{} ", name.word()),
+            Member::Unnamed(index) => write!(line, "{index} "),
+        };
+        put.map_err(|_| Stop::Elsewhere)?;
+    }
+    Ok(line)
+}
+
+// The members of the fields of the struct that a text is.
+fn members(alloc: Global, text: &str) -> Result<String, Stop> {
+    let stream = lexed(alloc, text)?;
+    let buffer = TokenBuffer::new2(alloc, &stream, 1)?;
+    let tree = parsed(alloc, Kind::DeriveInput, &buffer)?;
+    match DeriveInput::of(&tree) {
+        Some(DeriveInput {
+            data: Data::Struct(data),
+            ..
+        }) => shown(alloc, &data.fields),
+        _ => Err(Stop::Changed),
+    }
+}
+
+// A position, a text with an operator, and what is put in the place of its left operand.
+const BUILT: [(Position, &str, &str); 5] = [
+    (Position::Plain, "a * b", "c + d"),
+    (Position::Plain, "a + b", "c * d"),
+    (Position::InCondition, "a == b", "S { }"),
+    (Position::InStatement, "a - b", "if c { }"),
+    (Position::InArm, "a ..= b", "return c"),
+];
+
+/// The answers for these, in lines.
+pub fn answered(alloc: Global) -> Result<String, Stop> {
+    let mut all = String::new(alloc);
+    for (position, outer, left) in BUILT {
+        all.push_str(replaced(alloc, position, outer, left)?.as_str())?;
+        all.push('\n')?;
+    }
+    for text in ["struct S { x : u8 , r#y : u8 }", "struct S (u8 , u8) ;", "struct S ;"] {
+        all.push_str(members(alloc, text)?.as_str())?;
+        all.push('\n')?;
+    }
+    Ok(all)
+}
