@@ -78,6 +78,10 @@ pub fn nil<'a>() -> Tree<'a>
 }
 
 /// One, and then the other.
+///
+/// # Errors
+///
+/// Where there is no memory for it.
 pub fn pair<'a>(alloc: Global, front: Tree<'a>, back: Tree<'a>) -> Result<Tree<'a>, AllocError>
     ensures { IfOk result (λ x. x ≡ t.Pair front.entry back.entry) }
 {
@@ -87,6 +91,10 @@ pub fn pair<'a>(alloc: Global, front: Tree<'a>, back: Tree<'a>) -> Result<Tree<'
 }
 
 /// Of a choice the first.
+///
+/// # Errors
+///
+/// Where there is no memory for it.
 pub fn first<'a>(alloc: Global, inner: Tree<'a>) -> Result<Tree<'a>, AllocError>
     ensures { IfOk result (λ x. x ≡ t.First inner.entry) }
 {
@@ -96,6 +104,10 @@ pub fn first<'a>(alloc: Global, inner: Tree<'a>) -> Result<Tree<'a>, AllocError>
 }
 
 /// Of a choice the second. Of choices, each the second of the one before it, none takes a box but the last.
+///
+/// # Errors
+///
+/// Where there is no memory for it.
 pub fn second<'a>(alloc: Global, inner: Tree<'a>) -> Result<Tree<'a>, AllocError>
     ensures { IfOk result (λ x. x ≡ t.Second inner.entry) }
 {
@@ -135,6 +147,10 @@ pub fn elements<'a>(
 }
 
 /// A group, its span, and its inside.
+///
+/// # Errors
+///
+/// Where there is no memory for it.
 pub fn group<'a>(
     alloc: Global,
     delimiter: Delimiter,
@@ -149,6 +165,10 @@ pub fn group<'a>(
 }
 
 /// What was read, and is no part of the program.
+///
+/// # Errors
+///
+/// Where there is no memory for it.
 pub fn dropped<'a>(alloc: Global, inner: Tree<'a>) -> Result<Tree<'a>, AllocError>
     ensures { IfOk result (λ x. x ≡ t.Dropped inner.entry) }
 {
@@ -158,6 +178,10 @@ pub fn dropped<'a>(alloc: Global, inner: Tree<'a>) -> Result<Tree<'a>, AllocErro
 }
 
 /// A part, by its name.
+///
+/// # Errors
+///
+/// Where there is no memory for it.
 pub fn called<'a>(alloc: Global, part: Part, inner: Tree<'a>) -> Result<Tree<'a>, AllocError>
     ensures { IfOk result (λ x. x ≡ t.Called (part_of part) inner.entry) }
 {
@@ -167,6 +191,10 @@ pub fn called<'a>(alloc: Global, part: Part, inner: Tree<'a>) -> Result<Tree<'a>
 }
 
 /// What was read so, and is kept as tokens.
+///
+/// # Errors
+///
+/// Where there is no memory for it.
 pub fn verbatim<'a>(alloc: Global, inner: Tree<'a>) -> Result<Tree<'a>, AllocError>
     ensures { IfOk result (λ x. x ≡ t.Verbatim inner.entry) }
 {
@@ -176,6 +204,10 @@ pub fn verbatim<'a>(alloc: Global, inner: Tree<'a>) -> Result<Tree<'a>, AllocErr
 }
 
 /// A node of a kind.
+///
+/// # Errors
+///
+/// Where there is no memory for it.
 pub fn node<'a>(alloc: Global, kind: Kind, inner: Tree<'a>) -> Result<Tree<'a>, AllocError>
     ensures { IfOk result (λ x. x ≡ t.Node (kind_of kind) inner.entry) }
 {
@@ -185,6 +217,10 @@ pub fn node<'a>(alloc: Global, kind: Kind, inner: Tree<'a>) -> Result<Tree<'a>, 
 }
 
 /// An expression.
+///
+/// # Errors
+///
+/// Where there is no memory for it.
 pub fn whole<'a>(alloc: Global, form: Tree<'a>) -> Result<Tree<'a>, AllocError>
     ensures { IfOk result (λ x. x ≡ t.Whole form.entry) }
 {
@@ -194,6 +230,10 @@ pub fn whole<'a>(alloc: Global, form: Tree<'a>) -> Result<Tree<'a>, AllocError>
 }
 
 /// A form without operands: its own part.
+///
+/// # Errors
+///
+/// Where there is no memory for it.
 pub fn alone<'a>(alloc: Global, kind: Kind, own: Tree<'a>) -> Result<Tree<'a>, AllocError>
     ensures { IfOk result (λ x. x ≡ t.Alone (kind_of kind) own.entry) }
 {
@@ -203,6 +243,10 @@ pub fn alone<'a>(alloc: Global, kind: Kind, own: Tree<'a>) -> Result<Tree<'a>, A
 }
 
 /// A form with an operand behind it: its own part, and that.
+///
+/// # Errors
+///
+/// Where there is no memory for it.
 pub fn front<'a>(
     alloc: Global,
     kind: Kind,
@@ -226,6 +270,10 @@ pub fn front<'a>(
 }
 
 /// A form with an operand before it: that, and its own part.
+///
+/// # Errors
+///
+/// Where there is no memory for it.
 pub fn back<'a>(
     alloc: Global,
     left: Tree<'a>,
@@ -249,6 +297,10 @@ pub fn back<'a>(
 }
 
 /// A form with an operand on either side.
+///
+/// # Errors
+///
+/// Where there is no memory for it.
 pub fn infix<'a>(
     alloc: Global,
     left: Tree<'a>,

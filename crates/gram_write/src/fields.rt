@@ -124,10 +124,7 @@ pub fn put_fields<'a>(literal: &Literal, out: &mut Vec<Piece<'a>>) -> Result<(),
 ///
 /// Where there is no memory for more tokens.
 #[tactic(auto, using(crate::proofs::Indices::fronts))]
-pub fn put_front_fields<'a>(
-    numbers: &Tree<'_>,
-    out: &mut Vec<Piece<'a>>,
-) -> Result<(), AllocError>
+pub fn put_front_fields<'a>(numbers: &Tree<'_>, out: &mut Vec<Piece<'a>>) -> Result<(), AllocError>
     ensures { OnOk result (map piece_token out.new.items
         ≡ map piece_token out.old.items ++ front_fields numbers.now) }
 {

@@ -24,11 +24,7 @@ fn lexed(alloc: Global, text: &str) -> Result<TokenStream, Stop> {
 }
 
 // All of the tokens as a form of the kind.
-fn parsed<'a>(
-    alloc: Global,
-    kind: Kind,
-    buffer: &'a TokenBuffer<'a>,
-) -> Result<Tree<'a>, Stop> {
+fn parsed<'a>(alloc: Global, kind: Kind, buffer: &'a TokenBuffer<'a>) -> Result<Tree<'a>, Stop> {
     parse_as(alloc, kind, buffer).map_err(|fault| match fault {
         ParseFault::Memory => Stop::Refused,
         ParseFault::Syntax(_) => Stop::Changed,
@@ -100,10 +96,12 @@ fn members(alloc: Global, text: &str) -> Result<String, Stop> {
     let buffer = TokenBuffer::new2(alloc, &stream, 1)?;
     let tree = parsed(alloc, Kind::DeriveInput, &buffer)?;
     match DeriveInput::of(&tree) {
-        Some(DeriveInput {
-            data: Data::Struct(data),
-            ..
-        }) => shown(alloc, &data.fields),
+        Some(
+            DeriveInput {
+                data: Data::Struct(data),
+                ..
+            },
+        ) => shown(alloc, &data.fields),
         _ => Err(Stop::Changed),
     }
 }
@@ -124,7 +122,11 @@ pub fn answered(alloc: Global) -> Result<String, Stop> {
         all.push_str(replaced(alloc, position, outer, left)?.as_str())?;
         all.push('\n')?;
     }
-    for text in ["struct S { x : u8 , r#y : u8 }", "struct S (u8 , u8) ;", "struct S ;"] {
+    for text in [
+        "struct S { x : u8 , r#y : u8 }",
+        "struct S (u8 , u8) ;",
+        "struct S ;",
+    ] {
         all.push_str(members(alloc, text)?.as_str())?;
         all.push('\n')?;
     }

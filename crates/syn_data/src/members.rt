@@ -114,6 +114,10 @@ impl<'t, 'a> Fields<'t, 'a> {
     }
 
     /// What each field is named by, in their order: its name, or where they have none how many stand before it.
+    ///
+    /// # Errors
+    ///
+    /// Where there is no memory for the list.
     pub fn members(&self, alloc: Global) -> Result<Vec<Member<'a>>, AllocError>
         ensures { IfOk result (λ v. AreMembers self.now v.items) }
     {
