@@ -71,7 +71,8 @@ def value(source, depth):
         lambda: f"&{name(source)}[{inner()}]",
         lambda: f"!{name(source)}",
         lambda: f"if {name(source)} {{ {inner()} }} else {{ {inner()} }}",
-        lambda: f"match {name(source)} {{ Some({name(source)}) if {name(source)} => {inner()}, _ => {inner()} }}",
+        # An arm that begins with a block is ended by it, so what may go on from one stands in parentheses.
+        lambda: f"match {name(source)} {{ Some({name(source)}) if {name(source)} => ({inner()}), _ => ({inner()}) }}",
         lambda: f"|{name(source)}| {inner()}",
         lambda: f"{path(source, 1, '::')}",
     ])()
