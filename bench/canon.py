@@ -62,7 +62,8 @@ def value(source, depth):
         return source.choice([name(source), str(source.randrange(1000)), '"text"'])
     inner = lambda: value(source, depth - 1)
     return source.choice([
-        lambda: f"{inner()} {source.choice(INFIX)} {name(source)}",
+        # A block or an arm that begins with a block is ended by it, so no operator stands behind what may be one.
+        lambda: f"{name(source)} {source.choice(INFIX)} {inner()}",
         lambda: f"({inner()}) {source.choice(INFIX)} {name(source)}",
         lambda: f"{name(source)}({joined(source, 4, inner)})",
         lambda: f"{name(source)}.{name(source)}({joined(source, 3, inner)})?",
@@ -71,8 +72,7 @@ def value(source, depth):
         lambda: f"&{name(source)}[{inner()}]",
         lambda: f"!{name(source)}",
         lambda: f"if {name(source)} {{ {inner()} }} else {{ {inner()} }}",
-        # An arm that begins with a block is ended by it, so what may go on from one stands in parentheses.
-        lambda: f"match {name(source)} {{ Some({name(source)}) if {name(source)} => ({inner()}), _ => ({inner()}) }}",
+        lambda: f"match {name(source)} {{ Some({name(source)}) if {name(source)} => {inner()}, _ => {inner()} }}",
         lambda: f"|{name(source)}| {inner()}",
         lambda: f"{path(source, 1, '::')}",
     ])()
