@@ -3,9 +3,11 @@
 //!
 //! - `texts`: the texts, and what is answered for one.
 //! - `built`: expressions that are built by hand, and the members of fields.
+//! - `reading`: forms and tokens that are read one behind the other, and tokens as a stream.
 #![tactic(auto)]
 
 mod built;
+mod reading;
 mod texts;
 
 use std::io::Write;
@@ -15,6 +17,7 @@ use stops::{Stop, ended};
 fn run(rt: &HostRuntime) -> Result<(), Stop> {
     let mut answer = texts::answered(rt.alloc())?;
     answer.push_str(built::answered(rt.alloc())?.as_str())?;
+    answer.push_str(reading::answered(rt.alloc())?.as_str())?;
     let written = rt.stdout().write_all(answer.as_bytes());
     written.map_err(|_| Stop::Elsewhere)
 }
