@@ -3,12 +3,10 @@
 use anyhow::{Result, anyhow};
 use proc_macro2::Ident;
 use std::alloc::Global;
-use syn::Tree;
-use syn_ast::generics::{GenericParam, GenericParams, Generics};
-use syn_ast::list::Elements;
-use syn_data::data::{Fields, Variant};
-use syn_data::derive::{Data, DeriveInput};
-use syn_data::members::Member;
+use syn::members::Member;
+use syn::{
+    Data, DeriveInput, Elements, Fields, GenericParam, GenericParams, Generics, Tree, Variant,
+};
 
 /// A struct, a union or an enum, by its parts, which are lent.
 #[derive(Drop)]

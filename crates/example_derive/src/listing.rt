@@ -5,8 +5,7 @@ use crate::tokens::{put_group, put_ident, put_lifetime, put_mark, put_text, put_
 use anyhow::Result;
 use proc_macro2::{Delimiter, Spacing, TokenStream};
 use std::alloc::Global;
-use syn_ast::generics::GenericParam;
-use syn_ast::leaf::Lifetime;
+use syn::{GenericParam, Lifetime};
 
 // How a generic parameter is put.
 #[derive(Clone, Copy)]

@@ -11,13 +11,10 @@ ghost use Rattle.std.specs.Prelude.{◌≡◌, ◌++◌, ◌∷◌, [], OnOk, tr
 ghost use Rattle.std.specs.Str.{chars};
 
 use anyhow::{Result, anyhow};
-use gram_piece::piece::Piece;
-use gram_write::as_read::put_as_read;
 use proc_macro2::{
     Delimiter, Group, Ident, Literal, Punct, Spacing, Span, TokenStream, TokenTree, TryClone,
 };
-use std::mem;
-use syn::Tree;
+use syn::{Piece, Tree, put_as_read, stream_of};
 
 /// Puts a word.
 pub fn put_word(word: &str, out: &mut TokenStream) -> Result<()>
@@ -74,58 +71,6 @@ pub fn put_group(delimiter: Delimiter, inside: TokenStream, out: &mut TokenStrea
     Ok(())
 }
 
-// Puts a mark that was read.
-fn put_mark_again(mark: char, spacing: Spacing, out: &mut TokenStream) -> Result<()> {
-    if Punct::is_mark(mark) {
-        put_mark(mark, spacing, out)
-    } else {
-        Err(anyhow!("no mark"))
-    }
-}
-
-// Puts a token that is none of a group's.
-fn put_piece(piece: &Piece, out: &mut TokenStream) -> Result<()> {
-    match piece {
-        Piece::Ident(ident) => put_ident(ident, out),
-        Piece::Mark(mark, spacing) => put_mark_again(*mark, *spacing, out),
-        Piece::Underscore => put_word("_", out),
-        Piece::Literal(literal) => {
-            out.push_tree(TokenTree::from(literal.try_clone()?))?;
-            Ok(())
-        }
-        Piece::Index(index) => {
-            let literal = Literal::u32_unsuffixed(out.allocator(), *index)?;
-            out.push_tree(TokenTree::from(literal))?;
-            Ok(())
-        }
-        Piece::Open(_) | Piece::Close(_) => Err(anyhow!("a group's mark")),
-    }
-}
-
-// Puts tokens, of which what stands between a group's marks becomes a group.
-fn put_pieces(pieces: &[Piece], out: &mut TokenStream) -> Result<()>
-    ensures { OnOk result (IsBehind out.old out.new) }
-{
-    let alloc = out.allocator();
-    let mut outer: Vec<TokenStream> = Vec::new(alloc);
-    let mut inside = TokenStream::new(alloc);
-    for piece in pieces {
-        match piece {
-            Piece::Open(_) => outer.push(mem::replace(&mut inside, TokenStream::new(alloc)))?,
-            Piece::Close(delimiter) => {
-                let Some(mut around) = outer.pop() else {
-                    return Err(anyhow!("a group that was not opened"));
-                };
-                put_group(*delimiter, inside, &mut around)?;
-                inside = around;
-            }
-            _ => put_piece(piece, &mut inside)?,
-        }
-    }
-    out.push_stream(inside)?;
-    Ok(())
-}
-
 // A mark at the end stands alone: what followed it in the text does not follow it here.
 fn end_alone(pieces: &mut Vec<Piece>) -> Result<()> {
     match pieces.pop() {
@@ -143,5 +88,9 @@ pub fn put_tree(tree: &Tree, out: &mut TokenStream) -> Result<()>
     let mut pieces = Vec::new(out.allocator());
     put_as_read(tree, &mut pieces)?;
     end_alone(&mut pieces)?;
-    put_pieces(pieces.as_slice(), out)
+    let Some(stream) = stream_of(out.allocator(), pieces.as_slice())? else {
+        return Err(anyhow!("no tokens of a stream"));
+    };
+    out.push_stream(stream)?;
+    Ok(())
 }

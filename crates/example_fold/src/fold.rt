@@ -6,12 +6,8 @@ ghost use Rattle.std.specs.Prelude.{◌≤◌, IfSome};
 use crate::number::{computed, written};
 use anyhow::{Result, anyhow};
 use bumpalo::Bump;
-use gram_table::word::Sign;
-use gram_tree::made;
-use rust_leaf::literal::Literal;
-use rust_leaf::punct::Spacing;
 use std::alloc::Global;
-use syn::{Form, Kind, Span, Three, Tree, Two};
+use syn::{Form, Kind, Literal, Sign, Spacing, Span, Three, Tree, Two, made};
 
 // The punctuation that an own part is.
 fn sign_of(own: &Tree<'_>) -> Option<Sign> {

@@ -14,11 +14,12 @@ mod number;
 use crate::fold::folded;
 use anyhow::{Result, anyhow};
 use bumpalo::Bump;
-use gram_build::build::write_in;
-use gram_piece::print::print;
 use std::alloc::Global;
 use std::io::{Read, Write};
-use syn::{Form, Kind, ParseFault, Position, SourceMap, TokenBuffer, TokenStream, Tree, parse_as};
+use syn::{
+    Form, Kind, ParseFault, Position, SourceMap, TokenBuffer, TokenStream, Tree, parse_as, print,
+    write_in,
+};
 
 // The form of an expression.
 fn form_of<'a>(tree: Tree<'a>) -> Result<Tree<'a>> {

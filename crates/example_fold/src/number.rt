@@ -2,7 +2,7 @@
 
 ghost use Rattle.std.specs.Prelude.{◌≤◌};
 
-use gram_table::word::Sign;
+use syn::Sign;
 
 // What digits are counted by.
 #[derive(Clone, Copy)]

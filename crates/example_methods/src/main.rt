@@ -6,13 +6,10 @@
 use anyhow::{Result, anyhow};
 use std::io::{Read, Write};
 use syn::{
-    LineColumn, ParseFault, SourceMap, Span, TokenBuffer, TokenStream, Tree, parse_file, put_nodes,
+    ItemFn, ItemImpl, ItemStatic, ItemTrait, LineColumn, ParseFault, PlacedParts, Receiver,
+    ReceiverKind, Signature, SourceMap, Span, StaticMutability, TokenBuffer, TokenStream, Tree,
+    parse_file, put_nodes,
 };
-use syn_data::item::{ItemStatic, StaticMutability};
-use syn_item::entry::PlacedParts;
-use syn_item::function::{ItemFn, Receiver, ReceiverKind, Signature};
-use syn_item::impls::ItemImpl;
-use syn_item::traits::ItemTrait;
 
 // Where a token begins, if it stands in a text of the map.
 fn place_of(map: &SourceMap, span: Span) -> Option<LineColumn> {
