@@ -143,3 +143,16 @@ pub(crate) const INSIDE: [&str; 18] = [
     "return z",
     "#[q] z",
 ];
+
+/// Places in which an expression stands by itself, within a form's own part. In each `@` is that expression.
+pub(crate) const PLACES: [&str; 9] = [
+    "f(@)",
+    "f(@, d)",
+    "x.m(c, @)",
+    "[@]",
+    "[@; n]",
+    "[x; @]",
+    "(@, d)",
+    "x[@]",
+    "S { f: @ }",
+];

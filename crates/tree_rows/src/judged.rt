@@ -1,13 +1,12 @@
 //! What is wrong with what is printed of a tree.
 
 use crate::built::built;
-use crate::shape::{printed, put_shape};
-use crate::text::{buffers, stream, streams, texts};
-use crate::written::{behind, written};
-use anyhow::{Result, anyhow};
+use crate::reading::{form_of, is_same, placed, whole, written};
+use crate::shape::shape;
+use crate::text::{buffers, printed, streams, texts};
+use anyhow::Result;
 use std::alloc::Global;
-use syn::parse::parse_front;
-use syn::{Kind, ParseFault, Position, TokenBuffer, TokenStream, Tree};
+use syn::{Position, TokenBuffer, Tree};
 
 /// What is found of an expression that was built.
 #[derive(Drop)]
@@ -18,94 +17,6 @@ pub(crate) struct Finding {
     pub(crate) gaining: usize,
     /// What is wrong first.
     pub(crate) wrong: Option<String>,
-}
-
-// What is read of a text: its forms, and its print, as it is written of what was read and of what was built.
-#[derive(Drop)]
-struct Reading {
-    shape: String,
-    as_read: String,
-    as_built: String,
-}
-
-// The form of an expression.
-fn form_of<'t, 'a>(tree: &'t Tree<'a>) -> Result<&'t Tree<'a>> {
-    let (_, inner) = tree.node().ok_or(anyhow!("no node"))?;
-    inner.whole().ok_or(anyhow!("no expression"))
-}
-
-// The forms of a tree, up to parentheses.
-fn shape(alloc: Global, form: &Tree<'_>) -> Result<String> {
-    let mut shape = String::new(alloc);
-    put_shape(form, alloc, &mut shape)?;
-    Ok(shape)
-}
-
-// What is seen of an expression that was read.
-fn seen(alloc: Global, position: Position, tree: &Tree<'_>) -> Result<Reading> {
-    let form = form_of(tree)?;
-    Ok(Reading {
-        shape: shape(alloc, form)?,
-        as_read: printed(alloc, tree)?,
-        as_built: written(alloc, position, form)?,
-    })
-}
-
-// What is read of a buffer in a position, if all but what stands behind a whole expression is.
-fn whole<'a>(
-    alloc: Global,
-    position: Position,
-    buffer: &'a TokenBuffer<'a>,
-) -> Result<Option<Tree<'a>>> {
-    let left = if behind(position).is_empty() { 0 } else { 2 };
-    match parse_front(alloc, Kind::Expression(position), buffer) {
-        Ok((tree, rest)) if rest.len() == left => Ok(Some(tree)),
-        Ok(_) | Err(ParseFault::Syntax(_)) => Ok(None),
-        Err(ParseFault::Memory) => Err(anyhow!("out of memory")),
-    }
-}
-
-// The tokens of a text in a position, with what stands behind it.
-fn placed(alloc: Global, position: Position, text: &str) -> Result<TokenStream> {
-    let behind = behind(position);
-    let whole = format!(in alloc; "{text} {behind}")?;
-    stream(alloc, whole.as_str())
-}
-
-// What is seen of a buffer in a position, if all of it is read.
-fn seen_of(alloc: Global, position: Position, buffer: &TokenBuffer<'_>) -> Result<Option<Reading>> {
-    let Some(tree) = whole(alloc, position, buffer)? else {
-        return Ok(None);
-    };
-    Ok(Some(seen(alloc, position, &tree)?))
-}
-
-// What is read of a text in a position, if all of it is.
-fn read(alloc: Global, position: Position, text: &str) -> Result<Option<Reading>> {
-    let stream = placed(alloc, position, text)?;
-    let buffer = TokenBuffer::new2(alloc, &stream, 1)?;
-    seen_of(alloc, position, &buffer)
-}
-
-// Whether all of a buffer is read in a position, with these forms.
-fn is_same_of(
-    alloc: Global,
-    position: Position,
-    wanted: &str,
-    buffer: &TokenBuffer<'_>,
-) -> Result<bool> {
-    let Some(tree) = whole(alloc, position, buffer)? else {
-        return Ok(false);
-    };
-    let found = shape(alloc, form_of(&tree)?)?;
-    Ok(found.as_str() == wanted)
-}
-
-// Whether all of a text is read in a position, with these forms.
-fn is_same(alloc: Global, position: Position, wanted: &str, text: &str) -> Result<bool> {
-    let stream = placed(alloc, position, text)?;
-    let buffer = TokenBuffer::new2(alloc, &stream, 1)?;
-    is_same_of(alloc, position, wanted, &buffer)
 }
 
 // How many parentheses a text opens.
@@ -137,11 +48,11 @@ fn without(alloc: Global, text: &str, number: usize) -> Result<Option<String>> {
 
 // How many parentheses of a text can be left out, each by itself, with the same expression read: of those that stand in
 // no others, since those within are decided as if the others weren't there.
-fn spare(alloc: Global, position: Position, shape: &str, text: &str) -> Result<usize> {
+fn spare(alloc: Global, position: Position, wanted: &str, text: &str) -> Result<usize> {
     let mut spare = 0usize;
     for number in 0..opened(text) {
         if let Some(less) = without(alloc, text, number.saturating_add(1))? {
-            if is_same(alloc, position, shape, less.as_str())? {
+            if is_same(alloc, position, wanted, less.as_str())? {
                 spare = spare.saturating_add(1);
             }
         }
@@ -159,24 +70,48 @@ fn said(alloc: Global, what: &str, text: &str) -> Result<Option<String>> {
     Ok(Some(format!(in alloc; "{what}: {text}")?))
 }
 
+// Whether what was read is written as the text that was read: as one writes what was read, and as what was built.
+fn is_written_so(alloc: Global, position: Position, text: &str, tree: &Tree<'_>) -> Result<bool> {
+    let as_read = printed(alloc, tree)?;
+    let as_built = written(alloc, position, form_of(tree)?)?;
+    Ok(as_read.as_str() == text && as_built.as_str() == text)
+}
+
+// What is wrong with what is read of the print of an expression.
+fn fault_read(
+    alloc: Global,
+    position: Position,
+    wanted: &str,
+    text: &str,
+    buffer: &TokenBuffer<'_>,
+) -> Result<Option<String>> {
+    let Some(tree) = whole(alloc, position, buffer)? else {
+        return said(alloc, "not read again", text);
+    };
+    let found = shape(alloc, form_of(&tree)?)?;
+    if found.as_str() != wanted {
+        return said(alloc, "read as another", text);
+    }
+    if !is_written_so(alloc, position, text, &tree)? {
+        return said(alloc, "written otherwise than it was read", text);
+    }
+    Ok(None)
+}
+
 // What is wrong with the print of an expression, of which so many parentheses may be left out.
 fn fault(
     alloc: Global,
     position: Position,
-    shape: &str,
+    wanted: &str,
     text: &str,
     own: usize,
 ) -> Result<Option<String>> {
-    let Some(seen) = read(alloc, position, text)? else {
-        return said(alloc, "not read again", text);
-    };
-    if seen.shape.as_str() != shape {
-        return said(alloc, "read as another", text);
+    let stream = placed(alloc, position, text)?;
+    let buffer = TokenBuffer::new2(alloc, &stream, 1)?;
+    if let Some(wrong) = fault_read(alloc, position, wanted, text, &buffer)? {
+        return Ok(Some(wrong));
     }
-    if seen.as_read.as_str() != text || seen.as_built.as_str() != text {
-        return said(alloc, "written otherwise as it was read", text);
-    }
-    if !may_shelter(text) && spare(alloc, position, shape, text)? > own {
+    if !may_shelter(text) && spare(alloc, position, wanted, text)? > own {
         return said(alloc, "with parentheses that it doesn't need", text);
     }
     Ok(None)
@@ -224,13 +159,27 @@ pub(crate) fn judged(alloc: Global, text: &str, positions: &[Position]) -> Resul
 
 // What is wrong with the print of an expression that is read of a text: it gains no parentheses, unless a range stands
 // behind attributes. None where no expression is read.
-fn kept_in(alloc: Global, position: Position, text: &str) -> Result<Option<bool>> {
-    let Some(seen) = read(alloc, position, text)? else {
+fn kept_read(
+    alloc: Global,
+    position: Position,
+    text: &str,
+    buffer: &TokenBuffer<'_>,
+) -> Result<Option<bool>> {
+    let Some(tree) = whole(alloc, position, buffer)? else {
         return Ok(None);
     };
-    let gains = opened(seen.as_read.as_str()) != opened(text);
-    let alike = seen.as_read.as_str() == seen.as_built.as_str();
+    let as_read = printed(alloc, &tree)?;
+    let as_built = written(alloc, position, form_of(&tree)?)?;
+    let gains = opened(as_read.as_str()) != opened(text);
+    let alike = as_read.as_str() == as_built.as_str();
     Ok(Some(alike && (may_shelter(text) || !gains)))
+}
+
+// The same in a position.
+fn kept_in(alloc: Global, position: Position, text: &str) -> Result<Option<bool>> {
+    let stream = placed(alloc, position, text)?;
+    let buffer = TokenBuffer::new2(alloc, &stream, 1)?;
+    kept_read(alloc, position, text, &buffer)
 }
 
 /// In how many positions a text is read, and in how many of these what is printed of it has other parentheses.

@@ -5,24 +5,24 @@
 //! between `‹` and `›`. What is wanted comes from the rules, and stands beside the rows in `stdout`. Behind them stands
 //! what is answered for the table of forms, of which each is put into each.
 //!
-//! - `text`: texts, and the tokens that they lend.
+//! - `text`: texts, the tokens that they lend, and the print of what is read of them.
 //! - `built`: trees, made of what is read of texts.
-//! - `facts`: what is kept of an operand that is written.
-//! - `written`: the tokens of a tree that was built, with the parentheses that it needs.
+//! - `change`: trees made anew: with operands in the place of holes, or without parentheses.
 //! - `shape`: what a tree is, up to parentheses.
+//! - `reading`: texts that are read again, and what is written of expressions.
 //! - `judged`: what is wrong with what is printed of a tree.
 //! - `forms`: the table of forms.
 //! - `tables`: each form in each.
 #![tactic(auto)]
 
 mod built;
-mod facts;
+mod change;
 mod forms;
 mod judged;
+mod reading;
 mod shape;
 mod tables;
 mod text;
-mod written;
 
 use crate::judged::{Finding, judged};
 use anyhow::{Result, anyhow};

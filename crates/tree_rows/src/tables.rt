@@ -1,6 +1,6 @@
 //! Each form in each.
 
-use crate::forms::{ALONE, AROUND, BACKS, BRACES, FRONTS, INSIDE, OPERATORS, PATHS};
+use crate::forms::{ALONE, AROUND, BACKS, BRACES, FRONTS, INSIDE, OPERATORS, PATHS, PLACES};
 use crate::judged::{Finding, judged, kept};
 use anyhow::Result;
 use std::alloc::Global;
@@ -202,19 +202,42 @@ fn form_around(alloc: Global, form: &str, operands: &[String]) -> Result<Tally> 
     Ok(tally)
 }
 
-/// Puts what is found of each form with each, and of those of each level at three depths, a line for each form.
-pub(crate) fn put(alloc: Global, out: &mut String) -> Result<()> {
-    let mut all = Tally::new(alloc);
-    let operands = operands(alloc)?;
-    for form in &around(alloc)? {
-        let found = form_with(alloc, form.as_str(), operands.as_slice())?;
+// Puts a line for each of some forms with each of some operands, and counts them.
+fn put_forms(
+    forms: &[String],
+    operands: &[String],
+    all: &mut Tally,
+    out: &mut String,
+) -> Result<()> {
+    let alloc = *out.allocator();
+    for form in forms {
+        let found = form_with(alloc, form.as_str(), operands)?;
         found.put_line(form.as_str(), out)?;
         all.add(&found)?;
     }
+    Ok(())
+}
+
+/// Puts what is found of each form with each, of each in each place of own parts, and of those of each level at three
+/// depths, a line for each form and each place.
+pub(crate) fn put(alloc: Global, out: &mut String) -> Result<()> {
+    let mut all = Tally::new(alloc);
+    let operands = operands(alloc)?;
+    put_forms(
+        around(alloc)?.as_slice(),
+        operands.as_slice(),
+        &mut all,
+        out,
+    )?;
     let paths = copied(alloc, PATHS.as_slice())?;
-    let found = form_with(alloc, BRACES, paths.as_slice())?;
-    found.put_line(BRACES, out)?;
-    all.add(&found)?;
+    put_forms(
+        copied(alloc, &[BRACES])?.as_slice(),
+        paths.as_slice(),
+        &mut all,
+        out,
+    )?;
+    let places = copied(alloc, PLACES.as_slice())?;
+    put_forms(places.as_slice(), operands.as_slice(), &mut all, out)?;
     let nested = nested(alloc)?;
     for form in &AROUND {
         let found = form_around(alloc, form, nested.as_slice())?;

@@ -1,11 +1,10 @@
-//! Texts, and the tokens that they lend.
+//! Texts, the tokens that they lend, and the print of what is read of them.
 
 use anyhow::{Result, anyhow};
-use gram_look::laws::whole_entries;
-use gram_sight::{form, look};
-use gram_table::op::Look;
+use gram_piece::print::print;
+use gram_write::write::write;
 use std::alloc::Global;
-use syn::{Kind, Position, SourceMap, TokenBuffer, TokenStream};
+use syn::{SourceMap, TokenBuffer, TokenStream, Tree};
 
 /// The texts of an expression, from the outermost on. In the place of what stands between `‹` and `›` each has the word
 /// `hole` with the number of the text that stands there.
@@ -59,18 +58,9 @@ pub(crate) fn buffers<'a>(
     Ok(all)
 }
 
-/// Whether a form of the kind has an operand behind it, where this text follows it.
-pub(crate) fn has_right(alloc: Global, position: Position, kind: Kind, text: &str) -> Result<bool> {
-    let stream = stream(alloc, text)?;
-    let buffer = TokenBuffer::new2(alloc, &stream, 1)?;
-    whole_entries();
-    Ok(form::has_right(position, kind, buffer.entries()))
-}
-
-/// Whether a text begins with that.
-pub(crate) fn begins(alloc: Global, wanted: Look, text: &str) -> Result<bool> {
-    let stream = stream(alloc, text)?;
-    let buffer = TokenBuffer::new2(alloc, &stream, 1)?;
-    whole_entries();
-    Ok(look::look(wanted, buffer.entries()))
+/// The print of a tree that was read.
+pub(crate) fn printed(alloc: Global, tree: &Tree<'_>) -> Result<String> {
+    let mut pieces = Vec::new(alloc);
+    write(tree, &mut pieces)?;
+    Ok(print(alloc, pieces.as_slice())?)
 }
