@@ -1,11 +1,17 @@
 //! Answers a table of texts, each by a form of the kind that its row names: the printed normal form, with what is left
 //! behind it, or that the text is refused. What is wanted comes from the rules, and stands beside the questions in
-//! `stdout`. A copy of each form is written too.
+//! `stdout`. A copy of each form is written too, and equals it; and first the rows are listed that begin with the same
+//! form as the row above: of the same kind, with the same tokens, each spaced alike.
+//!
+//! - `kinds`: the kinds that rows name.
+//! - `neighbours`: each row's form compared with that of the row above.
 #![tactic(auto)]
 
 mod kinds;
+mod neighbours;
 
 use crate::kinds::kind_of;
+use crate::neighbours::told_again;
 use anyhow::{Result, anyhow};
 use gram_piece::piece::Piece;
 use gram_piece::print::print;
@@ -14,7 +20,7 @@ use rows::{Row, Table, answered, write};
 use std::alloc::Global;
 use std::io::{Read, Write};
 use syn::parse::parse_front;
-use syn::{Kind, ParseFault, SourceMap, TokenBuffer, TokenStream, Tree, copied};
+use syn::{Kind, ParseFault, SourceMap, TokenBuffer, TokenStream, Tree, copied, equal};
 use syn_buffer::entry::Entry;
 
 struct Forms;
@@ -68,7 +74,7 @@ fn front_form(alloc: Global, kind: Kind, buffer: &TokenBuffer) -> Result<Option<
     };
     let written = normal(alloc, &tree)?;
     let copy = copied(alloc, &tree)?;
-    if normal(alloc, &copy)?.as_str() != written.as_str() {
+    if !equal(&tree, &copy) || normal(alloc, &copy)?.as_str() != written.as_str() {
         return Err(anyhow!("a copy is another tree"));
     }
     Ok(Some(Formed {
@@ -104,7 +110,9 @@ fn told(alloc: Global, kind: Kind, form: &Formed) -> Result<String> {
 fn main(rt: HostRuntime) -> Result<()> {
     let mut lines = String::new(rt.alloc());
     rt.reader().read_to_string(&mut lines)?;
+    let again = told_again(rt.alloc(), lines.as_str())?;
     let answers = answered(rt.alloc(), &Forms, lines.as_str())?;
+    rt.stdout().write_all(again.as_bytes())?;
     rt.stdout().write_all(answers.as_bytes())?;
     Ok(())
 }
