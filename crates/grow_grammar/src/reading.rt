@@ -37,29 +37,36 @@ fn first_type(alloc: Global, input: &mut Reader<'_>) -> Result<String, Stop> {
     }
 }
 
+// Puts what is said of a call, if it was refused.
+fn put_refusal<T: Drop>(
+    alloc: Global,
+    answer: Result<T, ParseFault>,
+    stays: bool,
+    all: &mut Vec<String>,
+) -> Result<(), Stop> {
+    if let Err(fault) = answer {
+        all.push(said(alloc, fault, stays)?)?;
+    }
+    Ok(())
+}
+
 // What each reader of tokens says where its token doesn't stand there.
 fn refusals<'a>(alloc: Global, start: Reader<'a>) -> Result<Vec<String>, Stop> {
     let mut all = Vec::new(alloc);
     let left = start.entries().len();
     let mut fork = start;
-    if let Err(fault) = fork.word(Words::Ident) {
-        all.push(said(alloc, fault, fork.entries().len() == left)?)?;
-    }
+    let word = fork.word(Words::Ident);
+    put_refusal(alloc, word, fork.entries().len() == left, &mut all)?;
     let mut fork = start;
-    if let Err(fault) = fork.literal(Literals::Text) {
-        all.push(said(alloc, fault, fork.entries().len() == left)?)?;
-    }
+    let literal = fork.literal(Literals::Text);
+    put_refusal(alloc, literal, fork.entries().len() == left, &mut all)?;
     let mut fork = start;
-    if let Err(fault) = fork.sign(Sign::Comma) {
-        all.push(said(alloc, fault, fork.entries().len() == left)?)?;
-    }
+    let sign = fork.sign(Sign::Comma);
+    put_refusal(alloc, sign, fork.entries().len() == left, &mut all)?;
     let mut fork = start;
-    if let Err(fault) = fork.group(Delimiter::Brace) {
-        all.push(said(alloc, fault, fork.entries().len() == left)?)?;
-    }
-    if let Err(fault) = start.finish() {
-        all.push(said(alloc, fault, true)?)?;
-    }
+    let group = fork.group(Delimiter::Brace);
+    put_refusal(alloc, group, fork.entries().len() == left, &mut all)?;
+    put_refusal(alloc, start.finish(), true, &mut all)?;
     Ok(all)
 }
 
