@@ -20,7 +20,7 @@ struct Setting<'a> {
 }
 
 // The setting that stands there.
-fn setting<'a>(input: &mut Reader<'a>) -> Result<Setting<'a>, ParseFault> {
+fn parse_setting<'a>(input: &mut Reader<'a>) -> Result<Setting<'a>, ParseFault> {
     let name = input.word(Words::Ident)?;
     input.sign(Sign::Colon)?;
     let ty = input.parse(Kind::AType(Plus::WithPlus))?;
@@ -30,10 +30,13 @@ fn setting<'a>(input: &mut Reader<'a>) -> Result<Setting<'a>, ParseFault> {
 }
 
 // The settings of a list, which a comma follows each, but perhaps the last.
-fn settings<'a>(alloc: Global, mut input: Reader<'a>) -> Result<Vec<Setting<'a>>, ParseFault> {
+fn parse_settings<'a>(
+    alloc: Global,
+    mut input: Reader<'a>,
+) -> Result<Vec<Setting<'a>>, ParseFault> {
     let mut all = Vec::new(alloc);
     while !input.is_empty() {
-        all.push(setting(&mut input)?)?;
+        all.push(parse_setting(&mut input)?)?;
         if input.is_empty() {
             break;
         }
@@ -56,7 +59,7 @@ fn parsed<'a>(
     let name = input.word(Words::Ident)?;
     let list = input.group(Delimiter::Brace)?;
     input.finish()?;
-    Ok((name, settings(alloc, list.inside)?))
+    Ok((name, parse_settings(alloc, list.inside)?))
 }
 
 // The printed normal form of a part.
