@@ -35,12 +35,15 @@ fn parse_settings<'a>(
     mut input: Reader<'a>,
 ) -> Result<Vec<Setting<'a>>, ParseFault> {
     let mut all = Vec::new(alloc);
-    while !input.is_empty() {
-        all.push(parse_setting(&mut input)?)?;
+    // Each setting takes a token at least.
+    for _ in 0..input.entries().len() {
         if input.is_empty() {
             break;
         }
-        input.sign(Sign::Comma)?;
+        all.push(parse_setting(&mut input)?)?;
+        if !input.is_empty() {
+            input.sign(Sign::Comma)?;
+        }
     }
     Ok(all)
 }
