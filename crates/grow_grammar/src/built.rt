@@ -58,19 +58,15 @@ fn form_of<'t, 'a>(tree: &'t Tree<'a>) -> Option<&'t Tree<'a>> {
     expression.whole()
 }
 
-// What is written in a position of the one text's form, with that of the other text as its left operand.
-fn replaced(alloc: Global, position: Position, outer: &str, left: &str) -> Result<String, Stop> {
-    let plain = Kind::Expression(Position::Plain);
-    let (outer, left) = (lexed(alloc, outer)?, lexed(alloc, left)?);
-    let outer = TokenBuffer::new2(alloc, &outer, 1)?;
-    let left = TokenBuffer::new2(alloc, &left, 2)?;
-    let (outer, left) = (parsed(alloc, plain, &outer)?, parsed(alloc, plain, &left)?);
-    let (Some(outer), Some(left)) = (form_of(&outer), form_of(&left)) else {
+// What is written in a position of an assignment's left form, with the right one in the place of its left operand.
+fn replaced(alloc: Global, position: Position, buffer: &TokenBuffer<'_>) -> Result<String, Stop> {
+    let tree = parsed(alloc, Kind::Expression(Position::Plain), buffer)?;
+    let Some(Form::Infix(_, assigned)) = form_of(&tree).map(|form| &form.form) else {
         return Err(Stop::Changed);
     };
-    match &outer.form {
-        Form::Infix(kind, form) => {
-            let built = looked_at(with_left(alloc, left, *kind, form))?;
+    match &assigned.left.form {
+        Form::Infix(kind, outer) => {
+            let built = looked_at(with_left(alloc, &assigned.right, *kind, outer))?;
             written(alloc, position, &built)
         }
         _ => Err(Stop::Changed),
@@ -90,44 +86,46 @@ fn shown(alloc: Global, fields: &Fields) -> Result<String, Stop> {
     Ok(line)
 }
 
-// The members of the fields of the struct that a text is.
-fn members(alloc: Global, text: &str) -> Result<String, Stop> {
-    let stream = lexed(alloc, text)?;
-    let buffer = TokenBuffer::new2(alloc, &stream, 1)?;
-    let tree = parsed(alloc, Kind::DeriveInput, &buffer)?;
+// The members of the fields of the struct that a buffer holds.
+fn members(alloc: Global, buffer: &TokenBuffer<'_>) -> Result<String, Stop> {
+    let tree = parsed(alloc, Kind::DeriveInput, buffer)?;
     match DeriveInput::of(&tree) {
-        Some(
-            DeriveInput {
-                data: Data::Struct(data),
-                ..
-            },
-        ) => shown(alloc, &data.fields),
-        _ => Err(Stop::Changed),
+        Some(input) => match input.data {
+            Data::Struct(data) => shown(alloc, &data.fields),
+            _ => Err(Stop::Changed),
+        },
+        None => Err(Stop::Changed),
     }
 }
 
-// A position, a text with an operator, and what is put in the place of its left operand.
-const BUILT: [(Position, &str, &str); 5] = [
-    (Position::Plain, "a * b", "c + d"),
-    (Position::Plain, "a + b", "c * d"),
-    (Position::InCondition, "a == b", "S { }"),
-    (Position::InStatement, "a - b", "if c { }"),
-    (Position::InArm, "a ..= b", "return c"),
+// A position, and an assignment: of what stands behind `=` the left operand of what stands before it is made.
+const BUILT: [(Position, &str); 5] = [
+    (Position::Plain, "a * b = c + d"),
+    (Position::Plain, "a + b = c * d"),
+    (Position::InCondition, "a == b = S { }"),
+    (Position::InStatement, "a - b = if c { }"),
+    (Position::InArm, "a + b = return c"),
+];
+
+const STRUCTS: [&str; 3] = [
+    "struct S { x : u8 , r#y : u8 }",
+    "struct S (u8 , u8) ;",
+    "struct S ;",
 ];
 
 /// The answers for these, in lines.
 pub fn answered(alloc: Global) -> Result<String, Stop> {
     let mut all = String::new(alloc);
-    for (position, outer, left) in BUILT {
-        all.push_str(replaced(alloc, position, outer, left)?.as_str())?;
+    for (position, text) in BUILT {
+        let stream = lexed(alloc, text)?;
+        let buffer = TokenBuffer::new2(alloc, &stream, 1)?;
+        all.push_str(replaced(alloc, position, &buffer)?.as_str())?;
         all.push('\n')?;
     }
-    for text in [
-        "struct S { x : u8 , r#y : u8 }",
-        "struct S (u8 , u8) ;",
-        "struct S ;",
-    ] {
-        all.push_str(members(alloc, text)?.as_str())?;
+    for text in STRUCTS {
+        let stream = lexed(alloc, text)?;
+        let buffer = TokenBuffer::new2(alloc, &stream, 1)?;
+        all.push_str(members(alloc, &buffer)?.as_str())?;
         all.push('\n')?;
     }
     Ok(all)

@@ -70,20 +70,26 @@ fn refusals<'a>(alloc: Global, start: Reader<'a>) -> Result<Vec<String>, Stop> {
     Ok(all)
 }
 
-/// The answers for three texts, in lines: the type that each begins with, and what readers of other tokens say behind it.
+// The type that a buffer begins with, and what readers of other tokens say behind it, in lines.
+fn put_answers(alloc: Global, buffer: &TokenBuffer<'_>, all: &mut String) -> Result<(), Stop> {
+    let mut input = Reader::new(alloc, buffer);
+    all.push_str(first_type(alloc, &mut input)?.as_str())?;
+    all.push('\n')?;
+    for line in &refusals(alloc, input)? {
+        all.push_str(line.as_str())?;
+        all.push('\n')?;
+    }
+    Ok(())
+}
+
+/// The answers for three texts.
 pub fn answered(alloc: Global) -> Result<String, Stop> {
     let mut all = String::new(alloc);
     for text in ["& 'a [u8 ; 2] , b", "+ 1", ""] {
         let lexed = TokenStream::from_str(alloc, text, &mut SourceMap::new(alloc));
         let stream = lexed.map_err(|_| Stop::Elsewhere)?;
         let buffer = TokenBuffer::new2(alloc, &stream, 1)?;
-        let mut input = Reader::new(alloc, &buffer);
-        all.push_str(first_type(alloc, &mut input)?.as_str())?;
-        all.push('\n')?;
-        for line in &refusals(alloc, input)? {
-            all.push_str(line.as_str())?;
-            all.push('\n')?;
-        }
+        put_answers(alloc, &buffer, &mut all)?;
     }
     Ok(all)
 }
