@@ -1,10 +1,11 @@
 -- Texts as bytes and as characters.
 use Rattle.std.proofs.Common.{◌≡◌, ℕ, ◌==◌, Bool, true, false, List, [], ◌∷◌, ◌++◌, length, IsTrue, refl, sym, ◌∙◌}
-use Rattle.std.proofs.Common.{ap, arith}
+use Rattle.std.proofs.Common.{ap, arith, ◌<◌, take, slice_index_or}
 use Rattle.std.specs.Bool.{Decides}
 use Rattle.std.specs.Char.{is_ascii}
 use Rattle.std.specs.List.{list_all}
 use Rattle.std.specs.Prelude.{String, string_bytes}
+use Rattle.rust_leaf.specs.Identifier.{is_ident_text}
 use Rattle.rust_leaf.specs.Leaf.{AreCharacters, ident_text, literal_text, text_of}
 use Rattle.rust_leaf.specs.declared.ident.Ident.{Ident}
 use Rattle.rust_leaf.specs.declared.literal.Literal.{Literal}
@@ -71,6 +72,19 @@ leaf_utf8 t = IsUtf8-from_is_utf8 (leaf_bytes t) t.is_text
 
 pub printed_leaf : (t : LeafText) → encode_utf8_all (chars (leaf_bytes t)) ≡ leaf_bytes t
 printed_leaf t = encodes-chars (leaf_bytes t) (leaf_utf8 t)
+
+bytes_filled : (bs : List ℕ) → IsTrue (is_ident_text (chars bs)) → 0 < length bs
+bytes_filled [] t = let none = rw chars-nil at t in cc
+bytes_filled (b ∷ bs) t = omega arith
+
+-- the text of an identifier isn't empty
+pub ident_filled : (i : Ident) (bs : List ℕ) → bs ≡ leaf_bytes i.text → 0 < length bs
+ident_filled i bs same = omega (arith, bytes_filled (leaf_bytes i.text) i.is_printed, ap length same)
+
+-- the first byte of a text, by itself
+pub first_alone : (bs own : List ℕ) → bs ≡ own → 0 < length bs → take 1 own ≡ slice_index_or bs 0 0 ∷ []
+first_alone [] own same filled = absurd (omega arith)
+first_alone (b ∷ bs) own same filled = ap (take 1) (sym same)
 
 -- what a leaf prints are characters
 pub ident_characters : (i : Ident) → AreCharacters (ident_text i)

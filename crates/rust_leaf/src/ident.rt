@@ -11,7 +11,7 @@ ghost use Rattle.std.specs.Cmp.Lexicographic.{texts_po, texts_ties};
 ghost use Rattle.std.specs.Hash as fed;
 ghost use Rattle.std.specs.Ordering.{nat_cmp};
 ghost use Rattle.std.specs.Prelude.{◌≡◌, ◌++◌, ◌==◌, IfErr, IfOk, OnOk, Option, None, Some, IsTrue, codes};
-ghost use Rattle.std.specs.Prelude.{encode_utf8_all, length, ◌↔◌};
+ghost use Rattle.std.specs.Prelude.{[], encode_utf8_all, length, take, ◌↔◌, ◌∷◌};
 ghost use Rattle.std.specs.List.{list_all};
 ghost use Rattle.std.specs.Str.{bytes_eq, chars};
 ghost use Rattle.unicode_ident.specs.Ident.{is_xid_continue};
@@ -190,7 +190,14 @@ impl Ident {
     pub fn is_text(&self, text: &str) -> bool
         ensures { IsTrue result ↔ (ident_text self.now ≡ chars text.now) }
     {
-        self.text.as_str() == text
+        self.text.is(text)
+    }
+
+    /// The first byte of what the identifier is printed as.
+    pub fn first_byte(&self) -> u8
+        ensures { take 1 (encode_utf8_all (ident_text self.now)) ≡ result ∷ [] }
+    {
+        self.text.as_str().as_bytes()[0]
     }
 }
 

@@ -1,7 +1,7 @@
 //! The text of a leaf.
 
 ghost use Rattle.rust_leaf.specs.Kept.{kept_bytes};
-ghost use Rattle.std.specs.Prelude.{◌≡◌, IfOk, IsTrue, string_bytes};
+ghost use Rattle.std.specs.Prelude.{◌≡◌, ◌↔◌, IfOk, IsTrue, string_bytes};
 ghost use Rattle.std.specs.Str.{is_utf8};
 
 use arrayvec::ArrayString;
@@ -17,6 +17,16 @@ pub(crate) enum Kept {
     Short(ArrayString<16>),
     /// In memory of its own.
     Long(String),
+}
+
+// Whether two texts have the same first byte, if both have one.
+fn begin_alike(own: &[u8], other: &[u8]) -> bool
+    ensures { own.now ≡ other.now → IsTrue result }
+{
+    match (own, other) {
+        ([first, ..], [wanted, ..]) => first == wanted,
+        _ => true,
+    }
 }
 
 /// The text of an identifier or a literal as it is printed. How it is kept is known here alone.
@@ -60,6 +70,14 @@ impl LeafText {
             Kept::Short(short) => short.as_str(),
             Kept::Long(long) => long.as_str(),
         }
+    }
+
+    /// Whether it is that text. The lengths and then the first bytes are looked at first, since they tell most apart.
+    pub(crate) fn is(&self, text: &str) -> bool
+        ensures { IsTrue result ↔ (leaf_bytes self.now ≡ text.now) }
+    {
+        let own = self.as_str();
+        own.len() == text.len() && begin_alike(own.as_bytes(), text.as_bytes()) && own == text
     }
 
     /// A copy of the text.
