@@ -14,7 +14,7 @@ use Rattle.rust_leaf.specs.Identifier.{is_ident_text, is_identifier, is_raw_iden
 use Rattle.rust_leaf.specs.Mark.{is_mark}
 use Rattle.syn_kinds.specs.Table.{quoted, word, words, sign, signs}
 
-and_true : (a b : Bool) → (a && b) ≡ true → (a ≡ true) × (b ≡ true)
+pub and_true : (a b : Bool) → (a && b) ≡ true → (a ≡ true) × (b ≡ true)
 and_true true b e = (refl, e)
 and_true false b e = cc
 
@@ -40,7 +40,7 @@ starts c = nat_lt c 128 && (is_ascii_alphabetic c || c == 95)
 abbrev goes_on : ℕ → Bool
 goes_on c = nat_lt c 128 && (is_ascii_alphanumeric c || c == 95)
 
-abbrev is_plain : List ℕ → Bool
+abbrev pub is_plain : List ℕ → Bool
 is_plain [] = false
 is_plain (c ∷ cs) = starts c && list_all goes_on cs
 

@@ -1,5 +1,5 @@
 -- The table of the kinds of tokens.
-use Rattle.std.specs.Prelude.{ℕ, Bool, ◌||◌, List, [], ◌∷◌, ◌++◌, map, get_or, replicate, take, codes}
+use Rattle.std.specs.Prelude.{ℕ, Bool, false, ◌==◌, ◌||◌, List, [], ◌∷◌, ◌++◌, map, get_or, replicate, take, codes}
 use Rattle.std.specs.List.{list_any}
 use Rattle.std.specs.Str.{bytes_eq}
 use denote.Ref.{Bor}
@@ -27,6 +27,11 @@ kept_words = take 51 words
 
 unfoldable pub is_reserved : List ℕ → Bool
 is_reserved cs = same_text (codes "_") cs || list_any (λ word. same_text word cs) kept_words
+
+-- a word begins with that byte
+abbrev pub begins : ℕ → List ℕ → Bool
+begins first [] = false
+begins first (c ∷ _) = c == first
 
 -- the word of a keyword: a number past the rows is that of the last one
 unfoldable pub word : ℕ → List ℕ

@@ -4,15 +4,12 @@
 
 ghost use Rattle.rust_leaf.specs.Leaf.{ident_text};
 ghost use Rattle.rust_leaf.specs.Mark.{is_mark};
-ghost use Rattle.std.specs.Prelude.{[], ◌<◌, ◌≡◌, IsTrue, get_or, length};
+ghost use Rattle.std.specs.Prelude.{[], ◌<◌, ◌≡◌, ◌≤◌, IsTrue, drop, false, get_or, length, take};
 ghost use Rattle.std.specs.List.{list_any};
 ghost use Rattle.std.specs.Str.{chars};
-ghost use Rattle.syn_kinds.specs.Table.{is_reserved, kept_words, quoted, same_text, sign, texts, word};
+ghost use Rattle.syn_kinds.specs.Table.{begins, is_reserved, kept_words, quoted, same_text, sign, texts, word};
 
 use rust_leaf::ident::Ident;
-
-// How many of the words are no names.
-const KEPT: usize = 51;
 
 // The words, as messages show them: the 51 that are no names, and then those that are names too.
 const WORDS: [&str; 56] = [
@@ -127,22 +124,52 @@ fn is_word(ident: &Ident, word: &str) -> bool
     ident.is_text(word)
 }
 
-// Whether an identifier is printed as a keyword. Its length is looked at first, since most words have another.
+// Whether an identifier is printed as a keyword.
+#[tactic(auto, using(crate::proofs::Rows::word_chars))]
 fn is_keyword(ident: &Ident, kind: usize) -> bool
     ensures { result ≡ same_text (word kind) (ident_text ident.now) }
 {
-    if word_row(kind).len() - 2 == ident.len() {
-        is_word(ident, word(kind))
-    } else {
-        false
+    is_word(ident, word(kind))
+}
+
+// The rows of the words that are no names and begin with a byte: the first of them, and the one behind the last.
+#[tactic(auto, unfolding(crate::specs::Table::kept_words))]
+fn rows_from(first: u8) -> (usize, usize)
+    ensures ordered { result.0 ≤ result.1 }
+    ensures within { result.1 ≤ 51 }
+    ensures before { list_any (begins first) (take result.0 kept_words) ≡ false }
+    ensures behind { list_any (begins first) (drop result.1 kept_words) ≡ false }
+{
+    match first {
+        b'a' => (0, 4),
+        b'b' => (4, 7),
+        b'c' => (7, 10),
+        b'd' => (10, 12),
+        b'e' => (12, 15),
+        b'f' => (15, 19),
+        b'i' => (19, 22),
+        b'l' => (22, 24),
+        b'm' => (24, 29),
+        b'o' => (29, 30),
+        b'p' => (30, 32),
+        b'r' => (32, 34),
+        b'S' => (34, 35),
+        b's' => (35, 39),
+        b't' => (39, 44),
+        b'u' => (44, 47),
+        b'v' => (47, 48),
+        b'w' => (48, 50),
+        b'y' => (50, 51),
+        _ => (0, 0),
     }
 }
 
-// Whether an identifier is one of the words that are no names.
+// Whether an identifier is one of the words that are no names. Only those are looked at that begin as it does.
 fn is_kept(ident: &Ident) -> bool
     ensures { result ≡ list_any (λ word. same_text word (ident_text ident.now)) kept_words }
 {
-    for kind in 0..KEPT {
+    let (from, to) = rows_from(ident.first_byte());
+    for kind in from..to {
         if is_keyword(ident, kind) {
             return true;
         }
