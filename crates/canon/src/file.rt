@@ -11,8 +11,9 @@ use gram_read::grammar::Grammar;
 use gram_run::read::read;
 use gram_run::refusal::{Refusal, Wrong};
 use gram_table::kind::Kind;
+use gram_tree::arena::Arena;
 use gram_tree::tree::Tree;
-use std::alloc::{AllocError, Global};
+use std::alloc::AllocError;
 use syn_buffer::entry::Entry;
 
 /// Why no file was read.
@@ -37,12 +38,12 @@ impl From<AllocError> for Unread {
 /// # Errors
 ///
 /// `Syntax` exactly where they are none. `Memory` only where a growth was refused.
-pub(crate) fn read_file<'a>(alloc: Global, entries: &'a [Entry<'a>]) -> Result<Tree<'a>, Unread>
+pub(crate) fn read_file<'a>(arena: &'a Arena, entries: &'a [Entry<'a>]) -> Result<Tree<'a>, Unread>
     requires { IsTrue (is_whole entries.now) }
     ensures file { IfOk result (IsFile (plain (spanned_entries entries.now))) }
     ensures refused { IfErr result (IsUnread (plain (spanned_entries entries.now))) }
 {
-    match read(&Grammar, alloc, Kind::AFile, entries) {
+    match read(&Grammar, arena, Kind::AFile, entries) {
         Ok((tree, _)) => Ok(tree),
         Err(Refusal::Syntax(wrong)) => Err(Unread::Syntax(wrong)),
         Err(Refusal::Memory) => Err(Unread::Memory),

@@ -22,6 +22,7 @@ use crate::fault::Fault;
 use crate::file::{Unread, read_file};
 use crate::stands::placed_error;
 use gram_read::names::{Name, Named, names};
+use gram_tree::arena::Arena;
 use proc_macro2::TokenStream;
 use rust_leaf::ident::Ident;
 use rust_map::{LineColumn, SourceMap};
@@ -116,11 +117,11 @@ fn listed(alloc: Global, map: &SourceMap, stream: &TokenStream) -> Result<Vec<Ro
     ensures refused { IfErr result (IsUnread (plain stream.now)) }
 {
     let buffer = TokenBuffer::new2(alloc, stream, 1)?;
-    let entries = buffer.entries();
-    let file = read_file(alloc, entries)?;
+    let arena = Arena::new(alloc);
+    let file = read_file(&arena, buffer.entries())?;
     let mut found = Vec::new(alloc);
     names(&file, &mut found)?;
-    Ok(rows_of(alloc, map, entries, found.as_slice())?)
+    Ok(rows_of(alloc, map, buffer.entries(), found.as_slice())?)
 }
 
 /// The items of a text that have a name, in their order, those of an inline module behind it: of files and inline

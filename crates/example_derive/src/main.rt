@@ -17,7 +17,7 @@ use anyhow::{Error, Result, anyhow};
 use std::alloc::Global;
 use std::io::{Read, Write};
 use syn::{
-    Kind, LineColumn, ParseFault, SourceMap, Span, TokenBuffer, TokenStream, Tree, parse_as,
+    Arena, Kind, LineColumn, ParseFault, SourceMap, Span, TokenBuffer, TokenStream, Tree, parse_as,
 };
 
 // Where a token begins, if it stands in a text of the map.
@@ -52,7 +52,8 @@ fn derived(alloc: Global, tree: &Tree) -> Result<TokenStream> {
 
 // The impl for the item that a buffer holds.
 fn derived_of(alloc: Global, map: &SourceMap, buffer: &TokenBuffer) -> Result<TokenStream> {
-    match parse_as(alloc, Kind::DeriveInput, buffer) {
+    let arena = Arena::new(alloc);
+    match parse_as(&arena, Kind::DeriveInput, buffer) {
         Ok(tree) => derived(alloc, &tree),
         Err(fault) => Err(refused(map, &fault)),
     }

@@ -4,10 +4,8 @@ ghost use Rattle.gram_tree.specs.Size.{node_count};
 ghost use Rattle.std.specs.Prelude.{◌≤◌, IfSome};
 
 use crate::number::{computed, written};
-use anyhow::{Result, anyhow};
-use bumpalo::Bump;
-use std::alloc::Global;
-use syn::{Form, Kind, Literal, Sign, Spacing, Span, Three, Tree, Two, made};
+use anyhow::Result;
+use syn::{Arena, Form, Kind, Literal, Sign, Spacing, Span, Three, Tree, Two, made};
 
 // The punctuation that an own part is.
 fn sign_of(own: &Tree<'_>) -> Option<Sign> {
@@ -42,71 +40,42 @@ fn number(tree: &Tree<'_>) -> Option<i128> {
 }
 
 // The atom of a number that is not below zero.
-fn atom_of<'a>(alloc: Global, arena: &'a Bump, number: u128) -> Result<Tree<'a>> {
-    let literal = Literal::u128_unsuffixed(alloc, number)?;
-    let Ok(kept) = arena.try_alloc(literal) else {
-        return Err(anyhow!("out of memory"));
-    };
-    let own = made::first(alloc, made::literal(kept))?;
-    Ok(made::alone(alloc, Kind::ExprLit, own)?)
+fn atom_of<'a>(arena: &'a Arena, number: u128) -> Result<Tree<'a>> {
+    let literal = arena.put(Literal::u128_unsuffixed(arena.alloc(), number)?)?;
+    let own = made::first(arena, made::literal(literal))?;
+    Ok(made::alone(arena, Kind::ExprLit, own)?)
 }
 
 // The form of a number: an atom, behind `-` where it is below zero.
-fn form_of<'a>(alloc: Global, arena: &'a Bump, number: i128) -> Result<Tree<'a>> {
-    let size = atom_of(alloc, arena, number.unsigned_abs())?;
+fn form_of<'a>(arena: &'a Arena, number: i128) -> Result<Tree<'a>> {
+    let size = atom_of(arena, number.unsigned_abs())?;
     if number >= 0 {
         return Ok(size);
     }
     let minus = made::mark(Sign::Minus, Spacing::Alone, Span::call_site());
-    let own = made::second(alloc, made::second(alloc, made::first(alloc, minus)?)?)?;
-    Ok(made::front(alloc, Kind::ExprUnary, own, size)?)
+    let own = made::first_behind(arena, 2, minus)?;
+    Ok(made::front(arena, Kind::ExprUnary, own, size)?)
 }
 
-// Whether the own part of parentheses is one expression without a comma: else it is a tuple's.
-fn is_one(own: &Tree<'_>) -> bool {
-    let Some(inside) = own.group() else {
-        return false;
-    };
-    match inside.list() {
-        Some((before, last)) => before.is_empty() && last.is_some(),
-        None => false,
-    }
-}
-
-// The form of the expression that stands alone in a group.
-fn inside<'a>(own: Tree<'a>) -> Option<Tree<'a>>
-    ensures { IfSome result (λ form. node_count form ≤ node_count own.entry) }
+// The form of the expression that stands alone in parentheses, without a comma: else they are a tuple's.
+fn inside<'t, 'a>(own: &'t Tree<'a>) -> Option<&'t Tree<'a>>
+    ensures { IfSome result (λ form. node_count form.now ≤ node_count own.now) }
 {
-    let Form::Group(_, _, group) = own.form else {
+    let Form::Group(_, _, group) = &own.form else {
         return None;
     };
-    let Form::Elements(_, before, last) = Box::into_inner(group).form else {
+    let Form::Elements(list) = &group.form else {
         return None;
     };
-    if !before.is_empty() {
+    if !list.before.is_empty() {
         return None;
     }
-    let Some(last) = last else {
+    let Form::Node(_, node) = &list.last?.form else {
         return None;
     };
-    let Form::Node(_, node) = Box::into_inner(last).form else {
-        return None;
-    };
-    let Form::Whole(form) = Box::into_inner(node).form else {
-        return None;
-    };
-    Some(Box::into_inner(form))
-}
-
-// Parentheses: of an expression that, as its place decides later which ones it needs; a tuple stays.
-#[cycle(folded)]
-fn parenthesized<'a>(own: Tree<'a>, alloc: Global, arena: &'a Bump) -> Result<Tree<'a>> {
-    if !is_one(&own) {
-        return Ok(made::alone(alloc, Kind::ExprParen, own)?);
-    }
-    match inside(own) {
-        Some(form) => folded(form, alloc, arena),
-        None => Err(anyhow!("no expression in parentheses")),
+    match &node.form {
+        Form::Whole(form) => Some(form),
+        _ => None,
     }
 }
 
@@ -121,12 +90,11 @@ fn negated(kind: Kind, own: &Tree<'_>, right: &Tree<'_>) -> Option<i128> {
 
 // A form with an operand behind it.
 #[cycle(folded)]
-fn front<'a>(two: Two<'a>, alloc: Global, arena: &'a Bump, kind: Kind) -> Result<Tree<'a>> {
-    let Two { front, back } = two;
-    let right = folded(back, alloc, arena)?;
-    match negated(kind, &front, &right) {
-        Some(value) => form_of(alloc, arena, value),
-        None => Ok(made::front(alloc, kind, front, right)?),
+fn front<'a>(arena: &'a Arena, kind: Kind, two: &Two<'a>) -> Result<Tree<'a>> {
+    let right = folded(arena, &two.back)?;
+    match negated(kind, &two.front, &right) {
+        Some(value) => form_of(arena, value),
+        None => Ok(made::front(arena, kind, two.front.copy(), right)?),
     }
 }
 
@@ -140,33 +108,34 @@ fn value(left: &Tree<'_>, kind: Kind, own: &Tree<'_>, right: &Tree<'_>) -> Optio
 
 // A form between operands, computed where both are numbers.
 #[cycle(folded)]
-fn infix<'a>(three: Three<'a>, alloc: Global, arena: &'a Bump, kind: Kind) -> Result<Tree<'a>> {
-    let Three { left, own, right } = three;
-    let left = folded(left, alloc, arena)?;
-    let right = folded(right, alloc, arena)?;
-    match value(&left, kind, &own, &right) {
-        Some(value) => form_of(alloc, arena, value),
-        None => Ok(made::infix(alloc, left, kind, own, right)?),
+fn infix<'a>(arena: &'a Arena, kind: Kind, three: &Three<'a>) -> Result<Tree<'a>> {
+    let left = folded(arena, &three.left)?;
+    let right = folded(arena, &three.right)?;
+    match value(&left, kind, &three.own, &right) {
+        Some(value) => form_of(arena, value),
+        None => Ok(made::infix(arena, left, kind, three.own.copy(), right)?),
     }
 }
 
-/// An expression with its constant arithmetic computed, and none of its operands in parentheses. What is computed is
-/// kept in the arena.
+/// An expression with its constant arithmetic computed, and none of its operands in parentheses: as its place decides
+/// later which ones it needs. A tuple stays.
 ///
 /// # Errors
 ///
 /// Where there is no memory for it.
 #[cycle(folded)]
-pub(crate) fn folded<'a>(tree: Tree<'a>, alloc: Global, arena: &'a Bump) -> Result<Tree<'a>> {
-    match tree.form {
-        Form::Alone(Kind::ExprParen, own) => parenthesized(Box::into_inner(own), alloc, arena),
-        Form::Front(kind, two) => front(Box::into_inner(two), alloc, arena, kind),
+pub(crate) fn folded<'a>(arena: &'a Arena, tree: &Tree<'a>) -> Result<Tree<'a>> {
+    match &tree.form {
+        Form::Alone(Kind::ExprParen, own) => match inside(own) {
+            Some(form) => folded(arena, form),
+            None => Ok(tree.copy()),
+        },
+        Form::Front(kind, two) => front(arena, *kind, two),
         Form::Back(kind, two) => {
-            let Two { front, back } = Box::into_inner(two);
-            let left = folded(front, alloc, arena)?;
-            Ok(made::back(alloc, left, kind, back)?)
+            let left = folded(arena, &two.front)?;
+            Ok(made::back(arena, left, *kind, two.back.copy())?)
         }
-        Form::Infix(kind, three) => infix(Box::into_inner(three), alloc, arena, kind),
-        form => Ok(Tree { form }),
+        Form::Infix(kind, three) => infix(arena, *kind, three),
+        _ => Ok(tree.copy()),
     }
 }

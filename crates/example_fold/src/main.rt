@@ -13,33 +13,23 @@ mod number;
 
 use crate::fold::folded;
 use anyhow::{Result, anyhow};
-use bumpalo::Bump;
-use std::alloc::Global;
 use std::io::{Read, Write};
 use syn::{
-    Form, Kind, ParseFault, Position, SourceMap, TokenBuffer, TokenStream, Tree, parse_as, print,
+    Arena, Kind, ParseFault, Position, SourceMap, TokenBuffer, TokenStream, Tree, parse_as, print,
     write_in,
 };
 
 // The form of an expression.
-fn form_of<'a>(tree: Tree<'a>) -> Result<Tree<'a>> {
-    let Form::Node(_, inner) = tree.form else {
-        return Err(anyhow!("no node"));
-    };
-    let Form::Whole(form) = Box::into_inner(inner).form else {
-        return Err(anyhow!("no expression"));
-    };
-    Ok(Box::into_inner(form))
+fn form_of<'t, 'a>(tree: &'t Tree<'a>) -> Result<&'t Tree<'a>> {
+    let (_, inner) = tree.node().ok_or(anyhow!("no node"))?;
+    inner.whole().ok_or(anyhow!("no expression"))
 }
 
-// The line that is said of an expression that a buffer holds. What is computed is kept in the arena.
-fn put_expression<'a>(
-    arena: &'a Bump,
-    buffer: &'a TokenBuffer<'a>,
-    out: &mut String,
-) -> Result<()> {
+// The line that is said of what a buffer holds.
+fn put_line(buffer: &TokenBuffer, out: &mut String) -> Result<()> {
     let alloc = *out.allocator();
-    let tree = match parse_as(alloc, Kind::Expression(Position::Plain), buffer) {
+    let arena = Arena::new(alloc);
+    let tree = match parse_as(&arena, Kind::Expression(Position::Plain), buffer) {
         Ok(tree) => tree,
         Err(ParseFault::Syntax(_)) => {
             writeln!(out, "no expression")?;
@@ -47,18 +37,12 @@ fn put_expression<'a>(
         }
         Err(ParseFault::Memory) => return Err(anyhow!("out of memory")),
     };
-    let form = folded(form_of(tree)?, alloc, arena)?;
+    let form = folded(&arena, form_of(&tree)?)?;
     let mut pieces = Vec::new(alloc);
     write_in(Position::Plain, &form, &mut pieces)?;
     let text = print(alloc, pieces.as_slice())?;
     writeln!(out, "{text}")?;
     Ok(())
-}
-
-// The line that is said of what a buffer holds.
-fn put_line(buffer: &TokenBuffer, out: &mut String) -> Result<()> {
-    let arena = Bump::new(*out.allocator());
-    put_expression(&arena, buffer, out)
 }
 
 // The line that is said of a text.

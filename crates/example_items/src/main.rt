@@ -6,7 +6,7 @@
 use anyhow::Result;
 use std::io::{Read, Write};
 use syn::{
-    Form, Kind, Leaf, LineColumn, Part, SourceMap, Span, TokenBuffer, TokenStream, Tree,
+    Arena, Form, Kind, Leaf, LineColumn, Part, SourceMap, Span, TokenBuffer, TokenStream, Tree,
     parse_file, put_leaves, put_nodes,
 };
 
@@ -76,7 +76,8 @@ fn put_functions(map: &SourceMap, file: &Tree, out: &mut String) -> Result<()> {
 
 // The same of the file that a buffer holds.
 fn put_file(map: &SourceMap, buffer: &TokenBuffer, out: &mut String) -> Result<()> {
-    let file = parse_file(*out.allocator(), buffer)?;
+    let arena = Arena::new(*out.allocator());
+    let file = parse_file(&arena, buffer)?;
     put_functions(map, &file, out)
 }
 

@@ -6,8 +6,8 @@ use anyhow::Result;
 use std::alloc::Global;
 use std::io::{Read, Write};
 use syn::{
-    Form, Kind, LineColumn, Part, SourceMap, Span, TokenBuffer, TokenStream, Tree, parse_file,
-    put_nodes,
+    Arena, Form, Kind, LineColumn, Part, SourceMap, Span, TokenBuffer, TokenStream, Tree,
+    parse_file, put_nodes,
 };
 
 // Where a token begins, if it stands in a text of the map, behind other places.
@@ -45,7 +45,8 @@ fn calls(map: &SourceMap, file: &Tree, alloc: Global) -> Result<Vec<LineColumn>>
 // A line for each such call of the file that a buffer holds.
 fn put_file(map: &SourceMap, buffer: &TokenBuffer, out: &mut String) -> Result<()> {
     let alloc = *out.allocator();
-    let file = parse_file(alloc, buffer)?;
+    let arena = Arena::new(alloc);
+    let file = parse_file(&arena, buffer)?;
     for place in &calls(map, &file, alloc)? {
         let (line, column) = (place.line, place.column);
         writeln!(out, "{line}:{column}: `unwrap` may panic")?;

@@ -6,7 +6,7 @@
 use anyhow::{Result, anyhow};
 use std::io::{Read, Write};
 use syn::{
-    ItemFn, ItemImpl, ItemStatic, ItemTrait, LineColumn, ParseFault, PlacedParts, Receiver,
+    Arena, ItemFn, ItemImpl, ItemStatic, ItemTrait, LineColumn, ParseFault, PlacedParts, Receiver,
     ReceiverKind, Signature, SourceMap, Span, StaticMutability, TokenBuffer, TokenStream, Tree,
     parse_file, put_nodes,
 };
@@ -130,7 +130,8 @@ fn put_all(map: &SourceMap, file: &Tree, out: &mut String) -> Result<()> {
 
 // The same of the file that a buffer holds.
 fn put_file(map: &SourceMap, buffer: &TokenBuffer, out: &mut String) -> Result<()> {
-    let file = parse_file(*out.allocator(), buffer)?;
+    let arena = Arena::new(*out.allocator());
+    let file = parse_file(&arena, buffer)?;
     put_all(map, &file, out)
 }
 

@@ -7,8 +7,8 @@ use anyhow::{Result, anyhow};
 use std::alloc::Global;
 use std::io::{Read, Write};
 use syn::{
-    Delimiter, Ident, Kind, ParseFault, Plus, Position, Reader, Sign, SourceMap, Span, TokenBuffer,
-    TokenStream, Tree, Words, print, write,
+    Arena, Delimiter, Ident, Kind, ParseFault, Plus, Position, Reader, Sign, SourceMap, Span,
+    TokenBuffer, TokenStream, Tree, Words, print, write,
 };
 
 // A setting: its name, its type, and its value.
@@ -50,10 +50,10 @@ fn parse_settings<'a>(
 
 // The name of all of them, and these.
 fn parsed<'a>(
-    alloc: Global,
+    arena: &'a Arena,
     buffer: &'a TokenBuffer<'a>,
 ) -> Result<(&'a Ident, Vec<Setting<'a>>), ParseFault> {
-    let start = Reader::new(alloc, buffer);
+    let start = Reader::new(arena, buffer);
     let mut input = start;
     let word = input.word(Words::Ident)?;
     if !word.is_text("settings") {
@@ -62,7 +62,7 @@ fn parsed<'a>(
     let name = input.word(Words::Ident)?;
     let list = input.group(Delimiter::Brace)?;
     input.finish()?;
-    Ok((name, parse_settings(alloc, list.inside)?))
+    Ok((name, parse_settings(arena.alloc(), list.inside)?))
 }
 
 // The printed normal form of a part.
@@ -101,7 +101,8 @@ fn put_setting(map: &SourceMap, setting: &Setting, out: &mut String) -> Result<(
 
 // What is said of the settings that a buffer holds.
 fn put_settings(map: &SourceMap, buffer: &TokenBuffer, out: &mut String) -> Result<()> {
-    match parsed(*out.allocator(), buffer) {
+    let arena = Arena::new(*out.allocator());
+    match parsed(&arena, buffer) {
         Ok((name, settings)) => {
             writeln!(out, "  {name} has {}", settings.len())?;
             for setting in &settings {

@@ -6,9 +6,9 @@ use anyhow::{Result, anyhow};
 use std::alloc::Global;
 use std::io::{Read, Write};
 use syn::{
-    AnyPath, Kind, ParseFault, Plus, PointerMutability, SourceMap, TokenBuffer, TokenStream, Tree,
-    Type, TypeArray, TypeFnPtr, TypeParen, TypePath, TypePtr, TypeReference, TypeSlice, TypeTuple,
-    parse_as, print, write,
+    AnyPath, Arena, Kind, ParseFault, Plus, PointerMutability, SourceMap, TokenBuffer, TokenStream,
+    Tree, Type, TypeArray, TypeFnPtr, TypeParen, TypePath, TypePtr, TypeReference, TypeSlice,
+    TypeTuple, parse_as, print, write,
 };
 
 // The printed normal form of a part.
@@ -147,7 +147,8 @@ fn put_forms(depth: usize, tree: &Tree, out: &mut String) -> Result<()> {
 
 // What is said of the type that a buffer holds.
 fn put_type(buffer: &TokenBuffer, out: &mut String) -> Result<()> {
-    match parse_as(*out.allocator(), Kind::AType(Plus::WithPlus), buffer) {
+    let arena = Arena::new(*out.allocator());
+    match parse_as(&arena, Kind::AType(Plus::WithPlus), buffer) {
         Ok(tree) => put_forms(8, &tree, out),
         Err(ParseFault::Syntax(_)) => {
             writeln!(out, "  no type")?;

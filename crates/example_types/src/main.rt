@@ -5,7 +5,7 @@
 use anyhow::Result;
 use std::io::{Read, Write};
 use syn::{
-    Kind, Leaf, ParseFault, Plus, SourceMap, Span, TokenBuffer, TokenStream, Tree, parse_as,
+    Arena, Kind, Leaf, ParseFault, Plus, SourceMap, Span, TokenBuffer, TokenStream, Tree, parse_as,
     put_leaves,
 };
 
@@ -47,8 +47,8 @@ fn put_fault(map: &SourceMap, fault: &ParseFault, out: &mut String) -> Result<()
 
 // What is said of the type that a buffer holds.
 fn put_type(map: &SourceMap, buffer: &TokenBuffer, out: &mut String) -> Result<()> {
-    let kind = Kind::AType(Plus::WithPlus);
-    let tree = match parse_as(*out.allocator(), kind, buffer) {
+    let arena = Arena::new(*out.allocator());
+    let tree = match parse_as(&arena, Kind::AType(Plus::WithPlus), buffer) {
         Ok(tree) => tree,
         Err(fault) => return put_fault(map, &fault, out),
     };

@@ -63,7 +63,7 @@ fn is_numbered(numbers: &Tree<'_>) -> bool
     ensures { result ≡ is_numbered numbers.now }
 {
     match &numbers.form {
-        Form::Turns(turns) => is_first_numbered(turns.as_slice()),
+        Form::Turns(turns) => is_first_numbered(turns),
         _ => false,
     }
 }

@@ -18,10 +18,10 @@ pub carried : (a b c d : Tree) → ((c ≡ d) ↔ (a ≡ b)) → both_count a b 
     → IsLeft c d r
 carried a b c d e s (rest.Told same) h = (λ t. e.1 (h.0 t), λ f. h.1 (e.0 f))
 carried a b c d e s (rest.One x y) h = ((λ f. h.0.0 (e.0 f), λ f. e.1 (h.0.1 f)), omega (arith, h.1))
-carried a b c d e s (rest.Two x y) h = ((λ f. h.0.0 (e.0 f), λ f. e.1 (h.0.1 f)), omega (arith, h.1))
-carried a b c d e s (rest.Three x y) h = ((λ f. h.0.0 (e.0 f), λ f. e.1 (h.0.1 f)), omega (arith, h.1))
+carried a b c d e s (rest.Two x y u v) h = ((λ f. h.0.0 (e.0 f), λ f. e.1 (h.0.1 f)), omega (arith, h.1))
+carried a b c d e s (rest.Three x y u v p q) h = ((λ f. h.0.0 (e.0 f), λ f. e.1 (h.0.1 f)), omega (arith, h.1))
 carried a b c d e s (rest.Turns x y) h = ((λ f. h.0.0 (e.0 f), λ f. e.1 (h.0.1 f)), omega (arith, h.1))
-carried a b c d e s (rest.Elements x y u v) h =
+carried a b c d e s (rest.Elements x y) h =
     ((λ f. h.0.0 (e.0 f), λ f. e.1 (h.0.1 f)), omega (arith, h.1), omega (arith, h.2))
 
 -- of trees behind seconds

@@ -54,7 +54,7 @@ form_sort (forms.Pair b) = APair
 form_sort (forms.First n x) = AChoice
 form_sort (forms.Second n x) = AChoice
 form_sort (forms.Turns v) = AList
-form_sort (forms.Elements s v o) = AList
+form_sort (forms.Elements e) = AList
 form_sort (forms.Group d span x) = AGroup
 form_sort (forms.Dropped x) = ADropped
 form_sort (forms.Called n x) = ACalled
@@ -86,9 +86,9 @@ sort_elements c (e ∷ es) f o = refl
 
 pub sorted : (f : Form) → sort (tree_of f) ≡ form_sort f
 sorted (forms.Mark s spacing span) = sort_mark s spacing
-sorted (forms.First n x) = sort_first n x.value
-sorted (forms.Turns v) = sort_turns v.items
-sorted (forms.Elements s v o) = sort_elements (separator_of s) v.items (λ b. b.value) o
+sorted (forms.First n x) = sort_first n x.now
+sorted (forms.Turns v) = sort_turns v.now
+sorted (forms.Elements e) = sort_elements (separator_of e.now.separator) e.now.before.now (λ b. b.now) e.now.last
 sorted f = refl
 
 -- a tree of another sort
@@ -172,8 +172,8 @@ no_choice (forms.First n x) h i e = h n x refl
 no_choice (forms.Second n x) h i e = i n x refl
 no_choice f h i e = cc
 
-pub no_list : (f : Form) → ((v : _) → f ≡ forms.Turns v → ⊥) → ((s : _) (v : _) (o : _) → f ≡ forms.Elements s v o → ⊥)
+pub no_list : (f : Form) → ((v : _) → f ≡ forms.Turns v → ⊥) → ((l : _) → f ≡ forms.Elements l → ⊥)
     → form_sort f ≡ AList → ⊥
 no_list (forms.Turns v) h i e = h v refl
-no_list (forms.Elements s v o) h i e = i s v o refl
+no_list (forms.Elements l) h i e = i l refl
 no_list f h i e = cc

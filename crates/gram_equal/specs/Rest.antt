@@ -16,16 +16,15 @@ both_count a b = node_count a + node_count b
 abbrev pub IsLeft : Tree → Tree → Rest → Type 0
 IsLeft a b (rest.Told same) = IsTrue same ↔ (a ≡ b)
 IsLeft a b (rest.One x y) = ((a ≡ b) ↔ (x.now ≡ y.now)) × (both_count x.now y.now < both_count a b)
-IsLeft a b (rest.Two x y) =
-    ((a ≡ b) ↔ ((x.now.front ≡ y.now.front) × (x.now.back ≡ y.now.back)))
-    × (both_count x.now.front y.now.front + both_count x.now.back y.now.back < both_count a b)
-IsLeft a b (rest.Three x y) =
-    ((a ≡ b) ↔ ((x.now.left ≡ y.now.left) × (x.now.own ≡ y.now.own) × (x.now.right ≡ y.now.right)))
-    × (both_count x.now.left y.now.left + both_count x.now.own y.now.own + both_count x.now.right y.now.right
-    < both_count a b)
+IsLeft a b (rest.Two x y u v) =
+    ((a ≡ b) ↔ ((x.now ≡ y.now) × (u.now ≡ v.now)))
+    × (both_count x.now y.now + both_count u.now v.now < both_count a b)
+IsLeft a b (rest.Three x y u v p q) =
+    ((a ≡ b) ↔ ((x.now ≡ y.now) × (u.now ≡ v.now) × (p.now ≡ q.now)))
+    × (both_count x.now y.now + both_count u.now v.now + both_count p.now q.now < both_count a b)
 IsLeft a b (rest.Turns xs ys) =
     ((a ≡ b) ↔ (xs.now ≡ ys.now)) × (both_count (turns xs.now) (turns ys.now) ≤ both_count a b)
-IsLeft a b (rest.Elements es fs x y) =
-    ((a ≡ b) ↔ ((es.now ≡ fs.now) × (ending (λ z. z.value) x.now ≡ ending (λ z. z.value) y.now)))
-    × (both_count (elements 0 es.now t.End) (elements 0 fs.now t.End) ≤ both_count a b)
-    × (both_count (ending (λ z. z.value) x.now) (ending (λ z. z.value) y.now) ≤ both_count a b)
+IsLeft a b (rest.Elements x y) =
+    ((a ≡ b) ↔ ((x.now.before.now ≡ y.now.before.now) × (ending (λ z. z.now) x.now.last ≡ ending (λ z. z.now) y.now.last)))
+    × (both_count (elements 0 x.now.before.now t.End) (elements 0 y.now.before.now t.End) ≤ both_count a b)
+    × (both_count (ending (λ z. z.now) x.now.last) (ending (λ z. z.now) y.now.last) ≤ both_count a b)

@@ -17,10 +17,9 @@ use crate::leaf::{
     same_tokens, same_word,
 };
 use gram_table::kind::Kind;
-use gram_table::op::Separator;
 use gram_table::part::Part;
 use gram_table::word::Sign;
-use gram_tree::tree::{Element, Form, Three, Tree, Two};
+use gram_tree::tree::{Form, Separated, Three, Tree, Two};
 use proc_macro2::delimiter::Delimiter;
 use rust_leaf::ident::Ident;
 use rust_leaf::literal::Literal;
@@ -34,19 +33,14 @@ pub(crate) enum Rest<'t, 'a> {
     Told(bool),
     /// A tree of each.
     One(&'t Tree<'a>, &'t Tree<'a>),
-    /// Two trees of each.
-    Two(&'t Two<'a>, &'t Two<'a>),
-    /// Three trees of each.
-    Three(&'t Three<'a>, &'t Three<'a>),
+    /// A tree of each, and another one of each, which may be as deep as a chain is long.
+    Two(&'t Tree<'a>, &'t Tree<'a>, &'t Tree<'a>, &'t Tree<'a>),
+    /// A tree of each, a second one, and a third, which may be as deep as a chain is long.
+    Three(&'t Tree<'a>, &'t Tree<'a>, &'t Tree<'a>, &'t Tree<'a>, &'t Tree<'a>, &'t Tree<'a>),
     /// Turns.
     Turns(&'t [Tree<'a>], &'t [Tree<'a>]),
     /// Elements, and a last one.
-    Elements(
-        &'t [Element<'a>],
-        &'t [Element<'a>],
-        &'t Option<Box<Tree<'a>>>,
-        &'t Option<Box<Tree<'a>>>,
-    ),
+    Elements(&'t Separated<'a>, &'t Separated<'a>),
 }
 
 // A tree of each is left, if what holds them is one.
@@ -125,7 +119,7 @@ fn pair<'t, 'a>(two: &'t Two<'a>, tree: &'t Tree<'a>) -> Rest<'t, 'a>
     ensures { IsLeft (t.Pair two.now.front two.now.back) tree.now result }
 {
     match &tree.form {
-        Form::Pair(other) => Rest::Two(two, other),
+        Form::Pair(other) => Rest::Two(&two.front, &other.front, &two.back, &other.back),
         _ => Rest::Told(false),
     }
 }
@@ -179,17 +173,19 @@ fn second<'t, 'a>(depth: usize, inner: &'t Tree<'a>, tree: &'t Tree<'a>) -> Rest
 }
 
 // There are neither turns nor elements.
-fn are_none(turns: &[Tree<'_>], before: &[Element<'_>], last: &Option<Box<Tree<'_>>>) -> bool
-    ensures { IsTrue result ↔ ((turns.now ≡ []) × (before.now ≡ []) × (ending (λ x. x.value) last.now ≡ t.End)) }
+fn are_none(turns: &[Tree<'_>], list: &Separated<'_>) -> bool
+    ensures { IsTrue result
+        ↔ ((turns.now ≡ []) × (list.now.before.now ≡ []) × (ending (λ x. x.now) list.now.last ≡ t.End)) }
 {
-    turns.is_empty() && before.is_empty() && last.is_none()
+    turns.is_empty() && list.before.is_empty() && list.last.is_none()
 }
 
 // No element stands before the last, or the marks behind them are the same.
-fn are_alike(before: &[Element<'_>], separator: Separator, other: Separator) -> bool
-    ensures { IsTrue result ↔ ((before.now ≡ []) ⊎ (separator_of separator ≡ separator_of other)) }
+fn are_alike(list: &Separated<'_>, other: &Separated<'_>) -> bool
+    ensures { IsTrue result
+        ↔ ((list.now.before.now ≡ []) ⊎ (separator_of list.now.separator ≡ separator_of other.now.separator)) }
 {
-    before.is_empty() || same_separator(separator, other)
+    list.before.is_empty() || same_separator(list.separator, other.separator)
 }
 
 // Of turns and a tree.
@@ -197,30 +193,26 @@ fn turns<'t, 'a>(turns: &'t [Tree<'a>], tree: &'t Tree<'a>) -> Rest<'t, 'a>
     ensures { IsLeft (in_turn turns.now) tree.now result }
 {
     match &tree.form {
-        Form::Turns(others) => Rest::Turns(turns, others.as_slice()),
-        Form::Elements(_, before, last) => Rest::Told(are_none(turns, before.as_slice(), last)),
+        Form::Turns(others) => Rest::Turns(turns, others),
+        Form::Elements(list) => Rest::Told(are_none(turns, list)),
         _ => Rest::Told(false),
     }
 }
 
 // Of elements and a tree.
-fn elements<'t, 'a>(
-    separator: Separator,
-    before: &'t [Element<'a>],
-    last: &'t Option<Box<Tree<'a>>>,
-    tree: &'t Tree<'a>,
-) -> Rest<'t, 'a>
-    ensures { IsLeft (listed (separator_of separator) before.now (ending (λ x. x.value) last.now)) tree.now result }
+fn elements<'t, 'a>(list: &'t Separated<'a>, tree: &'t Tree<'a>) -> Rest<'t, 'a>
+    ensures { IsLeft (listed (separator_of list.now.separator) list.now.before.now (ending (λ x. x.now) list.now.last))
+        tree.now result }
 {
     match &tree.form {
-        Form::Elements(other, others, end) => {
-            if are_alike(before, separator, *other) {
-                Rest::Elements(before, others.as_slice(), last, end)
+        Form::Elements(other) => {
+            if are_alike(list, other) {
+                Rest::Elements(list, other)
             } else {
                 Rest::Told(false)
             }
         }
-        Form::Turns(turns) => Rest::Told(are_none(turns.as_slice(), before, last)),
+        Form::Turns(turns) => Rest::Told(are_none(turns, list)),
         _ => Rest::Told(false),
     }
 }
@@ -302,7 +294,7 @@ fn front<'t, 'a>(kind: Kind, two: &'t Two<'a>, tree: &'t Tree<'a>) -> Rest<'t, '
     match &tree.form {
         Form::Front(other, y) => {
             if same_kind(kind, *other) {
-                Rest::Two(two, y)
+                Rest::Two(&two.front, &y.front, &two.back, &y.back)
             } else {
                 Rest::Told(false)
             }
@@ -318,7 +310,7 @@ fn back<'t, 'a>(kind: Kind, two: &'t Two<'a>, tree: &'t Tree<'a>) -> Rest<'t, 'a
     match &tree.form {
         Form::Back(other, y) => {
             if same_kind(kind, *other) {
-                Rest::Two(two, y)
+                Rest::Two(&two.back, &y.back, &two.front, &y.front)
             } else {
                 Rest::Told(false)
             }
@@ -334,7 +326,14 @@ fn infix<'t, 'a>(kind: Kind, three: &'t Three<'a>, tree: &'t Tree<'a>) -> Rest<'
     match &tree.form {
         Form::Infix(other, y) => {
             if same_kind(kind, *other) {
-                Rest::Three(three, y)
+                Rest::Three(
+                    &three.own,
+                    &y.own,
+                    &three.right,
+                    &y.right,
+                    &three.left,
+                    &y.left,
+                )
             } else {
                 Rest::Told(false)
             }
@@ -357,8 +356,8 @@ pub(crate) fn left<'t, 'a>(a: &'t Tree<'a>, b: &'t Tree<'a>) -> Rest<'t, 'a>
         Form::Pair(two) => pair(two, b),
         Form::First(depth, inner) => first(*depth, inner, b),
         Form::Second(depth, inner) => second(*depth, inner, b),
-        Form::Turns(trees) => turns(trees.as_slice(), b),
-        Form::Elements(separator, before, last) => elements(*separator, before.as_slice(), last, b),
+        Form::Turns(trees) => turns(trees, b),
+        Form::Elements(list) => elements(list, b),
         Form::Group(delimiter, _, inner) => group(*delimiter, inner, b),
         Form::Dropped(inner) => dropped(inner, b),
         Form::Called(part, inner) => called(*part, inner, b),

@@ -16,14 +16,12 @@ pub fn equal<'t, 'a>(a: &'t Tree<'a>, b: &'t Tree<'a>) -> bool
     match left(a, b) {
         Rest::Told(same) => same,
         Rest::One(x, y) => equal(x, y),
-        Rest::Two(x, y) => equal(&x.front, &y.front) && equal(&x.back, &y.back),
-        Rest::Three(x, y) => {
-            equal(&x.left, &y.left) && equal(&x.own, &y.own) && equal(&x.right, &y.right)
+        Rest::Two(x, y, last, end) => equal(x, y) && equal(last, end),
+        Rest::Three(x, y, second, other, last, end) => {
+            equal(x, y) && equal(second, other) && equal(last, end)
         }
         Rest::Turns(turns, others) => equal_turns(turns, others),
-        Rest::Elements(before, others, last, end) => {
-            equal_elements(before, others) && equal_last(last, end)
-        }
+        Rest::Elements(x, y) => equal_elements(x.before, y.before) && equal_last(x.last, y.last),
     }
 }
 
@@ -62,8 +60,8 @@ fn equal_elements<'t, 'a>(elements: &'t [Element<'a>], others: &'t [Element<'a>]
 
 // Last elements are one, if there are any.
 #[cycle(equal)]
-fn equal_last<'t, 'a>(last: &'t Option<Box<Tree<'a>>>, end: &'t Option<Box<Tree<'a>>>) -> bool
-    ensures { IsTrue result ↔ (ending (λ x. x.value) last.now ≡ ending (λ x. x.value) end.now) }
+fn equal_last<'t, 'a>(last: Option<&'t Tree<'a>>, end: Option<&'t Tree<'a>>) -> bool
+    ensures { IsTrue result ↔ (ending (λ x. x.now) last.entry ≡ ending (λ x. x.now) end.entry) }
 {
     match last {
         Some(x) => match end {

@@ -81,10 +81,10 @@ fn ending(tree: &Tree<'_>) -> Option<bool>
             Some(closes) => Some(closes),
             None => ending(&three.left),
         },
-        Form::Turns(turns) => ending_of_turns(turns.as_slice()),
-        Form::Elements(_, before, last) => match last {
-            Some(last) => later(behind_marks(before.as_slice()), ending(last)),
-            None => behind_marks(before.as_slice()),
+        Form::Turns(turns) => ending_of_turns(turns),
+        Form::Elements(list) => match list.last {
+            Some(last) => later(behind_marks(list.before), ending(last)),
+            None => behind_marks(list.before),
         },
         Form::Group(delimiter, _, _) => Some(is_brace(*delimiter)),
         Form::First(_, inner) | Form::Second(_, inner) | Form::Dropped(inner) => ending(inner),

@@ -22,9 +22,9 @@ fn has_root(tree: &Tree<'_>) -> bool
             _ => false,
         },
         Form::Group(_, _, inner) => has_root(inner),
-        Form::Elements(_, before, last) => match last {
-            Some(last) => some_has_root(before.as_slice()) || has_root(last),
-            None => some_has_root(before.as_slice()),
+        Form::Elements(list) => match list.last {
+            Some(last) => some_has_root(list.before) || has_root(last),
+            None => some_has_root(list.before),
         },
         _ => false,
     }

@@ -35,10 +35,13 @@ pub(crate) fn past(index: usize, tree: &Tree) -> usize
         Form::Raw(tokens) => index + tokens.len(),
         Form::Nil => index,
         Form::Pair(two) | Form::Front(_, two) | Form::Back(_, two) => past_two(index, two),
-        Form::Turns(turns) => past_turns(index, turns.as_slice()),
-        Form::Elements(mark, before, None) => past_elements(index, *mark, before.as_slice()),
-        Form::Elements(mark, before, Some(last)) => {
-            past(past_elements(index, *mark, before.as_slice()), last)
+        Form::Turns(turns) => past_turns(index, turns),
+        Form::Elements(list) => {
+            let behind = past_elements(index, list.separator, list.before);
+            match list.last {
+                Some(last) => past(behind, last),
+                None => behind,
+            }
         }
         Form::Group(_, _, inner) => past(index + 1, inner) + 1,
         Form::Infix(_, three) => { past(past(past(index, &three.left), &three.own), &three.right) }

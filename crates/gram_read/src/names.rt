@@ -129,7 +129,7 @@ fn put_word<'a>(
         }
         Form::First(_, inner) | Form::Second(_, inner) => put_word(kind, index, inner, out),
         Form::Literal(_) | Form::Mark(_, _, _) | Form::Lifetime(_, _) | Form::Raw(_) => Ok(()),
-        Form::Nil | Form::Pair(_) | Form::Turns(_) | Form::Elements(_, _, _) => Ok(()),
+        Form::Nil | Form::Pair(_) | Form::Turns(_) | Form::Elements(_) => Ok(()),
         Form::Group(_, _, _) | Form::Dropped(_) | Form::Called(_, _) | Form::Verbatim(_) => Ok(()),
         Form::Node(_, _) | Form::Whole(_) | Form::Alone(_, _) | Form::Front(_, _) => Ok(()),
         Form::Back(_, _) | Form::Infix(_, _) => Ok(()),
@@ -177,11 +177,11 @@ fn put_names<'a>(
         Form::Node(kind, inner) => { put_names(listed_by(lister, *kind, inner), index, inner, out) }
         Form::Pair(two) => put_two(lister, index, two, out),
         Form::First(_, inner) | Form::Second(_, inner) => put_names(lister, index, inner, out),
-        Form::Turns(turns) => put_turns(lister, index, turns.as_slice(), out),
+        Form::Turns(turns) => put_turns(lister, index, turns, out),
         Form::Group(_, _, inner) => Ok(put_names(lister, index + 1, inner, out)? + 1),
         Form::Word(_) | Form::Literal(_) | Form::Mark(_, _, _) => Ok(past(index, tree)),
         Form::Lifetime(_, _) | Form::Raw(_) | Form::Nil => Ok(past(index, tree)),
-        Form::Elements(_, _, _) | Form::Dropped(_) | Form::Verbatim(_) => Ok(past(index, tree)),
+        Form::Elements(_) | Form::Dropped(_) | Form::Verbatim(_) => Ok(past(index, tree)),
         Form::Whole(_) | Form::Alone(_, _) | Form::Front(_, _) => Ok(past(index, tree)),
         Form::Back(_, _) | Form::Infix(_, _) => Ok(past(index, tree)),
     }

@@ -12,7 +12,8 @@ use Rattle.gram_table.specs.Ops.{gram_of}
 use Rattle.gram_table.specs.declared.op.Op.{Op}
 use Rattle.gram_table.specs.declared.op.Op.TheVariants as ops
 use Rattle.gram_table.specs.declared.op.Test.{Test}
-use Rattle.gram_run.specs.Around.{around_of, seconds}
+use Rattle.gram_run.specs.Around.{around_of}
+use Rattle.gram_tree.specs.Forms.{seconds}
 use Rattle.gram_run.specs.declared.around.Around.TheVariants as arounds
 use Rattle.gram_run.proofs.Says.{says_seq, says_alt}
 

@@ -1,5 +1,5 @@
 -- What is made of a tree that was read.
-use Rattle.std.specs.Prelude.{ℕ, zero, suc, true, false}
+use Rattle.std.specs.Prelude.{true, false}
 use Rattle.syn_grammar.specs.Tree as t
 use Rattle.syn_grammar.specs.Tree.{Tree}
 use Rattle.gram_table.specs.Kinds.{kind_of}
@@ -7,14 +7,11 @@ use Rattle.syn_grammar.specs.Run.{Out, ◌>>=◌, judge}
 use Rattle.gram_table.specs.Verdicts.{verdict_of}
 use Rattle.gram_table.specs.declared.op.Verdicts.{Verdicts}
 use Rattle.gram_table.specs.Parts.{part_of}
+use Rattle.gram_tree.specs.Forms.{seconds}
 use Rattle.gram_run.specs.declared.around.Around.{Around}
 use Rattle.gram_run.specs.declared.around.Around.TheVariants as arounds
 
--- the second of so many choices, each the second of the one before it
-abbrev pub seconds : ℕ → Tree → Tree
-seconds zero x = x
-seconds (suc n) x = t.Second (seconds n x)
-
+-- the tree with that around it
 abbrev pub around_of : Around → Tree → Tree
 around_of (arounds.Chosen n true) x = seconds n (t.First x)
 around_of (arounds.Chosen n false) x = seconds n x

@@ -1,7 +1,7 @@
 //! What is made of a tree that was read.
 
 ghost use Rattle.gram_run.specs.Answers.{Fails, Gives};
-ghost use Rattle.gram_run.specs.Around.{around_of, judged_as, seconds};
+ghost use Rattle.gram_run.specs.Around.{around_of, judged_as};
 ghost use Rattle.std.specs.Prelude.{◌≡◌, IfOk, IsTrue};
 ghost use Rattle.syn_buffer.specs.Entries.{is_whole};
 ghost use Rattle.syn_grammar.specs.Run.{Out, wrap};
@@ -12,9 +12,10 @@ use crate::unfit::{named, unfit};
 use gram_table::kind::Kind;
 use gram_table::op::Verdicts;
 use gram_table::part::Part;
+use gram_tree::arena::Arena;
 use gram_tree::made;
 use gram_tree::tree::Tree;
-use std::alloc::{AllocError, Global};
+use std::alloc::AllocError;
 use syn_buffer::entry::Entry;
 
 /// What stands around a tree.
@@ -33,30 +34,18 @@ pub(crate) enum Around {
     Whole,
 }
 
-// The second of so many choices, each the second of the one before it.
-fn seconds<'a>(alloc: Global, count: usize, tree: Tree<'a>) -> Result<Tree<'a>, AllocError>
-    ensures { IfOk result (λ x. x ≡ seconds count tree.entry) }
-{
-    let mut second = tree;
-    for done in 0..count {
-        let _ = done;
-        second = made::second(alloc, second)?;
-    }
-    Ok(second)
-}
-
 // The tree with that around it.
 #[inline(never)]
-fn surrounded<'a>(alloc: Global, around: Around, tree: Tree<'a>) -> Result<Tree<'a>, AllocError>
+fn surrounded<'a>(arena: &'a Arena, around: Around, tree: Tree<'a>) -> Result<Tree<'a>, AllocError>
     ensures { IfOk result (λ x. x ≡ around_of around tree.entry) }
 {
     match around {
-        Around::Chosen(count, true) => seconds(alloc, count, made::first(alloc, tree)?),
-        Around::Chosen(count, false) => seconds(alloc, count, tree),
-        Around::Dropped => made::dropped(alloc, tree),
-        Around::Called(part) => made::called(alloc, part, tree),
-        Around::Node(kind) => made::node(alloc, kind, tree),
-        Around::Whole => made::whole(alloc, tree),
+        Around::Chosen(count, true) => made::first_behind(arena, count, tree),
+        Around::Chosen(count, false) => made::seconds(arena, count, tree),
+        Around::Dropped => made::dropped(arena, tree),
+        Around::Called(part) => made::called(arena, part, tree),
+        Around::Node(kind) => made::node(arena, kind, tree),
+        Around::Whole => made::whole(arena, tree),
     }
 }
 
@@ -73,7 +62,7 @@ fn around_wanted(around: Around, at: &[Entry<'_>], refusal: Refusal) -> Refusal
 /// What was read, from there on, with that around it.
 #[inline(never)]
 pub(crate) fn surround<'a>(
-    alloc: Global,
+    arena: &'a Arena,
     around: Around,
     at: &[Entry<'_>],
     inner: Result<(Tree<'a>, &'a [Entry<'a>]), Refusal>,
@@ -84,7 +73,7 @@ pub(crate) fn surround<'a>(
     ensures whole { IfOk result (λ x. IsTrue (is_whole x.1.now)) }
 {
     match inner {
-        Ok((tree, rest)) => Ok((surrounded(alloc, around, tree)?, rest)),
+        Ok((tree, rest)) => Ok((surrounded(arena, around, tree)?, rest)),
         Err(refusal) => Err(around_wanted(around, at, refusal)),
     }
 }
@@ -93,7 +82,7 @@ pub(crate) fn surround<'a>(
 #[inline(never)]
 pub(crate) fn judged<'a, R: Rules>(
     rules: &R,
-    alloc: Global,
+    arena: &'a Arena,
     verdicts: Verdicts,
     inner: Result<(Tree<'a>, &'a [Entry<'a>]), Refusal>,
 ) -> Result<(Tree<'a>, &'a [Entry<'a>]), Refusal>
@@ -104,8 +93,8 @@ pub(crate) fn judged<'a, R: Rules>(
 {
     let (tree, rest) = inner?;
     match rules.judge(verdicts, &tree) {
-        Verdict::Keep => Ok((made::first(alloc, tree)?, rest)),
-        Verdict::AsRaw => Ok((made::verbatim(alloc, tree)?, rest)),
+        Verdict::Keep => Ok((made::first(arena, tree)?, rest)),
+        Verdict::AsRaw => Ok((made::verbatim(arena, tree)?, rest)),
         Verdict::Refuse => Err(unfit(verdicts, &tree, rest)),
     }
 }

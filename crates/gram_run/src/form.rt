@@ -6,14 +6,15 @@ ghost use Rattle.std.specs.Prelude.{◌≡◌, IfOk};
 ghost use Rattle.syn_grammar.specs.Tree.{Alone, Back, Front, Infix};
 
 use gram_table::kind::Kind;
+use gram_tree::arena::Arena;
 use gram_tree::made;
 use gram_tree::tree::Tree;
-use std::alloc::{AllocError, Global};
+use std::alloc::AllocError;
 
 /// The form that begins with its own part.
 #[inline(never)]
 pub(crate) fn begun<'a>(
-    alloc: Global,
+    arena: &'a Arena,
     kind: Kind,
     own: Tree<'a>,
     right: Option<Tree<'a>>,
@@ -21,15 +22,15 @@ pub(crate) fn begun<'a>(
     ensures { IfOk result (λ x. x ≡ made_of (Alone (kind_of kind)) (Front (kind_of kind)) own.entry right.entry) }
 {
     match right {
-        Some(right) => made::front(alloc, kind, own, right),
-        None => made::alone(alloc, kind, own),
+        Some(right) => made::front(arena, kind, own, right),
+        None => made::alone(arena, kind, own),
     }
 }
 
 /// The form that goes on from its left operand.
 #[inline(never)]
 pub(crate) fn extended<'a>(
-    alloc: Global,
+    arena: &'a Arena,
     left: Tree<'a>,
     kind: Kind,
     own: Tree<'a>,
@@ -39,7 +40,7 @@ pub(crate) fn extended<'a>(
         right.entry) }
 {
     match right {
-        Some(right) => made::infix(alloc, left, kind, own, right),
-        None => made::back(alloc, left, kind, own),
+        Some(right) => made::infix(arena, left, kind, own, right),
+        None => made::back(arena, left, kind, own),
     }
 }

@@ -10,11 +10,11 @@ ghost use Rattle.syn_grammar.specs.Run.{Out, Refused, group_at, whole};
 
 use crate::refusal::{Refusal, Wrong, refuse_at};
 use crate::unfit::wanted_behind;
+use gram_tree::arena::Arena;
 use gram_tree::made;
 use gram_tree::tree::Tree;
 use proc_macro2::delimiter::Delimiter;
 use rust_map::span::Span;
-use std::alloc::Global;
 use syn_buffer::entry::Entry;
 
 /// A group that was entered.
@@ -85,7 +85,7 @@ fn closed(refusal: Refusal, span: Span) -> Refusal
 /// A group, of what was read of its inside, where that is all of it; and what stands behind it.
 #[inline(never)]
 pub(crate) fn grouped<'a>(
-    alloc: Global,
+    arena: &'a Arena,
     delimiter: Delimiter,
     opened: Opened<'a>,
     inner: Result<(Tree<'a>, &'a [Entry<'a>]), Refusal>,
@@ -102,7 +102,7 @@ pub(crate) fn grouped<'a>(
                 return Err(refuse_at(wanted_behind(&inside), entry.span()));
             }
             Ok((
-                made::group(alloc, delimiter, opened.span, inside)?,
+                made::group(arena, delimiter, opened.span, inside)?,
                 opened.behind,
             ))
         }

@@ -11,8 +11,8 @@ use crate::refusal::{Refusal, Wanted, refuse};
 use crate::rules::Rules;
 use crate::run::call;
 use gram_table::kind::Kind;
+use gram_tree::arena::Arena;
 use gram_tree::tree::Tree;
-use std::alloc::Global;
 use syn_buffer::entry::Entry;
 
 /// The tree of the kind with which the entries begin, and what is left behind it. The entries are whole.
@@ -20,7 +20,7 @@ use syn_buffer::entry::Entry;
 /// The refusal is that they begin with none, and what was wanted where, or that there is no memory for the tree.
 pub fn read<'a, R: Rules>(
     rules: &R,
-    alloc: Global,
+    arena: &'a Arena,
     kind: Kind,
     at: &'a [Entry<'a>],
 ) -> Result<(Tree<'a>, &'a [Entry<'a>]), Refusal>
@@ -31,7 +31,7 @@ pub fn read<'a, R: Rules>(
     ensures whole { IfOk result (λ x. IsTrue (is_whole x.1.now)) }
 {
     let fuel = at.len() as u128 * 10 + 10;
-    match call(rules, alloc, kind, at, fuel) {
+    match call(rules, arena, kind, at, fuel) {
         Ok((tree, rest)) => Ok((tree, rest)),
         Err(Refusal::Syntax(wrong)) => Err(Refusal::Syntax(wrong)),
         Err(Refusal::Memory) => Err(Refusal::Memory),

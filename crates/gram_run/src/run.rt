@@ -32,10 +32,10 @@ use gram_judge::level::{inside, level as level_of};
 use gram_table::entry::entry;
 use gram_table::kind::{Kind, Position};
 use gram_table::op::{Op, Separator, Test, Verdicts};
+use gram_tree::arena::Arena;
 use gram_tree::made;
 use gram_tree::tree::{Element, Tree};
 use proc_macro2::delimiter::Delimiter;
-use std::alloc::Global;
 use syn_buffer::entry::Entry;
 
 /// A tree of the kind.
@@ -43,7 +43,7 @@ use syn_buffer::entry::Entry;
 #[inline(never)]
 pub(crate) fn call<'a, R: Rules>(
     rules: &R,
-    alloc: Global,
+    arena: &'a Arena,
     kind: Kind,
     at: &'a [Entry<'a>],
     fuel: u128,
@@ -57,7 +57,7 @@ pub(crate) fn call<'a, R: Rules>(
     }
     let steps = entry(kind);
     let _bounded = steps.len();
-    within(rules, alloc, Around::Node(kind), steps, at, fuel - 1)
+    within(rules, arena, Around::Node(kind), steps, at, fuel - 1)
 }
 
 // What the steps say.
@@ -65,7 +65,7 @@ pub(crate) fn call<'a, R: Rules>(
 #[inline(never)]
 fn interp<'a, R: Rules>(
     rules: &R,
-    alloc: Global,
+    arena: &'a Arena,
     steps: &'static [Op],
     at: &'a [Entry<'a>],
     fuel: u128,
@@ -77,14 +77,14 @@ fn interp<'a, R: Rules>(
     let Some((op, parts)) = steps.split_first() else {
         return Err(refuse(Wanted::Nothing, at));
     };
-    step(rules, alloc, *op, parts, at, fuel)
+    step(rules, arena, *op, parts, at, fuel)
 }
 
 // What a step says with its parts behind it.
 #[cycle(run)]
 fn step<'a, R: Rules>(
     rules: &R,
-    alloc: Global,
+    arena: &'a Arena,
     op: Op,
     parts: &'static [Op],
     at: &'a [Entry<'a>],
@@ -103,16 +103,16 @@ fn step<'a, R: Rules>(
         Op::Raw => Ok(leaf::raw(at)),
         Op::Nothing => Ok((made::nil(), at)),
         Op::Never => Err(refuse(Wanted::Nothing, at)),
-        Op::Seq(count) => seq(rules, alloc, count, parts, at, fuel),
-        Op::Alt(test, count) => alt(rules, alloc, test, count, parts, at, fuel),
-        Op::Star(test) => star(rules, alloc, test, parts, at, fuel),
-        Op::Many(test, separator) => many(rules, alloc, test, separator, parts, at, fuel),
-        Op::Group(delimiter) => group(rules, alloc, delimiter, parts, at, fuel),
-        Op::Judged(verdicts) => weighed(rules, alloc, verdicts, parts, at, fuel),
-        Op::Dropped => within(rules, alloc, Around::Dropped, parts, at, fuel),
-        Op::Called(part) => within(rules, alloc, Around::Called(part), parts, at, fuel),
-        Op::Ref(kind) => call(rules, alloc, kind, at, fuel),
-        Op::Operand(position, level) => operand(rules, alloc, position, level, at, fuel),
+        Op::Seq(count) => seq(rules, arena, count, parts, at, fuel),
+        Op::Alt(test, count) => alt(rules, arena, test, count, parts, at, fuel),
+        Op::Star(test) => star(rules, arena, test, parts, at, fuel),
+        Op::Many(test, separator) => many(rules, arena, test, separator, parts, at, fuel),
+        Op::Group(delimiter) => group(rules, arena, delimiter, parts, at, fuel),
+        Op::Judged(verdicts) => weighed(rules, arena, verdicts, parts, at, fuel),
+        Op::Dropped => within(rules, arena, Around::Dropped, parts, at, fuel),
+        Op::Called(part) => within(rules, arena, Around::Called(part), parts, at, fuel),
+        Op::Ref(kind) => call(rules, arena, kind, at, fuel),
+        Op::Operand(position, level) => operand(rules, arena, position, level, at, fuel),
     }
 }
 
@@ -121,7 +121,7 @@ fn step<'a, R: Rules>(
 #[inline(never)]
 fn within<'a, R: Rules>(
     rules: &R,
-    alloc: Global,
+    arena: &'a Arena,
     around: Around,
     steps: &'static [Op],
     at: &'a [Entry<'a>],
@@ -132,7 +132,7 @@ fn within<'a, R: Rules>(
         (wrap (around_of around) (says (run fuel) (gram_of steps.now) (tokens at.now))) }
     ensures whole { IfOk result (λ x. IsTrue (is_whole x.1.now)) }
 {
-    surround(alloc, around, at, interp(rules, alloc, steps, at, fuel))
+    surround(arena, around, at, interp(rules, arena, steps, at, fuel))
 }
 
 // The part that is chosen.
@@ -140,7 +140,7 @@ fn within<'a, R: Rules>(
 #[inline(never)]
 fn alt<'a, R: Rules>(
     rules: &R,
-    alloc: Global,
+    arena: &'a Arena,
     test: Test,
     count: usize,
     parts: &'static [Op],
@@ -156,7 +156,7 @@ fn alt<'a, R: Rules>(
         return Err(refuse(Wanted::Nothing, at));
     };
     let around = Around::Chosen(choice.seconds, choice.is_first);
-    within(rules, alloc, around, choice.parts, at, fuel)
+    within(rules, arena, around, choice.parts, at, fuel)
 }
 
 // A group, and what its inside says.
@@ -164,7 +164,7 @@ fn alt<'a, R: Rules>(
 #[inline(never)]
 fn group<'a, R: Rules>(
     rules: &R,
-    alloc: Global,
+    arena: &'a Arena,
     delimiter: Delimiter,
     parts: &'static [Op],
     at: &'a [Entry<'a>],
@@ -178,8 +178,8 @@ fn group<'a, R: Rules>(
     let Some(opened) = enter(delimiter, at) else {
         return Err(refuse(Wanted::Group(delimiter), at));
     };
-    let inner = interp(rules, alloc, parts, opened.inside, fuel);
-    grouped(alloc, delimiter, opened, inner)
+    let inner = interp(rules, arena, parts, opened.inside, fuel);
+    grouped(arena, delimiter, opened, inner)
 }
 
 // What the steps say, as it is judged.
@@ -187,7 +187,7 @@ fn group<'a, R: Rules>(
 #[inline(never)]
 fn weighed<'a, R: Rules>(
     rules: &R,
-    alloc: Global,
+    arena: &'a Arena,
     verdicts: Verdicts,
     steps: &'static [Op],
     at: &'a [Entry<'a>],
@@ -200,9 +200,9 @@ fn weighed<'a, R: Rules>(
 {
     judged(
         rules,
-        alloc,
+        arena,
         verdicts,
-        interp(rules, alloc, steps, at, fuel),
+        interp(rules, arena, steps, at, fuel),
     )
 }
 
@@ -211,7 +211,7 @@ fn weighed<'a, R: Rules>(
 #[inline(never)]
 fn operand<'a, R: Rules>(
     rules: &R,
-    alloc: Global,
+    arena: &'a Arena,
     position: Position,
     level: usize,
     at: &'a [Entry<'a>],
@@ -223,10 +223,10 @@ fn operand<'a, R: Rules>(
     ensures whole { IfOk result (λ x. IsTrue (is_whole x.1.now)) }
 {
     surround(
-        alloc,
+        arena,
         Around::Whole,
         at,
-        tower(rules, alloc, position, level, at, fuel),
+        tower(rules, arena, position, level, at, fuel),
     )
 }
 
@@ -235,7 +235,7 @@ fn operand<'a, R: Rules>(
 #[inline(never)]
 fn seq<'a, R: Rules>(
     rules: &R,
-    alloc: Global,
+    arena: &'a Arena,
     count: usize,
     parts: &'static [Op],
     at: &'a [Entry<'a>],
@@ -249,9 +249,9 @@ fn seq<'a, R: Rules>(
     let Some((first, second)) = halves(count, parts) else {
         return Err(refuse(Wanted::Nothing, at));
     };
-    let (front, behind) = interp(rules, alloc, first, at, fuel)?;
-    let (back, rest) = interp(rules, alloc, second, behind, fuel)?;
-    Ok((made::pair(alloc, front, back)?, rest))
+    let (front, behind) = interp(rules, arena, first, at, fuel)?;
+    let (back, rest) = interp(rules, arena, second, behind, fuel)?;
+    Ok((made::pair(arena, front, back)?, rest))
 }
 
 // How far a list has been read.
@@ -265,7 +265,7 @@ struct Place<'a> {
 #[inline(never)]
 fn star<'a, R: Rules>(
     rules: &R,
-    alloc: Global,
+    arena: &'a Arena,
     test: Test,
     parts: &'static [Op],
     begin: &'a [Entry<'a>],
@@ -276,7 +276,7 @@ fn star<'a, R: Rules>(
         (run most (again (test_of test) (gram_of parts.now)) (tokens begin.now)) }
     ensures whole { IfOk result (λ x. IsTrue (is_whole x.1.now)) }
 {
-    let mut turns = Vec::new(alloc);
+    let mut turns = Vec::new(arena.alloc());
     let mut at = Place { entries: begin };
     let mut fuel = most;
     'turns: loop {
@@ -287,11 +287,11 @@ fn star<'a, R: Rules>(
         if !rules.passes(test, at.entries) {
             break;
         }
-        let (turn, rest) = interp(rules, alloc, parts, at.entries, fuel)?;
+        let (turn, rest) = interp(rules, arena, parts, at.entries, fuel)?;
         turns.push(turn)?;
         at = Place { entries: rest };
     }
-    Ok((made::turns(turns), at.entries))
+    Ok((made::turns(arena, turns)?, at.entries))
 }
 
 // Elements with marks between them, until the test passes.
@@ -299,7 +299,7 @@ fn star<'a, R: Rules>(
 #[inline(never)]
 fn many<'a, R: Rules>(
     rules: &R,
-    alloc: Global,
+    arena: &'a Arena,
     test: Test,
     separator: Separator,
     parts: &'static [Op],
@@ -311,7 +311,7 @@ fn many<'a, R: Rules>(
         (run most (list (test_of test) (separator_of separator) (gram_of parts.now)) (tokens begin.now)) }
     ensures whole { IfOk result (λ x. IsTrue (is_whole x.1.now)) }
 {
-    let mut before = Vec::new(alloc);
+    let mut before = Vec::new(arena.alloc());
     let mut at = Place { entries: begin };
     let mut fuel = most;
     'elements: loop {
@@ -322,15 +322,14 @@ fn many<'a, R: Rules>(
         if rules.passes(test, at.entries) {
             break;
         }
-        let (tree, rest) = interp(rules, alloc, parts, at.entries, fuel)?;
+        let (tree, rest) = interp(rules, arena, parts, at.entries, fuel)?;
         let Some((spacing, behind)) = leaf::separator(separator, rest) else {
-            let last = Box::new(alloc, tree)?;
-            return Ok((made::elements(separator, before, Some(last)), rest));
+            return Ok((made::elements(arena, separator, before, Some(tree))?, rest));
         };
         before.push(Element { tree, spacing })?;
         at = Place { entries: behind };
     }
-    Ok((made::elements(separator, before, None), at.entries))
+    Ok((made::elements(arena, separator, before, None)?, at.entries))
 }
 
 // A form's own part, the operand behind it, if it has one there, and what stands behind them.
@@ -346,7 +345,7 @@ struct OwnPart<'a> {
 #[inline(never)]
 fn own<'a, R: Rules>(
     rules: &R,
-    alloc: Global,
+    arena: &'a Arena,
     position: Position,
     kind: Kind,
     at: &'a [Entry<'a>],
@@ -360,7 +359,7 @@ fn own<'a, R: Rules>(
 {
     let steps = entry(kind);
     let _bounded = steps.len();
-    let (tree, behind) = interp(rules, alloc, steps, at, fuel)?;
+    let (tree, behind) = interp(rules, arena, steps, at, fuel)?;
     if !rules.has_right(position, kind, behind) {
         return Ok(OwnPart {
             tree,
@@ -369,7 +368,7 @@ fn own<'a, R: Rules>(
         });
     }
     let place = inside(position, kind);
-    let (right, rest) = tower(rules, alloc, place, level_of(kind), behind, fuel)?;
+    let (right, rest) = tower(rules, arena, place, level_of(kind), behind, fuel)?;
     Ok(OwnPart {
         tree,
         right: Some(right),
@@ -382,7 +381,7 @@ fn own<'a, R: Rules>(
 #[inline(never)]
 fn tower<'a, R: Rules>(
     rules: &R,
-    alloc: Global,
+    arena: &'a Arena,
     position: Position,
     level: usize,
     at: &'a [Entry<'a>],
@@ -399,9 +398,9 @@ fn tower<'a, R: Rules>(
     let Some(kind) = rules.front(position, at) else {
         return Err(refuse(Wanted::Expression, at));
     };
-    let OwnPart { tree, right, rest } = own(rules, alloc, position, kind, at, fuel - 1)?;
-    let left = begun(alloc, kind, tree, right)?;
-    climb(rules, alloc, position, level, left, rest, fuel - 1)
+    let OwnPart { tree, right, rest } = own(rules, arena, position, kind, at, fuel - 1)?;
+    let left = begun(arena, kind, tree, right)?;
+    climb(rules, arena, position, level, left, rest, fuel - 1)
 }
 
 // What goes on from a left operand, as an operand of an operator of the level.
@@ -409,7 +408,7 @@ fn tower<'a, R: Rules>(
 #[inline(never)]
 fn climb<'a, R: Rules>(
     rules: &R,
-    alloc: Global,
+    arena: &'a Arena,
     position: Position,
     level: usize,
     left: Tree<'a>,
@@ -435,13 +434,13 @@ fn climb<'a, R: Rules>(
             Next::Form(kind) => {
                 let OwnPart { tree, right, rest } = own(
                     rules,
-                    alloc,
+                    arena,
                     position,
                     kind,
                     place.entries,
                     most,
                 )?;
-                form = extended(alloc, form, kind, tree, right)?;
+                form = extended(arena, form, kind, tree, right)?;
                 place = Place { entries: rest };
             }
         }

@@ -59,11 +59,10 @@ fn begin(tree: &Tree<'_>) -> Option<Span> {
         Form::Raw(tokens) => begin_of_tokens(tokens),
         Form::Nil => None,
         Form::Pair(two) | Form::Front(_, two) | Form::Back(_, two) => begin_of_two(two),
-        Form::Turns(turns) => begin_of_turns(turns.as_slice()),
-        Form::Elements(_, before, None) => begin_of_elements(before.as_slice()),
-        Form::Elements(_, before, Some(last)) => match begin_of_elements(before.as_slice()) {
+        Form::Turns(turns) => begin_of_turns(turns),
+        Form::Elements(list) => match begin_of_elements(list.before) {
             Some(span) => Some(span),
-            None => begin(last),
+            None => begin(list.last?),
         },
         Form::Infix(_, three) => begin(&three.left),
         Form::First(_, inner) | Form::Second(_, inner) | Form::Dropped(inner) => begin(inner),
@@ -203,8 +202,11 @@ pub(crate) fn named(kind: Kind, at: &[Entry<'_>], refusal: Refusal) -> Refusal
 /// What is wanted where tokens are left of a group's inside: a mark, where that is a list whose last element has none.
 pub(crate) fn wanted_behind(tree: &Tree<'_>) -> Wanted {
     match &tree.form {
-        Form::Elements(Separator::Comma, _, Some(_)) => Wanted::Mark(Sign::Comma),
-        Form::Elements(Separator::Plus, _, Some(_)) => Wanted::Mark(Sign::Plus),
+        Form::Elements(list) => match (list.separator, list.last) {
+            (Separator::Comma, Some(_)) => Wanted::Mark(Sign::Comma),
+            (Separator::Plus, Some(_)) => Wanted::Mark(Sign::Plus),
+            _ => Wanted::End,
+        },
         Form::Pair(two) => wanted_behind(&two.back),
         Form::First(_, inner) | Form::Second(_, inner) => wanted_behind(inner),
         Form::Called(_, inner) | Form::Node(_, inner) => wanted_behind(inner),

@@ -1,6 +1,8 @@
 -- What is left of a tree that is single, and of one that is a choice, by its form.
 use Rattle.std.specs.Prelude.{Bool, false, ◌≡◌, ◌≢◌, ℕ, zero, suc, ◌-◌, List, [], ◌∷◌, Option, Some, None, refl}
 use Rattle.std.proofs.Common.{arith}
+use Rattle.std.specs.Prelude.{option_map}
+use denote.Ref.{Bor}
 use Rattle.rust_leaf.specs.declared.punct.Spacing.{Spacing}
 use Rattle.syn_grammar.specs.Tree as t
 use Rattle.syn_grammar.specs.Tree.{Tree}
@@ -75,5 +77,10 @@ pub turns_elements : {A : Type 0} (c : ℕ) (es : List Element) (f : A → Tree)
 turns_elements c [] f None = refl
 turns_elements c [] f (Some y) = refl
 turns_elements c (e ∷ es) f o = refl
+
+-- a last element behind a reference
+pub ending_now : (o : Option (Bor Tree)) → ending (λ b. b.now) o ≡ ending (λ y. y) (option_map (λ x. x.now) o)
+ending_now None = refl
+ending_now (Some b) = refl
 
 pub ruleset lists = (list_first, list_mark, list_turns, turns_first, turns_mark, turns_elements)

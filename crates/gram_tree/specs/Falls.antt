@@ -1,5 +1,6 @@
 -- A tree has more nodes than its children: the proof that the type owes. No definition rests on it.
-use Rattle.std.specs.Prelude.{ℕ, zero, suc, ◌≤◌, ◌+◌, List, [], ◌∷◌, Some, None}
+use Rattle.std.specs.Prelude.{◌≡◌, ℕ, zero, suc, ◌≤◌, ◌+◌, List, [], ◌∷◌, Option, Some, None, refl}
+use denote.Ref.{Bor}
 use Rattle.std.proofs.Common.{arith}
 use denote.Param.Weighed.{most}
 use Rattle.syn_grammar.specs.Tree as t
@@ -7,10 +8,11 @@ use Rattle.syn_grammar.specs.Tree.{Tree}
 use Rattle.gram_table.specs.Ops.{separator_of}
 use Rattle.gram_tree.specs.declared.tree.Element.{Element}
 use Rattle.gram_tree.specs.declared.tree.Form.{Form}
+use Rattle.gram_tree.specs.declared.tree.Separated.{Separated}
 use Rattle.gram_tree.specs.declared.tree.Form.TheVariants as forms
-use Rattle.gram_tree.specs.declared.tree.Tree.TheDeep.{deep-Tree, deep-Form, deep-Element}
+use Rattle.gram_tree.specs.declared.tree.Tree.TheDeep.{deep-Tree, deep-Form, deep-Element, deep-Separated}
 use Rattle.gram_tree.specs.declared.tree.Tree.TheInside.{Inside}
-use Rattle.gram_tree.specs.Forms.{tree_of, seconds, turns, elements}
+use Rattle.gram_tree.specs.Forms.{tree_of, seconds, turns, elements, ending}
 use Rattle.gram_tree.specs.Size.{node_count}
 
 seconds_le : (n : ℕ) (x : Tree) → node_count x ≤ node_count (seconds n x)
@@ -29,6 +31,15 @@ behind_le : (c : ℕ) (es : List Element) (y : Tree) → node_count y ≤ node_c
 behind_le c [] y = omega arith
 behind_le c (e ∷ es) y = omega (arith, behind_le c es y)
 
+separated_le : (s : Separated) (o : Option (Bor Tree)) → s.last ≡ o
+    → deep-Separated s ≤ node_count (elements (separator_of s.separator) s.before.now (ending (λ b. b.now) s.last))
+separated_le s None e = rw e (omega (arith, elements_le (separator_of s.separator) s.before.now t.End))
+separated_le s (Some b) e = rw e (omega (
+  arith,
+  elements_le (separator_of s.separator) s.before.now (t.Final b.now),
+  behind_le (separator_of s.separator) s.before.now (t.Final b.now),
+))
+
 deep_le : (f : Form) → deep-Form f ≤ node_count (tree_of f)
 deep_le (forms.Word i) = omega arith
 deep_le (forms.Literal l) = omega arith
@@ -37,12 +48,10 @@ deep_le (forms.Lifetime span i) = omega arith
 deep_le (forms.Raw es) = omega arith
 deep_le forms.Nil = omega arith
 deep_le (forms.Pair b) = omega arith
-deep_le (forms.First n x) = omega (arith, seconds_le n (t.First x.value))
-deep_le (forms.Second n x) = omega (arith, seconds_le n x.value)
-deep_le (forms.Turns v) = omega (arith, turns_le v.items)
-deep_le (forms.Elements s v None) = omega (arith, elements_le (separator_of s) v.items t.End)
-deep_le (forms.Elements s v (Some b)) = omega
-    (arith, elements_le (separator_of s) v.items (t.Final b.value), behind_le (separator_of s) v.items (t.Final b.value))
+deep_le (forms.First n x) = omega (arith, seconds_le n (t.First x.now))
+deep_le (forms.Second n x) = omega (arith, seconds_le n x.now)
+deep_le (forms.Turns v) = omega (arith, turns_le v.now)
+deep_le (forms.Elements e) = omega (arith, separated_le e.now e.now.last refl)
 deep_le (forms.Group d span x) = omega arith
 deep_le (forms.Dropped x) = omega arith
 deep_le (forms.Called n x) = omega arith

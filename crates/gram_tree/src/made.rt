@@ -1,18 +1,19 @@
 //! Trees, made of their parts.
 //!
-//! Each takes one box at most, and fails where there is no memory for that.
+//! Each takes one place at most in the arena, and fails where there is no memory for that.
 
 ghost use Rattle.gram_table.specs.Kinds.{kind_of};
 ghost use Rattle.gram_table.specs.Ops.{separator_of};
 ghost use Rattle.gram_table.specs.Parts.{part_of};
 ghost use Rattle.gram_table.specs.Words.{sign_text};
-ghost use Rattle.gram_tree.specs.Forms.{elements as listed, ending, mark_of, turns as in_turn};
+ghost use Rattle.gram_tree.specs.Forms.{elements as listed, ending, mark_of, seconds, turns as in_turn};
 ghost use Rattle.rust_leaf.specs.Leaf.{ident_text, literal_text};
 ghost use Rattle.std.specs.Prelude.{◌≡◌, IfOk, map};
 ghost use Rattle.syn_buffer.specs.Entries.{entry_token};
 ghost use Rattle.syn_grammar.specs.Tree as t;
 
-use crate::tree::{Element, Form, Three, Tree, Two};
+use crate::arena::Arena;
+use crate::tree::{Element, Form, Separated, Three, Tree, Two};
 use gram_table::kind::Kind;
 use gram_table::op::Separator;
 use gram_table::part::Part;
@@ -22,7 +23,7 @@ use rust_leaf::ident::Ident;
 use rust_leaf::literal::Literal;
 use rust_leaf::punct::Spacing;
 use rust_map::span::Span;
-use std::alloc::{AllocError, Global};
+use std::alloc::AllocError;
 use syn_buffer::entry::Entry;
 
 /// An identifier or a keyword.
@@ -82,11 +83,11 @@ pub fn nil<'a>() -> Tree<'a>
 /// # Errors
 ///
 /// Where there is no memory for it.
-pub fn pair<'a>(alloc: Global, front: Tree<'a>, back: Tree<'a>) -> Result<Tree<'a>, AllocError>
+pub fn pair<'a>(arena: &'a Arena, front: Tree<'a>, back: Tree<'a>) -> Result<Tree<'a>, AllocError>
     ensures { IfOk result (λ x. x ≡ t.Pair front.entry back.entry) }
 {
     Ok(Tree {
-        form: Form::Pair(Box::new(alloc, Two { front, back })?),
+        form: Form::Pair(arena.put(Two { front, back })?),
     })
 }
 
@@ -95,55 +96,105 @@ pub fn pair<'a>(alloc: Global, front: Tree<'a>, back: Tree<'a>) -> Result<Tree<'
 /// # Errors
 ///
 /// Where there is no memory for it.
-pub fn first<'a>(alloc: Global, inner: Tree<'a>) -> Result<Tree<'a>, AllocError>
+pub fn first<'a>(arena: &'a Arena, inner: Tree<'a>) -> Result<Tree<'a>, AllocError>
     ensures { IfOk result (λ x. x ≡ t.First inner.entry) }
 {
     Ok(Tree {
-        form: Form::First(0, Box::new(alloc, inner)?),
+        form: Form::First(0, arena.put(inner)?),
     })
 }
 
-/// Of a choice the second. Of choices, each the second of the one before it, none takes a box but the last.
+/// Of a choice the second. Of choices, each the second of the one before it, none takes a place but the last.
 ///
 /// # Errors
 ///
 /// Where there is no memory for it.
-pub fn second<'a>(alloc: Global, inner: Tree<'a>) -> Result<Tree<'a>, AllocError>
+pub fn second<'a>(arena: &'a Arena, inner: Tree<'a>) -> Result<Tree<'a>, AllocError>
     ensures { IfOk result (λ x. x ≡ t.Second inner.entry) }
 {
+    seconds(arena, 1, inner)
+}
+
+/// Of so many choices, each the second of the one before it, the second of the last one.
+///
+/// # Errors
+///
+/// Where there is no memory for it.
+#[tactic(auto, using(crate::proofs::Seconds::seconds_again))]
+pub fn seconds<'a>(arena: &'a Arena, count: usize, inner: Tree<'a>) -> Result<Tree<'a>, AllocError>
+    ensures { IfOk result (λ x. x ≡ seconds count inner.entry) }
+{
+    if count == 0 {
+        return Ok(inner);
+    }
     match inner.form {
-        Form::First(depth, x) if depth < usize::MAX => Ok(Tree {
-            form: Form::First(depth + 1, x),
+        Form::First(depth, x) if depth <= usize::MAX - count => Ok(Tree {
+            form: Form::First(depth + count, x),
         }),
-        Form::Second(depth, x) if depth < usize::MAX => Ok(Tree {
-            form: Form::Second(depth + 1, x),
+        Form::Second(depth, x) if depth <= usize::MAX - count => Ok(Tree {
+            form: Form::Second(depth + count, x),
         }),
         form => Ok(Tree {
-            form: Form::Second(0, Box::new(alloc, Tree { form })?),
+            form: Form::Second(count - 1, arena.put(Tree { form })?),
         }),
     }
+}
+
+/// Of so many choices, each the second of the one before it, and one more, the first of the last one.
+///
+/// # Errors
+///
+/// Where there is no memory for it.
+pub fn first_behind<'a>(
+    arena: &'a Arena,
+    count: usize,
+    inner: Tree<'a>,
+) -> Result<Tree<'a>, AllocError>
+    ensures { IfOk result (λ x. x ≡ seconds count (t.First inner.entry)) }
+{
+    Ok(Tree {
+        form: Form::First(count, arena.put(inner)?),
+    })
 }
 
 /// Turns, one behind the other.
-pub fn turns<'a>(turns: Vec<Tree<'a>>) -> Tree<'a>
-    ensures { result ≡ in_turn turns.entry.items }
+///
+/// # Errors
+///
+/// Where there is no memory for them.
+pub fn turns<'a>(arena: &'a Arena, turns: Vec<Tree<'a>>) -> Result<Tree<'a>, AllocError>
+    ensures { IfOk result (λ x. x ≡ in_turn turns.entry.items) }
 {
-    Tree {
-        form: Form::Turns(turns),
-    }
+    Ok(Tree {
+        form: Form::Turns(arena.put_all(turns)?),
+    })
 }
 
 /// Elements, each with the separator's mark behind it, and a last one that none follows.
+///
+/// # Errors
+///
+/// Where there is no memory for them.
 pub fn elements<'a>(
+    arena: &'a Arena,
     separator: Separator,
     before: Vec<Element<'a>>,
-    last: Option<Box<Tree<'a>>>,
-) -> Tree<'a>
-    ensures { result ≡ listed (separator_of separator) before.entry.items (ending (λ b. b.value) last.entry) }
+    last: Option<Tree<'a>>,
+) -> Result<Tree<'a>, AllocError>
+    ensures { IfOk result (λ x. x ≡ listed (separator_of separator) before.entry.items (ending (λ y. y) last.entry)) }
 {
-    Tree {
-        form: Form::Elements(separator, before, last),
-    }
+    let before = arena.put_all(before)?;
+    let last = match last {
+        Some(tree) => Some(arena.put(tree)?),
+        None => None,
+    };
+    Ok(Tree {
+        form: Form::Elements(arena.put(Separated {
+            separator,
+            before,
+            last,
+        })?),
+    })
 }
 
 /// A group, its span, and its inside.
@@ -152,7 +203,7 @@ pub fn elements<'a>(
 ///
 /// Where there is no memory for it.
 pub fn group<'a>(
-    alloc: Global,
+    arena: &'a Arena,
     delimiter: Delimiter,
     span: Span,
     inside: Tree<'a>,
@@ -160,7 +211,7 @@ pub fn group<'a>(
     ensures { IfOk result (λ x. x ≡ t.Group delimiter inside.entry) }
 {
     Ok(Tree {
-        form: Form::Group(delimiter, span, Box::new(alloc, inside)?),
+        form: Form::Group(delimiter, span, arena.put(inside)?),
     })
 }
 
@@ -169,11 +220,11 @@ pub fn group<'a>(
 /// # Errors
 ///
 /// Where there is no memory for it.
-pub fn dropped<'a>(alloc: Global, inner: Tree<'a>) -> Result<Tree<'a>, AllocError>
+pub fn dropped<'a>(arena: &'a Arena, inner: Tree<'a>) -> Result<Tree<'a>, AllocError>
     ensures { IfOk result (λ x. x ≡ t.Dropped inner.entry) }
 {
     Ok(Tree {
-        form: Form::Dropped(Box::new(alloc, inner)?),
+        form: Form::Dropped(arena.put(inner)?),
     })
 }
 
@@ -182,11 +233,11 @@ pub fn dropped<'a>(alloc: Global, inner: Tree<'a>) -> Result<Tree<'a>, AllocErro
 /// # Errors
 ///
 /// Where there is no memory for it.
-pub fn called<'a>(alloc: Global, part: Part, inner: Tree<'a>) -> Result<Tree<'a>, AllocError>
+pub fn called<'a>(arena: &'a Arena, part: Part, inner: Tree<'a>) -> Result<Tree<'a>, AllocError>
     ensures { IfOk result (λ x. x ≡ t.Called (part_of part) inner.entry) }
 {
     Ok(Tree {
-        form: Form::Called(part, Box::new(alloc, inner)?),
+        form: Form::Called(part, arena.put(inner)?),
     })
 }
 
@@ -195,11 +246,11 @@ pub fn called<'a>(alloc: Global, part: Part, inner: Tree<'a>) -> Result<Tree<'a>
 /// # Errors
 ///
 /// Where there is no memory for it.
-pub fn verbatim<'a>(alloc: Global, inner: Tree<'a>) -> Result<Tree<'a>, AllocError>
+pub fn verbatim<'a>(arena: &'a Arena, inner: Tree<'a>) -> Result<Tree<'a>, AllocError>
     ensures { IfOk result (λ x. x ≡ t.Verbatim inner.entry) }
 {
     Ok(Tree {
-        form: Form::Verbatim(Box::new(alloc, inner)?),
+        form: Form::Verbatim(arena.put(inner)?),
     })
 }
 
@@ -208,11 +259,11 @@ pub fn verbatim<'a>(alloc: Global, inner: Tree<'a>) -> Result<Tree<'a>, AllocErr
 /// # Errors
 ///
 /// Where there is no memory for it.
-pub fn node<'a>(alloc: Global, kind: Kind, inner: Tree<'a>) -> Result<Tree<'a>, AllocError>
+pub fn node<'a>(arena: &'a Arena, kind: Kind, inner: Tree<'a>) -> Result<Tree<'a>, AllocError>
     ensures { IfOk result (λ x. x ≡ t.Node (kind_of kind) inner.entry) }
 {
     Ok(Tree {
-        form: Form::Node(kind, Box::new(alloc, inner)?),
+        form: Form::Node(kind, arena.put(inner)?),
     })
 }
 
@@ -221,11 +272,11 @@ pub fn node<'a>(alloc: Global, kind: Kind, inner: Tree<'a>) -> Result<Tree<'a>, 
 /// # Errors
 ///
 /// Where there is no memory for it.
-pub fn whole<'a>(alloc: Global, form: Tree<'a>) -> Result<Tree<'a>, AllocError>
+pub fn whole<'a>(arena: &'a Arena, form: Tree<'a>) -> Result<Tree<'a>, AllocError>
     ensures { IfOk result (λ x. x ≡ t.Whole form.entry) }
 {
     Ok(Tree {
-        form: Form::Whole(Box::new(alloc, form)?),
+        form: Form::Whole(arena.put(form)?),
     })
 }
 
@@ -234,11 +285,11 @@ pub fn whole<'a>(alloc: Global, form: Tree<'a>) -> Result<Tree<'a>, AllocError>
 /// # Errors
 ///
 /// Where there is no memory for it.
-pub fn alone<'a>(alloc: Global, kind: Kind, own: Tree<'a>) -> Result<Tree<'a>, AllocError>
+pub fn alone<'a>(arena: &'a Arena, kind: Kind, own: Tree<'a>) -> Result<Tree<'a>, AllocError>
     ensures { IfOk result (λ x. x ≡ t.Alone (kind_of kind) own.entry) }
 {
     Ok(Tree {
-        form: Form::Alone(kind, Box::new(alloc, own)?),
+        form: Form::Alone(kind, arena.put(own)?),
     })
 }
 
@@ -248,7 +299,7 @@ pub fn alone<'a>(alloc: Global, kind: Kind, own: Tree<'a>) -> Result<Tree<'a>, A
 ///
 /// Where there is no memory for it.
 pub fn front<'a>(
-    alloc: Global,
+    arena: &'a Arena,
     kind: Kind,
     own: Tree<'a>,
     right: Tree<'a>,
@@ -258,13 +309,10 @@ pub fn front<'a>(
     Ok(Tree {
         form: Form::Front(
             kind,
-            Box::new(
-                alloc,
-                Two {
-                    front: own,
-                    back: right,
-                },
-            )?,
+            arena.put(Two {
+                front: own,
+                back: right,
+            })?,
         ),
     })
 }
@@ -275,7 +323,7 @@ pub fn front<'a>(
 ///
 /// Where there is no memory for it.
 pub fn back<'a>(
-    alloc: Global,
+    arena: &'a Arena,
     left: Tree<'a>,
     kind: Kind,
     own: Tree<'a>,
@@ -285,13 +333,10 @@ pub fn back<'a>(
     Ok(Tree {
         form: Form::Back(
             kind,
-            Box::new(
-                alloc,
-                Two {
-                    front: left,
-                    back: own,
-                },
-            )?,
+            arena.put(Two {
+                front: left,
+                back: own,
+            })?,
         ),
     })
 }
@@ -302,7 +347,7 @@ pub fn back<'a>(
 ///
 /// Where there is no memory for it.
 pub fn infix<'a>(
-    alloc: Global,
+    arena: &'a Arena,
     left: Tree<'a>,
     kind: Kind,
     own: Tree<'a>,
@@ -311,6 +356,6 @@ pub fn infix<'a>(
     ensures { IfOk result (λ x. x ≡ t.Infix left.entry (kind_of kind) own.entry right.entry) }
 {
     Ok(Tree {
-        form: Form::Infix(kind, Box::new(alloc, Three { left, own, right })?),
+        form: Form::Infix(kind, arena.put(Three { left, own, right })?),
     })
 }

@@ -156,8 +156,7 @@ impl<'a> Tree<'a> {
             (λ p. IsListOf p.0.now (option_map (λ x. x.now) p.1) self.now) }
     {
         match &self.form {
-            Form::Elements(_, before, None) => Some((before.as_slice(), None)),
-            Form::Elements(_, before, Some(last)) => Some((before.as_slice(), Some(last))),
+            Form::Elements(list) => Some((list.before, list.last)),
             _ => None,
         }
     }
@@ -167,7 +166,7 @@ impl<'a> Tree<'a> {
         ensures { MatchOption result (is_turns self.now ≡ false) (λ xs. self.now ≡ turns xs.now) }
     {
         match &self.form {
-            Form::Turns(turns) => Some(turns.as_slice()),
+            Form::Turns(turns) => Some(turns),
             _ => None,
         }
     }

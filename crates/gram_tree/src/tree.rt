@@ -20,27 +20,31 @@ pub struct Tree<'a> {
     pub form: Form<'a>,
 }
 
-/// Two trees.
-#[cycle(tree)]
+/// Of two the one that stands first, and the one behind it.
 #[derive(Drop)]
-pub struct Two<'a> {
+pub struct Both<T> {
     /// The one that stands first.
-    pub front: Tree<'a>,
+    pub front: T,
     /// The one behind it.
-    pub back: Tree<'a>,
+    pub back: T,
+}
+
+/// Two trees.
+pub type Two<'a> = Both<Tree<'a>>;
+
+/// Of what has an operand on either side these, and what stands between them.
+#[derive(Drop)]
+pub struct Between<T> {
+    /// The left operand.
+    pub left: T,
+    /// What stands between them.
+    pub own: T,
+    /// The right operand.
+    pub right: T,
 }
 
 /// An infix form's left operand, its own part, and its right operand.
-#[cycle(tree)]
-#[derive(Drop)]
-pub struct Three<'a> {
-    /// The left operand.
-    pub left: Tree<'a>,
-    /// The form's own part.
-    pub own: Tree<'a>,
-    /// The right operand.
-    pub right: Tree<'a>,
-}
+pub type Three<'a> = Between<Tree<'a>>;
 
 /// An element of a list, and how the mark behind it is spaced.
 #[cycle(tree)]
@@ -50,6 +54,18 @@ pub struct Element<'a> {
     pub tree: Tree<'a>,
     /// The spacing of the mark behind it.
     pub spacing: Spacing,
+}
+
+/// Elements with a mark behind each, and a last one that none follows.
+#[cycle(tree)]
+#[derive(Drop)]
+pub struct Separated<'a> {
+    /// What stands between them.
+    pub separator: Separator,
+    /// The elements that a mark follows.
+    pub before: &'a [Element<'a>],
+    /// The last one, if no mark follows it.
+    pub last: Option<&'a Tree<'a>>,
 }
 
 /// What a tree is made of.
@@ -69,35 +85,35 @@ pub enum Form<'a> {
     /// No token.
     Nil,
     /// One, and then the other.
-    Pair(Box<Two<'a>>),
+    Pair(&'a Two<'a>),
     /// Of choices, each the second of the one before it: so many times the second, and then the first.
-    First(usize, Box<Tree<'a>>),
+    First(usize, &'a Tree<'a>),
     /// Of choices, each the second of the one before it: the second, and so many times the second.
-    Second(usize, Box<Tree<'a>>),
+    Second(usize, &'a Tree<'a>),
     /// Turns, one behind the other.
-    Turns(Vec<Tree<'a>>),
+    Turns(&'a [Tree<'a>]),
     /// Elements that a mark follows each, and a last one that none follows.
-    Elements(Separator, Vec<Element<'a>>, Option<Box<Tree<'a>>>),
+    Elements(&'a Separated<'a>),
     /// A group, its span, and its inside.
-    Group(Delimiter, Span, Box<Tree<'a>>),
+    Group(Delimiter, Span, &'a Tree<'a>),
     /// What was read, and is no part of the program.
-    Dropped(Box<Tree<'a>>),
+    Dropped(&'a Tree<'a>),
     /// A part, by its name.
-    Called(Part, Box<Tree<'a>>),
+    Called(Part, &'a Tree<'a>),
     /// What was read so, and is kept as tokens.
-    Verbatim(Box<Tree<'a>>),
+    Verbatim(&'a Tree<'a>),
     /// A node of a kind.
-    Node(Kind, Box<Tree<'a>>),
+    Node(Kind, &'a Tree<'a>),
     /// An expression.
-    Whole(Box<Tree<'a>>),
+    Whole(&'a Tree<'a>),
     /// A form without operands: its own part.
-    Alone(Kind, Box<Tree<'a>>),
+    Alone(Kind, &'a Tree<'a>),
     /// A form with an operand behind it: its own part, and that.
-    Front(Kind, Box<Two<'a>>),
+    Front(Kind, &'a Two<'a>),
     /// A form with an operand before it: that, and its own part.
-    Back(Kind, Box<Two<'a>>),
+    Back(Kind, &'a Two<'a>),
     /// A form with an operand on either side.
-    Infix(Kind, Box<Three<'a>>),
+    Infix(Kind, &'a Three<'a>),
 }
 
 impl<'a> Model for Tree<'a> {

@@ -9,18 +9,18 @@ use Rattle.gram_tree.specs.Forms.{turns, elements}
 use Rattle.gram_tree.specs.Size.{node_count}
 
 -- the size of a tree, and of an element, as it is counted
-pub tree_size : (x : Tree) → size-Tree x ≡ 3 * (node_count x + 1) + 0
+pub tree_size : (x : Tree) → size-Tree x ≡ 4 * (node_count x + 1) + 0
 tree_size x = refl
 
-pub element_size : (e : Element) → size-Element e ≡ 3 * max (node_count e.tree + 1) 0 + 1
+pub element_size : (e : Element) → size-Element e ≡ 4 * max (node_count e.tree + 1) 0 + 1
 element_size e = refl
 
-pub turns_size : (xs : List Tree) → most (λ x. size-Tree x) xs ≤ 3 * node_count (turns xs)
+pub turns_size : (xs : List Tree) → most (λ x. size-Tree x) xs ≤ 4 * node_count (turns xs)
 turns_size [] = omega arith
 turns_size (x ∷ xs) = omega (arith, turns_size xs, tree_size x)
 
 elements_size : (c : ℕ) (es : List Element) (y : Tree)
-    → most (λ e. size-Element e) es ≤ 3 * node_count (elements c es y) + 1
+    → most (λ e. size-Element e) es ≤ 4 * node_count (elements c es y) + 1
 elements_size c [] y = omega arith
 elements_size c (e ∷ es) y = omega (arith, elements_size c es y, element_size e)
 

@@ -31,10 +31,10 @@ pub fn put_as_read<'a>(tree: &Tree<'a>, out: &mut Vec<Piece<'a>>) -> Result<(), 
         Form::Raw(tokens) => entries(tokens, out),
         Form::Nil => Ok(()),
         Form::Pair(two) | Form::Front(_, two) | Form::Back(_, two) => put_two(two, out),
-        Form::Turns(turns) => put_turns(turns.as_slice(), out),
-        Form::Elements(separator, before, last) => {
-            put_elements(*separator, before.as_slice(), out)?;
-            match last {
+        Form::Turns(turns) => put_turns(turns, out),
+        Form::Elements(list) => {
+            put_elements(list.separator, list.before, out)?;
+            match list.last {
                 Some(last) => put_as_read(last, out),
                 None => Ok(()),
             }

@@ -78,10 +78,10 @@ fn begun(tree: &Tree<'_>) -> Option<bool>
                 None => begun(&three.right),
             },
         },
-        Form::Turns(turns) => begun_turns(turns.as_slice()),
-        Form::Elements(_, before, last) => match before.as_slice().split_first() {
+        Form::Turns(turns) => begun_turns(turns),
+        Form::Elements(list) => match list.before.split_first() {
             Some((element, _)) => Some(is_so(begun(&element.tree))),
-            None => match last {
+            None => match list.last {
                 Some(last) => begun(last),
                 None => None,
             },

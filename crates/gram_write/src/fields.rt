@@ -129,7 +129,7 @@ pub fn put_front_fields<'a>(numbers: &Tree<'_>, out: &mut Vec<Piece<'a>>) -> Res
         ≡ map piece_token out.old.items ++ front_fields numbers.now) }
 {
     match &numbers.form {
-        Form::Turns(turns) => put_each(turns.as_slice(), out),
+        Form::Turns(turns) => put_each(turns, out),
         _ => Ok(()),
     }
 }

@@ -49,10 +49,10 @@ pub(crate) fn put_laid<'a>(
         Form::Pair(two) => put_two(within, two, out),
         Form::Front(kind, two) => put_front(*kind, two, out),
         Form::Back(kind, two) => put_back(*kind, two, out),
-        Form::Turns(turns) => put_turns(turns.as_slice(), out),
-        Form::Elements(mark, before, last) => {
-            put_elements(*mark, before.as_slice(), out)?;
-            match last {
+        Form::Turns(turns) => put_turns(turns, out),
+        Form::Elements(list) => {
+            put_elements(list.separator, list.before, out)?;
+            match list.last {
                 Some(last) => put_laid(Within::Anywhere, last, out),
                 None => Ok(()),
             }
@@ -143,20 +143,19 @@ fn put_firsts<'a>(
     ensures { OnOk result (map piece_token out.new.items
         ≡ map piece_token out.old.items ++ firsts_laid (passes which) list.now) }
 {
-    let Form::Elements(mark, before, last) = &list.form else {
+    let Form::Elements(elements) = &list.form else {
         return put_laid(Within::Anywhere, list, out);
     };
-    let elements = before.as_slice();
-    put_those(which, *mark, elements, out)?;
-    let Some(last) = last else {
-        return put_others(which, *mark, elements, out);
+    put_those(which, elements.separator, elements.before, out)?;
+    let Some(last) = elements.last else {
+        return put_others(which, elements.separator, elements.before, out);
     };
     if passes(which, last) {
         put_laid(Within::Anywhere, last, out)?;
-        comma(lacks_some(which, elements), out)?;
-        put_others(which, *mark, elements, out)
+        comma(lacks_some(which, elements.before), out)?;
+        put_others(which, elements.separator, elements.before, out)
     } else {
-        put_others(which, *mark, elements, out)?;
+        put_others(which, elements.separator, elements.before, out)?;
         put_laid(Within::Anywhere, last, out)
     }
 }

@@ -28,7 +28,7 @@ fn is_none(tree: &Tree<'_>) -> bool
 {
     match &tree.form {
         Form::Turns(turns) => turns.is_empty(),
-        Form::Elements(_, before, None) => before.is_empty(),
+        Form::Elements(list) => list.before.is_empty() && list.last.is_none(),
         _ => false,
     }
 }

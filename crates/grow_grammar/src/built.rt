@@ -1,16 +1,17 @@
-//! Expressions that are built by hand and written, and the members of fields.
+//! Expressions that are built by hand and written, what stands for one, and the members of fields.
 
 use gram_build::build::write_in;
 use gram_piece::piece::Piece;
 use gram_piece::print::print;
 use gram_table::kind::{Kind, Position};
+use gram_tree::arena::Arena;
 use gram_tree::made;
 use gram_tree::tree::{Form, Three, Tree};
 use proc_macro2::{SourceMap, TokenStream};
 use std::alloc::{AllocError, Global};
 use std::io::Write;
 use stops::{Stop, looked_at, refused};
-use syn::{copied, parse_as};
+use syn::{Expr, parse_as};
 use syn_buffer::TokenBuffer;
 use syn_data::data::Fields;
 use syn_data::derive::{Data, DeriveInput};
@@ -24,8 +25,8 @@ fn lexed(alloc: Global, text: &str) -> Result<TokenStream, Stop> {
 }
 
 // All of the tokens as a form of the kind.
-fn parsed<'a>(alloc: Global, kind: Kind, buffer: &'a TokenBuffer<'a>) -> Result<Tree<'a>, Stop> {
-    parse_as(alloc, kind, buffer).map_err(|fault| match fault {
+fn parsed<'a>(arena: &'a Arena, kind: Kind, buffer: &'a TokenBuffer<'a>) -> Result<Tree<'a>, Stop> {
+    parse_as(arena, kind, buffer).map_err(|fault| match fault {
         ParseFault::Memory => Stop::Refused,
         ParseFault::Syntax(_) => Stop::Changed,
     })
@@ -33,14 +34,12 @@ fn parsed<'a>(alloc: Global, kind: Kind, buffer: &'a TokenBuffer<'a>) -> Result<
 
 // A form, with another one in the place of its left operand.
 fn with_left<'a>(
-    alloc: Global,
+    arena: &'a Arena,
     left: &Tree<'a>,
     kind: Kind,
     form: &Three<'a>,
 ) -> Result<Tree<'a>, AllocError> {
-    let own = copied(alloc, &form.own)?;
-    let right = copied(alloc, &form.right)?;
-    made::infix(alloc, copied(alloc, left)?, kind, own, right)
+    made::infix(arena, left.copy(), kind, form.own.copy(), form.right.copy())
 }
 
 // The text of what is written of an expression behind older tokens. Where that is refused, those stand in front.
@@ -60,17 +59,25 @@ fn form_of<'t, 'a>(tree: &'t Tree<'a>) -> Option<&'t Tree<'a>> {
 
 // What is written in a position of an assignment's left form, with the right one in the place of its left operand.
 fn replaced(alloc: Global, position: Position, buffer: &TokenBuffer<'_>) -> Result<String, Stop> {
-    let tree = parsed(alloc, Kind::Expression(Position::Plain), buffer)?;
+    let arena = Arena::new(alloc);
+    let tree = parsed(&arena, Kind::Expression(Position::Plain), buffer)?;
     let Some(Form::Infix(_, assigned)) = form_of(&tree).map(|form| &form.form) else {
         return Err(Stop::Changed);
     };
     match &assigned.left.form {
         Form::Infix(kind, outer) => {
-            let built = looked_at(with_left(alloc, &assigned.right, *kind, outer))?;
+            let built = looked_at(with_left(&arena, &assigned.right, *kind, outer))?;
             written(alloc, position, &built)
         }
         _ => Err(Stop::Changed),
     }
+}
+
+// What is written of what stands for an expression where none is known yet.
+fn placeholder(alloc: Global) -> Result<String, Stop> {
+    let arena = Arena::new(alloc);
+    let unknown = looked_at(Expr::placeholder(&arena))?;
+    written(alloc, Position::Plain, &unknown)
 }
 
 // The members of a struct's fields, with a space behind each.
@@ -88,7 +95,8 @@ fn shown(alloc: Global, fields: &Fields) -> Result<String, Stop> {
 
 // The members of the fields of the struct that a buffer holds.
 fn members(alloc: Global, buffer: &TokenBuffer<'_>) -> Result<String, Stop> {
-    let tree = parsed(alloc, Kind::DeriveInput, buffer)?;
+    let arena = Arena::new(alloc);
+    let tree = parsed(&arena, Kind::DeriveInput, buffer)?;
     match DeriveInput::of(&tree) {
         Some(input) => match input.data {
             Data::Struct(data) => shown(alloc, &data.fields),
@@ -122,6 +130,8 @@ pub fn answered(alloc: Global) -> Result<String, Stop> {
         all.push_str(replaced(alloc, position, &buffer)?.as_str())?;
         all.push('\n')?;
     }
+    all.push_str(placeholder(alloc)?.as_str())?;
+    all.push('\n')?;
     for text in STRUCTS {
         let stream = lexed(alloc, text)?;
         let buffer = TokenBuffer::new2(alloc, &stream, 1)?;

@@ -2,11 +2,13 @@
 //! it had to where its growth was refused. `tests/refused.sh` runs it once for each allocation, refusing that one.
 //!
 //! - `texts`: the texts, and what is answered for one.
-//! - `built`: expressions that are built by hand, and the members of fields.
+//! - `built`: expressions that are built by hand, what stands for one, and the members of fields.
 //! - `reading`: forms and tokens that are read one behind the other, and tokens as a stream.
+//! - `modifiers`: what is said of modifiers where none may stand.
 #![tactic(auto)]
 
 mod built;
+mod modifiers;
 mod reading;
 mod texts;
 
@@ -18,6 +20,7 @@ fn run(rt: &HostRuntime) -> Result<(), Stop> {
     let mut answer = texts::answered(rt.alloc())?;
     answer.push_str(built::answered(rt.alloc())?.as_str())?;
     answer.push_str(reading::answered(rt.alloc())?.as_str())?;
+    answer.push_str(modifiers::answered(rt.alloc())?.as_str())?;
     let written = rt.stdout().write_all(answer.as_bytes());
     written.map_err(|_| Stop::Elsewhere)
 }

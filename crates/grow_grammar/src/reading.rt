@@ -5,8 +5,8 @@ use proc_macro2::{SourceMap, TokenStream};
 use std::alloc::Global;
 use stops::{Stop, looked_at, refused};
 use syn::{
-    Kind, Literals, ParseFault, Plus, Reader, Sign, TokenBuffer, Tree, Words, print, stream_of,
-    write,
+    Arena, Kind, Literals, ParseFault, Plus, Reader, Sign, TokenBuffer, Tree, Words, print,
+    stream_of, write,
 };
 
 // The text of a tree's tokens as a stream.
@@ -72,7 +72,8 @@ fn refusals<'a>(alloc: Global, start: Reader<'a>) -> Result<Vec<String>, Stop> {
 
 // The type that a buffer begins with, and what readers of other tokens say behind it, in lines.
 fn put_answers(alloc: Global, buffer: &TokenBuffer<'_>, all: &mut String) -> Result<(), Stop> {
-    let mut input = Reader::new(alloc, buffer);
+    let arena = Arena::new(alloc);
+    let mut input = Reader::new(&arena, buffer);
     all.push_str(first_type(alloc, &mut input)?.as_str())?;
     all.push('\n')?;
     for line in &refusals(alloc, input)? {

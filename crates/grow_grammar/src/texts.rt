@@ -7,12 +7,12 @@ use gram_read::said::error;
 use gram_run::read::read;
 use gram_run::refusal::Refusal;
 use gram_table::kind::{Kind, Plus, Position};
+use gram_tree::arena::Arena;
 use gram_tree::tree::Tree;
 use gram_write::write::write;
 use proc_macro2::{SourceMap, TokenStream};
 use std::alloc::Global;
 use stops::{Stop, looked_at, refused};
-use syn::copied;
 use syn_buffer::TokenBuffer;
 
 // The text of what is written of a tree behind older tokens. Where that is refused, those stand in front.
@@ -24,22 +24,14 @@ fn printed(alloc: Global, tree: &Tree<'_>) -> Result<String, Stop> {
     looked_at(print(alloc, out.as_slice()))
 }
 
-// The text of what is written of a copy of a tree. Where the copy is refused, the tree stays as it was.
-fn printed_copy(alloc: Global, tree: &Tree<'_>) -> Result<String, Stop> {
-    let before = printed(alloc, tree)?;
-    match copied(alloc, tree) {
-        Ok(copy) => printed(alloc, &copy),
-        Err(_) => refused(printed(alloc, tree)?.as_str() == before.as_str()),
-    }
-}
-
 // What is printed of a text, all of which is of that kind; or what is said of a text that begins with none.
 fn text(alloc: Global, kind: Kind, text: &str) -> Result<String, Stop> {
     let lexed = TokenStream::from_str(alloc, text, &mut SourceMap::new(alloc));
     let stream = lexed.map_err(|_| Stop::Elsewhere)?;
     let buffer = TokenBuffer::new2(alloc, &stream, 1)?;
-    match read(&Grammar, alloc, kind, buffer.entries()) {
-        Ok((tree, rest)) if rest.is_empty() => printed_copy(alloc, &tree),
+    let arena = Arena::new(alloc);
+    match read(&Grammar, &arena, kind, buffer.entries()) {
+        Ok((tree, rest)) if rest.is_empty() => printed(alloc, &tree),
         Err(Refusal::Memory) => Err(Stop::Refused),
         Err(Refusal::Syntax(wrong)) => Ok(looked_at(error(alloc, wrong))?.to_string(alloc)?),
         Ok(_) | Err(Refusal::Late) => Err(Stop::Changed),

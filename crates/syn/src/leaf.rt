@@ -67,10 +67,10 @@ pub fn put_leaves<'a>(tree: &Tree<'a>, out: &mut Vec<Leaf<'a>>) -> Result<(), Al
         Form::Raw(tokens) => put(Leaf::Raw(tokens), out),
         Form::Nil => Ok(()),
         Form::Pair(two) | Form::Front(_, two) | Form::Back(_, two) => put_two(two, out),
-        Form::Turns(turns) => put_turns(turns.as_slice(), out),
-        Form::Elements(separator, before, last) => {
-            put_elements(*separator, before.as_slice(), out)?;
-            match last {
+        Form::Turns(turns) => put_turns(turns, out),
+        Form::Elements(list) => {
+            put_elements(list.separator, list.before, out)?;
+            match list.last {
                 Some(last) => put_leaves(last, out),
                 None => Ok(()),
             }

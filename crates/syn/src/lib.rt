@@ -12,11 +12,9 @@
 //! - `reader`, `reading`: forms and tokens, read one behind the other.
 //! - `tokens`: tokens that are to be written, as a stream of trees.
 //! - `leaf`: the leaves of a tree, in their order, each with where it stands but marks between elements.
-//! - `copy`: a tree once more, over the same tokens.
 //! - `node`: its nodes and the forms of its expressions, at every depth.
 #![tactic(auto)]
 
-pub mod copy;
 pub mod leaf;
 pub mod node;
 pub mod parse;
@@ -25,7 +23,6 @@ pub mod reader;
 mod reading;
 pub mod tokens;
 
-pub use copy::copied;
 pub use gram_build::build::write_in;
 pub use gram_equal::tree::equal;
 pub use gram_piece::piece::Piece;
@@ -41,9 +38,11 @@ pub use gram_table::word::Keyword;
 pub use gram_table::word::Literals;
 pub use gram_table::word::Sign;
 pub use gram_table::word::Words;
+pub use gram_tree::arena::Arena;
 pub use gram_tree::made;
 pub use gram_tree::tree::Element;
 pub use gram_tree::tree::Form;
+pub use gram_tree::tree::Separated;
 pub use gram_tree::tree::Three;
 pub use gram_tree::tree::Tree;
 pub use gram_tree::tree::Two;

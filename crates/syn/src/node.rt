@@ -43,10 +43,10 @@ pub fn put_nodes<'t, 'a>(tree: &'t Tree<'a>, out: &mut Vec<&'t Tree<'a>>) -> Res
             put_nodes(&three.own, out)?;
             put_nodes(&three.right, out)
         }
-        Form::Turns(turns) => put_turns(turns.as_slice(), out),
-        Form::Elements(_, before, last) => {
-            put_elements(before.as_slice(), out)?;
-            match last {
+        Form::Turns(turns) => put_turns(turns, out),
+        Form::Elements(list) => {
+            put_elements(list.before, out)?;
+            match list.last {
                 Some(last) => put_nodes(last, out),
                 None => Ok(()),
             }

@@ -13,6 +13,7 @@ use gram_read::said::error;
 use gram_run::read::read;
 use gram_run::refusal::{Refusal, Wanted, Wrong};
 use gram_table::kind::Kind;
+use gram_tree::arena::Arena;
 use gram_tree::tree::Tree;
 use std::alloc::Global;
 use syn_buffer::TokenBuffer;
@@ -26,7 +27,7 @@ use syn_error::ParseFault;
 /// `Syntax` exactly where they begin with none: the error says what was wanted, at the token that stands in its place.
 /// `Memory` only where a growth was refused.
 pub fn parse_front<'a>(
-    alloc: Global,
+    arena: &'a Arena,
     kind: Kind,
     buffer: &'a TokenBuffer<'a>,
 ) -> Result<(Tree<'a>, &'a [Entry<'a>]), ParseFault>
@@ -34,9 +35,9 @@ pub fn parse_front<'a>(
         IsDerived (kind_of kind) (tokens buffer.now.entries.items) x.0 (tokens x.1.now)) }
     ensures refused { IfErr result (λ e. IsSyntax e → NoneRead (kind_of kind) (tokens buffer.now.entries.items)) }
 {
-    match read(&Grammar, alloc, kind, buffer.entries()) {
+    match read(&Grammar, arena, kind, buffer.entries()) {
         Ok(found) => Ok(found),
-        Err(Refusal::Syntax(wrong)) => Err(ParseFault::Syntax(error(alloc, wrong)?)),
+        Err(Refusal::Syntax(wrong)) => Err(ParseFault::Syntax(error(arena.alloc(), wrong)?)),
         Err(Refusal::Memory) => Err(ParseFault::Memory),
         Err(Refusal::Late) => unreachable!(),
     }
@@ -63,21 +64,18 @@ fn left_over(alloc: Global, entry: &Entry<'_>) -> ParseFault {
 /// behind a form that is whole is no token. `Memory` only where a growth was refused.
 #[tactic(auto, using(crate::proofs::Wholes::all_read))]
 pub fn parse_as<'a>(
-    alloc: Global,
+    arena: &'a Arena,
     kind: Kind,
     buffer: &'a TokenBuffer<'a>,
 ) -> Result<Tree<'a>, ParseFault>
     ensures read { IfOk result (IsAll (kind_of kind) (tokens buffer.now.entries.items)) }
     ensures refused { IfErr result (λ e. IsSyntax e → IsNone (kind_of kind) (tokens buffer.now.entries.items)) }
 {
-    match parse_front(alloc, kind, buffer) {
+    match parse_front(arena, kind, buffer) {
         Err(fault) => Err(fault),
         Ok((tree, rest)) => match rest.split_first() {
             None => Ok(tree),
-            Some((entry, _)) => {
-                drop(tree);
-                Err(left_over(alloc, entry))
-            }
+            Some((entry, _)) => Err(left_over(arena.alloc(), entry)),
         },
     }
 }
@@ -87,9 +85,9 @@ pub fn parse_as<'a>(
 /// # Errors
 ///
 /// Those of `parse_as`.
-pub fn parse_file<'a>(alloc: Global, buffer: &'a TokenBuffer<'a>) -> Result<Tree<'a>, ParseFault>
+pub fn parse_file<'a>(arena: &'a Arena, buffer: &'a TokenBuffer<'a>) -> Result<Tree<'a>, ParseFault>
     ensures read { IfOk result (IsAll AFile (tokens buffer.now.entries.items)) }
     ensures refused { IfErr result (λ e. IsSyntax e → IsNone AFile (tokens buffer.now.entries.items)) }
 {
-    parse_as(alloc, Kind::AFile, buffer)
+    parse_as(arena, Kind::AFile, buffer)
 }

@@ -3,9 +3,9 @@
 ghost use Rattle.std.specs.Prelude.{IsTrue};
 ghost use Rattle.syn_buffer.specs.Entries.{is_whole};
 
+use gram_tree::arena::Arena;
 use rust_leaf::punct::Spacing;
 use rust_map::span::Span;
-use std::alloc::Global;
 use syn_buffer::entry::Entry;
 
 /// A place among the tokens of a buffer, or of a group in it, from which forms and tokens are read one behind the other.
@@ -18,7 +18,8 @@ pub struct Reader<'a> {
     pub(crate) entries: &'a [Entry<'a>],
     // where the list closes; the call site where nothing closes it
     pub(crate) closing: Span,
-    pub(crate) alloc: Global,
+    // where trees stand, and errors take memory from
+    pub(crate) arena: &'a Arena,
     ghost is_whole: { IsTrue (is_whole entries.now) },
 }
 

@@ -26,27 +26,29 @@ use gram_run::rules::Rules;
 use gram_table::kind::Kind;
 use gram_table::op::{Look, Test};
 use gram_table::word::{Literals, Sign, Words};
+use gram_tree::arena::Arena;
 use gram_tree::tree::Tree;
 use proc_macro2::delimiter::Delimiter;
 use rust_leaf::ident::Ident;
 use rust_leaf::literal::Literal;
 use rust_map::span::Span;
-use std::alloc::{AllocError, Global};
+use std::alloc::AllocError;
 use std::fmt;
 use syn_buffer::TokenBuffer;
 use syn_buffer::entry::Entry;
 use syn_error::{Error, ParseFault};
 
 impl<'a> Reader<'a> {
-    /// What reads the buffer from its first token on. Errors take memory from the allocator, and so do trees.
-    pub fn new(alloc: Global, buffer: &'a TokenBuffer<'a>) -> Reader<'a>
+    /// What reads the buffer from its first token on. Trees stand in the arena, and errors take
+    /// their memory from where it does.
+    pub fn new(arena: &'a Arena, buffer: &'a TokenBuffer<'a>) -> Reader<'a>
         ensures tokens { left result ≡ tokens buffer.now.entries.items }
         ensures closing { result.closing ≡ call_site }
     {
         Reader {
             entries: buffer.entries(),
             closing: Span::call_site(),
-            alloc,
+            arena,
         }
     }
 
@@ -59,7 +61,7 @@ impl<'a> Reader<'a> {
         Reader {
             entries: rest,
             closing: self.closing,
-            alloc: self.alloc,
+            arena: self.arena,
         }
     }
 
@@ -97,7 +99,7 @@ impl<'a> Reader<'a> {
     pub fn error<M: fmt::Display + Drop>(&self, message: M) -> Result<Error, AllocError>
         ensures { IfOk result (Says (M.output message) (standing self.now) (standing self.now)) }
     {
-        Error::new(self.alloc, self.span(), message)
+        Error::new(self.arena.alloc(), self.span(), message)
     }
 
     // What is said where that is wanted, and doesn't stand.
@@ -109,7 +111,7 @@ impl<'a> Reader<'a> {
             is_end: self.entries.is_empty(),
             wanted,
         };
-        match error(self.alloc, wrong) {
+        match error(self.arena.alloc(), wrong) {
             Ok(error) => ParseFault::Syntax(error),
             Err(_) => ParseFault::Memory,
         }
@@ -122,7 +124,7 @@ impl<'a> Reader<'a> {
             is_end: wrong.is_end,
             wanted: wrong.wanted,
         };
-        match error(self.alloc, placed) {
+        match error(self.arena.alloc(), placed) {
             Ok(error) => ParseFault::Syntax(error),
             Err(_) => ParseFault::Memory,
         }
@@ -147,7 +149,7 @@ impl<'a> Reader<'a> {
         ensures refused { IfErr result (λ e. IsSyntax e → NoneRead (kind_of kind) (left self.old)) }
         ensures stays { OnErr result (self.new ≡ self.old) }
     {
-        match read(&Grammar, self.alloc, kind, self.entries) {
+        match read(&Grammar, self.arena, kind, self.entries) {
             Ok((tree, rest)) => {
                 *self = self.past(rest);
                 Ok(tree)
@@ -242,7 +244,7 @@ impl<'a> Reader<'a> {
                     let inside = Reader {
                         entries: &rest[..count],
                         closing: span.last_character(),
-                        alloc: self.alloc,
+                        arena: self.arena,
                     };
                     *self = self.past(&rest[count + 1..]);
                     return Ok(Entered { inside, span });

@@ -330,15 +330,10 @@ pub fn list<'t, 'a>(tree: &'t Tree<'a>) -> Option<Elements<'t, 'a>>
         (λ l. tree.now ≡ list_tree l) }
 {
     match &tree.form {
-        Form::Elements(separator, before, None) => Some(Elements {
-            separator: *separator,
-            before: before.as_slice(),
-            last: None,
-        }),
-        Form::Elements(separator, before, Some(last)) => Some(Elements {
-            separator: *separator,
-            before: before.as_slice(),
-            last: Some(last),
+        Form::Elements(list) => Some(Elements {
+            separator: list.separator,
+            before: list.before,
+            last: list.last,
         }),
         Form::Turns(turns) => if turns.is_empty() {
             Some(Elements {
@@ -360,17 +355,12 @@ pub fn each_turn<'t, 'a>(tree: &'t Tree<'a>) -> Option<Turns<'t, 'a>>
         (λ r. tree.now ≡ turns_tree r) }
 {
     match &tree.form {
-        Form::Turns(turns) => Some(Turns {
-            each: turns.as_slice(),
-        }),
-        Form::Elements(_, before, None) => {
-            if before.is_empty() {
-                Some(no_turn())
-            } else {
-                None
-            }
-        }
-        Form::Elements(_, _, Some(_)) => None,
+        Form::Turns(turns) => Some(Turns { each: turns }),
+        Form::Elements(list) => if list.before.is_empty() && list.last.is_none() {
+            Some(no_turn())
+        } else {
+            None
+        },
         _ => None,
     }
 }

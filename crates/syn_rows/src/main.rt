@@ -20,7 +20,7 @@ use rows::{Row, Table, answered, write};
 use std::alloc::Global;
 use std::io::{Read, Write};
 use syn::parse::parse_front;
-use syn::{Kind, ParseFault, SourceMap, TokenBuffer, TokenStream, Tree, copied, equal};
+use syn::{Arena, Kind, ParseFault, SourceMap, TokenBuffer, TokenStream, Tree, equal};
 use syn_buffer::entry::Entry;
 
 struct Forms;
@@ -68,12 +68,13 @@ fn unread(fault: ParseFault) -> Result<Option<Formed>> {
 
 // What the tokens of a buffer begin with as a form of a kind, if they do.
 fn front_form(alloc: Global, kind: Kind, buffer: &TokenBuffer) -> Result<Option<Formed>> {
-    let (tree, rest) = match parse_front(alloc, kind, buffer) {
+    let arena = Arena::new(alloc);
+    let (tree, rest) = match parse_front(&arena, kind, buffer) {
         Ok(found) => found,
         Err(fault) => return unread(fault),
     };
     let written = normal(alloc, &tree)?;
-    let copy = copied(alloc, &tree)?;
+    let copy = tree.copy();
     if !equal(&tree, &copy) || normal(alloc, &copy)?.as_str() != written.as_str() {
         return Err(anyhow!("a copy is another tree"));
     }

@@ -5,7 +5,7 @@ use anyhow::{Result, anyhow};
 use rows::read;
 use std::alloc::Global;
 use syn::parse::parse_front;
-use syn::{Kind, ParseFault, SourceMap, TokenBuffer, TokenStream, Tree, equal};
+use syn::{Arena, Kind, ParseFault, SourceMap, TokenBuffer, TokenStream, Tree, equal};
 
 /// The rows that begin with the same form as the row above, one below the other, between a heading and an empty line.
 pub(crate) fn told_again(alloc: Global, lines: &str) -> Result<String> {
@@ -61,8 +61,12 @@ fn buffers<'a>(alloc: Global, streams: &'a [TokenStream]) -> Result<Vec<TokenBuf
 }
 
 // What a buffer begins with as a form of the kind, if it does.
-fn front<'a>(alloc: Global, kind: Kind, buffer: &'a TokenBuffer<'_>) -> Result<Option<Tree<'a>>> {
-    match parse_front(alloc, kind, buffer) {
+fn front<'a>(
+    arena: &'a Arena,
+    kind: Kind,
+    buffer: &'a TokenBuffer<'_>,
+) -> Result<Option<Tree<'a>>> {
+    match parse_front(arena, kind, buffer) {
         Ok((tree, _)) => Ok(Some(tree)),
         Err(ParseFault::Syntax(_)) => Ok(None),
         Err(ParseFault::Memory) => Err(anyhow!("out of memory")),
@@ -70,10 +74,14 @@ fn front<'a>(alloc: Global, kind: Kind, buffer: &'a TokenBuffer<'_>) -> Result<O
 }
 
 // The forms of the kind that buffers begin with.
-fn fronts<'a>(alloc: Global, kind: Kind, buffers: &'a [TokenBuffer<'_>]) -> Result<Vec<Tree<'a>>> {
-    let mut all = Vec::new(alloc);
+fn fronts<'a>(
+    arena: &'a Arena,
+    kind: Kind,
+    buffers: &'a [TokenBuffer<'_>],
+) -> Result<Vec<Tree<'a>>> {
+    let mut all = Vec::new(arena.alloc());
     for buffer in buffers {
-        if let Some(tree) = front(alloc, kind, buffer)? {
+        if let Some(tree) = front(arena, kind, buffer)? {
             all.push(tree)?;
         }
     }
@@ -82,7 +90,8 @@ fn fronts<'a>(alloc: Global, kind: Kind, buffers: &'a [TokenBuffer<'_>]) -> Resu
 
 // Two buffers begin with the same form of the kind.
 fn buffers_begin_alike(alloc: Global, kind: Kind, buffers: &[TokenBuffer<'_>]) -> Result<bool> {
-    let trees = fronts(alloc, kind, buffers)?;
+    let arena = Arena::new(alloc);
+    let trees = fronts(&arena, kind, buffers)?;
     match trees.as_slice() {
         [one, other] => Ok(equal(one, other)),
         _ => Ok(false),

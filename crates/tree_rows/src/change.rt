@@ -8,7 +8,7 @@ use anyhow::{Result, anyhow};
 use gram_tree::made;
 use proc_macro2::Spacing;
 use std::alloc::Global;
-use syn::{Element, Form, Kind, Tree};
+use syn::{Arena, Element, Form, Kind, Tree};
 
 /// What is changed.
 #[derive(Drop)]
@@ -44,13 +44,13 @@ fn inside<'t, 'a>(tree: &'t Tree<'a>) -> Option<&'t Tree<'a>>
     let Form::Group(_, _, group) = &own.form else {
         return None;
     };
-    let Form::Elements(_, before, Some(last)) = &group.form else {
+    let Form::Elements(list) = &group.form else {
         return None;
     };
-    if !before.is_empty() {
+    if !list.before.is_empty() {
         return None;
     }
-    let Form::Node(_, node) = &last.form else {
+    let Form::Node(_, node) = &list.last?.form else {
         return None;
     };
     match &node.form {
@@ -114,18 +114,22 @@ impl<'a> Change<'a> {
 
 /// A tree made anew.
 #[cycle(changed)]
-pub(crate) fn changed<'a>(alloc: Global, tree: &Tree<'a>, by: &mut Change<'a>) -> Result<Tree<'a>> {
-    if let Some(operand) = by.operand(alloc, tree)? {
+pub(crate) fn changed<'a>(
+    arena: &'a Arena,
+    tree: &Tree<'a>,
+    by: &mut Change<'a>,
+) -> Result<Tree<'a>> {
+    if let Some(operand) = by.operand(arena.alloc(), tree)? {
         return Ok(operand);
     }
     match by.inside(tree) {
-        Some(form) => changed(alloc, form, by),
-        None => made_anew(alloc, tree, by),
+        Some(form) => changed(arena, form, by),
+        None => made_anew(arena, tree, by),
     }
 }
 
 #[cycle(changed)]
-fn made_anew<'a>(alloc: Global, tree: &Tree<'a>, by: &mut Change<'a>) -> Result<Tree<'a>> {
+fn made_anew<'a>(arena: &'a Arena, tree: &Tree<'a>, by: &mut Change<'a>) -> Result<Tree<'a>> {
     match &tree.form {
         Form::Word(ident) => Ok(made::word(ident)),
         Form::Literal(literal) => Ok(made::literal(literal)),
@@ -133,45 +137,47 @@ fn made_anew<'a>(alloc: Global, tree: &Tree<'a>, by: &mut Change<'a>) -> Result<
         Form::Lifetime(span, ident) => Ok(made::lifetime(*span, ident)),
         Form::Raw(entries) => Ok(made::raw(entries)),
         Form::Nil => Ok(made::nil()),
-        Form::Turns(turns) => Ok(made::turns(changed_turns(alloc, turns.as_slice(), by)?)),
-        Form::Elements(separator, before, last) => Ok(made::elements(
-            *separator,
-            changed_elements(alloc, before.as_slice(), by)?,
-            changed_last(alloc, last, by)?,
-        )),
-        Form::First(depth, inner) => Ok(Tree {
-            form: Form::First(*depth, Box::new(alloc, changed(alloc, inner, by)?)?),
-        }),
+        Form::Turns(turns) => Ok(made::turns(arena, changed_turns(arena, turns, by)?)?),
+        Form::Elements(list) => {
+            let before = changed_elements(arena, list.before, by)?;
+            let last = changed_last(arena, list.last, by)?;
+            Ok(made::elements(arena, list.separator, before, last)?)
+        }
+        Form::First(depth, inner) => Ok(made::first_behind(
+            arena,
+            *depth,
+            changed(arena, inner, by)?,
+        )?),
         Form::Second(depth, inner) => Ok(Tree {
-            form: Form::Second(*depth, Box::new(alloc, changed(alloc, inner, by)?)?),
+            form: Form::Second(*depth, arena.put(changed(arena, inner, by)?)?),
         }),
         Form::Group(delimiter, span, inner) => {
-            let inner = changed(alloc, inner, by)?;
-            Ok(made::group(alloc, *delimiter, *span, inner)?)
+            let inner = changed(arena, inner, by)?;
+            Ok(made::group(arena, *delimiter, *span, inner)?)
         }
-        Form::Dropped(inner) => Ok(made::dropped(alloc, changed(alloc, inner, by)?)?),
-        Form::Called(part, inner) => Ok(made::called(alloc, *part, changed(alloc, inner, by)?)?),
-        Form::Verbatim(inner) => Ok(made::verbatim(alloc, changed(alloc, inner, by)?)?),
-        Form::Node(kind, inner) => Ok(made::node(alloc, *kind, changed(alloc, inner, by)?)?),
-        Form::Whole(inner) => Ok(made::whole(alloc, changed(alloc, inner, by)?)?),
-        Form::Alone(kind, own) => Ok(made::alone(alloc, *kind, changed(alloc, own, by)?)?),
+        Form::Dropped(inner) => Ok(made::dropped(arena, changed(arena, inner, by)?)?),
+        Form::Called(part, inner) => Ok(made::called(arena, *part, changed(arena, inner, by)?)?),
+        Form::Verbatim(inner) => Ok(made::verbatim(arena, changed(arena, inner, by)?)?),
+        Form::Node(kind, inner) => Ok(made::node(arena, *kind, changed(arena, inner, by)?)?),
+        Form::Whole(inner) => Ok(made::whole(arena, changed(arena, inner, by)?)?),
+        Form::Alone(kind, own) => Ok(made::alone(arena, *kind, changed(arena, own, by)?)?),
         Form::Pair(two) => {
-            let front = changed(alloc, &two.front, by)?;
-            Ok(made::pair(alloc, front, changed(alloc, &two.back, by)?)?)
+            let front = changed(arena, &two.front, by)?;
+            Ok(made::pair(arena, front, changed(arena, &two.back, by)?)?)
         }
         Form::Front(kind, two) => {
-            let own = changed(alloc, &two.front, by)?;
-            Ok(made::front(alloc, *kind, own, changed(alloc, &two.back, by)?)?)
+            let own = changed(arena, &two.front, by)?;
+            Ok(made::front(arena, *kind, own, changed(arena, &two.back, by)?)?)
         }
         Form::Back(kind, two) => {
-            let left = changed(alloc, &two.front, by)?;
-            Ok(made::back(alloc, left, *kind, changed(alloc, &two.back, by)?)?)
+            let left = changed(arena, &two.front, by)?;
+            Ok(made::back(arena, left, *kind, changed(arena, &two.back, by)?)?)
         }
         Form::Infix(kind, three) => {
-            let left = changed(alloc, &three.left, by)?;
-            let own = changed(alloc, &three.own, by)?;
-            let right = changed(alloc, &three.right, by)?;
-            Ok(made::infix(alloc, left, *kind, own, right)?)
+            let left = changed(arena, &three.left, by)?;
+            let own = changed(arena, &three.own, by)?;
+            let right = changed(arena, &three.right, by)?;
+            Ok(made::infix(arena, left, *kind, own, right)?)
         }
     }
 }
@@ -179,13 +185,13 @@ fn made_anew<'a>(alloc: Global, tree: &Tree<'a>, by: &mut Change<'a>) -> Result<
 // Turns made anew.
 #[cycle(changed)]
 fn changed_turns<'a>(
-    alloc: Global,
+    arena: &'a Arena,
     turns: &[Tree<'a>],
     by: &mut Change<'a>,
 ) -> Result<Vec<Tree<'a>>> {
-    let mut all = Vec::new(alloc);
+    let mut all = Vec::new(arena.alloc());
     for tree in turns {
-        all.push(changed(alloc, tree, by)?)?;
+        all.push(changed(arena, tree, by)?)?;
     }
     Ok(all)
 }
@@ -193,14 +199,14 @@ fn changed_turns<'a>(
 // Elements made anew.
 #[cycle(changed)]
 fn changed_elements<'a>(
-    alloc: Global,
+    arena: &'a Arena,
     elements: &[Element<'a>],
     by: &mut Change<'a>,
 ) -> Result<Vec<Element<'a>>> {
-    let mut all = Vec::new(alloc);
+    let mut all = Vec::new(arena.alloc());
     for element in elements {
         all.push(Element {
-            tree: changed(alloc, &element.tree, by)?,
+            tree: changed(arena, &element.tree, by)?,
             spacing: by.spacing(element.spacing),
         })?;
     }
@@ -210,12 +216,12 @@ fn changed_elements<'a>(
 // A last element made anew, if there is one.
 #[cycle(changed)]
 fn changed_last<'a>(
-    alloc: Global,
-    last: &Option<Box<Tree<'a>>>,
+    arena: &'a Arena,
+    last: Option<&Tree<'a>>,
     by: &mut Change<'a>,
-) -> Result<Option<Box<Tree<'a>>>> {
+) -> Result<Option<Tree<'a>>> {
     match last {
-        Some(last) => Ok(Some(Box::new(alloc, changed(alloc, last, by)?)?)),
+        Some(last) => Ok(Some(changed(arena, last, by)?)),
         None => Ok(None),
     }
 }

@@ -6,7 +6,7 @@ use crate::shape::shape;
 use crate::text::{buffers, printed, streams, texts};
 use anyhow::Result;
 use std::alloc::Global;
-use syn::{Position, TokenBuffer, Tree};
+use syn::{Arena, Position, TokenBuffer, Tree};
 
 /// What is found of an expression that was built.
 #[derive(Drop)]
@@ -78,17 +78,18 @@ fn is_written_so(alloc: Global, position: Position, text: &str, tree: &Tree<'_>)
 }
 
 // What is wrong with what is read of the print of an expression.
-fn fault_read(
-    alloc: Global,
+fn fault_read<'a>(
+    arena: &'a Arena,
     position: Position,
     wanted: &str,
     text: &str,
-    buffer: &TokenBuffer<'_>,
+    buffer: &'a TokenBuffer<'a>,
 ) -> Result<Option<String>> {
-    let Some(tree) = whole(alloc, position, buffer)? else {
+    let alloc = arena.alloc();
+    let Some(tree) = whole(arena, position, buffer)? else {
         return said(alloc, "not read again", text);
     };
-    let found = shape(alloc, form_of(&tree)?)?;
+    let found = shape(arena, form_of(&tree)?)?;
     if found.as_str() != wanted {
         return said(alloc, "read as another", text);
     }
@@ -108,7 +109,8 @@ fn fault(
 ) -> Result<Option<String>> {
     let stream = placed(alloc, position, text)?;
     let buffer = TokenBuffer::new2(alloc, &stream, 1)?;
-    if let Some(wrong) = fault_read(alloc, position, wanted, text, &buffer)? {
+    let arena = Arena::new(alloc);
+    if let Some(wrong) = fault_read(&arena, position, wanted, text, &buffer)? {
         return Ok(Some(wrong));
     }
     if !may_shelter(text) && spare(alloc, position, wanted, text)? > own {
@@ -123,14 +125,15 @@ fn own_parentheses(text: &str) -> usize {
 }
 
 // What is found of an expression that is built of these buffers, which are a text's.
-fn found(
-    alloc: Global,
+fn found<'a>(
+    arena: &'a Arena,
     text: &str,
-    buffers: &[TokenBuffer<'_>],
+    buffers: &'a [TokenBuffer<'_>],
     positions: &[Position],
 ) -> Result<Finding> {
-    let tree = built(alloc, buffers)?;
-    let wanted = shape(alloc, &tree)?;
+    let alloc = arena.alloc();
+    let tree = built(arena, buffers)?;
+    let wanted = shape(arena, &tree)?;
     let (own, before) = (own_parentheses(text), opened(text));
     let (mut print, mut gaining, mut wrong) = (String::new(alloc), 0usize, None);
     for position in positions {
@@ -154,18 +157,20 @@ pub(crate) fn judged(alloc: Global, text: &str, positions: &[Position]) -> Resul
     let texts = texts(alloc, text)?;
     let streams = streams(alloc, texts.as_slice())?;
     let buffers = buffers(alloc, streams.as_slice())?;
-    found(alloc, text, buffers.as_slice(), positions)
+    let arena = Arena::new(alloc);
+    found(&arena, text, buffers.as_slice(), positions)
 }
 
 // What is wrong with the print of an expression that is read of a text: it gains no parentheses, unless a range stands
 // behind attributes. None where no expression is read.
-fn kept_read(
-    alloc: Global,
+fn kept_read<'a>(
+    arena: &'a Arena,
     position: Position,
     text: &str,
-    buffer: &TokenBuffer<'_>,
+    buffer: &'a TokenBuffer<'a>,
 ) -> Result<Option<bool>> {
-    let Some(tree) = whole(alloc, position, buffer)? else {
+    let alloc = arena.alloc();
+    let Some(tree) = whole(arena, position, buffer)? else {
         return Ok(None);
     };
     let as_read = printed(alloc, &tree)?;
@@ -179,7 +184,8 @@ fn kept_read(
 fn kept_in(alloc: Global, position: Position, text: &str) -> Result<Option<bool>> {
     let stream = placed(alloc, position, text)?;
     let buffer = TokenBuffer::new2(alloc, &stream, 1)?;
-    kept_read(alloc, position, text, &buffer)
+    let arena = Arena::new(alloc);
+    kept_read(&arena, position, text, &buffer)
 }
 
 /// In how many positions a text is read, and in how many of these what is printed of it has other parentheses.

@@ -7,7 +7,7 @@ use gram_build::build::write_in;
 use gram_piece::print::print;
 use std::alloc::Global;
 use syn::parse::parse_front;
-use syn::{Kind, ParseFault, Position, TokenBuffer, TokenStream, Tree};
+use syn::{Arena, Kind, ParseFault, Position, TokenBuffer, TokenStream, Tree};
 
 /// The print of a form in a position.
 pub(crate) fn written(alloc: Global, position: Position, tree: &Tree<'_>) -> Result<String> {
@@ -33,12 +33,12 @@ pub(crate) fn placed(alloc: Global, position: Position, text: &str) -> Result<To
 
 /// What is read of a buffer in a position, if all but what stands behind a whole expression is.
 pub(crate) fn whole<'a>(
-    alloc: Global,
+    arena: &'a Arena,
     position: Position,
     buffer: &'a TokenBuffer<'a>,
 ) -> Result<Option<Tree<'a>>> {
     let left = if behind(position).is_empty() { 0 } else { 2 };
-    match parse_front(alloc, Kind::Expression(position), buffer) {
+    match parse_front(arena, Kind::Expression(position), buffer) {
         Ok((tree, rest)) if rest.len() == left => Ok(Some(tree)),
         Ok(_) | Err(ParseFault::Syntax(_)) => Ok(None),
         Err(ParseFault::Memory) => Err(anyhow!("out of memory")),
@@ -52,16 +52,16 @@ pub(crate) fn form_of<'t, 'a>(tree: &'t Tree<'a>) -> Result<&'t Tree<'a>> {
 }
 
 // Whether all of a buffer is read in a position, with that shape.
-fn is_same_of(
-    alloc: Global,
+fn is_same_of<'a>(
+    arena: &'a Arena,
     position: Position,
     wanted: &str,
-    buffer: &TokenBuffer<'_>,
+    buffer: &'a TokenBuffer<'a>,
 ) -> Result<bool> {
-    let Some(tree) = whole(alloc, position, buffer)? else {
+    let Some(tree) = whole(arena, position, buffer)? else {
         return Ok(false);
     };
-    let found = shape(alloc, form_of(&tree)?)?;
+    let found = shape(arena, form_of(&tree)?)?;
     Ok(found.as_str() == wanted)
 }
 
@@ -69,5 +69,6 @@ fn is_same_of(
 pub(crate) fn is_same(alloc: Global, position: Position, wanted: &str, text: &str) -> Result<bool> {
     let stream = placed(alloc, position, text)?;
     let buffer = TokenBuffer::new2(alloc, &stream, 1)?;
-    is_same_of(alloc, position, wanted, &buffer)
+    let arena = Arena::new(alloc);
+    is_same_of(&arena, position, wanted, &buffer)
 }

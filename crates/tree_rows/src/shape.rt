@@ -4,7 +4,7 @@ use crate::change::{Change, changed};
 use crate::text::printed;
 use anyhow::Result;
 use std::alloc::Global;
-use syn::{Form, Tree, put_nodes};
+use syn::{Arena, Form, Tree, put_nodes};
 
 // Where the operands of a form stand. None of what is no form of an expression.
 fn operands(tree: &Tree<'_>) -> Option<&'static str> {
@@ -33,7 +33,7 @@ fn shape_of(alloc: Global, tree: &Tree<'_>) -> Result<String> {
 
 /// The forms in a tree, own parts included, each before those that stand in it: a line for each, with where its operands
 /// stand and with its tokens, without parentheses round any.
-pub(crate) fn shape(alloc: Global, tree: &Tree<'_>) -> Result<String> {
-    let bare = changed(alloc, tree, &mut Change::Strip)?;
-    shape_of(alloc, &bare)
+pub(crate) fn shape<'a>(arena: &'a Arena, tree: &Tree<'a>) -> Result<String> {
+    let bare = changed(arena, tree, &mut Change::Strip)?;
+    shape_of(arena.alloc(), &bare)
 }

@@ -2,7 +2,7 @@ use Rattle.std.specs.Prelude.{Bool, List, [], ◌∷◌, OnOk, Some, None, true,
 use Rattle.std.specs.List.{list_any}
 use Rattle.std.proofs.Common.{append_assoc, arith, ap, subst, sym, rules, ◌≡◌, ◌∙◌, ◌+◌, ◌++◌, drop, map}
 use Rattle.std.proofs.lemmas.Result.{on_ok_weaker}
-use denote.Param.Weighed.{at_most, most}
+use denote.Param.Weighed.{at_most}
 use Rattle.proc_macro2.specs.Token.{Token, Punct}
 use Rattle.rust_leaf.specs.declared.punct.Spacing.TheVariants.{Alone as Apart}
 use Rattle.gram_piece.specs.Pieces.{piece_token}
@@ -10,7 +10,7 @@ use Rattle.gram_table.specs.Kinds.{kind_of}
 use Rattle.gram_table.specs.Ops.{separator_of}
 use Rattle.gram_table.specs.Parts.{part_of}
 use Rattle.rust_leaf.specs.Leaf.{literal_text}
-use Rattle.gram_tree.specs.declared.tree.Tree.TheDeep.{size-Tree, size-Element}
+use Rattle.gram_tree.specs.declared.tree.Tree.TheDeep.{size-Element}
 use Rattle.syn_grammar.specs.Tree as t
 use Rattle.syn_grammar.specs.Tree.{Tree}
 use Rattle.syn_grammar.specs.Words.{indices}
@@ -35,44 +35,49 @@ use Rattle.gram_write.proofs.+laid.Goals.{laid::put_those-else-passes}
 -- what is called is smaller
 pub laid::put_laid-put_turns-requires : goal.laid::put_laid-put_turns-requires
 laid::put_laid-put_turns-requires n c =
-    let same = ap (λ (xs : List Tree). most (λ x. size-Tree x) xs) c.as_slice.ensures.value in
-    let view : c.args.tree.now ≡ turns c.in-Turns.turns.items = sym c.tree.view_is ∙ ap tree_of c.in-Turns.is in
-    omega (arith, c.decreases, same, turns_size c.in-Turns.turns.items, ap node_count view, tree_size c.args.tree.now)
+    let view : c.args.tree.now ≡ turns c.in-Turns.turns.now = sym c.tree.view_is ∙ ap tree_of c.in-Turns.is in
+    omega (arith, c.decreases, turns_size c.in-Turns.turns.now, ap node_count view, tree_size c.args.tree.now)
 
 pub laid::put_laid-put_elements-requires : goal.laid::put_laid-put_elements-requires
 laid::put_laid-put_elements-requires n c =
-    let same = ap (λ (es : List Element). most (λ x. size-Element x) es) c.as_slice-in-Elements.ensures.value in
-    let below = elements_below (separator_of c.in-Elements.mark) c.in-Elements.before.items
-    (ending (λ b. b.value) c.in-Elements.last) c.args.tree.now (sym c.tree.view_is ∙ ap tree_of c.in-Elements.is) in
-    omega (arith, c.decreases, same, below)
+    let list = c.in-Elements.list.now in
+    let below = elements_below (separator_of list.separator) list.before.now (ending (λ b. b.now) list.last)
+    c.args.tree.now (sym c.tree.view_is ∙ ap tree_of c.in-Elements.is) in
+    omega (arith, c.decreases, below)
 
 pub laid::put_firsts-put_those-requires : goal.laid::put_firsts-put_those-requires
 laid::put_firsts-put_those-requires n c =
-    let same = ap (λ (es : List Element). most (λ x. size-Element x) es) c.as_slice-elements.ensures.value in
-    let below = elements_below (separator_of c.in-Elements.mark) c.in-Elements.before.items
-    (ending (λ b. b.value) c.in-Elements.last) c.args.list.now (sym c.list.view_is ∙ ap tree_of c.in-Elements.is) in
-    omega (arith, c.decreases, same, below)
+    let list = c.in-Elements.elements.now in
+    let below = elements_below (separator_of list.separator) list.before.now (ending (λ b. b.now) list.last)
+    c.args.list.now (sym c.list.view_is ∙ ap tree_of c.in-Elements.is) in
+    omega (arith, c.decreases, below)
 
 pub laid::put_firsts-put_others-requires : goal.laid::put_firsts-put_others-requires
 laid::put_firsts-put_others-requires n c =
-    let same = ap (λ (es : List Element). most (λ x. size-Element x) es) c.as_slice-elements.ensures.value in
-    let below = elements_below (separator_of c.in-Elements.mark) c.in-Elements.before.items
-    (ending (λ b. b.value) c.in-Elements.last) c.args.list.now (sym c.list.view_is ∙ ap tree_of c.in-Elements.is) in
-    omega (arith, c.decreases, same, below)
+    let list = c.in-Elements.elements.now in
+    let below = elements_below (separator_of list.separator) list.before.now (ending (λ b. b.now) list.last)
+    c.args.list.now (sym c.list.view_is ∙ ap tree_of c.in-Elements.is) in
+    omega (arith, c.decreases, below)
 
 pub laid::put_firsts-put_others-requires-then-passes : goal.laid::put_firsts-put_others-requires-then-passes
 laid::put_firsts-put_others-requires-then-passes n c =
-    let same = ap (λ (es : List Element). most (λ x. size-Element x) es) c.as_slice-elements.ensures.value in
-    let below = elements_below (separator_of c.in-Elements.mark) c.in-Elements.before.items
-    (ending (λ b. b.value) c.in-Elements.last) c.args.list.now (sym c.list.view_is ∙ ap tree_of c.in-Elements.is) in
-    omega (arith, c.decreases, same, below)
+    let list = c.in-Elements.elements.now in
+    let below = elements_below (separator_of list.separator) list.before.now (ending (λ b. b.now) list.last)
+    c.args.list.now (sym c.list.view_is ∙ ap tree_of c.in-Elements.is) in
+    omega (arith, c.decreases, below)
 
 pub laid::put_firsts-put_others-requires-else-passes : goal.laid::put_firsts-put_others-requires-else-passes
 laid::put_firsts-put_others-requires-else-passes n c =
-    let same = ap (λ (es : List Element). most (λ x. size-Element x) es) c.as_slice-elements.ensures.value in
-    let below = elements_below (separator_of c.in-Elements.mark) c.in-Elements.before.items
-    (ending (λ b. b.value) c.in-Elements.last) c.args.list.now (sym c.list.view_is ∙ ap tree_of c.in-Elements.is) in
-    omega (arith, c.decreases, same, below)
+    let list = c.in-Elements.elements.now in
+    let below = elements_below (separator_of list.separator) list.before.now (ending (λ b. b.now) list.last)
+    c.args.list.now (sym c.list.view_is ∙ ap tree_of c.in-Elements.is) in
+    omega (arith, c.decreases, below)
+
+pub laid::put_two-put_laid-requires : goal.laid::put_two-put_laid-requires
+laid::put_two-put_laid-requires n c = omega (arith, c.decreases, tree_size c.args.two.now.front)
+
+pub laid::put_two-put_laid-requires-2 : goal.laid::put_two-put_laid-requires-2
+laid::put_two-put_laid-requires-2 n c = omega (arith, c.decreases, tree_size c.args.two.now.back)
 
 pub laid::put_elements-put_laid-requires : goal.laid::put_elements-put_laid-requires
 laid::put_elements-put_laid-requires n c =
@@ -98,60 +103,50 @@ laid::put_others-put_laid-requires n c =
 -- what is put one behind the other
 pub laid::put_laid-returns-in-Called : goal.laid::put_laid-returns-in-Called
 laid::put_laid-returns-in-Called n c =
-    let way : way_laid c.of_part.result c.in-Called.inner.value
-    ≡ laid_in c.args.within (t.Called (part_of c.in-Called.part) c.in-Called.inner.value) = search rules in
-    let view : c.args.tree.now ≡ t.Called (part_of c.in-Called.part) c.in-Called.inner.value =
+    let way : way_laid c.of_part.result c.in-Called.inner.now
+    ≡ laid_in c.args.within (t.Called (part_of c.in-Called.part) c.in-Called.inner.now) = search rules in
+    let view : c.args.tree.now ≡ t.Called (part_of c.in-Called.part) c.in-Called.inner.now =
     sym c.tree.view_is ∙ ap tree_of c.in-Called.is in
-    let same : c.deref-in-Called-2.result.now ≡ c.in-Called.inner.value = search rules in
-    let whole : way_laid c.of_part.result c.deref-in-Called-2.result.now ≡ laid_in c.args.within c.args.tree.now =
-    ap (way_laid c.of_part.result) same ∙ way ∙ ap (λ x. laid_in c.args.within x) (sym view) in
     subst (λ (ts : List Token). OnOk c.put_so.result (map piece_token c.put_so.new.out.items
-    ≡ map piece_token c.args.out.now.items ++ ts)) whole c.put_so.ensures
+    ≡ map piece_token c.args.out.now.items ++ ts))
+    (way ∙ ap (λ x. laid_in c.args.within x) (sym view)) c.put_so.ensures
 
 pub laid::put_laid-returns-in-Node : goal.laid::put_laid-returns-in-Node
 laid::put_laid-returns-in-Node n c =
     let k = kind_of c.in-Node.kind in
-    let given : c.deref-in-Node.result.now ≡ c.in-Node.inner.value = search rules in
-    let way : way_laid c.of_node.result c.deref-in-Node.result.now ≡ laid (t.Node k c.deref-in-Node.result.now) =
-    c.of_node.ensures in
-    let view : c.args.tree.now ≡ t.Node k c.in-Node.inner.value = sym c.tree.view_is ∙ ap tree_of c.in-Node.is in
-    let same : c.deref-in-Node-2.result.now ≡ c.in-Node.inner.value = search rules in
-    let whole : way_laid c.of_node.result c.deref-in-Node-2.result.now ≡ laid_in c.args.within c.args.tree.now =
-    ap (way_laid c.of_node.result) (same ∙ sym given) ∙ way ∙ ap (λ x. laid (t.Node k x)) given
-    ∙ sym (node_same c.args.within k c.in-Node.inner.value)
-    ∙ ap (λ x. laid_in c.args.within x) (sym view) in
+    let way : way_laid c.of_node.result c.in-Node.inner.now ≡ laid (t.Node k c.in-Node.inner.now) = search rules in
+    let view : c.args.tree.now ≡ t.Node k c.in-Node.inner.now = sym c.tree.view_is ∙ ap tree_of c.in-Node.is in
     subst (λ (ts : List Token). OnOk c.put_so-in-Node.result (map piece_token c.put_so-in-Node.new.out.items
-    ≡ map piece_token c.args.out.now.items ++ ts)) whole c.put_so-in-Node.ensures
+    ≡ map piece_token c.args.out.now.items ++ ts))
+    (way ∙ sym (node_same c.args.within k c.in-Node.inner.now) ∙ ap (λ x. laid_in c.args.within x) (sym view))
+    c.put_so-in-Node.ensures
 
 pub laid::put_firsts-returns-in_ok-comma : goal.laid::put_firsts-returns-in_ok-comma
 laid::put_firsts-returns-in_ok-comma n c =
     let q : Tree → Bool = passes c.args.which in
-    let m = separator_of c.in-Elements.mark in
-    let es : List Element = c.in-Elements.before.items in
+    let m = separator_of c.in-Elements.elements.now.separator in
+    let es : List Element = c.in-Elements.elements.now.before.now in
     let those : List Token = those_laid q false (elements m es t.End) in
     let comma : List Token = cond (list_any (λ e. not (q e.tree)) es) (Punct 44 Apart ∷ []) [] in
     let others : List Token = others_laid q [] (elements m es t.End) in
-    let view : c.args.list.now ≡ elements m es (t.Final c.in-Some.last.value) =
+    let view : c.args.list.now ≡ elements m es (t.Final c.in-Some.last.now) =
     sym c.list.view_is ∙ ap tree_of c.in-Elements.is
-    ∙ ap (λ o. elements m es (ending (λ b. b.value) o)) c.in-Some.is in
-    let passing : q c.in-Some.last.value ≡ true = search rules in
+    ∙ ap (λ o. elements m es (ending (λ b. b.now) o)) c.in-Some.is in
+    let passing : q c.in-Some.last.now ≡ true = search rules in
     let first : map piece_token c.put_those.new.out.items ≡ map piece_token c.args.out.now.items ++ those =
     search rules in
     let second : map piece_token c.put_laid-then-passes.new.out.items
-    ≡ map piece_token c.put_those.new.out.items ++ laid c.in-Some.last.value = search rules in
-    let lacks : c.lacks_some.result ≡ list_any (λ e. not (q e.tree)) es =
-    c.lacks_some.ensures ∙ ap (list_any (λ (e : Element). not (q e.tree))) c.as_slice-elements.ensures.value in
+    ≡ map piece_token c.put_those.new.out.items ++ laid c.in-Some.last.now = search rules in
+    let lacks : c.lacks_some.result ≡ list_any (λ e. not (q e.tree)) es = c.lacks_some.ensures in
     let third : map piece_token c.comma.new.out.items ≡ map piece_token c.put_laid-then-passes.new.out.items ++ comma =
     c.in_ok-comma.ensures
     ∙ ap (λ b. map piece_token c.put_laid-then-passes.new.out.items ++ cond b (Punct 44 Apart ∷ []) []) lacks in
     on_ok_weaker c.put_others-then-passes.result
     (λ e. four_put (map piece_token c.args.out.now.items) (map piece_token c.put_those.new.out.items)
     (map piece_token c.put_laid-then-passes.new.out.items) (map piece_token c.comma.new.out.items)
-    (map piece_token c.put_others-then-passes.new.out.items) those (laid c.in-Some.last.value) comma others
-    (firsts_laid q c.args.list.now) first second third
-    (e ∙ ap (λ xs. map piece_token c.comma.new.out.items ++ others_laid q [] (elements m xs t.End))
-    c.as_slice-elements.ensures.value)
-    (ap (firsts_laid q) view ∙ firsts_passing q m es c.in-Some.last.value passing))
+    (map piece_token c.put_others-then-passes.new.out.items) those (laid c.in-Some.last.now) comma others
+    (firsts_laid q c.args.list.now) first second third e
+    (ap (firsts_laid q) view ∙ firsts_passing q m es c.in-Some.last.now passing))
     c.put_others-then-passes.ensures
 
 pub laid::put_those-loop-element-preserved : goal.laid::put_those-loop-element-preserved

@@ -43,6 +43,9 @@ decreases-turn::put_turns l = most (λ x. size-Tree x) l.trees.now + 2
 abbrev pub decreases-turn::put_turn : goal.decreases-turn::put_turn
 decreases-turn::put_turn l = size-Tree l.turn.now + 1
 
+abbrev pub decreases-laid::put_two : goal.decreases-laid::put_two
+decreases-laid::put_two l = 4 * (node_count l.two.now.front + node_count l.two.now.back) + 7
+
 abbrev pub decreases-laid::put_so : goal.decreases-laid::put_so
 decreases-laid::put_so l = size-Tree l.inner.now + 2
 
@@ -72,11 +75,11 @@ decreases-expressed::put_rest l = size-Tree l.tree.now
 
 -- an operand, in parentheses or not, is put by another
 abbrev pub decreases-expressed::put_front : goal.decreases-expressed::put_front
-decreases-expressed::put_front l = 3 * (node_count l.two.now.front + node_count l.two.now.back) + 5
+decreases-expressed::put_front l = 4 * (node_count l.two.now.front + node_count l.two.now.back) + 7
 
 abbrev pub decreases-expressed::put_back : goal.decreases-expressed::put_back
-decreases-expressed::put_back l = 3 * (node_count l.two.now.front + node_count l.two.now.back) + 5
+decreases-expressed::put_back l = 4 * (node_count l.two.now.front + node_count l.two.now.back) + 7
 
 abbrev pub decreases-expressed::put_infix : goal.decreases-expressed::put_infix
 decreases-expressed::put_infix l =
-    3 * (node_count l.three.now.left + node_count l.three.now.own + node_count l.three.now.right) + 5
+    4 * (node_count l.three.now.left + node_count l.three.now.own + node_count l.three.now.right) + 7

@@ -11,9 +11,10 @@ ghost use Rattle.syn_grammar.specs.Tree.{flat};
 
 use crate::expr::whole::Expr;
 use gram_table::kind::{Kind, Style};
+use gram_tree::arena::Arena;
 use gram_tree::made;
 use gram_tree::tree::Tree;
-use std::alloc::{AllocError, Global};
+use std::alloc::AllocError;
 
 impl<'t, 'a> Expr<'t, 'a> {
     /// What stands for an expression where none is known yet: a path without segments. It has no token, and no tokens
@@ -23,17 +24,17 @@ impl<'t, 'a> Expr<'t, 'a> {
     ///
     /// Where memory is refused.
     #[tactic(auto, using(crate::proofs::ExprUnread::no_segments))]
-    pub fn placeholder(alloc: Global) -> Result<Tree<'a>, AllocError>
+    pub fn placeholder(arena: &'a Arena) -> Result<Tree<'a>, AllocError>
         ensures path { IfOk result (λ x. x ≡ placeholder) }
         ensures form { IfOk result (λ x. which x ≡ Some exprs.Path) }
         ensures tokens { IfOk result (λ x. flat x ≡ []) }
         ensures unread { (p : k.Position) (rest : List Token) → Bound p placeholder rest → ⊥ }
     {
-        let no_colon = made::second(alloc, made::nil())?;
-        let path = made::pair(alloc, no_colon, made::nil())?;
-        let path = made::node(alloc, Kind::Path(Style::InExpression), path)?;
-        let path = made::second(alloc, path)?;
-        let path = made::node(alloc, Kind::AnyPath(Style::InExpression), path)?;
-        made::alone(alloc, Kind::ExprPath, path)
+        let no_colon = made::second(arena, made::nil())?;
+        let path = made::pair(arena, no_colon, made::nil())?;
+        let path = made::node(arena, Kind::Path(Style::InExpression), path)?;
+        let path = made::second(arena, path)?;
+        let path = made::node(arena, Kind::AnyPath(Style::InExpression), path)?;
+        made::alone(arena, Kind::ExprPath, path)
     }
 }

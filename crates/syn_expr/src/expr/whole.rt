@@ -219,13 +219,7 @@ fn is_final(tree: &Tree<'_>) -> bool
     ensures { result ≡ is_final tree.now }
 {
     match &tree.form {
-        Form::Elements(_, before, Some(_)) => {
-            if before.is_empty() {
-                return true;
-            }
-            false
-        }
-        Form::Elements(_, _, None) => false,
+        Form::Elements(list) => list.before.is_empty() && list.last.is_some(),
         _ => false,
     }
 }

@@ -1,4 +1,4 @@
-use Rattle.std.proofs.Common.{◌++◌, ◌∙◌, ap, sym, subst, List}
+use Rattle.std.proofs.Common.{◌≡◌, ◌++◌, ◌∙◌, ap, sym, subst, List}
 use Rattle.proc_macro2.specs.Token.{plain}
 use Rattle.syn_buffer.specs.Entries.{spanned_entries}
 use Rattle.syn_grammar.specs.Names.{names}
@@ -9,7 +9,9 @@ use Rattle.canon.proofs.outlines.listed.Goals as goal
 
 pub rows_of-requires-clause-there : goal.rows_of-requires-clause-there
 rows_of-requires-clause-there c =
-    let tokens = plain (spanned_entries c.entries-entries.result.now) in
+    let tokens = plain (spanned_entries c.entries.result.now) in
+    let again = ap (λ es. plain (spanned_entries es)) (c.entries.ensures.tokens ∙ sym c.entries-2.ensures.tokens) in
     let same = ap names_of c.as_slice.ensures.value ∙ c.in_ok-names.ensures
     ∙ ap (λ (ns : List read.Name). names_of ns ++ names c.in_ok-file.file) c.new-found.ensures.items in
-    subst (AreThere tokens) (sym same) (names_there tokens c.in_ok-file.file c.in_ok-file.ensures.file)
+    subst (λ ts. AreThere ts (names_of c.as_slice.result.now)) again
+    (subst (AreThere tokens) (sym same) (names_there tokens c.in_ok-file.file c.in_ok-file.ensures.file))

@@ -11,11 +11,11 @@ abbrev pub decreases-left : goal.decreases-left
 decreases-left l = size-Tree l.tree.now + 1
 
 abbrev pub decreases-front : goal.decreases-front
-decreases-front l = 3 * (node_count l.two.now.front + node_count l.two.now.back) + 5
+decreases-front l = 4 * (node_count l.two.now.front + node_count l.two.now.back) + 7
 
 abbrev pub decreases-back : goal.decreases-back
-decreases-back l = 3 * (node_count l.two.now.front + node_count l.two.now.back) + 5
+decreases-back l = 4 * (node_count l.two.now.front + node_count l.two.now.back) + 7
 
 abbrev pub decreases-infix : goal.decreases-infix
 decreases-infix l =
-    3 * (node_count l.three.now.left + node_count l.three.now.own + node_count l.three.now.right) + 5
+    4 * (node_count l.three.now.left + node_count l.three.now.own + node_count l.three.now.right) + 7

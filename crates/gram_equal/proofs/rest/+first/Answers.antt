@@ -1,32 +1,27 @@
-use Rattle.std.proofs.Common.{◌≡◌, ap, sym, ◌∙◌}
-use Rattle.syn_grammar.specs.Tree.{First, Second}
-use Rattle.gram_tree.specs.Forms.{seconds, tree_of}
+use Rattle.std.proofs.Common.{ap, sym, ◌∙◌}
+use Rattle.gram_tree.specs.Forms.{tree_of}
 use Rattle.gram_equal.proofs.Lefts.{first_behind, first_left, first_other, no_first}
 use Rattle.gram_equal.proofs.Sorts.{AChoice, apart, no_choice, not_one, sort_first}
 use Rattle.gram_equal.proofs.rest.+first.Goals as goal
 
 pub returns-then-depth-other : goal.returns-then-depth-other
 returns-then-depth-other n c =
-    let v : seconds c.in-First.other (First c.deref.result.now) ≡ c.args.tree.now =
-    ap (λ z. seconds c.in-First.other (First z)) c.deref.ensures ∙ sym (ap tree_of c.in-First.is) ∙ c.tree.view_is in
-    first_left c.args.depth c.in-First.other c.args.inner c.deref.result c.args.tree.now v c.if-depth-other.true
+    first_left c.args.depth c.in-First.other c.args.inner c.in-First.y c.args.tree.now
+    (sym (ap tree_of c.in-First.is) ∙ c.tree.view_is) c.if-depth-other.true
 
 pub returns-else-depth-other : goal.returns-else-depth-other
 returns-else-depth-other n c = not_one
-    (first_other c.args.depth c.in-First.other c.args.inner.now c.in-First.y.value c.args.tree.now
+    (first_other c.args.depth c.in-First.other c.args.inner.now c.in-First.y.now c.args.tree.now
     (sym (ap tree_of c.in-First.is) ∙ c.tree.view_is) c.if-depth-other.false)
 
 pub returns-then-other-depth : goal.returns-then-other-depth
 returns-then-other-depth n c =
-    let v : Second (seconds c.in-Second.other c.deref-then-other-depth.result.now) ≡ c.args.tree.now =
-    ap (λ z. Second (seconds c.in-Second.other z)) c.deref-then-other-depth.ensures ∙ sym (ap tree_of c.in-Second.is)
-    ∙ c.tree.view_is in
-    first_behind c.args.depth c.in-Second.other c.args.inner.now c.deref-then-other-depth.result.now c.args.tree.now
-    c.first.result c.if-other-depth.true v c.first.ensures
+    first_behind c.args.depth c.in-Second.other c.args.inner.now c.in-Second.y.now c.args.tree.now c.first.result
+    c.if-other-depth.true (sym (ap tree_of c.in-Second.is) ∙ c.tree.view_is) c.first.ensures
 
 pub returns-else-other-depth : goal.returns-else-other-depth
 returns-else-other-depth n c = not_one
-    (λ e. no_first c.args.depth c.in-Second.other c.args.inner.now c.in-Second.y.value c.if-other-depth.false
+    (λ e. no_first c.args.depth c.in-Second.other c.args.inner.now c.in-Second.y.now c.if-other-depth.false
     (e ∙ sym c.tree.view_is ∙ ap tree_of c.in-Second.is))
 
 pub returns-in_default : goal.returns-in_default

@@ -22,4 +22,4 @@ abbrev pub decreases-equal_elements : goal.decreases-equal_elements
 decreases-equal_elements l = 2 * both_count (elements 0 l.elements.now t.End) (elements 0 l.others.now t.End)
 
 abbrev pub decreases-equal_last : goal.decreases-equal_last
-decreases-equal_last l = 2 * both_count (ending (λ x. x.value) l.last.now) (ending (λ x. x.value) l.end.now)
+decreases-equal_last l = 2 * both_count (ending (λ x. x.now) l.last) (ending (λ x. x.now) l.end)

@@ -1,7 +1,5 @@
 use Rattle.std.specs.Prelude.{List, Option, Bool}
 use Rattle.std.proofs.Common.{◌≡◌, arith, ap, sym, ◌∙◌, ◌<◌, ◌+◌, length, get_or, drop}
-use denote.Param.Weighed.{most}
-use Rattle.gram_tree.specs.declared.tree.Tree.TheDeep.{size-Tree}
 use Rattle.syn_grammar.specs.Tree.{Tree, flat}
 use Rattle.gram_tree.specs.Forms.{tree_of, turns}
 use Rattle.gram_judge.specs.Closing.{ending, later}
@@ -11,9 +9,8 @@ use Rattle.gram_judge.proofs.closing.+closing.Goals as goal
 
 pub ending-ending_of_turns-requires : goal.ending-ending_of_turns-requires
 ending-ending_of_turns-requires t c =
-    let same = ap (λ (xs : List Tree). most (λ x. size-Tree x) xs) c.as_slice.ensures.value in
-    let below = turns_below c.in-Turns.turns.items c.args.tree.now (sym c.tree.view_is ∙ ap tree_of c.in-Turns.is) in
-    omega (arith, c.decreases, same, below)
+    let below = turns_below c.in-Turns.turns.now c.args.tree.now (sym c.tree.view_is ∙ ap tree_of c.in-Turns.is) in
+    omega (arith, c.decreases, below)
 
 pub ending_of_turns-loop-tree-preserved : goal.ending_of_turns-loop-tree-preserved
 ending_of_turns-loop-tree-preserved t c =

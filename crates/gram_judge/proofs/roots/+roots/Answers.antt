@@ -1,9 +1,5 @@
-use Rattle.std.specs.Prelude.{List}
 use Rattle.std.proofs.Common.{arith, ap, sym, ◌∙◌}
-use denote.Param.Weighed.{most}
 use Rattle.gram_table.specs.Ops.{separator_of}
-use Rattle.gram_tree.specs.declared.tree.Element.{Element}
-use Rattle.gram_tree.specs.declared.tree.Tree.TheDeep.{size-Element}
 use Rattle.gram_tree.specs.Forms.{tree_of, ending}
 use Rattle.gram_judge.proofs.Sizes.{elements_below}
 use Rattle.gram_judge.proofs.UseRoots.{root_off}
@@ -11,19 +7,19 @@ use Rattle.gram_judge.proofs.roots.+roots.Goals as goal
 
 pub has_root-some_has_root-requires : goal.has_root-some_has_root-requires
 has_root-some_has_root-requires t c =
-    let same = ap (λ (es : List Element). most (λ x. size-Element x) es) c.as_slice.ensures.value in
-    let below = elements_below (separator_of c.in-Elements.field-0) c.in-Elements.before.items
-    (ending (λ b. b.value) c.in-Elements.last) c.args.tree.now (sym c.tree.view_is ∙ ap tree_of c.in-Elements.is) in
-    omega (arith, c.decreases, same, below)
+    let list = c.in-Elements.list.now in
+    let below = elements_below (separator_of list.separator) list.before.now (ending (λ b. b.now) list.last)
+    c.args.tree.now (sym c.tree.view_is ∙ ap tree_of c.in-Elements.is) in
+    omega (arith, c.decreases, below)
 
 pub has_root-some_has_root-requires-in-None : goal.has_root-some_has_root-requires-in-None
 has_root-some_has_root-requires-in-None t c =
-    let same = ap (λ (es : List Element). most (λ x. size-Element x) es) c.as_slice-in-None.ensures.value in
-    let below = elements_below (separator_of c.in-Elements.field-0) c.in-Elements.before.items
-    (ending (λ b. b.value) c.in-Elements.last) c.args.tree.now (sym c.tree.view_is ∙ ap tree_of c.in-Elements.is) in
-    omega (arith, c.decreases, same, below)
+    let list = c.in-Elements.list.now in
+    let below = elements_below (separator_of list.separator) list.before.now (ending (λ b. b.now) list.last)
+    c.args.tree.now (sym c.tree.view_is ∙ ap tree_of c.in-Elements.is) in
+    omega (arith, c.decreases, below)
 
 pub has_root-returns-in_default-kind : goal.has_root-returns-in_default-kind
 has_root-returns-in_default-kind t c =
-    root_off c.in-Node.kind c.in-Node.inner.value c.args.tree.now (sym c.tree.view_is ∙ ap tree_of c.in-Node.is)
+    root_off c.in-Node.kind c.in-Node.inner.now c.args.tree.now (sym c.tree.view_is ∙ ap tree_of c.in-Node.is)
     c.in_default-kind.not-UseTop c.in_default-kind.not-UseRooted

@@ -1,11 +1,10 @@
 use Rattle.std.proofs.Common.{◌≡◌, ◌-◌, suc, sym, ap, ◌∙◌, arith}
 use Rattle.std.proofs.lemmas.Result.{err_from_is_err_and}
 use Rattle.syn_grammar.specs.Run.{climb, kind, wrap, run, interp, Got}
-use Rattle.syn_grammar.specs.Tree.{Node, Alone, Final, Front, Back, Infix}
+use Rattle.syn_grammar.specs.Tree.{Node, Alone, Front, Back, Infix}
 use Rattle.gram_table.specs.Kinds.{kind_of, position_of}
 use Rattle.gram_table.specs.Looks.{test_of}
 use Rattle.gram_table.specs.Ops.{gram_of, separator_of}
-use Rattle.gram_tree.specs.Forms.{elements}
 use Rattle.gram_run.specs.Answers.{tokens}
 use Rattle.gram_run.specs.Operands.{extended, own_of}
 use Rattle.gram_run.proofs.Turns.{turn_more, turn_none, turn_fails}
@@ -36,9 +35,7 @@ many-returns-in_default-clause-answer g t c =
     element_last (test_of c.args.test) (separator_of c.args.separator) (gram_of c.args.parts.now)
     c.elements.fuel (c.elements.fuel - 1) c.elements.before.items _ _ _ _ s c.elements.invariant.read
     (sym c.passes.ensures ∙ c.if-passes.false) c.in_ok-tree.ensures.answer c.in_default.ensures.none
-    ∙ ap (λ x. Got (elements (separator_of c.args.separator) c.elements.before.items (Final x))
-    (tokens c.in_ok-tree.rest.now)) (sym c.in_ok-last.ensures.ok)
-    ∙ ap (λ x. Got x (tokens c.in_ok-tree.rest.now)) (sym c.elements-in_default.ensures)
+    ∙ ap (λ x. Got x (tokens c.in_ok-tree.rest.now)) (sym c.in_ok-elements.ensures)
 
 pub many-elements-preserved : goal.many-elements-preserved
 many-elements-preserved g t c =
@@ -58,7 +55,7 @@ many-returns-clause-answer g t c =
     element_none (test_of c.args.test) (separator_of c.args.separator) (gram_of c.args.parts.now)
     c.elements.fuel (c.elements.fuel - 1) c.elements.before.items _ _ s c.elements.invariant.read
     (sym c.passes.ensures ∙ c.if-passes.true)
-    ∙ ap (λ x. Got x (tokens c.elements.at.entries.now)) (sym c.elements-2.ensures)
+    ∙ ap (λ x. Got x (tokens c.elements.at.entries.now)) (sym c.in_ok-elements-2.ensures)
 
 pub star-returns-in_err-turn-clause-answer : goal.star-returns-in_err-turn-clause-answer
 star-returns-in_err-turn-clause-answer g t c =
@@ -84,7 +81,7 @@ star-returns-clause-answer g t c =
     let s : c.turns.fuel ≡ suc (c.turns.fuel - 1) = omega arith in
     turn_none (test_of c.args.test) (gram_of c.args.parts.now) c.turns.fuel (c.turns.fuel - 1) c.turns.turns.items _ _ s
     c.turns.invariant.read (sym c.passes.ensures ∙ c.if-not-passes.true)
-    ∙ ap (λ x. Got x (tokens c.turns.at.entries.now)) (sym c.turns-2.ensures)
+    ∙ ap (λ x. Got x (tokens c.turns.at.entries.now)) (sym c.in_ok-turns.ensures)
 
 pub tower-returns-in_err-tree-clause-answer : goal.tower-returns-in_err-tree-clause-answer
 tower-returns-in_err-tree-clause-answer g t c =

@@ -1,6 +1,6 @@
 use Rattle.std.specs.Prelude.{List, Option, Bool, Some}
 use Rattle.std.proofs.Common.{◌≡◌, arith, ap, sym, ◌∙◌, ◌<◌, ◌+◌, length, get_or, drop, rules}
-use denote.Param.Weighed.{at_most, most}
+use denote.Param.Weighed.{at_most}
 use Rattle.gram_tree.specs.declared.tree.Tree.TheDeep.{size-Tree}
 use Rattle.syn_grammar.specs.Tree.{Tree, flat}
 use Rattle.gram_tree.specs.Forms.{tree_of, turns}
@@ -11,9 +11,8 @@ use Rattle.gram_write.proofs.begun.+begun.Goals as goal
 
 pub begun-begun_turns-requires : goal.begun-begun_turns-requires
 begun-begun_turns-requires t c =
-    let same = ap (λ (xs : List Tree). most (λ x. size-Tree x) xs) c.as_slice.ensures.value in
-    let below = turns_below c.in-Turns.turns.items c.args.tree.now (sym c.tree.view_is ∙ ap tree_of c.in-Turns.is) in
-    omega (arith, c.decreases, same, below)
+    let below = turns_below c.in-Turns.turns.now c.args.tree.now (sym c.tree.view_is ∙ ap tree_of c.in-Turns.is) in
+    omega (arith, c.decreases, below)
 
 pub begun_turns-returns-in-Some : goal.begun_turns-returns-in-Some
 begun_turns-returns-in-Some t c =

@@ -7,5 +7,5 @@ use Rattle.syn_ast.proofs.take.chosen.Goals as goal
 
 pub returns-else-depth-eq0-2 : goal.returns-else-depth-eq0-2
 returns-else-depth-eq0-2 c = λ test a b m h.
-    second_chosen c.in-Second.depth c.in-Second.inner.value test a b c.if-depth-eq0-2.false m
+    second_chosen c.in-Second.depth c.in-Second.inner.now test a b c.if-depth-eq0-2.false m
     (subst (λ z. IsShaped z (alt test a b)) (sym c.tree.view_is ∙ ap tree_of c.in-Second.is) h)

@@ -14,8 +14,9 @@ form_choice : (f : Form) → ((n : ℕ) (b : _) → f ≡ forms.First n b → �
 form_choice (forms.First n b) d e = absurd (d n b refl)
 form_choice (forms.Second n b) d e = absurd (e n b refl)
 form_choice (forms.Mark s spacing span) d e = mark_choice (sign_text s) spacing
-form_choice (forms.Turns v) d e = turns_choice v.items
-form_choice (forms.Elements s v o) d e = elements_choice (separator_of s) v.items (λ b. b.value) o
+form_choice (forms.Turns v) d e = turns_choice v.now
+form_choice (forms.Elements l) d e =
+    elements_choice (separator_of l.now.separator) l.now.before.now (λ b. b.now) l.now.last
 form_choice _ d e = refl
 
 pub returns-in_default : goal.returns-in_default
@@ -26,6 +27,5 @@ returns-in_default t c = λ y q.
 
 pub returns-then-depth-number-2 : goal.returns-then-depth-number-2
 returns-then-depth-number-2 t c =
-    nth_inside c.nth.result c.args.tree.now c.in-Second.depth c.args.number c.in-Second.inner.value
-    c.deref-then-depth-number-2.result.now (sym c.tree.view_is ∙ ap tree_of c.in-Second.is) c.if-depth-number-2.true
-    c.deref-then-depth-number-2.ensures c.nth.ensures
+    nth_inside c.nth.result c.args.tree.now c.in-Second.depth c.args.number c.in-Second.inner.now c.in-Second.inner.now
+    (sym c.tree.view_is ∙ ap tree_of c.in-Second.is) c.if-depth-number-2.true refl c.nth.ensures
