@@ -35,7 +35,6 @@ pub(crate) enum Around {
 }
 
 // The tree with that around it.
-#[inline(never)]
 fn surrounded<'a>(arena: &'a Arena, around: Around, tree: Tree<'a>) -> Result<Tree<'a>, AllocError>
     ensures { IfOk result (λ x. x ≡ around_of around tree.entry) }
 {
@@ -60,7 +59,6 @@ fn around_wanted(around: Around, at: &[Entry<'_>], refusal: Refusal) -> Refusal
 }
 
 /// What was read, from there on, with that around it.
-#[inline(never)]
 pub(crate) fn surround<'a>(
     arena: &'a Arena,
     around: Around,

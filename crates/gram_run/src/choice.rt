@@ -16,7 +16,6 @@ use gram_table::op::{Op, Test};
 use syn_buffer::entry::Entry;
 
 /// The two parts of a sequence, of which the first takes so many steps.
-#[inline(never)]
 pub(crate) fn halves(count: usize, parts: &'static [Op]) -> Option<(&'static [Op], &'static [Op])>
     ensures says { MatchOption result (gram_of (ops.Seq count ∷ parts.now) ≡ never)
         (λ x. gram_of (ops.Seq count ∷ parts.now) ≡ seq (gram_of x.0.now) (gram_of x.1.now)) }
@@ -40,7 +39,6 @@ pub(crate) struct Choice {
 
 /// The part that is chosen there, of two of which the first takes so many steps; where the second is a choice itself,
 /// the part that is chosen in that.
-#[inline(never)]
 pub(crate) fn chosen<R: Rules>(
     rules: &R,
     test: Test,

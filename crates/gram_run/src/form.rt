@@ -12,7 +12,6 @@ use gram_tree::tree::Tree;
 use std::alloc::AllocError;
 
 /// The form that begins with its own part.
-#[inline(never)]
 pub(crate) fn begun<'a>(
     arena: &'a Arena,
     kind: Kind,
@@ -28,7 +27,6 @@ pub(crate) fn begun<'a>(
 }
 
 /// The form that goes on from its left operand.
-#[inline(never)]
 pub(crate) fn extended<'a>(
     arena: &'a Arena,
     left: Tree<'a>,

@@ -42,7 +42,6 @@ fn is_same(found: Delimiter, wanted: Delimiter) -> bool
 
 /// The group with that delimiter that stands there.
 #[tactic(auto, unfolding(syn_grammar::specs::Run::group_at))]
-#[inline(never)]
 pub(crate) fn enter<'a>(delimiter: Delimiter, at: &'a [Entry<'a>]) -> Option<Opened<'a>>
     requires { IsTrue (is_whole at.now) }
     ensures enters { MatchOption result
@@ -83,7 +82,6 @@ fn closed(refusal: Refusal, span: Span) -> Refusal
 }
 
 /// A group, of what was read of its inside, where that is all of it; and what stands behind it.
-#[inline(never)]
 pub(crate) fn grouped<'a>(
     arena: &'a Arena,
     delimiter: Delimiter,

@@ -22,7 +22,6 @@ use syn_buffer::entry::Entry;
 
 /// A word that passes.
 #[tactic(auto, unfolding(syn_grammar::specs::Run::word_at))]
-#[inline(never)]
 pub(crate) fn word<'a>(
     words: Words,
     at: &'a [Entry<'a>],
@@ -43,7 +42,6 @@ pub(crate) fn word<'a>(
 
 /// A literal that passes.
 #[tactic(auto, using(crate::proofs::Groups::behind_literal), unfolding(syn_grammar::specs::Run::literal_at))]
-#[inline(never)]
 pub(crate) fn literal<'a, R: Rules>(
     rules: &R,
     literals: Literals,
@@ -83,7 +81,6 @@ pub(crate) fn mark<'a, R: Rules>(
 
 /// `'` and a word.
 #[tactic(auto, unfolding(syn_grammar::specs::Run::lifetime_at))]
-#[inline(never)]
 pub(crate) fn lifetime<'a>(at: &'a [Entry<'a>]) -> Result<(Tree<'a>, &'a [Entry<'a>]), Refusal>
     requires { IsTrue (is_whole at.now) }
     ensures answer { Gives (λ x. x.0) (λ x. x.1.now) result (lifetime_at (tokens at.now)) }
@@ -101,7 +98,6 @@ pub(crate) fn lifetime<'a>(at: &'a [Entry<'a>]) -> Result<(Tree<'a>, &'a [Entry<
 
 /// All that is left, as it is.
 #[tactic(auto, using(crate::proofs::Leaves::raw_read, crate::proofs::Leaves::dropped_all))]
-#[inline(never)]
 pub(crate) fn raw<'a>(at: &'a [Entry<'a>]) -> (Tree<'a>, &'a [Entry<'a>])
     requires { IsTrue (is_whole at.now) }
     ensures answer { raw_at (tokens at.now) ≡ Got result.0 (tokens result.1.now) }
@@ -112,7 +108,6 @@ pub(crate) fn raw<'a>(at: &'a [Entry<'a>]) -> (Tree<'a>, &'a [Entry<'a>])
 
 /// The mark that separates the elements of a list, and what stands behind it.
 #[tactic(auto, unfolding(syn_grammar::specs::Run::mark_at))]
-#[inline(never)]
 pub(crate) fn separator<'a>(
     separator: Separator,
     at: &'a [Entry<'a>],

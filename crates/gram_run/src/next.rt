@@ -26,7 +26,6 @@ pub(crate) enum Next {
 
 /// What goes on from a left operand, in an operand of an operator of the level.
 #[tactic(auto, using(crate::proofs::Operands::over, crate::proofs::Operands::unfit, crate::proofs::Operands::fit))]
-#[inline(never)]
 pub(crate) fn next_of<R: Rules>(
     rules: &R,
     position: Position,

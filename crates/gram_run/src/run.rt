@@ -2,8 +2,9 @@
 //!
 //! Each function takes how many calls deep it may go, as a run of the grammar does, and answers what that run does.
 //!
-//! Tokens may stand deep in one another, and a program's stack is small. So the compiler is told to put no function
-//! into another one, but `step` into `interp`: each then takes room on the stack for what it keeps itself.
+//! Tokens may stand deep in one another, and a program's stack is small. The steps that lead from one form into another
+//! become one function, `interp`; the compiler is told to leave lists, verdicts, marks and what goes on from a left
+//! operand out of it, as it would need their room at each step.
 
 ghost use Rattle.gram_run.specs.Answers.{Gives, tokens};
 ghost use Rattle.gram_run.specs.Around.{around_of, judged_as};
@@ -40,7 +41,6 @@ use syn_buffer::entry::Entry;
 
 /// A tree of the kind.
 #[cycle(run)]
-#[inline(never)]
 pub(crate) fn call<'a, R: Rules>(
     rules: &R,
     arena: &'a Arena,
@@ -62,7 +62,6 @@ pub(crate) fn call<'a, R: Rules>(
 
 // What the steps say.
 #[cycle(run)]
-#[inline(never)]
 fn interp<'a, R: Rules>(
     rules: &R,
     arena: &'a Arena,
@@ -118,7 +117,6 @@ fn step<'a, R: Rules>(
 
 // What the steps say, with that around it.
 #[cycle(run)]
-#[inline(never)]
 fn within<'a, R: Rules>(
     rules: &R,
     arena: &'a Arena,
@@ -137,7 +135,6 @@ fn within<'a, R: Rules>(
 
 // The part that is chosen.
 #[cycle(run)]
-#[inline(never)]
 fn alt<'a, R: Rules>(
     rules: &R,
     arena: &'a Arena,
@@ -161,7 +158,6 @@ fn alt<'a, R: Rules>(
 
 // A group, and what its inside says.
 #[cycle(run)]
-#[inline(never)]
 fn group<'a, R: Rules>(
     rules: &R,
     arena: &'a Arena,
@@ -208,7 +204,6 @@ fn weighed<'a, R: Rules>(
 
 // An expression that is an operand of an operator of the level.
 #[cycle(run)]
-#[inline(never)]
 fn operand<'a, R: Rules>(
     rules: &R,
     arena: &'a Arena,
@@ -232,7 +227,6 @@ fn operand<'a, R: Rules>(
 
 // A part, and then another.
 #[cycle(run)]
-#[inline(never)]
 fn seq<'a, R: Rules>(
     rules: &R,
     arena: &'a Arena,
@@ -342,7 +336,7 @@ struct OwnPart<'a> {
 
 // The own part of a form of the kind, and its operand.
 #[cycle(run)]
-#[inline(never)]
+#[inline(always)]
 fn own<'a, R: Rules>(
     rules: &R,
     arena: &'a Arena,
@@ -378,7 +372,6 @@ fn own<'a, R: Rules>(
 
 // An operand of an operator of the level.
 #[cycle(run)]
-#[inline(never)]
 fn tower<'a, R: Rules>(
     rules: &R,
     arena: &'a Arena,

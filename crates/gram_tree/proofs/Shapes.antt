@@ -1,5 +1,5 @@
 -- What is left of a tree that is single, and of one that is a choice, by its form.
-use Rattle.std.specs.Prelude.{Bool, false, ◌≡◌, ◌≢◌, ℕ, zero, suc, ◌-◌, List, [], ◌∷◌, Option, Some, None, refl}
+use Rattle.std.specs.Prelude.{false, ◌≡◌, ◌≢◌, ℕ, zero, suc, ◌-◌, List, [], ◌∷◌, Option, Some, None, refl}
 use Rattle.std.proofs.Common.{arith}
 use Rattle.std.specs.Prelude.{option_map}
 use denote.Ref.{Bor}

@@ -1,7 +1,7 @@
 use Rattle.std.proofs.Common.{◌≡◌, ◌-◌, suc, sym, ap, ◌∙◌, arith}
 use Rattle.std.proofs.lemmas.Result.{err_from_is_err_and}
-use Rattle.syn_grammar.specs.Run.{climb, kind, wrap, run, interp, Got}
-use Rattle.syn_grammar.specs.Tree.{Node, Alone, Front, Back, Infix}
+use Rattle.syn_grammar.specs.Run.{climb, run, Got}
+use Rattle.syn_grammar.specs.Tree.{Alone, Front, Back, Infix}
 use Rattle.gram_table.specs.Kinds.{kind_of, position_of}
 use Rattle.gram_table.specs.Looks.{test_of}
 use Rattle.gram_table.specs.Ops.{gram_of, separator_of}
