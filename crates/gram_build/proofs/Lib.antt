@@ -6,4 +6,3 @@ pub mod Owns
 pub mod Fielded
 pub mod Parts
 pub mod Builds
-pub mod Fronts

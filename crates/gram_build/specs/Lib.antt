@@ -6,4 +6,3 @@ pub mod Ropes
 pub mod Kept
 pub mod Found
 pub mod Asked
-pub mod Front

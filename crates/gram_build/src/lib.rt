@@ -5,11 +5,11 @@
 //! of an operand that is written its first tokens and ten facts are kept. That this writes the normal form is the law
 //! of `binding_laws` of one who writes in one pass. `specs/Begins` has what tokens begin with, `specs/Heads` the first
 //! tokens, `specs/Facts`, `specs/Ropes` and `specs/Kept` what is kept of an operand, `specs/Behind` and
-//! `specs/Found` what numbers behind dots are, `specs/Asked` what is written, and `specs/Front` what stays in front of it.
+//! `specs/Found` what numbers behind dots are, and `specs/Asked` what is written.
 //!
 //! In `proofs/`: `Begins` (what looks see is seen at the first three tokens), `Heads` (the first tokens of what is
 //! joined), `Lasts` (what ends in a name), `Owns` (own parts in normal form), `Fielded` and `Parts` (numbers behind
-//! dots), `Builds` (each form), `Pushing` (tokens that are put), `Fronts` (what stays in front of them).
+//! dots), `Builds` (each form), `Pushing` (tokens that are put).
 //!
 //! - `head`: the first tokens of something.
 //! - `sight`: what is seen there.

@@ -1,13 +1,16 @@
 -- Raw turns among statements, and tokens whose last one is set apart.
 use Rattle.std.specs.Prelude.{◌≡◌, ℕ, zero, suc, ◌<◌, ◌≤◌, false, List, [], ◌∷◌, ◌++◌, Option, Some}
 use Rattle.std.specs.Prelude.{None, length, refl}
-use Rattle.std.proofs.Common.{ap, ◌∙◌, sym, arith}
+use Rattle.std.proofs.Common.{ap, ◌∙◌, sym, arith, ◌+◌, map, take, set, get_or}
+use Rattle.std.proofs.lemmas.List.{length-map, length-set, map-append, take_all, take_more, take_more_set}
 use Rattle.proc_macro2.specs.Token.{Token, Punct}
 use Rattle.rust_leaf.specs.declared.punct.Spacing.{Spacing}
 use Rattle.syn_grammar.specs.Kind.{AStatement}
 use Rattle.syn_grammar.specs.Normal.{apart}
 use Rattle.syn_grammar.specs.Tree as t
 use Rattle.syn_grammar.specs.Tree.{Tree}
+use Rattle.gram_piece.specs.Pieces.{piece_token}
+use Rattle.gram_piece.specs.declared.piece.Piece.{Piece}
 use Rattle.gram_tree.specs.declared.tree.Element.{Element}
 use Rattle.gram_tree.specs.Forms.{mark_of, seconds, turns, elements, ending}
 use Rattle.gram_tree.specs.Shapes.{first_of, last_of}
@@ -106,3 +109,21 @@ apart_none (x ∷ ts) us (v ∷ vs) e h =
     let rest : vs ≡ ts ++ us = cc in
     let less : length vs ≤ length ts = omega (arith, h) in
     let found = apart_none ts us vs rest less in cc (head, found)
+
+-- the last token is put anew
+pub apart_at : (ps : List Piece) (before n : ℕ) (p q : Piece) (ts us : List Token) → n + 1 ≡ length ps → before ≤ n
+    → p ≡ get_or ps n p → piece_token q ∷ [] ≡ apart (piece_token p ∷ []) → length ts ≡ before
+    → map piece_token ps ≡ ts ++ us → map piece_token (set ps n q) ≡ ts ++ apart us
+apart_at ps before n p q ts us e h i j k l =
+    let vs : List Token = map piece_token (take n ps) in
+    let below : n < length ps = omega arith in
+    let whole : ps ≡ take n ps ++ p ∷ [] =
+    sym (take_all (n + 1) ps (omega arith)) ∙ take_more ps n p below ∙ ap (λ x. take n ps ++ x ∷ []) (sym i) in
+    let changed : set ps n q ≡ take n ps ++ q ∷ [] =
+    sym (take_all (n + 1) (set ps n q) (omega (arith, length-set ps n q))) ∙ take_more_set ps n q below in
+    let parts : map piece_token ps ≡ vs ++ piece_token p ∷ [] =
+    ap (map piece_token) whole ∙ map-append piece_token (take n ps) (p ∷ []) in
+    let less : length ts < length (vs ++ piece_token p ∷ []) =
+    omega (arith, ap length parts, length-map ps piece_token) in
+    ap (map piece_token) changed ∙ map-append piece_token (take n ps) (q ∷ []) ∙ ap (λ xs. vs ++ xs) j
+    ∙ apart_last ts us vs (piece_token p) (sym parts ∙ l) less

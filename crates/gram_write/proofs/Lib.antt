@@ -9,6 +9,7 @@ pub mod Fits
 pub mod Apart
 pub mod Read
 pub mod Pushing
+pub mod Fronts
 pub mod Flat
 pub mod Sizes
 pub mod LaidTrees

@@ -1,3 +1,4 @@
+pub mod Front
 pub mod Said
 pub mod Firsts
 pub mod Turns

@@ -3,6 +3,7 @@
 ghost use Rattle.gram_piece.specs.Pieces.{piece_token};
 ghost use Rattle.gram_table.specs.Ops.{separator_of};
 ghost use Rattle.gram_tree.specs.Forms.{elements, turns};
+ghost use Rattle.gram_write.specs.Front.{Keeps};
 ghost use Rattle.std.specs.Prelude.{◌≡◌, ◌++◌, OnOk, map};
 ghost use Rattle.syn_grammar.specs.Tree as t;
 ghost use Rattle.syn_grammar.specs.Tree.{flat};
@@ -17,11 +18,13 @@ use std::alloc::AllocError;
 ///
 /// # Errors
 ///
-/// Where there is no memory for more tokens.
+/// Where there is no memory for more tokens. Those that stood there stand in front then too, perhaps with some of the
+/// tree's behind them.
 #[cycle(as_read)]
-#[tactic(auto, using(crate::proofs::Flat::forms))]
+#[tactic(auto, using(crate::proofs::Flat::forms, crate::proofs::Fronts::kept))]
 pub fn put_as_read<'a>(tree: &Tree<'a>, out: &mut Vec<Piece<'a>>) -> Result<(), AllocError>
-    ensures { OnOk result (map piece_token out.new.items ≡ map piece_token out.old.items ++ flat tree.now) }
+    ensures put { OnOk result (map piece_token out.new.items ≡ map piece_token out.old.items ++ flat tree.now) }
+    ensures keeps { Keeps out.old.items out.new.items }
 {
     match &tree.form {
         Form::Word(ident) => one(Piece::Ident(ident), out),
@@ -61,10 +64,11 @@ pub fn put_as_read<'a>(tree: &Tree<'a>, out: &mut Vec<Piece<'a>>) -> Result<(), 
 
 // The tokens of one tree, and then those of another.
 #[cycle(as_read)]
-#[tactic(auto, using(crate::proofs::Pushing::puts))]
+#[tactic(auto, using(crate::proofs::Pushing::puts, crate::proofs::Fronts::kept))]
 fn put_two<'a>(two: &Two<'a>, out: &mut Vec<Piece<'a>>) -> Result<(), AllocError>
-    ensures { OnOk result (map piece_token out.new.items
+    ensures put { OnOk result (map piece_token out.new.items
         ≡ map piece_token out.old.items ++ (flat two.now.front ++ flat two.now.back)) }
+    ensures keeps { Keeps out.old.items out.new.items }
 {
     put_as_read(&two.front, out)?;
     put_as_read(&two.back, out)
@@ -72,10 +76,11 @@ fn put_two<'a>(two: &Two<'a>, out: &mut Vec<Piece<'a>>) -> Result<(), AllocError
 
 // The tokens of turns, one behind the other.
 #[cycle(as_read)]
-#[tactic(auto, using(crate::proofs::Pushing::puts))]
+#[tactic(auto, using(crate::proofs::Pushing::puts, crate::proofs::Fronts::kept))]
 fn put_turns<'a>(trees: &[Tree<'a>], out: &mut Vec<Piece<'a>>) -> Result<(), AllocError>
-    ensures { OnOk result (map piece_token out.new.items
+    ensures put { OnOk result (map piece_token out.new.items
         ≡ map piece_token out.old.items ++ flat (turns trees.now)) }
+    ensures keeps { Keeps out.old.items out.new.items }
 {
     for tree in trees {
         put_as_read(tree, out)?;
@@ -85,14 +90,15 @@ fn put_turns<'a>(trees: &[Tree<'a>], out: &mut Vec<Piece<'a>>) -> Result<(), All
 
 // The tokens of elements, and of the mark behind each.
 #[cycle(as_read)]
-#[tactic(auto, using(crate::proofs::Pushing::puts))]
+#[tactic(auto, using(crate::proofs::Pushing::puts, crate::proofs::Fronts::kept))]
 fn put_elements<'a>(
     mark: Separator,
     before: &[Element<'a>],
     out: &mut Vec<Piece<'a>>,
 ) -> Result<(), AllocError>
-    ensures { OnOk result (map piece_token out.new.items
+    ensures put { OnOk result (map piece_token out.new.items
         ≡ map piece_token out.old.items ++ flat (elements (separator_of mark) before.now t.End)) }
+    ensures keeps { Keeps out.old.items out.new.items }
 {
     for element in before {
         put_as_read(&element.tree, out)?;

@@ -2,6 +2,7 @@
 
 ghost use Rattle.gram_piece.specs.Pieces.{piece_token};
 ghost use Rattle.gram_table.specs.Kinds.{kind_of};
+ghost use Rattle.gram_write.specs.Front.{Keeps};
 ghost use Rattle.gram_write.specs.Laid.{behind_laid, given_laid, has_attributes, laid};
 ghost use Rattle.gram_write.specs.Operands.{rest_laid};
 ghost use Rattle.proc_macro2.specs.Token as token;
@@ -24,24 +25,26 @@ use proc_macro2::delimiter::Delimiter;
 use std::alloc::AllocError;
 
 // A token, if it is to be put.
-#[tactic(auto, using(crate::proofs::Pushing::puts))]
+#[tactic(auto, using(crate::proofs::Pushing::puts, crate::proofs::Fronts::kept))]
 fn put_if<'a>(wanted: bool, piece: Piece<'a>, out: &mut Vec<Piece<'a>>) -> Result<(), AllocError>
-    ensures { OnOk result (map piece_token out.new.items
+    ensures put { OnOk result (map piece_token out.new.items
         ≡ map piece_token out.old.items ++ cond wanted (piece_token piece.entry ∷ []) []) }
+    ensures keeps { Keeps out.old.items out.new.items }
 {
     if wanted { one(piece, out) } else { Ok(()) }
 }
 
 // An operand, in parentheses or not.
 #[cycle(laid)]
-#[tactic(auto, using(crate::proofs::Expressing::operands))]
+#[tactic(auto, using(crate::proofs::Expressing::operands, crate::proofs::Fronts::kept))]
 fn put_operand<'a>(
     enclosed: bool,
     tree: &Tree<'a>,
     out: &mut Vec<Piece<'a>>,
 ) -> Result<(), AllocError>
-    ensures { OnOk result (map piece_token out.new.items
+    ensures put { OnOk result (map piece_token out.new.items
         ≡ map piece_token out.old.items ++ enclosed_if enclosed (laid tree.now)) }
+    ensures keeps { Keeps out.old.items out.new.items }
 {
     put_if(enclosed, Piece::Open(Delimiter::Parenthesis), out)?;
     put_laid(Within::Anywhere, tree, out)?;
@@ -54,14 +57,15 @@ fn put_operand<'a>(
 ///
 /// Where there is no memory for more tokens.
 #[cycle(laid)]
-#[tactic(auto, using(crate::proofs::Pushing::puts))]
+#[tactic(auto, using(crate::proofs::Pushing::puts, crate::proofs::Fronts::kept))]
 pub(crate) fn put_front<'a>(
     kind: Kind,
     two: &Two<'a>,
     out: &mut Vec<Piece<'a>>,
 ) -> Result<(), AllocError>
-    ensures { OnOk result (map piece_token out.new.items ≡ map piece_token out.old.items
+    ensures put { OnOk result (map piece_token out.new.items ≡ map piece_token out.old.items
         ++ (laid two.now.front ++ enclosed_if (is_shelled (kind_of kind) two.now.back) (laid two.now.back))) }
+    ensures keeps { Keeps out.old.items out.new.items }
 {
     put_laid(Within::Anywhere, &two.front, out)?;
     put_operand(is_shelled(kind, &two.back), &two.back, out)
@@ -73,15 +77,16 @@ pub(crate) fn put_front<'a>(
 ///
 /// Where there is no memory for more tokens.
 #[cycle(laid)]
-#[tactic(auto, using(crate::proofs::Pushing::puts))]
+#[tactic(auto, using(crate::proofs::Pushing::puts, crate::proofs::Fronts::kept))]
 pub(crate) fn put_back<'a>(
     kind: Kind,
     two: &Two<'a>,
     out: &mut Vec<Piece<'a>>,
 ) -> Result<(), AllocError>
-    ensures { OnOk result (map piece_token out.new.items ≡ map piece_token out.old.items
+    ensures put { OnOk result (map piece_token out.new.items ≡ map piece_token out.old.items
         ++ (enclosed_if (goes_in (kind_of kind) two.now.front) (laid two.now.front)
         ++ behind_laid (kind_of kind) two.now.back)) }
+    ensures keeps { Keeps out.old.items out.new.items }
 {
     put_operand(goes_in(kind, &two.front), &two.front, out)?;
     put_own(kind, &two.back, out)
@@ -89,10 +94,11 @@ pub(crate) fn put_back<'a>(
 
 // The own part of a form behind its left operand, whose numbers behind a dot are split.
 #[cycle(laid)]
-#[tactic(auto, using(crate::proofs::Laying::owns))]
+#[tactic(auto, using(crate::proofs::Laying::owns, crate::proofs::Fronts::kept))]
 fn put_own<'a>(kind: Kind, own: &Tree<'a>, out: &mut Vec<Piece<'a>>) -> Result<(), AllocError>
-    ensures { OnOk result (map piece_token out.new.items
+    ensures put { OnOk result (map piece_token out.new.items
         ≡ map piece_token out.old.items ++ behind_laid (kind_of kind) own.now) }
+    ensures keeps { Keeps out.old.items out.new.items }
 {
     if !is_dotted(kind) {
         return put_laid(Within::Anywhere, own, out);
@@ -114,15 +120,16 @@ fn put_own<'a>(kind: Kind, own: &Tree<'a>, out: &mut Vec<Piece<'a>>) -> Result<(
 ///
 /// Where there is no memory for more tokens.
 #[cycle(laid)]
-#[tactic(auto, using(crate::proofs::Pushing::puts))]
+#[tactic(auto, using(crate::proofs::Pushing::puts, crate::proofs::Fronts::kept))]
 pub(crate) fn put_infix<'a>(
     kind: Kind,
     three: &Three<'a>,
     out: &mut Vec<Piece<'a>>,
 ) -> Result<(), AllocError>
-    ensures { OnOk result (map piece_token out.new.items ≡ map piece_token out.old.items
+    ensures put { OnOk result (map piece_token out.new.items ≡ map piece_token out.old.items
         ++ (enclosed_if (goes_in (kind_of kind) three.now.left) (laid three.now.left)
         ++ (laid three.now.own ++ laid three.now.right))) }
+    ensures keeps { Keeps out.old.items out.new.items }
 {
     put_operand(goes_in(kind, &three.left), &three.left, out)?;
     put_laid(Within::Anywhere, &three.own, out)?;
@@ -131,10 +138,11 @@ pub(crate) fn put_infix<'a>(
 
 // What stands behind a left operand.
 #[cycle(laid)]
-#[tactic(auto, using(crate::proofs::Expressing::rests))]
+#[tactic(auto, using(crate::proofs::Expressing::rests, crate::proofs::Fronts::kept))]
 fn put_rest<'a>(tree: &Tree<'a>, out: &mut Vec<Piece<'a>>) -> Result<(), AllocError>
-    ensures { OnOk result (map piece_token out.new.items
+    ensures put { OnOk result (map piece_token out.new.items
         ≡ map piece_token out.old.items ++ rest_laid tree.now) }
+    ensures keeps { Keeps out.old.items out.new.items }
 {
     if let Some((_, three)) = infix(tree) {
         put_laid(Within::Anywhere, &three.own, out)?;
@@ -148,14 +156,15 @@ fn put_rest<'a>(tree: &Tree<'a>, out: &mut Vec<Piece<'a>>) -> Result<(), AllocEr
 
 // An expression with attributes, which are given to the leftmost operand; a range gets parentheses behind them.
 #[cycle(laid)]
-#[tactic(auto, using(crate::proofs::Expressing::gives))]
+#[tactic(auto, using(crate::proofs::Expressing::gives, crate::proofs::Fronts::kept))]
 fn put_given<'a>(
     attributes: &Tree<'a>,
     tree: &Tree<'a>,
     out: &mut Vec<Piece<'a>>,
 ) -> Result<(), AllocError>
-    ensures { OnOk result (map piece_token out.new.items
+    ensures put { OnOk result (map piece_token out.new.items
         ≡ map piece_token out.old.items ++ given_laid (laid attributes.now) (laid tree.now) tree.now) }
+    ensures keeps { Keeps out.old.items out.new.items }
 {
     let Some((kind, left)) = giving(tree) else {
         put_laid(Within::Anywhere, attributes, out)?;
@@ -170,15 +179,16 @@ fn put_given<'a>(
 
 // An expression behind what stands before it in a statement.
 #[cycle(laid)]
-#[tactic(auto, using(crate::proofs::Pushing::puts))]
+#[tactic(auto, using(crate::proofs::Pushing::puts, crate::proofs::Fronts::kept))]
 fn put_before<'a>(
     before: &Tree<'a>,
     form: &Tree<'a>,
     out: &mut Vec<Piece<'a>>,
 ) -> Result<(), AllocError>
-    ensures { OnOk result (map piece_token out.new.items ≡ map piece_token out.old.items
+    ensures put { OnOk result (map piece_token out.new.items ≡ map piece_token out.old.items
         ++ cond (has_attributes before.now) (given_laid (laid before.now) (laid form.now) form.now)
         (laid before.now ++ laid form.now)) }
+    ensures keeps { Keeps out.old.items out.new.items }
 {
     if has_attributes(before) {
         return put_given(before, form, out);
@@ -193,13 +203,14 @@ fn put_before<'a>(
 ///
 /// Where there is no memory for more tokens.
 #[cycle(laid)]
-#[tactic(auto, using(crate::proofs::Expressing::statements))]
+#[tactic(auto, using(crate::proofs::Expressing::statements, crate::proofs::Fronts::kept))]
 pub(crate) fn put_statement<'a>(
     inner: &Tree<'a>,
     out: &mut Vec<Piece<'a>>,
 ) -> Result<(), AllocError>
-    ensures { OnOk result (map piece_token out.new.items
+    ensures put { OnOk result (map piece_token out.new.items
         ≡ map piece_token out.old.items ++ laid (t.Node AStatement inner.now)) }
+    ensures keeps { Keeps out.old.items out.new.items }
 {
     let Some(parts) = stated(inner) else {
         return put_laid(Within::Anywhere, inner, out);

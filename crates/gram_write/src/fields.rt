@@ -3,6 +3,7 @@
 ghost use Rattle.gram_look.specs.Texts.{IsFrom};
 ghost use Rattle.gram_piece.specs.Pieces.{piece_token};
 ghost use Rattle.gram_tree.specs.Forms.{turns};
+ghost use Rattle.gram_write.specs.Front.{Keeps};
 ghost use Rattle.gram_write.specs.Said.{fields, front_fields};
 ghost use Rattle.proc_macro2.specs.Token as token;
 ghost use Rattle.rust_leaf.specs.Leaf.{literal_text};
@@ -68,19 +69,21 @@ fn whole_index(text: &str) -> u32
 /// # Errors
 ///
 /// Where there is no memory for more tokens.
-#[tactic(auto, unfolding(syn_grammar::specs::Words::plain_decimal))]
+#[tactic(auto, unfolding(syn_grammar::specs::Words::plain_decimal), using(crate::proofs::Fronts::kept))]
 pub(crate) fn number<'a>(literal: &Literal, out: &mut Vec<Piece<'a>>) -> Result<(), AllocError>
-    ensures { OnOk result (map piece_token out.new.items
+    ensures put { OnOk result (map piece_token out.new.items
         ≡ map piece_token out.old.items ++ token.Literal (plain_decimal (literal_text literal.now)) ∷ []) }
+    ensures keeps { Keeps out.old.items out.new.items }
 {
     one(Piece::Index(whole_index(literal.as_str())), out)
 }
 
 // Puts the index that stands up to the first dot behind a dot. What is left from that dot on.
-#[tactic(auto, unfolding(syn_grammar::specs::Words::plain_decimal), using(crate::proofs::Pushing::puts))]
+#[tactic(auto, unfolding(syn_grammar::specs::Words::plain_decimal), using(crate::proofs::Pushing::puts, crate::proofs::Fronts::kept))]
 fn field<'a, 't>(text: &'t str, out: &mut Vec<Piece<'a>>) -> Result<&'t str, AllocError>
     ensures put { OnOk result (map piece_token out.new.items ≡ map piece_token out.old.items
         ++ token.Punct 46 Apart ∷ token.Literal (plain_decimal (before_dot (chars text.now))) ∷ []) }
+    ensures keeps { Keeps out.old.items out.new.items }
     ensures left { IfOk result (λ left. IsFrom (chars text.now) (chars left.now)) }
     ensures shorter { IfOk result (λ left. length left.now ≤ length text.now) }
 {
@@ -91,10 +94,11 @@ fn field<'a, 't>(text: &'t str, out: &mut Vec<Piece<'a>>) -> Result<&'t str, All
 }
 
 // Puts the indices of a text, each behind a dot.
-#[tactic(auto, using(crate::proofs::Indices::all_fields))]
+#[tactic(auto, using(crate::proofs::Indices::all_fields, crate::proofs::Fronts::kept))]
 fn text_fields<'a>(text: &str, out: &mut Vec<Piece<'a>>) -> Result<(), AllocError>
-    ensures { OnOk result (map piece_token out.new.items
+    ensures put { OnOk result (map piece_token out.new.items
         ≡ map piece_token out.old.items ++ fields (indices (chars text.now))) }
+    ensures keeps { Keeps out.old.items out.new.items }
 {
     let left = field(text, out)?;
     let Some((_, behind)) = first_char(left) else {
@@ -110,10 +114,12 @@ fn text_fields<'a>(text: &str, out: &mut Vec<Piece<'a>>) -> Result<(), AllocErro
 ///
 /// # Errors
 ///
-/// Where there is no memory for more tokens.
+/// Where there is no memory for more tokens. Those that stood there stand in front then too.
+#[tactic(auto, using(crate::proofs::Fronts::kept))]
 pub fn put_fields<'a>(literal: &Literal, out: &mut Vec<Piece<'a>>) -> Result<(), AllocError>
-    ensures { OnOk result (map piece_token out.new.items
+    ensures put { OnOk result (map piece_token out.new.items
         ≡ map piece_token out.old.items ++ fields (indices (literal_text literal.now))) }
+    ensures keeps { Keeps out.old.items out.new.items }
 {
     text_fields(literal.as_str(), out)
 }
@@ -122,11 +128,12 @@ pub fn put_fields<'a>(literal: &Literal, out: &mut Vec<Piece<'a>>) -> Result<(),
 ///
 /// # Errors
 ///
-/// Where there is no memory for more tokens.
-#[tactic(auto, using(crate::proofs::Indices::fronts))]
+/// Where there is no memory for more tokens. Those that stood there stand in front then too.
+#[tactic(auto, using(crate::proofs::Indices::fronts, crate::proofs::Fronts::kept))]
 pub fn put_front_fields<'a>(numbers: &Tree<'_>, out: &mut Vec<Piece<'a>>) -> Result<(), AllocError>
-    ensures { OnOk result (map piece_token out.new.items
+    ensures put { OnOk result (map piece_token out.new.items
         ≡ map piece_token out.old.items ++ front_fields numbers.now) }
+    ensures keeps { Keeps out.old.items out.new.items }
 {
     match &numbers.form {
         Form::Turns(turns) => put_each(turns, out),
@@ -135,10 +142,11 @@ pub fn put_front_fields<'a>(numbers: &Tree<'_>, out: &mut Vec<Piece<'a>>) -> Res
 }
 
 // The same of turns, up to one that is no number.
-#[tactic(auto, using(crate::proofs::Indices::fronts))]
+#[tactic(auto, using(crate::proofs::Indices::fronts, crate::proofs::Fronts::kept))]
 fn put_each<'a>(numbers: &[Tree<'_>], out: &mut Vec<Piece<'a>>) -> Result<(), AllocError>
-    ensures { OnOk result (map piece_token out.new.items
+    ensures put { OnOk result (map piece_token out.new.items
         ≡ map piece_token out.old.items ++ front_fields (turns numbers.now)) }
+    ensures keeps { Keeps out.old.items out.new.items }
 {
     for number in numbers {
         let Some(literal) = literal(number) else {

@@ -3,6 +3,7 @@
 ghost use Rattle.gram_piece.specs.Pieces.{piece_token};
 ghost use Rattle.gram_table.specs.Ops.{separator_of};
 ghost use Rattle.gram_tree.specs.Forms.{elements};
+ghost use Rattle.gram_write.specs.Front.{Keeps};
 ghost use Rattle.gram_write.specs.Laid.{firsts_laid, laid, laid_in, others_laid, those_laid};
 ghost use Rattle.gram_write.specs.Way.{passes, way_laid};
 ghost use Rattle.std.specs.Prelude.{[], ◌++◌, ◌≡◌, OnOk, false, map};
@@ -30,13 +31,14 @@ use std::alloc::AllocError;
 ///
 /// Where there is no memory for more tokens.
 #[cycle(laid)]
-#[tactic(auto, using(crate::proofs::Laying::forms))]
+#[tactic(auto, using(crate::proofs::Laying::forms, crate::proofs::Fronts::kept))]
 pub(crate) fn put_laid<'a>(
     within: Within,
     tree: &Tree<'a>,
     out: &mut Vec<Piece<'a>>,
 ) -> Result<(), AllocError>
-    ensures { OnOk result (map piece_token out.new.items ≡ map piece_token out.old.items ++ laid_in within tree.now) }
+    ensures put { OnOk result (map piece_token out.new.items ≡ map piece_token out.old.items ++ laid_in within tree.now) }
+    ensures keeps { Keeps out.old.items out.new.items }
 {
     match &tree.form {
         Form::Word(ident) => one(Piece::Ident(ident), out),
@@ -72,10 +74,11 @@ pub(crate) fn put_laid<'a>(
 
 // The tokens of one tree, and then those of another.
 #[cycle(laid)]
-#[tactic(auto, using(crate::proofs::Pushing::puts))]
+#[tactic(auto, using(crate::proofs::Pushing::puts, crate::proofs::Fronts::kept))]
 fn put_two<'a>(within: Within, two: &Two<'a>, out: &mut Vec<Piece<'a>>) -> Result<(), AllocError>
-    ensures { OnOk result (map piece_token out.new.items
+    ensures put { OnOk result (map piece_token out.new.items
         ≡ map piece_token out.old.items ++ (laid_in within two.now.front ++ laid_in within two.now.back)) }
+    ensures keeps { Keeps out.old.items out.new.items }
 {
     put_laid(within, &two.front, out)?;
     put_laid(within, &two.back, out)
@@ -83,14 +86,15 @@ fn put_two<'a>(within: Within, two: &Two<'a>, out: &mut Vec<Piece<'a>>) -> Resul
 
 // The tokens of elements, and of the mark behind each.
 #[cycle(laid)]
-#[tactic(auto, using(crate::proofs::Pushing::puts))]
+#[tactic(auto, using(crate::proofs::Pushing::puts, crate::proofs::Fronts::kept))]
 fn put_elements<'a>(
     mark: Separator,
     before: &[Element<'a>],
     out: &mut Vec<Piece<'a>>,
 ) -> Result<(), AllocError>
-    ensures { OnOk result (map piece_token out.new.items
+    ensures put { OnOk result (map piece_token out.new.items
         ≡ map piece_token out.old.items ++ laid (elements (separator_of mark) before.now t.End)) }
+    ensures keeps { Keeps out.old.items out.new.items }
 {
     for element in before {
         put_laid(Within::Anywhere, &element.tree, out)?;
@@ -101,10 +105,11 @@ fn put_elements<'a>(
 
 // The inside of a node or of a part, written in that way.
 #[cycle(laid)]
-#[tactic(auto, using(crate::proofs::Pushing::puts))]
+#[tactic(auto, using(crate::proofs::Pushing::puts, crate::proofs::Fronts::kept))]
 fn put_so<'a>(way: Way<'a>, inner: &Tree<'a>, out: &mut Vec<Piece<'a>>) -> Result<(), AllocError>
-    ensures { OnOk result (map piece_token out.new.items
+    ensures put { OnOk result (map piece_token out.new.items
         ≡ map piece_token out.old.items ++ way_laid way.entry inner.now) }
+    ensures keeps { Keeps out.old.items out.new.items }
 {
     match way {
         Way::Nothing => Ok(()),
@@ -118,10 +123,11 @@ fn put_so<'a>(way: Way<'a>, inner: &Tree<'a>, out: &mut Vec<Piece<'a>>) -> Resul
 
 // A parameter, which gets the pattern `_` and a colon where it is a type alone.
 #[cycle(laid)]
-#[tactic(auto, using(crate::proofs::Laying::parameters))]
+#[tactic(auto, using(crate::proofs::Laying::parameters, crate::proofs::Fronts::kept))]
 fn put_parameter<'a>(inner: &Tree<'a>, out: &mut Vec<Piece<'a>>) -> Result<(), AllocError>
-    ensures { OnOk result (map piece_token out.new.items
+    ensures put { OnOk result (map piece_token out.new.items
         ≡ map piece_token out.old.items ++ laid (t.Node Parameter inner.now)) }
+    ensures keeps { Keeps out.old.items out.new.items }
 {
     let Some((front, given)) = type_alone(inner) else {
         return put_laid(Within::Anywhere, inner, out);
@@ -134,14 +140,15 @@ fn put_parameter<'a>(inner: &Tree<'a>, out: &mut Vec<Piece<'a>>) -> Result<(), A
 
 // A list: the elements that come first, and then the others. The last one gets a comma where others follow it.
 #[cycle(laid)]
-#[tactic(auto, using(crate::proofs::Laying::lists))]
+#[tactic(auto, using(crate::proofs::Laying::lists, crate::proofs::Fronts::kept))]
 fn put_firsts<'a>(
     which: Firsts,
     list: &Tree<'a>,
     out: &mut Vec<Piece<'a>>,
 ) -> Result<(), AllocError>
-    ensures { OnOk result (map piece_token out.new.items
+    ensures put { OnOk result (map piece_token out.new.items
         ≡ map piece_token out.old.items ++ firsts_laid (passes which) list.now) }
+    ensures keeps { Keeps out.old.items out.new.items }
 {
     let Form::Elements(elements) = &list.form else {
         return put_laid(Within::Anywhere, list, out);
@@ -162,15 +169,16 @@ fn put_firsts<'a>(
 
 // The elements that come first, each with the mark behind it.
 #[cycle(laid)]
-#[tactic(auto, using(crate::proofs::Pushing::puts))]
+#[tactic(auto, using(crate::proofs::Pushing::puts, crate::proofs::Fronts::kept))]
 fn put_those<'a>(
     which: Firsts,
     mark: Separator,
     before: &[Element<'a>],
     out: &mut Vec<Piece<'a>>,
 ) -> Result<(), AllocError>
-    ensures { OnOk result (map piece_token out.new.items ≡ map piece_token out.old.items
+    ensures put { OnOk result (map piece_token out.new.items ≡ map piece_token out.old.items
         ++ those_laid (passes which) false (elements (separator_of mark) before.now t.End)) }
+    ensures keeps { Keeps out.old.items out.new.items }
 {
     for element in before {
         if passes(which, &element.tree) {
@@ -183,15 +191,16 @@ fn put_those<'a>(
 
 // The other elements, each with the mark behind it.
 #[cycle(laid)]
-#[tactic(auto, using(crate::proofs::Laying::others))]
+#[tactic(auto, using(crate::proofs::Laying::others, crate::proofs::Fronts::kept))]
 fn put_others<'a>(
     which: Firsts,
     mark: Separator,
     before: &[Element<'a>],
     out: &mut Vec<Piece<'a>>,
 ) -> Result<(), AllocError>
-    ensures { OnOk result (map piece_token out.new.items ≡ map piece_token out.old.items
+    ensures put { OnOk result (map piece_token out.new.items ≡ map piece_token out.old.items
         ++ others_laid (passes which) [] (elements (separator_of mark) before.now t.End)) }
+    ensures keeps { Keeps out.old.items out.new.items }
 {
     for element in before {
         if !passes(which, &element.tree) {

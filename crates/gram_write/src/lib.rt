@@ -4,13 +4,14 @@
 //! first, `specs/Formed` what of a tree that was read its normal form stands on, and `specs/Turns` where among
 //! statements a raw item's last mark is set apart. `specs/Laid` has the tokens of the normal form of what was read, in
 //! terms of what was read; `specs/Seen` and `specs/Operands` what is seen in a tree for that, and `specs/Way` the ways
-//! in which its nodes and parts are written. Which operands are put in parentheses is said in `range_laws`.
+//! in which its nodes and parts are written; `specs/Front` what stays in front of what is put. Which operands are put
+//! in parentheses is said in `range_laws`.
 //!
 //! In `proofs/`, in this order: `Dots` (numbers behind dots, and forms), `OfKinds` and `Bare` (kinds one by one),
 //! `Lifetimes` and `Impls` (arguments that are lifetimes, and impls that keep their generics, are seen in what was
 //! read), `Row` (parameters and arguments), `Stand` (elements, expressions and statements), `Fits` (where expressions
 //! stand in an entry), `Apart` (raw items among statements), `Read` (what was read is formed), `LaidTrees` (what is
-//! laid of it); `Pushing` and `Flat` (tokens that are put), `Sizes` (trees are larger than what stands in them),
+//! laid of it); `Pushing` and `Flat` (tokens that are put), `Fronts` (what stays in front of them), `Sizes` (trees are larger than what stands in them),
 //! `Indices` (numbers in texts), `SeenForms`, `WayForms`, `Operands` and `OffKinds` (what is seen, and the ways, by
 //! the forms of trees, and what is not seen of other kinds), `Shells`, `Opening` and `Begins` (parentheses that are
 //! added, and that stood there), and `Laying`, `Expressing` and `Apartness` (what is laid of each form, of expressions

@@ -4,6 +4,7 @@ ghost use Rattle.gram_piece.specs.Pieces.{piece_token};
 ghost use Rattle.gram_table.specs.Ops.{separator_of};
 ghost use Rattle.gram_table.specs.Words.{sign_text};
 ghost use Rattle.gram_tree.specs.Forms.{mark_of};
+ghost use Rattle.gram_write.specs.Front.{Keeps};
 ghost use Rattle.proc_macro2.specs.Token as token;
 ghost use Rattle.rust_leaf.specs.Leaf.{ident_text};
 ghost use Rattle.rust_leaf.specs.declared.punct.Spacing.TheVariants.{Alone as Apart, Joint};
@@ -20,20 +21,22 @@ use std::alloc::AllocError;
 use syn_buffer::entry::Entry;
 
 // One token.
-#[tactic(auto, using(crate::proofs::Pushing::one))]
+#[tactic(auto, using(crate::proofs::Pushing::one, crate::proofs::Fronts::kept))]
 pub(crate) fn one<'a>(piece: Piece<'a>, out: &mut Vec<Piece<'a>>) -> Result<(), AllocError>
-    ensures { OnOk result (map piece_token out.new.items
+    ensures put { OnOk result (map piece_token out.new.items
         ≡ map piece_token out.old.items ++ piece_token piece.entry ∷ []) }
+    ensures keeps { Keeps out.old.items out.new.items }
 {
     out.push(piece)?;
     Ok(())
 }
 
 // Tokens that were read.
-#[tactic(auto, using(crate::proofs::Pushing::puts))]
+#[tactic(auto, using(crate::proofs::Pushing::puts, crate::proofs::Fronts::kept))]
 pub(crate) fn entries<'a>(entries: &[Entry<'a>], out: &mut Vec<Piece<'a>>) -> Result<(), AllocError>
-    ensures { OnOk result (map piece_token out.new.items
+    ensures put { OnOk result (map piece_token out.new.items
         ≡ map piece_token out.old.items ++ map entry_token entries.now) }
+    ensures keeps { Keeps out.old.items out.new.items }
 {
     for entry in entries {
         one(Piece::of(entry), out)?;
@@ -42,15 +45,16 @@ pub(crate) fn entries<'a>(entries: &[Entry<'a>], out: &mut Vec<Piece<'a>>) -> Re
 }
 
 // A mark, and the others behind it, each joint but the last one, which is so spaced.
-#[tactic(auto, using(crate::proofs::Pushing::puts))]
+#[tactic(auto, using(crate::proofs::Pushing::puts, crate::proofs::Fronts::kept))]
 fn marks<'a>(
     first: u8,
     others: &[u8],
     spacing: Spacing,
     out: &mut Vec<Piece<'a>>,
 ) -> Result<(), AllocError>
-    ensures { OnOk result (map piece_token out.new.items
+    ensures put { OnOk result (map piece_token out.new.items
         ≡ map piece_token out.old.items ++ marks first others.now spacing) }
+    ensures keeps { Keeps out.old.items out.new.items }
 {
     match others.split_first() {
         None => one(Piece::Mark(first as char, spacing), out),
@@ -62,14 +66,15 @@ fn marks<'a>(
 }
 
 // A punctuation, whose last mark is so spaced.
-#[tactic(auto, using(crate::proofs::Pushing::puts))]
+#[tactic(auto, using(crate::proofs::Pushing::puts, crate::proofs::Fronts::kept))]
 pub(crate) fn sign<'a>(
     sign: Sign,
     spacing: Spacing,
     out: &mut Vec<Piece<'a>>,
 ) -> Result<(), AllocError>
-    ensures { OnOk result (map piece_token out.new.items
+    ensures put { OnOk result (map piece_token out.new.items
         ≡ map piece_token out.old.items ++ flat (mark_of (sign_text sign) spacing)) }
+    ensures keeps { Keeps out.old.items out.new.items }
 {
     match sign.text().as_bytes().split_first() {
         None => Ok(()),
@@ -78,13 +83,15 @@ pub(crate) fn sign<'a>(
 }
 
 // The mark behind an element, so spaced.
+#[tactic(auto, using(crate::proofs::Fronts::kept))]
 pub(crate) fn separator<'a>(
     mark: Separator,
     spacing: Spacing,
     out: &mut Vec<Piece<'a>>,
 ) -> Result<(), AllocError>
-    ensures { OnOk result (map piece_token out.new.items
+    ensures put { OnOk result (map piece_token out.new.items
         ≡ map piece_token out.old.items ++ token.Punct (separator_of mark) spacing ∷ []) }
+    ensures keeps { Keeps out.old.items out.new.items }
 {
     match mark {
         Separator::Comma => one(Piece::Mark(',', spacing), out),
@@ -93,10 +100,11 @@ pub(crate) fn separator<'a>(
 }
 
 // A comma, where others follow.
-#[tactic(auto, using(crate::proofs::Pushing::puts))]
+#[tactic(auto, using(crate::proofs::Pushing::puts, crate::proofs::Fronts::kept))]
 pub(crate) fn comma<'a>(others: bool, out: &mut Vec<Piece<'a>>) -> Result<(), AllocError>
-    ensures { OnOk result (map piece_token out.new.items
+    ensures put { OnOk result (map piece_token out.new.items
         ≡ map piece_token out.old.items ++ cond others (token.Punct 44 Apart ∷ []) []) }
+    ensures keeps { Keeps out.old.items out.new.items }
 {
     if others {
         one(Piece::Mark(',', Spacing::Alone), out)
@@ -106,10 +114,11 @@ pub(crate) fn comma<'a>(others: bool, out: &mut Vec<Piece<'a>>) -> Result<(), Al
 }
 
 // A lifetime.
-#[tactic(auto, using(crate::proofs::Pushing::puts))]
+#[tactic(auto, using(crate::proofs::Pushing::puts, crate::proofs::Fronts::kept))]
 pub(crate) fn lifetime<'a>(ident: &'a Ident, out: &mut Vec<Piece<'a>>) -> Result<(), AllocError>
-    ensures { OnOk result (map piece_token out.new.items
+    ensures put { OnOk result (map piece_token out.new.items
         ≡ map piece_token out.old.items ++ token.Punct 39 Joint ∷ token.Ident (ident_text ident.now) ∷ []) }
+    ensures keeps { Keeps out.old.items out.new.items }
 {
     one(Piece::Mark('\'', Spacing::Joint), out)?;
     one(Piece::Ident(ident), out)

@@ -2,16 +2,16 @@
 
 ghost use Rattle.gram_piece.specs.Pieces.{piece_token};
 ghost use Rattle.gram_tree.specs.Forms.{turns};
+ghost use Rattle.gram_write.specs.Front.{Keeps};
 ghost use Rattle.gram_write.specs.Laid.{laid};
 ghost use Rattle.gram_write.specs.Turns.{apart_where, is_raw, is_raw_choice, is_raw_node, is_raw_turn, is_set_apart};
 ghost use Rattle.proc_macro2.specs.Token.{Token};
-ghost use Rattle.std.specs.Prelude.{◌++◌, ◌∷◌, [], ◌≡◌, List, OnOk, length, map};
+ghost use Rattle.std.specs.Prelude.{◌++◌, ◌∷◌, [], ◌≡◌, List, OnOk, length, map, take};
 ghost use Rattle.syn_grammar.specs.Normal.{apart};
 
 use crate::laid::put_laid;
 use crate::opened::is_opened;
 use crate::operand::{first_behind, statement};
-use crate::put::one;
 use crate::within::Within;
 use gram_piece::piece::Piece;
 use gram_table::kind::Kind;
@@ -89,37 +89,39 @@ fn lone(piece: Piece<'_>) -> Piece<'_>
     }
 }
 
-// Sets the last one of the tokens apart that are put behind so many, if it is a mark.
-fn set_apart<'a>(before: usize, out: &mut Vec<Piece<'a>>) -> Result<(), AllocError>
-    ensures { OnOk result ((ts us : List Token) → length ts ≡ before → map piece_token out.old.items ≡ ts ++ us
-        → map piece_token out.new.items ≡ ts ++ apart us) }
+// Sets the last one of the tokens apart that stand behind so many, if it is a mark.
+fn set_apart<'a>(before: usize, out: &mut Vec<Piece<'a>>)
+    ensures apart { (ts us : List Token) → length ts ≡ before → map piece_token out.old.items ≡ ts ++ us
+        → map piece_token out.new.items ≡ ts ++ apart us }
+    ensures front { take before out.new.items ≡ take before out.old.items }
 {
     if out.len() <= before {
-        return Ok(());
+        return;
     }
-    match out.pop() {
-        Some(piece) => one(lone(piece), out),
-        None => Ok(()),
-    }
+    let last = out.len() - 1;
+    let piece = out[last];
+    out[last] = lone(piece);
 }
 
 // The tokens of a turn, before others.
 #[cycle(laid)]
-#[tactic(auto, using(crate::proofs::Pushing::puts))]
+#[tactic(auto, using(crate::proofs::Pushing::puts, crate::proofs::Fronts::kept))]
 fn put_turn<'a>(
     turn: &Tree<'a>,
     behind: &[Tree<'a>],
     out: &mut Vec<Piece<'a>>,
 ) -> Result<(), AllocError>
-    ensures { OnOk result (map piece_token out.new.items ≡ map piece_token out.old.items
+    ensures put { OnOk result (map piece_token out.new.items ≡ map piece_token out.old.items
         ++ apart_where (is_set_apart turn.now (turns behind.now)) (laid turn.now)) }
+    ensures keeps { Keeps out.old.items out.new.items }
 {
     if !is_set_apart(turn, behind) {
         return put_laid(Within::Anywhere, turn, out);
     }
     let before = out.len();
     put_laid(Within::Anywhere, turn, out)?;
-    set_apart(before, out)
+    set_apart(before, out);
+    Ok(())
 }
 
 /// Puts the tokens of turns, one behind the other.
@@ -128,10 +130,11 @@ fn put_turn<'a>(
 ///
 /// Where there is no memory for more tokens.
 #[cycle(laid)]
-#[tactic(auto, using(crate::proofs::Pushing::puts))]
+#[tactic(auto, using(crate::proofs::Pushing::puts, crate::proofs::Fronts::kept))]
 pub(crate) fn put_turns<'a>(trees: &[Tree<'a>], out: &mut Vec<Piece<'a>>) -> Result<(), AllocError>
-    ensures { OnOk result (map piece_token out.new.items
+    ensures put { OnOk result (map piece_token out.new.items
         ≡ map piece_token out.old.items ++ laid (turns trees.now)) }
+    ensures keeps { Keeps out.old.items out.new.items }
 {
     for (index, turn) in trees.iter().enumerate() {
         put_turn(turn, &trees[index + 1..], out)?;

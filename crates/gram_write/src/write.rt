@@ -2,6 +2,7 @@
 
 ghost use Rattle.gram_piece.specs.Pieces.{piece_token};
 ghost use Rattle.gram_write.specs.Formed.{IsFormed};
+ghost use Rattle.gram_write.specs.Front.{Keeps};
 ghost use Rattle.gram_write.specs.Said.{said};
 ghost use Rattle.std.specs.Prelude.{◌≡◌, ◌++◌, OnOk, map};
 ghost use Rattle.syn_grammar.specs.Kind.{Position};
@@ -17,10 +18,13 @@ use std::alloc::AllocError;
 ///
 /// # Errors
 ///
-/// Where there is no memory for more tokens.
+/// Where there is no memory for more tokens. Those that stood there stand in front then too, perhaps with some of the
+/// tree's behind them.
+#[tactic(auto, using(crate::proofs::Fronts::kept))]
 pub fn write<'a>(tree: &Tree<'a>, out: &mut Vec<Piece<'a>>) -> Result<(), AllocError>
-    ensures { OnOk result ((p : Position) → IsFormed p tree.now
+    ensures put { OnOk result ((p : Position) → IsFormed p tree.now
         → map piece_token out.new.items ≡ map piece_token out.old.items ++ said p tree.now) }
+    ensures keeps { Keeps out.old.items out.new.items }
 {
     put_laid(Within::Anywhere, tree, out)
 }

@@ -2,6 +2,7 @@ use Rattle.std.specs.Prelude.{Bool, List, [], ◌∷◌, OnOk, Some, None, true,
 use Rattle.std.specs.List.{list_any}
 use Rattle.std.proofs.Common.{append_assoc, arith, ap, subst, sym, rules, ◌≡◌, ◌∙◌, ◌+◌, ◌++◌, drop, map}
 use Rattle.std.proofs.lemmas.Result.{on_ok_weaker}
+use Rattle.std.proofs.lemmas.Grind.{common_steps}
 use denote.Param.Weighed.{at_most}
 use Rattle.proc_macro2.specs.Token.{Token, Punct}
 use Rattle.rust_leaf.specs.declared.punct.Spacing.TheVariants.{Alone as Apart}
@@ -21,9 +22,11 @@ use Rattle.gram_write.specs.Laid.{firsts_laid, laid, laid_in, others_laid, those
 use Rattle.gram_write.specs.Said.{fields, front_fields}
 use Rattle.gram_write.specs.Operands.{giving_of, stated_of}
 use Rattle.gram_write.specs.Way.{dotted_of, is_dotted, last_text, passes, way_laid}
+use Rattle.gram_write.proofs.Fronts.{keeps_both, keeps_same, keeps_taken}
 use Rattle.gram_write.proofs.Laying.{firsts_passing, four_put, node_same, others_next, others_skip, those_next}
 use Rattle.gram_write.proofs.Laying.{those_skip}
 use Rattle.gram_write.proofs.Operands.{giving_below, stated_below}
+use Rattle.gram_write.proofs.Pushing.{puts}
 use Rattle.gram_write.proofs.Sizes.{element_size, turns_size, elements_below, tree_size}
 use Rattle.gram_write.proofs.WayForms.{own_number, own_undotted}
 use Rattle.gram_write.proofs.+laid.Goals as goal
@@ -101,28 +104,28 @@ laid::put_others-put_laid-requires n c =
     omega (arith, c.decreases, below, same, element_size c.element-item.result, tree_size c.element-item.result.tree)
 
 -- what is put one behind the other
-pub laid::put_laid-returns-in-Called : goal.laid::put_laid-returns-in-Called
-laid::put_laid-returns-in-Called n c =
+pub laid::put_laid-returns-in-Called-clause-put : goal.laid::put_laid-returns-in-Called-clause-put
+laid::put_laid-returns-in-Called-clause-put n c =
     let way : way_laid c.of_part.result c.in-Called.inner.now
     ≡ laid_in c.args.within (t.Called (part_of c.in-Called.part) c.in-Called.inner.now) = search rules in
     let view : c.args.tree.now ≡ t.Called (part_of c.in-Called.part) c.in-Called.inner.now =
     sym c.tree.view_is ∙ ap tree_of c.in-Called.is in
     subst (λ (ts : List Token). OnOk c.put_so.result (map piece_token c.put_so.new.out.items
     ≡ map piece_token c.args.out.now.items ++ ts))
-    (way ∙ ap (λ x. laid_in c.args.within x) (sym view)) c.put_so.ensures
+    (way ∙ ap (λ x. laid_in c.args.within x) (sym view)) c.put_so.ensures.put
 
-pub laid::put_laid-returns-in-Node : goal.laid::put_laid-returns-in-Node
-laid::put_laid-returns-in-Node n c =
+pub laid::put_laid-returns-in-Node-clause-put : goal.laid::put_laid-returns-in-Node-clause-put
+laid::put_laid-returns-in-Node-clause-put n c =
     let k = kind_of c.in-Node.kind in
     let way : way_laid c.of_node.result c.in-Node.inner.now ≡ laid (t.Node k c.in-Node.inner.now) = search rules in
     let view : c.args.tree.now ≡ t.Node k c.in-Node.inner.now = sym c.tree.view_is ∙ ap tree_of c.in-Node.is in
     subst (λ (ts : List Token). OnOk c.put_so-in-Node.result (map piece_token c.put_so-in-Node.new.out.items
     ≡ map piece_token c.args.out.now.items ++ ts))
     (way ∙ sym (node_same c.args.within k c.in-Node.inner.now) ∙ ap (λ x. laid_in c.args.within x) (sym view))
-    c.put_so-in-Node.ensures
+    c.put_so-in-Node.ensures.put
 
-pub laid::put_firsts-returns-in_ok-comma : goal.laid::put_firsts-returns-in_ok-comma
-laid::put_firsts-returns-in_ok-comma n c =
+pub laid::put_firsts-returns-in_ok-comma-clause-put : goal.laid::put_firsts-returns-in_ok-comma-clause-put
+laid::put_firsts-returns-in_ok-comma-clause-put n c =
     let q : Tree → Bool = passes c.args.which in
     let m = separator_of c.in-Elements.elements.now.separator in
     let es : List Element = c.in-Elements.elements.now.before.now in
@@ -139,7 +142,7 @@ laid::put_firsts-returns-in_ok-comma n c =
     ≡ map piece_token c.put_those.new.out.items ++ laid c.in-Some.last.now = search rules in
     let lacks : c.lacks_some.result ≡ list_any (λ e. not (q e.tree)) es = c.lacks_some.ensures in
     let third : map piece_token c.comma.new.out.items ≡ map piece_token c.put_laid-then-passes.new.out.items ++ comma =
-    c.in_ok-comma.ensures
+    c.in_ok-comma.ensures.put
     ∙ ap (λ b. map piece_token c.put_laid-then-passes.new.out.items ++ cond b (Punct 44 Apart ∷ []) []) lacks in
     on_ok_weaker c.put_others-then-passes.result
     (λ e. four_put (map piece_token c.args.out.now.items) (map piece_token c.put_those.new.out.items)
@@ -147,7 +150,7 @@ laid::put_firsts-returns-in_ok-comma n c =
     (map piece_token c.put_others-then-passes.new.out.items) those (laid c.in-Some.last.now) comma others
     (firsts_laid q c.args.list.now) first second third e
     (ap (firsts_laid q) view ∙ firsts_passing q m es c.in-Some.last.now passing))
-    c.put_others-then-passes.ensures
+    c.put_others-then-passes.ensures.put
 
 pub laid::put_those-loop-element-preserved : goal.laid::put_those-loop-element-preserved
 laid::put_those-loop-element-preserved n c =
@@ -162,19 +165,26 @@ laid::put_those-loop-element-preserved n c =
           let passing : q c.element-item.result.tree ≡ true = search rules in
           let same : map piece_token c.if-passes.out.items ≡ map piece_token w.separator.new.out.items =
           ap (λ o. map piece_token o.items) w.out-is in
-          ap (λ ts. ts ++ left) same
-          ∙ those_next q m c.args.before.now c.loop-element.element-index c.element-item.result
-          (map piece_token c.loop-element.out.items) whole (map piece_token w.put_laid.new.out.items)
-          (map piece_token w.separator.new.out.items) c.loop-element-test.true c.element-item.is passing
-          c.loop-element.invariant w.in_ok-put_laid.ensures w.in_ok-separator.ensures
+          record {
+            kept = keeps_both _ _ _ (keeps_both _ _ _ (keeps_both _ _ _ c.loop-element.invariant.kept
+                w.put_laid.ensures.keeps) w.separator.ensures.keeps) (keeps_same _ _ (ap (λ o. o.items) w.out-is));
+            put = ap (λ ts. ts ++ left) same
+                ∙ those_next q m c.args.before.now c.loop-element.element-index c.element-item.result
+                (map piece_token c.loop-element.out.items) whole (map piece_token w.put_laid.new.out.items)
+                (map piece_token w.separator.new.out.items) c.loop-element-test.true c.element-item.is passing
+                c.loop-element.invariant.put w.in_ok-put_laid.ensures.put w.in_ok-separator.ensures.put;
+          }
       | laid::put_those-else-passes w ↦
           let fails : q c.element-item.result.tree ≡ false = search rules in
           let same : map piece_token c.if-passes.out.items ≡ map piece_token c.loop-element.out.items =
           ap (λ o. map piece_token o.items) w.out-is in
-          ap (λ ts. ts ++ left) same
-          ∙ those_skip q m c.args.before.now c.loop-element.element-index c.element-item.result
-          (map piece_token c.loop-element.out.items) whole c.loop-element-test.true c.element-item.is fails
-          c.loop-element.invariant
+          record {
+            kept = keeps_both _ _ _ c.loop-element.invariant.kept (keeps_same _ _ (ap (λ o. o.items) w.out-is));
+            put = ap (λ ts. ts ++ left) same
+                ∙ those_skip q m c.args.before.now c.loop-element.element-index c.element-item.result
+                (map piece_token c.loop-element.out.items) whole c.loop-element-test.true c.element-item.is fails
+                c.loop-element.invariant.put;
+          }
     ]
 
 pub laid::put_others-loop-element-preserved : goal.laid::put_others-loop-element-preserved
@@ -190,20 +200,46 @@ laid::put_others-loop-element-preserved n c =
           let fails : q c.element-item.result.tree ≡ false = search rules in
           let same : map piece_token c.if-not-passes.out.items ≡ map piece_token w.separator.new.out.items =
           ap (λ o. map piece_token o.items) w.out-is in
-          ap (λ ts. ts ++ left) same
-          ∙ others_next q m c.args.before.now c.loop-element.element-index c.element-item.result
-          (map piece_token c.loop-element.out.items) whole (map piece_token w.put_laid.new.out.items)
-          (map piece_token w.separator.new.out.items) c.loop-element-test.true c.element-item.is fails
-          c.loop-element.invariant w.in_ok-put_laid.ensures w.in_ok-separator.ensures
+          record {
+            kept = keeps_both _ _ _ (keeps_both _ _ _ (keeps_both _ _ _ c.loop-element.invariant.kept
+                w.put_laid.ensures.keeps) w.separator.ensures.keeps) (keeps_same _ _ (ap (λ o. o.items) w.out-is));
+            put = ap (λ ts. ts ++ left) same
+                ∙ others_next q m c.args.before.now c.loop-element.element-index c.element-item.result
+                (map piece_token c.loop-element.out.items) whole (map piece_token w.put_laid.new.out.items)
+                (map piece_token w.separator.new.out.items) c.loop-element-test.true c.element-item.is fails
+                c.loop-element.invariant.put w.in_ok-put_laid.ensures.put w.in_ok-separator.ensures.put;
+          }
       | laid::put_others-else-not-passes w ↦
           let passing : q c.element-item.result.tree ≡ true = search rules in
           let same : map piece_token c.if-not-passes.out.items ≡ map piece_token c.loop-element.out.items =
           ap (λ o. map piece_token o.items) w.out-is in
-          ap (λ ts. ts ++ left) same
-          ∙ others_skip q m c.args.before.now c.loop-element.element-index c.element-item.result
-          (map piece_token c.loop-element.out.items) whole c.loop-element-test.true c.element-item.is passing
-          c.loop-element.invariant
+          record {
+            kept = keeps_both _ _ _ c.loop-element.invariant.kept (keeps_same _ _ (ap (λ o. o.items) w.out-is));
+            put = ap (λ ts. ts ++ left) same
+                ∙ others_skip q m c.args.before.now c.loop-element.element-index c.element-item.result
+                (map piece_token c.loop-element.out.items) whole c.loop-element-test.true c.element-item.is passing
+                c.loop-element.invariant.put;
+          }
     ]
+
+pub turn::put_turns-loop-index-preserved : goal.turn::put_turns-loop-index-preserved
+turn::put_turns-loop-index-preserved n c = record {
+  kept = keeps_both _ _ _ c.loop-index.invariant.kept c.put_turn.ensures.keeps;
+  put = grind (arith, common_steps, puts);
+}
+
+pub laid::put_elements-loop-element-preserved : goal.laid::put_elements-loop-element-preserved
+laid::put_elements-loop-element-preserved n c = record {
+  kept = keeps_both _ _ _ (keeps_both _ _ _ c.loop-element.invariant.kept c.put_laid.ensures.keeps)
+      c.separator.ensures.keeps;
+  put = grind (arith, common_steps, puts);
+}
+
+-- a turn whose last mark is set apart behind the old ones
+pub turn::put_turn-returns-clause-keeps : goal.turn::put_turn-returns-clause-keeps
+turn::put_turn-returns-clause-keeps n c =
+    keeps_taken c.args.out.now.items c.put_laid-2.new.out.items c.set_apart.new.out.items c.len-before.result
+    (omega (arith, c.len-before.ensures, c.args.out.now.ok.0)) c.put_laid-2.ensures.keeps c.set_apart.ensures.front
 
 -- operands, and what stands behind them
 pub expressed::put_front-put_operand-requires : goal.expressed::put_front-put_operand-requires
@@ -232,16 +268,16 @@ expressed::put_statement-put_laid-requires-2 n c =
     c.in-Some.parts.behind.now parts in
     omega (arith, c.decreases, below)
 
-pub expressed::put_own-returns-in_default : goal.expressed::put_own-returns-in_default
-expressed::put_own-returns-in_default n c =
+pub expressed::put_own-returns-in_default-clause-put : goal.expressed::put_own-returns-in_default-clause-put
+expressed::put_own-returns-in_default-clause-put n c =
     let is : is_dotted (kind_of c.args.kind) ≡ true = search rules in
     let none : None ≡ dotted_of c.args.own.now = search rules in
     subst (λ (ts : List Token). OnOk c.put_laid-in_default.result (map piece_token c.put_laid-in_default.new.out.items
     ≡ map piece_token c.args.out.now.items ++ ts))
-    (sym (own_undotted (kind_of c.args.kind) c.args.own.now is none)) c.put_laid-in_default.ensures
+    (sym (own_undotted (kind_of c.args.kind) c.args.own.now is none)) c.put_laid-in_default.ensures.put
 
-pub expressed::put_own-returns-in-Some-last_number : goal.expressed::put_own-returns-in-Some-last_number
-expressed::put_own-returns-in-Some-last_number n c =
+pub expressed::put_own-returns-in-Some-last_number-clause-put : goal.expressed::put_own-returns-in-Some-last_number-clause-put
+expressed::put_own-returns-in-Some-last_number-clause-put n c =
     let is : is_dotted (kind_of c.args.kind) ≡ true = search rules in
     let dotted : Some (c.in-Some.parts.dot.now, c.in-Some.parts.numbers.now, c.in-Some.parts.behind.now)
     ≡ dotted_of c.args.own.now = search rules in
@@ -254,8 +290,8 @@ expressed::put_own-returns-in-Some-last_number n c =
     let put : OnOk c.put_fields.result (map piece_token c.put_fields.new.out.items
     ≡ map piece_token c.args.out.now.items ++ (fronts ++ last)) =
     on_ok_weaker c.put_fields.result
-    (λ e. e ∙ ap (λ ts. ts ++ last) c.in_ok-put_front_fields.ensures
+    (λ e. e ∙ ap (λ ts. ts ++ last) c.in_ok-put_front_fields.ensures.put
     ∙ append_assoc (map piece_token c.args.out.now.items) fronts last)
-    c.put_fields.ensures in
+    c.put_fields.ensures.put in
     subst (λ (ts : List Token). OnOk c.put_fields.result (map piece_token c.put_fields.new.out.items
     ≡ map piece_token c.args.out.now.items ++ ts)) (sym own) put

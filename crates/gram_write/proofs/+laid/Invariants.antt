@@ -7,34 +7,43 @@ use Rattle.gram_tree.specs.declared.tree.Tree.TheDeep.{size-Tree}
 use Rattle.gram_tree.specs.Forms.{elements, turns}
 use Rattle.gram_tree.specs.Size.{node_count}
 use Rattle.syn_grammar.specs.Tree as t
+use Rattle.gram_write.specs.Front.{Keeps}
 use Rattle.gram_write.specs.Laid.{laid, others_laid, those_laid}
 use Rattle.gram_write.specs.Way.{passes}
 use Rattle.gram_write.proofs.+laid.Given as goal
 
--- what is left is to stand behind what is put
+-- the old ones stand in front, and what is left is to stand behind what is put
 abbrev pub invariant-turn::put_turns-loop-index : goal.invariant-turn::put_turns-loop-index
-invariant-turn::put_turns-loop-index l =
-    map piece_token l.out.items ++ laid (turns (drop l.index l.trees))
-    ≡ map piece_token l.initial.out.items ++ laid (turns l.trees)
+invariant-turn::put_turns-loop-index l = record {
+  kept : Keeps l.initial.out.items l.out.items;
+  put : map piece_token l.out.items ++ laid (turns (drop l.index l.trees))
+      ≡ map piece_token l.initial.out.items ++ laid (turns l.trees);
+}
 
 abbrev pub invariant-laid::put_elements-loop-element : goal.invariant-laid::put_elements-loop-element
-invariant-laid::put_elements-loop-element l =
-    map piece_token l.out.items ++ laid (elements (separator_of l.mark) (drop l.element-index l.before) t.End)
-    ≡ map piece_token l.initial.out.items ++ laid (elements (separator_of l.mark) l.before t.End)
+invariant-laid::put_elements-loop-element l = record {
+  kept : Keeps l.initial.out.items l.out.items;
+  put : map piece_token l.out.items ++ laid (elements (separator_of l.mark) (drop l.element-index l.before) t.End)
+      ≡ map piece_token l.initial.out.items ++ laid (elements (separator_of l.mark) l.before t.End);
+}
 
 abbrev pub invariant-laid::put_those-loop-element : goal.invariant-laid::put_those-loop-element
-invariant-laid::put_those-loop-element l =
-    map piece_token l.out.items
-    ++ those_laid (passes l.which) false (elements (separator_of l.mark) (drop l.element-index l.before) t.End)
-    ≡ map piece_token l.initial.out.items
-    ++ those_laid (passes l.which) false (elements (separator_of l.mark) l.before t.End)
+invariant-laid::put_those-loop-element l = record {
+  kept : Keeps l.initial.out.items l.out.items;
+  put : map piece_token l.out.items
+      ++ those_laid (passes l.which) false (elements (separator_of l.mark) (drop l.element-index l.before) t.End)
+      ≡ map piece_token l.initial.out.items
+      ++ those_laid (passes l.which) false (elements (separator_of l.mark) l.before t.End);
+}
 
 abbrev pub invariant-laid::put_others-loop-element : goal.invariant-laid::put_others-loop-element
-invariant-laid::put_others-loop-element l =
-    map piece_token l.out.items
-    ++ others_laid (passes l.which) [] (elements (separator_of l.mark) (drop l.element-index l.before) t.End)
-    ≡ map piece_token l.initial.out.items
-    ++ others_laid (passes l.which) [] (elements (separator_of l.mark) l.before t.End)
+invariant-laid::put_others-loop-element l = record {
+  kept : Keeps l.initial.out.items l.out.items;
+  put : map piece_token l.out.items
+      ++ others_laid (passes l.which) [] (elements (separator_of l.mark) (drop l.element-index l.before) t.End)
+      ≡ map piece_token l.initial.out.items
+      ++ others_laid (passes l.which) [] (elements (separator_of l.mark) l.before t.End);
+}
 
 -- what is handed on is read anew by those that it is handed to
 abbrev pub decreases-turn::put_turns : goal.decreases-turn::put_turns

@@ -17,6 +17,6 @@ unfolding said
 returns c =
     let formed : IsFormed Plain c.args.file.now = formed_read AFile c.args.file.now [] c.requires (λ e. cc) in
     let same : map piece_token c.as_slice.result.now ≡ said Plain c.args.file.now =
-    ap (map piece_token) c.as_slice.ensures.value ∙ c.in_ok-write.ensures Plain formed
+    ap (map piece_token) c.as_slice.ensures.value ∙ c.in_ok-write.ensures.put Plain formed
     ∙ ap (λ (ps : List Piece). map piece_token ps ++ said Plain c.args.file.now) c.new-pieces.ensures.items in
     subst (λ (ts : List Token). IfOk c.print.result (λ s. text_of s ≡ printed.text ts)) same c.print.ensures

@@ -1,10 +1,13 @@
 use Rattle.std.proofs.Common.{arith, ap, sym, ◌∙◌}
+use Rattle.std.proofs.lemmas.Grind.{common_steps}
 use denote.Param.Weighed.{at_most}
 use Rattle.gram_table.specs.Ops.{separator_of}
 use Rattle.gram_tree.specs.declared.tree.Tree.TheDeep.{size-Tree, size-Element}
 use Rattle.syn_grammar.specs.Tree.{Tree}
 use Rattle.gram_tree.specs.declared.tree.Element.{Element}
 use Rattle.gram_tree.specs.Forms.{tree_of, ending}
+use Rattle.gram_write.proofs.Fronts.{keeps_both}
+use Rattle.gram_write.proofs.Pushing.{puts}
 use Rattle.gram_write.proofs.Sizes.{element_size, elements_below, tree_size, turns_below}
 use Rattle.gram_write.proofs.as_read.+as_read.Goals as goal
 
@@ -32,3 +35,17 @@ put_elements-put_as_read-requires n c =
     c.element-item.result c.loop-element-test.true in
     let same = ap (λ (e : Element). size-Element e) c.element-item.is in
     omega (arith, c.decreases, below, same, element_size c.element-item.result, tree_size c.element-item.result.tree)
+
+-- one more of them has been put
+pub put_turns-loop-tree-preserved : goal.put_turns-loop-tree-preserved
+put_turns-loop-tree-preserved n c = record {
+  kept = keeps_both _ _ _ c.loop-tree.invariant.kept c.put_as_read.ensures.keeps;
+  put = grind (arith, common_steps, puts);
+}
+
+pub put_elements-loop-element-preserved : goal.put_elements-loop-element-preserved
+put_elements-loop-element-preserved n c = record {
+  kept = keeps_both _ _ _ (keeps_both _ _ _ c.loop-element.invariant.kept c.put_as_read.ensures.keeps)
+      c.separator.ensures.keeps;
+  put = grind (arith, common_steps, puts);
+}

@@ -4,7 +4,7 @@ use Rattle.gram_piece.specs.Pieces.{piece_token}
 use Rattle.gram_write.proofs.LaidTrees.{laid_same}
 use Rattle.gram_write.proofs.write.write.Goals as goal
 
-pub returns : goal.returns
-returns c = on_ok_weaker c.put_laid.result
+pub returns-clause-put : goal.returns-clause-put
+returns-clause-put c = on_ok_weaker c.put_laid.result
     (λ e p h. e ∙ ap (λ ts. map piece_token c.args.out.now.items ++ ts) (sym (laid_same p c.args.tree.now h)))
-    c.put_laid.ensures
+    c.put_laid.ensures.put
