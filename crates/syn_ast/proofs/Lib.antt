@@ -7,3 +7,4 @@ pub mod Judged
 pub mod Lists
 pub mod PatForms
 pub mod Absent
+pub mod Counts

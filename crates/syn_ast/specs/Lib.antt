@@ -12,3 +12,5 @@ pub mod Visibility
 pub mod Name
 pub mod Patterns
 pub mod Pat
+pub mod Position
+pub mod PatTypes

@@ -4,10 +4,10 @@
 //! - `leaf`: marks, lifetimes and delimiters; `list`, `iter`: lists, and their elements one by one.
 //! - `take`: what a tree is made of, as the other modules ask for it; `sub`, `name`, `missing`: what stands in several types.
 //! - `types`, `bounds`: types.
-//! - `paths`: paths, members and macros.
+//! - `paths`: paths, members and macros; `position`: where the trait's path ends in a qualified one.
 //! - `generics`: generics and where clauses.
 //! - `attributes`, `visibility`.
-//! - `patterns`: what patterns are read as; `pat`: patterns by their form.
+//! - `patterns`: what patterns are read as; `pat`: patterns by their form; `pat_type`: a pattern and its type.
 //! - `laws`, `kept`: that what was read is what these functions ask for.
 #![tactic(auto)]
 
@@ -22,8 +22,10 @@ pub mod list;
 pub mod missing;
 pub mod name;
 pub mod pat;
+pub mod pat_type;
 pub mod paths;
 pub mod patterns;
+pub mod position;
 pub mod sub;
 pub mod take;
 pub mod types;
