@@ -2,6 +2,7 @@
 
 ghost use Rattle.gram_table.specs.Ops.{separator_of};
 ghost use Rattle.gram_tree.specs.Forms.{elements, turns};
+ghost use Rattle.gram_write.specs.Front.{Keeps};
 ghost use Rattle.std.specs.Prelude.{◌≡◌, ◌++◌, OnOk};
 ghost use Rattle.syn.specs.Leaves.{leaf_tokens, leaves_tokens};
 ghost use Rattle.syn_grammar.specs.Tree as t;
@@ -40,9 +41,10 @@ pub enum Leaf<'a> {
 }
 
 // One leaf more.
-#[tactic(auto, using(crate::proofs::Leaves::one))]
+#[tactic(auto, using(crate::proofs::Leaves::one, gram_write::proofs::Fronts::kept))]
 fn put<'a>(leaf: Leaf<'a>, out: &mut Vec<Leaf<'a>>) -> Result<(), AllocError>
-    ensures { OnOk result (leaves_tokens out.new.items ≡ leaves_tokens out.old.items ++ leaf_tokens leaf.entry) }
+    ensures put { OnOk result (leaves_tokens out.new.items ≡ leaves_tokens out.old.items ++ leaf_tokens leaf.entry) }
+    ensures keeps { Keeps out.old.items out.new.items }
 {
     out.push(leaf)?;
     Ok(())
@@ -53,11 +55,13 @@ fn put<'a>(leaf: Leaf<'a>, out: &mut Vec<Leaf<'a>>) -> Result<(), AllocError>
 ///
 /// # Errors
 ///
-/// Where there is no memory for more leaves.
+/// Where there is no memory for more leaves. Those that were given stand in front then too, perhaps with some of the tree's
+/// behind them.
 #[cycle(leaves)]
-#[tactic(auto, using(crate::proofs::Leaves::forms))]
+#[tactic(auto, using(crate::proofs::Leaves::forms, gram_write::proofs::Fronts::kept))]
 pub fn put_leaves<'a>(tree: &Tree<'a>, out: &mut Vec<Leaf<'a>>) -> Result<(), AllocError>
-    ensures { OnOk result (leaves_tokens out.new.items ≡ leaves_tokens out.old.items ++ flat tree.now) }
+    ensures put { OnOk result (leaves_tokens out.new.items ≡ leaves_tokens out.old.items ++ flat tree.now) }
+    ensures keeps { Keeps out.old.items out.new.items }
 {
     match &tree.form {
         Form::Word(ident) => put(Leaf::Ident(ident), out),
@@ -97,10 +101,11 @@ pub fn put_leaves<'a>(tree: &Tree<'a>, out: &mut Vec<Leaf<'a>>) -> Result<(), Al
 
 // The leaves of two trees.
 #[cycle(leaves)]
-#[tactic(auto, using(crate::proofs::Leaves::puts))]
+#[tactic(auto, using(crate::proofs::Leaves::puts, gram_write::proofs::Fronts::kept))]
 fn put_two<'a>(two: &Two<'a>, out: &mut Vec<Leaf<'a>>) -> Result<(), AllocError>
-    ensures { OnOk result (leaves_tokens out.new.items
+    ensures put { OnOk result (leaves_tokens out.new.items
         ≡ leaves_tokens out.old.items ++ (flat two.now.front ++ flat two.now.back)) }
+    ensures keeps { Keeps out.old.items out.new.items }
 {
     put_leaves(&two.front, out)?;
     put_leaves(&two.back, out)
@@ -108,10 +113,11 @@ fn put_two<'a>(two: &Two<'a>, out: &mut Vec<Leaf<'a>>) -> Result<(), AllocError>
 
 // The leaves of turns.
 #[cycle(leaves)]
-#[tactic(auto, using(crate::proofs::Leaves::puts))]
+#[tactic(auto, using(crate::proofs::Leaves::puts, gram_write::proofs::Fronts::kept))]
 fn put_turns<'a>(trees: &[Tree<'a>], out: &mut Vec<Leaf<'a>>) -> Result<(), AllocError>
-    ensures { OnOk result (leaves_tokens out.new.items
+    ensures put { OnOk result (leaves_tokens out.new.items
         ≡ leaves_tokens out.old.items ++ flat (turns trees.now)) }
+    ensures keeps { Keeps out.old.items out.new.items }
 {
     for tree in trees {
         put_leaves(tree, out)?;
@@ -121,14 +127,15 @@ fn put_turns<'a>(trees: &[Tree<'a>], out: &mut Vec<Leaf<'a>>) -> Result<(), Allo
 
 // The leaves of elements, and of the mark behind each.
 #[cycle(leaves)]
-#[tactic(auto, using(crate::proofs::Leaves::puts))]
+#[tactic(auto, using(crate::proofs::Leaves::puts, gram_write::proofs::Fronts::kept))]
 fn put_elements<'a>(
     mark: Separator,
     before: &[Element<'a>],
     out: &mut Vec<Leaf<'a>>,
 ) -> Result<(), AllocError>
-    ensures { OnOk result (leaves_tokens out.new.items
+    ensures put { OnOk result (leaves_tokens out.new.items
         ≡ leaves_tokens out.old.items ++ flat (elements (separator_of mark) before.now t.End)) }
+    ensures keeps { Keeps out.old.items out.new.items }
 {
     for element in before {
         put_leaves(&element.tree, out)?;

@@ -1,6 +1,7 @@
 //! The nodes of what was read, in their order.
 
 ghost use Rattle.gram_tree.specs.Forms.{elements, turns};
+ghost use Rattle.gram_write.specs.Front.{Keeps};
 ghost use Rattle.std.specs.Prelude.{◌≡◌, ◌++◌, ◌∷◌, [], OnOk, map};
 ghost use Rattle.syn.specs.Nodes.{nodes};
 ghost use Rattle.syn_grammar.specs.Tree as t;
@@ -9,9 +10,10 @@ use gram_tree::tree::{Element, Form, Tree, Two};
 use std::alloc::AllocError;
 
 // One more.
-#[tactic(auto, using(crate::proofs::Nodes::one))]
+#[tactic(auto, using(crate::proofs::Nodes::one, gram_write::proofs::Fronts::kept))]
 fn put<'t, 'a>(tree: &'t Tree<'a>, out: &mut Vec<&'t Tree<'a>>) -> Result<(), AllocError>
-    ensures { OnOk result (map (λ x. x.now) out.new.items ≡ map (λ x. x.now) out.old.items ++ tree.now ∷ []) }
+    ensures put { OnOk result (map (λ x. x.now) out.new.items ≡ map (λ x. x.now) out.old.items ++ tree.now ∷ []) }
+    ensures keeps { Keeps out.old.items out.new.items }
 {
     out.push(tree)?;
     Ok(())
@@ -23,11 +25,13 @@ fn put<'t, 'a>(tree: &'t Tree<'a>, out: &mut Vec<&'t Tree<'a>>) -> Result<(), Al
 ///
 /// # Errors
 ///
-/// Where there is no memory for more of them.
+/// Where there is no memory for more of them. Those that are given stand in front then too, perhaps with some of the tree's
+/// behind them.
 #[cycle(nodes)]
-#[tactic(auto, using(crate::proofs::Nodes::forms))]
+#[tactic(auto, using(crate::proofs::Nodes::forms, gram_write::proofs::Fronts::kept))]
 pub fn put_nodes<'t, 'a>(tree: &'t Tree<'a>, out: &mut Vec<&'t Tree<'a>>) -> Result<(), AllocError>
-    ensures { OnOk result (map (λ x. x.now) out.new.items ≡ map (λ x. x.now) out.old.items ++ nodes tree.now) }
+    ensures put { OnOk result (map (λ x. x.now) out.new.items ≡ map (λ x. x.now) out.old.items ++ nodes tree.now) }
+    ensures keeps { Keeps out.old.items out.new.items }
 {
     match &tree.form {
         Form::Word(_) | Form::Literal(_) | Form::Mark(_, _, _) => Ok(()),
@@ -67,10 +71,11 @@ pub fn put_nodes<'t, 'a>(tree: &'t Tree<'a>, out: &mut Vec<&'t Tree<'a>>) -> Res
 
 // Those of two trees.
 #[cycle(nodes)]
-#[tactic(auto, using(crate::proofs::Nodes::puts))]
+#[tactic(auto, using(crate::proofs::Nodes::puts, gram_write::proofs::Fronts::kept))]
 fn put_two<'t, 'a>(two: &'t Two<'a>, out: &mut Vec<&'t Tree<'a>>) -> Result<(), AllocError>
-    ensures { OnOk result (map (λ x. x.now) out.new.items
+    ensures put { OnOk result (map (λ x. x.now) out.new.items
         ≡ map (λ x. x.now) out.old.items ++ (nodes two.now.front ++ nodes two.now.back)) }
+    ensures keeps { Keeps out.old.items out.new.items }
 {
     put_nodes(&two.front, out)?;
     put_nodes(&two.back, out)
@@ -78,10 +83,11 @@ fn put_two<'t, 'a>(two: &'t Two<'a>, out: &mut Vec<&'t Tree<'a>>) -> Result<(), 
 
 // Those of turns.
 #[cycle(nodes)]
-#[tactic(auto, using(crate::proofs::Nodes::puts))]
+#[tactic(auto, using(crate::proofs::Nodes::puts, gram_write::proofs::Fronts::kept))]
 fn put_turns<'t, 'a>(trees: &'t [Tree<'a>], out: &mut Vec<&'t Tree<'a>>) -> Result<(), AllocError>
-    ensures { OnOk result (map (λ x. x.now) out.new.items
+    ensures put { OnOk result (map (λ x. x.now) out.new.items
         ≡ map (λ x. x.now) out.old.items ++ nodes (turns trees.now)) }
+    ensures keeps { Keeps out.old.items out.new.items }
 {
     for tree in trees {
         put_nodes(tree, out)?;
@@ -91,13 +97,14 @@ fn put_turns<'t, 'a>(trees: &'t [Tree<'a>], out: &mut Vec<&'t Tree<'a>>) -> Resu
 
 // Those of elements, whatever mark stands behind each.
 #[cycle(nodes)]
-#[tactic(auto, using(crate::proofs::Nodes::puts))]
+#[tactic(auto, using(crate::proofs::Nodes::puts, gram_write::proofs::Fronts::kept))]
 fn put_elements<'t, 'a>(
     before: &'t [Element<'a>],
     out: &mut Vec<&'t Tree<'a>>,
 ) -> Result<(), AllocError>
-    ensures { OnOk result (map (λ x. x.now) out.new.items
+    ensures put { OnOk result (map (λ x. x.now) out.new.items
         ≡ map (λ x. x.now) out.old.items ++ nodes (elements 0 before.now t.End)) }
+    ensures keeps { Keeps out.old.items out.new.items }
 {
     for element in before {
         put_nodes(&element.tree, out)?;
