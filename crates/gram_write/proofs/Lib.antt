@@ -23,4 +23,5 @@ pub mod Opening
 pub mod Begins
 pub mod Apartness
 pub mod Expressing
+pub mod Chains
 pub mod OffKinds

@@ -6,4 +6,5 @@ pub mod Laid
 pub mod Seen
 pub mod Way
 pub mod Operands
+pub mod Chains
 pub mod Formed

@@ -11,6 +11,7 @@ ghost use Rattle.std.specs.Prelude.{[], ◌++◌, ◌∷◌, ◌≡◌, OnOk, co
 ghost use Rattle.syn_grammar.specs.Kind.{AStatement};
 ghost use Rattle.syn_grammar.specs.Tree as t;
 
+use crate::chain::put_chain;
 use crate::fields::{put_fields, put_front_fields};
 use crate::laid::put_laid;
 use crate::operand::{back, giving, has_attributes, infix, stated};
@@ -26,7 +27,11 @@ use std::alloc::AllocError;
 
 // A token, if it is to be put.
 #[tactic(auto, using(crate::proofs::Pushing::puts, crate::proofs::Fronts::kept))]
-fn put_if<'a>(wanted: bool, piece: Piece<'a>, out: &mut Vec<Piece<'a>>) -> Result<(), AllocError>
+pub(crate) fn put_if<'a>(
+    wanted: bool,
+    piece: Piece<'a>,
+    out: &mut Vec<Piece<'a>>,
+) -> Result<(), AllocError>
     ensures put { OnOk result (map piece_token out.new.items
         ≡ map piece_token out.old.items ++ cond wanted (piece_token piece.entry ∷ []) []) }
     ensures keeps { Keeps out.old.items out.new.items }
@@ -47,7 +52,7 @@ fn put_operand<'a>(
     ensures keeps { Keeps out.old.items out.new.items }
 {
     put_if(enclosed, Piece::Open(Delimiter::Parenthesis), out)?;
-    put_laid(Within::Anywhere, tree, out)?;
+    put_chain(tree, out)?;
     put_if(enclosed, Piece::Close(Delimiter::Parenthesis), out)
 }
 
@@ -95,7 +100,11 @@ pub(crate) fn put_back<'a>(
 // The own part of a form behind its left operand, whose numbers behind a dot are split.
 #[cycle(laid)]
 #[tactic(auto, using(crate::proofs::Laying::owns, crate::proofs::Fronts::kept))]
-fn put_own<'a>(kind: Kind, own: &Tree<'a>, out: &mut Vec<Piece<'a>>) -> Result<(), AllocError>
+pub(crate) fn put_own<'a>(
+    kind: Kind,
+    own: &Tree<'a>,
+    out: &mut Vec<Piece<'a>>,
+) -> Result<(), AllocError>
     ensures put { OnOk result (map piece_token out.new.items
         ≡ map piece_token out.old.items ++ behind_laid (kind_of kind) own.now) }
     ensures keeps { Keeps out.old.items out.new.items }

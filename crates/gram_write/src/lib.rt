@@ -4,8 +4,9 @@
 //! first, `specs/Formed` what of a tree that was read its normal form stands on, and `specs/Turns` where among
 //! statements a raw item's last mark is set apart. `specs/Laid` has the tokens of the normal form of what was read, in
 //! terms of what was read; `specs/Seen` and `specs/Operands` what is seen in a tree for that, and `specs/Way` the ways
-//! in which its nodes and parts are written; `specs/Front` what stays in front of what is put. Which operands are put
-//! in parentheses is said in `range_laws`.
+//! in which its nodes and parts are written; `specs/Chains` what is written behind operands that stand one left of the
+//! other, and `specs/Front` what stays in front of what is put. Which operands are put in parentheses is said in
+//! `range_laws`.
 //!
 //! In `proofs/`, in this order: `Dots` (numbers behind dots, and forms), `OfKinds` and `Bare` (kinds one by one),
 //! `Lifetimes` and `Impls` (arguments that are lifetimes, and impls that keep their generics, are seen in what was
@@ -14,8 +15,8 @@
 //! laid of it); `Pushing` and `Flat` (tokens that are put), `Fronts` (what stays in front of them), `Sizes` (trees are larger than what stands in them),
 //! `Indices` (numbers in texts), `SeenForms`, `WayForms`, `Operands` and `OffKinds` (what is seen, and the ways, by
 //! the forms of trees, and what is not seen of other kinds), `Shells`, `Opening` and `Begins` (parentheses that are
-//! added, and that stood there), and `Laying`, `Expressing` and `Apartness` (what is laid of each form, of expressions
-//! and of turns).
+//! added, and that stood there), and `Laying`, `Expressing`, `Chains` and `Apartness` (what is laid of each form, of
+//! expressions, of operands that stand one left of the other, and of turns).
 //!
 //! - `laws`: what is written of each form and of each kind, in terms of its parts.
 //! - `put`: tokens that are put behind those that are to be written.
@@ -30,12 +31,14 @@
 //! - `within`: where a tree stands in what is laid.
 //! - `laid`: the tokens of the normal form of what was read.
 //! - `expressed`: those of expressions and statements.
+//! - `chain`: those of operands that stand one left of the other, with no call for each of them.
 //! - `turn`: those of turns, of which raw ones are set apart.
 //! - `write`: its normal form.
 #![tactic(auto)]
 
 pub mod as_read;
 mod begun;
+mod chain;
 mod expressed;
 pub mod fields;
 mod laid;

@@ -1,8 +1,10 @@
 use Rattle.std.specs.Prelude.{Bool, List, [], ◌∷◌, OnOk, Some, None, true, false, cond, not}
 use Rattle.std.specs.List.{list_any}
-use Rattle.std.proofs.Common.{append_assoc, arith, ap, subst, sym, rules, ◌≡◌, ◌∙◌, ◌+◌, ◌++◌, drop, map}
+use Rattle.std.proofs.Common.{append_assoc, arith, ap, subst, sym, refl, rules, ◌≡◌, ◌∙◌, ◌+◌, ◌-◌, ◌++◌, drop, length, map, take}
+use Rattle.std.proofs.lemmas.List.{take_all}
 use Rattle.std.proofs.lemmas.Result.{on_ok_weaker}
 use Rattle.std.proofs.lemmas.Grind.{common_steps}
+use denote.Bor.{Bor}
 use denote.Param.Weighed.{at_most}
 use Rattle.proc_macro2.specs.Token.{Token, Punct}
 use Rattle.rust_leaf.specs.declared.punct.Spacing.TheVariants.{Alone as Apart}
@@ -18,10 +20,12 @@ use Rattle.syn_grammar.specs.Words.{indices}
 use Rattle.gram_tree.specs.declared.tree.Element.{Element}
 use Rattle.gram_tree.specs.Forms.{elements, tree_of, turns, ending}
 use Rattle.gram_tree.specs.Size.{node_count}
+use Rattle.gram_write.specs.Chains.{behind_lefts}
 use Rattle.gram_write.specs.Laid.{firsts_laid, laid, laid_in, others_laid, those_laid}
 use Rattle.gram_write.specs.Said.{fields, front_fields}
 use Rattle.gram_write.specs.Operands.{giving_of, stated_of}
 use Rattle.gram_write.specs.Way.{dotted_of, is_dotted, last_text, passes, way_laid}
+use Rattle.gram_write.proofs.Chains.{forms_more, step_out}
 use Rattle.gram_write.proofs.Fronts.{keeps_both, keeps_same, keeps_taken}
 use Rattle.gram_write.proofs.Laying.{firsts_passing, four_put, node_same, others_next, others_skip, those_next}
 use Rattle.gram_write.proofs.Laying.{those_skip}
@@ -295,3 +299,34 @@ expressed::put_own-returns-in-Some-last_number-clause-put n c =
     c.put_fields.ensures.put in
     subst (λ (ts : List Token). OnOk c.put_fields.result (map piece_token c.put_fields.new.out.items
     ≡ map piece_token c.args.out.now.items ++ ts)) (sym own) put
+
+pub expressed::put_given-put_operand-requires : goal.expressed::put_given-put_operand-requires
+expressed::put_given-put_operand-requires n c = omega (arith, c.decreases, tree_size c.args.attributes.now)
+
+-- operands that stand one left of the other
+pub chain::put_behinds-loop-left-init : goal.chain::put_behinds-loop-left-init
+chain::put_behinds-loop-left-init n c = record {
+  kept = keeps_same _ _ refl;
+  put = ap (λ (ys : List (Bor Tree)). map piece_token c.args.out.now.items
+      ++ behind_lefts (map (λ (y : Bor Tree). y.now) ys))
+      (take_all (length c.args.forms.now) c.args.forms.now (omega arith));
+  within = omega arith;
+}
+
+pub chain::put_behinds-loop-left-preserved : goal.chain::put_behinds-loop-left-preserved
+chain::put_behinds-loop-left-preserved n c =
+    let i = c.loop-left.left - 1 in
+    let x : Bor Tree = c.index-forms-left.result in
+    let more : map (λ (y : Bor Tree). y.now) (take c.loop-left.left c.args.forms.now)
+    ≡ map (λ (y : Bor Tree). y.now) (take i c.args.forms.now) ++ x.now ∷ [] =
+    forms_more c.args.forms.now c.loop-left.left i x (omega (arith, c.loop-left-test.true))
+    (omega (arith, c.loop-left-test.true, c.loop-left.invariant.within)) c.index-forms-left.is in
+    record {
+      kept = keeps_both _ _ _ c.loop-left.invariant.kept c.put_behind.ensures.keeps;
+      put = step_out (map piece_token c.loop-left.out.items) (map piece_token c.put_behind.new.out.items)
+          (map piece_token c.args.out.now.items ++ behind_lefts (map (λ (y : Bor Tree). y.now) c.args.forms.now)) x.now
+          (map (λ (y : Bor Tree). y.now) (take i c.args.forms.now)) c.in_ok-put_behind.ensures.put
+          (ap (λ (ys : List Tree). map piece_token c.loop-left.out.items ++ behind_lefts ys) (sym more)
+          ∙ c.loop-left.invariant.put);
+      within = omega (arith, c.loop-left.invariant.within);
+    }

@@ -1,5 +1,5 @@
 use Rattle.std.specs.Prelude.{false}
-use Rattle.std.proofs.Common.{◌≡◌, ◌+◌, ◌*◌, ◌++◌, [], drop, map}
+use Rattle.std.proofs.Common.{◌≡◌, ◌+◌, ◌*◌, ◌++◌, ◌≤◌, [], drop, length, map, take}
 use denote.Param.Weighed.{most}
 use Rattle.gram_piece.specs.Pieces.{piece_token}
 use Rattle.gram_table.specs.Ops.{separator_of}
@@ -7,6 +7,7 @@ use Rattle.gram_tree.specs.declared.tree.Tree.TheDeep.{size-Tree}
 use Rattle.gram_tree.specs.Forms.{elements, turns}
 use Rattle.gram_tree.specs.Size.{node_count}
 use Rattle.syn_grammar.specs.Tree as t
+use Rattle.gram_write.specs.Chains.{behind_lefts}
 use Rattle.gram_write.specs.Front.{Keeps}
 use Rattle.gram_write.specs.Laid.{laid, others_laid, those_laid}
 use Rattle.gram_write.specs.Way.{passes}
@@ -45,6 +46,18 @@ invariant-laid::put_others-loop-element l = record {
       ++ others_laid (passes l.which) [] (elements (separator_of l.mark) l.before t.End);
 }
 
+-- what stands behind the forms that are left is to stand behind what is put
+abbrev pub invariant-chain::put_behinds-loop-left : goal.invariant-chain::put_behinds-loop-left
+invariant-chain::put_behinds-loop-left l = record {
+  kept : Keeps l.initial.out.items l.out.items;
+  put : map piece_token l.out.items ++ behind_lefts (map (λ x. x.now) (take l.left l.forms))
+      ≡ map piece_token l.initial.out.items ++ behind_lefts (map (λ x. x.now) l.forms);
+  within : l.left ≤ length l.forms;
+}
+
+abbrev pub decreases-chain::put_behinds-loop-left : goal.decreases-chain::put_behinds-loop-left
+decreases-chain::put_behinds-loop-left l = l.left
+
 -- what is handed on is read anew by those that it is handed to
 abbrev pub decreases-turn::put_turns : goal.decreases-turn::put_turns
 decreases-turn::put_turns l = most (λ x. size-Tree x) l.trees.now + 2
@@ -74,7 +87,7 @@ abbrev pub decreases-expressed::put_given : goal.decreases-expressed::put_given
 decreases-expressed::put_given l = size-Tree l.attributes.now + size-Tree l.tree.now + 2
 
 abbrev pub decreases-expressed::put_operand : goal.decreases-expressed::put_operand
-decreases-expressed::put_operand l = size-Tree l.tree.now + 1
+decreases-expressed::put_operand l = size-Tree l.tree.now + 2
 
 abbrev pub decreases-expressed::put_own : goal.decreases-expressed::put_own
 decreases-expressed::put_own l = size-Tree l.own.now + 1
@@ -92,3 +105,13 @@ decreases-expressed::put_back l = 4 * (node_count l.two.now.front + node_count l
 abbrev pub decreases-expressed::put_infix : goal.decreases-expressed::put_infix
 decreases-expressed::put_infix l =
     4 * (node_count l.three.now.left + node_count l.three.now.own + node_count l.three.now.right) + 7
+
+-- operands that stand one left of the other
+abbrev pub decreases-chain::put_chain : goal.decreases-chain::put_chain
+decreases-chain::put_chain l = size-Tree l.tree.now + 1
+
+abbrev pub decreases-chain::put_behinds : goal.decreases-chain::put_behinds
+decreases-chain::put_behinds l = most (λ x. size-Tree x.now) l.forms.now
+
+abbrev pub decreases-chain::put_behind : goal.decreases-chain::put_behind
+decreases-chain::put_behind l = 4 * node_count l.form.now + 3

@@ -1,0 +1,29 @@
+-- Operands that stand one left of the other: what is written behind the innermost of them.
+use Rattle.std.specs.Prelude.{cond, List, [], ◌∷◌, ◌++◌, Option, Some, None}
+use Rattle.proc_macro2.specs.Token.{Token, Closes}
+use Rattle.proc_macro2.specs.declared.delimiter.Delimiter.TheVariants.{Parenthesis}
+use Rattle.syn_grammar.specs.Kind.{Kind}
+use Rattle.syn_grammar.specs.Tree.{Tree, Back, Infix}
+use Rattle.gram_tree.specs.Shapes.{single}
+use Rattle.range_laws.specs.Shelled.{goes_in}
+use Rattle.gram_write.specs.Laid.{behind_laid, laid}
+
+-- of a form with an operand before it its kind and that operand
+abbrev pub single_left : Tree → Option (Kind × Tree)
+single_left (Infix l k y r) = Some (k, l)
+single_left (Back l k y) = Some (k, l)
+single_left _ = None
+
+abbrev pub left_of : Tree → Option (Kind × Tree)
+left_of x = single_left (single x)
+
+-- the tokens behind that operand: the parenthesis that closes, and the rest of the form
+abbrev pub behind_left : Tree → List Token
+behind_left (Infix l k y r) = cond (goes_in k l) (Closes Parenthesis ∷ []) [] ++ (laid y ++ laid r)
+behind_left (Back l k y) = cond (goes_in k l) (Closes Parenthesis ∷ []) [] ++ behind_laid k y
+behind_left _ = []
+
+-- those behind the innermost of forms, each of which is the left operand of the one before it
+abbrev pub behind_lefts : List Tree → List Token
+behind_lefts [] = []
+behind_lefts (x ∷ xs) = behind_lefts xs ++ behind_left x

@@ -1,0 +1,153 @@
+//! Operands that stand one left of the other, which are written without a call for each in the one before it.
+
+ghost use Rattle.gram_piece.specs.Pieces.{piece_token};
+ghost use Rattle.gram_table.specs.Kinds.{kind_of};
+ghost use Rattle.gram_tree.specs.declared.tree.Tree.TheDeep.{size-Tree};
+ghost use Rattle.gram_write.specs.Chains.{behind_left, behind_lefts, left_of};
+ghost use Rattle.gram_write.specs.Front.{Keeps};
+ghost use Rattle.gram_write.specs.Laid.{laid};
+ghost use Rattle.std.specs.Prelude.{◌++◌, ◌<◌, ◌≡◌, ◌≤◌, IfOk, OnOk, false, map, max, option_map, true};
+ghost use denote.Param.Weighed.{most};
+
+use crate::expressed::{put_if, put_own};
+use crate::laid::put_laid;
+use crate::operand::{back, infix};
+use crate::shell::goes_in;
+use crate::within::Within;
+use gram_piece::piece::Piece;
+use gram_table::kind::Kind;
+use gram_tree::tree::{Form, Tree};
+use proc_macro2::delimiter::Delimiter;
+use std::alloc::AllocError;
+
+// A place among operands that stand one left of the other.
+#[derive(Clone, Copy)]
+struct Place<'t, 'a> {
+    // The operand.
+    tree: &'t Tree<'a>,
+}
+
+// Of a form with an operand before it its kind and that operand.
+#[tactic(auto, using(gram_tree::proofs::Shapes::singles))]
+fn left_of<'t, 'a>(tree: &'t Tree<'a>) -> Option<(Kind, &'t Tree<'a>)>
+    ensures { option_map (λ p. (kind_of p.0, p.1.now)) result ≡ left_of tree.now }
+{
+    match &tree.form {
+        Form::Infix(kind, three) => Some((*kind, &three.left)),
+        Form::Back(kind, two) => Some((*kind, &two.front)),
+        _ => None,
+    }
+}
+
+// Goes on from a form to its left operand, if it has one: the form is put behind others, and the parenthesis opens that
+// the operand gets. Whether it has one.
+#[tactic(auto, using(crate::proofs::Chains::steps, crate::proofs::Fronts::kept))]
+fn step<'t, 'a>(
+    place: &mut Place<'t, 'a>,
+    forms: &mut Vec<&'t Tree<'a>>,
+    out: &mut Vec<Piece<'a>>,
+) -> Result<bool, AllocError>
+    ensures put { IfOk result (λ more. map piece_token out.new.items
+        ++ (laid place.new.tree.now ++ behind_lefts (map (λ x. x.now) forms.new.items))
+        ≡ map piece_token out.old.items
+        ++ (laid place.old.tree.now ++ behind_lefts (map (λ x. x.now) forms.old.items))) }
+    ensures keeps { Keeps out.old.items out.new.items }
+    ensures inside { IfOk result (λ more. more ≡ true → size-Tree place.new.tree.now < size-Tree place.old.tree.now) }
+    ensures stays { IfOk result (λ more. more ≡ false → place.new ≡ place.old) }
+    ensures outside { IfOk result (λ more. most (λ x. size-Tree x.now) forms.new.items
+        ≤ max (most (λ x. size-Tree x.now) forms.old.items) (size-Tree place.old.tree.now)) }
+{
+    let tree = place.tree;
+    let Some((kind, left)) = left_of(tree) else {
+        return Ok(false);
+    };
+    forms.push(tree)?;
+    put_if(
+        goes_in(kind, left),
+        Piece::Open(Delimiter::Parenthesis),
+        out,
+    )?;
+    *place = Place { tree: left };
+    Ok(true)
+}
+
+// Goes on to the innermost left operand, which it answers.
+#[tactic(auto, using(crate::proofs::Fronts::kept))]
+fn put_fronts<'t, 'a>(
+    tree: &'t Tree<'a>,
+    forms: &mut Vec<&'t Tree<'a>>,
+    out: &mut Vec<Piece<'a>>,
+) -> Result<&'t Tree<'a>, AllocError>
+    ensures put { IfOk result (λ inner. map piece_token out.new.items
+        ++ (laid inner.now ++ behind_lefts (map (λ x. x.now) forms.new.items))
+        ≡ map piece_token out.old.items ++ (laid tree.now ++ behind_lefts (map (λ x. x.now) forms.old.items))) }
+    ensures keeps { Keeps out.old.items out.new.items }
+    ensures inside { IfOk result (λ inner. size-Tree inner.now ≤ size-Tree tree.now) }
+    ensures outside { IfOk result (λ inner. most (λ x. size-Tree x.now) forms.new.items
+        ≤ max (most (λ x. size-Tree x.now) forms.old.items) (size-Tree tree.now)) }
+{
+    let mut place = Place { tree };
+    while step(&mut place, forms, out)? {}
+    Ok(place.tree)
+}
+
+// What stands behind the left operand of a form.
+#[cycle(laid)]
+#[tactic(auto, using(crate::proofs::Chains::behinds, crate::proofs::Fronts::kept))]
+fn put_behind<'a>(form: &Tree<'a>, out: &mut Vec<Piece<'a>>) -> Result<(), AllocError>
+    ensures put { OnOk result (map piece_token out.new.items
+        ≡ map piece_token out.old.items ++ behind_left form.now) }
+    ensures keeps { Keeps out.old.items out.new.items }
+{
+    if let Some((kind, three)) = infix(form) {
+        put_if(
+            goes_in(kind, &three.left),
+            Piece::Close(Delimiter::Parenthesis),
+            out,
+        )?;
+        put_laid(Within::Anywhere, &three.own, out)?;
+        return put_laid(Within::Anywhere, &three.right, out);
+    }
+    let Some((kind, two)) = back(form) else {
+        return Ok(());
+    };
+    put_if(
+        goes_in(kind, &two.front),
+        Piece::Close(Delimiter::Parenthesis),
+        out,
+    )?;
+    put_own(kind, &two.back, out)
+}
+
+// What stands behind the innermost of forms, each of which is the left operand of the one before it.
+#[cycle(laid)]
+#[tactic(auto, using(crate::proofs::Pushing::puts, crate::proofs::Fronts::kept))]
+fn put_behinds<'a>(forms: &[&Tree<'a>], out: &mut Vec<Piece<'a>>) -> Result<(), AllocError>
+    ensures put { OnOk result (map piece_token out.new.items
+        ≡ map piece_token out.old.items ++ behind_lefts (map (λ x. x.now) forms.now)) }
+    ensures keeps { Keeps out.old.items out.new.items }
+{
+    let mut left = forms.len();
+    while left > 0 {
+        left -= 1;
+        put_behind(forms[left], out)?;
+    }
+    Ok(())
+}
+
+/// Puts the tokens of an operand, with no call for each operand that stands left in it.
+///
+/// # Errors
+///
+/// Where there is no memory for more tokens, or for the forms in which the innermost operand stands.
+#[cycle(laid)]
+#[tactic(auto, using(crate::proofs::Pushing::puts, crate::proofs::Fronts::kept))]
+pub(crate) fn put_chain<'a>(tree: &Tree<'a>, out: &mut Vec<Piece<'a>>) -> Result<(), AllocError>
+    ensures put { OnOk result (map piece_token out.new.items ≡ map piece_token out.old.items ++ laid tree.now) }
+    ensures keeps { Keeps out.old.items out.new.items }
+{
+    let mut forms = Vec::new(*out.allocator());
+    let inner = put_fronts(tree, &mut forms, out)?;
+    put_laid(Within::Anywhere, inner, out)?;
+    put_behinds(forms.as_slice(), out)
+}
