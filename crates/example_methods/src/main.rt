@@ -1,15 +1,24 @@
 //! Says of the functions of a file how each takes its receiver, and whether it takes any number of further arguments;
-//! of its statics whether they may be written; and of its impls, its traits and the functions of its impls what is
-//! refused where no modifiers may stand, with the place. The file is read from standard input.
+//! of each pattern of a parameter or a `let` its type, if one stands there; of its statics whether they may be written; and
+//! of its impls, its traits and the functions of its impls what is refused where no modifiers may stand, with the place.
+//! The file is read from standard input.
 #![tactic(auto)]
 
 use anyhow::{Result, anyhow};
+use std::alloc::Global;
 use std::io::{Read, Write};
 use syn::{
-    Arena, ItemFn, ItemImpl, ItemStatic, ItemTrait, LineColumn, ParseFault, PlacedParts, Receiver,
-    ReceiverKind, Signature, SourceMap, Span, StaticMutability, TokenBuffer, TokenStream, Tree,
-    parse_file, put_nodes,
+    Arena, ClosureParam, ItemFn, ItemImpl, ItemStatic, ItemTrait, LineColumn, Local, Parameter,
+    ParseFault, PatType, PlacedParts, Receiver, ReceiverKind, Signature, SourceMap, Span,
+    StaticMutability, TokenBuffer, TokenStream, Tree, parse_file, print, put_nodes, write,
 };
+
+// The printed normal form of a part.
+fn normal(alloc: Global, tree: &Tree) -> Result<String> {
+    let mut pieces = Vec::new(alloc);
+    write(tree, &mut pieces)?;
+    Ok(print(alloc, pieces.as_slice())?)
+}
 
 // Where a token begins, if it stands in a text of the map.
 fn place_of(map: &SourceMap, span: Span) -> Option<LineColumn> {
@@ -53,6 +62,36 @@ fn put_function(signature: &Signature, out: &mut String) -> Result<()> {
     Ok(())
 }
 
+// The pattern with its type that stands in a node.
+fn pat_type_in<'t, 'a>(tree: &'t Tree<'a>) -> Option<PatType<'t, 'a>> {
+    if let Some(parameter) = Parameter::of(tree) {
+        return parameter.pat_type();
+    }
+    if let Some(parameter) = ClosureParam::of(tree) {
+        return parameter.pat_type();
+    }
+    match Local::of(tree) {
+        Some(local) => local.pat_type(),
+        None => None,
+    }
+}
+
+// A line for a pattern with its type.
+fn put_pat_type(found: &PatType, out: &mut String) -> Result<()> {
+    let alloc = *out.allocator();
+    let pat = normal(alloc, found.pat)?;
+    let ty = normal(alloc, found.ty)?;
+    write!(out, "  ")?;
+    if let Some(attrs) = found.attrs {
+        let attrs = normal(alloc, attrs)?;
+        if !attrs.is_empty() {
+            write!(out, "{attrs} ")?;
+        }
+    }
+    writeln!(out, "{pat}: {ty}")?;
+    Ok(())
+}
+
 // A line for a static.
 fn put_static(item: &ItemStatic, out: &mut String) -> Result<()> {
     let name = item.ident;
@@ -86,6 +125,9 @@ fn put_node(map: &SourceMap, tree: &Tree, out: &mut String) -> Result<()> {
     let alloc = *out.allocator();
     if let Some(signature) = Signature::of(tree) {
         put_function(&signature, out)?;
+    }
+    if let Some(found) = pat_type_in(tree) {
+        put_pat_type(&found, out)?;
     }
     if let Some(item) = ItemStatic::of(tree) {
         put_static(&item, out)?;

@@ -6,9 +6,9 @@ use anyhow::{Result, anyhow};
 use std::alloc::Global;
 use std::io::{Read, Write};
 use syn::{
-    AnyPath, Arena, Kind, ParseFault, Plus, PointerMutability, SourceMap, TokenBuffer, TokenStream,
-    Tree, Type, TypeArray, TypeFnPtr, TypeParen, TypePath, TypePtr, TypeReference, TypeSlice,
-    TypeTuple, parse_as, print, write,
+    AnyPath, Arena, Kind, ParseFault, Plus, PointerMutability, QualifiedPath, SourceMap,
+    TokenBuffer, TokenStream, Tree, Type, TypeArray, TypeFnPtr, TypeParen, TypePath, TypePtr,
+    TypeReference, TypeSlice, TypeTuple, parse_as, print, write,
 };
 
 // The printed normal form of a part.
@@ -50,13 +50,21 @@ fn put_pointer(found: &TypePtr, out: &mut String) -> Result<()> {
     Ok(())
 }
 
+// What a qualified path is, and how many of its segments stand in front of its `>`.
+fn put_qualified(tree: &Tree, out: &mut String) -> Result<()> {
+    let Some(found) = QualifiedPath::of(tree) else {
+        return Err(anyhow!("what was read as a qualified path is none"));
+    };
+    let path = normal(*out.allocator(), tree)?;
+    let position = found.qself.position();
+    writeln!(out, "  a qualified path {path}, with position {position}")?;
+    Ok(())
+}
+
 // What a path is.
 fn put_path(found: &TypePath, out: &mut String) -> Result<()> {
     match found.path {
-        AnyPath::Qualified(path) => {
-            let path = normal(*out.allocator(), path)?;
-            writeln!(out, "  a qualified path {path}")?;
-        }
+        AnyPath::Qualified(path) => put_qualified(path, out)?,
         AnyPath::Plain(path) => {
             let path = normal(*out.allocator(), path)?;
             writeln!(out, "  a path {path}")?;

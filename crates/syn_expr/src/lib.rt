@@ -3,7 +3,7 @@
 //!
 //! - `expr`: forms of expressions; `expr::whole`: which of them an expression is.
 //! - `blocks`: blocks, files and expressions that hold other ones in delimiters.
-//! - `stmt`: statements.
+//! - `stmt`: statements; `typed`: the patterns with a type of `let`s and of closures' parameters.
 //! - `modifiers`: what may stand beside the parts of closures, blocks and `let`s.
 #![tactic(auto)]
 
@@ -11,3 +11,4 @@ pub mod blocks;
 pub mod expr;
 pub mod modifiers;
 pub mod stmt;
+pub mod typed;

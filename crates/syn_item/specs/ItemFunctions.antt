@@ -1,12 +1,13 @@
 -- The trees that functions are, with their signatures, parameters and receivers.
 use Rattle.gram_table.specs.Kinds.{place_of}
 use Rattle.gram_table.specs.declared.kind.Place.{Place}
-use Rattle.std.specs.Prelude.{◌≡◌, ◌≢◌, None, Option, Some, codes}
+use Rattle.std.specs.Prelude.{◌≡◌, ◌≢◌, IfSome, None, Option, Some, codes}
 use Rattle.rust_leaf.specs.Leaf.{ident_text}
 use Rattle.rust_leaf.specs.declared.ident.Ident.{Ident}
 use Rattle.syn_ast.specs.Leaves.{lifetime_tree, list_tree, mark_tree, node_tree, optional_tree, word_tree}
 use Rattle.syn_ast.specs.declared.leaf.Lifetime.{Lifetime}
 use Rattle.syn_ast.specs.declared.leaf.Mark.{Mark}
+use Rattle.syn_ast.specs.declared.pat_type.PatType.{PatType}
 use Rattle.syn_grammar.specs.Kind as k
 use Rattle.syn_grammar.specs.Name as n
 use Rattle.syn_grammar.specs.Tree as t
@@ -44,6 +45,15 @@ fn_arg_tree (arguments.Unnamed x) = t.Second (t.Second (t.First (t.Called n.the_
 fn_arg_tree (arguments.Typed x) = t.Second (t.Second (t.Second (t.Pair (t.Called n.the_pattern x.pat.now) (t.Pair
     (mark_tree x.colon_token) (t.Second (t.Called n.the_type x.ty.now))))))
 fn_arg_tree (arguments.Variadic x) = variadic_tree x.pat x.dots
+
+-- the pattern with its type that it is, if it is that
+abbrev pub typed_pattern : FnArg → Option PatType
+typed_pattern (arguments.Typed x) = Some x
+typed_pattern _ = None
+
+-- of a pattern with its type these are the attributes
+abbrev pub IsBehind : Bor Tree → FnArg → Type 0
+IsBehind a x = IfSome (typed_pattern x) (λ p. p.attrs ≡ Some a)
 
 -- a parameter of a function
 abbrev pub parameter : Parameter → Tree

@@ -9,8 +9,8 @@ ghost use Rattle.syn_grammar.specs.Items.{safety};
 ghost use Rattle.syn_grammar.specs.Kind as k;
 ghost use Rattle.syn_grammar.specs.Name as n;
 ghost use Rattle.syn_grammar.specs.Tree as t;
-ghost use Rattle.syn_item.specs.ItemFunctions.{IsItemFn, IsReceiver, IsSafety, fn_arg_tree, one_parameter, parameter};
-ghost use Rattle.syn_item.specs.ItemFunctions.{parameters, safety_is, signature};
+ghost use Rattle.syn_item.specs.ItemFunctions.{IsBehind, IsItemFn, IsReceiver, IsSafety, fn_arg_tree, one_parameter};
+ghost use Rattle.syn_item.specs.ItemFunctions.{parameter, parameters, safety_is, signature, typed_pattern};
 ghost use Rattle.syn_item.specs.ItemParts.{safety_tree};
 
 use crate::part;
@@ -19,6 +19,7 @@ use gram_tree::tree::Tree;
 use rust_leaf::ident::Ident;
 use syn_ast::leaf::{Delimiters, Lifetime, Mark};
 use syn_ast::list::Elements;
+use syn_ast::pat_type::PatType;
 use syn_ast::sub::optional_as_marked;
 use syn_ast::take::{self, Choice, Choice4};
 
@@ -57,17 +58,6 @@ impl<'t, 'a> Parameters<'t, 'a> {
     }
 }
 
-/// A pattern and its type: `a: A`.
-#[derive(Clone, Copy)]
-pub struct PatType<'t, 'a> {
-    /// The pattern.
-    pub pat: &'t Tree<'a>,
-    /// `:`
-    pub colon_token: Mark,
-    /// The type.
-    pub ty: &'t Tree<'a>,
-}
-
 /// A pattern before `...`: `a:`.
 #[derive(Clone, Copy)]
 pub struct VariadicPat<'t, 'a> {
@@ -91,7 +81,7 @@ pub struct Variadic<'t, 'a> {
 pub enum FnArg<'t, 'a> {
     /// A receiver, as a form of the kind `Receiver`.
     Receiver(&'t Tree<'a>),
-    /// A pattern and its type.
+    /// A pattern and its type, with the attributes of the parameter.
     Typed(PatType<'t, 'a>),
     /// A type alone.
     Unnamed(&'t Tree<'a>),
@@ -99,11 +89,12 @@ pub enum FnArg<'t, 'a> {
     Variadic(Variadic<'t, 'a>),
 }
 
-// A pattern with its type, or with dots.
-fn as_typed<'t, 'a>(tree: &'t Tree<'a>) -> Option<FnArg<'t, 'a>>
-    ensures { MatchOption result ((a b : g.Gram) (c d : ℕ) (cs ds : List ℕ) (test : List Token → Bool)
+// A pattern with its type, or with dots, behind these attributes.
+fn as_typed<'t, 'a>(attrs: &'t Tree<'a>, tree: &'t Tree<'a>) -> Option<FnArg<'t, 'a>>
+    ensures tree_is { MatchOption result ((a b : g.Gram) (c d : ℕ) (cs ds : List ℕ) (test : List Token → Bool)
         → IsShaped tree.now (g.seq (g.called n.the_pattern a) (g.seq (g.mark c cs) (g.alt test (g.called n.the_dots
         (g.mark d ds)) (g.called n.the_type b)))) → ⊥) (λ x. t.Second (t.Second (t.Second tree.now)) ≡ fn_arg_tree x) }
+    ensures attributes { IfSome result (λ x. IsBehind attrs.entry x) }
 {
     let (pat, colon_token, behind) = take::three(tree)?;
     let pat = part::pattern(pat)?;
@@ -119,6 +110,7 @@ fn as_typed<'t, 'a>(tree: &'t Tree<'a>) -> Option<FnArg<'t, 'a>>
         Some(Choice::Second(inner)) => {
             let ty = part::ty(inner)?;
             Some(FnArg::Typed(PatType {
+                attrs: Some(attrs),
                 pat,
                 colon_token,
                 ty,
@@ -129,11 +121,12 @@ fn as_typed<'t, 'a>(tree: &'t Tree<'a>) -> Option<FnArg<'t, 'a>>
 }
 
 // What a parameter is behind its attributes.
-fn as_fn_arg<'t, 'a>(tree: &'t Tree<'a>) -> Option<FnArg<'t, 'a>>
-    ensures { MatchOption result ((s u v w : List Token → Bool) (a b i j : g.Gram) (c d e : ℕ) (cs ds es : List ℕ)
+fn as_fn_arg<'t, 'a>(attrs: &'t Tree<'a>, tree: &'t Tree<'a>) -> Option<FnArg<'t, 'a>>
+    ensures tree_is { MatchOption result ((s u v w : List Token → Bool) (a b i j : g.Gram) (c d e : ℕ) (cs ds es : List ℕ)
         → IsShaped tree.now (g.alt s (g.called n.the_receiver i) (g.alt u (g.called n.the_dots (g.mark e es)) (g.alt v
         (g.called n.the_unnamed j) (g.seq (g.called n.the_pattern a) (g.seq (g.mark c cs) (g.alt w (g.called n.the_dots
         (g.mark d ds)) (g.called n.the_type b))))))) → ⊥) (λ x. tree.now ≡ fn_arg_tree x) }
+    ensures attributes { IfSome result (λ x. IsBehind attrs.entry x) }
 {
     match take::chosen4(tree) {
         Some(Choice4::First(inner)) => {
@@ -148,7 +141,7 @@ fn as_fn_arg<'t, 'a>(tree: &'t Tree<'a>) -> Option<FnArg<'t, 'a>>
             let ty = part::unnamed(inner)?;
             Some(FnArg::Unnamed(ty))
         }
-        Some(Choice4::Fourth(inner)) => as_typed(inner),
+        Some(Choice4::Fourth(inner)) => as_typed(attrs, inner),
         None => None,
     }
 }
@@ -166,7 +159,8 @@ impl<'t, 'a> Parameter<'t, 'a> {
     /// What a tree is, if it is that.
     #[tactic(auto, unfolding(syn_grammar::specs::Table::table))]
     pub fn of(tree: &'t Tree<'a>) -> Option<Parameter<'t, 'a>>
-        ensures { MatchOption result (IsShaped tree.now (g.ref k.Parameter) → ⊥) (λ x. tree.now ≡ parameter x) }
+        ensures tree_is { MatchOption result (IsShaped tree.now (g.ref k.Parameter) → ⊥) (λ x. tree.now ≡ parameter x) }
+        ensures attributes { IfSome result (λ x. IsBehind x.attrs x.arg) }
     {
         let Some((Kind::Parameter, inner)) = take::node(tree) else {
             return None;
@@ -174,10 +168,22 @@ impl<'t, 'a> Parameter<'t, 'a> {
         let Some((attrs, arg)) = take::pair(inner) else {
             return None;
         };
-        let Some(arg) = as_fn_arg(arg) else {
+        let Some(arg) = as_fn_arg(attrs, arg) else {
             return None;
         };
         Some(Parameter { attrs, arg })
+    }
+
+    /// Its pattern with its type, if it is that, behind its attributes.
+    pub fn pat_type(&self) -> Option<PatType<'t, 'a>>
+        ensures { result ≡ typed_pattern self.now.arg }
+    {
+        match self.arg {
+            FnArg::Typed(found) => Some(found),
+            FnArg::Receiver(_) => None,
+            FnArg::Unnamed(_) => None,
+            FnArg::Variadic(_) => None,
+        }
     }
 }
 
