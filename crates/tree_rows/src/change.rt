@@ -140,7 +140,10 @@ fn made_anew<'a>(arena: &'a Arena, tree: &Tree<'a>, by: &mut Change<'a>) -> Resu
         Form::Turns(turns) => Ok(made::turns(arena, changed_turns(arena, turns, by)?)?),
         Form::Elements(list) => {
             let before = changed_elements(arena, list.before, by)?;
-            let last = changed_last(arena, list.last, by)?;
+            let last = match list.last {
+                Some(last) => Some(changed(arena, last, by)?),
+                None => None,
+            };
             Ok(made::elements(arena, list.separator, before, last)?)
         }
         Form::First(depth, inner) => Ok(made::first_behind(
@@ -211,17 +214,4 @@ fn changed_elements<'a>(
         })?;
     }
     Ok(all)
-}
-
-// A last element made anew, if there is one.
-#[cycle(changed)]
-fn changed_last<'a>(
-    arena: &'a Arena,
-    last: Option<&Tree<'a>>,
-    by: &mut Change<'a>,
-) -> Result<Option<Tree<'a>>> {
-    match last {
-        Some(last) => Ok(Some(changed(arena, last, by)?)),
-        None => Ok(None),
-    }
 }

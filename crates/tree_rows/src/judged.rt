@@ -77,8 +77,8 @@ fn is_written_so(alloc: Global, position: Position, text: &str, tree: &Tree<'_>)
     Ok(as_read.as_str() == text && as_built.as_str() == text)
 }
 
-// What is wrong with what is read of the print of an expression.
-fn fault_read<'a>(
+// What is wrong with what is read of the print of an expression, with trees in an arena.
+fn fault_in<'a>(
     arena: &'a Arena,
     position: Position,
     wanted: &str,
@@ -99,6 +99,18 @@ fn fault_read<'a>(
     Ok(None)
 }
 
+// The same with trees in an arena of its own.
+fn fault_read(
+    alloc: Global,
+    position: Position,
+    wanted: &str,
+    text: &str,
+    buffer: &TokenBuffer<'_>,
+) -> Result<Option<String>> {
+    let arena = Arena::new(alloc);
+    fault_in(&arena, position, wanted, text, buffer)
+}
+
 // What is wrong with the print of an expression, of which so many parentheses may be left out.
 fn fault(
     alloc: Global,
@@ -109,8 +121,7 @@ fn fault(
 ) -> Result<Option<String>> {
     let stream = placed(alloc, position, text)?;
     let buffer = TokenBuffer::new2(alloc, &stream, 1)?;
-    let arena = Arena::new(alloc);
-    if let Some(wrong) = fault_read(&arena, position, wanted, text, &buffer)? {
+    if let Some(wrong) = fault_read(alloc, position, wanted, text, &buffer)? {
         return Ok(Some(wrong));
     }
     if !may_shelter(text) && spare(alloc, position, wanted, text)? > own {
@@ -124,8 +135,8 @@ fn own_parentheses(text: &str) -> usize {
     text.matches("(c)").count()
 }
 
-// What is found of an expression that is built of these buffers, which are a text's.
-fn found<'a>(
+// What is found of an expression that is built in an arena of these buffers, which are a text's.
+fn found_in<'a>(
     arena: &'a Arena,
     text: &str,
     buffers: &'a [TokenBuffer<'_>],
@@ -152,18 +163,28 @@ fn found<'a>(
     })
 }
 
+// The same with an arena of its own.
+fn found(
+    alloc: Global,
+    text: &str,
+    buffers: &[TokenBuffer<'_>],
+    positions: &[Position],
+) -> Result<Finding> {
+    let arena = Arena::new(alloc);
+    found_in(&arena, text, buffers, positions)
+}
+
 /// What is found of an expression that is built of a text.
 pub(crate) fn judged(alloc: Global, text: &str, positions: &[Position]) -> Result<Finding> {
     let texts = texts(alloc, text)?;
     let streams = streams(alloc, texts.as_slice())?;
     let buffers = buffers(alloc, streams.as_slice())?;
-    let arena = Arena::new(alloc);
-    found(&arena, text, buffers.as_slice(), positions)
+    found(alloc, text, buffers.as_slice(), positions)
 }
 
-// What is wrong with the print of an expression that is read of a text: it gains no parentheses, unless a range stands
-// behind attributes. None where no expression is read.
-fn kept_read<'a>(
+// Whether what is read of a text, with trees in an arena, gains no parentheses, unless a range stands behind attributes.
+// None where no expression is read.
+fn kept_of<'a>(
     arena: &'a Arena,
     position: Position,
     text: &str,
@@ -180,12 +201,22 @@ fn kept_read<'a>(
     Ok(Some(alike && (may_shelter(text) || !gains)))
 }
 
+// The same with trees in an arena of its own.
+fn kept_read(
+    alloc: Global,
+    position: Position,
+    text: &str,
+    buffer: &TokenBuffer<'_>,
+) -> Result<Option<bool>> {
+    let arena = Arena::new(alloc);
+    kept_of(&arena, position, text, buffer)
+}
+
 // The same in a position.
 fn kept_in(alloc: Global, position: Position, text: &str) -> Result<Option<bool>> {
     let stream = placed(alloc, position, text)?;
     let buffer = TokenBuffer::new2(alloc, &stream, 1)?;
-    let arena = Arena::new(alloc);
-    kept_read(&arena, position, text, &buffer)
+    kept_read(alloc, position, text, &buffer)
 }
 
 /// In how many positions a text is read, and in how many of these what is printed of it has other parentheses.

@@ -51,8 +51,8 @@ pub(crate) fn form_of<'t, 'a>(tree: &'t Tree<'a>) -> Result<&'t Tree<'a>> {
     inner.whole().ok_or(anyhow!("no expression"))
 }
 
-// Whether all of a buffer is read in a position, with that shape.
-fn is_same_of<'a>(
+// Whether all of a buffer is read in a position, with that shape, and with trees in an arena.
+fn is_same_in<'a>(
     arena: &'a Arena,
     position: Position,
     wanted: &str,
@@ -65,10 +65,20 @@ fn is_same_of<'a>(
     Ok(found.as_str() == wanted)
 }
 
+// The same with trees in an arena of its own.
+fn is_same_of(
+    alloc: Global,
+    position: Position,
+    wanted: &str,
+    buffer: &TokenBuffer<'_>,
+) -> Result<bool> {
+    let arena = Arena::new(alloc);
+    is_same_in(&arena, position, wanted, buffer)
+}
+
 /// Whether all of a text is read in a position, with that shape.
 pub(crate) fn is_same(alloc: Global, position: Position, wanted: &str, text: &str) -> Result<bool> {
     let stream = placed(alloc, position, text)?;
     let buffer = TokenBuffer::new2(alloc, &stream, 1)?;
-    let arena = Arena::new(alloc);
-    is_same_of(&arena, position, wanted, &buffer)
+    is_same_of(alloc, position, wanted, &buffer)
 }
