@@ -7,6 +7,7 @@ pub mod Same
 pub mod Casts
 pub mod Ended
 pub mod Stays
+pub mod Fits
 pub mod Gains
 pub mod OnePass
 pub mod Levels

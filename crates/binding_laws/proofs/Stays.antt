@@ -264,7 +264,7 @@ back_braces p ts ExprPath b = cc
 back_braces p ts _ b = refl
 
 -- right operands
-right_true : (w m h l a : Bool) → w ≡ true → (m ≡ true → (h ≡ true) × (l ≡ false)) → a ≡ false
+pub right_true : (w m h l a : Bool) → w ≡ true → (m ≡ true → (h ≡ true) × (l ≡ false)) → a ≡ false
     → (w && ((not m || (h && not l)) && not a)) ≡ true
 right_true true true true true a e f g = absurd (both true refl (f refl).1)
 right_true true true true false a e f g = ap not g

@@ -32,7 +32,7 @@ await_behind M = record {
 }
 
 -- a name
-no_await : (cs : List ℕ) → is_ident cs ≡ true → same_text (codes "await") cs ≡ false
+pub no_await : (cs : List ℕ) → is_ident cs ≡ true → same_text (codes "await") cs ≡ false
 unfolding is_reserved
 no_await cs h = go (same_text (codes "await") cs) refl
   where

@@ -65,7 +65,7 @@ then_none : (b : Bool) (l : Look) (ts : List Token) → seen (l ts) ≡ false
 then_none true l ts e = refl
 then_none false l ts e = e
 
-literals_seen : (p : List ℕ → Bool) (ts : List Token) → seen (past_literals p ts) ≡ true
+pub literals_seen : (p : List ℕ → Bool) (ts : List Token) → seen (past_literals p ts) ≡ true
 literals_seen p [] = refl
 literals_seen p (Literal cs ∷ ts) = go (p cs) (literals_seen p ts)
   where

@@ -3,5 +3,4 @@ pub mod FormCases
 pub mod OffKinds
 pub mod Elements
 pub mod Ends
-pub mod Sizes
 pub mod UseRoots

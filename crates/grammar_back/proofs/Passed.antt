@@ -1,50 +1,21 @@
 -- What stands behind attributes: a look passes them.
 use Rattle.std.proofs.Common.{◌≡◌, ℕ, zero, suc, ◌+◌, List, [], ◌∷◌, ◌++◌, refl, sym, ap, ◌∙◌, subst}
 use Rattle.std.proofs.Common.{append_assoc, arith}
-use Rattle.std.specs.Prelude.{Bool, false, cond, length, Option, Some, None}
+use Rattle.std.specs.Prelude.{Bool, false, length, Option, Some, None}
 use Rattle.std.proofs.lemmas.List.{length-append}
-use Rattle.proc_macro2.specs.Token.{Token, Opens, Closes, Ident, Literal, Punct}
+use Rattle.proc_macro2.specs.Token.{Token, Opens, Closes}
 use Rattle.proc_macro2.specs.declared.delimiter.Delimiter.{Delimiter}
 use Rattle.proc_macro2.specs.declared.delimiter.Delimiter.TheVariants.{Bracket}
 use Rattle.rust_leaf.specs.declared.punct.Spacing.{Spacing}
 use Rattle.syn_grammar.specs.Kind.{OuterAttribute, OuterAttributes}
 use Rattle.syn_grammar.specs.Tree.{Tree, AMark, End, Again, Group, Node, Pair, marks as signs, flat}
 use Rattle.syn_grammar.specs.Gram.{Gram, ref}
-use Rattle.syn_grammar.specs.Look.{Look, seen, behind, sees, ◌then◌, past_closing, a_group, as_far, all_attributes}
+use Rattle.syn_grammar.specs.Look.{Look, seen, behind, sees, ◌then◌, a_group, as_far, all_attributes}
 use Rattle.syn_grammar.specs.Look.{first_seen}
 use Rattle.syn_grammar.specs.Say.{marks}
-use Rattle.syn_grammar.specs.Run.{Split, Unclosed, Inside, onto, split}
 use Rattle.syn_grammar.specs.Table.{table}
 use Rattle.syn_grammar.specs.Derives.{Derives}
-use Rattle.syn_grammar.proofs.Splits.{split_at, delimiter_same}
-
--- a group
-abbrev pub rest_of : Split → Option (List Token)
-rest_of Unclosed = None
-rest_of (Inside ts d r) = Some r
-
-rest_onto : (us : List Token) (s : Split) → rest_of s ≡ rest_of (onto us s)
-rest_onto us Unclosed = refl
-rest_onto us (Inside ts d r) = refl
-
-past_split : (n : ℕ) (ts : List Token) → past_closing n ts ≡ rest_of (split n ts)
-unfolding split
-past_split n (Opens d ∷ ts) = past_split (suc n) ts ∙ rest_onto (Opens d ∷ []) (split (suc n) ts)
-past_split n (Ident cs ∷ ts) = past_split n ts ∙ rest_onto (Ident cs ∷ []) (split n ts)
-past_split n (Literal cs ∷ ts) = past_split n ts ∙ rest_onto (Literal cs ∷ []) (split n ts)
-past_split n (Punct c spacing ∷ ts) = past_split n ts ∙ rest_onto (Punct c spacing ∷ []) (split n ts)
-past_split zero (Closes d ∷ ts) = refl
-past_split (suc n) (Closes d ∷ ts) = past_split n ts ∙ rest_onto (Closes d ∷ []) (split n ts)
-past_split zero [] = refl
-past_split (suc n) [] = refl
-
-pub group_passed : (e : Delimiter) (x : Tree) (g : Gram) (s : List Token) → Derives x g []
-    → a_group e (Opens e ∷ (flat x ++ Closes e ∷ []) ++ s) ≡ Some s
-group_passed e x g s d =
-    ap (λ b. behind (cond b (Some ((flat x ++ Closes e ∷ []) ++ s)) None) (past_closing 0)) (delimiter_same e)
-    ∙ ap (past_closing 0) (append_assoc (flat x) (Closes e ∷ []) s)
-    ∙ past_split 0 (flat x ++ Closes e ∷ s)
-    ∙ ap rest_of (split_at x g [] d e s)
+use Rattle.item_laws.proofs.Passed.{group_passed}
 
 -- an attribute
 abbrev pub an_attribute : Look

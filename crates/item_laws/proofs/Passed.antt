@@ -14,7 +14,7 @@ abbrev pub rest_of : Split → Option (List Token)
 rest_of Unclosed = None
 rest_of (Inside ts d r) = Some r
 
-rest_onto : (us : List Token) (s : Split) → rest_of s ≡ rest_of (onto us s)
+pub rest_onto : (us : List Token) (s : Split) → rest_of s ≡ rest_of (onto us s)
 rest_onto us Unclosed = refl
 rest_onto us (Inside ts d r) = refl
 

@@ -251,19 +251,19 @@ attributed_turn us t b z s f h =
     (λ q v. attributes_stand us (normal_in q t) (normal_in Plain b) (h q) v)))
 
 -- an entry's parts
-alt_case : (F : Tree → Type 0) (x : Tree) (t : List Token → Bool) (g h : Gram) (r : List Token)
+pub alt_case : (F : Tree → Type 0) (x : Tree) (t : List Token → Bool) (g h : Gram) (r : List Token)
     → Derives x (alt t g h) r → ((y : Tree) → Derives y g r → F (First y)) → ((y : Tree) → Derives y h r → F (Second y))
     → F x
 alt_case F (First x) t g h r d a b = a x d.1
 alt_case F (Second x) t g h r d a b = b x d.1
 alt_case F _ t g h r d a b = absurd d
 
-seq_case : (F : Tree → Type 0) (x : Tree) (g h : Gram) (r : List Token) → Derives x (seq g h) r
+pub seq_case : (F : Tree → Type 0) (x : Tree) (g h : Gram) (r : List Token) → Derives x (seq g h) r
     → ((y z : Tree) → Derives y g (flat z ++ r) → Derives z h r → F (Pair y z)) → F x
 seq_case F (Pair x y) g h r d a = a x y d.0 d.1
 seq_case F _ g h r d a = absurd d
 
-called_case : (F : Tree → Type 0) (x : Tree) (n : Part) (g : Gram) (r : List Token) → Derives x (called n g) r
+pub called_case : (F : Tree → Type 0) (x : Tree) (n : Part) (g : Gram) (r : List Token) → Derives x (called n g) r
     → ((y : Tree) → Derives y g r → F (Called n y)) → F x
 called_case F (Called m x) n g r d a = subst (λ i. F (Called i x)) (sym d.0) (a x d.1)
 called_case F _ n g r d a = absurd d

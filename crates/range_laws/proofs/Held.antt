@@ -1,43 +1,42 @@
 -- An expression that was read gains no parentheses but those of its ranges behind attributes.
 use Rattle.std.proofs.Common.{◌≡◌, ℕ, List, [], ◌∷◌, ◌++◌, refl, sym, ap, ◌∙◌, subst, inl, inr}
-use Rattle.std.specs.Prelude.{Bool, true, false, not, ◌&&◌, ◌||◌, cond, nat_eq, Some}
+use Rattle.std.specs.Prelude.{Bool, true, false, not, ◌&&◌, ◌||◌, cond}
 use Rattle.proc_macro2.specs.Token.{Token, Ident, Punct, Opens}
 use Rattle.proc_macro2.specs.declared.delimiter.Delimiter.TheVariants.{Parenthesis}
 use Rattle.rust_leaf.specs.declared.punct.Spacing.TheVariants.{Alone as Apart, Joint}
-use Rattle.syn_grammar.specs.Kind.{Kind, Position, Plain, InCondition, InArm, InStatement, Expression, ExprStruct}
-use Rattle.syn_grammar.specs.Kind.{ExprMethodCall, ExprField, ExprAwait, ExprCall, ExprIndex, ExprTry, ExprCast}
-use Rattle.syn_grammar.specs.Kind.{ExprPath, ExprRange, ExprRangeClosed, ExprAttributed, ExprUnary, ExprRawAddr}
-use Rattle.syn_grammar.specs.Kind.{ExprReference, ExprLet, ExprClosure, ExprBreak, ExprReturn, ExprYield}
-use Rattle.syn_grammar.specs.Kind.{ExprAssign, ExprOr, ExprAnd, ExprCompare, ExprBitOr, ExprBitXor, ExprBitAnd}
-use Rattle.syn_grammar.specs.Kind.{ExprShift, ExprSum, ExprProduct}
-use Rattle.syn_grammar.specs.Name.{the_value, the_label}
-use Rattle.syn_grammar.specs.Words.{plain_decimal}
-use Rattle.syn_grammar.specs.Tree.{Tree, ALiteral, Second, Called, End, Node, Whole, Alone, Front, Back, Infix, flat}
+use Rattle.syn_grammar.specs.Kind.{Kind, Position, Plain, InCondition, Expression, ExprStruct}
+use Rattle.syn_grammar.specs.Kind.{ExprField}
+use Rattle.syn_grammar.specs.Kind.{ExprPath, ExprAttributed}
+use Rattle.syn_grammar.specs.Kind.{ExprBreak}
+use Rattle.syn_grammar.specs.Name.{the_label}
+use Rattle.syn_grammar.specs.Tree.{Tree, End, Node, Whole, Alone, Front, Back, Infix, flat}
 use Rattle.syn_grammar.specs.Part.{has}
 use Rattle.syn_grammar.specs.Gram.{ref}
 use Rattle.syn_grammar.specs.Look.{sees, a_lifetime}
 use Rattle.syn_grammar.specs.Say.{brace, marks}
 use Rattle.syn_grammar.specs.Table.{table}
-use Rattle.syn_grammar.specs.Derives.{Derives, Bound, IsLeft}
+use Rattle.syn_grammar.specs.Derives.{Derives, Bound}
 use Rattle.syn_grammar.specs.Kept.{index_field, dotted, kept}
 use Rattle.syn_grammar.specs.Normal.{stands_behind, normal, formed}
 use Rattle.syn_grammar.specs.Forms.{back, has_right, level, inside, is_range, takes_postfix, is_path_form}
-use Rattle.syn_grammar.specs.Forms.{may_be_left, ends_there, is_dotted, stands_left, chains, takes, takes_kind}
-use Rattle.syn_grammar.specs.Forms.{goes_on, struct_stands, within}
+use Rattle.syn_grammar.specs.Forms.{struct_stands, within}
 use Rattle.syn_grammar.specs.Parens.{may_lack, is_attributed_range, takes_braces, takes_what_follows, stays_left}
-use Rattle.syn_grammar.specs.Parens.{is_struct, is_ended, ends_before, stands_in, begins_in, follow, stays_right}
+use Rattle.syn_grammar.specs.Parens.{is_struct, is_ended, stands_in, begins_in, follow, stays_right}
 use Rattle.syn_grammar.specs.Parens.{is_label, parens_unless, with_right, with_left, front_form, back_form, infix_form}
-use Rattle.syn_grammar.proofs.Whole.{and_true}
 use Rattle.binding_laws.specs.Bare.{bare}
 use Rattle.binding_laws.proofs.Begun.{Begun, a_lifetime as begun_lifetime, a_literal, colons}
-use Rattle.binding_laws.proofs.Turns.{Facts, facts, Turn, is_infix, infix_turns, is_last, last_turns}
-use Rattle.binding_laws.proofs.Sights.{begins, stands, is_back, backs_are, brace_struct}
+use Rattle.binding_laws.proofs.Turns.{Facts, facts, Turn, is_infix, infix_turns, last_turns}
+use Rattle.binding_laws.proofs.Sights.{begins, stands, backs_are}
 use Rattle.binding_laws.proofs.Shells.{is_dot, undotted, behind_dot, dotted_has, dotted_own}
-use Rattle.binding_laws.proofs.Same.{may_same, chains_same, ends_same, postfix_same, within_same, all_begun}
-use Rattle.binding_laws.proofs.Ended.{Edge, ended}
+use Rattle.binding_laws.proofs.Same.{postfix_same, within_same, all_begun}
+use Rattle.binding_laws.proofs.Ended.{ended}
 use Rattle.binding_laws.proofs.Stays.{Behind, behind_end, behind_turn, behind_whole, whole_path, begun_right}
-use Rattle.binding_laws.proofs.Stays.{follow_plain, path_plain, takes_none, braces_none, back_braces, right_stays}
+use Rattle.binding_laws.proofs.Stays.{follow_plain, path_plain, takes_none, braces_none, right_stays}
 use Rattle.binding_laws.proofs.Stays.{facts_right, no_colon, both}
+use Rattle.binding_laws.proofs.Fits.{last_kind, infix_kind, takes_top, path_right, struct_true, left_stays, left_edge}
+use Rattle.binding_laws.proofs.Fits.{dot_ended, dot_left, dot_stands, dot_takes, dot_postfix, index_value}
+use Rattle.binding_laws.proofs.Fits.{struct_path, struct_undotted, infix_no_struct, back_takes}
+use Rattle.binding_laws.proofs.Stays.{right_true}
 use Rattle.range_laws.specs.Shelled.{is_lone_range, is_shelled, goes_in, parens_if, shelled}
 use Rattle.range_laws.specs.Opens.{opens}
 use Rattle.range_laws.proofs.Parens.{range_shelled, within_shelled, left_shelled}
@@ -118,14 +117,6 @@ starts_right ts us (inr o) q k m h =
     ap (has_right q k) o.is
     ∙ facts_right true (Opens Parenthesis ∷ o.others) (record { operand = refl; range = refl; no_brace = refl }) q k m
 
-right_true : (w m h l a : Bool) → w ≡ true → (m ≡ true → (h ≡ true) × (l ≡ false)) → a ≡ false
-    → (w && ((not m || (h && not l)) && not a)) ≡ true
-right_true true true true true a e f g = absurd (both true refl (f refl).1)
-right_true true true true false a e f g = ap not g
-right_true true true false l a e f g = absurd (both false (f refl).0 refl)
-right_true true false h l a e f g = ap not g
-right_true false m h l a e f g = cc
-
 right_label : (w m h l a : Bool) → (w && ((not m || (h && not l)) && not a)) ≡ true → m ≡ true → l ≡ false
 right_label true true true true a e f = cc
 right_label true true true false a e f = refl
@@ -165,209 +156,11 @@ right_shelled : (p q : Position) (k : Kind) (y x : Tree) (rest : List Token) →
 right_shelled p q ExprAttributed y x rest d e w h = right_attributed p q (normal (kept y)) x rest e w
 right_shelled p q k y x rest d e w h = right_other p q k y x rest d e w h (λ z. refl)
 
--- which forms stand behind an operand with one behind them, and without
-last_kind : (k : Kind) (p : Position) (ts : List Token) → is_back k ≡ true → is_struct k ≡ false → has_right p k ts
-    ≡ false → is_last k ≡ true
-unfolding has_right level
-last_kind ExprCall p ts b s h = refl
-last_kind ExprMethodCall p ts b s h = refl
-last_kind ExprField p ts b s h = refl
-last_kind ExprAwait p ts b s h = refl
-last_kind ExprIndex p ts b s h = refl
-last_kind ExprTry p ts b s h = refl
-last_kind ExprCast p ts b s h = refl
-last_kind ExprRange p ts b s h = refl
-last_kind ExprRangeClosed p ts b s h = refl
-last_kind _ p ts b s h = cc
-
-infix_kind : (k : Kind) (p : Position) (ts : List Token) → is_back k ≡ true → has_right p k ts ≡ true → is_infix k
-    ≡ true
-unfolding has_right level
-infix_kind ExprAssign p ts b h = refl
-infix_kind ExprOr p ts b h = refl
-infix_kind ExprAnd p ts b h = refl
-infix_kind ExprCompare p ts b h = refl
-infix_kind ExprBitOr p ts b h = refl
-infix_kind ExprBitXor p ts b h = refl
-infix_kind ExprBitAnd p ts b h = refl
-infix_kind ExprShift p ts b h = refl
-infix_kind ExprSum p ts b h = refl
-infix_kind ExprProduct p ts b h = refl
-infix_kind ExprRange p ts b h = refl
-infix_kind ExprRangeClosed p ts b h = refl
-infix_kind _ p ts b h = cc
-
--- a form with an operand behind it takes postfix forms behind that
-takes_top : (k : Kind) (p : Position) (ts : List Token) → has_right p k ts ≡ true → takes (level k) (level ExprStruct)
-    ≡ true
-unfolding has_right level takes
-takes_top ExprAttributed p ts h = refl
-takes_top ExprUnary p ts h = refl
-takes_top ExprRawAddr p ts h = refl
-takes_top ExprReference p ts h = refl
-takes_top ExprLet p ts h = refl
-takes_top ExprBreak p ts h = refl
-takes_top ExprReturn p ts h = refl
-takes_top ExprYield p ts h = refl
-takes_top ExprClosure p ts h = refl
-takes_top ExprRange p ts h = refl
-takes_top ExprRangeClosed p ts h = refl
-takes_top ExprAssign p ts h = refl
-takes_top ExprOr p ts h = refl
-takes_top ExprAnd p ts h = refl
-takes_top ExprCompare p ts h = refl
-takes_top ExprBitOr p ts h = refl
-takes_top ExprBitXor p ts h = refl
-takes_top ExprBitAnd p ts h = refl
-takes_top ExprShift p ts h = refl
-takes_top ExprSum p ts h = refl
-takes_top ExprProduct p ts h = refl
-takes_top _ p ts h = cc
-
-path_goes : (q : Position) (n : ℕ) (y : Tree) (rest : List Token) → takes n (level ExprStruct) ≡ true
-    → ends_there q (Alone ExprPath y) ≡ false → back q rest ≡ Some ExprStruct → goes_on q n (Alone ExprPath y) rest
-    ≡ true
-unfolding stands_left
-path_goes q n y rest t f e =
-    ap (takes_kind q n (Alone ExprPath y)) e ∙ ap (λ b. b && (not (ends_there q (Alone ExprPath y)) || false)) t ∙ ap
-    (λ b. not b || false) f
-
--- behind a path that is a right operand no brace stands that it could take
-plain_path : (q : Position) (n : ℕ) (x : Tree) (rest ts : List Token) → takes n (level ExprStruct) ≡ true
-    → goes_on q n x rest ≡ false → (sees brace ts ≡ true → sees brace rest ≡ true) → is_path_form x ≡ true
-    → ((us : List Token) → sees (struct_stands q) us ≡ sees brace us)
-    → ((t : Tree) → ends_there q (Alone ExprPath t) ≡ false) → sees (struct_stands q) ts ≡ false
-plain_path q n (Alone ExprPath y) rest ts t g b i s f = go (sees (struct_stands q) ts) refl
-  where
-    go : (c : Bool) → sees (struct_stands q) ts ≡ c → c ≡ false
-    go true e = absurd (both _ (path_goes q n y rest t (f y) (brace_struct q rest (s rest ∙ b (sym (s ts) ∙ e)))) g)
-    go false e = refl
-plain_path q n (Alone _ y) rest ts t g b i s f = cc
-plain_path q n _ rest ts t g b i s f = cc
-
-path_right : (q : Position) (n : ℕ) (x : Tree) (rest ts : List Token) → takes n (level ExprStruct) ≡ true
-    → goes_on q n x rest ≡ false → (sees brace ts ≡ true → sees brace rest ≡ true) → is_path_form x ≡ true
-    → sees (struct_stands q) ts ≡ false
-path_right InCondition n x rest ts t g b i = refl
-path_right Plain n x rest ts t g b i = plain_path Plain n x rest ts t g b i (λ us. refl) (λ y. refl)
-path_right InArm n x rest ts t g b i = plain_path InArm n x rest ts t g b i (λ us. refl) (λ y. refl)
-path_right InStatement n x rest ts t g b i = plain_path InStatement n x rest ts t g b i (λ us. refl) (λ y. refl)
-
--- left operands
-left_true : (s a e d c n : Bool) → a ≡ true → (not e || d) ≡ true → c ≡ false → n ≡ true
-    → (s || ((a && (not e || d)) && (not c && n))) ≡ true
-left_true true a e d c n f g h i = refl
-left_true false true e d c n f g h i = ap (λ b. b && (not c && n)) g ∙ ap (λ b. not b && n) h ∙ i
-left_true false false e d c n f g h i = cc
-
-struct_true : (s b : Bool) → s ≡ true → (s || b) ≡ true
-struct_true true b e = refl
-struct_true false b e = cc
-
-left_stays : (p : Position) (l : Tree) (k : Kind) (y : Tree) (rest : List Token) → Bound p l rest → IsLeft p l k
-    → is_ended k (flat y) (bare (kept l)) ≡ true → stays_left p k y (bare (kept l)) ≡ true
-unfolding stands_left
-left_stays p l k y rest d i e =
-    let a = and_true (may_be_left k l) (not (ends_there p l) || is_dotted k) i.0 in
-    left_true (is_struct k) (may_be_left k (bare (kept l))) (ends_there p (bare (kept l))) (is_dotted k)
-    (chains (bare (kept l)) k) (is_ended k (flat y) (bare (kept l)))
-    (may_same k l p rest d ∙ a.0) (ap (λ b. not b || is_dotted k) (ends_same p l p rest d) ∙ a.1)
-    (chains_same k l p rest d ∙ i.1) e
-
--- where a left operand ends: of a postfix form it takes one
-may_plain : (k : Kind) (l : Tree) → is_struct k ≡ false → may_be_left k l
-    ≡ cond (nat_eq (level k) 16) (takes_postfix l) (not (is_range l))
-may_plain ExprStruct l s = cc
-may_plain _ l s = refl
-
-left_edge : (p : Position) (l : Tree) (k : Kind) → is_struct k ≡ false → stands_left p l k ≡ true → Edge k p l
-unfolding stands_left
-left_edge p l k s m =
-    go (nat_eq (level k) 16) refl
-    (sym (may_plain k l s) ∙ (and_true (may_be_left k l) (not (ends_there p l) || is_dotted k) m).0)
-  where
-    go : (b : Bool) → nat_eq (level k) 16 ≡ b → cond b (takes_postfix l) (not (is_range l)) ≡ true → Edge k p l
-    go true e m = inr (inr m)
-    go false e m = inl e
-
 -- behind dots
 record Ready (p : Position) (m : Tree) : Type 0 where
   postfix : takes_postfix (bare m) ≡ true
   ended : is_ended ExprField [] (bare m) ≡ true
   stays : (s : List Token) → Held p (Punct 46 Apart ∷ s) m
-
--- what a form asks of the operand in front of it
-Asks : Kind → List Token → Type 0
-Asks k us =
-    ((j : Kind) (y : Tree) → ends_before k us j y ≡ ends_before ExprField [] j y)
-    × ((n : ℕ) (x : Tree) → (takes n (level k) && may_be_left k x)
-    ≡ (takes n (level ExprField) && may_be_left ExprField x))
-
-same_ended : (k : Kind) (us : List Token) → Asks k us → (x : Tree) → is_ended k us x ≡ is_ended ExprField [] x
-unfolding Asks
-same_ended k us a (Front j y x) =
-    ap (λ b. not b && is_ended k us x) (a.1 (level j) x)
-    ∙ ap (λ b. not (takes (level j) (level ExprField) && may_be_left ExprField x) && b) (same_ended k us a x)
-same_ended k us a (Infix l j y r) =
-    ap (λ b. not b && is_ended k us r) (a.1 (level j) r)
-    ∙ ap (λ b. not (takes (level j) (level ExprField) && may_be_left ExprField r) && b) (same_ended k us a r)
-same_ended k us a (Back l j y) = a.0 j y
-same_ended k us a _ = refl
-
-field_before : (us : List Token) (j : Kind) (y : Tree) → ends_before ExprField us j y ≡ ends_before ExprField [] j y
-unfolding level
-field_before us ExprCast y = refl
-field_before us _ y = refl
-
-method_before : (us : List Token) (j : Kind) (y : Tree) → ends_before ExprMethodCall us j y
-    ≡ ends_before ExprField [] j y
-unfolding level
-method_before us ExprCast y = refl
-method_before us _ y = refl
-
-await_before : (us : List Token) (j : Kind) (y : Tree) → ends_before ExprAwait us j y ≡ ends_before ExprField [] j y
-unfolding level
-await_before us ExprCast y = refl
-await_before us _ y = refl
-
-dot_ended : (k : Kind) (us : List Token) (x : Tree) → is_dot k ≡ true → is_ended k us x ≡ is_ended ExprField [] x
-unfolding level Asks
-dot_ended ExprField us x i = same_ended ExprField us (field_before us, λ n z. refl) x
-dot_ended ExprMethodCall us x i = same_ended ExprMethodCall us (method_before us, λ n z. refl) x
-dot_ended ExprAwait us x i = same_ended ExprAwait us (await_before us, λ n z. refl) x
-dot_ended _ us x i = cc
-
-or_true : (b : Bool) → (not b || true) ≡ true
-or_true true = refl
-or_true false = refl
-
-dot_left : (p : Position) (k : Kind) (y m : Tree) → is_dot k ≡ true → takes_postfix m ≡ true → is_ended ExprField [] m
-    ≡ true → stays_left p k y m ≡ true
-unfolding level chains
-dot_left p ExprField y m i t e =
-    left_true false (takes_postfix m) (ends_there p m) true false (is_ended ExprField (flat y) m) t
-    (or_true (ends_there p m)) refl (dot_ended ExprField (flat y) m refl ∙ e)
-dot_left p ExprMethodCall y m i t e =
-    left_true false (takes_postfix m) (ends_there p m) true false (is_ended ExprMethodCall (flat y) m) t
-    (or_true (ends_there p m)) refl (dot_ended ExprMethodCall (flat y) m refl ∙ e)
-dot_left p ExprAwait y m i t e =
-    left_true false (takes_postfix m) (ends_there p m) true false (is_ended ExprAwait (flat y) m) t
-    (or_true (ends_there p m)) refl (dot_ended ExprAwait (flat y) m refl ∙ e)
-dot_left p _ y m i t e = cc
-
-dot_stands : (p : Position) (k : Kind) → is_dot k ≡ true → stands_in p k ≡ true
-dot_stands InCondition ExprStruct i = cc
-dot_stands InCondition _ i = refl
-dot_stands Plain k i = refl
-dot_stands InArm k i = refl
-dot_stands InStatement k i = refl
-
-dot_takes : (p : Position) (k : Kind) (ts : List Token) → is_dot k ≡ true → takes_what_follows p k ts ≡ false
-unfolding may_lack
-dot_takes p ExprField ts i = refl
-dot_takes p ExprMethodCall ts i = refl
-dot_takes p ExprAwait ts i = refl
-dot_takes p _ ts i = cc
 
 dot_plain : (k : Kind) → is_dot k ≡ true → is_struct k ≡ false
 dot_plain ExprStruct i = cc
@@ -382,19 +175,9 @@ dot_stays p ts k m y s i e r = (
   subst (λ us. Held p us m) (sym e) (r.stays s),
 )
 
-dot_postfix : (p : Position) (k : Kind) (l : Tree) → is_dot k ≡ true → stands_left p l k ≡ true → takes_postfix l ≡ true
-unfolding level stands_left
-dot_postfix p ExprField l i m = (and_true (takes_postfix l) _ m).0
-dot_postfix p ExprMethodCall l i m = (and_true (takes_postfix l) _ m).0
-dot_postfix p ExprAwait l i m = (and_true (takes_postfix l) _ m).0
-dot_postfix p _ l i m = cc
-
 dot_form : (p : Position) (ts : List Token) (k : Kind) (m z : Tree) → is_dot k ≡ true → Ready p m
     → Held p ts (Back m k (behind_dot End z))
 dot_form p ts k m z i r = dot_stays p ts k m (behind_dot End z) (flat (normal z)) i refl r
-
-abbrev index_value : List ℕ → Tree
-index_value cs = Second (Called the_value (ALiteral (plain_decimal cs)))
 
 index_ready : (p : Position) (m : Tree) (cs : List ℕ) → Ready p m → Ready p (index_field m cs)
 unfolding level
@@ -416,31 +199,10 @@ path_in k (Alone ExprPath y) i = refl
 path_in k (Alone _ y) i = cc
 path_in k _ i = cc
 
-struct_path : (p : Position) (k : Kind) (l : Tree) → is_struct k ≡ true → stands_left p l k ≡ true → is_path_form l
-    ≡ true
-unfolding stands_left
-struct_path p ExprStruct l s m = (and_true (is_path_form l) _ m).0
-struct_path p _ l s m = cc
-
-struct_undotted : (k : Kind) → is_struct k ≡ true → is_dot k ≡ false
-struct_undotted ExprStruct s = refl
-struct_undotted _ s = cc
-
-dot_no_struct : (k : Kind) → is_infix k ≡ true → (is_struct k ≡ false) × ((x : Tree) → is_attributed_range k x ≡ false)
-dot_no_struct ExprStruct i = cc
-dot_no_struct ExprAttributed i = cc
-dot_no_struct _ i = (refl, λ x. refl)
-
 -- what is known of the left operand: it stays before all that may stand behind it
 abbrev LeftStays : Position → Tree → List Token → Type 0
 LeftStays p l rest = (us : List Token) → Behind rest us → (is_path_form l ≡ true → sees (struct_stands p) us ≡ false)
     → Held p us (kept l)
-
-back_takes : (l : Tree) (k : Kind) (y : Tree) (p : Position) (rest ts : List Token) → Bound p (Back l k y) rest
-    → Behind rest ts → takes_what_follows p k ts ≡ false
-back_takes l k y p rest ts d b =
-    takes_none (may_lack k) (has_right p k ts) (takes_braces p k ts) (λ m. b.lacks p k m d.2)
-    (back_braces p ts k (backs_are p k _ d.0))
 
 struct_stays : (l : Tree) (k : Kind) (y : Tree) (p : Position) (rest ts : List Token) → Bound p (Back l k y) rest
     → Behind rest ts → is_struct k ≡ true → Held p ts (dotted (kept l) k (kept y))
@@ -498,7 +260,7 @@ infix_stays : (l : Tree) (k : Kind) (y r : Tree) (p : Position) (rest ts : List 
     → LeftStays p l (flat y ++ (flat r ++ rest)) → Held (inside p k) ts (kept r) → Held p ts (kept (Infix l k y r))
 infix_stays l k y r p rest ts d ih jh =
     let i : is_infix k ≡ true = infix_kind k p _ (backs_are p k _ d.0) d.2 in
-    let n : (is_struct k ≡ false) × ((x : Tree) → is_attributed_range k x ≡ false) = dot_no_struct k i in
+    let n : (is_struct k ≡ false) × ((x : Tree) → is_attributed_range k x ≡ false) = infix_no_struct k i in
     let turn : Turn (flat y ++ (flat r ++ rest)) (flat (normal (kept y))) =
     (infix_turns k i).at p Plain y (flat r ++ rest) _ d.1 (all_begun r (inside p k) rest d.6) d.0 in
     let f : Facts (flat y ++ (flat r ++ rest)) (flat (normal (kept y))) = facts turn in (

@@ -6,7 +6,7 @@ use Rattle.proc_macro2.specs.declared.delimiter.Delimiter.TheVariants.{Parenthes
 use Rattle.proc_macro2.specs.Groups.{same_delimiter}
 use Rattle.syn_grammar.specs.Kind.{Kind, Position, Plain, InStatement, Expression, AStatement, OuterAttributes}
 use Rattle.syn_grammar.specs.Kind.{OuterAttribute, ExprAttributed}
-use Rattle.syn_grammar.specs.Name.{Part, the_attributes, the_expression}
+use Rattle.syn_grammar.specs.Name.{the_attributes, the_expression}
 use Rattle.syn_grammar.specs.Tree.{Tree, Pair, First, Second, End, Again, Called, Node, Whole, Alone, Back, Infix}
 use Rattle.syn_grammar.specs.Tree.{AMark, flat, marks as mark_tokens}
 use Rattle.rust_leaf.specs.declared.punct.Spacing.TheVariants.{Alone as Apart}
@@ -22,6 +22,7 @@ use Rattle.syn_grammar.specs.Normal.{place_of, passed, stands_behind, apart_if, 
 use Rattle.item_laws.specs.Begins.{first_of}
 use Rattle.item_laws.proofs.Fronts.{lead, leads, first_turn}
 use Rattle.item_laws.proofs.Statements.{node_case, turn_starts}
+use Rattle.item_laws.proofs.Statements.{alt_case, seq_case, called_case}
 use Rattle.range_laws.specs.Shelled.{shelled}
 use Rattle.range_laws.specs.Opens.{opens, opens_given, opens_behind, opens_statement, opens_turns}
 use Rattle.range_laws.proofs.Dotted.{dotted_is}
@@ -158,24 +159,6 @@ expression_part (Again t b) f s r v false e c d =
     ∙ given_opened f (flat s ++ r) (ss ++ v) a d g.own g.seen
     ∙ or_no (opens_given f) _ (ap (sees parenthesis) (sym is) ∙ no_paren _ g.seen)
 expression_part _ f s r v m e c d = absurd c
-
--- an entry's parts
-alt_case : (F : Tree → Type 0) (x : Tree) (t : List Token → Bool) (g h : Gram) (r : List Token)
-    → Derives x (alt t g h) r → ((y : Tree) → Derives y g r → F (First y)) → ((y : Tree) → Derives y h r → F (Second y))
-    → F x
-alt_case F (First x) t g h r d a b = a x d.1
-alt_case F (Second x) t g h r d a b = b x d.1
-alt_case F _ t g h r d a b = absurd d
-
-seq_case : (F : Tree → Type 0) (x : Tree) (g h : Gram) (r : List Token) → Derives x (seq g h) r
-    → ((y z : Tree) → Derives y g (flat z ++ r) → Derives z h r → F (Pair y z)) → F x
-seq_case F (Pair x y) g h r d a = a x y d.0 d.1
-seq_case F _ g h r d a = absurd d
-
-called_case : (F : Tree → Type 0) (x : Tree) (n : Part) (g : Gram) (r : List Token) → Derives x (called n g) r
-    → ((y : Tree) → Derives y g r → F (Called n y)) → F x
-called_case F (Called m x) n g r d a = subst (λ i. F (Called i x)) (sym d.0) (a x d.1)
-called_case F _ n g r d a = absurd d
 
 whole_case : (F : Tree → Type 0) (x : Tree) (r : List Token) → Derives x (table (Expression InStatement)) r
     → ((y : Tree) → Derives (Whole y) (table (Expression InStatement)) r → F (Whole y)) → F x

@@ -7,7 +7,7 @@ use Rattle.proc_macro2.specs.Token.{Token, Closes, Ident, Opens, Punct}
 use Rattle.rust_leaf.specs.declared.punct.Spacing.TheVariants.{Alone as Apart}
 use Rattle.syn_grammar.specs.Kind.{Kind, Plain, ExprAwait, ExprField, ExprMethodCall}
 use Rattle.syn_grammar.specs.Name.{the_indices, the_value}
-use Rattle.syn_grammar.specs.Words.{ends_in_dot, is_ident, is_reserved, same_text}
+use Rattle.syn_grammar.specs.Words.{ends_in_dot, is_ident}
 use Rattle.syn_grammar.specs.Tree.{Tree, AWord, ALiteral, AMark, Nil, Pair, First, Second, End, Again, Group}
 use Rattle.syn_grammar.specs.Tree.{Called, Back, flat}
 use Rattle.syn_grammar.specs.Look.{Look, seen, sees, behind, first_seen, ◌or◌}
@@ -25,6 +25,7 @@ use Rattle.binding_laws.proofs.Shells.{is_dot}
 use Rattle.expressions_back.specs.Formed.{IsBehind}
 use Rattle.expressions_back.specs.Simple.{behind_dot, lone_await, lone_field, lone_number}
 use Rattle.expressions_back.proofs.Dots.{await_behind, number_behind}
+use Rattle.expressions_back.proofs.Dots.{no_await}
 use Rattle.grammar_back.proofs.Fits.{Fits, IsMeant, IsWhole}
 use Rattle.grammar_back.proofs.Readies.{OwnReady}
 use Rattle.read_back.proofs.Split.{IsNumbers}
@@ -120,15 +121,6 @@ field_own M names (Pair w (Second (Called n _))) f m i = absurd f.1.1.1
 field_own M names (Pair w (Second _)) f m i = absurd f.1.1
 field_own M names (Pair w _) f m i = absurd f.1
 field_own M names _ f m i = absurd f
-
--- a method: a parenthesis or :: stands behind its name
-no_await : (cs : List ℕ) → is_ident cs ≡ true → same_text (codes "await") cs ≡ false
-unfolding is_reserved
-no_await cs h = go (same_text (codes "await") cs) refl
-  where
-    go : (b : Bool) → same_text (codes "await") cs ≡ b → b ≡ false
-    go false f = refl
-    go true f = sym h ∙ ap is_ident (sym ((bytes_eq-Decides (codes "await") cs).0 f))
 
 method_last : (a b : Bool) → a ≡ false → b ≡ true
     → cond a (Some ExprAwait) (cond b (Some ExprMethodCall) (Some ExprField)) ≡ Some ExprMethodCall

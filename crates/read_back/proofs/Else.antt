@@ -1,15 +1,13 @@
 -- An expression that ends neither in a jump or a half-open range without its operand nor in an if is read before else
 -- too: normal form is made of it as before nothing, and its last own part ends there.
 use Rattle.std.proofs.Common.{◌≡◌, List, [], ◌∷◌, refl, sym, ap, ◌∙◌, subst}
-use Rattle.std.specs.Prelude.{Bool, true, false, not, ◌&&◌, ◌||◌, cond, None, Some, codes}
-use Rattle.std.proofs.lemmas.Slice.Eq.{bytes_eq-Decides}
+use Rattle.std.specs.Prelude.{Bool, true, false, not, ◌&&◌, ◌||◌, None, codes}
 use Rattle.proc_macro2.specs.Token.{Token, Ident}
 use Rattle.syn_grammar.specs.Kind.{Kind, Position, Plain, InCondition, InArm, InStatement, ExprBreak, ExprCast}
 use Rattle.syn_grammar.specs.Kind.{ExprPath}
-use Rattle.syn_grammar.specs.Words.{same_text}
 use Rattle.syn_grammar.specs.Tree.{Tree, Whole, Alone, Front, Back, Infix, flat}
 use Rattle.syn_grammar.specs.Gram.{operand}
-use Rattle.syn_grammar.specs.Look.{seen, sees}
+use Rattle.syn_grammar.specs.Look.{sees}
 use Rattle.syn_grammar.specs.Say.{at}
 use Rattle.syn_grammar.specs.Derives.{Derives}
 use Rattle.syn_grammar.specs.Kept.{kept}
@@ -30,6 +28,7 @@ use Rattle.grammar_back.proofs.Ends.{closed_kept}
 use Rattle.grammar_back.proofs.Fits.{FitsForms, IsFormed, HasOperands}
 use Rattle.grammar_back.proofs.Readies.{OwnReady, Ready}
 use Rattle.grammar_back.specs.Covered.{is_form}
+use Rattle.grammar_back.proofs.Braces.{else_there}
 use Rattle.read_back.proofs.Casts.{goes_on_as}
 use Rattle.read_back.proofs.Dots.{field_before_else}
 use Rattle.read_back.proofs.Held.{stays}
@@ -43,14 +42,6 @@ IsElse ts = (us : List Token) × (ts ≡ Ident (codes "else") ∷ us)
 
 abbrev behind_else : List Token → List Token
 behind_else us = Ident (codes "else") ∷ us
-
-else_there : (ts : List Token) → sees (at "else") ts ≡ true → IsElse ts
-else_there (Ident cs ∷ ts) e = go (same_text (codes "else") cs) refl e
-  where
-    go : (b : Bool) → same_text (codes "else") cs ≡ b → seen (cond b (Some ts) None) ≡ true → IsElse (Ident cs ∷ ts)
-    go true i e = (ts, ap (λ v. Ident v ∷ ts) (sym ((bytes_eq-Decides (codes "else") cs).0 i)))
-    go false i e = cc e
-else_there _ e = cc e
 
 -- normal form is made of it as before nothing
 same_braces : (p : Position) (k : Kind) (us : List Token)

@@ -27,6 +27,7 @@ use Rattle.expressions_back.proofs.Bools.{never}
 use Rattle.grammar_back.specs.Covered.{has_lone_value, has_own_trait}
 use Rattle.grammar_back.proofs.Statements.{a_turn}
 use Rattle.grammar_back.proofs.Choices.{both_same, both_true, is_false}
+use Rattle.grammar_back.proofs.Impls.{lacks_part}
 use Rattle.read_back.specs.Asked.{is_asked_alone}
 use Rattle.read_back.proofs.ToldBraces.{goes_there}
 use Rattle.read_back.proofs.ToldCalls.{statement_told}
@@ -106,15 +107,6 @@ plain_settled (Raw ts) g r d h = refl
 plain_settled Nil g r d h = refl
 plain_settled End g r d h = refl
 plain_settled _ g r d h = absurd d
-
--- an entry that has no part of that name
-abbrev pub lacks_part : Part → Gram → Bool
-lacks_part n (seq a b) = lacks_part n a && lacks_part n b
-lacks_part n (alt t a b) = lacks_part n a && lacks_part n b
-lacks_part n (group d g) = lacks_part n g
-lacks_part n (judged v g) = lacks_part n g
-lacks_part n (called m g) = not (same_part m n)
-lacks_part n _ = true
 
 -- what it reads has none
 pub no_part : (n : Part) (x : Tree) (g : Gram) (r : List Token) → Derives x g r → lacks_part n g ≡ true

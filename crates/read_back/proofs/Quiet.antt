@@ -21,7 +21,7 @@ use Rattle.syn_grammar.proofs.Splits.{delimiter_same}
 use Rattle.syn_grammar.proofs.Whole.{and_true}
 use Rattle.binding_laws.proofs.Begun.{is_front, first_passes}
 use Rattle.binding_laws.proofs.Sights.{is_back, backs_are}
-use Rattle.grammar_back.proofs.Passed.{group_passed}
+use Rattle.item_laws.proofs.Passed.{group_passed}
 
 module _ (stop : ℕ) (is_quiet : Kind → Bool) (operands : Bool) where
   abbrev pub past_stop : Look

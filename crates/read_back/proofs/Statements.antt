@@ -40,7 +40,8 @@ use Rattle.grammar_back.proofs.FieldValues.{end_is}
 use Rattle.grammar_back.proofs.Fits.{Fits, FitsForms, HasOperands, flat_forms}
 use Rattle.grammar_back.proofs.Lets.{step_item, step_let}
 use Rattle.grammar_back.proofs.Parts.{at_back, at_front, found_ref, maybe_ref, told_at}
-use Rattle.grammar_back.proofs.Passed.{behind_attributes, group_passed}
+use Rattle.grammar_back.proofs.Passed.{behind_attributes}
+use Rattle.item_laws.proofs.Passed.{group_passed}
 use Rattle.grammar_back.proofs.Readies.{Ready, Step}
 use Rattle.grammar_back.proofs.Seconds.{front_seen}
 use Rattle.grammar_back.proofs.Starts.{expression_starts, starts, statement_starts}

@@ -3,7 +3,7 @@
 use Rattle.std.proofs.Common.{◌≡◌, ℕ, List, [], ◌∷◌, ◌++◌, refl, sym, ap, ◌∙◌, subst, append_assoc}
 use Rattle.std.specs.Prelude.{Bool, true, false, ◌&&◌, ◌||◌, ◌==◌, not, cond, Option, Some, None}
 use Rattle.std.proofs.lemmas.Bool.{eqb-true}
-use Rattle.proc_macro2.specs.Token.{Token, Literal, Punct}
+use Rattle.proc_macro2.specs.Token.{Token, Punct}
 use Rattle.proc_macro2.specs.declared.delimiter.Delimiter.{Delimiter}
 use Rattle.proc_macro2.specs.declared.delimiter.Delimiter.TheVariants.{Brace}
 use Rattle.rust_leaf.specs.declared.punct.Spacing.{Spacing}
@@ -29,7 +29,8 @@ use Rattle.syn_grammar.specs.Parens.{begins_in, follow, may_lack, parens_unless,
 use Rattle.syn_grammar.specs.Parens.{with_left, with_right}
 use Rattle.binding_laws.proofs.Shells as Shells
 use Rattle.expressions_back.proofs.Bools.{never}
-use Rattle.grammar_back.proofs.Passed.{group_passed}
+use Rattle.expressions_back.proofs.ReadBack.{literals_seen}
+use Rattle.item_laws.proofs.Passed.{group_passed}
 use Rattle.read_back.proofs.ToldPaths.{call_behind}
 
 -- A macro in braces by itself: behind it no expression goes on, so the test sees it.
@@ -40,16 +41,6 @@ goes_there = marks "?" or (no (marks "..") then marks ".")
 
 abbrev Dotted : List Token → Type 0
 Dotted ts = (k : Kind) × (back InStatement ts ≡ Some k) × (is_dotted k ≡ true)
-
-literals_seen : (p : List ℕ → Bool) (ts : List Token) → seen (past_literals p ts) ≡ true
-literals_seen p [] = refl
-literals_seen p (Literal cs ∷ ts) = go (p cs) (literals_seen p ts)
-  where
-    go : (b : Bool) → seen (past_literals p ts) ≡ true
-        → seen (cond b (past_literals p ts) (Some (Literal cs ∷ ts))) ≡ true
-    go true e = e
-    go false e = refl
-literals_seen p (_ ∷ ts) = refl
 
 one_dotted : (a b c : Bool) → c ≡ true
     → (k : Kind) × (cond a (Some ExprAwait) (cond b (Some ExprMethodCall) (cond c (Some ExprField) None)) ≡ Some k)

@@ -30,7 +30,8 @@ use Rattle.syn_grammar.specs.Kept.{is_there}
 use Rattle.expressions_back.proofs.Bools.{never}
 use Rattle.grammar_back.specs.Covered.{is_crate_macro, is_crate_path, is_no_call, item_of}
 use Rattle.grammar_back.proofs.Choices.{both_same, both_true}
-use Rattle.grammar_back.proofs.Passed.{behind_attributes, group_passed}
+use Rattle.grammar_back.proofs.Passed.{behind_attributes}
+use Rattle.item_laws.proofs.Passed.{group_passed}
 use Rattle.grammar_back.proofs.Seconds.{either_seen}
 use Rattle.grammar_back.proofs.WholeItems.{whole_item}
 use Rattle.read_back.specs.Asked.{is_asked_statement}

@@ -33,7 +33,8 @@ use Rattle.grammar_back.proofs.ItemPlaces.{word_front}
 use Rattle.grammar_back.proofs.Passed.{behind_attributes}
 use Rattle.grammar_back.proofs.Seconds.{either_seen, front_seen}
 use Rattle.grammar_back.proofs.WholeItems.{whole_item}
-use Rattle.read_back.proofs.Judged.{lacks_part, no_part}
+use Rattle.grammar_back.proofs.Impls.{lacks_part}
+use Rattle.read_back.proofs.Judged.{no_part}
 use Rattle.read_back.proofs.Paths.{one_more}
 use Rattle.read_back.proofs.ToldParts.{of_whole, public_none}
 use Rattle.read_back.proofs.ToldPaths.{call_behind}

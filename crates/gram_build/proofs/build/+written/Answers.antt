@@ -12,7 +12,7 @@ use Rattle.syn_grammar.specs.Parens.{follow}
 use Rattle.binding_laws.specs.Written.{write, infix_of, paren_unless, may_left, may_right}
 use Rattle.gram_table.specs.Kinds.{kind_of, position_of}
 use Rattle.gram_write.specs.Formed.{HasFormed}
-use Rattle.gram_write.proofs.Sizes.{tree_size}
+use Rattle.gram_tree.proofs.Sizes.{tree_size}
 use Rattle.gram_build.specs.Asked.{IsWritten}
 use Rattle.gram_build.specs.Begins.{front3}
 use Rattle.gram_build.specs.Behind.{first_own}

@@ -2,8 +2,8 @@ use Rattle.std.specs.Prelude.{List, Option, Bool}
 use Rattle.std.proofs.Common.{◌≡◌, arith, ap, sym, ◌∙◌, ◌<◌, ◌+◌, length, get_or, drop}
 use Rattle.syn_grammar.specs.Tree.{Tree, flat}
 use Rattle.gram_tree.specs.Forms.{tree_of, turns}
+use Rattle.gram_tree.proofs.Sizes.{turns_below}
 use Rattle.gram_judge.specs.Closing.{ending, later}
-use Rattle.gram_judge.proofs.Sizes.{turns_below}
 use Rattle.gram_judge.proofs.Ends.{ending_turn}
 use Rattle.gram_judge.proofs.closing.+closing.Goals as goal
 

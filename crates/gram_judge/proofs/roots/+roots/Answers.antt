@@ -1,22 +1,17 @@
 use Rattle.std.proofs.Common.{arith, ap, sym, ◌∙◌}
-use Rattle.gram_table.specs.Ops.{separator_of}
-use Rattle.gram_tree.specs.Forms.{tree_of, ending}
-use Rattle.gram_judge.proofs.Sizes.{elements_below}
+use Rattle.gram_tree.specs.Forms.{tree_of}
+use Rattle.gram_tree.proofs.Sizes.{list_below}
 use Rattle.gram_judge.proofs.UseRoots.{root_off}
 use Rattle.gram_judge.proofs.roots.+roots.Goals as goal
 
 pub has_root-some_has_root-requires : goal.has_root-some_has_root-requires
 has_root-some_has_root-requires t c =
-    let list = c.in-Elements.list.now in
-    let below = elements_below (separator_of list.separator) list.before.now (ending (λ b. b.now) list.last)
-    c.args.tree.now (sym c.tree.view_is ∙ ap tree_of c.in-Elements.is) in
+    let below = list_below c.in-Elements.list.now c.args.tree.now (sym c.tree.view_is ∙ ap tree_of c.in-Elements.is) in
     omega (arith, c.decreases, below)
 
 pub has_root-some_has_root-requires-in-None : goal.has_root-some_has_root-requires-in-None
 has_root-some_has_root-requires-in-None t c =
-    let list = c.in-Elements.list.now in
-    let below = elements_below (separator_of list.separator) list.before.now (ending (λ b. b.now) list.last)
-    c.args.tree.now (sym c.tree.view_is ∙ ap tree_of c.in-Elements.is) in
+    let below = list_below c.in-Elements.list.now c.args.tree.now (sym c.tree.view_is ∙ ap tree_of c.in-Elements.is) in
     omega (arith, c.decreases, below)
 
 pub has_root-returns-in_default-kind : goal.has_root-returns-in_default-kind

@@ -6,8 +6,8 @@ use Rattle.syn_grammar.specs.Tree.{End}
 use Rattle.syn_grammar.specs.Tree.{Tree, flat}
 use Rattle.gram_tree.specs.declared.tree.Element.{Element}
 use Rattle.gram_tree.specs.Forms.{tree_of, elements, ending}
+use Rattle.gram_tree.proofs.Sizes.{turns_below, list_below}
 use Rattle.gram_write.proofs.Flat.{flat_elements}
-use Rattle.gram_write.proofs.Sizes.{turns_below, elements_below}
 use Rattle.gram_read.proofs.count.+counting.Goals as goal
 
 -- the elements that a mark follows are counted among all
@@ -28,6 +28,6 @@ past-past_elements-behind-requires t c =
     let mark : ℕ = separator_of list.separator in
     let last : Tree = ending (λ b. b.now) list.last in
     let is = sym c.tree.view_is ∙ ap tree_of c.in-Elements.is in
-    let below = elements_below mark list.before.now last c.args.tree.now is in
+    let below = list_below list c.args.tree.now is in
     let counted = ap (λ (x : Tree). length (flat x)) is in
     (omega (arith, c.decreases, below), omega (arith, c.requires, counted, among mark list.before.now last))

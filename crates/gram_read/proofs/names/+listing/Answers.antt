@@ -1,7 +1,7 @@
 use Rattle.std.proofs.Common.{arith, ap, sym, ◌∙◌, length}
 use Rattle.syn_grammar.specs.Tree.{Tree, flat}
 use Rattle.gram_tree.specs.Forms.{tree_of}
-use Rattle.gram_write.proofs.Sizes.{turns_below}
+use Rattle.gram_tree.proofs.Sizes.{turns_below}
 use Rattle.gram_read.proofs.names.+listing.Goals as goal
 
 pub put_names-put_turns-requires : goal.put_names-put_turns-requires

@@ -1,7 +1,6 @@
 use Rattle.std.proofs.Common.{arith, ap, sym, ◌∙◌}
-use Rattle.gram_table.specs.Ops.{separator_of}
-use Rattle.gram_tree.specs.Forms.{tree_of, ending}
-use Rattle.gram_judge.proofs.Sizes.{turns_below, elements_below}
+use Rattle.gram_tree.specs.Forms.{tree_of}
+use Rattle.gram_tree.proofs.Sizes.{turns_below, list_below}
 use Rattle.gram_run.proofs.unfit.+begin.Goals as goal
 
 pub begin-begin_of_turns-requires : goal.begin-begin_of_turns-requires
@@ -11,7 +10,5 @@ begin-begin_of_turns-requires t c =
 
 pub begin-begin_of_elements-requires : goal.begin-begin_of_elements-requires
 begin-begin_of_elements-requires t c =
-    let list = c.in-Elements.list.now in
-    let below = elements_below (separator_of list.separator) list.before.now (ending (λ b. b.now) list.last)
-    c.args.tree.now (sym c.tree.view_is ∙ ap tree_of c.in-Elements.is) in
+    let below = list_below c.in-Elements.list.now c.args.tree.now (sym c.tree.view_is ∙ ap tree_of c.in-Elements.is) in
     omega (arith, c.decreases, below)
