@@ -13,7 +13,7 @@ use Rattle.syn_grammar.specs.Tidy.{is_bare_bounds, is_bare_colon, joined, those_
 use Rattle.syn_grammar.specs.Tidy.{is_lifetime_param, removed_if, tidy}
 use Rattle.syn_grammar.specs.Normal.{place_of, passed, normal_in}
 use Rattle.gram_write.specs.Said.{said}
-use Rattle.gram_write.proofs.Dots.{dotted_is}
+use Rattle.range_laws.proofs.Dotted.{dotted_is}
 use Rattle.gram_write.proofs.OfKinds.{node, removed, same_place}
 
 -- a part of the normal form is the normal form of the part

@@ -10,7 +10,7 @@ use Rattle.syn_grammar.specs.Kept.{held, kept}
 use Rattle.syn_grammar.specs.Tidy.{is_lone_segment, is_lone_path, is_ident_type, is_bracketed, begins_bracketed}
 use Rattle.syn_grammar.specs.Tidy.{keeps_generics}
 use Rattle.syn_grammar.specs.Normal.{place_of, passed, normal_in}
-use Rattle.gram_write.proofs.Dots.{dotted_is}
+use Rattle.range_laws.proofs.Dotted.{dotted_is}
 use Rattle.gram_write.proofs.Bare.{has_made, the_made}
 
 -- what a test says of no form behind its left operand, it says of none that is kept

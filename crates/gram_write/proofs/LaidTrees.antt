@@ -29,7 +29,8 @@ use Rattle.gram_write.specs.Laid.{has_attributes, statement_laid, given_laid}
 use Rattle.range_laws.specs.Shelled.{is_lone_range, is_shelled, goes_in, parens_if, enclosed_if, shelled}
 use Rattle.range_laws.proofs.Behind.{range_given, infix_given, cast_given}
 use Rattle.range_laws.proofs.InKept.{lone_kept}
-use Rattle.gram_write.proofs.Dots.{dotted_by, alone_said, prefix_said, back_said, infix_said}
+use Rattle.range_laws.proofs.Dotted.{dotted_by}
+use Rattle.gram_write.proofs.Dots.{alone_said, prefix_said, back_said, infix_said}
 use Rattle.gram_write.proofs.OfKinds.{node, quiet, unnamed, parameter, index, member_index}
 use Rattle.gram_write.proofs.Bare.{where_said, generics_said, bounds_said, lifetimes_said}
 use Rattle.gram_write.proofs.Row.{firsts, params_said}

@@ -15,12 +15,12 @@ use Rattle.gram_tree.specs.declared.tree.Element.{Element}
 use Rattle.gram_tree.specs.declared.tree.Tree.TheDeep.{size-Tree}
 use Rattle.gram_tree.specs.Size.{node_count}
 use Rattle.gram_tree.specs.Forms.{mark_of, seconds, turns, elements}
+use Rattle.gram_tree.proofs.Sizes.{tree_size}
 use Rattle.gram_write.specs.declared.within.Within.{Within}
 use Rattle.gram_write.specs.Firsts.{has_other}
 use Rattle.gram_write.specs.Laid.{firsts_laid, laid, laid_in, others_laid, those_laid}
 use Rattle.gram_write.specs.Seen.{type_alone}
 use Rattle.gram_write.specs.Way.{dotted_of}
-use Rattle.gram_write.proofs.Sizes.{tree_size}
 use Rattle.gram_write.proofs.SeenForms.{same_pair, some_none}
 use Rattle.gram_write.proofs.WayForms.{dotted_is, own_else, own_number, own_plain, own_undotted}
 

@@ -11,7 +11,6 @@ pub mod Read
 pub mod Pushing
 pub mod Fronts
 pub mod Flat
-pub mod Sizes
 pub mod LaidTrees
 pub mod Indices
 pub mod SeenForms

@@ -14,11 +14,11 @@ use Rattle.gram_tree.specs.declared.tree.Tree.TheDeep.{size-Tree}
 use Rattle.gram_tree.specs.Forms.{mark_of, seconds, turns, elements, ending}
 use Rattle.gram_tree.specs.Shapes.{is_turns, node_of, pair_of, whole_of}
 use Rattle.gram_tree.specs.Size.{node_count}
+use Rattle.gram_tree.proofs.Sizes.{tree_size}
 use Rattle.gram_write.specs.Operands.{back_of, before_of, expression_of, first_behind, form_in, giving_of, infix_of}
 use Rattle.gram_write.specs.Laid.{has_attributes}
 use Rattle.gram_write.specs.Operands.{pair_behind, stated_of}
 use Rattle.gram_write.proofs.SeenForms.{node_is, pair_is, same_pair, some_none}
-use Rattle.gram_write.proofs.Sizes.{tree_size}
 
 -- which tree it is
 same_three : {A B C : Type 0} (a d : A) (b e : B) (c f : C)

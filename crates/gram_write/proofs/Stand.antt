@@ -19,7 +19,7 @@ use Rattle.range_laws.specs.Shelled.{shelled}
 use Rattle.gram_write.specs.Said.{said, said_form, bare_impl_said}
 use Rattle.gram_write.specs.Formed.{GainsGiven, HasGiven, IsFormedStatement, IsFormed}
 use Rattle.gram_write.specs.Turns.{apart_where, is_opened, is_raw_turn, is_set_apart}
-use Rattle.gram_write.proofs.Dots.{dotted_is}
+use Rattle.range_laws.proofs.Dotted.{dotted_is}
 use Rattle.gram_write.proofs.Bare.{generics_made}
 use Rattle.gram_write.proofs.OfKinds.{node, removed}
 

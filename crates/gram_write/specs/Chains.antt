@@ -1,4 +1,4 @@
--- Operands that stand one left of the other: what is written behind the innermost of them.
+-- Operands that stand one left of the other: what is written behind the innermost of them, and in front of it.
 use Rattle.std.specs.Prelude.{cond, List, [], ◌∷◌, ◌++◌, Option, Some, None}
 use Rattle.proc_macro2.specs.Token.{Token, Closes}
 use Rattle.proc_macro2.specs.declared.delimiter.Delimiter.TheVariants.{Parenthesis}
@@ -6,7 +6,10 @@ use Rattle.syn_grammar.specs.Kind.{Kind}
 use Rattle.syn_grammar.specs.Tree.{Tree, Back, Infix}
 use Rattle.gram_tree.specs.Shapes.{single}
 use Rattle.range_laws.specs.Shelled.{goes_in}
-use Rattle.gram_write.specs.Laid.{behind_laid, laid}
+use Rattle.gram_write.specs.Laid.{behind_laid, given_laid, laid}
+use Rattle.gram_write.specs.Operands.{giving_of}
+use Rattle.gram_write.specs.declared.chain.Lefts.{Lefts}
+use Rattle.gram_write.specs.declared.chain.Lefts.TheVariants as lefts
 
 -- of a form with an operand before it its kind and that operand
 abbrev pub single_left : Tree → Option (Kind × Tree)
@@ -17,7 +20,17 @@ single_left _ = None
 abbrev pub left_of : Tree → Option (Kind × Tree)
 left_of x = single_left (single x)
 
--- the tokens behind that operand: the parenthesis that closes, and the rest of the form
+-- the same, if that operand is passed
+abbrev pub next_of : Lefts → Tree → Option (Kind × Tree)
+next_of lefts.All x = left_of x
+next_of (lefts.Given a) x = giving_of x
+
+-- the tokens of an operand, with those of the attributes, if there are any, before its leftmost one
+abbrev pub passed_laid : Lefts → Tree → List Token
+passed_laid lefts.All x = laid x
+passed_laid (lefts.Given a) x = given_laid (laid a.now) (laid x) x
+
+-- the tokens behind a left operand: the parenthesis that closes, and the rest of the form
 abbrev pub behind_left : Tree → List Token
 behind_left (Infix l k y r) = cond (goes_in k l) (Closes Parenthesis ∷ []) [] ++ (laid y ++ laid r)
 behind_left (Back l k y) = cond (goes_in k l) (Closes Parenthesis ∷ []) [] ++ behind_laid k y

@@ -1,12 +1,10 @@
 -- What stands in forms with an operand before them, and in a statement that is an expression.
-use Rattle.std.specs.Prelude.{ℕ, zero, suc, Bool, true, false, cond, nat_eq, List, [], ◌++◌, Option, Some, None}
-use Rattle.proc_macro2.specs.Token.{Token}
+use Rattle.std.specs.Prelude.{ℕ, zero, suc, Bool, true, false, cond, nat_eq, Option, Some, None}
 use Rattle.syn_grammar.specs.Kind.{Kind, Expression, AStatement, ExprAttributed, ExprCast}
 use Rattle.syn_grammar.specs.Name.{the_attributes, the_expression}
 use Rattle.syn_grammar.specs.Tree.{Tree, Pair, First, Second, Called, Node, Whole, Back, Infix}
 use Rattle.syn_grammar.specs.Forms.{level}
 use Rattle.gram_tree.specs.Shapes.{single}
-use Rattle.gram_write.specs.Laid.{laid}
 
 -- attributes in front of an expression
 abbrev pub is_attributed : Kind → Bool
@@ -34,12 +32,6 @@ abbrev pub giving_of : Tree → Option (Kind × Tree)
 giving_of (Infix l k y r) = cond (nat_eq (level k) 3) None (Some (k, l))
 giving_of (Back l ExprCast y) = Some (ExprCast, l)
 giving_of _ = None
-
--- the tokens of what stands behind a left operand
-abbrev pub rest_laid : Tree → List Token
-rest_laid (Infix l k y r) = laid y ++ laid r
-rest_laid (Back l k y) = laid y
-rest_laid _ = []
 
 -- behind so many seconds: both of two trees, and of a choice the first
 abbrev pub pair_behind : Tree → ℕ → Option (Tree × Tree)

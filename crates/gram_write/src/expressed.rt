@@ -4,19 +4,18 @@ ghost use Rattle.gram_piece.specs.Pieces.{piece_token};
 ghost use Rattle.gram_table.specs.Kinds.{kind_of};
 ghost use Rattle.gram_write.specs.Front.{Keeps};
 ghost use Rattle.gram_write.specs.Laid.{behind_laid, given_laid, has_attributes, laid};
-ghost use Rattle.gram_write.specs.Operands.{rest_laid};
 ghost use Rattle.proc_macro2.specs.Token as token;
 ghost use Rattle.range_laws.specs.Shelled.{enclosed_if, goes_in, is_shelled};
 ghost use Rattle.std.specs.Prelude.{[], ◌++◌, ◌∷◌, ◌≡◌, OnOk, cond, map};
 ghost use Rattle.syn_grammar.specs.Kind.{AStatement};
 ghost use Rattle.syn_grammar.specs.Tree as t;
 
-use crate::chain::put_chain;
+use crate::chain::{put_chain, put_given};
 use crate::fields::{put_fields, put_front_fields};
 use crate::laid::put_laid;
-use crate::operand::{back, giving, has_attributes, infix, stated};
+use crate::operand::{has_attributes, stated};
 use crate::put::one;
-use crate::shell::{goes_in, is_lone_range, is_shelled};
+use crate::shell::{goes_in, is_shelled};
 use crate::way::{dotted, is_dotted, last_number};
 use crate::within::Within;
 use gram_piece::piece::Piece;
@@ -25,7 +24,11 @@ use gram_tree::tree::{Three, Tree, Two};
 use proc_macro2::delimiter::Delimiter;
 use std::alloc::AllocError;
 
-// A token, if it is to be put.
+/// Puts a token, if it is to be put.
+///
+/// # Errors
+///
+/// Where there is no memory for it.
 #[tactic(auto, using(crate::proofs::Pushing::puts, crate::proofs::Fronts::kept))]
 pub(crate) fn put_if<'a>(
     wanted: bool,
@@ -39,10 +42,14 @@ pub(crate) fn put_if<'a>(
     if wanted { one(piece, out) } else { Ok(()) }
 }
 
-// An operand, in parentheses or not.
+/// Puts the tokens of an operand, in parentheses or not.
+///
+/// # Errors
+///
+/// Where there is no memory for more tokens.
 #[cycle(laid)]
 #[tactic(auto, using(crate::proofs::Expressing::operands, crate::proofs::Fronts::kept))]
-fn put_operand<'a>(
+pub(crate) fn put_operand<'a>(
     enclosed: bool,
     tree: &Tree<'a>,
     out: &mut Vec<Piece<'a>>,
@@ -145,53 +152,12 @@ pub(crate) fn put_infix<'a>(
     put_laid(Within::Anywhere, &three.right, out)
 }
 
-// What stands behind a left operand.
-#[cycle(laid)]
-#[tactic(auto, using(crate::proofs::Expressing::rests, crate::proofs::Fronts::kept))]
-fn put_rest<'a>(tree: &Tree<'a>, out: &mut Vec<Piece<'a>>) -> Result<(), AllocError>
-    ensures put { OnOk result (map piece_token out.new.items
-        ≡ map piece_token out.old.items ++ rest_laid tree.now) }
-    ensures keeps { Keeps out.old.items out.new.items }
-{
-    if let Some((_, three)) = infix(tree) {
-        put_laid(Within::Anywhere, &three.own, out)?;
-        return put_laid(Within::Anywhere, &three.right, out);
-    }
-    match back(tree) {
-        Some((_, two)) => put_laid(Within::Anywhere, &two.back, out),
-        None => Ok(()),
-    }
-}
-
-// An expression with attributes, which are given to the leftmost operand; a range gets parentheses behind them.
-#[cycle(laid)]
-#[tactic(auto, using(crate::proofs::Expressing::gives, crate::proofs::Fronts::kept))]
-fn put_given<'a>(
-    attributes: &Tree<'a>,
-    tree: &Tree<'a>,
-    out: &mut Vec<Piece<'a>>,
-) -> Result<(), AllocError>
-    ensures put { OnOk result (map piece_token out.new.items
-        ≡ map piece_token out.old.items ++ given_laid (laid attributes.now) (laid tree.now) tree.now) }
-    ensures keeps { Keeps out.old.items out.new.items }
-{
-    let Some((kind, left)) = giving(tree) else {
-        put_laid(Within::Anywhere, attributes, out)?;
-        return put_operand(is_lone_range(tree), tree, out);
-    };
-    let enclosed = goes_in(kind, left);
-    put_if(enclosed, Piece::Open(Delimiter::Parenthesis), out)?;
-    put_given(attributes, left, out)?;
-    put_if(enclosed, Piece::Close(Delimiter::Parenthesis), out)?;
-    put_rest(tree, out)
-}
-
 // An expression behind what stands before it in a statement.
 #[cycle(laid)]
 #[tactic(auto, using(crate::proofs::Pushing::puts, crate::proofs::Fronts::kept))]
-fn put_before<'a>(
-    before: &Tree<'a>,
-    form: &Tree<'a>,
+fn put_before<'t, 'a>(
+    before: &'t Tree<'a>,
+    form: &'t Tree<'a>,
     out: &mut Vec<Piece<'a>>,
 ) -> Result<(), AllocError>
     ensures put { OnOk result (map piece_token out.new.items ≡ map piece_token out.old.items

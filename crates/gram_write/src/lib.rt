@@ -12,11 +12,11 @@
 //! `Lifetimes` and `Impls` (arguments that are lifetimes, and impls that keep their generics, are seen in what was
 //! read), `Row` (parameters and arguments), `Stand` (elements, expressions and statements), `Fits` (where expressions
 //! stand in an entry), `Apart` (raw items among statements), `Read` (what was read is formed), `LaidTrees` (what is
-//! laid of it); `Pushing` and `Flat` (tokens that are put), `Fronts` (what stays in front of them), `Sizes` (trees are larger than what stands in them),
-//! `Indices` (numbers in texts), `SeenForms`, `WayForms`, `Operands` and `OffKinds` (what is seen, and the ways, by
-//! the forms of trees, and what is not seen of other kinds), `Shells`, `Opening` and `Begins` (parentheses that are
-//! added, and that stood there), and `Laying`, `Expressing`, `Chains` and `Apartness` (what is laid of each form, of
-//! expressions, of operands that stand one left of the other, and of turns).
+//! laid of it); `Pushing` and `Flat` (tokens that are put), `Fronts` (what stays in front of them), `Indices` (numbers
+//! in texts), `SeenForms`, `WayForms`, `Operands` and `OffKinds` (what is seen, and the ways, by the forms of trees,
+//! and what is not seen of other kinds), `Shells`, `Opening` and `Begins` (parentheses that are added, and that stood
+//! there), and `Laying`, `Expressing`, `Chains` and `Apartness` (what is laid of each form, of expressions, of operands
+//! that stand one left of the other, and of turns).
 //!
 //! - `laws`: what is written of each form and of each kind, in terms of its parts.
 //! - `put`: tokens that are put behind those that are to be written.

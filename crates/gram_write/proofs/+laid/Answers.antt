@@ -5,7 +5,6 @@ use Rattle.std.proofs.lemmas.List.{take_all}
 use Rattle.std.proofs.lemmas.Result.{on_ok_weaker}
 use Rattle.std.proofs.lemmas.Grind.{common_steps}
 use denote.Bor.{Bor}
-use denote.Param.Weighed.{at_most}
 use Rattle.proc_macro2.specs.Token.{Token, Punct}
 use Rattle.rust_leaf.specs.declared.punct.Spacing.TheVariants.{Alone as Apart}
 use Rattle.gram_piece.specs.Pieces.{piece_token}
@@ -13,25 +12,25 @@ use Rattle.gram_table.specs.Kinds.{kind_of}
 use Rattle.gram_table.specs.Ops.{separator_of}
 use Rattle.gram_table.specs.Parts.{part_of}
 use Rattle.rust_leaf.specs.Leaf.{literal_text}
-use Rattle.gram_tree.specs.declared.tree.Tree.TheDeep.{size-Element}
 use Rattle.syn_grammar.specs.Tree as t
 use Rattle.syn_grammar.specs.Tree.{Tree}
 use Rattle.syn_grammar.specs.Words.{indices}
 use Rattle.gram_tree.specs.declared.tree.Element.{Element}
 use Rattle.gram_tree.specs.Forms.{elements, tree_of, turns, ending}
 use Rattle.gram_tree.specs.Size.{node_count}
+use Rattle.gram_tree.proofs.Sizes.{element_in, list_below, tree_size, turns_size}
+use Rattle.range_laws.specs.Shelled.{enclosed_if}
 use Rattle.gram_write.specs.Chains.{behind_lefts}
-use Rattle.gram_write.specs.Laid.{firsts_laid, laid, laid_in, others_laid, those_laid}
+use Rattle.gram_write.specs.Laid.{firsts_laid, given_laid, laid, laid_in, others_laid, those_laid}
 use Rattle.gram_write.specs.Said.{fields, front_fields}
 use Rattle.gram_write.specs.Operands.{giving_of, stated_of}
 use Rattle.gram_write.specs.Way.{dotted_of, is_dotted, last_text, passes, way_laid}
-use Rattle.gram_write.proofs.Chains.{forms_more, step_out}
+use Rattle.gram_write.proofs.Chains.{forms_more, given_put, step_out}
 use Rattle.gram_write.proofs.Fronts.{keeps_both, keeps_same, keeps_taken}
 use Rattle.gram_write.proofs.Laying.{firsts_passing, four_put, node_same, others_next, others_skip, those_next}
 use Rattle.gram_write.proofs.Laying.{those_skip}
-use Rattle.gram_write.proofs.Operands.{giving_below, stated_below}
+use Rattle.gram_write.proofs.Operands.{stated_below}
 use Rattle.gram_write.proofs.Pushing.{puts}
-use Rattle.gram_write.proofs.Sizes.{element_size, turns_size, elements_below, tree_size}
 use Rattle.gram_write.proofs.WayForms.{own_number, own_undotted}
 use Rattle.gram_write.proofs.+laid.Goals as goal
 use Rattle.gram_write.proofs.+laid.Goals.{laid::put_others-then-not-passes+in_ok-put_laid+in_ok-separator}
@@ -47,38 +46,28 @@ laid::put_laid-put_turns-requires n c =
 
 pub laid::put_laid-put_elements-requires : goal.laid::put_laid-put_elements-requires
 laid::put_laid-put_elements-requires n c =
-    let list = c.in-Elements.list.now in
-    let below = elements_below (separator_of list.separator) list.before.now (ending (λ b. b.now) list.last)
-    c.args.tree.now (sym c.tree.view_is ∙ ap tree_of c.in-Elements.is) in
+    let below = list_below c.in-Elements.list.now c.args.tree.now (sym c.tree.view_is ∙ ap tree_of c.in-Elements.is) in
     omega (arith, c.decreases, below)
 
 pub laid::put_firsts-put_those-requires : goal.laid::put_firsts-put_those-requires
 laid::put_firsts-put_those-requires n c =
-    let list = c.in-Elements.elements.now in
-    let below = elements_below (separator_of list.separator) list.before.now (ending (λ b. b.now) list.last)
-    c.args.list.now (sym c.list.view_is ∙ ap tree_of c.in-Elements.is) in
-    omega (arith, c.decreases, below)
+    let is = sym c.list.view_is ∙ ap tree_of c.in-Elements.is in
+    omega (arith, c.decreases, list_below c.in-Elements.elements.now c.args.list.now is)
 
 pub laid::put_firsts-put_others-requires : goal.laid::put_firsts-put_others-requires
 laid::put_firsts-put_others-requires n c =
-    let list = c.in-Elements.elements.now in
-    let below = elements_below (separator_of list.separator) list.before.now (ending (λ b. b.now) list.last)
-    c.args.list.now (sym c.list.view_is ∙ ap tree_of c.in-Elements.is) in
-    omega (arith, c.decreases, below)
+    let is = sym c.list.view_is ∙ ap tree_of c.in-Elements.is in
+    omega (arith, c.decreases, list_below c.in-Elements.elements.now c.args.list.now is)
 
 pub laid::put_firsts-put_others-requires-then-passes : goal.laid::put_firsts-put_others-requires-then-passes
 laid::put_firsts-put_others-requires-then-passes n c =
-    let list = c.in-Elements.elements.now in
-    let below = elements_below (separator_of list.separator) list.before.now (ending (λ b. b.now) list.last)
-    c.args.list.now (sym c.list.view_is ∙ ap tree_of c.in-Elements.is) in
-    omega (arith, c.decreases, below)
+    let is = sym c.list.view_is ∙ ap tree_of c.in-Elements.is in
+    omega (arith, c.decreases, list_below c.in-Elements.elements.now c.args.list.now is)
 
 pub laid::put_firsts-put_others-requires-else-passes : goal.laid::put_firsts-put_others-requires-else-passes
 laid::put_firsts-put_others-requires-else-passes n c =
-    let list = c.in-Elements.elements.now in
-    let below = elements_below (separator_of list.separator) list.before.now (ending (λ b. b.now) list.last)
-    c.args.list.now (sym c.list.view_is ∙ ap tree_of c.in-Elements.is) in
-    omega (arith, c.decreases, below)
+    let is = sym c.list.view_is ∙ ap tree_of c.in-Elements.is in
+    omega (arith, c.decreases, list_below c.in-Elements.elements.now c.args.list.now is)
 
 pub laid::put_two-put_laid-requires : goal.laid::put_two-put_laid-requires
 laid::put_two-put_laid-requires n c = omega (arith, c.decreases, tree_size c.args.two.now.front)
@@ -88,24 +77,21 @@ laid::put_two-put_laid-requires-2 n c = omega (arith, c.decreases, tree_size c.a
 
 pub laid::put_elements-put_laid-requires : goal.laid::put_elements-put_laid-requires
 laid::put_elements-put_laid-requires n c =
-    let below = at_most (λ (e : Element). size-Element e) c.args.before.now c.loop-element.element-index
-    c.element-item.result c.loop-element-test.true in
-    let same = ap (λ (e : Element). size-Element e) c.element-item.is in
-    omega (arith, c.decreases, below, same, element_size c.element-item.result, tree_size c.element-item.result.tree)
+    let below = element_in c.args.before.now c.loop-element.element-index c.element-item.result
+    c.loop-element-test.true c.element-item.is in
+    omega (arith, c.decreases, below)
 
 pub laid::put_those-put_laid-requires : goal.laid::put_those-put_laid-requires
 laid::put_those-put_laid-requires n c =
-    let below = at_most (λ (e : Element). size-Element e) c.args.before.now c.loop-element.element-index
-    c.element-item.result c.loop-element-test.true in
-    let same = ap (λ (e : Element). size-Element e) c.element-item.is in
-    omega (arith, c.decreases, below, same, element_size c.element-item.result, tree_size c.element-item.result.tree)
+    let below = element_in c.args.before.now c.loop-element.element-index c.element-item.result
+    c.loop-element-test.true c.element-item.is in
+    omega (arith, c.decreases, below)
 
 pub laid::put_others-put_laid-requires : goal.laid::put_others-put_laid-requires
 laid::put_others-put_laid-requires n c =
-    let below = at_most (λ (e : Element). size-Element e) c.args.before.now c.loop-element.element-index
-    c.element-item.result c.loop-element-test.true in
-    let same = ap (λ (e : Element). size-Element e) c.element-item.is in
-    omega (arith, c.decreases, below, same, element_size c.element-item.result, tree_size c.element-item.result.tree)
+    let below = element_in c.args.before.now c.loop-element.element-index c.element-item.result
+    c.loop-element-test.true c.element-item.is in
+    omega (arith, c.decreases, below)
 
 -- what is put one behind the other
 pub laid::put_laid-returns-in-Called-clause-put : goal.laid::put_laid-returns-in-Called-clause-put
@@ -258,12 +244,6 @@ expressed::put_back-put_own-requires n c = omega (arith, c.decreases, tree_size 
 pub expressed::put_infix-put_operand-requires : goal.expressed::put_infix-put_operand-requires
 expressed::put_infix-put_operand-requires n c = omega (arith, c.decreases, tree_size c.args.three.now.left)
 
-pub expressed::put_given-put_given-requires : goal.expressed::put_given-put_given-requires
-expressed::put_given-put_given-requires n c =
-    let given : Some (kind_of c.in-Some.kind, c.in-Some.left.now) ≡ giving_of c.args.tree.now = search rules in
-    let below = giving_below c.args.tree.now (kind_of c.in-Some.kind) c.in-Some.left.now given in
-    omega (arith, c.decreases, below)
-
 pub expressed::put_statement-put_laid-requires-2 : goal.expressed::put_statement-put_laid-requires-2
 expressed::put_statement-put_laid-requires-2 n c =
     let parts : Some (c.in-Some.parts.before.now, c.in-Some.parts.form.now, c.in-Some.parts.behind.now)
@@ -300,9 +280,6 @@ expressed::put_own-returns-in-Some-last_number-clause-put n c =
     subst (λ (ts : List Token). OnOk c.put_fields.result (map piece_token c.put_fields.new.out.items
     ≡ map piece_token c.args.out.now.items ++ ts)) (sym own) put
 
-pub expressed::put_given-put_operand-requires : goal.expressed::put_given-put_operand-requires
-expressed::put_given-put_operand-requires n c = omega (arith, c.decreases, tree_size c.args.attributes.now)
-
 -- operands that stand one left of the other
 pub chain::put_behinds-loop-left-init : goal.chain::put_behinds-loop-left-init
 chain::put_behinds-loop-left-init n c = record {
@@ -330,3 +307,28 @@ chain::put_behinds-loop-left-preserved n c =
           ∙ c.loop-left.invariant.put);
       within = omega (arith, c.loop-left.invariant.within);
     }
+
+pub chain::put_given-put_operand-requires : goal.chain::put_given-put_operand-requires
+chain::put_given-put_operand-requires n c =
+    omega (arith, c.decreases, c.in_ok-inner.ensures.inside, tree_size c.args.attributes.now)
+
+pub chain::put_given-returns-clause-put : goal.chain::put_given-returns-clause-put
+chain::put_given-returns-clause-put n c =
+    let old : List Token = map piece_token c.args.out.now.items in
+    let all : List Token = given_laid (laid c.args.attributes.now) (laid c.args.tree.now) c.args.tree.now in
+    let last : None ≡ giving_of c.in_ok-inner.inner.now = sym c.in_ok-inner.ensures.last in
+    let empty : c.new-forms.result.items ≡ [] = search rules in
+    let fronts = c.in_ok-inner.ensures.put
+    ∙ ap (λ (xs : List (Bor Tree)). old ++ (all ++ behind_lefts (map (λ (x : Bor Tree). x.now) xs))) empty in
+    let operand = c.in_ok-put_operand.ensures.put
+    ∙ ap (λ b. map piece_token c.put_laid.new.out.items ++ enclosed_if b (laid c.in_ok-inner.inner.now))
+    c.is_lone_range.ensures in
+    let lent : c.as_slice.result.now ≡ c.put_fronts.new.forms.items = search rules in
+    on_ok_weaker c.put_behinds.result
+    (λ e. given_put old (map piece_token c.put_fronts.new.out.items) (map piece_token c.put_laid.new.out.items)
+    (map piece_token c.put_operand.new.out.items) (map piece_token c.put_behinds.new.out.items)
+    (laid c.args.attributes.now) (behind_lefts (map (λ (x : Bor Tree). x.now) c.put_fronts.new.forms.items)) all
+    c.in_ok-inner.inner.now last fronts c.in_ok-put_laid.ensures.put operand
+    (e ∙ ap (λ (xs : List (Bor Tree)). map piece_token c.put_operand.new.out.items
+    ++ behind_lefts (map (λ (x : Bor Tree). x.now) xs)) lent))
+    c.put_behinds.ensures.put

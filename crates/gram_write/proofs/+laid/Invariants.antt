@@ -83,17 +83,11 @@ decreases-expressed::put_statement l = size-Tree l.inner.now + 1
 abbrev pub decreases-expressed::put_before : goal.decreases-expressed::put_before
 decreases-expressed::put_before l = size-Tree l.before.now + size-Tree l.form.now + 3
 
-abbrev pub decreases-expressed::put_given : goal.decreases-expressed::put_given
-decreases-expressed::put_given l = size-Tree l.attributes.now + size-Tree l.tree.now + 2
-
 abbrev pub decreases-expressed::put_operand : goal.decreases-expressed::put_operand
 decreases-expressed::put_operand l = size-Tree l.tree.now + 2
 
 abbrev pub decreases-expressed::put_own : goal.decreases-expressed::put_own
 decreases-expressed::put_own l = size-Tree l.own.now + 1
-
-abbrev pub decreases-expressed::put_rest : goal.decreases-expressed::put_rest
-decreases-expressed::put_rest l = size-Tree l.tree.now
 
 -- an operand, in parentheses or not, is put by another
 abbrev pub decreases-expressed::put_front : goal.decreases-expressed::put_front
@@ -115,3 +109,6 @@ decreases-chain::put_behinds l = most (λ x. size-Tree x.now) l.forms.now
 
 abbrev pub decreases-chain::put_behind : goal.decreases-chain::put_behind
 decreases-chain::put_behind l = 4 * node_count l.form.now + 3
+
+abbrev pub decreases-chain::put_given : goal.decreases-chain::put_given
+decreases-chain::put_given l = size-Tree l.attributes.now + size-Tree l.tree.now + 2

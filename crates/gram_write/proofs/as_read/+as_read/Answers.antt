@@ -1,14 +1,9 @@
 use Rattle.std.proofs.Common.{arith, ap, sym, ◌∙◌}
 use Rattle.std.proofs.lemmas.Grind.{common_steps}
-use denote.Param.Weighed.{at_most}
-use Rattle.gram_table.specs.Ops.{separator_of}
-use Rattle.gram_tree.specs.declared.tree.Tree.TheDeep.{size-Tree, size-Element}
-use Rattle.syn_grammar.specs.Tree.{Tree}
-use Rattle.gram_tree.specs.declared.tree.Element.{Element}
-use Rattle.gram_tree.specs.Forms.{tree_of, ending}
+use Rattle.gram_tree.specs.Forms.{tree_of}
+use Rattle.gram_tree.proofs.Sizes.{element_in, turn_in, list_below, turns_below}
 use Rattle.gram_write.proofs.Fronts.{keeps_both}
 use Rattle.gram_write.proofs.Pushing.{puts}
-use Rattle.gram_write.proofs.Sizes.{element_size, elements_below, tree_size, turns_below}
 use Rattle.gram_write.proofs.as_read.+as_read.Goals as goal
 
 pub put_as_read-put_turns-requires : goal.put_as_read-put_turns-requires
@@ -18,23 +13,20 @@ put_as_read-put_turns-requires t c =
 
 pub put_as_read-put_elements-requires : goal.put_as_read-put_elements-requires
 put_as_read-put_elements-requires t c =
-    let list = c.in-Elements.list.now in
-    let below = elements_below (separator_of list.separator) list.before.now (ending (λ b. b.now) list.last)
-    c.args.tree.now (sym c.tree.view_is ∙ ap tree_of c.in-Elements.is) in
+    let below = list_below c.in-Elements.list.now c.args.tree.now (sym c.tree.view_is ∙ ap tree_of c.in-Elements.is) in
     omega (arith, c.decreases, below)
 
 pub put_turns-put_as_read-requires : goal.put_turns-put_as_read-requires
 put_turns-put_as_read-requires n c =
-    let below = at_most (λ (x : Tree). size-Tree x) c.args.trees.now c.loop-tree.tree-index c.tree-item.result
-    c.loop-tree-test.true in
-    omega (arith, c.decreases, below, ap (λ (x : Tree). size-Tree x) c.tree-item.is)
+    let below = turn_in c.args.trees.now c.loop-tree.tree-index c.tree-item.result
+    c.loop-tree-test.true c.tree-item.is in
+    omega (arith, c.decreases, below)
 
 pub put_elements-put_as_read-requires : goal.put_elements-put_as_read-requires
 put_elements-put_as_read-requires n c =
-    let below = at_most (λ (e : Element). size-Element e) c.args.before.now c.loop-element.element-index
-    c.element-item.result c.loop-element-test.true in
-    let same = ap (λ (e : Element). size-Element e) c.element-item.is in
-    omega (arith, c.decreases, below, same, element_size c.element-item.result, tree_size c.element-item.result.tree)
+    let below = element_in c.args.before.now c.loop-element.element-index c.element-item.result
+    c.loop-element-test.true c.element-item.is in
+    omega (arith, c.decreases, below)
 
 -- one more of them has been put
 pub put_turns-loop-tree-preserved : goal.put_turns-loop-tree-preserved

@@ -1,11 +1,9 @@
 use Rattle.std.specs.Prelude.{List, Option, Bool, Some}
 use Rattle.std.proofs.Common.{◌≡◌, arith, ap, sym, ◌∙◌, ◌<◌, ◌+◌, length, get_or, drop, rules}
-use denote.Param.Weighed.{at_most}
-use Rattle.gram_tree.specs.declared.tree.Tree.TheDeep.{size-Tree}
 use Rattle.syn_grammar.specs.Tree.{Tree, flat}
 use Rattle.gram_tree.specs.Forms.{tree_of, turns}
+use Rattle.gram_tree.proofs.Sizes.{turn_in, turns_below}
 use Rattle.gram_write.specs.Turns.{begun, earlier}
-use Rattle.gram_write.proofs.Sizes.{turns_below}
 use Rattle.gram_write.proofs.Begins.{turn_first}
 use Rattle.gram_write.proofs.begun.+begun.Goals as goal
 
@@ -26,6 +24,6 @@ begun_turns-returns-in-Some t c =
 
 pub begun_turns-begun-requires : goal.begun_turns-begun-requires
 begun_turns-begun-requires n c =
-    let below = at_most (λ (x : Tree). size-Tree x) c.args.trees.now c.loop-tree.tree-index c.tree-item.result
-    c.loop-tree-test.true in
-    omega (arith, c.decreases, below, ap (λ (x : Tree). size-Tree x) c.tree-item.is)
+    let below = turn_in c.args.trees.now c.loop-tree.tree-index c.tree-item.result
+    c.loop-tree-test.true c.tree-item.is in
+    omega (arith, c.decreases, below)

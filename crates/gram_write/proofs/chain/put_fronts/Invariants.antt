@@ -3,17 +3,16 @@ use Rattle.std.proofs.Common.{◌≡◌, ◌++◌, map}
 use denote.Param.Weighed.{most}
 use Rattle.gram_piece.specs.Pieces.{piece_token}
 use Rattle.gram_tree.specs.declared.tree.Tree.TheDeep.{size-Tree}
-use Rattle.gram_write.specs.Chains.{behind_lefts}
+use Rattle.gram_write.specs.Chains.{behind_lefts, passed_laid}
 use Rattle.gram_write.specs.Front.{Keeps}
-use Rattle.gram_write.specs.Laid.{laid}
 use Rattle.gram_write.proofs.chain.put_fronts.Given as goal
 
 -- the old ones stand in front, and what is left is to stand behind what is put; no form is larger than the tree
 abbrev pub invariant-loop : goal.invariant-loop
 invariant-loop l = record {
   kept : Keeps l.fn.out.items l.out.items;
-  put : map piece_token l.out.items ++ (laid l.place.tree.now ++ behind_lefts (map (λ x. x.now) l.forms.items))
-      ≡ map piece_token l.fn.out.items ++ (laid l.fn.tree ++ behind_lefts (map (λ x. x.now) l.fn.forms.items));
+  put : map piece_token l.out.items ++ (passed_laid l.fn.lefts l.place.tree.now ++ behind_lefts (map (λ x. x.now) l.forms.items))
+      ≡ map piece_token l.fn.out.items ++ (passed_laid l.fn.lefts l.fn.tree ++ behind_lefts (map (λ x. x.now) l.fn.forms.items));
   inside : size-Tree l.place.tree.now ≤ size-Tree l.fn.tree;
   outside : most (λ x. size-Tree x.now) l.forms.items
       ≤ max (most (λ x. size-Tree x.now) l.fn.forms.items) (size-Tree l.fn.tree);
