@@ -67,9 +67,8 @@ fn parameters<'t, 'a>(alloc: Global, generics: &'t Tree<'a>) -> Result<Vec<Gener
     Ok(parameters)
 }
 
-/// The item that was read as a `DeriveInput`: it stands behind its attributes and its visibility.
-pub fn item_of<'t, 'a>(alloc: Global, tree: &'t Tree<'a>) -> Result<Item<'t, 'a>> {
-    let input = DeriveInput::of(tree).ok_or(anyhow!("no struct, union or enum"))?;
+/// What is needed of the item that was read.
+pub fn item_of<'t, 'a>(alloc: Global, input: DeriveInput<'t, 'a>) -> Result<Item<'t, 'a>> {
     let (list, members) = match input.data {
         Data::Struct(data) => ("FIELDS", fields(alloc, &data.fields)?),
         Data::Union(data) => ("FIELDS", fields(alloc, &Fields::Named(data.fields))?),

@@ -17,7 +17,7 @@ use anyhow::{Error, Result, anyhow};
 use std::alloc::Global;
 use std::io::{Read, Write};
 use syn::{
-    Arena, Kind, LineColumn, ParseFault, SourceMap, Span, TokenBuffer, TokenStream, Tree, parse_as,
+    Arena, DeriveInput, LineColumn, ParseFault, SourceMap, Span, TokenBuffer, TokenStream, parse2,
 };
 
 // Where a token begins, if it stands in a text of the map.
@@ -40,9 +40,9 @@ fn refused(map: &SourceMap, fault: &ParseFault) -> Error {
     }
 }
 
-// The impl for the item that a tree is.
-fn derived(alloc: Global, tree: &Tree) -> Result<TokenStream> {
-    let impl_block = impl_of(alloc, &item_of(alloc, tree)?)?;
+// The impl for an item.
+fn derived(alloc: Global, input: DeriveInput<'_, '_>) -> Result<TokenStream> {
+    let impl_block = impl_of(alloc, &item_of(alloc, input)?)?;
     if impl_block.is_well_spaced() {
         Ok(impl_block)
     } else {
@@ -53,8 +53,8 @@ fn derived(alloc: Global, tree: &Tree) -> Result<TokenStream> {
 // The impl for the item that a buffer holds.
 fn derived_of(alloc: Global, map: &SourceMap, buffer: &TokenBuffer) -> Result<TokenStream> {
     let arena = Arena::new(alloc);
-    match parse_as(&arena, Kind::DeriveInput, buffer) {
-        Ok(tree) => derived(alloc, &tree),
+    match parse2::<DeriveInput>(&arena, buffer) {
+        Ok(input) => derived(alloc, input),
         Err(fault) => Err(refused(map, &fault)),
     }
 }

@@ -11,7 +11,7 @@ use proc_macro2::{SourceMap, TokenStream};
 use std::alloc::{AllocError, Global};
 use std::io::Write;
 use stops::{Stop, looked_at, refused};
-use syn::{Expr, parse_as};
+use syn::{Expr, parse_as, parse2};
 use syn_buffer::TokenBuffer;
 use syn_data::data::Fields;
 use syn_data::derive::{Data, DeriveInput};
@@ -24,12 +24,17 @@ fn lexed(alloc: Global, text: &str) -> Result<TokenStream, Stop> {
     stream.map_err(|_| Stop::Elsewhere)
 }
 
-// All of the tokens as a form of the kind.
-fn parsed<'a>(arena: &'a Arena, kind: Kind, buffer: &'a TokenBuffer<'a>) -> Result<Tree<'a>, Stop> {
-    parse_as(arena, kind, buffer).map_err(|fault| match fault {
+// Why a form that stands there was not read.
+fn unread(fault: ParseFault) -> Stop {
+    match fault {
         ParseFault::Memory => Stop::Refused,
         ParseFault::Syntax(_) => Stop::Changed,
-    })
+    }
+}
+
+// All of the tokens as a form of the kind.
+fn parsed<'a>(arena: &'a Arena, kind: Kind, buffer: &'a TokenBuffer<'a>) -> Result<Tree<'a>, Stop> {
+    parse_as(arena, kind, buffer).map_err(unread)
 }
 
 // A form, with another one in the place of its left operand.
@@ -96,13 +101,10 @@ fn shown(alloc: Global, fields: &Fields) -> Result<String, Stop> {
 // The members of the fields of the struct that a buffer holds.
 fn members(alloc: Global, buffer: &TokenBuffer<'_>) -> Result<String, Stop> {
     let arena = Arena::new(alloc);
-    let tree = parsed(&arena, Kind::DeriveInput, buffer)?;
-    match DeriveInput::of(&tree) {
-        Some(input) => match input.data {
-            Data::Struct(data) => shown(alloc, &data.fields),
-            _ => Err(Stop::Changed),
-        },
-        None => Err(Stop::Changed),
+    let input = parse2::<DeriveInput>(&arena, buffer).map_err(unread)?;
+    match input.data {
+        Data::Struct(data) => shown(alloc, &data.fields),
+        _ => Err(Stop::Changed),
     }
 }
 

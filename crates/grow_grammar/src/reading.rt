@@ -5,7 +5,7 @@ use proc_macro2::{SourceMap, TokenStream};
 use std::alloc::Global;
 use stops::{Stop, looked_at, refused};
 use syn::{
-    Arena, Kind, Literals, ParseFault, Plus, Reader, Sign, TokenBuffer, Tree, Words, print,
+    Arena, Kind, Literals, ParseFault, Plus, Reader, Sign, TokenBuffer, Tree, Type, Words, print,
     stream_of, write,
 };
 
@@ -34,6 +34,17 @@ fn first_type(alloc: Global, input: &mut Reader<'_>) -> Result<String, Stop> {
     match input.parse(Kind::AType(Plus::WithPlus)) {
         Ok(tree) => streamed(alloc, &tree),
         Err(fault) => said(alloc, fault, input.entries().len() == left),
+    }
+}
+
+// What type begins there, read as one by a fork.
+fn first_form(alloc: Global, start: Reader<'_>) -> Result<String, Stop> {
+    let left = start.entries().len();
+    let mut fork = start;
+    match fork.form::<Type>() {
+        Ok(Type::Reference(_)) => Ok(String::from_str(alloc, "a reference")?),
+        Ok(_) => Err(Stop::Changed),
+        Err(fault) => said(alloc, fault, fork.entries().len() == left),
     }
 }
 
@@ -74,6 +85,8 @@ fn refusals<'a>(alloc: Global, start: Reader<'a>) -> Result<Vec<String>, Stop> {
 fn put_answers(alloc: Global, buffer: &TokenBuffer<'_>, all: &mut String) -> Result<(), Stop> {
     let arena = Arena::new(alloc);
     let mut input = Reader::new(&arena, buffer);
+    all.push_str(first_form(alloc, input)?.as_str())?;
+    all.push('\n')?;
     all.push_str(first_type(alloc, &mut input)?.as_str())?;
     all.push('\n')?;
     for line in &refusals(alloc, input)? {

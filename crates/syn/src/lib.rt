@@ -13,8 +13,10 @@
 //! - `tokens`: tokens that are to be written, as a stream of trees.
 //! - `leaf`: the leaves of a tree, in their order, each with where it stands but marks between elements.
 //! - `node`: its nodes and the forms of its expressions, at every depth.
+//! - `typed`: forms that are read as a type of the syntax tree; `forms`: the types that are.
 #![tactic(auto)]
 
+mod forms;
 pub mod leaf;
 pub mod node;
 pub mod parse;
@@ -22,6 +24,7 @@ pub mod peek;
 pub mod reader;
 mod reading;
 pub mod tokens;
+pub mod typed;
 
 pub use gram_build::build::write_in;
 pub use gram_equal::tree::equal;
@@ -334,3 +337,5 @@ pub use syn_item::uses::UseRename;
 pub use syn_item::uses::UseTop;
 pub use syn_item::uses::UseTree;
 pub use tokens::stream_of;
+pub use typed::Parse;
+pub use typed::parse2;
