@@ -1,4 +1,7 @@
 //! The types of the syntax tree that are read from tokens, each with the kind that it is read as.
+//!
+//! `view` names both answers of the type's `of`, as the prover meets the trait's clause case by case; and `kind` states
+//! its clause again, as the prover gives a method without arguments none of the trait's where the type has a lifetime.
 
 ghost use Rattle.gram_table.specs.Kinds.{kind_of};
 ghost use Rattle.std.specs.Prelude.{◌≡◌, Some};
@@ -32,7 +35,7 @@ use syn_item::item::Item;
 use syn_item::uses::UseTree;
 
 impl<'a> Parse<'a> for File<'a, 'a> {
-    ghost entry = { k.AFile };
+    ghost kind = { k.AFile };
 
     ghost says = { λ x tree. tree ≡ file x };
 
@@ -52,7 +55,7 @@ impl<'a> Parse<'a> for File<'a, 'a> {
 }
 
 impl<'a> Parse<'a> for Item<'a, 'a> {
-    ghost entry = { k.AnItem };
+    ghost kind = { k.AnItem };
 
     ghost says = { λ x tree. Is tree x };
 
@@ -72,7 +75,7 @@ impl<'a> Parse<'a> for Item<'a, 'a> {
 }
 
 impl<'a> Parse<'a> for DeriveInput<'a, 'a> {
-    ghost entry = { k.DeriveInput };
+    ghost kind = { k.DeriveInput };
 
     ghost says = { λ x tree. IsEnded x.«data» × (tree ≡ derive_input x) };
 
@@ -92,7 +95,7 @@ impl<'a> Parse<'a> for DeriveInput<'a, 'a> {
 }
 
 impl<'a> Parse<'a> for UseTree<'a, 'a> {
-    ghost entry = { k.UseTree };
+    ghost kind = { k.UseTree };
 
     ghost says = { λ x tree. tree ≡ use_tree x };
 
@@ -112,7 +115,7 @@ impl<'a> Parse<'a> for UseTree<'a, 'a> {
 }
 
 impl<'a> Parse<'a> for Visibility<'a, 'a> {
-    ghost entry = { k.Visibility };
+    ghost kind = { k.Visibility };
 
     ghost says = { λ x tree. tree ≡ visibility x };
 
@@ -132,7 +135,7 @@ impl<'a> Parse<'a> for Visibility<'a, 'a> {
 }
 
 impl<'a> Parse<'a> for OuterAttributes<'a, 'a> {
-    ghost entry = { k.OuterAttributes };
+    ghost kind = { k.OuterAttributes };
 
     ghost says = { λ x tree. tree ≡ outer_attributes x };
 
@@ -152,7 +155,7 @@ impl<'a> Parse<'a> for OuterAttributes<'a, 'a> {
 }
 
 impl<'a> Parse<'a> for Meta<'a, 'a> {
-    ghost entry = { k.Meta };
+    ghost kind = { k.Meta };
 
     ghost says = { λ x tree. tree ≡ meta x };
 
@@ -172,7 +175,7 @@ impl<'a> Parse<'a> for Meta<'a, 'a> {
 }
 
 impl<'a> Parse<'a> for Generics<'a, 'a> {
-    ghost entry = { k.Generics };
+    ghost kind = { k.Generics };
 
     ghost says = { λ x tree. tree ≡ generics x };
 
@@ -192,7 +195,7 @@ impl<'a> Parse<'a> for Generics<'a, 'a> {
 }
 
 impl<'a> Parse<'a> for WhereClause<'a, 'a> {
-    ghost entry = { k.WhereClause };
+    ghost kind = { k.WhereClause };
 
     ghost says = { λ x tree. tree ≡ where_clause x };
 
@@ -212,7 +215,7 @@ impl<'a> Parse<'a> for WhereClause<'a, 'a> {
 }
 
 impl<'a> Parse<'a> for Type<'a, 'a> {
-    ghost entry = { k.AType k.WithPlus };
+    ghost kind = { k.AType k.WithPlus };
 
     ghost says = { λ x tree. form_of_type tree ≡ type_tree x };
 
@@ -232,7 +235,7 @@ impl<'a> Parse<'a> for Type<'a, 'a> {
 }
 
 impl<'a> Parse<'a> for Path<'a, 'a> {
-    ghost entry = { k.Path k.InType };
+    ghost kind = { k.Path k.InType };
 
     ghost says = { λ x tree. tree ≡ path x };
 
@@ -252,7 +255,7 @@ impl<'a> Parse<'a> for Path<'a, 'a> {
 }
 
 impl<'a> Parse<'a> for Expr<'a, 'a> {
-    ghost entry = { k.Expression k.Plain };
+    ghost kind = { k.Expression k.Plain };
 
     ghost says = { λ x tree. (x.tree.now ≡ form_of tree) × (which x.tree.now ≡ Some x.form) };
 
@@ -272,7 +275,7 @@ impl<'a> Parse<'a> for Expr<'a, 'a> {
 }
 
 impl<'a> Parse<'a> for Block<'a, 'a> {
-    ghost entry = { k.Block };
+    ghost kind = { k.Block };
 
     ghost says = { λ x tree. tree ≡ block x };
 
@@ -292,7 +295,7 @@ impl<'a> Parse<'a> for Block<'a, 'a> {
 }
 
 impl<'a> Parse<'a> for Stmt<'a, 'a> {
-    ghost entry = { k.AStatement };
+    ghost kind = { k.AStatement };
 
     ghost says = { λ x tree. IsStmt tree x };
 

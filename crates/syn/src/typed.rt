@@ -23,17 +23,19 @@ use syn_error::ParseFault;
 
 /// A type of the syntax tree that is read from tokens.
 pub trait Parse<'a> {
-    ghost entry: { GivenKind };
+    /// The kind of the grammar that is read.
+    ghost kind: { GivenKind };
 
+    /// What a value says of the tree that it was read as.
     ghost says: { Self → GivenTree → Type 0 };
 
-    /// The kind of the grammar that is read.
+    /// That kind.
     fn kind() -> Kind
-        ensures { kind_of result ≡ entry };
+        ensures { kind_of result ≡ kind };
 
     /// What the type says of a tree of the kind: one layer of it. `None` only of a tree that was not read as one.
     fn view(tree: &'a Tree<'a>) -> Option<Self>
-        ensures { MatchOption result ((rest : List Token) → Derives tree.now (ref entry) rest → ⊥)
+        ensures { MatchOption result ((rest : List Token) → Derives tree.now (ref kind) rest → ⊥)
             (λ x. says x tree.now) };
 }
 
@@ -48,8 +50,8 @@ pub fn parse2<'a, T: Parse<'a>>(
     buffer: &'a TokenBuffer<'a>,
 ) -> Result<T, ParseFault>
     ensures read { IfOk result (λ x. (tree : GivenTree)
-        × IsAll T.entry (tokens buffer.now.entries.items) tree × T.says x tree) }
-    ensures refused { IfErr result (λ e. IsSyntax e → IsNone T.entry (tokens buffer.now.entries.items)) }
+        × IsAll T.kind (tokens buffer.now.entries.items) tree × T.says x tree) }
+    ensures refused { IfErr result (λ e. IsSyntax e → IsNone T.kind (tokens buffer.now.entries.items)) }
 {
     let tree = parse_as(arena, T::kind(), buffer)?;
     let tree = arena.put(tree)?;
@@ -67,8 +69,8 @@ impl<'a> Reader<'a> {
     /// Those of `parse`. The reader then stands where it stood.
     pub fn form<T: Parse<'a>>(&mut self) -> Result<T, ParseFault>
         ensures read { IfOk result (λ x. (tree : GivenTree)
-            × IsDerived T.entry (left self.old) tree (left self.new) × T.says x tree) }
-        ensures refused { IfErr result (λ e. IsSyntax e → NoneRead T.entry (left self.old)) }
+            × IsDerived T.kind (left self.old) tree (left self.new) × T.says x tree) }
+        ensures refused { IfErr result (λ e. IsSyntax e → NoneRead T.kind (left self.old)) }
         ensures stays { OnErr result (self.new ≡ self.old) }
     {
         let mut ahead = *self;
