@@ -20,7 +20,7 @@ single_left _ = None
 abbrev pub left_of : Tree → Option (Kind × Tree)
 left_of x = single_left (single x)
 
--- the same, if that operand is passed
+-- the same, if that operand is passed: each is, or only those that attributes in front are given to
 abbrev pub next_of : Lefts → Tree → Option (Kind × Tree)
 next_of lefts.All x = left_of x
 next_of (lefts.Given a) x = giving_of x

@@ -32,7 +32,7 @@ struct Place<'t, 'a> {
 enum Lefts<'t, 'a> {
     // Each.
     All,
-    // Those that these attributes, which stand in front, are given to.
+    // Those that these attributes, which stand in front, are given to; contracts alone ask which attributes.
     Given(&'t Tree<'a>),
 }
 
