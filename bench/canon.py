@@ -1,12 +1,14 @@
 #!/usr/bin/env python3
 """Times `canon` beside syn, which reads the same text as a file and prints its tokens, with span locations and without
-them, all in one run. Prints a table: for each text the least processor time of several runs of each program, and its
-peak memory for each byte of the text. A second table is of lexing alone, by which the first can be read: what is left
-there is reading, writing and printing.
+them, all in one run. Prints tables: for each text the least processor time of several runs of each program, and its
+peak memory for each byte of the text. The first is of whole runs. The second is of lexing and reading alone: syn's tree is
+let go of, and `canon` is given the text with one word more, which is at fault behind all that was read. The third is of
+lexing alone. What is left between two of them is reading, and writing and printing. The last one has rustfmt beside them,
+on the files of std alone, as it asks for more than that a text is lexed and read.
 
-Usage: bench/canon.py [RUNS]. It builds the programs first, which proves what isn't proved yet, and fetches Debian's
-packages rust-src, librust-proc-macro2-dev, librust-syn-dev and librust-quote-dev where they are missing. The peer is
-built with plain rustc, and nothing of it is kept."""
+Usage: bench/canon.py [RUNS [CANON LEXER]]. It builds the programs first, which proves what isn't proved yet, or takes those
+that are named, and fetches Debian's packages rust-src, librust-proc-macro2-dev, librust-syn-dev and librust-quote-dev where
+they are missing. The peer is built with plain rustc, and nothing of it is kept."""
 
 import glob
 import os
@@ -106,8 +108,27 @@ def written(make):
     return "".join(parts).encode()
 
 
+# What the names of the texts that rustfmt is given begin with.
+OF_STD = ("largest file", "`core/src")
+
+# Behind items: a fault at the end of the text.
+FAULT = b"\nstruct"
+
+
+def is_read(program, text):
+    """Whether the program reads the text as a file."""
+    ran = subprocess.run([program], input=text, stdout=subprocess.DEVNULL, stderr=subprocess.DEVNULL)
+    return ran.returncode == 0
+
+
+def modules(files):
+    """The files, each as a module of its own."""
+    parts = (b"mod file_%d {\n%s\n}\n" % (at, open(name, "rb").read().removeprefix(b"\xef\xbb\xbf")) for at, name in enumerate(files))
+    return list(parts)
+
+
 def texts():
-    """Each text and what it is."""
+    """Each text and what it is. One that is a list is of parts, of which those stand that all programs read."""
     yield "types", written(lambda source: f"type {name(source)} = {kind(source, 3)};\n")
     yield "paths", written(lambda source: f"type {name(source)} = {path(source, 3, '')};\n")
     yield "expressions", written(lambda source: f"const {name(source)}: u8 = {value(source, 4)};\n")
@@ -116,17 +137,19 @@ def texts():
     listed = subprocess.run(["dpkg", "-L", "rust-src"], capture_output=True, text=True, check=True).stdout
     folder = next(line for line in listed.splitlines() if line.endswith("/library"))
     files = sorted(glob.glob(folder + "/**/*.rs", recursive=True), key=os.path.getsize)
+    yield "std, each of its files a module", modules(files)
     yield "largest file of std", open(files[-1], "rb").read()
     yield "`core/src/iter/traits/iterator.rs`", open(folder + "/core/src/iter/traits/iterator.rs", "rb").read()
     yield "one macro with std inside", b"m!{" + library() + b"}"
 
 
-def built(work):
-    """The programs: canon and this lexer, and the peer with and without span locations."""
+def built(work, given):
+    """The programs: canon and this lexer, as they are given, and the peer with and without span locations."""
     names = ["unicode-ident", "proc-macro2", "quote", "syn"]
     sources = {name: glob.glob(f"{REGISTRY}/{name}-[0-9]*")[0] for name in names}
     features = [part for name in ["parsing", "printing", "full"] for part in ["--cfg", f'feature="{name}"']]
     programs = {"canon": f"{TOP}/crates/canon_cli/out/canon_cli", "lexer": f"{TOP}/crates/lex_cli/out/lex_cli"}
+    programs.update(zip(["canon", "lexer"], given))
     for peer, flags in PEERS.items():
         out = os.path.join(work, peer.replace(" ", "-"))
         os.mkdir(out)
@@ -145,37 +168,60 @@ def built(work):
         with_syn = rustc + ["--edition", "2021", *extern["proc_macro2"], *extern["quote"], *extern["syn"]]
         subprocess.run(with_syn + ["--crate-name", "file_peer", HERE + "/file_peer.rs"], check=True)
         programs[peer] = out + "/file_peer"
-    for name in ["canon_cli", "lex_cli"]:
+    for name in [] if given else ["canon_cli", "lex_cli"]:
         folder = f"{TOP}/crates/{name}"
         subprocess.run(["rt", "run"], cwd=folder, stdin=subprocess.DEVNULL, capture_output=True, check=True)
     return programs
 
 
-def table(runner, title, commands, made, place, runs):
-    """Each text's row."""
+def table(runner, title, commands, made, place, runs, behind=b""):
+    """Each text's row. The first program is given the text with that behind it."""
     print(f"\n| {title} | MB | this | peer with spans | peer without | this/with | this/without | Bytes a byte, each |")
     print("|---|---|---|---|---|---|---|---|")
     for what, text in made:
         with open(place, "wb") as file:
             file.write(text)
+        with open(place + "-ours", "wb") as file:
+            file.write(text + behind)
         (ours, spans, plain), memory = measured(runner, commands, place, runs)
         each = ", ".join(f"{peak / len(text):.0f}" for peak in memory)
         times = f"{ours:.3f} s | {spans:.3f} s | {plain:.3f} s | {ours / spans:.2f} | {ours / plain:.2f}"
         print(f"| {what} | {len(text) / 1e6:.1f} | {times} | {each} |", flush=True)
 
 
+def beside_rustfmt(runner, programs, made, place, runs):
+    """Each text's row beside rustfmt."""
+    print("\n| Beside rustfmt | MB | this | rustfmt | this/rustfmt | Bytes a byte, each |")
+    print("|---|---|---|---|---|---|")
+    commands = [[programs["canon"]], ["rustfmt", "--edition", "2021"]]
+    for what, text in made:
+        with open(place, "wb") as file:
+            file.write(text)
+        (ours, theirs), memory = measured(runner, commands, place, runs)
+        each = ", ".join(f"{peak / len(text):.0f}" for peak in memory)
+        print(f"| {what} | {len(text) / 1e6:.1f} | {ours:.3f} s | {theirs:.3f} s | {ours / theirs:.2f} | {each} |", flush=True)
+
+
 def main():
     runs = int(sys.argv[1]) if len(sys.argv) > 1 else 5
     fetch("librust-syn-dev", "librust-quote-dev")
     runner = Runner()
-    made = list(texts())
     with tempfile.TemporaryDirectory() as work:
-        programs = built(work)
+        programs = built(work, sys.argv[2:])
+        both = [programs["canon"], programs["peer without"]]
+        whole = lambda part: all(is_read(program, part) for program in both)
+        made = [(what, text if isinstance(text, bytes) else b"".join(filter(whole, text))) for what, text in texts()]
         place = os.path.join(work, "text")
-        whole = [[programs["canon"]]] + [[programs[peer]] for peer in PEERS]
-        table(runner, "Read, written and printed", whole, made, place, runs)
-        lexed = [[programs["lexer"]]] + [[programs[peer], "lex"] for peer in PEERS]
-        table(runner, "Lexed", lexed, made, place, runs)
+        commands = [[programs["canon"]]] + [[programs[peer]] for peer in PEERS]
+        table(runner, "Read, written and printed", commands, made, place, runs)
+        # A run that is refused has status 1: what a shell makes of that is success.
+        refused = ["sh", "-c", f'"$0" < "$1" 2> /dev/null; test $? = 1', programs["canon"], place + "-ours"]
+        commands = [refused] + [[programs[peer], "read"] for peer in PEERS]
+        items = [(what, text) for what, text in made if not what.startswith("one macro")]
+        table(runner, "Lexed and read", commands, items, place, runs, FAULT)
+        commands = [[programs["lexer"]]] + [[programs[peer], "lex"] for peer in PEERS]
+        table(runner, "Lexed", commands, made, place, runs)
+        beside_rustfmt(runner, programs, [it for it in made if it[0].startswith(OF_STD)], place, runs)
 
 
 if __name__ == "__main__":
