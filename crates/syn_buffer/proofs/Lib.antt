@@ -1,4 +1,5 @@
 mod Laid
+mod AllSeen
 mod Putting
 mod Unsigned
 mod Standing

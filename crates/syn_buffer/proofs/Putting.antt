@@ -2,6 +2,8 @@
 use Rattle.std.proofs.Common.{◌≡◌, ℕ, zero, suc, ◌+◌, ◌-◌, ◌<◌, ◌≤◌, List, [], ◌∷◌, ◌++◌, length, take, get_or, refl}
 use Rattle.std.proofs.Common.{sym, ap, ◌∙◌, subst, arith, append_assoc, add-one, length-append, true}
 use Rattle.std.proofs.lemmas.List.{map-append, append-nil}
+use Rattle.std.proofs.lemmas.List.Folds.{list_all-append}
+use Rattle.std.specs.Prelude.{Bool, ◌&&◌}
 use Rattle.std.proofs.Math.Seq.{set-append_seam}
 use Rattle.std.proofs.Math.ListN.{set}
 use Rattle.rust_map.specs.declared.span.Span.{Span}
@@ -11,6 +13,7 @@ use Rattle.proc_macro2.specs.Flat.{spanned, tree_tokens, trees_tokens}
 use Rattle.proc_macro2.specs.declared.tree.TokenTree.{TokenTree}
 use Rattle.syn_buffer.specs.Entries.{spanned_entry, spanned_entries, is_whole}
 use Rattle.syn_buffer.specs.Puts.{Puts}
+use Rattle.syn_buffer.specs.Seen.{all_seen, is_seen}
 use Rattle.syn_buffer.specs.declared.entry.Entry.{Entry}
 use Rattle.syn_buffer.specs.declared.entry.Entry.TheVariants as entry
 use Rattle.syn_buffer.proofs.Laid.{whole_append, whole_group}
@@ -83,3 +86,14 @@ put_next xs ys zs ts i t h e p q =
     subst P (ap (λ u. trees_tokens (take i ts) ++ tree_tokens u) e ∙ sym (taken_more ts i t h)
     ∙ ap (λ k. trees_tokens (take k ts)) (sym (add-one i)))
     (put_more xs ys zs (trees_tokens (take i ts)) (tree_tokens t) p q)
+
+pub seen_next : (ts : List TokenTree) (i : ℕ) (t : TokenTree) (a b : Bool) → i < length ts → t ≡ get_or ts i t →
+    a ≡ all_seen (trees_tokens (take i ts)) → b ≡ all_seen (tree_tokens t) →
+    (a && b) ≡ all_seen (trees_tokens (take (i + 1) ts))
+seen_next ts i t a b h e p q =
+    let whole : trees_tokens (take (i + 1) ts) ≡ trees_tokens (take i ts) ++ tree_tokens t =
+    ap (λ k. trees_tokens (take k ts)) (add-one i) ∙ taken_more ts i t h
+    ∙ ap (λ u. trees_tokens (take i ts) ++ tree_tokens u) (sym e) in
+    ap (λ x. x && b) p ∙ ap (λ x. all_seen (trees_tokens (take i ts)) && x) q
+    ∙ sym (ap all_seen whole
+    ∙ list_all-append (λ (s : Spanned). is_seen s.token) (trees_tokens (take i ts)) (tree_tokens t))

@@ -46,6 +46,12 @@ abbrev pub tokens_end : Span → List Spanned → Span
 tokens_end none [] = none
 tokens_end none (t ∷ ts) = tokens_end (token_end t.token t.span) ts
 
+-- these tokens stand at the one place, and the other is behind them; what was taken last is where they end
+pub record Passes (before : Cursor) (tokens : List Spanned) (after : Cursor) : Type 0 where
+  pub reads : rest before ≡ tokens ++ rest after
+  pub past : IsPast before after
+  pub taken : after.before ≡ tokens_end before.before tokens
+
 -- the first tree of the one place stands between it and the other; what was taken last is the end of that tree
 pub record PassesTree (before after : Cursor) : Type 0 where
   pub tree : List Spanned

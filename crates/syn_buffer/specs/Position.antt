@@ -1,5 +1,5 @@
 -- Places in a list of tokens: the list that is being read, by what is left of it.
-use Rattle.std.specs.Prelude.{◌≡◌, ◌≤◌, ◌<◌, ℕ, ◌-◌, List, [], ◌∷◌, ◌++◌, length}
+use Rattle.std.specs.Prelude.{◌≡◌, ◌≤◌, ◌<◌, ℕ, ◌-◌, Bool, List, [], ◌∷◌, ◌++◌, length}
 use Rattle.rust_map.specs.Spans.{call_site, last_of}
 use Rattle.rust_map.specs.declared.span.Span.{Span}
 use Rattle.rust_leaf.specs.Leaf.{ident_span, literal_span, punct_span}
@@ -27,23 +27,36 @@ abbrev pub trees_left : Cursor → List Spanned
 trees_left c = trees_of c.entries.now
 
 -- which list is read: of the buffer with that number, the one that ends at that index, where a group with
--- that delimiter closes there
+-- that delimiter closes there; and whether no group in that buffer is invisible
 pub record Scope : Type 0 where
   pub number : ℕ
   pub end : ℕ
   pub closing : Span
   pub closer : Delimiter
+  pub all_visible : Bool
 
 -- the whole of a buffer with that number, of so many entries, which nothing closes; at its end that span is said
-abbrev pub whole_at : Span → ℕ → ℕ → Scope
-whole_at closing number end = record { number = number; end = end; closing = closing; closer = delimiter.None }
+abbrev pub whole_at : Span → ℕ → ℕ → Bool → Scope
+whole_at closing number end all_visible = record {
+  number = number;
+  end = end;
+  closing = closing;
+  closer = delimiter.None;
+  all_visible = all_visible;
+}
 
 -- by itself it ends at the call site
-abbrev pub whole : ℕ → ℕ → Scope
-whole number end = whole_at call_site number end
+abbrev pub whole : ℕ → ℕ → Bool → Scope
+whole number end all_visible = whole_at call_site number end all_visible
 
 abbrev pub scope : Cursor → Scope
-scope c = record { number = c.number; end = c.end; closing = c.closing; closer = c.closer }
+scope c = record {
+  number = c.number;
+  end = c.end;
+  closing = c.closing;
+  closer = c.closer;
+  all_visible = c.all_visible;
+}
 
 -- how far a place is from the end of its list, and its index in its buffer
 abbrev pub ahead : Cursor → ℕ

@@ -10,7 +10,7 @@ ghost use Rattle.syn_buffer.specs.Position.{IsPast, Takes, ahead, index, left, n
 ghost use Rattle.syn_buffer.specs.Position.{trees_left, whole, whole_at};
 ghost use Rattle.syn_buffer.specs.Standing.{trees_of};
 ghost use Rattle.syn_buffer.specs.Leaves.{ident_token, literal_token, punct_token};
-ghost use Rattle.syn_buffer.specs.Seen.{is_visible, seen};
+ghost use Rattle.syn_buffer.specs.Seen.{all_seen, is_visible, seen};
 ghost use Rattle.syn_kinds.specs.Stands.{any_ident_stands, group_stands, literal_stands};
 ghost use Rattle.syn_buffer.specs.Stands.{any_group_stands, end_stands, mark_stands, punct_stands};
 ghost use Rattle.syn_buffer.specs.declared.entry.Entry.TheVariants as marks;
@@ -35,6 +35,8 @@ fn settled<'a>(entries: &'a [Entry<'a>]) -> &'a [Entry<'a>]
     ensures laid { IsTrue (is_laid result.now) }
     ensures further { length result.now ≤ length entries.now }
     ensures first { SeenFirst result.now }
+    ensures visible { IsTrue (all_seen (spanned_entries entries.now))
+        → IsTrue (all_seen (spanned_entries result.now)) }
 {
     let mut at = 0usize;
     while at < entries.len() {
@@ -46,12 +48,23 @@ fn settled<'a>(entries: &'a [Entry<'a>]) -> &'a [Entry<'a>]
     &entries[at..]
 }
 
+// Where the last of the entries ends, and of none what is said.
+pub(crate) fn end_of_last(none: Span, entries: &[Entry<'_>]) -> Span
+    ensures { result ≡ last_end none entries.now }
+{
+    match entries.last() {
+        Some(last) => last.end(),
+        None => none,
+    }
+}
+
 impl TokenBuffer<'_> {
     /// The place at the first token. At its end the call site is said.
     pub fn begin(&self) -> Cursor<'_>
         ensures tokens { rest result ≡ seen (spanned_entries self.now.entries.items) }
         ensures trees { trees_left result ≡ trees_of self.now.entries.items }
-        ensures list { scope result ≡ whole self.now.number (length self.now.entries.items) }
+        ensures list { scope result
+            ≡ whole self.now.number (length self.now.entries.items) self.now.all_visible }
         ensures first { index result ≡ 0 }
         ensures before { result.before ≡ call_site }
     {
@@ -63,7 +76,8 @@ impl TokenBuffer<'_> {
     pub fn begin_within(&self, closing: Span) -> Cursor<'_>
         ensures tokens { rest result ≡ seen (spanned_entries self.now.entries.items) }
         ensures trees { trees_left result ≡ trees_of self.now.entries.items }
-        ensures list { scope result ≡ whole_at closing self.now.number (length self.now.entries.items) }
+        ensures list { scope result
+            ≡ whole_at closing self.now.number (length self.now.entries.items) self.now.all_visible }
         ensures first { index result ≡ 0 }
         ensures before { result.before ≡ call_site }
     {
@@ -74,6 +88,7 @@ impl TokenBuffer<'_> {
             before: Span::call_site(),
             closer: Delimiter::None,
             closing,
+            all_visible: self.all_visible,
         }
     }
 }
@@ -83,7 +98,7 @@ impl<'a> Cursor<'a> {
     pub fn empty() -> Cursor<'a>
         ensures nothing { rest result ≡ [] }
         ensures trees { trees_left result ≡ [] }
-        ensures list { scope result ≡ whole 0 0 }
+        ensures list { scope result ≡ whole 0 0 true }
         ensures before { result.before ≡ call_site }
     {
         Cursor {
@@ -93,6 +108,7 @@ impl<'a> Cursor<'a> {
             before: Span::call_site(),
             closer: Delimiter::None,
             closing: Span::call_site(),
+            all_visible: true,
         }
     }
 
@@ -101,6 +117,7 @@ impl<'a> Cursor<'a> {
     pub(crate) fn past(self, entries: &'a [Entry<'a>], before: Span) -> Cursor<'a>
         requires laid { IsTrue (is_laid entries.now) }
         requires further { length entries.now ≤ ahead self }
+        requires visible { IsTrue self.all_visible → IsTrue (all_seen (spanned_entries entries.now)) }
         ensures entries { result.entries.now ≡ entries.now }
         ensures scope { scope result ≡ scope self.entry }
         ensures before { result.before ≡ before }
@@ -112,6 +129,7 @@ impl<'a> Cursor<'a> {
             before,
             closer: self.closer,
             closing: self.closing,
+            all_visible: self.all_visible,
         }
     }
 
@@ -126,9 +144,15 @@ impl<'a> Cursor<'a> {
     ) -> Cursor<'a>
         requires laid { IsTrue (is_laid entries.now) }
         requires within { length entries.now ≤ end }
+        requires visible { IsTrue self.all_visible → IsTrue (all_seen (spanned_entries entries.now)) }
         ensures entries { result.entries.now ≡ entries.now }
-        ensures scope { scope result
-            ≡ record { number = self.entry.number; end = end; closing = last_of span; closer = delimiter } }
+        ensures scope { scope result ≡ record {
+          number = self.entry.number;
+          end = end;
+          closing = last_of span;
+          closer = delimiter;
+          all_visible = self.entry.all_visible;
+        } }
         ensures before { result.before ≡ first_of span }
     {
         Cursor {
@@ -138,6 +162,7 @@ impl<'a> Cursor<'a> {
             before: span.first_character(),
             closer: delimiter,
             closing: span.last_character(),
+            all_visible: self.all_visible,
         }
     }
 
@@ -154,6 +179,7 @@ impl<'a> Cursor<'a> {
         requires laid { IsTrue (is_laid (marks.Open delimiter span count ∷ behind.now)) }
         requires visible { is_visible delimiter ≡ true }
         requires further { length behind.now < ahead self }
+        requires seen { IsTrue self.all_visible → IsTrue (all_seen (spanned_entries behind.now)) }
         ensures { IsNext self.entry result }
     {
         let end = self.end - behind.len() + count;
@@ -338,10 +364,6 @@ impl<'a> Cursor<'a> {
         ensures end { ahead result ≡ 0 }
         ensures before { result.before ≡ last_end self.entry.before self.entry.entries.now }
     {
-        let before = match self.entries.last() {
-            Some(last) => last.end(),
-            None => self.before,
-        };
-        self.past(&[], before)
+        self.past(&[], end_of_last(self.before, self.entries))
     }
 }

@@ -9,6 +9,7 @@
 //! - `skip`: places behind the tree that stands there.
 //! - `trees`: the trees at a place.
 //! - `place`: places compared, and as what errors speak of.
+//! - `visible`: buffers without invisible groups: the entries that are left, and places behind some of them.
 //! - `laws`: laws of places.
 #![tactic(auto)]
 
@@ -22,6 +23,7 @@ pub mod place;
 pub mod position;
 pub mod skip;
 pub mod trees;
+pub mod visible;
 
 pub use buffer::TokenBuffer;
 pub use entry::Entry;

@@ -1,7 +1,8 @@
 //! Places in a buffer.
 
 ghost use Rattle.std.specs.Prelude.{◌≤◌, IsTrue, length};
-ghost use Rattle.syn_buffer.specs.Entries.{is_laid};
+ghost use Rattle.syn_buffer.specs.Entries.{is_laid, spanned_entries};
+ghost use Rattle.syn_buffer.specs.Seen.{all_seen};
 
 use crate::entry::Entry;
 use proc_macro2::delimiter::Delimiter;
@@ -25,6 +26,9 @@ pub struct Cursor<'a> {
     // what closes the list, and where; it is the call site where the whole ends
     pub(crate) closer: Delimiter,
     pub(crate) closing: Span,
+    // whether no group in the buffer is invisible
+    pub(crate) all_visible: bool,
     ghost is_laid: { IsTrue (is_laid entries.now) },
     ghost is_within: { length entries.now ≤ end },
+    ghost is_visible: { IsTrue all_visible → IsTrue (all_seen (spanned_entries entries.now)) },
 }

@@ -1,10 +1,10 @@
 -- Whole parses, by their steps.
 use Rattle.std.proofs.Common.{◌≡◌, ◌∙◌, ap, ℕ, List, [], ◌∷◌, Some, None, Result, Ok, Err, subst, refl}
-use Rattle.std.specs.Prelude.{true, false}
+use Rattle.std.specs.Prelude.{Bool, true, false}
 use Rattle.proc_macro2.specs.Token.{Spanned, plain}
 use Rattle.syn_error.specs.declared.fault.ParseFault.{ParseFault}
 use Rattle.syn_buffer.specs.Position as place
-use Rattle.syn_buffer.specs.Seen.{seen}
+use Rattle.syn_buffer.specs.Seen.{all_seen, seen}
 use Rattle.syn_buffer.specs.declared.position.Cursor.{Cursor}
 use Rattle.syn_input.specs.Input.{leftover}
 use Rattle.syn_buffer.specs.Stands.{end_stands}
@@ -14,13 +14,17 @@ use Rattle.syn_input.specs.declared.input.Leftover.{Leftover}
 use Rattle.syn_input.specs.declared.input.ParseBuffer.{ParseBuffer}
 
 -- the beginning of a buffer of tokens
-pub begun : (tokens es : List Spanned) (begin : ParseBuffer) (at : Cursor) (closing : Span) (number end : ℕ) →
-    begin.cursor ≡ at → place.rest at ≡ seen es → es ≡ tokens →
-    place.scope at ≡ place.whole_at closing number end → begin.noted ≡ None →
+pub begun : (tokens es : List Spanned) (begin : ParseBuffer) (at : Cursor) (closing : Span) (number end : ℕ) (v : Bool) →
+    begin.cursor ≡ at → place.rest at ≡ seen es → es ≡ tokens → v ≡ all_seen tokens →
+    place.scope at ≡ place.whole_at closing number end v → begin.noted ≡ None →
     IsBegin closing tokens begin
-begun tokens es begin at closing number end c r t l n = record {
+begun tokens es begin at closing number end v c r t a l n = record {
   tokens_are = ap (λ (x : Cursor). place.rest x) c ∙ r ∙ ap (λ (x : List Spanned). seen x) t;
-  list = (number, end, ap (λ (x : Cursor). place.scope x) c ∙ l);
+  list = (
+    number,
+    end,
+    ap (λ (x : Cursor). place.scope x) c ∙ l ∙ ap (λ b. place.whole_at closing number end b) a,
+  );
   nothing_noted = n;
 }
 

@@ -10,7 +10,7 @@ use Rattle.syn_error.specs.declared.fault.TextFault.TheVariants as fault
 use Rattle.rust_map.specs.Spans.{call_site}
 use Rattle.rust_map.specs.declared.span.Span.{Span}
 use Rattle.syn_buffer.specs.Position.{scope, whole_at}
-use Rattle.syn_buffer.specs.Seen.{seen}
+use Rattle.syn_buffer.specs.Seen.{all_seen, seen}
 use Rattle.syn_input.specs.Input.{leftover, rest}
 use Rattle.syn_input.specs.declared.input.Leftover.{Leftover}
 use Rattle.syn_input.specs.declared.input.ParseBuffer.{ParseBuffer}
@@ -18,7 +18,7 @@ use Rattle.syn_input.specs.declared.input.ParseBuffer.{ParseBuffer}
 -- the tokens of the stream are to be read, all of a buffer, at whose end that span is said; nothing is left over yet
 pub record IsBegin (closing : Span) (tokens : List Spanned) (begin : ParseBuffer) : Type 0 where
   pub tokens_are : rest begin ≡ seen tokens
-  pub list : (number : ℕ) × (end : ℕ) × (scope begin.cursor ≡ whole_at closing number end)
+  pub list : (number : ℕ) × (end : ℕ) × (scope begin.cursor ≡ whole_at closing number end (all_seen tokens))
   pub nothing_noted : begin.noted ≡ None
 
 -- the parser read the value from the stream, which stands within that span, and nothing is left over

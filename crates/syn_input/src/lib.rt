@@ -41,5 +41,5 @@ pub use input::{ParseBuffer, ParseStream};
 pub use lifetime_ext::LifetimeExt;
 pub use lookahead::Lookahead1;
 pub use parse::Parse;
-pub use parser::{Parser, parse_str, parse_stream, parse2};
+pub use parser::{Parser, parse_buffer, parse_str, parse_stream, parse2};
 pub use step::StepCursor;

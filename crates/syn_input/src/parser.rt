@@ -7,6 +7,7 @@ ghost use Rattle.std.specs.Fn.{FnOnceReturnsAtMut};
 ghost use Rattle.std.specs.Prelude.{[], ◌+◌, ◌^◌, ◌↔◌, ◌≡◌, ◌≤◌, ◌⊎◌, length, Err, IfErr, IfOk, None, Ok};
 ghost use Rattle.std.specs.Prelude.{OnErr, OnOk, Result};
 ghost use Rattle.std.specs.Str.{chars};
+ghost use Rattle.syn_buffer.specs.Entries.{spanned_entries};
 ghost use Rattle.syn_error.specs.Faults.{IsSyntax};
 ghost use Rattle.syn_error.specs.declared.fault.ParseFault.{ParseFault};
 ghost use Rattle.syn_error.specs.declared.fault.TextFault.TheVariants.{MapFull};
@@ -158,6 +159,31 @@ fn parse_within<P: Parser + Drop>(
     let buffer = TokenBuffer::new2(alloc, tokens, 1)?;
     let mut input = ParseBuffer::new(alloc, buffer.begin_within(closing));
     match parser.run(&mut input) {
+        Err(fault) => Err(fault),
+        Ok(value) => match input.require_all() {
+            Ok(()) => Ok(value),
+            Err(fault) => Err(fault),
+        },
+    }
+}
+
+/// Reads all tokens of the buffer by the function, as `parse_stream` does those of a stream. What is read may lend them,
+/// as forms of the syntax tree do.
+///
+/// The fault is as that of `parse_stream`.
+pub fn parse_buffer<'a, T: Drop, F: FnOnce(&mut ParseBuffer<'a>) -> Result<T, ParseFault>>(
+    alloc: Global,
+    reader: F,
+    buffer: &'a TokenBuffer<'a>,
+) -> Result<T, ParseFault>
+    requires { F.IsAlwaysCallable reader }
+    ensures read { IfOk result (λ x.
+        IsRead (λ i r e. FnOnceReturnsAtMut F.FnOnce reader i r e) (spanned_entries buffer.now.entries.items) x) }
+    ensures refused { IfErr result (λ e. IsSyntax e
+        → IsRefused (λ i r e. FnOnceReturnsAtMut F.FnOnce reader i r e) (spanned_entries buffer.now.entries.items)) }
+{
+    let mut input = ParseBuffer::new(alloc, buffer.begin());
+    match input.call(reader) {
         Err(fault) => Err(fault),
         Ok(value) => match input.require_all() {
             Ok(()) => Ok(value),

@@ -1,8 +1,9 @@
 use Rattle.std.proofs.Common.{ap, sym, ◌∙◌, subst, Bool, List, drop, arith, IsTrue}
 use Rattle.syn_buffer.specs.Entries.{entry_token, is_laid, spanned_entries}
 use Rattle.syn_buffer.specs.Heads.{SeenFirst}
-use Rattle.syn_buffer.specs.Seen.{is_seen, seen}
+use Rattle.syn_buffer.specs.Seen.{all_seen, is_seen, seen}
 use Rattle.syn_buffer.specs.declared.entry.Entry.{Entry}
+use Rattle.syn_buffer.proofs.AllSeen.{seen_drop}
 use Rattle.syn_buffer.proofs.Laid.{one_passed, borrowed, seen_first, seen_end}
 use Rattle.syn_buffer.proofs.cursor.settled.Goals.{else-loop-at-test, then-loop-at-test+then-is_seen}
 use Rattle.syn_buffer.proofs.cursor.settled.Goals as goal
@@ -34,3 +35,8 @@ returns-clause-first c =
           (ap f (sym w.index-entries-at.is) ∙ sym w.is_seen.ensures ∙ w.if-is_seen.true)
     ] in
     subst SeenFirst (sym (borrowed es c.loop-at.at)) there
+
+pub returns-clause-visible : goal.returns-clause-visible
+returns-clause-visible c = λ v.
+    let P : List Entry → Type 0 = λ es. IsTrue (all_seen (spanned_entries es)) in
+    subst P (sym (borrowed c.args.entries.now c.loop-at.at)) (seen_drop c.loop-at.at c.args.entries.now v)

@@ -6,6 +6,8 @@ use Rattle.proc_macro2.specs.Token.{Opens, Closes, Spanned}
 use Rattle.syn_buffer.specs.Entries.{is_laid, spanned_entries}
 use Rattle.syn_buffer.specs.Seen.{seen}
 use Rattle.syn_buffer.specs.declared.entry.Entry.{Entry}
+use Rattle.syn_buffer.proofs.AllSeen.{seen_drop, seen_take}
+use Rattle.syn_buffer.specs.Seen.{all_seen}
 use Rattle.syn_buffer.proofs.Laid.{Opened, opened, borrowed_behind, group_seen, matched_seen, whole_is_laid}
 use Rattle.syn_buffer.proofs.position.Cursor.group_at.Goals as goal
 
@@ -19,6 +21,15 @@ past-after-requires-clause-laid c =
     let P : List Entry → Type 0 = λ es. IsTrue (is_laid es) in
     subst P (sym (borrowed_behind c.args.behind.now c.args.count))
     (opened c.args.delimiter c.args.span c.args.count c.args.behind.now c.requires.laid).behind
+
+pub inside-inside-requires-clause-visible : goal.inside-inside-requires-clause-visible
+inside-inside-requires-clause-visible c = λ v. seen_take c.args.count c.args.behind.now (c.requires.seen v)
+
+pub past-after-requires-clause-visible : goal.past-after-requires-clause-visible
+past-after-requires-clause-visible c = λ v.
+    let P : List Entry → Type 0 = λ es. IsTrue (all_seen (spanned_entries es)) in
+    subst P (sym (borrowed_behind c.args.behind.now c.args.count))
+    (seen_drop (suc c.args.count) c.args.behind.now (c.requires.seen v))
 
 pub returns : goal.returns
 returns c =
@@ -50,6 +61,7 @@ returns c =
             subst P (sym inside) (matched_seen (take n t) (whole_is_laid (take n t) o.inside));
       };
       same_buffer = ap (λ x. x.number) c.inside-inside.ensures.scope;
+      same_groups = ap (λ x. x.all_visible) c.inside-inside.ensures.scope;
       closer = ap (λ x. x.closer) c.inside-inside.ensures.scope;
       closing = ap (λ x. x.closing) c.inside-inside.ensures.scope;
       entered = c.inside-inside.ensures.before;
