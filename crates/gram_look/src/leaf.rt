@@ -32,8 +32,8 @@ fn is_keyword(ident: &Ident, keyword: Keyword) -> bool
     is(ident, keyword.text())
 }
 
-// Whether the word is one of these keywords.
-fn among(ident: &Ident, keywords: &[Keyword]) -> bool
+/// Whether the word is one of these keywords.
+pub fn among(ident: &Ident, keywords: &[Keyword]) -> bool
     ensures { result ≡ is_among (texts keywords.now) (ident_text ident.now) }
 {
     match keywords {

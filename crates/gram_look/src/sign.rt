@@ -21,9 +21,9 @@ use rust_leaf::punct::{Punct, Spacing};
 use rust_map::span::Span;
 use syn_buffer::entry::Entry;
 
-// The mark that stands first, and what is left behind it.
+/// The mark that stands first, and what is left behind it.
 #[tactic(auto, using(crate::proofs::Nested::nested_first, crate::proofs::Spaced::whole_behind))]
-pub(crate) fn first_mark<'a, 'e>(at: &'a [Entry<'e>]) -> Option<(&'e Punct, &'a [Entry<'e>])>
+pub fn first_mark<'a, 'e>(at: &'a [Entry<'e>]) -> Option<(&'e Punct, &'a [Entry<'e>])>
     ensures some { IfSome result (λ r. tokens at.now ≡ token.Punct (punct_char r.0.now) (punct_spacing r.0.now) ∷ tokens r.1.now) }
     ensures none { IfNone result (no_mark (tokens at.now)) }
     ensures nested { is_nested at.now ≡ true → IfSome result (λ r. is_nested r.1.now ≡ true) }
@@ -128,9 +128,9 @@ pub fn marks<'a>(sign: Sign, at: &'a [Entry<'a>]) -> Option<(Spacing, Span, &'a 
     Some((spacing, punct.span(), rest))
 }
 
-// The identifier that stands first, and what is left behind it.
+/// The word that stands first, and what is left behind it.
 #[tactic(auto, using(crate::proofs::Nested::nested_first))]
-pub(crate) fn first_ident<'a, 'e>(at: &'a [Entry<'e>]) -> Option<(&'e Ident, &'a [Entry<'e>])>
+pub fn first_ident<'a, 'e>(at: &'a [Entry<'e>]) -> Option<(&'e Ident, &'a [Entry<'e>])>
     ensures some { IfSome result (λ r. tokens at.now ≡ token.Ident (ident_text r.0.now) ∷ tokens r.1.now) }
     ensures none { IfNone result (no_word (tokens at.now)) }
     ensures nested { is_nested at.now ≡ true → IfSome result (λ r. is_nested r.1.now ≡ true) }

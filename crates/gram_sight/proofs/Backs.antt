@@ -328,3 +328,109 @@ pub no_back : (p : k.Position) (c : ℕ) (s : Spacing) (ts us : List Token) → 
     → false ≡ sees (f.dot_stands then an_ident then (parenthesis or marks "::")) ts
     → false ≡ sees f.dot_stands ts → f.back p ts ≡ None
 no_back p c s ts us e h g i j l = by_dot p c s ts us false false false e h g i j l
+
+pub percent_back : (p : k.Position) (c : ℕ) (s : Spacing) (ts us : List Token) → ts ≡ Punct c s ∷ us → s ≡ Alone
+    → c ≡ 37 → f.back p ts ≡ Some k.ExprProduct
+unfolding f.back
+percent_back p c s ts us e h g = by_mark p c 37 s Alone ts us e h g ∙ step p
+  where
+    step : (p : k.Position) → f.back p (Punct 37 Alone ∷ us) ≡ Some k.ExprProduct
+    step k.Plain = refl
+    step k.InCondition = refl
+    step k.InArm = refl
+    step k.InStatement = refl
+
+pub and_back : (p : k.Position) (c : ℕ) (s : Spacing) (ts us : List Token) → ts ≡ Punct c s ∷ us → s ≡ Alone
+    → c ≡ 38 → f.back p ts ≡ Some k.ExprBitAnd
+unfolding f.back
+and_back p c s ts us e h g = by_mark p c 38 s Alone ts us e h g ∙ step p
+  where
+    step : (p : k.Position) → f.back p (Punct 38 Alone ∷ us) ≡ Some k.ExprBitAnd
+    step k.Plain = refl
+    step k.InCondition = refl
+    step k.InArm = refl
+    step k.InStatement = refl
+
+pub caret_back : (p : k.Position) (c : ℕ) (s : Spacing) (ts us : List Token) → ts ≡ Punct c s ∷ us → s ≡ Alone
+    → c ≡ 94 → f.back p ts ≡ Some k.ExprBitXor
+unfolding f.back
+caret_back p c s ts us e h g = by_mark p c 94 s Alone ts us e h g ∙ step p
+  where
+    step : (p : k.Position) → f.back p (Punct 94 Alone ∷ us) ≡ Some k.ExprBitXor
+    step k.Plain = refl
+    step k.InCondition = refl
+    step k.InArm = refl
+    step k.InStatement = refl
+
+pub bar_back : (p : k.Position) (c : ℕ) (s : Spacing) (ts us : List Token) → ts ≡ Punct c s ∷ us → s ≡ Alone
+    → c ≡ 124 → f.back p ts ≡ Some k.ExprBitOr
+unfolding f.back
+bar_back p c s ts us e h g = by_mark p c 124 s Alone ts us e h g ∙ step p
+  where
+    step : (p : k.Position) → f.back p (Punct 124 Alone ∷ us) ≡ Some k.ExprBitOr
+    step k.Plain = refl
+    step k.InCondition = refl
+    step k.InArm = refl
+    step k.InStatement = refl
+
+-- two marks of which the second follows at once
+by_marks : (p : k.Position) (c d e g : ℕ) (s t : Spacing) (ts us vs : List Token) → ts ≡ Punct c s ∷ us → s ≡ Joint
+    → us ≡ Punct d t ∷ vs → c ≡ e → d ≡ g → f.back p ts ≡ f.back p (Punct e Joint ∷ Punct g t ∷ vs)
+by_marks p c d e g s t ts us vs h j i m n =
+    by_mark p c e s Joint ts us h j m ∙ ap (λ x. f.back p (Punct e Joint ∷ x)) i
+    ∙ ap (λ x. f.back p (Punct e Joint ∷ Punct x t ∷ vs)) n
+
+pub equal_back : (p : k.Position) (c d : ℕ) (s t : Spacing) (ts us vs : List Token) → ts ≡ Punct c s ∷ us → s ≡ Joint
+    → us ≡ Punct d t ∷ vs → c ≡ 61 → d ≡ 61 → f.back p ts ≡ Some k.ExprCompare
+unfolding f.back
+equal_back p c d s t ts us vs h j i m n = by_marks p c d 61 61 s t ts us vs h j i m n ∙ step p
+  where
+    step : (p : k.Position) → f.back p (Punct 61 Joint ∷ Punct 61 t ∷ vs) ≡ Some k.ExprCompare
+    step k.Plain = refl
+    step k.InCondition = refl
+    step k.InArm = refl
+    step k.InStatement = refl
+
+pub arrow_back : (p : k.Position) (c d : ℕ) (s t : Spacing) (ts us vs : List Token) → ts ≡ Punct c s ∷ us → s ≡ Joint
+    → us ≡ Punct d t ∷ vs → c ≡ 61 → d ≡ 62 → f.back p ts ≡ None
+unfolding f.back
+arrow_back p c d s t ts us vs h j i m n = by_marks p c d 61 62 s t ts us vs h j i m n ∙ step p
+  where
+    step : (p : k.Position) → f.back p (Punct 61 Joint ∷ Punct 62 t ∷ vs) ≡ None
+    step k.Plain = refl
+    step k.InCondition = refl
+    step k.InArm = refl
+    step k.InStatement = refl
+
+pub unequal_back : (p : k.Position) (c d : ℕ) (s t : Spacing) (ts us vs : List Token) → ts ≡ Punct c s ∷ us → s ≡ Joint
+    → us ≡ Punct d t ∷ vs → c ≡ 33 → d ≡ 61 → f.back p ts ≡ Some k.ExprCompare
+unfolding f.back
+unequal_back p c d s t ts us vs h j i m n = by_marks p c d 33 61 s t ts us vs h j i m n ∙ step p
+  where
+    step : (p : k.Position) → f.back p (Punct 33 Joint ∷ Punct 61 t ∷ vs) ≡ Some k.ExprCompare
+    step k.Plain = refl
+    step k.InCondition = refl
+    step k.InArm = refl
+    step k.InStatement = refl
+
+pub both_back : (p : k.Position) (c d : ℕ) (s t : Spacing) (ts us vs : List Token) → ts ≡ Punct c s ∷ us → s ≡ Joint
+    → us ≡ Punct d t ∷ vs → c ≡ 38 → d ≡ 38 → f.back p ts ≡ Some k.ExprAnd
+unfolding f.back
+both_back p c d s t ts us vs h j i m n = by_marks p c d 38 38 s t ts us vs h j i m n ∙ step p
+  where
+    step : (p : k.Position) → f.back p (Punct 38 Joint ∷ Punct 38 t ∷ vs) ≡ Some k.ExprAnd
+    step k.Plain = refl
+    step k.InCondition = refl
+    step k.InArm = refl
+    step k.InStatement = refl
+
+pub either_back : (p : k.Position) (c d : ℕ) (s t : Spacing) (ts us vs : List Token) → ts ≡ Punct c s ∷ us → s ≡ Joint
+    → us ≡ Punct d t ∷ vs → c ≡ 124 → d ≡ 124 → f.back p ts ≡ Some k.ExprOr
+unfolding f.back
+either_back p c d s t ts us vs h j i m n = by_marks p c d 124 124 s t ts us vs h j i m n ∙ step p
+  where
+    step : (p : k.Position) → f.back p (Punct 124 Joint ∷ Punct 124 t ∷ vs) ≡ Some k.ExprOr
+    step k.Plain = refl
+    step k.InCondition = refl
+    step k.InArm = refl
+    step k.InStatement = refl

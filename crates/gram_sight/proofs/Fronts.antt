@@ -14,8 +14,13 @@ use Rattle.syn_buffer.specs.declared.entry.Entry.{Entry}
 use Rattle.syn_buffer.specs.declared.entry.Entry.TheVariants as entry
 use Rattle.syn_grammar.specs.Forms as f
 use Rattle.syn_grammar.specs.Kind as k
-use Rattle.syn_grammar.specs.Look.{sees}
+use Rattle.syn_grammar.specs.Look.{Look, ◌then◌, ◌or◌, sees}
+use Rattle.syn_grammar.specs.Say.{at, marks}
 use Rattle.gram_look.specs.Tokens.{tokens}
+
+-- &raw const, &raw mut
+abbrev raw_stands : Look
+raw_stands = marks "&" then at "raw" then (at "const" or at "mut")
 
 -- no token, a mark that closes, and a literal
 pub none_front : (p : k.Position) (es : List Entry) → length es ≡ 0 → f.front p (tokens es) ≡ None
@@ -136,6 +141,43 @@ unfolding f.front
 less_front p c s ts us e h g = by_mark p c 60 s ts us e h g ∙ step p
   where
     step : (p : k.Position) → f.front p (Punct 60 Alone ∷ us) ≡ Some k.ExprPath
+    step k.Plain = refl
+    step k.InCondition = refl
+    step k.InArm = refl
+    step k.InStatement = refl
+
+-- a closure, and a reference
+pub bar_front : (p : k.Position) (c : ℕ) (s : Spacing) (ts us : List Token) (b : Bool) → ts ≡ Punct c s ∷ us
+    → s ≡ Alone → c ≡ 124 → b ≡ sees f.typed_closure_stands ts
+    → f.front p ts ≡ cond b (Some k.ExprTypedClosure) (Some k.ExprClosure)
+unfolding f.front
+bar_front p c s ts us b e h g d =
+    by_mark p c 124 s ts us e h g ∙ step p
+    ∙ ap (λ x. cond (sees f.typed_closure_stands (Punct x Alone ∷ us)) (Some k.ExprTypedClosure) (Some k.ExprClosure))
+    (sym g)
+    ∙ ap (λ x. cond (sees f.typed_closure_stands (Punct c x ∷ us)) (Some k.ExprTypedClosure) (Some k.ExprClosure)) (sym h)
+    ∙ ap (λ x. cond (sees f.typed_closure_stands x) (Some k.ExprTypedClosure) (Some k.ExprClosure)) (sym e)
+    ∙ ap (λ x. cond x (Some k.ExprTypedClosure) (Some k.ExprClosure)) (sym d)
+  where
+    step : (p : k.Position) → f.front p (Punct 124 Alone ∷ us)
+        ≡ cond (sees f.typed_closure_stands (Punct 124 Alone ∷ us)) (Some k.ExprTypedClosure) (Some k.ExprClosure)
+    step k.Plain = refl
+    step k.InCondition = refl
+    step k.InArm = refl
+    step k.InStatement = refl
+
+pub and_front : (p : k.Position) (c : ℕ) (s : Spacing) (ts us : List Token) (b : Bool) → ts ≡ Punct c s ∷ us
+    → s ≡ Alone → c ≡ 38 → b ≡ sees raw_stands ts → f.front p ts ≡ cond b (Some k.ExprRawAddr) (Some k.ExprReference)
+unfolding f.front
+and_front p c s ts us b e h g d =
+    by_mark p c 38 s ts us e h g ∙ step p
+    ∙ ap (λ x. cond (sees raw_stands (Punct x Alone ∷ us)) (Some k.ExprRawAddr) (Some k.ExprReference)) (sym g)
+    ∙ ap (λ x. cond (sees raw_stands (Punct c x ∷ us)) (Some k.ExprRawAddr) (Some k.ExprReference)) (sym h)
+    ∙ ap (λ x. cond (sees raw_stands x) (Some k.ExprRawAddr) (Some k.ExprReference)) (sym e)
+    ∙ ap (λ x. cond x (Some k.ExprRawAddr) (Some k.ExprReference)) (sym d)
+  where
+    step : (p : k.Position) → f.front p (Punct 38 Alone ∷ us)
+        ≡ cond (sees raw_stands (Punct 38 Alone ∷ us)) (Some k.ExprRawAddr) (Some k.ExprReference)
     step k.Plain = refl
     step k.InCondition = refl
     step k.InArm = refl

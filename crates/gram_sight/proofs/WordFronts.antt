@@ -1,5 +1,6 @@
 -- Which form a word begins. Of a word that is none of the few that begin a form by themselves each look but those at a
 -- macro call and at a path sees nothing.
+use Rattle.std.proofs.lemmas.Slice.Eq.{bytes_eq-Decides}
 use Rattle.std.proofs.Common.{◌≡◌, ℕ, List, [], ◌∷◌, ◌++◌, refl, sym, ap, ◌∙◌}
 use Rattle.std.specs.Prelude.{Bool, true, false, ◌||◌, cond, Option, Some, None, codes, take, drop}
 use Rattle.proc_macro2.specs.Token.{Token, Opens, Closes, Ident, Literal, Punct}
@@ -10,11 +11,8 @@ use Rattle.syn_grammar.specs.Look.{◌then◌, ◌or◌, no, a_lifetime}
 use Rattle.syn_grammar.specs.Say.{at, brace, marks}
 use Rattle.syn_grammar.specs.Words.{is_among, is_bool, is_name, same_text}
 use Rattle.gram_look.specs.Marks.{no_mark}
-use Rattle.gram_sight.specs.Words.{early_words, late_words}
-
-either_no : (a b : Bool) → (a || b) ≡ false → (a ≡ false) × (b ≡ false)
-either_no true b h = absurd (cc h)
-either_no false b h = (refl, h)
+use Rattle.gram_sight.specs.Words.{begins_form, early_words, late_words}
+use Rattle.gram_sight.proofs.Reserved.{either_no}
 
 abbrev Lacks : List f.Case → List Token → Type 0
 Lacks [] ts = Unit
@@ -215,17 +213,32 @@ pub no_name : (p : k.Position) (w : List ℕ) (ts us : List Token) → ts ≡ Id
     → is_among early_words w ≡ false → is_among late_words w ≡ false → is_name w ≡ false → f.front p ts ≡ None
 no_name p w ts us e i g d n = ap (f.front p) e ∙ by_name p w us false false i g d n (no_call w us false n refl)
 
-pub is_call : (p : k.Position) (w : List ℕ) (ts us : List Token) → ts ≡ Ident w ∷ us → is_bool w ≡ false
-    → is_among early_words w ≡ false → is_among late_words w ≡ false → is_name w ≡ true
-    → sees f.macro_call_stands ts ≡ true → f.front p ts ≡ Some k.ExprMacro
-is_call p w ts us e i g d n m =
-    ap (f.front p) e ∙ by_name p w us true true i g d n (ap (λ x. sees f.macro_call_stands x) (sym e) ∙ m)
+-- a name that begins no form by itself
+abbrev Plain : List ℕ → Type 0
+Plain w = (is_bool w ≡ false) × (is_among early_words w ≡ false) × (is_among late_words w ≡ false)
 
-pub is_path : (p : k.Position) (w : List ℕ) (ts us : List Token) → ts ≡ Ident w ∷ us → is_bool w ≡ false
-    → is_among early_words w ≡ false → is_among late_words w ≡ false → is_name w ≡ true
-    → sees f.macro_call_stands ts ≡ false → f.front p ts ≡ Some k.ExprPath
-is_path p w ts us e i g d n m =
-    ap (f.front p) e ∙ by_name p w us true false i g d n (ap (λ x. sees f.macro_call_stands x) (sym e) ∙ m)
+plain : (w : List ℕ) → begins_form w ≡ false → Plain w
+plain w h =
+    let e : (is_bool w ≡ false) × ((is_among early_words w || is_among late_words w) ≡ false) =
+    either_no (is_bool w) (is_among early_words w || is_among late_words w) h in
+    let d : (is_among early_words w ≡ false) × (is_among late_words w ≡ false) =
+    either_no (is_among early_words w) (is_among late_words w) e.1 in
+    (e.0, d.0, d.1)
+
+name_is : (p : k.Position) (w : List ℕ) (ts us : List Token) (c : Bool) → ts ≡ Ident w ∷ us → begins_form w ≡ false
+    → is_name w ≡ true → sees f.macro_call_stands ts ≡ c → f.front p ts ≡ cond c (Some k.ExprMacro) (Some k.ExprPath)
+name_is p w ts us c e h n m =
+    let d : Plain w = plain w h in
+    ap (f.front p) e
+    ∙ by_name p w us true c d.0 d.1 d.2 n (ap (λ x. sees f.macro_call_stands x) (sym e) ∙ m)
+
+pub is_call : (p : k.Position) (w : List ℕ) (ts us : List Token) → ts ≡ Ident w ∷ us → begins_form w ≡ false
+    → is_name w ≡ true → sees f.macro_call_stands ts ≡ true → f.front p ts ≡ Some k.ExprMacro
+is_call p w ts us e h n m = name_is p w ts us true e h n m
+
+pub is_path : (p : k.Position) (w : List ℕ) (ts us : List Token) → ts ≡ Ident w ∷ us → begins_form w ≡ false
+    → is_name w ≡ true → sees f.macro_call_stands ts ≡ false → f.front p ts ≡ Some k.ExprPath
+is_path p w ts us e h n m = name_is p w ts us false e h n m
 
 -- a path alone, where what stands behind the word is no mark
 no_mark_behind : (us : List Token) → no_mark us → seen (call_behind true us) ≡ false
@@ -236,8 +249,36 @@ no_mark_behind (Ident x ∷ us) h = refl
 no_mark_behind (Literal x ∷ us) h = refl
 no_mark_behind (Punct x s ∷ us) h = absurd h
 
-pub path_alone : (p : k.Position) (w : List ℕ) (ts us : List Token) → ts ≡ Ident w ∷ us → is_bool w ≡ false
-    → is_among early_words w ≡ false → is_among late_words w ≡ false → is_name w ≡ true → no_mark us
-    → f.front p ts ≡ Some k.ExprPath
-path_alone p w ts us e i g d n h =
-    ap (f.front p) e ∙ by_name p w us true false i g d n (no_call w us true n (no_mark_behind us h))
+pub path_alone : (p : k.Position) (w : List ℕ) (ts us : List Token) → ts ≡ Ident w ∷ us → begins_form w ≡ false
+    → is_name w ≡ true → no_mark us → f.front p ts ≡ Some k.ExprPath
+path_alone p w ts us e h n g =
+    is_path p w ts us e h n
+    (ap (sees f.macro_call_stands) e ∙ no_call w us true n (no_mark_behind us g))
+
+-- a word that begins a form by itself
+by_text : (p : k.Position) (s w : List ℕ) (ts us : List Token) → ts ≡ Ident w ∷ us → same_text s w ≡ true
+    → f.front p ts ≡ f.front p (Ident s ∷ us)
+by_text p s w ts us e h =
+    ap (f.front p) e ∙ ap (λ x. f.front p (Ident x ∷ us)) (sym ((bytes_eq-Decides s w).0 h))
+
+pub if_front : (p : k.Position) (w : List ℕ) (ts us : List Token) → ts ≡ Ident w ∷ us
+    → same_text (codes "if") w ≡ true → f.front p ts ≡ Some k.ExprIf
+unfolding f.front is_bool
+if_front p w ts us e h = by_text p (codes "if") w ts us e h ∙ step p
+  where
+    step : (p : k.Position) → f.front p (Ident (codes "if") ∷ us) ≡ Some k.ExprIf
+    step k.Plain = refl
+    step k.InCondition = refl
+    step k.InArm = refl
+    step k.InStatement = refl
+
+pub match_front : (p : k.Position) (w : List ℕ) (ts us : List Token) → ts ≡ Ident w ∷ us
+    → same_text (codes "match") w ≡ true → f.front p ts ≡ Some k.ExprMatch
+unfolding f.front is_bool
+match_front p w ts us e h = by_text p (codes "match") w ts us e h ∙ step p
+  where
+    step : (p : k.Position) → f.front p (Ident (codes "match") ∷ us) ≡ Some k.ExprMatch
+    step k.Plain = refl
+    step k.InCondition = refl
+    step k.InArm = refl
+    step k.InStatement = refl

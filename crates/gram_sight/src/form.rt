@@ -3,21 +3,22 @@
 ghost use Rattle.gram_look.specs.Marks.{no_mark};
 ghost use Rattle.gram_look.specs.Nested.{is_nested};
 ghost use Rattle.gram_look.specs.Tokens.{tokens};
-ghost use Rattle.gram_sight.specs.Words.{early_words, late_words};
+ghost use Rattle.gram_sight.specs.Words.{begins_form, early_words, late_words};
 ghost use Rattle.gram_table.specs.Cases.{cases_of};
 ghost use Rattle.gram_table.specs.Kinds.{kind_of, position_of};
 ghost use Rattle.gram_table.specs.Words.{keyword_text};
 ghost use Rattle.proc_macro2.specs.Token as token;
 ghost use Rattle.proc_macro2.specs.declared.delimiter.Delimiter.TheVariants.{Brace};
 ghost use Rattle.rust_leaf.specs.Leaf.{ident_text, punct_char, punct_spacing};
-ghost use Rattle.rust_leaf.specs.declared.punct.Spacing.TheVariants.{Alone};
+ghost use Rattle.rust_leaf.specs.declared.punct.Spacing.TheVariants.{Alone, Joint};
 ghost use Rattle.std.specs.Prelude.{◌∷◌, ◌≡◌, MatchOption, None, Some, false, true};
 ghost use Rattle.syn_grammar.specs.Forms.{back, brace_ends, first_form, front, has_right, operand_stands, range_is_open};
 ghost use Rattle.syn_grammar.specs.Look.{no, sees, ◌then◌};
-ghost use Rattle.syn_grammar.specs.Words.{is_among, same_text};
+ghost use Rattle.syn_grammar.specs.Words.{is_among, is_name, same_text};
 
 use crate::look::look;
 use gram_look::leaf::word;
+use gram_look::sign::first_mark;
 use gram_table::composite::Composite;
 use gram_table::form::{backs, fronts};
 use gram_table::kind::{Kind, Position};
@@ -74,6 +75,38 @@ fn group_front(
     }
 }
 
+// The form that begins with a lone `|`: a closure.
+fn bar_front(position: Position, mark: &Punct, at: &[Entry<'_>], rest: &[Entry<'_>]) -> Kind
+    requires nested { is_nested at.now ≡ true }
+    requires first { tokens at.now ≡ token.Punct (punct_char mark.now) (punct_spacing mark.now) ∷ tokens rest.now }
+    requires bar { punct_char mark.now ≡ 124 }
+    requires lone { punct_spacing mark.now ≡ Alone }
+    ensures { front (position_of position) (tokens at.now) ≡ Some (kind_of result) }
+{
+    let _behind = (position, mark.as_char(), rest.len());
+    if look(Look::Composite(Composite::TypedClosureStands), at) {
+        Kind::ExprTypedClosure
+    } else {
+        Kind::ExprClosure
+    }
+}
+
+// The form that begins with a lone `&`.
+fn and_front(position: Position, mark: &Punct, at: &[Entry<'_>], rest: &[Entry<'_>]) -> Kind
+    requires nested { is_nested at.now ≡ true }
+    requires first { tokens at.now ≡ token.Punct (punct_char mark.now) (punct_spacing mark.now) ∷ tokens rest.now }
+    requires and { punct_char mark.now ≡ 38 }
+    requires lone { punct_spacing mark.now ≡ Alone }
+    ensures { front (position_of position) (tokens at.now) ≡ Some (kind_of result) }
+{
+    let _behind = (position, mark.as_char(), rest.len());
+    if look(Look::Composite(Composite::RawAddrStands), at) {
+        Kind::ExprRawAddr
+    } else {
+        Kind::ExprReference
+    }
+}
+
 // The form that begins with a mark.
 #[tactic(auto, using(crate::proofs::Forms::front_is))]
 fn mark_front(
@@ -95,6 +128,8 @@ fn mark_front(
             '!' => Some(Kind::ExprUnary),
             '-' => Some(Kind::ExprUnary),
             '<' => Some(Kind::ExprPath),
+            '|' => Some(bar_front(position, mark, at, rest)),
+            '&' => Some(and_front(position, mark, at, rest)),
             _ => first_form(fronts(position), at),
         },
         Spacing::Joint => first_form(fronts(position), at),
@@ -153,6 +188,25 @@ fn is_mark_first(at: &[Entry<'_>]) -> bool
     }
 }
 
+// The form that begins with a name: a path, or a macro's call.
+fn name_front(position: Position, ident: &Ident, at: &[Entry<'_>], rest: &[Entry<'_>]) -> Kind
+    requires nested { is_nested at.now ≡ true }
+    requires first { tokens at.now ≡ token.Ident (ident_text ident.now) ∷ tokens rest.now }
+    requires name { is_name (ident_text ident.now) ≡ true }
+    requires no_form { begins_form (ident_text ident.now) ≡ false }
+    ensures { front (position_of position) (tokens at.now) ≡ Some (kind_of result) }
+{
+    let _around = (position, ident.first_byte());
+    if !is_mark_first(rest) {
+        return Kind::ExprPath;
+    }
+    if look(Look::Composite(Composite::MacroCallStands), at) {
+        Kind::ExprMacro
+    } else {
+        Kind::ExprPath
+    }
+}
+
 // The form that begins with a word.
 #[tactic(auto, using(crate::proofs::Forms::front_is))]
 fn word_front(
@@ -166,8 +220,17 @@ fn word_front(
     ensures { MatchOption result (front (position_of position) (tokens at.now) ≡ None)
         (λ k. front (position_of position) (tokens at.now) ≡ Some (kind_of k)) }
 {
+    if word(Words::Ident, ident) {
+        return Some(name_front(position, ident, at, rest));
+    }
     if word(Words::Bool, ident) {
         return Some(Kind::ExprLit);
+    }
+    if is(ident, Keyword::If) {
+        return Some(Kind::ExprIf);
+    }
+    if is(ident, Keyword::Match) {
+        return Some(Kind::ExprMatch);
     }
     if is_early(ident) {
         return first_form(fronts(position), at);
@@ -175,16 +238,10 @@ fn word_front(
     if is_late(ident) {
         return first_form(fronts(position), at);
     }
-    if !word(Words::Name, ident) {
-        return None;
-    }
-    if !is_mark_first(rest) {
-        return Some(Kind::ExprPath);
-    }
-    if look(Look::Composite(Composite::MacroCallStands), at) {
-        Some(Kind::ExprMacro)
+    if word(Words::Name, ident) {
+        Some(name_front(position, ident, at, rest))
     } else {
-        Some(Kind::ExprPath)
+        None
     }
 }
 
@@ -230,6 +287,45 @@ fn dot_back(position: Position, mark: &Punct, at: &[Entry<'_>], rest: &[Entry<'_
     }
 }
 
+// The form whose left operand stands before a mark that another one follows at once.
+#[tactic(auto, using(crate::proofs::Forms::back_is))]
+fn joint_back(
+    position: Position,
+    mark: &Punct,
+    at: &[Entry<'_>],
+    rest: &[Entry<'_>],
+) -> Option<Kind>
+    requires nested { is_nested at.now ≡ true }
+    requires first { tokens at.now ≡ token.Punct (punct_char mark.now) (punct_spacing mark.now) ∷ tokens rest.now }
+    requires joint { punct_spacing mark.now ≡ Joint }
+    ensures { MatchOption result (back (position_of position) (tokens at.now) ≡ None)
+        (λ k. back (position_of position) (tokens at.now) ≡ Some (kind_of k)) }
+{
+    let Some((next, _)) = first_mark(rest) else {
+        return first_form(backs(position), at);
+    };
+    match mark.as_char() {
+        '=' => match next.as_char() {
+            '=' => Some(Kind::ExprCompare),
+            '>' => None,
+            _ => first_form(backs(position), at),
+        },
+        '!' => match next.as_char() {
+            '=' => Some(Kind::ExprCompare),
+            _ => first_form(backs(position), at),
+        },
+        '&' => match next.as_char() {
+            '&' => Some(Kind::ExprAnd),
+            _ => first_form(backs(position), at),
+        },
+        '|' => match next.as_char() {
+            '|' => Some(Kind::ExprOr),
+            _ => first_form(backs(position), at),
+        },
+        _ => first_form(backs(position), at),
+    }
+}
+
 // The form whose left operand stands before a mark.
 #[tactic(auto, using(crate::proofs::Forms::back_is))]
 fn mark_back(position: Position, mark: &Punct, at: &[Entry<'_>], rest: &[Entry<'_>]) -> Option<Kind>
@@ -255,9 +351,13 @@ fn mark_back(position: Position, mark: &Punct, at: &[Entry<'_>], rest: &[Entry<'
             '<' => Some(Kind::ExprCompare),
             '>' => Some(Kind::ExprCompare),
             '.' => dot_back(position, mark, at, rest),
+            '%' => Some(Kind::ExprProduct),
+            '&' => Some(Kind::ExprBitAnd),
+            '^' => Some(Kind::ExprBitXor),
+            '|' => Some(Kind::ExprBitOr),
             _ => first_form(backs(position), at),
         },
-        Spacing::Joint => first_form(backs(position), at),
+        Spacing::Joint => joint_back(position, mark, at, rest),
     }
 }
 

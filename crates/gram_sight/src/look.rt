@@ -2,18 +2,42 @@
 
 ghost use Rattle.gram_look.specs.Nested.{is_nested};
 ghost use Rattle.gram_look.specs.Tokens.{after, tokens};
+ghost use Rattle.gram_table.specs.Composites.{composite_of};
 ghost use Rattle.gram_table.specs.Looks.{look_of, test_of};
 ghost use Rattle.std.specs.Prelude.{◌≡◌, IfSome, true};
 ghost use Rattle.syn_grammar.specs.Look.{sees};
 
+use crate::glance::{lone_name, may_see};
 use crate::sights::{end, see};
 use gram_look::group::opens;
 use gram_look::leaf::first_word;
 use gram_look::literals::first_literal;
 use gram_look::sign::{lifetime, sign};
+use gram_table::composite::Composite;
 use gram_table::op::{Look, Test};
 use gram_table::sights::sights;
 use syn_buffer::entry::Entry;
+
+// What is left behind what a look of several steps sees, if it sees it.
+fn several<'a>(composite: Composite, at: &'a [Entry<'a>]) -> Option<&'a [Entry<'a>]>
+    requires { is_nested at.now ≡ true }
+    ensures after { after (λ es. es.now) result ≡ composite_of composite (tokens at.now) }
+    ensures nested { IfSome result (λ es. is_nested es.now ≡ true) }
+{
+    match composite {
+        Composite::IdentPatternStands => match lone_name(at) {
+            Some(left) => Some(left),
+            None => see(sights(composite), at),
+        },
+        _ => {
+            if may_see(composite, at) {
+                see(sights(composite), at)
+            } else {
+                None
+            }
+        }
+    }
+}
 
 /// What is left behind what is looked for, if it is there.
 pub fn past<'a>(look: Look, at: &'a [Entry<'a>]) -> Option<&'a [Entry<'a>]>
@@ -29,7 +53,7 @@ pub fn past<'a>(look: Look, at: &'a [Entry<'a>]) -> Option<&'a [Entry<'a>]>
         Look::Opens(delimiter) => opens(delimiter, at),
         Look::End => end(at),
         Look::Nowhere => None,
-        Look::Composite(composite) => see(sights(composite), at),
+        Look::Composite(composite) => several(composite, at),
     }
 }
 

@@ -5,6 +5,7 @@ use Rattle.gram_table.specs.Kinds.{position_of}
 use Rattle.rust_leaf.specs.Leaf.{punct_char, punct_spacing}
 use Rattle.gram_sight.proofs.Backs.{comma_back, semi_back, question_back, assign_back, plus_back}
 use Rattle.gram_sight.proofs.Backs.{minus_back, star_back, slash_back, less_back, more_back}
+use Rattle.gram_sight.proofs.Backs.{percent_back, and_back, caret_back, bar_back}
 use Rattle.gram_sight.proofs.form.mark_back.Goals as goal
 
 pub returns-in-44 : goal.returns-in-44
@@ -55,4 +56,24 @@ returns-in-60 c =
 pub returns-in-62 : goal.returns-in-62
 returns-in-62 c =
     more_back (position_of c.args.position) (punct_char c.args.mark.now) (punct_spacing c.args.mark.now)
+    (tokens c.args.at.now) (tokens c.args.rest.now) c.requires.first (search rules) (search rules)
+
+pub returns-in-37 : goal.returns-in-37
+returns-in-37 c =
+    percent_back (position_of c.args.position) (punct_char c.args.mark.now) (punct_spacing c.args.mark.now)
+    (tokens c.args.at.now) (tokens c.args.rest.now) c.requires.first (search rules) (search rules)
+
+pub returns-in-38 : goal.returns-in-38
+returns-in-38 c =
+    and_back (position_of c.args.position) (punct_char c.args.mark.now) (punct_spacing c.args.mark.now)
+    (tokens c.args.at.now) (tokens c.args.rest.now) c.requires.first (search rules) (search rules)
+
+pub returns-in-94 : goal.returns-in-94
+returns-in-94 c =
+    caret_back (position_of c.args.position) (punct_char c.args.mark.now) (punct_spacing c.args.mark.now)
+    (tokens c.args.at.now) (tokens c.args.rest.now) c.requires.first (search rules) (search rules)
+
+pub returns-in-124 : goal.returns-in-124
+returns-in-124 c =
+    bar_back (position_of c.args.position) (punct_char c.args.mark.now) (punct_spacing c.args.mark.now)
     (tokens c.args.at.now) (tokens c.args.rest.now) c.requires.first (search rules) (search rules)

@@ -3,31 +3,32 @@ use Rattle.std.proofs.Common.{rules}
 use Rattle.gram_look.specs.Tokens.{tokens}
 use Rattle.gram_table.specs.Kinds.{position_of}
 use Rattle.rust_leaf.specs.Leaf.{ident_text}
-use Rattle.gram_sight.proofs.WordFronts.{bool_front, no_name, path_alone, is_call, is_path}
+use Rattle.gram_sight.proofs.Reserved.{ident_name, ident_no_form, no_form}
+use Rattle.gram_sight.proofs.WordFronts.{bool_front, if_front, match_front, no_name}
 use Rattle.gram_sight.proofs.form.word_front.Goals as goal
 
-pub returns-then-word : goal.returns-then-word
-returns-then-word c =
+pub name_front-requires-clause-name : goal.name_front-requires-clause-name
+name_front-requires-clause-name c = ident_name (ident_text c.args.ident.now) (search rules)
+
+pub name_front-requires-clause-no_form : goal.name_front-requires-clause-no_form
+name_front-requires-clause-no_form c = ident_no_form (ident_text c.args.ident.now) (search rules)
+
+pub returns-then-word-2 : goal.returns-then-word-2
+returns-then-word-2 c =
     bool_front (position_of c.args.position) (ident_text c.args.ident.now) (tokens c.args.at.now)
     (tokens c.args.rest.now) c.requires.first (search rules)
 
-pub returns-then-not-word : goal.returns-then-not-word
-returns-then-not-word c =
+pub returns-then-is : goal.returns-then-is
+returns-then-is c =
+    if_front (position_of c.args.position) (ident_text c.args.ident.now) (tokens c.args.at.now)
+    (tokens c.args.rest.now) c.requires.first (search rules)
+
+pub returns-then-is-2 : goal.returns-then-is-2
+returns-then-is-2 c =
+    match_front (position_of c.args.position) (ident_text c.args.ident.now) (tokens c.args.at.now)
+    (tokens c.args.rest.now) c.requires.first (search rules)
+
+pub returns-else-word-3 : goal.returns-else-word-3
+returns-else-word-3 c =
     no_name (position_of c.args.position) (ident_text c.args.ident.now) (tokens c.args.at.now) (tokens c.args.rest.now)
     c.requires.first (search rules) (search rules) (search rules) (search rules)
-
-pub returns-then-not-is_mark_first : goal.returns-then-not-is_mark_first
-returns-then-not-is_mark_first c =
-    path_alone (position_of c.args.position) (ident_text c.args.ident.now) (tokens c.args.at.now)
-    (tokens c.args.rest.now)
-    c.requires.first (search rules) (search rules) (search rules) (search rules) (search rules)
-
-pub returns-then-look : goal.returns-then-look
-returns-then-look c =
-    is_call (position_of c.args.position) (ident_text c.args.ident.now) (tokens c.args.at.now) (tokens c.args.rest.now)
-    c.requires.first (search rules) (search rules) (search rules) (search rules) (search rules)
-
-pub returns-else-look : goal.returns-else-look
-returns-else-look c =
-    is_path (position_of c.args.position) (ident_text c.args.ident.now) (tokens c.args.at.now) (tokens c.args.rest.now)
-    c.requires.first (search rules) (search rules) (search rules) (search rules) (search rules)
