@@ -1,0 +1,63 @@
+-- Paths of names alone: what stands behind a name, and their trees.
+use Rattle.std.specs.Prelude.{◌≡◌, ℕ, IsTrue, true, List, [], ◌∷◌, None}
+use Rattle.proc_macro2.specs.Token.{Token, Ident, Punct}
+use Rattle.rust_leaf.specs.declared.punct.Spacing.{Spacing}
+use Rattle.rust_leaf.specs.declared.punct.Spacing.TheVariants.{Joint}
+use Rattle.syn_grammar.specs.Kind.{Style, Plus, AnyPath, AType, Path, Segments}
+use Rattle.syn_grammar.specs.Paths.{arguments_stand, parentheses_stand}
+use Rattle.syn_grammar.specs.Say.{marks}
+use Rattle.syn_grammar.specs.Tree.{Tree, AMark, AWord, First, Nil, Node, Pair, Second}
+use Rattle.syn_grammar.specs.Words.{is_name, is_path_keyword, is_plain_name}
+use Rattle.syn_buffer.specs.Entries.{is_whole}
+use Rattle.gram_tree.specs.Forms.{seconds}
+use Rattle.gram_look.specs.Tokens.{tokens}
+use Rattle.gram_plain.specs.declared.names.Behind.{Behind}
+use Rattle.gram_plain.specs.declared.names.Behind.TheVariants as behind
+use Rattle.gram_plain.specs.declared.names.Name.{Name}
+use Rattle.gram_plain.specs.declared.names.Name.TheVariants as names
+
+-- a word is a name of a path as it is said
+abbrev pub IsName : Name → List ℕ → Type 0
+IsName names.Plain cs = is_plain_name cs ≡ true
+IsName names.Keyword cs = is_path_keyword cs ≡ true
+
+-- a name of a path stands first
+abbrev pub IsNamed : List Token → Type 0
+IsNamed (Ident cs ∷ ts) = is_name cs ≡ true
+IsNamed ts = ⊥
+
+-- nothing goes on with a path there: no arguments stand there, no ::, and no parentheses that would be its own
+abbrev pub IsPathEnd : Style → List Token → Type 0
+IsPathEnd s ts = (arguments_stand s ts ≡ None) × (marks "::" ts ≡ None) × (parentheses_stand s ts ≡ None)
+
+-- what stands behind a name is what is said of it
+abbrev pub IsBehind : Style → List Token → Behind → Type 0
+IsBehind s ts behind.Nothing = IsPathEnd s ts
+IsBehind s ts (behind.Name spacing span rest) = ts ≡ Punct 58 Joint ∷ Punct 58 spacing ∷ tokens rest.now
+IsBehind s ts behind.Other = Unit {0}
+
+abbrev pub IsWholeBehind : Behind → Type 0
+IsWholeBehind (behind.Name spacing span rest) = IsTrue (is_whole rest.now)
+IsWholeBehind _ = Unit {0}
+
+-- the segments of a name alone
+abbrev pub last_segment : Style → Name → List ℕ → Tree
+last_segment s names.Plain cs = Node (Segments s) (Second (Pair (AWord cs) (seconds 3 Nil)))
+last_segment s names.Keyword cs = Node (Segments s) (First (Pair (AWord cs) (Second Nil)))
+
+-- the segments of a name, :: and other segments
+abbrev pub further_segments : Style → Name → List ℕ → Spacing → Tree → Tree
+further_segments s names.Plain cs spacing x =
+    Node (Segments s) (Second (Pair (AWord cs) (Second (First (Pair (AMark 58 (58 ∷ []) spacing) x)))))
+further_segments s names.Keyword cs spacing x =
+    Node (Segments s) (First (Pair (AWord cs) (First (Pair (AMark 58 (58 ∷ []) spacing) x))))
+
+-- the path that has these segments, as it stands where a qualified one could, and as a type
+abbrev pub path_of : Style → Tree → Tree
+path_of s x = Node (Path s) (Pair (Second Nil) x)
+
+abbrev pub unqualified : Style → Tree → Tree
+unqualified s x = Node (AnyPath s) (Second x)
+
+abbrev pub type_of : Plus → Tree → Tree
+type_of p x = Node (AType p) (seconds 9 x)

@@ -1,0 +1,346 @@
+//! Paths of names alone, and types that are such paths.
+
+ghost use Rattle.gram_look.specs.Tokens.{tokens};
+ghost use Rattle.gram_plain.specs.Names.{IsBehind, IsName, IsNamed, IsPathEnd, IsWholeBehind};
+ghost use Rattle.gram_plain.specs.Names.{further_segments as further, last_segment as alone, path_of, type_of, unqualified};
+ghost use Rattle.gram_plain.specs.Read.{IsReadIn};
+ghost use Rattle.gram_table.specs.Kinds.{plus_of, style_of};
+ghost use Rattle.proc_macro2.specs.Token as token;
+ghost use Rattle.rust_leaf.specs.Leaf.{ident_text, punct_char, punct_spacing};
+ghost use Rattle.std.specs.Prelude.{◌∷◌, ◌≡◌, IfOk, IfSome, IsTrue, List};
+ghost use Rattle.syn_buffer.specs.Entries.{is_whole};
+ghost use Rattle.syn_grammar.specs.Kind as kind;
+
+use gram_look::leaf::word as passes;
+use gram_table::kind::{Kind, Plus, Style};
+use gram_table::word::{Sign, Words};
+use gram_tree::arena::Arena;
+use gram_tree::made;
+use gram_tree::tree::Tree;
+use proc_macro2::delimiter::Delimiter;
+use rust_leaf::ident::Ident;
+use rust_leaf::punct::{Punct, Spacing};
+use rust_map::span::Span;
+use std::alloc::AllocError;
+use syn_buffer::entry::Entry;
+
+/// How many names a path has at most that is read here. A longer one is followed through the table, name by name, to
+/// where so many are left: so what is tried for nothing stays within a bound.
+pub(crate) const NAMES: usize = 4;
+
+// What a name of a path is.
+#[derive(Clone, Copy)]
+pub(crate) enum Name {
+    // One that may take arguments.
+    Plain,
+    // `self`, `super` or `crate`.
+    Keyword,
+}
+
+// What the word is as a name of a path.
+fn name_of(word: &Ident) -> Option<Name>
+    ensures { IfSome result (λ n. IsName n (ident_text word.now)) }
+{
+    if passes(Words::PlainName, word) {
+        return Some(Name::Plain);
+    }
+    if passes(Words::PathKeyword, word) {
+        return Some(Name::Keyword);
+    }
+    None
+}
+
+// What stands behind a name of a path.
+pub(crate) enum Behind<'a> {
+    // Nothing that goes on with the path.
+    Nothing,
+    // `::`: how its second mark is spaced, where its first one stands, and what is left behind it.
+    Name(Spacing, Span, &'a [Entry<'a>]),
+    // Something else: arguments, perhaps.
+    Other,
+}
+
+// How a colon that stands first is spaced, and what is left behind it.
+fn colon<'a>(at: &'a [Entry<'a>]) -> Option<(Spacing, &'a [Entry<'a>])>
+    requires { IsTrue (is_whole at.now) }
+    ensures colon { IfSome result (λ r. tokens at.now ≡ token.Punct 58 r.0 ∷ tokens r.1.now) }
+    ensures whole { IfSome result (λ r. IsTrue (is_whole r.1.now)) }
+{
+    if let [first, rest @ ..] = at {
+        if let Entry::Punct(mark) = *first {
+            if mark.as_char() == ':' {
+                return Some((mark.spacing(), rest));
+            }
+        }
+    }
+    None
+}
+
+// What stands behind a name of a path, where a colon stands there.
+fn colon_behind<'a>(mark: &'a Punct, rest: &'a [Entry<'a>]) -> Behind<'a>
+    requires colon { punct_char mark.now ≡ 58 }
+    requires whole { IsTrue (is_whole rest.now) }
+    ensures behind { (s : kind.Style) → IsBehind s
+        (token.Punct (punct_char mark.now) (punct_spacing mark.now) ∷ tokens rest.now) result }
+    ensures whole { IsWholeBehind result }
+{
+    match mark.spacing() {
+        Spacing::Joint => match colon(rest) {
+            Some((spacing, others)) => Behind::Name(spacing, mark.span(), others),
+            None => Behind::Other,
+        },
+        Spacing::Alone => Behind::Other,
+    }
+}
+
+// Whether nothing goes on with a path where `<` stands behind a name.
+fn ends_at_less(style: Style) -> bool
+    ensures { (spacing : Spacing) (ts : List token.Token) → IsTrue result
+        → IsPathEnd (style_of style) (token.Punct 60 spacing ∷ ts) }
+{
+    match style {
+        Style::InModule => true,
+        Style::InExpression => true,
+        Style::InType => false,
+        Style::AtType => false,
+    }
+}
+
+// What stands behind a name of a path, where a mark stands there.
+fn mark_behind<'a>(style: Style, mark: &'a Punct, rest: &'a [Entry<'a>]) -> Behind<'a>
+    requires { IsTrue (is_whole rest.now) }
+    ensures behind { IsBehind (style_of style)
+        (token.Punct (punct_char mark.now) (punct_spacing mark.now) ∷ tokens rest.now) result }
+    ensures whole { IsWholeBehind result }
+{
+    let character = mark.as_char();
+    if character == ':' {
+        return colon_behind(mark, rest);
+    }
+    if character == '<' && !ends_at_less(style) {
+        return Behind::Other;
+    }
+    Behind::Nothing
+}
+
+// What stands behind a name of a path, where a group opens there.
+fn group_behind<'a>(style: Style, delimiter: Delimiter) -> Behind<'a>
+    ensures behind { (ts : List token.Token) → IsBehind (style_of style) (token.Opens delimiter ∷ ts) result }
+    ensures whole { IsWholeBehind result }
+{
+    match delimiter {
+        Delimiter::Parenthesis => match style {
+            Style::AtType => Behind::Other,
+            Style::InModule => Behind::Nothing,
+            Style::InExpression => Behind::Nothing,
+            Style::InType => Behind::Nothing,
+        },
+        Delimiter::Brace => Behind::Nothing,
+        Delimiter::Bracket => Behind::Nothing,
+        Delimiter::None => Behind::Nothing,
+    }
+}
+
+// What stands behind a name of a path.
+fn look_behind<'a>(style: Style, at: &'a [Entry<'a>]) -> Behind<'a>
+    requires { IsTrue (is_whole at.now) }
+    ensures behind { IsBehind (style_of style) (tokens at.now) result }
+    ensures whole { IsWholeBehind result }
+{
+    let Some((first, rest)) = at.split_first() else {
+        return Behind::Nothing;
+    };
+    match *first {
+        Entry::Punct(mark) => mark_behind(style, mark, rest),
+        Entry::Open(delimiter, _, _) => group_behind(style, delimiter),
+        Entry::Close(..) => Behind::Nothing,
+        Entry::Ident(_) => Behind::Nothing,
+        Entry::Literal(_) => Behind::Nothing,
+    }
+}
+
+// The segments of a name alone.
+fn last_segment<'a>(
+    arena: &'a Arena,
+    style: Style,
+    name: Name,
+    word: &'a Ident,
+) -> Result<Tree<'a>, AllocError>
+    ensures { IfOk result (λ x. x ≡ alone (style_of style) name (ident_text word.now)) }
+{
+    match name {
+        Name::Plain => {
+            let nothing = made::seconds(arena, 3, made::nil())?;
+            let named = made::pair(arena, made::word(word), nothing)?;
+            made::node(arena, Kind::Segments(style), made::second(arena, named)?)
+        }
+        Name::Keyword => {
+            let nothing = made::second(arena, made::nil())?;
+            let named = made::pair(arena, made::word(word), nothing)?;
+            made::node(arena, Kind::Segments(style), made::first(arena, named)?)
+        }
+    }
+}
+
+// The segments of a name, `::`, of which it is said how it is spaced and where it stands, and other segments.
+fn further_segments<'a>(
+    arena: &'a Arena,
+    style: Style,
+    name: Name,
+    word: &'a Ident,
+    spacing: Spacing,
+    span: Span,
+    others: Tree<'a>,
+) -> Result<Tree<'a>, AllocError>
+    ensures { IfOk result (λ x. x ≡ further (style_of style) name (ident_text word.now) spacing others.entry) }
+{
+    let colons = made::mark(Sign::PathSep, spacing, span);
+    let behind = made::pair(arena, colons, others)?;
+    match name {
+        Name::Plain => {
+            let more = made::first_behind(arena, 1, behind)?;
+            let named = made::pair(arena, made::word(word), more)?;
+            made::node(arena, Kind::Segments(style), made::second(arena, named)?)
+        }
+        Name::Keyword => {
+            let more = made::first(arena, behind)?;
+            let named = made::pair(arena, made::word(word), more)?;
+            made::node(arena, Kind::Segments(style), made::first(arena, named)?)
+        }
+    }
+}
+
+/// The segments of a path, where they are so many names at most.
+///
+/// # Errors
+///
+/// Where there is no memory for them.
+pub(crate) fn segments<'a>(
+    arena: &'a Arena,
+    style: Style,
+    most: usize,
+    at: &'a [Entry<'a>],
+) -> Result<Option<(Tree<'a>, &'a [Entry<'a>])>, AllocError>
+    requires { IsTrue (is_whole at.now) }
+    ensures read { IfOk result (λ o. IfSome o (λ x.
+        IsReadIn most (kind.Segments (style_of style)) (tokens at.now) x.0 (tokens x.1.now))) }
+    ensures named { IfOk result (λ o. IfSome o (λ x. IsNamed (tokens at.now))) }
+    ensures whole { IfOk result (λ o. IfSome o (λ x. IsTrue (is_whole x.1.now))) }
+{
+    if most == 0 {
+        return Ok(None);
+    }
+    let Some((first, rest)) = at.split_first() else {
+        return Ok(None);
+    };
+    let Entry::Ident(word) = *first else {
+        return Ok(None);
+    };
+    match look_behind(style, rest) {
+        Behind::Other => Ok(None),
+        Behind::Nothing => {
+            let Some(name) = name_of(word) else {
+                return Ok(None);
+            };
+            Ok(Some((last_segment(arena, style, name, word)?, rest)))
+        }
+        Behind::Name(spacing, span, others) => {
+            let Some(name) = name_of(word) else {
+                return Ok(None);
+            };
+            let Some((tree, left)) = segments(arena, style, most - 1, others)? else {
+                return Ok(None);
+            };
+            let tree = further_segments(arena, style, name, word, spacing, span, tree)?;
+            Ok(Some((tree, left)))
+        }
+    }
+}
+
+// The path that has these segments.
+fn path_of<'a>(arena: &'a Arena, style: Style, segments: Tree<'a>) -> Result<Tree<'a>, AllocError>
+    ensures { IfOk result (λ x. x ≡ path_of (style_of style) segments.entry) }
+{
+    let nothing = made::second(arena, made::nil())?;
+    let parts = made::pair(arena, nothing, segments)?;
+    made::node(arena, Kind::Path(style), parts)
+}
+
+/// A path without `::` in front, where it is a few names.
+///
+/// # Errors
+///
+/// Where there is no memory for it.
+pub(crate) fn path<'a>(
+    arena: &'a Arena,
+    style: Style,
+    at: &'a [Entry<'a>],
+) -> Result<Option<(Tree<'a>, &'a [Entry<'a>])>, AllocError>
+    requires { IsTrue (is_whole at.now) }
+    ensures read { IfOk result (λ o. IfSome o (λ x.
+        IsReadIn 5 (kind.Path (style_of style)) (tokens at.now) x.0 (tokens x.1.now))) }
+    ensures named { IfOk result (λ o. IfSome o (λ x. IsNamed (tokens at.now))) }
+    ensures whole { IfOk result (λ o. IfSome o (λ x. IsTrue (is_whole x.1.now))) }
+{
+    let Some((segments, rest)) = segments(arena, style, NAMES, at)? else {
+        return Ok(None);
+    };
+    Ok(Some((path_of(arena, style, segments)?, rest)))
+}
+
+// The path, as it stands where a qualified one could.
+fn unqualified<'a>(arena: &'a Arena, style: Style, path: Tree<'a>) -> Result<Tree<'a>, AllocError>
+    ensures { IfOk result (λ x. x ≡ unqualified (style_of style) path.entry) }
+{
+    made::node(arena, Kind::AnyPath(style), made::second(arena, path)?)
+}
+
+/// The same, where a qualified path may stand too.
+///
+/// # Errors
+///
+/// Where there is no memory for it.
+pub(crate) fn any_path<'a>(
+    arena: &'a Arena,
+    style: Style,
+    at: &'a [Entry<'a>],
+) -> Result<Option<(Tree<'a>, &'a [Entry<'a>])>, AllocError>
+    requires { IsTrue (is_whole at.now) }
+    ensures read { IfOk result (λ o. IfSome o (λ x.
+        IsReadIn 6 (kind.AnyPath (style_of style)) (tokens at.now) x.0 (tokens x.1.now))) }
+    ensures named { IfOk result (λ o. IfSome o (λ x. IsNamed (tokens at.now))) }
+    ensures whole { IfOk result (λ o. IfSome o (λ x. IsTrue (is_whole x.1.now))) }
+{
+    let Some((path, rest)) = path(arena, style, at)? else {
+        return Ok(None);
+    };
+    Ok(Some((unqualified(arena, style, path)?, rest)))
+}
+
+// The path, as a type.
+fn type_of<'a>(arena: &'a Arena, plus: Plus, path: Tree<'a>) -> Result<Tree<'a>, AllocError>
+    ensures { IfOk result (λ x. x ≡ type_of (plus_of plus) path.entry) }
+{
+    made::node(arena, Kind::AType(plus), made::seconds(arena, 9, path)?)
+}
+
+/// A type that is such a path.
+///
+/// # Errors
+///
+/// Where there is no memory for it.
+pub(crate) fn path_type<'a>(
+    arena: &'a Arena,
+    plus: Plus,
+    at: &'a [Entry<'a>],
+) -> Result<Option<(Tree<'a>, &'a [Entry<'a>])>, AllocError>
+    requires { IsTrue (is_whole at.now) }
+    ensures read { IfOk result (λ o. IfSome o (λ x.
+        IsReadIn 7 (kind.AType (plus_of plus)) (tokens at.now) x.0 (tokens x.1.now))) }
+    ensures whole { IfOk result (λ o. IfSome o (λ x. IsTrue (is_whole x.1.now))) }
+{
+    let Some((path, rest)) = any_path(arena, Style::AtType, at)? else {
+        return Ok(None);
+    };
+    Ok(Some((type_of(arena, plus, path)?, rest)))
+}

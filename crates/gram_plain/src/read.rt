@@ -1,0 +1,42 @@
+//! Plain forms of all kinds.
+
+ghost use Rattle.gram_look.specs.Tokens.{tokens};
+ghost use Rattle.gram_plain.specs.Read.{IsReadIn};
+ghost use Rattle.gram_table.specs.Kinds.{kind_of};
+ghost use Rattle.std.specs.Prelude.{IfOk, IfSome, IsTrue};
+ghost use Rattle.syn_buffer.specs.Entries.{is_whole};
+
+use crate::names::{NAMES, any_path, path, path_type, segments};
+use gram_table::kind::Kind;
+use gram_tree::arena::Arena;
+use gram_tree::tree::Tree;
+use std::alloc::AllocError;
+use syn_buffer::entry::Entry;
+
+/// How many calls deep a run of the grammar goes at most where a plain form is read.
+pub const CALLS: u128 = 7;
+
+/// The tree of the kind with which the entries begin, and what is left behind it, where they begin with a plain form.
+/// None says nothing of them. The entries are whole.
+///
+/// # Errors
+///
+/// Where there is no memory for the tree.
+pub fn read<'a>(
+    arena: &'a Arena,
+    kind: Kind,
+    at: &'a [Entry<'a>],
+) -> Result<Option<(Tree<'a>, &'a [Entry<'a>])>, AllocError>
+    requires { IsTrue (is_whole at.now) }
+    ensures read { IfOk result (λ o. IfSome o (λ x.
+        IsReadIn CALLS (kind_of kind) (tokens at.now) x.0 (tokens x.1.now))) }
+    ensures whole { IfOk result (λ o. IfSome o (λ x. IsTrue (is_whole x.1.now))) }
+{
+    match kind {
+        Kind::Segments(style) => segments(arena, style, NAMES, at),
+        Kind::Path(style) => path(arena, style, at),
+        Kind::AnyPath(style) => any_path(arena, style, at),
+        Kind::AType(plus) => path_type(arena, plus, at),
+        _ => Ok(None),
+    }
+}
