@@ -1,6 +1,6 @@
 -- The first form that is seen.
 use Rattle.std.proofs.Common.{◌≡◌, List, ◌∷◌, sym, ap, ◌∙◌}
-use Rattle.std.specs.Prelude.{true, false, cond, Some, None}
+use Rattle.std.specs.Prelude.{true, false, cond, Some}
 use Rattle.proc_macro2.specs.Token.{Token}
 use Rattle.syn_grammar.specs.Forms as f
 use Rattle.syn_grammar.specs.Kind as k

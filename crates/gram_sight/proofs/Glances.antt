@@ -1,6 +1,7 @@
 -- A look of several steps sees nothing where no token stands that it may begin with.
-use Rattle.std.proofs.Common.{◌≡◌, ℕ, zero, suc, List, [], ◌∷◌, length, refl, sym, ap, ◌∙◌}
-use Rattle.std.specs.Prelude.{Bool, true, false, ◌||◌, ◌==◌, cond, not, Option, Some, None, codes}
+use Rattle.std.proofs.Common.{◌≡◌, ℕ, List, [], ◌∷◌, length, refl, sym, ap, ◌∙◌}
+use Rattle.std.specs.Prelude.{Bool, true, false, ◌==◌, cond, Option, Some, None, codes}
+use Rattle.std.proofs.lemmas.Slice.Eq.{bytes_eq-Decides}
 use Rattle.proc_macro2.specs.Token.{Token, Opens, Closes, Ident, Literal, Punct}
 use Rattle.proc_macro2.specs.declared.delimiter.Delimiter.{Delimiter}
 use Rattle.proc_macro2.specs.declared.delimiter.Delimiter.TheVariants as D
@@ -474,6 +475,35 @@ lone_name w ts us e h g =
     by true m = refl
     by false true = refl
     by false false = refl
+
+-- the first word alone
+pub let_alone : (ts us : List Token) → Some us ≡ the_word (codes "let") ts
+    → composite_of composites.LetBehindAttributes ts ≡ Some us
+let_alone [] us h = cc h
+let_alone (Opens d ∷ ts) us h = cc h
+let_alone (Closes d ∷ ts) us h = cc h
+let_alone (Literal w ∷ ts) us h = cc h
+let_alone (Punct d s ∷ ts) us h = cc h
+let_alone (Ident w ∷ ts) us h = sym h
+
+pub fn_alone : (ts us : List Token) → Some us ≡ the_word (codes "fn") ts
+    → composite_of composites.SignatureStands ts ≡ Some us
+fn_alone [] us h = cc h
+fn_alone (Opens d ∷ ts) us h = cc h
+fn_alone (Closes d ∷ ts) us h = cc h
+fn_alone (Literal w ∷ ts) us h = cc h
+fn_alone (Punct d s ∷ ts) us h = cc h
+fn_alone (Ident w ∷ ts) us h = by (same_text (codes "fn") w) refl h
+  where
+    by : (b : Bool) → same_text (codes "fn") w ≡ b → Some us ≡ cond b (Some ts) None
+        → signature_stands k.InFile (Ident w ∷ ts) ≡ Some us
+    by false e h = cc h
+    by true e h =
+        ap (λ x. signature_stands k.InFile (Ident x ∷ ts)) (sym ((bytes_eq-Decides (codes "fn") w).0 e)) ∙ sym h
+
+pub so_alone : (j k : Composite) (ts us : List Token) → j ≡ k → composite_of k ts ≡ Some us
+    → composite_of j ts ≡ Some us
+so_alone j k ts us e h = ap (λ x. composite_of x ts) e ∙ h
 
 -- the look by its name
 pub so : (j k : Composite) (ts : List Token) → j ≡ k → composite_of k ts ≡ None → composite_of j ts ≡ None

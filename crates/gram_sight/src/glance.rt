@@ -15,7 +15,7 @@ ghost use Rattle.syn_grammar.specs.Look as l;
 ghost use Rattle.syn_grammar.specs.Words.{any_text, is_bool, is_reserved};
 
 use gram_look::group::{opening, opens};
-use gram_look::leaf::{among, word};
+use gram_look::leaf::{among, first_word, word};
 use gram_look::literals::first_literal;
 use gram_look::sign::{first_ident, first_mark};
 use gram_table::composite::Composite;
@@ -169,8 +169,8 @@ fn goes_on(at: &[Entry<'_>]) -> bool
     opening(at).is_some() || marked(':', at) || marked('.', at)
 }
 
-/// What is left behind a name that is a pattern by itself, where its word and the token behind it say so.
-pub fn lone_name<'a>(at: &'a [Entry<'a>]) -> Option<&'a [Entry<'a>]>
+// What is left behind a name that is a pattern by itself, where its word and the token behind it say so.
+fn lone_name<'a>(at: &'a [Entry<'a>]) -> Option<&'a [Entry<'a>]>
     requires { is_nested at.now ≡ true }
     ensures some { IfSome result (λ es. composite_of IdentPatternStands (tokens at.now) ≡ Some (tokens es.now)) }
     ensures nested { IfSome result (λ es. is_nested es.now ≡ true) }
@@ -180,6 +180,40 @@ pub fn lone_name<'a>(at: &'a [Entry<'a>]) -> Option<&'a [Entry<'a>]>
         Some(rest)
     } else {
         None
+    }
+}
+
+/// What is left behind the first word, where it says, perhaps with the token behind it, that the look sees just that word.
+#[tactic(auto, using(crate::proofs::Glances::let_alone, crate::proofs::Glances::fn_alone, crate::proofs::Glances::so_alone))]
+pub fn first_alone<'a>(composite: Composite, at: &'a [Entry<'a>]) -> Option<&'a [Entry<'a>]>
+    requires { is_nested at.now ≡ true }
+    ensures some { IfSome result (λ es. composite_of composite (tokens at.now) ≡ Some (tokens es.now)) }
+    ensures nested { IfSome result (λ es. is_nested es.now ≡ true) }
+{
+    match composite {
+        Composite::IdentPatternStands => lone_name(at),
+        Composite::LetBehindAttributes => first_word(Words::Keyword(Keyword::Let), at),
+        Composite::SignatureStands => first_word(Words::Keyword(Keyword::Fn), at),
+        _ => None,
+    }
+}
+
+// Whether a look at a form of expressions may see something, as far as the first tokens say.
+fn may_begin(composite: Composite, at: &[Entry<'_>]) -> bool
+    requires { is_nested at.now ≡ true }
+    ensures { result ≡ false → composite_of composite (tokens at.now) ≡ None }
+{
+    match composite {
+        Composite::LabelledBlock => opened(Delimiter::Brace, at) || marked('\'', at),
+        Composite::LabelledLoop => named(Keyword::Loop, at) || marked('\'', at),
+        Composite::LabelledWhile => named(Keyword::While, at) || marked('\'', at),
+        Composite::LabelledFor => named(Keyword::For, at) || marked('\'', at),
+        Composite::TypedClosureStands => closes_over(at) || marked('|', at),
+        Composite::ClosureStands => closes_over(at) || marked('|', at),
+        Composite::RepeatStands => opened(Delimiter::Bracket, at),
+        Composite::RawAddrStands => marked('&', at),
+        Composite::MacroCallStands => calls(at),
+        _ => true,
     }
 }
 
@@ -214,15 +248,6 @@ pub fn may_see(composite: Composite, at: &[Entry<'_>]) -> bool
         Composite::MacroStatementBehindAttributes => calls(at) || marked('#', at),
         Composite::LetBehindAttributes => named(Keyword::Let, at) || marked('#', at),
         Composite::ItemBehindAttributes => begins_item(at) || marked('#', at),
-        Composite::LabelledBlock => opened(Delimiter::Brace, at) || marked('\'', at),
-        Composite::LabelledLoop => named(Keyword::Loop, at) || marked('\'', at),
-        Composite::LabelledWhile => named(Keyword::While, at) || marked('\'', at),
-        Composite::LabelledFor => named(Keyword::For, at) || marked('\'', at),
-        Composite::TypedClosureStands => closes_over(at) || marked('|', at),
-        Composite::ClosureStands => closes_over(at) || marked('|', at),
-        Composite::RepeatStands => opened(Delimiter::Bracket, at),
-        Composite::RawAddrStands => marked('&', at),
-        Composite::MacroCallStands => calls(at),
-        _ => true,
+        _ => may_begin(composite, at),
     }
 }

@@ -7,7 +7,7 @@ ghost use Rattle.gram_table.specs.Looks.{look_of, test_of};
 ghost use Rattle.std.specs.Prelude.{◌≡◌, IfSome, true};
 ghost use Rattle.syn_grammar.specs.Look.{sees};
 
-use crate::glance::{lone_name, may_see};
+use crate::glance::{first_alone, may_see};
 use crate::sights::{end, see};
 use gram_look::group::opens;
 use gram_look::leaf::first_word;
@@ -18,24 +18,19 @@ use gram_table::op::{Look, Test};
 use gram_table::sights::sights;
 use syn_buffer::entry::Entry;
 
-// What is left behind what a look of several steps sees, if it sees it.
+// What is left behind what a look of several steps sees, if it sees it: its steps are gone through where the first tokens
+// don't say.
 fn several<'a>(composite: Composite, at: &'a [Entry<'a>]) -> Option<&'a [Entry<'a>]>
     requires { is_nested at.now ≡ true }
     ensures after { after (λ es. es.now) result ≡ composite_of composite (tokens at.now) }
     ensures nested { IfSome result (λ es. is_nested es.now ≡ true) }
 {
-    match composite {
-        Composite::IdentPatternStands => match lone_name(at) {
-            Some(left) => Some(left),
-            None => see(sights(composite), at),
-        },
-        _ => {
-            if may_see(composite, at) {
-                see(sights(composite), at)
-            } else {
-                None
-            }
-        }
+    if !may_see(composite, at) {
+        return None;
+    }
+    match first_alone(composite, at) {
+        Some(left) => Some(left),
+        None => see(sights(composite), at),
     }
 }
 

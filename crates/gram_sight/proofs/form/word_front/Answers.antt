@@ -3,7 +3,7 @@ use Rattle.std.proofs.Common.{rules}
 use Rattle.gram_look.specs.Tokens.{tokens}
 use Rattle.gram_table.specs.Kinds.{position_of}
 use Rattle.rust_leaf.specs.Leaf.{ident_text}
-use Rattle.gram_sight.proofs.Reserved.{ident_name, ident_no_form, no_form}
+use Rattle.gram_sight.proofs.Reserved.{ident_name, ident_no_form}
 use Rattle.gram_sight.proofs.WordFronts.{bool_front, if_front, match_front, no_name}
 use Rattle.gram_sight.proofs.form.word_front.Goals as goal
 
