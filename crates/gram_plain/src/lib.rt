@@ -6,7 +6,11 @@
 //!
 //! - `read`: the plain forms of all kinds.
 //! - `names`: paths of names alone, and types that are such paths.
+//! - `absent`: attributes and visibility, where none stands.
+//! - `bindings`: names that patterns bind.
 #![tactic(auto)]
 
+mod absent;
+mod bindings;
 mod names;
 pub mod read;

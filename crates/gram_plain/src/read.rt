@@ -6,6 +6,8 @@ ghost use Rattle.gram_table.specs.Kinds.{kind_of};
 ghost use Rattle.std.specs.Prelude.{IfOk, IfSome, IsTrue};
 ghost use Rattle.syn_buffer.specs.Entries.{is_whole};
 
+use crate::absent::{inner_attributes, outer_attributes, visibility};
+use crate::bindings::{ident_pattern, one_pattern, pattern, several_patterns};
 use crate::names::{NAMES, any_path, path, path_type, segments};
 use gram_table::kind::Kind;
 use gram_tree::arena::Arena;
@@ -37,6 +39,13 @@ pub fn read<'a>(
         Kind::Path(style) => path(arena, style, at),
         Kind::AnyPath(style) => any_path(arena, style, at),
         Kind::AType(plus) => path_type(arena, plus, at),
+        Kind::OuterAttributes => outer_attributes(arena, at),
+        Kind::InnerAttributes => inner_attributes(arena, at),
+        Kind::Visibility => visibility(arena, at),
+        Kind::Pattern => pattern(arena, at),
+        Kind::SeveralPatterns => several_patterns(arena, at),
+        Kind::OnePattern => one_pattern(arena, at),
+        Kind::IdentPattern => ident_pattern(arena, at),
         _ => Ok(None),
     }
 }
