@@ -1,5 +1,5 @@
 -- Attributes and visibility where none stands, as each run reads them.
-use Rattle.std.proofs.Common.{◌≡◌, ℕ, zero, suc, ◌≤◌, List, refl, arith}
+use Rattle.std.proofs.Common.{◌≡◌, zero, suc, List, refl, arith}
 use Rattle.std.specs.Prelude.{None}
 use Rattle.proc_macro2.specs.Token.{Token}
 use Rattle.syn_grammar.specs.Kind.{InnerAttributes, OuterAttributes, Visibility}

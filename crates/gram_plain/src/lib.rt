@@ -8,9 +8,11 @@
 //! - `names`: paths of names alone, and types that are such paths.
 //! - `absent`: attributes and visibility, where none stands.
 //! - `bindings`: names that patterns bind.
+//! - `literals`: expressions that are a literal alone.
 #![tactic(auto)]
 
 mod absent;
 mod bindings;
+mod literals;
 mod names;
 pub mod read;

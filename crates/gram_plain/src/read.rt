@@ -8,6 +8,7 @@ ghost use Rattle.syn_buffer.specs.Entries.{is_whole};
 
 use crate::absent::{inner_attributes, outer_attributes, visibility};
 use crate::bindings::{ident_pattern, one_pattern, pattern, several_patterns};
+use crate::literals::expression;
 use crate::names::{NAMES, any_path, path, path_type, segments};
 use gram_table::kind::Kind;
 use gram_tree::arena::Arena;
@@ -46,6 +47,7 @@ pub fn read<'a>(
         Kind::SeveralPatterns => several_patterns(arena, at),
         Kind::OnePattern => one_pattern(arena, at),
         Kind::IdentPattern => ident_pattern(arena, at),
+        Kind::Expression(position) => expression(arena, position, at),
         _ => Ok(None),
     }
 }
