@@ -1,2 +1,4 @@
+pub mod Bindings
+pub mod Literals
 pub mod Names
 pub mod Read

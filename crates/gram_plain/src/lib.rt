@@ -6,7 +6,13 @@
 //!
 //! - `read`: the plain forms of all kinds.
 //! - `names`: paths of names alone, and types that are such paths.
+//! - `absent`: attributes and visibility, where none stands.
+//! - `bindings`: names that patterns bind.
+//! - `literals`: expressions that are a literal alone.
 #![tactic(auto)]
 
+mod absent;
+mod bindings;
+mod literals;
 mod names;
 pub mod read;

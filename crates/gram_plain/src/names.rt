@@ -7,9 +7,10 @@ ghost use Rattle.gram_plain.specs.Read.{IsReadIn};
 ghost use Rattle.gram_table.specs.Kinds.{plus_of, style_of};
 ghost use Rattle.proc_macro2.specs.Token as token;
 ghost use Rattle.rust_leaf.specs.Leaf.{ident_text, punct_char, punct_spacing};
-ghost use Rattle.std.specs.Prelude.{◌∷◌, ◌≡◌, IfOk, IfSome, IsTrue, List};
+ghost use Rattle.std.specs.Prelude.{◌∷◌, ◌≡◌, IfNone, IfOk, IfSome, IsTrue, List, None};
 ghost use Rattle.syn_buffer.specs.Entries.{is_whole};
 ghost use Rattle.syn_grammar.specs.Kind as kind;
+ghost use Rattle.syn_grammar.specs.Say.{marks};
 
 use gram_look::leaf::word as passes;
 use gram_table::kind::{Kind, Plus, Style};
@@ -60,20 +61,29 @@ pub(crate) enum Behind<'a> {
     Other,
 }
 
-// How a colon that stands first is spaced, and what is left behind it.
-fn colon<'a>(at: &'a [Entry<'a>]) -> Option<(Spacing, &'a [Entry<'a>])>
+/// How a colon that stands first is spaced, and what is left behind it.
+pub(crate) fn colon<'a>(at: &'a [Entry<'a>]) -> Option<(Spacing, &'a [Entry<'a>])>
     requires { IsTrue (is_whole at.now) }
     ensures colon { IfSome result (λ r. tokens at.now ≡ token.Punct 58 r.0 ∷ tokens r.1.now) }
+    ensures none { IfNone result (marks ":" (tokens at.now) ≡ None) }
     ensures whole { IfSome result (λ r. IsTrue (is_whole r.1.now)) }
 {
-    if let [first, rest @ ..] = at {
-        if let Entry::Punct(mark) = *first {
+    let Some((first, rest)) = at.split_first() else {
+        return None;
+    };
+    match *first {
+        Entry::Punct(mark) => {
             if mark.as_char() == ':' {
-                return Some((mark.spacing(), rest));
+                Some((mark.spacing(), rest))
+            } else {
+                None
             }
         }
+        Entry::Open(..) => None,
+        Entry::Close(..) => None,
+        Entry::Ident(_) => None,
+        Entry::Literal(_) => None,
     }
-    None
 }
 
 // What stands behind a name of a path, where a colon stands there.

@@ -6,6 +6,9 @@ ghost use Rattle.gram_table.specs.Kinds.{kind_of};
 ghost use Rattle.std.specs.Prelude.{IfOk, IfSome, IsTrue};
 ghost use Rattle.syn_buffer.specs.Entries.{is_whole};
 
+use crate::absent::{inner_attributes, outer_attributes, visibility};
+use crate::bindings::{ident_pattern, one_pattern, pattern, several_patterns};
+use crate::literals::expression;
 use crate::names::{NAMES, any_path, path, path_type, segments};
 use gram_table::kind::Kind;
 use gram_tree::arena::Arena;
@@ -37,6 +40,14 @@ pub fn read<'a>(
         Kind::Path(style) => path(arena, style, at),
         Kind::AnyPath(style) => any_path(arena, style, at),
         Kind::AType(plus) => path_type(arena, plus, at),
+        Kind::OuterAttributes => outer_attributes(arena, at),
+        Kind::InnerAttributes => inner_attributes(arena, at),
+        Kind::Visibility => visibility(arena, at),
+        Kind::Pattern => pattern(arena, at),
+        Kind::SeveralPatterns => several_patterns(arena, at),
+        Kind::OnePattern => one_pattern(arena, at),
+        Kind::IdentPattern => ident_pattern(arena, at),
+        Kind::Expression(position) => expression(arena, position, at),
         _ => Ok(None),
     }
 }

@@ -1,0 +1,11 @@
+-- The name that stands there.
+use Rattle.gram_look.specs.Tokens.{tokens}
+use Rattle.rust_leaf.specs.Leaf.{ident_text}
+use Rattle.gram_plain.proofs.Bound.{several_at}
+use Rattle.gram_plain.proofs.bindings.several_patterns.Goals as goal
+
+pub returns-in_ok-only_alternative-in-Some-clause-read : goal.returns-in_ok-only_alternative-in-Some-clause-read
+returns-in_ok-only_alternative-in-Some-clause-read c =
+    several_at (ident_text c.in-Some.name.now) (tokens c.args.at.now) (tokens c.in-Some.rest.now)
+    c.in_ok-only_alternative-in-Some.field-0 c.in-Some.ensures.first c.in-Some.ensures.ident c.in-Some.ensures.end c.in-Some.ensures.only
+    c.in_ok-only_alternative-in-Some.ensures
