@@ -85,7 +85,7 @@ fn reserved(at: &[Entry<'_>]) -> bool
 
 // Whether a word that begins a signature stands first.
 #[tactic(auto, using(crate::proofs::Glances::no_word_first, crate::proofs::Glances::word_first))]
-fn signs(at: &[Entry<'_>]) -> bool
+fn begins_signature(at: &[Entry<'_>]) -> bool
     ensures { result ≡ sees (one_of signature_words) (tokens at.now) }
 {
     match first_ident(at) {
@@ -96,7 +96,7 @@ fn signs(at: &[Entry<'_>]) -> bool
 
 // Whether a word that begins a closure stands first.
 #[tactic(auto, using(crate::proofs::Glances::no_word_first, crate::proofs::Glances::word_first))]
-fn closes_over(at: &[Entry<'_>]) -> bool
+fn begins_closure(at: &[Entry<'_>]) -> bool
     ensures { result ≡ sees (one_of closure_words) (tokens at.now) }
 {
     match first_ident(at) {
@@ -121,7 +121,7 @@ fn begins_item(at: &[Entry<'_>]) -> bool
 
 // Whether a macro's path may begin there, by its first name and the mark behind that.
 #[tactic(auto, using(crate::proofs::Glances::call_none_first, crate::proofs::Glances::call_goes, crate::proofs::Glances::call_ends))]
-fn calls(at: &[Entry<'_>]) -> bool
+fn begins_call(at: &[Entry<'_>]) -> bool
     ensures { result ≡ sees call_begins (tokens at.now) }
 {
     match first_ident(at) {
@@ -208,11 +208,11 @@ fn may_begin(composite: Composite, at: &[Entry<'_>]) -> bool
         Composite::LabelledLoop => named(Keyword::Loop, at) || marked('\'', at),
         Composite::LabelledWhile => named(Keyword::While, at) || marked('\'', at),
         Composite::LabelledFor => named(Keyword::For, at) || marked('\'', at),
-        Composite::TypedClosureStands => closes_over(at) || marked('|', at),
-        Composite::ClosureStands => closes_over(at) || marked('|', at),
+        Composite::TypedClosureStands => begins_closure(at) || marked('|', at),
+        Composite::ClosureStands => begins_closure(at) || marked('|', at),
         Composite::RepeatStands => opened(Delimiter::Bracket, at),
         Composite::RawAddrStands => marked('&', at),
-        Composite::MacroCallStands => calls(at),
+        Composite::MacroCallStands => begins_call(at),
         _ => true,
     }
 }
@@ -235,7 +235,7 @@ pub fn may_see(composite: Composite, at: &[Entry<'_>]) -> bool
             named(Keyword::Mut, at) || named(Keyword::SelfValue, at) || marked('&', at)
         }
         Composite::IdentThenLt => word_and('<', at),
-        Composite::SignatureStands => signs(at),
+        Composite::SignatureStands => begins_signature(at),
         Composite::ExternCrate => named(Keyword::Extern, at),
         Composite::ConstTrait => named(Keyword::Const, at),
         Composite::ConstImpl => named(Keyword::Const, at),
@@ -244,8 +244,8 @@ pub fn may_see(composite: Composite, at: &[Entry<'_>]) -> bool
         Composite::UnsafeImpl => named(Keyword::Unsafe, at),
         Composite::UnionIdent => named(Keyword::Union, at),
         Composite::RestrictedTraitStands => named(Keyword::Impl, at),
-        Composite::MacroItemBehindAttributes => calls(at) || marked('#', at),
-        Composite::MacroStatementBehindAttributes => calls(at) || marked('#', at),
+        Composite::MacroItemBehindAttributes => begins_call(at) || marked('#', at),
+        Composite::MacroStatementBehindAttributes => begins_call(at) || marked('#', at),
         Composite::LetBehindAttributes => named(Keyword::Let, at) || marked('#', at),
         Composite::ItemBehindAttributes => begins_item(at) || marked('#', at),
         _ => may_begin(composite, at),

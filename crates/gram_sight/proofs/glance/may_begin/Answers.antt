@@ -10,13 +10,13 @@ returns-else-opened c h =
     so c.args.composite composites.LabelledBlock (tokens c.args.at.now) c.in-LabelledBlock.is
     (labelled_block_none (tokens c.args.at.now) (search rules) (search rules))
 
-pub returns-else-closes_over : goal.returns-else-closes_over
-returns-else-closes_over c h =
+pub returns-else-begins_closure : goal.returns-else-begins_closure
+returns-else-begins_closure c h =
     so c.args.composite composites.TypedClosureStands (tokens c.args.at.now) c.in-TypedClosureStands.is
     (typed_none (tokens c.args.at.now) (search rules) (search rules))
 
-pub returns-else-closes_over-2 : goal.returns-else-closes_over-2
-returns-else-closes_over-2 c h =
+pub returns-else-begins_closure-2 : goal.returns-else-begins_closure-2
+returns-else-begins_closure-2 c h =
     so c.args.composite composites.ClosureStands (tokens c.args.at.now) c.in-ClosureStands.is
     (closure_none (tokens c.args.at.now) (search rules) (search rules))
 

@@ -50,13 +50,13 @@ returns-else-quoted c h =
     so c.args.composite composites.ALiteral (tokens c.args.at.now) c.in-ALiteral.is
     (literal_none (tokens c.args.at.now) (search rules) (search rules))
 
-pub returns-else-calls : goal.returns-else-calls
-returns-else-calls c h =
+pub returns-else-begins_call : goal.returns-else-begins_call
+returns-else-begins_call c h =
     so c.args.composite composites.MacroItemBehindAttributes (tokens c.args.at.now) c.in-MacroItemBehindAttributes.is
     (macro_item_none (tokens c.args.at.now) (search rules) (search rules))
 
-pub returns-else-calls-2 : goal.returns-else-calls-2
-returns-else-calls-2 c h =
+pub returns-else-begins_call-2 : goal.returns-else-begins_call-2
+returns-else-begins_call-2 c h =
     so c.args.composite composites.MacroStatementBehindAttributes (tokens c.args.at.now) c.in-MacroStatementBehindAttributes.is
     (macro_statement_none (tokens c.args.at.now) (search rules) (search rules))
 
