@@ -1,13 +1,11 @@
--- A name that a pattern binds, as each run reads it, and what it may stand before.
-use Rattle.std.proofs.Common.{◌≡◌, ℕ, zero, suc, ◌≤◌, List, [], ◌∷◌, refl, ap, arith}
-use Rattle.std.specs.Prelude.{Bool, true, false, ◌==◌, cond, None, Some, codes}
-use Rattle.proc_macro2.specs.Token.{Token, Ident, Punct}
-use Rattle.rust_leaf.specs.declared.punct.Spacing.{Spacing}
-use Rattle.rust_leaf.specs.declared.punct.Spacing.TheVariants.{Alone, Joint}
+-- A name that a pattern binds, as each run reads it.
+use Rattle.std.proofs.Common.{◌≡◌, ℕ, zero, suc, ◌≤◌, List, ◌∷◌, refl, ap, arith}
+use Rattle.std.specs.Prelude.{Bool, true, false, cond, None, Some, codes}
+use Rattle.proc_macro2.specs.Token.{Token, Ident}
 use Rattle.syn_grammar.specs.Gram.{Gram}
 use Rattle.syn_grammar.specs.Kind.{IdentPattern, OnePattern, Pattern, SeveralPatterns}
 use Rattle.syn_grammar.specs.Gram.{ref}
-use Rattle.syn_grammar.specs.Look.{behind, first_seen, past_marks, seen, sees}
+use Rattle.syn_grammar.specs.Look.{behind, first_seen, seen, sees}
 use Rattle.syn_grammar.specs.Patterns.{vert}
 use Rattle.syn_grammar.specs.Run.{Got, loop, run, word_at}
 use Rattle.syn_grammar.specs.Say.{◌▸◌, marks, sign}
@@ -18,28 +16,6 @@ use Rattle.gram_plain.specs.Bindings.{IsBindingEnd, alternative, bound, only_alt
 use Rattle.gram_plain.specs.Read.{IsReadIn}
 use Rattle.gram_plain.proofs.Same.{as_read}
 use Rattle.gram_plain.proofs.Words.{another}
-
--- before a mark that is none of these
-no_marks : (c d : ℕ) (ds : List ℕ) (spacing : Spacing) (ts : List Token) → (c == d) ≡ false
-    → past_marks d ds (Punct c spacing ∷ ts) ≡ None
-no_marks c d [] spacing ts h = ap (λ b. cond b (Some ts) None) h
-no_marks c d (e ∷ es) Joint ts h = ap (λ b. cond b (past_marks e es ts) None) h
-no_marks c d (e ∷ es) Alone ts h = refl
-
-pub mark_ends : (c : ℕ) (spacing : Spacing) (ts : List Token) → (c == 58) ≡ false → (c == 46) ≡ false
-    → (c == 33) ≡ false → (c == 64) ≡ false → IsBindingEnd (Punct c spacing ∷ ts)
-mark_ends c spacing ts h g i k = record {
-  colons = no_marks c 58 (58 ∷ []) spacing ts h;
-  parenthesis = refl;
-  brace = refl;
-  dots = no_marks c 46 (46 ∷ []) spacing ts g;
-  bang = no_marks c 33 [] spacing ts i;
-  at = no_marks c 64 [] spacing ts k;
-}
-
--- before a colon that begins no ::
-pub joint_ends : (ts : List Token) → marks ":" ts ≡ None → IsBindingEnd (Punct 58 Joint ∷ ts)
-joint_ends ts h = record { colons = h; parenthesis = refl; brace = refl; dots = refl; bang = refl; at = refl }
 
 -- the name, alternative by alternative
 no_ref : (cs : List ℕ) → is_ident cs ≡ true → same_text (codes "ref") cs ≡ false
