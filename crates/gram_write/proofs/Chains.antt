@@ -45,7 +45,7 @@ left_laid (t.Infix m j y r) k l e = left_parts laid (laid y ++ laid r) j k m l (
 left_laid (t.Back m j y) k l e = left_parts laid (behind_laid j y) j k m l (same_pair k j l m e)
 left_laid x k l e = absurd (some_none (k, l) e)
 
-left_below : (x : Tree) (k : Kind) (l : Tree) → Some (k, l) ≡ left_of x → size-Tree l < size-Tree x
+pub left_below : (x : Tree) (k : Kind) (l : Tree) → Some (k, l) ≡ left_of x → size-Tree l < size-Tree x
 left_below (t.Infix m j y r) k l e =
     let s = same_pair k j l m e in
     omega (arith, tree_size l, tree_size (t.Infix m j y r), ap size-Tree s.1, tree_size m)

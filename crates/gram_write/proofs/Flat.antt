@@ -1,12 +1,17 @@
 -- The tokens of a tree, by its form.
-use Rattle.std.specs.Prelude.{ℕ, zero, suc}
+use Rattle.std.specs.Prelude.{ℕ, zero, suc, Some, None}
 use Rattle.std.proofs.Common.{◌≡◌, List, [], ◌∷◌, ◌++◌, refl, sym, ap, ◌∙◌, append_assoc}
 use Rattle.std.proofs.lemmas.List.{append-nil}
-use Rattle.proc_macro2.specs.Token.{Punct}
+use Rattle.proc_macro2.specs.Token.{Token, Punct}
+use Rattle.syn_grammar.specs.Kind.{Kind}
 use Rattle.syn_grammar.specs.Tree as t
 use Rattle.syn_grammar.specs.Tree.{Tree, flat}
 use Rattle.gram_tree.specs.declared.tree.Element.{Element}
 use Rattle.gram_tree.specs.Forms.{seconds, elements}
+use Rattle.gram_write.specs.Chains.{behind_lefts_read, behind_read, left_of}
+use Rattle.gram_write.specs.Operands.{back_of, infix_of}
+use Rattle.gram_write.proofs.Operands.{back_is, infix_is}
+use Rattle.gram_write.proofs.SeenForms.{same_pair, some_none}
 
 pub flat_seconds : (n : ℕ) (x : Tree) → flat (seconds n x) ≡ flat x
 flat_seconds zero x = refl
@@ -21,3 +26,45 @@ flat_elements c (e ∷ es) y =
     ∙ sym (append_assoc (flat e.tree) (Punct c e.spacing ∷ flat (elements c es t.End)) (flat y))
 
 pub ruleset forms = (flat_seconds, flat_elements, append_assoc, append-nil)
+
+-- what stands behind a form's left operand
+pub behind_infix : (x : Tree) (k : Kind) (l y r : Tree) → Some (k, l, y, r) ≡ infix_of x
+    → flat y ++ flat r ≡ behind_read x
+behind_infix x k l y r e = ap behind_read (sym (infix_is x k l y r e))
+
+pub behind_back : (x : Tree) (k : Kind) (l y : Tree) → Some (k, l, y) ≡ back_of x → flat y ≡ behind_read x
+behind_back x k l y e = ap behind_read (sym (back_is x k l y e))
+
+pub behind_none : (x : Tree) → None ≡ infix_of x → None ≡ back_of x → [] ≡ behind_read x
+behind_none (t.Infix l k y r) e f = cc
+behind_none (t.Back l k y) e f = cc
+behind_none x e f = refl
+
+pub ruleset behinds = (behind_infix, behind_back, behind_none, append_assoc, append-nil)
+
+-- one more form, whose left operand is the innermost
+pub behind_more : (xs : List Tree) (x : Tree) → behind_lefts_read (xs ++ x ∷ []) ≡ behind_read x ++ behind_lefts_read xs
+behind_more [] x = sym (append-nil (behind_read x))
+behind_more (y ∷ ys) x =
+    ap (λ ts. ts ++ behind_read y) (behind_more ys x)
+    ∙ append_assoc (behind_read x) (behind_lefts_read ys) (behind_read y)
+
+-- a form is its left operand, and what stands behind that
+left_flat : (x : Tree) (k : Kind) (l : Tree) → Some (k, l) ≡ left_of x → flat x ≡ flat l ++ behind_read x
+left_flat (t.Infix m j y r) k l e =
+    ap (λ z. flat z ++ (flat y ++ flat r)) (sym (same_pair k j l m e).1)
+left_flat (t.Back m j y) k l e = ap (λ z. flat z ++ flat y) (sym (same_pair k j l m e).1)
+left_flat x k l e = absurd (some_none (k, l) e)
+
+-- a step inwards, and a step back outwards
+pub left_in : (x : Tree) (k : Kind) (l : Tree) (xs : List Tree) (all : List Token) → Some (k, l) ≡ left_of x
+    → flat x ++ behind_lefts_read xs ≡ all → flat l ++ behind_lefts_read (xs ++ x ∷ []) ≡ all
+left_in x k l xs all e h =
+    ap (λ ts. flat l ++ ts) (behind_more xs x) ∙ sym (append_assoc (flat l) (behind_read x) (behind_lefts_read xs))
+    ∙ ap (λ ts. ts ++ behind_lefts_read xs) (sym (left_flat x k l e)) ∙ h
+
+pub left_out : (old new all : List Token) (x : Tree) (xs : List Tree) → new ≡ old ++ behind_read x
+    → old ++ behind_lefts_read (xs ++ x ∷ []) ≡ all → new ++ behind_lefts_read xs ≡ all
+left_out old new all x xs put h =
+    ap (λ ts. ts ++ behind_lefts_read xs) put ∙ append_assoc old (behind_read x) (behind_lefts_read xs)
+    ∙ ap (λ ts. old ++ ts) (sym (behind_more xs x)) ∙ h

@@ -11,6 +11,7 @@ pub mod Read
 pub mod Pushing
 pub mod Fronts
 pub mod Flat
+pub mod Inside
 pub mod LaidTrees
 pub mod Indices
 pub mod SeenForms

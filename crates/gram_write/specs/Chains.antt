@@ -3,7 +3,7 @@ use Rattle.std.specs.Prelude.{cond, List, [], ◌∷◌, ◌++◌, Option, Some,
 use Rattle.proc_macro2.specs.Token.{Token, Closes}
 use Rattle.proc_macro2.specs.declared.delimiter.Delimiter.TheVariants.{Parenthesis}
 use Rattle.syn_grammar.specs.Kind.{Kind}
-use Rattle.syn_grammar.specs.Tree.{Tree, Back, Infix}
+use Rattle.syn_grammar.specs.Tree.{Tree, Back, Infix, flat}
 use Rattle.gram_tree.specs.Shapes.{single}
 use Rattle.range_laws.specs.Shelled.{goes_in}
 use Rattle.gram_write.specs.Laid.{behind_laid, given_laid, laid}
@@ -40,3 +40,13 @@ behind_left _ = []
 abbrev pub behind_lefts : List Tree → List Token
 behind_lefts [] = []
 behind_lefts (x ∷ xs) = behind_lefts xs ++ behind_left x
+
+-- the same as they were read
+abbrev pub behind_read : Tree → List Token
+behind_read (Infix l k y r) = flat y ++ flat r
+behind_read (Back l k y) = flat y
+behind_read _ = []
+
+abbrev pub behind_lefts_read : List Tree → List Token
+behind_lefts_read [] = []
+behind_lefts_read (x ∷ xs) = behind_lefts_read xs ++ behind_read x

@@ -3,75 +3,184 @@
 ghost use Rattle.gram_piece.specs.Pieces.{piece_token};
 ghost use Rattle.gram_table.specs.Ops.{separator_of};
 ghost use Rattle.gram_tree.specs.Forms.{elements, turns};
+ghost use Rattle.gram_tree.specs.declared.tree.Tree.TheDeep.{size-Tree};
+ghost use Rattle.gram_write.specs.Chains.{behind_lefts_read, behind_read};
 ghost use Rattle.gram_write.specs.Front.{Keeps};
-ghost use Rattle.std.specs.Prelude.{◌≡◌, ◌++◌, OnOk, map};
+ghost use Rattle.gram_write.specs.Tails.{left_read};
+ghost use Rattle.std.specs.Prelude.{◌++◌, ◌<◌, ◌≡◌, ◌≤◌, IfOk, IfSome, OnOk, map, max};
 ghost use Rattle.syn_grammar.specs.Tree as t;
 ghost use Rattle.syn_grammar.specs.Tree.{flat};
+ghost use denote.Param.Weighed.{most};
 
-use crate::put::{entries, lifetime, one, separator, sign};
+use crate::chain::left_of;
+use crate::operand::{back, infix};
+use crate::place::Place;
+use crate::put::{closing, entries, ident, lifetime, literal, opening, separator, sign};
 use gram_piece::piece::Piece;
 use gram_table::op::Separator;
-use gram_tree::tree::{Element, Form, Tree, Two};
+use gram_tree::tree::{Element, Form, Tree};
 use std::alloc::AllocError;
 
-/// Puts the tokens of a tree, as they were read, behind those that are to be written.
+/// Puts the tokens of a tree, as they were read, behind those that are to be written. What stands last in a tree, and
+/// operands that stand one left of the other, are put without a call for each.
 ///
 /// # Errors
 ///
-/// Where there is no memory for more tokens. Those that stood there stand in front then too, perhaps with some of the
-/// tree's behind them.
+/// Where there is no memory for more tokens, or for the forms in which an operand stands. Those that stood there stand
+/// in front then too, perhaps with some of the tree's behind them.
 #[cycle(as_read)]
-#[tactic(auto, using(crate::proofs::Flat::forms, crate::proofs::Fronts::kept))]
+#[tactic(auto, using(crate::proofs::Pushing::puts, crate::proofs::Fronts::kept))]
 pub fn put_as_read<'a>(tree: &Tree<'a>, out: &mut Vec<Piece<'a>>) -> Result<(), AllocError>
     ensures put { OnOk result (map piece_token out.new.items ≡ map piece_token out.old.items ++ flat tree.now) }
     ensures keeps { Keeps out.old.items out.new.items }
 {
+    let mut place = Place { tree };
+    while let Some(left) = step(place, out)? {
+        place = left;
+    }
+    Ok(())
+}
+
+// The tokens of a tree up to what it ends with, which is left.
+#[cycle(as_read)]
+#[tactic(auto, using(crate::proofs::Flat::forms, crate::proofs::Fronts::kept))]
+fn step<'t, 'a>(
+    place: Place<'t, 'a>,
+    out: &mut Vec<Piece<'a>>,
+) -> Result<Option<Place<'t, 'a>>, AllocError>
+    ensures put { IfOk result (λ left. map piece_token out.new.items ++ left_read left
+        ≡ map piece_token out.old.items ++ flat place.entry.tree.now) }
+    ensures keeps { Keeps out.old.items out.new.items }
+    ensures inside { IfOk result (λ left. IfSome left (λ x. size-Tree x.tree.now < size-Tree place.entry.tree.now)) }
+{
+    let tree = place.tree;
     match &tree.form {
-        Form::Word(ident) => one(Piece::Ident(ident), out),
-        Form::Literal(literal) => one(Piece::Literal(literal), out),
-        Form::Mark(marks, spacing, _) => sign(*marks, *spacing, out),
-        Form::Lifetime(_, ident) => lifetime(ident, out),
-        Form::Raw(tokens) => entries(tokens, out),
-        Form::Nil => Ok(()),
-        Form::Pair(two) | Form::Front(_, two) | Form::Back(_, two) => put_two(two, out),
-        Form::Turns(turns) => put_turns(turns, out),
+        Form::Word(word) => {
+            ident(word, out)?;
+            Ok(None)
+        }
+        Form::Literal(text) => {
+            literal(text, out)?;
+            Ok(None)
+        }
+        Form::Mark(marks, spacing, _) => {
+            sign(*marks, *spacing, out)?;
+            Ok(None)
+        }
+        Form::Lifetime(_, word) => {
+            lifetime(word, out)?;
+            Ok(None)
+        }
+        Form::Raw(tokens) => {
+            entries(tokens, out)?;
+            Ok(None)
+        }
+        Form::Nil => Ok(None),
+        Form::Pair(two) | Form::Front(_, two) => {
+            put_as_read(&two.front, out)?;
+            Ok(Some(Place { tree: &two.back }))
+        }
+        Form::Back(_, two) => {
+            put_left(&two.front, out)?;
+            Ok(Some(Place { tree: &two.back }))
+        }
+        Form::Infix(_, three) => {
+            put_left(&three.left, out)?;
+            put_as_read(&three.own, out)?;
+            Ok(Some(Place { tree: &three.right }))
+        }
+        Form::Turns(turns) => {
+            put_turns(turns, out)?;
+            Ok(None)
+        }
         Form::Elements(list) => {
             put_elements(list.separator, list.before, out)?;
             match list.last {
-                Some(last) => put_as_read(last, out),
-                None => Ok(()),
+                Some(last) => Ok(Some(Place { tree: last })),
+                None => Ok(None),
             }
         }
         Form::Group(delimiter, _, inner) => {
-            one(Piece::Open(*delimiter), out)?;
+            opening(*delimiter, out)?;
             put_as_read(inner, out)?;
-            one(Piece::Close(*delimiter), out)
+            closing(*delimiter, out)?;
+            Ok(None)
         }
-        Form::Infix(_, three) => {
-            put_as_read(&three.left, out)?;
-            put_as_read(&three.own, out)?;
-            put_as_read(&three.right, out)
+        Form::First(_, inner) | Form::Second(_, inner) | Form::Dropped(inner) => {
+            Ok(Some(Place { tree: inner }))
         }
-        Form::First(_, inner) | Form::Second(_, inner) | Form::Dropped(inner) => put_as_read(
-            inner, out,
-        ),
-        Form::Called(_, inner) | Form::Verbatim(inner) | Form::Node(_, inner) => put_as_read(
-            inner, out,
-        ),
-        Form::Whole(inner) | Form::Alone(_, inner) => put_as_read(inner, out),
+        Form::Called(_, inner) | Form::Verbatim(inner) | Form::Node(_, inner) => {
+            Ok(Some(Place { tree: inner }))
+        }
+        Form::Whole(inner) | Form::Alone(_, inner) => Ok(Some(Place { tree: inner })),
     }
 }
 
-// The tokens of one tree, and then those of another.
+// Goes on from a form to its left operand, as often as there is one: each form is put behind others. The innermost
+// operand.
+fn leftmost<'t, 'a>(
+    tree: &'t Tree<'a>,
+    forms: &mut Vec<&'t Tree<'a>>,
+) -> Result<&'t Tree<'a>, AllocError>
+    ensures read { IfOk result (λ inner. flat inner.now ++ behind_lefts_read (map (λ x. x.now) forms.new.items)
+        ≡ flat tree.now ++ behind_lefts_read (map (λ x. x.now) forms.old.items)) }
+    ensures inside { IfOk result (λ inner. size-Tree inner.now ≤ size-Tree tree.now) }
+    ensures outside { IfOk result (λ inner. most (λ x. size-Tree x.now) forms.new.items
+        ≤ max (most (λ x. size-Tree x.now) forms.old.items) (size-Tree tree.now)) }
+{
+    let mut place = Place { tree };
+    while let Some((_, left)) = left_of(place.tree) {
+        forms.push(place.tree)?;
+        place = Place { tree: left };
+    }
+    Ok(place.tree)
+}
+
+// What stands behind the left operand of a form.
 #[cycle(as_read)]
-#[tactic(auto, using(crate::proofs::Pushing::puts, crate::proofs::Fronts::kept))]
-fn put_two<'a>(two: &Two<'a>, out: &mut Vec<Piece<'a>>) -> Result<(), AllocError>
+#[tactic(auto, using(crate::proofs::Flat::behinds, crate::proofs::Fronts::kept))]
+fn put_behind<'a>(form: &Tree<'a>, out: &mut Vec<Piece<'a>>) -> Result<(), AllocError>
     ensures put { OnOk result (map piece_token out.new.items
-        ≡ map piece_token out.old.items ++ (flat two.now.front ++ flat two.now.back)) }
+        ≡ map piece_token out.old.items ++ behind_read form.now) }
     ensures keeps { Keeps out.old.items out.new.items }
 {
-    put_as_read(&two.front, out)?;
-    put_as_read(&two.back, out)
+    if let Some((_, three)) = infix(form) {
+        put_as_read(&three.own, out)?;
+        return put_as_read(&three.right, out);
+    }
+    match back(form) {
+        Some((_, two)) => put_as_read(&two.back, out),
+        None => Ok(()),
+    }
+}
+
+// What stands behind the innermost of forms, each of which is the left operand of the one before it.
+#[cycle(as_read)]
+#[tactic(auto, using(crate::proofs::Pushing::puts, crate::proofs::Fronts::kept))]
+fn put_behinds<'a>(forms: &[&Tree<'a>], out: &mut Vec<Piece<'a>>) -> Result<(), AllocError>
+    ensures put { OnOk result (map piece_token out.new.items
+        ≡ map piece_token out.old.items ++ behind_lefts_read (map (λ x. x.now) forms.now)) }
+    ensures keeps { Keeps out.old.items out.new.items }
+{
+    let mut left = forms.len();
+    while left > 0 {
+        left -= 1;
+        put_behind(forms[left], out)?;
+    }
+    Ok(())
+}
+
+// The tokens of a left operand.
+#[cycle(as_read)]
+#[tactic(auto, using(crate::proofs::Pushing::puts, crate::proofs::Fronts::kept))]
+fn put_left<'a>(tree: &Tree<'a>, out: &mut Vec<Piece<'a>>) -> Result<(), AllocError>
+    ensures put { OnOk result (map piece_token out.new.items ≡ map piece_token out.old.items ++ flat tree.now) }
+    ensures keeps { Keeps out.old.items out.new.items }
+{
+    let mut forms = Vec::new(*out.allocator());
+    let inner = leftmost(tree, &mut forms)?;
+    put_as_read(inner, out)?;
+    put_behinds(forms.as_slice(), out)
 }
 
 // The tokens of turns, one behind the other.

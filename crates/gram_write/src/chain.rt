@@ -12,6 +12,7 @@ ghost use denote.Param.Weighed.{most};
 use crate::expressed::{put_if, put_operand, put_own};
 use crate::laid::put_laid;
 use crate::operand::{back, giving, infix};
+use crate::place::Place;
 use crate::shell::{goes_in, is_lone_range};
 use crate::within::Within;
 use gram_piece::piece::Piece;
@@ -19,13 +20,6 @@ use gram_table::kind::Kind;
 use gram_tree::tree::{Form, Tree};
 use proc_macro2::delimiter::Delimiter;
 use std::alloc::AllocError;
-
-// A place among operands that stand one left of the other.
-#[derive(Clone, Copy)]
-struct Place<'t, 'a> {
-    // The operand.
-    tree: &'t Tree<'a>,
-}
 
 // Which left operands are passed.
 #[derive(Clone, Copy)]
@@ -36,9 +30,9 @@ enum Lefts<'t, 'a> {
     Given(&'t Tree<'a>),
 }
 
-// Of a form with an operand before it its kind and that operand.
+/// Of a form with an operand before it its kind and that operand.
 #[tactic(auto, using(gram_tree::proofs::Shapes::singles))]
-fn left_of<'t, 'a>(tree: &'t Tree<'a>) -> Option<(Kind, &'t Tree<'a>)>
+pub(crate) fn left_of<'t, 'a>(tree: &'t Tree<'a>) -> Option<(Kind, &'t Tree<'a>)>
     ensures { option_map (λ p. (kind_of p.0, p.1.now)) result ≡ left_of tree.now }
 {
     match &tree.form {

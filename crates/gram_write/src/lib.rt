@@ -5,7 +5,7 @@
 //! statements a raw item's last mark is set apart. `specs/Laid` has the tokens of the normal form of what was read, in
 //! terms of what was read; `specs/Seen` and `specs/Operands` what is seen in a tree for that, and `specs/Way` the ways
 //! in which its nodes and parts are written; `specs/Chains` what is written behind operands that stand one left of the
-//! other, and `specs/Front` what stays in front of what is put. Which operands are put in parentheses is said in
+//! other, `specs/Tails` of what a tree ends with, and `specs/Front` what stays in front of what is put. Which operands are put in parentheses is said in
 //! `range_laws`.
 //!
 //! In `proofs/`, in this order: `Dots` (numbers behind dots, and forms), `OfKinds` and `Bare` (kinds one by one),
@@ -25,6 +25,7 @@
 //! - `seen`: what decides how a part is written.
 //! - `way`: the way in which a node, a part and what stands behind a left operand are written.
 //! - `operand`: forms with an operand before them, and statements that are expressions.
+//! - `place`: a place in a tree.
 //! - `shell`: which operands are put in parentheses.
 //! - `begun`: whether what was read begins with a parenthesis.
 //! - `opened`: whether an expression or a statement begins with one that is added.
@@ -45,6 +46,7 @@ mod laid;
 pub mod laws;
 mod opened;
 mod operand;
+mod place;
 mod put;
 pub mod seen;
 mod shell;

@@ -6,7 +6,7 @@ ghost use Rattle.gram_table.specs.Words.{sign_text};
 ghost use Rattle.gram_tree.specs.Forms.{mark_of};
 ghost use Rattle.gram_write.specs.Front.{Keeps};
 ghost use Rattle.proc_macro2.specs.Token as token;
-ghost use Rattle.rust_leaf.specs.Leaf.{ident_text};
+ghost use Rattle.rust_leaf.specs.Leaf.{ident_text, literal_text};
 ghost use Rattle.rust_leaf.specs.declared.punct.Spacing.TheVariants.{Alone as Apart, Joint};
 ghost use Rattle.std.specs.Prelude.{◌≡◌, ◌++◌, ◌∷◌, [], OnOk, cond, map};
 ghost use Rattle.syn_buffer.specs.Entries.{entry_token};
@@ -15,7 +15,9 @@ ghost use Rattle.syn_grammar.specs.Tree.{flat, marks};
 use gram_piece::piece::Piece;
 use gram_table::op::Separator;
 use gram_table::word::Sign;
+use proc_macro2::delimiter::Delimiter;
 use rust_leaf::ident::Ident;
+use rust_leaf::literal::Literal;
 use rust_leaf::punct::Spacing;
 use std::alloc::AllocError;
 use syn_buffer::entry::Entry;
@@ -29,6 +31,42 @@ pub(crate) fn one<'a>(piece: Piece<'a>, out: &mut Vec<Piece<'a>>) -> Result<(), 
 {
     out.push(piece)?;
     Ok(())
+}
+
+// An identifier or a keyword.
+pub(crate) fn ident<'a>(ident: &'a Ident, out: &mut Vec<Piece<'a>>) -> Result<(), AllocError>
+    ensures put { OnOk result (map piece_token out.new.items
+        ≡ map piece_token out.old.items ++ token.Ident (ident_text ident.now) ∷ []) }
+    ensures keeps { Keeps out.old.items out.new.items }
+{
+    one(Piece::Ident(ident), out)
+}
+
+// A literal.
+pub(crate) fn literal<'a>(literal: &'a Literal, out: &mut Vec<Piece<'a>>) -> Result<(), AllocError>
+    ensures put { OnOk result (map piece_token out.new.items
+        ≡ map piece_token out.old.items ++ token.Literal (literal_text literal.now) ∷ []) }
+    ensures keeps { Keeps out.old.items out.new.items }
+{
+    one(Piece::Literal(literal), out)
+}
+
+// A group opens.
+pub(crate) fn opening<'a>(delimiter: Delimiter, out: &mut Vec<Piece<'a>>) -> Result<(), AllocError>
+    ensures put { OnOk result (map piece_token out.new.items
+        ≡ map piece_token out.old.items ++ token.Opens delimiter ∷ []) }
+    ensures keeps { Keeps out.old.items out.new.items }
+{
+    one(Piece::Open(delimiter), out)
+}
+
+// A group closes.
+pub(crate) fn closing<'a>(delimiter: Delimiter, out: &mut Vec<Piece<'a>>) -> Result<(), AllocError>
+    ensures put { OnOk result (map piece_token out.new.items
+        ≡ map piece_token out.old.items ++ token.Closes delimiter ∷ []) }
+    ensures keeps { Keeps out.old.items out.new.items }
+{
+    one(Piece::Close(delimiter), out)
 }
 
 // Tokens that were read.

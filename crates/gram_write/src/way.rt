@@ -6,6 +6,7 @@ ghost use Rattle.gram_write.specs.Laid.{laid, laid_in, within_impl};
 ghost use Rattle.gram_write.specs.Way.{dotted_of, indices_of, is_bare_angled, is_dotted, last_text, passes};
 ghost use Rattle.gram_write.specs.Way.{value_text, way_laid};
 ghost use Rattle.rust_leaf.specs.Leaf.{literal_text};
+ghost use Rattle.std.specs.Bool.{OnFalse};
 ghost use Rattle.std.specs.List.{list_any};
 ghost use Rattle.std.specs.Prelude.{[], ◌≡◌, cond, not, option_map};
 ghost use Rattle.syn_grammar.specs.Kind.{Index, Member};
@@ -114,6 +115,27 @@ fn of_member<'a>(inner: &Tree<'a>) -> Way<'a>
     match literal(number) {
         Some(literal) => Way::Number(literal),
         None => Way::Parts(Within::Anywhere),
+    }
+}
+
+/// Whether the inside of a kind has a way of its own, as those of most have not: they are written as they stand.
+#[tactic(auto, using(crate::proofs::WayForms::nodes))]
+pub(crate) fn has_way(kind: Kind) -> bool
+    ensures { OnFalse result ((x : GivenTree) → laid x ≡ laid (t.Node (kind_of kind) x)) }
+{
+    match kind {
+        Kind::Parameter => true,
+        Kind::AStatement => true,
+        Kind::Member => true,
+        Kind::Index => true,
+        Kind::Where => true,
+        Kind::Generics => true,
+        Kind::BoundsColon => true,
+        Kind::LifetimeColon => true,
+        Kind::GenericParams => true,
+        Kind::Arguments => true,
+        Kind::AnImpl => true,
+        _ => false,
     }
 }
 

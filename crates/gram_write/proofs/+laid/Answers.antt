@@ -1,6 +1,6 @@
-use Rattle.std.specs.Prelude.{Bool, List, [], ◌∷◌, OnOk, Some, None, true, false, cond, not}
+use Rattle.std.specs.Prelude.{Bool, List, [], ◌∷◌, IfOk, OnOk, Some, None, true, false, cond, not}
 use Rattle.std.specs.List.{list_any}
-use Rattle.std.proofs.Common.{append_assoc, arith, ap, subst, sym, refl, rules, ◌≡◌, ◌∙◌, ◌+◌, ◌-◌, ◌++◌, drop, length, map, take}
+use Rattle.std.proofs.Common.{append_assoc, arith, ap, inl, inr, subst, sym, refl, rules, ◌≡◌, ◌∙◌, ◌+◌, ◌-◌, ◌++◌, drop, length, map, take}
 use Rattle.std.proofs.lemmas.List.{take_all}
 use Rattle.std.proofs.lemmas.Result.{on_ok_weaker}
 use Rattle.std.proofs.lemmas.Grind.{common_steps}
@@ -24,9 +24,11 @@ use Rattle.gram_write.specs.Chains.{behind_lefts}
 use Rattle.gram_write.specs.Laid.{firsts_laid, given_laid, laid, laid_in, others_laid, those_laid}
 use Rattle.gram_write.specs.Said.{fields, front_fields}
 use Rattle.gram_write.specs.Operands.{giving_of, stated_of}
-use Rattle.gram_write.specs.Way.{dotted_of, is_dotted, last_text, passes, way_laid}
+use Rattle.gram_write.specs.Tails.{left_laid}
+use Rattle.gram_write.specs.Way.{dotted_of, is_dotted, last_text, passes}
 use Rattle.gram_write.proofs.Chains.{forms_more, given_put, step_out}
 use Rattle.gram_write.proofs.Fronts.{keeps_both, keeps_same, keeps_taken}
+use Rattle.gram_write.proofs.Inside.{first_below, last_below, second_below}
 use Rattle.gram_write.proofs.Laying.{firsts_passing, four_put, node_same, others_next, others_skip, those_next}
 use Rattle.gram_write.proofs.Laying.{those_skip}
 use Rattle.gram_write.proofs.Operands.{stated_below}
@@ -39,15 +41,15 @@ use Rattle.gram_write.proofs.+laid.Goals.{laid::put_those-then-passes+in_ok-put_
 use Rattle.gram_write.proofs.+laid.Goals.{laid::put_those-else-passes}
 
 -- what is called is smaller
-pub laid::put_laid-put_turns-requires : goal.laid::put_laid-put_turns-requires
-laid::put_laid-put_turns-requires n c =
-    let view : c.args.tree.now ≡ turns c.in-Turns.turns.now = sym c.tree.view_is ∙ ap tree_of c.in-Turns.is in
-    omega (arith, c.decreases, turns_size c.in-Turns.turns.now, ap node_count view, tree_size c.args.tree.now)
+pub laid::step-put_turns-requires : goal.laid::step-put_turns-requires
+laid::step-put_turns-requires n c =
+    let view : c.args.tail.tree.now ≡ turns c.in-Turns.turns.now = sym c.tree.view_is ∙ ap tree_of c.in-Turns.is in
+    omega (arith, c.decreases, turns_size c.in-Turns.turns.now, ap node_count view)
 
-pub laid::put_laid-put_elements-requires : goal.laid::put_laid-put_elements-requires
-laid::put_laid-put_elements-requires n c =
-    let below = list_below c.in-Elements.list.now c.args.tree.now (sym c.tree.view_is ∙ ap tree_of c.in-Elements.is) in
-    omega (arith, c.decreases, below)
+pub laid::step-put_elements-requires : goal.laid::step-put_elements-requires
+laid::step-put_elements-requires n c =
+    let is = sym c.tree.view_is ∙ ap tree_of c.in-Elements.is in
+    omega (arith, c.decreases, list_below c.in-Elements.list.now c.args.tail.tree.now is, tree_size c.args.tail.tree.now)
 
 pub laid::put_firsts-put_those-requires : goal.laid::put_firsts-put_those-requires
 laid::put_firsts-put_those-requires n c =
@@ -69,12 +71,6 @@ laid::put_firsts-put_others-requires-else-passes n c =
     let is = sym c.list.view_is ∙ ap tree_of c.in-Elements.is in
     omega (arith, c.decreases, list_below c.in-Elements.elements.now c.args.list.now is)
 
-pub laid::put_two-put_laid-requires : goal.laid::put_two-put_laid-requires
-laid::put_two-put_laid-requires n c = omega (arith, c.decreases, tree_size c.args.two.now.front)
-
-pub laid::put_two-put_laid-requires-2 : goal.laid::put_two-put_laid-requires-2
-laid::put_two-put_laid-requires-2 n c = omega (arith, c.decreases, tree_size c.args.two.now.back)
-
 pub laid::put_elements-put_laid-requires : goal.laid::put_elements-put_laid-requires
 laid::put_elements-put_laid-requires n c =
     let below = element_in c.args.before.now c.loop-element.element-index c.element-item.result
@@ -93,26 +89,41 @@ laid::put_others-put_laid-requires n c =
     c.loop-element-test.true c.element-item.is in
     omega (arith, c.decreases, below)
 
--- what is put one behind the other
-pub laid::put_laid-returns-in-Called-clause-put : goal.laid::put_laid-returns-in-Called-clause-put
-laid::put_laid-returns-in-Called-clause-put n c =
-    let way : way_laid c.of_part.result c.in-Called.inner.now
-    ≡ laid_in c.args.within (t.Called (part_of c.in-Called.part) c.in-Called.inner.now) = search rules in
-    let view : c.args.tree.now ≡ t.Called (part_of c.in-Called.part) c.in-Called.inner.now =
-    sym c.tree.view_is ∙ ap tree_of c.in-Called.is in
-    subst (λ (ts : List Token). OnOk c.put_so.result (map piece_token c.put_so.new.out.items
-    ≡ map piece_token c.args.out.now.items ++ ts))
-    (way ∙ ap (λ x. laid_in c.args.within x) (sym view)) c.put_so.ensures.put
+-- what is left is smaller
+pub laid::step-returns-in-Some-clause-inside : goal.laid::step-returns-in-Some-clause-inside
+laid::step-returns-in-Some-clause-inside n c =
+    let m = separator_of c.in-Elements.list.now.separator in
+    let es : List Element = c.in-Elements.list.now.before.now in
+    let view : c.args.tail.tree.now ≡ elements m es (t.Final c.in-Some.last.now) =
+    sym c.tree.view_is ∙ ap tree_of c.in-Elements.is
+    ∙ ap (λ o. elements m es (ending (λ b. b.now) o)) c.in-Some.is in
+    last_below m es c.in-Some.last.now c.args.tail.tree.now view
 
-pub laid::put_laid-returns-in-Node-clause-put : goal.laid::put_laid-returns-in-Node-clause-put
-laid::put_laid-returns-in-Node-clause-put n c =
+pub laid::step-returns-in-First-clause-inside : goal.laid::step-returns-in-First-clause-inside
+laid::step-returns-in-First-clause-inside n c =
+    let x : Tree = c.in-First.inner.now in
+    let y : Tree = c.args.tail.tree.now in
+    elim c.in-First.is [
+      | inl w ↦ first_below w.0 x y (sym c.tree.view_is ∙ ap tree_of w.1)
+      | inr w ↦ second_below w.0 x y (sym c.tree.view_is ∙ ap tree_of w.1)
+    ]
+
+-- what is put one behind the other
+pub laid::step-returns-in_default-clause-put : goal.laid::step-returns-in_default-clause-put
+laid::step-returns-in_default-clause-put n c =
+    let view : c.args.tail.tree.now ≡ t.Called (part_of c.in-Called.part) c.in-Called.inner.now =
+    sym c.tree.view_is ∙ ap tree_of c.in-Called.is in
+    subst (λ (x : Tree). IfOk c.put_part.result (λ left. map piece_token c.put_part.new.out.items ++ left_laid left
+    ≡ map piece_token c.args.out.now.items ++ laid_in c.args.tail.within x)) (sym view) c.put_part.ensures.put
+
+pub laid::step-returns-then-has_way-clause-put : goal.laid::step-returns-then-has_way-clause-put
+laid::step-returns-then-has_way-clause-put n c =
     let k = kind_of c.in-Node.kind in
-    let way : way_laid c.of_node.result c.in-Node.inner.now ≡ laid (t.Node k c.in-Node.inner.now) = search rules in
-    let view : c.args.tree.now ≡ t.Node k c.in-Node.inner.now = sym c.tree.view_is ∙ ap tree_of c.in-Node.is in
-    subst (λ (ts : List Token). OnOk c.put_so-in-Node.result (map piece_token c.put_so-in-Node.new.out.items
-    ≡ map piece_token c.args.out.now.items ++ ts))
-    (way ∙ sym (node_same c.args.within k c.in-Node.inner.now) ∙ ap (λ x. laid_in c.args.within x) (sym view))
-    c.put_so-in-Node.ensures.put
+    let view : c.args.tail.tree.now ≡ t.Node k c.in-Node.inner.now = sym c.tree.view_is ∙ ap tree_of c.in-Node.is in
+    subst (λ (ts : List Token). IfOk c.put_node.result (λ left. map piece_token c.put_node.new.out.items
+    ++ left_laid left ≡ map piece_token c.args.out.now.items ++ ts))
+    (sym (node_same c.args.tail.within k c.in-Node.inner.now) ∙ ap (λ x. laid_in c.args.tail.within x) (sym view))
+    c.put_node.ensures.put
 
 pub laid::put_firsts-returns-in_ok-comma-clause-put : goal.laid::put_firsts-returns-in_ok-comma-clause-put
 laid::put_firsts-returns-in_ok-comma-clause-put n c =
@@ -241,8 +252,8 @@ expressed::put_back-put_operand-requires n c = omega (arith, c.decreases, tree_s
 pub expressed::put_back-put_own-requires : goal.expressed::put_back-put_own-requires
 expressed::put_back-put_own-requires n c = omega (arith, c.decreases, tree_size c.args.two.now.back)
 
-pub expressed::put_infix-put_operand-requires : goal.expressed::put_infix-put_operand-requires
-expressed::put_infix-put_operand-requires n c = omega (arith, c.decreases, tree_size c.args.three.now.left)
+pub expressed::put_left-put_operand-requires : goal.expressed::put_left-put_operand-requires
+expressed::put_left-put_operand-requires n c = omega (arith, c.decreases, tree_size c.args.three.now.left)
 
 pub expressed::put_statement-put_laid-requires-2 : goal.expressed::put_statement-put_laid-requires-2
 expressed::put_statement-put_laid-requires-2 n c =

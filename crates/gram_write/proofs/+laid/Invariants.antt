@@ -3,17 +3,28 @@ use Rattle.std.proofs.Common.{◌≡◌, ◌+◌, ◌*◌, ◌++◌, ◌≤◌, 
 use denote.Param.Weighed.{most}
 use Rattle.gram_piece.specs.Pieces.{piece_token}
 use Rattle.gram_table.specs.Ops.{separator_of}
-use Rattle.gram_tree.specs.declared.tree.Tree.TheDeep.{size-Tree}
+use Rattle.gram_tree.specs.declared.tree.Tree.TheDeep.{size-Tree, size-Element}
 use Rattle.gram_tree.specs.Forms.{elements, turns}
 use Rattle.gram_tree.specs.Size.{node_count}
 use Rattle.syn_grammar.specs.Tree as t
 use Rattle.gram_write.specs.Chains.{behind_lefts}
 use Rattle.gram_write.specs.Front.{Keeps}
-use Rattle.gram_write.specs.Laid.{laid, others_laid, those_laid}
+use Rattle.gram_write.specs.Laid.{laid, laid_in, others_laid, those_laid}
 use Rattle.gram_write.specs.Way.{passes}
 use Rattle.gram_write.proofs.+laid.Given as goal
 
 -- the old ones stand in front, and what is left is to stand behind what is put
+abbrev pub invariant-laid::put_laid-loop-left : goal.invariant-laid::put_laid-loop-left
+invariant-laid::put_laid-loop-left l = record {
+  kept : Keeps l.fn.out.items l.out.items;
+  put : map piece_token l.out.items ++ laid_in l.tail.within l.tail.tree.now
+      ≡ map piece_token l.fn.out.items ++ laid_in l.fn.within l.fn.tree;
+  inside : size-Tree l.tail.tree.now ≤ size-Tree l.fn.tree;
+}
+
+abbrev pub decreases-laid::put_laid-loop-left : goal.decreases-laid::put_laid-loop-left
+decreases-laid::put_laid-loop-left l = size-Tree l.tail.tree.now
+
 abbrev pub invariant-turn::put_turns-loop-index : goal.invariant-turn::put_turns-loop-index
 invariant-turn::put_turns-loop-index l = record {
   kept : Keeps l.initial.out.items l.out.items;
@@ -58,57 +69,74 @@ invariant-chain::put_behinds-loop-left l = record {
 abbrev pub decreases-chain::put_behinds-loop-left : goal.decreases-chain::put_behinds-loop-left
 decreases-chain::put_behinds-loop-left l = l.left
 
--- what is handed on is read anew by those that it is handed to
-abbrev pub decreases-turn::put_turns : goal.decreases-turn::put_turns
-decreases-turn::put_turns l = most (λ x. size-Tree x) l.trees.now + 2
+-- a step takes less than the tree, and more than what it hands on
+abbrev pub decreases-laid::put_laid : goal.decreases-laid::put_laid
+decreases-laid::put_laid l = 2 * size-Tree l.tree.now
 
-abbrev pub decreases-turn::put_turn : goal.decreases-turn::put_turn
-decreases-turn::put_turn l = size-Tree l.turn.now + 1
+abbrev pub decreases-laid::step : goal.decreases-laid::step
+decreases-laid::step l = 8 * node_count l.tail.tree.now + 7
 
-abbrev pub decreases-laid::put_two : goal.decreases-laid::put_two
-decreases-laid::put_two l = 4 * (node_count l.two.now.front + node_count l.two.now.back) + 7
+abbrev pub decreases-laid::put_part : goal.decreases-laid::put_part
+decreases-laid::put_part l = 2 * size-Tree l.inner.now + 3
+
+abbrev pub decreases-laid::put_node : goal.decreases-laid::put_node
+decreases-laid::put_node l = 2 * size-Tree l.inner.now + 3
 
 abbrev pub decreases-laid::put_so : goal.decreases-laid::put_so
-decreases-laid::put_so l = size-Tree l.inner.now + 2
+decreases-laid::put_so l = 2 * size-Tree l.inner.now + 2
 
 abbrev pub decreases-laid::put_parameter : goal.decreases-laid::put_parameter
-decreases-laid::put_parameter l = size-Tree l.inner.now + 1
+decreases-laid::put_parameter l = 2 * size-Tree l.inner.now + 1
 
 abbrev pub decreases-laid::put_firsts : goal.decreases-laid::put_firsts
-decreases-laid::put_firsts l = size-Tree l.list.now + 1
+decreases-laid::put_firsts l = 2 * size-Tree l.list.now + 1
+
+abbrev pub decreases-laid::put_elements : goal.decreases-laid::put_elements
+decreases-laid::put_elements l = 2 * most (λ x. size-Element x) l.before.now
+
+abbrev pub decreases-laid::put_those : goal.decreases-laid::put_those
+decreases-laid::put_those l = 2 * most (λ x. size-Element x) l.before.now
+
+abbrev pub decreases-laid::put_others : goal.decreases-laid::put_others
+decreases-laid::put_others l = 2 * most (λ x. size-Element x) l.before.now
+
+abbrev pub decreases-turn::put_turns : goal.decreases-turn::put_turns
+decreases-turn::put_turns l = 2 * most (λ x. size-Tree x) l.trees.now + 2
+
+abbrev pub decreases-turn::put_turn : goal.decreases-turn::put_turn
+decreases-turn::put_turn l = 2 * size-Tree l.turn.now + 1
 
 abbrev pub decreases-expressed::put_statement : goal.decreases-expressed::put_statement
-decreases-expressed::put_statement l = size-Tree l.inner.now + 1
+decreases-expressed::put_statement l = 2 * size-Tree l.inner.now + 1
 
 abbrev pub decreases-expressed::put_before : goal.decreases-expressed::put_before
-decreases-expressed::put_before l = size-Tree l.before.now + size-Tree l.form.now + 3
+decreases-expressed::put_before l = 2 * (size-Tree l.before.now + size-Tree l.form.now) + 3
 
 abbrev pub decreases-expressed::put_operand : goal.decreases-expressed::put_operand
-decreases-expressed::put_operand l = size-Tree l.tree.now + 2
+decreases-expressed::put_operand l = 2 * size-Tree l.tree.now + 2
 
 abbrev pub decreases-expressed::put_own : goal.decreases-expressed::put_own
-decreases-expressed::put_own l = size-Tree l.own.now + 1
+decreases-expressed::put_own l = 2 * size-Tree l.own.now + 1
 
 -- an operand, in parentheses or not, is put by another
 abbrev pub decreases-expressed::put_front : goal.decreases-expressed::put_front
-decreases-expressed::put_front l = 4 * (node_count l.two.now.front + node_count l.two.now.back) + 7
+decreases-expressed::put_front l = 8 * (node_count l.two.now.front + node_count l.two.now.back) + 14
 
 abbrev pub decreases-expressed::put_back : goal.decreases-expressed::put_back
-decreases-expressed::put_back l = 4 * (node_count l.two.now.front + node_count l.two.now.back) + 7
+decreases-expressed::put_back l = 8 * (node_count l.two.now.front + node_count l.two.now.back) + 14
 
-abbrev pub decreases-expressed::put_infix : goal.decreases-expressed::put_infix
-decreases-expressed::put_infix l =
-    4 * (node_count l.three.now.left + node_count l.three.now.own + node_count l.three.now.right) + 7
+abbrev pub decreases-expressed::put_left : goal.decreases-expressed::put_left
+decreases-expressed::put_left l = 8 * (node_count l.three.now.left + node_count l.three.now.own) + 14
 
 -- operands that stand one left of the other
 abbrev pub decreases-chain::put_chain : goal.decreases-chain::put_chain
-decreases-chain::put_chain l = size-Tree l.tree.now + 1
+decreases-chain::put_chain l = 2 * size-Tree l.tree.now + 1
 
 abbrev pub decreases-chain::put_behinds : goal.decreases-chain::put_behinds
-decreases-chain::put_behinds l = most (λ x. size-Tree x.now) l.forms.now
+decreases-chain::put_behinds l = 2 * most (λ x. size-Tree x.now) l.forms.now
 
 abbrev pub decreases-chain::put_behind : goal.decreases-chain::put_behind
-decreases-chain::put_behind l = 4 * node_count l.form.now + 3
+decreases-chain::put_behind l = 8 * node_count l.form.now + 7
 
 abbrev pub decreases-chain::put_given : goal.decreases-chain::put_given
-decreases-chain::put_given l = size-Tree l.attributes.now + size-Tree l.tree.now + 2
+decreases-chain::put_given l = 2 * (size-Tree l.attributes.now + size-Tree l.tree.now) + 2
