@@ -1,6 +1,7 @@
 pub mod Groups
 pub mod Leaves
 pub mod Outs
+pub mod Pendings
 pub mod Says
 pub mod Turns
 pub mod Elements

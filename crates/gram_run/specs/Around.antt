@@ -2,7 +2,6 @@
 use Rattle.std.specs.Prelude.{true, false}
 use Rattle.syn_grammar.specs.Tree as t
 use Rattle.syn_grammar.specs.Tree.{Tree}
-use Rattle.gram_table.specs.Kinds.{kind_of}
 use Rattle.syn_grammar.specs.Run.{Out, ◌>>=◌, judge}
 use Rattle.gram_table.specs.Verdicts.{verdict_of}
 use Rattle.gram_table.specs.declared.op.Verdicts.{Verdicts}
@@ -17,7 +16,6 @@ around_of (arounds.Chosen n true) x = seconds n (t.First x)
 around_of (arounds.Chosen n false) x = seconds n x
 around_of arounds.Dropped x = t.Dropped x
 around_of (arounds.Called p) x = t.Called (part_of p) x
-around_of (arounds.Node k) x = t.Node (kind_of k) x
 around_of arounds.Whole x = t.Whole x
 
 abbrev pub judged_as : Verdicts → Out → Out

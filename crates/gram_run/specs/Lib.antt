@@ -1,4 +1,5 @@
 pub mod Answers
 pub mod Around
 pub mod Operands
+pub mod Pending
 pub mod Places

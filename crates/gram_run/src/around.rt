@@ -1,15 +1,14 @@
 //! What is made of a tree that was read.
 
-ghost use Rattle.gram_run.specs.Answers.{Fails, Gives};
+ghost use Rattle.gram_run.specs.Answers.{Gives, tokens};
 ghost use Rattle.gram_run.specs.Around.{around_of, judged_as};
 ghost use Rattle.std.specs.Prelude.{◌≡◌, IfOk, IsTrue};
 ghost use Rattle.syn_buffer.specs.Entries.{is_whole};
-ghost use Rattle.syn_grammar.specs.Run.{Out, wrap};
+ghost use Rattle.syn_grammar.specs.Run.{Got, Out, wrap};
 
 use crate::refusal::Refusal;
 use crate::rules::{Rules, Verdict};
-use crate::unfit::{named, unfit};
-use gram_table::kind::Kind;
+use crate::unfit::unfit;
 use gram_table::op::Verdicts;
 use gram_table::part::Part;
 use gram_tree::arena::Arena;
@@ -28,14 +27,16 @@ pub(crate) enum Around {
     Dropped,
     /// It is a part, by its name.
     Called(Part),
-    /// It is a node of a kind.
-    Node(Kind),
     /// It is an expression.
     Whole,
 }
 
-// The tree with that around it.
-fn surrounded<'a>(arena: &'a Arena, around: Around, tree: Tree<'a>) -> Result<Tree<'a>, AllocError>
+/// The tree with that around it.
+pub(crate) fn surrounded<'a>(
+    arena: &'a Arena,
+    around: Around,
+    tree: Tree<'a>,
+) -> Result<Tree<'a>, AllocError>
     ensures { IfOk result (λ x. x ≡ around_of around tree.entry) }
 {
     match around {
@@ -43,26 +44,14 @@ fn surrounded<'a>(arena: &'a Arena, around: Around, tree: Tree<'a>) -> Result<Tr
         Around::Chosen(count, false) => made::seconds(arena, count, tree),
         Around::Dropped => made::dropped(arena, tree),
         Around::Called(part) => made::called(arena, part, tree),
-        Around::Node(kind) => made::node(arena, kind, tree),
         Around::Whole => made::whole(arena, tree),
     }
 }
 
-// What was refused, said of what was to stand around it, where no token of that stands there.
-fn around_wanted(around: Around, at: &[Entry<'_>], refusal: Refusal) -> Refusal
-    ensures { (o : Out) → Fails refusal o → Fails result o }
-{
-    match around {
-        Around::Node(kind) => named(kind, at, refusal),
-        _ => refusal,
-    }
-}
-
-/// What was read, from there on, with that around it.
+/// What was read, with that around it.
 pub(crate) fn surround<'a>(
     arena: &'a Arena,
     around: Around,
-    at: &[Entry<'_>],
     inner: Result<(Tree<'a>, &'a [Entry<'a>]), Refusal>,
 ) -> Result<(Tree<'a>, &'a [Entry<'a>]), Refusal>
     requires { IfOk inner (λ x. IsTrue (is_whole x.1.now)) }
@@ -70,10 +59,8 @@ pub(crate) fn surround<'a>(
         → Gives (λ x. x.0) (λ x. x.1.now) result (wrap (around_of around) o) }
     ensures whole { IfOk result (λ x. IsTrue (is_whole x.1.now)) }
 {
-    match inner {
-        Ok((tree, rest)) => Ok((surrounded(arena, around, tree)?, rest)),
-        Err(refusal) => Err(around_wanted(around, at, refusal)),
-    }
+    let (tree, rest) = inner?;
+    Ok((surrounded(arena, around, tree)?, rest))
 }
 
 /// What was read, as it is judged.
@@ -82,14 +69,14 @@ pub(crate) fn judged<'a, R: Rules>(
     rules: &R,
     arena: &'a Arena,
     verdicts: Verdicts,
-    inner: Result<(Tree<'a>, &'a [Entry<'a>]), Refusal>,
+    tree: Tree<'a>,
+    rest: &'a [Entry<'a>],
 ) -> Result<(Tree<'a>, &'a [Entry<'a>]), Refusal>
-    requires { IfOk inner (λ x. IsTrue (is_whole x.1.now)) }
-    ensures answer { (o : Out) → Gives (λ x. x.0) (λ x. x.1.now) inner.entry o
-        → Gives (λ x. x.0) (λ x. x.1.now) result (judged_as verdicts o) }
+    requires { IsTrue (is_whole rest.now) }
+    ensures answer { Gives (λ x. x.0) (λ x. x.1.now) result
+        (judged_as verdicts (Got tree.entry (tokens rest.now))) }
     ensures whole { IfOk result (λ x. IsTrue (is_whole x.1.now)) }
 {
-    let (tree, rest) = inner?;
     match rules.judge(verdicts, &tree) {
         Verdict::Keep => Ok((made::first(arena, tree)?, rest)),
         Verdict::AsRaw => Ok((made::verbatim(arena, tree)?, rest)),

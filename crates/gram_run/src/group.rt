@@ -4,9 +4,9 @@ ghost use Rattle.gram_run.specs.Answers.{Fails, Gives, tokens};
 ghost use Rattle.gram_run.specs.Places.{closed_by};
 ghost use Rattle.proc_macro2.specs.Groups.{same_delimiter};
 ghost use Rattle.proc_macro2.specs.Token.{Token};
-ghost use Rattle.std.specs.Prelude.{◌≡◌, Err, IfErr, IfOk, IfSome, IsTrue, List, MatchOption};
+ghost use Rattle.std.specs.Prelude.{◌≡◌, IfOk, IfSome, IsTrue, List, MatchOption};
 ghost use Rattle.syn_buffer.specs.Entries.{is_whole};
-ghost use Rattle.syn_grammar.specs.Run.{Out, Refused, group_at, whole};
+ghost use Rattle.syn_grammar.specs.Run.{Got, Out, Refused, group_at, whole};
 
 use crate::refusal::{Refusal, Wrong, refuse_at};
 use crate::unfit::wanted_behind;
@@ -65,8 +65,8 @@ pub(crate) fn enter<'a>(delimiter: Delimiter, at: &'a [Entry<'a>]) -> Option<Ope
     })
 }
 
-// What was refused inside a group of that span: at the end of the inside it stands where the group closes.
-fn closed(refusal: Refusal, span: Span) -> Refusal
+/// What was refused inside a group of that span: at the end of the inside it stands where the group closes.
+pub(crate) fn closed(refusal: Refusal, span: Span) -> Refusal
     ensures fails { (o : Out) → Fails refusal o → Fails result o }
     ensures place { result ≡ closed_by span refusal }
 {
@@ -85,25 +85,18 @@ fn closed(refusal: Refusal, span: Span) -> Refusal
 pub(crate) fn grouped<'a>(
     arena: &'a Arena,
     delimiter: Delimiter,
-    opened: Opened<'a>,
-    inner: Result<(Tree<'a>, &'a [Entry<'a>]), Refusal>,
+    span: Span,
+    behind: &'a [Entry<'a>],
+    inside: Tree<'a>,
+    left: &'a [Entry<'a>],
 ) -> Result<(Tree<'a>, &'a [Entry<'a>]), Refusal>
-    requires { IsTrue (is_whole opened.behind.now) }
-    ensures answer { (o : Out) → Gives (λ x. x.0) (λ x. x.1.now) inner.entry o
-        → Gives (λ x. x.0) (λ x. x.1.now) result (whole delimiter (tokens opened.entry.behind.now) o) }
-    ensures place { IfErr inner.entry (λ e. result ≡ Err (closed_by opened.entry.span e)) }
+    requires { IsTrue (is_whole behind.now) }
+    ensures answer { Gives (λ x. x.0) (λ x. x.1.now) result
+        (whole delimiter (tokens behind.now) (Got inside.entry (tokens left.now))) }
     ensures whole { IfOk result (λ x. IsTrue (is_whole x.1.now)) }
 {
-    match inner {
-        Ok((inside, left)) => {
-            if let Some(entry) = left.first() {
-                return Err(refuse_at(wanted_behind(&inside), entry.span()));
-            }
-            Ok((
-                made::group(arena, delimiter, opened.span, inside)?,
-                opened.behind,
-            ))
-        }
-        Err(refusal) => Err(closed(refusal, opened.span)),
+    if let Some(entry) = left.first() {
+        return Err(refuse_at(wanted_behind(&inside), entry.span()));
     }
+    Ok((made::group(arena, delimiter, span, inside)?, behind))
 }

@@ -2,33 +2,38 @@
 //!
 //! Each function takes how many calls deep it may go, as a run of the grammar does, and answers what that run does.
 //!
-//! Tokens may stand deep in one another, and a program's stack is small. The steps that lead from one form into another
-//! become one function, `interp`; the compiler is told to leave lists, verdicts, marks and what goes on from a left
-//! operand out of it, as it would need their room at each step.
+//! Tokens may stand deep in one another, and a program's stack is small. So what stands last in an entry is read in a
+//! loop, `forward`: the second part of a sequence, the part that is chosen, and the inside of a group, of a node, of a
+//! part, and of what is judged. What is to be made of it is held in one list for the whole run (`pending`), and is made
+//! once the last step has been read (`finish`). Only first parts, turns, elements and operands take a call. The compiler
+//! is told to leave lists and what goes on from a left operand out of that call, as it would need their room each time.
 
 ghost use Rattle.gram_run.specs.Answers.{Gives, tokens};
 ghost use Rattle.gram_run.specs.Around.{around_of, judged_as};
 ghost use Rattle.gram_run.specs.Operands.{made_of, own_of};
+ghost use Rattle.gram_run.specs.Pending.{Leads, made_by, says_at, weight};
 ghost use Rattle.gram_run.specs.declared.around.Around.TheVariants as arounds;
 ghost use Rattle.gram_table.specs.Kinds.{kind_of, position_of};
 ghost use Rattle.gram_table.specs.Looks.{test_of};
 ghost use Rattle.gram_table.specs.Ops.{gram_of, separator_of};
 ghost use Rattle.gram_table.specs.declared.op.Op.TheVariants as ops;
-ghost use Rattle.std.specs.Prelude.{◌∷◌, ◌≡◌, IfOk, IsTrue};
+ghost use Rattle.std.specs.Prelude.{◌≡◌, ◌∷◌, ◌+◌, ◌<◌, IfOk, IsTrue, length};
 ghost use Rattle.syn_buffer.specs.Entries.{is_whole};
-ghost use Rattle.syn_grammar.specs.Gram.{seq as in_row};
-ghost use Rattle.syn_grammar.specs.Run.{climb as goes, interp as says, kind as of_kind, list, loop as again, run};
-ghost use Rattle.syn_grammar.specs.Run.{tower as operand_of, wrap};
+ghost use Rattle.syn_grammar.specs.Run.{Got, Out, climb as goes, interp as says, kind as of_kind, list};
+ghost use Rattle.syn_grammar.specs.Run.{loop as again, run, tower as operand_of, wrap};
 ghost use Rattle.syn_grammar.specs.Tree.{Tree as AnyTree};
 
-use crate::around::{Around, judged, surround};
+use crate::around::{Around, surround};
 use crate::choice::{chosen, halves};
+use crate::finish::finished;
 use crate::form::{begun, extended};
-use crate::group::{enter, grouped};
+use crate::group::enter;
 use crate::leaf;
 use crate::next::{Next, next_of};
+use crate::pending::{Behind, Pending, Spot, Work};
 use crate::refusal::{Refusal, Wanted, refuse};
 use crate::rules::Rules;
+use crate::unfit::named;
 use gram_judge::level::{inside, level as level_of};
 use gram_table::entry::entry;
 use gram_table::kind::{Kind, Position};
@@ -40,7 +45,6 @@ use proc_macro2::delimiter::Delimiter;
 use syn_buffer::entry::Entry;
 
 /// A tree of the kind.
-#[cycle(run)]
 pub(crate) fn call<'a, R: Rules>(
     rules: &R,
     arena: &'a Arena,
@@ -55,197 +59,247 @@ pub(crate) fn call<'a, R: Rules>(
     if fuel == 0 {
         return Err(Refusal::Late);
     }
+    let mut work = Work {
+        arena,
+        pending: Vec::new(arena.alloc()),
+    };
     let steps = entry(kind);
     let _bounded = steps.len();
-    within(rules, arena, Around::Node(kind), steps, at, fuel - 1)
+    match interp(rules, &mut work, steps, at, fuel - 1) {
+        Ok((tree, rest)) => Ok((made::node(arena, kind, tree)?, rest)),
+        Err(refusal) => Err(named(kind, at, refusal)),
+    }
 }
 
 // What the steps say.
 #[cycle(run)]
 fn interp<'a, R: Rules>(
     rules: &R,
-    arena: &'a Arena,
+    work: &mut Work<'a>,
     steps: &'static [Op],
     at: &'a [Entry<'a>],
     fuel: u128,
 ) -> Result<(Tree<'a>, &'a [Entry<'a>]), Refusal>
     requires { IsTrue (is_whole at.now) }
+    ensures kept { work.new.pending.items ≡ work.old.pending.items }
     ensures answer { Gives (λ x. x.0) (λ x. x.1.now) result (says (run fuel) (gram_of steps.now) (tokens at.now)) }
     ensures whole { IfOk result (λ x. IsTrue (is_whole x.1.now)) }
 {
-    let Some((op, parts)) = steps.split_first() else {
-        return Err(refuse(Wanted::Nothing, at));
+    let base = work.pending.len();
+    let spot = Spot {
+        steps,
+        entries: at,
+        fuel,
     };
-    step(rules, arena, *op, parts, at, fuel)
+    let inner = forward(rules, work, spot);
+    finished(rules, work, base, inner)
 }
 
-// What a step says with its parts behind it.
+// What the steps say, but for what is pending from then on.
 #[cycle(run)]
-fn step<'a, R: Rules>(
+fn forward<'a, R: Rules>(
     rules: &R,
-    arena: &'a Arena,
-    op: Op,
-    parts: &'static [Op],
-    at: &'a [Entry<'a>],
-    fuel: u128,
+    work: &mut Work<'a>,
+    begin: Spot<'a>,
 ) -> Result<(Tree<'a>, &'a [Entry<'a>]), Refusal>
-    requires { IsTrue (is_whole at.now) }
-    ensures answer { Gives (λ x. x.0) (λ x. x.1.now) result
-        (says (run fuel) (gram_of (op ∷ parts.now)) (tokens at.now)) }
+    requires { IsTrue (is_whole begin.entries.now) }
+    ensures answer { Leads (λ x. Got x.0 (tokens x.1.now)) work.old.pending.items work.new.pending.items result
+        (says_at begin.entry) }
     ensures whole { IfOk result (λ x. IsTrue (is_whole x.1.now)) }
 {
-    match op {
-        Op::Word(words) => leaf::word(words, at),
-        Op::Literal(literals) => leaf::literal(rules, literals, at),
-        Op::Mark(sign) => leaf::mark(rules, sign, at),
-        Op::Lifetime => leaf::lifetime(at),
-        Op::Raw => Ok(leaf::raw(at)),
-        Op::Nothing => Ok((made::nil(), at)),
-        Op::Never => Err(refuse(Wanted::Nothing, at)),
-        Op::Seq(count) => seq(rules, arena, count, parts, at, fuel),
-        Op::Alt(test, count) => alt(rules, arena, test, count, parts, at, fuel),
-        Op::Star(test) => star(rules, arena, test, parts, at, fuel),
-        Op::Many(test, separator) => many(rules, arena, test, separator, parts, at, fuel),
-        Op::Group(delimiter) => group(rules, arena, delimiter, parts, at, fuel),
-        Op::Judged(verdicts) => weighed(rules, arena, verdicts, parts, at, fuel),
-        Op::Dropped => within(rules, arena, Around::Dropped, parts, at, fuel),
-        Op::Called(part) => within(rules, arena, Around::Called(part), parts, at, fuel),
-        Op::Ref(kind) => call(rules, arena, kind, at, fuel),
-        Op::Operand(position, level) => operand(rules, arena, position, level, at, fuel),
+    let mut spot = begin;
+    'steps: loop {
+        let Some((op, parts)) = spot.steps.split_first() else {
+            return Err(refuse(Wanted::Nothing, spot.entries));
+        };
+        let (at, fuel) = (spot.entries, spot.fuel);
+        match *op {
+            Op::Word(words) => return leaf::word(words, at),
+            Op::Literal(literals) => return leaf::literal(rules, literals, at),
+            Op::Mark(sign) => return leaf::mark(rules, sign, at),
+            Op::Lifetime => return leaf::lifetime(at),
+            Op::Raw => return Ok(leaf::raw(at)),
+            Op::Nothing => return Ok((made::nil(), at)),
+            Op::Never => return Err(refuse(Wanted::Nothing, at)),
+            Op::Star(test) => return star(rules, work, test, parts, at, fuel),
+            Op::Many(test, mark) => return many(rules, work, test, mark, parts, at, fuel),
+            Op::Operand(place, level) => return operand(rules, work, place, level, at, fuel),
+            Op::Seq(count) => spot = seq(rules, work, count, parts, at, fuel)?,
+            Op::Alt(test, count) => spot = alt(rules, work, test, count, parts, at, fuel)?,
+            Op::Group(delimiter) => spot = group(work, delimiter, parts, at, fuel)?,
+            Op::Judged(verdicts) => spot = weighed(work, verdicts, parts, at, fuel)?,
+            Op::Dropped => spot = within(work, Around::Dropped, parts, at, fuel)?,
+            Op::Called(part) => spot = within(work, Around::Called(part), parts, at, fuel)?,
+            Op::Ref(kind) => spot = node(work, kind, at, fuel)?,
+        }
     }
 }
 
-// What the steps say, with that around it.
-#[cycle(run)]
-fn within<'a, R: Rules>(
-    rules: &R,
-    arena: &'a Arena,
+// The steps, of which that is to be made.
+fn to_make<'a>(
+    work: &mut Work<'a>,
+    last: Pending<'a>,
+    steps: &'static [Op],
+    entries: &'a [Entry<'a>],
+    fuel: u128,
+) -> Result<Spot<'a>, Refusal>
+    requires { IsTrue (is_whole entries.now) }
+    ensures answer { (o : Out) → o ≡ made_by last.entry (says (run fuel) (gram_of steps.now) (tokens entries.now))
+        → Leads says_at work.old.pending.items work.new.pending.items result o }
+    ensures whole { IfOk result (λ s. IsTrue (is_whole s.entries.now)) }
+    ensures lighter { IfOk result (λ s. weight s.fuel (length s.steps.now) ≡ weight fuel (length steps.now)) }
+{
+    work.pending.push(last)?;
+    Ok(Spot {
+        steps,
+        entries,
+        fuel,
+    })
+}
+
+// The steps, with that around what they say.
+fn within<'a>(
+    work: &mut Work<'a>,
     around: Around,
     steps: &'static [Op],
     at: &'a [Entry<'a>],
     fuel: u128,
-) -> Result<(Tree<'a>, &'a [Entry<'a>]), Refusal>
+) -> Result<Spot<'a>, Refusal>
     requires { IsTrue (is_whole at.now) }
-    ensures answer { Gives (λ x. x.0) (λ x. x.1.now) result
+    ensures answer { Leads says_at work.old.pending.items work.new.pending.items result
         (wrap (around_of around) (says (run fuel) (gram_of steps.now) (tokens at.now))) }
-    ensures whole { IfOk result (λ x. IsTrue (is_whole x.1.now)) }
+    ensures whole { IfOk result (λ s. IsTrue (is_whole s.entries.now)) }
+    ensures lighter { IfOk result (λ s. weight s.fuel (length s.steps.now) ≡ weight fuel (length steps.now)) }
 {
-    surround(arena, around, at, interp(rules, arena, steps, at, fuel))
+    to_make(work, Pending::Around(around), steps, at, fuel)
+}
+
+// The steps; what they say is judged.
+fn weighed<'a>(
+    work: &mut Work<'a>,
+    verdicts: Verdicts,
+    steps: &'static [Op],
+    at: &'a [Entry<'a>],
+    fuel: u128,
+) -> Result<Spot<'a>, Refusal>
+    requires { IsTrue (is_whole at.now) }
+    ensures answer { Leads says_at work.old.pending.items work.new.pending.items result
+        (judged_as verdicts (says (run fuel) (gram_of steps.now) (tokens at.now))) }
+    ensures whole { IfOk result (λ s. IsTrue (is_whole s.entries.now)) }
+    ensures lighter { IfOk result (λ s. weight s.fuel (length s.steps.now) ≡ weight fuel (length steps.now)) }
+{
+    to_make(work, Pending::Judged(verdicts), steps, at, fuel)
+}
+
+// A node of the kind.
+fn node<'a>(
+    work: &mut Work<'a>,
+    kind: Kind,
+    at: &'a [Entry<'a>],
+    fuel: u128,
+) -> Result<Spot<'a>, Refusal>
+    requires { IsTrue (is_whole at.now) }
+    ensures answer { Leads says_at work.old.pending.items work.new.pending.items result
+        (run fuel (of_kind (kind_of kind)) (tokens at.now)) }
+    ensures whole { IfOk result (λ s. IsTrue (is_whole s.entries.now)) }
+    ensures lighter { IfOk result (λ s. weight s.fuel (length s.steps.now) < weight fuel 0) }
+{
+    if fuel == 0 {
+        return Err(Refusal::Late);
+    }
+    let steps = entry(kind);
+    let _bounded = steps.len();
+    to_make(work, Pending::Node(kind, at), steps, at, fuel - 1)
 }
 
 // The part that is chosen.
-#[cycle(run)]
 fn alt<'a, R: Rules>(
     rules: &R,
-    arena: &'a Arena,
+    work: &mut Work<'a>,
     test: Test,
     count: usize,
     parts: &'static [Op],
     at: &'a [Entry<'a>],
     fuel: u128,
-) -> Result<(Tree<'a>, &'a [Entry<'a>]), Refusal>
+) -> Result<Spot<'a>, Refusal>
     requires { IsTrue (is_whole at.now) }
-    ensures answer { Gives (λ x. x.0) (λ x. x.1.now) result
+    ensures answer { Leads says_at work.old.pending.items work.new.pending.items result
         (says (run fuel) (gram_of (ops.Alt test count ∷ parts.now)) (tokens at.now)) }
-    ensures whole { IfOk result (λ x. IsTrue (is_whole x.1.now)) }
+    ensures whole { IfOk result (λ s. IsTrue (is_whole s.entries.now)) }
+    ensures lighter { IfOk result (λ s. weight s.fuel (length s.steps.now) < weight fuel (length parts.now + 1)) }
 {
     let Some(choice) = chosen(rules, test, count, parts, at) else {
         return Err(refuse(Wanted::Nothing, at));
     };
     let around = Around::Chosen(choice.seconds, choice.is_first);
-    within(rules, arena, around, choice.parts, at, fuel)
+    to_make(work, Pending::Around(around), choice.parts, at, fuel)
 }
 
-// A group, and what its inside says.
-#[cycle(run)]
-fn group<'a, R: Rules>(
-    rules: &R,
-    arena: &'a Arena,
+// The inside of a group.
+fn group<'a>(
+    work: &mut Work<'a>,
     delimiter: Delimiter,
     parts: &'static [Op],
     at: &'a [Entry<'a>],
     fuel: u128,
-) -> Result<(Tree<'a>, &'a [Entry<'a>]), Refusal>
+) -> Result<Spot<'a>, Refusal>
     requires { IsTrue (is_whole at.now) }
-    ensures answer { Gives (λ x. x.0) (λ x. x.1.now) result
+    ensures answer { Leads says_at work.old.pending.items work.new.pending.items result
         (says (run fuel) (gram_of (ops.Group delimiter ∷ parts.now)) (tokens at.now)) }
-    ensures whole { IfOk result (λ x. IsTrue (is_whole x.1.now)) }
+    ensures whole { IfOk result (λ s. IsTrue (is_whole s.entries.now)) }
+    ensures lighter { IfOk result (λ s. weight s.fuel (length s.steps.now) < weight fuel (length parts.now + 1)) }
 {
     let Some(opened) = enter(delimiter, at) else {
         return Err(refuse(Wanted::Group(delimiter), at));
     };
-    let inner = interp(rules, arena, parts, opened.inside, fuel);
-    grouped(arena, delimiter, opened, inner)
-}
-
-// What the steps say, as it is judged.
-#[cycle(run)]
-#[inline(never)]
-fn weighed<'a, R: Rules>(
-    rules: &R,
-    arena: &'a Arena,
-    verdicts: Verdicts,
-    steps: &'static [Op],
-    at: &'a [Entry<'a>],
-    fuel: u128,
-) -> Result<(Tree<'a>, &'a [Entry<'a>]), Refusal>
-    requires { IsTrue (is_whole at.now) }
-    ensures answer { Gives (λ x. x.0) (λ x. x.1.now) result
-        (judged_as verdicts (says (run fuel) (gram_of steps.now) (tokens at.now))) }
-    ensures whole { IfOk result (λ x. IsTrue (is_whole x.1.now)) }
-{
-    judged(
-        rules,
-        arena,
-        verdicts,
-        interp(rules, arena, steps, at, fuel),
-    )
+    let behind = Behind {
+        entries: opened.behind,
+    };
+    let around = Pending::Inside(delimiter, opened.span, behind);
+    to_make(work, around, parts, opened.inside, fuel)
 }
 
 // An expression that is an operand of an operator of the level.
 #[cycle(run)]
 fn operand<'a, R: Rules>(
     rules: &R,
-    arena: &'a Arena,
+    work: &mut Work<'a>,
     position: Position,
     level: usize,
     at: &'a [Entry<'a>],
     fuel: u128,
 ) -> Result<(Tree<'a>, &'a [Entry<'a>]), Refusal>
     requires { IsTrue (is_whole at.now) }
+    ensures kept { work.new.pending.items ≡ work.old.pending.items }
     ensures answer { Gives (λ x. x.0) (λ x. x.1.now) result
         (wrap (around_of arounds.Whole) (run fuel (operand_of (position_of position) level) (tokens at.now))) }
     ensures whole { IfOk result (λ x. IsTrue (is_whole x.1.now)) }
 {
-    surround(
-        arena,
-        Around::Whole,
-        at,
-        tower(rules, arena, position, level, at, fuel),
-    )
+    let inner = tower(rules, work, position, level, at, fuel);
+    surround(work.arena, Around::Whole, inner)
 }
 
 // A part, and then another.
 #[cycle(run)]
 fn seq<'a, R: Rules>(
     rules: &R,
-    arena: &'a Arena,
+    work: &mut Work<'a>,
     count: usize,
     parts: &'static [Op],
     at: &'a [Entry<'a>],
     fuel: u128,
-) -> Result<(Tree<'a>, &'a [Entry<'a>]), Refusal>
+) -> Result<Spot<'a>, Refusal>
     requires { IsTrue (is_whole at.now) }
-    ensures answer { Gives (λ x. x.0) (λ x. x.1.now) result
+    ensures answer { Leads says_at work.old.pending.items work.new.pending.items result
         (says (run fuel) (gram_of (ops.Seq count ∷ parts.now)) (tokens at.now)) }
-    ensures whole { IfOk result (λ x. IsTrue (is_whole x.1.now)) }
+    ensures whole { IfOk result (λ s. IsTrue (is_whole s.entries.now)) }
+    ensures lighter { IfOk result (λ s. weight s.fuel (length s.steps.now) < weight fuel (length parts.now + 1)) }
 {
     let Some((first, second)) = halves(count, parts) else {
         return Err(refuse(Wanted::Nothing, at));
     };
-    let (front, behind) = interp(rules, arena, first, at, fuel)?;
-    let (back, rest) = interp(rules, arena, second, behind, fuel)?;
-    Ok((made::pair(arena, front, back)?, rest))
+    let (front, behind) = interp(rules, work, first, at, fuel)?;
+    to_make(work, Pending::Front(front), second, behind, fuel)
 }
 
 // How far a list has been read.
@@ -259,18 +313,19 @@ struct Place<'a> {
 #[inline(never)]
 fn star<'a, R: Rules>(
     rules: &R,
-    arena: &'a Arena,
+    work: &mut Work<'a>,
     test: Test,
     parts: &'static [Op],
     begin: &'a [Entry<'a>],
     most: u128,
 ) -> Result<(Tree<'a>, &'a [Entry<'a>]), Refusal>
     requires { IsTrue (is_whole begin.now) }
+    ensures kept { work.new.pending.items ≡ work.old.pending.items }
     ensures answer { Gives (λ x. x.0) (λ x. x.1.now) result
         (run most (again (test_of test) (gram_of parts.now)) (tokens begin.now)) }
     ensures whole { IfOk result (λ x. IsTrue (is_whole x.1.now)) }
 {
-    let mut turns = Vec::new(arena.alloc());
+    let mut turns = Vec::new(work.arena.alloc());
     let mut at = Place { entries: begin };
     let mut fuel = most;
     'turns: loop {
@@ -281,11 +336,11 @@ fn star<'a, R: Rules>(
         if !rules.passes(test, at.entries) {
             break;
         }
-        let (turn, rest) = interp(rules, arena, parts, at.entries, fuel)?;
+        let (turn, rest) = interp(rules, work, parts, at.entries, fuel)?;
         turns.push(turn)?;
         at = Place { entries: rest };
     }
-    Ok((made::turns(arena, turns)?, at.entries))
+    Ok((made::turns(work.arena, turns)?, at.entries))
 }
 
 // Elements with marks between them, until the test passes.
@@ -293,7 +348,7 @@ fn star<'a, R: Rules>(
 #[inline(never)]
 fn many<'a, R: Rules>(
     rules: &R,
-    arena: &'a Arena,
+    work: &mut Work<'a>,
     test: Test,
     separator: Separator,
     parts: &'static [Op],
@@ -301,11 +356,12 @@ fn many<'a, R: Rules>(
     most: u128,
 ) -> Result<(Tree<'a>, &'a [Entry<'a>]), Refusal>
     requires { IsTrue (is_whole begin.now) }
+    ensures kept { work.new.pending.items ≡ work.old.pending.items }
     ensures answer { Gives (λ x. x.0) (λ x. x.1.now) result
         (run most (list (test_of test) (separator_of separator) (gram_of parts.now)) (tokens begin.now)) }
     ensures whole { IfOk result (λ x. IsTrue (is_whole x.1.now)) }
 {
-    let mut before = Vec::new(arena.alloc());
+    let mut before = Vec::new(work.arena.alloc());
     let mut at = Place { entries: begin };
     let mut fuel = most;
     'elements: loop {
@@ -316,14 +372,20 @@ fn many<'a, R: Rules>(
         if rules.passes(test, at.entries) {
             break;
         }
-        let (tree, rest) = interp(rules, arena, parts, at.entries, fuel)?;
+        let (tree, rest) = interp(rules, work, parts, at.entries, fuel)?;
         let Some((spacing, behind)) = leaf::separator(separator, rest) else {
-            return Ok((made::elements(arena, separator, before, Some(tree))?, rest));
+            return Ok((
+                made::elements(work.arena, separator, before, Some(tree))?,
+                rest,
+            ));
         };
         before.push(Element { tree, spacing })?;
         at = Place { entries: behind };
     }
-    Ok((made::elements(arena, separator, before, None)?, at.entries))
+    Ok((
+        made::elements(work.arena, separator, before, None)?,
+        at.entries,
+    ))
 }
 
 // A form's own part, the operand behind it, if it has one there, and what stands behind them.
@@ -339,13 +401,14 @@ struct OwnPart<'a> {
 #[inline(always)]
 fn own<'a, R: Rules>(
     rules: &R,
-    arena: &'a Arena,
+    work: &mut Work<'a>,
     position: Position,
     kind: Kind,
     at: &'a [Entry<'a>],
     fuel: u128,
 ) -> Result<OwnPart<'a>, Refusal>
     requires { IsTrue (is_whole at.now) }
+    ensures kept { work.new.pending.items ≡ work.old.pending.items }
     ensures answer { (alone : AnyTree → AnyTree) (both : AnyTree → AnyTree → AnyTree)
         → Gives (λ x. made_of alone both x.tree x.right) (λ x. x.rest.now) result
         (own_of (run fuel) alone both (position_of position) (kind_of kind) (tokens at.now)) }
@@ -353,7 +416,7 @@ fn own<'a, R: Rules>(
 {
     let steps = entry(kind);
     let _bounded = steps.len();
-    let (tree, behind) = interp(rules, arena, steps, at, fuel)?;
+    let (tree, behind) = interp(rules, work, steps, at, fuel)?;
     if !rules.has_right(position, kind, behind) {
         return Ok(OwnPart {
             tree,
@@ -362,7 +425,7 @@ fn own<'a, R: Rules>(
         });
     }
     let place = inside(position, kind);
-    let (right, rest) = tower(rules, arena, place, level_of(kind), behind, fuel)?;
+    let (right, rest) = tower(rules, work, place, level_of(kind), behind, fuel)?;
     Ok(OwnPart {
         tree,
         right: Some(right),
@@ -374,13 +437,14 @@ fn own<'a, R: Rules>(
 #[cycle(run)]
 fn tower<'a, R: Rules>(
     rules: &R,
-    arena: &'a Arena,
+    work: &mut Work<'a>,
     position: Position,
     level: usize,
     at: &'a [Entry<'a>],
     fuel: u128,
 ) -> Result<(Tree<'a>, &'a [Entry<'a>]), Refusal>
     requires { IsTrue (is_whole at.now) }
+    ensures kept { work.new.pending.items ≡ work.old.pending.items }
     ensures answer { Gives (λ x. x.0) (λ x. x.1.now) result
         (run fuel (operand_of (position_of position) level) (tokens at.now)) }
     ensures whole { IfOk result (λ x. IsTrue (is_whole x.1.now)) }
@@ -391,9 +455,9 @@ fn tower<'a, R: Rules>(
     let Some(kind) = rules.front(position, at) else {
         return Err(refuse(Wanted::Expression, at));
     };
-    let OwnPart { tree, right, rest } = own(rules, arena, position, kind, at, fuel - 1)?;
-    let left = begun(arena, kind, tree, right)?;
-    climb(rules, arena, position, level, left, rest, fuel - 1)
+    let OwnPart { tree, right, rest } = own(rules, work, position, kind, at, fuel - 1)?;
+    let left = begun(work.arena, kind, tree, right)?;
+    climb(rules, work, position, level, left, rest, fuel - 1)
 }
 
 // What goes on from a left operand, as an operand of an operator of the level.
@@ -401,7 +465,7 @@ fn tower<'a, R: Rules>(
 #[inline(never)]
 fn climb<'a, R: Rules>(
     rules: &R,
-    arena: &'a Arena,
+    work: &mut Work<'a>,
     position: Position,
     level: usize,
     left: Tree<'a>,
@@ -409,6 +473,7 @@ fn climb<'a, R: Rules>(
     fuel: u128,
 ) -> Result<(Tree<'a>, &'a [Entry<'a>]), Refusal>
     requires { IsTrue (is_whole at.now) }
+    ensures kept { work.new.pending.items ≡ work.old.pending.items }
     ensures answer { Gives (λ x. x.0) (λ x. x.1.now) result
         (run fuel (goes (position_of position) level left.entry) (tokens at.now)) }
     ensures whole { IfOk result (λ x. IsTrue (is_whole x.1.now)) }
@@ -427,13 +492,13 @@ fn climb<'a, R: Rules>(
             Next::Form(kind) => {
                 let OwnPart { tree, right, rest } = own(
                     rules,
-                    arena,
+                    work,
                     position,
                     kind,
                     place.entries,
                     most,
                 )?;
-                form = extended(arena, form, kind, tree, right)?;
+                form = extended(work.arena, form, kind, tree, right)?;
                 place = Place { entries: rest };
             }
         }

@@ -1,25 +1,250 @@
-use Rattle.std.proofs.Common.{◌≡◌, ◌-◌, suc, sym, ap, ◌∙◌, arith}
+use Rattle.std.proofs.Common.{◌≡◌, ◌-◌, [], suc, refl, sym, ap, ◌∙◌, arith, length}
+use Rattle.std.proofs.lemmas.List.{append-nil}
 use Rattle.std.proofs.lemmas.Result.{err_from_is_err_and}
 use Rattle.syn_grammar.specs.Run.{climb, run, Got}
+use Rattle.syn_grammar.specs.Run.{interp as says}
 use Rattle.syn_grammar.specs.Tree.{Alone, Front, Back, Infix}
 use Rattle.gram_table.specs.Kinds.{kind_of, position_of}
 use Rattle.gram_table.specs.Looks.{test_of}
 use Rattle.gram_table.specs.Ops.{gram_of, separator_of}
 use Rattle.gram_run.specs.Answers.{tokens}
 use Rattle.gram_run.specs.Operands.{extended, own_of}
+use Rattle.gram_run.specs.Pending.{says_at}
 use Rattle.gram_run.proofs.Turns.{turn_more, turn_none, turn_fails}
 use Rattle.gram_run.proofs.Elements.{element_more, element_none, element_last, element_fails}
-use Rattle.gram_run.proofs.Operands.{kind_read, climb_ends, climb_chains, climb_goes, climb_fails, operand_goes}
+use Rattle.gram_run.proofs.Operands.{climb_ends, climb_chains, climb_goes, climb_fails, operand_goes}
 use Rattle.gram_run.proofs.Operands.{none_stands, operand_fails}
-use Rattle.gram_run.proofs.Outs.{fails_as, syntax_fails}
+use Rattle.gram_run.proofs.Outs.{fails_as, fails_on, got_on, syntax_fails}
+use Rattle.gram_run.proofs.Pendings.{at_step, ends, fails, goes, leads_fails, leads_on, makes_left, no_step, old_kept, refused}
 use Rattle.gram_run.proofs.run.+run.Goals as goal
 
-pub call-returns-clause-answer : goal.call-returns-clause-answer
-call-returns-clause-answer g t c =
-    let s : c.args.fuel ≡ suc (c.args.fuel - 1) = omega arith in
-    let ts = tokens c.args.at.now in
-    rw (kind_read c.args.fuel (c.args.fuel - 1) (kind_of c.args.kind) (gram_of c.entry-steps.result.now) ts s
-    c.entry-steps.ensures) c.within.ensures.answer
+pub forward-returns-in-Word-clause-answer : goal.forward-returns-in-Word-clause-answer
+forward-returns-in-Word-clause-answer g t c =
+    let i = c.steps.invariant.read in
+    let s = at_step c.steps.spot.fuel _ c.in-Some.parts.now _ _ (tokens c.steps.spot.entries.now)
+        c.in-Some.ensures.cases.0 c.in-Word.is in
+    ends _ _ i.0 _ _ i.1 i.2 (λ x. x.0) (λ x. x.1.now) _ _ _ s refl c.word.ensures.answer
+
+pub forward-returns-in-Literal-clause-answer : goal.forward-returns-in-Literal-clause-answer
+forward-returns-in-Literal-clause-answer g t c =
+    let i = c.steps.invariant.read in
+    let s = at_step c.steps.spot.fuel _ c.in-Some.parts.now _ _ (tokens c.steps.spot.entries.now)
+        c.in-Some.ensures.cases.0 c.in-Literal.is in
+    ends _ _ i.0 _ _ i.1 i.2 (λ x. x.0) (λ x. x.1.now) _ _ _ s refl c.literal.ensures.answer
+
+pub forward-returns-in-Mark-clause-answer : goal.forward-returns-in-Mark-clause-answer
+forward-returns-in-Mark-clause-answer g t c =
+    let i = c.steps.invariant.read in
+    let s = at_step c.steps.spot.fuel _ c.in-Some.parts.now _ _ (tokens c.steps.spot.entries.now)
+        c.in-Some.ensures.cases.0 c.in-Mark.is in
+    ends _ _ i.0 _ _ i.1 i.2 (λ x. x.0) (λ x. x.1.now) _ _ _ s refl (c.mark.ensures.answer (run c.steps.spot.fuel))
+
+pub forward-returns-in-Lifetime-clause-answer : goal.forward-returns-in-Lifetime-clause-answer
+forward-returns-in-Lifetime-clause-answer g t c =
+    let i = c.steps.invariant.read in
+    let s = at_step c.steps.spot.fuel _ c.in-Some.parts.now _ _ (tokens c.steps.spot.entries.now)
+        c.in-Some.ensures.cases.0 c.in-Lifetime.is in
+    ends _ _ i.0 _ _ i.1 i.2 (λ x. x.0) (λ x. x.1.now) _ _ _ s refl c.lifetime.ensures.answer
+
+pub forward-returns-in-Never-clause-answer : goal.forward-returns-in-Never-clause-answer
+forward-returns-in-Never-clause-answer g t c =
+    let i = c.steps.invariant.read in
+    let s = at_step c.steps.spot.fuel _ c.in-Some.parts.now _ _ (tokens c.steps.spot.entries.now)
+        c.in-Some.ensures.cases.0 c.in-Never.is in
+    refused _ _ i.0 _ _ i.1 i.2 _ _ s refl c.refuse-in-Never.ensures.syntax
+
+pub forward-returns-in-Star-clause-answer : goal.forward-returns-in-Star-clause-answer
+forward-returns-in-Star-clause-answer g t c =
+    let i = c.steps.invariant.read in
+    let s = at_step c.steps.spot.fuel _ c.in-Some.parts.now _ _ (tokens c.steps.spot.entries.now)
+        c.in-Some.ensures.cases.0 c.in-Star.is in
+    ends _ _ i.0 _ _ i.1 i.2 (λ x. x.0) (λ x. x.1.now) _ _ _ s c.star.ensures.kept c.star.ensures.answer
+
+pub forward-returns-in-Many-clause-answer : goal.forward-returns-in-Many-clause-answer
+forward-returns-in-Many-clause-answer g t c =
+    let i = c.steps.invariant.read in
+    let s = at_step c.steps.spot.fuel _ c.in-Some.parts.now _ _ (tokens c.steps.spot.entries.now)
+        c.in-Some.ensures.cases.0 c.in-Many.is in
+    ends _ _ i.0 _ _ i.1 i.2 (λ x. x.0) (λ x. x.1.now) _ _ _ s c.many.ensures.kept c.many.ensures.answer
+
+pub forward-returns-in-Operand-clause-answer : goal.forward-returns-in-Operand-clause-answer
+forward-returns-in-Operand-clause-answer g t c =
+    let i = c.steps.invariant.read in
+    let s = at_step c.steps.spot.fuel _ c.in-Some.parts.now _ _ (tokens c.steps.spot.entries.now)
+        c.in-Some.ensures.cases.0 c.in-Operand.is in
+    ends _ _ i.0 _ _ i.1 i.2 (λ x. x.0) (λ x. x.1.now) _ _ _ s c.operand.ensures.kept c.operand.ensures.answer
+
+pub forward-returns-in_default-clause-answer : goal.forward-returns-in_default-clause-answer
+forward-returns-in_default-clause-answer g t c =
+    let i = c.steps.invariant.read in
+    let s = no_step c.steps.spot.fuel c.steps.spot.steps.now (tokens c.steps.spot.entries.now) c.in_default.ensures.cases in
+    refused _ _ i.0 _ _ i.1 i.2 _ _ s refl c.refuse.ensures.syntax
+
+pub forward-returns-in_err-spot-in-Seq-clause-answer : goal.forward-returns-in_err-spot-in-Seq-clause-answer
+forward-returns-in_err-spot-in-Seq-clause-answer g t c =
+    let i = c.steps.invariant.read in
+    let s = at_step c.steps.spot.fuel _ c.in-Some.parts.now _ _ (tokens c.steps.spot.entries.now)
+        c.in-Some.ensures.cases.0 c.in-Seq.is in
+    let p = err_from_is_err_and c.from_residual.result c.from_residual.ensures.1 in
+    rw (p.1, p.2) (fails _ _ i.0 _ _ i.1 i.2 _ _ _ s c.in_err-spot-in-Seq.ensures.answer)
+
+pub forward-steps-preserved-in-Seq : goal.forward-steps-preserved-in-Seq
+forward-steps-preserved-in-Seq g t c =
+    let i = c.steps.invariant.read in
+    let s = at_step c.steps.spot.fuel _ c.in-Some.parts.now _ _ (tokens c.steps.spot.entries.now)
+        c.in-Some.ensures.cases.0 c.in-Seq.is in
+    let o = c.in_ok-spot-in-Seq in
+    record {
+      read = goes _ _ i.0 _ _ i.1 i.2 _ o.spot _ s o.ensures.answer;
+      whole = o.ensures.whole;
+      least = omega (arith, c.steps.invariant.least, o.ensures.lighter, ap length c.in-Some.ensures.cases.0);
+    }
+
+pub forward-returns-in_err-spot-in-Alt-clause-answer : goal.forward-returns-in_err-spot-in-Alt-clause-answer
+forward-returns-in_err-spot-in-Alt-clause-answer g t c =
+    let i = c.steps.invariant.read in
+    let s = at_step c.steps.spot.fuel _ c.in-Some.parts.now _ _ (tokens c.steps.spot.entries.now)
+        c.in-Some.ensures.cases.0 c.in-Alt.is in
+    let p = err_from_is_err_and c.from_residual-in_err-spot-in-Alt.result c.from_residual-in_err-spot-in-Alt.ensures.1 in
+    rw (p.1, p.2) (fails _ _ i.0 _ _ i.1 i.2 _ _ _ s c.in_err-spot-in-Alt.ensures.answer)
+
+pub forward-steps-preserved-in-Alt : goal.forward-steps-preserved-in-Alt
+forward-steps-preserved-in-Alt g t c =
+    let i = c.steps.invariant.read in
+    let s = at_step c.steps.spot.fuel _ c.in-Some.parts.now _ _ (tokens c.steps.spot.entries.now)
+        c.in-Some.ensures.cases.0 c.in-Alt.is in
+    let o = c.in_ok-spot-in-Alt in
+    record {
+      read = goes _ _ i.0 _ _ i.1 i.2 _ o.spot _ s o.ensures.answer;
+      whole = o.ensures.whole;
+      least = omega (arith, c.steps.invariant.least, o.ensures.lighter, ap length c.in-Some.ensures.cases.0);
+    }
+
+pub forward-returns-in_err-spot-in-Group-clause-answer : goal.forward-returns-in_err-spot-in-Group-clause-answer
+forward-returns-in_err-spot-in-Group-clause-answer g t c =
+    let i = c.steps.invariant.read in
+    let s = at_step c.steps.spot.fuel _ c.in-Some.parts.now _ _ (tokens c.steps.spot.entries.now)
+        c.in-Some.ensures.cases.0 c.in-Group.is in
+    let p = err_from_is_err_and c.from_residual-in_err-spot-in-Group.result c.from_residual-in_err-spot-in-Group.ensures.1 in
+    rw (p.1, p.2) (fails _ _ i.0 _ _ i.1 i.2 _ _ _ s c.in_err-spot-in-Group.ensures.answer)
+
+pub forward-steps-preserved-in-Group : goal.forward-steps-preserved-in-Group
+forward-steps-preserved-in-Group g t c =
+    let i = c.steps.invariant.read in
+    let s = at_step c.steps.spot.fuel _ c.in-Some.parts.now _ _ (tokens c.steps.spot.entries.now)
+        c.in-Some.ensures.cases.0 c.in-Group.is in
+    let o = c.in_ok-spot-in-Group in
+    record {
+      read = goes _ _ i.0 _ _ i.1 i.2 _ o.spot _ s o.ensures.answer;
+      whole = o.ensures.whole;
+      least = omega (arith, c.steps.invariant.least, o.ensures.lighter, ap length c.in-Some.ensures.cases.0);
+    }
+
+pub forward-returns-in_err-spot-in-Judged-clause-answer : goal.forward-returns-in_err-spot-in-Judged-clause-answer
+forward-returns-in_err-spot-in-Judged-clause-answer g t c =
+    let i = c.steps.invariant.read in
+    let s = at_step c.steps.spot.fuel _ c.in-Some.parts.now _ _ (tokens c.steps.spot.entries.now)
+        c.in-Some.ensures.cases.0 c.in-Judged.is in
+    let p = err_from_is_err_and c.from_residual-in_err-spot-in-Judged.result c.from_residual-in_err-spot-in-Judged.ensures.1 in
+    rw (p.1, p.2) (fails _ _ i.0 _ _ i.1 i.2 _ _ _ s c.in_err-spot-in-Judged.ensures.answer)
+
+pub forward-steps-preserved-in-Judged : goal.forward-steps-preserved-in-Judged
+forward-steps-preserved-in-Judged g t c =
+    let i = c.steps.invariant.read in
+    let s = at_step c.steps.spot.fuel _ c.in-Some.parts.now _ _ (tokens c.steps.spot.entries.now)
+        c.in-Some.ensures.cases.0 c.in-Judged.is in
+    let o = c.in_ok-spot-in-Judged in
+    record {
+      read = goes _ _ i.0 _ _ i.1 i.2 _ o.spot _ s o.ensures.answer;
+      whole = o.ensures.whole;
+      least = omega (arith, c.steps.invariant.least, o.ensures.lighter, ap length c.in-Some.ensures.cases.0);
+    }
+
+pub forward-returns-in_err-spot-in-Dropped-clause-answer : goal.forward-returns-in_err-spot-in-Dropped-clause-answer
+forward-returns-in_err-spot-in-Dropped-clause-answer g t c =
+    let i = c.steps.invariant.read in
+    let s = at_step c.steps.spot.fuel _ c.in-Some.parts.now _ _ (tokens c.steps.spot.entries.now)
+        c.in-Some.ensures.cases.0 c.in-Dropped.is in
+    let p = err_from_is_err_and c.from_residual-in_err-spot-in-Dropped.result c.from_residual-in_err-spot-in-Dropped.ensures.1 in
+    rw (p.1, p.2) (fails _ _ i.0 _ _ i.1 i.2 _ _ _ s c.in_err-spot-in-Dropped.ensures.answer)
+
+pub forward-steps-preserved-in-Dropped : goal.forward-steps-preserved-in-Dropped
+forward-steps-preserved-in-Dropped g t c =
+    let i = c.steps.invariant.read in
+    let s = at_step c.steps.spot.fuel _ c.in-Some.parts.now _ _ (tokens c.steps.spot.entries.now)
+        c.in-Some.ensures.cases.0 c.in-Dropped.is in
+    let o = c.in_ok-spot-in-Dropped in
+    record {
+      read = goes _ _ i.0 _ _ i.1 i.2 _ o.spot _ s o.ensures.answer;
+      whole = o.ensures.whole;
+      least = omega (arith, c.steps.invariant.least, o.ensures.lighter, ap length c.in-Some.ensures.cases.0);
+    }
+
+pub forward-returns-in_err-spot-in-Called-clause-answer : goal.forward-returns-in_err-spot-in-Called-clause-answer
+forward-returns-in_err-spot-in-Called-clause-answer g t c =
+    let i = c.steps.invariant.read in
+    let s = at_step c.steps.spot.fuel _ c.in-Some.parts.now _ _ (tokens c.steps.spot.entries.now)
+        c.in-Some.ensures.cases.0 c.in-Called.is in
+    let p = err_from_is_err_and c.from_residual-in_err-spot-in-Called.result c.from_residual-in_err-spot-in-Called.ensures.1 in
+    rw (p.1, p.2) (fails _ _ i.0 _ _ i.1 i.2 _ _ _ s c.in_err-spot-in-Called.ensures.answer)
+
+pub forward-steps-preserved-in-Called : goal.forward-steps-preserved-in-Called
+forward-steps-preserved-in-Called g t c =
+    let i = c.steps.invariant.read in
+    let s = at_step c.steps.spot.fuel _ c.in-Some.parts.now _ _ (tokens c.steps.spot.entries.now)
+        c.in-Some.ensures.cases.0 c.in-Called.is in
+    let o = c.in_ok-spot-in-Called in
+    record {
+      read = goes _ _ i.0 _ _ i.1 i.2 _ o.spot _ s o.ensures.answer;
+      whole = o.ensures.whole;
+      least = omega (arith, c.steps.invariant.least, o.ensures.lighter, ap length c.in-Some.ensures.cases.0);
+    }
+
+pub forward-returns-in_err-spot-in-Ref-clause-answer : goal.forward-returns-in_err-spot-in-Ref-clause-answer
+forward-returns-in_err-spot-in-Ref-clause-answer g t c =
+    let i = c.steps.invariant.read in
+    let s = at_step c.steps.spot.fuel _ c.in-Some.parts.now _ _ (tokens c.steps.spot.entries.now)
+        c.in-Some.ensures.cases.0 c.in-Ref.is in
+    let p = err_from_is_err_and c.from_residual-in_err-spot-in-Ref.result c.from_residual-in_err-spot-in-Ref.ensures.1 in
+    rw (p.1, p.2) (fails _ _ i.0 _ _ i.1 i.2 _ _ _ s c.in_err-spot-in-Ref.ensures.answer)
+
+pub forward-steps-preserved : goal.forward-steps-preserved
+forward-steps-preserved g t c =
+    let i = c.steps.invariant.read in
+    let s = at_step c.steps.spot.fuel _ c.in-Some.parts.now _ _ (tokens c.steps.spot.entries.now)
+        c.in-Some.ensures.cases.0 c.in-Ref.is in
+    let o = c.in_ok-spot-in-Ref in
+    record {
+      read = goes _ _ i.0 _ _ i.1 i.2 _ o.spot _ s o.ensures.answer;
+      whole = o.ensures.whole;
+      least = omega (arith, c.steps.invariant.least, o.ensures.lighter, ap length c.in-Some.ensures.cases.0);
+    }
+
+pub interp-returns-clause-kept : goal.interp-returns-clause-kept
+interp-returns-clause-kept g t c =
+    let f = c.forward-inner.ensures.answer in
+    c.finished.ensures.kept ∙ old_kept _ _ f.0 _ f.1 (c.len-base.ensures ∙ c.args.work.now.pending.ok.0)
+
+pub interp-returns-clause-answer : goal.interp-returns-clause-answer
+interp-returns-clause-answer g t c =
+    let f = c.forward-inner.ensures.answer in
+    c.finished.ensures.answer _ (makes_left _ _ f.0 _ f.1 (c.len-base.ensures ∙ c.args.work.now.pending.ok.0) _ _ _ f.2)
+
+pub seq-returns-in_err-front-clause-answer : goal.seq-returns-in_err-front-clause-answer
+seq-returns-in_err-front-clause-answer g t c =
+    let call = run c.args.fuel in
+    let p = err_from_is_err_and c.from_residual.result c.from_residual.ensures.1 in
+    rw (p.1, p.2) (leads_fails says_at _ _ _ _ c.in_err-front.ensures.kept
+    (fails_as _ _ _ (ap (λ g. says call g (tokens c.args.at.now)) c.in-Some.ensures.says)
+    (fails_on _ (says call (gram_of c.in-Some.first.now) (tokens c.args.at.now)) _ c.in_err-front.ensures.answer)))
+
+pub seq-returns-clause-answer : goal.seq-returns-clause-answer
+seq-returns-clause-answer g t c =
+    let call = run c.args.fuel in
+    let h = c.to_make.ensures.answer _
+        (ap (λ g. says call g (tokens c.args.at.now)) c.in-Some.ensures.says
+        ∙ got_on (says call (gram_of c.in-Some.first.now) (tokens c.args.at.now)) _ _ _ c.in_ok-front.ensures.answer) in
+    leads_on says_at _ _ _ [] _ _ _ (c.in_ok-front.ensures.kept ∙ sym (append-nil _)) refl h
 
 pub many-returns-in_err-tree-clause-answer : goal.many-returns-in_err-tree-clause-answer
 many-returns-in_err-tree-clause-answer g t c =
@@ -47,6 +272,7 @@ many-elements-preserved g t c =
           c.in-Some.ensures.seen c.in-Some.ensures.mark;
       whole = c.in-Some.ensures.whole;
       least = omega arith;
+      kept = c.in_ok-tree.ensures.kept ∙ c.elements.invariant.kept;
     }
 
 pub many-returns-clause-answer : goal.many-returns-clause-answer
@@ -74,6 +300,7 @@ star-turns-preserved g t c =
           (sym c.passes.ensures ∙ c.if-not-passes.false) c.in_ok-turn.ensures.answer;
       whole = c.in_ok-turn.ensures.whole;
       least = omega arith;
+      kept = c.in_ok-turn.ensures.kept ∙ c.turns.invariant.kept;
     }
 
 pub star-returns-clause-answer : goal.star-returns-clause-answer
@@ -153,4 +380,5 @@ climb-forms-preserved g t c =
           c.in_ok-form-in-Form.form k ts us s h.0 h.1 h.2 got) ∙ c.forms.invariant.read;
       whole = o.ensures.whole;
       least = omega arith;
+      kept = o.ensures.kept ∙ c.forms.invariant.kept;
     }

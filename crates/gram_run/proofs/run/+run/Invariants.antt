@@ -1,56 +1,54 @@
 -- Each call has less fuel, or as much and fewer steps.
-use Rattle.std.proofs.Common.{◌≡◌, ◌+◌, ◌*◌, ◌≤◌, ◌^◌, length, true}
+use Rattle.std.proofs.Common.{◌≡◌, ◌+◌, ◌*◌, ◌≤◌, ◌^◌, List, ◌++◌, length, true}
 use Rattle.syn_grammar.specs.Run.{run, climb, loop, list}
 use Rattle.syn_buffer.specs.Entries.{is_whole}
 use Rattle.gram_table.specs.Kinds.{position_of}
 use Rattle.gram_table.specs.Looks.{test_of}
 use Rattle.gram_table.specs.Ops.{gram_of, separator_of}
 use Rattle.gram_run.specs.Answers.{tokens}
+use Rattle.gram_run.specs.Pending.{made_by_all, says_at, weight}
+use Rattle.gram_run.specs.declared.pending.Pending.{Pending}
 use Rattle.gram_run.proofs.Turns.{behind_turns}
 use Rattle.gram_run.proofs.Elements.{behind_elements}
 use Rattle.gram_run.proofs.run.+run.Given as goal
 
-abbrev pub decreases-call : goal.decreases-call
-decreases-call g l = 2 ^ 67 * l.fuel
-
 abbrev pub decreases-interp : goal.decreases-interp
-decreases-interp g l = 2 ^ 67 * l.fuel + 4 * length l.steps.now
+decreases-interp g l = weight l.fuel (length l.steps.now) + 3
 
-abbrev pub decreases-step : goal.decreases-step
-decreases-step g l = 2 ^ 67 * l.fuel + 4 * length l.parts.now + 3
-
-abbrev pub decreases-alt : goal.decreases-alt
-decreases-alt g l = 2 ^ 67 * l.fuel + 4 * length l.parts.now + 2
-
-abbrev pub decreases-within : goal.decreases-within
-decreases-within g l = 2 ^ 67 * l.fuel + 4 * length l.steps.now + 1
-
-abbrev pub decreases-weighed : goal.decreases-weighed
-decreases-weighed g l = 2 ^ 67 * l.fuel + 4 * length l.steps.now + 1
-
-abbrev pub decreases-group : goal.decreases-group
-decreases-group g l = 2 ^ 67 * l.fuel + 4 * length l.parts.now + 1
+abbrev pub decreases-forward : goal.decreases-forward
+decreases-forward g l = weight l.begin.fuel (length l.begin.steps.now) + 2
 
 abbrev pub decreases-seq : goal.decreases-seq
-decreases-seq g l = 2 ^ 67 * l.fuel + 4 * length l.parts.now + 1
+decreases-seq g l = weight l.fuel (length l.parts.now) + 4
 
 abbrev pub decreases-star : goal.decreases-star
-decreases-star g l = 2 ^ 67 * l.most + 4 * length l.parts.now + 1
+decreases-star g l = weight l.most (length l.parts.now) + 4
 
 abbrev pub decreases-many : goal.decreases-many
-decreases-many g l = 2 ^ 67 * l.most + 4 * length l.parts.now + 1
+decreases-many g l = weight l.most (length l.parts.now) + 4
 
 abbrev pub decreases-operand : goal.decreases-operand
-decreases-operand g l = 2 ^ 67 * l.fuel + 1
+decreases-operand g l = weight l.fuel 0 + 1
 
 abbrev pub decreases-own : goal.decreases-own
-decreases-own g l = 2 ^ 67 * l.fuel + 2 ^ 66
+decreases-own g l = weight l.fuel 0 + 2 ^ 66
 
 abbrev pub decreases-tower : goal.decreases-tower
-decreases-tower g l = 2 ^ 67 * l.fuel
+decreases-tower g l = weight l.fuel 0
 
 abbrev pub decreases-climb : goal.decreases-climb
-decreases-climb g l = 2 ^ 67 * l.fuel
+decreases-climb g l = weight l.fuel 0
+
+abbrev pub invariant-forward-steps : goal.invariant-forward-steps
+invariant-forward-steps g l = record {
+  read : (ws : List Pending) × (l.work.pending.items ≡ l.fn.work.pending.items ++ ws)
+      × (made_by_all ws (says_at l.spot) ≡ says_at l.begin);
+  whole : is_whole l.spot.entries.now ≡ true;
+  least : weight l.spot.fuel (length l.spot.steps.now) ≤ weight l.begin.fuel (length l.begin.steps.now);
+}
+
+abbrev pub decreases-forward-steps : goal.decreases-forward-steps
+decreases-forward-steps g l = weight l.spot.fuel (length l.spot.steps.now)
 
 abbrev pub invariant-star-turns : goal.invariant-star-turns
 invariant-star-turns g l = record {
@@ -58,6 +56,7 @@ invariant-star-turns g l = record {
       ≡ run l.most (loop (test_of l.test) (gram_of l.parts)) (tokens l.begin);
   whole : is_whole l.at.entries.now ≡ true;
   least : l.fuel ≤ l.most;
+  kept : l.work.pending.items ≡ l.fn.work.pending.items;
 }
 
 abbrev pub decreases-star-turns : goal.decreases-star-turns
@@ -70,6 +69,7 @@ invariant-many-elements g l = record {
       ≡ run l.most (list (test_of l.test) (separator_of l.separator) (gram_of l.parts)) (tokens l.begin);
   whole : is_whole l.at.entries.now ≡ true;
   least : l.fuel ≤ l.most;
+  kept : l.work.pending.items ≡ l.fn.work.pending.items;
 }
 
 abbrev pub decreases-many-elements : goal.decreases-many-elements
@@ -81,6 +81,7 @@ invariant-climb-forms g l = record {
       ≡ run l.fuel (climb (position_of l.position) l.level l.fn.left) (tokens l.at);
   whole : is_whole l.place.entries.now ≡ true;
   least : l.most ≤ l.fuel;
+  kept : l.work.pending.items ≡ l.fn.work.pending.items;
 }
 
 abbrev pub decreases-climb-forms : goal.decreases-climb-forms
