@@ -1,4 +1,5 @@
 pub mod Wholes
+pub mod Behind
 pub mod Leaves
 pub mod Nodes
 pub mod Firsts

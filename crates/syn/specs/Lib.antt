@@ -2,4 +2,5 @@ pub mod Parsed
 pub mod Leaves
 pub mod Nodes
 pub mod Reading
+pub mod Streams
 pub mod Nests

@@ -10,6 +10,7 @@
 //! - `parse`: tokens that are one form of a kind: a file, an item, a type, an expression.
 //! - `peek`: whether an expression begins there.
 //! - `reader`, `reading`: forms and tokens, read one behind the other.
+//! - `stream`: forms read from a `ParseBuffer`, among tokens.
 //! - `tokens`: tokens that are to be written, as a stream of trees.
 //! - `leaf`: the leaves of a tree, in their order, each with where it stands but marks between elements.
 //! - `node`: its nodes and the forms of its expressions, at every depth.
@@ -23,6 +24,7 @@ pub mod parse;
 pub mod peek;
 pub mod reader;
 mod reading;
+pub mod stream;
 pub mod tokens;
 pub mod typed;
 
@@ -69,6 +71,8 @@ pub use proc_macro2::TokenStream;
 pub use reader::Entered;
 pub use reader::ReadSign;
 pub use reader::Reader;
+pub use stream::ParseForm;
+pub use stream::ParseForms;
 pub use syn_ast::attributes::AttrStyle;
 pub use syn_ast::attributes::Attribute;
 pub use syn_ast::attributes::InnerAttributes;

@@ -14,14 +14,14 @@
 #![tactic(auto)]
 
 pub use syn_buffer::{
-    Cursor, Next, TokenBuffer, buffer, cursor, entry, next, place, position, skip, trees,
+    Cursor, Next, TokenBuffer, buffer, cursor, entry, next, place, position, skip, trees, visible,
 };
 pub use syn_error::{Error, ErrorPlace, ParseFault, Result, TextFault, ToTokens};
 pub use syn_ext::IdentExt;
 pub use syn_input::{
     Braces, Brackets, Delimited, LifetimeExt, Lookahead1, Parens, Parse, ParseBuffer, ParseStream,
-    Parser, StepCursor, fault, group, input, lists, lookahead, parse, parse_str, parse_stream,
-    parse2, parser, step, within,
+    Parser, StepCursor, fault, group, input, lists, lookahead, parse, parse_buffer, parse_str,
+    parse_stream, parse2, parser, step, within,
 };
 pub use syn_kinds::{End, IdentAny, Nothing};
 pub use syn_lifetime::{Lifetime, lifetime};
