@@ -5,7 +5,8 @@
 //! Tokens may stand deep in one another, and a program's stack is small. So what stands last in an entry is read in a
 //! loop, `forward`: the second part of a sequence, the part that is chosen, and the inside of a group, of a node, of a
 //! part, and of what is judged. What is to be made of it is held in one list for the whole run (`pending`), and is made
-//! once the last step has been read (`finish`). Only first parts, turns, elements and operands take a call. The compiler
+//! once the last step has been read (`finish`). Only first parts, turns, elements and operands take a call. A node whose
+//! form is plain is read at once (`gram_plain`), and no step of its entry is taken. The compiler
 //! is told to leave lists and what goes on from a left operand out of that call, as it would need their room each time.
 
 ghost use Rattle.gram_run.specs.Answers.{Gives, tokens};
@@ -17,7 +18,7 @@ ghost use Rattle.gram_table.specs.Kinds.{kind_of, position_of};
 ghost use Rattle.gram_table.specs.Looks.{test_of};
 ghost use Rattle.gram_table.specs.Ops.{gram_of, separator_of};
 ghost use Rattle.gram_table.specs.declared.op.Op.TheVariants as ops;
-ghost use Rattle.std.specs.Prelude.{◌≡◌, ◌∷◌, ◌+◌, ◌<◌, IfOk, IsTrue, length};
+ghost use Rattle.std.specs.Prelude.{◌≡◌, ◌∷◌, ◌+◌, ◌<◌, IfOk, IfSome, IsTrue, length};
 ghost use Rattle.syn_buffer.specs.Entries.{is_whole};
 ghost use Rattle.syn_grammar.specs.Run.{Got, Out, climb as goes, interp as says, kind as of_kind, list};
 ghost use Rattle.syn_grammar.specs.Run.{loop as again, run, tower as operand_of, wrap};
@@ -35,6 +36,7 @@ use crate::refusal::{Refusal, Wanted, refuse};
 use crate::rules::Rules;
 use crate::unfit::named;
 use gram_judge::level::{inside, level as level_of};
+use gram_plain::read::CALLS;
 use gram_table::entry::entry;
 use gram_table::kind::{Kind, Position};
 use gram_table::op::{Op, Separator, Test, Verdicts};
@@ -42,6 +44,7 @@ use gram_tree::arena::Arena;
 use gram_tree::made;
 use gram_tree::tree::{Element, Tree};
 use proc_macro2::delimiter::Delimiter;
+use std::alloc::AllocError;
 use syn_buffer::entry::Entry;
 
 /// A tree of the kind.
@@ -130,7 +133,12 @@ fn forward<'a, R: Rules>(
             Op::Judged(verdicts) => spot = weighed(work, verdicts, parts, at, fuel)?,
             Op::Dropped => spot = within(work, Around::Dropped, parts, at, fuel)?,
             Op::Called(part) => spot = within(work, Around::Called(part), parts, at, fuel)?,
-            Op::Ref(kind) => spot = node(work, kind, at, fuel)?,
+            Op::Ref(kind) => {
+                if let Some(found) = plain(work.arena, kind, at, fuel)? {
+                    return Ok(found);
+                }
+                spot = node(work, kind, at, fuel)?;
+            }
         }
     }
 }
@@ -189,6 +197,24 @@ fn weighed<'a>(
     ensures lighter { IfOk result (λ s. weight s.fuel (length s.steps.now) ≡ weight fuel (length steps.now)) }
 {
     to_make(work, Pending::Judged(verdicts), steps, at, fuel)
+}
+
+// A node of the kind, where it is a plain one.
+fn plain<'a>(
+    arena: &'a Arena,
+    kind: Kind,
+    at: &'a [Entry<'a>],
+    fuel: u128,
+) -> Result<Option<(Tree<'a>, &'a [Entry<'a>])>, AllocError>
+    requires { IsTrue (is_whole at.now) }
+    ensures read { IfOk result (λ found. IfSome found (λ x.
+        run fuel (of_kind (kind_of kind)) (tokens at.now) ≡ Got x.0 (tokens x.1.now))) }
+    ensures whole { IfOk result (λ found. IfSome found (λ x. IsTrue (is_whole x.1.now))) }
+{
+    if fuel < CALLS {
+        return Ok(None);
+    }
+    gram_plain::read::read(arena, kind, at)
 }
 
 // A node of the kind.

@@ -15,8 +15,14 @@ pending-preserved g c =
     let i = c.pending.invariant in
     let left = c.take_last-last.new.self.items in
     let is = c.take_last-last.ensures.items in
-    let le : c.args.base ≤ length left = omega (arith, c.pending-test.true, c.len.ensures, c.pending.work.pending.ok.0,
-        ap length is, length-append left (c.take_last-last.result ∷ [])) in
+    let le : c.args.base ≤ length left = omega (
+      arith,
+      c.pending-test.true,
+      c.len.ensures,
+      c.pending.work.pending.ok.0,
+      ap length is,
+      length-append left (c.take_last-last.result ∷ []),
+    ) in
     record {
       enough = le;
       kept = sym (kept_less c.args.base _ left _ is le) ∙ i.kept;
@@ -31,8 +37,14 @@ returns-in-Err-made_of-clause-answer g c =
     let e = c.in-Err-made_of.refusal in
     let left = c.take_last-last.new.self.items in
     let is = c.take_last-last.ensures.items in
-    let le : c.args.base ≤ length left = omega (arith, c.pending-test.true, c.len.ensures, c.pending.work.pending.ok.0,
-        ap length is, length-append left (c.take_last-last.result ∷ [])) in
+    let le : c.args.base ≤ length left = omega (
+      arith,
+      c.pending-test.true,
+      c.len.ensures,
+      c.pending.work.pending.ok.0,
+      ap length is,
+      length-append left (c.take_last-last.result ∷ []),
+    ) in
     let read = Got c.pending.tree (tokens c.pending.at.entries.now) in
     λ o h. c.given_up-in-Err-made_of.ensures.fails o
     (fails_as e _ o (i.made o h ∙ sym (made_less c.args.base _ left _ is le read))

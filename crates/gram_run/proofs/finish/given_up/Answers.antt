@@ -8,8 +8,14 @@ pending-preserved c =
     let i = c.pending.invariant in
     let left = c.take_last.new.self.items in
     let is = c.take_last.ensures.items in
-    let le : c.args.base ≤ length left = omega (arith, c.pending-test.true, c.len.ensures, c.pending.work.pending.ok.0,
-        ap length is, length-append left (c.take_last.result ∷ [])) in
+    let le : c.args.base ≤ length left = omega (
+      arith,
+      c.pending-test.true,
+      c.len.ensures,
+      c.pending.work.pending.ok.0,
+      ap length is,
+      length-append left (c.take_last.result ∷ []),
+    ) in
     record {
       enough = le;
       kept = sym (kept_less c.args.base _ left _ is le) ∙ i.kept;

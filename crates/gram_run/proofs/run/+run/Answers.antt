@@ -22,56 +22,56 @@ pub forward-returns-in-Word-clause-answer : goal.forward-returns-in-Word-clause-
 forward-returns-in-Word-clause-answer g t c =
     let i = c.steps.invariant.read in
     let s = at_step c.steps.spot.fuel _ c.in-Some.parts.now _ _ (tokens c.steps.spot.entries.now)
-        c.in-Some.ensures.cases.0 c.in-Word.is in
+    c.in-Some.ensures.cases.0 c.in-Word.is in
     ends _ _ i.0 _ _ i.1 i.2 (λ x. x.0) (λ x. x.1.now) _ _ _ s refl c.word.ensures.answer
 
 pub forward-returns-in-Literal-clause-answer : goal.forward-returns-in-Literal-clause-answer
 forward-returns-in-Literal-clause-answer g t c =
     let i = c.steps.invariant.read in
     let s = at_step c.steps.spot.fuel _ c.in-Some.parts.now _ _ (tokens c.steps.spot.entries.now)
-        c.in-Some.ensures.cases.0 c.in-Literal.is in
+    c.in-Some.ensures.cases.0 c.in-Literal.is in
     ends _ _ i.0 _ _ i.1 i.2 (λ x. x.0) (λ x. x.1.now) _ _ _ s refl c.literal.ensures.answer
 
 pub forward-returns-in-Mark-clause-answer : goal.forward-returns-in-Mark-clause-answer
 forward-returns-in-Mark-clause-answer g t c =
     let i = c.steps.invariant.read in
     let s = at_step c.steps.spot.fuel _ c.in-Some.parts.now _ _ (tokens c.steps.spot.entries.now)
-        c.in-Some.ensures.cases.0 c.in-Mark.is in
+    c.in-Some.ensures.cases.0 c.in-Mark.is in
     ends _ _ i.0 _ _ i.1 i.2 (λ x. x.0) (λ x. x.1.now) _ _ _ s refl (c.mark.ensures.answer (run c.steps.spot.fuel))
 
 pub forward-returns-in-Lifetime-clause-answer : goal.forward-returns-in-Lifetime-clause-answer
 forward-returns-in-Lifetime-clause-answer g t c =
     let i = c.steps.invariant.read in
     let s = at_step c.steps.spot.fuel _ c.in-Some.parts.now _ _ (tokens c.steps.spot.entries.now)
-        c.in-Some.ensures.cases.0 c.in-Lifetime.is in
+    c.in-Some.ensures.cases.0 c.in-Lifetime.is in
     ends _ _ i.0 _ _ i.1 i.2 (λ x. x.0) (λ x. x.1.now) _ _ _ s refl c.lifetime.ensures.answer
 
 pub forward-returns-in-Never-clause-answer : goal.forward-returns-in-Never-clause-answer
 forward-returns-in-Never-clause-answer g t c =
     let i = c.steps.invariant.read in
     let s = at_step c.steps.spot.fuel _ c.in-Some.parts.now _ _ (tokens c.steps.spot.entries.now)
-        c.in-Some.ensures.cases.0 c.in-Never.is in
+    c.in-Some.ensures.cases.0 c.in-Never.is in
     refused _ _ i.0 _ _ i.1 i.2 _ _ s refl c.refuse-in-Never.ensures.syntax
 
 pub forward-returns-in-Star-clause-answer : goal.forward-returns-in-Star-clause-answer
 forward-returns-in-Star-clause-answer g t c =
     let i = c.steps.invariant.read in
     let s = at_step c.steps.spot.fuel _ c.in-Some.parts.now _ _ (tokens c.steps.spot.entries.now)
-        c.in-Some.ensures.cases.0 c.in-Star.is in
+    c.in-Some.ensures.cases.0 c.in-Star.is in
     ends _ _ i.0 _ _ i.1 i.2 (λ x. x.0) (λ x. x.1.now) _ _ _ s c.star.ensures.kept c.star.ensures.answer
 
 pub forward-returns-in-Many-clause-answer : goal.forward-returns-in-Many-clause-answer
 forward-returns-in-Many-clause-answer g t c =
     let i = c.steps.invariant.read in
     let s = at_step c.steps.spot.fuel _ c.in-Some.parts.now _ _ (tokens c.steps.spot.entries.now)
-        c.in-Some.ensures.cases.0 c.in-Many.is in
+    c.in-Some.ensures.cases.0 c.in-Many.is in
     ends _ _ i.0 _ _ i.1 i.2 (λ x. x.0) (λ x. x.1.now) _ _ _ s c.many.ensures.kept c.many.ensures.answer
 
 pub forward-returns-in-Operand-clause-answer : goal.forward-returns-in-Operand-clause-answer
 forward-returns-in-Operand-clause-answer g t c =
     let i = c.steps.invariant.read in
     let s = at_step c.steps.spot.fuel _ c.in-Some.parts.now _ _ (tokens c.steps.spot.entries.now)
-        c.in-Some.ensures.cases.0 c.in-Operand.is in
+    c.in-Some.ensures.cases.0 c.in-Operand.is in
     ends _ _ i.0 _ _ i.1 i.2 (λ x. x.0) (λ x. x.1.now) _ _ _ s c.operand.ensures.kept c.operand.ensures.answer
 
 pub forward-returns-in_default-clause-answer : goal.forward-returns-in_default-clause-answer
@@ -84,7 +84,7 @@ pub forward-returns-in_err-spot-in-Seq-clause-answer : goal.forward-returns-in_e
 forward-returns-in_err-spot-in-Seq-clause-answer g t c =
     let i = c.steps.invariant.read in
     let s = at_step c.steps.spot.fuel _ c.in-Some.parts.now _ _ (tokens c.steps.spot.entries.now)
-        c.in-Some.ensures.cases.0 c.in-Seq.is in
+    c.in-Some.ensures.cases.0 c.in-Seq.is in
     let p = err_from_is_err_and c.from_residual.result c.from_residual.ensures.1 in
     rw (p.1, p.2) (fails _ _ i.0 _ _ i.1 i.2 _ _ _ s c.in_err-spot-in-Seq.ensures.answer)
 
@@ -92,7 +92,7 @@ pub forward-steps-preserved-in-Seq : goal.forward-steps-preserved-in-Seq
 forward-steps-preserved-in-Seq g t c =
     let i = c.steps.invariant.read in
     let s = at_step c.steps.spot.fuel _ c.in-Some.parts.now _ _ (tokens c.steps.spot.entries.now)
-        c.in-Some.ensures.cases.0 c.in-Seq.is in
+    c.in-Some.ensures.cases.0 c.in-Seq.is in
     let o = c.in_ok-spot-in-Seq in
     record {
       read = goes _ _ i.0 _ _ i.1 i.2 _ o.spot _ s o.ensures.answer;
@@ -104,7 +104,7 @@ pub forward-returns-in_err-spot-in-Alt-clause-answer : goal.forward-returns-in_e
 forward-returns-in_err-spot-in-Alt-clause-answer g t c =
     let i = c.steps.invariant.read in
     let s = at_step c.steps.spot.fuel _ c.in-Some.parts.now _ _ (tokens c.steps.spot.entries.now)
-        c.in-Some.ensures.cases.0 c.in-Alt.is in
+    c.in-Some.ensures.cases.0 c.in-Alt.is in
     let p = err_from_is_err_and c.from_residual-in_err-spot-in-Alt.result c.from_residual-in_err-spot-in-Alt.ensures.1 in
     rw (p.1, p.2) (fails _ _ i.0 _ _ i.1 i.2 _ _ _ s c.in_err-spot-in-Alt.ensures.answer)
 
@@ -112,7 +112,7 @@ pub forward-steps-preserved-in-Alt : goal.forward-steps-preserved-in-Alt
 forward-steps-preserved-in-Alt g t c =
     let i = c.steps.invariant.read in
     let s = at_step c.steps.spot.fuel _ c.in-Some.parts.now _ _ (tokens c.steps.spot.entries.now)
-        c.in-Some.ensures.cases.0 c.in-Alt.is in
+    c.in-Some.ensures.cases.0 c.in-Alt.is in
     let o = c.in_ok-spot-in-Alt in
     record {
       read = goes _ _ i.0 _ _ i.1 i.2 _ o.spot _ s o.ensures.answer;
@@ -124,7 +124,7 @@ pub forward-returns-in_err-spot-in-Group-clause-answer : goal.forward-returns-in
 forward-returns-in_err-spot-in-Group-clause-answer g t c =
     let i = c.steps.invariant.read in
     let s = at_step c.steps.spot.fuel _ c.in-Some.parts.now _ _ (tokens c.steps.spot.entries.now)
-        c.in-Some.ensures.cases.0 c.in-Group.is in
+    c.in-Some.ensures.cases.0 c.in-Group.is in
     let p = err_from_is_err_and c.from_residual-in_err-spot-in-Group.result c.from_residual-in_err-spot-in-Group.ensures.1 in
     rw (p.1, p.2) (fails _ _ i.0 _ _ i.1 i.2 _ _ _ s c.in_err-spot-in-Group.ensures.answer)
 
@@ -132,7 +132,7 @@ pub forward-steps-preserved-in-Group : goal.forward-steps-preserved-in-Group
 forward-steps-preserved-in-Group g t c =
     let i = c.steps.invariant.read in
     let s = at_step c.steps.spot.fuel _ c.in-Some.parts.now _ _ (tokens c.steps.spot.entries.now)
-        c.in-Some.ensures.cases.0 c.in-Group.is in
+    c.in-Some.ensures.cases.0 c.in-Group.is in
     let o = c.in_ok-spot-in-Group in
     record {
       read = goes _ _ i.0 _ _ i.1 i.2 _ o.spot _ s o.ensures.answer;
@@ -144,7 +144,7 @@ pub forward-returns-in_err-spot-in-Judged-clause-answer : goal.forward-returns-i
 forward-returns-in_err-spot-in-Judged-clause-answer g t c =
     let i = c.steps.invariant.read in
     let s = at_step c.steps.spot.fuel _ c.in-Some.parts.now _ _ (tokens c.steps.spot.entries.now)
-        c.in-Some.ensures.cases.0 c.in-Judged.is in
+    c.in-Some.ensures.cases.0 c.in-Judged.is in
     let p = err_from_is_err_and c.from_residual-in_err-spot-in-Judged.result c.from_residual-in_err-spot-in-Judged.ensures.1 in
     rw (p.1, p.2) (fails _ _ i.0 _ _ i.1 i.2 _ _ _ s c.in_err-spot-in-Judged.ensures.answer)
 
@@ -152,7 +152,7 @@ pub forward-steps-preserved-in-Judged : goal.forward-steps-preserved-in-Judged
 forward-steps-preserved-in-Judged g t c =
     let i = c.steps.invariant.read in
     let s = at_step c.steps.spot.fuel _ c.in-Some.parts.now _ _ (tokens c.steps.spot.entries.now)
-        c.in-Some.ensures.cases.0 c.in-Judged.is in
+    c.in-Some.ensures.cases.0 c.in-Judged.is in
     let o = c.in_ok-spot-in-Judged in
     record {
       read = goes _ _ i.0 _ _ i.1 i.2 _ o.spot _ s o.ensures.answer;
@@ -164,7 +164,7 @@ pub forward-returns-in_err-spot-in-Dropped-clause-answer : goal.forward-returns-
 forward-returns-in_err-spot-in-Dropped-clause-answer g t c =
     let i = c.steps.invariant.read in
     let s = at_step c.steps.spot.fuel _ c.in-Some.parts.now _ _ (tokens c.steps.spot.entries.now)
-        c.in-Some.ensures.cases.0 c.in-Dropped.is in
+    c.in-Some.ensures.cases.0 c.in-Dropped.is in
     let p = err_from_is_err_and c.from_residual-in_err-spot-in-Dropped.result c.from_residual-in_err-spot-in-Dropped.ensures.1 in
     rw (p.1, p.2) (fails _ _ i.0 _ _ i.1 i.2 _ _ _ s c.in_err-spot-in-Dropped.ensures.answer)
 
@@ -172,7 +172,7 @@ pub forward-steps-preserved-in-Dropped : goal.forward-steps-preserved-in-Dropped
 forward-steps-preserved-in-Dropped g t c =
     let i = c.steps.invariant.read in
     let s = at_step c.steps.spot.fuel _ c.in-Some.parts.now _ _ (tokens c.steps.spot.entries.now)
-        c.in-Some.ensures.cases.0 c.in-Dropped.is in
+    c.in-Some.ensures.cases.0 c.in-Dropped.is in
     let o = c.in_ok-spot-in-Dropped in
     record {
       read = goes _ _ i.0 _ _ i.1 i.2 _ o.spot _ s o.ensures.answer;
@@ -184,7 +184,7 @@ pub forward-returns-in_err-spot-in-Called-clause-answer : goal.forward-returns-i
 forward-returns-in_err-spot-in-Called-clause-answer g t c =
     let i = c.steps.invariant.read in
     let s = at_step c.steps.spot.fuel _ c.in-Some.parts.now _ _ (tokens c.steps.spot.entries.now)
-        c.in-Some.ensures.cases.0 c.in-Called.is in
+    c.in-Some.ensures.cases.0 c.in-Called.is in
     let p = err_from_is_err_and c.from_residual-in_err-spot-in-Called.result c.from_residual-in_err-spot-in-Called.ensures.1 in
     rw (p.1, p.2) (fails _ _ i.0 _ _ i.1 i.2 _ _ _ s c.in_err-spot-in-Called.ensures.answer)
 
@@ -192,7 +192,7 @@ pub forward-steps-preserved-in-Called : goal.forward-steps-preserved-in-Called
 forward-steps-preserved-in-Called g t c =
     let i = c.steps.invariant.read in
     let s = at_step c.steps.spot.fuel _ c.in-Some.parts.now _ _ (tokens c.steps.spot.entries.now)
-        c.in-Some.ensures.cases.0 c.in-Called.is in
+    c.in-Some.ensures.cases.0 c.in-Called.is in
     let o = c.in_ok-spot-in-Called in
     record {
       read = goes _ _ i.0 _ _ i.1 i.2 _ o.spot _ s o.ensures.answer;
@@ -204,7 +204,7 @@ pub forward-returns-in_err-spot-in-Ref-clause-answer : goal.forward-returns-in_e
 forward-returns-in_err-spot-in-Ref-clause-answer g t c =
     let i = c.steps.invariant.read in
     let s = at_step c.steps.spot.fuel _ c.in-Some.parts.now _ _ (tokens c.steps.spot.entries.now)
-        c.in-Some.ensures.cases.0 c.in-Ref.is in
+    c.in-Some.ensures.cases.0 c.in-Ref.is in
     let p = err_from_is_err_and c.from_residual-in_err-spot-in-Ref.result c.from_residual-in_err-spot-in-Ref.ensures.1 in
     rw (p.1, p.2) (fails _ _ i.0 _ _ i.1 i.2 _ _ _ s c.in_err-spot-in-Ref.ensures.answer)
 
@@ -212,7 +212,7 @@ pub forward-steps-preserved : goal.forward-steps-preserved
 forward-steps-preserved g t c =
     let i = c.steps.invariant.read in
     let s = at_step c.steps.spot.fuel _ c.in-Some.parts.now _ _ (tokens c.steps.spot.entries.now)
-        c.in-Some.ensures.cases.0 c.in-Ref.is in
+    c.in-Some.ensures.cases.0 c.in-Ref.is in
     let o = c.in_ok-spot-in-Ref in
     record {
       read = goes _ _ i.0 _ _ i.1 i.2 _ o.spot _ s o.ensures.answer;
@@ -242,8 +242,8 @@ pub seq-returns-clause-answer : goal.seq-returns-clause-answer
 seq-returns-clause-answer g t c =
     let call = run c.args.fuel in
     let h = c.to_make.ensures.answer _
-        (ap (λ g. says call g (tokens c.args.at.now)) c.in-Some.ensures.says
-        ∙ got_on (says call (gram_of c.in-Some.first.now) (tokens c.args.at.now)) _ _ _ c.in_ok-front.ensures.answer) in
+    (ap (λ g. says call g (tokens c.args.at.now)) c.in-Some.ensures.says
+    ∙ got_on (says call (gram_of c.in-Some.first.now) (tokens c.args.at.now)) _ _ _ c.in_ok-front.ensures.answer) in
     leads_on says_at _ _ _ [] _ _ _ (c.in_ok-front.ensures.kept ∙ sym (append-nil _)) refl h
 
 pub many-returns-in_err-tree-clause-answer : goal.many-returns-in_err-tree-clause-answer
