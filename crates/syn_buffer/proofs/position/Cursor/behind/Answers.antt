@@ -1,4 +1,5 @@
 use Rattle.std.proofs.Common.{◌≡◌, ◌∙◌, ◌-◌, ◌++◌, List, IsTrue, ap, subst, sym, arith, length, take, drop, length-drop}
+use Rattle.proc_macro2.specs.Token.{Spanned}
 use Rattle.syn_buffer.specs.Entries.{is_laid, spanned_entries}
 use Rattle.syn_buffer.specs.Position.{rest}
 use Rattle.syn_buffer.specs.Seen.{all_seen, seen}
