@@ -9,3 +9,5 @@ pub mod Numbers
 pub mod Dots
 pub mod Seeking
 pub mod Spaced
+pub mod Seen
+pub mod Lengths

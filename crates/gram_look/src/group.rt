@@ -6,7 +6,7 @@ ghost use Rattle.gram_look.specs.Tokens.{after, tokens};
 ghost use Rattle.proc_macro2.specs.Token as token;
 ghost use Rattle.std.specs.Prelude.{◌+◌, ◌<◌, ◌≤◌, ◌∷◌, ◌≡◌, [], IfNone, IfSome, Some, length, true, suc, drop};
 ghost use Rattle.syn_buffer.specs.Entries.{is_whole};
-ghost use Rattle.syn_grammar.specs.Look.{a_group, closes, opening, opens, past_closing, past_first, past_marks};
+ghost use Rattle.syn_grammar.specs.Look.{a_group, closes, opening, opens, past_closing, past_first, past_marks, sees};
 ghost use Rattle.proc_macro2.specs.Groups.{same_delimiter};
 
 use crate::sign::first_mark;
@@ -79,6 +79,36 @@ pub fn opens<'a, 'e>(delimiter: Delimiter, at: &'a [Entry<'e>]) -> Option<&'a [E
         Some(rest)
     } else {
         None
+    }
+}
+
+// The delimiter of the group that opens first, and what is left behind the mark.
+#[inline(always)]
+fn first_delimiter<'a, 'e>(at: &'a [Entry<'e>]) -> Option<(Delimiter, &'a [Entry<'e>])>
+    ensures some { IfSome result (λ r. tokens at.now ≡ token.Opens r.0 ∷ tokens r.1.now) }
+    ensures none { IfNone result (no_opening (tokens at.now)) }
+{
+    let Some((first, rest)) = at.split_first() else {
+        return None;
+    };
+    match first {
+        Entry::Open(delimiter, ..) => Some((*delimiter, rest)),
+        Entry::Close(..) => None,
+        Entry::Ident(_) => None,
+        Entry::Punct(_) => None,
+        Entry::Literal(_) => None,
+    }
+}
+
+/// Whether the mark that opens such a group stands first.
+#[inline(always)]
+#[tactic(auto, using(crate::proofs::Seen::no_group, crate::proofs::Seen::group))]
+pub fn is_open(delimiter: Delimiter, at: &[Entry<'_>]) -> bool
+    ensures { result ≡ sees (opens delimiter) (tokens at.now) }
+{
+    match first_delimiter(at) {
+        Some((found, _)) => is_same(found, delimiter),
+        None => false,
     }
 }
 

@@ -7,24 +7,46 @@ ghost use Rattle.gram_table.specs.Words.{keyword_text, words_of};
 ghost use Rattle.rust_leaf.specs.Leaf.{ident_text};
 ghost use Rattle.std.specs.Prelude.{◌≡◌, IfSome, codes, true};
 ghost use Rattle.std.specs.Str.{chars};
-ghost use Rattle.syn_grammar.specs.Look.{a_word};
+ghost use Rattle.syn_grammar.specs.Look.{a_word, sees};
 ghost use Rattle.syn_grammar.specs.Words.{is_among, is_bool, is_ident, is_name, is_path_keyword, is_plain_name, same_text};
 
+use crate::reserved::is_reserved;
 use crate::sign::first_ident;
 use gram_table::word::{Keyword, Words};
 use rust_leaf::ident::Ident;
 use syn_buffer::entry::Entry;
-use syn_kinds::table::is_reserved;
 
-// Whether the word is that text.
+// Whether the word may be that text, by its first byte and its length: they tell most apart.
+#[inline(always)]
+fn may_be(ident: &Ident, text: &str) -> bool
+    ensures { ident_text ident.now ≡ chars text.now → result ≡ true }
+{
+    match text.as_bytes() {
+        [] => true,
+        [first, ..] => ident.first_byte() == *first && ident.len() == text.len(),
+    }
+}
+
+// Whether the word is that text, byte by byte.
+#[inline(never)]
 #[tactic(auto, using(crate::proofs::Texts::compared))]
-fn is(ident: &Ident, text: &str) -> bool
+fn is_throughout(ident: &Ident, text: &str) -> bool
     ensures { result ≡ same_text (chars text.now) (ident_text ident.now) }
 {
     ident.is_text(text)
 }
 
+// Whether the word is that text.
+#[inline(always)]
+#[tactic(auto, using(crate::proofs::Texts::another))]
+fn is(ident: &Ident, text: &str) -> bool
+    ensures { result ≡ same_text (chars text.now) (ident_text ident.now) }
+{
+    may_be(ident, text) && is_throughout(ident, text)
+}
+
 // Whether the word is that keyword.
+#[inline(always)]
 #[tactic(auto, using(crate::proofs::Texts::is_word))]
 fn is_keyword(ident: &Ident, keyword: Keyword) -> bool
     ensures { result ≡ same_text (keyword_text keyword) (ident_text ident.now) }
@@ -43,7 +65,6 @@ pub fn among(ident: &Ident, keywords: &[Keyword]) -> bool
 }
 
 // Whether the word is no reserved one.
-#[tactic(auto, using(crate::proofs::Texts::same_reserved))]
 fn is_ident(ident: &Ident) -> bool
     ensures { result ≡ is_ident (ident_text ident.now) }
 {
@@ -139,6 +160,21 @@ pub fn word(words: Words, ident: &Ident) -> bool
         Words::Safety => among(ident, &[Keyword::Unsafe, Keyword::Safe]),
         Words::ConstOrMut => among(ident, &[Keyword::Const, Keyword::Mut]),
         Words::ItemWord => among(ident, &ITEM_WORDS),
+    }
+}
+
+/// Whether a word stands first and passes.
+#[inline(always)]
+#[tactic(auto, using(crate::proofs::Seen::no_word, crate::proofs::Seen::word))]
+pub fn is_word(words: Words, at: &[Entry<'_>]) -> bool
+    ensures { result ≡ sees (a_word (words_of words)) (tokens at.now) }
+{
+    let Some((ident, _)) = first_ident(at) else {
+        return false;
+    };
+    match words {
+        Words::Keyword(keyword) => is_keyword(ident, keyword),
+        _ => word(words, ident),
     }
 }
 

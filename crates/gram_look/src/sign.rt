@@ -11,7 +11,7 @@ ghost use Rattle.rust_leaf.specs.Leaf.{ident_text, punct_char, punct_spacing};
 ghost use Rattle.std.specs.Prelude.{◌==◌, ◌∷◌, ◌≡◌, IfNone, IfSome, IsTrue, List, MatchOption, true};
 ghost use Rattle.syn_buffer.specs.Entries.{is_whole};
 ghost use Rattle.syn_grammar.specs.Gram.{punct};
-ghost use Rattle.syn_grammar.specs.Look.{a_lifetime, past_marks, the_mark};
+ghost use Rattle.syn_grammar.specs.Look.{a_lifetime, past_marks, sees, the_mark};
 ghost use Rattle.syn_grammar.specs.Run.{Call, Got, Out, Refused, interp, mark_at};
 ghost use Rattle.syn_grammar.specs.Tree.{AMark};
 
@@ -81,6 +81,39 @@ pub fn sign<'a, 'e>(sign: Sign, at: &'a [Entry<'e>]) -> Option<&'a [Entry<'e>]>
     }
     let (first, others) = sign.text().as_bytes().split_first()?;
     past(*first, others, at)
+}
+
+// Whether marks stand first of which all but the last are joint.
+#[inline(never)]
+#[tactic(auto, using(crate::proofs::Seen::there, crate::proofs::Seen::not_there))]
+fn are_marks(first: u8, others: &[u8], at: &[Entry<'_>]) -> bool
+    ensures { result ≡ sees (past_marks first others.now) (tokens at.now) }
+{
+    past(first, others, at).is_some()
+}
+
+/// Whether a punctuation stands first. What follows its last mark isn't looked at.
+#[inline(always)]
+#[tactic(auto, using(crate::proofs::Seen::no_mark, crate::proofs::Seen::no_text, crate::proofs::Seen::another_mark, crate::proofs::Seen::last_mark, crate::proofs::Seen::joint_mark, crate::proofs::Seen::lone_mark))]
+pub fn is_sign(sign: Sign, at: &[Entry<'_>]) -> bool
+    ensures { result ≡ sees (the_mark (sign_text sign)) (tokens at.now) }
+{
+    let Some((mark, rest)) = first_mark(at) else {
+        return false;
+    };
+    let Some((first, others)) = sign.text().as_bytes().split_first() else {
+        return false;
+    };
+    if !is_mark(mark, *first) {
+        return false;
+    }
+    let Some((next, more)) = others.split_first() else {
+        return true;
+    };
+    match mark.spacing() {
+        Spacing::Joint => are_marks(*next, more, rest),
+        Spacing::Alone => false,
+    }
 }
 
 // How the last of marks of which all but it are joint is spaced, and what is left behind it.
