@@ -103,7 +103,7 @@ fn first_delimiter<'a, 'e>(at: &'a [Entry<'e>]) -> Option<(Delimiter, &'a [Entry
 /// Whether the mark that opens such a group stands first.
 #[inline(always)]
 #[tactic(auto, using(crate::proofs::Seen::no_group, crate::proofs::Seen::group))]
-pub fn is_open(delimiter: Delimiter, at: &[Entry<'_>]) -> bool
+pub fn opens_first(delimiter: Delimiter, at: &[Entry<'_>]) -> bool
     ensures { result ≡ sees (opens delimiter) (tokens at.now) }
 {
     match first_delimiter(at) {

@@ -13,10 +13,13 @@ use Rattle.syn_buffer.specs.declared.entry.Entry.{Entry}
 use Rattle.syn_buffer.specs.declared.entry.Entry.TheVariants as entry
 use Rattle.syn_grammar.specs.Forms as f
 use Rattle.syn_grammar.specs.Kind as k
-use Rattle.syn_grammar.specs.Look.{an_ident, seen, sees, ◌or◌, ◌then◌}
+use Rattle.syn_grammar.specs.Look.{Look, an_ident, behind, past_literals, seen, sees, ◌or◌, ◌then◌}
 use Rattle.syn_grammar.specs.Say.{at, marks, parenthesis}
-use Rattle.syn_grammar.specs.Words.{same_text}
+use Rattle.syn_grammar.specs.Words.{ends_in_dot, is_ident, same_text}
+use Rattle.gram_look.specs.Marks.{no_word}
 use Rattle.gram_look.specs.Tokens.{tokens}
+use Rattle.gram_look.proofs.Leaves.{none_word}
+use Rattle.gram_sight.proofs.Glances.{no_word_first, word_first}
 
 -- no token, a mark that closes, and a literal
 pub none_back : (p : k.Position) (es : List Entry) → length es ≡ 0 → f.back p (tokens es) ≡ None
@@ -304,30 +307,78 @@ by_dot p c s ts us a m d e h g i j l =
     step k.InArm = refl
     step k.InStatement = refl
 
-pub await_back : (p : k.Position) (c : ℕ) (s : Spacing) (ts us : List Token) → ts ≡ Punct c s ∷ us
-    → s ≡ Alone → c ≡ 46 → true ≡ sees (f.dot_stands then at "await") ts → f.back p ts ≡ Some k.ExprAwait
-await_back p c s ts us e h g i =
-    by_dot p c s ts us true (sees (f.dot_stands then an_ident then (parenthesis or marks "::")) ts)
-    (sees f.dot_stands ts)
-    e h g i refl refl
+-- by what stands behind the dot and the numbers that end in one
+dot_seen : (c : ℕ) (s : Spacing) (ts us : List Token) → ts ≡ Punct c s ∷ us → s ≡ Alone → c ≡ 46
+    → past_literals ends_in_dot us ≡ f.dot_stands ts
+dot_seen c s ts us e h g =
+    ap (λ x. f.dot_stands (Punct x Alone ∷ us)) (sym g) ∙ ap (λ x. f.dot_stands (Punct c x ∷ us)) (sym h)
+    ∙ ap f.dot_stands (sym e)
 
-pub method_back : (p : k.Position) (c : ℕ) (s : Spacing) (ts us : List Token) → ts ≡ Punct c s ∷ us
-    → s ≡ Alone → c ≡ 46 → false ≡ sees (f.dot_stands then at "await") ts
-    → true ≡ sees (f.dot_stands then an_ident then (parenthesis or marks "::")) ts
+abbrev calls : Look
+calls = an_ident then (parenthesis or marks "::")
+
+pub nothing_back : (p : k.Position) (c : ℕ) (s : Spacing) (ts us : List Token) → ts ≡ Punct c s ∷ us
+    → s ≡ Alone → c ≡ 46 → None ≡ past_literals ends_in_dot us → f.back p ts ≡ None
+nothing_back p c s ts us e h g n =
+    let o : None ≡ f.dot_stands ts = n ∙ dot_seen c s ts us e h g in
+    by_dot p c s ts us false false false e h g (ap (λ x. seen (behind x (at "await"))) o)
+    (ap (λ x. seen (behind x calls)) o) (ap seen o)
+
+by_behind : (p : k.Position) (c : ℕ) (s : Spacing) (ts us vs : List Token) (a m : Bool) → ts ≡ Punct c s ∷ us
+    → s ≡ Alone → c ≡ 46 → Some vs ≡ past_literals ends_in_dot us → a ≡ sees (at "await") vs → m ≡ sees calls vs
+    → f.back p ts ≡ cond a (Some k.ExprAwait) (cond m (Some k.ExprMethodCall) (Some k.ExprField))
+by_behind p c s ts us vs a m e h g n i j =
+    let o : Some vs ≡ f.dot_stands ts = n ∙ dot_seen c s ts us e h g in
+    by_dot p c s ts us a m true e h g (i ∙ ap (λ x. seen (behind x (at "await"))) o)
+    (j ∙ ap (λ x. seen (behind x calls)) o) (ap seen o)
+
+pub field_back : (p : k.Position) (c : ℕ) (s : Spacing) (ts us vs : List Token) → ts ≡ Punct c s ∷ us
+    → s ≡ Alone → c ≡ 46 → Some vs ≡ past_literals ends_in_dot us → no_word vs → f.back p ts ≡ Some k.ExprField
+field_back p c s ts us vs e h g n w =
+    by_behind p c s ts us vs false false e h g n (no_word_first (λ cs. same_text (codes "await") cs) vs w) (no_call vs w)
+  where
+    no_call : (vs : List Token) → no_word vs → false ≡ sees calls vs
+    no_call vs w = ap (λ x. seen (behind x (parenthesis or marks "::"))) (none_word is_ident vs w)
+
+pub await_back : (p : k.Position) (c : ℕ) (s : Spacing) (ts us vs xs : List Token) (w : List ℕ)
+    → ts ≡ Punct c s ∷ us → s ≡ Alone → c ≡ 46 → Some vs ≡ past_literals ends_in_dot us → vs ≡ Ident w ∷ xs
+    → same_text (codes "await") w ≡ true → f.back p ts ≡ Some k.ExprAwait
+await_back p c s ts us vs xs w e h g n i j =
+    by_behind p c s ts us vs true (sees calls vs) e h g n
+    (word_first (λ cs. same_text (codes "await") cs) w vs xs true i (sym j)) refl
+
+-- a word that isn't await: whether it is an Ident, and arguments stand behind it
+by_name : (p : k.Position) (c : ℕ) (s : Spacing) (ts us vs xs : List Token) (w : List ℕ) (b : Bool)
+    → ts ≡ Punct c s ∷ us → s ≡ Alone → c ≡ 46 → Some vs ≡ past_literals ends_in_dot us → vs ≡ Ident w ∷ xs
+    → same_text (codes "await") w ≡ false → is_ident w ≡ b
+    → f.back p ts ≡ cond (seen (behind (cond b (Some xs) None) (parenthesis or marks "::"))) (Some k.ExprMethodCall)
+    (Some k.ExprField)
+by_name p c s ts us vs xs w b e h g n i j l =
+    by_behind p c s ts us vs false (seen (behind (cond b (Some xs) None) (parenthesis or marks "::"))) e h g n
+    (word_first (λ cs. same_text (codes "await") cs) w vs xs false i (sym j))
+    (ap (λ x. seen (behind (cond x (Some xs) None) (parenthesis or marks "::"))) (sym l)
+    ∙ ap (sees calls) (sym i))
+
+pub method_back : (p : k.Position) (c : ℕ) (s : Spacing) (ts us vs xs : List Token) (w : List ℕ)
+    → ts ≡ Punct c s ∷ us → s ≡ Alone → c ≡ 46 → Some vs ≡ past_literals ends_in_dot us → vs ≡ Ident w ∷ xs
+    → same_text (codes "await") w ≡ false → is_ident w ≡ true → true ≡ sees (parenthesis or marks "::") xs
     → f.back p ts ≡ Some k.ExprMethodCall
-method_back p c s ts us e h g i j = by_dot p c s ts us false true (sees f.dot_stands ts) e h g i j refl
+method_back p c s ts us vs xs w e h g n i j l m =
+    by_name p c s ts us vs xs w true e h g n i j l
+    ∙ ap (λ b. cond b (Some k.ExprMethodCall) (Some k.ExprField)) (sym m)
 
-pub field_back : (p : k.Position) (c : ℕ) (s : Spacing) (ts us : List Token) → ts ≡ Punct c s ∷ us
-    → s ≡ Alone → c ≡ 46 → false ≡ sees (f.dot_stands then at "await") ts
-    → false ≡ sees (f.dot_stands then an_ident then (parenthesis or marks "::")) ts
-    → true ≡ sees f.dot_stands ts → f.back p ts ≡ Some k.ExprField
-field_back p c s ts us e h g i j l = by_dot p c s ts us false false true e h g i j l
+pub uncalled_back : (p : k.Position) (c : ℕ) (s : Spacing) (ts us vs xs : List Token) (w : List ℕ)
+    → ts ≡ Punct c s ∷ us → s ≡ Alone → c ≡ 46 → Some vs ≡ past_literals ends_in_dot us → vs ≡ Ident w ∷ xs
+    → same_text (codes "await") w ≡ false → is_ident w ≡ true → false ≡ sees (parenthesis or marks "::") xs
+    → f.back p ts ≡ Some k.ExprField
+uncalled_back p c s ts us vs xs w e h g n i j l m =
+    by_name p c s ts us vs xs w true e h g n i j l
+    ∙ ap (λ b. cond b (Some k.ExprMethodCall) (Some k.ExprField)) (sym m)
 
-pub no_back : (p : k.Position) (c : ℕ) (s : Spacing) (ts us : List Token) → ts ≡ Punct c s ∷ us
-    → s ≡ Alone → c ≡ 46 → false ≡ sees (f.dot_stands then at "await") ts
-    → false ≡ sees (f.dot_stands then an_ident then (parenthesis or marks "::")) ts
-    → false ≡ sees f.dot_stands ts → f.back p ts ≡ None
-no_back p c s ts us e h g i j l = by_dot p c s ts us false false false e h g i j l
+pub reserved_back : (p : k.Position) (c : ℕ) (s : Spacing) (ts us vs xs : List Token) (w : List ℕ)
+    → ts ≡ Punct c s ∷ us → s ≡ Alone → c ≡ 46 → Some vs ≡ past_literals ends_in_dot us → vs ≡ Ident w ∷ xs
+    → same_text (codes "await") w ≡ false → is_ident w ≡ false → f.back p ts ≡ Some k.ExprField
+reserved_back p c s ts us vs xs w e h g n i j l = by_name p c s ts us vs xs w false e h g n i j l
 
 pub percent_back : (p : k.Position) (c : ℕ) (s : Spacing) (ts us : List Token) → ts ≡ Punct c s ∷ us → s ≡ Alone
     → c ≡ 37 → f.back p ts ≡ Some k.ExprProduct
@@ -430,6 +481,59 @@ unfolding f.back
 either_back p c d s t ts us vs h j i m n = by_marks p c d 124 124 s t ts us vs h j i m n ∙ step p
   where
     step : (p : k.Position) → f.back p (Punct 124 Joint ∷ Punct 124 t ∷ vs) ≡ Some k.ExprOr
+    step k.Plain = refl
+    step k.InCondition = refl
+    step k.InArm = refl
+    step k.InStatement = refl
+
+-- two marks that no further one follows
+pub left_back : (p : k.Position) (c d : ℕ) (s t : Spacing) (ts us : List Token) → ts ≡ Punct c s ∷ Punct d t ∷ us
+    → s ≡ Joint → t ≡ Alone → c ≡ 60 → d ≡ 60 → f.back p ts ≡ Some k.ExprShift
+unfolding f.back
+left_back p c d s t ts us e h i m n =
+    by_marks p c d 60 60 s t ts (Punct d t ∷ us) us e h refl m n
+    ∙ ap (λ x. f.back p (Punct 60 Joint ∷ Punct 60 x ∷ us)) i ∙ step p
+  where
+    step : (p : k.Position) → f.back p (Punct 60 Joint ∷ Punct 60 Alone ∷ us) ≡ Some k.ExprShift
+    step k.Plain = refl
+    step k.InCondition = refl
+    step k.InArm = refl
+    step k.InStatement = refl
+
+pub no_more_back : (p : k.Position) (c d : ℕ) (s t : Spacing) (ts us : List Token) → ts ≡ Punct c s ∷ Punct d t ∷ us
+    → s ≡ Joint → t ≡ Alone → c ≡ 60 → d ≡ 61 → f.back p ts ≡ Some k.ExprCompare
+unfolding f.back
+no_more_back p c d s t ts us e h i m n =
+    by_marks p c d 60 61 s t ts (Punct d t ∷ us) us e h refl m n
+    ∙ ap (λ x. f.back p (Punct 60 Joint ∷ Punct 61 x ∷ us)) i ∙ step p
+  where
+    step : (p : k.Position) → f.back p (Punct 60 Joint ∷ Punct 61 Alone ∷ us) ≡ Some k.ExprCompare
+    step k.Plain = refl
+    step k.InCondition = refl
+    step k.InArm = refl
+    step k.InStatement = refl
+
+pub right_back : (p : k.Position) (c d : ℕ) (s t : Spacing) (ts us : List Token) → ts ≡ Punct c s ∷ Punct d t ∷ us
+    → s ≡ Joint → t ≡ Alone → c ≡ 62 → d ≡ 62 → f.back p ts ≡ Some k.ExprShift
+unfolding f.back
+right_back p c d s t ts us e h i m n =
+    by_marks p c d 62 62 s t ts (Punct d t ∷ us) us e h refl m n
+    ∙ ap (λ x. f.back p (Punct 62 Joint ∷ Punct 62 x ∷ us)) i ∙ step p
+  where
+    step : (p : k.Position) → f.back p (Punct 62 Joint ∷ Punct 62 Alone ∷ us) ≡ Some k.ExprShift
+    step k.Plain = refl
+    step k.InCondition = refl
+    step k.InArm = refl
+    step k.InStatement = refl
+
+pub no_less_back : (p : k.Position) (c d : ℕ) (s t : Spacing) (ts us : List Token) → ts ≡ Punct c s ∷ Punct d t ∷ us
+    → s ≡ Joint → t ≡ Alone → c ≡ 62 → d ≡ 61 → f.back p ts ≡ Some k.ExprCompare
+unfolding f.back
+no_less_back p c d s t ts us e h i m n =
+    by_marks p c d 62 61 s t ts (Punct d t ∷ us) us e h refl m n
+    ∙ ap (λ x. f.back p (Punct 62 Joint ∷ Punct 61 x ∷ us)) i ∙ step p
+  where
+    step : (p : k.Position) → f.back p (Punct 62 Joint ∷ Punct 61 Alone ∷ us) ≡ Some k.ExprCompare
     step k.Plain = refl
     step k.InCondition = refl
     step k.InArm = refl

@@ -17,6 +17,7 @@ use Rattle.syn_grammar.specs.Kind as k
 use Rattle.syn_grammar.specs.Look.{Look, ◌then◌, ◌or◌, sees}
 use Rattle.syn_grammar.specs.Say.{at, marks}
 use Rattle.gram_look.specs.Tokens.{tokens}
+use Rattle.gram_sight.proofs.Sees.{then_fails}
 
 -- &raw const, &raw mut
 abbrev raw_stands : Look
@@ -182,3 +183,22 @@ and_front p c s ts us b e h g d =
     step k.InCondition = refl
     step k.InArm = refl
     step k.InStatement = refl
+
+-- a closure has a type behind its parameters, where one stands behind two bars
+pub typed_so : (c : ℕ) (s : Spacing) (ts us : List Token) (b : Bool) → ts ≡ Punct c s ∷ us → s ≡ Alone → c ≡ 124
+    → b ≡ sees (f.past_bar then f.past_bar then marks "->") ts → b ≡ sees f.typed_closure_stands ts
+typed_so c s ts us b e h g d = d ∙ ap (sees (f.past_bar then f.past_bar then marks "->")) is_bar ∙ ap (sees f.typed_closure_stands) (sym is_bar)
+  where
+    is_bar : ts ≡ Punct 124 Alone ∷ us
+    is_bar = e ∙ ap (λ x. Punct c x ∷ us) h ∙ ap (λ x. Punct x Alone ∷ us) g
+
+-- no raw stands behind the mark
+pub reference_front : (p : k.Position) (c : ℕ) (s : Spacing) (ts us : List Token) → ts ≡ Punct c s ∷ us → s ≡ Alone
+    → c ≡ 38 → false ≡ sees (at "raw") us → f.front p ts ≡ Some k.ExprReference
+reference_front p c s ts us e h g d = and_front p c s ts us false e h g none
+  where
+    is_and : Punct 38 Alone ∷ us ≡ ts
+    is_and = sym (e ∙ ap (λ x. Punct c x ∷ us) h ∙ ap (λ x. Punct x Alone ∷ us) g)
+
+    none : false ≡ sees raw_stands ts
+    none = then_fails (at "raw") (at "const" or at "mut") us d ∙ ap (sees raw_stands) is_and

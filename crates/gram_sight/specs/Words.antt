@@ -26,6 +26,10 @@ signature_words = codes "fn" ∷ codes "const" ∷ codes "async" ∷ codes "unsa
 abbrev pub closure_words : List (List ℕ)
 closure_words = codes "static" ∷ codes "move" ∷ codes "const" ∷ codes "async" ∷ codes "for" ∷ []
 
+-- the words that begin a function pointer
+abbrev pub pointer_words : List (List ℕ)
+pointer_words = codes "for" ∷ codes "unsafe" ∷ codes "extern" ∷ codes "fn" ∷ []
+
 -- a word that may begin an item: a reserved one, or one of these names
 abbrev pub may_begin_item : List ℕ → Bool
 may_begin_item cs = is_reserved cs || is_among (codes "union" ∷ codes "auto" ∷ codes "default" ∷ []) cs

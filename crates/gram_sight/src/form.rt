@@ -12,22 +12,31 @@ ghost use Rattle.proc_macro2.specs.declared.delimiter.Delimiter.TheVariants.{Bra
 ghost use Rattle.rust_leaf.specs.Leaf.{ident_text, punct_char, punct_spacing};
 ghost use Rattle.rust_leaf.specs.declared.punct.Spacing.TheVariants.{Alone, Joint};
 ghost use Rattle.std.specs.Prelude.{◌∷◌, ◌≡◌, MatchOption, None, Some, false, true};
-ghost use Rattle.syn_grammar.specs.Forms.{back, brace_ends, first_form, front, has_right, operand_stands, range_is_open};
-ghost use Rattle.syn_grammar.specs.Look.{no, sees, ◌then◌};
+ghost use Rattle.syn_grammar.specs.Forms.{back, brace_ends, first_form, front, has_right, operand_stands, past_bar};
+ghost use Rattle.syn_grammar.specs.Forms.{range_is_open, repeat_stands};
+ghost use Rattle.syn_grammar.specs.Look.{no, sees, ◌or◌, ◌then◌};
+ghost use Rattle.syn_grammar.specs.Say.{marks, parenthesis};
 ghost use Rattle.syn_grammar.specs.Words.{is_among, is_name, same_text};
 
 use crate::look::look;
-use gram_look::leaf::word;
-use gram_look::sign::first_mark;
+use gram_look::group::{opens, opens_first, past_first};
+use gram_look::leaf::{is_word, word};
+use gram_look::literals::past;
+use gram_look::sign::{first_ident, first_mark, is_sign};
 use gram_table::composite::Composite;
 use gram_table::form::{backs, fronts};
 use gram_table::kind::{Kind, Position};
 use gram_table::op::{Case, Look};
-use gram_table::word::{Keyword, Words};
+use gram_table::word::{Keyword, Literals, Sign, Words};
 use proc_macro2::delimiter::Delimiter;
 use rust_leaf::ident::Ident;
 use rust_leaf::punct::{Punct, Spacing};
 use syn_buffer::entry::Entry;
+
+// The characters `|` and `;`.
+const BAR: u32 = 124;
+
+const SEMICOLON: u32 = 59;
 
 // The first form of these that is seen.
 #[tactic(auto, using(crate::proofs::Forms::form_here, crate::proofs::Forms::form_behind))]
@@ -45,6 +54,18 @@ fn first_form(cases: &[Case], at: &[Entry<'_>]) -> Option<Kind>
                 first_form(others, at)
             }
         }
+    }
+}
+
+// Whether brackets open there in which a `;` stands that is in no group.
+#[tactic(auto, using(crate::proofs::Sees::then_none, crate::proofs::Sees::then_so, crate::proofs::Steps::there, crate::proofs::Steps::not_there))]
+fn is_repeated(at: &[Entry<'_>]) -> bool
+    requires { is_nested at.now ≡ true }
+    ensures { result ≡ sees repeat_stands (tokens at.now) }
+{
+    match opens(Delimiter::Bracket, at) {
+        Some(inside) => past_first(SEMICOLON, inside).is_some(),
+        None => false,
     }
 }
 
@@ -66,12 +87,27 @@ fn group_front(
         Delimiter::Brace => Some(Kind::ExprBlock),
         Delimiter::None => Some(Kind::ExprGroup),
         Delimiter::Bracket => {
-            if look(Look::Composite(Composite::RepeatStands), at) {
+            if is_repeated(at) {
                 Some(Kind::ExprRepeat)
             } else {
                 Some(Kind::ExprArray)
             }
         }
+    }
+}
+
+// Whether `->` stands behind two bars, each the first one that stands in no group.
+#[tactic(auto, using(crate::proofs::Sees::then_none, crate::proofs::Sees::then_so))]
+fn is_typed(at: &[Entry<'_>]) -> bool
+    requires { is_nested at.now ≡ true }
+    ensures { result ≡ sees (past_bar then past_bar then marks "->") (tokens at.now) }
+{
+    match past_first(BAR, at) {
+        Some(parameters) => match past_first(BAR, parameters) {
+            Some(behind) => is_sign(Sign::RArrow, behind),
+            None => false,
+        },
+        None => false,
     }
 }
 
@@ -84,7 +120,7 @@ fn bar_front(position: Position, mark: &Punct, at: &[Entry<'_>], rest: &[Entry<'
     ensures { front (position_of position) (tokens at.now) ≡ Some (kind_of result) }
 {
     let _behind = (position, mark.as_char(), rest.len());
-    if look(Look::Composite(Composite::TypedClosureStands), at) {
+    if is_typed(at) {
         Kind::ExprTypedClosure
     } else {
         Kind::ExprClosure
@@ -100,6 +136,9 @@ fn and_front(position: Position, mark: &Punct, at: &[Entry<'_>], rest: &[Entry<'
     ensures { front (position_of position) (tokens at.now) ≡ Some (kind_of result) }
 {
     let _behind = (position, mark.as_char(), rest.len());
+    if !is_word(Words::Keyword(Keyword::Raw), rest) {
+        return Kind::ExprReference;
+    }
     if look(Look::Composite(Composite::RawAddrStands), at) {
         Kind::ExprRawAddr
     } else {
@@ -264,6 +303,14 @@ pub fn front(position: Position, at: &[Entry<'_>]) -> Option<Kind>
     }
 }
 
+// Whether arguments of a method stand there, or `::` before them.
+#[tactic(auto, using(crate::proofs::Sees::either, crate::proofs::Sees::neither))]
+fn is_called(at: &[Entry<'_>]) -> bool
+    ensures { result ≡ sees (parenthesis or marks "::") (tokens at.now) }
+{
+    opens_first(Delimiter::Parenthesis, at) || is_sign(Sign::PathSep, at)
+}
+
 // The form whose left operand stands before a dot that none follows at once.
 fn dot_back(position: Position, mark: &Punct, at: &[Entry<'_>], rest: &[Entry<'_>]) -> Option<Kind>
     requires nested { is_nested at.now ≡ true }
@@ -274,16 +321,57 @@ fn dot_back(position: Position, mark: &Punct, at: &[Entry<'_>], rest: &[Entry<'_
         (λ k. back (position_of position) (tokens at.now) ≡ Some (kind_of k)) }
 {
     let _behind = (position, mark.as_char(), rest.len());
-    if look(Look::Composite(Composite::AwaitStands), at) {
+    let Some(behind) = past(Literals::EndsInDot, rest) else {
+        return None;
+    };
+    let Some((ident, after)) = first_ident(behind) else {
+        return Some(Kind::ExprField);
+    };
+    if is(ident, Keyword::Await) {
         return Some(Kind::ExprAwait);
     }
-    if look(Look::Composite(Composite::MethodStands), at) {
-        return Some(Kind::ExprMethodCall);
+    if !word(Words::Ident, ident) {
+        return Some(Kind::ExprField);
     }
-    if look(Look::Composite(Composite::DotStands), at) {
-        Some(Kind::ExprField)
+    if is_called(after) {
+        Some(Kind::ExprMethodCall)
     } else {
-        None
+        Some(Kind::ExprField)
+    }
+}
+
+// The form whose left operand stands before two marks of which the first is joint.
+#[tactic(auto, using(crate::proofs::Forms::back_is))]
+fn angle_back(
+    position: Position,
+    mark: &Punct,
+    next: &Punct,
+    at: &[Entry<'_>],
+    behind: &[Entry<'_>],
+) -> Option<Kind>
+    requires nested { is_nested at.now ≡ true }
+    requires first { tokens at.now ≡ token.Punct (punct_char mark.now) (punct_spacing mark.now)
+        ∷ token.Punct (punct_char next.now) (punct_spacing next.now) ∷ tokens behind.now }
+    requires joint { punct_spacing mark.now ≡ Joint }
+    ensures { MatchOption result (back (position_of position) (tokens at.now) ≡ None)
+        (λ k. back (position_of position) (tokens at.now) ≡ Some (kind_of k)) }
+{
+    let _behind = behind.len();
+    match next.spacing() {
+        Spacing::Joint => first_form(backs(position), at),
+        Spacing::Alone => match mark.as_char() {
+            '<' => match next.as_char() {
+                '<' => Some(Kind::ExprShift),
+                '=' => Some(Kind::ExprCompare),
+                _ => first_form(backs(position), at),
+            },
+            '>' => match next.as_char() {
+                '>' => Some(Kind::ExprShift),
+                '=' => Some(Kind::ExprCompare),
+                _ => first_form(backs(position), at),
+            },
+            _ => first_form(backs(position), at),
+        },
     }
 }
 
@@ -301,7 +389,7 @@ fn joint_back(
     ensures { MatchOption result (back (position_of position) (tokens at.now) ≡ None)
         (λ k. back (position_of position) (tokens at.now) ≡ Some (kind_of k)) }
 {
-    let Some((next, _)) = first_mark(rest) else {
+    let Some((next, behind)) = first_mark(rest) else {
         return first_form(backs(position), at);
     };
     match mark.as_char() {
@@ -322,7 +410,7 @@ fn joint_back(
             '|' => Some(Kind::ExprOr),
             _ => first_form(backs(position), at),
         },
-        _ => first_form(backs(position), at),
+        _ => angle_back(position, mark, next, at, behind),
     }
 }
 

@@ -2,6 +2,7 @@
 //!
 //! - `sights`: looks of several steps, step by step.
 //! - `glance`: what the first tokens say of them before that.
+//! - `told`: whether it sees what it wants, where the first tokens tell.
 //! - `look`: looks, and the tests of the table.
 //! - `form`: which form of expressions stands at tokens, and whether it has an operand behind it.
 #![tactic(auto)]
@@ -10,3 +11,4 @@ pub mod form;
 mod glance;
 pub mod look;
 pub mod sights;
+mod told;

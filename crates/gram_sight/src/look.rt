@@ -9,10 +9,11 @@ ghost use Rattle.syn_grammar.specs.Look.{sees};
 
 use crate::glance::{first_alone, may_see};
 use crate::sights::{end, see};
-use gram_look::group::opens;
-use gram_look::leaf::first_word;
+use crate::told::told;
+use gram_look::group::{opens, opens_first};
+use gram_look::leaf::{first_word, is_word};
 use gram_look::literals::first_literal;
-use gram_look::sign::{lifetime, sign};
+use gram_look::sign::{is_sign, lifetime, sign};
 use gram_table::composite::Composite;
 use gram_table::op::{Look, Test};
 use gram_table::sights::sights;
@@ -52,16 +53,43 @@ pub fn past<'a>(look: Look, at: &'a [Entry<'a>]) -> Option<&'a [Entry<'a>]>
     }
 }
 
+// Whether a look of several steps sees what it wants.
+#[inline(never)]
+#[tactic(auto, using(crate::proofs::Sees::none, crate::proofs::Steps::there, crate::proofs::Steps::not_there))]
+fn sees_several(composite: Composite, at: &[Entry<'_>]) -> bool
+    requires { is_nested at.now ≡ true }
+    ensures { result ≡ sees (composite_of composite) (tokens at.now) }
+{
+    if !may_see(composite, at) {
+        return false;
+    }
+    match told(composite, at) {
+        Some(is_seen) => is_seen,
+        None => see(sights(composite), at).is_some(),
+    }
+}
+
 /// Whether what is looked for is there.
+#[inline(always)]
 #[tactic(auto, using(crate::proofs::Steps::there, crate::proofs::Steps::not_there))]
 pub fn look(look: Look, at: &[Entry<'_>]) -> bool
     requires { is_nested at.now ≡ true }
     ensures { result ≡ sees (look_of look) (tokens at.now) }
 {
-    past(look, at).is_some()
+    match look {
+        Look::Word(words) => is_word(words, at),
+        Look::Quoted(literals) => first_literal(literals, at).is_some(),
+        Look::Mark(mark) => is_sign(mark, at),
+        Look::Lifetime => lifetime(at).is_some(),
+        Look::Opens(delimiter) => opens_first(delimiter, at),
+        Look::End => end(at).is_some(),
+        Look::Nowhere => false,
+        Look::Composite(composite) => sees_several(composite, at),
+    }
 }
 
 /// Whether the test passes.
+#[inline(always)]
 pub fn passes(test: Test, at: &[Entry<'_>]) -> bool
     requires { is_nested at.now ≡ true }
     ensures { result ≡ test_of test (tokens at.now) }

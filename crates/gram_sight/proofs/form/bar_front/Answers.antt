@@ -4,17 +4,19 @@ use Rattle.gram_look.specs.Tokens.{tokens}
 use Rattle.gram_table.specs.Kinds.{position_of}
 use Rattle.rust_leaf.specs.Leaf.{punct_char, punct_spacing}
 use Rattle.std.specs.Prelude.{true, false}
-use Rattle.gram_sight.proofs.Fronts.{bar_front}
+use Rattle.gram_sight.proofs.Fronts.{bar_front, typed_so}
 use Rattle.gram_sight.proofs.form.bar_front.Goals as goal
 
-pub returns-then-look : goal.returns-then-look
-returns-then-look c =
+pub returns-then-is_typed : goal.returns-then-is_typed
+returns-then-is_typed c =
     bar_front (position_of c.args.position) (punct_char c.args.mark.now) (punct_spacing c.args.mark.now)
     (tokens c.args.at.now) (tokens c.args.rest.now) true c.requires.first c.requires.lone c.requires.bar
-    (search rules)
+    (typed_so (punct_char c.args.mark.now) (punct_spacing c.args.mark.now) (tokens c.args.at.now)
+    (tokens c.args.rest.now) true c.requires.first c.requires.lone c.requires.bar (search rules))
 
-pub returns-else-look : goal.returns-else-look
-returns-else-look c =
+pub returns-else-is_typed : goal.returns-else-is_typed
+returns-else-is_typed c =
     bar_front (position_of c.args.position) (punct_char c.args.mark.now) (punct_spacing c.args.mark.now)
     (tokens c.args.at.now) (tokens c.args.rest.now) false c.requires.first c.requires.lone c.requires.bar
-    (search rules)
+    (typed_so (punct_char c.args.mark.now) (punct_spacing c.args.mark.now) (tokens c.args.at.now)
+    (tokens c.args.rest.now) false c.requires.first c.requires.lone c.requires.bar (search rules))

@@ -20,12 +20,12 @@ returns-in-None c =
     bare_front (position_of c.args.position) c.args.delimiter (tokens c.args.at.now) (tokens c.args.rest.now)
     c.requires.first c.in-None.is
 
-pub returns-then-look : goal.returns-then-look
-returns-then-look c =
+pub returns-then-is_repeated : goal.returns-then-is_repeated
+returns-then-is_repeated c =
     repeat_front (position_of c.args.position) c.args.delimiter (tokens c.args.at.now) (tokens c.args.rest.now)
     c.requires.first c.in-Bracket.is (search rules)
 
-pub returns-else-look : goal.returns-else-look
-returns-else-look c =
+pub returns-else-is_repeated : goal.returns-else-is_repeated
+returns-else-is_repeated c =
     array_front (position_of c.args.position) c.args.delimiter (tokens c.args.at.now) (tokens c.args.rest.now)
     c.requires.first c.in-Bracket.is (search rules)
