@@ -25,8 +25,8 @@ use Rattle.gram_table.specs.Composites.{composite_of}
 use Rattle.gram_table.specs.declared.composite.Composite.{Composite}
 use Rattle.gram_table.specs.declared.composite.Composite.TheVariants as composites
 use Rattle.gram_sight.proofs.Reserved.{Kept, either_no, none_among}
-use Rattle.gram_sight.specs.Names.{call_begins, name_goes_on}
-use Rattle.gram_sight.specs.Words.{closure_words, may_begin_item, signature_words}
+use Rattle.gram_sight.specs.Names.{call_begins, name_goes_on, signature_begins}
+use Rattle.gram_sight.specs.Words.{begins_pattern, closure_words, function_words, impl_words, may_begin_item, trait_words}
 
 -- what stands first, by its kind
 pub no_mark_first : (c : ℕ) (ts : List Token) → no_mark ts → false ≡ sees (past_marks c []) ts
@@ -297,18 +297,7 @@ inner_none ts h = then_none (marks "#" ts) (marks "!") (no_sign 35 [] ts h)
 pub word_then : (s : List ℕ) (l : Look) (ts : List Token) → sees (the_word s) ts ≡ false → (the_word s then l) ts ≡ None
 word_then s l ts h = then_none (the_word s ts) l (unseen (the_word s ts) h)
 
-pub signature_none : (ts : List Token) → sees (one_of signature_words) ts ≡ false
-    → composite_of composites.SignatureStands ts ≡ None
-signature_none ts h = by (each_none signature_words ts h)
-  where
-    by : Each signature_words ts → signature_stands k.InFile ts ≡ None
-    by e =
-        maybe_then (at "const") _ ts e.1.0 ∙ maybe_then (at "async") _ ts e.1.1.0
-        ∙ maybe_then (at "unsafe") _ ts e.1.1.1.0
-        ∙ maybe_then (at "extern" then maybe (a_quoted is_string)) _ ts
-        (then_none (at "extern" ts) _ e.1.1.1.1.0) ∙ e.0
-
--- a macro's call: no mark behind the first name with which the path goes on, and no !
+-- of two looks of which neither sees something
 first_no : (a b : Option (List Token)) → seen (first_seen a b) ≡ false → seen a ≡ false
 first_no None b h = refl
 first_no (Some ts) b h = h
@@ -317,6 +306,51 @@ second_no : (a b : Option (List Token)) → seen (first_seen a b) ≡ false → 
 second_no None b h = h
 second_no (Some ts) b h = cc h
 
+-- a look that sees nothing where another one sees nothing, behind a third, which may be there or must
+maybe_behind : (a l f : Look) (ts : List Token) → ((us : List Token) → sees f us ≡ false → l us ≡ None)
+    → sees (f or (a then f)) ts ≡ false → (maybe a then l) ts ≡ None
+maybe_behind a l f ts g h = by (a ts) h
+  where
+    by : (o : Option (List Token)) → seen (first_seen (f ts) (behind o f)) ≡ false
+        → behind (first_seen o (Some ts)) l ≡ None
+    by None h = g ts (first_no (f ts) None h)
+    by (Some us) h = g us (second_no (f ts) (f us) h)
+
+must_behind : (a l f : Look) (ts : List Token) → ((us : List Token) → sees f us ≡ false → l us ≡ None)
+    → sees (a then f) ts ≡ false → (a then l) ts ≡ None
+must_behind a l f ts g h = by (a ts) h
+  where
+    by : (o : Option (List Token)) → seen (behind o f) ≡ false → behind o l ≡ None
+    by None h = refl
+    by (Some us) h = g us h
+
+pub signature_none : (ts : List Token) → sees signature_begins ts ≡ false
+    → composite_of composites.SignatureStands ts ≡ None
+signature_none ts h = maybe_behind (at "const") _ (one_of function_words) ts (λ us e. by us (each_none function_words us e)) h
+  where
+    by : (us : List Token) → Each function_words us → (maybe (at "async") then maybe (at "unsafe")
+        then maybe (at "extern" then maybe (a_quoted is_string)) then at "fn") us ≡ None
+    by us e =
+        maybe_then (at "async") _ us e.1.0 ∙ maybe_then (at "unsafe") _ us e.1.1.0
+        ∙ maybe_then (at "extern" then maybe (a_quoted is_string)) _ us
+        (then_none (at "extern" us) _ e.1.1.1.0) ∙ e.0
+
+pub const_trait_none : (ts : List Token) → sees (at "const" then one_of trait_words) ts ≡ false
+    → composite_of composites.ConstTrait ts ≡ None
+const_trait_none ts h = must_behind (at "const") _ (one_of trait_words) ts (λ us e. by us (each_none trait_words us e)) h
+  where
+    by : (us : List Token) → Each trait_words us
+        → (maybe (at "unsafe") then maybe (at "auto") then at "trait") us ≡ None
+    by us e = maybe_then (at "unsafe") _ us e.0 ∙ maybe_then (at "auto") _ us e.1.0 ∙ e.1.1.0
+
+pub const_impl_none : (ts : List Token) → sees (at "const" then one_of impl_words) ts ≡ false
+    → composite_of composites.ConstImpl ts ≡ None
+const_impl_none ts h = must_behind (at "const") _ (one_of impl_words) ts (λ us e. by us (each_none impl_words us e)) h
+  where
+    by : (us : List Token) → Each impl_words us → (maybe (at "unsafe") then at "impl") us ≡ None
+    by us e = maybe_then (at "unsafe") _ us e.0 ∙ e.1.0
+
+-- a macro's call: no mark behind the first name with which the path goes on, and no !
 abbrev path_goes : Look
 path_goes = repeatedly (the_mark (codes "::") then a_name)
 
@@ -504,6 +538,57 @@ fn_alone (Ident w ∷ ts) us h = by (same_text (codes "fn") w) refl h
 pub so_alone : (j k : Composite) (ts us : List Token) → j ≡ k → composite_of k ts ≡ Some us
     → composite_of j ts ≡ Some us
 so_alone j k ts us e h = ap (λ x. composite_of x ts) e ∙ h
+
+-- patterns
+pub pattern_none : (ts : List Token) → sees (a_word begins_pattern) ts ≡ false
+    → composite_of composites.IdentPatternStands ts ≡ None
+pattern_none [] h = refl
+pattern_none (Opens d ∷ ts) h = refl
+pattern_none (Closes d ∷ ts) h = refl
+pattern_none (Literal w ∷ ts) h = refl
+pattern_none (Punct d s ∷ ts) h = refl
+pattern_none (Ident w ∷ us) h =
+    let r : (is_ident w ≡ false) × (is_among named_words w ≡ false) =
+    either_no (is_ident w) (is_among named_words w) (seen_so (begins_pattern w) us ∙ h) in
+    let e : Each named_words (Ident w ∷ us) =
+    each_none named_words (Ident w ∷ us) (sym (seen_so (is_among named_words w) us) ∙ r.1) in
+    or_none _ _ e.0 (or_none _ _ e.1.0 (then_none (an_ident (Ident w ∷ us)) _ (ap (λ b. cond b (Some us) None) r.0)))
+  where
+    named_words : List (List ℕ)
+    named_words = codes "ref" ∷ codes "mut" ∷ []
+
+pub dots_none : (ts : List Token) → sees (past_marks 46 []) ts ≡ false → composite_of composites.Dots ts ≡ None
+dots_none ts h = no_then (marks "..." or marks "..=") (marks "..") ts (no_sign 46 (46 ∷ []) ts h)
+
+pub range_to_none : (ts : List Token) → sees (past_marks 46 []) ts ≡ false
+    → composite_of composites.RangeToPatternStands ts ≡ None
+range_to_none ts h =
+    or_none (marks "..=" ts) _ (no_sign 46 (46 ∷ 61 ∷ []) ts h)
+    (then_none (composite_of composites.Dots ts) _ (dots_none ts h))
+
+pub literal_pattern_none : (ts : List Token) → sees (a_quoted any_text) ts ≡ false → sees (a_word is_bool) ts ≡ false
+    → sees (past_marks 45 []) ts ≡ false → composite_of composites.LiteralPatternStands ts ≡ None
+literal_pattern_none ts h g d =
+    or_none (composite_of composites.ALiteral ts) (marks "-" ts) (literal_none ts h g) (no_sign 45 [] ts d)
+
+-- parts of items
+pub restriction_none : (ts : List Token) → sees (opens D.Parenthesis) ts ≡ false
+    → composite_of composites.AnyRestriction ts ≡ None
+restriction_none ts h =
+    or_none _ _ (then_none (parenthesis ts) _ (unseen (parenthesis ts) h))
+    (then_none (parenthesis ts) _ (unseen (parenthesis ts) h))
+
+pub lifetime_none : (ts : List Token) → sees (past_marks 39 []) ts ≡ false → sees (past_marks 35 []) ts ≡ false
+    → composite_of composites.LifetimeBehindAttributes ts ≡ None
+lifetime_none ts h g = no_attribute a_lifetime ts g (no_life ts h)
+
+pub const_none : (ts : List Token) → sees (the_word (codes "const")) ts ≡ false → sees (past_marks 35 []) ts ≡ false
+    → composite_of composites.ConstBehindAttributes ts ≡ None
+const_none ts h g = no_attribute (at "const") ts g (unseen (at "const" ts) h)
+
+pub not_none : (ts : List Token) → sees (past_marks 33 []) ts ≡ false
+    → composite_of composites.NotBeforeBrace ts ≡ None
+not_none ts h = then_none (marks "!" ts) _ (no_sign 33 [] ts h)
 
 -- the look by its name
 pub so : (j k : Composite) (ts : List Token) → j ≡ k → composite_of k ts ≡ None → composite_of j ts ≡ None

@@ -1,6 +1,6 @@
 -- Words that begin forms.
 use Rattle.std.specs.Prelude.{ℕ, Bool, ◌||◌, List, [], ◌∷◌, codes}
-use Rattle.syn_grammar.specs.Words.{is_among, is_bool, is_reserved}
+use Rattle.syn_grammar.specs.Words.{is_among, is_bool, is_ident, is_reserved}
 
 -- The words that begin a form of expressions, but for names, true and false: in two lists, each of which is tested
 -- at once.
@@ -18,9 +18,20 @@ late_words =
 abbrev pub begins_form : List ℕ → Bool
 begins_form cs = is_bool cs || (is_among early_words cs || is_among late_words cs)
 
--- the words that begin a function's signature
-abbrev pub signature_words : List (List ℕ)
-signature_words = codes "fn" ∷ codes "const" ∷ codes "async" ∷ codes "unsafe" ∷ codes "extern" ∷ []
+-- the words that begin a function's signature, perhaps behind const
+abbrev pub function_words : List (List ℕ)
+function_words = codes "fn" ∷ codes "async" ∷ codes "unsafe" ∷ codes "extern" ∷ []
+
+-- the words that begin a trait behind const, and an impl
+abbrev pub trait_words : List (List ℕ)
+trait_words = codes "unsafe" ∷ codes "auto" ∷ codes "trait" ∷ []
+
+abbrev pub impl_words : List (List ℕ)
+impl_words = codes "unsafe" ∷ codes "impl" ∷ []
+
+-- a word that begins a name in a pattern: an Ident, or one of these
+abbrev pub begins_pattern : List ℕ → Bool
+begins_pattern cs = is_ident cs || is_among (codes "ref" ∷ codes "mut" ∷ []) cs
 
 -- the words that begin a closure
 abbrev pub closure_words : List (List ℕ)

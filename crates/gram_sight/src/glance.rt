@@ -2,10 +2,11 @@
 //!
 //! Most looks see nothing, and the first token says so, or the first two.
 
+ghost use Rattle.gram_look.specs.Among.{texts};
 ghost use Rattle.gram_look.specs.Nested.{is_nested};
 ghost use Rattle.gram_look.specs.Tokens.{tokens};
-ghost use Rattle.gram_sight.specs.Names.{call_begins, name_goes_on};
-ghost use Rattle.gram_sight.specs.Words.{closure_words, may_begin_item, signature_words};
+ghost use Rattle.gram_sight.specs.Names.{call_begins, name_goes_on, signature_begins};
+ghost use Rattle.gram_sight.specs.Words.{begins_pattern, closure_words, may_begin_item};
 ghost use Rattle.gram_table.specs.Composites.{composite_of};
 ghost use Rattle.gram_table.specs.Words.{keyword_text};
 ghost use Rattle.gram_table.specs.declared.composite.Composite.TheVariants.{IdentPatternStands};
@@ -23,14 +24,18 @@ use gram_table::word::{Keyword, Literals, Words};
 use proc_macro2::delimiter::Delimiter;
 use syn_buffer::entry::Entry;
 
-// The words that begin a function's signature.
-const SIGNATURE_WORDS: [Keyword; 5] = [
+// The words that begin a function's signature, perhaps behind `const`.
+const FUNCTION_WORDS: [Keyword; 4] = [
     Keyword::Fn,
-    Keyword::Const,
     Keyword::Async,
     Keyword::Unsafe,
     Keyword::Extern,
 ];
+
+// The words that begin a trait behind `const`, and an impl.
+const TRAIT_WORDS: [Keyword; 3] = [Keyword::Unsafe, Keyword::Auto, Keyword::Trait];
+
+const IMPL_WORDS: [Keyword; 2] = [Keyword::Unsafe, Keyword::Impl];
 
 // The words that begin a closure.
 const CLOSURE_WORDS: [Keyword; 5] = [
@@ -83,15 +88,34 @@ fn reserved(at: &[Entry<'_>]) -> bool
     }
 }
 
-// Whether a word that begins a signature stands first.
+// Whether one of these keywords stands first.
 #[tactic(auto, using(crate::proofs::Glances::no_word_first, crate::proofs::Glances::word_first))]
-fn begins_signature(at: &[Entry<'_>]) -> bool
-    ensures { result ≡ sees (one_of signature_words) (tokens at.now) }
+fn one_of(keywords: &[Keyword], at: &[Entry<'_>]) -> bool
+    ensures { result ≡ sees (one_of (texts keywords.now)) (tokens at.now) }
 {
     match first_ident(at) {
-        Some((ident, _)) => among(ident, &SIGNATURE_WORDS),
+        Some((ident, _)) => among(ident, keywords),
         None => false,
     }
+}
+
+// Whether that keyword stands first, and one of these behind it.
+#[tactic(auto, using(crate::proofs::Sees::then_none, crate::proofs::Sees::then_so))]
+fn one_behind(keyword: Keyword, keywords: &[Keyword], at: &[Entry<'_>]) -> bool
+    ensures { result ≡ sees (the_word (keyword_text keyword) then one_of (texts keywords.now)) (tokens at.now) }
+{
+    match first_word(Words::Keyword(keyword), at) {
+        Some(rest) => one_of(keywords, rest),
+        None => false,
+    }
+}
+
+// Whether a signature may begin there, by its first word or the first two.
+#[tactic(auto, using(crate::proofs::Sees::either, crate::proofs::Sees::neither))]
+fn begins_signature(at: &[Entry<'_>]) -> bool
+    ensures { result ≡ sees signature_begins (tokens at.now) }
+{
+    one_of(&FUNCTION_WORDS, at) || one_behind(Keyword::Const, &FUNCTION_WORDS, at)
 }
 
 // Whether a word that begins a closure stands first.
@@ -198,6 +222,38 @@ pub fn first_alone<'a>(composite: Composite, at: &'a [Entry<'a>]) -> Option<&'a 
     }
 }
 
+// Whether a word stands first that may begin a name in a pattern.
+#[tactic(auto, using(crate::proofs::Glances::no_word_first, crate::proofs::Glances::word_first))]
+fn begins_name(at: &[Entry<'_>]) -> bool
+    ensures { result ≡ sees (a_word begins_pattern) (tokens at.now) }
+{
+    match first_ident(at) {
+        Some((ident, _)) => {
+            word(Words::Ident, ident) || among(ident, &[Keyword::Ref, Keyword::Mut])
+        }
+        None => false,
+    }
+}
+
+// Whether a look at a pattern or at a part of an item may see something, as far as the first token says.
+fn may_stand(composite: Composite, at: &[Entry<'_>]) -> bool
+    requires { is_nested at.now ≡ true }
+    ensures { result ≡ false → composite_of composite (tokens at.now) ≡ None }
+{
+    match composite {
+        Composite::IdentPatternStands => begins_name(at),
+        Composite::RangeToPatternStands => marked('.', at),
+        Composite::Dots => marked('.', at),
+        Composite::LiteralPatternStands => quoted(at) || is_bool(at) || marked('-', at),
+        Composite::AnyRestriction => opened(Delimiter::Parenthesis, at),
+        Composite::LifetimeBehindAttributes => marked('\'', at) || marked('#', at),
+        Composite::ConstBehindAttributes => named(Keyword::Const, at) || marked('#', at),
+        Composite::NotBeforeBrace => marked('!', at),
+        Composite::DefaultStands => named(Keyword::Default, at),
+        _ => true,
+    }
+}
+
 // Whether a look at a form of expressions may see something, as far as the first tokens say.
 fn may_begin(composite: Composite, at: &[Entry<'_>]) -> bool
     requires { is_nested at.now ≡ true }
@@ -213,7 +269,7 @@ fn may_begin(composite: Composite, at: &[Entry<'_>]) -> bool
         Composite::RepeatStands => opened(Delimiter::Bracket, at),
         Composite::RawAddrStands => marked('&', at),
         Composite::MacroCallStands => begins_call(at),
-        _ => true,
+        _ => may_stand(composite, at),
     }
 }
 
@@ -237,8 +293,8 @@ pub fn may_see(composite: Composite, at: &[Entry<'_>]) -> bool
         Composite::IdentThenLt => word_and('<', at),
         Composite::SignatureStands => begins_signature(at),
         Composite::ExternCrate => named(Keyword::Extern, at),
-        Composite::ConstTrait => named(Keyword::Const, at),
-        Composite::ConstImpl => named(Keyword::Const, at),
+        Composite::ConstTrait => one_behind(Keyword::Const, &TRAIT_WORDS, at),
+        Composite::ConstImpl => one_behind(Keyword::Const, &IMPL_WORDS, at),
         Composite::UnsafeExtern => named(Keyword::Unsafe, at),
         Composite::UnsafeMod => named(Keyword::Unsafe, at),
         Composite::UnsafeImpl => named(Keyword::Unsafe, at),

@@ -2,7 +2,7 @@
 use Rattle.std.proofs.Common.{rules}
 use Rattle.gram_look.specs.Tokens.{tokens}
 use Rattle.gram_table.specs.declared.composite.Composite.TheVariants as composites
-use Rattle.gram_sight.proofs.Glances.{so, turbofish_none, ident_eq_none, named_none, pointer_none, vert_none, inner_none, ident_lt_none, signature_none, literal_none, macro_item_none, macro_statement_none, item_none}
+use Rattle.gram_sight.proofs.Glances.{so, turbofish_none, ident_eq_none, named_none, pointer_none, vert_none, inner_none, ident_lt_none, signature_none, const_trait_none, const_impl_none, literal_none, macro_item_none, macro_statement_none, item_none}
 use Rattle.gram_sight.proofs.glance.may_see.Goals as goal
 
 pub returns-in-Turbofish : goal.returns-in-Turbofish
@@ -64,3 +64,13 @@ pub returns-else-begins_item : goal.returns-else-begins_item
 returns-else-begins_item c h =
     so c.args.composite composites.ItemBehindAttributes (tokens c.args.at.now) c.in-ItemBehindAttributes.is
     (item_none (tokens c.args.at.now) (search rules) (search rules))
+
+pub returns-in-ConstTrait : goal.returns-in-ConstTrait
+returns-in-ConstTrait c h =
+    so c.args.composite composites.ConstTrait (tokens c.args.at.now) c.in-ConstTrait.is
+    (const_trait_none (tokens c.args.at.now) (search rules))
+
+pub returns-in-ConstImpl : goal.returns-in-ConstImpl
+returns-in-ConstImpl c h =
+    so c.args.composite composites.ConstImpl (tokens c.args.at.now) c.in-ConstImpl.is
+    (const_impl_none (tokens c.args.at.now) (search rules))
