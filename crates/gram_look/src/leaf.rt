@@ -45,13 +45,21 @@ fn is(ident: &Ident, text: &str) -> bool
     may_be(ident, text) && is_throughout(ident, text)
 }
 
-// Whether the word is that keyword.
+/// Whether the word is that keyword.
 #[inline(always)]
 #[tactic(auto, using(crate::proofs::Texts::is_word))]
-fn is_keyword(ident: &Ident, keyword: Keyword) -> bool
+pub fn is_keyword(ident: &Ident, keyword: Keyword) -> bool
     ensures { result ≡ same_text (keyword_text keyword) (ident_text ident.now) }
 {
     is(ident, keyword.text())
+}
+
+// The same, of a keyword that isn't known before.
+#[inline(never)]
+fn is_any_keyword(ident: &Ident, keyword: Keyword) -> bool
+    ensures { result ≡ same_text (keyword_text keyword) (ident_text ident.now) }
+{
+    is_keyword(ident, keyword)
 }
 
 /// Whether the word is one of these keywords.
@@ -173,7 +181,7 @@ pub fn is_word(words: Words, at: &[Entry<'_>]) -> bool
         return false;
     };
     match words {
-        Words::Keyword(keyword) => is_keyword(ident, keyword),
+        Words::Keyword(keyword) => is_any_keyword(ident, keyword),
         _ => word(words, ident),
     }
 }

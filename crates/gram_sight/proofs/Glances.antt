@@ -71,6 +71,25 @@ pub word_before : (c : ℕ) (w : List ℕ) (ts us : List Token) (b : Bool) → t
     → b ≡ sees (past_marks c []) us → b ≡ sees (a_word any_text then past_marks c []) ts
 word_before c w ts us b e h = h ∙ ap (sees (a_word any_text then past_marks c [])) (sym e)
 
+-- a keyword, and another look behind it
+pub word_none : (s : List ℕ) (l : Look) (ts : List Token) → no_word ts → false ≡ sees (the_word s then l) ts
+word_none s l [] h = refl
+word_none s l (Opens d ∷ ts) h = refl
+word_none s l (Closes d ∷ ts) h = refl
+word_none s l (Ident w ∷ ts) h = absurd h
+word_none s l (Literal w ∷ ts) h = refl
+word_none s l (Punct d p ∷ ts) h = refl
+
+pub another_word : (s w : List ℕ) (l : Look) (ts us : List Token) (b : Bool) → ts ≡ Ident w ∷ us → b ≡ same_text s w
+    → b ≡ false → false ≡ sees (the_word s then l) ts
+another_word s w l ts us b e h f =
+    ap (λ x. seen (behind (cond x (Some us) None) l)) (sym f ∙ h) ∙ ap (sees (the_word s then l)) (sym e)
+
+pub word_behind : (s w : List ℕ) (l : Look) (ts us : List Token) (b c : Bool) → ts ≡ Ident w ∷ us → b ≡ same_text s w
+    → b ≡ true → c ≡ sees l us → c ≡ sees (the_word s then l) ts
+word_behind s w l ts us b c e h f g =
+    g ∙ ap (λ x. seen (behind (cond x (Some us) None) l)) (sym f ∙ h) ∙ ap (sees (the_word s then l)) (sym e)
+
 -- whether a macro may be called: at no word, and at a word before a :: , before a ! , and before none
 pub call_none_first : (ts : List Token) (b : Bool) → no_word ts → b ≡ sees (past_marks 58 []) ts → b ≡ sees call_begins ts
 call_none_first ts b h e = e ∙ step ts h
@@ -170,8 +189,8 @@ no_attribute l ts h g =
     (then_none (the_mark (codes "#") ts) (a_group D.Bracket) (no_sign 35 [] ts h))) ∙ g
 
 -- words of which none stands first
-word_none : (s w : List ℕ) (us : List Token) → same_text s w ≡ false → the_word s (Ident w ∷ us) ≡ None
-word_none s w us h = ap (λ b. cond b (Some us) None) h
+unlike : (s w : List ℕ) (us : List Token) → same_text s w ≡ false → the_word s (Ident w ∷ us) ≡ None
+unlike s w us h = ap (λ b. cond b (Some us) None) h
 
 abbrev Each : List (List ℕ) → List Token → Type 0
 Each [] ts = Unit
@@ -187,7 +206,7 @@ each_none (s ∷ ss) (Punct d p ∷ ts) h = (refl, each_none ss (Punct d p ∷ t
 each_none (s ∷ ss) (Ident w ∷ ts) h =
     let e : (same_text s w ≡ false) × (is_among ss w ≡ false) =
     either_no (same_text s w) (is_among ss w) (seen_so (is_among (s ∷ ss) w) ts ∙ h) in
-    (word_none s w ts e.0, each_none ss (Ident w ∷ ts) (sym (seen_so (is_among ss w) ts) ∙ e.1))
+    (unlike s w ts e.0, each_none ss (Ident w ∷ ts) (sym (seen_so (is_among ss w) ts) ∙ e.1))
 
 -- reserved words of which none stands first
 abbrev fn_words : List (List ℕ)

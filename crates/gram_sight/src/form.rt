@@ -20,7 +20,7 @@ ghost use Rattle.syn_grammar.specs.Words.{is_among, is_name, same_text};
 
 use crate::look::look;
 use gram_look::group::{opens, opens_first, past_first};
-use gram_look::leaf::{is_word, word};
+use gram_look::leaf::{is_keyword, is_word, word};
 use gram_look::literals::past;
 use gram_look::sign::{first_ident, first_mark, is_sign};
 use gram_table::composite::Composite;
@@ -176,10 +176,11 @@ fn mark_front(
 }
 
 // Whether the word is that keyword.
+#[inline(always)]
 fn is(ident: &Ident, keyword: Keyword) -> bool
     ensures { result ≡ same_text (keyword_text keyword) (ident_text ident.now) }
 {
-    word(Words::Keyword(keyword), ident)
+    is_keyword(ident, keyword)
 }
 
 // Whether the word is one of those.

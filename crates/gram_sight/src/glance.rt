@@ -16,7 +16,7 @@ ghost use Rattle.syn_grammar.specs.Look as l;
 ghost use Rattle.syn_grammar.specs.Words.{any_text, is_bool, is_reserved};
 
 use gram_look::group::{opening, opens};
-use gram_look::leaf::{among, first_word, word};
+use gram_look::leaf::{among, first_word, is_keyword, word};
 use gram_look::literals::first_literal;
 use gram_look::sign::{first_ident, first_mark};
 use gram_table::composite::Composite;
@@ -67,12 +67,13 @@ fn opened(delimiter: Delimiter, at: &[Entry<'_>]) -> bool
 }
 
 // Whether that keyword stands first.
+#[inline(always)]
 #[tactic(auto, using(crate::proofs::Glances::no_word_first, crate::proofs::Glances::word_first))]
 fn named(keyword: Keyword, at: &[Entry<'_>]) -> bool
     ensures { result ≡ sees (the_word (keyword_text keyword)) (tokens at.now) }
 {
     match first_ident(at) {
-        Some((ident, _)) => word(Words::Keyword(keyword), ident),
+        Some((ident, _)) => is_keyword(ident, keyword),
         None => false,
     }
 }
@@ -100,12 +101,13 @@ fn one_of(keywords: &[Keyword], at: &[Entry<'_>]) -> bool
 }
 
 // Whether that keyword stands first, and one of these behind it.
-#[tactic(auto, using(crate::proofs::Sees::then_none, crate::proofs::Sees::then_so))]
+#[inline(always)]
+#[tactic(auto, using(crate::proofs::Glances::word_none, crate::proofs::Glances::another_word, crate::proofs::Glances::word_behind))]
 fn one_behind(keyword: Keyword, keywords: &[Keyword], at: &[Entry<'_>]) -> bool
     ensures { result ≡ sees (the_word (keyword_text keyword) then one_of (texts keywords.now)) (tokens at.now) }
 {
-    match first_word(Words::Keyword(keyword), at) {
-        Some(rest) => one_of(keywords, rest),
+    match first_ident(at) {
+        Some((ident, rest)) => is_keyword(ident, keyword) && one_of(keywords, rest),
         None => false,
     }
 }
