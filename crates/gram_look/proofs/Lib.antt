@@ -11,3 +11,4 @@ pub mod Seeking
 pub mod Spaced
 pub mod Seen
 pub mod Lengths
+pub mod Such

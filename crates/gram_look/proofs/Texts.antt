@@ -82,15 +82,6 @@ another b cs ds h e = by (bytes_eq cs ds) refl
     by false f = refl
     by true f = sym e ∙ h (sym ((bytes_eq-Decides cs ds).0 f))
 
--- or wherever a word is reserved, that it isn't
-pub no_reserved : (b : Bool) (cs : List ℕ) → (words.is_reserved cs ≡ true → b ≡ true) → b ≡ false
-    → false ≡ words.is_reserved cs
-no_reserved b cs h e = by (words.is_reserved cs) refl
-  where
-    by : (c : Bool) → words.is_reserved cs ≡ c → false ≡ c
-    by false f = refl
-    by true f = sym e ∙ h f
-
 -- a word that a keyword's text is compared with
 pub is_word : (k : Keyword) (w cs : List ℕ) (b : Bool) → w ≡ keyword_text k → b ≡ words.same_text (chars w) cs
     → b ≡ words.same_text (keyword_text k) cs

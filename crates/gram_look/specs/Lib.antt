@@ -4,4 +4,4 @@ pub mod Marks
 pub mod Groups
 pub mod Nested
 pub mod Texts
-pub mod Lengths
+pub mod Such

@@ -2,7 +2,6 @@
 use Rattle.std.proofs.Common.{◌≡◌, List, [], ◌∷◌, refl, sym, ap, ◌∙◌}
 use Rattle.std.specs.Prelude.{Bool, true, false, ◌||◌, cond, Option, Some, None, codes}
 use Rattle.proc_macro2.specs.Token.{Token, Opens, Closes, Ident, Literal, Punct}
-use Rattle.syn_grammar.specs.Kind.{InType}
 use Rattle.syn_grammar.specs.Look.{Look, ◌then◌, ◌or◌, behind, first_seen, no, one_of, seen, sees}
 use Rattle.syn_grammar.specs.Say.{at}
 use Rattle.syn_grammar.specs.Words.{same_text}

@@ -2,7 +2,7 @@
 use Rattle.std.proofs.Common.{rules}
 use Rattle.gram_look.specs.Tokens.{tokens}
 use Rattle.gram_table.specs.declared.composite.Composite.TheVariants as composites
-use Rattle.gram_sight.proofs.Glances.{so, pattern_none, range_to_none, dots_none, literal_pattern_none, restriction_none, lifetime_none, const_none, not_none}
+use Rattle.gram_sight.proofs.Glances.{so, pattern_none, range_to_none, dots_none, restriction_none, not_none}
 use Rattle.gram_sight.proofs.glance.may_stand.Goals as goal
 
 pub returns-in-IdentPatternStands : goal.returns-in-IdentPatternStands
