@@ -4,4 +4,4 @@ pub mod Steps
 pub mod Same
 pub mod NoneStand
 pub mod Bound
-pub mod Lone
+pub mod LoneForms

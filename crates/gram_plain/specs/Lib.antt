@@ -1,4 +1,5 @@
+pub mod Absent
 pub mod Bindings
-pub mod Literals
+pub mod Lone
 pub mod Names
 pub mod Read
