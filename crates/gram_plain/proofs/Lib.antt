@@ -5,3 +5,5 @@ pub mod Same
 pub mod NoneStand
 pub mod Bound
 pub mod LoneForms
+pub mod GroupForms
+pub mod AttributeForms

@@ -37,7 +37,7 @@ pub behind_literal : (l : Bor L.Literal) (es : List Entry) → is_whole (entry.L
 behind_literal l es h = (and_true (not (starts_with_minus (literal_text l.now))) _ h).1
 
 -- no form has its left operand before the end, a comma or a semicolon, nor before the braces of a condition
-at_end : (p : Position) → back p [] ≡ None
+pub at_end : (p : Position) → back p [] ≡ None
 unfolding back
 at_end Plain = refl
 at_end InCondition = refl
@@ -107,7 +107,7 @@ over_before p d span n x es fs b e f h t =
     subst P (sym e) (subst Q (sym f) (h (tokens fs) t))
 
 -- a literal
-alone : (p : Position) (cs : List ℕ) (ts : List Token) → back p ts ≡ None
+pub alone : (p : Position) (cs : List ℕ) (ts : List Token) → back p ts ≡ None
     → IsReadIn 8 (Expression p) (Literal cs ∷ ts) (lone_literal p cs) ts
 unfolding table front has_right level literal_at
 alone p cs ts h zero l = absurd (omega arith)

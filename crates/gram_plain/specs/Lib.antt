@@ -1,4 +1,5 @@
 pub mod Absent
+pub mod Attributes
 pub mod Bindings
 pub mod Lone
 pub mod Names

@@ -7,11 +7,13 @@
 //! - `read`: the plain forms of all kinds.
 //! - `names`: paths of names alone, and types that are such paths.
 //! - `absent`: parts that may be absent, where none stands; and `pub` alone.
+//! - `attributes`: outer attributes that are a path alone, or with a group or a literal behind it.
 //! - `bindings`: names that patterns bind.
 //! - `lone`: expressions that are a literal or a path of names alone.
 #![tactic(auto)]
 
 mod absent;
+mod attributes;
 mod bindings;
 mod lone;
 mod names;

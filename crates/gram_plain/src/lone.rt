@@ -76,8 +76,12 @@ fn first_literal<'a>(
     }
 }
 
-// The literal, as an expression.
-fn lone_literal<'a>(
+/// The literal, as an expression.
+///
+/// # Errors
+///
+/// Where there is no memory for it.
+pub(crate) fn lone_literal<'a>(
     arena: &'a Arena,
     position: Position,
     literal: &'a Literal,
