@@ -4,4 +4,6 @@ pub mod Steps
 pub mod Same
 pub mod NoneStand
 pub mod Bound
-pub mod Lone
+pub mod LoneForms
+pub mod GroupForms
+pub mod AttributeForms

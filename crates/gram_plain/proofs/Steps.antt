@@ -1,12 +1,14 @@
 -- Paths of names alone, as each run reads them.
 use Rattle.std.proofs.Common.{Bor, ◌≡◌, ℕ, zero, suc, ◌-◌, ◌<◌, List, [], ◌∷◌, refl, sym, ap, subst, ◌∙◌, arith}
-use Rattle.std.specs.Prelude.{true, None, codes}
+use Rattle.std.specs.Prelude.{true, None, Some, codes}
 use Rattle.proc_macro2.specs.Token.{Token, Opens, Closes, Ident, Literal, Punct}
 use Rattle.rust_leaf.specs.declared.punct.Spacing.{Spacing}
 use Rattle.rust_leaf.specs.declared.punct.Spacing.TheVariants.{Joint}
 use Rattle.syn_grammar.specs.Kind.{AnyPath, AtType, AType, InExpression, InModule, InType, Path, Plus, Segments, Style}
+use Rattle.syn_grammar.specs.Look.{as_far}
 use Rattle.syn_grammar.specs.Paths.{arguments_stand}
 use Rattle.syn_grammar.specs.Run.{Got, kind, mark_at, run, word_at}
+use Rattle.syn_grammar.specs.Say.{marks}
 use Rattle.syn_grammar.specs.Table.{table}
 use Rattle.syn_grammar.specs.Tree.{Tree}
 use Rattle.syn_grammar.specs.Words.{is_name, is_path_keyword, is_reserved}
@@ -16,15 +18,15 @@ use Rattle.syn_buffer.specs.Entries.{entry_token}
 use Rattle.syn_buffer.specs.declared.entry.Entry.{Entry}
 use Rattle.syn_buffer.specs.declared.entry.Entry.TheVariants as entry
 use Rattle.gram_look.specs.Tokens.{tokens}
-use Rattle.gram_plain.specs.Names.{IsName, IsNamed, IsPathEnd, further_segments, last_segment, path_of, type_of}
-use Rattle.gram_plain.specs.Names.{unqualified}
+use Rattle.gram_plain.specs.Names.{IsName, IsNamed, IsPassed, IsPathEnd, another_name, further_segments, last_segment}
+use Rattle.gram_plain.specs.Names.{path_of, type_of, unqualified}
 use Rattle.gram_plain.specs.Read.{IsReadIn}
 use Rattle.gram_plain.specs.declared.names.Name.{Name}
 use Rattle.gram_plain.specs.declared.names.Name.TheVariants as names
 use Rattle.gram_plain.proofs.Words.{is_some_name, no_name, no_path_keyword}
 
 -- what is so of a name and what follows it is so where a name stands first
-named : (P : List Token → Type 0) → ((cs : List ℕ) (ts : List Token) → is_name cs ≡ true → P (Ident cs ∷ ts))
+pub named : (P : List Token → Type 0) → ((cs : List ℕ) (ts : List Token) → is_name cs ≡ true → P (Ident cs ∷ ts))
     → (ts : List Token) → IsNamed ts → P ts
 named P f [] h = absurd h
 named P f (Opens d ∷ ts) h = absurd h
@@ -64,6 +66,24 @@ further s names.Plain cs spacing ts us x calls h g r (suc n) l =
       r n (omega arith),
     ) refl
 further s names.Keyword cs spacing ts us x calls h g r (suc n) l = rw (h, r n (omega arith)) refl
+
+-- how far names alone go
+no_other : (n : ℕ) (ts : List Token) → marks "::" ts ≡ None → as_far n another_name ts ≡ Some ts
+no_other zero ts h = refl
+no_other (suc n) ts h = rw h refl
+
+last_passed : (s : Style) (cs : List ℕ) (ts : List Token) → IsPathEnd s ts → IsPassed (Ident cs ∷ ts) ts
+last_passed s cs ts e n l = no_other n ts e.1
+
+further_passed : (cs : List ℕ) (spacing : Spacing) (ts us : List Token) → IsNamed ts → IsPassed ts us
+    → IsPassed (Ident cs ∷ Punct 58 Joint ∷ Punct 58 spacing ∷ ts) us
+further_passed cs spacing ts us h =
+    named (λ ts. IsPassed ts us → IsPassed (Ident cs ∷ Punct 58 Joint ∷ Punct 58 spacing ∷ ts) us) go ts h
+  where
+    go : (ds : List ℕ) (vs : List Token) → is_name ds ≡ true → IsPassed (Ident ds ∷ vs) us
+        → IsPassed (Ident cs ∷ Punct 58 Joint ∷ Punct 58 spacing ∷ Ident ds ∷ vs) us
+    go ds vs i p zero l = absurd (omega arith)
+    go ds vs i p (suc n) l = rw (i, p n (omega arith)) refl
 
 -- a path without :: in front
 pub a_path : (s : Style) (ts us : List Token) (x : Tree) (calls : ℕ) → IsNamed ts → IsReadIn calls (Segments s) ts x us
@@ -139,3 +159,20 @@ named_at n w e es fs a b h =
     let P : List Entry → Type 0 = λ es. IsNamed (tokens es) in
     let Q : Entry → Type 0 = λ e. IsNamed (entry_token e ∷ tokens fs) in
     subst P (sym a) (subst Q (sym b) (is_some_name n (ident_text w.now) h))
+
+pub last_passed_at : (s : Style) (w : Bor I.Ident) (e : Entry) (es fs : List Entry) → es ≡ e ∷ fs
+    → e ≡ entry.Ident w → IsPathEnd s (tokens fs) → IsPassed (tokens es) (tokens fs)
+last_passed_at s w e es fs a b h =
+    let P : List Entry → Type 0 = λ es. IsPassed (tokens es) (tokens fs) in
+    let Q : Entry → Type 0 = λ e. IsPassed (entry_token e ∷ tokens fs) (tokens fs) in
+    subst P (sym a) (subst Q (sym b) (last_passed s (ident_text w.now) (tokens fs) h))
+
+pub further_passed_at : (w : Bor I.Ident) (e : Entry) (es fs gs hs : List Entry) (spacing : Spacing) → es ≡ e ∷ fs
+    → e ≡ entry.Ident w → tokens fs ≡ Punct 58 Joint ∷ Punct 58 spacing ∷ tokens gs → IsNamed (tokens gs)
+    → IsPassed (tokens gs) (tokens hs) → IsPassed (tokens es) (tokens hs)
+further_passed_at w e es fs gs hs spacing a b p i h =
+    let P : List Entry → Type 0 = λ es. IsPassed (tokens es) (tokens hs) in
+    let Q : Entry → Type 0 = λ e. IsPassed (entry_token e ∷ tokens fs) (tokens hs) in
+    let R : List Token → Type 0 = λ ts. IsPassed (Ident (ident_text w.now) ∷ ts) (tokens hs) in
+    subst P (sym a) (subst Q (sym b) (subst R (sym p)
+    (further_passed (ident_text w.now) spacing (tokens gs) (tokens hs) i h)))

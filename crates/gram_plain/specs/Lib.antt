@@ -1,4 +1,6 @@
+pub mod Absent
+pub mod Attributes
 pub mod Bindings
-pub mod Literals
+pub mod Lone
 pub mod Names
 pub mod Read

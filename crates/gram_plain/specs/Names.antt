@@ -1,9 +1,10 @@
 -- Paths of names alone: what stands behind a name, and their trees.
-use Rattle.std.specs.Prelude.{◌≡◌, ℕ, IsTrue, true, List, [], ◌∷◌, None}
+use Rattle.std.specs.Prelude.{◌≡◌, ℕ, ◌≤◌, IsTrue, true, List, [], ◌∷◌, length, None, Some}
 use Rattle.proc_macro2.specs.Token.{Token, Ident, Punct}
 use Rattle.rust_leaf.specs.declared.punct.Spacing.{Spacing}
 use Rattle.rust_leaf.specs.declared.punct.Spacing.TheVariants.{Joint}
 use Rattle.syn_grammar.specs.Kind.{Style, Plus, AnyPath, AType, Path, Segments}
+use Rattle.syn_grammar.specs.Look.{Look, ◌then◌, a_name, as_far}
 use Rattle.syn_grammar.specs.Paths.{arguments_stand, parentheses_stand}
 use Rattle.syn_grammar.specs.Say.{marks}
 use Rattle.syn_grammar.specs.Tree.{Tree, AMark, AWord, First, Nil, Node, Pair, Second}
@@ -25,6 +26,14 @@ IsName names.Keyword cs = is_path_keyword cs ≡ true
 abbrev pub IsNamed : List Token → Type 0
 IsNamed (Ident cs ∷ ts) = is_name cs ≡ true
 IsNamed ts = ⊥
+
+-- behind a name of a path, as far as a path of names alone goes
+abbrev pub another_name : Look
+another_name = marks "::" then a_name
+
+abbrev pub IsPassed : List Token → List Token → Type 0
+IsPassed (Ident cs ∷ ts) us = (n : ℕ) → length ts ≤ n → as_far n another_name ts ≡ Some us
+IsPassed ts us = ⊥
 
 -- nothing goes on with a path there: no arguments stand there, no ::, and no parentheses that would be its own
 abbrev pub IsPathEnd : Style → List Token → Type 0

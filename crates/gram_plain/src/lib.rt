@@ -6,13 +6,15 @@
 //!
 //! - `read`: the plain forms of all kinds.
 //! - `names`: paths of names alone, and types that are such paths.
-//! - `absent`: attributes and visibility, where none stands.
+//! - `absent`: parts that may be absent, where none stands; and `pub` alone.
+//! - `attributes`: outer attributes that are a path alone, or with a group or a literal behind it.
 //! - `bindings`: names that patterns bind.
-//! - `literals`: expressions that are a literal alone.
+//! - `lone`: expressions that are a literal or a path of names alone.
 #![tactic(auto)]
 
 mod absent;
+mod attributes;
 mod bindings;
-mod literals;
+mod lone;
 mod names;
 pub mod read;

@@ -1,7 +1,7 @@
 //! Paths of names alone, and types that are such paths.
 
 ghost use Rattle.gram_look.specs.Tokens.{tokens};
-ghost use Rattle.gram_plain.specs.Names.{IsBehind, IsName, IsNamed, IsPathEnd, IsWholeBehind};
+ghost use Rattle.gram_plain.specs.Names.{IsBehind, IsName, IsNamed, IsPassed, IsPathEnd, IsWholeBehind};
 ghost use Rattle.gram_plain.specs.Names.{further_segments as further, last_segment as alone, path_of, type_of, unqualified};
 ghost use Rattle.gram_plain.specs.Read.{IsReadIn};
 ghost use Rattle.gram_table.specs.Kinds.{plus_of, style_of};
@@ -235,6 +235,7 @@ pub(crate) fn segments<'a>(
     ensures read { IfOk result (λ o. IfSome o (λ x.
         IsReadIn most (kind.Segments (style_of style)) (tokens at.now) x.0 (tokens x.1.now))) }
     ensures named { IfOk result (λ o. IfSome o (λ x. IsNamed (tokens at.now))) }
+    ensures passed { IfOk result (λ o. IfSome o (λ x. IsPassed (tokens at.now) (tokens x.1.now))) }
     ensures whole { IfOk result (λ o. IfSome o (λ x. IsTrue (is_whole x.1.now))) }
 {
     if most == 0 {
@@ -290,6 +291,7 @@ pub(crate) fn path<'a>(
     ensures read { IfOk result (λ o. IfSome o (λ x.
         IsReadIn 5 (kind.Path (style_of style)) (tokens at.now) x.0 (tokens x.1.now))) }
     ensures named { IfOk result (λ o. IfSome o (λ x. IsNamed (tokens at.now))) }
+    ensures passed { IfOk result (λ o. IfSome o (λ x. IsPassed (tokens at.now) (tokens x.1.now))) }
     ensures whole { IfOk result (λ o. IfSome o (λ x. IsTrue (is_whole x.1.now))) }
 {
     let Some((segments, rest)) = segments(arena, style, NAMES, at)? else {
@@ -319,6 +321,7 @@ pub(crate) fn any_path<'a>(
     ensures read { IfOk result (λ o. IfSome o (λ x.
         IsReadIn 6 (kind.AnyPath (style_of style)) (tokens at.now) x.0 (tokens x.1.now))) }
     ensures named { IfOk result (λ o. IfSome o (λ x. IsNamed (tokens at.now))) }
+    ensures passed { IfOk result (λ o. IfSome o (λ x. IsPassed (tokens at.now) (tokens x.1.now))) }
     ensures whole { IfOk result (λ o. IfSome o (λ x. IsTrue (is_whole x.1.now))) }
 {
     let Some((path, rest)) = path(arena, style, at)? else {

@@ -6,9 +6,10 @@ ghost use Rattle.gram_table.specs.Kinds.{kind_of};
 ghost use Rattle.std.specs.Prelude.{IfOk, IfSome, IsTrue};
 ghost use Rattle.syn_buffer.specs.Entries.{is_whole};
 
-use crate::absent::{inner_attributes, outer_attributes, visibility};
+use crate::absent::{inner_attributes, no_where, outer_attributes, unmarked, visibility};
+use crate::attributes::outer_attribute;
 use crate::bindings::{ident_pattern, one_pattern, pattern, several_patterns};
-use crate::literals::expression;
+use crate::lone::expression;
 use crate::names::{NAMES, any_path, path, path_type, segments};
 use gram_table::kind::Kind;
 use gram_tree::arena::Arena;
@@ -17,7 +18,7 @@ use std::alloc::AllocError;
 use syn_buffer::entry::Entry;
 
 /// How many calls deep a run of the grammar goes at most where a plain form is read.
-pub const CALLS: u128 = 7;
+pub const CALLS: u128 = 10;
 
 /// The tree of the kind with which the entries begin, and what is left behind it, where they begin with a plain form.
 /// None says nothing of them. The entries are whole.
@@ -41,13 +42,15 @@ pub fn read<'a>(
         Kind::AnyPath(style) => any_path(arena, style, at),
         Kind::AType(plus) => path_type(arena, plus, at),
         Kind::OuterAttributes => outer_attributes(arena, at),
+        Kind::OuterAttribute => outer_attribute(arena, at),
         Kind::InnerAttributes => inner_attributes(arena, at),
         Kind::Visibility => visibility(arena, at),
+        Kind::Where => no_where(arena, at),
         Kind::Pattern => pattern(arena, at),
         Kind::SeveralPatterns => several_patterns(arena, at),
         Kind::OnePattern => one_pattern(arena, at),
         Kind::IdentPattern => ident_pattern(arena, at),
         Kind::Expression(position) => expression(arena, position, at),
-        _ => Ok(None),
+        _ => unmarked(arena, kind, at),
     }
 }

@@ -2,8 +2,8 @@
 use Rattle.gram_look.specs.Tokens.{tokens}
 use Rattle.gram_table.specs.Kinds.{position_of}
 use Rattle.rust_leaf.specs.Leaf.{literal_text}
-use Rattle.gram_plain.proofs.Lone.{alone_at}
-use Rattle.gram_plain.proofs.literals.expression.Goals as goal
+use Rattle.gram_plain.proofs.LoneForms.{alone_at}
+use Rattle.gram_plain.proofs.lone.expression.Goals as goal
 
 pub returns-in_ok-lone_literal-in-Some-clause-read : goal.returns-in_ok-lone_literal-in-Some-clause-read
 returns-in_ok-lone_literal-in-Some-clause-read c =
