@@ -23,6 +23,7 @@ use gram_tree::tree::Tree;
 use syn_buffer::entry::Entry;
 
 // What one makes of what was read.
+#[inline(always)]
 fn made_of<'a, R: Rules>(
     rules: &R,
     arena: &'a Arena,

@@ -24,8 +24,8 @@ ghost use Rattle.syn_grammar.specs.Run.{Got, Out, climb as goes, interp as says,
 ghost use Rattle.syn_grammar.specs.Run.{loop as again, run, tower as operand_of, wrap};
 ghost use Rattle.syn_grammar.specs.Tree.{Tree as AnyTree};
 
-use crate::around::{Around, surround};
-use crate::choice::{chosen, halves};
+use crate::around::{Around, NoToken, absent, surround};
+use crate::choice::{chosen, halves, is_nothing};
 use crate::finish::finished;
 use crate::form::{begun, extended};
 use crate::group::enter;
@@ -64,6 +64,9 @@ pub(crate) fn call<'a, R: Rules>(
     }
     let mut work = Work {
         arena,
+        nil: NoToken {
+            tree: arena.put(made::nil())?,
+        },
         pending: Vec::new(arena.alloc()),
     };
     let steps = entry(kind);
@@ -128,7 +131,16 @@ fn forward<'a, R: Rules>(
             Op::Many(test, mark) => return many(rules, work, test, mark, parts, at, fuel),
             Op::Operand(place, level) => return operand(rules, work, place, level, at, fuel),
             Op::Seq(count) => spot = seq(rules, work, count, parts, at, fuel)?,
-            Op::Alt(test, count) => spot = alt(rules, work, test, count, parts, at, fuel)?,
+            Op::Alt(test, count) => {
+                let Some(choice) = chosen(rules, test, count, parts, at) else {
+                    return Err(refuse(Wanted::Nothing, at));
+                };
+                if is_nothing(choice.parts) {
+                    return Ok((absent(work.nil, choice.seconds, choice.is_first), at));
+                }
+                let around = Around::Chosen(choice.seconds, choice.is_first);
+                spot = within(work, around, choice.parts, at, fuel)?;
+            }
             Op::Group(delimiter) => spot = group(work, delimiter, parts, at, fuel)?,
             Op::Judged(verdicts) => spot = weighed(work, verdicts, parts, at, fuel)?,
             Op::Dropped => spot = within(work, Around::Dropped, parts, at, fuel)?,
@@ -199,6 +211,26 @@ fn weighed<'a>(
     to_make(work, Pending::Judged(verdicts), steps, at, fuel)
 }
 
+// Whether a node of the kind may be a plain one.
+#[inline(always)]
+fn may_be_plain(kind: Kind) -> bool {
+    matches!(
+        kind,
+        Kind::Segments(_)
+            | Kind::Path(_)
+            | Kind::AnyPath(_)
+            | Kind::AType(_)
+            | Kind::OuterAttributes
+            | Kind::InnerAttributes
+            | Kind::Visibility
+            | Kind::Pattern
+            | Kind::SeveralPatterns
+            | Kind::OnePattern
+            | Kind::IdentPattern
+            | Kind::Expression(_)
+    )
+}
+
 // A node of the kind, where it is a plain one.
 fn plain<'a>(
     arena: &'a Arena,
@@ -211,7 +243,7 @@ fn plain<'a>(
         run fuel (of_kind (kind_of kind)) (tokens at.now) ≡ Got x.0 (tokens x.1.now))) }
     ensures whole { IfOk result (λ found. IfSome found (λ x. IsTrue (is_whole x.1.now))) }
 {
-    if fuel < CALLS {
+    if fuel < CALLS || !may_be_plain(kind) {
         return Ok(None);
     }
     gram_plain::read::read(arena, kind, at)
@@ -236,29 +268,6 @@ fn node<'a>(
     let steps = entry(kind);
     let _bounded = steps.len();
     to_make(work, Pending::Node(kind, at), steps, at, fuel - 1)
-}
-
-// The part that is chosen.
-fn alt<'a, R: Rules>(
-    rules: &R,
-    work: &mut Work<'a>,
-    test: Test,
-    count: usize,
-    parts: &'static [Op],
-    at: &'a [Entry<'a>],
-    fuel: u128,
-) -> Result<Spot<'a>, Refusal>
-    requires { IsTrue (is_whole at.now) }
-    ensures answer { Leads says_at work.old.pending.items work.new.pending.items result
-        (says (run fuel) (gram_of (ops.Alt test count ∷ parts.now)) (tokens at.now)) }
-    ensures whole { IfOk result (λ s. IsTrue (is_whole s.entries.now)) }
-    ensures lighter { IfOk result (λ s. weight s.fuel (length s.steps.now) < weight fuel (length parts.now + 1)) }
-{
-    let Some(choice) = chosen(rules, test, count, parts, at) else {
-        return Err(refuse(Wanted::Nothing, at));
-    };
-    let around = Around::Chosen(choice.seconds, choice.is_first);
-    to_make(work, Pending::Around(around), choice.parts, at, fuel)
 }
 
 // The inside of a group.
