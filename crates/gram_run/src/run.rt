@@ -5,9 +5,10 @@
 //! Tokens may stand deep in one another, and a program's stack is small. So what stands last in an entry is read in a
 //! loop, `forward`: the second part of a sequence, the part that is chosen, and the inside of a group, of a node, of a
 //! part, and of what is judged. What is to be made of it is held in one list for the whole run (`pending`), and is made
-//! once the last step has been read (`finish`). Only first parts, turns, elements and operands take a call. A node whose
-//! form is plain is read at once (`gram_plain`), and no step of its entry is taken. The compiler
-//! is told to leave lists and what goes on from a left operand out of that call, as it would need their room each time.
+//! once the last step has been read (`finish`). Only first parts, turns, elements and operands take a call, and of first
+//! parts none that is a word, a mark or absent (`front_of`). A node whose form is plain is read at once (`gram_plain`),
+//! and no step of its entry is taken. The compiler is told to leave lists and what goes on from a left operand out of
+//! that call, as it would need their room each time.
 
 ghost use Rattle.gram_run.specs.Answers.{Gives, tokens};
 ghost use Rattle.gram_run.specs.Around.{around_of, judged_as};
@@ -314,6 +315,61 @@ fn operand<'a, R: Rules>(
     surround(work.arena, Around::Whole, inner)
 }
 
+// A choice that stands first.
+#[cycle(run)]
+#[inline(always)]
+fn optional<'a, R: Rules>(
+    rules: &R,
+    work: &mut Work<'a>,
+    test: Test,
+    count: usize,
+    parts: &'static [Op],
+    at: &'a [Entry<'a>],
+    fuel: u128,
+) -> Result<(Tree<'a>, &'a [Entry<'a>]), Refusal>
+    requires { IsTrue (is_whole at.now) }
+    ensures kept { work.new.pending.items ≡ work.old.pending.items }
+    ensures answer { Gives (λ x. x.0) (λ x. x.1.now) result
+        (says (run fuel) (gram_of (ops.Alt test count ∷ parts.now)) (tokens at.now)) }
+    ensures whole { IfOk result (λ x. IsTrue (is_whole x.1.now)) }
+{
+    let Some(choice) = chosen(rules, test, count, parts, at) else {
+        return Err(refuse(Wanted::Nothing, at));
+    };
+    if is_nothing(choice.parts) {
+        return Ok((absent(work.nil, choice.seconds, choice.is_first), at));
+    }
+    let inner = interp(rules, work, choice.parts, at, fuel);
+    let around = Around::Chosen(choice.seconds, choice.is_first);
+    surround(work.arena, around, inner)
+}
+
+// What the steps say, where others stand behind them: a token and an absent part are read without a call.
+#[cycle(run)]
+#[inline(always)]
+fn front_of<'a, R: Rules>(
+    rules: &R,
+    work: &mut Work<'a>,
+    steps: &'static [Op],
+    at: &'a [Entry<'a>],
+    fuel: u128,
+) -> Result<(Tree<'a>, &'a [Entry<'a>]), Refusal>
+    requires { IsTrue (is_whole at.now) }
+    ensures kept { work.new.pending.items ≡ work.old.pending.items }
+    ensures answer { Gives (λ x. x.0) (λ x. x.1.now) result (says (run fuel) (gram_of steps.now) (tokens at.now)) }
+    ensures whole { IfOk result (λ x. IsTrue (is_whole x.1.now)) }
+{
+    let Some((op, parts)) = steps.split_first() else {
+        return Err(refuse(Wanted::Nothing, at));
+    };
+    match *op {
+        Op::Word(words) => leaf::word(words, at),
+        Op::Mark(sign) => leaf::mark(rules, sign, at),
+        Op::Alt(test, count) => optional(rules, work, test, count, parts, at, fuel),
+        _ => interp(rules, work, steps, at, fuel),
+    }
+}
+
 // A part, and then another.
 #[cycle(run)]
 fn seq<'a, R: Rules>(
@@ -333,7 +389,7 @@ fn seq<'a, R: Rules>(
     let Some((first, second)) = halves(count, parts) else {
         return Err(refuse(Wanted::Nothing, at));
     };
-    let (front, behind) = interp(rules, work, first, at, fuel)?;
+    let (front, behind) = front_of(rules, work, first, at, fuel)?;
     to_make(work, Pending::Front(front), second, behind, fuel)
 }
 
