@@ -79,6 +79,7 @@ pub(crate) fn absent<'a>(nil: NoToken<'a>, seconds: usize, is_first: bool) -> Tr
 }
 
 /// What was read, with that around it.
+#[inline(always)]
 pub(crate) fn surround<'a>(
     arena: &'a Arena,
     around: Around,
