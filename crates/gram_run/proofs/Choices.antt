@@ -1,6 +1,6 @@
 -- Which part of a choice is read.
-use Rattle.std.proofs.Common.{◌≡◌, ℕ, suc, ◌+◌, ◌≤◌, List, ◌∷◌, length, take, drop, refl, ap, ◌∙◌, arith}
-use Rattle.std.proofs.lemmas.Bool.{le-leb}
+use Rattle.std.proofs.Common.{◌≡◌, ℕ, zero, suc, ◌+◌, ◌<◌, ◌≤◌, List, ◌∷◌, length, take, drop, refl, ap, ◌∙◌, arith}
+use Rattle.std.proofs.lemmas.Bool.{le-leb, lt-leb}
 use Rattle.std.specs.Prelude.{Bool, true, false, cond}
 use Rattle.proc_macro2.specs.Token.{Token}
 use Rattle.syn_grammar.specs.Gram as g
@@ -15,7 +15,7 @@ use Rattle.gram_table.specs.declared.op.Test.{Test}
 use Rattle.gram_run.specs.Around.{around_of}
 use Rattle.gram_tree.specs.Forms.{seconds}
 use Rattle.gram_run.specs.declared.around.Around.TheVariants as arounds
-use Rattle.gram_run.proofs.Says.{says_seq, says_alt}
+use Rattle.gram_run.proofs.Says.{no_alt, says_seq, says_alt}
 
 module _ (n : ℕ) (is xs ys : List Op) (le : n ≤ length is) (p : xs ≡ take n is) (q : ys ≡ drop n is) where
   pub two_parts : gram_of (ops.Seq n ∷ is) ≡ g.seq (gram_of xs) (gram_of ys)
@@ -36,23 +36,45 @@ module _ (n : ℕ) (is xs ys : List Op) (le : n ≤ length is) (p : xs ≡ take 
         ≡ wrap t.Second (interp call (gram_of ys) ts)
     second_read e = by_test false e
 
-    -- where the second says what others say
-    pub second_says : (zs : List Op) (o : Out) → ys ≡ zs → test_of test ts ≡ false → interp call (gram_of zs) ts ≡ o
-        → interp call (gram_of (ops.Alt test n ∷ is)) ts ≡ wrap t.Second o
-    second_says zs o e f h =
-        second_read f ∙ ap (λ is. wrap t.Second (interp call (gram_of is) ts)) e ∙ ap (wrap t.Second) h
+-- where there aren't so many
+pub no_parts : (test : Test) (n : ℕ) (is : List Op) (ts : List Token) (call : Call → List Token → Out) → length is < n
+    → interp call (gram_of (ops.Alt test n ∷ is)) ts ≡ Refused
+no_parts test n is ts call l = ap (λ g. interp call g ts) (no_alt test n is (lt-leb n (length is) l))
 
--- what is chosen in the second of a choice
-pub seconds_more : (n m : ℕ) (x : Tree) → m ≡ n + 1 → t.Second (seconds n x) ≡ seconds m x
-seconds_more n m x e = ap (λ k. seconds k x) (let s : suc n ≡ m = omega (arith, e) in s)
+-- what a choice says, of which the second has been chosen so many times
+seconds_last : (n : ℕ) (x : Tree) → seconds n (t.Second x) ≡ t.Second (seconds n x)
+seconds_last zero x = refl
+seconds_last (suc n) x = ap t.Second (seconds_last n x)
 
-deeper_tree : (n m : ℕ) (b : Bool) (x : Tree) → m ≡ n + 1
-    → t.Second (around_of (arounds.Chosen n b) x) ≡ around_of (arounds.Chosen m b) x
-deeper_tree n m true x e = seconds_more n m (t.First x) e
-deeper_tree n m false x e = seconds_more n m x e
+seconds_more : (n m : ℕ) (x : Tree) → m ≡ n + 1 → seconds n (t.Second x) ≡ seconds m x
+seconds_more n m x e = seconds_last n x ∙ ap (λ k. seconds k x) (let s : suc n ≡ m = omega (arith, e) in s)
 
-pub deeper : (n m : ℕ) (b : Bool) (o : Out) → m ≡ n + 1
-    → wrap t.Second (wrap (around_of (arounds.Chosen n b)) o) ≡ wrap (around_of (arounds.Chosen m b)) o
-deeper n m b Late e = refl
-deeper n m b Refused e = refl
-deeper n m b (Got x us) e = ap (λ z. Got z us) (deeper_tree n m b x e)
+pub none_chosen : (n : ℕ) (q o : Out) → q ≡ wrap (seconds n) o → o ≡ Refused → q ≡ Refused
+none_chosen n q o i e = i ∙ ap (wrap (seconds n)) e
+
+pub first_chosen : (n : ℕ) (q o p : Out) → q ≡ wrap (seconds n) o → o ≡ wrap t.First p
+    → q ≡ wrap (around_of (arounds.Chosen n true)) p
+first_chosen n q o Late i e = i ∙ ap (wrap (seconds n)) e
+first_chosen n q o Refused i e = i ∙ ap (wrap (seconds n)) e
+first_chosen n q o (Got x us) i e = i ∙ ap (wrap (seconds n)) e
+
+pub more_chosen : (n m : ℕ) (q o p : Out) → m ≡ n + 1 → q ≡ wrap (seconds n) o → o ≡ wrap t.Second p
+    → q ≡ wrap (seconds m) p
+more_chosen n m q o Late s i e = i ∙ ap (wrap (seconds n)) e
+more_chosen n m q o Refused s i e = i ∙ ap (wrap (seconds n)) e
+more_chosen n m q o (Got x us) s i e = i ∙ ap (wrap (seconds n)) e ∙ ap (λ z. Got z us) (seconds_more n m x s)
+
+as_second : (n : ℕ) (p : Out) → wrap (seconds n) p ≡ wrap (around_of (arounds.Chosen n false)) p
+as_second n Late = refl
+as_second n Refused = refl
+as_second n (Got x us) = refl
+
+pub second_chosen : (n m : ℕ) (q o p : Out) → m ≡ n + 1 → q ≡ wrap (seconds n) o → o ≡ wrap t.Second p
+    → q ≡ wrap (around_of (arounds.Chosen m false)) p
+second_chosen n m q o p s i e = more_chosen n m q o p s i e ∙ as_second m p
+
+-- at first none has been
+pub none_yet : (o : Out) → o ≡ wrap (seconds 0) o
+none_yet Late = refl
+none_yet Refused = refl
+none_yet (Got x us) = refl

@@ -2,9 +2,11 @@
 
 ghost use Rattle.gram_run.specs.Answers.{Gives, tokens};
 ghost use Rattle.gram_run.specs.Around.{around_of, judged_as};
+ghost use Rattle.gram_run.specs.declared.around.Around.TheVariants as arounds;
 ghost use Rattle.std.specs.Prelude.{◌≡◌, IfOk, IsTrue};
 ghost use Rattle.syn_buffer.specs.Entries.{is_whole};
 ghost use Rattle.syn_grammar.specs.Run.{Got, Out, wrap};
+ghost use Rattle.syn_grammar.specs.Tree.{Nil};
 
 use crate::refusal::Refusal;
 use crate::rules::{Rules, Verdict};
@@ -13,7 +15,7 @@ use gram_table::op::Verdicts;
 use gram_table::part::Part;
 use gram_tree::arena::Arena;
 use gram_tree::made;
-use gram_tree::tree::Tree;
+use gram_tree::tree::{Form, Tree};
 use std::alloc::AllocError;
 use syn_buffer::entry::Entry;
 
@@ -32,6 +34,7 @@ pub(crate) enum Around {
 }
 
 /// The tree with that around it.
+#[inline(always)]
 pub(crate) fn surrounded<'a>(
     arena: &'a Arena,
     around: Around,
@@ -48,7 +51,35 @@ pub(crate) fn surrounded<'a>(
     }
 }
 
+/// The tree of no token, where it stands in the arena.
+#[derive(Clone, Copy)]
+pub(crate) struct NoToken<'a> {
+    /// The tree.
+    pub(crate) tree: &'a Tree<'a>,
+    ghost is_nil: { tree.now ≡ Nil },
+}
+
+/// The tree of no token, which is what is chosen. It takes no place.
+#[tactic(auto, using(gram_tree::proofs::Seconds::seconds_less))]
+#[inline(always)]
+pub(crate) fn absent<'a>(nil: NoToken<'a>, seconds: usize, is_first: bool) -> Tree<'a>
+    ensures { result ≡ around_of (arounds.Chosen seconds is_first) Nil }
+{
+    if is_first {
+        return Tree {
+            form: Form::First(seconds, nil.tree),
+        };
+    }
+    if seconds == 0 {
+        return made::nil();
+    }
+    Tree {
+        form: Form::Second(seconds - 1, nil.tree),
+    }
+}
+
 /// What was read, with that around it.
+#[inline(always)]
 pub(crate) fn surround<'a>(
     arena: &'a Arena,
     around: Around,

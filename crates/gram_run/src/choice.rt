@@ -6,9 +6,9 @@ ghost use Rattle.gram_run.specs.declared.around.Around.TheVariants as arounds;
 ghost use Rattle.gram_table.specs.Ops.{gram_of};
 ghost use Rattle.gram_table.specs.declared.op.Op.TheVariants as ops;
 ghost use Rattle.proc_macro2.specs.Token.{Token};
-ghost use Rattle.std.specs.Prelude.{◌≡◌, ◌≤◌, ◌+◌, ◌∷◌, IfNone, IfSome, IsTrue, List, MatchOption, length};
+ghost use Rattle.std.specs.Prelude.{◌≡◌, ◌≤◌, ◌∷◌, IfSome, IsTrue, List, MatchOption, length, true};
 ghost use Rattle.syn_buffer.specs.Entries.{is_whole};
-ghost use Rattle.syn_grammar.specs.Gram.{never, seq};
+ghost use Rattle.syn_grammar.specs.Gram.{never, nothing, seq};
 ghost use Rattle.syn_grammar.specs.Run.{Call, Out, Refused, interp, wrap};
 
 use crate::rules::Rules;
@@ -37,8 +37,17 @@ pub(crate) struct Choice {
     pub(crate) parts: &'static [Op],
 }
 
+// Two parts, of which the first takes so many steps, and is chosen where the test passes.
+#[derive(Clone, Copy)]
+struct Either {
+    test: Test,
+    count: usize,
+    parts: &'static [Op],
+}
+
 /// The part that is chosen there, of two of which the first takes so many steps; where the second is a choice itself,
 /// the part that is chosen in that.
+#[inline(always)]
 pub(crate) fn chosen<R: Rules>(
     rules: &R,
     test: Test,
@@ -52,37 +61,43 @@ pub(crate) fn chosen<R: Rules>(
         ≡ Refused)
         (λ x. (call : Call → List Token → Out) → interp call (gram_of (ops.Alt test count ∷ parts.now)) (tokens at.now)
         ≡ wrap (around_of (arounds.Chosen x.seconds x.is_first)) (interp call (gram_of x.parts.now) (tokens at.now))) }
-    ensures few { IfSome result (λ x. x.seconds ≤ length parts.now + 1) }
     ensures shorter { IfSome result (λ x. length x.parts.now ≤ length parts.now) }
 {
-    let (first, second) = parts.split_at_checked(count)?;
-    if rules.passes(test, at) {
-        return Some(Choice {
-            seconds: 0,
-            is_first: true,
-            parts: first,
-        });
+    let mut asked = Either { test, count, parts };
+    let mut seconds = 0usize;
+    'choices: loop {
+        let (first, second) = asked.parts.split_at_checked(asked.count)?;
+        if rules.passes(asked.test, at) {
+            return Some(Choice {
+                seconds,
+                is_first: true,
+                parts: first,
+            });
+        }
+        seconds += 1;
+        match second.split_first() {
+            Some((Op::Alt(next, size), others)) => {
+                asked = Either {
+                    test: *next,
+                    count: *size,
+                    parts: others,
+                };
+            }
+            _ => {
+                return Some(Choice {
+                    seconds,
+                    is_first: false,
+                    parts: second,
+                });
+            }
+        }
     }
-    let Some((op, behind)) = second.split_first() else {
-        return Some(Choice {
-            seconds: 1,
-            is_first: false,
-            parts: second,
-        });
-    };
-    let Op::Alt(test, count) = *op else {
-        return Some(Choice {
-            seconds: 1,
-            is_first: false,
-            parts: second,
-        });
-    };
-    let Some(inner) = chosen(rules, test, count, behind, at) else {
-        return None;
-    };
-    Some(Choice {
-        seconds: inner.seconds + 1,
-        is_first: inner.is_first,
-        parts: inner.parts,
-    })
+}
+
+/// Whether the steps say that nothing is read.
+#[inline(always)]
+pub(crate) fn is_nothing(parts: &'static [Op]) -> bool
+    ensures { result ≡ true → gram_of parts.now ≡ nothing }
+{
+    matches!(parts.first(), Some(Op::Nothing))
 }

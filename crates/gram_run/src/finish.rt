@@ -23,6 +23,7 @@ use gram_tree::tree::Tree;
 use syn_buffer::entry::Entry;
 
 // What one makes of what was read.
+#[inline(always)]
 fn made_of<'a, R: Rules>(
     rules: &R,
     arena: &'a Arena,
@@ -39,9 +40,13 @@ fn made_of<'a, R: Rules>(
         Pending::Around(around) => Ok((surrounded(arena, around, tree)?, rest)),
         Pending::Node(kind, _) => Ok((made::node(arena, kind, tree)?, rest)),
         Pending::Inside(delimiter, span, behind) => {
-            grouped(arena, delimiter, span, behind.entries, tree, rest)
+            let (group, left) = grouped(arena, delimiter, span, behind.entries, tree, rest)?;
+            Ok((group, left))
         }
-        Pending::Judged(verdicts) => judged(rules, arena, verdicts, tree, rest),
+        Pending::Judged(verdicts) => {
+            let (kept, left) = judged(rules, arena, verdicts, tree, rest)?;
+            Ok((kept, left))
+        }
     }
 }
 

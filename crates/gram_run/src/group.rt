@@ -82,6 +82,7 @@ pub(crate) fn closed(refusal: Refusal, span: Span) -> Refusal
 }
 
 /// A group, of what was read of its inside, where that is all of it; and what stands behind it.
+#[inline(always)]
 pub(crate) fn grouped<'a>(
     arena: &'a Arena,
     delimiter: Delimiter,

@@ -62,7 +62,7 @@ pub(crate) fn literal<'a, R: Rules>(
 }
 
 /// A punctuation.
-#[inline(never)]
+#[inline(always)]
 pub(crate) fn mark<'a, R: Rules>(
     rules: &R,
     sign: Sign,

@@ -3,7 +3,7 @@
 ghost use Rattle.std.specs.Prelude.{IsTrue};
 ghost use Rattle.syn_buffer.specs.Entries.{is_whole};
 
-use crate::around::Around;
+use crate::around::{Around, NoToken};
 use gram_table::kind::Kind;
 use gram_table::op::{Op, Verdicts};
 use gram_tree::arena::Arena;
@@ -40,6 +40,8 @@ pub(crate) enum Pending<'a> {
 pub(crate) struct Work<'a> {
     /// Where trees stand.
     pub(crate) arena: &'a Arena,
+    /// What no token is.
+    pub(crate) nil: NoToken<'a>,
     /// What is to be made of what is read, by the last one first.
     pub(crate) pending: Vec<Pending<'a>>,
 }

@@ -5,9 +5,10 @@
 //! Tokens may stand deep in one another, and a program's stack is small. So what stands last in an entry is read in a
 //! loop, `forward`: the second part of a sequence, the part that is chosen, and the inside of a group, of a node, of a
 //! part, and of what is judged. What is to be made of it is held in one list for the whole run (`pending`), and is made
-//! once the last step has been read (`finish`). Only first parts, turns, elements and operands take a call. A node whose
-//! form is plain is read at once (`gram_plain`), and no step of its entry is taken. The compiler
-//! is told to leave lists and what goes on from a left operand out of that call, as it would need their room each time.
+//! once the last step has been read (`finish`). Only first parts, turns, elements and operands take a call, and of first
+//! parts none that is a word, a mark or absent (`front_of`). A node whose form is plain is read at once (`gram_plain`),
+//! and no step of its entry is taken. The compiler is told to leave lists and what goes on from a left operand out of
+//! that call, as it would need their room each time.
 
 ghost use Rattle.gram_run.specs.Answers.{Gives, tokens};
 ghost use Rattle.gram_run.specs.Around.{around_of, judged_as};
@@ -24,8 +25,8 @@ ghost use Rattle.syn_grammar.specs.Run.{Got, Out, climb as goes, interp as says,
 ghost use Rattle.syn_grammar.specs.Run.{loop as again, run, tower as operand_of, wrap};
 ghost use Rattle.syn_grammar.specs.Tree.{Tree as AnyTree};
 
-use crate::around::{Around, surround};
-use crate::choice::{chosen, halves};
+use crate::around::{Around, NoToken, absent, surround};
+use crate::choice::{chosen, halves, is_nothing};
 use crate::finish::finished;
 use crate::form::{begun, extended};
 use crate::group::enter;
@@ -64,6 +65,9 @@ pub(crate) fn call<'a, R: Rules>(
     }
     let mut work = Work {
         arena,
+        nil: NoToken {
+            tree: arena.put(made::nil())?,
+        },
         pending: Vec::new(arena.alloc()),
     };
     let steps = entry(kind);
@@ -128,7 +132,16 @@ fn forward<'a, R: Rules>(
             Op::Many(test, mark) => return many(rules, work, test, mark, parts, at, fuel),
             Op::Operand(place, level) => return operand(rules, work, place, level, at, fuel),
             Op::Seq(count) => spot = seq(rules, work, count, parts, at, fuel)?,
-            Op::Alt(test, count) => spot = alt(rules, work, test, count, parts, at, fuel)?,
+            Op::Alt(test, count) => {
+                let Some(choice) = chosen(rules, test, count, parts, at) else {
+                    return Err(refuse(Wanted::Nothing, at));
+                };
+                if is_nothing(choice.parts) {
+                    return Ok((absent(work.nil, choice.seconds, choice.is_first), at));
+                }
+                let around = Around::Chosen(choice.seconds, choice.is_first);
+                spot = within(work, around, choice.parts, at, fuel)?;
+            }
             Op::Group(delimiter) => spot = group(work, delimiter, parts, at, fuel)?,
             Op::Judged(verdicts) => spot = weighed(work, verdicts, parts, at, fuel)?,
             Op::Dropped => spot = within(work, Around::Dropped, parts, at, fuel)?,
@@ -199,6 +212,26 @@ fn weighed<'a>(
     to_make(work, Pending::Judged(verdicts), steps, at, fuel)
 }
 
+// Whether a node of the kind may be a plain one.
+#[inline(always)]
+fn may_be_plain(kind: Kind) -> bool {
+    matches!(
+        kind,
+        Kind::Segments(_)
+            | Kind::Path(_)
+            | Kind::AnyPath(_)
+            | Kind::AType(_)
+            | Kind::OuterAttributes
+            | Kind::InnerAttributes
+            | Kind::Visibility
+            | Kind::Pattern
+            | Kind::SeveralPatterns
+            | Kind::OnePattern
+            | Kind::IdentPattern
+            | Kind::Expression(_)
+    )
+}
+
 // A node of the kind, where it is a plain one.
 fn plain<'a>(
     arena: &'a Arena,
@@ -211,7 +244,7 @@ fn plain<'a>(
         run fuel (of_kind (kind_of kind)) (tokens at.now) ≡ Got x.0 (tokens x.1.now))) }
     ensures whole { IfOk result (λ found. IfSome found (λ x. IsTrue (is_whole x.1.now))) }
 {
-    if fuel < CALLS {
+    if fuel < CALLS || !may_be_plain(kind) {
         return Ok(None);
     }
     gram_plain::read::read(arena, kind, at)
@@ -236,29 +269,6 @@ fn node<'a>(
     let steps = entry(kind);
     let _bounded = steps.len();
     to_make(work, Pending::Node(kind, at), steps, at, fuel - 1)
-}
-
-// The part that is chosen.
-fn alt<'a, R: Rules>(
-    rules: &R,
-    work: &mut Work<'a>,
-    test: Test,
-    count: usize,
-    parts: &'static [Op],
-    at: &'a [Entry<'a>],
-    fuel: u128,
-) -> Result<Spot<'a>, Refusal>
-    requires { IsTrue (is_whole at.now) }
-    ensures answer { Leads says_at work.old.pending.items work.new.pending.items result
-        (says (run fuel) (gram_of (ops.Alt test count ∷ parts.now)) (tokens at.now)) }
-    ensures whole { IfOk result (λ s. IsTrue (is_whole s.entries.now)) }
-    ensures lighter { IfOk result (λ s. weight s.fuel (length s.steps.now) < weight fuel (length parts.now + 1)) }
-{
-    let Some(choice) = chosen(rules, test, count, parts, at) else {
-        return Err(refuse(Wanted::Nothing, at));
-    };
-    let around = Around::Chosen(choice.seconds, choice.is_first);
-    to_make(work, Pending::Around(around), choice.parts, at, fuel)
 }
 
 // The inside of a group.
@@ -305,6 +315,61 @@ fn operand<'a, R: Rules>(
     surround(work.arena, Around::Whole, inner)
 }
 
+// A choice that stands first.
+#[cycle(run)]
+#[inline(always)]
+fn optional<'a, R: Rules>(
+    rules: &R,
+    work: &mut Work<'a>,
+    test: Test,
+    count: usize,
+    parts: &'static [Op],
+    at: &'a [Entry<'a>],
+    fuel: u128,
+) -> Result<(Tree<'a>, &'a [Entry<'a>]), Refusal>
+    requires { IsTrue (is_whole at.now) }
+    ensures kept { work.new.pending.items ≡ work.old.pending.items }
+    ensures answer { Gives (λ x. x.0) (λ x. x.1.now) result
+        (says (run fuel) (gram_of (ops.Alt test count ∷ parts.now)) (tokens at.now)) }
+    ensures whole { IfOk result (λ x. IsTrue (is_whole x.1.now)) }
+{
+    let Some(choice) = chosen(rules, test, count, parts, at) else {
+        return Err(refuse(Wanted::Nothing, at));
+    };
+    if is_nothing(choice.parts) {
+        return Ok((absent(work.nil, choice.seconds, choice.is_first), at));
+    }
+    let inner = interp(rules, work, choice.parts, at, fuel);
+    let around = Around::Chosen(choice.seconds, choice.is_first);
+    surround(work.arena, around, inner)
+}
+
+// What the steps say, where others stand behind them: a token and an absent part are read without a call.
+#[cycle(run)]
+#[inline(always)]
+fn front_of<'a, R: Rules>(
+    rules: &R,
+    work: &mut Work<'a>,
+    steps: &'static [Op],
+    at: &'a [Entry<'a>],
+    fuel: u128,
+) -> Result<(Tree<'a>, &'a [Entry<'a>]), Refusal>
+    requires { IsTrue (is_whole at.now) }
+    ensures kept { work.new.pending.items ≡ work.old.pending.items }
+    ensures answer { Gives (λ x. x.0) (λ x. x.1.now) result (says (run fuel) (gram_of steps.now) (tokens at.now)) }
+    ensures whole { IfOk result (λ x. IsTrue (is_whole x.1.now)) }
+{
+    let Some((op, parts)) = steps.split_first() else {
+        return Err(refuse(Wanted::Nothing, at));
+    };
+    match *op {
+        Op::Word(words) => leaf::word(words, at),
+        Op::Mark(sign) => leaf::mark(rules, sign, at),
+        Op::Alt(test, count) => optional(rules, work, test, count, parts, at, fuel),
+        _ => interp(rules, work, steps, at, fuel),
+    }
+}
+
 // A part, and then another.
 #[cycle(run)]
 fn seq<'a, R: Rules>(
@@ -324,7 +389,7 @@ fn seq<'a, R: Rules>(
     let Some((first, second)) = halves(count, parts) else {
         return Err(refuse(Wanted::Nothing, at));
     };
-    let (front, behind) = interp(rules, work, first, at, fuel)?;
+    let (front, behind) = front_of(rules, work, first, at, fuel)?;
     to_make(work, Pending::Front(front), second, behind, fuel)
 }
 

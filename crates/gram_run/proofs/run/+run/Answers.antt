@@ -100,13 +100,22 @@ forward-steps-preserved-in-Seq g t c =
       least = omega (arith, c.steps.invariant.least, o.ensures.lighter, ap length c.in-Some.ensures.cases.0);
     }
 
+pub forward-returns-in_default-chosen-clause-answer : goal.forward-returns-in_default-chosen-clause-answer
+forward-returns-in_default-chosen-clause-answer g t c =
+    let i = c.steps.invariant.read in
+    let s = at_step c.steps.spot.fuel _ c.in-Some.parts.now _ _ (tokens c.steps.spot.entries.now)
+    c.in-Some.ensures.cases.0 c.in-Alt.is in
+    refused _ _ i.0 _ _ i.1 i.2 _ _ (s ∙ c.in_default-chosen.ensures.says (run c.steps.spot.fuel)) refl
+    c.refuse-in_default-chosen.ensures.syntax
+
 pub forward-returns-in_err-spot-in-Alt-clause-answer : goal.forward-returns-in_err-spot-in-Alt-clause-answer
 forward-returns-in_err-spot-in-Alt-clause-answer g t c =
     let i = c.steps.invariant.read in
     let s = at_step c.steps.spot.fuel _ c.in-Some.parts.now _ _ (tokens c.steps.spot.entries.now)
     c.in-Some.ensures.cases.0 c.in-Alt.is in
     let p = err_from_is_err_and c.from_residual-in_err-spot-in-Alt.result c.from_residual-in_err-spot-in-Alt.ensures.1 in
-    rw (p.1, p.2) (fails _ _ i.0 _ _ i.1 i.2 _ _ _ s c.in_err-spot-in-Alt.ensures.answer)
+    rw (p.1, p.2) (fails _ _ i.0 _ _ i.1 i.2 _ _ _ (s ∙ c.in-Some-chosen.ensures.says (run c.steps.spot.fuel))
+    c.in_err-spot-in-Alt.ensures.answer)
 
 pub forward-steps-preserved-in-Alt : goal.forward-steps-preserved-in-Alt
 forward-steps-preserved-in-Alt g t c =
@@ -115,9 +124,16 @@ forward-steps-preserved-in-Alt g t c =
     c.in-Some.ensures.cases.0 c.in-Alt.is in
     let o = c.in_ok-spot-in-Alt in
     record {
-      read = goes _ _ i.0 _ _ i.1 i.2 _ o.spot _ s o.ensures.answer;
+      read = goes _ _ i.0 _ _ i.1 i.2 _ o.spot _ (s ∙ c.in-Some-chosen.ensures.says (run c.steps.spot.fuel))
+          o.ensures.answer;
       whole = o.ensures.whole;
-      least = omega (arith, c.steps.invariant.least, o.ensures.lighter, ap length c.in-Some.ensures.cases.0);
+      least = omega (
+        arith,
+        c.steps.invariant.least,
+        o.ensures.lighter,
+        c.in-Some-chosen.ensures.shorter,
+        ap length c.in-Some.ensures.cases.0,
+      );
     }
 
 pub forward-returns-in_err-spot-in-Group-clause-answer : goal.forward-returns-in_err-spot-in-Group-clause-answer

@@ -19,7 +19,13 @@ abbrev pub decreases-forward : goal.decreases-forward
 decreases-forward g l = weight l.begin.fuel (length l.begin.steps.now) + 2
 
 abbrev pub decreases-seq : goal.decreases-seq
-decreases-seq g l = weight l.fuel (length l.parts.now) + 4
+decreases-seq g l = weight l.fuel (length l.parts.now) + 5
+
+abbrev pub decreases-front_of : goal.decreases-front_of
+decreases-front_of g l = weight l.fuel (length l.steps.now) + 4
+
+abbrev pub decreases-optional : goal.decreases-optional
+decreases-optional g l = weight l.fuel (length l.parts.now) + 4
 
 abbrev pub decreases-star : goal.decreases-star
 decreases-star g l = weight l.most (length l.parts.now) + 4
