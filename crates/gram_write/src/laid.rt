@@ -80,7 +80,12 @@ pub(crate) fn put_laid<'a>(
             Form::Verbatim(inner) => return put_as_read(inner, out),
             Form::Back(kind, two) => return put_back(*kind, two, out),
             Form::Turns(turns) => return put_turns(turns, out),
-            Form::Group(delimiter, _, inner) => return put_group(left.within, *delimiter, inner, out),
+            Form::Group(delimiter, _, inner) => return put_group(
+                left.within,
+                *delimiter,
+                inner,
+                out,
+            ),
             Form::First(_, inner) | Form::Second(_, inner) => ending(left.within, inner),
             Form::Whole(inner) | Form::Alone(_, inner) => ending(Within::Anywhere, inner),
             Form::Pair(two) => {

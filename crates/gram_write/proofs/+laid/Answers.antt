@@ -1,6 +1,6 @@
-use Rattle.std.specs.Prelude.{Bool, List, [], ◌∷◌, IfOk, OnOk, Some, None, true, false, cond, not}
+use Rattle.std.specs.Prelude.{Bool, List, [], ◌∷◌, OnOk, Some, None, true, false, cond, not}
 use Rattle.std.specs.List.{list_any}
-use Rattle.std.proofs.Common.{append_assoc, arith, ap, inl, inr, subst, sym, refl, rules, ◌≡◌, ◌∙◌, ◌+◌, ◌-◌, ◌++◌, drop, length, map, take}
+use Rattle.std.proofs.Common.{append_assoc, arith, ap, subst, sym, refl, rules, ◌≡◌, ◌∙◌, ◌+◌, ◌-◌, ◌++◌, drop, length, map, take}
 use Rattle.std.proofs.lemmas.List.{take_all}
 use Rattle.std.proofs.lemmas.Result.{on_ok_weaker}
 use Rattle.std.proofs.lemmas.Grind.{common_steps}
