@@ -3,11 +3,14 @@ use Rattle.std.specs.Prelude.{◌≡◌, ℕ, zero, suc, ◌+◌, ◌<◌, Bool,
 use Rattle.std.specs.Prelude.{Some, None, codes, refl}
 use Rattle.std.specs.List.{list_any}
 use Rattle.std.proofs.Common.{ap, ◌∙◌, sym, append_assoc, arith, drop, get_or, length}
+use Rattle.std.proofs.lemmas.Bool.{false≢true}
 use Rattle.std.proofs.lemmas.List.{append-nil, at_drop_more}
+use Rattle.syn_grammar.specs.Tidy.{is_bare_colon, is_bare_generics, is_bare_where, is_lifetime_param, keeps_generics}
 use Rattle.proc_macro2.specs.Token.{Token, Ident, Punct}
 use Rattle.rust_leaf.specs.declared.punct.Spacing.{Spacing}
 use Rattle.rust_leaf.specs.declared.punct.Spacing.TheVariants.{Alone as Apart}
-use Rattle.syn_grammar.specs.Kind.{Kind, AStatement, Index, Member, Parameter}
+use Rattle.syn_grammar.specs.Kind.{Kind, AnImpl, Arguments, AStatement, BoundsColon, GenericParams, Generics, Index}
+use Rattle.syn_grammar.specs.Kind.{LifetimeColon, Member, Parameter, Where}
 use Rattle.syn_grammar.specs.Name.{the_unnamed}
 use Rattle.syn_grammar.specs.Tree as t
 use Rattle.syn_grammar.specs.Tree.{Tree, flat}
@@ -17,9 +20,10 @@ use Rattle.gram_tree.specs.Size.{node_count}
 use Rattle.gram_tree.specs.Forms.{mark_of, seconds, turns, elements}
 use Rattle.gram_tree.proofs.Sizes.{tree_size}
 use Rattle.gram_write.specs.declared.within.Within.{Within}
+use Rattle.gram_write.specs.declared.within.Within.TheVariants.{Anywhere, InArguments}
 use Rattle.gram_write.specs.Firsts.{has_other}
-use Rattle.gram_write.specs.Laid.{firsts_laid, laid, laid_in, others_laid, those_laid}
-use Rattle.gram_write.specs.Seen.{type_alone}
+use Rattle.gram_write.specs.Laid.{firsts_laid, laid, laid_in, others_laid, statement_laid, those_laid, within_impl}
+use Rattle.gram_write.specs.Seen.{is_missing, type_alone}
 use Rattle.gram_write.specs.Way.{dotted_of}
 use Rattle.gram_write.proofs.SeenForms.{same_pair, some_none}
 use Rattle.gram_write.proofs.WayForms.{dotted_is, own_else, own_number, own_plain, own_undotted}
@@ -61,6 +65,42 @@ pub laid_closed : (w : Within) (c : ℕ) (es : List Element) (x : Tree)
     → laid_in w (elements c es (t.Final x)) ≡ laid (elements c es t.End) ++ laid x
 laid_closed w c [] x = refl
 laid_closed w c (e ∷ es) x = all_elements c (e ∷ es) (t.Final x)
+
+-- nothing is written of an option that isn't there, nor of a node that holds it
+pub missing_laid : (w : Within) (x : Tree) → is_missing x ≡ true → laid_in w x ≡ []
+missing_laid w t.Nil e = refl
+missing_laid w (t.Second x) e = missing_laid w x e
+missing_laid w x e = absurd (false≢true e)
+
+missing_unless : (b : Bool) (ts : List Token) → ts ≡ [] → cond b [] ts ≡ []
+missing_unless true ts e = refl
+missing_unless false ts e = e
+
+missing_firsts : (q : Tree → Bool) (x : Tree) → is_missing x ≡ true → firsts_laid q x ≡ []
+missing_firsts q t.Nil e = refl
+missing_firsts q (t.Second x) e = missing_laid Anywhere x e
+missing_firsts q x e = absurd (false≢true e)
+
+missing_statement : (x : Tree) → is_missing x ≡ true → statement_laid (laid x) x ≡ []
+missing_statement t.Nil e = refl
+missing_statement (t.Second x) e = missing_laid Anywhere x e
+missing_statement x e = absurd (false≢true e)
+
+pub missing_node : (k : Kind) (x : Tree) → is_missing x ≡ true → laid (t.Node k x) ≡ []
+missing_node Parameter (t.Pair a y) e = absurd (false≢true e)
+missing_node Member (t.Second (t.ALiteral cs)) e = absurd (false≢true e)
+missing_node Index (t.ALiteral cs) e = absurd (false≢true e)
+missing_node Where x e = missing_unless (is_bare_where x) (laid x) (missing_laid Anywhere x e)
+missing_node Generics x e = missing_unless (is_bare_generics x) (laid x) (missing_laid Anywhere x e)
+missing_node BoundsColon x e = missing_unless (is_bare_colon x) (laid x) (missing_laid Anywhere x e)
+missing_node LifetimeColon x e = missing_unless (is_bare_colon x) (laid x) (missing_laid Anywhere x e)
+missing_node GenericParams x e = missing_firsts is_lifetime_param x e
+missing_node Arguments x e = missing_laid InArguments x e
+missing_node AnImpl x e = missing_laid (within_impl (keeps_generics x)) x e
+missing_node AStatement (t.Second (t.Second (t.Second (t.Second x)))) e = missing_statement x e
+missing_node k x e = missing_laid Anywhere x e
+
+pub ruleset missing = (missing_laid, missing_node, append-nil)
 
 pub ruleset forms =
     (laid_seconds, laid_mark, laid_turns, laid_open, laid_closed, node_same, append_assoc, append-nil)

@@ -18,7 +18,7 @@ use Rattle.gram_tree.specs.declared.tree.Element.{Element}
 use Rattle.gram_tree.specs.Forms.{mark_of, seconds, turns, elements, ending}
 use Rattle.gram_tree.specs.Shapes.{first_of, is_second, is_third, last_of, node_of, pair_of}
 use Rattle.gram_write.specs.Laid.{is_lifetime_read}
-use Rattle.gram_write.specs.Seen.{called_of, is_choice, is_constant, is_fourth, is_free_word, middle_of}
+use Rattle.gram_write.specs.Seen.{called_of, is_choice, is_constant, is_fourth, is_free_word, is_missing, middle_of}
 use Rattle.gram_write.specs.Seen.{text_of_literal, third_of, type_alone, unnamed_of}
 
 -- which tree it is
@@ -104,6 +104,13 @@ pub bare_lifetimes : (x y : Tree) → Some (Lifetimes, y) ≡ node_of x → is_n
 bare_lifetimes x y e = lifetimes_none y ∙ ap is_bare_bounds (sym (node_is x Lifetimes y e))
 
 pub ruleset bare_bounded = (bare_bounds, bare_lifetimes)
+
+-- an option that isn't there
+pub missing_nil : (n : ℕ) (x : Tree) → x ≡ t.Nil → is_missing (seconds n x) ≡ true
+missing_nil zero x e = ap is_missing e
+missing_nil (suc n) x e = missing_nil n x e
+
+pub ruleset missing = (missing_nil)
 
 -- choices
 pub choice_first : (n : ℕ) (x : Tree) → is_choice (seconds n (t.First x)) ≡ true

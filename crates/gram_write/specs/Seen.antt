@@ -2,7 +2,13 @@
 use Rattle.std.specs.Prelude.{ℕ, List, Bool, true, false, Option, Some, None}
 use Rattle.syn_grammar.specs.Name.{Part, the_unnamed}
 use Rattle.syn_grammar.specs.Words.{is_ident}
-use Rattle.syn_grammar.specs.Tree.{Tree, AWord, ALiteral, Pair, First, Second, Called}
+use Rattle.syn_grammar.specs.Tree.{Tree, AWord, ALiteral, Nil, Pair, First, Second, Called}
+
+-- an option that isn't there, which is the last of choices
+abbrev pub is_missing : Tree → Bool
+is_missing Nil = true
+is_missing (Second x) = is_missing x
+is_missing _ = false
 
 -- one of two was chosen
 abbrev pub is_choice : Tree → Bool

@@ -2,22 +2,20 @@
 
 ghost use Rattle.gram_piece.specs.Pieces.{piece_token};
 ghost use Rattle.gram_table.specs.Kinds.{kind_of};
-ghost use Rattle.gram_tree.specs.declared.tree.Tree.TheDeep.{size-Tree};
 ghost use Rattle.gram_write.specs.Front.{Keeps};
 ghost use Rattle.gram_write.specs.Laid.{behind_laid, given_laid, has_attributes, laid};
-ghost use Rattle.gram_write.specs.Tails.{left_laid};
 ghost use Rattle.proc_macro2.specs.Token as token;
-ghost use Rattle.range_laws.specs.Shelled.{enclosed_if, goes_in, is_shelled};
-ghost use Rattle.std.specs.Prelude.{[], ◌++◌, ◌∷◌, ◌≡◌, ◌≤◌, IfOk, IfSome, OnOk, cond, map};
+ghost use Rattle.range_laws.specs.Shelled.{enclosed_if, goes_in};
+ghost use Rattle.std.specs.Prelude.{[], ◌++◌, ◌∷◌, ◌≡◌, OnOk, cond, map};
 ghost use Rattle.syn_grammar.specs.Kind.{AStatement};
 ghost use Rattle.syn_grammar.specs.Tree as t;
 
 use crate::chain::{put_chain, put_given};
 use crate::fields::{put_fields, put_front_fields};
-use crate::laid::{Tail, put_laid};
+use crate::laid::put_laid;
 use crate::operand::{has_attributes, stated};
 use crate::put::one;
-use crate::shell::{goes_in, is_shelled};
+use crate::shell::goes_in;
 use crate::way::{dotted, is_dotted, last_number};
 use crate::within::Within;
 use gram_piece::piece::Piece;
@@ -63,35 +61,6 @@ pub(crate) fn put_operand<'a>(
     put_if(enclosed, Piece::Open(Delimiter::Parenthesis), out)?;
     put_chain(tree, out)?;
     put_if(enclosed, Piece::Close(Delimiter::Parenthesis), out)
-}
-
-/// Puts the tokens of a form with an operand behind it, up to that where it gets no parentheses: then it is left.
-///
-/// # Errors
-///
-/// Where there is no memory for more tokens.
-#[cycle(laid)]
-#[tactic(auto, using(crate::proofs::Pushing::puts, crate::proofs::Fronts::kept))]
-pub(crate) fn put_front<'t, 'a>(
-    kind: Kind,
-    two: &'t Two<'a>,
-    out: &mut Vec<Piece<'a>>,
-) -> Result<Option<Tail<'t, 'a>>, AllocError>
-    ensures put { IfOk result (λ left. map piece_token out.new.items ++ left_laid left ≡ map piece_token out.old.items
-        ++ (laid two.now.front ++ enclosed_if (is_shelled (kind_of kind) two.now.back) (laid two.now.back))) }
-    ensures keeps { Keeps out.old.items out.new.items }
-    ensures inside { IfOk result (λ left. IfSome left (λ x. size-Tree x.tree.now ≤ size-Tree two.now.back)) }
-{
-    put_laid(Within::Anywhere, &two.front, out)?;
-    if is_shelled(kind, &two.back) {
-        put_operand(true, &two.back, out)?;
-        Ok(None)
-    } else {
-        Ok(Some(Tail {
-            within: Within::Anywhere,
-            tree: &two.back,
-        }))
-    }
 }
 
 /// Puts the tokens of a form with an operand before it.

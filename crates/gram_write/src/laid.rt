@@ -5,22 +5,22 @@ ghost use Rattle.gram_table.specs.Kinds.{kind_of};
 ghost use Rattle.gram_table.specs.Ops.{separator_of};
 ghost use Rattle.gram_table.specs.Parts.{part_of};
 ghost use Rattle.gram_tree.specs.Forms.{elements};
-ghost use Rattle.gram_tree.specs.declared.tree.Tree.TheDeep.{size-Tree};
 ghost use Rattle.gram_write.specs.Front.{Keeps};
 ghost use Rattle.gram_write.specs.Laid.{firsts_laid, laid, laid_in, others_laid, those_laid};
-ghost use Rattle.gram_write.specs.Tails.{left_laid};
 ghost use Rattle.gram_write.specs.Way.{passes, way_laid};
-ghost use Rattle.std.specs.Prelude.{[], ◌++◌, ◌<◌, ◌≡◌, ◌≤◌, IfOk, IfSome, OnOk, false, map};
+ghost use Rattle.proc_macro2.specs.Token as token;
+ghost use Rattle.std.specs.Prelude.{[], ◌++◌, ◌∷◌, ◌≡◌, OnOk, false, map};
 ghost use Rattle.syn_grammar.specs.Kind.{Parameter};
 ghost use Rattle.syn_grammar.specs.Tree as t;
 
 use crate::as_read::put_as_read;
-use crate::expressed::{put_back, put_front, put_left, put_statement};
+use crate::expressed::{put_back, put_left, put_operand, put_statement};
 use crate::fields::number;
 use crate::put::{
     closing, comma, entries, ident, lifetime, literal, one, opening, separator, sign,
 };
-use crate::seen::type_alone;
+use crate::seen::{is_missing, type_alone};
+use crate::shell::is_shelled;
 use crate::turn::put_turns;
 use crate::way::{Firsts, Way, has_way, lacks_some, of_node, of_part, passes};
 use crate::within::Within;
@@ -29,16 +29,26 @@ use gram_table::kind::Kind;
 use gram_table::op::Separator;
 use gram_table::part::Part;
 use gram_tree::tree::{Element, Form, Tree};
+use proc_macro2::delimiter::Delimiter;
 use rust_leaf::punct::Spacing;
 use std::alloc::AllocError;
 
 /// What a tree ends with, which is left to be put.
 #[derive(Clone, Copy)]
-pub(crate) struct Tail<'t, 'a> {
+struct Tail<'t, 'a> {
     /// Where it stands.
-    pub(crate) within: Within,
+    within: Within,
     /// The tree.
-    pub(crate) tree: &'t Tree<'a>,
+    tree: &'t Tree<'a>,
+}
+
+// What is left, as it stands within the parts of a kind.
+#[inline(always)]
+fn ending<'t, 'a>(within: Within, tree: &'t Tree<'a>) -> Tail<'t, 'a>
+    ensures within { result.within ≡ within }
+    ensures tree { result.tree.now ≡ tree.now }
+{
+    Tail { within, tree }
 }
 
 /// Puts the tokens of the normal form of a tree behind those that are to be written, as they stand within the parts of
@@ -48,7 +58,7 @@ pub(crate) struct Tail<'t, 'a> {
 ///
 /// Where there is no memory for more tokens.
 #[cycle(laid)]
-#[tactic(auto, using(crate::proofs::Pushing::puts, crate::proofs::Fronts::kept))]
+#[tactic(auto, using(crate::proofs::Laying::forms, crate::proofs::Fronts::kept))]
 pub(crate) fn put_laid<'a>(
     within: Within,
     tree: &Tree<'a>,
@@ -57,120 +67,104 @@ pub(crate) fn put_laid<'a>(
     ensures put { OnOk result (map piece_token out.new.items ≡ map piece_token out.old.items ++ laid_in within tree.now) }
     ensures keeps { Keeps out.old.items out.new.items }
 {
-    let mut tail = Tail { within, tree };
-    while let Some(left) = step(tail, out)? {
-        tail = left;
+    let mut left = ending(within, tree);
+    'tails: loop {
+        let here = left.tree;
+        left = match &here.form {
+            Form::Word(word) => return ident(word, out),
+            Form::Literal(text) => return literal(text, out),
+            Form::Mark(marks, _, _) => return sign(*marks, Spacing::Alone, out),
+            Form::Lifetime(_, word) => return lifetime(word, out),
+            Form::Raw(tokens) => return entries(tokens, out),
+            Form::Nil | Form::Dropped(_) => return Ok(()),
+            Form::Verbatim(inner) => return put_as_read(inner, out),
+            Form::Back(kind, two) => return put_back(*kind, two, out),
+            Form::Turns(turns) => return put_turns(turns, out),
+            Form::Group(delimiter, _, inner) => return put_group(
+                left.within,
+                *delimiter,
+                inner,
+                out,
+            ),
+            Form::First(_, inner) | Form::Second(_, inner) => ending(left.within, inner),
+            Form::Whole(inner) | Form::Alone(_, inner) => ending(Within::Anywhere, inner),
+            Form::Pair(two) => {
+                put_first(left.within, &two.front, out)?;
+                ending(left.within, &two.back)
+            }
+            Form::Infix(kind, three) => {
+                put_left(*kind, three, out)?;
+                ending(Within::Anywhere, &three.right)
+            }
+            Form::Front(kind, two) => {
+                put_laid(Within::Anywhere, &two.front, out)?;
+                if is_shelled(*kind, &two.back) {
+                    return put_operand(true, &two.back, out);
+                }
+                ending(Within::Anywhere, &two.back)
+            }
+            Form::Elements(list) => {
+                put_elements(list.separator, list.before, out)?;
+                let Some(last) = list.last else {
+                    return Ok(());
+                };
+                ending(Within::Anywhere, last)
+            }
+            Form::Node(kind, inner) => {
+                if has_way(*kind) {
+                    return put_node(*kind, inner, out);
+                }
+                ending(Within::Anywhere, inner)
+            }
+            Form::Called(part, inner) => match left.within {
+                Within::Anywhere => ending(Within::Anywhere, inner),
+                _ => return put_part(left.within, *part, inner, out),
+            },
+        };
     }
-    Ok(())
 }
 
-// The tokens of a tree up to what it ends with, which is left.
+// What stands first of two: it is mostly a token, or none, and takes no call then.
 #[cycle(laid)]
-#[tactic(auto, using(crate::proofs::Laying::forms, crate::proofs::Fronts::kept))]
-fn step<'t, 'a>(
-    tail: Tail<'t, 'a>,
+#[tactic(auto, using(crate::proofs::Laying::forms, crate::proofs::Laying::missing, crate::proofs::Fronts::kept))]
+#[inline(always)]
+fn put_first<'a>(
+    within: Within,
+    tree: &Tree<'a>,
     out: &mut Vec<Piece<'a>>,
-) -> Result<Option<Tail<'t, 'a>>, AllocError>
-    ensures put { IfOk result (λ left. map piece_token out.new.items ++ left_laid left
-        ≡ map piece_token out.old.items ++ laid_in tail.entry.within tail.entry.tree.now) }
+) -> Result<(), AllocError>
+    ensures put { OnOk result (map piece_token out.new.items ≡ map piece_token out.old.items ++ laid_in within tree.now) }
     ensures keeps { Keeps out.old.items out.new.items }
-    ensures inside { IfOk result (λ left. IfSome left (λ x. size-Tree x.tree.now < size-Tree tail.entry.tree.now)) }
 {
-    let within = tail.within;
-    let tree = tail.tree;
     match &tree.form {
-        Form::Word(word) => {
-            ident(word, out)?;
-            Ok(None)
-        }
-        Form::Literal(text) => {
-            literal(text, out)?;
-            Ok(None)
-        }
-        Form::Mark(marks, _, _) => {
-            sign(*marks, Spacing::Alone, out)?;
-            Ok(None)
-        }
-        Form::Lifetime(_, word) => {
-            lifetime(word, out)?;
-            Ok(None)
-        }
-        Form::Raw(tokens) => {
-            entries(tokens, out)?;
-            Ok(None)
-        }
-        Form::Nil | Form::Dropped(_) => Ok(None),
-        Form::Verbatim(inner) => {
-            put_as_read(inner, out)?;
-            Ok(None)
-        }
-        Form::Pair(two) => {
-            put_laid(within, &two.front, out)?;
-            Ok(Some(Tail {
-                within,
-                tree: &two.back,
-            }))
-        }
-        Form::Front(kind, two) => put_front(*kind, two, out),
-        Form::Back(kind, two) => {
-            put_back(*kind, two, out)?;
-            Ok(None)
-        }
-        Form::Infix(kind, three) => {
-            put_left(*kind, three, out)?;
-            Ok(Some(Tail {
-                within: Within::Anywhere,
-                tree: &three.right,
-            }))
-        }
-        Form::Turns(turns) => {
-            put_turns(turns, out)?;
-            Ok(None)
-        }
-        Form::Elements(list) => {
-            put_elements(list.separator, list.before, out)?;
-            match list.last {
-                Some(last) => Ok(Some(Tail {
-                    within: Within::Anywhere,
-                    tree: last,
-                })),
-                None => Ok(None),
-            }
-        }
-        Form::Group(delimiter, _, inner) => {
-            opening(*delimiter, out)?;
-            put_laid(within, inner, out)?;
-            closing(*delimiter, out)?;
-            Ok(None)
-        }
-        Form::First(_, inner) | Form::Second(_, inner) => Ok(Some(Tail {
-            within,
-            tree: inner,
-        })),
-        Form::Called(part, inner) => match within {
-            Within::Anywhere => Ok(Some(Tail {
-                within,
-                tree: inner,
-            })),
-            _ => put_part(within, *part, inner, out),
-        },
-        Form::Node(kind, inner) => {
-            if has_way(*kind) {
-                put_node(*kind, inner, out)
+        Form::Word(word) => ident(word, out),
+        Form::Mark(marks, _, _) => sign(*marks, Spacing::Alone, out),
+        _ => {
+            if is_missing(tree) {
+                Ok(())
             } else {
-                Ok(Some(Tail {
-                    within: Within::Anywhere,
-                    tree: inner,
-                }))
+                put_laid(within, tree, out)
             }
-        }
-        Form::Whole(inner) | Form::Alone(_, inner) => {
-            Ok(Some(Tail {
-                within: Within::Anywhere,
-                tree: inner,
-            }))
         }
     }
+}
+
+// A group.
+#[cycle(laid)]
+#[tactic(auto, using(crate::proofs::Pushing::puts, crate::proofs::Fronts::kept))]
+fn put_group<'a>(
+    within: Within,
+    delimiter: Delimiter,
+    inner: &Tree<'a>,
+    out: &mut Vec<Piece<'a>>,
+) -> Result<(), AllocError>
+    ensures put { OnOk result (map piece_token out.new.items
+        ≡ map piece_token out.old.items ++ token.Opens delimiter ∷ laid_in within inner.now ++ token.Closes delimiter ∷ []) }
+    ensures keeps { Keeps out.old.items out.new.items }
+{
+    opening(delimiter, out)?;
+    put_laid(within, inner, out)?;
+    closing(delimiter, out)
 }
 
 // The tokens of elements, and of the mark behind each.
@@ -192,74 +186,54 @@ fn put_elements<'a>(
     Ok(())
 }
 
-// A part; where its inside is written as it stands, that is left.
+// A part.
 #[cycle(laid)]
 #[tactic(auto, using(crate::proofs::Fronts::kept))]
-fn put_part<'t, 'a>(
+#[inline(never)]
+fn put_part<'a>(
     within: Within,
     part: Part,
-    inner: &'t Tree<'a>,
+    inner: &Tree<'a>,
     out: &mut Vec<Piece<'a>>,
-) -> Result<Option<Tail<'t, 'a>>, AllocError>
-    ensures put { IfOk result (λ left. map piece_token out.new.items ++ left_laid left
+) -> Result<(), AllocError>
+    ensures put { OnOk result (map piece_token out.new.items
         ≡ map piece_token out.old.items ++ laid_in within (t.Called (part_of part) inner.now)) }
     ensures keeps { Keeps out.old.items out.new.items }
-    ensures inside { IfOk result (λ left. IfSome left (λ x. size-Tree x.tree.now ≤ size-Tree inner.now)) }
 {
     put_so(of_part(within, part, inner), inner, out)
 }
 
-// A node; where its inside is written as it stands, that is left.
+// A node: of an option that isn't there nothing is written.
 #[cycle(laid)]
-#[tactic(auto, using(crate::proofs::Fronts::kept))]
-fn put_node<'t, 'a>(
-    kind: Kind,
-    inner: &'t Tree<'a>,
-    out: &mut Vec<Piece<'a>>,
-) -> Result<Option<Tail<'t, 'a>>, AllocError>
-    ensures put { IfOk result (λ left. map piece_token out.new.items ++ left_laid left
+#[tactic(auto, using(crate::proofs::Laying::missing, crate::proofs::Fronts::kept))]
+#[inline(never)]
+fn put_node<'a>(kind: Kind, inner: &Tree<'a>, out: &mut Vec<Piece<'a>>) -> Result<(), AllocError>
+    ensures put { OnOk result (map piece_token out.new.items
         ≡ map piece_token out.old.items ++ laid (t.Node (kind_of kind) inner.now)) }
     ensures keeps { Keeps out.old.items out.new.items }
-    ensures inside { IfOk result (λ left. IfSome left (λ x. size-Tree x.tree.now ≤ size-Tree inner.now)) }
 {
+    if is_missing(inner) {
+        return Ok(());
+    }
     put_so(of_node(kind, inner), inner, out)
 }
 
-// The inside of a node or of a part, written in that way; where it is written as it stands, it is left.
+// The inside of a node or of a part, written in that way.
 #[cycle(laid)]
 #[tactic(auto, using(crate::proofs::Pushing::puts, crate::proofs::Fronts::kept))]
-fn put_so<'t, 'a>(
-    way: Way<'a>,
-    inner: &'t Tree<'a>,
-    out: &mut Vec<Piece<'a>>,
-) -> Result<Option<Tail<'t, 'a>>, AllocError>
-    ensures put { IfOk result (λ left. map piece_token out.new.items ++ left_laid left
+#[inline(always)]
+fn put_so<'a>(way: Way<'a>, inner: &Tree<'a>, out: &mut Vec<Piece<'a>>) -> Result<(), AllocError>
+    ensures put { OnOk result (map piece_token out.new.items
         ≡ map piece_token out.old.items ++ way_laid way.entry inner.now) }
     ensures keeps { Keeps out.old.items out.new.items }
-    ensures inside { IfOk result (λ left. IfSome left (λ x. size-Tree x.tree.now ≤ size-Tree inner.now)) }
 {
     match way {
-        Way::Nothing => Ok(None),
-        Way::Number(literal) => {
-            number(literal, out)?;
-            Ok(None)
-        }
-        Way::Parameter => {
-            put_parameter(inner, out)?;
-            Ok(None)
-        }
-        Way::Statement => {
-            put_statement(inner, out)?;
-            Ok(None)
-        }
-        Way::Firsts(which) => {
-            put_firsts(which, inner, out)?;
-            Ok(None)
-        }
-        Way::Parts(within) => Ok(Some(Tail {
-            within,
-            tree: inner,
-        })),
+        Way::Nothing => Ok(()),
+        Way::Number(literal) => number(literal, out),
+        Way::Parameter => put_parameter(inner, out),
+        Way::Statement => put_statement(inner, out),
+        Way::Firsts(which) => put_firsts(which, inner, out),
+        Way::Parts(within) => put_laid(within, inner, out),
     }
 }
 

@@ -2,10 +2,11 @@
 
 ghost use Rattle.gram_table.specs.Parts.{part_of};
 ghost use Rattle.gram_write.specs.Laid.{is_lifetime_read};
-ghost use Rattle.gram_write.specs.Seen.{called_of, is_choice, is_constant, is_fourth, is_free_word, middle_of};
-ghost use Rattle.gram_write.specs.Seen.{text_of_literal, third_of, type_alone, unnamed_of};
+ghost use Rattle.gram_write.specs.Seen.{called_of, is_choice, is_constant, is_fourth, is_free_word, is_missing};
+ghost use Rattle.gram_write.specs.Seen.{middle_of, text_of_literal, third_of, type_alone, unnamed_of};
 ghost use Rattle.rust_leaf.specs.Leaf.{literal_text};
-ghost use Rattle.std.specs.Prelude.{◌≡◌, option_map};
+ghost use Rattle.std.specs.Bool.{OnTrue};
+ghost use Rattle.std.specs.Prelude.{◌≡◌, option_map, true};
 ghost use Rattle.syn_grammar.specs.Kind.{AnyPath, AtType, Path, QualifiedPath, Segments};
 ghost use Rattle.syn_grammar.specs.Name.{the_bounds, the_clause, the_first, the_parameters};
 ghost use Rattle.syn_grammar.specs.Part.{the};
@@ -20,6 +21,28 @@ use gram_table::part::Part;
 use gram_table::word::Words;
 use gram_tree::tree::{Form, Tree};
 use rust_leaf::literal::Literal;
+
+// Whether it is no token.
+fn is_nil(tree: &Tree<'_>) -> bool
+    ensures { OnTrue result (tree.now ≡ t.Nil) }
+{
+    match &tree.form {
+        Form::Nil => true,
+        _ => false,
+    }
+}
+
+/// Whether it is an option that isn't there.
+#[tactic(auto, using(crate::proofs::SeenForms::missing))]
+#[inline(always)]
+pub(crate) fn is_missing(tree: &Tree<'_>) -> bool
+    ensures { OnTrue result (is_missing tree.now ≡ true) }
+{
+    match &tree.form {
+        Form::Second(_, inner) => is_nil(inner),
+        _ => false,
+    }
+}
 
 // Whether it has no element and no turn.
 #[tactic(auto, using(crate::proofs::SeenForms::nones))]

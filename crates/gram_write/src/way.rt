@@ -141,6 +141,7 @@ pub(crate) fn has_way(kind: Kind) -> bool
 
 /// The inside of a node.
 #[tactic(auto, using(crate::proofs::WayForms::nodes))]
+#[inline(always)]
 pub(crate) fn of_node<'a>(kind: Kind, inner: &Tree<'a>) -> Way<'a>
     ensures { way_laid result inner.now ≡ laid (t.Node (kind_of kind) inner.now) }
 {

@@ -1,10 +1,11 @@
-use Rattle.std.specs.Prelude.{Bool, List, [], ◌∷◌, IfOk, OnOk, Some, None, true, false, cond, not}
+use Rattle.std.specs.Prelude.{Bool, List, [], ◌∷◌, OnOk, Some, None, true, false, cond, not}
 use Rattle.std.specs.List.{list_any}
-use Rattle.std.proofs.Common.{append_assoc, arith, ap, inl, inr, subst, sym, refl, rules, ◌≡◌, ◌∙◌, ◌+◌, ◌-◌, ◌++◌, drop, length, map, take}
+use Rattle.std.proofs.Common.{append_assoc, arith, ap, subst, sym, refl, rules, ◌≡◌, ◌∙◌, ◌+◌, ◌-◌, ◌++◌, drop, length, map, take}
 use Rattle.std.proofs.lemmas.List.{take_all}
 use Rattle.std.proofs.lemmas.Result.{on_ok_weaker}
 use Rattle.std.proofs.lemmas.Grind.{common_steps}
 use denote.Bor.{Bor}
+use Rattle.gram_write.specs.declared.within.Within.{Within}
 use Rattle.proc_macro2.specs.Token.{Token, Punct}
 use Rattle.rust_leaf.specs.declared.punct.Spacing.TheVariants.{Alone as Apart}
 use Rattle.gram_piece.specs.Pieces.{piece_token}
@@ -24,12 +25,10 @@ use Rattle.gram_write.specs.Chains.{behind_lefts}
 use Rattle.gram_write.specs.Laid.{firsts_laid, given_laid, laid, laid_in, others_laid, those_laid}
 use Rattle.gram_write.specs.Said.{fields, front_fields}
 use Rattle.gram_write.specs.Operands.{giving_of, stated_of}
-use Rattle.gram_write.specs.Tails.{left_laid}
 use Rattle.gram_write.specs.Way.{dotted_of, is_dotted, last_text, passes}
 use Rattle.gram_write.proofs.Chains.{forms_more, given_put, step_out}
 use Rattle.gram_write.proofs.Fronts.{keeps_both, keeps_same, keeps_taken}
-use Rattle.gram_write.proofs.Inside.{first_below, last_below, second_below}
-use Rattle.gram_write.proofs.Laying.{firsts_passing, four_put, node_same, others_next, others_skip, those_next}
+use Rattle.gram_write.proofs.Laying.{firsts_passing, four_put, others_next, others_skip, those_next}
 use Rattle.gram_write.proofs.Laying.{those_skip}
 use Rattle.gram_write.proofs.Operands.{stated_below}
 use Rattle.gram_write.proofs.Pushing.{puts}
@@ -41,15 +40,35 @@ use Rattle.gram_write.proofs.+laid.Goals.{laid::put_those-then-passes+in_ok-put_
 use Rattle.gram_write.proofs.+laid.Goals.{laid::put_those-else-passes}
 
 -- what is called is smaller
-pub laid::step-put_turns-requires : goal.laid::step-put_turns-requires
-laid::step-put_turns-requires n c =
-    let view : c.args.tail.tree.now ≡ turns c.in-Turns.turns.now = sym c.tree.view_is ∙ ap tree_of c.in-Turns.is in
-    omega (arith, c.decreases, turns_size c.in-Turns.turns.now, ap node_count view)
+pub laid::put_laid-put_turns-requires : goal.laid::put_laid-put_turns-requires
+laid::put_laid-put_turns-requires n c =
+    let x : Tree = c.tails.left.tree.now in
+    let view : x ≡ turns c.in-Turns.turns.now = sym c.here.view_is ∙ ap tree_of c.in-Turns.is in
+    omega (arith, c.decreases, c.tails.invariant.inside, turns_size c.in-Turns.turns.now, ap node_count view, tree_size x)
 
-pub laid::step-put_elements-requires : goal.laid::step-put_elements-requires
-laid::step-put_elements-requires n c =
-    let is = sym c.tree.view_is ∙ ap tree_of c.in-Elements.is in
-    omega (arith, c.decreases, list_below c.in-Elements.list.now c.args.tail.tree.now is, tree_size c.args.tail.tree.now)
+pub laid::put_laid-put_elements-requires : goal.laid::put_laid-put_elements-requires
+laid::put_laid-put_elements-requires n c =
+    let x : Tree = c.tails.left.tree.now in
+    let is = sym c.here.view_is ∙ ap tree_of c.in-Elements.is in
+    omega (arith, c.decreases, c.tails.invariant.inside, list_below c.in-Elements.list.now x is, tree_size x)
+
+-- a part is put behind what was put before it
+part_put : (w : Within) (x y : Tree) (ts us vs : List Token) → x ≡ y → ts ++ laid_in w x ≡ vs → us ≡ ts ++ laid_in w y
+    → us ≡ vs
+part_put w x y ts us vs v i e = e ∙ ap (λ z. ts ++ laid_in w z) (sym v) ∙ i
+
+pub laid::put_laid-returns-in_default-within-clause-put : goal.laid::put_laid-returns-in_default-within-clause-put
+laid::put_laid-returns-in_default-within-clause-put n c =
+    let x : Tree = c.tails.left.tree.now in
+    let y : Tree = t.Called (part_of c.in-Called.part) c.in-Called.inner.now in
+    let view : x ≡ y = sym c.here.view_is ∙ ap tree_of c.in-Called.is in
+    let ts : List Token = map piece_token c.tails.out.items in
+    let us : List Token = map piece_token c.put_part.new.out.items in
+    let vs : List Token = map piece_token c.args.out.now.items ++ laid_in c.args.within c.args.tree.now in
+    let before : ts ++ laid_in c.tails.left.within x ≡ vs = c.tails.invariant.put in
+    let behind : OnOk c.put_part.result (us ≡ ts ++ laid_in c.tails.left.within y) = c.put_part.ensures.put in
+    let put : OnOk c.put_part.result (us ≡ vs) =
+    on_ok_weaker c.put_part.result (λ e. part_put c.tails.left.within x y ts us vs view before e) behind in put
 
 pub laid::put_firsts-put_those-requires : goal.laid::put_firsts-put_those-requires
 laid::put_firsts-put_those-requires n c =
@@ -88,42 +107,6 @@ laid::put_others-put_laid-requires n c =
     let below = element_in c.args.before.now c.loop-element.element-index c.element-item.result
     c.loop-element-test.true c.element-item.is in
     omega (arith, c.decreases, below)
-
--- what is left is smaller
-pub laid::step-returns-in-Some-clause-inside : goal.laid::step-returns-in-Some-clause-inside
-laid::step-returns-in-Some-clause-inside n c =
-    let m = separator_of c.in-Elements.list.now.separator in
-    let es : List Element = c.in-Elements.list.now.before.now in
-    let view : c.args.tail.tree.now ≡ elements m es (t.Final c.in-Some.last.now) =
-    sym c.tree.view_is ∙ ap tree_of c.in-Elements.is
-    ∙ ap (λ o. elements m es (ending (λ b. b.now) o)) c.in-Some.is in
-    last_below m es c.in-Some.last.now c.args.tail.tree.now view
-
-pub laid::step-returns-in-First-clause-inside : goal.laid::step-returns-in-First-clause-inside
-laid::step-returns-in-First-clause-inside n c =
-    let x : Tree = c.in-First.inner.now in
-    let y : Tree = c.args.tail.tree.now in
-    elim c.in-First.is [
-      | inl w ↦ first_below w.0 x y (sym c.tree.view_is ∙ ap tree_of w.1)
-      | inr w ↦ second_below w.0 x y (sym c.tree.view_is ∙ ap tree_of w.1)
-    ]
-
--- what is put one behind the other
-pub laid::step-returns-in_default-clause-put : goal.laid::step-returns-in_default-clause-put
-laid::step-returns-in_default-clause-put n c =
-    let view : c.args.tail.tree.now ≡ t.Called (part_of c.in-Called.part) c.in-Called.inner.now =
-    sym c.tree.view_is ∙ ap tree_of c.in-Called.is in
-    subst (λ (x : Tree). IfOk c.put_part.result (λ left. map piece_token c.put_part.new.out.items ++ left_laid left
-    ≡ map piece_token c.args.out.now.items ++ laid_in c.args.tail.within x)) (sym view) c.put_part.ensures.put
-
-pub laid::step-returns-then-has_way-clause-put : goal.laid::step-returns-then-has_way-clause-put
-laid::step-returns-then-has_way-clause-put n c =
-    let k = kind_of c.in-Node.kind in
-    let view : c.args.tail.tree.now ≡ t.Node k c.in-Node.inner.now = sym c.tree.view_is ∙ ap tree_of c.in-Node.is in
-    subst (λ (ts : List Token). IfOk c.put_node.result (λ left. map piece_token c.put_node.new.out.items
-    ++ left_laid left ≡ map piece_token c.args.out.now.items ++ ts))
-    (sym (node_same c.args.tail.within k c.in-Node.inner.now) ∙ ap (λ x. laid_in c.args.tail.within x) (sym view))
-    c.put_node.ensures.put
 
 pub laid::put_firsts-returns-in_ok-comma-clause-put : goal.laid::put_firsts-returns-in_ok-comma-clause-put
 laid::put_firsts-returns-in_ok-comma-clause-put n c =
@@ -241,10 +224,6 @@ pub turn::put_turn-returns-clause-keeps : goal.turn::put_turn-returns-clause-kee
 turn::put_turn-returns-clause-keeps n c =
     keeps_taken c.args.out.now.items c.put_laid-2.new.out.items c.set_apart.new.out.items c.len-before.result
     (omega (arith, c.len-before.ensures, c.args.out.now.ok.0)) c.put_laid-2.ensures.keeps c.set_apart.ensures.front
-
--- operands, and what stands behind them
-pub expressed::put_front-put_operand-requires : goal.expressed::put_front-put_operand-requires
-expressed::put_front-put_operand-requires n c = omega (arith, c.decreases, tree_size c.args.two.now.back)
 
 pub expressed::put_back-put_operand-requires : goal.expressed::put_back-put_operand-requires
 expressed::put_back-put_operand-requires n c = omega (arith, c.decreases, tree_size c.args.two.now.front)

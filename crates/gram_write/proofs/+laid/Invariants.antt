@@ -14,16 +14,16 @@ use Rattle.gram_write.specs.Way.{passes}
 use Rattle.gram_write.proofs.+laid.Given as goal
 
 -- the old ones stand in front, and what is left is to stand behind what is put
-abbrev pub invariant-laid::put_laid-loop-left : goal.invariant-laid::put_laid-loop-left
-invariant-laid::put_laid-loop-left l = record {
+abbrev pub invariant-laid::put_laid-tails : goal.invariant-laid::put_laid-tails
+invariant-laid::put_laid-tails l = record {
   kept : Keeps l.fn.out.items l.out.items;
-  put : map piece_token l.out.items ++ laid_in l.tail.within l.tail.tree.now
+  put : map piece_token l.out.items ++ laid_in l.left.within l.left.tree.now
       ≡ map piece_token l.fn.out.items ++ laid_in l.fn.within l.fn.tree;
-  inside : size-Tree l.tail.tree.now ≤ size-Tree l.fn.tree;
+  inside : size-Tree l.left.tree.now ≤ size-Tree l.fn.tree;
 }
 
-abbrev pub decreases-laid::put_laid-loop-left : goal.decreases-laid::put_laid-loop-left
-decreases-laid::put_laid-loop-left l = size-Tree l.tail.tree.now
+abbrev pub decreases-laid::put_laid-tails : goal.decreases-laid::put_laid-tails
+decreases-laid::put_laid-tails l = size-Tree l.left.tree.now
 
 abbrev pub invariant-turn::put_turns-loop-index : goal.invariant-turn::put_turns-loop-index
 invariant-turn::put_turns-loop-index l = record {
@@ -73,8 +73,11 @@ decreases-chain::put_behinds-loop-left l = l.left
 abbrev pub decreases-laid::put_laid : goal.decreases-laid::put_laid
 decreases-laid::put_laid l = 2 * size-Tree l.tree.now
 
-abbrev pub decreases-laid::step : goal.decreases-laid::step
-decreases-laid::step l = 8 * node_count l.tail.tree.now + 7
+abbrev pub decreases-laid::put_first : goal.decreases-laid::put_first
+decreases-laid::put_first l = 2 * size-Tree l.tree.now + 1
+
+abbrev pub decreases-laid::put_group : goal.decreases-laid::put_group
+decreases-laid::put_group l = 2 * size-Tree l.inner.now + 1
 
 abbrev pub decreases-laid::put_part : goal.decreases-laid::put_part
 decreases-laid::put_part l = 2 * size-Tree l.inner.now + 3
@@ -119,9 +122,6 @@ abbrev pub decreases-expressed::put_own : goal.decreases-expressed::put_own
 decreases-expressed::put_own l = 2 * size-Tree l.own.now + 1
 
 -- an operand, in parentheses or not, is put by another
-abbrev pub decreases-expressed::put_front : goal.decreases-expressed::put_front
-decreases-expressed::put_front l = 8 * (node_count l.two.now.front + node_count l.two.now.back) + 14
-
 abbrev pub decreases-expressed::put_back : goal.decreases-expressed::put_back
 decreases-expressed::put_back l = 8 * (node_count l.two.now.front + node_count l.two.now.back) + 14
 
