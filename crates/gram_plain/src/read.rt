@@ -20,6 +20,33 @@ use syn_buffer::entry::Entry;
 /// How many calls deep a run of the grammar goes at most where a plain form is read.
 pub const CALLS: u128 = 10;
 
+/// Whether a form of the kind may be a plain one. Of others `read` answers none, so a caller may ask this first.
+#[inline(always)]
+pub fn may_be_plain(kind: Kind) -> bool {
+    matches!(
+        kind,
+        Kind::Segments(_)
+            | Kind::Path(_)
+            | Kind::AnyPath(_)
+            | Kind::AType(_)
+            | Kind::OuterAttributes
+            | Kind::OuterAttribute
+            | Kind::InnerAttributes
+            | Kind::Visibility
+            | Kind::Generics
+            | Kind::ImplGenerics
+            | Kind::LifetimeColon
+            | Kind::BoundsColon
+            | Kind::ReturnType(_)
+            | Kind::Where
+            | Kind::Pattern
+            | Kind::SeveralPatterns
+            | Kind::OnePattern
+            | Kind::IdentPattern
+            | Kind::Expression(_)
+    )
+}
+
 /// The tree of the kind with which the entries begin, and what is left behind it, where they begin with a plain form.
 /// None says nothing of them. The entries are whole.
 ///

@@ -37,7 +37,7 @@ use crate::refusal::{Refusal, Wanted, refuse};
 use crate::rules::Rules;
 use crate::unfit::named;
 use gram_judge::level::{inside, level as level_of};
-use gram_plain::read::CALLS;
+use gram_plain::read::{CALLS, may_be_plain};
 use gram_table::entry::entry;
 use gram_table::kind::{Kind, Position};
 use gram_table::op::{Op, Separator, Test, Verdicts};
@@ -210,26 +210,6 @@ fn weighed<'a>(
     ensures lighter { IfOk result (λ s. weight s.fuel (length s.steps.now) ≡ weight fuel (length steps.now)) }
 {
     to_make(work, Pending::Judged(verdicts), steps, at, fuel)
-}
-
-// Whether a node of the kind may be a plain one.
-#[inline(always)]
-fn may_be_plain(kind: Kind) -> bool {
-    matches!(
-        kind,
-        Kind::Segments(_)
-            | Kind::Path(_)
-            | Kind::AnyPath(_)
-            | Kind::AType(_)
-            | Kind::OuterAttributes
-            | Kind::InnerAttributes
-            | Kind::Visibility
-            | Kind::Pattern
-            | Kind::SeveralPatterns
-            | Kind::OnePattern
-            | Kind::IdentPattern
-            | Kind::Expression(_)
-    )
 }
 
 // A node of the kind, where it is a plain one.
