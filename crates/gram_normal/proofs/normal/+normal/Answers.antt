@@ -1,0 +1,113 @@
+-- Each form by its operands.
+use Rattle.std.specs.Prelude.{List}
+use Rattle.std.proofs.Common.{◌≡◌, ◌∙◌, ◌++◌, arith, ap, map, refl, sym}
+use Rattle.syn_grammar.specs.Kind.{Position}
+use Rattle.syn_grammar.specs.Parens.{follow}
+use Rattle.syn_grammar.specs.Tree.{Tree, flat}
+use Rattle.gram_table.specs.Kinds.{kind_of, position_of}
+use Rattle.gram_table.specs.Ops.{separator_of}
+use Rattle.gram_tree.specs.Forms.{elements, ending, tree_of, turns}
+use Rattle.gram_tree.specs.Size.{node_count}
+use Rattle.gram_tree.proofs.Sizes.{elements_below, tree_size, turns_size}
+use Rattle.gram_write.proofs.Inside.{last_below}
+use Rattle.syn_grammar.specs.Tree as t
+use Rattle.gram_tree.specs.declared.tree.Element.{Element}
+use Rattle.syn_grammar.specs.Normal.{normal_in}
+use Rattle.gram_normal.specs.Parted.{element_in, parted}
+use Rattle.gram_normal.proofs.Apartness.{turned_so}
+use Rattle.gram_normal.proofs.Forming.{alone_formed, back_formed, front_formed, infix_formed, list_none, list_some}
+use Rattle.gram_normal.proofs.normal.+normal.Goals as goal
+
+pub alone-returns : goal.alone-returns
+alone-returns n c ts head =
+    alone_formed (position_of c.args.position) ts (kind_of c.args.kind) c.args.own.now c.in_ok-own.own
+    c.in_ok-form.form c.in_ok-own.ensures (c.in_ok-form.ensures ts head)
+
+pub front-returns : goal.front-returns
+front-returns n c ts head =
+    front_formed (position_of c.args.position) ts (kind_of c.args.kind) c.args.two.now.front c.args.two.now.back
+    c.in_ok-own.own c.in_ok-operand.operand c.in_ok-form.form (position_of c.inside-place.result) c.in_ok-own.ensures
+    c.inside-place.ensures (c.in_ok-operand.ensures ts head) c.in_ok-form.ensures
+
+pub back-returns : goal.back-returns
+back-returns n c ts head =
+    let own : Tree = c.in_ok-own.own in
+    back_formed (position_of c.args.position) ts (kind_of c.args.kind) c.args.two.now.back c.args.two.now.front
+    own c.in_ok-operand.operand c.in_ok-form.form c.in_ok-own.ensures
+    (c.in_ok-operand.ensures (follow (flat own)) (c.follow-next.ensures (flat own) c.first-begun.ensures))
+    (c.in_ok-form.ensures ts head)
+
+pub infix-returns : goal.infix-returns
+infix-returns n c ts head =
+    let own : Tree = c.in_ok-own.own in
+    infix_formed (position_of c.args.position) ts (kind_of c.args.kind) c.args.three.now.left c.args.three.now.own
+    c.args.three.now.right c.in_ok-left.left own c.in_ok-right.right c.in_ok-form.form
+    (position_of c.inside-place.result) c.in_ok-own.ensures
+    (c.in_ok-left.ensures (follow (flat own)) (c.follow-next.ensures (flat own) c.first-begun.ensures))
+    c.inside-place.ensures (c.in_ok-right.ensures ts head) c.in_ok-form.ensures
+
+-- lists
+pub list-put_elements-requires : goal.list-put_elements-requires
+list-put_elements-requires n c =
+    let list = c.args.list.now in
+    let m = separator_of list.separator in
+    let y : Tree = ending (λ b. b.now) list.last in
+    let x : Tree = elements m list.before.now y in
+    omega (arith, c.decreases, elements_below m list.before.now y x refl, tree_size x)
+
+pub list-normal_in-requires : goal.list-normal_in-requires
+list-normal_in-requires n c =
+    let list = c.args.list.now in
+    let m = separator_of list.separator in
+    let x : Tree = elements m list.before.now (ending (λ b. b.now) list.last) in
+    let is : x ≡ elements m list.before.now (t.Final c.in-Some.last.now) =
+    ap (λ o. elements m list.before.now (ending (λ b. b.now) o)) c.in-Some.is in
+    omega (
+      arith,
+      c.decreases,
+      last_below m list.before.now c.in-Some.last.now x is,
+      tree_size x,
+      tree_size c.in-Some.last.now,
+    )
+
+pub list-returns-in_ok-with_last-in-Some : goal.list-returns-in_ok-with_last-in-Some
+list-returns-in_ok-with_last-in-Some n c =
+    let p : Position = position_of c.args.position in
+    let list = c.args.list.now in
+    let m = separator_of list.separator in
+    let es : List Element = list.before.now in
+    c.in_ok-with_last-in-Some.ensures
+    ∙ list_some p m es c.put_elements.new.out.items c.in-Some.last.now c.in_ok-ended-in-Some.ended
+    (c.in_ok-put_elements.ensures ∙ ap (λ xs. xs ++ map (element_in p) es) c.new-before.ensures.items)
+    c.in_ok-ended-in-Some.ensures
+    ∙ ap (λ o. normal_in p (elements m es (ending (λ b. b.now) o))) (sym c.in-Some.is)
+
+pub list-returns-in_ok-without-in-None : goal.list-returns-in_ok-without-in-None
+list-returns-in_ok-without-in-None n c =
+    let p : Position = position_of c.args.position in
+    let list = c.args.list.now in
+    let m = separator_of list.separator in
+    let es : List Element = list.before.now in
+    c.in_ok-without-in-None.ensures
+    ∙ list_none p m es c.put_elements.new.out.items
+    (c.in_ok-put_elements.ensures ∙ ap (λ xs. xs ++ map (element_in p) es) c.new-before.ensures.items)
+    ∙ ap (λ o. normal_in p (elements m es (ending (λ b. b.now) o))) (sym c.in-None.is)
+
+-- turns
+pub normal_in-turns-requires : goal.normal_in-turns-requires
+normal_in-turns-requires n c =
+    let xs : List Tree = c.in-Turns.trees.now in
+    let x : Tree = c.args.tree.now in
+    let view : x ≡ turns xs = sym c.tree.view_is ∙ ap tree_of c.in-Turns.is in
+    omega (arith, c.decreases, turns_size xs, ap node_count view, tree_size x)
+
+pub turns-returns : goal.turns-returns
+turns-returns n c =
+    let p : Position = position_of c.args.position in
+    let xs : List Tree = c.args.trees.now in
+    let each : List Tree = c.put_each.new.out.items in
+    c.in_ok-tree.ensures
+    ∙ turned_so p xs each c.put_parted.new.out.items
+    (c.in_ok-put_each.ensures ∙ ap (λ ys. ys ++ map (normal_in p) xs) c.new-each.ensures.items)
+    (c.in_ok-put_parted.ensures ∙ ap (λ ys. ys ++ parted xs c.as_slice.result.now) c.new-parted.ensures.items
+    ∙ ap (parted xs) c.as_slice.ensures.value)

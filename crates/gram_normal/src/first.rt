@@ -1,0 +1,162 @@
+//! The first tokens of a tree.
+
+ghost use Rattle.gram_build.specs.Begins.{front3};
+ghost use Rattle.gram_normal.specs.Heads.{head_tokens};
+ghost use Rattle.gram_piece.specs.Pieces.{piece_token};
+ghost use Rattle.gram_table.specs.Ops.{separator_of};
+ghost use Rattle.gram_table.specs.Words.{sign_text};
+ghost use Rattle.gram_tree.specs.Forms.{elements, ending, mark_of, turns};
+ghost use Rattle.proc_macro2.specs.Token.{Punct};
+ghost use Rattle.rust_leaf.specs.declared.punct.Spacing.TheVariants.{Joint};
+ghost use Rattle.std.specs.Prelude.{◌++◌, ◌≡◌, map};
+ghost use Rattle.syn_buffer.specs.Entries.{entry_token};
+ghost use Rattle.syn_grammar.specs.Tree as t;
+ghost use Rattle.syn_grammar.specs.Tree.{flat};
+
+use crate::head::{Head, enclosed, joined};
+use gram_piece::piece::Piece;
+use gram_table::op::Separator;
+use gram_table::word::Sign;
+use gram_tree::tree::{Element, Form, Separated, Tree};
+use rust_leaf::punct::Spacing;
+use syn_buffer::entry::Entry;
+
+// The first of tokens that were read.
+fn first_entries<'a>(entries: &[Entry<'a>]) -> Head<'a>
+    ensures { head_tokens result ≡ front3 (map entry_token entries.now) }
+{
+    match entries {
+        [] => Head::Empty,
+        [a] => Head::One(Piece::of(a)),
+        [a, b] => Head::Two(Piece::of(a), Piece::of(b)),
+        [a, b, c, ..] => Head::Three(Piece::of(a), Piece::of(b), Piece::of(c)),
+    }
+}
+
+// A mark that another one follows at once.
+fn joint<'a>(mark: u8) -> Piece<'a>
+    ensures { piece_token result ≡ Punct mark Joint }
+{
+    Piece::Mark(mark as char, Spacing::Joint)
+}
+
+// The first marks of a punctuation.
+fn first_marks<'a>(sign: Sign, spacing: Spacing) -> Head<'a>
+    ensures { head_tokens result ≡ front3 (flat (mark_of (sign_text sign) spacing)) }
+{
+    match sign.text().as_bytes() {
+        [] => Head::Empty,
+        [a] => Head::One(Piece::Mark(*a as char, spacing)),
+        [a, b] => Head::Two(joint(*a), Piece::Mark(*b as char, spacing)),
+        [a, b, c] => Head::Three(joint(*a), joint(*b), Piece::Mark(*c as char, spacing)),
+        [a, b, c, ..] => Head::Three(joint(*a), joint(*b), joint(*c)),
+    }
+}
+
+// The mark between elements.
+fn separator<'a>(separator: Separator, spacing: Spacing) -> Piece<'a>
+    ensures { piece_token result ≡ Punct (separator_of separator) spacing }
+{
+    match separator {
+        Separator::Comma => Piece::Mark(',', spacing),
+        Separator::Plus => Piece::Mark('+', spacing),
+    }
+}
+
+// The first tokens of something and a tree behind it.
+#[cycle(first)]
+#[tactic(auto, using(crate::proofs::Heads::joins))]
+fn followed<'a>(front: Head<'a>, tree: &Tree<'a>) -> Head<'a>
+    ensures { head_tokens result ≡ front3 (head_tokens front.entry ++ flat tree.now) }
+{
+    match front {
+        Head::Three(_, _, _) => front,
+        _ => joined(front, first(tree)),
+    }
+}
+
+// The first tokens of something and turns behind it.
+#[cycle(first)]
+#[tactic(auto, using(crate::proofs::Heads::joins))]
+fn followed_turns<'a>(front: Head<'a>, trees: &[Tree<'a>]) -> Head<'a>
+    ensures { head_tokens result ≡ front3 (head_tokens front.entry ++ flat (turns trees.now)) }
+{
+    let Some((tree, others)) = trees.split_first() else {
+        return front;
+    };
+    match front {
+        Head::Three(_, _, _) => front,
+        _ => followed_turns(followed(front, tree), others),
+    }
+}
+
+// The first tokens of something and elements behind it, with the mark behind each.
+#[cycle(first)]
+#[tactic(auto, using(crate::proofs::Heads::joins))]
+fn followed_elements<'a>(front: Head<'a>, mark: Separator, before: &[Element<'a>]) -> Head<'a>
+    ensures { head_tokens result
+        ≡ front3 (head_tokens front.entry ++ flat (elements (separator_of mark) before.now t.End)) }
+{
+    let Some((element, others)) = before.split_first() else {
+        return front;
+    };
+    match front {
+        Head::Three(_, _, _) => front,
+        _ => {
+            let behind = Head::One(separator(mark, element.spacing));
+            followed_elements(joined(followed(front, &element.tree), behind), mark, others)
+        }
+    }
+}
+
+// The first tokens of a list.
+#[cycle(first)]
+#[tactic(auto, using(crate::proofs::Heads::joins))]
+fn first_list<'a>(list: &Separated<'a>) -> Head<'a>
+    ensures { head_tokens result ≡ front3 (flat (elements (separator_of list.now.separator) list.now.before.now
+        (ending (λ y. y.now) list.now.last))) }
+{
+    let before = followed_elements(Head::Empty, list.separator, list.before);
+    match list.last {
+        Some(last) => followed(before, last),
+        None => before,
+    }
+}
+
+/// The first tokens of a tree. No more of it is looked at than stands before the fourth.
+#[cycle(first)]
+#[tactic(auto, using(crate::proofs::Heads::joins))]
+pub(crate) fn first<'a>(tree: &Tree<'a>) -> Head<'a>
+    ensures { head_tokens result ≡ front3 (flat tree.now) }
+{
+    match &tree.form {
+        Form::Word(ident) => Head::One(Piece::Ident(ident)),
+        Form::Literal(literal) => Head::One(Piece::Literal(literal)),
+        Form::Mark(sign, spacing, _) => first_marks(*sign, *spacing),
+        Form::Lifetime(_, ident) => {
+            Head::Two(Piece::Mark('\'', Spacing::Joint), Piece::Ident(ident))
+        }
+        Form::Raw(entries) => first_entries(entries),
+        Form::Nil => Head::Empty,
+        Form::Pair(two) | Form::Front(_, two) | Form::Back(_, two) => {
+            followed(first(&two.front), &two.back)
+        }
+        Form::Infix(_, three) => {
+            followed(followed(first(&three.left), &three.own), &three.right)
+        }
+        Form::Turns(turns) => followed_turns(Head::Empty, turns),
+        Form::Elements(list) => first_list(list),
+        Form::Group(delimiter, _, inner) => enclosed(*delimiter, first(inner)),
+        Form::First(_, inner) | Form::Second(_, inner) | Form::Dropped(inner) => first(inner),
+        Form::Called(_, inner) | Form::Verbatim(inner) | Form::Node(_, inner) => first(inner),
+        Form::Whole(inner) | Form::Alone(_, inner) => first(inner),
+    }
+}
+
+/// The first tokens of turns.
+#[tactic(auto, using(crate::proofs::Heads::joins))]
+pub(crate) fn first_turns<'a>(trees: &[Tree<'a>]) -> Head<'a>
+    ensures { head_tokens result ≡ front3 (flat (turns trees.now)) }
+{
+    followed_turns(Head::Empty, trees)
+}

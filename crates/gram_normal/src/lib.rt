@@ -1,0 +1,36 @@
+//! The normal form of a tree, as a tree: of every tree, whether it was read or put together by hand.
+//!
+//! `normal` makes it as the written grammar says it, from the inside out; each function's contract is the word of the
+//! definition (`syn_grammar`'s `Normal`, `Tidy` and `Parens`) that it makes. Whether an operand gets parentheses is asked of
+//! the forms on its edges and of its first three tokens, which are found where they stand: nothing is handed up beside
+//! the tree. So a chain of forms takes a walk along an edge for each of them: `a + b + c` a step, as `- - - a` does, but
+//! casts in casts, or jumps in jumps, as many as they are deep.
+//!
+//! `specs/Heads` has the first tokens, `specs/Changes` what is changed in a kind's parts, `specs/Parted` how turns are made
+//! of those that are in normal form. In `proofs/`: `Heads` (the first tokens of what is joined), `Firsts` (of trees), `Edges`
+//! (what stands on the edges of an expression), `Lists` (lifetimes in front of others), `Tidying` (kinds of which nothing
+//! is removed), `Apartness` (raw items that are set apart), `Forming` (trees by their forms).
+//!
+//! - `normal`: the normal form, and putting its tokens.
+//! - `fault`: why there is none.
+//! - `head`, `first`: the first tokens of something, and of a tree.
+//! - `sight`: what is seen there.
+//! - `stays`: whether an operand stays as it is.
+//! - `paren`: forms of operands in normal form.
+//! - `bare`: of what nothing is written.
+//! - `lifetime`: lists in which lifetimes come first.
+//! - `tidy`: what is made of a kind's parts.
+//! - `apart`: raw items among statements that are set apart.
+#![tactic(auto)]
+
+mod apart;
+mod bare;
+pub mod fault;
+mod first;
+mod head;
+mod lifetime;
+pub mod normal;
+mod paren;
+mod sight;
+mod stays;
+mod tidy;

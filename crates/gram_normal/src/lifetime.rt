@@ -1,0 +1,191 @@
+//! Lists in which lifetimes come first.
+
+ghost use Rattle.gram_normal.specs.Changes.{others_in, passes, those_in};
+ghost use Rattle.gram_table.specs.Ops.{separator_of};
+ghost use Rattle.gram_tree.specs.Forms.{elements, ending};
+ghost use Rattle.std.specs.Prelude.{◌++◌, ◌≡◌, IfOk, OnOk, true};
+ghost use Rattle.syn_grammar.specs.Tidy.{lifetimes_first};
+ghost use Rattle.syn_grammar.specs.Tree as t;
+
+use crate::bare::{is_lifetime_argument, is_lifetime_param};
+use crate::fault::Fault;
+use gram_table::op::Separator;
+use gram_tree::arena::Arena;
+use gram_tree::made;
+use gram_tree::tree::{Element, Form, Separated, Tree};
+use rust_leaf::punct::Spacing;
+use std::alloc::AllocError;
+
+/// What the elements of a list are.
+#[derive(Clone, Copy)]
+pub(crate) enum Which {
+    /// Generic parameters.
+    Params,
+    /// Arguments.
+    Arguments,
+}
+
+// Whether an element is a lifetime.
+fn passes(which: Which, tree: &Tree<'_>) -> bool
+    ensures { result ≡ passes which tree.now }
+{
+    match which {
+        Which::Params => is_lifetime_param(tree),
+        Which::Arguments => is_lifetime_argument(tree),
+    }
+}
+
+// An element once more.
+fn copied<'a>(element: &Element<'a>) -> Element<'a>
+    ensures { result ≡ element.now }
+{
+    Element {
+        tree: element.tree.copy(),
+        spacing: element.spacing,
+    }
+}
+
+// Puts the lifetimes among the elements that a mark follows, in their order.
+#[tactic(auto, using(crate::proofs::Lists::puts))]
+fn put_those<'a>(
+    which: Which,
+    before: &[Element<'a>],
+    out: &mut Vec<Element<'a>>,
+) -> Result<(), AllocError>
+    ensures { OnOk result (out.new.items ≡ out.old.items ++ those_in (passes which) before.now) }
+{
+    let Some((element, others)) = before.split_first() else {
+        return Ok(());
+    };
+    if passes(which, &element.tree) {
+        out.push(copied(element))?;
+        return put_those(which, others, out);
+    }
+    put_those(which, others, out)
+}
+
+// Puts the others.
+#[tactic(auto, using(crate::proofs::Lists::puts))]
+fn put_others<'a>(
+    which: Which,
+    before: &[Element<'a>],
+    out: &mut Vec<Element<'a>>,
+) -> Result<(), AllocError>
+    ensures { OnOk result (out.new.items ≡ out.old.items ++ others_in (passes which) before.now) }
+{
+    let Some((element, others)) = before.split_first() else {
+        return Ok(());
+    };
+    if passes(which, &element.tree) {
+        return put_others(which, others, out);
+    }
+    out.push(copied(element))?;
+    put_others(which, others, out)
+}
+
+// The lifetimes, and behind them the others.
+fn parted<'a>(
+    arena: &'a Arena,
+    which: Which,
+    before: &[Element<'a>],
+) -> Result<Vec<Element<'a>>, AllocError>
+    ensures { IfOk result (λ es. es.items
+        ≡ those_in (passes which) before.now ++ others_in (passes which) before.now) }
+{
+    let mut parted = Vec::new(arena.alloc());
+    put_those(which, before, &mut parted)?;
+    put_others(which, before, &mut parted)?;
+    Ok(parted)
+}
+
+// A list whose last element, which no mark follows, is a lifetime, of the lifetimes before it and of the others. Where
+// there are others it gets a comma.
+fn last_with<'a>(
+    arena: &'a Arena,
+    which: Which,
+    list: &Separated<'a>,
+    last: &Tree<'a>,
+    others: &[Element<'a>],
+    firsts: Vec<Element<'a>>,
+) -> Result<Tree<'a>, Fault>
+    ensures { passes which last.now ≡ true → others.now ≡ others_in (passes which) list.now.before.now
+        → firsts.entry.items ≡ those_in (passes which) list.now.before.now
+        → IfOk result (λ x. x ≡ lifetimes_first (passes which)
+        (elements (separator_of list.now.separator) list.now.before.now (t.Final last.now))) }
+{
+    let once = last.copy();
+    if others.is_empty() {
+        let tree = made::elements(arena, list.separator, firsts, Some(once))?;
+        return Ok(tree);
+    }
+    match list.separator {
+        Separator::Plus => Err(Fault::Separators),
+        Separator::Comma => {
+            let mut before = firsts;
+            before.push(Element {
+                tree: once,
+                spacing: Spacing::Alone,
+            })?;
+            put_others(which, list.before, &mut before)?;
+            let turned = made::elements(arena, Separator::Comma, before, None)?;
+            Ok(turned)
+        }
+    }
+}
+
+// A list whose last element, which no mark follows, is a lifetime.
+fn last_first<'a>(
+    arena: &'a Arena,
+    which: Which,
+    list: &Separated<'a>,
+    last: &Tree<'a>,
+) -> Result<Tree<'a>, Fault>
+    ensures { passes which last.now ≡ true → IfOk result (λ x. x ≡ lifetimes_first (passes which)
+        (elements (separator_of list.now.separator) list.now.before.now (t.Final last.now))) }
+{
+    let mut others = Vec::new(arena.alloc());
+    put_others(which, list.before, &mut others)?;
+    let mut firsts = Vec::new(arena.alloc());
+    put_those(which, list.before, &mut firsts)?;
+    last_with(arena, which, list, last, others.as_slice(), firsts)
+}
+
+// The same of a list.
+#[tactic(auto, using(crate::proofs::Lists::firsts))]
+fn parted_list<'a>(arena: &'a Arena, which: Which, list: &Separated<'a>) -> Result<Tree<'a>, Fault>
+    ensures { IfOk result (λ x. x ≡ lifetimes_first (passes which)
+        (elements (separator_of list.now.separator) list.now.before.now (ending (λ y. y.now) list.now.last))) }
+{
+    match list.last {
+        Some(last) => {
+            if passes(which, last) {
+                return last_first(arena, which, list, last);
+            }
+            let before = parted(arena, which, list.before)?;
+            Ok(made::elements(arena, list.separator, before, Some(last.copy()))?)
+        }
+        None => {
+            let before = parted(arena, which, list.before)?;
+            Ok(made::elements(arena, list.separator, before, None)?)
+        }
+    }
+}
+
+/// A list with its lifetimes in front; what is no list stays as it is.
+///
+/// # Errors
+///
+/// Where there is no memory for it, or where no tree is it.
+#[tactic(auto, using(crate::proofs::Lists::unlisted))]
+pub(crate) fn lifetimes_first<'a>(
+    arena: &'a Arena,
+    which: Which,
+    tree: &Tree<'a>,
+) -> Result<Tree<'a>, Fault>
+    ensures { IfOk result (λ x. x ≡ lifetimes_first (passes which) tree.now) }
+{
+    match &tree.form {
+        Form::Elements(list) => parted_list(arena, which, list),
+        _ => Ok(tree.copy()),
+    }
+}

@@ -1,0 +1,216 @@
+//! What is made of a kind's parts.
+
+ghost use Rattle.gram_normal.specs.Changes.{change_of};
+ghost use Rattle.gram_table.specs.Kinds.{kind_of};
+ghost use Rattle.gram_table.specs.Parts.{part_of};
+ghost use Rattle.std.specs.Prelude.{◌≡◌, IfOk, cond};
+ghost use Rattle.syn_grammar.specs.Name as name;
+ghost use Rattle.syn_grammar.specs.Name.{number, same_part};
+ghost use Rattle.syn_grammar.specs.Part.{changed};
+ghost use Rattle.syn_grammar.specs.Tidy.{is_absent, moved, tidy, tidy_impl, without_generics};
+ghost use Rattle.syn_grammar.specs.Tree as t;
+
+use crate::bare::{is_bare_colon, is_bare_generics, is_bare_where, keeps_generics};
+use crate::fault::Fault;
+use crate::lifetime::{Which, lifetimes_first};
+use gram_table::kind::Kind;
+use gram_table::part::Part;
+use gram_tree::arena::Arena;
+use gram_tree::made;
+use gram_tree::tree::{Form, Tree};
+use std::alloc::AllocError;
+
+// Nothing in the place of a part, where it is removed.
+fn removed_if<'a>(arena: &'a Arena, removed: bool, tree: Tree<'a>) -> Result<Tree<'a>, AllocError>
+    ensures { IfOk result (λ x. x ≡ cond removed (t.Second t.Nil) tree.entry) }
+{
+    if removed {
+        made::second(arena, made::nil())
+    } else {
+        Ok(tree)
+    }
+}
+
+// Whether what stands in a part is a where clause that is not there.
+#[tactic(auto, using(crate::proofs::Tidying::clauses))]
+fn is_absent_clause(tree: &Tree<'_>) -> bool
+    ensures { (n : name.Part) → result ≡ is_absent (t.Called n tree.now) }
+{
+    match tree.node() {
+        Some((kind, clause)) => match kind {
+            Kind::Where => clause.is_second(),
+            _ => false,
+        },
+        None => false,
+    }
+}
+
+// Whether it is a part in which such a clause stands.
+#[tactic(auto, using(crate::proofs::Tidying::absents))]
+fn is_absent(tree: &Tree<'_>) -> bool
+    ensures { result ≡ is_absent tree.now }
+{
+    match &tree.form {
+        Form::Called(_, inner) => is_absent_clause(inner),
+        _ => false,
+    }
+}
+
+// A where clause before a definition, which stands behind it where it is not there.
+#[tactic(auto, using(crate::proofs::Tidying::moves))]
+fn moved<'a>(arena: &'a Arena, tree: &Tree<'a>) -> Result<Tree<'a>, AllocError>
+    ensures { IfOk result (λ x. x ≡ moved tree.now) }
+{
+    let Some(both) = tree.first() else {
+        return Ok(tree.copy());
+    };
+    let Some((clause, definition)) = both.pair() else {
+        return Ok(tree.copy());
+    };
+    if !is_absent(clause) {
+        return Ok(tree.copy());
+    }
+    let turned = made::pair(arena, definition.copy(), clause.copy())?;
+    made::second(arena, turned)
+}
+
+// The generics of an impl, without those that have no parameter.
+#[tactic(auto, using(crate::proofs::Tidying::generics))]
+fn without_generics<'a>(arena: &'a Arena, tree: &Tree<'a>) -> Result<Tree<'a>, AllocError>
+    ensures { IfOk result (λ x. x ≡ without_generics tree.now) }
+{
+    match tree.node() {
+        Some((kind, inner)) => match kind {
+            Kind::ImplGenerics => {
+                let kept = removed_if(arena, is_bare_generics(inner), inner.copy())?;
+                made::node(arena, Kind::ImplGenerics, kept)
+            }
+            _ => Ok(tree.copy()),
+        },
+        None => Ok(tree.copy()),
+    }
+}
+
+/// What is made of a part.
+#[derive(Clone, Copy)]
+pub(crate) enum Change {
+    /// Its lifetimes come first.
+    Lifetimes,
+    /// A where clause that is not there stands behind the definition.
+    Moved,
+    /// Generics without parameters are not written.
+    Generics,
+}
+
+// A part, changed so.
+fn changed_part<'a>(arena: &'a Arena, change: Change, tree: &Tree<'a>) -> Result<Tree<'a>, Fault>
+    ensures { IfOk result (λ x. x ≡ change_of change tree.now) }
+{
+    match change {
+        Change::Lifetimes => lifetimes_first(arena, Which::Arguments, tree),
+        Change::Moved => Ok(moved(arena, tree)?),
+        Change::Generics => Ok(without_generics(arena, tree)?),
+    }
+}
+
+// The number of a name.
+fn number(part: Part) -> u8
+    ensures { result ≡ number (part_of part) }
+{
+    part as u8
+}
+
+// Two names are one.
+#[tactic(auto, unfolding(syn_grammar::specs::Name::same_part))]
+fn is_same(one: Part, other: Part) -> bool
+    ensures { result ≡ same_part (part_of one) (part_of other) }
+{
+    number(one) == number(other)
+}
+
+// A tree with its part of that name changed so.
+#[tactic(auto, using(crate::proofs::Tidying::changes))]
+fn changed<'a>(
+    arena: &'a Arena,
+    part: Part,
+    change: Change,
+    tree: &Tree<'a>,
+) -> Result<Tree<'a>, Fault>
+    ensures { IfOk result (λ x. x ≡ changed (part_of part) (change_of change) tree.now) }
+{
+    match &tree.form {
+        Form::Called(name, inner) => {
+            if is_same(*name, part) {
+                let inner = changed_part(arena, change, inner)?;
+                Ok(made::called(arena, *name, inner)?)
+            } else {
+                Ok(tree.copy())
+            }
+        }
+        Form::Pair(two) => {
+            let front = changed(arena, part, change, &two.front)?;
+            let back = changed(arena, part, change, &two.back)?;
+            Ok(made::pair(arena, front, back)?)
+        }
+        Form::First(depth, inner) => {
+            let inner = changed(arena, part, change, inner)?;
+            Ok(made::first_behind(arena, *depth, inner)?)
+        }
+        Form::Second(depth, inner) => {
+            let inner = changed(arena, part, change, inner)?;
+            Ok(Tree {
+                form: Form::Second(*depth, arena.put(inner)?),
+            })
+        }
+        Form::Group(delimiter, span, inner) => {
+            let inner = changed(arena, part, change, inner)?;
+            Ok(made::group(arena, *delimiter, *span, inner)?)
+        }
+        _ => Ok(tree.copy()),
+    }
+}
+
+// The parts of an impl.
+fn tidy_impl<'a>(arena: &'a Arena, inner: Tree<'a>) -> Result<Tree<'a>, Fault>
+    ensures { IfOk result (λ x. x ≡ tidy_impl inner.entry) }
+{
+    if keeps_generics(&inner) {
+        Ok(inner)
+    } else {
+        changed(arena, Part::Generics, Change::Generics, &inner)
+    }
+}
+
+/// What is made of a kind's parts: nothing empty is written, lifetimes come first, and a where clause that is not there
+/// stands behind the definition.
+///
+/// # Errors
+///
+/// Where there is no memory for it, or where no tree is it.
+pub(crate) fn tidy<'a>(arena: &'a Arena, kind: Kind, inner: Tree<'a>) -> Result<Tree<'a>, Fault>
+    ensures { IfOk result (λ x. x ≡ tidy (kind_of kind) inner.entry) }
+{
+    match kind {
+        Kind::Where => {
+            let bare = is_bare_where(&inner);
+            Ok(removed_if(arena, bare, inner)?)
+        }
+        Kind::Generics => {
+            let bare = is_bare_generics(&inner);
+            Ok(removed_if(arena, bare, inner)?)
+        }
+        Kind::BoundsColon => {
+            let bare = is_bare_colon(&inner);
+            Ok(removed_if(arena, bare, inner)?)
+        }
+        Kind::LifetimeColon => {
+            let bare = is_bare_colon(&inner);
+            Ok(removed_if(arena, bare, inner)?)
+        }
+        Kind::GenericParams => lifetimes_first(arena, Which::Params, &inner),
+        Kind::Arguments => changed(arena, Part::Arguments, Change::Lifetimes, &inner),
+        Kind::ATypeAlias(_) => changed(arena, Part::Value, Change::Moved, &inner),
+        Kind::AnImpl => tidy_impl(arena, inner),
+        _ => Ok(inner),
+    }
+}
