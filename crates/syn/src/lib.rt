@@ -30,6 +30,10 @@ pub mod typed;
 
 pub use gram_build::build::write_in;
 pub use gram_equal::tree::equal;
+pub use gram_normal::fault::Fault as NormalFault;
+pub use gram_normal::normal::normal;
+pub use gram_normal::normal::normal_in;
+pub use gram_normal::normal::put_normal;
 pub use gram_piece::piece::Piece;
 pub use gram_piece::print::print;
 pub use gram_table::kind::Kind;
