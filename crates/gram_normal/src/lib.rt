@@ -1,15 +1,18 @@
 //! The normal form of a tree, as a tree: of every tree, whether it was read or put together by hand.
 //!
 //! `normal` makes it as the written grammar says it, from the inside out; each function's contract is the word of the
-//! definition (`syn_grammar`'s `Normal`, `Tidy` and `Parens`) that it makes. Whether an operand gets parentheses is asked of
-//! the forms on its edges and of its first three tokens, which are found where they stand: nothing is handed up beside
-//! the tree. So a chain of forms takes a walk along an edge for each of them: `a + b + c` a step, as `- - - a` does, but
-//! casts in casts, or jumps in jumps, as many as they are deep.
+//! definition (`syn_grammar`'s `Normal`, `Tidy` and `Parens`) that it makes. Whether an operand gets parentheses is
+//! asked of the forms on its edges and of its first three tokens, which are found where they stand: nothing is handed
+//! up beside the tree. An edge is walked by one form alone, the one whose operand it is an edge of. What is walked
+//! once for each form is dear only where attributes stand behind attributes, each with those behind it, and where the
+//! type of a cast stands before `<`. The calls are as deep as the tree, also along operands that stand one left of the
+//! other.
 //!
-//! `specs/Heads` has the first tokens, `specs/Changes` what is changed in a kind's parts, `specs/Parted` how turns are made
-//! of those that are in normal form. In `proofs/`: `Heads` (the first tokens of what is joined), `Firsts` (of trees), `Edges`
-//! (what stands on the edges of an expression), `Lists` (lifetimes in front of others), `Tidying` (kinds of which nothing
-//! is removed), `Apartness` (raw items that are set apart), `Forming` (trees by their forms).
+//! `specs/Heads` has the first tokens, `specs/Changes` what is changed in a kind's parts, `specs/Parted` how turns are
+//! made of those that are in normal form. In `proofs/`: `Heads` (the first tokens of what is joined), `Firsts`
+//! (whether a parenthesis stands first), `Edges` (what stands on the edges of an expression), `Lists` (lifetimes in
+//! front of others), `Tidying` (kinds of which nothing is removed), `Apartness` (raw items that are set apart),
+//! `Forming` (trees by their forms).
 //!
 //! - `normal`: the normal form, and putting its tokens.
 //! - `fault`: why there is none.
