@@ -1,7 +1,7 @@
 //! What is wrong with what is printed of a tree.
 
 use crate::built::built;
-use crate::reading::{form_of, is_same, placed, whole, written};
+use crate::reading::{form_of, is_same, made_normal, placed, whole, written};
 use crate::shape::shape;
 use crate::text::{buffers, printed, streams, texts};
 use anyhow::Result;
@@ -11,8 +11,10 @@ use syn::{Arena, Position, TokenBuffer, Tree};
 /// What is found of an expression that was built.
 #[derive(Drop)]
 pub(crate) struct Finding {
-    /// Its print, in the last position.
+    /// The print of its normal form, in the last position.
     pub(crate) printed: String,
+    /// What is written there where own parts are taken for ones that were read, if that is another print.
+    pub(crate) other: Option<String>,
     /// In how many of the positions it gains parentheses.
     pub(crate) gaining: usize,
     /// What is wrong first.
@@ -135,6 +137,15 @@ fn own_parentheses(text: &str) -> usize {
     text.matches("(c)").count()
 }
 
+// A print, if it is another one than that.
+fn unlike(print: String, that: &str) -> Option<String> {
+    if print.as_str() == that {
+        None
+    } else {
+        Some(print)
+    }
+}
+
 // What is found of an expression that is built in an arena of these buffers, which are a text's.
 fn found_in<'a>(
     arena: &'a Arena,
@@ -147,8 +158,10 @@ fn found_in<'a>(
     let wanted = shape(arena, &tree)?;
     let (own, before) = (own_parentheses(text), opened(text));
     let (mut print, mut gaining, mut wrong) = (String::new(alloc), 0usize, None);
+    let mut other = None;
     for position in positions {
-        print = written(alloc, *position, &tree)?;
+        print = made_normal(arena, *position, &tree)?;
+        other = unlike(written(alloc, *position, &tree)?, print.as_str());
         if opened(print.as_str()) > before {
             gaining = gaining.saturating_add(1);
         }
@@ -158,6 +171,7 @@ fn found_in<'a>(
     }
     Ok(Finding {
         printed: print,
+        other,
         gaining,
         wrong,
     })

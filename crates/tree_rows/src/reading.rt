@@ -7,12 +7,30 @@ use gram_build::build::write_in;
 use gram_piece::print::print;
 use std::alloc::Global;
 use syn::parse::parse_front;
-use syn::{Arena, Kind, ParseFault, Position, TokenBuffer, TokenStream, Tree};
+use syn::{
+    Arena, Kind, ParseFault, Position, TokenBuffer, TokenStream, Tree, made, normal_in, put_as_read,
+};
 
 /// The print of a form in a position.
 pub(crate) fn written(alloc: Global, position: Position, tree: &Tree<'_>) -> Result<String> {
     let mut pieces = Vec::new(alloc);
     write_in(position, tree, &mut pieces)?;
+    Ok(print(alloc, pieces.as_slice())?)
+}
+
+/// The print of its normal form there, which is made as a tree.
+pub(crate) fn made_normal<'a>(
+    arena: &'a Arena,
+    position: Position,
+    tree: &Tree<'a>,
+) -> Result<String> {
+    let alloc = arena.alloc();
+    let whole = made::whole(arena, tree.copy())?;
+    let Ok(normal) = normal_in(arena, position, &whole) else {
+        return Err(anyhow!("no normal form"));
+    };
+    let mut pieces = Vec::new(alloc);
+    put_as_read(&normal, &mut pieces)?;
     Ok(print(alloc, pieces.as_slice())?)
 }
 

@@ -1,7 +1,7 @@
 //! Each form in each.
 
 use crate::forms::{ALONE, AROUND, BACKS, BRACES, FRONTS, INSIDE, OPERATORS, PATHS, PLACES};
-use crate::judged::{Finding, judged, kept};
+use crate::judged::{judged, kept};
 use anyhow::Result;
 use std::alloc::Global;
 use syn::Position;
@@ -50,10 +50,10 @@ impl Tally {
 
     // One tree more.
     fn put(&mut self, alloc: Global, text: &str) -> Result<()> {
-        let Finding { gaining, wrong, .. } = judged(alloc, text, POSITIONS.as_slice())?;
+        let finding = judged(alloc, text, POSITIONS.as_slice())?;
         self.trees = self.trees.saturating_add(1);
-        self.gaining = self.gaining.saturating_add(gaining);
-        match wrong {
+        self.gaining = self.gaining.saturating_add(finding.gaining);
+        match finding.wrong.or(finding.other) {
             Some(wrong) => self.put_wrong(wrong.as_str()),
             None => Ok(()),
         }
