@@ -11,7 +11,7 @@ use proc_macro2::{SourceMap, TokenStream};
 use std::alloc::{AllocError, Global};
 use std::io::Write;
 use stops::{Stop, looked_at, refused};
-use syn::{Expr, parse_as, parse2};
+use syn::{Expr, NormalFault, parse_as, parse2, put_normal};
 use syn_buffer::TokenBuffer;
 use syn_data::data::Fields;
 use syn_data::derive::{Data, DeriveInput};
@@ -56,26 +56,51 @@ fn written(alloc: Global, position: Position, form: &Tree<'_>) -> Result<String,
     looked_at(print(alloc, out.as_slice()))
 }
 
+// The same of the normal form of an expression, which is made as a tree.
+fn made_normal<'a>(arena: &'a Arena, form: &Tree<'a>) -> Result<String, Stop> {
+    let alloc = arena.alloc();
+    let whole = looked_at(made::whole(arena, form.copy()))?;
+    let mut out = vec![in alloc; Piece::Underscore, Piece::Index(7)]?;
+    match put_normal(arena, &whole, &mut out) {
+        Ok(()) => looked_at(print(alloc, out.as_slice())),
+        Err(NormalFault::Memory) => refused(print(alloc, out.as_slice())?.starts_with("_ 7")),
+        Err(_) => Err(Stop::Changed),
+    }
+}
+
 // The form of an expression that was read.
 fn form_of<'t, 'a>(tree: &'t Tree<'a>) -> Option<&'t Tree<'a>> {
     let (_, expression) = tree.node()?;
     expression.whole()
 }
 
-// What is written in a position of an assignment's left form, with the right one in the place of its left operand.
-fn replaced(alloc: Global, position: Position, buffer: &TokenBuffer<'_>) -> Result<String, Stop> {
-    let arena = Arena::new(alloc);
-    let tree = parsed(&arena, Kind::Expression(Position::Plain), buffer)?;
+// What is written in a position of an assignment's left form, with the right one in the place of its left operand; and
+// its normal form by itself.
+fn replaced_in<'a>(
+    arena: &'a Arena,
+    position: Position,
+    buffer: &'a TokenBuffer<'a>,
+) -> Result<String, Stop> {
+    let tree = parsed(arena, Kind::Expression(Position::Plain), buffer)?;
     let Some(Form::Infix(_, assigned)) = form_of(&tree).map(|form| &form.form) else {
         return Err(Stop::Changed);
     };
     match &assigned.left.form {
         Form::Infix(kind, outer) => {
-            let built = looked_at(with_left(&arena, &assigned.right, *kind, outer))?;
-            written(alloc, position, &built)
+            let built = looked_at(with_left(arena, &assigned.right, *kind, outer))?;
+            let mut lines = written(arena.alloc(), position, &built)?;
+            lines.push('\n')?;
+            lines.push_str(made_normal(arena, &built)?.as_str())?;
+            Ok(lines)
         }
         _ => Err(Stop::Changed),
     }
+}
+
+// The same with an arena of its own.
+fn replaced(alloc: Global, position: Position, buffer: &TokenBuffer<'_>) -> Result<String, Stop> {
+    let arena = Arena::new(alloc);
+    replaced_in(&arena, position, buffer)
 }
 
 // What is written of what stands for an expression where none is known yet.
