@@ -3,66 +3,94 @@
 //! line for each setting, with the column in which its name begins (from 0), or the fault.
 #![tactic(auto)]
 
+ghost use Rattle.syn_input.specs.Input.{IsOnward};
+
 use anyhow::{Result, anyhow};
 use std::alloc::Global;
 use std::io::{Read, Write};
 use syn::{
-    Arena, Delimiter, Ident, Kind, ParseFault, Plus, Position, Reader, Sign, SourceMap, Span,
-    TokenBuffer, TokenStream, Tree, Words, print, write,
+    Arena, Delimiter, Ident, Kind, ParseFault, ParseForms, Plus, Position, SourceMap, Span,
+    TokenBuffer, TokenStream, Tree, print, write,
 };
+use syn_kinds::token;
+use syn_parse::{ParseBuffer, Punctuated, parse_buffer, parse_terminated_with};
 
 // A setting: its name, its type, and its value.
 #[derive(Drop)]
 struct Setting<'a> {
-    name: &'a Ident,
+    name: Ident,
     ty: Tree<'a>,
     value: Tree<'a>,
 }
 
+// What is set by a name.
+#[derive(Drop)]
+struct Settings<'a> {
+    name: Ident,
+    list: Punctuated<Setting<'a>, token::Comma>,
+}
+
 // The setting that stands there.
-fn parse_setting<'a>(input: &mut Reader<'a>) -> Result<Setting<'a>, ParseFault> {
-    let name = input.word(Words::Ident)?;
-    input.sign(Sign::Colon)?;
-    let ty = input.parse(Kind::AType(Plus::WithPlus))?;
-    input.sign(Sign::Eq)?;
-    let value = input.parse(Kind::Expression(Position::Plain))?;
+fn parse_setting<'a>(
+    input: &mut ParseBuffer<'a>,
+    arena: &'a Arena,
+) -> Result<Setting<'a>, ParseFault>
+    ensures { IsOnward input.old input.new }
+{
+    let name = input.parse::<Ident>()?;
+    input.parse::<token::Colon>()?;
+    let ty = input.parse_as(arena, Kind::AType(Plus::WithPlus))?;
+    input.parse::<token::Eq>()?;
+    let value = input.parse_as(arena, Kind::Expression(Position::Plain))?;
     Ok(Setting { name, ty, value })
 }
 
 // The settings of a list, which a comma follows each, but perhaps the last.
-fn parse_settings<'a>(
-    alloc: Global,
-    mut input: Reader<'a>,
-) -> Result<Vec<Setting<'a>>, ParseFault> {
-    let mut all = Vec::new(alloc);
-    // Each setting takes a token at least.
-    for _ in 0..input.entries().len() {
-        if input.is_empty() {
-            break;
-        }
-        all.push(parse_setting(&mut input)?)?;
-        if !input.is_empty() {
-            input.sign(Sign::Comma)?;
-        }
-    }
-    Ok(all)
+fn parse_list<'a>(
+    input: &mut ParseBuffer<'a>,
+    arena: &'a Arena,
+) -> Result<Punctuated<Setting<'a>, token::Comma>, ParseFault>
+    ensures { IsOnward input.old input.new }
+{
+    parse_terminated_with(
+        input,
+        |input| -> Result<Setting, ParseFault>
+            ensures { IsOnward input.old input.new }
+        { parse_setting(input, arena) },
+    )
 }
 
-// The name of all of them, and these.
-fn parsed<'a>(
+// The settings that stand there, with their name.
+fn parse_settings<'a>(
+    input: &mut ParseBuffer<'a>,
     arena: &'a Arena,
-    buffer: &'a TokenBuffer<'a>,
-) -> Result<(&'a Ident, Vec<Setting<'a>>), ParseFault> {
-    let start = Reader::new(arena, buffer);
-    let mut input = start;
-    let word = input.word(Words::Ident)?;
+) -> Result<Settings<'a>, ParseFault>
+    ensures { IsOnward input.old input.new }
+{
+    let start = input.fork();
+    let word = input.parse::<Ident>()?;
     if !word.is_text("settings") {
         return Err(ParseFault::from(start.error("expected `settings`")?));
     }
-    let name = input.word(Words::Ident)?;
-    let list = input.group(Delimiter::Brace)?;
-    input.finish()?;
-    Ok((name, parse_settings(arena.alloc(), list.inside)?))
+    let name = input.parse::<Ident>()?;
+    let (_, list) = input.within(
+        Delimiter::Brace,
+        |content| -> Result<Punctuated<Setting, token::Comma>, ParseFault>
+            ensures { IsOnward content.old content.new }
+        { parse_list(content, arena) },
+    )?;
+    Ok(Settings { name, list })
+}
+
+// The settings of a whole buffer.
+fn parsed<'a>(arena: &'a Arena, buffer: &'a TokenBuffer<'a>) -> Result<Settings<'a>, ParseFault> {
+    parse_buffer(
+        arena.alloc(),
+        |input| -> Result<Settings, ParseFault>
+            ensures { IsOnward input.old input.new }
+        { parse_settings(input, arena) },
+        buffer,
+    )
 }
 
 // The printed normal form of a part.
@@ -101,11 +129,12 @@ fn put_setting(map: &SourceMap, setting: &Setting, out: &mut String) -> Result<(
 
 // What is said of the settings that a buffer holds.
 fn put_settings(map: &SourceMap, buffer: &TokenBuffer, out: &mut String) -> Result<()> {
-    let arena = Arena::new(*out.allocator());
+    let alloc = *out.allocator();
+    let arena = Arena::new(alloc);
     match parsed(&arena, buffer) {
-        Ok((name, settings)) => {
-            writeln!(out, "  {name} has {}", settings.len())?;
-            for setting in &settings {
+        Ok(settings) => {
+            writeln!(out, "  {} has {}", settings.name, settings.list.len())?;
+            for setting in &settings.list {
                 put_setting(map, setting, out)?;
             }
             Ok(())
