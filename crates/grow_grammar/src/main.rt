@@ -4,12 +4,14 @@
 //! - `texts`: the texts, and what is answered for one.
 //! - `built`: expressions that are built by hand, what stands for one, and the members of fields.
 //! - `reading`: forms and tokens that are read one behind the other, and tokens as a stream.
+//! - `streams`: forms that are read from a stream of tokens.
 //! - `modifiers`: what is said of modifiers where none may stand.
 #![tactic(auto)]
 
 mod built;
 mod modifiers;
 mod reading;
+mod streams;
 mod texts;
 
 use std::io::Write;
@@ -20,6 +22,7 @@ fn run(rt: &HostRuntime) -> Result<(), Stop> {
     let mut answer = texts::answered(rt.alloc())?;
     answer.push_str(built::answered(rt.alloc())?.as_str())?;
     answer.push_str(reading::answered(rt.alloc())?.as_str())?;
+    answer.push_str(streams::answered(rt.alloc())?.as_str())?;
     answer.push_str(modifiers::answered(rt.alloc())?.as_str())?;
     let written = rt.stdout().write_all(answer.as_bytes());
     written.map_err(|_| Stop::Elsewhere)

@@ -10,7 +10,7 @@ use syn::{
 };
 
 // The text of a tree's tokens as a stream.
-fn streamed(alloc: Global, tree: &Tree<'_>) -> Result<String, Stop> {
+pub(crate) fn streamed(alloc: Global, tree: &Tree<'_>) -> Result<String, Stop> {
     let mut pieces = Vec::new(alloc);
     looked_at(write(tree, &mut pieces))?;
     match looked_at(stream_of(alloc, pieces.as_slice()))? {
@@ -20,7 +20,7 @@ fn streamed(alloc: Global, tree: &Tree<'_>) -> Result<String, Stop> {
 }
 
 // What is said of a call that was refused: where memory was, the reader stands where it stood.
-fn said(alloc: Global, fault: ParseFault, stays: bool) -> Result<String, Stop> {
+pub(crate) fn said(alloc: Global, fault: ParseFault, stays: bool) -> Result<String, Stop> {
     match fault {
         ParseFault::Memory => refused(stays),
         ParseFault::Syntax(error) if stays => Ok(error.to_string(alloc)?),
