@@ -29,11 +29,18 @@
 mod apart;
 mod bare;
 pub mod fault;
+mod fields;
 mod first;
+mod forget;
 mod head;
+mod kept;
 mod lifetime;
 pub mod normal;
+mod numbers;
+mod peel;
 mod paren;
 mod sight;
+mod stated;
 mod stays;
 mod tidy;
+mod verbatim;
