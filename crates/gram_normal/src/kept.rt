@@ -20,11 +20,7 @@ use rust_leaf::punct::Spacing;
 
 // Puts what is held of each of some trees.
 #[cycle(kept)]
-fn put_each<'a>(
-    arena: &'a Arena,
-    trees: &[Tree<'a>],
-    out: &mut Vec<Tree<'a>>,
-) -> Result<(), Fault>
+fn put_each<'a>(arena: &'a Arena, trees: &[Tree<'a>], out: &mut Vec<Tree<'a>>) -> Result<(), Fault>
     ensures { OnOk result (out.new.items ≡ out.old.items ++ map k.kept trees.now) }
 {
     for tree in trees {

@@ -56,7 +56,11 @@ fn attributed_in<'a>(
             Kind::Expression(position) => match inner.whole() {
                 Some(form) => {
                     let given = attributed(arena, attributes, form)?;
-                    made::node(arena, Kind::Expression(position), made::whole(arena, given)?)
+                    made::node(
+                        arena,
+                        Kind::Expression(position),
+                        made::whole(arena, given)?,
+                    )
                 }
                 None => Ok(tree.copy()),
             },
