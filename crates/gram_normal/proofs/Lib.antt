@@ -5,3 +5,10 @@ pub mod Lists
 pub mod Tidying
 pub mod Apartness
 pub mod Forming
+pub mod Peeling
+pub mod Numbering
+pub mod Giving
+pub mod Fielding
+pub mod Entering
+pub mod Forgetting
+pub mod Holding

@@ -1,5 +1,6 @@
 -- What is changed in a kind's parts.
 use Rattle.std.specs.Prelude.{Bool, cond, List, [], ◌∷◌}
+use Rattle.syn_grammar.specs.Kept.{constant_default, not_last}
 use Rattle.syn_grammar.specs.Tree.{Tree}
 use Rattle.syn_grammar.specs.Tidy.{is_lifetime_argument, is_lifetime_param, lifetimes_first, moved, without_generics}
 use Rattle.gram_tree.specs.declared.tree.Element.{Element}
@@ -27,3 +28,5 @@ abbrev pub change_of : Change → Tree → Tree
 change_of change.Lifetimes x = lifetimes_first is_lifetime_argument x
 change_of change.Moved x = moved x
 change_of change.Generics x = without_generics x
+change_of change.Last x = not_last x
+change_of change.Default x = constant_default x

@@ -1,3 +1,5 @@
 pub mod Heads
 pub mod Changes
 pub mod Parted
+pub mod Peeled
+pub mod Held

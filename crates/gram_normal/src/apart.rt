@@ -55,9 +55,9 @@ fn raw_item<'a>(tree: &Tree<'a>) -> Option<&'a [Entry<'a>]>
     }
 }
 
-// Behind so many seconds of a choice the first.
+/// Behind so many seconds of a choice the first.
 #[tactic(auto, using(gram_write::proofs::Operands::firsts_behind))]
-fn first_behind<'t, 'a>(tree: &'t Tree<'a>, seconds: usize) -> Option<&'t Tree<'a>>
+pub(crate) fn first_behind<'t, 'a>(tree: &'t Tree<'a>, seconds: usize) -> Option<&'t Tree<'a>>
     ensures { option_map (λ x. x.now) result ≡ first_behind tree.now seconds }
 {
     match &tree.form {

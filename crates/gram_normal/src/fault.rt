@@ -10,6 +10,8 @@ pub enum Fault {
     /// In a list of parameters or arguments with `+` between them, which none that was read has, a lifetime would stand
     /// before others with a comma behind it: no tree holds a list with both.
     Separators,
+    /// Among tokens that are held as they are a mark would be none of a text: none of a tree is.
+    Mark,
 }
 
 impl From<AllocError> for Fault {

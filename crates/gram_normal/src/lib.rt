@@ -8,11 +8,17 @@
 //! type of a cast stands before `<`. The calls are as deep as the tree, also along operands that stand one left of the
 //! other.
 //!
+//! What a syntax tree holds of a tree is made before that where tokens are put: `kept` makes it as the written grammar
+//! says it (`syn_grammar`'s `Kept`), each function by a word of the definition too.
+//!
 //! `specs/Heads` has the first tokens, `specs/Changes` what is changed in a kind's parts, `specs/Parted` how turns are
-//! made of those that are in normal form. In `proofs/`: `Heads` (the first tokens of what is joined), `Firsts`
+//! made of those that are in normal form, `specs/Peeled` and `specs/Held` what is taken out of a tree and how lists are
+//! held. In `proofs/`: `Heads` (the first tokens of what is joined), `Firsts`
 //! (whether a parenthesis stands first), `Edges` (what stands on the edges of an expression), `Lists` (lifetimes in
 //! front of others), `Tidying` (kinds of which nothing is removed), `Apartness` (raw items that are set apart),
-//! `Forming` (trees by their forms).
+//! `Forming` (trees by their forms), `Peeling` (what is taken out of a tree), `Forgetting` (what a kind holds), `Giving`
+//! (attributes in front of an expression), `Numbering` and `Fielding` (fields by numbers), `Entering` (tokens that are
+//! put behind others), `Holding` (what is held, by its form).
 //!
 //! - `normal`: the normal form, and putting its tokens.
 //! - `fault`: why there is none.
@@ -24,16 +30,30 @@
 //! - `lifetime`: lists in which lifetimes come first.
 //! - `tidy`: what is made of a kind's parts.
 //! - `apart`: raw items among statements that are set apart.
+//! - `kept`: what a syntax tree holds of a tree.
+//! - `forget`: what a kind's tree holds of what was read.
+//! - `stated`: attributes in front of a statement's expression, and statements that are macros.
+//! - `fields`: forms behind a dot.
+//! - `numbers`: numbers in plain decimal, and split at their dots.
+//! - `verbatim`: what is held as its tokens.
+//! - `peel`: what stands in a tree, taken out.
 #![tactic(auto)]
 
 mod apart;
 mod bare;
 pub mod fault;
+mod fields;
 mod first;
+mod forget;
 mod head;
+mod kept;
 mod lifetime;
 pub mod normal;
+mod numbers;
 mod paren;
+mod peel;
 mod sight;
+mod stated;
 mod stays;
 mod tidy;
+mod verbatim;

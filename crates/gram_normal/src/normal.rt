@@ -11,6 +11,7 @@ ghost use Rattle.gram_tree.specs.Forms.{elements, ending, turns};
 ghost use Rattle.gram_write.specs.Front.{Keeps};
 ghost use Rattle.proc_macro2.specs.Token.{Token};
 ghost use Rattle.std.specs.Prelude.{◌++◌, ◌≡◌, IfOk, List, OnOk, map};
+ghost use Rattle.syn_grammar.specs.Kept as k;
 ghost use Rattle.syn_grammar.specs.Normal as n;
 ghost use Rattle.syn_grammar.specs.Tree as t;
 ghost use Rattle.syn_grammar.specs.Tree.{flat};
@@ -19,6 +20,7 @@ use crate::apart::put_parted;
 use crate::fault::Fault;
 use crate::first::first;
 use crate::head::Head;
+use crate::kept::kept;
 use crate::paren;
 use crate::sight::follow;
 use crate::tidy::tidy;
@@ -330,7 +332,9 @@ pub fn normal<'a>(arena: &'a Arena, tree: &Tree<'a>) -> Result<Tree<'a>, Fault>
     normal_in(arena, Position::Plain, tree)
 }
 
-/// Puts the tokens of the normal form of a tree, read or put together by hand, behind those that are to be written.
+/// Puts the tokens of what a syntax tree holds of a tree, in normal form, behind those that are to be written: of a tree
+/// that was read those that are written of the program, and of one that was put together by hand just the parentheses
+/// that it needs, at whatever depth.
 ///
 /// # Errors
 ///
@@ -343,10 +347,11 @@ pub fn put_normal<'a>(
     out: &mut Vec<Piece<'a>>,
 ) -> Result<(), Fault>
     ensures put { OnOk result (map piece_token out.new.items
-        ≡ map piece_token out.old.items ++ flat (n.normal tree.now)) }
+        ≡ map piece_token out.old.items ++ flat (n.normal (k.kept tree.now))) }
     ensures keeps { Keeps out.old.items out.new.items }
 {
-    let made = normal(arena, tree)?;
+    let held = kept(arena, tree)?;
+    let made = normal(arena, &held)?;
     put_as_read(&made, out)?;
     Ok(())
 }

@@ -12,6 +12,7 @@ ghost use Rattle.syn_grammar.specs.Tree as t;
 
 use crate::bare::{is_bare_colon, is_bare_generics, is_bare_where, keeps_generics};
 use crate::fault::Fault;
+use crate::forget::{constant_default, not_last};
 use crate::lifetime::{Which, lifetimes_first};
 use gram_table::kind::Kind;
 use gram_table::part::Part;
@@ -100,6 +101,10 @@ pub(crate) enum Change {
     Moved,
     /// Generics without parameters are not written.
     Generics,
+    /// Whether an arm without a comma is the last is not held.
+    Last,
+    /// The default of a constant parameter is an expression.
+    Default,
 }
 
 // A part, changed so.
@@ -110,6 +115,8 @@ fn changed_part<'a>(arena: &'a Arena, change: Change, tree: &Tree<'a>) -> Result
         Change::Lifetimes => lifetimes_first(arena, Which::Arguments, tree),
         Change::Moved => Ok(moved(arena, tree)?),
         Change::Generics => Ok(without_generics(arena, tree)?),
+        Change::Last => Ok(not_last(arena, tree)?),
+        Change::Default => Ok(constant_default(arena, tree)?),
     }
 }
 
@@ -128,9 +135,13 @@ fn is_same(one: Part, other: Part) -> bool
     number(one) == number(other)
 }
 
-// A tree with its part of that name changed so.
+/// A tree with its part of that name changed so.
+///
+/// # Errors
+///
+/// Where there is no memory for it, or where no tree is it.
 #[tactic(auto, using(crate::proofs::Tidying::changes))]
-fn changed<'a>(
+pub(crate) fn changed<'a>(
     arena: &'a Arena,
     part: Part,
     change: Change,

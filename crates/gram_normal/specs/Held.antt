@@ -1,0 +1,11 @@
+-- How lists are held.
+use Rattle.rust_leaf.specs.declared.punct.Spacing.TheVariants.{Alone as Apart}
+use Rattle.syn_grammar.specs.Kept.{kept}
+use Rattle.gram_tree.specs.declared.tree.Element.{Element}
+
+-- an element, as it is held
+abbrev pub element_held : Element → Element
+element_held e = record {
+  tree = kept e.tree;
+  spacing = Apart;
+}

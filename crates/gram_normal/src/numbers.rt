@@ -1,0 +1,123 @@
+//! Numbers as they are held: in plain decimal, and behind a dot split at their dots.
+
+ghost use Rattle.gram_look.specs.Texts.{IsFrom};
+ghost use Rattle.std.specs.Fmt.{decimal};
+ghost use Rattle.std.specs.Prelude.{◌≡◌, ◌≤◌, IfOk, length};
+ghost use Rattle.std.specs.Str.{chars};
+ghost use Rattle.syn_grammar.specs.Kept.{index_fields, lone_dot};
+ghost use Rattle.syn_grammar.specs.Kind.{ExprField};
+ghost use Rattle.syn_grammar.specs.Name.{the_indices, the_value};
+ghost use Rattle.syn_grammar.specs.Tree as t;
+ghost use Rattle.syn_grammar.specs.Words.{before_dot, indices, integer, or_zero, plain_decimal};
+
+use gram_look::text::{first_char, integer};
+use gram_table::kind::Kind;
+use gram_table::part::Part;
+use gram_table::word::Sign;
+use gram_tree::arena::Arena;
+use gram_tree::made;
+use gram_tree::tree::Tree;
+use rust_leaf::literal::Literal;
+use rust_leaf::punct::Spacing;
+use rust_map::span::Span;
+use std::alloc::AllocError;
+
+// What is left of a text from its first dot on, or its end.
+#[tactic(auto, using(gram_write::proofs::Indices::from_dots))]
+fn from_dot(text: &str) -> &str
+    ensures left { IsFrom (chars text.now) (chars result.now) }
+    ensures shorter { length result.now ≤ length text.now }
+{
+    let mut rest = text;
+    while let Some((character, behind)) = first_char(rest) {
+        if character == '.' {
+            return rest;
+        }
+        rest = behind;
+    }
+    rest
+}
+
+// The index that stands up to the first dot, 0 where none does; and what is left from that dot on.
+#[tactic(auto, using(gram_write::proofs::Indices::value_some, gram_write::proofs::Indices::value_none))]
+fn index(text: &str) -> (u32, &str)
+    ensures value { result.0 ≡ or_zero (integer (before_dot (chars text.now))) }
+    ensures left { IsFrom (chars text.now) (chars result.1.now) }
+    ensures shorter { length result.1.now ≤ length text.now }
+{
+    match integer(text) {
+        Some((value, left)) => (value, left),
+        None => (0, from_dot(text)),
+    }
+}
+
+// The index that a whole text is, 0 where it is none.
+#[tactic(auto, using(gram_write::proofs::Indices::wholes))]
+fn whole_index(text: &str) -> u32
+    ensures { result ≡ or_zero (integer (chars text.now)) }
+{
+    match integer(text) {
+        Some((value, left)) => match first_char(left) {
+            None => value,
+            Some(_) => 0,
+        },
+        None => 0,
+    }
+}
+
+// A number, in plain decimal.
+fn number<'a>(arena: &'a Arena, value: u32) -> Result<Tree<'a>, AllocError>
+    ensures { IfOk result (λ x. x ≡ t.ALiteral (decimal value)) }
+{
+    let literal = Literal::u32_unsuffixed(arena.alloc(), value)?;
+    Ok(made::literal(arena.put(literal)?))
+}
+
+/// The number that a text writes, in plain decimal; 0 where it is none below 2 ^ 32.
+///
+/// # Errors
+///
+/// Where there is no memory for it.
+#[tactic(auto, unfolding(syn_grammar::specs::Words::plain_decimal))]
+pub(crate) fn plain_number<'a>(arena: &'a Arena, text: &str) -> Result<Tree<'a>, AllocError>
+    ensures { IfOk result (λ x. x ≡ t.ALiteral (plain_decimal (chars text.now))) }
+{
+    number(arena, whole_index(text))
+}
+
+// A field by a number, of an operand.
+fn index_field<'a>(arena: &'a Arena, left: Tree<'a>, value: u32) -> Result<Tree<'a>, AllocError>
+    ensures { IfOk result (λ x. x ≡ t.Back left.entry ExprField
+        (t.Pair (t.Pair lone_dot (t.Called the_indices t.End)) (t.Second (t.Called the_value (t.ALiteral (decimal value)))))) }
+{
+    let dot = made::mark(Sign::Dot, Spacing::Alone, Span::call_site());
+    let none = made::turns(arena, Vec::new(arena.alloc()))?;
+    let front = made::pair(arena, dot, made::called(arena, Part::Indices, none)?)?;
+    let named = made::called(arena, Part::Value, number(arena, value)?)?;
+    let own = made::pair(arena, front, made::second(arena, named)?)?;
+    made::back(arena, left, Kind::ExprField, own)
+}
+
+/// The fields by the indices that a number behind a dot writes, of an operand.
+///
+/// # Errors
+///
+/// Where there is no memory for them.
+#[tactic(auto, unfolding(syn_grammar::specs::Words::plain_decimal), using(crate::proofs::Numbering::all_fields))]
+pub(crate) fn index_fields<'a>(
+    arena: &'a Arena,
+    left: Tree<'a>,
+    text: &str,
+) -> Result<Tree<'a>, AllocError>
+    ensures { IfOk result (λ x. x ≡ index_fields left.entry (indices (chars text.now))) }
+{
+    let (value, rest) = index(text);
+    let field = index_field(arena, left, value)?;
+    let Some((_, behind)) = first_char(rest) else {
+        return Ok(field);
+    };
+    match first_char(behind) {
+        None => Ok(field),
+        Some(_) => index_fields(arena, field, behind),
+    }
+}

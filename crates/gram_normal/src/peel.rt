@@ -1,0 +1,199 @@
+//! What stands in a tree, taken out.
+
+ghost use Rattle.gram_normal.specs.Peeled.{again_of, attributes_of, macro_in, second_of};
+ghost use Rattle.gram_table.specs.Parts.{part_of};
+ghost use Rattle.gram_write.specs.Operands.{before_of, expression_of, pair_behind};
+ghost use Rattle.gram_write.specs.Seen.{called_of, is_choice, unnamed_of};
+ghost use Rattle.std.specs.Prelude.{◌≡◌, option_map};
+ghost use Rattle.syn_grammar.specs.Forms.{form_of};
+
+use gram_table::kind::Kind;
+use gram_table::part::Part;
+use gram_tree::tree::{Form, Tree};
+
+/// Of a choice the second, where that was chosen.
+#[tactic(auto, using(crate::proofs::Peeling::second_parts))]
+pub(crate) fn second<'a>(tree: &Tree<'a>) -> Option<Tree<'a>>
+    ensures { result ≡ second_of tree.now }
+{
+    match &tree.form {
+        Form::First(depth, inner) => {
+            if *depth == 0 {
+                return None;
+            }
+            Some(Tree {
+                form: Form::First(*depth - 1, inner),
+            })
+        }
+        Form::Second(depth, inner) => {
+            if *depth == 0 {
+                return Some(inner.copy());
+            }
+            Some(Tree {
+                form: Form::Second(*depth - 1, inner),
+            })
+        }
+        _ => None,
+    }
+}
+
+/// Whether one of two was chosen.
+#[tactic(auto, using(gram_write::proofs::SeenForms::choices))]
+pub(crate) fn is_choice(tree: &Tree<'_>) -> bool
+    ensures { result ≡ is_choice tree.now }
+{
+    match &tree.form {
+        Form::First(_, _) => true,
+        Form::Second(_, _) => true,
+        _ => false,
+    }
+}
+
+/// Behind so many seconds both of two trees.
+#[tactic(auto, using(gram_write::proofs::Operands::pairs_behind))]
+pub(crate) fn pair_behind<'t, 'a>(
+    tree: &'t Tree<'a>,
+    seconds: usize,
+) -> Option<(&'t Tree<'a>, &'t Tree<'a>)>
+    ensures { option_map (λ p. (p.0.now, p.1.now)) result ≡ pair_behind tree.now seconds }
+{
+    match &tree.form {
+        Form::Pair(two) => {
+            if seconds == 0 {
+                Some((&two.front, &two.back))
+            } else {
+                None
+            }
+        }
+        Form::Second(depth, inner) => {
+            if *depth < seconds {
+                pair_behind(inner, seconds - 1 - *depth)
+            } else {
+                None
+            }
+        }
+        _ => None,
+    }
+}
+
+// Of a part its name and its inside.
+#[tactic(auto, using(gram_write::proofs::SeenForms::calleds))]
+fn called<'t, 'a>(tree: &'t Tree<'a>) -> Option<(Part, &'t Tree<'a>)>
+    ensures { option_map (λ p. (part_of p.0, p.1.now)) result ≡ called_of tree.now }
+{
+    match &tree.form {
+        Form::Called(part, inner) => Some((*part, inner)),
+        _ => None,
+    }
+}
+
+/// Of a part that is a type alone the type.
+pub(crate) fn unnamed<'t, 'a>(tree: &'t Tree<'a>) -> Option<&'t Tree<'a>>
+    ensures { option_map (λ x. x.now) result ≡ unnamed_of tree.now }
+{
+    match called(tree) {
+        Some((part, inner)) => match part {
+            Part::Unnamed => Some(inner),
+            _ => None,
+        },
+        None => None,
+    }
+}
+
+/// What stands in a part of attributes.
+pub(crate) fn before<'t, 'a>(tree: &'t Tree<'a>) -> Option<&'t Tree<'a>>
+    ensures { option_map (λ x. x.now) result ≡ before_of tree.now }
+{
+    match called(tree) {
+        Some((part, inner)) => match part {
+            Part::Attributes => Some(inner),
+            _ => None,
+        },
+        None => None,
+    }
+}
+
+/// What stands in a part that is an expression.
+pub(crate) fn expression<'t, 'a>(tree: &'t Tree<'a>) -> Option<&'t Tree<'a>>
+    ensures { option_map (λ x. x.now) result ≡ expression_of tree.now }
+{
+    match called(tree) {
+        Some((part, inner)) => match part {
+            Part::Expression => Some(inner),
+            _ => None,
+        },
+        None => None,
+    }
+}
+
+// Of an expression its form, of what is none itself.
+#[tactic(auto, using(crate::proofs::Peeling::forms))]
+fn form_of<'a>(tree: &Tree<'a>) -> Tree<'a>
+    ensures { result ≡ form_of tree.now }
+{
+    match tree.node() {
+        Some((kind, inner)) => match kind {
+            Kind::Expression(_) => match inner.whole() {
+                Some(form) => form.copy(),
+                None => tree.copy(),
+            },
+            _ => tree.copy(),
+        },
+        None => tree.copy(),
+    }
+}
+
+// Of a macro its own part.
+#[tactic(auto, using(crate::proofs::Peeling::macros))]
+fn macro_in<'a>(form: &Tree<'a>) -> Option<Tree<'a>>
+    ensures { result ≡ macro_in form.now }
+{
+    match form.alone() {
+        Some((kind, own)) => match kind {
+            Kind::ExprMacro => Some(own.copy()),
+            _ => None,
+        },
+        None => None,
+    }
+}
+
+/// Of an expression that is a macro its own part.
+pub(crate) fn macro_of<'a>(tree: &Tree<'a>) -> Option<Tree<'a>>
+    ensures { result ≡ macro_in (form_of tree.now) }
+{
+    let form = form_of(tree);
+    macro_in(&form)
+}
+
+// Of turns the first, and the others.
+#[tactic(auto, using(crate::proofs::Peeling::agains))]
+fn again<'a>(tree: &Tree<'a>) -> Option<(Tree<'a>, Tree<'a>)>
+    ensures { result ≡ again_of tree.now }
+{
+    match &tree.form {
+        Form::Turns(turns) => match turns.split_first() {
+            Some((first, others)) => Some((
+                first.copy(),
+                Tree {
+                    form: Form::Turns(others),
+                },
+            )),
+            None => None,
+        },
+        _ => None,
+    }
+}
+
+/// Of attributes the first, and the others.
+#[tactic(auto, using(crate::proofs::Peeling::attributes))]
+pub(crate) fn attributes<'a>(tree: &Tree<'a>) -> Option<(Tree<'a>, Tree<'a>)>
+    ensures { result ≡ attributes_of tree.now }
+{
+    match tree.node() {
+        Some((kind, inner)) => match kind {
+            Kind::OuterAttributes => again(inner),
+            _ => None,
+        },
+        None => None,
+    }
+}

@@ -1,0 +1,173 @@
+//! Attributes in front of a statement's expression, which belong to its leftmost operand, and statements that are macros.
+
+ghost use Rattle.gram_normal.specs.Peeled.{expressed, stated_macro};
+ghost use Rattle.std.specs.Prelude.{◌≡◌, IfOk};
+ghost use Rattle.syn_grammar.specs.Kept as k;
+
+use crate::peel::{attributes, before, expression, macro_of, pair_behind};
+use gram_judge::level::level;
+use gram_table::kind::Kind;
+use gram_table::part::Part;
+use gram_tree::arena::Arena;
+use gram_tree::made;
+use gram_tree::tree::{Form, Tree};
+use std::alloc::AllocError;
+
+// The attributes in front of an expression, given to its leftmost operand, through assignments, infix forms and casts;
+// a range keeps them.
+#[tactic(auto, using(crate::proofs::Giving::attributeds))]
+fn attributed<'a>(
+    arena: &'a Arena,
+    attributes: &Tree<'a>,
+    tree: &Tree<'a>,
+) -> Result<Tree<'a>, AllocError>
+    ensures { IfOk result (λ x. x ≡ k.attributed attributes.now tree.now) }
+{
+    match &tree.form {
+        Form::Infix(kind, three) => {
+            if level(*kind) == 3 {
+                return made::front(arena, Kind::ExprAttributed, attributes.copy(), tree.copy());
+            }
+            let left = attributed(arena, attributes, &three.left)?;
+            made::infix(arena, left, *kind, three.own.copy(), three.right.copy())
+        }
+        Form::Back(kind, two) => {
+            if level(*kind) != 14 {
+                return made::front(arena, Kind::ExprAttributed, attributes.copy(), tree.copy());
+            }
+            let operand = attributed(arena, attributes, &two.front)?;
+            made::back(arena, operand, *kind, two.back.copy())
+        }
+        _ => made::front(arena, Kind::ExprAttributed, attributes.copy(), tree.copy()),
+    }
+}
+
+// The same of a node that is an expression.
+#[tactic(auto, using(crate::proofs::Giving::ins))]
+fn attributed_in<'a>(
+    arena: &'a Arena,
+    attributes: &Tree<'a>,
+    tree: &Tree<'a>,
+) -> Result<Tree<'a>, AllocError>
+    ensures { IfOk result (λ x. x ≡ k.attributed_in attributes.now tree.now) }
+{
+    match tree.node() {
+        Some((kind, inner)) => match kind {
+            Kind::Expression(position) => match inner.whole() {
+                Some(form) => {
+                    let given = attributed(arena, attributes, form)?;
+                    made::node(
+                        arena,
+                        Kind::Expression(position),
+                        made::whole(arena, given)?,
+                    )
+                }
+                None => Ok(tree.copy()),
+            },
+            _ => Ok(tree.copy()),
+        },
+        None => Ok(tree.copy()),
+    }
+}
+
+// An expression with the attributes in front of it.
+#[tactic(auto, using(crate::proofs::Giving::givens))]
+fn given<'a>(arena: &'a Arena, front: &Tree<'a>, tree: &Tree<'a>) -> Result<Tree<'a>, AllocError>
+    ensures { IfOk result (λ x. x ≡ k.given front.now tree.now) }
+{
+    match attributes(front) {
+        Some((first, others)) => {
+            let behind = made::node(arena, Kind::OuterAttributes, others)?;
+            let all = made::pair(arena, first, behind)?;
+            attributed_in(arena, &all, tree)
+        }
+        None => Ok(tree.copy()),
+    }
+}
+
+// What of attributes is left in front of an expression.
+#[tactic(auto, using(crate::proofs::Giving::lefts))]
+fn left_in_front<'a>(arena: &'a Arena, front: &Tree<'a>) -> Result<Tree<'a>, AllocError>
+    ensures { IfOk result (λ x. x ≡ k.left_in_front front.now) }
+{
+    match attributes(front) {
+        Some(_) => {
+            let none = made::turns(arena, Vec::new(arena.alloc()))?;
+            made::node(arena, Kind::OuterAttributes, none)
+        }
+        None => Ok(front.copy()),
+    }
+}
+
+// A statement that is an expression, with the attributes in front of it given to that.
+fn expressed<'a>(
+    arena: &'a Arena,
+    front: &Tree<'a>,
+    tree: &Tree<'a>,
+    behind: &Tree<'a>,
+) -> Result<Tree<'a>, AllocError>
+    ensures { IfOk result (λ x. x ≡ expressed front.now tree.now behind.now) }
+{
+    let left = made::called(arena, Part::Attributes, left_in_front(arena, front)?)?;
+    let stated = made::called(arena, Part::Expression, given(arena, front, tree)?)?;
+    let rest = made::pair(arena, stated, behind.copy())?;
+    let all = made::pair(arena, left, rest)?;
+    made::seconds(arena, 4, all)
+}
+
+// A statement that is a macro.
+fn stated_macro<'a>(
+    arena: &'a Arena,
+    front: &Tree<'a>,
+    own: Tree<'a>,
+    behind: &Tree<'a>,
+) -> Result<Tree<'a>, AllocError>
+    ensures { IfOk result (λ x. x ≡ stated_macro front.now own.entry behind.now) }
+{
+    let rest = made::pair(arena, own, behind.copy())?;
+    let all = made::pair(arena, front.copy(), rest)?;
+    made::first_behind(arena, 1, all)
+}
+
+// A statement that is an expression: a macro statement, where it is a macro with `;` behind it.
+#[tactic(auto, using(crate::proofs::Giving::statements))]
+fn expression_statement<'a>(
+    arena: &'a Arena,
+    front: &Tree<'a>,
+    tree: &Tree<'a>,
+    behind: &Tree<'a>,
+) -> Result<Tree<'a>, AllocError>
+    ensures { IfOk result (λ x. x ≡ k.expression_statement front.now tree.now behind.now) }
+{
+    let Some(own) = macro_of(tree) else {
+        return expressed(arena, front, tree, behind);
+    };
+    match behind.first() {
+        Some(_) => stated_macro(arena, front, own, behind),
+        None => expressed(arena, front, tree, behind),
+    }
+}
+
+/// What a statement holds of what was read.
+///
+/// # Errors
+///
+/// Where there is no memory for it.
+#[tactic(auto, using(crate::proofs::Giving::stateds))]
+pub(crate) fn as_statement<'a>(arena: &'a Arena, tree: &Tree<'a>) -> Result<Tree<'a>, AllocError>
+    ensures { IfOk result (λ x. x ≡ k.as_statement tree.now) }
+{
+    let Some((attributes, rest)) = pair_behind(tree, 4) else {
+        return Ok(tree.copy());
+    };
+    let Some(front) = before(attributes) else {
+        return Ok(tree.copy());
+    };
+    let Some((named, behind)) = rest.pair() else {
+        return Ok(tree.copy());
+    };
+    match expression(named) {
+        Some(inner) => expression_statement(arena, front, inner, behind),
+        None => Ok(tree.copy()),
+    }
+}

@@ -1,0 +1,99 @@
+//! What is held as its tokens.
+
+ghost use Rattle.gram_piece.specs.Pieces.{piece_token};
+ghost use Rattle.gram_piece.specs.declared.piece.Piece.TheVariants as pieces;
+ghost use Rattle.rust_leaf.specs.Leaf.{ident_text};
+ghost use Rattle.std.specs.Prelude.{◌++◌, ◌≡◌, IfOk, OnOk, codes, map};
+ghost use Rattle.syn_buffer.specs.Entries.{entry_token};
+ghost use Rattle.syn_grammar.specs.Tree as t;
+ghost use Rattle.syn_grammar.specs.Tree.{flat};
+
+use crate::fault::Fault;
+use gram_piece::piece::Piece;
+use gram_tree::arena::Arena;
+use gram_tree::made;
+use gram_tree::tree::Tree;
+use gram_write::as_read::put_as_read;
+use rust_leaf::ident::Ident;
+use rust_leaf::literal::Literal;
+use rust_leaf::punct::{Punct, Spacing};
+use rust_map::span::Span;
+use std::alloc::AllocError;
+use syn_buffer::entry::Entry;
+
+/// The word `_`.
+///
+/// # Errors
+///
+/// Where there is no memory for it.
+#[tactic(auto, using(crate::proofs::Entering::underscore_word))]
+pub(crate) fn underscore<'a>(arena: &'a Arena) -> Result<&'a Ident, AllocError>
+    ensures { IfOk result (λ i. ident_text i.now ≡ codes "_") }
+{
+    match Ident::new(arena.alloc(), "_", Span::call_site()) {
+        Ok(ident) => arena.put(ident),
+        Err(_) => Err(AllocError),
+    }
+}
+
+// A mark, at no place of a text.
+fn mark<'a>(arena: &'a Arena, mark: char, spacing: Spacing) -> Result<Entry<'a>, Fault>
+    ensures { IfOk result (λ e. entry_token e ≡ piece_token (pieces.Mark mark spacing)) }
+{
+    if Punct::is_mark(mark) {
+        let punct = arena.put(Punct::new(mark, spacing))?;
+        Ok(Entry::Punct(punct))
+    } else {
+        Err(Fault::Mark)
+    }
+}
+
+// A token; of one that opens a group it is not known how many stand inside.
+fn entry<'a>(arena: &'a Arena, piece: Piece<'a>) -> Result<Entry<'a>, Fault>
+    ensures { IfOk result (λ e. entry_token e ≡ piece_token piece.entry) }
+{
+    match piece {
+        Piece::Ident(ident) => Ok(Entry::Ident(ident)),
+        Piece::Literal(literal) => Ok(Entry::Literal(literal)),
+        Piece::Mark(character, spacing) => mark(arena, character, spacing),
+        Piece::Open(delimiter) => Ok(Entry::Open(delimiter, Span::call_site(), 0)),
+        Piece::Close(delimiter) => Ok(Entry::Close(delimiter, Span::call_site())),
+        Piece::Underscore => Ok(Entry::Ident(underscore(arena)?)),
+        Piece::Index(index) => {
+            let literal = Literal::u32_unsuffixed(arena.alloc(), index)?;
+            Ok(Entry::Literal(arena.put(literal)?))
+        }
+    }
+}
+
+// Puts each of some tokens.
+#[tactic(auto, using(crate::proofs::Entering::puts))]
+fn put_entries<'a>(
+    arena: &'a Arena,
+    pieces: &[Piece<'a>],
+    out: &mut Vec<Entry<'a>>,
+) -> Result<(), Fault>
+    ensures { OnOk result (map entry_token out.new.items
+        ≡ map entry_token out.old.items ++ map piece_token pieces.now) }
+{
+    for piece in pieces {
+        out.push(entry(arena, *piece)?)?;
+    }
+    Ok(())
+}
+
+/// The tokens of what is held as them.
+///
+/// # Errors
+///
+/// Where there is no memory for them, or where a mark among them is none of a text.
+#[tactic(auto, using(crate::proofs::Entering::puts))]
+pub(crate) fn verbatim<'a>(arena: &'a Arena, inner: &Tree<'a>) -> Result<Tree<'a>, Fault>
+    ensures { IfOk result (λ x. x ≡ t.Raw (flat inner.now)) }
+{
+    let mut pieces = Vec::new(arena.alloc());
+    put_as_read(inner, &mut pieces)?;
+    let mut entries = Vec::new(arena.alloc());
+    put_entries(arena, pieces.as_slice(), &mut entries)?;
+    Ok(made::raw(arena.put_all(entries)?))
+}
