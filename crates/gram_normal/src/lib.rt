@@ -8,16 +8,16 @@
 //! type of a cast stands before `<`. The calls are as deep as the tree, also along operands that stand one left of the
 //! other.
 //!
-//! `specs/Heads` has the first tokens, `specs/Changes` what is changed in a kind's parts, `specs/Parted` how turns are
-//! made of those that are in normal form. In `proofs/`: `Heads` (the first tokens of what is joined), `Firsts`
-//! (whether a parenthesis stands first), `Edges` (what stands on the edges of an expression), `Lists` (lifetimes in
-//! front of others), `Tidying` (kinds of which nothing is removed), `Apartness` (raw items that are set apart),
-//! `Forming` (trees by their forms).
+//! The first tokens of something, and what is seen there, are `gram_build`'s. `specs/Changes` has what is changed in a
+//! kind's parts, `specs/Parted` how turns are made of those that are in normal form. In `proofs/`: `Heads` (the first
+//! tokens of what is joined), `Firsts` (whether a parenthesis stands first), `Edges` (what stands on the edges of an
+//! expression), `Lists` (lifetimes in front of others), `Tidying` (kinds of which nothing is removed), `Apartness` (raw
+//! items that are set apart), `Forming` (trees by their forms).
 //!
 //! - `normal`: the normal form, and putting its tokens.
 //! - `fault`: why there is none.
-//! - `head`, `first`: the first tokens of something, and of a tree.
-//! - `sight`: what is seen there.
+//! - `first`: the first tokens of a tree.
+//! - `sight`: whether a group in parentheses stands first.
 //! - `stays`: whether an operand stays as it is.
 //! - `paren`: forms of operands in normal form.
 //! - `bare`: of what nothing is written.
@@ -30,7 +30,6 @@ mod apart;
 mod bare;
 pub mod fault;
 mod first;
-mod head;
 mod lifetime;
 pub mod normal;
 mod paren;
