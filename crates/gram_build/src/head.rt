@@ -12,7 +12,7 @@ use proc_macro2::delimiter::Delimiter;
 
 /// The first tokens of something, at most three.
 #[derive(Clone, Copy)]
-pub(crate) enum Head<'a> {
+pub enum Head<'a> {
     /// There are none.
     Empty,
     /// There is one.
@@ -72,9 +72,9 @@ fn behind_two<'a>(first: Piece<'a>, second: Piece<'a>, others: Head<'a>) -> Head
     }
 }
 
-/// The first tokens of one thing and another behind it.
+/// The first tokens of one thing and another behind it, of the first tokens of each.
 #[tactic(auto, using(crate::proofs::Heads::front_head))]
-pub(crate) fn joined<'a>(front: Head<'a>, back: Head<'a>) -> Head<'a>
+pub fn joined<'a>(front: Head<'a>, back: Head<'a>) -> Head<'a>
     ensures { head_tokens result ≡ front3 (head_tokens front.entry ++ head_tokens back.entry) }
 {
     match front {

@@ -24,8 +24,8 @@
 pub mod build;
 mod dots;
 mod facts;
-mod head;
+pub mod head;
 mod operand;
 mod rope;
-mod sight;
-mod stays;
+pub mod sight;
+pub mod stays;

@@ -344,8 +344,10 @@ fn takes_next(position: Position, kind: Kind, head: Head<'_>) -> bool
 }
 
 /// Whether a form that has no operand behind it would take what follows for one, or a path braces for a struct's.
+///
+/// Taken are the position and the kind of the form, and the first tokens of what follows it.
 #[tactic(auto, using(crate::proofs::Begins::takes_so))]
-pub(crate) fn takes_what_follows(position: Position, kind: Kind, head: Head<'_>) -> bool
+pub fn takes_what_follows(position: Position, kind: Kind, head: Head<'_>) -> bool
     ensures { (ts : List Token) → head_tokens head.entry ≡ front3 ts
         → result ≡ takes_what_follows (position_of position) (kind_of kind) ts }
 {
@@ -390,8 +392,10 @@ fn is_taken_next(position: Position, kind: Kind, labelled: bool, head: Head<'_>)
 }
 
 /// Whether a form takes what is written behind it for its operand.
+///
+/// Taken are the position and the kind of the form, whether it has a label, and the first tokens of the operand.
 #[tactic(auto, using(crate::proofs::Begins::taken_so))]
-pub(crate) fn is_taken(position: Position, kind: Kind, labelled: bool, head: Head<'_>) -> bool
+pub fn is_taken(position: Position, kind: Kind, labelled: bool, head: Head<'_>) -> bool
     ensures { (y : Tree) (ts : List Token) → labelled ≡ has the_label y → head_tokens head.entry ≡ front3 ts
         → result ≡ (not (may_lack (kind_of kind)) || (has_right (position_of position) (kind_of kind) ts
         && not (is_label (kind_of kind) y ts))) }
@@ -401,7 +405,7 @@ pub(crate) fn is_taken(position: Position, kind: Kind, labelled: bool, head: Hea
 
 /// Whether a `<` stands there that begins no `<=`.
 #[tactic(auto, using(crate::proofs::Begins::lesser_so))]
-pub(crate) fn begins_lesser(head: Head<'_>) -> bool
+pub fn begins_lesser(head: Head<'_>) -> bool
     ensures { (ts : List Token) → head_tokens head.entry ≡ front3 ts
         → result ≡ sees (no (marks "<=") then marks "<") ts }
 {
@@ -409,8 +413,10 @@ pub(crate) fn begins_lesser(head: Head<'_>) -> bool
 }
 
 /// What follows an operand before something: that, but for a struct's braces.
+///
+/// Taken are the first tokens of that, and given are the first tokens of what follows.
 #[tactic(auto, using(crate::proofs::Begins::follow_so))]
-pub(crate) fn follow<'a>(head: Head<'a>) -> Head<'a>
+pub fn follow<'a>(head: Head<'a>) -> Head<'a>
     ensures { (ts : List Token) → head_tokens head.entry ≡ front3 ts
         → head_tokens result ≡ front3 (follow ts) }
 {

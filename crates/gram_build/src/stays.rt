@@ -50,8 +50,8 @@ pub(crate) fn stays_right(
         && (is_taken(position, kind, labelled, head) && !is_attributed_range(kind, facts))
 }
 
-// Whether a form of the kind is a struct behind its path.
-fn is_struct(kind: Kind) -> bool
+/// Whether a form of the kind is a struct behind its path.
+pub fn is_struct(kind: Kind) -> bool
     ensures { result ≡ is_struct (kind_of kind) }
 {
     match kind {
@@ -156,7 +156,7 @@ pub(crate) fn stays_left(position: Position, kind: Kind, own: Head<'_>, facts: F
 }
 
 /// Whether a form of the kind stands where its position has it: a let begins no statement.
-pub(crate) fn begins_in(position: Position, kind: Kind) -> bool
+pub fn begins_in(position: Position, kind: Kind) -> bool
     ensures { result ≡ begins_in (position_of position) (kind_of kind) }
 {
     match position {
@@ -171,7 +171,7 @@ pub(crate) fn begins_in(position: Position, kind: Kind) -> bool
 }
 
 /// The same of a form with an operand before it: a struct stands in no condition.
-pub(crate) fn stands_in(position: Position, kind: Kind) -> bool
+pub fn stands_in(position: Position, kind: Kind) -> bool
     ensures { result ≡ stands_in (position_of position) (kind_of kind) }
 {
     match position {
@@ -202,9 +202,9 @@ fn is_name(piece: &Piece<'_>) -> bool
     }
 }
 
-// Whether some tokens end in a name that takes arguments.
+/// Whether some tokens end in a name that takes arguments.
 #[tactic(auto, using(crate::proofs::Lasts::names))]
-fn ends_in_name(pieces: &[Piece<'_>]) -> bool
+pub fn ends_in_name(pieces: &[Piece<'_>]) -> bool
     ensures { result ≡ ends_in_name (map piece_token pieces.now) }
 {
     let Some((first, rest)) = pieces.split_first() else {

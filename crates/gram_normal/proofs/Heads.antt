@@ -8,18 +8,11 @@ use Rattle.gram_tree.specs.declared.tree.Element.{Element}
 use Rattle.gram_tree.specs.Forms.{elements, turns}
 use Rattle.gram_tree.specs.Size.{node_count}
 use Rattle.gram_build.specs.Begins.{front3}
-use Rattle.gram_build.proofs.Heads.{fronts_enclosed, fronts_join, one_closed}
+use Rattle.gram_build.specs.Heads.{head_tokens}
+use Rattle.gram_build.specs.declared.head.Head.{Head}
+use Rattle.gram_build.specs.declared.head.Head.TheVariants as heads
+use Rattle.gram_build.proofs.Heads.{front_head, fronts_enclosed, fronts_join, one_closed}
 use Rattle.gram_write.proofs.Flat.{flat_elements, flat_seconds}
-use Rattle.gram_normal.specs.declared.head.Head.{Head}
-use Rattle.gram_normal.specs.declared.head.Head.TheVariants as heads
-use Rattle.gram_normal.specs.Heads.{head_tokens}
-
--- the first of first ones
-pub front_head : (h : Head) → head_tokens h ≡ front3 (head_tokens h)
-front_head heads.Empty = refl
-front_head (heads.One a) = refl
-front_head (heads.Two a b) = refl
-front_head (heads.Three a b c) = refl
 
 -- behind and before first ones
 front_before : (ts us : List Token) → front3 (ts ++ us) ≡ front3 (front3 ts ++ us)

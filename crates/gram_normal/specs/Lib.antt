@@ -1,4 +1,3 @@
-pub mod Heads
 pub mod Changes
 pub mod Parted
 pub mod Peeled

@@ -1,23 +1,24 @@
 //! The first tokens of a tree.
 
 ghost use Rattle.gram_build.specs.Begins.{front3};
-ghost use Rattle.gram_normal.specs.Heads.{head_tokens};
+ghost use Rattle.gram_build.specs.Heads.{head_tokens};
 ghost use Rattle.gram_piece.specs.Pieces.{piece_token};
 ghost use Rattle.gram_table.specs.Ops.{separator_of};
 ghost use Rattle.gram_table.specs.Words.{sign_text};
 ghost use Rattle.gram_tree.specs.Forms.{elements, ending, mark_of, turns};
-ghost use Rattle.proc_macro2.specs.Token.{Punct};
+ghost use Rattle.proc_macro2.specs.Token.{Closes, Opens, Punct};
 ghost use Rattle.rust_leaf.specs.declared.punct.Spacing.TheVariants.{Joint};
-ghost use Rattle.std.specs.Prelude.{◌++◌, ◌≡◌, map};
+ghost use Rattle.std.specs.Prelude.{[], ◌++◌, ◌∷◌, ◌≡◌, map};
 ghost use Rattle.syn_buffer.specs.Entries.{entry_token};
 ghost use Rattle.syn_grammar.specs.Tree as t;
 ghost use Rattle.syn_grammar.specs.Tree.{flat};
 
-use crate::head::{Head, enclosed, joined};
+use gram_build::head::{Head, joined};
 use gram_piece::piece::Piece;
 use gram_table::op::Separator;
 use gram_table::word::Sign;
 use gram_tree::tree::{Element, Form, Separated, Tree};
+use proc_macro2::delimiter::Delimiter;
 use rust_leaf::punct::Spacing;
 use syn_buffer::entry::Entry;
 
@@ -61,6 +62,14 @@ fn separator<'a>(separator: Separator, spacing: Spacing) -> Piece<'a>
         Separator::Comma => Piece::Mark(',', spacing),
         Separator::Plus => Piece::Mark('+', spacing),
     }
+}
+
+// The first tokens of a group.
+fn enclosed<'a>(delimiter: Delimiter, inside: Head<'a>) -> Head<'a>
+    ensures { head_tokens result ≡ front3 (Opens delimiter ∷ (head_tokens inside.entry ++ Closes delimiter ∷ [])) }
+{
+    let closed = joined(inside, Head::One(Piece::Close(delimiter)));
+    joined(Head::One(Piece::Open(delimiter)), closed)
 }
 
 // The first tokens of something and a tree behind it.

@@ -11,9 +11,9 @@
 //! What a syntax tree holds of a tree is made before that where tokens are put: `kept` makes it as the written grammar
 //! says it (`syn_grammar`'s `Kept`), each function by a word of the definition too.
 //!
-//! `specs/Heads` has the first tokens, `specs/Changes` what is changed in a kind's parts, `specs/Parted` how turns are
-//! made of those that are in normal form, `specs/Peeled` and `specs/Held` what is taken out of a tree and how lists are
-//! held. In `proofs/`: `Heads` (the first tokens of what is joined), `Firsts`
+//! The first tokens of something, and what is seen there, are `gram_build`'s. `specs/Changes` has what is changed in a
+//! kind's parts, `specs/Parted` how turns are made of those that are in normal form, `specs/Peeled` and `specs/Held` what
+//! is taken out of a tree and how lists are held. In `proofs/`: `Heads` (the first tokens of what is joined), `Firsts`
 //! (whether a parenthesis stands first), `Edges` (what stands on the edges of an expression), `Lists` (lifetimes in
 //! front of others), `Tidying` (kinds of which nothing is removed), `Apartness` (raw items that are set apart),
 //! `Forming` (trees by their forms), `Peeling` (what is taken out of a tree), `Forgetting` (what a kind holds), `Giving`
@@ -22,8 +22,8 @@
 //!
 //! - `normal`: the normal form, and putting its tokens.
 //! - `fault`: why there is none.
-//! - `head`, `first`: the first tokens of something, and of a tree.
-//! - `sight`: what is seen there.
+//! - `first`: the first tokens of a tree.
+//! - `sight`: whether a group in parentheses stands first.
 //! - `stays`: whether an operand stays as it is.
 //! - `paren`: forms of operands in normal form.
 //! - `bare`: of what nothing is written.
@@ -45,7 +45,6 @@ pub mod fault;
 mod fields;
 mod first;
 mod forget;
-mod head;
 mod kept;
 mod lifetime;
 pub mod normal;

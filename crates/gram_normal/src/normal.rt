@@ -1,7 +1,7 @@
 //! The normal form of a tree.
 
 ghost use Rattle.gram_build.specs.Begins.{front3};
-ghost use Rattle.gram_normal.specs.Heads.{head_tokens};
+ghost use Rattle.gram_build.specs.Heads.{head_tokens};
 ghost use Rattle.gram_normal.specs.Parted.{element_in};
 ghost use Rattle.gram_piece.specs.Pieces.{piece_token};
 ghost use Rattle.gram_table.specs.Kinds.{kind_of, position_of};
@@ -19,11 +19,11 @@ ghost use Rattle.syn_grammar.specs.Tree.{flat};
 use crate::apart::put_parted;
 use crate::fault::Fault;
 use crate::first::first;
-use crate::head::Head;
 use crate::kept::kept;
 use crate::paren;
-use crate::sight::follow;
 use crate::tidy::tidy;
+use gram_build::head::Head;
+use gram_build::sight::follow;
 use gram_judge::level::inside;
 use gram_piece::piece::Piece;
 use gram_table::kind::{Kind, Position};

@@ -1,15 +1,16 @@
 //! Forms of operands in normal form, which are put in parentheses where they need them.
 
 ghost use Rattle.gram_build.specs.Begins.{front3};
-ghost use Rattle.gram_normal.specs.Heads.{head_tokens};
+ghost use Rattle.gram_build.specs.Heads.{head_tokens};
 ghost use Rattle.gram_table.specs.Kinds.{kind_of, position_of};
 ghost use Rattle.proc_macro2.specs.Token.{Token};
 ghost use Rattle.std.specs.Prelude.{◌≡◌, IfOk, List};
 ghost use Rattle.syn_grammar.specs.Parens as p;
 
-use crate::head::Head;
-use crate::sight::takes_what_follows;
-use crate::stays::{begins_in, stands_in, stays_left, stays_right};
+use crate::stays::{stays_left, stays_right};
+use gram_build::head::Head;
+use gram_build::sight::takes_what_follows;
+use gram_build::stays::{begins_in, stands_in};
 use gram_table::kind::{Kind, Position};
 use gram_table::op::Separator;
 use gram_tree::arena::Arena;

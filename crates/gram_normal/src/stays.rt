@@ -2,24 +2,21 @@
 
 ghost use Rattle.gram_table.specs.Kinds.{kind_of, position_of};
 ghost use Rattle.proc_macro2.specs.Token.{Token};
-ghost use Rattle.std.specs.Prelude.{[], ◌&&◌, ◌∷◌, ◌≡◌, IfOk, List, map};
+ghost use Rattle.std.specs.Prelude.{◌&&◌, ◌≡◌, IfOk, List};
 ghost use Rattle.syn_grammar.specs.Kind as k;
 ghost use Rattle.syn_grammar.specs.Forms.{may_be_left, takes, within};
 ghost use Rattle.syn_grammar.specs.Forms as forms;
 ghost use Rattle.syn_grammar.specs.Parens as p;
-ghost use Rattle.syn_grammar.specs.Parens.{ends_in_name, is_struct};
+ghost use Rattle.syn_grammar.specs.Parens.{ends_in_name};
 ghost use Rattle.syn_grammar.specs.Tree.{flat};
-ghost use Rattle.gram_piece.specs.Pieces.{piece_token};
 
 use crate::first::first;
-use crate::sight::{begins_lesser, is_taken};
+use gram_build::sight::{begins_lesser, is_taken};
+use gram_build::stays::{ends_in_name, is_struct};
 use gram_judge::left::{chains, is_range, may_be_left, stands_left};
 use gram_judge::level::{level, takes};
-use gram_look::leaf::word;
-use gram_piece::piece::Piece;
 use gram_table::kind::{Kind, Position};
 use gram_table::part::Part;
-use gram_table::word::Words;
 use gram_tree::tree::{Form, Tree};
 use gram_write::as_read::put_as_read;
 use std::alloc::{AllocError, Global};
@@ -60,32 +57,6 @@ pub(crate) fn stays_right(
     within(level(kind), operand)
         && (is_taken(position, kind, own.has(Part::Label), first(operand))
             && !is_attributed_range(kind, operand))
-}
-
-// Whether it is a name that takes arguments.
-#[tactic(auto, using(gram_build::proofs::Lasts::names))]
-fn is_name(piece: &Piece<'_>) -> bool
-    ensures { result ≡ ends_in_name (piece_token piece.now ∷ []) }
-{
-    match piece {
-        Piece::Ident(ident) => word(Words::Name, ident) && !word(Words::PathKeyword, ident),
-        _ => false,
-    }
-}
-
-// Whether some tokens end in a name that takes arguments.
-#[tactic(auto, using(gram_build::proofs::Lasts::names))]
-fn ends_in_name(pieces: &[Piece<'_>]) -> bool
-    ensures { result ≡ ends_in_name (map piece_token pieces.now) }
-{
-    let Some((first, rest)) = pieces.split_first() else {
-        return false;
-    };
-    if rest.is_empty() {
-        is_name(first)
-    } else {
-        ends_in_name(rest)
-    }
 }
 
 // Whether a type ends in a name that takes arguments.
@@ -175,16 +146,6 @@ fn is_ended(alloc: Global, kind: Kind, own: &Tree<'_>, tree: &Tree<'_>) -> Resul
     }
 }
 
-// Whether a form of the kind is a struct behind its path.
-pub(crate) fn is_struct(kind: Kind) -> bool
-    ensures { result ≡ is_struct (kind_of kind) }
-{
-    match kind {
-        Kind::ExprStruct => true,
-        _ => false,
-    }
-}
-
 /// Whether an operand before a form stays as it is.
 ///
 /// # Errors
@@ -209,31 +170,4 @@ pub(crate) fn stays_left(
         return Ok(false);
     }
     is_ended(alloc, kind, own, operand)
-}
-
-/// Whether a form of the kind stands where its position has it: a let begins no statement.
-pub(crate) fn begins_in(position: Position, kind: Kind) -> bool
-    ensures { result ≡ p.begins_in (position_of position) (kind_of kind) }
-{
-    match position {
-        Position::InStatement => match kind {
-            Kind::ExprLet => false,
-            _ => true,
-        },
-        Position::Plain => true,
-        Position::InCondition => true,
-        Position::InArm => true,
-    }
-}
-
-/// The same of a form with an operand before it: a struct stands in no condition.
-pub(crate) fn stands_in(position: Position, kind: Kind) -> bool
-    ensures { result ≡ p.stands_in (position_of position) (kind_of kind) }
-{
-    match position {
-        Position::InCondition => !is_struct(kind),
-        Position::Plain => true,
-        Position::InArm => true,
-        Position::InStatement => true,
-    }
 }
