@@ -24,7 +24,7 @@ mod shape;
 mod tables;
 mod text;
 
-use crate::judged::judged;
+use crate::judged::{Finding, judged};
 use anyhow::{Result, anyhow};
 use rows::{Row, Table, answered, write};
 use std::alloc::Global;
@@ -47,12 +47,17 @@ fn position_of(name: &str) -> Option<Position> {
 impl Table for Rows {
     fn answer(&self, alloc: Global, row: &Row) -> Result<String> {
         let position = position_of(row.call).ok_or(anyhow!("no such position"))?;
-        let finding = judged(alloc, row.text.as_str(), &[position])?;
-        if let Some(wrong) = finding.wrong {
+        let Finding {
+            printed,
+            other,
+            wrong,
+            ..
+        } = judged(alloc, row.text.as_str(), &[position])?;
+        if let Some(wrong) = wrong {
             return Ok(wrong);
         }
-        let mut said = write(alloc, finding.printed.as_str())?;
-        if let Some(other) = finding.other {
+        let mut said = write(alloc, printed.as_str())?;
+        if let Some(other) = other {
             said.push_str(", with own parts as they are ")?;
             said.push_str(write(alloc, other.as_str())?.as_str())?;
         }

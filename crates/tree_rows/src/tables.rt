@@ -1,7 +1,7 @@
 //! Each form in each.
 
 use crate::forms::{ALONE, AROUND, BACKS, BRACES, FRONTS, INSIDE, OPERATORS, PATHS, PLACES};
-use crate::judged::{judged, kept};
+use crate::judged::{Finding, judged, kept};
 use anyhow::Result;
 use std::alloc::Global;
 use syn::Position;
@@ -50,11 +50,19 @@ impl Tally {
 
     // One tree more.
     fn put(&mut self, alloc: Global, text: &str) -> Result<()> {
-        let finding = judged(alloc, text, POSITIONS.as_slice())?;
+        let Finding {
+            other,
+            gaining,
+            wrong,
+            ..
+        } = judged(alloc, text, POSITIONS.as_slice())?;
         self.trees = self.trees.saturating_add(1);
-        self.gaining = self.gaining.saturating_add(finding.gaining);
-        match finding.wrong.or(finding.other) {
-            Some(wrong) => self.put_wrong(wrong.as_str()),
+        self.gaining = self.gaining.saturating_add(gaining);
+        if let Some(wrong) = wrong {
+            return self.put_wrong(wrong.as_str());
+        }
+        match other {
+            Some(other) => self.put_wrong(other.as_str()),
             None => Ok(()),
         }
     }
