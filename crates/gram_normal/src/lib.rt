@@ -26,7 +26,6 @@
 //! - `sight`: whether a group in parentheses stands first.
 //! - `stays`: whether an operand stays as it is.
 //! - `paren`: forms of operands in normal form.
-//! - `bare`: of what nothing is written.
 //! - `lifetime`: lists in which lifetimes come first.
 //! - `tidy`: what is made of a kind's parts.
 //! - `apart`: raw items among statements that are set apart.
@@ -40,7 +39,6 @@
 #![tactic(auto)]
 
 mod apart;
-mod bare;
 pub mod fault;
 mod fields;
 mod first;

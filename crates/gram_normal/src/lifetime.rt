@@ -4,15 +4,17 @@ ghost use Rattle.gram_normal.specs.Changes.{others_in, passes, those_in};
 ghost use Rattle.gram_table.specs.Ops.{separator_of};
 ghost use Rattle.gram_tree.specs.Forms.{elements, ending};
 ghost use Rattle.std.specs.Prelude.{◌++◌, ◌≡◌, IfOk, OnOk, true};
-ghost use Rattle.syn_grammar.specs.Tidy.{lifetimes_first};
+ghost use Rattle.syn_grammar.specs.Tidy.{is_lifetime_argument, lifetimes_first};
 ghost use Rattle.syn_grammar.specs.Tree as t;
 
-use crate::bare::{is_lifetime_argument, is_lifetime_param};
 use crate::fault::Fault;
+use gram_table::kind::Kind;
 use gram_table::op::Separator;
+use gram_table::part::Part;
 use gram_tree::arena::Arena;
 use gram_tree::made;
 use gram_tree::tree::{Element, Form, Separated, Tree};
+use gram_write::seen::is_lifetime_param;
 use rust_leaf::punct::Spacing;
 use std::alloc::AllocError;
 
@@ -23,6 +25,19 @@ pub(crate) enum Which {
     Params,
     /// Arguments.
     Arguments,
+}
+
+// Whether an argument is a lifetime.
+fn is_lifetime_argument(tree: &Tree<'_>) -> bool
+    ensures { result ≡ is_lifetime_argument tree.now }
+{
+    match tree.node() {
+        Some((kind, inner)) => match kind {
+            Kind::AnArgument => inner.has(Part::Lifetime),
+            _ => false,
+        },
+        None => false,
+    }
 }
 
 // Whether an element is a lifetime.

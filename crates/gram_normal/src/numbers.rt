@@ -1,69 +1,26 @@
 //! Numbers as they are held: in plain decimal, and behind a dot split at their dots.
 
-ghost use Rattle.gram_look.specs.Texts.{IsFrom};
 ghost use Rattle.std.specs.Fmt.{decimal};
-ghost use Rattle.std.specs.Prelude.{◌≡◌, ◌≤◌, IfOk, length};
+ghost use Rattle.std.specs.Prelude.{◌≡◌, IfOk};
 ghost use Rattle.std.specs.Str.{chars};
 ghost use Rattle.syn_grammar.specs.Kept.{index_fields, lone_dot};
 ghost use Rattle.syn_grammar.specs.Kind.{ExprField};
 ghost use Rattle.syn_grammar.specs.Name.{the_indices, the_value};
 ghost use Rattle.syn_grammar.specs.Tree as t;
-ghost use Rattle.syn_grammar.specs.Words.{before_dot, indices, integer, or_zero, plain_decimal};
+ghost use Rattle.syn_grammar.specs.Words.{indices, plain_decimal};
 
-use gram_look::text::{first_char, integer};
+use gram_look::text::first_char;
 use gram_table::kind::Kind;
 use gram_table::part::Part;
 use gram_table::word::Sign;
 use gram_tree::arena::Arena;
 use gram_tree::made;
 use gram_tree::tree::Tree;
+use gram_write::fields::{index, whole_index};
 use rust_leaf::literal::Literal;
 use rust_leaf::punct::Spacing;
 use rust_map::span::Span;
 use std::alloc::AllocError;
-
-// What is left of a text from its first dot on, or its end.
-#[tactic(auto, using(gram_write::proofs::Indices::from_dots))]
-fn from_dot(text: &str) -> &str
-    ensures left { IsFrom (chars text.now) (chars result.now) }
-    ensures shorter { length result.now ≤ length text.now }
-{
-    let mut rest = text;
-    while let Some((character, behind)) = first_char(rest) {
-        if character == '.' {
-            return rest;
-        }
-        rest = behind;
-    }
-    rest
-}
-
-// The index that stands up to the first dot, 0 where none does; and what is left from that dot on.
-#[tactic(auto, using(gram_write::proofs::Indices::value_some, gram_write::proofs::Indices::value_none))]
-fn index(text: &str) -> (u32, &str)
-    ensures value { result.0 ≡ or_zero (integer (before_dot (chars text.now))) }
-    ensures left { IsFrom (chars text.now) (chars result.1.now) }
-    ensures shorter { length result.1.now ≤ length text.now }
-{
-    match integer(text) {
-        Some((value, left)) => (value, left),
-        None => (0, from_dot(text)),
-    }
-}
-
-// The index that a whole text is, 0 where it is none.
-#[tactic(auto, using(gram_write::proofs::Indices::wholes))]
-fn whole_index(text: &str) -> u32
-    ensures { result ≡ or_zero (integer (chars text.now)) }
-{
-    match integer(text) {
-        Some((value, left)) => match first_char(left) {
-            None => value,
-            Some(_) => 0,
-        },
-        None => 0,
-    }
-}
 
 // A number, in plain decimal.
 fn number<'a>(arena: &'a Arena, value: u32) -> Result<Tree<'a>, AllocError>

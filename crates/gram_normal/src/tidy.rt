@@ -10,7 +10,6 @@ ghost use Rattle.syn_grammar.specs.Part.{changed};
 ghost use Rattle.syn_grammar.specs.Tidy.{is_absent, moved, tidy, tidy_impl, without_generics};
 ghost use Rattle.syn_grammar.specs.Tree as t;
 
-use crate::bare::{is_bare_colon, is_bare_generics, is_bare_where, keeps_generics};
 use crate::fault::Fault;
 use crate::forget::{constant_default, not_last};
 use crate::lifetime::{Which, lifetimes_first};
@@ -19,6 +18,7 @@ use gram_table::part::Part;
 use gram_tree::arena::Arena;
 use gram_tree::made;
 use gram_tree::tree::{Form, Tree};
+use gram_write::seen::{is_bare_colon, is_bare_generics, is_bare_where, keeps_generics};
 use std::alloc::AllocError;
 
 // Nothing in the place of a part, where it is removed.

@@ -37,9 +37,9 @@ fn from_dot(text: &str) -> &str
     rest
 }
 
-// The index that stands up to the first dot, 0 where none does; and what is left from that dot on.
+/// The index that stands up to the first dot, 0 where none does; and what is left from that dot on.
 #[tactic(auto, using(crate::proofs::Indices::value_some, crate::proofs::Indices::value_none))]
-fn index(text: &str) -> (u32, &str)
+pub fn index(text: &str) -> (u32, &str)
     ensures value { result.0 ≡ or_zero (integer (before_dot (chars text.now))) }
     ensures left { IsFrom (chars text.now) (chars result.1.now) }
     ensures shorter { length result.1.now ≤ length text.now }
@@ -50,9 +50,9 @@ fn index(text: &str) -> (u32, &str)
     }
 }
 
-// The index that a whole text is, 0 where it is none.
+/// The index that a whole text is, 0 where it is none.
 #[tactic(auto, using(crate::proofs::Indices::wholes))]
-fn whole_index(text: &str) -> u32
+pub fn whole_index(text: &str) -> u32
     ensures { result ≡ or_zero (integer (chars text.now)) }
 {
     match integer(text) {

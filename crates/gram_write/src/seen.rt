@@ -80,7 +80,7 @@ fn is_bare_clause(tree: &Tree<'_>) -> bool
 }
 
 /// Whether of a where clause nothing is written: it has no predicate.
-pub(crate) fn is_bare_where(inner: &Tree<'_>) -> bool
+pub fn is_bare_where(inner: &Tree<'_>) -> bool
     ensures { result ≡ is_bare_where inner.now }
 {
     match inner.the(Part::Clause) {
@@ -104,7 +104,7 @@ fn is_bare_params(tree: &Tree<'_>) -> bool
 }
 
 /// Whether of generics nothing is written: they have no parameter.
-pub(crate) fn is_bare_generics(inner: &Tree<'_>) -> bool
+pub fn is_bare_generics(inner: &Tree<'_>) -> bool
     ensures { result ≡ is_bare_generics inner.now }
 {
     match inner.the(Part::Parameters) {
@@ -129,7 +129,7 @@ fn is_bare_bounds(tree: &Tree<'_>) -> bool
 }
 
 /// Whether of a colon nothing is written: no bound stands behind it.
-pub(crate) fn is_bare_colon(inner: &Tree<'_>) -> bool
+pub fn is_bare_colon(inner: &Tree<'_>) -> bool
     ensures { result ≡ is_bare_colon inner.now }
 {
     match inner.the(Part::Bounds) {
@@ -139,7 +139,7 @@ pub(crate) fn is_bare_colon(inner: &Tree<'_>) -> bool
 }
 
 /// Whether a generic parameter is a lifetime.
-pub(crate) fn is_lifetime_param(tree: &Tree<'_>) -> bool
+pub fn is_lifetime_param(tree: &Tree<'_>) -> bool
     ensures { result ≡ is_lifetime_param tree.now }
 {
     match tree.node() {
@@ -406,7 +406,7 @@ fn begins_bracketed(tree: &Tree<'_>) -> bool
 }
 
 /// Whether an impl keeps its generics, also where they have no parameter: without them its type would begin with some.
-pub(crate) fn keeps_generics(inner: &Tree<'_>) -> bool
+pub fn keeps_generics(inner: &Tree<'_>) -> bool
     ensures { result ≡ keeps_generics inner.now }
 {
     if inner.has(Part::Polarity) || inner.has(Part::SelfType) {

@@ -5,7 +5,7 @@ use Rattle.gram_tree.specs.Shapes.{node_of}
 use Rattle.syn_grammar.specs.Tidy.{is_lifetime_argument}
 use Rattle.gram_write.proofs.OffKinds.{in_node}
 use Rattle.gram_normal.proofs.Tidying.{argument_off}
-use Rattle.gram_normal.proofs.bare.is_lifetime_argument.Goals as goal
+use Rattle.gram_normal.proofs.lifetime.is_lifetime_argument.Goals as goal
 
 pub returns-in_default : goal.returns-in_default
 returns-in_default c =
