@@ -14,18 +14,20 @@
 //! - `tokens`: tokens that are to be written, as a stream of trees.
 //! - `leaf`: the leaves of a tree, in their order, each with where it stands but marks between elements.
 //! - `node`: its nodes and the forms of its expressions, at every depth.
-//! - `typed`: forms that are read as a type of the syntax tree; `forms`: the types that are.
+//! - `typed`: forms that are read as a type of the syntax tree; `forms`, `type_forms`, `parts`: the types that are.
 #![tactic(auto)]
 
 mod forms;
 pub mod leaf;
 pub mod node;
 pub mod parse;
+mod parts;
 pub mod peek;
 pub mod reader;
 mod reading;
 pub mod stream;
 pub mod tokens;
+mod type_forms;
 pub mod typed;
 
 pub use gram_build::build::write_in;
