@@ -1,0 +1,128 @@
+-- Types and patterns of their forms have that form, and the shape of their entry where the form has it.
+use Rattle.std.specs.Prelude.{◌≡◌, IfOk, Option, Some, None, Result, refl}
+use Rattle.std.proofs.Common.{◌∙◌, ap, subst, sym}
+use Rattle.std.proofs.lemmas.Result.{IfOk-weaker}
+use Rattle.syn_ast.specs.Pat.{form_of_pat, pat_tree}
+use Rattle.syn_ast.specs.Shape.{IsShaped}
+use Rattle.syn_ast.specs.Types.{form_of_type, type_tree}
+use Rattle.syn_ast.specs.declared.pat.Pat.{Pat}
+use Rattle.syn_ast.specs.declared.patterns.PatOr.{PatOr}
+use Rattle.syn_ast.specs.declared.patterns.RangeBound.{RangeBound}
+use Rattle.syn_ast.specs.declared.types.«Type».{«Type» as Type'}
+use Rattle.syn_ast.specs.declared.pat.Pat.TheVariants as pats
+use Rattle.syn_ast.specs.declared.patterns.RangeBound.TheVariants as bounds
+use Rattle.syn_ast.specs.declared.types.«Type».TheVariants as types
+use Rattle.syn_grammar.specs.Gram as g
+use Rattle.syn_grammar.specs.Kind as k
+use Rattle.syn_grammar.specs.Part.{choice}
+use Rattle.syn_grammar.specs.Patterns.{one_pattern}
+use Rattle.syn_grammar.specs.Table.{table}
+use Rattle.syn_grammar.specs.Tree as t
+use Rattle.syn_grammar.specs.Tree.{Tree}
+use Rattle.syn_grammar.specs.Types.{type_entry}
+use Rattle.syn_made.specs.AstWhole.{one_form_of, one_inside, one_pattern_tree, pat_kind, pattern_form_of}
+use Rattle.syn_made.specs.AstWhole.{pattern_tree, range_inside_one, range_kind, several_form_of, several_tree}
+use Rattle.syn_made.specs.AstWhole.{type_inside, type_kind}
+
+pub type_form : (p : k.Plus) (x : Type') → form_of_type (t.Node (k.AType p) (type_inside x)) ≡ type_tree x
+type_form p (types.Array x) = refl
+type_form p (types.FnPtr x) = refl
+type_form p (types.ImplTrait x) = refl
+type_form p (types.Infer x) = refl
+type_form p (types.Never x) = refl
+type_form p (types.Paren x) = refl
+type_form p (types.Path x) = refl
+type_form p (types.Ptr x) = refl
+type_form p (types.Reference x) = refl
+type_form p (types.Slice x) = refl
+type_form p (types.TraitObject x) = refl
+type_form p (types.Tuple x) = refl
+
+inside_shaped : (p : k.Plus) (x : Type') → IsShaped (type_tree x) (g.ref (type_kind p x))
+    → IsShaped (type_inside x) (type_entry p)
+inside_shaped p (types.Array x) h = h
+inside_shaped p (types.FnPtr x) h = h
+inside_shaped p (types.ImplTrait x) h = h
+inside_shaped p (types.Infer x) h = h
+inside_shaped p (types.Never x) h = h
+inside_shaped p (types.Paren x) h = h
+inside_shaped p (types.Path x) h = h
+inside_shaped p (types.Ptr x) h = h
+inside_shaped p (types.Reference x) h = h
+inside_shaped p (types.Slice x) h = h
+inside_shaped p (types.TraitObject x) h = h
+inside_shaped p (types.Tuple x) h = h
+
+pub type_shaped : (p : k.Plus) (x : Type') → IsShaped (type_tree x) (g.ref (type_kind p x))
+    → IsShaped (t.Node (k.AType p) (type_inside x)) (g.ref (k.AType p))
+unfolding table
+type_shaped p x h = (refl, inside_shaped p x h)
+
+range_choice : (o : Option RangeBound) (x : Tree) → choice (range_inside_one o x) ≡ choice x
+range_choice None x = refl
+range_choice (Some (bounds.Lit l)) x = refl
+range_choice (Some (bounds.Path p)) x = refl
+
+pub one_form_is : (x : Pat) → form_of_pat (one_pattern_tree x) ≡ one_form_of x
+one_form_is (pats.Range x) = range_choice x.start (pat_tree (pats.Range x))
+one_form_is x = refl
+
+pub pattern_form_is : (x : Pat) → form_of_pat (pattern_tree x) ≡ pattern_form_of x
+pattern_form_is (pats.Range x) = range_choice x.start (pat_tree (pats.Range x))
+pattern_form_is x = refl
+
+pub several_form_is : (x : Pat) → form_of_pat (several_tree x) ≡ several_form_of x
+several_form_is (pats.Range x) = range_choice x.start (pat_tree (pats.Range x))
+several_form_is x = refl
+
+range_shaped : (o : Option RangeBound) (x : Tree) → IsShaped x (g.ref (range_kind o))
+    → IsShaped (range_inside_one o x) one_pattern
+range_shaped None x h = h
+range_shaped (Some (bounds.Lit l)) x h = h
+range_shaped (Some (bounds.Path p)) x h = h
+
+one_inside_shaped : (x : Pat) → IsShaped (pat_tree x) (g.ref (pat_kind x)) → IsShaped (one_inside x) one_pattern
+unfolding table
+one_inside_shaped (pats.Range x) h = range_shaped x.start (pat_tree (pats.Range x)) h
+one_inside_shaped (pats.Or x) h = (refl, (refl, h))
+one_inside_shaped x h = h
+
+pub one_shaped : (x : Pat) → IsShaped (pat_tree x) (g.ref (pat_kind x))
+    → IsShaped (one_pattern_tree x) (g.ref k.OnePattern)
+unfolding table
+one_shaped x h = (refl, one_inside_shaped x h)
+
+pub pattern_shaped : (x : Pat) → IsShaped (pat_tree x) (g.ref (pat_kind x))
+    → IsShaped (pattern_tree x) (g.ref k.Pattern)
+unfolding table
+pattern_shaped (pats.Or x) h = h
+pattern_shaped x h = (refl, (tt, (one_shaped x h, tt)))
+
+pub several_shaped : (x : Pat) → IsShaped (pat_tree x) (g.ref (pat_kind x))
+    → IsShaped (several_tree x) (g.ref k.SeveralPatterns)
+unfolding table
+several_shaped (pats.Or x) h = (refl, h.1.1)
+several_shaped x h = (refl, (one_shaped x h, tt))
+
+-- what is no alternatives stands alone
+pub pattern_alone : (x : Pat) → ((y : PatOr) → x ≡ pats.Or y → ⊥)
+    → t.Node k.Pattern (t.Pair (t.Second t.Nil) (t.Pair (one_pattern_tree x) t.End)) ≡ pattern_tree x
+pattern_alone (pats.Or y) d = absurd (d y refl)
+pattern_alone x d = refl
+
+pub several_alone : (x : Pat) → ((y : PatOr) → x ≡ pats.Or y → ⊥)
+    → t.Node k.SeveralPatterns (t.Pair (one_pattern_tree x) t.End) ≡ several_tree x
+several_alone (pats.Or y) d = absurd (d y refl)
+several_alone x d = refl
+
+-- a tree that is this one has its form and its shape
+pub has_form : {E : Type 0} (r : Result Tree E) (x y : Tree) → form_of_pat x ≡ y → IfOk r (λ z. z ≡ x)
+    → IfOk r (λ z. form_of_pat z ≡ y)
+has_form r x y f h = IfOk-weaker r (λ z. z ≡ x) (λ z. form_of_pat z ≡ y) (λ z e. ap form_of_pat e ∙ f) h
+
+pub has_shape : {E : Type 0} (r : Result Tree E) (x : Tree) (l : g.Gram) (P : Type 0) → (P → IsShaped x l)
+    → IfOk r (λ z. z ≡ x) → IfOk r (λ z. P → IsShaped z l)
+has_shape r x l P f h =
+    IfOk-weaker r (λ z. z ≡ x) (λ z. P → IsShaped z l) (λ z e p. subst (λ w. IsShaped w l) (sym e) (f p)) h
+
+pub ruleset types_whole = (type_form, type_shaped)

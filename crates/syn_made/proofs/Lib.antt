@@ -1,0 +1,3 @@
+pub mod AstWhole
+pub mod AmongForms
+pub mod MemberForms

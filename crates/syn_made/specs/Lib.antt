@@ -1,0 +1,4 @@
+pub mod AstWhole
+pub mod MadeWhole
+pub mod MadeAmong
+pub mod MadeMembers

@@ -1,0 +1,78 @@
+//! Attributes as trees.
+
+ghost use Rattle.syn_ast.specs.Attributes.{attribute, inner_attributes, meta, meta_path_tree, outer_attributes};
+
+use crate::forms::{Called, First, Grouped, Node, Second};
+use crate::to_tree::ToTree;
+use gram_table::kind::Kind;
+use gram_table::part::Part;
+use gram_tree::arena::Arena;
+use gram_tree::tree::Tree;
+use std::alloc::AllocError;
+use syn_ast::attributes::{AttrStyle, Attribute, InnerAttributes, Meta, MetaPath, OuterAttributes};
+
+impl<'t, 'a> ToTree<'a> for OuterAttributes<'t, 'a> {
+    ghost tree = { outer_attributes };
+
+    fn to_tree(&self, arena: &'a Arena) -> Result<Tree<'a>, AllocError> {
+        Node(Kind::OuterAttributes, self.attrs).to_tree(arena)
+    }
+}
+
+impl<'t, 'a> ToTree<'a> for InnerAttributes<'t, 'a> {
+    ghost tree = { inner_attributes };
+
+    fn to_tree(&self, arena: &'a Arena) -> Result<Tree<'a>, AllocError> {
+        Node(Kind::InnerAttributes, self.attrs).to_tree(arena)
+    }
+}
+
+impl<'t, 'a> ToTree<'a> for Attribute<'t, 'a> {
+    ghost tree = { attribute };
+
+    fn to_tree(&self, arena: &'a Arena) -> Result<Tree<'a>, AllocError> {
+        let bracketed = Grouped(self.bracket_token, self.meta);
+        match self.style {
+            AttrStyle::Outer => {
+                Node(Kind::OuterAttribute, (self.pound_token, bracketed)).to_tree(arena)
+            }
+            AttrStyle::Inner(not_token) => {
+                let inside = (self.pound_token, not_token, bracketed);
+                Node(Kind::InnerAttribute, inside).to_tree(arena)
+            }
+        }
+    }
+}
+
+impl<'t, 'a> ToTree<'a> for MetaPath<'t, 'a> {
+    ghost tree = { meta_path_tree };
+
+    fn to_tree(&self, arena: &'a Arena) -> Result<Tree<'a>, AllocError> {
+        match *self {
+            MetaPath::Unsafe(word) => First(word).to_tree(arena),
+            MetaPath::Path(path) => Second(path).to_tree(arena),
+        }
+    }
+}
+
+impl<'t, 'a> ToTree<'a> for Meta<'t, 'a> {
+    ghost tree = { meta };
+
+    fn to_tree(&self, arena: &'a Arena) -> Result<Tree<'a>, AllocError> {
+        match *self {
+            Meta::Path(path) => {
+                let inside = (path, Second(Second(())));
+                Node(Kind::Meta, inside).to_tree(arena)
+            }
+            Meta::List(list) => {
+                let inside = (list.path, First(list.delimited));
+                Node(Kind::Meta, inside).to_tree(arena)
+            }
+            Meta::NameValue(pair) => {
+                let value = (pair.eq_token, Second(Called(Part::Value, pair.value)));
+                let inside = (pair.path, Second(First(value)));
+                Node(Kind::Meta, inside).to_tree(arena)
+            }
+        }
+    }
+}

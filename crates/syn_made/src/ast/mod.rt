@@ -1,0 +1,19 @@
+//! The types of `syn_ast` as trees; modules mirror those of `syn_ast`. A value that no form of the grammar is, as a tuple
+//! of one type without a comma, is a tree that no form is.
+//!
+//! - `types`, `bounds`: types.
+//! - `paths`: paths, members and macros.
+//! - `generics`: generics and where clauses.
+//! - `attributes`, `visibility`.
+//! - `patterns`: what patterns are read as; `pat`: patterns by their form.
+//! - `whole`: types and patterns of their forms, for where one stands.
+
+pub mod attributes;
+pub mod bounds;
+pub mod generics;
+pub mod pat;
+pub mod paths;
+pub mod patterns;
+pub mod types;
+pub mod visibility;
+pub mod whole;

@@ -1,0 +1,124 @@
+//! Patterns by their form, as trees.
+
+ghost use Rattle.syn_ast.specs.Pat.{pat_tree, range_form, started};
+ghost use Rattle.syn_ast.specs.Patterns.{range_end};
+ghost use Rattle.syn_ast.specs.declared.pat.Pat.TheVariants as pats;
+ghost use Rattle.syn_grammar.specs.Kind as k;
+ghost use Rattle.syn_grammar.specs.Tree as t;
+
+use crate::forms::{First, Grouped, Node, Second};
+use crate::lists::Only;
+use crate::to_tree::ToTree;
+use gram_table::kind::Kind;
+use gram_tree::arena::Arena;
+use gram_tree::tree::Tree;
+use std::alloc::AllocError;
+use syn_ast::pat::{Pat, PatLit, PatParen, PatPath, PatRange, PatStruct, PatTuple, PatTupleStruct};
+use syn_ast::patterns::{PatRangeTo, PathBehind, RangeBound, RangeEnd};
+
+impl<'a> ToTree<'a> for PatLit<'a> {
+    ghost tree = { λ x. pat_tree (pats.Lit x) };
+
+    fn to_tree(&self, arena: &'a Arena) -> Result<Tree<'a>, AllocError> {
+        let inside = (self.lit, Second(()));
+        Node(Kind::LiteralPattern, inside).to_tree(arena)
+    }
+}
+
+impl<'t, 'a> ToTree<'a> for PatParen<'t, 'a> {
+    ghost tree = { λ x. pat_tree (pats.Paren x) };
+
+    fn to_tree(&self, arena: &'a Arena) -> Result<Tree<'a>, AllocError> {
+        let inside = Grouped(self.paren_token, Only(self.pat));
+        Node(Kind::TuplePattern, inside).to_tree(arena)
+    }
+}
+
+impl<'t, 'a> ToTree<'a> for PatTuple<'t, 'a> {
+    ghost tree = { λ x. pat_tree (pats.Tuple x) };
+
+    fn to_tree(&self, arena: &'a Arena) -> Result<Tree<'a>, AllocError> {
+        let inside = Grouped(self.paren_token, self.elems);
+        Node(Kind::TuplePattern, inside).to_tree(arena)
+    }
+}
+
+impl<'t, 'a> ToTree<'a> for PatPath<'t, 'a> {
+    ghost tree = { λ x. pat_tree (pats.Path x) };
+
+    fn to_tree(&self, arena: &'a Arena) -> Result<Tree<'a>, AllocError> {
+        let inside = (self.path, PathBehind::None);
+        Node(Kind::PathPattern, inside).to_tree(arena)
+    }
+}
+
+impl<'t, 'a> ToTree<'a> for PatTupleStruct<'t, 'a> {
+    ghost tree = { λ x. pat_tree (pats.TupleStruct x) };
+
+    fn to_tree(&self, arena: &'a Arena) -> Result<Tree<'a>, AllocError> {
+        let behind = PathBehind::Tuple(self.paren_token, self.elems);
+        Node(Kind::PathPattern, (self.path, behind)).to_tree(arena)
+    }
+}
+
+impl<'t, 'a> ToTree<'a> for PatStruct<'t, 'a> {
+    ghost tree = { λ x. pat_tree (pats.Struct x) };
+
+    fn to_tree(&self, arena: &'a Arena) -> Result<Tree<'a>, AllocError> {
+        let inside = (self.path, PathBehind::Struct(self.fields));
+        Node(Kind::PathPattern, inside).to_tree(arena)
+    }
+}
+
+// A range behind its start, and its end.
+#[derive(Clone, Copy)]
+struct From<'t, 'a>(RangeBound<'t, 'a>, RangeEnd<'t, 'a>);
+
+impl<'t, 'a> ToTree<'a> for From<'t, 'a> {
+    ghost tree = { λ x. started x.0 (t.Node k.RangeEnd (range_end x.1.limits x.1.end)) };
+
+    fn to_tree(&self, arena: &'a Arena) -> Result<Tree<'a>, AllocError> {
+        let end = First(self.1);
+        match self.0 {
+            RangeBound::Lit(lit) => Node(Kind::LiteralPattern, (lit, end)).to_tree(arena),
+            RangeBound::Path(path) => {
+                Node(Kind::PathPattern, (path, Second(Second(end)))).to_tree(arena)
+            }
+        }
+    }
+}
+
+impl<'t, 'a> ToTree<'a> for PatRange<'t, 'a> {
+    ghost tree = { range_form };
+
+    fn to_tree(&self, arena: &'a Arena) -> Result<Tree<'a>, AllocError> {
+        let limits = self.limits;
+        match (self.start, self.end) {
+            (Some(start), end) => From(start, RangeEnd { limits, end }).to_tree(arena),
+            (None, Some(end)) => PatRangeTo { limits, end }.to_tree(arena),
+            (None, None) => First(()).to_tree(arena),
+        }
+    }
+}
+
+impl<'t, 'a> ToTree<'a> for Pat<'t, 'a> {
+    ghost tree = { pat_tree };
+
+    fn to_tree(&self, arena: &'a Arena) -> Result<Tree<'a>, AllocError> {
+        match *self {
+            Pat::Ident(found) => found.to_tree(arena),
+            Pat::Lit(found) => found.to_tree(arena),
+            Pat::Or(found) => found.to_tree(arena),
+            Pat::Paren(found) => found.to_tree(arena),
+            Pat::Path(found) => found.to_tree(arena),
+            Pat::Range(found) => found.to_tree(arena),
+            Pat::Reference(found) => found.to_tree(arena),
+            Pat::Rest(found) => found.to_tree(arena),
+            Pat::Slice(found) => found.to_tree(arena),
+            Pat::Struct(found) => found.to_tree(arena),
+            Pat::Tuple(found) => found.to_tree(arena),
+            Pat::TupleStruct(found) => found.to_tree(arena),
+            Pat::Wild(found) => found.to_tree(arena),
+        }
+    }
+}

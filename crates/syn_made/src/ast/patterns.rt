@@ -1,0 +1,234 @@
+//! What patterns are read as, as trees.
+
+ghost use Rattle.syn_ast.specs.Patterns.{field_pat, field_pattern_tree, field_patterns, literal_pattern};
+ghost use Rattle.syn_ast.specs.Patterns.{member_pattern_tree, pat_ident, pat_or, pat_parenthesized, pat_range_to};
+ghost use Rattle.syn_ast.specs.Patterns.{pat_reference, pat_rest, pat_several, pat_slice, pat_wild, path_behind};
+ghost use Rattle.syn_ast.specs.Patterns.{path_pattern, range_bound, range_end, range_limits, shorthand_tree};
+ghost use Rattle.syn_ast.specs.Patterns.{signed_lit_tree};
+ghost use Rattle.syn_grammar.specs.Kind as k;
+ghost use Rattle.syn_grammar.specs.Tree as t;
+
+use crate::forms::{Called, First, Grouped, Node, Second};
+use crate::to_tree::ToTree;
+use gram_table::kind::Kind;
+use gram_table::part::Part;
+use gram_tree::arena::Arena;
+use gram_tree::tree::Tree;
+use std::alloc::AllocError;
+use syn_ast::patterns::{
+    FieldPat, FieldPattern, FieldPatterns, LiteralPattern, MemberPattern, PatIdent, PatOr,
+    PatParenthesized, PatRangeTo, PatReference, PatRest, PatSeveral, PatSlice, PatWild, PathBehind,
+    PathPattern, RangeBound, RangeEnd, RangeLimits, Shorthand, SignedLit,
+};
+
+impl<'a> ToTree<'a> for PatWild<'a> {
+    ghost tree = { pat_wild };
+
+    fn to_tree(&self, arena: &'a Arena) -> Result<Tree<'a>, AllocError> {
+        Node(Kind::WildPattern, self.underscore_token).to_tree(arena)
+    }
+}
+
+impl<'a> ToTree<'a> for PatRest {
+    ghost tree = { pat_rest };
+
+    fn to_tree(&self, arena: &'a Arena) -> Result<Tree<'a>, AllocError> {
+        Node(Kind::RestPattern, self.dot2_token).to_tree(arena)
+    }
+}
+
+impl<'t, 'a> ToTree<'a> for PatReference<'t, 'a> {
+    ghost tree = { pat_reference };
+
+    fn to_tree(&self, arena: &'a Arena) -> Result<Tree<'a>, AllocError> {
+        let inside = (self.and_token, self.mutability, self.pat);
+        Node(Kind::ReferencePattern, inside).to_tree(arena)
+    }
+}
+
+impl<'t, 'a> ToTree<'a> for PatSlice<'t, 'a> {
+    ghost tree = { pat_slice };
+
+    fn to_tree(&self, arena: &'a Arena) -> Result<Tree<'a>, AllocError> {
+        Node(Kind::SlicePattern, Grouped(self.bracket_token, self.elems)).to_tree(arena)
+    }
+}
+
+impl<'t, 'a> ToTree<'a> for PatParenthesized<'t, 'a> {
+    ghost tree = { pat_parenthesized };
+
+    fn to_tree(&self, arena: &'a Arena) -> Result<Tree<'a>, AllocError> {
+        Node(Kind::TuplePattern, Grouped(self.paren_token, self.elems)).to_tree(arena)
+    }
+}
+
+impl<'t, 'a> ToTree<'a> for PatOr<'t, 'a> {
+    ghost tree = { pat_or };
+
+    fn to_tree(&self, arena: &'a Arena) -> Result<Tree<'a>, AllocError> {
+        Node(Kind::Pattern, (self.leading_vert, self.first, self.others)).to_tree(arena)
+    }
+}
+
+impl<'t, 'a> ToTree<'a> for PatSeveral<'t, 'a> {
+    ghost tree = { pat_several };
+
+    fn to_tree(&self, arena: &'a Arena) -> Result<Tree<'a>, AllocError> {
+        Node(Kind::SeveralPatterns, (self.first, self.others)).to_tree(arena)
+    }
+}
+
+impl<'t, 'a> ToTree<'a> for PatIdent<'t, 'a> {
+    ghost tree = { pat_ident };
+
+    fn to_tree(&self, arena: &'a Arena) -> Result<Tree<'a>, AllocError> {
+        let inside = (
+            self.by_ref,
+            self.mutability,
+            self.ident,
+            Second(self.subpat),
+        );
+        Node(Kind::IdentPattern, inside).to_tree(arena)
+    }
+}
+
+impl<'a> ToTree<'a> for RangeLimits {
+    ghost tree = { range_limits };
+
+    fn to_tree(&self, arena: &'a Arena) -> Result<Tree<'a>, AllocError> {
+        match *self {
+            RangeLimits::Closed(mark) => First(mark).to_tree(arena),
+            RangeLimits::HalfOpen(mark) => Second(mark).to_tree(arena),
+        }
+    }
+}
+
+impl<'t, 'a> ToTree<'a> for PatRangeTo<'t, 'a> {
+    ghost tree = { pat_range_to };
+
+    fn to_tree(&self, arena: &'a Arena) -> Result<Tree<'a>, AllocError> {
+        Node(Kind::RangeToPattern, (self.limits, self.end)).to_tree(arena)
+    }
+}
+
+// What stands in the end of a range; `..=` without one is nothing.
+#[derive(Clone, Copy)]
+struct End<'t, 'a>(RangeEnd<'t, 'a>);
+
+impl<'t, 'a> ToTree<'a> for End<'t, 'a> {
+    ghost tree = { λ x. range_end x.0.limits x.0.end };
+
+    fn to_tree(&self, arena: &'a Arena) -> Result<Tree<'a>, AllocError> {
+        match (self.0.limits, self.0.end) {
+            (RangeLimits::Closed(mark), Some(end)) => First((mark, end)).to_tree(arena),
+            (RangeLimits::Closed(_), None) => ().to_tree(arena),
+            (RangeLimits::HalfOpen(mark), end) => Second((mark, end)).to_tree(arena),
+        }
+    }
+}
+
+impl<'t, 'a> ToTree<'a> for RangeEnd<'t, 'a> {
+    ghost tree = { λ x. t.Node k.RangeEnd (range_end x.limits x.end) };
+
+    fn to_tree(&self, arena: &'a Arena) -> Result<Tree<'a>, AllocError> {
+        Node(Kind::RangeEnd, End(*self)).to_tree(arena)
+    }
+}
+
+impl<'a> ToTree<'a> for SignedLit<'a> {
+    ghost tree = { signed_lit_tree };
+
+    fn to_tree(&self, arena: &'a Arena) -> Result<Tree<'a>, AllocError> {
+        match *self {
+            SignedLit::Negative(mark, literal) => First((mark, literal)).to_tree(arena),
+            SignedLit::Plain(lit) => Second(lit).to_tree(arena),
+        }
+    }
+}
+
+impl<'t, 'a> ToTree<'a> for LiteralPattern<'t, 'a> {
+    ghost tree = { literal_pattern };
+
+    fn to_tree(&self, arena: &'a Arena) -> Result<Tree<'a>, AllocError> {
+        Node(Kind::LiteralPattern, (self.lit, self.end)).to_tree(arena)
+    }
+}
+
+impl<'t, 'a> ToTree<'a> for RangeBound<'t, 'a> {
+    ghost tree = { range_bound };
+
+    fn to_tree(&self, arena: &'a Arena) -> Result<Tree<'a>, AllocError> {
+        match *self {
+            RangeBound::Lit(lit) => Node(Kind::RangeBound, First(lit)).to_tree(arena),
+            RangeBound::Path(path) => Node(Kind::RangeBound, Second(path)).to_tree(arena),
+        }
+    }
+}
+
+impl<'t, 'a> ToTree<'a> for PathBehind<'t, 'a> {
+    ghost tree = { path_behind };
+
+    fn to_tree(&self, arena: &'a Arena) -> Result<Tree<'a>, AllocError> {
+        match *self {
+            PathBehind::Tuple(delimiters, elems) => First(Grouped(delimiters, elems)).to_tree(
+                arena,
+            ),
+            PathBehind::Struct(fields) => Second(First(fields)).to_tree(arena),
+            PathBehind::Range(end) => Second(Second(First(end))).to_tree(arena),
+            PathBehind::None => Second(Second(Second(()))).to_tree(arena),
+        }
+    }
+}
+
+impl<'t, 'a> ToTree<'a> for PathPattern<'t, 'a> {
+    ghost tree = { path_pattern };
+
+    fn to_tree(&self, arena: &'a Arena) -> Result<Tree<'a>, AllocError> {
+        Node(Kind::PathPattern, (self.path, self.behind)).to_tree(arena)
+    }
+}
+
+impl<'t, 'a> ToTree<'a> for FieldPatterns<'t, 'a> {
+    ghost tree = { field_patterns };
+
+    fn to_tree(&self, arena: &'a Arena) -> Result<Tree<'a>, AllocError> {
+        let inside = First(Grouped(self.brace_token, self.fields));
+        Node(Kind::FieldPatterns, inside).to_tree(arena)
+    }
+}
+
+impl<'t, 'a> ToTree<'a> for MemberPattern<'t, 'a> {
+    ghost tree = { member_pattern_tree };
+
+    fn to_tree(&self, arena: &'a Arena) -> Result<Tree<'a>, AllocError> {
+        (self.member, self.colon_token, self.pat).to_tree(arena)
+    }
+}
+
+impl<'a> ToTree<'a> for Shorthand<'a> {
+    ghost tree = { shorthand_tree };
+
+    fn to_tree(&self, arena: &'a Arena) -> Result<Tree<'a>, AllocError> {
+        (self.by_ref, self.mutability, self.ident).to_tree(arena)
+    }
+}
+
+impl<'t, 'a> ToTree<'a> for FieldPattern<'t, 'a> {
+    ghost tree = { field_pattern_tree };
+
+    fn to_tree(&self, arena: &'a Arena) -> Result<Tree<'a>, AllocError> {
+        match *self {
+            FieldPattern::Rest(rest) => First(Called(Part::Rest, rest)).to_tree(arena),
+            FieldPattern::Member(field) => Second(First(field)).to_tree(arena),
+            FieldPattern::Shorthand(field) => Second(Second(field)).to_tree(arena),
+        }
+    }
+}
+
+impl<'t, 'a> ToTree<'a> for FieldPat<'t, 'a> {
+    ghost tree = { field_pat };
+
+    fn to_tree(&self, arena: &'a Arena) -> Result<Tree<'a>, AllocError> {
+        Node(Kind::FieldPattern, (self.attrs, self.pattern)).to_tree(arena)
+    }
+}

@@ -1,0 +1,244 @@
+//! Types as trees.
+
+ghost use Rattle.syn_ast.specs.Types.{abi, any_path, argument_name_tree, bound_lifetimes, fn_ptr_arg};
+ghost use Rattle.syn_ast.specs.Types.{pointer_mutability, return_type, type_array, type_bounds, type_bracketed};
+ghost use Rattle.syn_ast.specs.Types.{type_fn_ptr, type_impl_trait, type_infer, type_never, type_paren};
+ghost use Rattle.syn_ast.specs.Types.{type_parenthesized, type_path, type_ptr, type_reference, type_slice};
+ghost use Rattle.syn_ast.specs.Types.{type_trait_object, type_tree, type_tuple};
+
+use crate::forms::{Called, First, Grouped, Node, Second};
+use crate::lists::Only;
+use crate::to_tree::ToTree;
+use gram_table::kind::Kind;
+use gram_table::part::Part;
+use gram_tree::arena::Arena;
+use gram_tree::tree::Tree;
+use std::alloc::AllocError;
+use syn_ast::types::{
+    Abi, AnyPath, ArgumentName, BoundLifetimes, FnPtrArg, PointerMutability, ReturnType, Type,
+    TypeArray, TypeBounds, TypeBracketed, TypeFnPtr, TypeImplTrait, TypeInfer, TypeNever,
+    TypeParen, TypeParenthesized, TypePath, TypePtr, TypeReference, TypeSlice, TypeTraitObject,
+    TypeTuple,
+};
+
+impl<'a> ToTree<'a> for PointerMutability<'a> {
+    ghost tree = { pointer_mutability };
+
+    fn to_tree(&self, arena: &'a Arena) -> Result<Tree<'a>, AllocError> {
+        match *self {
+            PointerMutability::Const(word) => First(word).to_tree(arena),
+            PointerMutability::Mut(word) => Second(word).to_tree(arena),
+        }
+    }
+}
+
+impl<'t, 'a> ToTree<'a> for TypeBounds<'t, 'a> {
+    ghost tree = { type_bounds };
+
+    fn to_tree(&self, arena: &'a Arena) -> Result<Tree<'a>, AllocError> {
+        match *self {
+            TypeBounds::Several(bounds) => Called(Part::Bounds, bounds).to_tree(arena),
+            TypeBounds::One(bound) => Second(bound).to_tree(arena),
+        }
+    }
+}
+
+impl<'t, 'a> ToTree<'a> for TypePtr<'t, 'a> {
+    ghost tree = { type_ptr };
+
+    fn to_tree(&self, arena: &'a Arena) -> Result<Tree<'a>, AllocError> {
+        let inside = (self.star_token, self.mutability, self.elem);
+        Node(Kind::PointerType, inside).to_tree(arena)
+    }
+}
+
+impl<'t, 'a> ToTree<'a> for TypeReference<'t, 'a> {
+    ghost tree = { type_reference };
+
+    fn to_tree(&self, arena: &'a Arena) -> Result<Tree<'a>, AllocError> {
+        let inside = (self.and_token, self.lifetime, self.mutability, self.elem);
+        Node(Kind::ReferenceType, inside).to_tree(arena)
+    }
+}
+
+impl<'a> ToTree<'a> for TypeNever {
+    ghost tree = { type_never };
+
+    fn to_tree(&self, arena: &'a Arena) -> Result<Tree<'a>, AllocError> {
+        Node(Kind::NeverType, self.bang_token).to_tree(arena)
+    }
+}
+
+impl<'a> ToTree<'a> for TypeInfer<'a> {
+    ghost tree = { type_infer };
+
+    fn to_tree(&self, arena: &'a Arena) -> Result<Tree<'a>, AllocError> {
+        Node(Kind::InferType, self.underscore_token).to_tree(arena)
+    }
+}
+
+impl<'t, 'a> ToTree<'a> for TypeFnPtr<'t, 'a> {
+    ghost tree = { type_fn_ptr };
+
+    fn to_tree(&self, arena: &'a Arena) -> Result<Tree<'a>, AllocError> {
+        let inputs = Grouped(self.paren_token, self.inputs);
+        let behind = (self.fn_token, inputs, self.output);
+        let inside = (self.lifetimes, self.unsafety, self.abi, behind);
+        Node(Kind::FnPtrType, inside).to_tree(arena)
+    }
+}
+
+impl<'a> ToTree<'a> for ArgumentName<'a> {
+    ghost tree = { argument_name_tree };
+
+    fn to_tree(&self, arena: &'a Arena) -> Result<Tree<'a>, AllocError> {
+        (self.ident, self.colon_token).to_tree(arena)
+    }
+}
+
+impl<'t, 'a> ToTree<'a> for FnPtrArg<'t, 'a> {
+    ghost tree = { fn_ptr_arg };
+
+    fn to_tree(&self, arena: &'a Arena) -> Result<Tree<'a>, AllocError> {
+        Node(Kind::FnPtrArg, (self.attrs, self.name, self.ty)).to_tree(arena)
+    }
+}
+
+impl<'a> ToTree<'a> for Abi<'a> {
+    ghost tree = { abi };
+
+    fn to_tree(&self, arena: &'a Arena) -> Result<Tree<'a>, AllocError> {
+        Node(Kind::Abi, (self.extern_token, self.name)).to_tree(arena)
+    }
+}
+
+impl<'t, 'a> ToTree<'a> for BoundLifetimes<'t, 'a> {
+    ghost tree = { bound_lifetimes };
+
+    fn to_tree(&self, arena: &'a Arena) -> Result<Tree<'a>, AllocError> {
+        let inside = (self.for_token, self.lt_token, self.lifetimes, self.gt_token);
+        Node(Kind::BoundLifetimes, inside).to_tree(arena)
+    }
+}
+
+impl<'t, 'a> ToTree<'a> for ReturnType<'t, 'a> {
+    ghost tree = { return_type };
+
+    fn to_tree(&self, arena: &'a Arena) -> Result<Tree<'a>, AllocError> {
+        Node(Kind::ReturnType(self.plus), self.ty).to_tree(arena)
+    }
+}
+
+impl<'t, 'a> ToTree<'a> for TypeBracketed<'t, 'a> {
+    ghost tree = { type_bracketed };
+
+    fn to_tree(&self, arena: &'a Arena) -> Result<Tree<'a>, AllocError> {
+        let inside = Grouped(self.bracket_token, (self.elem, self.len));
+        Node(Kind::BracketType, inside).to_tree(arena)
+    }
+}
+
+impl<'t, 'a> ToTree<'a> for TypeParenthesized<'t, 'a> {
+    ghost tree = { type_parenthesized };
+
+    fn to_tree(&self, arena: &'a Arena) -> Result<Tree<'a>, AllocError> {
+        Node(Kind::TupleType, Grouped(self.paren_token, self.elems)).to_tree(arena)
+    }
+}
+
+impl<'t, 'a> ToTree<'a> for TypeTraitObject<'t, 'a> {
+    ghost tree = { type_trait_object };
+
+    fn to_tree(&self, arena: &'a Arena) -> Result<Tree<'a>, AllocError> {
+        let inside = (self.dyn_token, self.bounds);
+        Node(Kind::DynType(self.plus), inside).to_tree(arena)
+    }
+}
+
+impl<'t, 'a> ToTree<'a> for TypeImplTrait<'t, 'a> {
+    ghost tree = { type_impl_trait };
+
+    fn to_tree(&self, arena: &'a Arena) -> Result<Tree<'a>, AllocError> {
+        let inside = (self.impl_token, self.bounds);
+        Node(Kind::ImplType(self.plus), inside).to_tree(arena)
+    }
+}
+
+impl<'t, 'a> ToTree<'a> for AnyPath<'t, 'a> {
+    ghost tree = { any_path };
+
+    fn to_tree(&self, arena: &'a Arena) -> Result<Tree<'a>, AllocError> {
+        match *self {
+            AnyPath::Qualified(path) => First(path).to_tree(arena),
+            AnyPath::Plain(path) => Second(path).to_tree(arena),
+        }
+    }
+}
+
+impl<'t, 'a> ToTree<'a> for TypePath<'t, 'a> {
+    ghost tree = { type_path };
+
+    fn to_tree(&self, arena: &'a Arena) -> Result<Tree<'a>, AllocError> {
+        Node(Kind::AnyPath(self.style), self.path).to_tree(arena)
+    }
+}
+
+impl<'t, 'a> ToTree<'a> for TypeSlice<'t, 'a> {
+    ghost tree = { type_slice };
+
+    fn to_tree(&self, arena: &'a Arena) -> Result<Tree<'a>, AllocError> {
+        let inside = Grouped(self.bracket_token, (self.elem, Second(())));
+        Node(Kind::BracketType, inside).to_tree(arena)
+    }
+}
+
+impl<'t, 'a> ToTree<'a> for TypeArray<'t, 'a> {
+    ghost tree = { type_array };
+
+    fn to_tree(&self, arena: &'a Arena) -> Result<Tree<'a>, AllocError> {
+        let len = First((self.semi_token, Called(Part::Value, self.len)));
+        let inside = Grouped(self.bracket_token, (self.elem, len));
+        Node(Kind::BracketType, inside).to_tree(arena)
+    }
+}
+
+impl<'t, 'a> ToTree<'a> for TypeParen<'t, 'a> {
+    ghost tree = { type_paren };
+
+    fn to_tree(&self, arena: &'a Arena) -> Result<Tree<'a>, AllocError> {
+        Node(Kind::TupleType, Grouped(self.paren_token, Only(self.elem))).to_tree(arena)
+    }
+}
+
+impl<'t, 'a> ToTree<'a> for TypeTuple<'t, 'a> {
+    ghost tree = { type_tuple };
+
+    #[tactic(auto, using(syn_ast::proofs::TypeForms::several_types))]
+    fn to_tree(&self, arena: &'a Arena) -> Result<Tree<'a>, AllocError> {
+        match self.elems.only() {
+            Some(_) => Node(Kind::TupleType, Grouped(self.paren_token, ())).to_tree(arena),
+            None => Node(Kind::TupleType, Grouped(self.paren_token, self.elems)).to_tree(arena),
+        }
+    }
+}
+
+impl<'t, 'a> ToTree<'a> for Type<'t, 'a> {
+    ghost tree = { type_tree };
+
+    fn to_tree(&self, arena: &'a Arena) -> Result<Tree<'a>, AllocError> {
+        match *self {
+            Type::Array(found) => found.to_tree(arena),
+            Type::FnPtr(found) => found.to_tree(arena),
+            Type::ImplTrait(found) => found.to_tree(arena),
+            Type::Infer(found) => found.to_tree(arena),
+            Type::Never(found) => found.to_tree(arena),
+            Type::Paren(found) => found.to_tree(arena),
+            Type::Path(found) => found.to_tree(arena),
+            Type::Ptr(found) => found.to_tree(arena),
+            Type::Reference(found) => found.to_tree(arena),
+            Type::Slice(found) => found.to_tree(arena),
+            Type::TraitObject(found) => found.to_tree(arena),
+            Type::Tuple(found) => found.to_tree(arena),
+        }
+    }
+}

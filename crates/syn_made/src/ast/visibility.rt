@@ -1,0 +1,41 @@
+//! Visibilities as trees.
+
+ghost use Rattle.syn_ast.specs.Visibility.{restriction_tree, visibility};
+
+use crate::forms::{Called, First, Grouped, Node, Second};
+use crate::to_tree::ToTree;
+use gram_table::kind::Kind;
+use gram_table::part::Part;
+use gram_tree::arena::Arena;
+use gram_tree::tree::Tree;
+use std::alloc::AllocError;
+use syn_ast::visibility::{RestrictedTo, Restriction, Visibility};
+
+impl<'t, 'a> ToTree<'a> for Restriction<'t, 'a> {
+    ghost tree = { restriction_tree };
+
+    fn to_tree(&self, arena: &'a Arena) -> Result<Tree<'a>, AllocError> {
+        match self.path {
+            RestrictedTo::Path(path) => First(Grouped(self.paren_token, path)).to_tree(arena),
+            RestrictedTo::Keyword(word) => Second(Grouped(self.paren_token, word)).to_tree(arena),
+        }
+    }
+}
+
+impl<'t, 'a> ToTree<'a> for Visibility<'t, 'a> {
+    ghost tree = { visibility };
+
+    fn to_tree(&self, arena: &'a Arena) -> Result<Tree<'a>, AllocError> {
+        match *self {
+            Visibility::Public(word) => {
+                let written = (Called(Part::Pub, word), Second(()));
+                Node(Kind::Visibility, First(written)).to_tree(arena)
+            }
+            Visibility::Restricted(found) => {
+                let written = (Called(Part::Pub, found.pub_token), First(found.restriction));
+                Node(Kind::Visibility, First(written)).to_tree(arena)
+            }
+            Visibility::Inherited => Node(Kind::Visibility, Second(())).to_tree(arena),
+        }
+    }
+}

@@ -1,0 +1,96 @@
+//! Operators.
+
+ghost use Rattle.gram_table.specs.Kinds.{kind_of};
+ghost use Rattle.std.specs.Prelude.{◌≡◌};
+ghost use Rattle.syn_ast.specs.Leaves.{mark_tree};
+ghost use Rattle.syn_expr.specs.ExprOps.{bin_op_kind, bin_op_tree, limits_kind, limits_tree, un_op_tree};
+
+use crate::expr::forms::Nth;
+use crate::to_tree::ToTree;
+use gram_table::kind::Kind;
+use gram_tree::arena::Arena;
+use gram_tree::tree::Tree;
+use std::alloc::AllocError;
+use syn_ast::leaf::Mark;
+use syn_ast::patterns::RangeLimits;
+use syn_expr::expr::ops::{BinOp, UnOp};
+
+impl<'a> ToTree<'a> for UnOp {
+    ghost tree = { un_op_tree };
+
+    fn to_tree(&self, arena: &'a Arena) -> Result<Tree<'a>, AllocError> {
+        match *self {
+            UnOp::Deref(sign) => Nth(0, sign).to_tree(arena),
+            UnOp::Not(sign) => Nth(1, sign).to_tree(arena),
+            UnOp::Neg(sign) => Nth(2, sign).to_tree(arena),
+        }
+    }
+}
+
+/// The kind of a binary operator's form.
+pub fn bin_op_kind(op: BinOp) -> Kind
+    ensures { kind_of result ≡ bin_op_kind op }
+{
+    match op {
+        BinOp::Or(_) => Kind::ExprOr,
+        BinOp::And(_) => Kind::ExprAnd,
+        BinOp::BitOr(_) => Kind::ExprBitOr,
+        BinOp::BitXor(_) => Kind::ExprBitXor,
+        BinOp::BitAnd(_) => Kind::ExprBitAnd,
+        BinOp::Add(_) | BinOp::Sub(_) => Kind::ExprSum,
+        BinOp::Mul(_) | BinOp::Div(_) | BinOp::Rem(_) => Kind::ExprProduct,
+        BinOp::Shl(_) | BinOp::Shr(_) => Kind::ExprShift,
+        BinOp::Eq(_) | BinOp::Le(_) | BinOp::Ne(_) | BinOp::Ge(_) | BinOp::Lt(_) | BinOp::Gt(_) =>
+            Kind::ExprCompare,
+        BinOp::AddAssign(_) | BinOp::SubAssign(_) | BinOp::MulAssign(_) | BinOp::DivAssign(_) =>
+            Kind::ExprAssign,
+        BinOp::RemAssign(_) | BinOp::BitXorAssign(_) | BinOp::BitAndAssign(_) => Kind::ExprAssign,
+        BinOp::BitOrAssign(_) | BinOp::ShlAssign(_) | BinOp::ShrAssign(_) => Kind::ExprAssign,
+    }
+}
+
+/// The own part of a binary operator's form.
+impl<'a> ToTree<'a> for BinOp {
+    ghost tree = { bin_op_tree };
+
+    fn to_tree(&self, arena: &'a Arena) -> Result<Tree<'a>, AllocError> {
+        match *self {
+            BinOp::Or(sign) | BinOp::And(sign) => sign.to_tree(arena),
+            BinOp::BitOr(sign) | BinOp::BitXor(sign) | BinOp::BitAnd(sign) => sign.to_tree(arena),
+            BinOp::Add(sign) | BinOp::Mul(sign) | BinOp::Shl(sign) => Nth(0, sign).to_tree(arena),
+            BinOp::Eq(sign) => Nth(0, sign).to_tree(arena),
+            BinOp::Sub(sign) | BinOp::Div(sign) | BinOp::Shr(sign) => Nth(1, sign).to_tree(arena),
+            BinOp::Le(sign) | BinOp::AddAssign(sign) => Nth(1, sign).to_tree(arena),
+            BinOp::Rem(sign) | BinOp::Ne(sign) | BinOp::SubAssign(sign) => Nth(2, sign).to_tree(
+                arena,
+            ),
+            BinOp::Ge(sign) | BinOp::MulAssign(sign) => Nth(3, sign).to_tree(arena),
+            BinOp::Lt(sign) | BinOp::DivAssign(sign) => Nth(4, sign).to_tree(arena),
+            BinOp::Gt(sign) | BinOp::RemAssign(sign) => Nth(5, sign).to_tree(arena),
+            BinOp::BitXorAssign(sign) => Nth(6, sign).to_tree(arena),
+            BinOp::BitAndAssign(sign) => Nth(7, sign).to_tree(arena),
+            BinOp::BitOrAssign(sign) => Nth(8, sign).to_tree(arena),
+            BinOp::ShlAssign(sign) => Nth(9, sign).to_tree(arena),
+            BinOp::ShrAssign(sign) => Nth(10, sign).to_tree(arena),
+        }
+    }
+}
+
+/// The kind of a range's form.
+pub fn limits_kind(limits: RangeLimits) -> Kind
+    ensures { kind_of result ≡ limits_kind limits }
+{
+    match limits {
+        RangeLimits::HalfOpen(_) => Kind::ExprRange,
+        RangeLimits::Closed(_) => Kind::ExprRangeClosed,
+    }
+}
+
+/// The own part of a range's form.
+pub fn limits_mark(limits: RangeLimits) -> Mark
+    ensures { mark_tree result ≡ limits_tree limits }
+{
+    match limits {
+        RangeLimits::HalfOpen(sign) | RangeLimits::Closed(sign) => sign,
+    }
+}

@@ -1,0 +1,99 @@
+//! Expressions with an operand before them.
+
+ghost use Rattle.syn_expr.specs.ExprPostfix.{dot_tree, expr_await, expr_call, expr_cast, expr_field, expr_index};
+ghost use Rattle.syn_expr.specs.ExprPostfix.{expr_method_call, expr_struct, expr_try};
+
+use crate::expr::forms::Back;
+use crate::forms::{Called, First, Grouped, Second};
+use crate::to_tree::ToTree;
+use gram_table::kind::Kind;
+use gram_table::part::Part;
+use gram_tree::arena::Arena;
+use gram_tree::tree::Tree;
+use std::alloc::AllocError;
+use syn_ast::paths::Member;
+use syn_expr::expr::postfix::{
+    ExprAwait, ExprCall, ExprCast, ExprField, ExprIndex, ExprMethodCall, ExprStruct, ExprTry,
+};
+
+impl<'t, 'a> ToTree<'a> for ExprCall<'t, 'a> {
+    ghost tree = { expr_call };
+
+    fn to_tree(&self, arena: &'a Arena) -> Result<Tree<'a>, AllocError> {
+        let own = Grouped(self.paren_token, self.args);
+        Back(self.func, Kind::ExprCall, own).to_tree(arena)
+    }
+}
+
+impl<'t, 'a> ToTree<'a> for ExprMethodCall<'t, 'a> {
+    ghost tree = { expr_method_call };
+
+    fn to_tree(&self, arena: &'a Arena) -> Result<Tree<'a>, AllocError> {
+        let dot = (self.dot_token, Called(Part::Indices, self.indices));
+        let method = Called(Part::Name, self.method);
+        let args = Grouped(self.paren_token, self.args);
+        let own = (dot, method, self.turbofish, args);
+        Back(self.receiver, Kind::ExprMethodCall, own).to_tree(arena)
+    }
+}
+
+impl<'t, 'a> ToTree<'a> for ExprField<'t, 'a> {
+    ghost tree = { expr_field };
+
+    fn to_tree(&self, arena: &'a Arena) -> Result<Tree<'a>, AllocError> {
+        let dot = (self.dot_token, Called(Part::Indices, self.indices));
+        match self.member {
+            Member::Named(name) => {
+                let own = (dot, First(Called(Part::Name, name)));
+                Back(self.base, Kind::ExprField, own).to_tree(arena)
+            }
+            Member::Unnamed(found) => {
+                let own = (dot, Second(Called(Part::Value, found.index)));
+                Back(self.base, Kind::ExprField, own).to_tree(arena)
+            }
+        }
+    }
+}
+
+impl<'t, 'a> ToTree<'a> for ExprAwait<'t, 'a> {
+    ghost tree = { expr_await };
+
+    fn to_tree(&self, arena: &'a Arena) -> Result<Tree<'a>, AllocError> {
+        let dot = (self.dot_token, Called(Part::Indices, self.indices));
+        Back(self.base, Kind::ExprAwait, (dot, self.await_token)).to_tree(arena)
+    }
+}
+
+impl<'t, 'a> ToTree<'a> for ExprIndex<'t, 'a> {
+    ghost tree = { expr_index };
+
+    fn to_tree(&self, arena: &'a Arena) -> Result<Tree<'a>, AllocError> {
+        let own = Grouped(self.bracket_token, self.index);
+        Back(self.expr, Kind::ExprIndex, own).to_tree(arena)
+    }
+}
+
+impl<'t, 'a> ToTree<'a> for ExprTry<'t, 'a> {
+    ghost tree = { expr_try };
+
+    fn to_tree(&self, arena: &'a Arena) -> Result<Tree<'a>, AllocError> {
+        Back(self.expr, Kind::ExprTry, self.question_token).to_tree(arena)
+    }
+}
+
+impl<'t, 'a> ToTree<'a> for ExprStruct<'t, 'a> {
+    ghost tree = { expr_struct };
+
+    fn to_tree(&self, arena: &'a Arena) -> Result<Tree<'a>, AllocError> {
+        Back(self.path, Kind::ExprStruct, self.fields).to_tree(arena)
+    }
+}
+
+impl<'t, 'a> ToTree<'a> for ExprCast<'t, 'a> {
+    ghost tree = { expr_cast };
+
+    fn to_tree(&self, arena: &'a Arena) -> Result<Tree<'a>, AllocError> {
+        let own = (self.as_token, Called(Part::Type, self.ty), Second(()));
+        Back(self.expr, Kind::ExprCast, own).to_tree(arena)
+    }
+}

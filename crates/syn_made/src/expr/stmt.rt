@@ -1,0 +1,172 @@
+//! Statements.
+
+ghost use Rattle.gram_tree.specs.Forms.{turns};
+ghost use Rattle.std.specs.Prelude.{◌≡◌, IfOk, map};
+ghost use Rattle.syn_expr.specs.Statements.{IsAlternative, IsStmt, block_stmt, local, local_init_tree, one_statement};
+ghost use Rattle.syn_expr.specs.Statements.{statements, stmt_expr, stmt_local, stmt_macro};
+ghost use Rattle.syn_grammar.specs.Kind as k;
+ghost use Rattle.syn_grammar.specs.Tree as t;
+
+use crate::expr::forms::Nth;
+use crate::forms::{Called, First, Grouped, Node, Second};
+use crate::to_tree::ToTree;
+use gram_table::kind::Kind;
+use gram_table::part::Part;
+use gram_tree::arena::Arena;
+use gram_tree::made;
+use gram_tree::tree::Tree;
+use std::alloc::AllocError;
+use syn_ast::leaf::Delimiters;
+use syn_expr::stmt::{
+    BlockStmt, Local, LocalInit, OneStatement, Statements, Stmt, StmtExpr, StmtLocal, StmtMacro,
+};
+
+impl<'t, 'a> ToTree<'a> for BlockStmt<'t, 'a> {
+    ghost tree = { block_stmt };
+
+    fn to_tree(&self, arena: &'a Arena) -> Result<Tree<'a>, AllocError> {
+        match self {
+            BlockStmt::Semi(mark) => First(*mark).to_tree(arena),
+            BlockStmt::Stmt(stmt) => Second(*stmt).to_tree(arena),
+        }
+    }
+}
+
+impl<'t, 'a> ToTree<'a> for LocalInit<'t, 'a> {
+    ghost tree = { local_init_tree };
+
+    fn to_tree(&self, arena: &'a Arena) -> Result<Tree<'a>, AllocError> {
+        let value = Called(Part::Value, self.expr);
+        match self.diverge {
+            None => (self.eq_token, value, Second(())).to_tree(arena),
+            Some(diverge) => {
+                (self.eq_token, value, First(Called(Part::Else, diverge))).to_tree(arena)
+            }
+        }
+    }
+}
+
+impl<'t, 'a> ToTree<'a> for Statements<'t, 'a> {
+    ghost tree = { statements };
+
+    fn to_tree(&self, arena: &'a Arena) -> Result<Tree<'a>, AllocError> {
+        Node(Kind::Statements, First(self.stmts)).to_tree(arena)
+    }
+}
+
+impl<'t, 'a> ToTree<'a> for OneStatement<'t, 'a> {
+    ghost tree = { one_statement };
+
+    fn to_tree(&self, arena: &'a Arena) -> Result<Tree<'a>, AllocError> {
+        Node(Kind::OneStatement, First(self.stmt)).to_tree(arena)
+    }
+}
+
+impl<'t, 'a> ToTree<'a> for Local<'t, 'a> {
+    ghost tree = { local };
+
+    fn to_tree(&self, arena: &'a Arena) -> Result<Tree<'a>, AllocError> {
+        let end = (self.init, self.semi_token);
+        let parts = (self.let_token, self.pat, self.ty, end);
+        Node(Kind::ALet, First(parts)).to_tree(arena)
+    }
+}
+
+impl<'t, 'a> ToTree<'a> for StmtMacro<'t, 'a> {
+    ghost tree = { stmt_macro };
+
+    fn to_tree(&self, arena: &'a Arena) -> Result<Tree<'a>, AllocError> {
+        match self.semi_token {
+            None => (self.attrs, self.mac, Second(())).to_tree(arena),
+            Some(mark) => {
+                (self.attrs, self.mac, First(Called(Part::Semicolon, mark))).to_tree(arena)
+            }
+        }
+    }
+}
+
+impl<'t, 'a> ToTree<'a> for StmtLocal<'t, 'a> {
+    ghost tree = { stmt_local };
+
+    fn to_tree(&self, arena: &'a Arena) -> Result<Tree<'a>, AllocError> {
+        (self.attrs, self.local).to_tree(arena)
+    }
+}
+
+impl<'t, 'a> ToTree<'a> for StmtExpr<'t, 'a> {
+    ghost tree = { stmt_expr };
+
+    fn to_tree(&self, arena: &'a Arena) -> Result<Tree<'a>, AllocError> {
+        let attrs = Called(Part::Attributes, self.attrs);
+        let expr = Called(Part::Expression, self.expr);
+        match self.semi_token {
+            None => (attrs, expr, Second(())).to_tree(arena),
+            Some(mark) => (attrs, expr, First(Called(Part::Semicolon, mark))).to_tree(arena),
+        }
+    }
+}
+
+// Whether an item is a macro. Of a statement's alternatives that is the first, and the other items are the fourth.
+fn is_macro(item: &Tree<'_>) -> bool {
+    let Some((_, inside)) = item.node() else {
+        return false;
+    };
+    let Some(form) = inside.the(Part::Item) else {
+        return false;
+    };
+    matches!(form.choice().node(), Some((Kind::ItemMacro(_), _)))
+}
+
+// Of a statement the alternative that it is.
+fn alternative<'a>(arena: &'a Arena, stmt: &Stmt<'_, 'a>) -> Result<Tree<'a>, AllocError>
+    ensures { IfOk result (λ x. IsAlternative x stmt.now) }
+{
+    match stmt {
+        Stmt::Item(item) if is_macro(item) => First(*item).to_tree(arena),
+        Stmt::Item(item) => Nth(3, *item).to_tree(arena),
+        Stmt::Macro(found) => Nth(1, *found).to_tree(arena),
+        Stmt::Local(found) => Nth(2, *found).to_tree(arena),
+        Stmt::Expr(found) => Second(Second(Second(Second(*found)))).to_tree(arena),
+    }
+}
+
+/// A statement as a form of the kind `AStatement`. `Stmt::of` answers the same statement of it.
+///
+/// # Errors
+///
+/// Where there is no memory for it.
+pub fn statement<'a>(arena: &'a Arena, stmt: &Stmt<'_, 'a>) -> Result<Tree<'a>, AllocError>
+    ensures { IfOk result (λ x. IsStmt x stmt.now) }
+{
+    let inside = alternative(arena, stmt)?;
+    Node(Kind::AStatement, &inside).to_tree(arena)
+}
+
+// Trees of statements, in their order.
+fn each<'a>(arena: &'a Arena, stmts: &[BlockStmt<'_, 'a>]) -> Result<Vec<Tree<'a>>, AllocError>
+    ensures { IfOk result (λ xs. xs.items ≡ map block_stmt stmts.now) }
+{
+    let mut trees = Vec::new(arena.alloc());
+    for stmt in stmts {
+        trees.push(stmt.to_tree(arena)?)?;
+    }
+    Ok(trees)
+}
+
+/// A block of these statements, as a form of the kind `Block`.
+///
+/// # Errors
+///
+/// Where there is no memory for it.
+pub fn block<'a>(
+    arena: &'a Arena,
+    brace_token: Delimiters,
+    stmts: &[BlockStmt<'_, 'a>],
+) -> Result<Tree<'a>, AllocError>
+    ensures { IfOk result (λ x. x ≡ t.Node k.Block (t.Group brace_token.delimiter
+        (t.Node k.Statements (t.First (turns (map block_stmt stmts.now)))))) }
+{
+    let stmts = made::turns(arena, each(arena, stmts)?)?;
+    let stmts = Node(Kind::Statements, First(&stmts));
+    Node(Kind::Block, Grouped(brace_token, stmts)).to_tree(arena)
+}

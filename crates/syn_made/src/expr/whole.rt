@@ -1,0 +1,73 @@
+//! A form as an expression, and the forms in parentheses.
+
+ghost use Rattle.gram_table.specs.Kinds.{position_of};
+ghost use Rattle.std.specs.Prelude.{◌≡◌, IfOk};
+ghost use Rattle.syn_expr.specs.ExprWhole.{expr_paren, expr_tuple};
+ghost use Rattle.syn_grammar.specs.Forms.{form_of};
+ghost use Rattle.syn_grammar.specs.Kind as k;
+ghost use Rattle.syn_grammar.specs.Tree as t;
+
+use crate::expr::forms::Alone;
+use crate::forms::Grouped;
+use crate::to_tree::ToTree;
+use gram_table::kind::{Kind, Position};
+use gram_table::op::Separator;
+use gram_tree::arena::Arena;
+use gram_tree::made;
+use gram_tree::tree::Tree;
+use std::alloc::AllocError;
+use syn_ast::list::Elements;
+use syn_expr::expr::whole::{Expr, ExprParen, ExprTuple};
+
+/// A form as an expression, for where one stands: as an argument, a value, a statement. `Expr::of` answers that form of
+/// it. An operand is the form itself.
+///
+/// # Errors
+///
+/// Where there is no memory for it.
+pub fn expression<'a>(
+    arena: &'a Arena,
+    position: Position,
+    form: Tree<'a>,
+) -> Result<Tree<'a>, AllocError>
+    ensures tree { IfOk result (λ x. x ≡ t.Node (k.Expression (position_of position)) (t.Whole form.entry)) }
+    ensures form { IfOk result (λ x. form_of x ≡ form.entry) }
+{
+    let whole = made::whole(arena, form)?;
+    made::node(arena, Kind::Expression(position), whole)
+}
+
+/// An expression: its form.
+impl<'t, 'a> ToTree<'a> for Expr<'t, 'a> {
+    ghost tree = { λ x. x.tree.now };
+
+    fn to_tree(&self, _arena: &'a Arena) -> Result<Tree<'a>, AllocError> {
+        Ok(self.tree.copy())
+    }
+}
+
+impl<'t, 'a> ToTree<'a> for ExprParen<'t, 'a> {
+    ghost tree = { expr_paren };
+
+    fn to_tree(&self, arena: &'a Arena) -> Result<Tree<'a>, AllocError> {
+        let inside = Elements {
+            separator: Separator::Comma,
+            before: &[],
+            last: Some(self.expr),
+        };
+        Alone(Kind::ExprParen, Grouped(self.paren_token, inside)).to_tree(arena)
+    }
+}
+
+/// One expression without a comma behind it is no tuple: of that nothing is made between the parentheses.
+impl<'t, 'a> ToTree<'a> for ExprTuple<'t, 'a> {
+    ghost tree = { expr_tuple };
+
+    #[tactic(auto, using(syn_ast::proofs::TypeForms::several_types))]
+    fn to_tree(&self, arena: &'a Arena) -> Result<Tree<'a>, AllocError> {
+        match self.elems.only() {
+            None => { Alone(Kind::ExprParen, Grouped(self.paren_token, self.elems)).to_tree(arena) }
+            Some(_) => Alone(Kind::ExprParen, Grouped(self.paren_token, ())).to_tree(arena),
+        }
+    }
+}

@@ -1,0 +1,58 @@
+//! Type aliases.
+
+ghost use Rattle.std.specs.Prelude.{◌≡◌, IfOk};
+ghost use Rattle.syn_item.specs.ItemAliases.{item_type, type_end_tree};
+
+use crate::forms::{Called, First, Node, Second};
+use crate::to_tree::ToTree;
+use gram_table::kind::{Kind, Place};
+use gram_table::part::Part;
+use gram_tree::arena::Arena;
+use gram_tree::tree::Tree;
+use std::alloc::AllocError;
+use syn_ast::sub::MarkedType;
+use syn_item::alias::{ItemType, WhereOrder};
+
+// A definition and a where clause, as the place has them.
+fn type_end<'a>(
+    arena: &'a Arena,
+    place: Place,
+    order: WhereOrder,
+    definition: Option<MarkedType<'_, 'a>>,
+    where_clause: &Tree<'a>,
+) -> Result<Tree<'a>, AllocError>
+    ensures { IfOk result (λ x. x ≡ type_end_tree place order definition.entry where_clause.entry) }
+{
+    let where_part = Called(Part::Where, where_clause);
+    match (place, order) {
+        (Place::InTrait, _) => (definition, where_part).to_tree(arena),
+        (Place::InImpl, _) => (definition, where_part).to_tree(arena),
+        (_, WhereOrder::Before) => First((where_part, definition)).to_tree(arena),
+        (_, WhereOrder::Behind) => Second((definition, where_part)).to_tree(arena),
+    }
+}
+
+// In a trait or an impl the where clause stands behind the definition, whatever order is asked for.
+impl<'t, 'a> ToTree<'a> for ItemType<'t, 'a> {
+    ghost tree = { item_type };
+
+    fn to_tree(&self, arena: &'a Arena) -> Result<Tree<'a>, AllocError> {
+        let end = type_end(
+            arena,
+            self.place,
+            self.where_order,
+            self.ty,
+            self.where_clause,
+        )?;
+        let generics = Called(Part::Generics, self.generics);
+        let bounds = Called(Part::Bounds, self.bounds);
+        let behind = (bounds, Called(Part::Value, &end), self.semi_token);
+        let inside = (
+            self.type_token,
+            Called(Part::Name, self.ident),
+            generics,
+            behind,
+        );
+        Node(Kind::ATypeAlias(self.place), inside).to_tree(arena)
+    }
+}

@@ -1,0 +1,34 @@
+//! Constants.
+
+ghost use Rattle.syn_item.specs.ItemAliases.{item_const};
+
+use crate::forms::{Called, Node};
+use crate::to_tree::ToTree;
+use gram_table::kind::Kind;
+use gram_table::part::Part;
+use gram_tree::arena::Arena;
+use gram_tree::tree::Tree;
+use std::alloc::AllocError;
+use syn_item::constant::ItemConst;
+
+impl<'t, 'a> ToTree<'a> for ItemConst<'t, 'a> {
+    ghost tree = { item_const };
+
+    fn to_tree(&self, arena: &'a Arena) -> Result<Tree<'a>, AllocError> {
+        let generics = Called(Part::Generics, self.generics);
+        let where_clause = Called(Part::Where, self.where_clause);
+        let value = (
+            Called(Part::Type, self.ty),
+            self.expr,
+            where_clause,
+            self.semi_token,
+        );
+        let named = (
+            Called(Part::Name, self.ident),
+            generics,
+            self.colon_token,
+            value,
+        );
+        Node(Kind::AConst, (self.const_token, named)).to_tree(arena)
+    }
+}

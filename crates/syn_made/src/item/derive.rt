@@ -1,0 +1,139 @@
+//! What is derived for: structs, enums and unions, with their attributes and their visibility.
+
+ghost use Rattle.syn_made.specs.MadeAmong.{data_item_form};
+ghost use Rattle.std.specs.Prelude.{◌≡◌, IfOk, MatchOption};
+ghost use Rattle.syn_data.specs.Derive.{IsEnded, IsItemOf, IsWhole, chosen_data, data_form, derive_input};
+ghost use Rattle.syn_data.specs.Derive.{item_tree};
+
+use crate::forms::{First, Node, Second};
+use crate::item::among::kept;
+use crate::to_tree::ToTree;
+use crate::try_to_tree::TryToTree;
+use gram_table::kind::Kind;
+use gram_tree::arena::Arena;
+use gram_tree::tree::Tree;
+use std::alloc::AllocError;
+use syn_data::derive::{Data, DataItem, DeriveInput};
+use syn_data::item::{ItemEnum, ItemStruct, ItemUnion};
+use syn_item::item::{Item, ItemForm};
+
+impl<'t, 'a> TryToTree<'a> for DataItem<'t, 'a> {
+    ghost says = { λ x tree. IsWhole x × (tree ≡ item_tree x) };
+
+    fn try_to_tree(&self, arena: &'a Arena) -> Result<Option<Tree<'a>>, AllocError> {
+        match self {
+            DataItem::Struct(item) => match item.try_to_tree(arena)? {
+                Some(tree) => Ok(Some(tree)),
+                None => Ok(None),
+            },
+            DataItem::Enum(item) => Ok(Some(item.to_tree(arena)?)),
+            DataItem::Union(item) => Ok(Some(item.to_tree(arena)?)),
+        }
+    }
+}
+
+// What it is behind its attributes and its visibility.
+fn form<'a>(arena: &'a Arena, input: &DeriveInput<'_, 'a>) -> Result<Option<Tree<'a>>, AllocError>
+    ensures { IfOk result (λ o. MatchOption o (IsEnded input.now.«data» → ⊥)
+        (λ x. IsEnded input.now.«data» × (x ≡ data_form input.now))) }
+{
+    match &input.data {
+        Data::Struct(found) => {
+            let item = ItemStruct {
+                struct_token: found.struct_token,
+                ident: input.ident,
+                generics: input.generics,
+                where_clause: input.where_clause,
+                fields: found.fields,
+                semi_token: found.semi_token,
+            };
+            match item.try_to_tree(arena)? {
+                Some(tree) => Ok(Some(tree)),
+                None => Ok(None),
+            }
+        }
+        Data::Enum(found) => {
+            let item = ItemEnum {
+                enum_token: found.enum_token,
+                ident: input.ident,
+                generics: input.generics,
+                where_clause: input.where_clause,
+                brace_token: found.brace_token,
+                variants: found.variants,
+            };
+            Ok(Some(item.to_tree(arena)?))
+        }
+        Data::Union(found) => {
+            let item = ItemUnion {
+                union_token: found.union_token,
+                ident: input.ident,
+                generics: input.generics,
+                where_clause: input.where_clause,
+                fields: found.fields,
+            };
+            Ok(Some(item.to_tree(arena)?))
+        }
+    }
+}
+
+// Which of the three was chosen.
+fn chosen<'a>(
+    arena: &'a Arena,
+    which: &Data<'_, 'a>,
+    form: &Tree<'a>,
+) -> Result<Tree<'a>, AllocError>
+    ensures { IfOk result (λ x. x ≡ chosen_data which.now form.now) }
+{
+    match which {
+        Data::Struct(_) => First(form).to_tree(arena),
+        Data::Enum(_) => Second(First(form)).to_tree(arena),
+        Data::Union(_) => Second(Second(form)).to_tree(arena),
+    }
+}
+
+impl<'t, 'a> TryToTree<'a> for DeriveInput<'t, 'a> {
+    ghost says = { λ x tree. IsEnded x.«data» × (tree ≡ derive_input x) };
+
+    fn try_to_tree(&self, arena: &'a Arena) -> Result<Option<Tree<'a>>, AllocError> {
+        let Some(form) = form(arena, self)? else {
+            return Ok(None);
+        };
+        let which = chosen(arena, &self.data, &form)?;
+        let inside = (self.attrs, self.vis, &which);
+        Ok(Some(Node(Kind::DeriveInput, inside).to_tree(arena)?))
+    }
+}
+
+// The form of an item that data is.
+fn item_form(which: &Data<'_, '_>) -> ItemForm
+    ensures { result ≡ data_item_form which.now }
+{
+    match which {
+        Data::Struct(_) => ItemForm::Struct,
+        Data::Enum(_) => ItemForm::Enum,
+        Data::Union(_) => ItemForm::Union,
+    }
+}
+
+/// What is derived for as an item among others, as a node of the kind `AnItem`; `None`, exactly where the semicolon of a
+/// struct is not as its fields need it.
+///
+/// # Errors
+///
+/// Where there is no memory for it.
+pub fn item<'a>(
+    arena: &'a Arena,
+    input: &DeriveInput<'_, 'a>,
+) -> Result<Option<Tree<'a>>, AllocError>
+    ensures { IfOk result (λ o. MatchOption o (IsEnded input.now.«data» → ⊥)
+        (λ x. IsEnded input.now.«data» × IsItemOf input.now x)) }
+{
+    let Some(form) = form(arena, input)? else {
+        return Ok(None);
+    };
+    let item = Item {
+        form: item_form(&input.data),
+        tree: &form,
+    };
+    Ok(Some(kept(arena, input.attrs, input.vis, &item)?))
+}

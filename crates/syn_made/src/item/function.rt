@@ -1,0 +1,139 @@
+//! Functions: their signatures, parameters and receivers.
+
+ghost use Rattle.syn_item.specs.ItemFunctions.{IsItemFn, IsReceiver, fn_arg_tree, one_parameter, parameter, parameters};
+ghost use Rattle.syn_item.specs.ItemFunctions.{safety_is, signature, variadic_tree};
+
+use crate::forms::{Called, First, Grouped, Node, Second};
+use crate::to_tree::ToTree;
+use crate::try_to_tree::TryToTree;
+use gram_table::kind::Kind;
+use gram_table::part::Part;
+use gram_tree::arena::Arena;
+use gram_tree::tree::Tree;
+use std::alloc::AllocError;
+use syn_item::function::{
+    FnArg, ItemFn, OneParameter, Parameter, Parameters, Receiver, ReceiverKind, Safety, Signature,
+    Variadic,
+};
+
+impl<'t, 'a> ToTree<'a> for Parameters<'t, 'a> {
+    ghost tree = { parameters };
+
+    fn to_tree(&self, arena: &'a Arena) -> Result<Tree<'a>, AllocError> {
+        let inside = Grouped(self.paren_token, self.inputs);
+        Node(Kind::Parameters, First(inside)).to_tree(arena)
+    }
+}
+
+impl<'t, 'a> ToTree<'a> for Variadic<'t, 'a> {
+    ghost tree = { λ x. variadic_tree x.pat x.dots };
+
+    fn to_tree(&self, arena: &'a Arena) -> Result<Tree<'a>, AllocError> {
+        let dots = First(Called(Part::Dots, self.dots));
+        match self.pat {
+            Some(found) => {
+                let pat = Called(Part::Pattern, found.pat);
+                Second(Second(Second((pat, found.colon_token, dots)))).to_tree(arena)
+            }
+            None => Second(dots).to_tree(arena),
+        }
+    }
+}
+
+impl<'t, 'a> ToTree<'a> for FnArg<'t, 'a> {
+    ghost tree = { fn_arg_tree };
+
+    fn to_tree(&self, arena: &'a Arena) -> Result<Tree<'a>, AllocError> {
+        match *self {
+            FnArg::Receiver(receiver) => First(Called(Part::Receiver, receiver)).to_tree(arena),
+            FnArg::Typed(typed) => {
+                let pat = Called(Part::Pattern, typed.pat);
+                let ty = Second(Called(Part::Type, typed.ty));
+                Second(Second(Second((pat, typed.colon_token, ty)))).to_tree(arena)
+            }
+            FnArg::Unnamed(ty) => Second(Second(First(Called(Part::Unnamed, ty)))).to_tree(arena),
+            FnArg::Variadic(variadic) => variadic.to_tree(arena),
+        }
+    }
+}
+
+// Of a pattern with its type the attributes are those of the parameter.
+impl<'t, 'a> ToTree<'a> for Parameter<'t, 'a> {
+    ghost tree = { parameter };
+
+    fn to_tree(&self, arena: &'a Arena) -> Result<Tree<'a>, AllocError> {
+        Node(Kind::Parameter, (self.attrs, self.arg)).to_tree(arena)
+    }
+}
+
+impl<'t, 'a> ToTree<'a> for OneParameter<'t, 'a> {
+    ghost tree = { one_parameter };
+
+    fn to_tree(&self, arena: &'a Arena) -> Result<Tree<'a>, AllocError> {
+        Node(Kind::FnArg, First(self.parameter)).to_tree(arena)
+    }
+}
+
+impl<'t, 'a> TryToTree<'a> for Receiver<'t, 'a> {
+    ghost says = { IsReceiver };
+
+    fn try_to_tree(&self, arena: &'a Arena) -> Result<Option<Tree<'a>>, AllocError> {
+        match (self.kind, self.mutability) {
+            (ReceiverKind::Value, mutability) => {
+                let value = (mutability, self.self_token, Second(()));
+                Ok(Some(Node(Kind::Receiver, Second(value)).to_tree(arena)?))
+            }
+            (ReceiverKind::Typed(colon, ty), mutability) => {
+                let value = (mutability, self.self_token, First((colon, ty)));
+                Ok(Some(Node(Kind::Receiver, Second(value)).to_tree(arena)?))
+            }
+            (ReceiverKind::Reference(and, lifetime, mutability), None) => {
+                let reference = (and, lifetime, mutability, self.self_token);
+                Ok(Some(Node(Kind::Receiver, First(reference)).to_tree(arena)?))
+            }
+            _ => Ok(None),
+        }
+    }
+}
+
+impl<'a> ToTree<'a> for Safety<'a> {
+    ghost tree = { safety_is };
+
+    fn to_tree(&self, arena: &'a Arena) -> Result<Tree<'a>, AllocError> {
+        match *self {
+            Safety::Unsafe(word) => First(Called(Part::Safety, word)).to_tree(arena),
+            Safety::Safe(word) => First(Called(Part::Safety, word)).to_tree(arena),
+            Safety::Default => Second(()).to_tree(arena),
+        }
+    }
+}
+
+impl<'t, 'a> ToTree<'a> for Signature<'t, 'a> {
+    ghost tree = { signature };
+
+    fn to_tree(&self, arena: &'a Arena) -> Result<Tree<'a>, AllocError> {
+        let ident = Called(Part::Name, self.ident);
+        let generics = Called(Part::Generics, self.generics);
+        let where_clause = Called(Part::Where, self.where_clause);
+        let types = (self.inputs, self.output, where_clause);
+        let named = (self.abi, self.fn_token, ident, (generics, types));
+        let inside = (self.constness, self.asyncness, self.safety, named);
+        Node(Kind::Signature(self.place), inside).to_tree(arena)
+    }
+}
+
+impl<'t, 'a> TryToTree<'a> for ItemFn<'t, 'a> {
+    ghost says = { IsItemFn };
+
+    fn try_to_tree(&self, arena: &'a Arena) -> Result<Option<Tree<'a>>, AllocError> {
+        let kind = Kind::AFunction(self.place);
+        match (self.block, self.semi_token) {
+            (Some(block), None) => {
+                let body = First(Called(Part::Body, block));
+                Ok(Some(Node(kind, (self.sig, body)).to_tree(arena)?))
+            }
+            (None, Some(semi)) => Ok(Some(Node(kind, (self.sig, Second(semi))).to_tree(arena)?)),
+            _ => Ok(None),
+        }
+    }
+}

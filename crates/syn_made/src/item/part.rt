@@ -1,0 +1,28 @@
+//! A part that may be missing.
+
+ghost use Rattle.gram_table.specs.Parts.{part_of};
+ghost use Rattle.syn_ast.specs.Leaves.{optional_tree};
+ghost use Rattle.syn_grammar.specs.Tree as t;
+
+use crate::forms::{Called, First};
+use crate::parts::missing;
+use crate::to_tree::ToTree;
+use gram_table::part::Part;
+use gram_tree::arena::Arena;
+use gram_tree::tree::Tree;
+use std::alloc::AllocError;
+
+/// A part by its name, or nothing.
+#[derive(Clone, Copy)]
+pub struct MaybeCalled<T>(pub Part, pub Option<T>);
+
+impl<'a, T: ToTree<'a> + Copy> ToTree<'a> for MaybeCalled<T> {
+    ghost tree = { λ x. optional_tree (λ y. t.Called (part_of x.0) (T.tree y)) x.1 };
+
+    fn to_tree(&self, arena: &'a Arena) -> Result<Tree<'a>, AllocError> {
+        match self.1 {
+            Some(value) => First(Called(self.0, value)).to_tree(arena),
+            None => missing(arena),
+        }
+    }
+}

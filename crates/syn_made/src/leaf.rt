@@ -1,0 +1,76 @@
+//! Leaves as trees, tokens that are kept as they are, and trees that are lent.
+
+ghost use Rattle.std.specs.Prelude.{◌≡◌};
+ghost use Rattle.syn_ast.specs.Leaves.{lifetime_tree, literal_tree, mark_tree, node_tree, raw_tree, word_tree};
+
+use crate::to_tree::ToTree;
+use gram_tree::arena::Arena;
+use gram_tree::made;
+use gram_tree::tree::Tree;
+use rust_leaf::ident::Ident;
+use rust_leaf::literal::Literal;
+use std::alloc::AllocError;
+use syn_ast::leaf::{Lifetime, Mark};
+use syn_buffer::entry::Entry;
+
+/// A punctuation.
+pub fn mark<'a>(mark: Mark) -> Tree<'a>
+    ensures { result ≡ mark_tree mark }
+{
+    made::mark(mark.sign, mark.spacing, mark.span)
+}
+
+/// A lifetime.
+pub fn lifetime<'a>(lifetime: Lifetime<'a>) -> Tree<'a>
+    ensures { result ≡ lifetime_tree lifetime.entry }
+{
+    made::lifetime(lifetime.apostrophe, lifetime.ident)
+}
+
+impl<'a> ToTree<'a> for &'a Ident {
+    ghost tree = { word_tree };
+
+    fn to_tree(&self, _arena: &'a Arena) -> Result<Tree<'a>, AllocError> {
+        Ok(made::word(self))
+    }
+}
+
+impl<'a> ToTree<'a> for &'a Literal {
+    ghost tree = { literal_tree };
+
+    fn to_tree(&self, _arena: &'a Arena) -> Result<Tree<'a>, AllocError> {
+        Ok(made::literal(self))
+    }
+}
+
+impl<'a> ToTree<'a> for Mark {
+    ghost tree = { mark_tree };
+
+    fn to_tree(&self, _arena: &'a Arena) -> Result<Tree<'a>, AllocError> {
+        Ok(mark(*self))
+    }
+}
+
+impl<'a> ToTree<'a> for Lifetime<'a> {
+    ghost tree = { lifetime_tree };
+
+    fn to_tree(&self, _arena: &'a Arena) -> Result<Tree<'a>, AllocError> {
+        Ok(lifetime(*self))
+    }
+}
+
+impl<'a> ToTree<'a> for &'a [Entry<'a>] {
+    ghost tree = { raw_tree };
+
+    fn to_tree(&self, _arena: &'a Arena) -> Result<Tree<'a>, AllocError> {
+        Ok(made::raw(self))
+    }
+}
+
+impl<'t, 'a> ToTree<'a> for &'t Tree<'a> {
+    ghost tree = { node_tree };
+
+    fn to_tree(&self, _arena: &'a Arena) -> Result<Tree<'a>, AllocError> {
+        Ok(self.copy())
+    }
+}

@@ -1,0 +1,22 @@
+//! Values that are trees.
+
+ghost use Rattle.std.specs.Prelude.{◌≡◌, IfOk};
+ghost use Rattle.syn_grammar.specs.Tree.{Tree as GivenTree};
+
+use gram_tree::arena::Arena;
+use gram_tree::tree::Tree;
+use std::alloc::AllocError;
+
+/// What a tree can be made of: a type of the syntax tree, which is one layer of a tree.
+pub trait ToTree<'a> {
+    /// The tree that a value is.
+    ghost tree: { Self → GivenTree };
+
+    /// The value as a tree. What it adds stands in the arena.
+    ///
+    /// # Errors
+    ///
+    /// Where there is no memory for it.
+    fn to_tree(&self, arena: &'a Arena) -> Result<Tree<'a>, AllocError>
+        ensures { IfOk result (λ x. x ≡ tree self.now) };
+}
