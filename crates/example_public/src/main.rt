@@ -1,0 +1,101 @@
+//! A source rewriter: reads a struct from standard input and writes it with each of its named fields public. What is read
+//! is taken apart by `of`, and what is changed is put together by `to_tree`, with the other fields as they were.
+#![tactic(auto)]
+
+use anyhow::{Result, anyhow};
+use std::alloc::Global;
+use std::io::{Read, Write};
+use syn::{
+    Arena, Data, DataStruct, DeriveInput, Element, Elements, Fields, FieldsNamed, Ident,
+    NamedField, SourceMap, Span, TokenBuffer, TokenStream, Tree, Visibility, parse2, print,
+    put_normal,
+};
+use syn_made::to_tree::ToTree;
+use syn_made::try_to_tree::TryToTree;
+
+// A field once more, public.
+fn public_field<'a>(arena: &'a Arena, vis: &Tree<'a>, field: &Tree<'a>) -> Result<Tree<'a>> {
+    match NamedField::of(field) {
+        Some(named) => Ok(NamedField { vis, ..named }.to_tree(arena)?),
+        None => Err(anyhow!("a field has no name")),
+    }
+}
+
+// What a mark follows of some fields, each of them public.
+fn public_elements<'a>(
+    arena: &'a Arena,
+    vis: &Tree<'a>,
+    elements: &[Element<'a>],
+) -> Result<Vec<Element<'a>>> {
+    let mut made = Vec::new(arena.alloc());
+    for element in elements {
+        let tree = public_field(arena, vis, &element.tree)?;
+        made.push(Element {
+            tree,
+            spacing: element.spacing,
+        })?;
+    }
+    Ok(made)
+}
+
+// A struct once more, with these fields in braces, each of them public.
+fn public_struct<'a>(
+    arena: &'a Arena,
+    input: &DeriveInput<'_, 'a>,
+    item: &DataStruct<'_, 'a>,
+    fields: &FieldsNamed<'_, 'a>,
+) -> Result<Tree<'a>> {
+    let word = arena.put(Ident::new(arena.alloc(), "pub", Span::call_site())?)?;
+    let vis = Visibility::Public(word).to_tree(arena)?;
+    let before = public_elements(arena, &vis, fields.named.before)?;
+    let last = match fields.named.last {
+        Some(field) => Some(public_field(arena, &vis, field)?),
+        None => None,
+    };
+    let named = Elements {
+        separator: fields.named.separator,
+        before: before.as_slice(),
+        last: last.as_ref(),
+    };
+    let fields = Fields::Named(FieldsNamed { named, ..*fields });
+    let data = Data::Struct(DataStruct { fields, ..*item });
+    match (DeriveInput { data, ..*input }).try_to_tree(arena)? {
+        Some(tree) => Ok(tree),
+        None => Err(anyhow!("its semicolon is not as its fields need it")),
+    }
+}
+
+// The tokens of the struct that a buffer holds, with its fields public.
+fn rewritten(alloc: Global, buffer: &TokenBuffer) -> Result<String> {
+    let arena = Arena::new(alloc);
+    let input = parse2::<DeriveInput>(&arena, buffer)?;
+    let Data::Struct(item) = input.data else {
+        return Err(anyhow!("it is no struct"));
+    };
+    let Fields::Named(fields) = item.fields else {
+        return Err(anyhow!("its fields have no names"));
+    };
+    let tree = public_struct(&arena, &input, &item, &fields)?;
+    let mut pieces = Vec::new(alloc);
+    match put_normal(&arena, &tree, &mut pieces) {
+        Ok(()) => Ok(print(alloc, &pieces)?),
+        Err(_) => Err(anyhow!("out of memory")),
+    }
+}
+
+// The struct that a text is, with its fields public.
+fn public(text: &str, alloc: Global) -> Result<String> {
+    let mut map = SourceMap::new(alloc);
+    let stream = TokenStream::from_str(alloc, text, &mut map)?;
+    let buffer = TokenBuffer::new2(alloc, &stream, 1)?;
+    let out = rewritten(alloc, &buffer)?;
+    Ok(format!(in alloc; "{out}\n")?)
+}
+
+fn main(rt: HostRuntime) -> Result<()> {
+    let mut text = String::new(rt.alloc());
+    rt.reader().read_to_string(&mut text)?;
+    let out = public(text.as_str(), rt.alloc())?;
+    rt.stdout().write_all(out.as_bytes())?;
+    Ok(())
+}
