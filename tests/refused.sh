@@ -1,6 +1,6 @@
 #!/usr/bin/env bash
 # Runs built programs once for each allocation that they make, refusing that one: canon_cli on its stored input, on a
-# text at fault, on a large text, on an argument, and for an outline; lex_cli on its stored input; grow_check on each text of
+# large text, on doc and other comments, on texts at fault, on an argument, and for an outline; lex_cli on its stored input; grow_check on each text of
 # tests/texts, behind an older text in its map, on streams that are built by hand, and on literals of texts and their
 # values; grow_calls and grow_grammar on what they read, build, write and print by themselves. Each run must give the
 # answer itself, with its status and what it says on standard error, or end with nothing written: with status 3 where
@@ -69,6 +69,14 @@ printf 'fn f(){#[a] x..y; use {::a}; |x| #[a] .. + 1}' > "$work/ranges"
 printf 'fn f () { # [a] (x .. y) ; use { :: a } ; (| x | # [a] (..)) + 1 }\n' > "$work/ranges.answer"
 answer=$work/ranges.answer
 sweep "canon, ranges behind attributes" canon_cli "$work/ranges"
+printf '/// hi\nstruct S;' > "$work/doc"
+printf '# [doc = " hi"] struct S ;\n' > "$work/doc.answer"
+answer=$work/doc.answer
+sweep "canon, a doc comment" canon_cli "$work/doc"
+printf '/*c*/const S:&'"'"'static str=r#"a"#;//x' > "$work/raw"
+printf 'const S : & '"'"'static str = r#"a"# ;\n' > "$work/raw.answer"
+answer=$work/raw.answer
+sweep "canon, comments and a raw string" canon_cli "$work/raw"
 want=1 answer=$work/nothing
 printf 'struct S;\nm!{(' > "$work/lexical"
 said=$'canon: lexical fault at 2:3\n'
