@@ -71,22 +71,20 @@ fn ending(tree: &Tree<'_>) -> Option<bool>
     ensures { result ≡ ending (flat tree.now) }
 {
     match &tree.form {
-        Form::Word(_) | Form::Literal(_) | Form::Mark(_, _, _) | Form::Lifetime(_, _) => Some(
-            false,
-        ),
-        Form::Raw(entries) => last_entry(entries),
-        Form::Nil => None,
+        Form::Word(_) | Form::Literal(_) | Form::Mark(_, _, _) | Form::Lifetime(_) => Some(false),
+        Form::Raw(kept) => last_entry(kept.entries),
+        Form::Nil | Form::End => None,
         Form::Pair(two) | Form::Front(_, two) | Form::Back(_, two) => ending_of_two(two),
         Form::Infix(_, three) => match later(ending(&three.own), ending(&three.right)) {
             Some(closes) => Some(closes),
             None => ending(&three.left),
         },
-        Form::Turns(turns) => ending_of_turns(turns),
+        Form::Turns(turns) => ending_of_turns(turns.each),
         Form::Elements(list) => match list.last {
             Some(last) => later(behind_marks(list.before), ending(last)),
             None => behind_marks(list.before),
         },
-        Form::Group(delimiter, _, _) => Some(is_brace(*delimiter)),
+        Form::Group(delimiter, _) => Some(is_brace(*delimiter)),
         Form::First(_, inner) | Form::Second(_, inner) | Form::Dropped(inner) => ending(inner),
         Form::Called(_, inner) | Form::Verbatim(inner) | Form::Node(_, inner) => ending(inner),
         Form::Whole(inner) | Form::Alone(_, inner) => ending(inner),

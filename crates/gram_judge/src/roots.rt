@@ -21,7 +21,7 @@ fn has_root(tree: &Tree<'_>) -> bool
             Kind::UseRooted => rooted_has_root(inner),
             _ => false,
         },
-        Form::Group(_, _, inner) => has_root(inner),
+        Form::Group(_, group) => has_root(&group.inside),
         Form::Elements(list) => match list.last {
             Some(last) => some_has_root(list.before) || has_root(last),
             None => some_has_root(list.before),

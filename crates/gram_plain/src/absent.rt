@@ -20,25 +20,16 @@ use gram_table::part::Part;
 use gram_table::word::{Keyword, Sign, Words};
 use gram_tree::arena::Arena;
 use gram_tree::made;
-use gram_tree::tree::{Form, Tree};
+use gram_tree::tree::Tree;
 use rust_leaf::ident::Ident;
 use std::alloc::AllocError;
 use syn_buffer::entry::Entry;
-
-/// No turns.
-pub(crate) fn no_turns<'a>() -> Tree<'a>
-    ensures { result ≡ t.End }
-{
-    Tree {
-        form: Form::Turns(&[]),
-    }
-}
 
 // A node of the kind, without turns.
 fn without_turns<'a>(arena: &'a Arena, kind: Kind) -> Result<Tree<'a>, AllocError>
     ensures { IfOk result (λ x. x ≡ t.Node (kind_of kind) t.End) }
 {
-    made::node(arena, kind, no_turns())
+    made::node(arena, kind, made::no_turns())
 }
 
 // The node of the kind, of a part that is absent.

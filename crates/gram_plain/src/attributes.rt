@@ -62,7 +62,7 @@ fn kept<'a>(arena: &'a Arena, group: Group<'a>) -> Result<Option<Tree<'a>>, Allo
     ensures tree { IfOk result (λ o. IfSome o (λ x. x ≡ delimited group.entry.delimiter (tokens group.entry.inside.now))) }
     ensures kept { IfOk result (λ o. IfSome o (λ x. IsKept group.entry.delimiter)) }
 {
-    let inside = made::raw(group.inside);
+    let inside = made::raw(arena, group.inside)?;
     let inner = made::group(arena, group.delimiter, group.span, inside)?;
     let chosen = match group.delimiter {
         Delimiter::Parenthesis => made::first(arena, inner)?,

@@ -11,7 +11,6 @@ ghost use Rattle.syn_grammar.specs.Kind as kind;
 ghost use Rattle.syn_grammar.specs.Words.{is_ident};
 ghost use Rattle.syn_grammar.specs.Say.{marks};
 
-use crate::absent::no_turns;
 use crate::names::colon;
 use gram_look::leaf::word as passes;
 use gram_look::sign::sign;
@@ -119,7 +118,7 @@ fn alternative<'a>(arena: &'a Arena, name: &'a Ident) -> Result<Tree<'a>, AllocE
 fn only_alternative<'a>(arena: &'a Arena, name: &'a Ident) -> Result<Tree<'a>, AllocError>
     ensures { IfOk result (λ x. x ≡ only_alternative (ident_text name.now)) }
 {
-    let parts = made::pair(arena, alternative(arena, name)?, no_turns())?;
+    let parts = made::pair(arena, alternative(arena, name)?, made::no_turns())?;
     made::node(arena, Kind::SeveralPatterns, parts)
 }
 
@@ -127,7 +126,7 @@ fn only_alternative<'a>(arena: &'a Arena, name: &'a Ident) -> Result<Tree<'a>, A
 fn only_pattern<'a>(arena: &'a Arena, name: &'a Ident) -> Result<Tree<'a>, AllocError>
     ensures { IfOk result (λ x. x ≡ only_pattern (ident_text name.now)) }
 {
-    let parts = made::pair(arena, alternative(arena, name)?, no_turns())?;
+    let parts = made::pair(arena, alternative(arena, name)?, made::no_turns())?;
     let from_front = made::pair(arena, made::second(arena, made::nil())?, parts)?;
     made::node(arena, Kind::Pattern, from_front)
 }

@@ -59,23 +59,31 @@ pub(crate) struct NoToken<'a> {
     ghost is_nil: { tree.now ≡ Nil },
 }
 
-/// The tree of no token, which is what is chosen. It takes no place.
+/// The tree of no token, which is what is chosen. It takes no place where 32 bits count the choices.
 #[tactic(auto, using(gram_tree::proofs::Seconds::seconds_less))]
 #[inline(always)]
-pub(crate) fn absent<'a>(nil: NoToken<'a>, seconds: usize, is_first: bool) -> Tree<'a>
-    ensures { result ≡ around_of (arounds.Chosen seconds is_first) Nil }
+pub(crate) fn absent<'a>(
+    arena: &'a Arena,
+    nil: NoToken<'a>,
+    seconds: usize,
+    is_first: bool,
+) -> Result<Tree<'a>, AllocError>
+    ensures { IfOk result (λ x. x ≡ around_of (arounds.Chosen seconds is_first) Nil) }
 {
+    if seconds > u32::MAX as usize {
+        return surrounded(arena, Around::Chosen(seconds, is_first), made::nil());
+    }
     if is_first {
-        return Tree {
-            form: Form::First(seconds, nil.tree),
-        };
+        return Ok(Tree {
+            form: Form::First(seconds as u32, nil.tree),
+        });
     }
     if seconds == 0 {
-        return made::nil();
+        return Ok(made::nil());
     }
-    Tree {
-        form: Form::Second(seconds - 1, nil.tree),
-    }
+    Ok(Tree {
+        form: Form::Second((seconds - 1) as u32, nil.tree),
+    })
 }
 
 /// What was read, with that around it.

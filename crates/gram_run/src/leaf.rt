@@ -15,6 +15,7 @@ use crate::refusal::{Refusal, Wanted, refuse};
 use crate::rules::Rules;
 use gram_table::op::Separator;
 use gram_table::word::{Literals, Sign, Words};
+use gram_tree::arena::Arena;
 use gram_tree::made;
 use gram_tree::tree::Tree;
 use rust_leaf::punct::Spacing;
@@ -81,7 +82,10 @@ pub(crate) fn mark<'a, R: Rules>(
 
 /// `'` and a word.
 #[tactic(auto, unfolding(syn_grammar::specs::Run::lifetime_at))]
-pub(crate) fn lifetime<'a>(at: &'a [Entry<'a>]) -> Result<(Tree<'a>, &'a [Entry<'a>]), Refusal>
+pub(crate) fn lifetime<'a>(
+    arena: &'a Arena,
+    at: &'a [Entry<'a>],
+) -> Result<(Tree<'a>, &'a [Entry<'a>]), Refusal>
     requires { IsTrue (is_whole at.now) }
     ensures answer { Gives (λ x. x.0) (λ x. x.1.now) result (lifetime_at (tokens at.now)) }
     ensures whole { IfOk result (λ x. IsTrue (is_whole x.1.now)) }
@@ -89,7 +93,7 @@ pub(crate) fn lifetime<'a>(at: &'a [Entry<'a>]) -> Result<(Tree<'a>, &'a [Entry<
     if let [first, second, rest @ ..] = at {
         if let (Entry::Punct(mark), Entry::Ident(ident)) = (*first, *second) {
             if mark.as_char() == '\'' && matches!(mark.spacing(), Spacing::Joint) {
-                return Ok((made::lifetime(mark.span(), ident), rest));
+                return Ok((made::lifetime(arena, mark.span(), ident)?, rest));
             }
         }
     }
@@ -98,12 +102,15 @@ pub(crate) fn lifetime<'a>(at: &'a [Entry<'a>]) -> Result<(Tree<'a>, &'a [Entry<
 
 /// All that is left, as it is.
 #[tactic(auto, using(crate::proofs::Leaves::raw_read, crate::proofs::Leaves::dropped_all))]
-pub(crate) fn raw<'a>(at: &'a [Entry<'a>]) -> (Tree<'a>, &'a [Entry<'a>])
+pub(crate) fn raw<'a>(
+    arena: &'a Arena,
+    at: &'a [Entry<'a>],
+) -> Result<(Tree<'a>, &'a [Entry<'a>]), Refusal>
     requires { IsTrue (is_whole at.now) }
-    ensures answer { raw_at (tokens at.now) ≡ Got result.0 (tokens result.1.now) }
-    ensures whole { IsTrue (is_whole result.1.now) }
+    ensures answer { Gives (λ x. x.0) (λ x. x.1.now) result (raw_at (tokens at.now)) }
+    ensures whole { IfOk result (λ x. IsTrue (is_whole x.1.now)) }
 {
-    (made::raw(at), &at[at.len()..])
+    Ok((made::raw(arena, at)?, &at[at.len()..]))
 }
 
 /// The mark that separates the elements of a list, and what stands behind it.

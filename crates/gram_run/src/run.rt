@@ -124,8 +124,8 @@ fn forward<'a, R: Rules>(
             Op::Word(words) => return leaf::word(words, at),
             Op::Literal(literals) => return leaf::literal(rules, literals, at),
             Op::Mark(sign) => return leaf::mark(rules, sign, at),
-            Op::Lifetime => return leaf::lifetime(at),
-            Op::Raw => return Ok(leaf::raw(at)),
+            Op::Lifetime => return leaf::lifetime(work.arena, at),
+            Op::Raw => return leaf::raw(work.arena, at),
             Op::Nothing => return Ok((made::nil(), at)),
             Op::Never => return Err(refuse(Wanted::Nothing, at)),
             Op::Star(test) => return star(rules, work, test, parts, at, fuel),
@@ -137,7 +137,10 @@ fn forward<'a, R: Rules>(
                     return Err(refuse(Wanted::Nothing, at));
                 };
                 if is_nothing(choice.parts) {
-                    return Ok((absent(work.nil, choice.seconds, choice.is_first), at));
+                    return Ok((
+                        absent(work.arena, work.nil, choice.seconds, choice.is_first)?,
+                        at,
+                    ));
                 }
                 let around = Around::Chosen(choice.seconds, choice.is_first);
                 spot = within(work, around, choice.parts, at, fuel)?;
@@ -317,7 +320,10 @@ fn optional<'a, R: Rules>(
         return Err(refuse(Wanted::Nothing, at));
     };
     if is_nothing(choice.parts) {
-        return Ok((absent(work.nil, choice.seconds, choice.is_first), at));
+        return Ok((
+            absent(work.arena, work.nil, choice.seconds, choice.is_first)?,
+            at,
+        ));
     }
     let inner = interp(rules, work, choice.parts, at, fuel);
     let around = Around::Chosen(choice.seconds, choice.is_first);

@@ -55,11 +55,13 @@ fn begin(tree: &Tree<'_>) -> Option<Span> {
     match &tree.form {
         Form::Word(ident) => Some(ident.span()),
         Form::Literal(literal) => Some(literal.span()),
-        Form::Mark(_, _, span) | Form::Lifetime(span, _) | Form::Group(_, span, _) => Some(*span),
-        Form::Raw(tokens) => begin_of_tokens(tokens),
-        Form::Nil => None,
+        Form::Mark(_, _, span) => Some(*span),
+        Form::Lifetime(lifetime) => Some(lifetime.span),
+        Form::Group(_, group) => Some(group.span),
+        Form::Raw(kept) => begin_of_tokens(kept.entries),
+        Form::Nil | Form::End => None,
         Form::Pair(two) | Form::Front(_, two) | Form::Back(_, two) => begin_of_two(two),
-        Form::Turns(turns) => begin_of_turns(turns),
+        Form::Turns(turns) => begin_of_turns(turns.each),
         Form::Elements(list) => match begin_of_elements(list.before) {
             Some(span) => Some(span),
             None => begin(list.last?),

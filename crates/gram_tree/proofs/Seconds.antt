@@ -1,6 +1,6 @@
 -- Seconds behind seconds.
-use Rattle.std.specs.Prelude.{◌≡◌, ◌+◌, ◌-◌, ◌≢◌, ℕ, zero, suc, refl}
-use Rattle.std.proofs.Common.{ap, arith, ◌∙◌}
+use Rattle.std.specs.Prelude.{◌≡◌, ◌+◌, ◌-◌, ◌≢◌, ◌≤◌, ℕ, zero, suc, refl}
+use Rattle.std.proofs.Common.{ap, arith, sym, ◌∙◌}
 use Rattle.syn_grammar.specs.Tree as t
 use Rattle.syn_grammar.specs.Tree.{Tree}
 use Rattle.gram_tree.specs.Forms.{seconds}
@@ -19,5 +19,8 @@ seconds_inside m n x =
 pub seconds_less : (n : ℕ) (x : Tree) → n ≢ 0 → t.Second (seconds (n - 1) x) ≡ seconds n x
 seconds_less zero x h = absurd (h refl)
 seconds_less (suc n) x h = let e : suc n - 1 ≡ n = omega arith in rw e refl
+
+pub seconds_halved : (h n : ℕ) (x : Tree) → h ≤ n → seconds (n - h) (seconds h x) ≡ seconds n x
+seconds_halved h n x le = let e : h + (n - h) ≡ n = omega (arith, le) in sym (seconds_sum h (n - h) x) ∙ ap (λ k. seconds k x) e
 
 pub ruleset seconds_again = (seconds_sum, seconds_inside, seconds_less)

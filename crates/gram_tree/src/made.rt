@@ -13,7 +13,7 @@ ghost use Rattle.syn_buffer.specs.Entries.{entry_token};
 ghost use Rattle.syn_grammar.specs.Tree as t;
 
 use crate::arena::Arena;
-use crate::tree::{Element, Form, Separated, Three, Tree, Two};
+use crate::tree::{Apostrophe, Element, Enclosed, Form, InTurn, Kept, Separated, Three, Tree, Two};
 use gram_table::kind::Kind;
 use gram_table::op::Separator;
 use gram_table::part::Part;
@@ -54,21 +54,29 @@ pub fn mark<'a>(sign: Sign, spacing: Spacing, span: Span) -> Tree<'a>
 }
 
 /// `'`, where it stands, and a word.
-pub fn lifetime<'a>(span: Span, ident: &'a Ident) -> Tree<'a>
-    ensures { result ≡ t.ALifetime (ident_text ident.now) }
+///
+/// # Errors
+///
+/// Where there is no memory for it.
+pub fn lifetime<'a>(arena: &'a Arena, span: Span, ident: &'a Ident) -> Result<Tree<'a>, AllocError>
+    ensures { IfOk result (λ x. x ≡ t.ALifetime (ident_text ident.now)) }
 {
-    Tree {
-        form: Form::Lifetime(span, ident),
-    }
+    Ok(Tree {
+        form: Form::Lifetime(arena.put(Apostrophe { span, ident })?),
+    })
 }
 
 /// Tokens that are kept as they are.
-pub fn raw<'a>(entries: &'a [Entry<'a>]) -> Tree<'a>
-    ensures { result ≡ t.Raw (map entry_token entries.now) }
+///
+/// # Errors
+///
+/// Where there is no memory for it.
+pub fn raw<'a>(arena: &'a Arena, entries: &'a [Entry<'a>]) -> Result<Tree<'a>, AllocError>
+    ensures { IfOk result (λ x. x ≡ t.Raw (map entry_token entries.now)) }
 {
-    Tree {
-        form: Form::Raw(entries),
-    }
+    Ok(Tree {
+        form: Form::Raw(arena.put(Kept { entries })?),
+    })
 }
 
 /// No token.
@@ -115,29 +123,43 @@ pub fn second<'a>(arena: &'a Arena, inner: Tree<'a>) -> Result<Tree<'a>, AllocEr
     seconds(arena, 1, inner)
 }
 
-/// Of so many choices, each the second of the one before it, the second of the last one.
-///
-/// # Errors
-///
-/// Where there is no memory for it.
+// The same of so many choices as 32 bits count.
 #[tactic(auto, using(crate::proofs::Seconds::seconds_again))]
-pub fn seconds<'a>(arena: &'a Arena, count: usize, inner: Tree<'a>) -> Result<Tree<'a>, AllocError>
+fn few_seconds<'a>(arena: &'a Arena, count: u32, inner: Tree<'a>) -> Result<Tree<'a>, AllocError>
     ensures { IfOk result (λ x. x ≡ seconds count inner.entry) }
 {
     if count == 0 {
         return Ok(inner);
     }
     match inner.form {
-        Form::First(depth, x) if depth <= usize::MAX - count => Ok(Tree {
+        Form::First(depth, x) if depth <= u32::MAX - count => Ok(Tree {
             form: Form::First(depth + count, x),
         }),
-        Form::Second(depth, x) if depth <= usize::MAX - count => Ok(Tree {
+        Form::Second(depth, x) if depth <= u32::MAX - count => Ok(Tree {
             form: Form::Second(depth + count, x),
         }),
         form => Ok(Tree {
             form: Form::Second(count - 1, arena.put(Tree { form })?),
         }),
     }
+}
+
+/// Of so many choices, each the second of the one before it, the second of the last one. Where 32 bits don't count them,
+/// the tree has some of them behind others.
+///
+/// # Errors
+///
+/// Where there is no memory for it.
+#[tactic(auto, using(crate::proofs::Seconds::seconds_halved))]
+pub fn seconds<'a>(arena: &'a Arena, count: usize, inner: Tree<'a>) -> Result<Tree<'a>, AllocError>
+    ensures { IfOk result (λ x. x ≡ seconds count inner.entry) }
+{
+    if count <= u32::MAX as usize {
+        return few_seconds(arena, count as u32, inner);
+    }
+    let half = count / 2;
+    let behind = seconds(arena, half, inner)?;
+    seconds(arena, count - half, behind)
 }
 
 /// Of so many choices, each the second of the one before it, and one more, the first of the last one.
@@ -152,9 +174,19 @@ pub fn first_behind<'a>(
 ) -> Result<Tree<'a>, AllocError>
     ensures { IfOk result (λ x. x ≡ seconds count (t.First inner.entry)) }
 {
-    Ok(Tree {
-        form: Form::First(count, arena.put(inner)?),
-    })
+    if count <= u32::MAX as usize {
+        return Ok(Tree {
+            form: Form::First(count as u32, arena.put(inner)?),
+        });
+    }
+    seconds(arena, count, first(arena, inner)?)
+}
+
+/// No turns.
+pub fn no_turns<'a>() -> Tree<'a>
+    ensures { result ≡ t.End }
+{
+    Tree { form: Form::End }
 }
 
 /// Turns, one behind the other.
@@ -165,8 +197,13 @@ pub fn first_behind<'a>(
 pub fn turns<'a>(arena: &'a Arena, turns: Vec<Tree<'a>>) -> Result<Tree<'a>, AllocError>
     ensures { IfOk result (λ x. x ≡ in_turn turns.entry.items) }
 {
+    if turns.is_empty() {
+        return Ok(no_turns());
+    }
     Ok(Tree {
-        form: Form::Turns(arena.put_all(turns)?),
+        form: Form::Turns(arena.put(InTurn {
+            each: arena.put_all(turns)?,
+        })?),
     })
 }
 
@@ -211,7 +248,7 @@ pub fn group<'a>(
     ensures { IfOk result (λ x. x ≡ t.Group delimiter inside.entry) }
 {
     Ok(Tree {
-        form: Form::Group(delimiter, span, arena.put(inside)?),
+        form: Form::Group(delimiter, arena.put(Enclosed { span, inside })?),
     })
 }
 

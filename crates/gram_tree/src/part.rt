@@ -41,9 +41,8 @@ impl<'a> Tree<'a> {
                 Some(x) => Some(x),
                 None => two.back.the(part),
             },
-            Form::First(_, inner) | Form::Second(_, inner) | Form::Group(_, _, inner) => inner.the(
-                part,
-            ),
+            Form::First(_, inner) | Form::Second(_, inner) => inner.the(part),
+            Form::Group(_, group) => group.inside.the(part),
             _ => None,
         }
     }

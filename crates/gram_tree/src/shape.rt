@@ -37,7 +37,7 @@ impl<'a> Tree<'a> {
         ensures { option_map (λ x. x.now) result ≡ group_of self.now }
     {
         match &self.form {
-            Form::Group(_, _, inner) => Some(inner),
+            Form::Group(_, group) => Some(&group.inside),
             _ => None,
         }
     }
@@ -166,7 +166,7 @@ impl<'a> Tree<'a> {
         ensures { MatchOption result (is_turns self.now ≡ false) (λ xs. self.now ≡ turns xs.now) }
     {
         match &self.form {
-            Form::Turns(turns) => Some(turns),
+            Form::Turns(turns) => Some(turns.each),
             _ => None,
         }
     }

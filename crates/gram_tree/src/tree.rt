@@ -68,6 +68,40 @@ pub struct Separated<'a> {
     pub last: Option<&'a Tree<'a>>,
 }
 
+/// A lifetime: its `'`, and the word behind it.
+#[derive(Drop)]
+pub struct Apostrophe<'a> {
+    /// Where its `'` stands.
+    pub span: Span,
+    /// The word behind that.
+    pub ident: &'a Ident,
+}
+
+/// Tokens that are kept as they are.
+#[derive(Drop)]
+pub struct Kept<'a> {
+    /// Each of them.
+    pub entries: &'a [Entry<'a>],
+}
+
+/// Turns, one behind the other.
+#[cycle(tree)]
+#[derive(Drop)]
+pub struct InTurn<'a> {
+    /// Each of them.
+    pub each: &'a [Tree<'a>],
+}
+
+/// A group.
+#[cycle(tree)]
+#[derive(Drop)]
+pub struct Enclosed<'a> {
+    /// The span of all of it.
+    pub span: Span,
+    /// Its inside.
+    pub inside: Tree<'a>,
+}
+
 /// What a tree is made of.
 #[cycle(tree)]
 #[derive(Drop)]
@@ -78,24 +112,26 @@ pub enum Form<'a> {
     Literal(&'a Literal),
     /// A punctuation, how its last mark is spaced, and where its first mark stands.
     Mark(Sign, Spacing, Span),
-    /// `'`, where it stands, and a word.
-    Lifetime(Span, &'a Ident),
+    /// `'` and a word.
+    Lifetime(&'a Apostrophe<'a>),
     /// Tokens that are kept as they are.
-    Raw(&'a [Entry<'a>]),
+    Raw(&'a Kept<'a>),
     /// No token.
     Nil,
     /// One, and then the other.
     Pair(&'a Two<'a>),
     /// Of choices, each the second of the one before it: so many times the second, and then the first.
-    First(usize, &'a Tree<'a>),
+    First(u32, &'a Tree<'a>),
     /// Of choices, each the second of the one before it: the second, and so many times the second.
-    Second(usize, &'a Tree<'a>),
+    Second(u32, &'a Tree<'a>),
+    /// No turn, and no element.
+    End,
     /// Turns, one behind the other.
-    Turns(&'a [Tree<'a>]),
+    Turns(&'a InTurn<'a>),
     /// Elements that a mark follows each, and a last one that none follows.
     Elements(&'a Separated<'a>),
-    /// A group, its span, and its inside.
-    Group(Delimiter, Span, &'a Tree<'a>),
+    /// A group: its delimiter, and what it encloses.
+    Group(Delimiter, &'a Enclosed<'a>),
     /// What was read, and is no part of the program.
     Dropped(&'a Tree<'a>),
     /// A part, by its name.

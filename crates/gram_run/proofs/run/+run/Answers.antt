@@ -46,6 +46,13 @@ forward-returns-in-Lifetime-clause-answer g t c =
     c.in-Some.ensures.cases.0 c.in-Lifetime.is in
     ends _ _ i.0 _ _ i.1 i.2 (λ x. x.0) (λ x. x.1.now) _ _ _ s refl c.lifetime.ensures.answer
 
+pub forward-returns-in-Raw-clause-answer : goal.forward-returns-in-Raw-clause-answer
+forward-returns-in-Raw-clause-answer g t c =
+    let i = c.steps.invariant.read in
+    let s = at_step c.steps.spot.fuel _ c.in-Some.parts.now _ _ (tokens c.steps.spot.entries.now)
+    c.in-Some.ensures.cases.0 c.in-Raw.is in
+    ends _ _ i.0 _ _ i.1 i.2 (λ x. x.0) (λ x. x.1.now) _ _ _ s refl c.raw.ensures.answer
+
 pub forward-returns-in-Never-clause-answer : goal.forward-returns-in-Never-clause-answer
 forward-returns-in-Never-clause-answer g t c =
     let i = c.steps.invariant.read in
