@@ -9,6 +9,7 @@ ghost use Rattle.syn_grammar.specs.Gram as g;
 ghost use Rattle.syn_grammar.specs.Kind as k;
 ghost use Rattle.syn_grammar.specs.Name as n;
 
+use crate::joined;
 use crate::leaf::{Delimiters, Mark};
 use crate::list::Turns;
 use crate::take::{self, Choice, Choice3};
@@ -124,13 +125,13 @@ impl<'t, 'a> Attribute<'t, 'a> {
         let Some((pound_token, not_token, bracketed)) = take::three(inner) else {
             return None;
         };
-        let Some(pound_token) = take::mark(pound_token) else {
-            return None;
-        };
-        let Some(not_token) = take::mark(not_token) else {
-            return None;
-        };
         let Some((bracket_token, meta)) = take::group(bracketed) else {
+            return None;
+        };
+        let Some((pound_token, not_token)) = joined::two(
+            take::mark(pound_token),
+            take::mark(not_token),
+        ) else {
             return None;
         };
         Some(Attribute {
@@ -245,10 +246,7 @@ impl<'t, 'a> Meta<'t, 'a> {
         let Some((path, behind)) = take::pair(inner) else {
             return None;
         };
-        let Some(path) = as_meta_path(path) else {
-            return None;
-        };
-        let Some(which) = take::chosen3(behind) else {
+        let Some((path, which)) = joined::two(as_meta_path(path), take::chosen3(behind)) else {
             return None;
         };
         match which {

@@ -14,6 +14,7 @@ ghost use Rattle.syn_grammar.specs.Kind as k;
 ghost use Rattle.syn_grammar.specs.Name as n;
 ghost use Rattle.syn_grammar.specs.Tree as t;
 
+use crate::joined;
 use crate::leaf::{Lifetime, Mark};
 use crate::list::Elements;
 use crate::sub::{
@@ -46,13 +47,10 @@ pub fn as_angled_params<'t, 'a>(tree: &'t Tree<'a>) -> Option<AngledParams<'t, '
     let Some((lt_token, params, gt_token)) = take::three(tree) else {
         return None;
     };
-    let Some(lt_token) = take::mark(lt_token) else {
-        return None;
-    };
     let Some((Part::Parameters, params)) = take::called(params) else {
         return None;
     };
-    let Some(gt_token) = take::mark(gt_token) else {
+    let Some((lt_token, gt_token)) = joined::two(take::mark(lt_token), take::mark(gt_token)) else {
         return None;
     };
     Some(AngledParams {
@@ -258,10 +256,8 @@ impl<'t, 'a> TypeParam<'t, 'a> {
         let Some((attrs, ident, colon, default)) = take::four(inner) else {
             return None;
         };
-        let Some(ident) = take::word(ident) else {
-            return None;
-        };
-        let Some(default) = optional_as_marked(default) else {
+        let Some((ident, default)) = joined::two(take::word(ident), optional_as_marked(default))
+        else {
             return None;
         };
         Some(TypeParam {
@@ -371,13 +367,10 @@ fn as_const_default<'t, 'a>(tree: &'t Tree<'a>) -> Option<ConstDefault<'t, 'a>>
     let Some((eq_token, value)) = take::pair(tree) else {
         return None;
     };
-    let Some(eq_token) = take::mark(eq_token) else {
-        return None;
-    };
     let Some((Part::Value, value)) = take::called(value) else {
         return None;
     };
-    let Some(value) = as_const_value(value) else {
+    let Some((eq_token, value)) = joined::two(take::mark(eq_token), as_const_value(value)) else {
         return None;
     };
     Some(ConstDefault { eq_token, value })
@@ -429,16 +422,12 @@ impl<'t, 'a> ConstParam<'t, 'a> {
         let Some((attrs, const_token, ident, colon_token, ty, default)) = take::six(inner) else {
             return None;
         };
-        let Some(const_token) = take::word(const_token) else {
-            return None;
-        };
-        let Some(ident) = take::word(ident) else {
-            return None;
-        };
-        let Some(colon_token) = take::mark(colon_token) else {
-            return None;
-        };
-        let Some(default) = optional_as_const_default(default) else {
+        let Some((const_token, ident, colon_token, default)) = joined::four(
+            take::word(const_token),
+            take::word(ident),
+            take::mark(colon_token),
+            optional_as_const_default(default),
+        ) else {
             return None;
         };
         Some(ConstParam {
@@ -524,13 +513,13 @@ impl<'t, 'a> WhereClause<'t, 'a> {
         let Some((where_token, predicates, end)) = take::three(inner) else {
             return None;
         };
-        let Some(where_token) = take::word(where_token) else {
-            return None;
-        };
         let Some((Part::Parameters, predicates)) = take::called(predicates) else {
             return None;
         };
-        let Some(predicates) = take::list(predicates) else {
+        let Some((where_token, predicates)) = joined::two(
+            take::word(where_token),
+            take::list(predicates),
+        ) else {
             return None;
         };
         if !take::is_ended(end) {
@@ -602,10 +591,10 @@ fn as_predicate_lifetime<'t, 'a>(tree: &'t Tree<'a>) -> Option<PredicateLifetime
     let Some((lifetime, colon_token, bounds)) = take::three(tree) else {
         return None;
     };
-    let Some(lifetime) = take::lifetime(lifetime) else {
-        return None;
-    };
-    let Some(colon_token) = take::mark(colon_token) else {
+    let Some((lifetime, colon_token)) = joined::two(
+        take::lifetime(lifetime),
+        take::mark(colon_token),
+    ) else {
         return None;
     };
     Some(PredicateLifetime {
@@ -637,10 +626,10 @@ fn as_predicate_type<'t, 'a>(tree: &'t Tree<'a>) -> Option<PredicateType<'t, 'a>
     let Some((lifetimes, bounded_ty, colon_token, bounds)) = take::four(tree) else {
         return None;
     };
-    let Some(lifetimes) = take::optional(lifetimes) else {
-        return None;
-    };
-    let Some(colon_token) = take::mark(colon_token) else {
+    let Some((lifetimes, colon_token)) = joined::two(
+        take::optional(lifetimes),
+        take::mark(colon_token),
+    ) else {
         return None;
     };
     Some(PredicateType {

@@ -2,7 +2,8 @@
 //! are those that other forms have in common; `syn_expr`, `syn_data` and `syn_item` have the rest.
 //!
 //! - `leaf`: marks, lifetimes and delimiters; `list`, `iter`: lists, and their elements one by one.
-//! - `take`: what a tree is made of, as the other modules ask for it; `sub`, `name`, `missing`: what stands in several types.
+//! - `take`: what a tree is made of, as the other modules ask for it; `joined`: several parts at once.
+//! - `sub`, `name`, `missing`: what stands in several types.
 //! - `types`, `bounds`: types.
 //! - `paths`: paths, members and macros; `position`: where the trait's path ends in a qualified one.
 //! - `generics`: generics and where clauses.
@@ -15,6 +16,7 @@ pub mod attributes;
 pub mod bounds;
 pub mod generics;
 pub mod iter;
+pub mod joined;
 pub mod kept;
 pub mod laws;
 pub mod leaf;

@@ -7,6 +7,7 @@ ghost use Rattle.syn_ast.specs.Leaves.{optional_tree, word_tree};
 ghost use Rattle.syn_ast.specs.Shape.{IsShaped};
 ghost use Rattle.syn_grammar.specs.Gram as g;
 
+use crate::joined;
 use crate::take::{self, Choice};
 use gram_tree::tree::Tree;
 use rust_leaf::ident::Ident;
@@ -72,10 +73,7 @@ pub fn as_renamed<'a>(tree: &Tree<'a>) -> Option<Renamed<'a>>
     let Some((as_token, rename)) = take::pair(tree) else {
         return None;
     };
-    let Some(as_token) = take::word(as_token) else {
-        return None;
-    };
-    let Some(rename) = as_name(rename) else {
+    let Some((as_token, rename)) = joined::two(take::word(as_token), as_name(rename)) else {
         return None;
     };
     Some(Renamed { as_token, rename })

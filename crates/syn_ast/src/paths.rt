@@ -17,6 +17,7 @@ ghost use Rattle.syn_grammar.specs.Kind as k;
 ghost use Rattle.syn_grammar.specs.Name as n;
 ghost use Rattle.syn_grammar.specs.Tree as t;
 
+use crate::joined;
 use crate::leaf::{Delimiters, Lifetime, Mark};
 use crate::list::Elements;
 use crate::sub::{Lit, Marked, Worded, as_lit, as_marked, optional_as_marked, optional_as_worded};
@@ -103,16 +104,12 @@ impl<'t, 'a> QualifiedPath<'t, 'a> {
         else {
             return None;
         };
-        let Some(lt_token) = take::mark(lt_token) else {
-            return None;
-        };
-        let Some(as_token) = optional_as_worded(as_token) else {
-            return None;
-        };
-        let Some(gt_token) = take::mark(gt_token) else {
-            return None;
-        };
-        let Some(colon2_token) = take::mark(colon2_token) else {
+        let Some((lt_token, as_token, gt_token, colon2_token)) = joined::four(
+            take::mark(lt_token),
+            optional_as_worded(as_token),
+            take::mark(gt_token),
+            take::mark(colon2_token),
+        ) else {
             return None;
         };
         let qself = QSelf {
@@ -156,19 +153,15 @@ impl<'t, 'a> AngleBracketedGenericArguments<'t, 'a> {
         let Some((colon2_token, lt_token, args, gt_token)) = take::four(inner) else {
             return None;
         };
-        let Some(colon2_token) = take::optional_mark(colon2_token) else {
-            return None;
-        };
-        let Some(lt_token) = take::mark(lt_token) else {
-            return None;
-        };
         let Some((Part::Arguments, args)) = take::called(args) else {
             return None;
         };
-        let Some(args) = take::list(args) else {
-            return None;
-        };
-        let Some(gt_token) = take::mark(gt_token) else {
+        let Some((colon2_token, lt_token, args, gt_token)) = joined::four(
+            take::optional_mark(colon2_token),
+            take::mark(lt_token),
+            take::list(args),
+            take::mark(gt_token),
+        ) else {
             return None;
         };
         Some(AngleBracketedGenericArguments {
@@ -208,10 +201,8 @@ impl<'t, 'a> ParenthesizedGenericArguments<'t, 'a> {
         let Some((paren_token, inside)) = take::group(paren_token) else {
             return None;
         };
-        let Some(inputs) = take::list(inside) else {
-            return None;
-        };
-        let Some(output) = optional_as_marked(output) else {
+        let Some((inputs, output)) = joined::two(take::list(inside), optional_as_marked(output))
+        else {
             return None;
         };
         Some(ParenthesizedGenericArguments {
@@ -343,10 +334,8 @@ impl<'t, 'a> Segments<'t, 'a> {
         let Some((ident, others)) = take::pair(tree) else {
             return None;
         };
-        let Some(ident) = take::word(ident) else {
-            return None;
-        };
-        let Some(others) = optional_as_marked(others) else {
+        let Some((ident, others)) = joined::two(take::word(ident), optional_as_marked(others))
+        else {
             return None;
         };
         let arguments = PathArguments::None;
@@ -482,10 +471,7 @@ fn as_named_segment<'t, 'a>(tree: &'t Tree<'a>) -> Option<PathSegment<'t, 'a>>
     let Some((ident, arguments)) = take::pair(tree) else {
         return None;
     };
-    let Some(ident) = take::word(ident) else {
-        return None;
-    };
-    let Some(arguments) = as_segment_end(arguments) else {
+    let Some((ident, arguments)) = joined::two(take::word(ident), as_segment_end(arguments)) else {
         return None;
     };
     Some(PathSegment { ident, arguments })
@@ -575,10 +561,7 @@ fn as_assoc_type<'t, 'a>(tree: &'t Tree<'a>) -> Option<AssocType<'t, 'a>>
     let Some((ident, eq_token, ty)) = take::three(tree) else {
         return None;
     };
-    let Some(ident) = take::word(ident) else {
-        return None;
-    };
-    let Some(eq_token) = take::mark(eq_token) else {
+    let Some((ident, eq_token)) = joined::two(take::word(ident), take::mark(eq_token)) else {
         return None;
     };
     Some(AssocType {

@@ -16,6 +16,7 @@ ghost use Rattle.syn_grammar.specs.Kind as k;
 ghost use Rattle.syn_grammar.specs.Name as n;
 ghost use Rattle.syn_grammar.specs.Tree as t;
 
+use crate::joined;
 use crate::leaf::{Delimiters, Mark};
 use crate::list::{Elements, Turns};
 use crate::sub::{Lit, Marked, as_lit, as_marked};
@@ -96,10 +97,10 @@ impl<'t, 'a> PatReference<'t, 'a> {
         let Some((and_token, mutability, pat)) = take::three(inner) else {
             return None;
         };
-        let Some(and_token) = take::mark(and_token) else {
-            return None;
-        };
-        let Some(mutability) = take::optional_word(mutability) else {
+        let Some((and_token, mutability)) = joined::two(
+            take::mark(and_token),
+            take::optional_word(mutability),
+        ) else {
             return None;
         };
         Some(PatReference {
@@ -193,10 +194,10 @@ impl<'t, 'a> PatOr<'t, 'a> {
         let Some((leading_vert, first, others)) = take::three(inner) else {
             return None;
         };
-        let Some(leading_vert) = take::optional_mark(leading_vert) else {
-            return None;
-        };
-        let Some(others) = take::each_turn(others) else {
+        let Some((leading_vert, others)) = joined::two(
+            take::optional_mark(leading_vert),
+            take::each_turn(others),
+        ) else {
             return None;
         };
         Some(PatOr {
@@ -283,16 +284,12 @@ impl<'t, 'a> PatIdent<'t, 'a> {
         let Some((by_ref, mutability, ident, subpat)) = take::four(inner) else {
             return None;
         };
-        let Some(by_ref) = take::optional_word(by_ref) else {
-            return None;
-        };
-        let Some(mutability) = take::optional_word(mutability) else {
-            return None;
-        };
-        let Some(ident) = take::word(ident) else {
-            return None;
-        };
-        let Some(subpat) = as_subpattern(subpat) else {
+        let Some((by_ref, mutability, ident, subpat)) = joined::four(
+            take::optional_word(by_ref),
+            take::optional_word(mutability),
+            take::word(ident),
+            as_subpattern(subpat),
+        ) else {
             return None;
         };
         Some(PatIdent {
@@ -442,10 +439,7 @@ fn as_negative<'a>(tree: &Tree<'a>) -> Option<SignedLit<'a>>
     let Some((mark, literal)) = take::pair(tree) else {
         return None;
     };
-    let Some(mark) = take::mark(mark) else {
-        return None;
-    };
-    let Some(literal) = take::literal(literal) else {
+    let Some((mark, literal)) = joined::two(take::mark(mark), take::literal(literal)) else {
         return None;
     };
     Some(SignedLit::Negative(mark, literal))
@@ -495,10 +489,7 @@ impl<'t, 'a> LiteralPattern<'t, 'a> {
         let Some((lit, end)) = take::pair(inner) else {
             return None;
         };
-        let Some(lit) = as_signed_lit(lit) else {
-            return None;
-        };
-        let Some(end) = take::optional(end) else {
+        let Some((lit, end)) = joined::two(as_signed_lit(lit), take::optional(end)) else {
             return None;
         };
         Some(LiteralPattern { lit, end })
@@ -700,13 +691,11 @@ fn as_shorthand<'a>(tree: &Tree<'a>) -> Option<Shorthand<'a>>
     let Some((by_ref, mutability, ident)) = take::three(tree) else {
         return None;
     };
-    let Some(by_ref) = take::optional_word(by_ref) else {
-        return None;
-    };
-    let Some(mutability) = take::optional_word(mutability) else {
-        return None;
-    };
-    let Some(ident) = take::word(ident) else {
+    let Some((by_ref, mutability, ident)) = joined::three(
+        take::optional_word(by_ref),
+        take::optional_word(mutability),
+        take::word(ident),
+    ) else {
         return None;
     };
     Some(Shorthand {

@@ -14,6 +14,7 @@ ghost use Rattle.syn_grammar.specs.Kind as k;
 ghost use Rattle.syn_grammar.specs.Name as n;
 ghost use Rattle.syn_grammar.specs.Types.{type_entry};
 
+use crate::joined;
 use crate::leaf::{Delimiters, Lifetime, Mark};
 use crate::list::Elements;
 use crate::name::{Name, as_name};
@@ -110,10 +111,10 @@ impl<'t, 'a> TypePtr<'t, 'a> {
         let Some((star_token, mutability, elem)) = take::three(inner) else {
             return None;
         };
-        let Some(star_token) = take::mark(star_token) else {
-            return None;
-        };
-        let Some(mutability) = as_pointer_mutability(mutability) else {
+        let Some((star_token, mutability)) = joined::two(
+            take::mark(star_token),
+            as_pointer_mutability(mutability),
+        ) else {
             return None;
         };
         Some(TypePtr {
@@ -150,13 +151,11 @@ impl<'t, 'a> TypeReference<'t, 'a> {
         let Some((and_token, lifetime, mutability, elem)) = take::four(inner) else {
             return None;
         };
-        let Some(and_token) = take::mark(and_token) else {
-            return None;
-        };
-        let Some(lifetime) = take::optional_lifetime(lifetime) else {
-            return None;
-        };
-        let Some(mutability) = take::optional_word(mutability) else {
+        let Some((and_token, lifetime, mutability)) = joined::three(
+            take::mark(and_token),
+            take::optional_lifetime(lifetime),
+            take::optional_word(mutability),
+        ) else {
             return None;
         };
         Some(TypeReference {
@@ -246,22 +245,16 @@ impl<'t, 'a> TypeFnPtr<'t, 'a> {
         else {
             return None;
         };
-        let Some(lifetimes) = take::optional(lifetimes) else {
-            return None;
-        };
-        let Some(unsafety) = take::optional_word(unsafety) else {
-            return None;
-        };
-        let Some(abi) = take::optional(abi) else {
-            return None;
-        };
-        let Some(fn_token) = take::word(fn_token) else {
-            return None;
-        };
         let Some((paren_token, inside)) = take::group(paren_token) else {
             return None;
         };
-        let Some(inputs) = take::list(inside) else {
+        let Some((lifetimes, unsafety, abi, fn_token, inputs)) = joined::five(
+            take::optional(lifetimes),
+            take::optional_word(unsafety),
+            take::optional(abi),
+            take::word(fn_token),
+            take::list(inside),
+        ) else {
             return None;
         };
         Some(TypeFnPtr {
@@ -294,10 +287,7 @@ fn as_argument_name<'a>(tree: &Tree<'a>) -> Option<ArgumentName<'a>>
     let Some((ident, colon_token)) = take::pair(tree) else {
         return None;
     };
-    let Some(ident) = as_name(ident) else {
-        return None;
-    };
-    let Some(colon_token) = take::mark(colon_token) else {
+    let Some((ident, colon_token)) = joined::two(as_name(ident), take::mark(colon_token)) else {
         return None;
     };
     Some(ArgumentName { ident, colon_token })
@@ -370,10 +360,10 @@ impl<'a> Abi<'a> {
         let Some((extern_token, name)) = take::pair(inner) else {
             return None;
         };
-        let Some(extern_token) = take::word(extern_token) else {
-            return None;
-        };
-        let Some(name) = take::optional_literal(name) else {
+        let Some((extern_token, name)) = joined::two(
+            take::word(extern_token),
+            take::optional_literal(name),
+        ) else {
             return None;
         };
         Some(Abi { extern_token, name })
@@ -406,16 +396,12 @@ impl<'t, 'a> BoundLifetimes<'t, 'a> {
         let Some((for_token, lt_token, lifetimes, gt_token)) = take::four(inner) else {
             return None;
         };
-        let Some(for_token) = take::word(for_token) else {
-            return None;
-        };
-        let Some(lt_token) = take::mark(lt_token) else {
-            return None;
-        };
-        let Some(lifetimes) = take::list(lifetimes) else {
-            return None;
-        };
-        let Some(gt_token) = take::mark(gt_token) else {
+        let Some((for_token, lt_token, lifetimes, gt_token)) = joined::four(
+            take::word(for_token),
+            take::mark(lt_token),
+            take::list(lifetimes),
+            take::mark(gt_token),
+        ) else {
             return None;
         };
         Some(BoundLifetimes {
@@ -543,10 +529,8 @@ impl<'t, 'a> TypeTraitObject<'t, 'a> {
         let Some((dyn_token, bounds)) = take::pair(inner) else {
             return None;
         };
-        let Some(dyn_token) = take::word(dyn_token) else {
-            return None;
-        };
-        let Some(bounds) = several_bounds(bounds) else {
+        let Some((dyn_token, bounds)) = joined::two(take::word(dyn_token), several_bounds(bounds))
+        else {
             return None;
         };
         Some(TypeTraitObject {
@@ -568,10 +552,7 @@ impl<'t, 'a> TypeTraitObject<'t, 'a> {
         let Some((dyn_token, bounds)) = take::pair(inner) else {
             return None;
         };
-        let Some(dyn_token) = take::word(dyn_token) else {
-            return None;
-        };
-        let Some(bounds) = one_bound(bounds) else {
+        let Some((dyn_token, bounds)) = joined::two(take::word(dyn_token), one_bound(bounds)) else {
             return None;
         };
         Some(TypeTraitObject {
@@ -618,10 +599,8 @@ impl<'t, 'a> TypeImplTrait<'t, 'a> {
         let Some((impl_token, bounds)) = take::pair(inner) else {
             return None;
         };
-        let Some(impl_token) = take::word(impl_token) else {
-            return None;
-        };
-        let Some(bounds) = several_bounds(bounds) else {
+        let Some((impl_token, bounds)) = joined::two(take::word(impl_token), several_bounds(bounds))
+        else {
             return None;
         };
         Some(TypeImplTrait {
@@ -643,10 +622,8 @@ impl<'t, 'a> TypeImplTrait<'t, 'a> {
         let Some((impl_token, bounds)) = take::pair(inner) else {
             return None;
         };
-        let Some(impl_token) = take::word(impl_token) else {
-            return None;
-        };
-        let Some(bounds) = one_bound(bounds) else {
+        let Some((impl_token, bounds)) = joined::two(take::word(impl_token), one_bound(bounds))
+        else {
             return None;
         };
         Some(TypeImplTrait {

@@ -12,6 +12,7 @@ use crate::part;
 use gram_table::kind::Kind;
 use gram_tree::tree::Tree;
 use rust_leaf::ident::Ident;
+use syn_ast::joined;
 use syn_ast::leaf::{Delimiters, Mark};
 use syn_ast::list::Elements;
 use syn_ast::name::{Name, as_name};
@@ -48,13 +49,11 @@ impl<'t, 'a> NamedField<'t, 'a> {
         let Some((attrs, vis, ident, colon_token, ty, default)) = take::six(inner) else {
             return None;
         };
-        let Some(ident) = as_name(ident) else {
-            return None;
-        };
-        let Some(colon_token) = take::mark(colon_token) else {
-            return None;
-        };
-        let Some(default) = optional_as_marked_value(default) else {
+        let Some((ident, colon_token, default)) = joined::three(
+            as_name(ident),
+            take::mark(colon_token),
+            optional_as_marked_value(default),
+        ) else {
             return None;
         };
         Some(NamedField {
@@ -290,16 +289,12 @@ impl<'t, 'a> Variant<'t, 'a> {
         let Some((attrs, vis, ident, fields, discriminant)) = take::five(inner) else {
             return None;
         };
-        let Some(vis) = part::dropped(vis) else {
-            return None;
-        };
-        let Some(ident) = take::word(ident) else {
-            return None;
-        };
-        let Some(fields) = as_variant_fields(fields) else {
-            return None;
-        };
-        let Some(discriminant) = optional_as_marked_value(discriminant) else {
+        let Some((vis, ident, fields, discriminant)) = joined::four(
+            part::dropped(vis),
+            take::word(ident),
+            as_variant_fields(fields),
+            optional_as_marked_value(discriminant),
+        ) else {
             return None;
         };
         Some(Variant {

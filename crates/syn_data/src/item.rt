@@ -16,6 +16,7 @@ use gram_table::kind::Kind;
 use gram_table::part::Part;
 use gram_tree::tree::Tree;
 use rust_leaf::ident::Ident;
+use syn_ast::joined;
 use syn_ast::leaf::{Delimiters, Mark};
 use syn_ast::list::Elements;
 use syn_ast::name::{Name, Renamed, as_name, optional_as_renamed};
@@ -59,13 +60,11 @@ fn unnamed_end<'t, 'a>(tree: &'t Tree<'a>) -> Option<StructEnd<'t, 'a>>
     let Some((fields, where_clause, semi_token)) = take::three(tree) else {
         return None;
     };
-    let Some(fields) = FieldsUnnamed::of(fields) else {
-        return None;
-    };
-    let Some(where_clause) = part::where_clause(where_clause) else {
-        return None;
-    };
-    let Some(semi_token) = take::mark(semi_token) else {
+    let Some((fields, where_clause, semi_token)) = joined::three(
+        FieldsUnnamed::of(fields),
+        part::where_clause(where_clause),
+        take::mark(semi_token),
+    ) else {
         return None;
     };
     Some(StructEnd {
@@ -154,16 +153,12 @@ impl<'t, 'a> ItemStruct<'t, 'a> {
         let Some((struct_token, ident, generics, end)) = take::four(inner) else {
             return None;
         };
-        let Some(struct_token) = take::word(struct_token) else {
-            return None;
-        };
-        let Some(ident) = part::name(ident) else {
-            return None;
-        };
-        let Some(generics) = part::generics(generics) else {
-            return None;
-        };
-        let Some(end) = as_struct_end(end) else {
+        let Some((struct_token, ident, generics, end)) = joined::four(
+            take::word(struct_token),
+            part::name(ident),
+            part::generics(generics),
+            as_struct_end(end),
+        ) else {
             return None;
         };
         Some(ItemStruct {
@@ -206,22 +201,16 @@ impl<'t, 'a> ItemEnum<'t, 'a> {
         let Some((enum_token, ident, generics, where_clause, variants)) = take::five(inner) else {
             return None;
         };
-        let Some(enum_token) = take::word(enum_token) else {
-            return None;
-        };
-        let Some(ident) = part::name(ident) else {
-            return None;
-        };
-        let Some(generics) = part::generics(generics) else {
-            return None;
-        };
-        let Some(where_clause) = part::where_clause(where_clause) else {
-            return None;
-        };
         let Some((brace_token, inside)) = take::group(variants) else {
             return None;
         };
-        let Some(variants) = take::list(inside) else {
+        let Some((enum_token, ident, generics, where_clause, variants)) = joined::five(
+            take::word(enum_token),
+            part::name(ident),
+            part::generics(generics),
+            part::where_clause(where_clause),
+            take::list(inside),
+        ) else {
             return None;
         };
         Some(ItemEnum {
@@ -262,19 +251,13 @@ impl<'t, 'a> ItemUnion<'t, 'a> {
         let Some((union_token, ident, generics, where_clause, fields)) = take::five(inner) else {
             return None;
         };
-        let Some(union_token) = take::word(union_token) else {
-            return None;
-        };
-        let Some(ident) = part::name(ident) else {
-            return None;
-        };
-        let Some(generics) = part::generics(generics) else {
-            return None;
-        };
-        let Some(where_clause) = part::where_clause(where_clause) else {
-            return None;
-        };
-        let Some(fields) = FieldsNamed::of(fields) else {
+        let Some((union_token, ident, generics, where_clause, fields)) = joined::five(
+            take::word(union_token),
+            part::name(ident),
+            part::generics(generics),
+            part::where_clause(where_clause),
+            FieldsNamed::of(fields),
+        ) else {
             return None;
         };
         Some(ItemUnion {
@@ -337,25 +320,14 @@ impl<'t, 'a> ItemStatic<'t, 'a> {
         let Some((static_token, mutability, ident, ty, expr, semi_token)) = take::six(inner) else {
             return None;
         };
-        let Some(static_token) = take::word(static_token) else {
-            return None;
-        };
-        let Some(mutability) = as_mutability(mutability) else {
-            return None;
-        };
-        let Some((Part::Name, ident)) = take::called(ident) else {
-            return None;
-        };
-        let Some(ident) = take::word(ident) else {
-            return None;
-        };
-        let Some(ty) = optional_as_marked_type(ty) else {
-            return None;
-        };
-        let Some(expr) = optional_as_marked_value(expr) else {
-            return None;
-        };
-        let Some(semi_token) = take::mark(semi_token) else {
+        let Some((static_token, mutability, ident, ty, expr, semi_token)) = joined::six(
+            take::word(static_token),
+            as_mutability(mutability),
+            part::name(ident),
+            optional_as_marked_type(ty),
+            optional_as_marked_value(expr),
+            take::mark(semi_token),
+        ) else {
             return None;
         };
         Some(ItemStatic {
@@ -392,13 +364,13 @@ impl<'t, 'a> ItemUse<'t, 'a> {
         let Some((use_token, tree, semi_token)) = take::three(inner) else {
             return None;
         };
-        let Some(use_token) = take::word(use_token) else {
-            return None;
-        };
         let Some((Part::Path, tree)) = take::called(tree) else {
             return None;
         };
-        let Some(semi_token) = take::mark(semi_token) else {
+        let Some((use_token, semi_token)) = joined::two(
+            take::word(use_token),
+            take::mark(semi_token),
+        ) else {
             return None;
         };
         Some(ItemUse {
@@ -437,22 +409,16 @@ impl<'a> ItemExternCrate<'a> {
         let Some((extern_token, crate_token, ident, rename, semi_token)) = take::five(inner) else {
             return None;
         };
-        let Some(extern_token) = take::word(extern_token) else {
-            return None;
-        };
-        let Some(crate_token) = take::word(crate_token) else {
-            return None;
-        };
         let Some((Part::Name, ident)) = take::called(ident) else {
             return None;
         };
-        let Some(ident) = as_name(ident) else {
-            return None;
-        };
-        let Some(rename) = optional_as_renamed(rename) else {
-            return None;
-        };
-        let Some(semi_token) = take::mark(semi_token) else {
+        let Some((extern_token, crate_token, ident, rename, semi_token)) = joined::five(
+            take::word(extern_token),
+            take::word(crate_token),
+            as_name(ident),
+            optional_as_renamed(rename),
+            take::mark(semi_token),
+        ) else {
             return None;
         };
         Some(ItemExternCrate {

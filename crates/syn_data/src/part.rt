@@ -16,7 +16,7 @@ use gram_table::part::Part;
 use gram_tree::tree::{Form, Tree};
 use rust_leaf::ident::Ident;
 use syn_ast::missing::nothing;
-use syn_ast::take;
+use syn_ast::{joined, take};
 
 /// A name.
 pub fn name<'a>(tree: &Tree<'a>) -> Option<&'a Ident>
@@ -105,10 +105,7 @@ pub fn item_parts<'t, 'a>(tree: &'t Tree<'a>) -> Option<(&'t Tree<'a>, &'t Tree<
     let Some((attrs, vis, form)) = take::three(inside) else {
         return None;
     };
-    let Some(vis) = visibility(vis) else {
-        return None;
-    };
-    let Some(form) = item(form) else {
+    let Some((vis, form)) = joined::two(visibility(vis), item(form)) else {
         return None;
     };
     Some((attrs, vis, form))

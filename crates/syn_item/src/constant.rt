@@ -14,7 +14,7 @@ use rust_leaf::ident::Ident;
 use syn_ast::leaf::Mark;
 use syn_ast::name::Name;
 use syn_ast::sub::{MarkedValue, optional_as_marked_value};
-use syn_ast::take;
+use syn_ast::{joined, take};
 
 /// A constant: `const A: T = b;`, behind its attributes and its visibility.
 #[derive(Clone, Copy)]
@@ -50,28 +50,19 @@ impl<'t, 'a> ItemConst<'t, 'a> {
             take::eight(inner) else {
             return None;
         };
-        let Some(const_token) = take::word(const_token) else {
-            return None;
-        };
-        let Some(ident) = part::name_or(ident) else {
-            return None;
-        };
-        let Some(generics) = part::generics(generics) else {
-            return None;
-        };
-        let Some(colon_token) = take::mark(colon_token) else {
-            return None;
-        };
         let Some((Part::Type, ty)) = take::called(ty) else {
             return None;
         };
-        let Some(expr) = optional_as_marked_value(expr) else {
-            return None;
-        };
-        let Some(where_clause) = part::where_clause(where_clause) else {
-            return None;
-        };
-        let Some(semi_token) = take::mark(semi_token) else {
+        let Some((const_token, ident, generics, colon_token, expr, where_clause, semi_token)) =
+            joined::seven(
+                take::word(const_token),
+                part::name_or(ident),
+                part::generics(generics),
+                take::mark(colon_token),
+                optional_as_marked_value(expr),
+                part::where_clause(where_clause),
+                take::mark(semi_token),
+            ) else {
             return None;
         };
         Some(ItemConst {

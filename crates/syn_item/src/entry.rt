@@ -21,6 +21,7 @@ use crate::part;
 use gram_table::kind::{Kind, Place};
 use gram_tree::tree::Tree;
 use rust_leaf::ident::Ident;
+use syn_ast::joined;
 use syn_ast::take::{self, Choice};
 
 /// An item of any kind, with its attributes and its visibility.
@@ -313,13 +314,11 @@ impl<'t, 'a> ForeignItemStatic<'t, 'a> {
         let Some((attrs, vis, safety, item)) = take::four(inner) else {
             return None;
         };
-        let Some(vis) = part::visibility(vis) else {
-            return None;
-        };
-        let Some(safety) = as_foreign_safety(safety) else {
-            return None;
-        };
-        let Some(item) = part::item(item) else {
+        let Some((vis, safety, item)) = joined::three(
+            part::visibility(vis),
+            as_foreign_safety(safety),
+            part::item(item),
+        ) else {
             return None;
         };
         Some(ForeignItemStatic {

@@ -15,6 +15,7 @@ ghost use Rattle.syn_item.specs.ItemMacros.{item_macro, macro_end_tree, macro_na
 use crate::part;
 use gram_table::kind::{Kind, Place};
 use gram_tree::tree::Tree;
+use syn_ast::joined;
 use syn_ast::leaf::{Delimiters, Mark};
 use syn_ast::name::Name;
 use syn_ast::paths::MacroDelimiter;
@@ -169,13 +170,11 @@ impl<'t, 'a> ItemMacro<'t, 'a> {
         let Some((path, bang_token, ident, end)) = take::four(inner) else {
             return None;
         };
-        let Some(bang_token) = take::mark(bang_token) else {
-            return None;
-        };
-        let Some(ident) = as_macro_name(place, ident) else {
-            return None;
-        };
-        let Some(end) = as_macro_end(end) else {
+        let Some((bang_token, ident, end)) = joined::three(
+            take::mark(bang_token),
+            as_macro_name(place, ident),
+            as_macro_end(end),
+        ) else {
             return None;
         };
         Some(ItemMacro {

@@ -21,6 +21,7 @@ use crate::macros::ItemMacro;
 use crate::part;
 use gram_table::kind::Kind;
 use gram_tree::tree::Tree;
+use syn_ast::joined;
 use syn_ast::take::{self, Choice5};
 
 /// A function of a trait.
@@ -183,10 +184,7 @@ impl<'t, 'a> ForeignStatic<'t, 'a> {
         let Some((safety, item)) = take::pair(tree) else {
             return None;
         };
-        let Some(safety) = as_foreign_safety(safety) else {
-            return None;
-        };
-        let Some(item) = part::item(item) else {
+        let Some((safety, item)) = joined::two(as_foreign_safety(safety), part::item(item)) else {
             return None;
         };
         Some(ForeignStatic { safety, item })

@@ -13,6 +13,7 @@ use crate::part::{Braced, as_braced};
 use gram_table::kind::Kind;
 use gram_tree::tree::Tree;
 use rust_leaf::ident::Ident;
+use syn_ast::joined;
 use syn_ast::leaf::{Delimiters, Mark};
 use syn_ast::list::Turns;
 use syn_ast::name::Name;
@@ -46,10 +47,8 @@ impl<'t, 'a> ItemForeignMod<'t, 'a> {
         let Some((unsafety, abi, body)) = take::three(inner) else {
             return None;
         };
-        let Some(unsafety) = part::optional_safety(unsafety) else {
-            return None;
-        };
-        let Some(body) = as_braced(body) else {
+        let Some((unsafety, body)) = joined::two(part::optional_safety(unsafety), as_braced(body))
+        else {
             return None;
         };
         Some(ItemForeignMod {
@@ -89,16 +88,14 @@ impl<'t, 'a> ItemMod<'t, 'a> {
         let Some((unsafety, mod_token, ident, end)) = take::four(inner) else {
             return None;
         };
-        let Some(unsafety) = part::optional_safety(unsafety) else {
-            return None;
-        };
-        let Some(mod_token) = take::word(mod_token) else {
-            return None;
-        };
-        let Some(ident) = part::name_or(ident) else {
-            return None;
-        };
         let Some((content, semi)) = module_end(end) else {
+            return None;
+        };
+        let Some((unsafety, mod_token, ident)) = joined::three(
+            part::optional_safety(unsafety),
+            take::word(mod_token),
+            part::name_or(ident),
+        ) else {
             return None;
         };
         Some(ItemMod {

@@ -19,6 +19,7 @@ use gram_table::kind::Kind;
 use gram_table::part::Part;
 use gram_tree::tree::Tree;
 use rust_leaf::ident::Ident;
+use syn_ast::joined;
 use syn_ast::leaf::{Delimiters, Mark};
 use syn_ast::list::Turns;
 use syn_ast::take::{self, Choice};
@@ -153,19 +154,13 @@ fn as_trait_form<'t, 'a>(tree: &'t Tree<'a>) -> Option<TraitForm<'t, 'a>>
     let Some((unsafety, auto_token, trait_token, ident, generics, end)) = take::six(tree) else {
         return None;
     };
-    let Some(unsafety) = part::optional_safety(unsafety) else {
-        return None;
-    };
-    let Some(auto_token) = part::optional_auto(auto_token) else {
-        return None;
-    };
-    let Some(trait_token) = take::word(trait_token) else {
-        return None;
-    };
-    let Some(ident) = part::name(ident) else {
-        return None;
-    };
-    let Some(generics) = part::generics(generics) else {
+    let Some((unsafety, auto_token, trait_token, ident, generics)) = joined::five(
+        part::optional_safety(unsafety),
+        part::optional_auto(auto_token),
+        take::word(trait_token),
+        part::name(ident),
+        part::generics(generics),
+    ) else {
         return None;
     };
     let head = TraitHead {
