@@ -1,7 +1,5 @@
 -- Types and patterns of their forms have that form, and the shape of their entry where the form has it.
-use Rattle.std.specs.Prelude.{◌≡◌, IfOk, Option, Some, None, Result, refl}
-use Rattle.std.proofs.Common.{◌∙◌, ap, subst, sym}
-use Rattle.std.proofs.lemmas.Result.{IfOk-weaker}
+use Rattle.std.specs.Prelude.{◌≡◌, Option, Some, None, refl}
 use Rattle.syn_ast.specs.Pat.{form_of_pat, pat_tree}
 use Rattle.syn_ast.specs.Shape.{IsShaped}
 use Rattle.syn_ast.specs.Types.{form_of_type, type_tree}
@@ -115,14 +113,10 @@ pub several_alone : (x : Pat) → ((y : PatOr) → x ≡ pats.Or y → ⊥)
 several_alone (pats.Or y) d = absurd (d y refl)
 several_alone x d = refl
 
--- a tree that is this one has its form and its shape
-pub has_form : {E : Type 0} (r : Result Tree E) (x y : Tree) → form_of_pat x ≡ y → IfOk r (λ z. z ≡ x)
-    → IfOk r (λ z. form_of_pat z ≡ y)
-has_form r x y f h = IfOk-weaker r (λ z. z ≡ x) (λ z. form_of_pat z ≡ y) (λ z e. ap form_of_pat e ∙ f) h
-
-pub has_shape : {E : Type 0} (r : Result Tree E) (x : Tree) (l : g.Gram) (P : Type 0) → (P → IsShaped x l)
-    → IfOk r (λ z. z ≡ x) → IfOk r (λ z. P → IsShaped z l)
-has_shape r x l P f h =
-    IfOk-weaker r (λ z. z ≡ x) (λ z. P → IsShaped z l) (λ z e p. subst (λ w. IsShaped w l) (sym e) (f p)) h
-
 pub ruleset types_whole = (type_form, type_shaped)
+
+pub ruleset one_whole = (one_form_is, one_shaped)
+
+pub ruleset pattern_whole = (pattern_form_is, pattern_shaped, pattern_alone)
+
+pub ruleset several_whole = (several_form_is, several_shaped, several_alone)
