@@ -4,7 +4,7 @@ ghost use Rattle.std.specs.Prelude.{◌≡◌, IfOk, MatchOption};
 ghost use Rattle.syn_ast.specs.Paths.{angle_bracketed_generic_arguments, argument_inside, assoc_type_tree};
 ghost use Rattle.syn_ast.specs.Paths.{behind_keyword, behind_name, delimited, generic_argument, index, keyword_alone};
 ghost use Rattle.syn_ast.specs.Paths.{macro, member, one_segment, parenthesized_generic_arguments, path};
-ghost use Rattle.syn_ast.specs.Paths.{qualified_path, segment_end, segment_inside, segments, segments_inside};
+ghost use Rattle.syn_ast.specs.Paths.{qualified_path, segment_end, segments, segments_inside};
 ghost use Rattle.syn_made.specs.MadeAst.{AreWhole, IsBare, IsNameEnd, IsSegmentEnd, IsWholeSegment};
 
 use crate::forms::{Called, First, Grouped, Node, Second};

@@ -1,7 +1,7 @@
 //! Type aliases.
 
 ghost use Rattle.std.specs.Prelude.{◌≡◌, IfOk, MatchOption};
-ghost use Rattle.syn_item.specs.ItemAliases.{IsOrderIn, item_type, type_end_tree};
+ghost use Rattle.syn_item.specs.ItemAliases.{IsOrderIn, either_tree, item_type, type_end_tree};
 
 use crate::forms::{Called, First, Node, Second};
 use crate::to_tree::ToTree;
@@ -14,6 +14,22 @@ use std::alloc::AllocError;
 use syn_ast::sub::MarkedType;
 use syn_item::alias::{ItemType, WhereOrder};
 
+// A definition and a where clause, in that order.
+fn either<'a>(
+    arena: &'a Arena,
+    order: WhereOrder,
+    definition: Option<MarkedType<'_, 'a>>,
+    where_clause: &Tree<'a>,
+) -> Result<Tree<'a>, AllocError>
+    ensures { IfOk result (λ x. x ≡ either_tree order definition.entry where_clause.entry) }
+{
+    let where_part = Called(Part::Where, where_clause);
+    match order {
+        WhereOrder::Before => First((where_part, definition)).to_tree(arena),
+        WhereOrder::Behind => Second((definition, where_part)).to_tree(arena),
+    }
+}
+
 // A definition and a where clause, as the place has them, if it has them in that order.
 fn type_end<'a>(
     arena: &'a Arena,
@@ -25,16 +41,14 @@ fn type_end<'a>(
     ensures { IfOk result (λ o. MatchOption o (IsOrderIn place order → ⊥)
         (λ x. IsOrderIn place order × (x ≡ type_end_tree place order definition.entry where_clause.entry))) }
 {
-    let where_part = Called(Part::Where, where_clause);
     match (place, order) {
-        (Place::InTrait, WhereOrder::Before) => Ok(None),
-        (Place::InImpl, WhereOrder::Before) => Ok(None),
-        (Place::InTrait, WhereOrder::Behind) => {
+        (Place::InFile, order) => Ok(Some(either(arena, order, definition, where_clause)?)),
+        (Place::InForeign, order) => Ok(Some(either(arena, order, definition, where_clause)?)),
+        (_, WhereOrder::Behind) => {
+            let where_part = Called(Part::Where, where_clause);
             Ok(Some((definition, where_part).to_tree(arena)?))
         }
-        (Place::InImpl, WhereOrder::Behind) => Ok(Some((definition, where_part).to_tree(arena)?)),
-        (_, WhereOrder::Before) => Ok(Some(First((where_part, definition)).to_tree(arena)?)),
-        (_, WhereOrder::Behind) => Ok(Some(Second((definition, where_part)).to_tree(arena)?)),
+        (_, WhereOrder::Before) => Ok(None),
     }
 }
 
