@@ -1,7 +1,6 @@
 -- Types and patterns of their forms have that form, and the shape of their entry where the form has it.
-use Rattle.std.specs.Prelude.{◌≡◌, IfOk, Option, Some, None, Result, refl}
+use Rattle.std.specs.Prelude.{◌≡◌, Option, Some, None, refl}
 use Rattle.std.proofs.Common.{◌∙◌, ap, subst, sym}
-use Rattle.std.proofs.lemmas.Result.{IfOk-weaker}
 use Rattle.syn_ast.specs.Pat.{form_of_pat, pat_tree}
 use Rattle.syn_ast.specs.Shape.{IsShaped}
 use Rattle.syn_ast.specs.Types.{form_of_type, type_tree}
@@ -116,13 +115,53 @@ several_alone (pats.Or y) d = absurd (d y refl)
 several_alone x d = refl
 
 -- a tree that is this one has its form and its shape
-pub has_form : {E : Type 0} (r : Result Tree E) (x y : Tree) → form_of_pat x ≡ y → IfOk r (λ z. z ≡ x)
-    → IfOk r (λ z. form_of_pat z ≡ y)
-has_form r x y f h = IfOk-weaker r (λ z. z ≡ x) (λ z. form_of_pat z ≡ y) (λ z e. ap form_of_pat e ∙ f) h
+pub type_form_at : (p : k.Plus) (f : Type') (x y : Tree) → x ≡ t.Node (k.AType p) y → y ≡ type_inside f
+    → form_of_type x ≡ type_tree f
+type_form_at p f x y e d =
+    subst (λ z. form_of_type z ≡ type_tree f) (sym (e ∙ ap (t.Node (k.AType p)) d)) (type_form p f)
 
-pub has_shape : {E : Type 0} (r : Result Tree E) (x : Tree) (l : g.Gram) (P : Type 0) → (P → IsShaped x l)
-    → IfOk r (λ z. z ≡ x) → IfOk r (λ z. P → IsShaped z l)
-has_shape r x l P f h =
-    IfOk-weaker r (λ z. z ≡ x) (λ z. P → IsShaped z l) (λ z e p. subst (λ w. IsShaped w l) (sym e) (f p)) h
+pub type_shaped_at : (p : k.Plus) (f : Type') (x y : Tree) → x ≡ t.Node (k.AType p) y → y ≡ type_inside f
+    → IsShaped (type_tree f) (g.ref (type_kind p f)) → IsShaped x (g.ref (k.AType p))
+type_shaped_at p f x y e d h =
+    subst (λ z. IsShaped z (g.ref (k.AType p))) (sym (e ∙ ap (t.Node (k.AType p)) d)) (type_shaped p f h)
 
-pub ruleset types_whole = (type_form, type_shaped)
+pub one_at : (p : Pat) (x y : Tree) → x ≡ t.Node k.OnePattern y → y ≡ one_inside p → x ≡ one_pattern_tree p
+one_at p x y e d = e ∙ ap (t.Node k.OnePattern) d
+
+pub one_form_at : (p : Pat) (x : Tree) → x ≡ one_pattern_tree p → form_of_pat x ≡ one_form_of p
+one_form_at p x e = ap form_of_pat e ∙ one_form_is p
+
+pub one_shaped_at : (p : Pat) (x : Tree) → x ≡ one_pattern_tree p → IsShaped (pat_tree p) (g.ref (pat_kind p))
+    → IsShaped x (g.ref k.OnePattern)
+one_shaped_at p x e h = subst (λ z. IsShaped z (g.ref k.OnePattern)) (sym e) (one_shaped p h)
+
+pub pattern_at : (p : Pat) (x y : Tree) → ((z : PatOr) → p ≡ pats.Or z → ⊥)
+    → x ≡ t.Node k.Pattern (t.Pair (t.Second t.Nil) (t.Pair y t.End)) → y ≡ one_pattern_tree p → x ≡ pattern_tree p
+pattern_at p x y d e f =
+    (e ∙ ap (λ z. t.Node k.Pattern (t.Pair (t.Second t.Nil) (t.Pair z t.End))) f) ∙ pattern_alone p d
+
+pub pattern_form_at : (p : Pat) (x : Tree) → x ≡ pattern_tree p → form_of_pat x ≡ pattern_form_of p
+pattern_form_at p x e = ap form_of_pat e ∙ pattern_form_is p
+
+pub pattern_shaped_at : (p : Pat) (x : Tree) → x ≡ pattern_tree p → IsShaped (pat_tree p) (g.ref (pat_kind p))
+    → IsShaped x (g.ref k.Pattern)
+pattern_shaped_at p x e h = subst (λ z. IsShaped z (g.ref k.Pattern)) (sym e) (pattern_shaped p h)
+
+pub several_at : (p : Pat) (x y : Tree) → ((z : PatOr) → p ≡ pats.Or z → ⊥)
+    → x ≡ t.Node k.SeveralPatterns (t.Pair y t.End) → y ≡ one_pattern_tree p → x ≡ several_tree p
+several_at p x y d e f = (e ∙ ap (λ z. t.Node k.SeveralPatterns (t.Pair z t.End)) f) ∙ several_alone p d
+
+pub several_form_at : (p : Pat) (x : Tree) → x ≡ several_tree p → form_of_pat x ≡ several_form_of p
+several_form_at p x e = ap form_of_pat e ∙ several_form_is p
+
+pub several_shaped_at : (p : Pat) (x : Tree) → x ≡ several_tree p → IsShaped (pat_tree p) (g.ref (pat_kind p))
+    → IsShaped x (g.ref k.SeveralPatterns)
+several_shaped_at p x e h = subst (λ z. IsShaped z (g.ref k.SeveralPatterns)) (sym e) (several_shaped p h)
+
+pub ruleset types_whole = (type_form_at, type_shaped_at)
+
+pub ruleset one_whole = (one_at, one_form_at, one_shaped_at)
+
+pub ruleset pattern_whole = (pattern_at, pattern_form_at, pattern_shaped_at)
+
+pub ruleset several_whole = (several_at, several_form_at, several_shaped_at)

@@ -1,3 +1,4 @@
 pub mod AstWhole
+pub mod MadeLists
 pub mod AmongForms
 pub mod MemberForms

@@ -1,9 +1,12 @@
 //! Bounds as trees.
 
+ghost use Rattle.std.specs.Prelude.{◌≡◌, IfOk, MatchOption};
 ghost use Rattle.syn_ast.specs.TypeBounds.{some_bounds, trait_bound, trait_front, type_param_bound};
+ghost use Rattle.syn_made.specs.MadeAst.{IsTraitFront};
 
 use crate::forms::{Called, First, Node, Second};
 use crate::to_tree::ToTree;
+use crate::try_to_tree::TryToTree;
 use gram_table::kind::Kind;
 use gram_table::part::Part;
 use gram_tree::arena::Arena;
@@ -24,28 +27,30 @@ impl<'t, 'a> ToTree<'a> for TypeParamBound<'t, 'a> {
     }
 }
 
-// What stands before a trait's path; what is wanted or not, behind `for`, is nothing.
-#[derive(Clone, Copy)]
-struct Front<'t, 'a>(TraitBoundModifier, Option<&'t Tree<'a>>);
-
-impl<'t, 'a> ToTree<'a> for Front<'t, 'a> {
-    ghost tree = { λ x. trait_front x.0 x.1 };
-
-    fn to_tree(&self, arena: &'a Arena) -> Result<Tree<'a>, AllocError> {
-        match (self.0, self.1) {
-            (TraitBoundModifier::Maybe(mark), None) => First(mark).to_tree(arena),
-            (TraitBoundModifier::Maybe(_), Some(_)) => ().to_tree(arena),
-            (TraitBoundModifier::None, lifetimes) => Second(lifetimes).to_tree(arena),
-        }
+// What stands before a trait's path, if it is not both `?` and lifetimes.
+fn trait_front<'a>(
+    arena: &'a Arena,
+    modifier: TraitBoundModifier,
+    lifetimes: Option<&Tree<'a>>,
+) -> Result<Option<Tree<'a>>, AllocError>
+    ensures { IfOk result (λ o. MatchOption o (IsTraitFront modifier lifetimes.entry → ⊥)
+        (λ x. IsTraitFront modifier lifetimes.entry × (x ≡ trait_front modifier lifetimes.entry))) }
+{
+    match (modifier, lifetimes) {
+        (TraitBoundModifier::Maybe(mark), None) => Ok(Some(First(mark).to_tree(arena)?)),
+        (TraitBoundModifier::Maybe(_), Some(_)) => Ok(None),
+        (TraitBoundModifier::None, lifetimes) => Ok(Some(Second(lifetimes).to_tree(arena)?)),
     }
 }
 
-impl<'t, 'a> ToTree<'a> for TraitBound<'t, 'a> {
-    ghost tree = { trait_bound };
+impl<'t, 'a> TryToTree<'a> for TraitBound<'t, 'a> {
+    ghost says = { λ x tree. IsTraitFront x.modifier x.lifetimes × (tree ≡ trait_bound x) };
 
-    fn to_tree(&self, arena: &'a Arena) -> Result<Tree<'a>, AllocError> {
-        let inside = (Front(self.modifier, self.lifetimes), self.path);
-        Node(Kind::TraitPath, inside).to_tree(arena)
+    fn try_to_tree(&self, arena: &'a Arena) -> Result<Option<Tree<'a>>, AllocError> {
+        match trait_front(arena, self.modifier, self.lifetimes)? {
+            Some(front) => Ok(Some(Node(Kind::TraitPath, (&front, self.path)).to_tree(arena)?)),
+            None => Ok(None),
+        }
     }
 }
 

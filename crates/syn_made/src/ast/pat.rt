@@ -1,14 +1,17 @@
 //! Patterns by their form, as trees.
 
+ghost use Rattle.std.specs.Prelude.{◌≡◌, IfOk, MatchOption};
 ghost use Rattle.syn_ast.specs.Pat.{pat_tree, range_form, started};
 ghost use Rattle.syn_ast.specs.Patterns.{range_end};
 ghost use Rattle.syn_ast.specs.declared.pat.Pat.TheVariants as pats;
 ghost use Rattle.syn_grammar.specs.Kind as k;
 ghost use Rattle.syn_grammar.specs.Tree as t;
+ghost use Rattle.syn_made.specs.MadeAst.{IsRange, IsRangeEnd, IsWholePat};
 
 use crate::forms::{First, Grouped, Node, Second};
 use crate::lists::Only;
 use crate::to_tree::ToTree;
+use crate::try_to_tree::TryToTree;
 use gram_table::kind::Kind;
 use gram_tree::arena::Arena;
 use gram_tree::tree::Tree;
@@ -70,55 +73,66 @@ impl<'t, 'a> ToTree<'a> for PatStruct<'t, 'a> {
     }
 }
 
-// A range behind its start, and its end.
-#[derive(Clone, Copy)]
-struct From<'t, 'a>(RangeBound<'t, 'a>, RangeEnd<'t, 'a>);
-
-impl<'t, 'a> ToTree<'a> for From<'t, 'a> {
-    ghost tree = { λ x. started x.0 (t.Node k.RangeEnd (range_end x.1.limits x.1.end)) };
-
-    fn to_tree(&self, arena: &'a Arena) -> Result<Tree<'a>, AllocError> {
-        let end = First(self.1);
-        match self.0 {
-            RangeBound::Lit(lit) => Node(Kind::LiteralPattern, (lit, end)).to_tree(arena),
-            RangeBound::Path(path) => {
-                Node(Kind::PathPattern, (path, Second(Second(end)))).to_tree(arena)
-            }
+// A range behind its start, if it has an end as it needs one.
+fn range_from<'a>(
+    arena: &'a Arena,
+    start: RangeBound<'_, 'a>,
+    end: RangeEnd<'_, 'a>,
+) -> Result<Option<Tree<'a>>, AllocError>
+    ensures { IfOk result (λ o. MatchOption o (IsRangeEnd end.entry.limits end.entry.end → ⊥)
+        (λ x. IsRangeEnd end.entry.limits end.entry.end
+        × (x ≡ started start.entry (t.Node k.RangeEnd (range_end end.entry.limits end.entry.end))))) }
+{
+    let Some(end) = end.try_to_tree(arena)? else {
+        return Ok(None);
+    };
+    let end = First(&end);
+    match start {
+        RangeBound::Lit(lit) => Ok(Some(Node(Kind::LiteralPattern, (lit, end)).to_tree(arena)?)),
+        RangeBound::Path(path) => {
+            let inside = (path, Second(Second(end)));
+            Ok(Some(Node(Kind::PathPattern, inside).to_tree(arena)?))
         }
     }
 }
 
-impl<'t, 'a> ToTree<'a> for PatRange<'t, 'a> {
-    ghost tree = { range_form };
+impl<'t, 'a> TryToTree<'a> for PatRange<'t, 'a> {
+    ghost says = { λ x tree. IsRange x.start x.limits x.end × (tree ≡ range_form x) };
 
-    fn to_tree(&self, arena: &'a Arena) -> Result<Tree<'a>, AllocError> {
+    fn try_to_tree(&self, arena: &'a Arena) -> Result<Option<Tree<'a>>, AllocError> {
         let limits = self.limits;
         match (self.start, self.end) {
-            (Some(start), end) => From(start, RangeEnd { limits, end }).to_tree(arena),
-            (None, Some(end)) => PatRangeTo { limits, end }.to_tree(arena),
-            (None, None) => First(()).to_tree(arena),
+            (Some(start), end) => match range_from(arena, start, RangeEnd { limits, end })? {
+                Some(tree) => Ok(Some(tree)),
+                None => Ok(None),
+            },
+            (None, Some(end)) => Ok(Some(PatRangeTo { limits, end }.to_tree(arena)?)),
+            (None, None) => Ok(None),
         }
     }
 }
 
-impl<'t, 'a> ToTree<'a> for Pat<'t, 'a> {
-    ghost tree = { pat_tree };
+impl<'t, 'a> TryToTree<'a> for Pat<'t, 'a> {
+    ghost says = { λ x tree. IsWholePat x × (tree ≡ pat_tree x) };
 
-    fn to_tree(&self, arena: &'a Arena) -> Result<Tree<'a>, AllocError> {
+    fn try_to_tree(&self, arena: &'a Arena) -> Result<Option<Tree<'a>>, AllocError> {
         match *self {
-            Pat::Ident(found) => found.to_tree(arena),
-            Pat::Lit(found) => found.to_tree(arena),
-            Pat::Or(found) => found.to_tree(arena),
-            Pat::Paren(found) => found.to_tree(arena),
-            Pat::Path(found) => found.to_tree(arena),
-            Pat::Range(found) => found.to_tree(arena),
-            Pat::Reference(found) => found.to_tree(arena),
-            Pat::Rest(found) => found.to_tree(arena),
-            Pat::Slice(found) => found.to_tree(arena),
-            Pat::Struct(found) => found.to_tree(arena),
-            Pat::Tuple(found) => found.to_tree(arena),
-            Pat::TupleStruct(found) => found.to_tree(arena),
-            Pat::Wild(found) => found.to_tree(arena),
+            Pat::Ident(found) => Ok(Some(found.to_tree(arena)?)),
+            Pat::Lit(found) => Ok(Some(found.to_tree(arena)?)),
+            Pat::Or(found) => Ok(Some(found.to_tree(arena)?)),
+            Pat::Paren(found) => Ok(Some(found.to_tree(arena)?)),
+            Pat::Path(found) => Ok(Some(found.to_tree(arena)?)),
+            Pat::Range(found) => match found.try_to_tree(arena)? {
+                Some(tree) => Ok(Some(tree)),
+                None => Ok(None),
+            },
+            Pat::Reference(found) => Ok(Some(found.to_tree(arena)?)),
+            Pat::Rest(found) => Ok(Some(found.to_tree(arena)?)),
+            Pat::Slice(found) => Ok(Some(found.to_tree(arena)?)),
+            Pat::Struct(found) => Ok(Some(found.to_tree(arena)?)),
+            Pat::Tuple(found) => Ok(Some(found.to_tree(arena)?)),
+            Pat::TupleStruct(found) => Ok(Some(found.to_tree(arena)?)),
+            Pat::Wild(found) => Ok(Some(found.to_tree(arena)?)),
         }
     }
 }

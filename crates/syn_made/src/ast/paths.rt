@@ -1,12 +1,15 @@
 //! Paths, members and macros as trees.
 
+ghost use Rattle.std.specs.Prelude.{◌≡◌, IfOk, MatchOption};
 ghost use Rattle.syn_ast.specs.Paths.{angle_bracketed_generic_arguments, argument_inside, assoc_type_tree};
 ghost use Rattle.syn_ast.specs.Paths.{behind_keyword, behind_name, delimited, generic_argument, index, keyword_alone};
 ghost use Rattle.syn_ast.specs.Paths.{macro, member, one_segment, parenthesized_generic_arguments, path};
-ghost use Rattle.syn_ast.specs.Paths.{qualified_path, segment_end, segments};
+ghost use Rattle.syn_ast.specs.Paths.{qualified_path, segment_end, segments, segments_inside};
+ghost use Rattle.syn_made.specs.MadeAst.{AreWhole, IsBare, IsNameEnd, IsSegmentEnd, IsWholeSegment};
 
 use crate::forms::{Called, First, Grouped, Node, Second};
 use crate::to_tree::ToTree;
+use crate::try_to_tree::TryToTree;
 use gram_table::kind::Kind;
 use gram_table::part::Part;
 use gram_tree::arena::Arena;
@@ -67,52 +70,74 @@ impl<'t, 'a> ToTree<'a> for Macro<'t, 'a> {
     }
 }
 
-// What stands behind a keyword: no arguments, and perhaps `::` and further segments.
-#[derive(Clone, Copy)]
-struct BehindKeyword<'t, 'a>(PathArguments<'t, 'a>, Option<Marked<'t, 'a>>);
-
-impl<'t, 'a> ToTree<'a> for BehindKeyword<'t, 'a> {
-    ghost tree = { λ x. behind_keyword x.0 x.1 };
-
-    fn to_tree(&self, arena: &'a Arena) -> Result<Tree<'a>, AllocError> {
-        match self.0 {
-            PathArguments::None => self.1.to_tree(arena),
-            _ => ().to_tree(arena),
-        }
+// What stands behind a keyword, if it has no arguments: perhaps `::` and further segments.
+fn behind_keyword<'a>(
+    arena: &'a Arena,
+    arguments: PathArguments<'_, 'a>,
+    others: Option<Marked<'_, 'a>>,
+) -> Result<Option<Tree<'a>>, AllocError>
+    ensures { IfOk result (λ o. MatchOption o (IsBare arguments.entry → ⊥)
+        (λ x. IsBare arguments.entry × (x ≡ behind_keyword arguments.entry others.entry))) }
+{
+    match arguments {
+        PathArguments::None => Ok(Some(others.to_tree(arena)?)),
+        _ => Ok(None),
     }
 }
 
-// What stands behind a name: its arguments, and perhaps `::` and further segments, which none are behind parentheses.
-#[derive(Clone, Copy)]
-struct BehindName<'t, 'a>(PathArguments<'t, 'a>, Option<Marked<'t, 'a>>);
-
-impl<'t, 'a> ToTree<'a> for BehindName<'t, 'a> {
-    ghost tree = { λ x. behind_name x.0 x.1 };
-
-    fn to_tree(&self, arena: &'a Arena) -> Result<Tree<'a>, AllocError> {
-        match (self.0, self.1) {
-            (PathArguments::AngleBracketed(args), others) => First((args, others)).to_tree(arena),
-            (PathArguments::None, Some(others)) => Second(First(others)).to_tree(arena),
-            (PathArguments::None, None) => Second(Second(Second(()))).to_tree(arena),
-            (PathArguments::Parenthesized(args), None) => Second(Second(First(args))).to_tree(
-                arena,
-            ),
-            (PathArguments::Parenthesized(_), Some(_)) => ().to_tree(arena),
+// What stands behind a name: its arguments, and perhaps `::` and further segments, if they are not in parentheses.
+fn behind_name<'a>(
+    arena: &'a Arena,
+    arguments: PathArguments<'_, 'a>,
+    others: Option<Marked<'_, 'a>>,
+) -> Result<Option<Tree<'a>>, AllocError>
+    ensures { IfOk result (λ o. MatchOption o (IsNameEnd arguments.entry others.entry → ⊥)
+        (λ x. IsNameEnd arguments.entry others.entry × (x ≡ behind_name arguments.entry others.entry))) }
+{
+    match (arguments, others) {
+        (PathArguments::AngleBracketed(args), others) => {
+            Ok(Some(First((args, others)).to_tree(arena)?))
         }
+        (PathArguments::None, Some(others)) => Ok(Some(Second(First(others)).to_tree(arena)?)),
+        (PathArguments::None, None) => Ok(Some(Second(Second(Second(()))).to_tree(arena)?)),
+        (PathArguments::Parenthesized(args), None) => {
+            Ok(Some(Second(Second(First(args))).to_tree(arena)?))
+        }
+        (PathArguments::Parenthesized(_), Some(_)) => Ok(None),
     }
 }
 
-impl<'t, 'a> ToTree<'a> for Segments<'t, 'a> {
-    ghost tree = { segments };
+// A first segment and what stands behind it, if that may.
+fn segments_inside<'a>(
+    arena: &'a Arena,
+    is_keyword: bool,
+    first: PathSegment<'_, 'a>,
+    others: Option<Marked<'_, 'a>>,
+) -> Result<Option<Tree<'a>>, AllocError>
+    ensures { IfOk result (λ o. MatchOption o (IsSegmentEnd is_keyword first.entry.arguments others.entry → ⊥)
+        (λ x. IsSegmentEnd is_keyword first.entry.arguments others.entry
+        × (x ≡ segments_inside is_keyword first.entry others.entry))) }
+{
+    if is_keyword {
+        let Some(behind) = behind_keyword(arena, first.arguments, others)? else {
+            return Ok(None);
+        };
+        return Ok(Some(First((first.ident, &behind)).to_tree(arena)?));
+    }
+    let Some(behind) = behind_name(arena, first.arguments, others)? else {
+        return Ok(None);
+    };
+    Ok(Some(Second((first.ident, &behind)).to_tree(arena)?))
+}
 
-    fn to_tree(&self, arena: &'a Arena) -> Result<Tree<'a>, AllocError> {
-        let first = self.first;
-        if self.is_keyword {
-            let behind = BehindKeyword(first.arguments, self.others);
-            return Node(Kind::Segments(self.style), First((first.ident, behind))).to_tree(arena);
+impl<'t, 'a> TryToTree<'a> for Segments<'t, 'a> {
+    ghost says = { λ x tree. AreWhole x × (tree ≡ segments x) };
+
+    fn try_to_tree(&self, arena: &'a Arena) -> Result<Option<Tree<'a>>, AllocError> {
+        match segments_inside(arena, self.is_keyword, self.first, self.others)? {
+            Some(inside) => Ok(Some(Node(Kind::Segments(self.style), &inside).to_tree(arena)?)),
+            None => Ok(None),
         }
-        let behind = BehindName(first.arguments, self.others);
-        Node(Kind::Segments(self.style), Second((first.ident, behind))).to_tree(arena)
     }
 }
 
@@ -128,31 +153,33 @@ impl<'t, 'a> ToTree<'a> for PathArguments<'t, 'a> {
     }
 }
 
-// A keyword by itself, which has no arguments.
-#[derive(Clone, Copy)]
-struct KeywordAlone<'t, 'a>(PathSegment<'t, 'a>);
-
-impl<'t, 'a> ToTree<'a> for KeywordAlone<'t, 'a> {
-    ghost tree = { λ x. keyword_alone x.0 x.0.arguments };
-
-    fn to_tree(&self, arena: &'a Arena) -> Result<Tree<'a>, AllocError> {
-        match self.0.arguments {
-            PathArguments::None => First(self.0.ident).to_tree(arena),
-            _ => ().to_tree(arena),
-        }
+// A keyword by itself, if it has no arguments.
+fn keyword_alone<'a>(
+    arena: &'a Arena,
+    segment: PathSegment<'_, 'a>,
+) -> Result<Option<Tree<'a>>, AllocError>
+    ensures { IfOk result (λ o. MatchOption o (IsBare segment.entry.arguments → ⊥)
+        (λ x. IsBare segment.entry.arguments × (x ≡ keyword_alone segment.entry segment.entry.arguments))) }
+{
+    match segment.arguments {
+        PathArguments::None => Ok(Some(First(segment.ident).to_tree(arena)?)),
+        _ => Ok(None),
     }
 }
 
-impl<'t, 'a> ToTree<'a> for OneSegment<'t, 'a> {
-    ghost tree = { one_segment };
+impl<'t, 'a> TryToTree<'a> for OneSegment<'t, 'a> {
+    ghost says = { λ x tree. IsWholeSegment x × (tree ≡ one_segment x) };
 
-    fn to_tree(&self, arena: &'a Arena) -> Result<Tree<'a>, AllocError> {
+    fn try_to_tree(&self, arena: &'a Arena) -> Result<Option<Tree<'a>>, AllocError> {
         let segment = self.segment;
         if self.is_keyword {
-            return Node(Kind::Segment(self.style), KeywordAlone(segment)).to_tree(arena);
+            let Some(inside) = keyword_alone(arena, segment)? else {
+                return Ok(None);
+            };
+            return Ok(Some(Node(Kind::Segment(self.style), &inside).to_tree(arena)?));
         }
         let inside = Second((segment.ident, segment.arguments));
-        Node(Kind::Segment(self.style), inside).to_tree(arena)
+        Ok(Some(Node(Kind::Segment(self.style), inside).to_tree(arena)?))
     }
 }
 

@@ -1,5 +1,6 @@
 //! What patterns are read as, as trees.
 
+ghost use Rattle.std.specs.Prelude.{◌≡◌};
 ghost use Rattle.syn_ast.specs.Patterns.{field_pat, field_pattern_tree, field_patterns, literal_pattern};
 ghost use Rattle.syn_ast.specs.Patterns.{member_pattern_tree, pat_ident, pat_or, pat_parenthesized, pat_range_to};
 ghost use Rattle.syn_ast.specs.Patterns.{pat_reference, pat_rest, pat_several, pat_slice, pat_wild, path_behind};
@@ -7,9 +8,11 @@ ghost use Rattle.syn_ast.specs.Patterns.{path_pattern, range_bound, range_end, r
 ghost use Rattle.syn_ast.specs.Patterns.{signed_lit_tree};
 ghost use Rattle.syn_grammar.specs.Kind as k;
 ghost use Rattle.syn_grammar.specs.Tree as t;
+ghost use Rattle.syn_made.specs.MadeAst.{IsRangeEnd};
 
 use crate::forms::{Called, First, Grouped, Node, Second};
 use crate::to_tree::ToTree;
+use crate::try_to_tree::TryToTree;
 use gram_table::kind::Kind;
 use gram_table::part::Part;
 use gram_tree::arena::Arena;
@@ -111,27 +114,19 @@ impl<'t, 'a> ToTree<'a> for PatRangeTo<'t, 'a> {
     }
 }
 
-// What stands in the end of a range; `..=` without one is nothing.
-#[derive(Clone, Copy)]
-struct End<'t, 'a>(RangeEnd<'t, 'a>);
+impl<'t, 'a> TryToTree<'a> for RangeEnd<'t, 'a> {
+    ghost says = { λ x tree. IsRangeEnd x.limits x.end × (tree ≡ t.Node k.RangeEnd (range_end x.limits x.end)) };
 
-impl<'t, 'a> ToTree<'a> for End<'t, 'a> {
-    ghost tree = { λ x. range_end x.0.limits x.0.end };
-
-    fn to_tree(&self, arena: &'a Arena) -> Result<Tree<'a>, AllocError> {
-        match (self.0.limits, self.0.end) {
-            (RangeLimits::Closed(mark), Some(end)) => First((mark, end)).to_tree(arena),
-            (RangeLimits::Closed(_), None) => ().to_tree(arena),
-            (RangeLimits::HalfOpen(mark), end) => Second((mark, end)).to_tree(arena),
+    fn try_to_tree(&self, arena: &'a Arena) -> Result<Option<Tree<'a>>, AllocError> {
+        match (self.limits, self.end) {
+            (RangeLimits::Closed(mark), Some(end)) => {
+                Ok(Some(Node(Kind::RangeEnd, First((mark, end))).to_tree(arena)?))
+            }
+            (RangeLimits::Closed(_), None) => Ok(None),
+            (RangeLimits::HalfOpen(mark), end) => {
+                Ok(Some(Node(Kind::RangeEnd, Second((mark, end))).to_tree(arena)?))
+            }
         }
-    }
-}
-
-impl<'t, 'a> ToTree<'a> for RangeEnd<'t, 'a> {
-    ghost tree = { λ x. t.Node k.RangeEnd (range_end x.limits x.end) };
-
-    fn to_tree(&self, arena: &'a Arena) -> Result<Tree<'a>, AllocError> {
-        Node(Kind::RangeEnd, End(*self)).to_tree(arena)
     }
 }
 

@@ -1,14 +1,17 @@
 //! Types as trees.
 
+ghost use Rattle.std.specs.Prelude.{◌≡◌};
 ghost use Rattle.syn_ast.specs.Types.{abi, any_path, argument_name_tree, bound_lifetimes, fn_ptr_arg};
 ghost use Rattle.syn_ast.specs.Types.{pointer_mutability, return_type, type_array, type_bounds, type_bracketed};
 ghost use Rattle.syn_ast.specs.Types.{type_fn_ptr, type_impl_trait, type_infer, type_never, type_paren};
 ghost use Rattle.syn_ast.specs.Types.{type_parenthesized, type_path, type_ptr, type_reference, type_slice};
 ghost use Rattle.syn_ast.specs.Types.{type_trait_object, type_tree, type_tuple};
+ghost use Rattle.syn_made.specs.MadeAst.{IsTuple, IsWholeType};
 
 use crate::forms::{Called, First, Grouped, Node, Second};
 use crate::lists::Only;
 use crate::to_tree::ToTree;
+use crate::try_to_tree::TryToTree;
 use gram_table::kind::Kind;
 use gram_table::part::Part;
 use gram_tree::arena::Arena;
@@ -210,35 +213,42 @@ impl<'t, 'a> ToTree<'a> for TypeParen<'t, 'a> {
     }
 }
 
-impl<'t, 'a> ToTree<'a> for TypeTuple<'t, 'a> {
-    ghost tree = { type_tuple };
+// One type without a comma is in parentheses, and no tuple.
+impl<'t, 'a> TryToTree<'a> for TypeTuple<'t, 'a> {
+    ghost says = { λ x tree. IsTuple x.elems × (tree ≡ type_tuple x) };
 
-    #[tactic(auto, using(syn_ast::proofs::TypeForms::several_types))]
-    fn to_tree(&self, arena: &'a Arena) -> Result<Tree<'a>, AllocError> {
+    #[tactic(auto, using(crate::proofs::MadeLists::tuples))]
+    fn try_to_tree(&self, arena: &'a Arena) -> Result<Option<Tree<'a>>, AllocError> {
         match self.elems.only() {
-            Some(_) => Node(Kind::TupleType, Grouped(self.paren_token, ())).to_tree(arena),
-            None => Node(Kind::TupleType, Grouped(self.paren_token, self.elems)).to_tree(arena),
+            Some(_) => Ok(None),
+            None => {
+                let inside = Grouped(self.paren_token, self.elems);
+                Ok(Some(Node(Kind::TupleType, inside).to_tree(arena)?))
+            }
         }
     }
 }
 
-impl<'t, 'a> ToTree<'a> for Type<'t, 'a> {
-    ghost tree = { type_tree };
+impl<'t, 'a> TryToTree<'a> for Type<'t, 'a> {
+    ghost says = { λ x tree. IsWholeType x × (tree ≡ type_tree x) };
 
-    fn to_tree(&self, arena: &'a Arena) -> Result<Tree<'a>, AllocError> {
+    fn try_to_tree(&self, arena: &'a Arena) -> Result<Option<Tree<'a>>, AllocError> {
         match *self {
-            Type::Array(found) => found.to_tree(arena),
-            Type::FnPtr(found) => found.to_tree(arena),
-            Type::ImplTrait(found) => found.to_tree(arena),
-            Type::Infer(found) => found.to_tree(arena),
-            Type::Never(found) => found.to_tree(arena),
-            Type::Paren(found) => found.to_tree(arena),
-            Type::Path(found) => found.to_tree(arena),
-            Type::Ptr(found) => found.to_tree(arena),
-            Type::Reference(found) => found.to_tree(arena),
-            Type::Slice(found) => found.to_tree(arena),
-            Type::TraitObject(found) => found.to_tree(arena),
-            Type::Tuple(found) => found.to_tree(arena),
+            Type::Array(found) => Ok(Some(found.to_tree(arena)?)),
+            Type::FnPtr(found) => Ok(Some(found.to_tree(arena)?)),
+            Type::ImplTrait(found) => Ok(Some(found.to_tree(arena)?)),
+            Type::Infer(found) => Ok(Some(found.to_tree(arena)?)),
+            Type::Never(found) => Ok(Some(found.to_tree(arena)?)),
+            Type::Paren(found) => Ok(Some(found.to_tree(arena)?)),
+            Type::Path(found) => Ok(Some(found.to_tree(arena)?)),
+            Type::Ptr(found) => Ok(Some(found.to_tree(arena)?)),
+            Type::Reference(found) => Ok(Some(found.to_tree(arena)?)),
+            Type::Slice(found) => Ok(Some(found.to_tree(arena)?)),
+            Type::TraitObject(found) => Ok(Some(found.to_tree(arena)?)),
+            Type::Tuple(found) => match found.try_to_tree(arena)? {
+                Some(tree) => Ok(Some(tree)),
+                None => Ok(None),
+            },
         }
     }
 }

@@ -1,5 +1,6 @@
 //! Files, blocks, and the forms of expressions that are made of them.
 
+ghost use Rattle.std.specs.Prelude.{◌≡◌, None};
 ghost use Rattle.syn_expr.specs.Blocks.{arms, block, body, closure_param, expr_array, expr_async, expr_block};
 ghost use Rattle.syn_expr.specs.Blocks.{expr_for_loop, expr_if, expr_loop, expr_macro, expr_match, expr_parenthesized};
 ghost use Rattle.syn_expr.specs.Blocks.{expr_path, expr_repeat, expr_unsafe, expr_while, file, label, labelled_tree};
@@ -7,6 +8,7 @@ ghost use Rattle.syn_expr.specs.Blocks.{expr_path, expr_repeat, expr_unsafe, exp
 use crate::expr::forms::Alone;
 use crate::forms::{Called, Grouped, Node};
 use crate::to_tree::ToTree;
+use crate::try_to_tree::TryToTree;
 use gram_table::kind::Kind;
 use gram_table::part::Part;
 use gram_tree::arena::Arena;
@@ -18,12 +20,15 @@ use syn_expr::blocks::{
     File, Label, Labelled,
 };
 
-/// A file without the section at its head, of which the grammar has none.
-impl<'t, 'a> ToTree<'a> for File<'t, 'a> {
-    ghost tree = { file };
+// The grammar has no section at a file's head.
+impl<'t, 'a> TryToTree<'a> for File<'t, 'a> {
+    ghost says = { λ x tree. (x.frontmatter ≡ None) × (tree ≡ file x) };
 
-    fn to_tree(&self, arena: &'a Arena) -> Result<Tree<'a>, AllocError> {
-        Node(Kind::AFile, (self.attrs, self.items)).to_tree(arena)
+    fn try_to_tree(&self, arena: &'a Arena) -> Result<Option<Tree<'a>>, AllocError> {
+        match self.frontmatter {
+            Some(_) => Ok(None),
+            None => Ok(Some(Node(Kind::AFile, (self.attrs, self.items)).to_tree(arena)?)),
+        }
     }
 }
 

@@ -1,11 +1,14 @@
 //! Parts of expressions: fields and arms.
 
+ghost use Rattle.std.specs.Prelude.{◌≡◌, IfOk, MatchOption};
 ghost use Rattle.syn_expr.specs.ExprParts.{a_field_value, arm, arm_comma_tree, field_value, field_values};
 ghost use Rattle.syn_expr.specs.ExprParts.{struct_rest_tree};
+ghost use Rattle.syn_made.specs.MadeExpr.{IsArmEnd, IsFieldInit};
 
 use crate::expr::forms::Nth;
 use crate::forms::{Called, First, Grouped, Node, Second};
 use crate::to_tree::ToTree;
+use crate::try_to_tree::TryToTree;
 use gram_table::kind::Kind;
 use gram_table::part::Part;
 use gram_tree::arena::Arena;
@@ -24,32 +27,36 @@ impl<'t, 'a> ToTree<'a> for FieldValues<'t, 'a> {
     }
 }
 
-// Behind an arm's body: whether the braces end there, and the comma, if one stands there.
-#[derive(Drop)]
-struct ArmEnd(bool, Option<Mark>);
-
-impl<'a> ToTree<'a> for ArmEnd {
-    ghost tree = { λ x. arm_comma_tree x.0 x.1 };
-
-    fn to_tree(&self, arena: &'a Arena) -> Result<Tree<'a>, AllocError> {
-        match (self.0, self.1) {
-            (true, None) => First(()).to_tree(arena),
-            (true, Some(_)) => ().to_tree(arena),
-            (false, Some(comma)) => Nth(1, comma).to_tree(arena),
-            (false, None) => Second(Second(())).to_tree(arena),
-        }
+// Behind an arm's body: that the braces end there, or the comma, if one stands there.
+fn arm_end<'a>(
+    arena: &'a Arena,
+    at_end: bool,
+    comma: Option<Mark>,
+) -> Result<Option<Tree<'a>>, AllocError>
+    ensures { IfOk result (λ o. MatchOption o (IsArmEnd at_end comma → ⊥)
+        (λ x. IsArmEnd at_end comma × (x ≡ arm_comma_tree at_end comma))) }
+{
+    match (at_end, comma) {
+        (true, None) => Ok(Some(First(()).to_tree(arena)?)),
+        (true, Some(_)) => Ok(None),
+        (false, Some(comma)) => Ok(Some(Nth(1, comma).to_tree(arena)?)),
+        (false, None) => Ok(Some(Second(Second(())).to_tree(arena)?)),
     }
 }
 
-/// Where the braces end with an arm no comma stands behind it: of one that says both, neither is made.
-impl<'t, 'a> ToTree<'a> for Arm<'t, 'a> {
-    ghost tree = { arm };
+// Where the braces end with an arm, no comma stands behind it.
+impl<'t, 'a> TryToTree<'a> for Arm<'t, 'a> {
+    ghost says = { λ x tree. IsArmEnd x.at_end x.comma × (tree ≡ arm x) };
 
-    fn to_tree(&self, arena: &'a Arena) -> Result<Tree<'a>, AllocError> {
+    fn try_to_tree(&self, arena: &'a Arena) -> Result<Option<Tree<'a>>, AllocError> {
+        let Some(end) = arm_end(arena, self.at_end, self.comma)? else {
+            return Ok(None);
+        };
         let body = Called(Part::Body, self.body);
-        let end = Called(Part::Comma, ArmEnd(self.at_end, self.comma));
+        let end = Called(Part::Comma, &end);
         let behind = (self.guard, self.fat_arrow_token, body, end);
-        Node(Kind::Arm, First((self.attrs, self.pat, behind))).to_tree(arena)
+        let inside = First((self.attrs, self.pat, behind));
+        Ok(Some(Node(Kind::Arm, inside).to_tree(arena)?))
     }
 }
 
@@ -76,25 +83,21 @@ impl<'t, 'a> ToTree<'a> for AFieldValue<'t, 'a> {
     }
 }
 
-/// A field has `:` and a value, or neither: of one that has one of them alone, only its attributes are made.
-impl<'t, 'a> ToTree<'a> for FieldValue<'t, 'a> {
-    ghost tree = { field_value };
+// A field has `:` and a value, or is a name alone.
+impl<'t, 'a> TryToTree<'a> for FieldValue<'t, 'a> {
+    ghost says = { λ x tree. IsFieldInit x.member x.colon_token x.expr × (tree ≡ field_value x) };
 
-    fn to_tree(&self, arena: &'a Arena) -> Result<Tree<'a>, AllocError> {
-        match (self.colon_token, self.expr) {
-            (Some(colon_token), Some(value)) => {
-                let init = (self.member, colon_token, Called(Part::Value, value));
-                Node(Kind::FieldValue, (self.attrs, Second(init))).to_tree(arena)
+    fn try_to_tree(&self, arena: &'a Arena) -> Result<Option<Tree<'a>>, AllocError> {
+        match (self.member, self.colon_token, self.expr) {
+            (member, Some(colon_token), Some(value)) => {
+                let init = (member, colon_token, Called(Part::Value, value));
+                let inside = (self.attrs, Second(init));
+                Ok(Some(Node(Kind::FieldValue, inside).to_tree(arena)?))
             }
-            (None, None) => match self.member {
-                Member::Named(name) => {
-                    Node(Kind::FieldValue, (self.attrs, First(name))).to_tree(arena)
-                }
-                Member::Unnamed(found) => {
-                    Node(Kind::FieldValue, (self.attrs, First(found.index))).to_tree(arena)
-                }
-            },
-            _ => Node(Kind::FieldValue, (self.attrs, ())).to_tree(arena),
+            (Member::Named(name), None, None) => {
+                Ok(Some(Node(Kind::FieldValue, (self.attrs, First(name))).to_tree(arena)?))
+            }
+            _ => Ok(None),
         }
     }
 }

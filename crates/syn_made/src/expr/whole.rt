@@ -6,10 +6,12 @@ ghost use Rattle.syn_expr.specs.ExprWhole.{expr_paren, expr_tuple};
 ghost use Rattle.syn_grammar.specs.Forms.{form_of};
 ghost use Rattle.syn_grammar.specs.Kind as k;
 ghost use Rattle.syn_grammar.specs.Tree as t;
+ghost use Rattle.syn_made.specs.MadeAst.{IsTuple};
 
 use crate::expr::forms::Alone;
 use crate::forms::Grouped;
 use crate::to_tree::ToTree;
+use crate::try_to_tree::TryToTree;
 use gram_table::kind::{Kind, Position};
 use gram_table::op::Separator;
 use gram_tree::arena::Arena;
@@ -59,15 +61,18 @@ impl<'t, 'a> ToTree<'a> for ExprParen<'t, 'a> {
     }
 }
 
-/// One expression without a comma behind it is no tuple: of that nothing is made between the parentheses.
-impl<'t, 'a> ToTree<'a> for ExprTuple<'t, 'a> {
-    ghost tree = { expr_tuple };
+// One expression without a comma is in parentheses, and no tuple.
+impl<'t, 'a> TryToTree<'a> for ExprTuple<'t, 'a> {
+    ghost says = { λ x tree. IsTuple x.elems × (tree ≡ expr_tuple x) };
 
-    #[tactic(auto, using(syn_ast::proofs::TypeForms::several_types))]
-    fn to_tree(&self, arena: &'a Arena) -> Result<Tree<'a>, AllocError> {
+    #[tactic(auto, using(crate::proofs::MadeLists::tuples))]
+    fn try_to_tree(&self, arena: &'a Arena) -> Result<Option<Tree<'a>>, AllocError> {
         match self.elems.only() {
-            None => { Alone(Kind::ExprParen, Grouped(self.paren_token, self.elems)).to_tree(arena) }
-            Some(_) => Alone(Kind::ExprParen, Grouped(self.paren_token, ())).to_tree(arena),
+            Some(_) => Ok(None),
+            None => {
+                let own = Grouped(self.paren_token, self.elems);
+                Ok(Some(Alone(Kind::ExprParen, own).to_tree(arena)?))
+            }
         }
     }
 }

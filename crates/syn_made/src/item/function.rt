@@ -1,11 +1,14 @@
 //! Functions: their signatures, parameters and receivers.
 
+ghost use Rattle.std.specs.Prelude.{◌≡◌, ◌↔◌, IsTrue};
 ghost use Rattle.syn_item.specs.ItemFunctions.{IsItemFn, IsReceiver, fn_arg_tree, one_parameter, parameter, parameters};
 ghost use Rattle.syn_item.specs.ItemFunctions.{safety_is, signature, variadic_tree};
+ghost use Rattle.syn_made.specs.MadeWhole.{AreOwn};
 
 use crate::forms::{Called, First, Grouped, Node, Second};
 use crate::to_tree::ToTree;
 use crate::try_to_tree::TryToTree;
+use gram_equal::tree::equal;
 use gram_table::kind::Kind;
 use gram_table::part::Part;
 use gram_tree::arena::Arena;
@@ -40,6 +43,7 @@ impl<'t, 'a> ToTree<'a> for Variadic<'t, 'a> {
     }
 }
 
+// What a parameter is behind its attributes.
 impl<'t, 'a> ToTree<'a> for FnArg<'t, 'a> {
     ghost tree = { fn_arg_tree };
 
@@ -57,12 +61,29 @@ impl<'t, 'a> ToTree<'a> for FnArg<'t, 'a> {
     }
 }
 
-// Of a pattern with its type the attributes are those of the parameter.
-impl<'t, 'a> ToTree<'a> for Parameter<'t, 'a> {
-    ghost tree = { parameter };
+// Whether a pattern with its type has no attributes but those of the parameter that it is.
+fn are_own(attrs: &Tree<'_>, arg: &FnArg<'_, '_>) -> bool
+    ensures { IsTrue result ↔ AreOwn attrs.now arg.now }
+{
+    match arg {
+        FnArg::Typed(typed) => match typed.attrs {
+            Some(own) => equal(own, attrs),
+            None => true,
+        },
+        FnArg::Receiver(_) => true,
+        FnArg::Unnamed(_) => true,
+        FnArg::Variadic(_) => true,
+    }
+}
 
-    fn to_tree(&self, arena: &'a Arena) -> Result<Tree<'a>, AllocError> {
-        Node(Kind::Parameter, (self.attrs, self.arg)).to_tree(arena)
+impl<'t, 'a> TryToTree<'a> for Parameter<'t, 'a> {
+    ghost says = { λ x tree. AreOwn x.attrs.now x.arg × (tree ≡ parameter x) };
+
+    fn try_to_tree(&self, arena: &'a Arena) -> Result<Option<Tree<'a>>, AllocError> {
+        if are_own(self.attrs, &self.arg) {
+            return Ok(Some(Node(Kind::Parameter, (self.attrs, self.arg)).to_tree(arena)?));
+        }
+        Ok(None)
     }
 }
 

@@ -1,0 +1,76 @@
+-- Which values of the types of types, bounds, paths and patterns are trees, where their fields may contradict each other.
+use Rattle.std.specs.Prelude.{◌≡◌, Bool, true, false, None, Option, Some}
+use Rattle.syn_ast.specs.Leaves.{list_tree}
+use Rattle.syn_ast.specs.Types.{no_lone}
+use Rattle.syn_ast.specs.declared.bounds.TraitBoundModifier.{TraitBoundModifier}
+use Rattle.syn_ast.specs.declared.bounds.TraitBoundModifier.TheVariants as modifiers
+use Rattle.syn_ast.specs.declared.list.Elements.{Elements}
+use Rattle.syn_ast.specs.declared.pat.Pat.{Pat}
+use Rattle.syn_ast.specs.declared.pat.Pat.TheVariants as pats
+use Rattle.syn_ast.specs.declared.patterns.RangeBound.{RangeBound}
+use Rattle.syn_ast.specs.declared.patterns.RangeLimits.{RangeLimits}
+use Rattle.syn_ast.specs.declared.patterns.RangeLimits.TheVariants as limits
+use Rattle.syn_ast.specs.declared.paths.OneSegment.{OneSegment}
+use Rattle.syn_ast.specs.declared.paths.PathArguments.{PathArguments}
+use Rattle.syn_ast.specs.declared.paths.PathArguments.TheVariants as arguments
+use Rattle.syn_ast.specs.declared.paths.Segments.{Segments}
+use Rattle.syn_ast.specs.declared.sub.Marked.{Marked}
+use Rattle.syn_ast.specs.declared.types.«Type».{«Type» as Type'}
+use Rattle.syn_ast.specs.declared.types.«Type».TheVariants as types
+use Rattle.syn_grammar.specs.Tree.{Tree}
+use denote.Bor.{Bor}
+
+-- the list of a tuple stands in it as it is: one element without a comma would be left out
+abbrev pub IsTuple : Elements → Type 0
+IsTuple l = no_lone (list_tree l) ≡ list_tree l
+
+-- a type that is a tuple has such a list
+abbrev pub IsWholeType : Type' → Type 0
+IsWholeType (types.Tuple x) = IsTuple x.elems
+IsWholeType _ = Unit {0}
+
+-- a trait stands behind ? or behind for<'a>, and never behind both
+abbrev pub IsTraitFront : TraitBoundModifier → Option (Bor Tree) → Type 0
+IsTraitFront (modifiers.Maybe m) (Some x) = ⊥
+IsTraitFront _ _ = Unit {0}
+
+-- a keyword has no arguments
+abbrev pub IsBare : PathArguments → Type 0
+IsBare arguments.None = Unit {0}
+IsBare _ = ⊥
+
+-- behind arguments in parentheses no further segments stand
+abbrev pub IsNameEnd : PathArguments → Option Marked → Type 0
+IsNameEnd (arguments.Parenthesized x) (Some m) = ⊥
+IsNameEnd _ _ = Unit {0}
+
+abbrev pub IsSegmentEnd : Bool → PathArguments → Option Marked → Type 0
+IsSegmentEnd true a o = IsBare a
+IsSegmentEnd false a o = IsNameEnd a o
+
+abbrev pub AreWhole : Segments → Type 0
+AreWhole x = IsSegmentEnd x.is_keyword x.first.arguments x.others
+
+-- of a segment by itself too
+abbrev pub IsLoneSegment : Bool → PathArguments → Type 0
+IsLoneSegment true a = IsBare a
+IsLoneSegment false a = Unit {0}
+
+abbrev pub IsWholeSegment : OneSegment → Type 0
+IsWholeSegment x = IsLoneSegment x.is_keyword x.segment.arguments
+
+-- behind ..= an end stands
+abbrev pub IsRangeEnd : RangeLimits → Option (Bor Tree) → Type 0
+IsRangeEnd (limits.Closed m) None = ⊥
+IsRangeEnd _ _ = Unit {0}
+
+-- a range has such an end behind its start, and without a start it has an end
+abbrev pub IsRange : Option RangeBound → RangeLimits → Option (Bor Tree) → Type 0
+IsRange (Some b) l o = IsRangeEnd l o
+IsRange None l (Some x) = Unit {0}
+IsRange None l None = ⊥
+
+-- a pattern that is a range is such a one
+abbrev pub IsWholePat : Pat → Type 0
+IsWholePat (pats.Range x) = IsRange x.start x.limits x.end
+IsWholePat _ = Unit {0}
