@@ -1,7 +1,7 @@
 -- What is removed of a kind's parts is seen before they are in normal form.
 use Rattle.std.specs.Prelude.{◌≡◌, ℕ, ◌≤◌, Bool, true, false, ◌&&◌, ◌||◌, not, cond, List, Option, Some, None, refl}
 use Rattle.std.proofs.Common.{ap, arith, ◌∙◌, sym}
-use Rattle.syn_grammar.specs.Kind.{Kind, Position, Plain, AtType, WithPlus, AType, AnyPath, QualifiedPath, Path, Segments}
+use Rattle.syn_grammar.specs.Kind.{Kind, Position, AtType, AType, AnyPath, QualifiedPath, Path, Segments}
 use Rattle.syn_grammar.specs.Kind.{Bounds, Lifetimes, GenericParams, WhereClause, Where, Generics, ImplGenerics}
 use Rattle.syn_grammar.specs.Kind.{BoundsColon, LifetimeColon, AnImpl}
 use Rattle.syn_grammar.specs.Name.{Part, same_part, the_clause, the_parameters, the_bounds, the_generics, the_polarity}

@@ -1,18 +1,15 @@
 -- What is true of every tree.
-use Rattle.std.specs.Prelude.{◌≡◌, ℕ, zero, suc, Bool, true, false, not, ◌&&◌, ◌||◌, nat_eq, List, [], ◌∷◌, ◌++◌, map}
+use Rattle.std.specs.Prelude.{◌≡◌, ℕ, zero, suc, Bool, true, false, not, ◌&&◌, ◌||◌, List, [], ◌∷◌, ◌++◌, map}
 use Rattle.std.specs.Prelude.{Option, Some, None, refl, ◌+◌, ◌<◌, length, get_or, drop}
 use Rattle.std.proofs.Common.{ap, arith, ◌∙◌, sym, drop-cons}
 use Rattle.std.proofs.lemmas.Bool.{eq-eqb}
 use Rattle.proc_macro2.specs.Token.{Token, Punct}
-use Rattle.proc_macro2.specs.declared.delimiter.Delimiter.{Delimiter}
 use Rattle.rust_leaf.specs.Mark.{is_mark}
 use Rattle.rust_leaf.specs.declared.punct.Spacing.{Spacing}
-use Rattle.rust_leaf.specs.declared.punct.Spacing.TheVariants.{Joint}
 use Rattle.syn_buffer.specs.Entries.{entry_token}
 use Rattle.syn_buffer.specs.declared.entry.Entry.{Entry}
 use Rattle.syn_buffer.specs.declared.entry.Entry.TheVariants as entries
-use Rattle.syn_grammar.specs.Tree as t
-use Rattle.syn_grammar.specs.Tree.{Tree, flat, marks}
+use Rattle.syn_grammar.specs.Tree.{Tree, flat}
 use Rattle.gram_piece.specs.Pieces.{piece_token}
 use Rattle.gram_piece.specs.declared.piece.Piece.{Piece}
 use Rattle.gram_table.specs.Ops.{separator_of}

@@ -4,13 +4,12 @@ use Rattle.std.specs.Prelude.{get_or, length, refl}
 use Rattle.std.proofs.Common.{ap, arith, ◌∙◌, sym}
 use Rattle.std.proofs.lemmas.Bool.{eq-eqb, eqb-true}
 use Rattle.proc_macro2.specs.Token.{Token}
-use Rattle.rust_leaf.specs.declared.punct.Spacing.{Spacing}
 use Rattle.rust_leaf.specs.declared.punct.Spacing.TheVariants.{Alone as Apart}
 use Rattle.syn_grammar.specs.Kind.{Kind, Position, Plain, AStatement, AnItem, GenericParams, Arguments, ATypeAlias}
 use Rattle.syn_grammar.specs.Forms.{inside}
 use Rattle.syn_grammar.specs.Name.{Part, same_part, the_arguments, the_value}
 use Rattle.syn_grammar.specs.Normal.{apart_if, apart_item, formed, is_enclosed, normal_in}
-use Rattle.syn_grammar.specs.Parens.{begins_in, follow, parens_unless, stands_in, stays_left, stays_right}
+use Rattle.syn_grammar.specs.Parens.{begins_in, follow, parens_unless, stays_left, stays_right}
 use Rattle.syn_grammar.specs.Parens.{takes_what_follows, with_left, with_right}
 use Rattle.syn_grammar.specs.Part.{changed}
 use Rattle.syn_grammar.specs.Tidy.{is_absent, is_lifetime_argument, is_lifetime_param, joined, lifetimes_first, moved}
