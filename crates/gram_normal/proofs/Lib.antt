@@ -12,3 +12,6 @@ pub mod Fielding
 pub mod Entering
 pub mod Forgetting
 pub mod Holding
+pub mod Mixing
+pub mod Emptying
+pub mod Known

@@ -11,7 +11,12 @@ use Rattle.syn_grammar.specs.Tree.{Tree}
 use Rattle.syn_grammar.specs.Tidy.{joined, lifetimes_first, others_of, those_then}
 use Rattle.gram_tree.specs.declared.tree.Element.{Element}
 use Rattle.gram_tree.specs.Forms.{mark_of, seconds, turns, elements}
+use Rattle.gram_table.specs.Ops.{separator_of}
+use Rattle.gram_table.specs.declared.op.Separator.{Separator}
+use Rattle.gram_table.specs.declared.op.Separator.TheVariants as separators
 use Rattle.gram_normal.specs.Changes.{others_in, those_in}
+use Rattle.gram_normal.specs.Separators.{is_mixed}
+use Rattle.gram_normal.proofs.Mixing.{comma_before}
 
 -- what is no list
 pub firsts_seconds : (p : Tree → Bool) (n : ℕ) (x : Tree)
@@ -137,6 +142,17 @@ with_some p es os firsts pushed all e x z h o some f same spaced push put is =
     is ∙ last_before p es all e (ap p same ∙ h) spaced (λ none. is_some os some (o ∙ none))
     (put ∙ ap (λ xs. xs ++ others_in p es) (push ∙ ap (λ xs. xs ++ e ∷ []) f))
     ∙ ap (λ v. lifetimes_first p (elements 44 es (t.Final v))) same
+
+-- and before others, where the separator is +
+pub plus_mixed : (p : Tree → Bool) (s : Separator) (es os : List Element) (x : Tree) → p x ≡ true
+    → os ≡ others_in p es → (length os == 0) ≡ false → s ≡ separators.Plus
+    → is_mixed (lifetimes_first p (elements (separator_of s) es (t.Final x))) ≡ true
+plus_mixed p separators.Comma es os x h o none e = cc
+plus_mixed p separators.Plus es os x h o none e =
+    let others : List Element = others_in p es in
+    let c : ℕ = separator_of separators.Plus in
+    ap is_mixed (both_are p c es (t.Final x) ∙ ap (elements c (those_in p es)) (sym (last_then p c others x h)))
+    ∙ comma_before c x (those_in p es) others (λ e. omega (arith, e)) (λ f. is_some os none (o ∙ f))
 
 pub ruleset firsts = (parted_end, parted_last)
 

@@ -5,7 +5,7 @@ use Rattle.rust_leaf.specs.declared.punct.Spacing.{Spacing}
 use Rattle.syn_grammar.specs.Kind.{Where, ImplGenerics}
 use Rattle.syn_grammar.specs.Name.{Part}
 use Rattle.syn_grammar.specs.Part.{changed}
-use Rattle.syn_grammar.specs.Tidy.{is_absent, is_bare_generics, is_lifetime_argument, moved, tidy, without_generics}
+use Rattle.syn_grammar.specs.Tidy.{is_absent, is_bare_generics, is_lifetime_argument, moved, without_generics}
 use Rattle.syn_grammar.specs.Tree as t
 use Rattle.syn_grammar.specs.Tree.{Tree}
 use Rattle.gram_table.specs.Kinds.{kind_of}
@@ -16,6 +16,7 @@ use Rattle.gram_tree.specs.declared.tree.Element.{Element}
 use Rattle.gram_tree.specs.Forms.{mark_of, seconds, turns, elements, ending}
 use Rattle.gram_tree.specs.Shapes.{first_of, is_second, node_of, pair_of}
 use Rattle.gram_write.proofs.SeenForms.{first_is, node_is, pair_is}
+use Rattle.gram_normal.specs.Changes.{emptied, ordered}
 
 -- a where clause that is not there
 absent_second : (n : Part) (y : Tree) → is_second y ≡ is_absent (t.Called n (t.Node Where y))
@@ -141,17 +142,20 @@ pub argument_off : (k : g.Kind) (x : Tree) → (k ≡ kinds.AnArgument → ⊥)
 argument_off kinds.AnArgument x h = absurd (h refl)
 argument_off k x h = refl
 
--- kinds of which nothing is made
-pub tidy_off : (k : g.Kind) (x : Tree) → (k ≡ kinds.Where → ⊥) → (k ≡ kinds.Generics → ⊥)
-    → (k ≡ kinds.BoundsColon → ⊥) → (k ≡ kinds.LifetimeColon → ⊥) → (k ≡ kinds.GenericParams → ⊥)
-    → (k ≡ kinds.Arguments → ⊥) → ((p : Place) → k ≡ kinds.ATypeAlias p → ⊥) → (k ≡ kinds.AnImpl → ⊥)
-    → x ≡ tidy (kind_of k) x
-tidy_off kinds.Where x a b c d e f g h = absurd (a refl)
-tidy_off kinds.Generics x a b c d e f g h = absurd (b refl)
-tidy_off kinds.BoundsColon x a b c d e f g h = absurd (c refl)
-tidy_off kinds.LifetimeColon x a b c d e f g h = absurd (d refl)
-tidy_off kinds.GenericParams x a b c d e f g h = absurd (e refl)
-tidy_off kinds.Arguments x a b c d e f g h = absurd (f refl)
-tidy_off (kinds.ATypeAlias p) x a b c d e f g h = absurd (g p refl)
-tidy_off kinds.AnImpl x a b c d e f g h = absurd (h refl)
-tidy_off k x a b c d e f g h = refl
+-- kinds of which nothing is removed, and of which nothing comes first
+pub emptied_off : (k : g.Kind) (x : Tree) → (k ≡ kinds.Where → ⊥) → (k ≡ kinds.Generics → ⊥)
+    → (k ≡ kinds.BoundsColon → ⊥) → (k ≡ kinds.LifetimeColon → ⊥) → (k ≡ kinds.AnImpl → ⊥)
+    → x ≡ emptied (kind_of k) x
+emptied_off kinds.Where x a b c d e = absurd (a refl)
+emptied_off kinds.Generics x a b c d e = absurd (b refl)
+emptied_off kinds.BoundsColon x a b c d e = absurd (c refl)
+emptied_off kinds.LifetimeColon x a b c d e = absurd (d refl)
+emptied_off kinds.AnImpl x a b c d e = absurd (e refl)
+emptied_off k x a b c d e = refl
+
+pub ordered_off : (k : g.Kind) (x : Tree) → (k ≡ kinds.GenericParams → ⊥) → (k ≡ kinds.Arguments → ⊥)
+    → ((p : Place) → k ≡ kinds.ATypeAlias p → ⊥) → x ≡ ordered (kind_of k) x
+ordered_off kinds.GenericParams x a b c = absurd (a refl)
+ordered_off kinds.Arguments x a b c = absurd (b refl)
+ordered_off (kinds.ATypeAlias p) x a b c = absurd (c p refl)
+ordered_off k x a b c = refl

@@ -7,20 +7,28 @@ use std::alloc::{AllocError, AllocFailed};
 pub enum Fault {
     /// Memory ran out.
     Memory,
-    /// In a list of parameters or arguments with `+` between them, which none that was read has, a lifetime would stand
-    /// before others with a comma behind it: no tree holds a list with both.
+    /// No tree is the normal form: in a list of parameters or arguments with `+` between them, which none that was read
+    /// has, a lifetime would stand before others with a comma behind it, and no tree holds a list with both.
     Separators,
-    /// Among tokens that are held as they are a mark would be none of a text: none of a tree is.
-    Mark,
 }
 
 impl From<AllocError> for Fault {
+    ghost use Rattle.gram_normal.specs.declared.fault.Fault.TheVariants.{Memory};
+    ghost use Rattle.std.specs.Prelude.{◌≡◌};
+
+    ghost from_gives = { λ _ fault. fault ≡ Memory };
+
     fn from(_: AllocError) -> Fault {
         Fault::Memory
     }
 }
 
 impl<T: Drop> From<AllocFailed<T>> for Fault {
+    ghost use Rattle.gram_normal.specs.declared.fault.Fault.TheVariants.{Memory};
+    ghost use Rattle.std.specs.Prelude.{◌≡◌};
+
+    ghost from_gives = { λ _ fault. fault ≡ Memory };
+
     fn from(_: AllocFailed<T>) -> Fault {
         Fault::Memory
     }

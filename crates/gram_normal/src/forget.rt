@@ -8,7 +8,6 @@ ghost use Rattle.syn_grammar.specs.Name.{the_pattern, the_type};
 ghost use Rattle.syn_grammar.specs.Tree as t;
 
 use crate::apart::first_behind;
-use crate::fault::Fault;
 use crate::numbers::plain_number;
 use crate::peel::{is_choice, second, unnamed};
 use crate::stated::as_statement;
@@ -286,19 +285,23 @@ fn plain_member<'a>(arena: &'a Arena, tree: &Tree<'a>) -> Result<Tree<'a>, Alloc
 /// # Errors
 ///
 /// Where there is no memory for it.
-pub(crate) fn forget<'a>(arena: &'a Arena, kind: Kind, inner: Tree<'a>) -> Result<Tree<'a>, Fault>
+pub(crate) fn forget<'a>(
+    arena: &'a Arena,
+    kind: Kind,
+    inner: Tree<'a>,
+) -> Result<Tree<'a>, AllocError>
     ensures { IfOk result (λ x. x ≡ k.forget (kind_of kind) inner.entry) }
 {
     match kind {
-        Kind::Parameter => Ok(named(arena, &inner)?),
-        Kind::DynType(_) => Ok(listed_bound(arena, &inner)?),
-        Kind::ImplType(_) => Ok(listed_bound(arena, &inner)?),
-        Kind::Meta => Ok(unsafe_path(arena, &inner)?),
-        Kind::AStatement => Ok(as_statement(arena, &inner)?),
-        Kind::Member => Ok(plain_member(arena, &inner)?),
-        Kind::Index => Ok(plain_index(arena, &inner)?),
+        Kind::Parameter => named(arena, &inner),
+        Kind::DynType(_) => listed_bound(arena, &inner),
+        Kind::ImplType(_) => listed_bound(arena, &inner),
+        Kind::Meta => unsafe_path(arena, &inner),
+        Kind::AStatement => as_statement(arena, &inner),
+        Kind::Member => plain_member(arena, &inner),
+        Kind::Index => plain_index(arena, &inner),
         Kind::Arm => changed(arena, Part::Comma, Change::Last, &inner),
-        Kind::AnArgument => Ok(constant_argument(arena, &inner)?),
+        Kind::AnArgument => constant_argument(arena, &inner),
         Kind::ConstParam => changed(arena, Part::Value, Change::Default, &inner),
         _ => Ok(inner),
     }

@@ -8,7 +8,6 @@ ghost use Rattle.std.specs.Prelude.{◌++◌, ◌≡◌, IfOk, OnOk, map};
 ghost use Rattle.syn_grammar.specs.Kept as k;
 ghost use Rattle.syn_grammar.specs.Tree as t;
 
-use crate::fault::Fault;
 use crate::fields::dotted;
 use crate::forget::{forget, held};
 use crate::verbatim::verbatim;
@@ -17,10 +16,15 @@ use gram_tree::arena::Arena;
 use gram_tree::made;
 use gram_tree::tree::{Element, Form, Separated, Tree};
 use rust_leaf::punct::Spacing;
+use std::alloc::AllocError;
 
 // Puts what is held of each of some trees.
 #[cycle(kept)]
-fn put_each<'a>(arena: &'a Arena, trees: &[Tree<'a>], out: &mut Vec<Tree<'a>>) -> Result<(), Fault>
+fn put_each<'a>(
+    arena: &'a Arena,
+    trees: &[Tree<'a>],
+    out: &mut Vec<Tree<'a>>,
+) -> Result<(), AllocError>
     ensures { OnOk result (out.new.items ≡ out.old.items ++ map k.kept trees.now) }
 {
     for tree in trees {
@@ -35,7 +39,7 @@ fn put_elements<'a>(
     arena: &'a Arena,
     before: &[Element<'a>],
     out: &mut Vec<Element<'a>>,
-) -> Result<(), Fault>
+) -> Result<(), AllocError>
     ensures { OnOk result (out.new.items ≡ out.old.items ++ map element_held before.now) }
 {
     for element in before {
@@ -49,7 +53,7 @@ fn put_elements<'a>(
 
 // A list.
 #[cycle(kept)]
-fn list<'a>(arena: &'a Arena, list: &Separated<'a>) -> Result<Tree<'a>, Fault>
+fn list<'a>(arena: &'a Arena, list: &Separated<'a>) -> Result<Tree<'a>, AllocError>
     ensures { IfOk result (λ x. x ≡ k.kept
         (elements (separator_of list.now.separator) list.now.before.now (ending (λ y. y.now) list.now.last))) }
 {
@@ -71,22 +75,22 @@ fn list<'a>(arena: &'a Arena, list: &Separated<'a>) -> Result<Tree<'a>, Fault>
 // Turns.
 #[cycle(kept)]
 #[tactic(auto, using(crate::proofs::Holding::each))]
-fn turns<'a>(arena: &'a Arena, trees: &[Tree<'a>]) -> Result<Tree<'a>, Fault>
+fn turns<'a>(arena: &'a Arena, trees: &[Tree<'a>]) -> Result<Tree<'a>, AllocError>
     ensures { IfOk result (λ x. x ≡ k.kept (turns trees.now)) }
 {
     let mut each = Vec::new(arena.alloc());
     put_each(arena, trees, &mut each)?;
-    Ok(made::turns(arena, each)?)
+    made::turns(arena, each)
 }
 
 // A node.
 #[cycle(kept)]
-fn node<'a>(arena: &'a Arena, kind: Kind, inner: &Tree<'a>) -> Result<Tree<'a>, Fault>
+fn node<'a>(arena: &'a Arena, kind: Kind, inner: &Tree<'a>) -> Result<Tree<'a>, AllocError>
     ensures { IfOk result (λ x. x ≡ k.kept (t.Node (kind_of kind) inner.now)) }
 {
     let inner = kept(arena, inner)?;
     let left = forget(arena, kind, inner)?;
-    Ok(made::node(arena, held(kind), left)?)
+    made::node(arena, held(kind), left)
 }
 
 /// What a syntax tree holds of a tree.
@@ -95,10 +99,10 @@ fn node<'a>(arena: &'a Arena, kind: Kind, inner: &Tree<'a>) -> Result<Tree<'a>, 
 ///
 /// # Errors
 ///
-/// Where there is no memory for it, or where no tree is it.
+/// Where there is no memory for it.
 #[cycle(kept)]
 #[tactic(auto, using(crate::proofs::Holding::forms))]
-pub(crate) fn kept<'a>(arena: &'a Arena, tree: &Tree<'a>) -> Result<Tree<'a>, Fault>
+pub(crate) fn kept<'a>(arena: &'a Arena, tree: &Tree<'a>) -> Result<Tree<'a>, AllocError>
     ensures { IfOk result (λ x. x ≡ k.kept tree.now) }
 {
     match &tree.form {
@@ -106,11 +110,11 @@ pub(crate) fn kept<'a>(arena: &'a Arena, tree: &Tree<'a>) -> Result<Tree<'a>, Fa
         Form::Pair(two) => {
             let front = kept(arena, &two.front)?;
             let back = kept(arena, &two.back)?;
-            Ok(made::pair(arena, front, back)?)
+            made::pair(arena, front, back)
         }
         Form::First(depth, inner) => {
             let inner = kept(arena, inner)?;
-            Ok(made::first_behind(arena, *depth, inner)?)
+            made::first_behind(arena, *depth, inner)
         }
         Form::Second(depth, inner) => {
             let inner = kept(arena, inner)?;
@@ -122,38 +126,38 @@ pub(crate) fn kept<'a>(arena: &'a Arena, tree: &Tree<'a>) -> Result<Tree<'a>, Fa
         Form::Elements(elements) => list(arena, elements),
         Form::Group(delimiter, span, inner) => {
             let inner = kept(arena, inner)?;
-            Ok(made::group(arena, *delimiter, *span, inner)?)
+            made::group(arena, *delimiter, *span, inner)
         }
         Form::Dropped(_) => Ok(made::nil()),
         Form::Called(part, inner) => {
             let inner = kept(arena, inner)?;
-            Ok(made::called(arena, *part, inner)?)
+            made::called(arena, *part, inner)
         }
         Form::Verbatim(inner) => verbatim(arena, inner),
         Form::Node(kind, inner) => node(arena, *kind, inner),
         Form::Whole(inner) => {
             let form = kept(arena, inner)?;
-            Ok(made::whole(arena, form)?)
+            made::whole(arena, form)
         }
         Form::Alone(kind, own) => {
             let own = kept(arena, own)?;
-            Ok(made::alone(arena, *kind, own)?)
+            made::alone(arena, *kind, own)
         }
         Form::Front(kind, two) => {
             let own = kept(arena, &two.front)?;
             let operand = kept(arena, &two.back)?;
-            Ok(made::front(arena, *kind, own, operand)?)
+            made::front(arena, *kind, own, operand)
         }
         Form::Back(kind, two) => {
             let left = kept(arena, &two.front)?;
             let own = kept(arena, &two.back)?;
-            Ok(dotted(arena, left, *kind, own)?)
+            dotted(arena, left, *kind, own)
         }
         Form::Infix(kind, three) => {
             let left = kept(arena, &three.left)?;
             let own = kept(arena, &three.own)?;
             let right = kept(arena, &three.right)?;
-            Ok(made::infix(arena, left, *kind, own, right)?)
+            made::infix(arena, left, *kind, own, right)
         }
         _ => Ok(tree.copy()),
     }

@@ -11,17 +11,23 @@
 //! What a syntax tree holds of a tree is made before that where tokens are put: `kept` makes it as the written grammar
 //! says it (`syn_grammar`'s `Kept`), each function by a word of the definition too.
 //!
+//! There is a normal form that no tree can hold, in which a list has two separators (`specs/Separators`). Only there
+//! none is made, want of memory aside.
+//!
 //! The first tokens of something, and what is seen there, are `gram_build`'s. `specs/Changes` has what is changed in a
-//! kind's parts, `specs/Parted` how turns are made of those that are in normal form, `specs/Peeled` and `specs/Held` what
-//! is taken out of a tree and how lists are held. In `proofs/`: `Heads` (the first tokens of what is joined), `Firsts`
-//! (whether a parenthesis stands first), `Edges` (what stands on the edges of an expression), `Lists` (lifetimes in
-//! front of others), `Tidying` (kinds of which nothing is removed), `Apartness` (raw items that are set apart),
-//! `Forming` (trees by their forms), `Peeling` (what is taken out of a tree), `Forgetting` (what a kind holds), `Giving`
-//! (attributes in front of an expression), `Numbering` and `Fielding` (fields by numbers), `Entering` (tokens that are
-//! put behind others), `Holding` (what is held, by its form).
+//! kind's parts, `specs/Parted` how turns are made of those that are in normal form, `specs/Peeled` and `specs/Held`
+//! what is taken out of a tree and how lists are held, `specs/Marks` tokens whose marks are of the 22. In `proofs/`:
+//! `Heads` (the first tokens of what is joined), `Firsts` (whether a parenthesis stands first), `Edges` (what stands on
+//! the edges of an expression), `Lists` (lifetimes in front of others), `Tidying` (kinds of which nothing is removed),
+//! `Emptying` (what is removed is seen before the normal form is made), `Mixing` (where two separators are left in a
+//! list), `Known` (what is true of every tree), `Apartness` (raw items that are set apart), `Forming` (trees by their
+//! forms), `Peeling` (what is taken out of a tree), `Forgetting` (what a kind holds), `Giving` (attributes in front of
+//! an expression), `Numbering` and `Fielding` (fields by numbers), `Entering` (tokens that are put behind others),
+//! `Holding` (what is held, by its form).
 //!
 //! - `normal`: the normal form, and putting its tokens.
 //! - `fault`: why there is none.
+//! - `laws`: what is true of every tree.
 //! - `first`: the first tokens of a tree.
 //! - `sight`: whether a group in parentheses stands first.
 //! - `stays`: whether an operand stays as it is.
@@ -44,6 +50,7 @@ mod fields;
 mod first;
 mod forget;
 mod kept;
+pub mod laws;
 mod lifetime;
 pub mod normal;
 mod numbers;

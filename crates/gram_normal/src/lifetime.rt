@@ -1,9 +1,10 @@
 //! Lists in which lifetimes come first.
 
 ghost use Rattle.gram_normal.specs.Changes.{others_in, passes, those_in};
+ghost use Rattle.gram_normal.specs.Separators.{IsFault};
 ghost use Rattle.gram_table.specs.Ops.{separator_of};
 ghost use Rattle.gram_tree.specs.Forms.{elements, ending};
-ghost use Rattle.std.specs.Prelude.{◌++◌, ◌≡◌, IfOk, OnOk, true};
+ghost use Rattle.std.specs.Prelude.{◌++◌, ◌≡◌, IfOk, MatchResult, OnOk, true};
 ghost use Rattle.syn_grammar.specs.Tidy.{is_lifetime_argument, lifetimes_first};
 ghost use Rattle.syn_grammar.specs.Tree as t;
 
@@ -125,8 +126,11 @@ fn last_with<'a>(
 ) -> Result<Tree<'a>, Fault>
     ensures { passes which last.now ≡ true → others.now ≡ others_in (passes which) list.now.before.now
         → firsts.entry.items ≡ those_in (passes which) list.now.before.now
-        → IfOk result (λ x. x ≡ lifetimes_first (passes which)
-        (elements (separator_of list.now.separator) list.now.before.now (t.Final last.now))) }
+        → MatchResult result
+        (λ x. x ≡ lifetimes_first (passes which)
+        (elements (separator_of list.now.separator) list.now.before.now (t.Final last.now)))
+        (λ fault. IsFault fault (lifetimes_first (passes which)
+        (elements (separator_of list.now.separator) list.now.before.now (t.Final last.now)))) }
 {
     let once = last.copy();
     if others.is_empty() {
@@ -155,8 +159,11 @@ fn last_first<'a>(
     list: &Separated<'a>,
     last: &Tree<'a>,
 ) -> Result<Tree<'a>, Fault>
-    ensures { passes which last.now ≡ true → IfOk result (λ x. x ≡ lifetimes_first (passes which)
-        (elements (separator_of list.now.separator) list.now.before.now (t.Final last.now))) }
+    ensures { passes which last.now ≡ true → MatchResult result
+        (λ x. x ≡ lifetimes_first (passes which)
+        (elements (separator_of list.now.separator) list.now.before.now (t.Final last.now)))
+        (λ fault. IsFault fault (lifetimes_first (passes which)
+        (elements (separator_of list.now.separator) list.now.before.now (t.Final last.now)))) }
 {
     let mut others = Vec::new(arena.alloc());
     put_others(which, list.before, &mut others)?;
@@ -168,8 +175,11 @@ fn last_first<'a>(
 // The same of a list.
 #[tactic(auto, using(crate::proofs::Lists::firsts))]
 fn parted_list<'a>(arena: &'a Arena, which: Which, list: &Separated<'a>) -> Result<Tree<'a>, Fault>
-    ensures { IfOk result (λ x. x ≡ lifetimes_first (passes which)
-        (elements (separator_of list.now.separator) list.now.before.now (ending (λ y. y.now) list.now.last))) }
+    ensures { MatchResult result
+        (λ x. x ≡ lifetimes_first (passes which)
+        (elements (separator_of list.now.separator) list.now.before.now (ending (λ y. y.now) list.now.last)))
+        (λ fault. IsFault fault (lifetimes_first (passes which)
+        (elements (separator_of list.now.separator) list.now.before.now (ending (λ y. y.now) list.now.last)))) }
 {
     match list.last {
         Some(last) => {
@@ -197,7 +207,8 @@ pub(crate) fn lifetimes_first<'a>(
     which: Which,
     tree: &Tree<'a>,
 ) -> Result<Tree<'a>, Fault>
-    ensures { IfOk result (λ x. x ≡ lifetimes_first (passes which) tree.now) }
+    ensures { MatchResult result (λ x. x ≡ lifetimes_first (passes which) tree.now)
+        (λ fault. IsFault fault (lifetimes_first (passes which) tree.now)) }
 {
     match &tree.form {
         Form::Elements(list) => parted_list(arena, which, list),

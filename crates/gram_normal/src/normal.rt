@@ -3,6 +3,7 @@
 ghost use Rattle.gram_build.specs.Begins.{front3};
 ghost use Rattle.gram_build.specs.Heads.{head_tokens};
 ghost use Rattle.gram_normal.specs.Parted.{element_in};
+ghost use Rattle.gram_normal.specs.Separators.{IsFault};
 ghost use Rattle.gram_piece.specs.Pieces.{piece_token};
 ghost use Rattle.gram_table.specs.Kinds.{kind_of, position_of};
 ghost use Rattle.gram_table.specs.Ops.{separator_of};
@@ -10,7 +11,7 @@ ghost use Rattle.gram_table.specs.Parts.{part_of};
 ghost use Rattle.gram_tree.specs.Forms.{elements, ending, turns};
 ghost use Rattle.gram_write.specs.Front.{Keeps};
 ghost use Rattle.proc_macro2.specs.Token.{Token};
-ghost use Rattle.std.specs.Prelude.{◌++◌, ◌≡◌, IfOk, List, OnOk, map};
+ghost use Rattle.std.specs.Prelude.{◌++◌, ◌≡◌, IfErr, IfOk, List, MatchResult, OnOk, map};
 ghost use Rattle.syn_grammar.specs.Kept as k;
 ghost use Rattle.syn_grammar.specs.Normal as n;
 ghost use Rattle.syn_grammar.specs.Tree as t;
@@ -21,7 +22,7 @@ use crate::fault::Fault;
 use crate::first::first;
 use crate::kept::kept;
 use crate::paren;
-use crate::tidy::tidy;
+use crate::tidy::{emptied, ordered};
 use gram_build::head::Head;
 use gram_build::sight::follow;
 use gram_judge::level::inside;
@@ -83,14 +84,16 @@ fn private<'a>(arena: &'a Arena) -> Result<Tree<'a>, AllocError>
 
 // Puts the normal form of each of some trees.
 #[cycle(normal)]
+#[tactic(auto, using(crate::proofs::Mixing::items))]
 fn put_each<'a>(
     arena: &'a Arena,
     position: Position,
     trees: &[Tree<'a>],
     out: &mut Vec<Tree<'a>>,
 ) -> Result<(), Fault>
-    ensures { OnOk result (out.new.items
-        ≡ out.old.items ++ map (n.normal_in (position_of position)) trees.now) }
+    ensures { MatchResult result
+        (λ _. out.new.items ≡ out.old.items ++ map (n.normal_in (position_of position)) trees.now)
+        (λ fault. IsFault fault (turns (map (n.normal_in (position_of position)) trees.now))) }
 {
     for tree in trees {
         out.push(normal_in(arena, position, tree)?)?;
@@ -101,7 +104,8 @@ fn put_each<'a>(
 // Turns.
 #[cycle(normal)]
 fn turns<'a>(arena: &'a Arena, position: Position, trees: &[Tree<'a>]) -> Result<Tree<'a>, Fault>
-    ensures { IfOk result (λ x. x ≡ n.normal_in (position_of position) (turns trees.now)) }
+    ensures { MatchResult result (λ x. x ≡ n.normal_in (position_of position) (turns trees.now))
+        (λ fault. IsFault fault (n.normal_in (position_of position) (turns trees.now))) }
 {
     let mut each = Vec::new(arena.alloc());
     put_each(arena, position, trees, &mut each)?;
@@ -113,14 +117,16 @@ fn turns<'a>(arena: &'a Arena, position: Position, trees: &[Tree<'a>]) -> Result
 
 // Puts the normal form of each of the elements that a mark follows.
 #[cycle(normal)]
+#[tactic(auto, using(crate::proofs::Mixing::items))]
 fn put_elements<'a>(
     arena: &'a Arena,
     position: Position,
     before: &[Element<'a>],
     out: &mut Vec<Element<'a>>,
 ) -> Result<(), Fault>
-    ensures { OnOk result (out.new.items
-        ≡ out.old.items ++ map (element_in (position_of position)) before.now) }
+    ensures { MatchResult result
+        (λ _. out.new.items ≡ out.old.items ++ map (element_in (position_of position)) before.now)
+        (λ fault. IsFault fault (turns (map (λ e. n.normal_in (position_of position) e.tree) before.now))) }
 {
     for element in before {
         out.push(Element {
@@ -134,8 +140,11 @@ fn put_elements<'a>(
 // A list.
 #[cycle(normal)]
 fn list<'a>(arena: &'a Arena, position: Position, list: &Separated<'a>) -> Result<Tree<'a>, Fault>
-    ensures { IfOk result (λ x. x ≡ n.normal_in (position_of position)
-        (elements (separator_of list.now.separator) list.now.before.now (ending (λ y. y.now) list.now.last))) }
+    ensures { MatchResult result
+        (λ x. x ≡ n.normal_in (position_of position)
+        (elements (separator_of list.now.separator) list.now.before.now (ending (λ y. y.now) list.now.last)))
+        (λ fault. IsFault fault (n.normal_in (position_of position)
+        (elements (separator_of list.now.separator) list.now.before.now (ending (λ y. y.now) list.now.last)))) }
 {
     let mut before = Vec::new(arena.alloc());
     put_elements(arena, position, list.before, &mut before)?;
@@ -161,8 +170,11 @@ fn alone<'a>(
     kind: Kind,
     own: &Tree<'a>,
 ) -> Result<Tree<'a>, Fault>
-    ensures { IfOk result (λ x. (ts : List Token) → head_tokens behind.entry ≡ front3 ts
-        → x ≡ n.formed (position_of position) ts (t.Alone (kind_of kind) own.now)) }
+    ensures { MatchResult result
+        (λ x. (ts : List Token) → head_tokens behind.entry ≡ front3 ts
+        → x ≡ n.formed (position_of position) ts (t.Alone (kind_of kind) own.now))
+        (λ fault. (ts : List Token) → head_tokens behind.entry ≡ front3 ts
+        → IsFault fault (n.formed (position_of position) ts (t.Alone (kind_of kind) own.now))) }
 {
     let own = normal_in(arena, Position::Plain, own)?;
     let form = paren::alone(arena, position, behind, kind, own)?;
@@ -178,8 +190,11 @@ fn front<'a>(
     kind: Kind,
     two: &Two<'a>,
 ) -> Result<Tree<'a>, Fault>
-    ensures { IfOk result (λ x. (ts : List Token) → head_tokens behind.entry ≡ front3 ts
-        → x ≡ n.formed (position_of position) ts (t.Front (kind_of kind) two.now.front two.now.back)) }
+    ensures { MatchResult result
+        (λ x. (ts : List Token) → head_tokens behind.entry ≡ front3 ts
+        → x ≡ n.formed (position_of position) ts (t.Front (kind_of kind) two.now.front two.now.back))
+        (λ fault. (ts : List Token) → head_tokens behind.entry ≡ front3 ts
+        → IsFault fault (n.formed (position_of position) ts (t.Front (kind_of kind) two.now.front two.now.back))) }
 {
     let own = normal_in(arena, Position::Plain, &two.front)?;
     let place = inside(position, kind);
@@ -197,8 +212,11 @@ fn back<'a>(
     kind: Kind,
     two: &Two<'a>,
 ) -> Result<Tree<'a>, Fault>
-    ensures { IfOk result (λ x. (ts : List Token) → head_tokens behind.entry ≡ front3 ts
-        → x ≡ n.formed (position_of position) ts (t.Back two.now.front (kind_of kind) two.now.back)) }
+    ensures { MatchResult result
+        (λ x. (ts : List Token) → head_tokens behind.entry ≡ front3 ts
+        → x ≡ n.formed (position_of position) ts (t.Back two.now.front (kind_of kind) two.now.back))
+        (λ fault. (ts : List Token) → head_tokens behind.entry ≡ front3 ts
+        → IsFault fault (n.formed (position_of position) ts (t.Back two.now.front (kind_of kind) two.now.back))) }
 {
     let own = normal_in(arena, Position::Plain, &two.back)?;
     let begun = first(&own);
@@ -217,9 +235,13 @@ fn infix<'a>(
     kind: Kind,
     three: &Three<'a>,
 ) -> Result<Tree<'a>, Fault>
-    ensures { IfOk result (λ x. (ts : List Token) → head_tokens behind.entry ≡ front3 ts
+    ensures { MatchResult result
+        (λ x. (ts : List Token) → head_tokens behind.entry ≡ front3 ts
         → x ≡ n.formed (position_of position) ts
-        (t.Infix three.now.left (kind_of kind) three.now.own three.now.right)) }
+        (t.Infix three.now.left (kind_of kind) three.now.own three.now.right))
+        (λ fault. (ts : List Token) → head_tokens behind.entry ≡ front3 ts
+        → IsFault fault (n.formed (position_of position) ts
+        (t.Infix three.now.left (kind_of kind) three.now.own three.now.right))) }
 {
     let own = normal_in(arena, Position::Plain, &three.own)?;
     let begun = first(&own);
@@ -240,8 +262,11 @@ fn formed<'a>(
     behind: Head<'a>,
     tree: &Tree<'a>,
 ) -> Result<Tree<'a>, Fault>
-    ensures { IfOk result (λ x. (ts : List Token) → head_tokens behind.entry ≡ front3 ts
-        → x ≡ n.formed (position_of position) ts tree.now) }
+    ensures { MatchResult result
+        (λ x. (ts : List Token) → head_tokens behind.entry ≡ front3 ts
+        → x ≡ n.formed (position_of position) ts tree.now)
+        (λ fault. (ts : List Token) → head_tokens behind.entry ≡ front3 ts
+        → IsFault fault (n.formed (position_of position) ts tree.now)) }
 {
     match &tree.form {
         Form::Alone(kind, own) => alone(arena, position, behind, *kind, own),
@@ -254,16 +279,19 @@ fn formed<'a>(
 
 // A node.
 #[cycle(normal)]
+#[tactic(auto, using(crate::proofs::Emptying::nodes))]
 fn node<'a>(
     arena: &'a Arena,
     position: Position,
     kind: Kind,
     inner: &Tree<'a>,
 ) -> Result<Tree<'a>, Fault>
-    ensures { IfOk result (λ x. x ≡ n.normal_in (position_of position) (t.Node (kind_of kind) inner.now)) }
+    ensures { MatchResult result (λ x. x ≡ n.normal_in (position_of position) (t.Node (kind_of kind) inner.now))
+        (λ fault. IsFault fault (n.normal_in (position_of position) (t.Node (kind_of kind) inner.now))) }
 {
-    let inner = normal_in(arena, passed(kind, position), inner)?;
-    let tidied = tidy(arena, kind, inner)?;
+    let left = emptied(arena, kind, inner)?;
+    let inside = normal_in(arena, passed(kind, position), &left)?;
+    let tidied = ordered(arena, kind, inside)?;
     Ok(made::node(arena, kind, tidied)?)
 }
 
@@ -273,13 +301,14 @@ fn node<'a>(
 ///
 /// Where there is no memory for it, or where no tree is it.
 #[cycle(normal)]
-#[tactic(auto, using(crate::proofs::Forming::forms))]
+#[tactic(auto, using(crate::proofs::Forming::forms, crate::proofs::Mixing::places))]
 pub fn normal_in<'a>(
     arena: &'a Arena,
     position: Position,
     tree: &Tree<'a>,
 ) -> Result<Tree<'a>, Fault>
-    ensures { IfOk result (λ x. x ≡ n.normal_in (position_of position) tree.now) }
+    ensures { MatchResult result (λ x. x ≡ n.normal_in (position_of position) tree.now)
+        (λ fault. IsFault fault (n.normal_in (position_of position) tree.now)) }
 {
     match &tree.form {
         Form::Mark(sign, _, span) => Ok(made::mark(*sign, Spacing::Alone, *span)),
@@ -327,7 +356,7 @@ pub fn normal_in<'a>(
 ///
 /// Where there is no memory for it, or where no tree is it.
 pub fn normal<'a>(arena: &'a Arena, tree: &Tree<'a>) -> Result<Tree<'a>, Fault>
-    ensures { IfOk result (λ x. x ≡ n.normal tree.now) }
+    ensures { MatchResult result (λ x. x ≡ n.normal tree.now) (λ fault. IsFault fault (n.normal tree.now)) }
 {
     normal_in(arena, Position::Plain, tree)
 }
@@ -348,6 +377,7 @@ pub fn put_normal<'a>(
 ) -> Result<(), Fault>
     ensures put { OnOk result (map piece_token out.new.items
         ≡ map piece_token out.old.items ++ flat (n.normal (k.kept tree.now))) }
+    ensures fault { IfErr result (λ fault. IsFault fault (n.normal (k.kept tree.now))) }
     ensures keeps { Keeps out.old.items out.new.items }
 {
     let held = kept(arena, tree)?;

@@ -1,13 +1,14 @@
 //! What is made of a kind's parts.
 
-ghost use Rattle.gram_normal.specs.Changes.{change_of};
+ghost use Rattle.gram_normal.specs.Changes.{arguments_first, change_of, emptied, ordered};
+ghost use Rattle.gram_normal.specs.Separators.{IsFault};
 ghost use Rattle.gram_table.specs.Kinds.{kind_of};
 ghost use Rattle.gram_table.specs.Parts.{part_of};
-ghost use Rattle.std.specs.Prelude.{◌≡◌, IfOk, cond};
+ghost use Rattle.std.specs.Prelude.{◌≡◌, IfOk, MatchResult, cond};
 ghost use Rattle.syn_grammar.specs.Name as name;
 ghost use Rattle.syn_grammar.specs.Name.{number, same_part};
 ghost use Rattle.syn_grammar.specs.Part.{changed};
-ghost use Rattle.syn_grammar.specs.Tidy.{is_absent, moved, tidy, tidy_impl, without_generics};
+ghost use Rattle.syn_grammar.specs.Tidy.{is_absent, moved, tidy_impl, without_generics};
 ghost use Rattle.syn_grammar.specs.Tree as t;
 
 use crate::fault::Fault;
@@ -95,8 +96,6 @@ fn without_generics<'a>(arena: &'a Arena, tree: &Tree<'a>) -> Result<Tree<'a>, A
 /// What is made of a part.
 #[derive(Clone, Copy)]
 pub(crate) enum Change {
-    /// Its lifetimes come first.
-    Lifetimes,
     /// A where clause that is not there stands behind the definition.
     Moved,
     /// Generics without parameters are not written.
@@ -108,15 +107,18 @@ pub(crate) enum Change {
 }
 
 // A part, changed so.
-fn changed_part<'a>(arena: &'a Arena, change: Change, tree: &Tree<'a>) -> Result<Tree<'a>, Fault>
+fn changed_part<'a>(
+    arena: &'a Arena,
+    change: Change,
+    tree: &Tree<'a>,
+) -> Result<Tree<'a>, AllocError>
     ensures { IfOk result (λ x. x ≡ change_of change tree.now) }
 {
     match change {
-        Change::Lifetimes => lifetimes_first(arena, Which::Arguments, tree),
-        Change::Moved => Ok(moved(arena, tree)?),
-        Change::Generics => Ok(without_generics(arena, tree)?),
-        Change::Last => Ok(not_last(arena, tree)?),
-        Change::Default => Ok(constant_default(arena, tree)?),
+        Change::Moved => moved(arena, tree),
+        Change::Generics => without_generics(arena, tree),
+        Change::Last => not_last(arena, tree),
+        Change::Default => constant_default(arena, tree),
     }
 }
 
@@ -139,21 +141,21 @@ fn is_same(one: Part, other: Part) -> bool
 ///
 /// # Errors
 ///
-/// Where there is no memory for it, or where no tree is it.
+/// Where there is no memory for it.
 #[tactic(auto, using(crate::proofs::Tidying::changes))]
 pub(crate) fn changed<'a>(
     arena: &'a Arena,
     part: Part,
     change: Change,
     tree: &Tree<'a>,
-) -> Result<Tree<'a>, Fault>
+) -> Result<Tree<'a>, AllocError>
     ensures { IfOk result (λ x. x ≡ changed (part_of part) (change_of change) tree.now) }
 {
     match &tree.form {
         Form::Called(name, inner) => {
             if is_same(*name, part) {
                 let inner = changed_part(arena, change, inner)?;
-                Ok(made::called(arena, *name, inner)?)
+                made::called(arena, *name, inner)
             } else {
                 Ok(tree.copy())
             }
@@ -161,11 +163,11 @@ pub(crate) fn changed<'a>(
         Form::Pair(two) => {
             let front = changed(arena, part, change, &two.front)?;
             let back = changed(arena, part, change, &two.back)?;
-            Ok(made::pair(arena, front, back)?)
+            made::pair(arena, front, back)
         }
         Form::First(depth, inner) => {
             let inner = changed(arena, part, change, inner)?;
-            Ok(made::first_behind(arena, *depth, inner)?)
+            made::first_behind(arena, *depth, inner)
         }
         Form::Second(depth, inner) => {
             let inner = changed(arena, part, change, inner)?;
@@ -175,6 +177,44 @@ pub(crate) fn changed<'a>(
         }
         Form::Group(delimiter, span, inner) => {
             let inner = changed(arena, part, change, inner)?;
+            made::group(arena, *delimiter, *span, inner)
+        }
+        _ => Ok(tree.copy()),
+    }
+}
+
+// A tree with its arguments changed so that lifetimes come first.
+#[tactic(auto, using(crate::proofs::Tidying::changes, crate::proofs::Mixing::places))]
+fn arguments_first<'a>(arena: &'a Arena, tree: &Tree<'a>) -> Result<Tree<'a>, Fault>
+    ensures { MatchResult result (λ x. x ≡ arguments_first tree.now)
+        (λ fault. IsFault fault (arguments_first tree.now)) }
+{
+    match &tree.form {
+        Form::Called(name, inner) => {
+            if is_same(*name, Part::Arguments) {
+                let inner = lifetimes_first(arena, Which::Arguments, inner)?;
+                Ok(made::called(arena, *name, inner)?)
+            } else {
+                Ok(tree.copy())
+            }
+        }
+        Form::Pair(two) => {
+            let front = arguments_first(arena, &two.front)?;
+            let back = arguments_first(arena, &two.back)?;
+            Ok(made::pair(arena, front, back)?)
+        }
+        Form::First(depth, inner) => {
+            let inner = arguments_first(arena, inner)?;
+            Ok(made::first_behind(arena, *depth, inner)?)
+        }
+        Form::Second(depth, inner) => {
+            let inner = arguments_first(arena, inner)?;
+            Ok(Tree {
+                form: Form::Second(*depth, arena.put(inner)?),
+            })
+        }
+        Form::Group(delimiter, span, inner) => {
+            let inner = arguments_first(arena, inner)?;
             Ok(made::group(arena, *delimiter, *span, inner)?)
         }
         _ => Ok(tree.copy()),
@@ -182,46 +222,52 @@ pub(crate) fn changed<'a>(
 }
 
 // The parts of an impl.
-fn tidy_impl<'a>(arena: &'a Arena, inner: Tree<'a>) -> Result<Tree<'a>, Fault>
-    ensures { IfOk result (λ x. x ≡ tidy_impl inner.entry) }
+fn tidy_impl<'a>(arena: &'a Arena, inner: &Tree<'a>) -> Result<Tree<'a>, AllocError>
+    ensures { IfOk result (λ x. x ≡ tidy_impl inner.now) }
 {
-    if keeps_generics(&inner) {
-        Ok(inner)
+    if keeps_generics(inner) {
+        Ok(inner.copy())
     } else {
-        changed(arena, Part::Generics, Change::Generics, &inner)
+        changed(arena, Part::Generics, Change::Generics, inner)
     }
 }
 
-/// What is made of a kind's parts: nothing empty is written, lifetimes come first, and a where clause that is not there
-/// stands behind the definition.
+/// What is left of a kind's parts before they are made their normal form: nothing empty is written.
+///
+/// # Errors
+///
+/// Where there is no memory for it.
+pub(crate) fn emptied<'a>(
+    arena: &'a Arena,
+    kind: Kind,
+    inner: &Tree<'a>,
+) -> Result<Tree<'a>, AllocError>
+    ensures { IfOk result (λ x. x ≡ emptied (kind_of kind) inner.now) }
+{
+    match kind {
+        Kind::Where => removed_if(arena, is_bare_where(inner), inner.copy()),
+        Kind::Generics => removed_if(arena, is_bare_generics(inner), inner.copy()),
+        Kind::BoundsColon => removed_if(arena, is_bare_colon(inner), inner.copy()),
+        Kind::LifetimeColon => removed_if(arena, is_bare_colon(inner), inner.copy()),
+        Kind::AnImpl => tidy_impl(arena, inner),
+        _ => Ok(inner.copy()),
+    }
+}
+
+/// What is made of the normal form of a kind's parts: lifetimes come first, and a where clause that is not there stands
+/// behind the definition.
 ///
 /// # Errors
 ///
 /// Where there is no memory for it, or where no tree is it.
-pub(crate) fn tidy<'a>(arena: &'a Arena, kind: Kind, inner: Tree<'a>) -> Result<Tree<'a>, Fault>
-    ensures { IfOk result (λ x. x ≡ tidy (kind_of kind) inner.entry) }
+pub(crate) fn ordered<'a>(arena: &'a Arena, kind: Kind, inner: Tree<'a>) -> Result<Tree<'a>, Fault>
+    ensures { MatchResult result (λ x. x ≡ ordered (kind_of kind) inner.entry)
+        (λ fault. IsFault fault (ordered (kind_of kind) inner.entry)) }
 {
     match kind {
-        Kind::Where => {
-            let bare = is_bare_where(&inner);
-            Ok(removed_if(arena, bare, inner)?)
-        }
-        Kind::Generics => {
-            let bare = is_bare_generics(&inner);
-            Ok(removed_if(arena, bare, inner)?)
-        }
-        Kind::BoundsColon => {
-            let bare = is_bare_colon(&inner);
-            Ok(removed_if(arena, bare, inner)?)
-        }
-        Kind::LifetimeColon => {
-            let bare = is_bare_colon(&inner);
-            Ok(removed_if(arena, bare, inner)?)
-        }
         Kind::GenericParams => lifetimes_first(arena, Which::Params, &inner),
-        Kind::Arguments => changed(arena, Part::Arguments, Change::Lifetimes, &inner),
-        Kind::ATypeAlias(_) => changed(arena, Part::Value, Change::Moved, &inner),
-        Kind::AnImpl => tidy_impl(arena, inner),
+        Kind::Arguments => arguments_first(arena, &inner),
+        Kind::ATypeAlias(_) => Ok(changed(arena, Part::Value, Change::Moved, &inner)?),
         _ => Ok(inner),
     }
 }

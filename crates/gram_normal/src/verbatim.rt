@@ -1,14 +1,16 @@
 //! What is held as its tokens.
 
+ghost use Rattle.gram_normal.specs.Marks.{are_known, is_known};
 ghost use Rattle.gram_piece.specs.Pieces.{piece_token};
 ghost use Rattle.gram_piece.specs.declared.piece.Piece.TheVariants as pieces;
 ghost use Rattle.rust_leaf.specs.Leaf.{ident_text};
-ghost use Rattle.std.specs.Prelude.{◌++◌, ◌≡◌, IfOk, OnOk, codes, map};
+ghost use Rattle.rust_leaf.specs.Mark.{is_mark};
+ghost use Rattle.std.specs.Prelude.{◌++◌, ◌≡◌, IfOk, IsTrue, OnOk, codes, map};
 ghost use Rattle.syn_buffer.specs.Entries.{entry_token};
 ghost use Rattle.syn_grammar.specs.Tree as t;
 ghost use Rattle.syn_grammar.specs.Tree.{flat};
 
-use crate::fault::Fault;
+use crate::laws::each_tree;
 use gram_piece::piece::Piece;
 use gram_tree::arena::Arena;
 use gram_tree::made;
@@ -37,19 +39,17 @@ pub(crate) fn underscore<'a>(arena: &'a Arena) -> Result<&'a Ident, AllocError>
 }
 
 // A mark, at no place of a text.
-fn mark<'a>(arena: &'a Arena, mark: char, spacing: Spacing) -> Result<Entry<'a>, Fault>
+fn mark<'a>(arena: &'a Arena, mark: char, spacing: Spacing) -> Result<Entry<'a>, AllocError>
+    requires { IsTrue (is_mark mark) }
     ensures { IfOk result (λ e. entry_token e ≡ piece_token (pieces.Mark mark spacing)) }
 {
-    if Punct::is_mark(mark) {
-        let punct = arena.put(Punct::new(mark, spacing))?;
-        Ok(Entry::Punct(punct))
-    } else {
-        Err(Fault::Mark)
-    }
+    let punct = arena.put(Punct::new(mark, spacing))?;
+    Ok(Entry::Punct(punct))
 }
 
 // A token; of one that opens a group it is not known how many stand inside.
-fn entry<'a>(arena: &'a Arena, piece: Piece<'a>) -> Result<Entry<'a>, Fault>
+fn entry<'a>(arena: &'a Arena, piece: Piece<'a>) -> Result<Entry<'a>, AllocError>
+    requires { IsTrue (is_known (piece_token piece)) }
     ensures { IfOk result (λ e. entry_token e ≡ piece_token piece.entry) }
 {
     match piece {
@@ -67,12 +67,13 @@ fn entry<'a>(arena: &'a Arena, piece: Piece<'a>) -> Result<Entry<'a>, Fault>
 }
 
 // Puts each of some tokens.
-#[tactic(auto, using(crate::proofs::Entering::puts))]
+#[tactic(auto, using(crate::proofs::Entering::puts, crate::proofs::Known::pieces))]
 fn put_entries<'a>(
     arena: &'a Arena,
     pieces: &[Piece<'a>],
     out: &mut Vec<Entry<'a>>,
-) -> Result<(), Fault>
+) -> Result<(), AllocError>
+    requires { IsTrue (are_known (map piece_token pieces.now)) }
     ensures { OnOk result (map entry_token out.new.items
         ≡ map entry_token out.old.items ++ map piece_token pieces.now) }
 {
@@ -86,13 +87,14 @@ fn put_entries<'a>(
 ///
 /// # Errors
 ///
-/// Where there is no memory for them, or where a mark among them is none of a text.
+/// Where there is no memory for them.
 #[tactic(auto, using(crate::proofs::Entering::puts))]
-pub(crate) fn verbatim<'a>(arena: &'a Arena, inner: &Tree<'a>) -> Result<Tree<'a>, Fault>
+pub(crate) fn verbatim<'a>(arena: &'a Arena, inner: &Tree<'a>) -> Result<Tree<'a>, AllocError>
     ensures { IfOk result (λ x. x ≡ t.Raw (flat inner.now)) }
 {
     let mut pieces = Vec::new(arena.alloc());
     put_as_read(inner, &mut pieces)?;
+    each_tree(inner);
     let mut entries = Vec::new(arena.alloc());
     put_entries(arena, pieces.as_slice(), &mut entries)?;
     Ok(made::raw(arena.put_all(entries)?))

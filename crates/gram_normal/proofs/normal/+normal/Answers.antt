@@ -1,7 +1,8 @@
 -- Each form by its operands.
 use Rattle.std.specs.Prelude.{List}
-use Rattle.std.proofs.Common.{◌≡◌, ◌∙◌, ◌++◌, arith, ap, map, refl, sym}
-use Rattle.syn_grammar.specs.Kind.{Position}
+use Rattle.std.proofs.Common.{◌≡◌, ◌∙◌, ◌++◌, arith, ap, map, refl, rules, sym}
+use Rattle.std.proofs.lemmas.Result.{err_from_is_err_and}
+use Rattle.syn_grammar.specs.Kind.{Kind, Position}
 use Rattle.syn_grammar.specs.Parens.{follow}
 use Rattle.syn_grammar.specs.Tree.{Tree, flat}
 use Rattle.gram_table.specs.Kinds.{kind_of, position_of}
@@ -12,10 +13,14 @@ use Rattle.gram_tree.proofs.Sizes.{elements_below, tree_size, turns_size}
 use Rattle.gram_write.proofs.Inside.{last_below}
 use Rattle.syn_grammar.specs.Tree as t
 use Rattle.gram_tree.specs.declared.tree.Element.{Element}
-use Rattle.syn_grammar.specs.Normal.{normal_in}
+use Rattle.syn_grammar.specs.Normal.{formed, normal_in}
+use Rattle.gram_normal.specs.Separators.{is_mixed}
 use Rattle.gram_normal.specs.Parted.{element_in, parted}
 use Rattle.gram_normal.proofs.Apartness.{turned_so}
+use Rattle.gram_normal.proofs.Emptying.{emptied_size}
 use Rattle.gram_normal.proofs.Forming.{alone_formed, back_formed, front_formed, infix_formed, list_none, list_some}
+use Rattle.gram_normal.proofs.Mixing.{alone_own, back_left, back_own, element_mixed, front_right, infix_left}
+use Rattle.gram_normal.proofs.Mixing.{infix_right, list_element, list_last, mixed_turns}
 use Rattle.gram_normal.proofs.normal.+normal.Goals as goal
 
 pub alone-returns : goal.alone-returns
@@ -111,3 +116,91 @@ turns-returns n c =
     (c.in_ok-put_each.ensures ∙ ap (λ ys. ys ++ map (normal_in p) xs) c.new-each.ensures.items)
     (c.in_ok-put_parted.ensures ∙ ap (λ ys. ys ++ parted xs c.as_slice.result.now) c.new-parted.ensures.items
     ∙ ap (parted xs) c.as_slice.ensures.value)
+
+-- what is left of a node's parts is no larger than they are
+pub node-normal_in-requires : goal.node-normal_in-requires
+node-normal_in-requires n c =
+    let x : Tree = c.args.inner.now in
+    let k : Kind = kind_of c.args.kind in
+    omega (
+      arith,
+      c.decreases,
+      emptied_size k x,
+      ap node_count c.in_ok-left.ensures,
+      tree_size x,
+      tree_size c.in_ok-left.left,
+    )
+
+-- why a part isn't made is why the whole isn't
+pub alone-returns-in_err-own : goal.alone-returns-in_err-own
+alone-returns-in_err-own n c =
+    let p = err_from_is_err_and c.from_residual.result c.from_residual.ensures.1 in
+    rw (p.1, p.2) (λ ts head same. alone_own (position_of c.args.position) ts (kind_of c.args.kind) c.args.own.now
+    (c.in_err-own.ensures same))
+
+pub front-returns-in_err-operand : goal.front-returns-in_err-operand
+front-returns-in_err-operand n c =
+    let two = c.args.two.now in
+    let p = err_from_is_err_and c.from_residual-in_err-operand.result c.from_residual-in_err-operand.ensures.1 in
+    rw (p.1, p.2) (λ ts head same. front_right (position_of c.args.position) ts (kind_of c.args.kind) two.front two.back
+    (ap (λ r. is_mixed (formed r ts two.back)) (sym c.inside-place.ensures) ∙ c.in_err-operand.ensures ts head same))
+
+pub back-returns-in_err-own : goal.back-returns-in_err-own
+back-returns-in_err-own n c =
+    let p = err_from_is_err_and c.from_residual.result c.from_residual.ensures.1 in
+    rw (p.1, p.2) (λ ts head same. back_own (position_of c.args.position) ts c.args.two.now.front (kind_of c.args.kind)
+    c.args.two.now.back (c.in_err-own.ensures same))
+
+pub back-returns-in_err-operand : goal.back-returns-in_err-operand
+back-returns-in_err-operand n c =
+    let own : Tree = c.in_ok-own.own in
+    let p = err_from_is_err_and c.from_residual-in_err-operand.result c.from_residual-in_err-operand.ensures.1 in
+    rw (p.1, p.2) (λ ts head same. back_left (position_of c.args.position) ts c.args.two.now.front (kind_of c.args.kind)
+    c.args.two.now.back own c.in_ok-own.ensures
+    (c.in_err-operand.ensures (follow (flat own)) (c.follow-next.ensures (flat own) c.first-begun.ensures) same))
+
+pub infix-returns-in_err-left : goal.infix-returns-in_err-left
+infix-returns-in_err-left n c =
+    let own : Tree = c.in_ok-own.own in
+    let three = c.args.three.now in
+    let p = err_from_is_err_and c.from_residual-in_err-left.result c.from_residual-in_err-left.ensures.1 in
+    rw (p.1, p.2) (λ ts head same. infix_left (position_of c.args.position) ts three.left (kind_of c.args.kind) three.own
+    three.right own c.in_ok-own.ensures
+    (c.in_err-left.ensures (follow (flat own)) (c.follow-next.ensures (flat own) c.first-begun.ensures) same))
+
+pub infix-returns-in_err-right : goal.infix-returns-in_err-right
+infix-returns-in_err-right n c =
+    let three = c.args.three.now in
+    let p = err_from_is_err_and c.from_residual-in_err-right.result c.from_residual-in_err-right.ensures.1 in
+    rw (p.1, p.2) (λ ts head same. infix_right (position_of c.args.position) ts three.left (kind_of c.args.kind) three.own
+    three.right (ap (λ r. is_mixed (formed r ts three.right)) (sym c.inside-place.ensures)
+    ∙ c.in_err-right.ensures ts head same))
+
+pub list-returns-in_err-put_elements : goal.list-returns-in_err-put_elements
+list-returns-in_err-put_elements n c =
+    let list = c.args.list.now in
+    let p = err_from_is_err_and c.from_residual.result c.from_residual.ensures.1 in
+    rw (p.1, p.2) (λ same. list_element (position_of c.args.position) (separator_of list.separator) list.before.now
+    (ending (λ b. b.now) list.last) (c.in_err-put_elements.ensures same))
+
+pub list-returns-in_err-ended-in-Some : goal.list-returns-in_err-ended-in-Some
+list-returns-in_err-ended-in-Some n c =
+    let q : Position = position_of c.args.position in
+    let list = c.args.list.now in
+    let m = separator_of list.separator in
+    let es : List Element = list.before.now in
+    let r = c.from_residual-in_err-ended-in-Some in
+    let p = err_from_is_err_and r.result r.ensures.1 in
+    rw (p.1, p.2) (λ same. ap (λ o. is_mixed (normal_in q (elements m es (ending (λ b. b.now) o)))) c.in-Some.is
+    ∙ list_last q m es c.in-Some.last.now (c.in_err-ended-in-Some.ensures same))
+
+pub put_elements-returns-in_err-normal_in : goal.put_elements-returns-in_err-normal_in
+put_elements-returns-in_err-normal_in n c =
+    let p = err_from_is_err_and c.from_residual.result c.from_residual.ensures.1 in
+    rw (p.1, p.2) (λ same. element_mixed (position_of c.args.position) c.args.before.now c.loop-element.element-index
+    c.element-item.result (search rules) (search rules) (c.in_err-normal_in.ensures same))
+
+pub turns-returns-in_err-put_each : goal.turns-returns-in_err-put_each
+turns-returns-in_err-put_each n c =
+    let p = err_from_is_err_and c.from_residual.result c.from_residual.ensures.1 in
+    rw (p.1, p.2) (λ same. mixed_turns (position_of c.args.position) c.args.trees.now ∙ c.in_err-put_each.ensures same)
