@@ -4,7 +4,7 @@
 
 use anyhow::{Result, anyhow};
 use canon::{Fault, Watched, canonical, outline, run, run_outline, status};
-use rows::{Row, Table, answered, write};
+use rows::owned::{Row, Table, answered, write};
 use rust_map::SourceMap;
 use std::alloc::Global;
 use std::io::{Read, Write};

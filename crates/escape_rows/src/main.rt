@@ -2,17 +2,13 @@
 //! What is wanted comes from the rules, and stands beside the questions in `stdout`.
 #![tactic(auto)]
 
-use anyhow::{Result, anyhow};
-use rows::{Row, Table, answered};
+use rows::{Page, Row, Table, Unanswered, answer_asked};
 use rust_escape::lexical::inside_end;
 use rust_escape::{
     EscapeError, MixedUnit, Mode, NonZeroChar, check_for_errors, check_raw_byte_str,
     check_raw_c_str, check_raw_str, unescape_byte, unescape_byte_str, unescape_c_str,
     unescape_char, unescape_str,
 };
-use std::alloc::Global;
-use std::fmt::Write as _;
-use std::io::{Read, Write};
 use std::ops::Range;
 
 // A unit's value that a callback hears.
@@ -51,19 +47,26 @@ impl Value for MixedUnit {
 struct Calls;
 
 impl Table for Calls {
-    fn answer(&self, alloc: Global, row: &Row) -> Result<String> {
-        let text = row.text.as_str();
-        if let Some((call, mode)) = row.call.split_once(' ') {
-            let mode = mode_named(mode).ok_or(anyhow!("no such mode"))?;
-            return match call {
-                "check_for_errors" => errors(alloc, text, mode),
-                "inside_end" => end(alloc, text, mode),
-                "first_words" => first_words(alloc, text, mode),
-                _ => Err(anyhow!("no such call")),
-            };
+    fn answer(&self, row: Row, page: &mut Page) -> Result<(), Unanswered> {
+        match row.call.split_once(' ') {
+            Some((call, mode)) => judge(call, mode, row.text, page),
+            None => hear(row.call, row.text, page),
         }
-        heard(alloc, row.call, text)
     }
+}
+
+// What a call of a mode says of an inside.
+fn judge(call: &str, mode: &str, text: &str, page: &mut Page) -> Result<(), Unanswered> {
+    let Some(mode) = mode_named(mode) else {
+        return Err(Unanswered::NoRow);
+    };
+    match call {
+        "check_for_errors" => put_errors(text, mode, page),
+        "inside_end" if mode.in_double_quotes() => put_end(text, mode, page),
+        "first_words" => put_first_words(text, mode, page),
+        _ => return Err(Unanswered::NoRow),
+    }
+    Ok(())
 }
 
 fn mode_named(name: &str) -> Option<Mode> {
@@ -80,59 +83,72 @@ fn mode_named(name: &str) -> Option<Mode> {
     })
 }
 
-// Adds what a callback hears.
-fn hear<T: Value>(out: &mut String, range: Range<usize>, said: Result<T, EscapeError>) {
+// Puts what a callback hears; a space stands before it, if it isn't the first.
+fn put_heard<T: Value>(
+    is_first: &mut bool,
+    range: Range<usize>,
+    said: Result<T, EscapeError>,
+    page: &mut Page,
+) {
     let (start, end) = (range.start, range.end);
-    if !out.is_empty() {
-        let _ = out.push(' ');
+    page.put(if *is_first { "" } else { " " });
+    write!(page, "{start}..{end} ");
+    *is_first = false;
+    match said {
+        Ok(value) => put_value(value.number(), page),
+        Err(error) => page.debug(&error),
     }
-    let _ = match said.map(|value| value.number()) {
-        Ok((number, false)) => write!(out, "{start}..{end} {number:X}"),
-        Ok((number, true)) => write!(out, "{start}..{end} byte {number:X}"),
-        Err(error) => write!(out, "{start}..{end} {error:?}"),
-    };
+}
+
+fn put_value(value: (u32, bool), page: &mut Page) {
+    let (number, is_byte) = value;
+    if is_byte {
+        page.put("byte ");
+    }
+    write!(page, "{number:X}");
 }
 
 // What the callback of a call hears.
-fn heard(alloc: Global, call: &str, text: &str) -> Result<String> {
-    let mut out = String::new(alloc);
+fn hear(call: &str, text: &str, page: &mut Page) -> Result<(), Unanswered> {
+    let mut first = true;
+    let whole = 0..text.len();
     match call {
-        "unescape_char" => hear(&mut out, 0..text.len(), unescape_char(text)),
-        "unescape_byte" => hear(&mut out, 0..text.len(), unescape_byte(text)),
-        "unescape_str" => unescape_str(text, |range, said| hear(&mut out, range, said)),
-        "unescape_byte_str" => unescape_byte_str(text, |range, said| hear(&mut out, range, said)),
-        "unescape_c_str" => unescape_c_str(text, |range, said| hear(&mut out, range, said)),
-        "check_raw_str" => check_raw_str(text, |range, said| hear(&mut out, range, said)),
-        "check_raw_byte_str" => check_raw_byte_str(text, |range, said| hear(&mut out, range, said)),
-        "check_raw_c_str" => check_raw_c_str(text, |range, said| hear(&mut out, range, said)),
-        _ => return Err(anyhow!("no such call")),
+        "unescape_char" => put_heard(&mut first, whole, unescape_char(text), page),
+        "unescape_byte" => put_heard(&mut first, whole, unescape_byte(text), page),
+        "unescape_str" => unescape_str(text, |at, said| put_heard(&mut first, at, said, page)),
+        "unescape_byte_str" => {
+            unescape_byte_str(text, |at, said| put_heard(&mut first, at, said, page));
+        }
+        "unescape_c_str" => unescape_c_str(text, |at, said| put_heard(&mut first, at, said, page)),
+        "check_raw_str" => check_raw_str(text, |at, said| put_heard(&mut first, at, said, page)),
+        "check_raw_byte_str" => {
+            check_raw_byte_str(text, |at, said| put_heard(&mut first, at, said, page));
+        }
+        "check_raw_c_str" => {
+            check_raw_c_str(text, |at, said| put_heard(&mut first, at, said, page));
+        }
+        _ => return Err(Unanswered::NoRow),
     }
-    Ok(out)
+    Ok(())
 }
 
-fn errors(alloc: Global, text: &str, mode: Mode) -> Result<String> {
-    let mut out = String::new(alloc);
-    check_for_errors(
-        text,
-        mode,
-        |range, error| hear::<char>(&mut out, range, Err(error)),
-    );
-    Ok(out)
+fn put_errors(text: &str, mode: Mode, page: &mut Page) {
+    let mut first = true;
+    check_for_errors(text, mode, |at, error| {
+        put_heard::<char>(&mut first, at, Err(error), page);
+    });
 }
 
 // Where the inside that begins a text ends to the lexer.
-fn end(alloc: Global, text: &str, mode: Mode) -> Result<String> {
-    if !mode.in_double_quotes() {
-        return Err(anyhow!("no string"));
-    }
+fn put_end(text: &str, mode: Mode, page: &mut Page) {
     match inside_end(mode, text, 0) {
-        Some(end) => Ok(format!(in alloc; "{end}")?),
-        None => Ok(String::from_str(alloc, "none")?),
+        Some(end) => page.show(&end),
+        None => page.put("none"),
     }
 }
 
 // What is said of the first thing that is wrong, and whether it is fatal.
-fn first_words(alloc: Global, text: &str, mode: Mode) -> Result<String> {
+fn put_first_words(text: &str, mode: Mode, page: &mut Page) {
     let mut first = None;
     check_for_errors(text, mode, |_, error| {
         if first.is_none() {
@@ -140,16 +156,12 @@ fn first_words(alloc: Global, text: &str, mode: Mode) -> Result<String> {
         }
     });
     match first {
-        Some(error) if error.is_fatal() => Ok(format!(in alloc; "{error}")?),
-        Some(error) => Ok(format!(in alloc; "warning: {error}")?),
-        None => Ok(String::from_str(alloc, "nothing")?),
+        Some(error) if error.is_fatal() => page.show(&error),
+        Some(error) => write!(page, "warning: {error}"),
+        None => page.put("nothing"),
     }
 }
 
-fn main(rt: HostRuntime) -> Result<()> {
-    let mut lines = String::new(rt.alloc());
-    rt.reader().read_to_string(&mut lines)?;
-    let answers = answered(rt.alloc(), &Calls, lines.as_str())?;
-    rt.stdout().write_all(answers.as_bytes())?;
-    Ok(())
+fn main(rt: HostRuntime) -> Result<(), Unanswered> {
+    answer_asked(&rt, &Calls)
 }

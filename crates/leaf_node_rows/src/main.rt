@@ -9,7 +9,7 @@ mod following;
 use anyhow::{Result, anyhow};
 use following::Front;
 use proc_macro2::tree::TokenStream;
-use rows::{Row, Table, answered, write, write_bytes};
+use rows::owned::{Row, Table, answered, write, write_bytes};
 use rust_leaf::literal::Literal;
 use rust_map::source_map::SourceMap;
 use rust_map::span::Span;

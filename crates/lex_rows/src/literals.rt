@@ -1,78 +1,122 @@
 //! Which texts are literals, and their values.
 
-use anyhow::{Result, anyhow};
-use rows::{write, write_bytes};
+use rows::{Page, Unanswered};
 use rust_leaf::literal::Literal;
 use rust_leaf::value::ConversionErrorKind;
-use rust_map::fault::LexFault;
 use rust_map::source_map::SourceMap;
-use std::alloc::Global;
+use std::alloc::{AllocError, Global};
 
 /// `yes` where a text is a literal, which is printed as the text and whose span covers all of it; where it is none,
 /// what is said of it.
-pub fn is_literal(alloc: Global, text: &str) -> Result<String> {
+pub fn judge(text: &str, page: &mut Page) -> Result<(), Unanswered> {
+    let alloc = page.alloc();
     let mut map = SourceMap::new(alloc);
-    let _older = Literal::from_str(alloc, "0", &mut map)?;
-    let literal = match Literal::from_str(alloc, text, &mut map) {
-        Ok(literal) => literal,
-        Err(fault) => return refused(alloc, text, fault),
-    };
-    if !Literal::is_text(text) {
-        return Ok(String::from_str(alloc, "no text of one")?);
+    if Literal::from_str(alloc, "0", &mut map).is_err() {
+        page.cut();
     }
-    let printed = format!(in alloc; "{literal}")?;
-    let unchecked = Literal::from_str_unchecked(alloc, text)?;
-    let span = literal.span();
-    if !map.holds(span) {
-        return Ok(String::from_str(alloc, "not held")?);
+    match Literal::from_str(alloc, text, &mut map) {
+        Ok(literal) => page.put(judged(alloc, &literal, text, &map)?),
+        Err(_) if Literal::is_text(text) => page.put("a text of one"),
+        Err(fault) => page.show(&fault),
     }
-    let source = span.source_text(alloc, &map)?.unwrap_or(String::new(alloc));
-    let told_alike = printed.as_str() == text && source.as_str() == text;
-    if !told_alike || literal.as_str() != text || unchecked.as_str() != text {
-        return Ok(String::from_str(alloc, "another text")?);
-    }
-    Ok(String::from_str(alloc, "yes")?)
+    Ok(())
 }
 
-fn refused(alloc: Global, text: &str, fault: LexFault) -> Result<String> {
-    if Literal::is_text(text) {
-        return Ok(String::from_str(alloc, "a text of one")?);
+fn judged(
+    alloc: Global,
+    literal: &Literal,
+    text: &str,
+    map: &SourceMap,
+) -> Result<&'static str, AllocError> {
+    if !Literal::is_text(text) {
+        return Ok("no text of one");
     }
-    Ok(format!(in alloc; "{fault}")?)
+    let same = is_printed(alloc, literal, text)?
+        && is_source(alloc, literal, text, map)?
+        && is_made_of(alloc, literal, text)?;
+    Ok(if same { "yes" } else { "another text" })
+}
+
+fn is_printed(alloc: Global, literal: &Literal, text: &str) -> Result<bool, AllocError> {
+    let printed = format!(in alloc; "{literal}")?;
+    Ok(printed.as_str() == text && literal.as_str() == text)
+}
+
+// Whether the map holds a literal's span, which covers that text.
+fn is_source(
+    alloc: Global,
+    literal: &Literal,
+    text: &str,
+    map: &SourceMap,
+) -> Result<bool, AllocError> {
+    let span = literal.span();
+    if !map.holds(span) {
+        return Ok(false);
+    }
+    match span.source_text(alloc, map)? {
+        Some(source) => Ok(source.as_str() == text),
+        None => Ok(false),
+    }
+}
+
+// Whether a literal is also made of the text where nothing is checked.
+fn is_made_of(alloc: Global, literal: &Literal, text: &str) -> Result<bool, AllocError> {
+    if !Literal::is_text(text) {
+        return Ok(false);
+    }
+    let unchecked = Literal::from_str_unchecked(alloc, text)?;
+    Ok(unchecked.as_str() == literal.as_str())
 }
 
 /// The value of a literal by each of the three calls that has one, or why none has.
-pub fn values(alloc: Global, text: &str) -> Result<String> {
-    let mut map = SourceMap::new(alloc);
-    let Ok(literal) = Literal::from_str(alloc, text, &mut map) else {
-        return Ok(String::from_str(alloc, "no literal")?);
-    };
-    let string = match literal.str_value(alloc) {
-        Ok(value) => Ok(write(alloc, value.as_str())?),
-        Err(error) => Err(error),
-    };
-    let bytes = match literal.byte_str_value(alloc) {
-        Ok(value) => Ok(write_bytes(alloc, value.as_slice())?),
-        Err(error) => Err(error),
-    };
-    let c_bytes = match literal.cstr_value(alloc) {
-        Ok(value) => Ok(write_bytes(alloc, value.as_slice())?),
-        Err(error) => Err(error),
-    };
-    let mut out = String::new(alloc);
-    for (name, answer) in [("text", string), ("bytes", bytes), ("C string", c_bytes)] {
-        let told = match answer {
-            Ok(value) => format!(in alloc; "{name} {value}")?,
-            Err(ConversionErrorKind::InvalidLiteralKind) => continue,
-            Err(ConversionErrorKind::FailedToUnescape(error)) => format!(in alloc;
-                "no {name}: {error:?}"
-            )?,
-            Err(ConversionErrorKind::Memory) => return Err(anyhow!("no memory")),
-        };
-        out.push_str(told.as_str())?;
+pub fn values(text: &str, page: &mut Page) -> Result<(), Unanswered> {
+    let alloc = page.alloc();
+    match Literal::from_str(alloc, text, &mut SourceMap::new(alloc)) {
+        Ok(literal) => put_values(&literal, page),
+        Err(_) => page.put("no literal"),
     }
-    if out.is_empty() {
-        out.push_str("another kind")?;
+    Ok(())
+}
+
+fn put_values(literal: &Literal, page: &mut Page) {
+    let alloc = page.alloc();
+    let is_text = put_text(literal.str_value(alloc), page);
+    let is_bytes = put_bytes("bytes", literal.byte_str_value(alloc), page);
+    let is_c_string = put_bytes("C string", literal.cstr_value(alloc), page);
+    if !is_text && !is_bytes && !is_c_string {
+        page.put("another kind");
     }
-    Ok(out)
+}
+
+// Puts the value of a string, or why it has none. Whether the literal is a string.
+fn put_text(value: Result<String, ConversionErrorKind>, page: &mut Page) -> bool {
+    match value {
+        Ok(text) => {
+            page.put("text ");
+            page.quote(text.as_str());
+            true
+        }
+        Err(kind) => put_fault("text", kind, page),
+    }
+}
+
+// The same of one that has bytes.
+fn put_bytes(name: &str, value: Result<Vec<u8>, ConversionErrorKind>, page: &mut Page) -> bool {
+    match value {
+        Ok(bytes) => {
+            write!(page, "{name} ");
+            page.put_bytes(bytes.as_slice());
+            true
+        }
+        Err(kind) => put_fault(name, kind, page),
+    }
+}
+
+fn put_fault(name: &str, kind: ConversionErrorKind, page: &mut Page) -> bool {
+    match kind {
+        ConversionErrorKind::InvalidLiteralKind => return false,
+        ConversionErrorKind::FailedToUnescape(error) => write!(page, "no {name}: {error:?}"),
+        ConversionErrorKind::Memory => page.cut(),
+    }
+    true
 }

@@ -1,110 +1,63 @@
-//! What the constructors of leaves write. What is written for a value is read back as that value.
+//! What the constructors of texts, of characters and of names write. What is written for a value is read back as that
+//! value.
 
-use anyhow::{Result, anyhow};
-use rows::{read_bytes, write, write_bytes};
+use rows::{Page, Unanswered, read_bytes};
 use rust_escape::{unescape_byte, unescape_char};
 use rust_leaf::ident::{Ident, IdentFault};
 use rust_leaf::literal::Literal;
+use rust_leaf::value::ConversionErrorKind;
 use rust_map::span::Span;
-use std::alloc::Global;
 
 /// `Literal::string` of a text.
-pub fn string(alloc: Global, text: &str) -> Result<String> {
-    let literal = Literal::string(alloc, text)?;
-    match literal.str_value(alloc) {
-        Ok(value) if value.as_str() == text => write(alloc, literal.as_str()),
-        Ok(value) => write(alloc, value.as_str()),
-        Err(error) => Ok(format!(in alloc; "{error:?}")?),
+pub fn string(text: &str, page: &mut Page) -> Result<(), Unanswered> {
+    let literal = Literal::string(page.alloc(), text)?;
+    match literal.str_value(page.alloc()) {
+        Ok(value) if value.as_str() == text => page.quote(literal.as_str()),
+        Ok(value) => page.quote(value.as_str()),
+        Err(error) => page.debug(&error),
+    }
+    Ok(())
+}
+
+// A literal that is made of bytes, if it has them as its value.
+fn put_back(
+    literal: &Literal,
+    value: Result<Vec<u8>, ConversionErrorKind>,
+    bytes: &[u8],
+    page: &mut Page,
+) {
+    match value {
+        Ok(value) if value.as_slice() == bytes => page.quote(literal.as_str()),
+        Ok(value) => page.put_bytes(value.as_slice()),
+        Err(error) => page.debug(&error),
     }
 }
 
 /// `Literal::byte_string` of the bytes that a text has by their numbers.
-pub fn byte_string(alloc: Global, text: &str) -> Result<String> {
+pub fn byte_string(text: &str, page: &mut Page) -> Result<(), Unanswered> {
+    let alloc = page.alloc();
     let bytes = read_bytes(alloc, text)?;
     let literal = Literal::byte_string(alloc, bytes.as_slice())?;
-    match literal.byte_str_value(alloc) {
-        Ok(value) if value.as_slice() == bytes.as_slice() => write(alloc, literal.as_str()),
-        Ok(value) => write_bytes(alloc, value.as_slice()),
-        Err(error) => Ok(format!(in alloc; "{error:?}")?),
-    }
+    put_back(
+        &literal,
+        literal.byte_str_value(alloc),
+        bytes.as_slice(),
+        page,
+    );
+    Ok(())
 }
 
 /// `Literal::c_string` of such bytes, whose value has a zero more.
-pub fn c_string(alloc: Global, text: &str) -> Result<String> {
+pub fn c_string(text: &str, page: &mut Page) -> Result<(), Unanswered> {
+    let alloc = page.alloc();
     let mut bytes = read_bytes(alloc, text)?;
     if bytes.as_slice().contains(&0) {
-        return Err(anyhow!("a zero in a C string"));
+        return Err(Unanswered::NoRow);
     }
     let literal = Literal::c_string(alloc, bytes.as_slice())?;
     bytes.push(0)?;
-    match literal.cstr_value(alloc) {
-        Ok(value) if value.as_slice() == bytes.as_slice() => write(alloc, literal.as_str()),
-        Ok(value) => write_bytes(alloc, value.as_slice()),
-        Err(error) => Ok(format!(in alloc; "{error:?}")?),
-    }
-}
-
-/// An integer's constructor, by its name, of a number of base 10.
-pub fn integer(alloc: Global, call: &str, text: &str) -> Result<String> {
-    let made = match call.split_once('_') {
-        Some((name, "suffixed")) if name.starts_with('u') => unsigned_suffixed(alloc, name, text)?,
-        Some((name, "unsuffixed")) if name.starts_with('u') => unsigned(alloc, name, text)?,
-        Some((name, "suffixed")) => signed_suffixed(alloc, name, text)?,
-        Some((name, "unsuffixed")) => signed(alloc, name, text)?,
-        _ => None,
-    };
-    match made {
-        Some(literal) => write(alloc, literal.as_str()),
-        None => Err(anyhow!("no such call")),
-    }
-}
-
-fn unsigned_suffixed(alloc: Global, name: &str, text: &str) -> Result<Option<Literal>> {
-    Ok(Some(match name {
-        "u8" => Literal::u8_suffixed(alloc, u8::from_str_radix(text, 10)?)?,
-        "u16" => Literal::u16_suffixed(alloc, u16::from_str_radix(text, 10)?)?,
-        "u32" => Literal::u32_suffixed(alloc, u32::from_str_radix(text, 10)?)?,
-        "u64" => Literal::u64_suffixed(alloc, u64::from_str_radix(text, 10)?)?,
-        "u128" => Literal::u128_suffixed(alloc, u128::from_str_radix(text, 10)?)?,
-        "usize" => Literal::usize_suffixed(alloc, usize::from_str_radix(text, 10)?)?,
-        _ => return Ok(None),
-    }))
-}
-
-fn unsigned(alloc: Global, name: &str, text: &str) -> Result<Option<Literal>> {
-    Ok(Some(match name {
-        "u8" => Literal::u8_unsuffixed(alloc, u8::from_str_radix(text, 10)?)?,
-        "u16" => Literal::u16_unsuffixed(alloc, u16::from_str_radix(text, 10)?)?,
-        "u32" => Literal::u32_unsuffixed(alloc, u32::from_str_radix(text, 10)?)?,
-        "u64" => Literal::u64_unsuffixed(alloc, u64::from_str_radix(text, 10)?)?,
-        "u128" => Literal::u128_unsuffixed(alloc, u128::from_str_radix(text, 10)?)?,
-        "usize" => Literal::usize_unsuffixed(alloc, usize::from_str_radix(text, 10)?)?,
-        _ => return Ok(None),
-    }))
-}
-
-fn signed_suffixed(alloc: Global, name: &str, text: &str) -> Result<Option<Literal>> {
-    Ok(Some(match name {
-        "i8" => Literal::i8_suffixed(alloc, i8::from_str_radix(text, 10)?)?,
-        "i16" => Literal::i16_suffixed(alloc, i16::from_str_radix(text, 10)?)?,
-        "i32" => Literal::i32_suffixed(alloc, i32::from_str_radix(text, 10)?)?,
-        "i64" => Literal::i64_suffixed(alloc, i64::from_str_radix(text, 10)?)?,
-        "i128" => Literal::i128_suffixed(alloc, i128::from_str_radix(text, 10)?)?,
-        "isize" => Literal::isize_suffixed(alloc, isize::from_str_radix(text, 10)?)?,
-        _ => return Ok(None),
-    }))
-}
-
-fn signed(alloc: Global, name: &str, text: &str) -> Result<Option<Literal>> {
-    Ok(Some(match name {
-        "i8" => Literal::i8_unsuffixed(alloc, i8::from_str_radix(text, 10)?)?,
-        "i16" => Literal::i16_unsuffixed(alloc, i16::from_str_radix(text, 10)?)?,
-        "i32" => Literal::i32_unsuffixed(alloc, i32::from_str_radix(text, 10)?)?,
-        "i64" => Literal::i64_unsuffixed(alloc, i64::from_str_radix(text, 10)?)?,
-        "i128" => Literal::i128_unsuffixed(alloc, i128::from_str_radix(text, 10)?)?,
-        "isize" => Literal::isize_unsuffixed(alloc, isize::from_str_radix(text, 10)?)?,
-        _ => return Ok(None),
-    }))
+    put_back(&literal, literal.cstr_value(alloc), bytes.as_slice(), page);
+    Ok(())
 }
 
 // The text between a literal's quotes, which take some bytes at its front and one at its end.
@@ -113,47 +66,51 @@ fn between(text: &str, front: usize) -> Option<&str> {
 }
 
 /// `Literal::character` of a text's one character.
-pub fn character(alloc: Global, text: &str) -> Result<String> {
+pub fn character(text: &str, page: &mut Page) -> Result<(), Unanswered> {
     let Some(ch) = text.chars().next() else {
-        return Err(anyhow!("no character"));
+        return Err(Unanswered::NoRow);
     };
-    let literal = Literal::character(alloc, ch)?;
+    let literal = Literal::character(page.alloc(), ch)?;
     match between(literal.as_str(), 1).map(unescape_char) {
-        Some(Ok(value)) if value == ch => write(alloc, literal.as_str()),
-        other => Ok(format!(in alloc; "{other:?}")?),
+        Some(Ok(value)) if value == ch => page.quote(literal.as_str()),
+        other => page.debug(&other),
     }
+    Ok(())
 }
 
 /// `Literal::byte_character` of the byte that a text has by its number.
-pub fn byte_character(alloc: Global, text: &str) -> Result<String> {
-    let bytes = read_bytes(alloc, text)?;
+pub fn byte_character(text: &str, page: &mut Page) -> Result<(), Unanswered> {
+    let bytes = read_bytes(page.alloc(), text)?;
     let [byte] = bytes.as_slice() else {
-        return Err(anyhow!("no byte"));
+        return Err(Unanswered::NoRow);
     };
-    let literal = Literal::byte_character(alloc, *byte)?;
+    put_byte(*byte, page)
+}
+
+fn put_byte(byte: u8, page: &mut Page) -> Result<(), Unanswered> {
+    let literal = Literal::byte_character(page.alloc(), byte)?;
     match between(literal.as_str(), 2).map(unescape_byte) {
-        Some(Ok(value)) if value == *byte => write(alloc, literal.as_str()),
-        other => Ok(format!(in alloc; "{other:?}")?),
+        Some(Ok(value)) if value == byte => page.quote(literal.as_str()),
+        other => page.debug(&other),
     }
+    Ok(())
 }
 
 // A name as it is printed, or why a text is none.
-fn told(alloc: Global, answer: Result<Ident, IdentFault>) -> Result<String> {
+fn tell(answer: Result<Ident, IdentFault>, page: &mut Page) -> Result<(), Unanswered> {
     match answer {
-        Ok(ident) => {
-            let printed = format!(in alloc; "{ident}")?;
-            write(alloc, printed.as_str())
-        }
-        Err(fault) => Ok(format!(in alloc; "{fault:?}")?),
+        Ok(ident) => page.quote_made(ident.to_string(page.alloc())),
+        Err(fault) => page.debug(&fault),
     }
+    Ok(())
 }
 
 /// `Ident::new` of a text.
-pub fn ident(alloc: Global, text: &str) -> Result<String> {
-    told(alloc, Ident::new(alloc, text, Span::call_site()))
+pub fn ident(text: &str, page: &mut Page) -> Result<(), Unanswered> {
+    tell(Ident::new(page.alloc(), text, Span::call_site()), page)
 }
 
 /// `Ident::new_raw` of a text.
-pub fn raw_ident(alloc: Global, text: &str) -> Result<String> {
-    told(alloc, Ident::new_raw(alloc, text, Span::call_site()))
+pub fn raw_ident(text: &str, page: &mut Page) -> Result<(), Unanswered> {
+    tell(Ident::new_raw(page.alloc(), text, Span::call_site()), page)
 }

@@ -3,51 +3,44 @@
 //!
 //! - `trees`: how many trees a text has, what they are, where they stand, and how they are printed.
 //! - `literals`: which texts are literals, and their values.
-//! - `made`: what the constructors of leaves write.
+//! - `made`: what the constructors of leaves write; `numbers`: those of numbers.
 //! - `copies`: copies of streams, of their parts and of values of std.
 #![tactic(auto)]
 
 mod copies;
 mod literals;
 mod made;
+mod numbers;
 mod trees;
 
-use anyhow::Result;
-use rows::{Row, Table, answered};
-use std::alloc::Global;
-use std::io::{Read, Write};
+use rows::{Page, Row, Table, Unanswered, answer_asked};
 
 struct Calls;
 
 impl Table for Calls {
-    fn answer(&self, alloc: Global, row: &Row) -> Result<String> {
-        let text = row.text.as_str();
+    fn answer(&self, row: Row, page: &mut Page) -> Result<(), Unanswered> {
         match row.call {
-            "count" => trees::counted(alloc, text),
-            "print" => trees::printed(alloc, text),
-            "trees" => trees::told(alloc, text),
-            "show" => trees::shown(alloc, text),
-            "places" => trees::places(alloc, text),
-            "literal" => literals::is_literal(alloc, text),
-            "values" => literals::values(alloc, text),
-            "string" => made::string(alloc, text),
-            "byte_string" => made::byte_string(alloc, text),
-            "c_string" => made::c_string(alloc, text),
-            "character" => made::character(alloc, text),
-            "byte_character" => made::byte_character(alloc, text),
-            "ident" => made::ident(alloc, text),
-            "raw_ident" => made::raw_ident(alloc, text),
-            "copies" => copies::alike(alloc, text),
-            "copies of std" => copies::of_std(alloc, text),
-            call => made::integer(alloc, call, text),
+            "count" => trees::count(row.text, page),
+            "print" => trees::print(row.text, page),
+            "trees" => trees::tell(row.text, page),
+            "show" => trees::show(row.text, page),
+            "places" => trees::place(row.text, page),
+            "literal" => literals::judge(row.text, page),
+            "values" => literals::values(row.text, page),
+            "string" => made::string(row.text, page),
+            "byte_string" => made::byte_string(row.text, page),
+            "c_string" => made::c_string(row.text, page),
+            "character" => made::character(row.text, page),
+            "byte_character" => made::byte_character(row.text, page),
+            "ident" => made::ident(row.text, page),
+            "raw_ident" => made::raw_ident(row.text, page),
+            "copies" => copies::alike(row.text, page),
+            "copies of std" => copies::of_std(row.text, page),
+            call => numbers::number(call, row.text, page),
         }
     }
 }
 
-fn main(rt: HostRuntime) -> Result<()> {
-    let mut lines = String::new(rt.alloc());
-    rt.reader().read_to_string(&mut lines)?;
-    let answers = answered(rt.alloc(), &Calls, lines.as_str())?;
-    rt.stdout().write_all(answers.as_bytes())?;
-    Ok(())
+fn main(rt: HostRuntime) -> Result<(), Unanswered> {
+    answer_asked(&rt, &Calls)
 }

@@ -17,7 +17,7 @@ use anyhow::{Result, anyhow};
 use gram_piece::piece::Piece;
 use gram_piece::print::print;
 use gram_write::write::write as put;
-use rows::{Row, Table, answered, write};
+use rows::owned::{Row, Table, answered, write};
 use std::alloc::Global;
 use std::io::{Read, Write};
 use syn::parse::parse_front;

@@ -2,7 +2,7 @@
 
 use crate::kinds::kind_of;
 use anyhow::{Result, anyhow};
-use rows::read;
+use rows::owned::read;
 use std::alloc::Global;
 use syn::parse::parse_front;
 use syn::{Arena, Kind, ParseFault, SourceMap, TokenBuffer, TokenStream, Tree, equal};

@@ -26,7 +26,7 @@ mod text;
 
 use crate::judged::{Finding, judged};
 use anyhow::{Result, anyhow};
-use rows::{Row, Table, answered, write};
+use rows::owned::{Row, Table, answered, write};
 use std::alloc::Global;
 use std::io::{Read, Write};
 use syn::Position;
