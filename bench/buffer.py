@@ -28,7 +28,7 @@ PEERS = {"peer with spans": ["--cfg", "span_locations"], "peer without": []}
 
 def built(work):
     """The programs: this buffer, and the peer with and without span locations."""
-    sources = {name: glob.glob(f"{REGISTRY}/{name}-*")[0] for name in ["unicode-ident", "proc-macro2", "syn"]}
+    sources = {name: glob.glob(f"{REGISTRY}/{name}-[0-9]*")[0] for name in ["unicode-ident", "proc-macro2", "syn"]}
     features = [part for name in ["parsing", "full"] for part in ["--cfg", f'feature="{name}"']]
     programs = {"this": f"{TOP}/crates/buffer_cli/out/buffer_cli"}
     for name, flags in PEERS.items():

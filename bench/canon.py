@@ -3,12 +3,12 @@
 them, all in one run. Prints tables: for each text the least processor time of several runs of each program, and its
 peak memory for each byte of the text. The first is of whole runs. The second is of lexing and reading alone: syn's tree is
 let go of, and `canon` is given the text with one word more, which is at fault behind all that was read. The third is of
-lexing alone. What is left between two of them is reading, and writing and printing. The last one has rustfmt beside them,
-on the files of std alone, as it asks for more than that a text is lexed and read.
+lexing alone. What is left between two of them is reading, and writing and printing. The last one has Debian's rustfmt beside
+them, on the files of std alone, as it asks for more than that a text is lexed and read.
 
 Usage: bench/canon.py [RUNS [CANON LEXER]]. It builds the programs first, which proves what isn't proved yet, or takes those
-that are named, and fetches Debian's packages rust-src, librust-proc-macro2-dev, librust-syn-dev and librust-quote-dev where
-they are missing. The peer is built with plain rustc, and nothing of it is kept."""
+that are named, and fetches Debian's packages rust-src, librust-proc-macro2-dev, librust-syn-dev, librust-quote-dev and
+rustfmt where they are missing. The peer is built with plain rustc, and nothing of it is kept."""
 
 import glob
 import os
@@ -143,31 +143,36 @@ def texts():
     yield "one macro with std inside", b"m!{" + library() + b"}"
 
 
-def built(work, given):
-    """The programs: canon and this lexer, as they are given, and the peer with and without span locations."""
+def peer_of(out, flags, source):
+    """The program of a file over Debian's syn, quote and proc-macro2, which is built with these flags, in a folder."""
     names = ["unicode-ident", "proc-macro2", "quote", "syn"]
     sources = {name: glob.glob(f"{REGISTRY}/{name}-[0-9]*")[0] for name in names}
     features = [part for name in ["parsing", "printing", "full"] for part in ["--cfg", f'feature="{name}"']]
+    rustc = ["rustc", "-O", "--out-dir", out, "-L", out, "--cap-lints", "allow"]
+    crate = rustc + ["--edition", "2018", "--crate-type", "rlib"]
+    extern = {it: ["--extern", f"{it}={out}/lib{it}.rlib"] for it in ["unicode_ident", "proc_macro2", "quote", "syn"]}
+    below = extern["unicode_ident"] + extern["proc_macro2"]
+    steps = [
+        ("unicode_ident", sources["unicode-ident"], []),
+        ("proc_macro2", sources["proc-macro2"], extern["unicode_ident"] + flags),
+        ("quote", sources["quote"], extern["proc_macro2"]),
+        ("syn", sources["syn"], below + extern["quote"] + features + ["--cfg", 'feature="quote"']),
+    ]
+    for step, folder, more in steps:
+        subprocess.run(crate + ["--crate-name", step, *more, folder + "/src/lib.rs"], check=True)
+    with_syn = rustc + ["--edition", "2021", *extern["proc_macro2"], *extern["quote"], *extern["syn"]]
+    subprocess.run(with_syn + ["--crate-name", "peer", source], check=True)
+    return out + "/peer"
+
+
+def built(work, given):
+    """The programs: canon and this lexer, as they are given, and the peer with and without span locations."""
     programs = {"canon": f"{TOP}/crates/canon_cli/out/canon_cli", "lexer": f"{TOP}/crates/lex_cli/out/lex_cli"}
     programs.update(zip(["canon", "lexer"], given))
     for peer, flags in PEERS.items():
         out = os.path.join(work, peer.replace(" ", "-"))
         os.mkdir(out)
-        rustc = ["rustc", "-O", "--out-dir", out, "-L", out, "--cap-lints", "allow"]
-        crate = rustc + ["--edition", "2018", "--crate-type", "rlib"]
-        extern = {it: ["--extern", f"{it}={out}/lib{it}.rlib"] for it in ["unicode_ident", "proc_macro2", "quote", "syn"]}
-        below = extern["unicode_ident"] + extern["proc_macro2"]
-        steps = [
-            ("unicode_ident", sources["unicode-ident"], []),
-            ("proc_macro2", sources["proc-macro2"], extern["unicode_ident"] + flags),
-            ("quote", sources["quote"], extern["proc_macro2"]),
-            ("syn", sources["syn"], below + extern["quote"] + features + ["--cfg", 'feature="quote"']),
-        ]
-        for step, folder, more in steps:
-            subprocess.run(crate + ["--crate-name", step, *more, folder + "/src/lib.rs"], check=True)
-        with_syn = rustc + ["--edition", "2021", *extern["proc_macro2"], *extern["quote"], *extern["syn"]]
-        subprocess.run(with_syn + ["--crate-name", "file_peer", HERE + "/file_peer.rs"], check=True)
-        programs[peer] = out + "/file_peer"
+        programs[peer] = peer_of(out, flags, HERE + "/file_peer.rs")
     for name in [] if given else ["canon_cli", "lex_cli"]:
         folder = f"{TOP}/crates/{name}"
         subprocess.run(["rt", "run"], cwd=folder, stdin=subprocess.DEVNULL, capture_output=True, check=True)
@@ -193,7 +198,7 @@ def beside_rustfmt(runner, programs, made, place, runs):
     """Each text's row beside rustfmt."""
     print("\n| Beside rustfmt | MB | this | rustfmt | this/rustfmt | Bytes a byte, each |")
     print("|---|---|---|---|---|---|")
-    commands = [[programs["canon"]], ["rustfmt", "--edition", "2021"]]
+    commands = [[programs["canon"]], ["/usr/bin/rustfmt", "--edition", "2021"]]
     for what, text in made:
         with open(place, "wb") as file:
             file.write(text)
@@ -204,7 +209,7 @@ def beside_rustfmt(runner, programs, made, place, runs):
 
 def main():
     runs = int(sys.argv[1]) if len(sys.argv) > 1 else 5
-    fetch("librust-syn-dev", "librust-quote-dev")
+    fetch("librust-syn-dev", "librust-quote-dev", "rustfmt")
     runner = Runner()
     with tempfile.TemporaryDirectory() as work:
         programs = built(work, sys.argv[2:])
