@@ -1,12 +1,8 @@
--- What stands in the tree of what was read by itself.
+-- What was read by itself is kept as it was read, and what stands in an item of one kind.
 use Rattle.std.specs.Prelude.{◌≡◌, List, not}
 use Rattle.std.proofs.Common.{◌∙◌, ap, subst, sym, refl}
 use Rattle.proc_macro2.specs.Token.{Token}
-use Rattle.syn_ast.proofs.Derived.{shaped}
 use Rattle.syn_ast.specs.Kept.{IsKept}
-use Rattle.syn_ast.specs.Shape.{IsShaped}
-use Rattle.syn_expr.specs.Statements.{IsStmt}
-use Rattle.syn_expr.specs.declared.stmt.Stmt.{Stmt}
 use Rattle.syn_grammar.specs.Derives.{Derives}
 use Rattle.syn_grammar.specs.Gram.{Gram, called, ref, seq}
 use Rattle.syn_grammar.specs.Items.{impl_form, is_impl, is_variadic, safety}
@@ -21,30 +17,12 @@ use Rattle.syn_grammar.specs.Tree.{Tree}
 use Rattle.syn_item.specs.ItemEntries.{item_parts}
 use Rattle.syn_item.specs.declared.entry.ItemParts.{ItemParts}
 use Rattle.syn_item.proofs.ItemKept.{kept_by_itself, kept_or_refused}
-use Rattle.syn.specs.Alone.{IsStmtAlone}
 use Rattle.syn.specs.Entries.{IsItemWith}
-
--- a statement
-pub statement_in : (tree y : Tree) (rest : List Token) → tree ≡ t.Node k.OneStatement (t.First y)
-    → Derives tree (ref k.OneStatement) rest → IsShaped y (ref k.AStatement)
-unfolding table
-statement_in tree y rest e d =
-    shaped y (ref k.AStatement) rest (subst (λ x. Derives x (ref k.OneStatement) rest) e d).1.1
-
-pub statement_is : (tree y : Tree) (x : Stmt) → tree ≡ t.Node k.OneStatement (t.First y) → IsStmt y x
-    → IsStmtAlone tree x
-statement_is tree y x e h = subst (λ z. IsStmtAlone z x) (sym e) h
 
 -- a parameter
 pub parameter_kept : (tree : Tree) (rest : List Token) → Derives tree (ref k.FnArg) rest → IsKept tree
 unfolding table
 parameter_kept tree rest d = kept_or_refused k.FnArg (λ x. not (is_variadic x)) (ref k.Parameter) refl tree rest d
-
-pub parameter_in : (tree y : Tree) (rest : List Token) → tree ≡ t.Node k.FnArg (t.First y)
-    → Derives tree (ref k.FnArg) rest → IsShaped y (ref k.Parameter)
-unfolding table
-parameter_in tree y rest e d =
-    shaped y (ref k.Parameter) rest (subst (λ x. Derives x (ref k.FnArg) rest) e d).1.1
 
 -- an impl
 pub impl_kept : (tree : Tree) (rest : List Token) → Derives tree (ref k.AnImpl) rest → IsKept tree
@@ -69,7 +47,7 @@ static_kept tree rest d =
 abbrev pub after : Kind → Gram
 after l = seq (ref k.OuterAttributes) (seq (called n.the_visibility (ref k.Visibility)) (called n.the_item (ref l)))
 
-inside : ItemParts → Tree
+abbrev inside : ItemParts → Tree
 inside x = t.First (t.Pair x.attrs.now (t.Pair (t.Called n.the_visibility x.vis.now) (t.Called n.the_item x.item.now)))
 
 pub item_in : (i l : Kind) → table i ≡ only l → (x : ItemParts) (tree : Tree) (rest : List Token)

@@ -4,11 +4,13 @@
 //! its clause again, as the prover gives a method without arguments none of the trait's where the type has a lifetime.
 
 ghost use Rattle.gram_table.specs.Kinds.{kind_of};
-ghost use Rattle.std.specs.Prelude.{◌≡◌, Some};
+ghost use Rattle.std.specs.Prelude.{◌≡◌, MatchOption, Some};
 ghost use Rattle.syn.specs.Alone.{IsStmtAlone};
 ghost use Rattle.syn_ast.specs.Attributes.{inner_attributes, meta, outer_attributes};
 ghost use Rattle.syn_ast.specs.Generics.{generics, where_clause};
+ghost use Rattle.syn_ast.specs.Kept.{IsKept};
 ghost use Rattle.syn_ast.specs.Paths.{path};
+ghost use Rattle.syn_ast.specs.Shape.{IsShaped};
 ghost use Rattle.syn_ast.specs.Types.{form_of_type, type_tree};
 ghost use Rattle.syn_ast.specs.Visibility.{visibility};
 ghost use Rattle.syn_data.specs.Derive.{IsEnded, derive_input};
@@ -16,6 +18,7 @@ ghost use Rattle.syn_expr.specs.Blocks.{block, file};
 ghost use Rattle.syn_expr.specs.ExprWhole.{which};
 ghost use Rattle.syn_expr.specs.Statements.{statements};
 ghost use Rattle.syn_grammar.specs.Forms.{form_of};
+ghost use Rattle.syn_grammar.specs.Gram.{ref};
 ghost use Rattle.syn_grammar.specs.Kind as k;
 ghost use Rattle.syn_item.specs.ItemForms.{Is};
 ghost use Rattle.syn_item.specs.ItemUses.{use_tree};
@@ -334,6 +337,21 @@ impl<'a> Parse<'a> for Statements<'a, 'a> {
     }
 }
 
+// What a statement that is read by itself is.
+#[tactic(auto, unfolding(syn_grammar::specs::Table::table))]
+fn one_stmt<'a>(tree: &'a Tree<'a>) -> Option<Stmt<'a, 'a>>
+    ensures { MatchOption result (IsKept tree.now → IsShaped tree.now (ref k.OneStatement) → ⊥)
+        (λ x. IsStmtAlone tree.now x) }
+{
+    match OneStatement::of(tree) {
+        Some(alone) => match Stmt::of(alone.stmt) {
+            Some(found) => Some(found),
+            None => None,
+        },
+        None => None,
+    }
+}
+
 impl<'a> Parse<'a> for Stmt<'a, 'a> {
     ghost kind = { k.OneStatement };
 
@@ -346,11 +364,8 @@ impl<'a> Parse<'a> for Stmt<'a, 'a> {
     }
 
     fn view(tree: &'a Tree<'a>) -> Option<Stmt<'a, 'a>> {
-        match OneStatement::of(tree) {
-            Some(alone) => match Stmt::of(alone.stmt) {
-                Some(found) => Some(found),
-                None => None,
-            },
+        match one_stmt(tree) {
+            Some(found) => Some(found),
             None => None,
         }
     }

@@ -1,12 +1,15 @@
 //! Items, what stands in them, and fields, that are read by themselves.
 
 ghost use Rattle.gram_table.specs.Kinds.{kind_of};
-ghost use Rattle.std.specs.Prelude.{◌≡◌};
+ghost use Rattle.std.specs.Prelude.{◌≡◌, MatchOption};
+ghost use Rattle.syn_ast.specs.Kept.{IsKept};
+ghost use Rattle.syn_ast.specs.Shape.{IsShaped};
 ghost use Rattle.syn_data.specs.Data.{named_field, unnamed_field};
+ghost use Rattle.syn_grammar.specs.Gram.{ref};
 ghost use Rattle.syn_grammar.specs.Kind as k;
 ghost use Rattle.syn_grammar.specs.Tree as t;
 ghost use Rattle.syn_item.specs.ItemEntries.{foreign_item_static, one_macro, one_trait};
-ghost use Rattle.syn_item.specs.ItemFunctions.{IsReceiver, IsSafety, parameter, signature};
+ghost use Rattle.syn_item.specs.ItemFunctions.{IsBehind, IsReceiver, IsSafety, parameter, signature};
 ghost use Rattle.syn_item.specs.ItemMembers.{associated_item, foreign_item, form_of_foreign_item, form_of_impl_item};
 ghost use Rattle.syn_item.specs.ItemMembers.{form_of_trait_item};
 
@@ -118,10 +121,25 @@ impl<'a> Parse<'a> for Receiver<'a, 'a> {
     }
 }
 
+// What a parameter that is read by itself is.
+#[tactic(auto, unfolding(syn_grammar::specs::Table::table))]
+fn one_parameter<'a>(tree: &'a Tree<'a>) -> Option<Parameter<'a, 'a>>
+    ensures { MatchOption result (IsKept tree.now → IsShaped tree.now (ref k.FnArg) → ⊥)
+        (λ x. (tree.now ≡ t.Node k.FnArg (t.First (parameter x))) × IsBehind x.attrs x.arg) }
+{
+    match OneParameter::of(tree) {
+        Some(alone) => match Parameter::of(alone.parameter) {
+            Some(found) => Some(found),
+            None => None,
+        },
+        None => None,
+    }
+}
+
 impl<'a> Parse<'a> for Parameter<'a, 'a> {
     ghost kind = { k.FnArg };
 
-    ghost says = { λ x tree. tree ≡ t.Node k.FnArg (t.First (parameter x)) };
+    ghost says = { λ x tree. (tree ≡ t.Node k.FnArg (t.First (parameter x))) × IsBehind x.attrs x.arg };
 
     fn kind() -> Kind
         ensures { kind_of result ≡ k.FnArg }
@@ -130,11 +148,8 @@ impl<'a> Parse<'a> for Parameter<'a, 'a> {
     }
 
     fn view(tree: &'a Tree<'a>) -> Option<Parameter<'a, 'a>> {
-        match OneParameter::of(tree) {
-            Some(alone) => match Parameter::of(alone.parameter) {
-                Some(found) => Some(found),
-                None => None,
-            },
+        match one_parameter(tree) {
+            Some(found) => Some(found),
             None => None,
         }
     }
