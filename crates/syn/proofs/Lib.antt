@@ -4,3 +4,5 @@ pub mod Leaves
 pub mod Nodes
 pub mod Firsts
 pub mod Nests
+pub mod Alone
+pub mod Same
