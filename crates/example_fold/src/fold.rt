@@ -61,10 +61,10 @@ fn form_of<'a>(arena: &'a Arena, number: i128) -> Result<Tree<'a>> {
 fn inside<'t, 'a>(own: &'t Tree<'a>) -> Option<&'t Tree<'a>>
     ensures { IfSome result (λ form. node_count form.now ≤ node_count own.now) }
 {
-    let Form::Group(_, _, group) = &own.form else {
+    let Form::Group(_, group) = &own.form else {
         return None;
     };
-    let Form::Elements(list) = &group.form else {
+    let Form::Elements(list) = &group.inside.form else {
         return None;
     };
     if !list.before.is_empty() {

@@ -63,7 +63,7 @@ fn is_numbered(numbers: &Tree<'_>) -> bool
     ensures { result ≡ is_numbered numbers.now }
 {
     match &numbers.form {
-        Form::Turns(turns) => is_first_numbered(turns),
+        Form::Turns(turns) => is_first_numbered(turns.each),
         _ => false,
     }
 }

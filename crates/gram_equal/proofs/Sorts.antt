@@ -47,15 +47,16 @@ abbrev pub form_sort : Form → Sort
 form_sort (forms.Word i) = AWord
 form_sort (forms.Literal l) = ALiteral
 form_sort (forms.Mark s spacing span) = AMark
-form_sort (forms.Lifetime span i) = ALifetime
+form_sort (forms.Lifetime l) = ALifetime
 form_sort (forms.Raw es) = ARaw
 form_sort forms.Nil = ANil
 form_sort (forms.Pair b) = APair
 form_sort (forms.First n x) = AChoice
 form_sort (forms.Second n x) = AChoice
+form_sort forms.End = AList
 form_sort (forms.Turns v) = AList
 form_sort (forms.Elements e) = AList
-form_sort (forms.Group d span x) = AGroup
+form_sort (forms.Group d g) = AGroup
 form_sort (forms.Dropped x) = ADropped
 form_sort (forms.Called n x) = ACalled
 form_sort (forms.Verbatim x) = AVerbatim
@@ -87,7 +88,7 @@ sort_elements c (e ∷ es) f o = refl
 pub sorted : (f : Form) → sort (tree_of f) ≡ form_sort f
 sorted (forms.Mark s spacing span) = sort_mark s spacing
 sorted (forms.First n x) = sort_first n x.now
-sorted (forms.Turns v) = sort_turns v.now
+sorted (forms.Turns v) = sort_turns v.now.each.now
 sorted (forms.Elements e) = sort_elements (separator_of e.now.separator) e.now.before.now (λ b. b.now) e.now.last
 sorted f = refl
 
@@ -110,8 +111,8 @@ pub no_mark : (f : Form) → ((s : _) (spacing : _) (span : _) → f ≡ forms.M
 no_mark (forms.Mark s spacing span) h e = h s spacing span refl
 no_mark f h e = cc
 
-pub no_lifetime : (f : Form) → ((span : _) (i : _) → f ≡ forms.Lifetime span i → ⊥) → form_sort f ≡ ALifetime → ⊥
-no_lifetime (forms.Lifetime span i) h e = h span i refl
+pub no_lifetime : (f : Form) → ((l : _) → f ≡ forms.Lifetime l → ⊥) → form_sort f ≡ ALifetime → ⊥
+no_lifetime (forms.Lifetime l) h e = h l refl
 no_lifetime f h e = cc
 
 pub no_raw : (f : Form) → ((es : _) → f ≡ forms.Raw es → ⊥) → form_sort f ≡ ARaw → ⊥
@@ -126,8 +127,8 @@ pub no_pair : (f : Form) → ((b : _) → f ≡ forms.Pair b → ⊥) → form_s
 no_pair (forms.Pair b) h e = h b refl
 no_pair f h e = cc
 
-pub no_group : (f : Form) → ((d : _) (span : _) (x : _) → f ≡ forms.Group d span x → ⊥) → form_sort f ≡ AGroup → ⊥
-no_group (forms.Group d span x) h e = h d span x refl
+pub no_group : (f : Form) → ((d : _) (g : _) → f ≡ forms.Group d g → ⊥) → form_sort f ≡ AGroup → ⊥
+no_group (forms.Group d g) h e = h d g refl
 no_group f h e = cc
 
 pub no_dropped : (f : Form) → ((x : _) → f ≡ forms.Dropped x → ⊥) → form_sort f ≡ ADropped → ⊥
@@ -172,8 +173,9 @@ no_choice (forms.First n x) h i e = h n x refl
 no_choice (forms.Second n x) h i e = i n x refl
 no_choice f h i e = cc
 
-pub no_list : (f : Form) → ((v : _) → f ≡ forms.Turns v → ⊥) → ((l : _) → f ≡ forms.Elements l → ⊥)
+pub no_list : (f : Form) → (f ≡ forms.End → ⊥) → ((v : _) → f ≡ forms.Turns v → ⊥) → ((l : _) → f ≡ forms.Elements l → ⊥)
     → form_sort f ≡ AList → ⊥
-no_list (forms.Turns v) h i e = h v refl
-no_list (forms.Elements l) h i e = i l refl
-no_list f h i e = cc
+no_list forms.End g h i e = g refl
+no_list (forms.Turns v) g h i e = h v refl
+no_list (forms.Elements l) g h i e = i l refl
+no_list f g h i e = cc

@@ -89,7 +89,7 @@ fn is_lifetime(ident: &Ident, tree: &Tree<'_>) -> bool
     ensures { IsTrue result ↔ (t.ALifetime (ident_text ident.now) ≡ tree.now) }
 {
     match &tree.form {
-        Form::Lifetime(_, other) => same_word(ident, other),
+        Form::Lifetime(other) => same_word(ident, other.ident),
         _ => false,
     }
 }
@@ -99,7 +99,7 @@ fn is_raw(entries: &[Entry<'_>], tree: &Tree<'_>) -> bool
     ensures { IsTrue result ↔ (t.Raw (map entry_token entries.now) ≡ tree.now) }
 {
     match &tree.form {
-        Form::Raw(others) => same_tokens(entries, others),
+        Form::Raw(others) => same_tokens(entries, others.entries),
         _ => false,
     }
 }
@@ -125,7 +125,7 @@ fn pair<'t, 'a>(two: &'t Two<'a>, tree: &'t Tree<'a>) -> Rest<'t, 'a>
 }
 
 // Of a choice that is the first behind so many seconds, and a tree.
-fn first<'t, 'a>(depth: usize, inner: &'t Tree<'a>, tree: &'t Tree<'a>) -> Rest<'t, 'a>
+fn first<'t, 'a>(depth: u32, inner: &'t Tree<'a>, tree: &'t Tree<'a>) -> Rest<'t, 'a>
     ensures { IsLeft (seconds depth (t.First inner.now)) tree.now result }
 {
     match &tree.form {
@@ -148,7 +148,7 @@ fn first<'t, 'a>(depth: usize, inner: &'t Tree<'a>, tree: &'t Tree<'a>) -> Rest<
 }
 
 // Of a choice that is the second, and behind it so many seconds, and a tree.
-fn second<'t, 'a>(depth: usize, inner: &'t Tree<'a>, tree: &'t Tree<'a>) -> Rest<'t, 'a>
+fn second<'t, 'a>(depth: u32, inner: &'t Tree<'a>, tree: &'t Tree<'a>) -> Rest<'t, 'a>
     ensures { IsLeft (t.Second (seconds depth inner.now)) tree.now result }
 {
     match &tree.form {
@@ -193,7 +193,8 @@ fn turns<'t, 'a>(turns: &'t [Tree<'a>], tree: &'t Tree<'a>) -> Rest<'t, 'a>
     ensures { IsLeft (in_turn turns.now) tree.now result }
 {
     match &tree.form {
-        Form::Turns(others) => Rest::Turns(turns, others),
+        Form::End => Rest::Turns(turns, &[]),
+        Form::Turns(others) => Rest::Turns(turns, others.each),
         Form::Elements(list) => Rest::Told(are_none(turns, list)),
         _ => Rest::Told(false),
     }
@@ -212,7 +213,8 @@ fn elements<'t, 'a>(list: &'t Separated<'a>, tree: &'t Tree<'a>) -> Rest<'t, 'a>
                 Rest::Told(false)
             }
         }
-        Form::Turns(turns) => Rest::Told(are_none(turns, list)),
+        Form::End => Rest::Told(are_none(&[], list)),
+        Form::Turns(turns) => Rest::Told(are_none(turns.each, list)),
         _ => Rest::Told(false),
     }
 }
@@ -222,7 +224,7 @@ fn group<'t, 'a>(delimiter: Delimiter, inner: &'t Tree<'a>, tree: &'t Tree<'a>) 
     ensures { IsLeft (t.Group delimiter inner.now) tree.now result }
 {
     match &tree.form {
-        Form::Group(other, _, y) => one(same_delimiter(delimiter, *other), inner, y),
+        Form::Group(other, group) => one(same_delimiter(delimiter, *other), inner, &group.inside),
         _ => Rest::Told(false),
     }
 }
@@ -350,15 +352,16 @@ pub(crate) fn left<'t, 'a>(a: &'t Tree<'a>, b: &'t Tree<'a>) -> Rest<'t, 'a>
         Form::Word(ident) => Rest::Told(is_word(ident, b)),
         Form::Literal(literal) => Rest::Told(is_literal(literal, b)),
         Form::Mark(sign, spacing, _) => Rest::Told(is_mark(*sign, *spacing, b)),
-        Form::Lifetime(_, ident) => Rest::Told(is_lifetime(ident, b)),
-        Form::Raw(entries) => Rest::Told(is_raw(entries, b)),
+        Form::Lifetime(lifetime) => Rest::Told(is_lifetime(lifetime.ident, b)),
+        Form::Raw(kept) => Rest::Told(is_raw(kept.entries, b)),
         Form::Nil => Rest::Told(is_nil(b)),
         Form::Pair(two) => pair(two, b),
         Form::First(depth, inner) => first(*depth, inner, b),
         Form::Second(depth, inner) => second(*depth, inner, b),
-        Form::Turns(trees) => turns(trees, b),
+        Form::End => turns(&[], b),
+        Form::Turns(trees) => turns(trees.each, b),
         Form::Elements(list) => elements(list, b),
-        Form::Group(delimiter, _, inner) => group(*delimiter, inner, b),
+        Form::Group(delimiter, enclosed) => group(*delimiter, &enclosed.inside, b),
         Form::Dropped(inner) => dropped(inner, b),
         Form::Called(part, inner) => called(*part, inner, b),
         Form::Verbatim(inner) => verbatim(inner, b),

@@ -37,7 +37,7 @@ fn raw<'a>(tree: &Tree<'a>) -> Option<&'a [Entry<'a>]>
     ensures { option_map (λ es. map entry_token es.now) result ≡ raw_item (t.Node AnItem tree.now) }
 {
     match &tree.form {
-        Form::Raw(entries) => Some(entries),
+        Form::Raw(kept) => Some(kept.entries),
         _ => None,
     }
 }
@@ -61,10 +61,17 @@ pub(crate) fn first_behind<'t, 'a>(tree: &'t Tree<'a>, seconds: usize) -> Option
     ensures { option_map (λ x. x.now) result ≡ first_behind tree.now seconds }
 {
     match &tree.form {
-        Form::First(depth, inner) => { if *depth == seconds { Some(inner) } else { None } }
+        Form::First(depth, inner) => {
+            if *depth as usize == seconds {
+                Some(inner)
+            } else {
+                None
+            }
+        }
         Form::Second(depth, inner) => {
-            if *depth < seconds {
-                first_behind(inner, seconds - 1 - *depth)
+            let depth = *depth as usize;
+            if depth < seconds {
+                first_behind(inner, seconds - 1 - depth)
             } else {
                 None
             }
@@ -162,7 +169,7 @@ fn turn_of<'a>(
     ensures { IfOk result (λ x. x ≡ t.Second (t.Node AStatement (seconds depth (t.First (t.Node AnItem
         (t.Raw (map entry_token entries.now))))))) }
 {
-    let item = made::node(arena, Kind::AnItem, made::raw(entries))?;
+    let item = made::node(arena, Kind::AnItem, made::raw(arena, entries)?)?;
     let choice = made::first_behind(arena, depth, item)?;
     let statement = made::node(arena, Kind::AStatement, choice)?;
     made::second(arena, statement)

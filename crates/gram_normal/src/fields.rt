@@ -46,7 +46,7 @@ fn fields_in_front<'a>(
     ensures { IfOk result (λ x. x ≡ k.fields_in_front left.entry numbers.now) }
 {
     match &numbers.form {
-        Form::Turns(turns) => fields_of(arena, left, turns),
+        Form::Turns(turns) => fields_of(arena, left, turns.each),
         _ => Ok(left),
     }
 }

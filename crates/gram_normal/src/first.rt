@@ -142,20 +142,20 @@ pub(crate) fn first<'a>(tree: &Tree<'a>) -> Head<'a>
         Form::Word(ident) => Head::One(Piece::Ident(ident)),
         Form::Literal(literal) => Head::One(Piece::Literal(literal)),
         Form::Mark(sign, spacing, _) => first_marks(*sign, *spacing),
-        Form::Lifetime(_, ident) => {
-            Head::Two(Piece::Mark('\'', Spacing::Joint), Piece::Ident(ident))
+        Form::Lifetime(held) => {
+            Head::Two(Piece::Mark('\'', Spacing::Joint), Piece::Ident(held.ident))
         }
-        Form::Raw(entries) => first_entries(entries),
-        Form::Nil => Head::Empty,
+        Form::Raw(kept) => first_entries(kept.entries),
+        Form::Nil | Form::End => Head::Empty,
         Form::Pair(two) | Form::Front(_, two) | Form::Back(_, two) => {
             followed(first(&two.front), &two.back)
         }
         Form::Infix(_, three) => {
             followed(followed(first(&three.left), &three.own), &three.right)
         }
-        Form::Turns(turns) => followed_turns(Head::Empty, turns),
+        Form::Turns(turns) => followed_turns(Head::Empty, turns.each),
         Form::Elements(list) => first_list(list),
-        Form::Group(delimiter, _, inner) => enclosed(*delimiter, first(inner)),
+        Form::Group(delimiter, group) => enclosed(*delimiter, first(&group.inside)),
         Form::First(_, inner) | Form::Second(_, inner) | Form::Dropped(inner) => first(inner),
         Form::Called(_, inner) | Form::Verbatim(inner) | Form::Node(_, inner) => first(inner),
         Form::Whole(inner) | Form::Alone(_, inner) => first(inner),

@@ -114,7 +114,7 @@ pub(crate) fn kept<'a>(arena: &'a Arena, tree: &Tree<'a>) -> Result<Tree<'a>, Al
         }
         Form::First(depth, inner) => {
             let inner = kept(arena, inner)?;
-            made::first_behind(arena, *depth, inner)
+            made::first_behind(arena, *depth as usize, inner)
         }
         Form::Second(depth, inner) => {
             let inner = kept(arena, inner)?;
@@ -122,11 +122,12 @@ pub(crate) fn kept<'a>(arena: &'a Arena, tree: &Tree<'a>) -> Result<Tree<'a>, Al
                 form: Form::Second(*depth, arena.put(inner)?),
             })
         }
-        Form::Turns(trees) => turns(arena, trees),
+        Form::End => Ok(made::no_turns()),
+        Form::Turns(trees) => turns(arena, trees.each),
         Form::Elements(elements) => list(arena, elements),
-        Form::Group(delimiter, span, inner) => {
-            let inner = kept(arena, inner)?;
-            made::group(arena, *delimiter, *span, inner)
+        Form::Group(delimiter, group) => {
+            let inner = kept(arena, &group.inside)?;
+            made::group(arena, *delimiter, group.span, inner)
         }
         Form::Dropped(_) => Ok(made::nil()),
         Form::Called(part, inner) => {

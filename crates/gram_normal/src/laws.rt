@@ -60,7 +60,7 @@ pub fn each_tree(tree: &Tree<'_>)
         Form::Word(_) => {}
         Form::Literal(_) => {}
         Form::Mark(_, _, _) => {}
-        Form::Lifetime(_, _) => {}
+        Form::Lifetime(_) => {}
         Form::Raw(_) => {}
         Form::Nil => {}
         Form::Pair(two) => {
@@ -69,9 +69,10 @@ pub fn each_tree(tree: &Tree<'_>)
         }
         Form::First(_, inner) => each_tree(inner),
         Form::Second(_, inner) => each_tree(inner),
-        Form::Turns(trees) => each_turn(trees),
+        Form::End => {}
+        Form::Turns(trees) => each_turn(trees.each),
         Form::Elements(list) => each_list(list),
-        Form::Group(_, _, inner) => each_tree(inner),
+        Form::Group(_, group) => each_tree(&group.inside),
         Form::Dropped(inner) => each_tree(inner),
         Form::Called(_, inner) => each_tree(inner),
         Form::Verbatim(inner) => each_tree(inner),

@@ -319,7 +319,7 @@ pub fn normal_in<'a>(
         }
         Form::First(depth, inner) => {
             let inner = normal_in(arena, position, inner)?;
-            Ok(made::first_behind(arena, *depth, inner)?)
+            Ok(made::first_behind(arena, *depth as usize, inner)?)
         }
         Form::Second(depth, inner) => {
             let inner = normal_in(arena, position, inner)?;
@@ -327,11 +327,12 @@ pub fn normal_in<'a>(
                 form: Form::Second(*depth, arena.put(inner)?),
             })
         }
-        Form::Turns(trees) => turns(arena, position, trees),
+        Form::End => Ok(made::no_turns()),
+        Form::Turns(trees) => turns(arena, position, trees.each),
         Form::Elements(elements) => list(arena, position, elements),
-        Form::Group(delimiter, span, inner) => {
-            let inner = normal_in(arena, position, inner)?;
-            Ok(made::group(arena, *delimiter, *span, inner)?)
+        Form::Group(delimiter, group) => {
+            let inner = normal_in(arena, position, &group.inside)?;
+            Ok(made::group(arena, *delimiter, group.span, inner)?)
         }
         Form::Dropped(_) => {
             let none = private(arena)?;

@@ -4,12 +4,14 @@ ghost use Rattle.gram_normal.specs.Peeled.{again_of, attributes_of, macro_in, se
 ghost use Rattle.gram_table.specs.Parts.{part_of};
 ghost use Rattle.gram_write.specs.Operands.{before_of, expression_of, pair_behind};
 ghost use Rattle.gram_write.specs.Seen.{called_of, is_choice, unnamed_of};
-ghost use Rattle.std.specs.Prelude.{◌≡◌, option_map};
+ghost use Rattle.std.specs.Prelude.{◌≡◌, IfOk, option_map};
 ghost use Rattle.syn_grammar.specs.Forms.{form_of};
 
 use gram_table::kind::Kind;
 use gram_table::part::Part;
-use gram_tree::tree::{Form, Tree};
+use gram_tree::arena::Arena;
+use gram_tree::tree::{Form, InTurn, Tree};
+use std::alloc::AllocError;
 
 /// Of a choice the second, where that was chosen.
 #[tactic(auto, using(crate::proofs::Peeling::second_parts))]
@@ -66,8 +68,9 @@ pub(crate) fn pair_behind<'t, 'a>(
             }
         }
         Form::Second(depth, inner) => {
-            if *depth < seconds {
-                pair_behind(inner, seconds - 1 - *depth)
+            let depth = *depth as usize;
+            if depth < seconds {
+                pair_behind(inner, seconds - 1 - depth)
             } else {
                 None
             }
@@ -167,33 +170,40 @@ pub(crate) fn macro_of<'a>(tree: &Tree<'a>) -> Option<Tree<'a>>
 
 // Of turns the first, and the others.
 #[tactic(auto, using(crate::proofs::Peeling::agains))]
-fn again<'a>(tree: &Tree<'a>) -> Option<(Tree<'a>, Tree<'a>)>
-    ensures { result ≡ again_of tree.now }
+fn again<'a>(arena: &'a Arena, tree: &Tree<'a>) -> Result<Option<(Tree<'a>, Tree<'a>)>, AllocError>
+    ensures { IfOk result (λ o. o ≡ again_of tree.now) }
 {
     match &tree.form {
-        Form::Turns(turns) => match turns.split_first() {
-            Some((first, others)) => Some((
-                first.copy(),
-                Tree {
-                    form: Form::Turns(others),
-                },
-            )),
-            None => None,
+        Form::Turns(turns) => match turns.each.split_first() {
+            Some((first, others)) => {
+                let behind = Tree {
+                    form: Form::Turns(arena.put(InTurn { each: others })?),
+                };
+                Ok(Some((first.copy(), behind)))
+            }
+            None => Ok(None),
         },
-        _ => None,
+        _ => Ok(None),
     }
 }
 
 /// Of attributes the first, and the others.
+///
+/// # Errors
+///
+/// Where there is no memory for the others.
 #[tactic(auto, using(crate::proofs::Peeling::attributes))]
-pub(crate) fn attributes<'a>(tree: &Tree<'a>) -> Option<(Tree<'a>, Tree<'a>)>
-    ensures { result ≡ attributes_of tree.now }
+pub(crate) fn attributes<'a>(
+    arena: &'a Arena,
+    tree: &Tree<'a>,
+) -> Result<Option<(Tree<'a>, Tree<'a>)>, AllocError>
+    ensures { IfOk result (λ o. o ≡ attributes_of tree.now) }
 {
     match tree.node() {
         Some((kind, inner)) => match kind {
-            Kind::OuterAttributes => again(inner),
-            _ => None,
+            Kind::OuterAttributes => again(arena, inner),
+            _ => Ok(None),
         },
-        None => None,
+        None => Ok(None),
     }
 }

@@ -75,7 +75,7 @@ fn attributed_in<'a>(
 fn given<'a>(arena: &'a Arena, front: &Tree<'a>, tree: &Tree<'a>) -> Result<Tree<'a>, AllocError>
     ensures { IfOk result (λ x. x ≡ k.given front.now tree.now) }
 {
-    match attributes(front) {
+    match attributes(arena, front)? {
         Some((first, others)) => {
             let behind = made::node(arena, Kind::OuterAttributes, others)?;
             let all = made::pair(arena, first, behind)?;
@@ -90,7 +90,7 @@ fn given<'a>(arena: &'a Arena, front: &Tree<'a>, tree: &Tree<'a>) -> Result<Tree
 fn left_in_front<'a>(arena: &'a Arena, front: &Tree<'a>) -> Result<Tree<'a>, AllocError>
     ensures { IfOk result (λ x. x ≡ k.left_in_front front.now) }
 {
-    match attributes(front) {
+    match attributes(arena, front)? {
         Some(_) => {
             let none = made::turns(arena, Vec::new(arena.alloc()))?;
             made::node(arena, Kind::OuterAttributes, none)

@@ -167,7 +167,7 @@ pub(crate) fn changed<'a>(
         }
         Form::First(depth, inner) => {
             let inner = changed(arena, part, change, inner)?;
-            made::first_behind(arena, *depth, inner)
+            made::first_behind(arena, *depth as usize, inner)
         }
         Form::Second(depth, inner) => {
             let inner = changed(arena, part, change, inner)?;
@@ -175,9 +175,9 @@ pub(crate) fn changed<'a>(
                 form: Form::Second(*depth, arena.put(inner)?),
             })
         }
-        Form::Group(delimiter, span, inner) => {
-            let inner = changed(arena, part, change, inner)?;
-            made::group(arena, *delimiter, *span, inner)
+        Form::Group(delimiter, group) => {
+            let inner = changed(arena, part, change, &group.inside)?;
+            made::group(arena, *delimiter, group.span, inner)
         }
         _ => Ok(tree.copy()),
     }
@@ -205,7 +205,7 @@ fn arguments_first<'a>(arena: &'a Arena, tree: &Tree<'a>) -> Result<Tree<'a>, Fa
         }
         Form::First(depth, inner) => {
             let inner = arguments_first(arena, inner)?;
-            Ok(made::first_behind(arena, *depth, inner)?)
+            Ok(made::first_behind(arena, *depth as usize, inner)?)
         }
         Form::Second(depth, inner) => {
             let inner = arguments_first(arena, inner)?;
@@ -213,9 +213,9 @@ fn arguments_first<'a>(arena: &'a Arena, tree: &Tree<'a>) -> Result<Tree<'a>, Fa
                 form: Form::Second(*depth, arena.put(inner)?),
             })
         }
-        Form::Group(delimiter, span, inner) => {
-            let inner = arguments_first(arena, inner)?;
-            Ok(made::group(arena, *delimiter, *span, inner)?)
+        Form::Group(delimiter, group) => {
+            let inner = arguments_first(arena, &group.inside)?;
+            Ok(made::group(arena, *delimiter, group.span, inner)?)
         }
         _ => Ok(tree.copy()),
     }

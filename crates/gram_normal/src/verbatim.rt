@@ -97,5 +97,5 @@ pub(crate) fn verbatim<'a>(arena: &'a Arena, inner: &Tree<'a>) -> Result<Tree<'a
     each_tree(inner);
     let mut entries = Vec::new(arena.alloc());
     put_entries(arena, pieces.as_slice(), &mut entries)?;
-    Ok(made::raw(arena.put_all(entries)?))
+    Ok(made::raw(arena, arena.put_all(entries)?)?)
 }

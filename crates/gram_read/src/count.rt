@@ -31,11 +31,11 @@ pub(crate) fn past(index: usize, tree: &Tree) -> usize
     match &tree.form {
         Form::Word(_) | Form::Literal(_) => index + 1,
         Form::Mark(sign, _, _) => past_sign(index, *sign),
-        Form::Lifetime(_, _) => index + 2,
-        Form::Raw(tokens) => index + tokens.len(),
-        Form::Nil => index,
+        Form::Lifetime(_) => index + 2,
+        Form::Raw(tokens) => index + tokens.entries.len(),
+        Form::Nil | Form::End => index,
         Form::Pair(two) | Form::Front(_, two) | Form::Back(_, two) => past_two(index, two),
-        Form::Turns(turns) => past_turns(index, turns),
+        Form::Turns(turns) => past_turns(index, turns.each),
         Form::Elements(list) => {
             let behind = past_elements(index, list.separator, list.before);
             match list.last {
@@ -43,7 +43,7 @@ pub(crate) fn past(index: usize, tree: &Tree) -> usize
                 None => behind,
             }
         }
-        Form::Group(_, _, inner) => past(index + 1, inner) + 1,
+        Form::Group(_, group) => past(index + 1, &group.inside) + 1,
         Form::Infix(_, three) => { past(past(past(index, &three.left), &three.own), &three.right) }
         Form::First(_, inner) | Form::Second(_, inner) | Form::Dropped(inner) => past(index, inner),
         Form::Called(_, inner) | Form::Verbatim(inner) | Form::Node(_, inner) => past(index, inner),

@@ -128,9 +128,9 @@ fn put_word<'a>(
             Ok(())
         }
         Form::First(_, inner) | Form::Second(_, inner) => put_word(kind, index, inner, out),
-        Form::Literal(_) | Form::Mark(_, _, _) | Form::Lifetime(_, _) | Form::Raw(_) => Ok(()),
-        Form::Nil | Form::Pair(_) | Form::Turns(_) | Form::Elements(_) => Ok(()),
-        Form::Group(_, _, _) | Form::Dropped(_) | Form::Called(_, _) | Form::Verbatim(_) => Ok(()),
+        Form::Literal(_) | Form::Mark(_, _, _) | Form::Lifetime(_) | Form::Raw(_) => Ok(()),
+        Form::Nil | Form::End | Form::Pair(_) | Form::Turns(_) | Form::Elements(_) => Ok(()),
+        Form::Group(_, _) | Form::Dropped(_) | Form::Called(_, _) | Form::Verbatim(_) => Ok(()),
         Form::Node(_, _) | Form::Whole(_) | Form::Alone(_, _) | Form::Front(_, _) => Ok(()),
         Form::Back(_, _) | Form::Infix(_, _) => Ok(()),
     }
@@ -177,10 +177,10 @@ fn put_names<'a>(
         Form::Node(kind, inner) => { put_names(listed_by(lister, *kind, inner), index, inner, out) }
         Form::Pair(two) => put_two(lister, index, two, out),
         Form::First(_, inner) | Form::Second(_, inner) => put_names(lister, index, inner, out),
-        Form::Turns(turns) => put_turns(lister, index, turns, out),
-        Form::Group(_, _, inner) => Ok(put_names(lister, index + 1, inner, out)? + 1),
+        Form::Turns(turns) => put_turns(lister, index, turns.each, out),
+        Form::Group(_, group) => Ok(put_names(lister, index + 1, &group.inside, out)? + 1),
         Form::Word(_) | Form::Literal(_) | Form::Mark(_, _, _) => Ok(past(index, tree)),
-        Form::Lifetime(_, _) | Form::Raw(_) | Form::Nil => Ok(past(index, tree)),
+        Form::Lifetime(_) | Form::Raw(_) | Form::Nil | Form::End => Ok(past(index, tree)),
         Form::Elements(_) | Form::Dropped(_) | Form::Verbatim(_) => Ok(past(index, tree)),
         Form::Whole(_) | Form::Alone(_, _) | Form::Front(_, _) => Ok(past(index, tree)),
         Form::Back(_, _) | Form::Infix(_, _) => Ok(past(index, tree)),

@@ -67,11 +67,11 @@ pub fn put_leaves<'a>(tree: &Tree<'a>, out: &mut Vec<Leaf<'a>>) -> Result<(), Al
         Form::Word(ident) => put(Leaf::Ident(ident), out),
         Form::Literal(literal) => put(Leaf::Literal(literal), out),
         Form::Mark(sign, spacing, span) => put(Leaf::Punct(*sign, *spacing, *span), out),
-        Form::Lifetime(span, ident) => put(Leaf::Lifetime(*span, ident), out),
-        Form::Raw(tokens) => put(Leaf::Raw(tokens), out),
-        Form::Nil => Ok(()),
+        Form::Lifetime(held) => put(Leaf::Lifetime(held.span, held.ident), out),
+        Form::Raw(kept) => put(Leaf::Raw(kept.entries), out),
+        Form::Nil | Form::End => Ok(()),
         Form::Pair(two) | Form::Front(_, two) | Form::Back(_, two) => put_two(two, out),
-        Form::Turns(turns) => put_turns(turns, out),
+        Form::Turns(turns) => put_turns(turns.each, out),
         Form::Elements(list) => {
             put_elements(list.separator, list.before, out)?;
             match list.last {
@@ -79,10 +79,10 @@ pub fn put_leaves<'a>(tree: &Tree<'a>, out: &mut Vec<Leaf<'a>>) -> Result<(), Al
                 None => Ok(()),
             }
         }
-        Form::Group(delimiter, span, inner) => {
-            put(Leaf::Open(*delimiter, *span), out)?;
-            put_leaves(inner, out)?;
-            put(Leaf::Close(*delimiter, *span), out)
+        Form::Group(delimiter, group) => {
+            put(Leaf::Open(*delimiter, group.span), out)?;
+            put_leaves(&group.inside, out)?;
+            put(Leaf::Close(*delimiter, group.span), out)
         }
         Form::Infix(_, three) => {
             put_leaves(&three.left, out)?;

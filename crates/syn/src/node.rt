@@ -35,7 +35,7 @@ pub fn put_nodes<'t, 'a>(tree: &'t Tree<'a>, out: &mut Vec<&'t Tree<'a>>) -> Res
 {
     match &tree.form {
         Form::Word(_) | Form::Literal(_) | Form::Mark(_, _, _) => Ok(()),
-        Form::Lifetime(_, _) | Form::Raw(_) | Form::Nil => Ok(()),
+        Form::Lifetime(_) | Form::Raw(_) | Form::Nil | Form::End => Ok(()),
         Form::Pair(two) => put_two(two, out),
         Form::Front(_, two) | Form::Back(_, two) => {
             put(tree, out)?;
@@ -47,7 +47,7 @@ pub fn put_nodes<'t, 'a>(tree: &'t Tree<'a>, out: &mut Vec<&'t Tree<'a>>) -> Res
             put_nodes(&three.own, out)?;
             put_nodes(&three.right, out)
         }
-        Form::Turns(turns) => put_turns(turns, out),
+        Form::Turns(turns) => put_turns(turns.each, out),
         Form::Elements(list) => {
             put_elements(list.before, out)?;
             match list.last {
@@ -65,7 +65,7 @@ pub fn put_nodes<'t, 'a>(tree: &'t Tree<'a>, out: &mut Vec<&'t Tree<'a>>) -> Res
         Form::Called(_, inner) | Form::Verbatim(inner) | Form::Whole(inner) => put_nodes(
             inner, out,
         ),
-        Form::Group(_, _, inner) => put_nodes(inner, out),
+        Form::Group(_, group) => put_nodes(&group.inside, out),
     }
 }
 

@@ -42,6 +42,17 @@ fn no_element<'t, 'a>() -> &'t [Element<'a>]
     &[]
 }
 
+// No element, and no mark.
+fn no_elements<'t, 'a>() -> Elements<'t, 'a>
+    ensures { list_tree result ≡ t.End }
+{
+    Elements {
+        separator: Separator::Comma,
+        before: no_element(),
+        last: None,
+    }
+}
+
 // No turn.
 fn no_turn<'t, 'a>() -> Turns<'t, 'a>
     ensures { turns_tree result ≡ t.End }
@@ -251,9 +262,9 @@ pub fn lifetime<'a>(tree: &Tree<'a>) -> Option<Lifetime<'a>>
     ensures { MatchOption result (IsShaped tree.now g.lifetime → ⊥) (λ l. tree.now ≡ lifetime_tree l) }
 {
     match &tree.form {
-        Form::Lifetime(apostrophe, ident) => Some(Lifetime {
-            apostrophe: *apostrophe,
-            ident: *ident,
+        Form::Lifetime(held) => Some(Lifetime {
+            apostrophe: held.span,
+            ident: held.ident,
         }),
         _ => None,
     }
@@ -278,12 +289,12 @@ pub fn group<'t, 'a>(tree: &'t Tree<'a>) -> Option<(Delimiters, &'t Tree<'a>)>
         (λ p. tree.now ≡ t.Group p.0.delimiter p.1.now) }
 {
     match &tree.form {
-        Form::Group(delimiter, span, inner) => Some((
+        Form::Group(delimiter, enclosed) => Some((
             Delimiters {
                 delimiter: *delimiter,
-                span: *span,
+                span: enclosed.span,
             },
-            inner,
+            &enclosed.inside,
         )),
         _ => None,
     }
@@ -335,15 +346,8 @@ pub fn list<'t, 'a>(tree: &'t Tree<'a>) -> Option<Elements<'t, 'a>>
             before: list.before,
             last: list.last,
         }),
-        Form::Turns(turns) => if turns.is_empty() {
-            Some(Elements {
-                separator: Separator::Comma,
-                before: no_element(),
-                last: None,
-            })
-        } else {
-            None
-        },
+        Form::End => Some(no_elements()),
+        Form::Turns(turns) => if turns.each.is_empty() { Some(no_elements()) } else { None },
         _ => None,
     }
 }
@@ -355,7 +359,8 @@ pub fn each_turn<'t, 'a>(tree: &'t Tree<'a>) -> Option<Turns<'t, 'a>>
         (λ r. tree.now ≡ turns_tree r) }
 {
     match &tree.form {
-        Form::Turns(turns) => Some(Turns { each: turns }),
+        Form::End => Some(no_turn()),
+        Form::Turns(turns) => Some(Turns { each: turns.each }),
         Form::Elements(list) => if list.before.is_empty() && list.last.is_none() {
             Some(no_turn())
         } else {
@@ -521,8 +526,8 @@ fn first_step<'t, 'a>(tree: &'t Tree<'a>) -> Option<Step<'t, 'a>>
         (λ s. tree.now ≡ step_tree s) }
 {
     match &tree.form {
-        Form::First(depth, inner) => Some(step_to_first(*depth, inner)),
-        Form::Second(depth, inner) => Some(Step::Behind(Behind::Second(*depth, inner))),
+        Form::First(depth, inner) => Some(step_to_first(*depth as usize, inner)),
+        Form::Second(depth, inner) => Some(Step::Behind(Behind::Second(*depth as usize, inner))),
         _ => None,
     }
 }
@@ -666,7 +671,7 @@ pub fn raw<'a>(tree: &Tree<'a>) -> Option<&'a [Entry<'a>]>
     ensures { MatchOption result (IsShaped tree.now g.raw → ⊥) (λ r. tree.now ≡ raw_tree r) }
 {
     match &tree.form {
-        Form::Raw(tokens) => Some(*tokens),
+        Form::Raw(kept) => Some(kept.entries),
         _ => None,
     }
 }

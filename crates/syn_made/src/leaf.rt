@@ -1,6 +1,6 @@
 //! Leaves as trees, tokens that are kept as they are, and trees that are lent.
 
-ghost use Rattle.std.specs.Prelude.{◌≡◌};
+ghost use Rattle.std.specs.Prelude.{◌≡◌, IfOk};
 ghost use Rattle.syn_ast.specs.Leaves.{lifetime_tree, literal_tree, mark_tree, node_tree, raw_tree, word_tree};
 
 use crate::to_tree::ToTree;
@@ -21,10 +21,14 @@ pub fn mark<'a>(mark: Mark) -> Tree<'a>
 }
 
 /// A lifetime.
-pub fn lifetime<'a>(lifetime: Lifetime<'a>) -> Tree<'a>
-    ensures { result ≡ lifetime_tree lifetime.entry }
+///
+/// # Errors
+///
+/// Where there is no memory for it.
+pub fn lifetime<'a>(arena: &'a Arena, lifetime: Lifetime<'a>) -> Result<Tree<'a>, AllocError>
+    ensures { IfOk result (λ x. x ≡ lifetime_tree lifetime.entry) }
 {
-    made::lifetime(lifetime.apostrophe, lifetime.ident)
+    made::lifetime(arena, lifetime.apostrophe, lifetime.ident)
 }
 
 impl<'a> ToTree<'a> for &'a Ident {
@@ -54,16 +58,16 @@ impl<'a> ToTree<'a> for Mark {
 impl<'a> ToTree<'a> for Lifetime<'a> {
     ghost tree = { lifetime_tree };
 
-    fn to_tree(&self, _arena: &'a Arena) -> Result<Tree<'a>, AllocError> {
-        Ok(lifetime(*self))
+    fn to_tree(&self, arena: &'a Arena) -> Result<Tree<'a>, AllocError> {
+        lifetime(arena, *self)
     }
 }
 
 impl<'a> ToTree<'a> for &'a [Entry<'a>] {
     ghost tree = { raw_tree };
 
-    fn to_tree(&self, _arena: &'a Arena) -> Result<Tree<'a>, AllocError> {
-        Ok(made::raw(self))
+    fn to_tree(&self, arena: &'a Arena) -> Result<Tree<'a>, AllocError> {
+        made::raw(arena, self)
     }
 }
 

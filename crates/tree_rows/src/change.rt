@@ -41,10 +41,10 @@ fn inside<'t, 'a>(tree: &'t Tree<'a>) -> Option<&'t Tree<'a>>
     let Form::Alone(Kind::ExprParen, own) = &tree.form else {
         return None;
     };
-    let Form::Group(_, _, group) = &own.form else {
+    let Form::Group(_, group) = &own.form else {
         return None;
     };
-    let Form::Elements(list) = &group.form else {
+    let Form::Elements(list) = &group.inside.form else {
         return None;
     };
     if !list.before.is_empty() {
@@ -134,10 +134,11 @@ fn made_anew<'a>(arena: &'a Arena, tree: &Tree<'a>, by: &mut Change<'a>) -> Resu
         Form::Word(ident) => Ok(made::word(ident)),
         Form::Literal(literal) => Ok(made::literal(literal)),
         Form::Mark(sign, spacing, span) => Ok(made::mark(*sign, by.spacing(*spacing), *span)),
-        Form::Lifetime(span, ident) => Ok(made::lifetime(*span, ident)),
-        Form::Raw(entries) => Ok(made::raw(entries)),
+        Form::Lifetime(held) => Ok(made::lifetime(arena, held.span, held.ident)?),
+        Form::Raw(kept) => Ok(made::raw(arena, kept.entries)?),
         Form::Nil => Ok(made::nil()),
-        Form::Turns(turns) => Ok(made::turns(arena, changed_turns(arena, turns, by)?)?),
+        Form::End => Ok(made::no_turns()),
+        Form::Turns(turns) => Ok(made::turns(arena, changed_turns(arena, turns.each, by)?)?),
         Form::Elements(list) => {
             let before = changed_elements(arena, list.before, by)?;
             let last = match list.last {
@@ -148,15 +149,15 @@ fn made_anew<'a>(arena: &'a Arena, tree: &Tree<'a>, by: &mut Change<'a>) -> Resu
         }
         Form::First(depth, inner) => Ok(made::first_behind(
             arena,
-            *depth,
+            *depth as usize,
             changed(arena, inner, by)?,
         )?),
         Form::Second(depth, inner) => Ok(Tree {
             form: Form::Second(*depth, arena.put(changed(arena, inner, by)?)?),
         }),
-        Form::Group(delimiter, span, inner) => {
-            let inner = changed(arena, inner, by)?;
-            Ok(made::group(arena, *delimiter, *span, inner)?)
+        Form::Group(delimiter, group) => {
+            let inner = changed(arena, &group.inside, by)?;
+            Ok(made::group(arena, *delimiter, group.span, inner)?)
         }
         Form::Dropped(inner) => Ok(made::dropped(arena, changed(arena, inner, by)?)?),
         Form::Called(part, inner) => Ok(made::called(arena, *part, changed(arena, inner, by)?)?),

@@ -230,7 +230,7 @@ fn is_lone(tree: &Tree<'_>) -> bool
     ensures { result ≡ is_lone tree.now }
 {
     match &tree.form {
-        Form::Group(_, _, inside) => is_final(inside),
+        Form::Group(_, group) => is_final(&group.inside),
         _ => false,
     }
 }

@@ -48,7 +48,7 @@ fn macro_end<'a>(
         (λ x. IsMacroEnd delimiter semi_token
         × (x ≡ macro_end_tree delimiter semi_token (raw_tree tokens.entry)))) }
 {
-    let raw = made::raw(tokens);
+    let raw = made::raw(arena, tokens)?;
     match (delimiter, semi_token) {
         (MacroDelimiter::Brace(braces), None) => {
             Ok(Some(First(Grouped(braces, &raw)).to_tree(arena)?))

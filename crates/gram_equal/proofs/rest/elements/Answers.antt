@@ -1,4 +1,4 @@
-use Rattle.std.proofs.Common.{◌≡◌, ap, inl, inr, sym, true≢false, ◌∙◌}
+use Rattle.std.proofs.Common.{◌≡◌, List, [], ap, inl, inr, sym, true≢false, ◌∙◌}
 use denote.Ref.{Bor}
 use Rattle.syn_grammar.specs.Tree.{Tree}
 use Rattle.gram_table.specs.Ops.{separator_of}
@@ -31,8 +31,19 @@ returns-in-Turns c =
     let f = λ (b : Bor Tree). b.now in
     let list = c.args.list.now in
     let mark = separator_of list.separator in
-    let xs = c.in-Turns.turns.now in
+    let xs = c.in-Turns.turns.now.each.now in
     let view : c.args.tree.now ≡ turns xs = sym c.tree.view_is ∙ ap tree_of c.in-Turns.is in (
+      λ e. sym (none_same f xs mark list.before.now list.last (c.are_none.ensures.0 e)) ∙ sym view,
+      λ e. c.are_none.ensures.1 (no_elements f xs mark list.before.now list.last (sym view ∙ sym e)),
+    )
+
+pub returns-in-End : goal.returns-in-End
+returns-in-End c =
+    let f = λ (b : Bor Tree). b.now in
+    let list = c.args.list.now in
+    let mark = separator_of list.separator in
+    let xs : List Tree = [] in
+    let view : c.args.tree.now ≡ turns xs = sym c.tree.view_is ∙ ap tree_of c.in-End.is in (
       λ e. sym (none_same f xs mark list.before.now list.last (c.are_none.ensures.0 e)) ∙ sym view,
       λ e. c.are_none.ensures.1 (no_elements f xs mark list.before.now list.last (sym view ∙ sym e)),
     )
@@ -43,4 +54,4 @@ returns-in_default c =
     not_one
     (apart _ _ _ AList c.tree.view_is
     (sort_elements (separator_of list.separator) list.before.now (λ (b : Bor Tree). b.now) list.last)
-    (no_list _ c.in_default.not-Turns c.in_default.not-Elements))
+    (no_list _ c.in_default.not-End c.in_default.not-Turns c.in_default.not-Elements))

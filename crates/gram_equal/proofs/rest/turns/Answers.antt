@@ -1,4 +1,4 @@
-use Rattle.std.proofs.Common.{◌≡◌, ap, sym, ◌∙◌}
+use Rattle.std.proofs.Common.{◌≡◌, [], ap, sym, ◌∙◌}
 use denote.Ref.{Bor}
 use Rattle.syn_grammar.specs.Tree.{Tree}
 use Rattle.gram_table.specs.Ops.{separator_of}
@@ -9,7 +9,11 @@ use Rattle.gram_equal.proofs.rest.turns.Goals as goal
 
 pub returns-in-Turns : goal.returns-in-Turns
 returns-in-Turns c =
-    turns_left c.args.turns.now c.in-Turns.others.now c.args.tree.now (sym (ap tree_of c.in-Turns.is) ∙ c.tree.view_is)
+    turns_left c.args.turns.now c.in-Turns.others.now.each.now c.args.tree.now (sym (ap tree_of c.in-Turns.is) ∙ c.tree.view_is)
+
+pub returns-in-End : goal.returns-in-End
+returns-in-End c =
+    turns_left c.args.turns.now [] c.args.tree.now (sym (ap tree_of c.in-End.is) ∙ c.tree.view_is)
 
 pub returns-in-Elements : goal.returns-in-Elements
 returns-in-Elements c =
@@ -26,4 +30,4 @@ returns-in-Elements c =
 pub returns-in_default : goal.returns-in_default
 returns-in_default c = not_one
     (apart _ _ _ AList c.tree.view_is (sort_turns c.args.turns.now)
-    (no_list _ c.in_default.not-Turns c.in_default.not-Elements))
+    (no_list _ c.in_default.not-End c.in_default.not-Turns c.in_default.not-Elements))

@@ -22,10 +22,10 @@ first-returns-in-Infix n c =
 
 pub first-returns-in-Group : goal.first-returns-in-Group
 first-returns-in-Group n c =
-    let view : c.args.tree.now ≡ t.Group c.in-Group.delimiter c.in-Group.inner.now =
+    let view : c.args.tree.now ≡ t.Group c.in-Group.delimiter c.in-Group.group.now.inside =
     sym c.tree.view_is ∙ ap tree_of c.in-Group.is in
     group_first c.in-Group.delimiter (head_tokens c.enclosed.result) (head_tokens c.first-in-Group.result)
-    (flat c.in-Group.inner.now) c.enclosed.ensures c.first-in-Group.ensures
+    (flat c.in-Group.group.now.inside) c.enclosed.ensures c.first-in-Group.ensures
     ∙ ap (λ z. front3 (flat z)) (sym view)
 
 pub first-returns-in-Pair : goal.first-returns-in-Pair

@@ -60,7 +60,7 @@ list-returns-in_ok-without-in-None n c =
 
 pub kept-turns-requires : goal.kept-turns-requires
 kept-turns-requires n c =
-    let xs : List Tree = c.in-Turns.trees.now in
+    let xs : List Tree = c.in-Turns.trees.now.each.now in
     let x : Tree = c.args.tree.now in
     let view : x ≡ turns xs = sym c.tree.view_is ∙ ap tree_of c.in-Turns.is in
     omega (arith, c.decreases, turns_size xs, ap node_count view, tree_size x)

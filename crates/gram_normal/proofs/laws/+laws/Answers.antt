@@ -35,7 +35,7 @@ each_list-each_tree-requires n c =
 
 pub each_tree-each_turn-requires : goal.each_tree-each_turn-requires
 each_tree-each_turn-requires n c =
-    let xs : List Tree = c.in-Turns.trees.now in
+    let xs : List Tree = c.in-Turns.trees.now.each.now in
     let x : Tree = c.args.tree.now in
     let view : x ≡ turns xs = sym c.tree.view_is ∙ ap tree_of c.in-Turns.is in
     omega (arith, c.decreases, turns_size xs, ap node_count view, tree_size x)

@@ -18,7 +18,7 @@ among c es y = ap length (flat_elements c es y) ∙ length-append (flat (element
 pub past-past_turns-requires : goal.past-past_turns-requires
 past-past_turns-requires t c =
     let is = sym c.tree.view_is ∙ ap tree_of c.in-Turns.is in
-    let below = turns_below c.in-Turns.turns.now c.args.tree.now is in
+    let below = turns_below c.in-Turns.turns.now.each.now c.args.tree.now is in
     let counted = ap (λ (x : Tree). length (flat x)) is in
     (omega (arith, c.decreases, below), omega (arith, c.requires, counted))
 

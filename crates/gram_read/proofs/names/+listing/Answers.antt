@@ -7,6 +7,6 @@ use Rattle.gram_read.proofs.names.+listing.Goals as goal
 pub put_names-put_turns-requires : goal.put_names-put_turns-requires
 put_names-put_turns-requires t c =
     let is = sym c.tree.view_is ∙ ap tree_of c.in-Turns.is in
-    let below = turns_below c.in-Turns.turns.now c.args.tree.now is in
+    let below = turns_below c.in-Turns.turns.now.each.now c.args.tree.now is in
     let counted = ap (λ (x : Tree). length (flat x)) is in
     (omega (arith, c.decreases, below), omega (arith, c.requires, counted))

@@ -5,7 +5,7 @@ use Rattle.tree_rows.proofs.change.+changed.Goals as goal
 
 pub made_anew-changed_turns-requires : goal.made_anew-changed_turns-requires
 made_anew-changed_turns-requires t c =
-    let below = turns_below c.in-Turns.turns.now c.args.tree.now (sym c.tree.view_is ∙ ap tree_of c.in-Turns.is) in
+    let below = turns_below c.in-Turns.turns.now.each.now c.args.tree.now (sym c.tree.view_is ∙ ap tree_of c.in-Turns.is) in
     omega (arith, c.decreases, below)
 
 pub made_anew-changed_elements-requires : goal.made_anew-changed_elements-requires

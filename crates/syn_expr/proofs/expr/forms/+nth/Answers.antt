@@ -14,7 +14,7 @@ form_choice : (f : Form) → ((n : ℕ) (b : _) → f ≡ forms.First n b → �
 form_choice (forms.First n b) d e = absurd (d n b refl)
 form_choice (forms.Second n b) d e = absurd (e n b refl)
 form_choice (forms.Mark s spacing span) d e = mark_choice (sign_text s) spacing
-form_choice (forms.Turns v) d e = turns_choice v.now
+form_choice (forms.Turns v) d e = turns_choice v.now.each.now
 form_choice (forms.Elements l) d e =
     elements_choice (separator_of l.now.separator) l.now.before.now (λ b. b.now) l.now.last
 form_choice _ d e = refl
