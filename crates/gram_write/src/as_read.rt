@@ -67,15 +67,15 @@ fn step<'t, 'a>(
             sign(*marks, *spacing, out)?;
             Ok(None)
         }
-        Form::Lifetime(_, word) => {
-            lifetime(word, out)?;
+        Form::Lifetime(held) => {
+            lifetime(held.ident, out)?;
             Ok(None)
         }
-        Form::Raw(tokens) => {
-            entries(tokens, out)?;
+        Form::Raw(kept) => {
+            entries(kept.entries, out)?;
             Ok(None)
         }
-        Form::Nil => Ok(None),
+        Form::Nil | Form::End => Ok(None),
         Form::Pair(two) | Form::Front(_, two) => {
             put_as_read(&two.front, out)?;
             Ok(Some(Place { tree: &two.back }))
@@ -90,7 +90,7 @@ fn step<'t, 'a>(
             Ok(Some(Place { tree: &three.right }))
         }
         Form::Turns(turns) => {
-            put_turns(turns, out)?;
+            put_turns(turns.each, out)?;
             Ok(None)
         }
         Form::Elements(list) => {
@@ -100,9 +100,9 @@ fn step<'t, 'a>(
                 None => Ok(None),
             }
         }
-        Form::Group(delimiter, _, inner) => {
+        Form::Group(delimiter, group) => {
             opening(*delimiter, out)?;
-            put_as_read(inner, out)?;
+            put_as_read(&group.inside, out)?;
             closing(*delimiter, out)?;
             Ok(None)
         }

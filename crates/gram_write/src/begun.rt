@@ -65,11 +65,9 @@ fn begun(tree: &Tree<'_>) -> Option<bool>
     ensures { result ≡ begun (flat tree.now) }
 {
     match &tree.form {
-        Form::Word(_) | Form::Literal(_) | Form::Mark(_, _, _) | Form::Lifetime(_, _) => Some(
-            false,
-        ),
-        Form::Raw(entries) => first_entry(entries),
-        Form::Nil => None,
+        Form::Word(_) | Form::Literal(_) | Form::Mark(_, _, _) | Form::Lifetime(_) => Some(false),
+        Form::Raw(kept) => first_entry(kept.entries),
+        Form::Nil | Form::End => None,
         Form::Pair(two) | Form::Front(_, two) | Form::Back(_, two) => begun_two(two),
         Form::Infix(_, three) => match begun(&three.left) {
             Some(opens) => Some(opens),
@@ -78,7 +76,7 @@ fn begun(tree: &Tree<'_>) -> Option<bool>
                 None => begun(&three.right),
             },
         },
-        Form::Turns(turns) => begun_turns(turns),
+        Form::Turns(turns) => begun_turns(turns.each),
         Form::Elements(list) => match list.before.split_first() {
             Some((element, _)) => Some(is_so(begun(&element.tree))),
             None => match list.last {
@@ -86,7 +84,7 @@ fn begun(tree: &Tree<'_>) -> Option<bool>
                 None => None,
             },
         },
-        Form::Group(delimiter, _, _) => Some(is_parenthesis(*delimiter)),
+        Form::Group(delimiter, _) => Some(is_parenthesis(*delimiter)),
         Form::First(_, inner) | Form::Second(_, inner) | Form::Dropped(inner) => begun(inner),
         Form::Called(_, inner) | Form::Verbatim(inner) | Form::Node(_, inner) => begun(inner),
         Form::Whole(inner) | Form::Alone(_, inner) => begun(inner),

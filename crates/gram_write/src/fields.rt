@@ -136,7 +136,7 @@ pub fn put_front_fields<'a>(numbers: &Tree<'_>, out: &mut Vec<Piece<'a>>) -> Res
     ensures keeps { Keeps out.old.items out.new.items }
 {
     match &numbers.form {
-        Form::Turns(turns) => put_each(turns, out),
+        Form::Turns(turns) => put_each(turns.each, out),
         _ => Ok(()),
     }
 }

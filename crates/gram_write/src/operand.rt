@@ -106,8 +106,9 @@ pub(crate) fn pair_behind<'t, 'a>(
             }
         }
         Form::Second(depth, inner) => {
-            if *depth < seconds {
-                pair_behind(inner, seconds - 1 - *depth)
+            let depth = *depth as usize;
+            if depth < seconds {
+                pair_behind(inner, seconds - 1 - depth)
             } else {
                 None
             }
@@ -122,10 +123,17 @@ pub(crate) fn first_behind<'t, 'a>(tree: &'t Tree<'a>, seconds: usize) -> Option
     ensures { option_map (λ x. x.now) result ≡ first_behind tree.now seconds }
 {
     match &tree.form {
-        Form::First(depth, inner) => { if *depth == seconds { Some(inner) } else { None } }
+        Form::First(depth, inner) => {
+            if *depth as usize == seconds {
+                Some(inner)
+            } else {
+                None
+            }
+        }
         Form::Second(depth, inner) => {
-            if *depth < seconds {
-                first_behind(inner, seconds - 1 - *depth)
+            let depth = *depth as usize;
+            if depth < seconds {
+                first_behind(inner, seconds - 1 - depth)
             } else {
                 None
             }

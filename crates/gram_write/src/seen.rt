@@ -50,7 +50,8 @@ fn is_none(tree: &Tree<'_>) -> bool
     ensures { result ≡ is_none tree.now }
 {
     match &tree.form {
-        Form::Turns(turns) => turns.is_empty(),
+        Form::End => true,
+        Form::Turns(turns) => turns.each.is_empty(),
         Form::Elements(list) => list.before.is_empty() && list.last.is_none(),
         _ => false,
     }

@@ -43,8 +43,8 @@ use Rattle.gram_write.proofs.+laid.Goals.{laid::put_those-else-passes}
 pub laid::put_laid-put_turns-requires : goal.laid::put_laid-put_turns-requires
 laid::put_laid-put_turns-requires n c =
     let x : Tree = c.tails.left.tree.now in
-    let view : x ≡ turns c.in-Turns.turns.now = sym c.here.view_is ∙ ap tree_of c.in-Turns.is in
-    omega (arith, c.decreases, c.tails.invariant.inside, turns_size c.in-Turns.turns.now, ap node_count view, tree_size x)
+    let view : x ≡ turns c.in-Turns.turns.now.each.now = sym c.here.view_is ∙ ap tree_of c.in-Turns.is in
+    omega (arith, c.decreases, c.tails.invariant.inside, turns_size c.in-Turns.turns.now.each.now, ap node_count view, tree_size x)
 
 pub laid::put_laid-put_elements-requires : goal.laid::put_laid-put_elements-requires
 laid::put_laid-put_elements-requires n c =

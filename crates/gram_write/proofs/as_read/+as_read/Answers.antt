@@ -22,8 +22,8 @@ use Rattle.gram_write.proofs.as_read.+as_read.Goals as goal
 pub step-put_turns-requires : goal.step-put_turns-requires
 step-put_turns-requires t c =
     let x : Tree = c.args.place.tree.now in
-    let view : x ≡ turns c.in-Turns.turns.now = sym c.tree.view_is ∙ ap tree_of c.in-Turns.is in
-    omega (arith, c.decreases, turns_size c.in-Turns.turns.now, ap node_count view)
+    let view : x ≡ turns c.in-Turns.turns.now.each.now = sym c.tree.view_is ∙ ap tree_of c.in-Turns.is in
+    omega (arith, c.decreases, turns_size c.in-Turns.turns.now.each.now, ap node_count view)
 
 pub step-put_elements-requires : goal.step-put_elements-requires
 step-put_elements-requires t c =
