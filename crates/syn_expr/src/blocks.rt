@@ -22,8 +22,8 @@ use rust_leaf::ident::Ident;
 use syn_ast::leaf::{Delimiters, Lifetime, Mark};
 use syn_ast::list::{Elements, Turns};
 use syn_ast::sub::{Marked, Worded, optional_as_marked, optional_as_worded};
-use syn_ast::take;
 use syn_ast::types::AnyPath;
+use syn_ast::{joined, take};
 
 /// A section between lines of `---`, at the head of a file. It holds nothing: the grammar has no such section, so none is
 /// read.
@@ -454,16 +454,14 @@ impl<'t, 'a> ExprForLoop<'t, 'a> {
         let Some((label, for_token, pat, in_token, expr, body)) = take::six(inner) else {
             return None;
         };
-        let Some(label) = optional_as_labelled(label) else {
-            return None;
-        };
-        let Some(for_token) = take::word(for_token) else {
-            return None;
-        };
-        let Some(in_token) = take::word(in_token) else {
-            return None;
-        };
         let Some((Part::Condition, expr)) = take::called(expr) else {
+            return None;
+        };
+        let Some((label, for_token, in_token)) = joined::three(
+            optional_as_labelled(label),
+            take::word(for_token),
+            take::word(in_token),
+        ) else {
             return None;
         };
         Some(ExprForLoop {

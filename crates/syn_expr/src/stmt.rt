@@ -18,6 +18,7 @@ use gram_table::kind::Kind;
 use gram_table::part::Part;
 use gram_tree::tree::Tree;
 use rust_leaf::ident::Ident;
+use syn_ast::joined;
 use syn_ast::leaf::Mark;
 use syn_ast::list::Turns;
 use syn_ast::sub::{MarkedType, Worded, as_worded, optional_as_marked_type};
@@ -213,16 +214,12 @@ impl<'t, 'a> Local<'t, 'a> {
         let Some((let_token, pat, ty, init, semi_token)) = take::five(kept) else {
             return None;
         };
-        let Some(let_token) = take::word(let_token) else {
-            return None;
-        };
-        let Some(ty) = optional_as_marked_type(ty) else {
-            return None;
-        };
-        let Some(init) = optional_as_local_init(init) else {
-            return None;
-        };
-        let Some(semi_token) = take::mark(semi_token) else {
+        let Some((let_token, ty, init, semi_token)) = joined::four(
+            take::word(let_token),
+            optional_as_marked_type(ty),
+            optional_as_local_init(init),
+            take::mark(semi_token),
+        ) else {
             return None;
         };
         Some(Local {

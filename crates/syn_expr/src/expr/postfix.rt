@@ -20,7 +20,7 @@ use syn_ast::leaf::{Delimiters, Mark};
 use syn_ast::list::{Elements, Turns};
 use syn_ast::missing::nothing;
 use syn_ast::paths::Member;
-use syn_ast::take;
+use syn_ast::{joined, take};
 
 /// A dot, and the numbers behind it that end in one.
 pub fn as_dot<'t, 'a>(tree: &'t Tree<'a>) -> Option<(Mark, Turns<'t, 'a>)>
@@ -113,16 +113,14 @@ impl<'t, 'a> ExprMethodCall<'t, 'a> {
         let Some((Part::Name, method)) = take::called(method) else {
             return None;
         };
-        let Some(method) = take::word(method) else {
-            return None;
-        };
-        let Some(turbofish) = take::optional(turbofish) else {
-            return None;
-        };
         let Some((paren_token, inside)) = take::group(paren_token) else {
             return None;
         };
-        let Some(args) = take::list(inside) else {
+        let Some((method, turbofish, args)) = joined::three(
+            take::word(method),
+            take::optional(turbofish),
+            take::list(inside),
+        ) else {
             return None;
         };
         Some(ExprMethodCall {

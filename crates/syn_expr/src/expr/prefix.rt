@@ -19,7 +19,7 @@ use gram_tree::tree::Tree;
 use rust_leaf::ident::Ident;
 use syn_ast::leaf::Mark;
 use syn_ast::list::Elements;
-use syn_ast::take;
+use syn_ast::{joined, take};
 
 /// An expression with attributes: `#[a] b`.
 #[derive(Clone, Copy)]
@@ -98,13 +98,11 @@ impl<'t, 'a> ExprRawAddr<'t, 'a> {
         let Some((and_token, raw, mutability)) = take::three(own) else {
             return None;
         };
-        let Some(and_token) = take::mark(and_token) else {
-            return None;
-        };
-        let Some(raw) = take::word(raw) else {
-            return None;
-        };
-        let Some(mutability) = take::word(mutability) else {
+        let Some((and_token, raw, mutability)) = joined::three(
+            take::mark(and_token),
+            take::word(raw),
+            take::word(mutability),
+        ) else {
             return None;
         };
         Some(ExprRawAddr {
@@ -222,22 +220,18 @@ fn as_closure_head<'t, 'a>(tree: &'t Tree<'a>) -> Option<ClosureHead<'t, 'a>>
         take::eight(tree) else {
         return None;
     };
-    let Some(lifetimes) = take::optional(lifetimes) else {
-        return None;
-    };
     let Some((constness, movability)) = two_words(constness, movability) else {
         return None;
     };
     let Some((asyncness, capture)) = two_words(asyncness, capture) else {
         return None;
     };
-    let Some(or1_token) = take::mark(or1_token) else {
-        return None;
-    };
-    let Some(inputs) = take::list(inputs) else {
-        return None;
-    };
-    let Some(or2_token) = take::mark(or2_token) else {
+    let Some((lifetimes, or1_token, inputs, or2_token)) = joined::four(
+        take::optional(lifetimes),
+        take::mark(or1_token),
+        take::list(inputs),
+        take::mark(or2_token),
+    ) else {
         return None;
     };
     Some(ClosureHead {
