@@ -188,12 +188,19 @@ fn are_alike(list: &Separated<'_>, other: &Separated<'_>) -> bool
     list.before.is_empty() || same_separator(list.separator, other.separator)
 }
 
+// No turn.
+fn no_turn<'t, 'a>() -> &'t [Tree<'a>]
+    ensures { result.now ≡ [] }
+{
+    &[]
+}
+
 // Of turns and a tree.
 fn turns<'t, 'a>(turns: &'t [Tree<'a>], tree: &'t Tree<'a>) -> Rest<'t, 'a>
     ensures { IsLeft (in_turn turns.now) tree.now result }
 {
     match &tree.form {
-        Form::End => Rest::Turns(turns, &[]),
+        Form::End => Rest::Turns(turns, no_turn()),
         Form::Turns(others) => Rest::Turns(turns, others.each),
         Form::Elements(list) => Rest::Told(are_none(turns, list)),
         _ => Rest::Told(false),
@@ -213,7 +220,7 @@ fn elements<'t, 'a>(list: &'t Separated<'a>, tree: &'t Tree<'a>) -> Rest<'t, 'a>
                 Rest::Told(false)
             }
         }
-        Form::End => Rest::Told(are_none(&[], list)),
+        Form::End => Rest::Told(are_none(no_turn(), list)),
         Form::Turns(turns) => Rest::Told(are_none(turns.each, list)),
         _ => Rest::Told(false),
     }
@@ -358,7 +365,7 @@ pub(crate) fn left<'t, 'a>(a: &'t Tree<'a>, b: &'t Tree<'a>) -> Rest<'t, 'a>
         Form::Pair(two) => pair(two, b),
         Form::First(depth, inner) => first(*depth, inner, b),
         Form::Second(depth, inner) => second(*depth, inner, b),
-        Form::End => turns(&[], b),
+        Form::End => turns(no_turn(), b),
         Form::Turns(trees) => turns(trees.each, b),
         Form::Elements(list) => elements(list, b),
         Form::Group(delimiter, enclosed) => group(*delimiter, &enclosed.inside, b),

@@ -1,4 +1,4 @@
-use Rattle.std.proofs.Common.{◌≡◌, List, [], ap, inl, inr, sym, true≢false, ◌∙◌}
+use Rattle.std.proofs.Common.{◌≡◌, ap, inl, inr, sym, true≢false, ◌∙◌}
 use denote.Ref.{Bor}
 use Rattle.syn_grammar.specs.Tree.{Tree}
 use Rattle.gram_table.specs.Ops.{separator_of}
@@ -33,8 +33,8 @@ returns-in-Turns c =
     let mark = separator_of list.separator in
     let xs = c.in-Turns.turns.now.each.now in
     let view : c.args.tree.now ≡ turns xs = sym c.tree.view_is ∙ ap tree_of c.in-Turns.is in (
-      λ e. sym (none_same f xs mark list.before.now list.last (c.are_none.ensures.0 e)) ∙ sym view,
-      λ e. c.are_none.ensures.1 (no_elements f xs mark list.before.now list.last (sym view ∙ sym e)),
+      λ e. sym (none_same f xs mark list.before.now list.last (c.are_none-in-Turns.ensures.0 e)) ∙ sym view,
+      λ e. c.are_none-in-Turns.ensures.1 (no_elements f xs mark list.before.now list.last (sym view ∙ sym e)),
     )
 
 pub returns-in-End : goal.returns-in-End
@@ -42,8 +42,9 @@ returns-in-End c =
     let f = λ (b : Bor Tree). b.now in
     let list = c.args.list.now in
     let mark = separator_of list.separator in
-    let xs : List Tree = [] in
-    let view : c.args.tree.now ≡ turns xs = sym c.tree.view_is ∙ ap tree_of c.in-End.is in (
+    let xs = c.no_turn.result.now in
+    let view : c.args.tree.now ≡ turns xs =
+    sym c.tree.view_is ∙ ap tree_of c.in-End.is ∙ sym (ap turns c.no_turn.ensures) in (
       λ e. sym (none_same f xs mark list.before.now list.last (c.are_none.ensures.0 e)) ∙ sym view,
       λ e. c.are_none.ensures.1 (no_elements f xs mark list.before.now list.last (sym view ∙ sym e)),
     )

@@ -1,8 +1,8 @@
-use Rattle.std.proofs.Common.{◌≡◌, [], ap, sym, ◌∙◌}
+use Rattle.std.proofs.Common.{◌≡◌, ap, sym, ◌∙◌}
 use denote.Ref.{Bor}
 use Rattle.syn_grammar.specs.Tree.{Tree}
 use Rattle.gram_table.specs.Ops.{separator_of}
-use Rattle.gram_tree.specs.Forms.{elements, ending, tree_of}
+use Rattle.gram_tree.specs.Forms.{elements, ending, tree_of, turns}
 use Rattle.gram_equal.proofs.Lefts.{no_elements, none_same, turns_left}
 use Rattle.gram_equal.proofs.Sorts.{AList, apart, no_list, not_one, sort_turns}
 use Rattle.gram_equal.proofs.rest.turns.Goals as goal
@@ -13,7 +13,8 @@ returns-in-Turns c =
 
 pub returns-in-End : goal.returns-in-End
 returns-in-End c =
-    turns_left c.args.turns.now [] c.args.tree.now (sym (ap tree_of c.in-End.is) ∙ c.tree.view_is)
+    turns_left c.args.turns.now c.no_turn.result.now c.args.tree.now
+    (ap turns c.no_turn.ensures ∙ sym (ap tree_of c.in-End.is) ∙ c.tree.view_is)
 
 pub returns-in-Elements : goal.returns-in-Elements
 returns-in-Elements c =
