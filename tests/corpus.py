@@ -1,30 +1,43 @@
 #!/usr/bin/env python3
 """Runs `canon` on real files, as one who uses it would. No part of the gate; docs/CORPUS.md says what came of it.
 
-  tests/corpus.py CANON PLACE..                 CANON is the built program, a PLACE a folder or a file
-  tests/corpus.py --peer PEER CANON PLACE..     asks a peer too
-  --jobs N                                      files at once (2)
-  --seconds N                                   what a run may take (60)
-  --all                                         lists each refusal and each difference, and not only those that need a look
+  tests/corpus.py CANON [PLACE..]           CANON is the built program, a PLACE a folder or a file; without one they are
+                                            Debian's rust-src, and behind it cargo's registry of Debian with the crates of
+                                            docs/CORPUS.md, whose packages are fetched
+  tests/corpus.py --peer CANON [PLACE..]    asks a peer too: corpus_peer.rs over syn and proc-macro2 of Debian's packages,
+                                            which is built with plain rustc, and not kept
+  --jobs N                                  files at once (2)
+  --seconds N                               what a run may take (60)
+  --all                                     lists each refusal and each difference, and not only those that need a look
 
 Of each `.rs` file in the folders: is it accepted; if so, is its output accepted and its own output; if not, by which form.
 That is guessed from the text at the fault's place, and `other` is what no guess fits. A run that ends by a signal, or takes
 too long, is listed by itself.
 
-A peer is a program that reads a text on standard input. `PEER file` reads it as a file by syn and prints the tokens of the
-tree, one a line, groups flat, a line feed in a literal as `\\n` and a backslash as two; `PEER lex` only lexes. It prints
-`refused: ..` and ends with 1 where it refuses. Where both accept, the tokens of `PEER file` of the text are compared with those
-of `PEER lex` of canon's output, and each difference is given to the departure that it looks like. Likewise the tokens of
-each accepted text with those of its output: what differs there is what normal form does.
+Where both accept, the tokens of the peer's tree of the text are compared with those of canon's output, and each difference is
+given to the departure that it looks like. Likewise the tokens of each accepted text with those of its output, all lexed by the
+peer: what differs there is what normal form does.
 """
 import argparse
 import collections
+import functools
 import os
 import re
 import subprocess
-from concurrent.futures import ThreadPoolExecutor
+import sys
+import tempfile
+from concurrent.futures import ProcessPoolExecutor
 
-CASE = collections.namedtuple('Case', 'name outcome fault own peer differences changes lines')
+HERE = os.path.dirname(os.path.abspath(__file__))
+sys.path.insert(0, os.path.join(os.path.dirname(HERE), 'bench'))
+from canon import peer_of
+from shapes import REGISTRY, fetch
+
+Case = collections.namedtuple('Case', 'name outcome fault own peer differences changes lines')
+
+# The packages whose crates, and those that they need, docs/CORPUS.md tells of.
+CRATES = ('serde serde-json regex regex-syntax libc rand syn quote proc-macro2 clap hashbrown indexmap itertools log memchr tokio '
+          'futures-util bitflags chrono num-traits').split()
 
 
 # Runs.
@@ -51,7 +64,16 @@ def files_of(places):
                     yield path, os.path.join(os.path.basename(place), os.path.relpath(path, place))
 
 
-def case_of(path, name, options):
+def debian():
+    """The folders of Debian's packages: the compiler with its library and tests, and the crates."""
+    fetch(*(f'librust-{name}-dev' for name in CRATES))
+    listed = subprocess.run(['dpkg', '-L', 'rust-src'], capture_output=True, text=True, check=True).stdout
+    library = next(line for line in listed.splitlines() if line.endswith('/library'))
+    return [os.path.dirname(library)], [REGISTRY]
+
+
+def case_of(options, pair):
+    path, name = pair
     with open(path, 'rb') as file:
         text = file.read()
     lines = text.count(b'\n')
@@ -62,7 +84,7 @@ def case_of(path, name, options):
         peer = 'accepted' if peer_status == 0 else 'refused' if peer_status == 1 else 'ended'
     if status != 0:
         outcome = 'refused' if status == 1 else 'too long' if status is None else 'ended with %d' % status
-        return CASE(name, outcome, fault_of(fault, text), None, peer, [], [], lines)
+        return Case(name, outcome, fault_of(fault, text), None, peer, [], [], lines)
     again, own_output, _ = run([options.canon], output, options.seconds)
     own = again == 0 and own_output == output
     differences, changes = [], []
@@ -75,7 +97,7 @@ def case_of(path, name, options):
             changes = list(differences_of(tokens_of(there), tokens_of(here)))
         if peer == 'accepted' and lexed == 0:
             differences = list(differences_of(tokens_of(peer_output), tokens_of(here)))
-    return CASE(name, 'accepted', None, own, peer, differences, changes, lines)
+    return Case(name, 'accepted', None, own, peer, differences, changes, lines)
 
 
 # Refusals.
@@ -128,12 +150,12 @@ def form_of(message, before, behind):
         return 'frontmatter'
     if 'lexical fault' in message:
         return 'lexical'
+    if re.search('may stand here|trait behind', message) and refused_item(first):
+        return refused_item(first)
     if not code_of(before).strip():
         return 'no whole file: its first token begins no item'
     if word == 'try' and re.match(r'!|::', first):
         return '`try!` and `try::`'
-    if 'may stand here' in message and refused_item(near):
-        return refused_item(near)
     if re.match(r'!\s*[(\[{]', first) and word:
         rest = code_of(first[1:].lstrip()[group_end(first[1:].lstrip()):]).lstrip()
         path = re.search(r'(?:\w|::|\$)*$', near)
@@ -161,7 +183,7 @@ def form_of(message, before, behind):
     if first.startswith('=') and near.endswith('>'):
         return '`Name<..> =` among arguments'
     if first.startswith('...'):
-        if re.search(r'\bfn\s*\([^()]*$', near):
+        if re.search(r'\bfn\b[^(]*\([^()]*$', near):
             return '`...` in a function pointer, or not at the end'
         return '`...` in patterns'
     if re.match(r'\+', first) and re.search(r'[\w>)]$', near):
@@ -169,7 +191,7 @@ def form_of(message, before, behind):
     if re.search(r'=\s*$', near) and re.match(r"-?\d|[\"'{]|true|false", first) and 'const' not in word:
         return 'constant in an equality'
     if word == 'try' and first.startswith('(') or re.match(r'(?:async|await|dyn|try)\b', first) and (
-            'expected identifier' in message or first.startswith('await!')):
+            re.search('expected (?:identifier|pattern)', message) or first.startswith('await!')):
         return '`async`, `await`, `dyn` or `try` as a name'
     if first.startswith('(') and re.search(r'(?:\b(?:dyn|impl)|\+|\w\s*:)$', near):
         return 'bound in parentheses'
@@ -196,27 +218,23 @@ def form_of(message, before, behind):
     if re.search(r'\.\.=$', near):
         return '`..=` without an end'
     if (re.match(r':(?!:)', first) and re.search(r'[\w)\]}>]$', near)
-            and re.search(r'expected (?:`;`|expression|no token)', message)):
+            and re.search(r'expected (?:`[;,]`|expression|no token)', message)):
         return 'type ascription'
     if re.match(r'mut\s+self', first):
         return '`mut self` in a function pointer'
-    if re.search(r'\bself(?:\s*:[^(),]*)?\)$', near):
+    if 'before all parameters' in message and re.match(r"(?:&\s*(?:'\w+\s+)?)?(?:mut\s+)?self\b", first):
         return 'a receiver that is not first'
     return 'other'
 
 
-def refused_item(near):
-    """The form of the item that ends with a text, where it is read and then refused."""
-    heads = list(re.finditer(r'(?m)(?:^|[;{}])\s*((?:pub(?:\s*\([^()]*\))?\s+)?(?:default\s+)?(?:unsafe\s+)?'
-                             r'(?:impl\b|extern\b|\w+\s*!)[^{;]*)[{;]', near))
-    if not heads or not re.search(r'[};]$', near):
+def refused_item(first):
+    """The form of the item that a text begins with, where it is read and then refused."""
+    head = re.match(r'(pub(?:\s*\([^()]*\))?\s+)?(?:default\s+)?(?:unsafe\s+)?(?:(impl)\b|extern\b|[\w:]+\s*!)([^{;]*)', first)
+    if not head:
         return None
-    head = heads[-1][1]
-    if re.match(r'pub\b.*?\bimpl\b', head, re.S):
-        return '`pub impl`'
-    if re.match(r'pub\b', head):
-        return '`pub` before a macro or an extern block'
-    if re.match(r'(?:unsafe\s+)?impl\b(?:\s*<[^{]*>)?\s*!', head) and not re.search(r'\bfor\b', head):
+    if head[1]:
+        return '`pub impl`' if head[2] else '`pub` before a macro or an extern block'
+    if head[2] and re.match(r'(?:\s*<[^{]*>)?\s*!', head[3]) and not re.search(r'\bfor\b', head[3]):
         return '`impl !Trait` without `for`'
     return None
 
@@ -338,15 +356,28 @@ def departure_of(there, here, i, j, p, q):
 def main():
     parser = argparse.ArgumentParser(description=__doc__, formatter_class=argparse.RawDescriptionHelpFormatter)
     parser.add_argument('canon')
-    parser.add_argument('places', nargs='+')
-    parser.add_argument('--peer')
+    parser.add_argument('places', nargs='*', metavar='place')
+    parser.add_argument('--peer', action='store_true')
     parser.add_argument('--jobs', type=int, default=2)
     parser.add_argument('--seconds', type=float, default=60)
     parser.add_argument('--all', action='store_true')
     options = parser.parse_args()
-    found = sorted(files_of(options.places), key=lambda pair: pair[1])
-    with ThreadPoolExecutor(options.jobs) as pool:
-        cases = list(pool.map(lambda pair: case_of(*pair, options), found))
+    options.canon = os.path.abspath(options.canon)
+    lists = [options.places] if options.places else debian()
+    with tempfile.TemporaryDirectory() as work:
+        if options.peer:
+            fetch('librust-syn-dev', 'librust-quote-dev')
+            options.peer = peer_of(work, [], os.path.join(HERE, 'corpus_peer.rs'))
+        for places in lists:
+            print('# ' + ' '.join(places))
+            report(places, options)
+
+
+def report(places, options):
+    """Runs the files of some places, and prints what came of them."""
+    found = sorted(files_of(places), key=lambda pair: pair[1])
+    with ProcessPoolExecutor(options.jobs) as pool:
+        cases = list(pool.map(functools.partial(case_of, options), found, chunksize=16))
     accepted = [c for c in cases if c.outcome == 'accepted']
     refused = [c for c in cases if c.outcome == 'refused']
     print('%d files, %d lines' % (len(cases), sum(c.lines for c in cases)))
