@@ -4,5 +4,3 @@ pub mod Leaves
 pub mod Nodes
 pub mod Firsts
 pub mod Nests
-pub mod Alone
-pub mod Same

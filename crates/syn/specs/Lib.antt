@@ -4,6 +4,3 @@ pub mod Nodes
 pub mod Reading
 pub mod Streams
 pub mod Nests
-pub mod Alone
-pub mod Entries
-pub mod Optional

@@ -14,34 +14,21 @@
 //! - `tokens`: tokens that are to be written, as a stream of trees.
 //! - `leaf`: the leaves of a tree, in their order, each with where it stands but marks between elements.
 //! - `node`: its nodes and the forms of its expressions, at every depth.
-//! - `typed`: forms that are read as a type of the syntax tree; `forms`, `type_forms`, `item_forms`, `parts`: the types that
-//!   are.
-//! - `whole`: items of one kind that are read as a type with their attributes and their visibility.
-//! - `optional`: forms that may be missing; `safety`: whether a function is safe to call.
-//! - `written`: whether what is written of two trees is the same.
-//! - `values`: literals by their class, with what they write, operators and members.
-//! - `laws`: laws of items and of raw tokens, which are those of `item_laws`: how an item of one kind is read by itself,
-//!   invisible groups, and the spacing of raw tokens.
+//! - `typed`: forms that are read as a type of the syntax tree; `forms`, `type_forms`, `parts`: the types that are.
 #![tactic(auto)]
 
 mod forms;
-mod item_forms;
 pub mod leaf;
 pub mod node;
-pub mod optional;
 pub mod parse;
 mod parts;
 pub mod peek;
 pub mod reader;
 mod reading;
-mod safety;
 pub mod stream;
 pub mod tokens;
 mod type_forms;
 pub mod typed;
-pub mod values;
-pub mod whole;
-pub mod written;
 
 pub use gram_build::build::write_in;
 pub use gram_equal::tree::equal;
@@ -72,14 +59,9 @@ pub use gram_tree::tree::Tree;
 pub use gram_tree::tree::Two;
 pub use gram_write::as_read::put_as_read;
 pub use gram_write::write::write;
-pub use item_forms::OneImplItem;
-pub use item_forms::OneTraitItem;
-pub use item_laws::laws;
 pub use leaf::Leaf;
 pub use leaf::put_leaves;
 pub use node::put_nodes;
-pub use optional::ParseOptional;
-pub use optional::ParseOptionalForm;
 pub use parse::parse_as;
 pub use parse::parse_file;
 pub use parse::parse_front;
@@ -342,20 +324,7 @@ pub use syn_item::members::AssociatedForm;
 pub use syn_item::members::AssociatedItem;
 pub use syn_item::members::ForeignForm;
 pub use syn_item::members::ForeignItem;
-pub use syn_item::members::ForeignItemFn;
-pub use syn_item::members::ForeignItemMacro;
-pub use syn_item::members::ForeignItemType;
 pub use syn_item::members::ForeignStatic;
-pub use syn_item::members::ImplItem;
-pub use syn_item::members::ImplItemConst;
-pub use syn_item::members::ImplItemFn;
-pub use syn_item::members::ImplItemMacro;
-pub use syn_item::members::ImplItemType;
-pub use syn_item::members::TraitItem;
-pub use syn_item::members::TraitItemConst;
-pub use syn_item::members::TraitItemFn;
-pub use syn_item::members::TraitItemMacro;
-pub use syn_item::members::TraitItemType;
 pub use syn_item::modifiers::ConstModifiers;
 pub use syn_item::modifiers::FnModifiers;
 pub use syn_item::modifiers::ImplModifiers;
@@ -378,9 +347,5 @@ pub use syn_item::uses::UseRename;
 pub use syn_item::uses::UseTop;
 pub use syn_item::uses::UseTree;
 pub use tokens::stream_of;
-pub use tokens::to_stream;
 pub use typed::Parse;
 pub use typed::parse2;
-pub use whole::OneItem;
-pub use whole::ParseItem;
-pub use written::same;
