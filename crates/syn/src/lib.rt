@@ -15,6 +15,9 @@
 //! - `leaf`: the leaves of a tree, in their order, each with where it stands but marks between elements.
 //! - `node`: its nodes and the forms of its expressions, at every depth.
 //! - `typed`: forms that are read as a type of the syntax tree; `forms`, `type_forms`, `parts`: the types that are.
+//! - `values`: literals by their class, with what they write, operators and members.
+//! - `laws`: laws of items and of raw tokens, which are those of `item_laws`: how an item of one kind is read by itself,
+//!   invisible groups, and the spacing of raw tokens.
 #![tactic(auto)]
 
 mod forms;
@@ -29,6 +32,7 @@ pub mod stream;
 pub mod tokens;
 mod type_forms;
 pub mod typed;
+pub mod values;
 
 pub use gram_build::build::write_in;
 pub use gram_equal::tree::equal;
@@ -59,6 +63,7 @@ pub use gram_tree::tree::Tree;
 pub use gram_tree::tree::Two;
 pub use gram_write::as_read::put_as_read;
 pub use gram_write::write::write;
+pub use item_laws::laws;
 pub use leaf::Leaf;
 pub use leaf::put_leaves;
 pub use node::put_nodes;
@@ -324,7 +329,20 @@ pub use syn_item::members::AssociatedForm;
 pub use syn_item::members::AssociatedItem;
 pub use syn_item::members::ForeignForm;
 pub use syn_item::members::ForeignItem;
+pub use syn_item::members::ForeignItemFn;
+pub use syn_item::members::ForeignItemMacro;
+pub use syn_item::members::ForeignItemType;
 pub use syn_item::members::ForeignStatic;
+pub use syn_item::members::ImplItem;
+pub use syn_item::members::ImplItemConst;
+pub use syn_item::members::ImplItemFn;
+pub use syn_item::members::ImplItemMacro;
+pub use syn_item::members::ImplItemType;
+pub use syn_item::members::TraitItem;
+pub use syn_item::members::TraitItemConst;
+pub use syn_item::members::TraitItemFn;
+pub use syn_item::members::TraitItemMacro;
+pub use syn_item::members::TraitItemType;
 pub use syn_item::modifiers::ConstModifiers;
 pub use syn_item::modifiers::FnModifiers;
 pub use syn_item::modifiers::ImplModifiers;
