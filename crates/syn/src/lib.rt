@@ -14,13 +14,15 @@
 //! - `tokens`: tokens that are to be written, as a stream of trees.
 //! - `leaf`: the leaves of a tree, in their order, each with where it stands but marks between elements.
 //! - `node`: its nodes and the forms of its expressions, at every depth.
-//! - `typed`: forms that are read as a type of the syntax tree; `forms`, `type_forms`, `parts`: the types that are.
+//! - `typed`: forms that are read as a type of the syntax tree; `forms`, `type_forms`, `item_forms`, `parts`: the types that
+//!   are.
 //! - `values`: literals by their class, with what they write, operators and members.
 //! - `laws`: laws of items and of raw tokens, which are those of `item_laws`: how an item of one kind is read by itself,
 //!   invisible groups, and the spacing of raw tokens.
 #![tactic(auto)]
 
 mod forms;
+mod item_forms;
 pub mod leaf;
 pub mod node;
 pub mod parse;
@@ -63,6 +65,8 @@ pub use gram_tree::tree::Tree;
 pub use gram_tree::tree::Two;
 pub use gram_write::as_read::put_as_read;
 pub use gram_write::write::write;
+pub use item_forms::OneImplItem;
+pub use item_forms::OneTraitItem;
 pub use item_laws::laws;
 pub use leaf::Leaf;
 pub use leaf::put_leaves;
