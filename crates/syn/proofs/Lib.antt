@@ -4,3 +4,4 @@ pub mod Leaves
 pub mod Nodes
 pub mod Firsts
 pub mod Nests
+pub mod Alone

@@ -4,3 +4,4 @@ pub mod Nodes
 pub mod Reading
 pub mod Streams
 pub mod Nests
+pub mod Alone

@@ -4,17 +4,21 @@
 //! its clause again, as the prover gives a method without arguments none of the trait's where the type has a lifetime.
 
 ghost use Rattle.gram_table.specs.Kinds.{kind_of};
-ghost use Rattle.std.specs.Prelude.{◌≡◌, Some};
-ghost use Rattle.syn_ast.specs.Attributes.{meta, outer_attributes};
+ghost use Rattle.std.specs.Prelude.{◌≡◌, MatchOption, Some};
+ghost use Rattle.syn.specs.Alone.{IsStmtAlone};
+ghost use Rattle.syn_ast.specs.Attributes.{inner_attributes, meta, outer_attributes};
 ghost use Rattle.syn_ast.specs.Generics.{generics, where_clause};
+ghost use Rattle.syn_ast.specs.Kept.{IsKept};
 ghost use Rattle.syn_ast.specs.Paths.{path};
+ghost use Rattle.syn_ast.specs.Shape.{IsShaped};
 ghost use Rattle.syn_ast.specs.Types.{form_of_type, type_tree};
 ghost use Rattle.syn_ast.specs.Visibility.{visibility};
 ghost use Rattle.syn_data.specs.Derive.{IsEnded, derive_input};
 ghost use Rattle.syn_expr.specs.Blocks.{block, file};
 ghost use Rattle.syn_expr.specs.ExprWhole.{which};
-ghost use Rattle.syn_expr.specs.Statements.{IsStmt};
+ghost use Rattle.syn_expr.specs.Statements.{statements};
 ghost use Rattle.syn_grammar.specs.Forms.{form_of};
+ghost use Rattle.syn_grammar.specs.Gram.{ref};
 ghost use Rattle.syn_grammar.specs.Kind as k;
 ghost use Rattle.syn_item.specs.ItemForms.{Is};
 ghost use Rattle.syn_item.specs.ItemUses.{use_tree};
@@ -22,7 +26,7 @@ ghost use Rattle.syn_item.specs.ItemUses.{use_tree};
 use crate::typed::Parse;
 use gram_table::kind::{Kind, Plus, Position, Style};
 use gram_tree::tree::Tree;
-use syn_ast::attributes::{Meta, OuterAttributes};
+use syn_ast::attributes::{InnerAttributes, Meta, OuterAttributes};
 use syn_ast::generics::{Generics, WhereClause};
 use syn_ast::paths::Path;
 use syn_ast::types::Type;
@@ -30,7 +34,7 @@ use syn_ast::visibility::Visibility;
 use syn_data::derive::DeriveInput;
 use syn_expr::blocks::{Block, File};
 use syn_expr::expr::whole::Expr;
-use syn_expr::stmt::Stmt;
+use syn_expr::stmt::{OneStatement, Statements, Stmt};
 use syn_item::item::Item;
 use syn_item::uses::UseTree;
 
@@ -148,6 +152,26 @@ impl<'a> Parse<'a> for OuterAttributes<'a, 'a> {
     #[tactic(auto, using(syn_ast::proofs::Derived::shaped))]
     fn view(tree: &'a Tree<'a>) -> Option<OuterAttributes<'a, 'a>> {
         match OuterAttributes::of(tree) {
+            Some(found) => Some(found),
+            None => None,
+        }
+    }
+}
+
+impl<'a> Parse<'a> for InnerAttributes<'a, 'a> {
+    ghost kind = { k.InnerAttributes };
+
+    ghost says = { λ x tree. tree ≡ inner_attributes x };
+
+    fn kind() -> Kind
+        ensures { kind_of result ≡ k.InnerAttributes }
+    {
+        Kind::InnerAttributes
+    }
+
+    #[tactic(auto, using(syn_ast::proofs::Derived::shaped))]
+    fn view(tree: &'a Tree<'a>) -> Option<InnerAttributes<'a, 'a>> {
+        match InnerAttributes::of(tree) {
             Some(found) => Some(found),
             None => None,
         }
@@ -294,20 +318,53 @@ impl<'a> Parse<'a> for Block<'a, 'a> {
     }
 }
 
-impl<'a> Parse<'a> for Stmt<'a, 'a> {
-    ghost kind = { k.AStatement };
+impl<'a> Parse<'a> for Statements<'a, 'a> {
+    ghost kind = { k.Statements };
 
-    ghost says = { λ x tree. IsStmt tree x };
+    ghost says = { λ x tree. tree ≡ statements x };
 
     fn kind() -> Kind
-        ensures { kind_of result ≡ k.AStatement }
+        ensures { kind_of result ≡ k.Statements }
     {
-        Kind::AStatement
+        Kind::Statements
     }
 
-    #[tactic(auto, using(syn_ast::proofs::Derived::shaped))]
+    fn view(tree: &'a Tree<'a>) -> Option<Statements<'a, 'a>> {
+        match Statements::of(tree) {
+            Some(found) => Some(found),
+            None => None,
+        }
+    }
+}
+
+// What a statement that is read by itself is.
+#[tactic(auto, unfolding(syn_grammar::specs::Table::table))]
+fn one_stmt<'a>(tree: &'a Tree<'a>) -> Option<Stmt<'a, 'a>>
+    ensures { MatchOption result (IsKept tree.now → IsShaped tree.now (ref k.OneStatement) → ⊥)
+        (λ x. IsStmtAlone tree.now x) }
+{
+    match OneStatement::of(tree) {
+        Some(alone) => match Stmt::of(alone.stmt) {
+            Some(found) => Some(found),
+            None => None,
+        },
+        None => None,
+    }
+}
+
+impl<'a> Parse<'a> for Stmt<'a, 'a> {
+    ghost kind = { k.OneStatement };
+
+    ghost says = { λ x tree. IsStmtAlone tree x };
+
+    fn kind() -> Kind
+        ensures { kind_of result ≡ k.OneStatement }
+    {
+        Kind::OneStatement
+    }
+
     fn view(tree: &'a Tree<'a>) -> Option<Stmt<'a, 'a>> {
-        match Stmt::of(tree) {
+        match one_stmt(tree) {
             Some(found) => Some(found),
             None => None,
         }

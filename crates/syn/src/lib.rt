@@ -14,10 +14,15 @@
 //! - `tokens`: tokens that are to be written, as a stream of trees.
 //! - `leaf`: the leaves of a tree, in their order, each with where it stands but marks between elements.
 //! - `node`: its nodes and the forms of its expressions, at every depth.
-//! - `typed`: forms that are read as a type of the syntax tree; `forms`, `type_forms`, `parts`: the types that are.
+//! - `typed`: forms that are read as a type of the syntax tree; `forms`, `type_forms`, `item_forms`, `parts`: the types that
+//!   are.
+//! - `values`: literals by their class, with what they write, operators and members.
+//! - `laws`: laws of items and of raw tokens, which are those of `item_laws`: how an item of one kind is read by itself,
+//!   invisible groups, and the spacing of raw tokens.
 #![tactic(auto)]
 
 mod forms;
+mod item_forms;
 pub mod leaf;
 pub mod node;
 pub mod parse;
@@ -29,6 +34,7 @@ pub mod stream;
 pub mod tokens;
 mod type_forms;
 pub mod typed;
+pub mod values;
 
 pub use gram_build::build::write_in;
 pub use gram_equal::tree::equal;
@@ -59,6 +65,9 @@ pub use gram_tree::tree::Tree;
 pub use gram_tree::tree::Two;
 pub use gram_write::as_read::put_as_read;
 pub use gram_write::write::write;
+pub use item_forms::OneImplItem;
+pub use item_forms::OneTraitItem;
+pub use item_laws::laws;
 pub use leaf::Leaf;
 pub use leaf::put_leaves;
 pub use node::put_nodes;
@@ -324,7 +333,20 @@ pub use syn_item::members::AssociatedForm;
 pub use syn_item::members::AssociatedItem;
 pub use syn_item::members::ForeignForm;
 pub use syn_item::members::ForeignItem;
+pub use syn_item::members::ForeignItemFn;
+pub use syn_item::members::ForeignItemMacro;
+pub use syn_item::members::ForeignItemType;
 pub use syn_item::members::ForeignStatic;
+pub use syn_item::members::ImplItem;
+pub use syn_item::members::ImplItemConst;
+pub use syn_item::members::ImplItemFn;
+pub use syn_item::members::ImplItemMacro;
+pub use syn_item::members::ImplItemType;
+pub use syn_item::members::TraitItem;
+pub use syn_item::members::TraitItemConst;
+pub use syn_item::members::TraitItemFn;
+pub use syn_item::members::TraitItemMacro;
+pub use syn_item::members::TraitItemType;
 pub use syn_item::modifiers::ConstModifiers;
 pub use syn_item::modifiers::FnModifiers;
 pub use syn_item::modifiers::ImplModifiers;

@@ -8,7 +8,7 @@ ghost use Rattle.syn_ast.specs.Paths.{one_segment, parenthesized_generic_argumen
 ghost use Rattle.syn_ast.specs.TypeBounds.{trait_bound, type_param_bound};
 ghost use Rattle.syn_data.specs.Data.{fields_named, fields_unnamed, variant};
 ghost use Rattle.syn_expr.specs.Blocks.{label};
-ghost use Rattle.syn_expr.specs.ExprParts.{field_value};
+ghost use Rattle.syn_expr.specs.ExprParts.{arm, field_value};
 ghost use Rattle.syn_grammar.specs.Kind as k;
 
 use crate::typed::Parse;
@@ -22,7 +22,7 @@ use syn_ast::paths::{
 };
 use syn_data::data::{FieldsNamed, FieldsUnnamed, Variant};
 use syn_expr::blocks::Label;
-use syn_expr::expr::parts::FieldValue;
+use syn_expr::expr::parts::{Arm, FieldValue};
 
 impl<'a> Parse<'a> for OneSegment<'a, 'a> {
     ghost kind = { k.Segment k.InType };
@@ -398,6 +398,25 @@ impl<'a> Parse<'a> for FieldValue<'a, 'a> {
     #[tactic(auto, using(syn_ast::proofs::Derived::shaped))]
     fn view(tree: &'a Tree<'a>) -> Option<FieldValue<'a, 'a>> {
         match FieldValue::of(tree) {
+            Some(found) => Some(found),
+            None => None,
+        }
+    }
+}
+
+impl<'a> Parse<'a> for Arm<'a, 'a> {
+    ghost kind = { k.Arm };
+
+    ghost says = { λ x tree. tree ≡ arm x };
+
+    fn kind() -> Kind
+        ensures { kind_of result ≡ k.Arm }
+    {
+        Kind::Arm
+    }
+
+    fn view(tree: &'a Tree<'a>) -> Option<Arm<'a, 'a>> {
+        match Arm::of(tree) {
             Some(found) => Some(found),
             None => None,
         }

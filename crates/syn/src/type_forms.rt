@@ -3,15 +3,16 @@
 ghost use Rattle.gram_table.specs.Kinds.{kind_of};
 ghost use Rattle.std.specs.Prelude.{◌≡◌};
 ghost use Rattle.syn_ast.specs.Types.{abi, bound_lifetimes, fn_ptr_arg, return_type, type_fn_ptr, type_impl_trait};
-ghost use Rattle.syn_ast.specs.Types.{type_infer, type_never, type_path, type_ptr, type_reference, type_trait_object};
+ghost use Rattle.syn_ast.specs.Types.{type_bracketed, type_infer, type_never, type_parenthesized, type_path, type_ptr};
+ghost use Rattle.syn_ast.specs.Types.{type_reference, type_trait_object};
 ghost use Rattle.syn_grammar.specs.Kind as k;
 
 use crate::typed::Parse;
 use gram_table::kind::{Kind, Plus, Style};
 use gram_tree::tree::Tree;
 use syn_ast::types::{
-    Abi, BoundLifetimes, FnPtrArg, ReturnType, TypeFnPtr, TypeImplTrait, TypeInfer, TypeNever,
-    TypePath, TypePtr, TypeReference, TypeTraitObject,
+    Abi, BoundLifetimes, FnPtrArg, ReturnType, TypeBracketed, TypeFnPtr, TypeImplTrait, TypeInfer,
+    TypeNever, TypeParenthesized, TypePath, TypePtr, TypeReference, TypeTraitObject,
 };
 
 impl<'a> Parse<'a> for TypeReference<'a, 'a> {
@@ -248,6 +249,46 @@ impl<'a> Parse<'a> for ReturnType<'a, 'a> {
     #[tactic(auto, using(syn_ast::proofs::Derived::shaped))]
     fn view(tree: &'a Tree<'a>) -> Option<ReturnType<'a, 'a>> {
         match ReturnType::of(tree) {
+            Some(found) => Some(found),
+            None => None,
+        }
+    }
+}
+
+impl<'a> Parse<'a> for TypeBracketed<'a, 'a> {
+    ghost kind = { k.BracketType };
+
+    ghost says = { λ x tree. tree ≡ type_bracketed x };
+
+    fn kind() -> Kind
+        ensures { kind_of result ≡ k.BracketType }
+    {
+        Kind::BracketType
+    }
+
+    #[tactic(auto, using(syn_ast::proofs::Derived::shaped))]
+    fn view(tree: &'a Tree<'a>) -> Option<TypeBracketed<'a, 'a>> {
+        match TypeBracketed::of(tree) {
+            Some(found) => Some(found),
+            None => None,
+        }
+    }
+}
+
+impl<'a> Parse<'a> for TypeParenthesized<'a, 'a> {
+    ghost kind = { k.TupleType };
+
+    ghost says = { λ x tree. tree ≡ type_parenthesized x };
+
+    fn kind() -> Kind
+        ensures { kind_of result ≡ k.TupleType }
+    {
+        Kind::TupleType
+    }
+
+    #[tactic(auto, using(syn_ast::proofs::Derived::shaped))]
+    fn view(tree: &'a Tree<'a>) -> Option<TypeParenthesized<'a, 'a>> {
+        match TypeParenthesized::of(tree) {
             Some(found) => Some(found),
             None => None,
         }
