@@ -5,3 +5,4 @@ pub mod Reading
 pub mod Streams
 pub mod Nests
 pub mod Alone
+pub mod Optional

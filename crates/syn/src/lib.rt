@@ -16,6 +16,8 @@
 //! - `node`: its nodes and the forms of its expressions, at every depth.
 //! - `typed`: forms that are read as a type of the syntax tree; `forms`, `type_forms`, `item_forms`, `parts`: the types that
 //!   are.
+//! - `optional`: forms that may be missing; `safety`: whether a function is safe to call.
+//! - `written`: whether what is written of two trees is the same.
 //! - `values`: literals by their class, with what they write, operators and members.
 //! - `laws`: laws of items and of raw tokens, which are those of `item_laws`: how an item of one kind is read by itself,
 //!   invisible groups, and the spacing of raw tokens.
@@ -25,16 +27,19 @@ mod forms;
 mod item_forms;
 pub mod leaf;
 pub mod node;
+pub mod optional;
 pub mod parse;
 mod parts;
 pub mod peek;
 pub mod reader;
 mod reading;
+mod safety;
 pub mod stream;
 pub mod tokens;
 mod type_forms;
 pub mod typed;
 pub mod values;
+pub mod written;
 
 pub use gram_build::build::write_in;
 pub use gram_equal::tree::equal;
@@ -71,6 +76,8 @@ pub use item_laws::laws;
 pub use leaf::Leaf;
 pub use leaf::put_leaves;
 pub use node::put_nodes;
+pub use optional::ParseOptional;
+pub use optional::ParseOptionalForm;
 pub use parse::parse_as;
 pub use parse::parse_file;
 pub use parse::parse_front;
@@ -369,5 +376,7 @@ pub use syn_item::uses::UseRename;
 pub use syn_item::uses::UseTop;
 pub use syn_item::uses::UseTree;
 pub use tokens::stream_of;
+pub use tokens::to_stream;
 pub use typed::Parse;
 pub use typed::parse2;
+pub use written::same;

@@ -7,7 +7,7 @@ ghost use Rattle.gram_table.specs.Words.{literals_of, sign_text, words_of};
 ghost use Rattle.gram_run.specs.declared.refusal.Wanted.TheVariants as wanted;
 ghost use Rattle.rust_leaf.specs.Leaf.{ident_text, literal_text};
 ghost use Rattle.rust_map.specs.Spans.{call_site, last_of};
-ghost use Rattle.std.specs.Prelude.{◌↔◌, ◌≡◌, [], IfErr, IfOk, IsTrue, OnErr};
+ghost use Rattle.std.specs.Prelude.{◌↔◌, ◌≡◌, [], IfErr, IfNone, IfOk, IfSome, IsTrue, OnErr};
 ghost use Rattle.syn.specs.Reading.{NoGroup, NoLiteral, NoSign, NoWord, StandsGroup, StandsLiteral, StandsSign, StandsWord};
 ghost use Rattle.syn.specs.Reading.{SaysWanted, left, standing};
 ghost use Rattle.syn_buffer.specs.Entries.{is_whole};
@@ -160,6 +160,22 @@ impl<'a> Reader<'a> {
         }
     }
 
+    /// Reads the word that stands there, if it passes; `None`, and nothing is read, exactly where none does.
+    pub fn optional_word(&mut self, words: Words) -> Option<&'a Ident>
+        ensures read { IfSome result (λ i. StandsWord (words_of words) (ident_text i.now) (left self.old) (left self.new)) }
+        ensures missing { IfNone result (NoWord (words_of words) (left self.old) × (self.new ≡ self.old)) }
+    {
+        if let [entry, rest @ ..] = self.entries {
+            if let Entry::Ident(ident) = *entry {
+                if leaf::word(words, ident) {
+                    *self = self.past(rest);
+                    return Some(ident);
+                }
+            }
+        }
+        None
+    }
+
     /// Reads the word that stands there, a keyword or an identifier whose text passes.
     ///
     /// # Errors
@@ -172,15 +188,10 @@ impl<'a> Reader<'a> {
         ensures said { IfErr result (SaysWanted (wanted.Word words) self.old) }
         ensures stays { OnErr result (self.new ≡ self.old) }
     {
-        if let [entry, rest @ ..] = self.entries {
-            if let Entry::Ident(ident) = *entry {
-                if leaf::word(words, ident) {
-                    *self = self.past(rest);
-                    return Ok(ident);
-                }
-            }
+        match self.optional_word(words) {
+            Some(ident) => Ok(ident),
+            None => Err(self.wanting(Wanted::Word(words))),
         }
-        Err(self.wanting(Wanted::Word(words)))
     }
 
     /// Reads the literal that stands there and passes. `true` and `false` are words.

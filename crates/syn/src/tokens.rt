@@ -1,14 +1,19 @@
 //! Tokens that are to be written, as a stream of trees.
 
 ghost use Rattle.gram_piece.specs.Pieces.{piece_token};
+ghost use Rattle.gram_write.specs.Formed.{IsFormed};
+ghost use Rattle.gram_write.specs.Said.{said};
 ghost use Rattle.proc_macro2.specs.Entered.{entered};
 ghost use Rattle.proc_macro2.specs.Token.{Closes, Opens, Token, plain};
 ghost use Rattle.rust_leaf.specs.Leaf.{literal_text};
 ghost use Rattle.proc_macro2.specs.Token as token;
 ghost use Rattle.std.specs.Prelude.{◌++◌, ◌∷◌, ◌≡◌, [], IfNone, IfOk, IfSome, List, OnOk, false, map, true};
 ghost use Rattle.syn.specs.Nests.{are_trees, is_leaf, nest_tokens, opened, stand};
+ghost use Rattle.syn_grammar.specs.Kind.{Position};
 
 use gram_piece::piece::Piece;
+use gram_tree::tree::Tree;
+use gram_write::write::write;
 use proc_macro2::delimiter::Delimiter;
 use proc_macro2::tree::{Group, TokenStream, TokenTree};
 use rust_leaf::ident::Ident;
@@ -169,4 +174,21 @@ pub fn stream_of(alloc: Global, pieces: &[Piece<'_>]) -> Result<Option<TokenStre
     } else {
         Ok(None)
     }
+}
+
+/// The stream of what is written of a tree: of the tokens of the normal form of what a syntax tree holds of it, in any
+/// position in which the tree is formed, as each is that was read. There is none where these are those of no stream, as
+/// `stream_of` says.
+///
+/// # Errors
+///
+/// Where there is no memory for it.
+pub fn to_stream(alloc: Global, tree: &Tree<'_>) -> Result<Option<TokenStream>, AllocError>
+    ensures some { IfOk result (λ o. IfSome o (λ s. (p : Position) → IsFormed p tree.now → plain s ≡ said p tree.now)) }
+    ensures none { IfOk result (λ o. IfNone o ((p : Position) → IsFormed p tree.now
+        → are_trees (said p tree.now) ≡ false)) }
+{
+    let mut pieces = Vec::new(alloc);
+    write(tree, &mut pieces)?;
+    stream_of(alloc, pieces.as_slice())
 }
