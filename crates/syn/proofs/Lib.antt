@@ -5,4 +5,4 @@ pub mod Nodes
 pub mod Firsts
 pub mod Nests
 pub mod Alone
-pub mod Same
+pub mod Alike

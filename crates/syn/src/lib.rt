@@ -77,7 +77,6 @@ pub use leaf::Leaf;
 pub use leaf::put_leaves;
 pub use node::put_nodes;
 pub use optional::ParseOptional;
-pub use optional::ParseOptionalForm;
 pub use parse::parse_as;
 pub use parse::parse_file;
 pub use parse::parse_front;

@@ -36,7 +36,7 @@ fn same_literal(a: &Literal, b: &Literal) -> bool
 }
 
 // A word is `_`.
-#[tactic(auto, using(crate::proofs::Same::underscore))]
+#[tactic(auto, using(crate::proofs::Alike::underscore))]
 fn is_underscore(word: &Ident) -> bool
     ensures { IsTrue result ↔ (ident_text word.now ≡ codes "_") }
 {
