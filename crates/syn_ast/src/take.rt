@@ -347,7 +347,11 @@ pub fn list<'t, 'a>(tree: &'t Tree<'a>) -> Option<Elements<'t, 'a>>
             last: list.last,
         }),
         Form::End => Some(no_elements()),
-        Form::Turns(turns) => if turns.each.is_empty() { Some(no_elements()) } else { None },
+        Form::Turns(turns) => if turns.each.is_empty() {
+            Some(no_elements())
+        } else {
+            None
+        },
         _ => None,
     }
 }

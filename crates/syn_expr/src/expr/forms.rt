@@ -132,7 +132,11 @@ pub fn nth<'t, 'a>(tree: &'t Tree<'a>, number: usize) -> Option<&'t Tree<'a>>
         (λ x. tree.now ≡ nth_tree number x.now) }
 {
     match &tree.form {
-        Form::First(depth, inner) => if *depth as usize == number { Some(inner) } else { None },
+        Form::First(depth, inner) => if *depth as usize == number {
+            Some(inner)
+        } else {
+            None
+        },
         Form::Second(depth, inner) => {
             let depth = *depth as usize;
             if depth < number {
