@@ -96,6 +96,7 @@ pub use reader::ReadSign;
 pub use reader::Reader;
 pub use stream::ParseForm;
 pub use stream::ParseForms;
+pub use stream::ParseOptionalForm;
 pub use syn_ast::attributes::AttrStyle;
 pub use syn_ast::attributes::Attribute;
 pub use syn_ast::attributes::InnerAttributes;
