@@ -11,6 +11,7 @@
 //! - `peek`: whether an expression begins there.
 //! - `reader`, `reading`: forms and tokens, read one behind the other.
 //! - `stream`: forms read from a `ParseBuffer`, among tokens.
+//! - `text`: a text, read by a function in one call.
 //! - `tokens`: tokens that are to be written, as a stream of trees.
 //! - `leaf`: the leaves of a tree, in their order, each with where it stands but marks between elements.
 //! - `node`: its nodes and the forms of its expressions, at every depth.
@@ -35,6 +36,7 @@ pub mod reader;
 mod reading;
 mod safety;
 pub mod stream;
+pub mod text;
 pub mod tokens;
 mod type_forms;
 pub mod typed;
@@ -94,6 +96,7 @@ pub use reader::ReadSign;
 pub use reader::Reader;
 pub use stream::ParseForm;
 pub use stream::ParseForms;
+pub use stream::ParseOptionalForm;
 pub use syn_ast::attributes::AttrStyle;
 pub use syn_ast::attributes::Attribute;
 pub use syn_ast::attributes::InnerAttributes;
@@ -237,6 +240,7 @@ pub use syn_data::item::StaticMutability;
 pub use syn_data::members;
 pub use syn_error::Error;
 pub use syn_error::ParseFault;
+pub use syn_error::TextFault;
 pub use syn_expr::blocks::Arms;
 pub use syn_expr::blocks::Block;
 pub use syn_expr::blocks::Body;
@@ -374,6 +378,7 @@ pub use syn_item::uses::UsePath;
 pub use syn_item::uses::UseRename;
 pub use syn_item::uses::UseTop;
 pub use syn_item::uses::UseTree;
+pub use text::parse_str_with;
 pub use tokens::stream_of;
 pub use tokens::to_stream;
 pub use typed::Parse;

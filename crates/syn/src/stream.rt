@@ -1,7 +1,9 @@
 //! Forms that are read from a stream, among tokens that are read one by one.
 
 ghost use Rattle.gram_table.specs.Kinds.{kind_of};
-ghost use Rattle.std.specs.Prelude.{◌≡◌, ◌&&◌, IfErr, IfOk, IsErrAnd, IsFalse, IsTrue, OnErr, OnOk};
+ghost use Rattle.gram_table.specs.Looks.{look_of};
+ghost use Rattle.std.specs.Prelude.{◌≡◌, ◌&&◌, IfErr, IfNone, IfOk, IfSome, IsErrAnd, IsFalse, IsTrue, MatchOption, OnErr};
+ghost use Rattle.std.specs.Prelude.{OnOk, false, true};
 ghost use Rattle.syn.specs.Streams.{IsPassed, invisible_words};
 ghost use Rattle.syn_error.specs.Faults.{IsSyntax};
 ghost use Rattle.syn_grammar.specs.Forms.{operand_stands};
@@ -11,13 +13,16 @@ ghost use Rattle.syn_grammar.specs.Tree.{Tree as GivenTree};
 ghost use Rattle.syn_input.specs.Input.{IsOnward, left, next_place};
 ghost use Rattle.syn_input.specs.Words.{SaysAt};
 
+use crate::optional::ParseOptional;
 use crate::peek::operand_stands;
 use crate::typed::Parse;
 use gram_read::grammar::Grammar;
 use gram_read::said::error;
 use gram_run::read::read;
 use gram_run::refusal::{Refusal, Wrong};
+use gram_run::rules::Rules;
 use gram_table::kind::Kind;
+use gram_table::op::{Look, Test};
 use gram_tree::arena::Arena;
 use gram_tree::tree::Tree;
 use syn_error::ParseFault;
@@ -51,6 +56,17 @@ pub trait ParseForm<'a, T: Parse<'a>> {
     fn form(&mut self, arena: &'a Arena) -> Result<T, ParseFault>;
 }
 
+/// Forms of the syntax tree that may be missing, as `let clause: Option<WhereClause> = input.parse_optional(&arena)?`.
+pub trait ParseOptionalForm<'a, T: ParseOptional<'a>> {
+    /// Reads the form of the type that stands there; `None`, and nothing is read, exactly where the grammar sees none
+    /// begin.
+    ///
+    /// # Errors
+    ///
+    /// Those of `ParseForms::parse_as`.
+    fn parse_optional(&mut self, arena: &'a Arena) -> Result<Option<T>, ParseFault>;
+}
+
 // What is said of a form that was not read: where the list ends, it stands at what closes that.
 fn refused(input: &ParseBuffer<'_>, wrong: Wrong) -> ParseFault {
     let placed = Wrong {
@@ -71,6 +87,17 @@ fn invisible(input: &ParseBuffer<'_>) -> ParseFault
     match input.error("forms are not read among invisible groups") {
         Ok(error) => ParseFault::Syntax(error),
         Err(_) => ParseFault::Memory,
+    }
+}
+
+// Whether the look sees there what it looks for; nothing where an invisible group stands in the buffer.
+fn sees_there(input: &ParseBuffer<'_>, look: Look) -> Option<bool>
+    ensures { MatchOption result (IsFalse input.now.cursor.all_visible)
+        (λ seen. IsTrue input.now.cursor.all_visible × (seen ≡ sees (look_of look) (left input.now))) }
+{
+    match input.cursor().entries() {
+        Some(entries) => Some(Grammar.passes(Test::Sees(look), entries)),
+        None => None,
     }
 }
 
@@ -134,6 +161,32 @@ impl<'a, T: Parse<'a>> ParseForm<'a, T> for ParseBuffer<'a> {
                 Ok(form)
             }
             None => unreachable!(),
+        }
+    }
+}
+
+impl<'a, T: ParseOptional<'a>> ParseOptionalForm<'a, T> for ParseBuffer<'a> {
+    fn parse_optional(&mut self, arena: &'a Arena) -> Result<Option<T>, ParseFault>
+        ensures missing { IfOk result (λ o. IfNone o
+            ((sees T.stands (left self.old) ≡ false) × (self.new ≡ self.old))) }
+        ensures read { IfOk result (λ o. IfSome o (λ x. (sees T.stands (left self.old) ≡ true) × ((tree : GivenTree)
+            × IsDerived T.kind (left self.old) tree (left self.new) × T.says x tree))) }
+        ensures passed { IfOk result (λ o. IfSome o (λ _. IsPassed self.old self.new)) }
+        ensures refused { IfErr result (λ e. IsSyntax e → IsTrue self.old.cursor.all_visible
+            → (sees T.stands (left self.old) ≡ true) × NoneRead T.kind (left self.old)) }
+        ensures invisible { IsFalse self.old.cursor.all_visible
+            → IsErrAnd result (SaysAt invisible_words (next_place self.old)) }
+        ensures stays { OnErr result (self.new ≡ self.old) }
+        ensures noted { self.new.noted ≡ self.old.noted }
+        ensures onward { IsOnward self.old self.new }
+    {
+        match sees_there(self, T::look()) {
+            None => Err(invisible(self)),
+            Some(false) => Ok(None),
+            Some(true) => {
+                let form: T = self.form(arena)?;
+                Ok(Some(form))
+            }
         }
     }
 }
