@@ -6,4 +6,5 @@ pub mod Streams
 pub mod Nests
 pub mod Alone
 pub mod Optional
+pub mod OneItem
 pub mod Texts

@@ -17,6 +17,7 @@
 //! - `node`: its nodes and the forms of its expressions, at every depth.
 //! - `typed`: forms that are read as a type of the syntax tree; `forms`, `type_forms`, `item_forms`, `parts`: the types that
 //!   are.
+//! - `one_item`: items of one kind that are read by themselves, as `OneItem<ItemFn>`.
 //! - `optional`: forms that may be missing; `safety`: whether a function is safe to call.
 //! - `written`: whether what is written of two trees is the same.
 //! - `values`: literals by their class, with what they write, operators and members.
@@ -28,6 +29,7 @@ mod forms;
 mod item_forms;
 pub mod leaf;
 pub mod node;
+pub mod one_item;
 pub mod optional;
 pub mod parse;
 mod parts;
@@ -78,6 +80,7 @@ pub use item_laws::laws;
 pub use leaf::Leaf;
 pub use leaf::put_leaves;
 pub use node::put_nodes;
+pub use one_item::OneItem;
 pub use optional::ParseOptional;
 pub use parse::parse_as;
 pub use parse::parse_file;
