@@ -6,3 +6,4 @@ pub mod Firsts
 pub mod Nests
 pub mod Alone
 pub mod Alike
+pub mod Singles

@@ -6,3 +6,4 @@ pub mod Streams
 pub mod Nests
 pub mod Alone
 pub mod Optional
+pub mod Single

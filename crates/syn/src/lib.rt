@@ -16,6 +16,8 @@
 //! - `node`: its nodes and the forms of its expressions, at every depth.
 //! - `typed`: forms that are read as a type of the syntax tree; `forms`, `type_forms`, `item_forms`, `parts`: the types that
 //!   are.
+//! - `single`: forms that are one of several of a kind; `single_expr`, `single_blocks`, `single_exprs`, `single_types`: the
+//!   types that are read so.
 //! - `optional`: forms that may be missing; `safety`: whether a function is safe to call.
 //! - `written`: whether what is written of two trees is the same.
 //! - `values`: literals by their class, with what they write, operators and members.
@@ -34,6 +36,11 @@ pub mod peek;
 pub mod reader;
 mod reading;
 mod safety;
+pub mod single;
+mod single_blocks;
+pub mod single_expr;
+mod single_exprs;
+mod single_types;
 pub mod stream;
 pub mod tokens;
 mod type_forms;
@@ -92,6 +99,10 @@ pub use proc_macro2::TokenStream;
 pub use reader::Entered;
 pub use reader::ReadSign;
 pub use reader::Reader;
+pub use single::ParseSingle;
+pub use single::ParseSingleForm;
+pub use single::parse2_single;
+pub use single_expr::SingleExpr;
 pub use stream::ParseForm;
 pub use stream::ParseForms;
 pub use syn_ast::attributes::AttrStyle;
