@@ -69,7 +69,7 @@ shaped_as f tree form rest e d h =
     let read = whole Plain tree rest d in (
       ap which e ∙ h,
       subst (λ x. IsOf f x) (sym e)
-      (subst (λ g. IsOf g (form_of tree)) (some_form read.0 f (sym read.1 ∙ h)) read.2),
+          (subst (λ g. IsOf g (form_of tree)) (some_form read.0 f (sym read.1 ∙ h)) read.2),
     )
 
 -- which form of an expression a type's tree is, where its parts say it

@@ -12,7 +12,9 @@ use crate::single::ParseSingle;
 use gram_table::kind::Kind;
 use gram_tree::tree::Tree;
 use syn_ast::attributes::{Meta, MetaList, MetaNameValue};
-use syn_ast::types::{TypeArray, TypeBracketed, TypeParen, TypeParenthesized, TypeSlice, TypeTuple};
+use syn_ast::types::{
+    TypeArray, TypeBracketed, TypeParen, TypeParenthesized, TypeSlice, TypeTuple,
+};
 
 impl<'a> ParseSingle<'a> for TypeArray<'a, 'a> {
     ghost kind = { k.BracketType };
