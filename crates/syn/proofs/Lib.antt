@@ -7,3 +7,4 @@ pub mod Nests
 pub mod Alone
 pub mod Alike
 pub mod Singles
+pub mod Members

@@ -14,8 +14,8 @@
 //! - `tokens`: tokens that are to be written, as a stream of trees.
 //! - `leaf`: the leaves of a tree, in their order, each with where it stands but marks between elements.
 //! - `node`: its nodes and the forms of its expressions, at every depth.
-//! - `typed`: forms that are read as a type of the syntax tree; `forms`, `type_forms`, `item_forms`, `parts`: the types that
-//!   are.
+//! - `typed`: forms that are read as a type of the syntax tree; `forms`, `type_forms`, `item_forms`, `member_forms`,
+//!   `parts`: the types that are.
 //! - `single`: forms that are one of several of a kind; `single_expr`, `single_blocks`, `single_exprs`, `single_types`: the
 //!   types that are read so.
 //! - `optional`: forms that may be missing; `safety`: whether a function is safe to call.
@@ -28,6 +28,7 @@
 mod forms;
 mod item_forms;
 pub mod leaf;
+mod member_forms;
 pub mod node;
 pub mod optional;
 pub mod parse;
@@ -82,6 +83,17 @@ pub use item_forms::OneTraitItem;
 pub use item_laws::laws;
 pub use leaf::Leaf;
 pub use leaf::put_leaves;
+pub use member_forms::OneForeignItemFn;
+pub use member_forms::OneForeignItemMacro;
+pub use member_forms::OneForeignItemType;
+pub use member_forms::OneImplItemConst;
+pub use member_forms::OneImplItemFn;
+pub use member_forms::OneImplItemMacro;
+pub use member_forms::OneImplItemType;
+pub use member_forms::OneTraitItemConst;
+pub use member_forms::OneTraitItemFn;
+pub use member_forms::OneTraitItemMacro;
+pub use member_forms::OneTraitItemType;
 pub use node::put_nodes;
 pub use optional::ParseOptional;
 pub use parse::parse_as;
