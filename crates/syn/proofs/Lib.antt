@@ -7,3 +7,5 @@ pub mod Nests
 pub mod Alone
 pub mod Alike
 pub mod OneItem
+pub mod Singles
+pub mod Members

@@ -8,3 +8,4 @@ pub mod Alone
 pub mod Optional
 pub mod OneItem
 pub mod Texts
+pub mod Single

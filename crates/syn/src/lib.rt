@@ -15,9 +15,11 @@
 //! - `tokens`: tokens that are to be written, as a stream of trees.
 //! - `leaf`: the leaves of a tree, in their order, each with where it stands but marks between elements.
 //! - `node`: its nodes and the forms of its expressions, at every depth.
-//! - `typed`: forms that are read as a type of the syntax tree; `forms`, `type_forms`, `item_forms`, `parts`: the types that
-//!   are.
+//! - `typed`: forms that are read as a type of the syntax tree; `forms`, `type_forms`, `item_forms`, `member_forms`,
+//!   `parts`: the types that are.
 //! - `one_item`: items of one kind that are read by themselves, as `OneItem<ItemFn>`.
+//! - `single`: forms that are one of several of a kind; `single_expr`, `single_blocks`, `single_exprs`, `single_types`: the
+//!   types that are read so.
 //! - `optional`: forms that may be missing; `safety`: whether a function is safe to call.
 //! - `written`: whether what is written of two trees is the same.
 //! - `values`: literals by their class, with what they write, operators and members.
@@ -28,6 +30,7 @@
 mod forms;
 mod item_forms;
 pub mod leaf;
+mod member_forms;
 pub mod node;
 pub mod one_item;
 pub mod optional;
@@ -37,6 +40,11 @@ pub mod peek;
 pub mod reader;
 mod reading;
 mod safety;
+pub mod single;
+mod single_blocks;
+pub mod single_expr;
+mod single_exprs;
+mod single_types;
 pub mod stream;
 pub mod text;
 pub mod tokens;
@@ -79,6 +87,17 @@ pub use item_forms::OneTraitItem;
 pub use item_laws::laws;
 pub use leaf::Leaf;
 pub use leaf::put_leaves;
+pub use member_forms::OneForeignItemFn;
+pub use member_forms::OneForeignItemMacro;
+pub use member_forms::OneForeignItemType;
+pub use member_forms::OneImplItemConst;
+pub use member_forms::OneImplItemFn;
+pub use member_forms::OneImplItemMacro;
+pub use member_forms::OneImplItemType;
+pub use member_forms::OneTraitItemConst;
+pub use member_forms::OneTraitItemFn;
+pub use member_forms::OneTraitItemMacro;
+pub use member_forms::OneTraitItemType;
 pub use node::put_nodes;
 pub use one_item::OneItem;
 pub use optional::ParseOptional;
@@ -97,6 +116,10 @@ pub use proc_macro2::TokenStream;
 pub use reader::Entered;
 pub use reader::ReadSign;
 pub use reader::Reader;
+pub use single::ParseSingle;
+pub use single::ParseSingleForm;
+pub use single::parse2_single;
+pub use single_expr::SingleExpr;
 pub use stream::ParseForm;
 pub use stream::ParseForms;
 pub use stream::ParseOptionalForm;

@@ -1,0 +1,71 @@
+//! Single forms of expressions: whichever of them stands, an expression is read.
+
+ghost use Rattle.gram_table.specs.Kinds.{kind_of};
+ghost use Rattle.std.specs.Prelude.{◌≡◌, MatchOption, Some};
+ghost use Rattle.syn.specs.Single.{IsExprOf, IsFormOf};
+ghost use Rattle.syn_expr.specs.ExprWhole.{which};
+ghost use Rattle.syn_expr.specs.declared.expr.whole.ExprForm.{ExprForm};
+ghost use Rattle.syn_grammar.specs.Forms.{form_of};
+ghost use Rattle.syn_grammar.specs.Kind as k;
+ghost use Rattle.syn_grammar.specs.Tree.{Tree as GivenTree};
+
+use crate::single::ParseSingle;
+use gram_table::kind::{Kind, Position};
+use gram_tree::tree::Tree;
+
+/// A form of expressions, as `ExprCall`.
+pub trait SingleExpr<'a> {
+    /// Which one it is.
+    ghost form: { ExprForm };
+
+    /// The tree that a value is.
+    ghost tree_of: { Self → GivenTree };
+
+    /// What an error says where an expression of another form stands.
+    fn expected() -> &'static str;
+
+    /// What the type says of the form of an expression: one layer of it. `None` of another form, and only of trees that
+    /// are none of this one.
+    fn of_form(tree: &'a Tree<'a>) -> Option<Self>
+        ensures { MatchOption result (IsFormOf form tree.now → ⊥)
+            (λ x. (which tree.now ≡ Some form) × (tree.now ≡ tree_of x)) };
+}
+
+// The form of an expression: of a node that one is, what it holds; else the tree itself.
+#[tactic(auto, using(syn_expr::proofs::ExprWhole::form_is))]
+fn form_of<'t, 'a>(tree: &'t Tree<'a>) -> &'t Tree<'a>
+    ensures { result.now ≡ form_of tree.now }
+{
+    let Some((Kind::Expression(_), inner)) = tree.node() else {
+        return tree;
+    };
+    let Some(form) = inner.whole() else {
+        return tree;
+    };
+    form
+}
+
+impl<'a, T: SingleExpr<'a>> ParseSingle<'a> for T {
+    ghost kind = { k.Expression k.Plain };
+
+    ghost is_meant = { IsExprOf T.form };
+
+    ghost says = { λ x tree. form_of tree ≡ T.tree_of x };
+
+    fn kind() -> Kind
+        ensures { kind_of result ≡ k.Expression k.Plain }
+    {
+        Kind::Expression(Position::Plain)
+    }
+
+    fn refusal() -> &'static str {
+        T::expected()
+    }
+
+    fn view(tree: &'a Tree<'a>) -> Option<T> {
+        match T::of_form(form_of(tree)) {
+            Some(found) => Some(found),
+            None => None,
+        }
+    }
+}
