@@ -19,12 +19,9 @@ use Rattle.syn_grammar.specs.Forms.{ends_there, form_of, front, has_right, insid
 use Rattle.syn_grammar.specs.Table.{table}
 use Rattle.syn_grammar.specs.Derives.{Derives}
 use Rattle.syn_grammar.specs.Kept.{as_statement, attributed, held, is_macro, is_there, kept, own_part}
-use Rattle.syn_grammar.specs.Normal.{apart_if, formed, is_enclosed, normal, normal_in, passed}
-use Rattle.syn_grammar.specs.Normal.{place_of}
-use Rattle.syn_grammar.specs.Normal.{stands_behind}
+use Rattle.syn_grammar.specs.Normal.{apart_if, formed, is_enclosed, normal, normal_in, passed, place_of, stands_behind}
 use Rattle.syn_grammar.specs.Parens.{begins_in, follow, in_parens, may_lack, parens_unless, stands_in}
-use Rattle.syn_grammar.specs.Parens.{takes_what_follows}
-use Rattle.syn_grammar.specs.Parens.{with_left, with_right}
+use Rattle.syn_grammar.specs.Parens.{takes_what_follows, with_left, with_right}
 use Rattle.syn_grammar.proofs.Settled.{normal_twice}
 use Rattle.grammar_back.specs.After.{expression_of, is_open}
 use Rattle.range_laws.specs.Opens.{opens_given}

@@ -9,11 +9,13 @@
 //! - `generics`: generics and where clauses.
 //! - `attributes`, `visibility`.
 //! - `patterns`: what patterns are read as; `pat`: patterns by their form; `pat_type`: a pattern and its type.
+//! - `conversions` (private): of a form into the enum that holds it.
 //! - `laws`, `kept`: that what was read is what these functions ask for.
 #![tactic(auto)]
 
 pub mod attributes;
 pub mod bounds;
+mod conversions;
 pub mod generics;
 pub mod iter;
 pub mod joined;

@@ -2,6 +2,7 @@
 use Rattle.std.specs.List.{range_with_len}
 use Rattle.std.specs.Prelude.{◌≡◌, ℕ, suc, Bool, List, [], ◌∷◌, map}
 use Rattle.proc_macro2.specs.Token.{Token}
+use Rattle.syn_ast.specs.Iter.{parts}
 use Rattle.syn_ast.specs.Name.{word_of_name}
 use Rattle.syn_ast.specs.Leaves.{list_tree}
 use Rattle.syn_ast.specs.Shape.{IsShaped}
@@ -42,6 +43,12 @@ abbrev pub field_count : Fields → ℕ
 field_count (fields.Named x) = elements_in (list_tree x.named)
 field_count (fields.Unnamed x) = elements_in (list_tree x.unnamed)
 field_count fields.Unit = 0
+
+-- the fields, in their order
+abbrev pub fields_in : Fields → List Tree
+fields_in (fields.Named x) = parts (list_tree x.named)
+fields_in (fields.Unnamed x) = parts (list_tree x.unnamed)
+fields_in fields.Unit = []
 
 -- fields with names, where each is such a field, are named by these; those without by the numbers from 0 on
 abbrev pub AreMembers : Fields → List Member → Type 0

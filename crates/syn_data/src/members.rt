@@ -5,16 +5,21 @@ ghost use Rattle.gram_tree.specs.declared.tree.Element.{Element as GivenElement}
 ghost use Rattle.proc_macro2.specs.Token.{Token};
 ghost use Rattle.std.specs.List.{All, range_with_len};
 ghost use Rattle.std.specs.Prelude.{◌++◌, ◌∷◌, ◌≡◌, Bool, IfOk, List, OnOk, [], cond, map, ℕ};
+ghost use Rattle.syn_ast.specs.Iter.{iter_left};
 ghost use Rattle.syn_ast.specs.Leaves.{list_tree, node_tree};
 ghost use Rattle.syn_ast.specs.Shape.{IsShaped};
-ghost use Rattle.syn_data.specs.Members.{AreMembers, elements_in, field_count, member_name, name_of, names_in};
+ghost use Rattle.syn_data.specs.Members.{AreMembers, elements_in, field_count, fields_in, member_name, name_of};
+ghost use Rattle.syn_data.specs.Members.{names_in};
 ghost use Rattle.syn_data.specs.declared.members.Member.TheVariants as members;
 ghost use Rattle.syn_grammar.specs.Gram as g;
 ghost use Rattle.syn_grammar.specs.Kind as k;
+ghost use Rattle.syn_grammar.specs.Tree as t;
 
 use crate::data::{Fields, NamedField};
+use gram_table::op::Separator;
 use gram_tree::tree::{Element, Tree};
 use std::alloc::{AllocError, Global};
+use syn_ast::iter::Iter;
 use syn_ast::list::Elements;
 use syn_ast::name::Name;
 
@@ -94,6 +99,17 @@ fn numbered<'a>(alloc: Global, count: usize) -> Result<Vec<Member<'a>>, AllocErr
     Ok(found)
 }
 
+// A list of no fields.
+fn nothing<'t, 'a>() -> Elements<'t, 'a>
+    ensures { list_tree result ≡ t.End }
+{
+    Elements {
+        separator: Separator::Comma,
+        before: &[],
+        last: None,
+    }
+}
+
 impl<'t, 'a> Fields<'t, 'a> {
     /// How many fields there are.
     pub fn len(&self) -> usize
@@ -111,6 +127,17 @@ impl<'t, 'a> Fields<'t, 'a> {
         ensures { cond result (field_count self.now ≡ 0) (field_count self.now ≡ 0 → ⊥) }
     {
         self.len() == 0
+    }
+
+    /// The fields, in their order, each as a form of the kind `NamedField` or `UnnamedField`.
+    pub fn iter(&self) -> Iter<'t, 'a>
+        ensures { iter_left result ≡ fields_in self.now }
+    {
+        match self {
+            Fields::Named(fields) => fields.named.iter(),
+            Fields::Unnamed(fields) => fields.unnamed.iter(),
+            Fields::Unit => nothing().iter(),
+        }
     }
 
     /// What each field is named by, in their order: its name, or where they have none how many stand before it.

@@ -33,6 +33,8 @@ pub struct Frontmatter {}
 /// A file.
 #[derive(Clone, Copy)]
 pub struct File<'t, 'a> {
+    /// The line `#!..` in front of it: none of a file that was read.
+    pub shebang: Option<&'a str>,
     /// The section at its head: none of a file that was read.
     pub frontmatter: Option<Frontmatter>,
     /// Its attributes.
@@ -46,6 +48,7 @@ impl<'t, 'a> File<'t, 'a> {
     #[tactic(auto, unfolding(syn_grammar::specs::Table::table))]
     pub fn of(tree: &'t Tree<'a>) -> Option<File<'t, 'a>>
         ensures parts { MatchOption result (IsShaped tree.now (g.ref k.AFile) → ⊥) (λ x. tree.now ≡ file x) }
+        ensures shebang { IfSome result (λ x. x.shebang ≡ None) }
         ensures frontmatter { IfSome result (λ x. x.frontmatter ≡ None) }
     {
         let Some((Kind::AFile, inner)) = take::node(tree) else {
@@ -55,6 +58,7 @@ impl<'t, 'a> File<'t, 'a> {
             return None;
         };
         Some(File {
+            shebang: None,
             frontmatter: None,
             attrs,
             items,

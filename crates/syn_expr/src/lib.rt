@@ -4,10 +4,12 @@
 //! - `expr`: forms of expressions; `expr::whole`: which of them an expression is.
 //! - `blocks`: blocks, files and expressions that hold other ones in delimiters.
 //! - `stmt`: statements; `typed`: the patterns with a type of `let`s and of closures' parameters.
+//! - `conversions` (private): of a form into the enum that holds it.
 //! - `modifiers`: what may stand beside the parts of closures, blocks and `let`s.
 #![tactic(auto)]
 
 pub mod blocks;
+mod conversions;
 pub mod expr;
 pub mod modifiers;
 pub mod stmt;

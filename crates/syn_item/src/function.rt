@@ -12,6 +12,7 @@ ghost use Rattle.syn_grammar.specs.Tree as t;
 ghost use Rattle.syn_item.specs.ItemFunctions.{IsBehind, IsItemFn, IsReceiver, IsSafety, fn_arg_tree, one_parameter};
 ghost use Rattle.syn_item.specs.ItemFunctions.{parameter, parameters, safety_is, signature, typed_pattern};
 ghost use Rattle.syn_item.specs.ItemParts.{safety_tree};
+ghost use Rattle.syn_item.specs.declared.function.Safety.TheVariants as safeties;
 
 use crate::part;
 use gram_table::kind::{Kind, Place};
@@ -299,6 +300,15 @@ pub enum Safety<'a> {
     Safe(&'a Ident),
     /// Neither is written.
     Default,
+}
+
+impl<'a> Default for Safety<'a> {
+    ghost is_default = { λ x. x ≡ safeties.Default };
+
+    /// Neither word.
+    fn default() -> Safety<'a> {
+        Safety::Default
+    }
 }
 
 // Which of both words it is.

@@ -12,6 +12,7 @@
 //! - `macros`: macros as items.
 //! - `modifiers`: what may stand in front of an item, and that none of it does.
 //! - `item`: items, by their form.
+//! - `conversions` (private): of a form into the enum that holds it.
 //! - `kept`: that what was read is kept as it was read.
 //! - `part`, `judged`: what several of these have.
 #![tactic(auto)]
@@ -19,6 +20,7 @@
 pub mod alias;
 pub mod arguments;
 pub mod constant;
+mod conversions;
 pub mod entry;
 pub mod function;
 pub mod impls;

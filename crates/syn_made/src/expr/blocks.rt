@@ -20,14 +20,14 @@ use syn_expr::blocks::{
     File, Label, Labelled,
 };
 
-// The grammar has no section at a file's head.
+// The grammar has no line `#!..` in front of a file, and no section at its head.
 impl<'t, 'a> TryToTree<'a> for File<'t, 'a> {
-    ghost says = { λ x tree. (x.frontmatter ≡ None) × (tree ≡ file x) };
+    ghost says = { λ x tree. (x.shebang ≡ None) × (x.frontmatter ≡ None) × (tree ≡ file x) };
 
     fn try_to_tree(&self, arena: &'a Arena) -> Result<Option<Tree<'a>>, AllocError> {
-        match self.frontmatter {
-            Some(_) => Ok(None),
-            None => Ok(Some(Node(Kind::AFile, (self.attrs, self.items)).to_tree(arena)?)),
+        match (self.shebang, self.frontmatter) {
+            (None, None) => Ok(Some(Node(Kind::AFile, (self.attrs, self.items)).to_tree(arena)?)),
+            _ => Ok(None),
         }
     }
 }
