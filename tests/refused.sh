@@ -3,9 +3,10 @@
 # large text, on doc and other comments, on texts at fault, on an argument, and for an outline; lex_cli on its stored input; grow_check on each text of
 # tests/texts, behind an older text in its map, on streams that are built by hand, and on literals of texts and their
 # values; grow_calls and grow_grammar on what they read, build, write and print by themselves; and grow_made on its stored
-# input, whose rows are trees that are made of the syntax tree's types. Each run must give the answer itself, with its status and what it says on standard error, or end with nothing written: with status 3 where
-# memory was refused (in the programs grow_ to a call that is looked at, which then left all as it was), or with their
-# status 4 where it was refused elsewhere.
+# input, whose rows are trees that are made of the syntax tree's types. Each run must give the answer itself, with its
+# status and what it says on standard error, or end with nothing written: with status 3 where memory was refused (in the
+# programs grow_ to a call that is looked at, which then left all as it was), or with their status 4 where it was refused
+# elsewhere.
 # canon_cli says "canon: out of memory" then, and the others nothing.
 # Usage: tests/refused.sh. `rt run` proves and builds the programs first. It needs cc, glibc and python3.
 set -euo pipefail
