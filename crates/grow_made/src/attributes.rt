@@ -13,9 +13,7 @@ fn first<'t, 'a>(tree: &'t Tree<'a>) -> Option<Attribute<'t, 'a>> {
 
 // The first attribute of some, as one that stands inside a form.
 fn inner<'a>(arena: &'a Arena, tree: &Tree<'a>) -> Result<Option<Tree<'a>>, Unmade> {
-    let Some(found) = first(tree) else {
-        return Err(Unmade::NoRow);
-    };
+    let found = first(tree).ok_or(Unmade::NoRow)?;
     let style = AttrStyle::Inner(mark(Sign::Not));
     Ok(Some(Attribute { style, ..found }.to_tree(arena)?))
 }

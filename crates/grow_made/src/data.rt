@@ -8,9 +8,7 @@ use syn_made::try_to_tree::TryToTree;
 
 // A struct without fields.
 fn unit<'a>(arena: &'a Arena, tree: &Tree<'a>) -> Result<Option<Tree<'a>>, Unmade> {
-    let Some(input) = DeriveInput::of(tree) else {
-        return Err(Unmade::NoRow);
-    };
+    let input = DeriveInput::of(tree).ok_or(Unmade::NoRow)?;
     let Data::Struct(found) = input.data else {
         return Err(Unmade::NoRow);
     };
@@ -24,9 +22,7 @@ fn unit<'a>(arena: &'a Arena, tree: &Tree<'a>) -> Result<Option<Tree<'a>>, Unmad
 
 // A struct without its semicolon, as an item.
 fn open<'a>(arena: &'a Arena, tree: &Tree<'a>) -> Result<Option<Tree<'a>>, Unmade> {
-    let Some(input) = DeriveInput::of(tree) else {
-        return Err(Unmade::NoRow);
-    };
+    let input = DeriveInput::of(tree).ok_or(Unmade::NoRow)?;
     let Data::Struct(found) = input.data else {
         return Err(Unmade::NoRow);
     };
@@ -39,9 +35,7 @@ fn open<'a>(arena: &'a Arena, tree: &Tree<'a>) -> Result<Option<Tree<'a>>, Unmad
 
 // A field as its type, without its name and its `:`.
 fn unnamed<'a>(arena: &'a Arena, tree: &Tree<'a>) -> Result<Option<Tree<'a>>, Unmade> {
-    let Some(found) = Field::of(tree) else {
-        return Err(Unmade::NoRow);
-    };
+    let found = Field::of(tree).ok_or(Unmade::NoRow)?;
     let field = Field {
         ident: None,
         colon_token: None,
@@ -52,9 +46,7 @@ fn unnamed<'a>(arena: &'a Arena, tree: &Tree<'a>) -> Result<Option<Tree<'a>>, Un
 
 // A field without its name.
 fn without_name<'a>(arena: &'a Arena, tree: &Tree<'a>) -> Result<Option<Tree<'a>>, Unmade> {
-    let Some(found) = Field::of(tree) else {
-        return Err(Unmade::NoRow);
-    };
+    let found = Field::of(tree).ok_or(Unmade::NoRow)?;
     let field = Field {
         ident: None,
         ..found
@@ -64,9 +56,7 @@ fn without_name<'a>(arena: &'a Arena, tree: &Tree<'a>) -> Result<Option<Tree<'a>
 
 // A variant without its number.
 fn without_number<'a>(arena: &'a Arena, tree: &Tree<'a>) -> Result<Option<Tree<'a>>, Unmade> {
-    let Some(found) = Variant::of(tree) else {
-        return Err(Unmade::NoRow);
-    };
+    let found = Variant::of(tree).ok_or(Unmade::NoRow)?;
     let variant = Variant {
         discriminant: None,
         ..found

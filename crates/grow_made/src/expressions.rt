@@ -16,9 +16,7 @@ fn binary<'t, 'a>(tree: &'t Tree<'a>) -> Option<ExprBinary<'t, 'a>> {
 
 // The operands of a binary operation the other way, as an expression.
 fn swapped<'a>(arena: &'a Arena, tree: &Tree<'a>) -> Result<Option<Tree<'a>>, Unmade> {
-    let Some(found) = binary(tree) else {
-        return Err(Unmade::NoRow);
-    };
+    let found = binary(tree).ok_or(Unmade::NoRow)?;
     let form = ExprBinary {
         left: found.right,
         op: found.op,
@@ -35,9 +33,7 @@ fn method_call<'t, 'a>(tree: &'t Tree<'a>) -> Option<ExprMethodCall<'t, 'a>> {
 
 // A call of a method without its arguments in angle brackets.
 fn inferred<'a>(arena: &'a Arena, tree: &Tree<'a>) -> Result<Option<Tree<'a>>, Unmade> {
-    let Some(found) = method_call(tree) else {
-        return Err(Unmade::NoRow);
-    };
+    let found = method_call(tree).ok_or(Unmade::NoRow)?;
     let call = ExprMethodCall {
         turbofish: None,
         ..found
@@ -52,9 +48,7 @@ fn tuple<'t, 'a>(tree: &'t Tree<'a>) -> Option<ExprTuple<'t, 'a>> {
 
 // A tuple without the element that no comma follows.
 fn front<'a>(arena: &'a Arena, tree: &Tree<'a>) -> Result<Option<Tree<'a>>, Unmade> {
-    let Some(found) = tuple(tree) else {
-        return Err(Unmade::NoRow);
-    };
+    let found = tuple(tree).ok_or(Unmade::NoRow)?;
     let elems = Elements {
         last: None,
         ..found.elems
@@ -64,9 +58,7 @@ fn front<'a>(arena: &'a Arena, tree: &Tree<'a>) -> Result<Option<Tree<'a>>, Unma
 
 // A tuple with no element but the one that no comma follows.
 fn last<'a>(arena: &'a Arena, tree: &Tree<'a>) -> Result<Option<Tree<'a>>, Unmade> {
-    let Some(found) = tuple(tree) else {
-        return Err(Unmade::NoRow);
-    };
+    let found = tuple(tree).ok_or(Unmade::NoRow)?;
     let elems = Elements {
         before: &[],
         ..found.elems
@@ -76,9 +68,7 @@ fn last<'a>(arena: &'a Arena, tree: &Tree<'a>) -> Result<Option<Tree<'a>>, Unmad
 
 // A field's value as its member alone.
 fn short<'a>(arena: &'a Arena, tree: &Tree<'a>) -> Result<Option<Tree<'a>>, Unmade> {
-    let Some(found) = FieldValue::of(tree) else {
-        return Err(Unmade::NoRow);
-    };
+    let found = FieldValue::of(tree).ok_or(Unmade::NoRow)?;
     let value = FieldValue {
         colon_token: None,
         expr: None,
@@ -89,9 +79,7 @@ fn short<'a>(arena: &'a Arena, tree: &Tree<'a>) -> Result<Option<Tree<'a>>, Unma
 
 // A field's value without its `:`.
 fn without_colon<'a>(arena: &'a Arena, tree: &Tree<'a>) -> Result<Option<Tree<'a>>, Unmade> {
-    let Some(found) = FieldValue::of(tree) else {
-        return Err(Unmade::NoRow);
-    };
+    let found = FieldValue::of(tree).ok_or(Unmade::NoRow)?;
     let value = FieldValue {
         colon_token: None,
         ..found
@@ -101,9 +89,7 @@ fn without_colon<'a>(arena: &'a Arena, tree: &Tree<'a>) -> Result<Option<Tree<'a
 
 // An arm with which the braces end.
 fn at_end<'a>(arena: &'a Arena, tree: &Tree<'a>) -> Result<Option<Tree<'a>>, Unmade> {
-    let Some(found) = Arm::of(tree) else {
-        return Err(Unmade::NoRow);
-    };
+    let found = Arm::of(tree).ok_or(Unmade::NoRow)?;
     let arm = Arm {
         at_end: true,
         ..found
@@ -113,9 +99,7 @@ fn at_end<'a>(arena: &'a Arena, tree: &Tree<'a>) -> Result<Option<Tree<'a>>, Unm
 
 // An arm with a comma behind it.
 fn ended<'a>(arena: &'a Arena, tree: &Tree<'a>) -> Result<Option<Tree<'a>>, Unmade> {
-    let Some(found) = Arm::of(tree) else {
-        return Err(Unmade::NoRow);
-    };
+    let found = Arm::of(tree).ok_or(Unmade::NoRow)?;
     let arm = Arm {
         at_end: false,
         comma: Some(mark(Sign::Comma)),

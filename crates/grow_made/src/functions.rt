@@ -11,9 +11,7 @@ use syn_made::try_to_tree::TryToTree;
 
 /// A function that is declared alone.
 pub(crate) fn declared<'a>(arena: &'a Arena, tree: &Tree<'a>) -> Result<Option<Tree<'a>>, Unmade> {
-    let Some(found) = ItemFn::of(tree) else {
-        return Err(Unmade::NoRow);
-    };
+    let found = ItemFn::of(tree).ok_or(Unmade::NoRow)?;
     let function = ItemFn {
         block: None,
         semi_token: Some(mark(Sign::Semi)),
@@ -27,9 +25,7 @@ pub(crate) fn without_block<'a>(
     arena: &'a Arena,
     tree: &Tree<'a>,
 ) -> Result<Option<Tree<'a>>, Unmade> {
-    let Some(found) = ItemFn::of(tree) else {
-        return Err(Unmade::NoRow);
-    };
+    let found = ItemFn::of(tree).ok_or(Unmade::NoRow)?;
     Ok(ItemFn {
         block: None,
         ..found
@@ -39,9 +35,7 @@ pub(crate) fn without_block<'a>(
 
 /// A function with a semicolon.
 pub(crate) fn closed<'a>(arena: &'a Arena, tree: &Tree<'a>) -> Result<Option<Tree<'a>>, Unmade> {
-    let Some(found) = ItemFn::of(tree) else {
-        return Err(Unmade::NoRow);
-    };
+    let found = ItemFn::of(tree).ok_or(Unmade::NoRow)?;
     let function = ItemFn {
         semi_token: Some(mark(Sign::Semi)),
         ..found
@@ -56,9 +50,7 @@ fn parameter<'t, 'a>(tree: &'t Tree<'a>) -> Option<Parameter<'t, 'a>> {
 
 // A parameter whose pattern has no attributes.
 fn bare<'a>(arena: &'a Arena, tree: &Tree<'a>) -> Result<Option<Tree<'a>>, Unmade> {
-    let Some(found) = parameter(tree) else {
-        return Err(Unmade::NoRow);
-    };
+    let found = parameter(tree).ok_or(Unmade::NoRow)?;
     let FnArg::Typed(typed) = found.arg else {
         return Err(Unmade::NoRow);
     };
@@ -72,9 +64,7 @@ fn bare<'a>(arena: &'a Arena, tree: &Tree<'a>) -> Result<Option<Tree<'a>>, Unmad
 
 // A receiver as it is taken by value, mutable where a reference of it was.
 fn by_value<'a>(arena: &'a Arena, tree: &Tree<'a>) -> Result<Option<Tree<'a>>, Unmade> {
-    let Some(found) = Receiver::of(tree) else {
-        return Err(Unmade::NoRow);
-    };
+    let found = Receiver::of(tree).ok_or(Unmade::NoRow)?;
     let ReceiverKind::Reference(_, _, mutability) = found.kind else {
         return Err(Unmade::NoRow);
     };
@@ -88,9 +78,7 @@ fn by_value<'a>(arena: &'a Arena, tree: &Tree<'a>) -> Result<Option<Tree<'a>>, U
 
 // A receiver that is taken by a reference, itself mutable where the reference is.
 fn mutable<'a>(arena: &'a Arena, tree: &Tree<'a>) -> Result<Option<Tree<'a>>, Unmade> {
-    let Some(found) = Receiver::of(tree) else {
-        return Err(Unmade::NoRow);
-    };
+    let found = Receiver::of(tree).ok_or(Unmade::NoRow)?;
     let ReceiverKind::Reference(_, _, mutability) = found.kind else {
         return Err(Unmade::NoRow);
     };

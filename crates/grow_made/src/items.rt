@@ -12,9 +12,7 @@ use syn_made::try_to_tree::TryToTree;
 
 // A module, whose items stand in another file.
 fn outside<'a>(arena: &'a Arena, tree: &Tree<'a>) -> Result<Option<Tree<'a>>, Unmade> {
-    let Some(found) = ItemMod::of(tree) else {
-        return Err(Unmade::NoRow);
-    };
+    let found = ItemMod::of(tree).ok_or(Unmade::NoRow)?;
     let module = ItemMod {
         content: None,
         semi: Some(mark(Sign::Semi)),
@@ -25,9 +23,7 @@ fn outside<'a>(arena: &'a Arena, tree: &Tree<'a>) -> Result<Option<Tree<'a>>, Un
 
 // A module without what stands in it.
 fn without_content<'a>(arena: &'a Arena, tree: &Tree<'a>) -> Result<Option<Tree<'a>>, Unmade> {
-    let Some(found) = ItemMod::of(tree) else {
-        return Err(Unmade::NoRow);
-    };
+    let found = ItemMod::of(tree).ok_or(Unmade::NoRow)?;
     let module = ItemMod {
         content: None,
         ..found
@@ -37,9 +33,7 @@ fn without_content<'a>(arena: &'a Arena, tree: &Tree<'a>) -> Result<Option<Tree<
 
 // A type's other name, its where clause before what it stands for.
 fn early<'a>(arena: &'a Arena, tree: &Tree<'a>) -> Result<Option<Tree<'a>>, Unmade> {
-    let Some(found) = ItemType::of(tree) else {
-        return Err(Unmade::NoRow);
-    };
+    let found = ItemType::of(tree).ok_or(Unmade::NoRow)?;
     let alias = ItemType {
         where_order: WhereOrder::Before,
         ..found
@@ -49,9 +43,7 @@ fn early<'a>(arena: &'a Arena, tree: &Tree<'a>) -> Result<Option<Tree<'a>>, Unma
 
 // A macro with a name.
 fn named<'a>(arena: &'a Arena, tree: &Tree<'a>) -> Result<Option<Tree<'a>>, Unmade> {
-    let Some(found) = ItemMacro::of(tree) else {
-        return Err(Unmade::NoRow);
-    };
+    let found = ItemMacro::of(tree).ok_or(Unmade::NoRow)?;
     let Ok(word) = Ident::new(arena.alloc(), "x", Span::call_site()) else {
         return Err(Unmade::Memory);
     };
@@ -61,9 +53,7 @@ fn named<'a>(arena: &'a Arena, tree: &Tree<'a>) -> Result<Option<Tree<'a>>, Unma
 
 // A macro without its semicolon.
 fn without_semicolon<'a>(arena: &'a Arena, tree: &Tree<'a>) -> Result<Option<Tree<'a>>, Unmade> {
-    let Some(found) = ItemMacro::of(tree) else {
-        return Err(Unmade::NoRow);
-    };
+    let found = ItemMacro::of(tree).ok_or(Unmade::NoRow)?;
     let mac = ItemMacro {
         semi_token: None,
         ..found
@@ -73,9 +63,7 @@ fn without_semicolon<'a>(arena: &'a Arena, tree: &Tree<'a>) -> Result<Option<Tre
 
 // A macro with its tokens in braces, and no semicolon behind them.
 fn in_braces<'a>(arena: &'a Arena, tree: &Tree<'a>) -> Result<Option<Tree<'a>>, Unmade> {
-    let Some(found) = ItemMacro::of(tree) else {
-        return Err(Unmade::NoRow);
-    };
+    let found = ItemMacro::of(tree).ok_or(Unmade::NoRow)?;
     let delimiter = MacroDelimiter::Brace(Delimiters {
         delimiter: Delimiter::Brace,
         span: Span::call_site(),
@@ -90,9 +78,7 @@ fn in_braces<'a>(arena: &'a Arena, tree: &Tree<'a>) -> Result<Option<Tree<'a>>, 
 
 // An enum without the variant that no comma follows.
 fn front<'a>(arena: &'a Arena, tree: &Tree<'a>) -> Result<Option<Tree<'a>>, Unmade> {
-    let Some(found) = ItemEnum::of(tree) else {
-        return Err(Unmade::NoRow);
-    };
+    let found = ItemEnum::of(tree).ok_or(Unmade::NoRow)?;
     let variants = Elements {
         last: None,
         ..found.variants
@@ -102,9 +88,7 @@ fn front<'a>(arena: &'a Arena, tree: &Tree<'a>) -> Result<Option<Tree<'a>>, Unma
 
 // A trait without its `unsafe`.
 fn safe<'a>(arena: &'a Arena, tree: &Tree<'a>) -> Result<Option<Tree<'a>>, Unmade> {
-    let Some(found) = ItemTrait::of(tree) else {
-        return Err(Unmade::NoRow);
-    };
+    let found = ItemTrait::of(tree).ok_or(Unmade::NoRow)?;
     let safe = ItemTrait {
         unsafety: None,
         ..found
@@ -114,9 +98,7 @@ fn safe<'a>(arena: &'a Arena, tree: &Tree<'a>) -> Result<Option<Tree<'a>>, Unmad
 
 // An impl of no trait.
 fn inherent<'a>(arena: &'a Arena, tree: &Tree<'a>) -> Result<Option<Tree<'a>>, Unmade> {
-    let Some(found) = ItemImpl::of(tree) else {
-        return Err(Unmade::NoRow);
-    };
+    let found = ItemImpl::of(tree).ok_or(Unmade::NoRow)?;
     let inherent = ItemImpl {
         trait_: None,
         ..found
@@ -126,9 +108,7 @@ fn inherent<'a>(arena: &'a Arena, tree: &Tree<'a>) -> Result<Option<Tree<'a>>, U
 
 // An item without its attributes and its visibility.
 fn plain<'a>(arena: &'a Arena, tree: &Tree<'a>) -> Result<Option<Tree<'a>>, Unmade> {
-    let Some(found) = Item::of(tree) else {
-        return Err(Unmade::NoRow);
-    };
+    let found = Item::of(tree).ok_or(Unmade::NoRow)?;
     Ok(Some(plain_item(arena, &found)?))
 }
 

@@ -28,9 +28,7 @@ fn open<'a>(arena: &'a Arena, tree: &Tree<'a>) -> Result<Option<Tree<'a>>, Unmad
 
 // What stands behind the start of a range, without an end.
 fn endless<'a>(arena: &'a Arena, tree: &Tree<'a>) -> Result<Option<Tree<'a>>, Unmade> {
-    let Some(found) = RangeEnd::of(tree) else {
-        return Err(Unmade::NoRow);
-    };
+    let found = RangeEnd::of(tree).ok_or(Unmade::NoRow)?;
     Ok(RangeEnd { end: None, ..found }.try_to_tree(arena)?)
 }
 

@@ -27,11 +27,9 @@ fn open<'a>(arena: &'a Arena, tree: &Tree<'a>) -> Result<Option<Tree<'a>>, Unmad
 }
 
 // A `let` without its type.
-fn without_type<'a>(arena: &'a Arena, tree: &Tree<'a>) -> Result<Option<Tree<'a>>, Unmade> {
-    let Some(found) = Local::of(tree) else {
-        return Err(Unmade::NoRow);
-    };
-    Ok(Some(Local { ty: None, ..found }.to_tree(arena)?))
+fn without_type<'a>(arena: &'a Arena, tree: &Tree<'a>) -> Result<Tree<'a>, Unmade> {
+    let found = Local::of(tree).ok_or(Unmade::NoRow)?;
+    Ok(Local { ty: None, ..found }.to_tree(arena)?)
 }
 
 // A `let` without its type, as a statement.
@@ -39,9 +37,7 @@ fn inferred<'a>(arena: &'a Arena, tree: &Tree<'a>) -> Result<Option<Tree<'a>>, U
     let Some(Stmt::Local(found)) = stmt(tree) else {
         return Err(Unmade::NoRow);
     };
-    let Some(local) = without_type(arena, found.local)? else {
-        return Ok(None);
-    };
+    let local = without_type(arena, found.local)?;
     let inferred = Stmt::Local(StmtLocal {
         local: &local,
         ..found
@@ -56,26 +52,32 @@ fn first<'t, 'a>(found: &Block<'t, 'a>) -> Option<BlockStmt<'t, 'a>> {
 
 // A block of what stands first in one.
 fn cut<'a>(arena: &'a Arena, tree: &Tree<'a>) -> Result<Option<Tree<'a>>, Unmade> {
-    let Some(found) = Block::of(tree) else {
-        return Err(Unmade::NoRow);
-    };
-    let Some(stmt) = first(&found) else {
-        return Err(Unmade::NoRow);
-    };
+    let found = Block::of(tree).ok_or(Unmade::NoRow)?;
+    let stmt = first(&found).ok_or(Unmade::NoRow)?;
     Ok(Some(block(arena, found.brace_token, &[stmt])?))
 }
 
-// A file with a section at its head, or without one.
-fn headed<'a>(
-    arena: &'a Arena,
-    tree: &Tree<'a>,
-    frontmatter: Option<Frontmatter>,
-) -> Result<Option<Tree<'a>>, Unmade> {
-    let Some(found) = File::of(tree) else {
-        return Err(Unmade::NoRow);
-    };
+// A file as it is.
+fn plain<'a>(arena: &'a Arena, tree: &Tree<'a>) -> Result<Option<Tree<'a>>, Unmade> {
+    let found = File::of(tree).ok_or(Unmade::NoRow)?;
+    Ok(found.try_to_tree(arena)?)
+}
+
+// A file with a section at its head.
+fn headed<'a>(arena: &'a Arena, tree: &Tree<'a>) -> Result<Option<Tree<'a>>, Unmade> {
+    let found = File::of(tree).ok_or(Unmade::NoRow)?;
     let file = File {
-        frontmatter,
+        frontmatter: Some(Frontmatter {}),
+        ..found
+    };
+    Ok(file.try_to_tree(arena)?)
+}
+
+// A file behind a line that says what runs it.
+fn executable<'a>(arena: &'a Arena, tree: &Tree<'a>) -> Result<Option<Tree<'a>>, Unmade> {
+    let found = File::of(tree).ok_or(Unmade::NoRow)?;
+    let file = File {
+        shebang: Some("#!/bin/x"),
         ..found
     };
     Ok(file.try_to_tree(arena)?)
@@ -91,8 +93,9 @@ pub(crate) fn changed<'a>(
         "open" => open(arena, tree),
         "inferred" => inferred(arena, tree),
         "cut" => cut(arena, tree),
-        "headed" => headed(arena, tree, Some(Frontmatter {})),
-        "plain" => headed(arena, tree, None),
+        "plain" => plain(arena, tree),
+        "headed" => headed(arena, tree),
+        "executable" => executable(arena, tree),
         _ => Err(Unmade::NoRow),
     }
 }

@@ -49,9 +49,7 @@ fn last<'a>(arena: &'a Arena, tree: &Tree<'a>) -> Result<Option<Tree<'a>>, Unmad
 
 // A path behind `::`.
 fn global<'a>(arena: &'a Arena, tree: &Tree<'a>) -> Result<Option<Tree<'a>>, Unmade> {
-    let Some(found) = Path::of(tree) else {
-        return Err(Unmade::NoRow);
-    };
+    let found = Path::of(tree).ok_or(Unmade::NoRow)?;
     let leading_colon = Some(mark(Sign::PathSep));
     let path = Path {
         leading_colon,
@@ -79,9 +77,7 @@ fn doubled<'a>(arena: &'a Arena, tree: &Tree<'a>) -> Result<Option<Tree<'a>>, Un
 
 // The segments of a path, the first one as a keyword.
 fn led<'a>(arena: &'a Arena, tree: &Tree<'a>) -> Result<Option<Tree<'a>>, Unmade> {
-    let Some(found) = segments(tree) else {
-        return Err(Unmade::NoRow);
-    };
+    let found = segments(tree).ok_or(Unmade::NoRow)?;
     let led = Segments {
         is_keyword: true,
         ..found
@@ -91,9 +87,7 @@ fn led<'a>(arena: &'a Arena, tree: &Tree<'a>) -> Result<Option<Tree<'a>>, Unmade
 
 // A segment as a keyword.
 fn keyword<'a>(arena: &'a Arena, tree: &Tree<'a>) -> Result<Option<Tree<'a>>, Unmade> {
-    let Some(found) = OneSegment::of(tree) else {
-        return Err(Unmade::NoRow);
-    };
+    let found = OneSegment::of(tree).ok_or(Unmade::NoRow)?;
     let segment = OneSegment {
         is_keyword: true,
         ..found
@@ -111,9 +105,7 @@ fn trait_bound<'t, 'a>(tree: &'t Tree<'a>) -> Option<TraitBound<'t, 'a>> {
 
 // The trait of a bound behind `?`.
 fn maybe<'a>(arena: &'a Arena, tree: &Tree<'a>) -> Result<Option<Tree<'a>>, Unmade> {
-    let Some(found) = trait_bound(tree) else {
-        return Err(Unmade::NoRow);
-    };
+    let found = trait_bound(tree).ok_or(Unmade::NoRow)?;
     let modifier = TraitBoundModifier::Maybe(mark(Sign::Question));
     Ok(TraitBound { modifier, ..found }.try_to_tree(arena)?)
 }
