@@ -59,13 +59,17 @@ fn cut<'a>(arena: &'a Arena, tree: &Tree<'a>) -> Result<Option<Tree<'a>>, Unmade
 
 // A file as it is.
 fn plain<'a>(arena: &'a Arena, tree: &Tree<'a>) -> Result<Option<Tree<'a>>, Unmade> {
-    let found = File::of(tree).ok_or(Unmade::NoRow)?;
+    let Some(found) = File::of(tree) else {
+        return Err(Unmade::NoRow);
+    };
     Ok(found.try_to_tree(arena)?)
 }
 
 // A file with a section at its head.
 fn headed<'a>(arena: &'a Arena, tree: &Tree<'a>) -> Result<Option<Tree<'a>>, Unmade> {
-    let found = File::of(tree).ok_or(Unmade::NoRow)?;
+    let Some(found) = File::of(tree) else {
+        return Err(Unmade::NoRow);
+    };
     let file = File {
         frontmatter: Some(Frontmatter {}),
         ..found
@@ -75,7 +79,9 @@ fn headed<'a>(arena: &'a Arena, tree: &Tree<'a>) -> Result<Option<Tree<'a>>, Unm
 
 // A file behind a line that says what runs it.
 fn executable<'a>(arena: &'a Arena, tree: &Tree<'a>) -> Result<Option<Tree<'a>>, Unmade> {
-    let found = File::of(tree).ok_or(Unmade::NoRow)?;
+    let Some(found) = File::of(tree) else {
+        return Err(Unmade::NoRow);
+    };
     let file = File {
         shebang: Some("#!/bin/x"),
         ..found
