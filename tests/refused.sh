@@ -2,10 +2,11 @@
 # Runs built programs once for each allocation that they make, refusing that one: canon_cli on its stored input, on a
 # large text, on doc and other comments, on texts at fault, on an argument, and for an outline; lex_cli on its stored input; grow_check on each text of
 # tests/texts, behind an older text in its map, on streams that are built by hand, and on literals of texts and their
-# values; grow_calls and grow_grammar on what they read, build, write and print by themselves. Each run must give the
-# answer itself, with its status and what it says on standard error, or end with nothing written: with status 3 where
-# memory was refused (in the programs grow_ to a call that is looked at, which then left all as it was), or with their
-# status 4 where it was refused elsewhere.
+# values; grow_calls and grow_grammar on what they read, build, write and print by themselves; and grow_made on its stored
+# input, whose rows are trees that are made of the syntax tree's types. Each run must give the answer itself, with its
+# status and what it says on standard error, or end with nothing written: with status 3 where memory was refused (in the
+# programs grow_ to a call that is looked at, which then left all as it was), or with their status 4 where it was refused
+# elsewhere.
 # canon_cli says "canon: out of memory" then, and the others nothing.
 # Usage: tests/refused.sh. `rt run` proves and builds the programs first. It needs cc, glibc and python3.
 set -euo pipefail
@@ -52,7 +53,7 @@ sweep() {
     echo "$name: $((n - 1)) allocations refused, $refused with status 3, $elsewhere elsewhere, $((answered - 1)) without effect"
 }
 
-for program in canon_cli lex_cli grow_check grow_calls grow_grammar; do
+for program in canon_cli lex_cli grow_check grow_calls grow_grammar grow_made; do
     build "$program"
 done
 
@@ -107,3 +108,5 @@ answer=../crates/grow_calls/stdout
 sweep "reading, building and printing syntax" grow_calls /dev/null
 answer=../crates/grow_grammar/stdout
 sweep "reading by the grammar, writing and printing" grow_grammar /dev/null
+answer=../crates/grow_made/stdout
+sweep "trees that are made of types" grow_made ../crates/grow_made/stdin

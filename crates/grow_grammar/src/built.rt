@@ -18,8 +18,8 @@ use syn_data::derive::{Data, DeriveInput};
 use syn_data::members::Member;
 use syn_error::ParseFault;
 
-// The tokens of a text.
-fn lexed(alloc: Global, text: &str) -> Result<TokenStream, Stop> {
+/// The tokens of a text.
+pub(crate) fn lexed(alloc: Global, text: &str) -> Result<TokenStream, Stop> {
     let stream = TokenStream::from_str(alloc, text, &mut SourceMap::new(alloc));
     stream.map_err(|_| Stop::Elsewhere)
 }
@@ -32,8 +32,12 @@ fn unread(fault: ParseFault) -> Stop {
     }
 }
 
-// All of the tokens as a form of the kind.
-fn parsed<'a>(arena: &'a Arena, kind: Kind, buffer: &'a TokenBuffer<'a>) -> Result<Tree<'a>, Stop> {
+/// All of the tokens as a form of the kind.
+pub(crate) fn parsed<'a>(
+    arena: &'a Arena,
+    kind: Kind,
+    buffer: &'a TokenBuffer<'a>,
+) -> Result<Tree<'a>, Stop> {
     parse_as(arena, kind, buffer).map_err(unread)
 }
 
@@ -47,8 +51,8 @@ fn with_left<'a>(
     made::infix(arena, left.copy(), kind, form.own.copy(), form.right.copy())
 }
 
-// The text of what is written of an expression behind older tokens. Where that is refused, those stand in front.
-fn written(alloc: Global, position: Position, form: &Tree<'_>) -> Result<String, Stop> {
+/// The text of what is written of an expression behind older tokens. Where that is refused, those stand in front.
+pub(crate) fn written(alloc: Global, position: Position, form: &Tree<'_>) -> Result<String, Stop> {
     let mut out = vec![in alloc; Piece::Underscore, Piece::Index(7)]?;
     if write_in(position, form, &mut out).is_err() {
         return refused(print(alloc, out.as_slice())?.starts_with("_ 7"));
@@ -56,20 +60,25 @@ fn written(alloc: Global, position: Position, form: &Tree<'_>) -> Result<String,
     looked_at(print(alloc, out.as_slice()))
 }
 
-// The same of the normal form of an expression, which is made as a tree.
-fn made_normal<'a>(arena: &'a Arena, form: &Tree<'a>) -> Result<String, Stop> {
+/// The same of the normal form of a tree, which is made as a tree.
+pub(crate) fn normal_text<'a>(arena: &'a Arena, tree: &Tree<'a>) -> Result<String, Stop> {
     let alloc = arena.alloc();
-    let whole = looked_at(made::whole(arena, form.copy()))?;
     let mut out = vec![in alloc; Piece::Underscore, Piece::Index(7)]?;
-    match put_normal(arena, &whole, &mut out) {
+    match put_normal(arena, tree, &mut out) {
         Ok(()) => looked_at(print(alloc, out.as_slice())),
         Err(NormalFault::Memory) => refused(print(alloc, out.as_slice())?.starts_with("_ 7")),
         Err(_) => Err(Stop::Changed),
     }
 }
 
-// The form of an expression that was read.
-fn form_of<'t, 'a>(tree: &'t Tree<'a>) -> Option<&'t Tree<'a>> {
+// The same of an expression, of its form.
+fn made_normal<'a>(arena: &'a Arena, form: &Tree<'a>) -> Result<String, Stop> {
+    let whole = looked_at(made::whole(arena, form.copy()))?;
+    normal_text(arena, &whole)
+}
+
+/// The form of an expression that was read.
+pub(crate) fn form_of<'t, 'a>(tree: &'t Tree<'a>) -> Option<&'t Tree<'a>> {
     let (_, expression) = tree.node()?;
     expression.whole()
 }

@@ -15,8 +15,8 @@ use std::alloc::Global;
 use stops::{Stop, looked_at, refused};
 use syn_buffer::TokenBuffer;
 
-// The text of what is written of a tree behind older tokens. Where that is refused, those stand in front.
-fn printed(alloc: Global, tree: &Tree<'_>) -> Result<String, Stop> {
+/// The text of what is written of a tree behind older tokens. Where that is refused, those stand in front.
+pub(crate) fn printed(alloc: Global, tree: &Tree<'_>) -> Result<String, Stop> {
     let mut out = vec![in alloc; Piece::Underscore, Piece::Index(7)]?;
     if write(tree, &mut out).is_err() {
         return refused(print(alloc, out.as_slice())?.starts_with("_ 7"));

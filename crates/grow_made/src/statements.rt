@@ -1,0 +1,107 @@
+//! Changes of statements, blocks and files.
+
+use crate::change::Unmade;
+use syn::{
+    Arena, Block, BlockStmt, File, Frontmatter, Local, OneStatement, Statements, Stmt, StmtExpr,
+    StmtLocal, Tree,
+};
+use syn_made::expr::stmt::{block, statement};
+use syn_made::to_tree::ToTree;
+use syn_made::try_to_tree::TryToTree;
+
+// The statement that stands by itself in a tree, if one does.
+fn stmt<'t, 'a>(tree: &'t Tree<'a>) -> Option<Stmt<'t, 'a>> {
+    Stmt::of(OneStatement::of(tree)?.stmt)
+}
+
+// An expression without its semicolon, as a statement.
+fn open<'a>(arena: &'a Arena, tree: &Tree<'a>) -> Result<Option<Tree<'a>>, Unmade> {
+    let Some(Stmt::Expr(found)) = stmt(tree) else {
+        return Err(Unmade::NoRow);
+    };
+    let open = Stmt::Expr(StmtExpr {
+        semi_token: None,
+        ..found
+    });
+    Ok(Some(statement(arena, &open)?))
+}
+
+// A `let` without its type.
+fn without_type<'a>(arena: &'a Arena, tree: &Tree<'a>) -> Result<Tree<'a>, Unmade> {
+    let found = Local::of(tree).ok_or(Unmade::NoRow)?;
+    Ok(Local { ty: None, ..found }.to_tree(arena)?)
+}
+
+// A `let` without its type, as a statement.
+fn inferred<'a>(arena: &'a Arena, tree: &Tree<'a>) -> Result<Option<Tree<'a>>, Unmade> {
+    let Some(Stmt::Local(found)) = stmt(tree) else {
+        return Err(Unmade::NoRow);
+    };
+    let local = without_type(arena, found.local)?;
+    let inferred = Stmt::Local(StmtLocal {
+        local: &local,
+        ..found
+    });
+    Ok(Some(statement(arena, &inferred)?))
+}
+
+// What stands first in a block, if something does.
+fn first<'t, 'a>(found: &Block<'t, 'a>) -> Option<BlockStmt<'t, 'a>> {
+    BlockStmt::of(Statements::of(found.stmts)?.stmts.each.first()?)
+}
+
+// A block of what stands first in one.
+fn cut<'a>(arena: &'a Arena, tree: &Tree<'a>) -> Result<Option<Tree<'a>>, Unmade> {
+    let found = Block::of(tree).ok_or(Unmade::NoRow)?;
+    let stmt = first(&found).ok_or(Unmade::NoRow)?;
+    Ok(Some(block(arena, found.brace_token, &[stmt])?))
+}
+
+// A file as it is.
+fn plain<'a>(arena: &'a Arena, tree: &Tree<'a>) -> Result<Option<Tree<'a>>, Unmade> {
+    let Some(found) = File::of(tree) else {
+        return Err(Unmade::NoRow);
+    };
+    Ok(found.try_to_tree(arena)?)
+}
+
+// A file with a section at its head.
+fn headed<'a>(arena: &'a Arena, tree: &Tree<'a>) -> Result<Option<Tree<'a>>, Unmade> {
+    let Some(found) = File::of(tree) else {
+        return Err(Unmade::NoRow);
+    };
+    let file = File {
+        frontmatter: Some(Frontmatter {}),
+        ..found
+    };
+    Ok(file.try_to_tree(arena)?)
+}
+
+// A file behind a line that says what runs it.
+fn executable<'a>(arena: &'a Arena, tree: &Tree<'a>) -> Result<Option<Tree<'a>>, Unmade> {
+    let Some(found) = File::of(tree) else {
+        return Err(Unmade::NoRow);
+    };
+    let file = File {
+        shebang: Some("#!/bin/x"),
+        ..found
+    };
+    Ok(file.try_to_tree(arena)?)
+}
+
+/// A statement, a block or a file, changed so.
+pub(crate) fn changed<'a>(
+    arena: &'a Arena,
+    change: &str,
+    tree: &Tree<'a>,
+) -> Result<Option<Tree<'a>>, Unmade> {
+    match change {
+        "open" => open(arena, tree),
+        "inferred" => inferred(arena, tree),
+        "cut" => cut(arena, tree),
+        "plain" => plain(arena, tree),
+        "headed" => headed(arena, tree),
+        "executable" => executable(arena, tree),
+        _ => Err(Unmade::NoRow),
+    }
+}

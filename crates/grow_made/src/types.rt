@@ -1,0 +1,130 @@
+//! Changes of types, paths and bounds.
+
+use crate::change::{Unmade, mark};
+use syn::{
+    Arena, Elements, Marked, OneSegment, Path, Plus, Segments, Sign, TraitBound,
+    TraitBoundModifier, Tree, Type, TypeParamBound, TypeReference, TypeTuple,
+};
+use syn_made::ast::whole::a_type;
+use syn_made::to_tree::ToTree;
+use syn_made::try_to_tree::TryToTree;
+
+// A reference without its `mut`.
+fn shared<'a>(arena: &'a Arena, tree: &Tree<'a>) -> Result<Option<Tree<'a>>, Unmade> {
+    let Some(Type::Reference(found)) = Type::of(tree) else {
+        return Err(Unmade::NoRow);
+    };
+    let form = Type::Reference(TypeReference {
+        mutability: None,
+        ..found
+    });
+    Ok(a_type(arena, Plus::WithPlus, &form)?)
+}
+
+// A tuple without the element that no comma follows.
+fn front<'a>(arena: &'a Arena, tree: &Tree<'a>) -> Result<Option<Tree<'a>>, Unmade> {
+    let Some(Type::Tuple(found)) = Type::of(tree) else {
+        return Err(Unmade::NoRow);
+    };
+    let elems = Elements {
+        last: None,
+        ..found.elems
+    };
+    let form = Type::Tuple(TypeTuple { elems, ..found });
+    Ok(a_type(arena, Plus::WithPlus, &form)?)
+}
+
+// A tuple with no element but the one that no comma follows.
+fn last<'a>(arena: &'a Arena, tree: &Tree<'a>) -> Result<Option<Tree<'a>>, Unmade> {
+    let Some(Type::Tuple(found)) = Type::of(tree) else {
+        return Err(Unmade::NoRow);
+    };
+    let elems = Elements {
+        before: &[],
+        ..found.elems
+    };
+    let form = Type::Tuple(TypeTuple { elems, ..found });
+    Ok(a_type(arena, Plus::WithPlus, &form)?)
+}
+
+// A path behind `::`.
+fn global<'a>(arena: &'a Arena, tree: &Tree<'a>) -> Result<Option<Tree<'a>>, Unmade> {
+    let found = Path::of(tree).ok_or(Unmade::NoRow)?;
+    let leading_colon = Some(mark(Sign::PathSep));
+    let path = Path {
+        leading_colon,
+        ..found
+    };
+    Ok(Some(path.to_tree(arena)?))
+}
+
+// The segments of a path, if it is one.
+fn segments<'t, 'a>(tree: &'t Tree<'a>) -> Option<Segments<'t, 'a>> {
+    Segments::of(Path::of(tree)?.segments)
+}
+
+// The first segment of a path, with all of its segments behind it.
+fn doubled<'a>(arena: &'a Arena, tree: &Tree<'a>) -> Result<Option<Tree<'a>>, Unmade> {
+    let (Some(path), Some(found)) = (Path::of(tree), segments(tree)) else {
+        return Err(Unmade::NoRow);
+    };
+    let others = Some(Marked {
+        mark: mark(Sign::PathSep),
+        node: path.segments,
+    });
+    Ok(Segments { others, ..found }.try_to_tree(arena)?)
+}
+
+// The segments of a path, the first one as a keyword.
+fn led<'a>(arena: &'a Arena, tree: &Tree<'a>) -> Result<Option<Tree<'a>>, Unmade> {
+    let found = segments(tree).ok_or(Unmade::NoRow)?;
+    let led = Segments {
+        is_keyword: true,
+        ..found
+    };
+    Ok(led.try_to_tree(arena)?)
+}
+
+// A segment as a keyword.
+fn keyword<'a>(arena: &'a Arena, tree: &Tree<'a>) -> Result<Option<Tree<'a>>, Unmade> {
+    let found = OneSegment::of(tree).ok_or(Unmade::NoRow)?;
+    let segment = OneSegment {
+        is_keyword: true,
+        ..found
+    };
+    Ok(segment.try_to_tree(arena)?)
+}
+
+// The trait of a bound, if it is one.
+fn trait_bound<'t, 'a>(tree: &'t Tree<'a>) -> Option<TraitBound<'t, 'a>> {
+    match TypeParamBound::of(tree) {
+        Some(TypeParamBound::Trait(path)) => TraitBound::of(path),
+        _ => None,
+    }
+}
+
+// The trait of a bound behind `?`.
+fn maybe<'a>(arena: &'a Arena, tree: &Tree<'a>) -> Result<Option<Tree<'a>>, Unmade> {
+    let found = trait_bound(tree).ok_or(Unmade::NoRow)?;
+    let modifier = TraitBoundModifier::Maybe(mark(Sign::Question));
+    Ok(TraitBound { modifier, ..found }.try_to_tree(arena)?)
+}
+
+/// A type, a path, a segment or a bound, changed so.
+pub(crate) fn changed<'a>(
+    arena: &'a Arena,
+    change: &str,
+    tree: &Tree<'a>,
+) -> Result<Option<Tree<'a>>, Unmade> {
+    match change {
+        "shared" => shared(arena, tree),
+        "front" => front(arena, tree),
+        "last" => last(arena, tree),
+        "global" => global(arena, tree),
+        "doubled" => doubled(arena, tree),
+        "led by a keyword" => led(arena, tree),
+        "as a keyword" => keyword(arena, tree),
+        "maybe" => maybe(arena, tree),
+        _ => Err(Unmade::NoRow),
+    }
+}
