@@ -2,8 +2,8 @@
 # Runs built programs once for each allocation that they make, refusing that one: canon_cli on its stored input, on a
 # large text, on doc and other comments, on texts at fault, on an argument, and for an outline; lex_cli on its stored input; grow_check on each text of
 # tests/texts, behind an older text in its map, on streams that are built by hand, and on literals of texts and their
-# values; grow_calls and grow_grammar on what they read, build, write and print by themselves; and grow_made on its stored
-# input, whose rows are trees that are made of the syntax tree's types. Each run must give the answer itself, with its
+# values; grow_calls, grow_grammar and grow_forms on what they read, build, write and print by themselves; and grow_made on its
+# stored input, whose rows are trees that are made of the syntax tree's types. Each run must give the answer itself, with its
 # status and what it says on standard error, or end with nothing written: with status 3 where memory was refused (in the
 # programs grow_ to a call that is looked at, which then left all as it was), or with their status 4 where it was refused
 # elsewhere.
@@ -53,7 +53,7 @@ sweep() {
     echo "$name: $((n - 1)) allocations refused, $refused with status 3, $elsewhere elsewhere, $((answered - 1)) without effect"
 }
 
-for program in canon_cli lex_cli grow_check grow_calls grow_grammar grow_made; do
+for program in canon_cli lex_cli grow_check grow_calls grow_grammar grow_forms grow_made; do
     build "$program"
 done
 
@@ -108,5 +108,7 @@ answer=../crates/grow_calls/stdout
 sweep "reading, building and printing syntax" grow_calls /dev/null
 answer=../crates/grow_grammar/stdout
 sweep "reading by the grammar, writing and printing" grow_grammar /dev/null
+answer=../crates/grow_forms/stdout
+sweep "forms by themselves" grow_forms /dev/null
 answer=../crates/grow_made/stdout
 sweep "trees that are made of types" grow_made ../crates/grow_made/stdin
