@@ -3,7 +3,7 @@
 use crate::asked::lexed;
 use rows::Page;
 use std::alloc::Global;
-use stops::Stop;
+use stops::{Stop, refused};
 use syn::{
     Arena, BoundLifetimes, ExprCall, ParseFault, ParseOptional, ParseOptionalForm, ParseSingle,
     ParseSingleForm, TokenBuffer, TypeTuple, WhereClause,
@@ -33,12 +33,38 @@ const FORMS: [(Form, &str); 9] = [
     (Form::Tuple, "(T)"),
 ];
 
+// What comes of it.
+#[derive(Clone, Copy)]
+enum Said {
+    Read,
+    Missing,
+    Refused,
+}
+
+impl Said {
+    fn words(self) -> &'static str {
+        match self {
+            Said::Read => "read: ",
+            Said::Missing => "missing: ",
+            Said::Refused => "refused: ",
+        }
+    }
+}
+
+// What is said of a form, where the stream has to stand at another place, or where it stood.
+fn where_it_stands(said: Said, stands_so: bool) -> Result<Said, Stop> {
+    if stands_so {
+        Ok(said)
+    } else {
+        Err(Stop::Changed)
+    }
+}
+
 // What is said of a form that is not there. The stream has to stand where it stood.
-fn told(fault: ParseFault, stands: bool) -> Result<&'static str, Stop> {
+fn told(fault: ParseFault, stays: bool) -> Result<Said, Stop> {
     match fault {
-        _ if !stands => Err(Stop::Changed),
-        ParseFault::Memory => Err(Stop::Refused),
-        ParseFault::Syntax(_) => Ok("refused: "),
+        ParseFault::Memory => refused(stays),
+        ParseFault::Syntax(_) => where_it_stands(Said::Refused, stays),
     }
 }
 
@@ -46,14 +72,14 @@ fn told(fault: ParseFault, stands: bool) -> Result<&'static str, Stop> {
 fn optional<'a, T: ParseOptional<'a> + Copy>(
     input: &mut ParseBuffer<'a>,
     arena: &'a Arena,
-) -> Result<&'static str, Stop> {
+) -> Result<Said, Stop> {
     let from = input.cursor();
     let found: Result<Option<T>, ParseFault> = input.parse_optional(arena);
-    let stands = input.cursor().eq(&from);
+    let stays = input.cursor().eq(&from);
     match found {
-        Ok(Some(_)) => Ok(if stands { "empty: " } else { "read: " }),
-        Ok(None) => Ok(if stands { "missing: " } else { "passed: " }),
-        Err(fault) => told(fault, stands),
+        Ok(Some(_)) => where_it_stands(Said::Read, !stays),
+        Ok(None) => where_it_stands(Said::Missing, stays),
+        Err(fault) => told(fault, stays),
     }
 }
 
@@ -61,21 +87,17 @@ fn optional<'a, T: ParseOptional<'a> + Copy>(
 fn single<'a, T: ParseSingle<'a> + Copy>(
     input: &mut ParseBuffer<'a>,
     arena: &'a Arena,
-) -> Result<&'static str, Stop> {
+) -> Result<Said, Stop> {
     let from = input.cursor();
     let found: Result<T, ParseFault> = input.single(arena);
-    let stands = input.cursor().eq(&from);
+    let stays = input.cursor().eq(&from);
     match found {
-        Ok(_) => Ok(if stands { "empty: " } else { "read: " }),
-        Err(fault) => told(fault, stands),
+        Ok(_) => where_it_stands(Said::Read, !stays),
+        Err(fault) => told(fault, stays),
     }
 }
 
-fn said<'a>(
-    form: Form,
-    arena: &'a Arena,
-    buffer: &'a TokenBuffer<'a>,
-) -> Result<&'static str, Stop> {
+fn told_of<'a>(form: Form, arena: &'a Arena, buffer: &'a TokenBuffer<'a>) -> Result<Said, Stop> {
     let mut input = ParseBuffer::new(arena.alloc(), buffer.begin());
     match form {
         Form::Clause => optional::<WhereClause>(&mut input, arena),
@@ -86,16 +108,17 @@ fn said<'a>(
 }
 
 // The same of a text.
-fn said_of(form: Form, alloc: Global, text: &str) -> Result<&'static str, Stop> {
+fn told_of_text(form: Form, alloc: Global, text: &str) -> Result<Said, Stop> {
     let stream = lexed(alloc, text)?;
     let buffer = TokenBuffer::new2(alloc, &stream, 1)?;
-    said(form, &Arena::new(alloc), &buffer)
+    let arena = Arena::new(alloc);
+    told_of(form, &arena, &buffer)
 }
 
 /// Puts for each text whether its form is read, missing or refused, in lines.
 pub fn put_answers(page: &mut Page) -> Result<(), Stop> {
     for (form, text) in FORMS {
-        page.put(said_of(form, page.alloc(), text)?);
+        page.put(told_of_text(form, page.alloc(), text)?.words());
         page.put(text);
         page.put("\n");
     }

@@ -186,13 +186,15 @@ fn is_single<'a>(
 fn is_item_text(item: Item, alloc: Global, text: &str) -> Result<bool, Stop> {
     let stream = lexed(alloc, text)?;
     let buffer = TokenBuffer::new2(alloc, &stream, 1)?;
-    is_item(item, &Arena::new(alloc), &buffer)
+    let arena = Arena::new(alloc);
+    is_item(item, &arena, &buffer)
 }
 
 fn is_single_text(single: Single, alloc: Global, text: &str) -> Result<bool, Stop> {
     let stream = lexed(alloc, text)?;
     let buffer = TokenBuffer::new2(alloc, &stream, 1)?;
-    is_single(single, &Arena::new(alloc), &buffer)
+    let arena = Arena::new(alloc);
+    is_single(single, &arena, &buffer)
 }
 
 // Puts a text, and whether it is read.

@@ -67,7 +67,7 @@ fn kind_of(name: &str) -> Option<Kind> {
 }
 
 /// What a row with a call asks for, if there is such a kind.
-pub(crate) fn asked(call: &str) -> Option<Asked<'_>> {
+pub(crate) fn asked_by(call: &str) -> Option<Asked<'_>> {
     let (name, change) = call.split_once(' ')?;
     let kind = kind_of(name)?;
     Some(Asked { kind, change })

@@ -55,10 +55,11 @@ fn bare<'a>(arena: &'a Arena, tree: &Tree<'a>) -> Result<Option<Tree<'a>>, Unmad
         return Err(Unmade::NoRow);
     };
     let none = Node(Kind::OuterAttributes, Turns { each: &[] }).to_tree(arena)?;
-    let arg = FnArg::Typed(PatType {
+    let typed = PatType {
         attrs: Some(&none),
         ..typed
-    });
+    };
+    let arg = FnArg::Typed(typed);
     Ok(Parameter { arg, ..found }.try_to_tree(arena)?)
 }
 

@@ -1,6 +1,6 @@
 //! What is answered for a row.
 
-use crate::change::{Asked, Unmade, asked, made};
+use crate::change::{Asked, Unmade, asked_by, made};
 use rows::Page;
 use std::alloc::Global;
 use stops::{Stop, refused};
@@ -119,7 +119,7 @@ fn lexed(alloc: Global, text: &str) -> Result<TokenStream, Stop> {
 
 /// Puts the answer to a row, of a kind with a change, and of a text.
 pub(crate) fn answer(call: &str, text: &str, page: &mut Page) -> Result<(), Stop> {
-    let Some(asked) = asked(call) else {
+    let Some(asked) = asked_by(call) else {
         return Err(Stop::Changed);
     };
     let stream = lexed(page.alloc(), text)?;
