@@ -2,7 +2,6 @@
 
 use crate::asked::lexed;
 use rows::Page;
-use std::alloc::Global;
 use stops::{Stop, refused};
 use syn::{
     Arena, BoundLifetimes, ExprCall, ParseFault, ParseOptional, ParseOptionalForm, ParseSingle,
@@ -107,18 +106,24 @@ fn told_of<'a>(form: Form, arena: &'a Arena, buffer: &'a TokenBuffer<'a>) -> Res
     }
 }
 
+// Puts what is said of a buffer.
+fn put_told(form: Form, buffer: &TokenBuffer<'_>, page: &mut Page) -> Result<(), Stop> {
+    let arena = Arena::new(page.alloc());
+    page.put(told_of(form, &arena, buffer)?.words());
+    Ok(())
+}
+
 // The same of a text.
-fn told_of_text(form: Form, alloc: Global, text: &str) -> Result<Said, Stop> {
-    let stream = lexed(alloc, text)?;
-    let buffer = TokenBuffer::new2(alloc, &stream, 1)?;
-    let arena = Arena::new(alloc);
-    told_of(form, &arena, &buffer)
+fn put_told_of(form: Form, text: &str, page: &mut Page) -> Result<(), Stop> {
+    let stream = lexed(page.alloc(), text)?;
+    let buffer = TokenBuffer::new2(page.alloc(), &stream, 1)?;
+    put_told(form, &buffer, page)
 }
 
 /// Puts for each text whether its form is read, missing or refused, in lines.
 pub fn put_answers(page: &mut Page) -> Result<(), Stop> {
     for (form, text) in FORMS {
-        page.put(told_of_text(form, page.alloc(), text)?.words());
+        put_told_of(form, text, page)?;
         page.put(text);
         page.put("\n");
     }

@@ -2,7 +2,6 @@
 
 use crate::asked::{is_read, is_read_single, lexed};
 use rows::Page;
-use std::alloc::Global;
 use stops::Stop;
 use syn::{
     Arena, ExprAssign, ExprBinary, ExprCall, ExprField, ExprIf, ExprLit, ExprMethodCall, ExprParen,
@@ -183,23 +182,37 @@ fn is_single<'a>(
     }
 }
 
-fn is_item_text(item: Item, alloc: Global, text: &str) -> Result<bool, Stop> {
-    let stream = lexed(alloc, text)?;
-    let buffer = TokenBuffer::new2(alloc, &stream, 1)?;
-    let arena = Arena::new(alloc);
-    is_item(item, &arena, &buffer)
-}
-
-fn is_single_text(single: Single, alloc: Global, text: &str) -> Result<bool, Stop> {
-    let stream = lexed(alloc, text)?;
-    let buffer = TokenBuffer::new2(alloc, &stream, 1)?;
-    let arena = Arena::new(alloc);
-    is_single(single, &arena, &buffer)
-}
-
-// Puts a text, and whether it is read.
-fn put_row(text: &str, is_read: bool, page: &mut Page) {
+// Puts whether a text is read.
+fn put_answer(is_read: bool, page: &mut Page) {
     page.put(if is_read { "read: " } else { "refused: " });
+}
+
+fn put_item(item: Item, buffer: &TokenBuffer<'_>, page: &mut Page) -> Result<(), Stop> {
+    let arena = Arena::new(page.alloc());
+    put_answer(is_item(item, &arena, buffer)?, page);
+    Ok(())
+}
+
+fn put_item_of(item: Item, text: &str, page: &mut Page) -> Result<(), Stop> {
+    let stream = lexed(page.alloc(), text)?;
+    let buffer = TokenBuffer::new2(page.alloc(), &stream, 1)?;
+    put_item(item, &buffer, page)
+}
+
+fn put_single(single: Single, buffer: &TokenBuffer<'_>, page: &mut Page) -> Result<(), Stop> {
+    let arena = Arena::new(page.alloc());
+    put_answer(is_single(single, &arena, buffer)?, page);
+    Ok(())
+}
+
+fn put_single_of(single: Single, text: &str, page: &mut Page) -> Result<(), Stop> {
+    let stream = lexed(page.alloc(), text)?;
+    let buffer = TokenBuffer::new2(page.alloc(), &stream, 1)?;
+    put_single(single, &buffer, page)
+}
+
+// Puts the text, behind what is said of it.
+fn put_text(text: &str, page: &mut Page) {
     page.put(text);
     page.put("\n");
 }
@@ -207,10 +220,12 @@ fn put_row(text: &str, is_read: bool, page: &mut Page) {
 /// Puts for each text whether it is read, in lines.
 pub fn put_answers(page: &mut Page) -> Result<(), Stop> {
     for (item, text) in ITEMS {
-        put_row(text, is_item_text(item, page.alloc(), text)?, page);
+        put_item_of(item, text, page)?;
+        put_text(text, page);
     }
     for (single, text) in SINGLES {
-        put_row(text, is_single_text(single, page.alloc(), text)?, page);
+        put_single_of(single, text, page)?;
+        put_text(text, page);
     }
     Ok(())
 }

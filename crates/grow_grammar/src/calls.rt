@@ -94,12 +94,17 @@ fn put_answer<'a>(
     }
 }
 
+// The same in an arena of its own.
+fn put_answer_in(call: Call, buffer: &TokenBuffer<'_>, page: &mut Page) -> Result<(), Stop> {
+    let arena = Arena::new(page.alloc());
+    put_answer(call, &arena, buffer, page)
+}
+
 // The same of a text.
 fn put_answer_of(call: Call, text: &str, page: &mut Page) -> Result<(), Stop> {
     let stream = lexed(page.alloc(), text)?;
     let buffer = TokenBuffer::new2(page.alloc(), &stream, 1)?;
-    let arena = Arena::new(page.alloc());
-    put_answer(call, &arena, &buffer, page)
+    put_answer_in(call, &buffer, page)
 }
 
 /// Puts the answers of these calls, in lines.

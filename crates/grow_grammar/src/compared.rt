@@ -46,12 +46,25 @@ fn put_buffers<'a>(
     put_compared(arena, &one, &other, page)
 }
 
+// The same in an arena of its own.
+fn put_in_arena<'a>(
+    one: &'a TokenBuffer<'a>,
+    other: &'a TokenBuffer<'a>,
+    page: &mut Page,
+) -> Result<(), Stop> {
+    let arena = Arena::new(page.alloc());
+    put_buffers(&arena, one, other, page)
+}
+
 // The same of streams.
-fn put_streams(one: &TokenStream, other: &TokenStream, page: &mut Page) -> Result<(), Stop> {
+fn put_streams<'a>(
+    one: &'a TokenStream,
+    other: &'a TokenStream,
+    page: &mut Page,
+) -> Result<(), Stop> {
     let one = TokenBuffer::new2(page.alloc(), one, 1)?;
     let other = TokenBuffer::new2(page.alloc(), other, 1)?;
-    let arena = Arena::new(page.alloc());
-    put_buffers(&arena, &one, &other, page)
+    put_in_arena(&one, &other, page)
 }
 
 // The same of texts.

@@ -30,10 +30,15 @@ fn put_written<'a>(
     Ok(())
 }
 
+// The same in an arena of its own.
+fn put_in_arena(buffer: &TokenBuffer<'_>, page: &mut Page) -> Result<(), Stop> {
+    let arena = Arena::new(page.alloc());
+    put_written(&arena, buffer, page)
+}
+
 /// Puts what is written of the long expression, in lines.
 pub fn put_answers(page: &mut Page) -> Result<(), Stop> {
     let stream = lexed(page.alloc(), LONG)?;
     let buffer = TokenBuffer::new2(page.alloc(), &stream, 1)?;
-    let arena = Arena::new(page.alloc());
-    put_written(&arena, &buffer, page)
+    put_in_arena(&buffer, page)
 }

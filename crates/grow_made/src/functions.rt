@@ -48,6 +48,18 @@ fn parameter<'t, 'a>(tree: &'t Tree<'a>) -> Option<Parameter<'t, 'a>> {
     Parameter::of(OneParameter::of(tree)?.parameter)
 }
 
+// A pattern and its type, behind these attributes.
+fn behind<'t, 'a>(attrs: &'t Tree<'a>, typed: PatType<'t, 'a>) -> FnArg<'t, 'a> {
+    let attrs = Some(attrs);
+    let typed = PatType { attrs, ..typed };
+    FnArg::Typed(typed)
+}
+
+// A parameter, with another argument.
+fn with_argument<'t, 'a>(found: Parameter<'t, 'a>, arg: FnArg<'t, 'a>) -> Parameter<'t, 'a> {
+    Parameter { arg, ..found }
+}
+
 // A parameter whose pattern has no attributes.
 fn bare<'a>(arena: &'a Arena, tree: &Tree<'a>) -> Result<Option<Tree<'a>>, Unmade> {
     let found = parameter(tree).ok_or(Unmade::NoRow)?;
@@ -55,12 +67,8 @@ fn bare<'a>(arena: &'a Arena, tree: &Tree<'a>) -> Result<Option<Tree<'a>>, Unmad
         return Err(Unmade::NoRow);
     };
     let none = Node(Kind::OuterAttributes, Turns { each: &[] }).to_tree(arena)?;
-    let typed = PatType {
-        attrs: Some(&none),
-        ..typed
-    };
-    let arg = FnArg::Typed(typed);
-    Ok(Parameter { arg, ..found }.try_to_tree(arena)?)
+    let parameter = with_argument(found, behind(&none, typed));
+    Ok(parameter.try_to_tree(arena)?)
 }
 
 // A receiver as it is taken by value, mutable where a reference of it was.
