@@ -33,45 +33,55 @@ fn are_whole<'a>(arena: &'a Arena, one: &Tree<'a>, other: &Tree<'a>) -> bool {
     matches!(same(arena, one, one), Ok(true)) && matches!(same(arena, other, other), Ok(true))
 }
 
-// The same of the types that two buffers are.
+// The same of the first and the last of some buffers, which are read as types.
 fn put_buffers<'a>(
     arena: &'a Arena,
-    one: &'a TokenBuffer<'a>,
-    other: &'a TokenBuffer<'a>,
+    buffers: &'a [TokenBuffer<'a>],
     page: &mut Page,
 ) -> Result<(), Stop> {
     let kind = Kind::AType(Plus::WithPlus);
+    let (Some(one), Some(other)) = (buffers.first(), buffers.last()) else {
+        return Err(Stop::Changed);
+    };
     let one = parsed(arena, kind, one)?;
     let other = parsed(arena, kind, other)?;
     put_compared(arena, &one, &other, page)
 }
 
 // The same in an arena of its own.
-fn put_in_arena<'a>(
-    one: &'a TokenBuffer<'a>,
-    other: &'a TokenBuffer<'a>,
-    page: &mut Page,
-) -> Result<(), Stop> {
+fn put_in_arena(buffers: &[TokenBuffer<'_>], page: &mut Page) -> Result<(), Stop> {
     let arena = Arena::new(page.alloc());
-    put_buffers(&arena, one, other, page)
+    put_buffers(&arena, buffers, page)
+}
+
+// A buffer of each stream.
+fn buffers<'a>(alloc: Global, streams: &'a [TokenStream]) -> Result<Vec<TokenBuffer<'a>>, Stop> {
+    let mut all = Vec::new(alloc);
+    for stream in streams {
+        all.push(TokenBuffer::new2(alloc, stream, 1)?)?;
+    }
+    Ok(all)
 }
 
 // The same of streams.
-fn put_streams<'a>(
-    one: &'a TokenStream,
-    other: &'a TokenStream,
-    page: &mut Page,
-) -> Result<(), Stop> {
-    let one = TokenBuffer::new2(page.alloc(), one, 1)?;
-    let other = TokenBuffer::new2(page.alloc(), other, 1)?;
-    put_in_arena(&one, &other, page)
+fn put_streams(streams: &[TokenStream], page: &mut Page) -> Result<(), Stop> {
+    let buffers = buffers(page.alloc(), streams)?;
+    put_in_arena(buffers.as_slice(), page)
+}
+
+// The tokens of each text.
+fn streams(alloc: Global, texts: [&str; 2]) -> Result<Vec<TokenStream>, Stop> {
+    let mut all = Vec::new(alloc);
+    for text in texts {
+        all.push(lexed(alloc, text)?)?;
+    }
+    Ok(all)
 }
 
 // The same of texts.
-fn put_texts(alloc: Global, texts: [&str; 2], page: &mut Page) -> Result<(), Stop> {
-    let one = lexed(alloc, texts[0])?;
-    let other = lexed(alloc, texts[1])?;
-    put_streams(&one, &other, page)
+fn put_texts(texts: [&str; 2], page: &mut Page) -> Result<(), Stop> {
+    let streams = streams(page.alloc(), texts)?;
+    put_streams(streams.as_slice(), page)
 }
 
 // Types. In the first pair the `>` stands directly before another one or apart from it, which no syntax tree holds.
@@ -85,7 +95,7 @@ const PAIRS: [[&str; 2]; 4] = [
 /// Puts the answers for these types, in lines.
 pub fn put_answers(page: &mut Page) -> Result<(), Stop> {
     for texts in PAIRS {
-        put_texts(page.alloc(), texts, page)?;
+        put_texts(texts, page)?;
         page.put("\n");
     }
     Ok(())
