@@ -6,6 +6,6 @@ pub mod Firsts
 pub mod Nests
 pub mod Alone
 pub mod Alike
-pub mod OneItem
+pub mod ItemsAlone
 pub mod Singles
-pub mod Members
+pub mod MembersAlone

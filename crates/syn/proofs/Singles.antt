@@ -47,11 +47,23 @@ pub other_read : (k : Kind) (p : Tree → Type 0) (ts : List Token) (tree : Tree
 other_read k p ts tree rest d n other left e h =
     n rest d.0 (subst p (sym (one (ref k) tree other rest left d.0 e.0 (d.1 ∙ sym e.1)).0) h)
 
+-- the same, by what a reader knows of it: the kind it asked for, the tokens it began with, and the tree where it stands
+pub other_found : (k j : Kind) (p : Tree → Type 0) (ts us : List Token) (x y : Tree) (rest : List Token) → j ≡ k
+    → us ≡ ts → y ≡ x → IsDerived j us x rest → IsNotMeant k p y → NoneMeant k p ts
+other_found k j p ts us x y rest e f h d n =
+    other_read k p ts x rest (subst (λ i. IsDerived i ts x rest) e (subst (λ vs. IsDerived j vs x rest) f d))
+    (subst (λ z. IsNotMeant k p z) h n)
+
 pub other_all : (k : Kind) (p : Tree → Type 0) (ts : List Token) (tree : Tree) → IsAll k ts tree
     → IsNotMeant k p tree → IsNoneMeant k p ts
 other_all k p ts tree d n other e h =
     n [] d.0 (subst p (sym (one (ref k) tree other [] [] d.0 e.0 (append-nil (flat tree) ∙ d.1
     ∙ sym (append-nil (flat other) ∙ e.1))).0) h)
+
+pub other_whole : (k j : Kind) (p : Tree → Type 0) (ts : List Token) (x y : Tree) → j ≡ k → y ≡ x → IsAll j ts x
+    → IsNotMeant k p y → IsNoneMeant k p ts
+other_whole k j p ts x y e h d n =
+    other_all k p ts x (subst (λ i. IsAll i ts x) e d) (subst (λ z. IsNotMeant k p z) h n)
 
 -- where a tree is read, it is no fault of syntax that none is
 pub placed : (k : Kind) (ts : List Token) (tree : Tree) (rest : List Token) (span : Span) (e : ParseFault)

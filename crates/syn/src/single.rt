@@ -47,7 +47,7 @@ pub trait ParseSingle<'a> {
         ensures { kind_of result ≡ kind };
 
     /// What an error says where another form stands, as `expected call`.
-    fn refusal() -> &'static str;
+    fn refusal() -> &'a str;
 
     /// What the type says of a tree of the kind: one layer of it. `None` exactly of those of another form.
     fn view(tree: &'a Tree<'a>) -> Option<Self>
@@ -81,7 +81,7 @@ pub fn parse2_single<'a, T: ParseSingle<'a>>(
 
 impl<'a> Reader<'a> {
     // The fault that another form stands there.
-    fn other(&self, refusal: &'static str) -> ParseFault
+    fn other(&self, refusal: &str) -> ParseFault
         ensures { StandsAt (reading.standing self.now) result }
     {
         match self.error(refusal) {
@@ -132,7 +132,7 @@ pub trait ParseSingleForm<'a, T: ParseSingle<'a>> {
 }
 
 // The fault that another form stands there.
-fn other(input: &ParseBuffer<'_>, refusal: &'static str) -> ParseFault
+fn other(input: &ParseBuffer<'_>, refusal: &str) -> ParseFault
     ensures { StandsAt (next_place input.now) result }
 {
     match input.error(refusal) {

@@ -20,7 +20,7 @@ impl<'a> SingleExpr<'a> for ExprArray<'a, 'a> {
 
     ghost tree_of = { expr_array };
 
-    fn expected() -> &'static str {
+    fn expected() -> &'a str {
         "expected array"
     }
 
@@ -37,7 +37,7 @@ impl<'a> SingleExpr<'a> for ExprAsync<'a, 'a> {
 
     ghost tree_of = { expr_async };
 
-    fn expected() -> &'static str {
+    fn expected() -> &'a str {
         "expected async block"
     }
 
@@ -54,7 +54,7 @@ impl<'a> SingleExpr<'a> for ExprBlock<'a, 'a> {
 
     ghost tree_of = { expr_block };
 
-    fn expected() -> &'static str {
+    fn expected() -> &'a str {
         "expected block"
     }
 
@@ -71,7 +71,7 @@ impl<'a> SingleExpr<'a> for ExprConst<'a, 'a> {
 
     ghost tree_of = { expr_const };
 
-    fn expected() -> &'static str {
+    fn expected() -> &'a str {
         "expected const block"
     }
 
@@ -88,7 +88,7 @@ impl<'a> SingleExpr<'a> for ExprContinue<'a> {
 
     ghost tree_of = { expr_continue };
 
-    fn expected() -> &'static str {
+    fn expected() -> &'a str {
         "expected `continue`"
     }
 
@@ -105,7 +105,7 @@ impl<'a> SingleExpr<'a> for ExprForLoop<'a, 'a> {
 
     ghost tree_of = { expr_for_loop };
 
-    fn expected() -> &'static str {
+    fn expected() -> &'a str {
         "expected `for` loop"
     }
 
@@ -122,7 +122,7 @@ impl<'a> SingleExpr<'a> for ExprIf<'a, 'a> {
 
     ghost tree_of = { expr_if };
 
-    fn expected() -> &'static str {
+    fn expected() -> &'a str {
         "expected `if`"
     }
 
@@ -139,7 +139,7 @@ impl<'a> SingleExpr<'a> for ExprInfer<'a> {
 
     ghost tree_of = { expr_infer };
 
-    fn expected() -> &'static str {
+    fn expected() -> &'a str {
         "expected `_`"
     }
 
@@ -156,7 +156,7 @@ impl<'a> SingleExpr<'a> for ExprLit<'a> {
 
     ghost tree_of = { expr_lit };
 
-    fn expected() -> &'static str {
+    fn expected() -> &'a str {
         "expected literal"
     }
 
@@ -173,7 +173,7 @@ impl<'a> SingleExpr<'a> for ExprLoop<'a, 'a> {
 
     ghost tree_of = { expr_loop };
 
-    fn expected() -> &'static str {
+    fn expected() -> &'a str {
         "expected `loop`"
     }
 
@@ -190,7 +190,7 @@ impl<'a> SingleExpr<'a> for ExprMacro<'a, 'a> {
 
     ghost tree_of = { expr_macro };
 
-    fn expected() -> &'static str {
+    fn expected() -> &'a str {
         "expected macro call"
     }
 
@@ -207,7 +207,7 @@ impl<'a> SingleExpr<'a> for ExprMatch<'a, 'a> {
 
     ghost tree_of = { expr_match };
 
-    fn expected() -> &'static str {
+    fn expected() -> &'a str {
         "expected `match`"
     }
 
@@ -224,7 +224,7 @@ impl<'a> SingleExpr<'a> for ExprParen<'a, 'a> {
 
     ghost tree_of = { expr_paren };
 
-    fn expected() -> &'static str {
+    fn expected() -> &'a str {
         "expected expression in parentheses"
     }
 
@@ -241,7 +241,7 @@ impl<'a> SingleExpr<'a> for ExprPath<'a, 'a> {
 
     ghost tree_of = { expr_path };
 
-    fn expected() -> &'static str {
+    fn expected() -> &'a str {
         "expected path"
     }
 
@@ -258,7 +258,7 @@ impl<'a> SingleExpr<'a> for ExprRepeat<'a, 'a> {
 
     ghost tree_of = { expr_repeat };
 
-    fn expected() -> &'static str {
+    fn expected() -> &'a str {
         "expected array of one value"
     }
 
@@ -275,7 +275,7 @@ impl<'a> SingleExpr<'a> for ExprTryBlock<'a, 'a> {
 
     ghost tree_of = { expr_try_block };
 
-    fn expected() -> &'static str {
+    fn expected() -> &'a str {
         "expected try block"
     }
 
@@ -292,7 +292,7 @@ impl<'a> SingleExpr<'a> for ExprTuple<'a, 'a> {
 
     ghost tree_of = { expr_tuple };
 
-    fn expected() -> &'static str {
+    fn expected() -> &'a str {
         "expected tuple"
     }
 
@@ -310,7 +310,7 @@ impl<'a> SingleExpr<'a> for ExprUnsafe<'a, 'a> {
 
     ghost tree_of = { expr_unsafe };
 
-    fn expected() -> &'static str {
+    fn expected() -> &'a str {
         "expected unsafe block"
     }
 
@@ -327,7 +327,7 @@ impl<'a> SingleExpr<'a> for ExprWhile<'a, 'a> {
 
     ghost tree_of = { expr_while };
 
-    fn expected() -> &'static str {
+    fn expected() -> &'a str {
         "expected `while` loop"
     }
 

@@ -22,7 +22,7 @@ pub trait SingleExpr<'a> {
     ghost tree_of: { Self → GivenTree };
 
     /// What an error says where an expression of another form stands.
-    fn expected() -> &'static str;
+    fn expected() -> &'a str;
 
     /// What the type says of the form of an expression: one layer of it. `None` of another form, and only of trees that
     /// are none of this one.
@@ -58,7 +58,7 @@ impl<'a, T: SingleExpr<'a>> ParseSingle<'a> for T {
         Kind::Expression(Position::Plain)
     }
 
-    fn refusal() -> &'static str {
+    fn refusal() -> &'a str {
         T::expected()
     }
 

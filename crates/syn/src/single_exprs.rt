@@ -27,7 +27,7 @@ impl<'a> SingleExpr<'a> for ExprAssign<'a, 'a> {
 
     ghost tree_of = { expr_assign };
 
-    fn expected() -> &'static str {
+    fn expected() -> &'a str {
         "expected assignment"
     }
 
@@ -44,7 +44,7 @@ impl<'a> SingleExpr<'a> for ExprAttributed<'a, 'a> {
 
     ghost tree_of = { expr_attributed };
 
-    fn expected() -> &'static str {
+    fn expected() -> &'a str {
         "expected expression with attributes"
     }
 
@@ -61,7 +61,7 @@ impl<'a> SingleExpr<'a> for ExprAwait<'a, 'a> {
 
     ghost tree_of = { expr_await };
 
-    fn expected() -> &'static str {
+    fn expected() -> &'a str {
         "expected `.await`"
     }
 
@@ -78,7 +78,7 @@ impl<'a> SingleExpr<'a> for ExprBinary<'a, 'a> {
 
     ghost tree_of = { expr_binary };
 
-    fn expected() -> &'static str {
+    fn expected() -> &'a str {
         "expected binary operation"
     }
 
@@ -96,7 +96,7 @@ impl<'a> SingleExpr<'a> for ExprBreak<'a, 'a> {
 
     ghost tree_of = { expr_break };
 
-    fn expected() -> &'static str {
+    fn expected() -> &'a str {
         "expected `break`"
     }
 
@@ -114,7 +114,7 @@ impl<'a> SingleExpr<'a> for ExprCall<'a, 'a> {
 
     ghost tree_of = { expr_call };
 
-    fn expected() -> &'static str {
+    fn expected() -> &'a str {
         "expected function call"
     }
 
@@ -131,7 +131,7 @@ impl<'a> SingleExpr<'a> for ExprCast<'a, 'a> {
 
     ghost tree_of = { expr_cast };
 
-    fn expected() -> &'static str {
+    fn expected() -> &'a str {
         "expected cast"
     }
 
@@ -148,7 +148,7 @@ impl<'a> SingleExpr<'a> for ExprClosure<'a, 'a> {
 
     ghost tree_of = { expr_closure };
 
-    fn expected() -> &'static str {
+    fn expected() -> &'a str {
         "expected closure"
     }
 
@@ -166,7 +166,7 @@ impl<'a> SingleExpr<'a> for ExprField<'a, 'a> {
 
     ghost tree_of = { expr_field };
 
-    fn expected() -> &'static str {
+    fn expected() -> &'a str {
         "expected field access"
     }
 
@@ -183,7 +183,7 @@ impl<'a> SingleExpr<'a> for ExprIndex<'a, 'a> {
 
     ghost tree_of = { expr_index };
 
-    fn expected() -> &'static str {
+    fn expected() -> &'a str {
         "expected index in brackets"
     }
 
@@ -200,7 +200,7 @@ impl<'a> SingleExpr<'a> for ExprLet<'a, 'a> {
 
     ghost tree_of = { expr_let };
 
-    fn expected() -> &'static str {
+    fn expected() -> &'a str {
         "expected `let`"
     }
 
@@ -217,7 +217,7 @@ impl<'a> SingleExpr<'a> for ExprMethodCall<'a, 'a> {
 
     ghost tree_of = { expr_method_call };
 
-    fn expected() -> &'static str {
+    fn expected() -> &'a str {
         "expected method call"
     }
 
@@ -252,7 +252,7 @@ impl<'a> SingleExpr<'a> for ExprRange<'a, 'a> {
 
     ghost tree_of = { expr_range };
 
-    fn expected() -> &'static str {
+    fn expected() -> &'a str {
         "expected range"
     }
 
@@ -269,7 +269,7 @@ impl<'a> SingleExpr<'a> for ExprRawAddr<'a, 'a> {
 
     ghost tree_of = { expr_raw_addr };
 
-    fn expected() -> &'static str {
+    fn expected() -> &'a str {
         "expected raw address"
     }
 
@@ -286,7 +286,7 @@ impl<'a> SingleExpr<'a> for ExprReference<'a, 'a> {
 
     ghost tree_of = { expr_reference };
 
-    fn expected() -> &'static str {
+    fn expected() -> &'a str {
         "expected reference"
     }
 
@@ -303,7 +303,7 @@ impl<'a> SingleExpr<'a> for ExprReturn<'a, 'a> {
 
     ghost tree_of = { expr_return };
 
-    fn expected() -> &'static str {
+    fn expected() -> &'a str {
         "expected `return`"
     }
 
@@ -321,7 +321,7 @@ impl<'a> SingleExpr<'a> for ExprStruct<'a, 'a> {
 
     ghost tree_of = { expr_struct };
 
-    fn expected() -> &'static str {
+    fn expected() -> &'a str {
         "expected struct"
     }
 
@@ -338,7 +338,7 @@ impl<'a> SingleExpr<'a> for ExprTry<'a, 'a> {
 
     ghost tree_of = { expr_try };
 
-    fn expected() -> &'static str {
+    fn expected() -> &'a str {
         "expected `?`"
     }
 
@@ -355,7 +355,7 @@ impl<'a> SingleExpr<'a> for ExprUnary<'a, 'a> {
 
     ghost tree_of = { expr_unary };
 
-    fn expected() -> &'static str {
+    fn expected() -> &'a str {
         "expected unary operation"
     }
 
@@ -372,7 +372,7 @@ impl<'a> SingleExpr<'a> for ExprYield<'a, 'a> {
 
     ghost tree_of = { expr_yield };
 
-    fn expected() -> &'static str {
+    fn expected() -> &'a str {
         "expected `yield`"
     }
 

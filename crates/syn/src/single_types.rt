@@ -29,7 +29,7 @@ impl<'a> ParseSingle<'a> for TypeArray<'a, 'a> {
         Kind::BracketType
     }
 
-    fn refusal() -> &'static str {
+    fn refusal() -> &'a str {
         "expected `;` and the length of an array"
     }
 
@@ -63,7 +63,7 @@ impl<'a> ParseSingle<'a> for TypeSlice<'a, 'a> {
         Kind::BracketType
     }
 
-    fn refusal() -> &'static str {
+    fn refusal() -> &'a str {
         "expected slice"
     }
 
@@ -95,7 +95,7 @@ impl<'a> ParseSingle<'a> for TypeParen<'a, 'a> {
         Kind::TupleType
     }
 
-    fn refusal() -> &'static str {
+    fn refusal() -> &'a str {
         "expected one type in parentheses"
     }
 
@@ -127,7 +127,7 @@ impl<'a> ParseSingle<'a> for TypeTuple<'a, 'a> {
         Kind::TupleType
     }
 
-    fn refusal() -> &'static str {
+    fn refusal() -> &'a str {
         "expected tuple"
     }
 
@@ -159,7 +159,7 @@ impl<'a> ParseSingle<'a> for MetaList<'a, 'a> {
         Kind::Meta
     }
 
-    fn refusal() -> &'static str {
+    fn refusal() -> &'a str {
         "expected path and tokens in a group"
     }
 
@@ -187,7 +187,7 @@ impl<'a> ParseSingle<'a> for MetaNameValue<'a, 'a> {
         Kind::Meta
     }
 
-    fn refusal() -> &'static str {
+    fn refusal() -> &'a str {
         "expected path, `=` and a value"
     }
 

@@ -3,7 +3,7 @@ use Rattle.syn_grammar.specs.Kind as k
 use Rattle.syn_grammar.specs.Lists.{typed}
 use Rattle.gram_table.specs.Kinds.{kind_of}
 use Rattle.syn_ast.proofs.Derived.{shaped}
-use Rattle.syn.proofs.OneItem.{form_read, only_kept}
+use Rattle.syn.proofs.ItemsAlone.{form_read, only_kept}
 use Rattle.syn.proofs.one_item.parts_of.Goals as goal
 
 pub returns-in-Some : goal.returns-in-Some

@@ -1,7 +1,7 @@
 use Rattle.syn_grammar.specs.Gram.{ref}
 use Rattle.syn_grammar.specs.Kind as k
 use Rattle.syn_ast.proofs.Derived.{shaped}
-use Rattle.syn.proofs.Members.{function_kept}
+use Rattle.syn.proofs.MembersAlone.{function_kept}
 use Rattle.syn.proofs.member_forms.OneForeignItemFnParse.view.Goals as goal
 
 pub returns-in-None : goal.returns-in-None

@@ -1,7 +1,7 @@
 use Rattle.syn_grammar.specs.Gram.{ref}
 use Rattle.syn_grammar.specs.Kind as k
 use Rattle.syn_ast.proofs.Derived.{shaped}
-use Rattle.syn.proofs.Members.{constant_kept}
+use Rattle.syn.proofs.MembersAlone.{constant_kept}
 use Rattle.syn.proofs.member_forms.OneImplItemConstParse.view.Goals as goal
 
 pub returns-in-None : goal.returns-in-None
