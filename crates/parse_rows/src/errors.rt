@@ -1,40 +1,52 @@
 //! Errors: messages put together, gone over, and as tokens.
 
 use proc_macro2::Span;
-use std::alloc::Global;
+use rows::{Page, Unanswered};
+use std::alloc::{AllocError, Global};
 use syn_error::{Error, ParseFault};
 
-fn line(lines: &mut String, text: &str) -> Result<(), anyhow::Error> {
-    lines.push_str(text)?;
-    lines.push_str("\n")?;
-    Ok(())
-}
-
 // Two messages.
-fn two(alloc: Global) -> Result<Error, anyhow::Error> {
+fn two(alloc: Global) -> Result<Error, AllocError> {
     let mut error = Error::new(alloc, Span::call_site(), "one")?;
     error.combine(Error::new(alloc, Span::call_site(), "two")?)?;
     Ok(error)
 }
 
 /// What errors of several messages say.
-pub(crate) fn errors(lines: &mut String) -> Result<(), anyhow::Error> {
-    let alloc = *lines.allocator();
-    let error = two(alloc)?;
-    let first = error.to_string(alloc)?;
-    line(lines, first.as_str())?;
-    for message in &error {
-        let text = message?.to_string(alloc)?;
-        line(lines, text.as_str())?;
+pub(crate) fn errors(page: &mut Page) -> Result<(), Unanswered> {
+    let error = two(page.alloc())?;
+    write!(page, "{error}\n");
+    put_messages(&error, page);
+    put_tokens(&error, page);
+    put_extended(error, page)?;
+    let memory = ParseFault::Memory;
+    write!(page, "{memory}\n");
+    Ok(())
+}
+
+fn put_messages(error: &Error, page: &mut Page) {
+    for message in error {
+        match message {
+            Ok(message) => write!(page, "{message}\n"),
+            Err(_) => page.cut(),
+        }
     }
-    let tokens = error.to_compile_error(alloc)?.to_string(alloc)?;
-    line(lines, tokens.as_str())?;
-    let mut more = Error::new(alloc, Span::call_site(), 7)?;
+}
+
+fn put_tokens(error: &Error, page: &mut Page) {
+    match error.to_compile_error(page.alloc()) {
+        Ok(tokens) => write!(page, "{tokens}\n"),
+        Err(_) => page.cut(),
+    }
+}
+
+// Puts the messages of an error that is extended by those of another one.
+fn put_extended(error: Error, page: &mut Page) -> Result<(), AllocError> {
+    let mut more = Error::new(page.alloc(), Span::call_site(), 7)?;
     more.extend(error)?;
     for message in more {
-        let text = ParseFault::Syntax(message).to_string(alloc)?;
-        line(lines, text.as_str())?;
+        let fault = ParseFault::Syntax(message);
+        write!(page, "{fault}\n");
     }
-    let memory = ParseFault::Memory.to_string(alloc)?;
-    line(lines, memory.as_str())
+    Ok(())
 }

@@ -1,167 +1,154 @@
 //! Each kind of one token or punctuation by its name: how a message shows it, and its text when it is printed.
 
-use anyhow::Error;
+use rows::Page;
 use std::fmt::Display;
 use syn_error::ToTokens;
 use syn_kinds::token;
 
-/// A line for each kind.
-pub fn kinds(lines: &mut String) -> Result<(), Error> {
-    first(lines)?;
-    second(lines)?;
-    third(lines)?;
-    fourth(lines)?;
-    fifth(lines)?;
-    sixth(lines)?;
-    groups(lines)
+/// Puts a line for each kind.
+pub fn kinds(page: &mut Page) {
+    first(page);
+    second(page);
+    third(page);
+    fourth(page);
+    fifth(page);
+    sixth(page);
+    groups(page);
 }
 
-// The line of a kind.
-fn line<T: ToTokens + Display + Default + Drop>(
-    lines: &mut String,
-    name: &str,
-) -> Result<(), Error> {
-    let alloc = *lines.allocator();
+// Puts the line of a kind.
+fn line<T: ToTokens + Display + Default + Drop>(name: &str, page: &mut Page) {
     let kind = T::default();
-    let text = kind.to_token_stream(alloc)?;
-    let line = format!(in alloc; "{name} {kind} {text}\n")?;
-    lines.push_str(line.as_str())?;
-    Ok(())
+    match kind.to_token_stream(page.alloc()) {
+        Ok(tokens) => write!(page, "{name} {kind} {tokens}\n"),
+        Err(_) => page.cut(),
+    }
 }
 
-fn first(lines: &mut String) -> Result<(), Error> {
-    line::<token::Abstract>(lines, "Abstract")?;
-    line::<token::As>(lines, "As")?;
-    line::<token::Async>(lines, "Async")?;
-    line::<token::Await>(lines, "Await")?;
-    line::<token::Become>(lines, "Become")?;
-    line::<token::Box>(lines, "Box")?;
-    line::<token::Break>(lines, "Break")?;
-    line::<token::Const>(lines, "Const")?;
-    line::<token::Continue>(lines, "Continue")?;
-    line::<token::Crate>(lines, "Crate")?;
-    line::<token::Do>(lines, "Do")?;
-    line::<token::Dyn>(lines, "Dyn")?;
-    line::<token::Else>(lines, "Else")?;
-    line::<token::Enum>(lines, "Enum")?;
-    line::<token::Extern>(lines, "Extern")?;
-    line::<token::Final>(lines, "Final")?;
-    line::<token::Fn>(lines, "Fn")?;
-    Ok(())
+fn first(page: &mut Page) {
+    line::<token::Abstract>("Abstract", page);
+    line::<token::As>("As", page);
+    line::<token::Async>("Async", page);
+    line::<token::Await>("Await", page);
+    line::<token::Become>("Become", page);
+    line::<token::Box>("Box", page);
+    line::<token::Break>("Break", page);
+    line::<token::Const>("Const", page);
+    line::<token::Continue>("Continue", page);
+    line::<token::Crate>("Crate", page);
+    line::<token::Do>("Do", page);
+    line::<token::Dyn>("Dyn", page);
+    line::<token::Else>("Else", page);
+    line::<token::Enum>("Enum", page);
+    line::<token::Extern>("Extern", page);
+    line::<token::Final>("Final", page);
+    line::<token::Fn>("Fn", page);
 }
 
-fn second(lines: &mut String) -> Result<(), Error> {
-    line::<token::For>(lines, "For")?;
-    line::<token::If>(lines, "If")?;
-    line::<token::Impl>(lines, "Impl")?;
-    line::<token::In>(lines, "In")?;
-    line::<token::Let>(lines, "Let")?;
-    line::<token::Loop>(lines, "Loop")?;
-    line::<token::Macro>(lines, "Macro")?;
-    line::<token::Match>(lines, "Match")?;
-    line::<token::Mod>(lines, "Mod")?;
-    line::<token::Move>(lines, "Move")?;
-    line::<token::Mut>(lines, "Mut")?;
-    line::<token::Override>(lines, "Override")?;
-    line::<token::Priv>(lines, "Priv")?;
-    line::<token::Pub>(lines, "Pub")?;
-    line::<token::Ref>(lines, "Ref")?;
-    line::<token::Return>(lines, "Return")?;
-    line::<token::SelfType>(lines, "SelfType")?;
-    Ok(())
+fn second(page: &mut Page) {
+    line::<token::For>("For", page);
+    line::<token::If>("If", page);
+    line::<token::Impl>("Impl", page);
+    line::<token::In>("In", page);
+    line::<token::Let>("Let", page);
+    line::<token::Loop>("Loop", page);
+    line::<token::Macro>("Macro", page);
+    line::<token::Match>("Match", page);
+    line::<token::Mod>("Mod", page);
+    line::<token::Move>("Move", page);
+    line::<token::Mut>("Mut", page);
+    line::<token::Override>("Override", page);
+    line::<token::Priv>("Priv", page);
+    line::<token::Pub>("Pub", page);
+    line::<token::Ref>("Ref", page);
+    line::<token::Return>("Return", page);
+    line::<token::SelfType>("SelfType", page);
 }
 
-fn third(lines: &mut String) -> Result<(), Error> {
-    line::<token::SelfValue>(lines, "SelfValue")?;
-    line::<token::Static>(lines, "Static")?;
-    line::<token::Struct>(lines, "Struct")?;
-    line::<token::Super>(lines, "Super")?;
-    line::<token::Trait>(lines, "Trait")?;
-    line::<token::Try>(lines, "Try")?;
-    line::<token::Type>(lines, "Type")?;
-    line::<token::Typeof>(lines, "Typeof")?;
-    line::<token::Unsafe>(lines, "Unsafe")?;
-    line::<token::Unsized>(lines, "Unsized")?;
-    line::<token::Use>(lines, "Use")?;
-    line::<token::Virtual>(lines, "Virtual")?;
-    line::<token::Where>(lines, "Where")?;
-    line::<token::While>(lines, "While")?;
-    line::<token::Yield>(lines, "Yield")?;
-    line::<token::Auto>(lines, "Auto")?;
-    line::<token::Default>(lines, "Default")?;
-    Ok(())
+fn third(page: &mut Page) {
+    line::<token::SelfValue>("SelfValue", page);
+    line::<token::Static>("Static", page);
+    line::<token::Struct>("Struct", page);
+    line::<token::Super>("Super", page);
+    line::<token::Trait>("Trait", page);
+    line::<token::Try>("Try", page);
+    line::<token::Type>("Type", page);
+    line::<token::Typeof>("Typeof", page);
+    line::<token::Unsafe>("Unsafe", page);
+    line::<token::Unsized>("Unsized", page);
+    line::<token::Use>("Use", page);
+    line::<token::Virtual>("Virtual", page);
+    line::<token::Where>("Where", page);
+    line::<token::While>("While", page);
+    line::<token::Yield>("Yield", page);
+    line::<token::Auto>("Auto", page);
+    line::<token::Default>("Default", page);
 }
 
-fn fourth(lines: &mut String) -> Result<(), Error> {
-    line::<token::Raw>(lines, "Raw")?;
-    line::<token::Safe>(lines, "Safe")?;
-    line::<token::Union>(lines, "Union")?;
-    line::<token::And>(lines, "And")?;
-    line::<token::AndAnd>(lines, "AndAnd")?;
-    line::<token::AndEq>(lines, "AndEq")?;
-    line::<token::At>(lines, "At")?;
-    line::<token::Caret>(lines, "Caret")?;
-    line::<token::CaretEq>(lines, "CaretEq")?;
-    line::<token::Colon>(lines, "Colon")?;
-    line::<token::Comma>(lines, "Comma")?;
-    line::<token::Dollar>(lines, "Dollar")?;
-    line::<token::Dot>(lines, "Dot")?;
-    line::<token::DotDot>(lines, "DotDot")?;
-    line::<token::DotDotDot>(lines, "DotDotDot")?;
-    line::<token::DotDotEq>(lines, "DotDotEq")?;
-    line::<token::Eq>(lines, "Eq")?;
-    Ok(())
+fn fourth(page: &mut Page) {
+    line::<token::Raw>("Raw", page);
+    line::<token::Safe>("Safe", page);
+    line::<token::Union>("Union", page);
+    line::<token::And>("And", page);
+    line::<token::AndAnd>("AndAnd", page);
+    line::<token::AndEq>("AndEq", page);
+    line::<token::At>("At", page);
+    line::<token::Caret>("Caret", page);
+    line::<token::CaretEq>("CaretEq", page);
+    line::<token::Colon>("Colon", page);
+    line::<token::Comma>("Comma", page);
+    line::<token::Dollar>("Dollar", page);
+    line::<token::Dot>("Dot", page);
+    line::<token::DotDot>("DotDot", page);
+    line::<token::DotDotDot>("DotDotDot", page);
+    line::<token::DotDotEq>("DotDotEq", page);
+    line::<token::Eq>("Eq", page);
 }
 
-fn fifth(lines: &mut String) -> Result<(), Error> {
-    line::<token::EqEq>(lines, "EqEq")?;
-    line::<token::FatArrow>(lines, "FatArrow")?;
-    line::<token::Ge>(lines, "Ge")?;
-    line::<token::Gt>(lines, "Gt")?;
-    line::<token::LArrow>(lines, "LArrow")?;
-    line::<token::Le>(lines, "Le")?;
-    line::<token::Lt>(lines, "Lt")?;
-    line::<token::Minus>(lines, "Minus")?;
-    line::<token::MinusEq>(lines, "MinusEq")?;
-    line::<token::Ne>(lines, "Ne")?;
-    line::<token::Not>(lines, "Not")?;
-    line::<token::Or>(lines, "Or")?;
-    line::<token::OrEq>(lines, "OrEq")?;
-    line::<token::OrOr>(lines, "OrOr")?;
-    line::<token::PathSep>(lines, "PathSep")?;
-    line::<token::Percent>(lines, "Percent")?;
-    line::<token::PercentEq>(lines, "PercentEq")?;
-    Ok(())
+fn fifth(page: &mut Page) {
+    line::<token::EqEq>("EqEq", page);
+    line::<token::FatArrow>("FatArrow", page);
+    line::<token::Ge>("Ge", page);
+    line::<token::Gt>("Gt", page);
+    line::<token::LArrow>("LArrow", page);
+    line::<token::Le>("Le", page);
+    line::<token::Lt>("Lt", page);
+    line::<token::Minus>("Minus", page);
+    line::<token::MinusEq>("MinusEq", page);
+    line::<token::Ne>("Ne", page);
+    line::<token::Not>("Not", page);
+    line::<token::Or>("Or", page);
+    line::<token::OrEq>("OrEq", page);
+    line::<token::OrOr>("OrOr", page);
+    line::<token::PathSep>("PathSep", page);
+    line::<token::Percent>("Percent", page);
+    line::<token::PercentEq>("PercentEq", page);
 }
 
-fn sixth(lines: &mut String) -> Result<(), Error> {
-    line::<token::Plus>(lines, "Plus")?;
-    line::<token::PlusEq>(lines, "PlusEq")?;
-    line::<token::Pound>(lines, "Pound")?;
-    line::<token::Question>(lines, "Question")?;
-    line::<token::RArrow>(lines, "RArrow")?;
-    line::<token::Semi>(lines, "Semi")?;
-    line::<token::Shl>(lines, "Shl")?;
-    line::<token::ShlEq>(lines, "ShlEq")?;
-    line::<token::Shr>(lines, "Shr")?;
-    line::<token::ShrEq>(lines, "ShrEq")?;
-    line::<token::Slash>(lines, "Slash")?;
-    line::<token::SlashEq>(lines, "SlashEq")?;
-    line::<token::Star>(lines, "Star")?;
-    line::<token::StarEq>(lines, "StarEq")?;
-    line::<token::Tilde>(lines, "Tilde")?;
-    line::<token::Underscore>(lines, "Underscore")?;
-    Ok(())
+fn sixth(page: &mut Page) {
+    line::<token::Plus>("Plus", page);
+    line::<token::PlusEq>("PlusEq", page);
+    line::<token::Pound>("Pound", page);
+    line::<token::Question>("Question", page);
+    line::<token::RArrow>("RArrow", page);
+    line::<token::Semi>("Semi", page);
+    line::<token::Shl>("Shl", page);
+    line::<token::ShlEq>("ShlEq", page);
+    line::<token::Shr>("Shr", page);
+    line::<token::ShrEq>("ShrEq", page);
+    line::<token::Slash>("Slash", page);
+    line::<token::SlashEq>("SlashEq", page);
+    line::<token::Star>("Star", page);
+    line::<token::StarEq>("StarEq", page);
+    line::<token::Tilde>("Tilde", page);
+    line::<token::Underscore>("Underscore", page);
 }
 
 // Delimiters and invisible groups are shown by a name.
-fn groups(lines: &mut String) -> Result<(), Error> {
-    let alloc = *lines.allocator();
+fn groups(page: &mut Page) {
     let paren = token::Paren::default();
     let brace = token::Brace::default();
     let bracket = token::Bracket::default();
     let group = token::Group::default();
-    let line = format!(in alloc; "{paren}, {brace}, {bracket}, {group}\n")?;
-    lines.push_str(line.as_str())?;
-    Ok(())
+    write!(page, "{paren}, {brace}, {bracket}, {group}\n");
 }

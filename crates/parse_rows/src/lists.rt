@@ -1,7 +1,7 @@
 //! Lists: what is put in, taken out and gone over.
 
-use anyhow::Error;
-use proc_macro2::{Ident, Span};
+use proc_macro2::{Ident, IdentFault, Span};
+use rows::{Page, Unanswered};
 use std::alloc::Global;
 use syn_error::ToTokens;
 use syn_kinds::token;
@@ -11,155 +11,177 @@ use syn_lists::{Pair, Punctuated};
 pub(crate) type Names = Punctuated<Ident, token::Comma>;
 
 /// An identifier.
-pub(crate) fn name(alloc: Global, text: &str) -> Result<Ident, Error> {
-    Ok(Ident::new(alloc, text, Span::call_site())?)
+pub(crate) fn name(alloc: Global, text: &str) -> Result<Ident, Unanswered> {
+    match Ident::new(alloc, text, Span::call_site()) {
+        Ok(ident) => Ok(ident),
+        Err(IdentFault::Memory) => Err(Unanswered::Cut),
+        Err(_) => Err(Unanswered::NoRow),
+    }
 }
 
-/// How many values there are, whether a separator stands behind the last, and the tokens.
-pub(crate) fn line(lines: &mut String, names: &Names) -> Result<(), Error> {
-    let alloc = *lines.allocator();
+/// Puts how many values there are, whether a separator stands behind the last, and the tokens.
+pub(crate) fn line(names: &Names, page: &mut Page) {
     let count = names.len();
     let trailing = names.trailing_punct();
     let open = names.empty_or_trailing();
-    let text = names.to_token_stream(alloc)?;
-    let line = format!(in alloc; "{count} {trailing} {open}: {text}\n")?;
-    lines.push_str(line.as_str())?;
-    Ok(())
+    match names.to_token_stream(page.alloc()) {
+        Ok(tokens) => write!(page, "{count} {trailing} {open}: {tokens}\n"),
+        Err(_) => page.cut(),
+    }
 }
 
-/// A word, and a line's end.
-pub(crate) fn word(lines: &mut String, text: &str) -> Result<(), Error> {
-    lines.push_str(text)?;
-    lines.push_str("\n")?;
-    Ok(())
+/// Puts the tokens of a value, and a line's end.
+pub(crate) fn show_tokens<T: ToTokens>(value: &T, page: &mut Page) {
+    match value.to_token_stream(page.alloc()) {
+        Ok(tokens) => write!(page, "{tokens}\n"),
+        Err(_) => page.cut(),
+    }
+}
+
+/// Puts a word, and a line's end.
+pub(crate) fn word(text: &str, page: &mut Page) {
+    page.put(text);
+    page.put("\n");
 }
 
 /// The list a , b ,
-pub(crate) fn two(alloc: Global) -> Result<Names, Error> {
+pub(crate) fn two(alloc: Global) -> Result<Names, Unanswered> {
     let mut names = Names::new(alloc);
-    names.push(name(alloc, "a")?)?;
-    names.push(name(alloc, "b")?)?;
+    for text in ["a", "b"] {
+        names.push(name(alloc, text)?)?;
+    }
     if !names.empty_or_trailing() {
         names.push_punct(token::Comma::default())?;
     }
     Ok(names)
 }
 
-/// Of `a , b ,` values, separators and pairs are taken out, and the list is emptied.
-pub(crate) fn taken_out(lines: &mut String) -> Result<(), Error> {
-    let alloc = *lines.allocator();
+/// The list a , b , c
+pub(crate) fn three(alloc: Global) -> Result<Names, Unanswered> {
     let mut names = two(alloc)?;
-    line(lines, &names)?;
+    names.push(name(alloc, "c")?)?;
+    Ok(names)
+}
+
+/// Of `a , b ,` values, separators and pairs are taken out, and the list is emptied.
+pub(crate) fn taken_out(page: &mut Page) -> Result<(), Unanswered> {
+    popped(two(page.alloc())?, page);
+    popped_in_parts(two(page.alloc())?, page);
+    cleared(two(page.alloc())?, page);
+    Ok(())
+}
+
+fn popped(mut names: Names, page: &mut Page) {
+    line(&names, page);
     let _ = names.pop();
-    line(lines, &names)?;
+    line(&names, page);
     let _ = names.pop();
-    line(lines, &names)?;
-    let mut others = two(alloc)?;
-    let _ = others.pop_punct();
-    line(lines, &others)?;
+    line(&names, page);
+}
+
+fn popped_in_parts(mut names: Names, page: &mut Page) {
+    let _ = names.pop_punct();
+    line(&names, page);
+    let is_none = names.pop_punct().is_none();
     word(
-        lines,
-        if others.pop_punct().is_none() {
+        if is_none {
             "no separator"
         } else {
             "a separator"
         },
-    )?;
-    word(
-        lines,
-        if matches!(others.pop_pair(), Some(Pair::End(_))) {
-            "no separator"
-        } else {
-            "a separator"
-        },
-    )?;
-    line(lines, &others)?;
-    word(
-        lines,
-        if matches!(others.pop_pair(), Some(Pair::Punctuated(_, _))) {
-            "a separator"
-        } else {
-            "none"
-        },
-    )?;
-    word(
-        lines,
-        if others.pop_pair().is_none() {
-            "no pair"
-        } else {
-            "a pair"
-        },
-    )?;
-    let mut cleared = two(alloc)?;
-    cleared.clear();
-    line(lines, &cleared)
+        page,
+    );
+    word(behind(names.pop_pair()), page);
+    line(&names, page);
+    word(behind(names.pop_pair()), page);
+    word(behind(names.pop_pair()), page);
+}
+
+// What stands behind the value of a pair.
+fn behind(pair: Option<Pair<Ident, token::Comma>>) -> &'static str {
+    match pair {
+        Some(Pair::Punctuated(_, _)) => "a separator",
+        Some(Pair::End(_)) => "no separator",
+        None => "no pair",
+    }
+}
+
+fn cleared(mut names: Names, page: &mut Page) {
+    names.clear();
+    line(&names, page);
 }
 
 /// A value is put behind others, and at the front, in the middle and at the end.
-pub(crate) fn put_in(lines: &mut String) -> Result<(), Error> {
-    let alloc = *lines.allocator();
-    let mut names = two(alloc)?;
-    names.push(name(alloc, "c")?)?;
-    line(lines, &names)?;
-    names.push(name(alloc, "d")?)?;
-    line(lines, &names)?;
-    names.insert(0, name(alloc, "e")?)?;
-    line(lines, &names)?;
-    if 2 <= names.len() {
-        names.insert(2, name(alloc, "f")?)?;
+pub(crate) fn put_in(page: &mut Page) -> Result<(), Unanswered> {
+    let mut names = two(page.alloc())?;
+    for text in ["c", "d"] {
+        names.push(name(page.alloc(), text)?)?;
+        line(&names, page);
     }
-    line(lines, &names)?;
+    insert(&mut names, 0, "e", page)?;
+    insert(&mut names, 2, "f", page)?;
     let end = names.len();
-    names.insert(end, name(alloc, "g")?)?;
-    line(lines, &names)
+    insert(&mut names, end, "g", page)
+}
+
+fn insert(names: &mut Names, index: usize, text: &str, page: &mut Page) -> Result<(), Unanswered> {
+    if index <= names.len() {
+        names.insert(index, name(page.alloc(), text)?)?;
+    }
+    line(names, page);
+    Ok(())
 }
 
 /// Values and pairs, from both ends.
-pub(crate) fn gone_over(lines: &mut String) -> Result<(), Error> {
-    let alloc = *lines.allocator();
-    let mut names = two(alloc)?;
-    names.push(name(alloc, "c")?)?;
-    for value in &names {
-        let text = value.to_string(alloc)?;
-        word(lines, text.as_str())?;
-    }
-    for value in names.iter().rev() {
-        let text = value.to_string(alloc)?;
-        word(lines, text.as_str())?;
-    }
-    for pair in names.pairs() {
-        let text = pair_text(alloc, pair)?;
-        word(lines, text.as_str())?;
-    }
-    for pair in names.pairs().rev() {
-        let text = pair_text(alloc, pair)?;
-        word(lines, text.as_str())?;
-    }
+pub(crate) fn gone_over(page: &mut Page) -> Result<(), Unanswered> {
+    let mut names = three(page.alloc())?;
+    show_both_ways(&names, page);
     for value in names.iter_mut() {
-        *value = name(alloc, "x")?;
+        *value = name(page.alloc(), "x")?;
     }
-    line(lines, &names)?;
+    line(&names, page);
     for pair in names.into_pairs() {
-        let text = pair.to_token_stream(alloc)?.to_string(alloc)?;
-        word(lines, text.as_str())?;
+        show_tokens(&pair, page);
     }
     Ok(())
 }
 
-fn pair_text(alloc: Global, pair: Pair<&Ident, &token::Comma>) -> Result<String, Error> {
-    let copy = pair.cloned()?;
-    Ok(copy.to_token_stream(alloc)?.to_string(alloc)?)
+fn show_both_ways(names: &Names, page: &mut Page) {
+    for value in names {
+        write!(page, "{value}\n");
+    }
+    for value in names.iter().rev() {
+        write!(page, "{value}\n");
+    }
+    for pair in names.pairs() {
+        show_copy(pair, page);
+    }
+    for pair in names.pairs().rev() {
+        show_copy(pair, page);
+    }
+}
+
+fn show_copy(pair: Pair<&Ident, &token::Comma>, page: &mut Page) {
+    match pair.cloned() {
+        Ok(copy) => show_tokens(&copy, page),
+        Err(_) => page.cut(),
+    }
 }
 
 /// Values are collected, put behind others, and compared without their spans.
-pub(crate) fn collected(lines: &mut String) -> Result<(), Error> {
-    let alloc = *lines.allocator();
-    let mut names: Names = two(alloc)?.into_iter().collect(alloc)?;
-    line(lines, &names)?;
-    names.extend(two(alloc)?)?;
-    line(lines, &names)?;
-    let same = names == two(alloc)?;
-    word(lines, if same { "same" } else { "not the same" })?;
-    let again = two(alloc)? == two(alloc)?;
-    word(lines, if again { "same" } else { "not the same" })
+pub(crate) fn collected(page: &mut Page) -> Result<(), Unanswered> {
+    let mut names: Names = two(page.alloc())?.into_iter().collect(page.alloc())?;
+    line(&names, page);
+    names.extend(two(page.alloc())?)?;
+    line(&names, page);
+    compare(&names, page)?;
+    compare(&two(page.alloc())?, page)
+}
+
+// Whether a list is a , b ,
+fn compare(names: &Names, page: &mut Page) -> Result<(), Unanswered> {
+    let other = two(page.alloc())?;
+    let is_same = *names == other;
+    word(if is_same { "same" } else { "not the same" }, page);
+    Ok(())
 }

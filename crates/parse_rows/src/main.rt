@@ -5,10 +5,12 @@
 //! - `lists`: what is put in, taken out and gone over; `ends`: gone over from behind, and counted; `changed`: what is
 //!   written through lent values, taken out by a function, and made of pairs.
 //! - `errors`: messages put together, gone over, and as tokens.
+//! - `asked`: texts, and what is asked of their tokens.
 //! - `lookahead`: what is said where kinds that are looked for do not stand, and lists that are read with separators.
 //! - `names`: identifiers that are read where keywords stand too, and without `r#`; lists of names that are read back.
 #![tactic(auto)]
 
+mod asked;
 mod changed;
 mod ends;
 mod errors;
@@ -17,24 +19,26 @@ mod lists;
 mod lookahead;
 mod names;
 
-use anyhow::Error;
-use std::io::Write;
+use rows::{Page, Unanswered, told};
 
-fn main(rt: HostRuntime) -> Result<(), Error> {
-    let mut lines = String::new(rt.alloc());
-    kinds::kinds(&mut lines)?;
-    lists::taken_out(&mut lines)?;
-    lists::put_in(&mut lines)?;
-    lists::gone_over(&mut lines)?;
-    ends::counted(&mut lines)?;
-    ends::from_behind(&mut lines)?;
-    lists::collected(&mut lines)?;
-    changed::written(&mut lines)?;
-    changed::retained(&mut lines)?;
-    changed::paired(&mut lines)?;
-    errors::errors(&mut lines)?;
-    lookahead::lookahead(rt.alloc(), &mut lines)?;
-    names::names(rt.alloc(), &mut lines)?;
-    rt.stdout().write_all(lines.as_bytes())?;
-    Ok(())
+fn answer(page: &mut Page) -> Result<(), Unanswered> {
+    kinds::kinds(page);
+    lists::taken_out(page)?;
+    lists::put_in(page)?;
+    lists::gone_over(page)?;
+    ends::counted(page)?;
+    ends::from_behind(page)?;
+    lists::collected(page)?;
+    changed::written(page)?;
+    changed::retained(page)?;
+    changed::paired(page)?;
+    errors::errors(page)?;
+    asked::read_lists(page)?;
+    asked::read_names(page)
+}
+
+fn main(rt: HostRuntime) -> Result<(), Unanswered> {
+    let mut page = Page::new(rt.alloc());
+    answer(&mut page)?;
+    told(&rt, &page)
 }

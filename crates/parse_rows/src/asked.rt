@@ -1,0 +1,85 @@
+//! Texts, and what is asked of their tokens.
+
+use crate::{lookahead, names};
+use proc_macro2::{SourceMap, TokenStream};
+use rows::{Page, Unanswered};
+use std::alloc::Global;
+use syn_parse::{Cursor, TokenBuffer};
+
+/// What is asked of the tokens of a text.
+#[derive(Clone, Copy)]
+enum Question {
+    /// What is said where so many kinds are looked for.
+    Kinds(usize),
+    /// Names with commas between them, to the end.
+    Listed,
+    /// The same, of which two are taken out again.
+    Emptied,
+    /// Names with pluses between them, at least one.
+    Summed,
+    /// Names with commas between them, until a `>`.
+    Until,
+    /// One name, a keyword too.
+    Name,
+    /// A list of names with `::` between them, printed and read back.
+    ReadBack,
+}
+
+/// Lookaheads that find nothing, and lists that are read by each call.
+pub fn read_lists(page: &mut Page) -> Result<(), Unanswered> {
+    for count in 0..4 {
+        ask("x", Question::Kinds(count), page)?;
+    }
+    ask("", Question::Kinds(2), page)?;
+    for text in ["a , b ,", "a , b", "", "a b", ", a", "a , , b"] {
+        ask(text, Question::Listed, page)?;
+    }
+    ask("a , b ,", Question::Emptied, page)?;
+    for text in ["a + b c", "a", "", "a +", "a + +"] {
+        ask(text, Question::Summed, page)?;
+    }
+    for text in ["a , b > c", "a , > c", "> c", "a b > c", "a , , > c"] {
+        ask(text, Question::Until, page)?;
+    }
+    Ok(())
+}
+
+/// Names that are read, and lists of names that are read back.
+pub fn read_names(page: &mut Page) -> Result<(), Unanswered> {
+    for text in [
+        "x", "fn", "_", "Self", "r#fn", "r#x", "raw", "r", "x y", "", "1", "# x", "'a", "(fn)",
+    ] {
+        write!(page, "[{text}] ");
+        ask(text, Question::Name, page)?;
+    }
+    for text in ["a :: b ::", "a :: r#b", "a", ""] {
+        ask(text, Question::ReadBack, page)?;
+    }
+    Ok(())
+}
+
+fn ask(text: &str, question: Question, page: &mut Page) -> Result<(), Unanswered> {
+    let stream = stream_of(page.alloc(), text)?;
+    let buffer = TokenBuffer::new2(page.alloc(), &stream, 1)?;
+    put(question, buffer.begin(), page)
+}
+
+fn stream_of(alloc: Global, text: &str) -> Result<TokenStream, Unanswered> {
+    match TokenStream::from_str(alloc, text, &mut SourceMap::new(alloc)) {
+        Ok(stream) => Ok(stream),
+        Err(_) => Err(Unanswered::NoRow),
+    }
+}
+
+fn put(question: Question, begin: Cursor<'_>, page: &mut Page) -> Result<(), Unanswered> {
+    match question {
+        Question::Kinds(count) => return lookahead::kinds(count, begin, page),
+        Question::Listed => lookahead::listed(begin, page),
+        Question::Emptied => lookahead::emptied(begin, page),
+        Question::Summed => lookahead::summed(begin, page),
+        Question::Until => lookahead::until(begin, page),
+        Question::Name => names::read(begin, page),
+        Question::ReadBack => names::read_back(begin, page),
+    }
+    Ok(())
+}
