@@ -75,6 +75,10 @@ placed k ts tree rest span fault.Memory n d = tt
 some_form : (f g : ExprForm) → Some f ≡ Some g → f ≡ g
 some_form f g e = cc
 
+-- what is of no form is not of this one
+pub no_form : (f : ExprForm) (o : Option ExprForm) → o ≡ None → o ≡ Some f → ⊥
+no_form f o n s = cc
+
 pub shaped_as : (f : ExprForm) (tree form : Tree) (rest : List Token) → form ≡ form_of tree
     → Derives tree (ref (Expression Plain)) rest → IsExprOf f tree → IsFormOf f form
 shaped_as f tree form rest e d h =
@@ -146,9 +150,5 @@ of_range_from l (Some r) y = refl
 pub of_several : (l : Tree) → is_final (no_lone l) ≡ false
 of_several (t.Final x) = refl
 of_several _ = refl
-
-pub not_final : (l : Tree) → ((x : Tree) → l ≡ t.Final x → ⊥) → is_final l ≡ false
-not_final (t.Final x) d = absurd (d x refl)
-not_final _ d = refl
 
 pub ruleset ranges = (of_open_range, of_range_from)

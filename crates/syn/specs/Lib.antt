@@ -9,3 +9,4 @@ pub mod Optional
 pub mod OneItem
 pub mod Texts
 pub mod Single
+pub mod OneMember

@@ -51,7 +51,7 @@ abbrev pub has_tokens : Tree → Bool
 has_tokens (t.Node k.Meta (t.Pair x (t.First y))) = true
 has_tokens _ = false
 
--- or = and a value
+-- of what stands in an attribute: = and a value stand behind its path
 abbrev pub has_value : Tree → Bool
 has_value (t.Node k.Meta (t.Pair x (t.Second (t.First y)))) = true
 has_value _ = false

@@ -1,10 +1,10 @@
 //! What stands in traits, impls and extern blocks, read by itself: of each the kind that reads that form alone.
 
-ghost use Rattle.gram_table.specs.Kinds.{kind_of, place_of};
+ghost use Rattle.gram_table.specs.Kinds.{kind_of};
 ghost use Rattle.std.specs.Prelude.{◌≡◌};
+ghost use Rattle.syn.specs.OneMember.{IsOneMember};
 ghost use Rattle.syn_grammar.specs.Kind as k;
-ghost use Rattle.syn_grammar.specs.Tree as t;
-ghost use Rattle.syn_item.specs.ItemEntries.{IsDefaultIn, one_macro, placed_parts};
+ghost use Rattle.syn_item.specs.ItemEntries.{one_macro};
 
 use crate::typed::Parse;
 use gram_table::kind::{Kind, Place};
@@ -21,8 +21,7 @@ pub struct OneTraitItemFn<'a> {
 impl<'a> Parse<'a> for OneTraitItemFn<'a> {
     ghost kind = { k.OneFunction k.InTrait };
 
-    ghost says = { λ x tree. (tree ≡ t.Node (k.OneFunction (place_of x.parts.place)) (placed_parts x.parts))
-        × IsDefaultIn x.parts.place x.parts.defaultness };
+    ghost says = { λ x tree. IsOneMember k.OneFunction x.parts tree };
 
     fn kind() -> Kind
         ensures { kind_of result ≡ k.OneFunction k.InTrait }
@@ -48,8 +47,7 @@ pub struct OneTraitItemConst<'a> {
 impl<'a> Parse<'a> for OneTraitItemConst<'a> {
     ghost kind = { k.OneConst k.InTrait };
 
-    ghost says = { λ x tree. (tree ≡ t.Node (k.OneConst (place_of x.parts.place)) (placed_parts x.parts))
-        × IsDefaultIn x.parts.place x.parts.defaultness };
+    ghost says = { λ x tree. IsOneMember k.OneConst x.parts tree };
 
     fn kind() -> Kind
         ensures { kind_of result ≡ k.OneConst k.InTrait }
@@ -75,8 +73,7 @@ pub struct OneTraitItemType<'a> {
 impl<'a> Parse<'a> for OneTraitItemType<'a> {
     ghost kind = { k.OneTypeAlias k.InTrait };
 
-    ghost says = { λ x tree. (tree ≡ t.Node (k.OneTypeAlias (place_of x.parts.place)) (placed_parts x.parts))
-        × IsDefaultIn x.parts.place x.parts.defaultness };
+    ghost says = { λ x tree. IsOneMember k.OneTypeAlias x.parts tree };
 
     fn kind() -> Kind
         ensures { kind_of result ≡ k.OneTypeAlias k.InTrait }
@@ -102,8 +99,7 @@ pub struct OneImplItemFn<'a> {
 impl<'a> Parse<'a> for OneImplItemFn<'a> {
     ghost kind = { k.OneFunction k.InImpl };
 
-    ghost says = { λ x tree. (tree ≡ t.Node (k.OneFunction (place_of x.parts.place)) (placed_parts x.parts))
-        × IsDefaultIn x.parts.place x.parts.defaultness };
+    ghost says = { λ x tree. IsOneMember k.OneFunction x.parts tree };
 
     fn kind() -> Kind
         ensures { kind_of result ≡ k.OneFunction k.InImpl }
@@ -129,8 +125,7 @@ pub struct OneImplItemConst<'a> {
 impl<'a> Parse<'a> for OneImplItemConst<'a> {
     ghost kind = { k.OneConst k.InImpl };
 
-    ghost says = { λ x tree. (tree ≡ t.Node (k.OneConst (place_of x.parts.place)) (placed_parts x.parts))
-        × IsDefaultIn x.parts.place x.parts.defaultness };
+    ghost says = { λ x tree. IsOneMember k.OneConst x.parts tree };
 
     fn kind() -> Kind
         ensures { kind_of result ≡ k.OneConst k.InImpl }
@@ -156,8 +151,7 @@ pub struct OneImplItemType<'a> {
 impl<'a> Parse<'a> for OneImplItemType<'a> {
     ghost kind = { k.OneTypeAlias k.InImpl };
 
-    ghost says = { λ x tree. (tree ≡ t.Node (k.OneTypeAlias (place_of x.parts.place)) (placed_parts x.parts))
-        × IsDefaultIn x.parts.place x.parts.defaultness };
+    ghost says = { λ x tree. IsOneMember k.OneTypeAlias x.parts tree };
 
     fn kind() -> Kind
         ensures { kind_of result ≡ k.OneTypeAlias k.InImpl }
@@ -183,8 +177,7 @@ pub struct OneForeignItemFn<'a> {
 impl<'a> Parse<'a> for OneForeignItemFn<'a> {
     ghost kind = { k.OneFunction k.InForeign };
 
-    ghost says = { λ x tree. (tree ≡ t.Node (k.OneFunction (place_of x.parts.place)) (placed_parts x.parts))
-        × IsDefaultIn x.parts.place x.parts.defaultness };
+    ghost says = { λ x tree. IsOneMember k.OneFunction x.parts tree };
 
     fn kind() -> Kind
         ensures { kind_of result ≡ k.OneFunction k.InForeign }
@@ -210,8 +203,7 @@ pub struct OneForeignItemType<'a> {
 impl<'a> Parse<'a> for OneForeignItemType<'a> {
     ghost kind = { k.OneTypeAlias k.InForeign };
 
-    ghost says = { λ x tree. (tree ≡ t.Node (k.OneTypeAlias (place_of x.parts.place)) (placed_parts x.parts))
-        × IsDefaultIn x.parts.place x.parts.defaultness };
+    ghost says = { λ x tree. IsOneMember k.OneTypeAlias x.parts tree };
 
     fn kind() -> Kind
         ensures { kind_of result ≡ k.OneTypeAlias k.InForeign }

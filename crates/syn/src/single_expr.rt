@@ -12,6 +12,7 @@ ghost use Rattle.syn_grammar.specs.Tree.{Tree as GivenTree};
 use crate::single::ParseSingle;
 use gram_table::kind::{Kind, Position};
 use gram_tree::tree::Tree;
+use syn_expr::expr::whole::Expr;
 
 /// A form of expressions, as `ExprCall`.
 pub trait SingleExpr<'a> {
@@ -24,25 +25,10 @@ pub trait SingleExpr<'a> {
     /// What an error says where an expression of another form stands.
     fn expected() -> &'a str;
 
-    /// What the type says of the form of an expression: one layer of it. `None` of another form, and only of trees that
-    /// are none of this one.
+    /// What the type says of the form of an expression, one layer of it; `None` only of what is no form of this one.
     fn of_form(tree: &'a Tree<'a>) -> Option<Self>
         ensures { MatchOption result (IsFormOf form tree.now → ⊥)
             (λ x. (which tree.now ≡ Some form) × (tree.now ≡ tree_of x)) };
-}
-
-// The form of an expression: of a node that one is, what it holds; else the tree itself.
-#[tactic(auto, using(syn_expr::proofs::ExprWhole::form_is))]
-fn form_of<'t, 'a>(tree: &'t Tree<'a>) -> &'t Tree<'a>
-    ensures { result.now ≡ form_of tree.now }
-{
-    let Some((Kind::Expression(_), inner)) = tree.node() else {
-        return tree;
-    };
-    let Some(form) = inner.whole() else {
-        return tree;
-    };
-    form
 }
 
 impl<'a, T: SingleExpr<'a>> ParseSingle<'a> for T {
@@ -63,7 +49,10 @@ impl<'a, T: SingleExpr<'a>> ParseSingle<'a> for T {
     }
 
     fn view(tree: &'a Tree<'a>) -> Option<T> {
-        match T::of_form(form_of(tree)) {
+        let Some(whole) = Expr::of(tree) else {
+            return None;
+        };
+        match T::of_form(whole.tree) {
             Some(found) => Some(found),
             None => None,
         }

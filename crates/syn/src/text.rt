@@ -3,10 +3,10 @@
 ghost use Rattle.rust_map.specs.Sources.{next_position, with_text};
 ghost use Rattle.std.specs.Prelude.{◌+◌, ◌^◌, ◌↔◌, ◌≡◌, ◌≤◌, Err, IfErr, IfOk, Ok, OnOk, length};
 ghost use Rattle.std.specs.Str.{chars};
-ghost use Rattle.syn.specs.Texts.{FaultOfText, MayAnswer};
+ghost use Rattle.syn.specs.Texts.{MayAnswer, MayRefuse};
 ghost use Rattle.syn_error.specs.Faults.{IsSyntax};
 ghost use Rattle.syn_error.specs.declared.fault.TextFault.TheVariants.{MapFull};
-ghost use Rattle.syn_input.specs.Whole.{LeavesMap, ReadsText};
+ghost use Rattle.syn_input.specs.Whole.{LeavesMap, ReadsText, RefusesText};
 
 use gram_tree::arena::Arena;
 use proc_macro2::tree::TokenStream;
@@ -51,7 +51,8 @@ pub fn parse_str_with<T, F: FnOnce(&Arena, &TokenBuffer<'_>) -> Result<T, ParseF
     requires { F.IsAlwaysCallable reader }
     ensures read { IfOk result (λ x. ReadsText (λ tokens value. MayAnswer (F.post reader) tokens (Ok value))
         (next_position map.old) (chars text.now) x) }
-    ensures refused { IfErr result (FaultOfText (F.post reader) (next_position map.old) (chars text.now)) }
+    ensures refused { IfErr result (λ e. RefusesText (MayRefuse (F.post reader) e) (next_position map.old)
+        (chars text.now) e) }
     ensures full { (result ≡ Err MapFull) ↔ (2 ^ 32 ≤ next_position map.old + length (chars text.now)) }
     ensures map { OnOk result (map.new ≡ with_text map.old (chars text.now)) }
     ensures map_err { IfErr result (LeavesMap map.old (chars text.now) map.new) }
