@@ -5,150 +5,86 @@
 //! form as the row above: of the same kind, with the same tokens, each spaced alike.
 //!
 //! - `kinds`: the kinds that rows name.
+//! - `reading`: texts that are read as forms, and what is printed of these.
 //! - `neighbours`: each row's form compared with that of the row above.
 #![tactic(auto)]
 
 mod kinds;
 mod neighbours;
+mod reading;
 
 use crate::kinds::kind_of;
-use crate::neighbours::told_again;
-use anyhow::{Result, anyhow};
-use gram_piece::piece::Piece;
-use gram_piece::print::print;
-use gram_write::write::write as put;
-use rows::owned::{Row, Table, answered, write};
+use crate::neighbours::put_again;
+use crate::reading::{Found, Part, read};
+use rows::{Page, Row, Table, Unanswered, answer_lines, asked, told};
 use std::alloc::Global;
-use std::io::{Read, Write};
-use syn::parse::parse_front;
-use syn::{Arena, Kind, ParseFault, SourceMap, TokenBuffer, TokenStream, Tree, equal, put_normal};
-use syn_buffer::entry::Entry;
+use syn::Kind;
 
 struct Forms;
 
 impl Table for Forms {
-    fn answer(&self, alloc: Global, row: &Row) -> Result<String> {
-        let kind = kind_of(row.call).ok_or(anyhow!("no such kind"))?;
-        match read_form(alloc, kind, row.text.as_str())? {
-            Some(form) => told(alloc, kind, &form),
-            None => Ok(String::from_str(alloc, "refused")?),
-        }
+    fn answer(&self, row: Row, page: &mut Page) -> Result<(), Unanswered> {
+        let kind = kind_of(row.call).ok_or(Unanswered::NoRow)?;
+        put_form(kind, row.text, page)
     }
 }
 
-// What a text begins with, as its normal form is printed, as that is which is made of the tree as it was read, and what
-// is left behind it.
-#[derive(Drop)]
-struct Formed {
-    written: String,
-    made: String,
-    left: String,
-}
-
-// The printed normal form of a tree.
-fn normal(alloc: Global, tree: &Tree) -> Result<String> {
-    let mut pieces = Vec::new(alloc);
-    put(tree, &mut pieces)?;
-    Ok(print(alloc, pieces.as_slice())?)
-}
-
-// The print of the normal form of a tree, which is made as a tree.
-fn made_normal<'a>(arena: &'a Arena, tree: &Tree<'a>) -> Result<String> {
-    let mut pieces = Vec::new(arena.alloc());
-    if put_normal(arena, tree, &mut pieces).is_err() {
-        return Err(anyhow!("no normal form"));
+// Puts what is said of the form that a text begins with, or that it is refused.
+fn put_form(kind: Kind, text: &str, page: &mut Page) -> Result<(), Unanswered> {
+    let mut written = Page::new(page.alloc());
+    match read(kind, text, Part::Written, &mut written)? {
+        Found::Nothing => page.put("refused"),
+        Found::Front => return put_front(kind, text, written.whole()?, page),
+        Found::All => return put_all(kind, text, written.whole()?, page),
     }
-    Ok(print(arena.alloc(), pieces.as_slice())?)
+    Ok(())
 }
 
-// The print of tokens that are left.
-fn left_over(alloc: Global, entries: &[Entry]) -> Result<String> {
-    let mut pieces = Vec::new(alloc);
-    for entry in entries {
-        pieces.push(Piece::of(entry))?;
+// Puts the print of a form, and what is left behind it.
+fn put_front(kind: Kind, text: &str, written: &str, page: &mut Page) -> Result<(), Unanswered> {
+    let mut left = Page::new(page.alloc());
+    read(kind, text, Part::Left, &mut left)?;
+    page.quote(written);
+    page.put(" // ");
+    page.quote(left.whole()?);
+    Ok(())
+}
+
+// Puts the print of a form that is all of a text: it is its own normal form, and the one that is made of the tree has
+// the same.
+fn put_all(kind: Kind, text: &str, written: &str, page: &mut Page) -> Result<(), Unanswered> {
+    if !is_written(page.alloc(), kind, written, written)? {
+        page.put("not its own");
+        return Ok(());
     }
-    Ok(print(alloc, pieces.as_slice())?)
+    let mut made = Page::new(page.alloc());
+    read(kind, text, Part::Made, &mut made)?;
+    put_as_made(kind, written, made.whole()?, page)
 }
 
-// What is said of a fault: that the tokens begin with no such form, unless memory was refused.
-fn unread(fault: ParseFault) -> Result<Option<Formed>> {
-    match fault {
-        ParseFault::Syntax(_) => Ok(None),
-        ParseFault::Memory => Err(anyhow!("out of memory")),
+// Puts the print of a form, if the one that is made of the tree has the same normal form.
+fn put_as_made(kind: Kind, written: &str, made: &str, page: &mut Page) -> Result<(), Unanswered> {
+    if is_written(page.alloc(), kind, made, written)? {
+        page.quote(written);
+    } else {
+        write!(page, "made otherwise: {made}");
     }
-}
-
-// What the tokens of a buffer begin with as a form of a kind, if they do, with trees in an arena.
-fn front_form_in<'a>(
-    arena: &'a Arena,
-    kind: Kind,
-    buffer: &'a TokenBuffer<'a>,
-) -> Result<Option<Formed>> {
-    let alloc = arena.alloc();
-    let (tree, rest) = match parse_front(arena, kind, buffer) {
-        Ok(found) => found,
-        Err(fault) => return unread(fault),
-    };
-    let written = normal(alloc, &tree)?;
-    let copy = tree.copy();
-    if !equal(&tree, &copy) || normal(alloc, &copy)?.as_str() != written.as_str() {
-        return Err(anyhow!("a copy is another tree"));
-    }
-    Ok(Some(Formed {
-        made: made_normal(arena, &tree)?,
-        written,
-        left: left_over(alloc, rest)?,
-    }))
-}
-
-// The same with trees in an arena of its own.
-fn front_form(alloc: Global, kind: Kind, buffer: &TokenBuffer<'_>) -> Result<Option<Formed>> {
-    let arena = Arena::new(alloc);
-    front_form_in(&arena, kind, buffer)
-}
-
-// What is read of a text as a form of a kind, unless the text is refused.
-fn read_form(alloc: Global, kind: Kind, text: &str) -> Result<Option<Formed>> {
-    let Ok(stream) = TokenStream::from_str(alloc, text, &mut SourceMap::new(alloc)) else {
-        return Ok(None);
-    };
-    let buffer = TokenBuffer::new2(alloc, &stream, 1)?;
-    front_form(alloc, kind, &buffer)
+    Ok(())
 }
 
 // Whether all of a text is read as a form of a kind, with that normal form.
-fn is_written(alloc: Global, kind: Kind, text: &str, written: &str) -> Result<bool> {
-    match read_form(alloc, kind, text)? {
-        Some(again) => Ok(again.left.is_empty() && again.written.as_str() == written),
-        None => Ok(false),
+fn is_written(alloc: Global, kind: Kind, text: &str, written: &str) -> Result<bool, Unanswered> {
+    let mut again = Page::new(alloc);
+    match read(kind, text, Part::Written, &mut again)? {
+        Found::All => Ok(again.whole()? == written),
+        Found::Front | Found::Nothing => Ok(false),
     }
 }
 
-// What is said of a form: it is its own normal form, where nothing is left behind it, and the one that is made of the
-// tree has the same.
-fn told(alloc: Global, kind: Kind, form: &Formed) -> Result<String> {
-    let written = form.written.as_str();
-    let mut said = write(alloc, written)?;
-    if !form.left.is_empty() {
-        said.push_str(" // ")?;
-        said.push_str(write(alloc, form.left.as_str())?.as_str())?;
-        return Ok(said);
-    }
-    if !is_written(alloc, kind, written, written)? {
-        return Ok(String::from_str(alloc, "not its own")?);
-    }
-    if !is_written(alloc, kind, form.made.as_str(), written)? {
-        return Ok(format!(in alloc; "made otherwise: {}", form.made)?);
-    }
-    Ok(said)
-}
-
-fn main(rt: HostRuntime) -> Result<()> {
-    let mut lines = String::new(rt.alloc());
-    rt.reader().read_to_string(&mut lines)?;
-    let again = told_again(rt.alloc(), lines.as_str())?;
-    let answers = answered(rt.alloc(), &Forms, lines.as_str())?;
-    rt.stdout().write_all(again.as_bytes())?;
-    rt.stdout().write_all(answers.as_bytes())?;
-    Ok(())
+fn main(rt: HostRuntime) -> Result<(), Unanswered> {
+    let lines = asked(&rt)?;
+    let mut page = Page::new(rt.alloc());
+    put_again(lines.as_str(), &mut page)?;
+    answer_lines(&Forms, lines.as_str(), &mut page)?;
+    told(&rt, &page)
 }

@@ -1,58 +1,51 @@
 //! Rows whose form is that of the row above.
 
 use crate::kinds::kind_of;
-use anyhow::{Result, anyhow};
-use rows::owned::read;
+use crate::reading::{lexed, unread};
+use rows::{Page, Unanswered, parts, read};
 use std::alloc::Global;
 use syn::parse::parse_front;
-use syn::{Arena, Kind, ParseFault, SourceMap, TokenBuffer, TokenStream, Tree, equal};
+use syn::{Arena, Kind, TokenBuffer, TokenStream, Tree, equal};
 
-/// The rows that begin with the same form as the row above, one below the other, between a heading and an empty line.
-pub(crate) fn told_again(alloc: Global, lines: &str) -> Result<String> {
-    let mut out = String::from_str(
-        alloc,
-        "# Rows that begin with the same form as the row above.\n",
-    )?;
+/// Puts the rows that begin with the same form as the row above, one below the other, between a heading and an empty
+/// line.
+pub(crate) fn put_again(lines: &str, page: &mut Page) -> Result<(), Unanswered> {
+    page.put("# Rows that begin with the same form as the row above.\n");
     let mut above = None;
     for line in lines.lines() {
         if let Some(before) = above {
-            if rows_begin_alike(alloc, before, line)? {
-                out.push_str(line)?;
-                out.push('\n')?;
+            if rows_begin_alike(page.alloc(), before, line)? {
+                write!(page, "{line}\n");
             }
         }
         above = Some(line);
     }
-    out.push('\n')?;
-    Ok(out)
+    page.put("\n");
+    Ok(())
 }
 
-// The name of the kind of a row, and its text as it is written there; of a line that is no row, nothing.
-fn parts<'l>(line: &'l str) -> Result<Option<(&'l str, &'l str)>> {
-    let Some((call, behind)) = line.split_once(" «") else {
-        return Ok(None);
-    };
-    match behind.strip_suffix('»') {
-        Some(written) => Ok(Some((call, written))),
-        None => Err(anyhow!("a row without its end")),
-    }
+// The tokens of a text as a row writes it, if it is one of tokens.
+fn stream_of(alloc: Global, written: &str) -> Result<Option<TokenStream>, Unanswered> {
+    let text = read(alloc, written)?;
+    Ok(lexed(alloc, text.as_str()))
 }
 
 // The tokens of texts as rows write them, of those that are ones of tokens.
-fn streams(alloc: Global, texts: &[&str]) -> Result<Vec<TokenStream>> {
+fn streams(alloc: Global, texts: &[&str]) -> Result<Vec<TokenStream>, Unanswered> {
     let mut all = Vec::new(alloc);
     for written in texts {
-        let text = read(alloc, written)?;
-        match TokenStream::from_str(alloc, text.as_str(), &mut SourceMap::new(alloc)) {
-            Ok(stream) => all.push(stream)?,
-            Err(_) => {}
+        if let Some(stream) = stream_of(alloc, written)? {
+            all.push(stream)?;
         }
     }
     Ok(all)
 }
 
 // The buffers of streams.
-fn buffers<'a>(alloc: Global, streams: &'a [TokenStream]) -> Result<Vec<TokenBuffer<'a>>> {
+fn buffers<'a>(
+    alloc: Global,
+    streams: &'a [TokenStream],
+) -> Result<Vec<TokenBuffer<'a>>, Unanswered> {
     let mut all = Vec::new(alloc);
     for stream in streams {
         all.push(TokenBuffer::new2(alloc, stream, 1)?)?;
@@ -65,11 +58,13 @@ fn front<'a>(
     arena: &'a Arena,
     kind: Kind,
     buffer: &'a TokenBuffer<'_>,
-) -> Result<Option<Tree<'a>>> {
+) -> Result<Option<Tree<'a>>, Unanswered> {
     match parse_front(arena, kind, buffer) {
         Ok((tree, _)) => Ok(Some(tree)),
-        Err(ParseFault::Syntax(_)) => Ok(None),
-        Err(ParseFault::Memory) => Err(anyhow!("out of memory")),
+        Err(fault) => {
+            unread(fault)?;
+            Ok(None)
+        }
     }
 }
 
@@ -78,7 +73,7 @@ fn fronts<'a>(
     arena: &'a Arena,
     kind: Kind,
     buffers: &'a [TokenBuffer<'_>],
-) -> Result<Vec<Tree<'a>>> {
+) -> Result<Vec<Tree<'a>>, Unanswered> {
     let mut all = Vec::new(arena.alloc());
     for buffer in buffers {
         if let Some(tree) = front(arena, kind, buffer)? {
@@ -89,7 +84,11 @@ fn fronts<'a>(
 }
 
 // Two buffers begin with the same form of the kind.
-fn buffers_begin_alike(alloc: Global, kind: Kind, buffers: &[TokenBuffer<'_>]) -> Result<bool> {
+fn buffers_begin_alike(
+    alloc: Global,
+    kind: Kind,
+    buffers: &[TokenBuffer<'_>],
+) -> Result<bool, Unanswered> {
     let arena = Arena::new(alloc);
     let trees = fronts(&arena, kind, buffers)?;
     match trees.as_slice() {
@@ -98,15 +97,24 @@ fn buffers_begin_alike(alloc: Global, kind: Kind, buffers: &[TokenBuffer<'_>]) -
     }
 }
 
-// Two texts begin with the same form of the kind.
-fn texts_begin_alike(alloc: Global, kind: Kind, texts: &[&str]) -> Result<bool> {
-    let streams = streams(alloc, texts)?;
-    let buffers = buffers(alloc, streams.as_slice())?;
+// Two streams begin with the same form of the kind.
+fn streams_begin_alike(
+    alloc: Global,
+    kind: Kind,
+    streams: &[TokenStream],
+) -> Result<bool, Unanswered> {
+    let buffers = buffers(alloc, streams)?;
     buffers_begin_alike(alloc, kind, buffers.as_slice())
 }
 
+// Two texts begin with the same form of the kind.
+fn texts_begin_alike(alloc: Global, kind: Kind, texts: &[&str]) -> Result<bool, Unanswered> {
+    let streams = streams(alloc, texts)?;
+    streams_begin_alike(alloc, kind, streams.as_slice())
+}
+
 // Two rows begin with the same form.
-fn rows_begin_alike(alloc: Global, one: &str, other: &str) -> Result<bool> {
+fn rows_begin_alike(alloc: Global, one: &str, other: &str) -> Result<bool, Unanswered> {
     let Some((call, written)) = parts(one)? else {
         return Ok(false);
     };
@@ -116,6 +124,6 @@ fn rows_begin_alike(alloc: Global, one: &str, other: &str) -> Result<bool> {
     if call != second_call {
         return Ok(false);
     }
-    let kind = kind_of(call).ok_or(anyhow!("no such kind"))?;
+    let kind = kind_of(call).ok_or(Unanswered::NoRow)?;
     texts_begin_alike(alloc, kind, &[written, second_written])
 }

@@ -1,35 +1,44 @@
 //! What is wrong with what is printed of a tree.
 
 use crate::built::built;
-use crate::reading::{form_of, is_same, made_normal, placed, whole, written};
-use crate::shape::shape;
-use crate::text::{buffers, printed, streams, texts};
-use anyhow::Result;
+use crate::reading::{Again, Asked, Question, read_again};
+use crate::shape::put_shape;
+use crate::text::{Writing, buffers, may_shelter, opened, put_print, streams};
+use rows::{Page, Unanswered};
 use std::alloc::Global;
-use syn::{Arena, Position, TokenBuffer, Tree};
+use syn::{Arena, Position, TokenBuffer, TokenStream, Tree, made, normal_in};
+
+/// An expression that is built of a text, and where it stands.
+#[derive(Clone, Copy)]
+pub(crate) struct Case<'t> {
+    /// The text.
+    pub(crate) text: &'t str,
+    /// The positions.
+    pub(crate) positions: &'t [Position],
+}
 
 /// What is found of an expression that was built.
-#[derive(Drop)]
+#[derive(Clone, Copy)]
 pub(crate) struct Finding {
-    /// The print of its normal form, in the last position.
-    pub(crate) printed: String,
-    /// What is written there where own parts are taken for ones that were read, if that is another print.
-    pub(crate) other: Option<String>,
-    /// In how many of the positions it gains parentheses.
+    /// In how many positions it gains parentheses.
     pub(crate) gaining: usize,
-    /// What is wrong first.
-    pub(crate) wrong: Option<String>,
+    /// Whether in each its print is right, and written too where own parts are taken for ones that were read.
+    pub(crate) is_right: bool,
 }
 
-// How many parentheses a text opens.
-fn opened(text: &str) -> usize {
-    text.chars().filter(|c| *c == '(').count()
+// An expression that was built, in one position.
+#[derive(Clone, Copy)]
+struct Placed<'t> {
+    position: Position,
+    // The text that it is built of.
+    text: &'t str,
+    // Its shape.
+    shape: &'t str,
 }
 
-// A text without some parentheses that stand in no others: those of which so many are opened before. None where there
-// are no such.
-fn without(alloc: Global, text: &str, number: usize) -> Result<Option<String>> {
-    let mut out = String::new(alloc);
+// Puts a text without some parentheses that stand in no others: those of which so many are opened before. Whether there
+// are such.
+fn put_without(text: &str, number: usize, page: &mut Page) -> bool {
     let (mut before, mut depth) = (0usize, 0usize);
     for c in text.chars() {
         if c == ')' {
@@ -39,97 +48,46 @@ fn without(alloc: Global, text: &str, number: usize) -> Result<Option<String>> {
         if is_outer && c == '(' {
             before = before.saturating_add(1);
         }
-        let is_one = is_outer && before == number;
-        out.push(if is_one { ' ' } else { c })?;
+        let shown = if is_outer && before == number { ' ' } else { c };
+        write!(page, "{shown}");
         if c == '(' {
             depth = depth.saturating_add(1);
         }
     }
-    Ok(if before < number { None } else { Some(out) })
+    before >= number
 }
 
-// How many parentheses of a text can be left out, each by itself, with the same expression read: of those that stand in
-// no others, since those within are decided as if the others weren't there.
-fn spare(alloc: Global, position: Position, wanted: &str, text: &str) -> Result<usize> {
+// Whether those parentheses of a print can be left out, with the same expression read.
+fn is_spare(
+    alloc: Global,
+    placed: Placed<'_>,
+    print: &str,
+    number: usize,
+) -> Result<bool, Unanswered> {
+    let mut less = Page::new(alloc);
+    if !put_without(print, number, &mut less) {
+        return Ok(false);
+    }
+    let text = less.whole()?;
+    let question = Question::IsShaped(placed.shape);
+    let asked = Asked {
+        position: placed.position,
+        text,
+        question,
+    };
+    Ok(matches!(read_again(alloc, asked)?, Again::Right))
+}
+
+// How many parentheses of a print can be left out, each by itself, with the same expression read: of those that stand
+// in no others, since those within are decided as if the others weren't there.
+fn spare(alloc: Global, placed: Placed<'_>, print: &str) -> Result<usize, Unanswered> {
     let mut spare = 0usize;
-    for number in 0..opened(text) {
-        if let Some(less) = without(alloc, text, number.saturating_add(1))? {
-            if is_same(alloc, position, wanted, less.as_str())? {
-                spare = spare.saturating_add(1);
-            }
+    for number in 0..opened(print) {
+        if is_spare(alloc, placed, print, number.saturating_add(1))? {
+            spare = spare.saturating_add(1);
         }
     }
     Ok(spare)
-}
-
-// Whether a range may stand behind attributes, where it stands in parentheses that are not needed.
-fn may_shelter(text: &str) -> bool {
-    text.contains('#') && text.contains("..")
-}
-
-// What is said of a print.
-fn said(alloc: Global, what: &str, text: &str) -> Result<Option<String>> {
-    Ok(Some(format!(in alloc; "{what}: {text}")?))
-}
-
-// Whether what was read is written as the text that was read: as one writes what was read, and as what was built.
-fn is_written_so(alloc: Global, position: Position, text: &str, tree: &Tree<'_>) -> Result<bool> {
-    let as_read = printed(alloc, tree)?;
-    let as_built = written(alloc, position, form_of(tree)?)?;
-    Ok(as_read.as_str() == text && as_built.as_str() == text)
-}
-
-// What is wrong with what is read of the print of an expression, with trees in an arena.
-fn fault_in<'a>(
-    arena: &'a Arena,
-    position: Position,
-    wanted: &str,
-    text: &str,
-    buffer: &'a TokenBuffer<'a>,
-) -> Result<Option<String>> {
-    let alloc = arena.alloc();
-    let Some(tree) = whole(arena, position, buffer)? else {
-        return said(alloc, "not read again", text);
-    };
-    let found = shape(arena, form_of(&tree)?)?;
-    if found.as_str() != wanted {
-        return said(alloc, "read as another", text);
-    }
-    if !is_written_so(alloc, position, text, &tree)? {
-        return said(alloc, "written otherwise than it was read", text);
-    }
-    Ok(None)
-}
-
-// The same with trees in an arena of its own.
-fn fault_read(
-    alloc: Global,
-    position: Position,
-    wanted: &str,
-    text: &str,
-    buffer: &TokenBuffer<'_>,
-) -> Result<Option<String>> {
-    let arena = Arena::new(alloc);
-    fault_in(&arena, position, wanted, text, buffer)
-}
-
-// What is wrong with the print of an expression, of which so many parentheses may be left out.
-fn fault(
-    alloc: Global,
-    position: Position,
-    wanted: &str,
-    text: &str,
-    own: usize,
-) -> Result<Option<String>> {
-    let stream = placed(alloc, position, text)?;
-    let buffer = TokenBuffer::new2(alloc, &stream, 1)?;
-    if let Some(wrong) = fault_read(alloc, position, wanted, text, &buffer)? {
-        return Ok(Some(wrong));
-    }
-    if !may_shelter(text) && spare(alloc, position, wanted, text)? > own {
-        return said(alloc, "with parentheses that it doesn't need", text);
-    }
-    Ok(None)
 }
 
 // How many atoms of a text are expressions in parentheses.
@@ -137,112 +95,180 @@ fn own_parentheses(text: &str) -> usize {
     text.matches("(c)").count()
 }
 
-// A print, if it is another one than that.
-fn unlike(print: String, that: &str) -> Option<String> {
-    if print.as_str() == that {
-        None
-    } else {
-        Some(print)
+// What is wrong with a print that is read as it should be.
+fn spare_fault(
+    alloc: Global,
+    placed: Placed<'_>,
+    print: &str,
+) -> Result<Option<&'static str>, Unanswered> {
+    if may_shelter(print) || spare(alloc, placed, print)? <= own_parentheses(placed.text) {
+        return Ok(None);
+    }
+    Ok(Some("with parentheses that it doesn't need"))
+}
+
+// What is wrong with a print.
+fn fault(
+    alloc: Global,
+    placed: Placed<'_>,
+    print: &str,
+) -> Result<Option<&'static str>, Unanswered> {
+    let question = Question::IsItself(placed.shape);
+    let asked = Asked {
+        position: placed.position,
+        text: print,
+        question,
+    };
+    match read_again(alloc, asked)? {
+        Again::Unread => Ok(Some("not read again")),
+        Again::Another => Ok(Some("read as another")),
+        Again::Otherwise => Ok(Some("written otherwise than it was read")),
+        Again::Right => spare_fault(alloc, placed, print),
     }
 }
 
-// What is found of an expression that is built in an arena of these buffers, which are a text's.
-fn found_in<'a>(
-    arena: &'a Arena,
-    text: &str,
-    buffers: &'a [TokenBuffer<'_>],
-    positions: &[Position],
-) -> Result<Finding> {
-    let alloc = arena.alloc();
-    let tree = built(arena, buffers)?;
-    let wanted = shape(arena, &tree)?;
-    let (own, before) = (own_parentheses(text), opened(text));
-    let (mut print, mut gaining, mut wrong) = (String::new(alloc), 0usize, None);
-    let mut other = None;
-    for position in positions {
-        print = made_normal(arena, *position, &tree)?;
-        other = unlike(written(alloc, *position, &tree)?, print.as_str());
-        if opened(print.as_str()) > before {
-            gaining = gaining.saturating_add(1);
-        }
-        if wrong.is_none() {
-            wrong = fault(alloc, *position, wanted.as_str(), print.as_str(), own)?;
-        }
+// Puts a print, and what is written where own parts are taken for ones that were read, if that is another print.
+// Whether it is none.
+fn put_both(print: &str, written: &str, page: &mut Page) -> bool {
+    page.quote(print);
+    let is_one = print == written;
+    if !is_one {
+        page.put(", with own parts as they are ");
+        page.quote(written);
     }
-    Ok(Finding {
-        printed: print,
-        other,
-        gaining,
-        wrong,
-    })
+    is_one
+}
+
+// Puts the print of the normal form of a tree with what is written of it. Whether these are one.
+fn put_right(
+    placed: Placed<'_>,
+    tree: &Tree<'_>,
+    print: &str,
+    page: &mut Page,
+) -> Result<bool, Unanswered> {
+    let mut written = Page::new(page.alloc());
+    put_print(Writing::Built(placed.position), tree, &mut written);
+    Ok(put_both(print, written.whole()?, page))
+}
+
+// Puts what is found of the print of the normal form of a tree.
+fn put_found(
+    placed: Placed<'_>,
+    tree: &Tree<'_>,
+    print: &str,
+    page: &mut Page,
+) -> Result<Finding, Unanswered> {
+    let is_right = match fault(page.alloc(), placed, print)? {
+        Some(what) => {
+            write!(page, "{what}: {print}");
+            false
+        }
+        None => put_right(placed, tree, print, page)?,
+    };
+    let gains = opened(print) > opened(placed.text);
+    let gaining = if gains { 1 } else { 0 };
+    Ok(Finding { gaining, is_right })
+}
+
+// Puts the print of the normal form of a tree, which is made as a tree.
+fn put_normal<'a>(
+    arena: &'a Arena,
+    position: Position,
+    tree: &Tree<'a>,
+    page: &mut Page,
+) -> Result<(), Unanswered> {
+    let whole = made::whole(arena, tree.copy())?;
+    match normal_in(arena, position, &whole) {
+        Ok(normal) => put_print(Writing::Plain, &normal, page),
+        Err(_) => return Err(Unanswered::NoRow),
+    }
+    Ok(())
+}
+
+// Puts what is found of a tree in one position.
+fn put_placed<'a>(
+    arena: &'a Arena,
+    placed: Placed<'_>,
+    tree: &Tree<'a>,
+    page: &mut Page,
+) -> Result<Finding, Unanswered> {
+    let mut print = Page::new(arena.alloc());
+    put_normal(arena, placed.position, tree, &mut print)?;
+    put_found(placed, tree, print.whole()?, page)
+}
+
+// Puts what is found of a tree with that shape in each position, with `; ` between them.
+fn put_each<'a>(
+    arena: &'a Arena,
+    case: Case<'_>,
+    shape: &str,
+    tree: &Tree<'a>,
+    page: &mut Page,
+) -> Result<Finding, Unanswered> {
+    let text = case.text;
+    let (mut gaining, mut is_right, mut is_first) = (0usize, true, true);
+    for position in case.positions {
+        let placed = Placed {
+            position: *position,
+            text,
+            shape,
+        };
+        page.put(if is_first { "" } else { "; " });
+        let found = put_placed(arena, placed, tree, page)?;
+        gaining = gaining.saturating_add(found.gaining);
+        is_right &= found.is_right;
+        is_first = false;
+    }
+    Ok(Finding { gaining, is_right })
+}
+
+// The same of a tree of any shape.
+fn put_tree<'a>(
+    arena: &'a Arena,
+    case: Case<'_>,
+    tree: &Tree<'a>,
+    page: &mut Page,
+) -> Result<Finding, Unanswered> {
+    let mut shape = Page::new(arena.alloc());
+    put_shape(arena, tree, &mut shape)?;
+    put_each(arena, case, shape.whole()?, tree, page)
+}
+
+// The same of an expression that is built in an arena of these buffers, which are its text's.
+fn put_built<'a>(
+    arena: &'a Arena,
+    case: Case<'_>,
+    buffers: &'a [TokenBuffer<'_>],
+    page: &mut Page,
+) -> Result<Finding, Unanswered> {
+    let tree = built(arena, buffers)?;
+    put_tree(arena, case, &tree, page)
 }
 
 // The same with an arena of its own.
-fn found(
-    alloc: Global,
-    text: &str,
+fn put_of_buffers(
+    case: Case<'_>,
     buffers: &[TokenBuffer<'_>],
-    positions: &[Position],
-) -> Result<Finding> {
-    let arena = Arena::new(alloc);
-    found_in(&arena, text, buffers, positions)
+    page: &mut Page,
+) -> Result<Finding, Unanswered> {
+    let arena = Arena::new(page.alloc());
+    put_built(&arena, case, buffers, page)
 }
 
-/// What is found of an expression that is built of a text.
-pub(crate) fn judged(alloc: Global, text: &str, positions: &[Position]) -> Result<Finding> {
-    let texts = texts(alloc, text)?;
-    let streams = streams(alloc, texts.as_slice())?;
-    let buffers = buffers(alloc, streams.as_slice())?;
-    found(alloc, text, buffers.as_slice(), positions)
+// The same of streams.
+fn put_of_streams(
+    case: Case<'_>,
+    streams: &[TokenStream],
+    page: &mut Page,
+) -> Result<Finding, Unanswered> {
+    let buffers = buffers(page.alloc(), streams)?;
+    put_of_buffers(case, buffers.as_slice(), page)
 }
 
-// Whether what is read of a text, with trees in an arena, gains no parentheses, unless a range stands behind attributes.
-// None where no expression is read.
-fn kept_of<'a>(
-    arena: &'a Arena,
-    position: Position,
-    text: &str,
-    buffer: &'a TokenBuffer<'a>,
-) -> Result<Option<bool>> {
-    let alloc = arena.alloc();
-    let Some(tree) = whole(arena, position, buffer)? else {
-        return Ok(None);
-    };
-    let as_read = printed(alloc, &tree)?;
-    let as_built = written(alloc, position, form_of(&tree)?)?;
-    let gains = opened(as_read.as_str()) != opened(text);
-    let alike = as_read.as_str() == as_built.as_str();
-    Ok(Some(alike && (may_shelter(text) || !gains)))
-}
-
-// The same with trees in an arena of its own.
-fn kept_read(
-    alloc: Global,
-    position: Position,
-    text: &str,
-    buffer: &TokenBuffer<'_>,
-) -> Result<Option<bool>> {
-    let arena = Arena::new(alloc);
-    kept_of(&arena, position, text, buffer)
-}
-
-// The same in a position.
-fn kept_in(alloc: Global, position: Position, text: &str) -> Result<Option<bool>> {
-    let stream = placed(alloc, position, text)?;
-    let buffer = TokenBuffer::new2(alloc, &stream, 1)?;
-    kept_read(alloc, position, text, &buffer)
-}
-
-/// In how many positions a text is read, and in how many of these what is printed of it has other parentheses.
-pub(crate) fn kept(alloc: Global, text: &str, positions: &[Position]) -> Result<(usize, usize)> {
-    let (mut read, mut wrong) = (0usize, 0usize);
-    for position in positions {
-        if let Some(right) = kept_in(alloc, *position, text)? {
-            read = read.saturating_add(1);
-            if !right {
-                wrong = wrong.saturating_add(1);
-            }
-        }
-    }
-    Ok((read, wrong))
+/// Puts what is found of an expression that is built of a text, in each position, with `; ` between them: the print of
+/// its normal form, with what is written where own parts are taken for ones that were read, if that is another print;
+/// or what is wrong.
+pub(crate) fn put_judged(case: Case<'_>, page: &mut Page) -> Result<Finding, Unanswered> {
+    let streams = streams(page.alloc(), case.text)?;
+    put_of_streams(case, streams.as_slice(), page)
 }

@@ -5,11 +5,11 @@
 //! between `‹` and `›`. What is wanted comes from the rules, and stands beside the rows in `stdout`. Behind them stands
 //! what is answered for the table of forms, of which each is put into each.
 //!
-//! - `text`: texts, the tokens that they lend, and the print of what is read of them.
+//! - `text`: texts, the tokens that they lend, and how a tree is written.
 //! - `built`: trees, made of what is read of texts.
 //! - `change`: trees made anew: with operands in the place of holes, or without parentheses.
 //! - `shape`: what a tree is, up to parentheses.
-//! - `reading`: texts that are read again, and what is written of expressions.
+//! - `reading`: texts that are read again, and what is asked of what is read.
 //! - `judged`: what is wrong with what is printed of a tree.
 //! - `forms`: the table of forms.
 //! - `tables`: each form in each.
@@ -24,11 +24,8 @@ mod shape;
 mod tables;
 mod text;
 
-use crate::judged::{Finding, judged};
-use anyhow::{Result, anyhow};
-use rows::owned::{Row, Table, answered, write};
-use std::alloc::Global;
-use std::io::{Read, Write};
+use crate::judged::{Case, put_judged};
+use rows::{Page, Row, Table, Unanswered, answer_lines, asked, told};
 use syn::Position;
 
 struct Rows;
@@ -45,31 +42,18 @@ fn position_of(name: &str) -> Option<Position> {
 }
 
 impl Table for Rows {
-    fn answer(&self, alloc: Global, row: &Row) -> Result<String> {
-        let position = position_of(row.call).ok_or(anyhow!("no such position"))?;
-        let Finding {
-            printed,
-            other,
-            wrong,
-            ..
-        } = judged(alloc, row.text.as_str(), &[position])?;
-        if let Some(wrong) = wrong {
-            return Ok(wrong);
-        }
-        let mut said = write(alloc, printed.as_str())?;
-        if let Some(other) = other {
-            said.push_str(", with own parts as they are ")?;
-            said.push_str(write(alloc, other.as_str())?.as_str())?;
-        }
-        Ok(said)
+    fn answer(&self, row: Row, page: &mut Page) -> Result<(), Unanswered> {
+        let positions = [position_of(row.call).ok_or(Unanswered::NoRow)?];
+        let (text, positions) = (row.text, positions.as_slice());
+        put_judged(Case { text, positions }, page)?;
+        Ok(())
     }
 }
 
-fn main(rt: HostRuntime) -> Result<()> {
-    let mut lines = String::new(rt.alloc());
-    rt.reader().read_to_string(&mut lines)?;
-    let mut answers = answered(rt.alloc(), &Rows, lines.as_str())?;
-    tables::put(rt.alloc(), &mut answers)?;
-    rt.stdout().write_all(answers.as_bytes())?;
-    Ok(())
+fn main(rt: HostRuntime) -> Result<(), Unanswered> {
+    let lines = asked(&rt)?;
+    let mut page = Page::new(rt.alloc());
+    answer_lines(&Rows, lines.as_str(), &mut page)?;
+    tables::put(&mut page)?;
+    told(&rt, &page)
 }

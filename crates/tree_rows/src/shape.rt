@@ -1,9 +1,8 @@
 //! What a tree is, up to parentheses and to how its marks are spaced.
 
 use crate::change::{Change, changed};
-use crate::text::printed;
-use anyhow::Result;
-use std::alloc::Global;
+use crate::text::{Writing, put_print};
+use rows::{Page, Unanswered};
 use syn::{Arena, Form, Tree, put_nodes};
 
 // Where the operands of a form stand. None of what is no form of an expression.
@@ -17,23 +16,34 @@ fn operands(tree: &Tree<'_>) -> Option<&'static str> {
     }
 }
 
-// The forms of a tree without parentheses.
-fn shape_of(alloc: Global, tree: &Tree<'_>) -> Result<String> {
-    let mut nodes = Vec::new(alloc);
-    put_nodes(tree, &mut nodes)?;
-    let mut out = String::new(alloc);
-    for node in &nodes {
-        if let Some(operands) = operands(node) {
-            let text = printed(alloc, node)?;
-            writeln!(out, "{operands}: {text}")?;
-        }
+// Puts the line of a node, if it is the form of an expression.
+fn put_form(node: &Tree<'_>, page: &mut Page) {
+    if let Some(operands) = operands(node) {
+        write!(page, "{operands}: ");
+        put_print(Writing::Read, node, page);
+        page.put("\n");
     }
-    Ok(out)
 }
 
-/// The forms in a tree, own parts included, each before those that stand in it: a line for each, with where its operands
-/// stand and with its tokens, without parentheses round any.
-pub(crate) fn shape<'a>(arena: &'a Arena, tree: &Tree<'a>) -> Result<String> {
+// Puts the forms of a tree without parentheses.
+fn put_forms(tree: &Tree<'_>, page: &mut Page) {
+    let mut nodes = Vec::new(page.alloc());
+    if put_nodes(tree, &mut nodes).is_err() {
+        page.cut();
+    }
+    for node in &nodes {
+        put_form(node, page);
+    }
+}
+
+/// Puts the forms in a tree, own parts included, each before those that stand in it: a line for each, with where its
+/// operands stand and with its tokens, without parentheses round any.
+pub(crate) fn put_shape<'a>(
+    arena: &'a Arena,
+    tree: &Tree<'a>,
+    page: &mut Page,
+) -> Result<(), Unanswered> {
     let bare = changed(arena, tree, &mut Change::Strip)?;
-    shape_of(arena.alloc(), &bare)
+    put_forms(&bare, page);
+    Ok(())
 }

@@ -1,47 +1,74 @@
-//! Texts, the tokens that they lend, and the print of what is read of them.
+//! Texts, the tokens that they lend, and how a tree is written.
 
-use anyhow::{Result, anyhow};
+use gram_build::build::write_in;
+use gram_piece::piece::Piece;
 use gram_piece::print::print;
 use gram_write::write::write;
-use std::alloc::Global;
-use syn::{SourceMap, TokenBuffer, TokenStream, Tree};
+use rows::{Page, Unanswered};
+use std::alloc::{AllocError, Global};
+use syn::{Position, SourceMap, TokenBuffer, TokenStream, Tree, put_as_read};
 
-/// The texts of an expression, from the outermost on. In the place of what stands between `‹` and `›` each has the word
-/// `hole` with the number of the text that stands there.
-pub(crate) fn texts(alloc: Global, whole: &str) -> Result<Vec<String>> {
-    let mut found = vec![in alloc; String::new(alloc)]?;
-    let mut around = Vec::new(alloc);
-    let mut at = 0;
+// How many operands an expression has that stand between `‹` and `›`. None where a `›` ends none.
+fn operand_count(whole: &str) -> Option<usize> {
+    let (mut count, mut depth) = (0usize, 0usize);
     for c in whole.chars() {
-        let behind = found.len();
-        let text = found.get_mut(at).ok_or(anyhow!("no text"))?;
         match c {
             '‹' => {
-                write!(text, " hole{behind} ")?;
-                found.push(String::new(alloc))?;
-                around.push(at)?;
-                at = behind;
+                count = count.saturating_add(1);
+                depth = depth.saturating_add(1);
             }
-            '›' => at = around.pop().ok_or(anyhow!("no operand ends there"))?,
-            _ => text.push(c)?,
+            '›' => depth = depth.checked_sub(1)?,
+            _ => {}
         }
     }
-    Ok(found)
+    Some(count)
+}
+
+// Puts one of the texts of an expression, by its number: 0 is the outermost, and each operand that stands between `‹`
+// and `›` is the next. In the place of an operand a text has the word `hole` with the number of the text that stands
+// there.
+fn put_text(whole: &str, number: usize, page: &mut Page) {
+    let mut count = 0usize;
+    let mut depth = if number == 0 { 1usize } else { 0usize };
+    for c in whole.chars() {
+        match c {
+            '‹' => {
+                count = count.saturating_add(1);
+                if depth == 1 {
+                    write!(page, " hole{count} ");
+                }
+                if depth > 0 || count == number {
+                    depth = depth.saturating_add(1);
+                }
+            }
+            '›' => depth = depth.saturating_sub(1),
+            _ if depth == 1 => write!(page, "{c}"),
+            _ => {}
+        }
+    }
 }
 
 /// The tokens of a text.
-pub(crate) fn stream(alloc: Global, text: &str) -> Result<TokenStream> {
+pub(crate) fn stream(alloc: Global, text: &str) -> Result<TokenStream, Unanswered> {
     match TokenStream::from_str(alloc, text, &mut SourceMap::new(alloc)) {
         Ok(stream) => Ok(stream),
-        Err(_) => Err(anyhow!("no tokens: {text}")),
+        Err(_) => Err(Unanswered::NoRow),
     }
 }
 
-/// The tokens of texts.
-pub(crate) fn streams(alloc: Global, texts: &[String]) -> Result<Vec<TokenStream>> {
+// The tokens of one of the texts of an expression.
+fn text_stream(alloc: Global, whole: &str, number: usize) -> Result<TokenStream, Unanswered> {
+    let mut text = Page::new(alloc);
+    put_text(whole, number, &mut text);
+    stream(alloc, text.whole()?)
+}
+
+/// The tokens of the texts of an expression, of which the first is the outermost.
+pub(crate) fn streams(alloc: Global, whole: &str) -> Result<Vec<TokenStream>, Unanswered> {
+    let count = operand_count(whole).ok_or(Unanswered::NoRow)?;
     let mut all = Vec::new(alloc);
-    for text in texts {
-        all.push(stream(alloc, text.as_str())?)?;
+    for number in 0..count.saturating_add(1) {
+        all.push(text_stream(alloc, whole, number)?)?;
     }
     Ok(all)
 }
@@ -50,7 +77,7 @@ pub(crate) fn streams(alloc: Global, texts: &[String]) -> Result<Vec<TokenStream
 pub(crate) fn buffers<'a>(
     alloc: Global,
     streams: &'a [TokenStream],
-) -> Result<Vec<TokenBuffer<'a>>> {
+) -> Result<Vec<TokenBuffer<'a>>, Unanswered> {
     let mut all = Vec::new(alloc);
     for stream in streams {
         all.push(TokenBuffer::new2(alloc, stream, 1)?)?;
@@ -58,9 +85,57 @@ pub(crate) fn buffers<'a>(
     Ok(all)
 }
 
-/// The print of a tree that was read.
-pub(crate) fn printed(alloc: Global, tree: &Tree<'_>) -> Result<String> {
-    let mut pieces = Vec::new(alloc);
-    write(tree, &mut pieces)?;
-    Ok(print(alloc, pieces.as_slice())?)
+/// How a tree is written.
+#[derive(Clone, Copy)]
+pub(crate) enum Writing {
+    /// As a tree that was read.
+    Read,
+    /// Just as it is.
+    Plain,
+    /// As the form of an expression that was built, in a position.
+    Built(Position),
+}
+
+// Puts the tokens of a tree.
+fn put_pieces<'a>(
+    writing: Writing,
+    tree: &Tree<'a>,
+    pieces: &mut Vec<Piece<'a>>,
+) -> Result<(), AllocError> {
+    match writing {
+        Writing::Read => write(tree, pieces),
+        Writing::Plain => put_as_read(tree, pieces),
+        Writing::Built(position) => write_in(position, tree, pieces),
+    }
+}
+
+/// Puts the print of a tree.
+pub(crate) fn put_print(writing: Writing, tree: &Tree<'_>, page: &mut Page) {
+    let mut pieces = Vec::new(page.alloc());
+    match put_pieces(writing, tree, &mut pieces) {
+        Ok(()) => page.put_made(print(page.alloc(), pieces.as_slice())),
+        Err(_) => page.cut(),
+    }
+}
+
+/// Whether that is the print of a tree.
+pub(crate) fn is_print(
+    alloc: Global,
+    writing: Writing,
+    tree: &Tree<'_>,
+    wanted: &str,
+) -> Result<bool, Unanswered> {
+    let mut page = Page::new(alloc);
+    put_print(writing, tree, &mut page);
+    Ok(page.whole()? == wanted)
+}
+
+/// How many parentheses a text opens.
+pub(crate) fn opened(text: &str) -> usize {
+    text.chars().filter(|c| *c == '(').count()
+}
+
+/// Whether a range may stand behind attributes, where it stands in parentheses that are not needed.
+pub(crate) fn may_shelter(text: &str) -> bool {
+    text.contains('#') && text.contains("..")
 }
