@@ -1,28 +1,21 @@
 //! Expressions that are built by hand and written, what stands for one, and the members of fields.
 
+use crate::asked::{Question, ask};
+use crate::pieces::{older, put_behind};
 use gram_build::build::write_in;
-use gram_piece::piece::Piece;
-use gram_piece::print::print;
 use gram_table::kind::{Kind, Position};
 use gram_tree::arena::Arena;
 use gram_tree::made;
 use gram_tree::tree::{Form, Three, Tree};
-use proc_macro2::{SourceMap, TokenStream};
-use std::alloc::{AllocError, Global};
-use std::io::Write;
-use stops::{Stop, looked_at, refused};
+use rows::Page;
+use std::alloc::AllocError;
+use stops::{Stop, looked_at};
 use syn::{Expr, NormalFault, parse_as, parse2, put_normal};
 use syn_buffer::TokenBuffer;
 use syn_data::data::Fields;
 use syn_data::derive::{Data, DeriveInput};
 use syn_data::members::Member;
 use syn_error::ParseFault;
-
-/// The tokens of a text.
-pub(crate) fn lexed(alloc: Global, text: &str) -> Result<TokenStream, Stop> {
-    let stream = TokenStream::from_str(alloc, text, &mut SourceMap::new(alloc));
-    stream.map_err(|_| Stop::Elsewhere)
-}
 
 // Why a form that stands there was not read.
 fn unread(fault: ParseFault) -> Stop {
@@ -51,30 +44,26 @@ fn with_left<'a>(
     made::infix(arena, left.copy(), kind, form.own.copy(), form.right.copy())
 }
 
-/// The text of what is written of an expression behind older tokens. Where that is refused, those stand in front.
-pub(crate) fn written(alloc: Global, position: Position, form: &Tree<'_>) -> Result<String, Stop> {
-    let mut out = vec![in alloc; Piece::Underscore, Piece::Index(7)]?;
-    if write_in(position, form, &mut out).is_err() {
-        return refused(print(alloc, out.as_slice())?.starts_with("_ 7"));
-    }
-    looked_at(print(alloc, out.as_slice()))
+/// Puts the text of what is written of an expression behind older tokens.
+pub(crate) fn put_form(position: Position, form: &Tree<'_>, page: &mut Page) -> Result<(), Stop> {
+    let mut out = older(page.alloc())?;
+    let is_written = write_in(position, form, &mut out).is_ok();
+    put_behind(is_written, out.as_slice(), page)
 }
 
 /// The same of the normal form of a tree, which is made as a tree.
-pub(crate) fn normal_text<'a>(arena: &'a Arena, tree: &Tree<'a>) -> Result<String, Stop> {
-    let alloc = arena.alloc();
-    let mut out = vec![in alloc; Piece::Underscore, Piece::Index(7)]?;
-    match put_normal(arena, tree, &mut out) {
-        Ok(()) => looked_at(print(alloc, out.as_slice())),
-        Err(NormalFault::Memory) => refused(print(alloc, out.as_slice())?.starts_with("_ 7")),
-        Err(_) => Err(Stop::Changed),
-    }
-}
-
-// The same of an expression, of its form.
-fn made_normal<'a>(arena: &'a Arena, form: &Tree<'a>) -> Result<String, Stop> {
-    let whole = looked_at(made::whole(arena, form.copy()))?;
-    normal_text(arena, &whole)
+pub(crate) fn put_normal_form<'a>(
+    arena: &'a Arena,
+    tree: &Tree<'a>,
+    page: &mut Page,
+) -> Result<(), Stop> {
+    let mut out = older(page.alloc())?;
+    let is_written = match put_normal(arena, tree, &mut out) {
+        Ok(()) => true,
+        Err(NormalFault::Memory) => false,
+        Err(_) => return Err(Stop::Changed),
+    };
+    put_behind(is_written, out.as_slice(), page)
 }
 
 /// The form of an expression that was read.
@@ -83,62 +72,94 @@ pub(crate) fn form_of<'t, 'a>(tree: &'t Tree<'a>) -> Option<&'t Tree<'a>> {
     expression.whole()
 }
 
-// What is written in a position of an assignment's left form, with the right one in the place of its left operand; and
-// its normal form by itself.
-fn replaced_in<'a>(
-    arena: &'a Arena,
+/// Puts what is written in a position of an assignment's left form, with the right one in the place of its left operand;
+/// and its normal form by itself.
+pub(crate) fn put_replaced<'a>(
     position: Position,
+    arena: &'a Arena,
     buffer: &'a TokenBuffer<'a>,
-) -> Result<String, Stop> {
+    page: &mut Page,
+) -> Result<(), Stop> {
     let tree = parsed(arena, Kind::Expression(Position::Plain), buffer)?;
-    let Some(Form::Infix(_, assigned)) = form_of(&tree).map(|form| &form.form) else {
-        return Err(Stop::Changed);
-    };
-    match &assigned.left.form {
-        Form::Infix(kind, outer) => {
-            let built = looked_at(with_left(arena, &assigned.right, *kind, outer))?;
-            let mut lines = written(arena.alloc(), position, &built)?;
-            lines.push('\n')?;
-            lines.push_str(made_normal(arena, &built)?.as_str())?;
-            Ok(lines)
+    match form_of(&tree) {
+        Some(form) => put_assigned(position, arena, form, page),
+        None => Err(Stop::Changed),
+    }
+}
+
+// The same of the form of the assignment.
+fn put_assigned<'a>(
+    position: Position,
+    arena: &'a Arena,
+    assignment: &Tree<'a>,
+    page: &mut Page,
+) -> Result<(), Stop> {
+    match &assignment.form {
+        Form::Infix(_, assigned) => {
+            let built = replaced(arena, assigned)?;
+            put_built(position, arena, &built, page)
         }
         _ => Err(Stop::Changed),
     }
 }
 
-// The same with an arena of its own.
-fn replaced(alloc: Global, position: Position, buffer: &TokenBuffer<'_>) -> Result<String, Stop> {
-    let arena = Arena::new(alloc);
-    replaced_in(&arena, position, buffer)
-}
-
-// What is written of what stands for an expression where none is known yet.
-fn placeholder(alloc: Global) -> Result<String, Stop> {
-    let arena = Arena::new(alloc);
-    let unknown = looked_at(Expr::placeholder(&arena))?;
-    written(alloc, Position::Plain, &unknown)
-}
-
-// The members of a struct's fields, with a space behind each.
-fn shown(alloc: Global, fields: &Fields) -> Result<String, Stop> {
-    let mut line = String::new(alloc);
-    for member in looked_at(fields.members(alloc))?.as_slice() {
-        let put = match member {
-            Member::Named(name) => write!(line, "{} ", name.word()),
-            Member::Unnamed(index) => write!(line, "{index} "),
-        };
-        put.map_err(|_| Stop::Elsewhere)?;
-    }
-    Ok(line)
-}
-
-// The members of the fields of the struct that a buffer holds.
-fn members(alloc: Global, buffer: &TokenBuffer<'_>) -> Result<String, Stop> {
-    let arena = Arena::new(alloc);
-    let input = parse2::<DeriveInput>(&arena, buffer).map_err(unread)?;
-    match input.data {
-        Data::Struct(data) => shown(alloc, &data.fields),
+// The left form, with the right one in the place of its left operand.
+fn replaced<'a>(arena: &'a Arena, assigned: &Three<'a>) -> Result<Tree<'a>, Stop> {
+    match &assigned.left.form {
+        Form::Infix(kind, outer) => looked_at(with_left(arena, &assigned.right, *kind, outer)),
         _ => Err(Stop::Changed),
+    }
+}
+
+// Puts what is written of a form, and its normal form as an expression.
+fn put_built<'a>(
+    position: Position,
+    arena: &'a Arena,
+    built: &Tree<'a>,
+    page: &mut Page,
+) -> Result<(), Stop> {
+    put_form(position, built, page)?;
+    page.put("\n");
+    let whole = looked_at(made::whole(arena, built.copy()))?;
+    put_normal_form(arena, &whole, page)
+}
+
+// Puts what is written of what stands for an expression where none is known yet.
+fn put_placeholder(page: &mut Page) -> Result<(), Stop> {
+    let arena = Arena::new(page.alloc());
+    put_unknown(&arena, page)
+}
+
+// The same in an arena.
+fn put_unknown<'a>(arena: &'a Arena, page: &mut Page) -> Result<(), Stop> {
+    let unknown = looked_at(Expr::placeholder(arena))?;
+    put_form(Position::Plain, &unknown, page)
+}
+
+// Puts the members of a struct's fields, with a space behind each.
+fn put_members(fields: &Fields, page: &mut Page) -> Result<(), Stop> {
+    let members = looked_at(fields.members(page.alloc()))?;
+    for member in members.as_slice() {
+        match member {
+            Member::Named(name) => write!(page, "{} ", name.word()),
+            Member::Unnamed(index) => write!(page, "{index} "),
+        }
+    }
+    Ok(())
+}
+
+/// Puts the members of the fields of the struct that a buffer holds.
+pub(crate) fn put_struct<'a>(
+    arena: &'a Arena,
+    buffer: &'a TokenBuffer<'a>,
+    page: &mut Page,
+) -> Result<(), Stop> {
+    match parse2::<DeriveInput>(arena, buffer) {
+        Ok(input) => match input.data {
+            Data::Struct(found) => put_members(&found.fields, page),
+            _ => Err(Stop::Changed),
+        },
+        Err(fault) => Err(unread(fault)),
     }
 }
 
@@ -157,22 +178,17 @@ const STRUCTS: [&str; 3] = [
     "struct S ;",
 ];
 
-/// The answers for these, in lines.
-pub fn answered(alloc: Global) -> Result<String, Stop> {
-    let mut all = String::new(alloc);
+/// Puts the answers for these, in lines.
+pub(crate) fn put_answers(page: &mut Page) -> Result<(), Stop> {
     for (position, text) in BUILT {
-        let stream = lexed(alloc, text)?;
-        let buffer = TokenBuffer::new2(alloc, &stream, 1)?;
-        all.push_str(replaced(alloc, position, &buffer)?.as_str())?;
-        all.push('\n')?;
+        ask(Question::Built(position), text, page)?;
+        page.put("\n");
     }
-    all.push_str(placeholder(alloc)?.as_str())?;
-    all.push('\n')?;
+    put_placeholder(page)?;
+    page.put("\n");
     for text in STRUCTS {
-        let stream = lexed(alloc, text)?;
-        let buffer = TokenBuffer::new2(alloc, &stream, 1)?;
-        all.push_str(members(alloc, &buffer)?.as_str())?;
-        all.push('\n')?;
+        ask(Question::Members, text, page)?;
+        page.put("\n");
     }
-    Ok(all)
+    Ok(())
 }

@@ -1,7 +1,8 @@
 //! Calls that read one text each: as a type of the syntax tree, or as a form that may be missing; and what is made of a
 //! form that was read.
 
-use crate::built::{lexed, parsed};
+use crate::asked::{Question, ask};
+use crate::built::parsed;
 use crate::{optional, typed, values};
 use rows::Page;
 use stops::{Stop, looked_at};
@@ -10,9 +11,9 @@ use syn::{
     to_stream,
 };
 
-// What is called.
+/// What is called.
 #[derive(Clone, Copy)]
-enum Call {
+pub(crate) enum Call {
     // `parse2` of these types
     Stmt,
     Parameter,
@@ -72,8 +73,8 @@ fn put_stream(tree: &Tree<'_>, page: &mut Page) -> Result<(), Stop> {
     }
 }
 
-// Puts what a call answers of a buffer.
-fn put_answer<'a>(
+/// Puts what a call answers of a buffer.
+pub(crate) fn put_call<'a>(
     call: Call,
     arena: &'a Arena,
     buffer: &'a TokenBuffer<'a>,
@@ -94,23 +95,10 @@ fn put_answer<'a>(
     }
 }
 
-// The same in an arena of its own.
-fn put_answer_in(call: Call, buffer: &TokenBuffer<'_>, page: &mut Page) -> Result<(), Stop> {
-    let arena = Arena::new(page.alloc());
-    put_answer(call, &arena, buffer, page)
-}
-
-// The same of a text.
-fn put_answer_of(call: Call, text: &str, page: &mut Page) -> Result<(), Stop> {
-    let stream = lexed(page.alloc(), text)?;
-    let buffer = TokenBuffer::new2(page.alloc(), &stream, 1)?;
-    put_answer_in(call, &buffer, page)
-}
-
 /// Puts the answers of these calls, in lines.
-pub fn put_answers(page: &mut Page) -> Result<(), Stop> {
+pub(crate) fn put_answers(page: &mut Page) -> Result<(), Stop> {
     for (call, text) in CALLS {
-        put_answer_of(call, text, page)?;
+        ask(Question::Called(call), text, page)?;
         page.put("\n");
     }
     Ok(())

@@ -1,6 +1,7 @@
 //! Forms that are compared.
 
-use crate::built::{lexed, parsed};
+use crate::asked::lexed;
+use crate::built::parsed;
 use rows::Page;
 use std::alloc::Global;
 use stops::{Stop, refused};
@@ -93,7 +94,7 @@ const PAIRS: [[&str; 2]; 4] = [
 ];
 
 /// Puts the answers for these types, in lines.
-pub fn put_answers(page: &mut Page) -> Result<(), Stop> {
+pub(crate) fn put_answers(page: &mut Page) -> Result<(), Stop> {
     for texts in PAIRS {
         put_texts(texts, page)?;
         page.put("\n");

@@ -1,44 +1,41 @@
 //! A long expression, and what is written of it.
 
-use crate::built::{form_of, lexed, normal_text, parsed, written};
-use crate::texts::printed;
+use crate::asked::{Question, ask};
+use crate::built::{form_of, parsed, put_form, put_normal_form};
+use crate::texts::put_tree;
 use rows::Page;
 use stops::Stop;
-use syn::{Arena, Kind, Position, TokenBuffer};
+use syn::{Arena, Kind, Position, TokenBuffer, Tree};
 
 // Forty operands, with operators of most levels between them.
 const LONG: &str =
     "a + b * c - d / e % f << g + h & i ^ j | k * l == m - n && o < p + q || r % s - t * u != v << w && x | y ^ z & A + B * C > D - E / F || G % H >> I == J * K + L && M >= N";
 
-// Puts what is written of the expression that a buffer holds: as it was read, as its normal form, which is made as a tree,
-// and as an expression that is built by hand.
-fn put_written<'a>(
+/// Puts what is written of the expression that a buffer holds: as it was read, as its normal form, which is made as a
+/// tree, and as an expression that is built by hand.
+pub(crate) fn put_written<'a>(
     arena: &'a Arena,
     buffer: &'a TokenBuffer<'a>,
     page: &mut Page,
 ) -> Result<(), Stop> {
     let tree = parsed(arena, Kind::Expression(Position::Plain), buffer)?;
-    page.put(printed(arena.alloc(), &tree)?.as_str());
+    put_expression(arena, &tree, page)
+}
+
+fn put_expression<'a>(arena: &'a Arena, tree: &Tree<'a>, page: &mut Page) -> Result<(), Stop> {
+    put_tree(tree, page)?;
     page.put("\n");
-    page.put(normal_text(arena, &tree)?.as_str());
+    put_normal_form(arena, tree, page)?;
     page.put("\n");
-    let Some(form) = form_of(&tree) else {
-        return Err(Stop::Changed);
-    };
-    page.put(written(arena.alloc(), Position::Plain, form)?.as_str());
+    match form_of(tree) {
+        Some(form) => put_form(Position::Plain, form, page)?,
+        None => return Err(Stop::Changed),
+    }
     page.put("\n");
     Ok(())
 }
 
-// The same in an arena of its own.
-fn put_in_arena(buffer: &TokenBuffer<'_>, page: &mut Page) -> Result<(), Stop> {
-    let arena = Arena::new(page.alloc());
-    put_written(&arena, buffer, page)
-}
-
 /// Puts what is written of the long expression, in lines.
-pub fn put_answers(page: &mut Page) -> Result<(), Stop> {
-    let stream = lexed(page.alloc(), LONG)?;
-    let buffer = TokenBuffer::new2(page.alloc(), &stream, 1)?;
-    put_in_arena(&buffer, page)
+pub(crate) fn put_answers(page: &mut Page) -> Result<(), Stop> {
+    ask(Question::Long, LONG, page)
 }

@@ -1,65 +1,74 @@
 //! What is said of modifiers where none may stand.
 
-use std::alloc::Global;
+use rows::Page;
 use stops::Stop;
 use syn::{
-    ConstModifiers, FnModifiers, Ident, ImplModifiers, Mark, ParseFault, Sign, Spacing, Span,
-    TraitModifiers, TypeModifiers,
+    ConstModifiers, Error, FnModifiers, Ident, ImplModifiers, Mark, ParseFault, Sign, Spacing,
+    Span, TraitModifiers, TypeModifiers,
 };
 
 // Puts each message of what is refused, in a line.
-fn put_refusal(required: Result<(), ParseFault>, all: &mut String) -> Result<(), Stop> {
-    let error = match required {
-        Ok(()) => return Err(Stop::Changed),
-        Err(ParseFault::Memory) => return Err(Stop::Refused),
-        Err(ParseFault::Syntax(error)) => error,
-    };
+fn put_refusal(required: Result<(), ParseFault>, page: &mut Page) -> Result<(), Stop> {
+    match required {
+        Err(ParseFault::Syntax(error)) => {
+            put_messages(error, page);
+            Ok(())
+        }
+        Err(ParseFault::Memory) => Err(Stop::Refused),
+        Ok(()) => Err(Stop::Changed),
+    }
+}
+
+fn put_messages(error: Error, page: &mut Page) {
     for message in error {
-        all.push_str(message.to_string(*all.allocator())?.as_str())?;
-        all.push('\n')?;
+        write!(page, "{message}\n");
     }
-    Ok(())
 }
 
-// What is said of an impl's modifiers: of a word, of a mark, and of both.
-fn put_impl(word: Option<&Ident>, mark: Option<Mark>, all: &mut String) -> Result<(), Stop> {
-    let alloc = *all.allocator();
-    for (defaultness, polarity) in [(word, None), (None, mark), (word, mark)] {
-        let modifiers = ImplModifiers {
-            defaultness,
-            polarity,
-        };
-        put_refusal(modifiers.require_empty(alloc), all)?;
-    }
-    Ok(())
+// Puts what is said of an impl's modifiers.
+fn put_impl(word: Option<&Ident>, mark: Option<Mark>, page: &mut Page) -> Result<(), Stop> {
+    let modifiers = ImplModifiers {
+        defaultness: word,
+        polarity: mark,
+    };
+    put_refusal(modifiers.require_empty(page.alloc()), page)
 }
 
-/// What is said of the modifiers of each sort, in lines.
-pub fn answered(alloc: Global) -> Result<String, Stop> {
-    let ident = Ident::new(alloc, "default", Span::call_site()).map_err(|_| Stop::Elsewhere)?;
-    let word = Some(&ident);
+// Puts what is said of a word where a member or a trait may have one.
+fn put_word(word: Option<&Ident>, page: &mut Page) -> Result<(), Stop> {
+    let alloc = page.alloc();
+    put_refusal(
+        ConstModifiers { defaultness: word }.require_empty(alloc),
+        page,
+    )?;
+    put_refusal(FnModifiers { defaultness: word }.require_empty(alloc), page)?;
+    put_refusal(
+        TypeModifiers { defaultness: word }.require_empty(alloc),
+        page,
+    )?;
+    put_refusal(
+        TraitModifiers { auto_token: word }.require_empty(alloc),
+        page,
+    )
+}
+
+// The same, and of an impl: of a word, of a mark, and of both.
+fn put_all(word: Option<&Ident>, page: &mut Page) -> Result<(), Stop> {
     let mark = Mark {
         sign: Sign::Not,
         spacing: Spacing::Alone,
         span: Span::call_site(),
     };
-    let mut all = String::new(alloc);
-    put_refusal(
-        ConstModifiers { defaultness: word }.require_empty(alloc),
-        &mut all,
-    )?;
-    put_refusal(
-        FnModifiers { defaultness: word }.require_empty(alloc),
-        &mut all,
-    )?;
-    put_refusal(
-        TypeModifiers { defaultness: word }.require_empty(alloc),
-        &mut all,
-    )?;
-    put_refusal(
-        TraitModifiers { auto_token: word }.require_empty(alloc),
-        &mut all,
-    )?;
-    put_impl(word, Some(mark), &mut all)?;
-    Ok(all)
+    put_word(word, page)?;
+    put_impl(word, None, page)?;
+    put_impl(None, Some(mark), page)?;
+    put_impl(word, Some(mark), page)
+}
+
+/// Puts what is said of the modifiers of each sort, in lines.
+pub(crate) fn put_answers(page: &mut Page) -> Result<(), Stop> {
+    match Ident::new(page.alloc(), "default", Span::call_site()) {
+        Ok(ident) => put_all(Some(&ident), page),
+        Err(_) => Err(Stop::Elsewhere),
+    }
 }

@@ -2,35 +2,46 @@
 
 ghost use Rattle.syn_input.specs.Input.{IsOnward};
 
-use crate::reading::{said, streamed};
+use crate::asked::{Question, ask, ask_of, lexed};
+use crate::reading::{put_said, put_streamed};
+use proc_macro2::TokenStream;
 use proc_macro2::delimiter::Delimiter;
 use proc_macro2::tree::{Group, TokenTree};
-use proc_macro2::{SourceMap, TokenStream};
+use rows::Page;
 use std::alloc::Global;
 use stops::Stop;
 use syn::{Arena, Kind, ParseFault, ParseForm, ParseForms, Plus, TokenBuffer, Tree, Type};
 use syn_kinds::token;
 use syn_parse::{ParseBuffer, Punctuated, parse_buffer, parse_terminated_with};
 
-// The type that stands first, as a stream of its own.
-fn first_type<'a>(input: &mut ParseBuffer<'a>, arena: &'a Arena) -> Result<String, Stop> {
-    let alloc = input.allocator();
+// Puts the type that stands first, as a stream of its own.
+fn put_type<'a>(
+    input: &mut ParseBuffer<'a>,
+    arena: &'a Arena,
+    page: &mut Page,
+) -> Result<(), Stop> {
     let from = input.cursor();
     match input.parse_as(arena, Kind::AType(Plus::WithPlus)) {
-        Ok(tree) => streamed(alloc, &tree),
-        Err(fault) => said(alloc, fault, input.cursor().eq(&from)),
+        Ok(tree) => put_streamed(&tree, page),
+        Err(fault) => put_said(fault, input.cursor().eq(&from), page),
     }
 }
 
-// What type stands first.
-fn first_form<'a>(input: &mut ParseBuffer<'a>, arena: &'a Arena) -> Result<String, Stop> {
-    let alloc = input.allocator();
+// Puts what type stands first.
+fn put_form<'a>(
+    input: &mut ParseBuffer<'a>,
+    arena: &'a Arena,
+    page: &mut Page,
+) -> Result<(), Stop> {
     let from = input.cursor();
     let form: Result<Type, ParseFault> = input.form(arena);
     match form {
-        Ok(Type::Reference(_)) => Ok(String::from_str(alloc, "a reference")?),
+        Ok(Type::Reference(_)) => {
+            page.put("a reference");
+            Ok(())
+        }
         Ok(_) => Err(Stop::Changed),
-        Err(fault) => said(alloc, fault, input.cursor().eq(&from)),
+        Err(fault) => put_said(fault, input.cursor().eq(&from), page),
     }
 }
 
@@ -77,57 +88,40 @@ fn all_types<'a>(
     )
 }
 
-// What all types of the buffer are as a stream, one behind the other.
-fn put_types<'a>(arena: &'a Arena, buffer: &'a TokenBuffer<'a>) -> Result<String, Stop> {
-    let alloc = arena.alloc();
+// Puts what all types of the buffer are as a stream, one behind the other.
+fn put_types<'a>(
+    arena: &'a Arena,
+    buffer: &'a TokenBuffer<'a>,
+    page: &mut Page,
+) -> Result<(), Stop> {
     match all_types(arena, buffer) {
-        Ok(types) => {
-            let mut line = String::new(alloc);
-            for found in &types {
-                line.push_str(streamed(alloc, &found.ty)?.as_str())?;
-                line.push(';')?;
-            }
-            Ok(line)
-        }
-        Err(fault) => said(alloc, fault, true),
+        Ok(types) => put_list(&types, page),
+        Err(fault) => put_said(fault, true, page),
     }
 }
 
-// What is read of a buffer.
-fn read_of<'a>(
-    alloc: Global,
-    arena: &'a Arena,
-    buffer: &'a TokenBuffer<'a>,
-) -> Result<[String; 3], Stop> {
-    let mut input = ParseBuffer::new(alloc, buffer.begin());
-    let mut fork = input.fork();
-    let form = first_form(&mut fork, arena)?;
-    let ty = first_type(&mut input, arena)?;
-    Ok([form, ty, put_types(arena, buffer)?])
-}
-
-// What is read of a buffer, in lines.
-fn put_read(buffer: &TokenBuffer<'_>, all: &mut String) -> Result<(), Stop> {
-    let alloc = *all.allocator();
-    let arena = Arena::new(alloc);
-    let lines = read_of(alloc, &arena, buffer)?;
-    for line in &lines {
-        all.push_str(line.as_str())?;
-        all.push('\n')?;
+fn put_list(types: &Punctuated<Listed<'_>, token::Comma>, page: &mut Page) -> Result<(), Stop> {
+    for found in types {
+        put_streamed(&found.ty, page)?;
+        page.put(";");
     }
     Ok(())
 }
 
-// The same of a stream.
-fn put_answers(alloc: Global, stream: &TokenStream, all: &mut String) -> Result<(), Stop> {
-    let buffer = TokenBuffer::new2(alloc, stream, 1)?;
-    put_read(&buffer, all)
-}
-
-// The stream of a text.
-fn lexed(alloc: Global, text: &str) -> Result<TokenStream, Stop> {
-    let stream = TokenStream::from_str(alloc, text, &mut SourceMap::new(alloc));
-    stream.map_err(|_| Stop::Elsewhere)
+/// Puts what is read of a buffer, in lines.
+pub(crate) fn put_read<'a>(
+    arena: &'a Arena,
+    buffer: &'a TokenBuffer<'a>,
+    page: &mut Page,
+) -> Result<(), Stop> {
+    let mut input = ParseBuffer::new(page.alloc(), buffer.begin());
+    put_form(&mut input.fork(), arena, page)?;
+    page.put("\n");
+    put_type(&mut input, arena, page)?;
+    page.put("\n");
+    put_types(arena, buffer, page)?;
+    page.put("\n");
+    Ok(())
 }
 
 // A stream of one invisible group, in which a type stands.
@@ -138,12 +132,10 @@ fn invisible(alloc: Global) -> Result<TokenStream, Stop> {
     Ok(stream)
 }
 
-/// The answers for three texts, and for a stream with an invisible group.
-pub fn answered(alloc: Global) -> Result<String, Stop> {
-    let mut all = String::new(alloc);
+/// Puts the answers for three texts, and for a stream with an invisible group.
+pub(crate) fn put_answers(page: &mut Page) -> Result<(), Stop> {
     for text in ["& 'a [u8 ; 2] , b", "+ 1", ""] {
-        put_answers(alloc, &lexed(alloc, text)?, &mut all)?;
+        ask(Question::Streamed, text, page)?;
     }
-    put_answers(alloc, &invisible(alloc)?, &mut all)?;
-    Ok(all)
+    ask_of(Question::Streamed, &invisible(page.alloc())?, page)
 }

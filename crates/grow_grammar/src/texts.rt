@@ -1,51 +1,53 @@
 //! Texts that are read by the written grammar, and written and printed again.
 
-use gram_piece::piece::Piece;
-use gram_piece::print::print;
+use crate::asked::{Question, ask};
+use crate::pieces::{older, put_behind};
 use gram_read::grammar::Grammar;
 use gram_read::said::error;
 use gram_run::read::read;
-use gram_run::refusal::Refusal;
+use gram_run::refusal::{Refusal, Wrong};
 use gram_table::kind::{Kind, Plus, Position};
 use gram_tree::arena::Arena;
 use gram_tree::tree::Tree;
 use gram_write::write::write;
-use proc_macro2::{SourceMap, TokenStream};
-use std::alloc::Global;
-use stops::{Stop, looked_at, refused};
+use rows::Page;
+use stops::{Stop, looked_at};
 use syn_buffer::TokenBuffer;
 
-/// The text of what is written of a tree behind older tokens. Where that is refused, those stand in front.
-pub(crate) fn printed(alloc: Global, tree: &Tree<'_>) -> Result<String, Stop> {
-    let mut out = vec![in alloc; Piece::Underscore, Piece::Index(7)]?;
-    if write(tree, &mut out).is_err() {
-        return refused(print(alloc, out.as_slice())?.starts_with("_ 7"));
-    }
-    looked_at(print(alloc, out.as_slice()))
+/// Puts the text of what is written of a tree behind older tokens.
+pub(crate) fn put_tree(tree: &Tree<'_>, page: &mut Page) -> Result<(), Stop> {
+    let mut out = older(page.alloc())?;
+    let is_written = write(tree, &mut out).is_ok();
+    put_behind(is_written, out.as_slice(), page)
 }
 
-// What is printed of a text, all of which is of that kind; or what is said of a text that begins with none.
-fn text(alloc: Global, kind: Kind, text: &str) -> Result<String, Stop> {
-    let lexed = TokenStream::from_str(alloc, text, &mut SourceMap::new(alloc));
-    let stream = lexed.map_err(|_| Stop::Elsewhere)?;
-    let buffer = TokenBuffer::new2(alloc, &stream, 1)?;
-    let arena = Arena::new(alloc);
-    match read(&Grammar, &arena, kind, buffer.entries()) {
-        Ok((tree, rest)) if rest.is_empty() => printed(alloc, &tree),
+/// Puts what is printed of a buffer, all of which is of that kind; or what is said of one that begins with none.
+pub(crate) fn put_text<'a>(
+    kind: Kind,
+    arena: &'a Arena,
+    buffer: &'a TokenBuffer<'a>,
+    page: &mut Page,
+) -> Result<(), Stop> {
+    match read(&Grammar, arena, kind, buffer.entries()) {
+        Ok((tree, rest)) if rest.is_empty() => put_tree(&tree, page),
         Err(Refusal::Memory) => Err(Stop::Refused),
-        Err(Refusal::Syntax(wrong)) => Ok(looked_at(error(alloc, wrong))?.to_string(alloc)?),
+        Err(Refusal::Syntax(wrong)) => put_wrong(wrong, page),
         Ok(_) | Err(Refusal::Late) => Err(Stop::Changed),
     }
 }
 
-// The answers for texts of one kind, in lines.
-fn lines(alloc: Global, kind: Kind, texts: &[&str]) -> Result<String, Stop> {
-    let mut all = String::new(alloc);
-    for written in texts {
-        all.push_str(text(alloc, kind, written)?.as_str())?;
-        all.push('\n')?;
+fn put_wrong(wrong: Wrong, page: &mut Page) -> Result<(), Stop> {
+    page.show(&looked_at(error(page.alloc(), wrong))?);
+    Ok(())
+}
+
+// Puts the answers for texts of one kind, in lines.
+fn put_lines(kind: Kind, texts: &[&str], page: &mut Page) -> Result<(), Stop> {
+    for text in texts {
+        ask(Question::Written(kind), text, page)?;
+        page.put("\n");
     }
-    Ok(all)
+    Ok(())
 }
 
 const FILES: [&str; 6] = [
@@ -83,17 +85,15 @@ const TYPES: [&str; 4] = [
 
 const PATTERNS: [&str; 2] = ["x @ 1 ..= 9", "& mut (a , S { b , .. } , [_ , ..])"];
 
-/// The answers for these texts, in lines.
-pub fn answered(alloc: Global) -> Result<String, Stop> {
-    let mut answer = lines(alloc, Kind::AFile, FILES.as_slice())?;
-    let kinds = [
-        (Kind::Statements, STATEMENTS.as_slice()),
-        (Kind::Expression(Position::Plain), EXPRESSIONS.as_slice()),
-        (Kind::AType(Plus::WithPlus), TYPES.as_slice()),
-        (Kind::Pattern, PATTERNS.as_slice()),
-    ];
-    for (kind, texts) in kinds {
-        answer.push_str(lines(alloc, kind, texts)?.as_str())?;
-    }
-    Ok(answer)
+/// Puts the answers for these texts, in lines.
+pub(crate) fn put_answers(page: &mut Page) -> Result<(), Stop> {
+    put_lines(Kind::AFile, FILES.as_slice(), page)?;
+    put_lines(Kind::Statements, STATEMENTS.as_slice(), page)?;
+    put_lines(
+        Kind::Expression(Position::Plain),
+        EXPRESSIONS.as_slice(),
+        page,
+    )?;
+    put_lines(Kind::AType(Plus::WithPlus), TYPES.as_slice(), page)?;
+    put_lines(Kind::Pattern, PATTERNS.as_slice(), page)
 }

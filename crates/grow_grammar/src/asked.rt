@@ -1,0 +1,74 @@
+//! Texts, and what is asked of their tokens.
+
+use crate::calls::{Call, put_call};
+use crate::{built, long, reading, streams, texts};
+use proc_macro2::{SourceMap, TokenStream};
+use rows::Page;
+use std::alloc::Global;
+use stops::Stop;
+use syn::{Arena, Kind, Position, TokenBuffer};
+
+/// What is asked of the tokens of a text.
+#[derive(Clone, Copy)]
+pub(crate) enum Question {
+    /// What is written of a form of that kind, or what is said of a text that begins with none.
+    Written(Kind),
+    /// What is built of an assignment, as it is written in that position, and its normal form.
+    Built(Position),
+    /// The members of a struct's fields.
+    Members,
+    /// What readers read and say.
+    Read,
+    /// What is read of a stream.
+    Streamed,
+    /// What is written of a long expression.
+    Long,
+    /// What a call answers.
+    Called(Call),
+}
+
+/// The tokens of a text.
+pub(crate) fn lexed(alloc: Global, text: &str) -> Result<TokenStream, Stop> {
+    match TokenStream::from_str(alloc, text, &mut SourceMap::new(alloc)) {
+        Ok(stream) => Ok(stream),
+        Err(_) => Err(Stop::Elsewhere),
+    }
+}
+
+/// Puts what is answered of the tokens of a text.
+pub(crate) fn ask(question: Question, text: &str, page: &mut Page) -> Result<(), Stop> {
+    ask_of(question, &lexed(page.alloc(), text)?, page)
+}
+
+/// The same of tokens.
+pub(crate) fn ask_of(
+    question: Question,
+    stream: &TokenStream,
+    page: &mut Page,
+) -> Result<(), Stop> {
+    let buffer = TokenBuffer::new2(page.alloc(), stream, 1)?;
+    ask_in_arena(question, &buffer, page)
+}
+
+// The same of a buffer, in an arena of its own.
+fn ask_in_arena(question: Question, buffer: &TokenBuffer<'_>, page: &mut Page) -> Result<(), Stop> {
+    let arena = Arena::new(page.alloc());
+    put(question, &arena, buffer, page)
+}
+
+fn put<'a>(
+    question: Question,
+    arena: &'a Arena,
+    buffer: &'a TokenBuffer<'a>,
+    page: &mut Page,
+) -> Result<(), Stop> {
+    match question {
+        Question::Written(kind) => texts::put_text(kind, arena, buffer, page),
+        Question::Built(position) => built::put_replaced(position, arena, buffer, page),
+        Question::Members => built::put_struct(arena, buffer, page),
+        Question::Read => reading::put_read(arena, buffer, page),
+        Question::Streamed => streams::put_read(arena, buffer, page),
+        Question::Long => long::put_written(arena, buffer, page),
+        Question::Called(call) => put_call(call, arena, buffer, page),
+    }
+}
