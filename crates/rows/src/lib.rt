@@ -6,12 +6,10 @@
 //! each text can be written on one line and each of its characters be seen.
 //!
 //! - `page`: the text that answers are put onto.
-//! - `owned`: tables whose answers are texts of their own, and whose errors are owned, which cost a proof much more.
 //! - `reading`: what rows write.
 //! - `unanswered`: why a table has no answers.
 #![tactic(auto)]
 
-pub mod owned;
 mod page;
 mod reading;
 mod unanswered;
