@@ -1,0 +1,49 @@
+//! What is read from a text, and what stands first in it.
+
+use crate::following::Front;
+use crate::literals::put_tokens;
+use proc_macro2::tree::TokenStream;
+use rows::{Page, Unanswered};
+use rust_map::source_map::SourceMap;
+use std::alloc::Global;
+use syn_error::ToTokens;
+use syn_parse::{Parse, ParseBuffer, Peek, TokenBuffer, parse_str};
+
+/// What is printed for what is read from a text, or why nothing is.
+pub fn read<T: Parse + ToTokens>(text: &str, page: &mut Page) {
+    let alloc = page.alloc();
+    match parse_str::<T>(alloc, text, &mut SourceMap::new(alloc)) {
+        Ok(value) => put_tokens(&value, page),
+        Err(fault) => page.show(&fault),
+    }
+}
+
+/// What is printed for what stands first in a text and for what is left behind it, or why nothing stands there.
+pub fn front<T: Parse + ToTokens>(text: &str, page: &mut Page) {
+    let alloc = page.alloc();
+    match parse_str::<Front<T>>(alloc, text, &mut SourceMap::new(alloc)) {
+        Ok(front) => {
+            put_tokens(&front.first, page);
+            page.put(" // ");
+            page.show(&front.rest);
+        }
+        Err(fault) => page.show(&fault),
+    }
+}
+
+/// Whether such a literal stands first in a text.
+pub fn peek<T: Peek>(text: &str, page: &mut Page) -> Result<(), Unanswered> {
+    let alloc = page.alloc();
+    let stream = stream_of(alloc, text)?;
+    let buffer = TokenBuffer::new2(alloc, &stream, 1)?;
+    let is_found = ParseBuffer::new(alloc, buffer.begin()).peek::<T>();
+    write!(page, "{is_found}");
+    Ok(())
+}
+
+fn stream_of(alloc: Global, text: &str) -> Result<TokenStream, Unanswered> {
+    match TokenStream::from_str(alloc, text, &mut SourceMap::new(alloc)) {
+        Ok(stream) => Ok(stream),
+        Err(_) => Err(Unanswered::NoRow),
+    }
+}
