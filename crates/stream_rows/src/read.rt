@@ -1,0 +1,96 @@
+//! Values that are read whole, and those that aren't.
+
+use crate::asked::{put, stream_of};
+use proc_macro2::{Delimiter, Ident, Literal, Punct, SourceMap};
+use rows::{Page, Unanswered};
+use std::alloc::{AllocError, Global};
+use syn_error::{ParseFault, TextFault, ToTokens};
+use syn_kinds::{Nothing, token};
+use syn_parse::lifetime::Lifetime;
+use syn_parse::parser::parse_str;
+use syn_parse::{LifetimeExt, Parse, ParseBuffer, TokenBuffer};
+
+/// Puts a line: the tokens of the value that a text is read as, or the fault.
+pub fn read<T: Parse + ToTokens>(asked: &str, text: &str, page: &mut Page) {
+    let alloc = page.alloc();
+    match parse_str::<T>(alloc, text, &mut SourceMap::new(alloc)) {
+        Ok(value) => put(asked, text, value.to_token_stream(alloc), page),
+        Err(fault) => write!(page, "{asked} [{text}]: {fault}\n"),
+    }
+}
+
+/// Texts that are read.
+pub fn values(page: &mut Page) {
+    read::<Ident>("identifier", " name ", page);
+    read::<Box<Literal>>("literal", "0x1F", page);
+    read::<Punct>("mark", ";", page);
+    read::<Lifetime>("lifetime", "'a", page);
+    read::<Option<token::Struct>>("struct or nothing", "", page);
+    read::<Option<token::Struct>>("struct or nothing", "struct", page);
+    read::<token::ShlEq>("<<=", "<<=", page);
+    read::<token::PathSep>("::", "::", page);
+    read::<token::Underscore>("_", "_", page);
+    read::<Nothing>("nothing", "", page);
+}
+
+/// Texts that aren't.
+pub fn faults(page: &mut Page) {
+    read::<token::Semi>("semicolon", ",", page);
+    read::<token::Semi>("semicolon", "", page);
+    read::<Ident>("identifier", "fn", page);
+    read::<token::Fn>("fn", "r#fn", page);
+    read::<Ident>("identifier", "a b", page);
+    read::<Lifetime>("lifetime", "a", page);
+    read::<Punct>("mark", "'a", page);
+    read::<token::PathSep>("::", ": :", page);
+}
+
+/// A text with a lexical fault, one that is no identifier, and one for which the map has no positions left.
+pub fn of_texts(page: &mut Page) {
+    let alloc = page.alloc();
+    for (text, first) in [("a )", 0), ("a b", 0), ("abc", 4_294_967_294)] {
+        let mut map = SourceMap::starting_at(alloc, first);
+        let fault = kind(parse_str::<Ident>(alloc, text, &mut map));
+        write!(page, "fault [{text}]: {fault}\n");
+    }
+}
+
+fn kind(answer: Result<Ident, TextFault>) -> &'static str {
+    match answer {
+        Ok(_) => "none",
+        Err(TextFault::Lexical(_)) => "lexical",
+        Err(TextFault::MapFull) => "map full",
+        Err(TextFault::Syntax(_)) => "syntax",
+        Err(TextFault::Memory) => "memory",
+    }
+}
+
+/// What is left of a stream, as users and as programmers are shown it.
+pub fn shown(page: &mut Page) -> Result<(), Unanswered> {
+    let stream = stream_of(page.alloc(), "'fn ( a:: b ) ;c")?;
+    let buffer = TokenBuffer::new2(page.alloc(), &stream, 1)?;
+    let mut input = ParseBuffer::new(page.alloc(), buffer.begin());
+    if let Err(fault) = put_left(&mut input, page) {
+        page.show(&fault);
+    }
+    let is_debug = is_debugged(page.alloc(), &input)?;
+    write!(page, "its tokens by debug: {is_debug}\n");
+    Ok(())
+}
+
+// Puts a lifetime that a stream begins with, what is left behind it, and what is left of a group behind its first name.
+fn put_left(input: &mut ParseBuffer<'_>, page: &mut Page) -> Result<(), ParseFault> {
+    let lifetime = Lifetime::parse_any(input)?;
+    write!(page, "{lifetime}, and left: {input}\n");
+    let (_span, mut content) = input.parse_group(Delimiter::Parenthesis)?;
+    let _name = content.parse::<Ident>()?;
+    write!(page, "left in the group: {content}\n");
+    Ok(())
+}
+
+// Whether programmers are shown of a stream what they are shown of the tokens that are left.
+fn is_debugged(alloc: Global, input: &ParseBuffer<'_>) -> Result<bool, AllocError> {
+    let left = input.cursor().token_stream(alloc)?;
+    let wanted = format!(in alloc; "{left:?}")?;
+    Ok(format!(in alloc; "{input:?}")?.as_str() == wanted.as_str())
+}
