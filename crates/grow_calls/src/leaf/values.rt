@@ -1,6 +1,7 @@
 //! The values of literals, and their copies.
 
 use proc_macro2::{Literal, SourceMap};
+use rows::Page;
 use std::alloc::{AllocError, Global};
 use stops::{Stop, refused};
 use syn_leaf::Lit;
@@ -8,8 +9,7 @@ use try_clone::TryClone;
 
 // The literal of a text.
 fn literal(alloc: Global, text: &str) -> Result<Lit, Stop> {
-    let mut map = SourceMap::new(alloc);
-    match Literal::from_str(alloc, text, &mut map) {
+    match Literal::from_str(alloc, text, &mut SourceMap::new(alloc)) {
         Ok(token) => Ok(Lit::new(token)),
         Err(_) => Err(Stop::Elsewhere),
     }
@@ -25,30 +25,34 @@ fn answered<T: Drop>(answer: Result<T, AllocError>, literal: &Lit, text: &str) -
 
 const TEXT: &str = "\"a longer text\\u{21}\"s";
 
-const BYTES: &str = "b\"bytes\\xFF\"";
-
-const C_TEXT: &str = "c\"\\xC3\\xA9\"";
-
 /// The values of a string, a byte string and a C string.
-pub fn values(alloc: Global) -> Result<String, Stop> {
-    let text = literal(alloc, TEXT)?;
-    let bytes = literal(alloc, BYTES)?;
-    let c_text = literal(alloc, C_TEXT)?;
-    match (&text, &bytes, &c_text) {
-        (Lit::Str(string), Lit::ByteStr(byte_string), Lit::CStr(c_string)) => {
-            let value = answered(string.value(alloc), &text, TEXT)?;
-            let byte_values = answered(byte_string.value(alloc), &bytes, BYTES)?;
-            let c_values = answered(c_string.value(alloc), &c_text, C_TEXT)?;
-            Ok(format!(in alloc; "{value} {byte_values:?} {c_values:?}\n")?)
-        }
-        _ => Err(Stop::Changed),
+pub(crate) fn values(page: &mut Page) -> Result<(), Stop> {
+    put_value(TEXT, page)?;
+    page.put(" ");
+    put_value("b\"bytes\\xFF\"", page)?;
+    page.put(" ");
+    put_value("c\"\\xC3\\xA9\"", page)?;
+    page.put("\n");
+    Ok(())
+}
+
+// Puts the value of the literal of a text.
+fn put_value(text: &str, page: &mut Page) -> Result<(), Stop> {
+    let whole = literal(page.alloc(), text)?;
+    match &whole {
+        Lit::Str(string) => page.show(&answered(string.value(page.alloc()), &whole, text)?),
+        Lit::ByteStr(bytes) => page.debug(&answered(bytes.value(page.alloc()), &whole, text)?),
+        Lit::CStr(bytes) => page.debug(&answered(bytes.value(page.alloc()), &whole, text)?),
+        _ => return Err(Stop::Changed),
     }
+    Ok(())
 }
 
 /// Whether a copy of a long literal is equal to it.
-pub fn copy(alloc: Global) -> Result<String, Stop> {
-    let text = literal(alloc, TEXT)?;
+pub(crate) fn copy(page: &mut Page) -> Result<(), Stop> {
+    let text = literal(page.alloc(), TEXT)?;
     let copy = answered(text.try_clone(), &text, TEXT)?;
     let same = copy == text;
-    Ok(format!(in alloc; "{same}\n")?)
+    write!(page, "{same}\n");
+    Ok(())
 }

@@ -1,135 +1,166 @@
 //! Lists that are built, extended and copied.
 
-use proc_macro2::{Ident, IdentFault, Span};
-use std::alloc::Global;
-use stops::{Stop, refused};
-use syn_error::ToTokens;
+use crate::given::{Names, name};
+use crate::grown::{is_list, put_in};
+use crate::shown::{is_front_of, print_of, put_line};
+use proc_macro2::Ident;
+use rows::Page;
+use std::alloc::{AllocError, Global};
+use stops::{Stop, looked_at, refused};
 use syn_kinds::token;
-use syn_lists::Punctuated;
+use syn_lists::Pair;
 use try_clone::TryClone;
-
-/// Names with commas between them.
-pub type Names = Punctuated<Ident, token::Comma>;
-
-// An identifier of that text, as what the calls are given.
-fn word(alloc: Global, text: &str) -> Result<Ident, Stop> {
-    match Ident::new(alloc, text, Span::call_site()) {
-        Ok(ident) => Ok(ident),
-        Err(IdentFault::Memory) => Err(Stop::Elsewhere),
-        Err(_) => Err(Stop::Changed),
-    }
-}
 
 // The list of those words.
 fn words(alloc: Global, texts: &[&str]) -> Result<Names, Stop> {
     let mut names = Names::new(alloc);
     for text in texts {
-        names.push(word(alloc, text)?)?;
+        names.push(name(alloc, text)?)?;
     }
     Ok(names)
 }
 
-/// The list's print, and a line's end.
-pub fn line(alloc: Global, names: &Names) -> Result<String, Stop> {
-    let printed = names.to_token_stream(alloc)?;
-    Ok(format!(in alloc; "{printed}\n")?)
+/// Values and separators that are put behind others. Where one is refused, a value comes back, and the list is as before.
+pub(crate) fn put_behind(page: &mut Page) -> Result<(), Stop> {
+    let mut names = Names::new(page.alloc());
+    for (text, before, between) in [
+        ("a", "", "a"),
+        ("b", "a ,", "a , b"),
+        ("c", "a , b ,", "a , b , c"),
+        ("d", "a , b , c ,", "a , b , c , d"),
+        ("e", "a , b , c , d ,", "a , b , c , d , e"),
+    ] {
+        put_value(&mut names, text, before)?;
+        put_comma(&mut names, between)?;
+    }
+    put_line(&names, page);
+    Ok(())
 }
 
-/// Values and separators that are put behind others. Where one is refused, a value comes back, and the list is as before.
-pub fn put_behind(alloc: Global) -> Result<String, Stop> {
-    let mut names = Names::new(alloc);
-    for text in ["a", "b", "c", "d", "e"] {
-        let name = word(alloc, text)?;
-        let before = line(alloc, &names)?;
-        if names.empty_or_trailing() {
-            if let Err(back) = names.push_value(name) {
-                let is_back = back.value.is_text(text);
-                return refused(is_back && line(alloc, &names)?.as_str() == before.as_str());
-            }
-        }
-        let before = line(alloc, &names)?;
-        if !names.empty_or_trailing() && names.push_punct(token::Comma::default()).is_err() {
-            return refused(line(alloc, &names)?.as_str() == before.as_str());
-        }
+fn put_value(names: &mut Names, text: &str, before: &str) -> Result<(), Stop> {
+    if !names.empty_or_trailing() {
+        return Err(Stop::Changed);
     }
-    line(alloc, &names)
+    let value = name(names.allocator(), text)?;
+    let pushed = names.push_value(value);
+    put_in(pushed, names, text, before)
+}
+
+fn put_comma(names: &mut Names, before: &str) -> Result<(), Stop> {
+    if names.empty_or_trailing() {
+        return Err(Stop::Changed);
+    }
+    match names.push_punct(token::Comma::default()) {
+        Ok(()) => Ok(()),
+        Err(_) => refused(is_list(names, before)),
+    }
 }
 
 /// Values that are put in front. Where one is refused, it comes back and the list is as before.
-pub fn inserted(alloc: Global) -> Result<String, Stop> {
-    let mut names = Names::new(alloc);
-    for text in ["e", "d", "c", "b", "a"] {
-        let name = word(alloc, text)?;
-        let before = line(alloc, &names)?;
-        if let Err(back) = names.insert(0, name) {
-            let is_back = back.value.is_text(text);
-            return refused(is_back && line(alloc, &names)?.as_str() == before.as_str());
+pub(crate) fn inserted(page: &mut Page) -> Result<(), Stop> {
+    let mut names = Names::new(page.alloc());
+    for (text, before) in [
+        ("e", ""),
+        ("d", "e"),
+        ("c", "d , e"),
+        ("b", "c , d , e"),
+        ("a", "b , c , d , e"),
+    ] {
+        let inserted = names.insert(0, name(page.alloc(), text)?);
+        put_in(inserted, &names, text, before)?;
+    }
+    put_line(&names, page);
+    Ok(())
+}
+
+// Puts a list that was extended. Where that was refused, it keeps the values before the refused one.
+fn put_extended(
+    answer: Result<(), AllocError>,
+    names: &Names,
+    page: &mut Page,
+) -> Result<(), Stop> {
+    match answer {
+        Ok(()) => {
+            put_line(names, page);
+            Ok(())
+        }
+        Err(_) => {
+            let printed = print_of(page.alloc(), names);
+            refused(1 < names.len() && is_front_of(&printed, "a , b , c , d , e , f , g"))
         }
     }
-    line(alloc, &names)
 }
 
-// Whether the list holds a first part of that print.
-fn is_front(alloc: Global, names: &Names, all: &str) -> Result<bool, Stop> {
-    let printed = names.to_token_stream(alloc)?.to_string(alloc)?;
-    Ok(all.starts_with(printed.as_str()))
+const MORE: [&str; 5] = ["c", "d", "e", "f", "g"];
+
+/// A list that is extended by values.
+pub(crate) fn extended(page: &mut Page) -> Result<(), Stop> {
+    let mut names = words(page.alloc(), &["a", "b"])?;
+    let answer = names.extend(words(page.alloc(), MORE.as_slice())?);
+    put_extended(answer, &names, page)
 }
 
-/// A list that is extended by values. Where that is refused, it keeps the values before the refused one.
-pub fn extended(alloc: Global) -> Result<String, Stop> {
-    let mut names = words(alloc, &["a", "b"])?;
-    let more = words(alloc, &["c", "d", "e", "f", "g"])?;
-    if names.extend(more).is_err() {
-        return refused(1 < names.len() && is_front(alloc, &names, "a , b , c , d , e , f , g")?);
-    }
-    line(alloc, &names)
-}
-
-/// A list that is extended by pairs, likewise.
-pub fn extended_by_pairs(alloc: Global) -> Result<String, Stop> {
-    let mut names = words(alloc, &["a", "b"])?;
-    let more = words(alloc, &["c", "d", "e", "f", "g"])?;
-    if names.extend(more.into_pairs()).is_err() {
-        return refused(1 < names.len() && is_front(alloc, &names, "a , b , c , d , e , f , g")?);
-    }
-    line(alloc, &names)
+/// A list that is extended by pairs.
+pub(crate) fn extended_by_pairs(page: &mut Page) -> Result<(), Stop> {
+    let mut names = words(page.alloc(), &["a", "b"])?;
+    let answer = names.extend(words(page.alloc(), MORE.as_slice())?.into_pairs());
+    put_extended(answer, &names, page)
 }
 
 /// Lists that are made of the values and of the pairs of others.
-pub fn collected(alloc: Global) -> Result<String, Stop> {
-    let values = words(alloc, &["a", "b", "c"])?;
-    let Ok(names): Result<Names, _> = values.into_iter().collect(alloc) else {
-        return refused(true);
-    };
-    let Ok(names): Result<Names, _> = names.into_pairs().collect(alloc) else {
-        return refused(true);
-    };
-    line(alloc, &names)
+pub(crate) fn collected(page: &mut Page) -> Result<(), Stop> {
+    let values = words(page.alloc(), &["a", "b", "c"])?.into_iter();
+    let names: Names = looked_at(values.collect(page.alloc()))?;
+    let names: Names = looked_at(names.into_pairs().collect(page.alloc()))?;
+    put_line(&names, page);
+    Ok(())
+}
+
+// The answer of a call on the list a , b , c. Where it was refused, the list is as before.
+fn answered<T: Drop>(answer: Result<T, AllocError>, names: &Names) -> Result<T, Stop> {
+    match answer {
+        Ok(value) => Ok(value),
+        Err(_) => refused(is_list(names, "a , b , c")),
+    }
 }
 
 /// A list that is copied whole, pair by pair, and with other values. Where that is refused, the list is as before.
-pub fn copied(alloc: Global) -> Result<String, Stop> {
-    let names = words(alloc, &["a", "b", "c"])?;
-    let before = line(alloc, &names)?;
-    let Ok(mut copy) = names.try_clone() else {
-        return refused(line(alloc, &names)?.as_str() == before.as_str());
-    };
+pub(crate) fn copied(page: &mut Page) -> Result<(), Stop> {
+    let names = words(page.alloc(), &["a", "b", "c"])?;
+    put_copy(&names, page)?;
+    put_others(&names, page)
+}
+
+fn put_copy(names: &Names, page: &mut Page) -> Result<(), Stop> {
+    let mut copy = answered(names.try_clone(), names)?;
     for pair in names.pairs() {
-        let Ok(pair) = pair.cloned() else {
-            return refused(line(alloc, &names)?.as_str() == before.as_str());
-        };
-        let Ok(pair) = pair.try_clone() else {
-            return refused(line(alloc, &names)?.as_str() == before.as_str());
-        };
-        copy.push(pair.into_value())?;
+        copy.push(value_of(pair, names)?)?;
     }
-    let others = vec![in alloc; word(alloc, "x")?, word(alloc, "y")?, word(alloc, "z")?]?;
+    put_line(&copy, page);
+    Ok(())
+}
+
+// The value of a copy of a copy of a pair.
+fn value_of(pair: Pair<&Ident, &token::Comma>, names: &Names) -> Result<Ident, Stop> {
+    let copy = answered(pair.cloned(), names)?;
+    Ok(answered(copy.try_clone(), names)?.into_value())
+}
+
+fn put_others(names: &Names, page: &mut Page) -> Result<(), Stop> {
+    let others = values(page.alloc())?;
     if others.len() != names.len() {
         return Err(Stop::Changed);
     }
-    let Ok(others) = names.with_values(others) else {
-        return refused(line(alloc, &names)?.as_str() == before.as_str());
-    };
-    let (copy, others) = (line(alloc, &copy)?, line(alloc, &others)?);
-    Ok(format!(in alloc; "{copy}{others}")?)
+    let others = answered(names.with_values(others), names)?;
+    put_line(&others, page);
+    Ok(())
+}
+
+// The names x, y and z.
+fn values(alloc: Global) -> Result<Vec<Ident>, Stop> {
+    let mut values = Vec::new(alloc);
+    for text in ["x", "y", "z"] {
+        values.push(name(alloc, text)?)?;
+    }
+    Ok(values)
 }

@@ -1,40 +1,57 @@
 //! Groups that are printed round what stands inside.
 
+use crate::shown::{display_of, is_text};
 use proc_macro2::{Span, TokenStream};
-use std::alloc::Global;
+use rows::Page;
+use std::alloc::{AllocError, Global};
 use stops::{Stop, refused};
 use syn_error::ToTokens;
 use syn_kinds::token;
 
 // The tokens of a keyword.
-fn inside(alloc: Global) -> Result<TokenStream, Stop> {
-    Ok(token::Struct::default().to_token_stream(alloc)?)
+fn inside(alloc: Global) -> Result<TokenStream, AllocError> {
+    token::Struct::default().to_token_stream(alloc)
 }
 
 /// Groups that are printed behind other tokens. Where one is refused, the tokens are as before.
-pub fn printed(alloc: Global) -> Result<String, Stop> {
-    let mut tokens = inside(alloc)?;
-    let before = tokens.to_string(alloc)?;
-    let paren = token::Paren::new(Span::call_site());
-    if paren.enclose(&mut tokens, inside(alloc)?).is_err() {
-        return refused(tokens.to_string(alloc)?.as_str() == before.as_str());
+pub(crate) fn printed(page: &mut Page) -> Result<(), Stop> {
+    let mut tokens = inside(page.alloc())?;
+    enclose(page.alloc(), &mut tokens)?;
+    surround_by_brackets(page.alloc(), &mut tokens)?;
+    surround(page.alloc(), &mut tokens)?;
+    write!(page, "{tokens}\n");
+    Ok(())
+}
+
+// What came of a group. Where it was refused, the tokens are as before.
+fn grouped(
+    answer: Result<(), AllocError>,
+    alloc: Global,
+    tokens: &TokenStream,
+    before: &str,
+) -> Result<(), Stop> {
+    match answer {
+        Ok(()) => Ok(()),
+        Err(_) => refused(is_text(&display_of(alloc, tokens), before)),
     }
-    let before = tokens.to_string(alloc)?;
+}
+
+fn enclose(alloc: Global, tokens: &mut TokenStream) -> Result<(), Stop> {
+    let paren = token::Paren::new(Span::call_site());
+    let answer = paren.enclose(tokens, inside(alloc)?);
+    grouped(answer, alloc, tokens, "struct")
+}
+
+fn surround_by_brackets(alloc: Global, tokens: &mut TokenStream) -> Result<(), Stop> {
     let bracket = token::Bracket::new(Span::call_site());
     let comma = token::Comma::default();
-    if bracket
-        .surround(&mut tokens, |within| comma.to_tokens(within))
-        .is_err()
-    {
-        return refused(tokens.to_string(alloc)?.as_str() == before.as_str());
-    }
-    let before = tokens.to_string(alloc)?;
+    let answer = bracket.surround(tokens, |within| comma.to_tokens(within));
+    grouped(answer, alloc, tokens, "struct (struct)")
+}
+
+fn surround(alloc: Global, tokens: &mut TokenStream) -> Result<(), Stop> {
     let group = token::Group::new(Span::call_site());
-    if group
-        .surround(&mut tokens, |within| comma.to_tokens(within))
-        .is_err()
-    {
-        return refused(tokens.to_string(alloc)?.as_str() == before.as_str());
-    }
-    Ok(format!(in alloc; "{tokens}\n")?)
+    let comma = token::Comma::default();
+    let answer = group.surround(tokens, |within| comma.to_tokens(within));
+    grouped(answer, alloc, tokens, "struct (struct) [,]")
 }

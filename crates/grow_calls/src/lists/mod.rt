@@ -6,28 +6,8 @@
 //! - `errors`: errors that are made, extended, copied and gone over.
 //! - `groups`: groups that are printed round what stands inside.
 
-mod built;
-mod errors;
-mod groups;
-mod names;
-mod reading;
-
-use std::alloc::Global;
-use stops::Stop;
-
-/// The answers of these calls, in lines.
-pub fn answered(alloc: Global) -> Result<String, Stop> {
-    let mut answer = built::put_behind(alloc)?;
-    answer.push_str(built::inserted(alloc)?.as_str())?;
-    answer.push_str(built::extended(alloc)?.as_str())?;
-    answer.push_str(built::extended_by_pairs(alloc)?.as_str())?;
-    answer.push_str(built::collected(alloc)?.as_str())?;
-    answer.push_str(built::copied(alloc)?.as_str())?;
-    answer.push_str(reading::lists(alloc)?.as_str())?;
-    answer.push_str(names::read(alloc)?.as_str())?;
-    answer.push_str(errors::made(alloc)?.as_str())?;
-    answer.push_str(errors::extended(alloc)?.as_str())?;
-    answer.push_str(errors::copied(alloc)?.as_str())?;
-    answer.push_str(groups::printed(alloc)?.as_str())?;
-    Ok(answer)
-}
+pub(crate) mod built;
+pub(crate) mod errors;
+pub(crate) mod groups;
+pub(crate) mod names;
+pub(crate) mod reading;

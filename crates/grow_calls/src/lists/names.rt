@@ -1,31 +1,35 @@
 //! Identifiers that are read where keywords stand too, and made without `r#`.
 
-use proc_macro2::{Ident, SourceMap, TokenStream};
-use std::alloc::Global;
-use stops::{Stop, looked_at, refused};
-use syn_parse::{IdentExt, ParseBuffer, TokenBuffer};
+use proc_macro2::Ident;
+use rows::Page;
+use stops::{Stop, refused};
+use syn_parse::{Cursor, IdentExt, ParseBuffer};
 
-/// Identifiers that are read one by one, and made without their `r#`. Where one can't be read, the stream stands before
-/// it; where one can't be made, the other is as before.
-pub fn read(alloc: Global) -> Result<String, Stop> {
-    let mut map = SourceMap::new(alloc);
-    let Ok(stream) = TokenStream::from_str(alloc, "fn r#fn a_name_longer_than_that", &mut map)
-    else {
-        return Err(Stop::Elsewhere);
-    };
-    let buffer = looked_at(TokenBuffer::new2(alloc, &stream, 1))?;
-    let mut input = ParseBuffer::new(alloc, buffer.begin());
-    let mut out = String::new(alloc);
+/// Puts identifiers that are read one by one, and made without their `r#`.
+pub(crate) fn put_names(begin: Cursor<'_>, page: &mut Page) -> Result<(), Stop> {
+    let mut input = ParseBuffer::new(page.alloc(), begin);
     for text in ["fn", "r#fn", "a_name_longer_than_that"] {
-        let before = input.cursor().entries_left();
-        let Ok(ident) = Ident::parse_any(&mut input) else {
-            return refused(input.cursor().entries_left() == before);
-        };
-        let Ok(bare) = ident.unraw(alloc) else {
-            return refused(ident.is_text(text));
-        };
-        let words = format!(in alloc; "{ident} {bare}\n")?;
-        out.push_str(words.as_str())?;
+        put_next(&mut input, text, page)?;
     }
-    Ok(out)
+    Ok(())
+}
+
+// Puts the next one. Where it can't be read, the stream stands before it.
+fn put_next(input: &mut ParseBuffer<'_>, text: &str, page: &mut Page) -> Result<(), Stop> {
+    let before = input.cursor().entries_left();
+    match Ident::parse_any(input) {
+        Ok(ident) => put_bare(&ident, text, page),
+        Err(_) => refused(input.cursor().entries_left() == before),
+    }
+}
+
+// Puts it with its `r#` and without it. Where the other can't be made, it is as before.
+fn put_bare(ident: &Ident, text: &str, page: &mut Page) -> Result<(), Stop> {
+    match ident.unraw(page.alloc()) {
+        Ok(bare) => {
+            write!(page, "{ident} {bare}\n");
+            Ok(())
+        }
+        Err(_) => refused(ident.is_text(text)),
+    }
 }

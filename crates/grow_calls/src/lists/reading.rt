@@ -1,54 +1,71 @@
 //! Lists that are read.
 
-use super::built::line;
-use proc_macro2::{Ident, SourceMap, TokenStream};
+use crate::given::Names;
+use crate::shown::put_line;
+use proc_macro2::Ident;
+use rows::Page;
 use std::alloc::Global;
-use stops::{Stop, looked_at, refused};
+use stops::{Stop, refused};
 use syn_error::ParseFault;
 use syn_kinds::token;
-use syn_lists::Punctuated;
 use syn_parse::{
-    ParseBuffer, TokenBuffer, parse_separated_nonempty, parse_separated_nonempty_with,
+    Cursor, ParseBuffer, parse_separated_nonempty, parse_separated_nonempty_with,
     parse_terminated_with, read_many,
 };
 
-type Read = Result<Punctuated<Ident, token::Comma>, ParseFault>;
+/// Puts a list that is read by each of the calls.
+pub(crate) fn put_lists(begin: Cursor<'_>, page: &mut Page) -> Result<(), Stop> {
+    let alloc = page.alloc();
+    put_read(terminated(alloc, begin), begin, page)?;
+    put_read(terminated_with(alloc, begin), begin, page)?;
+    put_read(separated(alloc, begin), begin, page)?;
+    put_read(separated_with(alloc, begin), begin, page)?;
+    put_read(until(alloc, begin), begin, page)
+}
 
-// Adds the print of what was read. Where memory was refused, the buffer's first name is still there.
-fn shown(out: &mut String, buffer: &TokenBuffer<'_>, read: Read) -> Result<(), Stop> {
+type List = Result<Names, ParseFault>;
+
+// Puts the print of what was read. Where memory was refused, the first name is still there.
+fn put_read(read: List, begin: Cursor<'_>, page: &mut Page) -> Result<(), Stop> {
     match read {
-        Ok(names) => Ok(out.push_str(line(*out.allocator(), &names)?.as_str())?),
-        Err(ParseFault::Memory) => match buffer.begin().ident() {
-            Some((ident, _)) => refused(ident.is_text("a")),
-            None => Err(Stop::Changed),
-        },
+        Ok(names) => {
+            put_line(&names, page);
+            Ok(())
+        }
+        Err(ParseFault::Memory) => refused(begins(begin)),
         Err(_) => Err(Stop::Changed),
     }
 }
 
-/// A list that is read by each of the calls.
-pub fn lists(alloc: Global) -> Result<String, Stop> {
-    let mut map = SourceMap::new(alloc);
-    let Ok(stream) = TokenStream::from_str(alloc, "a, b, c", &mut map) else {
-        return Err(Stop::Elsewhere);
-    };
-    let buffer = looked_at(TokenBuffer::new2(alloc, &stream, 1))?;
-    let begin = || ParseBuffer::new(alloc, buffer.begin());
-    let mut out = String::new(alloc);
-    shown(
-        &mut out,
-        &buffer,
-        begin().parse_terminated::<Ident, token::Comma>(),
-    )?;
-    let read = parse_terminated_with(&mut begin(), |input| input.parse::<Ident>());
-    shown(&mut out, &buffer, read)?;
-    let read = parse_separated_nonempty::<Ident, token::Comma>(&mut begin());
-    shown(&mut out, &buffer, read)?;
-    let read = parse_separated_nonempty_with(&mut begin(), |input| input.parse::<Ident>());
-    shown(&mut out, &buffer, read)?;
-    let read = read_many::<Ident, token::Comma, token::Semi, _>(&mut begin(), |input| {
+// Whether the first name stands there.
+fn begins(begin: Cursor<'_>) -> bool {
+    match begin.ident() {
+        Some((ident, _)) => ident.is_text("a"),
+        None => false,
+    }
+}
+
+fn terminated(alloc: Global, begin: Cursor<'_>) -> List {
+    ParseBuffer::new(alloc, begin).parse_terminated::<Ident, token::Comma>()
+}
+
+fn terminated_with(alloc: Global, begin: Cursor<'_>) -> List {
+    parse_terminated_with(&mut ParseBuffer::new(alloc, begin), |input| {
         input.parse::<Ident>()
-    });
-    shown(&mut out, &buffer, read)?;
-    Ok(out)
+    })
+}
+
+fn separated(alloc: Global, begin: Cursor<'_>) -> List {
+    parse_separated_nonempty::<Ident, token::Comma>(&mut ParseBuffer::new(alloc, begin))
+}
+
+fn separated_with(alloc: Global, begin: Cursor<'_>) -> List {
+    parse_separated_nonempty_with(&mut ParseBuffer::new(alloc, begin), |input| {
+        input.parse::<Ident>()
+    })
+}
+
+fn until(alloc: Global, begin: Cursor<'_>) -> List {
+    let mut input = ParseBuffer::new(alloc, begin);
+    read_many::<Ident, token::Comma, token::Semi, _>(&mut input, |input| input.parse::<Ident>())
 }

@@ -1,92 +1,133 @@
 //! A buffer, a lookahead, a stream that is shown, a text that is read.
 
-use proc_macro2::{LexFault, LineColumn, SourceMap, Span, TokenStream};
+use crate::given::{lexed, lexed_in};
+use crate::shown::{display_of, is_text};
+use proc_macro2::{LineColumn, Literal, SourceMap, Span, TokenStream};
+use rows::Page;
 use std::alloc::Global;
 use stops::{Stop, looked_at, refused};
 use syn_error::{ParseFault, TextFault};
 use syn_kinds::token;
 use syn_parse::parser::parse_str;
-use syn_parse::{Lookahead1, ParseBuffer, TokenBuffer};
+use syn_parse::{Cursor, Lookahead1, ParseBuffer, TokenBuffer};
 
-// A stream of a text of its own.
-fn stream_of(alloc: Global, text: &str, map: &mut SourceMap) -> Result<TokenStream, Stop> {
-    TokenStream::from_str(alloc, text, map).map_err(|_| Stop::Elsewhere)
+/// Whether a group stands behind the name at the front of a buffer. Where the buffer can't be made, the stream is as
+/// before.
+pub(crate) fn buffer(page: &mut Page) -> Result<(), Stop> {
+    let stream = lexed(page.alloc(), "f(a, [b]) ;")?;
+    match TokenBuffer::new2(page.alloc(), &stream, 1) {
+        Ok(buffer) => {
+            put_is_open(buffer.begin(), page);
+            Ok(())
+        }
+        Err(_) => refused(is_text(&display_of(page.alloc(), &stream), "f (a , [b]) ;")),
+    }
 }
 
-/// How many trees stand at the front of a buffer. Where it can't be made, the stream is as before.
-pub fn buffer(alloc: Global) -> Result<String, Stop> {
-    let stream = stream_of(alloc, "f(a, [b]) ;", &mut SourceMap::new(alloc))?;
-    let before = format!(in alloc; "{stream}")?;
-    let Ok(buffer) = TokenBuffer::new2(alloc, &stream, 1) else {
-        return refused(format!(in alloc; "{stream}")?.as_str() == before.as_str());
-    };
-    let is_open = match buffer.begin().ident() {
+fn put_is_open(begin: Cursor<'_>, page: &mut Page) {
+    let is_open = match begin.ident() {
         Some((_, behind)) => behind.any_group().is_some(),
         None => false,
     };
-    Ok(format!(in alloc; "{is_open}\n")?)
+    write!(page, "{is_open}\n");
 }
 
-// What the lookahead says that was expected.
-fn said(alloc: Global, lookahead: Lookahead1<'_>) -> Result<String, Stop> {
+/// Puts what a lookahead says that was expected. Where a failed peek can't be noted, only those before it are.
+pub(crate) fn put_lookahead(begin: Cursor<'_>, page: &mut Page) -> Result<(), Stop> {
+    let mut lookahead = ParseBuffer::new(page.alloc(), begin).lookahead1();
+    match lookahead.peek::<token::Struct>() {
+        Ok(_) => put_more(lookahead, page),
+        Err(_) => refused(is_unexpected(page.alloc(), lookahead)),
+    }
+}
+
+// The same behind more peeks.
+fn put_more(mut lookahead: Lookahead1<'_>, page: &mut Page) -> Result<(), Stop> {
+    for _ in 0..8 {
+        let _ = looked_at(lookahead.peek::<token::Enum>())?;
+    }
+    put_expected(lookahead, page)
+}
+
+// Puts what a lookahead says that was expected.
+fn put_expected(lookahead: Lookahead1<'_>, page: &mut Page) -> Result<(), Stop> {
     match lookahead.error() {
-        ParseFault::Syntax(error) => Ok(error.to_string(alloc)?),
+        ParseFault::Syntax(error) => {
+            write!(page, "{error}\n");
+            Ok(())
+        }
         ParseFault::Memory => Err(Stop::Refused),
     }
 }
 
-/// What a lookahead says that was expected. Where a failed peek can't be noted, only those before it are.
-pub fn lookahead(alloc: Global) -> Result<String, Stop> {
-    let stream = stream_of(alloc, "x", &mut SourceMap::new(alloc))?;
-    let buffer = looked_at(TokenBuffer::new2(alloc, &stream, 1))?;
-    let input = ParseBuffer::new(alloc, buffer.begin());
-    let mut lookahead = input.lookahead1();
-    if lookahead.peek::<token::Struct>().is_err() {
-        return refused(said(alloc, lookahead)?.as_str() == "unexpected token");
-    }
-    for _ in 0..8 {
-        let _ = looked_at(lookahead.peek::<token::Enum>())?;
-    }
-    let words = said(alloc, lookahead)?;
-    Ok(format!(in alloc; "{words}\n")?)
+// Whether a lookahead says that nothing was expected.
+fn is_unexpected(alloc: Global, lookahead: Lookahead1<'_>) -> bool {
+    let mut page = Page::new(alloc);
+    let is_said = put_expected(lookahead, &mut page).is_ok();
+    is_said && is_text(&page, "unexpected token\n")
 }
 
-// What a map says of a span that it has to hold.
-fn place(map: &SourceMap, span: Span) -> Result<LineColumn, Stop> {
-    if map.holds(span) {
-        Ok(span.start(map))
-    } else {
-        Err(Stop::Changed)
+/// Puts what is left of a stream behind its first name. Where it can't be shown, the stream stands where it stood.
+pub(crate) fn put_rest(begin: Cursor<'_>, page: &mut Page) -> Result<(), Stop> {
+    match begin.ident() {
+        Some((_, behind)) => put_left(&ParseBuffer::new(page.alloc(), behind), page),
+        None => Err(Stop::Changed),
     }
 }
 
-/// What is left of a stream behind its first name. Where it can't be shown, the stream stands where it stood.
-pub fn shown(alloc: Global) -> Result<String, Stop> {
-    let stream = stream_of(alloc, "a (b,[c]) ;", &mut SourceMap::new(alloc))?;
-    let buffer = looked_at(TokenBuffer::new2(alloc, &stream, 1))?;
-    let Some((_, behind)) = buffer.begin().ident() else {
-        return Err(Stop::Changed);
-    };
-    let input = ParseBuffer::new(alloc, behind);
-    match input.to_string(alloc) {
-        Ok(words) => Ok(format!(in alloc; "{words}\n")?),
+fn put_left(input: &ParseBuffer<'_>, page: &mut Page) -> Result<(), Stop> {
+    match input.to_string(page.alloc()) {
+        Ok(words) => {
+            write!(page, "{words}\n");
+            Ok(())
+        }
         Err(_) => refused(input.peek::<token::Paren>()),
     }
 }
 
 /// A number that is read from a text behind an older one. Where it can't be, the map says of the older one what it
 /// said.
-pub fn text(alloc: Global) -> Result<String, Stop> {
-    let mut map = SourceMap::new(alloc);
-    let older = stream_of(alloc, "a\n b", &mut map)?;
-    let Some(last) = older.trees().last() else {
-        return Err(Stop::Changed);
-    };
-    let span = last.span();
-    let before = place(&map, span)?;
-    match parse_str::<Option<proc_macro2::Literal>>(alloc, "'7'", &mut map) {
-        Ok(Some(literal)) if place(&map, span)? == before => Ok(format!(in alloc; "{literal}\n")?),
-        Err(TextFault::Memory) => refused(place(&map, span)? == before),
+pub(crate) fn text(page: &mut Page) -> Result<(), Stop> {
+    let mut map = SourceMap::new(page.alloc());
+    let span = last_span(&lexed_in(page.alloc(), "a\n b", &mut map)?)?;
+    put_text(span, &mut map, page)
+}
+
+fn last_span(stream: &TokenStream) -> Result<Span, Stop> {
+    match stream.trees().last() {
+        Some(last) => Ok(last.span()),
+        None => Err(Stop::Changed),
+    }
+}
+
+// What a map says of a span, if it holds it.
+fn place(map: &SourceMap, span: Span) -> Option<LineColumn> {
+    if map.holds(span) {
+        Some(span.start(map))
+    } else {
+        None
+    }
+}
+
+// Puts the number of a text behind that span's.
+fn put_text(span: Span, map: &mut SourceMap, page: &mut Page) -> Result<(), Stop> {
+    let before = place(map, span);
+    let read = parse_str::<Option<Literal>>(page.alloc(), "'7'", map);
+    let stays = before.is_some() && place(map, span) == before;
+    put_literal(read, stays, page)
+}
+
+fn put_literal(
+    read: Result<Option<Literal>, TextFault>,
+    stays: bool,
+    page: &mut Page,
+) -> Result<(), Stop> {
+    match read {
+        Ok(Some(literal)) if stays => {
+            write!(page, "{literal}\n");
+            Ok(())
+        }
+        Err(TextFault::Memory) => refused(stays),
         Ok(_) | Err(_) => Err(Stop::Changed),
     }
 }
