@@ -1,7 +1,7 @@
 //! A text and its output, made side by side.
 
-use anyhow::Result;
-use std::alloc::{AllocError, Global};
+use rows::Page;
+use std::alloc::Global;
 
 /// How deep groups stand in one another.
 const DEPTH: usize = 200;
@@ -14,9 +14,9 @@ const LONG: usize = 1_000;
 #[derive(Drop)]
 pub struct Texts {
     /// The text, with white characters and comments between its tokens.
-    pub source: String,
+    pub source: Page,
     /// Its output.
-    pub wanted: String,
+    pub wanted: Page,
     /// Whether a tree before the next one takes a space behind it.
     spaced: bool,
 }
@@ -24,145 +24,148 @@ pub struct Texts {
 impl Texts {
     fn new(alloc: Global) -> Texts {
         Texts {
-            source: String::new(alloc),
-            wanted: String::new(alloc),
+            source: Page::new(alloc),
+            wanted: Page::new(alloc),
             spaced: false,
         }
     }
 
     // One token, or joined marks.
-    fn token(&mut self, text: &str) -> Result<(), AllocError> {
-        self.source.push_str(text)?;
-        self.source.push_str("\t\n")?;
-        self.printed(text)
+    fn token(&mut self, text: &str) {
+        self.source.put(text);
+        self.source.put("\t\n");
+        self.printed(text);
     }
 
-    fn printed(&mut self, text: &str) -> Result<(), AllocError> {
+    fn printed(&mut self, text: &str) {
         if self.spaced {
-            self.wanted.push(' ')?;
+            self.wanted.put(" ");
         }
-        self.wanted.push_str(text)?;
+        self.wanted.put(text);
         self.spaced = true;
-        Ok(())
     }
 
-    fn open(&mut self, mark: &str) -> Result<(), AllocError> {
-        self.source.push_str(mark)?;
-        self.printed(mark)?;
+    fn open(&mut self, mark: &str) {
+        self.source.put(mark);
+        self.printed(mark);
         self.spaced = mark == "{";
-        Ok(())
     }
 
-    fn close(&mut self, mark: &str) -> Result<(), AllocError> {
-        self.source.push_str(mark)?;
+    fn close(&mut self, mark: &str) {
+        self.source.put(mark);
         self.spaced = mark == "}";
-        self.printed(mark)
+        self.printed(mark);
     }
 
     // A token between a front and an end with many characters inside.
-    fn long(&mut self, front: &str, inside: &str, end: &str) -> Result<(), AllocError> {
-        let mut text = String::from_str(*self.source.allocator(), front)?;
+    fn long(&mut self, front: &str, inside: &str, end: &str) {
+        self.source.put(front);
+        self.printed(front);
         for _ in 0..LONG {
-            text.push_str(inside)?;
+            self.source.put(inside);
+            self.wanted.put(inside);
         }
-        text.push_str(end)?;
-        self.token(text.as_str())
+        self.source.put(end);
+        self.source.put("\t\n");
+        self.wanted.put(end);
+    }
+
+    // An identifier with a number.
+    fn numbered(&mut self, number: u32) {
+        self.printed("S");
+        write!(self.source, "S{number}\t\n");
+        write!(self.wanted, "{number}");
     }
 
     // A comment, which is not printed.
-    fn comment(&mut self) -> Result<(), AllocError> {
-        self.source.push_str("/*")?;
+    fn comment(&mut self) {
+        self.source.put("/*");
         for _ in 0..LONG {
-            self.source.push('c')?;
+            self.source.put("c");
         }
-        self.source.push_str("*/")
+        self.source.put("*/");
     }
 
     // A doc of a line, which is printed as an attribute.
-    fn doc(&mut self) -> Result<(), AllocError> {
-        self.source.push_str("///")?;
-        self.printed("# [doc = \"")?;
+    fn doc(&mut self) {
+        self.source.put("///");
+        self.printed("# [doc = \"");
         for _ in 0..LONG {
-            self.source.push('d')?;
-            self.wanted.push('d')?;
+            self.source.put("d");
+            self.wanted.put("d");
         }
-        self.source.push('\n')?;
-        self.wanted.push_str("\"]")
+        self.source.put("\n");
+        self.wanted.put("\"]");
     }
 }
 
 /// A text of many items, and its output.
-pub fn large(alloc: Global) -> Result<Texts> {
+pub fn large(alloc: Global) -> Texts {
     let mut texts = Texts::new(alloc);
-    structs(alloc, &mut texts)?;
-    macro_opened(&mut texts)?;
-    long_tokens(&mut texts)?;
-    texts.close("}")?;
-    macro_opened(&mut texts)?;
-    deep_groups(&mut texts)?;
-    texts.close("}")?;
-    macro_opened(&mut texts)?;
-    many_trees(&mut texts)?;
-    texts.close("}")?;
-    structs(alloc, &mut texts)?;
-    Ok(texts)
+    structs(&mut texts);
+    macro_opened(&mut texts);
+    long_tokens(&mut texts);
+    texts.close("}");
+    macro_opened(&mut texts);
+    deep_groups(&mut texts);
+    texts.close("}");
+    macro_opened(&mut texts);
+    many_trees(&mut texts);
+    texts.close("}");
+    structs(&mut texts);
+    texts
 }
 
-fn macro_opened(texts: &mut Texts) -> Result<(), AllocError> {
-    texts.token("m")?;
-    texts.token("!")?;
-    texts.open("{")
+fn macro_opened(texts: &mut Texts) {
+    texts.token("m");
+    texts.token("!");
+    texts.open("{");
 }
 
-fn structs(alloc: Global, texts: &mut Texts) -> Result<(), AllocError> {
+fn structs(texts: &mut Texts) {
     for number in 0..1_000u32 {
-        let name = format!(in alloc; "S{number}")?;
-        texts.token("struct")?;
-        texts.token(name.as_str())?;
-        texts.token(";")?;
+        texts.token("struct");
+        texts.numbered(number);
+        texts.token(";");
     }
-    Ok(())
 }
 
 // Of each kind of token some that are long.
-fn long_tokens(texts: &mut Texts) -> Result<(), AllocError> {
+fn long_tokens(texts: &mut Texts) {
     for _ in 0..5 {
-        texts.long("", "x", "")?;
-        texts.long("r#", "y", "")?;
-        texts.long("'", "l", "")?;
-        texts.long("", "7", "")?;
-        texts.long("0.", "7", "")?;
-        texts.long("\"", "s", "\"")?;
-        texts.long("\"", "\\n", "\"")?;
-        texts.long("b\"", "\\xff", "\"")?;
-        texts.long("c\"", "\u{e9}", "\"")?;
-        texts.long("r#\"", "\"", "\"#")?;
-        texts.comment()?;
-        texts.doc()?;
+        texts.long("", "x", "");
+        texts.long("r#", "y", "");
+        texts.long("'", "l", "");
+        texts.long("", "7", "");
+        texts.long("0.", "7", "");
+        texts.long("\"", "s", "\"");
+        texts.long("\"", "\\n", "\"");
+        texts.long("b\"", "\\xff", "\"");
+        texts.long("c\"", "\u{e9}", "\"");
+        texts.long("r#\"", "\"", "\"#");
+        texts.comment();
+        texts.doc();
     }
-    Ok(())
 }
 
 // Groups in one another, of each delimiter, with a token before and behind.
-fn deep_groups(texts: &mut Texts) -> Result<(), AllocError> {
+fn deep_groups(texts: &mut Texts) {
     let marks = [("(", ")"), ("[", "]"), ("{", "}")];
     for depth in 0..DEPTH {
-        texts.token("a")?;
-        texts.open(marks[depth % 3].0)?;
+        texts.token("a");
+        texts.open(marks[depth % 3].0);
     }
     for depth in 0..DEPTH {
-        texts.close(marks[(DEPTH - 1 - depth) % 3].1)?;
-        texts.token("+-")?;
+        texts.close(marks[(DEPTH - 1 - depth) % 3].1);
+        texts.token("+-");
     }
-    Ok(())
 }
 
 // Trees side by side.
-fn many_trees(texts: &mut Texts) -> Result<(), AllocError> {
+fn many_trees(texts: &mut Texts) {
     for _ in 0..1_000 {
-        texts.token("a")?;
-        texts.token(",")?;
-        texts.token("1")?;
+        texts.token("a");
+        texts.token(",");
+        texts.token("1");
     }
-    Ok(())
 }

@@ -1,63 +1,116 @@
 //! Leaves of large texts, and their values.
 
-use anyhow::{Result, anyhow};
+use crate::shown::is_shown;
+use rows::{Page, Unanswered};
 use rust_leaf::ident::Ident;
 use rust_leaf::literal::Literal;
+use rust_leaf::value::ConversionErrorKind;
 use rust_map::SourceMap;
 use rust_map::span::Span;
 use std::alloc::Global;
 use try_clone::TryClone;
 
 // A text over and over.
-fn repeated(alloc: Global, part: &str) -> Result<String> {
-    let mut text = String::new(alloc);
+fn repeated(alloc: Global, part: &str) -> Page {
+    let mut page = Page::new(alloc);
     for _ in 0..2_000 {
-        text.push_str(part)?;
+        page.put(part);
     }
-    Ok(text)
+    page
 }
 
 /// Whether a literal of 2,000 times three characters has the value that was put in: as text, as bytes, and as a C
 /// string with its zero; and a copy the same text.
-pub fn are_read_back(alloc: Global) -> Result<bool> {
-    let text = repeated(alloc, "s\u{e9}\n")?;
-    let (string, bytes) = (text.as_str(), text.as_bytes());
-    let literal = Literal::string(alloc, string)?;
-    let same_text = match literal.str_value(alloc) {
-        Ok(value) => value.as_str() == string,
-        Err(_) => false,
-    };
-    let same_bytes = match Literal::byte_string(alloc, bytes)?.byte_str_value(alloc) {
-        Ok(value) => value.as_slice() == bytes,
-        Err(_) => false,
-    };
-    let copy = literal.try_clone()?;
-    Ok(same_text && same_bytes && copy.as_str() == literal.as_str() && is_c_string(alloc)?)
+pub fn are_read_back(alloc: Global) -> Result<bool, Unanswered> {
+    let page = repeated(alloc, "s\u{e9}\n");
+    let text = page.whole()?;
+    let bytes = text.as_bytes();
+    Ok(is_string(alloc, text) && is_byte_string(alloc, bytes) && is_c_string(alloc, bytes))
 }
 
-fn is_c_string(alloc: Global) -> Result<bool> {
-    let text = repeated(alloc, "s\u{e9}\n")?;
-    if text.as_bytes().contains(&0) {
-        return Ok(false);
+fn is_string(alloc: Global, text: &str) -> bool {
+    match Literal::string(alloc, text) {
+        Ok(literal) => has_text(literal.str_value(alloc), text) && is_copied(&literal),
+        Err(_) => false,
     }
-    let literal = Literal::c_string(alloc, text.as_bytes())?;
-    match literal.cstr_value(alloc) {
-        Ok(value) => Ok(value.as_slice().strip_suffix(&[0]) == Some(text.as_bytes())),
-        Err(_) => Ok(false),
+}
+
+fn has_text(value: Result<String, ConversionErrorKind>, text: &str) -> bool {
+    match value {
+        Ok(value) => value.as_str() == text,
+        Err(_) => false,
+    }
+}
+
+fn is_copied(literal: &Literal) -> bool {
+    match literal.try_clone() {
+        Ok(copy) => copy.as_str() == literal.as_str(),
+        Err(_) => false,
+    }
+}
+
+fn is_byte_string(alloc: Global, bytes: &[u8]) -> bool {
+    match Literal::byte_string(alloc, bytes) {
+        Ok(literal) => has_bytes(literal.byte_str_value(alloc), bytes, &[]),
+        Err(_) => false,
+    }
+}
+
+fn is_c_string(alloc: Global, bytes: &[u8]) -> bool {
+    if bytes.contains(&0) {
+        return false;
+    }
+    match Literal::c_string(alloc, bytes) {
+        Ok(literal) => has_bytes(literal.cstr_value(alloc), bytes, &[0]),
+        Err(_) => false,
+    }
+}
+
+// Whether a value is those bytes, and those at the end.
+fn has_bytes(value: Result<Vec<u8>, ConversionErrorKind>, bytes: &[u8], end: &[u8]) -> bool {
+    match value {
+        Ok(value) => value.as_slice().strip_suffix(end) == Some(bytes),
+        Err(_) => false,
     }
 }
 
 /// Whether an identifier of 2,000 characters, its raw form and a number of as many digits are taken, as they are.
-pub fn are_taken(alloc: Global) -> Result<bool> {
-    let name = repeated(alloc, "x")?;
-    let digits = repeated(alloc, "7")?;
-    let site = Span::call_site();
-    let ident = Ident::new(alloc, name.as_str(), site).map_err(|_| anyhow!("no name"))?;
-    let raw = Ident::new_raw(alloc, name.as_str(), site).map_err(|_| anyhow!("no raw name"))?;
-    let number = Literal::from_str(alloc, digits.as_str(), &mut SourceMap::new(alloc))?;
-    let (plain, raw) = (format!(in alloc; "{ident}")?, format!(in alloc; "{raw}")?);
-    let copy = ident.try_clone()?;
-    let same_names = plain.as_str() == name.as_str()
-        && raw.as_str().strip_prefix("r#") == Some(name.as_str());
-    Ok(same_names && copy == ident && number.as_str() == digits.as_str())
+pub fn are_taken(alloc: Global) -> Result<bool, Unanswered> {
+    Ok(are_names(alloc)? && is_number(alloc)?)
+}
+
+fn are_names(alloc: Global) -> Result<bool, Unanswered> {
+    let page = repeated(alloc, "x");
+    let name = page.whole()?;
+    Ok(is_name(alloc, name) && is_raw_name(alloc, name))
+}
+
+fn is_name(alloc: Global, name: &str) -> bool {
+    match Ident::new(alloc, name, Span::call_site()) {
+        Ok(ident) => is_shown(alloc, &ident, "", name) && has_copy(&ident),
+        Err(_) => false,
+    }
+}
+
+fn has_copy(ident: &Ident) -> bool {
+    match ident.try_clone() {
+        Ok(copy) => copy == *ident,
+        Err(_) => false,
+    }
+}
+
+fn is_raw_name(alloc: Global, name: &str) -> bool {
+    match Ident::new_raw(alloc, name, Span::call_site()) {
+        Ok(raw) => is_shown(alloc, &raw, "r#", name),
+        Err(_) => false,
+    }
+}
+
+fn is_number(alloc: Global) -> Result<bool, Unanswered> {
+    let page = repeated(alloc, "7");
+    let digits = page.whole()?;
+    match Literal::from_str(alloc, digits, &mut SourceMap::new(alloc)) {
+        Ok(number) => Ok(number.as_str() == digits),
+        Err(_) => Ok(false),
+    }
 }
