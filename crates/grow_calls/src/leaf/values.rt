@@ -38,11 +38,15 @@ pub(crate) fn values(page: &mut Page) -> Result<(), Stop> {
 
 // Puts the value of the literal of a text.
 fn put_value(text: &str, page: &mut Page) -> Result<(), Stop> {
-    let whole = literal(page.alloc(), text)?;
-    match &whole {
-        Lit::Str(string) => page.show(&answered(string.value(page.alloc()), &whole, text)?),
-        Lit::ByteStr(bytes) => page.debug(&answered(bytes.value(page.alloc()), &whole, text)?),
-        Lit::CStr(bytes) => page.debug(&answered(bytes.value(page.alloc()), &whole, text)?),
+    put_value_of(&literal(page.alloc(), text)?, text, page)
+}
+
+fn put_value_of(whole: &Lit, text: &str, page: &mut Page) -> Result<(), Stop> {
+    let alloc = page.alloc();
+    match whole {
+        Lit::Str(string) => page.show(&answered(string.value(alloc), whole, text)?),
+        Lit::ByteStr(bytes) => page.debug(&answered(bytes.value(alloc), whole, text)?),
+        Lit::CStr(bytes) => page.debug(&answered(bytes.value(alloc), whole, text)?),
         _ => return Err(Stop::Changed),
     }
     Ok(())
