@@ -48,11 +48,15 @@ pub fn faults(page: &mut Page) {
 /// A text with a lexical fault, one that is no identifier, and one for which the map has no positions left.
 pub fn of_texts(page: &mut Page) {
     let alloc = page.alloc();
-    for (text, first) in [("a )", 0), ("a b", 0), ("abc", 4_294_967_294)] {
-        let mut map = SourceMap::starting_at(alloc, first);
-        let fault = kind(parse_str::<Ident>(alloc, text, &mut map));
-        write!(page, "fault [{text}]: {fault}\n");
-    }
+    put_fault("a )", SourceMap::new(alloc), page);
+    put_fault("a b", SourceMap::new(alloc), page);
+    put_fault("abc", SourceMap::starting_at(alloc, 4_294_967_294), page);
+}
+
+// Puts the kind of the fault that a text has behind the others of the map.
+fn put_fault(text: &str, mut map: SourceMap, page: &mut Page) {
+    let fault = kind(parse_str::<Ident>(page.alloc(), text, &mut map));
+    write!(page, "fault [{text}]: {fault}\n");
 }
 
 fn kind(answer: Result<Ident, TextFault>) -> &'static str {
