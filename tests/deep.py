@@ -1,5 +1,5 @@
 #!/usr/bin/env python3
-"""Writes the text that the gate gives to crates/canon_cli_deep, and the output that is wanted of it: parentheses, blocks, closures
+"""Writes the text that the gate gives to crates/canon_cli, and the output that is wanted of it: parentheses, blocks, closures
 and type arguments that stand 200 deep in one another, and 10,000 statements, arms and `else if` behind one another. Both are
 put together by the same shapes, the text without the spaces that it needs not, and the output by the rule of printing: one space
 between tokens, none behind an opening parenthesis or bracket and before a closing one.
@@ -9,7 +9,7 @@ Usage: tests/deep.py"""
 import os
 
 DEEP, LONG = 200, 10_000
-HERE = os.path.join(os.path.dirname(os.path.abspath(__file__)), "..", "crates", "canon_cli_deep")
+HERE = os.path.join(os.path.dirname(os.path.abspath(__file__)), "..", "crates", "canon_cli")
 
 # The text, and what is written of it.
 SHAPES = [

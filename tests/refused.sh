@@ -1,5 +1,5 @@
 #!/usr/bin/env bash
-# Runs built programs once for each allocation that they make, refusing that one: canon_cli on its stored input, on a
+# Runs built programs once for each allocation that they make, refusing that one: canon_cli on a small text, on a
 # large text, on doc and other comments, on texts at fault, on an argument, and for an outline; lex_cli on its stored input; grow_check on each text of
 # tests/texts, behind an older text in its map, on streams that are built by hand, and on literals of texts and their
 # values; grow_calls, grow_grammar and grow_forms on what they read, build, write and print by themselves; and grow_made on its
@@ -58,8 +58,11 @@ for program in canon_cli lex_cli grow_check grow_calls grow_grammar grow_forms g
 done
 
 refusal=$'canon: out of memory\n'
-want=0 answer=../crates/canon_cli/stdout said=
-sweep "canon" canon_cli ../crates/canon_cli/stdin
+want=0 said=
+printf 'fn f(){}' > "$work/small"
+printf 'fn f () { }\n' > "$work/small.answer"
+answer=$work/small.answer
+sweep "canon" canon_cli "$work/small"
 python3 -c 'print("".join(f"struct  S{n} ;\n" for n in range(40)) + "m!{" + "(" * 50 + "x" * 1000 + ")" * 50 + "}")' \
     > "$work/large"
 python3 -c 'print(" ".join(f"struct S{n} ;" for n in range(40)) + " m ! { " + "(" * 50 + "x" * 1000 + ")" * 50 + " }")' \
