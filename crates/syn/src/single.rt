@@ -105,6 +105,7 @@ impl<'a> Reader<'a> {
         ensures placed { (tree : GivenTree) (rest : List Token) → IsDerived T.kind (reading.left self.old) tree rest
             → IfErr result (StandsAt (reading.standing self.old)) }
         ensures stays { OnErr result (self.new ≡ self.old) }
+        ensures onward { reading.IsOnward self.old self.new }
     {
         let mut ahead = *self;
         let tree = ahead.parse(T::kind())?;
