@@ -83,6 +83,8 @@ pub use gram_tree::tree::Tree;
 pub use gram_tree::tree::Two;
 pub use gram_write::as_read::put_as_read;
 pub use gram_write::write::write;
+pub use item_forms::AnyItem;
+pub use item_forms::OneForeignItem;
 pub use item_forms::OneImplItem;
 pub use item_forms::OneTraitItem;
 pub use item_laws::laws;
