@@ -1,6 +1,6 @@
 -- Tokens that stand first among others.
 use Rattle.std.proofs.Common.{◌≡◌, ℕ, suc, ◌+◌, ◌-◌, List, [], ◌∷◌, ◌++◌, length, take, drop, get_or, refl, sym, ap, ◌∙◌, ◌≤◌, arith}
-use Rattle.std.proofs.lemmas.List.{take_all}
+use Rattle.std.proofs.lemmas.List.{map-append, take-append-drop, take_all}
 use Rattle.std.specs.Prelude.{true, cond}
 use Rattle.std.proofs.lemmas.Bool.{eq-eqb}
 use Rattle.rust_leaf.specs.declared.punct.Spacing.{Spacing}
@@ -11,13 +11,14 @@ use Rattle.syn_grammar.specs.Tree.{AMark, marks}
 use Rattle.syn_grammar.proofs.Sound.{mark_to}
 use Rattle.gram_tree.specs.Forms.{mark_of}
 use Rattle.rust_map.specs.declared.span.Span.{Span}
-use Rattle.proc_macro2.specs.Token.{Opens, Closes}
+use Rattle.proc_macro2.specs.Flat.{spanned}
+use Rattle.proc_macro2.specs.Token.{Opens, Closes, Spanned}
 use Rattle.proc_macro2.specs.declared.delimiter.Delimiter.{Delimiter}
-use Rattle.syn_buffer.specs.Entries.{is_whole, closes_with}
+use Rattle.syn_buffer.specs.Entries.{is_whole, closes_with, spanned_entries, spanned_entry}
 use Rattle.syn_buffer.specs.declared.entry.Entry.{Entry}
 use Rattle.syn_buffer.specs.declared.entry.Entry.TheVariants as entry
 use Rattle.gram_look.proofs.Groups.{group_tokens, whole_balanced, whole_group}
-use Rattle.gram_look.proofs.Nested.{both}
+use Rattle.gram_look.proofs.Nested.{both, parts}
 use Rattle.gram_run.proofs.Groups.{others}
 use Rattle.gram_run.specs.Answers.{tokens}
 use Rattle.syn.specs.Reading.{StandsSign, NoSign, StandsGroup, NoGroup}
@@ -80,6 +81,31 @@ module _ (wanted : Delimiter) (at es : List Entry) (e : Entry) (d : Delimiter) (
             ∙ ap (λ k. Opens k ∷ tokens (take n es) ++ Closes k ∷ tokens (drop (suc n) es)) w
             ∙ ap (λ xs. Opens wanted ∷ tokens (take n es) ++ Closes wanted ∷ tokens xs) (sym (others es n)),
       )
+
+  -- with where its tokens stand
+  pub group_spans : at ≡ e ∷ es → e ≡ entry.Open d s n → d ≡ wanted → is_whole at ≡ true
+      → spanned_entries at ≡ spanned (Opens wanted) s ∷ spanned_entries (take n es) ++ spanned (Closes wanted) s
+      ∷ spanned_entries (take (length es - (n + 1)) (drop (n + 1) es))
+  group_spans p q w h =
+      let a : at ≡ entry.Open d s n ∷ es = opens p q in
+      let whole : is_whole (entry.Open d s n ∷ es) ≡ true = sym (ap is_whole a) ∙ h in
+      let inside : List Spanned = spanned_entries (take n es) in
+      let behind : List Spanned = spanned_entries (drop (suc n) es) in
+      ap spanned_entries a
+      ∙ ap (λ ts. spanned (Opens d) s ∷ ts) (ap spanned_entries (parts d s n es (both (closes_with d s (drop n es)) _ whole).0)
+      ∙ map-append spanned_entry (take n es) (entry.Close d s ∷ drop (suc n) es))
+      ∙ ap (λ k. spanned (Opens k) s ∷ inside ++ spanned (Closes k) s ∷ behind) w
+      ∙ ap (λ xs. spanned (Opens wanted) s ∷ inside ++ spanned (Closes wanted) s ∷ spanned_entries xs)
+      (sym (others es n))
+
+  -- the entries of it stand before those behind it
+  pub group_behind : at ≡ e ∷ es → e ≡ entry.Open d s n
+      → (passed : List Entry) × (at ≡ passed ++ take (length es - (n + 1)) (drop (n + 1) es))
+  group_behind p q = (
+    entry.Open d s n ∷ take (suc n) es,
+    opens p q ∙ ap (λ xs. entry.Open d s n ∷ xs) (sym (take-append-drop (suc n) es))
+        ∙ ap (λ xs. entry.Open d s n ∷ take (suc n) es ++ xs) (sym (others es n)),
+  )
 
   -- another one opens there
   pub group_other : at ≡ e ∷ es → e ≡ entry.Open d s n → (d ≡ wanted → ⊥) → NoGroup wanted (tokens at)

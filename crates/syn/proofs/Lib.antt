@@ -9,3 +9,4 @@ pub mod Alike
 pub mod ItemsAlone
 pub mod Singles
 pub mod MembersAlone
+pub mod Onward

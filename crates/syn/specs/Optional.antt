@@ -1,6 +1,9 @@
--- What the grammar looks for where a form may stand that may be missing; and what stands in front of a function.
+-- What the grammar looks for where a form may stand that may be missing; and the words in front of a function and in a
+-- static.
 use Rattle.std.specs.Prelude.{◌≡◌, codes, List, ℕ, Bool}
 use Rattle.rust_leaf.specs.Leaf.{ident_text}
+use Rattle.syn_data.specs.declared.item.StaticMutability.{StaticMutability}
+use Rattle.syn_data.specs.declared.item.StaticMutability.TheVariants as mutabilities
 use Rattle.syn_grammar.specs.Look.{Look}
 use Rattle.syn_grammar.specs.Say.{at}
 use Rattle.syn_grammar.specs.Words.{same_text}
@@ -27,6 +30,9 @@ is_unsafe cs = same_text (codes "unsafe") cs
 abbrev pub is_safe : List ℕ → Bool
 is_safe cs = same_text (codes "safe") cs
 
+abbrev pub is_mut : List ℕ → Bool
+is_mut cs = same_text (codes "mut") cs
+
 -- It is unsafe or nothing: the word stood first and was read, or none stood there and nothing was.
 abbrev pub ReadsUnsafe : Safety → Reader → Reader → Type 0
 ReadsUnsafe (safeties.Unsafe i) old new = StandsWord is_unsafe (ident_text i.now) (left old) (left new)
@@ -38,3 +44,8 @@ abbrev pub ReadsSafety : Safety → Reader → Reader → Type 0
 ReadsSafety (safeties.Unsafe i) old new = StandsWord is_unsafe (ident_text i.now) (left old) (left new)
 ReadsSafety (safeties.Safe i) old new = StandsWord is_safe (ident_text i.now) (left old) (left new)
 ReadsSafety safeties.Default old new = NoWord is_safe (left old) × NoWord is_unsafe (left old) × (new ≡ old)
+
+-- It is mut or nothing, likewise.
+abbrev pub ReadsMutability : StaticMutability → Reader → Reader → Type 0
+ReadsMutability (mutabilities.Mut i) old new = StandsWord is_mut (ident_text i.now) (left old) (left new)
+ReadsMutability mutabilities.None old new = NoWord is_mut (left old) × (new ≡ old)

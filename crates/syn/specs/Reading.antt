@@ -2,7 +2,8 @@
 use Rattle.std.specs.Prelude.{◌≡◌, ℕ, Bool, true, false, Some, List, [], ◌∷◌, ◌++◌}
 use Rattle.rust_map.specs.declared.span.Span.{Span}
 use Rattle.rust_leaf.specs.declared.punct.Spacing.{Spacing}
-use Rattle.proc_macro2.specs.Token.{Token, Opens, Closes, Ident, Literal}
+use Rattle.proc_macro2.specs.Flat.{spanned}
+use Rattle.proc_macro2.specs.Token.{Token, Spanned, Opens, Closes, Ident, Literal}
 use Rattle.proc_macro2.specs.declared.delimiter.Delimiter.{Delimiter}
 use Rattle.syn_grammar.specs.Tree.{marks}
 use Rattle.syn_grammar.specs.Gram.{is_balanced}
@@ -15,11 +16,28 @@ use Rattle.syn_buffer.specs.declared.entry.Entry.{Entry}
 use Rattle.syn_error.specs.Notes.{Says}
 use Rattle.syn_error.specs.declared.fault.ParseFault.{ParseFault}
 use Rattle.syn_error.specs.declared.fault.ParseFault.TheVariants as fault
+use Rattle.syn.specs.declared.reader.Entered.{Entered}
 use Rattle.syn.specs.declared.reader.Reader.{Reader}
 
 -- the tokens that are left
 abbrev pub left : Reader → List Token
 left r = tokens r.entries.now
+
+-- the same, with where they stand
+abbrev pub spanned_left : Reader → List Spanned
+spanned_left r = spanned_entries r.entries.now
+
+-- The same list is read, from the same place on or from one behind it: what is left are the last of the tokens that were
+-- left, each where it stood, and the same closes the list.
+abbrev pub IsOnward : Reader → Reader → Type 0
+IsOnward old new =
+    (new.closing ≡ old.closing) × ((passed : List Spanned) × (spanned_left old ≡ passed ++ spanned_left new))
+
+-- A group was entered: both its marks stand where all of it does, its inside is left to what reads that, and what stands
+-- behind it is left to the reader.
+abbrev pub Enters : Delimiter → Entered → Reader → Reader → Type 0
+Enters d r old new =
+    spanned_left old ≡ spanned (Opens d) r.span ∷ spanned_left r.inside ++ spanned (Closes d) r.span ∷ spanned_left new
 
 -- A word of that text stands first, the text passes, and the rest is left.
 abbrev pub StandsWord : (List ℕ → Bool) → List ℕ → List Token → List Token → Type 0
@@ -57,7 +75,7 @@ NoGroup d ts = (rest : List Token) → ts ≡ Opens d ∷ rest → ⊥
 
 -- where the next token stands, or what closes the list
 abbrev pub standing : Reader → Span
-standing r = next_span r.closing (spanned_entries r.entries.now)
+standing r = next_span r.closing (spanned_left r)
 
 abbrev pub are_none : List Entry → Bool
 are_none [] = true

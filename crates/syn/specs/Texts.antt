@@ -1,5 +1,5 @@
 -- Texts that are read by a function, which is lent an arena and a buffer of the text's tokens.
-use Rattle.std.specs.Prelude.{◌≡◌, ◌≤◌, ◌+◌, ◌^◌, ℕ, List, length, Err, Result}
+use Rattle.std.specs.Prelude.{◌≡◌, List, Err, Result}
 use Rattle.proc_macro2.specs.Token.{Spanned}
 use Rattle.syn_buffer.specs.Entries.{spanned_entries}
 use Rattle.syn_buffer.specs.declared.buffer.TokenBuffer.{TokenBuffer}
@@ -10,13 +10,13 @@ use Rattle.syn_error.specs.declared.fault.TextFault.TheVariants as fault
 use Rattle.gram_tree.specs.declared.arena.Arena.{Arena}
 use denote.Bor.{Bor}
 
--- a function that answers so may be answered by it, lent an arena and a buffer of these tokens
+-- a function may answer so, lent some arena and some buffer of these tokens
 abbrev pub MayAnswer : {T : Type 0} → (Bor Arena → Bor TokenBuffer → Result T ParseFault → Type 0) → List Spanned →
     Result T ParseFault → Type 0
 MayAnswer answers tokens answer = (arena : Bor Arena) × (buffer : Bor TokenBuffer)
     × (spanned_entries buffer.now.entries.items ≡ tokens) × answers arena buffer answer
 
--- of these tokens it may answer the fault of syntax that is said of the text
+-- it may answer, of these tokens, the fault of syntax that is said of the text
 abbrev pub MayRefuse : {T : Type 0} → (Bor Arena → Bor TokenBuffer → Result T ParseFault → Type 0) → TextFault →
     List Spanned → Type 0
 MayRefuse answers (fault.Syntax e) tokens = MayAnswer answers tokens (Err (Syntax e))

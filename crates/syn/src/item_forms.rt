@@ -9,6 +9,7 @@ ghost use Rattle.syn_grammar.specs.Gram.{ref};
 ghost use Rattle.syn_grammar.specs.Kind as k;
 ghost use Rattle.syn_grammar.specs.Tree as t;
 ghost use Rattle.syn_item.specs.ItemEntries.{foreign_item_static, one_macro, one_trait};
+ghost use Rattle.syn_item.specs.ItemForms.{Is};
 ghost use Rattle.syn_item.specs.ItemFunctions.{IsBehind, IsReceiver, IsSafety, parameter, signature};
 ghost use Rattle.syn_item.specs.ItemMembers.{associated_item, foreign_item, form_of_foreign_item, form_of_impl_item};
 ghost use Rattle.syn_item.specs.ItemMembers.{form_of_trait_item};
@@ -19,7 +20,28 @@ use gram_tree::tree::Tree;
 use syn_data::data::{NamedField, UnnamedField};
 use syn_item::entry::{ForeignItemStatic, OneMacro, OneTrait};
 use syn_item::function::{OneParameter, Parameter, Receiver, Signature};
+use syn_item::item::Item;
 use syn_item::members::{AssociatedItem, ForeignItem, ImplItem, TraitItem};
+
+/// An item of any kind, read by itself with its attributes and its visibility.
+#[derive(Clone, Copy)]
+pub struct AnyItem<'a> {
+    /// All of it, as a form of the kind `AnItem`: if it is kept as it was read, `ItemParts::of` has its attributes and its
+    /// visibility.
+    pub tree: &'a Tree<'a>,
+    /// The item behind them, by its form.
+    pub item: Item<'a, 'a>,
+}
+
+/// An item of an extern block, read by itself with its attributes and its visibility.
+#[derive(Clone, Copy)]
+pub struct OneForeignItem<'a> {
+    /// All of it, as a form of the kind `AForeignItem`: if it is kept as it was read, `ForeignParts::of` has its attributes
+    /// and its visibility.
+    pub tree: &'a Tree<'a>,
+    /// The item behind them, by its form.
+    pub item: ForeignItem<'a, 'a>,
+}
 
 /// An item of a trait, read by itself.
 #[derive(Clone, Copy)]
@@ -170,6 +192,46 @@ impl<'a> Parse<'a> for ForeignItem<'a, 'a> {
     fn view(tree: &'a Tree<'a>) -> Option<ForeignItem<'a, 'a>> {
         match ForeignItem::of(tree) {
             Some(found) => Some(found),
+            None => None,
+        }
+    }
+}
+
+impl<'a> Parse<'a> for AnyItem<'a> {
+    ghost kind = { k.AnItem };
+
+    ghost says = { λ x tree. (tree ≡ x.tree.now) × Is tree x.item };
+
+    fn kind() -> Kind
+        ensures { kind_of result ≡ k.AnItem }
+    {
+        Kind::AnItem
+    }
+
+    #[tactic(auto, using(syn_ast::proofs::Derived::shaped))]
+    fn view(tree: &'a Tree<'a>) -> Option<AnyItem<'a>> {
+        match Item::of(tree) {
+            Some(item) => Some(AnyItem { tree, item }),
+            None => None,
+        }
+    }
+}
+
+impl<'a> Parse<'a> for OneForeignItem<'a> {
+    ghost kind = { k.AForeignItem };
+
+    ghost says = { λ x tree. (tree ≡ x.tree.now) × (form_of_foreign_item tree ≡ foreign_item x.item) };
+
+    fn kind() -> Kind
+        ensures { kind_of result ≡ k.AForeignItem }
+    {
+        Kind::AForeignItem
+    }
+
+    #[tactic(auto, using(syn_ast::proofs::Derived::shaped))]
+    fn view(tree: &'a Tree<'a>) -> Option<OneForeignItem<'a>> {
+        match ForeignItem::of(tree) {
+            Some(item) => Some(OneForeignItem { tree, item }),
             None => None,
         }
     }

@@ -20,7 +20,8 @@
 //! - `one_item`: items of one kind that are read by themselves, as `OneItem<ItemFn>`.
 //! - `single`: forms that are one of several of a kind; `single_expr`, `single_blocks`, `single_exprs`, `single_types`: the
 //!   types that are read so.
-//! - `optional`: forms that may be missing; `safety`: whether a function is safe to call.
+//! - `optional`: forms that may be missing; `safety`: whether a function is safe to call, and whether a static may be
+//!   written.
 //! - `written`: whether what is written of two trees is the same.
 //! - `values`: literals by their class, with what they write, operators and members.
 //! - `laws`: laws of items and of raw tokens, which are those of `item_laws`: how an item of one kind is read by itself,
@@ -82,6 +83,8 @@ pub use gram_tree::tree::Tree;
 pub use gram_tree::tree::Two;
 pub use gram_write::as_read::put_as_read;
 pub use gram_write::write::write;
+pub use item_forms::AnyItem;
+pub use item_forms::OneForeignItem;
 pub use item_forms::OneImplItem;
 pub use item_forms::OneTraitItem;
 pub use item_laws::laws;

@@ -33,8 +33,9 @@ use syn_item::modules::{ItemForeignMod, ItemMod};
 /// `ItemMod`, `ItemForeignMod`, `ItemUse`, `ItemExternCrate`, `ItemConst`, `ItemStatic` and `ItemType`; a trait is read as
 /// `OneTrait`.
 ///
-/// `Item` reads the same where an item of any kind may stand (`laws::item_readers`). One of which that keeps the tokens
-/// alone, as a function without a body, is refused here.
+/// Where an item of any kind may stand, `AnyItem` is read, and where one of this kind does, with the same attributes,
+/// visibility and form (`laws::item_readers`). An item of which that keeps the tokens alone, as a function without a body,
+/// is refused here.
 #[derive(Clone, Copy)]
 pub struct OneItem<'a, T> {
     /// Its attributes, as a form of the kind `OuterAttributes`: `OuterAttributes::of` has each.

@@ -3,7 +3,7 @@
 ghost use Rattle.gram_table.specs.Looks.{look_of};
 ghost use Rattle.std.specs.Prelude.{◌≡◌, IfErr, IfNone, IfOk, IfSome, OnErr, false, true};
 ghost use Rattle.syn.specs.Optional.{abi_stands, bound_lifetimes_stand, where_clause_stands};
-ghost use Rattle.syn.specs.Reading.{left};
+ghost use Rattle.syn.specs.Reading.{IsOnward, left};
 ghost use Rattle.syn_error.specs.Faults.{IsSyntax};
 ghost use Rattle.syn_grammar.specs.Look.{Look as GivenLook, a_lifetime, sees};
 ghost use Rattle.syn_grammar.specs.Read.{IsDerived, NoneRead};
@@ -83,6 +83,7 @@ impl<'a> Reader<'a> {
         ensures refused { IfErr result (λ e. IsSyntax e
             → (sees T.stands (left self.old) ≡ true) × NoneRead T.kind (left self.old)) }
         ensures stays { OnErr result (self.new ≡ self.old) }
+        ensures onward { IsOnward self.old self.new }
     {
         if !self.sees(T::look()) {
             return Ok(None);

@@ -5,12 +5,14 @@ ghost use Rattle.gram_table.specs.Kinds.{kind_of};
 ghost use Rattle.gram_table.specs.Looks.{look_of};
 ghost use Rattle.gram_table.specs.Words.{literals_of, sign_text, words_of};
 ghost use Rattle.gram_run.specs.declared.refusal.Wanted.TheVariants as wanted;
-ghost use Rattle.rust_leaf.specs.Leaf.{ident_text, literal_text};
+ghost use Rattle.rust_leaf.specs.Leaf.{ident_span, ident_text, literal_span, literal_text};
 ghost use Rattle.rust_map.specs.Spans.{call_site, last_of};
-ghost use Rattle.std.specs.Prelude.{◌↔◌, ◌≡◌, [], IfErr, IfNone, IfOk, IfSome, IsTrue, OnErr};
-ghost use Rattle.syn.specs.Reading.{NoGroup, NoLiteral, NoSign, NoWord, StandsGroup, StandsLiteral, StandsSign, StandsWord};
-ghost use Rattle.syn.specs.Reading.{SaysWanted, left, standing};
-ghost use Rattle.syn_buffer.specs.Entries.{is_whole};
+ghost use Rattle.std.specs.Prelude.{◌++◌, ◌-◌, ◌↔◌, ◌≡◌, ◌≤◌, [], IfErr, IfNone, IfOk, IfSome, IsTrue, List, OnErr};
+ghost use Rattle.std.specs.Prelude.{drop, length};
+ghost use Rattle.syn.specs.Reading.{Enters, IsOnward, NoGroup, NoLiteral, NoSign, NoWord, SaysWanted, StandsGroup};
+ghost use Rattle.syn.specs.Reading.{StandsLiteral, StandsSign, StandsWord, left, spanned_left, standing};
+ghost use Rattle.syn_buffer.specs.Entries.{is_whole, spanned_entries};
+ghost use Rattle.syn_buffer.specs.declared.entry.Entry.{Entry as GivenEntry};
 ghost use Rattle.syn_error.specs.Faults.{IsSyntax};
 ghost use Rattle.syn_error.specs.Notes.{Says};
 ghost use Rattle.syn_grammar.specs.Look.{sees};
@@ -43,6 +45,7 @@ impl<'a> Reader<'a> {
     /// their memory from where it does.
     pub fn new(arena: &'a Arena, buffer: &'a TokenBuffer<'a>) -> Reader<'a>
         ensures tokens { left result ≡ tokens buffer.now.entries.items }
+        ensures spans { spanned_left result ≡ spanned_entries buffer.now.entries.items }
         ensures closing { result.closing ≡ call_site }
     {
         Reader {
@@ -52,11 +55,13 @@ impl<'a> Reader<'a> {
         }
     }
 
-    // The place in the same list where these are left.
+    // The place in the same list where these are left, the last of its tokens.
     fn past(self, rest: &'a [Entry<'a>]) -> Reader<'a>
-        requires { IsTrue (is_whole rest.now) }
+        requires whole { IsTrue (is_whole rest.now) }
+        requires last { (passed : List GivenEntry) × (self.entries.now ≡ passed ++ rest.now) }
+        ensures entries { result.entries.now ≡ rest.now }
         ensures tokens { left result ≡ tokens rest.now }
-        ensures closing { result.closing ≡ self.entry.closing }
+        ensures onward { IsOnward self.entry result }
     {
         Reader {
             entries: rest,
@@ -65,9 +70,21 @@ impl<'a> Reader<'a> {
         }
     }
 
+    // The place in the same list where so many tokens are left.
+    fn before_last(self, count: usize) -> Reader<'a>
+        requires within { count ≤ length self.entries.now }
+        requires whole { IsTrue (is_whole (drop (length self.entries.now - count) self.entries.now)) }
+        ensures entries { result.entries.now ≡ drop (length self.entry.entries.now - count) self.entry.entries.now }
+        ensures onward { IsOnward self.entry result }
+    {
+        let entries = self.entries;
+        self.past(&entries[entries.len() - count..])
+    }
+
     /// The tokens that are left.
     pub fn entries(&self) -> &'a [Entry<'a>]
         ensures tokens { tokens result.now ≡ left self.now }
+        ensures spans { spanned_entries result.now ≡ spanned_left self.now }
         ensures whole { IsTrue (is_whole result.now) }
     {
         self.entries
@@ -148,10 +165,11 @@ impl<'a> Reader<'a> {
         ensures read { IfOk result (λ x. IsDerived (kind_of kind) (left self.old) x (left self.new)) }
         ensures refused { IfErr result (λ e. IsSyntax e → NoneRead (kind_of kind) (left self.old)) }
         ensures stays { OnErr result (self.new ≡ self.old) }
+        ensures onward { IsOnward self.old self.new }
     {
         match read(&Grammar, self.arena, kind, self.entries) {
             Ok((tree, rest)) => {
-                *self = self.past(rest);
+                *self = self.before_last(rest.len());
                 Ok(tree)
             }
             Err(Refusal::Syntax(wrong)) => Err(self.refused(wrong)),
@@ -164,6 +182,8 @@ impl<'a> Reader<'a> {
     pub fn optional_word(&mut self, words: Words) -> Option<&'a Ident>
         ensures read { IfSome result (λ i. StandsWord (words_of words) (ident_text i.now) (left self.old) (left self.new)) }
         ensures missing { IfNone result (NoWord (words_of words) (left self.old) × (self.new ≡ self.old)) }
+        ensures placed { IfSome result (λ i. ident_span i.now ≡ standing self.old) }
+        ensures onward { IsOnward self.old self.new }
     {
         if let [entry, rest @ ..] = self.entries {
             if let Entry::Ident(ident) = *entry {
@@ -187,6 +207,8 @@ impl<'a> Reader<'a> {
         ensures refused { IfErr result (λ e. IsSyntax e → NoWord (words_of words) (left self.old)) }
         ensures said { IfErr result (SaysWanted (wanted.Word words) self.old) }
         ensures stays { OnErr result (self.new ≡ self.old) }
+        ensures placed { IfOk result (λ i. ident_span i.now ≡ standing self.old) }
+        ensures onward { IsOnward self.old self.new }
     {
         match self.optional_word(words) {
             Some(ident) => Ok(ident),
@@ -205,6 +227,8 @@ impl<'a> Reader<'a> {
         ensures refused { IfErr result (λ e. IsSyntax e → NoLiteral (literals_of literals) (left self.old)) }
         ensures said { IfErr result (SaysWanted (wanted.Literal literals) self.old) }
         ensures stays { OnErr result (self.new ≡ self.old) }
+        ensures placed { IfOk result (λ l. literal_span l.now ≡ standing self.old) }
+        ensures onward { IsOnward self.old self.new }
     {
         if let [entry, rest @ ..] = self.entries {
             if let Entry::Literal(literal) = *entry {
@@ -227,10 +251,13 @@ impl<'a> Reader<'a> {
         ensures refused { IfErr result (λ e. IsSyntax e → NoSign (sign_text sign) (left self.old)) }
         ensures said { IfErr result (SaysWanted (wanted.Mark sign) self.old) }
         ensures stays { OnErr result (self.new ≡ self.old) }
+        ensures placed { IfOk result (λ r. r.span ≡ standing self.old) }
+        ensures onward { IsOnward self.old self.new }
     {
         match sign::marks(sign, self.entries) {
-            Some((spacing, span, rest)) => {
-                *self = self.past(rest);
+            Some((spacing, _, rest)) => {
+                let span = self.span();
+                *self = self.before_last(rest.len());
                 Ok(ReadSign { spacing, span })
             }
             None => Err(self.wanting(Wanted::Mark(sign))),
@@ -244,10 +271,13 @@ impl<'a> Reader<'a> {
     /// Those of `word`.
     pub fn group(&mut self, delimiter: Delimiter) -> Result<Entered<'a>, ParseFault>
         ensures read { IfOk result (λ r. StandsGroup delimiter (left r.inside) (left self.old) (left self.new)) }
+        ensures entered { IfOk result (λ r. Enters delimiter r self.old self.new) }
         ensures closing { IfOk result (λ r. r.inside.closing ≡ last_of r.span) }
         ensures refused { IfErr result (λ e. IsSyntax e → NoGroup delimiter (left self.old)) }
         ensures said { IfErr result (SaysWanted (wanted.Group delimiter) self.old) }
         ensures stays { OnErr result (self.new ≡ self.old) }
+        ensures placed { IfOk result (λ r. r.span ≡ standing self.old) }
+        ensures onward { IsOnward self.old self.new }
     {
         if let [entry, rest @ ..] = self.entries {
             if let Entry::Open(found, span, count) = *entry {

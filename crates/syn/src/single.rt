@@ -7,7 +7,7 @@ ghost use Rattle.gram_run.specs.Answers.{tokens};
 ghost use Rattle.gram_table.specs.Kinds.{kind_of};
 ghost use Rattle.proc_macro2.specs.Token.{Token};
 ghost use Rattle.std.specs.Prelude.{◌≡◌, IfErr, IfOk, IsErrAnd, IsFalse, IsTrue, List, MatchOption, OnErr, OnOk};
-ghost use Rattle.syn.specs.Parsed.{IsAll};
+ghost use Rattle.syn.specs.Parsed.{IsAll, first_place};
 ghost use Rattle.syn.specs.Reading as reading;
 ghost use Rattle.syn.specs.Single.{IsNoneMeant, NoneMeant, StandsAt};
 ghost use Rattle.syn.specs.Streams.{IsPassed, invisible_words};
@@ -70,6 +70,8 @@ pub fn parse2_single<'a, T: ParseSingle<'a>>(
         × IsAll T.kind (tokens buffer.now.entries.items) tree × T.is_meant tree × T.says x tree) }
     ensures refused { IfErr result (λ e. IsSyntax e
         → IsNoneMeant T.kind T.is_meant (tokens buffer.now.entries.items)) }
+    ensures placed { (tree : GivenTree) → IsAll T.kind (tokens buffer.now.entries.items) tree
+        → IfErr result (StandsAt (first_place buffer.now)) }
 {
     let tree = parse_as(arena, T::kind(), buffer)?;
     let tree = arena.put(tree)?;
@@ -105,6 +107,7 @@ impl<'a> Reader<'a> {
         ensures placed { (tree : GivenTree) (rest : List Token) → IsDerived T.kind (reading.left self.old) tree rest
             → IfErr result (StandsAt (reading.standing self.old)) }
         ensures stays { OnErr result (self.new ≡ self.old) }
+        ensures onward { reading.IsOnward self.old self.new }
     {
         let mut ahead = *self;
         let tree = ahead.parse(T::kind())?;

@@ -229,7 +229,8 @@ impl<'a> SingleExpr<'a> for ExprMethodCall<'a, 'a> {
     }
 }
 
-// A range, unless it is `..=` without operands, which no expression is.
+// A range, unless it is `..=` alone, whose tree is of no form. (`a..=` is no expression either, but its tree would be a
+// range's.)
 #[tactic(auto, using(crate::proofs::Singles::ranges))]
 fn with_operand<'a>(range: ExprRange<'a, 'a>) -> Option<ExprRange<'a, 'a>>
     ensures { MatchOption result (which (expr_range range.entry) ≡ None)

@@ -5,7 +5,7 @@ ghost use Rattle.gram_table.specs.Kinds.{kind_of};
 ghost use Rattle.proc_macro2.specs.Token.{Token};
 ghost use Rattle.std.specs.Prelude.{◌≡◌, IfErr, IfOk, List, MatchOption, OnErr};
 ghost use Rattle.syn.specs.Parsed.{IsAll, IsNone};
-ghost use Rattle.syn.specs.Reading.{left};
+ghost use Rattle.syn.specs.Reading.{IsOnward, left};
 ghost use Rattle.syn_error.specs.Faults.{IsSyntax};
 ghost use Rattle.syn_grammar.specs.Derives.{Derives};
 ghost use Rattle.syn_grammar.specs.Gram.{ref};
@@ -72,6 +72,7 @@ impl<'a> Reader<'a> {
             × IsDerived T.kind (left self.old) tree (left self.new) × T.says x tree) }
         ensures refused { IfErr result (λ e. IsSyntax e → NoneRead T.kind (left self.old)) }
         ensures stays { OnErr result (self.new ≡ self.old) }
+        ensures onward { IsOnward self.old self.new }
     {
         let mut ahead = *self;
         let tree = ahead.parse(T::kind())?;

@@ -1,15 +1,27 @@
-use Rattle.std.proofs.Common.{List, sym, subst}
 use Rattle.gram_table.specs.Words.{sign_text}
-use Rattle.proc_macro2.specs.Token.{Token}
-use Rattle.syn.specs.Reading.{StandsSign, left}
+use Rattle.syn.specs.Reading.{left}
 use Rattle.syn.proofs.Firsts.{sign_read, sign_refused}
+use Rattle.syn.proofs.Onward.{sign_left, sign_stands}
 use Rattle.syn.proofs.reader.Reader.sign.Goals as goal
+
+pub before_last-requires-clause-within : goal.before_last-requires-clause-within
+before_last-requires-clause-within c =
+    (sign_left (sign_text c.args.sign) c.in-Some.spacing c.args.self.now.entries.now c.in-Some.rest.now
+    (sign_read (sign_text c.args.sign) c.in-Some.spacing (left c.args.self.now) _ c.in-Some.ensures.mark)
+    c.args.self.now.is_whole c.in-Some.ensures.whole).within
+
+pub before_last-requires-clause-whole : goal.before_last-requires-clause-whole
+before_last-requires-clause-whole c =
+    (sign_left (sign_text c.args.sign) c.in-Some.spacing c.args.self.now.entries.now c.in-Some.rest.now
+    (sign_read (sign_text c.args.sign) c.in-Some.spacing (left c.args.self.now) _ c.in-Some.ensures.mark)
+    c.args.self.now.is_whole c.in-Some.ensures.whole).whole
 
 pub returns-in-Some-clause-read : goal.returns-in-Some-clause-read
 returns-in-Some-clause-read c =
-    subst (λ (ts : List Token). StandsSign (sign_text c.args.sign) c.in-Some.spacing (left c.args.self.now) ts)
-    (sym c.past.ensures.tokens)
-    (sign_read (sign_text c.args.sign) c.in-Some.spacing (left c.args.self.now) _ c.in-Some.ensures.mark)
+    let stands = sign_read (sign_text c.args.sign) c.in-Some.spacing (left c.args.self.now) _ c.in-Some.ensures.mark in
+    sign_stands (sign_text c.args.sign) c.in-Some.spacing c.args.self.now.entries.now c.in-Some.rest.now _ stands
+    (sign_left (sign_text c.args.sign) c.in-Some.spacing c.args.self.now.entries.now c.in-Some.rest.now stands
+    c.args.self.now.is_whole c.in-Some.ensures.whole) c.before_last.ensures.entries
 
 pub returns-in-None-clause-refused : goal.returns-in-None-clause-refused
 returns-in-None-clause-refused c =
