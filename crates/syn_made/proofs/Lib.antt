@@ -2,3 +2,4 @@ pub mod AstWhole
 pub mod MadeLists
 pub mod AmongForms
 pub mod MemberForms
+pub mod StmtForms

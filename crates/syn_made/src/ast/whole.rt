@@ -1,6 +1,7 @@
 //! Types and patterns of their forms, for where one stands.
 
 ghost use Rattle.gram_table.specs.Kinds.{plus_of};
+ghost use Rattle.gram_tree.specs.Forms.{seconds};
 ghost use Rattle.std.specs.Prelude.{◌≡◌, IfOk, IfSome, MatchOption};
 ghost use Rattle.syn_ast.specs.Pat.{form_of_pat, pat_tree, range_form};
 ghost use Rattle.syn_ast.specs.Paths.{path};
@@ -91,6 +92,8 @@ pub fn path_type<'a>(
     plus: Plus,
     found: &Path<'_, 'a>,
 ) -> Result<Tree<'a>, AllocError>
+    ensures same { IfOk result (λ x. x ≡ t.Node (k.AType (plus_of plus)) (seconds 9 (t.Node (k.AnyPath k.AtType)
+        (t.Second (path found.now))))) }
     ensures form { IfOk result (λ x. form_of_type x ≡ t.Node (k.AnyPath k.AtType) (t.Second (path found.now))) }
 {
     let form = Node(Kind::AnyPath(Style::AtType), Second(*found));
