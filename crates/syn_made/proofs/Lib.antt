@@ -3,3 +3,4 @@ pub mod MadeLists
 pub mod AmongForms
 pub mod MemberForms
 pub mod StmtForms
+pub mod TraitForms
