@@ -2,7 +2,7 @@
 
 use crate::{attributes, data, expressions, functions, items, patterns, statements, types};
 use std::alloc::AllocError;
-use syn::{Arena, Kind, Mark, Plus, Position, Sign, Spacing, Span, Style, Tree};
+use syn::{Arena, Ident, Kind, Mark, Plus, Position, Sign, Spacing, Span, Style, Tree};
 
 /// Why nothing is made for a row.
 #[derive(Clone, Copy)]
@@ -37,6 +37,14 @@ pub(crate) fn mark(sign: Sign) -> Mark {
     }
 }
 
+/// A word that stands at no place of a text.
+pub(crate) fn word<'a>(arena: &'a Arena, text: &str) -> Result<&'a Ident, Unmade> {
+    match Ident::new(arena.alloc(), text, Span::call_site()) {
+        Ok(word) => Ok(arena.put(word)?),
+        Err(_) => Err(Unmade::Memory),
+    }
+}
+
 // The kind that a row names.
 fn kind_of(name: &str) -> Option<Kind> {
     Some(match name {
@@ -62,6 +70,7 @@ fn kind_of(name: &str) -> Option<Kind> {
         "Receiver" => Kind::Receiver,
         "Item" => Kind::AnItem,
         "TraitItem" => Kind::ATraitItem,
+        "ForeignItem" => Kind::AForeignItem,
         _ => return None,
     })
 }

@@ -2,8 +2,8 @@
 
 use crate::change::{Unmade, mark};
 use syn::{
-    Arena, Arm, Elements, Expr, ExprBinary, ExprMethodCall, ExprTuple, FieldValue, Position, Sign,
-    Tree,
+    Arena, Arm, Elements, Expr, ExprBinary, ExprMethodCall, ExprRange, ExprTuple, FieldValue,
+    Position, Sign, Tree,
 };
 use syn_made::expr::whole::expression;
 use syn_made::to_tree::ToTree;
@@ -66,6 +66,17 @@ fn last<'a>(arena: &'a Arena, tree: &Tree<'a>) -> Result<Option<Tree<'a>>, Unmad
     Ok(ExprTuple { elems, ..found }.try_to_tree(arena)?)
 }
 
+// A range, if a tree is one.
+fn range<'t, 'a>(tree: &'t Tree<'a>) -> Option<ExprRange<'t, 'a>> {
+    ExprRange::of(Expr::of(tree)?.tree)
+}
+
+// A range without its end.
+fn endless<'a>(arena: &'a Arena, tree: &Tree<'a>) -> Result<Option<Tree<'a>>, Unmade> {
+    let found = range(tree).ok_or(Unmade::NoRow)?;
+    Ok(ExprRange { end: None, ..found }.try_to_tree(arena)?)
+}
+
 // A field's value as its member alone.
 fn short<'a>(arena: &'a Arena, tree: &Tree<'a>) -> Result<Option<Tree<'a>>, Unmade> {
     let found = FieldValue::of(tree).ok_or(Unmade::NoRow)?;
@@ -119,6 +130,7 @@ pub(crate) fn changed<'a>(
         "inferred" => inferred(arena, tree),
         "front" => front(arena, tree),
         "last" => last(arena, tree),
+        "endless" => endless(arena, tree),
         "short" => short(arena, tree),
         "without colon" => without_colon(arena, tree),
         "at end" => at_end(arena, tree),

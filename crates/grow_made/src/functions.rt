@@ -1,9 +1,9 @@
 //! Changes of functions, parameters and receivers.
 
-use crate::change::{Unmade, mark};
+use crate::change::{Unmade, mark, word};
 use syn::{
-    Arena, FnArg, ItemFn, Kind, OneParameter, Parameter, PatType, Receiver, ReceiverKind, Sign,
-    Tree, Turns,
+    Arena, FnArg, ItemFn, Kind, OneParameter, Parameter, PatType, Receiver, ReceiverKind, Safety,
+    Sign, Signature, Tree, Turns,
 };
 use syn_made::forms::Node;
 use syn_made::to_tree::ToTree;
@@ -41,6 +41,18 @@ pub(crate) fn closed<'a>(arena: &'a Arena, tree: &Tree<'a>) -> Result<Option<Tre
         ..found
     };
     Ok(function.try_to_tree(arena)?)
+}
+
+// The signature of a function, if a tree is one.
+fn signature<'t, 'a>(tree: &'t Tree<'a>) -> Option<Signature<'t, 'a>> {
+    Signature::of(ItemFn::of(tree)?.sig)
+}
+
+/// The signature of a function, as of one that is `safe` to call.
+pub(crate) fn as_safe<'a>(arena: &'a Arena, tree: &Tree<'a>) -> Result<Option<Tree<'a>>, Unmade> {
+    let found = signature(tree).ok_or(Unmade::NoRow)?;
+    let safety = Safety::Safe(word(arena, "safe")?);
+    Ok(Signature { safety, ..found }.try_to_tree(arena)?)
 }
 
 // A parameter, if a tree is one by itself.

@@ -1,10 +1,11 @@
-//! Changes of items, and of the items of traits.
+//! Changes of items, and of the items of traits and extern blocks.
 
-use crate::change::{Unmade, mark};
+use crate::change::{Unmade, mark, word};
 use crate::functions;
 use syn::{
-    Arena, AssociatedItem, Delimiter, Delimiters, Elements, Ident, Item, ItemEnum, ItemImpl,
-    ItemMacro, ItemMod, ItemTrait, ItemType, MacroDelimiter, Name, Sign, Span, Tree, WhereOrder,
+    Arena, AssociatedItem, Delimiter, Delimiters, Elements, ForeignItem, Item, ItemEnum, ItemImpl,
+    ItemMacro, ItemMod, ItemTrait, ItemTraitAlias, ItemType, MacroDelimiter, Name, Sign, Span,
+    TraitForm, TraitModifiers, Tree, WhereOrder,
 };
 use syn_made::item::among::plain_item;
 use syn_made::to_tree::ToTree;
@@ -44,10 +45,7 @@ fn early<'a>(arena: &'a Arena, tree: &Tree<'a>) -> Result<Option<Tree<'a>>, Unma
 // A macro with a name.
 fn named<'a>(arena: &'a Arena, tree: &Tree<'a>) -> Result<Option<Tree<'a>>, Unmade> {
     let found = ItemMacro::of(tree).ok_or(Unmade::NoRow)?;
-    let Ok(word) = Ident::new(arena.alloc(), "x", Span::call_site()) else {
-        return Err(Unmade::Memory);
-    };
-    let ident = Some(Name::Ident(arena.put(word)?));
+    let ident = Some(Name::Ident(word(arena, "x")?));
     Ok(ItemMacro { ident, ..found }.try_to_tree(arena)?)
 }
 
@@ -86,14 +84,35 @@ fn front<'a>(arena: &'a Arena, tree: &Tree<'a>) -> Result<Option<Tree<'a>>, Unma
     Ok(Some(ItemEnum { variants, ..found }.to_tree(arena)?))
 }
 
-// A trait without its `unsafe`.
+// A trait, or an alias of traits, without its `unsafe`.
 fn safe<'a>(arena: &'a Arena, tree: &Tree<'a>) -> Result<Option<Tree<'a>>, Unmade> {
-    let found = ItemTrait::of(tree).ok_or(Unmade::NoRow)?;
-    let safe = ItemTrait {
-        unsafety: None,
-        ..found
+    let form = match TraitForm::of(tree).ok_or(Unmade::NoRow)? {
+        TraitForm::Trait(found) => TraitForm::Trait(ItemTrait {
+            unsafety: None,
+            ..found
+        }),
+        TraitForm::Alias(found) => TraitForm::Alias(ItemTraitAlias {
+            unsafety: None,
+            ..found
+        }),
     };
-    Ok(Some(safe.to_tree(arena)?))
+    Ok(form.try_to_tree(arena)?)
+}
+
+// A trait, or an alias of traits, behind `auto`.
+fn automatic<'a>(arena: &'a Arena, tree: &Tree<'a>) -> Result<Option<Tree<'a>>, Unmade> {
+    let auto_token = Some(word(arena, "auto")?);
+    let form = match TraitForm::of(tree).ok_or(Unmade::NoRow)? {
+        TraitForm::Trait(found) => TraitForm::Trait(ItemTrait {
+            modifiers: TraitModifiers { auto_token },
+            ..found
+        }),
+        TraitForm::Alias(found) => TraitForm::Alias(ItemTraitAlias {
+            auto_token,
+            ..found
+        }),
+    };
+    Ok(form.try_to_tree(arena)?)
 }
 
 // An impl of no trait.
@@ -103,7 +122,7 @@ fn inherent<'a>(arena: &'a Arena, tree: &Tree<'a>) -> Result<Option<Tree<'a>>, U
         trait_: None,
         ..found
     };
-    Ok(Some(inherent.to_tree(arena)?))
+    Ok(inherent.try_to_tree(arena)?)
 }
 
 // An item without its attributes and its visibility.
@@ -112,11 +131,19 @@ fn plain<'a>(arena: &'a Arena, tree: &Tree<'a>) -> Result<Option<Tree<'a>>, Unma
     Ok(Some(plain_item(arena, &found)?))
 }
 
-// The form of an item, among others or in a trait, if a tree is one.
+// The form of an item in a trait or in an extern block, if a tree is one.
+fn member_form<'t, 'a>(tree: &'t Tree<'a>) -> Option<&'t Tree<'a>> {
+    match AssociatedItem::in_trait(tree) {
+        Some(item) => Some(item.tree),
+        None => Some(ForeignItem::of(tree)?.tree),
+    }
+}
+
+// The form of an item, among others or there, if a tree is one.
 fn form<'t, 'a>(tree: &'t Tree<'a>) -> Option<&'t Tree<'a>> {
     match Item::of(tree) {
         Some(item) => Some(item.tree),
-        None => Some(AssociatedItem::in_trait(tree)?.tree),
+        None => member_form(tree),
     }
 }
 
@@ -130,6 +157,7 @@ fn changed_form<'a>(
         "declared" => functions::declared(arena, form),
         "without block" => functions::without_block(arena, form),
         "closed" => functions::closed(arena, form),
+        "as safe" => functions::as_safe(arena, form),
         "outside" => outside(arena, form),
         "without content" => without_content(arena, form),
         "early" => early(arena, form),
@@ -138,6 +166,7 @@ fn changed_form<'a>(
         "in braces" => in_braces(arena, form),
         "front" => front(arena, form),
         "safe" => safe(arena, form),
+        "automatic" => automatic(arena, form),
         "inherent" => inherent(arena, form),
         _ => Err(Unmade::NoRow),
     }

@@ -5,10 +5,11 @@
 //! A row names a kind of the grammar and a change, and its text is a form of that kind. The form is read, the value of its
 //! type is changed, and the answer is what is written of the tree that the value is then, or `none`.
 //!
-//! - `row`: what is answered for a row; `change`: the changes, by the kinds of forms, and `mark`, which some of them put.
+//! - `row`: what is answered for a row; `change`: the changes, by the kinds of forms, and `mark` and `word`, which some of
+//!   them put.
 //! - `types`, `patterns`, `expressions`, `statements`: changes of these.
 //! - `data`: of fields, variants and what is derived for; `functions`: of functions and parameters.
-//! - `items`: of the other items, and of the items of traits.
+//! - `items`: of the other items, and of the items of traits and extern blocks.
 //! - `attributes`: of attributes, visibilities and parameters of generics.
 #![tactic(auto)]
 

@@ -2,8 +2,9 @@
 
 use crate::change::{Unmade, mark};
 use syn::{
-    Arena, Elements, Marked, OneSegment, Path, Plus, Segments, Sign, TraitBound,
-    TraitBoundModifier, Tree, Type, TypeParamBound, TypeReference, TypeTuple,
+    Arena, Elements, Marked, OneSegment, Path, Plus, Segments, Sign, SomeBounds, TraitBound,
+    TraitBoundModifier, Tree, Type, TypeBounds, TypeImplTrait, TypeParamBound, TypeReference,
+    TypeTraitObject, TypeTuple,
 };
 use syn_made::ast::whole::a_type;
 use syn_made::to_tree::ToTree;
@@ -45,6 +46,61 @@ fn last<'a>(arena: &'a Arena, tree: &Tree<'a>) -> Result<Option<Tree<'a>>, Unmad
     };
     let form = Type::Tuple(TypeTuple { elems, ..found });
     Ok(a_type(arena, Plus::WithPlus, &form)?)
+}
+
+// The bounds of `dyn` or `impl`, if a type is one of these.
+fn bounds_of<'t, 'a>(form: Type<'t, 'a>) -> Option<TypeBounds<'t, 'a>> {
+    match form {
+        Type::TraitObject(found) => Some(found.bounds),
+        Type::ImplTrait(found) => Some(found.bounds),
+        _ => None,
+    }
+}
+
+// `dyn` or `impl` with these bounds, for where no `+` may stand, as a type.
+fn bounded<'t, 'a>(
+    arena: &'a Arena,
+    form: Type<'t, 'a>,
+    bounds: TypeBounds<'t, 'a>,
+) -> Result<Option<Tree<'a>>, Unmade> {
+    let plus = Plus::WithoutPlus;
+    let form = match form {
+        Type::TraitObject(found) => Type::TraitObject(TypeTraitObject {
+            plus,
+            bounds,
+            ..found
+        }),
+        Type::ImplTrait(found) => Type::ImplTrait(TypeImplTrait {
+            plus,
+            bounds,
+            ..found
+        }),
+        other => other,
+    };
+    Ok(a_type(arena, plus, &form)?)
+}
+
+// `dyn` or `impl` for where no `+` may stand, its bounds as they are.
+fn without_plus<'a>(arena: &'a Arena, tree: &Tree<'a>) -> Result<Option<Tree<'a>>, Unmade> {
+    let form = Type::of(tree).ok_or(Unmade::NoRow)?;
+    let bounds = bounds_of(form).ok_or(Unmade::NoRow)?;
+    bounded(arena, form, bounds)
+}
+
+// The one bound of several, if they are one.
+fn only<'t, 'a>(bounds: TypeBounds<'t, 'a>) -> Option<&'t Tree<'a>> {
+    match bounds {
+        TypeBounds::Several(bounds) => SomeBounds::of(bounds)?.bounds.only(),
+        TypeBounds::One(bound) => Some(bound),
+    }
+}
+
+// `dyn` or `impl` of one bound, for where no `+` may stand.
+fn single<'a>(arena: &'a Arena, tree: &Tree<'a>) -> Result<Option<Tree<'a>>, Unmade> {
+    let form = Type::of(tree).ok_or(Unmade::NoRow)?;
+    let bounds = bounds_of(form).ok_or(Unmade::NoRow)?;
+    let bound = only(bounds).ok_or(Unmade::NoRow)?;
+    bounded(arena, form, TypeBounds::One(bound))
 }
 
 // A path behind `::`.
@@ -120,6 +176,8 @@ pub(crate) fn changed<'a>(
         "shared" => shared(arena, tree),
         "front" => front(arena, tree),
         "last" => last(arena, tree),
+        "without plus" => without_plus(arena, tree),
+        "single" => single(arena, tree),
         "global" => global(arena, tree),
         "doubled" => doubled(arena, tree),
         "led by a keyword" => led(arena, tree),

@@ -19,7 +19,7 @@ use Rattle.syn_item.specs.ItemTraits.{IsAlias, IsTrait}
 use Rattle.syn_item.specs.declared.item.Item.{Item}
 use Rattle.syn_item.specs.declared.item.ItemForm.{ItemForm}
 use Rattle.syn_item.specs.declared.item.ItemForm.TheVariants as forms
-use Rattle.syn_made.specs.MadeAmong.{IsOfForm, before, chosen_form, form_entry, holds, kept_item}
+use Rattle.syn_made.specs.MadeAmong.{IsOfForm, among_by, among_item, before, chosen_form, form_entry, holds, kept_item}
 
 -- where two alternatives read the same, either may be chosen
 either : (b : Bool) (m l : ℕ) (x : Tree) → IsShaped (seconds m (t.First x)) item_form
@@ -127,7 +127,16 @@ kept_shaped a v y i e p q h =
     subst (λ z. IsShaped z (g.ref k.AnItem)) (sym e)
     (refl, (p, ((refl, q), (refl, chosen_shaped i.form i.tree.now h))))
 
-pub ruleset kept_items = (kept_is, kept_attributes, kept_visibility, kept_shaped)
+-- one that is kept is the item among others
+kept_among : (f : ItemForm) (a v x : Tree) → (f ≡ forms.Verbatim → ⊥) → kept_item a v f x ≡ among_by a v f x
+kept_among forms.Verbatim a v x d = absurd (d refl)
+kept_among f a v x d = refl
+
+pub kept_same : (a v y : Tree) (i : Item) → y ≡ kept_item a v i.form i.tree.now → (i.form ≡ forms.Verbatim → ⊥)
+    → y ≡ among_item a v i
+kept_same a v y i e d = e ∙ kept_among i.form a v i.tree.now d
+
+pub ruleset kept_items = (kept_same, kept_is, kept_attributes, kept_visibility, kept_shaped)
 
 -- where nothing stands before an item, that has its shape
 pub no_attributes_shaped : IsShaped (t.Node k.OuterAttributes t.End) (g.ref k.OuterAttributes)

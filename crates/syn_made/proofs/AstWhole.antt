@@ -1,4 +1,5 @@
 -- Types and patterns of their forms have that form, and the shape of their entry where the form has it.
+use Rattle.gram_tree.specs.Forms.{seconds}
 use Rattle.std.specs.Prelude.{◌≡◌, Option, Some, None, refl}
 use Rattle.std.proofs.Common.{◌∙◌, ap, subst, sym}
 use Rattle.syn_ast.specs.Pat.{form_of_pat, pat_tree}
@@ -7,6 +8,7 @@ use Rattle.syn_ast.specs.Types.{form_of_type, type_tree}
 use Rattle.syn_ast.specs.declared.pat.Pat.{Pat}
 use Rattle.syn_ast.specs.declared.patterns.PatOr.{PatOr}
 use Rattle.syn_ast.specs.declared.patterns.RangeBound.{RangeBound}
+use Rattle.syn_ast.specs.declared.types.TypePath.{TypePath}
 use Rattle.syn_ast.specs.declared.types.«Type».{«Type» as Type'}
 use Rattle.syn_ast.specs.declared.pat.Pat.TheVariants as pats
 use Rattle.syn_ast.specs.declared.patterns.RangeBound.TheVariants as bounds
@@ -21,7 +23,7 @@ use Rattle.syn_grammar.specs.Tree.{Tree}
 use Rattle.syn_grammar.specs.Types.{type_entry}
 use Rattle.syn_made.specs.AstWhole.{one_form_of, one_inside, one_pattern_tree, pat_kind, pattern_form_of}
 use Rattle.syn_made.specs.AstWhole.{pattern_tree, range_inside_one, range_kind, several_form_of, several_tree}
-use Rattle.syn_made.specs.AstWhole.{type_inside, type_kind}
+use Rattle.syn_made.specs.AstWhole.{before_type, type_inside, type_kind}
 
 pub type_form : (p : k.Plus) (x : Type') → form_of_type (t.Node (k.AType p) (type_inside x)) ≡ type_tree x
 type_form p (types.Array x) = refl
@@ -36,6 +38,12 @@ type_form p (types.Reference x) = refl
 type_form p (types.Slice x) = refl
 type_form p (types.TraitObject x) = refl
 type_form p (types.Tuple x) = refl
+
+-- what is no path stands behind so many alternatives
+pub inside_before : (x : Type') → ((y : TypePath) → x ≡ types.Path y → ⊥)
+    → seconds (before_type x) (t.First (type_tree x)) ≡ type_inside x
+inside_before (types.Path y) d = absurd (d y refl)
+inside_before x d = refl
 
 inside_shaped : (p : k.Plus) (x : Type') → IsShaped (type_tree x) (g.ref (type_kind p x))
     → IsShaped (type_inside x) (type_entry p)

@@ -1,12 +1,11 @@
 -- What stands in the trees of types and patterns of their forms: each form behind the alternatives before its own.
-use Rattle.std.specs.Prelude.{Option, Some, None}
+use Rattle.std.specs.Prelude.{Option, Some, None, ℕ}
 use Rattle.proc_macro2.specs.declared.delimiter.Delimiter.TheVariants.{Parenthesis}
 use Rattle.gram_tree.specs.Forms.{seconds}
 use Rattle.syn_ast.specs.Leaves.{turns_tree}
 use Rattle.syn_ast.specs.Pat.{alternatives, alternatives_tree, pat_tree, range_form}
 use Rattle.syn_ast.specs.Patterns.{pat_ident, pat_or, pat_reference, pat_rest, pat_slice, pat_wild}
-use Rattle.syn_ast.specs.Types.{type_array, type_fn_ptr, type_impl_trait, type_infer, type_never, type_paren}
-use Rattle.syn_ast.specs.Types.{type_path, type_ptr, type_reference, type_slice, type_trait_object, type_tuple}
+use Rattle.syn_ast.specs.Types.{type_path, type_tree}
 use Rattle.syn_ast.specs.declared.pat.Pat.{Pat}
 use Rattle.syn_ast.specs.declared.patterns.PatOr.{PatOr}
 use Rattle.syn_ast.specs.declared.patterns.RangeBound.{RangeBound}
@@ -19,20 +18,25 @@ use Rattle.syn_grammar.specs.Part.{choice}
 use Rattle.syn_grammar.specs.Tree as t
 use Rattle.syn_grammar.specs.Tree.{Tree}
 
--- a type's form among those of types
+-- how many alternatives stand before the one that reads a type's form
+abbrev pub before_type : Type' → ℕ
+before_type (types.Tuple x) = 0
+before_type (types.Paren x) = 0
+before_type (types.Never x) = 1
+before_type (types.Reference x) = 2
+before_type (types.Ptr x) = 3
+before_type (types.Slice x) = 4
+before_type (types.Array x) = 4
+before_type (types.Infer x) = 5
+before_type (types.TraitObject x) = 6
+before_type (types.ImplTrait x) = 7
+before_type (types.FnPtr x) = 8
+before_type (types.Path x) = 9
+
+-- a type's form among those of types, of which a path is the last
 abbrev pub type_inside : Type' → Tree
-type_inside (types.Tuple x) = t.First (type_tuple x)
-type_inside (types.Paren x) = t.First (type_paren x)
-type_inside (types.Never x) = seconds 1 (t.First (type_never x))
-type_inside (types.Reference x) = seconds 2 (t.First (type_reference x))
-type_inside (types.Ptr x) = seconds 3 (t.First (type_ptr x))
-type_inside (types.Slice x) = seconds 4 (t.First (type_slice x))
-type_inside (types.Array x) = seconds 4 (t.First (type_array x))
-type_inside (types.Infer x) = seconds 5 (t.First (type_infer x))
-type_inside (types.TraitObject x) = seconds 6 (t.First (type_trait_object x))
-type_inside (types.ImplTrait x) = seconds 7 (t.First (type_impl_trait x))
-type_inside (types.FnPtr x) = seconds 8 (t.First (type_fn_ptr x))
 type_inside (types.Path x) = seconds 9 (type_path x)
+type_inside x = seconds (before_type x) (t.First (type_tree x))
 
 -- the kind of a type's form
 abbrev pub type_kind : k.Plus → Type' → k.Kind

@@ -49,6 +49,15 @@ chosen_form f x = seconds (before f x) (t.First x)
 abbrev pub kept_item : Tree → Tree → ItemForm → Tree → Tree
 kept_item a v f x = t.Node k.AnItem (item_inside a v (chosen_form f x))
 
+-- an item among others: kept, of its attributes, its visibility and its form, or its tokens alone
+abbrev pub among_by : Tree → Tree → ItemForm → Tree → Tree
+among_by a v forms.Verbatim x = t.Node k.AnItem (t.Verbatim x)
+among_by a v f x = kept_item a v f x
+
+-- the same, by what the item is
+abbrev pub among_item : Tree → Tree → Item → Tree
+among_item a v i = among_by a v i.form i.tree.now
+
 -- the entry that reads the form; one that is kept as its tokens is of none
 abbrev pub form_entry : ItemForm → Gram
 form_entry forms.Fn = ref (k.AFunction k.InFile)

@@ -1,4 +1,6 @@
 -- Which values of the types of types, bounds, paths and patterns are trees, where their fields may contradict each other.
+use Rattle.gram_table.specs.declared.kind.Plus.{Plus}
+use Rattle.gram_table.specs.declared.kind.Plus.TheVariants as pluses
 use Rattle.std.specs.Prelude.{◌≡◌, Bool, true, false, None, Option, Some}
 use Rattle.syn_ast.specs.Leaves.{list_tree}
 use Rattle.syn_ast.specs.Types.{no_lone}
@@ -15,6 +17,8 @@ use Rattle.syn_ast.specs.declared.paths.PathArguments.{PathArguments}
 use Rattle.syn_ast.specs.declared.paths.PathArguments.TheVariants as arguments
 use Rattle.syn_ast.specs.declared.paths.Segments.{Segments}
 use Rattle.syn_ast.specs.declared.sub.Marked.{Marked}
+use Rattle.syn_ast.specs.declared.types.TypeBounds.{TypeBounds}
+use Rattle.syn_ast.specs.declared.types.TypeBounds.TheVariants as boundses
 use Rattle.syn_ast.specs.declared.types.«Type».{«Type» as Type'}
 use Rattle.syn_ast.specs.declared.types.«Type».TheVariants as types
 use Rattle.syn_grammar.specs.Tree.{Tree}
@@ -24,9 +28,17 @@ use denote.Bor.{Bor}
 abbrev pub IsTuple : Elements → Type 0
 IsTuple l = no_lone (list_tree l) ≡ list_tree l
 
--- a type that is a tuple has such a list
+-- where a + may stand between them, several bounds stand, and elsewhere one
+abbrev pub AreBounds : Plus → TypeBounds → Type 0
+AreBounds pluses.WithPlus (boundses.Several x) = Unit {0}
+AreBounds pluses.WithoutPlus (boundses.One x) = Unit {0}
+AreBounds _ _ = ⊥
+
+-- a type that is a tuple has such a list, and one that is dyn or impl such bounds
 abbrev pub IsWholeType : Type' → Type 0
 IsWholeType (types.Tuple x) = IsTuple x.elems
+IsWholeType (types.TraitObject x) = AreBounds x.plus x.bounds
+IsWholeType (types.ImplTrait x) = AreBounds x.plus x.bounds
 IsWholeType _ = Unit {0}
 
 -- a trait stands behind ? or behind for<'a>, and never behind both

@@ -1,9 +1,17 @@
 -- Which values of the types of expressions and of what is made of them are trees, where their fields may contradict each
 -- other.
-use Rattle.std.specs.Prelude.{Bool, true, false, None, Option, Some}
+use Rattle.gram_tree.specs.Forms.{seconds}
+use Rattle.std.specs.Prelude.{Bool, true, false, None, Option, Some, cond}
 use Rattle.syn_ast.specs.declared.leaf.Mark.{Mark}
 use Rattle.syn_ast.specs.declared.paths.Member.{Member}
 use Rattle.syn_ast.specs.declared.paths.Member.TheVariants as members
+use Rattle.syn_expr.specs.Statements.{stmt_expr, stmt_local, stmt_macro}
+use Rattle.syn_expr.specs.declared.stmt.Stmt.{Stmt}
+use Rattle.syn_expr.specs.declared.stmt.Stmt.TheVariants as stmts
+use Rattle.syn_grammar.specs.Kind as k
+use Rattle.syn_grammar.specs.Name as n
+use Rattle.syn_grammar.specs.Part.{choice, the}
+use Rattle.syn_grammar.specs.Tree as t
 use Rattle.syn_grammar.specs.Tree.{Tree}
 use denote.Bor.{Bor}
 
@@ -17,3 +25,20 @@ abbrev pub IsFieldInit : Member → Option Mark → Option (Bor Tree) → Type 0
 IsFieldInit m (Some c) (Some e) = Unit {0}
 IsFieldInit (members.Named i) None None = Unit {0}
 IsFieldInit _ _ _ = ⊥
+
+-- the form of an item is a macro
+abbrev pub is_macro_form : Tree → Bool
+is_macro_form (t.Node (k.ItemMacro p) x) = true
+is_macro_form _ = false
+
+-- an item is a macro: what was chosen of the part that has its form is one
+abbrev pub is_macro_item : Tree → Bool
+is_macro_item (t.Node i x) = is_macro_form (choice (the n.the_item x))
+is_macro_item _ = false
+
+-- the alternative of a statement: of items a macro is the first, and any other the fourth
+abbrev pub chosen_stmt : Stmt → Tree
+chosen_stmt (stmts.Item x) = cond (is_macro_item x.now) (t.First x.now) (seconds 3 (t.First x.now))
+chosen_stmt (stmts.Macro x) = t.Second (t.First (stmt_macro x))
+chosen_stmt (stmts.Local x) = seconds 2 (t.First (stmt_local x))
+chosen_stmt (stmts.Expr x) = seconds 4 (stmt_expr x)

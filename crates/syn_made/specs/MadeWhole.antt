@@ -1,6 +1,7 @@
 -- Which values of the types are trees, where their fields may contradict each other.
 use Rattle.gram_table.specs.declared.kind.Place.{Place}
 use Rattle.gram_table.specs.declared.kind.Place.TheVariants as places
+use Rattle.rust_leaf.specs.declared.ident.Ident.{Ident}
 use Rattle.std.specs.Prelude.{◌≡◌, None, Option, Some}
 use Rattle.syn_ast.specs.declared.leaf.Mark.{Mark}
 use Rattle.syn_ast.specs.declared.name.Name.{Name}
@@ -10,7 +11,12 @@ use Rattle.syn_grammar.specs.Tree.{Tree}
 use Rattle.syn_item.specs.declared.function.FnArg.{FnArg}
 use Rattle.syn_item.specs.declared.function.FnArg.TheVariants as arguments
 use Rattle.syn_item.specs.declared.macros.ItemMacro.{ItemMacro}
+use Rattle.syn_item.specs.declared.function.Safety.{Safety}
+use Rattle.syn_item.specs.declared.function.Safety.TheVariants as safeties
+use Rattle.syn_item.specs.declared.impls.ImplTrait.{ImplTrait}
 use Rattle.syn_item.specs.declared.part.Braced.{Braced}
+use Rattle.syn_item.specs.declared.traits.TraitForm.{TraitForm}
+use Rattle.syn_item.specs.declared.traits.TraitForm.TheVariants as trait_forms
 use denote.Bor.{Bor}
 
 -- a module has what stands in it, or a semicolon, and never both
@@ -45,3 +51,24 @@ AreThese None a = Unit {0}
 abbrev pub AreOwn : Tree → FnArg → Type 0
 AreOwn a (arguments.Typed x) = AreThese x.attrs a
 AreOwn a _ = Unit {0}
+
+-- safe stands in an extern block alone
+abbrev pub IsSafetyIn : Place → Safety → Type 0
+IsSafetyIn places.InForeign s = Unit {0}
+IsSafetyIn p (safeties.Safe i) = ⊥
+IsSafetyIn p _ = Unit {0}
+
+-- behind ! a trait stands
+abbrev pub IsPolarityOf : Option ImplTrait → Option Mark → Type 0
+IsPolarityOf None (Some m) = ⊥
+IsPolarityOf _ _ = Unit {0}
+
+-- an alias of traits is neither unsafe nor auto
+abbrev pub IsAliasHead : Option (Bor Ident) → Option (Bor Ident) → Type 0
+IsAliasHead None None = Unit {0}
+IsAliasHead _ _ = ⊥
+
+-- of a trait or an alias of traits an alias has such words
+abbrev pub IsTraitHead : TraitForm → Type 0
+IsTraitHead (trait_forms.Trait x) = Unit {0}
+IsTraitHead (trait_forms.Alias x) = IsAliasHead x.unsafety x.auto_token

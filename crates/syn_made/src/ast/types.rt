@@ -1,18 +1,18 @@
 //! Types as trees.
 
-ghost use Rattle.std.specs.Prelude.{◌≡◌};
+ghost use Rattle.std.specs.Prelude.{◌≡◌, ◌↔◌, IsTrue};
 ghost use Rattle.syn_ast.specs.Types.{abi, any_path, argument_name_tree, bound_lifetimes, fn_ptr_arg};
 ghost use Rattle.syn_ast.specs.Types.{pointer_mutability, return_type, type_array, type_bounds, type_bracketed};
 ghost use Rattle.syn_ast.specs.Types.{type_fn_ptr, type_impl_trait, type_infer, type_never, type_paren};
 ghost use Rattle.syn_ast.specs.Types.{type_parenthesized, type_path, type_ptr, type_reference, type_slice};
 ghost use Rattle.syn_ast.specs.Types.{type_trait_object, type_tree, type_tuple};
-ghost use Rattle.syn_made.specs.MadeAst.{IsTuple, IsWholeType};
+ghost use Rattle.syn_made.specs.MadeAst.{AreBounds, IsTuple, IsWholeType};
 
 use crate::forms::{Called, First, Grouped, Node, Second};
 use crate::lists::Only;
 use crate::to_tree::ToTree;
 use crate::try_to_tree::TryToTree;
-use gram_table::kind::Kind;
+use gram_table::kind::{Kind, Plus};
 use gram_table::part::Part;
 use gram_tree::arena::Arena;
 use gram_tree::tree::Tree;
@@ -149,21 +149,39 @@ impl<'t, 'a> ToTree<'a> for TypeParenthesized<'t, 'a> {
     }
 }
 
-impl<'t, 'a> ToTree<'a> for TypeTraitObject<'t, 'a> {
-    ghost tree = { type_trait_object };
-
-    fn to_tree(&self, arena: &'a Arena) -> Result<Tree<'a>, AllocError> {
-        let inside = (self.dyn_token, self.bounds);
-        Node(Kind::DynType(self.plus), inside).to_tree(arena)
+// Whether bounds are several where a `+` may stand between them, and one elsewhere.
+fn are_bounds(plus: Plus, bounds: TypeBounds<'_, '_>) -> bool
+    ensures { IsTrue result ↔ AreBounds plus bounds.entry }
+{
+    match (plus, bounds) {
+        (Plus::WithPlus, TypeBounds::Several(_)) => true,
+        (Plus::WithPlus, TypeBounds::One(_)) => false,
+        (Plus::WithoutPlus, TypeBounds::One(_)) => true,
+        (Plus::WithoutPlus, TypeBounds::Several(_)) => false,
     }
 }
 
-impl<'t, 'a> ToTree<'a> for TypeImplTrait<'t, 'a> {
-    ghost tree = { type_impl_trait };
+impl<'t, 'a> TryToTree<'a> for TypeTraitObject<'t, 'a> {
+    ghost says = { λ x tree. AreBounds x.plus x.bounds × (tree ≡ type_trait_object x) };
 
-    fn to_tree(&self, arena: &'a Arena) -> Result<Tree<'a>, AllocError> {
-        let inside = (self.impl_token, self.bounds);
-        Node(Kind::ImplType(self.plus), inside).to_tree(arena)
+    fn try_to_tree(&self, arena: &'a Arena) -> Result<Option<Tree<'a>>, AllocError> {
+        if are_bounds(self.plus, self.bounds) {
+            let inside = (self.dyn_token, self.bounds);
+            return Ok(Some(Node(Kind::DynType(self.plus), inside).to_tree(arena)?));
+        }
+        Ok(None)
+    }
+}
+
+impl<'t, 'a> TryToTree<'a> for TypeImplTrait<'t, 'a> {
+    ghost says = { λ x tree. AreBounds x.plus x.bounds × (tree ≡ type_impl_trait x) };
+
+    fn try_to_tree(&self, arena: &'a Arena) -> Result<Option<Tree<'a>>, AllocError> {
+        if are_bounds(self.plus, self.bounds) {
+            let inside = (self.impl_token, self.bounds);
+            return Ok(Some(Node(Kind::ImplType(self.plus), inside).to_tree(arena)?));
+        }
+        Ok(None)
     }
 }
 
@@ -236,7 +254,7 @@ impl<'t, 'a> TryToTree<'a> for Type<'t, 'a> {
         match *self {
             Type::Array(found) => Ok(Some(found.to_tree(arena)?)),
             Type::FnPtr(found) => Ok(Some(found.to_tree(arena)?)),
-            Type::ImplTrait(found) => Ok(Some(found.to_tree(arena)?)),
+            Type::ImplTrait(found) => found.try_to_tree(arena),
             Type::Infer(found) => Ok(Some(found.to_tree(arena)?)),
             Type::Never(found) => Ok(Some(found.to_tree(arena)?)),
             Type::Paren(found) => Ok(Some(found.to_tree(arena)?)),
@@ -244,11 +262,8 @@ impl<'t, 'a> TryToTree<'a> for Type<'t, 'a> {
             Type::Ptr(found) => Ok(Some(found.to_tree(arena)?)),
             Type::Reference(found) => Ok(Some(found.to_tree(arena)?)),
             Type::Slice(found) => Ok(Some(found.to_tree(arena)?)),
-            Type::TraitObject(found) => Ok(Some(found.to_tree(arena)?)),
-            Type::Tuple(found) => match found.try_to_tree(arena)? {
-                Some(tree) => Ok(Some(tree)),
-                None => Ok(None),
-            },
+            Type::TraitObject(found) => found.try_to_tree(arena),
+            Type::Tuple(found) => found.try_to_tree(arena),
         }
     }
 }

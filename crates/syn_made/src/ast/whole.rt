@@ -1,6 +1,7 @@
 //! Types and patterns of their forms, for where one stands.
 
 ghost use Rattle.gram_table.specs.Kinds.{plus_of};
+ghost use Rattle.gram_tree.specs.Forms.{seconds};
 ghost use Rattle.std.specs.Prelude.{◌≡◌, IfOk, IfSome, MatchOption};
 ghost use Rattle.syn_ast.specs.Pat.{form_of_pat, pat_tree, range_form};
 ghost use Rattle.syn_ast.specs.Paths.{path};
@@ -11,7 +12,7 @@ ghost use Rattle.syn_grammar.specs.Kind as k;
 ghost use Rattle.syn_grammar.specs.Tree as t;
 ghost use Rattle.syn_made.specs.AstWhole.{one_form_of, one_inside, one_pattern_tree, pat_kind, pattern_form_of};
 ghost use Rattle.syn_made.specs.AstWhole.{pattern_tree, range_inside_one, several_form_of, several_tree, type_inside};
-ghost use Rattle.syn_made.specs.AstWhole.{in_parens, type_kind};
+ghost use Rattle.syn_made.specs.AstWhole.{before_type, in_parens, type_kind};
 ghost use Rattle.syn_made.specs.MadeAst.{IsRange, IsWholePat, IsWholeType};
 
 use crate::forms::{First, Grouped, Node, Second, Seconds};
@@ -31,32 +32,41 @@ use syn_ast::paths::Path;
 use syn_ast::patterns::{PatOr, RangeBound};
 use syn_ast::types::Type;
 
+// How many alternatives stand before the one that reads a type's form.
+fn before_type(form: &Type<'_, '_>) -> usize
+    ensures { result ≡ before_type form.now }
+{
+    match form {
+        Type::Tuple(_) | Type::Paren(_) => 0,
+        Type::Never(_) => 1,
+        Type::Reference(_) => 2,
+        Type::Ptr(_) => 3,
+        Type::Slice(_) | Type::Array(_) => 4,
+        Type::Infer(_) => 5,
+        Type::TraitObject(_) => 6,
+        Type::ImplTrait(_) => 7,
+        Type::FnPtr(_) => 8,
+        Type::Path(_) => 9,
+    }
+}
+
 // A type's form, among those of types, if it is one.
+#[tactic(auto, using(crate::proofs::AstWhole::inside_before))]
 fn type_inside<'a>(arena: &'a Arena, form: &Type<'_, 'a>) -> Result<Option<Tree<'a>>, AllocError>
     ensures { IfOk result (λ o. MatchOption o (IsWholeType form.now → ⊥)
         (λ x. IsWholeType form.now × (x ≡ type_inside form.now))) }
 {
-    match *form {
-        Type::Tuple(found) => match found.try_to_tree(arena)? {
-            Some(tree) => Ok(Some(First(&tree).to_tree(arena)?)),
-            None => Ok(None),
-        },
-        Type::Paren(found) => Ok(Some(First(found).to_tree(arena)?)),
-        Type::Never(found) => Ok(Some(Seconds(1, First(found)).to_tree(arena)?)),
-        Type::Reference(found) => Ok(Some(Seconds(2, First(found)).to_tree(arena)?)),
-        Type::Ptr(found) => Ok(Some(Seconds(3, First(found)).to_tree(arena)?)),
-        Type::Slice(found) => Ok(Some(Seconds(4, First(found)).to_tree(arena)?)),
-        Type::Array(found) => Ok(Some(Seconds(4, First(found)).to_tree(arena)?)),
-        Type::Infer(found) => Ok(Some(Seconds(5, First(found)).to_tree(arena)?)),
-        Type::TraitObject(found) => Ok(Some(Seconds(6, First(found)).to_tree(arena)?)),
-        Type::ImplTrait(found) => Ok(Some(Seconds(7, First(found)).to_tree(arena)?)),
-        Type::FnPtr(found) => Ok(Some(Seconds(8, First(found)).to_tree(arena)?)),
-        Type::Path(found) => Ok(Some(Seconds(9, found).to_tree(arena)?)),
+    let Some(tree) = form.try_to_tree(arena)? else {
+        return Ok(None);
+    };
+    match form {
+        Type::Path(_) => Ok(Some(Seconds(9, &tree).to_tree(arena)?)),
+        _ => Ok(Some(Seconds(before_type(form), First(&tree)).to_tree(arena)?)),
     }
 }
 
-/// A type of its form, as a tree of the kind `AType`, for where a type stands; `None`, exactly where it is a tuple of one
-/// element without a comma.
+/// A type of its form, as a tree of the kind `AType`, for where a type stands; `None`, exactly where it is no tree: a tuple
+/// of one element without a comma, or `dyn` or `impl` with several bounds where one may stand, or the other way.
 ///
 /// # Errors
 ///
@@ -91,6 +101,8 @@ pub fn path_type<'a>(
     plus: Plus,
     found: &Path<'_, 'a>,
 ) -> Result<Tree<'a>, AllocError>
+    ensures same { IfOk result (λ x. x ≡ t.Node (k.AType (plus_of plus)) (seconds 9 (t.Node (k.AnyPath k.AtType)
+        (t.Second (path found.now))))) }
     ensures form { IfOk result (λ x. form_of_type x ≡ t.Node (k.AnyPath k.AtType) (t.Second (path found.now))) }
 {
     let form = Node(Kind::AnyPath(Style::AtType), Second(*found));

@@ -1,16 +1,20 @@
 //! Expressions whose operands may be missing.
 
+ghost use Rattle.std.specs.Prelude.{◌≡◌, ◌↔◌, IsTrue};
 ghost use Rattle.syn_expr.specs.ExprJumps.{expr_break, expr_range, expr_return, expr_yield};
+ghost use Rattle.syn_made.specs.MadeAst.{IsRangeEnd};
 
 use crate::expr::forms::{AnyForm, Jump};
 use crate::expr::ops::{limits_kind, limits_mark};
 use crate::forms::{Called, First, Second};
 use crate::to_tree::ToTree;
+use crate::try_to_tree::TryToTree;
 use gram_table::kind::Kind;
 use gram_table::part::Part;
 use gram_tree::arena::Arena;
 use gram_tree::tree::Tree;
 use std::alloc::AllocError;
+use syn_ast::patterns::RangeLimits;
 use syn_expr::expr::jumps::{ExprBreak, ExprRange, ExprReturn, ExprYield};
 
 impl<'t, 'a> ToTree<'a> for ExprBreak<'t, 'a> {
@@ -44,11 +48,26 @@ impl<'t, 'a> ToTree<'a> for ExprYield<'t, 'a> {
     }
 }
 
-impl<'t, 'a> ToTree<'a> for ExprRange<'t, 'a> {
-    ghost tree = { expr_range };
+// Whether a range may end there: behind `..=` an end stands.
+fn is_range_end(limits: RangeLimits, end: Option<&Tree<'_>>) -> bool
+    ensures { IsTrue result ↔ IsRangeEnd limits end.entry }
+{
+    match (limits, end) {
+        (RangeLimits::HalfOpen(_), _) => true,
+        (RangeLimits::Closed(_), Some(_)) => true,
+        (RangeLimits::Closed(_), None) => false,
+    }
+}
 
-    fn to_tree(&self, arena: &'a Arena) -> Result<Tree<'a>, AllocError> {
-        let kind = limits_kind(self.limits);
-        AnyForm(self.start, kind, limits_mark(self.limits), self.end).to_tree(arena)
+impl<'t, 'a> TryToTree<'a> for ExprRange<'t, 'a> {
+    ghost says = { λ x tree. IsRangeEnd x.limits x.end × (tree ≡ expr_range x) };
+
+    fn try_to_tree(&self, arena: &'a Arena) -> Result<Option<Tree<'a>>, AllocError> {
+        if is_range_end(self.limits, self.end) {
+            let kind = limits_kind(self.limits);
+            let form = AnyForm(self.start, kind, limits_mark(self.limits), self.end);
+            return Ok(Some(form.to_tree(arena)?));
+        }
+        Ok(None)
     }
 }

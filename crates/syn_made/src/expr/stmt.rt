@@ -6,6 +6,7 @@ ghost use Rattle.syn_expr.specs.Statements.{IsAlternative, IsStmt, block_stmt, l
 ghost use Rattle.syn_expr.specs.Statements.{statements, stmt_expr, stmt_local, stmt_macro};
 ghost use Rattle.syn_grammar.specs.Kind as k;
 ghost use Rattle.syn_grammar.specs.Tree as t;
+ghost use Rattle.syn_made.specs.MadeExpr.{chosen_stmt, is_macro_form, is_macro_item};
 
 use crate::expr::forms::Nth;
 use crate::forms::{Called, First, Grouped, Node, Second};
@@ -106,20 +107,37 @@ impl<'t, 'a> ToTree<'a> for StmtExpr<'t, 'a> {
     }
 }
 
+// Whether the form of an item is a macro.
+fn is_macro_form(form: &Tree<'_>) -> bool
+    ensures { result ≡ is_macro_form form.now }
+{
+    match form.node() {
+        Some((kind, _)) => match kind {
+            Kind::ItemMacro(_) => true,
+            _ => false,
+        },
+        None => false,
+    }
+}
+
 // Whether an item is a macro. Of a statement's alternatives that is the first, and the other items are the fourth.
-fn is_macro(item: &Tree<'_>) -> bool {
+#[tactic(auto, using(crate::proofs::StmtForms::macro_items))]
+fn is_macro(item: &Tree<'_>) -> bool
+    ensures { result ≡ is_macro_item item.now }
+{
     let Some((_, inside)) = item.node() else {
         return false;
     };
-    let Some(form) = inside.the(Part::Item) else {
-        return false;
-    };
-    matches!(form.choice().node(), Some((Kind::ItemMacro(_), _)))
+    match inside.the(Part::Item) {
+        Some(form) => is_macro_form(form.choice()),
+        None => false,
+    }
 }
 
 // Of a statement the alternative that it is.
 fn alternative<'a>(arena: &'a Arena, stmt: &Stmt<'_, 'a>) -> Result<Tree<'a>, AllocError>
-    ensures { IfOk result (λ x. IsAlternative x stmt.now) }
+    ensures same { IfOk result (λ x. x ≡ chosen_stmt stmt.now) }
+    ensures says { IfOk result (λ x. IsAlternative x stmt.now) }
 {
     match stmt {
         Stmt::Item(item) if is_macro(item) => First(*item).to_tree(arena),
@@ -136,7 +154,8 @@ fn alternative<'a>(arena: &'a Arena, stmt: &Stmt<'_, 'a>) -> Result<Tree<'a>, Al
 ///
 /// Where there is no memory for it.
 pub fn statement<'a>(arena: &'a Arena, stmt: &Stmt<'_, 'a>) -> Result<Tree<'a>, AllocError>
-    ensures { IfOk result (λ x. IsStmt x stmt.now) }
+    ensures same { IfOk result (λ x. x ≡ t.Node k.AStatement (chosen_stmt stmt.now)) }
+    ensures says { IfOk result (λ x. IsStmt x stmt.now) }
 {
     let inside = alternative(arena, stmt)?;
     Node(Kind::AStatement, &inside).to_tree(arena)

@@ -2,7 +2,7 @@
 
 ghost use Rattle.gram_table.specs.Parts.{part_of};
 ghost use Rattle.gram_tree.specs.Forms.{turns as in_turn};
-ghost use Rattle.syn_made.specs.MadeAmong.{IsOfForm, before, form_entry, holds, kept_item};
+ghost use Rattle.syn_made.specs.MadeAmong.{IsOfForm, among_item, before, form_entry, holds, kept_item};
 ghost use Rattle.syn_made.specs.MadeMembers.{foreign_inside, member_inside};
 ghost use Rattle.std.specs.Prelude.{◌≡◌, IfOk, cond};
 ghost use Rattle.syn_ast.specs.Shape.{IsShaped};
@@ -118,6 +118,7 @@ pub fn item<'a>(
     vis: &Tree<'a>,
     item: &Item<'_, 'a>,
 ) -> Result<Tree<'a>, AllocError>
+    ensures same { IfOk result (λ x. x ≡ among_item attrs.now vis.now item.now) }
     ensures says { IfOk result (λ x. IsOfForm item.now → Is x item.now) }
     ensures parts { IfOk result (λ x. HasForm item.now.form item.now.tree.now → (attributes_of x ≡ attrs.now)
         × (visibility_of x ≡ vis.now)) }
@@ -139,6 +140,8 @@ pub fn item<'a>(
 /// Where there is no memory for it.
 #[tactic(auto, using(crate::proofs::AmongForms::plain_shaped))]
 pub fn plain_item<'a>(arena: &'a Arena, item: &Item<'_, 'a>) -> Result<Tree<'a>, AllocError>
+    ensures same { IfOk result (λ x. x ≡ among_item (t.Node k.OuterAttributes t.End) (t.Node k.Visibility (t.Second
+        t.Nil)) item.now) }
     ensures says { IfOk result (λ x. IsOfForm item.now → Is x item.now) }
     ensures parts { IfOk result (λ x. HasForm item.now.form item.now.tree.now → (attributes_of x
         ≡ t.Node k.OuterAttributes t.End) × (visibility_of x ≡ t.Node k.Visibility (t.Second t.Nil))) }

@@ -1,7 +1,7 @@
 //! What is derived for: structs, enums and unions, with their attributes and their visibility.
 
-ghost use Rattle.syn_made.specs.MadeAmong.{data_item_form};
-ghost use Rattle.std.specs.Prelude.{◌≡◌, IfOk, MatchOption};
+ghost use Rattle.syn_made.specs.MadeAmong.{data_item_form, kept_item};
+ghost use Rattle.std.specs.Prelude.{◌≡◌, IfOk, IfSome, MatchOption};
 ghost use Rattle.syn_data.specs.Derive.{IsEnded, IsItemOf, IsWhole, chosen_data, data_form, derive_input};
 ghost use Rattle.syn_data.specs.Derive.{item_tree};
 
@@ -125,8 +125,10 @@ pub fn item<'a>(
     arena: &'a Arena,
     input: &DeriveInput<'_, 'a>,
 ) -> Result<Option<Tree<'a>>, AllocError>
-    ensures { IfOk result (λ o. MatchOption o (IsEnded input.now.«data» → ⊥)
+    ensures says { IfOk result (λ o. MatchOption o (IsEnded input.now.«data» → ⊥)
         (λ x. IsEnded input.now.«data» × IsItemOf input.now x)) }
+    ensures same { IfOk result (λ o. IfSome o (λ x. x ≡ kept_item input.now.attrs.now input.now.vis.now
+        (data_item_form input.now.«data») (data_form input.now))) }
 {
     let Some(form) = form(arena, input)? else {
         return Ok(None);

@@ -3,13 +3,13 @@
 ghost use Rattle.std.specs.Prelude.{◌≡◌, ◌↔◌, IsTrue};
 ghost use Rattle.syn_item.specs.ItemFunctions.{IsItemFn, IsReceiver, fn_arg_tree, one_parameter, parameter, parameters};
 ghost use Rattle.syn_item.specs.ItemFunctions.{safety_is, signature, variadic_tree};
-ghost use Rattle.syn_made.specs.MadeWhole.{AreOwn};
+ghost use Rattle.syn_made.specs.MadeWhole.{AreOwn, IsSafetyIn};
 
 use crate::forms::{Called, First, Grouped, Node, Second};
 use crate::to_tree::ToTree;
 use crate::try_to_tree::TryToTree;
 use gram_equal::tree::equal;
-use gram_table::kind::Kind;
+use gram_table::kind::{Kind, Place};
 use gram_table::part::Part;
 use gram_tree::arena::Arena;
 use gram_tree::tree::Tree;
@@ -129,17 +129,32 @@ impl<'a> ToTree<'a> for Safety<'a> {
     }
 }
 
-impl<'t, 'a> ToTree<'a> for Signature<'t, 'a> {
-    ghost tree = { signature };
+// Whether a function of that safety may stand there: one that is `safe` in an extern block alone.
+fn is_safety_in(place: Place, safety: Safety<'_>) -> bool
+    ensures { IsTrue result ↔ IsSafetyIn place safety.entry }
+{
+    match (place, safety) {
+        (Place::InForeign, _) => true,
+        (_, Safety::Safe(_)) => false,
+        (_, Safety::Unsafe(_)) => true,
+        (_, Safety::Default) => true,
+    }
+}
 
-    fn to_tree(&self, arena: &'a Arena) -> Result<Tree<'a>, AllocError> {
+impl<'t, 'a> TryToTree<'a> for Signature<'t, 'a> {
+    ghost says = { λ x tree. IsSafetyIn x.place x.safety × (tree ≡ signature x) };
+
+    fn try_to_tree(&self, arena: &'a Arena) -> Result<Option<Tree<'a>>, AllocError> {
+        if !is_safety_in(self.place, self.safety) {
+            return Ok(None);
+        }
         let ident = Called(Part::Name, self.ident);
         let generics = Called(Part::Generics, self.generics);
         let where_clause = Called(Part::Where, self.where_clause);
         let types = (self.inputs, self.output, where_clause);
         let named = (self.abi, self.fn_token, ident, (generics, types));
         let inside = (self.constness, self.asyncness, self.safety, named);
-        Node(Kind::Signature(self.place), inside).to_tree(arena)
+        Ok(Some(Node(Kind::Signature(self.place), inside).to_tree(arena)?))
     }
 }
 

@@ -1,18 +1,21 @@
 //! Impls.
 
-ghost use Rattle.std.specs.Prelude.{◌≡◌, IfOk};
+ghost use Rattle.std.specs.Prelude.{◌≡◌, ◌↔◌, IfOk, IsTrue};
 ghost use Rattle.syn_grammar.specs.Tree as t;
 ghost use Rattle.syn_item.specs.ItemImpls.{impl_body_tree, impl_items, item_impl};
+ghost use Rattle.syn_made.specs.MadeWhole.{IsPolarityOf};
 
 use crate::forms::{Called, First, Grouped, Node, Second};
 use crate::item::part::MaybeCalled;
 use crate::to_tree::ToTree;
+use crate::try_to_tree::TryToTree;
 use gram_table::kind::Kind;
 use gram_table::part::Part;
 use gram_tree::arena::Arena;
 use gram_tree::tree::Tree;
 use std::alloc::AllocError;
-use syn_item::impls::{ImplItems, ItemImpl};
+use syn_ast::leaf::Mark;
+use syn_item::impls::{ImplItems, ImplTrait, ItemImpl};
 
 // The trait and the type, or the type alone; a where clause and the braces.
 fn impl_body<'a>(arena: &'a Arena, item: &ItemImpl<'_, 'a>) -> Result<Tree<'a>, AllocError>
@@ -34,19 +37,40 @@ fn impl_body<'a>(arena: &'a Arena, item: &ItemImpl<'_, 'a>) -> Result<Tree<'a>, 
     }
 }
 
-impl<'t, 'a> ToTree<'a> for ItemImpl<'t, 'a> {
-    ghost tree = { item_impl };
+// An impl, as a node of its kind.
+fn impl_node<'a>(arena: &'a Arena, item: &ItemImpl<'_, 'a>) -> Result<Tree<'a>, AllocError>
+    ensures { IfOk result (λ x. x ≡ item_impl item.now) }
+{
+    let body = impl_body(arena, item)?;
+    let defaultness = MaybeCalled(Part::Default, item.modifiers.defaultness);
+    let constness = MaybeCalled(Part::Const, item.constness);
+    let unsafety = MaybeCalled(Part::Safety, item.unsafety);
+    let generics = Called(Part::Generics, item.generics);
+    let polarity = MaybeCalled(Part::Polarity, item.modifiers.polarity);
+    let named = (item.impl_token, generics, polarity, &body);
+    let inside = (defaultness, constness, unsafety, named);
+    Node(Kind::AnImpl, First(inside)).to_tree(arena)
+}
 
-    fn to_tree(&self, arena: &'a Arena) -> Result<Tree<'a>, AllocError> {
-        let body = impl_body(arena, self)?;
-        let defaultness = MaybeCalled(Part::Default, self.modifiers.defaultness);
-        let constness = MaybeCalled(Part::Const, self.constness);
-        let unsafety = MaybeCalled(Part::Safety, self.unsafety);
-        let generics = Called(Part::Generics, self.generics);
-        let polarity = MaybeCalled(Part::Polarity, self.modifiers.polarity);
-        let named = (self.impl_token, generics, polarity, &body);
-        let inside = (defaultness, constness, unsafety, named);
-        Node(Kind::AnImpl, First(inside)).to_tree(arena)
+// Whether `!` may stand there, if it does: before a trait alone.
+fn is_polarity_of(of: Option<ImplTrait<'_, '_>>, polarity: Option<Mark>) -> bool
+    ensures { IsTrue result ↔ IsPolarityOf of.entry polarity }
+{
+    match (of, polarity) {
+        (Some(_), _) => true,
+        (None, None) => true,
+        (None, Some(_)) => false,
+    }
+}
+
+impl<'t, 'a> TryToTree<'a> for ItemImpl<'t, 'a> {
+    ghost says = { λ x tree. IsPolarityOf x.trait_ x.modifiers.polarity × (tree ≡ item_impl x) };
+
+    fn try_to_tree(&self, arena: &'a Arena) -> Result<Option<Tree<'a>>, AllocError> {
+        if is_polarity_of(self.trait_, self.modifiers.polarity) {
+            return Ok(Some(impl_node(arena, self)?));
+        }
+        Ok(None)
     }
 }
 

@@ -1,14 +1,18 @@
 //! Traits and aliases of traits.
 
+ghost use Rattle.std.specs.Prelude.{◌≡◌, ◌↔◌, IsTrue};
 ghost use Rattle.syn_item.specs.ItemTraits.{item_trait, item_trait_alias, trait_form_tree, trait_items};
+ghost use Rattle.syn_made.specs.MadeWhole.{IsAliasHead, IsTraitHead};
 
 use crate::forms::{Called, First, Grouped, Node, Second};
 use crate::item::part::MaybeCalled;
 use crate::to_tree::ToTree;
+use crate::try_to_tree::TryToTree;
 use gram_table::kind::Kind;
 use gram_table::part::Part;
 use gram_tree::arena::Arena;
 use gram_tree::tree::Tree;
+use rust_leaf::ident::Ident;
 use std::alloc::AllocError;
 use syn_item::traits::{ItemTrait, ItemTraitAlias, TraitForm, TraitItems};
 
@@ -31,10 +35,24 @@ impl<'t, 'a> ToTree<'a> for ItemTrait<'t, 'a> {
     }
 }
 
-impl<'t, 'a> ToTree<'a> for ItemTraitAlias<'t, 'a> {
-    ghost tree = { item_trait_alias };
+// Whether an alias may have these words: it is neither `unsafe` nor `auto`.
+fn is_alias_head(unsafety: Option<&Ident>, auto_token: Option<&Ident>) -> bool
+    ensures { IsTrue result ↔ IsAliasHead unsafety.entry auto_token.entry }
+{
+    match (unsafety, auto_token) {
+        (None, None) => true,
+        (None, Some(_)) => false,
+        (Some(_), _) => false,
+    }
+}
 
-    fn to_tree(&self, arena: &'a Arena) -> Result<Tree<'a>, AllocError> {
+impl<'t, 'a> TryToTree<'a> for ItemTraitAlias<'t, 'a> {
+    ghost says = { λ x tree. IsAliasHead x.unsafety x.auto_token × (tree ≡ item_trait_alias x) };
+
+    fn try_to_tree(&self, arena: &'a Arena) -> Result<Option<Tree<'a>>, AllocError> {
+        if !is_alias_head(self.unsafety, self.auto_token) {
+            return Ok(None);
+        }
         let unsafety = MaybeCalled(Part::Safety, self.unsafety);
         let auto_token = MaybeCalled(Part::Auto, self.auto_token);
         let equals = Called(Part::Equals, self.eq_token);
@@ -46,17 +64,21 @@ impl<'t, 'a> ToTree<'a> for ItemTraitAlias<'t, 'a> {
             end,
         );
         let inside = (unsafety, auto_token, self.trait_token, named);
-        Node(Kind::ATrait, First(inside)).to_tree(arena)
+        Ok(Some(Node(Kind::ATrait, First(inside)).to_tree(arena)?))
     }
 }
 
-impl<'t, 'a> ToTree<'a> for TraitForm<'t, 'a> {
-    ghost tree = { trait_form_tree };
+impl<'t, 'a> TryToTree<'a> for TraitForm<'t, 'a> {
+    ghost says = { λ x tree. IsTraitHead x × (tree ≡ trait_form_tree x) };
 
-    fn to_tree(&self, arena: &'a Arena) -> Result<Tree<'a>, AllocError> {
+    #[tactic(auto, using(crate::proofs::TraitForms::no_alias))]
+    fn try_to_tree(&self, arena: &'a Arena) -> Result<Option<Tree<'a>>, AllocError> {
         match *self {
-            TraitForm::Trait(item) => item.to_tree(arena),
-            TraitForm::Alias(item) => item.to_tree(arena),
+            TraitForm::Trait(item) => Ok(Some(item.to_tree(arena)?)),
+            TraitForm::Alias(item) => match item.try_to_tree(arena)? {
+                Some(tree) => Ok(Some(tree)),
+                None => Ok(None),
+            },
         }
     }
 }

@@ -1,0 +1,58 @@
+-- Whether an item is a macro, by its form.
+use Rattle.gram_table.specs.Kinds.{kind_of}
+use Rattle.gram_table.specs.declared.kind.Kind as g
+use Rattle.gram_table.specs.declared.kind.Kind.TheVariants as kinds
+use Rattle.gram_table.specs.declared.kind.Place.{Place}
+use Rattle.gram_tree.specs.Shapes.{node_of}
+use Rattle.std.proofs.Common.{ap, ◌∙◌, sym}
+use Rattle.std.specs.Prelude.{◌≡◌, Option, None, Some, false, refl}
+use Rattle.syn_grammar.specs.Kind.{Kind}
+use Rattle.syn_grammar.specs.Name as n
+use Rattle.syn_grammar.specs.Part.{choice, found, or_nil, the}
+use Rattle.syn_grammar.specs.Tree as t
+use Rattle.syn_grammar.specs.Tree.{Tree}
+use Rattle.syn_made.specs.MadeExpr.{is_macro_form, is_macro_item}
+
+same_pair : {A B : Type 0} (a c : A) (b d : B) → ◌≡◌ {A = Option (A × B)} (Some (a, b)) (Some (c, d))
+    → (a ≡ c) × (b ≡ d)
+same_pair {A = A} {B = B} a c b d e =
+    let p : A × B = (a, b) in
+    let r : A × B = (c, d) in
+    let q : p ≡ r = cc in
+    (ap (λ (v : A × B). v.0) q, ap (λ (v : A × B). v.1) q)
+
+-- which node it is
+node_is : (x : Tree) (i : Kind) (y : Tree) → Some (i, y) ≡ node_of x → x ≡ t.Node i y
+node_is (t.Node j z) i y e = let s = same_pair i j y z e in cc (s.0, s.1)
+node_is x i y e = cc
+
+-- a node of another kind is none
+other_form : (i : g.Kind) (x : Tree) → ((p : Place) → i ≡ kinds.ItemMacro p → ⊥)
+    → false ≡ is_macro_form (t.Node (kind_of i) x)
+other_form (kinds.ItemMacro p) x h = absurd (h p refl)
+other_form i x h = refl
+
+other_form_at : (y : Tree) (i : g.Kind) (x : Tree) → Some (kind_of i, x) ≡ node_of y
+    → ((p : Place) → i ≡ kinds.ItemMacro p → ⊥) → false ≡ is_macro_form y
+other_form_at y i x e h = other_form i x h ∙ ap is_macro_form (sym (node_is y (kind_of i) x e))
+
+-- what is no node is no item, nor is a node without the form of one
+pub no_node : (x : Tree) → None ≡ node_of x → false ≡ is_macro_item x
+no_node (t.Node i y) e = cc
+no_node x e = refl
+
+in_node : (x : Tree) (i : Kind) (y : Tree) → Some (i, y) ≡ node_of x
+    → is_macro_form (choice (the n.the_item y)) ≡ is_macro_item x
+in_node x i y e = ap is_macro_item (sym (node_is x i y e))
+
+pub no_form : (x : Tree) (i : Kind) (y : Tree) → Some (i, y) ≡ node_of x → None ≡ found n.the_item y
+    → false ≡ is_macro_item x
+no_form x i y e d = ap (λ o. is_macro_form (choice (or_nil o))) d ∙ in_node x i y e
+
+-- the form of an item says whether that is a macro
+pub some_form : (x : Tree) (i : Kind) (y z w : Tree) → Some (i, y) ≡ node_of x → Some z ≡ found n.the_item y
+    → w ≡ choice z → is_macro_form w ≡ is_macro_item x
+some_form x i y z w e d c =
+    (ap is_macro_form c ∙ ap (λ o. is_macro_form (choice (or_nil o))) d) ∙ in_node x i y e
+
+pub ruleset macro_items = (no_node, no_form, some_form)
