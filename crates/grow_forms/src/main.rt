@@ -3,13 +3,15 @@
 //!
 //! - `texts`: the texts, with the type that each is read as.
 //! - `asked`: the three ways in which it is read, which have to agree.
-//! - `streams`: forms that are read from a stream; `whole`: texts that are read in one call.
+//! - `streams`: forms that are read from a stream; `words`: words that a reader reads where they stand; `whole`: texts that
+//!   are read in one call.
 #![tactic(auto)]
 
 mod asked;
 mod streams;
 mod texts;
 mod whole;
+mod words;
 
 use rows::Page;
 use std::alloc::Global;
@@ -22,6 +24,7 @@ fn answered(alloc: Global) -> Result<String, Stop> {
     let mut page = Page::new(alloc);
     texts::put_answers(&mut page)?;
     streams::put_answers(&mut page)?;
+    words::put_answers(&mut page)?;
     whole::put_answers(&mut page)?;
     match page.into_text() {
         Ok(text) => Ok(text),

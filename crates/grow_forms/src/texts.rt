@@ -4,11 +4,12 @@ use crate::asked::{is_read, is_read_single, lexed};
 use rows::Page;
 use stops::Stop;
 use syn::{
-    Arena, ExprAssign, ExprBinary, ExprCall, ExprField, ExprIf, ExprLit, ExprMethodCall, ExprParen,
-    ExprPath, ExprRange, ExprRepeat, ExprTuple, ItemConst, ItemEnum, ItemExternCrate, ItemFn,
-    ItemForeignMod, ItemImpl, ItemMod, ItemStatic, ItemStruct, ItemType, ItemUnion, ItemUse,
-    MetaList, MetaNameValue, OneForeignItemFn, OneForeignItemMacro, OneImplItemFn, OneItem,
-    OneTraitItemFn, TokenBuffer, TypeArray, TypeParen, TypeSlice, TypeTuple,
+    AnyItem, Arena, ExprAssign, ExprBinary, ExprCall, ExprField, ExprIf, ExprLit, ExprMethodCall,
+    ExprParen, ExprPath, ExprRange, ExprRepeat, ExprTuple, ItemConst, ItemEnum, ItemExternCrate,
+    ItemFn, ItemForeignMod, ItemImpl, ItemMod, ItemStatic, ItemStruct, ItemType, ItemUnion,
+    ItemUse, MetaList, MetaNameValue, OneForeignItem, OneForeignItemFn, OneForeignItemMacro,
+    OneImplItemFn, OneItem, OneTraitItemFn, TokenBuffer, TypeArray, TypeParen, TypeSlice,
+    TypeTuple,
 };
 
 // An item of one kind, or a member.
@@ -30,9 +31,11 @@ enum Item {
     ImplFn,
     ForeignFn,
     ForeignMacro,
+    Any,
+    AnyForeign,
 }
 
-const ITEMS: [(Item, &str); 34] = [
+const ITEMS: [(Item, &str); 40] = [
     (Item::Fn, "pub fn f () { }"),
     (Item::Fn, "struct S ;"),
     // Of a function without a body the tokens alone are kept.
@@ -68,6 +71,12 @@ const ITEMS: [(Item, &str); 34] = [
     (Item::ForeignFn, "fn f () { }"),
     (Item::ForeignMacro, "a ! (b) ;"),
     (Item::ForeignMacro, "a ! (b)"),
+    (Item::Any, "# [a] pub struct S ;"),
+    (Item::Any, "fn f () ;"),
+    (Item::Any, "struct S"),
+    (Item::AnyForeign, "pub fn f () ;"),
+    (Item::AnyForeign, "fn f () { }"),
+    (Item::AnyForeign, "mod m ;"),
 ];
 
 // A form that is one of several of a kind.
@@ -152,6 +161,8 @@ fn is_item<'a>(item: Item, arena: &'a Arena, buffer: &'a TokenBuffer<'a>) -> Res
         Item::ImplFn => is_read::<OneImplItemFn>(arena, buffer),
         Item::ForeignFn => is_read::<OneForeignItemFn>(arena, buffer),
         Item::ForeignMacro => is_read::<OneForeignItemMacro>(arena, buffer),
+        Item::Any => is_read::<AnyItem>(arena, buffer),
+        Item::AnyForeign => is_read::<OneForeignItem>(arena, buffer),
     }
 }
 
