@@ -1,6 +1,6 @@
 //! Values that are trees.
 
-ghost use Rattle.std.specs.Prelude.{◌≡◌, IfOk};
+ghost use Rattle.std.specs.Prelude.{◌≡◌, IfOk, MatchOption};
 ghost use Rattle.syn_grammar.specs.Tree.{Tree as GivenTree};
 
 use gram_tree::arena::Arena;
@@ -19,4 +19,16 @@ pub trait ToTree<'a> {
     /// Where there is no memory for it.
     fn to_tree(&self, arena: &'a Arena) -> Result<Tree<'a>, AllocError>
         ensures { IfOk result (λ x. x ≡ tree self.now) };
+
+    /// The value as a tree, as `try_to_tree` answers it where nothing is asked of the value: it always is one.
+    ///
+    /// # Errors
+    ///
+    /// Where there is no memory for it.
+    final fn to_some_tree(&self, arena: &'a Arena) -> Result<Option<Tree<'a>>, AllocError>
+        ensures { IfOk result (λ o. MatchOption o ((x : GivenTree) → Unit {0} × (x ≡ tree self.now) → ⊥)
+            (λ x. Unit {0} × (x ≡ tree self.now))) }
+    {
+        Ok(Some(self.to_tree(arena)?))
+    }
 }

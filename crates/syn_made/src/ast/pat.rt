@@ -117,22 +117,19 @@ impl<'t, 'a> TryToTree<'a> for Pat<'t, 'a> {
 
     fn try_to_tree(&self, arena: &'a Arena) -> Result<Option<Tree<'a>>, AllocError> {
         match *self {
-            Pat::Ident(found) => Ok(Some(found.to_tree(arena)?)),
-            Pat::Lit(found) => Ok(Some(found.to_tree(arena)?)),
-            Pat::Or(found) => Ok(Some(found.to_tree(arena)?)),
-            Pat::Paren(found) => Ok(Some(found.to_tree(arena)?)),
-            Pat::Path(found) => Ok(Some(found.to_tree(arena)?)),
-            Pat::Range(found) => match found.try_to_tree(arena)? {
-                Some(tree) => Ok(Some(tree)),
-                None => Ok(None),
-            },
-            Pat::Reference(found) => Ok(Some(found.to_tree(arena)?)),
-            Pat::Rest(found) => Ok(Some(found.to_tree(arena)?)),
-            Pat::Slice(found) => Ok(Some(found.to_tree(arena)?)),
-            Pat::Struct(found) => Ok(Some(found.to_tree(arena)?)),
-            Pat::Tuple(found) => Ok(Some(found.to_tree(arena)?)),
-            Pat::TupleStruct(found) => Ok(Some(found.to_tree(arena)?)),
-            Pat::Wild(found) => Ok(Some(found.to_tree(arena)?)),
+            Pat::Ident(found) => found.to_some_tree(arena),
+            Pat::Lit(found) => found.to_some_tree(arena),
+            Pat::Or(found) => found.to_some_tree(arena),
+            Pat::Paren(found) => found.to_some_tree(arena),
+            Pat::Path(found) => found.to_some_tree(arena),
+            Pat::Range(found) => found.try_to_tree(arena),
+            Pat::Reference(found) => found.to_some_tree(arena),
+            Pat::Rest(found) => found.to_some_tree(arena),
+            Pat::Slice(found) => found.to_some_tree(arena),
+            Pat::Struct(found) => found.to_some_tree(arena),
+            Pat::Tuple(found) => found.to_some_tree(arena),
+            Pat::TupleStruct(found) => found.to_some_tree(arena),
+            Pat::Wild(found) => found.to_some_tree(arena),
         }
     }
 }

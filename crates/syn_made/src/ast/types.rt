@@ -252,16 +252,16 @@ impl<'t, 'a> TryToTree<'a> for Type<'t, 'a> {
 
     fn try_to_tree(&self, arena: &'a Arena) -> Result<Option<Tree<'a>>, AllocError> {
         match *self {
-            Type::Array(found) => Ok(Some(found.to_tree(arena)?)),
-            Type::FnPtr(found) => Ok(Some(found.to_tree(arena)?)),
+            Type::Array(found) => found.to_some_tree(arena),
+            Type::FnPtr(found) => found.to_some_tree(arena),
             Type::ImplTrait(found) => found.try_to_tree(arena),
-            Type::Infer(found) => Ok(Some(found.to_tree(arena)?)),
-            Type::Never(found) => Ok(Some(found.to_tree(arena)?)),
-            Type::Paren(found) => Ok(Some(found.to_tree(arena)?)),
-            Type::Path(found) => Ok(Some(found.to_tree(arena)?)),
-            Type::Ptr(found) => Ok(Some(found.to_tree(arena)?)),
-            Type::Reference(found) => Ok(Some(found.to_tree(arena)?)),
-            Type::Slice(found) => Ok(Some(found.to_tree(arena)?)),
+            Type::Infer(found) => found.to_some_tree(arena),
+            Type::Never(found) => found.to_some_tree(arena),
+            Type::Paren(found) => found.to_some_tree(arena),
+            Type::Path(found) => found.to_some_tree(arena),
+            Type::Ptr(found) => found.to_some_tree(arena),
+            Type::Reference(found) => found.to_some_tree(arena),
+            Type::Slice(found) => found.to_some_tree(arena),
             Type::TraitObject(found) => found.try_to_tree(arena),
             Type::Tuple(found) => found.try_to_tree(arena),
         }

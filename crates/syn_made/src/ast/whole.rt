@@ -151,19 +151,16 @@ fn one_inside<'a>(arena: &'a Arena, form: &Pat<'_, 'a>) -> Result<Option<Tree<'a
         (λ x. IsWholePat form.now × (x ≡ one_inside form.now))) }
 {
     match *form {
-        Pat::Ident(found) => Ok(Some(First(found).to_tree(arena)?)),
-        Pat::Wild(found) => Ok(Some(Seconds(1, First(found)).to_tree(arena)?)),
-        Pat::Range(found) => match range_inside(arena, found)? {
-            Some(tree) => Ok(Some(tree)),
-            None => Ok(None),
-        },
-        Pat::Rest(found) => Ok(Some(Seconds(3, First(found)).to_tree(arena)?)),
-        Pat::Paren(found) => Ok(Some(Seconds(4, First(found)).to_tree(arena)?)),
-        Pat::Tuple(found) => Ok(Some(Seconds(4, First(found)).to_tree(arena)?)),
+        Pat::Ident(found) => First(found).to_some_tree(arena),
+        Pat::Wild(found) => Seconds(1, First(found)).to_some_tree(arena),
+        Pat::Range(found) => range_inside(arena, found),
+        Pat::Rest(found) => Seconds(3, First(found)).to_some_tree(arena),
+        Pat::Paren(found) => Seconds(4, First(found)).to_some_tree(arena),
+        Pat::Tuple(found) => Seconds(4, First(found)).to_some_tree(arena),
         Pat::Or(found) => Ok(Some(Seconds(4, First(InParens(found))).to_tree(arena)?)),
-        Pat::Slice(found) => Ok(Some(Seconds(5, First(found)).to_tree(arena)?)),
-        Pat::Reference(found) => Ok(Some(Seconds(6, First(found)).to_tree(arena)?)),
-        Pat::Lit(found) => Ok(Some(Seconds(7, First(found)).to_tree(arena)?)),
+        Pat::Slice(found) => Seconds(5, First(found)).to_some_tree(arena),
+        Pat::Reference(found) => Seconds(6, First(found)).to_some_tree(arena),
+        Pat::Lit(found) => Seconds(7, First(found)).to_some_tree(arena),
         Pat::Path(found) => Ok(Some(Seconds(8, found).to_tree(arena)?)),
         Pat::Struct(found) => Ok(Some(Seconds(8, found).to_tree(arena)?)),
         Pat::TupleStruct(found) => Ok(Some(Seconds(8, found).to_tree(arena)?)),

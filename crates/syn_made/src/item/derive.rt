@@ -22,12 +22,9 @@ impl<'t, 'a> TryToTree<'a> for DataItem<'t, 'a> {
 
     fn try_to_tree(&self, arena: &'a Arena) -> Result<Option<Tree<'a>>, AllocError> {
         match self {
-            DataItem::Struct(item) => match item.try_to_tree(arena)? {
-                Some(tree) => Ok(Some(tree)),
-                None => Ok(None),
-            },
-            DataItem::Enum(item) => Ok(Some(item.to_tree(arena)?)),
-            DataItem::Union(item) => Ok(Some(item.to_tree(arena)?)),
+            DataItem::Struct(item) => item.try_to_tree(arena),
+            DataItem::Enum(item) => item.to_some_tree(arena),
+            DataItem::Union(item) => item.to_some_tree(arena),
         }
     }
 }
