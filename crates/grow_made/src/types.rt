@@ -80,6 +80,12 @@ fn bounded<'t, 'a>(
     Ok(a_type(arena, plus, &form)?)
 }
 
+// A type as it is, for where no `+` may stand.
+fn elsewhere<'a>(arena: &'a Arena, tree: &Tree<'a>) -> Result<Option<Tree<'a>>, Unmade> {
+    let form = Type::of(tree).ok_or(Unmade::NoRow)?;
+    Ok(a_type(arena, Plus::WithoutPlus, &form)?)
+}
+
 // `dyn` or `impl` for where no `+` may stand, its bounds as they are.
 fn without_plus<'a>(arena: &'a Arena, tree: &Tree<'a>) -> Result<Option<Tree<'a>>, Unmade> {
     let form = Type::of(tree).ok_or(Unmade::NoRow)?;
@@ -177,6 +183,7 @@ pub(crate) fn changed<'a>(
         "front" => front(arena, tree),
         "last" => last(arena, tree),
         "without plus" => without_plus(arena, tree),
+        "elsewhere" => elsewhere(arena, tree),
         "single" => single(arena, tree),
         "global" => global(arena, tree),
         "doubled" => doubled(arena, tree),

@@ -20,7 +20,8 @@ pub trait ToTree<'a> {
     fn to_tree(&self, arena: &'a Arena) -> Result<Tree<'a>, AllocError>
         ensures { IfOk result (λ x. x ≡ tree self.now) };
 
-    /// The value as a tree, as `try_to_tree` answers it where nothing is asked of the value: it always is one.
+    /// The value as a tree, as `try_to_tree` answers it where nothing is asked of the value: it always is one. (`Unit` stands
+    /// in its contract where that of such a type says which of its values are trees.)
     ///
     /// # Errors
     ///

@@ -149,8 +149,8 @@ impl<'t, 'a> ToTree<'a> for TypeParenthesized<'t, 'a> {
     }
 }
 
-// Whether bounds are several where a `+` may stand between them, and one elsewhere.
-fn are_bounds(plus: Plus, bounds: TypeBounds<'_, '_>) -> bool
+/// Whether bounds are several where a `+` may stand between them, and one elsewhere.
+pub(crate) fn are_bounds(plus: Plus, bounds: TypeBounds<'_, '_>) -> bool
     ensures { IsTrue result ↔ AreBounds plus bounds.entry }
 {
     match (plus, bounds) {

@@ -2,7 +2,7 @@
 
 ghost use Rattle.gram_table.specs.Kinds.{plus_of};
 ghost use Rattle.gram_tree.specs.Forms.{seconds};
-ghost use Rattle.std.specs.Prelude.{◌≡◌, IfOk, IfSome, MatchOption};
+ghost use Rattle.std.specs.Prelude.{◌≡◌, ◌↔◌, IfOk, IfSome, IsTrue, MatchOption};
 ghost use Rattle.syn_ast.specs.Pat.{form_of_pat, pat_tree, range_form};
 ghost use Rattle.syn_ast.specs.Paths.{path};
 ghost use Rattle.syn_ast.specs.Shape.{IsShaped};
@@ -13,8 +13,9 @@ ghost use Rattle.syn_grammar.specs.Tree as t;
 ghost use Rattle.syn_made.specs.AstWhole.{one_form_of, one_inside, one_pattern_tree, pat_kind, pattern_form_of};
 ghost use Rattle.syn_made.specs.AstWhole.{pattern_tree, range_inside_one, several_form_of, several_tree, type_inside};
 ghost use Rattle.syn_made.specs.AstWhole.{before_type, in_parens, type_kind};
-ghost use Rattle.syn_made.specs.MadeAst.{IsRange, IsWholePat, IsWholeType};
+ghost use Rattle.syn_made.specs.MadeAst.{IsRange, IsTypeAt, IsWholePat, IsWholeType};
 
+use crate::ast::types::are_bounds;
 use crate::forms::{First, Grouped, Node, Second, Seconds};
 use crate::lists::Only;
 use crate::to_tree::ToTree;
@@ -65,8 +66,21 @@ fn type_inside<'a>(arena: &'a Arena, form: &Type<'_, 'a>) -> Result<Option<Tree<
     }
 }
 
-/// A type of its form, as a tree of the kind `AType`, for where a type stands; `None`, exactly where it is no tree: a tuple
-/// of one element without a comma, or `dyn` or `impl` with several bounds where one may stand, or the other way.
+// Whether the bounds of a type that is `dyn` or `impl` are as its place has them.
+fn is_type_at(plus: Plus, form: &Type<'_, '_>) -> bool
+    ensures { IsTrue result ↔ IsTypeAt plus form.now }
+{
+    match form {
+        Type::TraitObject(found) => are_bounds(plus, found.bounds),
+        Type::ImplTrait(found) => are_bounds(plus, found.bounds),
+        Type::Tuple(_) | Type::Paren(_) | Type::Never(_) | Type::Reference(_) => true,
+        Type::Ptr(_) | Type::Slice(_) | Type::Array(_) | Type::Infer(_) => true,
+        Type::FnPtr(_) | Type::Path(_) => true,
+    }
+}
+
+/// A type of its form, as a tree of the kind `AType`, for where a type stands; `None`, exactly where it is no tree there: a
+/// tuple of one element without a comma, or `dyn` or `impl` with several bounds where one may stand, or the other way.
 ///
 /// # Errors
 ///
@@ -77,14 +91,18 @@ pub fn a_type<'a>(
     plus: Plus,
     form: &Type<'_, 'a>,
 ) -> Result<Option<Tree<'a>>, AllocError>
-    ensures tree { IfOk result (λ o. MatchOption o (IsWholeType form.now → ⊥)
-        (λ x. IsWholeType form.now × (x ≡ t.Node (k.AType (plus_of plus)) (type_inside form.now)))) }
+    ensures tree { IfOk result (λ o. MatchOption o (IsTypeAt plus form.now × IsWholeType form.now → ⊥)
+        (λ x. IsTypeAt plus form.now × IsWholeType form.now
+        × (x ≡ t.Node (k.AType (plus_of plus)) (type_inside form.now)))) }
     ensures form { IfOk result (λ o. IfSome o (λ x. form_of_type x ≡ type_tree form.now)) }
 
     // It has the shape of its entry where the form has that of its own.
     ensures shaped { IfOk result (λ o. IfSome o (λ x. IsShaped (type_tree form.now)
         (g.ref (type_kind (plus_of plus) form.now)) → IsShaped x (g.ref (k.AType (plus_of plus))))) }
 {
+    if !is_type_at(plus, form) {
+        return Ok(None);
+    }
     let Some(inside) = type_inside(arena, form)? else {
         return Ok(None);
     };
