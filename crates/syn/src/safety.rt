@@ -30,6 +30,7 @@ impl<'a> Reader<'a> {
             None => self.parse_unsafe_only(),
         }
     }
+
     /// Reads the `mut` that stands there, if one does, as behind `static`.
     pub fn parse_static_mutability(&mut self) -> StaticMutability<'a>
         ensures which { ReadsMutability result self.old self.new }
