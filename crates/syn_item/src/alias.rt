@@ -8,6 +8,7 @@ ghost use Rattle.syn_grammar.specs.Gram as g;
 ghost use Rattle.syn_grammar.specs.Items.{type_end};
 ghost use Rattle.syn_grammar.specs.Kind as k;
 ghost use Rattle.syn_grammar.specs.Name as n;
+ghost use Rattle.syn_grammar.specs.Tree as t;
 ghost use Rattle.syn_grammar.specs.Verdicts.{is_where};
 ghost use Rattle.syn_item.specs.ItemAliases.{IsLate, IsOrderIn, early_tree, either_tree, item_type};
 ghost use Rattle.syn_item.specs.ItemAliases.{late_tree, type_end_tree};
@@ -18,6 +19,7 @@ use gram_table::part::Part;
 use gram_tree::tree::Tree;
 use rust_leaf::ident::Ident;
 use syn_ast::generics::OptionalWhere;
+use syn_ast::joined;
 use syn_ast::leaf::Mark;
 use syn_ast::sub::{MarkedType, optional_as_marked_type};
 use syn_ast::take::{self, Choice};
@@ -59,9 +61,15 @@ fn definition_first<'t, 'a>(tree: &'t Tree<'a>) -> Option<TypeEnd<'t, 'a>>
         (λ x. tree.now ≡ late_tree x.definition x.where_clause) }
     ensures order { IfSome result (λ x. x.order ≡ WhereOrder.Behind) }
 {
-    let (definition, where_clause) = take::pair(tree)?;
-    let definition = optional_as_marked_type(definition)?;
-    let where_clause = part::where_clause(where_clause)?;
+    let Some((definition, where_clause)) = take::pair(tree) else {
+        return None;
+    };
+    let Some((definition, where_clause)) = joined::two(
+        optional_as_marked_type(definition),
+        part::where_clause(where_clause),
+    ) else {
+        return None;
+    };
     Some(TypeEnd {
         definition,
         where_clause,
@@ -77,9 +85,15 @@ fn where_first<'t, 'a>(tree: &'t Tree<'a>) -> Option<TypeEnd<'t, 'a>>
         (λ x. tree.now ≡ early_tree x.definition x.where_clause) }
     ensures order { IfSome result (λ x. x.order ≡ WhereOrder.Before) }
 {
-    let (where_clause, definition) = take::pair(tree)?;
-    let where_clause = part::where_clause(where_clause)?;
-    let definition = optional_as_marked_type(definition)?;
+    let Some((where_clause, definition)) = take::pair(tree) else {
+        return None;
+    };
+    let Some((where_clause, definition)) = joined::two(
+        part::where_clause(where_clause),
+        optional_as_marked_type(definition),
+    ) else {
+        return None;
+    };
     Some(TypeEnd {
         definition,
         where_clause,
@@ -110,6 +124,18 @@ fn as_type_end<'t, 'a>(place: Place, tree: &'t Tree<'a>) -> Option<TypeEnd<'t, '
         Place::InForeign => either_first(tree),
         Place::InTrait => definition_first(tree),
         Place::InImpl => definition_first(tree),
+    }
+}
+
+// The same, by its name.
+fn named_type_end<'t, 'a>(place: Place, tree: &'t Tree<'a>) -> Option<TypeEnd<'t, 'a>>
+    ensures tree_is { MatchOption result (IsShaped tree.now (g.called n.the_value (type_end (place_of place))) → ⊥)
+        (λ x. tree.now ≡ t.Called n.the_value (type_end_tree place x.order x.definition x.where_clause)) }
+    ensures order { IfSome result (λ x. IsOrderIn place x.order) }
+{
+    match take::called(tree) {
+        Some((Part::Value, inner)) => as_type_end(place, inner),
+        _ => None,
     }
 }
 
@@ -147,18 +173,19 @@ impl<'t, 'a> ItemType<'t, 'a> {
         let Some((Kind::ATypeAlias(place), inner)) = take::node(tree) else {
             return None;
         };
-        let (type_token, ident, generics, bounds, end, semi_token) = take::six(inner)?;
-        let type_token = take::word(type_token)?;
-        let ident = part::name(ident)?;
-        let generics = part::generics(generics)?;
-        let Some((Part::Bounds, bounds)) = take::called(bounds) else {
+        let Some((type_token, ident, generics, bounds, end, semi_token)) = take::six(inner) else {
             return None;
         };
-        let Some((Part::Value, end)) = take::called(end) else {
+        let Some((type_token, ident, generics, bounds, end, semi_token)) = joined::six(
+            take::word(type_token),
+            part::name(ident),
+            part::generics(generics),
+            part::bounds(bounds),
+            named_type_end(place, end),
+            take::mark(semi_token),
+        ) else {
             return None;
         };
-        let end = as_type_end(place, end)?;
-        let semi_token = take::mark(semi_token)?;
         Some(ItemType {
             place,
             type_token,

@@ -43,10 +43,15 @@ fn as_parts<'t, 'a>(kind: Kind, tree: &'t Tree<'a>) -> Option<ItemParts<'t, 'a>>
         (entry_of v a) → ⊥)
         (λ x. t.Node (kind_of kind) tree.now ≡ item_parts x) }
 {
-    let parts = take::kept(tree)?;
-    let (attrs, vis, item) = take::three(parts)?;
-    let vis = part::visibility(vis)?;
-    let item = part::item(item)?;
+    let Some(parts) = take::kept(tree) else {
+        return None;
+    };
+    let Some((attrs, vis, item)) = take::three(parts) else {
+        return None;
+    };
+    let Some((vis, item)) = joined::two(part::visibility(vis), part::item(item)) else {
+        return None;
+    };
     Some(ItemParts {
         kind,
         attrs,
@@ -117,11 +122,19 @@ fn as_placed<'t, 'a>(place: Place, tree: &'t Tree<'a>) -> Option<PlacedParts<'t,
         (λ x. (x.place ≡ place) × (tree.now ≡ placed_parts x)) }
     ensures which { IfSome result (λ x. IsDefaultIn x.place x.defaultness) }
 {
-    let parts = take::kept(tree)?;
-    let (attrs, vis, defaultness, item) = take::four(parts)?;
-    let vis = part::visibility(vis)?;
-    let defaultness = as_defaultness(place, defaultness)?;
-    let item = part::item(item)?;
+    let Some(parts) = take::kept(tree) else {
+        return None;
+    };
+    let Some((attrs, vis, defaultness, item)) = take::four(parts) else {
+        return None;
+    };
+    let Some((vis, defaultness, item)) = joined::three(
+        part::visibility(vis),
+        as_defaultness(place, defaultness),
+        part::item(item),
+    ) else {
+        return None;
+    };
     Some(PlacedParts {
         place,
         attrs,

@@ -18,6 +18,7 @@ use crate::part;
 use gram_table::kind::{Kind, Place};
 use gram_tree::tree::Tree;
 use rust_leaf::ident::Ident;
+use syn_ast::joined;
 use syn_ast::leaf::{Delimiters, Lifetime, Mark};
 use syn_ast::list::Elements;
 use syn_ast::pat_type::PatType;
@@ -97,27 +98,33 @@ fn as_typed<'t, 'a>(attrs: &'t Tree<'a>, tree: &'t Tree<'a>) -> Option<FnArg<'t,
         (g.mark d ds)) (g.called n.the_type b)))) → ⊥) (λ x. t.Second (t.Second (t.Second tree.now)) ≡ fn_arg_tree x) }
     ensures attributes { IfSome result (λ x. IsBehind attrs.entry x) }
 {
-    let (pat, colon_token, behind) = take::three(tree)?;
-    let pat = part::pattern(pat)?;
-    let colon_token = take::mark(colon_token)?;
-    match take::chosen(behind) {
-        Some(Choice::First(inner)) => {
-            let dots = part::dots(inner)?;
-            Some(FnArg::Variadic(Variadic {
+    let Some((pat, colon_token, behind)) = take::three(tree) else {
+        return None;
+    };
+    let Some((pat, colon_token, behind)) = joined::three(
+        part::pattern(pat),
+        take::mark(colon_token),
+        take::chosen(behind),
+    ) else {
+        return None;
+    };
+    match behind {
+        Choice::First(inner) => match part::dots(inner) {
+            Some(dots) => Some(FnArg::Variadic(Variadic {
                 pat: Some(VariadicPat { pat, colon_token }),
                 dots,
-            }))
-        }
-        Some(Choice::Second(inner)) => {
-            let ty = part::ty(inner)?;
-            Some(FnArg::Typed(PatType {
+            })),
+            None => None,
+        },
+        Choice::Second(inner) => match part::ty(inner) {
+            Some(ty) => Some(FnArg::Typed(PatType {
                 attrs: Some(attrs),
                 pat,
                 colon_token,
                 ty,
-            }))
-        }
-        None => None,
+            })),
+            None => None,
+        },
     }
 }
 
@@ -130,18 +137,18 @@ fn as_fn_arg<'t, 'a>(attrs: &'t Tree<'a>, tree: &'t Tree<'a>) -> Option<FnArg<'t
     ensures attributes { IfSome result (λ x. IsBehind attrs.entry x) }
 {
     match take::chosen4(tree) {
-        Some(Choice4::First(inner)) => {
-            let receiver = part::receiver(inner)?;
-            Some(FnArg::Receiver(receiver))
-        }
-        Some(Choice4::Second(inner)) => {
-            let dots = part::dots(inner)?;
-            Some(FnArg::Variadic(Variadic { pat: None, dots }))
-        }
-        Some(Choice4::Third(inner)) => {
-            let ty = part::unnamed(inner)?;
-            Some(FnArg::Unnamed(ty))
-        }
+        Some(Choice4::First(inner)) => match part::receiver(inner) {
+            Some(receiver) => Some(FnArg::Receiver(receiver)),
+            None => None,
+        },
+        Some(Choice4::Second(inner)) => match part::dots(inner) {
+            Some(dots) => Some(FnArg::Variadic(Variadic { pat: None, dots })),
+            None => None,
+        },
+        Some(Choice4::Third(inner)) => match part::unnamed(inner) {
+            Some(ty) => Some(FnArg::Unnamed(ty)),
+            None => None,
+        },
         Some(Choice4::Fourth(inner)) => as_typed(attrs, inner),
         None => None,
     }
@@ -238,11 +245,17 @@ fn as_reference<'t, 'a>(tree: &'t Tree<'a>) -> Option<Receiver<'t, 'a>>
         → IsShaped tree.now (g.seq (g.mark c cs) (g.seq (g.alt t g.lifetime g.nothing) (g.seq (g.alt u
         (g.word p) g.nothing) (g.word q)))) → ⊥) (λ x. IsReceiver x (t.Node k.Receiver (t.First tree.now))) }
 {
-    let (and_token, lifetime, mutability, self_token) = take::four(tree)?;
-    let and_token = take::mark(and_token)?;
-    let lifetime = take::optional_lifetime(lifetime)?;
-    let mutability = take::optional_word(mutability)?;
-    let self_token = take::word(self_token)?;
+    let Some((and_token, lifetime, mutability, self_token)) = take::four(tree) else {
+        return None;
+    };
+    let Some((and_token, lifetime, mutability, self_token)) = joined::four(
+        take::mark(and_token),
+        take::optional_lifetime(lifetime),
+        take::optional_word(mutability),
+        take::word(self_token),
+    ) else {
+        return None;
+    };
     Some(Receiver {
         mutability: None,
         self_token,
@@ -256,16 +269,20 @@ fn as_value<'t, 'a>(tree: &'t Tree<'a>) -> Option<Receiver<'t, 'a>>
         → IsShaped tree.now (g.seq (g.alt t (g.word p) g.nothing) (g.seq (g.word q) (g.alt u (g.seq
         (g.mark c cs) a) g.nothing))) → ⊥) (λ x. IsReceiver x (t.Node k.Receiver (t.Second tree.now))) }
 {
-    let (mutability, self_token, typed) = take::three(tree)?;
-    let mutability = take::optional_word(mutability)?;
-    let self_token = take::word(self_token)?;
-    match optional_as_marked(typed) {
-        Some(Some(found)) => Some(Receiver {
+    let Some((mutability, self_token, typed)) = take::three(tree) else {
+        return None;
+    };
+    match joined::three(
+        take::optional_word(mutability),
+        take::word(self_token),
+        optional_as_marked(typed),
+    ) {
+        Some((mutability, self_token, Some(found))) => Some(Receiver {
             mutability,
             self_token,
             kind: ReceiverKind::Typed(found.mark, found.node),
         }),
-        Some(None) => Some(Receiver {
+        Some((mutability, self_token, None)) => Some(Receiver {
             mutability,
             self_token,
             kind: ReceiverKind::Value,
@@ -387,16 +404,29 @@ impl<'t, 'a> Signature<'t, 'a> {
         let Some((Kind::Signature(place), inner)) = take::node(tree) else {
             return None;
         };
-        let (constness, asyncness, safety, abi, rest) = take::five(inner)?;
-        let constness = take::optional_word(constness)?;
-        let asyncness = take::optional_word(asyncness)?;
-        let safety = as_safety(safety)?;
-        let abi = take::optional(abi)?;
-        let (fn_token, ident, generics, inputs, output, where_clause) = take::six(rest)?;
-        let fn_token = take::word(fn_token)?;
-        let ident = part::name(ident)?;
-        let generics = part::generics(generics)?;
-        let where_clause = part::where_clause(where_clause)?;
+        let Some((constness, asyncness, safety, abi, rest)) = take::five(inner) else {
+            return None;
+        };
+        let Some((fn_token, ident, generics, inputs, output, where_clause)) = take::six(rest) else {
+            return None;
+        };
+        let Some(((constness, asyncness, safety, abi), (fn_token, ident, generics, where_clause))) =
+            joined::two(
+                joined::four(
+                    take::optional_word(constness),
+                    take::optional_word(asyncness),
+                    as_safety(safety),
+                    take::optional(abi),
+                ),
+                joined::four(
+                    take::word(fn_token),
+                    part::name(ident),
+                    part::generics(generics),
+                    part::where_clause(where_clause),
+                ),
+            ) else {
+            return None;
+        };
         Some(Signature {
             place,
             constness,

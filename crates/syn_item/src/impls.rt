@@ -17,12 +17,11 @@ use crate::modifiers::ImplModifiers;
 use crate::part;
 use crate::part::{Braced, as_braced};
 use gram_table::kind::Kind;
-use gram_table::part::Part;
 use gram_tree::tree::Tree;
 use rust_leaf::ident::Ident;
 use syn_ast::leaf::{Delimiters, Mark};
 use syn_ast::list::Turns;
-use syn_ast::take;
+use syn_ast::{joined, take};
 
 /// The trait that an impl is of, and `for`.
 #[derive(Clone, Copy)]
@@ -78,12 +77,13 @@ fn optional_for<'t, 'a>(tree: &'t Tree<'a>) -> Option<Option<ForType<'t, 'a>>>
         None => None,
         Some(None) => Some(None),
         Some(Some(inner)) => {
-            let (for_token, named) = take::pair(inner)?;
-            let for_token = take::word(for_token)?;
-            let Some((Part::SelfType, self_ty)) = take::called(named) else {
+            let Some((for_token, self_ty)) = take::pair(inner) else {
                 return None;
             };
-            Some(Some(ForType { for_token, self_ty }))
+            match joined::two(take::word(for_token), part::self_type(self_ty)) {
+                Some((for_token, self_ty)) => Some(Some(ForType { for_token, self_ty })),
+                None => None,
+            }
         }
     }
 }
@@ -113,15 +113,20 @@ fn impl_front<'t, 'a>(tree: &'t Tree<'a>) -> Option<(ImplHead<'t, 'a>, &'t Tree<
         (g.word l)) g.nothing) (g.seq (g.word o) (g.seq (g.called n.the_generics a) (g.seq (g.alt w
         (g.called n.the_polarity (g.mark c cs)) g.nothing) b)))))) → ⊥) (λ p. tree.now ≡ impl_head p.0 p.1.now) }
 {
-    let (defaultness, constness, unsafety, impl_token, generics, polarity, behind) = take::seven(
-        tree,
-    )?;
-    let defaultness = part::optional_defaultness(defaultness)?;
-    let constness = part::optional_constness(constness)?;
-    let unsafety = part::optional_safety(unsafety)?;
-    let impl_token = take::word(impl_token)?;
-    let generics = part::generics(generics)?;
-    let polarity = part::optional_polarity(polarity)?;
+    let Some((defaultness, constness, unsafety, impl_token, generics, polarity, behind)) =
+        take::seven(tree) else {
+        return None;
+    };
+    let Some((defaultness, constness, unsafety, impl_token, generics, polarity)) = joined::six(
+        part::optional_defaultness(defaultness),
+        part::optional_constness(constness),
+        part::optional_safety(unsafety),
+        take::word(impl_token),
+        part::generics(generics),
+        part::optional_polarity(polarity),
+    ) else {
+        return None;
+    };
     Some((
         ImplHead {
             defaultness,
@@ -155,13 +160,17 @@ fn impl_body<'t, 'a>(tree: &'t Tree<'a>) -> Option<ImplBody<'t, 'a>>
         (g.called n.the_self b)) g.nothing) (g.seq (g.called n.the_where e) (g.group d (g.seq i j))))) → ⊥)
         (λ x. tree.now ≡ impl_body_tree x.trait_ x.self_ty x.where_clause (braced_tree x.braced)) }
 {
-    let (first, second, where_clause, body) = take::four(tree)?;
-    let Some((Part::First, first)) = take::called(first) else {
+    let Some((first, second, where_clause, body)) = take::four(tree) else {
         return None;
     };
-    let second = optional_for(second)?;
-    let where_clause = part::where_clause(where_clause)?;
-    let braced = as_braced(body)?;
+    let Some((first, second, where_clause, braced)) = joined::four(
+        part::first(first),
+        optional_for(second),
+        part::where_clause(where_clause),
+        as_braced(body),
+    ) else {
+        return None;
+    };
     match second {
         None => Some(ImplBody {
             trait_: None,

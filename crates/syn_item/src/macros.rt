@@ -121,26 +121,29 @@ fn in_others<'a>(tree: &Tree<'a>) -> Option<MacroEnd<'a>>
         → IsShaped tree.now (g.seq (g.alt s (g.group d g.raw) (g.group e g.raw)) (g.mark c cs)) → ⊥)
         (λ x. t.Second tree.now ≡ macro_end_tree x.delimiter x.semi_token (raw_tree x.tokens)) }
 {
-    let (group, semi_token) = take::pair(tree)?;
-    let semi_token = take::mark(semi_token)?;
-    match take::chosen(group) {
-        Some(Choice::First(inner)) => {
-            let (delimiters, tokens) = as_raw_group(inner)?;
-            Some(MacroEnd {
+    let Some((group, semi_token)) = take::pair(tree) else {
+        return None;
+    };
+    let Some((group, semi_token)) = joined::two(take::chosen(group), take::mark(semi_token)) else {
+        return None;
+    };
+    match group {
+        Choice::First(inner) => match as_raw_group(inner) {
+            Some((delimiters, tokens)) => Some(MacroEnd {
                 delimiter: MacroDelimiter::Paren(delimiters),
                 tokens,
                 semi_token: Some(semi_token),
-            })
-        }
-        Some(Choice::Second(inner)) => {
-            let (delimiters, tokens) = as_raw_group(inner)?;
-            Some(MacroEnd {
+            }),
+            None => None,
+        },
+        Choice::Second(inner) => match as_raw_group(inner) {
+            Some((delimiters, tokens)) => Some(MacroEnd {
                 delimiter: MacroDelimiter::Bracket(delimiters),
                 tokens,
                 semi_token: Some(semi_token),
-            })
-        }
-        None => None,
+            }),
+            None => None,
+        },
     }
 }
 

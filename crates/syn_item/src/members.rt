@@ -8,6 +8,7 @@ ghost use Rattle.syn_grammar.specs.Gram.{Verdict as GivenVerdict};
 ghost use Rattle.syn_grammar.specs.Items.{safety};
 ghost use Rattle.syn_grammar.specs.Kind as k;
 ghost use Rattle.syn_grammar.specs.Name as n;
+ghost use Rattle.syn_grammar.specs.Tree as t;
 ghost use Rattle.syn_grammar.specs.Tree.{Tree as GivenTree};
 ghost use Rattle.syn_item.specs.ItemFunctions.{IsSafety};
 ghost use Rattle.syn_item.specs.ItemMembers.{associated_inside, associated_item, foreign_item, foreign_static};
@@ -217,6 +218,17 @@ pub struct ForeignItem<'t, 'a> {
 }
 
 impl<'t, 'a> ForeignItem<'t, 'a> {
+    // One of a form, by its name.
+    fn named(form: ForeignForm, tree: &'t Tree<'a>) -> Option<ForeignItem<'t, 'a>>
+        ensures { MatchOption result ((a : g.Gram) → IsShaped tree.now (g.called n.the_item a) → ⊥)
+            (λ x. (x.form ≡ form) × (tree.now ≡ t.Called n.the_item x.tree.now)) }
+    {
+        match part::item(tree) {
+            Some(tree) => Some(ForeignItem { form, tree }),
+            None => None,
+        }
+    }
+
     // One that is kept as it was read, as it was chosen.
     #[tactic(auto, using(syn_ast::proofs::Absent::shaped_never))]
     fn chosen(tree: &'t Tree<'a>) -> Option<ForeignItem<'t, 'a>>
@@ -226,25 +238,13 @@ impl<'t, 'a> ForeignItem<'t, 'a> {
             (λ x. tree.now ≡ foreign_item x) }
     {
         match take::chosen5(tree) {
-            Some(Choice5::First(inner)) => {
-                let tree = part::item(inner)?;
-                let form = ForeignForm::Fn;
-                Some(ForeignItem { form, tree })
-            }
+            Some(Choice5::First(inner)) => ForeignItem::named(ForeignForm::Fn, inner),
             Some(Choice5::Second(tree)) => {
                 let form = ForeignForm::Static;
                 Some(ForeignItem { form, tree })
             }
-            Some(Choice5::Third(inner)) => {
-                let tree = part::item(inner)?;
-                let form = ForeignForm::Type;
-                Some(ForeignItem { form, tree })
-            }
-            Some(Choice5::Fourth(inner)) => {
-                let tree = part::item(inner)?;
-                let form = ForeignForm::Macro;
-                Some(ForeignItem { form, tree })
-            }
+            Some(Choice5::Third(inner)) => ForeignItem::named(ForeignForm::Type, inner),
+            Some(Choice5::Fourth(inner)) => ForeignItem::named(ForeignForm::Macro, inner),
             Some(Choice5::Fifth(_)) => None,
             None => None,
         }

@@ -117,6 +117,50 @@ pub(crate) fn pattern<'t, 'a>(tree: &'t Tree<'a>) -> Option<&'t Tree<'a>>
     Some(inner)
 }
 
+// Bounds.
+pub(crate) fn bounds<'t, 'a>(tree: &'t Tree<'a>) -> Option<&'t Tree<'a>>
+    ensures { MatchOption result ((a : g.Gram) → IsShaped tree.now (g.called n.the_bounds a) → ⊥)
+        (λ x. tree.now ≡ t.Called n.the_bounds x.now) }
+{
+    let Some((Part::Bounds, inner)) = take::called(tree) else {
+        return None;
+    };
+    Some(inner)
+}
+
+// The type behind `impl`.
+pub(crate) fn first<'t, 'a>(tree: &'t Tree<'a>) -> Option<&'t Tree<'a>>
+    ensures { MatchOption result ((a : g.Gram) → IsShaped tree.now (g.called n.the_first a) → ⊥)
+        (λ x. tree.now ≡ t.Called n.the_first x.now) }
+{
+    let Some((Part::First, inner)) = take::called(tree) else {
+        return None;
+    };
+    Some(inner)
+}
+
+// The type behind `for`.
+pub(crate) fn self_type<'t, 'a>(tree: &'t Tree<'a>) -> Option<&'t Tree<'a>>
+    ensures { MatchOption result ((a : g.Gram) → IsShaped tree.now (g.called n.the_self a) → ⊥)
+        (λ x. tree.now ≡ t.Called n.the_self x.now) }
+{
+    let Some((Part::SelfType, inner)) = take::called(tree) else {
+        return None;
+    };
+    Some(inner)
+}
+
+// `=`
+pub(crate) fn equals(tree: &Tree<'_>) -> Option<Mark>
+    ensures { MatchOption result ((c : ℕ) (cs : List ℕ) → IsShaped tree.now (g.called n.the_equals (g.mark c cs)) → ⊥)
+        (λ x. tree.now ≡ t.Called n.the_equals (mark_tree x)) }
+{
+    let Some((Part::Equals, inner)) = take::called(tree) else {
+        return None;
+    };
+    take::mark(inner)
+}
+
 // A visibility.
 pub(crate) fn visibility<'t, 'a>(tree: &'t Tree<'a>) -> Option<&'t Tree<'a>>
     ensures { MatchOption result ((a : g.Gram) → IsShaped tree.now (g.called n.the_visibility a) → ⊥)

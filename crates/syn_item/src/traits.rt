@@ -16,7 +16,6 @@ use crate::modifiers::TraitModifiers;
 use crate::part;
 use crate::part::as_braced;
 use gram_table::kind::Kind;
-use gram_table::part::Part;
 use gram_tree::tree::Tree;
 use rust_leaf::ident::Ident;
 use syn_ast::joined;
@@ -102,13 +101,16 @@ fn with_alias_end<'t, 'a>(head: TraitHead<'t, 'a>, tree: &'t Tree<'a>) -> Option
         (g.called n.the_equals (g.mark c cs)) (g.seq a (g.seq (g.called n.the_where b) (g.mark d ds)))) → ⊥)
         (λ x. trait_head head.entry (t.First tree.now) ≡ trait_form_inside x) }
 {
-    let (equals, bounds, where_clause, semi_token) = take::four(tree)?;
-    let Some((Part::Equals, eq_token)) = take::called(equals) else {
+    let Some((eq_token, bounds, where_clause, semi_token)) = take::four(tree) else {
         return None;
     };
-    let eq_token = take::mark(eq_token)?;
-    let where_clause = part::where_clause(where_clause)?;
-    let semi_token = take::mark(semi_token)?;
+    let Some((eq_token, where_clause, semi_token)) = joined::three(
+        part::equals(eq_token),
+        part::where_clause(where_clause),
+        take::mark(semi_token),
+    ) else {
+        return None;
+    };
     Some(TraitForm::Alias(ItemTraitAlias {
         unsafety: head.unsafety,
         auto_token: head.auto_token,
@@ -128,9 +130,13 @@ fn with_trait_end<'t, 'a>(head: TraitHead<'t, 'a>, tree: &'t Tree<'a>) -> Option
         (g.called n.the_where b) (g.group d (g.seq i j)))) → ⊥)
         (λ x. trait_head head.entry (t.Second tree.now) ≡ trait_form_inside x) }
 {
-    let (supertraits, where_clause, body) = take::three(tree)?;
-    let where_clause = part::where_clause(where_clause)?;
-    let body = as_braced(body)?;
+    let Some((supertraits, where_clause, body)) = take::three(tree) else {
+        return None;
+    };
+    let Some((where_clause, body)) = joined::two(part::where_clause(where_clause), as_braced(body))
+    else {
+        return None;
+    };
     Some(TraitForm::Trait(ItemTrait {
         modifiers: TraitModifiers {
             auto_token: head.auto_token,
@@ -154,12 +160,13 @@ fn as_trait_form<'t, 'a>(tree: &'t Tree<'a>) -> Option<TraitForm<'t, 'a>>
     let Some((unsafety, auto_token, trait_token, ident, generics, end)) = take::six(tree) else {
         return None;
     };
-    let Some((unsafety, auto_token, trait_token, ident, generics)) = joined::five(
+    let Some((unsafety, auto_token, trait_token, ident, generics, end)) = joined::six(
         part::optional_safety(unsafety),
         part::optional_auto(auto_token),
         take::word(trait_token),
         part::name(ident),
         part::generics(generics),
+        take::chosen(end),
     ) else {
         return None;
     };
@@ -170,10 +177,9 @@ fn as_trait_form<'t, 'a>(tree: &'t Tree<'a>) -> Option<TraitForm<'t, 'a>>
         ident,
         generics,
     };
-    match take::chosen(end) {
-        Some(Choice::First(alias)) => with_alias_end(head, alias),
-        Some(Choice::Second(body)) => with_trait_end(head, body),
-        None => None,
+    match end {
+        Choice::First(alias) => with_alias_end(head, alias),
+        Choice::Second(body) => with_trait_end(head, body),
     }
 }
 
