@@ -3,6 +3,7 @@
 ghost use Rattle.proc_macro2.specs.Token.{Token};
 ghost use Rattle.std.specs.Prelude.{◌≡◌, Bool, IfSome, List, MatchOption, ℕ};
 ghost use Rattle.syn_ast.specs.Kept.{IsKept};
+ghost use Rattle.syn_ast.specs.Leaves.{word_tree};
 ghost use Rattle.syn_ast.specs.Shape.{IsShaped};
 ghost use Rattle.syn_grammar.specs.Gram as g;
 ghost use Rattle.syn_grammar.specs.Items.{safety};
@@ -11,7 +12,7 @@ ghost use Rattle.syn_grammar.specs.Name as n;
 ghost use Rattle.syn_grammar.specs.Tree as t;
 ghost use Rattle.syn_item.specs.ItemFunctions.{IsBehind, IsItemFn, IsReceiver, IsSafety, fn_arg_tree, one_parameter};
 ghost use Rattle.syn_item.specs.ItemFunctions.{parameter, parameters, safety_is, signature, typed_pattern};
-ghost use Rattle.syn_item.specs.ItemParts.{safety_tree};
+ghost use Rattle.syn_item.specs.ItemParts.{named_tree, safety_tree};
 ghost use Rattle.syn_item.specs.declared.function.Safety.TheVariants as safeties;
 
 use crate::part;
@@ -393,6 +394,39 @@ pub struct Signature<'t, 'a> {
     pub where_clause: &'t Tree<'a>,
 }
 
+// What stands in a signature behind the words in front of `fn`.
+fn behind_words<'t, 'a>(
+    tree: &'t Tree<'a>,
+) -> Option<
+    (
+        &'a Ident,
+        &'a Ident,
+        &'t Tree<'a>,
+        &'t Tree<'a>,
+        &'t Tree<'a>,
+        &'t Tree<'a>,
+    ),
+>
+    ensures { MatchOption result ((p q : List ℕ → Bool) (a b c d : g.Gram) → IsShaped tree.now (g.seq (g.word p) (g.seq
+        (g.called n.the_name (g.word q)) (g.seq (g.called n.the_generics a) (g.seq b (g.seq c
+        (g.called n.the_where d)))))) → ⊥)
+        (λ w. tree.now ≡ t.Pair (word_tree w.0) (t.Pair (named_tree w.1) (t.Pair (t.Called n.the_generics w.2.now)
+        (t.Pair w.3.now (t.Pair w.4.now (t.Called n.the_where w.5.now)))))) }
+{
+    let Some((fn_token, ident, generics, inputs, output, where_clause)) = take::six(tree) else {
+        return None;
+    };
+    let Some((fn_token, ident, generics, where_clause)) = joined::four(
+        take::word(fn_token),
+        part::name(ident),
+        part::generics(generics),
+        part::where_clause(where_clause),
+    ) else {
+        return None;
+    };
+    Some((fn_token, ident, generics, inputs, output, where_clause))
+}
+
 impl<'t, 'a> Signature<'t, 'a> {
     /// What a tree is, if it is that.
     #[tactic(auto, unfolding(syn_grammar::specs::Table::table))]
@@ -407,26 +441,16 @@ impl<'t, 'a> Signature<'t, 'a> {
         let Some((constness, asyncness, safety, abi, rest)) = take::five(inner) else {
             return None;
         };
-        let Some((fn_token, ident, generics, inputs, output, where_clause)) = take::six(rest) else {
+        let Some((constness, asyncness, safety, abi, rest)) = joined::five(
+            take::optional_word(constness),
+            take::optional_word(asyncness),
+            as_safety(safety),
+            take::optional(abi),
+            behind_words(rest),
+        ) else {
             return None;
         };
-        let Some(((constness, asyncness, safety, abi), (fn_token, ident, generics, where_clause))) =
-            joined::two(
-                joined::four(
-                    take::optional_word(constness),
-                    take::optional_word(asyncness),
-                    as_safety(safety),
-                    take::optional(abi),
-                ),
-                joined::four(
-                    take::word(fn_token),
-                    part::name(ident),
-                    part::generics(generics),
-                    part::where_clause(where_clause),
-                ),
-            ) else {
-            return None;
-        };
+        let (fn_token, ident, generics, inputs, output, where_clause) = rest;
         Some(Signature {
             place,
             constness,
