@@ -1,54 +1,106 @@
 //! What becomes of the map, by `canonical` and `outline`.
 
-use canon::{Fault, canonical, outline};
+use canon::{Error, Fault, Row, canonical, outline};
 use rust_map::{LineColumn, SourceMap};
-use std::test::Fail;
+use std::alloc::Global;
 
-#[test]
-fn the_last_positions_are_for_so_many_characters(rt: HostRuntime) -> Result<(), Fail> {
-    let mut map = SourceMap::starting_at(rt.alloc(), 4294967286);
-    let answer = canonical(rt.alloc(), "struct S;", &mut map)?;
-    assert_eq!(rt; answer.as_str(), "struct S ;");
-    for text in ["", "}", "struct S;"] {
-        let answer = canonical(rt.alloc(), text, &mut map);
-        assert!(rt; matches!(&answer, Err(Fault::MapFull)), "of {text}");
+const TWO: &str = "struct A;\nstruct B;";
+
+// Whether that is the output of a text that is put into a map.
+fn is_output(alloc: Global, text: &str, map: &mut SourceMap, output: &str) -> bool {
+    match canonical(alloc, text, map) {
+        Ok(answer) => answer.as_str() == output,
+        Err(_) => false,
     }
-    let mut map = SourceMap::starting_at(rt.alloc(), 4294967287);
-    let answer = canonical(rt.alloc(), "struct S;", &mut map);
-    assert!(rt; matches!(&answer, Err(Fault::MapFull)));
-    Ok(())
+}
+
+// Whether a map has no positions left for a text.
+fn is_full(alloc: Global, text: &str, map: &mut SourceMap) -> bool {
+    matches!(canonical(alloc, text, map), Err(Fault::MapFull))
+}
+
+// Whether the last positions are for one text, and then for no other.
+fn are_for_one(alloc: Global) -> bool {
+    let mut map = SourceMap::starting_at(alloc, 4294967286);
+    is_output(alloc, "struct S;", &mut map, "struct S ;")
+        && is_full(alloc, "", &mut map)
+        && is_full(alloc, "}", &mut map)
+        && is_full(alloc, "struct S;", &mut map)
+}
+
+// Whether one position fewer is too few for that text.
+fn are_too_few(alloc: Global) -> bool {
+    let mut map = SourceMap::starting_at(alloc, 4294967287);
+    is_full(alloc, "struct S;", &mut map)
 }
 
 #[test]
-fn faults_have_their_place_in_their_own_text(rt: HostRuntime) -> Result<(), Fail> {
-    let mut map = SourceMap::new(rt.alloc());
-    let _ = canonical(rt.alloc(), "struct A;\nstruct B;", &mut map)?;
-    for _ in 0..2 {
-        match canonical(rt.alloc(), "m!{}\n struct 9;", &mut map) {
-            Ok(answer) => panic!(rt; "gave {answer}"),
-            Err(Fault::Syntax { error, place }) => {
-                assert_eq!(rt; place, Some(LineColumn { line: 2, column: 8 }));
-                let words = error.to_string(rt.alloc())?;
-                assert_eq!(rt; words.as_str(), "expected identifier");
-            }
-            Err(fault) => panic!(rt; "{fault}"),
+fn the_last_positions_are_for_so_many_characters(rt: HostRuntime) {
+    assert!(rt; are_for_one(rt.alloc()));
+    assert!(rt; are_too_few(rt.alloc()));
+}
+
+// Whether an error says those words.
+fn says(alloc: Global, error: &Error, words: &str) -> bool {
+    match error.to_string(alloc) {
+        Ok(said) => said.as_str() == words,
+        Err(_) => false,
+    }
+}
+
+// Whether a text that is put into a map has its fault at its own place.
+fn has_its_place(alloc: Global, map: &mut SourceMap) -> bool {
+    match canonical(alloc, "m!{}\n struct 9;", map) {
+        Err(Fault::Syntax { error, place }) => {
+            place == Some(LineColumn { line: 2, column: 8 })
+                && says(alloc, &error, "expected identifier")
         }
+        _ => false,
     }
-    Ok(())
+}
+
+// Whether it has it twice, behind another text.
+fn has_its_place_twice(alloc: Global) -> bool {
+    let mut map = SourceMap::new(alloc);
+    canonical(alloc, TWO, &mut map).is_ok()
+        && has_its_place(alloc, &mut map)
+        && has_its_place(alloc, &mut map)
 }
 
 #[test]
-fn names_have_their_place_in_their_own_text(rt: HostRuntime) -> Result<(), Fail> {
-    let mut map = SourceMap::new(rt.alloc());
-    let _ = canonical(rt.alloc(), "struct A;\nstruct B;", &mut map)?;
-    for _ in 0..2 {
-        let rows = outline(rt.alloc(), "struct S;\nfn go(){}", &mut map)?;
-        let [first, second] = rows.as_slice() else {
-            panic!(rt; "other rows");
-        };
-        assert_eq!(rt; first.place, LineColumn { line: 1, column: 7 });
-        assert_eq!(rt; second.name.as_str(), "go");
-        assert_eq!(rt; second.place, LineColumn { line: 2, column: 3 });
+fn faults_have_their_place_in_their_own_text(rt: HostRuntime) {
+    assert!(rt; has_its_place_twice(rt.alloc()));
+}
+
+// Whether those are the rows of the outline of the text below.
+fn are_both(rows: &[Row]) -> bool {
+    match rows {
+        [first, second] => {
+            first.place == LineColumn { line: 1, column: 7 }
+                && second.name.as_str() == "go"
+                && second.place == LineColumn { line: 2, column: 3 }
+        }
+        _ => false,
     }
-    Ok(())
+}
+
+// Whether the names of a text that is put into a map have their own places.
+fn names_have_their_places(alloc: Global, map: &mut SourceMap) -> bool {
+    match outline(alloc, "struct S;\nfn go(){}", map) {
+        Ok(rows) => are_both(rows.as_slice()),
+        Err(_) => false,
+    }
+}
+
+// Whether they have them twice, behind another text.
+fn names_have_their_places_twice(alloc: Global) -> bool {
+    let mut map = SourceMap::new(alloc);
+    canonical(alloc, TWO, &mut map).is_ok()
+        && names_have_their_places(alloc, &mut map)
+        && names_have_their_places(alloc, &mut map)
+}
+
+#[test]
+fn names_have_their_place_in_their_own_text(rt: HostRuntime) {
+    assert!(rt; names_have_their_places_twice(rt.alloc()));
 }

@@ -1,18 +1,21 @@
-//! Readers and writers that are slow, interrupted or failing.
+//! Readers and writers that are slow, interrupted or failing, and that count the calls that reach them.
 
 use std::alloc::Global;
 use std::io;
 use std::io::{ErrorKind, Read, Write};
 
-/// What a call is to answer, by the number of calls before it.
+/// What calls are to answer, by the number of calls before them.
 #[derive(Clone, Copy, Drop)]
 pub struct Plan {
-    /// So many calls are interrupted before each one that is not.
-    pub interruptions: u32,
-    /// After so many calls that were not interrupted, one fails.
-    pub good_calls: u32,
-    /// A call takes or gives at most so many bytes.
-    pub most: usize,
+    /// How many calls there were that were not interrupted.
+    pub count: u32,
+    // So many bytes at most a call takes or gives.
+    most: usize,
+    // The first and the last call that fail, from 1.
+    first_bad: u32,
+    last_bad: u32,
+    // So many calls are interrupted before each one that is not, and so many were.
+    interruptions: u32,
     interrupted: u32,
 }
 
@@ -20,9 +23,11 @@ impl Plan {
     /// At most so many bytes a call, and no fault.
     pub fn by(most: usize) -> Plan {
         Plan {
-            interruptions: 0,
-            good_calls: u32::MAX,
+            count: 0,
             most,
+            first_bad: 0,
+            last_bad: 0,
+            interruptions: 0,
             interrupted: 0,
         }
     }
@@ -31,19 +36,25 @@ impl Plan {
     pub fn interrupted(interruptions: u32) -> Plan {
         Plan {
             interruptions,
-            good_calls: u32::MAX,
-            most: 1,
-            interrupted: 0,
+            ..Plan::by(1)
         }
     }
 
-    /// One byte a call, and a failure after so many calls.
-    pub fn failing(good_calls: u32) -> Plan {
+    /// One byte a call, and a failure from that call on.
+    pub fn failing_from(bad: u32) -> Plan {
         Plan {
-            interruptions: 0,
-            good_calls,
-            most: 1,
-            interrupted: 0,
+            first_bad: bad,
+            last_bad: u32::MAX,
+            ..Plan::by(1)
+        }
+    }
+
+    /// At most so many bytes a call. That call fails, and those behind it are good again; with 0 none fails.
+    pub fn failing_at(bad: u32, most: usize) -> Plan {
+        Plan {
+            first_bad: bad,
+            last_bad: bad,
+            ..Plan::by(most)
         }
     }
 
@@ -54,10 +65,10 @@ impl Plan {
             return Err(io::Error::from(ErrorKind::Interrupted));
         }
         self.interrupted = 0;
-        if self.good_calls == 0 {
+        self.count = self.count.saturating_add(1);
+        if self.first_bad <= self.count && self.count <= self.last_bad {
             return Err(io::Error::from(ErrorKind::BrokenPipe));
         }
-        self.good_calls -= 1;
         Ok(self.most)
     }
 }
@@ -66,19 +77,20 @@ impl Plan {
 #[derive(Drop)]
 pub struct Source<'a> {
     bytes: &'a [u8],
-    plan: Plan,
+    /// The reads.
+    pub reads: Plan,
 }
 
 impl<'a> Source<'a> {
     /// Gives these bytes.
-    pub fn new(bytes: &'a [u8], plan: Plan) -> Source<'a> {
-        Source { bytes, plan }
+    pub fn new(bytes: &'a [u8], reads: Plan) -> Source<'a> {
+        Source { bytes, reads }
     }
 }
 
 impl Read for Source<'_> {
     fn read(&mut self, buf: &mut [u8]) -> io::Result<usize> {
-        let count = self.plan.turn()?.min(buf.len()).min(self.bytes.len());
+        let count = self.reads.turn()?.min(buf.len()).min(self.bytes.len());
         let (front, rest) = self.bytes.split_at(count);
         buf[..count].copy_from_slice(front);
         self.bytes = rest;
@@ -91,27 +103,41 @@ impl Read for Source<'_> {
 pub struct Sink {
     /// The bytes that were taken.
     pub taken: Vec<u8>,
-    plan: Plan,
+    /// How many of them the last flush saw.
+    pub flushed: usize,
+    /// The writes.
+    pub writes: Plan,
+    /// The flushes.
+    pub flushes: Plan,
 }
 
 impl Sink {
-    /// Has taken nothing.
-    pub fn new(alloc: Global, plan: Plan) -> Sink {
+    /// Has taken nothing. Its flushes are all good.
+    pub fn new(alloc: Global, writes: Plan) -> Sink {
+        Sink::flushing(alloc, writes, Plan::by(0))
+    }
+
+    /// Has taken nothing. Its flushes go by a plan of their own.
+    pub fn flushing(alloc: Global, writes: Plan, flushes: Plan) -> Sink {
         Sink {
             taken: Vec::new(alloc),
-            plan,
+            flushed: 0,
+            writes,
+            flushes,
         }
     }
 }
 
 impl Write for Sink {
     fn write(&mut self, buf: &[u8]) -> io::Result<usize> {
-        let count = self.plan.turn()?.min(buf.len());
+        let count = self.writes.turn()?.min(buf.len());
         self.taken.extend_from_slice(&buf[..count])?;
         Ok(count)
     }
 
     fn flush(&mut self) -> io::Result<()> {
+        self.flushes.turn()?;
+        self.flushed = self.taken.len();
         Ok(())
     }
 }
