@@ -1,18 +1,25 @@
 -- Which values of the types of expressions and of what is made of them are trees, where their fields may contradict each
 -- other.
 use Rattle.gram_tree.specs.Forms.{seconds}
+use Rattle.proc_macro2.specs.declared.delimiter.Delimiter.TheVariants.{Parenthesis}
 use Rattle.std.specs.Prelude.{Bool, true, false, None, Option, Some, cond}
+use Rattle.syn_ast.specs.Leaves.{mark_tree, optional_tree, word_tree}
+use Rattle.syn_ast.specs.Sub.{marked_type_tree}
 use Rattle.syn_ast.specs.declared.leaf.Mark.{Mark}
 use Rattle.syn_ast.specs.declared.paths.Member.{Member}
 use Rattle.syn_ast.specs.declared.paths.Member.TheVariants as members
-use Rattle.syn_expr.specs.Statements.{stmt_expr, stmt_local, stmt_macro}
+use Rattle.syn_ast.specs.declared.sub.Worded.{Worded}
+use Rattle.syn_expr.specs.Statements.{diverge_tree, stmt_expr, stmt_local, stmt_macro}
+use Rattle.syn_expr.specs.declared.stmt.Local.{Local}
+use Rattle.syn_expr.specs.declared.stmt.LocalInit.{LocalInit}
 use Rattle.syn_expr.specs.declared.stmt.Stmt.{Stmt}
 use Rattle.syn_expr.specs.declared.stmt.Stmt.TheVariants as stmts
 use Rattle.syn_grammar.specs.Kind as k
 use Rattle.syn_grammar.specs.Name as n
 use Rattle.syn_grammar.specs.Part.{choice, the}
+use Rattle.syn_grammar.specs.Statements.{ends_in_braces}
 use Rattle.syn_grammar.specs.Tree as t
-use Rattle.syn_grammar.specs.Tree.{Tree}
+use Rattle.syn_grammar.specs.Tree.{Tree, flat}
 use denote.Bor.{Bor}
 
 -- where the braces end with an arm, no comma stands behind it
@@ -42,3 +49,25 @@ chosen_stmt (stmts.Item x) = cond (is_macro_item x.now) (t.First x.now) (seconds
 chosen_stmt (stmts.Macro x) = t.Second (t.First (stmt_macro x))
 chosen_stmt (stmts.Local x) = seconds 2 (t.First (stmt_local x))
 chosen_stmt (stmts.Expr x) = seconds 4 (stmt_expr x)
+
+-- an expression in parentheses, as an expression
+abbrev pub in_parentheses : Tree → Tree
+in_parentheses x = t.Node (k.Expression k.Plain) (t.Whole (t.Alone k.ExprParen (t.Group Parenthesis (t.Final x))))
+
+-- the value of a let: before else, one that ends in braces stands in parentheses
+abbrev pub closed_value : Tree → Tree
+closed_value x = cond (ends_in_braces (flat x)) (in_parentheses x) x
+
+abbrev pub value_before : Option Worded → Tree → Tree
+value_before None x = x
+value_before (Some d) x = closed_value x
+
+-- = and the value of a let, and perhaps else and a block
+abbrev pub made_init : LocalInit → Tree
+made_init x = t.Pair (mark_tree x.eq_token) (t.Pair (t.Called n.the_value (value_before x.diverge x.expr.now))
+    (optional_tree diverge_tree x.diverge))
+
+-- a let, behind its attributes
+abbrev pub made_local : Local → Tree
+made_local x = t.Node k.ALet (t.First (t.Pair (word_tree x.let_token) (t.Pair x.pat.now (t.Pair (optional_tree
+    marked_type_tree x.ty) (t.Pair (optional_tree made_init x.init) (mark_tree x.semi_token))))))
