@@ -16,7 +16,7 @@ use Rattle.syn_expr.specs.declared.stmt.Stmt.{Stmt}
 use Rattle.syn_expr.specs.declared.stmt.Stmt.TheVariants as stmts
 use Rattle.syn_grammar.specs.Kind as k
 use Rattle.syn_grammar.specs.Name as n
-use Rattle.syn_grammar.specs.Part.{choice, the}
+use Rattle.syn_grammar.specs.Part.{choice, has, the}
 use Rattle.syn_grammar.specs.Statements.{ends_in_braces}
 use Rattle.syn_grammar.specs.Tree as t
 use Rattle.syn_grammar.specs.Tree.{Tree, flat}
@@ -33,17 +33,17 @@ IsFieldInit m (Some c) (Some e) = Unit {0}
 IsFieldInit (members.Named i) None None = Unit {0}
 IsFieldInit _ _ _ = ⊥
 
--- the form of an item is a macro
+-- the form of an item is a macro that has a name behind its !
 abbrev pub is_macro_form : Tree → Bool
-is_macro_form (t.Node (k.ItemMacro p) x) = true
+is_macro_form (t.Node (k.ItemMacro p) x) = has n.the_name x
 is_macro_form _ = false
 
--- an item is a macro: what was chosen of the part that has its form is one
+-- an item is such a macro: what was chosen of the part that has its form is one
 abbrev pub is_macro_item : Tree → Bool
 is_macro_item (t.Node i x) = is_macro_form (choice (the n.the_item x))
 is_macro_item _ = false
 
--- the alternative of a statement: of items a macro is the first, and any other the fourth
+-- the alternative of a statement: of items a macro with a name is the first, and any other the fourth
 abbrev pub chosen_stmt : Stmt → Tree
 chosen_stmt (stmts.Item x) = cond (is_macro_item x.now) (t.First x.now) (seconds 3 (t.First x.now))
 chosen_stmt (stmts.Macro x) = t.Second (t.First (stmt_macro x))

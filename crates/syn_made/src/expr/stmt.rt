@@ -149,20 +149,22 @@ impl<'t, 'a> ToTree<'a> for StmtExpr<'t, 'a> {
     }
 }
 
-// Whether the form of an item is a macro.
+// Whether the form of an item is a macro that has a name behind its `!`.
+#[tactic(auto, using(crate::proofs::StmtForms::macro_form_at))]
 fn is_macro_form(form: &Tree<'_>) -> bool
     ensures { result ≡ is_macro_form form.now }
 {
     match form.node() {
-        Some((kind, _)) => match kind {
-            Kind::ItemMacro(_) => true,
+        Some((kind, inside)) => match kind {
+            Kind::ItemMacro(_) => inside.has(Part::Name),
             _ => false,
         },
         None => false,
     }
 }
 
-// Whether an item is a macro. Of a statement's alternatives that is the first, and the other items are the fourth.
+// Whether an item is a macro with a name. Of a statement's alternatives that is the first, and the other items are the
+// fourth.
 #[tactic(auto, using(crate::proofs::StmtForms::macro_items))]
 fn is_macro(item: &Tree<'_>) -> bool
     ensures { result ≡ is_macro_item item.now }
