@@ -1,11 +1,17 @@
 -- Which values of the types of types, bounds, paths and patterns are trees, where their fields may contradict each other.
 use Rattle.gram_table.specs.declared.kind.Plus.{Plus}
 use Rattle.gram_table.specs.declared.kind.Plus.TheVariants as pluses
+use Rattle.gram_table.specs.declared.kind.Style.{Style}
+use Rattle.gram_table.specs.declared.kind.Style.TheVariants as styles
+use Rattle.gram_table.specs.Words.{sign_text}
+use Rattle.gram_table.specs.declared.word.Sign.{Sign}
+use Rattle.gram_table.specs.declared.word.Sign.TheVariants as signs
 use Rattle.std.specs.Prelude.{◌≡◌, Bool, true, false, None, Option, Some}
 use Rattle.syn_ast.specs.Leaves.{list_tree}
 use Rattle.syn_ast.specs.Types.{no_lone}
 use Rattle.syn_ast.specs.declared.bounds.TraitBoundModifier.{TraitBoundModifier}
 use Rattle.syn_ast.specs.declared.bounds.TraitBoundModifier.TheVariants as modifiers
+use Rattle.syn_ast.specs.declared.leaf.Mark.{Mark}
 use Rattle.syn_ast.specs.declared.list.Elements.{Elements}
 use Rattle.syn_ast.specs.declared.pat.Pat.{Pat}
 use Rattle.syn_ast.specs.declared.pat.Pat.TheVariants as pats
@@ -84,11 +90,23 @@ IsRangeEnd _ _ = Unit {0}
 
 -- a range has such an end behind its start, and without a start it has an end
 abbrev pub IsRange : Option RangeBound → RangeLimits → Option (Bor Tree) → Type 0
-IsRange (Some b) l o = IsRangeEnd l o
-IsRange None l (Some x) = Unit {0}
-IsRange None l None = ⊥
+IsRange b l o = IsLimit l × HasRangeEnd b l o
 
 -- a pattern that is a range is such a one
 abbrev pub IsWholePat : Pat → Type 0
 IsWholePat (pats.Range x) = IsRange x.start x.limits x.end
 IsWholePat _ = Unit {0}
+abbrev pub HasRangeEnd : Option RangeBound → RangeLimits → Option (Bor Tree) → Type 0
+HasRangeEnd (Some b) l o = IsRangeEnd l o
+HasRangeEnd None l (Some x) = Unit {0}
+HasRangeEnd None l None = ⊥
+
+-- a punctuation is that one
+abbrev pub IsSign : Sign → Mark → Type 0
+IsSign s m = sign_text m.sign ≡ sign_text s
+
+-- the punctuation of a range is .. or ..=, as it says
+abbrev pub IsLimit : RangeLimits → Type 0
+IsLimit (limits.HalfOpen m) = IsSign signs.DotDot m
+IsLimit (limits.Closed m) = IsSign signs.DotDotEq m
+
