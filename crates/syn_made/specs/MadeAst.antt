@@ -73,7 +73,15 @@ IsSegmentEnd true a o = IsBare a
 IsSegmentEnd false a o = IsNameEnd a o
 
 abbrev pub AreWhole : Segments → Type 0
-AreWhole x = IsSegmentEnd x.is_keyword x.first.arguments x.others
+AreWhole x = AreArgumentsIn x.style x.first.arguments × IsSegmentEnd x.is_keyword x.first.arguments x.others
+-- in a path of a module no arguments stand, and in parentheses they stand only in a type or a bound
+abbrev pub AreArgumentsIn : Style → PathArguments → Type 0
+AreArgumentsIn s arguments.None = Unit {0}
+AreArgumentsIn styles.InModule (arguments.AngleBracketed x) = ⊥
+AreArgumentsIn s (arguments.AngleBracketed x) = Unit {0}
+AreArgumentsIn styles.AtType (arguments.Parenthesized x) = Unit {0}
+AreArgumentsIn s (arguments.Parenthesized x) = ⊥
+
 
 -- of a segment by itself too
 abbrev pub IsLoneSegment : Bool → PathArguments → Type 0
@@ -81,7 +89,7 @@ IsLoneSegment true a = IsBare a
 IsLoneSegment false a = Unit {0}
 
 abbrev pub IsWholeSegment : OneSegment → Type 0
-IsWholeSegment x = IsLoneSegment x.is_keyword x.segment.arguments
+IsWholeSegment x = AreArgumentsIn x.style x.segment.arguments × IsLoneSegment x.is_keyword x.segment.arguments
 
 -- behind ..= an end stands
 abbrev pub IsRangeEnd : RangeLimits → Option (Bor Tree) → Type 0
