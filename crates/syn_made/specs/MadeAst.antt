@@ -34,7 +34,7 @@ use denote.Bor.{Bor}
 abbrev pub IsTuple : Elements → Type 0
 IsTuple l = no_lone (list_tree l) ≡ list_tree l
 
--- where a + may stand between them, several bounds stand, and elsewhere one
+-- where a + may stand a list of bounds stands, perhaps of one, and elsewhere one bound alone
 abbrev pub AreBounds : Plus → TypeBounds → Type 0
 AreBounds pluses.WithPlus (boundses.Several x) = Unit {0}
 AreBounds pluses.WithoutPlus (boundses.One x) = Unit {0}
@@ -74,8 +74,6 @@ abbrev pub IsSegmentEnd : Bool → PathArguments → Option Marked → Type 0
 IsSegmentEnd true a o = IsBare a
 IsSegmentEnd false a o = IsNameEnd a o
 
-abbrev pub AreWhole : Segments → Type 0
-AreWhole x = AreArgumentsIn x.style x.first.arguments × IsSegmentEnd x.is_keyword x.first.arguments x.others
 -- in a path of a module no arguments stand, and in parentheses they stand only in a type or a bound
 abbrev pub AreArgumentsIn : Style → PathArguments → Type 0
 AreArgumentsIn s arguments.None = Unit {0}
@@ -84,6 +82,8 @@ AreArgumentsIn s (arguments.AngleBracketed x) = Unit {0}
 AreArgumentsIn styles.AtType (arguments.Parenthesized x) = Unit {0}
 AreArgumentsIn s (arguments.Parenthesized x) = ⊥
 
+abbrev pub AreWhole : Segments → Type 0
+AreWhole x = AreArgumentsIn x.style x.first.arguments × IsSegmentEnd x.is_keyword x.first.arguments x.others
 
 -- of a segment by itself too
 abbrev pub IsLoneSegment : Bool → PathArguments → Type 0
@@ -99,13 +99,6 @@ IsRangeEnd (limits.Closed m) None = ⊥
 IsRangeEnd _ _ = Unit {0}
 
 -- a range has such an end behind its start, and without a start it has an end
-abbrev pub IsRange : Option RangeBound → RangeLimits → Option (Bor Tree) → Type 0
-IsRange b l o = IsLimit l × HasRangeEnd b l o
-
--- a pattern that is a range is such a one
-abbrev pub IsWholePat : Pat → Type 0
-IsWholePat (pats.Range x) = IsRange x.start x.limits x.end
-IsWholePat _ = Unit {0}
 abbrev pub HasRangeEnd : Option RangeBound → RangeLimits → Option (Bor Tree) → Type 0
 HasRangeEnd (Some b) l o = IsRangeEnd l o
 HasRangeEnd None l (Some x) = Unit {0}
@@ -120,3 +113,10 @@ abbrev pub IsLimit : RangeLimits → Type 0
 IsLimit (limits.HalfOpen m) = IsSign signs.DotDot m
 IsLimit (limits.Closed m) = IsSign signs.DotDotEq m
 
+abbrev pub IsRange : Option RangeBound → RangeLimits → Option (Bor Tree) → Type 0
+IsRange b l o = IsLimit l × HasRangeEnd b l o
+
+-- a pattern that is a range is such a one
+abbrev pub IsWholePat : Pat → Type 0
+IsWholePat (pats.Range x) = IsRange x.start x.limits x.end
+IsWholePat _ = Unit {0}

@@ -28,7 +28,7 @@ use Rattle.syn_grammar.specs.Tree.{Tree, flat}
 use Rattle.syn_made.specs.MadeAst.{IsSign}
 use denote.Bor.{Bor}
 
--- where the braces end with an arm, no comma stands behind it
+-- where the braces end with an arm's body, no comma stands behind it
 abbrev pub IsArmEnd : Bool → Option Mark → Type 0
 IsArmEnd true (Some m) = ⊥
 IsArmEnd _ _ = Unit {0}
