@@ -113,6 +113,7 @@ abbrev pub IsLimit : RangeLimits → Type 0
 IsLimit (limits.HalfOpen m) = IsSign signs.DotDot m
 IsLimit (limits.Closed m) = IsSign signs.DotDotEq m
 
+-- a range in a pattern is both
 abbrev pub IsRange : Option RangeBound → RangeLimits → Option (Bor Tree) → Type 0
 IsRange b l o = IsLimit l × HasRangeEnd b l o
 
