@@ -70,6 +70,7 @@ fn kind_of(name: &str) -> Option<Kind> {
         "Receiver" => Kind::Receiver,
         "Item" => Kind::AnItem,
         "TraitItem" => Kind::ATraitItem,
+        "ImplItem" => Kind::AnImplItem,
         "ForeignItem" => Kind::AForeignItem,
         _ => return None,
     })

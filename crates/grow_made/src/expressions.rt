@@ -2,8 +2,8 @@
 
 use crate::change::{Unmade, mark};
 use syn::{
-    Arena, Arm, Elements, Expr, ExprBinary, ExprMethodCall, ExprRange, ExprTuple, FieldValue,
-    Position, Sign, Tree,
+    Arena, Arm, BinOp, Elements, Expr, ExprBinary, ExprMethodCall, ExprRange, ExprTuple, ExprUnary,
+    FieldValue, Position, RangeLimits, Sign, Tree, UnOp,
 };
 use syn_made::expr::whole::expression;
 use syn_made::to_tree::ToTree;
@@ -14,6 +14,14 @@ fn binary<'t, 'a>(tree: &'t Tree<'a>) -> Option<ExprBinary<'t, 'a>> {
     ExprBinary::of(Expr::of(tree)?.tree)
 }
 
+// A form as an expression, if it is one.
+fn as_expression<'a>(arena: &'a Arena, form: Option<Tree<'a>>) -> Result<Option<Tree<'a>>, Unmade> {
+    match form {
+        Some(form) => Ok(Some(expression(arena, Position::Plain, form)?)),
+        None => Ok(None),
+    }
+}
+
 // The operands of a binary operation the other way, as an expression.
 fn swapped<'a>(arena: &'a Arena, tree: &Tree<'a>) -> Result<Option<Tree<'a>>, Unmade> {
     let found = binary(tree).ok_or(Unmade::NoRow)?;
@@ -22,8 +30,30 @@ fn swapped<'a>(arena: &'a Arena, tree: &Tree<'a>) -> Result<Option<Tree<'a>>, Un
         op: found.op,
         right: found.left,
     };
-    let form = form.to_tree(arena)?;
-    Ok(Some(expression(arena, Position::Plain, form)?))
+    as_expression(arena, form.try_to_tree(arena)?)
+}
+
+// The product of the operands of a binary operation, with this punctuation, as an expression.
+fn multiplied<'a>(
+    arena: &'a Arena,
+    tree: &Tree<'a>,
+    sign: Sign,
+) -> Result<Option<Tree<'a>>, Unmade> {
+    let found = binary(tree).ok_or(Unmade::NoRow)?;
+    let op = BinOp::Mul(mark(sign));
+    as_expression(arena, ExprBinary { op, ..found }.try_to_tree(arena)?)
+}
+
+// A unary operation, if a tree is one.
+fn unary<'t, 'a>(tree: &'t Tree<'a>) -> Option<ExprUnary<'t, 'a>> {
+    ExprUnary::of(Expr::of(tree)?.tree)
+}
+
+// The negative of a unary operation's operand, with this punctuation.
+fn negated<'a>(arena: &'a Arena, tree: &Tree<'a>, sign: Sign) -> Result<Option<Tree<'a>>, Unmade> {
+    let found = unary(tree).ok_or(Unmade::NoRow)?;
+    let op = UnOp::Neg(mark(sign));
+    Ok(ExprUnary { op, ..found }.try_to_tree(arena)?)
 }
 
 // A call of a method, if a tree is one.
@@ -77,6 +107,13 @@ fn endless<'a>(arena: &'a Arena, tree: &Tree<'a>) -> Result<Option<Tree<'a>>, Un
     Ok(ExprRange { end: None, ..found }.try_to_tree(arena)?)
 }
 
+// A range with its end in it, with this punctuation.
+fn closed<'a>(arena: &'a Arena, tree: &Tree<'a>, sign: Sign) -> Result<Option<Tree<'a>>, Unmade> {
+    let found = range(tree).ok_or(Unmade::NoRow)?;
+    let limits = RangeLimits::Closed(mark(sign));
+    Ok(ExprRange { limits, ..found }.try_to_tree(arena)?)
+}
+
 // A field's value as its member alone.
 fn short<'a>(arena: &'a Arena, tree: &Tree<'a>) -> Result<Option<Tree<'a>>, Unmade> {
     let found = FieldValue::of(tree).ok_or(Unmade::NoRow)?;
@@ -127,6 +164,12 @@ pub(crate) fn changed<'a>(
 ) -> Result<Option<Tree<'a>>, Unmade> {
     match change {
         "swapped" => swapped(arena, tree),
+        "multiplied by a star" => multiplied(arena, tree, Sign::Star),
+        "multiplied by a plus" => multiplied(arena, tree, Sign::Plus),
+        "negated by a minus" => negated(arena, tree, Sign::Minus),
+        "negated by a star" => negated(arena, tree, Sign::Star),
+        "closed" => closed(arena, tree, Sign::DotDotEq),
+        "closed by dots alone" => closed(arena, tree, Sign::DotDot),
         "inferred" => inferred(arena, tree),
         "front" => front(arena, tree),
         "last" => last(arena, tree),

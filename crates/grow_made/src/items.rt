@@ -1,7 +1,7 @@
 //! Changes of items, and of the items of traits and extern blocks.
 
 use crate::change::{Unmade, mark, word};
-use crate::functions;
+use crate::{among, functions};
 use syn::{
     Arena, AssociatedItem, Delimiter, Delimiters, Elements, ForeignItem, Item, ItemEnum, ItemImpl,
     ItemMacro, ItemMod, ItemTrait, ItemTraitAlias, ItemType, MacroDelimiter, Name, Sign, Span,
@@ -128,7 +128,7 @@ fn inherent<'a>(arena: &'a Arena, tree: &Tree<'a>) -> Result<Option<Tree<'a>>, U
 // An item without its attributes and its visibility.
 fn plain<'a>(arena: &'a Arena, tree: &Tree<'a>) -> Result<Option<Tree<'a>>, Unmade> {
     let found = Item::of(tree).ok_or(Unmade::NoRow)?;
-    Ok(Some(plain_item(arena, &found)?))
+    Ok(plain_item(arena, &found)?)
 }
 
 // The form of an item in a trait or in an extern block, if a tree is one.
@@ -172,17 +172,18 @@ fn changed_form<'a>(
     }
 }
 
-/// An item, changed so: its form alone, or all of it without what stands before that.
+/// An item, changed so: its form alone, or all of it without what stands before that or behind other words.
 pub(crate) fn changed<'a>(
     arena: &'a Arena,
     change: &str,
     tree: &Tree<'a>,
 ) -> Result<Option<Tree<'a>>, Unmade> {
-    if change == "plain" {
-        return plain(arena, tree);
-    }
-    match form(tree) {
-        Some(form) => changed_form(arena, change, form),
-        None => Err(Unmade::NoRow),
+    match change {
+        "plain" => plain(arena, tree),
+        "in its place" | "public" | "default" => among::changed(arena, change, tree),
+        _ => match form(tree) {
+            Some(form) => changed_form(arena, change, form),
+            None => Err(Unmade::NoRow),
+        },
     }
 }

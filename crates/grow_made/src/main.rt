@@ -9,10 +9,11 @@
 //!   them put.
 //! - `types`, `patterns`, `expressions`, `statements`: changes of these.
 //! - `data`: of fields, variants and what is derived for; `functions`: of functions and parameters.
-//! - `items`: of the other items, and of the items of traits and extern blocks.
+//! - `items`: of the other items, and of the items of traits, impls and extern blocks; `among`: where these stand.
 //! - `attributes`: of attributes, visibilities and parameters of generics.
 #![tactic(auto)]
 
+mod among;
 mod attributes;
 mod change;
 mod data;

@@ -2,10 +2,11 @@
 
 use crate::change::Unmade;
 use syn::{
-    Arena, Block, BlockStmt, File, Frontmatter, Local, OneStatement, Statements, Stmt, StmtExpr,
-    StmtLocal, Tree,
+    Arena, Block, BlockModifiers, BlockStmt, ExprBlock, File, Frontmatter, Local, LocalInit,
+    OneStatement, Position, Statements, Stmt, StmtExpr, StmtLocal, Tree, Worded, equal,
 };
 use syn_made::expr::stmt::{block, statement};
+use syn_made::expr::whole::expression;
 use syn_made::to_tree::ToTree;
 use syn_made::try_to_tree::TryToTree;
 
@@ -43,6 +44,64 @@ fn inferred<'a>(arena: &'a Arena, tree: &Tree<'a>) -> Result<Option<Tree<'a>>, U
         ..found
     });
     Ok(Some(statement(arena, &inferred)?))
+}
+
+// A statement as it was read, if it is the same tree again.
+fn again<'a>(arena: &'a Arena, tree: &Tree<'a>) -> Result<Option<Tree<'a>>, Unmade> {
+    let found = OneStatement::of(tree).ok_or(Unmade::NoRow)?;
+    let stmt = Stmt::of(found.stmt).ok_or(Unmade::NoRow)?;
+    let made = statement(arena, &stmt)?;
+    Ok(if equal(&made, found.stmt) {
+        Some(made)
+    } else {
+        None
+    })
+}
+
+// A `let` with its value and what stands behind `else`, if a tree is one.
+fn diverging<'t, 'a>(
+    tree: &'t Tree<'a>,
+) -> Option<(Local<'t, 'a>, LocalInit<'t, 'a>, Worded<'t, 'a>)> {
+    let Some(Stmt::Local(found)) = stmt(tree) else {
+        return None;
+    };
+    let local = Local::of(found.local)?;
+    let init = local.init?;
+    Some((local, init, init.diverge?))
+}
+
+// A block as an expression.
+fn block_value<'a>(arena: &'a Arena, block: &Tree<'a>) -> Result<Tree<'a>, Unmade> {
+    let value = ExprBlock {
+        label: None,
+        modifiers: BlockModifiers {},
+        block,
+    };
+    let form = value.to_tree(arena)?;
+    Ok(expression(arena, Position::Plain, form)?)
+}
+
+// A `let` whose value is the block behind its `else`, which stands there too, or does not.
+fn braced<'a>(
+    arena: &'a Arena,
+    tree: &Tree<'a>,
+    has_else: bool,
+) -> Result<Option<Tree<'a>>, Unmade> {
+    let (local, init, diverge) = diverging(tree).ok_or(Unmade::NoRow)?;
+    let value = block_value(arena, diverge.node)?;
+    let init = LocalInit {
+        expr: &value,
+        diverge: if has_else { Some(diverge) } else { None },
+        ..init
+    };
+    let init = Some(init);
+    Ok(Some(Local { init, ..local }.to_tree(arena)?))
+}
+
+// A `let` as it was read.
+fn as_read<'a>(arena: &'a Arena, tree: &Tree<'a>) -> Result<Option<Tree<'a>>, Unmade> {
+    let (local, _, _) = diverging(tree).ok_or(Unmade::NoRow)?;
+    Ok(Some(local.to_tree(arena)?))
 }
 
 // What stands first in a block, if something does.
@@ -98,6 +157,10 @@ pub(crate) fn changed<'a>(
     match change {
         "open" => open(arena, tree),
         "inferred" => inferred(arena, tree),
+        "again" => again(arena, tree),
+        "as read" => as_read(arena, tree),
+        "braced" => braced(arena, tree, true),
+        "braced without else" => braced(arena, tree, false),
         "cut" => cut(arena, tree),
         "plain" => plain(arena, tree),
         "headed" => headed(arena, tree),

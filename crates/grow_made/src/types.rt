@@ -2,11 +2,11 @@
 
 use crate::change::{Unmade, mark};
 use syn::{
-    Arena, Elements, Marked, OneSegment, Path, Plus, Segments, Sign, SomeBounds, TraitBound,
-    TraitBoundModifier, Tree, Type, TypeBounds, TypeImplTrait, TypeParamBound, TypeReference,
-    TypeTraitObject, TypeTuple,
+    Arena, Elements, Marked, OneSegment, Path, Plus, Segments, Sign, SomeBounds, Style, TraitBound,
+    TraitBoundModifier, Tree, Type, TypeBounds, TypeImplTrait, TypeParamBound, TypePath,
+    TypeReference, TypeTraitObject, TypeTuple,
 };
-use syn_made::ast::whole::a_type;
+use syn_made::ast::whole::{a_type, path_type};
 use syn_made::to_tree::ToTree;
 use syn_made::try_to_tree::TryToTree;
 
@@ -93,6 +93,29 @@ fn without_plus<'a>(arena: &'a Arena, tree: &Tree<'a>) -> Result<Option<Tree<'a>
     bounded(arena, form, bounds)
 }
 
+// A type that is a path, as one of that style.
+fn of_style<'a>(
+    arena: &'a Arena,
+    tree: &Tree<'a>,
+    style: Style,
+) -> Result<Option<Tree<'a>>, Unmade> {
+    let Some(Type::Path(found)) = Type::of(tree) else {
+        return Err(Unmade::NoRow);
+    };
+    let form = Type::Path(TypePath { style, ..found });
+    Ok(a_type(arena, Plus::WithPlus, &form)?)
+}
+
+// A path of that style, as a type.
+fn as_type<'a>(
+    arena: &'a Arena,
+    tree: &Tree<'a>,
+    style: Style,
+) -> Result<Option<Tree<'a>>, Unmade> {
+    let found = Path::of(tree).ok_or(Unmade::NoRow)?;
+    Ok(path_type(arena, Plus::WithPlus, &Path { style, ..found })?)
+}
+
 // The one bound of several, if they are one.
 fn only<'t, 'a>(bounds: TypeBounds<'t, 'a>) -> Option<&'t Tree<'a>> {
     match bounds {
@@ -147,6 +170,22 @@ fn led<'a>(arena: &'a Arena, tree: &Tree<'a>) -> Result<Option<Tree<'a>>, Unmade
     Ok(led.try_to_tree(arena)?)
 }
 
+// The segments of a path, as of one of that style.
+fn styled<'a>(arena: &'a Arena, tree: &Tree<'a>, style: Style) -> Result<Option<Tree<'a>>, Unmade> {
+    let found = segments(tree).ok_or(Unmade::NoRow)?;
+    Ok(Segments { style, ..found }.try_to_tree(arena)?)
+}
+
+// A segment, as of a path of a module.
+fn in_module<'a>(arena: &'a Arena, tree: &Tree<'a>) -> Result<Option<Tree<'a>>, Unmade> {
+    let found = OneSegment::of(tree).ok_or(Unmade::NoRow)?;
+    let segment = OneSegment {
+        style: Style::InModule,
+        ..found
+    };
+    Ok(segment.try_to_tree(arena)?)
+}
+
 // A segment as a keyword.
 fn keyword<'a>(arena: &'a Arena, tree: &Tree<'a>) -> Result<Option<Tree<'a>>, Unmade> {
     let found = OneSegment::of(tree).ok_or(Unmade::NoRow)?;
@@ -172,6 +211,26 @@ fn maybe<'a>(arena: &'a Arena, tree: &Tree<'a>) -> Result<Option<Tree<'a>>, Unma
     Ok(TraitBound { modifier, ..found }.try_to_tree(arena)?)
 }
 
+// A type, a path or a segment of another style, or as it is.
+fn changed_style<'a>(
+    arena: &'a Arena,
+    change: &str,
+    tree: &Tree<'a>,
+) -> Result<Option<Tree<'a>>, Unmade> {
+    match change {
+        "of types" => of_style(arena, tree, Style::AtType),
+        "of expressions" => of_style(arena, tree, Style::InExpression),
+        "as a type" => as_type(arena, tree, Style::AtType),
+        "of an expression as a type" => as_type(arena, tree, Style::InExpression),
+        "where a type stands" => styled(arena, tree, Style::AtType),
+        "before a type" => styled(arena, tree, Style::InType),
+        "in an expression" => styled(arena, tree, Style::InExpression),
+        "in a module" => styled(arena, tree, Style::InModule),
+        "of a module" => in_module(arena, tree),
+        _ => Err(Unmade::NoRow),
+    }
+}
+
 /// A type, a path, a segment or a bound, changed so.
 pub(crate) fn changed<'a>(
     arena: &'a Arena,
@@ -190,6 +249,6 @@ pub(crate) fn changed<'a>(
         "led by a keyword" => led(arena, tree),
         "as a keyword" => keyword(arena, tree),
         "maybe" => maybe(arena, tree),
-        _ => Err(Unmade::NoRow),
+        _ => changed_style(arena, change, tree),
     }
 }

@@ -1,6 +1,6 @@
 -- Items among others: that each form is chosen where the grammar reads it, and is found there.
 use Rattle.gram_tree.specs.Forms.{seconds}
-use Rattle.std.proofs.Common.{◌∙◌, inl, inr, subst, sym}
+use Rattle.std.proofs.Common.{◌∙◌, ap, inl, inr, subst, sym}
 use Rattle.std.specs.Prelude.{◌≡◌, ◌⊎◌, Bool, cond, false, refl, true, ℕ, suc, zero}
 use Rattle.syn_ast.proofs.Absent.{shaped_never}
 use Rattle.syn_ast.specs.Shape.{IsShaped}
@@ -19,7 +19,8 @@ use Rattle.syn_item.specs.ItemTraits.{IsAlias, IsTrait}
 use Rattle.syn_item.specs.declared.item.Item.{Item}
 use Rattle.syn_item.specs.declared.item.ItemForm.{ItemForm}
 use Rattle.syn_item.specs.declared.item.ItemForm.TheVariants as forms
-use Rattle.syn_made.specs.MadeAmong.{IsOfForm, among_by, among_item, before, chosen_form, form_entry, holds, kept_item}
+use Rattle.syn_made.specs.MadeAmong.{IsKeptIn, IsOfForm, MayStand, among_by, among_item, before, chosen_form}
+use Rattle.syn_made.specs.MadeAmong.{form_entry, holds, item_parts, kept_item}
 
 -- where two alternatives read the same, either may be chosen
 either : (b : Bool) (m l : ℕ) (x : Tree) → IsShaped (seconds m (t.First x)) item_form
@@ -136,7 +137,32 @@ pub kept_same : (a v y : Tree) (i : Item) → y ≡ kept_item a v i.form i.tree.
     → y ≡ among_item a v i
 kept_same a v y i e d = e ∙ kept_among i.form a v i.tree.now d
 
-pub ruleset kept_items = (kept_same, kept_is, kept_attributes, kept_visibility, kept_shaped)
+-- the same parts are kept by the grammar, and are the item that is kept
+pub kept_parts : (p z : Tree) → p ≡ z → IsKeptIn k.InFile p → IsKeptIn k.InFile z
+kept_parts p z e h = subst (IsKeptIn k.InFile) e h
+
+pub parts_kept : (p z : Tree) → p ≡ z → (IsKeptIn k.InFile p → ⊥) → IsKeptIn k.InFile z → ⊥
+parts_kept p z e d h = d (subst (IsKeptIn k.InFile) (sym e) h)
+
+pub kept_at : (a v y p : Tree) (i : Item) → y ≡ t.Node k.AnItem (t.First p) → p ≡ item_parts a v i.form i.tree.now
+    → y ≡ kept_item a v i.form i.tree.now
+kept_at a v y p i e d = e ∙ ap (λ z. t.Node k.AnItem (t.First z)) d
+
+pub ruleset in_file = (kept_parts, parts_kept, kept_at)
+
+-- it may stand there where the grammar keeps it
+pub may_stand : (f : ItemForm) (a v x : Tree) → (f ≡ forms.Verbatim → ⊥) → IsKeptIn k.InFile (item_parts a v f x)
+    → MayStand a v f x
+may_stand forms.Verbatim a v x d h = absurd (d refl)
+may_stand f a v x d h = h
+
+pub may_not_stand : (f : ItemForm) (a v x : Tree) → (f ≡ forms.Verbatim → ⊥)
+    → (IsKeptIn k.InFile (item_parts a v f x) → ⊥) → MayStand a v f x → ⊥
+may_not_stand forms.Verbatim a v x d h m = d refl
+may_not_stand f a v x d h m = h m
+
+pub ruleset kept_items =
+    (kept_same, kept_is, kept_attributes, kept_visibility, kept_shaped, may_stand, may_not_stand)
 
 -- where nothing stands before an item, that has its shape
 pub no_attributes_shaped : IsShaped (t.Node k.OuterAttributes t.End) (g.ref k.OuterAttributes)

@@ -4,3 +4,4 @@ pub mod AmongForms
 pub mod MemberForms
 pub mod StmtForms
 pub mod TraitForms
+pub mod SignTexts

@@ -6,9 +6,10 @@ use Rattle.gram_table.specs.declared.kind.Place.{Place}
 use Rattle.gram_tree.specs.Shapes.{node_of}
 use Rattle.std.proofs.Common.{ap, ◌∙◌, sym}
 use Rattle.std.specs.Prelude.{◌≡◌, Option, None, Some, false, refl}
+use Rattle.syn_grammar.specs.Kind as k
 use Rattle.syn_grammar.specs.Kind.{Kind}
 use Rattle.syn_grammar.specs.Name as n
-use Rattle.syn_grammar.specs.Part.{choice, found, or_nil, the}
+use Rattle.syn_grammar.specs.Part.{choice, found, has, or_nil, the}
 use Rattle.syn_grammar.specs.Tree as t
 use Rattle.syn_grammar.specs.Tree.{Tree}
 use Rattle.syn_made.specs.MadeExpr.{is_macro_form, is_macro_item}
@@ -35,6 +36,11 @@ other_form i x h = refl
 other_form_at : (y : Tree) (i : g.Kind) (x : Tree) → Some (kind_of i, x) ≡ node_of y
     → ((p : Place) → i ≡ kinds.ItemMacro p → ⊥) → false ≡ is_macro_form y
 other_form_at y i x e h = other_form i x h ∙ ap is_macro_form (sym (node_is y (kind_of i) x e))
+
+-- a macro's node has the form of one if it has a name
+pub macro_form_at : (y : Tree) (p : k.Place) (x : Tree) → Some (k.ItemMacro p, x) ≡ node_of y
+    → has n.the_name x ≡ is_macro_form y
+macro_form_at y p x e = ap is_macro_form (sym (node_is y (k.ItemMacro p) x e))
 
 -- what is no node is no item, nor is a node without the form of one
 pub no_node : (x : Tree) → None ≡ node_of x → false ≡ is_macro_item x

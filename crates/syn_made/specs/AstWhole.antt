@@ -79,12 +79,13 @@ one_inside (pats.Path x) = seconds 8 (pat_tree (pats.Path x))
 one_inside (pats.Struct x) = seconds 8 (pat_tree (pats.Struct x))
 one_inside (pats.TupleStruct x) = seconds 8 (pat_tree (pats.TupleStruct x))
 
--- the kind of a pattern's form
+-- the kind of a range's form, by its start
 abbrev pub range_kind : Option RangeBound → k.Kind
 range_kind None = k.RangeToPattern
 range_kind (Some (bounds.Lit l)) = k.LiteralPattern
 range_kind (Some (bounds.Path p)) = k.PathPattern
 
+-- the kind of a pattern's form
 abbrev pub pat_kind : Pat → k.Kind
 pat_kind (pats.«Ident» x) = k.IdentPattern
 pat_kind (pats.Wild x) = k.WildPattern

@@ -4,13 +4,14 @@ use Rattle.std.specs.Prelude.{◌≡◌, ◌⊎◌, Bool, cond, false, ℕ}
 use Rattle.syn_data.specs.Derive.{item_inside}
 use Rattle.syn_data.specs.declared.derive.Data.{Data}
 use Rattle.syn_data.specs.declared.derive.Data.TheVariants as datas
-use Rattle.syn_grammar.specs.Gram.{Gram, never, ref}
+use Rattle.syn_grammar.specs.Gram.{Gram, Keep, never, ref}
 use Rattle.syn_grammar.specs.Kind as k
 use Rattle.syn_grammar.specs.Name as n
 use Rattle.syn_grammar.specs.Name.{Part}
 use Rattle.syn_grammar.specs.Part.{has}
 use Rattle.syn_grammar.specs.Tree as t
 use Rattle.syn_grammar.specs.Tree.{Tree}
+use Rattle.syn_grammar.specs.Verdicts.{item_verdict}
 use Rattle.syn_item.specs.ItemForms.{HasForm}
 use Rattle.syn_item.specs.declared.item.Item.{Item}
 use Rattle.syn_item.specs.declared.item.ItemForm.{ItemForm}
@@ -86,3 +87,17 @@ abbrev pub data_item_form : Data → ItemForm
 data_item_form (datas.Struct x) = forms.Struct
 data_item_form (datas.Enum x) = forms.Enum
 data_item_form (datas.Union x) = forms.Union
+
+-- what stands in such a place is kept by the grammar: it is not refused there, and not its tokens alone are kept. Of an
+-- impl, an extern block and a macro no visibility is; of a trait's items none behind one or behind default
+abbrev pub IsKeptIn : k.Place → Tree → Type 0
+IsKeptIn p x = item_verdict p x ≡ Keep
+
+-- attributes, a visibility and the form of an item, as it is chosen in a file
+abbrev pub item_parts : Tree → Tree → ItemForm → Tree → Tree
+item_parts a v f x = t.Pair a (t.Pair (t.Called n.the_visibility v) (t.Called n.the_item (chosen_form f x)))
+
+-- an item among others is kept there, or is its tokens alone
+abbrev pub MayStand : Tree → Tree → ItemForm → Tree → Type 0
+MayStand a v forms.Verbatim x = Unit {0}
+MayStand a v f x = IsKeptIn k.InFile (item_parts a v f x)

@@ -1,11 +1,17 @@
 -- Which values of the types of types, bounds, paths and patterns are trees, where their fields may contradict each other.
 use Rattle.gram_table.specs.declared.kind.Plus.{Plus}
 use Rattle.gram_table.specs.declared.kind.Plus.TheVariants as pluses
+use Rattle.gram_table.specs.declared.kind.Style.{Style}
+use Rattle.gram_table.specs.declared.kind.Style.TheVariants as styles
+use Rattle.gram_table.specs.Words.{sign_text}
+use Rattle.gram_table.specs.declared.word.Sign.{Sign}
+use Rattle.gram_table.specs.declared.word.Sign.TheVariants as signs
 use Rattle.std.specs.Prelude.{◌≡◌, Bool, true, false, None, Option, Some}
 use Rattle.syn_ast.specs.Leaves.{list_tree}
 use Rattle.syn_ast.specs.Types.{no_lone}
 use Rattle.syn_ast.specs.declared.bounds.TraitBoundModifier.{TraitBoundModifier}
 use Rattle.syn_ast.specs.declared.bounds.TraitBoundModifier.TheVariants as modifiers
+use Rattle.syn_ast.specs.declared.leaf.Mark.{Mark}
 use Rattle.syn_ast.specs.declared.list.Elements.{Elements}
 use Rattle.syn_ast.specs.declared.pat.Pat.{Pat}
 use Rattle.syn_ast.specs.declared.pat.Pat.TheVariants as pats
@@ -28,7 +34,7 @@ use denote.Bor.{Bor}
 abbrev pub IsTuple : Elements → Type 0
 IsTuple l = no_lone (list_tree l) ≡ list_tree l
 
--- where a + may stand between them, several bounds stand, and elsewhere one
+-- where a + may stand a list of bounds stands, perhaps of one, and elsewhere one bound alone
 abbrev pub AreBounds : Plus → TypeBounds → Type 0
 AreBounds pluses.WithPlus (boundses.Several x) = Unit {0}
 AreBounds pluses.WithoutPlus (boundses.One x) = Unit {0}
@@ -41,10 +47,12 @@ IsWholeType (types.TraitObject x) = AreBounds x.plus x.bounds
 IsWholeType (types.ImplTrait x) = AreBounds x.plus x.bounds
 IsWholeType _ = Unit {0}
 
--- where a type stands, a + may stand between its bounds or may not: those of dyn and impl are as the place has them
+-- where a type stands, a + may stand between its bounds or may not: those of dyn and impl are as the place has them, and
+-- a path is one of types
 abbrev pub IsTypeAt : Plus → Type' → Type 0
 IsTypeAt p (types.TraitObject x) = AreBounds p x.bounds
 IsTypeAt p (types.ImplTrait x) = AreBounds p x.bounds
+IsTypeAt p (types.Path x) = x.style ≡ styles.AtType
 IsTypeAt p _ = Unit {0}
 
 -- a trait stands behind ? or behind for<'a>, and never behind both
@@ -66,8 +74,16 @@ abbrev pub IsSegmentEnd : Bool → PathArguments → Option Marked → Type 0
 IsSegmentEnd true a o = IsBare a
 IsSegmentEnd false a o = IsNameEnd a o
 
+-- in a path of a module no arguments stand, and in parentheses they stand only in a type or a bound
+abbrev pub AreArgumentsIn : Style → PathArguments → Type 0
+AreArgumentsIn s arguments.None = Unit {0}
+AreArgumentsIn styles.InModule (arguments.AngleBracketed x) = ⊥
+AreArgumentsIn s (arguments.AngleBracketed x) = Unit {0}
+AreArgumentsIn styles.AtType (arguments.Parenthesized x) = Unit {0}
+AreArgumentsIn s (arguments.Parenthesized x) = ⊥
+
 abbrev pub AreWhole : Segments → Type 0
-AreWhole x = IsSegmentEnd x.is_keyword x.first.arguments x.others
+AreWhole x = AreArgumentsIn x.style x.first.arguments × IsSegmentEnd x.is_keyword x.first.arguments x.others
 
 -- of a segment by itself too
 abbrev pub IsLoneSegment : Bool → PathArguments → Type 0
@@ -75,7 +91,7 @@ IsLoneSegment true a = IsBare a
 IsLoneSegment false a = Unit {0}
 
 abbrev pub IsWholeSegment : OneSegment → Type 0
-IsWholeSegment x = IsLoneSegment x.is_keyword x.segment.arguments
+IsWholeSegment x = AreArgumentsIn x.style x.segment.arguments × IsLoneSegment x.is_keyword x.segment.arguments
 
 -- behind ..= an end stands
 abbrev pub IsRangeEnd : RangeLimits → Option (Bor Tree) → Type 0
@@ -83,10 +99,23 @@ IsRangeEnd (limits.Closed m) None = ⊥
 IsRangeEnd _ _ = Unit {0}
 
 -- a range has such an end behind its start, and without a start it has an end
+abbrev pub HasRangeEnd : Option RangeBound → RangeLimits → Option (Bor Tree) → Type 0
+HasRangeEnd (Some b) l o = IsRangeEnd l o
+HasRangeEnd None l (Some x) = Unit {0}
+HasRangeEnd None l None = ⊥
+
+-- a punctuation is that one
+abbrev pub IsSign : Sign → Mark → Type 0
+IsSign s m = sign_text m.sign ≡ sign_text s
+
+-- the punctuation of a range is .. or ..=, as it says
+abbrev pub IsLimit : RangeLimits → Type 0
+IsLimit (limits.HalfOpen m) = IsSign signs.DotDot m
+IsLimit (limits.Closed m) = IsSign signs.DotDotEq m
+
+-- a range in a pattern is both
 abbrev pub IsRange : Option RangeBound → RangeLimits → Option (Bor Tree) → Type 0
-IsRange (Some b) l o = IsRangeEnd l o
-IsRange None l (Some x) = Unit {0}
-IsRange None l None = ⊥
+IsRange b l o = IsLimit l × HasRangeEnd b l o
 
 -- a pattern that is a range is such a one
 abbrev pub IsWholePat : Pat → Type 0

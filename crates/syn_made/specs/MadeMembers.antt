@@ -2,6 +2,7 @@
 use Rattle.rust_leaf.specs.declared.ident.Ident.{Ident}
 use Rattle.std.specs.Prelude.{Option}
 use Rattle.syn_ast.specs.Leaves.{optional_tree}
+use Rattle.syn_grammar.specs.Kind as k
 use Rattle.syn_grammar.specs.Name as n
 use Rattle.syn_grammar.specs.Tree as t
 use Rattle.syn_grammar.specs.Tree.{Tree}
@@ -13,6 +14,7 @@ use Rattle.syn_item.specs.declared.members.AssociatedItem.{AssociatedItem}
 use Rattle.syn_item.specs.declared.members.ForeignForm.{ForeignForm}
 use Rattle.syn_item.specs.declared.members.ForeignForm.TheVariants as foreigns
 use Rattle.syn_item.specs.declared.members.ForeignItem.{ForeignItem}
+use Rattle.syn_made.specs.MadeAmong.{IsKeptIn}
 use denote.Bor.{Bor}
 
 -- attributes, a visibility, default and an item, which are kept as they are
@@ -47,3 +49,28 @@ foreign_by foreigns.Verbatim a v x = x
 -- an item of an extern block, behind these attributes and this visibility
 abbrev pub foreign_inside : Tree → Tree → ForeignItem → Tree
 foreign_inside a v x = foreign_by x.form a v (foreign_item x)
+
+-- attributes, a visibility, default and an item
+abbrev pub member_parts : Tree → Tree → Option (Bor Ident) → Tree → Tree
+member_parts a v d x = t.Pair a (t.Pair (t.Called n.the_visibility v) (t.Pair (optional_tree default_tree d)
+    (t.Called n.the_item x)))
+
+-- an item of a trait or an impl is kept there, or is its tokens alone
+abbrev pub MayStandBy : k.Place → AssociatedForm → Tree → Type 0
+MayStandBy p associated.Verbatim y = Unit {0}
+MayStandBy p f y = IsKeptIn p y
+
+abbrev pub IsMember : k.Place → Tree → Tree → Option (Bor Ident) → AssociatedItem → Type 0
+IsMember p a v d x = MayStandBy p x.form (member_parts a v d (associated_item x))
+
+-- attributes, a visibility and an item of an extern block
+abbrev pub foreign_parts : Tree → Tree → Tree → Tree
+foreign_parts a v x = t.Pair a (t.Pair (t.Called n.the_visibility v) x)
+
+-- it is kept there, or is its tokens alone
+abbrev pub IsForeignBy : ForeignForm → Tree → Type 0
+IsForeignBy foreigns.Verbatim y = Unit {0}
+IsForeignBy f y = IsKeptIn k.InForeign y
+
+abbrev pub IsForeign : Tree → Tree → ForeignItem → Type 0
+IsForeign a v x = IsForeignBy x.form (foreign_parts a v (foreign_item x))

@@ -25,7 +25,7 @@ IsModuleEnd (Some b) None = Unit {0}
 IsModuleEnd None (Some m) = Unit {0}
 IsModuleEnd _ _ = ⊥
 
--- a macro has a name of its own in a file or a module alone
+-- a macro has a name of its own in a file, a module or a block alone
 abbrev pub IsMacroName : Place → Option Name → Type 0
 IsMacroName places.InFile o = Unit {0}
 IsMacroName p None = Unit {0}
@@ -68,7 +68,7 @@ abbrev pub IsAliasHead : Option (Bor Ident) → Option (Bor Ident) → Type 0
 IsAliasHead None None = Unit {0}
 IsAliasHead _ _ = ⊥
 
--- of a trait or an alias of traits an alias has such words
+-- a trait may have both words in front, and an alias has neither
 abbrev pub IsTraitHead : TraitForm → Type 0
 IsTraitHead (trait_forms.Trait x) = Unit {0}
 IsTraitHead (trait_forms.Alias x) = IsAliasHead x.unsafety x.auto_token

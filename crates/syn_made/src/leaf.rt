@@ -1,9 +1,11 @@
 //! Leaves as trees, tokens that are kept as they are, and trees that are lent.
 
-ghost use Rattle.std.specs.Prelude.{◌≡◌, IfOk};
+ghost use Rattle.std.specs.Prelude.{◌≡◌, ◌↔◌, IfOk, IsTrue};
 ghost use Rattle.syn_ast.specs.Leaves.{lifetime_tree, literal_tree, mark_tree, node_tree, raw_tree, word_tree};
+ghost use Rattle.syn_made.specs.MadeAst.{IsSign};
 
 use crate::to_tree::ToTree;
+use gram_table::word::Sign;
 use gram_tree::arena::Arena;
 use gram_tree::made;
 use gram_tree::tree::Tree;
@@ -18,6 +20,14 @@ pub fn mark<'a>(mark: Mark) -> Tree<'a>
     ensures { result ≡ mark_tree mark }
 {
     made::mark(mark.sign, mark.spacing, mark.span)
+}
+
+/// Whether a punctuation is that one.
+#[tactic(auto, using(crate::proofs::SignTexts::texts))]
+pub(crate) fn is_sign(mark: Mark, sign: Sign) -> bool
+    ensures { IsTrue result ↔ IsSign sign mark }
+{
+    mark.sign.text() == sign.text()
 }
 
 /// A lifetime.

@@ -6,7 +6,7 @@ ghost use Rattle.syn_ast.specs.Patterns.{range_end};
 ghost use Rattle.syn_ast.specs.declared.pat.Pat.TheVariants as pats;
 ghost use Rattle.syn_grammar.specs.Kind as k;
 ghost use Rattle.syn_grammar.specs.Tree as t;
-ghost use Rattle.syn_made.specs.MadeAst.{IsRange, IsRangeEnd, IsWholePat};
+ghost use Rattle.syn_made.specs.MadeAst.{IsLimit, IsRange, IsRangeEnd, IsWholePat};
 
 use crate::forms::{First, Grouped, Node, Second};
 use crate::lists::Only;
@@ -79,8 +79,9 @@ fn range_from<'a>(
     start: RangeBound<'_, 'a>,
     end: RangeEnd<'_, 'a>,
 ) -> Result<Option<Tree<'a>>, AllocError>
-    ensures { IfOk result (λ o. MatchOption o (IsRangeEnd end.entry.limits end.entry.end → ⊥)
-        (λ x. IsRangeEnd end.entry.limits end.entry.end
+    ensures { IfOk result (λ o. MatchOption o (IsLimit end.entry.limits
+        × IsRangeEnd end.entry.limits end.entry.end → ⊥)
+        (λ x. IsLimit end.entry.limits × IsRangeEnd end.entry.limits end.entry.end
         × (x ≡ started start.entry (t.Node k.RangeEnd (range_end end.entry.limits end.entry.end))))) }
 {
     let Some(end) = end.try_to_tree(arena)? else {
@@ -106,7 +107,10 @@ impl<'t, 'a> TryToTree<'a> for PatRange<'t, 'a> {
                 Some(tree) => Ok(Some(tree)),
                 None => Ok(None),
             },
-            (None, Some(end)) => Ok(Some(PatRangeTo { limits, end }.to_tree(arena)?)),
+            (None, Some(end)) => match (PatRangeTo { limits, end }).try_to_tree(arena)? {
+                Some(tree) => Ok(Some(tree)),
+                None => Ok(None),
+            },
             (None, None) => Ok(None),
         }
     }

@@ -1,16 +1,17 @@
 //! Paths, members and macros as trees.
 
-ghost use Rattle.std.specs.Prelude.{◌≡◌, IfOk, MatchOption};
+ghost use Rattle.std.specs.Prelude.{◌≡◌, ◌↔◌, IfOk, IsTrue, MatchOption};
 ghost use Rattle.syn_ast.specs.Paths.{angle_bracketed_generic_arguments, argument_inside, assoc_type_tree};
 ghost use Rattle.syn_ast.specs.Paths.{behind_keyword, behind_name, delimited, generic_argument, index, keyword_alone};
 ghost use Rattle.syn_ast.specs.Paths.{macro, member, one_segment, parenthesized_generic_arguments, path};
 ghost use Rattle.syn_ast.specs.Paths.{qualified_path, segment_end, segments, segments_inside};
-ghost use Rattle.syn_made.specs.MadeAst.{AreWhole, IsBare, IsNameEnd, IsSegmentEnd, IsWholeSegment};
+ghost use Rattle.syn_made.specs.MadeAst.{AreArgumentsIn, AreWhole, IsBare, IsNameEnd, IsSegmentEnd};
+ghost use Rattle.syn_made.specs.MadeAst.{IsWholeSegment};
 
 use crate::forms::{Called, First, Grouped, Node, Second};
 use crate::to_tree::ToTree;
 use crate::try_to_tree::TryToTree;
-use gram_table::kind::Kind;
+use gram_table::kind::{Kind, Style};
 use gram_table::part::Part;
 use gram_tree::arena::Arena;
 use gram_tree::tree::Tree;
@@ -130,10 +131,28 @@ fn segments_inside<'a>(
     Ok(Some(Second((first.ident, &behind)).to_tree(arena)?))
 }
 
+// Whether a segment's arguments may stand in a path of that style.
+fn are_arguments_in(style: Style, arguments: PathArguments<'_, '_>) -> bool
+    ensures { IsTrue result ↔ AreArgumentsIn style arguments.entry }
+{
+    match (arguments, style) {
+        (PathArguments::None, _) => true,
+        (PathArguments::AngleBracketed(_), Style::InModule) => false,
+        (PathArguments::AngleBracketed(_), Style::InExpression) => true,
+        (PathArguments::AngleBracketed(_), Style::InType | Style::AtType) => true,
+        (PathArguments::Parenthesized(_), Style::AtType) => true,
+        (PathArguments::Parenthesized(_), Style::InModule | Style::InExpression) => false,
+        (PathArguments::Parenthesized(_), Style::InType) => false,
+    }
+}
+
 impl<'t, 'a> TryToTree<'a> for Segments<'t, 'a> {
     ghost says = { λ x tree. AreWhole x × (tree ≡ segments x) };
 
     fn try_to_tree(&self, arena: &'a Arena) -> Result<Option<Tree<'a>>, AllocError> {
+        if !are_arguments_in(self.style, self.first.arguments) {
+            return Ok(None);
+        }
         match segments_inside(arena, self.is_keyword, self.first, self.others)? {
             Some(inside) => Ok(Some(Node(Kind::Segments(self.style), &inside).to_tree(arena)?)),
             None => Ok(None),
@@ -172,6 +191,9 @@ impl<'t, 'a> TryToTree<'a> for OneSegment<'t, 'a> {
 
     fn try_to_tree(&self, arena: &'a Arena) -> Result<Option<Tree<'a>>, AllocError> {
         let segment = self.segment;
+        if !are_arguments_in(self.style, segment.arguments) {
+            return Ok(None);
+        }
         if self.is_keyword {
             let Some(inside) = keyword_alone(arena, segment)? else {
                 return Ok(None);

@@ -1,6 +1,6 @@
 //! What patterns are read as, as trees.
 
-ghost use Rattle.std.specs.Prelude.{◌≡◌};
+ghost use Rattle.std.specs.Prelude.{◌≡◌, ◌↔◌, IsTrue};
 ghost use Rattle.syn_ast.specs.Patterns.{field_pat, field_pattern_tree, field_patterns, literal_pattern};
 ghost use Rattle.syn_ast.specs.Patterns.{member_pattern_tree, pat_ident, pat_or, pat_parenthesized, pat_range_to};
 ghost use Rattle.syn_ast.specs.Patterns.{pat_reference, pat_rest, pat_several, pat_slice, pat_wild, path_behind};
@@ -8,13 +8,15 @@ ghost use Rattle.syn_ast.specs.Patterns.{path_pattern, range_bound, range_end, r
 ghost use Rattle.syn_ast.specs.Patterns.{signed_lit_tree};
 ghost use Rattle.syn_grammar.specs.Kind as k;
 ghost use Rattle.syn_grammar.specs.Tree as t;
-ghost use Rattle.syn_made.specs.MadeAst.{IsRangeEnd};
+ghost use Rattle.syn_made.specs.MadeAst.{IsLimit, IsRangeEnd};
 
 use crate::forms::{Called, First, Grouped, Node, Second};
+use crate::leaf::is_sign;
 use crate::to_tree::ToTree;
 use crate::try_to_tree::TryToTree;
 use gram_table::kind::Kind;
 use gram_table::part::Part;
+use gram_table::word::Sign;
 use gram_tree::arena::Arena;
 use gram_tree::tree::Tree;
 use std::alloc::AllocError;
@@ -106,18 +108,36 @@ impl<'a> ToTree<'a> for RangeLimits {
     }
 }
 
-impl<'t, 'a> ToTree<'a> for PatRangeTo<'t, 'a> {
-    ghost tree = { pat_range_to };
+/// Whether the punctuation of a range is `..` or `..=`, as it says.
+pub(crate) fn is_limit(limits: RangeLimits) -> bool
+    ensures { IsTrue result ↔ IsLimit limits }
+{
+    match limits {
+        RangeLimits::HalfOpen(mark) => is_sign(mark, Sign::DotDot),
+        RangeLimits::Closed(mark) => is_sign(mark, Sign::DotDotEq),
+    }
+}
 
-    fn to_tree(&self, arena: &'a Arena) -> Result<Tree<'a>, AllocError> {
-        Node(Kind::RangeToPattern, (self.limits, self.end)).to_tree(arena)
+impl<'t, 'a> TryToTree<'a> for PatRangeTo<'t, 'a> {
+    ghost says = { λ x tree. IsLimit x.limits × (tree ≡ pat_range_to x) };
+
+    fn try_to_tree(&self, arena: &'a Arena) -> Result<Option<Tree<'a>>, AllocError> {
+        if !is_limit(self.limits) {
+            return Ok(None);
+        }
+        let inside = (self.limits, self.end);
+        Ok(Some(Node(Kind::RangeToPattern, inside).to_tree(arena)?))
     }
 }
 
 impl<'t, 'a> TryToTree<'a> for RangeEnd<'t, 'a> {
-    ghost says = { λ x tree. IsRangeEnd x.limits x.end × (tree ≡ t.Node k.RangeEnd (range_end x.limits x.end)) };
+    ghost says = { λ x tree. IsLimit x.limits × IsRangeEnd x.limits x.end
+        × (tree ≡ t.Node k.RangeEnd (range_end x.limits x.end)) };
 
     fn try_to_tree(&self, arena: &'a Arena) -> Result<Option<Tree<'a>>, AllocError> {
+        if !is_limit(self.limits) {
+            return Ok(None);
+        }
         match (self.limits, self.end) {
             (RangeLimits::Closed(mark), Some(end)) => {
                 Ok(Some(Node(Kind::RangeEnd, First((mark, end))).to_tree(arena)?))

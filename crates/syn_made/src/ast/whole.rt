@@ -66,7 +66,17 @@ fn type_inside<'a>(arena: &'a Arena, form: &Type<'_, 'a>) -> Result<Option<Tree<
     }
 }
 
-// Whether the bounds of a type that is `dyn` or `impl` are as its place has them.
+// Whether a path is one of types.
+fn is_of_types(style: Style) -> bool
+    ensures { IsTrue result ↔ (style ≡ Style.AtType) }
+{
+    match style {
+        Style::AtType => true,
+        Style::InModule | Style::InExpression | Style::InType => false,
+    }
+}
+
+// Whether the bounds of a type that is `dyn` or `impl` are as its place has them, and a path is one of types.
 fn is_type_at(plus: Plus, form: &Type<'_, '_>) -> bool
     ensures { IsTrue result ↔ IsTypeAt plus form.now }
 {
@@ -75,12 +85,14 @@ fn is_type_at(plus: Plus, form: &Type<'_, '_>) -> bool
         Type::ImplTrait(found) => are_bounds(plus, found.bounds),
         Type::Tuple(_) | Type::Paren(_) | Type::Never(_) | Type::Reference(_) => true,
         Type::Ptr(_) | Type::Slice(_) | Type::Array(_) | Type::Infer(_) => true,
-        Type::FnPtr(_) | Type::Path(_) => true,
+        Type::Path(found) => is_of_types(found.style),
+        Type::FnPtr(_) => true,
     }
 }
 
 /// A type of its form, as a tree of the kind `AType`, for where a type stands; `None`, exactly where it is no tree there: a
-/// tuple of one element without a comma, or `dyn` or `impl` with several bounds where one may stand, or the other way.
+/// tuple of one element without a comma, `dyn` or `impl` with several bounds where one may stand, or the other way, or a
+/// path that is not one of types.
 ///
 /// # Errors
 ///
@@ -109,7 +121,7 @@ pub fn a_type<'a>(
     Ok(Some(Node(Kind::AType(plus), &inside).to_tree(arena)?))
 }
 
-/// A path as a type, as a tree of the kind `AType`.
+/// A path as a type, as a tree of the kind `AType`; `None`, exactly where it is not one of types.
 ///
 /// # Errors
 ///
@@ -118,13 +130,18 @@ pub fn path_type<'a>(
     arena: &'a Arena,
     plus: Plus,
     found: &Path<'_, 'a>,
-) -> Result<Tree<'a>, AllocError>
-    ensures same { IfOk result (λ x. x ≡ t.Node (k.AType (plus_of plus)) (seconds 9 (t.Node (k.AnyPath k.AtType)
-        (t.Second (path found.now))))) }
-    ensures form { IfOk result (λ x. form_of_type x ≡ t.Node (k.AnyPath k.AtType) (t.Second (path found.now))) }
+) -> Result<Option<Tree<'a>>, AllocError>
+    ensures same { IfOk result (λ o. MatchOption o (found.now.style ≡ Style.AtType → ⊥)
+        (λ x. (found.now.style ≡ Style.AtType) × (x ≡ t.Node (k.AType (plus_of plus)) (seconds 9
+        (t.Node (k.AnyPath k.AtType) (t.Second (path found.now))))))) }
+    ensures form { IfOk result (λ o. IfSome o (λ x. form_of_type x ≡ t.Node (k.AnyPath k.AtType) (t.Second
+        (path found.now)))) }
 {
+    if !is_of_types(found.style) {
+        return Ok(None);
+    }
     let form = Node(Kind::AnyPath(Style::AtType), Second(*found));
-    Node(Kind::AType(plus), Seconds(9, form)).to_tree(arena)
+    Ok(Some(Node(Kind::AType(plus), Seconds(9, form)).to_tree(arena)?))
 }
 
 // Alternatives in parentheses.

@@ -1,11 +1,14 @@
 //! Expressions with an operand on either side.
 
+ghost use Rattle.std.specs.Prelude.{◌≡◌};
 ghost use Rattle.syn_expr.specs.ExprInfix.{expr_assign, expr_binary};
+ghost use Rattle.syn_made.specs.MadeExpr.{IsBinary};
 
 use crate::expr::forms::Infix;
-use crate::expr::ops::bin_op_kind;
+use crate::expr::ops::{bin_op_kind, is_binary};
 use crate::forms::First;
 use crate::to_tree::ToTree;
+use crate::try_to_tree::TryToTree;
 use gram_table::kind::Kind;
 use gram_tree::arena::Arena;
 use gram_tree::tree::Tree;
@@ -21,11 +24,15 @@ impl<'t, 'a> ToTree<'a> for ExprAssign<'t, 'a> {
     }
 }
 
-impl<'t, 'a> ToTree<'a> for ExprBinary<'t, 'a> {
-    ghost tree = { expr_binary };
+impl<'t, 'a> TryToTree<'a> for ExprBinary<'t, 'a> {
+    ghost says = { λ x tree. IsBinary x.op × (tree ≡ expr_binary x) };
 
-    fn to_tree(&self, arena: &'a Arena) -> Result<Tree<'a>, AllocError> {
+    fn try_to_tree(&self, arena: &'a Arena) -> Result<Option<Tree<'a>>, AllocError> {
+        if !is_binary(self.op) {
+            return Ok(None);
+        }
         let kind = bin_op_kind(self.op);
-        Infix(self.left, kind, self.op, self.right).to_tree(arena)
+        let form = Infix(self.left, kind, self.op, self.right);
+        Ok(Some(form.to_tree(arena)?))
     }
 }

@@ -2,8 +2,9 @@
 
 ghost use Rattle.std.specs.Prelude.{◌≡◌, ◌↔◌, IsTrue};
 ghost use Rattle.syn_expr.specs.ExprJumps.{expr_break, expr_range, expr_return, expr_yield};
-ghost use Rattle.syn_made.specs.MadeAst.{IsRangeEnd};
+ghost use Rattle.syn_made.specs.MadeAst.{IsLimit, IsRangeEnd};
 
+use crate::ast::patterns::is_limit;
 use crate::expr::forms::{AnyForm, Jump};
 use crate::expr::ops::{limits_kind, limits_mark};
 use crate::forms::{Called, First, Second};
@@ -60,9 +61,12 @@ fn is_range_end(limits: RangeLimits, end: Option<&Tree<'_>>) -> bool
 }
 
 impl<'t, 'a> TryToTree<'a> for ExprRange<'t, 'a> {
-    ghost says = { λ x tree. IsRangeEnd x.limits x.end × (tree ≡ expr_range x) };
+    ghost says = { λ x tree. IsLimit x.limits × IsRangeEnd x.limits x.end × (tree ≡ expr_range x) };
 
     fn try_to_tree(&self, arena: &'a Arena) -> Result<Option<Tree<'a>>, AllocError> {
+        if !is_limit(self.limits) {
+            return Ok(None);
+        }
         if is_range_end(self.limits, self.end) {
             let kind = limits_kind(self.limits);
             let form = AnyForm(self.start, kind, limits_mark(self.limits), self.end);

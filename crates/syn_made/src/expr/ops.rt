@@ -1,13 +1,16 @@
 //! Operators.
 
 ghost use Rattle.gram_table.specs.Kinds.{kind_of};
-ghost use Rattle.std.specs.Prelude.{◌≡◌};
+ghost use Rattle.std.specs.Prelude.{◌≡◌, ◌↔◌, IsTrue};
 ghost use Rattle.syn_ast.specs.Leaves.{mark_tree};
 ghost use Rattle.syn_expr.specs.ExprOps.{bin_op_kind, bin_op_tree, limits_kind, limits_tree, un_op_tree};
+ghost use Rattle.syn_made.specs.MadeExpr.{IsBinary, IsUnary};
 
 use crate::expr::forms::Nth;
+use crate::leaf::is_sign;
 use crate::to_tree::ToTree;
 use gram_table::kind::Kind;
+use gram_table::word::Sign;
 use gram_tree::arena::Arena;
 use gram_tree::tree::Tree;
 use std::alloc::AllocError;
@@ -92,5 +95,52 @@ pub fn limits_mark(limits: RangeLimits) -> Mark
 {
     match limits {
         RangeLimits::HalfOpen(sign) | RangeLimits::Closed(sign) => sign,
+    }
+}
+
+/// Whether the punctuation of a unary operator is that operator's.
+pub(crate) fn is_unary(op: UnOp) -> bool
+    ensures { IsTrue result ↔ IsUnary op }
+{
+    match op {
+        UnOp::Deref(mark) => is_sign(mark, Sign::Star),
+        UnOp::Not(mark) => is_sign(mark, Sign::Not),
+        UnOp::Neg(mark) => is_sign(mark, Sign::Minus),
+    }
+}
+
+/// Whether the punctuation of a binary operator is that operator's.
+pub(crate) fn is_binary(op: BinOp) -> bool
+    ensures { IsTrue result ↔ IsBinary op }
+{
+    match op {
+        BinOp::Add(mark) => is_sign(mark, Sign::Plus),
+        BinOp::Sub(mark) => is_sign(mark, Sign::Minus),
+        BinOp::Mul(mark) => is_sign(mark, Sign::Star),
+        BinOp::Div(mark) => is_sign(mark, Sign::Slash),
+        BinOp::Rem(mark) => is_sign(mark, Sign::Percent),
+        BinOp::And(mark) => is_sign(mark, Sign::AndAnd),
+        BinOp::Or(mark) => is_sign(mark, Sign::OrOr),
+        BinOp::BitXor(mark) => is_sign(mark, Sign::Caret),
+        BinOp::BitAnd(mark) => is_sign(mark, Sign::And),
+        BinOp::BitOr(mark) => is_sign(mark, Sign::Or),
+        BinOp::Shl(mark) => is_sign(mark, Sign::Shl),
+        BinOp::Shr(mark) => is_sign(mark, Sign::Shr),
+        BinOp::Eq(mark) => is_sign(mark, Sign::EqEq),
+        BinOp::Lt(mark) => is_sign(mark, Sign::Lt),
+        BinOp::Le(mark) => is_sign(mark, Sign::Le),
+        BinOp::Ne(mark) => is_sign(mark, Sign::Ne),
+        BinOp::Ge(mark) => is_sign(mark, Sign::Ge),
+        BinOp::Gt(mark) => is_sign(mark, Sign::Gt),
+        BinOp::AddAssign(mark) => is_sign(mark, Sign::PlusEq),
+        BinOp::SubAssign(mark) => is_sign(mark, Sign::MinusEq),
+        BinOp::MulAssign(mark) => is_sign(mark, Sign::StarEq),
+        BinOp::DivAssign(mark) => is_sign(mark, Sign::SlashEq),
+        BinOp::RemAssign(mark) => is_sign(mark, Sign::PercentEq),
+        BinOp::BitXorAssign(mark) => is_sign(mark, Sign::CaretEq),
+        BinOp::BitAndAssign(mark) => is_sign(mark, Sign::AndEq),
+        BinOp::BitOrAssign(mark) => is_sign(mark, Sign::OrEq),
+        BinOp::ShlAssign(mark) => is_sign(mark, Sign::ShlEq),
+        BinOp::ShrAssign(mark) => is_sign(mark, Sign::ShrEq),
     }
 }

@@ -3,9 +3,12 @@
 ghost use Rattle.std.specs.Prelude.{◌≡◌};
 ghost use Rattle.syn_expr.specs.ExprPrefix.{closure_head, closure_tree, expr_attributed, expr_closure, expr_let};
 ghost use Rattle.syn_expr.specs.ExprPrefix.{expr_raw_addr, expr_reference, expr_unary};
+ghost use Rattle.syn_made.specs.MadeExpr.{IsUnary};
 
 use crate::expr::forms::{Alone, Front};
+use crate::expr::ops::is_unary;
 use crate::to_tree::ToTree;
+use crate::try_to_tree::TryToTree;
 use gram_table::kind::Kind;
 use gram_tree::arena::Arena;
 use gram_tree::tree::Tree;
@@ -22,11 +25,15 @@ impl<'t, 'a> ToTree<'a> for ExprAttributed<'t, 'a> {
     }
 }
 
-impl<'t, 'a> ToTree<'a> for ExprUnary<'t, 'a> {
-    ghost tree = { expr_unary };
+impl<'t, 'a> TryToTree<'a> for ExprUnary<'t, 'a> {
+    ghost says = { λ x tree. IsUnary x.op × (tree ≡ expr_unary x) };
 
-    fn to_tree(&self, arena: &'a Arena) -> Result<Tree<'a>, AllocError> {
-        Front(Kind::ExprUnary, self.op, self.expr).to_tree(arena)
+    fn try_to_tree(&self, arena: &'a Arena) -> Result<Option<Tree<'a>>, AllocError> {
+        if !is_unary(self.op) {
+            return Ok(None);
+        }
+        let form = Front(Kind::ExprUnary, self.op, self.expr);
+        Ok(Some(form.to_tree(arena)?))
     }
 }
 

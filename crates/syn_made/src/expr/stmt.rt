@@ -2,22 +2,29 @@
 
 ghost use Rattle.gram_tree.specs.Forms.{turns};
 ghost use Rattle.std.specs.Prelude.{◌≡◌, IfOk, map};
-ghost use Rattle.syn_expr.specs.Statements.{IsAlternative, IsStmt, block_stmt, local, local_init_tree, one_statement};
-ghost use Rattle.syn_expr.specs.Statements.{statements, stmt_expr, stmt_local, stmt_macro};
+ghost use Rattle.syn_expr.specs.Statements.{IsAlternative, IsStmt, block_stmt, one_statement, statements, stmt_expr};
+ghost use Rattle.syn_expr.specs.Statements.{stmt_local, stmt_macro};
 ghost use Rattle.syn_grammar.specs.Kind as k;
 ghost use Rattle.syn_grammar.specs.Tree as t;
-ghost use Rattle.syn_made.specs.MadeExpr.{chosen_stmt, is_macro_form, is_macro_item};
+ghost use Rattle.syn_made.specs.MadeExpr.{chosen_stmt, closed_value, is_macro_form, is_macro_item, made_init};
+ghost use Rattle.syn_made.specs.MadeExpr.{made_local, value_before};
 
 use crate::expr::forms::Nth;
+use crate::expr::whole::expression;
 use crate::forms::{Called, First, Grouped, Node, Second};
 use crate::to_tree::ToTree;
-use gram_table::kind::Kind;
+use gram_judge::closing::ends_in_braces;
+use gram_table::kind::{Kind, Position};
 use gram_table::part::Part;
 use gram_tree::arena::Arena;
 use gram_tree::made;
 use gram_tree::tree::Tree;
+use proc_macro2::delimiter::Delimiter;
+use rust_map::span::Span;
 use std::alloc::AllocError;
 use syn_ast::leaf::Delimiters;
+use syn_ast::sub::Worded;
+use syn_expr::expr::whole::ExprParen;
 use syn_expr::stmt::{
     BlockStmt, Local, LocalInit, OneStatement, Statements, Stmt, StmtExpr, StmtLocal, StmtMacro,
 };
@@ -33,11 +40,46 @@ impl<'t, 'a> ToTree<'a> for BlockStmt<'t, 'a> {
     }
 }
 
+// A value in parentheses where it ends in braces.
+fn closed_value<'a>(arena: &'a Arena, value: &Tree<'a>) -> Result<Tree<'a>, AllocError>
+    ensures { IfOk result (λ x. x ≡ closed_value value.now) }
+{
+    if !ends_in_braces(value) {
+        return Ok(value.copy());
+    }
+    let paren_token = Delimiters {
+        delimiter: Delimiter::Parenthesis,
+        span: Span::call_site(),
+    };
+    let form = ExprParen {
+        paren_token,
+        expr: value,
+    }
+    .to_tree(arena)?;
+    expression(arena, Position::Plain, form)
+}
+
+// The value of a `let`, as it stands before `else`, if one stands behind it.
+fn value_before<'a>(
+    arena: &'a Arena,
+    diverge: Option<Worded<'_, 'a>>,
+    value: &Tree<'a>,
+) -> Result<Tree<'a>, AllocError>
+    ensures { IfOk result (λ x. x ≡ value_before diverge.entry value.now) }
+{
+    match diverge {
+        None => Ok(value.copy()),
+        Some(_) => closed_value(arena, value),
+    }
+}
+
+// The grammar has no `else` behind a value that ends in braces, as `S { }`: in parentheses it ends otherwise.
 impl<'t, 'a> ToTree<'a> for LocalInit<'t, 'a> {
-    ghost tree = { local_init_tree };
+    ghost tree = { made_init };
 
     fn to_tree(&self, arena: &'a Arena) -> Result<Tree<'a>, AllocError> {
-        let value = Called(Part::Value, self.expr);
+        let value = value_before(arena, self.diverge, self.expr)?;
+        let value = Called(Part::Value, &value);
         match self.diverge {
             None => (self.eq_token, value, Second(())).to_tree(arena),
             Some(diverge) => {
@@ -64,7 +106,7 @@ impl<'t, 'a> ToTree<'a> for OneStatement<'t, 'a> {
 }
 
 impl<'t, 'a> ToTree<'a> for Local<'t, 'a> {
-    ghost tree = { local };
+    ghost tree = { made_local };
 
     fn to_tree(&self, arena: &'a Arena) -> Result<Tree<'a>, AllocError> {
         let end = (self.init, self.semi_token);
@@ -107,20 +149,22 @@ impl<'t, 'a> ToTree<'a> for StmtExpr<'t, 'a> {
     }
 }
 
-// Whether the form of an item is a macro.
+// Whether the form of an item is a macro that has a name behind its `!`.
+#[tactic(auto, using(crate::proofs::StmtForms::macro_form_at))]
 fn is_macro_form(form: &Tree<'_>) -> bool
     ensures { result ≡ is_macro_form form.now }
 {
     match form.node() {
-        Some((kind, _)) => match kind {
-            Kind::ItemMacro(_) => true,
+        Some((kind, inside)) => match kind {
+            Kind::ItemMacro(_) => inside.has(Part::Name),
             _ => false,
         },
         None => false,
     }
 }
 
-// Whether an item is a macro. Of a statement's alternatives that is the first, and the other items are the fourth.
+// Whether an item is a macro with a name. Of a statement's alternatives that is the first, and the other items are the
+// fourth.
 #[tactic(auto, using(crate::proofs::StmtForms::macro_items))]
 fn is_macro(item: &Tree<'_>) -> bool
     ensures { result ≡ is_macro_item item.now }
