@@ -37,9 +37,9 @@ fn trait_front<'a>(
         (λ x. IsTraitFront modifier lifetimes.entry × (x ≡ trait_front modifier lifetimes.entry))) }
 {
     match (modifier, lifetimes) {
-        (TraitBoundModifier::Maybe(mark), None) => Ok(Some(First(mark).to_tree(arena)?)),
+        (TraitBoundModifier::Maybe(mark), None) => First(mark).to_some_tree(arena),
         (TraitBoundModifier::Maybe(_), Some(_)) => Ok(None),
-        (TraitBoundModifier::None, lifetimes) => Ok(Some(Second(lifetimes).to_tree(arena)?)),
+        (TraitBoundModifier::None, lifetimes) => Second(lifetimes).to_some_tree(arena),
     }
 }
 
@@ -48,7 +48,7 @@ impl<'t, 'a> TryToTree<'a> for TraitBound<'t, 'a> {
 
     fn try_to_tree(&self, arena: &'a Arena) -> Result<Option<Tree<'a>>, AllocError> {
         match trait_front(arena, self.modifier, self.lifetimes)? {
-            Some(front) => Ok(Some(Node(Kind::TraitPath, (&front, self.path)).to_tree(arena)?)),
+            Some(front) => Node(Kind::TraitPath, (&front, self.path)).to_some_tree(arena),
             None => Ok(None),
         }
     }

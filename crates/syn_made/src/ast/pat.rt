@@ -8,7 +8,7 @@ ghost use Rattle.syn_grammar.specs.Kind as k;
 ghost use Rattle.syn_grammar.specs.Tree as t;
 ghost use Rattle.syn_made.specs.MadeAst.{IsRange, IsRangeEnd, IsWholePat};
 
-use crate::forms::{First, Grouped, Node, Second};
+use crate::forms::{First, Grouped, Node, Second, Seconds};
 use crate::lists::Only;
 use crate::to_tree::ToTree;
 use crate::try_to_tree::TryToTree;
@@ -86,12 +86,12 @@ fn range_from<'a>(
     let Some(end) = end.try_to_tree(arena)? else {
         return Ok(None);
     };
-    let end = First(&end);
     match start {
-        RangeBound::Lit(lit) => Ok(Some(Node(Kind::LiteralPattern, (lit, end)).to_tree(arena)?)),
+        RangeBound::Lit(lit) => {
+            Node(Kind::LiteralPattern, (lit, First(&end))).to_some_tree(arena)
+        }
         RangeBound::Path(path) => {
-            let inside = (path, Second(Second(end)));
-            Ok(Some(Node(Kind::PathPattern, inside).to_tree(arena)?))
+            Node(Kind::PathPattern, (path, Seconds(2, First(&end)))).to_some_tree(arena)
         }
     }
 }
@@ -102,11 +102,8 @@ impl<'t, 'a> TryToTree<'a> for PatRange<'t, 'a> {
     fn try_to_tree(&self, arena: &'a Arena) -> Result<Option<Tree<'a>>, AllocError> {
         let limits = self.limits;
         match (self.start, self.end) {
-            (Some(start), end) => match range_from(arena, start, RangeEnd { limits, end })? {
-                Some(tree) => Ok(Some(tree)),
-                None => Ok(None),
-            },
-            (None, Some(end)) => Ok(Some(PatRangeTo { limits, end }.to_tree(arena)?)),
+            (Some(start), end) => range_from(arena, start, RangeEnd { limits, end }),
+            (None, Some(end)) => PatRangeTo { limits, end }.to_some_tree(arena),
             (None, None) => Ok(None),
         }
     }

@@ -1,19 +1,22 @@
 //! Paths, members and macros as trees.
 
 ghost use Rattle.std.specs.Prelude.{◌≡◌, IfOk, MatchOption};
+ghost use Rattle.syn_ast.specs.Leaves.{word_tree};
 ghost use Rattle.syn_ast.specs.Paths.{angle_bracketed_generic_arguments, argument_inside, assoc_type_tree};
-ghost use Rattle.syn_ast.specs.Paths.{behind_keyword, behind_name, delimited, generic_argument, index, keyword_alone};
+ghost use Rattle.syn_ast.specs.Paths.{behind_keyword, behind_name, delimited, generic_argument, index};
 ghost use Rattle.syn_ast.specs.Paths.{macro, member, one_segment, parenthesized_generic_arguments, path};
 ghost use Rattle.syn_ast.specs.Paths.{qualified_path, segment_end, segments, segments_inside};
+ghost use Rattle.syn_grammar.specs.Tree as t;
 ghost use Rattle.syn_made.specs.MadeAst.{AreWhole, IsBare, IsNameEnd, IsSegmentEnd, IsWholeSegment};
 
-use crate::forms::{Called, First, Grouped, Node, Second};
+use crate::forms::{Called, First, Grouped, Node, Second, Seconds};
 use crate::to_tree::ToTree;
 use crate::try_to_tree::TryToTree;
 use gram_table::kind::Kind;
 use gram_table::part::Part;
 use gram_tree::arena::Arena;
 use gram_tree::tree::Tree;
+use rust_leaf::ident::Ident;
 use std::alloc::AllocError;
 use syn_ast::paths::{
     AngleBracketedGenericArguments, AssocType, Delimited, GenericArgument, Index, Macro,
@@ -70,38 +73,44 @@ impl<'t, 'a> ToTree<'a> for Macro<'t, 'a> {
     }
 }
 
-// What stands behind a keyword, if it has no arguments: perhaps `::` and further segments.
-fn behind_keyword<'a>(
+// A keyword and what stands behind it, if it has no arguments: perhaps `::` and further segments.
+fn from_keyword<'a>(
     arena: &'a Arena,
+    word: &'a Ident,
     arguments: PathArguments<'_, 'a>,
     others: Option<Marked<'_, 'a>>,
 ) -> Result<Option<Tree<'a>>, AllocError>
     ensures { IfOk result (λ o. MatchOption o (IsBare arguments.entry → ⊥)
-        (λ x. IsBare arguments.entry × (x ≡ behind_keyword arguments.entry others.entry))) }
+        (λ x. IsBare arguments.entry
+        × (x ≡ t.First (t.Pair (word_tree word.entry) (behind_keyword arguments.entry others.entry))))) }
 {
     match arguments {
-        PathArguments::None => Ok(Some(others.to_tree(arena)?)),
+        PathArguments::None => First((word, others)).to_some_tree(arena),
         _ => Ok(None),
     }
 }
 
-// What stands behind a name: its arguments, and perhaps `::` and further segments, if they are not in parentheses.
-fn behind_name<'a>(
+// A name and what stands behind it: its arguments, and perhaps `::` and further segments, if they are not in parentheses.
+fn from_name<'a>(
     arena: &'a Arena,
+    word: &'a Ident,
     arguments: PathArguments<'_, 'a>,
     others: Option<Marked<'_, 'a>>,
 ) -> Result<Option<Tree<'a>>, AllocError>
     ensures { IfOk result (λ o. MatchOption o (IsNameEnd arguments.entry others.entry → ⊥)
-        (λ x. IsNameEnd arguments.entry others.entry × (x ≡ behind_name arguments.entry others.entry))) }
+        (λ x. IsNameEnd arguments.entry others.entry
+        × (x ≡ t.Second (t.Pair (word_tree word.entry) (behind_name arguments.entry others.entry))))) }
 {
     match (arguments, others) {
         (PathArguments::AngleBracketed(args), others) => {
-            Ok(Some(First((args, others)).to_tree(arena)?))
+            Second((word, First((args, others)))).to_some_tree(arena)
         }
-        (PathArguments::None, Some(others)) => Ok(Some(Second(First(others)).to_tree(arena)?)),
-        (PathArguments::None, None) => Ok(Some(Second(Second(Second(()))).to_tree(arena)?)),
+        (PathArguments::None, Some(others)) => Second((word, Second(First(others)))).to_some_tree(
+            arena,
+        ),
+        (PathArguments::None, None) => Second((word, Seconds(3, ()))).to_some_tree(arena),
         (PathArguments::Parenthesized(args), None) => {
-            Ok(Some(Second(Second(First(args))).to_tree(arena)?))
+            Second((word, Seconds(2, First(args)))).to_some_tree(arena)
         }
         (PathArguments::Parenthesized(_), Some(_)) => Ok(None),
     }
@@ -119,15 +128,10 @@ fn segments_inside<'a>(
         × (x ≡ segments_inside is_keyword first.entry others.entry))) }
 {
     if is_keyword {
-        let Some(behind) = behind_keyword(arena, first.arguments, others)? else {
-            return Ok(None);
-        };
-        return Ok(Some(First((first.ident, &behind)).to_tree(arena)?));
+        from_keyword(arena, first.ident, first.arguments, others)
+    } else {
+        from_name(arena, first.ident, first.arguments, others)
     }
-    let Some(behind) = behind_name(arena, first.arguments, others)? else {
-        return Ok(None);
-    };
-    Ok(Some(Second((first.ident, &behind)).to_tree(arena)?))
 }
 
 impl<'t, 'a> TryToTree<'a> for Segments<'t, 'a> {
@@ -135,7 +139,7 @@ impl<'t, 'a> TryToTree<'a> for Segments<'t, 'a> {
 
     fn try_to_tree(&self, arena: &'a Arena) -> Result<Option<Tree<'a>>, AllocError> {
         match segments_inside(arena, self.is_keyword, self.first, self.others)? {
-            Some(inside) => Ok(Some(Node(Kind::Segments(self.style), &inside).to_tree(arena)?)),
+            Some(inside) => Node(Kind::Segments(self.style), &inside).to_some_tree(arena),
             None => Ok(None),
         }
     }
@@ -153,33 +157,20 @@ impl<'t, 'a> ToTree<'a> for PathArguments<'t, 'a> {
     }
 }
 
-// A keyword by itself, if it has no arguments.
-fn keyword_alone<'a>(
-    arena: &'a Arena,
-    segment: PathSegment<'_, 'a>,
-) -> Result<Option<Tree<'a>>, AllocError>
-    ensures { IfOk result (λ o. MatchOption o (IsBare segment.entry.arguments → ⊥)
-        (λ x. IsBare segment.entry.arguments × (x ≡ keyword_alone segment.entry segment.entry.arguments))) }
-{
-    match segment.arguments {
-        PathArguments::None => Ok(Some(First(segment.ident).to_tree(arena)?)),
-        _ => Ok(None),
-    }
-}
-
 impl<'t, 'a> TryToTree<'a> for OneSegment<'t, 'a> {
     ghost says = { λ x tree. IsWholeSegment x × (tree ≡ one_segment x) };
 
     fn try_to_tree(&self, arena: &'a Arena) -> Result<Option<Tree<'a>>, AllocError> {
-        let segment = self.segment;
-        if self.is_keyword {
-            let Some(inside) = keyword_alone(arena, segment)? else {
-                return Ok(None);
-            };
-            return Ok(Some(Node(Kind::Segment(self.style), &inside).to_tree(arena)?));
+        let word = self.segment.ident;
+        match (self.is_keyword, self.segment.arguments) {
+            (true, PathArguments::None) => {
+                Node(Kind::Segment(self.style), First(word)).to_some_tree(arena)
+            }
+            (true, _) => Ok(None),
+            (false, arguments) => {
+                Node(Kind::Segment(self.style), Second((word, arguments))).to_some_tree(arena)
+            }
         }
-        let inside = Second((segment.ident, segment.arguments));
-        Ok(Some(Node(Kind::Segment(self.style), inside).to_tree(arena)?))
     }
 }
 
@@ -204,11 +195,9 @@ impl<'t, 'a> ToTree<'a> for Argument<'t, 'a> {
                 First(Called(Part::Lifetime, lifetime)).to_tree(arena)
             }
             GenericArgument::Const(lit) => Second(First(lit)).to_tree(arena),
-            GenericArgument::ConstBlock(block) => Second(Second(First(block))).to_tree(arena),
-            GenericArgument::AssocType(assoc) => {
-                Second(Second(Second(First(assoc)))).to_tree(arena)
-            }
-            GenericArgument::Type(ty) => Second(Second(Second(Second(ty)))).to_tree(arena),
+            GenericArgument::ConstBlock(block) => Seconds(2, First(block)).to_tree(arena),
+            GenericArgument::AssocType(assoc) => Seconds(3, First(assoc)).to_tree(arena),
+            GenericArgument::Type(ty) => Seconds(4, ty).to_tree(arena),
         }
     }
 }

@@ -120,11 +120,11 @@ impl<'t, 'a> TryToTree<'a> for RangeEnd<'t, 'a> {
     fn try_to_tree(&self, arena: &'a Arena) -> Result<Option<Tree<'a>>, AllocError> {
         match (self.limits, self.end) {
             (RangeLimits::Closed(mark), Some(end)) => {
-                Ok(Some(Node(Kind::RangeEnd, First((mark, end))).to_tree(arena)?))
+                Node(Kind::RangeEnd, First((mark, end))).to_some_tree(arena)
             }
             (RangeLimits::Closed(_), None) => Ok(None),
             (RangeLimits::HalfOpen(mark), end) => {
-                Ok(Some(Node(Kind::RangeEnd, Second((mark, end))).to_tree(arena)?))
+                Node(Kind::RangeEnd, Second((mark, end))).to_some_tree(arena)
             }
         }
     }

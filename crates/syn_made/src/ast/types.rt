@@ -167,7 +167,7 @@ impl<'t, 'a> TryToTree<'a> for TypeTraitObject<'t, 'a> {
     fn try_to_tree(&self, arena: &'a Arena) -> Result<Option<Tree<'a>>, AllocError> {
         if are_bounds(self.plus, self.bounds) {
             let inside = (self.dyn_token, self.bounds);
-            return Ok(Some(Node(Kind::DynType(self.plus), inside).to_tree(arena)?));
+            return Node(Kind::DynType(self.plus), inside).to_some_tree(arena);
         }
         Ok(None)
     }
@@ -179,7 +179,7 @@ impl<'t, 'a> TryToTree<'a> for TypeImplTrait<'t, 'a> {
     fn try_to_tree(&self, arena: &'a Arena) -> Result<Option<Tree<'a>>, AllocError> {
         if are_bounds(self.plus, self.bounds) {
             let inside = (self.impl_token, self.bounds);
-            return Ok(Some(Node(Kind::ImplType(self.plus), inside).to_tree(arena)?));
+            return Node(Kind::ImplType(self.plus), inside).to_some_tree(arena);
         }
         Ok(None)
     }
@@ -241,7 +241,7 @@ impl<'t, 'a> TryToTree<'a> for TypeTuple<'t, 'a> {
             Some(_) => Ok(None),
             None => {
                 let inside = Grouped(self.paren_token, self.elems);
-                Ok(Some(Node(Kind::TupleType, inside).to_tree(arena)?))
+                Node(Kind::TupleType, inside).to_some_tree(arena)
             }
         }
     }

@@ -61,8 +61,8 @@ fn type_inside<'a>(arena: &'a Arena, form: &Type<'_, 'a>) -> Result<Option<Tree<
         return Ok(None);
     };
     match form {
-        Type::Path(_) => Ok(Some(Seconds(9, &tree).to_tree(arena)?)),
-        _ => Ok(Some(Seconds(before_type(form), First(&tree)).to_tree(arena)?)),
+        Type::Path(_) => Seconds(9, &tree).to_some_tree(arena),
+        _ => Seconds(before_type(form), First(&tree)).to_some_tree(arena),
     }
 }
 
@@ -106,7 +106,7 @@ pub fn a_type<'a>(
     let Some(inside) = type_inside(arena, form)? else {
         return Ok(None);
     };
-    Ok(Some(Node(Kind::AType(plus), &inside).to_tree(arena)?))
+    Node(Kind::AType(plus), &inside).to_some_tree(arena)
 }
 
 /// A path as a type, as a tree of the kind `AType`.
@@ -157,9 +157,9 @@ fn range_inside<'a>(
         return Ok(None);
     };
     match found.start {
-        None => Ok(Some(Seconds(2, First(&form)).to_tree(arena)?)),
-        Some(RangeBound::Lit(_)) => Ok(Some(Seconds(7, First(&form)).to_tree(arena)?)),
-        Some(RangeBound::Path(_)) => Ok(Some(Seconds(8, &form).to_tree(arena)?)),
+        None => Seconds(2, First(&form)).to_some_tree(arena),
+        Some(RangeBound::Lit(_)) => Seconds(7, First(&form)).to_some_tree(arena),
+        Some(RangeBound::Path(_)) => Seconds(8, &form).to_some_tree(arena),
     }
 }
 
@@ -175,13 +175,13 @@ fn one_inside<'a>(arena: &'a Arena, form: &Pat<'_, 'a>) -> Result<Option<Tree<'a
         Pat::Rest(found) => Seconds(3, First(found)).to_some_tree(arena),
         Pat::Paren(found) => Seconds(4, First(found)).to_some_tree(arena),
         Pat::Tuple(found) => Seconds(4, First(found)).to_some_tree(arena),
-        Pat::Or(found) => Ok(Some(Seconds(4, First(InParens(found))).to_tree(arena)?)),
+        Pat::Or(found) => Seconds(4, First(InParens(found))).to_some_tree(arena),
         Pat::Slice(found) => Seconds(5, First(found)).to_some_tree(arena),
         Pat::Reference(found) => Seconds(6, First(found)).to_some_tree(arena),
         Pat::Lit(found) => Seconds(7, First(found)).to_some_tree(arena),
-        Pat::Path(found) => Ok(Some(Seconds(8, found).to_tree(arena)?)),
-        Pat::Struct(found) => Ok(Some(Seconds(8, found).to_tree(arena)?)),
-        Pat::TupleStruct(found) => Ok(Some(Seconds(8, found).to_tree(arena)?)),
+        Pat::Path(found) => Seconds(8, found).to_some_tree(arena),
+        Pat::Struct(found) => Seconds(8, found).to_some_tree(arena),
+        Pat::TupleStruct(found) => Seconds(8, found).to_some_tree(arena),
     }
 }
 
@@ -204,7 +204,7 @@ pub fn one_pattern<'a>(arena: &'a Arena, form: &Pat<'_, 'a>) -> Result<Option<Tr
     let Some(inside) = one_inside(arena, form)? else {
         return Ok(None);
     };
-    Ok(Some(Node(Kind::OnePattern, &inside).to_tree(arena)?))
+    Node(Kind::OnePattern, &inside).to_some_tree(arena)
 }
 
 /// A pattern of its form, as a tree of the kind `Pattern`, for where alternatives may stand, perhaps behind a `|`; `None`,
@@ -224,13 +224,13 @@ pub fn pattern<'a>(arena: &'a Arena, form: &Pat<'_, 'a>) -> Result<Option<Tree<'
         → IsShaped x (g.ref k.Pattern))) }
 {
     if let Pat::Or(found) = form {
-        return Ok(Some(found.to_tree(arena)?));
+        return found.to_some_tree(arena);
     }
     let Some(one) = one_pattern(arena, form)? else {
         return Ok(None);
     };
     let inside = (Second(()), &one, Turns { each: &[] });
-    Ok(Some(Node(Kind::Pattern, inside).to_tree(arena)?))
+    Node(Kind::Pattern, inside).to_some_tree(arena)
 }
 
 /// A pattern of its form, as a tree of the kind `SeveralPatterns`, for where alternatives may stand, but no `|` in front
@@ -254,11 +254,11 @@ pub fn several_patterns<'a>(
 {
     if let Pat::Or(found) = form {
         let inside = (found.first, found.others);
-        return Ok(Some(Node(Kind::SeveralPatterns, inside).to_tree(arena)?));
+        return Node(Kind::SeveralPatterns, inside).to_some_tree(arena);
     }
     let Some(one) = one_pattern(arena, form)? else {
         return Ok(None);
     };
     let inside = (&one, Turns { each: &[] });
-    Ok(Some(Node(Kind::SeveralPatterns, inside).to_tree(arena)?))
+    Node(Kind::SeveralPatterns, inside).to_some_tree(arena)
 }

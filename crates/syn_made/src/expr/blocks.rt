@@ -26,7 +26,7 @@ impl<'t, 'a> TryToTree<'a> for File<'t, 'a> {
 
     fn try_to_tree(&self, arena: &'a Arena) -> Result<Option<Tree<'a>>, AllocError> {
         match (self.shebang, self.frontmatter) {
-            (None, None) => Ok(Some(Node(Kind::AFile, (self.attrs, self.items)).to_tree(arena)?)),
+            (None, None) => Node(Kind::AFile, (self.attrs, self.items)).to_some_tree(arena),
             _ => Ok(None),
         }
     }

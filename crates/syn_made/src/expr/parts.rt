@@ -37,10 +37,10 @@ fn arm_end<'a>(
         (λ x. IsArmEnd at_end comma × (x ≡ arm_comma_tree at_end comma))) }
 {
     match (at_end, comma) {
-        (true, None) => Ok(Some(First(()).to_tree(arena)?)),
+        (true, None) => First(()).to_some_tree(arena),
         (true, Some(_)) => Ok(None),
-        (false, Some(comma)) => Ok(Some(Nth(1, comma).to_tree(arena)?)),
-        (false, None) => Ok(Some(Second(Second(())).to_tree(arena)?)),
+        (false, Some(comma)) => Nth(1, comma).to_some_tree(arena),
+        (false, None) => Second(Second(())).to_some_tree(arena),
     }
 }
 
@@ -56,7 +56,7 @@ impl<'t, 'a> TryToTree<'a> for Arm<'t, 'a> {
         let end = Called(Part::Comma, &end);
         let behind = (self.guard, self.fat_arrow_token, body, end);
         let inside = First((self.attrs, self.pat, behind));
-        Ok(Some(Node(Kind::Arm, inside).to_tree(arena)?))
+        Node(Kind::Arm, inside).to_some_tree(arena)
     }
 }
 
@@ -92,10 +92,10 @@ impl<'t, 'a> TryToTree<'a> for FieldValue<'t, 'a> {
             (member, Some(colon_token), Some(value)) => {
                 let init = (member, colon_token, Called(Part::Value, value));
                 let inside = (self.attrs, Second(init));
-                Ok(Some(Node(Kind::FieldValue, inside).to_tree(arena)?))
+                Node(Kind::FieldValue, inside).to_some_tree(arena)
             }
             (Member::Named(name), None, None) => {
-                Ok(Some(Node(Kind::FieldValue, (self.attrs, First(name))).to_tree(arena)?))
+                Node(Kind::FieldValue, (self.attrs, First(name))).to_some_tree(arena)
             }
             _ => Ok(None),
         }

@@ -71,7 +71,7 @@ impl<'t, 'a> TryToTree<'a> for ExprTuple<'t, 'a> {
             Some(_) => Ok(None),
             None => {
                 let own = Grouped(self.paren_token, self.elems);
-                Ok(Some(Alone(Kind::ExprParen, own).to_tree(arena)?))
+                Alone(Kind::ExprParen, own).to_some_tree(arena)
             }
         }
     }

@@ -1,5 +1,6 @@
 //! Items among others, by their form: in a file or a module, in a trait, an impl or an extern block.
 
+ghost use Rattle.gram_table.specs.Kinds.{kind_of};
 ghost use Rattle.gram_table.specs.Parts.{part_of};
 ghost use Rattle.gram_tree.specs.Forms.{turns as in_turn};
 ghost use Rattle.syn_made.specs.MadeAmong.{IsOfForm, among_item, before, form_entry, holds, kept_item};
@@ -163,13 +164,12 @@ fn member<'a>(
 ) -> Result<Tree<'a>, AllocError>
     ensures { IfOk result (λ x. x ≡ member_inside attrs.now vis.now defaultness.entry item.now) }
 {
-    let chosen = item.to_tree(arena)?;
     if let AssociatedForm::Verbatim = item.form {
-        return Ok(chosen);
+        return item.to_tree(arena);
     }
     let vis = Called(Part::Visibility, vis);
     let default = MaybeCalled(Part::Default, defaultness);
-    First((attrs, vis, default, Called(Part::Item, &chosen))).to_tree(arena)
+    First((attrs, vis, default, Called(Part::Item, *item))).to_tree(arena)
 }
 
 /// An item of a trait, as a node of the kind `ATraitItem`, with its attributes, its visibility and `default`. One that is
@@ -232,12 +232,19 @@ pub fn foreign_item<'a>(
     ensures same { IfOk result (λ x. x ≡ t.Node k.AForeignItem (foreign_inside attrs.now vis.now item.now)) }
     ensures says { IfOk result (λ x. form_of_foreign_item x ≡ foreign_item item.now) }
 {
-    let chosen = item.to_tree(arena)?;
     if let ForeignForm::Verbatim = item.form {
-        return made::node(arena, Kind::AForeignItem, chosen);
+        return Node(Kind::AForeignItem, *item).to_tree(arena);
     }
-    let inside = First((attrs, Called(Part::Visibility, vis), &chosen));
+    let inside = First((attrs, Called(Part::Visibility, vis), *item));
     Node(Kind::AForeignItem, inside).to_tree(arena)
+}
+
+// Trees one behind the other, as a node of the kind.
+fn several<'a>(arena: &'a Arena, kind: Kind, each: Vec<Tree<'a>>) -> Result<Tree<'a>, AllocError>
+    ensures { IfOk result (λ x. x ≡ t.Node (kind_of kind) (in_turn each.entry.items)) }
+{
+    let inside = made::turns(arena, each)?;
+    made::node(arena, kind, inside)
 }
 
 /// Items one behind the other, as what stands in a file or a module.
@@ -248,8 +255,7 @@ pub fn foreign_item<'a>(
 pub fn items<'a>(arena: &'a Arena, each: Vec<Tree<'a>>) -> Result<Tree<'a>, AllocError>
     ensures { IfOk result (λ x. x ≡ t.Node k.Items (in_turn each.entry.items)) }
 {
-    let inside = made::turns(arena, each)?;
-    made::node(arena, Kind::Items, inside)
+    several(arena, Kind::Items, each)
 }
 
 /// Items of a trait, one behind the other, as what stands in it.
@@ -260,8 +266,7 @@ pub fn items<'a>(arena: &'a Arena, each: Vec<Tree<'a>>) -> Result<Tree<'a>, Allo
 pub fn trait_items<'a>(arena: &'a Arena, each: Vec<Tree<'a>>) -> Result<Tree<'a>, AllocError>
     ensures { IfOk result (λ x. x ≡ t.Node k.TraitItems (in_turn each.entry.items)) }
 {
-    let inside = made::turns(arena, each)?;
-    made::node(arena, Kind::TraitItems, inside)
+    several(arena, Kind::TraitItems, each)
 }
 
 /// Items of an impl, one behind the other, as what stands in it.
@@ -272,8 +277,7 @@ pub fn trait_items<'a>(arena: &'a Arena, each: Vec<Tree<'a>>) -> Result<Tree<'a>
 pub fn impl_items<'a>(arena: &'a Arena, each: Vec<Tree<'a>>) -> Result<Tree<'a>, AllocError>
     ensures { IfOk result (λ x. x ≡ t.Node k.ImplItems (in_turn each.entry.items)) }
 {
-    let inside = made::turns(arena, each)?;
-    made::node(arena, Kind::ImplItems, inside)
+    several(arena, Kind::ImplItems, each)
 }
 
 /// Items of an extern block, one behind the other, as what stands in it.
@@ -284,6 +288,5 @@ pub fn impl_items<'a>(arena: &'a Arena, each: Vec<Tree<'a>>) -> Result<Tree<'a>,
 pub fn foreign_items<'a>(arena: &'a Arena, each: Vec<Tree<'a>>) -> Result<Tree<'a>, AllocError>
     ensures { IfOk result (λ x. x ≡ t.Node k.ForeignItems (in_turn each.entry.items)) }
 {
-    let inside = made::turns(arena, each)?;
-    made::node(arena, Kind::ForeignItems, inside)
+    several(arena, Kind::ForeignItems, each)
 }

@@ -47,7 +47,7 @@ impl<'t, 'a> TryToTree<'a> for Field<'t, 'a> {
                     ty: self.ty,
                     default,
                 };
-                Ok(Some(field.to_tree(arena)?))
+                field.to_some_tree(arena)
             }
             (None, None, None) => {
                 let field = UnnamedField {
@@ -55,7 +55,7 @@ impl<'t, 'a> TryToTree<'a> for Field<'t, 'a> {
                     vis: self.vis,
                     ty: self.ty,
                 };
-                Ok(Some(field.to_tree(arena)?))
+                field.to_some_tree(arena)
             }
             _ => Ok(None),
         }

@@ -41,8 +41,8 @@ fn defaultness<'a>(
         (λ x. IsDefaultIn place word.entry × (x ≡ defaultness_tree place word.entry))) }
 {
     match (place, word) {
-        (Place::InTrait, word) => Ok(Some(MaybeCalled(Part::Default, word).to_tree(arena)?)),
-        (Place::InImpl, word) => Ok(Some(MaybeCalled(Part::Default, word).to_tree(arena)?)),
+        (Place::InTrait, word) => MaybeCalled(Part::Default, word).to_some_tree(arena),
+        (Place::InImpl, word) => MaybeCalled(Part::Default, word).to_some_tree(arena),
         (_, None) => Ok(Some(made::nil())),
         (_, Some(_)) => Ok(None),
     }
@@ -63,7 +63,7 @@ fn placed<'a>(
     };
     let vis = Called(Part::Visibility, parts.vis);
     let inside = First((parts.attrs, vis, &default, Called(Part::Item, parts.item)));
-    Ok(Some(Node(kind, inside).to_tree(arena)?))
+    Node(kind, inside).to_some_tree(arena)
 }
 
 /// A function by itself; `None` exactly where `default` stands in a place that has none.

@@ -81,7 +81,7 @@ impl<'t, 'a> TryToTree<'a> for Parameter<'t, 'a> {
 
     fn try_to_tree(&self, arena: &'a Arena) -> Result<Option<Tree<'a>>, AllocError> {
         if are_own(self.attrs, &self.arg) {
-            return Ok(Some(Node(Kind::Parameter, (self.attrs, self.arg)).to_tree(arena)?));
+            return Node(Kind::Parameter, (self.attrs, self.arg)).to_some_tree(arena);
         }
         Ok(None)
     }
@@ -102,15 +102,15 @@ impl<'t, 'a> TryToTree<'a> for Receiver<'t, 'a> {
         match (self.kind, self.mutability) {
             (ReceiverKind::Value, mutability) => {
                 let value = (mutability, self.self_token, Second(()));
-                Ok(Some(Node(Kind::Receiver, Second(value)).to_tree(arena)?))
+                Node(Kind::Receiver, Second(value)).to_some_tree(arena)
             }
             (ReceiverKind::Typed(colon, ty), mutability) => {
                 let value = (mutability, self.self_token, First((colon, ty)));
-                Ok(Some(Node(Kind::Receiver, Second(value)).to_tree(arena)?))
+                Node(Kind::Receiver, Second(value)).to_some_tree(arena)
             }
             (ReceiverKind::Reference(and, lifetime, mutability), None) => {
                 let reference = (and, lifetime, mutability, self.self_token);
-                Ok(Some(Node(Kind::Receiver, First(reference)).to_tree(arena)?))
+                Node(Kind::Receiver, First(reference)).to_some_tree(arena)
             }
             _ => Ok(None),
         }
@@ -154,7 +154,7 @@ impl<'t, 'a> TryToTree<'a> for Signature<'t, 'a> {
         let types = (self.inputs, self.output, where_clause);
         let named = (self.abi, self.fn_token, ident, (generics, types));
         let inside = (self.constness, self.asyncness, self.safety, named);
-        Ok(Some(Node(Kind::Signature(self.place), inside).to_tree(arena)?))
+        Node(Kind::Signature(self.place), inside).to_some_tree(arena)
     }
 }
 
@@ -166,9 +166,9 @@ impl<'t, 'a> TryToTree<'a> for ItemFn<'t, 'a> {
         match (self.block, self.semi_token) {
             (Some(block), None) => {
                 let body = First(Called(Part::Body, block));
-                Ok(Some(Node(kind, (self.sig, body)).to_tree(arena)?))
+                Node(kind, (self.sig, body)).to_some_tree(arena)
             }
-            (None, Some(semi)) => Ok(Some(Node(kind, (self.sig, Second(semi))).to_tree(arena)?)),
+            (None, Some(semi)) => Node(kind, (self.sig, Second(semi))).to_some_tree(arena),
             _ => Ok(None),
         }
     }

@@ -31,13 +31,13 @@ fn struct_end<'a>(
     let where_part = Called(Part::Where, where_clause);
     match (fields, semi_token) {
         (Fields::Named(fields), None) => {
-            Ok(Some(Second((where_part, First(fields))).to_tree(arena)?))
+            Second((where_part, First(fields))).to_some_tree(arena)
         }
         (Fields::Unnamed(fields), Some(semi)) => {
-            Ok(Some(First((fields, where_part, semi)).to_tree(arena)?))
+            First((fields, where_part, semi)).to_some_tree(arena)
         }
         (Fields::Unit, Some(semi)) => {
-            Ok(Some(Second((where_part, Second(semi))).to_tree(arena)?))
+            Second((where_part, Second(semi))).to_some_tree(arena)
         }
         _ => Ok(None),
     }
@@ -53,7 +53,7 @@ impl<'t, 'a> TryToTree<'a> for ItemStruct<'t, 'a> {
         let ident = Called(Part::Name, self.ident);
         let generics = Called(Part::Generics, self.generics);
         let inside = (self.struct_token, ident, generics, &end);
-        Ok(Some(Node(Kind::AStruct, inside).to_tree(arena)?))
+        Node(Kind::AStruct, inside).to_some_tree(arena)
     }
 }
 

@@ -31,7 +31,7 @@ fn macro_name<'a>(
         (λ x. IsMacroName place ident.entry × (x ≡ macro_name_tree place ident.entry))) }
 {
     match (place, ident) {
-        (Place::InFile, ident) => Ok(Some(MaybeCalled(Part::Name, ident).to_tree(arena)?)),
+        (Place::InFile, ident) => MaybeCalled(Part::Name, ident).to_some_tree(arena),
         (_, None) => Ok(Some(made::nil())),
         (_, Some(_)) => Ok(None),
     }
@@ -48,18 +48,17 @@ fn macro_end<'a>(
         (λ x. IsMacroEnd delimiter semi_token
         × (x ≡ macro_end_tree delimiter semi_token (raw_tree tokens.entry)))) }
 {
-    let raw = made::raw(arena, tokens)?;
     match (delimiter, semi_token) {
         (MacroDelimiter::Brace(braces), None) => {
-            Ok(Some(First(Grouped(braces, &raw)).to_tree(arena)?))
+            First(Grouped(braces, tokens)).to_some_tree(arena)
         }
         (MacroDelimiter::Paren(parentheses), Some(semi)) => {
-            let inside = First(Grouped(parentheses, &raw));
-            Ok(Some(Second((inside, semi)).to_tree(arena)?))
+            let inside = First(Grouped(parentheses, tokens));
+            Second((inside, semi)).to_some_tree(arena)
         }
         (MacroDelimiter::Bracket(brackets), Some(semi)) => {
-            let inside = Second(Grouped(brackets, &raw));
-            Ok(Some(Second((inside, semi)).to_tree(arena)?))
+            let inside = Second(Grouped(brackets, tokens));
+            Second((inside, semi)).to_some_tree(arena)
         }
         _ => Ok(None),
     }
@@ -76,6 +75,6 @@ impl<'t, 'a> TryToTree<'a> for ItemMacro<'t, 'a> {
             return Ok(None);
         };
         let inside = (self.path, self.bang_token, &ident, &end);
-        Ok(Some(Node(Kind::ItemMacro(self.place), inside).to_tree(arena)?))
+        Node(Kind::ItemMacro(self.place), inside).to_some_tree(arena)
     }
 }

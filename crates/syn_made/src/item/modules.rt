@@ -44,11 +44,11 @@ impl<'t, 'a> TryToTree<'a> for ItemMod<'t, 'a> {
         match (self.content, self.semi) {
             (Some(content), None) => {
                 let inside = (unsafety, self.mod_token, ident, Second(content));
-                Ok(Some(Node(Kind::AModule, inside).to_tree(arena)?))
+                Node(Kind::AModule, inside).to_some_tree(arena)
             }
             (None, Some(semi)) => {
                 let inside = (unsafety, self.mod_token, ident, First(semi));
-                Ok(Some(Node(Kind::AModule, inside).to_tree(arena)?))
+                Node(Kind::AModule, inside).to_some_tree(arena)
             }
             _ => Ok(None),
         }

@@ -64,7 +64,7 @@ impl<'t, 'a> TryToTree<'a> for ItemTraitAlias<'t, 'a> {
             end,
         );
         let inside = (unsafety, auto_token, self.trait_token, named);
-        Ok(Some(Node(Kind::ATrait, First(inside)).to_tree(arena)?))
+        Node(Kind::ATrait, First(inside)).to_some_tree(arena)
     }
 }
 
@@ -74,11 +74,8 @@ impl<'t, 'a> TryToTree<'a> for TraitForm<'t, 'a> {
     #[tactic(auto, using(crate::proofs::TraitForms::no_alias))]
     fn try_to_tree(&self, arena: &'a Arena) -> Result<Option<Tree<'a>>, AllocError> {
         match *self {
-            TraitForm::Trait(item) => Ok(Some(item.to_tree(arena)?)),
-            TraitForm::Alias(item) => match item.try_to_tree(arena)? {
-                Some(tree) => Ok(Some(tree)),
-                None => Ok(None),
-            },
+            TraitForm::Trait(item) => item.to_some_tree(arena),
+            TraitForm::Alias(item) => item.try_to_tree(arena),
         }
     }
 }
