@@ -10,6 +10,7 @@ ghost use Rattle.syn_grammar.specs.Tree as t;
 ghost use Rattle.syn_made.specs.MadeAst.{AreWhole, IsBare, IsNameEnd, IsSegmentEnd, IsWholeSegment};
 
 use crate::forms::{Called, First, Grouped, Node, Second, Seconds};
+use crate::put::{behind, node, nth, some_node};
 use crate::to_tree::ToTree;
 use crate::try_to_tree::TryToTree;
 use gram_table::kind::Kind;
@@ -30,7 +31,7 @@ impl<'t, 'a> ToTree<'a> for Path<'t, 'a> {
 
     fn to_tree(&self, arena: &'a Arena) -> Result<Tree<'a>, AllocError> {
         let inside = (self.leading_colon, self.segments);
-        Node(Kind::Path(self.style), inside).to_tree(arena)
+        node(arena, Kind::Path(self.style), &inside)
     }
 }
 
@@ -41,7 +42,7 @@ impl<'t, 'a> ToTree<'a> for QualifiedPath<'t, 'a> {
         let qself = self.qself;
         let behind = (qself.gt_token, self.colon2_token, self.segments);
         let inside = (qself.lt_token, qself.ty, qself.as_token, behind);
-        Node(Kind::QualifiedPath(self.style), inside).to_tree(arena)
+        node(arena, Kind::QualifiedPath(self.style), &inside)
     }
 }
 
@@ -51,7 +52,7 @@ impl<'t, 'a> ToTree<'a> for AngleBracketedGenericArguments<'t, 'a> {
     fn to_tree(&self, arena: &'a Arena) -> Result<Tree<'a>, AllocError> {
         let args = Called(Part::Arguments, self.args);
         let inside = (self.colon2_token, self.lt_token, args, self.gt_token);
-        Node(Kind::Arguments, inside).to_tree(arena)
+        node(arena, Kind::Arguments, &inside)
     }
 }
 
@@ -60,7 +61,7 @@ impl<'t, 'a> ToTree<'a> for ParenthesizedGenericArguments<'t, 'a> {
 
     fn to_tree(&self, arena: &'a Arena) -> Result<Tree<'a>, AllocError> {
         let inside = (Grouped(self.paren_token, self.inputs), self.output);
-        Node(Kind::ParenthesizedArguments, inside).to_tree(arena)
+        node(arena, Kind::ParenthesizedArguments, &inside)
     }
 }
 
@@ -69,7 +70,7 @@ impl<'t, 'a> ToTree<'a> for Macro<'t, 'a> {
 
     fn to_tree(&self, arena: &'a Arena) -> Result<Tree<'a>, AllocError> {
         let inside = (self.path, self.bang_token, self.delimited);
-        Node(Kind::AMacro, inside).to_tree(arena)
+        node(arena, Kind::AMacro, &inside)
     }
 }
 
@@ -150,9 +151,9 @@ impl<'t, 'a> ToTree<'a> for PathArguments<'t, 'a> {
 
     fn to_tree(&self, arena: &'a Arena) -> Result<Tree<'a>, AllocError> {
         match *self {
-            PathArguments::AngleBracketed(args) => First(args).to_tree(arena),
-            PathArguments::Parenthesized(args) => Second(First(args)).to_tree(arena),
-            PathArguments::None => Second(Second(())).to_tree(arena),
+            PathArguments::AngleBracketed(args) => nth(arena, 0, &args),
+            PathArguments::Parenthesized(args) => nth(arena, 1, &args),
+            PathArguments::None => behind(arena, 2, &()),
         }
     }
 }
@@ -164,11 +165,11 @@ impl<'t, 'a> TryToTree<'a> for OneSegment<'t, 'a> {
         let word = self.segment.ident;
         match (self.is_keyword, self.segment.arguments) {
             (true, PathArguments::None) => {
-                Node(Kind::Segment(self.style), First(word)).to_some_tree(arena)
+                some_node(arena, Kind::Segment(self.style), &First(word))
             }
             (true, _) => Ok(None),
             (false, arguments) => {
-                Node(Kind::Segment(self.style), Second((word, arguments))).to_some_tree(arena)
+                some_node(arena, Kind::Segment(self.style), &Second((word, arguments)))
             }
         }
     }
@@ -192,12 +193,12 @@ impl<'t, 'a> ToTree<'a> for Argument<'t, 'a> {
     fn to_tree(&self, arena: &'a Arena) -> Result<Tree<'a>, AllocError> {
         match self.0 {
             GenericArgument::Lifetime(lifetime) => {
-                First(Called(Part::Lifetime, lifetime)).to_tree(arena)
+                nth(arena, 0, &Called(Part::Lifetime, lifetime))
             }
-            GenericArgument::Const(lit) => Second(First(lit)).to_tree(arena),
-            GenericArgument::ConstBlock(block) => Seconds(2, First(block)).to_tree(arena),
-            GenericArgument::AssocType(assoc) => Seconds(3, First(assoc)).to_tree(arena),
-            GenericArgument::Type(ty) => Seconds(4, ty).to_tree(arena),
+            GenericArgument::Const(lit) => nth(arena, 1, &lit),
+            GenericArgument::ConstBlock(block) => nth(arena, 2, &block),
+            GenericArgument::AssocType(assoc) => nth(arena, 3, &assoc),
+            GenericArgument::Type(ty) => behind(arena, 4, &ty),
         }
     }
 }
@@ -206,7 +207,7 @@ impl<'t, 'a> ToTree<'a> for GenericArgument<'t, 'a> {
     ghost tree = { generic_argument };
 
     fn to_tree(&self, arena: &'a Arena) -> Result<Tree<'a>, AllocError> {
-        Node(Kind::AnArgument, Argument(*self)).to_tree(arena)
+        node(arena, Kind::AnArgument, &Argument(*self))
     }
 }
 
@@ -214,7 +215,7 @@ impl<'a> ToTree<'a> for Index<'a> {
     ghost tree = { index };
 
     fn to_tree(&self, arena: &'a Arena) -> Result<Tree<'a>, AllocError> {
-        Node(Kind::Index, self.index).to_tree(arena)
+        node(arena, Kind::Index, &self.index)
     }
 }
 
@@ -223,8 +224,8 @@ impl<'a> ToTree<'a> for Member<'a> {
 
     fn to_tree(&self, arena: &'a Arena) -> Result<Tree<'a>, AllocError> {
         match *self {
-            Member::Named(ident) => Node(Kind::Member, First(ident)).to_tree(arena),
-            Member::Unnamed(index) => Node(Kind::Member, Second(index.index)).to_tree(arena),
+            Member::Named(ident) => node(arena, Kind::Member, &First(ident)),
+            Member::Unnamed(index) => node(arena, Kind::Member, &Second(index.index)),
         }
     }
 }
@@ -236,15 +237,15 @@ impl<'a> ToTree<'a> for Delimited<'a> {
         match self.delimiter {
             MacroDelimiter::Paren(found) => {
                 let group = Grouped(found, self.tokens);
-                Node(Kind::Delimited, First(group)).to_tree(arena)
+                node(arena, Kind::Delimited, &First(group))
             }
             MacroDelimiter::Brace(found) => {
                 let group = Grouped(found, self.tokens);
-                Node(Kind::Delimited, Second(First(group))).to_tree(arena)
+                node(arena, Kind::Delimited, &Second(First(group)))
             }
             MacroDelimiter::Bracket(found) => {
                 let group = Grouped(found, self.tokens);
-                Node(Kind::Delimited, Second(Second(group))).to_tree(arena)
+                node(arena, Kind::Delimited, &Second(Second(group)))
             }
         }
     }

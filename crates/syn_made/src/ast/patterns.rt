@@ -10,7 +10,8 @@ ghost use Rattle.syn_grammar.specs.Kind as k;
 ghost use Rattle.syn_grammar.specs.Tree as t;
 ghost use Rattle.syn_made.specs.MadeAst.{IsRangeEnd};
 
-use crate::forms::{Called, First, Grouped, Node, Second};
+use crate::forms::{Called, First, Grouped, Second};
+use crate::put::{behind, node, nth, some_node};
 use crate::to_tree::ToTree;
 use crate::try_to_tree::TryToTree;
 use gram_table::kind::Kind;
@@ -28,7 +29,7 @@ impl<'a> ToTree<'a> for PatWild<'a> {
     ghost tree = { pat_wild };
 
     fn to_tree(&self, arena: &'a Arena) -> Result<Tree<'a>, AllocError> {
-        Node(Kind::WildPattern, self.underscore_token).to_tree(arena)
+        node(arena, Kind::WildPattern, &self.underscore_token)
     }
 }
 
@@ -36,7 +37,7 @@ impl<'a> ToTree<'a> for PatRest {
     ghost tree = { pat_rest };
 
     fn to_tree(&self, arena: &'a Arena) -> Result<Tree<'a>, AllocError> {
-        Node(Kind::RestPattern, self.dot2_token).to_tree(arena)
+        node(arena, Kind::RestPattern, &self.dot2_token)
     }
 }
 
@@ -45,7 +46,7 @@ impl<'t, 'a> ToTree<'a> for PatReference<'t, 'a> {
 
     fn to_tree(&self, arena: &'a Arena) -> Result<Tree<'a>, AllocError> {
         let inside = (self.and_token, self.mutability, self.pat);
-        Node(Kind::ReferencePattern, inside).to_tree(arena)
+        node(arena, Kind::ReferencePattern, &inside)
     }
 }
 
@@ -53,7 +54,11 @@ impl<'t, 'a> ToTree<'a> for PatSlice<'t, 'a> {
     ghost tree = { pat_slice };
 
     fn to_tree(&self, arena: &'a Arena) -> Result<Tree<'a>, AllocError> {
-        Node(Kind::SlicePattern, Grouped(self.bracket_token, self.elems)).to_tree(arena)
+        node(
+            arena,
+            Kind::SlicePattern,
+            &Grouped(self.bracket_token, self.elems),
+        )
     }
 }
 
@@ -61,7 +66,11 @@ impl<'t, 'a> ToTree<'a> for PatParenthesized<'t, 'a> {
     ghost tree = { pat_parenthesized };
 
     fn to_tree(&self, arena: &'a Arena) -> Result<Tree<'a>, AllocError> {
-        Node(Kind::TuplePattern, Grouped(self.paren_token, self.elems)).to_tree(arena)
+        node(
+            arena,
+            Kind::TuplePattern,
+            &Grouped(self.paren_token, self.elems),
+        )
     }
 }
 
@@ -69,7 +78,11 @@ impl<'t, 'a> ToTree<'a> for PatOr<'t, 'a> {
     ghost tree = { pat_or };
 
     fn to_tree(&self, arena: &'a Arena) -> Result<Tree<'a>, AllocError> {
-        Node(Kind::Pattern, (self.leading_vert, self.first, self.others)).to_tree(arena)
+        node(
+            arena,
+            Kind::Pattern,
+            &(self.leading_vert, self.first, self.others),
+        )
     }
 }
 
@@ -77,7 +90,7 @@ impl<'t, 'a> ToTree<'a> for PatSeveral<'t, 'a> {
     ghost tree = { pat_several };
 
     fn to_tree(&self, arena: &'a Arena) -> Result<Tree<'a>, AllocError> {
-        Node(Kind::SeveralPatterns, (self.first, self.others)).to_tree(arena)
+        node(arena, Kind::SeveralPatterns, &(self.first, self.others))
     }
 }
 
@@ -91,7 +104,7 @@ impl<'t, 'a> ToTree<'a> for PatIdent<'t, 'a> {
             self.ident,
             Second(self.subpat),
         );
-        Node(Kind::IdentPattern, inside).to_tree(arena)
+        node(arena, Kind::IdentPattern, &inside)
     }
 }
 
@@ -100,8 +113,8 @@ impl<'a> ToTree<'a> for RangeLimits {
 
     fn to_tree(&self, arena: &'a Arena) -> Result<Tree<'a>, AllocError> {
         match *self {
-            RangeLimits::Closed(mark) => First(mark).to_tree(arena),
-            RangeLimits::HalfOpen(mark) => Second(mark).to_tree(arena),
+            RangeLimits::Closed(mark) => nth(arena, 0, &mark),
+            RangeLimits::HalfOpen(mark) => behind(arena, 1, &mark),
         }
     }
 }
@@ -110,7 +123,7 @@ impl<'t, 'a> ToTree<'a> for PatRangeTo<'t, 'a> {
     ghost tree = { pat_range_to };
 
     fn to_tree(&self, arena: &'a Arena) -> Result<Tree<'a>, AllocError> {
-        Node(Kind::RangeToPattern, (self.limits, self.end)).to_tree(arena)
+        node(arena, Kind::RangeToPattern, &(self.limits, self.end))
     }
 }
 
@@ -120,11 +133,11 @@ impl<'t, 'a> TryToTree<'a> for RangeEnd<'t, 'a> {
     fn try_to_tree(&self, arena: &'a Arena) -> Result<Option<Tree<'a>>, AllocError> {
         match (self.limits, self.end) {
             (RangeLimits::Closed(mark), Some(end)) => {
-                Node(Kind::RangeEnd, First((mark, end))).to_some_tree(arena)
+                some_node(arena, Kind::RangeEnd, &First((mark, end)))
             }
             (RangeLimits::Closed(_), None) => Ok(None),
             (RangeLimits::HalfOpen(mark), end) => {
-                Node(Kind::RangeEnd, Second((mark, end))).to_some_tree(arena)
+                some_node(arena, Kind::RangeEnd, &Second((mark, end)))
             }
         }
     }
@@ -135,8 +148,8 @@ impl<'a> ToTree<'a> for SignedLit<'a> {
 
     fn to_tree(&self, arena: &'a Arena) -> Result<Tree<'a>, AllocError> {
         match *self {
-            SignedLit::Negative(mark, literal) => First((mark, literal)).to_tree(arena),
-            SignedLit::Plain(lit) => Second(lit).to_tree(arena),
+            SignedLit::Negative(mark, literal) => nth(arena, 0, &(mark, literal)),
+            SignedLit::Plain(lit) => behind(arena, 1, &lit),
         }
     }
 }
@@ -145,7 +158,7 @@ impl<'t, 'a> ToTree<'a> for LiteralPattern<'t, 'a> {
     ghost tree = { literal_pattern };
 
     fn to_tree(&self, arena: &'a Arena) -> Result<Tree<'a>, AllocError> {
-        Node(Kind::LiteralPattern, (self.lit, self.end)).to_tree(arena)
+        node(arena, Kind::LiteralPattern, &(self.lit, self.end))
     }
 }
 
@@ -154,8 +167,8 @@ impl<'t, 'a> ToTree<'a> for RangeBound<'t, 'a> {
 
     fn to_tree(&self, arena: &'a Arena) -> Result<Tree<'a>, AllocError> {
         match *self {
-            RangeBound::Lit(lit) => Node(Kind::RangeBound, First(lit)).to_tree(arena),
-            RangeBound::Path(path) => Node(Kind::RangeBound, Second(path)).to_tree(arena),
+            RangeBound::Lit(lit) => node(arena, Kind::RangeBound, &First(lit)),
+            RangeBound::Path(path) => node(arena, Kind::RangeBound, &Second(path)),
         }
     }
 }
@@ -165,12 +178,10 @@ impl<'t, 'a> ToTree<'a> for PathBehind<'t, 'a> {
 
     fn to_tree(&self, arena: &'a Arena) -> Result<Tree<'a>, AllocError> {
         match *self {
-            PathBehind::Tuple(delimiters, elems) => First(Grouped(delimiters, elems)).to_tree(
-                arena,
-            ),
-            PathBehind::Struct(fields) => Second(First(fields)).to_tree(arena),
-            PathBehind::Range(end) => Second(Second(First(end))).to_tree(arena),
-            PathBehind::None => Second(Second(Second(()))).to_tree(arena),
+            PathBehind::Tuple(delimiters, elems) => nth(arena, 0, &Grouped(delimiters, elems)),
+            PathBehind::Struct(fields) => nth(arena, 1, &fields),
+            PathBehind::Range(end) => nth(arena, 2, &end),
+            PathBehind::None => behind(arena, 3, &()),
         }
     }
 }
@@ -179,7 +190,7 @@ impl<'t, 'a> ToTree<'a> for PathPattern<'t, 'a> {
     ghost tree = { path_pattern };
 
     fn to_tree(&self, arena: &'a Arena) -> Result<Tree<'a>, AllocError> {
-        Node(Kind::PathPattern, (self.path, self.behind)).to_tree(arena)
+        node(arena, Kind::PathPattern, &(self.path, self.behind))
     }
 }
 
@@ -188,7 +199,7 @@ impl<'t, 'a> ToTree<'a> for FieldPatterns<'t, 'a> {
 
     fn to_tree(&self, arena: &'a Arena) -> Result<Tree<'a>, AllocError> {
         let inside = First(Grouped(self.brace_token, self.fields));
-        Node(Kind::FieldPatterns, inside).to_tree(arena)
+        node(arena, Kind::FieldPatterns, &inside)
     }
 }
 
@@ -213,9 +224,9 @@ impl<'t, 'a> ToTree<'a> for FieldPattern<'t, 'a> {
 
     fn to_tree(&self, arena: &'a Arena) -> Result<Tree<'a>, AllocError> {
         match *self {
-            FieldPattern::Rest(rest) => First(Called(Part::Rest, rest)).to_tree(arena),
-            FieldPattern::Member(field) => Second(First(field)).to_tree(arena),
-            FieldPattern::Shorthand(field) => Second(Second(field)).to_tree(arena),
+            FieldPattern::Rest(rest) => nth(arena, 0, &Called(Part::Rest, rest)),
+            FieldPattern::Member(field) => nth(arena, 1, &field),
+            FieldPattern::Shorthand(field) => behind(arena, 2, &field),
         }
     }
 }
@@ -224,6 +235,6 @@ impl<'t, 'a> ToTree<'a> for FieldPat<'t, 'a> {
     ghost tree = { field_pat };
 
     fn to_tree(&self, arena: &'a Arena) -> Result<Tree<'a>, AllocError> {
-        Node(Kind::FieldPattern, (self.attrs, self.pattern)).to_tree(arena)
+        node(arena, Kind::FieldPattern, &(self.attrs, self.pattern))
     }
 }

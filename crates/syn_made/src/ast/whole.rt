@@ -18,10 +18,12 @@ ghost use Rattle.syn_made.specs.MadeAst.{IsRange, IsTypeAt, IsWholePat, IsWholeT
 use crate::ast::types::are_bounds;
 use crate::forms::{First, Grouped, Node, Second, Seconds};
 use crate::lists::Only;
+use crate::put::node;
 use crate::to_tree::ToTree;
 use crate::try_to_tree::TryToTree;
 use gram_table::kind::{Kind, Plus, Style};
 use gram_tree::arena::Arena;
+use gram_tree::made;
 use gram_tree::tree::Tree;
 use proc_macro2::delimiter::Delimiter;
 use rust_map::span::Span;
@@ -106,7 +108,7 @@ pub fn a_type<'a>(
     let Some(inside) = type_inside(arena, form)? else {
         return Ok(None);
     };
-    Node(Kind::AType(plus), &inside).to_some_tree(arena)
+    Ok(Some(made::node(arena, Kind::AType(plus), inside)?))
 }
 
 /// A path as a type, as a tree of the kind `AType`.
@@ -124,7 +126,7 @@ pub fn path_type<'a>(
     ensures form { IfOk result (λ x. form_of_type x ≡ t.Node (k.AnyPath k.AtType) (t.Second (path found.now))) }
 {
     let form = Node(Kind::AnyPath(Style::AtType), Second(*found));
-    Node(Kind::AType(plus), Seconds(9, form)).to_tree(arena)
+    node(arena, Kind::AType(plus), &Seconds(9, form))
 }
 
 // Alternatives in parentheses.
@@ -140,7 +142,11 @@ impl<'t, 'a> ToTree<'a> for InParens<'t, 'a> {
             span: Span::call_site(),
         };
         let inside = self.0.to_tree(arena)?;
-        Node(Kind::TuplePattern, Grouped(parentheses, Only(&inside))).to_tree(arena)
+        node(
+            arena,
+            Kind::TuplePattern,
+            &Grouped(parentheses, Only(&inside)),
+        )
     }
 }
 
@@ -204,7 +210,7 @@ pub fn one_pattern<'a>(arena: &'a Arena, form: &Pat<'_, 'a>) -> Result<Option<Tr
     let Some(inside) = one_inside(arena, form)? else {
         return Ok(None);
     };
-    Node(Kind::OnePattern, &inside).to_some_tree(arena)
+    Ok(Some(made::node(arena, Kind::OnePattern, inside)?))
 }
 
 /// A pattern of its form, as a tree of the kind `Pattern`, for where alternatives may stand, perhaps behind a `|`; `None`,
@@ -224,13 +230,13 @@ pub fn pattern<'a>(arena: &'a Arena, form: &Pat<'_, 'a>) -> Result<Option<Tree<'
         → IsShaped x (g.ref k.Pattern))) }
 {
     if let Pat::Or(found) = form {
-        return found.to_some_tree(arena);
+        return Ok(Some(found.to_tree(arena)?));
     }
     let Some(one) = one_pattern(arena, form)? else {
         return Ok(None);
     };
     let inside = (Second(()), &one, Turns { each: &[] });
-    Node(Kind::Pattern, inside).to_some_tree(arena)
+    Ok(Some(node(arena, Kind::Pattern, &inside)?))
 }
 
 /// A pattern of its form, as a tree of the kind `SeveralPatterns`, for where alternatives may stand, but no `|` in front
@@ -254,11 +260,11 @@ pub fn several_patterns<'a>(
 {
     if let Pat::Or(found) = form {
         let inside = (found.first, found.others);
-        return Node(Kind::SeveralPatterns, inside).to_some_tree(arena);
+        return Ok(Some(node(arena, Kind::SeveralPatterns, &inside)?));
     }
     let Some(one) = one_pattern(arena, form)? else {
         return Ok(None);
     };
     let inside = (&one, Turns { each: &[] });
-    Node(Kind::SeveralPatterns, inside).to_some_tree(arena)
+    Ok(Some(node(arena, Kind::SeveralPatterns, &inside)?))
 }

@@ -4,7 +4,7 @@ ghost use Rattle.std.specs.Prelude.{◌≡◌};
 ghost use Rattle.syn_expr.specs.ExprPrefix.{closure_head, closure_tree, expr_attributed, expr_closure, expr_let};
 ghost use Rattle.syn_expr.specs.ExprPrefix.{expr_raw_addr, expr_reference, expr_unary};
 
-use crate::expr::forms::{Alone, Front};
+use crate::put::{alone, front};
 use crate::to_tree::ToTree;
 use gram_table::kind::Kind;
 use gram_tree::arena::Arena;
@@ -18,7 +18,12 @@ impl<'t, 'a> ToTree<'a> for ExprAttributed<'t, 'a> {
     ghost tree = { expr_attributed };
 
     fn to_tree(&self, arena: &'a Arena) -> Result<Tree<'a>, AllocError> {
-        Front(Kind::ExprAttributed, (self.attr, self.attrs), self.expr).to_tree(arena)
+        front(
+            arena,
+            Kind::ExprAttributed,
+            &(self.attr, self.attrs),
+            self.expr,
+        )
     }
 }
 
@@ -26,7 +31,7 @@ impl<'t, 'a> ToTree<'a> for ExprUnary<'t, 'a> {
     ghost tree = { expr_unary };
 
     fn to_tree(&self, arena: &'a Arena) -> Result<Tree<'a>, AllocError> {
-        Front(Kind::ExprUnary, self.op, self.expr).to_tree(arena)
+        front(arena, Kind::ExprUnary, &self.op, self.expr)
     }
 }
 
@@ -35,7 +40,7 @@ impl<'t, 'a> ToTree<'a> for ExprRawAddr<'t, 'a> {
 
     fn to_tree(&self, arena: &'a Arena) -> Result<Tree<'a>, AllocError> {
         let own = (self.and_token, self.raw, self.mutability);
-        Front(Kind::ExprRawAddr, own, self.expr).to_tree(arena)
+        front(arena, Kind::ExprRawAddr, &own, self.expr)
     }
 }
 
@@ -44,7 +49,7 @@ impl<'t, 'a> ToTree<'a> for ExprReference<'t, 'a> {
 
     fn to_tree(&self, arena: &'a Arena) -> Result<Tree<'a>, AllocError> {
         let own = (self.and_token, self.mutability);
-        Front(Kind::ExprReference, own, self.expr).to_tree(arena)
+        front(arena, Kind::ExprReference, &own, self.expr)
     }
 }
 
@@ -53,7 +58,7 @@ impl<'t, 'a> ToTree<'a> for ExprLet<'t, 'a> {
 
     fn to_tree(&self, arena: &'a Arena) -> Result<Tree<'a>, AllocError> {
         let own = (self.let_token, self.pat, self.eq_token);
-        Front(Kind::ExprLet, own, self.expr).to_tree(arena)
+        front(arena, Kind::ExprLet, &own, self.expr)
     }
 }
 
@@ -89,10 +94,8 @@ impl<'t, 'a> ToTree<'a> for ExprClosure<'t, 'a> {
     fn to_tree(&self, arena: &'a Arena) -> Result<Tree<'a>, AllocError> {
         let head = head(self);
         match self.output {
-            None => Front(Kind::ExprClosure, head, self.body).to_tree(arena),
-            Some(output) => {
-                Alone(Kind::ExprTypedClosure, (head, output, self.body)).to_tree(arena)
-            }
+            None => front(arena, Kind::ExprClosure, &head, self.body),
+            Some(output) => { alone(arena, Kind::ExprTypedClosure, &(head, output, self.body)) }
         }
     }
 }

@@ -3,7 +3,8 @@
 ghost use Rattle.std.specs.Prelude.{◌≡◌, ◌↔◌, IsTrue};
 ghost use Rattle.syn_item.specs.ItemAliases.{IsOrderIn, item_type, type_end_tree};
 
-use crate::forms::{Called, First, Node, Second};
+use crate::forms::Called;
+use crate::put::{behind, nth, some_node};
 use crate::to_tree::ToTree;
 use crate::try_to_tree::TryToTree;
 use gram_table::kind::{Kind, Place};
@@ -38,8 +39,8 @@ impl<'t, 'a> ToTree<'a> for TypeEnd<'t, 'a> {
         match (self.0, self.1) {
             (Place::InTrait, _) => (self.2, where_part).to_tree(arena),
             (Place::InImpl, _) => (self.2, where_part).to_tree(arena),
-            (_, WhereOrder::Before) => First((where_part, self.2)).to_tree(arena),
-            (_, WhereOrder::Behind) => Second((self.2, where_part)).to_tree(arena),
+            (_, WhereOrder::Before) => nth(arena, 0, &(where_part, self.2)),
+            (_, WhereOrder::Behind) => behind(arena, 1, &(self.2, where_part)),
         }
     }
 }
@@ -62,6 +63,6 @@ impl<'t, 'a> TryToTree<'a> for ItemType<'t, 'a> {
             generics,
             behind,
         );
-        Node(Kind::ATypeAlias(self.place), inside).to_some_tree(arena)
+        some_node(arena, Kind::ATypeAlias(self.place), &inside)
     }
 }

@@ -16,8 +16,9 @@ ghost use Rattle.syn_item.specs.ItemForms.{HasForm, Is};
 ghost use Rattle.syn_item.specs.ItemMembers.{associated_item, foreign_item, form_of_foreign_item, form_of_impl_item};
 ghost use Rattle.syn_item.specs.ItemMembers.{form_of_trait_item};
 
-use crate::forms::{Called, First, Node, Second};
+use crate::forms::{Called, First, Second};
 use crate::item::part::MaybeCalled;
+use crate::put::{node, nth};
 use crate::to_tree::ToTree;
 use gram_table::kind::Kind;
 use gram_table::part::Part;
@@ -103,7 +104,7 @@ pub(crate) fn kept<'a>(
     let chosen = made::first_behind(arena, count, item.tree.copy())?;
     let vis = Called(Part::Visibility, vis);
     let inside = First((attrs, vis, Called(Part::Item, &chosen)));
-    Node(Kind::AnItem, inside).to_tree(arena)
+    node(arena, Kind::AnItem, &inside)
 }
 
 /// An item among others, as a node of the kind `AnItem`, if its tree has the form that it says. One that is kept as its
@@ -149,8 +150,8 @@ pub fn plain_item<'a>(arena: &'a Arena, item: &Item<'_, 'a>) -> Result<Tree<'a>,
     ensures shaped { IfOk result (λ x. IsShaped item.now.tree.now (form_entry item.now.form)
         → IsShaped x (g.ref k.AnItem)) }
 {
-    let attrs = Node(Kind::OuterAttributes, Turns { each: &[] }).to_tree(arena)?;
-    let vis = Node(Kind::Visibility, Second(())).to_tree(arena)?;
+    let attrs = node(arena, Kind::OuterAttributes, &Turns { each: &[] })?;
+    let vis = node(arena, Kind::Visibility, &Second(()))?;
     Ok(self::item(arena, &attrs, &vis, item)?)
 }
 
@@ -169,7 +170,7 @@ fn member<'a>(
     }
     let vis = Called(Part::Visibility, vis);
     let default = MaybeCalled(Part::Default, defaultness);
-    First((attrs, vis, default, Called(Part::Item, *item))).to_tree(arena)
+    nth(arena, 0, &(attrs, vis, default, Called(Part::Item, *item)))
 }
 
 /// An item of a trait, as a node of the kind `ATraitItem`, with its attributes, its visibility and `default`. One that is
@@ -233,10 +234,10 @@ pub fn foreign_item<'a>(
     ensures says { IfOk result (λ x. form_of_foreign_item x ≡ foreign_item item.now) }
 {
     if let ForeignForm::Verbatim = item.form {
-        return Node(Kind::AForeignItem, *item).to_tree(arena);
+        return node(arena, Kind::AForeignItem, item);
     }
     let inside = First((attrs, Called(Part::Visibility, vis), *item));
-    Node(Kind::AForeignItem, inside).to_tree(arena)
+    node(arena, Kind::AForeignItem, &inside)
 }
 
 // Trees one behind the other, as a node of the kind.

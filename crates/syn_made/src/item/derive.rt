@@ -5,8 +5,9 @@ ghost use Rattle.std.specs.Prelude.{◌≡◌, IfOk, IfSome, MatchOption};
 ghost use Rattle.syn_data.specs.Derive.{IsEnded, IsItemOf, IsWhole, chosen_data, data_form, derive_input};
 ghost use Rattle.syn_data.specs.Derive.{item_tree};
 
-use crate::forms::{First, Node, Seconds};
+use crate::forms::{First, Seconds};
 use crate::item::among::kept;
+use crate::put::{nth, some_node};
 use crate::to_tree::ToTree;
 use crate::try_to_tree::TryToTree;
 use gram_table::kind::Kind;
@@ -79,7 +80,7 @@ impl<'t, 'a> ToTree<'a> for Chosen<'t, 'a> {
 
     fn to_tree(&self, arena: &'a Arena) -> Result<Tree<'a>, AllocError> {
         match self.0 {
-            Data::Struct(_) => First(self.1).to_tree(arena),
+            Data::Struct(_) => nth(arena, 0, &self.1),
             Data::Enum(_) => Seconds(1, First(self.1)).to_tree(arena),
             Data::Union(_) => Seconds(2, self.1).to_tree(arena),
         }
@@ -94,7 +95,7 @@ impl<'t, 'a> TryToTree<'a> for DeriveInput<'t, 'a> {
             return Ok(None);
         };
         let inside = (self.attrs, self.vis, Chosen(self.data, &form));
-        Node(Kind::DeriveInput, inside).to_some_tree(arena)
+        some_node(arena, Kind::DeriveInput, &inside)
     }
 }
 

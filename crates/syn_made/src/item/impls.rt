@@ -5,8 +5,9 @@ ghost use Rattle.syn_grammar.specs.Tree as t;
 ghost use Rattle.syn_item.specs.ItemImpls.{impl_body_tree, impl_items, item_impl};
 ghost use Rattle.syn_made.specs.MadeWhole.{IsPolarityOf};
 
-use crate::forms::{Called, First, Grouped, Node, Second};
+use crate::forms::{Called, First, Grouped, Second};
 use crate::item::part::MaybeCalled;
+use crate::put::{node, some_node};
 use crate::to_tree::ToTree;
 use crate::try_to_tree::TryToTree;
 use gram_table::kind::Kind;
@@ -68,7 +69,7 @@ impl<'t, 'a> TryToTree<'a> for ItemImpl<'t, 'a> {
         let polarity = MaybeCalled(Part::Polarity, self.modifiers.polarity);
         let named = (self.impl_token, generics, polarity, ImplBody(self));
         let inside = (defaultness, constness, unsafety, named);
-        Node(Kind::AnImpl, First(inside)).to_some_tree(arena)
+        some_node(arena, Kind::AnImpl, &First(inside))
     }
 }
 
@@ -76,6 +77,6 @@ impl<'t, 'a> ToTree<'a> for ImplItems<'t, 'a> {
     ghost tree = { impl_items };
 
     fn to_tree(&self, arena: &'a Arena) -> Result<Tree<'a>, AllocError> {
-        Node(Kind::ImplItems, self.items).to_tree(arena)
+        node(arena, Kind::ImplItems, &self.items)
     }
 }

@@ -5,8 +5,9 @@ ghost use Rattle.syn_ast.specs.Leaves.{raw_tree};
 ghost use Rattle.syn_item.specs.ItemMacros.{item_macro, macro_end_tree, macro_name_tree};
 ghost use Rattle.syn_made.specs.MadeWhole.{IsMacroEnd, IsMacroName, IsWholeMacro};
 
-use crate::forms::{First, Grouped, Node, Second};
+use crate::forms::{First, Grouped, Second};
 use crate::item::part::MaybeCalled;
+use crate::put::some_node;
 use crate::to_tree::ToTree;
 use crate::try_to_tree::TryToTree;
 use gram_table::kind::{Kind, Place};
@@ -75,6 +76,6 @@ impl<'t, 'a> TryToTree<'a> for ItemMacro<'t, 'a> {
             return Ok(None);
         };
         let inside = (self.path, self.bang_token, &ident, &end);
-        Node(Kind::ItemMacro(self.place), inside).to_some_tree(arena)
+        some_node(arena, Kind::ItemMacro(self.place), &inside)
     }
 }
