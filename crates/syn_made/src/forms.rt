@@ -8,6 +8,7 @@ ghost use Rattle.syn_ast.specs.Leaves.{optional_tree};
 ghost use Rattle.syn_grammar.specs.Tree as t;
 
 use crate::parts::{four, missing, three};
+use crate::put::{behind, node, nth};
 use crate::to_tree::ToTree;
 use gram_table::kind::Kind;
 use gram_table::part::Part;
@@ -53,8 +54,7 @@ impl<'a, T: ToTree<'a>> ToTree<'a> for Node<T> {
     ghost tree = { λ x. t.Node (kind_of x.0) (T.tree x.1) };
 
     fn to_tree(&self, arena: &'a Arena) -> Result<Tree<'a>, AllocError> {
-        let inner = self.1.to_tree(arena)?;
-        made::node(arena, self.0, inner)
+        node(arena, self.0, &self.1)
     }
 }
 
@@ -80,8 +80,7 @@ impl<'a, T: ToTree<'a>> ToTree<'a> for First<T> {
     ghost tree = { λ x. t.First (T.tree x.0) };
 
     fn to_tree(&self, arena: &'a Arena) -> Result<Tree<'a>, AllocError> {
-        let inner = self.0.to_tree(arena)?;
-        made::first(arena, inner)
+        nth(arena, 0, &self.0)
     }
 }
 
@@ -89,8 +88,7 @@ impl<'a, T: ToTree<'a>> ToTree<'a> for Second<T> {
     ghost tree = { λ x. t.Second (T.tree x.0) };
 
     fn to_tree(&self, arena: &'a Arena) -> Result<Tree<'a>, AllocError> {
-        let inner = self.0.to_tree(arena)?;
-        made::second(arena, inner)
+        behind(arena, 1, &self.0)
     }
 }
 
@@ -98,8 +96,7 @@ impl<'a, T: ToTree<'a>> ToTree<'a> for Seconds<T> {
     ghost tree = { λ x. seconds x.0 (T.tree x.1) };
 
     fn to_tree(&self, arena: &'a Arena) -> Result<Tree<'a>, AllocError> {
-        let inner = self.1.to_tree(arena)?;
-        made::seconds(arena, self.0, inner)
+        behind(arena, self.0, &self.1)
     }
 }
 
@@ -108,10 +105,7 @@ impl<'a, T: ToTree<'a>> ToTree<'a> for Option<T> {
 
     fn to_tree(&self, arena: &'a Arena) -> Result<Tree<'a>, AllocError> {
         match self {
-            Some(value) => {
-                let inner = value.to_tree(arena)?;
-                made::first(arena, inner)
-            }
+            Some(value) => nth(arena, 0, value),
             None => missing(arena),
         }
     }

@@ -5,7 +5,7 @@
 //! - `to_tree`: the trait that all of them have.
 //! - `forms`: what trees are made of, by which most of them say in one line what tree they are.
 //! - `leaf`: words, literals, marks, lifetimes, tokens that are kept, and trees that are lent; `lists`: lists and turns.
-//! - `parts`: nothing, and several trees one behind the other.
+//! - `parts`: nothing, and several trees one behind the other; `put`: the forms by functions, which lend what they are of.
 //! - `sub`, `name`: what stands in several types.
 //! - `ast`: the types of `syn_ast`; `expr`: expressions, statements and blocks; `item`: data and items.
 //! - `try_to_tree`: the trait of types of which some values are no tree of the grammar.
@@ -19,6 +19,7 @@ pub mod leaf;
 pub mod lists;
 pub mod name;
 pub mod parts;
+mod put;
 pub mod sub;
 pub mod to_tree;
 pub mod try_to_tree;

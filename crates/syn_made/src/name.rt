@@ -2,7 +2,7 @@
 
 ghost use Rattle.syn_ast.specs.Name.{name_tree, renamed_tree};
 
-use crate::forms::{First, Second};
+use crate::put::{behind, nth};
 use crate::to_tree::ToTree;
 use gram_tree::arena::Arena;
 use gram_tree::tree::Tree;
@@ -14,8 +14,8 @@ impl<'a> ToTree<'a> for Name<'a> {
 
     fn to_tree(&self, arena: &'a Arena) -> Result<Tree<'a>, AllocError> {
         match *self {
-            Name::Keyword(word) => First(word).to_tree(arena),
-            Name::Ident(word) => Second(word).to_tree(arena),
+            Name::Keyword(word) => nth(arena, 0, &word),
+            Name::Ident(word) => behind(arena, 1, &word),
         }
     }
 }

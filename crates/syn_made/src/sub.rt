@@ -3,7 +3,8 @@
 ghost use Rattle.syn_ast.specs.Sub.{lit_tree, marked_bounds_tree, marked_tree, marked_type_tree, marked_value_tree};
 ghost use Rattle.syn_ast.specs.Sub.{worded_tree};
 
-use crate::forms::{Called, First, Second};
+use crate::forms::Called;
+use crate::put::{behind, nth};
 use crate::to_tree::ToTree;
 use gram_table::part::Part;
 use gram_tree::arena::Arena;
@@ -56,8 +57,8 @@ impl<'a> ToTree<'a> for Lit<'a> {
 
     fn to_tree(&self, arena: &'a Arena) -> Result<Tree<'a>, AllocError> {
         match *self {
-            Lit::Token(literal) => First(literal).to_tree(arena),
-            Lit::Bool(word) => Second(word).to_tree(arena),
+            Lit::Token(literal) => nth(arena, 0, &literal),
+            Lit::Bool(word) => behind(arena, 1, &word),
         }
     }
 }

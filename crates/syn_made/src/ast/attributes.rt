@@ -2,7 +2,8 @@
 
 ghost use Rattle.syn_ast.specs.Attributes.{attribute, inner_attributes, meta, meta_path_tree, outer_attributes};
 
-use crate::forms::{Called, First, Grouped, Node, Second};
+use crate::forms::{Called, First, Grouped, Second};
+use crate::put::{behind, node, nth};
 use crate::to_tree::ToTree;
 use gram_table::kind::Kind;
 use gram_table::part::Part;
@@ -15,7 +16,7 @@ impl<'t, 'a> ToTree<'a> for OuterAttributes<'t, 'a> {
     ghost tree = { outer_attributes };
 
     fn to_tree(&self, arena: &'a Arena) -> Result<Tree<'a>, AllocError> {
-        Node(Kind::OuterAttributes, self.attrs).to_tree(arena)
+        node(arena, Kind::OuterAttributes, &self.attrs)
     }
 }
 
@@ -23,7 +24,7 @@ impl<'t, 'a> ToTree<'a> for InnerAttributes<'t, 'a> {
     ghost tree = { inner_attributes };
 
     fn to_tree(&self, arena: &'a Arena) -> Result<Tree<'a>, AllocError> {
-        Node(Kind::InnerAttributes, self.attrs).to_tree(arena)
+        node(arena, Kind::InnerAttributes, &self.attrs)
     }
 }
 
@@ -34,11 +35,11 @@ impl<'t, 'a> ToTree<'a> for Attribute<'t, 'a> {
         let bracketed = Grouped(self.bracket_token, self.meta);
         match self.style {
             AttrStyle::Outer => {
-                Node(Kind::OuterAttribute, (self.pound_token, bracketed)).to_tree(arena)
+                node(arena, Kind::OuterAttribute, &(self.pound_token, bracketed))
             }
             AttrStyle::Inner(not_token) => {
                 let inside = (self.pound_token, not_token, bracketed);
-                Node(Kind::InnerAttribute, inside).to_tree(arena)
+                node(arena, Kind::InnerAttribute, &inside)
             }
         }
     }
@@ -49,8 +50,8 @@ impl<'t, 'a> ToTree<'a> for MetaPath<'t, 'a> {
 
     fn to_tree(&self, arena: &'a Arena) -> Result<Tree<'a>, AllocError> {
         match *self {
-            MetaPath::Unsafe(word) => First(word).to_tree(arena),
-            MetaPath::Path(path) => Second(path).to_tree(arena),
+            MetaPath::Unsafe(word) => nth(arena, 0, &word),
+            MetaPath::Path(path) => behind(arena, 1, &path),
         }
     }
 }
@@ -62,16 +63,16 @@ impl<'t, 'a> ToTree<'a> for Meta<'t, 'a> {
         match *self {
             Meta::Path(path) => {
                 let inside = (path, Second(Second(())));
-                Node(Kind::Meta, inside).to_tree(arena)
+                node(arena, Kind::Meta, &inside)
             }
             Meta::List(list) => {
                 let inside = (list.path, First(list.delimited));
-                Node(Kind::Meta, inside).to_tree(arena)
+                node(arena, Kind::Meta, &inside)
             }
             Meta::NameValue(pair) => {
                 let value = (pair.eq_token, Second(Called(Part::Value, pair.value)));
                 let inside = (pair.path, Second(First(value)));
-                Node(Kind::Meta, inside).to_tree(arena)
+                node(arena, Kind::Meta, &inside)
             }
         }
     }

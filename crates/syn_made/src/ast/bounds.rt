@@ -4,7 +4,8 @@ ghost use Rattle.std.specs.Prelude.{◌≡◌, IfOk, MatchOption};
 ghost use Rattle.syn_ast.specs.TypeBounds.{some_bounds, trait_bound, trait_front, type_param_bound};
 ghost use Rattle.syn_made.specs.MadeAst.{IsTraitFront};
 
-use crate::forms::{Called, First, Node, Second};
+use crate::forms::{Called, First, Second};
+use crate::put::{node, some_node};
 use crate::to_tree::ToTree;
 use crate::try_to_tree::TryToTree;
 use gram_table::kind::Kind;
@@ -19,9 +20,9 @@ impl<'t, 'a> ToTree<'a> for TypeParamBound<'t, 'a> {
 
     fn to_tree(&self, arena: &'a Arena) -> Result<Tree<'a>, AllocError> {
         match *self {
-            TypeParamBound::Lifetime(lifetime) => Node(Kind::Bound, First(lifetime)).to_tree(arena),
+            TypeParamBound::Lifetime(lifetime) => node(arena, Kind::Bound, &First(lifetime)),
             TypeParamBound::Trait(path) => {
-                Node(Kind::Bound, Second(Called(Part::Path, path))).to_tree(arena)
+                node(arena, Kind::Bound, &Second(Called(Part::Path, path)))
             }
         }
     }
@@ -37,9 +38,9 @@ fn trait_front<'a>(
         (λ x. IsTraitFront modifier lifetimes.entry × (x ≡ trait_front modifier lifetimes.entry))) }
 {
     match (modifier, lifetimes) {
-        (TraitBoundModifier::Maybe(mark), None) => Ok(Some(First(mark).to_tree(arena)?)),
+        (TraitBoundModifier::Maybe(mark), None) => First(mark).to_some_tree(arena),
         (TraitBoundModifier::Maybe(_), Some(_)) => Ok(None),
-        (TraitBoundModifier::None, lifetimes) => Ok(Some(Second(lifetimes).to_tree(arena)?)),
+        (TraitBoundModifier::None, lifetimes) => Second(lifetimes).to_some_tree(arena),
     }
 }
 
@@ -48,7 +49,7 @@ impl<'t, 'a> TryToTree<'a> for TraitBound<'t, 'a> {
 
     fn try_to_tree(&self, arena: &'a Arena) -> Result<Option<Tree<'a>>, AllocError> {
         match trait_front(arena, self.modifier, self.lifetimes)? {
-            Some(front) => Ok(Some(Node(Kind::TraitPath, (&front, self.path)).to_tree(arena)?)),
+            Some(front) => some_node(arena, Kind::TraitPath, &(&front, self.path)),
             None => Ok(None),
         }
     }
@@ -58,6 +59,6 @@ impl<'t, 'a> ToTree<'a> for SomeBounds<'t, 'a> {
     ghost tree = { some_bounds };
 
     fn to_tree(&self, arena: &'a Arena) -> Result<Tree<'a>, AllocError> {
-        Node(Kind::SomeBounds, First(self.bounds)).to_tree(arena)
+        node(arena, Kind::SomeBounds, &First(self.bounds))
     }
 }

@@ -6,7 +6,8 @@ ghost use Rattle.syn_ast.specs.Generics.{lifetime_colon, lifetime_param, lifetim
 ghost use Rattle.syn_ast.specs.Generics.{predicate_lifetime, predicate_type, type_param, where_clause};
 ghost use Rattle.syn_ast.specs.Generics.{where_predicate};
 
-use crate::forms::{Called, First, Node, Second};
+use crate::forms::{Called, First, Second};
+use crate::put::{behind, node, nth};
 use crate::to_tree::ToTree;
 use gram_table::kind::Kind;
 use gram_table::part::Part;
@@ -32,7 +33,7 @@ impl<'t, 'a> ToTree<'a> for Generics<'t, 'a> {
     ghost tree = { generics };
 
     fn to_tree(&self, arena: &'a Arena) -> Result<Tree<'a>, AllocError> {
-        Node(Kind::Generics, self.params).to_tree(arena)
+        node(arena, Kind::Generics, &self.params)
     }
 }
 
@@ -40,7 +41,7 @@ impl<'t, 'a> ToTree<'a> for ImplGenerics<'t, 'a> {
     ghost tree = { impl_generics };
 
     fn to_tree(&self, arena: &'a Arena) -> Result<Tree<'a>, AllocError> {
-        Node(Kind::ImplGenerics, self.params).to_tree(arena)
+        node(arena, Kind::ImplGenerics, &self.params)
     }
 }
 
@@ -48,7 +49,7 @@ impl<'t, 'a> ToTree<'a> for GenericParams<'t, 'a> {
     ghost tree = { generic_params };
 
     fn to_tree(&self, arena: &'a Arena) -> Result<Tree<'a>, AllocError> {
-        Node(Kind::GenericParams, self.params).to_tree(arena)
+        node(arena, Kind::GenericParams, &self.params)
     }
 }
 
@@ -57,7 +58,7 @@ impl<'t, 'a> ToTree<'a> for LifetimeParam<'t, 'a> {
 
     fn to_tree(&self, arena: &'a Arena) -> Result<Tree<'a>, AllocError> {
         let inside = (self.attrs, self.lifetime, self.colon);
-        Node(Kind::LifetimeParam, inside).to_tree(arena)
+        node(arena, Kind::LifetimeParam, &inside)
     }
 }
 
@@ -65,7 +66,7 @@ impl<'t, 'a> ToTree<'a> for LifetimeColon<'t, 'a> {
     ghost tree = { lifetime_colon };
 
     fn to_tree(&self, arena: &'a Arena) -> Result<Tree<'a>, AllocError> {
-        Node(Kind::LifetimeColon, self.bounds).to_tree(arena)
+        node(arena, Kind::LifetimeColon, &self.bounds)
     }
 }
 
@@ -73,7 +74,7 @@ impl<'t, 'a> ToTree<'a> for BoundsColon<'t, 'a> {
     ghost tree = { bounds_colon };
 
     fn to_tree(&self, arena: &'a Arena) -> Result<Tree<'a>, AllocError> {
-        Node(Kind::BoundsColon, self.bounds).to_tree(arena)
+        node(arena, Kind::BoundsColon, &self.bounds)
     }
 }
 
@@ -82,7 +83,7 @@ impl<'t, 'a> ToTree<'a> for TypeParam<'t, 'a> {
 
     fn to_tree(&self, arena: &'a Arena) -> Result<Tree<'a>, AllocError> {
         let inside = (self.attrs, self.ident, self.colon, self.default);
-        Node(Kind::TypeParam, inside).to_tree(arena)
+        node(arena, Kind::TypeParam, &inside)
     }
 }
 
@@ -90,7 +91,7 @@ impl<'t, 'a> ToTree<'a> for Bounds<'t, 'a> {
     ghost tree = { bounds };
 
     fn to_tree(&self, arena: &'a Arena) -> Result<Tree<'a>, AllocError> {
-        Node(Kind::Bounds, self.bounds).to_tree(arena)
+        node(arena, Kind::Bounds, &self.bounds)
     }
 }
 
@@ -98,7 +99,7 @@ impl<'t, 'a> ToTree<'a> for Lifetimes<'t, 'a> {
     ghost tree = { lifetimes };
 
     fn to_tree(&self, arena: &'a Arena) -> Result<Tree<'a>, AllocError> {
-        Node(Kind::Lifetimes, self.lifetimes).to_tree(arena)
+        node(arena, Kind::Lifetimes, &self.lifetimes)
     }
 }
 
@@ -107,9 +108,9 @@ impl<'t, 'a> ToTree<'a> for ConstValue<'t, 'a> {
 
     fn to_tree(&self, arena: &'a Arena) -> Result<Tree<'a>, AllocError> {
         match *self {
-            ConstValue::Lit(lit) => First(lit).to_tree(arena),
-            ConstValue::Block(block) => Second(First(block)).to_tree(arena),
-            ConstValue::Ident(word) => Second(Second(word)).to_tree(arena),
+            ConstValue::Lit(lit) => nth(arena, 0, &lit),
+            ConstValue::Block(block) => nth(arena, 1, &block),
+            ConstValue::Ident(word) => behind(arena, 2, &word),
         }
     }
 }
@@ -129,7 +130,7 @@ impl<'t, 'a> ToTree<'a> for ConstParam<'t, 'a> {
     fn to_tree(&self, arena: &'a Arena) -> Result<Tree<'a>, AllocError> {
         let behind = (self.colon_token, self.ty, self.default);
         let inside = (self.attrs, self.const_token, self.ident, behind);
-        Node(Kind::ConstParam, inside).to_tree(arena)
+        node(arena, Kind::ConstParam, &inside)
     }
 }
 
@@ -140,14 +141,10 @@ impl<'t, 'a> ToTree<'a> for GenericParam<'t, 'a> {
         match *self {
             GenericParam::Lifetime(param) => {
                 let inside = First(Called(Part::Lifetime, param));
-                Node(Kind::GenericParam, inside).to_tree(arena)
+                node(arena, Kind::GenericParam, &inside)
             }
-            GenericParam::Const(param) => {
-                Node(Kind::GenericParam, Second(First(param))).to_tree(arena)
-            }
-            GenericParam::Type(param) => {
-                Node(Kind::GenericParam, Second(Second(param))).to_tree(arena)
-            }
+            GenericParam::Const(param) => { node(arena, Kind::GenericParam, &Second(First(param))) }
+            GenericParam::Type(param) => { node(arena, Kind::GenericParam, &Second(Second(param))) }
         }
     }
 }
@@ -158,7 +155,7 @@ impl<'t, 'a> ToTree<'a> for WhereClause<'t, 'a> {
     fn to_tree(&self, arena: &'a Arena) -> Result<Tree<'a>, AllocError> {
         let predicates = Called(Part::Parameters, self.predicates);
         let inside = (self.where_token, predicates, First(()));
-        Node(Kind::WhereClause, inside).to_tree(arena)
+        node(arena, Kind::WhereClause, &inside)
     }
 }
 
@@ -167,8 +164,8 @@ impl<'t, 'a> ToTree<'a> for OptionalWhere<'t, 'a> {
 
     fn to_tree(&self, arena: &'a Arena) -> Result<Tree<'a>, AllocError> {
         match self.clause {
-            Some(clause) => Node(Kind::Where, First(Called(Part::Clause, clause))).to_tree(arena),
-            None => Node(Kind::Where, Second(())).to_tree(arena),
+            Some(clause) => node(arena, Kind::Where, &First(Called(Part::Clause, clause))),
+            None => node(arena, Kind::Where, &Second(())),
         }
     }
 }
@@ -201,10 +198,10 @@ impl<'t, 'a> ToTree<'a> for WherePredicate<'t, 'a> {
     fn to_tree(&self, arena: &'a Arena) -> Result<Tree<'a>, AllocError> {
         match *self {
             WherePredicate::Lifetime(predicate) => {
-                Node(Kind::WherePredicate, First(predicate)).to_tree(arena)
+                node(arena, Kind::WherePredicate, &First(predicate))
             }
             WherePredicate::Type(predicate) => {
-                Node(Kind::WherePredicate, Second(predicate)).to_tree(arena)
+                node(arena, Kind::WherePredicate, &Second(predicate))
             }
         }
     }

@@ -8,8 +8,9 @@ ghost use Rattle.syn_grammar.specs.Kind as k;
 ghost use Rattle.syn_grammar.specs.Tree as t;
 ghost use Rattle.syn_made.specs.MadeAst.{IsLimit, IsRange, IsRangeEnd, IsWholePat};
 
-use crate::forms::{First, Grouped, Node, Second};
+use crate::forms::{First, Grouped, Second, Seconds};
 use crate::lists::Only;
+use crate::put::{node, some_node};
 use crate::to_tree::ToTree;
 use crate::try_to_tree::TryToTree;
 use gram_table::kind::Kind;
@@ -24,7 +25,7 @@ impl<'a> ToTree<'a> for PatLit<'a> {
 
     fn to_tree(&self, arena: &'a Arena) -> Result<Tree<'a>, AllocError> {
         let inside = (self.lit, Second(()));
-        Node(Kind::LiteralPattern, inside).to_tree(arena)
+        node(arena, Kind::LiteralPattern, &inside)
     }
 }
 
@@ -33,7 +34,7 @@ impl<'t, 'a> ToTree<'a> for PatParen<'t, 'a> {
 
     fn to_tree(&self, arena: &'a Arena) -> Result<Tree<'a>, AllocError> {
         let inside = Grouped(self.paren_token, Only(self.pat));
-        Node(Kind::TuplePattern, inside).to_tree(arena)
+        node(arena, Kind::TuplePattern, &inside)
     }
 }
 
@@ -42,7 +43,7 @@ impl<'t, 'a> ToTree<'a> for PatTuple<'t, 'a> {
 
     fn to_tree(&self, arena: &'a Arena) -> Result<Tree<'a>, AllocError> {
         let inside = Grouped(self.paren_token, self.elems);
-        Node(Kind::TuplePattern, inside).to_tree(arena)
+        node(arena, Kind::TuplePattern, &inside)
     }
 }
 
@@ -51,7 +52,7 @@ impl<'t, 'a> ToTree<'a> for PatPath<'t, 'a> {
 
     fn to_tree(&self, arena: &'a Arena) -> Result<Tree<'a>, AllocError> {
         let inside = (self.path, PathBehind::None);
-        Node(Kind::PathPattern, inside).to_tree(arena)
+        node(arena, Kind::PathPattern, &inside)
     }
 }
 
@@ -60,7 +61,7 @@ impl<'t, 'a> ToTree<'a> for PatTupleStruct<'t, 'a> {
 
     fn to_tree(&self, arena: &'a Arena) -> Result<Tree<'a>, AllocError> {
         let behind = PathBehind::Tuple(self.paren_token, self.elems);
-        Node(Kind::PathPattern, (self.path, behind)).to_tree(arena)
+        node(arena, Kind::PathPattern, &(self.path, behind))
     }
 }
 
@@ -69,7 +70,7 @@ impl<'t, 'a> ToTree<'a> for PatStruct<'t, 'a> {
 
     fn to_tree(&self, arena: &'a Arena) -> Result<Tree<'a>, AllocError> {
         let inside = (self.path, PathBehind::Struct(self.fields));
-        Node(Kind::PathPattern, inside).to_tree(arena)
+        node(arena, Kind::PathPattern, &inside)
     }
 }
 
@@ -87,12 +88,10 @@ fn range_from<'a>(
     let Some(end) = end.try_to_tree(arena)? else {
         return Ok(None);
     };
-    let end = First(&end);
     match start {
-        RangeBound::Lit(lit) => Ok(Some(Node(Kind::LiteralPattern, (lit, end)).to_tree(arena)?)),
+        RangeBound::Lit(lit) => { some_node(arena, Kind::LiteralPattern, &(lit, First(&end))) }
         RangeBound::Path(path) => {
-            let inside = (path, Second(Second(end)));
-            Ok(Some(Node(Kind::PathPattern, inside).to_tree(arena)?))
+            some_node(arena, Kind::PathPattern, &(path, Seconds(2, First(&end))))
         }
     }
 }

@@ -1,20 +1,24 @@
 //! Paths, members and macros as trees.
 
 ghost use Rattle.std.specs.Prelude.{◌≡◌, ◌↔◌, IfOk, IsTrue, MatchOption};
+ghost use Rattle.syn_ast.specs.Leaves.{word_tree};
 ghost use Rattle.syn_ast.specs.Paths.{angle_bracketed_generic_arguments, argument_inside, assoc_type_tree};
-ghost use Rattle.syn_ast.specs.Paths.{behind_keyword, behind_name, delimited, generic_argument, index, keyword_alone};
+ghost use Rattle.syn_ast.specs.Paths.{behind_keyword, behind_name, delimited, generic_argument, index};
 ghost use Rattle.syn_ast.specs.Paths.{macro, member, one_segment, parenthesized_generic_arguments, path};
 ghost use Rattle.syn_ast.specs.Paths.{qualified_path, segment_end, segments, segments_inside};
+ghost use Rattle.syn_grammar.specs.Tree as t;
 ghost use Rattle.syn_made.specs.MadeAst.{AreArgumentsIn, AreWhole, IsBare, IsNameEnd, IsSegmentEnd};
 ghost use Rattle.syn_made.specs.MadeAst.{IsWholeSegment};
 
-use crate::forms::{Called, First, Grouped, Node, Second};
+use crate::forms::{Called, First, Grouped, Node, Second, Seconds};
+use crate::put::{behind, node, nth, some_node};
 use crate::to_tree::ToTree;
 use crate::try_to_tree::TryToTree;
 use gram_table::kind::{Kind, Style};
 use gram_table::part::Part;
 use gram_tree::arena::Arena;
 use gram_tree::tree::Tree;
+use rust_leaf::ident::Ident;
 use std::alloc::AllocError;
 use syn_ast::paths::{
     AngleBracketedGenericArguments, AssocType, Delimited, GenericArgument, Index, Macro,
@@ -28,7 +32,7 @@ impl<'t, 'a> ToTree<'a> for Path<'t, 'a> {
 
     fn to_tree(&self, arena: &'a Arena) -> Result<Tree<'a>, AllocError> {
         let inside = (self.leading_colon, self.segments);
-        Node(Kind::Path(self.style), inside).to_tree(arena)
+        node(arena, Kind::Path(self.style), &inside)
     }
 }
 
@@ -39,7 +43,7 @@ impl<'t, 'a> ToTree<'a> for QualifiedPath<'t, 'a> {
         let qself = self.qself;
         let behind = (qself.gt_token, self.colon2_token, self.segments);
         let inside = (qself.lt_token, qself.ty, qself.as_token, behind);
-        Node(Kind::QualifiedPath(self.style), inside).to_tree(arena)
+        node(arena, Kind::QualifiedPath(self.style), &inside)
     }
 }
 
@@ -49,7 +53,7 @@ impl<'t, 'a> ToTree<'a> for AngleBracketedGenericArguments<'t, 'a> {
     fn to_tree(&self, arena: &'a Arena) -> Result<Tree<'a>, AllocError> {
         let args = Called(Part::Arguments, self.args);
         let inside = (self.colon2_token, self.lt_token, args, self.gt_token);
-        Node(Kind::Arguments, inside).to_tree(arena)
+        node(arena, Kind::Arguments, &inside)
     }
 }
 
@@ -58,7 +62,7 @@ impl<'t, 'a> ToTree<'a> for ParenthesizedGenericArguments<'t, 'a> {
 
     fn to_tree(&self, arena: &'a Arena) -> Result<Tree<'a>, AllocError> {
         let inside = (Grouped(self.paren_token, self.inputs), self.output);
-        Node(Kind::ParenthesizedArguments, inside).to_tree(arena)
+        node(arena, Kind::ParenthesizedArguments, &inside)
     }
 }
 
@@ -67,42 +71,48 @@ impl<'t, 'a> ToTree<'a> for Macro<'t, 'a> {
 
     fn to_tree(&self, arena: &'a Arena) -> Result<Tree<'a>, AllocError> {
         let inside = (self.path, self.bang_token, self.delimited);
-        Node(Kind::AMacro, inside).to_tree(arena)
+        node(arena, Kind::AMacro, &inside)
     }
 }
 
-// What stands behind a keyword, if it has no arguments: perhaps `::` and further segments.
-fn behind_keyword<'a>(
+// A keyword and what stands behind it, if it has no arguments: perhaps `::` and further segments.
+fn from_keyword<'a>(
     arena: &'a Arena,
+    word: &'a Ident,
     arguments: PathArguments<'_, 'a>,
     others: Option<Marked<'_, 'a>>,
 ) -> Result<Option<Tree<'a>>, AllocError>
     ensures { IfOk result (λ o. MatchOption o (IsBare arguments.entry → ⊥)
-        (λ x. IsBare arguments.entry × (x ≡ behind_keyword arguments.entry others.entry))) }
+        (λ x. IsBare arguments.entry
+        × (x ≡ t.First (t.Pair (word_tree word.entry) (behind_keyword arguments.entry others.entry))))) }
 {
     match arguments {
-        PathArguments::None => Ok(Some(others.to_tree(arena)?)),
+        PathArguments::None => First((word, others)).to_some_tree(arena),
         _ => Ok(None),
     }
 }
 
-// What stands behind a name: its arguments, and perhaps `::` and further segments, if they are not in parentheses.
-fn behind_name<'a>(
+// A name and what stands behind it: its arguments, and perhaps `::` and further segments, if they are not in parentheses.
+fn from_name<'a>(
     arena: &'a Arena,
+    word: &'a Ident,
     arguments: PathArguments<'_, 'a>,
     others: Option<Marked<'_, 'a>>,
 ) -> Result<Option<Tree<'a>>, AllocError>
     ensures { IfOk result (λ o. MatchOption o (IsNameEnd arguments.entry others.entry → ⊥)
-        (λ x. IsNameEnd arguments.entry others.entry × (x ≡ behind_name arguments.entry others.entry))) }
+        (λ x. IsNameEnd arguments.entry others.entry
+        × (x ≡ t.Second (t.Pair (word_tree word.entry) (behind_name arguments.entry others.entry))))) }
 {
     match (arguments, others) {
         (PathArguments::AngleBracketed(args), others) => {
-            Ok(Some(First((args, others)).to_tree(arena)?))
+            Second((word, First((args, others)))).to_some_tree(arena)
         }
-        (PathArguments::None, Some(others)) => Ok(Some(Second(First(others)).to_tree(arena)?)),
-        (PathArguments::None, None) => Ok(Some(Second(Second(Second(()))).to_tree(arena)?)),
+        (PathArguments::None, Some(others)) => Second((word, Second(First(others)))).to_some_tree(
+            arena,
+        ),
+        (PathArguments::None, None) => Second((word, Seconds(3, ()))).to_some_tree(arena),
         (PathArguments::Parenthesized(args), None) => {
-            Ok(Some(Second(Second(First(args))).to_tree(arena)?))
+            Second((word, Seconds(2, First(args)))).to_some_tree(arena)
         }
         (PathArguments::Parenthesized(_), Some(_)) => Ok(None),
     }
@@ -120,15 +130,10 @@ fn segments_inside<'a>(
         × (x ≡ segments_inside is_keyword first.entry others.entry))) }
 {
     if is_keyword {
-        let Some(behind) = behind_keyword(arena, first.arguments, others)? else {
-            return Ok(None);
-        };
-        return Ok(Some(First((first.ident, &behind)).to_tree(arena)?));
+        from_keyword(arena, first.ident, first.arguments, others)
+    } else {
+        from_name(arena, first.ident, first.arguments, others)
     }
-    let Some(behind) = behind_name(arena, first.arguments, others)? else {
-        return Ok(None);
-    };
-    Ok(Some(Second((first.ident, &behind)).to_tree(arena)?))
 }
 
 // Whether a segment's arguments may stand in a path of that style.
@@ -154,7 +159,7 @@ impl<'t, 'a> TryToTree<'a> for Segments<'t, 'a> {
             return Ok(None);
         }
         match segments_inside(arena, self.is_keyword, self.first, self.others)? {
-            Some(inside) => Ok(Some(Node(Kind::Segments(self.style), &inside).to_tree(arena)?)),
+            Some(inside) => Node(Kind::Segments(self.style), &inside).to_some_tree(arena),
             None => Ok(None),
         }
     }
@@ -165,24 +170,10 @@ impl<'t, 'a> ToTree<'a> for PathArguments<'t, 'a> {
 
     fn to_tree(&self, arena: &'a Arena) -> Result<Tree<'a>, AllocError> {
         match *self {
-            PathArguments::AngleBracketed(args) => First(args).to_tree(arena),
-            PathArguments::Parenthesized(args) => Second(First(args)).to_tree(arena),
-            PathArguments::None => Second(Second(())).to_tree(arena),
+            PathArguments::AngleBracketed(args) => nth(arena, 0, &args),
+            PathArguments::Parenthesized(args) => nth(arena, 1, &args),
+            PathArguments::None => behind(arena, 2, &()),
         }
-    }
-}
-
-// A keyword by itself, if it has no arguments.
-fn keyword_alone<'a>(
-    arena: &'a Arena,
-    segment: PathSegment<'_, 'a>,
-) -> Result<Option<Tree<'a>>, AllocError>
-    ensures { IfOk result (λ o. MatchOption o (IsBare segment.entry.arguments → ⊥)
-        (λ x. IsBare segment.entry.arguments × (x ≡ keyword_alone segment.entry segment.entry.arguments))) }
-{
-    match segment.arguments {
-        PathArguments::None => Ok(Some(First(segment.ident).to_tree(arena)?)),
-        _ => Ok(None),
     }
 }
 
@@ -194,14 +185,16 @@ impl<'t, 'a> TryToTree<'a> for OneSegment<'t, 'a> {
         if !are_arguments_in(self.style, segment.arguments) {
             return Ok(None);
         }
-        if self.is_keyword {
-            let Some(inside) = keyword_alone(arena, segment)? else {
-                return Ok(None);
-            };
-            return Ok(Some(Node(Kind::Segment(self.style), &inside).to_tree(arena)?));
+        let word = segment.ident;
+        match (self.is_keyword, segment.arguments) {
+            (true, PathArguments::None) => {
+                some_node(arena, Kind::Segment(self.style), &First(word))
+            }
+            (true, _) => Ok(None),
+            (false, arguments) => {
+                some_node(arena, Kind::Segment(self.style), &Second((word, arguments)))
+            }
         }
-        let inside = Second((segment.ident, segment.arguments));
-        Ok(Some(Node(Kind::Segment(self.style), inside).to_tree(arena)?))
     }
 }
 
@@ -223,14 +216,12 @@ impl<'t, 'a> ToTree<'a> for Argument<'t, 'a> {
     fn to_tree(&self, arena: &'a Arena) -> Result<Tree<'a>, AllocError> {
         match self.0 {
             GenericArgument::Lifetime(lifetime) => {
-                First(Called(Part::Lifetime, lifetime)).to_tree(arena)
+                nth(arena, 0, &Called(Part::Lifetime, lifetime))
             }
-            GenericArgument::Const(lit) => Second(First(lit)).to_tree(arena),
-            GenericArgument::ConstBlock(block) => Second(Second(First(block))).to_tree(arena),
-            GenericArgument::AssocType(assoc) => {
-                Second(Second(Second(First(assoc)))).to_tree(arena)
-            }
-            GenericArgument::Type(ty) => Second(Second(Second(Second(ty)))).to_tree(arena),
+            GenericArgument::Const(lit) => nth(arena, 1, &lit),
+            GenericArgument::ConstBlock(block) => nth(arena, 2, &block),
+            GenericArgument::AssocType(assoc) => nth(arena, 3, &assoc),
+            GenericArgument::Type(ty) => behind(arena, 4, &ty),
         }
     }
 }
@@ -239,7 +230,7 @@ impl<'t, 'a> ToTree<'a> for GenericArgument<'t, 'a> {
     ghost tree = { generic_argument };
 
     fn to_tree(&self, arena: &'a Arena) -> Result<Tree<'a>, AllocError> {
-        Node(Kind::AnArgument, Argument(*self)).to_tree(arena)
+        node(arena, Kind::AnArgument, &Argument(*self))
     }
 }
 
@@ -247,7 +238,7 @@ impl<'a> ToTree<'a> for Index<'a> {
     ghost tree = { index };
 
     fn to_tree(&self, arena: &'a Arena) -> Result<Tree<'a>, AllocError> {
-        Node(Kind::Index, self.index).to_tree(arena)
+        node(arena, Kind::Index, &self.index)
     }
 }
 
@@ -256,8 +247,8 @@ impl<'a> ToTree<'a> for Member<'a> {
 
     fn to_tree(&self, arena: &'a Arena) -> Result<Tree<'a>, AllocError> {
         match *self {
-            Member::Named(ident) => Node(Kind::Member, First(ident)).to_tree(arena),
-            Member::Unnamed(index) => Node(Kind::Member, Second(index.index)).to_tree(arena),
+            Member::Named(ident) => node(arena, Kind::Member, &First(ident)),
+            Member::Unnamed(index) => node(arena, Kind::Member, &Second(index.index)),
         }
     }
 }
@@ -269,15 +260,15 @@ impl<'a> ToTree<'a> for Delimited<'a> {
         match self.delimiter {
             MacroDelimiter::Paren(found) => {
                 let group = Grouped(found, self.tokens);
-                Node(Kind::Delimited, First(group)).to_tree(arena)
+                node(arena, Kind::Delimited, &First(group))
             }
             MacroDelimiter::Brace(found) => {
                 let group = Grouped(found, self.tokens);
-                Node(Kind::Delimited, Second(First(group))).to_tree(arena)
+                node(arena, Kind::Delimited, &Second(First(group)))
             }
             MacroDelimiter::Bracket(found) => {
                 let group = Grouped(found, self.tokens);
-                Node(Kind::Delimited, Second(Second(group))).to_tree(arena)
+                node(arena, Kind::Delimited, &Second(Second(group)))
             }
         }
     }

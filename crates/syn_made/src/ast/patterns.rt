@@ -10,8 +10,9 @@ ghost use Rattle.syn_grammar.specs.Kind as k;
 ghost use Rattle.syn_grammar.specs.Tree as t;
 ghost use Rattle.syn_made.specs.MadeAst.{IsLimit, IsRangeEnd};
 
-use crate::forms::{Called, First, Grouped, Node, Second};
+use crate::forms::{Called, First, Grouped, Second};
 use crate::leaf::is_sign;
+use crate::put::{behind, node, nth, some_node};
 use crate::to_tree::ToTree;
 use crate::try_to_tree::TryToTree;
 use gram_table::kind::Kind;
@@ -30,7 +31,7 @@ impl<'a> ToTree<'a> for PatWild<'a> {
     ghost tree = { pat_wild };
 
     fn to_tree(&self, arena: &'a Arena) -> Result<Tree<'a>, AllocError> {
-        Node(Kind::WildPattern, self.underscore_token).to_tree(arena)
+        node(arena, Kind::WildPattern, &self.underscore_token)
     }
 }
 
@@ -38,7 +39,7 @@ impl<'a> ToTree<'a> for PatRest {
     ghost tree = { pat_rest };
 
     fn to_tree(&self, arena: &'a Arena) -> Result<Tree<'a>, AllocError> {
-        Node(Kind::RestPattern, self.dot2_token).to_tree(arena)
+        node(arena, Kind::RestPattern, &self.dot2_token)
     }
 }
 
@@ -47,7 +48,7 @@ impl<'t, 'a> ToTree<'a> for PatReference<'t, 'a> {
 
     fn to_tree(&self, arena: &'a Arena) -> Result<Tree<'a>, AllocError> {
         let inside = (self.and_token, self.mutability, self.pat);
-        Node(Kind::ReferencePattern, inside).to_tree(arena)
+        node(arena, Kind::ReferencePattern, &inside)
     }
 }
 
@@ -55,7 +56,11 @@ impl<'t, 'a> ToTree<'a> for PatSlice<'t, 'a> {
     ghost tree = { pat_slice };
 
     fn to_tree(&self, arena: &'a Arena) -> Result<Tree<'a>, AllocError> {
-        Node(Kind::SlicePattern, Grouped(self.bracket_token, self.elems)).to_tree(arena)
+        node(
+            arena,
+            Kind::SlicePattern,
+            &Grouped(self.bracket_token, self.elems),
+        )
     }
 }
 
@@ -63,7 +68,11 @@ impl<'t, 'a> ToTree<'a> for PatParenthesized<'t, 'a> {
     ghost tree = { pat_parenthesized };
 
     fn to_tree(&self, arena: &'a Arena) -> Result<Tree<'a>, AllocError> {
-        Node(Kind::TuplePattern, Grouped(self.paren_token, self.elems)).to_tree(arena)
+        node(
+            arena,
+            Kind::TuplePattern,
+            &Grouped(self.paren_token, self.elems),
+        )
     }
 }
 
@@ -71,7 +80,11 @@ impl<'t, 'a> ToTree<'a> for PatOr<'t, 'a> {
     ghost tree = { pat_or };
 
     fn to_tree(&self, arena: &'a Arena) -> Result<Tree<'a>, AllocError> {
-        Node(Kind::Pattern, (self.leading_vert, self.first, self.others)).to_tree(arena)
+        node(
+            arena,
+            Kind::Pattern,
+            &(self.leading_vert, self.first, self.others),
+        )
     }
 }
 
@@ -79,7 +92,7 @@ impl<'t, 'a> ToTree<'a> for PatSeveral<'t, 'a> {
     ghost tree = { pat_several };
 
     fn to_tree(&self, arena: &'a Arena) -> Result<Tree<'a>, AllocError> {
-        Node(Kind::SeveralPatterns, (self.first, self.others)).to_tree(arena)
+        node(arena, Kind::SeveralPatterns, &(self.first, self.others))
     }
 }
 
@@ -93,7 +106,7 @@ impl<'t, 'a> ToTree<'a> for PatIdent<'t, 'a> {
             self.ident,
             Second(self.subpat),
         );
-        Node(Kind::IdentPattern, inside).to_tree(arena)
+        node(arena, Kind::IdentPattern, &inside)
     }
 }
 
@@ -102,8 +115,8 @@ impl<'a> ToTree<'a> for RangeLimits {
 
     fn to_tree(&self, arena: &'a Arena) -> Result<Tree<'a>, AllocError> {
         match *self {
-            RangeLimits::Closed(mark) => First(mark).to_tree(arena),
-            RangeLimits::HalfOpen(mark) => Second(mark).to_tree(arena),
+            RangeLimits::Closed(mark) => nth(arena, 0, &mark),
+            RangeLimits::HalfOpen(mark) => behind(arena, 1, &mark),
         }
     }
 }
@@ -126,7 +139,7 @@ impl<'t, 'a> TryToTree<'a> for PatRangeTo<'t, 'a> {
             return Ok(None);
         }
         let inside = (self.limits, self.end);
-        Ok(Some(Node(Kind::RangeToPattern, inside).to_tree(arena)?))
+        Ok(Some(node(arena, Kind::RangeToPattern, &inside)?))
     }
 }
 
@@ -140,11 +153,11 @@ impl<'t, 'a> TryToTree<'a> for RangeEnd<'t, 'a> {
         }
         match (self.limits, self.end) {
             (RangeLimits::Closed(mark), Some(end)) => {
-                Ok(Some(Node(Kind::RangeEnd, First((mark, end))).to_tree(arena)?))
+                some_node(arena, Kind::RangeEnd, &First((mark, end)))
             }
             (RangeLimits::Closed(_), None) => Ok(None),
             (RangeLimits::HalfOpen(mark), end) => {
-                Ok(Some(Node(Kind::RangeEnd, Second((mark, end))).to_tree(arena)?))
+                some_node(arena, Kind::RangeEnd, &Second((mark, end)))
             }
         }
     }
@@ -155,8 +168,8 @@ impl<'a> ToTree<'a> for SignedLit<'a> {
 
     fn to_tree(&self, arena: &'a Arena) -> Result<Tree<'a>, AllocError> {
         match *self {
-            SignedLit::Negative(mark, literal) => First((mark, literal)).to_tree(arena),
-            SignedLit::Plain(lit) => Second(lit).to_tree(arena),
+            SignedLit::Negative(mark, literal) => nth(arena, 0, &(mark, literal)),
+            SignedLit::Plain(lit) => behind(arena, 1, &lit),
         }
     }
 }
@@ -165,7 +178,7 @@ impl<'t, 'a> ToTree<'a> for LiteralPattern<'t, 'a> {
     ghost tree = { literal_pattern };
 
     fn to_tree(&self, arena: &'a Arena) -> Result<Tree<'a>, AllocError> {
-        Node(Kind::LiteralPattern, (self.lit, self.end)).to_tree(arena)
+        node(arena, Kind::LiteralPattern, &(self.lit, self.end))
     }
 }
 
@@ -174,8 +187,8 @@ impl<'t, 'a> ToTree<'a> for RangeBound<'t, 'a> {
 
     fn to_tree(&self, arena: &'a Arena) -> Result<Tree<'a>, AllocError> {
         match *self {
-            RangeBound::Lit(lit) => Node(Kind::RangeBound, First(lit)).to_tree(arena),
-            RangeBound::Path(path) => Node(Kind::RangeBound, Second(path)).to_tree(arena),
+            RangeBound::Lit(lit) => node(arena, Kind::RangeBound, &First(lit)),
+            RangeBound::Path(path) => node(arena, Kind::RangeBound, &Second(path)),
         }
     }
 }
@@ -185,12 +198,10 @@ impl<'t, 'a> ToTree<'a> for PathBehind<'t, 'a> {
 
     fn to_tree(&self, arena: &'a Arena) -> Result<Tree<'a>, AllocError> {
         match *self {
-            PathBehind::Tuple(delimiters, elems) => First(Grouped(delimiters, elems)).to_tree(
-                arena,
-            ),
-            PathBehind::Struct(fields) => Second(First(fields)).to_tree(arena),
-            PathBehind::Range(end) => Second(Second(First(end))).to_tree(arena),
-            PathBehind::None => Second(Second(Second(()))).to_tree(arena),
+            PathBehind::Tuple(delimiters, elems) => nth(arena, 0, &Grouped(delimiters, elems)),
+            PathBehind::Struct(fields) => nth(arena, 1, &fields),
+            PathBehind::Range(end) => nth(arena, 2, &end),
+            PathBehind::None => behind(arena, 3, &()),
         }
     }
 }
@@ -199,7 +210,7 @@ impl<'t, 'a> ToTree<'a> for PathPattern<'t, 'a> {
     ghost tree = { path_pattern };
 
     fn to_tree(&self, arena: &'a Arena) -> Result<Tree<'a>, AllocError> {
-        Node(Kind::PathPattern, (self.path, self.behind)).to_tree(arena)
+        node(arena, Kind::PathPattern, &(self.path, self.behind))
     }
 }
 
@@ -208,7 +219,7 @@ impl<'t, 'a> ToTree<'a> for FieldPatterns<'t, 'a> {
 
     fn to_tree(&self, arena: &'a Arena) -> Result<Tree<'a>, AllocError> {
         let inside = First(Grouped(self.brace_token, self.fields));
-        Node(Kind::FieldPatterns, inside).to_tree(arena)
+        node(arena, Kind::FieldPatterns, &inside)
     }
 }
 
@@ -233,9 +244,9 @@ impl<'t, 'a> ToTree<'a> for FieldPattern<'t, 'a> {
 
     fn to_tree(&self, arena: &'a Arena) -> Result<Tree<'a>, AllocError> {
         match *self {
-            FieldPattern::Rest(rest) => First(Called(Part::Rest, rest)).to_tree(arena),
-            FieldPattern::Member(field) => Second(First(field)).to_tree(arena),
-            FieldPattern::Shorthand(field) => Second(Second(field)).to_tree(arena),
+            FieldPattern::Rest(rest) => nth(arena, 0, &Called(Part::Rest, rest)),
+            FieldPattern::Member(field) => nth(arena, 1, &field),
+            FieldPattern::Shorthand(field) => behind(arena, 2, &field),
         }
     }
 }
@@ -244,6 +255,6 @@ impl<'t, 'a> ToTree<'a> for FieldPat<'t, 'a> {
     ghost tree = { field_pat };
 
     fn to_tree(&self, arena: &'a Arena) -> Result<Tree<'a>, AllocError> {
-        Node(Kind::FieldPattern, (self.attrs, self.pattern)).to_tree(arena)
+        node(arena, Kind::FieldPattern, &(self.attrs, self.pattern))
     }
 }

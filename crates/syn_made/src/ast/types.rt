@@ -8,8 +8,9 @@ ghost use Rattle.syn_ast.specs.Types.{type_parenthesized, type_path, type_ptr, t
 ghost use Rattle.syn_ast.specs.Types.{type_trait_object, type_tree, type_tuple};
 ghost use Rattle.syn_made.specs.MadeAst.{AreBounds, IsTuple, IsWholeType};
 
-use crate::forms::{Called, First, Grouped, Node, Second};
+use crate::forms::{Called, First, Grouped, Second};
 use crate::lists::Only;
+use crate::put::{behind, node, nth, some_node};
 use crate::to_tree::ToTree;
 use crate::try_to_tree::TryToTree;
 use gram_table::kind::{Kind, Plus};
@@ -29,8 +30,8 @@ impl<'a> ToTree<'a> for PointerMutability<'a> {
 
     fn to_tree(&self, arena: &'a Arena) -> Result<Tree<'a>, AllocError> {
         match *self {
-            PointerMutability::Const(word) => First(word).to_tree(arena),
-            PointerMutability::Mut(word) => Second(word).to_tree(arena),
+            PointerMutability::Const(word) => nth(arena, 0, &word),
+            PointerMutability::Mut(word) => behind(arena, 1, &word),
         }
     }
 }
@@ -41,7 +42,7 @@ impl<'t, 'a> ToTree<'a> for TypeBounds<'t, 'a> {
     fn to_tree(&self, arena: &'a Arena) -> Result<Tree<'a>, AllocError> {
         match *self {
             TypeBounds::Several(bounds) => Called(Part::Bounds, bounds).to_tree(arena),
-            TypeBounds::One(bound) => Second(bound).to_tree(arena),
+            TypeBounds::One(bound) => behind(arena, 1, &bound),
         }
     }
 }
@@ -51,7 +52,7 @@ impl<'t, 'a> ToTree<'a> for TypePtr<'t, 'a> {
 
     fn to_tree(&self, arena: &'a Arena) -> Result<Tree<'a>, AllocError> {
         let inside = (self.star_token, self.mutability, self.elem);
-        Node(Kind::PointerType, inside).to_tree(arena)
+        node(arena, Kind::PointerType, &inside)
     }
 }
 
@@ -60,7 +61,7 @@ impl<'t, 'a> ToTree<'a> for TypeReference<'t, 'a> {
 
     fn to_tree(&self, arena: &'a Arena) -> Result<Tree<'a>, AllocError> {
         let inside = (self.and_token, self.lifetime, self.mutability, self.elem);
-        Node(Kind::ReferenceType, inside).to_tree(arena)
+        node(arena, Kind::ReferenceType, &inside)
     }
 }
 
@@ -68,7 +69,7 @@ impl<'a> ToTree<'a> for TypeNever {
     ghost tree = { type_never };
 
     fn to_tree(&self, arena: &'a Arena) -> Result<Tree<'a>, AllocError> {
-        Node(Kind::NeverType, self.bang_token).to_tree(arena)
+        node(arena, Kind::NeverType, &self.bang_token)
     }
 }
 
@@ -76,7 +77,7 @@ impl<'a> ToTree<'a> for TypeInfer<'a> {
     ghost tree = { type_infer };
 
     fn to_tree(&self, arena: &'a Arena) -> Result<Tree<'a>, AllocError> {
-        Node(Kind::InferType, self.underscore_token).to_tree(arena)
+        node(arena, Kind::InferType, &self.underscore_token)
     }
 }
 
@@ -87,7 +88,7 @@ impl<'t, 'a> ToTree<'a> for TypeFnPtr<'t, 'a> {
         let inputs = Grouped(self.paren_token, self.inputs);
         let behind = (self.fn_token, inputs, self.output);
         let inside = (self.lifetimes, self.unsafety, self.abi, behind);
-        Node(Kind::FnPtrType, inside).to_tree(arena)
+        node(arena, Kind::FnPtrType, &inside)
     }
 }
 
@@ -103,7 +104,7 @@ impl<'t, 'a> ToTree<'a> for FnPtrArg<'t, 'a> {
     ghost tree = { fn_ptr_arg };
 
     fn to_tree(&self, arena: &'a Arena) -> Result<Tree<'a>, AllocError> {
-        Node(Kind::FnPtrArg, (self.attrs, self.name, self.ty)).to_tree(arena)
+        node(arena, Kind::FnPtrArg, &(self.attrs, self.name, self.ty))
     }
 }
 
@@ -111,7 +112,7 @@ impl<'a> ToTree<'a> for Abi<'a> {
     ghost tree = { abi };
 
     fn to_tree(&self, arena: &'a Arena) -> Result<Tree<'a>, AllocError> {
-        Node(Kind::Abi, (self.extern_token, self.name)).to_tree(arena)
+        node(arena, Kind::Abi, &(self.extern_token, self.name))
     }
 }
 
@@ -120,7 +121,7 @@ impl<'t, 'a> ToTree<'a> for BoundLifetimes<'t, 'a> {
 
     fn to_tree(&self, arena: &'a Arena) -> Result<Tree<'a>, AllocError> {
         let inside = (self.for_token, self.lt_token, self.lifetimes, self.gt_token);
-        Node(Kind::BoundLifetimes, inside).to_tree(arena)
+        node(arena, Kind::BoundLifetimes, &inside)
     }
 }
 
@@ -128,7 +129,7 @@ impl<'t, 'a> ToTree<'a> for ReturnType<'t, 'a> {
     ghost tree = { return_type };
 
     fn to_tree(&self, arena: &'a Arena) -> Result<Tree<'a>, AllocError> {
-        Node(Kind::ReturnType(self.plus), self.ty).to_tree(arena)
+        node(arena, Kind::ReturnType(self.plus), &self.ty)
     }
 }
 
@@ -137,7 +138,7 @@ impl<'t, 'a> ToTree<'a> for TypeBracketed<'t, 'a> {
 
     fn to_tree(&self, arena: &'a Arena) -> Result<Tree<'a>, AllocError> {
         let inside = Grouped(self.bracket_token, (self.elem, self.len));
-        Node(Kind::BracketType, inside).to_tree(arena)
+        node(arena, Kind::BracketType, &inside)
     }
 }
 
@@ -145,7 +146,11 @@ impl<'t, 'a> ToTree<'a> for TypeParenthesized<'t, 'a> {
     ghost tree = { type_parenthesized };
 
     fn to_tree(&self, arena: &'a Arena) -> Result<Tree<'a>, AllocError> {
-        Node(Kind::TupleType, Grouped(self.paren_token, self.elems)).to_tree(arena)
+        node(
+            arena,
+            Kind::TupleType,
+            &Grouped(self.paren_token, self.elems),
+        )
     }
 }
 
@@ -167,7 +172,7 @@ impl<'t, 'a> TryToTree<'a> for TypeTraitObject<'t, 'a> {
     fn try_to_tree(&self, arena: &'a Arena) -> Result<Option<Tree<'a>>, AllocError> {
         if are_bounds(self.plus, self.bounds) {
             let inside = (self.dyn_token, self.bounds);
-            return Ok(Some(Node(Kind::DynType(self.plus), inside).to_tree(arena)?));
+            return some_node(arena, Kind::DynType(self.plus), &inside);
         }
         Ok(None)
     }
@@ -179,7 +184,7 @@ impl<'t, 'a> TryToTree<'a> for TypeImplTrait<'t, 'a> {
     fn try_to_tree(&self, arena: &'a Arena) -> Result<Option<Tree<'a>>, AllocError> {
         if are_bounds(self.plus, self.bounds) {
             let inside = (self.impl_token, self.bounds);
-            return Ok(Some(Node(Kind::ImplType(self.plus), inside).to_tree(arena)?));
+            return some_node(arena, Kind::ImplType(self.plus), &inside);
         }
         Ok(None)
     }
@@ -190,8 +195,8 @@ impl<'t, 'a> ToTree<'a> for AnyPath<'t, 'a> {
 
     fn to_tree(&self, arena: &'a Arena) -> Result<Tree<'a>, AllocError> {
         match *self {
-            AnyPath::Qualified(path) => First(path).to_tree(arena),
-            AnyPath::Plain(path) => Second(path).to_tree(arena),
+            AnyPath::Qualified(path) => nth(arena, 0, &path),
+            AnyPath::Plain(path) => behind(arena, 1, &path),
         }
     }
 }
@@ -200,7 +205,7 @@ impl<'t, 'a> ToTree<'a> for TypePath<'t, 'a> {
     ghost tree = { type_path };
 
     fn to_tree(&self, arena: &'a Arena) -> Result<Tree<'a>, AllocError> {
-        Node(Kind::AnyPath(self.style), self.path).to_tree(arena)
+        node(arena, Kind::AnyPath(self.style), &self.path)
     }
 }
 
@@ -209,7 +214,7 @@ impl<'t, 'a> ToTree<'a> for TypeSlice<'t, 'a> {
 
     fn to_tree(&self, arena: &'a Arena) -> Result<Tree<'a>, AllocError> {
         let inside = Grouped(self.bracket_token, (self.elem, Second(())));
-        Node(Kind::BracketType, inside).to_tree(arena)
+        node(arena, Kind::BracketType, &inside)
     }
 }
 
@@ -219,7 +224,7 @@ impl<'t, 'a> ToTree<'a> for TypeArray<'t, 'a> {
     fn to_tree(&self, arena: &'a Arena) -> Result<Tree<'a>, AllocError> {
         let len = First((self.semi_token, Called(Part::Value, self.len)));
         let inside = Grouped(self.bracket_token, (self.elem, len));
-        Node(Kind::BracketType, inside).to_tree(arena)
+        node(arena, Kind::BracketType, &inside)
     }
 }
 
@@ -227,7 +232,11 @@ impl<'t, 'a> ToTree<'a> for TypeParen<'t, 'a> {
     ghost tree = { type_paren };
 
     fn to_tree(&self, arena: &'a Arena) -> Result<Tree<'a>, AllocError> {
-        Node(Kind::TupleType, Grouped(self.paren_token, Only(self.elem))).to_tree(arena)
+        node(
+            arena,
+            Kind::TupleType,
+            &Grouped(self.paren_token, Only(self.elem)),
+        )
     }
 }
 
@@ -241,7 +250,7 @@ impl<'t, 'a> TryToTree<'a> for TypeTuple<'t, 'a> {
             Some(_) => Ok(None),
             None => {
                 let inside = Grouped(self.paren_token, self.elems);
-                Ok(Some(Node(Kind::TupleType, inside).to_tree(arena)?))
+                some_node(arena, Kind::TupleType, &inside)
             }
         }
     }

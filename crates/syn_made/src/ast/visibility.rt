@@ -2,7 +2,8 @@
 
 ghost use Rattle.syn_ast.specs.Visibility.{restriction_tree, visibility};
 
-use crate::forms::{Called, First, Grouped, Node, Second};
+use crate::forms::{Called, First, Grouped, Second};
+use crate::put::{behind, node, nth};
 use crate::to_tree::ToTree;
 use gram_table::kind::Kind;
 use gram_table::part::Part;
@@ -16,8 +17,8 @@ impl<'t, 'a> ToTree<'a> for Restriction<'t, 'a> {
 
     fn to_tree(&self, arena: &'a Arena) -> Result<Tree<'a>, AllocError> {
         match self.path {
-            RestrictedTo::Path(path) => First(Grouped(self.paren_token, path)).to_tree(arena),
-            RestrictedTo::Keyword(word) => Second(Grouped(self.paren_token, word)).to_tree(arena),
+            RestrictedTo::Path(path) => nth(arena, 0, &Grouped(self.paren_token, path)),
+            RestrictedTo::Keyword(word) => behind(arena, 1, &Grouped(self.paren_token, word)),
         }
     }
 }
@@ -29,13 +30,13 @@ impl<'t, 'a> ToTree<'a> for Visibility<'t, 'a> {
         match *self {
             Visibility::Public(word) => {
                 let written = (Called(Part::Pub, word), Second(()));
-                Node(Kind::Visibility, First(written)).to_tree(arena)
+                node(arena, Kind::Visibility, &First(written))
             }
             Visibility::Restricted(found) => {
                 let written = (Called(Part::Pub, found.pub_token), First(found.restriction));
-                Node(Kind::Visibility, First(written)).to_tree(arena)
+                node(arena, Kind::Visibility, &First(written))
             }
-            Visibility::Inherited => Node(Kind::Visibility, Second(())).to_tree(arena),
+            Visibility::Inherited => node(arena, Kind::Visibility, &Second(())),
         }
     }
 }

@@ -18,10 +18,12 @@ ghost use Rattle.syn_made.specs.MadeAst.{IsRange, IsTypeAt, IsWholePat, IsWholeT
 use crate::ast::types::are_bounds;
 use crate::forms::{First, Grouped, Node, Second, Seconds};
 use crate::lists::Only;
+use crate::put::node;
 use crate::to_tree::ToTree;
 use crate::try_to_tree::TryToTree;
 use gram_table::kind::{Kind, Plus, Style};
 use gram_tree::arena::Arena;
+use gram_tree::made;
 use gram_tree::tree::Tree;
 use proc_macro2::delimiter::Delimiter;
 use rust_map::span::Span;
@@ -61,8 +63,8 @@ fn type_inside<'a>(arena: &'a Arena, form: &Type<'_, 'a>) -> Result<Option<Tree<
         return Ok(None);
     };
     match form {
-        Type::Path(_) => Ok(Some(Seconds(9, &tree).to_tree(arena)?)),
-        _ => Ok(Some(Seconds(before_type(form), First(&tree)).to_tree(arena)?)),
+        Type::Path(_) => Seconds(9, &tree).to_some_tree(arena),
+        _ => Seconds(before_type(form), First(&tree)).to_some_tree(arena),
     }
 }
 
@@ -118,7 +120,7 @@ pub fn a_type<'a>(
     let Some(inside) = type_inside(arena, form)? else {
         return Ok(None);
     };
-    Ok(Some(Node(Kind::AType(plus), &inside).to_tree(arena)?))
+    Ok(Some(made::node(arena, Kind::AType(plus), inside)?))
 }
 
 /// A path as a type, as a tree of the kind `AType`; `None`, exactly where it is not one of types.
@@ -141,7 +143,7 @@ pub fn path_type<'a>(
         return Ok(None);
     }
     let form = Node(Kind::AnyPath(Style::AtType), Second(*found));
-    Ok(Some(Node(Kind::AType(plus), Seconds(9, form)).to_tree(arena)?))
+    Ok(Some(node(arena, Kind::AType(plus), &Seconds(9, form))?))
 }
 
 // Alternatives in parentheses.
@@ -157,7 +159,11 @@ impl<'t, 'a> ToTree<'a> for InParens<'t, 'a> {
             span: Span::call_site(),
         };
         let inside = self.0.to_tree(arena)?;
-        Node(Kind::TuplePattern, Grouped(parentheses, Only(&inside))).to_tree(arena)
+        node(
+            arena,
+            Kind::TuplePattern,
+            &Grouped(parentheses, Only(&inside)),
+        )
     }
 }
 
@@ -174,9 +180,9 @@ fn range_inside<'a>(
         return Ok(None);
     };
     match found.start {
-        None => Ok(Some(Seconds(2, First(&form)).to_tree(arena)?)),
-        Some(RangeBound::Lit(_)) => Ok(Some(Seconds(7, First(&form)).to_tree(arena)?)),
-        Some(RangeBound::Path(_)) => Ok(Some(Seconds(8, &form).to_tree(arena)?)),
+        None => Seconds(2, First(&form)).to_some_tree(arena),
+        Some(RangeBound::Lit(_)) => Seconds(7, First(&form)).to_some_tree(arena),
+        Some(RangeBound::Path(_)) => Seconds(8, &form).to_some_tree(arena),
     }
 }
 
@@ -192,13 +198,13 @@ fn one_inside<'a>(arena: &'a Arena, form: &Pat<'_, 'a>) -> Result<Option<Tree<'a
         Pat::Rest(found) => Seconds(3, First(found)).to_some_tree(arena),
         Pat::Paren(found) => Seconds(4, First(found)).to_some_tree(arena),
         Pat::Tuple(found) => Seconds(4, First(found)).to_some_tree(arena),
-        Pat::Or(found) => Ok(Some(Seconds(4, First(InParens(found))).to_tree(arena)?)),
+        Pat::Or(found) => Seconds(4, First(InParens(found))).to_some_tree(arena),
         Pat::Slice(found) => Seconds(5, First(found)).to_some_tree(arena),
         Pat::Reference(found) => Seconds(6, First(found)).to_some_tree(arena),
         Pat::Lit(found) => Seconds(7, First(found)).to_some_tree(arena),
-        Pat::Path(found) => Ok(Some(Seconds(8, found).to_tree(arena)?)),
-        Pat::Struct(found) => Ok(Some(Seconds(8, found).to_tree(arena)?)),
-        Pat::TupleStruct(found) => Ok(Some(Seconds(8, found).to_tree(arena)?)),
+        Pat::Path(found) => Seconds(8, found).to_some_tree(arena),
+        Pat::Struct(found) => Seconds(8, found).to_some_tree(arena),
+        Pat::TupleStruct(found) => Seconds(8, found).to_some_tree(arena),
     }
 }
 
@@ -221,7 +227,7 @@ pub fn one_pattern<'a>(arena: &'a Arena, form: &Pat<'_, 'a>) -> Result<Option<Tr
     let Some(inside) = one_inside(arena, form)? else {
         return Ok(None);
     };
-    Ok(Some(Node(Kind::OnePattern, &inside).to_tree(arena)?))
+    Ok(Some(made::node(arena, Kind::OnePattern, inside)?))
 }
 
 /// A pattern of its form, as a tree of the kind `Pattern`, for where alternatives may stand, perhaps behind a `|`; `None`,
@@ -247,7 +253,7 @@ pub fn pattern<'a>(arena: &'a Arena, form: &Pat<'_, 'a>) -> Result<Option<Tree<'
         return Ok(None);
     };
     let inside = (Second(()), &one, Turns { each: &[] });
-    Ok(Some(Node(Kind::Pattern, inside).to_tree(arena)?))
+    Ok(Some(node(arena, Kind::Pattern, &inside)?))
 }
 
 /// A pattern of its form, as a tree of the kind `SeveralPatterns`, for where alternatives may stand, but no `|` in front
@@ -271,11 +277,11 @@ pub fn several_patterns<'a>(
 {
     if let Pat::Or(found) = form {
         let inside = (found.first, found.others);
-        return Ok(Some(Node(Kind::SeveralPatterns, inside).to_tree(arena)?));
+        return Ok(Some(node(arena, Kind::SeveralPatterns, &inside)?));
     }
     let Some(one) = one_pattern(arena, form)? else {
         return Ok(None);
     };
     let inside = (&one, Turns { each: &[] });
-    Ok(Some(Node(Kind::SeveralPatterns, inside).to_tree(arena)?))
+    Ok(Some(node(arena, Kind::SeveralPatterns, &inside)?))
 }

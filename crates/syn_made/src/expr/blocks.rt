@@ -5,8 +5,8 @@ ghost use Rattle.syn_expr.specs.Blocks.{arms, block, body, closure_param, expr_a
 ghost use Rattle.syn_expr.specs.Blocks.{expr_for_loop, expr_if, expr_loop, expr_macro, expr_match, expr_parenthesized};
 ghost use Rattle.syn_expr.specs.Blocks.{expr_path, expr_repeat, expr_unsafe, expr_while, file, label, labelled_tree};
 
-use crate::expr::forms::Alone;
-use crate::forms::{Called, Grouped, Node};
+use crate::forms::{Called, Grouped};
+use crate::put::{alone, node, some_node};
 use crate::to_tree::ToTree;
 use crate::try_to_tree::TryToTree;
 use gram_table::kind::Kind;
@@ -26,7 +26,7 @@ impl<'t, 'a> TryToTree<'a> for File<'t, 'a> {
 
     fn try_to_tree(&self, arena: &'a Arena) -> Result<Option<Tree<'a>>, AllocError> {
         match (self.shebang, self.frontmatter) {
-            (None, None) => Ok(Some(Node(Kind::AFile, (self.attrs, self.items)).to_tree(arena)?)),
+            (None, None) => some_node(arena, Kind::AFile, &(self.attrs, self.items)),
             _ => Ok(None),
         }
     }
@@ -36,7 +36,7 @@ impl<'t, 'a> ToTree<'a> for Block<'t, 'a> {
     ghost tree = { block };
 
     fn to_tree(&self, arena: &'a Arena) -> Result<Tree<'a>, AllocError> {
-        Node(Kind::Block, Grouped(self.brace_token, self.stmts)).to_tree(arena)
+        node(arena, Kind::Block, &Grouped(self.brace_token, self.stmts))
     }
 }
 
@@ -45,7 +45,7 @@ impl<'t, 'a> ToTree<'a> for Body<'t, 'a> {
 
     fn to_tree(&self, arena: &'a Arena) -> Result<Tree<'a>, AllocError> {
         let inside = (self.attrs, self.stmts);
-        Node(Kind::Body, Grouped(self.brace_token, inside)).to_tree(arena)
+        node(arena, Kind::Body, &Grouped(self.brace_token, inside))
     }
 }
 
@@ -53,7 +53,7 @@ impl<'a> ToTree<'a> for Label<'a> {
     ghost tree = { label };
 
     fn to_tree(&self, arena: &'a Arena) -> Result<Tree<'a>, AllocError> {
-        Node(Kind::Label, (self.name, self.colon_token)).to_tree(arena)
+        node(arena, Kind::Label, &(self.name, self.colon_token))
     }
 }
 
@@ -61,7 +61,7 @@ impl<'t, 'a> ToTree<'a> for ClosureParam<'t, 'a> {
     ghost tree = { closure_param };
 
     fn to_tree(&self, arena: &'a Arena) -> Result<Tree<'a>, AllocError> {
-        Node(Kind::ClosureParam, (self.attrs, self.pat, self.ty)).to_tree(arena)
+        node(arena, Kind::ClosureParam, &(self.attrs, self.pat, self.ty))
     }
 }
 
@@ -69,7 +69,7 @@ impl<'t, 'a> ToTree<'a> for Arms<'t, 'a> {
     ghost tree = { arms };
 
     fn to_tree(&self, arena: &'a Arena) -> Result<Tree<'a>, AllocError> {
-        Node(Kind::Arms, self.arms).to_tree(arena)
+        node(arena, Kind::Arms, &self.arms)
     }
 }
 
@@ -85,7 +85,7 @@ impl<'t, 'a> ToTree<'a> for ExprBlock<'t, 'a> {
     ghost tree = { expr_block };
 
     fn to_tree(&self, arena: &'a Arena) -> Result<Tree<'a>, AllocError> {
-        Alone(Kind::ExprBlock, (self.label, self.block)).to_tree(arena)
+        alone(arena, Kind::ExprBlock, &(self.label, self.block))
     }
 }
 
@@ -93,7 +93,7 @@ impl<'t, 'a> ToTree<'a> for ExprUnsafe<'t, 'a> {
     ghost tree = { expr_unsafe };
 
     fn to_tree(&self, arena: &'a Arena) -> Result<Tree<'a>, AllocError> {
-        Alone(Kind::ExprUnsafe, (self.unsafe_token, self.block)).to_tree(arena)
+        alone(arena, Kind::ExprUnsafe, &(self.unsafe_token, self.block))
     }
 }
 
@@ -102,7 +102,7 @@ impl<'t, 'a> ToTree<'a> for ExprAsync<'t, 'a> {
 
     fn to_tree(&self, arena: &'a Arena) -> Result<Tree<'a>, AllocError> {
         let own = (self.async_token, self.capture, self.block);
-        Alone(Kind::ExprAsync, own).to_tree(arena)
+        alone(arena, Kind::ExprAsync, &own)
     }
 }
 
@@ -111,7 +111,7 @@ impl<'t, 'a> ToTree<'a> for ExprLoop<'t, 'a> {
 
     fn to_tree(&self, arena: &'a Arena) -> Result<Tree<'a>, AllocError> {
         let own = (self.label, self.loop_token, self.body);
-        Alone(Kind::ExprLoop, own).to_tree(arena)
+        alone(arena, Kind::ExprLoop, &own)
     }
 }
 
@@ -121,7 +121,7 @@ impl<'t, 'a> ToTree<'a> for ExprWhile<'t, 'a> {
     fn to_tree(&self, arena: &'a Arena) -> Result<Tree<'a>, AllocError> {
         let cond = Called(Part::Condition, self.cond);
         let own = (self.label, self.while_token, cond, self.body);
-        Alone(Kind::ExprWhile, own).to_tree(arena)
+        alone(arena, Kind::ExprWhile, &own)
     }
 }
 
@@ -132,7 +132,7 @@ impl<'t, 'a> ToTree<'a> for ExprForLoop<'t, 'a> {
         let expr = Called(Part::Condition, self.expr);
         let behind = (self.pat, self.in_token, expr, self.body);
         let own = (self.label, self.for_token, behind);
-        Alone(Kind::ExprForLoop, own).to_tree(arena)
+        alone(arena, Kind::ExprForLoop, &own)
     }
 }
 
@@ -142,7 +142,7 @@ impl<'t, 'a> ToTree<'a> for ExprMatch<'t, 'a> {
     fn to_tree(&self, arena: &'a Arena) -> Result<Tree<'a>, AllocError> {
         let expr = Called(Part::Condition, self.expr);
         let arms = Grouped(self.brace_token, (self.attrs, self.arms));
-        Alone(Kind::ExprMatch, (self.match_token, expr, arms)).to_tree(arena)
+        alone(arena, Kind::ExprMatch, &(self.match_token, expr, arms))
     }
 }
 
@@ -152,7 +152,7 @@ impl<'t, 'a> ToTree<'a> for ExprIf<'t, 'a> {
     fn to_tree(&self, arena: &'a Arena) -> Result<Tree<'a>, AllocError> {
         let cond = Called(Part::Condition, self.cond);
         let own = (self.if_token, cond, self.then_branch, self.else_branch);
-        Alone(Kind::ExprIf, own).to_tree(arena)
+        alone(arena, Kind::ExprIf, &own)
     }
 }
 
@@ -160,7 +160,11 @@ impl<'t, 'a> ToTree<'a> for ExprParenthesized<'t, 'a> {
     ghost tree = { expr_parenthesized };
 
     fn to_tree(&self, arena: &'a Arena) -> Result<Tree<'a>, AllocError> {
-        Alone(Kind::ExprParen, Grouped(self.paren_token, self.elems)).to_tree(arena)
+        alone(
+            arena,
+            Kind::ExprParen,
+            &Grouped(self.paren_token, self.elems),
+        )
     }
 }
 
@@ -168,7 +172,11 @@ impl<'t, 'a> ToTree<'a> for ExprArray<'t, 'a> {
     ghost tree = { expr_array };
 
     fn to_tree(&self, arena: &'a Arena) -> Result<Tree<'a>, AllocError> {
-        Alone(Kind::ExprArray, Grouped(self.bracket_token, self.elems)).to_tree(arena)
+        alone(
+            arena,
+            Kind::ExprArray,
+            &Grouped(self.bracket_token, self.elems),
+        )
     }
 }
 
@@ -177,7 +185,11 @@ impl<'t, 'a> ToTree<'a> for ExprRepeat<'t, 'a> {
 
     fn to_tree(&self, arena: &'a Arena) -> Result<Tree<'a>, AllocError> {
         let inside = (self.expr, self.semi_token, self.len);
-        Alone(Kind::ExprRepeat, Grouped(self.bracket_token, inside)).to_tree(arena)
+        alone(
+            arena,
+            Kind::ExprRepeat,
+            &Grouped(self.bracket_token, inside),
+        )
     }
 }
 
@@ -185,7 +197,7 @@ impl<'t, 'a> ToTree<'a> for ExprMacro<'t, 'a> {
     ghost tree = { expr_macro };
 
     fn to_tree(&self, arena: &'a Arena) -> Result<Tree<'a>, AllocError> {
-        Alone(Kind::ExprMacro, self.mac).to_tree(arena)
+        alone(arena, Kind::ExprMacro, &self.mac)
     }
 }
 
@@ -193,6 +205,6 @@ impl<'t, 'a> ToTree<'a> for ExprPath<'t, 'a> {
     ghost tree = { expr_path };
 
     fn to_tree(&self, arena: &'a Arena) -> Result<Tree<'a>, AllocError> {
-        Alone(Kind::ExprPath, self.path).to_tree(arena)
+        alone(arena, Kind::ExprPath, &self.path)
     }
 }

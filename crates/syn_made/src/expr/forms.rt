@@ -4,6 +4,7 @@ ghost use Rattle.gram_table.specs.Kinds.{kind_of};
 ghost use Rattle.syn_expr.specs.ExprForms.{form_tree, jump_tree, nth_tree};
 ghost use Rattle.syn_grammar.specs.Tree as t;
 
+use crate::put::{alone, back, front, nth};
 use crate::to_tree::ToTree;
 use gram_table::kind::Kind;
 use gram_tree::arena::Arena;
@@ -48,8 +49,7 @@ impl<'a, T: ToTree<'a>> ToTree<'a> for Alone<T> {
     ghost tree = { λ x. t.Alone (kind_of x.0) (T.tree x.1) };
 
     fn to_tree(&self, arena: &'a Arena) -> Result<Tree<'a>, AllocError> {
-        let own = self.1.to_tree(arena)?;
-        made::alone(arena, self.0, own)
+        alone(arena, self.0, &self.1)
     }
 }
 
@@ -57,8 +57,7 @@ impl<'t, 'a, T: ToTree<'a>> ToTree<'a> for Front<'t, 'a, T> {
     ghost tree = { λ x. t.Front (kind_of x.0) (T.tree x.1) x.2.now };
 
     fn to_tree(&self, arena: &'a Arena) -> Result<Tree<'a>, AllocError> {
-        let own = self.1.to_tree(arena)?;
-        made::front(arena, self.0, own, self.2.copy())
+        front(arena, self.0, &self.1, self.2)
     }
 }
 
@@ -66,8 +65,7 @@ impl<'t, 'a, T: ToTree<'a>> ToTree<'a> for Back<'t, 'a, T> {
     ghost tree = { λ x. t.Back x.0.now (kind_of x.1) (T.tree x.2) };
 
     fn to_tree(&self, arena: &'a Arena) -> Result<Tree<'a>, AllocError> {
-        let own = self.2.to_tree(arena)?;
-        made::back(arena, self.0.copy(), self.1, own)
+        back(arena, self.0, self.1, &self.2)
     }
 }
 
@@ -112,7 +110,6 @@ impl<'a, T: ToTree<'a>> ToTree<'a> for Nth<T> {
     ghost tree = { λ x. nth_tree x.0 (T.tree x.1) };
 
     fn to_tree(&self, arena: &'a Arena) -> Result<Tree<'a>, AllocError> {
-        let inner = self.1.to_tree(arena)?;
-        made::first_behind(arena, self.0, inner)
+        nth(arena, self.0, &self.1)
     }
 }

@@ -6,8 +6,8 @@ ghost use Rattle.syn_ast.specs.Leaves.{mark_tree};
 ghost use Rattle.syn_expr.specs.ExprOps.{bin_op_kind, bin_op_tree, limits_kind, limits_tree, un_op_tree};
 ghost use Rattle.syn_made.specs.MadeExpr.{IsBinary, IsUnary};
 
-use crate::expr::forms::Nth;
 use crate::leaf::is_sign;
+use crate::put::nth;
 use crate::to_tree::ToTree;
 use gram_table::kind::Kind;
 use gram_table::word::Sign;
@@ -23,9 +23,9 @@ impl<'a> ToTree<'a> for UnOp {
 
     fn to_tree(&self, arena: &'a Arena) -> Result<Tree<'a>, AllocError> {
         match *self {
-            UnOp::Deref(sign) => Nth(0, sign).to_tree(arena),
-            UnOp::Not(sign) => Nth(1, sign).to_tree(arena),
-            UnOp::Neg(sign) => Nth(2, sign).to_tree(arena),
+            UnOp::Deref(sign) => nth(arena, 0, &sign),
+            UnOp::Not(sign) => nth(arena, 1, &sign),
+            UnOp::Neg(sign) => nth(arena, 2, &sign),
         }
     }
 }
@@ -60,21 +60,19 @@ impl<'a> ToTree<'a> for BinOp {
         match *self {
             BinOp::Or(sign) | BinOp::And(sign) => sign.to_tree(arena),
             BinOp::BitOr(sign) | BinOp::BitXor(sign) | BinOp::BitAnd(sign) => sign.to_tree(arena),
-            BinOp::Add(sign) | BinOp::Mul(sign) | BinOp::Shl(sign) => Nth(0, sign).to_tree(arena),
-            BinOp::Eq(sign) => Nth(0, sign).to_tree(arena),
-            BinOp::Sub(sign) | BinOp::Div(sign) | BinOp::Shr(sign) => Nth(1, sign).to_tree(arena),
-            BinOp::Le(sign) | BinOp::AddAssign(sign) => Nth(1, sign).to_tree(arena),
-            BinOp::Rem(sign) | BinOp::Ne(sign) | BinOp::SubAssign(sign) => Nth(2, sign).to_tree(
-                arena,
-            ),
-            BinOp::Ge(sign) | BinOp::MulAssign(sign) => Nth(3, sign).to_tree(arena),
-            BinOp::Lt(sign) | BinOp::DivAssign(sign) => Nth(4, sign).to_tree(arena),
-            BinOp::Gt(sign) | BinOp::RemAssign(sign) => Nth(5, sign).to_tree(arena),
-            BinOp::BitXorAssign(sign) => Nth(6, sign).to_tree(arena),
-            BinOp::BitAndAssign(sign) => Nth(7, sign).to_tree(arena),
-            BinOp::BitOrAssign(sign) => Nth(8, sign).to_tree(arena),
-            BinOp::ShlAssign(sign) => Nth(9, sign).to_tree(arena),
-            BinOp::ShrAssign(sign) => Nth(10, sign).to_tree(arena),
+            BinOp::Add(sign) | BinOp::Mul(sign) | BinOp::Shl(sign) => nth(arena, 0, &sign),
+            BinOp::Eq(sign) => nth(arena, 0, &sign),
+            BinOp::Sub(sign) | BinOp::Div(sign) | BinOp::Shr(sign) => nth(arena, 1, &sign),
+            BinOp::Le(sign) | BinOp::AddAssign(sign) => nth(arena, 1, &sign),
+            BinOp::Rem(sign) | BinOp::Ne(sign) | BinOp::SubAssign(sign) => nth(arena, 2, &sign),
+            BinOp::Ge(sign) | BinOp::MulAssign(sign) => nth(arena, 3, &sign),
+            BinOp::Lt(sign) | BinOp::DivAssign(sign) => nth(arena, 4, &sign),
+            BinOp::Gt(sign) | BinOp::RemAssign(sign) => nth(arena, 5, &sign),
+            BinOp::BitXorAssign(sign) => nth(arena, 6, &sign),
+            BinOp::BitAndAssign(sign) => nth(arena, 7, &sign),
+            BinOp::BitOrAssign(sign) => nth(arena, 8, &sign),
+            BinOp::ShlAssign(sign) => nth(arena, 9, &sign),
+            BinOp::ShrAssign(sign) => nth(arena, 10, &sign),
         }
     }
 }

@@ -6,7 +6,8 @@ ghost use Rattle.syn_expr.specs.ExprParts.{struct_rest_tree};
 ghost use Rattle.syn_made.specs.MadeExpr.{IsArmEnd, IsFieldInit};
 
 use crate::expr::forms::Nth;
-use crate::forms::{Called, First, Grouped, Node, Second};
+use crate::forms::{Called, First, Grouped, Second};
+use crate::put::{node, some_node};
 use crate::to_tree::ToTree;
 use crate::try_to_tree::TryToTree;
 use gram_table::kind::Kind;
@@ -23,7 +24,7 @@ impl<'t, 'a> ToTree<'a> for FieldValues<'t, 'a> {
 
     fn to_tree(&self, arena: &'a Arena) -> Result<Tree<'a>, AllocError> {
         let fields = Grouped(self.brace_token, self.fields);
-        Node(Kind::FieldValues, First(fields)).to_tree(arena)
+        node(arena, Kind::FieldValues, &First(fields))
     }
 }
 
@@ -37,10 +38,10 @@ fn arm_end<'a>(
         (λ x. IsArmEnd at_end comma × (x ≡ arm_comma_tree at_end comma))) }
 {
     match (at_end, comma) {
-        (true, None) => Ok(Some(First(()).to_tree(arena)?)),
+        (true, None) => First(()).to_some_tree(arena),
         (true, Some(_)) => Ok(None),
-        (false, Some(comma)) => Ok(Some(Nth(1, comma).to_tree(arena)?)),
-        (false, None) => Ok(Some(Second(Second(())).to_tree(arena)?)),
+        (false, Some(comma)) => Nth(1, comma).to_some_tree(arena),
+        (false, None) => Second(Second(())).to_some_tree(arena),
     }
 }
 
@@ -56,7 +57,7 @@ impl<'t, 'a> TryToTree<'a> for Arm<'t, 'a> {
         let end = Called(Part::Comma, &end);
         let behind = (self.guard, self.fat_arrow_token, body, end);
         let inside = First((self.attrs, self.pat, behind));
-        Ok(Some(Node(Kind::Arm, inside).to_tree(arena)?))
+        some_node(arena, Kind::Arm, &inside)
     }
 }
 
@@ -77,8 +78,8 @@ impl<'t, 'a> ToTree<'a> for AFieldValue<'t, 'a> {
 
     fn to_tree(&self, arena: &'a Arena) -> Result<Tree<'a>, AllocError> {
         match self {
-            AFieldValue::Rest(rest) => Node(Kind::AFieldValue, First(*rest)).to_tree(arena),
-            AFieldValue::Field(field) => Node(Kind::AFieldValue, Second(*field)).to_tree(arena),
+            AFieldValue::Rest(rest) => node(arena, Kind::AFieldValue, &First(*rest)),
+            AFieldValue::Field(field) => node(arena, Kind::AFieldValue, &Second(*field)),
         }
     }
 }
@@ -92,10 +93,10 @@ impl<'t, 'a> TryToTree<'a> for FieldValue<'t, 'a> {
             (member, Some(colon_token), Some(value)) => {
                 let init = (member, colon_token, Called(Part::Value, value));
                 let inside = (self.attrs, Second(init));
-                Ok(Some(Node(Kind::FieldValue, inside).to_tree(arena)?))
+                some_node(arena, Kind::FieldValue, &inside)
             }
             (Member::Named(name), None, None) => {
-                Ok(Some(Node(Kind::FieldValue, (self.attrs, First(name))).to_tree(arena)?))
+                some_node(arena, Kind::FieldValue, &(self.attrs, First(name)))
             }
             _ => Ok(None),
         }

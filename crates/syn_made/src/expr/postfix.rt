@@ -3,8 +3,8 @@
 ghost use Rattle.syn_expr.specs.ExprPostfix.{dot_tree, expr_await, expr_call, expr_cast, expr_field, expr_index};
 ghost use Rattle.syn_expr.specs.ExprPostfix.{expr_method_call, expr_struct, expr_try};
 
-use crate::expr::forms::Back;
 use crate::forms::{Called, First, Grouped, Second};
+use crate::put::back;
 use crate::to_tree::ToTree;
 use gram_table::kind::Kind;
 use gram_table::part::Part;
@@ -21,7 +21,7 @@ impl<'t, 'a> ToTree<'a> for ExprCall<'t, 'a> {
 
     fn to_tree(&self, arena: &'a Arena) -> Result<Tree<'a>, AllocError> {
         let own = Grouped(self.paren_token, self.args);
-        Back(self.func, Kind::ExprCall, own).to_tree(arena)
+        back(arena, self.func, Kind::ExprCall, &own)
     }
 }
 
@@ -33,7 +33,7 @@ impl<'t, 'a> ToTree<'a> for ExprMethodCall<'t, 'a> {
         let method = Called(Part::Name, self.method);
         let args = Grouped(self.paren_token, self.args);
         let own = (dot, method, self.turbofish, args);
-        Back(self.receiver, Kind::ExprMethodCall, own).to_tree(arena)
+        back(arena, self.receiver, Kind::ExprMethodCall, &own)
     }
 }
 
@@ -45,11 +45,11 @@ impl<'t, 'a> ToTree<'a> for ExprField<'t, 'a> {
         match self.member {
             Member::Named(name) => {
                 let own = (dot, First(Called(Part::Name, name)));
-                Back(self.base, Kind::ExprField, own).to_tree(arena)
+                back(arena, self.base, Kind::ExprField, &own)
             }
             Member::Unnamed(found) => {
                 let own = (dot, Second(Called(Part::Value, found.index)));
-                Back(self.base, Kind::ExprField, own).to_tree(arena)
+                back(arena, self.base, Kind::ExprField, &own)
             }
         }
     }
@@ -60,7 +60,7 @@ impl<'t, 'a> ToTree<'a> for ExprAwait<'t, 'a> {
 
     fn to_tree(&self, arena: &'a Arena) -> Result<Tree<'a>, AllocError> {
         let dot = (self.dot_token, Called(Part::Indices, self.indices));
-        Back(self.base, Kind::ExprAwait, (dot, self.await_token)).to_tree(arena)
+        back(arena, self.base, Kind::ExprAwait, &(dot, self.await_token))
     }
 }
 
@@ -69,7 +69,7 @@ impl<'t, 'a> ToTree<'a> for ExprIndex<'t, 'a> {
 
     fn to_tree(&self, arena: &'a Arena) -> Result<Tree<'a>, AllocError> {
         let own = Grouped(self.bracket_token, self.index);
-        Back(self.expr, Kind::ExprIndex, own).to_tree(arena)
+        back(arena, self.expr, Kind::ExprIndex, &own)
     }
 }
 
@@ -77,7 +77,7 @@ impl<'t, 'a> ToTree<'a> for ExprTry<'t, 'a> {
     ghost tree = { expr_try };
 
     fn to_tree(&self, arena: &'a Arena) -> Result<Tree<'a>, AllocError> {
-        Back(self.expr, Kind::ExprTry, self.question_token).to_tree(arena)
+        back(arena, self.expr, Kind::ExprTry, &self.question_token)
     }
 }
 
@@ -85,7 +85,7 @@ impl<'t, 'a> ToTree<'a> for ExprStruct<'t, 'a> {
     ghost tree = { expr_struct };
 
     fn to_tree(&self, arena: &'a Arena) -> Result<Tree<'a>, AllocError> {
-        Back(self.path, Kind::ExprStruct, self.fields).to_tree(arena)
+        back(arena, self.path, Kind::ExprStruct, &self.fields)
     }
 }
 
@@ -94,6 +94,6 @@ impl<'t, 'a> ToTree<'a> for ExprCast<'t, 'a> {
 
     fn to_tree(&self, arena: &'a Arena) -> Result<Tree<'a>, AllocError> {
         let own = (self.as_token, Called(Part::Type, self.ty), Second(()));
-        Back(self.expr, Kind::ExprCast, own).to_tree(arena)
+        back(arena, self.expr, Kind::ExprCast, &own)
     }
 }

@@ -5,8 +5,8 @@ ghost use Rattle.syn_expr.specs.ExprPrefix.{closure_head, closure_tree, expr_att
 ghost use Rattle.syn_expr.specs.ExprPrefix.{expr_raw_addr, expr_reference, expr_unary};
 ghost use Rattle.syn_made.specs.MadeExpr.{IsUnary};
 
-use crate::expr::forms::{Alone, Front};
 use crate::expr::ops::is_unary;
+use crate::put::{alone, front};
 use crate::to_tree::ToTree;
 use crate::try_to_tree::TryToTree;
 use gram_table::kind::Kind;
@@ -21,7 +21,12 @@ impl<'t, 'a> ToTree<'a> for ExprAttributed<'t, 'a> {
     ghost tree = { expr_attributed };
 
     fn to_tree(&self, arena: &'a Arena) -> Result<Tree<'a>, AllocError> {
-        Front(Kind::ExprAttributed, (self.attr, self.attrs), self.expr).to_tree(arena)
+        front(
+            arena,
+            Kind::ExprAttributed,
+            &(self.attr, self.attrs),
+            self.expr,
+        )
     }
 }
 
@@ -32,8 +37,7 @@ impl<'t, 'a> TryToTree<'a> for ExprUnary<'t, 'a> {
         if !is_unary(self.op) {
             return Ok(None);
         }
-        let form = Front(Kind::ExprUnary, self.op, self.expr);
-        Ok(Some(form.to_tree(arena)?))
+        Ok(Some(front(arena, Kind::ExprUnary, &self.op, self.expr)?))
     }
 }
 
@@ -42,7 +46,7 @@ impl<'t, 'a> ToTree<'a> for ExprRawAddr<'t, 'a> {
 
     fn to_tree(&self, arena: &'a Arena) -> Result<Tree<'a>, AllocError> {
         let own = (self.and_token, self.raw, self.mutability);
-        Front(Kind::ExprRawAddr, own, self.expr).to_tree(arena)
+        front(arena, Kind::ExprRawAddr, &own, self.expr)
     }
 }
 
@@ -51,7 +55,7 @@ impl<'t, 'a> ToTree<'a> for ExprReference<'t, 'a> {
 
     fn to_tree(&self, arena: &'a Arena) -> Result<Tree<'a>, AllocError> {
         let own = (self.and_token, self.mutability);
-        Front(Kind::ExprReference, own, self.expr).to_tree(arena)
+        front(arena, Kind::ExprReference, &own, self.expr)
     }
 }
 
@@ -60,7 +64,7 @@ impl<'t, 'a> ToTree<'a> for ExprLet<'t, 'a> {
 
     fn to_tree(&self, arena: &'a Arena) -> Result<Tree<'a>, AllocError> {
         let own = (self.let_token, self.pat, self.eq_token);
-        Front(Kind::ExprLet, own, self.expr).to_tree(arena)
+        front(arena, Kind::ExprLet, &own, self.expr)
     }
 }
 
@@ -96,10 +100,8 @@ impl<'t, 'a> ToTree<'a> for ExprClosure<'t, 'a> {
     fn to_tree(&self, arena: &'a Arena) -> Result<Tree<'a>, AllocError> {
         let head = head(self);
         match self.output {
-            None => Front(Kind::ExprClosure, head, self.body).to_tree(arena),
-            Some(output) => {
-                Alone(Kind::ExprTypedClosure, (head, output, self.body)).to_tree(arena)
-            }
+            None => front(arena, Kind::ExprClosure, &head, self.body),
+            Some(output) => { alone(arena, Kind::ExprTypedClosure, &(head, output, self.body)) }
         }
     }
 }

@@ -9,9 +9,9 @@ ghost use Rattle.syn_grammar.specs.Tree as t;
 ghost use Rattle.syn_made.specs.MadeExpr.{chosen_stmt, closed_value, is_macro_form, is_macro_item, made_init};
 ghost use Rattle.syn_made.specs.MadeExpr.{made_local, value_before};
 
-use crate::expr::forms::Nth;
 use crate::expr::whole::expression;
 use crate::forms::{Called, First, Grouped, Node, Second};
+use crate::put::{behind, node, nth};
 use crate::to_tree::ToTree;
 use gram_judge::closing::ends_in_braces;
 use gram_table::kind::{Kind, Position};
@@ -34,8 +34,8 @@ impl<'t, 'a> ToTree<'a> for BlockStmt<'t, 'a> {
 
     fn to_tree(&self, arena: &'a Arena) -> Result<Tree<'a>, AllocError> {
         match self {
-            BlockStmt::Semi(mark) => First(*mark).to_tree(arena),
-            BlockStmt::Stmt(stmt) => Second(*stmt).to_tree(arena),
+            BlockStmt::Semi(mark) => nth(arena, 0, mark),
+            BlockStmt::Stmt(stmt) => behind(arena, 1, stmt),
         }
     }
 }
@@ -93,7 +93,7 @@ impl<'t, 'a> ToTree<'a> for Statements<'t, 'a> {
     ghost tree = { statements };
 
     fn to_tree(&self, arena: &'a Arena) -> Result<Tree<'a>, AllocError> {
-        Node(Kind::Statements, First(self.stmts)).to_tree(arena)
+        node(arena, Kind::Statements, &First(self.stmts))
     }
 }
 
@@ -101,7 +101,7 @@ impl<'t, 'a> ToTree<'a> for OneStatement<'t, 'a> {
     ghost tree = { one_statement };
 
     fn to_tree(&self, arena: &'a Arena) -> Result<Tree<'a>, AllocError> {
-        Node(Kind::OneStatement, First(self.stmt)).to_tree(arena)
+        node(arena, Kind::OneStatement, &First(self.stmt))
     }
 }
 
@@ -111,7 +111,7 @@ impl<'t, 'a> ToTree<'a> for Local<'t, 'a> {
     fn to_tree(&self, arena: &'a Arena) -> Result<Tree<'a>, AllocError> {
         let end = (self.init, self.semi_token);
         let parts = (self.let_token, self.pat, self.ty, end);
-        Node(Kind::ALet, First(parts)).to_tree(arena)
+        node(arena, Kind::ALet, &First(parts))
     }
 }
 
@@ -184,11 +184,11 @@ fn alternative<'a>(arena: &'a Arena, stmt: &Stmt<'_, 'a>) -> Result<Tree<'a>, Al
     ensures says { IfOk result (λ x. IsAlternative x stmt.now) }
 {
     match stmt {
-        Stmt::Item(item) if is_macro(item) => First(*item).to_tree(arena),
-        Stmt::Item(item) => Nth(3, *item).to_tree(arena),
-        Stmt::Macro(found) => Nth(1, *found).to_tree(arena),
-        Stmt::Local(found) => Nth(2, *found).to_tree(arena),
-        Stmt::Expr(found) => Second(Second(Second(Second(*found)))).to_tree(arena),
+        Stmt::Item(item) if is_macro(item) => nth(arena, 0, item),
+        Stmt::Item(item) => nth(arena, 3, item),
+        Stmt::Macro(found) => nth(arena, 1, found),
+        Stmt::Local(found) => nth(arena, 2, found),
+        Stmt::Expr(found) => behind(arena, 4, found),
     }
 }
 
@@ -202,7 +202,7 @@ pub fn statement<'a>(arena: &'a Arena, stmt: &Stmt<'_, 'a>) -> Result<Tree<'a>, 
     ensures says { IfOk result (λ x. IsStmt x stmt.now) }
 {
     let inside = alternative(arena, stmt)?;
-    Node(Kind::AStatement, &inside).to_tree(arena)
+    made::node(arena, Kind::AStatement, inside)
 }
 
 // Trees of statements, in their order.
@@ -231,5 +231,5 @@ pub fn block<'a>(
 {
     let stmts = made::turns(arena, each(arena, stmts)?)?;
     let stmts = Node(Kind::Statements, First(&stmts));
-    Node(Kind::Block, Grouped(brace_token, stmts)).to_tree(arena)
+    node(arena, Kind::Block, &Grouped(brace_token, stmts))
 }

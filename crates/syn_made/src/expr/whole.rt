@@ -10,6 +10,7 @@ ghost use Rattle.syn_made.specs.MadeAst.{IsTuple};
 
 use crate::expr::forms::Alone;
 use crate::forms::Grouped;
+use crate::put::alone;
 use crate::to_tree::ToTree;
 use crate::try_to_tree::TryToTree;
 use gram_table::kind::{Kind, Position};
@@ -57,7 +58,7 @@ impl<'t, 'a> ToTree<'a> for ExprParen<'t, 'a> {
             before: &[],
             last: Some(self.expr),
         };
-        Alone(Kind::ExprParen, Grouped(self.paren_token, inside)).to_tree(arena)
+        alone(arena, Kind::ExprParen, &Grouped(self.paren_token, inside))
     }
 }
 
@@ -71,7 +72,7 @@ impl<'t, 'a> TryToTree<'a> for ExprTuple<'t, 'a> {
             Some(_) => Ok(None),
             None => {
                 let own = Grouped(self.paren_token, self.elems);
-                Ok(Some(Alone(Kind::ExprParen, own).to_tree(arena)?))
+                Alone(Kind::ExprParen, own).to_some_tree(arena)
             }
         }
     }

@@ -1,9 +1,10 @@
 //! Type aliases.
 
-ghost use Rattle.std.specs.Prelude.{◌≡◌, IfOk, MatchOption};
-ghost use Rattle.syn_item.specs.ItemAliases.{IsOrderIn, either_tree, item_type, type_end_tree};
+ghost use Rattle.std.specs.Prelude.{◌≡◌, ◌↔◌, IsTrue};
+ghost use Rattle.syn_item.specs.ItemAliases.{IsOrderIn, item_type, type_end_tree};
 
-use crate::forms::{Called, First, Node, Second};
+use crate::forms::Called;
+use crate::put::{behind, nth, some_node};
 use crate::to_tree::ToTree;
 use crate::try_to_tree::TryToTree;
 use gram_table::kind::{Kind, Place};
@@ -14,41 +15,33 @@ use std::alloc::AllocError;
 use syn_ast::sub::MarkedType;
 use syn_item::alias::{ItemType, WhereOrder};
 
-// A definition and a where clause, in that order.
-fn either<'a>(
-    arena: &'a Arena,
-    order: WhereOrder,
-    definition: Option<MarkedType<'_, 'a>>,
-    where_clause: &Tree<'a>,
-) -> Result<Tree<'a>, AllocError>
-    ensures { IfOk result (λ x. x ≡ either_tree order definition.entry where_clause.entry) }
+// Whether a definition and a where clause stand in that order in the place: in a trait or an impl one alone.
+fn is_order_in(place: Place, order: WhereOrder) -> bool
+    ensures { IsTrue result ↔ IsOrderIn place order }
 {
-    let where_part = Called(Part::Where, where_clause);
-    match order {
-        WhereOrder::Before => First((where_part, definition)).to_tree(arena),
-        WhereOrder::Behind => Second((definition, where_part)).to_tree(arena),
+    match (place, order) {
+        (Place::InFile, _) => true,
+        (Place::InForeign, _) => true,
+        (_, WhereOrder::Behind) => true,
+        (_, WhereOrder::Before) => false,
     }
 }
 
-// A definition and a where clause, as the place has them, if it has them in that order.
-fn type_end<'a>(
-    arena: &'a Arena,
-    place: Place,
-    order: WhereOrder,
-    definition: Option<MarkedType<'_, 'a>>,
-    where_clause: &Tree<'a>,
-) -> Result<Option<Tree<'a>>, AllocError>
-    ensures { IfOk result (λ o. MatchOption o (IsOrderIn place order → ⊥)
-        (λ x. IsOrderIn place order × (x ≡ type_end_tree place order definition.entry where_clause.entry))) }
-{
-    match (place, order) {
-        (Place::InFile, order) => Ok(Some(either(arena, order, definition, where_clause)?)),
-        (Place::InForeign, order) => Ok(Some(either(arena, order, definition, where_clause)?)),
-        (_, WhereOrder::Behind) => {
-            let where_part = Called(Part::Where, where_clause);
-            Ok(Some((definition, where_part).to_tree(arena)?))
+// A definition and a where clause, as the place has them.
+#[derive(Clone, Copy)]
+struct TypeEnd<'t, 'a>(Place, WhereOrder, Option<MarkedType<'t, 'a>>, &'t Tree<'a>);
+
+impl<'t, 'a> ToTree<'a> for TypeEnd<'t, 'a> {
+    ghost tree = { λ x. type_end_tree x.0 x.1 x.2 x.3 };
+
+    fn to_tree(&self, arena: &'a Arena) -> Result<Tree<'a>, AllocError> {
+        let where_part = Called(Part::Where, self.3);
+        match (self.0, self.1) {
+            (Place::InTrait, _) => (self.2, where_part).to_tree(arena),
+            (Place::InImpl, _) => (self.2, where_part).to_tree(arena),
+            (_, WhereOrder::Before) => nth(arena, 0, &(where_part, self.2)),
+            (_, WhereOrder::Behind) => behind(arena, 1, &(self.2, where_part)),
         }
-        (_, WhereOrder::Before) => Ok(None),
     }
 }
 
@@ -57,25 +50,19 @@ impl<'t, 'a> TryToTree<'a> for ItemType<'t, 'a> {
     ghost says = { λ x tree. IsOrderIn x.place x.where_order × (tree ≡ item_type x) };
 
     fn try_to_tree(&self, arena: &'a Arena) -> Result<Option<Tree<'a>>, AllocError> {
-        let end = type_end(
-            arena,
-            self.place,
-            self.where_order,
-            self.ty,
-            self.where_clause,
-        )?;
-        let Some(end) = end else {
+        if !is_order_in(self.place, self.where_order) {
             return Ok(None);
-        };
+        }
+        let end = TypeEnd(self.place, self.where_order, self.ty, self.where_clause);
         let generics = Called(Part::Generics, self.generics);
         let bounds = Called(Part::Bounds, self.bounds);
-        let behind = (bounds, Called(Part::Value, &end), self.semi_token);
+        let behind = (bounds, Called(Part::Value, end), self.semi_token);
         let inside = (
             self.type_token,
             Called(Part::Name, self.ident),
             generics,
             behind,
         );
-        Ok(Some(Node(Kind::ATypeAlias(self.place), inside).to_tree(arena)?))
+        some_node(arena, Kind::ATypeAlias(self.place), &inside)
     }
 }

@@ -17,8 +17,9 @@ ghost use Rattle.syn_item.specs.ItemForms.{HasForm, Is};
 ghost use Rattle.syn_item.specs.ItemMembers.{associated_item, foreign_item, form_of_foreign_item, form_of_impl_item};
 ghost use Rattle.syn_item.specs.ItemMembers.{form_of_trait_item};
 
-use crate::forms::{Called, First, Node, Second};
+use crate::forms::{Called, First, Second};
 use crate::item::part::MaybeCalled;
+use crate::put::{node, nth};
 use crate::to_tree::ToTree;
 use gram_judge::items::item_verdict;
 use gram_judge::verdict::Verdict;
@@ -118,7 +119,7 @@ pub(crate) fn kept<'a>(
     ensures { IfOk result (λ x. x ≡ kept_item attrs.now vis.now item.now.form item.now.tree.now) }
 {
     let parts = parts(arena, attrs, vis, item)?;
-    Node(Kind::AnItem, First(&parts)).to_tree(arena)
+    node(arena, Kind::AnItem, &First(&parts))
 }
 
 // Whether the grammar keeps what stands in such a place.
@@ -145,7 +146,7 @@ fn kept_in<'a>(
     if !is_kept_in(place, parts) {
         return Ok(None);
     }
-    Ok(Some(Node(kind, First(parts)).to_tree(arena)?))
+    Ok(Some(node(arena, kind, &First(parts))?))
 }
 
 // An item that is kept, if the grammar keeps it in a file.
@@ -220,8 +221,8 @@ pub fn plain_item<'a>(arena: &'a Arena, item: &Item<'_, 'a>) -> Result<Option<Tr
     ensures shaped { IfOk result (λ o. IfSome o (λ x. IsShaped item.now.tree.now (form_entry item.now.form)
         → IsShaped x (g.ref k.AnItem))) }
 {
-    let attrs = Node(Kind::OuterAttributes, Turns { each: &[] }).to_tree(arena)?;
-    let vis = Node(Kind::Visibility, Second(())).to_tree(arena)?;
+    let attrs = node(arena, Kind::OuterAttributes, &Turns { each: &[] })?;
+    let vis = node(arena, Kind::Visibility, &Second(()))?;
     match self::item(arena, &attrs, &vis, item)? {
         Some(tree) => Ok(Some(tree)),
         None => Ok(None),
@@ -355,6 +356,14 @@ pub fn foreign_item<'a>(
     }
 }
 
+// Trees one behind the other, as a node of the kind.
+fn several<'a>(arena: &'a Arena, kind: Kind, each: Vec<Tree<'a>>) -> Result<Tree<'a>, AllocError>
+    ensures { IfOk result (λ x. x ≡ t.Node (kind_of kind) (in_turn each.entry.items)) }
+{
+    let inside = made::turns(arena, each)?;
+    made::node(arena, kind, inside)
+}
+
 /// Items one behind the other, as what stands in a file or a module.
 ///
 /// # Errors
@@ -363,8 +372,7 @@ pub fn foreign_item<'a>(
 pub fn items<'a>(arena: &'a Arena, each: Vec<Tree<'a>>) -> Result<Tree<'a>, AllocError>
     ensures { IfOk result (λ x. x ≡ t.Node k.Items (in_turn each.entry.items)) }
 {
-    let inside = made::turns(arena, each)?;
-    made::node(arena, Kind::Items, inside)
+    several(arena, Kind::Items, each)
 }
 
 /// Items of a trait, one behind the other, as what stands in it.
@@ -375,8 +383,7 @@ pub fn items<'a>(arena: &'a Arena, each: Vec<Tree<'a>>) -> Result<Tree<'a>, Allo
 pub fn trait_items<'a>(arena: &'a Arena, each: Vec<Tree<'a>>) -> Result<Tree<'a>, AllocError>
     ensures { IfOk result (λ x. x ≡ t.Node k.TraitItems (in_turn each.entry.items)) }
 {
-    let inside = made::turns(arena, each)?;
-    made::node(arena, Kind::TraitItems, inside)
+    several(arena, Kind::TraitItems, each)
 }
 
 /// Items of an impl, one behind the other, as what stands in it.
@@ -387,8 +394,7 @@ pub fn trait_items<'a>(arena: &'a Arena, each: Vec<Tree<'a>>) -> Result<Tree<'a>
 pub fn impl_items<'a>(arena: &'a Arena, each: Vec<Tree<'a>>) -> Result<Tree<'a>, AllocError>
     ensures { IfOk result (λ x. x ≡ t.Node k.ImplItems (in_turn each.entry.items)) }
 {
-    let inside = made::turns(arena, each)?;
-    made::node(arena, Kind::ImplItems, inside)
+    several(arena, Kind::ImplItems, each)
 }
 
 /// Items of an extern block, one behind the other, as what stands in it.
@@ -399,6 +405,5 @@ pub fn impl_items<'a>(arena: &'a Arena, each: Vec<Tree<'a>>) -> Result<Tree<'a>,
 pub fn foreign_items<'a>(arena: &'a Arena, each: Vec<Tree<'a>>) -> Result<Tree<'a>, AllocError>
     ensures { IfOk result (λ x. x ≡ t.Node k.ForeignItems (in_turn each.entry.items)) }
 {
-    let inside = made::turns(arena, each)?;
-    made::node(arena, Kind::ForeignItems, inside)
+    several(arena, Kind::ForeignItems, each)
 }

@@ -2,7 +2,8 @@
 
 ghost use Rattle.syn_item.specs.ItemAliases.{item_const};
 
-use crate::forms::{Called, Node};
+use crate::forms::Called;
+use crate::put::node;
 use crate::to_tree::ToTree;
 use gram_table::kind::Kind;
 use gram_table::part::Part;
@@ -29,6 +30,6 @@ impl<'t, 'a> ToTree<'a> for ItemConst<'t, 'a> {
             self.colon_token,
             value,
         );
-        Node(Kind::AConst, (self.const_token, named)).to_tree(arena)
+        node(arena, Kind::AConst, &(self.const_token, named))
     }
 }

@@ -3,7 +3,8 @@
 ghost use Rattle.syn_data.specs.Data.{IsField, fields_named, fields_unnamed, named_field, unnamed_field, variant};
 ghost use Rattle.syn_data.specs.Data.{variant_fields};
 
-use crate::forms::{First, Grouped, Node, Second};
+use crate::forms::{Grouped, Second};
+use crate::put::{behind, node, nth};
 use crate::to_tree::ToTree;
 use crate::try_to_tree::TryToTree;
 use gram_table::kind::Kind;
@@ -20,7 +21,7 @@ impl<'t, 'a> ToTree<'a> for NamedField<'t, 'a> {
 
     fn to_tree(&self, arena: &'a Arena) -> Result<Tree<'a>, AllocError> {
         let named = (self.ident, self.colon_token, self.ty, self.default);
-        Node(Kind::NamedField, (self.attrs, self.vis, named)).to_tree(arena)
+        node(arena, Kind::NamedField, &(self.attrs, self.vis, named))
     }
 }
 
@@ -29,7 +30,7 @@ impl<'t, 'a> ToTree<'a> for UnnamedField<'t, 'a> {
 
     fn to_tree(&self, arena: &'a Arena) -> Result<Tree<'a>, AllocError> {
         let inside = (self.attrs, self.vis, self.ty, Second(()));
-        Node(Kind::UnnamedField, inside).to_tree(arena)
+        node(arena, Kind::UnnamedField, &inside)
     }
 }
 
@@ -47,7 +48,7 @@ impl<'t, 'a> TryToTree<'a> for Field<'t, 'a> {
                     ty: self.ty,
                     default,
                 };
-                Ok(Some(field.to_tree(arena)?))
+                field.to_some_tree(arena)
             }
             (None, None, None) => {
                 let field = UnnamedField {
@@ -55,7 +56,7 @@ impl<'t, 'a> TryToTree<'a> for Field<'t, 'a> {
                     vis: self.vis,
                     ty: self.ty,
                 };
-                Ok(Some(field.to_tree(arena)?))
+                field.to_some_tree(arena)
             }
             _ => Ok(None),
         }
@@ -66,7 +67,11 @@ impl<'t, 'a> ToTree<'a> for FieldsNamed<'t, 'a> {
     ghost tree = { fields_named };
 
     fn to_tree(&self, arena: &'a Arena) -> Result<Tree<'a>, AllocError> {
-        Node(Kind::NamedFields, Grouped(self.brace_token, self.named)).to_tree(arena)
+        node(
+            arena,
+            Kind::NamedFields,
+            &Grouped(self.brace_token, self.named),
+        )
     }
 }
 
@@ -74,7 +79,11 @@ impl<'t, 'a> ToTree<'a> for FieldsUnnamed<'t, 'a> {
     ghost tree = { fields_unnamed };
 
     fn to_tree(&self, arena: &'a Arena) -> Result<Tree<'a>, AllocError> {
-        Node(Kind::UnnamedFields, Grouped(self.paren_token, self.unnamed)).to_tree(arena)
+        node(
+            arena,
+            Kind::UnnamedFields,
+            &Grouped(self.paren_token, self.unnamed),
+        )
     }
 }
 
@@ -84,9 +93,9 @@ impl<'t, 'a> ToTree<'a> for Fields<'t, 'a> {
 
     fn to_tree(&self, arena: &'a Arena) -> Result<Tree<'a>, AllocError> {
         match *self {
-            Fields::Named(fields) => First(fields).to_tree(arena),
-            Fields::Unnamed(fields) => Second(First(fields)).to_tree(arena),
-            Fields::Unit => Second(Second(())).to_tree(arena),
+            Fields::Named(fields) => nth(arena, 0, &fields),
+            Fields::Unnamed(fields) => nth(arena, 1, &fields),
+            Fields::Unit => behind(arena, 2, &()),
         }
     }
 }
@@ -97,6 +106,6 @@ impl<'t, 'a> ToTree<'a> for Variant<'t, 'a> {
     fn to_tree(&self, arena: &'a Arena) -> Result<Tree<'a>, AllocError> {
         let vis = made::dropped(arena, self.vis.copy())?;
         let named = (self.ident, self.fields, self.discriminant);
-        Node(Kind::Variant, (self.attrs, &vis, named)).to_tree(arena)
+        node(arena, Kind::Variant, &(self.attrs, &vis, named))
     }
 }

@@ -5,8 +5,9 @@ ghost use Rattle.std.specs.Prelude.{◌≡◌, IfOk, IfSome, MatchOption};
 ghost use Rattle.syn_data.specs.Derive.{IsEnded, IsItemOf, IsWhole, chosen_data, data_form, derive_input};
 ghost use Rattle.syn_data.specs.Derive.{item_tree};
 
-use crate::forms::{First, Node, Second};
+use crate::forms::{First, Seconds};
 use crate::item::among::kept;
+use crate::put::{nth, some_node};
 use crate::to_tree::ToTree;
 use crate::try_to_tree::TryToTree;
 use gram_table::kind::Kind;
@@ -44,10 +45,7 @@ fn form<'a>(arena: &'a Arena, input: &DeriveInput<'_, 'a>) -> Result<Option<Tree
                 fields: found.fields,
                 semi_token: found.semi_token,
             };
-            match item.try_to_tree(arena)? {
-                Some(tree) => Ok(Some(tree)),
-                None => Ok(None),
-            }
+            item.try_to_tree(arena)
         }
         Data::Enum(found) => {
             let item = ItemEnum {
@@ -58,7 +56,7 @@ fn form<'a>(arena: &'a Arena, input: &DeriveInput<'_, 'a>) -> Result<Option<Tree
                 brace_token: found.brace_token,
                 variants: found.variants,
             };
-            Ok(Some(item.to_tree(arena)?))
+            item.to_some_tree(arena)
         }
         Data::Union(found) => {
             let item = ItemUnion {
@@ -68,23 +66,24 @@ fn form<'a>(arena: &'a Arena, input: &DeriveInput<'_, 'a>) -> Result<Option<Tree
                 where_clause: input.where_clause,
                 fields: found.fields,
             };
-            Ok(Some(item.to_tree(arena)?))
+            item.to_some_tree(arena)
         }
     }
 }
 
-// Which of the three was chosen.
-fn chosen<'a>(
-    arena: &'a Arena,
-    which: &Data<'_, 'a>,
-    form: &Tree<'a>,
-) -> Result<Tree<'a>, AllocError>
-    ensures { IfOk result (λ x. x ≡ chosen_data which.now form.now) }
-{
-    match which {
-        Data::Struct(_) => First(form).to_tree(arena),
-        Data::Enum(_) => Second(First(form)).to_tree(arena),
-        Data::Union(_) => Second(Second(form)).to_tree(arena),
+// Which of the three was chosen, of a form.
+#[derive(Clone, Copy)]
+struct Chosen<'t, 'a>(Data<'t, 'a>, &'t Tree<'a>);
+
+impl<'t, 'a> ToTree<'a> for Chosen<'t, 'a> {
+    ghost tree = { λ x. chosen_data x.0 x.1.now };
+
+    fn to_tree(&self, arena: &'a Arena) -> Result<Tree<'a>, AllocError> {
+        match self.0 {
+            Data::Struct(_) => nth(arena, 0, &self.1),
+            Data::Enum(_) => Seconds(1, First(self.1)).to_tree(arena),
+            Data::Union(_) => Seconds(2, self.1).to_tree(arena),
+        }
     }
 }
 
@@ -95,9 +94,8 @@ impl<'t, 'a> TryToTree<'a> for DeriveInput<'t, 'a> {
         let Some(form) = form(arena, self)? else {
             return Ok(None);
         };
-        let which = chosen(arena, &self.data, &form)?;
-        let inside = (self.attrs, self.vis, &which);
-        Ok(Some(Node(Kind::DeriveInput, inside).to_tree(arena)?))
+        let inside = (self.attrs, self.vis, Chosen(self.data, &form));
+        some_node(arena, Kind::DeriveInput, &inside)
     }
 }
 

@@ -7,8 +7,9 @@ ghost use Rattle.syn_grammar.specs.Tree as t;
 ghost use Rattle.syn_item.specs.ItemEntries.{IsDefaultIn, defaultness_tree, foreign_item_static, foreign_parts};
 ghost use Rattle.syn_item.specs.ItemEntries.{item_parts, one_macro, one_trait, placed_parts};
 
-use crate::forms::{Called, First, Node};
+use crate::forms::{Called, First};
 use crate::item::part::MaybeCalled;
+use crate::put::{node, some_node};
 use crate::to_tree::ToTree;
 use gram_table::kind::{Kind, Place};
 use gram_table::part::Part;
@@ -27,7 +28,7 @@ impl<'t, 'a> ToTree<'a> for ItemParts<'t, 'a> {
     fn to_tree(&self, arena: &'a Arena) -> Result<Tree<'a>, AllocError> {
         let vis = Called(Part::Visibility, self.vis);
         let inside = First((self.attrs, vis, Called(Part::Item, self.item)));
-        Node(self.kind, inside).to_tree(arena)
+        node(arena, self.kind, &inside)
     }
 }
 
@@ -41,8 +42,8 @@ fn defaultness<'a>(
         (λ x. IsDefaultIn place word.entry × (x ≡ defaultness_tree place word.entry))) }
 {
     match (place, word) {
-        (Place::InTrait, word) => Ok(Some(MaybeCalled(Part::Default, word).to_tree(arena)?)),
-        (Place::InImpl, word) => Ok(Some(MaybeCalled(Part::Default, word).to_tree(arena)?)),
+        (Place::InTrait, word) => MaybeCalled(Part::Default, word).to_some_tree(arena),
+        (Place::InImpl, word) => MaybeCalled(Part::Default, word).to_some_tree(arena),
         (_, None) => Ok(Some(made::nil())),
         (_, Some(_)) => Ok(None),
     }
@@ -63,7 +64,7 @@ fn placed<'a>(
     };
     let vis = Called(Part::Visibility, parts.vis);
     let inside = First((parts.attrs, vis, &default, Called(Part::Item, parts.item)));
-    Ok(Some(Node(kind, inside).to_tree(arena)?))
+    some_node(arena, kind, &inside)
 }
 
 /// A function by itself; `None` exactly where `default` stands in a place that has none.
@@ -119,7 +120,7 @@ fn one<'a>(arena: &'a Arena, kind: Kind, parts: &OneTrait<'_, 'a>) -> Result<Tre
     ensures { IfOk result (λ x. x ≡ t.Node (kind_of kind) (one_trait parts.now)) }
 {
     let inside = First((parts.attrs, parts.vis, Called(Part::Item, parts.item)));
-    Node(kind, inside).to_tree(arena)
+    node(arena, kind, &inside)
 }
 
 /// A trait by itself.
@@ -151,7 +152,11 @@ impl<'t, 'a> ToTree<'a> for OneMacro<'t, 'a> {
     ghost tree = { one_macro };
 
     fn to_tree(&self, arena: &'a Arena) -> Result<Tree<'a>, AllocError> {
-        Node(Kind::OneMacro(self.place), (self.attrs, First(self.mac))).to_tree(arena)
+        node(
+            arena,
+            Kind::OneMacro(self.place),
+            &(self.attrs, First(self.mac)),
+        )
     }
 }
 
@@ -162,7 +167,7 @@ impl<'t, 'a> ToTree<'a> for ForeignItemStatic<'t, 'a> {
         let vis = Called(Part::Visibility, self.vis);
         let item = Called(Part::Item, self.item);
         let inside = First((self.attrs, vis, self.safety, item));
-        Node(Kind::ForeignItemStatic, inside).to_tree(arena)
+        node(arena, Kind::ForeignItemStatic, &inside)
     }
 }
 
@@ -171,6 +176,6 @@ impl<'t, 'a> ToTree<'a> for ForeignParts<'t, 'a> {
 
     fn to_tree(&self, arena: &'a Arena) -> Result<Tree<'a>, AllocError> {
         let inside = First((self.attrs, Called(Part::Visibility, self.vis), self.item));
-        Node(Kind::AForeignItem, inside).to_tree(arena)
+        node(arena, Kind::AForeignItem, &inside)
     }
 }

@@ -5,7 +5,8 @@ ghost use Rattle.syn_item.specs.ItemFunctions.{IsItemFn, IsReceiver, fn_arg_tree
 ghost use Rattle.syn_item.specs.ItemFunctions.{safety_is, signature, variadic_tree};
 ghost use Rattle.syn_made.specs.MadeWhole.{AreOwn, IsSafetyIn};
 
-use crate::forms::{Called, First, Grouped, Node, Second};
+use crate::forms::{Called, First, Grouped, Second};
+use crate::put::{behind, node, nth, some_node};
 use crate::to_tree::ToTree;
 use crate::try_to_tree::TryToTree;
 use gram_equal::tree::equal;
@@ -24,7 +25,7 @@ impl<'t, 'a> ToTree<'a> for Parameters<'t, 'a> {
 
     fn to_tree(&self, arena: &'a Arena) -> Result<Tree<'a>, AllocError> {
         let inside = Grouped(self.paren_token, self.inputs);
-        Node(Kind::Parameters, First(inside)).to_tree(arena)
+        node(arena, Kind::Parameters, &First(inside))
     }
 }
 
@@ -36,9 +37,9 @@ impl<'t, 'a> ToTree<'a> for Variadic<'t, 'a> {
         match self.pat {
             Some(found) => {
                 let pat = Called(Part::Pattern, found.pat);
-                Second(Second(Second((pat, found.colon_token, dots)))).to_tree(arena)
+                behind(arena, 3, &(pat, found.colon_token, dots))
             }
-            None => Second(dots).to_tree(arena),
+            None => behind(arena, 1, &dots),
         }
     }
 }
@@ -49,13 +50,13 @@ impl<'t, 'a> ToTree<'a> for FnArg<'t, 'a> {
 
     fn to_tree(&self, arena: &'a Arena) -> Result<Tree<'a>, AllocError> {
         match *self {
-            FnArg::Receiver(receiver) => First(Called(Part::Receiver, receiver)).to_tree(arena),
+            FnArg::Receiver(receiver) => nth(arena, 0, &Called(Part::Receiver, receiver)),
             FnArg::Typed(typed) => {
                 let pat = Called(Part::Pattern, typed.pat);
                 let ty = Second(Called(Part::Type, typed.ty));
-                Second(Second(Second((pat, typed.colon_token, ty)))).to_tree(arena)
+                behind(arena, 3, &(pat, typed.colon_token, ty))
             }
-            FnArg::Unnamed(ty) => Second(Second(First(Called(Part::Unnamed, ty)))).to_tree(arena),
+            FnArg::Unnamed(ty) => nth(arena, 2, &Called(Part::Unnamed, ty)),
             FnArg::Variadic(variadic) => variadic.to_tree(arena),
         }
     }
@@ -81,7 +82,7 @@ impl<'t, 'a> TryToTree<'a> for Parameter<'t, 'a> {
 
     fn try_to_tree(&self, arena: &'a Arena) -> Result<Option<Tree<'a>>, AllocError> {
         if are_own(self.attrs, &self.arg) {
-            return Ok(Some(Node(Kind::Parameter, (self.attrs, self.arg)).to_tree(arena)?));
+            return some_node(arena, Kind::Parameter, &(self.attrs, self.arg));
         }
         Ok(None)
     }
@@ -91,7 +92,7 @@ impl<'t, 'a> ToTree<'a> for OneParameter<'t, 'a> {
     ghost tree = { one_parameter };
 
     fn to_tree(&self, arena: &'a Arena) -> Result<Tree<'a>, AllocError> {
-        Node(Kind::FnArg, First(self.parameter)).to_tree(arena)
+        node(arena, Kind::FnArg, &First(self.parameter))
     }
 }
 
@@ -102,15 +103,15 @@ impl<'t, 'a> TryToTree<'a> for Receiver<'t, 'a> {
         match (self.kind, self.mutability) {
             (ReceiverKind::Value, mutability) => {
                 let value = (mutability, self.self_token, Second(()));
-                Ok(Some(Node(Kind::Receiver, Second(value)).to_tree(arena)?))
+                some_node(arena, Kind::Receiver, &Second(value))
             }
             (ReceiverKind::Typed(colon, ty), mutability) => {
                 let value = (mutability, self.self_token, First((colon, ty)));
-                Ok(Some(Node(Kind::Receiver, Second(value)).to_tree(arena)?))
+                some_node(arena, Kind::Receiver, &Second(value))
             }
             (ReceiverKind::Reference(and, lifetime, mutability), None) => {
                 let reference = (and, lifetime, mutability, self.self_token);
-                Ok(Some(Node(Kind::Receiver, First(reference)).to_tree(arena)?))
+                some_node(arena, Kind::Receiver, &First(reference))
             }
             _ => Ok(None),
         }
@@ -122,9 +123,9 @@ impl<'a> ToTree<'a> for Safety<'a> {
 
     fn to_tree(&self, arena: &'a Arena) -> Result<Tree<'a>, AllocError> {
         match *self {
-            Safety::Unsafe(word) => First(Called(Part::Safety, word)).to_tree(arena),
-            Safety::Safe(word) => First(Called(Part::Safety, word)).to_tree(arena),
-            Safety::Default => Second(()).to_tree(arena),
+            Safety::Unsafe(word) => nth(arena, 0, &Called(Part::Safety, word)),
+            Safety::Safe(word) => nth(arena, 0, &Called(Part::Safety, word)),
+            Safety::Default => behind(arena, 1, &()),
         }
     }
 }
@@ -154,7 +155,7 @@ impl<'t, 'a> TryToTree<'a> for Signature<'t, 'a> {
         let types = (self.inputs, self.output, where_clause);
         let named = (self.abi, self.fn_token, ident, (generics, types));
         let inside = (self.constness, self.asyncness, self.safety, named);
-        Ok(Some(Node(Kind::Signature(self.place), inside).to_tree(arena)?))
+        some_node(arena, Kind::Signature(self.place), &inside)
     }
 }
 
@@ -166,9 +167,9 @@ impl<'t, 'a> TryToTree<'a> for ItemFn<'t, 'a> {
         match (self.block, self.semi_token) {
             (Some(block), None) => {
                 let body = First(Called(Part::Body, block));
-                Ok(Some(Node(kind, (self.sig, body)).to_tree(arena)?))
+                some_node(arena, kind, &(self.sig, body))
             }
-            (None, Some(semi)) => Ok(Some(Node(kind, (self.sig, Second(semi))).to_tree(arena)?)),
+            (None, Some(semi)) => some_node(arena, kind, &(self.sig, Second(semi))),
             _ => Ok(None),
         }
     }

@@ -1,12 +1,13 @@
 //! Impls.
 
-ghost use Rattle.std.specs.Prelude.{◌≡◌, ◌↔◌, IfOk, IsTrue};
+ghost use Rattle.std.specs.Prelude.{◌≡◌, ◌↔◌, IsTrue};
 ghost use Rattle.syn_grammar.specs.Tree as t;
 ghost use Rattle.syn_item.specs.ItemImpls.{impl_body_tree, impl_items, item_impl};
 ghost use Rattle.syn_made.specs.MadeWhole.{IsPolarityOf};
 
-use crate::forms::{Called, First, Grouped, Node, Second};
+use crate::forms::{Called, First, Grouped, Second};
 use crate::item::part::MaybeCalled;
+use crate::put::{node, some_node};
 use crate::to_tree::ToTree;
 use crate::try_to_tree::TryToTree;
 use gram_table::kind::Kind;
@@ -17,39 +18,30 @@ use std::alloc::AllocError;
 use syn_ast::leaf::Mark;
 use syn_item::impls::{ImplItems, ImplTrait, ItemImpl};
 
-// The trait and the type, or the type alone; a where clause and the braces.
-fn impl_body<'a>(arena: &'a Arena, item: &ItemImpl<'_, 'a>) -> Result<Tree<'a>, AllocError>
-    ensures { IfOk result (λ x. x ≡ impl_body_tree item.now.trait_ item.now.self_ty item.now.where_clause
-        (t.Group item.now.brace_token.delimiter (t.Pair item.now.attrs.now item.now.items.now))) }
-{
-    let where_clause = Called(Part::Where, item.where_clause);
-    let body = Grouped(item.brace_token, (item.attrs, item.items));
-    match item.trait_ {
-        Some(found) => {
-            let path = Called(Part::First, found.path);
-            let for_type = First((found.for_token, Called(Part::SelfType, item.self_ty)));
-            (path, for_type, where_clause, body).to_tree(arena)
-        }
-        None => {
-            let self_ty = Called(Part::First, item.self_ty);
-            (self_ty, Second(()), where_clause, body).to_tree(arena)
+// Of an impl the trait and the type, or the type alone; a where clause and the braces.
+#[derive(Clone, Copy)]
+struct ImplBody<'i, 't, 'a>(&'i ItemImpl<'t, 'a>);
+
+impl<'i, 't, 'a> ToTree<'a> for ImplBody<'i, 't, 'a> {
+    ghost tree = { λ x. impl_body_tree x.0.now.trait_ x.0.now.self_ty x.0.now.where_clause
+        (t.Group x.0.now.brace_token.delimiter (t.Pair x.0.now.attrs.now x.0.now.items.now)) };
+
+    fn to_tree(&self, arena: &'a Arena) -> Result<Tree<'a>, AllocError> {
+        let item = self.0;
+        let where_clause = Called(Part::Where, item.where_clause);
+        let body = Grouped(item.brace_token, (item.attrs, item.items));
+        match item.trait_ {
+            Some(found) => {
+                let path = Called(Part::First, found.path);
+                let for_type = First((found.for_token, Called(Part::SelfType, item.self_ty)));
+                (path, for_type, where_clause, body).to_tree(arena)
+            }
+            None => {
+                let self_ty = Called(Part::First, item.self_ty);
+                (self_ty, Second(()), where_clause, body).to_tree(arena)
+            }
         }
     }
-}
-
-// An impl, as a node of its kind.
-fn impl_node<'a>(arena: &'a Arena, item: &ItemImpl<'_, 'a>) -> Result<Tree<'a>, AllocError>
-    ensures { IfOk result (λ x. x ≡ item_impl item.now) }
-{
-    let body = impl_body(arena, item)?;
-    let defaultness = MaybeCalled(Part::Default, item.modifiers.defaultness);
-    let constness = MaybeCalled(Part::Const, item.constness);
-    let unsafety = MaybeCalled(Part::Safety, item.unsafety);
-    let generics = Called(Part::Generics, item.generics);
-    let polarity = MaybeCalled(Part::Polarity, item.modifiers.polarity);
-    let named = (item.impl_token, generics, polarity, &body);
-    let inside = (defaultness, constness, unsafety, named);
-    Node(Kind::AnImpl, First(inside)).to_tree(arena)
 }
 
 // Whether `!` may stand there, if it does: before a trait alone.
@@ -67,10 +59,17 @@ impl<'t, 'a> TryToTree<'a> for ItemImpl<'t, 'a> {
     ghost says = { λ x tree. IsPolarityOf x.trait_ x.modifiers.polarity × (tree ≡ item_impl x) };
 
     fn try_to_tree(&self, arena: &'a Arena) -> Result<Option<Tree<'a>>, AllocError> {
-        if is_polarity_of(self.trait_, self.modifiers.polarity) {
-            return Ok(Some(impl_node(arena, self)?));
+        if !is_polarity_of(self.trait_, self.modifiers.polarity) {
+            return Ok(None);
         }
-        Ok(None)
+        let defaultness = MaybeCalled(Part::Default, self.modifiers.defaultness);
+        let constness = MaybeCalled(Part::Const, self.constness);
+        let unsafety = MaybeCalled(Part::Safety, self.unsafety);
+        let generics = Called(Part::Generics, self.generics);
+        let polarity = MaybeCalled(Part::Polarity, self.modifiers.polarity);
+        let named = (self.impl_token, generics, polarity, ImplBody(self));
+        let inside = (defaultness, constness, unsafety, named);
+        some_node(arena, Kind::AnImpl, &First(inside))
     }
 }
 
@@ -78,6 +77,6 @@ impl<'t, 'a> ToTree<'a> for ImplItems<'t, 'a> {
     ghost tree = { impl_items };
 
     fn to_tree(&self, arena: &'a Arena) -> Result<Tree<'a>, AllocError> {
-        Node(Kind::ImplItems, self.items).to_tree(arena)
+        node(arena, Kind::ImplItems, &self.items)
     }
 }

@@ -4,7 +4,8 @@ ghost use Rattle.std.specs.Prelude.{◌≡◌, IfOk, MatchOption};
 ghost use Rattle.syn_data.specs.Items.{IsClosed, item_enum, item_extern_crate, item_static, item_struct, item_union};
 ghost use Rattle.syn_data.specs.Items.{item_use, mutability_tree, struct_end};
 
-use crate::forms::{Called, First, Grouped, Node, Second};
+use crate::forms::{Called, First, Grouped, Second};
+use crate::put::{behind, node, nth, some_node};
 use crate::to_tree::ToTree;
 use crate::try_to_tree::TryToTree;
 use gram_table::kind::Kind;
@@ -30,15 +31,11 @@ fn struct_end<'a>(
 {
     let where_part = Called(Part::Where, where_clause);
     match (fields, semi_token) {
-        (Fields::Named(fields), None) => {
-            Ok(Some(Second((where_part, First(fields))).to_tree(arena)?))
-        }
+        (Fields::Named(fields), None) => { Second((where_part, First(fields))).to_some_tree(arena) }
         (Fields::Unnamed(fields), Some(semi)) => {
-            Ok(Some(First((fields, where_part, semi)).to_tree(arena)?))
+            First((fields, where_part, semi)).to_some_tree(arena)
         }
-        (Fields::Unit, Some(semi)) => {
-            Ok(Some(Second((where_part, Second(semi))).to_tree(arena)?))
-        }
+        (Fields::Unit, Some(semi)) => { Second((where_part, Second(semi))).to_some_tree(arena) }
         _ => Ok(None),
     }
 }
@@ -53,7 +50,7 @@ impl<'t, 'a> TryToTree<'a> for ItemStruct<'t, 'a> {
         let ident = Called(Part::Name, self.ident);
         let generics = Called(Part::Generics, self.generics);
         let inside = (self.struct_token, ident, generics, &end);
-        Ok(Some(Node(Kind::AStruct, inside).to_tree(arena)?))
+        some_node(arena, Kind::AStruct, &inside)
     }
 }
 
@@ -66,7 +63,7 @@ impl<'t, 'a> ToTree<'a> for ItemEnum<'t, 'a> {
         let where_clause = Called(Part::Where, self.where_clause);
         let body = Grouped(self.brace_token, self.variants);
         let inside = (self.enum_token, ident, (generics, where_clause, body));
-        Node(Kind::AnEnum, inside).to_tree(arena)
+        node(arena, Kind::AnEnum, &inside)
     }
 }
 
@@ -82,7 +79,7 @@ impl<'t, 'a> ToTree<'a> for ItemUnion<'t, 'a> {
             ident,
             (generics, where_clause, self.fields),
         );
-        Node(Kind::AUnion, inside).to_tree(arena)
+        node(arena, Kind::AUnion, &inside)
     }
 }
 
@@ -91,8 +88,8 @@ impl<'a> ToTree<'a> for StaticMutability<'a> {
 
     fn to_tree(&self, arena: &'a Arena) -> Result<Tree<'a>, AllocError> {
         match *self {
-            StaticMutability::Mut(word) => First(word).to_tree(arena),
-            StaticMutability::None => Second(()).to_tree(arena),
+            StaticMutability::Mut(word) => nth(arena, 0, &word),
+            StaticMutability::None => behind(arena, 1, &()),
         }
     }
 }
@@ -104,7 +101,7 @@ impl<'t, 'a> ToTree<'a> for ItemStatic<'t, 'a> {
         let ident = Called(Part::Name, self.ident);
         let behind = (ident, self.ty, self.expr, self.semi_token);
         let inside = (self.static_token, self.mutability, behind);
-        Node(Kind::AStatic, inside).to_tree(arena)
+        node(arena, Kind::AStatic, &inside)
     }
 }
 
@@ -117,7 +114,7 @@ impl<'t, 'a> ToTree<'a> for ItemUse<'t, 'a> {
             Called(Part::Path, self.tree),
             self.semi_token,
         );
-        Node(Kind::AUse, inside).to_tree(arena)
+        node(arena, Kind::AUse, &inside)
     }
 }
 
@@ -127,6 +124,6 @@ impl<'a> ToTree<'a> for ItemExternCrate<'a> {
     fn to_tree(&self, arena: &'a Arena) -> Result<Tree<'a>, AllocError> {
         let named = (Called(Part::Name, self.ident), self.rename, self.semi_token);
         let inside = (self.extern_token, self.crate_token, named);
-        Node(Kind::AnExternCrate, inside).to_tree(arena)
+        node(arena, Kind::AnExternCrate, &inside)
     }
 }

@@ -5,8 +5,9 @@ ghost use Rattle.syn_ast.specs.Leaves.{raw_tree};
 ghost use Rattle.syn_item.specs.ItemMacros.{item_macro, macro_end_tree, macro_name_tree};
 ghost use Rattle.syn_made.specs.MadeWhole.{IsMacroEnd, IsMacroName, IsWholeMacro};
 
-use crate::forms::{First, Grouped, Node, Second};
+use crate::forms::{First, Grouped, Second};
 use crate::item::part::MaybeCalled;
+use crate::put::some_node;
 use crate::to_tree::ToTree;
 use crate::try_to_tree::TryToTree;
 use gram_table::kind::{Kind, Place};
@@ -31,7 +32,7 @@ fn macro_name<'a>(
         (λ x. IsMacroName place ident.entry × (x ≡ macro_name_tree place ident.entry))) }
 {
     match (place, ident) {
-        (Place::InFile, ident) => Ok(Some(MaybeCalled(Part::Name, ident).to_tree(arena)?)),
+        (Place::InFile, ident) => MaybeCalled(Part::Name, ident).to_some_tree(arena),
         (_, None) => Ok(Some(made::nil())),
         (_, Some(_)) => Ok(None),
     }
@@ -48,18 +49,17 @@ fn macro_end<'a>(
         (λ x. IsMacroEnd delimiter semi_token
         × (x ≡ macro_end_tree delimiter semi_token (raw_tree tokens.entry)))) }
 {
-    let raw = made::raw(arena, tokens)?;
     match (delimiter, semi_token) {
         (MacroDelimiter::Brace(braces), None) => {
-            Ok(Some(First(Grouped(braces, &raw)).to_tree(arena)?))
+            First(Grouped(braces, tokens)).to_some_tree(arena)
         }
         (MacroDelimiter::Paren(parentheses), Some(semi)) => {
-            let inside = First(Grouped(parentheses, &raw));
-            Ok(Some(Second((inside, semi)).to_tree(arena)?))
+            let inside = First(Grouped(parentheses, tokens));
+            Second((inside, semi)).to_some_tree(arena)
         }
         (MacroDelimiter::Bracket(brackets), Some(semi)) => {
-            let inside = Second(Grouped(brackets, &raw));
-            Ok(Some(Second((inside, semi)).to_tree(arena)?))
+            let inside = Second(Grouped(brackets, tokens));
+            Second((inside, semi)).to_some_tree(arena)
         }
         _ => Ok(None),
     }
@@ -76,6 +76,6 @@ impl<'t, 'a> TryToTree<'a> for ItemMacro<'t, 'a> {
             return Ok(None);
         };
         let inside = (self.path, self.bang_token, &ident, &end);
-        Ok(Some(Node(Kind::ItemMacro(self.place), inside).to_tree(arena)?))
+        some_node(arena, Kind::ItemMacro(self.place), &inside)
     }
 }

@@ -2,7 +2,8 @@
 
 ghost use Rattle.syn_item.specs.ItemMembers.{associated_item, foreign_item, foreign_static};
 
-use crate::forms::{Called, First, Second};
+use crate::forms::Called;
+use crate::put::nth;
 use crate::to_tree::ToTree;
 use gram_table::part::Part;
 use gram_tree::arena::Arena;
@@ -17,10 +18,10 @@ impl<'t, 'a> ToTree<'a> for AssociatedItem<'t, 'a> {
 
     fn to_tree(&self, arena: &'a Arena) -> Result<Tree<'a>, AllocError> {
         match self.form {
-            AssociatedForm::Fn => First(self.tree).to_tree(arena),
-            AssociatedForm::Const => Second(First(self.tree)).to_tree(arena),
-            AssociatedForm::Type => Second(Second(First(self.tree))).to_tree(arena),
-            AssociatedForm::Macro => Second(Second(Second(First(self.tree)))).to_tree(arena),
+            AssociatedForm::Fn => nth(arena, 0, &self.tree),
+            AssociatedForm::Const => nth(arena, 1, &self.tree),
+            AssociatedForm::Type => nth(arena, 2, &self.tree),
+            AssociatedForm::Macro => nth(arena, 3, &self.tree),
             AssociatedForm::Verbatim => made::verbatim(arena, self.tree.copy()),
         }
     }
@@ -41,10 +42,10 @@ impl<'t, 'a> ToTree<'a> for ForeignItem<'t, 'a> {
     fn to_tree(&self, arena: &'a Arena) -> Result<Tree<'a>, AllocError> {
         let item = Called(Part::Item, self.tree);
         match self.form {
-            ForeignForm::Fn => First(item).to_tree(arena),
-            ForeignForm::Static => Second(First(self.tree)).to_tree(arena),
-            ForeignForm::Type => Second(Second(First(item))).to_tree(arena),
-            ForeignForm::Macro => Second(Second(Second(First(item)))).to_tree(arena),
+            ForeignForm::Fn => nth(arena, 0, &item),
+            ForeignForm::Static => nth(arena, 1, &self.tree),
+            ForeignForm::Type => nth(arena, 2, &item),
+            ForeignForm::Macro => nth(arena, 3, &item),
             ForeignForm::Verbatim => made::verbatim(arena, self.tree.copy()),
         }
     }

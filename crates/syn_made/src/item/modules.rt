@@ -5,8 +5,9 @@ ghost use Rattle.syn_item.specs.ItemModules.{foreign_items, item_foreign_mod, it
 ghost use Rattle.syn_item.specs.ItemParts.{braced_tree};
 ghost use Rattle.syn_made.specs.MadeWhole.{IsModuleEnd};
 
-use crate::forms::{Called, First, Grouped, Node, Second};
+use crate::forms::{Called, First, Grouped, Second};
 use crate::item::part::MaybeCalled;
+use crate::put::{node, some_node};
 use crate::to_tree::ToTree;
 use crate::try_to_tree::TryToTree;
 use gram_table::kind::Kind;
@@ -31,7 +32,7 @@ impl<'t, 'a> ToTree<'a> for ItemForeignMod<'t, 'a> {
     fn to_tree(&self, arena: &'a Arena) -> Result<Tree<'a>, AllocError> {
         let unsafety = MaybeCalled(Part::Safety, self.unsafety);
         let body = Grouped(self.brace_token, (self.attrs, self.items));
-        Node(Kind::AForeignModule, (unsafety, self.abi, body)).to_tree(arena)
+        node(arena, Kind::AForeignModule, &(unsafety, self.abi, body))
     }
 }
 
@@ -44,11 +45,11 @@ impl<'t, 'a> TryToTree<'a> for ItemMod<'t, 'a> {
         match (self.content, self.semi) {
             (Some(content), None) => {
                 let inside = (unsafety, self.mod_token, ident, Second(content));
-                Ok(Some(Node(Kind::AModule, inside).to_tree(arena)?))
+                some_node(arena, Kind::AModule, &inside)
             }
             (None, Some(semi)) => {
                 let inside = (unsafety, self.mod_token, ident, First(semi));
-                Ok(Some(Node(Kind::AModule, inside).to_tree(arena)?))
+                some_node(arena, Kind::AModule, &inside)
             }
             _ => Ok(None),
         }
@@ -59,7 +60,7 @@ impl<'t, 'a> ToTree<'a> for Items<'t, 'a> {
     ghost tree = { items };
 
     fn to_tree(&self, arena: &'a Arena) -> Result<Tree<'a>, AllocError> {
-        Node(Kind::Items, self.items).to_tree(arena)
+        node(arena, Kind::Items, &self.items)
     }
 }
 
@@ -67,6 +68,6 @@ impl<'t, 'a> ToTree<'a> for ForeignItems<'t, 'a> {
     ghost tree = { foreign_items };
 
     fn to_tree(&self, arena: &'a Arena) -> Result<Tree<'a>, AllocError> {
-        Node(Kind::ForeignItems, self.items).to_tree(arena)
+        node(arena, Kind::ForeignItems, &self.items)
     }
 }

@@ -4,8 +4,9 @@ ghost use Rattle.gram_table.specs.Parts.{part_of};
 ghost use Rattle.syn_ast.specs.Leaves.{optional_tree};
 ghost use Rattle.syn_grammar.specs.Tree as t;
 
-use crate::forms::{Called, First};
+use crate::forms::Called;
 use crate::parts::missing;
+use crate::put::nth;
 use crate::to_tree::ToTree;
 use gram_table::part::Part;
 use gram_tree::arena::Arena;
@@ -21,7 +22,7 @@ impl<'a, T: ToTree<'a> + Copy> ToTree<'a> for MaybeCalled<T> {
 
     fn to_tree(&self, arena: &'a Arena) -> Result<Tree<'a>, AllocError> {
         match self.1 {
-            Some(value) => First(Called(self.0, value)).to_tree(arena),
+            Some(value) => nth(arena, 0, &Called(self.0, value)),
             None => missing(arena),
         }
     }

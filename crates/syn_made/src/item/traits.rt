@@ -4,8 +4,9 @@ ghost use Rattle.std.specs.Prelude.{◌≡◌, ◌↔◌, IsTrue};
 ghost use Rattle.syn_item.specs.ItemTraits.{item_trait, item_trait_alias, trait_form_tree, trait_items};
 ghost use Rattle.syn_made.specs.MadeWhole.{IsAliasHead, IsTraitHead};
 
-use crate::forms::{Called, First, Grouped, Node, Second};
+use crate::forms::{Called, First, Grouped, Second};
 use crate::item::part::MaybeCalled;
+use crate::put::{node, some_node};
 use crate::to_tree::ToTree;
 use crate::try_to_tree::TryToTree;
 use gram_table::kind::Kind;
@@ -31,7 +32,7 @@ impl<'t, 'a> ToTree<'a> for ItemTrait<'t, 'a> {
             end,
         );
         let inside = (unsafety, auto_token, self.trait_token, named);
-        Node(Kind::ATrait, First(inside)).to_tree(arena)
+        node(arena, Kind::ATrait, &First(inside))
     }
 }
 
@@ -64,7 +65,7 @@ impl<'t, 'a> TryToTree<'a> for ItemTraitAlias<'t, 'a> {
             end,
         );
         let inside = (unsafety, auto_token, self.trait_token, named);
-        Ok(Some(Node(Kind::ATrait, First(inside)).to_tree(arena)?))
+        some_node(arena, Kind::ATrait, &First(inside))
     }
 }
 
@@ -74,11 +75,8 @@ impl<'t, 'a> TryToTree<'a> for TraitForm<'t, 'a> {
     #[tactic(auto, using(crate::proofs::TraitForms::no_alias))]
     fn try_to_tree(&self, arena: &'a Arena) -> Result<Option<Tree<'a>>, AllocError> {
         match *self {
-            TraitForm::Trait(item) => Ok(Some(item.to_tree(arena)?)),
-            TraitForm::Alias(item) => match item.try_to_tree(arena)? {
-                Some(tree) => Ok(Some(tree)),
-                None => Ok(None),
-            },
+            TraitForm::Trait(item) => item.to_some_tree(arena),
+            TraitForm::Alias(item) => item.try_to_tree(arena),
         }
     }
 }
@@ -87,6 +85,6 @@ impl<'t, 'a> ToTree<'a> for TraitItems<'t, 'a> {
     ghost tree = { trait_items };
 
     fn to_tree(&self, arena: &'a Arena) -> Result<Tree<'a>, AllocError> {
-        Node(Kind::TraitItems, self.items).to_tree(arena)
+        node(arena, Kind::TraitItems, &self.items)
     }
 }

@@ -4,6 +4,7 @@ ghost use Rattle.std.specs.Prelude.{◌≡◌, IfOk};
 ghost use Rattle.syn_item.specs.ItemUses.{use_inside_tree, use_rooted, use_top, use_tree};
 
 use crate::forms::{First, Grouped, Node, Second};
+use crate::put::{behind, node, nth};
 use crate::to_tree::ToTree;
 use gram_table::kind::Kind;
 use gram_tree::arena::Arena;
@@ -20,22 +21,22 @@ fn inside<'a>(arena: &'a Arena, tree: &UseTree<'_, 'a>) -> Result<Tree<'a>, Allo
         UseTree::Path(found) => {
             let path = (found.colon2_token, found.tree);
             let branch = Second((found.ident, First(path)));
-            Second(Node(Kind::UseBranch, branch)).to_tree(arena)
+            behind(arena, 1, &Node(Kind::UseBranch, branch))
         }
         UseTree::Name(found) => {
             let branch = Second((found.ident, Second(Second(()))));
-            Second(Node(Kind::UseBranch, branch)).to_tree(arena)
+            behind(arena, 1, &Node(Kind::UseBranch, branch))
         }
         UseTree::Rename(found) => {
             let renamed = (found.as_token, found.rename);
             let branch = Second((found.ident, Second(First(renamed))));
-            Second(Node(Kind::UseBranch, branch)).to_tree(arena)
+            behind(arena, 1, &Node(Kind::UseBranch, branch))
         }
         UseTree::Glob(found) => {
             let branch = First(found.star_token);
-            Second(Node(Kind::UseBranch, branch)).to_tree(arena)
+            behind(arena, 1, &Node(Kind::UseBranch, branch))
         }
-        UseTree::Group(found) => First(Grouped(found.brace_token, found.items)).to_tree(arena),
+        UseTree::Group(found) => nth(arena, 0, &Grouped(found.brace_token, found.items)),
     }
 }
 
@@ -65,8 +66,8 @@ impl<'t, 'a> ToTree<'a> for UseTop<'t, 'a> {
 
     fn to_tree(&self, arena: &'a Arena) -> Result<Tree<'a>, AllocError> {
         match self.leading_colon {
-            Some(colon) => Node(Kind::UseTop, First((colon, self.tree))).to_tree(arena),
-            None => Node(Kind::UseTop, Second(self.tree)).to_tree(arena),
+            Some(colon) => node(arena, Kind::UseTop, &First((colon, self.tree))),
+            None => node(arena, Kind::UseTop, &Second(self.tree)),
         }
     }
 }

@@ -12,5 +12,5 @@ pub returns-clause-shaped : goal.returns-clause-shaped
 returns-clause-shaped c =
     let p = plus_of c.args.plus in
     let form = c.args.form.now in
-    let made : c.in_ok-to_tree.field-0 ≡ t.Node (k.AType p) (type_inside form) = search rules in
+    let made : c.in_ok-node.field-0 ≡ t.Node (k.AType p) (type_inside form) = search rules in
     λ h. subst (λ x. IsShaped x (g.ref (k.AType p))) (sym made) (type_shaped p form h)

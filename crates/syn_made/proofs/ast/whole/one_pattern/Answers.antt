@@ -6,5 +6,5 @@ use Rattle.syn_made.proofs.ast.whole.one_pattern.Goals as goal
 pub returns-clause-shaped : goal.returns-clause-shaped
 returns-clause-shaped c =
     let form = c.args.form.now in
-    let made : c.in_ok-to_tree.field-0 ≡ one_pattern_tree form = search (rules, one_at) in
-    one_shaped_at form c.in_ok-to_tree.field-0 made
+    let made : c.in_ok-node.field-0 ≡ one_pattern_tree form = search (rules, one_at) in
+    one_shaped_at form c.in_ok-node.field-0 made

@@ -7,10 +7,10 @@ use Rattle.syn_made.proofs.ast.whole.pattern.Goals as goal
 pub returns : goal.returns
 returns c =
     let form = c.args.form.now in
-    let made = c.in_ok-to_tree-2.field-0 in
+    let made = c.in_ok-node.field-0 in
     let one : IsWholePat form × (c.in-Some.one ≡ one_pattern_tree form) = search rules in
     let is : made ≡ pattern_tree form =
-    pattern_at form made c.in-Some.one c.in_default.not-Or c.in_ok-to_tree-2.ensures one.1 in
+    pattern_at form made c.in-Some.one c.in_default.not-Or c.in_ok-node.ensures one.1 in
     record {
       tree = (one.0, is);
       form = pattern_form_at form made is;

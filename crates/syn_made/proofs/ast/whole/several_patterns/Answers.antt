@@ -7,17 +7,17 @@ use Rattle.syn_made.proofs.ast.whole.several_patterns.Goals as goal
 pub returns-in-Or-clause-shaped : goal.returns-in-Or-clause-shaped
 returns-in-Or-clause-shaped c =
     let form = c.args.form.now in
-    let made = c.in_ok-to_tree.field-0 in
+    let made = c.in_ok-node.field-0 in
     let is : made ≡ several_tree form = search rules in
     several_shaped_at form made is
 
 pub returns : goal.returns
 returns c =
     let form = c.args.form.now in
-    let made = c.in_ok-to_tree-2.field-0 in
+    let made = c.in_ok-node-2.field-0 in
     let one : IsWholePat form × (c.in-Some.one ≡ one_pattern_tree form) = search rules in
     let is : made ≡ several_tree form =
-    several_at form made c.in-Some.one c.in_default.not-Or c.in_ok-to_tree-2.ensures one.1 in
+    several_at form made c.in-Some.one c.in_default.not-Or c.in_ok-node-2.ensures one.1 in
     record {
       tree = (one.0, is);
       form = several_form_at form made is;
