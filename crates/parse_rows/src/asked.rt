@@ -1,9 +1,8 @@
 //! Texts, and what is asked of their tokens.
 
+use crate::texts::stream_of;
 use crate::{lookahead, names};
-use proc_macro2::{SourceMap, TokenStream};
 use rows::{Page, Unanswered};
-use std::alloc::Global;
 use syn_parse::{Cursor, TokenBuffer};
 
 /// What is asked of the tokens of a text.
@@ -62,13 +61,6 @@ fn ask(text: &str, question: Question, page: &mut Page) -> Result<(), Unanswered
     let stream = stream_of(page.alloc(), text)?;
     let buffer = TokenBuffer::new2(page.alloc(), &stream, 1)?;
     put(question, buffer.begin(), page)
-}
-
-fn stream_of(alloc: Global, text: &str) -> Result<TokenStream, Unanswered> {
-    match TokenStream::from_str(alloc, text, &mut SourceMap::new(alloc)) {
-        Ok(stream) => Ok(stream),
-        Err(_) => Err(Unanswered::NoRow),
-    }
 }
 
 fn put(question: Question, begin: Cursor<'_>, page: &mut Page) -> Result<(), Unanswered> {

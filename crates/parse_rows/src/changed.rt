@@ -1,6 +1,7 @@
 //! Lists: what is written through lent values, taken out by a function, and made of pairs.
 
-use crate::lists::{Names, line, name, show_tokens, three, two};
+use crate::lists::{Names, line, show_tokens, three, two};
+use crate::texts::name;
 use proc_macro2::Ident;
 use rows::{Page, Unanswered};
 use std::alloc::Global;

@@ -1,6 +1,7 @@
 //! Lists gone over from behind, by each iterator, and how many items each has.
 
-use crate::lists::{Names, line, name, show_tokens, three};
+use crate::lists::{Names, line, show_tokens, three};
+use crate::texts::name;
 use rows::{Page, Unanswered};
 
 /// How many items each iterator of `a , b , c` has before its first and behind its last one.

@@ -1,5 +1,6 @@
 //! Errors: messages put together, gone over, and as tokens.
 
+use crate::texts::put_stream;
 use proc_macro2::Span;
 use rows::{Page, Unanswered};
 use std::alloc::{AllocError, Global};
@@ -34,10 +35,8 @@ fn put_messages(error: &Error, page: &mut Page) {
 }
 
 fn put_tokens(error: &Error, page: &mut Page) {
-    match error.to_compile_error(page.alloc()) {
-        Ok(tokens) => write!(page, "{tokens}\n"),
-        Err(_) => page.cut(),
-    }
+    put_stream(error.to_compile_error(page.alloc()), page);
+    page.put("\n");
 }
 
 // Puts the messages of an error that is extended by those of another one.

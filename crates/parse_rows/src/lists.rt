@@ -1,6 +1,7 @@
 //! Lists: what is put in, taken out and gone over.
 
-use proc_macro2::{Ident, IdentFault, Span};
+use crate::texts::{name, put_tokens};
+use proc_macro2::Ident;
 use rows::{Page, Unanswered};
 use std::alloc::Global;
 use syn_error::ToTokens;
@@ -9,15 +10,6 @@ use syn_lists::{Pair, Punctuated};
 
 /// The names of the rows.
 pub(crate) type Names = Punctuated<Ident, token::Comma>;
-
-/// An identifier.
-pub(crate) fn name(alloc: Global, text: &str) -> Result<Ident, Unanswered> {
-    match Ident::new(alloc, text, Span::call_site()) {
-        Ok(ident) => Ok(ident),
-        Err(IdentFault::Memory) => Err(Unanswered::Cut),
-        Err(_) => Err(Unanswered::NoRow),
-    }
-}
 
 /// Puts how many values there are, whether a separator stands behind the last, and the tokens.
 pub(crate) fn line(names: &Names, page: &mut Page) {
@@ -32,10 +24,8 @@ pub(crate) fn line(names: &Names, page: &mut Page) {
 
 /// Puts the tokens of a value, and a line's end.
 pub(crate) fn show_tokens<T: ToTokens>(value: &T, page: &mut Page) {
-    match value.to_token_stream(page.alloc()) {
-        Ok(tokens) => write!(page, "{tokens}\n"),
-        Err(_) => page.cut(),
-    }
+    put_tokens(value, page);
+    page.put("\n");
 }
 
 /// Puts a word, and a line's end.

@@ -1,6 +1,6 @@
 //! What stands first in a text, and what is left behind it.
 
-use proc_macro2::tree::TokenStream;
+use proc_macro2::TokenStream;
 use syn_error::ParseFault;
 use syn_parse::{Parse, ParseBuffer};
 

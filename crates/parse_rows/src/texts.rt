@@ -1,9 +1,10 @@
-//! Streams of texts, and what was read of them, as it is put onto a page.
+//! Streams and identifiers of texts, and what was read or is printed, as it is put onto a page.
 
-use proc_macro2::{Ident, SourceMap, Span, TokenStream};
+use proc_macro2::{Ident, IdentFault, SourceMap, Span, TokenStream};
 use rows::{Page, Unanswered};
-use std::alloc::Global;
+use std::alloc::{AllocError, Global};
 use std::fmt::Display;
+use syn_error::ToTokens;
 
 /// The tokens of a text, in a map of its own.
 pub fn stream_of(alloc: Global, text: &str) -> Result<TokenStream, Unanswered> {
@@ -22,6 +23,7 @@ pub fn lexed(alloc: Global, text: &str, map: &mut SourceMap) -> Result<TokenStre
 pub fn name(alloc: Global, text: &str) -> Result<Ident, Unanswered> {
     match Ident::new(alloc, text, Span::call_site()) {
         Ok(ident) => Ok(ident),
+        Err(IdentFault::Memory) => Err(Unanswered::Cut),
         Err(_) => Err(Unanswered::NoRow),
     }
 }
@@ -37,5 +39,18 @@ pub fn put<T: Display + Drop, E: Display + Drop>(
     match read {
         Ok(value) => write!(page, "{value}\n"),
         Err(fault) => write!(page, "{fault}\n"),
+    }
+}
+
+/// Puts what is printed for a value.
+pub fn put_tokens<T: ToTokens>(value: &T, page: &mut Page) {
+    put_stream(value.to_token_stream(page.alloc()), page);
+}
+
+/// Puts a stream that was made for the page.
+pub fn put_stream(made: Result<TokenStream, AllocError>, page: &mut Page) {
+    match made {
+        Ok(stream) => page.show(&stream),
+        Err(_) => page.cut(),
     }
 }

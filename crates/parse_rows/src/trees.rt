@@ -1,8 +1,8 @@
 //! Token trees, groups and streams that are read.
 
-use crate::asked::put;
 use crate::groups::nested;
-use crate::read::read;
+use crate::texts::put;
+use crate::whole::read;
 use proc_macro2::{Group, Ident, SourceMap, TokenStream, TokenTree};
 use rows::{Page, Unanswered};
 use std::alloc::{AllocError, Global};

@@ -1,14 +1,11 @@
 //! Which literal a text is, its value and its suffix, and what is printed for it.
 
-use proc_macro2::tree::TokenStream;
+use crate::texts::{put_stream, put_tokens};
+use proc_macro2::{Literal, SourceMap, Span, TokenStream, TryClone};
 use rows::{Page, Unanswered};
-use rust_leaf::literal::Literal;
-use rust_map::source_map::SourceMap;
-use rust_map::span::Span;
 use std::alloc::{AllocError, Global};
 use syn_error::ToTokens;
 use syn_leaf::{Index, Lit, LitBool, Member};
-use try_clone::TryClone;
 
 // The literal of a text.
 fn literal(alloc: Global, text: &str) -> Result<Lit, Unanswered> {
@@ -104,18 +101,6 @@ pub fn tokens(text: &str, page: &mut Page) -> Result<(), Unanswered> {
     };
     put_tokens(&lit, page);
     Ok(())
-}
-
-/// Puts what is printed for a value.
-pub fn put_tokens<T: ToTokens>(value: &T, page: &mut Page) {
-    put_stream(value.to_token_stream(page.alloc()), page);
-}
-
-fn put_stream(printed: Result<TokenStream, AllocError>, page: &mut Page) {
-    match printed {
-        Ok(stream) => page.show(&stream),
-        Err(_) => page.cut(),
-    }
 }
 
 /// What is printed for the index that an integer writes, and for the member of that number.

@@ -1,11 +1,9 @@
-//! What is read from a text, and what stands first in it.
+//! Which leaf is read from a text, and which stands first in it.
 
 use crate::following::Front;
-use crate::literals::put_tokens;
-use proc_macro2::tree::TokenStream;
+use crate::texts::{put_tokens, stream_of};
+use proc_macro2::SourceMap;
 use rows::{Page, Unanswered};
-use rust_map::source_map::SourceMap;
-use std::alloc::Global;
 use syn_error::ToTokens;
 use syn_parse::{Parse, ParseBuffer, Peek, TokenBuffer, parse_str};
 
@@ -39,11 +37,4 @@ pub fn peek<T: Peek>(text: &str, page: &mut Page) -> Result<(), Unanswered> {
     let is_found = ParseBuffer::new(alloc, buffer.begin()).peek::<T>();
     write!(page, "{is_found}");
     Ok(())
-}
-
-fn stream_of(alloc: Global, text: &str) -> Result<TokenStream, Unanswered> {
-    match TokenStream::from_str(alloc, text, &mut SourceMap::new(alloc)) {
-        Ok(stream) => Ok(stream),
-        Err(_) => Err(Unanswered::NoRow),
-    }
 }

@@ -1,6 +1,7 @@
 //! Values that are read whole, and those that aren't.
 
-use crate::asked::{put, stream_of};
+use crate::leaves;
+use crate::texts::stream_of;
 use proc_macro2::{Delimiter, Ident, Literal, Punct, SourceMap};
 use rows::{Page, Unanswered};
 use std::alloc::{AllocError, Global};
@@ -12,11 +13,9 @@ use syn_parse::{LifetimeExt, Parse, ParseBuffer, TokenBuffer};
 
 /// Puts a line: the tokens of the value that a text is read as, or the fault.
 pub fn read<T: Parse + ToTokens>(asked: &str, text: &str, page: &mut Page) {
-    let alloc = page.alloc();
-    match parse_str::<T>(alloc, text, &mut SourceMap::new(alloc)) {
-        Ok(value) => put(asked, text, value.to_token_stream(alloc), page),
-        Err(fault) => write!(page, "{asked} [{text}]: {fault}\n"),
-    }
+    write!(page, "{asked} [{text}]: ");
+    leaves::read::<T>(text, page);
+    page.put("\n");
 }
 
 /// Texts that are read.

@@ -1,6 +1,6 @@
 //! What is looked for.
 
-use crate::asked::put;
+use crate::texts::put;
 use proc_macro2::{Ident, SourceMap, TokenStream, TokenTree};
 use rows::Page;
 use syn_error::ParseFault;

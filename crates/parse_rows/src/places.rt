@@ -1,6 +1,6 @@
 //! Places compared, what stands before them, and where the end of a stream is said to be.
 
-use crate::asked::{lexed, put, stream_of};
+use crate::texts::{lexed, put, stream_of};
 use proc_macro2::{Delimiter, Ident, SourceMap, Span, TokenStream};
 use rows::{Page, Unanswered};
 use std::alloc::Global;

@@ -3,7 +3,7 @@
 ghost use Rattle.std.specs.Prelude.{OnOk};
 ghost use Rattle.syn_parse.specs.Input.{IsOnward};
 
-use crate::asked::{name, put, stream_of};
+use crate::texts::{name, put, stream_of};
 use proc_macro2::{Delimiter, Group, Ident, SourceMap, TokenStream, TokenTree};
 use rows::{Page, Unanswered};
 use std::alloc::Global;
