@@ -5,10 +5,11 @@ use rows::{Page, Unanswered};
 use rust_map::SourceMap;
 use std::alloc::{AllocError, Global};
 
-// What a text is answered.
-type Answer = Result<String, Fault>;
+/// What a text is answered.
+pub type Answer = Result<String, Fault>;
 
-fn answer(alloc: Global, text: &str) -> Answer {
+/// What a text is answered by `canonical`, in a map of its own.
+pub fn answer(alloc: Global, text: &str) -> Answer {
     canon::canonical(alloc, text, &mut SourceMap::new(alloc))
 }
 
@@ -58,11 +59,15 @@ fn runs_alike(alloc: Global, text: &str, answer: &Answer) -> Result<bool, AllocE
 
 // Whether bytes are the output and a line feed, or none at all for a fault.
 fn is_output(answer: &Answer, written: &[u8]) -> bool {
-    match (answer, written.split_last()) {
-        (Ok(output), Some((b'\n', line))) => line == output.as_bytes(),
-        (Ok(_), _) => false,
-        (Err(_), _) => written.is_empty(),
+    match answer {
+        Ok(output) => is_line(written, output.as_str()),
+        Err(_) => written.is_empty(),
     }
+}
+
+/// Whether bytes are a text and a line feed.
+pub fn is_line(written: &[u8], text: &str) -> bool {
+    written.strip_suffix(b"\n") == Some(text.as_bytes())
 }
 
 // The status that goes with an answer.

@@ -1,13 +1,15 @@
-//! Answers tables of texts: the edges of the lexical rules, what is printed, and the calls of leaves. What is wanted
-//! comes from the rules, and stands beside the questions in `stdout`.
+//! Answers tables of texts: the edges of the lexical rules, what is printed, and the calls of leaves and of escapes.
+//! What is wanted comes from the rules, and stands beside the questions in `stdout`.
 //!
 //! - `trees`: how many trees a text has, what they are, where they stand, and how they are printed.
 //! - `literals`: which texts are literals, and their values.
 //! - `made`: what the constructors of leaves write; `numbers`: those of numbers.
 //! - `copies`: copies of streams, of their parts and of values of std.
+//! - `escapes`: what the escape calls say of the insides of literals.
 #![tactic(auto)]
 
 mod copies;
+mod escapes;
 mod literals;
 mod made;
 mod numbers;
@@ -36,7 +38,8 @@ impl Table for Calls {
             "raw_ident" => made::raw_ident(row.text, page),
             "copies" => copies::alike(row.text, page),
             "copies of std" => copies::of_std(row.text, page),
-            call => numbers::number(call, row.text, page),
+            call if call.ends_with("suffixed") => numbers::number(call, row.text, page),
+            call => escapes::inside(call, row.text, page),
         }
     }
 }

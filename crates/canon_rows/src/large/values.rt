@@ -1,6 +1,6 @@
 //! Leaves of large texts, and their values.
 
-use crate::shown::is_shown;
+use super::shown::is_shown;
 use rows::{Page, Unanswered};
 use rust_leaf::ident::Ident;
 use rust_leaf::literal::Literal;

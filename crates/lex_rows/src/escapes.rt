@@ -1,8 +1,6 @@
-//! Answers a table of insides of literals by the escape calls: what the callbacks hear, in order, to the inside's end.
-//! What is wanted comes from the rules, and stands beside the questions in `stdout`.
-#![tactic(auto)]
+//! What the escape calls say of the insides of literals: what the callbacks hear, in order, to the inside's end.
 
-use rows::{Page, Row, Table, Unanswered, answer_asked};
+use rows::{Page, Unanswered};
 use rust_escape::lexical::inside_end;
 use rust_escape::{
     EscapeError, MixedUnit, Mode, NonZeroChar, check_for_errors, check_raw_byte_str,
@@ -44,14 +42,11 @@ impl Value for MixedUnit {
     }
 }
 
-struct Calls;
-
-impl Table for Calls {
-    fn answer(&self, row: Row, page: &mut Page) -> Result<(), Unanswered> {
-        match row.call.split_once(' ') {
-            Some((call, mode)) => judge(call, mode, row.text, page),
-            None => hear(row.call, row.text, page),
-        }
+/// What an escape call, by its name and a mode's where it takes one, says of an inside.
+pub fn inside(call: &str, text: &str, page: &mut Page) -> Result<(), Unanswered> {
+    match call.split_once(' ') {
+        Some((call, mode)) => judge(call, mode, text, page),
+        None => hear(call, text, page),
     }
 }
 
@@ -160,8 +155,4 @@ fn put_first_words(text: &str, mode: Mode, page: &mut Page) {
         Some(error) => write!(page, "warning: {error}"),
         None => page.put("nothing"),
     }
-}
-
-fn main(rt: HostRuntime) -> Result<(), Unanswered> {
-    answer_asked(&rt, &Calls)
 }

@@ -1,7 +1,8 @@
 //! What the calls answer of a large text.
 
-use crate::shown::{is_shown, is_text};
-use canon::{Watched, canonical, run};
+use super::shown::{is_shown, is_text};
+use crate::outputs::{answer, is_line};
+use canon::{Watched, run};
 use proc_macro2::tree::{Group, TokenStream, TokenTree};
 use rows::{Page, Unanswered};
 use rust_map::SourceMap;
@@ -142,7 +143,7 @@ fn place(alloc: Global, span: Span, source: &str, map: &SourceMap) -> Option<(us
 
 /// Whether `canonical` answers the wanted text.
 pub fn canonical_is(alloc: Global, source: &str, wanted: &str) -> bool {
-    match canonical(alloc, source, &mut SourceMap::new(alloc)) {
+    match answer(alloc, source) {
         Ok(output) => output.as_str() == wanted,
         Err(_) => false,
     }
@@ -153,6 +154,5 @@ pub fn runs_to(alloc: Global, source: &str, wanted: &str) -> bool {
     let mut reader = Watched::new(source.as_bytes());
     let mut writer = Watched::new(Vec::new(alloc));
     let is_run = run(alloc, &mut reader, &mut writer).is_ok();
-    let written = writer.get_ref().as_slice();
-    is_run && written.strip_suffix(b"\n") == Some(wanted.as_bytes())
+    is_run && is_line(writer.get_ref().as_slice(), wanted)
 }
