@@ -198,13 +198,13 @@ fn one_inside<'a>(arena: &'a Arena, form: &Pat<'_, 'a>) -> Result<Option<Tree<'a
         Pat::Rest(found) => Seconds(3, First(found)).to_some_tree(arena),
         Pat::Paren(found) => Seconds(4, First(found)).to_some_tree(arena),
         Pat::Tuple(found) => Seconds(4, First(found)).to_some_tree(arena),
-        Pat::Or(found) => Seconds(4, First(InParens(found))).to_some_tree(arena),
+        Pat::Or(found) => Ok(Some(Seconds(4, First(InParens(found))).to_tree(arena)?)),
         Pat::Slice(found) => Seconds(5, First(found)).to_some_tree(arena),
         Pat::Reference(found) => Seconds(6, First(found)).to_some_tree(arena),
         Pat::Lit(found) => Seconds(7, First(found)).to_some_tree(arena),
-        Pat::Path(found) => Seconds(8, found).to_some_tree(arena),
-        Pat::Struct(found) => Seconds(8, found).to_some_tree(arena),
-        Pat::TupleStruct(found) => Seconds(8, found).to_some_tree(arena),
+        Pat::Path(found) => Ok(Some(Seconds(8, found).to_tree(arena)?)),
+        Pat::Struct(found) => Ok(Some(Seconds(8, found).to_tree(arena)?)),
+        Pat::TupleStruct(found) => Ok(Some(Seconds(8, found).to_tree(arena)?)),
     }
 }
 

@@ -155,7 +155,7 @@ impl<'t, 'a> TryToTree<'a> for Signature<'t, 'a> {
         let types = (self.inputs, self.output, where_clause);
         let named = (self.abi, self.fn_token, ident, (generics, types));
         let inside = (self.constness, self.asyncness, self.safety, named);
-        some_node(arena, Kind::Signature(self.place), &inside)
+        Ok(Some(node(arena, Kind::Signature(self.place), &inside)?))
     }
 }
 

@@ -49,17 +49,18 @@ fn macro_end<'a>(
         (λ x. IsMacroEnd delimiter semi_token
         × (x ≡ macro_end_tree delimiter semi_token (raw_tree tokens.entry)))) }
 {
+    let raw = made::raw(arena, tokens)?;
     match (delimiter, semi_token) {
         (MacroDelimiter::Brace(braces), None) => {
-            First(Grouped(braces, tokens)).to_some_tree(arena)
+            Ok(Some(First(Grouped(braces, &raw)).to_tree(arena)?))
         }
         (MacroDelimiter::Paren(parentheses), Some(semi)) => {
-            let inside = First(Grouped(parentheses, tokens));
-            Second((inside, semi)).to_some_tree(arena)
+            let inside = First(Grouped(parentheses, &raw));
+            Ok(Some(Second((inside, semi)).to_tree(arena)?))
         }
         (MacroDelimiter::Bracket(brackets), Some(semi)) => {
-            let inside = Second(Grouped(brackets, tokens));
-            Second((inside, semi)).to_some_tree(arena)
+            let inside = Second(Grouped(brackets, &raw));
+            Ok(Some(Second((inside, semi)).to_tree(arena)?))
         }
         _ => Ok(None),
     }
