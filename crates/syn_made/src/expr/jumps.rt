@@ -70,7 +70,7 @@ impl<'t, 'a> TryToTree<'a> for ExprRange<'t, 'a> {
         if is_range_end(self.limits, self.end) {
             let kind = limits_kind(self.limits);
             let form = AnyForm(self.start, kind, limits_mark(self.limits), self.end);
-            return form.to_some_tree(arena);
+            return Ok(Some(form.to_tree(arena)?));
         }
         Ok(None)
     }

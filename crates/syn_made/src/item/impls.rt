@@ -1,13 +1,13 @@
 //! Impls.
 
-ghost use Rattle.std.specs.Prelude.{◌≡◌, ◌↔◌, IsTrue};
+ghost use Rattle.std.specs.Prelude.{◌≡◌, ◌↔◌, IfOk, IsTrue};
 ghost use Rattle.syn_grammar.specs.Tree as t;
 ghost use Rattle.syn_item.specs.ItemImpls.{impl_body_tree, impl_items, item_impl};
 ghost use Rattle.syn_made.specs.MadeWhole.{IsPolarityOf};
 
 use crate::forms::{Called, First, Grouped, Second};
 use crate::item::part::MaybeCalled;
-use crate::put::{node, some_node};
+use crate::put::node;
 use crate::to_tree::ToTree;
 use crate::try_to_tree::TryToTree;
 use gram_table::kind::Kind;
@@ -44,6 +44,20 @@ impl<'i, 't, 'a> ToTree<'a> for ImplBody<'i, 't, 'a> {
     }
 }
 
+// An impl, as a node of its kind.
+fn impl_node<'a>(arena: &'a Arena, item: &ItemImpl<'_, 'a>) -> Result<Tree<'a>, AllocError>
+    ensures { IfOk result (λ x. x ≡ item_impl item.now) }
+{
+    let defaultness = MaybeCalled(Part::Default, item.modifiers.defaultness);
+    let constness = MaybeCalled(Part::Const, item.constness);
+    let unsafety = MaybeCalled(Part::Safety, item.unsafety);
+    let generics = Called(Part::Generics, item.generics);
+    let polarity = MaybeCalled(Part::Polarity, item.modifiers.polarity);
+    let named = (item.impl_token, generics, polarity, ImplBody(item));
+    let inside = (defaultness, constness, unsafety, named);
+    node(arena, Kind::AnImpl, &First(inside))
+}
+
 // Whether `!` may stand there, if it does: before a trait alone.
 fn is_polarity_of(of: Option<ImplTrait<'_, '_>>, polarity: Option<Mark>) -> bool
     ensures { IsTrue result ↔ IsPolarityOf of.entry polarity }
@@ -59,17 +73,10 @@ impl<'t, 'a> TryToTree<'a> for ItemImpl<'t, 'a> {
     ghost says = { λ x tree. IsPolarityOf x.trait_ x.modifiers.polarity × (tree ≡ item_impl x) };
 
     fn try_to_tree(&self, arena: &'a Arena) -> Result<Option<Tree<'a>>, AllocError> {
-        if !is_polarity_of(self.trait_, self.modifiers.polarity) {
-            return Ok(None);
+        if is_polarity_of(self.trait_, self.modifiers.polarity) {
+            return Ok(Some(impl_node(arena, self)?));
         }
-        let defaultness = MaybeCalled(Part::Default, self.modifiers.defaultness);
-        let constness = MaybeCalled(Part::Const, self.constness);
-        let unsafety = MaybeCalled(Part::Safety, self.unsafety);
-        let generics = Called(Part::Generics, self.generics);
-        let polarity = MaybeCalled(Part::Polarity, self.modifiers.polarity);
-        let named = (self.impl_token, generics, polarity, ImplBody(self));
-        let inside = (defaultness, constness, unsafety, named);
-        some_node(arena, Kind::AnImpl, &First(inside))
+        Ok(None)
     }
 }
 

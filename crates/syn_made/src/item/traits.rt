@@ -6,7 +6,7 @@ ghost use Rattle.syn_made.specs.MadeWhole.{IsAliasHead, IsTraitHead};
 
 use crate::forms::{Called, First, Grouped, Second};
 use crate::item::part::MaybeCalled;
-use crate::put::{node, some_node};
+use crate::put::node;
 use crate::to_tree::ToTree;
 use crate::try_to_tree::TryToTree;
 use gram_table::kind::Kind;
@@ -65,7 +65,7 @@ impl<'t, 'a> TryToTree<'a> for ItemTraitAlias<'t, 'a> {
             end,
         );
         let inside = (unsafety, auto_token, self.trait_token, named);
-        some_node(arena, Kind::ATrait, &First(inside))
+        Ok(Some(node(arena, Kind::ATrait, &First(inside))?))
     }
 }
 
@@ -75,8 +75,11 @@ impl<'t, 'a> TryToTree<'a> for TraitForm<'t, 'a> {
     #[tactic(auto, using(crate::proofs::TraitForms::no_alias))]
     fn try_to_tree(&self, arena: &'a Arena) -> Result<Option<Tree<'a>>, AllocError> {
         match *self {
-            TraitForm::Trait(item) => item.to_some_tree(arena),
-            TraitForm::Alias(item) => item.try_to_tree(arena),
+            TraitForm::Trait(item) => Ok(Some(item.to_tree(arena)?)),
+            TraitForm::Alias(item) => match item.try_to_tree(arena)? {
+                Some(tree) => Ok(Some(tree)),
+                None => Ok(None),
+            },
         }
     }
 }
