@@ -11,6 +11,8 @@ use Rattle.gram_tree.specs.Forms.{mark_of}
 use Rattle.syn.specs.declared.leaf.Leaf.{Leaf}
 use Rattle.syn.specs.declared.leaf.Leaf.TheVariants as leaves
 
+-- of a leaf: a word, a literal, the marks of a punctuation, all joint but the last, ' and a word, the mark between two
+-- elements, the mark that opens or closes a group, or the tokens that are kept as they are
 abbrev pub leaf_tokens : Leaf → List Token
 leaf_tokens (leaves.Ident i) = Ident (ident_text i.now) ∷ []
 leaf_tokens (leaves.Literal l) = Literal (literal_text l.now) ∷ []

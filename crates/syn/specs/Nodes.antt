@@ -3,6 +3,8 @@ use Rattle.std.specs.Prelude.{List, [], ◌∷◌, ◌++◌}
 use Rattle.syn_grammar.specs.Tree.{Tree, Pair, First, Second, Again, Final, More, Group, Dropped, Called, Verbatim}
 use Rattle.syn_grammar.specs.Tree.{Node, Whole, Alone, Front, Back, Infix}
 
+-- A node, or a form of an expression, and behind it those in it: those of what stands first in the text first. There
+-- are none in raw tokens, nor in what is held by hand and never printed.
 abbrev pub nodes : Tree → List Tree
 nodes (Pair x y) = nodes x ++ nodes y
 nodes (First x) = nodes x

@@ -12,24 +12,27 @@ use Rattle.syn_item.specs.declared.function.Safety.TheVariants as safeties
 use Rattle.syn.specs.Reading.{NoWord, StandsWord, left}
 use Rattle.syn.specs.declared.reader.Reader.{Reader}
 
--- how a function is called
+-- the binary interface of a function: extern
 abbrev pub abi_stands : Look
 abi_stands = at "extern"
 
--- lifetimes that are bound
+-- lifetimes that are bound: for
 abbrev pub bound_lifetimes_stand : Look
 bound_lifetimes_stand = at "for"
 
--- a where clause
+-- a where clause: where
 abbrev pub where_clause_stands : Look
 where_clause_stands = at "where"
 
+-- the word is unsafe
 abbrev pub is_unsafe : List ℕ → Bool
 is_unsafe cs = same_text (codes "unsafe") cs
 
+-- the word is safe
 abbrev pub is_safe : List ℕ → Bool
 is_safe cs = same_text (codes "safe") cs
 
+-- the word is mut
 abbrev pub is_mut : List ℕ → Bool
 is_mut cs = same_text (codes "mut") cs
 

@@ -11,7 +11,7 @@ use Rattle.syn_grammar.specs.Tree.{Tree, flat}
 use Rattle.syn_grammar.specs.Gram.{ref}
 use Rattle.syn_grammar.specs.Derives.{Derives}
 
--- All of the tokens are a tree of the kind.
+-- All of the tokens are a tree of the kind, where nothing follows it.
 abbrev pub IsAll : Kind → List Token → Tree → Type 0
 IsAll k tokens tree = Derives tree (ref k) [] × (flat tree ≡ tokens)
 

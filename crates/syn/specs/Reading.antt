@@ -77,6 +77,7 @@ NoGroup d ts = (rest : List Token) → ts ≡ Opens d ∷ rest → ⊥
 abbrev pub standing : Reader → Span
 standing r = next_span r.closing (spanned_left r)
 
+-- no token is left
 abbrev pub are_none : List Entry → Bool
 are_none [] = true
 are_none (e ∷ es) = false

@@ -15,11 +15,11 @@ use Rattle.syn_grammar.specs.Name as n
 use Rattle.syn_grammar.specs.Tree as t
 use Rattle.syn_grammar.specs.Tree.{Tree}
 
--- outer attributes
+-- outer attributes, one behind the other: #[a] #[b]
 abbrev pub outer_attributes : OuterAttributes → Tree
 outer_attributes x = t.Node k.OuterAttributes (turns_tree x.attrs)
 
--- inner attributes
+-- inner attributes, one behind the other: #![a] #![b]
 abbrev pub inner_attributes : InnerAttributes → Tree
 inner_attributes x = t.Node k.InnerAttributes (turns_tree x.attrs)
 
@@ -32,7 +32,7 @@ styled (styles.Inner n) m x = t.Node k.InnerAttribute (t.Pair (mark_tree m) (t.P
 abbrev pub attribute : Attribute → Tree
 attribute x = styled x.style x.pound_token (t.Group x.bracket_token.delimiter x.meta.now)
 
--- unsafe, or a path
+-- what an attribute begins with: unsafe, or a path
 abbrev pub meta_path_tree : MetaPath → Tree
 meta_path_tree (paths.Unsafe i) = t.First (word_tree i)
 meta_path_tree (paths.Path x) = t.Second x.now
@@ -41,7 +41,7 @@ meta_path_tree (paths.Path x) = t.Second x.now
 abbrev pub meta_value_tree : Mark → Tree → Tree
 meta_value_tree m x = t.Pair (mark_tree m) (t.Second (t.Called n.the_value x))
 
--- a path alone, with tokens in a group, or with a value
+-- a path alone (or unsafe), with tokens in a group, or with = and a value
 abbrev pub meta_inside : Meta → Tree
 meta_inside (metas.Path p) = t.Pair (meta_path_tree p) (t.Second (t.Second t.Nil))
 meta_inside (metas.List x) = t.Pair (meta_path_tree x.path) (t.First x.delimited.now)

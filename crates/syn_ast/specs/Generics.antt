@@ -42,11 +42,11 @@ generics x = t.Node k.Generics (optional_tree angled_params_tree x.params)
 abbrev pub impl_generics : ImplGenerics → Tree
 impl_generics x = t.Node k.ImplGenerics (optional_tree angled_params_tree x.params)
 
--- generic parameters
+-- generic parameters with commas between them: A, B
 abbrev pub generic_params : GenericParams → Tree
 generic_params x = t.Node k.GenericParams (list_tree x.params)
 
--- a lifetime as a parameter: 'a: 'b
+-- a lifetime as a parameter, with its attributes: 'a: 'b
 abbrev pub lifetime_param : LifetimeParam → Tree
 lifetime_param x = t.Node k.LifetimeParam (t.Pair x.attrs.now (t.Pair (lifetime_tree x.lifetime) x.colon.now))
 
@@ -58,7 +58,7 @@ lifetime_colon x = t.Node k.LifetimeColon (optional_tree marked_bounds_tree x.bo
 abbrev pub bounds_colon : BoundsColon → Tree
 bounds_colon x = t.Node k.BoundsColon (optional_tree marked_bounds_tree x.bounds)
 
--- a type as a parameter: T: A = B
+-- a type as a parameter, with its attributes: T: A = B
 abbrev pub type_param : TypeParam → Tree
 type_param x = t.Node k.TypeParam (t.Pair x.attrs.now (t.Pair (word_tree x.ident) (t.Pair x.colon.now
     (optional_tree marked_tree x.default))))
@@ -77,10 +77,11 @@ const_value (values.Lit l) = t.First (lit_tree l)
 const_value (values.Block x) = t.Second (t.First x.now)
 const_value (values.«Ident» i) = t.Second (t.Second (word_tree i))
 
+-- that value behind =
 abbrev pub const_default_tree : ConstDefault → Tree
 const_default_tree x = t.Pair (mark_tree x.eq_token) (t.Called n.the_value (const_value x.value))
 
--- a constant as a parameter: const N: T = 1
+-- a constant as a parameter, with its attributes: const N: T = 1
 abbrev pub const_param : ConstParam → Tree
 const_param x = t.Node k.ConstParam (t.Pair x.attrs.now (t.Pair (word_tree x.const_token) (t.Pair (word_tree x.ident)
     (t.Pair (mark_tree x.colon_token) (t.Pair x.ty.now (optional_tree const_default_tree x.default))))))
@@ -91,18 +92,20 @@ generic_param_inside (parameters.Lifetime x) = t.First (t.Called n.the_lifetime 
 generic_param_inside (parameters.Const x) = t.Second (t.First (const_param x))
 generic_param_inside (parameters.«Type» x) = t.Second (t.Second (type_param x))
 
+-- a parameter, as a node
 abbrev pub generic_param : GenericParam → Tree
 generic_param x = t.Node k.GenericParam (generic_param_inside x)
 
--- a where clause, behind which one of its ends stands: where A: B, C: D
+-- a where clause: where A: B, C: D; one of its ends stands behind it, of which nothing is taken
 abbrev pub where_clause : WhereClause → Tree
 where_clause x = t.Node k.WhereClause (t.Pair (word_tree x.where_token) (t.Pair
     (t.Called n.the_parameters (list_tree x.predicates)) (t.First t.Nil)))
 
--- a where clause, where one stands
+-- a where clause that stands, as a part
 abbrev pub clause_tree : Bor Tree → Tree
 clause_tree x = t.Called n.the_clause x.now
 
+-- a where clause, or none
 abbrev pub optional_where : OptionalWhere → Tree
 optional_where x = t.Node k.Where (optional_tree clause_tree x.clause)
 
@@ -115,10 +118,11 @@ abbrev pub predicate_type : PredicateType → Tree
 predicate_type x = t.Pair (optional_tree node_tree x.lifetimes) (t.Pair x.bounded_ty.now (t.Pair
     (mark_tree x.colon_token) x.bounds.now))
 
+-- what is asked: of a lifetime, or of a type
 abbrev pub where_predicate_inside : WherePredicate → Tree
 where_predicate_inside (predicates.Lifetime x) = t.First (predicate_lifetime x)
 where_predicate_inside (predicates.«Type» x) = t.Second (predicate_type x)
 
--- what a where clause asks
+-- what a where clause asks, as a node
 abbrev pub where_predicate : WherePredicate → Tree
 where_predicate x = t.Node k.WherePredicate (where_predicate_inside x)

@@ -6,15 +6,17 @@ use Rattle.syn_grammar.specs.Tree.{Tree}
 use Rattle.syn_ast.specs.declared.iter.Iter.{Iter}
 use denote.Bor.{Bor}
 
--- those that a mark follows, and the last one, if none follows it
+-- the elements of a list: those that a mark follows, and the last one, if none follows it
 abbrev pub parts : Tree → List Tree
 parts (t.More x c spacing y) = x ∷ parts y
 parts (t.Final x) = x ∷ []
 parts _ = []
 
+-- the last one, if there is one
 abbrev pub last_part : Option (Bor Tree) → List Tree
 last_part None = []
 last_part (Some x) = x.now ∷ []
 
+-- the elements that an iterator has left: those that a mark follows, and then the last one, if none follows it
 abbrev pub iter_left : Iter → List Tree
 iter_left i = map (λ e. e.tree) (iter_rest i.before) ++ last_part i.last

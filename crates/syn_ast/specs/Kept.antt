@@ -1,6 +1,7 @@
 -- What is kept as it was read, of what is judged.
 use Rattle.syn_grammar.specs.Tree.{Tree, First, Node}
 
+-- the first of a choice was chosen; of what was judged, that it is kept as it was read
 abbrev pub IsFirst : Tree → Type 0
 IsFirst (First x) = Unit {0}
 IsFirst _ = ⊥

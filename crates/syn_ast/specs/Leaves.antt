@@ -1,4 +1,5 @@
--- The trees that leaves are, that lists are, and what may be missing or was chosen.
+-- The trees that leaves are, that lists are, and what may be missing or was chosen. Where it is said of the parts of a
+-- type, here or beside, that there is no tree, what is given has not the shape of the entry.
 use Rattle.std.specs.Prelude.{List, Option, Some, None, map}
 use Rattle.rust_leaf.specs.Leaf.{ident_text, literal_text}
 use Rattle.rust_leaf.specs.declared.ident.Ident.{Ident}
@@ -28,15 +29,19 @@ use Rattle.syn_ast.specs.declared.take.Choice5.{Choice5}
 use Rattle.syn_ast.specs.declared.take.Choice5.TheVariants as choices5
 use denote.Bor.{Bor}
 
+-- an identifier or a keyword, by its text
 abbrev pub word_tree : Bor Ident → Tree
 word_tree i = t.AWord (ident_text i.now)
 
+-- a literal, by its text
 abbrev pub literal_tree : Bor Literal → Tree
 literal_tree l = t.ALiteral (literal_text l.now)
 
+-- a punctuation, and how its last mark is spaced
 abbrev pub mark_tree : Mark → Tree
 mark_tree m = mark_of (sign_text m.sign) m.spacing
 
+-- a lifetime, by the text of the word behind its '
 abbrev pub lifetime_tree : Lifetime → Tree
 lifetime_tree l = t.ALifetime (ident_text l.ident.now)
 
@@ -49,21 +54,26 @@ abbrev pub optional_tree : {A : Type 0} → (A → Tree) → Option A → Tree
 optional_tree f None = t.Second t.Nil
 optional_tree f (Some x) = t.First (f x)
 
+-- the elements that the separator follows, each with how that is spaced, and the last one, if none follows it
 abbrev pub list_tree : Elements → Tree
 list_tree l = elements (separator_of l.separator) l.before.now (ending node_tree l.last)
 
+-- turns, one behind the other
 abbrev pub turns_tree : Turns → Tree
 turns_tree r = turns r.each.now
 
+-- which of two was chosen
 abbrev pub choice_tree : Choice → Tree
 choice_tree (choices.First x) = t.First x.now
 choice_tree (choices.Second x) = t.Second x.now
 
--- of a choice among several: what stands behind those that were not chosen, and whether the first was
+-- of a choice among several, what stands behind alternatives that were not chosen: so many times the second, and behind
+-- these the first, or a tree of which nothing is said
 abbrev pub behind_tree : Behind → Tree
 behind_tree (behinds.First n x) = seconds n (t.First x.now)
 behind_tree (behinds.Second n x) = seconds n x.now
 
+-- of a choice among several: the first was chosen, or this stands behind it
 abbrev pub step_tree : Step → Tree
 step_tree (steps.First x) = t.First x.now
 step_tree (steps.Behind b) = t.Second (behind_tree b)
@@ -89,6 +99,6 @@ choice5_tree (choices5.Third x) = t.Second (t.Second (t.First x.now))
 choice5_tree (choices5.Fourth x) = t.Second (t.Second (t.Second (t.First x.now)))
 choice5_tree (choices5.Fifth x) = t.Second (t.Second (t.Second (t.Second x.now)))
 
--- tokens that are kept as they are
+-- tokens that are kept as they are, spacing included
 abbrev pub raw_tree : Bor (List Entry) → Tree
 raw_tree r = t.Raw (map entry_token r.now)

@@ -42,7 +42,7 @@ pat_wild x = t.Node k.WildPattern (word_tree x.underscore_token)
 abbrev pub pat_rest : PatRest → Tree
 pat_rest x = t.Node k.RestPattern (mark_tree x.dot2_token)
 
--- a reference: &mut a
+-- a reference: &a, &mut a
 abbrev pub pat_reference : PatReference → Tree
 pat_reference x = t.Node k.ReferencePattern (t.Pair (mark_tree x.and_token) (t.Pair
     (optional_tree word_tree x.mutability) x.pat.now))
@@ -51,11 +51,11 @@ pat_reference x = t.Node k.ReferencePattern (t.Pair (mark_tree x.and_token) (t.P
 abbrev pub pat_slice : PatSlice → Tree
 pat_slice x = t.Node k.SlicePattern (t.Group x.bracket_token.delimiter (list_tree x.elems))
 
--- a tuple, or a pattern in parentheses
+-- a tuple, or a pattern in parentheses: any list of patterns in them
 abbrev pub pat_parenthesized : PatParenthesized → Tree
 pat_parenthesized x = t.Node k.TuplePattern (t.Group x.paren_token.delimiter (list_tree x.elems))
 
--- alternatives: | a | b
+-- alternatives, with a | in front or without: | a | b
 abbrev pub pat_or : PatOr → Tree
 pat_or x = t.Node k.Pattern (t.Pair (optional_tree mark_tree x.leading_vert) (t.Pair x.first.now (turns_tree x.others)))
 
@@ -63,7 +63,7 @@ pat_or x = t.Node k.Pattern (t.Pair (optional_tree mark_tree x.leading_vert) (t.
 abbrev pub pat_several : PatSeveral → Tree
 pat_several x = t.Node k.SeveralPatterns (t.Pair x.first.now (turns_tree x.others))
 
--- behind a name perhaps @ and a pattern; before a ! it would be refused
+-- behind a name perhaps @ and a pattern; what stands there is no !, before which it would be refused
 abbrev pub subpattern : Option Marked → Tree
 subpattern o = t.Second (optional_tree marked_tree o)
 
@@ -77,22 +77,22 @@ abbrev pub range_limits : RangeLimits → Tree
 range_limits (limits.Closed m) = t.First (mark_tree m)
 range_limits (limits.HalfOpen m) = t.Second (mark_tree m)
 
--- a range without a start: ..=a
+-- a range without a start: ..=a, ..a
 abbrev pub pat_range_to : PatRangeTo → Tree
 pat_range_to x = t.Node k.RangeToPattern (t.Pair (range_limits x.limits) x.end.now)
 
--- the end of a range: ..= and an end, or .. and perhaps one
+-- what makes a range of what stands before it: ..= and an end, or .. and perhaps one; ..= alone is none
 abbrev pub range_end : RangeLimits → Option (Bor Tree) → Tree
 range_end (limits.Closed m) (Some x) = t.First (t.Pair (mark_tree m) x.now)
 range_end (limits.HalfOpen m) o = t.Second (t.Pair (mark_tree m) (optional_tree node_tree o))
 range_end (limits.Closed m) None = t.Nil
 
--- - and a number, or a literal
+-- a literal, or a number behind -
 abbrev pub signed_lit_tree : SignedLit → Tree
 signed_lit_tree (signed.Negative m l) = t.First (t.Pair (mark_tree m) (literal_tree l))
 signed_lit_tree (signed.Plain l) = t.Second (lit_tree l)
 
--- a literal, or a range that begins with one
+-- a literal, alone or as a range's start
 abbrev pub literal_pattern : LiteralPattern → Tree
 literal_pattern x = t.Node k.LiteralPattern (t.Pair (signed_lit_tree x.lit) (optional_tree node_tree x.end))
 
@@ -101,10 +101,11 @@ abbrev pub range_bound_inside : RangeBound → Tree
 range_bound_inside (bounds.Lit l) = t.First (signed_lit_tree l)
 range_bound_inside (bounds.Path x) = t.Second x.now
 
+-- a bound of a range, as a node
 abbrev pub range_bound : RangeBound → Tree
 range_bound x = t.Node k.RangeBound (range_bound_inside x)
 
--- behind a path: patterns, fields, the end of a range, or nothing
+-- behind a path: patterns in parentheses, fields in braces, the end of a range, or nothing
 abbrev pub path_behind : PathBehind → Tree
 path_behind (behind.Tuple d l) = t.First (t.Group d.delimiter (list_tree l))
 path_behind (behind.Struct x) = t.Second (t.First x.now)
@@ -134,6 +135,6 @@ field_pattern_tree (fields.Rest x) = t.First (t.Called n.the_rest x.now)
 field_pattern_tree (fields.Member x) = t.Second (t.First (member_pattern_tree x))
 field_pattern_tree (fields.Shorthand x) = t.Second (t.Second (shorthand_tree x))
 
--- a field of a struct's pattern, or ..
+-- a field of a struct's pattern, or .., behind its attributes
 abbrev pub field_pat : FieldPat → Tree
 field_pat x = t.Node k.FieldPattern (t.Pair x.attrs.now (field_pattern_tree x.pattern))

@@ -6,7 +6,7 @@ use Rattle.syn_grammar.specs.Kind as k
 use Rattle.syn_grammar.specs.Tree as t
 use Rattle.syn_grammar.specs.Tree.{Tree}
 
--- how many segments there are: those behind the first one stand in it, at its end, and so on
+-- how many segments there are: a first one, and those that stand at its end behind a ::, each with the others in it
 abbrev pub segment_count : Tree → ℕ
 segment_count (t.Node (k.Segments s) x) = suc (segment_count x)
 segment_count (t.Pair x y) = segment_count y
@@ -19,7 +19,7 @@ abbrev pub further_count : Option Marked → ℕ
 further_count None = 0
 further_count (Some x) = segment_count x.node.now
 
--- how many segments a path has
+-- how many segments a path has; what is no path, as a qualified one, has none
 abbrev pub path_count : Tree → ℕ
 path_count (t.Node (k.Path s) x) = segment_count x
 path_count _ = 0

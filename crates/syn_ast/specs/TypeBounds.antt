@@ -18,10 +18,11 @@ abbrev pub bound_inside : TypeParamBound → Tree
 bound_inside (bounds.Lifetime l) = t.First (lifetime_tree l)
 bound_inside (bounds.Trait x) = t.Second (t.Called n.the_path x.now)
 
+-- a bound, as a node
 abbrev pub type_param_bound : TypeParamBound → Tree
 type_param_bound x = t.Node k.Bound (bound_inside x)
 
--- what stands before a trait: ?, or perhaps for<'a>
+-- what stands before a trait: ?, or for<'a>, or nothing, and never both
 abbrev pub trait_front : TraitBoundModifier → Option (Bor Tree) → Tree
 trait_front (modifiers.Maybe m) None = t.First (mark_tree m)
 trait_front modifiers.None o = t.Second (optional_tree node_tree o)
@@ -31,6 +32,6 @@ trait_front (modifiers.Maybe m) (Some x) = t.Nil
 abbrev pub trait_bound : TraitBound → Tree
 trait_bound x = t.Node k.TraitPath (t.Pair (trait_front x.modifier x.lifetimes) x.path.now)
 
--- bounds of which one at least is a trait
+-- bounds with + between them, which are kept as one at least of those that were read is a trait
 abbrev pub some_bounds : SomeBounds → Tree
 some_bounds x = t.Node k.SomeBounds (t.First (list_tree x.bounds))

@@ -36,12 +36,12 @@ use Rattle.syn_grammar.specs.Name as n
 use Rattle.syn_grammar.specs.Tree as t
 use Rattle.syn_grammar.specs.Tree.{Tree}
 
--- which of both words stands there
+-- whether what a pointer points to can be written: const, or mut
 abbrev pub pointer_mutability : PointerMutability → Tree
 pointer_mutability (mutabilities.Const i) = t.First (word_tree i)
 pointer_mutability (mutabilities.Mut i) = t.Second (word_tree i)
 
--- several bounds, or one
+-- bounds behind dyn or impl: a list, where + may stand between them, or the one that stands where no + may
 abbrev pub type_bounds : TypeBounds → Tree
 type_bounds (boundses.Several x) = t.Called n.the_bounds x.now
 type_bounds (boundses.One x) = t.Second x.now
@@ -51,7 +51,7 @@ abbrev pub type_ptr : TypePtr → Tree
 type_ptr x = t.Node k.PointerType (t.Pair (mark_tree x.star_token) (t.Pair
     (pointer_mutability x.mutability) x.elem.now))
 
--- a reference: &'a mut T
+-- a reference: &'a mut T, the lifetime and mut where they stand
 abbrev pub type_reference : TypeReference → Tree
 type_reference x = t.Node k.ReferenceType (t.Pair (mark_tree x.and_token) (t.Pair
     (optional_tree lifetime_tree x.lifetime) (t.Pair (optional_tree word_tree x.mutability) x.elem.now)))
@@ -64,25 +64,25 @@ type_never x = t.Node k.NeverType (mark_tree x.bang_token)
 abbrev pub type_infer : TypeInfer → Tree
 type_infer x = t.Node k.InferType (word_tree x.underscore_token)
 
--- a function pointer: for<'a> unsafe extern "C" fn(A, B) -> C
+-- a function pointer: for<'a> unsafe extern "C" fn(A, B) -> C, what stands before fn where it does
 abbrev pub type_fn_ptr : TypeFnPtr → Tree
 type_fn_ptr x = t.Node k.FnPtrType (t.Pair (optional_tree node_tree x.lifetimes) (t.Pair
     (optional_tree word_tree x.unsafety) (t.Pair (optional_tree node_tree x.abi) (t.Pair (word_tree x.fn_token)
     (t.Pair (t.Group x.paren_token.delimiter (list_tree x.inputs)) x.output.now)))))
 
--- the name of an argument of a function pointer: a:
+-- the name of an argument of a function pointer: a:, _:
 abbrev pub argument_name_tree : ArgumentName → Tree
 argument_name_tree x = t.Pair (name_tree x.ident) (mark_tree x.colon_token)
 
--- an argument of a function pointer: a: T
+-- an argument of a function pointer: its attributes, its name if it has one, and its type: a: T
 abbrev pub fn_ptr_arg : FnPtrArg → Tree
 fn_ptr_arg x = t.Node k.FnPtrArg (t.Pair x.attrs.now (t.Pair (optional_tree argument_name_tree x.name) x.ty.now))
 
--- the binary interface of a function: extern "C"
+-- the binary interface of a function: extern "C", or extern alone
 abbrev pub abi : Abi → Tree
 abi x = t.Node k.Abi (t.Pair (word_tree x.extern_token) (optional_tree literal_tree x.name))
 
--- lifetimes that are bound: for<'a>
+-- lifetimes that are bound, each as a parameter: for<'a>
 abbrev pub bound_lifetimes : BoundLifetimes → Tree
 bound_lifetimes x = t.Node k.BoundLifetimes (t.Pair (word_tree x.for_token) (t.Pair (mark_tree x.lt_token) (t.Pair
     (list_tree x.lifetimes) (mark_tree x.gt_token))))
@@ -91,20 +91,20 @@ bound_lifetimes x = t.Node k.BoundLifetimes (t.Pair (word_tree x.for_token) (t.P
 abbrev pub return_type : ReturnType → Tree
 return_type x = t.Node (k.ReturnType (plus_of x.plus)) (optional_tree marked_type_tree x.ty)
 
--- a slice or an array
+-- a slice or an array: [T], [T; n]
 abbrev pub type_bracketed : TypeBracketed → Tree
 type_bracketed x = t.Node k.BracketType (t.Group x.bracket_token.delimiter (t.Pair x.elem.now
     (optional_tree marked_value_tree x.len)))
 
--- a tuple, or a type in parentheses
+-- a tuple, or a type in parentheses: any list of types in them
 abbrev pub type_parenthesized : TypeParenthesized → Tree
 type_parenthesized x = t.Node k.TupleType (t.Group x.paren_token.delimiter (list_tree x.elems))
 
--- the word, and bounds
+-- a trait object: dyn and its bounds
 abbrev pub type_trait_object : TypeTraitObject → Tree
 type_trait_object x = t.Node (k.DynType (plus_of x.plus)) (t.Pair (word_tree x.dyn_token) (type_bounds x.bounds))
 
--- the word, and bounds
+-- an opaque type: impl and its bounds
 abbrev pub type_impl_trait : TypeImplTrait → Tree
 type_impl_trait x = t.Node (k.ImplType (plus_of x.plus)) (t.Pair (word_tree x.impl_token) (type_bounds x.bounds))
 
@@ -113,31 +113,34 @@ abbrev pub any_path : AnyPath → Tree
 any_path (paths.Qualified x) = t.First x.now
 any_path (paths.Plain x) = t.Second x.now
 
+-- either of them, in the style that it is written in
 abbrev pub type_path : TypePath → Tree
 type_path x = t.Node (k.AnyPath (style_of x.style)) (any_path x.path)
 
--- a slice and an array
+-- a slice: [T]
 abbrev pub type_slice : TypeSlice → Tree
 type_slice x = t.Node k.BracketType (t.Group x.bracket_token.delimiter (t.Pair x.elem.now (t.Second t.Nil)))
 
+-- an array: [T; n]
 abbrev pub type_array : TypeArray → Tree
 type_array x =
     t.Node k.BracketType (t.Group x.bracket_token.delimiter
     (t.Pair x.elem.now (t.First (t.Pair (mark_tree x.semi_token) (t.Called n.the_value x.len.now)))))
 
--- a type in parentheses and a tuple
+-- a type in parentheses, without a comma: (T)
 abbrev pub type_paren : TypeParen → Tree
 type_paren x = t.Node k.TupleType (t.Group x.paren_token.delimiter (t.Final x.elem.now))
 
--- one type without a comma is no tuple
+-- the list of a tuple: one element without a comma is none, and of it there is no tuple's tree
 abbrev pub no_lone : Tree → Tree
 no_lone (t.Final x) = t.Nil
 no_lone l = l
 
+-- a tuple: (), (A,), (A, B)
 abbrev pub type_tuple : TypeTuple → Tree
 type_tuple x = t.Node k.TupleType (t.Group x.paren_token.delimiter (no_lone (list_tree x.elems)))
 
--- the form of a type
+-- the tree that a type is, by its form
 abbrev pub type_tree : Type' → Tree
 type_tree (types.Array x) = type_array x
 type_tree (types.FnPtr x) = type_fn_ptr x
@@ -152,7 +155,7 @@ type_tree (types.Slice x) = type_slice x
 type_tree (types.TraitObject x) = type_trait_object x
 type_tree (types.Tuple x) = type_tuple x
 
--- of a type that was read, its form
+-- of a node of the kind of types, with plus or without, its form: the alternative that was chosen
 abbrev pub form_of_type : Tree → Tree
 form_of_type (t.Node (k.AType p) x) = choice x
 form_of_type _ = t.Nil

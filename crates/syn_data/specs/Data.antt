@@ -19,7 +19,7 @@ use Rattle.syn_grammar.specs.Tree as t
 use Rattle.syn_grammar.specs.Tree.{Tree}
 use denote.Bor.{Bor}
 
--- a field of these parts, with a name
+-- a field of these parts, with a name: attributes, visibility, name, colon, type, and = and a value or none
 abbrev pub named_tree : Bor Tree → Bor Tree → Name → Mark → Bor Tree → Option MarkedValue → Tree
 named_tree a v i c x d = t.Node k.NamedField (t.Pair a.now (t.Pair v.now (t.Pair (name_tree i) (t.Pair (mark_tree c)
     (t.Pair x.now (optional_tree marked_value_tree d))))))
@@ -28,7 +28,7 @@ named_tree a v i c x d = t.Node k.NamedField (t.Pair a.now (t.Pair v.now (t.Pair
 abbrev pub named_field : NamedField → Tree
 named_field x = named_tree x.attrs x.vis x.ident x.colon_token x.ty x.default
 
--- a field of these parts, without a name
+-- a field of these parts, without a name: attributes, visibility, type
 abbrev pub unnamed_tree : Bor Tree → Bor Tree → Bor Tree → Tree
 unnamed_tree a v x = t.Node k.UnnamedField (t.Pair a.now (t.Pair v.now (t.Pair x.now (t.Second t.Nil))))
 
@@ -46,21 +46,21 @@ IsFieldOf _ _ _ a v x y = ⊥
 abbrev pub IsField : Field → Tree → Type 0
 IsField f y = IsFieldOf f.ident f.colon_token f.default f.attrs f.vis f.ty y
 
--- fields with names: { a: T }
+-- fields with names, in their braces: { a: T }
 abbrev pub fields_named : FieldsNamed → Tree
 fields_named x = t.Node k.NamedFields (t.Group x.brace_token.delimiter (list_tree x.named))
 
--- fields without names: (T, U)
+-- fields without names, in their parentheses: (T, U)
 abbrev pub fields_unnamed : FieldsUnnamed → Tree
 fields_unnamed x = t.Node k.UnnamedFields (t.Group x.paren_token.delimiter (list_tree x.unnamed))
 
--- the fields of a variant, behind its name
+-- the fields of a variant, behind its name: in braces, in parentheses, or none
 abbrev pub variant_fields : Fields → Tree
 variant_fields (fields.Named x) = t.First (fields_named x)
 variant_fields (fields.Unnamed x) = t.Second (t.First (fields_unnamed x))
 variant_fields fields.Unit = t.Second (t.Second t.Nil)
 
--- a variant of an enum: A { b: T } = c
+-- a variant of an enum, with its attributes and a visibility that is no part of the program: A { b: T } = c
 abbrev pub variant : Variant → Tree
 variant x = t.Node k.Variant (t.Pair x.attrs.now (t.Pair (t.Dropped x.vis.now) (t.Pair (word_tree x.ident) (t.Pair
     (variant_fields x.fields) (optional_tree marked_value_tree x.discriminant)))))

@@ -19,7 +19,7 @@ use Rattle.syn_grammar.specs.Tree as t
 use Rattle.syn_grammar.specs.Tree.{Tree}
 use denote.Bor.{Bor}
 
--- a struct, an enum or a union
+-- a struct, an enum or a union, behind its attributes and its visibility
 abbrev pub item_tree : DataItem → Tree
 item_tree (items.Struct x) = item_struct x
 item_tree (items.Enum x) = item_enum x
@@ -37,11 +37,11 @@ IsEnded (datas.Struct x) = IsClosed x.fields x.semi_token
 IsEnded (datas.Enum x) = Unit {0}
 IsEnded (datas.Union x) = Unit {0}
 
--- a tree that is a struct, an enum or a union
+-- a tree that has the shape of a struct, an enum or a union
 abbrev pub HasData : Tree → Type 0
 HasData x = IsShaped x (g.ref k.AStruct) ⊎ IsShaped x (g.ref k.AnEnum) ⊎ IsShaped x (g.ref k.AUnion)
 
--- which of the three it is
+-- the same as the alternative of the three that it is
 abbrev pub chosen_item : DataItem → Tree
 chosen_item (items.Struct x) = t.First (item_struct x)
 chosen_item (items.Enum x) = t.Second (t.First (item_enum x))
@@ -57,7 +57,7 @@ data_tree (datas.Struct x) i a w = struct_tree x.struct_token i a w x.fields x.s
 data_tree (datas.Enum x) i a w = enum_tree x.enum_token i a w x.brace_token x.variants
 data_tree (datas.Union x) i a w = union_tree x.union_token i a w x.fields
 
--- which of the three it is
+-- an item as the alternative of the three that the data is
 abbrev pub chosen_data : Data → Tree → Tree
 chosen_data (datas.Struct x) y = t.First y
 chosen_data (datas.Enum x) y = t.Second (t.First y)
@@ -79,17 +79,17 @@ item_entry v a b c = g.judged v (g.seq a (g.seq (g.called n.the_visibility b) (g
 abbrev pub item_inside : Tree → Tree → Tree → Tree
 item_inside a v y = t.First (t.Pair a (t.Pair (t.Called n.the_visibility v) (t.Called n.the_item y)))
 
--- its attributes
+-- of an item that is kept, its attributes
 abbrev pub attributes_of : Tree → Tree
 attributes_of (t.Node i (t.First (t.Pair a (t.Pair (t.Called n.the_visibility v) (t.Called n.the_item y))))) = a
 attributes_of _ = t.Nil
 
--- its visibility
+-- of an item that is kept, its visibility
 abbrev pub visibility_of : Tree → Tree
 visibility_of (t.Node i (t.First (t.Pair a (t.Pair (t.Called n.the_visibility v) (t.Called n.the_item y))))) = v
 visibility_of _ = t.Nil
 
--- the form that was chosen behind them
+-- of an item that is kept, the form that was chosen behind them
 abbrev pub form_of : Tree → Tree
 form_of (t.Node i (t.First (t.Pair a (t.Pair (t.Called n.the_visibility v) (t.Called n.the_item y))))) = choice y
 form_of _ = t.Nil
@@ -102,7 +102,7 @@ IsItemKind k.ItemEnum = Unit {0}
 IsItemKind k.ItemUnion = Unit {0}
 IsItemKind _ = ⊥
 
--- an item that is kept, and is a struct, an enum or a union
+-- an item of one of these kinds, of the shape of its kind's entry, that is kept, and is a struct, an enum or a union
 abbrev pub IsDataItem : Tree → Type 0
 IsDataItem x = (i : Kind) × IsItemKind i × IsKept x × IsShaped x (g.ref i) × HasData (form_of x)
 

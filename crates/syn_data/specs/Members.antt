@@ -16,7 +16,7 @@ use Rattle.syn_grammar.specs.Part.{choice}
 use Rattle.syn_grammar.specs.Tree as t
 use Rattle.syn_grammar.specs.Tree.{Tree}
 
--- the name of a field: an identifier, or _
+-- the name of a field with a name, as the word that it is: an identifier, or _
 abbrev pub name_of : Tree → Tree
 name_of (t.Node k.NamedField (t.Pair a (t.Pair v (t.Pair i x)))) = choice i
 name_of _ = t.Nil
@@ -33,7 +33,7 @@ elements_in (t.More x c spacing y) = suc (elements_in y)
 elements_in (t.Final x) = 1
 elements_in _ = 0
 
--- the name that a member is
+-- the word that a member is, if it is a name
 abbrev pub member_name : Member → Tree
 member_name (members.Named i) = word_of_name i
 member_name (members.Unnamed n) = t.Nil
@@ -50,7 +50,8 @@ fields_in (fields.Named x) = parts (list_tree x.named)
 fields_in (fields.Unnamed x) = parts (list_tree x.unnamed)
 fields_in fields.Unit = []
 
--- fields with names, where each is such a field, are named by these; those without by the numbers from 0 on
+-- fields with names, where each is such a field, are named by the words of these, in their order; those without by the
+-- numbers from 0 on, as many as there are; and where there are none, by nothing
 abbrev pub AreMembers : Fields → List Member → Type 0
 AreMembers (fields.Named x) ms = (e : List Token → Bool) (c : ℕ)
     → IsShaped (list_tree x.named) (g.many e c (g.ref k.NamedField)) → map member_name ms ≡ names_in (list_tree x.named)

@@ -26,7 +26,7 @@ use Rattle.syn_grammar.specs.Name as n
 use Rattle.syn_grammar.specs.Tree as t
 use Rattle.syn_grammar.specs.Tree.{Tree}
 
--- a file
+-- a file: the attributes within it, and its items; neither a line #!.. nor a section at its head stands in a tree
 abbrev pub file : File → Tree
 file x = t.Node k.AFile (t.Pair x.attrs.now x.items.now)
 
@@ -42,19 +42,19 @@ body x = t.Node k.Body (t.Group x.brace_token.delimiter (t.Pair x.attrs.now x.st
 abbrev pub label : Label → Tree
 label x = t.Node k.Label (t.Pair (lifetime_tree x.name) (mark_tree x.colon_token))
 
--- a parameter of a closure: a: T
+-- a parameter of a closure, with its attributes: a: T, or without a type
 abbrev pub closure_param : ClosureParam → Tree
 closure_param x = t.Node k.ClosureParam (t.Pair x.attrs.now (t.Pair x.pat.now (optional_tree marked_tree x.ty)))
 
--- the arms of a match
+-- the arms of a match, one behind the other
 abbrev pub arms : Arms → Tree
 arms x = t.Node k.Arms (turns_tree x.arms)
 
--- a label, where one stands
+-- a label that stands, as a part
 abbrev pub labelled_tree : Labelled → Tree
 labelled_tree x = t.Called n.the_label x.label.now
 
--- a block: 'a: { .. }
+-- a block, with a label or without: 'a: { .. }
 abbrev pub expr_block : ExprBlock → Tree
 expr_block x = t.Alone k.ExprBlock (t.Pair (optional_tree labelled_tree x.label) x.block.now)
 
@@ -62,37 +62,37 @@ expr_block x = t.Alone k.ExprBlock (t.Pair (optional_tree labelled_tree x.label)
 abbrev pub expr_unsafe : ExprUnsafe → Tree
 expr_unsafe x = t.Alone k.ExprUnsafe (t.Pair (word_tree x.unsafe_token) x.block.now)
 
--- an async block: async move { .. }
+-- an async block: async move { .. }, or without move
 abbrev pub expr_async : ExprAsync → Tree
 expr_async x = t.Alone k.ExprAsync (t.Pair (word_tree x.async_token) (t.Pair
     (optional_tree word_tree x.capture) x.block.now))
 
--- a loop: 'a: loop { .. }
+-- a loop, with a label or without: 'a: loop { .. }
 abbrev pub expr_loop : ExprLoop → Tree
 expr_loop x = t.Alone k.ExprLoop (t.Pair (optional_tree labelled_tree x.label) (t.Pair
     (word_tree x.loop_token) x.body.now))
 
--- a loop with a condition: 'a: while b { .. }
+-- a loop with a condition, with a label or without: 'a: while b { .. }
 abbrev pub expr_while : ExprWhile → Tree
 expr_while x = t.Alone k.ExprWhile (t.Pair (optional_tree labelled_tree x.label) (t.Pair (word_tree x.while_token)
     (t.Pair (t.Called n.the_condition x.cond.now) x.body.now)))
 
--- a loop over values: 'a: for b in c { .. }
+-- a loop over values, with a label or without: 'a: for b in c { .. }
 abbrev pub expr_for_loop : ExprForLoop → Tree
 expr_for_loop x = t.Alone k.ExprForLoop (t.Pair (optional_tree labelled_tree x.label) (t.Pair (word_tree x.for_token)
     (t.Pair x.pat.now (t.Pair (word_tree x.in_token) (t.Pair (t.Called n.the_condition x.expr.now) x.body.now)))))
 
--- a choice by patterns: match a { .. }
+-- a choice by patterns, with attributes and arms in its braces: match a { .. }
 abbrev pub expr_match : ExprMatch → Tree
 expr_match x = t.Alone k.ExprMatch (t.Pair (word_tree x.match_token) (t.Pair (t.Called n.the_condition x.expr.now)
     (t.Group x.brace_token.delimiter (t.Pair x.attrs.now x.arms.now))))
 
--- a choice by a condition: if a { .. } else { .. }
+-- a choice by a condition, with an else or without: if a { .. } else { .. }
 abbrev pub expr_if : ExprIf → Tree
 expr_if x = t.Alone k.ExprIf (t.Pair (word_tree x.if_token) (t.Pair (t.Called n.the_condition x.cond.now)
     (t.Pair x.then_branch.now (optional_tree worded_tree x.else_branch))))
 
--- a tuple, or an expression in parentheses
+-- a tuple, or an expression in parentheses: any list of expressions in them
 abbrev pub expr_parenthesized : ExprParenthesized → Tree
 expr_parenthesized x = t.Alone k.ExprParen (t.Group x.paren_token.delimiter (list_tree x.elems))
 
@@ -100,7 +100,7 @@ expr_parenthesized x = t.Alone k.ExprParen (t.Group x.paren_token.delimiter (lis
 abbrev pub expr_array : ExprArray → Tree
 expr_array x = t.Alone k.ExprArray (t.Group x.bracket_token.delimiter (list_tree x.elems))
 
--- an array of one value: [a; b]
+-- an array of one value so many times: [a; b]
 abbrev pub expr_repeat : ExprRepeat → Tree
 expr_repeat x = t.Alone k.ExprRepeat (t.Group x.bracket_token.delimiter (t.Pair x.expr.now (t.Pair
     (mark_tree x.semi_token) x.len.now)))
@@ -109,6 +109,6 @@ expr_repeat x = t.Alone k.ExprRepeat (t.Group x.bracket_token.delimiter (t.Pair 
 abbrev pub expr_macro : ExprMacro → Tree
 expr_macro x = t.Alone k.ExprMacro x.mac.now
 
--- a path: a::b
+-- a path, perhaps a qualified one: a::b
 abbrev pub expr_path : ExprPath → Tree
 expr_path x = t.Alone k.ExprPath x.path.now

@@ -11,7 +11,7 @@ use Rattle.syn_grammar.specs.Kind as k
 use Rattle.syn_grammar.specs.Tree as t
 use Rattle.syn_grammar.specs.Tree.{Tree}
 
--- a literal: 1, "a", true
+-- a literal, or a truth value: 1, "a", true
 abbrev pub expr_lit : ExprLit → Tree
 expr_lit x = t.Alone k.ExprLit (lit_tree x.lit)
 
@@ -31,6 +31,6 @@ expr_const x = t.Alone k.ExprConst (t.Pair (word_tree x.const_token) x.block.now
 abbrev pub expr_try_block : ExprTryBlock → Tree
 expr_try_block x = t.Alone k.ExprTryBlock (t.Pair (word_tree x.try_token) x.block.now)
 
--- a loop's next turn: continue 'a
+-- a loop's next turn: continue 'a, or without a label
 abbrev pub expr_continue : ExprContinue → Tree
 expr_continue x = t.Alone k.ExprContinue (t.Pair (word_tree x.continue_token) (optional_tree lifetime_tree x.label))

@@ -12,28 +12,28 @@ abbrev pub IsAlone : Tree → Kind → Type 0
 IsAlone (Alone j y) k = (j ≡ k) × IsShaped y (table k)
 IsAlone _ k = ⊥
 
--- one that has an operand behind it
+-- one that has an operand behind it, of which nothing is asked
 abbrev pub IsFront : Tree → Kind → Type 0
 IsFront (Front j y r) k = (j ≡ k) × IsShaped y (table k)
 IsFront _ k = ⊥
 
--- one that has an operand before it
+-- one that has an operand before it, of which nothing is asked
 abbrev pub IsBack : Tree → Kind → Type 0
 IsBack (Back l j y) k = (j ≡ k) × IsShaped y (table k)
 IsBack _ k = ⊥
 
--- one that has an operand on either side
+-- one that has an operand on either side, of which nothing is asked
 abbrev pub IsInfix : Tree → Kind → Type 0
 IsInfix (Infix l j y r) k = (j ≡ k) × IsShaped y (table k)
 IsInfix _ k = ⊥
 
--- one that may have an operand behind it, and has none before it
+-- one that may have an operand behind it, and has none before it: a jump, of which the operand may be missing
 abbrev pub IsJump : Tree → Kind → Type 0
 IsJump (Alone j y) k = (j ≡ k) × IsShaped y (table k)
 IsJump (Front j y r) k = (j ≡ k) × IsShaped y (table k)
 IsJump _ k = ⊥
 
--- one that may have an operand on either side
+-- one that may have an operand on either side: a range, of which both may be missing
 abbrev pub IsForm : Tree → Kind → Type 0
 IsForm (Alone j y) k = (j ≡ k) × IsShaped y (table k)
 IsForm (Front j y r) k = (j ≡ k) × IsShaped y (table k)

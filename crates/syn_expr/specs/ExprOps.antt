@@ -15,22 +15,23 @@ use Rattle.syn_grammar.specs.Kind.{Kind}
 use Rattle.syn_grammar.specs.Tree as t
 use Rattle.syn_grammar.specs.Tree.{Tree}
 
--- a unary operator
+-- a unary operator, as the alternative that it is of * ! and -
 abbrev pub un_op_tree : UnOp → Tree
 un_op_tree (uns.Deref m) = nth_tree 0 (mark_tree m)
 un_op_tree (uns.Not m) = nth_tree 1 (mark_tree m)
 un_op_tree (uns.Neg m) = nth_tree 2 (mark_tree m)
 
--- a range's kind, and its own part
+-- a range's kind, by its limits: .. or ..=
 abbrev pub limits_kind : RangeLimits → Kind
 limits_kind (limits.HalfOpen m) = k.ExprRange
 limits_kind (limits.Closed m) = k.ExprRangeClosed
 
+-- its own part: the mark
 abbrev pub limits_tree : RangeLimits → Tree
 limits_tree (limits.HalfOpen m) = mark_tree m
 limits_tree (limits.Closed m) = mark_tree m
 
--- the kind of a binary operator
+-- the kind of the forms that have a binary operator: that of its level
 abbrev pub bin_op_kind : BinOp → Kind
 bin_op_kind (bins.Or m) = k.ExprOr
 bin_op_kind (bins.And m) = k.ExprAnd
@@ -61,7 +62,7 @@ bin_op_kind (bins.BitOrAssign m) = k.ExprAssign
 bin_op_kind (bins.ShlAssign m) = k.ExprAssign
 bin_op_kind (bins.ShrAssign m) = k.ExprAssign
 
--- its own part: of several of a level each is that alternative
+-- its own part: the mark, and of several operators of a level the alternative that it is in the kind's entry
 abbrev pub bin_op_tree : BinOp → Tree
 bin_op_tree (bins.Or m) = mark_tree m
 bin_op_tree (bins.And m) = mark_tree m
@@ -92,11 +93,11 @@ bin_op_tree (bins.BitOrAssign m) = nth_tree 8 (mark_tree m)
 bin_op_tree (bins.ShlAssign m) = nth_tree 9 (mark_tree m)
 bin_op_tree (bins.ShrAssign m) = nth_tree 10 (mark_tree m)
 
--- the own part of a form of the kind is that operator
+-- the form's kind is that of the operator, and its own part is the operator
 abbrev pub Operates : Kind → Tree → BinOp → Type 0
 Operates j y o = (j ≡ bin_op_kind o) × (y ≡ bin_op_tree o)
 
--- the own part of a binary operator's form has the shape of its kind's entry; = is none
+-- the kind is one of binary operators, and the own part has the shape of the kind's entry; = is none of them
 abbrev pub IsOperator : Kind → Tree → Type 0
 IsOperator k.ExprOr y = IsShaped y (table k.ExprOr)
 IsOperator k.ExprAnd y = IsShaped y (table k.ExprAnd)
@@ -110,7 +111,7 @@ IsOperator k.ExprCompare y = IsShaped y (table k.ExprCompare)
 IsOperator k.ExprAssign (t.Second y) = IsShaped (t.Second y) (table k.ExprAssign)
 IsOperator _ _ = ⊥
 
--- the own part of a range's form has the shape of its kind's entry
+-- the kind is one of both of ranges, and the own part has the shape of the kind's entry
 abbrev pub IsLimits : Kind → Tree → Type 0
 IsLimits k.ExprRange y = IsShaped y (table k.ExprRange)
 IsLimits k.ExprRangeClosed y = IsShaped y (table k.ExprRangeClosed)

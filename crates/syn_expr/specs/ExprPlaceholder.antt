@@ -7,9 +7,10 @@ use Rattle.syn_grammar.specs.Tree.{Tree}
 abbrev pub path_of_none : Tree
 path_of_none = t.Node (k.Path k.InExpression) (t.Pair (t.Second t.Nil) t.Nil)
 
--- an expression that is this path
+-- what an expression that is a path holds, of this path
 abbrev pub own : Tree
 own = t.Node (k.AnyPath k.InExpression) (t.Second path_of_none)
 
+-- it stands by itself, as a path does
 abbrev pub placeholder : Tree
 placeholder = t.Alone k.ExprPath own

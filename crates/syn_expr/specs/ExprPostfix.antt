@@ -16,11 +16,11 @@ use Rattle.syn_grammar.specs.Name as n
 use Rattle.syn_grammar.specs.Tree as t
 use Rattle.syn_grammar.specs.Tree.{Tree}
 
--- a dot, and the numbers behind it that end in one
+-- a dot, and the numbers behind it that end in one, as a part: . or .0. in a.0.b
 abbrev pub dot_tree : Mark → Turns → Tree
 dot_tree m r = t.Pair (mark_tree m) (t.Called n.the_indices (turns_tree r))
 
--- a cast: a as T; nothing stands behind the type
+-- a cast: a as T; what stands behind the type is no postfix form
 abbrev pub expr_cast : ExprCast → Tree
 expr_cast x = t.Back x.expr.now k.ExprCast (t.Pair (word_tree x.as_token) (t.Pair (t.Called n.the_type x.ty.now)
     (t.Second t.Nil)))
@@ -29,13 +29,13 @@ expr_cast x = t.Back x.expr.now k.ExprCast (t.Pair (word_tree x.as_token) (t.Pai
 abbrev pub expr_call : ExprCall → Tree
 expr_call x = t.Back x.func.now k.ExprCall (t.Group x.paren_token.delimiter (list_tree x.args))
 
--- a method's call: a.b::<T>(c)
+-- a method's call: a.b::<T>(c), or without generic arguments
 abbrev pub expr_method_call : ExprMethodCall → Tree
 expr_method_call x = t.Back x.receiver.now k.ExprMethodCall (t.Pair (dot_tree x.dot_token x.indices) (t.Pair
     (t.Called n.the_name (word_tree x.method)) (t.Pair (optional_tree node_tree x.turbofish) (t.Group
     x.paren_token.delimiter (list_tree x.args)))))
 
--- a field: a.b
+-- a field, by its name or its index: a.b, a.0
 abbrev pub expr_field : ExprField → Tree
 expr_field x = t.Back x.base.now k.ExprField (t.Pair (dot_tree x.dot_token x.indices) (field_member_tree x.member))
 
@@ -51,6 +51,6 @@ expr_index x = t.Back x.expr.now k.ExprIndex (t.Group x.bracket_token.delimiter 
 abbrev pub expr_try : ExprTry → Tree
 expr_try x = t.Back x.expr.now k.ExprTry (mark_tree x.question_token)
 
--- a struct: A { b: c, ..d }
+-- a struct, whose path is the operand before its fields: A { b: c, ..d }
 abbrev pub expr_struct : ExprStruct → Tree
 expr_struct x = t.Back x.path.now k.ExprStruct x.fields.now

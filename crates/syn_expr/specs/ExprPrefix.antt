@@ -14,7 +14,7 @@ use Rattle.syn_grammar.specs.Tree.{Tree}
 use denote.Bor.{Bor}
 use Rattle.std.specs.Prelude.{Option, Some, None}
 
--- an expression with attributes: #[a] b
+-- an expression with attributes, the first by itself and the others: #[a] #[b] c
 abbrev pub expr_attributed : ExprAttributed → Tree
 expr_attributed x = t.Front k.ExprAttributed (t.Pair x.attr.now x.attrs.now) x.expr.now
 
@@ -22,12 +22,12 @@ expr_attributed x = t.Front k.ExprAttributed (t.Pair x.attr.now x.attrs.now) x.e
 abbrev pub expr_unary : ExprUnary → Tree
 expr_unary x = t.Front k.ExprUnary (un_op_tree x.op) x.expr.now
 
--- a raw address: &raw const a
+-- a raw address: &raw const a, &raw mut a
 abbrev pub expr_raw_addr : ExprRawAddr → Tree
 expr_raw_addr x = t.Front k.ExprRawAddr (t.Pair (mark_tree x.and_token) (t.Pair (word_tree x.raw) (word_tree
     x.mutability))) x.expr.now
 
--- a reference: &mut a
+-- a reference: &a, &mut a
 abbrev pub expr_reference : ExprReference → Tree
 expr_reference x = t.Front k.ExprReference (t.Pair (mark_tree x.and_token) (optional_tree word_tree x.mutability))
     x.expr.now
@@ -36,14 +36,15 @@ expr_reference x = t.Front k.ExprReference (t.Pair (mark_tree x.and_token) (opti
 abbrev pub expr_let : ExprLet → Tree
 expr_let x = t.Front k.ExprLet (t.Pair (word_tree x.let_token) (t.Pair x.pat.now (mark_tree x.eq_token))) x.expr.now
 
--- what stands before a closure's body
+-- what stands before a closure's body: for<'a> const static async move, each if it stands there, and | a, b |
 abbrev pub closure_head : ClosureHead → Tree
 closure_head h = t.Pair (optional_tree node_tree h.lifetimes) (t.Pair (optional_tree word_tree h.constness) (t.Pair
     (optional_tree word_tree h.movability) (t.Pair (optional_tree word_tree h.asyncness) (t.Pair
     (optional_tree word_tree h.capture) (t.Pair (mark_tree h.or1_token) (t.Pair (list_tree h.inputs)
     (mark_tree h.or2_token)))))))
 
--- a closure that says no type has its body behind it; of one that says a type it is a part
+-- a closure that says no type has its body as the operand behind it; one that says a type has none, and the type and
+-- the body are parts of it
 abbrev pub closure_tree : Tree → Option (Bor Tree) → Tree → Tree
 closure_tree h None y = t.Front k.ExprClosure h y
 closure_tree h (Some o) y = t.Alone k.ExprTypedClosure (t.Pair h (t.Pair o.now y))

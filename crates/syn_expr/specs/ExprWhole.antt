@@ -34,7 +34,7 @@ abbrev pub is_lone : Tree → Bool
 is_lone (t.Group d x) = is_final x
 is_lone _ = false
 
--- the first of several was chosen
+-- the first of a choice was chosen
 abbrev pub is_first : Tree → Bool
 is_first (t.First x) = true
 is_first _ = false
@@ -82,7 +82,7 @@ first_form None o = o
 abbrev pub alone_form : Kind → Bool → Option ExprForm
 alone_form j b = first_form (block_form j) (atom_form j b)
 
--- one with an operand behind it
+-- one with an operand behind it, and none before it
 abbrev pub front_form : Kind → Option ExprForm
 front_form k.ExprAttributed = Some exprs.Attributed
 front_form k.ExprUnary = Some exprs.Unary
@@ -97,7 +97,7 @@ front_form k.ExprRange = Some exprs.Range
 front_form k.ExprRangeClosed = Some exprs.Range
 front_form _ = None
 
--- one with an operand before it
+-- one with an operand before it, and none behind it
 abbrev pub back_form : Kind → Option ExprForm
 back_form k.ExprStruct = Some exprs.Struct
 back_form k.ExprCall = Some exprs.Call
@@ -111,7 +111,8 @@ back_form k.ExprRange = Some exprs.Range
 back_form k.ExprRangeClosed = Some exprs.Range
 back_form _ = None
 
--- one with an operand on either side; an assignment whose operator is the first, which is =, or another operator
+-- one with an operand on either side: of the kind of assignments one by the first operator, which is =, is an
+-- assignment, and one by another a binary operator
 abbrev pub infix_form : Kind → Bool → Option ExprForm
 infix_form k.ExprAssign true = Some exprs.Assign
 infix_form k.ExprAssign false = Some exprs.Binary
@@ -128,7 +129,8 @@ infix_form k.ExprSum b = Some exprs.Binary
 infix_form k.ExprProduct b = Some exprs.Binary
 infix_form j b = None
 
--- which form a tree is
+-- which form a tree is: by its kind, by which operands it has, in parentheses by whether one element stands there, and
+-- no mark behind it, and of an assignment's kind by its operator
 abbrev pub which : Tree → Option ExprForm
 which (t.Alone j y) = alone_form j (is_lone y)
 which (t.Front j y r) = front_form j
@@ -136,7 +138,8 @@ which (t.Back l j y) = back_form j
 which (t.Infix l j y r) = infix_form j (is_first y)
 which _ = None
 
--- of a tree in parentheses, its own part
+-- it stands in parentheses, one element and no mark behind it, or else, as is said, and its own part has the shape of
+-- the kind's entry
 abbrev pub IsParen : Bool → Tree → Type 0
 IsParen b (t.Alone k.ExprParen y) = (is_lone y ≡ b) × IsShaped y (table k.ExprParen)
 IsParen b _ = ⊥
@@ -185,6 +188,6 @@ IsOf exprs.Range x = IsForm x k.ExprRange ⊎ IsForm x k.ExprRangeClosed
 IsOf exprs.Assign x = IsAssign x
 IsOf exprs.Binary x = IsBinary x
 
--- an expression: a tree that is of one of the forms
+-- an expression: a tree that is of one of the forms, which is the one that it is by its kind and its operands
 abbrev pub IsExpr : Tree → Type 0
 IsExpr x = (f : ExprForm) × (which x ≡ Some f) × IsOf f x

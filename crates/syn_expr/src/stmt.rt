@@ -252,7 +252,8 @@ fn optional_semicolon(tree: &Tree<'_>) -> Option<Option<Mark>>
     }
 }
 
-/// A macro that is a statement: `a! { b };`.
+/// A macro in braces that is a statement by itself: `a! { b };`. One in parentheses or brackets is an expression: `StmtExpr`
+/// has `a!(b);`.
 #[derive(Clone, Copy)]
 pub struct StmtMacro<'t, 'a> {
     /// Its attributes.

@@ -40,6 +40,6 @@ variadic_in _ = None
 abbrev pub first_receiver : Tree → Option Tree
 first_receiver x = option_and_then receiver_in (first_element (inputs_of x))
 
--- the dots of a function: its last parameter, if that is some
+-- the dots of a function: what its last parameter is behind its attributes, if that is some
 abbrev pub last_variadic : Tree → Option Tree
 last_variadic x = option_and_then variadic_in (last_element (inputs_of x))

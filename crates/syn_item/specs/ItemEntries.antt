@@ -20,12 +20,12 @@ use Rattle.syn_item.specs.declared.entry.OneTrait.{OneTrait}
 use Rattle.syn_item.specs.declared.entry.PlacedParts.{PlacedParts}
 use denote.Bor.{Bor}
 
--- attributes, a visibility, and an item, as they are judged
+-- an entry that reads attributes, a visibility, as a part, and an item, as a part, and judges them
 abbrev pub entry_of : (Tree → Verdict) → Gram → Gram
 entry_of v a = judged v (seq (ref k.OuterAttributes) (seq (called n.the_visibility (ref k.Visibility))
     (called n.the_item a)))
 
--- an item that is kept as it was read, with its attributes and its visibility
+-- an item among others, or of one kind by itself, that is kept as it was read, with its attributes and its visibility
 abbrev pub item_parts : ItemParts → Tree
 item_parts x = t.Node (kind_of x.kind) (t.First (t.Pair x.attrs.now (t.Pair (t.Called n.the_visibility x.vis.now)
     (t.Called n.the_item x.item.now))))
@@ -44,20 +44,22 @@ defaultness_tree places.InImpl o = optional_tree default_tree o
 defaultness_tree places.InFile o = t.Nil
 defaultness_tree places.InForeign o = t.Nil
 
--- an item of a trait or an impl that is kept as it was read, or one by itself that could stand there
+-- what a node holds that is an item of a trait or an impl, or a function, a constant or a type by itself, in whatever
+-- place that could stand, and is kept as it was read: its attributes, its visibility, default, and the item behind them
 abbrev pub placed_parts : PlacedParts → Tree
 placed_parts x = t.First (t.Pair x.attrs.now (t.Pair (t.Called n.the_visibility x.vis.now) (t.Pair
     (defaultness_tree x.place x.defaultness) (t.Called n.the_item x.item.now))))
 
--- a trait or an alias of traits by itself
+-- what a node holds that is a trait or an alias of traits by itself: its attributes, its visibility, and the form
+-- behind them
 abbrev pub one_trait : OneTrait → Tree
 one_trait x = t.First (t.Pair x.attrs.now (t.Pair x.vis.now (t.Called n.the_item x.item.now)))
 
--- a macro by itself
+-- a macro by itself, by the place where it could stand, with its attributes
 abbrev pub one_macro : OneMacro → Tree
 one_macro x = t.Node (k.OneMacro (place_of x.place)) (t.Pair x.attrs.now (t.First x.mac.now))
 
--- a static of an extern block by itself
+-- a static of an extern block by itself, with its attributes, its visibility and its safety
 abbrev pub foreign_item_static : ForeignItemStatic → Tree
 foreign_item_static x = t.Node k.ForeignItemStatic (t.First (t.Pair x.attrs.now (t.Pair
     (t.Called n.the_visibility x.vis.now) (t.Pair (safety_is x.safety) (t.Called n.the_item x.item.now)))))

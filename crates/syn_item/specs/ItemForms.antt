@@ -32,7 +32,8 @@ abbrev pub IsMacro : Tree → Type 0
 IsMacro (t.Node (k.ItemMacro p) x) = Unit {0}
 IsMacro _ = ⊥
 
--- a tree is of the form; none is of the form of an item that is kept as its tokens
+-- a tree is of the form, by its kind, and a trait or an alias of traits by what stands behind its generic parameters;
+-- none is of the form of an item that is kept as its tokens
 abbrev pub HasForm : ItemForm → Tree → Type 0
 HasForm forms.Const x = IsOf k.AConst x
 HasForm forms.Enum x = IsOf k.AnEnum x
@@ -51,21 +52,22 @@ HasForm forms.Union x = IsOf k.AUnion x
 HasForm forms.Use x = IsOf k.AUse x
 HasForm forms.Verbatim x = ⊥
 
--- that a tree is none of these forms
+-- a tree has not the shape of a constant, an enum, an extern crate, a function, an extern block, an impl, a macro or a
+-- module
 abbrev pub HasNoBody : Tree → Type 0
 HasNoBody x = (IsShaped x (g.ref k.AConst) → ⊥) × (IsShaped x (g.ref k.AnEnum) → ⊥) × (IsShaped x
     (g.ref k.AnExternCrate) → ⊥) × ((p : k.Place) → IsShaped x (g.ref (k.AFunction p)) → ⊥) × (IsShaped x
     (g.ref k.AForeignModule) → ⊥) × (IsShaped x (g.ref k.AnImpl) → ⊥) × ((p : k.Place) → IsShaped x (g.ref
     (k.ItemMacro p)) → ⊥) × (IsShaped x (g.ref k.AModule) → ⊥)
 
--- nor one of these
+-- nor of a static, a struct, a trait or an alias of traits, a type alias, a union or a use declaration
 abbrev pub IsNoOther : Tree → Type 0
 IsNoOther x = (IsShaped x (g.ref k.AStatic) → ⊥) × (IsShaped x (g.ref k.AStruct) → ⊥) × (IsShaped x (g.ref k.ATrait)
     → ⊥) × ((p : k.Place) → IsShaped x (g.ref (k.ATypeAlias p)) → ⊥) × (IsShaped x (g.ref k.AUnion) → ⊥) × (IsShaped x
     (g.ref k.AUse) → ⊥)
 
--- a form of an item that may be kept as it was read: no const trait, no restricted trait, no definition of a macro, of
--- which the tokens are kept
+-- a form of an item that may be kept as it was read: no const trait, no restricted trait and no definition of a macro,
+-- of which the tokens are kept
 abbrev pub MayBeKept : Tree → Type 0
 MayBeKept (t.Node k.AConstTrait x) = ⊥
 MayBeKept (t.Node k.ARestrictedTrait x) = ⊥
@@ -77,7 +79,7 @@ abbrev pub form_behind : Tree → Tree
 form_behind (t.Pair a (t.Pair v (t.Called m x))) = choice x
 form_behind _ = t.Nil
 
--- an item, of which the form may be kept if it is
+-- a node of the kind of items among others; if it is kept as it was read, its form may be
 abbrev pub IsItem : Tree → Type 0
 IsItem (t.Node k.AnItem (t.First x)) = MayBeKept (form_behind x)
 IsItem (t.Node k.AnItem (t.Verbatim x)) = Unit {0}

@@ -32,7 +32,7 @@ use denote.Bor.{Bor}
 abbrev pub parameters : Parameters → Tree
 parameters x = t.Node k.Parameters (t.First (t.Group x.paren_token.delimiter (list_tree x.inputs)))
 
--- dots, behind a pattern or alone
+-- dots, behind a pattern and a colon, or alone
 abbrev pub variadic_tree : Option VariadicPat → Mark → Tree
 variadic_tree None d = t.Second (t.First (t.Called n.the_dots (mark_tree d)))
 variadic_tree (Some p) d = t.Second (t.Second (t.Second (t.Pair (t.Called n.the_pattern p.pat.now) (t.Pair
@@ -51,11 +51,11 @@ abbrev pub typed_pattern : FnArg → Option PatType
 typed_pattern (arguments.Typed x) = Some x
 typed_pattern _ = None
 
--- of a pattern with its type these are the attributes
+-- if it is a pattern with its type, these are the attributes in it
 abbrev pub IsBehind : Bor Tree → FnArg → Type 0
 IsBehind a x = IfSome (typed_pattern x) (λ p. p.attrs ≡ Some a)
 
--- a parameter of a function
+-- a parameter of a function: its attributes, and what it is behind them
 abbrev pub parameter : Parameter → Tree
 parameter x = t.Node k.Parameter (t.Pair x.attrs.now (fn_arg_tree x.arg))
 
@@ -63,7 +63,7 @@ parameter x = t.Node k.Parameter (t.Pair x.attrs.now (fn_arg_tree x.arg))
 abbrev pub one_parameter : OneParameter → Tree
 one_parameter x = t.Node k.FnArg (t.First x.parameter.now)
 
--- a receiver that is not taken by reference: mut self: T
+-- a receiver that is not taken by reference: mut self: T; what stands behind self is given
 abbrev pub value_tree : Option (Bor Ident) → Bor Ident → Tree → Tree
 value_tree m s y = t.Node k.Receiver (t.Second (t.Pair (optional_tree word_tree m) (t.Pair (word_tree s) y)))
 
@@ -84,26 +84,27 @@ IsReceiverOf (receivers.Reference a l m) (Some w) s y = ⊥
 abbrev pub IsReceiver : Receiver → Tree → Type 0
 IsReceiver x y = IsReceiverOf x.kind x.mutability x.self_token y
 
--- whether it is safe to call a function
+-- whether it is safe to call a function: unsafe or safe, as a part, or neither; which of both, the word alone tells
 abbrev pub safety_is : Safety → Tree
 safety_is (safeties.Unsafe i) = t.First (safety_tree i)
 safety_is (safeties.Safe i) = t.First (safety_tree i)
 safety_is safeties.Default = t.Second t.Nil
 
--- that it is unsafe by that word, and safe by another
+-- it is unsafe exactly by that word; where it is safe, another word stands there
 abbrev pub IsSafety : Safety → Type 0
 IsSafety (safeties.Unsafe i) = ident_text i.now ≡ codes "unsafe"
 IsSafety (safeties.Safe i) = ident_text i.now ≢ codes "unsafe"
 IsSafety safeties.Default = Unit {0}
 
--- a signature: const async unsafe extern "C" fn a<T>(b: B) -> C where ..
+-- a signature, by the place where it stands, the words before fn each if it stands there:
+-- const async unsafe extern "C" fn a<T>(b: B) -> C where ..
 abbrev pub signature : Signature → Tree
 signature x = t.Node (k.Signature (place_of x.place)) (t.Pair (optional_tree word_tree x.constness) (t.Pair
     (optional_tree word_tree x.asyncness) (t.Pair (safety_is x.safety) (t.Pair (optional_tree node_tree x.abi) (t.Pair
     (word_tree x.fn_token) (t.Pair (named_tree x.ident) (t.Pair (t.Called n.the_generics x.generics.now)
     (t.Pair x.inputs.now (t.Pair x.output.now (t.Called n.the_where x.where_clause.now))))))))))
 
--- a function of this signature, and of what stands behind it
+-- a function, in its place, of this signature, and of what stands behind that
 abbrev pub function_tree : Place → Bor Tree → Tree → Tree
 function_tree p s y = t.Node (k.AFunction (place_of p)) (t.Pair s.now y)
 

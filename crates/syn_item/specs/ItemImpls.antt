@@ -19,7 +19,7 @@ use denote.Bor.{Bor}
 abbrev pub for_tree : ForType → Tree
 for_tree x = t.Pair (word_tree x.for_token) (t.Called n.the_self x.self_ty.now)
 
--- what an impl begins with, and what follows
+-- what an impl begins with, each if it stands there: default const unsafe impl <A> !; and what follows
 abbrev pub impl_words : Option (Bor Ident) → Option (Bor Ident) → Option (Bor Ident) → Bor Ident → Bor Tree
     → Option Mark → Tree → Tree
 impl_words d c u i a m y = t.Pair (optional_tree default_tree d) (t.Pair (optional_tree const_tree c) (t.Pair
@@ -37,7 +37,7 @@ impl_body_tree None s w y = t.Pair (t.Called n.the_first s.now) (t.Pair (t.Secon
 impl_body_tree (Some i) s w y = t.Pair (t.Called n.the_first i.path.now) (t.Pair (t.First (t.Pair
     (word_tree i.for_token) (t.Called n.the_self s.now))) (t.Pair (t.Called n.the_where w.now) y))
 
--- an impl: default unsafe impl<T> !A for B where .. { .. }
+-- what a node holds that is an impl, whatever it is judged: default const unsafe impl<T> !A for B where .. { .. }
 abbrev pub impl_inside : ItemImpl → Tree
 impl_inside x = impl_words x.modifiers.defaultness x.constness x.unsafety x.impl_token x.generics x.modifiers.polarity
     (impl_body_tree x.trait_ x.self_ty x.where_clause (t.Group x.brace_token.delimiter (t.Pair x.attrs.now
@@ -47,6 +47,6 @@ impl_inside x = impl_words x.modifiers.defaultness x.constness x.unsafety x.impl
 abbrev pub item_impl : ItemImpl → Tree
 item_impl x = t.Node k.AnImpl (t.First (impl_inside x))
 
--- the items of an impl
+-- the items of an impl, one behind the other
 abbrev pub impl_items : ImplItems → Tree
 impl_items x = t.Node k.ImplItems (turns_tree x.items)

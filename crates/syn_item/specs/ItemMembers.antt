@@ -12,7 +12,8 @@ use Rattle.syn_item.specs.declared.members.ForeignForm.TheVariants as foreigns
 use Rattle.syn_item.specs.declared.members.ForeignItem.{ForeignItem}
 use Rattle.syn_item.specs.declared.members.ForeignStatic.{ForeignStatic}
 
--- an item of a trait or an impl: a function, a constant, a type or a macro, as the grammar chooses, or its tokens
+-- an item of a trait or an impl: a function, a constant, a type or a macro, as the alternative that the grammar
+-- chooses, or all that was read, where its tokens are kept
 abbrev pub associated_choice : AssociatedForm → Tree → Tree
 associated_choice associated.Fn x = t.First x
 associated_choice associated.Const x = t.Second (t.First x)
@@ -41,12 +42,12 @@ abbrev pub form_of_impl_item : Tree → Tree
 form_of_impl_item (t.Node k.AnImplItem x) = associated_inside x
 form_of_impl_item _ = t.Nil
 
--- a static of an extern block, with its safety
+-- a static of an extern block, behind its attributes and its visibility, with its safety
 abbrev pub foreign_static : ForeignStatic → Tree
 foreign_static x = t.Pair (safety_is x.safety) (t.Called n.the_item x.item.now)
 
--- an item of an extern block: a function, a static with its safety, a type or a macro, as the grammar chooses, or its
--- tokens
+-- an item of an extern block: a function, a static with its safety, a type or a macro, as the alternative that the
+-- grammar chooses, or all that was read, where its tokens are kept
 abbrev pub foreign_choice : ForeignForm → Tree → Tree
 foreign_choice foreigns.Fn x = t.First (t.Called n.the_item x)
 foreign_choice foreigns.Static x = t.Second (t.First x)

@@ -10,16 +10,16 @@ use Rattle.syn_error.specs.declared.fault.ParseFault.TheVariants as faults
 use Rattle.syn_item.specs.declared.modifiers.ImplModifiers.{ImplModifiers}
 use denote.Bor.{Bor}
 
--- a message of one token
+-- a message of one token, where that stands
 abbrev pub note_at : List ℕ → Span → Note
 note_at words span = record { start = span; end = span; text = words }
 
--- what is said of a word, if it stands there
+-- what is said of a word, if it stands there: these words, at its place
 abbrev pub word_notes : List ℕ → Option (Bor Ident) → List Note
 word_notes words None = []
 word_notes words (Some i) = note_at words (ident_span i.now) ∷ []
 
--- what is said of a mark, if it stands there
+-- what is said of a mark, if it stands there: these words, at its place
 abbrev pub mark_notes : List ℕ → Option Mark → List Note
 mark_notes words None = []
 mark_notes words (Some m) = note_at words m.span ∷ []

@@ -17,7 +17,7 @@ abbrev pub item_foreign_mod : ItemForeignMod → Tree
 item_foreign_mod x = t.Node k.AForeignModule (t.Pair (optional_tree safety_tree x.unsafety) (t.Pair x.abi.now
     (t.Group x.brace_token.delimiter (t.Pair x.attrs.now x.items.now))))
 
--- what stands in a module, or ; and never both
+-- what stands in a module, or ; and never both, nor neither
 abbrev pub module_end_tree : Option Braced → Option Mark → Tree
 module_end_tree None (Some m) = t.First (mark_tree m)
 module_end_tree (Some b) None = t.Second (braced_tree b)
@@ -28,10 +28,10 @@ abbrev pub item_mod : ItemMod → Tree
 item_mod x = t.Node k.AModule (t.Pair (optional_tree safety_tree x.unsafety) (t.Pair (word_tree x.mod_token) (t.Pair
     (name_or_tree x.ident) (module_end_tree x.content x.semi))))
 
--- the items of a file or a module
+-- the items of a file or a module, one behind the other
 abbrev pub items : Items → Tree
 items x = t.Node k.Items (turns_tree x.items)
 
--- the items of an extern block
+-- the items of an extern block, one behind the other
 abbrev pub foreign_items : ForeignItems → Tree
 foreign_items x = t.Node k.ForeignItems (turns_tree x.items)

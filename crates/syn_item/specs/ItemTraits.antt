@@ -13,19 +13,20 @@ use Rattle.syn_item.specs.declared.traits.TraitForm.TheVariants as trait_forms
 use Rattle.syn_item.specs.declared.traits.TraitHead.{TraitHead}
 use Rattle.syn_item.specs.declared.traits.TraitItems.{TraitItems}
 
--- what a trait and an alias begin with, and what follows
+-- what a trait and an alias begin with: unsafe auto trait A<T>, the first two if they stand there; and what follows
 abbrev pub trait_head : TraitHead → Tree → Tree
 trait_head x y = t.Pair (optional_tree safety_tree x.unsafety) (t.Pair (optional_tree auto_tree x.auto_token) (t.Pair
     (word_tree x.trait_token) (t.Pair (named_tree x.ident) (t.Pair (t.Called n.the_generics x.generics.now) y))))
 
--- a trait: unsafe auto trait A<T>: B where .. { .. }
+-- what a node holds that is a trait: unsafe auto trait A<T>: B where .. { .. }
 abbrev pub trait_inside : ItemTrait → Tree
 trait_inside x = t.Pair (optional_tree safety_tree x.unsafety) (t.Pair (optional_tree auto_tree x.modifiers.auto_token)
     (t.Pair (word_tree x.trait_token) (t.Pair (named_tree x.ident) (t.Pair (t.Called n.the_generics x.generics.now)
     (t.Second (t.Pair x.supertraits.now (t.Pair (t.Called n.the_where x.where_clause.now)
     (t.Group x.brace_token.delimiter (t.Pair x.attrs.now x.items.now)))))))))
 
--- an alias of traits: trait A<T> = B where ..;
+-- what a node holds that is an alias of traits: trait A<T> = B where ..;, also behind unsafe and auto, behind which
+-- none is read
 abbrev pub alias_inside : ItemTraitAlias → Tree
 alias_inside x = t.Pair (optional_tree safety_tree x.unsafety) (t.Pair (optional_tree auto_tree x.auto_token)
     (t.Pair (word_tree x.trait_token) (t.Pair (named_tree x.ident) (t.Pair (t.Called n.the_generics x.generics.now)
@@ -41,11 +42,11 @@ trait_form_inside (trait_forms.Alias x) = alias_inside x
 abbrev pub trait_form_tree : TraitForm → Tree
 trait_form_tree x = t.Node k.ATrait (t.First (trait_form_inside x))
 
--- a trait that is kept as it was read
+-- a trait that is kept as it was read, behind its attributes and its visibility
 abbrev pub item_trait : ItemTrait → Tree
 item_trait x = t.Node k.ATrait (t.First (trait_inside x))
 
--- an alias of traits that is kept as it was read
+-- an alias of traits that is kept as it was read, likewise
 abbrev pub item_trait_alias : ItemTraitAlias → Tree
 item_trait_alias x = t.Node k.ATrait (t.First (alias_inside x))
 
@@ -73,6 +74,6 @@ IsTrait x = IsSecond (trait_end x)
 abbrev pub IsAlias : Tree → Type 0
 IsAlias x = IsFirst (trait_end x)
 
--- the items of a trait
+-- the items of a trait, one behind the other
 abbrev pub trait_items : TraitItems → Tree
 trait_items x = t.Node k.TraitItems (turns_tree x.items)

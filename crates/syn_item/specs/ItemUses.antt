@@ -11,7 +11,7 @@ use Rattle.syn_grammar.specs.Tree as t
 use Rattle.syn_grammar.specs.Tree.{Tree}
 use denote.Bor.{Bor}
 
--- all names, or one with what stands behind it; braces are no branch
+-- all names, or one with what stands behind it: :: and a tree, as and another name, or nothing; braces are no branch
 abbrev pub use_branch_tree : UseTree → Tree
 use_branch_tree (uses.Path x) = t.Second (t.Pair (name_tree x.ident) (t.First (t.Pair
     (mark_tree x.colon2_token) x.tree.now)))
@@ -21,7 +21,7 @@ use_branch_tree (uses.Name x) = t.Second (t.Pair (name_tree x.ident) (t.Second (
 use_branch_tree (uses.Glob x) = t.First (mark_tree x.star_token)
 use_branch_tree (uses.Group x) = t.Nil
 
--- one that stands in no braces, as a node
+-- one that is no group in braces, as a node
 abbrev pub use_branch : UseTree → Tree
 use_branch x = t.Node k.UseBranch (use_branch_tree x)
 
@@ -33,19 +33,19 @@ use_inside_tree (uses.Rename x) = t.Second (use_branch (uses.Rename x))
 use_inside_tree (uses.Name x) = t.Second (use_branch (uses.Name x))
 use_inside_tree (uses.Glob x) = t.Second (use_branch (uses.Glob x))
 
--- one behind a path, or in braces that a path stands before
+-- one behind a path or a ::, or in braces that one of these stands before
 abbrev pub use_tree : UseTree → Tree
 use_tree x = t.Node k.UseTree (use_inside_tree x)
 
--- one that no path stands before
+-- one that neither a path nor :: stands before
 abbrev pub use_rooted : UseTree → Tree
 use_rooted x = t.Node k.UseRooted (use_inside_tree x)
 
--- behind the :: of the root, or without one
+-- with the :: of the root in front, or without
 abbrev pub use_top_tree : Option Mark → Bor Tree → Tree
 use_top_tree (Some m) x = t.First (t.Pair (mark_tree m) x.now)
 use_top_tree None x = t.Second x.now
 
--- one with the :: of the root, or without
+-- all that a use declaration names, or one in braces that no path stands before: with the :: of the root, or without
 abbrev pub use_top : UseTop → Tree
 use_top x = t.Node k.UseTop (use_top_tree x.leading_colon x.tree)

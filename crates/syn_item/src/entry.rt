@@ -99,7 +99,7 @@ fn as_defaultness<'a>(place: Place, tree: &Tree<'a>) -> Option<Option<&'a Ident>
     }
 }
 
-/// An item of a trait or an impl, or one by itself that could stand there.
+/// An item of a trait or an impl, or a function, a constant or a type by itself, in whatever place that could stand.
 #[derive(Clone, Copy)]
 pub struct PlacedParts<'t, 'a> {
     /// Where it stands.
