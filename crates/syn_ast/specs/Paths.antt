@@ -126,7 +126,7 @@ argument_inside (given.«Type» x) = t.Second (t.Second (t.Second (t.Second x.no
 abbrev pub generic_argument : GenericArgument → Tree
 generic_argument x = t.Node k.AnArgument (argument_inside x)
 
--- a field's index: 0
+-- a field's index, as its literal: 0
 abbrev pub index : Index → Tree
 index x = t.Node k.Index (literal_tree x.index)
 

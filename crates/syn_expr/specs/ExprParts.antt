@@ -18,7 +18,8 @@ use Rattle.syn_grammar.specs.Tree.{Tree}
 use denote.Bor.{Bor}
 use Rattle.std.specs.Prelude.{Bool, true, false, Option, Some, None}
 
--- behind a dot a name or an index, each as a part: the name, or the value
+-- behind a dot a name, or a number, which is an index or several with dots between them, each as a part: the name, or
+-- the value
 abbrev pub field_member_tree : Member → Tree
 field_member_tree (members.Named i) = t.First (t.Called n.the_name (word_tree i))
 field_member_tree (members.Unnamed x) = t.Second (t.Called n.the_value (literal_tree x.index))

@@ -16,7 +16,7 @@ use Rattle.syn_grammar.specs.Name as n
 use Rattle.syn_grammar.specs.Tree as t
 use Rattle.syn_grammar.specs.Tree.{Tree}
 
--- a dot, and the numbers behind it that end in one, as a part: . or .0. in a.0.b
+-- a dot, and the numbers behind it that end in one, as a part: of a.b none, of a.0. b the number 0.
 abbrev pub dot_tree : Mark → Turns → Tree
 dot_tree m r = t.Pair (mark_tree m) (t.Called n.the_indices (turns_tree r))
 
@@ -35,7 +35,7 @@ expr_method_call x = t.Back x.receiver.now k.ExprMethodCall (t.Pair (dot_tree x.
     (t.Called n.the_name (word_tree x.method)) (t.Pair (optional_tree node_tree x.turbofish) (t.Group
     x.paren_token.delimiter (list_tree x.args)))))
 
--- a field, by its name or its index: a.b, a.0
+-- a field, by its name or its index, or by several indices at once: a.b, a.0, a.0.1
 abbrev pub expr_field : ExprField → Tree
 expr_field x = t.Back x.base.now k.ExprField (t.Pair (dot_tree x.dot_token x.indices) (field_member_tree x.member))
 

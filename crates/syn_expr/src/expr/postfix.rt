@@ -83,7 +83,7 @@ pub struct ExprMethodCall<'t, 'a> {
     pub receiver: &'t Tree<'a>,
     /// `.`
     pub dot_token: Mark,
-    /// The numbers that stand between it and the name, each with the `.` behind it: `0.` in `a.0.b`.
+    /// The numbers that stand between it and the name, each with the `.` behind it: `0.` in `a.0. b`.
     pub indices: Turns<'t, 'a>,
     /// The method's name.
     pub method: &'a Ident,
@@ -142,9 +142,9 @@ pub struct ExprField<'t, 'a> {
     pub base: &'t Tree<'a>,
     /// `.`
     pub dot_token: Mark,
-    /// The numbers that stand between it and the name, each with the `.` behind it: `0.` in `a.0.b`.
+    /// The numbers that stand between it and the name, each with the `.` behind it: `0.` in `a.0. b`.
     pub indices: Turns<'t, 'a>,
-    /// Its name, or its index.
+    /// Its name, or its index; of `a.0.1` the number `0.1`, which is two indices.
     pub member: Member<'a>,
 }
 
@@ -182,7 +182,7 @@ pub struct ExprAwait<'t, 'a> {
     pub base: &'t Tree<'a>,
     /// `.`
     pub dot_token: Mark,
-    /// The numbers that stand between it and the name, each with the `.` behind it: `0.` in `a.0.b`.
+    /// The numbers that stand between it and the name, each with the `.` behind it: `0.` in `a.0. b`.
     pub indices: Turns<'t, 'a>,
     /// `await`
     pub await_token: &'a Ident,
