@@ -15,6 +15,7 @@ ghost use Rattle.syn_grammar.specs.Name as n;
 
 use crate::expr::forms;
 use crate::modifiers::BlockModifiers;
+use crate::part;
 use gram_table::kind::Kind;
 use gram_table::part::Part;
 use gram_tree::tree::Tree;
@@ -112,10 +113,7 @@ impl<'t, 'a> Body<'t, 'a> {
         let Some((Kind::Body, inner)) = take::node(tree) else {
             return None;
         };
-        let Some((brace_token, inside)) = take::group(inner) else {
-            return None;
-        };
-        let Some((attrs, stmts)) = take::pair(inside) else {
+        let Some((brace_token, attrs, stmts)) = part::pair_in(inner) else {
             return None;
         };
         Some(Body {
@@ -411,13 +409,11 @@ impl<'t, 'a> ExprWhile<'t, 'a> {
         let Some((label, while_token, cond, body)) = take::four(inner) else {
             return None;
         };
-        let Some(label) = optional_as_labelled(label) else {
-            return None;
-        };
-        let Some(while_token) = take::word(while_token) else {
-            return None;
-        };
-        let Some((Part::Condition, cond)) = take::called(cond) else {
+        let Some((label, while_token, cond)) = joined::three(
+            optional_as_labelled(label),
+            take::word(while_token),
+            part::condition(cond),
+        ) else {
             return None;
         };
         Some(ExprWhile {
@@ -458,13 +454,11 @@ impl<'t, 'a> ExprForLoop<'t, 'a> {
         let Some((label, for_token, pat, in_token, expr, body)) = take::six(inner) else {
             return None;
         };
-        let Some((Part::Condition, expr)) = take::called(expr) else {
-            return None;
-        };
-        let Some((label, for_token, in_token)) = joined::three(
+        let Some((label, for_token, in_token, expr)) = joined::four(
             optional_as_labelled(label),
             take::word(for_token),
             take::word(in_token),
+            part::condition(expr),
         ) else {
             return None;
         };
@@ -503,21 +497,17 @@ impl<'t, 'a> ExprMatch<'t, 'a> {
         let Some((Kind::ExprMatch, inner)) = forms::alone(tree) else {
             return None;
         };
-        let Some((match_token, expr, brace_token)) = take::three(inner) else {
+        let Some((match_token, expr, braced)) = take::three(inner) else {
             return None;
         };
-        let Some(match_token) = take::word(match_token) else {
+        let Some((match_token, expr, braced)) = joined::three(
+            take::word(match_token),
+            part::condition(expr),
+            part::pair_in(braced),
+        ) else {
             return None;
         };
-        let Some((Part::Condition, expr)) = take::called(expr) else {
-            return None;
-        };
-        let Some((brace_token, inside)) = take::group(brace_token) else {
-            return None;
-        };
-        let Some((attrs, arms)) = take::pair(inside) else {
-            return None;
-        };
+        let (brace_token, attrs, arms) = braced;
         Some(ExprMatch {
             match_token,
             expr,
@@ -553,13 +543,11 @@ impl<'t, 'a> ExprIf<'t, 'a> {
         let Some((if_token, cond, then_branch, else_branch)) = take::four(inner) else {
             return None;
         };
-        let Some(if_token) = take::word(if_token) else {
-            return None;
-        };
-        let Some((Part::Condition, cond)) = take::called(cond) else {
-            return None;
-        };
-        let Some(else_branch) = optional_as_worded(else_branch) else {
+        let Some((if_token, cond, else_branch)) = joined::three(
+            take::word(if_token),
+            part::condition(cond),
+            optional_as_worded(else_branch),
+        ) else {
             return None;
         };
         Some(ExprIf {
@@ -589,10 +577,7 @@ impl<'t, 'a> ExprParenthesized<'t, 'a> {
         let Some((Kind::ExprParen, inner)) = forms::alone(tree) else {
             return None;
         };
-        let Some((paren_token, inside)) = take::group(inner) else {
-            return None;
-        };
-        let Some(elems) = take::list(inside) else {
+        let Some((paren_token, elems)) = part::list_in(inner) else {
             return None;
         };
         Some(ExprParenthesized { paren_token, elems })
@@ -617,10 +602,7 @@ impl<'t, 'a> ExprArray<'t, 'a> {
         let Some((Kind::ExprArray, inner)) = forms::alone(tree) else {
             return None;
         };
-        let Some((bracket_token, inside)) = take::group(inner) else {
-            return None;
-        };
-        let Some(elems) = take::list(inside) else {
+        let Some((bracket_token, elems)) = part::list_in(inner) else {
             return None;
         };
         Some(ExprArray {

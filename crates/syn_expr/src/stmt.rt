@@ -14,6 +14,7 @@ ghost use Rattle.syn_grammar.specs.Name as n;
 ghost use Rattle.syn_grammar.specs.Statements.{statement};
 
 use crate::modifiers::LocalModifiers;
+use crate::part;
 use gram_table::kind::Kind;
 use gram_table::part::Part;
 use gram_tree::tree::Tree;
@@ -93,13 +94,11 @@ fn as_local_init<'t, 'a>(tree: &'t Tree<'a>) -> Option<LocalInit<'t, 'a>>
     let Some((eq_token, expr, diverge)) = take::three(tree) else {
         return None;
     };
-    let Some(eq_token) = take::mark(eq_token) else {
-        return None;
-    };
-    let Some((Part::Value, expr)) = take::called(expr) else {
-        return None;
-    };
-    let Some(diverge) = optional_as_diverge(diverge) else {
+    let Some((eq_token, expr, diverge)) = joined::three(
+        take::mark(eq_token),
+        part::value(expr),
+        optional_as_diverge(diverge),
+    ) else {
         return None;
     };
     Some(LocalInit {
@@ -326,13 +325,11 @@ fn as_expression<'t, 'a>(tree: &'t Tree<'a>) -> Option<StmtExpr<'t, 'a>>
     let Some((attrs, expr, semi_token)) = take::three(tree) else {
         return None;
     };
-    let Some((Part::Attributes, attrs)) = take::called(attrs) else {
-        return None;
-    };
-    let Some((Part::Expression, expr)) = take::called(expr) else {
-        return None;
-    };
-    let Some(semi_token) = optional_semicolon(semi_token) else {
+    let Some((attrs, expr, semi_token)) = joined::three(
+        part::attributes(attrs),
+        part::expression(expr),
+        optional_semicolon(semi_token),
+    ) else {
         return None;
     };
     Some(StmtExpr {

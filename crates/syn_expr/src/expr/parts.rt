@@ -3,7 +3,6 @@
 ghost use Rattle.proc_macro2.specs.Token.{Token};
 ghost use Rattle.std.specs.Prelude.{Bool, List, MatchOption, false, ℕ, ◌≡◌};
 ghost use Rattle.syn_ast.specs.Kept.{IsKept};
-ghost use Rattle.syn_ast.specs.Leaves.{literal_tree, word_tree};
 ghost use Rattle.syn_ast.specs.Shape.{IsShaped, may_choose};
 ghost use Rattle.syn_expr.specs.ExprParts.{a_field_value, arm, arm_comma_tree, field_init_tree};
 ghost use Rattle.syn_expr.specs.ExprParts.{field_member_tree, field_value, field_values};
@@ -13,11 +12,11 @@ ghost use Rattle.syn_grammar.specs.Kind as k;
 ghost use Rattle.syn_grammar.specs.Name as n;
 ghost use Rattle.syn_grammar.specs.Tree as t;
 
+use crate::part;
 use gram_table::kind::Kind;
 use gram_table::part::Part;
 use gram_tree::tree::Tree;
-use rust_leaf::ident::Ident;
-use rust_leaf::literal::Literal;
+use syn_ast::joined;
 use syn_ast::leaf::{Delimiters, Mark};
 use syn_ast::list::Elements;
 use syn_ast::paths::{Index, Member};
@@ -34,37 +33,15 @@ pub fn as_field_member<'a>(tree: &Tree<'a>) -> Option<Member<'a>>
         return None;
     };
     match which {
-        Choice::First(inner) => match called_word(inner) {
+        Choice::First(inner) => match part::name(inner) {
             Some(word) => Some(Member::Named(word)),
             None => None,
         },
-        Choice::Second(inner) => match called_literal(inner) {
+        Choice::Second(inner) => match part::number(inner) {
             Some(index) => Some(Member::Unnamed(Index { index })),
             None => None,
         },
     }
-}
-
-// A name.
-fn called_word<'a>(tree: &Tree<'a>) -> Option<&'a Ident>
-    ensures { MatchOption result ((p : List ℕ → Bool) → IsShaped tree.now (g.called n.the_name (g.word p)) → ⊥)
-        (λ i. tree.now ≡ t.Called n.the_name (word_tree i)) }
-{
-    let Some((Part::Name, inner)) = take::called(tree) else {
-        return None;
-    };
-    take::word(inner)
-}
-
-// A number.
-fn called_literal<'a>(tree: &Tree<'a>) -> Option<&'a Literal>
-    ensures { MatchOption result ((p : List ℕ → Bool) → IsShaped tree.now (g.called n.the_value (g.literal p)) → ⊥)
-        (λ l. tree.now ≡ t.Called n.the_value (literal_tree l)) }
-{
-    let Some((Part::Value, inner)) = take::called(tree) else {
-        return None;
-    };
-    take::literal(inner)
 }
 
 /// The fields of a struct, in their braces: `{ a: b, ..c }`.
@@ -90,10 +67,7 @@ impl<'t, 'a> FieldValues<'t, 'a> {
         let Some(kept) = take::kept(inner) else {
             return None;
         };
-        let Some((brace_token, inside)) = take::group(kept) else {
-            return None;
-        };
-        let Some(fields) = take::list(inside) else {
+        let Some((brace_token, fields)) = part::list_in(kept) else {
             return None;
         };
         Some(FieldValues {
@@ -127,6 +101,18 @@ fn as_arm_comma(tree: &Tree<'_>) -> Option<(bool, Option<Mark>)>
         } else {
             None
         },
+    }
+}
+
+// The same, by its name.
+fn named_arm_comma(tree: &Tree<'_>) -> Option<(bool, Option<Mark>)>
+    ensures { MatchOption result ((t1 t2 : List Token → Bool) (c3 : ℕ) (cs4 : List ℕ) → IsShaped tree.now
+        (g.called n.the_comma (g.alt t1 g.nothing (g.alt t2 (g.mark c3 cs4) g.nothing))) → ⊥)
+        (λ p. tree.now ≡ t.Called n.the_comma (arm_comma_tree p.0 p.1)) }
+{
+    match take::called(tree) {
+        Some((Part::Comma, inner)) => as_arm_comma(inner),
+        _ => None,
     }
 }
 
@@ -166,21 +152,15 @@ impl<'t, 'a> Arm<'t, 'a> {
         let Some((attrs, pat, guard, fat_arrow_token, body, comma)) = take::six(kept) else {
             return None;
         };
-        let Some(guard) = optional_as_worded(guard) else {
+        let Some((guard, fat_arrow_token, body, comma)) = joined::four(
+            optional_as_worded(guard),
+            take::mark(fat_arrow_token),
+            part::body(body),
+            named_arm_comma(comma),
+        ) else {
             return None;
         };
-        let Some(fat_arrow_token) = take::mark(fat_arrow_token) else {
-            return None;
-        };
-        let Some((Part::Body, body)) = take::called(body) else {
-            return None;
-        };
-        let Some((Part::Comma, comma)) = take::called(comma) else {
-            return None;
-        };
-        let Some((at_end, comma)) = as_arm_comma(comma) else {
-            return None;
-        };
+        let (at_end, comma) = comma;
         Some(Arm {
             attrs,
             pat,
@@ -283,13 +263,11 @@ fn as_member_value<'t, 'a>(tree: &'t Tree<'a>) -> Option<(Member<'a>, Mark, &'t 
     let Some((member, colon_token, expr)) = take::three(tree) else {
         return None;
     };
-    let Some(member) = Member::of(member) else {
-        return None;
-    };
-    let Some(colon_token) = take::mark(colon_token) else {
-        return None;
-    };
-    let Some((Part::Value, expr)) = take::called(expr) else {
+    let Some((member, colon_token, expr)) = joined::three(
+        Member::of(member),
+        take::mark(colon_token),
+        part::value(expr),
+    ) else {
         return None;
     };
     Some((member, colon_token, expr))

@@ -12,6 +12,7 @@ ghost use Rattle.syn_grammar.specs.Name as n;
 
 use crate::expr::forms;
 use crate::expr::parts::as_field_member;
+use crate::part;
 use gram_table::kind::Kind;
 use gram_table::part::Part;
 use gram_tree::tree::Tree;
@@ -30,13 +31,8 @@ pub fn as_dot<'t, 'a>(tree: &'t Tree<'a>) -> Option<(Mark, Turns<'t, 'a>)>
     let Some((dot_token, indices)) = take::pair(tree) else {
         return None;
     };
-    let Some(dot_token) = take::mark(dot_token) else {
-        return None;
-    };
-    let Some((Part::Indices, indices)) = take::called(indices) else {
-        return None;
-    };
-    let Some(indices) = take::each_turn(indices) else {
+    let Some((dot_token, indices)) = joined::two(take::mark(dot_token), part::indices(indices))
+    else {
         return None;
     };
     Some((dot_token, indices))
@@ -62,10 +58,7 @@ impl<'t, 'a> ExprCall<'t, 'a> {
         let Some((func, Kind::ExprCall, own)) = forms::back(tree) else {
             return None;
         };
-        let Some((paren_token, inside)) = take::group(own) else {
-            return None;
-        };
-        let Some(args) = take::list(inside) else {
+        let Some((paren_token, args)) = part::list_in(own) else {
             return None;
         };
         Some(ExprCall {
@@ -104,25 +97,19 @@ impl<'t, 'a> ExprMethodCall<'t, 'a> {
         let Some((receiver, Kind::ExprMethodCall, own)) = forms::back(tree) else {
             return None;
         };
-        let Some((dot_token, method, turbofish, paren_token)) = take::four(own) else {
+        let Some((dot, method, turbofish, args)) = take::four(own) else {
             return None;
         };
-        let Some((dot_token, indices)) = as_dot(dot_token) else {
-            return None;
-        };
-        let Some((Part::Name, method)) = take::called(method) else {
-            return None;
-        };
-        let Some((paren_token, inside)) = take::group(paren_token) else {
-            return None;
-        };
-        let Some((method, turbofish, args)) = joined::three(
-            take::word(method),
+        let Some((dot, method, turbofish, args)) = joined::four(
+            as_dot(dot),
+            part::name(method),
             take::optional(turbofish),
-            take::list(inside),
+            part::list_in(args),
         ) else {
             return None;
         };
+        let (dot_token, indices) = dot;
+        let (paren_token, args) = args;
         Some(ExprMethodCall {
             receiver,
             dot_token,
@@ -157,15 +144,13 @@ impl<'t, 'a> ExprField<'t, 'a> {
         let Some((base, Kind::ExprField, own)) = forms::back(tree) else {
             return None;
         };
-        let Some((dot_token, member)) = take::pair(own) else {
+        let Some((dot, member)) = take::pair(own) else {
             return None;
         };
-        let Some((dot_token, indices)) = as_dot(dot_token) else {
+        let Some((dot, member)) = joined::two(as_dot(dot), as_field_member(member)) else {
             return None;
         };
-        let Some(member) = as_field_member(member) else {
-            return None;
-        };
+        let (dot_token, indices) = dot;
         Some(ExprField {
             base,
             dot_token,

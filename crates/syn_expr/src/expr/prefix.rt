@@ -220,20 +220,18 @@ fn as_closure_head<'t, 'a>(tree: &'t Tree<'a>) -> Option<ClosureHead<'t, 'a>>
         take::eight(tree) else {
         return None;
     };
-    let Some((constness, movability)) = two_words(constness, movability) else {
-        return None;
-    };
-    let Some((asyncness, capture)) = two_words(asyncness, capture) else {
-        return None;
-    };
-    let Some((lifetimes, or1_token, inputs, or2_token)) = joined::four(
+    let Some((lifetimes, words, others, or1_token, inputs, or2_token)) = joined::six(
         take::optional(lifetimes),
+        two_words(constness, movability),
+        two_words(asyncness, capture),
         take::mark(or1_token),
         take::list(inputs),
         take::mark(or2_token),
     ) else {
         return None;
     };
+    let (constness, movability) = words;
+    let (asyncness, capture) = others;
     Some(ClosureHead {
         lifetimes,
         constness,

@@ -1,0 +1,137 @@
+//! Parts by their names, and what stands in delimiters, each as one that is there or not: so a form asks for several of
+//! them at once.
+
+ghost use Rattle.proc_macro2.specs.Token.{Token};
+ghost use Rattle.proc_macro2.specs.declared.delimiter.Delimiter.{Delimiter as GivenDelimiter};
+ghost use Rattle.std.specs.Prelude.{◌≡◌, Bool, List, MatchOption, ℕ};
+ghost use Rattle.syn_ast.specs.Leaves.{list_tree, literal_tree, turns_tree, word_tree};
+ghost use Rattle.syn_ast.specs.Shape.{IsShaped};
+ghost use Rattle.syn_grammar.specs.Gram as g;
+ghost use Rattle.syn_grammar.specs.Name as n;
+ghost use Rattle.syn_grammar.specs.Tree as t;
+
+use gram_table::part::Part;
+use gram_tree::tree::Tree;
+use rust_leaf::ident::Ident;
+use rust_leaf::literal::Literal;
+use syn_ast::leaf::Delimiters;
+use syn_ast::list::{Elements, Turns};
+use syn_ast::take;
+
+// A name.
+pub(crate) fn name<'a>(tree: &Tree<'a>) -> Option<&'a Ident>
+    ensures { MatchOption result ((p : List ℕ → Bool) → IsShaped tree.now (g.called n.the_name (g.word p)) → ⊥)
+        (λ i. tree.now ≡ t.Called n.the_name (word_tree i)) }
+{
+    let Some((Part::Name, inner)) = take::called(tree) else {
+        return None;
+    };
+    take::word(inner)
+}
+
+// A number.
+pub(crate) fn number<'a>(tree: &Tree<'a>) -> Option<&'a Literal>
+    ensures { MatchOption result ((p : List ℕ → Bool) → IsShaped tree.now (g.called n.the_value (g.literal p)) → ⊥)
+        (λ l. tree.now ≡ t.Called n.the_value (literal_tree l)) }
+{
+    let Some((Part::Value, inner)) = take::called(tree) else {
+        return None;
+    };
+    take::literal(inner)
+}
+
+// Numbers behind a dot.
+pub(crate) fn indices<'t, 'a>(tree: &'t Tree<'a>) -> Option<Turns<'t, 'a>>
+    ensures { MatchOption result ((test : List Token → Bool) (a : g.Gram) → IsShaped tree.now
+        (g.called n.the_indices (g.star test a)) → ⊥) (λ r. tree.now ≡ t.Called n.the_indices (turns_tree r)) }
+{
+    let Some((Part::Indices, inner)) = take::called(tree) else {
+        return None;
+    };
+    take::each_turn(inner)
+}
+
+// A condition.
+pub(crate) fn condition<'t, 'a>(tree: &'t Tree<'a>) -> Option<&'t Tree<'a>>
+    ensures { MatchOption result ((a : g.Gram) → IsShaped tree.now (g.called n.the_condition a) → ⊥)
+        (λ x. tree.now ≡ t.Called n.the_condition x.now) }
+{
+    let Some((Part::Condition, inner)) = take::called(tree) else {
+        return None;
+    };
+    Some(inner)
+}
+
+// A value.
+pub(crate) fn value<'t, 'a>(tree: &'t Tree<'a>) -> Option<&'t Tree<'a>>
+    ensures { MatchOption result ((a : g.Gram) → IsShaped tree.now (g.called n.the_value a) → ⊥)
+        (λ x. tree.now ≡ t.Called n.the_value x.now) }
+{
+    let Some((Part::Value, inner)) = take::called(tree) else {
+        return None;
+    };
+    Some(inner)
+}
+
+// A body.
+pub(crate) fn body<'t, 'a>(tree: &'t Tree<'a>) -> Option<&'t Tree<'a>>
+    ensures { MatchOption result ((a : g.Gram) → IsShaped tree.now (g.called n.the_body a) → ⊥)
+        (λ x. tree.now ≡ t.Called n.the_body x.now) }
+{
+    let Some((Part::Body, inner)) = take::called(tree) else {
+        return None;
+    };
+    Some(inner)
+}
+
+// Attributes.
+pub(crate) fn attributes<'t, 'a>(tree: &'t Tree<'a>) -> Option<&'t Tree<'a>>
+    ensures { MatchOption result ((a : g.Gram) → IsShaped tree.now (g.called n.the_attributes a) → ⊥)
+        (λ x. tree.now ≡ t.Called n.the_attributes x.now) }
+{
+    let Some((Part::Attributes, inner)) = take::called(tree) else {
+        return None;
+    };
+    Some(inner)
+}
+
+// An expression.
+pub(crate) fn expression<'t, 'a>(tree: &'t Tree<'a>) -> Option<&'t Tree<'a>>
+    ensures { MatchOption result ((a : g.Gram) → IsShaped tree.now (g.called n.the_expression a) → ⊥)
+        (λ x. tree.now ≡ t.Called n.the_expression x.now) }
+{
+    let Some((Part::Expression, inner)) = take::called(tree) else {
+        return None;
+    };
+    Some(inner)
+}
+
+// A list in delimiters.
+pub(crate) fn list_in<'t, 'a>(tree: &'t Tree<'a>) -> Option<(Delimiters, Elements<'t, 'a>)>
+    ensures { MatchOption result ((d : GivenDelimiter) (e : List Token → Bool) (c : ℕ) (a : g.Gram) → IsShaped tree.now
+        (g.group d (g.many e c a)) → ⊥) (λ p. tree.now ≡ t.Group p.0.delimiter (list_tree p.1)) }
+{
+    let Some((delimiters, inside)) = take::group(tree) else {
+        return None;
+    };
+    match take::list(inside) {
+        Some(found) => Some((delimiters, found)),
+        None => None,
+    }
+}
+
+// Two trees in delimiters.
+pub(crate) fn pair_in<'t, 'a>(
+    tree: &'t Tree<'a>,
+) -> Option<(Delimiters, &'t Tree<'a>, &'t Tree<'a>)>
+    ensures { MatchOption result ((d : GivenDelimiter) (a b : g.Gram) → IsShaped tree.now (g.group d (g.seq a b)) → ⊥)
+        (λ p. tree.now ≡ t.Group p.0.delimiter (t.Pair p.1.now p.2.now)) }
+{
+    let Some((delimiters, inside)) = take::group(tree) else {
+        return None;
+    };
+    match take::pair(inside) {
+        Some((front, back)) => Some((delimiters, front, back)),
+        None => None,
+    }
+}
