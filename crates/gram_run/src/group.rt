@@ -10,8 +10,8 @@ ghost use Rattle.syn_grammar.specs.Run.{Got, Out, Refused, group_at, whole};
 
 use crate::refusal::{Refusal, Wrong, refuse_at};
 use crate::unfit::wanted_behind;
+use gram_group::made::{self, Unmade};
 use gram_tree::arena::Arena;
-use gram_tree::made;
 use gram_tree::tree::Tree;
 use proc_macro2::delimiter::Delimiter;
 use rust_map::span::Span;
@@ -96,8 +96,9 @@ pub(crate) fn grouped<'a>(
         (whole delimiter (tokens behind.now) (Got inside.entry (tokens left.now))) }
     ensures whole { IfOk result (λ x. IsTrue (is_whole x.1.now)) }
 {
-    if let Some(entry) = left.first() {
-        return Err(refuse_at(wanted_behind(&inside), entry.span()));
+    match made::grouped(arena, delimiter, span, inside, left) {
+        Ok(group) => Ok((group, behind)),
+        Err(Unmade::Memory) => Err(Refusal::Memory),
+        Err(Unmade::Unread(first, inside)) => Err(refuse_at(wanted_behind(&inside), first)),
     }
-    Ok((made::group(arena, delimiter, span, inside)?, behind))
 }

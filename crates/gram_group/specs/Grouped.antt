@@ -1,0 +1,19 @@
+-- A group of what was read of its inside, as a run of the grammar makes it.
+use Rattle.std.specs.Prelude.{◌≡◌, List, Result, Ok, Err, map}
+use Rattle.proc_macro2.specs.Token.{Token}
+use Rattle.syn_buffer.specs.Entries.{entry_token}
+use Rattle.syn_buffer.specs.declared.entry.Entry.{Entry}
+use Rattle.syn_grammar.specs.Tree.{Tree}
+use Rattle.syn_grammar.specs.Run.{Out, Refused, Got}
+use Rattle.gram_group.specs.declared.made.Unmade.{Unmade}
+use Rattle.gram_group.specs.declared.made.Unmade.TheVariants as unmades
+
+-- the tokens that entries are
+abbrev pub tokens : List Entry → List Token
+tokens es = map entry_token es
+
+-- what was returned is what a run answers, where those tokens stand behind the group, unless memory ran out
+abbrev pub Groups : List Token → Result Tree Unmade → Out → Type 0
+Groups behind (Ok x) out = out ≡ Got x behind
+Groups behind (Err unmades.Memory) out = Unit {0}
+Groups behind (Err (unmades.Unread s x)) out = out ≡ Refused
