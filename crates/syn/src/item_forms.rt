@@ -280,7 +280,7 @@ impl<'a> Parse<'a> for OneImplItem<'a> {
 impl<'a> Parse<'a> for ForeignItemStatic<'a, 'a> {
     ghost kind = { k.ForeignItemStatic };
 
-    ghost says = { λ x tree. tree ≡ foreign_item_static x };
+    ghost says = { λ x tree. (tree ≡ foreign_item_static x) × IsSafety x.safety };
 
     fn kind() -> Kind
         ensures { kind_of result ≡ k.ForeignItemStatic }

@@ -12,22 +12,13 @@ use Rattle.gram_tree.specs.declared.tree.Element.{Element}
 use Rattle.syn_grammar.specs.Gram as g
 use Rattle.syn_grammar.specs.Gram.{Gram, many}
 use Rattle.syn_grammar.specs.Kind as k
-use Rattle.syn_grammar.specs.Part.{choice}
 use Rattle.syn_grammar.specs.Tree.{Tree}
-use Rattle.syn_ast.specs.Name.{name_tree, word_of_name}
 use Rattle.syn_ast.specs.Leaves.{node_tree}
 use Rattle.syn_ast.specs.Shape.{IsShaped}
-use Rattle.syn_ast.specs.declared.name.Name.{Name}
-use Rattle.syn_ast.specs.declared.name.Name.TheVariants as names
 use Rattle.syn_data.specs.Members.{elements_in, name_of, names_in}
 use Rattle.syn_data.specs.declared.members.Member.{Member}
 use Rattle.syn_data.specs.declared.members.Member.TheVariants as members
 use denote.Bor.{Bor}
-
--- which of both stands there is the word
-pub name_chosen : (i : Name) → choice (name_tree i) ≡ word_of_name i
-name_chosen (names.Keyword w) = refl
-name_chosen (names.Ident w) = refl
 
 pub elements_counted : (c : ℕ) (es : List Element) (o : Option (Bor Tree))
     → elements_in (elements c es (ending node_tree o)) ≡ length es + elements_in (ending node_tree o)

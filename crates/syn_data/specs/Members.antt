@@ -3,7 +3,7 @@ use Rattle.std.specs.List.{range_with_len}
 use Rattle.std.specs.Prelude.{◌≡◌, ℕ, suc, Bool, List, [], ◌∷◌, map}
 use Rattle.proc_macro2.specs.Token.{Token}
 use Rattle.syn_ast.specs.Iter.{parts}
-use Rattle.syn_ast.specs.Name.{word_of_name}
+use Rattle.syn_ast.specs.Name.{name_tree}
 use Rattle.syn_ast.specs.Leaves.{list_tree}
 use Rattle.syn_ast.specs.Shape.{IsShaped}
 use Rattle.syn_data.specs.declared.data.Fields.{Fields}
@@ -12,13 +12,12 @@ use Rattle.syn_data.specs.declared.members.Member.{Member}
 use Rattle.syn_data.specs.declared.members.Member.TheVariants as members
 use Rattle.syn_grammar.specs.Gram as g
 use Rattle.syn_grammar.specs.Kind as k
-use Rattle.syn_grammar.specs.Part.{choice}
 use Rattle.syn_grammar.specs.Tree as t
 use Rattle.syn_grammar.specs.Tree.{Tree}
 
--- the name of a field with a name, as the word that it is: an identifier, or _
+-- the name of a field with a name, as the alternative that it is: an identifier, or _
 abbrev pub name_of : Tree → Tree
-name_of (t.Node k.NamedField (t.Pair a (t.Pair v (t.Pair i x)))) = choice i
+name_of (t.Node k.NamedField (t.Pair a (t.Pair v (t.Pair i x)))) = i
 name_of _ = t.Nil
 
 -- the names of fields, in their order
@@ -33,9 +32,9 @@ elements_in (t.More x c spacing y) = suc (elements_in y)
 elements_in (t.Final x) = 1
 elements_in _ = 0
 
--- the word that a member is, if it is a name
+-- the name that a member is, if it is one, as the alternative that it is: an identifier, or a keyword, as _
 abbrev pub member_name : Member → Tree
-member_name (members.Named i) = word_of_name i
+member_name (members.Named i) = name_tree i
 member_name (members.Unnamed n) = t.Nil
 
 -- how many fields there are
@@ -50,8 +49,9 @@ fields_in (fields.Named x) = parts (list_tree x.named)
 fields_in (fields.Unnamed x) = parts (list_tree x.unnamed)
 fields_in fields.Unit = []
 
--- fields with names, where each is such a field, are named by the words of these, in their order; those without by the
--- numbers from 0 on, as many as there are; and where there are none, by nothing
+-- fields with names, where each is such a field, are named by these, each as an identifier or as a keyword, whichever
+-- it is, in their order; those without by the numbers from 0 on, as many as there are; and where there are none, by
+-- nothing
 abbrev pub AreMembers : Fields → List Member → Type 0
 AreMembers (fields.Named x) ms = (e : List Token → Bool) (c : ℕ)
     → IsShaped (list_tree x.named) (g.many e c (g.ref k.NamedField)) → map member_name ms ≡ names_in (list_tree x.named)

@@ -40,7 +40,6 @@ fn count(list: &Elements) -> usize
 }
 
 // The name of a field, behind those that were found.
-#[tactic(auto, using(crate::proofs::Listed::name_chosen))]
 fn push_name<'a>(tree: &Tree<'a>, found: &mut Vec<Member<'a>>) -> Result<(), AllocError>
     ensures { OnOk result (IsShaped tree.now (g.ref k.NamedField)
         → map member_name found.new.items ≡ map member_name found.old.items ++ (name_of tree.now ∷ [])) }

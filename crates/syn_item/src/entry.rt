@@ -15,6 +15,7 @@ ghost use Rattle.syn_grammar.specs.Tree as t;
 ghost use Rattle.syn_grammar.specs.Tree.{Tree as GivenTree};
 ghost use Rattle.syn_item.specs.ItemEntries.{IsDefaultIn, defaultness_tree, entry_of, foreign_item_static};
 ghost use Rattle.syn_item.specs.ItemEntries.{foreign_parts, item_parts, one_macro, one_trait, placed_parts};
+ghost use Rattle.syn_item.specs.ItemFunctions.{IsSafety};
 
 use crate::function::{Safety, as_foreign_safety};
 use crate::part;
@@ -315,8 +316,9 @@ impl<'t, 'a> ForeignItemStatic<'t, 'a> {
     /// What a tree is, if it is that. One that was read is kept as it was read.
     #[tactic(auto, unfolding(syn_grammar::specs::Table::table))]
     pub fn of(tree: &'t Tree<'a>) -> Option<ForeignItemStatic<'t, 'a>>
-        ensures { MatchOption result (IsKept tree.now → IsShaped tree.now (g.ref k.ForeignItemStatic) → ⊥)
+        ensures tree_is { MatchOption result (IsKept tree.now → IsShaped tree.now (g.ref k.ForeignItemStatic) → ⊥)
             (λ x. tree.now ≡ foreign_item_static x) }
+        ensures which { IfSome result (λ x. IsSafety x.safety) }
     {
         let Some((Kind::ForeignItemStatic, inner)) = take::node(tree) else {
             return None;

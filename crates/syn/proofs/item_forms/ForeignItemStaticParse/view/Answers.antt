@@ -6,4 +6,5 @@ use Rattle.syn.proofs.item_forms.ForeignItemStaticParse.view.Goals as goal
 
 pub returns-in-None : goal.returns-in-None
 returns-in-None c rest d =
-    c.in-None.ensures (static_kept c.args.tree.now rest d) (shaped c.args.tree.now (ref k.ForeignItemStatic) rest d)
+    c.in-None.ensures.tree_is (static_kept c.args.tree.now rest d)
+    (shaped c.args.tree.now (ref k.ForeignItemStatic) rest d)
