@@ -7,16 +7,31 @@ use rust_leaf::ident::{Ident, IdentFault};
 use rust_leaf::literal::Literal;
 use rust_leaf::value::ConversionErrorKind;
 use rust_map::span::Span;
+use std::alloc::AllocError;
 
 /// `Literal::string` of a text.
-pub fn string(text: &str, page: &mut Page) -> Result<(), Unanswered> {
-    let literal = Literal::string(page.alloc(), text)?;
-    match literal.str_value(page.alloc()) {
-        Ok(value) if value.as_str() == text => page.quote(literal.as_str()),
-        Ok(value) => page.quote(value.as_str()),
+pub fn string(text: &str, page: &mut Page) {
+    match Literal::string(page.alloc(), text) {
+        Ok(literal) => put_text(&literal, literal.str_value(page.alloc()), text, page),
+        Err(_) => page.cut(),
+    }
+}
+
+// A literal that is made of a text, if it has it as its value.
+fn put_text(
+    literal: &Literal,
+    value: Result<String, ConversionErrorKind>,
+    text: &str,
+    page: &mut Page,
+) {
+    match value {
+        Ok(value) => page.quote(if value.as_str() == text {
+            literal.as_str()
+        } else {
+            value.as_str()
+        }),
         Err(error) => page.debug(&error),
     }
-    Ok(())
 }
 
 // A literal that is made of bytes, if it has them as its value.
@@ -35,28 +50,32 @@ fn put_back(
 
 /// `Literal::byte_string` of the bytes that a text has by their numbers.
 pub fn byte_string(text: &str, page: &mut Page) -> Result<(), Unanswered> {
-    let alloc = page.alloc();
-    let bytes = read_bytes(alloc, text)?;
-    let literal = Literal::byte_string(alloc, bytes.as_slice())?;
-    put_back(
-        &literal,
-        literal.byte_str_value(alloc),
-        bytes.as_slice(),
-        page,
-    );
+    let bytes = read_bytes(page.alloc(), text)?;
+    put_byte_string(bytes.as_slice(), page);
     Ok(())
+}
+
+fn put_byte_string(bytes: &[u8], page: &mut Page) {
+    match Literal::byte_string(page.alloc(), bytes) {
+        Ok(literal) => put_back(&literal, literal.byte_str_value(page.alloc()), bytes, page),
+        Err(_) => page.cut(),
+    }
 }
 
 /// `Literal::c_string` of such bytes, whose value has a zero more.
 pub fn c_string(text: &str, page: &mut Page) -> Result<(), Unanswered> {
-    let alloc = page.alloc();
-    let mut bytes = read_bytes(alloc, text)?;
+    let bytes = read_bytes(page.alloc(), text)?;
+    put_c_string(bytes, page)
+}
+
+fn put_c_string(mut bytes: Vec<u8>, page: &mut Page) -> Result<(), Unanswered> {
     if bytes.as_slice().contains(&0) {
         return Err(Unanswered::NoRow);
     }
-    let literal = Literal::c_string(alloc, bytes.as_slice())?;
+    let literal = Literal::c_string(page.alloc(), bytes.as_slice())?;
     bytes.push(0)?;
-    put_back(&literal, literal.cstr_value(alloc), bytes.as_slice(), page);
+    let value = literal.cstr_value(page.alloc());
+    put_back(&literal, value, bytes.as_slice(), page);
     Ok(())
 }
 
@@ -67,50 +86,56 @@ fn between(text: &str, front: usize) -> Option<&str> {
 
 /// `Literal::character` of a text's one character.
 pub fn character(text: &str, page: &mut Page) -> Result<(), Unanswered> {
-    let Some(ch) = text.chars().next() else {
-        return Err(Unanswered::NoRow);
-    };
-    let literal = Literal::character(page.alloc(), ch)?;
-    match between(literal.as_str(), 1).map(unescape_char) {
-        Some(Ok(value)) if value == ch => page.quote(literal.as_str()),
-        other => page.debug(&other),
+    match text.chars().next() {
+        Some(ch) => put_character(Literal::character(page.alloc(), ch), ch, page),
+        None => return Err(Unanswered::NoRow),
     }
     Ok(())
+}
+
+fn put_character(made: Result<Literal, AllocError>, ch: char, page: &mut Page) {
+    match made {
+        Ok(literal) => match between(literal.as_str(), 1).map(unescape_char) {
+            Some(Ok(value)) if value == ch => page.quote(literal.as_str()),
+            other => page.debug(&other),
+        },
+        Err(_) => page.cut(),
+    }
 }
 
 /// `Literal::byte_character` of the byte that a text has by its number.
 pub fn byte_character(text: &str, page: &mut Page) -> Result<(), Unanswered> {
-    let bytes = read_bytes(page.alloc(), text)?;
-    let [byte] = bytes.as_slice() else {
-        return Err(Unanswered::NoRow);
-    };
-    put_byte(*byte, page)
-}
-
-fn put_byte(byte: u8, page: &mut Page) -> Result<(), Unanswered> {
-    let literal = Literal::byte_character(page.alloc(), byte)?;
-    match between(literal.as_str(), 2).map(unescape_byte) {
-        Some(Ok(value)) if value == byte => page.quote(literal.as_str()),
-        other => page.debug(&other),
+    match u8::from_str_radix(text, 16) {
+        Ok(byte) => put_byte(Literal::byte_character(page.alloc(), byte), byte, page),
+        Err(_) => return Err(Unanswered::NoRow),
     }
     Ok(())
 }
 
+fn put_byte(made: Result<Literal, AllocError>, byte: u8, page: &mut Page) {
+    match made {
+        Ok(literal) => match between(literal.as_str(), 2).map(unescape_byte) {
+            Some(Ok(value)) if value == byte => page.quote(literal.as_str()),
+            other => page.debug(&other),
+        },
+        Err(_) => page.cut(),
+    }
+}
+
 // A name as it is printed, or why a text is none.
-fn tell(answer: Result<Ident, IdentFault>, page: &mut Page) -> Result<(), Unanswered> {
+fn tell(answer: Result<Ident, IdentFault>, page: &mut Page) {
     match answer {
         Ok(ident) => page.quote_made(ident.to_string(page.alloc())),
         Err(fault) => page.debug(&fault),
     }
-    Ok(())
 }
 
 /// `Ident::new` of a text.
-pub fn ident(text: &str, page: &mut Page) -> Result<(), Unanswered> {
-    tell(Ident::new(page.alloc(), text, Span::call_site()), page)
+pub fn ident(text: &str, page: &mut Page) {
+    tell(Ident::new(page.alloc(), text, Span::call_site()), page);
 }
 
 /// `Ident::new_raw` of a text.
-pub fn raw_ident(text: &str, page: &mut Page) -> Result<(), Unanswered> {
-    tell(Ident::new_raw(page.alloc(), text, Span::call_site()), page)
+pub fn raw_ident(text: &str, page: &mut Page) {
+    tell(Ident::new_raw(page.alloc(), text, Span::call_site()), page);
 }

@@ -1,9 +1,11 @@
 //! How many trees a text has, what they are, where they stand, and how they are printed.
 
 use proc_macro2::delimiter::Delimiter;
+use proc_macro2::into_iter::IntoIter;
 use proc_macro2::tree::{Group, TokenStream, TokenTree};
-use rows::{Page, Unanswered};
+use rows::Page;
 use rust_leaf::punct::Spacing;
+use rust_map::place::LineColumn;
 use rust_map::source_map::SourceMap;
 use rust_map::span::Span;
 use std::alloc::{AllocError, Global};
@@ -22,64 +24,92 @@ fn lexed(text: &str, page: &mut Page) -> Option<TokenStream> {
 }
 
 /// How many trees stand at the top of a text, or its fault.
-pub fn count(text: &str, page: &mut Page) -> Result<(), Unanswered> {
+pub fn count(text: &str, page: &mut Page) {
     if let Some(stream) = lexed(text, page) {
-        let count = stream.into_iter()?.count();
-        write!(page, "{count}");
+        put_count(stream, page);
     }
-    Ok(())
+}
+
+fn put_count(stream: TokenStream, page: &mut Page) {
+    match stream.into_iter() {
+        Ok(trees) => page.show(&trees.count()),
+        Err(_) => page.cut(),
+    }
 }
 
 /// The printed text of a text's stream, or its fault. The stream is well spaced, its copy is printed alike, and what
 /// is printed is printed as itself.
-pub fn print(text: &str, page: &mut Page) -> Result<(), Unanswered> {
+pub fn print(text: &str, page: &mut Page) {
     if let Some(stream) = lexed(text, page) {
-        let once = stream.to_string(page.alloc())?;
-        if is_its_print(page.alloc(), &stream, once.as_str())? {
-            page.quote(once.as_str());
-        } else {
-            write!(page, "not itself: {once}");
-        }
+        put_print(&stream, page);
     }
-    Ok(())
 }
 
-fn is_its_print(alloc: Global, stream: &TokenStream, once: &str) -> Result<bool, AllocError> {
-    let copy = stream.try_clone()?;
-    let is_copied = is_printed(alloc, &copy, once)?;
-    Ok(is_copied && stream.is_well_spaced() && is_printed_again(alloc, once)?)
+fn put_print(stream: &TokenStream, page: &mut Page) {
+    match stream.to_string(page.alloc()) {
+        Ok(once) => put_once(stream, once.as_str(), page),
+        Err(_) => page.cut(),
+    }
 }
 
-fn is_printed(alloc: Global, stream: &TokenStream, wanted: &str) -> Result<bool, AllocError> {
-    Ok(stream.to_string(alloc)?.as_str() == wanted)
+fn put_once(stream: &TokenStream, once: &str, page: &mut Page) {
+    let alloc = page.alloc();
+    if stream.is_well_spaced() && is_copied(alloc, stream, once) && is_printed_again(alloc, once) {
+        page.quote(once);
+    } else {
+        write!(page, "not itself: {once}");
+    }
 }
 
-fn is_printed_again(alloc: Global, once: &str) -> Result<bool, AllocError> {
+fn is_copied(alloc: Global, stream: &TokenStream, wanted: &str) -> bool {
+    match stream.try_clone() {
+        Ok(copy) => is_printed(alloc, &copy, wanted),
+        Err(_) => false,
+    }
+}
+
+fn is_printed(alloc: Global, stream: &TokenStream, wanted: &str) -> bool {
+    match stream.to_string(alloc) {
+        Ok(printed) => printed.as_str() == wanted,
+        Err(_) => false,
+    }
+}
+
+fn is_printed_again(alloc: Global, once: &str) -> bool {
     match TokenStream::from_str(alloc, once, &mut SourceMap::new(alloc)) {
         Ok(stream) => is_printed(alloc, &stream, once),
-        Err(_) => Ok(false),
+        Err(_) => false,
     }
 }
 
 /// A stream by `Debug`, or the text's fault.
-pub fn show(text: &str, page: &mut Page) -> Result<(), Unanswered> {
+pub fn show(text: &str, page: &mut Page) {
     if let Some(stream) = lexed(text, page) {
         page.debug(&stream);
     }
-    Ok(())
 }
 
 /// The trees at the top of a text, each with its kind, or the text's fault.
-pub fn tell(text: &str, page: &mut Page) -> Result<(), Unanswered> {
+pub fn tell(text: &str, page: &mut Page) {
     if let Some(stream) = lexed(text, page) {
-        let mut is_first = true;
-        for tree in stream.into_iter()? {
-            page.put(if is_first { "" } else { ", " });
-            tell_tree(&tree, page);
-            is_first = false;
-        }
+        tell_trees(stream, page);
     }
-    Ok(())
+}
+
+fn tell_trees(stream: TokenStream, page: &mut Page) {
+    match stream.into_iter() {
+        Ok(trees) => tell_each(trees, page),
+        Err(_) => page.cut(),
+    }
+}
+
+fn tell_each(trees: IntoIter, page: &mut Page) {
+    let mut is_first = true;
+    for tree in trees {
+        page.put(if is_first { "" } else { ", " });
+        tell_tree(&tree, page);
+        is_first = false;
+    }
 }
 
 fn tell_tree(tree: &TokenTree, page: &mut Page) {
@@ -114,7 +144,7 @@ fn inner_count(group: &Group) -> Result<usize, AllocError> {
 
 /// The place of the first character of each tree at the top of a text and that behind its last one, behind an older
 /// text in one map; or the text's fault.
-pub fn place(text: &str, page: &mut Page) -> Result<(), Unanswered> {
+pub fn place(text: &str, page: &mut Page) {
     let alloc = page.alloc();
     let mut map = SourceMap::new(alloc);
     if TokenStream::from_str(alloc, "older\n", &mut map).is_err() {
@@ -124,30 +154,38 @@ pub fn place(text: &str, page: &mut Page) -> Result<(), Unanswered> {
         Ok(stream) => place_trees(stream, &map, page),
         Err(fault) => page.show(&fault),
     }
-    Ok(())
 }
 
 fn place_trees(stream: TokenStream, map: &SourceMap, page: &mut Page) {
     match stream.into_iter() {
-        Ok(trees) => {
-            for tree in trees {
-                place_span(tree.span(), map, page);
-            }
-        }
+        Ok(trees) => place_each(trees, map, page),
         Err(_) => page.cut(),
     }
 }
 
-fn place_span(span: Span, map: &SourceMap, page: &mut Page) {
-    if !map.holds(span) {
-        page.put("not held");
-        return;
+fn place_each(trees: IntoIter, map: &SourceMap, page: &mut Page) {
+    for tree in trees {
+        place_span(tree.span(), map, page);
     }
-    let (start, end) = (span.start(map), span.end(map));
-    let (from, to) = (start.column, end.column);
-    let (line, last) = (start.line, end.line);
-    write!(page, " {line}:{from} {last}:{to} ");
-    match span.source_text(page.alloc(), map) {
+}
+
+fn place_span(span: Span, map: &SourceMap, page: &mut Page) {
+    if map.holds(span) {
+        put_place(span.start(map), page);
+        put_place(span.end(map), page);
+        page.put(" ");
+        put_source(span.source_text(page.alloc(), map), page);
+    } else {
+        page.put("not held");
+    }
+}
+
+fn put_place(place: LineColumn, page: &mut Page) {
+    write!(page, " {}:{}", place.line, place.column);
+}
+
+fn put_source(source: Result<Option<String>, AllocError>, page: &mut Page) {
+    match source {
         Ok(Some(source)) => page.quote(source.as_str()),
         Ok(None) => page.quote(""),
         Err(_) => page.cut(),

@@ -1,6 +1,6 @@
 //! Equality, order and hashing of names.
 
-use crate::lines::tell;
+use super::lines::tell;
 use proc_macro2::tree::{TokenStream, TokenTree};
 use rows::{Page, Unanswered};
 use rust_leaf::ident::Ident;

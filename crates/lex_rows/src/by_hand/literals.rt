@@ -1,6 +1,6 @@
 //! Literals of texts, and their values.
 
-use crate::behind::Older;
+use super::behind::Older;
 use rows::Page;
 use rust_leaf::literal::Literal;
 use rust_leaf::value::ConversionErrorKind;

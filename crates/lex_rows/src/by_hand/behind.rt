@@ -1,6 +1,6 @@
 //! Texts behind an older one, whose spans the map must leave.
 
-use crate::shown::as_before;
+use super::shown::as_before;
 use proc_macro2::tree::TokenStream;
 use rows::Page;
 use rust_map::source_map::SourceMap;

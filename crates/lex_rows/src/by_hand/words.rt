@@ -1,6 +1,6 @@
 //! How streams and source maps are shown, and what is said of lexical faults.
 
-use crate::lines::{say, show, show_made};
+use super::lines::{say, show, show_made};
 use proc_macro2::delimiter::Delimiter;
 use proc_macro2::into_iter::IntoIter;
 use proc_macro2::tree::{Group, TokenStream, TokenTree};

@@ -1,6 +1,6 @@
 //! How leaves are shown, and what is said of their faults.
 
-use crate::lines::{say, show, show_made};
+use super::lines::{say, show, show_made};
 use rows::Page;
 use rust_escape::EscapeError;
 use rust_leaf::ident::{Ident, IdentFault};

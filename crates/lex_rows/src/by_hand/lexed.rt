@@ -1,6 +1,6 @@
 //! The tokens of a text behind an older one.
 
-use crate::behind::Older;
+use super::behind::Older;
 use proc_macro2::tree::TokenStream;
 use rows::Page;
 use rust_map::fault::LexFault;

@@ -1,6 +1,6 @@
 //! Streams that are built by hand.
 
-use crate::lines::print_made;
+use super::lines::print_made;
 use lex_laws::spaced::reread;
 use proc_macro2::delimiter::Delimiter;
 use proc_macro2::tree::{Group, TokenStream, TokenTree};

@@ -1,6 +1,6 @@
 //! Streams by hand.
 
-use crate::shown::{as_before, shown};
+use super::shown::{as_before, shown};
 use proc_macro2::delimiter::Delimiter;
 use proc_macro2::tree::{Group, TokenStream, TokenTree};
 use rows::Page;
