@@ -5,9 +5,7 @@
 
 use anyhow::Result;
 use std::io::{Read, Write};
-use syn::{
-    Arena, Kind, LineColumn, Part, SourceMap, Span, TokenBuffer, TokenStream, parse_file,
-};
+use syn::{Arena, Kind, LineColumn, Part, SourceMap, Span, TokenBuffer, TokenStream, parse_file};
 use syn_placed::placed::Placed;
 
 // Where a token begins, if it stands in a text of the map.
@@ -77,10 +75,7 @@ fn inside<'t, 'a>(placed: Placed<'t, 'a>) -> Option<Placed<'t, 'a>> {
 }
 
 // Puts what stands in a form with operands, the last one first.
-fn put_operands<'t, 'a>(
-    placed: Placed<'t, 'a>,
-    todo: &mut Vec<Placed<'t, 'a>>,
-) -> Result<()> {
+fn put_operands<'t, 'a>(placed: Placed<'t, 'a>, todo: &mut Vec<Placed<'t, 'a>>) -> Result<()> {
     if let Some((_, own, right)) = placed.front() {
         todo.push(right)?;
         todo.push(own)?;
