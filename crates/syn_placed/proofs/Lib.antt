@@ -1,0 +1,8 @@
+pub mod Flat
+pub mod Counted
+pub mod Cuts
+pub mod Shapes
+pub mod Sought
+pub mod Lists
+pub mod Sizes
+pub mod Places
