@@ -5,8 +5,8 @@
 
 ghost use Rattle.syn_input.specs.Input.{IsOnward};
 
-use anyhow::{Result, anyhow};
-use std::alloc::Global;
+use anyhow::Result;
+use std::alloc::AllocError;
 use std::io::{Read, Write};
 use syn::{
     Arena, Delimiter, Ident, Kind, ParseFault, ParseForms, Plus, Position, SourceMap, Span,
@@ -30,6 +30,20 @@ struct Settings<'a> {
     list: Punctuated<Setting<'a>, token::Comma>,
 }
 
+// `: Type = expression`
+fn parse_typed<'a>(
+    input: &mut ParseBuffer<'a>,
+    arena: &'a Arena,
+) -> Result<(Tree<'a>, Tree<'a>), ParseFault>
+    ensures { IsOnward input.old input.new }
+{
+    input.parse::<token::Colon>()?;
+    let ty = input.parse_as(arena, Kind::AType(Plus::WithPlus))?;
+    input.parse::<token::Eq>()?;
+    let value = input.parse_as(arena, Kind::Expression(Position::Plain))?;
+    Ok((ty, value))
+}
+
 // The setting that stands there.
 fn parse_setting<'a>(
     input: &mut ParseBuffer<'a>,
@@ -38,10 +52,7 @@ fn parse_setting<'a>(
     ensures { IsOnward input.old input.new }
 {
     let name = input.parse::<Ident>()?;
-    input.parse::<token::Colon>()?;
-    let ty = input.parse_as(arena, Kind::AType(Plus::WithPlus))?;
-    input.parse::<token::Eq>()?;
-    let value = input.parse_as(arena, Kind::Expression(Position::Plain))?;
+    let (ty, value) = parse_typed(input, arena)?;
     Ok(Setting { name, ty, value })
 }
 
@@ -60,6 +71,18 @@ fn parse_list<'a>(
     )
 }
 
+// The word `settings`.
+fn parse_word(input: &mut ParseBuffer) -> Result<(), ParseFault>
+    ensures { IsOnward input.old input.new }
+{
+    let start = input.fork();
+    if input.parse::<Ident>()?.is_text("settings") {
+        Ok(())
+    } else {
+        Err(ParseFault::from(start.error("expected `settings`")?))
+    }
+}
+
 // The settings that stand there, with their name.
 fn parse_settings<'a>(
     input: &mut ParseBuffer<'a>,
@@ -67,11 +90,7 @@ fn parse_settings<'a>(
 ) -> Result<Settings<'a>, ParseFault>
     ensures { IsOnward input.old input.new }
 {
-    let start = input.fork();
-    let word = input.parse::<Ident>()?;
-    if !word.is_text("settings") {
-        return Err(ParseFault::from(start.error("expected `settings`")?));
-    }
+    parse_word(input)?;
     let name = input.parse::<Ident>()?;
     let (_, list) = input.within(
         Delimiter::Brace,
@@ -93,11 +112,13 @@ fn parsed<'a>(arena: &'a Arena, buffer: &'a TokenBuffer<'a>) -> Result<Settings<
     )
 }
 
-// The printed normal form of a part.
-fn normal(alloc: Global, tree: &Tree) -> Result<String> {
+// Puts the printed normal form of a part, behind these words.
+fn put_part(words: &str, part: &Tree, out: &mut String) -> Result<(), AllocError> {
+    let alloc = *out.allocator();
     let mut pieces = Vec::new(alloc);
-    write(tree, &mut pieces)?;
-    Ok(print(alloc, pieces.as_slice())?)
+    write(part, &mut pieces)?;
+    let text = print(alloc, pieces.as_slice())?;
+    write!(out, "{words}{text}")
 }
 
 // The column in which a token begins, if it stands in the text.
@@ -110,40 +131,48 @@ fn column_of(map: &SourceMap, span: Span) -> Option<usize> {
 }
 
 // Where a token stands, behind what is said of it.
-fn put_column(map: &SourceMap, span: Span, out: &mut String) -> Result<()> {
+fn put_column(map: &SourceMap, span: Span, out: &mut String) -> Result<(), AllocError> {
     match column_of(map, span) {
-        Some(column) => writeln!(out, " at {column}")?,
-        None => writeln!(out, " at the end")?,
+        Some(column) => writeln!(out, " at {column}"),
+        None => writeln!(out, " at the end"),
+    }
+}
+
+// A line for a setting.
+fn put_setting(map: &SourceMap, setting: &Setting, out: &mut String) -> Result<(), AllocError> {
+    write!(out, "  {} is ", setting.name)?;
+    put_part("", &setting.value, out)?;
+    put_part(", of type ", &setting.ty, out)?;
+    write!(out, ",")?;
+    put_column(map, setting.name.span(), out)
+}
+
+// What is said of settings.
+fn put_settings(map: &SourceMap, settings: &Settings, out: &mut String) -> Result<(), AllocError> {
+    writeln!(out, "  {} has {}", settings.name, settings.list.len())?;
+    for setting in &settings.list {
+        put_setting(map, setting, out)?;
     }
     Ok(())
 }
 
-// A line for a setting.
-fn put_setting(map: &SourceMap, setting: &Setting, out: &mut String) -> Result<()> {
-    let alloc = *out.allocator();
-    let ty = normal(alloc, &setting.ty)?;
-    let value = normal(alloc, &setting.value)?;
-    write!(out, "  {} is {value}, of type {ty},", setting.name)?;
-    put_column(map, setting.name.span(), out)
-}
-
-// What is said of the settings that a buffer holds.
-fn put_settings(map: &SourceMap, buffer: &TokenBuffer, out: &mut String) -> Result<()> {
-    let alloc = *out.allocator();
-    let arena = Arena::new(alloc);
-    match parsed(&arena, buffer) {
-        Ok(settings) => {
-            writeln!(out, "  {} has {}", settings.name, settings.list.len())?;
-            for setting in &settings.list {
-                put_setting(map, setting, out)?;
-            }
-            Ok(())
-        }
-        Err(ParseFault::Syntax(error)) => {
+// What is said of a text that has none.
+fn put_fault(map: &SourceMap, fault: ParseFault, out: &mut String) -> Result<(), AllocError> {
+    match fault {
+        ParseFault::Syntax(error) => {
             write!(out, "  no settings: {error}")?;
             put_column(map, error.span(), out)
         }
-        Err(ParseFault::Memory) => Err(anyhow!("out of memory")),
+        ParseFault::Memory => Err(AllocError),
+    }
+}
+
+// What is said of the settings that a buffer holds.
+fn put_buffer(map: &SourceMap, buffer: &TokenBuffer, out: &mut String) -> Result<(), AllocError> {
+    let arena = Arena::new(*out.allocator());
+    match parsed(&arena, buffer) {
+        Ok(settings) => put_settings(map, &settings, out),
+        Err(fault) => put_fault(map, fault, out),
     }
 }
 
@@ -154,7 +183,7 @@ fn report(text: &str, out: &mut String) -> Result<()> {
     let mut map = SourceMap::new(alloc);
     let stream = TokenStream::from_str(alloc, text, &mut map)?;
     let buffer = TokenBuffer::new2(alloc, &stream, 1)?;
-    put_settings(&map, &buffer, out)
+    Ok(put_buffer(&map, &buffer, out)?)
 }
 
 fn main(rt: HostRuntime) -> Result<()> {
