@@ -1,12 +1,9 @@
-//! Texts, the tokens that they lend, and how a tree is written.
+//! Texts, and the tokens that they lend.
 
-use gram_build::build::write_in;
-use gram_piece::piece::Piece;
-use gram_piece::print::print;
-use gram_write::write::write;
+use crate::reading::lexed;
 use rows::{Page, Unanswered};
-use std::alloc::{AllocError, Global};
-use syn::{Position, SourceMap, TokenBuffer, TokenStream, Tree, put_as_read};
+use std::alloc::Global;
+use syn::TokenStream;
 
 // How many operands an expression has that stand between `‹` and `›`. None where a `›` ends none.
 fn operand_count(whole: &str) -> Option<usize> {
@@ -50,10 +47,7 @@ fn put_text(whole: &str, number: usize, page: &mut Page) {
 
 /// The tokens of a text.
 pub(crate) fn stream(alloc: Global, text: &str) -> Result<TokenStream, Unanswered> {
-    match TokenStream::from_str(alloc, text, &mut SourceMap::new(alloc)) {
-        Ok(stream) => Ok(stream),
-        Err(_) => Err(Unanswered::NoRow),
-    }
+    lexed(alloc, text).ok_or(Unanswered::NoRow)
 }
 
 // The tokens of one of the texts of an expression.
@@ -71,63 +65,6 @@ pub(crate) fn streams(alloc: Global, whole: &str) -> Result<Vec<TokenStream>, Un
         all.push(text_stream(alloc, whole, number)?)?;
     }
     Ok(all)
-}
-
-/// The buffers of streams.
-pub(crate) fn buffers<'a>(
-    alloc: Global,
-    streams: &'a [TokenStream],
-) -> Result<Vec<TokenBuffer<'a>>, Unanswered> {
-    let mut all = Vec::new(alloc);
-    for stream in streams {
-        all.push(TokenBuffer::new2(alloc, stream, 1)?)?;
-    }
-    Ok(all)
-}
-
-/// How a tree is written.
-#[derive(Clone, Copy)]
-pub(crate) enum Writing {
-    /// As a tree that was read.
-    Read,
-    /// Just as it is.
-    Plain,
-    /// As the form of an expression that was built, in a position.
-    Built(Position),
-}
-
-// Puts the tokens of a tree.
-fn put_pieces<'a>(
-    writing: Writing,
-    tree: &Tree<'a>,
-    pieces: &mut Vec<Piece<'a>>,
-) -> Result<(), AllocError> {
-    match writing {
-        Writing::Read => write(tree, pieces),
-        Writing::Plain => put_as_read(tree, pieces),
-        Writing::Built(position) => write_in(position, tree, pieces),
-    }
-}
-
-/// Puts the print of a tree.
-pub(crate) fn put_print(writing: Writing, tree: &Tree<'_>, page: &mut Page) {
-    let mut pieces = Vec::new(page.alloc());
-    match put_pieces(writing, tree, &mut pieces) {
-        Ok(()) => page.put_made(print(page.alloc(), pieces.as_slice())),
-        Err(_) => page.cut(),
-    }
-}
-
-/// Whether that is the print of a tree.
-pub(crate) fn is_print(
-    alloc: Global,
-    writing: Writing,
-    tree: &Tree<'_>,
-    wanted: &str,
-) -> Result<bool, Unanswered> {
-    let mut page = Page::new(alloc);
-    put_print(writing, tree, &mut page);
-    Ok(page.whole()? == wanted)
 }
 
 /// How many parentheses a text opens.

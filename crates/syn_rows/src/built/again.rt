@@ -1,7 +1,8 @@
 //! Texts that are read again, and what is asked of what is read.
 
-use crate::shape::put_shape;
-use crate::text::{Writing, is_print, may_shelter, opened, put_print, stream};
+use crate::built::shape::put_shape;
+use crate::built::text::{may_shelter, opened, stream};
+use crate::written::{Writing, is_print, put_print};
 use rows::{Page, Unanswered};
 use std::alloc::Global;
 use syn::parse::parse_front;

@@ -3,7 +3,7 @@
 ghost use Rattle.gram_tree.specs.Size.{node_count};
 ghost use Rattle.std.specs.Prelude.{◌<◌, IfSome};
 
-use crate::text::{Writing, put_print};
+use crate::written::{Writing, put_print};
 use gram_tree::made;
 use proc_macro2::Spacing;
 use rows::{Page, Unanswered};

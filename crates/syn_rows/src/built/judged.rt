@@ -1,9 +1,11 @@
 //! What is wrong with what is printed of a tree.
 
-use crate::built::built;
-use crate::reading::{Again, Asked, Question, read_again};
-use crate::shape::put_shape;
-use crate::text::{Writing, buffers, may_shelter, opened, put_print, streams};
+use crate::built::again::{Again, Asked, Question, read_again};
+use crate::built::filled::built;
+use crate::built::shape::put_shape;
+use crate::built::text::{may_shelter, opened, streams};
+use crate::reading::buffers;
+use crate::written::{Writing, put_print};
 use rows::{Page, Unanswered};
 use std::alloc::Global;
 use syn::{Arena, Position, TokenBuffer, TokenStream, Tree, made, normal_in};

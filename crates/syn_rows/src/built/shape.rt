@@ -1,7 +1,7 @@
 //! What a tree is, up to parentheses and to how its marks are spaced.
 
-use crate::change::{Change, changed};
-use crate::text::{Writing, put_print};
+use crate::built::change::{Change, changed};
+use crate::written::{Writing, put_print};
 use rows::{Page, Unanswered};
 use syn::{Arena, Form, Tree, put_nodes};
 

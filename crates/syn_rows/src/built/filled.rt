@@ -1,7 +1,7 @@
 //! Trees, made of what is read of texts.
 
-use crate::change::{Change, changed};
-use crate::reading::form_of;
+use crate::built::again::form_of;
+use crate::built::change::{Change, changed};
 use rows::Unanswered;
 use std::alloc::Global;
 use syn::{Arena, Kind, ParseFault, Position, TokenBuffer, Tree, parse_as};

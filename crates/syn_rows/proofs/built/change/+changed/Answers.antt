@@ -1,7 +1,7 @@
 use Rattle.std.proofs.Common.{arith, ap, sym, ◌∙◌}
 use Rattle.gram_tree.specs.Forms.{tree_of}
 use Rattle.gram_tree.proofs.Sizes.{turns_below, list_below}
-use Rattle.tree_rows.proofs.change.+changed.Goals as goal
+use Rattle.syn_rows.proofs.built.change.+changed.Goals as goal
 
 pub made_anew-changed_turns-requires : goal.made_anew-changed_turns-requires
 made_anew-changed_turns-requires t c =

@@ -1,8 +1,8 @@
 //! Each form in each.
 
-use crate::forms::{ALONE, AROUND, BACKS, BRACES, FRONTS, INSIDE, OPERATORS, PATHS, PLACES};
-use crate::judged::{Case, Finding, put_judged};
-use crate::reading::{Again, Asked, Question, read_again};
+use crate::built::again::{Again, Asked, Question, read_again};
+use crate::built::forms::{ALONE, AROUND, BACKS, BRACES, FRONTS, INSIDE, OPERATORS, PATHS, PLACES};
+use crate::built::judged::{Case, Finding, put_judged};
 use rows::{Page, Unanswered};
 use std::alloc::Global;
 use syn::Position;
