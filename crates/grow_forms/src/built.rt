@@ -1,6 +1,6 @@
 //! Expressions that are built by hand and written, what stands for one, and the members of fields.
 
-use crate::asked::{Question, ask};
+use crate::asked::Question;
 use crate::pieces::{older, put_behind};
 use gram_build::build::write_in;
 use gram_table::kind::{Kind, Position};
@@ -17,8 +17,8 @@ use syn_data::derive::{Data, DeriveInput};
 use syn_data::members::Member;
 use syn_error::ParseFault;
 
-// Why a form that stands there was not read.
-fn unread(fault: ParseFault) -> Stop {
+/// Why a form that stands there was not read.
+pub(crate) fn unread(fault: ParseFault) -> Stop {
     match fault {
         ParseFault::Memory => Stop::Refused,
         ParseFault::Syntax(_) => Stop::Changed,
@@ -124,14 +124,8 @@ fn put_built<'a>(
     put_normal_form(arena, &whole, page)
 }
 
-// Puts what is written of what stands for an expression where none is known yet.
-fn put_placeholder(page: &mut Page) -> Result<(), Stop> {
-    let arena = Arena::new(page.alloc());
-    put_unknown(&arena, page)
-}
-
-// The same in an arena.
-fn put_unknown<'a>(arena: &'a Arena, page: &mut Page) -> Result<(), Stop> {
+/// Puts what is written of what stands for an expression where none is known yet.
+pub(crate) fn put_unknown<'a>(arena: &'a Arena, page: &mut Page) -> Result<(), Stop> {
     let unknown = looked_at(Expr::placeholder(arena))?;
     put_form(Position::Plain, &unknown, page)
 }
@@ -163,32 +157,16 @@ pub(crate) fn put_struct<'a>(
     }
 }
 
-// A position, and an assignment: of what stands behind `=` the left operand of what stands before it is made.
-const BUILT: [(Position, &str); 5] = [
-    (Position::Plain, "a * b = c + d"),
-    (Position::Plain, "a + b = c * d"),
-    (Position::InCondition, "a == b = S { }"),
-    (Position::InStatement, "a - b = if c { }"),
-    (Position::InArm, "a + b = return c"),
+/// An assignment in a position: of what stands behind `=` the left operand of what stands before it is made. What stands
+/// for an expression where none is known. Structs.
+pub(crate) const BUILT: [(Question, &str); 9] = [
+    (Question::Built(Position::Plain), "a * b = c + d"),
+    (Question::Built(Position::Plain), "a + b = c * d"),
+    (Question::Built(Position::InCondition), "a == b = S { }"),
+    (Question::Built(Position::InStatement), "a - b = if c { }"),
+    (Question::Built(Position::InArm), "a + b = return c"),
+    (Question::Unknown, ""),
+    (Question::Members, "struct S { x : u8 , r#y : u8 }"),
+    (Question::Members, "struct S (u8 , u8) ;"),
+    (Question::Members, "struct S ;"),
 ];
-
-const STRUCTS: [&str; 3] = [
-    "struct S { x : u8 , r#y : u8 }",
-    "struct S (u8 , u8) ;",
-    "struct S ;",
-];
-
-/// Puts the answers for these, in lines.
-pub(crate) fn put_answers(page: &mut Page) -> Result<(), Stop> {
-    for (position, text) in BUILT {
-        ask(Question::Built(position), text, page)?;
-        page.put("\n");
-    }
-    put_placeholder(page)?;
-    page.put("\n");
-    for text in STRUCTS {
-        ask(Question::Members, text, page)?;
-        page.put("\n");
-    }
-    Ok(())
-}

@@ -1,6 +1,6 @@
 //! Items put where they stand, without attributes, and behind `pub` or `default`.
 
-use crate::change::{Unmade, word};
+use crate::made::change::{By, Unmade};
 use syn::{
     Arena, AssociatedItem, ForeignItem, Ident, Item, OuterAttributes, Tree, Turns, Visibility,
 };
@@ -10,7 +10,7 @@ use syn_made::to_tree::ToTree;
 // An item of a trait or an impl, behind such words.
 fn put_member<'a>(
     arena: &'a Arena,
-    tree: &Tree<'a>,
+    tree: &'a Tree<'a>,
     before: (&Tree<'a>, &Tree<'a>),
     defaultness: Option<&'a Ident>,
 ) -> Result<Option<Tree<'a>>, Unmade> {
@@ -27,7 +27,7 @@ fn put_member<'a>(
 // An item behind such words, where it stands.
 fn put<'a>(
     arena: &'a Arena,
-    tree: &Tree<'a>,
+    tree: &'a Tree<'a>,
     before: (&Tree<'a>, &Tree<'a>),
     defaultness: Option<&'a Ident>,
 ) -> Result<Option<Tree<'a>>, Unmade> {
@@ -42,7 +42,7 @@ fn put<'a>(
 // The same, by its visibility.
 fn put_behind<'a>(
     arena: &'a Arena,
-    tree: &Tree<'a>,
+    tree: &'a Tree<'a>,
     vis: Visibility<'_, 'a>,
     defaultness: Option<&'a Ident>,
 ) -> Result<Option<Tree<'a>>, Unmade> {
@@ -57,19 +57,13 @@ fn put_behind<'a>(
 /// An item where it stands, behind what the change names.
 pub(crate) fn changed<'a>(
     arena: &'a Arena,
-    change: &str,
-    tree: &Tree<'a>,
+    by: By<'_, 'a>,
+    tree: &'a Tree<'a>,
 ) -> Result<Option<Tree<'a>>, Unmade> {
-    match change {
+    match by.change {
         "in its place" => put_behind(arena, tree, Visibility::Inherited, None),
-        "public" => {
-            let vis = Visibility::Public(word(arena, "pub")?);
-            put_behind(arena, tree, vis, None)
-        }
-        "default" => {
-            let default = word(arena, "default")?;
-            put_behind(arena, tree, Visibility::Inherited, Some(default))
-        }
+        "public" => put_behind(arena, tree, Visibility::Public(by.word), None),
+        "default" => put_behind(arena, tree, Visibility::Inherited, Some(by.word)),
         _ => Err(Unmade::NoRow),
     }
 }

@@ -1,15 +1,11 @@
 //! A long expression, and what is written of it.
 
-use crate::asked::{Question, ask};
+use crate::asked::Question;
 use crate::built::{form_of, parsed, put_form, put_normal_form};
 use crate::texts::put_tree;
 use rows::Page;
 use stops::Stop;
 use syn::{Arena, Kind, Position, TokenBuffer, Tree};
-
-// Forty operands, with operators of most levels between them.
-const LONG: &str =
-    "a + b * c - d / e % f << g + h & i ^ j | k * l == m - n && o < p + q || r % s - t * u != v << w && x | y ^ z & A + B * C > D - E / F || G % H >> I == J * K + L && M >= N";
 
 /// Puts what is written of the expression that a buffer holds: as it was read, as its normal form, which is made as a
 /// tree, and as an expression that is built by hand.
@@ -28,14 +24,13 @@ fn put_expression<'a>(arena: &'a Arena, tree: &Tree<'a>, page: &mut Page) -> Res
     put_normal_form(arena, tree, page)?;
     page.put("\n");
     match form_of(tree) {
-        Some(form) => put_form(Position::Plain, form, page)?,
-        None => return Err(Stop::Changed),
+        Some(form) => put_form(Position::Plain, form, page),
+        None => Err(Stop::Changed),
     }
-    page.put("\n");
-    Ok(())
 }
 
-/// Puts what is written of the long expression, in lines.
-pub(crate) fn put_answers(page: &mut Page) -> Result<(), Stop> {
-    ask(Question::Long, LONG, page)
-}
+/// Forty operands, with operators of most levels between them.
+pub(crate) const LONG: [(Question, &str); 1] = [(
+    Question::Long,
+    "a + b * c - d / e % f << g + h & i ^ j | k * l == m - n && o < p + q || r % s - t * u != v << w && x | y ^ z & A + B * C > D - E / F || G % H >> I == J * K + L && M >= N",
+)];

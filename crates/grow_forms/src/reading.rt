@@ -1,6 +1,6 @@
 //! Forms and tokens that are read one behind the other, and tokens as a stream.
 
-use crate::asked::{Question, ask};
+use crate::asked::Question;
 use proc_macro2::delimiter::Delimiter;
 use rows::Page;
 use stops::{Stop, looked_at, refused};
@@ -57,7 +57,7 @@ fn put_form(start: Reader<'_>, page: &mut Page) -> Result<(), Stop> {
     }
 }
 
-// Puts what is said of a call in a line, if it was refused.
+// Puts what is said of a call in a line of its own, if it was refused.
 fn put_refusal<T: Drop>(
     answer: Result<T, ParseFault>,
     stays: bool,
@@ -66,9 +66,8 @@ fn put_refusal<T: Drop>(
     match answer {
         Ok(_) => Ok(()),
         Err(fault) => {
-            put_said(fault, stays, page)?;
             page.put("\n");
-            Ok(())
+            put_said(fault, stays, page)
         }
     }
 }
@@ -101,14 +100,12 @@ pub(crate) fn put_read<'a>(
     put_form(input, page)?;
     page.put("\n");
     put_type(&mut input, page)?;
-    page.put("\n");
     put_refusals(input, page)
 }
 
-/// Puts the answers for three texts.
-pub(crate) fn put_answers(page: &mut Page) -> Result<(), Stop> {
-    for text in ["& 'a [u8 ; 2] , b", "+ 1", ""] {
-        ask(Question::Read, text, page)?;
-    }
-    Ok(())
-}
+/// Texts that begin with a type, and that don't.
+pub(crate) const TEXTS: [(Question, &str); 3] = [
+    (Question::Read, "& 'a [u8 ; 2] , b"),
+    (Question::Read, "+ 1"),
+    (Question::Read, ""),
+];

@@ -1,7 +1,7 @@
 //! Calls that read one text each: as a type of the syntax tree, or as a form that may be missing; and what is made of a
 //! form that was read.
 
-use crate::asked::{Question, ask};
+use crate::asked::Question;
 use crate::built::parsed;
 use crate::{optional, typed, values};
 use rows::Page;
@@ -29,32 +29,48 @@ pub(crate) enum Call {
     Value,
 }
 
-const CALLS: [(Call, &str); 25] = [
-    (Call::Stmt, "x ;"),
-    (Call::Stmt, "x"),
-    (Call::Parameter, "# [a] mut b : B"),
-    (Call::Parameter, "b : B , c : C"),
-    (Call::OneTrait, "# [a] pub trait A : B { fn f () ; }"),
-    (Call::OneTrait, "struct A ;"),
-    (Call::OneTraitItem, "# [a] fn f (& self) -> A ;"),
-    (Call::OneTraitItem, "struct A ;"),
-    (Call::WhereClause, "where A : B , 'a : 'b { }"),
-    (Call::WhereClause, "{ }"),
-    (Call::WhereClause, "where A B"),
-    (Call::Label, "'a : loop { }"),
-    (Call::Label, "loop { }"),
-    (Call::Label, "'a loop { }"),
-    (Call::BoundLifetimes, "for < 'a , 'b > fn ()"),
-    (Call::BoundLifetimes, "fn ()"),
-    (Call::BoundLifetimes, "for a in b { }"),
-    (Call::Abi, "extern \"C\" fn f ()"),
-    (Call::Abi, "fn f ()"),
-    (Call::Stream, "a + b [c ..] * (- d) . e :: < F > (g)"),
-    (Call::Value, "\"a longer text\\n\""),
-    (Call::Value, "b\"\\xFFbytes\""),
-    (Call::Value, "0x1F_u8"),
-    (Call::Value, "true"),
-    (Call::Value, "false"),
+/// The texts, with what is called.
+pub(crate) const CALLS: [(Question, &str); 25] = [
+    (Question::Called(Call::Stmt), "x ;"),
+    (Question::Called(Call::Stmt), "x"),
+    (Question::Called(Call::Parameter), "# [a] mut b : B"),
+    (Question::Called(Call::Parameter), "b : B , c : C"),
+    (
+        Question::Called(Call::OneTrait),
+        "# [a] pub trait A : B { fn f () ; }",
+    ),
+    (Question::Called(Call::OneTrait), "struct A ;"),
+    (
+        Question::Called(Call::OneTraitItem),
+        "# [a] fn f (& self) -> A ;",
+    ),
+    (Question::Called(Call::OneTraitItem), "struct A ;"),
+    (
+        Question::Called(Call::WhereClause),
+        "where A : B , 'a : 'b { }",
+    ),
+    (Question::Called(Call::WhereClause), "{ }"),
+    (Question::Called(Call::WhereClause), "where A B"),
+    (Question::Called(Call::Label), "'a : loop { }"),
+    (Question::Called(Call::Label), "loop { }"),
+    (Question::Called(Call::Label), "'a loop { }"),
+    (
+        Question::Called(Call::BoundLifetimes),
+        "for < 'a , 'b > fn ()",
+    ),
+    (Question::Called(Call::BoundLifetimes), "fn ()"),
+    (Question::Called(Call::BoundLifetimes), "for a in b { }"),
+    (Question::Called(Call::Abi), "extern \"C\" fn f ()"),
+    (Question::Called(Call::Abi), "fn f ()"),
+    (
+        Question::Called(Call::Stream),
+        "a + b [c ..] * (- d) . e :: < F > (g)",
+    ),
+    (Question::Called(Call::Value), "\"a longer text\\n\""),
+    (Question::Called(Call::Value), "b\"\\xFFbytes\""),
+    (Question::Called(Call::Value), "0x1F_u8"),
+    (Question::Called(Call::Value), "true"),
+    (Question::Called(Call::Value), "false"),
 ];
 
 // All of the tokens as an expression.
@@ -93,13 +109,4 @@ pub(crate) fn put_call<'a>(
         Call::Stream => put_stream(&expression(arena, buffer)?, page),
         Call::Value => values::put_value(&expression(arena, buffer)?, page),
     }
-}
-
-/// Puts the answers of these calls, in lines.
-pub(crate) fn put_answers(page: &mut Page) -> Result<(), Stop> {
-    for (call, text) in CALLS {
-        ask(Question::Called(call), text, page)?;
-        page.put("\n");
-    }
-    Ok(())
 }

@@ -1,16 +1,13 @@
 //! What is answered for a row.
 
-use crate::change::{Asked, Unmade, asked_by, made};
+use crate::asked::lexed;
+use crate::made::change::{Asked, Unmade, asked_by, made};
 use rows::Page;
-use std::alloc::Global;
 use stops::{Stop, refused};
-use syn::{
-    Arena, NormalFault, ParseFault, SourceMap, TokenBuffer, TokenStream, Tree, parse_as, print,
-    put_normal,
-};
+use syn::{Arena, NormalFault, ParseFault, TokenBuffer, Tree, parse_as, print, put_normal};
 
 // What is written of a tree.
-fn written<'a>(arena: &'a Arena, tree: &Tree<'a>) -> Result<String, Stop> {
+fn written<'a>(arena: &'a Arena, tree: &'a Tree<'a>) -> Result<String, Stop> {
     let alloc = arena.alloc();
     let mut pieces = Vec::new(alloc);
     match put_normal(arena, tree, &mut pieces) {
@@ -33,7 +30,7 @@ fn said<'a>(arena: &'a Arena, found: Option<Tree<'a>>) -> Result<String, Stop> {
 }
 
 // What is said of what is made of a tree.
-fn said_of_made<'a>(arena: &'a Arena, asked: Asked, tree: &Tree<'a>) -> Result<String, Stop> {
+fn said_of_made<'a>(arena: &'a Arena, asked: Asked, tree: &'a Tree<'a>) -> Result<String, Stop> {
     match made(arena, asked, tree) {
         Ok(found) => said(arena, found),
         Err(Unmade::Memory) => Err(Stop::Elsewhere),
@@ -52,7 +49,7 @@ struct Arenas<'a> {
 fn is_as_before<'a>(
     arenas: Arenas<'a>,
     asked: Asked,
-    tree: &Tree<'a>,
+    tree: &'a Tree<'a>,
     before: &str,
 ) -> Result<bool, Stop> {
     if written(arenas.own, tree)?.as_str() != before {
@@ -66,7 +63,7 @@ fn is_as_before<'a>(
 fn put_made<'a>(
     arenas: Arenas<'a>,
     asked: Asked,
-    tree: &Tree<'a>,
+    tree: &'a Tree<'a>,
     before: &str,
     page: &mut Page,
 ) -> Result<(), Stop> {
@@ -89,8 +86,9 @@ fn put_read<'a>(
 ) -> Result<(), Stop> {
     match parse_as(arenas.own, asked.kind, buffer) {
         Ok(tree) => {
-            let before = written(arenas.own, &tree)?;
-            put_made(arenas, asked, &tree, before.as_str(), page)
+            let tree = arenas.own.put(tree)?;
+            let before = written(arenas.own, tree)?;
+            put_made(arenas, asked, tree, before.as_str(), page)
         }
         Err(ParseFault::Memory) => Err(Stop::Elsewhere),
         Err(ParseFault::Syntax(_)) => Err(Stop::Changed),
@@ -107,14 +105,6 @@ fn put_held(asked: Asked, buffer: &TokenBuffer<'_>, page: &mut Page) -> Result<(
         fresh: &fresh,
     };
     put_read(arenas, asked, buffer, page)
-}
-
-// The tokens of a text.
-fn lexed(alloc: Global, text: &str) -> Result<TokenStream, Stop> {
-    match TokenStream::from_str(alloc, text, &mut SourceMap::new(alloc)) {
-        Ok(stream) => Ok(stream),
-        Err(_) => Err(Stop::Elsewhere),
-    }
 }
 
 /// Puts the answer to a row, of a kind with a change, and of a text.

@@ -1,6 +1,6 @@
 //! Changes of statements, blocks and files.
 
-use crate::change::Unmade;
+use crate::made::change::{By, Change, Unmade, remade};
 use syn::{
     Arena, Block, BlockModifiers, BlockStmt, ExprBlock, File, Frontmatter, Local, LocalInit,
     OneStatement, Position, Statements, Stmt, StmtExpr, StmtLocal, Tree, Worded, equal,
@@ -8,7 +8,6 @@ use syn::{
 use syn_made::expr::stmt::{block, statement};
 use syn_made::expr::whole::expression;
 use syn_made::to_tree::ToTree;
-use syn_made::try_to_tree::TryToTree;
 
 // The statement that stands by itself in a tree, if one does.
 fn stmt<'t, 'a>(tree: &'t Tree<'a>) -> Option<Stmt<'t, 'a>> {
@@ -116,45 +115,31 @@ fn cut<'a>(arena: &'a Arena, tree: &Tree<'a>) -> Result<Option<Tree<'a>>, Unmade
     Ok(Some(block(arena, found.brace_token, &[stmt])?))
 }
 
-// A file as it is.
-fn plain<'a>(arena: &'a Arena, tree: &Tree<'a>) -> Result<Option<Tree<'a>>, Unmade> {
-    let Some(found) = File::of(tree) else {
-        return Err(Unmade::NoRow);
-    };
-    Ok(found.try_to_tree(arena)?)
-}
-
-// A file with a section at its head.
-fn headed<'a>(arena: &'a Arena, tree: &Tree<'a>) -> Result<Option<Tree<'a>>, Unmade> {
-    let Some(found) = File::of(tree) else {
-        return Err(Unmade::NoRow);
-    };
-    let file = File {
-        frontmatter: Some(Frontmatter {}),
-        ..found
-    };
-    Ok(file.try_to_tree(arena)?)
-}
-
-// A file behind a line that says what runs it.
-fn executable<'a>(arena: &'a Arena, tree: &Tree<'a>) -> Result<Option<Tree<'a>>, Unmade> {
-    let Some(found) = File::of(tree) else {
-        return Err(Unmade::NoRow);
-    };
-    let file = File {
-        shebang: Some("#!/bin/x"),
-        ..found
-    };
-    Ok(file.try_to_tree(arena)?)
+// A file as it is, with a section at its head, or behind a line that says what runs it.
+impl<'a> Change<'a> for File<'a, 'a> {
+    fn changed(by: By<'_, 'a>, tree: &'a Tree<'a>) -> Option<File<'a, 'a>> {
+        let found = File::of(tree)?;
+        match by.change {
+            "headed" => Some(File {
+                frontmatter: Some(Frontmatter {}),
+                ..found
+            }),
+            "executable" => Some(File {
+                shebang: Some("#!/bin/x"),
+                ..found
+            }),
+            _ => Some(found),
+        }
+    }
 }
 
 /// A statement, a block or a file, changed so.
 pub(crate) fn changed<'a>(
     arena: &'a Arena,
-    change: &str,
-    tree: &Tree<'a>,
+    by: By<'_, 'a>,
+    tree: &'a Tree<'a>,
 ) -> Result<Option<Tree<'a>>, Unmade> {
-    match change {
+    match by.change {
         "open" => open(arena, tree),
         "inferred" => inferred(arena, tree),
         "again" => again(arena, tree),
@@ -162,9 +147,7 @@ pub(crate) fn changed<'a>(
         "braced" => braced(arena, tree, true),
         "braced without else" => braced(arena, tree, false),
         "cut" => cut(arena, tree),
-        "plain" => plain(arena, tree),
-        "headed" => headed(arena, tree),
-        "executable" => executable(arena, tree),
+        "plain" | "headed" | "executable" => remade::<File>(arena, by, tree),
         _ => Err(Unmade::NoRow),
     }
 }
