@@ -2,7 +2,7 @@
 # Runs built programs once for each allocation that they make, refusing that one: canon_cli on a small text, on a
 # large text, on doc and other comments, on texts at fault, on an argument, and for an outline; lex_cli on its stored input; lex_rows on each text of
 # tests/texts, behind an older text in its map, and on what it reads, builds and shows by itself, literals of texts and their
-# values among it; grow_calls, grow_grammar and grow_forms on what they read, build, write and print by themselves; and grow_made on its
+# values among it; grow_calls on what it reads, builds, writes and prints by itself; and grow_forms likewise, and on its
 # stored input, whose rows are trees that are made of the syntax tree's types. Each run must give the answer itself, with its
 # status and what it says on standard error, or end with nothing written: with status 3 where memory was refused (in
 # lex_rows and the programs grow_ to a call that is looked at, which then left all as it was), or with their status 4 where
@@ -53,7 +53,7 @@ sweep() {
     echo "$name: $((n - 1)) allocations refused, $refused with status 3, $elsewhere elsewhere, $((answered - 1)) without effect"
 }
 
-for program in canon_cli lex_cli lex_rows grow_calls grow_grammar grow_forms grow_made; do
+for program in canon_cli lex_cli lex_rows grow_calls grow_forms; do
     build "$program"
 done
 
@@ -109,9 +109,5 @@ sed '/^# /,$d' ../crates/lex_rows/stdout > "$answer"
 sweep "calls of the lexer, of streams and of leaves" lex_rows /dev/null
 answer=../crates/grow_calls/stdout
 sweep "reading, building and printing syntax" grow_calls /dev/null
-answer=../crates/grow_grammar/stdout
-sweep "reading by the grammar, writing and printing" grow_grammar /dev/null
 answer=../crates/grow_forms/stdout
-sweep "forms by themselves" grow_forms /dev/null
-answer=../crates/grow_made/stdout
-sweep "trees that are made of types" grow_made ../crates/grow_made/stdin
+sweep "forms that are read, written, built and made of types" grow_forms ../crates/grow_forms/stdin

@@ -48,21 +48,31 @@ fn fields(alloc: Global, fields: &Fields) -> Result<Vec<String>> {
 fn variants(alloc: Global, variants: &Elements) -> Result<Vec<String>> {
     let mut names = Vec::new(alloc);
     for variant in variants.iter() {
-        let variant = Variant::of(variant).ok_or(anyhow!("no variant"))?;
+        let Some(variant) = Variant::of(variant) else {
+            return Err(anyhow!("no variant"));
+        };
         names.push(plain_name(alloc, variant.ident)?)?;
     }
     Ok(names)
 }
 
+// What stands between the angle brackets of an item, if these stand there.
+fn angled<'t, 'a>(generics: &'t Tree<'a>) -> Option<Elements<'t, 'a>> {
+    let angled = Generics::of(generics)?.params?;
+    Some(GenericParams::of(angled.params)?.params)
+}
+
 // The generic parameters of an item.
 fn parameters<'t, 'a>(alloc: Global, generics: &'t Tree<'a>) -> Result<Vec<GenericParam<'t, 'a>>> {
     let mut parameters = Vec::new(alloc);
-    let generics = Generics::of(generics).ok_or(anyhow!("no generics"))?;
-    if let Some(angled) = generics.params {
-        let params = GenericParams::of(angled.params).ok_or(anyhow!("no parameters"))?;
-        for param in params.params.iter() {
-            parameters.push(GenericParam::of(param).ok_or(anyhow!("no parameter"))?)?;
-        }
+    let Some(params) = angled(generics) else {
+        return Ok(parameters);
+    };
+    for param in params.iter() {
+        let Some(param) = GenericParam::of(param) else {
+            return Err(anyhow!("no parameter"));
+        };
+        parameters.push(param)?;
     }
     Ok(parameters)
 }

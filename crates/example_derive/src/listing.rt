@@ -89,51 +89,63 @@ fn put_static(out: &mut TokenStream) -> Result<()> {
 
 // & 'static [& 'static str]
 fn put_type(alloc: Global, out: &mut TokenStream) -> Result<()> {
+    put_static(out)?;
     let mut inside = TokenStream::new(alloc);
     put_static(&mut inside)?;
     put_word("str", &mut inside)?;
-    put_static(out)?;
     put_group(Delimiter::Bracket, inside, out)
+}
+
+// "a" , "b"
+#[tactic(auto, using(proc_macro2::proofs::Marks::known_mark))]
+fn put_listed(texts: &[String], out: &mut TokenStream) -> Result<()> {
+    for (index, text) in texts.iter().enumerate() {
+        if index > 0 {
+            put_mark(',', Spacing::Alone, out)?;
+        }
+        put_text(text.as_str(), out)?;
+    }
+    Ok(())
 }
 
 // & ["a" , "b"]
 #[tactic(auto, using(proc_macro2::proofs::Marks::known_mark))]
 fn put_texts(alloc: Global, texts: &[String], out: &mut TokenStream) -> Result<()> {
-    let mut inside = TokenStream::new(alloc);
-    for (index, text) in texts.iter().enumerate() {
-        if index > 0 {
-            put_mark(',', Spacing::Alone, &mut inside)?;
-        }
-        put_text(text.as_str(), &mut inside)?;
-    }
     put_mark('&', Spacing::Alone, out)?;
+    let mut inside = TokenStream::new(alloc);
+    put_listed(texts, &mut inside)?;
     put_group(Delimiter::Bracket, inside, out)
 }
 
 // pub const FIELDS : & 'static [& 'static str] = & ["a" , "b"] ;
 #[tactic(auto, using(proc_macro2::proofs::Marks::known_mark))]
-fn constant(alloc: Global, item: &Item) -> Result<TokenStream> {
-    let mut out = TokenStream::new(alloc);
-    put_word("pub", &mut out)?;
-    put_word("const", &mut out)?;
-    put_word(item.list, &mut out)?;
-    put_mark(':', Spacing::Alone, &mut out)?;
-    put_type(alloc, &mut out)?;
-    put_mark('=', Spacing::Alone, &mut out)?;
-    put_texts(alloc, item.members.as_slice(), &mut out)?;
-    put_mark(';', Spacing::Alone, &mut out)?;
-    Ok(out)
+fn put_constant(alloc: Global, item: &Item, out: &mut TokenStream) -> Result<()> {
+    put_word("pub", out)?;
+    put_word("const", out)?;
+    put_word(item.list, out)?;
+    put_mark(':', Spacing::Alone, out)?;
+    put_type(alloc, out)?;
+    put_mark('=', Spacing::Alone, out)?;
+    put_texts(alloc, item.members.as_slice(), out)?;
+    put_mark(';', Spacing::Alone, out)
+}
+
+// impl < parameters > Name < their names > where clause
+fn put_head(item: &Item, out: &mut TokenStream) -> Result<()> {
+    let parameters = item.parameters.as_slice();
+    put_word("impl", out)?;
+    put_parameters(parameters, Way::Declared, out)?;
+    put_ident(item.name, out)?;
+    put_parameters(parameters, Way::Named, out)?;
+    put_tree(item.clause, out)
 }
 
 /// impl < parameters > Name < their names > where clause { constant }
 pub fn impl_of(alloc: Global, item: &Item) -> Result<TokenStream> {
-    let parameters = item.parameters.as_slice();
+    let mut inside = TokenStream::new(alloc);
+    put_constant(alloc, item, &mut inside)?;
     let mut out = TokenStream::new(alloc);
-    put_word("impl", &mut out)?;
-    put_parameters(parameters, Way::Declared, &mut out)?;
-    put_ident(item.name, &mut out)?;
-    put_parameters(parameters, Way::Named, &mut out)?;
-    put_tree(item.clause, &mut out)?;
-    put_group(Delimiter::Brace, constant(alloc, item)?, &mut out)?;
+    put_head(item, &mut out)?;
+    put_group(Delimiter::Brace, inside, &mut out)?;
     Ok(out)
 }

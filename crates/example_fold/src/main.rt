@@ -13,6 +13,7 @@ mod number;
 
 use crate::fold::folded;
 use anyhow::{Result, anyhow};
+use std::alloc::AllocError;
 use std::io::{Read, Write};
 use syn::{
     Arena, Kind, ParseFault, Position, SourceMap, TokenBuffer, TokenStream, Tree, parse_as, print,
@@ -20,29 +21,37 @@ use syn::{
 };
 
 // The form of an expression.
-fn form_of<'t, 'a>(tree: &'t Tree<'a>) -> Result<&'t Tree<'a>> {
-    let (_, inner) = tree.node().ok_or(anyhow!("no node"))?;
-    inner.whole().ok_or(anyhow!("no expression"))
+fn form_of<'t, 'a>(tree: &'t Tree<'a>) -> Option<&'t Tree<'a>> {
+    let (_, inner) = tree.node()?;
+    inner.whole()
+}
+
+// The line of an expression with such a form.
+fn put_form(form: &Tree, out: &mut String) -> Result<(), AllocError> {
+    let alloc = *out.allocator();
+    let mut pieces = Vec::new(alloc);
+    write_in(Position::Plain, form, &mut pieces)?;
+    let text = print(alloc, pieces.as_slice())?;
+    writeln!(out, "{text}")
+}
+
+// The line of an expression, computed.
+fn put_folded<'a>(arena: &'a Arena, tree: &Tree<'a>, out: &mut String) -> Result<()> {
+    let Some(form) = form_of(tree) else {
+        return Err(anyhow!("what was read as an expression is none"));
+    };
+    let form = folded(arena, form)?;
+    Ok(put_form(&form, out)?)
 }
 
 // The line that is said of what a buffer holds.
 fn put_line(buffer: &TokenBuffer, out: &mut String) -> Result<()> {
-    let alloc = *out.allocator();
-    let arena = Arena::new(alloc);
-    let tree = match parse_as(&arena, Kind::Expression(Position::Plain), buffer) {
-        Ok(tree) => tree,
-        Err(ParseFault::Syntax(_)) => {
-            writeln!(out, "no expression")?;
-            return Ok(());
-        }
-        Err(ParseFault::Memory) => return Err(anyhow!("out of memory")),
-    };
-    let form = folded(&arena, form_of(&tree)?)?;
-    let mut pieces = Vec::new(alloc);
-    write_in(Position::Plain, &form, &mut pieces)?;
-    let text = print(alloc, pieces.as_slice())?;
-    writeln!(out, "{text}")?;
-    Ok(())
+    let arena = Arena::new(*out.allocator());
+    match parse_as(&arena, Kind::Expression(Position::Plain), buffer) {
+        Ok(tree) => put_folded(&arena, &tree, out),
+        Err(ParseFault::Syntax(_)) => Ok(writeln!(out, "no expression")?),
+        Err(ParseFault::Memory) => Err(anyhow!("out of memory")),
+    }
 }
 
 // The line that is said of a text.

@@ -38,26 +38,25 @@ fn public_elements<'a>(
     Ok(made)
 }
 
-// A struct once more, with these fields in braces, each of them public.
-fn public_struct<'a>(
+// The last of some fields, public, if a mark follows none.
+fn public_last<'a>(
+    arena: &'a Arena,
+    vis: &Tree<'a>,
+    last: Option<&Tree<'a>>,
+) -> Result<Option<Tree<'a>>> {
+    match last {
+        Some(field) => Ok(Some(public_field(arena, vis, field)?)),
+        None => Ok(None),
+    }
+}
+
+// A struct once more, with these fields.
+fn with_fields<'a>(
     arena: &'a Arena,
     input: &DeriveInput<'_, 'a>,
     item: &DataStruct<'_, 'a>,
-    fields: &FieldsNamed<'_, 'a>,
+    fields: Fields<'_, 'a>,
 ) -> Result<Tree<'a>> {
-    let word = arena.put(Ident::new(arena.alloc(), "pub", Span::call_site())?)?;
-    let vis = Visibility::Public(word).to_tree(arena)?;
-    let before = public_elements(arena, &vis, fields.named.before)?;
-    let last = match fields.named.last {
-        Some(field) => Some(public_field(arena, &vis, field)?),
-        None => None,
-    };
-    let named = Elements {
-        separator: fields.named.separator,
-        before: before.as_slice(),
-        last: last.as_ref(),
-    };
-    let fields = Fields::Named(FieldsNamed { named, ..*fields });
     let data = Data::Struct(DataStruct { fields, ..*item });
     match (DeriveInput { data, ..*input }).try_to_tree(arena)? {
         Some(tree) => Ok(tree),
@@ -65,22 +64,58 @@ fn public_struct<'a>(
     }
 }
 
-// The tokens of the struct that a buffer holds, with its fields public.
-fn rewritten(alloc: Global, buffer: &TokenBuffer) -> Result<String> {
-    let arena = Arena::new(alloc);
-    let input = parse2::<DeriveInput>(&arena, buffer)?;
+// A struct once more, with these fields in braces, each of them public.
+fn public_struct<'a>(
+    arena: &'a Arena,
+    vis: &Tree<'a>,
+    input: &DeriveInput<'_, 'a>,
+    item: &DataStruct<'_, 'a>,
+    fields: &FieldsNamed<'_, 'a>,
+) -> Result<Tree<'a>> {
+    let before = public_elements(arena, vis, fields.named.before)?;
+    let last = public_last(arena, vis, fields.named.last)?;
+    let named = Elements {
+        separator: fields.named.separator,
+        before: before.as_slice(),
+        last: last.as_ref(),
+    };
+    let fields = Fields::Named(FieldsNamed { named, ..*fields });
+    with_fields(arena, input, item, fields)
+}
+
+// The visibility `pub`.
+fn public_visibility<'a>(arena: &'a Arena) -> Result<Tree<'a>> {
+    let word = arena.put(Ident::new(arena.alloc(), "pub", Span::call_site())?)?;
+    Ok(Visibility::Public(word).to_tree(arena)?)
+}
+
+// A struct that was read, with its fields public.
+fn rewritten<'a>(arena: &'a Arena, input: &DeriveInput<'_, 'a>) -> Result<Tree<'a>> {
     let Data::Struct(item) = input.data else {
         return Err(anyhow!("it is no struct"));
     };
     let Fields::Named(fields) = item.fields else {
         return Err(anyhow!("its fields have no names"));
     };
-    let tree = public_struct(&arena, &input, &item, &fields)?;
-    let mut pieces = Vec::new(alloc);
-    match put_normal(&arena, &tree, &mut pieces) {
-        Ok(()) => Ok(print(alloc, &pieces)?),
+    let vis = public_visibility(arena)?;
+    public_struct(arena, &vis, input, &item, &fields)
+}
+
+// The printed normal form of a tree.
+fn printed<'a>(arena: &'a Arena, tree: &Tree<'a>) -> Result<String> {
+    let mut pieces = Vec::new(arena.alloc());
+    match put_normal(arena, tree, &mut pieces) {
+        Ok(()) => Ok(print(arena.alloc(), &pieces)?),
         Err(_) => Err(anyhow!("out of memory")),
     }
+}
+
+// The tokens of the struct that a buffer holds, with its fields public.
+fn rewritten_of(alloc: Global, buffer: &TokenBuffer) -> Result<String> {
+    let arena = Arena::new(alloc);
+    let input = parse2::<DeriveInput>(&arena, buffer)?;
+    let tree = rewritten(&arena, &input)?;
+    printed(&arena, &tree)
 }
 
 // The struct that a text is, with its fields public.
@@ -88,7 +123,7 @@ fn public(text: &str, alloc: Global) -> Result<String> {
     let mut map = SourceMap::new(alloc);
     let stream = TokenStream::from_str(alloc, text, &mut map)?;
     let buffer = TokenBuffer::new2(alloc, &stream, 1)?;
-    let out = rewritten(alloc, &buffer)?;
+    let out = rewritten_of(alloc, &buffer)?;
     Ok(format!(in alloc; "{out}\n")?)
 }
 

@@ -1,41 +1,98 @@
-//! Texts that are read as one type of the syntax tree: an item of one kind, a member, or a form that is one of several of a
-//! kind. Of each text it says whether it is read. `tests/refused.sh` runs it once for each allocation, refusing that one.
+//! Forms of the written grammar and trees of the syntax tree's types: texts that are read, written, built, compared and
+//! printed, one behind the other, and whether each call left what it had to where its growth was refused.
+//! `tests/refused.sh` runs it once for each allocation, refusing that one. Its standard input are the rows of trees that
+//! are made of types (`made`), which are answered first.
 //!
-//! - `texts`: the texts, with the type that each is read as.
-//! - `asked`: the three ways in which it is read, which have to agree.
-//! - `streams`: forms that are read from a stream; `words`: words that a reader reads where they stand; `whole`: texts that
-//!   are read in one call.
+//! - `asked`: texts, and what is asked of their tokens.
+//! - `texts`: texts that are read by the written grammar, and what is written of them behind older tokens (`pieces`).
+//! - `built`: expressions that are built by hand, what stands for one, and the members of fields.
+//! - `reading`: forms and tokens that are read one behind the other, and tokens as a stream.
+//! - `streams`: forms that are read from a stream of tokens; `standing`: forms of a stream that may be missing, or are one
+//!   of several of a kind.
+//! - `modifiers`: what is said of modifiers where none may stand.
+//! - `calls`: calls that read one text: as a type (`typed`), a form that may be missing (`optional`), or a literal with its
+//!   value (`values`).
+//! - `compared`: types that are compared; `long`: a long expression.
+//! - `single`: texts that are read as an item of one kind, a member, or a form that is one of several of a kind, in three
+//!   ways, which have to agree (`alone`).
+//! - `words`: words that a reader reads where they stand; `whole`: texts that are read in one call.
 #![tactic(auto)]
 
+mod alone;
 mod asked;
+mod built;
+mod calls;
+mod compared;
+mod long;
+mod made;
+mod modifiers;
+mod optional;
+mod pieces;
+mod reading;
+mod single;
+mod standing;
 mod streams;
 mod texts;
+mod typed;
+mod values;
 mod whole;
 mod words;
 
-use rows::Page;
-use std::alloc::Global;
-use std::io::Write;
+use crate::asked::ask_all;
+use rows::{Page, asked, parts, told};
 use std::process::ExitCode;
 use stops::{Stop, ended};
 
-// What is said of all texts.
-fn answered(alloc: Global) -> Result<String, Stop> {
-    let mut page = Page::new(alloc);
-    texts::put_answers(&mut page)?;
-    streams::put_answers(&mut page)?;
-    words::put_answers(&mut page)?;
-    whole::put_answers(&mut page)?;
-    match page.into_text() {
-        Ok(text) => Ok(text),
-        Err(_) => Err(Stop::Elsewhere),
+// Puts the answer of a row behind it, and nothing behind another line.
+fn put_row(line: &str, page: &mut Page) -> Result<(), Stop> {
+    match parts(line) {
+        Ok(Some((call, text))) => {
+            page.put(" = ");
+            made::row::answer(call, text, page)
+        }
+        Ok(None) => Ok(()),
+        Err(_) => Err(Stop::Changed),
     }
 }
 
+// Puts the lines of a table, each row with its answer.
+fn put_rows(lines: &str, page: &mut Page) -> Result<(), Stop> {
+    for line in lines.lines() {
+        page.put(line);
+        put_row(line, page)?;
+        page.put("\n");
+    }
+    Ok(())
+}
+
+// Puts what is said of all texts.
+fn put_answers(page: &mut Page) -> Result<(), Stop> {
+    ask_all(texts::TEXTS.as_slice(), page)?;
+    ask_all(built::BUILT.as_slice(), page)?;
+    ask_all(reading::TEXTS.as_slice(), page)?;
+    streams::put_answers(page)?;
+    modifiers::put_answers(page)?;
+    ask_all(calls::CALLS.as_slice(), page)?;
+    ask_all(compared::PAIRS.as_slice(), page)?;
+    ask_all(long::LONG.as_slice(), page)?;
+    ask_all(single::ITEMS.as_slice(), page)?;
+    ask_all(single::SINGLES.as_slice(), page)?;
+    ask_all(standing::FORMS.as_slice(), page)?;
+    ask_all(words::WORDS.as_slice(), page)?;
+    whole::put_answers(page)
+}
+
 fn run(rt: &HostRuntime) -> Result<(), Stop> {
-    let answer = answered(rt.alloc())?;
-    let written = rt.stdout().write_all(answer.as_bytes());
-    written.map_err(|_| Stop::Elsewhere)
+    let Ok(lines) = asked(rt) else {
+        return Err(Stop::Elsewhere);
+    };
+    let mut page = Page::new(rt.alloc());
+    put_rows(lines.as_str(), &mut page)?;
+    put_answers(&mut page)?;
+    match told(rt, &page) {
+        Ok(()) => Ok(()),
+        Err(_) => Err(Stop::Elsewhere),
+    }
 }
 
 /// Ends as `stops` says.

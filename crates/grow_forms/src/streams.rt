@@ -1,131 +1,145 @@
-//! Forms that are read from a stream: one that may be missing, and one of several of a kind.
+//! Forms that are read from a stream of tokens.
 
-use crate::asked::lexed;
+ghost use Rattle.syn_input.specs.Input.{IsOnward};
+
+use crate::asked::{Question, ask_all, ask_of, lexed};
+use crate::reading::{put_said, put_streamed};
+use proc_macro2::TokenStream;
+use proc_macro2::delimiter::Delimiter;
+use proc_macro2::tree::{Group, TokenTree};
 use rows::Page;
-use stops::{Stop, refused};
-use syn::{
-    Arena, BoundLifetimes, ExprCall, ParseFault, ParseOptional, ParseOptionalForm, ParseSingle,
-    ParseSingleForm, TokenBuffer, TypeTuple, WhereClause,
-};
-use syn_parse::ParseBuffer;
+use std::alloc::Global;
+use stops::Stop;
+use syn::{Arena, Kind, ParseFault, ParseForm, ParseForms, Plus, TokenBuffer, Tree, Type};
+use syn_kinds::token;
+use syn_parse::{ParseBuffer, Punctuated, parse_buffer, parse_terminated_with};
 
-// What is read.
-#[derive(Clone, Copy)]
-enum Form {
-    // forms that may be missing
-    Clause,
-    Lifetimes,
-    // forms of several of a kind
-    Call,
-    Tuple,
-}
-
-const FORMS: [(Form, &str); 9] = [
-    (Form::Clause, "where A : B { }"),
-    (Form::Clause, "{ }"),
-    (Form::Clause, "where A B"),
-    (Form::Lifetimes, "for < 'a > fn ()"),
-    (Form::Lifetimes, "for a in b { }"),
-    (Form::Call, "f (x) , y"),
-    (Form::Call, "f (x) + 1"),
-    (Form::Tuple, "(T ,) = b"),
-    (Form::Tuple, "(T)"),
-];
-
-// What comes of it.
-#[derive(Clone, Copy)]
-enum Said {
-    Read,
-    Missing,
-    Refused,
-}
-
-impl Said {
-    fn words(self) -> &'static str {
-        match self {
-            Said::Read => "read: ",
-            Said::Missing => "missing: ",
-            Said::Refused => "refused: ",
-        }
-    }
-}
-
-// What is said of a form, where the stream has to stand at another place, or where it stood.
-fn where_it_stands(said: Said, stands_so: bool) -> Result<Said, Stop> {
-    if stands_so {
-        Ok(said)
-    } else {
-        Err(Stop::Changed)
-    }
-}
-
-// What is said of a form that is not there. The stream has to stand where it stood.
-fn told(fault: ParseFault, stays: bool) -> Result<Said, Stop> {
-    match fault {
-        ParseFault::Memory => refused(stays),
-        ParseFault::Syntax(_) => where_it_stands(Said::Refused, stays),
-    }
-}
-
-// What is said of a form that may be missing.
-fn optional<'a, T: ParseOptional<'a> + Copy>(
+// Puts the type that stands first, as a stream of its own.
+fn put_type<'a>(
     input: &mut ParseBuffer<'a>,
     arena: &'a Arena,
-) -> Result<Said, Stop> {
+    page: &mut Page,
+) -> Result<(), Stop> {
     let from = input.cursor();
-    let found: Result<Option<T>, ParseFault> = input.parse_optional(arena);
-    let stays = input.cursor().eq(&from);
-    match found {
-        Ok(Some(_)) => where_it_stands(Said::Read, !stays),
-        Ok(None) => where_it_stands(Said::Missing, stays),
-        Err(fault) => told(fault, stays),
+    match input.parse_as(arena, Kind::AType(Plus::WithPlus)) {
+        Ok(tree) => put_streamed(&tree, page),
+        Err(fault) => put_said(fault, input.cursor().eq(&from), page),
     }
 }
 
-// What is said of a form that is one of several of a kind.
-fn single<'a, T: ParseSingle<'a> + Copy>(
+// Puts what type stands first.
+fn put_form<'a>(
     input: &mut ParseBuffer<'a>,
     arena: &'a Arena,
-) -> Result<Said, Stop> {
+    page: &mut Page,
+) -> Result<(), Stop> {
     let from = input.cursor();
-    let found: Result<T, ParseFault> = input.single(arena);
-    let stays = input.cursor().eq(&from);
-    match found {
-        Ok(_) => where_it_stands(Said::Read, !stays),
-        Err(fault) => told(fault, stays),
-    }
-}
-
-fn told_of<'a>(form: Form, arena: &'a Arena, buffer: &'a TokenBuffer<'a>) -> Result<Said, Stop> {
-    let mut input = ParseBuffer::new(arena.alloc(), buffer.begin());
+    let form: Result<Type, ParseFault> = input.form(arena);
     match form {
-        Form::Clause => optional::<WhereClause>(&mut input, arena),
-        Form::Lifetimes => optional::<BoundLifetimes>(&mut input, arena),
-        Form::Call => single::<ExprCall>(&mut input, arena),
-        Form::Tuple => single::<TypeTuple>(&mut input, arena),
+        Ok(Type::Reference(_)) => {
+            page.put("a reference");
+            Ok(())
+        }
+        Ok(_) => Err(Stop::Changed),
+        Err(fault) => put_said(fault, input.cursor().eq(&from), page),
     }
 }
 
-// Puts what is said of a buffer.
-fn put_told(form: Form, buffer: &TokenBuffer<'_>, page: &mut Page) -> Result<(), Stop> {
-    let arena = Arena::new(page.alloc());
-    page.put(told_of(form, &arena, buffer)?.words());
+// A type that stands in a list.
+#[derive(Drop)]
+struct Listed<'a> {
+    ty: Tree<'a>,
+}
+
+// The type that stands there.
+fn parse_listed<'a>(input: &mut ParseBuffer<'a>, arena: &'a Arena) -> Result<Listed<'a>, ParseFault>
+    ensures { IsOnward input.old input.new }
+{
+    let ty = input.parse_as(arena, Kind::AType(Plus::WithPlus))?;
+    Ok(Listed { ty })
+}
+
+// The types that are left, with a comma behind each but perhaps the last.
+fn types<'a>(
+    input: &mut ParseBuffer<'a>,
+    arena: &'a Arena,
+) -> Result<Punctuated<Listed<'a>, token::Comma>, ParseFault>
+    ensures { IsOnward input.old input.new }
+{
+    parse_terminated_with(
+        input,
+        |input| -> Result<Listed, ParseFault>
+            ensures { IsOnward input.old input.new }
+        { parse_listed(input, arena) },
+    )
+}
+
+// All of the buffer as types.
+fn all_types<'a>(
+    arena: &'a Arena,
+    buffer: &'a TokenBuffer<'a>,
+) -> Result<Punctuated<Listed<'a>, token::Comma>, ParseFault> {
+    parse_buffer(
+        arena.alloc(),
+        |input| -> Result<Punctuated<Listed, token::Comma>, ParseFault>
+            ensures { IsOnward input.old input.new }
+        { types(input, arena) },
+        buffer,
+    )
+}
+
+// Puts what all types of the buffer are as a stream, one behind the other.
+fn put_types<'a>(
+    arena: &'a Arena,
+    buffer: &'a TokenBuffer<'a>,
+    page: &mut Page,
+) -> Result<(), Stop> {
+    match all_types(arena, buffer) {
+        Ok(types) => put_list(&types, page),
+        Err(fault) => put_said(fault, true, page),
+    }
+}
+
+fn put_list(types: &Punctuated<Listed<'_>, token::Comma>, page: &mut Page) -> Result<(), Stop> {
+    for found in types {
+        put_streamed(&found.ty, page)?;
+        page.put(";");
+    }
     Ok(())
 }
 
-// The same of a text.
-fn put_told_of(form: Form, text: &str, page: &mut Page) -> Result<(), Stop> {
-    let stream = lexed(page.alloc(), text)?;
-    let buffer = TokenBuffer::new2(page.alloc(), &stream, 1)?;
-    put_told(form, &buffer, page)
+/// Puts what is read of a buffer, in lines.
+pub(crate) fn put_read<'a>(
+    arena: &'a Arena,
+    buffer: &'a TokenBuffer<'a>,
+    page: &mut Page,
+) -> Result<(), Stop> {
+    let mut input = ParseBuffer::new(page.alloc(), buffer.begin());
+    put_form(&mut input.fork(), arena, page)?;
+    page.put("\n");
+    put_type(&mut input, arena, page)?;
+    page.put("\n");
+    put_types(arena, buffer, page)
 }
 
-/// Puts for each text whether its form is read, missing or refused, in lines.
-pub fn put_answers(page: &mut Page) -> Result<(), Stop> {
-    for (form, text) in FORMS {
-        put_told_of(form, text, page)?;
-        page.put(text);
-        page.put("\n");
-    }
+// A stream of one invisible group, in which a type stands.
+fn invisible(alloc: Global) -> Result<TokenStream, Stop> {
+    let mut stream = TokenStream::new(alloc);
+    let group = Group::new(Delimiter::None, lexed(alloc, "u8")?);
+    stream.push_tree(TokenTree::Group(group))?;
+    Ok(stream)
+}
+
+const TEXTS: [(Question, &str); 3] = [
+    (Question::Streamed, "& 'a [u8 ; 2] , b"),
+    (Question::Streamed, "+ 1"),
+    (Question::Streamed, ""),
+];
+
+/// Puts the answers for three texts, and for a stream with an invisible group.
+pub(crate) fn put_answers(page: &mut Page) -> Result<(), Stop> {
+    ask_all(TEXTS.as_slice(), page)?;
+    ask_of(Question::Streamed, &invisible(page.alloc())?, page)?;
+    page.put("\n");
     Ok(())
 }

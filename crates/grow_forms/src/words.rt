@@ -1,26 +1,27 @@
 //! Words in front of a function and behind `static`, which a reader reads where they stand.
 
-use crate::asked::lexed;
+use crate::asked::Question;
 use rows::Page;
 use stops::Stop;
 use syn::{Arena, Reader, Safety, StaticMutability, TokenBuffer};
 
-// What is read.
+/// What is read.
 #[derive(Clone, Copy)]
-enum Word {
+pub(crate) enum Word {
     Unsafe,
     Safety,
     Mutability,
 }
 
-const WORDS: [(Word, &str); 7] = [
-    (Word::Unsafe, "unsafe fn"),
-    (Word::Unsafe, "safe fn"),
-    (Word::Safety, "safe fn"),
-    (Word::Safety, "unsafe fn"),
-    (Word::Safety, "fn"),
-    (Word::Mutability, "mut A"),
-    (Word::Mutability, "A"),
+/// The texts, with what is read.
+pub(crate) const WORDS: [(Question, &str); 7] = [
+    (Question::Word(Word::Unsafe), "unsafe fn"),
+    (Question::Word(Word::Unsafe), "safe fn"),
+    (Question::Word(Word::Safety), "safe fn"),
+    (Question::Word(Word::Safety), "unsafe fn"),
+    (Question::Word(Word::Safety), "fn"),
+    (Question::Word(Word::Mutability), "mut A"),
+    (Question::Word(Word::Mutability), "A"),
 ];
 
 fn safety(found: Safety<'_>) -> &'static str {
@@ -47,34 +48,16 @@ fn said(word: Word, input: &mut Reader<'_>) -> &'static str {
     }
 }
 
-// Puts what a reader reads of a buffer, and how many tokens it leaves.
-fn put_said<'a>(word: Word, arena: &'a Arena, buffer: &'a TokenBuffer<'a>, page: &mut Page) {
+/// Puts what a reader reads of a buffer, and how many tokens it leaves.
+pub(crate) fn put_word<'a>(
+    word: Word,
+    arena: &'a Arena,
+    buffer: &'a TokenBuffer<'a>,
+    page: &mut Page,
+) -> Result<(), Stop> {
     let mut input = Reader::new(arena, buffer);
     page.put(said(word, &mut input));
     let left = input.entries().len();
     write!(page, ", {left} left: ");
-}
-
-// The same with an arena of its own.
-fn put_word(word: Word, buffer: &TokenBuffer<'_>, page: &mut Page) {
-    let arena = Arena::new(page.alloc());
-    put_said(word, &arena, buffer, page);
-}
-
-// The same of a text.
-fn put_word_of(word: Word, text: &str, page: &mut Page) -> Result<(), Stop> {
-    let stream = lexed(page.alloc(), text)?;
-    let buffer = TokenBuffer::new2(page.alloc(), &stream, 1)?;
-    put_word(word, &buffer, page);
-    Ok(())
-}
-
-/// Puts for each text which word is read, in lines.
-pub fn put_answers(page: &mut Page) -> Result<(), Stop> {
-    for (word, text) in WORDS {
-        put_word_of(word, text, page)?;
-        page.put(text);
-        page.put("\n");
-    }
     Ok(())
 }

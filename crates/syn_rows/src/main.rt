@@ -1,18 +1,28 @@
-//! Answers a table of texts, each by a form of the kind that its row names: the printed normal form, with what is left
-//! behind it, or that the text is refused. What is wanted comes from the rules, and stands beside the questions in
-//! `stdout`. A copy of each form is written too, and equals it; of the normal form that is made as a tree the print is
-//! read again, with the same normal form; and first the rows are listed that begin with the same
-//! form as the row above: of the same kind, with the same tokens, each spaced alike.
+//! Answers two tables of texts. What is wanted comes from the rules, and stands beside the questions in `stdout`.
+//!
+//! A row with a kind of the grammar is answered by the form of that kind: the printed normal form, with what is left
+//! behind it, or that the text is refused. A copy of each form is written too, and equals it; of the normal form that is
+//! made as a tree the print is read again, with the same normal form; and first the rows are listed that begin with the
+//! same form as the row above: of the same kind, with the same tokens, each spaced alike.
+//!
+//! A row with a position is an expression that is built by hand, in which an operand that was put there stands between `‹`
+//! and `›`: it is printed, read again, and is up to parentheses the one that was built. Before the rows stands what is
+//! answered for the table of forms, of which each is put into each.
 //!
 //! - `kinds`: the kinds that rows name.
 //! - `reading`: texts that are read as forms, and what is printed of these.
 //! - `neighbours`: each row's form compared with that of the row above.
+//! - `built`: expressions that are built by hand.
+//! - `written`: how a tree is written.
 #![tactic(auto)]
 
+mod built;
 mod kinds;
 mod neighbours;
 mod reading;
+mod written;
 
+use crate::built::position_of;
 use crate::kinds::kind_of;
 use crate::neighbours::put_again;
 use crate::reading::{Found, Part, read};
@@ -20,12 +30,15 @@ use rows::{Page, Row, Table, Unanswered, answer_lines, asked, told};
 use std::alloc::Global;
 use syn::Kind;
 
-struct Forms;
+struct Rows;
 
-impl Table for Forms {
+impl Table for Rows {
     fn answer(&self, row: Row, page: &mut Page) -> Result<(), Unanswered> {
-        let kind = kind_of(row.call).ok_or(Unanswered::NoRow)?;
-        put_form(kind, row.text, page)
+        match (position_of(row.call), kind_of(row.call)) {
+            (Some(position), _) => built::put_row(position, row.text, page),
+            (None, Some(kind)) => put_form(kind, row.text, page),
+            (None, None) => Err(Unanswered::NoRow),
+        }
     }
 }
 
@@ -85,6 +98,8 @@ fn main(rt: HostRuntime) -> Result<(), Unanswered> {
     let lines = asked(&rt)?;
     let mut page = Page::new(rt.alloc());
     put_again(lines.as_str(), &mut page)?;
-    answer_lines(&Forms, lines.as_str(), &mut page)?;
+    built::tables::put(&mut page)?;
+    page.put("\n");
+    answer_lines(&Rows, lines.as_str(), &mut page)?;
     told(&rt, &page)
 }

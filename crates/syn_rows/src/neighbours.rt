@@ -1,7 +1,7 @@
 //! Rows whose form is that of the row above.
 
 use crate::kinds::kind_of;
-use crate::reading::{lexed, unread};
+use crate::reading::{buffers, lexed, unread};
 use rows::{Page, Unanswered, parts, read};
 use std::alloc::Global;
 use syn::parse::parse_front;
@@ -41,18 +41,6 @@ fn streams(alloc: Global, texts: &[&str]) -> Result<Vec<TokenStream>, Unanswered
     Ok(all)
 }
 
-// The buffers of streams.
-fn buffers<'a>(
-    alloc: Global,
-    streams: &'a [TokenStream],
-) -> Result<Vec<TokenBuffer<'a>>, Unanswered> {
-    let mut all = Vec::new(alloc);
-    for stream in streams {
-        all.push(TokenBuffer::new2(alloc, stream, 1)?)?;
-    }
-    Ok(all)
-}
-
 // What a buffer begins with as a form of the kind, if it does.
 fn front<'a>(
     arena: &'a Arena,
@@ -68,52 +56,39 @@ fn front<'a>(
     }
 }
 
-// The forms of the kind that buffers begin with.
-fn fronts<'a>(
+// Two buffers begin with the same form of the kind.
+fn begin_alike<'a>(
     arena: &'a Arena,
     kind: Kind,
     buffers: &'a [TokenBuffer<'_>],
-) -> Result<Vec<Tree<'a>>, Unanswered> {
-    let mut all = Vec::new(arena.alloc());
-    for buffer in buffers {
-        if let Some(tree) = front(arena, kind, buffer)? {
-            all.push(tree)?;
-        }
+) -> Result<bool, Unanswered> {
+    let [one, other] = buffers else {
+        return Ok(false);
+    };
+    match (front(arena, kind, one)?, front(arena, kind, other)?) {
+        (Some(one), Some(other)) => Ok(equal(&one, &other)),
+        _ => Ok(false),
     }
-    Ok(all)
 }
 
-// Two buffers begin with the same form of the kind.
+// The same with an arena of its own.
 fn buffers_begin_alike(
     alloc: Global,
     kind: Kind,
     buffers: &[TokenBuffer<'_>],
 ) -> Result<bool, Unanswered> {
     let arena = Arena::new(alloc);
-    let trees = fronts(&arena, kind, buffers)?;
-    match trees.as_slice() {
-        [one, other] => Ok(equal(one, other)),
-        _ => Ok(false),
-    }
-}
-
-// Two streams begin with the same form of the kind.
-fn streams_begin_alike(
-    alloc: Global,
-    kind: Kind,
-    streams: &[TokenStream],
-) -> Result<bool, Unanswered> {
-    let buffers = buffers(alloc, streams)?;
-    buffers_begin_alike(alloc, kind, buffers.as_slice())
+    begin_alike(&arena, kind, buffers)
 }
 
 // Two texts begin with the same form of the kind.
 fn texts_begin_alike(alloc: Global, kind: Kind, texts: &[&str]) -> Result<bool, Unanswered> {
     let streams = streams(alloc, texts)?;
-    streams_begin_alike(alloc, kind, streams.as_slice())
+    let buffers = buffers(alloc, streams.as_slice())?;
+    buffers_begin_alike(alloc, kind, buffers.as_slice())
 }
 
-// Two rows begin with the same form.
+// Two rows begin with the same form, if they name a kind.
 fn rows_begin_alike(alloc: Global, one: &str, other: &str) -> Result<bool, Unanswered> {
     let Some((call, written)) = parts(one)? else {
         return Ok(false);
@@ -124,6 +99,8 @@ fn rows_begin_alike(alloc: Global, one: &str, other: &str) -> Result<bool, Unans
     if call != second_call {
         return Ok(false);
     }
-    let kind = kind_of(call).ok_or(Unanswered::NoRow)?;
-    texts_begin_alike(alloc, kind, &[written, second_written])
+    match kind_of(call) {
+        Some(kind) => texts_begin_alike(alloc, kind, &[written, second_written]),
+        None => Ok(false),
+    }
 }

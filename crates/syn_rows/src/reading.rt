@@ -1,8 +1,8 @@
 //! Texts that are read as forms, and what is printed of these.
 
+use crate::written::{Writing, is_print, put_print};
 use gram_piece::piece::Piece;
 use gram_piece::print::print;
-use gram_write::write::write;
 use rows::{Page, Unanswered};
 use std::alloc::Global;
 use syn::parse::parse_front;
@@ -39,20 +39,23 @@ pub(crate) fn lexed(alloc: Global, text: &str) -> Option<TokenStream> {
     }
 }
 
+/// The buffers of streams.
+pub(crate) fn buffers<'a>(
+    alloc: Global,
+    streams: &'a [TokenStream],
+) -> Result<Vec<TokenBuffer<'a>>, Unanswered> {
+    let mut all = Vec::new(alloc);
+    for stream in streams {
+        all.push(TokenBuffer::new2(alloc, stream, 1)?)?;
+    }
+    Ok(all)
+}
+
 /// An error if a fault is want of memory, and none if it says that tokens begin with no such form.
 pub(crate) fn unread(fault: ParseFault) -> Result<(), Unanswered> {
     match fault {
         ParseFault::Syntax(_) => Ok(()),
         ParseFault::Memory => Err(Unanswered::Cut),
-    }
-}
-
-// Puts the print of the normal form of a tree.
-fn put_written(tree: &Tree<'_>, page: &mut Page) {
-    let mut pieces = Vec::new(page.alloc());
-    match write(tree, &mut pieces) {
-        Ok(()) => page.put_made(print(page.alloc(), pieces.as_slice())),
-        Err(_) => page.cut(),
     }
 }
 
@@ -87,15 +90,13 @@ fn put_left(entries: &[Entry<'_>], page: &mut Page) {
 
 // Whether a copy of a tree equals it, and is written so too.
 fn is_copied(alloc: Global, tree: &Tree<'_>, written: &str) -> Result<bool, Unanswered> {
-    let mut again = Page::new(alloc);
     let copy = tree.copy();
-    put_written(&copy, &mut again);
-    Ok(equal(tree, &copy) && again.whole()? == written)
+    Ok(equal(tree, &copy) && is_print(alloc, Writing::Read, &copy, written)?)
 }
 
 // Puts the print of the normal form of a tree that is as its copy.
 fn put_copied(tree: &Tree<'_>, page: &mut Page) -> Result<(), Unanswered> {
-    put_written(tree, page);
+    put_print(Writing::Read, tree, page);
     if is_copied(page.alloc(), tree, page.whole()?)? {
         Ok(())
     } else {

@@ -1,0 +1,69 @@
+//! Items put where they stand, without attributes, and behind `pub` or `default`.
+
+use crate::made::change::{By, Unmade};
+use syn::{
+    Arena, AssociatedItem, ForeignItem, Ident, Item, OuterAttributes, Tree, Turns, Visibility,
+};
+use syn_made::item::among::{foreign_item, impl_item, item, trait_item};
+use syn_made::to_tree::ToTree;
+
+// An item of a trait or an impl, behind such words.
+fn put_member<'a>(
+    arena: &'a Arena,
+    tree: &'a Tree<'a>,
+    before: (&Tree<'a>, &Tree<'a>),
+    defaultness: Option<&'a Ident>,
+) -> Result<Option<Tree<'a>>, Unmade> {
+    let (attrs, vis) = before;
+    match AssociatedItem::in_trait(tree) {
+        Some(found) => Ok(trait_item(arena, attrs, vis, defaultness, &found)?),
+        None => match AssociatedItem::in_impl(tree) {
+            Some(found) => Ok(impl_item(arena, attrs, vis, defaultness, &found)?),
+            None => Err(Unmade::NoRow),
+        },
+    }
+}
+
+// An item behind such words, where it stands.
+fn put<'a>(
+    arena: &'a Arena,
+    tree: &'a Tree<'a>,
+    before: (&Tree<'a>, &Tree<'a>),
+    defaultness: Option<&'a Ident>,
+) -> Result<Option<Tree<'a>>, Unmade> {
+    let (attrs, vis) = before;
+    match (Item::of(tree), ForeignItem::of(tree)) {
+        (Some(found), _) => Ok(item(arena, attrs, vis, &found)?),
+        (None, Some(found)) => Ok(foreign_item(arena, attrs, vis, &found)?),
+        (None, None) => put_member(arena, tree, before, defaultness),
+    }
+}
+
+// The same, by its visibility.
+fn put_behind<'a>(
+    arena: &'a Arena,
+    tree: &'a Tree<'a>,
+    vis: Visibility<'_, 'a>,
+    defaultness: Option<&'a Ident>,
+) -> Result<Option<Tree<'a>>, Unmade> {
+    let attrs = OuterAttributes {
+        attrs: Turns { each: &[] },
+    };
+    let attrs = attrs.to_tree(arena)?;
+    let vis = vis.to_tree(arena)?;
+    put(arena, tree, (&attrs, &vis), defaultness)
+}
+
+/// An item where it stands, behind what the change names.
+pub(crate) fn changed<'a>(
+    arena: &'a Arena,
+    by: By<'_, 'a>,
+    tree: &'a Tree<'a>,
+) -> Result<Option<Tree<'a>>, Unmade> {
+    match by.change {
+        "in its place" => put_behind(arena, tree, Visibility::Inherited, None),
+        "public" => put_behind(arena, tree, Visibility::Public(by.word), None),
+        "default" => put_behind(arena, tree, Visibility::Inherited, Some(by.word)),
+        _ => Err(Unmade::NoRow),
+    }
+}
