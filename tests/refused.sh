@@ -2,10 +2,10 @@
 # Runs built programs once for each allocation that they make, refusing that one: canon_cli on a small text, on a
 # large text, on doc and other comments, on texts at fault, on an argument, and for an outline; lex_cli on its stored input; lex_rows on each text of
 # tests/texts, behind an older text in its map, and on what it reads, builds and shows by itself, literals of texts and their
-# values among it; grow_calls on what it reads, builds, writes and prints by itself; and grow_forms likewise, and on its
+# values among it; parse_rows on what it reads, builds, writes and prints by itself; and grow_forms likewise, and on its
 # stored input, whose rows are trees that are made of the syntax tree's types. Each run must give the answer itself, with its
 # status and what it says on standard error, or end with nothing written: with status 3 where memory was refused (in
-# lex_rows and the programs grow_ to a call that is looked at, which then left all as it was), or with their status 4 where
+# lex_rows, parse_rows and the programs grow_ to a call that is looked at, which then left all as it was), or with their status 4 where
 # it was refused elsewhere.
 # canon_cli says "canon: out of memory" then, and the others nothing.
 # Usage: tests/refused.sh. `rt run` proves and builds the programs first. It needs cc, glibc and python3.
@@ -53,7 +53,7 @@ sweep() {
     echo "$name: $((n - 1)) allocations refused, $refused with status 3, $elsewhere elsewhere, $((answered - 1)) without effect"
 }
 
-for program in canon_cli lex_cli lex_rows grow_calls grow_forms; do
+for program in canon_cli lex_cli lex_rows parse_rows grow_forms; do
     build "$program"
 done
 
@@ -103,11 +103,12 @@ for text in texts/*.text; do
     answer=${text%.text}.answer
     sweep "$text" lex_rows "$text" text
 done
-# What it answers by itself stands before the first heading.
+# What they answer by themselves stands before the first heading.
 answer=$work/calls.answer
 sed '/^# /,$d' ../crates/lex_rows/stdout > "$answer"
 sweep "calls of the lexer, of streams and of leaves" lex_rows /dev/null
-answer=../crates/grow_calls/stdout
-sweep "reading, building and printing syntax" grow_calls /dev/null
+answer=$work/grown.answer
+sed '/^# /,$d' ../crates/parse_rows/stdout > "$answer"
+sweep "reading, building and printing syntax" parse_rows /dev/null grow
 answer=../crates/grow_forms/stdout
 sweep "forms that are read, written, built and made of types" grow_forms ../crates/grow_forms/stdin

@@ -1,13 +1,16 @@
 //! Texts, and what is asked of their tokens.
 
+use crate::leaves::peek;
 use crate::texts::stream_of;
-use crate::{lookahead, names};
-use rows::{Page, Unanswered};
+use crate::{lookahead, names, whole};
+use proc_macro2::TokenStream;
+use rows::Page;
+use syn_leaf::{LitChar, LitFloat, LitInt, LitStr};
 use syn_parse::{Cursor, TokenBuffer};
 
 /// What is asked of the tokens of a text.
 #[derive(Clone, Copy)]
-enum Question {
+pub enum Question {
     /// What is said where so many kinds are looked for.
     Kinds(usize),
     /// Names with commas between them, to the end.
@@ -22,56 +25,77 @@ enum Question {
     Name,
     /// A list of names with `::` between them, printed and read back.
     ReadBack,
+    /// What is left of them, as it is shown.
+    Shown,
+    /// Whether a string stands first.
+    IsString,
+    /// Whether a character does.
+    IsCharacter,
+    /// Whether an integer does.
+    IsInteger,
+    /// Whether a float does.
+    IsFloat,
 }
 
 /// Lookaheads that find nothing, and lists that are read by each call.
-pub fn read_lists(page: &mut Page) -> Result<(), Unanswered> {
+pub fn read_lists(page: &mut Page) {
     for count in 0..4 {
-        ask("x", Question::Kinds(count), page)?;
+        ask("x", Question::Kinds(count), page);
     }
-    ask("", Question::Kinds(2), page)?;
+    ask("", Question::Kinds(2), page);
     for text in ["a , b ,", "a , b", "", "a b", ", a", "a , , b"] {
-        ask(text, Question::Listed, page)?;
+        ask(text, Question::Listed, page);
     }
-    ask("a , b ,", Question::Emptied, page)?;
+    ask("a , b ,", Question::Emptied, page);
     for text in ["a + b c", "a", "", "a +", "a + +"] {
-        ask(text, Question::Summed, page)?;
+        ask(text, Question::Summed, page);
     }
     for text in ["a , b > c", "a , > c", "> c", "a b > c", "a , , > c"] {
-        ask(text, Question::Until, page)?;
+        ask(text, Question::Until, page);
     }
-    Ok(())
 }
 
 /// Names that are read, and lists of names that are read back.
-pub fn read_names(page: &mut Page) -> Result<(), Unanswered> {
+pub fn read_names(page: &mut Page) {
     for text in [
         "x", "fn", "_", "Self", "r#fn", "r#x", "raw", "r", "x y", "", "1", "# x", "'a", "(fn)",
     ] {
         write!(page, "[{text}] ");
-        ask(text, Question::Name, page)?;
+        ask(text, Question::Name, page);
     }
     for text in ["a :: b ::", "a :: r#b", "a", ""] {
-        ask(text, Question::ReadBack, page)?;
+        ask(text, Question::ReadBack, page);
     }
-    Ok(())
 }
 
-fn ask(text: &str, question: Question, page: &mut Page) -> Result<(), Unanswered> {
-    let stream = stream_of(page.alloc(), text)?;
-    let buffer = TokenBuffer::new2(page.alloc(), &stream, 1)?;
-    put(question, buffer.begin(), page)
+/// Puts what is answered of the tokens of a text. Where it has none, or memory is refused, the page is cut.
+pub fn ask(text: &str, question: Question, page: &mut Page) {
+    match stream_of(page.alloc(), text) {
+        Ok(stream) => put_asked(&stream, question, page),
+        Err(_) => page.cut(),
+    }
 }
 
-fn put(question: Question, begin: Cursor<'_>, page: &mut Page) -> Result<(), Unanswered> {
+fn put_asked(stream: &TokenStream, question: Question, page: &mut Page) {
+    match TokenBuffer::new2(page.alloc(), stream, 1) {
+        Ok(buffer) => put(question, buffer.begin(), page),
+        Err(_) => page.cut(),
+    }
+}
+
+fn put(question: Question, begin: Cursor<'_>, page: &mut Page) {
     match question {
-        Question::Kinds(count) => return lookahead::kinds(count, begin, page),
+        Question::Kinds(count) => lookahead::kinds(count, begin, page),
         Question::Listed => lookahead::listed(begin, page),
         Question::Emptied => lookahead::emptied(begin, page),
         Question::Summed => lookahead::summed(begin, page),
         Question::Until => lookahead::until(begin, page),
         Question::Name => names::read(begin, page),
         Question::ReadBack => names::read_back(begin, page),
+        Question::Shown => whole::shown(begin, page),
+        Question::IsString => peek::<LitStr>(begin, page),
+        Question::IsCharacter => peek::<LitChar>(begin, page),
+        Question::IsInteger => peek::<LitInt>(begin, page),
+        Question::IsFloat => peek::<LitFloat>(begin, page),
     }
-    Ok(())
 }

@@ -1,16 +1,15 @@
 //! Lists gone over from behind, by each iterator, and how many items each has.
 
 use crate::lists::{Names, line, show_tokens, three};
-use crate::texts::name;
-use rows::{Page, Unanswered};
+use crate::texts::set;
+use rows::Page;
 
 /// How many items each iterator of `a , b , c` has before its first and behind its last one.
-pub(crate) fn counted(page: &mut Page) -> Result<(), Unanswered> {
-    let mut names = three(page.alloc())?;
+pub(crate) fn counted(page: &mut Page) {
+    let mut names = three(page);
     count_lent(&names, page);
     count_changed(&mut names, page);
-    count_owned(three(page.alloc())?, names, page);
-    Ok(())
+    count_owned(three(page), names, page);
 }
 
 fn count_lent(names: &Names, page: &mut Page) {
@@ -43,28 +42,30 @@ fn put_counts(values: usize, pairs: usize, page: &mut Page) {
 }
 
 /// Values and pairs from behind: those that may be changed, and those that are moved out.
-pub(crate) fn from_behind(page: &mut Page) -> Result<(), Unanswered> {
-    change_from_behind(page)?;
-    for value in three(page.alloc())?.into_iter().rev() {
+pub(crate) fn from_behind(page: &mut Page) {
+    let mut names = three(page);
+    change_values(&mut names, page);
+    change_pairs(&mut names, page);
+    for value in three(page).into_iter().rev() {
         write!(page, "{value}\n");
     }
-    for pair in three(page.alloc())?.into_pairs().rev() {
+    for pair in three(page).into_pairs().rev() {
         show_tokens(&pair, page);
     }
-    Ok(())
 }
 
-fn change_from_behind(page: &mut Page) -> Result<(), Unanswered> {
-    let mut names = three(page.alloc())?;
+fn change_values(names: &mut Names, page: &mut Page) {
     for value in names.iter_mut().rev() {
         write!(page, "{value}\n");
-        *value = name(page.alloc(), "x")?;
+        set(value, "x", page);
     }
-    line(&names, page);
+    line(names, page);
+}
+
+fn change_pairs(names: &mut Names, page: &mut Page) {
     for pair in names.pairs_mut().rev() {
         let (value, separator) = pair.into_tuple();
-        *value = name(page.alloc(), if separator.is_some() { "s" } else { "e" })?;
+        set(value, if separator.is_some() { "s" } else { "e" }, page);
     }
-    line(&names, page);
-    Ok(())
+    line(names, page);
 }

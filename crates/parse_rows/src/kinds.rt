@@ -3,6 +3,8 @@
 use rows::Page;
 use std::fmt::Display;
 use syn_error::ToTokens;
+use syn_kinds::keyword::Keyword;
+use syn_kinds::punctuation::Punctuation;
 use syn_kinds::token;
 
 /// Puts a line for each kind.
@@ -17,131 +19,138 @@ pub fn kinds(page: &mut Page) {
 }
 
 // Puts the line of a kind.
-fn line<T: ToTokens + Display + Default + Drop>(name: &str, page: &mut Page) {
-    let kind = T::default();
+fn line<T: ToTokens + Display>(name: &str, kind: &T, page: &mut Page) {
     match kind.to_token_stream(page.alloc()) {
         Ok(tokens) => write!(page, "{name} {kind} {tokens}\n"),
         Err(_) => page.cut(),
     }
 }
 
+fn word<const K: usize>(name: &str, kind: Keyword<K>, page: &mut Page) {
+    line(name, &kind, page);
+}
+
+fn mark<const K: usize, const N: usize>(name: &str, kind: Punctuation<K, N>, page: &mut Page) {
+    line(name, &kind, page);
+}
+
 fn first(page: &mut Page) {
-    line::<token::Abstract>("Abstract", page);
-    line::<token::As>("As", page);
-    line::<token::Async>("Async", page);
-    line::<token::Await>("Await", page);
-    line::<token::Become>("Become", page);
-    line::<token::Box>("Box", page);
-    line::<token::Break>("Break", page);
-    line::<token::Const>("Const", page);
-    line::<token::Continue>("Continue", page);
-    line::<token::Crate>("Crate", page);
-    line::<token::Do>("Do", page);
-    line::<token::Dyn>("Dyn", page);
-    line::<token::Else>("Else", page);
-    line::<token::Enum>("Enum", page);
-    line::<token::Extern>("Extern", page);
-    line::<token::Final>("Final", page);
-    line::<token::Fn>("Fn", page);
+    word("Abstract", token::Abstract::default(), page);
+    word("As", token::As::default(), page);
+    word("Async", token::Async::default(), page);
+    word("Await", token::Await::default(), page);
+    word("Become", token::Become::default(), page);
+    word("Box", token::Box::default(), page);
+    word("Break", token::Break::default(), page);
+    word("Const", token::Const::default(), page);
+    word("Continue", token::Continue::default(), page);
+    word("Crate", token::Crate::default(), page);
+    word("Do", token::Do::default(), page);
+    word("Dyn", token::Dyn::default(), page);
+    word("Else", token::Else::default(), page);
+    word("Enum", token::Enum::default(), page);
+    word("Extern", token::Extern::default(), page);
+    word("Final", token::Final::default(), page);
+    word("Fn", token::Fn::default(), page);
 }
 
 fn second(page: &mut Page) {
-    line::<token::For>("For", page);
-    line::<token::If>("If", page);
-    line::<token::Impl>("Impl", page);
-    line::<token::In>("In", page);
-    line::<token::Let>("Let", page);
-    line::<token::Loop>("Loop", page);
-    line::<token::Macro>("Macro", page);
-    line::<token::Match>("Match", page);
-    line::<token::Mod>("Mod", page);
-    line::<token::Move>("Move", page);
-    line::<token::Mut>("Mut", page);
-    line::<token::Override>("Override", page);
-    line::<token::Priv>("Priv", page);
-    line::<token::Pub>("Pub", page);
-    line::<token::Ref>("Ref", page);
-    line::<token::Return>("Return", page);
-    line::<token::SelfType>("SelfType", page);
+    word("For", token::For::default(), page);
+    word("If", token::If::default(), page);
+    word("Impl", token::Impl::default(), page);
+    word("In", token::In::default(), page);
+    word("Let", token::Let::default(), page);
+    word("Loop", token::Loop::default(), page);
+    word("Macro", token::Macro::default(), page);
+    word("Match", token::Match::default(), page);
+    word("Mod", token::Mod::default(), page);
+    word("Move", token::Move::default(), page);
+    word("Mut", token::Mut::default(), page);
+    word("Override", token::Override::default(), page);
+    word("Priv", token::Priv::default(), page);
+    word("Pub", token::Pub::default(), page);
+    word("Ref", token::Ref::default(), page);
+    word("Return", token::Return::default(), page);
+    word("SelfType", token::SelfType::default(), page);
 }
 
 fn third(page: &mut Page) {
-    line::<token::SelfValue>("SelfValue", page);
-    line::<token::Static>("Static", page);
-    line::<token::Struct>("Struct", page);
-    line::<token::Super>("Super", page);
-    line::<token::Trait>("Trait", page);
-    line::<token::Try>("Try", page);
-    line::<token::Type>("Type", page);
-    line::<token::Typeof>("Typeof", page);
-    line::<token::Unsafe>("Unsafe", page);
-    line::<token::Unsized>("Unsized", page);
-    line::<token::Use>("Use", page);
-    line::<token::Virtual>("Virtual", page);
-    line::<token::Where>("Where", page);
-    line::<token::While>("While", page);
-    line::<token::Yield>("Yield", page);
-    line::<token::Auto>("Auto", page);
-    line::<token::Default>("Default", page);
+    word("SelfValue", token::SelfValue::default(), page);
+    word("Static", token::Static::default(), page);
+    word("Struct", token::Struct::default(), page);
+    word("Super", token::Super::default(), page);
+    word("Trait", token::Trait::default(), page);
+    word("Try", token::Try::default(), page);
+    word("Type", token::Type::default(), page);
+    word("Typeof", token::Typeof::default(), page);
+    word("Unsafe", token::Unsafe::default(), page);
+    word("Unsized", token::Unsized::default(), page);
+    word("Use", token::Use::default(), page);
+    word("Virtual", token::Virtual::default(), page);
+    word("Where", token::Where::default(), page);
+    word("While", token::While::default(), page);
+    word("Yield", token::Yield::default(), page);
+    word("Auto", token::Auto::default(), page);
+    word("Default", token::Default::default(), page);
 }
 
 fn fourth(page: &mut Page) {
-    line::<token::Raw>("Raw", page);
-    line::<token::Safe>("Safe", page);
-    line::<token::Union>("Union", page);
-    line::<token::And>("And", page);
-    line::<token::AndAnd>("AndAnd", page);
-    line::<token::AndEq>("AndEq", page);
-    line::<token::At>("At", page);
-    line::<token::Caret>("Caret", page);
-    line::<token::CaretEq>("CaretEq", page);
-    line::<token::Colon>("Colon", page);
-    line::<token::Comma>("Comma", page);
-    line::<token::Dollar>("Dollar", page);
-    line::<token::Dot>("Dot", page);
-    line::<token::DotDot>("DotDot", page);
-    line::<token::DotDotDot>("DotDotDot", page);
-    line::<token::DotDotEq>("DotDotEq", page);
-    line::<token::Eq>("Eq", page);
+    word("Raw", token::Raw::default(), page);
+    word("Safe", token::Safe::default(), page);
+    word("Union", token::Union::default(), page);
+    mark("And", token::And::default(), page);
+    mark("AndAnd", token::AndAnd::default(), page);
+    mark("AndEq", token::AndEq::default(), page);
+    mark("At", token::At::default(), page);
+    mark("Caret", token::Caret::default(), page);
+    mark("CaretEq", token::CaretEq::default(), page);
+    mark("Colon", token::Colon::default(), page);
+    mark("Comma", token::Comma::default(), page);
+    mark("Dollar", token::Dollar::default(), page);
+    mark("Dot", token::Dot::default(), page);
+    mark("DotDot", token::DotDot::default(), page);
+    mark("DotDotDot", token::DotDotDot::default(), page);
+    mark("DotDotEq", token::DotDotEq::default(), page);
+    mark("Eq", token::Eq::default(), page);
 }
 
 fn fifth(page: &mut Page) {
-    line::<token::EqEq>("EqEq", page);
-    line::<token::FatArrow>("FatArrow", page);
-    line::<token::Ge>("Ge", page);
-    line::<token::Gt>("Gt", page);
-    line::<token::LArrow>("LArrow", page);
-    line::<token::Le>("Le", page);
-    line::<token::Lt>("Lt", page);
-    line::<token::Minus>("Minus", page);
-    line::<token::MinusEq>("MinusEq", page);
-    line::<token::Ne>("Ne", page);
-    line::<token::Not>("Not", page);
-    line::<token::Or>("Or", page);
-    line::<token::OrEq>("OrEq", page);
-    line::<token::OrOr>("OrOr", page);
-    line::<token::PathSep>("PathSep", page);
-    line::<token::Percent>("Percent", page);
-    line::<token::PercentEq>("PercentEq", page);
+    mark("EqEq", token::EqEq::default(), page);
+    mark("FatArrow", token::FatArrow::default(), page);
+    mark("Ge", token::Ge::default(), page);
+    mark("Gt", token::Gt::default(), page);
+    mark("LArrow", token::LArrow::default(), page);
+    mark("Le", token::Le::default(), page);
+    mark("Lt", token::Lt::default(), page);
+    mark("Minus", token::Minus::default(), page);
+    mark("MinusEq", token::MinusEq::default(), page);
+    mark("Ne", token::Ne::default(), page);
+    mark("Not", token::Not::default(), page);
+    mark("Or", token::Or::default(), page);
+    mark("OrEq", token::OrEq::default(), page);
+    mark("OrOr", token::OrOr::default(), page);
+    mark("PathSep", token::PathSep::default(), page);
+    mark("Percent", token::Percent::default(), page);
+    mark("PercentEq", token::PercentEq::default(), page);
 }
 
 fn sixth(page: &mut Page) {
-    line::<token::Plus>("Plus", page);
-    line::<token::PlusEq>("PlusEq", page);
-    line::<token::Pound>("Pound", page);
-    line::<token::Question>("Question", page);
-    line::<token::RArrow>("RArrow", page);
-    line::<token::Semi>("Semi", page);
-    line::<token::Shl>("Shl", page);
-    line::<token::ShlEq>("ShlEq", page);
-    line::<token::Shr>("Shr", page);
-    line::<token::ShrEq>("ShrEq", page);
-    line::<token::Slash>("Slash", page);
-    line::<token::SlashEq>("SlashEq", page);
-    line::<token::Star>("Star", page);
-    line::<token::StarEq>("StarEq", page);
-    line::<token::Tilde>("Tilde", page);
-    line::<token::Underscore>("Underscore", page);
+    mark("Plus", token::Plus::default(), page);
+    mark("PlusEq", token::PlusEq::default(), page);
+    mark("Pound", token::Pound::default(), page);
+    mark("Question", token::Question::default(), page);
+    mark("RArrow", token::RArrow::default(), page);
+    mark("Semi", token::Semi::default(), page);
+    mark("Shl", token::Shl::default(), page);
+    mark("ShlEq", token::ShlEq::default(), page);
+    mark("Shr", token::Shr::default(), page);
+    mark("ShrEq", token::ShrEq::default(), page);
+    mark("Slash", token::Slash::default(), page);
+    mark("SlashEq", token::SlashEq::default(), page);
+    mark("Star", token::Star::default(), page);
+    mark("StarEq", token::StarEq::default(), page);
+    mark("Tilde", token::Tilde::default(), page);
+    line("Underscore", &token::Underscore::default(), page);
 }
 
 // Delimiters and invisible groups are shown by a name.

@@ -1,11 +1,38 @@
 //! Which leaf is read from a text, and which stands first in it.
 
+use crate::asked::{Question, ask};
 use crate::following::Front;
-use crate::texts::{put_tokens, stream_of};
+use crate::texts::put_tokens;
 use proc_macro2::SourceMap;
 use rows::{Page, Unanswered};
 use syn_error::ToTokens;
-use syn_parse::{Parse, ParseBuffer, Peek, TokenBuffer, parse_str};
+use syn_leaf::{
+    BinOp, Index, Lit, LitBool, LitByte, LitByteStr, LitCStr, LitChar, LitFloat, LitInt, LitStr,
+    Member, RangeLimits, UnOp,
+};
+use syn_parse::{Cursor, Parse, ParseBuffer, Peek, parse_str};
+
+/// What is read from a text, by the kind's name.
+pub fn read_kind(kind: &str, text: &str, page: &mut Page) -> Result<(), Unanswered> {
+    match kind {
+        "lit" => read::<Lit>(text, page),
+        "bool" => read::<LitBool>(text, page),
+        "str" => read::<LitStr>(text, page),
+        "byte_str" => read::<LitByteStr>(text, page),
+        "c_str" => read::<LitCStr>(text, page),
+        "byte" => read::<LitByte>(text, page),
+        "char" => read::<LitChar>(text, page),
+        "int" => read::<LitInt>(text, page),
+        "float" => read::<LitFloat>(text, page),
+        "index" => read::<Index>(text, page),
+        "member" => read::<Member>(text, page),
+        "binary" => front::<BinOp>(text, page),
+        "unary" => front::<UnOp>(text, page),
+        "limits" => front::<RangeLimits>(text, page),
+        _ => return Err(Unanswered::NoRow),
+    }
+    Ok(())
+}
 
 /// What is printed for what is read from a text, or why nothing is.
 pub fn read<T: Parse + ToTokens>(text: &str, page: &mut Page) {
@@ -17,7 +44,7 @@ pub fn read<T: Parse + ToTokens>(text: &str, page: &mut Page) {
 }
 
 /// What is printed for what stands first in a text and for what is left behind it, or why nothing stands there.
-pub fn front<T: Parse + ToTokens>(text: &str, page: &mut Page) {
+fn front<T: Parse + ToTokens>(text: &str, page: &mut Page) {
     let alloc = page.alloc();
     match parse_str::<Front<T>>(alloc, text, &mut SourceMap::new(alloc)) {
         Ok(front) => {
@@ -29,12 +56,20 @@ pub fn front<T: Parse + ToTokens>(text: &str, page: &mut Page) {
     }
 }
 
-/// Whether such a literal stands first in a text.
-pub fn peek<T: Peek>(text: &str, page: &mut Page) -> Result<(), Unanswered> {
-    let alloc = page.alloc();
-    let stream = stream_of(alloc, text)?;
-    let buffer = TokenBuffer::new2(alloc, &stream, 1)?;
-    let is_found = ParseBuffer::new(alloc, buffer.begin()).peek::<T>();
-    write!(page, "{is_found}");
+/// Whether a literal of a kind, by its name, stands first in a text.
+pub fn peek_kind(kind: &str, text: &str, page: &mut Page) -> Result<(), Unanswered> {
+    match kind {
+        "str" => ask(text, Question::IsString, page),
+        "char" => ask(text, Question::IsCharacter, page),
+        "int" => ask(text, Question::IsInteger, page),
+        "float" => ask(text, Question::IsFloat, page),
+        _ => return Err(Unanswered::NoRow),
+    }
     Ok(())
+}
+
+/// Whether such a literal stands there.
+pub fn peek<T: Peek>(begin: Cursor<'_>, page: &mut Page) {
+    let is_found = ParseBuffer::new(page.alloc(), begin).peek::<T>();
+    write!(page, "{is_found}");
 }

@@ -1,9 +1,9 @@
-//! Lists: what is put in, taken out and gone over.
+//! Lists: what is put in, taken out and gone over. Where memory is refused, the page is cut.
 
-use crate::texts::{name, put_tokens};
+use crate::texts::{name, put_tokens, set};
 use proc_macro2::Ident;
-use rows::{Page, Unanswered};
-use std::alloc::Global;
+use rows::Page;
+use std::alloc::AllocError;
 use syn_error::ToTokens;
 use syn_kinds::token;
 use syn_lists::{Pair, Punctuated};
@@ -34,31 +34,41 @@ pub(crate) fn word(text: &str, page: &mut Page) {
     page.put("\n");
 }
 
+// Puts a name behind the others of a list.
+fn push(names: &mut Names, text: &str, page: &mut Page) {
+    match name(page.alloc(), text) {
+        Ok(value) => {
+            if names.push(value).is_err() {
+                page.cut();
+            }
+        }
+        Err(_) => page.cut(),
+    }
+}
+
 /// The list a , b ,
-pub(crate) fn two(alloc: Global) -> Result<Names, Unanswered> {
-    let mut names = Names::new(alloc);
-    for text in ["a", "b"] {
-        names.push(name(alloc, text)?)?;
+pub(crate) fn two(page: &mut Page) -> Names {
+    let mut names = Names::new(page.alloc());
+    push(&mut names, "a", page);
+    push(&mut names, "b", page);
+    if !names.empty_or_trailing() && names.push_punct(token::Comma::default()).is_err() {
+        page.cut();
     }
-    if !names.empty_or_trailing() {
-        names.push_punct(token::Comma::default())?;
-    }
-    Ok(names)
+    names
 }
 
 /// The list a , b , c
-pub(crate) fn three(alloc: Global) -> Result<Names, Unanswered> {
-    let mut names = two(alloc)?;
-    names.push(name(alloc, "c")?)?;
-    Ok(names)
+pub(crate) fn three(page: &mut Page) -> Names {
+    let mut names = two(page);
+    push(&mut names, "c", page);
+    names
 }
 
 /// Of `a , b ,` values, separators and pairs are taken out, and the list is emptied.
-pub(crate) fn taken_out(page: &mut Page) -> Result<(), Unanswered> {
-    popped(two(page.alloc())?, page);
-    popped_in_parts(two(page.alloc())?, page);
-    cleared(two(page.alloc())?, page);
-    Ok(())
+pub(crate) fn taken_out(page: &mut Page) {
+    popped(two(page), page);
+    popped_in_parts(two(page), page);
+    cleared(two(page), page);
 }
 
 fn popped(mut names: Names, page: &mut Page) {
@@ -102,38 +112,41 @@ fn cleared(mut names: Names, page: &mut Page) {
 }
 
 /// A value is put behind others, and at the front, in the middle and at the end.
-pub(crate) fn put_in(page: &mut Page) -> Result<(), Unanswered> {
-    let mut names = two(page.alloc())?;
-    for text in ["c", "d"] {
-        names.push(name(page.alloc(), text)?)?;
-        line(&names, page);
-    }
-    insert(&mut names, 0, "e", page)?;
-    insert(&mut names, 2, "f", page)?;
+pub(crate) fn put_in(page: &mut Page) {
+    let mut names = two(page);
+    push(&mut names, "c", page);
+    line(&names, page);
+    push(&mut names, "d", page);
+    line(&names, page);
+    insert(&mut names, 0, "e", page);
+    insert(&mut names, 2, "f", page);
     let end = names.len();
-    insert(&mut names, end, "g", page)
+    insert(&mut names, end, "g", page);
 }
 
-fn insert(names: &mut Names, index: usize, text: &str, page: &mut Page) -> Result<(), Unanswered> {
-    if index <= names.len() {
-        names.insert(index, name(page.alloc(), text)?)?;
+fn insert(names: &mut Names, index: usize, text: &str, page: &mut Page) {
+    match name(page.alloc(), text) {
+        Ok(value) => {
+            if index <= names.len() && names.insert(index, value).is_err() {
+                page.cut();
+            }
+        }
+        Err(_) => page.cut(),
     }
     line(names, page);
-    Ok(())
 }
 
 /// Values and pairs, from both ends.
-pub(crate) fn gone_over(page: &mut Page) -> Result<(), Unanswered> {
-    let mut names = three(page.alloc())?;
+pub(crate) fn gone_over(page: &mut Page) {
+    let mut names = three(page);
     show_both_ways(&names, page);
     for value in names.iter_mut() {
-        *value = name(page.alloc(), "x")?;
+        set(value, "x", page);
     }
     line(&names, page);
     for pair in names.into_pairs() {
         show_tokens(&pair, page);
     }
-    Ok(())
 }
 
 fn show_both_ways(names: &Names, page: &mut Page) {
@@ -159,19 +172,26 @@ fn show_copy(pair: Pair<&Ident, &token::Comma>, page: &mut Page) {
 }
 
 /// Values are collected, put behind others, and compared without their spans.
-pub(crate) fn collected(page: &mut Page) -> Result<(), Unanswered> {
-    let mut names: Names = two(page.alloc())?.into_iter().collect(page.alloc())?;
+pub(crate) fn collected(page: &mut Page) {
+    let collected: Result<Names, AllocError> = two(page).into_iter().collect(page.alloc());
+    match collected {
+        Ok(names) => put_collected(names, page),
+        Err(_) => page.cut(),
+    }
+}
+
+fn put_collected(mut names: Names, page: &mut Page) {
     line(&names, page);
-    names.extend(two(page.alloc())?)?;
+    if names.extend(two(page)).is_err() {
+        page.cut();
+    }
     line(&names, page);
-    compare(&names, page)?;
-    compare(&two(page.alloc())?, page)
+    compare(&names, page);
+    compare(&two(page), page);
 }
 
 // Whether a list is a , b ,
-fn compare(names: &Names, page: &mut Page) -> Result<(), Unanswered> {
-    let other = two(page.alloc())?;
-    let is_same = *names == other;
+fn compare(names: &Names, page: &mut Page) {
+    let is_same = *names == two(page);
     word(if is_same { "same" } else { "not the same" }, page);
-    Ok(())
 }

@@ -7,18 +7,40 @@ use std::alloc::{AllocError, Global};
 use syn_error::ToTokens;
 use syn_leaf::{Index, Lit, LitBool, Member};
 
-// The literal of a text.
+// The literal of a text, true and false among them.
 fn literal(alloc: Global, text: &str) -> Result<Lit, Unanswered> {
+    match text {
+        "true" => Ok(Lit::from(LitBool::new(true, Span::call_site()))),
+        "false" => Ok(Lit::from(LitBool::new(false, Span::call_site()))),
+        _ => token(alloc, text),
+    }
+}
+
+fn token(alloc: Global, text: &str) -> Result<Lit, Unanswered> {
     match Literal::from_str(alloc, text, &mut SourceMap::new(alloc)) {
         Ok(token) => Ok(Lit::new(token)),
         Err(_) => Err(Unanswered::NoRow),
     }
 }
 
-/// Which literal a text is.
-pub fn kind(text: &str, page: &mut Page) -> Result<(), Unanswered> {
-    let lit = literal(page.alloc(), text)?;
-    page.put(name(&lit));
+/// What a call, by its name, answers of the literal of a text.
+pub fn answer(call: &str, text: &str, page: &mut Page) -> Result<(), Unanswered> {
+    match literal(page.alloc(), text) {
+        Ok(lit) => put(call, &lit, page),
+        Err(_) => Err(Unanswered::NoRow),
+    }
+}
+
+// Puts which literal it is, its value, its suffix, what is printed for it, or for the index that it writes.
+fn put(call: &str, lit: &Lit, page: &mut Page) -> Result<(), Unanswered> {
+    match call {
+        "new" => page.put(name(lit)),
+        "value" => return put_value(lit, page),
+        "suffix" => page.quote(lit.suffix()),
+        "tokens" => put_tokens(lit, page),
+        "index" => return put_index(number(lit), page),
+        _ => return Err(Unanswered::NoRow),
+    }
     Ok(())
 }
 
@@ -36,12 +58,7 @@ fn name(lit: &Lit) -> &'static str {
     }
 }
 
-/// The value of a literal: the number that an integer writes, and what the units of one in quotes spell.
-pub fn value(text: &str, page: &mut Page) -> Result<(), Unanswered> {
-    let lit = literal(page.alloc(), text)?;
-    put_value(&lit, page)
-}
-
+// The value of a literal: the number that an integer writes, and what the units of one in quotes spell.
 fn put_value(lit: &Lit, page: &mut Page) -> Result<(), Unanswered> {
     let alloc = page.alloc();
     match lit {
@@ -70,44 +87,31 @@ fn put_bytes(value: Result<Vec<u8>, AllocError>, page: &mut Page) {
     }
 }
 
-/// The suffix of a literal.
-pub fn suffix(text: &str, page: &mut Page) -> Result<(), Unanswered> {
-    let lit = literal(page.alloc(), text)?;
-    page.quote(lit.suffix());
-    Ok(())
-}
-
 /// Whether two literals, one space apart, are equal, and a copy is equal to the first.
 pub fn equal(text: &str, page: &mut Page) -> Result<(), Unanswered> {
     let (first, second) = text.split_once(' ').ok_or(Unanswered::NoRow)?;
-    let lit = literal(page.alloc(), first)?;
-    let is_same = is_literal(&lit, page.alloc(), second)?;
-    let is_copied = lit == lit.try_clone()?;
+    let is_same = are_equal(page.alloc(), first, second)?;
+    let is_copied = is_copied(page.alloc(), first)?;
     write!(page, "{is_same}, copy {is_copied}");
     Ok(())
 }
 
-// Whether a literal is that of a text.
-fn is_literal(lit: &Lit, alloc: Global, text: &str) -> Result<bool, Unanswered> {
-    Ok(*lit == literal(alloc, text)?)
+fn are_equal(alloc: Global, first: &str, second: &str) -> Result<bool, Unanswered> {
+    let lit = literal(alloc, first)?;
+    Ok(lit == literal(alloc, second)?)
 }
 
-/// What is printed for a literal, or for true and false.
-pub fn tokens(text: &str, page: &mut Page) -> Result<(), Unanswered> {
-    let lit = match text {
-        "true" => Lit::from(LitBool::new(true, Span::call_site())),
-        "false" => Lit::from(LitBool::new(false, Span::call_site())),
-        _ => literal(page.alloc(), text)?,
-    };
-    put_tokens(&lit, page);
-    Ok(())
+fn is_copied(alloc: Global, text: &str) -> Result<bool, Unanswered> {
+    let lit = literal(alloc, text)?;
+    Ok(lit == lit.try_clone()?)
 }
 
-/// What is printed for the index that an integer writes, and for the member of that number.
-pub fn index(text: &str, page: &mut Page) -> Result<(), Unanswered> {
-    let lit = literal(page.alloc(), text)?;
-    let number = number(&lit).ok_or(Unanswered::NoRow)?;
-    put_stream(both(page.alloc(), number), page);
+// What is printed for the index of a number, and for the member of it.
+fn put_index(number: Option<u32>, page: &mut Page) -> Result<(), Unanswered> {
+    match number {
+        Some(number) => put_stream(both(page.alloc(), number), page),
+        None => return Err(Unanswered::NoRow),
+    }
     Ok(())
 }
 

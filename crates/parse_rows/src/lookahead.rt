@@ -2,7 +2,7 @@
 
 use crate::lists::word;
 use proc_macro2::Ident;
-use rows::{Page, Unanswered};
+use rows::Page;
 use std::alloc::{AllocError, Global};
 use syn_error::{ParseFault, ToTokens};
 use syn_kinds::token;
@@ -11,15 +11,16 @@ use syn_parse::{Cursor, Lookahead1, ParseBuffer};
 use syn_read_lists::{parse_separated_nonempty, parse_terminated_with, read_many};
 
 /// Looks for so many kinds, none of which stands there.
-pub fn kinds(count: usize, begin: Cursor<'_>, page: &mut Page) -> Result<(), Unanswered> {
+pub fn kinds(count: usize, begin: Cursor<'_>, page: &mut Page) {
     let mut look = ParseBuffer::new(page.alloc(), begin).lookahead1();
-    if is_found(count, &mut look)? {
-        page.put("found\n");
-    } else {
-        let fault = look.error();
-        write!(page, "{fault}\n");
+    match is_found(count, &mut look) {
+        Ok(true) => page.put("found\n"),
+        Ok(false) => {
+            let fault = look.error();
+            write!(page, "{fault}\n");
+        }
+        Err(_) => page.cut(),
     }
-    Ok(())
 }
 
 // Whether one of so many kinds stands there.
@@ -31,7 +32,8 @@ fn is_found(count: usize, look: &mut Lookahead1<'_>) -> Result<bool, AllocError>
     )
 }
 
-type Read<P> = Result<Punctuated<Ident, P>, ParseFault>;
+/// What is read.
+pub type Read<P> = Result<Punctuated<Ident, P>, ParseFault>;
 
 // Puts what was read, or why nothing was.
 fn put<P: ToTokens + Drop>(read: Read<P>, page: &mut Page) {
@@ -57,12 +59,14 @@ pub fn listed(begin: Cursor<'_>, page: &mut Page) {
     put(terminated_with(page.alloc(), begin), page);
 }
 
-fn terminated(alloc: Global, begin: Cursor<'_>) -> Read<token::Comma> {
+/// Names with commas between them, to the end.
+pub fn terminated(alloc: Global, begin: Cursor<'_>) -> Read<token::Comma> {
     let mut input = ParseBuffer::new(alloc, begin);
     input.parse_terminated::<Ident, token::Comma>()
 }
 
-fn terminated_with(alloc: Global, begin: Cursor<'_>) -> Read<token::Comma> {
+/// The same by a function.
+pub fn terminated_with(alloc: Global, begin: Cursor<'_>) -> Read<token::Comma> {
     let mut input = ParseBuffer::new(alloc, begin);
     parse_terminated_with(&mut input, |input| input.parse::<Ident>())
 }

@@ -2,6 +2,9 @@
 //! What is wanted comes from the rules, and stands in `stdout`: first line by line what is asked by hand, and then each
 //! row of standard input with its answer. The rows ask of literals and operators, by the calls of `syn_leaf`.
 //!
+//! With an argument it is asked what grows alone, for `tests/refused.sh`.
+//!
+//! - `grow`: what grows, and whether it left what it had to where that was refused.
 //! - `texts`: streams and identifiers of texts, and what was read or is printed, as it is put onto a page.
 //! - `kinds`: each kind by its name: how a message shows it, and its text when it is printed.
 //! - `lists`: what is put in, taken out and gone over; `ends`: gone over from behind, and counted; `changed`: what is
@@ -24,6 +27,7 @@ mod ends;
 mod errors;
 mod following;
 mod groups;
+mod grow;
 mod kinds;
 mod leaves;
 mod lists;
@@ -36,92 +40,92 @@ mod texts;
 mod trees;
 mod whole;
 
-use leaves::{front, peek, read};
+use asked::{Question, ask};
 use rows::{Page, Row, Table, Unanswered, answer_lines, told};
-use syn_leaf::{
-    BinOp, Index, Lit, LitBool, LitByte, LitByteStr, LitCStr, LitChar, LitFloat, LitInt, LitStr,
-    Member, RangeLimits, UnOp,
-};
+use std::env;
+use std::process::ExitCode;
+use stops::{Stop, ended};
 
 struct Calls;
 
 impl Table for Calls {
     fn answer(&self, row: Row, page: &mut Page) -> Result<(), Unanswered> {
-        match row.call {
-            "new" => return literals::kind(row.text, page),
-            "value" => return literals::value(row.text, page),
-            "suffix" => return literals::suffix(row.text, page),
-            "equal" => return literals::equal(row.text, page),
-            "tokens" => return literals::tokens(row.text, page),
-            "index" => return literals::index(row.text, page),
-            "peek_str" => return peek::<LitStr>(row.text, page),
-            "peek_char" => return peek::<LitChar>(row.text, page),
-            "peek_int" => return peek::<LitInt>(row.text, page),
-            "peek_float" => return peek::<LitFloat>(row.text, page),
-            "read_lit" => read::<Lit>(row.text, page),
-            "read_bool" => read::<LitBool>(row.text, page),
-            "read_str" => read::<LitStr>(row.text, page),
-            "read_byte_str" => read::<LitByteStr>(row.text, page),
-            "read_c_str" => read::<LitCStr>(row.text, page),
-            "read_byte" => read::<LitByte>(row.text, page),
-            "read_char" => read::<LitChar>(row.text, page),
-            "read_int" => read::<LitInt>(row.text, page),
-            "read_float" => read::<LitFloat>(row.text, page),
-            "read_index" => read::<Index>(row.text, page),
-            "read_member" => read::<Member>(row.text, page),
-            "read_binary" => front::<BinOp>(row.text, page),
-            "read_unary" => front::<UnOp>(row.text, page),
-            "read_limits" => front::<RangeLimits>(row.text, page),
-            _ => return Err(Unanswered::NoRow),
+        match row.call.split_once('_') {
+            Some(("peek", kind)) => leaves::peek_kind(kind, row.text, page),
+            Some(("read", kind)) => leaves::read_kind(kind, row.text, page),
+            None if row.call == "equal" => literals::equal(row.text, page),
+            _ => literals::answer(row.call, row.text, page),
         }
-        Ok(())
     }
 }
 
 // What is asked of kinds, lists, errors and names.
-fn put_syntax(page: &mut Page) -> Result<(), Unanswered> {
+fn put_syntax(page: &mut Page) {
     kinds::kinds(page);
-    lists::taken_out(page)?;
-    lists::put_in(page)?;
-    lists::gone_over(page)?;
-    ends::counted(page)?;
-    ends::from_behind(page)?;
-    lists::collected(page)?;
-    changed::written(page)?;
-    changed::retained(page)?;
-    changed::paired(page)?;
-    errors::errors(page)?;
-    asked::read_lists(page)?;
-    asked::read_names(page)
+    lists::taken_out(page);
+    lists::put_in(page);
+    lists::gone_over(page);
+    ends::counted(page);
+    ends::from_behind(page);
+    lists::collected(page);
+    changed::written(page);
+    changed::retained(page);
+    changed::paired(page);
+    errors::errors(page);
+    asked::read_lists(page);
+    asked::read_names(page);
 }
 
 // What is asked of streams that are read.
-fn put_streams(page: &mut Page) -> Result<(), Unanswered> {
+fn put_streams(page: &mut Page) {
     whole::values(page);
     whole::faults(page);
     whole::of_texts(page);
-    whole::shown(page)?;
+    ask("'fn ( a:: b ) ;c", Question::Shown, page);
     peeks::peeks(page);
-    groups::closed(page)?;
-    groups::forked(page)?;
+    groups::closed(page);
+    groups::forked(page);
     groups::entered(page);
-    groups::passed(page)?;
-    places::compared(page)?;
-    places::before(page)?;
-    places::at_the_end(page)?;
+    groups::passed(page);
+    places::compared(page);
+    places::before(page);
+    places::at_the_end(page);
     trees::trees(page);
-    trees::invisible(page)
+    trees::invisible(page);
 }
 
-fn put_all(lines: &str, page: &mut Page) -> Result<(), Unanswered> {
-    put_syntax(page)?;
-    put_streams(page)?;
-    answer_lines(&Calls, lines, page)
+/// Ends as `stops` says. A row that can't be answered is a failure elsewhere.
+fn main(rt: HostRuntime) -> ExitCode {
+    ended(run(&rt))
 }
 
-fn main(rt: HostRuntime) -> Result<(), Unanswered> {
-    let lines = rows::asked(&rt)?;
+fn run(rt: &HostRuntime) -> Result<(), Stop> {
     let mut page = Page::new(rt.alloc());
-    put_all(lines.as_str(), &mut page)?;
-    told(&rt, &page)
+    grow::put(&mut page)?;
+    if !has_argument(rt)? {
+        answered(put_others(rt, &mut page))?;
+    }
+    answered(told(rt, &page))
+}
+
+fn has_argument(rt: &HostRuntime) -> Result<bool, Stop> {
+    match env::args(rt) {
+        Ok(args) => Ok(args.count() > 1),
+        Err(_) => Err(Stop::Elsewhere),
+    }
+}
+
+fn put_others(rt: &HostRuntime, page: &mut Page) -> Result<(), Unanswered> {
+    page.put("# What is asked by hand.\n");
+    put_syntax(page);
+    put_streams(page);
+    let lines = rows::asked(rt)?;
+    answer_lines(&Calls, lines.as_str(), page)
+}
+
+fn answered(answer: Result<(), Unanswered>) -> Result<(), Stop> {
+    match answer {
+        Ok(()) => Ok(()),
+        Err(_) => Err(Stop::Elsewhere),
+    }
 }

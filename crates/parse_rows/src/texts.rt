@@ -28,6 +28,14 @@ pub fn name(alloc: Global, text: &str) -> Result<Ident, Unanswered> {
     }
 }
 
+/// Sets an identifier to one of that text.
+pub fn set(ident: &mut Ident, text: &str, page: &mut Page) {
+    match name(page.alloc(), text) {
+        Ok(other) => *ident = other,
+        Err(_) => page.cut(),
+    }
+}
+
 /// Puts a line: what was asked of a text, and the value that was read, or the fault.
 pub fn put<T: Display + Drop, E: Display + Drop>(
     asked: &str,

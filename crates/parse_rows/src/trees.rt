@@ -4,8 +4,7 @@ use crate::groups::nested;
 use crate::texts::put;
 use crate::whole::read;
 use proc_macro2::{Group, Ident, SourceMap, TokenStream, TokenTree};
-use rows::{Page, Unanswered};
-use std::alloc::{AllocError, Global};
+use rows::Page;
 use syn_error::{ParseFault, TextFault};
 use syn_parse::parser::{parse_str, parse_stream};
 use syn_parse::{Cursor, ParseBuffer, TokenBuffer};
@@ -40,36 +39,60 @@ fn tree_kind(tree: &TokenTree) -> &'static str {
 }
 
 /// Invisible groups stand among trees: round `a` there is one, behind it an empty one, and then `b`.
-pub fn invisible(page: &mut Page) -> Result<(), Unanswered> {
-    let stream = nested(page.alloc(), 1)?;
-    let buffer = TokenBuffer::new2(page.alloc(), &stream, 1)?;
-    put_counts(buffer.begin(), page)?;
-    let read = parse_stream(page.alloc(), behind_groups, &stream);
+pub fn invisible(page: &mut Page) {
+    match nested(page.alloc(), 1) {
+        Ok(stream) => put_invisible(&stream, page),
+        Err(_) => page.cut(),
+    }
+}
+
+fn put_invisible(stream: &TokenStream, page: &mut Page) {
+    match TokenBuffer::new2(page.alloc(), stream, 1) {
+        Ok(buffer) => {
+            put_behind_name(buffer.begin(), page);
+            put_behind_tree(buffer.begin(), page);
+        }
+        Err(_) => page.cut(),
+    }
+    let read = parse_stream(page.alloc(), behind_groups, stream);
     put("behind groups", "(a) () b", read, page);
-    Ok(())
 }
 
-// Puts how many trees there are from a place on, behind its first tree, and behind its first name.
-fn put_counts(begin: Cursor<'_>, page: &mut Page) -> Result<(), Unanswered> {
-    let all = count(begin, page.alloc())?;
-    let (name, inside) = begin.ident().ok_or(Unanswered::NoRow)?;
-    let left = count(inside, page.alloc())?;
-    write!(page, "{all} trees, {left} behind {name}\n");
-    let tree = begin.token_tree(page.alloc())?;
-    let (first, behind) = tree.ok_or(Unanswered::NoRow)?;
-    let first = tree_kind(&first);
-    let left = count(behind, page.alloc())?;
-    write!(page, "{left} behind the first, a {first}\n");
-    Ok(())
+// Puts how many trees there are from a place on, and behind its first name.
+fn put_behind_name(begin: Cursor<'_>, page: &mut Page) {
+    put_count(begin, page);
+    page.put(" trees, ");
+    match begin.ident() {
+        Some((name, inside)) => {
+            put_count(inside, page);
+            write!(page, " behind {name}\n");
+        }
+        None => page.cut(),
+    }
 }
 
-fn count(at: Cursor<'_>, alloc: Global) -> Result<usize, AllocError> {
-    Ok(at.token_stream(alloc)?.trees().len())
+// Puts how many there are behind the first tree.
+fn put_behind_tree(begin: Cursor<'_>, page: &mut Page) {
+    match begin.token_tree(page.alloc()) {
+        Ok(Some((first, behind))) => {
+            put_count(behind, page);
+            let first = tree_kind(&first);
+            write!(page, " behind the first, a {first}\n");
+        }
+        _ => page.cut(),
+    }
+}
+
+fn put_count(at: Cursor<'_>, page: &mut Page) {
+    match at.token_stream(page.alloc()) {
+        Ok(left) => page.show(&left.trees().len()),
+        Err(_) => page.cut(),
+    }
 }
 
 // The name behind two trees.
 fn behind_groups(input: &mut ParseBuffer<'_>) -> Result<Ident, ParseFault> {
-    let _group = input.parse::<TokenTree>()?;
-    let _empty = input.parse::<TokenTree>()?;
+    let _ = input.parse::<TokenTree>()?;
+    let _ = input.parse::<TokenTree>()?;
     input.parse::<Ident>()
 }

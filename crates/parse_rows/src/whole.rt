@@ -1,15 +1,15 @@
 //! Values that are read whole, and those that aren't.
 
 use crate::leaves;
-use crate::texts::stream_of;
-use proc_macro2::{Delimiter, Ident, Literal, Punct, SourceMap};
-use rows::{Page, Unanswered};
-use std::alloc::{AllocError, Global};
+use proc_macro2::{Delimiter, Ident, Literal, Punct, SourceMap, TokenStream};
+use rows::Page;
+use std::alloc::Global;
+use std::fmt::Debug;
 use syn_error::{ParseFault, TextFault, ToTokens};
 use syn_kinds::{Nothing, token};
 use syn_parse::lifetime::Lifetime;
 use syn_parse::parser::parse_str;
-use syn_parse::{LifetimeExt, Parse, ParseBuffer, TokenBuffer};
+use syn_parse::{Cursor, LifetimeExt, Parse, ParseBuffer};
 
 /// Puts a line: the tokens of the value that a text is read as, or the fault.
 pub fn read<T: Parse + ToTokens>(asked: &str, text: &str, page: &mut Page) {
@@ -69,16 +69,15 @@ fn kind(answer: Result<Ident, TextFault>) -> &'static str {
 }
 
 /// What is left of a stream, as users and as programmers are shown it.
-pub fn shown(page: &mut Page) -> Result<(), Unanswered> {
-    let stream = stream_of(page.alloc(), "'fn ( a:: b ) ;c")?;
-    let buffer = TokenBuffer::new2(page.alloc(), &stream, 1)?;
-    let mut input = ParseBuffer::new(page.alloc(), buffer.begin());
+pub fn shown(begin: Cursor<'_>, page: &mut Page) {
+    let mut input = ParseBuffer::new(page.alloc(), begin);
     if let Err(fault) = put_left(&mut input, page) {
         page.show(&fault);
     }
-    let is_debug = is_debugged(page.alloc(), &input)?;
-    write!(page, "its tokens by debug: {is_debug}\n");
-    Ok(())
+    match input.cursor().token_stream(page.alloc()) {
+        Ok(left) => put_is_debug(&input, &left, page),
+        Err(_) => page.cut(),
+    }
 }
 
 // Puts a lifetime that a stream begins with, what is left behind it, and what is left of a group behind its first name.
@@ -91,9 +90,22 @@ fn put_left(input: &mut ParseBuffer<'_>, page: &mut Page) -> Result<(), ParseFau
     Ok(())
 }
 
-// Whether programmers are shown of a stream what they are shown of the tokens that are left.
-fn is_debugged(alloc: Global, input: &ParseBuffer<'_>) -> Result<bool, AllocError> {
-    let left = input.cursor().token_stream(alloc)?;
-    let wanted = format!(in alloc; "{left:?}")?;
-    Ok(format!(in alloc; "{input:?}")?.as_str() == wanted.as_str())
+// Puts whether programmers are shown of a stream what they are shown of the tokens that are left.
+fn put_is_debug(input: &ParseBuffer<'_>, left: &TokenStream, page: &mut Page) {
+    let shown = debugged(page.alloc(), input);
+    let wanted = debugged(page.alloc(), left);
+    match (shown.whole(), wanted.whole()) {
+        (Ok(shown), Ok(wanted)) => {
+            let is_debug = shown == wanted;
+            write!(page, "its tokens by debug: {is_debug}\n");
+        }
+        _ => page.cut(),
+    }
+}
+
+// A value as programmers are shown it, on a page of its own.
+fn debugged<T: Debug>(alloc: Global, value: &T) -> Page {
+    let mut page = Page::new(alloc);
+    page.debug(value);
+    page
 }

@@ -1,9 +1,9 @@
 //! Texts, and what is asked of their tokens.
 
-use crate::given::lexed;
-use crate::leaf::tokens;
-use crate::lists::{names, reading as lists};
-use crate::parse::reading;
+use crate::grow::given::lexed;
+use crate::grow::leaf::tokens;
+use crate::grow::lists::{names, reading as lists};
+use crate::grow::parse::reading;
 use rows::Page;
 use stops::{Stop, looked_at};
 use syn_parse::{Cursor, TokenBuffer};

@@ -1,6 +1,6 @@
 //! Groups that are printed round what stands inside.
 
-use crate::shown::{display_of, is_text};
+use crate::grow::shown::{display_of, is_text};
 use proc_macro2::{Span, TokenStream};
 use rows::Page;
 use std::alloc::{AllocError, Global};

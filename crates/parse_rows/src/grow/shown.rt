@@ -1,37 +1,16 @@
-//! How what the calls answer is put onto a page, and whether a value is shown as it was before.
+//! How values are shown on pages of their own, and whether as before.
 
+use crate::errors::put_messages;
+use crate::texts::put_tokens;
 use rows::Page;
 use std::alloc::Global;
 use std::fmt::Display;
 use syn_error::{Error, ToTokens};
 
-fn put_printed<T: ToTokens>(value: &T, page: &mut Page) {
-    match value.to_token_stream(page.alloc()) {
-        Ok(tokens) => page.show(&tokens),
-        Err(_) => page.cut(),
-    }
-}
-
-/// Puts the print of a value, and a line's end.
-pub(crate) fn put_line<T: ToTokens>(value: &T, page: &mut Page) {
-    put_printed(value, page);
-    page.put("\n");
-}
-
-/// Puts the words of all messages, in lines.
-pub(crate) fn put_messages(error: &Error, page: &mut Page) {
-    for message in error {
-        match message {
-            Ok(message) => write!(page, "{message}\n"),
-            Err(_) => page.cut(),
-        }
-    }
-}
-
 /// The print of a value, on a page of its own.
 pub(crate) fn print_of<T: ToTokens>(alloc: Global, value: &T) -> Page {
     let mut page = Page::new(alloc);
-    put_printed(value, &mut page);
+    put_tokens(value, &mut page);
     page
 }
 

@@ -1,8 +1,9 @@
 //! Lists that are built, extended and copied.
 
-use crate::given::{Names, name};
-use crate::grown::{is_list, put_in};
-use crate::shown::{is_front_of, print_of, put_line};
+use crate::grow::given::{Names, name};
+use crate::grow::grown::{is_list, put_in};
+use crate::grow::shown::{is_front_of, print_of};
+use crate::lists::show_tokens;
 use proc_macro2::Ident;
 use rows::Page;
 use std::alloc::{AllocError, Global};
@@ -33,7 +34,7 @@ pub(crate) fn put_behind(page: &mut Page) -> Result<(), Stop> {
         put_value(&mut names, text, before)?;
         put_comma(&mut names, between)?;
     }
-    put_line(&names, page);
+    show_tokens(&names, page);
     Ok(())
 }
 
@@ -69,7 +70,7 @@ pub(crate) fn inserted(page: &mut Page) -> Result<(), Stop> {
         let inserted = names.insert(0, name(page.alloc(), text)?);
         put_in(inserted, &names, text, before)?;
     }
-    put_line(&names, page);
+    show_tokens(&names, page);
     Ok(())
 }
 
@@ -81,7 +82,7 @@ fn put_extended(
 ) -> Result<(), Stop> {
     match answer {
         Ok(()) => {
-            put_line(names, page);
+            show_tokens(names, page);
             Ok(())
         }
         Err(_) => {
@@ -112,7 +113,7 @@ pub(crate) fn collected(page: &mut Page) -> Result<(), Stop> {
     let values = words(page.alloc(), &["a", "b", "c"])?.into_iter();
     let names: Names = looked_at(values.collect(page.alloc()))?;
     let names: Names = looked_at(names.into_pairs().collect(page.alloc()))?;
-    put_line(&names, page);
+    show_tokens(&names, page);
     Ok(())
 }
 
@@ -136,7 +137,7 @@ fn put_copy(names: &Names, page: &mut Page) -> Result<(), Stop> {
     for pair in names.pairs() {
         copy.push(value_of(pair, names)?)?;
     }
-    put_line(&copy, page);
+    show_tokens(&copy, page);
     Ok(())
 }
 
@@ -152,7 +153,7 @@ fn put_others(names: &Names, page: &mut Page) -> Result<(), Stop> {
         return Err(Stop::Changed);
     }
     let others = answered(names.with_values(others), names)?;
-    put_line(&others, page);
+    show_tokens(&others, page);
     Ok(())
 }
 

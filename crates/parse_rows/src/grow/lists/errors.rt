@@ -1,7 +1,8 @@
 //! Errors that are made, extended, copied and gone over.
 
-use crate::given::{lexed_in, message};
-use crate::shown::{begins_with, is_front_of, is_text, messages_of, put_messages};
+use crate::errors::put_messages;
+use crate::grow::given::{lexed_in, message};
+use crate::grow::shown::{begins_with, is_front_of, is_text, messages_of};
 use proc_macro2::{LexFault, SourceMap, TokenStream};
 use rows::Page;
 use std::alloc::Global;

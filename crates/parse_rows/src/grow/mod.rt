@@ -1,14 +1,13 @@
 //! Calls that grow, one behind the other, and whether each left what it had to where its growth was refused.
-//! `tests/refused.sh` runs it once for each allocation, refusing that one.
+//! `tests/refused.sh` runs them once for each allocation, refusing that one.
 //!
 //! - `given`: what the calls are given.
 //! - `grown`: what came of a growth.
-//! - `shown`: how what they answer is put onto a page, and whether a value is shown as it was before.
+//! - `shown`: how values are shown on pages of their own, and whether as before.
 //! - `asked`: texts, and what is asked of their tokens.
 //! - `parse`: what is read and printed of syntax.
 //! - `lists`: lists that grow, are copied and are read, and errors that are put together.
 //! - `leaf`: literals and operators.
-#![tactic(auto)]
 
 mod asked;
 mod given;
@@ -22,9 +21,15 @@ use asked::{Question, ask};
 use leaf::{tokens, values};
 use lists::{built, errors, groups};
 use parse::{printing, reading};
-use rows::{Page, told};
-use std::process::ExitCode;
-use stops::{Stop, ended};
+use rows::Page;
+use stops::Stop;
+
+/// Puts what all of them answer.
+pub(crate) fn put(page: &mut Page) -> Result<(), Stop> {
+    put_syntax(page)?;
+    put_lists(page)?;
+    put_leaves(page)
+}
 
 // What is read and printed of syntax.
 fn put_syntax(page: &mut Page) -> Result<(), Stop> {
@@ -63,20 +68,4 @@ fn put_leaves(page: &mut Page) -> Result<(), Stop> {
         page,
     )?;
     ask("= a", Question::NoOperator, page)
-}
-
-fn run(rt: &HostRuntime) -> Result<(), Stop> {
-    let mut page = Page::new(rt.alloc());
-    put_syntax(&mut page)?;
-    put_lists(&mut page)?;
-    put_leaves(&mut page)?;
-    match told(rt, &page) {
-        Ok(()) => Ok(()),
-        Err(_) => Err(Stop::Elsewhere),
-    }
-}
-
-/// Ends as `stops` says.
-fn main(rt: HostRuntime) -> ExitCode {
-    ended(run(&rt))
 }

@@ -1,7 +1,7 @@
 //! What is printed and read.
 
-use crate::given::front;
-use crate::grown::print_behind;
+use crate::grow::given::front;
+use crate::grow::grown::print_behind;
 use proc_macro2::TokenStream;
 use rows::Page;
 use std::alloc::Global;

@@ -1,8 +1,9 @@
 //! A list that grows and is printed, errors that are put together.
 
-use crate::given::{Names, front, message, name};
-use crate::grown::{print_behind, put_in};
-use crate::shown::{is_text, messages_of, put_messages};
+use crate::errors::put_messages;
+use crate::grow::given::{Names, front, message, name};
+use crate::grow::grown::{print_behind, put_in};
+use crate::grow::shown::{is_text, messages_of};
 use rows::Page;
 use std::alloc::Global;
 use stops::{Stop, refused};

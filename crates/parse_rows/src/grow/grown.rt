@@ -1,7 +1,7 @@
 //! What came of a growth. Where it was refused, what was there is as before.
 
-use crate::given::Names;
-use crate::shown::{begins_with, display_of, is_text, print_of};
+use crate::grow::given::Names;
+use crate::grow::shown::{begins_with, display_of, is_text, print_of};
 use proc_macro2::{Ident, TokenStream};
 use std::alloc::{AllocFailed, Global};
 use stops::{Stop, refused};

@@ -1,7 +1,7 @@
 //! A buffer, a lookahead, a stream that is shown, a text that is read.
 
-use crate::given::{lexed, lexed_in};
-use crate::shown::{display_of, is_text};
+use crate::grow::given::{lexed, lexed_in};
+use crate::grow::shown::{display_of, is_text};
 use proc_macro2::{LineColumn, Literal, SourceMap, Span, TokenStream};
 use rows::Page;
 use std::alloc::Global;

@@ -1,7 +1,8 @@
 //! Lists that are read.
 
-use crate::given::Names;
-use crate::shown::put_line;
+use crate::grow::given::Names;
+use crate::lists::show_tokens;
+use crate::lookahead::{terminated, terminated_with};
 use proc_macro2::Ident;
 use rows::Page;
 use std::alloc::Global;
@@ -9,8 +10,7 @@ use stops::{Stop, refused};
 use syn_error::ParseFault;
 use syn_kinds::token;
 use syn_parse::{
-    Cursor, ParseBuffer, parse_separated_nonempty, parse_separated_nonempty_with,
-    parse_terminated_with, read_many,
+    Cursor, ParseBuffer, parse_separated_nonempty, parse_separated_nonempty_with, read_many,
 };
 
 /// Puts a list that is read by each of the calls.
@@ -29,7 +29,7 @@ type List = Result<Names, ParseFault>;
 fn put_read(read: List, begin: Cursor<'_>, page: &mut Page) -> Result<(), Stop> {
     match read {
         Ok(names) => {
-            put_line(&names, page);
+            show_tokens(&names, page);
             Ok(())
         }
         Err(ParseFault::Memory) => refused(begins(begin)),
@@ -43,16 +43,6 @@ fn begins(begin: Cursor<'_>) -> bool {
         Some((ident, _)) => ident.is_text("a"),
         None => false,
     }
-}
-
-fn terminated(alloc: Global, begin: Cursor<'_>) -> List {
-    ParseBuffer::new(alloc, begin).parse_terminated::<Ident, token::Comma>()
-}
-
-fn terminated_with(alloc: Global, begin: Cursor<'_>) -> List {
-    parse_terminated_with(&mut ParseBuffer::new(alloc, begin), |input| {
-        input.parse::<Ident>()
-    })
 }
 
 fn separated(alloc: Global, begin: Cursor<'_>) -> List {
