@@ -16,7 +16,7 @@ sys.dont_write_bytecode = True
 from lexer import lex
 from outline import outline, place_of
 from program import ACCEPTED, AT_FAULT, Program
-from second import answer
+from second import Answer, answer
 from stored import stored_texts
 from texts import Maker
 from tokens import GROUP
@@ -24,6 +24,7 @@ from tokens import GROUP
 LEXICAL = 'canon: lexical fault at '
 SYNTAX = 'canon: syntax fault at '
 AT_THE_END = SYNTAX + 'end of input: '
+BROKEN = 'broken'
 
 
 def token_places(text):
@@ -36,6 +37,14 @@ def token_places(text):
                 out.add(place_of(text, token.end))
                 lists.append(token.inside)
     return out
+
+
+def answered(text):
+    """The second implementation's answer: where it breaks, that is a difference, too."""
+    try:
+        return answer(text)
+    except Exception as fault:  # whatever it is, the text is worth being seen
+        return Answer(BROKEN, wanted=repr(fault))
 
 
 class Comparison:
@@ -53,7 +62,7 @@ class Comparison:
     def text(self, text, has_outline):
         """Compares one text; answers whether it is accepted by both."""
         self.texts += 1
-        ours = answer(text)
+        ours = answered(text)
         theirs = self.program.ask(text)
         found = self.difference(text, ours, theirs)
         if found is None and has_outline:
@@ -69,7 +78,7 @@ class Comparison:
         """What differs, with both answers, or None."""
         status, output, fault = theirs
         said = output.rstrip('\n') if status == ACCEPTED else f'status {status}: {fault.strip()}'
-        if status not in (ACCEPTED, AT_FAULT):
+        if status not in (ACCEPTED, AT_FAULT) or ours.kind == BROKEN:
             return 'no answer', ours, said
         if (ours.kind == 'accepted') != (status == ACCEPTED):
             return 'accepted by one', ours, said

@@ -26,4 +26,4 @@ class Program:
 
     def content(self, stream):
         self.files[stream].seek(0)
-        return self.files[stream].read().decode()
+        return self.files[stream].read().decode(errors='replace')

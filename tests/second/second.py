@@ -20,7 +20,8 @@ class Parser(Items, Members, Functions, Statements, Binding, Atoms, Patterns, Ge
 
 
 class Answer:
-    """Accepted with an output, or a lexical fault at a place, or a syntax fault near one (None at the end)."""
+    """Accepted with an output, or a lexical fault at a place, or a syntax fault near one (None at the end) that wanted
+    something."""
 
     def __init__(self, kind, output=None, place=None, wanted=None):
         self.kind = kind
@@ -33,7 +34,7 @@ class Answer:
             return self.output
         if self.kind == 'lexical':
             return f'lexical fault at character {self.place}'
-        return f'syntax fault, wanted {self.wanted} near character {self.place}'
+        return f'{self.kind}: {self.wanted}, at character {self.place}'
 
 
 def answer(text):
