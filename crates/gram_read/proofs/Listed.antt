@@ -8,7 +8,7 @@ use Rattle.syn_grammar.specs.Tree as t
 use Rattle.syn_grammar.specs.Tree.{Tree, flat}
 use Rattle.gram_tree.specs.declared.tree.Element.{Element}
 use Rattle.gram_tree.specs.Forms.{seconds, elements, mark_of, turns}
-use Rattle.gram_write.proofs.Flat.{flat_seconds}
+use Rattle.gram_tree.proofs.Flat.{flat_seconds}
 
 pub named_seconds : (k : Named) (n m : ℕ) (x : Tree) → named (Names k) n (seconds m x) ≡ named (Names k) n x
 named_seconds k n zero x = refl

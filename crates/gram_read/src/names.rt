@@ -9,9 +9,9 @@ ghost use Rattle.syn_grammar.specs.Name.{same_part, the_name};
 ghost use Rattle.syn_grammar.specs.Names.{Names, Others, lister, named, names, names_behind, trait_kind};
 ghost use Rattle.syn_grammar.specs.Tree.{flat};
 
-use crate::count::past;
 use gram_table::kind::Kind;
 use gram_table::part::Part;
+use gram_tree::count::past;
 use gram_tree::tree::{Form, Tree, Two};
 use rust_leaf::ident::Ident;
 use std::alloc::AllocError;

@@ -6,10 +6,12 @@
 //! - `copy`: trees once more.
 //! - `part`: their parts.
 //! - `shape`: what a tree is, and what stands in it.
+//! - `count`: how many tokens it has.
 #![tactic(auto)]
 
 pub mod arena;
 pub mod copy;
+pub mod count;
 pub mod made;
 pub mod part;
 pub mod shape;

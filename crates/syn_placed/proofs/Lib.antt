@@ -1,5 +1,3 @@
-pub mod Flat
-pub mod Counted
 pub mod Cuts
 pub mod Shapes
 pub mod Sought

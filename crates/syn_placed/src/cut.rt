@@ -5,8 +5,8 @@ ghost use Rattle.std.specs.Prelude.{◌++◌, ◌≡◌, List, drop, length, tak
 ghost use Rattle.syn_grammar.specs.Tree.{flat};
 ghost use Rattle.syn_placed.specs.Stands.{Begins, IsPast, tokens};
 
-use crate::count::past;
 use crate::placed::Placed;
+use gram_tree::count::past;
 use gram_tree::tree::Tree;
 use syn_buffer::entry::Entry;
 

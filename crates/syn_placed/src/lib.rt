@@ -21,11 +21,9 @@
 //! - `turns`, `list`: turns and elements, one behind the other.
 //! - `leaf`: words and literals.
 //! - `laws`: what holds of where parts stand.
-//! - `count` (private): how many tokens a tree has.
 //! - `cut` (private): entries that are cut where the tokens of a tree end.
 #![tactic(auto)]
 
-mod count;
 mod cut;
 pub mod laws;
 pub mod leaf;

@@ -5,7 +5,7 @@ use Rattle.syn_buffer.specs.declared.entry.Entry.{Entry}
 use Rattle.syn_grammar.specs.Tree as t
 use Rattle.syn_placed.specs.Before.{before}
 use Rattle.syn_placed.specs.Stands.{IsPast, StandsBehind}
-use Rattle.syn_placed.proofs.Flat.{flat_seconds}
+use Rattle.gram_tree.proofs.Flat.{flat_seconds}
 use Rattle.syn_grammar.specs.Tree.{flat}
 use Rattle.syn_placed.proofs.Sizes.{first_below, second_below}
 use Rattle.syn_placed.proofs.Sought as so

@@ -8,9 +8,9 @@ ghost use Rattle.std.specs.Prelude.{◌≡◌, ◌++◌, ◌+◌, ◌<◌, ◌^�
 ghost use Rattle.syn_grammar.specs.Tree as t;
 ghost use Rattle.syn_grammar.specs.Tree.{flat};
 
+use crate::tree::{Element, Form, Tree, Two};
 use gram_table::op::Separator;
 use gram_table::word::Sign;
-use gram_tree::tree::{Element, Form, Tree, Two};
 
 // So many tokens, and the marks of a punctuation.
 #[tactic(auto, using(crate::proofs::Counted::marks_counted))]
@@ -24,7 +24,7 @@ fn past_sign(index: usize, sign: Sign) -> usize
 /// So many tokens, and those of a tree.
 #[cycle(counting)]
 #[tactic(auto, using(crate::proofs::Counted::forms))]
-pub(crate) fn past(index: usize, tree: &Tree) -> usize
+pub fn past(index: usize, tree: &Tree) -> usize
     requires { index + length (flat tree.now) < 2 ^ 64 }
     ensures { result ≡ index + length (flat tree.now) }
 {

@@ -3,7 +3,7 @@ use Rattle.gram_table.specs.Ops.{separator_of}
 use Rattle.gram_tree.specs.Forms.{elements, turns}
 use Rattle.syn_grammar.specs.Tree as t
 use Rattle.syn_grammar.specs.Tree.{flat}
-use Rattle.syn_placed.proofs.count.+counting.Given as goal
+use Rattle.gram_tree.proofs.count.+counting.Given as goal
 
 -- what is counted, and what is left to count, is all
 abbrev pub invariant-past_turns-loop-tree : goal.invariant-past_turns-loop-tree

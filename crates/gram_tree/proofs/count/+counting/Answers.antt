@@ -7,8 +7,8 @@ use Rattle.syn_grammar.specs.Tree.{Tree, flat}
 use Rattle.gram_tree.specs.declared.tree.Element.{Element}
 use Rattle.gram_tree.specs.Forms.{tree_of, elements, ending}
 use Rattle.gram_tree.proofs.Sizes.{turns_below, list_below}
-use Rattle.syn_placed.proofs.Flat.{flat_elements}
-use Rattle.syn_placed.proofs.count.+counting.Goals as goal
+use Rattle.gram_tree.proofs.Flat.{flat_elements}
+use Rattle.gram_tree.proofs.count.+counting.Goals as goal
 
 -- the elements that a mark follows are counted among all
 among : (c : ℕ) (es : List Element) (y : Tree) → length (flat (elements c es y))

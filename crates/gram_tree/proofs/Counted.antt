@@ -5,7 +5,7 @@ use Rattle.std.proofs.lemmas.List.{length-append}
 use Rattle.rust_leaf.specs.declared.punct.Spacing.{Spacing}
 use Rattle.syn_grammar.specs.Tree.{flat, marks}
 use Rattle.gram_tree.specs.Forms.{mark_of}
-use Rattle.gram_write.proofs.Flat.{flat_seconds, flat_elements}
+use Rattle.gram_tree.proofs.Flat.{flat_seconds, flat_elements}
 
 many_marks : (c : ℕ) (cs : List ℕ) (s : Spacing) → length (marks c cs s) ≡ suc (length cs)
 many_marks c [] s = refl
