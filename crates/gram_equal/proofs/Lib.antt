@@ -1,4 +1,3 @@
-pub mod Numbers
 pub mod Sorts
 pub mod Lefts
 pub mod Pointwise

@@ -1,47 +1,18 @@
-//! Kinds, names, marks, words and tokens that are one.
+//! Marks, words and tokens that are one.
 
-ghost use Rattle.gram_table.specs.Kinds.{kind_of};
 ghost use Rattle.gram_table.specs.Ops.{separator_of};
-ghost use Rattle.gram_table.specs.Parts.{part_of};
 ghost use Rattle.gram_table.specs.Words.{sign_text};
 ghost use Rattle.rust_leaf.specs.Leaf.{ident_text, literal_text, punct_char, punct_spacing};
 ghost use Rattle.std.specs.Prelude.{◌≡◌, ◌↔◌, IsTrue, map};
 ghost use Rattle.syn_buffer.specs.Entries.{entry_token};
-ghost use Rattle.syn_grammar.specs.Name.{number};
 
-use crate::number::kind_number;
-use gram_table::kind::Kind;
 use gram_table::op::Separator;
-use gram_table::part::Part;
 use gram_table::word::Sign;
 use proc_macro2::delimiter::Delimiter;
 use rust_leaf::ident::Ident;
 use rust_leaf::literal::Literal;
 use rust_leaf::punct::{Punct, Spacing};
 use syn_buffer::entry::Entry;
-
-/// Two kinds are one.
-#[tactic(auto, using(crate::proofs::Numbers::one_kind))]
-pub(crate) fn same_kind(a: Kind, b: Kind) -> bool
-    ensures { IsTrue result ↔ (kind_of a ≡ kind_of b) }
-{
-    kind_number(a) == kind_number(b)
-}
-
-// The number of a name.
-fn part_number(part: Part) -> u8
-    ensures { result ≡ number (part_of part) }
-{
-    part as u8
-}
-
-/// Two names of parts are one.
-#[tactic(auto, using(crate::proofs::Numbers::one_part))]
-pub(crate) fn same_part(a: Part, b: Part) -> bool
-    ensures { IsTrue result ↔ (part_of a ≡ part_of b) }
-{
-    part_number(a) == part_number(b)
-}
 
 /// Two punctuations are one.
 #[tactic(auto, using(crate::proofs::Texts::texts))]

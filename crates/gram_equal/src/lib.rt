@@ -3,12 +3,10 @@
 //! - `tree`: trees compared.
 //! - `laws`: what holds of that.
 //! - `rest` (private): what is left to be compared, once what two trees are made of has been looked at.
-//! - `leaf` (private): kinds, names, words and tokens compared.
-//! - `number` (private): kinds by their numbers.
+//! - `leaf` (private): marks, words and tokens compared.
 #![tactic(auto)]
 
 pub mod laws;
 mod leaf;
-mod number;
 mod rest;
 pub mod tree;

@@ -13,11 +13,11 @@ ghost use Rattle.syn_buffer.specs.Entries.{entry_token};
 ghost use Rattle.syn_grammar.specs.Tree as t;
 
 use crate::leaf::{
-    same_delimiter, same_kind, same_literal, same_part, same_separator, same_sign, same_spacing,
-    same_tokens, same_word,
+    same_delimiter, same_literal, same_separator, same_sign, same_spacing, same_tokens, same_word,
 };
 use gram_table::kind::Kind;
 use gram_table::part::Part;
+use gram_table::same::{same_kind, same_part};
 use gram_table::word::Sign;
 use gram_tree::tree::{Form, Separated, Three, Tree, Two};
 use proc_macro2::delimiter::Delimiter;

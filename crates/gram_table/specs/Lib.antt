@@ -6,3 +6,4 @@ pub mod Looks
 pub mod Cases
 pub mod Verdicts
 pub mod Ops
+pub mod Numbers

@@ -1,7 +1,7 @@
 //! The table of the written grammar as data: an entry for each kind, as steps that code can follow.
 //!
 //! - `kind`, `part`, `word`: the kinds of node, the names of parts, and the words and punctuations of which entries
-//!   speak.
+//!   speak; `same`: kinds and names that are one.
 //! - `op`: the steps of entries and of looks.
 //! - `composite`: looks of several steps, by their names; `sights`: what they see, step by
 //!   step (`entry_sights`, `form_sights`).
@@ -29,6 +29,7 @@ pub mod op;
 pub mod part;
 mod paths;
 mod patterns;
+pub mod same;
 pub mod sights;
 mod statements;
 mod types;

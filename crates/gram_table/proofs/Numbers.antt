@@ -5,7 +5,7 @@ use Rattle.syn_grammar.specs.Kind as k
 use Rattle.syn_grammar.specs.Kind.{Kind}
 use Rattle.syn_grammar.specs.Name as n
 use Rattle.syn_grammar.specs.Name.{Part, number}
-use Rattle.gram_equal.specs.Numbers.{kind_number}
+use Rattle.gram_table.specs.Numbers.{kind_number}
 
 -- all kinds, each at its number
 kinds : List Kind

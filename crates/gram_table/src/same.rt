@@ -1,10 +1,13 @@
-//! Kinds by their numbers.
+//! Kinds and names of parts that are one, which their numbers tell.
 
-ghost use Rattle.gram_equal.specs.Numbers.{kind_number, place_number, plus_number, position_number, style_number};
 ghost use Rattle.gram_table.specs.Kinds.{kind_of, place_of, plus_of, position_of, style_of};
-ghost use Rattle.std.specs.Prelude.{◌≡◌, ◌<◌};
+ghost use Rattle.gram_table.specs.Numbers.{kind_number, place_number, plus_number, position_number, style_number};
+ghost use Rattle.gram_table.specs.Parts.{part_of};
+ghost use Rattle.std.specs.Prelude.{◌≡◌, ◌↔◌, ◌<◌, IsTrue};
+ghost use Rattle.syn_grammar.specs.Name.{number};
 
-use gram_table::kind::{Kind, Place, Plus, Position, Style};
+use crate::kind::{Kind, Place, Plus, Position, Style};
+use crate::part::Part;
 
 // The number of a style.
 fn style_number(style: Style) -> u8
@@ -39,7 +42,7 @@ fn place_number(place: Place) -> u8
 }
 
 // The number of a kind: each has its own.
-pub(crate) fn kind_number(kind: Kind) -> u8
+fn kind_number(kind: Kind) -> u8
     ensures { result ≡ kind_number (kind_of kind) }
 {
     match kind {
@@ -232,4 +235,27 @@ pub(crate) fn kind_number(kind: Kind) -> u8
         Kind::ALet => 232,
         Kind::AFile => 233,
     }
+}
+
+/// Two kinds are one.
+#[tactic(auto, using(crate::proofs::Numbers::one_kind))]
+pub fn same_kind(a: Kind, b: Kind) -> bool
+    ensures { IsTrue result ↔ (kind_of a ≡ kind_of b) }
+{
+    kind_number(a) == kind_number(b)
+}
+
+// The number of a name.
+fn part_number(part: Part) -> u8
+    ensures { result ≡ number (part_of part) }
+{
+    part as u8
+}
+
+/// Two names of parts are one.
+#[tactic(auto, using(crate::proofs::Numbers::one_part))]
+pub fn same_part(a: Part, b: Part) -> bool
+    ensures { IsTrue result ↔ (part_of a ≡ part_of b) }
+{
+    part_number(a) == part_number(b)
 }

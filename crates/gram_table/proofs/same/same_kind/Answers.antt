@@ -1,8 +1,8 @@
 use Rattle.std.proofs.Common.{ap, eq-eqb, eqb-true, sym, ◌∙◌}
 use Rattle.gram_table.specs.Kinds.{kind_of}
-use Rattle.gram_equal.specs.Numbers.{kind_number as number}
-use Rattle.gram_equal.proofs.Numbers.{one_kind}
-use Rattle.gram_equal.proofs.leaf.same_kind.Goals as goal
+use Rattle.gram_table.specs.Numbers.{kind_number as number}
+use Rattle.gram_table.proofs.Numbers.{one_kind}
+use Rattle.gram_table.proofs.same.same_kind.Goals as goal
 
 pub returns : goal.returns
 returns c = (
