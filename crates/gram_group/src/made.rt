@@ -1,8 +1,8 @@
 //! A group, of what was read of its inside, where that is all of it.
 
-ghost use Rattle.gram_group.specs.Grouped.{Groups, tokens};
+ghost use Rattle.gram_group.specs.Grouped.{BeginsThere, Groups, HandsBack, tokens};
 ghost use Rattle.proc_macro2.specs.Token.{Token};
-ghost use Rattle.std.specs.Prelude.{List};
+ghost use Rattle.std.specs.Prelude.{IfErr, List};
 ghost use Rattle.syn_grammar.specs.Run.{Got, whole};
 
 use gram_tree::arena::Arena;
@@ -34,7 +34,9 @@ pub fn grouped<'a>(
     inside: Tree<'a>,
     left: &[Entry<'_>],
 ) -> Result<Tree<'a>, Unmade<'a>>
-    ensures { (behind : List Token) → Groups behind result (whole delimiter behind (Got inside.entry (tokens left.now))) }
+    ensures answer { (behind : List Token) → Groups behind result (whole delimiter behind (Got inside.entry (tokens left.now))) }
+    ensures place { IfErr result (λ e. BeginsThere e left.now) }
+    ensures read { IfErr result (λ e. HandsBack e inside.entry) }
 {
     if let Some(entry) = left.first() {
         return Err(Unmade::Unread(entry.span(), inside));
