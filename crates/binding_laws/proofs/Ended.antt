@@ -8,7 +8,7 @@ use Rattle.rust_leaf.specs.declared.punct.Spacing.TheVariants.{Alone as Apart, J
 use Rattle.syn_grammar.specs.Kind.{Kind, Position, Plain, InCondition, InArm, InStatement, ExprCall, ExprMethodCall}
 use Rattle.syn_grammar.specs.Kind.{ExprField, ExprAwait, ExprIndex, ExprTry, ExprCast, ExprAttributed, ExprUnary}
 use Rattle.syn_grammar.specs.Kind.{ExprRawAddr, ExprReference, ExprLet, ExprBreak, ExprReturn, ExprYield}
-use Rattle.syn_grammar.specs.Kind.{ExprClosure, ExprRange, ExprRangeClosed, ExprAssign, ExprOr, ExprAnd}
+use Rattle.syn_grammar.specs.Kind.{ExprClosure, ExprRange, ExprRangeClosed, ExprStruct, ExprAssign, ExprOr, ExprAnd}
 use Rattle.syn_grammar.specs.Kind.{ExprCompare, ExprBitOr, ExprBitXor, ExprBitAnd, ExprShift, ExprSum, ExprProduct}
 use Rattle.syn_grammar.specs.Name.{the_name, the_value, the_indices, same_part}
 use Rattle.syn_grammar.specs.Part.{has}
@@ -29,7 +29,8 @@ use Rattle.binding_laws.specs.Bare.{bare}
 use Rattle.binding_laws.proofs.Turns.{Facts, lone_less}
 use Rattle.binding_laws.proofs.Sights.{is_back, is_postfix, backs_are, back_same, starts_plain, postfix_seen}
 use Rattle.binding_laws.proofs.Sights.{field_alone, call_seen}
-use Rattle.binding_laws.proofs.Shells.{is_dot, undotted, behind_dot, dotted_has, dotted_own}
+use Rattle.binding_laws.proofs.Leads.{unlike}
+use Rattle.binding_laws.proofs.Shells.{is_dot, each_dot, undotted, behind_dot, dotted_has, dotted_own}
 use Rattle.binding_laws.proofs.Same.{may_same}
 use Rattle.binding_laws.proofs.Casts.{cast_ends, cast_no_postfix}
 
@@ -127,10 +128,10 @@ field_before k q rest us y d e f w z g =
 dot_before : (j k : Kind) (q : Position) (rest us : List Token) (y : Tree) → is_dot j ≡ true → Derives y (table j) rest
     → back q (flat y ++ rest) ≡ Some j → back q rest ≡ Some k → (w z : Tree) → kept y ≡ behind_dot w z
     → ends_before k us j (normal (behind_dot End z)) ≡ true
-dot_before ExprField k q rest us y i d e f w z g = field_before k q rest us y d e f w z g
-dot_before ExprMethodCall k q rest us y i d e f w z g = refl
-dot_before ExprAwait k q rest us y i d e f w z g = refl
-dot_before _ k q rest us y i d e f w z g = cc
+dot_before j k q rest us y i d e f w z g =
+    each_dot (λ m. Derives y (table m) rest → back q (flat y ++ rest) ≡ Some m
+    → ends_before k us m (normal (behind_dot End z)) ≡ true)
+    (λ a b. field_before k q rest us y a b f w z g) (λ a b. refl) (λ a b. refl) j i d e
 
 index_name : (cs : List ℕ) → has the_name (normal (behind_dot End (Second (Called the_value (ALiteral cs))))) ≡ false
 unfolding same_part
@@ -145,7 +146,21 @@ top_postfix ExprField b s e = refl
 top_postfix ExprAwait b s e = refl
 top_postfix ExprIndex b s e = refl
 top_postfix ExprTry b s e = refl
-top_postfix _ b s e = cc
+top_postfix ExprStruct b s e = absurd (unlike (sym s))
+top_postfix ExprCast b s e = absurd (unlike e)
+top_postfix ExprRange b s e = absurd (unlike e)
+top_postfix ExprRangeClosed b s e = absurd (unlike e)
+top_postfix ExprAssign b s e = absurd (unlike e)
+top_postfix ExprOr b s e = absurd (unlike e)
+top_postfix ExprAnd b s e = absurd (unlike e)
+top_postfix ExprCompare b s e = absurd (unlike e)
+top_postfix ExprBitOr b s e = absurd (unlike e)
+top_postfix ExprBitXor b s e = absurd (unlike e)
+top_postfix ExprBitAnd b s e = absurd (unlike e)
+top_postfix ExprShift b s e = absurd (unlike e)
+top_postfix ExprSum b s e = absurd (unlike e)
+top_postfix ExprProduct b s e = absurd (unlike e)
+top_postfix _ b s e = absurd (unlike b)
 
 not_false : (b : Bool) → b ≡ false → not b ≡ true
 not_false true e = cc

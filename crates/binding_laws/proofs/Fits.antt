@@ -23,8 +23,9 @@ use Rattle.syn_grammar.specs.Parens.{is_struct, is_ended, ends_before, stands_in
 use Rattle.syn_grammar.proofs.Whole.{and_true}
 use Rattle.binding_laws.specs.Bare.{bare}
 use Rattle.binding_laws.proofs.Turns.{is_infix, is_last}
-use Rattle.binding_laws.proofs.Sights.{stands, is_back, backs_are, brace_struct}
-use Rattle.binding_laws.proofs.Shells.{is_dot}
+use Rattle.binding_laws.proofs.Sights.{is_back, backs_are, brace_struct}
+use Rattle.binding_laws.proofs.Leads.{unlike}
+use Rattle.binding_laws.proofs.Shells.{is_dot, each_dot}
 use Rattle.binding_laws.proofs.Same.{may_same, chains_same, ends_same}
 use Rattle.binding_laws.proofs.Ended.{Edge}
 use Rattle.binding_laws.proofs.Stays.{Behind}
@@ -44,7 +45,18 @@ last_kind ExprTry p ts b s h = refl
 last_kind ExprCast p ts b s h = refl
 last_kind ExprRange p ts b s h = refl
 last_kind ExprRangeClosed p ts b s h = refl
-last_kind _ p ts b s h = cc
+last_kind ExprStruct p ts b s h = absurd (unlike (sym s))
+last_kind ExprAssign p ts b s h = absurd (unlike (sym h))
+last_kind ExprOr p ts b s h = absurd (unlike (sym h))
+last_kind ExprAnd p ts b s h = absurd (unlike (sym h))
+last_kind ExprCompare p ts b s h = absurd (unlike (sym h))
+last_kind ExprBitOr p ts b s h = absurd (unlike (sym h))
+last_kind ExprBitXor p ts b s h = absurd (unlike (sym h))
+last_kind ExprBitAnd p ts b s h = absurd (unlike (sym h))
+last_kind ExprShift p ts b s h = absurd (unlike (sym h))
+last_kind ExprSum p ts b s h = absurd (unlike (sym h))
+last_kind ExprProduct p ts b s h = absurd (unlike (sym h))
+last_kind _ p ts b s h = absurd (unlike b)
 
 pub infix_kind : (k : Kind) (p : Position) (ts : List Token) → is_back k ≡ true → has_right p k ts ≡ true → is_infix k
     ≡ true
@@ -61,7 +73,15 @@ infix_kind ExprSum p ts b h = refl
 infix_kind ExprProduct p ts b h = refl
 infix_kind ExprRange p ts b h = refl
 infix_kind ExprRangeClosed p ts b h = refl
-infix_kind _ p ts b h = cc
+infix_kind ExprStruct p ts b h = absurd (unlike h)
+infix_kind ExprCall p ts b h = absurd (unlike h)
+infix_kind ExprMethodCall p ts b h = absurd (unlike h)
+infix_kind ExprField p ts b h = absurd (unlike h)
+infix_kind ExprAwait p ts b h = absurd (unlike h)
+infix_kind ExprIndex p ts b h = absurd (unlike h)
+infix_kind ExprTry p ts b h = absurd (unlike h)
+infix_kind ExprCast p ts b h = absurd (unlike h)
+infix_kind _ p ts b h = absurd (unlike b)
 
 -- a form with an operand behind it takes postfix forms behind that
 pub takes_top : (k : Kind) (p : Position) (ts : List Token) → has_right p k ts ≡ true → takes (level k) (level ExprStruct)
@@ -88,7 +108,7 @@ takes_top ExprBitAnd p ts h = refl
 takes_top ExprShift p ts h = refl
 takes_top ExprSum p ts h = refl
 takes_top ExprProduct p ts h = refl
-takes_top _ p ts h = cc
+takes_top _ p ts h = absurd (unlike h)
 
 path_goes : (q : Position) (n : ℕ) (y : Tree) (rest : List Token) → takes n (level ExprStruct) ≡ true
     → ends_there q (Alone ExprPath y) ≡ false → back q rest ≡ Some ExprStruct → goes_on q n (Alone ExprPath y) rest
@@ -108,8 +128,8 @@ plain_path q n (Alone ExprPath y) rest ts t g b i s f = go (sees (struct_stands 
     go : (c : Bool) → sees (struct_stands q) ts ≡ c → c ≡ false
     go true e = absurd (both _ (path_goes q n y rest t (f y) (brace_struct q rest (s rest ∙ b (sym (s ts) ∙ e)))) g)
     go false e = refl
-plain_path q n (Alone _ y) rest ts t g b i s f = cc
-plain_path q n _ rest ts t g b i s f = cc
+plain_path q n (Alone _ y) rest ts t g b i s f = absurd (unlike i)
+plain_path q n _ rest ts t g b i s f = absurd (unlike i)
 
 pub path_right : (q : Position) (n : ℕ) (x : Tree) (rest ts : List Token) → takes n (level ExprStruct) ≡ true
     → goes_on q n x rest ≡ false → (sees brace ts ≡ true → sees brace rest ≡ true) → is_path_form x ≡ true
@@ -143,7 +163,7 @@ left_stays p l k y rest d i e =
 -- where a left operand ends: of a postfix form it takes one
 may_plain : (k : Kind) (l : Tree) → is_struct k ≡ false → may_be_left k l
     ≡ cond (nat_eq (level k) 16) (takes_postfix l) (not (is_range l))
-may_plain ExprStruct l s = cc
+may_plain ExprStruct l s = absurd (unlike (sym s))
 may_plain _ l s = refl
 
 pub left_edge : (p : Position) (l : Tree) (k : Kind) → is_struct k ≡ false → stands_left p l k ≡ true → Edge k p l
@@ -192,10 +212,11 @@ await_before us _ y = refl
 
 pub dot_ended : (k : Kind) (us : List Token) (x : Tree) → is_dot k ≡ true → is_ended k us x ≡ is_ended ExprField [] x
 unfolding level Asks
-dot_ended ExprField us x i = same_ended ExprField us (field_before us, λ n z. refl) x
-dot_ended ExprMethodCall us x i = same_ended ExprMethodCall us (method_before us, λ n z. refl) x
-dot_ended ExprAwait us x i = same_ended ExprAwait us (await_before us, λ n z. refl) x
-dot_ended _ us x i = cc
+dot_ended k us x i =
+    each_dot (λ j. is_ended j us x ≡ is_ended ExprField [] x)
+    (same_ended ExprField us (field_before us, λ n z. refl) x)
+    (same_ended ExprMethodCall us (method_before us, λ n z. refl) x)
+    (same_ended ExprAwait us (await_before us, λ n z. refl) x) k i
 
 or_true : (b : Bool) → (not b || true) ≡ true
 or_true true = refl
@@ -204,19 +225,17 @@ or_true false = refl
 pub dot_left : (p : Position) (k : Kind) (y m : Tree) → is_dot k ≡ true → takes_postfix m ≡ true → is_ended ExprField [] m
     ≡ true → stays_left p k y m ≡ true
 unfolding level chains
-dot_left p ExprField y m i t e =
-    left_true false (takes_postfix m) (ends_there p m) true false (is_ended ExprField (flat y) m) t
-    (or_true (ends_there p m)) refl (dot_ended ExprField (flat y) m refl ∙ e)
-dot_left p ExprMethodCall y m i t e =
-    left_true false (takes_postfix m) (ends_there p m) true false (is_ended ExprMethodCall (flat y) m) t
-    (or_true (ends_there p m)) refl (dot_ended ExprMethodCall (flat y) m refl ∙ e)
-dot_left p ExprAwait y m i t e =
-    left_true false (takes_postfix m) (ends_there p m) true false (is_ended ExprAwait (flat y) m) t
-    (or_true (ends_there p m)) refl (dot_ended ExprAwait (flat y) m refl ∙ e)
-dot_left p _ y m i t e = cc
+dot_left p k y m i t e =
+    each_dot (λ j. is_ended j (flat y) m ≡ true → stays_left p j y m ≡ true) (left ExprField) (left ExprMethodCall)
+    (left ExprAwait) k i (dot_ended k (flat y) m i ∙ e)
+  where
+    left : (j : Kind) → is_ended j (flat y) m ≡ true
+        → (false || ((takes_postfix m && (not (ends_there p m) || true)) && (not false && is_ended j (flat y) m))) ≡ true
+    left j = left_true false (takes_postfix m) (ends_there p m) true false (is_ended j (flat y) m) t
+        (or_true (ends_there p m)) refl
 
 pub dot_stands : (p : Position) (k : Kind) → is_dot k ≡ true → stands_in p k ≡ true
-dot_stands InCondition ExprStruct i = cc
+dot_stands InCondition ExprStruct i = absurd (unlike i)
 dot_stands InCondition _ i = refl
 dot_stands Plain k i = refl
 dot_stands InArm k i = refl
@@ -224,17 +243,13 @@ dot_stands InStatement k i = refl
 
 pub dot_takes : (p : Position) (k : Kind) (ts : List Token) → is_dot k ≡ true → takes_what_follows p k ts ≡ false
 unfolding may_lack
-dot_takes p ExprField ts i = refl
-dot_takes p ExprMethodCall ts i = refl
-dot_takes p ExprAwait ts i = refl
-dot_takes p _ ts i = cc
+dot_takes p k ts i = each_dot (λ j. takes_what_follows p j ts ≡ false) refl refl refl k i
 
 pub dot_postfix : (p : Position) (k : Kind) (l : Tree) → is_dot k ≡ true → stands_left p l k ≡ true → takes_postfix l ≡ true
 unfolding level stands_left
-dot_postfix p ExprField l i m = (and_true (takes_postfix l) _ m).0
-dot_postfix p ExprMethodCall l i m = (and_true (takes_postfix l) _ m).0
-dot_postfix p ExprAwait l i m = (and_true (takes_postfix l) _ m).0
-dot_postfix p _ l i m = cc
+dot_postfix p k l i m =
+    each_dot (λ j. stands_left p l j ≡ true → takes_postfix l ≡ true) (λ n. (and_true (takes_postfix l) _ n).0)
+    (λ n. (and_true (takes_postfix l) _ n).0) (λ n. (and_true (takes_postfix l) _ n).0) k i m
 
 abbrev pub index_value : List ℕ → Tree
 index_value cs = Second (Called the_value (ALiteral (plain_decimal cs)))
@@ -243,15 +258,15 @@ pub struct_path : (p : Position) (k : Kind) (l : Tree) → is_struct k ≡ true 
     ≡ true
 unfolding stands_left
 struct_path p ExprStruct l s m = (and_true (is_path_form l) _ m).0
-struct_path p _ l s m = cc
+struct_path p _ l s m = absurd (unlike s)
 
 pub struct_undotted : (k : Kind) → is_struct k ≡ true → is_dot k ≡ false
 struct_undotted ExprStruct s = refl
-struct_undotted _ s = cc
+struct_undotted _ s = absurd (unlike s)
 
 pub infix_no_struct : (k : Kind) → is_infix k ≡ true → (is_struct k ≡ false) × ((x : Tree) → is_attributed_range k x ≡ false)
-infix_no_struct ExprStruct i = cc
-infix_no_struct ExprAttributed i = cc
+infix_no_struct ExprStruct i = absurd (unlike i)
+infix_no_struct ExprAttributed i = absurd (unlike i)
 infix_no_struct _ i = (refl, λ x. refl)
 
 pub back_takes : (l : Tree) (k : Kind) (y : Tree) (p : Position) (rest ts : List Token) → Bound p (Back l k y) rest

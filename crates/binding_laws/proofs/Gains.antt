@@ -14,13 +14,14 @@ use Rattle.syn_grammar.specs.Table.{table}
 use Rattle.syn_grammar.specs.Derives.{Derives, Bound}
 use Rattle.syn_grammar.specs.Kept.{index_field, dotted, kept, held}
 use Rattle.syn_grammar.specs.Normal.{passed, stands_behind, normal, normal_in}
-use Rattle.syn_grammar.specs.Forms.{back, has_right, level, inside, takes_postfix, is_path_form}
+use Rattle.syn_grammar.specs.Forms.{has_right, level, inside, takes_postfix, is_path_form}
 use Rattle.syn_grammar.specs.Forms.{struct_stands}
 use Rattle.syn_grammar.specs.Parens.{may_lack, is_attributed_range, takes_braces}
 use Rattle.syn_grammar.specs.Parens.{is_struct, is_ended, follow}
 use Rattle.binding_laws.specs.Bare.{bare, HasPlainRanges}
 use Rattle.binding_laws.proofs.Turns.{Facts, facts, Turn, is_infix, infix_turns, last_turns}
 use Rattle.binding_laws.proofs.Sights.{begins, stands, backs_are}
+use Rattle.binding_laws.proofs.Leads.{unlike}
 use Rattle.binding_laws.proofs.Shells.{is_dot, undotted, behind_dot, dotted_has, dotted_own}
 use Rattle.binding_laws.proofs.Same.{postfix_same, all_begun}
 use Rattle.binding_laws.proofs.Ended.{ended}
@@ -61,8 +62,8 @@ index_ready p m cs q = record {
 path_stays : (l : Tree) (p : Position) (us : List Token) → is_path_form l ≡ true → Stays p (follow us) (bare (kept l))
 unfolding may_lack
 path_stays (Alone ExprPath y) p us i = path_plain p (follow us) (follow_plain us)
-path_stays (Alone _ y) p us i = cc
-path_stays _ p us i = cc
+path_stays (Alone _ y) p us i = absurd (unlike i)
+path_stays _ p us i = absurd (unlike i)
 
 -- what is known of the left operand: it stays before all that may stand behind it
 abbrev LeftStays : Position → Tree → List Token → Type 0

@@ -1,7 +1,7 @@
 -- With which tokens an own part begins, as it was read and in normal form: a relation of both that the first leaf
 -- decides.
 use Rattle.std.proofs.Common.{◌≡◌, ℕ, List, [], ◌∷◌, ◌++◌, refl, sym, subst, append_assoc}
-use Rattle.std.specs.Prelude.{Bool, true}
+use Rattle.std.specs.Prelude.{Bool, true, false}
 use Rattle.proc_macro2.specs.Token.{Token, Opens, Ident, Literal, Punct}
 use Rattle.proc_macro2.specs.declared.delimiter.Delimiter.{Delimiter}
 use Rattle.rust_leaf.specs.declared.punct.Spacing.{Spacing}
@@ -15,6 +15,10 @@ use Rattle.syn_grammar.specs.Table.{table}
 use Rattle.syn_grammar.specs.Derives.{Derives}
 use Rattle.syn_grammar.specs.Kept.{kept}
 use Rattle.syn_grammar.specs.Normal.{place_of, normal_in}
+
+-- a test that has both answers
+pub unlike : false ≡ true → ⊥
+unlike e = cc
 
 -- nothing is read as nothing
 pub is_nil : (w : Tree) (r : List Token) → Derives w nothing r → w ≡ Nil

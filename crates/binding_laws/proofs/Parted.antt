@@ -11,6 +11,7 @@ use Rattle.syn_grammar.specs.Derives.{Bound, IsLeft}
 use Rattle.syn_grammar.proofs.Whole.{and_true}
 use Rattle.binding_laws.specs.Meets.{NoneGoesOn, LeftMeets, Meets}
 use Rattle.binding_laws.specs.Spelled.{Spelled}
+use Rattle.binding_laws.proofs.Leads.{unlike}
 use Rattle.binding_laws.proofs.Sights.{back_same, starts_plain}
 
 -- before the braces of a struct
@@ -23,9 +24,9 @@ path_ends InStatement y = refl
 path_left : (p : Position) (k : Kind) (l : Tree) → is_struct k ≡ true → is_path_form l ≡ true → IsLeft p l k
 unfolding stands_left chains level
 path_left p ExprStruct (Alone ExprPath y) s i = (ap (λ b. not b || false) (path_ends p y), refl)
-path_left p ExprStruct (Alone _ y) s i = cc
-path_left p ExprStruct _ s i = cc
-path_left p _ l s i = cc
+path_left p ExprStruct (Alone _ y) s i = absurd (unlike i)
+path_left p ExprStruct _ s i = absurd (unlike i)
+path_left p _ l s i = absurd (unlike s)
 
 path_goes : (p : Position) (l : Tree) (ts : List Token) → is_path_form l ≡ true → NoneGoesOn p l ts
 path_goes p (Alone k y) ts i = tt
@@ -37,7 +38,7 @@ path_goes p _ ts i = tt
 struct_left : (p : Position) (k : Kind) (l : Tree) → is_struct k ≡ true → IsLeft p l k → is_path_form l ≡ true
 unfolding stands_left
 struct_left p ExprStruct l s i = (and_true (is_path_form l) _ i.0).0
-struct_left p _ l s i = cc
+struct_left p _ l s i = absurd (unlike s)
 
 -- what stands left of a form
 record Left (p : Position) (l : Tree) (k : Kind) (ts : List Token) : Type 0 where

@@ -5,7 +5,7 @@ use Rattle.std.proofs.lemmas.Bool.{and_from}
 use Rattle.std.proofs.lemmas.List.{append-nil}
 use Rattle.proc_macro2.specs.Token.{Token}
 use Rattle.syn_grammar.specs.Kind.{Kind, Position, Plain, InCondition, InArm, InStatement, AMacro, Delimited}
-use Rattle.syn_grammar.specs.Kind.{ExprField, ExprMethodCall, ExprAwait, ExprAttributed, ExprStruct, ExprPath}
+use Rattle.syn_grammar.specs.Kind.{ExprField, ExprAttributed, ExprStruct, ExprPath}
 use Rattle.syn_grammar.specs.Kind.{ExprMacro, ExprIf}
 use Rattle.syn_grammar.specs.Tree.{Tree, Pair, First, Second, Node, Alone, Front, Back, Infix, flat}
 use Rattle.syn_grammar.specs.Gram.{ref}
@@ -19,7 +19,7 @@ use Rattle.syn_grammar.proofs.Whole.{and_true}
 use Rattle.binding_laws.specs.Bare.{bare}
 use Rattle.binding_laws.proofs.Leads as Leads
 use Rattle.binding_laws.proofs.Begun.{Begun, more, begun}
-use Rattle.binding_laws.proofs.Shells.{is_dot, undotted, dotted_has, dotted_own}
+use Rattle.binding_laws.proofs.Shells.{is_dot, each_dot, undotted, dotted_has, dotted_own}
 
 -- a form behind an operand stays one
 record IsBack (k : Kind) (w : Tree) : Type 0 where
@@ -149,10 +149,7 @@ ends_same InStatement x p rest d =
 -- left edges
 pub dot_level : (k : Kind) → is_dot k ≡ true → level k ≡ 16
 unfolding level
-dot_level ExprField e = refl
-dot_level ExprMethodCall e = refl
-dot_level ExprAwait e = refl
-dot_level _ e = cc
+dot_level k e = each_dot (λ j. level j ≡ 16) refl refl refl k e
 
 within_dot : (n : ℕ) (j : Kind) (m : Tree) → is_dot j ≡ true → takes n 16 ≡ true → within n (bare m) ≡ true
     → (takes n (level j) && within n (bare m)) ≡ true

@@ -11,6 +11,7 @@ use Rattle.syn_grammar.specs.Gram.{Gram, mark, seq, called}
 use Rattle.syn_grammar.specs.Table.{table}
 use Rattle.syn_grammar.specs.Derives.{Derives}
 use Rattle.syn_grammar.specs.Kept.{lone_dot, index_field, index_fields, fields_in_front, last_fields, dotted, kept}
+use Rattle.binding_laws.proofs.Leads.{unlike}
 
 -- the forms behind a dot
 abbrev pub is_dot : Kind → Bool
@@ -19,10 +20,17 @@ is_dot ExprMethodCall = true
 is_dot ExprAwait = true
 is_dot _ = false
 
+-- what holds of each of them holds of a kind that is one
+pub each_dot : (P : Kind → Type 0) → P ExprField → P ExprMethodCall → P ExprAwait → (k : Kind) → is_dot k ≡ true → P k
+each_dot P f m a ExprField e = f
+each_dot P f m a ExprMethodCall e = m
+each_dot P f m a ExprAwait e = a
+each_dot P f m a _ e = absurd (unlike e)
+
 pub undotted : (l : Tree) (k : Kind) (y : Tree) → is_dot k ≡ false → dotted l k y ≡ Back l k y
-undotted l ExprField y e = cc
-undotted l ExprMethodCall y e = cc
-undotted l ExprAwait y e = cc
+undotted l ExprField y e = absurd (unlike (sym e))
+undotted l ExprMethodCall y e = absurd (unlike (sym e))
+undotted l ExprAwait y e = absurd (unlike (sym e))
 undotted l _ y e = refl
 
 -- what stands behind the dots of a field, a method call or an await
@@ -54,10 +62,10 @@ module _ (P : Kind → Tree → Type 0) (Q : Tree → Type 0) (z : Tree)
   some_field x m e q = subst (λ v. P ExprField (Back m ExprField (behind_dot End v))) (sym e) (last ExprField m refl q)
 
   pub dotted_has : (k : Kind) (l w : Tree) → is_dot k ≡ true → Q l → P k (dotted l k (behind_dot w z))
-  dotted_has ExprField l w e q = some_field z (fields_in_front l w) refl (front_has w l q)
-  dotted_has ExprMethodCall l w e q = last ExprMethodCall (fields_in_front l w) refl (front_has w l q)
-  dotted_has ExprAwait l w e q = last ExprAwait (fields_in_front l w) refl (front_has w l q)
-  dotted_has _ l w e q = cc
+  dotted_has k l w e q =
+      each_dot (λ j. P j (dotted l j (behind_dot w z))) (some_field z (fields_in_front l w) refl (front_has w l q))
+      (last ExprMethodCall (fields_in_front l w) refl (front_has w l q))
+      (last ExprAwait (fields_in_front l w) refl (front_has w l q)) k e
 
 -- the own part of such a form
 pub record Dotted (y : Tree) : Type 0 where
@@ -82,7 +90,5 @@ dot_own g h _ r d = elim d [ ]
 
 pub dotted_own : (k : Kind) (y : Tree) (r : List Token) → is_dot k ≡ true → Derives y (table k) r → Dotted y
 unfolding table
-dotted_own ExprField y r e d = dot_own _ _ y r d
-dotted_own ExprMethodCall y r e d = dot_own _ _ y r d
-dotted_own ExprAwait y r e d = dot_own _ _ y r d
-dotted_own _ y r e d = cc
+dotted_own k y r e d =
+    each_dot (λ j. Derives y (table j) r → Dotted y) (dot_own _ _ y r) (dot_own _ _ y r) (dot_own _ _ y r) k e d

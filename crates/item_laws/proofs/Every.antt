@@ -101,9 +101,13 @@ no_row k = go (is_row k)
     go true = refl
     go false = refl
 
+-- a test that has both answers
+pub unlike : false ≡ true → ⊥
+unlike e = cc
+
 pub item_kind : (k : Kind) → is_item k ≡ true → k ≡ AnItem
 item_kind AnItem e = refl
-item_kind _ e = cc
+item_kind _ e = absurd (unlike e)
 
 row_tidy : (k : Kind) (S : Bool) (x : Tree) → is_row k && S ≡ true → tidy k x ≡ x
 row_tidy Items S x e = refl
@@ -111,11 +115,11 @@ row_tidy ForeignItems S x e = refl
 row_tidy TraitItems S x e = refl
 row_tidy ImplItems S x e = refl
 row_tidy Statements S x e = refl
-row_tidy _ S x e = cc
+row_tidy _ S x e = absurd (unlike e)
 
 held_item : (k : Kind) → is_item k ≡ false → is_item (held k) ≡ false
 unfolding held
-held_item AnItem e = cc
+held_item AnItem e = absurd (unlike (sym e))
 held_item _ e = refl
 
 module _ (S : Bool) (T : Tree → Tree → Type 0 → Type 0) (D : Delimiter → Type 0)

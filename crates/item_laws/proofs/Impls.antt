@@ -16,9 +16,10 @@ use Rattle.syn_grammar.specs.Look.{◌or◌, no, opens}
 use Rattle.syn_grammar.specs.Look.{a_group, past_closing}
 use Rattle.syn_grammar.specs.Items.{is_impl}
 use Rattle.syn_grammar.specs.Say.{◌∶◌, ◌▸◌, optional, at, keyword, sign, marks as marks', in_braces, brace}
+use Rattle.item_laws.proofs.Every.{unlike}
 use Rattle.item_laws.proofs.Passed.{group_passed}
 use Rattle.syn_grammar.specs.Part.{has}
-use Rattle.proc_macro2.specs.declared.delimiter.Delimiter.TheVariants.{Parenthesis}
+use Rattle.proc_macro2.specs.declared.delimiter.Delimiter.TheVariants.{Brace, Parenthesis}
 use Rattle.syn_grammar.specs.Gram.{Gram, seq, alt, called, group, nothing, ref}
 use Rattle.syn_grammar.specs.Name.{Part, same_part, the_safety}
 use Rattle.syn_grammar.specs.Name.{the_const, the_default, the_generics, the_polarity}
@@ -108,42 +109,70 @@ polarity_next t n (Second Nil) s ts h e = e
 polarity_next t n (Second _) s ts h e = absurd h.1
 polarity_next t n _ s ts h e = absurd h
 
--- what stands behind the word impl
+-- what stands behind the word impl, part by part
+abbrev members : Gram
+members = ref InnerAttributes ▸ ref ImplItems
+
+abbrev where_rest : Gram
+where_rest = the_where ∶ ref Where ▸ in_braces members
+
+abbrev self_type : Gram
+self_type = the_self ∶ ref (AType WithPlus)
+
+abbrev for_rest : Gram
+for_rest = optional (at "for") (keyword "for" ▸ self_type) ▸ where_rest
+
+abbrev type_rest : Gram
+type_rest = the_first ∶ ref (AType WithPlus) ▸ for_rest
+
+abbrev lone_bang : Look
+lone_bang = marks' "!" then no brace
+
+abbrev polarity_rest : Gram
+polarity_rest = optional lone_bang (the_polarity ∶ sign "!") ▸ type_rest
+
 abbrev impl_rest : Gram
-impl_rest =
-    the_generics ∶ ref ImplGenerics ▸ optional (marks' "!" then no brace) (the_polarity ∶ sign "!")
-    ▸ the_first ∶ ref (AType WithPlus) ▸ optional (at "for") (keyword "for" ▸ the_self ∶ ref (AType WithPlus))
-    ▸ the_where ∶ ref Where ▸ in_braces (ref InnerAttributes ▸ ref ImplItems)
+impl_rest = the_generics ∶ ref ImplGenerics ▸ polarity_rest
+
+where_first : (x : Tree) (r : List Token) → Derives x where_rest r → sees trait_words (flat x ++ r) ≡ false
+where_first (Pair (Called n (Node k w)) b) r d =
+    ap (sees trait_words) (append_assoc (flat w) (flat b) r)
+    ∙ where_next w (flat b ++ r) (flat b ++ r) (subst (λ j. Derives w (table j) (flat b ++ r)) d.0.1.0 d.0.1.1)
+    (brace_next Brace members b r r d.1)
+where_first (Pair (Called n _) b) r d = absurd d.0.1
+where_first (Pair _ b) r d = absurd d.0
+where_first _ r d = absurd d
+
+for_first : (x : Tree) (r : List Token) → Derives x for_rest r → sees trait_words (flat x ++ r) ≡ false
+for_first (Pair f y) r d =
+    ap (sees trait_words) (append_assoc (flat f) (flat y) r)
+    ∙ for_next (sees (at "for")) self_type f (flat y ++ r) (flat y ++ r) d.0 (where_first y r d.1)
+for_first _ r d = absurd d
+
+type_first : (x : Tree) (r : List Token) → Derives x type_rest r
+    → sees (a_group Parenthesis then trait_words) (flat x ++ r) ≡ false
+type_first (Pair (Called n (Node k t)) y) r d =
+    ap (sees (a_group Parenthesis then trait_words)) (append_assoc (flat t) (flat y) r)
+    ∙ type_next t (flat y ++ r) (subst (λ j. Derives t (table j) (flat y ++ r)) d.0.1.0 d.0.1.1) (for_first y r d.1)
+type_first (Pair (Called n _) y) r d = absurd d.0.1
+type_first (Pair _ y) r d = absurd d.0
+type_first _ r d = absurd d
+
+polarity_first : (x : Tree) (r : List Token) → Derives x polarity_rest r
+    → sees (a_group Parenthesis then trait_words) (flat x ++ r) ≡ false
+polarity_first (Pair p y) r d =
+    ap (sees (a_group Parenthesis then trait_words)) (append_assoc (flat p) (flat y) r)
+    ∙ polarity_next (sees lone_bang) the_polarity p (flat y ++ r) (flat y ++ r) d.0 (type_first y r d.1)
+polarity_first _ r d = absurd d
 
 impl_next : (x : Tree) (r : List Token) → Derives x impl_rest r
     → sees (a_group Parenthesis then trait_words) (flat x ++ r) ≡ false
-impl_next (Pair (Called n (Node k g)) (Pair p (Pair (Called m (Node j t)) (Pair f (Pair (Called l (Node i w)) b)))))
-    r d =
-    let behind_where = brace_next _ _ b r r d.1.1.1.1.1 in
-    let at_where = ap (sees trait_words) (append_assoc (flat w) (flat b) r)
-    ∙ where_next w _ (flat b ++ r) (subst (λ a. Derives w (table a) (flat b ++ r)) d.1.1.1.1.0.1.0 d.1.1.1.1.0.1.1)
-    behind_where in
-    let at_for = ap (sees trait_words) (append_assoc (flat f) (flat w ++ flat b) r)
-    ∙ for_next _ _ f _ ((flat w ++ flat b) ++ r) d.1.1.1.0 at_where in
-    let q : List Token = (flat f ++ (flat w ++ flat b)) in
-    let at_type = ap (sees (a_group Parenthesis then trait_words)) (append_assoc (flat t) q r)
-    ∙ type_next t (q ++ r) (subst (λ a. Derives t (table a) (q ++ r)) d.1.1.0.1.0 d.1.1.0.1.1) at_for in
-    let at_polarity = ap (sees (a_group Parenthesis then trait_words)) (append_assoc (flat p) (flat t ++ q) r)
-    ∙ polarity_next _ _ p _ ((flat t ++ q) ++ r) d.1.0 at_type in
-    ap (sees (a_group Parenthesis then trait_words)) (append_assoc (flat g) (flat p ++ (flat t ++ q)) r)
-    ∙ generics_next g ((flat p ++ (flat t ++ q)) ++ r) ((flat p ++ (flat t ++ q)) ++ r)
-    (subst (λ a. Derives g (table a) ((flat p ++ (flat t ++ q)) ++ r)) d.0.1.0 d.0.1.1) at_polarity
-impl_next (Pair (Called n _) (Pair p (Pair (Called m (Node j t)) (Pair f (Pair (Called l (Node i w)) b))))) r d =
-    absurd d.0.1
-impl_next (Pair _ (Pair p (Pair (Called m (Node j t)) (Pair f (Pair (Called l (Node i w)) b))))) r d = absurd d.0
-impl_next (Pair g (Pair p (Pair (Called m (Node j t)) (Pair f (Pair (Called l _) b))))) r d = absurd d.1.1.1.1.0.1
-impl_next (Pair g (Pair p (Pair (Called m (Node j t)) (Pair f (Pair _ b))))) r d = absurd d.1.1.1.1.0
-impl_next (Pair g (Pair p (Pair (Called m (Node j t)) (Pair f _)))) r d = absurd d.1.1.1.1
-impl_next (Pair g (Pair p (Pair (Called m (Node j t)) _))) r d = absurd d.1.1.1
-impl_next (Pair g (Pair p (Pair (Called m _) z))) r d = absurd d.1.1.0.1
-impl_next (Pair g (Pair p (Pair _ z))) r d = absurd d.1.1.0
-impl_next (Pair g (Pair p _)) r d = absurd d.1.1
-impl_next (Pair g _) r d = absurd d.1
+impl_next (Pair (Called n (Node k g)) y) r d =
+    ap (sees (a_group Parenthesis then trait_words)) (append_assoc (flat g) (flat y) r)
+    ∙ generics_next g (flat y ++ r) (flat y ++ r) (subst (λ j. Derives g (table j) (flat y ++ r)) d.0.1.0 d.0.1.1)
+    (polarity_first y r d.1)
+impl_next (Pair (Called n _) y) r d = absurd d.0.1
+impl_next (Pair _ y) r d = absurd d.0
 impl_next _ r d = absurd d
 
 abbrev an_impl_of : Tree → Tree → Tree → Tree → Tree
@@ -154,8 +183,8 @@ impl_at : (o c s z : Tree) (r : List Token) → Opt the_default "default" o → 
     → Opt the_safety "unsafe" s → has the_const (an_impl_of o c s z) ≡ false → Derives z impl_rest r
     → Derives (an_impl_of o c s z) (table AnImpl) r → Place AnImpl (an_impl_of o c s z) r
 unfolding same_part
-impl_at o c s z r there there u h e d = cc
-impl_at o c s z r missing there u h e d = cc
+impl_at o c s z r there there u h e d = absurd (unlike (sym h))
+impl_at o c s z r missing there u h e d = absurd (unlike (sym h))
 impl_at o c s z r there missing there h e d = (
   eight (eight (two_more (Second (First (Node AnImpl (an_impl_of (First
       (Called the_default (AWord (codes "default")))) (Second Nil) (First (Called the_safety (AWord (codes "unsafe"))))

@@ -665,13 +665,13 @@ place_const (Pair (AWord ws) (Pair (Called n y) (Pair (Called m (Node k g)) (Pai
     q.none (marked (texts "trait") g c cs i z ((marks c cs i ++ flat z) ++ r) r
     (subst (λ j. Derives g (table j) ((marks c cs i ++ flat z) ++ r)) d.1.1.0.1.0 d.1.1.0.1.1)) d
 place_const (Pair (AWord ws) (Pair (Called n y) (Pair (Called m (Node k g)) (Pair _ z)))) r d = absurd d.1.1.1.0
-place_const (Pair _ (Pair (Called n y) (Pair (Called m (Node k g)) (Pair b z)))) r d = absurd d.0
-place_const (Pair ws (Pair (Called n y) (Pair (Called m (Node k g)) _))) r d = absurd d.1.1.1
-place_const (Pair ws (Pair (Called n y) (Pair (Called m _) z))) r d = absurd d.1.1.0.1
-place_const (Pair ws (Pair (Called n y) (Pair _ z))) r d = absurd d.1.1.0
-place_const (Pair ws (Pair (Called n y) _)) r d = absurd d.1.1
-place_const (Pair ws (Pair _ y)) r d = absurd d.1.0
-place_const (Pair ws _) r d = absurd d.1
+place_const (Pair (AWord ws) (Pair (Called n y) (Pair (Called m (Node k g)) _))) r d = absurd d.1.1.1
+place_const (Pair (AWord ws) (Pair (Called n y) (Pair (Called m _) z))) r d = absurd d.1.1.0.1
+place_const (Pair (AWord ws) (Pair (Called n y) (Pair _ z))) r d = absurd d.1.1.0
+place_const (Pair (AWord ws) (Pair (Called n y) _)) r d = absurd d.1.1
+place_const (Pair (AWord ws) (Pair _ y)) r d = absurd d.1.0
+place_const (Pair (AWord ws) _) r d = absurd d.1
+place_const (Pair _ y) r d = absurd d.0
 place_const _ r d = absurd d
 
 -- a look that isn't there is passed
