@@ -111,6 +111,9 @@ not_so : (b : Bool) → not b ≡ true → b ≡ false
 not_so true e = cc e
 not_so false e = refl
 
+contrary : true ≡ false → ⊥
+contrary e = cc e
+
 -- of trees
 marks_solid : (c : ℕ) (cs : List ℕ) (spacing : Spacing) → is_none (marks c cs spacing) ≡ false
 marks_solid c [] spacing = refl
@@ -139,13 +142,13 @@ is_solid (Second x) (alt t g h) r d e = is_solid x h r d.1 (both (solid g) (soli
 is_solid (Called n x) (called m g) r d e = is_solid x g r d.1 e
 is_solid (First x) (judged v g) r d e = is_solid x g r d.1 e
 is_solid (Verbatim x) (judged v g) r d e = is_solid x g r d.1 e
-is_solid _ nothing r d e = cc
-is_solid _ (star t g) r d e = cc
-is_solid _ (many t c g) r d e = cc
-is_solid _ raw r d e = cc
-is_solid _ (dropped g) r d e = cc
-is_solid _ (ref k) r d e = cc
-is_solid _ (operand p n) r d e = cc
+is_solid _ nothing r d e = absurd (contrary (sym e))
+is_solid _ (star t g) r d e = absurd (contrary (sym e))
+is_solid _ (many t c g) r d e = absurd (contrary (sym e))
+is_solid _ raw r d e = absurd (contrary (sym e))
+is_solid _ (dropped g) r d e = absurd (contrary (sym e))
+is_solid _ (ref k) r d e = absurd (contrary (sym e))
+is_solid _ (operand p n) r d e = absurd (contrary (sym e))
 is_solid _ _ r d e = absurd d
 
 is_shut : (x : Tree) (g : Gram) (r : List Token) → Derives x g r → shut g ≡ true → ends_open (flat x) ≡ false
@@ -163,12 +166,12 @@ is_shut (Second x) (alt t g h) r d e = is_shut x h r d.1 (both (shut g) (shut h)
 is_shut (Called n x) (called m g) r d e = is_shut x g r d.1 e
 is_shut (First x) (judged v g) r d e = is_shut x g r d.1 e
 is_shut (Verbatim x) (judged v g) r d e = is_shut x g r d.1 e
-is_shut _ (star t g) r d e = cc
-is_shut _ (many t c g) r d e = cc
-is_shut _ raw r d e = cc
-is_shut _ (dropped g) r d e = cc
-is_shut _ (ref k) r d e = cc
-is_shut _ (operand p n) r d e = cc
+is_shut _ (star t g) r d e = absurd (contrary (sym e))
+is_shut _ (many t c g) r d e = absurd (contrary (sym e))
+is_shut _ raw r d e = absurd (contrary (sym e))
+is_shut _ (dropped g) r d e = absurd (contrary (sym e))
+is_shut _ (ref k) r d e = absurd (contrary (sym e))
+is_shut _ (operand p n) r d e = absurd (contrary (sym e))
 is_shut _ _ r d e = absurd d
 
 -- A name among tokens, of which the first is that behind n others: no opening delimiter stands before it, and, unless
@@ -342,9 +345,6 @@ none_or x l n k f (inl e) =
     subst (λ ms. AllClear (flat x) n false ms) (sym (ap (λ i. names_behind i n x) e ∙ names_none n x)) tt
 none_or x l n k f (inr s) =
     subst (λ b. AllClear (flat x) n b (names_behind (lister l k x) n x)) s.later (f s.safe)
-
-contrary : true ≡ false → ⊥
-contrary e = cc e
 
 clear_in : (x : Tree) (g : Gram) (l : Lister) (n : ℕ) (r : List Token) → Derives x g r → safe g ≡ true
     → AllClear (flat x) n (leads g) (names_behind l n x)

@@ -4,7 +4,8 @@ use Rattle.std.specs.Prelude.{Bool, true, false, not, ◌&&◌, ◌||◌, cond, 
 use Rattle.proc_macro2.specs.Token.{Token, Opens}
 use Rattle.proc_macro2.specs.declared.delimiter.Delimiter.TheVariants.{Parenthesis}
 use Rattle.syn_grammar.specs.Kind.{Kind, Position, Plain, ExprCast, ExprField, ExprCall, ExprMethodCall, ExprAwait}
-use Rattle.syn_grammar.specs.Kind.{ExprIndex, ExprTry, ExprRange, ExprRangeClosed, ExprAssign, ExprOr, ExprAnd}
+use Rattle.syn_grammar.specs.Kind.{ExprStruct, ExprIndex, ExprTry, ExprRange, ExprRangeClosed, ExprAssign, ExprOr}
+use Rattle.syn_grammar.specs.Kind.{ExprAnd}
 use Rattle.syn_grammar.specs.Kind.{ExprCompare, ExprBitOr, ExprBitXor, ExprBitAnd, ExprShift, ExprSum, ExprProduct}
 use Rattle.syn_grammar.specs.Name.{the_name}
 use Rattle.syn_grammar.specs.Part.{has}
@@ -60,7 +61,18 @@ last_kind ExprTry b s h = refl
 last_kind ExprCast b s h = refl
 last_kind ExprRange b s h = refl
 last_kind ExprRangeClosed b s h = refl
-last_kind _ b s h = cc
+last_kind ExprStruct b s h = absurd (never (sym s))
+last_kind ExprAssign b s h = absurd (never h)
+last_kind ExprOr b s h = absurd (never h)
+last_kind ExprAnd b s h = absurd (never h)
+last_kind ExprCompare b s h = absurd (never h)
+last_kind ExprBitOr b s h = absurd (never h)
+last_kind ExprBitXor b s h = absurd (never h)
+last_kind ExprBitAnd b s h = absurd (never h)
+last_kind ExprShift b s h = absurd (never h)
+last_kind ExprSum b s h = absurd (never h)
+last_kind ExprProduct b s h = absurd (never h)
+last_kind _ b s h = absurd (never b)
 
 infix_kind : (k : Kind) → is_back k ≡ true → may_have_operand k ≡ true → is_infix k ≡ true
 unfolding may_lack level
@@ -76,7 +88,15 @@ infix_kind ExprSum b h = refl
 infix_kind ExprProduct b h = refl
 infix_kind ExprRange b h = refl
 infix_kind ExprRangeClosed b h = refl
-infix_kind _ b h = cc
+infix_kind ExprStruct b h = absurd (never h)
+infix_kind ExprCall b h = absurd (never h)
+infix_kind ExprMethodCall b h = absurd (never h)
+infix_kind ExprField b h = absurd (never h)
+infix_kind ExprAwait b h = absurd (never h)
+infix_kind ExprIndex b h = absurd (never h)
+infix_kind ExprTry b h = absurd (never h)
+infix_kind ExprCast b h = absurd (never h)
+infix_kind _ b h = absurd (never b)
 
 -- how their own parts begin
 abbrev pub Turns : List Token → Type 0

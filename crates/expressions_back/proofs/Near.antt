@@ -165,7 +165,7 @@ path_alone : (p q : Position) (ts rest : List Token) (k : Kind) (y : Tree) → B
     → takes_what_follows p k ts ≡ false → is_path_form (Alone k y) ≡ true → sees (struct_stands q) rest ≡ false
 unfolding may_lack
 path_alone p q ts rest ExprPath y b e i = no_struct p q ts rest b e
-path_alone p q ts rest _ y b e i = cc
+path_alone p q ts rest _ y b e i = absurd (never i)
 
 pub path_behind : (p q : Position) (ts rest : List Token) (x : Tree) → Beside p q ts rest
     → is_path_form (formed p ts x) ≡ true → sees (struct_stands q) rest ≡ false

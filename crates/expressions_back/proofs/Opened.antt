@@ -16,6 +16,7 @@ use Rattle.syn_grammar.specs.Parens.{may_lack, is_label}
 use Rattle.binding_laws.proofs.Begun.{Begun, a_word, a_literal, an_opening, a_lifetime as begun_lifetime, a_bang}
 use Rattle.binding_laws.proofs.Begun.{a_hash, an_and, a_star, a_minus, a_less, a_bar, dots, colons}
 use Rattle.binding_laws.proofs.Stays.{brace_none, no_colon, no_lifetime}
+use Rattle.expressions_back.proofs.Bools.{never}
 
 -- tokens with which an operand begins, before these and before others
 pub begun_more : (ts ws us vs : List Token) → Begun ts ws → Begun (ws ++ us) (ws ++ vs)
@@ -83,35 +84,51 @@ right_plain p ExprRange ts e = range_plain (range_ends ts) (brace_ends p ts) e
 right_plain p _ ts e = e
 
 -- a parenthesis is an operand
+break_parens : (p : Position) (ts : List Token) → has_right p ExprBreak (Opens Parenthesis ∷ ts) ≡ true
+unfolding has_right
+break_parens Plain ts = refl
+break_parens InCondition ts = refl
+break_parens InArm ts = refl
+break_parens InStatement ts = refl
+
+range_parens : (p : Position) (ts : List Token) → has_right p ExprRange (Opens Parenthesis ∷ ts) ≡ true
+unfolding has_right
+range_parens Plain ts = refl
+range_parens InCondition ts = refl
+range_parens InArm ts = refl
+range_parens InStatement ts = refl
+
 pub paren_right : (p : Position) (k : Kind) (ts : List Token) → may_lack k ≡ true
     → has_right p k (Opens Parenthesis ∷ ts) ≡ true
 unfolding has_right may_lack
-paren_right Plain ExprBreak ts m = refl
-paren_right InCondition ExprBreak ts m = refl
-paren_right InArm ExprBreak ts m = refl
-paren_right InStatement ExprBreak ts m = refl
+paren_right p ExprBreak ts m = break_parens p ts
 paren_right p ExprReturn ts m = refl
 paren_right p ExprYield ts m = refl
-paren_right Plain ExprRange ts m = refl
-paren_right InCondition ExprRange ts m = refl
-paren_right InArm ExprRange ts m = refl
-paren_right InStatement ExprRange ts m = refl
-paren_right p _ ts m = cc
+paren_right p ExprRange ts m = range_parens p ts
+paren_right p _ ts m = absurd (never m)
 
 -- nothing is none
+break_none : (p : Position) → has_right p ExprBreak [] ≡ false
+unfolding has_right
+break_none Plain = refl
+break_none InCondition = refl
+break_none InArm = refl
+break_none InStatement = refl
+
+range_none : (p : Position) → has_right p ExprRange [] ≡ false
+unfolding has_right
+range_none Plain = refl
+range_none InCondition = refl
+range_none InArm = refl
+range_none InStatement = refl
+
 pub nothing_right : (p : Position) (k : Kind) → may_lack k ≡ true → has_right p k [] ≡ false
 unfolding has_right may_lack
-nothing_right Plain ExprBreak m = refl
-nothing_right InCondition ExprBreak m = refl
-nothing_right InArm ExprBreak m = refl
-nothing_right InStatement ExprBreak m = refl
+nothing_right p ExprBreak m = break_none p
 nothing_right p ExprReturn m = refl
 nothing_right p ExprYield m = refl
-nothing_right Plain ExprRange m = refl
-nothing_right InCondition ExprRange m = refl
-nothing_right InArm ExprRange m = refl
-nothing_right InStatement ExprRange m = refl
-nothing_right p _ m = cc
+nothing_right p ExprRange m = range_none p
+nothing_right p _ m = absurd (never m)
 
 -- the other forms have an operand or have none, whatever follows
 pub fixed_right : (p : Position) (k : Kind) (ts : List Token) → may_lack k ≡ false

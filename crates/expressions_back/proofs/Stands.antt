@@ -232,7 +232,7 @@ stays_label k y ts h e = go (may_lack k) refl
 
 pub attributed_is : (k : Kind) → is_attributed k ≡ true → k ≡ ExprAttributed
 attributed_is ExprAttributed e = refl
-attributed_is _ e = cc
+attributed_is _ e = absurd (never e)
 
 unless_attributed : (b : Bool) (z : Tree) → is_attributed_form z ≡ false
     → is_attributed_form (parens_unless b z) ≡ false
@@ -323,7 +323,7 @@ brace_end (_ ∷ ts) e = absurd (never e)
 
 pub struct_is : (k : Kind) → is_struct k ≡ true → k ≡ ExprStruct
 struct_is ExprStruct s = refl
-struct_is _ s = cc
+struct_is _ s = absurd (never s)
 
 path_takes : (p : Position) (ts : List Token) → takes_what_follows p ExprPath (follow ts) ≡ false
 unfolding may_lack

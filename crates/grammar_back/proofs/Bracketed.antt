@@ -6,7 +6,7 @@ use Rattle.proc_macro2.specs.declared.delimiter.Delimiter.{Delimiter}
 use Rattle.proc_macro2.specs.declared.delimiter.Delimiter.TheVariants.{Parenthesis, Bracket}
 use Rattle.rust_leaf.specs.declared.punct.Spacing.{Spacing}
 use Rattle.rust_leaf.specs.declared.punct.Spacing.TheVariants.{Joint}
-use Rattle.syn_grammar.specs.Kind.{AnyPath, AType, AtType, NeverType, Path, Plain, Plus, QualifiedPath, Segments}
+use Rattle.syn_grammar.specs.Kind.{Kind, AnyPath, AType, AtType, NeverType, Path, Plain, Plus, QualifiedPath, Segments}
 use Rattle.syn_grammar.specs.Kind.{Style, WithPlus}
 use Rattle.syn_grammar.specs.Words.{is_ident, is_path_keyword}
 use Rattle.syn_grammar.specs.Tree.{Tree, AMark, AWord, Nil, Pair, First, Second, Back, Node, marks as signs, flat}
@@ -25,7 +25,7 @@ use Rattle.syn_grammar.specs.Tidy.{begins_bracketed, is_bracketed, is_ident_type
 use Rattle.syn_grammar.specs.Normal.{passed, normal_in}
 use Rattle.syn_grammar.specs.Verdicts.{is_path}
 use Rattle.grammar_back.specs.Sees.{Lacks, LacksAll}
-use Rattle.grammar_back.proofs.Choices.{none_of, other_word}
+use Rattle.grammar_back.proofs.Choices.{none_of, other_word, unlike}
 use Rattle.grammar_back.proofs.Classes.{of_all, the_words}
 use Rattle.grammar_back.proofs.Fine.{words_are}
 use Rattle.grammar_back.proofs.Fits.{is_never}
@@ -318,19 +318,16 @@ type_generics (Node k y) s d e =
 type_generics _ s d e = absurd d
 
 -- What was read: a type that is one Ident, and one that begins with < Ident >.
-untrue : false ≡ true → ⊥
-untrue e = cc
-
 abbrev pub IsIdent : Tree → Type 0
 IsIdent x = (cs : List ℕ) × (is_ident cs ≡ true) × (flat x ≡ Ident cs ∷ [])
 
 ident_segment : (x : Tree) (k : Style) (s : List Token) → Derives x (table (Segments k)) s
     → is_lone_segment (normal_in Plain (kept (Node (Segments k) x))) ≡ true → IsIdent x
 unfolding table held passed
-ident_segment (First x) k s d e = absurd (untrue e)
-ident_segment (Second (Pair (AWord cs) (First x))) k s d e = absurd (untrue e)
-ident_segment (Second (Pair (AWord cs) (Second (First x)))) k s d e = absurd (untrue e)
-ident_segment (Second (Pair (AWord cs) (Second (Second (First x))))) k s d e = absurd (untrue e)
+ident_segment (First x) k s d e = absurd (unlike e)
+ident_segment (Second (Pair (AWord cs) (First x))) k s d e = absurd (unlike e)
+ident_segment (Second (Pair (AWord cs) (Second (First x)))) k s d e = absurd (unlike e)
+ident_segment (Second (Pair (AWord cs) (Second (Second (First x))))) k s d e = absurd (unlike e)
 ident_segment (Second (Pair (AWord cs) (Second (Second (Second Nil))))) k s d e = (cs, e, refl)
 ident_segment (Second (Pair (AWord cs) (Second (Second (Second _))))) k s d e = absurd d.1.1.1.1.1
 ident_segment (Second (Pair (AWord cs) (Second (Second _)))) k s d e = absurd d.1.1.1.1
@@ -343,7 +340,7 @@ ident_segment _ k s d e = absurd d
 ident_path : (x : Tree) (k j : Style) (s : List Token) → Derives x (table (Path k)) s
     → is_lone_path (normal_in Plain (kept (Node (AnyPath j) (Second (Node (Path k) x))))) ≡ true → IsIdent x
 unfolding table held passed
-ident_path (Pair (First m) y) k j s d e = absurd (untrue e)
+ident_path (Pair (First m) y) k j s d e = absurd (unlike e)
 ident_path (Pair (Second Nil) (Node l y)) k j s d e =
     ident_segment y k s (subst (λ i. Derives y (table i) s) d.1.0 d.1.1)
     (subst (λ i. is_lone_segment (normal_in Plain (kept (Node i y))) ≡ true) d.1.0 e)
@@ -355,26 +352,30 @@ ident_path _ k j s d e = absurd d
 ident_any : (x : Tree) (k : Style) (s : List Token) → Derives x (table (AnyPath k)) s
     → is_lone_path (normal_in Plain (kept (Node (AnyPath k) x))) ≡ true → IsIdent x
 unfolding table held passed
-ident_any (First x) k s d e = absurd (untrue e)
+ident_any (First x) k s d e = absurd (unlike e)
 ident_any (Second (Node l y)) k s d e =
     ident_path y k k s (subst (λ i. Derives y (table i) s) d.1.0 d.1.1)
     (subst (λ i. is_lone_path (normal_in Plain (kept (Node (AnyPath k) (Second (Node i y))))) ≡ true) d.1.0 e)
 ident_any (Second _) k s d e = absurd d.1
 ident_any _ k s d e = absurd d
 
+ident_node : (k : Kind) (x : Tree) (s : List Token) → Derives x (table k) s
+    → is_lone_path (normal_in Plain (kept (Node k x))) ≡ true → IsIdent x
+unfolding held passed
+ident_node (AnyPath k) x s d e = ident_any x k s d e
+ident_node _ x s d e = absurd (unlike e)
+
 ident_read : (x : Tree) (g : Gram) (s : List Token) → Derives x g s
     → is_lone_path (choice (normal_in Plain (kept x))) ≡ true → IsIdent x
-unfolding held passed
 ident_read (First x) (alt t a b) s d e = ident_read x a s d.1 e
 ident_read (First x) (judged v g) s d e = ident_read x g s d.1 e
 ident_read (Second x) (alt t a b) s d e = ident_read x b s d.1 e
-ident_read (Node (AnyPath k) x) (ref l) s d e = ident_any x k s d.1 e
-ident_read (Node k x) (ref l) s d e = absurd (untrue e)
+ident_read (Node k x) (ref l) s d e = ident_node k x s d.1 e
 ident_read (First x) _ s d e = absurd d
 ident_read (Second x) _ s d e = absurd d
 ident_read (Node k x) _ s d e = absurd d
 ident_read (Back l k y) _ s d e = absurd d
-ident_read _ _ s d e = absurd (untrue e)
+ident_read _ _ s d e = absurd (unlike e)
 
 one_ident : (c e : ℕ) (cs es ds : List ℕ) (i k : Spacing) (x r : Tree) (s : List Token) → c ≡ 60 → cs ≡ [] → e ≡ 62
     → es ≡ [] → flat x ≡ Ident ds ∷ [] → is_ident ds ≡ true
@@ -400,7 +401,7 @@ bracketed_path (Pair (AMark c cs i) (Pair (Node l z) (Pair (Second Nil) (Pair (A
 bracketed_path (Pair (AMark c cs i) (Pair (Node l z) (Pair (Second Nil) (Pair _ r)))) k j s d e = absurd d.1.1.1.0
 bracketed_path (Pair (AMark c cs i) (Pair (Node l z) (Pair (Second Nil) _))) k j s d e = absurd d.1.1.1
 bracketed_path (Pair (AMark c cs i) (Pair (Node l z) (Pair (Second _) r))) k j s d e = absurd d.1.1.0.1
-bracketed_path (Pair (AMark c cs i) (Pair (Node l z) (Pair (First a) r))) k j s d e = absurd (untrue e)
+bracketed_path (Pair (AMark c cs i) (Pair (Node l z) (Pair (First a) r))) k j s d e = absurd (unlike e)
 bracketed_path (Pair (AMark c cs i) (Pair (Node l z) (Pair _ r))) k j s d e = absurd d.1.1.0
 bracketed_path (Pair (AMark c cs i) (Pair (Node l z) _)) k j s d e = absurd d.1.1
 bracketed_path (Pair (AMark c cs i) (Pair _ y)) k j s d e = absurd d.1.0
@@ -416,22 +417,26 @@ bracketed_any (First (Node l y)) k s d e =
     bracketed_path y k k s (subst (λ i. Derives y (table i) s) d.1.0 d.1.1)
     (subst (λ i. is_bracketed (normal_in Plain (kept (Node (AnyPath k) (First (Node i y))))) ≡ true) d.1.0 e)
 bracketed_any (First _) k s d e = absurd d.1
-bracketed_any (Second x) k s d e = absurd (untrue e)
+bracketed_any (Second x) k s d e = absurd (unlike e)
 bracketed_any _ k s d e = absurd d
+
+bracketed_node : (k : Kind) (x : Tree) (s : List Token) → Derives x (table k) s
+    → is_bracketed (normal_in Plain (kept (Node k x))) ≡ true → sees impl_generics_stand (flat x ++ s) ≡ true
+unfolding held passed
+bracketed_node (AnyPath k) x s d e = bracketed_any x k s d e
+bracketed_node _ x s d e = absurd (unlike e)
 
 pub bracketed_read : (x : Tree) (g : Gram) (s : List Token) → Derives x g s
     → is_bracketed (choice (normal_in Plain (kept x))) ≡ true → sees impl_generics_stand (flat x ++ s) ≡ true
-unfolding held passed
 bracketed_read (First x) (alt t a b) s d e = bracketed_read x a s d.1 e
 bracketed_read (First x) (judged v g) s d e = bracketed_read x g s d.1 e
 bracketed_read (Second x) (alt t a b) s d e = bracketed_read x b s d.1 e
-bracketed_read (Node (AnyPath k) x) (ref l) s d e = bracketed_any x k s d.1 e
-bracketed_read (Node k x) (ref l) s d e = absurd (untrue e)
+bracketed_read (Node k x) (ref l) s d e = bracketed_node k x s d.1 e
 bracketed_read (First x) _ s d e = absurd d
 bracketed_read (Second x) _ s d e = absurd d
 bracketed_read (Node k x) _ s d e = absurd d
 bracketed_read (Back l k y) _ s d e = absurd d
-bracketed_read _ _ s d e = absurd (untrue e)
+bracketed_read _ _ s d e = absurd (unlike e)
 
 -- a path that isn't qualified doesn't
 pub path_open : (x : Tree) → is_path (choice x) ≡ true → is_bracketed (choice (normal_in Plain (kept x))) ≡ false
@@ -439,17 +444,14 @@ unfolding held passed
 path_open (First x) e = path_open x e
 path_open (Second x) e = path_open x e
 path_open (Node (AnyPath s) (Second x)) e = refl
-path_open _ e = absurd (untrue e)
+path_open _ e = absurd (unlike e)
 
 -- and a ! before which no polarity was seen stands before braces
-pub never_read : (x : Tree) (g : Gram) (s : List Token) → Derives x g s
-    → is_never (choice (normal_in Plain (kept x))) ≡ true → Lacks (marks "!" then no brace) (flat x ++ s)
+never_node : (k : Kind) (x : Tree) (s : List Token) → Derives x (table k) s
+    → is_never (normal_in Plain (kept (Node k x))) ≡ true → Lacks (marks "!" then no brace) (flat x ++ s)
     → sees brace s ≡ true
 unfolding table held passed
-never_read (First x) (alt t a b) s d e h = never_read x a s d.1 e h
-never_read (First x) (judged v g) s d e h = never_read x g s d.1 e h
-never_read (Second x) (alt t a b) s d e h = never_read x b s d.1 e h
-never_read (Node NeverType (AMark c cs i)) (ref l) s d e h = bang c cs i d.1.0 d.1.1 h
+never_node NeverType (AMark c cs i) s d e h = bang c cs i d.0 d.1 h
   where
     not_no : (b : Bool) → seen (cond b None (Some s)) ≡ false → b ≡ true
     not_no true e = refl
@@ -461,10 +463,18 @@ never_read (Node NeverType (AMark c cs i)) (ref l) s d e h = bang c cs i d.1.0 d
         not_no (seen (brace s))
         (subst (λ ks. Lacks (marks "!" then no brace) (signs 33 ks i ++ s)) f
         (subst (λ k. Lacks (marks "!" then no brace) (signs k cs i ++ s)) e h))
-never_read (Node NeverType _) (ref l) s d e h = absurd d.1
-never_read (Node k x) (ref l) s d e h = absurd (untrue e)
+never_node NeverType _ s d e h = absurd d
+never_node _ x s d e h = absurd (unlike e)
+
+pub never_read : (x : Tree) (g : Gram) (s : List Token) → Derives x g s
+    → is_never (choice (normal_in Plain (kept x))) ≡ true → Lacks (marks "!" then no brace) (flat x ++ s)
+    → sees brace s ≡ true
+never_read (First x) (alt t a b) s d e h = never_read x a s d.1 e h
+never_read (First x) (judged v g) s d e h = never_read x g s d.1 e h
+never_read (Second x) (alt t a b) s d e h = never_read x b s d.1 e h
+never_read (Node k x) (ref l) s d e h = never_node k x s d.1 e h
 never_read (First x) _ s d e h = absurd d
 never_read (Second x) _ s d e h = absurd d
 never_read (Node k x) _ s d e h = absurd d
 never_read (Back l k y) _ s d e h = absurd d
-never_read _ _ s d e h = absurd (untrue e)
+never_read _ _ s d e h = absurd (unlike e)

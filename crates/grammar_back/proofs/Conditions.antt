@@ -15,6 +15,7 @@ use Rattle.syn_grammar.specs.Look.{sees}
 use Rattle.syn_grammar.specs.Say.{brace}
 use Rattle.syn_grammar.specs.Table.{table}
 use Rattle.syn_grammar.specs.Derives.{Derives}
+use Rattle.grammar_back.proofs.Choices.{unlike}
 
 -- an entry ends in a condition
 abbrev pub is_condition : Position → Bool
@@ -77,7 +78,7 @@ block_stands : (k : Kind) (x : Tree) (r : List Token) → is_block k ≡ true �
 unfolding table
 block_stands Block x r e d = in_group_stands x _ r d
 block_stands Body x r e d = in_group_stands x _ r d
-block_stands _ x r e d = cc e
+block_stands _ x r e d = absurd (unlike e)
 
 pub brace_stands : (g : Gram) (y : Tree) (r : List Token) → begins_in_braces g ≡ true → Derives y g r
     → sees brace (flat y ++ r) ≡ true
@@ -90,7 +91,7 @@ brace_stands (seq a b) (Pair x y) r h i =
 brace_stands (group e g) _ r h i = absurd i
 brace_stands (ref k) _ r h i = absurd i
 brace_stands (seq a b) _ r h i = absurd i
-brace_stands _ y r h i = cc h
+brace_stands _ y r h i = absurd (unlike h)
 
 -- of each kind
 pub all_braced : (k : Kind) → is_braced (table k) ≡ true

@@ -356,20 +356,26 @@ restriction_again (First x) us f d = (in_seen x us f.1, group_again _ x us d.1)
 restriction_again (Second x) us f d = ((whose_seen x us f.1).0, group_again _ x us d.1)
 restriction_again _ us f d = absurd f
 
-unbare : (v : Tree) (us : List Token) → Fits v (table Visibility) → is_bare_pub v ≡ false → Lacks (at "pub") us
-    → Derives v (table Visibility) [] → Derives v (table Visibility) us × AtOrNone (starts Visibility) v us
+unbare_in : (z c : Tree) (us : List Token) → Fits (First (Pair c z)) (table Visibility)
+    → is_bare_pub (First (Pair c z)) ≡ false → Lacks (at "pub") us → Derives (First (Pair c z)) (table Visibility) []
+    → Derives (First (Pair c z)) (table Visibility) us × AtOrNone (starts Visibility) (First (Pair c z)) us
 unfolding table
-unbare (First (Pair (Called n (AWord cs)) (First z))) us f h p d = (
+unbare_in (First z) (Called n (AWord cs)) us f h p d = (
   (
     ap (λ b. seen (cond b (Some (flat z ++ us)) None)) f.1.0.1,
     (f.1.0, (restriction_seen z us f.1.1.1, restriction_again z us f.1.1.1 d.1.1.1)),
   ),
   inr (words_are (codes "pub" ∷ []) cs (flat z ++ us) (ap (λ b. b || false) f.1.0.1)),
 )
-unbare (First (Pair (Called n _) (First z))) us f h p d = absurd f.1.0.1
-unbare (First (Pair _ (First z))) us f h p d = absurd f.1.0
-unbare (First (Pair c (Second z))) us f h p d = absurd (never (sym h))
-unbare (First (Pair c _)) us f h p d = absurd f.1.1
+unbare_in (First z) (Called n _) us f h p d = absurd f.1.0.1
+unbare_in (First z) _ us f h p d = absurd f.1.0
+unbare_in (Second z) c us f h p d = absurd (never (sym h))
+unbare_in _ c us f h p d = absurd f.1.1
+
+unbare : (v : Tree) (us : List Token) → Fits v (table Visibility) → is_bare_pub v ≡ false → Lacks (at "pub") us
+    → Derives v (table Visibility) [] → Derives v (table Visibility) us × AtOrNone (starts Visibility) v us
+unfolding table
+unbare (First (Pair c z)) us f h p d = unbare_in z c us f h p d
 unbare (First _) us f h p d = absurd f.1
 unbare (Second Nil) us f h p d = ((p, tt), inl refl)
 unbare (Second _) us f h p d = absurd f.1

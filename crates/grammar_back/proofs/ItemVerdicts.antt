@@ -462,15 +462,29 @@ pub law_alias : ItemLaw (ATypeAlias InFile)
 unfolding held passed
 law_alias q y v r d f e = (λ b h. alias_stays InFile y v r d f (ap inner e) h, refl, refl)
 
--- uses: a root inside
-root_read : (x : Tree) (g : Gram) (r : List Token) → Derives x g r → has_root (kept x) ≡ has_root x
+-- uses: a root inside; of a choice, what is said of what was chosen
+abbrev Inside : (Tree → Type 0) → Tree → Type 0
+Inside P (First x) = P x
+Inside P (Second x) = P x
+Inside P _ = Unit {0}
+
+abbrev RootRead : Tree → Type 0
+RootRead x = (g : Gram) (r : List Token) → Derives x g r → has_root (kept x) ≡ has_root x
+
+node_read : (k : Kind) (x : Tree) (r : List Token) → Derives x (table k) r → Inside RootRead x
+    → has_root (kept (Node k x)) ≡ has_root (Node k x)
 unfolding held table
-root_read (Node UseTop (First x)) (ref k) r d = refl
-root_read (Node UseTop (Second x)) (ref k) r d = root_read x (ref UseRooted) r d.1.1
-root_read (Node UseTop _) (ref k) r d = absurd d.1
-root_read (Node UseRooted (First x)) (ref k) r d = root_read x (in_braces (many_to_end (ref UseTop))) r d.1.1
-root_read (Node UseRooted (Second x)) (ref k) r d = refl
-root_read (Node UseRooted _) (ref k) r d = absurd d.1
+node_read UseTop (First x) r d i = refl
+node_read UseTop (Second x) r d i = i (ref UseRooted) r d.1
+node_read UseTop _ r d i = absurd d
+node_read UseRooted (First x) r d i = i (in_braces (many_to_end (ref UseTop))) r d.1
+node_read UseRooted (Second x) r d i = refl
+node_read UseRooted _ r d i = absurd d
+node_read _ x r d i = refl
+
+root_read : (x : Tree) (g : Gram) (r : List Token) → Derives x g r → has_root (kept x) ≡ has_root x
+root_read (Node k (First x)) (ref l) r d = node_read k (First x) r d.1 (λ g s e. root_read x g s e)
+root_read (Node k (Second x)) (ref l) r d = node_read k (Second x) r d.1 (λ g s e. root_read x g s e)
 root_read (Group e x) (group f g) r d = root_read x g [] d.1
 root_read (More x c i y) (many t m g) r d =
     or_same (has_root (kept x)) (has_root (kept y)) (has_root x) (has_root y)
@@ -480,18 +494,27 @@ root_read (Group e x) _ r d = absurd d
 root_read (More x c i y) _ r d = absurd d
 root_read (Final x) _ r d = absurd d
 root_read (Back l k y) _ r d = absurd d
-root_read (Node k x) (ref l) r d = refl
+root_read (Node k x) (ref l) r d = node_read k x r d.1 tt
 root_read (Node k x) _ r d = absurd d
 root_read _ _ r d = refl
 
-root_fits : (w : Tree) (g : Gram) → Fits w g → has_root (kept w) ≡ has_root w
+abbrev RootFits : Tree → Type 0
+RootFits w = (g : Gram) → Fits w g → has_root (kept w) ≡ has_root w
+
+node_fits : (k : Kind) (w : Tree) → Fits w (table k) → Inside RootFits w
+    → has_root (kept (Node k w)) ≡ has_root (Node k w)
 unfolding held table
-root_fits (Node UseTop (First x)) (ref k) f = refl
-root_fits (Node UseTop (Second x)) (ref k) f = root_fits x (ref UseRooted) f.3.1
-root_fits (Node UseTop _) (ref k) f = absurd f.3
-root_fits (Node UseRooted (First x)) (ref k) f = root_fits x (in_braces (many_to_end (ref UseTop))) f.3.1
-root_fits (Node UseRooted (Second x)) (ref k) f = refl
-root_fits (Node UseRooted _) (ref k) f = absurd f.3
+node_fits UseTop (First x) f i = refl
+node_fits UseTop (Second x) f i = i (ref UseRooted) f.1
+node_fits UseTop _ f i = absurd f
+node_fits UseRooted (First x) f i = i (in_braces (many_to_end (ref UseTop))) f.1
+node_fits UseRooted (Second x) f i = refl
+node_fits UseRooted _ f i = absurd f
+node_fits _ x f i = refl
+
+root_fits : (w : Tree) (g : Gram) → Fits w g → has_root (kept w) ≡ has_root w
+root_fits (Node k (First x)) (ref l) f = node_fits k (First x) f.3 (λ g e. root_fits x g e)
+root_fits (Node k (Second x)) (ref l) f = node_fits k (Second x) f.3 (λ g e. root_fits x g e)
 root_fits (Group d x) (group e g) f = root_fits x g f.1
 root_fits (More x c i y) (many t m g) f =
     or_same (has_root (kept x)) (has_root (kept y)) (has_root x) (has_root y) (root_fits x g f.2)
@@ -501,7 +524,7 @@ root_fits (Group d x) _ f = absurd f
 root_fits (More x c i y) _ f = absurd f
 root_fits (Final x) _ f = absurd f
 root_fits (Back l k y) _ f = absurd f
-root_fits (Node k x) (ref l) f = refl
+root_fits (Node k x) (ref l) f = node_fits k x f.3 tt
 root_fits (Node k x) _ f = absurd f
 root_fits _ _ f = refl
 
@@ -553,32 +576,38 @@ law_use q y v r d f e = (
 )
 
 -- impls: what is implemented is a path
-path_chosen : (x : Tree) (g : Gram) (r : List Token) → Derives x g r → is_path (choice (kept x)) ≡ is_path (choice x)
+path_in : (k : Kind) (x : Tree) (r : List Token) → Derives x (table k) r → is_path (kept (Node k x)) ≡ is_path (Node k x)
 unfolding held table
+path_in (AnyPath s) (First x) r d = refl
+path_in (AnyPath s) (Second x) r d = refl
+path_in (AnyPath s) _ r d = absurd d
+path_in _ x r d = refl
+
+path_chosen : (x : Tree) (g : Gram) (r : List Token) → Derives x g r → is_path (choice (kept x)) ≡ is_path (choice x)
 path_chosen (First x) (alt t a b) r d = path_chosen x a r d.1
 path_chosen (First x) (judged v g) r d = path_chosen x g r d.1
 path_chosen (Second x) (alt t a b) r d = path_chosen x b r d.1
 path_chosen (First x) _ r d = absurd d
 path_chosen (Second x) _ r d = absurd d
-path_chosen (Node (AnyPath s) (First x)) (ref k) r d = refl
-path_chosen (Node (AnyPath s) (Second x)) (ref k) r d = refl
-path_chosen (Node (AnyPath s) _) (ref k) r d = absurd d.1
-path_chosen (Node k x) (ref l) r d = refl
+path_chosen (Node k x) (ref l) r d = path_in k x r d.1
 path_chosen (Node k x) _ r d = absurd d
 path_chosen (Back l k y) _ r d = absurd d
 path_chosen _ _ r d = refl
 
-path_printed : (w : Tree) (g : Gram) → Fits w g → is_path (choice (kept w)) ≡ is_path (choice w)
+printed_in : (k : Kind) (w : Tree) → Fits w (table k) → is_path (kept (Node k w)) ≡ is_path (Node k w)
 unfolding held table
+printed_in (AnyPath s) (First x) f = refl
+printed_in (AnyPath s) (Second x) f = refl
+printed_in (AnyPath s) _ f = absurd f
+printed_in _ x f = refl
+
+path_printed : (w : Tree) (g : Gram) → Fits w g → is_path (choice (kept w)) ≡ is_path (choice w)
 path_printed (First x) (alt t a b) f = path_printed x a f.1
 path_printed (First x) (judged v g) f = path_printed x g f.1
 path_printed (Second x) (alt t a b) f = path_printed x b f.1
 path_printed (First x) _ f = absurd f
 path_printed (Second x) _ f = absurd f
-path_printed (Node (AnyPath s) (First x)) (ref k) f = refl
-path_printed (Node (AnyPath s) (Second x)) (ref k) f = refl
-path_printed (Node (AnyPath s) _) (ref k) f = absurd f.3
-path_printed (Node k x) (ref l) f = refl
+path_printed (Node k x) (ref l) f = printed_in k x f.3
 path_printed (Node k x) _ f = absurd f
 path_printed (Back l k y) _ f = absurd f
 path_printed _ _ f = refl

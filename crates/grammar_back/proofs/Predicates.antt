@@ -191,29 +191,38 @@ step_where_predicate =
     )))
 
 -- whether a for begins a type is the same of what was read and of what is printed
-long_fits : (x : Tree) (g : Gram) → Fits x g → is_long (choice (kept x)) ≡ is_long (choice x)
+node_fits : (k : Kind) (x : Tree) → Fits x (table k) → is_long (kept (Node k x)) ≡ is_long (Node k x)
 unfolding held table
+node_fits FnPtrType (Pair o y) f = chosen_fits o _ f.0
+node_fits FnPtrType _ f = absurd f
+node_fits _ x f = refl
+
+long_fits : (x : Tree) (g : Gram) → Fits x g → is_long (choice (kept x)) ≡ is_long (choice x)
 long_fits (First x) (alt t a b) f = long_fits x a f.1
 long_fits (First x) (judged v g) f = long_fits x g f.1
 long_fits (Second x) (alt t a b) f = long_fits x b f.1
 long_fits (First x) _ f = absurd f
 long_fits (Second x) _ f = absurd f
-long_fits (Node FnPtrType (Pair o y)) (ref k) f = chosen_fits o _ f.3.0
-long_fits (Node FnPtrType _) (ref k) f = absurd f.3
-long_fits (Node FnPtrType y) _ f = absurd f
+long_fits (Node k x) (ref l) f = node_fits k x f.3
+long_fits (Node k x) _ f = absurd f
 long_fits (Back l k y) _ f = absurd f
 long_fits _ _ f = refl
 
-long_read : (x : Tree) (g : Gram) (r : List Token) → Derives x g r → is_long (choice (kept x)) ≡ is_long (choice x)
+node_read : (k : Kind) (x : Tree) (r : List Token) → Derives x (table k) r
+    → is_long (kept (Node k x)) ≡ is_long (Node k x)
 unfolding held table
+node_read FnPtrType (Pair o y) r d = chosen_read o _ (flat y ++ r) d.0
+node_read FnPtrType _ r d = absurd d
+node_read _ x r d = refl
+
+long_read : (x : Tree) (g : Gram) (r : List Token) → Derives x g r → is_long (choice (kept x)) ≡ is_long (choice x)
 long_read (First x) (alt t a b) r d = long_read x a r d.1
 long_read (First x) (judged v g) r d = long_read x g r d.1
 long_read (Second x) (alt t a b) r d = long_read x b r d.1
 long_read (First x) _ r d = absurd d
 long_read (Second x) _ r d = absurd d
-long_read (Node FnPtrType (Pair o y)) (ref k) r d = chosen_read o _ (flat y ++ r) d.1.0
-long_read (Node FnPtrType _) (ref k) r d = absurd d.1
-long_read (Node FnPtrType y) _ r d = absurd d
+long_read (Node k x) (ref l) r d = node_read k x r d.1
+long_read (Node k x) _ r d = absurd d
 long_read (Back l k y) _ r d = absurd d
 long_read _ _ r d = refl
 

@@ -79,12 +79,12 @@ Starting (seq a b) = Skipping a × Starting b
 Starting never = Unit {0}
 Starting _ = ⊥
 
-skipping : (x : Tree) (g : Gram) (r : List Token) → Skipping g → Derives x g r → IsStart r → IsStart (flat x ++ r)
-skipping (First x) (alt t a nothing) r w d i = start_at t w (flat x ++ r) d.0
-skipping (Second Nil) (alt t a nothing) r w d i = i
-skipping (Second _) (alt t a nothing) r w d i = absurd d.1
-skipping _ (alt t a nothing) r w d i = absurd d
-skipping _ _ r w d i = absurd w
+skipping : (g : Gram) (x : Tree) (r : List Token) → Skipping g → Derives x g r → IsStart r → IsStart (flat x ++ r)
+skipping (alt t a nothing) (First x) r w d i = start_at t w (flat x ++ r) d.0
+skipping (alt t a nothing) (Second Nil) r w d i = i
+skipping (alt t a nothing) (Second _) r w d i = absurd d.1
+skipping (alt t a nothing) _ r w d i = absurd d
+skipping _ x r w d i = absurd w
 
 starting : (x : Tree) (g : Gram) (r : List Token) → Starting g → Derives x g r → IsStart (flat x ++ r)
 starting (First x) (alt t a b) r s d = start_at t s.0 (flat x ++ r) d.0
@@ -92,7 +92,7 @@ starting (Second x) (alt t a b) r s d = starting x b r s.1 d.1
 starting (Called n x) (called m g) r s d = starting x g r s d.1
 starting (Pair x y) (seq a b) r s d =
     subst IsStart (sym (append_assoc (flat x) (flat y) r))
-    (skipping x a (flat y ++ r) s.0 d.0 (starting y b r s.1 d.1))
+    (skipping a x (flat y ++ r) s.0 d.0 (starting y b r s.1 d.1))
 starting _ (alt t a b) r s d = absurd d
 starting _ (called n g) r s d = absurd d
 starting _ (seq a b) r s d = absurd d
@@ -106,7 +106,7 @@ starting _ _ r s d = absurd s
 visible : (v : Tree) (r : List Token) → Derives v (ref Visibility) r → IsStart r → IsStart (flat v ++ r)
 unfolding table
 visible (Node k x) r d i =
-    skipping x (table Visibility) r (search) (subst (λ j. Derives x (table j) r) d.0 d.1) i
+    skipping (table Visibility) x r (search) (subst (λ j. Derives x (table j) r) d.0 d.1) i
 visible _ r d i = absurd d
 
 none_behind : (l m : Look) (ts : List Token) → sees m ts ≡ false → sees (no l then m) ts ≡ false

@@ -55,7 +55,7 @@ alone_placed _ p = p
 node_in_place : (k : Kind) (x : Tree) → stands_alone (Node k x) ≡ true → IsAlone k
 node_in_place Arm x e = absurd (contrary e)
 node_in_place (Expression Plain) x e = refl
-node_in_place (Expression _) x e = cc
+node_in_place (Expression _) x e = absurd (contrary e)
 node_in_place _ x e = tt
 
 pub node_placed : (k : Kind) (x : Tree) (r : List Token) → Derives x (ref k) r → is_whole x ≡ true → IsAlone k
@@ -69,7 +69,7 @@ no_condition (Expression Plain) p e = cc
 no_condition (Expression InCondition) p e = cc p
 no_condition (Expression InArm) p e = cc
 no_condition (Expression InStatement) p e = cc
-no_condition _ p e = cc
+no_condition _ p e = absurd (contrary e)
 
 -- what may follow a statement as it is held
 is_ended : (a x : Tree) (s : List Token) → Fits (Whole x) (table (Expression InStatement))

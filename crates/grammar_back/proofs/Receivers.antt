@@ -5,7 +5,7 @@ use Rattle.std.proofs.lemmas.Slice.Eq.{bytes_eq-Decides}
 use Rattle.proc_macro2.specs.Token.{Token, Ident, Punct}
 use Rattle.rust_leaf.specs.declared.punct.Spacing.{Spacing}
 use Rattle.rust_leaf.specs.declared.punct.Spacing.TheVariants.{Joint}
-use Rattle.syn_grammar.specs.Kind.{Position, Plain, AnyPath, AType, AtType, InExpression}
+use Rattle.syn_grammar.specs.Kind.{Kind, Position, Plain, AnyPath, AType, AtType, InExpression}
 use Rattle.syn_grammar.specs.Kind.{OnePattern, OuterAttributes}
 use Rattle.syn_grammar.specs.Kind.{Parameter, Path, PathPattern, Receiver, ReferencePattern, Segments, WithPlus}
 use Rattle.syn_grammar.specs.Name.{Part, the_dots, the_pattern, the_receiver, the_type, the_unnamed}
@@ -26,7 +26,7 @@ use Rattle.syn_grammar.specs.Table.{table}
 use Rattle.syn_grammar.specs.Derives.{Derives}
 use Rattle.syn_grammar.specs.Kept.{held, kept, lone_colon, named, wild}
 use Rattle.syn_grammar.specs.Normal.{passed, place_of, normal_in}
-use Rattle.grammar_back.proofs.Choices.{is_false}
+use Rattle.grammar_back.proofs.Choices.{is_false, unlike}
 use Rattle.grammar_back.specs.After.{behind}
 use Rattle.grammar_back.specs.Covered.{has_step, inner, is_taken}
 use Rattle.grammar_back.specs.Sees.{Lacks, LacksAll}
@@ -379,38 +379,44 @@ alone_in y = is_self_alone (choice y)
 abbrev pub self_of : Tree → Bool
 self_of y = is_self (choice y)
 
-self_fits : (x : Tree) (g : Gram) → Fits x g → self_of (kept x) ≡ self_of x
+node_fits : (k : Kind) (x : Tree) → Fits x (table k) → is_self (kept (Node k x)) ≡ is_self (Node k x)
 unfolding held passed table
+node_fits PathPattern y f = pattern_fits y f
+node_fits ReferencePattern (Pair u (Pair m p)) f =
+    under_fits OnePattern (λ z. refl) (λ z. refl) refl alone_in (λ y g. alone_fits y (table OnePattern) g) p f.1.1
+node_fits ReferencePattern (Pair u _) f = absurd f.1
+node_fits ReferencePattern _ f = absurd f
+node_fits _ y f = refl
+
+self_fits : (x : Tree) (g : Gram) → Fits x g → self_of (kept x) ≡ self_of x
 self_fits (First x) (alt t a b) f = self_fits x a f.1
 self_fits (First x) (judged v g) f = self_fits x g f.1
 self_fits (Second x) (alt t a b) f = self_fits x b f.1
 self_fits (First x) _ f = absurd f
 self_fits (Second x) _ f = absurd f
-self_fits (Node PathPattern y) (ref k) f = pattern_fits y f.3
-self_fits (Node PathPattern y) _ f = absurd f
-self_fits (Node ReferencePattern (Pair u (Pair m p))) (ref k) f =
-    under_fits OnePattern (λ z. refl) (λ z. refl) refl alone_in (λ y g. alone_fits y (table OnePattern) g) p f.3.1.1
-self_fits (Node ReferencePattern (Pair u _)) (ref k) f = absurd f.3.1
-self_fits (Node ReferencePattern _) (ref k) f = absurd f.3
-self_fits (Node ReferencePattern y) _ f = absurd f
+self_fits (Node k y) (ref l) f = node_fits k y f.3
+self_fits (Node k y) _ f = absurd f
 self_fits (Back l k y) _ f = absurd f
 self_fits _ _ f = refl
 
-self_read : (x : Tree) (g : Gram) (r : List Token) → Derives x g r → self_of (normal_in Plain (kept x)) ≡ self_of x
+node_read : (k : Kind) (x : Tree) (r : List Token) → Derives x (table k) r
+    → is_self (normal_in Plain (kept (Node k x))) ≡ is_self (Node k x)
 unfolding held passed table
+node_read PathPattern y r d = pattern_read y r d
+node_read ReferencePattern (Pair u (Pair m p)) r d =
+    under_read OnePattern (λ z. refl) (λ z. refl) refl alone_in (λ y r e. alone_read y (table OnePattern) r e) p r d.1.1
+node_read ReferencePattern (Pair u _) r d = absurd d.1
+node_read ReferencePattern _ r d = absurd d
+node_read _ y r d = refl
+
+self_read : (x : Tree) (g : Gram) (r : List Token) → Derives x g r → self_of (normal_in Plain (kept x)) ≡ self_of x
 self_read (First x) (alt t a b) r d = self_read x a r d.1
 self_read (First x) (judged v g) r d = self_read x g r d.1
 self_read (Second x) (alt t a b) r d = self_read x b r d.1
 self_read (First x) _ r d = absurd d
 self_read (Second x) _ r d = absurd d
-self_read (Node PathPattern y) (ref k) r d = pattern_read y r d.1
-self_read (Node PathPattern y) _ r d = absurd d
-self_read (Node ReferencePattern (Pair u (Pair m p))) (ref k) r d =
-    under_read OnePattern (λ z. refl) (λ z. refl) refl alone_in (λ y r e. alone_read y (table OnePattern) r e) p r
-    d.1.1.1
-self_read (Node ReferencePattern (Pair u _)) (ref k) r d = absurd d.1.1
-self_read (Node ReferencePattern _) (ref k) r d = absurd d.1
-self_read (Node ReferencePattern y) _ r d = absurd d
+self_read (Node k y) (ref l) r d = node_read k y r d.1
+self_read (Node k y) _ r d = absurd d
 self_read (Back l k y) _ r d = absurd d
 self_read _ _ r d = refl
 
@@ -480,23 +486,27 @@ behind_received spacing (Pair (Second _) p) s d e = absurd d.0.1
 behind_received spacing (Pair _ p) s d e = absurd d.0
 behind_received spacing _ s d e = absurd d
 
-received : (x : Tree) (g : Gram) (s : List Token) → Derives x g s → self_of x ≡ true
+node_received : (k : Kind) (x : Tree) (s : List Token) → Derives x (table k) s → is_self (Node k x) ≡ true
     → sees receiver_stands (flat x ++ s) ≡ true
 unfolding table
+node_received PathPattern y s d e = (self_received (flat y ++ s) (pattern_self y s d ∙ e)).1
+node_received ReferencePattern (Pair (AMark c cs spacing) y) s d e =
+    ap (sees receiver_stands) (append_assoc (signs c cs spacing) (flat y) s)
+    ∙ and_at c cs spacing (flat y ++ s) true d.0.0 d.0.1 (behind_received spacing y s d.1 e)
+node_received ReferencePattern (Pair _ y) s d e = absurd d.0
+node_received ReferencePattern _ s d e = absurd d
+node_received _ y s d e = absurd (unlike e)
+
+received : (x : Tree) (g : Gram) (s : List Token) → Derives x g s → self_of x ≡ true
+    → sees receiver_stands (flat x ++ s) ≡ true
 received (First x) (alt t a b) s d e = received x a s d.1 e
 received (First x) (judged v g) s d e = received x g s d.1 e
 received (Second x) (alt t a b) s d e = received x b s d.1 e
 received (First x) _ s d e = absurd d
 received (Second x) _ s d e = absurd d
-received (Node PathPattern y) (ref k) s d e = (self_received (flat y ++ s) (pattern_self y s d.1 ∙ e)).1
-received (Node PathPattern y) _ s d e = absurd d
-received (Node ReferencePattern (Pair (AMark c cs spacing) y)) (ref k) s d e =
-    ap (sees receiver_stands) (append_assoc (signs c cs spacing) (flat y) s)
-    ∙ and_at c cs spacing (flat y ++ s) true d.1.0.0 d.1.0.1 (behind_received spacing y s d.1.1 e)
-received (Node ReferencePattern (Pair _ y)) (ref k) s d e = absurd d.1.0
-received (Node ReferencePattern _) (ref k) s d e = absurd d.1
-received (Node ReferencePattern y) _ s d e = absurd d
-received _ _ s d e = cc e
+received (Node k y) (ref l) s d e = node_received k y s d.1 e
+received (Node k y) _ s d e = absurd d
+received _ _ s d e = absurd (unlike e)
 
 own_meant : (x : Tree) (r : List Token) → Derives x (table Parameter) r → has_own_name x ≡ true
 unfolding table

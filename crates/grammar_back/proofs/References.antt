@@ -15,7 +15,7 @@ use Rattle.syn_grammar.specs.Tidy.{tidy}
 use Rattle.syn_grammar.specs.Derives.{Derives}
 use Rattle.syn_grammar.specs.Kept.{forget, held, is_there, kept}
 use Rattle.syn_grammar.specs.Normal.{passed, place_of, normal_in}
-use Rattle.grammar_back.proofs.Choices.{either_or, either_same, other_word, second_lacks}
+use Rattle.grammar_back.proofs.Choices.{either_or, either_same, other_word, second_lacks, unlike}
 use Rattle.grammar_back.specs.After.{behind}
 use Rattle.grammar_back.specs.Covered.{has_step, is_taken}
 use Rattle.grammar_back.specs.Sees.{Lacks, LacksAll}
@@ -120,37 +120,46 @@ name_same : (a b c d : Bool) → a ≡ c → b ≡ d → (not a && b) ≡ (not c
 name_same a b c d e f = ap (λ x. not x && b) e ∙ ap (λ x. not c && x) f
 
 -- the same of what was read and of what is printed
-mut_fits : (x : Tree) (g : Gram) → Fits x g → is_mut_name (choice (kept x)) ≡ is_mut_name (choice x)
+node_fits : (k : Kind) (x : Tree) → Fits x (table k) → is_mut_name (kept (Node k x)) ≡ is_mut_name (Node k x)
 unfolding held table
+node_fits IdentPattern (Pair r (Pair m y)) f =
+    name_same (is_there (kept r)) (is_there (kept m)) (is_there r) (is_there m) (chosen_fits r _ f.0)
+    (chosen_fits m _ f.1.0)
+node_fits IdentPattern (Pair r _) f = absurd f.1
+node_fits IdentPattern _ f = absurd f
+node_fits _ x f = refl
+
+mut_fits : (x : Tree) (g : Gram) → Fits x g → is_mut_name (choice (kept x)) ≡ is_mut_name (choice x)
 mut_fits (First x) (alt t a b) f = mut_fits x a f.1
 mut_fits (First x) (judged v g) f = mut_fits x g f.1
 mut_fits (Second x) (alt t a b) f = mut_fits x b f.1
 mut_fits (First x) _ f = absurd f
 mut_fits (Second x) _ f = absurd f
-mut_fits (Node IdentPattern (Pair r (Pair m y))) (ref k) f =
-    name_same (is_there (kept r)) (is_there (kept m)) (is_there r) (is_there m) (chosen_fits r _ f.3.0)
-    (chosen_fits m _ f.3.1.0)
-mut_fits (Node IdentPattern (Pair r _)) (ref k) f = absurd f.3.1
-mut_fits (Node IdentPattern _) (ref k) f = absurd f.3
-mut_fits (Node IdentPattern y) _ f = absurd f
+mut_fits (Node k x) (ref l) f = node_fits k x f.3
+mut_fits (Node k x) _ f = absurd f
 mut_fits (Back l k y) _ f = absurd f
 mut_fits _ _ f = refl
 
+node_read : (k : Kind) (x : Tree) (s : List Token) → Derives x (table k) s
+    → is_mut_name (normal_in Plain (kept (Node k x))) ≡ is_mut_name (Node k x)
+unfolding held passed table
+node_read IdentPattern (Pair r (Pair m y)) s d =
+    name_same (is_there (normal_in Plain (kept r))) (is_there (normal_in Plain (kept m))) (is_there r) (is_there m)
+    (there_normal Plain (kept r) ∙ chosen_read r _ (flat (Pair m y) ++ s) d.0)
+    (there_normal Plain (kept m) ∙ chosen_read m _ (flat y ++ s) d.1.0)
+node_read IdentPattern (Pair r _) s d = absurd d.1
+node_read IdentPattern _ s d = absurd d
+node_read _ x s d = refl
+
 mut_read : (x : Tree) (g : Gram) (r : List Token) → Derives x g r
     → is_mut_name (choice (normal_in Plain (kept x))) ≡ is_mut_name (choice x)
-unfolding held passed table
 mut_read (First x) (alt t a b) s d = mut_read x a s d.1
 mut_read (First x) (judged v g) s d = mut_read x g s d.1
 mut_read (Second x) (alt t a b) s d = mut_read x b s d.1
 mut_read (First x) _ s d = absurd d
 mut_read (Second x) _ s d = absurd d
-mut_read (Node IdentPattern (Pair r (Pair m y))) (ref k) s d =
-    name_same (is_there (normal_in Plain (kept r))) (is_there (normal_in Plain (kept m))) (is_there r) (is_there m)
-    (there_normal Plain (kept r) ∙ chosen_read r _ (flat (Pair m y) ++ s) d.1.0)
-    (there_normal Plain (kept m) ∙ chosen_read m _ (flat y ++ s) d.1.1.0)
-mut_read (Node IdentPattern (Pair r _)) (ref k) s d = absurd d.1.1
-mut_read (Node IdentPattern _) (ref k) s d = absurd d.1
-mut_read (Node IdentPattern y) _ s d = absurd d
+mut_read (Node k x) (ref l) s d = node_read k x s d.1
+mut_read (Node k x) _ s d = absurd d
 mut_read (Back l k y) _ s d = absurd d
 mut_read _ _ s d = refl
 
@@ -183,25 +192,29 @@ own_read (Pair u _) r d = absurd d.1
 own_read _ r d = absurd d
 
 -- and where no mut was seen none begins it
-mut_seen : (x : Tree) (g : Gram) (s : List Token) → Derives x g s → is_mut_name (choice x) ≡ true
+node_seen : (k : Kind) (x : Tree) (s : List Token) → Derives x (table k) s → is_mut_name (Node k x) ≡ true
     → sees (at "mut") (flat x ++ s) ≡ true
 unfolding table
+node_seen IdentPattern (Pair (Second Nil) (Pair (First m) y)) s d e =
+    subst (λ us. sees (at "mut") us ≡ true) (sym (append_assoc (flat m) (flat y) s)) d.1.0.0
+node_seen IdentPattern (Pair (Second Nil) y) s d e = absurd (unlike e)
+node_seen IdentPattern (Pair (Second _) y) s d e = absurd d.0.1
+node_seen IdentPattern (Pair (First r) (Pair m y)) s d e = absurd (unlike e)
+node_seen IdentPattern (Pair (First r) _) s d e = absurd d.1
+node_seen IdentPattern (Pair _ y) s d e = absurd d.0
+node_seen IdentPattern _ s d e = absurd d
+node_seen _ x s d e = absurd (unlike e)
+
+mut_seen : (x : Tree) (g : Gram) (s : List Token) → Derives x g s → is_mut_name (choice x) ≡ true
+    → sees (at "mut") (flat x ++ s) ≡ true
 mut_seen (First x) (alt t a b) s d e = mut_seen x a s d.1 e
 mut_seen (First x) (judged v g) s d e = mut_seen x g s d.1 e
 mut_seen (Second x) (alt t a b) s d e = mut_seen x b s d.1 e
 mut_seen (First x) _ s d e = absurd d
 mut_seen (Second x) _ s d e = absurd d
-mut_seen (Node IdentPattern (Pair (Second Nil) (Pair (First m) y))) (ref k) s d e =
-    subst (λ us. sees (at "mut") us ≡ true) (sym (append_assoc (flat m) (flat y) s)) d.1.1.0.0
-mut_seen (Node IdentPattern (Pair (Second Nil) (Pair (First m) y))) _ s d e = absurd d
-mut_seen (Node IdentPattern (Pair (Second Nil) y)) g s d e = cc
-mut_seen (Node IdentPattern (Pair (First r) (Pair m y))) g s d e = cc
-mut_seen (Node IdentPattern (Pair (First r) _)) g s d e = cc
-mut_seen (Node IdentPattern (Pair (Second _) y)) (ref k) s d e = absurd d.1.0.1
-mut_seen (Node IdentPattern (Pair (Second _) y)) _ s d e = absurd d
-mut_seen (Node IdentPattern (Pair r y)) (ref k) s d e = absurd d.1.0
-mut_seen (Node IdentPattern (Pair r y)) _ s d e = absurd d
-mut_seen _ _ s d e = cc
+mut_seen (Node k x) (ref l) s d e = node_seen k x s d.1 e
+mut_seen (Node k x) _ s d e = absurd d
+mut_seen _ _ s d e = absurd (unlike e)
 
 is_mut_seen : (x : Tree) (r : List Token) → Derives x (ref OnePattern) r → is_mut x ≡ true
     → sees (at "mut") (flat x ++ r) ≡ true

@@ -387,10 +387,11 @@ name_seen (Pair (First (AWord cs)) (AMark c es spacing)) ts f =
     colon_at cs c es spacing ts f.1.0 f.1.1 f.1.2 (underscore_seen cs ts f.0.1)
 name_seen (Pair (Second (AWord cs)) (AMark c es spacing)) ts f =
     colon_at cs c es spacing ts f.1.0 f.1.1 f.1.2 (simp f.0.1 refl)
-name_seen (Pair (First _) (AMark c es spacing)) ts f = absurd f.0.1
-name_seen (Pair (Second _) (AMark c es spacing)) ts f = absurd f.0.1
-name_seen (Pair _ (AMark c es spacing)) ts f = absurd f.0
-name_seen (Pair _ _) ts f = absurd f.1
+name_seen (Pair (First (AWord cs)) _) ts f = absurd f.1
+name_seen (Pair (First _) y) ts f = absurd f.0.1
+name_seen (Pair (Second (AWord cs)) _) ts f = absurd f.1
+name_seen (Pair (Second _) y) ts f = absurd f.0.1
+name_seen (Pair _ y) ts f = absurd f.0
 name_seen _ ts f = absurd f
 
 abbrev pub named_type : Gram

@@ -65,14 +65,18 @@ turns_pass q (Again t (Again y z)) (Again u (Again v w)) r c d f e n =
     ∙ turns_pass q (Again y z) (Again v w) r h.1 d.2 f.1 (ap turns_behind e) i.1
 turns_pass q (Again t (Again y z)) (Again u End) r c d f e n = refl
 turns_pass q (Again t (Again y z)) (Again u _) r c d f e n = absurd f.1
+turns_pass q (Again t (Again y z)) End r c d f e n = refl
+turns_pass q (Again t (Again y z)) _ r c d f e n = absurd f
 turns_pass q (Again t End) (Again u (Again v w)) r c d f e n = cc (ap turns_behind e)
 turns_pass q (Again t End) (Again u End) r c d f e n = refl
 turns_pass q (Again t End) (Again u _) r c d f e n = absurd f.1
-turns_pass q (Again t _) (Again u w) r c d f e n = absurd d.2
+turns_pass q (Again t End) End r c d f e n = refl
+turns_pass q (Again t End) _ r c d f e n = absurd f
+turns_pass q (Again t _) w r c d f e n = absurd d.2
 turns_pass q End (Again u w) r c d f e n = cc e
-turns_pass q x End r c d f e n = refl
-turns_pass q x (Again u w) r c d f e n = absurd d
-turns_pass q x _ r c d f e n = absurd f
+turns_pass q End End r c d f e n = refl
+turns_pass q End _ r c d f e n = absurd f
+turns_pass q _ w r c d f e n = absurd d
 
 turns_verdict : (q : Position) → VerdictLaw q (λ x. kept_if (Passes x)) (star (lacks the_end) a_turn)
 turns_verdict q x w r c d f e h = ap kept_if (turns_pass q x w r c d f e (kept_true (Passes x) h))
@@ -92,18 +96,25 @@ closed_as_any a e z = go (is_macro (form_of e))
     go true = refl
     go false = refl
 
-open_lacks : (x : Tree) (ts : List Token) → Derives x (table AStatement) ts → is_open (as_statement (kept x)) ≡ true
+end_lacks : (z a e : Tree) (ts : List Token)
+    → Derives (Second (Second (Second (Second (Pair a (Pair e z)))))) (table AStatement) ts
+    → is_open (as_statement (kept (Second (Second (Second (Second (Pair a (Pair e z)))))))) ≡ true
     → sees (marks ";") ts ≡ false
 unfolding table
-open_lacks (Second (Second (Second (Second (Pair (Called n a) (Pair (Called m e) (First z))))))) ts d o =
+end_lacks (First z) (Called n a) (Called m e) ts d o =
     absurd (contrary (sym (closed_as_any (kept a) (kept e) (kept z))
     ∙ subst (λ j. is_open (as_statement (kept (with_names the_attributes a j e (First z)))) ≡ true) d.1.1.1.1.1.0.0
     (subst (λ j. is_open (as_statement (kept (with_names j a m e (First z)))) ≡ true) d.1.1.1.1.0.0 o)))
-open_lacks (Second (Second (Second (Second (Pair (Called n a) (Pair _ (First z))))))) ts d o = absurd d.1.1.1.1.1.0
-open_lacks (Second (Second (Second (Second (Pair _ (Pair e (First z))))))) ts d o = absurd d.1.1.1.1.0
-open_lacks (Second (Second (Second (Second (Pair a (Pair e (Second Nil))))))) ts d o = d.1.1.1.1.1.1.0
-open_lacks (Second (Second (Second (Second (Pair a (Pair e (Second _))))))) ts d o = absurd d.1.1.1.1.1.1.1
-open_lacks (Second (Second (Second (Second (Pair a (Pair e _)))))) ts d o = absurd d.1.1.1.1.1.1
+end_lacks (First z) (Called n a) _ ts d o = absurd d.1.1.1.1.1.0
+end_lacks (First z) _ e ts d o = absurd d.1.1.1.1.0
+end_lacks (Second Nil) a e ts d o = d.1.1.1.1.1.1.0
+end_lacks (Second _) a e ts d o = absurd d.1.1.1.1.1.1.1
+end_lacks _ a e ts d o = absurd d.1.1.1.1.1.1
+
+open_lacks : (x : Tree) (ts : List Token) → Derives x (table AStatement) ts → is_open (as_statement (kept x)) ≡ true
+    → sees (marks ";") ts ≡ false
+unfolding table
+open_lacks (Second (Second (Second (Second (Pair a (Pair e z)))))) ts d o = end_lacks z a e ts d o
 open_lacks (Second (Second (Second (Second (Pair a _))))) ts d o = absurd d.1.1.1.1.1
 open_lacks (Second (Second (Second (Second _)))) ts d o = absurd d.1.1.1.1
 open_lacks (Second (Second (Second (First x)))) ts d o = absurd (contrary o)

@@ -33,8 +33,8 @@ use Rattle.grammar_back.proofs.Keywords.{reserved_pub}
 use Rattle.grammar_back.proofs.MacroItems.{a_word_lacked}
 use Rattle.grammar_back.proofs.ReadMacros.{form_read}
 use Rattle.grammar_back.proofs.Sights.{ident_not}
-use Rattle.grammar_back.proofs.ItemVerdicts.{SameItem, each_item, form_same, kept_form, place_fits, place_normal}
-use Rattle.grammar_back.proofs.ItemVerdicts.{place_read, same_has}
+use Rattle.grammar_back.proofs.ItemVerdicts.{LawOf, SameItem, each_item, form_same, kept_form, place_fits}
+use Rattle.grammar_back.proofs.ItemVerdicts.{place_normal, place_read, same_has}
 
 -- attributes, visibility and the item
 abbrev pub whole_item : Gram
@@ -113,13 +113,14 @@ both_shapes P x w (k, o, v, y, e) (l, p, u, z, f) h =
     (sym f) (h _ _ (wholes k o v y l p u z)))
 
 -- the one is pub where the other is
+public_in : LawOf (λ x w. is_public w ≡ is_public x) Visibility
+unfolding held passed
+public_in q v u r d f e = same_has the_pub Plain (table Visibility) v u r d f (ap inner e)
+
 pub public_same : (q : Position) (v u : Tree) (r : List Token) → Derives v (ref Visibility) r → Fits u (ref Visibility)
     → kept u ≡ normal_in q (kept v) → is_public u ≡ is_public v
-unfolding held passed
-public_same q (Node Visibility v) (Node Visibility u) r d f e =
-    same_has the_pub Plain (table Visibility) v u r d.1 f.3 (ap inner e)
-public_same q (Node Visibility v) (Node l u) r d f e = cc f.0
-public_same q (Node k v) (Node l u) r d f e = cc d.0
+public_same q (Node k v) (Node l u) r d f e =
+    form_same (λ x w. is_public w ≡ is_public x) (ref Visibility) public_in q (Node k v) (Node l u) r d f e
 public_same q (Node k v) _ r d f e = absurd f
 public_same q _ u r d f e = absurd d
 

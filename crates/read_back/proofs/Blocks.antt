@@ -22,6 +22,7 @@ use Rattle.syn_grammar.specs.Kept.{kept}
 use Rattle.syn_grammar.specs.Normal.{normal}
 use Rattle.syn_grammar.specs.Forms.{front}
 use Rattle.syn_grammar.specs.Expressions.{expressions, labelled}
+use Rattle.expressions_back.proofs.Bools.{never}
 use Rattle.expressions_back.specs.Behind.{no_operand}
 use Rattle.expressions_back.specs.Formed.{IsFront}
 use Rattle.grammar_back.specs.After.{After}
@@ -313,4 +314,4 @@ block_part M ExprConst y e f w h = front_of M ExprConst y (λ ts. tt) w h (const
 block_part M ExprLoop y e f w h = front_of M ExprLoop y (λ ts. tt) w h (loop_tokens y f)
 block_part M ExprWhile y e f w h = front_of M ExprWhile y (λ ts. tt) w h (while_tokens y f)
 block_part M ExprForLoop y e f w h = front_of M ExprForLoop y (λ ts. tt) w h (for_tokens y f (w [] tt).0)
-block_part M _ y e f w h = cc
+block_part M _ y e f w h = absurd (never e)

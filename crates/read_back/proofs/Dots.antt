@@ -21,7 +21,7 @@ use Rattle.syn_grammar.specs.Kept.{index_field, index_fields, fields_in_front, l
 use Rattle.syn_grammar.specs.Words.{indices}
 use Rattle.syn_grammar.specs.Normal.{normal}
 use Rattle.binding_laws.proofs.Sights.{back_same}
-use Rattle.binding_laws.proofs.Shells.{is_dot}
+use Rattle.binding_laws.proofs.Shells.{is_dot, each_dot}
 use Rattle.expressions_back.specs.Formed.{IsBehind}
 use Rattle.expressions_back.specs.Simple.{behind_dot, lone_await, lone_field, lone_number}
 use Rattle.expressions_back.proofs.Dots.{await_behind, number_behind}
@@ -59,14 +59,13 @@ no_front : (k : Kind) (d x z : Tree) → is_dot k ≡ true → IsNumbers x
 no_front k d x z i h w =
     is_end x h (sym (ap own_front (w Nil)) ∙ go k i)
   where
+    last : (j : Kind) → own_front (last_fields (fields_in_front Nil (kept x)) j (kept d) (kept z)) ≡ End
+    last j = last_front j (fields_in_front Nil (kept x)) (kept d) (kept z) (numbers_front Nil (kept x) refl)
+
     go : (j : Kind) → is_dot j ≡ true → own_front (dotted Nil j (kept (Pair (Pair d (Called the_indices x)) z))) ≡ End
-    go ExprField i =
-        last_front ExprField (fields_in_front Nil (kept x)) (kept d) (kept z) (numbers_front Nil (kept x) refl)
-    go ExprMethodCall i =
-        last_front ExprMethodCall (fields_in_front Nil (kept x)) (kept d) (kept z) (numbers_front Nil (kept x) refl)
-    go ExprAwait i =
-        last_front ExprAwait (fields_in_front Nil (kept x)) (kept d) (kept z) (numbers_front Nil (kept x) refl)
-    go _ i = cc
+    go =
+        each_dot (λ j. own_front (dotted Nil j (kept (Pair (Pair d (Called the_indices x)) z))) ≡ End) (last ExprField)
+        (last ExprMethodCall) (last ExprAwait)
 
 -- so it is a dot alone that stands there
 lone : (k : Kind) (w z : Tree) → is_dot k ≡ true → Fits w dot → IsWhole k (Pair w z) → Pair w z ≡ behind_dot z
@@ -179,10 +178,10 @@ pub dot_own : (M : Kind → Tree → List Token → Type 0)
     → ((cs : List ℕ) → is_ident cs ≡ true → IsBehind (M ExprField (lone_field cs)) ExprField (lone_field cs))
     → (k : Kind) (y : Tree) → is_dot k ≡ true → Fits y (table k) → IsMeant k y → IsWhole k y → OwnReady k y
     → flat (normal (kept y)) ≡ flat y → IsBehind (M k y) k y
-dot_own M names ExprField y e f m i r h = field_own (M ExprField) names y f m i
-dot_own M names ExprMethodCall y e f m i r h = method_own (M ExprMethodCall) y f i r h
-dot_own M names ExprAwait y e f m i r h = await_own (M ExprAwait) y f i
-dot_own M names _ y e f m i r h = cc
+dot_own M names k y e f m i r h =
+    each_dot (λ j. Fits y (table j) → IsMeant j y → IsWhole j y → OwnReady j y → IsBehind (M j y) j y)
+    (λ a b c d. field_own (M ExprField) names y a b c) (λ a b c d. method_own (M ExprMethodCall) y a c d h)
+    (λ a b c d. await_own (M ExprAwait) y a c) k e f m i r
 
 -- before else
 else_field : (cs : List ℕ) (us : List Token) → is_ident cs ≡ true

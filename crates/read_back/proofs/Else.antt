@@ -74,7 +74,7 @@ formed_else (Back l k y) p us c =
     (same_follows p k us (is_false (may_lack k) c))
 formed_else (Infix l k y r) p us c =
     ap (infix_form p (formed p (follow (flat (normal y))) l) k (normal y)) (formed_else r (inside p k) us c)
-formed_else _ p us c = cc c
+formed_else _ p us c = refl
 
 -- what its own parts ask for
 calm_else : (us : List Token) → IsCalm (behind_else us)
@@ -88,7 +88,7 @@ after_else k y ts h e m =
 break_lacks : (k : Kind) → is_break k ≡ true → may_lack k ≡ true
 unfolding may_lack
 break_lacks ExprBreak e = refl
-break_lacks _ e = cc e
+break_lacks _ e = absurd (never e)
 
 ends_else : (k : Kind) (y : Tree) → is_form k ≡ true → is_closed (Alone k y) ≡ true → Ends IsElse k y
 ends_else k y h c =

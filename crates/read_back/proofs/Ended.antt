@@ -122,11 +122,28 @@ is_ender k = false
 ender : (p : Position) (k : Kind) (y : Tree) → is_form k ≡ true → ends_there p (Alone k y) ≡ true → is_ender k ≡ true
 unfolding has_form_step
 ender InArm ExprIf y h e = refl
-ender InArm _ y h e = cc
+ender InArm ExprWhile y h e = refl
+ender InArm ExprForLoop y h e = refl
+ender InArm ExprLoop y h e = refl
+ender InArm ExprMatch y h e = refl
+ender InArm ExprTryBlock y h e = refl
+ender InArm ExprUnsafe y h e = refl
+ender InArm ExprConst y h e = refl
+ender InArm ExprBlock y h e = refl
+ender InArm _ y h e = absurd (never e)
 ender InStatement ExprIf y h e = refl
-ender InStatement _ y h e = cc
-ender Plain k y h e = cc
-ender InCondition k y h e = cc
+ender InStatement ExprWhile y h e = refl
+ender InStatement ExprForLoop y h e = refl
+ender InStatement ExprLoop y h e = refl
+ender InStatement ExprMatch y h e = refl
+ender InStatement ExprTryBlock y h e = refl
+ender InStatement ExprUnsafe y h e = refl
+ender InStatement ExprConst y h e = refl
+ender InStatement ExprBlock y h e = refl
+ender InStatement ExprMacro y h e = refl
+ender InStatement _ y h e = absurd (never e)
+ender Plain k y h e = absurd (never e)
+ender InCondition k y h e = absurd (never e)
 
 ended_own : (k : Kind) (y : Tree) → is_ender k ≡ true → Fits y (table k) → OwnReady k y → IsOwn k y → IsFront Ended k y
 ended_own ExprIf y e f w o = started_part Ended ExprIf y refl (λ ts m. (m.1.1.0, tt)) w o.1
@@ -139,7 +156,7 @@ ended_own ExprBlock y e f w o = block_part Ended ExprBlock y refl f w o.1
 ended_own ExprTryBlock y e f w o = front_part Ended ExprTryBlock y refl o
 ended_own ExprUnsafe y e f w o = front_part Ended ExprUnsafe y refl o
 ended_own ExprMacro y e f w o = macro_part Ended y f w o.1
-ended_own _ y e f w o = cc
+ended_own _ y e f w o = absurd (never e)
 
 no_right : (p : Position) (k : Kind) (ts : List Token) → is_ender k ≡ true → has_right p k ts ≡ false
 unfolding has_right level
@@ -153,7 +170,7 @@ no_right p ExprBlock ts e = refl
 no_right p ExprTryBlock ts e = refl
 no_right p ExprUnsafe ts e = refl
 no_right p ExprMacro ts e = refl
-no_right p _ ts e = cc
+no_right p _ ts e = absurd (never e)
 
 -- where it begins, no attribute does
 no_hash : (p : Position) (k : Kind) (ts : List Token) → is_ender k ≡ true → front p ts ≡ Some k
@@ -213,12 +230,12 @@ IsEnding x = ⊥
 is_ending : (p : Position) (x : Tree) → ends_there p x ≡ true → IsEnding x
 is_ending InArm (Alone k y) e = tt
 is_ending InArm (Front ExprAttributed y x) e = is_ending InArm x e
-is_ending InArm _ e = cc
+is_ending InArm _ e = absurd (never e)
 is_ending InStatement (Alone k y) e = tt
 is_ending InStatement (Front ExprAttributed y x) e = is_ending InStatement x e
-is_ending InStatement _ e = cc
-is_ending Plain x e = cc
-is_ending InCondition x e = cc
+is_ending InStatement _ e = absurd (never e)
+is_ending Plain x e = absurd (never e)
+is_ending InCondition x e = absurd (never e)
 
 ended_bound : (x : Tree) → IsEnding x → FitsForms x → HasOperands x → Ready x → (p : Position)
     (ts : List Token) → Settled p ts (kept x) → ends_there p x ≡ true → (s : List Token) → Ended s → Bound p x s

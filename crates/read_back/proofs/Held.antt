@@ -111,7 +111,7 @@ macro_kept : (x : Tree) → is_brace_macro x ≡ true → is_brace_macro (kept x
 unfolding held
 macro_kept (Front ExprAttributed y x) e = macro_kept x e
 macro_kept (Alone ExprMacro (Node AMacro (Pair p (Pair s (Node Delimited (Second (First g))))))) e = refl
-macro_kept _ e = cc
+macro_kept _ e = absurd (never e)
 
 or_off : (a b c d : Bool) → a ≡ c → (d ≡ true → b ≡ true) → (a || b) ≡ false → (c || d) ≡ false
 or_off true b c d f h e = cc

@@ -19,7 +19,7 @@ use Rattle.syn_grammar.specs.Derives.{Derives}
 use Rattle.syn_grammar.specs.Kept.{index_field, index_fields, fields_in_front, last_fields, dotted_own, dotted}
 use Rattle.syn_grammar.specs.Kept.{kept}
 use Rattle.syn_grammar.proofs.Decimals.{integer_decimal, one_index}
-use Rattle.binding_laws.proofs.Shells.{is_dot}
+use Rattle.binding_laws.proofs.Shells.{is_dot, each_dot}
 use Rattle.expressions_back.proofs.Bools.{never}
 use Rattle.grammar_back.specs.Covered.{has_step, has_form_step}
 use Rattle.grammar_back.proofs.Fits.{Fits, FitsForms, HasOperands, IsBackKind, IsMeant, MayLack}
@@ -224,10 +224,9 @@ field_fit _ f = absurd f
 
 pub dot_fits : (k : Kind) (y : Tree) → is_dot k ≡ true → Fits y (table k) → IsDot k y
 unfolding table
-dot_fits ExprField y e f = dot_fit ExprField field_end y field_fit f
-dot_fits ExprMethodCall y e f = dot_fit ExprMethodCall _ y (λ z i. tt) f
-dot_fits ExprAwait y e f = dot_fit ExprAwait _ y (λ z i. tt) f
-dot_fits _ y e f = cc
+dot_fits k y e f =
+    each_dot (λ j. Fits y (table j) → IsDot j y) (dot_fit ExprField field_end y field_fit)
+    (dot_fit ExprMethodCall _ y (λ z i. tt)) (dot_fit ExprAwait _ y (λ z i. tt)) k e f
 
 numbers_read : (x : Tree) (r : List Token) → Derives x (repeated (a_quoted ends_in_dot) (literal are_indices)) r
     → IsNumbers (kept x)
@@ -259,7 +258,6 @@ field_got _ r d = absurd d
 
 pub dot_read : (k : Kind) (y : Tree) (r : List Token) → is_dot k ≡ true → Derives y (table k) r → IsDot k (kept y)
 unfolding table
-dot_read ExprField y r e d = dot_got ExprField field_end y r (λ z i. field_got z r i) d
-dot_read ExprMethodCall y r e d = dot_got ExprMethodCall _ y r (λ z i. tt) d
-dot_read ExprAwait y r e d = dot_got ExprAwait _ y r (λ z i. tt) d
-dot_read _ y r e d = cc
+dot_read k y r e d =
+    each_dot (λ j. Derives y (table j) r → IsDot j (kept y)) (dot_got ExprField field_end y r (λ z i. field_got z r i))
+    (dot_got ExprMethodCall _ y r (λ z i. tt)) (dot_got ExprAwait _ y r (λ z i. tt)) k e d

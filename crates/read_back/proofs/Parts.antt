@@ -32,6 +32,7 @@ use Rattle.syn_grammar.proofs.Settled.{Settled}
 use Rattle.binding_laws.proofs.Begun.{is_front, first_passes}
 use Rattle.binding_laws.proofs.Shells.{is_dot}
 use Rattle.binding_laws.proofs.Sights.{is_back, backs_are}
+use Rattle.expressions_back.proofs.Bools.{never}
 use Rattle.expressions_back.specs.Behind.{AtEnd, BeforeOperand, BehindOperand}
 use Rattle.expressions_back.specs.Firm.{is_firm_front, is_firm_behind, IsOwn}
 use Rattle.expressions_back.specs.Formed.{IsFront, IsBehind, ends_by_itself}
@@ -77,8 +78,38 @@ is_closure k = false
 front_kind : (k : Kind) → is_form k ≡ true → is_front k ≡ true → may_have_operand k ≡ true
     → (is_closure k || (is_led k || (is_firm_front k || is_break k || is_reference k))) ≡ true
 unfolding has_form_step may_lack level
+front_kind ExprAttributed e f h = refl
 front_kind ExprUnary e f h = refl
-front_kind _ e f h = cc
+front_kind ExprRawAddr e f h = refl
+front_kind ExprReference e f h = refl
+front_kind ExprLet e f h = refl
+front_kind ExprBreak e f h = refl
+front_kind ExprReturn e f h = refl
+front_kind ExprYield e f h = refl
+front_kind ExprClosure e f h = refl
+front_kind ExprRange e f h = refl
+front_kind ExprRangeClosed e f h = refl
+front_kind ExprArray e f h = absurd (never h)
+front_kind ExprAsync e f h = absurd (never h)
+front_kind ExprBlock e f h = absurd (never h)
+front_kind ExprConst e f h = absurd (never h)
+front_kind ExprContinue e f h = absurd (never h)
+front_kind ExprForLoop e f h = absurd (never h)
+front_kind ExprGroup e f h = absurd (never h)
+front_kind ExprIf e f h = absurd (never h)
+front_kind ExprInfer e f h = absurd (never h)
+front_kind ExprLit e f h = absurd (never h)
+front_kind ExprLoop e f h = absurd (never h)
+front_kind ExprMacro e f h = absurd (never h)
+front_kind ExprMatch e f h = absurd (never h)
+front_kind ExprParen e f h = absurd (never h)
+front_kind ExprPath e f h = absurd (never h)
+front_kind ExprRepeat e f h = absurd (never h)
+front_kind ExprTryBlock e f h = absurd (never h)
+front_kind ExprTypedClosure e f h = absurd (never h)
+front_kind ExprUnsafe e f h = absurd (never h)
+front_kind ExprWhile e f h = absurd (never h)
+front_kind _ e f h = absurd (never f)
 
 abbrev pub is_path : Kind → Bool
 is_path ExprPath = true
@@ -96,8 +127,38 @@ pub alone_kind : (k : Kind) → is_form k ≡ true → is_front k ≡ true → m
     → (is_path k || (is_macro k || (is_typed k || (is_started k || (is_block k || (is_firm_front k || is_break k))))))
     ≡ true
 unfolding has_form_step may_lack level
+alone_kind ExprArray e f h = refl
+alone_kind ExprAsync e f h = refl
+alone_kind ExprBlock e f h = refl
+alone_kind ExprBreak e f h = refl
+alone_kind ExprConst e f h = refl
+alone_kind ExprContinue e f h = refl
+alone_kind ExprForLoop e f h = refl
+alone_kind ExprGroup e f h = refl
+alone_kind ExprIf e f h = refl
+alone_kind ExprInfer e f h = refl
 alone_kind ExprLit e f h = refl
-alone_kind _ e f h = cc
+alone_kind ExprLoop e f h = refl
+alone_kind ExprMacro e f h = refl
+alone_kind ExprMatch e f h = refl
+alone_kind ExprParen e f h = refl
+alone_kind ExprPath e f h = refl
+alone_kind ExprRange e f h = refl
+alone_kind ExprRepeat e f h = refl
+alone_kind ExprReturn e f h = refl
+alone_kind ExprTryBlock e f h = refl
+alone_kind ExprTypedClosure e f h = refl
+alone_kind ExprUnsafe e f h = refl
+alone_kind ExprWhile e f h = refl
+alone_kind ExprYield e f h = refl
+alone_kind ExprAttributed e f h = absurd (never h)
+alone_kind ExprUnary e f h = absurd (never h)
+alone_kind ExprRawAddr e f h = absurd (never h)
+alone_kind ExprReference e f h = absurd (never h)
+alone_kind ExprLet e f h = absurd (never h)
+alone_kind ExprClosure e f h = absurd (never h)
+alone_kind ExprRangeClosed e f h = absurd (never h)
+alone_kind _ e f h = absurd (never f)
 
 abbrev pub is_cast : Kind → Bool
 is_cast ExprCast = true
@@ -106,13 +167,51 @@ is_cast k = false
 pub back_kind : (k : Kind) → is_form k ≡ true → is_back k ≡ true
     → (is_struct k || (is_cast k || (is_dot k || is_firm_behind k))) ≡ true
 unfolding has_form_step
+back_kind ExprAssign e f = refl
+back_kind ExprCompare e f = refl
+back_kind ExprOr e f = refl
+back_kind ExprAnd e f = refl
+back_kind ExprShift e f = refl
+back_kind ExprBitOr e f = refl
+back_kind ExprBitXor e f = refl
+back_kind ExprBitAnd e f = refl
+back_kind ExprSum e f = refl
+back_kind ExprProduct e f = refl
+back_kind ExprRangeClosed e f = refl
+back_kind ExprRange e f = refl
+back_kind ExprCast e f = refl
+back_kind ExprStruct e f = refl
 back_kind ExprCall e f = refl
-back_kind _ e f = cc
+back_kind ExprIndex e f = refl
+back_kind ExprTry e f = refl
+back_kind ExprAwait e f = refl
+back_kind ExprMethodCall e f = refl
+back_kind ExprField e f = refl
+back_kind _ e f = absurd (never f)
 
 infix_kind : (k : Kind) → is_form k ≡ true → is_back k ≡ true → may_have_operand k ≡ true → is_firm_behind k ≡ true
 unfolding has_form_step may_lack level
+infix_kind ExprAssign e f h = refl
+infix_kind ExprCompare e f h = refl
+infix_kind ExprOr e f h = refl
+infix_kind ExprAnd e f h = refl
+infix_kind ExprShift e f h = refl
+infix_kind ExprBitOr e f h = refl
+infix_kind ExprBitXor e f h = refl
+infix_kind ExprBitAnd e f h = refl
 infix_kind ExprSum e f h = refl
-infix_kind _ e f h = cc
+infix_kind ExprProduct e f h = refl
+infix_kind ExprRangeClosed e f h = refl
+infix_kind ExprRange e f h = refl
+infix_kind ExprCast e f h = absurd (never h)
+infix_kind ExprStruct e f h = absurd (never h)
+infix_kind ExprCall e f h = absurd (never h)
+infix_kind ExprIndex e f h = absurd (never h)
+infix_kind ExprTry e f h = absurd (never h)
+infix_kind ExprAwait e f h = absurd (never h)
+infix_kind ExprMethodCall e f h = absurd (never h)
+infix_kind ExprField e f h = absurd (never h)
+infix_kind _ e f h = absurd (never f)
 
 -- whether they have an operand behind them
 not_false : (b : Bool) → not b ≡ false → b ≡ true
@@ -196,7 +295,7 @@ before_calm ExprCast y s e c h =
     (c.1.1.1.1.1.1.0, (c.0, (c.1.1.1.1.1.1.1.0, (c.1.1.1.1.1.1.1.1.0, (c.1.1.1.1.1.1.1.1.1.0, tt)))))
 before_calm ExprClosure y s e c h = tt
 before_calm ExprTypedClosure y s e c h = tt
-before_calm _ y s e c h = cc
+before_calm _ y s e c h = absurd (never e)
 
 before_nothing : (k : Kind) (y : Tree) → is_form k ≡ true → After k y []
 before_nothing k y e =
@@ -459,7 +558,7 @@ form_begins ExprClosure y s e f b =
 form_begins ExprTypedClosure y s e f b =
     among (11 ∷ 14 ∷ 12 ∷ 15 ∷ 13 ∷ 26 ∷ []) (starts ExprTypedClosure) (starts (Expression Plain)) (flat y ++ s)
     (refl, (refl, (refl, (refl, (refl, (refl, tt)))))) b
-form_begins _ y s e f b = cc
+form_begins _ y s e f b = absurd (never f)
 
 own_begins : (k : Kind) (y : Tree) → IsFrontKind k → OwnReady k y → (us : List Token)
     → IsAmong (starts (Expression Plain)) (flat y ++ us)

@@ -24,6 +24,7 @@ use Rattle.grammar_back.specs.Covered.{all_covered, has_form_step, has_step, is_
 use Rattle.grammar_back.specs.Covered.{is_plain_part, is_statement_form, is_taken, stands_alone}
 use Rattle.grammar_back.proofs.Choices.{both_same, both_true}
 use Rattle.grammar_back.proofs.Passed.{behind_attributes}
+use Rattle.grammar_back.proofs.Printed.{form_known}
 use Rattle.grammar_back.proofs.ReadBack.{is_whole}
 use Rattle.read_back.specs.Asked.{ends_alone, ends_in_pattern, is_asked_alone, is_asked_statement, is_covered}
 use Rattle.read_back.specs.Asked.{is_no_lone, no_lone}
@@ -34,7 +35,6 @@ use Rattle.read_back.proofs.ToldKinds.{all_known, back_form, front_form, refs_kn
 use Rattle.read_back.proofs.ToldPaths.{call_behind}
 use Rattle.read_back.proofs.ToldClosures.{closure_told, typed_closure_told}
 use Rattle.read_back.proofs.ToldPatterns.{whole_patterns}
-use Rattle.read_back.proofs.Wholes.{part_known}
 
 -- braces
 abbrev dotless : Look
@@ -177,28 +177,28 @@ mutual
       let f = front_form p k _ d.0 in
       and_both (is_form k) _ f
       (and_both (is_plain_part k (normal (kept y))) (all_covered y) (part_told k p y r d.0 d.1)
-      (told y (table k) r d.1 (all_known k) (settled_inside k y r d.1 (known_none k (part_known k f))) n))
+      (told y (table k) r d.1 (all_known k) (settled_inside k y r d.1 (known_none k (form_known k f))) n))
   form_parts (Front k y x) p r d n =
       let m = both_true (no_lone y) (no_lone x) n in
       let f = front_form p k _ d.0 in
       and_both (is_form k) _ f
       (and_both (is_plain_part k (normal (kept y))) _ (part_told k p y (flat x ++ r) d.0 d.1)
       (and_both (all_covered y) (all_covered x)
-      (told y (table k) (flat x ++ r) d.1 (all_known k) (settled_inside k y _ d.1 (known_none k (part_known k f))) m.0)
+      (told y (table k) (flat x ++ r) d.1 (all_known k) (settled_inside k y _ d.1 (known_none k (form_known k f))) m.0)
       (form_parts x (inside p k) r d.4 m.1)))
   form_parts (Back l k y) p r d n =
       let m = both_true (no_lone l) (no_lone y) n in
       let f = back_form p k _ d.0 in
       and_both (is_form k) _ f
       (and_both (all_covered l) (all_covered y) (form_parts l p _ d.4 m.0)
-      (told y (table k) r d.1 (all_known k) (settled_inside k y r d.1 (known_none k (part_known k f))) m.1))
+      (told y (table k) r d.1 (all_known k) (settled_inside k y r d.1 (known_none k (form_known k f))) m.1))
   form_parts (Infix l k y x) p r d n =
       let m = both_true (no_lone y) (no_lone l && no_lone x) n in
       let o = both_true (no_lone l) (no_lone x) m.1 in
       let f = back_form p k _ d.0 in
       and_both (is_form k) _ f
       (and_both (all_covered y) _
-      (told y (table k) (flat x ++ r) d.1 (all_known k) (settled_inside k y _ d.1 (known_none k (part_known k f))) m.0)
+      (told y (table k) (flat x ++ r) d.1 (all_known k) (settled_inside k y _ d.1 (known_none k (form_known k f))) m.0)
       (and_both (all_covered l) (all_covered x) (form_parts l p _ d.4 o.0) (form_parts x (inside p k) r d.6 o.1)))
   form_parts _ p r d n = absurd d
 

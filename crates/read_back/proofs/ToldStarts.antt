@@ -383,10 +383,10 @@ back_leads ExprStruct e f = fields_lead
 back_leads ExprCall e f = Leads.group_leads (λ ts us. Behind us) behind_more (λ r s vs. refl)
 back_leads ExprIndex e f = Leads.group_leads (λ ts us. Behind us) behind_more (λ r s vs. refl)
 back_leads ExprTry e f = marks_lead _ refl
-back_leads ExprField e f = cc f
-back_leads ExprMethodCall e f = cc f
-back_leads ExprAwait e f = cc f
-back_leads _ e f = cc e
+back_leads ExprField e f = absurd (never (sym f))
+back_leads ExprMethodCall e f = absurd (never (sym f))
+back_leads ExprAwait e f = absurd (never (sym f))
+back_leads _ e f = absurd (never e)
 
 part_behind : (k : Kind) (y : Tree) (r ts : List Token) → back InStatement ts ≡ Some k → Shells.is_dot k ≡ false
     → Derives y (table k) r → Behind (flat (normal (kept y)))

@@ -26,19 +26,19 @@ use Rattle.syn_grammar.specs.Normal.{passed, stands_behind, normal, formed}
 use Rattle.syn_grammar.specs.Parens.{follow, may_lack, is_struct}
 use Rattle.syn_grammar.proofs.Settled.{normal_twice}
 use Rattle.syn_grammar.proofs.Whole.{and_true}
-use Rattle.binding_laws.proofs.Shells.{is_dot, undotted}
+use Rattle.binding_laws.proofs.Shells.{is_dot, each_dot, undotted}
 use Rattle.expressions_back.specs.Behind.{is_attributed}
 use Rattle.expressions_back.specs.Formed.{is_attributed_form}
 use Rattle.expressions_back.proofs.Bools.{never}
 use Rattle.binding_laws.proofs.Begun.{first_passes}
 use Rattle.expressions_back.proofs.Opened.{nothing_right, fixed_right, paren_right}
 use Rattle.expressions_back.proofs.Stands.{struct_is}
-use Rattle.grammar_back.specs.Covered.{has_step, has_form_step, inner, is_bound, is_known, is_form, is_plain_part}
+use Rattle.grammar_back.specs.Covered.{has_step, has_form_step, inner, is_bound, is_form, is_plain_part}
 use Rattle.grammar_back.specs.Covered.{all_covered}
 use Rattle.grammar_back.proofs.Dotted.{law_expr_await, law_expr_field, law_expr_method_call}
 use Rattle.grammar_back.proofs.Fits.{flat_kept, Fits, FitsForms, IsMeant, IsFormed, MayLack, MayHave}
 use Rattle.grammar_back.proofs.Fits.{HasOperands, IsBackKind}
-use Rattle.grammar_back.proofs.Printed.{OwnPrinted, Printed, WholeLaw}
+use Rattle.grammar_back.proofs.Printed.{OwnPrinted, Printed, WholeLaw, form_known}
 use Rattle.read_back.proofs.Operands.{apart}
 use Rattle.read_back.proofs.Indices.{dot_fits, dot_read, dotted_fits, dotted_keeps, dotted_operands}
 use Rattle.range_laws.specs.Shelled.{goes_in, is_lone_range, is_shelled, parens_if, shelled}
@@ -47,11 +47,6 @@ use Rattle.range_laws.proofs.InKept.{goes_kept, shelled_kept}
 use Rattle.syn_grammar.proofs.Settled.{Settled}
 use Rattle.read_back.proofs.Settled.{Within, dotted_within, settled_inside, settles}
 use Rattle.read_back.proofs.Split.{dotted_kept, dotted_shelled}
-
-pub part_known : (k : Kind) → is_form k ≡ true → is_known k ≡ true
-unfolding has_step has_form_step
-part_known ExprLit e = refl
-part_known _ e = cc
 
 -- An own part is printed as what its kind means: behind a dot by the laws of the kinds.
 record Own (k : Kind) (z : Tree) : Type 0 where
@@ -108,7 +103,10 @@ form_meant ExprAttributed y e f = tt
 form_meant ExprCast y e f = tt
 form_meant ExprClosure y e f = tt
 form_meant ExprTypedClosure y e f = tt
-form_meant _ y e f = cc
+form_meant ExprField y e f = absurd (never (sym f))
+form_meant ExprMethodCall y e f = absurd (never (sym f))
+form_meant ExprAwait y e f = absurd (never (sym f))
+form_meant _ y e f = absurd (never e)
 
 of_node : (k : Kind) (t z : Tree) → ((x : Tree) → forget k x ≡ x) → Fits t (ref k) → kept t ≡ Node (held k) z → Own k z
 of_node k (Node j x) z u f e = record {
@@ -119,19 +117,31 @@ of_node k (Node j x) z u f e = record {
 }
 of_node k _ z u f e = absurd f
 
-dot_printed : (k : Kind) (y : Tree) (r : List Token) → is_dot k ≡ true → Derives y (table k) r
-    → Printed (table k) (normal (kept y)) → Own k (normal (kept y))
-unfolding held passed
-dot_printed ExprField y r e d o =
+OfDot : Tree → List Token → Kind → Type 0
+OfDot y r k = Derives y (table k) r → Printed (table k) (normal (kept y)) → Own k (normal (kept y))
+
+field_printed : (y : Tree) (r : List Token) → OfDot y r ExprField
+unfolding held passed OfDot
+field_printed y r d o =
     let i = law_expr_field.node Plain tt y r refl d o in
     of_node ExprField i.tree (normal (kept y)) (λ x. refl) i.fits i.kept_is
-dot_printed ExprMethodCall y r e d o =
+
+method_printed : (y : Tree) (r : List Token) → OfDot y r ExprMethodCall
+unfolding held passed OfDot
+method_printed y r d o =
     let i = law_expr_method_call.node Plain tt y r refl d o in
     of_node ExprMethodCall i.tree (normal (kept y)) (λ x. refl) i.fits i.kept_is
-dot_printed ExprAwait y r e d o =
+
+await_printed : (y : Tree) (r : List Token) → OfDot y r ExprAwait
+unfolding held passed OfDot
+await_printed y r d o =
     let i = law_expr_await.node Plain tt y r refl d o in
     of_node ExprAwait i.tree (normal (kept y)) (λ x. refl) i.fits i.kept_is
-dot_printed _ y r e d o = cc
+
+dot_printed : (k : Kind) (y : Tree) (r : List Token) → is_dot k ≡ true → Derives y (table k) r
+    → Printed (table k) (normal (kept y)) → Own k (normal (kept y))
+unfolding OfDot
+dot_printed k y r e = each_dot (OfDot y r) (field_printed y r) (method_printed y r) (await_printed y r) k e
 
 own_printed : (k : Kind) (y : Tree) (r : List Token) → is_form k ≡ true → Derives y (table k) r
     → Printed (table k) (normal (kept y)) → Own k (normal (kept y))
@@ -227,13 +237,13 @@ has_one p k r h = go (may_lack k) refl
 remade_path : (x : Tree) (o : Owns x) → is_path_form x ≡ true → is_path_form (remade x o) ≡ true
 unfolding remade
 remade_path (Alone ExprPath y) o e = refl
-remade_path (Alone _ y) o e = cc
-remade_path _ o e = cc
+remade_path (Alone _ y) o e = absurd (never e)
+remade_path _ o e = absurd (never e)
 
 in_path : (k : Kind) (x : Tree) (o : Owns x) → is_path_form x ≡ true
     → is_path_form (parens_if (goes_in k x) (remade x o)) ≡ true
 in_path k (Alone j y) o e = remade_path (Alone j y) o e
-in_path k _ o e = cc
+in_path k _ o e = absurd (never e)
 
 left_path : (p : Position) (k : Kind) (l : Tree) → is_struct k ≡ true → IsLeft p l k → is_path_form l ≡ true
 unfolding stands_left
@@ -473,15 +483,15 @@ back_fits k l y h f m g = go (is_dot k) refl
     go : (b : Bool) → is_dot k ≡ b → FitsForms (dotted l k y)
     go true i = dotted_fits k l y (dot_fits k y i f) f m g
     go false i =
-        subst FitsForms (sym (undotted l k y i)) (part_known k h, f, m, λ z. undotted z k (kept y) i, g)
+        subst FitsForms (sym (undotted l k y i)) (form_known k h, f, m, λ z. undotted z k (kept y) i, g)
 
 remade_fits : (x : Tree) (o : Owns x) (p : Position) (r : List Token) → Bound p x r → all_covered x ≡ true
     → (q : Position) (ts : List Token) → Settled q ts (kept (remade x o)) → FitsForms (remade x o)
 unfolding remade
-remade_fits (Alone k y) o p r d c q ts s = (part_known k (alone_parts k y c).passes, o.fits, o.means)
+remade_fits (Alone k y) o p r d c q ts s = (form_known k (alone_parts k y c).passes, o.fits, o.means)
 remade_fits (Front k y x) o p r d c q ts s =
     let a = front_parts k y x c in (
-      part_known k a.passes,
+      form_known k a.passes,
       o.0.fits,
       o.0.means,
       parens_fit (is_shelled k x) (remade x o.1) (inside q k) ts s.3
@@ -497,7 +507,7 @@ remade_fits (Back l k y) o p r d c q ts s =
     (remade_operands l o.0 p (flat y ++ r) d.4 a.left))
 remade_fits (Infix l k y x) o p r d c q ts s =
     let a = infix_parts l k y x c in (
-      part_known k a.passes,
+      form_known k a.passes,
       o.1.fits,
       o.1.means,
       parens_fit (goes_in k l) (remade l o.0) q (follow (flat (kept o.1.tree))) s.2
