@@ -8,7 +8,7 @@ use Rattle.syn_grammar.specs.Forms.{is_block_like, is_brace_macro, is_range, kin
 use Rattle.gram_table.specs.Kinds.{kind_of as named}
 use Rattle.gram_table.specs.declared.kind.Kind as g
 use Rattle.gram_table.specs.declared.kind.Kind.TheVariants as kinds
-use Rattle.gram_tree.specs.Shapes.{node_of, alone_of, front_of, pair_of}
+use Rattle.gram_tree.specs.Shapes.{is_middle, node_of, alone_of, front_of, pair_of}
 use Rattle.gram_judge.proofs.Shapes.{node_is, alone_is, front_is, pair_is}
 
 block_front : (k : g.Kind) (y x : Tree) → (k ≡ kinds.ExprAttributed → ⊥) → false ≡ is_block_like (Front (named k) y x)
@@ -38,6 +38,27 @@ range_else t e = refl
 
 abbrev called : Tree → Bool
 called x = is_brace_macro (Alone ExprMacro x)
+
+-- what is said of a macro's group
+abbrev pub in_braces : Tree → Bool
+in_braces g = called (Node AMacro (Pair Nil (Pair Nil g)))
+
+braces_node : (k : g.Kind) (x : Tree) → (k ≡ kinds.Delimited → ⊥) → false ≡ in_braces (Node (named k) x)
+braces_node kinds.Delimited x h = absurd (h refl)
+braces_node k x h = refl
+
+pub in_braces_off : (t : Tree) (k : g.Kind) (x : Tree) → Some (named k, x) ≡ node_of t → (k ≡ kinds.Delimited → ⊥)
+    → false ≡ in_braces t
+in_braces_off t k x e h = rw (node_is t (named k) x e) (braces_node k x h)
+
+braces_middle : (x : Tree) → is_middle x ≡ in_braces (Node Delimited x)
+braces_middle (Second (First x)) = refl
+braces_middle (Second x) = refl
+braces_middle x = refl
+
+pub in_braces_middle : (t : Tree) (k : g.Kind) (x : Tree) → Some (named k, x) ≡ node_of t → k ≡ kinds.Delimited
+    → is_middle x ≡ in_braces t
+in_braces_middle t k x e h = rw (node_is t (named k) x e, h) (braces_middle x)
 
 macro_group : (p s g : Tree) → called (Node AMacro (Pair Nil (Pair Nil g))) ≡ called (Node AMacro (Pair p (Pair s g)))
 macro_group p s (Node Delimited (Second (First x))) = refl

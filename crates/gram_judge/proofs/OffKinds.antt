@@ -4,14 +4,15 @@ use Rattle.std.proofs.Common.{ap, ◌∙◌, sym, subst}
 use Rattle.syn_grammar.specs.Forms.{form_of, is_path_form}
 use Rattle.syn_grammar.specs.Kind.{Kind}
 use Rattle.syn_grammar.specs.Statements.{needs_semicolon}
-use Rattle.syn_grammar.specs.Tree.{Tree, Node, Alone}
-use Rattle.syn_grammar.specs.Verdicts.{is_path_type, root_inside}
+use Rattle.syn_grammar.specs.Tree.{Tree, Second, Node, Alone}
+use Rattle.syn_grammar.specs.Verdicts.{is_path, is_path_type, root_inside}
 use Rattle.gram_table.specs.Kinds.{kind_of}
 use Rattle.gram_table.specs.declared.kind.Kind as g
 use Rattle.gram_table.specs.declared.kind.Kind.TheVariants as kinds
 use Rattle.gram_table.specs.declared.kind.Plus.{Plus}
 use Rattle.gram_table.specs.declared.kind.Position.{Position}
-use Rattle.gram_tree.specs.Shapes.{alone_of, node_of}
+use Rattle.gram_table.specs.declared.kind.Style.{Style}
+use Rattle.gram_tree.specs.Shapes.{alone_of, is_second, node_of}
 use Rattle.gram_judge.proofs.Shapes.{alone_is, node_is}
 
 -- what is seen of a node, or of a form by itself, is seen of the tree that it is
@@ -27,6 +28,15 @@ pub is_path_type_off : (k : g.Kind) (x : Tree) → ((s : Plus) → k ≡ kinds.A
     → false ≡ is_path_type (Node (kind_of k) x)
 is_path_type_off (kinds.AType s) x h = absurd (h s refl)
 is_path_type_off k x h = refl
+
+pub is_path_off : (k : g.Kind) (x : Tree) → ((s : Style) → k ≡ kinds.AnyPath s → ⊥)
+    → false ≡ is_path (Node (kind_of k) x)
+is_path_off (kinds.AnyPath s) x h = absurd (h s refl)
+is_path_off k x h = refl
+
+pub is_path_second : (s : Style) (x : Tree) → is_second x ≡ is_path (Node (kind_of (kinds.AnyPath s)) x)
+is_path_second s (Second x) = refl
+is_path_second s x = refl
 
 pub needs_semicolon_off : (k : g.Kind) (x : Tree) → (k ≡ kinds.AStatement → ⊥)
     → false ≡ needs_semicolon (Node (kind_of k) x)

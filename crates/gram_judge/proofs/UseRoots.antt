@@ -11,7 +11,15 @@ use Rattle.syn_grammar.specs.Tree as t
 use Rattle.syn_grammar.specs.Tree.{Tree, Node}
 use Rattle.syn_grammar.specs.Verdicts.{has_root, root_inside}
 use Rattle.gram_tree.specs.declared.tree.Element.{Element}
-use Rattle.gram_tree.specs.Forms.{mark_of, seconds, turns, elements, ending}
+use Rattle.gram_tree.specs.declared.tree.Enclosed.{Enclosed}
+use Rattle.gram_tree.specs.declared.tree.Form.{Form}
+use Rattle.gram_tree.specs.declared.tree.Form.TheVariants as forms
+use Rattle.gram_tree.specs.declared.tree.Separated.{Separated}
+use Rattle.gram_tree.specs.Forms.{mark_of, seconds, tree_of, turns, elements, ending}
+use Rattle.gram_table.specs.Ops.{separator_of}
+use Rattle.gram_table.specs.Words.{sign_text}
+use Rattle.proc_macro2.specs.declared.delimiter.Delimiter.{Delimiter}
+use denote.Ref.{Bor}
 
 or_assoc : (a b c : Bool) → (a || (b || c)) ≡ ((a || b) || c)
 or_assoc true b c = refl
@@ -103,3 +111,32 @@ inside_elements c [] f (Some y) = refl
 inside_elements c (e ∷ es) f o = refl
 
 pub ruleset seconds_roots = (seconds_more, root_first, inside_mark, inside_turns, inside_elements)
+
+-- forms of which none has a root, but for those that are left out
+pub no_root : (f : Form) → ((k : g.Kind) (x : Bor Tree) → f ≡ forms.Node k x → ⊥)
+    → ((d : Delimiter) (x : Bor Enclosed) → f ≡ forms.Group d x → ⊥) → ((x : Bor Separated) → f ≡ forms.Elements x → ⊥)
+    → false ≡ has_root (tree_of f)
+no_root (forms.Mark s spacing span) h i j = sym (root_mark (sign_text s) spacing)
+no_root (forms.First n x) h i j = sym (root_first n x.now)
+no_root (forms.Turns v) h i j = sym (root_turns v.now.each.now)
+no_root (forms.Node k x) h i j = absurd (h k x refl)
+no_root (forms.Group d x) h i j = absurd (i d x refl)
+no_root (forms.Elements x) h i j = absurd (j x refl)
+no_root f h i j = refl
+
+pub no_top : (f : Form) → ((n : ℕ) (x : Bor Tree) → f ≡ forms.First n x → ⊥)
+    → ((n : ℕ) (x : Bor Tree) → f ≡ forms.Second n x → ⊥) → false ≡ has_root (Node UseTop (tree_of f))
+no_top (forms.Mark s spacing span) h i = sym (top_mark (sign_text s) spacing)
+no_top (forms.Turns v) h i = sym (top_turns v.now.each.now)
+no_top (forms.Elements x) h i = sym (top_elements (separator_of x.now.separator) x.now.before.now (λ b. b.now) x.now.last)
+no_top (forms.First n x) h i = absurd (h n x refl)
+no_top (forms.Second n x) h i = absurd (i n x refl)
+no_top f h i = refl
+
+pub no_rooted : (f : Form) → ((n : ℕ) (x : Bor Tree) → f ≡ forms.First n x → ⊥)
+    → false ≡ has_root (Node UseRooted (tree_of f))
+no_rooted (forms.Mark s spacing span) h = sym (rooted_mark (sign_text s) spacing)
+no_rooted (forms.Turns v) h = sym (rooted_turns v.now.each.now)
+no_rooted (forms.Elements x) h = sym (rooted_elements (separator_of x.now.separator) x.now.before.now (λ b. b.now) x.now.last)
+no_rooted (forms.First n x) h = absurd (h n x refl)
+no_rooted f h = refl
