@@ -1,9 +1,9 @@
 -- What is made of what was read by all that is pending, one by one.
-use Rattle.std.proofs.Common.{◌≡◌, ℕ, ◌≤◌, List, [], ◌∷◌, ◌++◌, length, take, drop, refl, sym, ap, ◌∙◌, append_assoc, arith}
+use Rattle.std.proofs.Common.{◌≡◌, ℕ, ◌+◌, ◌<◌, ◌≤◌, List, [], ◌∷◌, ◌++◌, length, take, drop, refl, sym, ap, ◌∙◌, append_assoc, arith}
 use Rattle.std.proofs.lemmas.List.{append-nil, drop-append-le, length-append, take-append-le, take_all}
 use Rattle.std.proofs.Math.ListN.{drop_of_length-le}
 use Rattle.std.proofs.Math.Seq.{drop-append_seam, take-append_seam}
-use Rattle.std.specs.Prelude.{Result, Ok, Err}
+use Rattle.std.specs.Prelude.{Result, Ok, Err, IfOk}
 use denote.Ref.{Bor}
 use Rattle.proc_macro2.specs.Token.{Token}
 use Rattle.proc_macro2.specs.declared.delimiter.Delimiter.{Delimiter}
@@ -16,7 +16,7 @@ use Rattle.gram_table.specs.Verdicts.{verdict_of}
 use Rattle.gram_table.specs.declared.op.Op.{Op}
 use Rattle.gram_run.specs.Answers.{Fails, Gives, IsSyntax, tokens}
 use Rattle.gram_run.specs.Around.{around_of}
-use Rattle.gram_run.specs.Pending.{Leads, Makes, made_by, made_by_all, says_at}
+use Rattle.gram_run.specs.Pending.{Leads, Makes, made_by, made_by_all, says_at, weight}
 use Rattle.gram_run.specs.declared.pending.Pending.{Pending}
 use Rattle.gram_run.specs.declared.pending.Pending.TheVariants as pendings
 use Rattle.gram_run.specs.declared.pending.Spot.{Spot}
@@ -90,27 +90,42 @@ pub at_step : (n : ℕ) (is parts : List Op) (i j : Op) (ts : List Token) → is
 at_step n is parts i j ts e f = ap (λ is. interp (run n) (gram_of is) ts) (e ∙ ap (λ i. i ∷ parts) f)
 
 -- where so much is pending already, and makes the whole of what steps say
-module _ (old mid ws : List Pending) (p q : Out) (e : mid ≡ old ++ ws) (i : made_by_all ws p ≡ q) where
+module _ (old mid ws : List Pending) (p q : Out) (e : mid ≡ old ++ ws) (i : q ≡ made_by_all ws p) where
   pub ends : {X : Type 0} (tree : X → Tree) (rest : X → List Entry) (new : List Pending) (r : Result X Refusal) (o : Out)
       → p ≡ o → new ≡ mid → Gives tree rest r o → Leads (λ x. Got (tree x) (tokens (rest x))) old new r q
   ends tree rest new r o s f h =
-      leads_on (λ x. Got (tree x) (tokens (rest x))) old mid new ws r o q e (ap (made_by_all ws) (sym s) ∙ i)
+      leads_on (λ x. Got (tree x) (tokens (rest x))) old mid new ws r o q e (sym (i ∙ ap (made_by_all ws) s))
       (leads_same tree rest mid new r o f h)
-
-  pub fails : (new : List Pending) (a : Refusal) (o : Out) → p ≡ o → Leads says_at mid new (Err a) o
-      → Leads got old new (Err a) q
-  fails new a o s h = leads_on says_at old mid new ws (Err a) o q e (ap (made_by_all ws) (sym s) ∙ i) h
 
   pub refused : (new : List Pending) (a : Refusal) → p ≡ Refused → new ≡ mid → IsSyntax a → Leads got old new (Err a) q
   refused new a s f h =
-      leads_on got old mid new ws (Err a) Refused q e (ap (made_by_all ws) (sym s) ∙ i)
+      leads_on got old mid new ws (Err a) Refused q e (sym (i ∙ ap (made_by_all ws) s))
       (leads_fails got mid new a Refused f (syntax_fails a Refused h refl))
 
-  pub goes : (new : List Pending) (s : Spot) (o : Out) → p ≡ o → Leads says_at mid new (Ok s) o
-      → (vs : List Pending) × (new ≡ old ++ vs) × (made_by_all vs (says_at s) ≡ q)
-  goes new s o j h =
-      let l = leads_on says_at old mid new ws (Ok s) o q e (ap (made_by_all ws) (sym j) ∙ i) h in
-      (l.0, l.1, sym l.2)
+  pub goes : (new : List Pending) (r : Result Spot Refusal) (o : Out) → p ≡ o → Leads says_at mid new r o
+      → Leads says_at old new r q
+  goes new r o s h = leads_on says_at old mid new ws r o q e (sym (i ∙ ap (made_by_all ws) s)) h
+
+-- what a step answers is no heavier than that
+pub lighter : (r : Result Spot Refusal) (n m : ℕ) → IfOk r (λ s. weight s.fuel (length s.steps.now) < n) → n ≤ m
+    → IfOk r (λ s. weight s.fuel (length s.steps.now) ≤ m)
+lighter (Ok s) n m h l = omega (arith, h, l)
+lighter (Err e) n m h l = tt
+
+pub as_light : (r : Result Spot Refusal) (n m : ℕ) → IfOk r (λ s. weight s.fuel (length s.steps.now) ≡ n) → n ≤ m
+    → IfOk r (λ s. weight s.fuel (length s.steps.now) ≤ m)
+as_light (Ok s) n m h l = omega (arith, h, l)
+as_light (Err e) n m h l = tt
+
+-- how much is left of what a step answers
+abbrev pub left_of : Result Spot Refusal → ℕ
+left_of (Ok s) = weight s.fuel (length s.steps.now) + 1
+left_of (Err e) = 0
+
+pub less_left : (r q : Result Spot Refusal) (s : Spot) → q ≡ Ok s
+    → IfOk r (λ x. weight x.fuel (length x.steps.now) < weight s.fuel (length s.steps.now)) → left_of r < left_of q
+less_left (Ok x) q s e h = omega (arith, h, ap left_of e)
+less_left (Err a) q s e h = omega (arith, ap left_of e)
 
 -- the last one is taken off
 module _ (k : ℕ) (all left : List Pending) (w : Pending) (is : all ≡ left ++ w ∷ []) (le : k ≤ length left) where

@@ -23,10 +23,10 @@ ghost use Rattle.std.specs.Prelude.{◌≡◌, ◌∷◌, ◌+◌, ◌<◌, IfOk
 ghost use Rattle.syn_buffer.specs.Entries.{is_whole};
 ghost use Rattle.syn_grammar.specs.Run.{Got, Out, climb as goes, interp as says, kind as of_kind, list};
 ghost use Rattle.syn_grammar.specs.Run.{loop as again, run, tower as operand_of, wrap};
-ghost use Rattle.syn_grammar.specs.Tree.{Tree as AnyTree};
+ghost use Rattle.syn_grammar.specs.Tree.{Nil, Tree as AnyTree};
 
 use crate::around::{Around, NoToken, absent, surround};
-use crate::choice::{chosen, halves, is_nothing};
+use crate::choice::{Choice, chosen, halves, is_nothing};
 use crate::finish::finished;
 use crate::form::{begun, extended};
 use crate::group::enter;
@@ -114,8 +114,9 @@ fn forward<'a, R: Rules>(
         (says_at begin.entry) }
     ensures whole { IfOk result (λ x. IsTrue (is_whole x.1.now)) }
 {
-    let mut spot = begin;
+    let mut step = Ok(begin);
     'steps: loop {
+        let spot = step?;
         let Some((op, parts)) = spot.steps.split_first() else {
             return Err(refuse(Wanted::Nothing, spot.entries));
         };
@@ -131,29 +132,26 @@ fn forward<'a, R: Rules>(
             Op::Star(test) => return star(rules, work, test, parts, at, fuel),
             Op::Many(test, mark) => return many(rules, work, test, mark, parts, at, fuel),
             Op::Operand(place, level) => return operand(rules, work, place, level, at, fuel),
-            Op::Seq(count) => spot = seq(rules, work, count, parts, at, fuel)?,
+            Op::Seq(count) => step = seq(rules, work, count, parts, at, fuel),
             Op::Alt(test, count) => {
                 let Some(choice) = chosen(rules, test, count, parts, at) else {
                     return Err(refuse(Wanted::Nothing, at));
                 };
                 if is_nothing(choice.parts) {
-                    return Ok((
-                        absent(work.arena, work.nil, choice.seconds, choice.is_first)?,
-                        at,
-                    ));
+                    return none_chosen(work.arena, work.nil, choice, at);
                 }
                 let around = Around::Chosen(choice.seconds, choice.is_first);
-                spot = within(work, around, choice.parts, at, fuel)?;
+                step = within(work, around, choice.parts, at, fuel);
             }
-            Op::Group(delimiter) => spot = group(work, delimiter, parts, at, fuel)?,
-            Op::Judged(verdicts) => spot = weighed(work, verdicts, parts, at, fuel)?,
-            Op::Dropped => spot = within(work, Around::Dropped, parts, at, fuel)?,
-            Op::Called(part) => spot = within(work, Around::Called(part), parts, at, fuel)?,
+            Op::Group(delimiter) => step = group(work, delimiter, parts, at, fuel),
+            Op::Judged(verdicts) => step = weighed(work, verdicts, parts, at, fuel),
+            Op::Dropped => step = within(work, Around::Dropped, parts, at, fuel),
+            Op::Called(part) => step = within(work, Around::Called(part), parts, at, fuel),
             Op::Ref(kind) => {
                 if let Some(found) = plain(work.arena, kind, at, fuel)? {
                     return Ok(found);
                 }
-                spot = node(work, kind, at, fuel)?;
+                step = node(work, kind, at, fuel);
             }
         }
     }
@@ -298,6 +296,22 @@ fn operand<'a, R: Rules>(
     surround(work.arena, Around::Whole, inner)
 }
 
+// The tree of no token, where nothing is what is chosen.
+#[inline(always)]
+fn none_chosen<'a>(
+    arena: &'a Arena,
+    nil: NoToken<'a>,
+    choice: Choice,
+    at: &'a [Entry<'a>],
+) -> Result<(Tree<'a>, &'a [Entry<'a>]), Refusal>
+    requires { IsTrue (is_whole at.now) }
+    ensures answer { Gives (λ x. x.0) (λ x. x.1.now) result
+        (wrap (around_of (arounds.Chosen choice.seconds choice.is_first)) (Got Nil (tokens at.now))) }
+    ensures whole { IfOk result (λ x. IsTrue (is_whole x.1.now)) }
+{
+    Ok((absent(arena, nil, choice.seconds, choice.is_first)?, at))
+}
+
 // A choice that stands first.
 #[cycle(run)]
 #[inline(always)]
@@ -320,10 +334,7 @@ fn optional<'a, R: Rules>(
         return Err(refuse(Wanted::Nothing, at));
     };
     if is_nothing(choice.parts) {
-        return Ok((
-            absent(work.arena, work.nil, choice.seconds, choice.is_first)?,
-            at,
-        ));
+        return none_chosen(work.arena, work.nil, choice, at);
     }
     let inner = interp(rules, work, choice.parts, at, fuel);
     let around = Around::Chosen(choice.seconds, choice.is_first);

@@ -1,13 +1,15 @@
 use Rattle.std.proofs.Common.{◌≡◌, ◌-◌, [], suc, refl, sym, ap, ◌∙◌, arith, length}
 use Rattle.std.proofs.lemmas.List.{append-nil}
-use Rattle.std.proofs.lemmas.Result.{err_from_is_err_and}
-use Rattle.syn_grammar.specs.Run.{climb, run, Got}
+use Rattle.std.proofs.lemmas.Result.{IfOk-at_ok, err_from_is_err_and}
+use Rattle.syn_grammar.specs.Run.{climb, run, wrap, Got}
 use Rattle.syn_grammar.specs.Run.{interp as says}
 use Rattle.syn_grammar.specs.Tree.{Alone, Front, Back, Infix}
 use Rattle.gram_table.specs.Kinds.{kind_of, position_of}
 use Rattle.gram_table.specs.Looks.{test_of}
 use Rattle.gram_table.specs.Ops.{gram_of, separator_of}
 use Rattle.gram_run.specs.Answers.{tokens}
+use Rattle.gram_run.specs.Around.{around_of}
+use Rattle.gram_run.specs.declared.around.Around.TheVariants as arounds
 use Rattle.gram_run.specs.Operands.{extended, own_of}
 use Rattle.gram_run.specs.Pending.{says_at}
 use Rattle.gram_run.proofs.Turns.{turn_more, turn_none, turn_fails}
@@ -15,232 +17,193 @@ use Rattle.gram_run.proofs.Elements.{element_more, element_none, element_last, e
 use Rattle.gram_run.proofs.Operands.{climb_ends, climb_chains, climb_goes, climb_fails, operand_goes}
 use Rattle.gram_run.proofs.Operands.{none_stands, operand_fails}
 use Rattle.gram_run.proofs.Outs.{fails_as, fails_on, got_on, syntax_fails}
-use Rattle.gram_run.proofs.Pendings.{at_step, ends, fails, goes, leads_fails, leads_on, makes_left, no_step, old_kept, refused}
+use Rattle.gram_run.proofs.Pendings.{as_light, at_step, ends, goes, leads_fails, leads_on, lighter, makes_left, no_step, old_kept, refused}
 use Rattle.gram_run.proofs.run.+run.Goals as goal
 
 pub forward-returns-in-Word-clause-answer : goal.forward-returns-in-Word-clause-answer
 forward-returns-in-Word-clause-answer g t c =
-    let i = c.steps.invariant.read in
-    let s = at_step c.steps.spot.fuel _ c.in-Some.parts.now _ _ (tokens c.steps.spot.entries.now)
+    let i = rw c.in_ok-spot.was at c.steps.invariant.read in
+    let s = at_step c.in_ok-spot.spot.fuel _ c.in-Some.parts.now _ _ (tokens c.in_ok-spot.spot.entries.now)
     c.in-Some.ensures.cases.0 c.in-Word.is in
     ends _ _ i.0 _ _ i.1 i.2 (λ x. x.0) (λ x. x.1.now) _ _ _ s refl c.word.ensures.answer
 
 pub forward-returns-in-Literal-clause-answer : goal.forward-returns-in-Literal-clause-answer
 forward-returns-in-Literal-clause-answer g t c =
-    let i = c.steps.invariant.read in
-    let s = at_step c.steps.spot.fuel _ c.in-Some.parts.now _ _ (tokens c.steps.spot.entries.now)
+    let i = rw c.in_ok-spot.was at c.steps.invariant.read in
+    let s = at_step c.in_ok-spot.spot.fuel _ c.in-Some.parts.now _ _ (tokens c.in_ok-spot.spot.entries.now)
     c.in-Some.ensures.cases.0 c.in-Literal.is in
     ends _ _ i.0 _ _ i.1 i.2 (λ x. x.0) (λ x. x.1.now) _ _ _ s refl c.literal.ensures.answer
 
 pub forward-returns-in-Mark-clause-answer : goal.forward-returns-in-Mark-clause-answer
 forward-returns-in-Mark-clause-answer g t c =
-    let i = c.steps.invariant.read in
-    let s = at_step c.steps.spot.fuel _ c.in-Some.parts.now _ _ (tokens c.steps.spot.entries.now)
+    let i = rw c.in_ok-spot.was at c.steps.invariant.read in
+    let s = at_step c.in_ok-spot.spot.fuel _ c.in-Some.parts.now _ _ (tokens c.in_ok-spot.spot.entries.now)
     c.in-Some.ensures.cases.0 c.in-Mark.is in
-    ends _ _ i.0 _ _ i.1 i.2 (λ x. x.0) (λ x. x.1.now) _ _ _ s refl (c.mark.ensures.answer (run c.steps.spot.fuel))
+    ends _ _ i.0 _ _ i.1 i.2 (λ x. x.0) (λ x. x.1.now) _ _ _ s refl (c.mark.ensures.answer (run c.in_ok-spot.spot.fuel))
 
 pub forward-returns-in-Lifetime-clause-answer : goal.forward-returns-in-Lifetime-clause-answer
 forward-returns-in-Lifetime-clause-answer g t c =
-    let i = c.steps.invariant.read in
-    let s = at_step c.steps.spot.fuel _ c.in-Some.parts.now _ _ (tokens c.steps.spot.entries.now)
+    let i = rw c.in_ok-spot.was at c.steps.invariant.read in
+    let s = at_step c.in_ok-spot.spot.fuel _ c.in-Some.parts.now _ _ (tokens c.in_ok-spot.spot.entries.now)
     c.in-Some.ensures.cases.0 c.in-Lifetime.is in
     ends _ _ i.0 _ _ i.1 i.2 (λ x. x.0) (λ x. x.1.now) _ _ _ s refl c.lifetime.ensures.answer
 
 pub forward-returns-in-Raw-clause-answer : goal.forward-returns-in-Raw-clause-answer
 forward-returns-in-Raw-clause-answer g t c =
-    let i = c.steps.invariant.read in
-    let s = at_step c.steps.spot.fuel _ c.in-Some.parts.now _ _ (tokens c.steps.spot.entries.now)
+    let i = rw c.in_ok-spot.was at c.steps.invariant.read in
+    let s = at_step c.in_ok-spot.spot.fuel _ c.in-Some.parts.now _ _ (tokens c.in_ok-spot.spot.entries.now)
     c.in-Some.ensures.cases.0 c.in-Raw.is in
     ends _ _ i.0 _ _ i.1 i.2 (λ x. x.0) (λ x. x.1.now) _ _ _ s refl c.raw.ensures.answer
 
 pub forward-returns-in-Never-clause-answer : goal.forward-returns-in-Never-clause-answer
 forward-returns-in-Never-clause-answer g t c =
-    let i = c.steps.invariant.read in
-    let s = at_step c.steps.spot.fuel _ c.in-Some.parts.now _ _ (tokens c.steps.spot.entries.now)
+    let i = rw c.in_ok-spot.was at c.steps.invariant.read in
+    let s = at_step c.in_ok-spot.spot.fuel _ c.in-Some.parts.now _ _ (tokens c.in_ok-spot.spot.entries.now)
     c.in-Some.ensures.cases.0 c.in-Never.is in
     refused _ _ i.0 _ _ i.1 i.2 _ _ s refl c.refuse-in-Never.ensures.syntax
 
 pub forward-returns-in-Star-clause-answer : goal.forward-returns-in-Star-clause-answer
 forward-returns-in-Star-clause-answer g t c =
-    let i = c.steps.invariant.read in
-    let s = at_step c.steps.spot.fuel _ c.in-Some.parts.now _ _ (tokens c.steps.spot.entries.now)
+    let i = rw c.in_ok-spot.was at c.steps.invariant.read in
+    let s = at_step c.in_ok-spot.spot.fuel _ c.in-Some.parts.now _ _ (tokens c.in_ok-spot.spot.entries.now)
     c.in-Some.ensures.cases.0 c.in-Star.is in
     ends _ _ i.0 _ _ i.1 i.2 (λ x. x.0) (λ x. x.1.now) _ _ _ s c.star.ensures.kept c.star.ensures.answer
 
 pub forward-returns-in-Many-clause-answer : goal.forward-returns-in-Many-clause-answer
 forward-returns-in-Many-clause-answer g t c =
-    let i = c.steps.invariant.read in
-    let s = at_step c.steps.spot.fuel _ c.in-Some.parts.now _ _ (tokens c.steps.spot.entries.now)
+    let i = rw c.in_ok-spot.was at c.steps.invariant.read in
+    let s = at_step c.in_ok-spot.spot.fuel _ c.in-Some.parts.now _ _ (tokens c.in_ok-spot.spot.entries.now)
     c.in-Some.ensures.cases.0 c.in-Many.is in
     ends _ _ i.0 _ _ i.1 i.2 (λ x. x.0) (λ x. x.1.now) _ _ _ s c.many.ensures.kept c.many.ensures.answer
 
 pub forward-returns-in-Operand-clause-answer : goal.forward-returns-in-Operand-clause-answer
 forward-returns-in-Operand-clause-answer g t c =
-    let i = c.steps.invariant.read in
-    let s = at_step c.steps.spot.fuel _ c.in-Some.parts.now _ _ (tokens c.steps.spot.entries.now)
+    let i = rw c.in_ok-spot.was at c.steps.invariant.read in
+    let s = at_step c.in_ok-spot.spot.fuel _ c.in-Some.parts.now _ _ (tokens c.in_ok-spot.spot.entries.now)
     c.in-Some.ensures.cases.0 c.in-Operand.is in
     ends _ _ i.0 _ _ i.1 i.2 (λ x. x.0) (λ x. x.1.now) _ _ _ s c.operand.ensures.kept c.operand.ensures.answer
 
 pub forward-returns-in_default-clause-answer : goal.forward-returns-in_default-clause-answer
 forward-returns-in_default-clause-answer g t c =
-    let i = c.steps.invariant.read in
-    let s = no_step c.steps.spot.fuel c.steps.spot.steps.now (tokens c.steps.spot.entries.now) c.in_default.ensures.cases in
+    let i = rw c.in_ok-spot.was at c.steps.invariant.read in
+    let s = no_step c.in_ok-spot.spot.fuel c.in_ok-spot.spot.steps.now (tokens c.in_ok-spot.spot.entries.now) c.in_default.ensures.cases in
     refused _ _ i.0 _ _ i.1 i.2 _ _ s refl c.refuse.ensures.syntax
 
-pub forward-returns-in_err-spot-in-Seq-clause-answer : goal.forward-returns-in_err-spot-in-Seq-clause-answer
-forward-returns-in_err-spot-in-Seq-clause-answer g t c =
-    let i = c.steps.invariant.read in
-    let s = at_step c.steps.spot.fuel _ c.in-Some.parts.now _ _ (tokens c.steps.spot.entries.now)
-    c.in-Some.ensures.cases.0 c.in-Seq.is in
+pub forward-returns-in_err-spot-clause-answer : goal.forward-returns-in_err-spot-clause-answer
+forward-returns-in_err-spot-clause-answer g t c =
     let p = err_from_is_err_and c.from_residual.result c.from_residual.ensures.1 in
-    rw (p.1, p.2) (fails _ _ i.0 _ _ i.1 i.2 _ _ _ s c.in_err-spot-in-Seq.ensures.answer)
+    let i = rw c.in_err-spot.was at c.steps.invariant.read in
+    rw (p.1, p.2) (i.0, i.1, i.2)
 
 pub forward-steps-preserved-in-Seq : goal.forward-steps-preserved-in-Seq
 forward-steps-preserved-in-Seq g t c =
-    let i = c.steps.invariant.read in
-    let s = at_step c.steps.spot.fuel _ c.in-Some.parts.now _ _ (tokens c.steps.spot.entries.now)
+    let i = rw c.in_ok-spot.was at c.steps.invariant.read in
+    let s = at_step c.in_ok-spot.spot.fuel _ c.in-Some.parts.now _ _ (tokens c.in_ok-spot.spot.entries.now)
     c.in-Some.ensures.cases.0 c.in-Seq.is in
-    let o = c.in_ok-spot-in-Seq in
+    let le = IfOk-at_ok _ c.in_ok-spot.was c.steps.invariant.least in
+    let o = c.seq-step.ensures in
     record {
-      read = goes _ _ i.0 _ _ i.1 i.2 _ o.spot _ s o.ensures.answer;
-      whole = o.ensures.whole;
-      least = omega (arith, c.steps.invariant.least, o.ensures.lighter, ap length c.in-Some.ensures.cases.0);
+      read = goes _ _ i.0 _ _ i.1 i.2 _ _ _ s o.answer;
+      whole = o.whole;
+      least = lighter _ _ _ o.lighter (omega (arith, le, ap length c.in-Some.ensures.cases.0));
+    }
+
+pub forward-steps-preserved-in-Group : goal.forward-steps-preserved-in-Group
+forward-steps-preserved-in-Group g t c =
+    let i = rw c.in_ok-spot.was at c.steps.invariant.read in
+    let s = at_step c.in_ok-spot.spot.fuel _ c.in-Some.parts.now _ _ (tokens c.in_ok-spot.spot.entries.now)
+    c.in-Some.ensures.cases.0 c.in-Group.is in
+    let le = IfOk-at_ok _ c.in_ok-spot.was c.steps.invariant.least in
+    let o = c.group-step.ensures in
+    record {
+      read = goes _ _ i.0 _ _ i.1 i.2 _ _ _ s o.answer;
+      whole = o.whole;
+      least = lighter _ _ _ o.lighter (omega (arith, le, ap length c.in-Some.ensures.cases.0));
+    }
+
+pub forward-steps-preserved-in-Judged : goal.forward-steps-preserved-in-Judged
+forward-steps-preserved-in-Judged g t c =
+    let i = rw c.in_ok-spot.was at c.steps.invariant.read in
+    let s = at_step c.in_ok-spot.spot.fuel _ c.in-Some.parts.now _ _ (tokens c.in_ok-spot.spot.entries.now)
+    c.in-Some.ensures.cases.0 c.in-Judged.is in
+    let le = IfOk-at_ok _ c.in_ok-spot.was c.steps.invariant.least in
+    let o = c.weighed-step.ensures in
+    record {
+      read = goes _ _ i.0 _ _ i.1 i.2 _ _ _ s o.answer;
+      whole = o.whole;
+      least = as_light _ _ _ o.lighter (omega (arith, le, ap length c.in-Some.ensures.cases.0));
+    }
+
+pub forward-steps-preserved-in-Dropped : goal.forward-steps-preserved-in-Dropped
+forward-steps-preserved-in-Dropped g t c =
+    let i = rw c.in_ok-spot.was at c.steps.invariant.read in
+    let s = at_step c.in_ok-spot.spot.fuel _ c.in-Some.parts.now _ _ (tokens c.in_ok-spot.spot.entries.now)
+    c.in-Some.ensures.cases.0 c.in-Dropped.is in
+    let le = IfOk-at_ok _ c.in_ok-spot.was c.steps.invariant.least in
+    let o = c.within-step-in-Dropped.ensures in
+    record {
+      read = goes _ _ i.0 _ _ i.1 i.2 _ _ _ s o.answer;
+      whole = o.whole;
+      least = as_light _ _ _ o.lighter (omega (arith, le, ap length c.in-Some.ensures.cases.0));
+    }
+
+pub forward-steps-preserved-in-Called : goal.forward-steps-preserved-in-Called
+forward-steps-preserved-in-Called g t c =
+    let i = rw c.in_ok-spot.was at c.steps.invariant.read in
+    let s = at_step c.in_ok-spot.spot.fuel _ c.in-Some.parts.now _ _ (tokens c.in_ok-spot.spot.entries.now)
+    c.in-Some.ensures.cases.0 c.in-Called.is in
+    let le = IfOk-at_ok _ c.in_ok-spot.was c.steps.invariant.least in
+    let o = c.within-step-in-Called.ensures in
+    record {
+      read = goes _ _ i.0 _ _ i.1 i.2 _ _ _ s o.answer;
+      whole = o.whole;
+      least = as_light _ _ _ o.lighter (omega (arith, le, ap length c.in-Some.ensures.cases.0));
     }
 
 pub forward-returns-in_default-chosen-clause-answer : goal.forward-returns-in_default-chosen-clause-answer
 forward-returns-in_default-chosen-clause-answer g t c =
-    let i = c.steps.invariant.read in
-    let s = at_step c.steps.spot.fuel _ c.in-Some.parts.now _ _ (tokens c.steps.spot.entries.now)
+    let i = rw c.in_ok-spot.was at c.steps.invariant.read in
+    let s = at_step c.in_ok-spot.spot.fuel _ c.in-Some.parts.now _ _ (tokens c.in_ok-spot.spot.entries.now)
     c.in-Some.ensures.cases.0 c.in-Alt.is in
-    refused _ _ i.0 _ _ i.1 i.2 _ _ (s ∙ c.in_default-chosen.ensures.says (run c.steps.spot.fuel)) refl
+    refused _ _ i.0 _ _ i.1 i.2 _ _ (s ∙ c.in_default-chosen.ensures.says (run c.in_ok-spot.spot.fuel)) refl
     c.refuse-in_default-chosen.ensures.syntax
 
-pub forward-returns-in_err-spot-in-Alt-clause-answer : goal.forward-returns-in_err-spot-in-Alt-clause-answer
-forward-returns-in_err-spot-in-Alt-clause-answer g t c =
-    let i = c.steps.invariant.read in
-    let s = at_step c.steps.spot.fuel _ c.in-Some.parts.now _ _ (tokens c.steps.spot.entries.now)
+pub forward-returns-then-is_nothing-clause-answer : goal.forward-returns-then-is_nothing-clause-answer
+forward-returns-then-is_nothing-clause-answer g t c =
+    let i = rw c.in_ok-spot.was at c.steps.invariant.read in
+    let s = at_step c.in_ok-spot.spot.fuel _ c.in-Some.parts.now _ _ (tokens c.in_ok-spot.spot.entries.now)
     c.in-Some.ensures.cases.0 c.in-Alt.is in
-    let p = err_from_is_err_and c.from_residual-in_err-spot-in-Alt.result c.from_residual-in_err-spot-in-Alt.ensures.1 in
-    rw (p.1, p.2) (fails _ _ i.0 _ _ i.1 i.2 _ _ _ (s ∙ c.in-Some-chosen.ensures.says (run c.steps.spot.fuel))
-    c.in_err-spot-in-Alt.ensures.answer)
+    let x = c.in-Some-chosen in
+    let a = around_of (arounds.Chosen x.choice.seconds x.choice.is_first) in
+    ends _ _ i.0 _ _ i.1 i.2 (λ x. x.0) (λ x. x.1.now) _ _ _
+    (s ∙ x.ensures.says (run c.in_ok-spot.spot.fuel)
+    ∙ ap (λ g. wrap a (says (run c.in_ok-spot.spot.fuel) g (tokens c.in_ok-spot.spot.entries.now)))
+    (c.is_nothing.ensures c.if-is_nothing.true)) refl c.none_chosen.ensures.answer
 
 pub forward-steps-preserved-in-Alt : goal.forward-steps-preserved-in-Alt
 forward-steps-preserved-in-Alt g t c =
-    let i = c.steps.invariant.read in
-    let s = at_step c.steps.spot.fuel _ c.in-Some.parts.now _ _ (tokens c.steps.spot.entries.now)
+    let i = rw c.in_ok-spot.was at c.steps.invariant.read in
+    let s = at_step c.in_ok-spot.spot.fuel _ c.in-Some.parts.now _ _ (tokens c.in_ok-spot.spot.entries.now)
     c.in-Some.ensures.cases.0 c.in-Alt.is in
-    let o = c.in_ok-spot-in-Alt in
+    let le = IfOk-at_ok _ c.in_ok-spot.was c.steps.invariant.least in
+    let o = c.within-step.ensures in
     record {
-      read = goes _ _ i.0 _ _ i.1 i.2 _ o.spot _ (s ∙ c.in-Some-chosen.ensures.says (run c.steps.spot.fuel))
-          o.ensures.answer;
-      whole = o.ensures.whole;
-      least = omega (
-        arith,
-        c.steps.invariant.least,
-        o.ensures.lighter,
-        c.in-Some-chosen.ensures.shorter,
-        ap length c.in-Some.ensures.cases.0,
-      );
+      read = goes _ _ i.0 _ _ i.1 i.2 _ _ _ (s ∙ c.in-Some-chosen.ensures.says (run c.in_ok-spot.spot.fuel)) o.answer;
+      whole = o.whole;
+      least = as_light _ _ _ o.lighter (omega (arith, le, c.in-Some-chosen.ensures.shorter, ap length c.in-Some.ensures.cases.0));
     }
-
-pub forward-returns-in_err-spot-in-Group-clause-answer : goal.forward-returns-in_err-spot-in-Group-clause-answer
-forward-returns-in_err-spot-in-Group-clause-answer g t c =
-    let i = c.steps.invariant.read in
-    let s = at_step c.steps.spot.fuel _ c.in-Some.parts.now _ _ (tokens c.steps.spot.entries.now)
-    c.in-Some.ensures.cases.0 c.in-Group.is in
-    let p = err_from_is_err_and c.from_residual-in_err-spot-in-Group.result c.from_residual-in_err-spot-in-Group.ensures.1 in
-    rw (p.1, p.2) (fails _ _ i.0 _ _ i.1 i.2 _ _ _ s c.in_err-spot-in-Group.ensures.answer)
-
-pub forward-steps-preserved-in-Group : goal.forward-steps-preserved-in-Group
-forward-steps-preserved-in-Group g t c =
-    let i = c.steps.invariant.read in
-    let s = at_step c.steps.spot.fuel _ c.in-Some.parts.now _ _ (tokens c.steps.spot.entries.now)
-    c.in-Some.ensures.cases.0 c.in-Group.is in
-    let o = c.in_ok-spot-in-Group in
-    record {
-      read = goes _ _ i.0 _ _ i.1 i.2 _ o.spot _ s o.ensures.answer;
-      whole = o.ensures.whole;
-      least = omega (arith, c.steps.invariant.least, o.ensures.lighter, ap length c.in-Some.ensures.cases.0);
-    }
-
-pub forward-returns-in_err-spot-in-Judged-clause-answer : goal.forward-returns-in_err-spot-in-Judged-clause-answer
-forward-returns-in_err-spot-in-Judged-clause-answer g t c =
-    let i = c.steps.invariant.read in
-    let s = at_step c.steps.spot.fuel _ c.in-Some.parts.now _ _ (tokens c.steps.spot.entries.now)
-    c.in-Some.ensures.cases.0 c.in-Judged.is in
-    let p = err_from_is_err_and c.from_residual-in_err-spot-in-Judged.result c.from_residual-in_err-spot-in-Judged.ensures.1 in
-    rw (p.1, p.2) (fails _ _ i.0 _ _ i.1 i.2 _ _ _ s c.in_err-spot-in-Judged.ensures.answer)
-
-pub forward-steps-preserved-in-Judged : goal.forward-steps-preserved-in-Judged
-forward-steps-preserved-in-Judged g t c =
-    let i = c.steps.invariant.read in
-    let s = at_step c.steps.spot.fuel _ c.in-Some.parts.now _ _ (tokens c.steps.spot.entries.now)
-    c.in-Some.ensures.cases.0 c.in-Judged.is in
-    let o = c.in_ok-spot-in-Judged in
-    record {
-      read = goes _ _ i.0 _ _ i.1 i.2 _ o.spot _ s o.ensures.answer;
-      whole = o.ensures.whole;
-      least = omega (arith, c.steps.invariant.least, o.ensures.lighter, ap length c.in-Some.ensures.cases.0);
-    }
-
-pub forward-returns-in_err-spot-in-Dropped-clause-answer : goal.forward-returns-in_err-spot-in-Dropped-clause-answer
-forward-returns-in_err-spot-in-Dropped-clause-answer g t c =
-    let i = c.steps.invariant.read in
-    let s = at_step c.steps.spot.fuel _ c.in-Some.parts.now _ _ (tokens c.steps.spot.entries.now)
-    c.in-Some.ensures.cases.0 c.in-Dropped.is in
-    let p = err_from_is_err_and c.from_residual-in_err-spot-in-Dropped.result c.from_residual-in_err-spot-in-Dropped.ensures.1 in
-    rw (p.1, p.2) (fails _ _ i.0 _ _ i.1 i.2 _ _ _ s c.in_err-spot-in-Dropped.ensures.answer)
-
-pub forward-steps-preserved-in-Dropped : goal.forward-steps-preserved-in-Dropped
-forward-steps-preserved-in-Dropped g t c =
-    let i = c.steps.invariant.read in
-    let s = at_step c.steps.spot.fuel _ c.in-Some.parts.now _ _ (tokens c.steps.spot.entries.now)
-    c.in-Some.ensures.cases.0 c.in-Dropped.is in
-    let o = c.in_ok-spot-in-Dropped in
-    record {
-      read = goes _ _ i.0 _ _ i.1 i.2 _ o.spot _ s o.ensures.answer;
-      whole = o.ensures.whole;
-      least = omega (arith, c.steps.invariant.least, o.ensures.lighter, ap length c.in-Some.ensures.cases.0);
-    }
-
-pub forward-returns-in_err-spot-in-Called-clause-answer : goal.forward-returns-in_err-spot-in-Called-clause-answer
-forward-returns-in_err-spot-in-Called-clause-answer g t c =
-    let i = c.steps.invariant.read in
-    let s = at_step c.steps.spot.fuel _ c.in-Some.parts.now _ _ (tokens c.steps.spot.entries.now)
-    c.in-Some.ensures.cases.0 c.in-Called.is in
-    let p = err_from_is_err_and c.from_residual-in_err-spot-in-Called.result c.from_residual-in_err-spot-in-Called.ensures.1 in
-    rw (p.1, p.2) (fails _ _ i.0 _ _ i.1 i.2 _ _ _ s c.in_err-spot-in-Called.ensures.answer)
-
-pub forward-steps-preserved-in-Called : goal.forward-steps-preserved-in-Called
-forward-steps-preserved-in-Called g t c =
-    let i = c.steps.invariant.read in
-    let s = at_step c.steps.spot.fuel _ c.in-Some.parts.now _ _ (tokens c.steps.spot.entries.now)
-    c.in-Some.ensures.cases.0 c.in-Called.is in
-    let o = c.in_ok-spot-in-Called in
-    record {
-      read = goes _ _ i.0 _ _ i.1 i.2 _ o.spot _ s o.ensures.answer;
-      whole = o.ensures.whole;
-      least = omega (arith, c.steps.invariant.least, o.ensures.lighter, ap length c.in-Some.ensures.cases.0);
-    }
-
-pub forward-returns-in_err-spot-in-Ref-clause-answer : goal.forward-returns-in_err-spot-in-Ref-clause-answer
-forward-returns-in_err-spot-in-Ref-clause-answer g t c =
-    let i = c.steps.invariant.read in
-    let s = at_step c.steps.spot.fuel _ c.in-Some.parts.now _ _ (tokens c.steps.spot.entries.now)
-    c.in-Some.ensures.cases.0 c.in-Ref.is in
-    let p = err_from_is_err_and c.from_residual-in_err-spot-in-Ref.result c.from_residual-in_err-spot-in-Ref.ensures.1 in
-    rw (p.1, p.2) (fails _ _ i.0 _ _ i.1 i.2 _ _ _ s c.in_err-spot-in-Ref.ensures.answer)
 
 pub forward-steps-preserved : goal.forward-steps-preserved
 forward-steps-preserved g t c =
-    let i = c.steps.invariant.read in
-    let s = at_step c.steps.spot.fuel _ c.in-Some.parts.now _ _ (tokens c.steps.spot.entries.now)
+    let i = rw c.in_ok-spot.was at c.steps.invariant.read in
+    let s = at_step c.in_ok-spot.spot.fuel _ c.in-Some.parts.now _ _ (tokens c.in_ok-spot.spot.entries.now)
     c.in-Some.ensures.cases.0 c.in-Ref.is in
-    let o = c.in_ok-spot-in-Ref in
+    let le = IfOk-at_ok _ c.in_ok-spot.was c.steps.invariant.least in
+    let o = c.node-step.ensures in
     record {
-      read = goes _ _ i.0 _ _ i.1 i.2 _ o.spot _ s o.ensures.answer;
-      whole = o.ensures.whole;
-      least = omega (arith, c.steps.invariant.least, o.ensures.lighter, ap length c.in-Some.ensures.cases.0);
+      read = goes _ _ i.0 _ _ i.1 i.2 _ _ _ s o.answer;
+      whole = o.whole;
+      least = lighter _ _ _ o.lighter (omega (arith, le));
     }
 
 pub interp-returns-clause-kept : goal.interp-returns-clause-kept

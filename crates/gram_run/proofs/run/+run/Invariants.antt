@@ -1,15 +1,15 @@
 -- Each call has less fuel, or as much and fewer steps.
-use Rattle.std.proofs.Common.{◌≡◌, ◌+◌, ◌*◌, ◌≤◌, ◌^◌, List, ◌++◌, length, true}
+use Rattle.std.proofs.Common.{◌≡◌, ◌+◌, ◌*◌, ◌≤◌, ◌^◌, IfOk, length, true}
 use Rattle.syn_grammar.specs.Run.{run, climb, loop, list}
 use Rattle.syn_buffer.specs.Entries.{is_whole}
 use Rattle.gram_table.specs.Kinds.{position_of}
 use Rattle.gram_table.specs.Looks.{test_of}
 use Rattle.gram_table.specs.Ops.{gram_of, separator_of}
 use Rattle.gram_run.specs.Answers.{tokens}
-use Rattle.gram_run.specs.Pending.{made_by_all, says_at, weight}
-use Rattle.gram_run.specs.declared.pending.Pending.{Pending}
+use Rattle.gram_run.specs.Pending.{Leads, says_at, weight}
 use Rattle.gram_run.proofs.Turns.{behind_turns}
 use Rattle.gram_run.proofs.Elements.{behind_elements}
+use Rattle.gram_run.proofs.Pendings.{left_of}
 use Rattle.gram_run.proofs.run.+run.Given as goal
 
 abbrev pub decreases-interp : goal.decreases-interp
@@ -47,14 +47,13 @@ decreases-climb g l = weight l.fuel 0
 
 abbrev pub invariant-forward-steps : goal.invariant-forward-steps
 invariant-forward-steps g l = record {
-  read : (ws : List Pending) × (l.work.pending.items ≡ l.fn.work.pending.items ++ ws)
-      × (made_by_all ws (says_at l.spot) ≡ says_at l.begin);
-  whole : is_whole l.spot.entries.now ≡ true;
-  least : weight l.spot.fuel (length l.spot.steps.now) ≤ weight l.begin.fuel (length l.begin.steps.now);
+  read : Leads says_at l.fn.work.pending.items l.work.pending.items l.step (says_at l.begin);
+  whole : IfOk l.step (λ s. is_whole s.entries.now ≡ true);
+  least : IfOk l.step (λ s. weight s.fuel (length s.steps.now) ≤ weight l.begin.fuel (length l.begin.steps.now));
 }
 
 abbrev pub decreases-forward-steps : goal.decreases-forward-steps
-decreases-forward-steps g l = weight l.spot.fuel (length l.spot.steps.now)
+decreases-forward-steps g l = left_of l.step
 
 abbrev pub invariant-star-turns : goal.invariant-star-turns
 invariant-star-turns g l = record {
