@@ -1,29 +1,16 @@
 -- The tokens of a tree, by its form.
-use Rattle.std.specs.Prelude.{ℕ, zero, suc, Some, None}
+use Rattle.std.specs.Prelude.{Some, None}
 use Rattle.std.proofs.Common.{◌≡◌, List, [], ◌∷◌, ◌++◌, refl, sym, ap, ◌∙◌, append_assoc}
 use Rattle.std.proofs.lemmas.List.{append-nil}
-use Rattle.proc_macro2.specs.Token.{Token, Punct}
+use Rattle.proc_macro2.specs.Token.{Token}
 use Rattle.syn_grammar.specs.Kind.{Kind}
 use Rattle.syn_grammar.specs.Tree as t
 use Rattle.syn_grammar.specs.Tree.{Tree, flat}
-use Rattle.gram_tree.specs.declared.tree.Element.{Element}
-use Rattle.gram_tree.specs.Forms.{seconds, elements}
+use Rattle.gram_tree.proofs.Flat.{flat_seconds, flat_elements}
 use Rattle.gram_write.specs.Chains.{behind_lefts_read, behind_read, left_of}
 use Rattle.gram_write.specs.Operands.{back_of, infix_of}
 use Rattle.gram_write.proofs.Operands.{back_is, infix_is}
 use Rattle.gram_write.proofs.SeenForms.{same_pair, some_none}
-
-pub flat_seconds : (n : ℕ) (x : Tree) → flat (seconds n x) ≡ flat x
-flat_seconds zero x = refl
-flat_seconds (suc n) x = flat_seconds n x
-
--- the elements that a mark follows, and the last one
-pub flat_elements : (c : ℕ) (es : List Element) (y : Tree)
-    → flat (elements c es y) ≡ flat (elements c es t.End) ++ flat y
-flat_elements c [] y = refl
-flat_elements c (e ∷ es) y =
-    ap (λ ts. flat e.tree ++ Punct c e.spacing ∷ ts) (flat_elements c es y)
-    ∙ sym (append_assoc (flat e.tree) (Punct c e.spacing ∷ flat (elements c es t.End)) (flat y))
 
 pub ruleset forms = (flat_seconds, flat_elements, append_assoc, append-nil)
 

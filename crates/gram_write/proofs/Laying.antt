@@ -164,6 +164,12 @@ module _ (l : List Element → List Token) (es : List Element) (i : ℕ) (x : El
       (append_assoc (laid x.tree) (m ∷ []) (l (drop (i + 1) es)) ∙ sym (next_is h e ∙ o))
       ∙ w
 
+pub elements_next : (c : ℕ) (es : List Element) (i : ℕ) (x : Element) (ts us vs ws : List Token) → i < length es
+    → x ≡ get_or es i x → ts ++ laid (elements c (drop i es) t.End) ≡ us → vs ≡ ts ++ laid x.tree
+    → ws ≡ vs ++ Punct c Apart ∷ [] → ws ++ laid (elements c (drop (i + 1) es) t.End) ≡ us
+elements_next c es i x ts us vs ws h e w f g =
+    put_next (λ ds. laid (elements c ds t.End)) es i x (Punct c Apart) ts us vs ws h e refl w f g
+
 -- of a list whose elements come first that pass
 module _ (q : Tree → Bool) where
   abbrev pub lacks : List Element → Bool

@@ -10,6 +10,7 @@ pub mod Apart
 pub mod Read
 pub mod Pushing
 pub mod Fronts
+pub mod Putting
 pub mod Flat
 pub mod Inside
 pub mod LaidTrees

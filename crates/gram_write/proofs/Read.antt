@@ -186,18 +186,9 @@ mutual
   fit (Group o x) (group c g) p b r d f e = fit x g p false [] d.1 f (λ j. no_flag j)
   fit (Called m x) (called c g) p b r d f e =
       fit x g (place_of m) b r d.1 (subst (λ i. fits (place_of i) b g ≡ true) (sym d.0) f) e
-  fit (Node (Expression q) (Whole z)) (ref l) p b r d f e =
-      let c : fits p b (ref (Expression q)) ≡ true = subst (λ i. fits p b (ref i) ≡ true) (sym d.0) f in
-      let w = and_true (is_position q p) (b || not (is_condition q)) c in
-      (position_is q p w.0, (whole_formed q z r d.1 (condition_flag q b r w.1 e), fit_form z q r d.1.1))
-  fit (Node (Expression q) _) (ref l) p b r d f e = absurd d.1
-  fit (Node AStatement x) (ref l) p b r d f e = (
-    fit x (table AStatement) Plain false r d.1 (all_fit AStatement refl) (λ j. no_flag j),
-    statement_formed x r d.1,
-  )
-  fit (Node Where (Second x)) (ref l) p b r d f e = is_nil x r d.1.1
   fit (Node k x) (ref l) p b r d f e =
-      fit x (table k) Plain false r d.1 (all_fit k refl) (λ j. no_flag j)
+      fit_node k x p b r d.1 (subst (λ i. fits p b (ref i) ≡ true) (sym d.0) f) e
+      (λ o. fit x (table k) Plain false r d.1 (all_fit k o) (λ j. no_flag j))
   fit (AWord cs) g p b r d f e = tt
   fit (ALiteral cs) g p b r d f e = tt
   fit (AMark c cs spacing) g p b r d f e = tt
@@ -209,6 +200,18 @@ mutual
   fit (Verbatim x) g p b r d f e = tt
   fit (Whole x) (operand q m) p b r d f e = no_flag f
   fit _ _ p b r d f e = absurd d
+
+  -- a node, by its kind, of whose inside it is known where no expression is the kind
+  fit_node : (k : Kind) (x : Tree) (p : Position) (b : Bool) (r : List Token) → Derives x (table k) r
+      → fits p b (ref k) ≡ true → (b ≡ true → sees brace r ≡ true) → (is_expression k ≡ false → IsFormed Plain x)
+      → IsFormed p (Node k x)
+  fit_node (Expression q) (Whole z) p b r d f e i =
+      let w = and_true (is_position q p) (b || not (is_condition q)) f in
+      (position_is q p w.0, (whole_formed q z r d (condition_flag q b r w.1 e), fit_form z q r d.1))
+  fit_node (Expression q) _ p b r d f e i = absurd d
+  fit_node AStatement x p b r d f e i = (i refl, statement_formed x r d)
+  fit_node Where (Second x) p b r d f e i = is_nil x r d.1
+  fit_node k x p b r d f e i = i refl
 
   fit_form : (x : Tree) (p : Position) (r : List Token) → Bound p x r → HasFormed x
   fit_form (Alone k y) p r d =
