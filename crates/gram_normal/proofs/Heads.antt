@@ -12,7 +12,7 @@ use Rattle.gram_build.specs.Heads.{head_tokens}
 use Rattle.gram_build.specs.declared.head.Head.{Head}
 use Rattle.gram_build.specs.declared.head.Head.TheVariants as heads
 use Rattle.gram_build.proofs.Heads.{front_head, fronts_enclosed, fronts_join, one_closed}
-use Rattle.gram_write.proofs.Flat.{flat_elements, flat_seconds}
+use Rattle.gram_tree.proofs.Flat.{flat_elements, flat_seconds}
 
 -- behind and before first ones
 front_before : (ts us : List Token) → front3 (ts ++ us) ≡ front3 (front3 ts ++ us)

@@ -15,3 +15,4 @@ pub mod Holding
 pub mod Mixing
 pub mod Emptying
 pub mod Known
+pub mod Stepping

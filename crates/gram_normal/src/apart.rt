@@ -13,6 +13,7 @@ ghost use Rattle.syn_grammar.specs.Tree as t;
 
 use crate::first::first_turns;
 use crate::sight::begins_parenthesis;
+use crate::steps;
 use gram_table::kind::Kind;
 use gram_tree::arena::Arena;
 use gram_tree::made;
@@ -169,10 +170,10 @@ fn turn_of<'a>(
     ensures { IfOk result (λ x. x ≡ t.Second (t.Node AStatement (seconds depth (t.First (t.Node AnItem
         (t.Raw (map entry_token entries.now))))))) }
 {
-    let item = made::node(arena, Kind::AnItem, made::raw(arena, entries)?)?;
-    let choice = made::first_behind(arena, depth, item)?;
-    let statement = made::node(arena, Kind::AStatement, choice)?;
-    made::second(arena, statement)
+    let item = steps::node(arena, Kind::AnItem, made::raw(arena, entries));
+    let choice = steps::first_behind(arena, depth, item);
+    let statement = steps::node(arena, Kind::AStatement, choice);
+    steps::seconds(arena, 1, statement)
 }
 
 // Whether a parenthesis stands in front of turns that stood not there before.

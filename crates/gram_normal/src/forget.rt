@@ -11,6 +11,7 @@ use crate::apart::first_behind;
 use crate::numbers::plain_number;
 use crate::peel::{is_choice, second, unnamed};
 use crate::stated::as_statement;
+use crate::steps;
 use crate::tidy::{Change, changed};
 use crate::verbatim::underscore;
 use gram_table::kind::{Kind, Place, Plus, Position, Style};
@@ -50,10 +51,10 @@ pub(crate) fn held(kind: Kind) -> Kind
 fn wild<'a>(arena: &'a Arena) -> Result<Tree<'a>, AllocError>
     ensures { IfOk result (λ x. x ≡ k.wild) }
 {
-    let word = made::word(underscore(arena)?);
-    let pattern = made::node(arena, Kind::WildPattern, word)?;
-    let chosen = made::first_behind(arena, 1, pattern)?;
-    made::node(arena, Kind::OnePattern, chosen)
+    let name = underscore(arena)?;
+    let pattern = made::node(arena, Kind::WildPattern, made::word(name));
+    let chosen = steps::first_behind(arena, 1, pattern);
+    steps::node(arena, Kind::OnePattern, chosen)
 }
 
 // A pattern and a colon before a type.
@@ -61,11 +62,11 @@ fn typed<'a>(arena: &'a Arena, given: Tree<'a>) -> Result<Tree<'a>, AllocError>
     ensures { IfOk result (λ x. x ≡ t.Pair (t.Called the_pattern k.wild)
         (t.Pair k.lone_colon (t.Second (t.Called the_type given.entry)))) }
 {
-    let behind = made::second(arena, made::called(arena, Part::Type, given)?)?;
+    let pattern = steps::called(arena, Part::Pattern, wild(arena))?;
     let colon = made::mark(Sign::Colon, Spacing::Alone, Span::call_site());
-    let pattern = made::called(arena, Part::Pattern, wild(arena)?)?;
-    let pair = made::pair(arena, colon, behind)?;
-    made::pair(arena, pattern, pair)
+    let behind = steps::seconds(arena, 1, made::called(arena, Part::Type, given));
+    let rest = steps::pair(arena, colon, behind);
+    steps::pair(arena, pattern, rest)
 }
 
 // A parameter that is a type alone gets a pattern and a colon.
@@ -109,12 +110,12 @@ fn listed_bound<'a>(arena: &'a Arena, tree: &Tree<'a>) -> Result<Tree<'a>, Alloc
 fn as_path<'a>(arena: &'a Arena, word: Tree<'a>) -> Result<Tree<'a>, AllocError>
     ensures { IfOk result (λ x. x ≡ k.as_path word.entry) }
 {
-    let bare = made::seconds(arena, 3, made::nil())?;
-    let segment = made::second(arena, made::pair(arena, word, bare)?)?;
-    let segments = made::node(arena, Kind::Segments(Style::AtType), segment)?;
     let root = made::second(arena, made::nil())?;
-    let path = made::pair(arena, root, segments)?;
-    made::node(arena, Kind::Path(Style::AtType), path)
+    let bare = made::seconds(arena, 3, made::nil());
+    let segment = steps::seconds(arena, 1, steps::pair(arena, word, bare));
+    let segments = steps::node(arena, Kind::Segments(Style::AtType), segment);
+    let path = steps::pair(arena, root, segments);
+    steps::node(arena, Kind::Path(Style::AtType), path)
 }
 
 // `unsafe` alone, in an attribute, is a path of one name.
@@ -136,8 +137,8 @@ fn unsafe_path<'a>(arena: &'a Arena, tree: &Tree<'a>) -> Result<Tree<'a>, AllocE
 fn atom<'a>(arena: &'a Arena, kind: Kind, own: Tree<'a>) -> Result<Tree<'a>, AllocError>
     ensures { IfOk result (λ x. x ≡ k.atom (kind_of kind) own.entry) }
 {
-    let whole = made::whole(arena, made::alone(arena, kind, own)?)?;
-    made::node(arena, Kind::Expression(Position::Plain), whole)
+    let form = steps::whole(arena, made::alone(arena, kind, own));
+    steps::node(arena, Kind::Expression(Position::Plain), form)
 }
 
 // An expression that is a block.

@@ -10,6 +10,7 @@ ghost use Rattle.syn_grammar.specs.Tree as t;
 
 use crate::fields::dotted;
 use crate::forget::{forget, held};
+use crate::steps;
 use crate::verbatim::verbatim;
 use gram_table::kind::Kind;
 use gram_tree::arena::Arena;
@@ -89,8 +90,7 @@ fn node<'a>(arena: &'a Arena, kind: Kind, inner: &Tree<'a>) -> Result<Tree<'a>, 
     ensures { IfOk result (λ x. x ≡ k.kept (t.Node (kind_of kind) inner.now)) }
 {
     let inner = kept(arena, inner)?;
-    let left = forget(arena, kind, inner)?;
-    made::node(arena, held(kind), left)
+    steps::node(arena, held(kind), forget(arena, kind, inner))
 }
 
 /// What a syntax tree holds of a tree.
@@ -109,45 +109,27 @@ pub(crate) fn kept<'a>(arena: &'a Arena, tree: &Tree<'a>) -> Result<Tree<'a>, Al
         Form::Mark(sign, _, span) => Ok(made::mark(*sign, Spacing::Alone, *span)),
         Form::Pair(two) => {
             let front = kept(arena, &two.front)?;
-            let back = kept(arena, &two.back)?;
-            made::pair(arena, front, back)
+            steps::pair(arena, front, kept(arena, &two.back))
         }
         Form::First(depth, inner) => {
-            let inner = kept(arena, inner)?;
-            made::first_behind(arena, *depth as usize, inner)
+            steps::first_behind(arena, *depth as usize, kept(arena, inner))
         }
-        Form::Second(depth, inner) => {
-            let inner = kept(arena, inner)?;
-            Ok(Tree {
-                form: Form::Second(*depth, arena.put(inner)?),
-            })
-        }
+        Form::Second(depth, inner) => steps::second_behind(arena, *depth, kept(arena, inner)),
         Form::End => Ok(made::no_turns()),
         Form::Turns(trees) => turns(arena, trees.each),
         Form::Elements(elements) => list(arena, elements),
         Form::Group(delimiter, group) => {
-            let inner = kept(arena, &group.inside)?;
-            made::group(arena, *delimiter, group.span, inner)
+            steps::group(arena, *delimiter, group.span, kept(arena, &group.inside))
         }
         Form::Dropped(_) => Ok(made::nil()),
-        Form::Called(part, inner) => {
-            let inner = kept(arena, inner)?;
-            made::called(arena, *part, inner)
-        }
+        Form::Called(part, inner) => steps::called(arena, *part, kept(arena, inner)),
         Form::Verbatim(inner) => verbatim(arena, inner),
         Form::Node(kind, inner) => node(arena, *kind, inner),
-        Form::Whole(inner) => {
-            let form = kept(arena, inner)?;
-            made::whole(arena, form)
-        }
-        Form::Alone(kind, own) => {
-            let own = kept(arena, own)?;
-            made::alone(arena, *kind, own)
-        }
+        Form::Whole(inner) => steps::whole(arena, kept(arena, inner)),
+        Form::Alone(kind, own) => steps::alone(arena, *kind, kept(arena, own)),
         Form::Front(kind, two) => {
             let own = kept(arena, &two.front)?;
-            let operand = kept(arena, &two.back)?;
-            made::front(arena, *kind, own, operand)
+            steps::front(arena, *kind, own, kept(arena, &two.back))
         }
         Form::Back(kind, two) => {
             let left = kept(arena, &two.front)?;
@@ -157,8 +139,7 @@ pub(crate) fn kept<'a>(arena: &'a Arena, tree: &Tree<'a>) -> Result<Tree<'a>, Al
         Form::Infix(kind, three) => {
             let left = kept(arena, &three.left)?;
             let own = kept(arena, &three.own)?;
-            let right = kept(arena, &three.right)?;
-            made::infix(arena, left, *kind, own, right)
+            steps::infix(arena, left, *kind, own, kept(arena, &three.right))
         }
         _ => Ok(tree.copy()),
     }

@@ -23,7 +23,7 @@
 //! list), `Known` (what is true of every tree), `Apartness` (raw items that are set apart), `Forming` (trees by their
 //! forms), `Peeling` (what is taken out of a tree), `Forgetting` (what a kind holds), `Giving` (attributes in front of
 //! an expression), `Numbering` and `Fielding` (fields by numbers), `Entering` (tokens that are put behind others),
-//! `Holding` (what is held, by its form).
+//! `Holding` (what is held, by its form), `Stepping` (what a step was to make).
 //!
 //! - `normal`: the normal form, and putting its tokens.
 //! - `fault`: why there is none.
@@ -31,6 +31,8 @@
 //! - `first`: the first tokens of a tree.
 //! - `sight`: whether a group in parentheses stands first.
 //! - `stays`: whether an operand stays as it is.
+//! - `steps`: trees made of trees that may not have been made.
+//! - `fault_steps`: the same where there may be none in normal form.
 //! - `paren`: forms of operands in normal form.
 //! - `lifetime`: lists in which lifetimes come first.
 //! - `tidy`: what is made of a kind's parts.
@@ -46,6 +48,7 @@
 
 mod apart;
 pub mod fault;
+mod fault_steps;
 mod fields;
 mod first;
 mod forget;
@@ -59,5 +62,6 @@ mod peel;
 mod sight;
 mod stated;
 mod stays;
+mod steps;
 mod tidy;
 mod verbatim;

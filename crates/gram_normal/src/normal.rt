@@ -21,8 +21,8 @@ use crate::apart::put_parted;
 use crate::fault::Fault;
 use crate::first::first;
 use crate::kept::kept;
-use crate::paren;
 use crate::tidy::{emptied, ordered};
+use crate::{fault_steps, paren, steps};
 use gram_build::head::Head;
 use gram_build::sight::follow;
 use gram_judge::level::inside;
@@ -78,8 +78,15 @@ fn behind_whole<'a>(position: Position) -> Head<'a>
 fn private<'a>(arena: &'a Arena) -> Result<Tree<'a>, AllocError>
     ensures { IfOk result (λ x. x ≡ n.private) }
 {
-    let none = made::second(arena, made::nil())?;
-    made::node(arena, Kind::Visibility, none)
+    steps::node(arena, Kind::Visibility, made::second(arena, made::nil()))
+}
+
+// What was dropped, in normal form.
+fn dropped<'a>(arena: &'a Arena) -> Result<Tree<'a>, Fault>
+    ensures { MatchResult result (λ x. x ≡ t.Dropped n.private) (λ fault. IsFault fault (t.Dropped n.private)) }
+{
+    let none = private(arena)?;
+    Ok(made::dropped(arena, none)?)
 }
 
 // Puts the normal form of each of some trees.
@@ -277,6 +284,16 @@ fn formed<'a>(
     }
 }
 
+// An expression.
+#[cycle(normal)]
+fn whole<'a>(arena: &'a Arena, position: Position, inner: &Tree<'a>) -> Result<Tree<'a>, Fault>
+    ensures { MatchResult result (λ x. x ≡ n.normal_in (position_of position) (t.Whole inner.now))
+        (λ fault. IsFault fault (n.normal_in (position_of position) (t.Whole inner.now))) }
+{
+    let form = formed(arena, position, behind_whole(position), inner)?;
+    Ok(made::whole(arena, form)?)
+}
+
 // A node.
 #[cycle(normal)]
 #[tactic(auto, using(crate::proofs::Emptying::nodes))]
@@ -314,39 +331,28 @@ pub fn normal_in<'a>(
         Form::Mark(sign, _, span) => Ok(made::mark(*sign, Spacing::Alone, *span)),
         Form::Pair(two) => {
             let front = normal_in(arena, position, &two.front)?;
-            let back = normal_in(arena, position, &two.back)?;
-            Ok(made::pair(arena, front, back)?)
+            fault_steps::pair(arena, front, normal_in(arena, position, &two.back))
         }
         Form::First(depth, inner) => {
-            let inner = normal_in(arena, position, inner)?;
-            Ok(made::first_behind(arena, *depth as usize, inner)?)
+            let inner = normal_in(arena, position, inner);
+            fault_steps::first_behind(arena, *depth as usize, inner)
         }
         Form::Second(depth, inner) => {
-            let inner = normal_in(arena, position, inner)?;
-            Ok(Tree {
-                form: Form::Second(*depth, arena.put(inner)?),
-            })
+            fault_steps::second_behind(arena, *depth, normal_in(arena, position, inner))
         }
         Form::End => Ok(made::no_turns()),
         Form::Turns(trees) => turns(arena, position, trees.each),
         Form::Elements(elements) => list(arena, position, elements),
         Form::Group(delimiter, group) => {
-            let inner = normal_in(arena, position, &group.inside)?;
-            Ok(made::group(arena, *delimiter, group.span, inner)?)
+            let inner = normal_in(arena, position, &group.inside);
+            fault_steps::group(arena, *delimiter, group.span, inner)
         }
-        Form::Dropped(_) => {
-            let none = private(arena)?;
-            Ok(made::dropped(arena, none)?)
-        }
+        Form::Dropped(_) => dropped(arena),
         Form::Called(part, inner) => {
-            let inner = normal_in(arena, place_of(*part), inner)?;
-            Ok(made::called(arena, *part, inner)?)
+            fault_steps::called(arena, *part, normal_in(arena, place_of(*part), inner))
         }
         Form::Node(kind, inner) => node(arena, position, *kind, inner),
-        Form::Whole(inner) => {
-            let form = formed(arena, position, behind_whole(position), inner)?;
-            Ok(made::whole(arena, form)?)
-        }
+        Form::Whole(inner) => whole(arena, position, inner),
         _ => Ok(tree.copy()),
     }
 }

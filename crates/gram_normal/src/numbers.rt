@@ -9,6 +9,7 @@ ghost use Rattle.syn_grammar.specs.Name.{the_indices, the_value};
 ghost use Rattle.syn_grammar.specs.Tree as t;
 ghost use Rattle.syn_grammar.specs.Words.{indices, plain_decimal};
 
+use crate::steps;
 use gram_look::text::first_char;
 use gram_table::kind::Kind;
 use gram_table::part::Part;
@@ -48,11 +49,11 @@ fn index_field<'a>(arena: &'a Arena, left: Tree<'a>, value: u32) -> Result<Tree<
         (t.Pair (t.Pair lone_dot (t.Called the_indices t.End)) (t.Second (t.Called the_value (t.ALiteral (decimal value)))))) }
 {
     let dot = made::mark(Sign::Dot, Spacing::Alone, Span::call_site());
-    let none = made::turns(arena, Vec::new(arena.alloc()))?;
-    let front = made::pair(arena, dot, made::called(arena, Part::Indices, none)?)?;
-    let named = made::called(arena, Part::Value, number(arena, value)?)?;
-    let own = made::pair(arena, front, made::second(arena, named)?)?;
-    made::back(arena, left, Kind::ExprField, own)
+    let none = made::called(arena, Part::Indices, made::no_turns());
+    let front = steps::pair(arena, dot, none)?;
+    let named = steps::called(arena, Part::Value, number(arena, value));
+    let own = steps::pair(arena, front, steps::seconds(arena, 1, named));
+    steps::back(arena, left, Kind::ExprField, own)
 }
 
 /// The fields by the indices that a number behind a dot writes, of an operand.

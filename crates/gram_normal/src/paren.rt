@@ -8,6 +8,7 @@ ghost use Rattle.std.specs.Prelude.{◌≡◌, IfOk, List};
 ghost use Rattle.syn_grammar.specs.Parens as p;
 
 use crate::stays::{stays_left, stays_right};
+use crate::steps;
 use gram_build::head::Head;
 use gram_build::sight::takes_what_follows;
 use gram_build::stays::{begins_in, stands_in};
@@ -24,11 +25,16 @@ use std::alloc::AllocError;
 fn in_parens<'a>(arena: &'a Arena, inner: Tree<'a>) -> Result<Tree<'a>, AllocError>
     ensures { IfOk result (λ x. x ≡ p.in_parens inner.entry) }
 {
-    let whole = made::whole(arena, inner)?;
-    let node = made::node(arena, Kind::Expression(Position::Plain), whole)?;
-    let list = made::elements(arena, Separator::Comma, Vec::new(arena.alloc()), Some(node))?;
-    let group = made::group(arena, Delimiter::Parenthesis, Span::call_site(), list)?;
-    made::alone(arena, Kind::ExprParen, group)
+    let form = made::whole(arena, inner);
+    let expression = steps::node(arena, Kind::Expression(Position::Plain), form)?;
+    let list = made::elements(
+        arena,
+        Separator::Comma,
+        Vec::new(arena.alloc()),
+        Some(expression),
+    );
+    let own = steps::group(arena, Delimiter::Parenthesis, Span::call_site(), list);
+    steps::alone(arena, Kind::ExprParen, own)
 }
 
 // It, or it in parentheses.

@@ -5,6 +5,7 @@ ghost use Rattle.std.specs.Prelude.{◌≡◌, IfOk};
 ghost use Rattle.syn_grammar.specs.Kept as k;
 
 use crate::peel::{attributes, before, expression, macro_of, pair_behind};
+use crate::steps;
 use gram_judge::level::level;
 use gram_table::kind::Kind;
 use gram_table::part::Part;
@@ -108,11 +109,11 @@ fn expressed<'a>(
 ) -> Result<Tree<'a>, AllocError>
     ensures { IfOk result (λ x. x ≡ expressed front.now tree.now behind.now) }
 {
-    let left = made::called(arena, Part::Attributes, left_in_front(arena, front)?)?;
-    let stated = made::called(arena, Part::Expression, given(arena, front, tree)?)?;
-    let rest = made::pair(arena, stated, behind.copy())?;
-    let all = made::pair(arena, left, rest)?;
-    made::seconds(arena, 4, all)
+    let left = steps::called(arena, Part::Attributes, left_in_front(arena, front))?;
+    let stated = steps::called(arena, Part::Expression, given(arena, front, tree))?;
+    let rest = made::pair(arena, stated, behind.copy());
+    let all = steps::pair(arena, left, rest);
+    steps::seconds(arena, 4, all)
 }
 
 // A statement that is a macro.
@@ -124,9 +125,9 @@ fn stated_macro<'a>(
 ) -> Result<Tree<'a>, AllocError>
     ensures { IfOk result (λ x. x ≡ stated_macro front.now own.entry behind.now) }
 {
-    let rest = made::pair(arena, own, behind.copy())?;
-    let all = made::pair(arena, front.copy(), rest)?;
-    made::first_behind(arena, 1, all)
+    let rest = made::pair(arena, own, behind.copy());
+    let all = steps::pair(arena, front.copy(), rest);
+    steps::first_behind(arena, 1, all)
 }
 
 // A statement that is an expression: a macro statement, where it is a macro with `;` behind it.

@@ -14,6 +14,7 @@ ghost use Rattle.syn_grammar.specs.Tree as t;
 use crate::fault::Fault;
 use crate::forget::{constant_default, not_last};
 use crate::lifetime::{Which, lifetimes_first};
+use crate::{fault_steps, steps};
 use gram_table::kind::Kind;
 use gram_table::part::Part;
 use gram_tree::arena::Arena;
@@ -154,30 +155,25 @@ pub(crate) fn changed<'a>(
     match &tree.form {
         Form::Called(name, inner) => {
             if is_same(*name, part) {
-                let inner = changed_part(arena, change, inner)?;
-                made::called(arena, *name, inner)
+                steps::called(arena, *name, changed_part(arena, change, inner))
             } else {
                 Ok(tree.copy())
             }
         }
         Form::Pair(two) => {
             let front = changed(arena, part, change, &two.front)?;
-            let back = changed(arena, part, change, &two.back)?;
-            made::pair(arena, front, back)
+            steps::pair(arena, front, changed(arena, part, change, &two.back))
         }
         Form::First(depth, inner) => {
-            let inner = changed(arena, part, change, inner)?;
-            made::first_behind(arena, *depth as usize, inner)
+            let inner = changed(arena, part, change, inner);
+            steps::first_behind(arena, *depth as usize, inner)
         }
         Form::Second(depth, inner) => {
-            let inner = changed(arena, part, change, inner)?;
-            Ok(Tree {
-                form: Form::Second(*depth, arena.put(inner)?),
-            })
+            steps::second_behind(arena, *depth, changed(arena, part, change, inner))
         }
         Form::Group(delimiter, group) => {
-            let inner = changed(arena, part, change, &group.inside)?;
-            made::group(arena, *delimiter, group.span, inner)
+            let inner = changed(arena, part, change, &group.inside);
+            steps::group(arena, *delimiter, group.span, inner)
         }
         _ => Ok(tree.copy()),
     }
@@ -192,30 +188,25 @@ fn arguments_first<'a>(arena: &'a Arena, tree: &Tree<'a>) -> Result<Tree<'a>, Fa
     match &tree.form {
         Form::Called(name, inner) => {
             if is_same(*name, Part::Arguments) {
-                let inner = lifetimes_first(arena, Which::Arguments, inner)?;
-                Ok(made::called(arena, *name, inner)?)
+                let inner = lifetimes_first(arena, Which::Arguments, inner);
+                fault_steps::called(arena, *name, inner)
             } else {
                 Ok(tree.copy())
             }
         }
         Form::Pair(two) => {
             let front = arguments_first(arena, &two.front)?;
-            let back = arguments_first(arena, &two.back)?;
-            Ok(made::pair(arena, front, back)?)
+            fault_steps::pair(arena, front, arguments_first(arena, &two.back))
         }
         Form::First(depth, inner) => {
-            let inner = arguments_first(arena, inner)?;
-            Ok(made::first_behind(arena, *depth as usize, inner)?)
+            fault_steps::first_behind(arena, *depth as usize, arguments_first(arena, inner))
         }
         Form::Second(depth, inner) => {
-            let inner = arguments_first(arena, inner)?;
-            Ok(Tree {
-                form: Form::Second(*depth, arena.put(inner)?),
-            })
+            fault_steps::second_behind(arena, *depth, arguments_first(arena, inner))
         }
         Form::Group(delimiter, group) => {
-            let inner = arguments_first(arena, &group.inside)?;
-            Ok(made::group(arena, *delimiter, group.span, inner)?)
+            let inner = arguments_first(arena, &group.inside);
+            fault_steps::group(arena, *delimiter, group.span, inner)
         }
         _ => Ok(tree.copy()),
     }

@@ -7,7 +7,7 @@ use Rattle.syn_grammar.specs.Parens.{follow}
 use Rattle.syn_grammar.specs.Tree.{Tree, flat}
 use Rattle.gram_table.specs.Kinds.{kind_of, position_of}
 use Rattle.gram_table.specs.Ops.{separator_of}
-use Rattle.gram_tree.specs.Forms.{elements, ending, tree_of, turns}
+use Rattle.gram_tree.specs.Forms.{elements, ending, seconds, tree_of, turns}
 use Rattle.gram_tree.specs.Size.{node_count}
 use Rattle.gram_tree.proofs.Sizes.{elements_below, tree_size, turns_size}
 use Rattle.gram_write.proofs.Inside.{last_below}
@@ -19,8 +19,10 @@ use Rattle.gram_normal.specs.Parted.{element_in, parted}
 use Rattle.gram_normal.proofs.Apartness.{turned_so}
 use Rattle.gram_normal.proofs.Emptying.{emptied_size}
 use Rattle.gram_normal.proofs.Forming.{alone_formed, back_formed, front_formed, infix_formed, list_none, list_some}
+use Rattle.gram_normal.proofs.Forming.{normal_seconds}
 use Rattle.gram_normal.proofs.Mixing.{alone_own, back_left, back_own, element_mixed, front_right, infix_left}
 use Rattle.gram_normal.proofs.Mixing.{infix_right, list_element, list_last, mixed_turns}
+use Rattle.gram_normal.proofs.Stepping.{normal_so}
 use Rattle.gram_normal.proofs.normal.+normal.Goals as goal
 
 pub alone-returns : goal.alone-returns
@@ -116,6 +118,25 @@ turns-returns n c =
     (c.in_ok-put_each.ensures ∙ ap (λ ys. ys ++ map (normal_in p) xs) c.new-each.ensures.items)
     (c.in_ok-put_parted.ensures ∙ ap (λ ys. ys ++ parted xs c.as_slice.result.now) c.new-parted.ensures.items
     ∙ ap (parted xs) c.as_slice.ensures.value)
+
+-- a choice
+pub normal_in-returns-in-First : goal.normal_in-returns-in-First
+normal_in-returns-in-First n c =
+    let p : Position = position_of c.args.position in
+    let x : Tree = c.in-First.inner.now in
+    let view : c.args.tree.now ≡ seconds c.in-First.depth (t.First x) =
+    sym c.tree.view_is ∙ ap tree_of c.in-First.is in
+    normal_so c.first_behind.result _ _ (c.first_behind.ensures (normal_in p x) c.normal_in-inner.ensures)
+    (sym (ap (normal_in p) view ∙ normal_seconds p c.in-First.depth (t.First x)))
+
+pub normal_in-returns-in-Second : goal.normal_in-returns-in-Second
+normal_in-returns-in-Second n c =
+    let p : Position = position_of c.args.position in
+    let x : Tree = c.in-Second.inner.now in
+    let view : c.args.tree.now ≡ t.Second (seconds c.in-Second.depth x) =
+    sym c.tree.view_is ∙ ap tree_of c.in-Second.is in
+    normal_so c.second_behind.result _ _ (c.second_behind.ensures (normal_in p x) c.normal_in-in-Second.ensures)
+    (sym (ap (normal_in p) view ∙ ap t.Second (normal_seconds p c.in-Second.depth x)))
 
 -- what is left of a node's parts is no larger than they are
 pub node-normal_in-requires : goal.node-normal_in-requires

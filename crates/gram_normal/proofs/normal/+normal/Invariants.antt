@@ -26,6 +26,9 @@ decreases-normal_in l = 2 * size-Tree l.tree.now
 abbrev pub decreases-formed : goal.decreases-formed
 decreases-formed l = 2 * size-Tree l.tree.now + 1
 
+abbrev pub decreases-whole : goal.decreases-whole
+decreases-whole l = 2 * size-Tree l.inner.now + 2
+
 abbrev pub decreases-node : goal.decreases-node
 decreases-node l = 2 * size-Tree l.inner.now + 1
 

@@ -1,0 +1,11 @@
+use Rattle.std.proofs.Common.{◌∙◌, ap, refl}
+use Rattle.syn_grammar.specs.Tree as t
+use Rattle.gram_tree.specs.Forms.{seconds}
+use Rattle.gram_normal.proofs.Stepping.{made_so}
+use Rattle.gram_normal.proofs.forget.as_path.Goals as goal
+
+pub returns : goal.returns
+returns c =
+    c.node.ensures _ (c.pair-path.ensures _ _ (c.in_ok-root.ensures ∙ ap t.Second c.nil.ensures)
+    (c.node-segments.ensures _ (c.seconds-segment.ensures _ (c.pair.ensures _ _ refl
+    (made_so c.seconds-bare.result _ _ c.seconds-bare.ensures (ap (seconds 3) c.nil-2.ensures))))))

@@ -1,0 +1,102 @@
+//! Steps as those of `steps`, on trees of which there may be none that is in normal form: a step answers why the tree
+//! that it is to be made of isn't made.
+
+ghost use Rattle.gram_normal.specs.Separators.{IsFault};
+ghost use Rattle.gram_table.specs.Parts.{part_of};
+ghost use Rattle.gram_tree.specs.Forms.{seconds};
+ghost use Rattle.std.specs.Prelude.{◌≡◌, MatchResult};
+ghost use Rattle.syn_grammar.specs.Tree as t;
+
+use crate::fault::Fault;
+use gram_table::part::Part;
+use gram_tree::arena::Arena;
+use gram_tree::made;
+use gram_tree::tree::{Form, Tree};
+use proc_macro2::delimiter::Delimiter;
+use rust_map::span::Span;
+
+/// A tree, and one behind it.
+///
+/// # Errors
+///
+/// Where there is no memory for it, or why the one behind isn't made.
+#[tactic(auto, using(crate::proofs::Mixing::places))]
+pub(crate) fn pair<'a>(
+    arena: &'a Arena,
+    front: Tree<'a>,
+    back: Result<Tree<'a>, Fault>,
+) -> Result<Tree<'a>, Fault>
+    ensures { (x y : t.Tree) → front.entry ≡ x → MatchResult back.entry (λ z. z ≡ y) (λ fault. IsFault fault y)
+        → MatchResult result (λ z. z ≡ t.Pair x y) (λ fault. IsFault fault (t.Pair x y)) }
+{
+    Ok(made::pair(arena, front, back?)?)
+}
+
+/// Of choices, each the second of the one before it, so many times the second, and then the first.
+///
+/// # Errors
+///
+/// Where there is no memory for it, or why its inside isn't made.
+#[tactic(auto, using(crate::proofs::Mixing::places))]
+pub(crate) fn first_behind<'a>(
+    arena: &'a Arena,
+    count: usize,
+    inner: Result<Tree<'a>, Fault>,
+) -> Result<Tree<'a>, Fault>
+    ensures { (x : t.Tree) → MatchResult inner.entry (λ z. z ≡ x) (λ fault. IsFault fault x)
+        → MatchResult result (λ z. z ≡ seconds count (t.First x)) (λ fault. IsFault fault (seconds count (t.First x))) }
+{
+    Ok(made::first_behind(arena, count, inner?)?)
+}
+
+/// Of choices, each the second of the one before it, the second, and so many times the second.
+///
+/// # Errors
+///
+/// Where there is no memory for it, or why its inside isn't made.
+#[tactic(auto, using(crate::proofs::Mixing::places))]
+pub(crate) fn second_behind<'a>(
+    arena: &'a Arena,
+    depth: u32,
+    inner: Result<Tree<'a>, Fault>,
+) -> Result<Tree<'a>, Fault>
+    ensures { (x : t.Tree) → MatchResult inner.entry (λ z. z ≡ x) (λ fault. IsFault fault x)
+        → MatchResult result (λ z. z ≡ t.Second (seconds depth x)) (λ fault. IsFault fault (t.Second (seconds depth x))) }
+{
+    Ok(Tree {
+        form: Form::Second(depth, arena.put(inner?)?),
+    })
+}
+
+/// A group, its span, and its inside.
+///
+/// # Errors
+///
+/// Where there is no memory for it, or why its inside isn't made.
+pub(crate) fn group<'a>(
+    arena: &'a Arena,
+    delimiter: Delimiter,
+    span: Span,
+    inside: Result<Tree<'a>, Fault>,
+) -> Result<Tree<'a>, Fault>
+    ensures { (x : t.Tree) → MatchResult inside.entry (λ z. z ≡ x) (λ fault. IsFault fault x)
+        → MatchResult result (λ z. z ≡ t.Group delimiter x) (λ fault. IsFault fault (t.Group delimiter x)) }
+{
+    Ok(made::group(arena, delimiter, span, inside?)?)
+}
+
+/// A part, by its name.
+///
+/// # Errors
+///
+/// Where there is no memory for it, or why its inside isn't made.
+pub(crate) fn called<'a>(
+    arena: &'a Arena,
+    part: Part,
+    inner: Result<Tree<'a>, Fault>,
+) -> Result<Tree<'a>, Fault>
+    ensures { (x : t.Tree) → MatchResult inner.entry (λ z. z ≡ x) (λ fault. IsFault fault x)
+        → MatchResult result (λ z. z ≡ t.Called (part_of part) x) (λ fault. IsFault fault (t.Called (part_of part) x)) }
+{
+    Ok(made::called(arena, part, inner?)?)
+}
