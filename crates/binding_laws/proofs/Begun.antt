@@ -24,8 +24,8 @@ use Rattle.syn_grammar.specs.Look.{seen}
 use Rattle.syn_grammar.proofs.Whole.{and_true}
 use Rattle.syn_grammar.specs.Forms.{Case, form, first_form, fronts, front}
 use Rattle.std.proofs.lemmas.Slice.Eq.{bytes_eq-Decides}
+use Rattle.std.proofs.lemmas.Bool.{false≢true}
 use Rattle.binding_laws.proofs.Leads as Leads
-use Rattle.binding_laws.proofs.Leads.{unlike}
 
 -- Both begin with one leaf, with which an expression can begin; the last mark of a punctuation may be spaced otherwise.
 pub data Begun : List Token → List Token → Type 0 where
@@ -238,7 +238,7 @@ front_begins ExprRangeClosed e = Leads.mark_leads Begun more (λ i r. dots Joint
 front_begins ExprRange e = Leads.mark_leads Begun more (λ i r. dots i Apart)
 front_begins ExprMacro e = macro_path
 front_begins ExprPath e = any_path
-front_begins _ e = absurd (unlike e)
+front_begins _ e = absurd (false≢true e)
 
 -- each of a list of cases has a kind that passes
 abbrev pub all_pass : (Kind → Bool) → List Case → Bool

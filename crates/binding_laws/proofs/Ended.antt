@@ -2,6 +2,7 @@
 use Rattle.std.proofs.Common.{◌≡◌, ℕ, List, [], ◌∷◌, ◌++◌, refl, sym, ap, ◌∙◌, subst, append_assoc, inl, inr}
 use Rattle.std.specs.Prelude.{Bool, true, false, not, ◌&&◌, ◌||◌, ◌⊎◌, cond, nat_eq, Option, Some, None}
 use Rattle.std.proofs.lemmas.Bool.{and_from}
+use Rattle.std.proofs.lemmas.Bool.{false≢true}
 use Rattle.proc_macro2.specs.Token.{Token, Ident, Literal, Punct}
 use Rattle.rust_leaf.specs.declared.punct.Spacing.{Spacing}
 use Rattle.rust_leaf.specs.declared.punct.Spacing.TheVariants.{Alone as Apart, Joint}
@@ -29,7 +30,6 @@ use Rattle.binding_laws.specs.Bare.{bare}
 use Rattle.binding_laws.proofs.Turns.{Facts, lone_less}
 use Rattle.binding_laws.proofs.Sights.{is_back, is_postfix, backs_are, back_same, starts_plain, postfix_seen}
 use Rattle.binding_laws.proofs.Sights.{field_alone, call_seen}
-use Rattle.binding_laws.proofs.Leads.{unlike}
 use Rattle.binding_laws.proofs.Shells.{is_dot, each_dot, undotted, behind_dot, dotted_has, dotted_own}
 use Rattle.binding_laws.proofs.Same.{may_same}
 use Rattle.binding_laws.proofs.Casts.{cast_ends, cast_no_postfix}
@@ -146,21 +146,21 @@ top_postfix ExprField b s e = refl
 top_postfix ExprAwait b s e = refl
 top_postfix ExprIndex b s e = refl
 top_postfix ExprTry b s e = refl
-top_postfix ExprStruct b s e = absurd (unlike (sym s))
-top_postfix ExprCast b s e = absurd (unlike e)
-top_postfix ExprRange b s e = absurd (unlike e)
-top_postfix ExprRangeClosed b s e = absurd (unlike e)
-top_postfix ExprAssign b s e = absurd (unlike e)
-top_postfix ExprOr b s e = absurd (unlike e)
-top_postfix ExprAnd b s e = absurd (unlike e)
-top_postfix ExprCompare b s e = absurd (unlike e)
-top_postfix ExprBitOr b s e = absurd (unlike e)
-top_postfix ExprBitXor b s e = absurd (unlike e)
-top_postfix ExprBitAnd b s e = absurd (unlike e)
-top_postfix ExprShift b s e = absurd (unlike e)
-top_postfix ExprSum b s e = absurd (unlike e)
-top_postfix ExprProduct b s e = absurd (unlike e)
-top_postfix _ b s e = absurd (unlike b)
+top_postfix ExprStruct b s e = absurd (false≢true (sym s))
+top_postfix ExprCast b s e = absurd (false≢true e)
+top_postfix ExprRange b s e = absurd (false≢true e)
+top_postfix ExprRangeClosed b s e = absurd (false≢true e)
+top_postfix ExprAssign b s e = absurd (false≢true e)
+top_postfix ExprOr b s e = absurd (false≢true e)
+top_postfix ExprAnd b s e = absurd (false≢true e)
+top_postfix ExprCompare b s e = absurd (false≢true e)
+top_postfix ExprBitOr b s e = absurd (false≢true e)
+top_postfix ExprBitXor b s e = absurd (false≢true e)
+top_postfix ExprBitAnd b s e = absurd (false≢true e)
+top_postfix ExprShift b s e = absurd (false≢true e)
+top_postfix ExprSum b s e = absurd (false≢true e)
+top_postfix ExprProduct b s e = absurd (false≢true e)
+top_postfix _ b s e = absurd (false≢true b)
 
 not_false : (b : Bool) → b ≡ false → not b ≡ true
 not_false true e = cc

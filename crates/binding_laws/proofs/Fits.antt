@@ -1,6 +1,7 @@
 -- What a form asks of its operands, and what holds of those that were read.
 use Rattle.std.proofs.Common.{◌≡◌, ℕ, List, [], refl, sym, ap, ◌∙◌, inl, inr}
 use Rattle.std.specs.Prelude.{Bool, true, false, not, ◌&&◌, ◌||◌, cond, nat_eq, Some}
+use Rattle.std.proofs.lemmas.Bool.{false≢true}
 use Rattle.proc_macro2.specs.Token.{Token}
 use Rattle.syn_grammar.specs.Kind.{Kind, Position, Plain, InCondition, InArm, InStatement, ExprStruct}
 use Rattle.syn_grammar.specs.Kind.{ExprMethodCall, ExprField, ExprAwait, ExprCall, ExprIndex, ExprTry, ExprCast}
@@ -24,7 +25,6 @@ use Rattle.syn_grammar.proofs.Whole.{and_true}
 use Rattle.binding_laws.specs.Bare.{bare}
 use Rattle.binding_laws.proofs.Turns.{is_infix, is_last}
 use Rattle.binding_laws.proofs.Sights.{is_back, backs_are, brace_struct}
-use Rattle.binding_laws.proofs.Leads.{unlike}
 use Rattle.binding_laws.proofs.Shells.{is_dot, each_dot}
 use Rattle.binding_laws.proofs.Same.{may_same, chains_same, ends_same}
 use Rattle.binding_laws.proofs.Ended.{Edge}
@@ -45,18 +45,18 @@ last_kind ExprTry p ts b s h = refl
 last_kind ExprCast p ts b s h = refl
 last_kind ExprRange p ts b s h = refl
 last_kind ExprRangeClosed p ts b s h = refl
-last_kind ExprStruct p ts b s h = absurd (unlike (sym s))
-last_kind ExprAssign p ts b s h = absurd (unlike (sym h))
-last_kind ExprOr p ts b s h = absurd (unlike (sym h))
-last_kind ExprAnd p ts b s h = absurd (unlike (sym h))
-last_kind ExprCompare p ts b s h = absurd (unlike (sym h))
-last_kind ExprBitOr p ts b s h = absurd (unlike (sym h))
-last_kind ExprBitXor p ts b s h = absurd (unlike (sym h))
-last_kind ExprBitAnd p ts b s h = absurd (unlike (sym h))
-last_kind ExprShift p ts b s h = absurd (unlike (sym h))
-last_kind ExprSum p ts b s h = absurd (unlike (sym h))
-last_kind ExprProduct p ts b s h = absurd (unlike (sym h))
-last_kind _ p ts b s h = absurd (unlike b)
+last_kind ExprStruct p ts b s h = absurd (false≢true (sym s))
+last_kind ExprAssign p ts b s h = absurd (false≢true (sym h))
+last_kind ExprOr p ts b s h = absurd (false≢true (sym h))
+last_kind ExprAnd p ts b s h = absurd (false≢true (sym h))
+last_kind ExprCompare p ts b s h = absurd (false≢true (sym h))
+last_kind ExprBitOr p ts b s h = absurd (false≢true (sym h))
+last_kind ExprBitXor p ts b s h = absurd (false≢true (sym h))
+last_kind ExprBitAnd p ts b s h = absurd (false≢true (sym h))
+last_kind ExprShift p ts b s h = absurd (false≢true (sym h))
+last_kind ExprSum p ts b s h = absurd (false≢true (sym h))
+last_kind ExprProduct p ts b s h = absurd (false≢true (sym h))
+last_kind _ p ts b s h = absurd (false≢true b)
 
 pub infix_kind : (k : Kind) (p : Position) (ts : List Token) → is_back k ≡ true → has_right p k ts ≡ true → is_infix k
     ≡ true
@@ -73,15 +73,15 @@ infix_kind ExprSum p ts b h = refl
 infix_kind ExprProduct p ts b h = refl
 infix_kind ExprRange p ts b h = refl
 infix_kind ExprRangeClosed p ts b h = refl
-infix_kind ExprStruct p ts b h = absurd (unlike h)
-infix_kind ExprCall p ts b h = absurd (unlike h)
-infix_kind ExprMethodCall p ts b h = absurd (unlike h)
-infix_kind ExprField p ts b h = absurd (unlike h)
-infix_kind ExprAwait p ts b h = absurd (unlike h)
-infix_kind ExprIndex p ts b h = absurd (unlike h)
-infix_kind ExprTry p ts b h = absurd (unlike h)
-infix_kind ExprCast p ts b h = absurd (unlike h)
-infix_kind _ p ts b h = absurd (unlike b)
+infix_kind ExprStruct p ts b h = absurd (false≢true h)
+infix_kind ExprCall p ts b h = absurd (false≢true h)
+infix_kind ExprMethodCall p ts b h = absurd (false≢true h)
+infix_kind ExprField p ts b h = absurd (false≢true h)
+infix_kind ExprAwait p ts b h = absurd (false≢true h)
+infix_kind ExprIndex p ts b h = absurd (false≢true h)
+infix_kind ExprTry p ts b h = absurd (false≢true h)
+infix_kind ExprCast p ts b h = absurd (false≢true h)
+infix_kind _ p ts b h = absurd (false≢true b)
 
 -- a form with an operand behind it takes postfix forms behind that
 pub takes_top : (k : Kind) (p : Position) (ts : List Token) → has_right p k ts ≡ true → takes (level k) (level ExprStruct)
@@ -108,7 +108,7 @@ takes_top ExprBitAnd p ts h = refl
 takes_top ExprShift p ts h = refl
 takes_top ExprSum p ts h = refl
 takes_top ExprProduct p ts h = refl
-takes_top _ p ts h = absurd (unlike h)
+takes_top _ p ts h = absurd (false≢true h)
 
 path_goes : (q : Position) (n : ℕ) (y : Tree) (rest : List Token) → takes n (level ExprStruct) ≡ true
     → ends_there q (Alone ExprPath y) ≡ false → back q rest ≡ Some ExprStruct → goes_on q n (Alone ExprPath y) rest
@@ -128,8 +128,8 @@ plain_path q n (Alone ExprPath y) rest ts t g b i s f = go (sees (struct_stands 
     go : (c : Bool) → sees (struct_stands q) ts ≡ c → c ≡ false
     go true e = absurd (both _ (path_goes q n y rest t (f y) (brace_struct q rest (s rest ∙ b (sym (s ts) ∙ e)))) g)
     go false e = refl
-plain_path q n (Alone _ y) rest ts t g b i s f = absurd (unlike i)
-plain_path q n _ rest ts t g b i s f = absurd (unlike i)
+plain_path q n (Alone _ y) rest ts t g b i s f = absurd (false≢true i)
+plain_path q n _ rest ts t g b i s f = absurd (false≢true i)
 
 pub path_right : (q : Position) (n : ℕ) (x : Tree) (rest ts : List Token) → takes n (level ExprStruct) ≡ true
     → goes_on q n x rest ≡ false → (sees brace ts ≡ true → sees brace rest ≡ true) → is_path_form x ≡ true
@@ -163,7 +163,7 @@ left_stays p l k y rest d i e =
 -- where a left operand ends: of a postfix form it takes one
 may_plain : (k : Kind) (l : Tree) → is_struct k ≡ false → may_be_left k l
     ≡ cond (nat_eq (level k) 16) (takes_postfix l) (not (is_range l))
-may_plain ExprStruct l s = absurd (unlike (sym s))
+may_plain ExprStruct l s = absurd (false≢true (sym s))
 may_plain _ l s = refl
 
 pub left_edge : (p : Position) (l : Tree) (k : Kind) → is_struct k ≡ false → stands_left p l k ≡ true → Edge k p l
@@ -235,7 +235,7 @@ dot_left p k y m i t e =
         (or_true (ends_there p m)) refl
 
 pub dot_stands : (p : Position) (k : Kind) → is_dot k ≡ true → stands_in p k ≡ true
-dot_stands InCondition ExprStruct i = absurd (unlike i)
+dot_stands InCondition ExprStruct i = absurd (false≢true i)
 dot_stands InCondition _ i = refl
 dot_stands Plain k i = refl
 dot_stands InArm k i = refl
@@ -258,15 +258,15 @@ pub struct_path : (p : Position) (k : Kind) (l : Tree) → is_struct k ≡ true 
     ≡ true
 unfolding stands_left
 struct_path p ExprStruct l s m = (and_true (is_path_form l) _ m).0
-struct_path p _ l s m = absurd (unlike s)
+struct_path p _ l s m = absurd (false≢true s)
 
 pub struct_undotted : (k : Kind) → is_struct k ≡ true → is_dot k ≡ false
 struct_undotted ExprStruct s = refl
-struct_undotted _ s = absurd (unlike s)
+struct_undotted _ s = absurd (false≢true s)
 
 pub infix_no_struct : (k : Kind) → is_infix k ≡ true → (is_struct k ≡ false) × ((x : Tree) → is_attributed_range k x ≡ false)
-infix_no_struct ExprStruct i = absurd (unlike i)
-infix_no_struct ExprAttributed i = absurd (unlike i)
+infix_no_struct ExprStruct i = absurd (false≢true i)
+infix_no_struct ExprAttributed i = absurd (false≢true i)
 infix_no_struct _ i = (refl, λ x. refl)
 
 pub back_takes : (l : Tree) (k : Kind) (y : Tree) (p : Position) (rest ts : List Token) → Bound p (Back l k y) rest

@@ -1,6 +1,7 @@
 -- An expression that was read gains no parentheses, attributed ranges aside.
 use Rattle.std.proofs.Common.{◌≡◌, ℕ, List, [], ◌∷◌, ◌++◌, refl, sym, ap, ◌∙◌, subst}
 use Rattle.std.specs.Prelude.{Bool, true, false}
+use Rattle.std.proofs.lemmas.Bool.{false≢true}
 use Rattle.proc_macro2.specs.Token.{Token, Punct}
 use Rattle.rust_leaf.specs.declared.punct.Spacing.TheVariants.{Alone as Apart}
 use Rattle.syn_grammar.specs.Kind.{Kind, Position, Plain, InCondition, Expression}
@@ -21,7 +22,6 @@ use Rattle.syn_grammar.specs.Parens.{is_struct, is_ended, follow}
 use Rattle.binding_laws.specs.Bare.{bare, HasPlainRanges}
 use Rattle.binding_laws.proofs.Turns.{Facts, facts, Turn, is_infix, infix_turns, last_turns}
 use Rattle.binding_laws.proofs.Sights.{begins, stands, backs_are}
-use Rattle.binding_laws.proofs.Leads.{unlike}
 use Rattle.binding_laws.proofs.Shells.{is_dot, undotted, behind_dot, dotted_has, dotted_own}
 use Rattle.binding_laws.proofs.Same.{postfix_same, all_begun}
 use Rattle.binding_laws.proofs.Ended.{ended}
@@ -62,8 +62,8 @@ index_ready p m cs q = record {
 path_stays : (l : Tree) (p : Position) (us : List Token) → is_path_form l ≡ true → Stays p (follow us) (bare (kept l))
 unfolding may_lack
 path_stays (Alone ExprPath y) p us i = path_plain p (follow us) (follow_plain us)
-path_stays (Alone _ y) p us i = absurd (unlike i)
-path_stays _ p us i = absurd (unlike i)
+path_stays (Alone _ y) p us i = absurd (false≢true i)
+path_stays _ p us i = absurd (false≢true i)
 
 -- what is known of the left operand: it stays before all that may stand behind it
 abbrev LeftStays : Position → Tree → List Token → Type 0

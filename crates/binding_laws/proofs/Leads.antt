@@ -16,10 +16,6 @@ use Rattle.syn_grammar.specs.Derives.{Derives}
 use Rattle.syn_grammar.specs.Kept.{kept}
 use Rattle.syn_grammar.specs.Normal.{place_of, normal_in}
 
--- a test that has both answers
-pub unlike : false ≡ true → ⊥
-unlike e = cc
-
 -- nothing is read as nothing
 pub is_nil : (w : Tree) (r : List Token) → Derives w nothing r → w ≡ Nil
 is_nil Nil r d = refl

@@ -1,6 +1,7 @@
 -- What binds an expression, in two parts: its own parts, which tokens decide, and its operands, which levels decide.
 use Rattle.std.proofs.Common.{◌≡◌, List, ◌++◌, refl, sym, ap, ◌∙◌}
 use Rattle.std.specs.Prelude.{Bool, true, false, not, ◌||◌, Some}
+use Rattle.std.proofs.lemmas.Bool.{false≢true}
 use Rattle.proc_macro2.specs.Token.{Token}
 use Rattle.syn_grammar.specs.Kind.{Kind, Position, Plain, InCondition, InArm, InStatement, ExprStruct, ExprPath}
 use Rattle.syn_grammar.specs.Tree.{Tree, Alone, Front, Back, Infix, flat}
@@ -11,7 +12,6 @@ use Rattle.syn_grammar.specs.Derives.{Bound, IsLeft}
 use Rattle.syn_grammar.proofs.Whole.{and_true}
 use Rattle.binding_laws.specs.Meets.{NoneGoesOn, LeftMeets, Meets}
 use Rattle.binding_laws.specs.Spelled.{Spelled}
-use Rattle.binding_laws.proofs.Leads.{unlike}
 use Rattle.binding_laws.proofs.Sights.{back_same, starts_plain}
 
 -- before the braces of a struct
@@ -24,9 +24,9 @@ path_ends InStatement y = refl
 path_left : (p : Position) (k : Kind) (l : Tree) → is_struct k ≡ true → is_path_form l ≡ true → IsLeft p l k
 unfolding stands_left chains level
 path_left p ExprStruct (Alone ExprPath y) s i = (ap (λ b. not b || false) (path_ends p y), refl)
-path_left p ExprStruct (Alone _ y) s i = absurd (unlike i)
-path_left p ExprStruct _ s i = absurd (unlike i)
-path_left p _ l s i = absurd (unlike s)
+path_left p ExprStruct (Alone _ y) s i = absurd (false≢true i)
+path_left p ExprStruct _ s i = absurd (false≢true i)
+path_left p _ l s i = absurd (false≢true s)
 
 path_goes : (p : Position) (l : Tree) (ts : List Token) → is_path_form l ≡ true → NoneGoesOn p l ts
 path_goes p (Alone k y) ts i = tt
@@ -38,7 +38,7 @@ path_goes p _ ts i = tt
 struct_left : (p : Position) (k : Kind) (l : Tree) → is_struct k ≡ true → IsLeft p l k → is_path_form l ≡ true
 unfolding stands_left
 struct_left p ExprStruct l s i = (and_true (is_path_form l) _ i.0).0
-struct_left p _ l s i = absurd (unlike s)
+struct_left p _ l s i = absurd (false≢true s)
 
 -- what stands left of a form
 record Left (p : Position) (l : Tree) (k : Kind) (ts : List Token) : Type 0 where

@@ -1,6 +1,7 @@
 -- What is kept of an expression has its forms, but for numbers behind dots, which are split.
 use Rattle.std.proofs.Common.{◌≡◌, ℕ, List, [], ◌∷◌, refl, sym, ap, ◌∙◌, subst}
 use Rattle.std.specs.Prelude.{Bool, true, false}
+use Rattle.std.proofs.lemmas.Bool.{false≢true}
 use Rattle.proc_macro2.specs.Token.{Token}
 use Rattle.rust_leaf.specs.declared.punct.Spacing.TheVariants.{Alone as Apart}
 use Rattle.syn_grammar.specs.Kind.{Kind, ExprField, ExprMethodCall, ExprAwait}
@@ -11,7 +12,6 @@ use Rattle.syn_grammar.specs.Gram.{Gram, mark, seq, called}
 use Rattle.syn_grammar.specs.Table.{table}
 use Rattle.syn_grammar.specs.Derives.{Derives}
 use Rattle.syn_grammar.specs.Kept.{lone_dot, index_field, index_fields, fields_in_front, last_fields, dotted, kept}
-use Rattle.binding_laws.proofs.Leads.{unlike}
 
 -- the forms behind a dot
 abbrev pub is_dot : Kind → Bool
@@ -25,12 +25,12 @@ pub each_dot : (P : Kind → Type 0) → P ExprField → P ExprMethodCall → P 
 each_dot P f m a ExprField e = f
 each_dot P f m a ExprMethodCall e = m
 each_dot P f m a ExprAwait e = a
-each_dot P f m a _ e = absurd (unlike e)
+each_dot P f m a _ e = absurd (false≢true e)
 
 pub undotted : (l : Tree) (k : Kind) (y : Tree) → is_dot k ≡ false → dotted l k y ≡ Back l k y
-undotted l ExprField y e = absurd (unlike (sym e))
-undotted l ExprMethodCall y e = absurd (unlike (sym e))
-undotted l ExprAwait y e = absurd (unlike (sym e))
+undotted l ExprField y e = absurd (false≢true (sym e))
+undotted l ExprMethodCall y e = absurd (false≢true (sym e))
+undotted l ExprAwait y e = absurd (false≢true (sym e))
 undotted l _ y e = refl
 
 -- what stands behind the dots of a field, a method call or an await

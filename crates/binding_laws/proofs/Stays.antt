@@ -1,6 +1,7 @@
 -- Each operand of an expression that was read stays as it stands.
 use Rattle.std.proofs.Common.{◌≡◌, ℕ, List, [], ◌∷◌, ◌++◌, refl, sym, ap, ◌∙◌, subst, inl, inr}
 use Rattle.std.specs.Prelude.{Bool, true, false, not, ◌&&◌, ◌||◌, ◌⊎◌, cond, Option, Some, None, codes}
+use Rattle.std.proofs.lemmas.Bool.{false≢true}
 use Rattle.proc_macro2.specs.Token.{Token, Opens, Ident}
 use Rattle.proc_macro2.specs.declared.delimiter.Delimiter.{Delimiter}
 use Rattle.proc_macro2.specs.Groups.{same_delimiter}
@@ -23,7 +24,7 @@ use Rattle.syn_grammar.specs.Parens.{parens_unless, may_lack, takes_braces, take
 use Rattle.syn_grammar.specs.Parens.{is_attributed_range, stays_right, stays_left, begins_in, stands_in, follow}
 use Rattle.syn_grammar.specs.Parens.{with_right, with_left, front_form, back_form, infix_form}
 use Rattle.binding_laws.specs.Bare.{bare}
-use Rattle.binding_laws.proofs.Leads.{is_nil, unlike}
+use Rattle.binding_laws.proofs.Leads.{is_nil}
 use Rattle.binding_laws.proofs.Begun.{Begun, a_word as begun_word, a_literal, an_opening}
 use Rattle.binding_laws.proofs.Begun.{a_lifetime as begun_lifetime, colons}
 use Rattle.binding_laws.proofs.Turns.{Begins, Facts}
@@ -90,7 +91,7 @@ facts_right b ts f q ExprRange m =
     ap (λ o. not (seen (first_seen (range_ends ts) o))) (brace_none q ts f.no_brace) ∙ ap (λ o. not (seen o))
     (first_none (range_ends ts))
     ∙ ap not f.range ∙ not_not b
-facts_right b ts f q _ m = absurd (unlike m)
+facts_right b ts f q _ m = absurd (false≢true m)
 
 cond_seen : (b : Bool) (r s : List Token) → seen (cond b (Some r) None) ≡ seen (cond b (Some s) None)
 cond_seen true r s = refl
@@ -118,7 +119,7 @@ opening_right d q ExprBreak r s m =
 opening_right d q ExprReturn r s m = refl
 opening_right d q ExprYield r s m = refl
 opening_right d q ExprRange r s m = ap not (opening_ends q d r s)
-opening_right d q _ r s m = absurd (unlike m)
+opening_right d q _ r s m = absurd (false≢true m)
 
 word_begins : (cs : List ℕ) (s : List Token) → same_text (codes "as") cs ≡ false → Begins true (Ident cs ∷ s)
 word_begins cs s e = record {
@@ -260,7 +261,7 @@ braces_none p ts ExprPath y h = h refl
 braces_none p ts _ y h = refl
 
 pub back_braces : (p : Position) (ts : List Token) (k : Kind) → is_back k ≡ true → takes_braces p k ts ≡ false
-back_braces p ts ExprPath b = absurd (unlike b)
+back_braces p ts ExprPath b = absurd (false≢true b)
 back_braces p ts _ b = refl
 
 -- right operands

@@ -20,9 +20,9 @@ use Rattle.syn_grammar.specs.Kept.{kept}
 use Rattle.syn_grammar.specs.Normal.{normal_in}
 use Rattle.syn_grammar.specs.Forms.{operand_stands, range_ends, back}
 use Rattle.std.proofs.lemmas.Slice.Eq.{bytes_eq-Decides}
+use Rattle.std.proofs.lemmas.Bool.{false≢true}
 use Rattle.binding_laws.proofs.Begun.{Begun, a_literal, a_bang, a_hash, an_and, a_star, a_minus, a_less, a_bar}
 use Rattle.binding_laws.proofs.Leads as Leads
-use Rattle.binding_laws.proofs.Leads.{unlike}
 
 -- a < that begins no <=
 abbrev pub lone_less : Look
@@ -324,7 +324,7 @@ infix_turns ExprProduct h =
     (alt_turns (mark_turns (λ i r u p b e. slash i)) (alt_turns (mark_turns (λ i r u p b e. percent i)) never_turns))
 infix_turns ExprRange h = mark_turns (λ i r u p b e. dots i Apart)
 infix_turns ExprRangeClosed h = mark_turns (λ i r u p b e. dots Joint Joint)
-infix_turns _ h = absurd (unlike h)
+infix_turns _ h = absurd (false≢true h)
 
 -- the own parts of forms without an operand behind them
 as_turn : (cs : List ℕ) (r : List Token) → same_text (codes "as") cs ≡ true → Turn (Ident cs ∷ r) (Ident cs ∷ [])
@@ -356,4 +356,4 @@ last_turns ExprAwait e = Leads.seq_leads Turn more
     (Leads.seq_leads Turn more (Leads.mark_leads Turn more (λ i r. dot i)))
 last_turns ExprRange e = Leads.mark_leads Turn more (λ i r. dots i Apart)
 last_turns ExprRangeClosed e = Leads.mark_leads Turn more (λ i r. dots Joint Joint)
-last_turns _ e = absurd (unlike e)
+last_turns _ e = absurd (false≢true e)

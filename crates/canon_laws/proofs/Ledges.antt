@@ -2,6 +2,7 @@
 -- and no group begins with a name.
 use Rattle.std.proofs.Common.{◌≡◌, ℕ, ◌+◌, List, [], ◌∷◌, ◌++◌, length, refl, sym, ap, ◌∙◌, subst, append_assoc}
 use Rattle.std.proofs.Common.{length-append, arith, inl, inr, ⊎_elim}
+use Rattle.std.proofs.lemmas.Bool.{true≢false}
 use Rattle.std.proofs.lemmas.List.{append-nil}
 use Rattle.std.specs.Prelude.{Bool, true, false, not, ◌&&◌, ◌||◌, ◌⊎◌, cond}
 use Rattle.rust_leaf.specs.declared.punct.Spacing.{Spacing}
@@ -111,9 +112,6 @@ not_so : (b : Bool) → not b ≡ true → b ≡ false
 not_so true e = cc e
 not_so false e = refl
 
-contrary : true ≡ false → ⊥
-contrary e = cc e
-
 -- of trees
 marks_solid : (c : ℕ) (cs : List ℕ) (spacing : Spacing) → is_none (marks c cs spacing) ≡ false
 marks_solid c [] spacing = refl
@@ -142,13 +140,13 @@ is_solid (Second x) (alt t g h) r d e = is_solid x h r d.1 (both (solid g) (soli
 is_solid (Called n x) (called m g) r d e = is_solid x g r d.1 e
 is_solid (First x) (judged v g) r d e = is_solid x g r d.1 e
 is_solid (Verbatim x) (judged v g) r d e = is_solid x g r d.1 e
-is_solid _ nothing r d e = absurd (contrary (sym e))
-is_solid _ (star t g) r d e = absurd (contrary (sym e))
-is_solid _ (many t c g) r d e = absurd (contrary (sym e))
-is_solid _ raw r d e = absurd (contrary (sym e))
-is_solid _ (dropped g) r d e = absurd (contrary (sym e))
-is_solid _ (ref k) r d e = absurd (contrary (sym e))
-is_solid _ (operand p n) r d e = absurd (contrary (sym e))
+is_solid _ nothing r d e = absurd (true≢false (sym e))
+is_solid _ (star t g) r d e = absurd (true≢false (sym e))
+is_solid _ (many t c g) r d e = absurd (true≢false (sym e))
+is_solid _ raw r d e = absurd (true≢false (sym e))
+is_solid _ (dropped g) r d e = absurd (true≢false (sym e))
+is_solid _ (ref k) r d e = absurd (true≢false (sym e))
+is_solid _ (operand p n) r d e = absurd (true≢false (sym e))
 is_solid _ _ r d e = absurd d
 
 is_shut : (x : Tree) (g : Gram) (r : List Token) → Derives x g r → shut g ≡ true → ends_open (flat x) ≡ false
@@ -166,12 +164,12 @@ is_shut (Second x) (alt t g h) r d e = is_shut x h r d.1 (both (shut g) (shut h)
 is_shut (Called n x) (called m g) r d e = is_shut x g r d.1 e
 is_shut (First x) (judged v g) r d e = is_shut x g r d.1 e
 is_shut (Verbatim x) (judged v g) r d e = is_shut x g r d.1 e
-is_shut _ (star t g) r d e = absurd (contrary (sym e))
-is_shut _ (many t c g) r d e = absurd (contrary (sym e))
-is_shut _ raw r d e = absurd (contrary (sym e))
-is_shut _ (dropped g) r d e = absurd (contrary (sym e))
-is_shut _ (ref k) r d e = absurd (contrary (sym e))
-is_shut _ (operand p n) r d e = absurd (contrary (sym e))
+is_shut _ (star t g) r d e = absurd (true≢false (sym e))
+is_shut _ (many t c g) r d e = absurd (true≢false (sym e))
+is_shut _ raw r d e = absurd (true≢false (sym e))
+is_shut _ (dropped g) r d e = absurd (true≢false (sym e))
+is_shut _ (ref k) r d e = absurd (true≢false (sym e))
+is_shut _ (operand p n) r d e = absurd (true≢false (sym e))
 is_shut _ _ r d e = absurd d
 
 -- A name among tokens, of which the first is that behind n others: no opening delimiter stands before it, and, unless
@@ -379,14 +377,14 @@ clear_in (Again x y) (star t g) l n r d s =
     (all_front (flat x) (flat y) n (leads g) (leads g) (names_behind l n x) (λ i. i)
     (clear_in x g l n (flat y ++ r) d.1 a.0))
     (all_behind (flat x) (flat y) n (leads g) (leads g) (names_behind l (n + length (flat x)) y)
-    record { shuts = λ i. absurd (contrary (sym i ∙ e)); some = λ i. inl i }
+    record { shuts = λ i. absurd (true≢false (sym i ∙ e)); some = λ i. inl i }
     (clear_in y (star t g) l (n + length (flat x)) r d.2 s))
 clear_in (Group o x) (group c g) l n r d s =
     let a = both (safe g) (not (leads g)) s in
     let e = not_so (leads g) a.1 in
     all_front (Opens o ∷ flat x) (Closes o ∷ []) n false false (names_behind l (n + 1) x) (λ i. i)
     (all_behind (Opens o ∷ []) (flat x) n (leads g) false (names_behind l (n + 1) x)
-    record { shuts = λ i. absurd (contrary (sym i ∙ e)); some = λ i. inl e }
+    record { shuts = λ i. absurd (true≢false (sym i ∙ e)); some = λ i. inl e }
     (clear_in x g l (n + 1) [] d.1 a.0))
 clear_in (AWord cs) g l n r d s = tt
 clear_in (ALiteral cs) g l n r d s = tt

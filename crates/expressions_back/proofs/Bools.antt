@@ -1,11 +1,9 @@
 -- Small facts of tests and of looks.
 use Rattle.std.proofs.Common.{◌≡◌, List, refl, sym}
 use Rattle.std.specs.Prelude.{Bool, true, false, ◌&&◌, Option, Some, None}
+use Rattle.std.proofs.lemmas.Bool.{false≢true}
 use Rattle.proc_macro2.specs.Token.{Token}
 use Rattle.syn_grammar.specs.Look.{seen, first_seen}
-
-pub never : false ≡ true → ⊥
-never e = cc
 
 pub and_no : (b : Bool) → (b && false) ≡ false
 and_no true = refl
@@ -17,4 +15,4 @@ or_none (Some ts) p e f = e
 
 pub or_parts : (o p : Option (List Token)) → seen (first_seen o p) ≡ false → (seen o ≡ false) × (seen p ≡ false)
 or_parts None p e = (refl, e)
-or_parts (Some ts) p e = absurd (never (sym e))
+or_parts (Some ts) p e = absurd (false≢true (sym e))

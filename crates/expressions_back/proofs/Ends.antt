@@ -1,6 +1,7 @@
 -- What stands behind a left operand, and what its last own part may have behind it.
 use Rattle.std.proofs.Common.{◌≡◌, List, [], ◌∷◌, ◌++◌, refl, sym, ap, ◌∙◌, subst, inr}
 use Rattle.std.specs.Prelude.{Bool, true, false, not, ◌&&◌, ◌||◌, cond, nat_eq, Some}
+use Rattle.std.proofs.lemmas.Bool.{false≢true}
 use Rattle.proc_macro2.specs.Token.{Token, Opens}
 use Rattle.proc_macro2.specs.declared.delimiter.Delimiter.TheVariants.{Parenthesis}
 use Rattle.syn_grammar.specs.Kind.{Kind, Position, Plain, ExprCast, ExprField, ExprCall, ExprMethodCall, ExprAwait}
@@ -26,7 +27,7 @@ use Rattle.expressions_back.proofs.Begins.{paren_operand}
 use Rattle.expressions_back.proofs.Near.{Near, Beside}
 use Rattle.expressions_back.proofs.Opened.{nothing_right}
 use Rattle.expressions_back.proofs.Turned as T
-use Rattle.expressions_back.proofs.Bools.{never, and_no}
+use Rattle.expressions_back.proofs.Bools.{and_no}
 
 -- the last own part of an operand
 abbrev pub LastEnds : List Token → Tree → Type 0
@@ -61,18 +62,18 @@ last_kind ExprTry b s h = refl
 last_kind ExprCast b s h = refl
 last_kind ExprRange b s h = refl
 last_kind ExprRangeClosed b s h = refl
-last_kind ExprStruct b s h = absurd (never (sym s))
-last_kind ExprAssign b s h = absurd (never h)
-last_kind ExprOr b s h = absurd (never h)
-last_kind ExprAnd b s h = absurd (never h)
-last_kind ExprCompare b s h = absurd (never h)
-last_kind ExprBitOr b s h = absurd (never h)
-last_kind ExprBitXor b s h = absurd (never h)
-last_kind ExprBitAnd b s h = absurd (never h)
-last_kind ExprShift b s h = absurd (never h)
-last_kind ExprSum b s h = absurd (never h)
-last_kind ExprProduct b s h = absurd (never h)
-last_kind _ b s h = absurd (never b)
+last_kind ExprStruct b s h = absurd (false≢true (sym s))
+last_kind ExprAssign b s h = absurd (false≢true h)
+last_kind ExprOr b s h = absurd (false≢true h)
+last_kind ExprAnd b s h = absurd (false≢true h)
+last_kind ExprCompare b s h = absurd (false≢true h)
+last_kind ExprBitOr b s h = absurd (false≢true h)
+last_kind ExprBitXor b s h = absurd (false≢true h)
+last_kind ExprBitAnd b s h = absurd (false≢true h)
+last_kind ExprShift b s h = absurd (false≢true h)
+last_kind ExprSum b s h = absurd (false≢true h)
+last_kind ExprProduct b s h = absurd (false≢true h)
+last_kind _ b s h = absurd (false≢true b)
 
 infix_kind : (k : Kind) → is_back k ≡ true → may_have_operand k ≡ true → is_infix k ≡ true
 unfolding may_lack level
@@ -88,15 +89,15 @@ infix_kind ExprSum b h = refl
 infix_kind ExprProduct b h = refl
 infix_kind ExprRange b h = refl
 infix_kind ExprRangeClosed b h = refl
-infix_kind ExprStruct b h = absurd (never h)
-infix_kind ExprCall b h = absurd (never h)
-infix_kind ExprMethodCall b h = absurd (never h)
-infix_kind ExprField b h = absurd (never h)
-infix_kind ExprAwait b h = absurd (never h)
-infix_kind ExprIndex b h = absurd (never h)
-infix_kind ExprTry b h = absurd (never h)
-infix_kind ExprCast b h = absurd (never h)
-infix_kind _ b h = absurd (never b)
+infix_kind ExprStruct b h = absurd (false≢true h)
+infix_kind ExprCall b h = absurd (false≢true h)
+infix_kind ExprMethodCall b h = absurd (false≢true h)
+infix_kind ExprField b h = absurd (false≢true h)
+infix_kind ExprAwait b h = absurd (false≢true h)
+infix_kind ExprIndex b h = absurd (false≢true h)
+infix_kind ExprTry b h = absurd (false≢true h)
+infix_kind ExprCast b h = absurd (false≢true h)
+infix_kind _ b h = absurd (false≢true b)
 
 -- how their own parts begin
 abbrev pub Turns : List Token → Type 0
@@ -132,7 +133,7 @@ behind_turn ws vs t =
       lacks = λ q k m h. facts_right (T.starts t.1) (ws ++ vs) b q k m
           ∙ sym (facts_right (T.starts t.1) ws a q k m)
           ∙ subst (λ us. has_right q k us ≡ false) (ap (λ c. cond c [] ws) a.no_brace) h;
-      braces = λ e. absurd (never (sym b.no_brace ∙ e));
+      braces = λ e. absurd (false≢true (sym b.no_brace ∙ e));
     }
 
 pub beside_turn : (p q : Position) (ws vs : List Token) → Near p q → Turns ws → Beside p q (follow ws) (ws ++ vs)
@@ -145,14 +146,14 @@ beside_turn p q ws vs n t = record {
 pub beside_nothing : (p : Position) (ts : List Token) → Beside p Plain ts []
 beside_nothing p ts = record {
   near = inr refl;
-  behind = record { lacks = λ q k m h. nothing_right q k m; braces = λ e. absurd (never e) };
+  behind = record { lacks = λ q k m h. nothing_right q k m; braces = λ e. absurd (false≢true e) };
   plain = inr refl;
 }
 
 -- an operand that is ended before a form
 cast_true : (a b c d n : Bool) → (c ≡ true → a ≡ true) → d ≡ b → not (a || (n && b)) ≡ true → not (c || (n && d)) ≡ true
-cast_true true b c d n f g h = absurd (never h)
-cast_true false b true d n f g h = absurd (never (f refl))
+cast_true true b c d n f g h = absurd (false≢true h)
+cast_true false b true d n f g h = absurd (false≢true (f refl))
 cast_true false b false d n f g h = ap (λ e. not (n && e)) g ∙ h
 
 call_true : (c n : Bool) → (c ≡ true → not n ≡ true) → not (n && c) ≡ true

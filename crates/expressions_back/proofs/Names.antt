@@ -2,6 +2,7 @@
 use Rattle.std.proofs.Common.{◌≡◌, ℕ, List, [], ◌∷◌, refl, sym, ap, ◌∙◌}
 use Rattle.std.specs.Prelude.{zero, suc, Bool, true, false, ◌||◌, cond, ◌==◌, length, Option, Some, None, codes}
 use Rattle.std.proofs.lemmas.Slice.Eq.{bytes_eq-Decides}
+use Rattle.std.proofs.lemmas.Bool.{false≢true}
 use Rattle.proc_macro2.specs.Token.{Token, Opens, Closes, Ident, Literal, Punct}
 use Rattle.rust_leaf.specs.declared.punct.Spacing.TheVariants.{Alone as Apart, Joint}
 use Rattle.syn_grammar.specs.Kind.{Position, Plain, InCondition, InArm, InStatement, ExprPath}
@@ -19,7 +20,7 @@ use Rattle.syn_grammar.specs.Normal.{passed, normal}
 use Rattle.expressions_back.specs.Behind.{no_operand, AtEnd}
 use Rattle.expressions_back.specs.Formed.{IsFront}
 use Rattle.expressions_back.specs.Simple.{lone_name}
-use Rattle.expressions_back.proofs.Bools.{never, or_none, or_parts}
+use Rattle.expressions_back.proofs.Bools.{or_none, or_parts}
 
 -- no keyword is a name
 off : (w : List ℕ) → is_plain_name w ≡ false → (cs : List ℕ) → is_plain_name cs ≡ true → same_text w cs ≡ false
@@ -49,7 +50,7 @@ end ts e =
 
 not_seen : (b : Bool) (ts : List Token) (o : Option (List Token)) → seen (cond b (Some ts) None) ≡ false
     → cond b o None ≡ None
-not_seen true ts o e = absurd (never (sym e))
+not_seen true ts o e = absurd (false≢true (sym e))
 not_seen false ts o e = refl
 
 pub colons : (ts : List Token) → sees (marks ":") ts ≡ false → marks "::" ts ≡ None

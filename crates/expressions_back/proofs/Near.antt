@@ -2,6 +2,7 @@
 -- meets the conditions of levels there too, and goes on with nothing.
 use Rattle.std.proofs.Common.{◌≡◌, ℕ, List, [], refl, sym, ap, ◌∙◌, inl, inr}
 use Rattle.std.specs.Prelude.{Bool, true, false, not, ◌&&◌, ◌||◌, ◌⊎◌, None}
+use Rattle.std.proofs.lemmas.Bool.{false≢true}
 use Rattle.proc_macro2.specs.Token.{Token}
 use Rattle.syn_grammar.specs.Kind.{Kind, Position, Plain, InCondition, InArm, InStatement, ExprStruct, ExprPath}
 use Rattle.syn_grammar.specs.Kind.{ExprAttributed, ExprBreak}
@@ -19,7 +20,6 @@ use Rattle.binding_laws.specs.Meets.{NoneGoesOn, LeftMeets, Meets}
 use Rattle.binding_laws.proofs.Levels.{paren_left, or_false, not_true, none_goes, right_meets}
 use Rattle.binding_laws.proofs.Sights.{back_same, brace_struct}
 use Rattle.binding_laws.proofs.Stays.{Behind}
-use Rattle.expressions_back.proofs.Bools.{never}
 
 -- where it stands: in its position, or in plain position
 abbrev pub Near : Position → Position → Type 0
@@ -165,7 +165,7 @@ path_alone : (p q : Position) (ts rest : List Token) (k : Kind) (y : Tree) → B
     → takes_what_follows p k ts ≡ false → is_path_form (Alone k y) ≡ true → sees (struct_stands q) rest ≡ false
 unfolding may_lack
 path_alone p q ts rest ExprPath y b e i = no_struct p q ts rest b e
-path_alone p q ts rest _ y b e i = absurd (never i)
+path_alone p q ts rest _ y b e i = absurd (false≢true i)
 
 pub path_behind : (p q : Position) (ts rest : List Token) (x : Tree) → Beside p q ts rest
     → is_path_form (formed p ts x) ≡ true → sees (struct_stands q) rest ≡ false
@@ -173,25 +173,25 @@ path_behind p q ts rest (Alone k y) b i = go (takes_what_follows p k ts) refl i
   where
     go : (c : Bool) → takes_what_follows p k ts ≡ c → is_path_form (parens_unless (not c) (Alone k (normal y))) ≡ true
         → sees (struct_stands q) rest ≡ false
-    go true e i = absurd (never i)
+    go true e i = absurd (false≢true i)
     go false e i = path_alone p q ts rest k (normal y) b e i
 path_behind p q ts rest (Front k y x) b i = go (begins_in p k) i
   where
     go : (c : Bool)
         → is_path_form (parens_unless c (Front k (normal y) (with_right p k (normal y) (formed (inside p k) ts x))))
         ≡ true → sees (struct_stands q) rest ≡ false
-    go true i = absurd (never i)
-    go false i = absurd (never i)
+    go true i = absurd (false≢true i)
+    go false i = absurd (false≢true i)
 path_behind p q ts rest (Back l k y) b i = go (stands_in p k && not (takes_what_follows p k ts)) i
   where
     go : (c : Bool)
         → is_path_form
         (parens_unless c (Back (with_left p k (normal y) (formed p (follow (flat (normal y))) l)) k (normal y)))
         ≡ true → sees (struct_stands q) rest ≡ false
-    go true i = absurd (never i)
-    go false i = absurd (never i)
-path_behind p q ts rest (Infix l k y r) b i = absurd (never i)
-path_behind p q ts rest _ b i = absurd (never i)
+    go true i = absurd (false≢true i)
+    go false i = absurd (false≢true i)
+path_behind p q ts rest (Infix l k y r) b i = absurd (false≢true i)
+path_behind p q ts rest _ b i = absurd (false≢true i)
 
 -- what is no path doesn't go on with a brace
 no_path : (n : ℕ) (q : Position) (z : Tree) (a : Bool) → is_path_form z ≡ false
@@ -212,7 +212,7 @@ unfolding stands_left
 ends_here n q z rest e h = by_struct (sees (struct_stands q) rest) refl
   where
     by_path : (c : Bool) → is_path_form z ≡ c → sees (struct_stands q) rest ≡ true → goes_on q n z rest ≡ false
-    by_path true i f = absurd (never (sym (h i) ∙ f))
+    by_path true i f = absurd (false≢true (sym (h i) ∙ f))
     by_path false i f =
         ap (takes_kind q n z) (brace_struct q rest f) ∙ no_path n q z (takes n (level ExprStruct)) i
 
@@ -224,7 +224,7 @@ ends_here n q z rest e h = by_struct (sees (struct_stands q) rest) refl
 unless_path : (b : Bool) (p q : Position) (ts rest : List Token) (x : Tree) → Beside p q ts rest
     → is_path_form (parens_unless b (formed p ts x)) ≡ true → sees (struct_stands q) rest ≡ false
 unless_path true p q ts rest x b i = path_behind p q ts rest x b i
-unless_path false p q ts rest x b i = absurd (never i)
+unless_path false p q ts rest x b i = absurd (false≢true i)
 
 unless_goes : (b : Bool) (p : Position) (x : Tree) (ts : List Token) → NoneGoesOn p x ts
     → NoneGoesOn p (parens_unless b x) ts

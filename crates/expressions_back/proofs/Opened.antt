@@ -1,6 +1,7 @@
 -- How an operand begins, whatever stands behind its first tokens.
 use Rattle.std.proofs.Common.{◌≡◌, List, [], ◌∷◌, ◌++◌, refl, sym, ap, ◌∙◌}
 use Rattle.std.specs.Prelude.{Bool, true, false, not, ◌||◌, cond, nat_eq, Option, Some, None}
+use Rattle.std.proofs.lemmas.Bool.{false≢true}
 use Rattle.proc_macro2.specs.Token.{Token, Opens}
 use Rattle.proc_macro2.specs.declared.delimiter.Delimiter.TheVariants.{Parenthesis}
 use Rattle.rust_leaf.specs.declared.punct.Spacing.TheVariants.{Alone as Apart}
@@ -16,7 +17,6 @@ use Rattle.syn_grammar.specs.Parens.{may_lack, is_label}
 use Rattle.binding_laws.proofs.Begun.{Begun, a_word, a_literal, an_opening, a_lifetime as begun_lifetime, a_bang}
 use Rattle.binding_laws.proofs.Begun.{a_hash, an_and, a_star, a_minus, a_less, a_bar, dots, colons}
 use Rattle.binding_laws.proofs.Stays.{brace_none, no_colon, no_lifetime}
-use Rattle.expressions_back.proofs.Bools.{never}
 
 -- tokens with which an operand begins, before these and before others
 pub begun_more : (ts ws us vs : List Token) → Begun ts ws → Begun (ws ++ us) (ws ++ vs)
@@ -105,7 +105,7 @@ paren_right p ExprBreak ts m = break_parens p ts
 paren_right p ExprReturn ts m = refl
 paren_right p ExprYield ts m = refl
 paren_right p ExprRange ts m = range_parens p ts
-paren_right p _ ts m = absurd (never m)
+paren_right p _ ts m = absurd (false≢true m)
 
 -- nothing is none
 break_none : (p : Position) → has_right p ExprBreak [] ≡ false
@@ -128,7 +128,7 @@ nothing_right p ExprBreak m = break_none p
 nothing_right p ExprReturn m = refl
 nothing_right p ExprYield m = refl
 nothing_right p ExprRange m = range_none p
-nothing_right p _ m = absurd (never m)
+nothing_right p _ m = absurd (false≢true m)
 
 -- the other forms have an operand or have none, whatever follows
 pub fixed_right : (p : Position) (k : Kind) (ts : List Token) → may_lack k ≡ false

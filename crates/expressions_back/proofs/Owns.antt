@@ -2,6 +2,7 @@
 use Rattle.std.proofs.Common.{◌≡◌, ℕ, List, [], ◌∷◌, ◌++◌, refl, sym, ap, ◌∙◌, subst}
 use Rattle.std.specs.Prelude.{Bool, true, false, ◌||◌, Some, codes}
 use Rattle.std.proofs.lemmas.Slice.Eq.{bytes_eq-Decides}
+use Rattle.std.proofs.lemmas.Bool.{false≢true}
 use Rattle.proc_macro2.specs.Token.{Token, Opens, Closes, Ident, Literal}
 use Rattle.proc_macro2.specs.declared.delimiter.Delimiter.{Delimiter}
 use Rattle.proc_macro2.specs.declared.delimiter.Delimiter.TheVariants as D
@@ -24,7 +25,6 @@ use Rattle.expressions_back.specs.Behind.{no_operand}
 use Rattle.expressions_back.specs.Firm.{is_firm_front, is_firm_behind, IsOwn}
 use Rattle.expressions_back.specs.Formed.{IsFront, IsBehind}
 use Rattle.expressions_back.proofs.Signs.{sign_is, mark_before, signs_before, Each, each_sign}
-use Rattle.expressions_back.proofs.Bools.{never}
 
 -- what is seen at tokens that an own part begins with
 abbrev Fronts : Kind → List Token → Type 0
@@ -183,7 +183,7 @@ bool_is cs P e t f = go (same_text (codes "true") cs) (same_text (codes "false")
         → P cs
     go true b i j e = subst P ((bytes_eq-Decides (codes "true") cs).0 i) t
     go false true i j e = subst P ((bytes_eq-Decides (codes "false") cs).0 j) f
-    go false false i j e = absurd (never e)
+    go false false i j e = absurd (false≢true e)
 
 lit_before : (y : Tree) (r s : List Token) → Derives y lit r → Derives y lit s
 lit_before (First (ALiteral cs)) r s h = (refl, h.1)
@@ -274,7 +274,7 @@ front_part M ExprUnary y e o =
     (star_fronts, (bang_fronts, (minus_fronts, tt))) y o
 front_part M ExprRange y e o = mark_front M ExprRange 46 (46 ∷ []) refl dots_fronts y o
 front_part M ExprRangeClosed y e o = mark_front M ExprRangeClosed 46 (46 ∷ 61 ∷ []) refl closed_fronts y o
-front_part M _ y e o = absurd (never e)
+front_part M _ y e o = absurd (false≢true e)
 
 plain_try : (us : List Token) → back Plain (marks 63 [] Apart ++ us) ≡ Some ExprTry
 unfolding back
@@ -326,4 +326,4 @@ behind_part M ExprSum y e o =
 behind_part M ExprProduct y e o =
     signs_behind M ExprProduct (codes "*" ∷ codes "/" ∷ codes "%" ∷ []) refl
     (λ p us. refl, (λ p us. refl, (λ p us. refl, tt))) y o
-behind_part M _ y e o = absurd (never e)
+behind_part M _ y e o = absurd (false≢true e)

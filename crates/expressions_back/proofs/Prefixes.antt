@@ -2,6 +2,7 @@
 use Rattle.std.proofs.Common.{◌≡◌, ℕ, List, [], ◌∷◌, refl, sym, ap, ◌∙◌, subst}
 use Rattle.std.specs.Prelude.{Bool, true, false, ◌||◌, cond, Some, codes}
 use Rattle.std.proofs.lemmas.Slice.Eq.{bytes_eq-Decides}
+use Rattle.std.proofs.lemmas.Bool.{false≢true}
 use Rattle.proc_macro2.specs.Token.{Token, Ident, Punct}
 use Rattle.rust_leaf.specs.declared.punct.Spacing.{Spacing}
 use Rattle.rust_leaf.specs.declared.punct.Spacing.TheVariants.{Alone as Apart}
@@ -19,7 +20,7 @@ use Rattle.expressions_back.specs.Behind.{no_operand, BeforeOperand}
 use Rattle.expressions_back.specs.Firm.{IsOwn}
 use Rattle.expressions_back.specs.Formed.{IsFront}
 use Rattle.expressions_back.proofs.Signs.{Held}
-use Rattle.expressions_back.proofs.Bools.{never, or_parts}
+use Rattle.expressions_back.proofs.Bools.{or_parts}
 
 -- the first of two parts that are held is held
 heads_same : (c : ℕ) (i j : Spacing) (ts us : List Token) → Punct c i ∷ ts ≡ Punct c j ∷ us → i ≡ j
@@ -153,7 +154,7 @@ either cs P e t f = go (same_text (codes "const") cs) (same_text (codes "mut") c
         → P cs
     go true b i j e = subst P ((bytes_eq-Decides (codes "const") cs).0 i) t
     go false true i j e = subst P ((bytes_eq-Decides (codes "mut") cs).0 j) f
-    go false false i j e = absurd (never e)
+    go false false i j e = absurd (false≢true e)
 
 pub address_front : (M : List Token → Type 0) (y : Tree) → IsOwn ExprRawAddr y → IsFront M ExprRawAddr y
 unfolding table

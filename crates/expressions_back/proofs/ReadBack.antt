@@ -1,6 +1,7 @@
 -- A formed expression in normal form is read back in its place, before all that may follow.
 use Rattle.std.proofs.Common.{◌≡◌, ℕ, List, [], ◌∷◌, ◌++◌, refl, sym, ap, ◌∙◌, subst, inl}
 use Rattle.std.specs.Prelude.{zero, suc, Bool, true, false, not, ◌&&◌, ◌||◌, cond, Option, Some, None}
+use Rattle.std.proofs.lemmas.Bool.{false≢true}
 use Rattle.proc_macro2.specs.Token.{Token, Opens, Literal}
 use Rattle.proc_macro2.specs.declared.delimiter.Delimiter.TheVariants.{Brace}
 use Rattle.syn_grammar.specs.Kind.{Kind, Position, Plain, InCondition, InArm, InStatement, Expression, ExprCast}
@@ -27,7 +28,7 @@ use Rattle.expressions_back.specs.Formed.{Formed}
 use Rattle.expressions_back.proofs.Ends.{LastEnds}
 use Rattle.expressions_back.proofs.Near.{Beside, meets, none, whole_ends, all_within}
 use Rattle.expressions_back.proofs.Stands.{standing}
-use Rattle.expressions_back.proofs.Bools.{never, and_no, or_none}
+use Rattle.expressions_back.proofs.Bools.{and_no, or_none}
 
 -- where no form is seen, each is unseen
 Unseen : List Case → List Token → Type 0
@@ -78,7 +79,7 @@ literals_seen p (_ ∷ ts) = refl
 before_literals : (p : List ℕ → Bool) (o : Option (List Token)) → seen (behind o (past_literals p)) ≡ false → seen o
     ≡ false
 before_literals p None e = refl
-before_literals p (Some ts) e = absurd (never (sym e ∙ literals_seen p ts))
+before_literals p (Some ts) e = absurd (false≢true (sym e ∙ literals_seen p ts))
 
 dot_none : (p : List ℕ → Bool) (b : Bool) (l : Look) (ts : List Token)
     → seen (behind (cond b None (Some ts)) (l then past_literals p)) ≡ false
@@ -142,13 +143,13 @@ brace_alone r = record {
 
 brace_follows : (ts : List Token) → sees brace ts ≡ true → Follows InCondition ts
 brace_follows (Opens Brace ∷ r) e = brace_alone r
-brace_follows (Opens _ ∷ r) e = absurd (never e)
-brace_follows [] e = absurd (never e)
-brace_follows (_ ∷ r) e = absurd (never e)
+brace_follows (Opens _ ∷ r) e = absurd (false≢true e)
+brace_follows [] e = absurd (false≢true e)
+brace_follows (_ ∷ r) e = absurd (false≢true e)
 
 no_brace : (ts : List Token) → sees operand_stands ts ≡ false → sees brace ts ≡ false
 no_brace [] e = refl
-no_brace (Opens d ∷ r) e = absurd (never (sym e))
+no_brace (Opens d ∷ r) e = absurd (false≢true (sym e))
 no_brace (_ ∷ r) e = refl
 
 calm_follows : (p : Position) (ts : List Token) → stands_behind p ≡ [] → sees operand_stands ts ≡ false
@@ -160,7 +161,7 @@ calm_follows p ts f o r e a =
         near = inl refl;
         behind = subst (λ us. Behind us ts) (sym f) (record {
           lacks = λ q k m h. facts_right false ts (record { operand = o; range = r; no_brace = b }) q k m;
-          braces = λ s. absurd (never (sym b ∙ s));
+          braces = λ s. absurd (false≢true (sym b ∙ s));
         });
         plain = inl refl;
       };

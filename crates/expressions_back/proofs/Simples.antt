@@ -1,6 +1,7 @@
 -- Simple expressions are formed.
 use Rattle.std.proofs.Common.{◌≡◌, refl, sym, ap, ◌∙◌, subst, inl, inr}
 use Rattle.std.specs.Prelude.{Bool, true, false, ◌&&◌, ◌||◌, ◌⊎◌}
+use Rattle.std.proofs.lemmas.Bool.{false≢true}
 use Rattle.syn_grammar.specs.Kind.{Kind, ExprPath, ExprRawAddr, ExprReference, ExprStruct, ExprAttributed}
 use Rattle.syn_grammar.specs.Kind.{ExprAwait, ExprBreak, ExprField}
 use Rattle.syn_grammar.specs.Tree.{Tree, Alone, Front, Back, Infix}
@@ -18,11 +19,10 @@ use Rattle.syn_grammar.specs.Words.{is_ident, are_indices, ends_in_dot}
 use Rattle.expressions_back.proofs.Names.{name_front}
 use Rattle.expressions_back.proofs.Owns.{front_part, behind_part}
 use Rattle.expressions_back.proofs.Prefixes.{reference_front, address_front}
-use Rattle.expressions_back.proofs.Bools.{never}
 
 break_part : (k : Kind) (y : Tree) → is_break k ≡ true → IsOwn k y → IsFront AtEnd k y
 break_part ExprBreak y e o = break_end y o
-break_part _ y e o = absurd (never e)
+break_part _ y e o = absurd (false≢true e)
 
 pub end_front : (k : Kind) (y : Tree) → (is_firm_front k || is_break k) ≡ true → IsOwn k y → IsFront AtEnd k y
 end_front k y e o = go (is_firm_front k) refl e
@@ -43,7 +43,7 @@ reference_part : (k : Kind) (y : Tree) → (is_break k || is_reference k) ≡ tr
 reference_part ExprBreak y e o = break_operand y o
 reference_part ExprReference y e o = reference_front y o
 reference_part ExprRawAddr y e o = address_front (BeforeOperand ExprRawAddr y) y o
-reference_part _ y e o = absurd (never e)
+reference_part _ y e o = absurd (false≢true e)
 
 pub prefix_front : (k : Kind) (y : Tree) → (is_firm_front k || is_break k || is_reference k) ≡ true → IsOwn k y
     → IsFront (BeforeOperand k y) k y
@@ -55,11 +55,11 @@ prefix_front k y e o = go (is_firm_front k) refl e
 
 pub prefix_plain : (k : Kind) (x : Tree) → (is_firm_front k || is_break k || is_reference k) ≡ true
     → (is_attributed k && is_attributed_form x) ≡ false
-prefix_plain ExprAttributed x e = absurd (never e)
+prefix_plain ExprAttributed x e = absurd (false≢true e)
 prefix_plain _ x e = refl
 
 pub behind_plain : (k : Kind) → is_firm_behind k ≡ true → is_struct k ≡ false
-behind_plain ExprStruct e = absurd (never e)
+behind_plain ExprStruct e = absurd (false≢true e)
 behind_plain _ e = refl
 
 dotted_behind : (k : Kind) (y : Tree) → IsDotted k y → IsBehind (BehindOperand k y) k y
@@ -94,7 +94,7 @@ simple (Front k y x) s = (prefix_front k (normal y) s.0 s.1, s.2, prefix_plain k
 simple (Back l k y) s = (
   back_behind k (normal y) s.0,
   s.1,
-  λ t. absurd (never (sym (dotted_plain k (normal y) s.0) ∙ t)),
+  λ t. absurd (false≢true (sym (dotted_plain k (normal y) s.0) ∙ t)),
   simple l s.2,
 )
 simple (Infix l k y r) s = (

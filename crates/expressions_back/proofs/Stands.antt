@@ -1,6 +1,7 @@
 -- The own parts of an expression in normal form are read where they stand.
 use Rattle.std.proofs.Common.{◌≡◌, List, [], ◌∷◌, ◌++◌, refl, sym, ap, ◌∙◌, subst, append_assoc, inl, inr}
 use Rattle.std.specs.Prelude.{Bool, true, false, not, ◌&&◌, ◌||◌, ◌⊎◌, cond, nat_eq, Option, Some}
+use Rattle.std.proofs.lemmas.Bool.{false≢true}
 use Rattle.proc_macro2.specs.Token.{Token, Opens, Closes}
 use Rattle.proc_macro2.specs.declared.delimiter.Delimiter.TheVariants.{Parenthesis}
 use Rattle.syn_grammar.specs.Kind.{Kind, Position, Plain, InCondition, InArm, InStatement, ExprPath, ExprParen}
@@ -32,7 +33,6 @@ use Rattle.expressions_back.proofs.Near.{Near, Beside, beside_inside, near_begin
 use Rattle.expressions_back.proofs.Near.{front_meets, back_meets, nothing_goes, nothing_none, all_within}
 use Rattle.expressions_back.proofs.Opened.{nothing_right, no_label, right_same, right_plain, paren_right, fixed_right}
 use Rattle.expressions_back.proofs.Turned as T
-use Rattle.expressions_back.proofs.Bools.{never}
 
 -- what stands somewhere, and begins with no arrow or the like
 pub record Stand (q : Position) (z : Tree) (rest : List Token) : Type 0 where
@@ -122,8 +122,8 @@ closed x f p ts h q rest =
 
 -- No attributes stand before attributes.
 pub is_no : (b : Bool) → b ≡ true → b ≡ false → ⊥
-is_no true e f = never (sym f)
-is_no false e f = never e
+is_no true e f = false≢true (sym f)
+is_no false e f = false≢true e
 
 first_hash : (b : Bool) (o : Option Kind) (k : Kind) → cond b (Some ExprAttributed) o ≡ Some k → is_attributed k ≡ false
     → b ≡ false
@@ -145,7 +145,7 @@ tight _ e = cc
 
 lone_attributed : (q : Position) (k : Kind) (ts : List Token) → has_right q k ts ≡ false → is_attributed k ≡ false
 unfolding has_right level
-lone_attributed q ExprAttributed ts e = absurd (never (sym e))
+lone_attributed q ExprAttributed ts e = absurd (false≢true (sym e))
 lone_attributed q _ ts e = refl
 
 front_attributed : (k : Kind) (y x : Tree) → is_attributed_form (Front k y x) ≡ false → is_attributed k ≡ false
@@ -154,12 +154,12 @@ front_attributed _ y x e = refl
 
 postfix_attributed : (l : Tree) → takes_postfix l ≡ true → is_attributed_form l ≡ false
 unfolding level
-postfix_attributed (Front ExprAttributed y x) e = absurd (never e)
+postfix_attributed (Front ExprAttributed y x) e = absurd (false≢true e)
 postfix_attributed (Front _ y x) e = refl
 postfix_attributed _ e = refl
 
 path_attributed : (l : Tree) → is_path_form l ≡ true → is_attributed_form l ≡ false
-path_attributed (Front k y x) e = absurd (never e)
+path_attributed (Front k y x) e = absurd (false≢true e)
 path_attributed _ e = refl
 
 plain_left : (k : Kind) (l : Tree) → is_struct k ≡ false → may_be_left k l
@@ -218,7 +218,7 @@ near_right p q k ts (inr e) h = ap (λ r. has_right r k ts) e ∙ right_plain p 
 
 unlabelled : (k : Kind) (y : Tree) (ts : List Token) → may_lack k ≡ false → is_label k y ts ≡ false
 unfolding may_lack
-unlabelled ExprBreak y ts m = absurd (never (sym m))
+unlabelled ExprBreak y ts m = absurd (false≢true (sym m))
 unlabelled _ y ts m = refl
 
 pub stays_label : (k : Kind) (y : Tree) (ts : List Token) (h : Bool)
@@ -232,7 +232,7 @@ stays_label k y ts h e = go (may_lack k) refl
 
 pub attributed_is : (k : Kind) → is_attributed k ≡ true → k ≡ ExprAttributed
 attributed_is ExprAttributed e = refl
-attributed_is _ e = absurd (never e)
+attributed_is _ e = absurd (false≢true e)
 
 unless_attributed : (b : Bool) (z : Tree) → is_attributed_form z ≡ false
     → is_attributed_form (parens_unless b z) ≡ false
@@ -317,13 +317,13 @@ left_at l f p q k y rest n t s g h = go (stays_left p k y m) refl
 
 -- before the braces of a struct
 pub brace_end : (ts : List Token) → sees brace ts ≡ true → AtEnd ts
-brace_end [] e = absurd (never e)
+brace_end [] e = absurd (false≢true e)
 brace_end (Opens d ∷ ts) e = refl
-brace_end (_ ∷ ts) e = absurd (never e)
+brace_end (_ ∷ ts) e = absurd (false≢true e)
 
 pub struct_is : (k : Kind) → is_struct k ≡ true → k ≡ ExprStruct
 struct_is ExprStruct s = refl
-struct_is _ s = absurd (never s)
+struct_is _ s = absurd (false≢true s)
 
 path_takes : (p : Position) (ts : List Token) → takes_what_follows p ExprPath (follow ts) ≡ false
 unfolding may_lack
@@ -362,8 +362,8 @@ struct_at (Alone ExprPath w) f p q k y rest s i g =
       stand = alone_at q ExprPath (normal w) (flat y ++ rest) f.0 path_lacks b (path_lone q (flat y ++ rest));
       path = refl;
     })
-struct_at (Alone _ w) f p q k y rest s i g = absurd (never i)
-struct_at _ f p q k y rest s i g = absurd (never i)
+struct_at (Alone _ w) f p q k y rest s i g = absurd (false≢true i)
+struct_at _ f p q k y rest s i g = absurd (false≢true i)
 
 record Before (q : Position) (k : Kind) (v : Tree) (ts : List Token) : Type 0 where
   stand : Stand q v ts
@@ -383,7 +383,7 @@ before_at l f p q k y rest n t i g h = go (is_struct k) refl
     }
 
 pub infix_stands : (q : Position) (k : Kind) → is_struct k ≡ false → stands_in q k ≡ true
-infix_stands InCondition ExprStruct s = absurd (never (sym s))
+infix_stands InCondition ExprStruct s = absurd (false≢true (sym s))
 infix_stands InCondition _ s = refl
 infix_stands Plain k s = refl
 infix_stands InArm k s = refl
@@ -477,7 +477,7 @@ pub infix_plain : (k : Kind) (x : Tree) (ts : List Token) → is_struct k ≡ fa
 infix_plain k x ts s e = ap (λ b. b && is_attributed_form x) (behind_plain k (backs_are Plain k ts e))
   where
     behind_plain : (k : Kind) → is_back k ≡ true → is_attributed k ≡ false
-    behind_plain ExprAttributed b = absurd (never b)
+    behind_plain ExprAttributed b = absurd (false≢true b)
     behind_plain _ b = refl
 
 infix_standing : (l : Tree) (k : Kind) (y r : Tree) → Formed (Infix l k y r) → (p : Position) (ts : List Token)

@@ -1,6 +1,7 @@
 -- The own part of a form behind an operand: how it begins, whatever stands behind it.
 use Rattle.std.proofs.Common.{◌≡◌, List, [], ◌∷◌, ◌++◌, refl, ◌∙◌, subst}
 use Rattle.std.specs.Prelude.{Bool, true, false, cond, nat_eq, Some, None}
+use Rattle.std.proofs.lemmas.Bool.{false≢true}
 use Rattle.proc_macro2.specs.Token.{Token, Opens}
 use Rattle.proc_macro2.specs.declared.delimiter.Delimiter.{Delimiter}
 use Rattle.proc_macro2.specs.declared.delimiter.Delimiter.TheVariants.{Parenthesis}
@@ -16,7 +17,6 @@ use Rattle.binding_laws.proofs.Turns.{parenthesis as a_parenthesis, bracket, dot
 use Rattle.binding_laws.proofs.Turns.{and_and, bar_bar, less_less}
 use Rattle.binding_laws.proofs.Sights.{back_same}
 use Rattle.expressions_back.specs.Behind.{no_end}
-use Rattle.expressions_back.proofs.Bools.{never}
 
 pub at_end : (ts ws vs : List Token) → Turn ts ws → sees no_end (ws ++ vs) ≡ false
 at_end _ _ vs (equals i) = refl
@@ -73,10 +73,10 @@ call_at ts p k e = plain_call ts k (back_same Plain p (Opens Parenthesis ∷ ts)
 
 pub is_call : (ts : List Token) (p : Position) (k : Kind) → back p ts ≡ Some k → sees parenthesis ts ≡ true
     → k ≡ ExprCall
-is_call [] p k e s = absurd (never s)
+is_call [] p k e s = absurd (false≢true s)
 is_call (Opens d ∷ ts) p k e s =
     call_at ts p k (subst (λ c. back p (Opens c ∷ ts) ≡ Some k) (opened d (seen_if _ ts s)) e)
-is_call (_ ∷ ts) p k e s = absurd (never s)
+is_call (_ ∷ ts) p k e s = absurd (false≢true s)
 
 dot_level : (a b c : Bool) (k : Kind)
     → cond a (Some ExprAwait) (cond b (Some ExprMethodCall) (cond c (Some ExprField) None)) ≡ Some k
@@ -95,7 +95,7 @@ plain_postfix _ _ vs a_parenthesis k e s = some_level ExprCall k refl e
 plain_postfix _ _ vs bracket k e s = some_level ExprIndex k refl e
 plain_postfix _ _ vs (dot i) k e s = dot_level _ _ _ k e
 plain_postfix _ _ vs (question_joint d i j) k e s = some_level ExprTry k refl e
-plain_postfix _ _ vs _ k e s = absurd (never s)
+plain_postfix _ _ vs _ k e s = absurd (false≢true s)
 
 pub is_postfix : (ts ws vs : List Token) → Turn ts ws → (p : Position) (k : Kind) → back p (ws ++ vs) ≡ Some k
     → sees postfix_stands (ws ++ vs) ≡ true → nat_eq (level k) 16 ≡ true

@@ -3,6 +3,7 @@
 use Rattle.std.proofs.Common.{◌≡◌, ℕ, List, [], ◌∷◌, ◌++◌, refl, sym, ap, ◌∙◌, subst}
 use Rattle.std.proofs.Common.{inl, inr}
 use Rattle.std.specs.Prelude.{Bool, true, false, ◌&&◌, codes, cond, not}
+use Rattle.std.proofs.lemmas.Bool.{false≢true}
 use Rattle.proc_macro2.specs.Token.{Token, Opens, Closes, Ident}
 use Rattle.rust_leaf.specs.declared.punct.Spacing.{Spacing}
 use Rattle.syn_grammar.specs.Kind.{Kind, Arm, Arms, Expression, InArm, OuterAttributes, Pattern, Plain, Position}
@@ -41,7 +42,6 @@ use Rattle.grammar_back.proofs.Printed.{IsPlaced, KindLaw, Printed, VerdictLaw, 
 use Rattle.grammar_back.proofs.Readies.{Ready, Step}
 use Rattle.grammar_back.proofs.Sights.{ident_not}
 use Rattle.grammar_back.proofs.Starts.{pattern_starts, starts}
-use Rattle.grammar_back.proofs.Statements.{contrary}
 use Rattle.grammar_back.proofs.Lets.{kept_true}
 use Rattle.grammar_back.proofs.StatementLists.{turn_of, turns_behind}
 use Rattle.grammar_back.proofs.Tidied.{held_law}
@@ -313,9 +313,9 @@ same_end : (y b z c : Tree) (r : List Token) → Derives b arm_comma r → Fits 
 same_end y b z (First t) r d f g e i h = refl
 same_end y b z (Second (First t)) r d f g e i h = refl
 same_end y (Second (Second u)) z (Second (Second t)) r d f g e i h = body_ends y z g e h
-same_end y (Second (First u)) z (Second (Second t)) r d f g e i h = absurd (contrary (sym (ap is_missing i)))
+same_end y (Second (First u)) z (Second (Second t)) r d f g e i h = absurd (false≢true (sym (ap is_missing i)))
 same_end y (Second _) z (Second (Second t)) r d f g e i h = absurd d.1
-same_end y (First u) z (Second (Second t)) r d f g e i h = absurd (contrary (sym (ap is_missing i)))
+same_end y (First u) z (Second (Second t)) r d f g e i h = absurd (false≢true (sym (ap is_missing i)))
 same_end y _ z (Second (Second t)) r d f g e i h = absurd d
 same_end y b z (Second _) r d f g e i h = absurd f.1
 same_end y b z _ r d f g e i h = absurd f
@@ -411,9 +411,9 @@ with_comma last o p g a x b c i f h v e l =
 -- one that is not the last and has no comma was read so
 body_ended : (y b : Tree) (ts : List Token) → Derives b arm_comma ts → sees the_end ts ≡ false
     → is_missing (normal (not_last (kept b))) ≡ true → ends_well b (in_arm y) ≡ true → is_block_like y ≡ true
-body_ended y (First Nil) ts d n e h = absurd (contrary (sym n ∙ d.0))
+body_ended y (First Nil) ts d n e h = absurd (false≢true (sym n ∙ d.0))
 body_ended y (First _) ts d n e h = absurd d.1
-body_ended y (Second (First u)) ts d n e h = absurd (contrary e)
+body_ended y (Second (First u)) ts d n e h = absurd (false≢true e)
 body_ended y (Second (Second u)) ts d n e h = h
 body_ended y (Second _) ts d n e h = absurd d.1
 body_ended y _ ts d n e h = absurd d
@@ -499,8 +499,8 @@ not_end : (y v : Tree) (r : List Token) → Derives y (star (lacks the_end) (ref
     → sees the_end (flat y ++ r) ≡ false
 not_end (Again x y) v r d f e n =
     is_false (sees the_end (flat x ++ flat y ++ r)) d.0
-not_end End End r d f e n = absurd (contrary (sym n))
-not_end End (Again u v) r d f e n = absurd (contrary (ap is_none e))
+not_end End End r d f e n = absurd (false≢true (sym n))
+not_end End (Again u v) r d f e n = absurd (false≢true (ap is_none e))
 not_end End _ r d f e n = absurd f
 not_end _ v r d f e n = absurd d
 
@@ -524,7 +524,7 @@ arranged (Again t y) (Again u v) r d f e =
       same = refl;
     }
 arranged (Again t y) _ r d f e = absurd f
-arranged End (Again u v) r d f e = absurd (contrary (ap is_none e))
+arranged End (Again u v) r d f e = absurd (false≢true (ap is_none e))
 arranged End _ r d f e = absurd f
 arranged _ w r d f e = absurd d
 
@@ -576,7 +576,7 @@ follows_arm (First x) y f h t n =
   where
     no_more : (y : Tree) → Fits y (star (lacks the_end) (ref Arm)) → is_none y ≡ true → flat y ++ [] ≡ []
     no_more End f e = refl
-    no_more (Again u v) f e = absurd (contrary e)
+    no_more (Again u v) f e = absurd (false≢true e)
     no_more _ f e = absurd f
 
     go : (o p g a z c : Tree) → Asks (an_arm o p g a z) z → Fits (an_arm o p g a z c) arm_form
@@ -600,7 +600,7 @@ arm_read k x ts e w a =
 
 arms_read : (x : Tree) → Fits x (star (lacks the_end) (ref Arm)) → Ready x → have_commas x ≡ true
     → Derives x (star (lacks the_end) (ref Arm)) [] × (is_none x ≡ false → IsAmong (starts Arm) (flat x ++ []))
-arms_read End f w n = (refl, λ e. absurd (contrary (sym e)))
+arms_read End f w n = (refl, λ e. absurd (false≢true (sym e)))
 arms_read (Again (Node k x) y) f w n =
     let b = both_true (has_comma (is_none y) (Node k x)) (have_commas y) n in
     let r = arms_read y f.1 w.1 b.1 in

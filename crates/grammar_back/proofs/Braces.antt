@@ -5,6 +5,7 @@ use Rattle.std.proofs.Common.{inl, inr}
 use Rattle.std.proofs.lemmas.List.{append-nil}
 use Rattle.std.specs.Prelude.{Bool, true, false, not, ◌&&◌, ◌||◌, ◌⊎◌, Option, Some, None, codes, cond, nat_eq}
 use Rattle.std.proofs.lemmas.Slice.Eq.{bytes_eq-Decides}
+use Rattle.std.proofs.lemmas.Bool.{false≢true}
 use Rattle.proc_macro2.specs.Token.{Token, Opens, Closes, Ident, Literal, Punct}
 use Rattle.proc_macro2.specs.declared.delimiter.Delimiter.{Delimiter}
 use Rattle.proc_macro2.specs.declared.delimiter.Delimiter.TheVariants.{Brace}
@@ -42,9 +43,6 @@ use Rattle.grammar_back.proofs.Choices.{both_true, is_false}
 use Rattle.grammar_back.specs.After.{is_closed, is_if}
 use Rattle.grammar_back.proofs.Fits.{Fits, FitsForms}
 use Rattle.grammar_back.proofs.Parts.{none_never}
-
-pub unlike : false ≡ true → ⊥
-unlike e = cc
 
 -- tokens behind others
 more : (t u : Token) (us : List Token) → ends_in_braces (t ∷ u ∷ us) ≡ ends_in_braces (u ∷ us)
@@ -97,11 +95,11 @@ is_brace Brace = true
 is_brace d = false
 
 group_end : (d : Delimiter) (us : List Token) → is_brace d ≡ false → EndsOpen (Opens d ∷ us ++ Closes d ∷ [])
-group_end Brace us e = absurd (unlike (sym e))
+group_end Brace us e = absurd (false≢true (sym e))
 group_end d us e = open_behind (Opens d ∷ us) (Closes d ∷ []) (closed d e)
   where
     closed : (d : Delimiter) → is_brace d ≡ false → EndsOpen (Closes d ∷ [])
-    closed Brace e = absurd (unlike (sym e))
+    closed Brace e = absurd (false≢true (sym e))
     closed _ e = refl
 
 mark_then : (c : ℕ) (i : Spacing) (us : List Token) → EndsBy false us → EndsOpen (Punct c i ∷ us)
@@ -216,18 +214,18 @@ end_entry (ImplType WithPlus) e = refl
 end_entry (ImplType WithoutPlus) e = refl
 end_entry Bound e = refl
 end_entry TraitPath e = refl
-end_entry _ e = absurd (unlike e)
+end_entry _ e = absurd (false≢true e)
 
 slight_entry : (k : Kind) → is_slight k ≡ true → ends false (table k) ≡ true
 unfolding table
 slight_entry (ReturnType WithPlus) e = refl
 slight_entry (ReturnType WithoutPlus) e = refl
 slight_entry SomeBounds e = refl
-slight_entry _ e = absurd (unlike e)
+slight_entry _ e = absurd (false≢true e)
 
 of_slight : (s : Bool) (k : Kind) (us : List Token) → (not s && is_slight k) ≡ true
     → (is_slight k ≡ true → EndsBy false us) → EndsBy s us
-of_slight true k us e h = absurd (unlike e)
+of_slight true k us e h = absurd (false≢true e)
 of_slight false k us e h = h e
 
 of_kind : (s : Bool) (k : Kind) (us : List Token) → (is_end k || (not s && is_slight k)) ≡ true
@@ -239,7 +237,7 @@ of_kind s k us e h i = go (is_end k) refl e
     go false j e = of_slight s k us e i
 
 of_list : (s : Bool) (us : List Token) → not s ≡ true → EndsBy false us → EndsBy s us
-of_list true us e h = absurd (unlike e)
+of_list true us e h = absurd (false≢true e)
 of_list false us e h = h
 
 of_seq : (s : Bool) (a b : Gram) (us vs : List Token) → (ends true b || (ends false b && ends s a)) ≡ true
@@ -283,11 +281,11 @@ fits_end s (Node k x) (ref l) f e =
     of_kind s k (flat x) (ap (λ j. is_end j || (not s && is_slight j)) f.0 ∙ e)
     (λ i. fits_end true x (table k) f.3 (end_entry k i)) (λ i. fits_end false x (table k) f.3 (slight_entry k i))
 fits_end s x (judged v (many t c g)) f e = absurd f
-fits_end s x (judged v g) f e = absurd (unlike e)
-fits_end s x (star t g) f e = absurd (unlike e)
-fits_end s x raw f e = absurd (unlike e)
-fits_end s x (dropped g) f e = absurd (unlike e)
-fits_end s x (operand p n) f e = absurd (unlike e)
+fits_end s x (judged v g) f e = absurd (false≢true e)
+fits_end s x (star t g) f e = absurd (false≢true e)
+fits_end s x raw f e = absurd (false≢true e)
+fits_end s x (dropped g) f e = absurd (false≢true e)
+fits_end s x (operand p n) f e = absurd (false≢true e)
 fits_end s x never f e = absurd (none_never x f)
 fits_end s _ _ f e = absurd f
 
@@ -337,14 +335,14 @@ braced_entry ExprStruct e = refl
 braced_entry FieldValues e = refl
 braced_entry Block e = refl
 braced_entry Body e = refl
-braced_entry _ e = absurd (unlike e)
+braced_entry _ e = absurd (false≢true e)
 
 abbrev BracedBy : Bool → List Token → Type 0
 BracedBy true ts = ends_in_braces ts ≡ true
 BracedBy false ts = (ts ≡ []) ⊎ (ends_in_braces ts ≡ true)
 
 pub brace_behind : (us vs : List Token) → ends_in_braces vs ≡ true → ends_in_braces (us ++ vs) ≡ true
-brace_behind us [] e = absurd (unlike e)
+brace_behind us [] e = absurd (false≢true e)
 brace_behind us (v ∷ vs) e = behind us v vs ∙ e
 
 as_braced : (s : Bool) (ts : List Token) → ends_in_braces ts ≡ true → BracedBy s ts
@@ -369,10 +367,10 @@ braced_seq s a b us vs e f g h = go (braces true b) refl e
 group_braced : (d : Delimiter) (us : List Token) → is_brace d ≡ true
     → ends_in_braces (Opens d ∷ us ++ Closes d ∷ []) ≡ true
 group_braced Brace us e = behind (Opens Brace ∷ us) (Closes Brace) []
-group_braced _ us e = absurd (unlike e)
+group_braced _ us e = absurd (false≢true e)
 
 nothing_braced : (s : Bool) → not s ≡ true → BracedBy s []
-nothing_braced true e = absurd (unlike e)
+nothing_braced true e = absurd (false≢true e)
 nothing_braced false e = inl refl
 
 pub read_braced : (s : Bool) (x : Tree) (g : Gram) (r : List Token) → Derives x g r → braces s g ≡ true
@@ -390,16 +388,16 @@ read_braced s (Verbatim x) (judged v g) r d e = read_braced s x g r d.1 e
 read_braced s (Called n x) (called m g) r d e = read_braced s x g r d.1 e
 read_braced s (Node k x) (ref l) r d e =
     as_braced s (flat x) (read_braced true x (table k) r d.1 (braced_entry k (ap is_braced d.0 ∙ e)))
-read_braced s x (word p) r d e = absurd (unlike e)
-read_braced s x (literal p) r d e = absurd (unlike e)
-read_braced s x (mark c cs) r d e = absurd (unlike e)
-read_braced s x lifetime r d e = absurd (unlike e)
-read_braced s x raw r d e = absurd (unlike e)
-read_braced s x never r d e = absurd (unlike e)
-read_braced s x (star t g) r d e = absurd (unlike e)
-read_braced s x (many t c g) r d e = absurd (unlike e)
-read_braced s x (dropped g) r d e = absurd (unlike e)
-read_braced s x (operand p n) r d e = absurd (unlike e)
+read_braced s x (word p) r d e = absurd (false≢true e)
+read_braced s x (literal p) r d e = absurd (false≢true e)
+read_braced s x (mark c cs) r d e = absurd (false≢true e)
+read_braced s x lifetime r d e = absurd (false≢true e)
+read_braced s x raw r d e = absurd (false≢true e)
+read_braced s x never r d e = absurd (false≢true e)
+read_braced s x (star t g) r d e = absurd (false≢true e)
+read_braced s x (many t c g) r d e = absurd (false≢true e)
+read_braced s x (dropped g) r d e = absurd (false≢true e)
+read_braced s x (operand p n) r d e = absurd (false≢true e)
 read_braced s _ _ r d e = absurd d
 
 -- A macro's call ends in a brace where its tokens stand in braces.
@@ -408,7 +406,7 @@ delimited_open : (p b d : Tree) → Fits d (table Delimited)
 unfolding table
 delimited_open p b (First (Group e x)) f n = group_end e (flat x) (ap is_brace f.1.0)
 delimited_open p b (First _) f n = absurd f.1
-delimited_open p b (Second (First g)) f n = absurd (unlike (sym n))
+delimited_open p b (Second (First g)) f n = absurd (false≢true (sym n))
 delimited_open p b (Second (Second (Group e x))) f n = group_end e (flat x) (ap is_brace f.1.1.0)
 delimited_open p b (Second (Second _)) f n = absurd f.1.1
 delimited_open p b (Second _) f n = absurd f.1
@@ -466,8 +464,8 @@ delimited_braced : (p b d : Tree) (r : List Token) → Derives d (table Delimite
 unfolding table
 delimited_braced p b (Second (First (Group e x))) r d n = group_braced e (flat x) (ap is_brace d.1.1.0)
 delimited_braced p b (Second (First _)) r d n = absurd d.1.1
-delimited_braced p b (First g) r d n = absurd (unlike n)
-delimited_braced p b (Second (Second g)) r d n = absurd (unlike n)
+delimited_braced p b (First g) r d n = absurd (false≢true n)
+delimited_braced p b (Second (Second g)) r d n = absurd (false≢true n)
 delimited_braced p b (Second _) r d n = absurd d.1
 delimited_braced p b _ r d n = absurd d
 
@@ -515,11 +513,11 @@ fits_open _ f e = absurd f
 
 end_closed : (k : Kind) → is_end k ≡ true → (may_lack k ≡ false) × (is_if k ≡ false)
 unfolding may_lack
-end_closed ExprBreak e = absurd (unlike e)
-end_closed ExprReturn e = absurd (unlike e)
-end_closed ExprYield e = absurd (unlike e)
-end_closed ExprRange e = absurd (unlike e)
-end_closed ExprIf e = absurd (unlike e)
+end_closed ExprBreak e = absurd (false≢true e)
+end_closed ExprReturn e = absurd (false≢true e)
+end_closed ExprYield e = absurd (false≢true e)
+end_closed ExprRange e = absurd (false≢true e)
+end_closed ExprIf e = absurd (false≢true e)
 end_closed _ e = (refl, refl)
 
 closed : (k : Kind) → is_end k ≡ true → not (may_lack k || is_if k) ≡ true
@@ -534,19 +532,19 @@ takes_closed (Alone k y) e = closed k e
 takes_closed (Front k y x) e = takes_closed x e
 takes_closed (Back l k y) e = ap not (end_closed k e).0
 takes_closed (Infix l k y r) e = takes_closed r e
-takes_closed _ e = absurd (unlike e)
+takes_closed _ e = absurd (false≢true e)
 
 -- what is held of it is such a one only if it is one itself
 macro_kept : (y : Tree) → is_brace_macro (Alone ExprMacro y) ≡ true → is_brace_macro (Alone ExprMacro (kept y)) ≡ true
 unfolding held
 macro_kept (Node AMacro (Pair p (Pair s (Node Delimited (Second (First g)))))) e = refl
-macro_kept _ e = absurd (unlike e)
+macro_kept _ e = absurd (false≢true e)
 
 takes_kept : (x : Tree) → FitsForms x → takes_else (kept x) ≡ true → takes_else x ≡ true
 takes_kept (Alone ExprMacro y) f e = go (is_brace_macro (Alone ExprMacro y)) refl
   where
     go : (b : Bool) → is_brace_macro (Alone ExprMacro y) ≡ b → not b ≡ true
-    go true i = absurd (unlike (ap not (sym (macro_kept y i)) ∙ e))
+    go true i = absurd (false≢true (ap not (sym (macro_kept y i)) ∙ e))
     go false i = refl
 takes_kept (Alone _ y) f e = e
 takes_kept (Front k y x) f e = takes_kept x f.3 e
@@ -665,14 +663,14 @@ lacking InArm ExprRange us e = refl
 lacking InStatement ExprRange us e = refl
 lacking p ExprReturn us e = refl
 lacking p ExprYield us e = refl
-lacking p _ us e = absurd (unlike e)
+lacking p _ us e = absurd (false≢true e)
 
 right_by : (p : Position) (k : Kind) (ts : List Token) → may_lack k ≡ false → has_right p k ts ≡ takes_right k
 unfolding may_lack has_right
-right_by p ExprBreak ts e = absurd (unlike (sym e))
-right_by p ExprReturn ts e = absurd (unlike (sym e))
-right_by p ExprYield ts e = absurd (unlike (sym e))
-right_by p ExprRange ts e = absurd (unlike (sym e))
+right_by p ExprBreak ts e = absurd (false≢true (sym e))
+right_by p ExprReturn ts e = absurd (false≢true (sym e))
+right_by p ExprYield ts e = absurd (false≢true (sym e))
+right_by p ExprRange ts e = absurd (false≢true (sym e))
 right_by p _ ts e = refl
 
 last_takes : (p : Position) (k : Kind) (y : Tree) (r : List Token) → is_sorted k ≡ true → Derives y (table k) r
@@ -680,17 +678,17 @@ last_takes : (p : Position) (k : Kind) (y : Tree) (r : List Token) → is_sorted
 last_takes p k y r s d h m n = go (is_end k) (is_macro k) (is_braced k) (may_lack k) refl refl s
   where
     none : may_lack k ≡ false → takes_right k ≡ true → ⊥
-    none l t = unlike (sym h ∙ right_by p k r l ∙ t)
+    none l t = false≢true (sym h ∙ right_by p k r l ∙ t)
 
     lack : may_lack k ≡ true → ⊥
     lack l =
-        unlike (sym h ∙ subst (λ us. has_right p k us ≡ true) (sym m.1) (lacking p k m.0 l))
+        false≢true (sym h ∙ subst (λ us. has_right p k us ≡ true) (sym m.1) (lacking p k m.0 l))
 
     go : (a b c e : Bool) → is_braced k ≡ c → may_lack k ≡ e
         → (a || (b || (c || (e || takes_right k)))) ≡ true → (a || b) ≡ true
     go true b c e i j s = refl
     go false true c e i j s = refl
-    go false false true e i j s = absurd (unlike (sym n ∙ read_braced true y (table k) r d (braced_entry k i)))
+    go false false true e i j s = absurd (false≢true (sym n ∙ read_braced true y (table k) r d (braced_entry k i)))
     go false false false true i j s = absurd (lack j)
     go false false false false i j s = absurd (none j s)
 
@@ -698,7 +696,7 @@ not_braced : (us vs : List Token) → ends_in_braces (us ++ vs) ≡ false → en
 not_braced us vs e = go (ends_in_braces vs) refl
   where
     go : (b : Bool) → ends_in_braces vs ≡ b → b ≡ false
-    go true i = absurd (unlike (sym e ∙ brace_behind us vs i))
+    go true i = absurd (false≢true (sym e ∙ brace_behind us vs i))
     go false i = refl
 
 alone_takes : (k : Kind) (y : Tree) → (is_end k || is_macro k) ≡ true
@@ -752,7 +750,7 @@ takes_read (Alone k y) p r d m n =
   where
     go : k ≡ ExprMacro → (b : Bool) → is_brace_macro (Alone ExprMacro y) ≡ b → b ≡ false
     go e true i =
-        absurd (unlike (sym n ∙ macro_braced y r (subst (λ j. Derives y (table j) r) e d.1) i))
+        absurd (false≢true (sym n ∙ macro_braced y r (subst (λ j. Derives y (table j) r) e d.1) i))
     go e false i = refl
 takes_read (Front k y x) p r d m n = takes_read x (inside p k) r d.4 m (not_braced (flat y) (flat x) n)
 takes_read (Back l k y) p r d m n =

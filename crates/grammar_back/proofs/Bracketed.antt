@@ -1,6 +1,7 @@
 -- The type behind impl: where it begins with <, that begins no generics; and the same of what was read.
 use Rattle.std.proofs.Common.{◌≡◌, ℕ, List, [], ◌∷◌, ◌++◌, refl, sym, ap, ◌∙◌, subst, append_assoc, ⊎_elim}
 use Rattle.std.specs.Prelude.{Bool, true, false, codes, cond, Option, Some, None, ◌==◌}
+use Rattle.std.proofs.lemmas.Bool.{false≢true}
 use Rattle.proc_macro2.specs.Token.{Token, Ident, Opens, Punct}
 use Rattle.proc_macro2.specs.declared.delimiter.Delimiter.{Delimiter}
 use Rattle.proc_macro2.specs.declared.delimiter.Delimiter.TheVariants.{Parenthesis, Bracket}
@@ -25,7 +26,7 @@ use Rattle.syn_grammar.specs.Tidy.{begins_bracketed, is_bracketed, is_ident_type
 use Rattle.syn_grammar.specs.Normal.{passed, normal_in}
 use Rattle.syn_grammar.specs.Verdicts.{is_path}
 use Rattle.grammar_back.specs.Sees.{Lacks, LacksAll}
-use Rattle.grammar_back.proofs.Choices.{none_of, other_word, unlike}
+use Rattle.grammar_back.proofs.Choices.{none_of, other_word}
 use Rattle.grammar_back.proofs.Classes.{of_all, the_words}
 use Rattle.grammar_back.proofs.Fine.{words_are}
 use Rattle.grammar_back.proofs.Fits.{is_never}
@@ -324,10 +325,10 @@ IsIdent x = (cs : List ℕ) × (is_ident cs ≡ true) × (flat x ≡ Ident cs �
 ident_segment : (x : Tree) (k : Style) (s : List Token) → Derives x (table (Segments k)) s
     → is_lone_segment (normal_in Plain (kept (Node (Segments k) x))) ≡ true → IsIdent x
 unfolding table held passed
-ident_segment (First x) k s d e = absurd (unlike e)
-ident_segment (Second (Pair (AWord cs) (First x))) k s d e = absurd (unlike e)
-ident_segment (Second (Pair (AWord cs) (Second (First x)))) k s d e = absurd (unlike e)
-ident_segment (Second (Pair (AWord cs) (Second (Second (First x))))) k s d e = absurd (unlike e)
+ident_segment (First x) k s d e = absurd (false≢true e)
+ident_segment (Second (Pair (AWord cs) (First x))) k s d e = absurd (false≢true e)
+ident_segment (Second (Pair (AWord cs) (Second (First x)))) k s d e = absurd (false≢true e)
+ident_segment (Second (Pair (AWord cs) (Second (Second (First x))))) k s d e = absurd (false≢true e)
 ident_segment (Second (Pair (AWord cs) (Second (Second (Second Nil))))) k s d e = (cs, e, refl)
 ident_segment (Second (Pair (AWord cs) (Second (Second (Second _))))) k s d e = absurd d.1.1.1.1.1
 ident_segment (Second (Pair (AWord cs) (Second (Second _)))) k s d e = absurd d.1.1.1.1
@@ -340,7 +341,7 @@ ident_segment _ k s d e = absurd d
 ident_path : (x : Tree) (k j : Style) (s : List Token) → Derives x (table (Path k)) s
     → is_lone_path (normal_in Plain (kept (Node (AnyPath j) (Second (Node (Path k) x))))) ≡ true → IsIdent x
 unfolding table held passed
-ident_path (Pair (First m) y) k j s d e = absurd (unlike e)
+ident_path (Pair (First m) y) k j s d e = absurd (false≢true e)
 ident_path (Pair (Second Nil) (Node l y)) k j s d e =
     ident_segment y k s (subst (λ i. Derives y (table i) s) d.1.0 d.1.1)
     (subst (λ i. is_lone_segment (normal_in Plain (kept (Node i y))) ≡ true) d.1.0 e)
@@ -352,7 +353,7 @@ ident_path _ k j s d e = absurd d
 ident_any : (x : Tree) (k : Style) (s : List Token) → Derives x (table (AnyPath k)) s
     → is_lone_path (normal_in Plain (kept (Node (AnyPath k) x))) ≡ true → IsIdent x
 unfolding table held passed
-ident_any (First x) k s d e = absurd (unlike e)
+ident_any (First x) k s d e = absurd (false≢true e)
 ident_any (Second (Node l y)) k s d e =
     ident_path y k k s (subst (λ i. Derives y (table i) s) d.1.0 d.1.1)
     (subst (λ i. is_lone_path (normal_in Plain (kept (Node (AnyPath k) (Second (Node i y))))) ≡ true) d.1.0 e)
@@ -363,7 +364,7 @@ ident_node : (k : Kind) (x : Tree) (s : List Token) → Derives x (table k) s
     → is_lone_path (normal_in Plain (kept (Node k x))) ≡ true → IsIdent x
 unfolding held passed
 ident_node (AnyPath k) x s d e = ident_any x k s d e
-ident_node _ x s d e = absurd (unlike e)
+ident_node _ x s d e = absurd (false≢true e)
 
 ident_read : (x : Tree) (g : Gram) (s : List Token) → Derives x g s
     → is_lone_path (choice (normal_in Plain (kept x))) ≡ true → IsIdent x
@@ -375,7 +376,7 @@ ident_read (First x) _ s d e = absurd d
 ident_read (Second x) _ s d e = absurd d
 ident_read (Node k x) _ s d e = absurd d
 ident_read (Back l k y) _ s d e = absurd d
-ident_read _ _ s d e = absurd (unlike e)
+ident_read _ _ s d e = absurd (false≢true e)
 
 one_ident : (c e : ℕ) (cs es ds : List ℕ) (i k : Spacing) (x r : Tree) (s : List Token) → c ≡ 60 → cs ≡ [] → e ≡ 62
     → es ≡ [] → flat x ≡ Ident ds ∷ [] → is_ident ds ≡ true
@@ -401,7 +402,7 @@ bracketed_path (Pair (AMark c cs i) (Pair (Node l z) (Pair (Second Nil) (Pair (A
 bracketed_path (Pair (AMark c cs i) (Pair (Node l z) (Pair (Second Nil) (Pair _ r)))) k j s d e = absurd d.1.1.1.0
 bracketed_path (Pair (AMark c cs i) (Pair (Node l z) (Pair (Second Nil) _))) k j s d e = absurd d.1.1.1
 bracketed_path (Pair (AMark c cs i) (Pair (Node l z) (Pair (Second _) r))) k j s d e = absurd d.1.1.0.1
-bracketed_path (Pair (AMark c cs i) (Pair (Node l z) (Pair (First a) r))) k j s d e = absurd (unlike e)
+bracketed_path (Pair (AMark c cs i) (Pair (Node l z) (Pair (First a) r))) k j s d e = absurd (false≢true e)
 bracketed_path (Pair (AMark c cs i) (Pair (Node l z) (Pair _ r))) k j s d e = absurd d.1.1.0
 bracketed_path (Pair (AMark c cs i) (Pair (Node l z) _)) k j s d e = absurd d.1.1
 bracketed_path (Pair (AMark c cs i) (Pair _ y)) k j s d e = absurd d.1.0
@@ -417,14 +418,14 @@ bracketed_any (First (Node l y)) k s d e =
     bracketed_path y k k s (subst (λ i. Derives y (table i) s) d.1.0 d.1.1)
     (subst (λ i. is_bracketed (normal_in Plain (kept (Node (AnyPath k) (First (Node i y))))) ≡ true) d.1.0 e)
 bracketed_any (First _) k s d e = absurd d.1
-bracketed_any (Second x) k s d e = absurd (unlike e)
+bracketed_any (Second x) k s d e = absurd (false≢true e)
 bracketed_any _ k s d e = absurd d
 
 bracketed_node : (k : Kind) (x : Tree) (s : List Token) → Derives x (table k) s
     → is_bracketed (normal_in Plain (kept (Node k x))) ≡ true → sees impl_generics_stand (flat x ++ s) ≡ true
 unfolding held passed
 bracketed_node (AnyPath k) x s d e = bracketed_any x k s d e
-bracketed_node _ x s d e = absurd (unlike e)
+bracketed_node _ x s d e = absurd (false≢true e)
 
 pub bracketed_read : (x : Tree) (g : Gram) (s : List Token) → Derives x g s
     → is_bracketed (choice (normal_in Plain (kept x))) ≡ true → sees impl_generics_stand (flat x ++ s) ≡ true
@@ -436,7 +437,7 @@ bracketed_read (First x) _ s d e = absurd d
 bracketed_read (Second x) _ s d e = absurd d
 bracketed_read (Node k x) _ s d e = absurd d
 bracketed_read (Back l k y) _ s d e = absurd d
-bracketed_read _ _ s d e = absurd (unlike e)
+bracketed_read _ _ s d e = absurd (false≢true e)
 
 -- a path that isn't qualified doesn't
 pub path_open : (x : Tree) → is_path (choice x) ≡ true → is_bracketed (choice (normal_in Plain (kept x))) ≡ false
@@ -444,7 +445,7 @@ unfolding held passed
 path_open (First x) e = path_open x e
 path_open (Second x) e = path_open x e
 path_open (Node (AnyPath s) (Second x)) e = refl
-path_open _ e = absurd (unlike e)
+path_open _ e = absurd (false≢true e)
 
 -- and a ! before which no polarity was seen stands before braces
 never_node : (k : Kind) (x : Tree) (s : List Token) → Derives x (table k) s
@@ -464,7 +465,7 @@ never_node NeverType (AMark c cs i) s d e h = bang c cs i d.0 d.1 h
         (subst (λ ks. Lacks (marks "!" then no brace) (signs 33 ks i ++ s)) f
         (subst (λ k. Lacks (marks "!" then no brace) (signs k cs i ++ s)) e h))
 never_node NeverType _ s d e h = absurd d
-never_node _ x s d e h = absurd (unlike e)
+never_node _ x s d e h = absurd (false≢true e)
 
 pub never_read : (x : Tree) (g : Gram) (s : List Token) → Derives x g s
     → is_never (choice (normal_in Plain (kept x))) ≡ true → Lacks (marks "!" then no brace) (flat x ++ s)
@@ -477,4 +478,4 @@ never_read (First x) _ s d e h = absurd d
 never_read (Second x) _ s d e h = absurd d
 never_read (Node k x) _ s d e h = absurd d
 never_read (Back l k y) _ s d e h = absurd d
-never_read _ _ s d e h = absurd (unlike e)
+never_read _ _ s d e h = absurd (false≢true e)

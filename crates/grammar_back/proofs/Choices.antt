@@ -8,9 +8,6 @@ use Rattle.syn_grammar.specs.Look.{first_seen, seen, sees, the_word}
 use Rattle.grammar_back.specs.Sees.{Lacks}
 
 -- booleans
-pub unlike : false ≡ true → ⊥
-unlike e = cc
-
 pub both_true : (a b : Bool) → (a && b) ≡ true → (a ≡ true) × (b ≡ true)
 both_true true b e = (refl, e)
 both_true false b e = cc

@@ -2,6 +2,7 @@
 -- and so it is in normal form.
 use Rattle.std.proofs.Common.{◌≡◌, ℕ, List, [], ◌∷◌, ◌++◌, refl, sym, ap, ◌∙◌, subst, append_assoc}
 use Rattle.std.specs.Prelude.{Bool, true, false, ◌&&◌, ◌||◌, not, cond, codes, Some, None}
+use Rattle.std.proofs.lemmas.Bool.{false≢true}
 use Rattle.proc_macro2.specs.Token.{Token, Closes, Ident, Opens}
 use Rattle.proc_macro2.specs.declared.delimiter.Delimiter.TheVariants.{Parenthesis}
 use Rattle.syn_grammar.specs.Kind.{AnyPath, AtType, AType, Path, Plain, Position, Segments, TupleType}
@@ -252,19 +253,16 @@ clear_fits _ f = absurd f
 abbrev pub IsWord : List Token → Type 0
 IsWord ts = (cs : List ℕ) × (ts ≡ Ident cs ∷ []) × (is_path_keyword cs ≡ true)
 
-pub never : false ≡ true → ⊥
-never e = cc e
-
 segments_word : (x : Tree) (r : List Token) → Derives x (table (Segments AtType)) r → is_word_segments x ≡ true
     → IsWord (flat x)
 unfolding table
 segments_word (First (Pair (AWord cs) (Second Nil))) r d e = (cs, refl, d.1.0)
 segments_word (First (Pair (AWord cs) (Second _))) r d e = absurd d.1.1.1
-segments_word (First (Pair (AWord cs) (First y))) r d e = absurd (never e)
+segments_word (First (Pair (AWord cs) (First y))) r d e = absurd (false≢true e)
 segments_word (First (Pair (AWord cs) _)) r d e = absurd d.1.1
 segments_word (First (Pair _ y)) r d e = absurd d.1.0
 segments_word (First _) r d e = absurd d.1
-segments_word (Second y) r d e = absurd (never e)
+segments_word (Second y) r d e = absurd (false≢true e)
 segments_word _ r d e = absurd d
 
 path_word : (x : Tree) (r : List Token) → Derives x (table (Path AtType)) r → is_word_path x ≡ true → IsWord (flat x)
@@ -272,7 +270,7 @@ unfolding table
 path_word (Pair (Second Nil) (Node k y)) r d e = segments_word y r (subst (λ j. Derives y (table j) r) d.1.0 d.1.1) e
 path_word (Pair (Second Nil) _) r d e = absurd d.1
 path_word (Pair (Second _) y) r d e = absurd d.0.1
-path_word (Pair (First c) y) r d e = absurd (never e)
+path_word (Pair (First c) y) r d e = absurd (false≢true e)
 path_word (Pair _ y) r d e = absurd d.0
 path_word _ r d e = absurd d
 
@@ -280,7 +278,7 @@ any_word : (x : Tree) (r : List Token) → Derives x (table (AnyPath AtType)) r 
 unfolding table
 any_word (Second (Node k y)) r d e = path_word y r (subst (λ j. Derives y (table j) r) d.1.0 d.1.1) e
 any_word (Second _) r d e = absurd d.1
-any_word (First y) r d e = absurd (never e)
+any_word (First y) r d e = absurd (false≢true e)
 any_word _ r d e = absurd d
 
 pub type_word : (x : Tree) (r : List Token) → Derives x (table (AType WithPlus)) r → is_word_type x ≡ true
@@ -288,15 +286,15 @@ pub type_word : (x : Tree) (r : List Token) → Derives x (table (AType WithPlus
 unfolding table
 type_word (Second (Second (Second (Second (Second (Second (Second (Second (Second (Node k y)))))))))) r d e =
     any_word y r (subst (λ j. Derives y (table j) r) d.1.1.1.1.1.1.1.1.1.0 d.1.1.1.1.1.1.1.1.1.1) e
-type_word (First y) r d e = absurd (never e)
-type_word (Second (First y)) r d e = absurd (never e)
-type_word (Second (Second (First y))) r d e = absurd (never e)
-type_word (Second (Second (Second (First y)))) r d e = absurd (never e)
-type_word (Second (Second (Second (Second (First y))))) r d e = absurd (never e)
-type_word (Second (Second (Second (Second (Second (First y)))))) r d e = absurd (never e)
-type_word (Second (Second (Second (Second (Second (Second (First y))))))) r d e = absurd (never e)
-type_word (Second (Second (Second (Second (Second (Second (Second (First y)))))))) r d e = absurd (never e)
-type_word (Second (Second (Second (Second (Second (Second (Second (Second (First y))))))))) r d e = absurd (never e)
+type_word (First y) r d e = absurd (false≢true e)
+type_word (Second (First y)) r d e = absurd (false≢true e)
+type_word (Second (Second (First y))) r d e = absurd (false≢true e)
+type_word (Second (Second (Second (First y)))) r d e = absurd (false≢true e)
+type_word (Second (Second (Second (Second (First y))))) r d e = absurd (false≢true e)
+type_word (Second (Second (Second (Second (Second (First y)))))) r d e = absurd (false≢true e)
+type_word (Second (Second (Second (Second (Second (Second (First y))))))) r d e = absurd (false≢true e)
+type_word (Second (Second (Second (Second (Second (Second (Second (First y)))))))) r d e = absurd (false≢true e)
+type_word (Second (Second (Second (Second (Second (Second (Second (Second (First y))))))))) r d e = absurd (false≢true e)
 type_word (Second (Second (Second (Second (Second (Second (Second (Second (Second _))))))))) r d e =
     absurd d.1.1.1.1.1.1.1.1.1
 type_word (Second (Second (Second (Second (Second (Second (Second (Second _)))))))) r d e = absurd d.1.1.1.1.1.1.1.1
@@ -314,8 +312,8 @@ inside_word : (x : Tree) (r : List Token) → Derives x (many_to_end (ref (AType
 unfolding table
 inside_word (Final (Node k y)) r d e = type_word y r (subst (λ j. Derives y (table j) r) d.1.0 d.1.1) e
 inside_word (Final _) r d e = absurd d.1
-inside_word (More x m spacing y) r d e = absurd (never e)
-inside_word End r d e = absurd (never e)
+inside_word (More x m spacing y) r d e = absurd (false≢true e)
+inside_word End r d e = absurd (false≢true e)
 inside_word _ r d e = absurd d
 
 -- that is seen as a restriction
@@ -356,7 +354,7 @@ unfolding table
 type_seen (First (Node k y)) r d e us =
     group_seen y r (subst (λ j. Derives y (table j) r) d.1.0 d.1.1) e us
 type_seen (First _) r d e us = absurd d.1
-type_seen (Second y) r d e us = absurd (never e)
+type_seen (Second y) r d e us = absurd (false≢true e)
 type_seen _ r d e us = absurd d
 
 -- so what was read is none
@@ -366,7 +364,7 @@ unrestricted x r us d n = go (is_restriction x) refl
   where
     go : (b : Bool) → is_restriction x ≡ b → b ≡ false
     go false e = refl
-    go true e = absurd (never (sym n ∙ type_seen x r d e us))
+    go true e = absurd (false≢true (sym n ∙ type_seen x r d e us))
 
 pub clear_read : (x : Tree) (r : List Token) → Derives x (table UnnamedField) r → has_clear_type x ≡ true
 unfolding table

@@ -1,6 +1,7 @@
 -- Behind a condition stands a brace: in each entry, whatever was read.
 use Rattle.std.proofs.Common.{◌≡◌, List, ◌++◌, refl, sym, ap, ◌∙◌, subst, append_assoc}
 use Rattle.std.specs.Prelude.{Bool, true, false, not, ◌&&◌, ◌||◌}
+use Rattle.std.proofs.lemmas.Bool.{false≢true}
 use Rattle.proc_macro2.specs.Token.{Token}
 use Rattle.proc_macro2.specs.declared.delimiter.Delimiter.{Delimiter}
 use Rattle.proc_macro2.specs.declared.delimiter.Delimiter.TheVariants.{Brace}
@@ -15,7 +16,6 @@ use Rattle.syn_grammar.specs.Look.{sees}
 use Rattle.syn_grammar.specs.Say.{brace}
 use Rattle.syn_grammar.specs.Table.{table}
 use Rattle.syn_grammar.specs.Derives.{Derives}
-use Rattle.grammar_back.proofs.Choices.{unlike}
 
 -- an entry ends in a condition
 abbrev pub is_condition : Position → Bool
@@ -78,7 +78,7 @@ block_stands : (k : Kind) (x : Tree) (r : List Token) → is_block k ≡ true �
 unfolding table
 block_stands Block x r e d = in_group_stands x _ r d
 block_stands Body x r e d = in_group_stands x _ r d
-block_stands _ x r e d = absurd (unlike e)
+block_stands _ x r e d = absurd (false≢true e)
 
 pub brace_stands : (g : Gram) (y : Tree) (r : List Token) → begins_in_braces g ≡ true → Derives y g r
     → sees brace (flat y ++ r) ≡ true
@@ -91,7 +91,7 @@ brace_stands (seq a b) (Pair x y) r h i =
 brace_stands (group e g) _ r h i = absurd i
 brace_stands (ref k) _ r h i = absurd i
 brace_stands (seq a b) _ r h i = absurd i
-brace_stands _ y r h i = absurd (unlike h)
+brace_stands _ y r h i = absurd (false≢true h)
 
 -- of each kind
 pub all_braced : (k : Kind) → is_braced (table k) ≡ true

@@ -1,6 +1,7 @@
 -- A macro by the word crate alone among statements: what is printed for one is such a macro.
 use Rattle.std.proofs.Common.{◌≡◌, List, refl, sym, ap, ◌∙◌, subst}
 use Rattle.std.specs.Prelude.{Bool, true, ◌&&◌, not}
+use Rattle.std.proofs.lemmas.Bool.{false≢true}
 use Rattle.proc_macro2.specs.Token.{Token}
 use Rattle.syn_grammar.specs.Kind.{Kind, AnItem, InFile, InModule, ItemMacro, Path, Plain, Segments}
 use Rattle.syn_grammar.specs.Tree.{Tree, AWord, Called, First, Nil, Node, Pair, Second}
@@ -12,7 +13,7 @@ use Rattle.syn_grammar.specs.Derives.{Derives}
 use Rattle.syn_grammar.specs.Kept.{held, is_there, kept}
 use Rattle.syn_grammar.specs.Normal.{normal_in, passed, place_of}
 use Rattle.grammar_back.specs.Covered.{is_crate_path, is_no_call, item_of}
-use Rattle.grammar_back.proofs.Choices.{both_same, both_true, unlike}
+use Rattle.grammar_back.proofs.Choices.{both_same, both_true}
 use Rattle.grammar_back.proofs.Fits.{Fits}
 use Rattle.grammar_back.proofs.ItemVerdicts.{EachOf, LawOf, form_same}
 use Rattle.grammar_back.proofs.WholeItems.{whole_item}
@@ -56,7 +57,7 @@ names_normal : (z : Tree) (r : List Token) → Derives z (table (Segments InModu
     ≡ true
 unfolding table held passed
 names_normal (First (Pair (AWord cs) (Second y))) r d e = e
-names_normal _ r d e = absurd (unlike e)
+names_normal _ r d e = absurd (false≢true e)
 
 path_normal : (x : Tree) (r : List Token) → Derives x (table (Path InModule)) r
     → is_crate_path (Node (Path InModule) x) ≡ true
@@ -69,7 +70,7 @@ path_normal (Pair (Second Nil) (Node l z)) r d e =
     (subst (λ j. is_crate_path (Node (Path InModule) (Pair (Second Nil) (Node j z))) ≡ true) d.1.0 e))
 path_normal (Pair (Second Nil) _) r d e = absurd d.1
 path_normal (Pair (Second _) z) r d e = absurd d.0.1
-path_normal _ r d e = absurd (unlike e)
+path_normal _ r d e = absurd (false≢true e)
 
 whole_normal : (q : Tree) (r : List Token) → Derives q (ref (Path InModule)) r → is_crate_path q ≡ true
     → is_crate_path (normal_in Plain (kept q)) ≡ true

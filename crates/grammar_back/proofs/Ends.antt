@@ -2,6 +2,7 @@
 -- too, and what is held of no other is.
 use Rattle.std.proofs.Common.{◌≡◌, [], refl, sym, ap, ◌∙◌, subst}
 use Rattle.std.specs.Prelude.{Bool, true, false, not, ◌&&◌, ◌||◌}
+use Rattle.std.proofs.lemmas.Bool.{false≢true}
 use Rattle.syn_grammar.specs.Kind.{Position, Plain, InCondition, InArm, InStatement, AMacro, Delimited}
 use Rattle.syn_grammar.specs.Kind.{ExprAttributed, ExprBlock, ExprConst, ExprForLoop, ExprIf, ExprLoop, ExprMacro}
 use Rattle.syn_grammar.specs.Kind.{ExprMatch, ExprRange, ExprRangeClosed, ExprTryBlock, ExprUnsafe, ExprWhile}
@@ -12,30 +13,29 @@ use Rattle.syn_grammar.specs.Kept.{held, kept}
 use Rattle.syn_grammar.specs.Normal.{formed, normal}
 use Rattle.syn_grammar.specs.Parens.{begins_in, front_form, may_lack, parens_unless, with_right}
 use Rattle.grammar_back.specs.After.{is_closed}
-use Rattle.grammar_back.proofs.Choices.{unlike}
 use Rattle.grammar_back.proofs.Fits.{Fits, FitsForms}
 
 -- Such a form is no range, also behind attributes,
 block_lone : (x : Tree) → is_block_like x ≡ true → (is_range x ≡ false) × (within 15 x ≡ true)
 unfolding level
-block_lone (Alone ExprRange y) e = absurd (unlike e)
-block_lone (Alone ExprRangeClosed y) e = absurd (unlike e)
+block_lone (Alone ExprRange y) e = absurd (false≢true e)
+block_lone (Alone ExprRangeClosed y) e = absurd (false≢true e)
 block_lone (Alone _ y) e = (refl, refl)
 block_lone (Front ExprAttributed y x) e = ((block_lone x e).0, refl)
-block_lone (Front _ y x) e = absurd (unlike e)
-block_lone (Back l k y) e = absurd (unlike e)
-block_lone (Infix l k y r) e = absurd (unlike e)
-block_lone _ e = absurd (unlike e)
+block_lone (Front _ y x) e = absurd (false≢true e)
+block_lone (Back l k y) e = absurd (false≢true e)
+block_lone (Infix l k y r) e = absurd (false≢true e)
+block_lone _ e = absurd (false≢true e)
 
 macro_lone : (x : Tree) → is_brace_macro x ≡ true → (is_range x ≡ false) × (within 15 x ≡ true)
 unfolding level
 macro_lone (Alone ExprMacro y) e = (refl, refl)
-macro_lone (Alone _ y) e = absurd (unlike e)
+macro_lone (Alone _ y) e = absurd (false≢true e)
 macro_lone (Front ExprAttributed y x) e = ((macro_lone x e).0, refl)
-macro_lone (Front _ y x) e = absurd (unlike e)
-macro_lone (Back l k y) e = absurd (unlike e)
-macro_lone (Infix l k y r) e = absurd (unlike e)
-macro_lone _ e = absurd (unlike e)
+macro_lone (Front _ y x) e = absurd (false≢true e)
+macro_lone (Back l k y) e = absurd (false≢true e)
+macro_lone (Infix l k y r) e = absurd (false≢true e)
+macro_lone _ e = absurd (false≢true e)
 
 -- so it stays as it stands behind them.
 stays_whole : (p : Position) (y x : Tree) → begins_in p ExprAttributed ≡ true
@@ -59,30 +59,30 @@ block_read p h (Alone ExprTryBlock y) e = refl
 block_read p h (Alone ExprUnsafe y) e = refl
 block_read p h (Alone ExprConst y) e = refl
 block_read p h (Alone ExprBlock y) e = refl
-block_read p h (Alone _ y) e = absurd (unlike e)
+block_read p h (Alone _ y) e = absurd (false≢true e)
 block_read p h (Front ExprAttributed y x) e =
     let z : Tree = formed p [] (kept x) in
     let r = block_read p h x e in
     ap is_block_like (stays_whole p (normal (kept y)) z h (block_lone z r)) ∙ r
-block_read p h (Front _ y x) e = absurd (unlike e)
-block_read p h (Back l k y) e = absurd (unlike e)
-block_read p h (Infix l k y r) e = absurd (unlike e)
-block_read p h _ e = absurd (unlike e)
+block_read p h (Front _ y x) e = absurd (false≢true e)
+block_read p h (Back l k y) e = absurd (false≢true e)
+block_read p h (Infix l k y r) e = absurd (false≢true e)
+block_read p h _ e = absurd (false≢true e)
 
 pub macro_read : (p : Position) → begins_in p ExprAttributed ≡ true → (x : Tree) → is_brace_macro x ≡ true
     → is_brace_macro (formed p [] (kept x)) ≡ true
 unfolding may_lack held inside
 macro_read p h (Alone ExprMacro (Node AMacro (Pair a (Pair s (Node Delimited (Second (First g))))))) e = refl
-macro_read p h (Alone ExprMacro _) e = absurd (unlike e)
-macro_read p h (Alone _ y) e = absurd (unlike e)
+macro_read p h (Alone ExprMacro _) e = absurd (false≢true e)
+macro_read p h (Alone _ y) e = absurd (false≢true e)
 macro_read p h (Front ExprAttributed y x) e =
     let z : Tree = formed p [] (kept x) in
     let r = macro_read p h x e in
     ap is_brace_macro (stays_whole p (normal (kept y)) z h (macro_lone z r)) ∙ r
-macro_read p h (Front _ y x) e = absurd (unlike e)
-macro_read p h (Back l k y) e = absurd (unlike e)
-macro_read p h (Infix l k y r) e = absurd (unlike e)
-macro_read p h _ e = absurd (unlike e)
+macro_read p h (Front _ y x) e = absurd (false≢true e)
+macro_read p h (Back l k y) e = absurd (false≢true e)
+macro_read p h (Infix l k y r) e = absurd (false≢true e)
+macro_read p h _ e = absurd (false≢true e)
 
 either : (a b c d : Bool) → (a ≡ true → c ≡ true) → (b ≡ true → d ≡ true) → (a || b) ≡ true → (c || d) ≡ true
 either true b c d f g e = ap (λ i. i || d) (f refl)
@@ -113,9 +113,9 @@ delimited_back : (a b d : Tree) → Fits d (table Delimited)
     → Turns (Alone ExprMacro (Node AMacro (Pair a (Pair b (Node Delimited d)))))
 unfolding table held
 delimited_back a b (Second (First g)) f e = refl
-delimited_back a b (Second (Second g)) f e = absurd (unlike e)
+delimited_back a b (Second (Second g)) f e = absurd (false≢true e)
 delimited_back a b (Second _) f e = absurd f.1
-delimited_back a b (First g) f e = absurd (unlike e)
+delimited_back a b (First g) f e = absurd (false≢true e)
 delimited_back a b _ f e = absurd f
 
 -- a macro, by its path, its ! and its group
@@ -143,12 +143,12 @@ own_back y f e = each_call (λ z. Turns (Alone ExprMacro z)) delimited_back y f 
 
 macro_back : (x : Tree) → FitsForms x → Turns x
 macro_back (Alone ExprMacro y) f e = own_back y f.1 e
-macro_back (Alone _ y) f e = absurd (unlike e)
+macro_back (Alone _ y) f e = absurd (false≢true e)
 macro_back (Front ExprAttributed y x) f e = macro_back x f.3 e
-macro_back (Front _ y x) f e = absurd (unlike e)
+macro_back (Front _ y x) f e = absurd (false≢true e)
 macro_back (Back l k y) f e =
-    absurd (unlike (subst (λ z. is_brace_macro z ≡ true) (f.3 (kept l)) e))
-macro_back (Infix l k y r) f e = absurd (unlike e)
+    absurd (false≢true (subst (λ z. is_brace_macro z ≡ true) (f.3 (kept l)) e))
+macro_back (Infix l k y r) f e = absurd (false≢true e)
 macro_back _ f e = absurd f
 
 or_back : (a b c d : Bool) → a ≡ c → (b ≡ true → d ≡ true) → (a || b) ≡ true → (c || d) ≡ true
@@ -160,8 +160,8 @@ ends_back InArm x f e = sym (block_kept x f) ∙ e
 ends_back InStatement x f e =
     or_back (is_block_like (kept x)) (is_brace_macro (kept x)) (is_block_like x) (is_brace_macro x) (block_kept x f)
     (macro_back x f) e
-ends_back Plain x f e = absurd (unlike e)
-ends_back InCondition x f e = absurd (unlike e)
+ends_back Plain x f e = absurd (false≢true e)
+ends_back InCondition x f e = absurd (false≢true e)
 
 -- and one that else may follow
 pub closed_kept : (x : Tree) → FitsForms x → is_closed (kept x) ≡ is_closed x

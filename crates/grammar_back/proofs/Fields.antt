@@ -3,6 +3,7 @@ use Rattle.std.proofs.Common.{◌≡◌, ◌<◌, ℕ, List, [], ◌∷◌, ◌+
 use Rattle.std.proofs.Common.{inr, arith}
 use Rattle.std.specs.Prelude.{Bool, true, false, ◌⊎◌, ◌&&◌, ◌||◌, cond, length, not, codes, Option, Some, None}
 use Rattle.std.proofs.lemmas.Slice.Eq.{bytes_eq-Decides}
+use Rattle.std.proofs.lemmas.Bool.{false≢true}
 use Rattle.proc_macro2.specs.Token.{Token, Ident, Opens, Closes, Punct}
 use Rattle.proc_macro2.specs.declared.delimiter.Delimiter.TheVariants.{Bracket, Parenthesis}
 use Rattle.rust_leaf.specs.declared.punct.Spacing.{Spacing}
@@ -26,7 +27,7 @@ use Rattle.syn_grammar.proofs.Firm.{firm}
 use Rattle.syn_grammar.proofs.Whole.{takes}
 use Rattle.grammar_back.specs.After.{behind}
 use Rattle.grammar_back.specs.Sees.{Lacks, LacksAll}
-use Rattle.grammar_back.proofs.ClearFields.{never, type_word}
+use Rattle.grammar_back.proofs.ClearFields.{type_word}
 use Rattle.grammar_back.proofs.FieldTypes.{is_bare_pub, is_clear, is_restriction, is_word_any, is_word_group}
 use Rattle.grammar_back.proofs.FieldTypes.{is_word_inside, is_word_path, is_word_segments, is_word_type}
 use Rattle.grammar_back.proofs.Classes.{Class, ◌&◌, IsAmong, among_left, among_right, of_all, the_words}
@@ -106,7 +107,7 @@ word_none w (Ident cs ∷ us) n e = go (same_text w cs) refl
     go : (b : Bool) → same_text w cs ≡ b → seen (cond (is_key cs) (Some us) None) ≡ false
     go true f =
         ap (λ b. seen (cond b (Some us) None)) (ap is_key (sym ((bytes_eq-Decides w cs).0 f)) ∙ n)
-    go false f = absurd (never (sym (ap (λ b. seen (cond b (Some us) None)) f) ∙ e))
+    go false f = absurd (false≢true (sym (ap (λ b. seen (cond b (Some us) None)) f) ∙ e))
 word_none w _ n e = refl
 
 pointer_none : (ts : List Token) → sees (at "for" or at "unsafe" or at "extern" or at "fn") ts ≡ true
@@ -132,7 +133,7 @@ name_none cs us e = go (is_key cs) refl
     go false f = refl
     go true f =
         absurd (of_all (λ ts. is_name_front ts ≡ true → ⊥) (the_words keys) (Ident cs ∷ us)
-        (λ vs g. never g, (λ vs g. never g, (λ vs g. never g, (λ vs g. never g, tt)))) (words_are keys cs us f) e)
+        (λ vs g. false≢true g, (λ vs g. false≢true g, (λ vs g. false≢true g, (λ vs g. false≢true g, tt)))) (words_are keys cs us f) e)
 
 -- self, super and crate behind which a mark stands
 marked_none : (cs : List ℕ) (us : List Token) → is_path_keyword cs ≡ true → is_marked us ≡ true
@@ -144,7 +145,7 @@ marked_none cs us e m =
   where
     none_closed : (vs : List Token) → is_marked vs ≡ true → seen (first_seen (closes vs) None) ≡ false
     none_closed (Punct c spacing ∷ vs) m = refl
-    none_closed _ m = absurd (never m)
+    none_closed _ m = absurd (false≢true m)
 
 signs_marked : (c : ℕ) (cs : List ℕ) (spacing : Spacing) (us vs : List Token)
     → is_marked ((signs c cs spacing ++ us) ++ vs) ≡ true
@@ -164,7 +165,7 @@ segments_none (First (Pair (AWord cs) (First (Pair (AMark c ds spacing) y)))) r 
     marked_none cs ((signs c ds spacing ++ flat y) ++ vs) d.1.0 (signs_marked c ds spacing (flat y) vs)
 segments_none (First (Pair (AWord cs) (First (Pair _ y)))) r vs d e = absurd d.1.1.1.0
 segments_none (First (Pair (AWord cs) (First _))) r vs d e = absurd d.1.1.1
-segments_none (First (Pair (AWord cs) (Second y))) r vs d e = absurd (never (sym e))
+segments_none (First (Pair (AWord cs) (Second y))) r vs d e = absurd (false≢true (sym e))
 segments_none (First (Pair (AWord cs) _)) r vs d e = absurd d.1.1
 segments_none (First (Pair _ y)) r vs d e = absurd d.1.0
 segments_none (First _) r vs d e = absurd d.1
@@ -369,7 +370,7 @@ unbare_in (First z) (Called n (AWord cs)) us f h p d = (
 )
 unbare_in (First z) (Called n _) us f h p d = absurd f.1.0.1
 unbare_in (First z) _ us f h p d = absurd f.1.0
-unbare_in (Second z) c us f h p d = absurd (never (sym h))
+unbare_in (Second z) c us f h p d = absurd (false≢true (sym h))
 unbare_in _ c us f h p d = absurd f.1.1
 
 unbare : (v : Tree) (us : List Token) → Fits v (table Visibility) → is_bare_pub v ≡ false → Lacks (at "pub") us

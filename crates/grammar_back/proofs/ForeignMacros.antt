@@ -2,6 +2,7 @@
 -- static behind its safety, though safe is a name too.
 use Rattle.std.proofs.Common.{◌≡◌, ℕ, List, [], ◌∷◌, refl, sym, subst, ⊎_elim}
 use Rattle.std.specs.Prelude.{Bool, true, false, cond, codes, Some, None}
+use Rattle.std.proofs.lemmas.Bool.{false≢true}
 use Prim.Native.String.{String}
 use Rattle.proc_macro2.specs.Token.{Token, Ident}
 use Rattle.syn_grammar.specs.Kind.{InForeign}
@@ -13,7 +14,7 @@ use Rattle.item_laws.proofs.Places.{none_then}
 use Rattle.grammar_back.specs.Sees.{Lacks, LacksAll}
 use Rattle.grammar_back.proofs.Classes.{IsAmong}
 use Rattle.grammar_back.proofs.MacroItems.{a_word_lacked, abi_fn, front_is, is_marked, key_classes, macro_classes}
-use Rattle.grammar_back.proofs.MacroItems.{maybe_none, never}
+use Rattle.grammar_back.proofs.MacroItems.{maybe_none}
 use Rattle.grammar_back.proofs.Parts.{unseen_all}
 use Rattle.grammar_back.proofs.Sights.{ident_not}
 
@@ -28,11 +29,11 @@ past_either false true l ts us e f = f
 past_either false false l ts us e f = e
 
 no_function : (us : List Token) → is_marked us ≡ true → Lacks abi_fn us
-no_function (Ident cs ∷ us) h = absurd (never h)
+no_function (Ident cs ∷ us) h = absurd (false≢true h)
 no_function _ h = refl
 
 no_static : (us : List Token) → is_marked us ≡ true → Lacks (at "static") us
-no_static (Ident cs ∷ us) h = absurd (never h)
+no_static (Ident cs ∷ us) h = absurd (false≢true h)
 no_static _ h = refl
 
 word_lacks : (cs : List ℕ) (us : List Token) → is_ident cs ≡ true → is_marked us ≡ true

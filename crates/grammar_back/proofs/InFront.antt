@@ -1,6 +1,7 @@
 -- Attributes in front of a statement's expression, and the expression that is held, which has taken them.
 use Rattle.std.proofs.Common.{◌≡◌, [], List, ◌++◌, refl, sym, ap, ◌∙◌}
 use Rattle.std.specs.Prelude.{Bool, true, false, cond, nat_eq}
+use Rattle.std.proofs.lemmas.Bool.{false≢true}
 use Rattle.proc_macro2.specs.Token.{Token}
 use Rattle.syn_grammar.specs.Kind.{Plain, InStatement, ExprAttributed, ExprCast}
 use Rattle.syn_grammar.specs.Kind.{OuterAttribute, OuterAttributes}
@@ -16,9 +17,6 @@ use Rattle.syn_grammar.proofs.Settled.{normal_twice}
 use Rattle.range_laws.proofs.Given.{attributed_flat}
 use Rattle.grammar_back.proofs.Ends.{ends_read}
 use Rattle.grammar_back.proofs.Fits.{Fits}
-
-unlike : false ≡ true → ⊥
-unlike e = cc
 
 -- what stands in front
 abbrev pub is_attributes : Tree → Bool
@@ -44,12 +42,12 @@ attributes_fit a f = attributes_in a f.3
 pub attributes_kept : (a : Tree) → is_attributes a ≡ true → is_attributes (kept a) ≡ true
 attributes_kept End e = refl
 attributes_kept (Again t b) e = refl
-attributes_kept _ e = absurd (unlike e)
+attributes_kept _ e = absurd (false≢true e)
 
 pub attributes_normal : (a : Tree) → is_attributes a ≡ true → is_attributes (normal a) ≡ true
 attributes_normal End e = refl
 attributes_normal (Again t b) e = refl
-attributes_normal _ e = absurd (unlike e)
+attributes_normal _ e = absurd (false≢true e)
 
 pub attribute_apart : (t : Tree) (r : List Token) → Derives t (ref OuterAttribute) r
     → apart_item (normal (kept t)) ≡ normal (kept t)
@@ -64,7 +62,7 @@ given_to _ x = x
 pub given_flat : (a x : Tree) → is_attributes a ≡ true → flat (given_to a x) ≡ flat a ++ flat x
 given_flat End x e = refl
 given_flat (Again t b) x e = attributed_flat (Pair t (Node OuterAttributes b)) x
-given_flat _ x e = absurd (unlike e)
+given_flat _ x e = absurd (false≢true e)
 
 -- A range is put in parentheses behind them; what stands in these is in normal form there too.
 abbrev pub is_ranged : Tree → Tree → Bool
@@ -93,7 +91,7 @@ unfolding level may_lack inside passed stands_behind
 settled_inside (Again t b) x e g =
     ap inside_parens (ap (formed InStatement []) g
     ∙ formed_twice (given_to (Again t b) x) ∙ sym g)
-settled_inside _ x e g = absurd (unlike e)
+settled_inside _ x e g = absurd (false≢true e)
 
 -- it ends a statement by itself if it does without them
 ends_attributed : (a x : Tree) → ends_there InStatement (attributed a x) ≡ true → ends_there InStatement x ≡ true
@@ -114,9 +112,9 @@ ends_given _ x e = e
 ends_whole : (a x : Tree) → ends_there InStatement x ≡ true → attributed a (kept x) ≡ Front ExprAttributed a (kept x)
 ends_whole a (Alone k y) e = refl
 ends_whole a (Front k y x) e = refl
-ends_whole a (Back l k y) e = absurd (unlike e)
-ends_whole a (Infix l k y r) e = absurd (unlike e)
-ends_whole a _ e = absurd (unlike e)
+ends_whole a (Back l k y) e = absurd (false≢true e)
+ends_whole a (Infix l k y r) e = absurd (false≢true e)
+ends_whole a _ e = absurd (false≢true e)
 
 pub given_ends : (a x : Tree) → is_attributes a ≡ true → ends_there InStatement x ≡ true
     → ends_there InStatement (formed InStatement [] (given_to (kept a) (kept x))) ≡ true
@@ -126,4 +124,4 @@ given_ends (Again t b) x i e =
     ap (λ z. ends_there InStatement (formed InStatement [] z))
     (ends_whole (Pair (kept t) (Node OuterAttributes (kept b))) x e)
     ∙ ends_read (Front ExprAttributed (Pair t (Node OuterAttributes b)) x) e
-given_ends _ x i e = absurd (unlike i)
+given_ends _ x i e = absurd (false≢true i)

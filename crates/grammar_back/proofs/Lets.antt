@@ -2,6 +2,7 @@
 use Rattle.std.proofs.Common.{◌≡◌, List, [], ◌∷◌, ◌++◌, refl, sym, ap, ◌∙◌, subst, append_assoc}
 use Rattle.std.proofs.Common.{⊎_elim, inl, inr}
 use Rattle.std.specs.Prelude.{ℕ, Bool, true, false, ◌&&◌, cond, not, codes, Some, None}
+use Rattle.std.proofs.lemmas.Bool.{false≢true}
 use Rattle.proc_macro2.specs.Token.{Token, Ident}
 use Rattle.syn_grammar.specs.Kind.{ALet, AStatement, AType, AnImpl, AnItem, Block, Expression, OnePattern}
 use Rattle.syn_grammar.specs.Kind.{ItemMacro, OuterAttributes}
@@ -44,7 +45,7 @@ use Rattle.grammar_back.proofs.Parts.{unseen_all}
 use Rattle.grammar_back.proofs.Printed.{KindLaw, Printed, VerdictLaw, kept_entry, simple_law}
 use Rattle.item_laws.proofs.Places.{kept_raw}
 use Rattle.grammar_back.specs.After.{is_closed}
-use Rattle.grammar_back.proofs.Braces.{else_printed, unlike}
+use Rattle.grammar_back.proofs.Braces.{else_printed}
 use Rattle.grammar_back.proofs.ItemVerdicts.{same_has}
 use Rattle.grammar_back.proofs.WholeItems.{taken_law, whole_item}
 use Rattle.grammar_back.proofs.CrateMacros.{call_printed}
@@ -438,7 +439,7 @@ let_meant (First x) (First w) r d f e =
     let_read (λ x. has the_else w ≡ has the_else x → kept w ≡ normal_in Plain (kept x) → kept_if (is_let x) ≡ Keep
     → has_closed_value (First w) ≡ true) r
     (λ x n s e h. let_fits (λ w. has the_else w ≡ false → has_closed_value (First w) ≡ true) (λ w n m l. m)
-    (λ a o s b u y g j f l. absurd (unlike (sym l ∙ j.there))) w f.1 (s ∙ n))
+    (λ a o s b u y g j f l. absurd (false≢true (sym l ∙ j.there))) w f.1 (s ∙ n))
     (λ k p t q v z c i d s e h. let_fits
     (λ w. kept w ≡ normal_in Plain (kept (with_else k p t q v z c)) → has_closed_value (First w) ≡ true)
     (λ w n m e. m)

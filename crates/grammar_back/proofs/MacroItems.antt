@@ -2,6 +2,7 @@
 use Rattle.std.proofs.Common.{◌≡◌, ℕ, List, [], ◌∷◌, ◌++◌, refl, sym, ap, ◌∙◌, subst, append_assoc, ⊎_elim, inl}
 use Rattle.std.proofs.Common.{inr}
 use Rattle.std.specs.Prelude.{Bool, true, false, ◌&&◌, ◌||◌, not, cond, codes, Option, Some, None}
+use Rattle.std.proofs.lemmas.Bool.{false≢true}
 use Prim.Native.String.{String}
 use Rattle.proc_macro2.specs.Token.{Token, Ident, Punct}
 use Rattle.proc_macro2.specs.declared.delimiter.Delimiter.TheVariants.{Parenthesis}
@@ -30,9 +31,6 @@ use Rattle.grammar_back.proofs.MacroPaths.{has_own_word, has_plain_path, is_own_
 use Rattle.grammar_back.proofs.MacroPaths.{is_plain_path, may_be_default}
 use Rattle.grammar_back.proofs.Parts.{told_at, unseen_all}
 use Rattle.grammar_back.proofs.Sights.{ident_not}
-
-pub never : false ≡ true → ⊥
-never e = cc e
 
 -- a mark stands first
 abbrev pub is_marked : List Token → Bool
@@ -117,11 +115,11 @@ behind_lacked true l us n = n
 behind_lacked false l us n = refl
 
 no_ident : (us : List Token) → is_marked us ≡ true → Lacks an_ident us
-no_ident (Ident cs ∷ us) h = absurd (never h)
+no_ident (Ident cs ∷ us) h = absurd (false≢true h)
 no_ident _ h = refl
 
 no_trait : (us : List Token) → is_marked us ≡ true → Lacks (at "trait") us
-no_trait (Ident cs ∷ us) h = absurd (never h)
+no_trait (Ident cs ∷ us) h = absurd (false≢true h)
 no_trait _ h = refl
 
 -- behind default stands ! , where it stands
@@ -229,7 +227,7 @@ more_marked _ g r d h = absurd d
 -- more is said of a path whose first word is all of it
 may_more : (p : ItemPlace) (b : Bool) → may_be_default p false ≡ true → may_be_default p b ≡ true
 may_more InForeign b e = e
-may_more p b e = absurd (never e)
+may_more p b e = absurd (false≢true e)
 
 own_more : (p : ItemPlace) (cs : List ℕ) (b : Bool) → is_own_word p cs false ≡ true → is_own_word p cs b ≡ true
 own_more p cs b e =
@@ -260,11 +258,11 @@ segments_behind p (First (Pair (AWord ds) y)) r cs us d e b h =
     (more_marked y _ r d.1.1 (bang_marked r b), own_more p ds (sees (marks "!") (flat y ++ r)) h)
 segments_behind p (First (Pair _ y)) r cs us d e b h = absurd d.1.0
 segments_behind p (First _) r cs us d e b h = absurd d.1
-segments_behind p (Second (Pair (AWord ds) (First y))) r cs us d e b h = absurd (never d.1.1.0)
+segments_behind p (Second (Pair (AWord ds) (First y))) r cs us d e b h = absurd (false≢true d.1.1.0)
 segments_behind p (Second (Pair (AWord ds) (Second (First y)))) r cs us d e b h =
     behind_is p ds cs (flat y ++ r) us e
     (colons_marked (flat y ++ r) d.1.1.1.0, own_more p ds (sees (marks "!") (flat y ++ r)) h)
-segments_behind p (Second (Pair (AWord ds) (Second (Second (First y))))) r cs us d e b h = absurd (never d.1.1.1.1.0)
+segments_behind p (Second (Pair (AWord ds) (Second (Second (First y))))) r cs us d e b h = absurd (false≢true d.1.1.1.1.0)
 segments_behind p (Second (Pair (AWord ds) (Second (Second (Second Nil))))) r cs us d e b h =
     behind_is p ds cs r us e (bang_marked r b, ap (is_own_word p ds) b ∙ h)
 segments_behind p (Second (Pair (AWord ds) (Second (Second (Second _))))) r cs us d e b h = absurd d.1.1.1.1.1
@@ -280,7 +278,7 @@ path_behind : (p : ItemPlace) (x : Tree) (r : List Token) (cs : List ℕ) (us : 
     → is_plain_path p x ≡ true → IsBehind p cs us
 unfolding table
 path_behind p (Pair (First (AMark c ds spacing)) y) r cs us d e b h =
-    absurd (never (sym (no_word c ds spacing (flat y ++ r))
+    absurd (false≢true (sym (no_word c ds spacing (flat y ++ r))
     ∙ ap is_word (sym (append_assoc (signs c ds spacing) (flat y) r) ∙ e)))
 path_behind p (Pair (First _) y) r cs us d e b h = absurd d.0.1
 path_behind p (Pair (Second Nil) (Node l w)) r cs us d e b h =
@@ -311,7 +309,7 @@ macro_front p y s d i h =
     ⊎_elim (colons (TheWord (codes "self"))) (⊎_elim (colons (TheWord (codes "super"))) (⊎_elim (colons (TheWord (codes "crate"))) (⊎_elim (colons (AnyWord is_ident)) (⊎_elim (colons (TheWord (codes "Self")))
     (⊎_elim (λ j. inr (inl j)) (⊎_elim (λ j. inr (inr (inl j))) (⊎_elim (λ j. inr (inr (inr (inl j))))
     (⊎_elim (λ j. inl (word j.0 j.1 j.2 j.3))
-    (⊎_elim (λ j. absurd (never (macro_behind p y s (codes "Self") j.0 d j.1 h).1))
+    (⊎_elim (λ j. absurd (false≢true (macro_behind p y s (codes "Self") j.0 d j.1 h).1))
     (λ j. absurd j)))))))))) i
   where
     colons : (c : Class) → IsAt (Then 58 (58 ∷ []) c) (flat y ++ s) → IsAmong (macro_classes p) (flat y ++ s)

@@ -1,6 +1,7 @@
 -- The steps and the laws of items in traits and impls: default may stand before their form too.
 use Rattle.std.proofs.Common.{◌≡◌, List, [], ◌∷◌, ◌++◌, refl, sym, ap, ◌∙◌, subst, suc, inl, inr}
 use Rattle.std.specs.Prelude.{Bool, true, false, ◌||◌, not, cond, codes, Option, Some, None, ℕ}
+use Rattle.std.proofs.lemmas.Bool.{false≢true}
 use Rattle.proc_macro2.specs.Token.{Token}
 use Rattle.syn_grammar.specs.Kind.{Kind, AConst, AFunction, ATraitItem, ATypeAlias, AnImplItem, Body, InFile, InImpl}
 use Rattle.syn_grammar.specs.Kind.{InTrait, ItemMacro, OuterAttributes, Place, Plain, Signature, Visibility}
@@ -26,7 +27,7 @@ use Rattle.grammar_back.proofs.MacroPaths.{is_plain_macro}
 use Rattle.grammar_back.proofs.ReadMacros.{default_look, other_read, own_read}
 use Rattle.grammar_back.proofs.Keywords.{reserved_pub}
 use Rattle.grammar_back.proofs.MacroItems.{a_word_lacked, default_lacked, front_is, macro_classes}
-use Rattle.grammar_back.proofs.MacroItems.{macro_front, macro_seen, never, no_default, place_lacks, plain_same}
+use Rattle.grammar_back.proofs.MacroItems.{macro_front, macro_seen, no_default, place_lacks, plain_same}
 use Rattle.grammar_back.proofs.MacroItems.{with_listed}
 use Rattle.grammar_back.proofs.Sights.{ident_not}
 use Rattle.syn_grammar.specs.Words.{same_text, is_reserved}
@@ -499,7 +500,7 @@ module _ (l : Look) where
       → has the_default c ≡ false → Lacks l ts
   unfolding same_part
   undefaulted (First (Called n y)) ts d h =
-      absurd (never (sym h ∙ ap (λ j. has the_default (First (Called j y))) d.1.0))
+      absurd (false≢true (sym h ∙ ap (λ j. has the_default (First (Called j y))) d.1.0))
   undefaulted (First _) ts d h = absurd d.1
   undefaulted (Second Nil) ts d h = d.0
   undefaulted (Second _) ts d h = absurd d.1
@@ -508,12 +509,12 @@ module _ (l : Look) where
 unmarked_trait : (b : Bool) (x : Tree) → is_no_macro x ≡ false → form_in InTrait b x ≡ Keep → b ≡ false
 unmarked_trait false x n e = refl
 unmarked_trait true (Node (ItemMacro q) y) n e = cc e
-unmarked_trait true _ n e = absurd (never (sym n))
+unmarked_trait true _ n e = absurd (false≢true (sym n))
 
 unmarked_impl : (b : Bool) (x : Tree) → is_no_macro x ≡ false → form_in InImpl b x ≡ Keep → b ≡ false
 unmarked_impl false x n e = refl
 unmarked_impl true (Node (ItemMacro q) y) n e = cc e
-unmarked_impl true _ n e = absurd (never (sym n))
+unmarked_impl true _ n e = absurd (false≢true (sym n))
 
 abbrev InFront : Gram → Look → Type 0
 InFront g l = (c : Tree) (ts : List Token) → Derives c g ts → has the_default c ≡ false → Lacks l ts

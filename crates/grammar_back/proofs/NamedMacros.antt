@@ -1,6 +1,7 @@
 -- Macros that stand among statements as items: what is printed for one has its name, and nothing but attributes in front.
 use Rattle.std.proofs.Common.{◌≡◌, List, ◌++◌, refl, sym, ap, ◌∙◌, subst}
 use Rattle.std.specs.Prelude.{true, false, not}
+use Rattle.std.proofs.lemmas.Bool.{false≢true}
 use Rattle.proc_macro2.specs.Token.{Token}
 use Rattle.syn_grammar.specs.Kind.{Kind, AnItem, AStatement, InFile, ItemMacro, Plain, Position, Visibility}
 use Rattle.syn_grammar.specs.Tree.{Tree, Called, First, Nil, Node, Pair, Second, Verbatim, flat}
@@ -20,19 +21,16 @@ use Rattle.grammar_back.proofs.ItemVerdicts.{EachOf, LawOf, form_same}
 use Rattle.grammar_back.proofs.Lets.{Law}
 use Rattle.grammar_back.proofs.WholeItems.{whole_item}
 
-never : false ≡ true → ⊥
-never e = cc e
-
 -- its name
 name_back : (n : Tree) → Fits n (macro_name InFile) → is_there (kept n) ≡ true → is_there n ≡ true
 name_back (First n) f e = refl
-name_back (Second Nil) f e = absurd (never e)
+name_back (Second Nil) f e = absurd (false≢true e)
 name_back (Second _) f e = absurd f.1
 name_back _ f e = absurd f
 
 there_normal : (q : Position) (n : Tree) → is_there n ≡ true → is_there (normal_in q (kept n)) ≡ true
 there_normal q (First n) e = refl
-there_normal q _ e = absurd (never e)
+there_normal q _ e = absurd (false≢true e)
 
 abbrev SameName : Tree → Tree → Type 0
 SameName x w = is_named_macro x ≡ true → is_named_macro w ≡ true
@@ -54,7 +52,7 @@ named q (Pair a _) v r d f e h = absurd d.1
 named q _ v r d f e h = absurd d
 
 none : (k : Kind) → ((y : Tree) → is_named_macro (Node k y) ≡ false) → LawOf SameName k
-none k n q y v r d f e h = absurd (never (sym (n y) ∙ h))
+none k n q y v r d f e h = absurd (false≢true (sym (n y) ∙ h))
 
 each_named : EachOf SameName item_form
 each_named = (
@@ -66,7 +64,7 @@ each_named = (
 private_in : (v u : Tree) (r : List Token) → Derives v (table Visibility) r → kept u ≡ normal_in Plain (kept v)
     → not (is_there v) ≡ true → not (is_there u) ≡ true
 unfolding table
-private_in (First y) (First z) r d e h = absurd (never h)
+private_in (First y) (First z) r d e h = absurd (false≢true h)
 private_in (Second y) (First z) r d e h = cc e
 private_in _ (First z) r d e h = absurd d
 private_in v _ r d e h = refl
@@ -156,5 +154,5 @@ named_law q (First x) r c o d i =
       fits = (refl, refl, ap flat s.1, i.fits, s.0);
       kept_is = ap (Node AStatement) (s.1 ∙ i.kept_is);
     }
-named_law q (Verbatim x) r c o d i = absurd (never o)
+named_law q (Verbatim x) r c o d i = absurd (false≢true o)
 named_law q _ r c o d i = absurd c

@@ -1,6 +1,7 @@
 -- The step of a type with plus: behind one that is a path may stand what may stand behind one without plus.
 use Rattle.std.proofs.Common.{◌≡◌, List, refl, sym, ◌∙◌, subst, inl, inr}
 use Rattle.std.specs.Prelude.{true, false}
+use Rattle.std.proofs.lemmas.Bool.{false≢true}
 use Rattle.proc_macro2.specs.Token.{Token}
 use Rattle.syn_grammar.specs.Kind.{Kind, Position, AType, BracketType, DynType, FnPtrType, ImplType}
 use Rattle.syn_grammar.specs.Kind.{InferType, NeverType, Plain, Plus, PointerType, ReferenceType, TupleType}
@@ -16,7 +17,6 @@ use Rattle.syn_grammar.specs.Kept.{held, kept}
 use Rattle.syn_grammar.specs.Normal.{passed, normal_in}
 use Rattle.syn_grammar.specs.Verdicts.{is_path, is_path_type}
 use Rattle.grammar_back.specs.After.{is_any_path}
-use Rattle.grammar_back.proofs.Choices.{unlike}
 use Rattle.grammar_back.proofs.Fits.{Fits}
 use Rattle.grammar_back.proofs.Readies.{Step}
 use Rattle.grammar_back.proofs.StepsOfTypes.{entry_a_type_with_plus, step_a_type_without_plus}
@@ -29,25 +29,25 @@ step_type_with_plus (Second (Second (Second (Second (Second (Second (Second (Sec
     step_a_type_without_plus (Second (Second (Second (Second (Second (Second (Second (Second (Second y))))))))) s f
     tt w a
 step_type_with_plus (Second (Second (Second (Second (Second (Second (Second (Second (First z))))))))) s f n w
-    (inr (e, a)) = absurd (unlike e)
+    (inr (e, a)) = absurd (false≢true e)
 step_type_with_plus (Second (Second (Second (Second (Second (Second (Second (Second _)))))))) s f n w (inr (e, a)) =
     absurd f.1.1.1.1.1.1.1.1
-step_type_with_plus (Second (Second (Second (Second (Second (Second (Second (First z)))))))) s f n w (inr (e, a)) = absurd (unlike e)
+step_type_with_plus (Second (Second (Second (Second (Second (Second (Second (First z)))))))) s f n w (inr (e, a)) = absurd (false≢true e)
 step_type_with_plus (Second (Second (Second (Second (Second (Second (Second _))))))) s f n w (inr (e, a)) = absurd
     f.1.1.1.1.1.1.1
-step_type_with_plus (Second (Second (Second (Second (Second (Second (First z))))))) s f n w (inr (e, a)) = absurd (unlike e)
+step_type_with_plus (Second (Second (Second (Second (Second (Second (First z))))))) s f n w (inr (e, a)) = absurd (false≢true e)
 step_type_with_plus (Second (Second (Second (Second (Second (Second _)))))) s f n w (inr (e, a)) = absurd f.1.1.1.1.1.1
-step_type_with_plus (Second (Second (Second (Second (Second (First z)))))) s f n w (inr (e, a)) = absurd (unlike e)
+step_type_with_plus (Second (Second (Second (Second (Second (First z)))))) s f n w (inr (e, a)) = absurd (false≢true e)
 step_type_with_plus (Second (Second (Second (Second (Second _))))) s f n w (inr (e, a)) = absurd f.1.1.1.1.1
-step_type_with_plus (Second (Second (Second (Second (First z))))) s f n w (inr (e, a)) = absurd (unlike e)
+step_type_with_plus (Second (Second (Second (Second (First z))))) s f n w (inr (e, a)) = absurd (false≢true e)
 step_type_with_plus (Second (Second (Second (Second _)))) s f n w (inr (e, a)) = absurd f.1.1.1.1
-step_type_with_plus (Second (Second (Second (First z)))) s f n w (inr (e, a)) = absurd (unlike e)
+step_type_with_plus (Second (Second (Second (First z)))) s f n w (inr (e, a)) = absurd (false≢true e)
 step_type_with_plus (Second (Second (Second _))) s f n w (inr (e, a)) = absurd f.1.1.1
-step_type_with_plus (Second (Second (First z))) s f n w (inr (e, a)) = absurd (unlike e)
+step_type_with_plus (Second (Second (First z))) s f n w (inr (e, a)) = absurd (false≢true e)
 step_type_with_plus (Second (Second _)) s f n w (inr (e, a)) = absurd f.1.1
-step_type_with_plus (Second (First z)) s f n w (inr (e, a)) = absurd (unlike e)
+step_type_with_plus (Second (First z)) s f n w (inr (e, a)) = absurd (false≢true e)
 step_type_with_plus (Second _) s f n w (inr (e, a)) = absurd f.1
-step_type_with_plus (First z) s f n w (inr (e, a)) = absurd (unlike e)
+step_type_with_plus (First z) s f n w (inr (e, a)) = absurd (false≢true e)
 step_type_with_plus _ s f n w (inr (e, a)) = absurd f
 
 -- a type is a path where what is kept of it is, and its normal form

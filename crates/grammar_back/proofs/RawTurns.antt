@@ -2,6 +2,7 @@
 -- such an item is read with it before whatever follows.
 use Rattle.std.proofs.Common.{◌≡◌, [], refl, sym, ap, ◌∙◌, subst}
 use Rattle.std.specs.Prelude.{Bool, true, false, not, ◌&&◌, cond}
+use Rattle.std.proofs.lemmas.Bool.{false≢true}
 use Rattle.syn_grammar.specs.Kind.{Kind, AnImpl, AnItem, AStatement, ItemMacro}
 use Rattle.syn_grammar.specs.Name.{the_attributes, the_const, the_default, the_expression}
 use Rattle.syn_grammar.specs.Tree.{Tree, Raw, Pair, First, Second, Called, Verbatim, Node, flat}
@@ -18,7 +19,7 @@ use Rattle.item_laws.proofs.SetApart.{item_apart}
 use Rattle.grammar_back.specs.Covered.{is_begun, is_no_macro, item_of}
 use Rattle.grammar_back.proofs.Fits.{Fits}
 use Rattle.grammar_back.proofs.Printed.{Printed, TurnLaw, unmoved_turn}
-use Rattle.grammar_back.proofs.Statements.{a_turn, contrary}
+use Rattle.grammar_back.proofs.Statements.{a_turn}
 
 -- what an item among statements begins with, by its form
 no_macro_same : SaysSame is_no_macro
@@ -91,7 +92,7 @@ named_printed : (y : Tree) → Fits (named_turn AnItem y) a_turn
     → Printed a_turn (apart_item (kept (named_turn AnItem y)))
 unfolding held table
 named_printed (First y) f = unmoved_turn true (named_turn AnItem (First y)) a_turn f refl
-named_printed (Verbatim y) f = absurd (contrary f.1.4)
+named_printed (Verbatim y) f = absurd (false≢true f.1.4)
 named_printed _ f = absurd f.1.3.1.3
 
 item_printed : (y : Tree) → Fits (item_turn AnItem y) a_turn

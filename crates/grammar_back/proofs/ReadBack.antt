@@ -16,7 +16,7 @@ use Rattle.syn_grammar.specs.Forms.{ends_there}
 use Rattle.grammar_back.specs.Sees.{LacksAll}
 use Rattle.grammar_back.proofs.Ends.{closed_kept, ends_back}
 use Rattle.grammar_back.proofs.InFront.{ends_given, given_to}
-use Rattle.grammar_back.proofs.Statements.{at_expression, contrary, held_form, is_macro_statement, open_as}
+use Rattle.grammar_back.proofs.Statements.{at_expression, held_form, is_macro_statement, open_as}
 use Rattle.grammar_back.proofs.Statements.{open_fits, open_kept}
 use Rattle.grammar_back.proofs.StatementLists.{ends_of, macro_ends}
 use Rattle.syn_grammar.specs.Kept.{as_statement, held}
@@ -28,6 +28,7 @@ use Rattle.std.specs.Prelude.{Bool, false}
 use Rattle.syn_grammar.specs.Tree.{First, Nil, Second, Whole}
 use Rattle.grammar_back.specs.Covered.{all_covered, has_form_step, has_step, is_known, stands_alone}
 use Rattle.std.specs.Prelude.{◌&&◌}
+use Rattle.std.proofs.lemmas.Bool.{false≢true}
 use Rattle.grammar_back.proofs.Choices.{both_true}
 use Rattle.grammar_back.proofs.Conditions.{is_condition_kind}
 use Rattle.grammar_back.proofs.FieldValues.{end_fits}
@@ -53,9 +54,9 @@ alone_placed Arm p = tt
 alone_placed _ p = p
 
 node_in_place : (k : Kind) (x : Tree) → stands_alone (Node k x) ≡ true → IsAlone k
-node_in_place Arm x e = absurd (contrary e)
+node_in_place Arm x e = absurd (false≢true e)
 node_in_place (Expression Plain) x e = refl
-node_in_place (Expression _) x e = absurd (contrary e)
+node_in_place (Expression _) x e = absurd (false≢true e)
 node_in_place _ x e = tt
 
 pub node_placed : (k : Kind) (x : Tree) (r : List Token) → Derives x (ref k) r → is_whole x ≡ true → IsAlone k
@@ -69,7 +70,7 @@ no_condition (Expression Plain) p e = cc
 no_condition (Expression InCondition) p e = cc p
 no_condition (Expression InArm) p e = cc
 no_condition (Expression InStatement) p e = cc
-no_condition _ p e = absurd (contrary e)
+no_condition _ p e = absurd (false≢true e)
 
 -- what may follow a statement as it is held
 is_ended : (a x : Tree) (s : List Token) → Fits (Whole x) (table (Expression InStatement))
@@ -87,10 +88,10 @@ call_ended w s f n o i h = go w i (open_kept w f n o) (macro_ends w f n i) h
     go : (w : Tree) → is_macro_statement w ≡ true → is_open (as_statement (kept w)) ≡ true
         → ends_there InStatement (whole (expression_of w)) ≡ true → EndsStatement (as_statement (kept w)) s
         → EndsThere InStatement (expression_of w) s × LacksAll (marks ";" ∷ []) s
-    go (Second (First x)) i o g (inl e) = absurd (contrary (sym e ∙ o))
+    go (Second (First x)) i o g (inl e) = absurd (false≢true (sym e ∙ o))
     go (Second (First x)) i o g (inr e) = ((g, e.0.1), e.1)
-    go (Second _) i o g h = absurd (contrary i)
-    go _ i o g h = absurd (contrary i)
+    go (Second _) i o g h = absurd (false≢true i)
+    go _ i o g h = absurd (false≢true i)
 
 ends_printed : (w : Tree) (s : List Token) → Fits w (table AStatement) → is_statement_form w ≡ true
     → EndsStatement (as_statement (kept w)) s → EndsStatement w s
@@ -132,7 +133,7 @@ closed_fits _ f = absurd f
 -- one statement by itself has no step
 none_one : (w : Tree) → Fits w (ref OneStatement) → ⊥
 unfolding has_step has_form_step
-none_one (Node k x) f = contrary (subst (λ j. is_known j ≡ true) f.0 f.1)
+none_one (Node k x) f = false≢true (subst (λ j. is_known j ≡ true) f.0 f.1)
 none_one _ f = f
 
 -- what may follow what is kept may follow what is printed

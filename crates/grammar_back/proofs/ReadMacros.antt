@@ -2,6 +2,7 @@
 use Rattle.std.proofs.Common.{◌≡◌, ℕ, List, [], ◌∷◌, ◌++◌, refl, sym, ap, ◌∙◌, subst, append_assoc}
 use Rattle.std.specs.Prelude.{Bool, true, false, ◌&&◌, ◌||◌, not, cond, codes, Option, Some, None}
 use Rattle.std.proofs.lemmas.Slice.Eq.{bytes_eq-Decides}
+use Rattle.std.proofs.lemmas.Bool.{false≢true}
 use Rattle.proc_macro2.specs.Token.{Token, Ident}
 use Rattle.syn_grammar.specs.Kind.{AMacroDefinition}
 use Rattle.syn_grammar.specs.Kind.{AnImpl, InFile, InForeign, InModule, InTrait, ItemMacro, Kind, Path, Place, Segments}
@@ -15,7 +16,6 @@ use Rattle.syn_grammar.specs.Lists.{item_form, macro_stands}
 use Rattle.syn_grammar.specs.Table.{table}
 use Rattle.syn_grammar.specs.Derives.{Derives}
 use Rattle.grammar_back.specs.Sees.{Lacks}
-use Rattle.grammar_back.proofs.MacroItems.{never}
 use Rattle.grammar_back.proofs.MacroPaths.{has_own_word, has_plain_path, is_own_word, is_plain_macro, is_plain_path}
 use Rattle.grammar_back.proofs.MacroPaths.{may_be_default}
 use Rattle.grammar_back.proofs.Seconds.{mark_other}
@@ -35,14 +35,14 @@ not_self ds us e = go (same_text (codes "Self") ds) refl
     go false f = refl
     go true f =
         let g : codes "Self" ≡ ds = (bytes_eq-Decides (codes "Self") ds).0 f in
-        absurd (never (subst (λ es. sees macro_stands (Ident es ∷ us) ≡ true) (sym g) e))
+        absurd (false≢true (subst (λ es. sees macro_stands (Ident es ∷ us) ≡ true) (sym g) e))
 
 own_default : (p : Place) (b : Bool) (us : List Token) → (b ≡ false → sees (marks "!") us ≡ false)
     → Lacks (default_look p) (Ident (codes "default") ∷ us) → may_be_default p b ≡ true
 own_default InForeign b us n e = refl
-own_default InTrait b us n e = absurd (never (sym e))
+own_default InTrait b us n e = absurd (false≢true (sym e))
 own_default _ true us n e = refl
-own_default _ false us n e = absurd (never (sym e ∙ ap (λ c. seen (cond c None (Some us))) (n refl)))
+own_default _ false us n e = absurd (false≢true (sym e ∙ ap (λ c. seen (cond c None (Some us))) (n refl)))
 
 own_word : (p : Place) (ds : List ℕ) (us : List Token) (b : Bool)
     → (codes "default" ≡ ds → b ≡ false → sees (marks "!") us ≡ false)
@@ -59,7 +59,7 @@ own_word p ds us b n e f =
 
 no_keyword : (ds : List ℕ) → is_path_keyword ds ≡ true → codes "default" ≡ ds → ⊥
 unfolding is_path_keyword
-no_keyword ds e h = never (subst (λ es. is_path_keyword es ≡ true) (sym h) e)
+no_keyword ds e h = false≢true (subst (λ es. is_path_keyword es ≡ true) (sym h) e)
 
 -- its words
 segments_own : (p : Place) (w : Tree) (r : List Token) → Derives w (table (Segments InModule)) r
@@ -69,11 +69,11 @@ segments_own p (First (Pair (AWord ds) y)) r d e f =
     own_word p ds (flat y ++ r) false (λ h i. absurd (no_keyword ds d.1.0 h)) e f
 segments_own p (First (Pair _ y)) r d e f = absurd d.1.0
 segments_own p (First _) r d e f = absurd d.1
-segments_own p (Second (Pair (AWord ds) (First y))) r d e f = absurd (never d.1.1.0)
+segments_own p (Second (Pair (AWord ds) (First y))) r d e f = absurd (false≢true d.1.1.0)
 segments_own p (Second (Pair (AWord ds) (Second (First y)))) r d e f =
     own_word p ds (flat y ++ r) false (λ h i. mark_other 58 33 (58 ∷ []) (flat y ++ r) refl d.1.1.1.0) e f
 segments_own p (Second (Pair (AWord ds) (Second (Second y)))) r d e f =
-    own_word p ds (flat y ++ r) true (λ h i. absurd (never (sym i))) e f
+    own_word p ds (flat y ++ r) true (λ h i. absurd (false≢true (sym i))) e f
 segments_own p (Second (Pair (AWord ds) (Second _))) r d e f = absurd d.1.1.1
 segments_own p (Second (Pair (AWord ds) _)) r d e f = absurd d.1.1
 segments_own p (Second (Pair _ y)) r d e f = absurd d.1.0

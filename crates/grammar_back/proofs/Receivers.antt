@@ -2,6 +2,7 @@
 use Rattle.std.proofs.Common.{◌≡◌, ℕ, List, [], ◌∷◌, ◌++◌, refl, sym, ap, ◌∙◌, subst, append_assoc, ⊎_elim}
 use Rattle.std.specs.Prelude.{Bool, true, false, not, codes, cond, Some, None}
 use Rattle.std.proofs.lemmas.Slice.Eq.{bytes_eq-Decides}
+use Rattle.std.proofs.lemmas.Bool.{false≢true}
 use Rattle.proc_macro2.specs.Token.{Token, Ident, Punct}
 use Rattle.rust_leaf.specs.declared.punct.Spacing.{Spacing}
 use Rattle.rust_leaf.specs.declared.punct.Spacing.TheVariants.{Joint}
@@ -26,7 +27,7 @@ use Rattle.syn_grammar.specs.Table.{table}
 use Rattle.syn_grammar.specs.Derives.{Derives}
 use Rattle.syn_grammar.specs.Kept.{held, kept, lone_colon, named, wild}
 use Rattle.syn_grammar.specs.Normal.{passed, place_of, normal_in}
-use Rattle.grammar_back.proofs.Choices.{is_false, unlike}
+use Rattle.grammar_back.proofs.Choices.{is_false}
 use Rattle.grammar_back.specs.After.{behind}
 use Rattle.grammar_back.specs.Covered.{has_step, inner, is_taken}
 use Rattle.grammar_back.specs.Sees.{Lacks, LacksAll}
@@ -495,7 +496,7 @@ node_received ReferencePattern (Pair (AMark c cs spacing) y) s d e =
     ∙ and_at c cs spacing (flat y ++ s) true d.0.0 d.0.1 (behind_received spacing y s d.1 e)
 node_received ReferencePattern (Pair _ y) s d e = absurd d.0
 node_received ReferencePattern _ s d e = absurd d
-node_received _ y s d e = absurd (unlike e)
+node_received _ y s d e = absurd (false≢true e)
 
 received : (x : Tree) (g : Gram) (s : List Token) → Derives x g s → self_of x ≡ true
     → sees receiver_stands (flat x ++ s) ≡ true
@@ -506,7 +507,7 @@ received (First x) _ s d e = absurd d
 received (Second x) _ s d e = absurd d
 received (Node k y) (ref l) s d e = node_received k y s d.1 e
 received (Node k y) _ s d e = absurd d
-received _ _ s d e = absurd (unlike e)
+received _ _ s d e = absurd (false≢true e)
 
 own_meant : (x : Tree) (r : List Token) → Derives x (table Parameter) r → has_own_name x ≡ true
 unfolding table

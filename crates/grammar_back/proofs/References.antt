@@ -1,6 +1,7 @@
 -- The step and the law of a reference pattern: a mut behind its & is its own.
 use Rattle.std.proofs.Common.{◌≡◌, List, [], ◌∷◌, ◌++◌, refl, sym, ap, ◌∙◌, subst, append_assoc, ⊎_elim, inl, inr}
 use Rattle.std.specs.Prelude.{Bool, true, false, ◌⊎◌, ◌&&◌, not, codes, cond, Some, None}
+use Rattle.std.proofs.lemmas.Bool.{false≢true}
 use Rattle.proc_macro2.specs.Token.{Token}
 use Rattle.syn_grammar.specs.Kind.{Kind, Position, Plain, IdentPattern, OnePattern, ReferencePattern}
 use Rattle.syn_grammar.specs.Tree.{Tree, AWord, Nil, Pair, First, Second, Node, Back, flat}
@@ -15,7 +16,7 @@ use Rattle.syn_grammar.specs.Tidy.{tidy}
 use Rattle.syn_grammar.specs.Derives.{Derives}
 use Rattle.syn_grammar.specs.Kept.{forget, held, is_there, kept}
 use Rattle.syn_grammar.specs.Normal.{passed, place_of, normal_in}
-use Rattle.grammar_back.proofs.Choices.{either_or, either_same, other_word, second_lacks, unlike}
+use Rattle.grammar_back.proofs.Choices.{either_or, either_same, other_word, second_lacks}
 use Rattle.grammar_back.specs.After.{behind}
 use Rattle.grammar_back.specs.Covered.{has_step, is_taken}
 use Rattle.grammar_back.specs.Sees.{Lacks, LacksAll}
@@ -197,13 +198,13 @@ node_seen : (k : Kind) (x : Tree) (s : List Token) → Derives x (table k) s →
 unfolding table
 node_seen IdentPattern (Pair (Second Nil) (Pair (First m) y)) s d e =
     subst (λ us. sees (at "mut") us ≡ true) (sym (append_assoc (flat m) (flat y) s)) d.1.0.0
-node_seen IdentPattern (Pair (Second Nil) y) s d e = absurd (unlike e)
+node_seen IdentPattern (Pair (Second Nil) y) s d e = absurd (false≢true e)
 node_seen IdentPattern (Pair (Second _) y) s d e = absurd d.0.1
-node_seen IdentPattern (Pair (First r) (Pair m y)) s d e = absurd (unlike e)
+node_seen IdentPattern (Pair (First r) (Pair m y)) s d e = absurd (false≢true e)
 node_seen IdentPattern (Pair (First r) _) s d e = absurd d.1
 node_seen IdentPattern (Pair _ y) s d e = absurd d.0
 node_seen IdentPattern _ s d e = absurd d
-node_seen _ x s d e = absurd (unlike e)
+node_seen _ x s d e = absurd (false≢true e)
 
 mut_seen : (x : Tree) (g : Gram) (s : List Token) → Derives x g s → is_mut_name (choice x) ≡ true
     → sees (at "mut") (flat x ++ s) ≡ true
@@ -214,7 +215,7 @@ mut_seen (First x) _ s d e = absurd d
 mut_seen (Second x) _ s d e = absurd d
 mut_seen (Node k x) (ref l) s d e = node_seen k x s d.1 e
 mut_seen (Node k x) _ s d e = absurd d
-mut_seen _ _ s d e = absurd (unlike e)
+mut_seen _ _ s d e = absurd (false≢true e)
 
 is_mut_seen : (x : Tree) (r : List Token) → Derives x (ref OnePattern) r → is_mut x ≡ true
     → sees (at "mut") (flat x ++ r) ≡ true

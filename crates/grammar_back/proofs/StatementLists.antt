@@ -2,6 +2,7 @@
 -- was read there; and it ends where the next statement begins, or nothing follows it.
 use Rattle.std.proofs.Common.{[], ap, append_assoc, inl, inr, List, refl, subst, sym, ⊎_elim, ◌++◌, ◌∙◌, ◌∷◌, ◌≡◌}
 use Rattle.std.specs.Prelude.{Bool, codes, cond, false, not, true, ◌&&◌, ◌⊎◌}
+use Rattle.std.proofs.lemmas.Bool.{false≢true}
 use Rattle.proc_macro2.specs.Token.{Token}
 use Rattle.syn_grammar.specs.Kind.{AnItem, AStatement, InStatement, Kind, Plain, Position, Statements}
 use Rattle.syn_grammar.specs.Name.{the_attributes, the_expression}
@@ -37,7 +38,7 @@ use Rattle.grammar_back.proofs.Sights.{ident_not}
 use Rattle.grammar_back.proofs.Starts.{starts}
 use Rattle.grammar_back.proofs.WholeItems.{taken_law}
 use Rattle.grammar_back.proofs.Lets.{kept_true}
-use Rattle.grammar_back.proofs.Statements.{a_turn, contrary, each_form, is_macro_statement, is_turn, needs_not}
+use Rattle.grammar_back.proofs.Statements.{a_turn, each_form, is_macro_statement, is_turn, needs_not}
 use Rattle.grammar_back.proofs.Statements.{open_fits, open_held, open_needs, turn_needs, with_names}
 use Rattle.grammar_back.proofs.RawTurns.{turn_printed}
 
@@ -102,7 +103,7 @@ end_lacks : (z a e : Tree) (ts : List Token)
     → sees (marks ";") ts ≡ false
 unfolding table
 end_lacks (First z) (Called n a) (Called m e) ts d o =
-    absurd (contrary (sym (closed_as_any (kept a) (kept e) (kept z))
+    absurd (false≢true (sym (closed_as_any (kept a) (kept e) (kept z))
     ∙ subst (λ j. is_open (as_statement (kept (with_names the_attributes a j e (First z)))) ≡ true) d.1.1.1.1.1.0.0
     (subst (λ j. is_open (as_statement (kept (with_names j a m e (First z)))) ≡ true) d.1.1.1.1.0.0 o)))
 end_lacks (First z) (Called n a) _ ts d o = absurd d.1.1.1.1.1.0
@@ -117,18 +118,18 @@ unfolding table
 open_lacks (Second (Second (Second (Second (Pair a (Pair e z)))))) ts d o = end_lacks z a e ts d o
 open_lacks (Second (Second (Second (Second (Pair a _))))) ts d o = absurd d.1.1.1.1.1
 open_lacks (Second (Second (Second (Second _)))) ts d o = absurd d.1.1.1.1
-open_lacks (Second (Second (Second (First x)))) ts d o = absurd (contrary o)
+open_lacks (Second (Second (Second (First x)))) ts d o = absurd (false≢true o)
 open_lacks (Second (Second (Second _))) ts d o = absurd d.1.1.1
-open_lacks (Second (Second (First x))) ts d o = absurd (contrary o)
+open_lacks (Second (Second (First x))) ts d o = absurd (false≢true o)
 open_lacks (Second (Second _)) ts d o = absurd d.1.1
-open_lacks (Second (First (Pair a (Pair m (First z))))) ts d o = absurd (contrary o)
+open_lacks (Second (First (Pair a (Pair m (First z))))) ts d o = absurd (false≢true o)
 open_lacks (Second (First (Pair a (Pair m (Second Nil))))) ts d o = d.1.1.1.1.0
 open_lacks (Second (First (Pair a (Pair m (Second _))))) ts d o = absurd d.1.1.1.1.1
 open_lacks (Second (First (Pair a (Pair m _)))) ts d o = absurd d.1.1.1.1
 open_lacks (Second (First (Pair a _))) ts d o = absurd d.1.1.1
 open_lacks (Second (First _)) ts d o = absurd d.1.1
 open_lacks (Second _) ts d o = absurd d.1
-open_lacks (First x) ts d o = absurd (contrary o)
+open_lacks (First x) ts d o = absurd (false≢true o)
 open_lacks _ ts d o = absurd d
 
 turn_lacks : (t u : Tree) (q : Position) (b : Bool) (ts : List Token) → Derives t a_turn ts → Fits u a_turn
@@ -136,7 +137,7 @@ turn_lacks : (t u : Tree) (q : Position) (b : Bool) (ts : List Token) → Derive
 turn_lacks (Second (Node l x)) (Second (Node k w)) q b ts d f e o =
     open_lacks x ts (subst (λ j. Derives x (table j) ts) d.1.0 d.1.1) (open_held l k x w q b d.1.0 f e o)
 turn_lacks (First x) (Second (Node k w)) q b ts d f e o =
-    absurd (contrary (ap is_turn e ∙ sym (ap is_turn (lone_as x b))))
+    absurd (false≢true (ap is_turn e ∙ sym (ap is_turn (lone_as x b))))
   where
     is_turn : Tree → Bool
     is_turn (Second y) = false
@@ -145,19 +146,19 @@ turn_lacks (First x) (Second (Node k w)) q b ts d f e o =
     lone_as : (x : Tree) (b : Bool) → First (normal_in q (kept x)) ≡ apart_if b (First (normal_in q (kept x)))
     lone_as x true = refl
     lone_as x false = refl
-turn_lacks (Second (Node l x)) (Second _) q b ts d f e o = absurd (contrary o)
-turn_lacks (Second (Node l x)) _ q b ts d f e o = absurd (contrary o)
+turn_lacks (Second (Node l x)) (Second _) q b ts d f e o = absurd (false≢true o)
+turn_lacks (Second (Node l x)) _ q b ts d f e o = absurd (false≢true o)
 turn_lacks (Second _) u q b ts d f e o = absurd d.1
-turn_lacks (First x) (Second _) q b ts d f e o = absurd (contrary o)
-turn_lacks (First x) _ q b ts d f e o = absurd (contrary o)
+turn_lacks (First x) (Second _) q b ts d f e o = absurd (false≢true o)
+turn_lacks (First x) _ q b ts d f e o = absurd (false≢true o)
 turn_lacks _ u q b ts d f e o = absurd d
 
 lone_seen : (y : Tree) (r : List Token) → Derives y (star (lacks the_end) a_turn) r → is_lone_mark y ≡ true
     → sees (marks ";") (flat y ++ r) ≡ true
 lone_seen (Again (First x) y) r d e =
     subst (λ us. sees (marks ";") us ≡ true) (sym (append_assoc (flat x) (flat y) r)) d.1.0
-lone_seen (Again _ y) r d e = absurd (contrary e)
-lone_seen _ r d e = absurd (contrary e)
+lone_seen (Again _ y) r d e = absurd (false≢true e)
+lone_seen _ r d e = absurd (false≢true e)
 
 first_apart : (b : Bool) (x : Tree) → is_first (apart_if b (Second (Node AStatement x))) ≡ false
 first_apart false x = refl
@@ -177,18 +178,18 @@ lone_back : (q : Position) (y w : Tree) (r : List Token) → Derives y (star (la
 unfolding held passed
 lone_back q (Again (First x) y) w r d f e h = refl
 lone_back q (Again (Second (Node k x)) y) (Again (First v) w) r d f e h =
-    absurd (contrary (sym (first_apart b (normal (as_statement (kept x))))
+    absurd (false≢true (sym (first_apart b (normal (as_statement (kept x))))
     ∙ sym (ap is_first (subst (λ j. First (kept v) ≡ apart_if b (normal_in q (kept (Second (Node j x))))) d.1.1.0
     (ap turn_of e)))))
   where
     b : Bool
     b = is_enclosed (kept y) (normal_in q (kept y))
-lone_back q (Again (Second (Node k x)) y) (Again _ v) r d f e h = absurd (contrary h)
-lone_back q (Again (Second (Node k x)) y) _ r d f e h = absurd (contrary h)
+lone_back q (Again (Second (Node k x)) y) (Again _ v) r d f e h = absurd (false≢true h)
+lone_back q (Again (Second (Node k x)) y) _ r d f e h = absurd (false≢true h)
 lone_back q (Again (Second _) y) w r d f e h = absurd d.1.1
 lone_back q (Again _ y) w r d f e h = absurd d.1
 lone_back q End (Again v w) r d f e h = cc e
-lone_back q End _ r d f e h = absurd (contrary h)
+lone_back q End _ r d f e h = absurd (false≢true h)
 lone_back q _ w r d f e h = absurd d
 
 are_back : (q : Position) (x w : Tree) (r : List Token) → Derives x (star (lacks the_end) a_turn) r
@@ -199,7 +200,7 @@ are_back q (Again t y) (Again u v) r d f e =
   where
     go : (o l : Bool) → is_open_turn u ≡ o → is_lone_mark v ≡ l → (is_open_turn u && is_lone_mark v) ≡ false
     go true true i j =
-        absurd (contrary (sym (turn_lacks t u q (is_enclosed (kept y) (normal_in q (kept y))) (flat y ++ r) d.1 f.0
+        absurd (false≢true (sym (turn_lacks t u q (is_enclosed (kept y) (normal_in q (kept y))) (flat y ++ r) d.1 f.0
         (ap turn_of e) i)
         ∙ lone_seen y r d.2 (lone_back q y v r d.2 f.1 (ap turns_behind e) j)))
     go true false i j = ap (λ b. b && is_lone_mark v) i ∙ j
@@ -248,8 +249,8 @@ ended_here t y o a =
 pub macro_ends : (x : Tree) → Fits x (table AStatement) → is_statement_form x ≡ true → is_macro_statement x ≡ true
     → ends_there InStatement (whole (expression_of x)) ≡ true
 macro_ends x f n = each_form (λ y. is_macro_statement y ≡ true → ends_there InStatement (whole (expression_of y)) ≡ true)
-    (λ k l o y s g h c. h) (λ k l o y c. absurd (contrary c)) (λ y g i c. absurd (contrary c))
-    (λ y c. absurd (contrary c)) (λ a y s i g h c. absurd (contrary c)) x f n
+    (λ k l o y s g h c. h) (λ k l o y c. absurd (false≢true c)) (λ y g i c. absurd (false≢true c))
+    (λ y c. absurd (false≢true c)) (λ a y s i g h c. absurd (false≢true c)) x f n
 
 pub ends_of : (x : Tree) (ts : List Token) → Fits x (table AStatement)
     → (is_open x ≡ false) ⊎ (EndsThere InStatement (expression_of x) ts × LacksAll (marks ";" ∷ []) ts)
@@ -341,7 +342,7 @@ statements_read (Again (First m) y) f w a n =
         r.0,
       ),
       inr (⊎_elim (λ h. inl h) (λ h. absurd h) j),
-      λ e. absurd (contrary (sym e)),
+      λ e. absurd (false≢true (sym e)),
     )
 statements_read (Again (Second (Node k x)) y) f w a n =
     let r =

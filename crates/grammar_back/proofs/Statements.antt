@@ -2,6 +2,7 @@
 -- or a macro without it.
 use Rattle.std.proofs.Common.{[], ap, append_assoc, List, refl, subst, sym, ◌++◌, ◌∙◌, ◌∷◌, ◌≡◌}
 use Rattle.std.specs.Prelude.{Bool, cond, false, not, true, ◌&&◌}
+use Rattle.std.proofs.lemmas.Bool.{false≢true}
 use Rattle.proc_macro2.specs.Token.{Opens, Token}
 use Rattle.proc_macro2.specs.declared.delimiter.Delimiter.TheVariants.{Parenthesis}
 use Rattle.rust_leaf.specs.declared.punct.Spacing.TheVariants.{Alone as Apart}
@@ -54,9 +55,6 @@ at_expression e s =
 abbrev pub held_form : Tree → Tree
 held_form x = Node (Expression Plain) (Whole x)
 
-pub contrary : false ≡ true → ⊥
-contrary e = cc
-
 -- A macro's call with ; is held as a macro, whether it is in normal form or not.
 unless_macro : (b : Bool) (x : Tree) → is_macro x ≡ false → is_macro (parens_unless b x) ≡ false
 unless_macro true x e = e
@@ -106,7 +104,7 @@ held_in_front a x s =
 is_held : (a x s : Tree) → is_attributes a ≡ true → as_statement (in_front a (held_form x) s) ≡ held_in_front a x s
 is_held End x s e = refl
 is_held (Again t b) x s e = refl
-is_held _ x s e = absurd (contrary e)
+is_held _ x s e = absurd (false≢true e)
 
 -- and in normal form, where the attributes are given to what stands for the expression there
 commutes : (a x v s : Tree) → SameMacro x v → given_to (normal a) v ≡ formed InStatement [] (given_to a x)
@@ -130,8 +128,8 @@ commutes a x v s m g =
 -- its tokens
 macro_flat : (a x s : Tree) → is_macro x ≡ true → flat (held_macro a (own_part x) s) ≡ flat a ++ (flat x ++ flat s)
 macro_flat a (Alone ExprMacro y) s e = refl
-macro_flat a (Alone _ y) s e = absurd (contrary e)
-macro_flat a _ s e = absurd (contrary e)
+macro_flat a (Alone _ y) s e = absurd (false≢true e)
+macro_flat a _ s e = absurd (false≢true e)
 
 held_flat : (a x s : Tree) → is_attributes a ≡ true
     → flat (held_in_front a x s) ≡ flat (in_front a (held_form x) s)
@@ -162,13 +160,13 @@ expression_printed a x s (Second (Second (Second (Second (Pair (Called n b) (Pai
 expression_printed a x s (Second (Second (Second (Second (Pair (Called n b) _))))) f e o = absurd f.1.1.1.1.1
 expression_printed a x s (Second (Second (Second (Second (Pair _ y))))) f e o = absurd f.1.1.1.1.0
 expression_printed a x s (Second (Second (Second (Second _)))) f e o = absurd f.1.1.1.1
-expression_printed a x s (Second (Second (Second (First w)))) f e o = absurd (contrary (ap is_fourth e))
+expression_printed a x s (Second (Second (Second (First w)))) f e o = absurd (false≢true (ap is_fourth e))
 expression_printed a x s (Second (Second (Second _))) f e o = absurd f.1.1.1
-expression_printed a x s (Second (Second (First w))) f e o = absurd (contrary (ap is_fourth e))
+expression_printed a x s (Second (Second (First w))) f e o = absurd (false≢true (ap is_fourth e))
 expression_printed a x s (Second (Second _)) f e o = absurd f.1.1
-expression_printed a x s (Second (First w)) f e o = absurd (contrary (ap is_fourth e))
+expression_printed a x s (Second (First w)) f e o = absurd (false≢true (ap is_fourth e))
 expression_printed a x s (Second _) f e o = absurd f.1
-expression_printed a x s (First w) f e o = absurd (contrary (ap is_fourth e))
+expression_printed a x s (First w) f e o = absurd (false≢true (ap is_fourth e))
 expression_printed a x s _ f e o = absurd f
 
 -- what was read
@@ -331,7 +329,7 @@ taken_formed g (Again t b) x s r d e o c f h i j k =
     g t b x (flat s ++ r)
     (subst (Derives (Again t b) (table OuterAttributes)) (append_assoc (flat x) (flat s) r) d) e o c f h
     (i ∙ again_normal t b _ d) j k
-taken_formed g _ x s r d e o c f h i j k = absurd (contrary o)
+taken_formed g _ x s r d e o c f h i j k = absurd (false≢true o)
 
 -- what is printed for one: a form stands in it for the expression
 record Stands (a x s : Tree) : Type 0 where
@@ -368,21 +366,21 @@ stands_printed q a x s h e =
 -- a range in parentheses
 fourth_fits : (w : Tree) → Fits w statement → is_fourth (kept w) ≡ true → is_statement_form w ≡ true → FitsExpression w
 fourth_fits (Second (Second (Second (Second y)))) f i o = fits_expression y f.1.1.1.1 o
-fourth_fits (Second (Second (Second (First w)))) f i o = absurd (contrary i)
+fourth_fits (Second (Second (Second (First w)))) f i o = absurd (false≢true i)
 fourth_fits (Second (Second (Second _))) f i o = absurd f.1.1.1
-fourth_fits (Second (Second (First w))) f i o = absurd (contrary i)
+fourth_fits (Second (Second (First w))) f i o = absurd (false≢true i)
 fourth_fits (Second (Second _)) f i o = absurd f.1.1
-fourth_fits (Second (First w)) f i o = absurd (contrary i)
+fourth_fits (Second (First w)) f i o = absurd (false≢true i)
 fourth_fits (Second _) f i o = absurd f.1
-fourth_fits (First w) f i o = absurd (contrary i)
+fourth_fits (First w) f i o = absurd (false≢true i)
 fourth_fits _ f i o = absurd f
 
 range_macro : (a x u : Tree) → is_ranged a x ≡ true → SameMacro x (in_parens u)
 unfolding level
-range_macro (Again t b) (Alone ExprMacro y) u e = absurd (contrary e)
+range_macro (Again t b) (Alone ExprMacro y) u e = absurd (false≢true e)
 range_macro (Again t b) (Alone k y) u e = no_macro (Alone k y) (in_parens u) refl refl
 range_macro (Again t b) x u e = no_macro x (in_parens u) refl refl
-range_macro _ x u e = absurd (contrary e)
+range_macro _ x u e = absurd (false≢true e)
 
 parens_fit : (x : Tree) → Fits (Whole x) (table (Expression InStatement)) → formed Plain [] (kept x) ≡ kept x
     → Fits (Node (Expression InStatement) (Whole (in_parens x))) (ref (Expression InStatement))
@@ -473,22 +471,22 @@ stands a x s w v g f i n = go (is_ranged a x) refl g
 left_macro : (x : Tree) → has_left_operand x ≡ true → is_macro x ≡ false
 left_macro (Back l k y) e = refl
 left_macro (Infix l k y r) e = refl
-left_macro _ e = absurd (contrary e)
+left_macro _ e = absurd (false≢true e)
 
 left_brace : (x : Tree) → has_left_operand x ≡ true → is_brace_macro x ≡ false
 left_brace (Back l k y) e = refl
 left_brace (Infix l k y r) e = refl
-left_brace _ e = absurd (contrary e)
+left_brace _ e = absurd (false≢true e)
 
 opened_macro : (a x : Tree) → opens_in a x ≡ true → is_macro (kept x) ≡ false
 opened_macro (Again t b) (Back l ExprCast y) e = refl
 opened_macro (Again t b) (Infix l k y r) e = refl
-opened_macro (Again t b) _ e = absurd (contrary e)
-opened_macro _ x e = absurd (contrary e)
+opened_macro (Again t b) _ e = absurd (false≢true e)
+opened_macro _ x e = absurd (false≢true e)
 
 paren_start : (ts : List Token) → sees parenthesis ts ≡ true → is_plain_start ts ≡ true
 paren_start (Opens d ∷ ts) e = refl
-paren_start _ e = absurd (contrary e)
+paren_start _ e = absurd (false≢true e)
 
 taker_meant : (x s : Tree) → Fits (Whole x) (table (Expression InStatement)) → sees parenthesis (flat (kept x)) ≡ true
     → has_left_operand (kept x) ≡ true
@@ -595,8 +593,8 @@ macro_printed (Pair a (Pair m s)) (Second (Second w)) f e n = cc e
 macro_printed (Pair a (Pair m s)) (Second _) f e n = absurd f.1
 macro_printed (Pair a (Pair m s)) (First w) f e n = cc e
 macro_printed (Pair a (Pair m s)) _ f e n = absurd f
-macro_printed (Pair a _) w f e n = absurd (contrary n)
-macro_printed _ w f e n = absurd (contrary n)
+macro_printed (Pair a _) w f e n = absurd (false≢true n)
+macro_printed _ w f e n = absurd (false≢true n)
 
 pub law_a_statement : GivenLaw → TakenLaw → KindLaw AStatement
 unfolding has_step has_form_step held passed place_of table
@@ -676,7 +674,7 @@ each_form P call one other named third (Second (First _)) f n = absurd f.1.1
 each_form P call one other named third (Second _) f n = absurd f.1
 each_form P call one other named third (First (Node k (First y))) f n =
     subst (λ j. P (First (Node j (First y)))) (sym f.1.0) (named y)
-each_form P call one other named third (First (Node k _)) f n = absurd (contrary n)
+each_form P call one other named third (First (Node k _)) f n = absurd (false≢true n)
 each_form P call one other named third (First _) f n = absurd f.1
 each_form P call one other named third _ f n = absurd f
 
@@ -753,17 +751,17 @@ open_read (Second (Second (Second (Second y)))) r d n o c =
         → is_open (as_statement (kept (in_front a (Node (Expression InStatement) (Whole x)) s))) ≡ true
         → Read (Second (Second (Second (Second y))))
     go a x (First z) i e d o =
-        absurd (contrary (sym (closed_as (kept a) (kept x) (kept z) (attributes_kept a i)) ∙ o))
+        absurd (false≢true (sym (closed_as (kept a) (kept x) (kept z) (attributes_kept a i)) ∙ o))
     go a x (Second Nil) i e d o = record { front = a; form = x; is = e; attributes = i }
     go a x (Second _) i e d o = absurd d.1.1.1.1.1.1.1
     go a x _ i e d o = absurd d.1.1.1.1.1.1
-open_read (Second (Second (Second (First x)))) r d n o c = absurd (contrary o)
+open_read (Second (Second (Second (First x)))) r d n o c = absurd (false≢true o)
 open_read (Second (Second (Second _))) r d n o c = absurd d.1.1.1
-open_read (Second (Second (First x))) r d n o c = absurd (contrary o)
+open_read (Second (Second (First x))) r d n o c = absurd (false≢true o)
 open_read (Second (Second _)) r d n o c = absurd d.1.1
-open_read (Second (First x)) r d n o c = absurd (contrary (sym c))
+open_read (Second (First x)) r d n o c = absurd (false≢true (sym c))
 open_read (Second _) r d n o c = absurd d.1
-open_read (First x) r d n o c = absurd (contrary o)
+open_read (First x) r d n o c = absurd (false≢true o)
 open_read _ r d n o c = absurd d
 
 pub record IsOpen (x : Tree) : Type 0 where
@@ -776,15 +774,15 @@ pub record IsOpen (x : Tree) : Type 0 where
 pub open_fits : (x : Tree) → Fits x (table AStatement) → is_statement_form x ≡ true → is_open x ≡ true
     → is_macro_statement x ≡ false → IsOpen x
 open_fits x f n = each_form (λ y. is_open y ≡ true → is_macro_statement y ≡ false → IsOpen y)
-    (λ k l o y s g h e c. absurd (contrary (sym c))) (λ k l o y e c. absurd (contrary e))
-    (λ y g i e c. absurd (contrary e)) (λ y e c. absurd (contrary e)) go x f n
+    (λ k l o y s g h e c. absurd (false≢true (sym c))) (λ k l o y e c. absurd (false≢true e))
+    (λ y g i e c. absurd (false≢true e)) (λ y e c. absurd (false≢true e)) go x f n
   where
     go : (a x s : Tree) → is_attributes a ≡ true → Fits (Whole x) (table (Expression InStatement))
         → Fits s (optional (marks ";") (the_semicolon ∶ sign ";"))
         → is_open (in_front a (Node (Expression InStatement) (Whole x)) s) ≡ true
         → is_macro_statement (in_front a (Node (Expression InStatement) (Whole x)) s) ≡ false
         → IsOpen (in_front a (Node (Expression InStatement) (Whole x)) s)
-    go a x (First z) i g h e c = absurd (contrary e)
+    go a x (First z) i g h e c = absurd (false≢true e)
     go a x (Second Nil) i g h e c = record { front = a; form = x; is = refl; attributes = i; fits = g }
     go a x (Second _) i g h e c = absurd h.1
     go a x _ i g h e c = absurd h
@@ -830,12 +828,12 @@ pub open_kept : (w : Tree) → Fits w (table AStatement) → is_statement_form w
     → is_open (as_statement (kept w)) ≡ true
 unfolding held
 open_kept w f n = each_form (λ y. is_open y ≡ true → is_open (as_statement (kept y)) ≡ true) call
-    (λ k l o y e. absurd (contrary e)) (λ y g i e. absurd (contrary e)) (λ y e. absurd (contrary e)) go w f n
+    (λ k l o y e. absurd (false≢true e)) (λ y g i e. absurd (false≢true e)) (λ y e. absurd (false≢true e)) go w f n
   where
     call : (k l : Kind) (o y s : Tree) → Fits s (optional (marks ";") (the_semicolon ∶ sign ";"))
         → is_brace_macro (Alone ExprMacro (Node l y)) ≡ true → is_open (at_macro k o l y s) ≡ true
         → is_open (as_statement (kept (at_macro k o l y s))) ≡ true
-    call k l o y (First z) g h e = absurd (contrary e)
+    call k l o y (First z) g h e = absurd (false≢true e)
     call k l o y (Second z) g h e = refl
     call k l o y _ g h e = absurd g
 
@@ -843,7 +841,7 @@ open_kept w f n = each_form (λ y. is_open y ≡ true → is_open (as_statement 
         → Fits s (optional (marks ";") (the_semicolon ∶ sign ";"))
         → is_open (in_front a (Node (Expression InStatement) (Whole x)) s) ≡ true
         → is_open (as_statement (kept (in_front a (Node (Expression InStatement) (Whole x)) s))) ≡ true
-    go a x (First z) i g h e = absurd (contrary e)
+    go a x (First z) i g h e = absurd (false≢true e)
     go a x (Second Nil) i g h e = ap is_open (open_as a x i)
     go a x (Second _) i g h e = absurd h.1
     go a x _ i g h e = absurd h
@@ -874,7 +872,7 @@ as_none : (x w : Tree) (q : Position) (b : Bool) (i : IsOpen w)
     → is_macro_statement x ≡ false
 unfolding held passed
 as_none (Second (First x)) w q b i e =
-    absurd (contrary (ap is_macro_statement (sym (open_as i.front i.form i.attributes)) ∙ ap is_macro_turn e
+    absurd (false≢true (ap is_macro_statement (sym (open_as i.front i.form i.attributes)) ∙ ap is_macro_turn e
     ∙ macro_apart b (normal (kept x))))
 as_none _ w q b i e = refl
 
@@ -914,21 +912,21 @@ opened (Second (Node l x)) (Second (Node k w)) q b r c d f e o z =
       same = same_form b q i.front i.form p.front p.form i.attributes p.attributes (subst
           (λ z. kept (open_turn p.front p.form) ≡ apart_if b (normal_in q (kept (Second (Node AStatement z))))) i.is g);
     }
-opened (Second (Node l x)) (Second _) q b r c d f e o z = absurd (contrary o)
-opened (Second (Node l x)) _ q b r c d f e o z = absurd (contrary o)
+opened (Second (Node l x)) (Second _) q b r c d f e o z = absurd (false≢true o)
+opened (Second (Node l x)) _ q b r c d f e o z = absurd (false≢true o)
 opened (Second _) u q b r c d f e o z = absurd d
 opened (First (AMark m ms spacing)) (Second (Node k w)) q b r c d f e o z =
     let p = open_fits w (subst (λ j. Fits w (table j)) f.1.0 f.1.3) (subst (λ j. IsMeant j w) f.1.0 f.1.4) o z in
     let u : Second (Node k w) ≡ open_turn p.front p.form =
     ap (λ j. Second (Node j w)) f.1.0 ∙ ap (λ z. Second (Node AStatement z)) p.is in
-    absurd (contrary (sym (no_turn b)
+    absurd (false≢true (sym (no_turn b)
     ∙ sym (ap is_open_turn (subst (λ z. kept z ≡ apart_if b (First (AMark m ms Apart))) u e))
     ∙ ap is_open (open_as p.front p.form p.attributes)))
   where
     no_turn : (b : Bool) → is_open_turn (apart_if b (First (AMark m ms Apart))) ≡ false
     no_turn true = refl
     no_turn false = refl
-opened (First (AMark m ms spacing)) _ q b r c d f e o z = absurd (contrary o)
+opened (First (AMark m ms spacing)) _ q b r c d f e o z = absurd (false≢true o)
 opened (First _) u q b r c d f e o z = absurd d.1
 opened _ u q b r c d f e o z = absurd d
 
@@ -961,7 +959,7 @@ form_needs x f n =
         ap (λ j. needs_semicolon (Node AStatement
         (in_front a (Node (Expression InStatement) (Whole x)) (First (Called j z))))) h.1.0
     go a x (First _) i g h e = absurd h.1
-    go a x (Second Nil) i g h e = absurd (contrary (sym e))
+    go a x (Second Nil) i g h e = absurd (false≢true (sym e))
     go a x (Second _) i g h e = absurd h.1
     go a x _ i g h e = absurd h
 

@@ -2,6 +2,7 @@
 -- its normal form.
 use Rattle.std.proofs.Common.{◌≡◌, ℕ, List, [], ◌∷◌, refl, sym, subst}
 use Rattle.std.specs.Prelude.{Bool, true, false, ◌&&◌, not, nat_eq, cond}
+use Rattle.std.proofs.lemmas.Bool.{false≢true}
 use Rattle.proc_macro2.specs.Token.{Token}
 use Rattle.proc_macro2.specs.declared.delimiter.Delimiter.{Delimiter}
 use Rattle.proc_macro2.specs.declared.delimiter.Delimiter.TheVariants.{Parenthesis}
@@ -101,13 +102,9 @@ no_row k = go (is_row k)
     go true = refl
     go false = refl
 
--- a test that has both answers
-pub unlike : false ≡ true → ⊥
-unlike e = cc
-
 pub item_kind : (k : Kind) → is_item k ≡ true → k ≡ AnItem
 item_kind AnItem e = refl
-item_kind _ e = absurd (unlike e)
+item_kind _ e = absurd (false≢true e)
 
 row_tidy : (k : Kind) (S : Bool) (x : Tree) → is_row k && S ≡ true → tidy k x ≡ x
 row_tidy Items S x e = refl
@@ -115,11 +112,11 @@ row_tidy ForeignItems S x e = refl
 row_tidy TraitItems S x e = refl
 row_tidy ImplItems S x e = refl
 row_tidy Statements S x e = refl
-row_tidy _ S x e = absurd (unlike e)
+row_tidy _ S x e = absurd (false≢true e)
 
 held_item : (k : Kind) → is_item k ≡ false → is_item (held k) ≡ false
 unfolding held
-held_item AnItem e = absurd (unlike (sym e))
+held_item AnItem e = absurd (false≢true (sym e))
 held_item _ e = refl
 
 module _ (S : Bool) (T : Tree → Tree → Type 0 → Type 0) (D : Delimiter → Type 0)

@@ -2,6 +2,7 @@
 -- expressions.
 use Rattle.std.proofs.Common.{◌≡◌, ℕ, List, [], ◌∷◌, ◌++◌, refl, sym, ap, ◌∙◌, subst, append_assoc}
 use Rattle.std.specs.Prelude.{Bool, true, false, ◌&&◌, ◌||◌, not, cond}
+use Rattle.std.proofs.lemmas.Bool.{false≢true}
 use Rattle.proc_macro2.specs.Token.{Token, Opens, Closes, Ident, Literal, Punct}
 use Rattle.rust_leaf.specs.declared.punct.Spacing.{Spacing}
 use Rattle.rust_leaf.specs.declared.punct.Spacing.TheVariants.{Alone as Apart}
@@ -35,7 +36,6 @@ use Rattle.syn_grammar.specs.Tidy.{moved, keeps_generics, without_generics, tidy
 use Rattle.syn_grammar.specs.Normal.{place_of, passed, apart, apart_item, apart_if, is_enclosed, normal_in}
 use Rattle.syn_grammar.proofs.Whole.{and_true}
 use Rattle.item_laws.specs.Begins.{first_of}
-use Rattle.item_laws.proofs.Every.{unlike}
 
 -- kinds that take a token, and whose first stays what it was
 abbrev pub strong : Kind → Bool
@@ -201,38 +201,38 @@ strong_lead AForeignItem e = refl
 strong_lead ATraitItem e = refl
 strong_lead AnImplItem e = refl
 strong_lead ALet e = refl
-strong_lead _ e = absurd (unlike e)
+strong_lead _ e = absurd (false≢true e)
 
 weak_lead : (k : Kind) → weak k ≡ true → lead false (table k) ≡ true
 unfolding table
 weak_lead OuterAttributes e = refl
 weak_lead Visibility e = refl
-weak_lead _ e = absurd (unlike e)
+weak_lead _ e = absurd (false≢true e)
 
 -- of these kinds all is kept, and normal form changes no part of their own
 stays_kept : (k : Kind) (x : Tree) → strong k || weak k ≡ true → forget k x ≡ x
-stays_kept Parameter x e = absurd (unlike e)
-stays_kept (DynType p) x e = absurd (unlike e)
-stays_kept (ImplType p) x e = absurd (unlike e)
-stays_kept Meta x e = absurd (unlike e)
-stays_kept AStatement x e = absurd (unlike e)
-stays_kept Member x e = absurd (unlike e)
-stays_kept Index x e = absurd (unlike e)
-stays_kept AnArgument x e = absurd (unlike e)
-stays_kept ConstParam x e = absurd (unlike e)
-stays_kept Arm x e = absurd (unlike e)
+stays_kept Parameter x e = absurd (false≢true e)
+stays_kept (DynType p) x e = absurd (false≢true e)
+stays_kept (ImplType p) x e = absurd (false≢true e)
+stays_kept Meta x e = absurd (false≢true e)
+stays_kept AStatement x e = absurd (false≢true e)
+stays_kept Member x e = absurd (false≢true e)
+stays_kept Index x e = absurd (false≢true e)
+stays_kept AnArgument x e = absurd (false≢true e)
+stays_kept ConstParam x e = absurd (false≢true e)
+stays_kept Arm x e = absurd (false≢true e)
 stays_kept _ x e = refl
 
 stays_tidy : (k : Kind) (x : Tree) → strong k || weak k ≡ true → tidy (held k) x ≡ x
 unfolding held
-stays_tidy Where x e = absurd (unlike e)
-stays_tidy Generics x e = absurd (unlike e)
-stays_tidy BoundsColon x e = absurd (unlike e)
-stays_tidy LifetimeColon x e = absurd (unlike e)
-stays_tidy GenericParams x e = absurd (unlike e)
-stays_tidy Arguments x e = absurd (unlike e)
-stays_tidy (ATypeAlias p) x e = absurd (unlike e)
-stays_tidy AnImpl x e = absurd (unlike e)
+stays_tidy Where x e = absurd (false≢true e)
+stays_tidy Generics x e = absurd (false≢true e)
+stays_tidy BoundsColon x e = absurd (false≢true e)
+stays_tidy LifetimeColon x e = absurd (false≢true e)
+stays_tidy GenericParams x e = absurd (false≢true e)
+stays_tidy Arguments x e = absurd (false≢true e)
+stays_tidy (ATypeAlias p) x e = absurd (false≢true e)
+stays_tidy AnImpl x e = absurd (false≢true e)
 stays_tidy _ x e = refl
 
 -- the first of a tree's tokens, before some others, is that of what is kept of it, and of its normal form
@@ -409,7 +409,7 @@ worded_node AnImpl (First x) r e d =
     )
 worded_node AnImpl (Verbatim x) r e d = absurd (kept_or_refused _ d.0)
 worded_node AnImpl _ r e d = absurd d
-worded_node _ x r e d = absurd (unlike e)
+worded_node _ x r e d = absurd (false≢true e)
 
 stay_node : (k : Kind) (x : Tree) → strong k || weak k ≡ true → (us v : List Token) → Same us x v
     → Same us (Node k x) v
@@ -427,7 +427,7 @@ node_leads k x r d h b l u v f = go (strong k) (worded k) refl refl l
   where
     go : (i j : Bool) → strong k ≡ i → worded k ≡ j → (i || j) || (not b && weak k) ≡ true
         → Same (flat x ++ u) (Node k x) v
-    go true j e w m = stay_node k x (ap (λ c. c || weak k) e) (flat x ++ u) v (h true (strong_lead k e) u v (λ i. absurd (unlike (sym i))))
+    go true j e w m = stay_node k x (ap (λ c. c || weak k) e) (flat x ++ u) v (h true (strong_lead k e) u v (λ i. absurd (false≢true (sym i))))
     go false true e w m = worded_node k x r w d u v
     go false false e w m =
         let n = and_true (not b) (weak k) m in
@@ -440,7 +440,7 @@ leads (ALiteral cs) (literal p) r d b l u v f = (refl, λ q. refl)
 leads (AMark c cs spacing) (mark n ns) r d b l u v f =
     (first_mark c cs spacing u v, λ q. first_mark c cs spacing u v)
 leads (ALifetime cs) lifetime r d b l u v f = (refl, λ q. refl)
-leads (Raw ts) raw r d b l u v f = absurd (unlike l)
+leads (Raw ts) raw r d b l u v f = absurd (false≢true l)
 leads Nil nothing r d b l u v f = (none_first b u v l f, λ q. none_first b u v l f)
 leads (Pair x y) (seq g h) r d b l u v f =
     pair_leads x y g h (leads x g (flat y ++ r) d.0) (leads y h r d.1) b l u v f
@@ -461,9 +461,9 @@ leads (Called n x) (called m g) r d b l u v f =
     (h.0, λ q. h.1 (place_of n))
 leads (Node k x) (ref j) r d b l u v f =
     subst (λ i. Leads (Node k x) (ref i)) d.0 (node_leads k x r d.1 (leads x (table k) r d.1)) b l u v f
-leads End (many e c g) r d b l u v f = absurd (unlike l)
-leads (Final x) (many e c g) r d b l u v f = absurd (unlike l)
-leads (More x m spacing y) (many e c g) r d b l u v f = absurd (unlike l)
-leads (Dropped x) (dropped g) r d b l u v f = absurd (unlike l)
-leads (Whole x) (operand p n) r d b l u v f = absurd (unlike l)
+leads End (many e c g) r d b l u v f = absurd (false≢true l)
+leads (Final x) (many e c g) r d b l u v f = absurd (false≢true l)
+leads (More x m spacing y) (many e c g) r d b l u v f = absurd (false≢true l)
+leads (Dropped x) (dropped g) r d b l u v f = absurd (false≢true l)
+leads (Whole x) (operand p n) r d b l u v f = absurd (false≢true l)
 leads _ _ r d b l u v f = absurd d

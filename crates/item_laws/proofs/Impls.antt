@@ -1,6 +1,7 @@
 -- Where the form of an impl stands among the alternatives of an item.
 use Rattle.std.proofs.Common.{◌≡◌, ℕ, List, [], ◌∷◌, ◌++◌, refl, sym, ap, ◌∙◌, subst, append_assoc}
 use Rattle.std.specs.Prelude.{Bool, false, codes}
+use Rattle.std.proofs.lemmas.Bool.{false≢true}
 use Rattle.proc_macro2.specs.Token.{Token}
 use Rattle.syn_grammar.specs.Kind.{AnImpl}
 use Rattle.syn_grammar.specs.Table.{table}
@@ -16,7 +17,6 @@ use Rattle.syn_grammar.specs.Look.{◌or◌, no, opens}
 use Rattle.syn_grammar.specs.Look.{a_group, past_closing}
 use Rattle.syn_grammar.specs.Items.{is_impl}
 use Rattle.syn_grammar.specs.Say.{◌∶◌, ◌▸◌, optional, at, keyword, sign, marks as marks', in_braces, brace}
-use Rattle.item_laws.proofs.Every.{unlike}
 use Rattle.item_laws.proofs.Passed.{group_passed}
 use Rattle.syn_grammar.specs.Part.{has}
 use Rattle.proc_macro2.specs.declared.delimiter.Delimiter.TheVariants.{Brace, Parenthesis}
@@ -183,8 +183,8 @@ impl_at : (o c s z : Tree) (r : List Token) → Opt the_default "default" o → 
     → Opt the_safety "unsafe" s → has the_const (an_impl_of o c s z) ≡ false → Derives z impl_rest r
     → Derives (an_impl_of o c s z) (table AnImpl) r → Place AnImpl (an_impl_of o c s z) r
 unfolding same_part
-impl_at o c s z r there there u h e d = absurd (unlike (sym h))
-impl_at o c s z r missing there u h e d = absurd (unlike (sym h))
+impl_at o c s z r there there u h e d = absurd (false≢true (sym h))
+impl_at o c s z r missing there u h e d = absurd (false≢true (sym h))
 impl_at o c s z r there missing there h e d = (
   eight (eight (two_more (Second (First (Node AnImpl (an_impl_of (First
       (Called the_default (AWord (codes "default")))) (Second Nil) (First (Called the_safety (AWord (codes "unsafe"))))

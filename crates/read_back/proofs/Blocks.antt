@@ -3,6 +3,7 @@ use Rattle.std.proofs.Common.{◌≡◌, ℕ, List, [], ◌∷◌, ◌++◌, ref
 use Rattle.std.specs.Prelude.{Bool, true, false, cond, Option, Some, None, codes}
 use Prim.Native.String.{String}
 use Rattle.std.proofs.lemmas.Slice.Eq.{bytes_eq-Decides}
+use Rattle.std.proofs.lemmas.Bool.{false≢true}
 use Rattle.proc_macro2.specs.Token.{Token, Opens, Closes, Ident, Punct}
 use Rattle.proc_macro2.specs.declared.delimiter.Delimiter.TheVariants.{Brace, Bracket}
 use Rattle.rust_leaf.specs.declared.punct.Spacing.{Spacing}
@@ -22,7 +23,6 @@ use Rattle.syn_grammar.specs.Kept.{kept}
 use Rattle.syn_grammar.specs.Normal.{normal}
 use Rattle.syn_grammar.specs.Forms.{front}
 use Rattle.syn_grammar.specs.Expressions.{expressions, labelled}
-use Rattle.expressions_back.proofs.Bools.{never}
 use Rattle.expressions_back.specs.Behind.{no_operand}
 use Rattle.expressions_back.specs.Formed.{IsFront}
 use Rattle.grammar_back.specs.After.{After}
@@ -314,4 +314,4 @@ block_part M ExprConst y e f w h = front_of M ExprConst y (λ ts. tt) w h (const
 block_part M ExprLoop y e f w h = front_of M ExprLoop y (λ ts. tt) w h (loop_tokens y f)
 block_part M ExprWhile y e f w h = front_of M ExprWhile y (λ ts. tt) w h (while_tokens y f)
 block_part M ExprForLoop y e f w h = front_of M ExprForLoop y (λ ts. tt) w h (for_tokens y f (w [] tt).0)
-block_part M _ y e f w h = absurd (never e)
+block_part M _ y e f w h = absurd (false≢true e)

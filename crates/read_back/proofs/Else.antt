@@ -2,6 +2,7 @@
 -- too: normal form is made of it as before nothing, and its last own part ends there.
 use Rattle.std.proofs.Common.{◌≡◌, List, [], ◌∷◌, refl, sym, ap, ◌∙◌, subst}
 use Rattle.std.specs.Prelude.{Bool, true, false, not, ◌&&◌, ◌||◌, None, codes}
+use Rattle.std.proofs.lemmas.Bool.{false≢true}
 use Rattle.proc_macro2.specs.Token.{Token, Ident}
 use Rattle.syn_grammar.specs.Kind.{Kind, Position, Plain, InCondition, InArm, InStatement, ExprBreak, ExprCast}
 use Rattle.syn_grammar.specs.Kind.{ExprPath}
@@ -19,7 +20,6 @@ use Rattle.syn_grammar.proofs.Settled.{Settled}
 use Rattle.binding_laws.proofs.Sights.{backs_are}
 use Rattle.expressions_back.specs.Formed.{IsBehind}
 use Rattle.expressions_back.specs.Simple.{is_break}
-use Rattle.expressions_back.proofs.Bools.{never}
 use Rattle.expressions_back.proofs.Names.{End}
 use Rattle.grammar_back.specs.After.{After, is_closed, is_if}
 use Rattle.grammar_back.specs.Covered.{has_form_step}
@@ -83,12 +83,12 @@ calm_else us = (refl, (refl, (refl, (refl, (refl, (refl, (refl, (refl, (refl, (r
 after_else : (k : Kind) (y : Tree) (ts : List Token) → is_form k ≡ true → is_if k ≡ false → IsElse ts → After k y ts
 after_else k y ts h e m =
     subst (After k y) (sym m.1)
-    (before_calm k y (behind_else m.0) h (calm_else m.0) (λ i. absurd (never (sym e ∙ ap is_if i))))
+    (before_calm k y (behind_else m.0) h (calm_else m.0) (λ i. absurd (false≢true (sym e ∙ ap is_if i))))
 
 break_lacks : (k : Kind) → is_break k ≡ true → may_lack k ≡ true
 unfolding may_lack
 break_lacks ExprBreak e = refl
-break_lacks _ e = absurd (never e)
+break_lacks _ e = absurd (false≢true e)
 
 ends_else : (k : Kind) (y : Tree) → is_form k ≡ true → is_closed (Alone k y) ≡ true → Ends IsElse k y
 ends_else k y h c =
@@ -97,7 +97,7 @@ ends_else k y h c =
       ends = λ ts m. subst End (sym m.1)
           (record { colon = refl; lifetime = refl; bang = refl; const = refl; mut = refl });
       started = λ e ts m. after_else k y ts h n.1 m;
-      jump = λ b. absurd (never (sym n.0 ∙ break_lacks k b));
+      jump = λ b. absurd (false≢true (sym n.0 ∙ break_lacks k b));
     }
 
 cast_else : (y : Tree) → OwnReady ExprCast y → flat (normal (kept y)) ≡ flat y → IsBehind IsElse ExprCast y

@@ -3,6 +3,7 @@
 use Rattle.std.proofs.Common.{◌≡◌, List, [], ◌∷◌, ◌++◌, refl, sym, ap, ◌∙◌, subst, append_assoc}
 use Rattle.std.specs.Prelude.{Bool, true, false, not, ◌&&◌, ◌||◌, cond, nat_eq}
 use Rattle.std.proofs.lemmas.List.{append-nil}
+use Rattle.std.proofs.lemmas.Bool.{false≢true}
 use Rattle.proc_macro2.specs.Token.{Token, Punct}
 use Rattle.proc_macro2.specs.declared.delimiter.Delimiter.TheVariants.{Parenthesis}
 use Rattle.rust_leaf.specs.declared.punct.Spacing.TheVariants.{Alone as Apart}
@@ -20,10 +21,9 @@ use Rattle.syn_grammar.specs.Normal.{formed, normal, passed, stands_behind}
 use Rattle.syn_grammar.specs.Parens.{follow, in_parens}
 use Rattle.syn_grammar.proofs.Settled.{Settled}
 use Rattle.expressions_back.specs.Formed.{is_attributed_form}
-use Rattle.expressions_back.proofs.Bools.{never}
 use Rattle.grammar_back.specs.Covered.{has_form_step, has_step}
 use Rattle.grammar_back.proofs.Fits.{Fits, FitsForms, HasOperands}
-use Rattle.grammar_back.proofs.Statements.{contrary, has_left_operand, TakenLaw}
+use Rattle.grammar_back.proofs.Statements.{has_left_operand, TakenLaw}
 use Rattle.range_laws.specs.Opens.{opens_given}
 use Rattle.range_laws.specs.Shelled.{goes_in, parens_if, shelled}
 use Rattle.range_laws.proofs.Dotted.{dotted_by, dotted_is}
@@ -84,8 +84,8 @@ as_infix (Infix m j w s) l k y r e = record {
   right_is = ap right_of e;
 }
 as_infix (Back m j w) l k y r e =
-    absurd (contrary (sym (dotted_is (λ z. is_infix z ≡ false) (λ m j w. refl) (kept m) j (kept w)) ∙ ap is_infix e))
-as_infix _ l k y r e = absurd (contrary (ap is_infix e))
+    absurd (false≢true (sym (dotted_is (λ z. is_infix z ≡ false) (λ m j w. refl) (kept m) j (kept w)) ∙ ap is_infix e))
+as_infix _ l k y r e = absurd (false≢true (ap is_infix e))
 
 record AsBack (f l : Tree) (k : Kind) (y : Tree) : Type 0 where
   left : Tree
@@ -104,7 +104,7 @@ as_back (Back m j w) l k y g e =
       left_is = ap left_of h;
       own_is = ap own_of h;
     }
-as_back _ l k y g e = absurd (contrary (ap is_back e))
+as_back _ l k y g e = absurd (false≢true (ap is_back e))
 
 -- and what stands in parentheses
 record Opened (u : Tree) : Type 0 where
@@ -136,16 +136,16 @@ paren_opened (Group d (Final (Node k v))) u f e =
     whole_opened v u (subst (λ j. Fits v (table j)) f.1.0 f.1.3)
     (subst (λ j. kept (Node j v) ≡ Node (Expression Plain) (Whole u)) f.1.0 (ap inside_of (ap inside_of e)))
 paren_opened (Group d (Final _)) u f e = absurd f.1
-paren_opened (Group d End) u f e = absurd (contrary (ap is_final (ap inside_of e)))
-paren_opened (Group d (More x c i y)) u f e = absurd (contrary (ap is_final (ap inside_of e)))
+paren_opened (Group d End) u f e = absurd (false≢true (ap is_final (ap inside_of e)))
+paren_opened (Group d (More x c i y)) u f e = absurd (false≢true (ap is_final (ap inside_of e)))
 paren_opened (Group d _) u f e = absurd f.1
 paren_opened _ u f e = absurd f
 
 parens_opened : (f u : Tree) → FitsForms f → kept f ≡ in_parens u → Opened u
 parens_opened (Alone k v) u f e =
     paren_opened v u (subst (λ j. Fits v (table j)) (ap kind_of e) f.1) (ap own_of e)
-parens_opened (Back m j w) u f e = absurd (contrary (ap is_alone (sym (f.3 (kept m)) ∙ e)))
-parens_opened _ u f e = absurd (contrary (ap is_alone e))
+parens_opened (Back m j w) u f e = absurd (false≢true (ap is_alone (sym (f.3 (kept m)) ∙ e)))
+parens_opened _ u f e = absurd (false≢true (ap is_alone e))
 
 opened : (b : Bool) (f u : Tree) → FitsForms f → HasOperands f → kept f ≡ parens_if b u → Opened u
 opened true f u g o e = parens_opened f u g e
@@ -162,7 +162,7 @@ opened_settled false u p ts s = (p, ts, s)
 unattributed : (x : Tree) (p : Position) (r : List Token) → Bound p x r → sees (marks "#") (flat x ++ r) ≡ false
     → is_attributed_form (shelled (kept x)) ≡ false
 unattributed (Front ExprAttributed y x) p r d e =
-    absurd (never (sym e ∙ ap (sees (marks "#")) (append_assoc (flat y) (flat x) r) ∙ hash_first p _ d.0))
+    absurd (false≢true (sym e ∙ ap (sees (marks "#")) (append_assoc (flat y) (flat x) r) ∙ hash_first p _ d.0))
 unattributed (Back l k y) p r d e =
     dotted_is (λ z. is_attributed_form (shelled z) ≡ false) (λ l k y. refl) (kept l) k (kept y)
 unattributed _ p r d e = refl
@@ -235,7 +235,7 @@ module _ (a w : Tree) (same : kept w ≡ normal a) (own : Fits w (table ExprAttr
       record {
         tree = Back t.tree ExprCast m.own;
         fits = (i.0, i.1, i.2, i.3, t.fits);
-        operands = (j.0, j.1, t.operands, λ s. absurd (never s));
+        operands = (j.0, j.1, t.operands, λ s. absurd (false≢true s));
         kept_is = ap (Back (kept t.tree) ExprCast) m.own_is
             ∙ ap (λ z. Back z ExprCast (normal (kept y))) t.kept_is;
       }
@@ -322,7 +322,7 @@ attributes (Again x y) t b f e = record {
   kept_is = ap (λ z. Pair z (Node OuterAttributes (kept y))) (ap first_of e)
       ∙ ap (λ z. Pair t (Node OuterAttributes z)) (ap rest_of e);
 }
-attributes End t b f e = absurd (contrary (ap is_again e))
+attributes End t b f e = absurd (false≢true (ap is_again e))
 attributes _ t b f e = absurd f
 
 opens_range : (x : Tree) → opens_given x ≡ true → is_range x ≡ false
@@ -332,8 +332,8 @@ opens_range (Infix l k y r) e = go (nat_eq (level k) 3) e
   where
     go : (b : Bool) → (not b && (goes_in k l || opens_given l)) ≡ true → b ≡ false
     go false e = refl
-    go true e = absurd (contrary e)
-opens_range _ e = absurd (contrary e)
+    go true e = absurd (false≢true e)
+opens_range _ e = absurd (false≢true e)
 
 given_left : (a x : Tree) → opens_given x ≡ true → has_left_operand (shelled (attributed a (kept x))) ≡ true
 given_left a (Back l ExprCast y) e = refl
@@ -343,8 +343,8 @@ given_left a (Infix l k y r) e = go (nat_eq (level k) 3) e
         → has_left_operand (shelled (cond b (Front ExprAttributed a (Infix (kept l) k (kept y) (kept r)))
         (Infix (attributed a (kept l)) k (kept y) (kept r)))) ≡ true
     go false e = refl
-    go true e = absurd (contrary e)
-given_left a _ e = absurd (contrary e)
+    go true e = absurd (false≢true e)
+given_left a _ e = absurd (false≢true e)
 
 pub taken : TakenLaw
 unfolding table held passed stands_behind

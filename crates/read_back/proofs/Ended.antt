@@ -1,6 +1,7 @@
 -- A form that ends a statement or an arm by itself is read before whatever begins another expression.
 use Rattle.std.proofs.Common.{◌≡◌, List, [], ◌∷◌, ◌++◌, refl, sym, ap, ◌∙◌, inl, inr}
 use Rattle.std.specs.Prelude.{ℕ, Bool, true, false, not, ◌&&◌, ◌||◌, ◌⊎◌, cond, Option, Some, None}
+use Rattle.std.proofs.lemmas.Bool.{false≢true}
 use Rattle.proc_macro2.specs.Token.{Token}
 use Rattle.syn_grammar.specs.Kind.{Kind, Position, Plain, InCondition, InArm, InStatement}
 use Rattle.syn_grammar.specs.Kind.{ExprAttributed, ExprBlock, ExprConst, ExprIf, ExprLoop, ExprMacro, ExprMatch}
@@ -23,7 +24,6 @@ use Rattle.syn_grammar.proofs.Settled.{Settled}
 use Rattle.expressions_back.specs.Behind.{no_operand, BeforeOperand}
 use Rattle.expressions_back.specs.Firm.{IsOwn}
 use Rattle.expressions_back.specs.Formed.{IsFront}
-use Rattle.expressions_back.proofs.Bools.{never}
 use Rattle.expressions_back.proofs.Owns.{front_part}
 use Rattle.grammar_back.specs.Sees.{LacksAll}
 use Rattle.grammar_back.proofs.Classes.{◌&◌}
@@ -60,7 +60,7 @@ first_off (form j l ∷ cases) ts k o e = go (seen (l ts)) refl o.0 (λ f. first
         → (first_form cases ts ≡ Some k → is_dotted k ≡ false)
         → cond b (Some j) (first_form cases ts) ≡ Some k → is_dotted k ≡ false
     go true i (inl h) f e = same_dotted j k e h
-    go true i (inr h) f e = absurd (never (sym h ∙ i))
+    go true i (inr h) f e = absurd (false≢true (sym h ∙ i))
     go false i h f e = f e
 
 two_off : (o : Option (List Token)) (l m : Look) → seen (behind o l) ≡ false → seen (behind o (l then m)) ≡ false
@@ -130,7 +130,7 @@ ender InArm ExprTryBlock y h e = refl
 ender InArm ExprUnsafe y h e = refl
 ender InArm ExprConst y h e = refl
 ender InArm ExprBlock y h e = refl
-ender InArm _ y h e = absurd (never e)
+ender InArm _ y h e = absurd (false≢true e)
 ender InStatement ExprIf y h e = refl
 ender InStatement ExprWhile y h e = refl
 ender InStatement ExprForLoop y h e = refl
@@ -141,9 +141,9 @@ ender InStatement ExprUnsafe y h e = refl
 ender InStatement ExprConst y h e = refl
 ender InStatement ExprBlock y h e = refl
 ender InStatement ExprMacro y h e = refl
-ender InStatement _ y h e = absurd (never e)
-ender Plain k y h e = absurd (never e)
-ender InCondition k y h e = absurd (never e)
+ender InStatement _ y h e = absurd (false≢true e)
+ender Plain k y h e = absurd (false≢true e)
+ender InCondition k y h e = absurd (false≢true e)
 
 ended_own : (k : Kind) (y : Tree) → is_ender k ≡ true → Fits y (table k) → OwnReady k y → IsOwn k y → IsFront Ended k y
 ended_own ExprIf y e f w o = started_part Ended ExprIf y refl (λ ts m. (m.1.1.0, tt)) w o.1
@@ -156,7 +156,7 @@ ended_own ExprBlock y e f w o = block_part Ended ExprBlock y refl f w o.1
 ended_own ExprTryBlock y e f w o = front_part Ended ExprTryBlock y refl o
 ended_own ExprUnsafe y e f w o = front_part Ended ExprUnsafe y refl o
 ended_own ExprMacro y e f w o = macro_part Ended y f w o.1
-ended_own _ y e f w o = absurd (never e)
+ended_own _ y e f w o = absurd (false≢true e)
 
 no_right : (p : Position) (k : Kind) (ts : List Token) → is_ender k ≡ true → has_right p k ts ≡ false
 unfolding has_right level
@@ -170,7 +170,7 @@ no_right p ExprBlock ts e = refl
 no_right p ExprTryBlock ts e = refl
 no_right p ExprUnsafe ts e = refl
 no_right p ExprMacro ts e = refl
-no_right p _ ts e = absurd (never e)
+no_right p _ ts e = absurd (false≢true e)
 
 -- where it begins, no attribute does
 no_hash : (p : Position) (k : Kind) (ts : List Token) → is_ender k ≡ true → front p ts ≡ Some k
@@ -230,12 +230,12 @@ IsEnding x = ⊥
 is_ending : (p : Position) (x : Tree) → ends_there p x ≡ true → IsEnding x
 is_ending InArm (Alone k y) e = tt
 is_ending InArm (Front ExprAttributed y x) e = is_ending InArm x e
-is_ending InArm _ e = absurd (never e)
+is_ending InArm _ e = absurd (false≢true e)
 is_ending InStatement (Alone k y) e = tt
 is_ending InStatement (Front ExprAttributed y x) e = is_ending InStatement x e
-is_ending InStatement _ e = absurd (never e)
-is_ending Plain x e = absurd (never e)
-is_ending InCondition x e = absurd (never e)
+is_ending InStatement _ e = absurd (false≢true e)
+is_ending Plain x e = absurd (false≢true e)
+is_ending InCondition x e = absurd (false≢true e)
 
 ended_bound : (x : Tree) → IsEnding x → FitsForms x → HasOperands x → Ready x → (p : Position)
     (ts : List Token) → Settled p ts (kept x) → ends_there p x ≡ true → (s : List Token) → Ended s → Bound p x s
@@ -252,7 +252,7 @@ ended_bound (Front ExprAttributed y (Alone k z)) i f o w p ts t h s e =
       (refl, none_goes p 15 (Alone k z) s g e),
       r.bound,
     )
-ended_bound (Front ExprAttributed y (Front ExprAttributed z x)) i f o w p ts t h s e = absurd (never o.4)
+ended_bound (Front ExprAttributed y (Front ExprAttributed z x)) i f o w p ts t h s e = absurd (false≢true o.4)
 ended_bound (Front ExprAttributed y _) i f o w p ts t h s e = absurd i
 ended_bound _ i f o w p ts t h s e = absurd i
 

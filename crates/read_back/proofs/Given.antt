@@ -2,6 +2,7 @@
 -- parentheses, unless its left operand gets some.
 use Rattle.std.proofs.Common.{◌≡◌, [], List, ◌++◌, refl, sym, ap, ◌∙◌, append_assoc}
 use Rattle.std.specs.Prelude.{Bool, true, false, not, ◌&&◌, ◌||◌, cond, nat_eq}
+use Rattle.std.proofs.lemmas.Bool.{false≢true}
 use Rattle.proc_macro2.specs.Token.{Token}
 use Rattle.syn_grammar.specs.Kind.{Kind, Position, InStatement, ExprAttributed, ExprCast}
 use Rattle.syn_grammar.specs.Kind.{OuterAttributes}
@@ -14,9 +15,8 @@ use Rattle.syn_grammar.specs.Forms.{is_range, level}
 use Rattle.syn_grammar.specs.Kept.{attributed, held, kept}
 use Rattle.syn_grammar.specs.Normal.{formed, normal, passed, stands_behind}
 use Rattle.syn_grammar.specs.Parens.{in_parens}
-use Rattle.expressions_back.proofs.Bools.{never}
 use Rattle.grammar_back.proofs.InFront.{enclosed}
-use Rattle.grammar_back.proofs.Statements.{contrary, GivenLaw}
+use Rattle.grammar_back.proofs.Statements.{GivenLaw}
 use Rattle.range_laws.specs.Opens.{opens_given}
 use Rattle.range_laws.specs.Shelled.{goes_in, is_lone_range, parens_if, shelled}
 use Rattle.range_laws.proofs.Dotted.{dotted_by}
@@ -28,11 +28,11 @@ use Rattle.binding_laws.proofs.Sights.{backs_are}
 use Rattle.read_back.proofs.Wholes.{hash_first, none_more}
 
 or_left : (b c : Bool) → (b || c) ≡ false → b ≡ false
-or_left true c e = absurd (contrary (sym e))
+or_left true c e = absurd (false≢true (sym e))
 or_left false c e = refl
 
 or_right : (b c : Bool) → (b || c) ≡ false → c ≡ false
-or_right true c e = absurd (contrary (sym e))
+or_right true c e = absurd (false≢true (sym e))
 or_right false c e = e
 
 -- What stands left of an infix form or of a cast is no range.
@@ -73,7 +73,7 @@ gives_infix a l k y r n g = go (nat_eq (level k) 3) n
         ≡ cond b (Front ExprAttributed (normal a) (Infix z k (normal y) (shelled r)))
         (Infix (attributed (normal a) z) k (normal y) (shelled r))
     go false n = ap (λ w. Infix w k (normal y) (shelled r)) g
-    go true n = absurd (contrary (sym n))
+    go true n = absurd (false≢true (sym n))
 
 gives : (a x : Tree) (p : Position) (rest : List Token) → Bound p x rest → is_range x ≡ false → opens_given x ≡ false
     → Gives a (kept x)
@@ -103,7 +103,7 @@ lone_range : (x : Tree) (p : Position) (rest : List Token) → Bound p x rest
     → sees (marks "#") (flat x ++ rest) ≡ false → is_range x ≡ true → is_lone_range x ≡ true
 unfolding level
 lone_range (Front ExprAttributed y x) p rest d h e =
-    absurd (never (sym h ∙ ap (sees (marks "#")) (append_assoc (flat y) (flat x) rest) ∙ hash_first p _ d.0))
+    absurd (false≢true (sym h ∙ ap (sees (marks "#")) (append_assoc (flat y) (flat x) rest) ∙ hash_first p _ d.0))
 lone_range _ p rest d h e = e
 
 gives_range : (a x : Tree) → is_range x ≡ true → is_lone_range x ≡ true

@@ -2,6 +2,7 @@
 -- each operand of the expression itself stays as it stands.
 use Rattle.std.proofs.Common.{◌≡◌, List, refl, sym, ap, ◌∙◌, subst}
 use Rattle.std.specs.Prelude.{ℕ, Bool, true, false, not, ◌&&◌, ◌||◌, cond, nat_eq, Option, Some, None}
+use Rattle.std.proofs.lemmas.Bool.{false≢true}
 use Rattle.proc_macro2.specs.Token.{Token}
 use Rattle.syn_grammar.specs.Kind.{Kind, Position, Plain, InCondition, InArm, InStatement, AMacro, Delimited}
 use Rattle.syn_grammar.specs.Kind.{ExprMacro, ExprPath, ExprStruct, ExprCall, ExprField, ExprCast, ExprAttributed}
@@ -24,7 +25,6 @@ use Rattle.syn_grammar.specs.Parens.{may_lack, is_label, is_attributed_range, st
 use Rattle.syn_grammar.specs.Parens.{is_ended, is_struct, stays_left, follow}
 use Rattle.syn_grammar.proofs.Settled.{Settled}
 use Rattle.binding_laws.proofs.Stays.{Stays}
-use Rattle.expressions_back.proofs.Bools.{never}
 use Rattle.grammar_back.proofs.Ends.{block_kept}
 use Rattle.grammar_back.proofs.Fits.{Fits, FitsForms, flat_kept, flat_forms}
 
@@ -111,13 +111,13 @@ macro_kept : (x : Tree) → is_brace_macro x ≡ true → is_brace_macro (kept x
 unfolding held
 macro_kept (Front ExprAttributed y x) e = macro_kept x e
 macro_kept (Alone ExprMacro (Node AMacro (Pair p (Pair s (Node Delimited (Second (First g))))))) e = refl
-macro_kept _ e = absurd (never e)
+macro_kept _ e = absurd (false≢true e)
 
 or_off : (a b c d : Bool) → a ≡ c → (d ≡ true → b ≡ true) → (a || b) ≡ false → (c || d) ≡ false
 or_off true b c d f h e = cc
 or_off false true c d f h e = cc
 or_off false false true d f h e = cc
-or_off false false false true f h e = absurd (never (h refl))
+or_off false false false true f h e = absurd (false≢true (h refl))
 or_off false false false false f h e = refl
 
 ends_kept : (p : Position) (x : Tree) → FitsForms x → ends_there p (kept x) ≡ false → ends_there p x ≡ false

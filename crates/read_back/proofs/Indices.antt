@@ -2,6 +2,7 @@
 use Rattle.std.proofs.Common.{◌≡◌, ℕ, ◌<◌, List, [], ◌∷◌, refl, sym, ap, ◌∙◌, subst, arith}
 use Rattle.std.specs.Prelude.{Bool, true, false, not, ◌&&◌, ◌==◌, nat_lt, if◌then◌else◌, Option, Some, None, codes}
 use Rattle.std.proofs.lemmas.Bool.{ltb-true, lt-ltb}
+use Rattle.std.proofs.lemmas.Bool.{false≢true}
 use Rattle.proc_macro2.specs.Token.{Token, Literal, Punct}
 use Rattle.rust_leaf.specs.declared.punct.Spacing.TheVariants.{Alone as Apart}
 use Rattle.syn_grammar.specs.Kind.{Kind, Plain, ExprAwait, ExprField, ExprMethodCall}
@@ -20,7 +21,6 @@ use Rattle.syn_grammar.specs.Kept.{index_field, index_fields, fields_in_front, l
 use Rattle.syn_grammar.specs.Kept.{kept}
 use Rattle.syn_grammar.proofs.Decimals.{integer_decimal, one_index}
 use Rattle.binding_laws.proofs.Shells.{is_dot, each_dot}
-use Rattle.expressions_back.proofs.Bools.{never}
 use Rattle.grammar_back.specs.Covered.{has_step, has_form_step}
 use Rattle.grammar_back.proofs.Fits.{Fits, FitsForms, HasOperands, IsBackKind, IsMeant, MayLack}
 use Rattle.grammar_back.proofs.Dotted.{field_end}
@@ -129,7 +129,7 @@ field_operands l y g = (
   (refl, Plain, Punct 46 Apart ∷ Literal (codes "0") ∷ [], refl),
   refl,
   g,
-  λ s. absurd (never s),
+  λ s. absurd (false≢true s),
 )
 
 fields_operands : (l : Tree) (texts : List (List ℕ)) → HasOperands l
@@ -146,10 +146,10 @@ front_operands l _ h g = absurd h
 
 last_operands : (k : Kind) (l d z : Tree) → IsLast k z → IsBackKind k → MayLack k → HasOperands l
     → HasOperands (last_fields l k d z)
-last_operands ExprField l d (First z) h b m g = (b, m, g, λ s. absurd (never s))
+last_operands ExprField l d (First z) h b m g = (b, m, g, λ s. absurd (false≢true s))
 last_operands ExprField l d (Second (Called the_value (ALiteral cs))) h b m g = fields_operands l (indices cs) g
-last_operands ExprMethodCall l d z h b m g = (b, m, g, λ s. absurd (never s))
-last_operands ExprAwait l d z h b m g = (b, m, g, λ s. absurd (never s))
+last_operands ExprMethodCall l d z h b m g = (b, m, g, λ s. absurd (false≢true s))
+last_operands ExprAwait l d z h b m g = (b, m, g, λ s. absurd (false≢true s))
 last_operands _ l d z h b m g = absurd h
 
 own_operands : (k : Kind) (l y : Tree) → IsBehind k y → IsBackKind k → MayLack k → HasOperands l

@@ -1,6 +1,7 @@
 -- What the verdict on an item saw of a constant and of an impl: they need not be asked of one that was kept.
 use Rattle.std.proofs.Common.{◌≡◌, List, [], ◌++◌, refl, sym, ap, ◌∙◌, subst}
 use Rattle.std.specs.Prelude.{Bool, true, false, ◌&&◌, ◌||◌, not, cond, Option, Some, None}
+use Rattle.std.proofs.lemmas.Bool.{false≢true}
 use Rattle.proc_macro2.specs.Token.{Token}
 use Rattle.syn_grammar.specs.Kind.{Kind, Place, AConst, AStatement, OneStatement, Statements, AnImpl, AnImplItem}
 use Rattle.syn_grammar.specs.Kind.{AnItem, AnyPath, AFunction, AType}
@@ -15,7 +16,7 @@ use Rattle.syn_grammar.specs.Tree.{Tree, AWord, ALiteral, AMark, ALifetime, Raw,
 use Rattle.syn_grammar.specs.Tree.{Final, More, Group, Dropped, Called, Verbatim, Node, Whole, flat}
 use Rattle.syn_grammar.specs.Part.{choice, found, has, is_some, or_else, or_nil, the}
 use Rattle.syn_grammar.specs.Gram.{Gram, Verdict, Keep, AsRaw, Refuse, seq, alt, star, many, group, judged, dropped}
-use Rattle.syn_grammar.specs.Gram.{called, ref, never as none}
+use Rattle.syn_grammar.specs.Gram.{called, ref, false≢true as none}
 use Rattle.syn_grammar.specs.Look.{lacks, sees, the_end}
 use Rattle.syn_grammar.specs.Lists.{typed}
 use Rattle.syn_grammar.specs.Verdicts.{const_is_raw, form_in, is_generic, is_path_type, is_where, item_verdict}
@@ -23,7 +24,6 @@ use Rattle.syn_grammar.specs.Verdicts.{marked, raw_if, refused_if, strictly}
 use Rattle.syn_grammar.specs.Table.{table}
 use Rattle.syn_grammar.specs.Derives.{Derives}
 use Rattle.syn_grammar.specs.Kept.{is_there}
-use Rattle.expressions_back.proofs.Bools.{never}
 use Rattle.grammar_back.specs.Covered.{has_lone_value, has_own_trait}
 use Rattle.grammar_back.proofs.Statements.{a_turn}
 use Rattle.grammar_back.proofs.Choices.{both_same, both_true, is_false}
@@ -74,10 +74,10 @@ is_plain _ = true
 
 -- of these there is nothing to be asked
 plain_node : (k : Kind) (x : Tree) → is_plain_kind k ≡ true → are_settled (Node k x) ≡ true
-plain_node AConst x h = absurd (never h)
-plain_node AnImpl x h = absurd (never h)
-plain_node AStatement x h = absurd (never h)
-plain_node OneStatement x h = absurd (never h)
+plain_node AConst x h = absurd (false≢true h)
+plain_node AnImpl x h = absurd (false≢true h)
+plain_node AStatement x h = absurd (false≢true h)
+plain_node OneStatement x h = absurd (false≢true h)
 plain_node _ x h = refl
 
 -- nor of what such an entry reads
@@ -172,7 +172,7 @@ second_none false b e = e
 where_none : (w : Tree) (r : List Token) → Derives w (table Where) r → has the_clause w ≡ false → is_there w ≡ false
 unfolding table same_part
 where_none (First (Called m z)) r d h =
-    absurd (never (sym h ∙ ap (λ j. is_some (cond (same_part j the_clause) (Some z) None)) d.1.0))
+    absurd (false≢true (sym h ∙ ap (λ j. is_some (cond (same_part j the_clause) (Some z) None)) d.1.0))
 where_none (First _) r d h = absurd d.1
 where_none (Second w) r d h = refl
 where_none _ r d h = absurd d
@@ -273,7 +273,7 @@ stands_in p k = true
 impl_settled : (p : Place) (v : Bool) (x : Tree) (r : List Token) → Derives x (table AnImpl) r
     → stands_in p AnImpl ≡ true → form_in p v (Node AnImpl x) ≡ Keep → has_own_trait x ≡ true
 impl_settled InFile v x r d h e = impl_alone x r d (second_none _ _ (raw_none _ (refused_none _ _ e)))
-impl_settled InTrait v x r d h e = absurd (never h)
+impl_settled InTrait v x r d h e = absurd (false≢true h)
 impl_settled InImpl v x r d h e = cc e
 impl_settled InForeign v x r d h e = cc e
 
@@ -282,8 +282,8 @@ node_settled : (p : Place) (v : Bool) (k : Kind) (x : Tree) (r : List Token) →
     → stands_in p k ≡ true → form_in p v (Node k x) ≡ Keep → are_settled (Node k x) ≡ true
 node_settled p v AConst x r d h e = const_settled p v x r d e
 node_settled p v AnImpl x r d h e = impl_settled p v x r d h e
-node_settled p v AStatement x r d h e = absurd (never h)
-node_settled p v OneStatement x r d h e = absurd (never h)
+node_settled p v AStatement x r d h e = absurd (false≢true h)
+node_settled p v OneStatement x r d h e = absurd (false≢true h)
 node_settled p v _ x r d h e = refl
 
 -- the alternatives of an item, each of which may stand in that place
@@ -304,7 +304,7 @@ chosen_settled p v _ (alt t a b) r d h e = absurd d
 chosen_settled p v (Node k x) (ref l) r d h e = node_settled p v k x r d.1 (ap (stands_in p) d.0 ∙ h) e
 chosen_settled p v _ (ref l) r d h e = absurd d
 chosen_settled p v _ none r d h e = absurd d
-chosen_settled p v x _ r d h e = absurd (never h)
+chosen_settled p v x _ r d h e = absurd (false≢true h)
 
 -- an entry of an item: the item stands last, and before it neither a constant nor an impl
 abbrev is_item_entry : Place → Gram → Bool
@@ -328,7 +328,7 @@ entry_settled p v (Called n x) (called m g) r d h e =
     (sym (ap (λ b. form_in p v (choice (or_nil (cond b (Some x) None)))) (ap (λ j. same_part j the_item) d.0
     ∙ k.0)) ∙ e)
 entry_settled p v _ (called m g) r d h e = absurd d
-entry_settled p v x _ r d h e = absurd (never h)
+entry_settled p v x _ r d h e = absurd (false≢true h)
 
 -- an item among others
 judged_settled : (p : Place) (g : Gram) (x : Tree) (r : List Token) → Derives x (judged (item_verdict p) g) r
@@ -384,7 +384,7 @@ is_one_statement k = false
 pub settled_inside : (k : Kind) (x : Tree) (r : List Token) → Derives x (table k) r → is_one_statement k ≡ false
     → are_settled x ≡ true
 unfolding table same_part
-settled_inside OneStatement x r d n = absurd (never (sym n))
+settled_inside OneStatement x r d n = absurd (false≢true (sym n))
 settled_inside Statements x r d n = statements_settled x r d
 settled_inside AnItem x r d n = judged_settled InFile _ x r d refl
 settled_inside ATraitItem x r d n = judged_settled InTrait _ x r d refl

@@ -2,6 +2,7 @@
 use Rattle.std.proofs.Common.{◌≡◌, ℕ, List, [], ◌∷◌, ◌++◌, refl, sym, ap, ◌∙◌, subst, append_assoc, inl, inr}
 use Rattle.std.proofs.lemmas.List.{append-nil}
 use Rattle.std.specs.Prelude.{Bool, true, false, not, ◌&&◌, ◌||◌, ◌==◌, ◌⊎◌, cond, Option, Some, None, codes}
+use Rattle.std.proofs.lemmas.Bool.{false≢true}
 use Rattle.proc_macro2.specs.Token.{Token, Opens, Ident, Literal, Punct}
 use Rattle.proc_macro2.specs.declared.delimiter.Delimiter.{Delimiter}
 use Rattle.proc_macro2.specs.declared.delimiter.Delimiter.TheVariants.{Parenthesis, Brace, Bracket}
@@ -29,7 +30,6 @@ use Rattle.syn_grammar.specs.Expressions.{postfix_stands}
 use Rattle.syn_grammar.specs.Table.{table}
 use Rattle.syn_grammar.specs.Derives.{Derives}
 use Rattle.syn_grammar.specs.Parens.{ends_in_name}
-use Rattle.expressions_back.proofs.Bools.{never}
 
 -- what is seen of two texts
 pub if_same : (b : Bool) (o p : Option (List Token)) → seen o ≡ seen p → seen (cond b o None) ≡ seen (cond b p None)
@@ -338,7 +338,7 @@ module _ (spacing : Spacing) (rest : List Token) where
   entry LifetimeParam e = (inl refl, (tt, inl refl))
   entry LifetimeColon e = (one 58, (tt, inl refl), tt)
   entry Body e = tt
-  entry _ e = absurd (never e)
+  entry _ e = absurd (false≢true e)
 
   -- a test at the tokens of a tree
   moved : (t : List Token → Bool) (us ws : List Token) (b : Bool) → IsSteady t → t (us ++ (ws ++ at_most)) ≡ b

@@ -1,6 +1,7 @@
 -- A path pattern of one identifier alone is read only before .. : else the identifier is read as a pattern that names.
 use Rattle.std.proofs.Common.{◌≡◌, ℕ, List, [], ◌∷◌, ◌++◌, refl, sym, ◌∙◌, subst}
 use Rattle.std.specs.Prelude.{Bool, true, false, cond, Option, Some, None}
+use Rattle.std.proofs.lemmas.Bool.{false≢true}
 use Rattle.proc_macro2.specs.Token.{Token, Ident}
 use Rattle.syn_grammar.specs.Kind.{Kind, AnyPath, IdentPattern, InExpression, LiteralPattern, OnePattern, Path}
 use Rattle.syn_grammar.specs.Kind.{PathPattern, RangeToPattern, ReferencePattern, RestPattern, Segments, SlicePattern}
@@ -14,7 +15,7 @@ use Rattle.syn_grammar.specs.Say.{at, brace, marks, parenthesis}
 use Rattle.syn_grammar.specs.Patterns.{binding}
 use Rattle.syn_grammar.specs.Table.{table}
 use Rattle.syn_grammar.specs.Derives.{Derives}
-use Rattle.expressions_back.proofs.Bools.{never, or_parts}
+use Rattle.expressions_back.proofs.Bools.{or_parts}
 use Rattle.grammar_back.specs.Covered.{is_lone, lone_any, lone_names, lone_path, lone_pattern}
 use Rattle.grammar_back.proofs.Choices.{both_true}
 
@@ -31,7 +32,7 @@ unfolding table
 names_read (Second (Pair (AWord cs) (Second (Second (Second Nil))))) r d e =
     record { text = cs; is = refl; passes = e; ends = d.1.1.1.0 }
 names_read (Second (Pair (AWord cs) (Second (Second (Second _))))) r d e = absurd d.1.1.1.1.1
-names_read _ r d e = absurd (never e)
+names_read _ r d e = absurd (false≢true e)
 
 path_read : (x : Tree) (r : List Token) → Derives x (table (Path InExpression)) r → lone_path x ≡ true → Name x r
 unfolding table
@@ -40,7 +41,7 @@ path_read (Pair (Second Nil) (Node k z)) r d e =
     record { text = n.text; is = n.is; passes = n.passes; ends = n.ends }
 path_read (Pair (Second Nil) _) r d e = absurd d.1
 path_read (Pair (Second _) y) r d e = absurd d.0.1
-path_read _ r d e = absurd (never e)
+path_read _ r d e = absurd (false≢true e)
 
 any_read : (x : Tree) (r : List Token) → Derives x (table (AnyPath InExpression)) r → lone_any x ≡ true → Name x r
 unfolding table
@@ -48,16 +49,16 @@ any_read (Second (Node k x)) r d e =
     let n = path_read x r (subst (λ l. Derives x (table l) r) d.1.0 d.1.1) e in
     record { text = n.text; is = n.is; passes = n.passes; ends = n.ends }
 any_read (Second _) r d e = absurd d.1
-any_read _ r d e = absurd (never e)
+any_read _ r d e = absurd (false≢true e)
 
 -- what is behind it
 seen_there : (b : Bool) (r : List Token) → seen (cond b None (Some r)) ≡ false → b ≡ true
 seen_there true r e = refl
-seen_there false r e = absurd (never (sym e))
+seen_there false r e = absurd (false≢true (sym e))
 
 seen_next : (o p : Option (List Token)) → seen o ≡ false → seen (first_seen o p) ≡ true → seen p ≡ true
 seen_next None p e f = f
-seen_next (Some ts) p e f = absurd (never (sym e))
+seen_next (Some ts) p e f = absurd (false≢true (sym e))
 
 abbrev name_ends : Look
 name_ends = marks "::" or parenthesis or brace or marks ".."
@@ -84,7 +85,7 @@ pattern_read (Pair (Node k x) (Second (Second (Second Nil)))) r d e t =
     dots_behind n.text r n.passes (subst (λ us. sees name_stands ((us ++ []) ++ r) ≡ false) n.is t)
     n.ends d.1.0 d.1.1.0
 pattern_read (Pair (Node k x) (Second (Second (Second _)))) r d e t = absurd d.1.1.1.1
-pattern_read (Pair (Node k x) _) r d e t = absurd (never (both_true (lone_any x) false e).1)
+pattern_read (Pair (Node k x) _) r d e t = absurd (false≢true (both_true (lone_any x) false e).1)
 pattern_read (Pair _ y) r d e t = absurd d.0
 pattern_read _ r d e t = absurd d
 
@@ -95,12 +96,12 @@ is_path_pattern k = false
 
 lone_kind : (k : Kind) (y : Tree) → is_lone (Node k y) ≡ true → is_path_pattern k ≡ true
 lone_kind PathPattern y e = refl
-lone_kind _ y e = absurd (never e)
+lone_kind _ y e = absurd (false≢true e)
 
 not_lone : (l : Kind) (x : Tree) (r : List Token) → is_path_pattern l ≡ false → Derives x (ref l) r
     → is_lone (choice x) ≡ true → ⊥
 not_lone l (Node k y) r h d e =
-    never (sym h ∙ subst (λ j. is_path_pattern j ≡ true) d.0 (lone_kind k y e))
+    false≢true (sym h ∙ subst (λ j. is_path_pattern j ≡ true) d.0 (lone_kind k y e))
 not_lone l _ r h d e = d
 
 lone_read : (x : Tree) (r : List Token) → Derives x (ref PathPattern) r → is_lone (choice x) ≡ true

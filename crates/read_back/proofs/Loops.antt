@@ -3,6 +3,7 @@
 use Rattle.std.proofs.Common.{◌≡◌, ℕ, List, [], ◌∷◌, ◌++◌, refl, sym, ap, ◌∙◌, subst, append_assoc}
 use Rattle.std.proofs.Common.{⊎_elim, arith, inl, inr}
 use Rattle.std.specs.Prelude.{Bool, true, false, not, ◌&&◌, ◌||◌, ◌⊎◌, ◌==◌, ◌<◌, cond, length, Some, None}
+use Rattle.std.proofs.lemmas.Bool.{false≢true}
 use Rattle.proc_macro2.specs.Token.{Token, Opens, Closes, Ident, Literal, Punct}
 use Rattle.proc_macro2.specs.declared.delimiter.Delimiter.{Delimiter}
 use Rattle.rust_leaf.specs.declared.punct.Spacing.{Spacing}
@@ -26,7 +27,6 @@ use Rattle.syn_grammar.specs.Derives.{Derives}
 use Rattle.syn_grammar.proofs.Firm.{firm}
 use Rattle.syn_grammar.proofs.Founded.{all_founded}
 use Rattle.syn_grammar.proofs.Whole.{and_true, takes}
-use Rattle.grammar_back.proofs.Statements.{contrary}
 
 -- a tree that takes a token has some
 none_taken : (us : List Token) → us ≡ [] → 0 < length us → ⊥
@@ -80,8 +80,8 @@ module _ (P : List Token → Type 0) (may_lead : ℕ → Bool) (is_led : Kind �
     led (AWord cs) (word p) r d e = inr (λ ts. of_word cs ts)
     led (ALiteral cs) (literal p) r d e = inr (λ ts. of_literal cs ts)
     led (AMark c cs i) (mark b bs) r d e = inr (λ ts. of_marks c cs i ts (ap may_lead d.0 ∙ e))
-    led (ALifetime cs) lifetime r d e = absurd (contrary e)
-    led (Raw us) raw r d e = absurd (contrary e)
+    led (ALifetime cs) lifetime r d e = absurd (false≢true e)
+    led (Raw us) raw r d e = absurd (false≢true e)
     led Nil nothing r d e = inl refl
     led (Pair x y) (seq a b) r d e =
         let h = and_true (leads a) (not (nullable a) || leads b) e in
@@ -92,17 +92,17 @@ module _ (P : List Token → Type 0) (may_lead : ℕ → Bool) (is_led : Kind �
     led End (star t g) r d e = inl refl
     led (Again x y) (star t g) r d e =
         both_lead (flat x) (flat y) (led x g (flat y ++ r) d.1 e) (λ f. led y (star t g) r d.2 e)
-    led End (many t c g) r d e = absurd (contrary e)
-    led (Final x) (many t c g) r d e = absurd (contrary e)
-    led (More x c i y) (many t m g) r d e = absurd (contrary e)
+    led End (many t c g) r d e = absurd (false≢true e)
+    led (Final x) (many t c g) r d e = absurd (false≢true e)
+    led (More x c i y) (many t m g) r d e = absurd (false≢true e)
     led (Group d x) (group f g) r h e = inr (λ ts. of_group d ((flat x ++ Closes d ∷ []) ++ ts))
     led (First x) (judged v g) r d e = led x g r d.1 e
     led (Verbatim x) (judged v g) r d e = led x g r d.1 e
-    led (Dropped x) (dropped g) r d e = absurd (contrary e)
+    led (Dropped x) (dropped g) r d e = absurd (false≢true e)
     led (Called n x) (called m g) r d e = led x g r d.1 e
     led (Node k x) (ref l) r d e =
         ⊎_elim (λ h. led x (table k) r d.1 h) (λ h. h) (entry k (ap is_led d.0 ∙ e) x r d.1)
-    led (Whole x) (operand p n) r d e = absurd (contrary e)
+    led (Whole x) (operand p n) r d e = absurd (false≢true e)
     led _ _ r d e = absurd d
 
     -- where a token is taken
@@ -170,7 +170,7 @@ type_entry (AnyPath AtType) e = refl
 type_entry (QualifiedPath AtType) e = refl
 type_entry (Path AtType) e = refl
 type_entry (Segments AtType) e = refl
-type_entry _ e = absurd (contrary e)
+type_entry _ e = absurd (false≢true e)
 
 type_leads : (x : Tree) (r : List Token) → Derives x (ref (AType WithPlus)) r → (ts : List Token)
     → NoTick (flat x ++ ts)
@@ -239,7 +239,7 @@ pattern_entry (AnyPath InExpression) e x r d = inl refl
 pattern_entry (QualifiedPath InExpression) e x r d = inr (inr (λ ts. bracket_leads x r d ts))
 pattern_entry (Path InExpression) e x r d = inl refl
 pattern_entry (Segments InExpression) e x r d = inl refl
-pattern_entry _ e x r d = absurd (contrary e)
+pattern_entry _ e x r d = absurd (false≢true e)
 
 pub pattern_leads : (x : Tree) (r : List Token) → Derives x (ref Pattern) r → (ts : List Token)
     → NoClosure (flat x ++ ts)

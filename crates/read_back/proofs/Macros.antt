@@ -3,6 +3,7 @@ use Rattle.std.proofs.Common.{◌≡◌, ℕ, zero, suc, List, [], ◌∷◌, �
 use Rattle.std.proofs.Common.{inl, inr}
 use Rattle.std.specs.Prelude.{Bool, true, false, ◌⊎◌, cond, codes, Some, None}
 use Rattle.std.proofs.lemmas.Slice.Eq.{bytes_eq-Decides}
+use Rattle.std.proofs.lemmas.Bool.{false≢true}
 use Rattle.proc_macro2.specs.Token.{Token, Ident, Punct}
 use Rattle.rust_leaf.specs.declared.punct.Spacing.{Spacing}
 use Rattle.rust_leaf.specs.declared.punct.Spacing.TheVariants.{Alone as Apart, Joint}
@@ -18,7 +19,6 @@ use Rattle.syn_grammar.specs.Normal.{normal}
 use Rattle.syn_grammar.specs.Forms.{front, let_stands, macro_call_stands}
 use Rattle.expressions_back.specs.Behind.{no_operand}
 use Rattle.expressions_back.specs.Formed.{IsFront}
-use Rattle.expressions_back.proofs.Bools.{never}
 use Rattle.expressions_back.proofs.Names.{raw_off}
 use Rattle.grammar_back.proofs.Fits.{Fits}
 use Rattle.grammar_back.proofs.Readies.{OwnReady}
@@ -104,7 +104,7 @@ segments_called (First (Pair (AWord cs) (Second _))) vs f = absurd f.1.1.1
 segments_called (First (Pair (AWord cs) _)) vs f = absurd f.1.1
 segments_called (First (Pair _ y)) vs f = absurd f.1.0
 segments_called (First _) vs f = absurd f.1
-segments_called (Second (Pair (AWord cs) (First x))) vs f = absurd (never f.1.1.0.1)
+segments_called (Second (Pair (AWord cs) (First x))) vs f = absurd (false≢true f.1.1.0.1)
 segments_called (Second (Pair (AWord cs) (Second (First (Pair (AMark c ms i) (Node k z)))))) vs f =
     called vs cs _ (inl f.1.0)
     (behind_colons vs c ms i z _ f.1.1.1.1.0.0 f.1.1.1.1.0.1
@@ -115,7 +115,7 @@ segments_called (Second (Pair (AWord cs) (Second (First _)))) vs f = absurd f.1.
 segments_called (Second (Pair (AWord cs) (Second (Second (Second Nil))))) vs f =
     called vs cs _ (inl f.1.0) (chain_end vs)
 segments_called (Second (Pair (AWord cs) (Second (Second (Second _))))) vs f = absurd f.1.1.1.1.1
-segments_called (Second (Pair (AWord cs) (Second (Second (First y))))) vs f = absurd (never f.1.1.1.1.0.1)
+segments_called (Second (Pair (AWord cs) (Second (Second (First y))))) vs f = absurd (false≢true f.1.1.1.1.0.1)
 segments_called (Second (Pair (AWord cs) (Second (Second _)))) vs f = absurd f.1.1.1.1
 segments_called (Second (Pair (AWord cs) (Second _))) vs f = absurd f.1.1.1
 segments_called (Second (Pair (AWord cs) _)) vs f = absurd f.1.1
@@ -188,7 +188,7 @@ unlike w cs e h = go (same_text w cs) refl
   where
     go : (b : Bool) → same_text w cs ≡ b → same_text w cs ≡ false
     go false f = f
-    go true f = absurd (never (sym e ∙ ap is_plain_name ((bytes_eq-Decides w cs).0 f) ∙ h))
+    go true f = absurd (false≢true (sym e ∙ ap is_plain_name ((bytes_eq-Decides w cs).0 f) ∙ h))
 
 module _ (cs : List ℕ) (h : is_plain_name cs ≡ true) (us : List Token) (b : Bool) where
   no_bool : is_bool cs ≡ false

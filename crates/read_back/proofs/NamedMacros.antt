@@ -18,6 +18,7 @@ use Rattle.syn_grammar.specs.Derives.{Derives}
 use Rattle.syn_grammar.specs.Kept.{is_there}
 use Rattle.std.specs.Prelude.{[]}
 use Rattle.std.proofs.Common.{refl}
+use Rattle.std.proofs.lemmas.Bool.{false≢true}
 use Rattle.grammar_back.specs.Covered.{is_macro_item, is_named_macro}
 use Rattle.grammar_back.proofs.Choices.{both_true, first_of, second_seen}
 use Rattle.grammar_back.proofs.Classes.{IsAmong}
@@ -28,7 +29,6 @@ use Rattle.grammar_back.proofs.Passed.{behind_attributes}
 use Rattle.grammar_back.proofs.Readies.{Ready}
 use Rattle.grammar_back.proofs.Starts.{starts}
 use Rattle.syn_grammar.specs.Kind.{AStatement}
-use Rattle.grammar_back.proofs.Statements.{contrary}
 use Rattle.read_back.proofs.Macros.{banged, macro_behind, path_macro}
 
 -- behind the path and its !
@@ -46,7 +46,7 @@ name_seen InFile (First (Called m (Second _))) ts f e = absurd f.1.1.1
 name_seen InFile (First (Called m _)) ts f e = absurd f.1.1
 name_seen InFile (First _) ts f e = absurd f.1
 name_seen _ (First x) ts f e = absurd f
-name_seen _ _ ts f e = absurd (contrary e)
+name_seen _ _ ts f e = absurd (false≢true e)
 
 named_seen : (p : Place) (z : Tree) (s : List Token) → Fits z (table (ItemMacro p))
     → is_named_macro (Node (ItemMacro p) z) ≡ true → sees macro_item_stands (flat z ++ s) ≡ true
@@ -77,12 +77,12 @@ chosen_seen (Second x) (alt t a b) s f n = chosen_seen x b s f.1 n
 chosen_seen (Second x) _ s f n = absurd f
 chosen_seen (Node (ItemMacro p) z) (ref j) s f n = named_seen p z s f.3 n
 chosen_seen (Node (ItemMacro p) z) _ s f n = absurd f
-chosen_seen (Node _ z) g s f n = absurd (contrary n)
-chosen_seen _ g s f n = absurd (contrary n)
+chosen_seen (Node _ z) g s f n = absurd (false≢true n)
+chosen_seen _ g s f n = absurd (false≢true n)
 
 no_tokens : (v : Tree) → Fits v (table Visibility) → not (is_there v) ≡ true → flat v ≡ []
 unfolding table
-no_tokens (First v) f e = absurd (contrary e)
+no_tokens (First v) f e = absurd (false≢true e)
 no_tokens (Second Nil) f e = refl
 no_tokens (Second _) f e = absurd f.1
 no_tokens _ f e = absurd f
@@ -100,7 +100,7 @@ item_seen (First (Pair o (Pair (Called l _) z))) s f d n = absurd f.1.1.0.1
 item_seen (First (Pair o (Pair _ z))) s f d n = absurd f.1.1.0
 item_seen (First (Pair o _)) s f d n = absurd f.1.1
 item_seen (First _) s f d n = absurd f.1
-item_seen _ s f d n = absurd (contrary n)
+item_seen _ s f d n = absurd (false≢true n)
 
 pub macro_item_read : (x : Tree) (s : List Token) → Fits x (ref AnItem) → Ready x → is_macro_item x ≡ true
     → Derives (First x) statement s × IsAmong (starts AStatement) (flat x ++ s)

@@ -1,6 +1,7 @@
 -- Each kind has a step, or it stands nowhere but by itself: then it ends by itself, or it is a statement.
 use Rattle.std.proofs.Common.{◌≡◌, List, ◌++◌, refl, sym, subst}
 use Rattle.std.specs.Prelude.{Bool, true, false}
+use Rattle.std.proofs.lemmas.Bool.{false≢true}
 use Rattle.proc_macro2.specs.Token.{Token}
 use Rattle.syn_grammar.specs.Kind.{AFunction, AType, ATypeAlias, AnyPath, AtType, DeriveInput, DynType}
 use Rattle.syn_grammar.specs.Kind.{ForeignItemStatic, ImplType, InExpression, InFile, InForeign, InImpl, InModule}
@@ -15,7 +16,6 @@ use Rattle.syn_grammar.specs.Derives.{Derives}
 use Rattle.syn_grammar.specs.Kept.{kept}
 use Rattle.syn_grammar.specs.Normal.{normal}
 use Rattle.syn_grammar.specs.Read.{IsRead}
-use Rattle.expressions_back.proofs.Bools.{never}
 use Rattle.grammar_back.specs.After.{After}
 use Rattle.grammar_back.specs.Covered.{has_form_step, has_step, is_known}
 use Rattle.grammar_back.proofs.Fine.{Any}
@@ -84,7 +84,7 @@ all_ones (OneMacro InFile) e = traits.one_macro_in_a_file
 all_ones (OneMacro InForeign) e = traits.one_macro_in_an_extern_block
 all_ones (OneMacro InTrait) e = traits.one_macro_in_a_trait
 all_ones (OneMacro InImpl) e = traits.one_macro_in_an_impl
-all_ones _ e = absurd (never e)
+all_ones _ e = absurd (false≢true e)
 
 -- the others have one
 pub all_others : (k : Kind) → is_one_kind k ≡ false → is_one_statement k ≡ false → is_known k ≡ true
@@ -133,27 +133,27 @@ all_others (ItemMacro InFile) e f = refl
 all_others (ItemMacro InForeign) e f = refl
 all_others (ItemMacro InTrait) e f = refl
 all_others (ItemMacro InImpl) e f = refl
-all_others ItemStruct e f = absurd (never (sym e))
-all_others ItemEnum e f = absurd (never (sym e))
-all_others ItemUnion e f = absurd (never (sym e))
-all_others ItemFn e f = absurd (never (sym e))
-all_others ItemExternCrate e f = absurd (never (sym e))
-all_others ItemForeignMod e f = absurd (never (sym e))
-all_others ItemUse e f = absurd (never (sym e))
-all_others ItemStatic e f = absurd (never (sym e))
-all_others ItemConst e f = absurd (never (sym e))
-all_others ItemMod e f = absurd (never (sym e))
-all_others ItemType e f = absurd (never (sym e))
-all_others ItemTrait e f = absurd (never (sym e))
-all_others ItemTraitAlias e f = absurd (never (sym e))
-all_others ItemImpl e f = absurd (never (sym e))
-all_others DeriveInput e f = absurd (never (sym e))
-all_others (OneMacro p) e f = absurd (never (sym e))
-all_others (OneFunction p) e f = absurd (never (sym e))
-all_others (OneTypeAlias p) e f = absurd (never (sym e))
-all_others (OneConst p) e f = absurd (never (sym e))
-all_others ForeignItemStatic e f = absurd (never (sym e))
-all_others OneStatement e f = absurd (never (sym f))
+all_others ItemStruct e f = absurd (false≢true (sym e))
+all_others ItemEnum e f = absurd (false≢true (sym e))
+all_others ItemUnion e f = absurd (false≢true (sym e))
+all_others ItemFn e f = absurd (false≢true (sym e))
+all_others ItemExternCrate e f = absurd (false≢true (sym e))
+all_others ItemForeignMod e f = absurd (false≢true (sym e))
+all_others ItemUse e f = absurd (false≢true (sym e))
+all_others ItemStatic e f = absurd (false≢true (sym e))
+all_others ItemConst e f = absurd (false≢true (sym e))
+all_others ItemMod e f = absurd (false≢true (sym e))
+all_others ItemType e f = absurd (false≢true (sym e))
+all_others ItemTrait e f = absurd (false≢true (sym e))
+all_others ItemTraitAlias e f = absurd (false≢true (sym e))
+all_others ItemImpl e f = absurd (false≢true (sym e))
+all_others DeriveInput e f = absurd (false≢true (sym e))
+all_others (OneMacro p) e f = absurd (false≢true (sym e))
+all_others (OneFunction p) e f = absurd (false≢true (sym e))
+all_others (OneTypeAlias p) e f = absurd (false≢true (sym e))
+all_others (OneConst p) e f = absurd (false≢true (sym e))
+all_others ForeignItemStatic e f = absurd (false≢true (sym e))
+all_others OneStatement e f = absurd (false≢true (sym f))
 all_others _ e f = refl
 
 pub one_back : (k : Kind) (x : Tree) (r s : List Token) → is_one_kind k ≡ true → Derives x (ref k) r
@@ -174,4 +174,4 @@ statement_back OneStatement (Node l x) r s h d c a =
     (read_statement x r s e.1 (inside_told OneStatement x r e i)
     (subst (λ j. After OneStatement (normal (kept (Node j x))) s) d.0 a))
 statement_back OneStatement _ r s h d c a = absurd d
-statement_back _ x r s h d c a = absurd (never h)
+statement_back _ x r s h d c a = absurd (false≢true h)

@@ -2,6 +2,7 @@
 -- (The crate `expressions_back` has it of own parts in normal form, and of operands that are put in parentheses.)
 use Rattle.std.proofs.Common.{◌≡◌, List, [], ◌∷◌, ◌++◌, refl, sym, ap, ◌∙◌, subst, append_assoc, inl}
 use Rattle.std.specs.Prelude.{Bool, true, false, not, ◌&&◌, ◌||◌, None, Some}
+use Rattle.std.proofs.lemmas.Bool.{false≢true}
 use Rattle.proc_macro2.specs.Token.{Token, Opens}
 use Rattle.proc_macro2.specs.declared.delimiter.Delimiter.TheVariants.{Parenthesis}
 use Rattle.syn_grammar.specs.Kind.{Kind, Position, Plain, InCondition, ExprPath}
@@ -23,7 +24,6 @@ use Rattle.binding_laws.proofs.Levels.{or_false}
 use Rattle.binding_laws.proofs.Parted.{bound}
 use Rattle.binding_laws.proofs.Sights.{struct_seen}
 use Rattle.binding_laws.proofs.Stays.{Stays, begun_right}
-use Rattle.expressions_back.proofs.Bools.{never}
 use Rattle.expressions_back.specs.Behind.{no_operand, is_attributed, BeforeOperand, AtEnd, BehindOperand, MayFollow}
 use Rattle.expressions_back.specs.Formed.{IsFront, IsBehind, may_lack_operand, may_have_operand, is_attributed_form}
 use Rattle.expressions_back.proofs.Begins.{Starts, own_starts, starts_more, begun_behind, paren_operand}
@@ -77,12 +77,12 @@ path_alone : (p : Position) (ts rest : List Token) (k : Kind) (y : Tree) → Bes
     → takes_what_follows p k ts ≡ false → is_path_form (Alone k y) ≡ true → sees (struct_stands p) rest ≡ false
 unfolding may_lack
 path_alone p ts rest ExprPath y b e i = no_struct p p ts rest b e
-path_alone p ts rest _ y b e i = absurd (never i)
+path_alone p ts rest _ y b e i = absurd (false≢true i)
 
 path_ends : (x : Tree) (p : Position) (ts rest : List Token) → Stays p ts x → Beside p p ts rest
     → is_path_form x ≡ true → sees (struct_stands p) rest ≡ false
 path_ends (Alone k y) p ts rest s b i = path_alone p ts rest k y b s i
-path_ends _ p ts rest s b i = absurd (never i)
+path_ends _ p ts rest s b i = absurd (false≢true i)
 
 none : (x : Tree) (p : Position) (ts rest : List Token) → Stays p ts x → Beside p p ts rest → back InCondition rest
     ≡ None → NoneGoesOn p x rest
@@ -172,8 +172,8 @@ struct_at (Alone ExprPath w) f p k y rest s i g =
     let b = brace_end (flat y ++ rest)
     (struct_seen p (flat y ++ rest) (subst (λ j. back p (flat y ++ rest) ≡ Some j) (struct_is k s) g)) in
     alone_at p ExprPath w (flat y ++ rest) f.0 f.1 b (path_lone p (flat y ++ rest))
-struct_at (Alone _ w) f p k y rest s i g = absurd (never i)
-struct_at _ f p k y rest s i g = absurd (never i)
+struct_at (Alone _ w) f p k y rest s i g = absurd (false≢true i)
+struct_at _ f p k y rest s i g = absurd (false≢true i)
 
 back_standing : (l : Tree) (k : Kind) (y : Tree) → Owned (Back l k y) → (p : Position) (ts : List Token)
     → Stays p ts (Back l k y) → Standing p (follow (flat y)) l → Standing p ts (Back l k y)

@@ -2,6 +2,7 @@
 use Rattle.std.proofs.Common.{◌≡◌, ℕ, List, [], ◌∷◌, ◌++◌, refl, sym, ap, ◌∙◌, subst, append_assoc, ⊎_elim, inl, inr}
 use Rattle.std.specs.Prelude.{zero, suc, Bool, true, false, not, ◌&&◌, ◌||◌, Some}
 use Rattle.std.proofs.lemmas.List.{append-nil}
+use Rattle.std.proofs.lemmas.Bool.{false≢true}
 use Rattle.proc_macro2.specs.Token.{Token, Opens}
 use Rattle.proc_macro2.specs.declared.delimiter.Delimiter.TheVariants.{Parenthesis, Brace}
 use Rattle.rust_leaf.specs.declared.punct.Spacing.TheVariants.{Alone as Apart}
@@ -32,7 +33,6 @@ use Rattle.syn_grammar.proofs.Settled.{Settled}
 use Rattle.binding_laws.proofs.Begun.{is_front, first_passes}
 use Rattle.binding_laws.proofs.Shells.{is_dot}
 use Rattle.binding_laws.proofs.Sights.{is_back, backs_are}
-use Rattle.expressions_back.proofs.Bools.{never}
 use Rattle.expressions_back.specs.Behind.{AtEnd, BeforeOperand, BehindOperand}
 use Rattle.expressions_back.specs.Firm.{is_firm_front, is_firm_behind, IsOwn}
 use Rattle.expressions_back.specs.Formed.{IsFront, IsBehind, ends_by_itself}
@@ -89,27 +89,27 @@ front_kind ExprYield e f h = refl
 front_kind ExprClosure e f h = refl
 front_kind ExprRange e f h = refl
 front_kind ExprRangeClosed e f h = refl
-front_kind ExprArray e f h = absurd (never h)
-front_kind ExprAsync e f h = absurd (never h)
-front_kind ExprBlock e f h = absurd (never h)
-front_kind ExprConst e f h = absurd (never h)
-front_kind ExprContinue e f h = absurd (never h)
-front_kind ExprForLoop e f h = absurd (never h)
-front_kind ExprGroup e f h = absurd (never h)
-front_kind ExprIf e f h = absurd (never h)
-front_kind ExprInfer e f h = absurd (never h)
-front_kind ExprLit e f h = absurd (never h)
-front_kind ExprLoop e f h = absurd (never h)
-front_kind ExprMacro e f h = absurd (never h)
-front_kind ExprMatch e f h = absurd (never h)
-front_kind ExprParen e f h = absurd (never h)
-front_kind ExprPath e f h = absurd (never h)
-front_kind ExprRepeat e f h = absurd (never h)
-front_kind ExprTryBlock e f h = absurd (never h)
-front_kind ExprTypedClosure e f h = absurd (never h)
-front_kind ExprUnsafe e f h = absurd (never h)
-front_kind ExprWhile e f h = absurd (never h)
-front_kind _ e f h = absurd (never f)
+front_kind ExprArray e f h = absurd (false≢true h)
+front_kind ExprAsync e f h = absurd (false≢true h)
+front_kind ExprBlock e f h = absurd (false≢true h)
+front_kind ExprConst e f h = absurd (false≢true h)
+front_kind ExprContinue e f h = absurd (false≢true h)
+front_kind ExprForLoop e f h = absurd (false≢true h)
+front_kind ExprGroup e f h = absurd (false≢true h)
+front_kind ExprIf e f h = absurd (false≢true h)
+front_kind ExprInfer e f h = absurd (false≢true h)
+front_kind ExprLit e f h = absurd (false≢true h)
+front_kind ExprLoop e f h = absurd (false≢true h)
+front_kind ExprMacro e f h = absurd (false≢true h)
+front_kind ExprMatch e f h = absurd (false≢true h)
+front_kind ExprParen e f h = absurd (false≢true h)
+front_kind ExprPath e f h = absurd (false≢true h)
+front_kind ExprRepeat e f h = absurd (false≢true h)
+front_kind ExprTryBlock e f h = absurd (false≢true h)
+front_kind ExprTypedClosure e f h = absurd (false≢true h)
+front_kind ExprUnsafe e f h = absurd (false≢true h)
+front_kind ExprWhile e f h = absurd (false≢true h)
+front_kind _ e f h = absurd (false≢true f)
 
 abbrev pub is_path : Kind → Bool
 is_path ExprPath = true
@@ -151,14 +151,14 @@ alone_kind ExprTypedClosure e f h = refl
 alone_kind ExprUnsafe e f h = refl
 alone_kind ExprWhile e f h = refl
 alone_kind ExprYield e f h = refl
-alone_kind ExprAttributed e f h = absurd (never h)
-alone_kind ExprUnary e f h = absurd (never h)
-alone_kind ExprRawAddr e f h = absurd (never h)
-alone_kind ExprReference e f h = absurd (never h)
-alone_kind ExprLet e f h = absurd (never h)
-alone_kind ExprClosure e f h = absurd (never h)
-alone_kind ExprRangeClosed e f h = absurd (never h)
-alone_kind _ e f h = absurd (never f)
+alone_kind ExprAttributed e f h = absurd (false≢true h)
+alone_kind ExprUnary e f h = absurd (false≢true h)
+alone_kind ExprRawAddr e f h = absurd (false≢true h)
+alone_kind ExprReference e f h = absurd (false≢true h)
+alone_kind ExprLet e f h = absurd (false≢true h)
+alone_kind ExprClosure e f h = absurd (false≢true h)
+alone_kind ExprRangeClosed e f h = absurd (false≢true h)
+alone_kind _ e f h = absurd (false≢true f)
 
 abbrev pub is_cast : Kind → Bool
 is_cast ExprCast = true
@@ -187,7 +187,7 @@ back_kind ExprTry e f = refl
 back_kind ExprAwait e f = refl
 back_kind ExprMethodCall e f = refl
 back_kind ExprField e f = refl
-back_kind _ e f = absurd (never f)
+back_kind _ e f = absurd (false≢true f)
 
 infix_kind : (k : Kind) → is_form k ≡ true → is_back k ≡ true → may_have_operand k ≡ true → is_firm_behind k ≡ true
 unfolding has_form_step may_lack level
@@ -203,15 +203,15 @@ infix_kind ExprSum e f h = refl
 infix_kind ExprProduct e f h = refl
 infix_kind ExprRangeClosed e f h = refl
 infix_kind ExprRange e f h = refl
-infix_kind ExprCast e f h = absurd (never h)
-infix_kind ExprStruct e f h = absurd (never h)
-infix_kind ExprCall e f h = absurd (never h)
-infix_kind ExprIndex e f h = absurd (never h)
-infix_kind ExprTry e f h = absurd (never h)
-infix_kind ExprAwait e f h = absurd (never h)
-infix_kind ExprMethodCall e f h = absurd (never h)
-infix_kind ExprField e f h = absurd (never h)
-infix_kind _ e f h = absurd (never f)
+infix_kind ExprCast e f h = absurd (false≢true h)
+infix_kind ExprStruct e f h = absurd (false≢true h)
+infix_kind ExprCall e f h = absurd (false≢true h)
+infix_kind ExprIndex e f h = absurd (false≢true h)
+infix_kind ExprTry e f h = absurd (false≢true h)
+infix_kind ExprAwait e f h = absurd (false≢true h)
+infix_kind ExprMethodCall e f h = absurd (false≢true h)
+infix_kind ExprField e f h = absurd (false≢true h)
+infix_kind _ e f h = absurd (false≢true f)
 
 -- whether they have an operand behind them
 not_false : (b : Bool) → not b ≡ false → b ≡ true
@@ -295,7 +295,7 @@ before_calm ExprCast y s e c h =
     (c.1.1.1.1.1.1.0, (c.0, (c.1.1.1.1.1.1.1.0, (c.1.1.1.1.1.1.1.1.0, (c.1.1.1.1.1.1.1.1.1.0, tt)))))
 before_calm ExprClosure y s e c h = tt
 before_calm ExprTypedClosure y s e c h = tt
-before_calm _ y s e c h = absurd (never e)
+before_calm _ y s e c h = absurd (false≢true e)
 
 before_nothing : (k : Kind) (y : Tree) → is_form k ≡ true → After k y []
 before_nothing k y e =
@@ -558,7 +558,7 @@ form_begins ExprClosure y s e f b =
 form_begins ExprTypedClosure y s e f b =
     among (11 ∷ 14 ∷ 12 ∷ 15 ∷ 13 ∷ 26 ∷ []) (starts ExprTypedClosure) (starts (Expression Plain)) (flat y ++ s)
     (refl, (refl, (refl, (refl, (refl, (refl, tt)))))) b
-form_begins _ y s e f b = absurd (never f)
+form_begins _ y s e f b = absurd (false≢true f)
 
 own_begins : (k : Kind) (y : Tree) → IsFrontKind k → OwnReady k y → (us : List Token)
     → IsAmong (starts (Expression Plain)) (flat y ++ us)

@@ -4,6 +4,7 @@ use Rattle.std.proofs.Common.{inl, inr}
 use Rattle.std.specs.Prelude.{Bool, true, false, ◌==◌, ◌⊎◌, ◌||◌, cond, codes, Option, Some, None}
 use Rattle.std.proofs.lemmas.Bool.{eqb-true}
 use Rattle.std.proofs.lemmas.Slice.Eq.{bytes_eq-Decides}
+use Rattle.std.proofs.lemmas.Bool.{false≢true}
 use Rattle.proc_macro2.specs.Token.{Token, Ident, Punct}
 use Rattle.rust_leaf.specs.declared.punct.Spacing.{Spacing}
 use Rattle.rust_leaf.specs.declared.punct.Spacing.TheVariants.{Alone as Apart, Joint}
@@ -23,7 +24,6 @@ use Rattle.syn_grammar.specs.Normal.{normal}
 use Rattle.syn_grammar.specs.Forms.{front, macro_call_stands}
 use Rattle.expressions_back.specs.Behind.{no_operand}
 use Rattle.expressions_back.specs.Formed.{IsFront}
-use Rattle.expressions_back.proofs.Bools.{never}
 use Rattle.expressions_back.proofs.Names.{End, colons, no_more, path_front, raw_off}
 use Rattle.grammar_back.proofs.Readies.{OwnReady}
 
@@ -178,7 +178,7 @@ segments_named (Second (Pair (AWord cs) (Second (First _)))) ts d e = absurd d.1
 segments_named (Second (Pair (AWord cs) (Second (Second (Second Nil))))) ts d e =
     named cs ts (inl d.1.0) (end_tail ts e)
 segments_named (Second (Pair (AWord cs) (Second (Second (Second _))))) ts d e = absurd d.1.1.1.1.1
-segments_named (Second (Pair (AWord cs) (Second (Second (First y))))) ts d e = absurd (never d.1.1.1.1.0)
+segments_named (Second (Pair (AWord cs) (Second (Second (First y))))) ts d e = absurd (false≢true d.1.1.1.1.0)
 segments_named (Second (Pair (AWord cs) (Second (Second _)))) ts d e = absurd d.1.1.1.1
 segments_named (Second (Pair (AWord cs) (Second _))) ts d e = absurd d.1.1.1
 segments_named (Second (Pair (AWord cs) _)) ts d e = absurd d.1.1

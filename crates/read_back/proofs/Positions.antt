@@ -1,6 +1,7 @@
 -- An expression that is covered is read back in each position.
 use Rattle.std.proofs.Common.{◌≡◌, List, ◌++◌, refl, sym, ap, ◌∙◌}
 use Rattle.std.specs.Prelude.{true}
+use Rattle.std.proofs.lemmas.Bool.{false≢true}
 use Rattle.proc_macro2.specs.Token.{Token}
 use Rattle.syn_grammar.specs.Kind.{Position, Plain, InArm, InCondition, InStatement, Expression}
 use Rattle.syn_grammar.specs.Tree.{Tree, Node, Whole, flat}
@@ -17,7 +18,6 @@ use Rattle.syn_grammar.proofs.Theorems.{one}
 use Rattle.expressions_back.specs.Behind.{MayFollow}
 use Rattle.grammar_back.specs.After.{EndsThere, whole}
 use Rattle.grammar_back.specs.Covered.{has_form_step, has_step, all_covered}
-use Rattle.expressions_back.proofs.Bools.{never}
 use Rattle.grammar_back.proofs.Ends.{ends_back}
 use Rattle.read_back.proofs.Ended.{read_ended}
 use Rattle.read_back.proofs.Settled.{settles}
@@ -31,9 +31,9 @@ use Rattle.read_back.proofs.Forms.{expressions, read_formed}
 -- what is printed for it
 is_condition_in : (p : Position) → is_condition p ≡ true → p ≡ InCondition
 is_condition_in InCondition e = refl
-is_condition_in Plain e = absurd (never e)
-is_condition_in InArm e = absurd (never e)
-is_condition_in InStatement e = absurd (never e)
+is_condition_in Plain e = absurd (false≢true e)
+is_condition_in InArm e = absurd (false≢true e)
+is_condition_in InStatement e = absurd (false≢true e)
 
 record Formed (p : Position) (x : Tree) : Type 0 where
   tree : Tree
@@ -74,7 +74,7 @@ read_in_position p x r s d b c m =
 
 -- one that ends a statement or an arm by itself, before all but ., ? and else
 no_condition : (p : Position) (x : Tree) → ends_there p x ≡ true → p ≡ InCondition → ⊥
-no_condition p x e i = never (sym (ap (λ q. ends_there q x) i) ∙ e)
+no_condition p x e i = false≢true (sym (ap (λ q. ends_there q x) i) ∙ e)
 
 pub read_ended_in : (p : Position) (x : Tree) (r s : List Token)
     → Derives (Node (Expression p) (Whole x)) (ref (Expression p)) r → all_covered x ≡ true

@@ -2,6 +2,7 @@
 -- own parts are in normal form.
 use Rattle.std.proofs.Common.{◌≡◌, ℕ, List, [], ◌∷◌, refl, sym, ap, ◌∙◌, subst}
 use Rattle.std.specs.Prelude.{Bool, true, false, not, ◌&&◌, ◌||◌}
+use Rattle.std.proofs.lemmas.Bool.{false≢true}
 use Rattle.proc_macro2.specs.Token.{Token}
 use Rattle.proc_macro2.specs.declared.delimiter.Delimiter.TheVariants.{Parenthesis}
 use Rattle.syn_grammar.specs.Kind.{Kind, Position, Plain, Expression, ExprParen, ExprAttributed, ExprAwait, ExprField}
@@ -20,7 +21,6 @@ use Rattle.syn_grammar.proofs.Settled.{Settled}
 use Rattle.binding_laws.proofs.Levels.{not_true, paren_left}
 use Rattle.expressions_back.proofs.Begins.{paren_operand}
 use Rattle.expressions_back.proofs.Opened.{paren_right}
-use Rattle.expressions_back.proofs.Bools.{never}
 
 abbrev own_of : Tree → Tree
 own_of (Alone k y) = y
@@ -94,7 +94,7 @@ right_back p q k y x ts true i e = record { same = e; stays = subst (λ w. stays
 right_back p q k y x ts false i e =
     let s : IsParen (formed q ts x) =
     subst (λ w. IsParen (formed q ts w)) e (paren_formed q ts (formed q ts x)) in
-    absurd (never (sym i ∙ paren_stays_right p k y (formed q ts x) s))
+    absurd (false≢true (sym i ∙ paren_stays_right p k y (formed q ts x) s))
 
 record Left (p : Position) (k : Kind) (y z x : Tree) : Type 0 where
   same : z ≡ x
@@ -106,7 +106,7 @@ left_back p k y x ts true i e = record { same = e; stays = subst (λ w. stays_le
 left_back p k y x ts false i e =
     let s : IsParen (formed p ts x) =
     subst (λ w. IsParen (formed p ts w)) e (paren_formed p ts (formed p ts x)) in
-    absurd (never (sym i ∙ paren_stays_left p k y (formed p ts x) s))
+    absurd (false≢true (sym i ∙ paren_stays_left p k y (formed p ts x) s))
 
 -- each form
 alone_settles : (p : Position) (ts : List Token) (k : Kind) (y : Tree) (b : Bool) → takes_what_follows p k ts ≡ b
@@ -114,7 +114,7 @@ alone_settles : (p : Position) (ts : List Token) (k : Kind) (y : Tree) (b : Bool
 alone_settles p ts k y true i e =
     let f : takes_what_follows p ExprParen ts ≡ true =
     subst (λ j. takes_what_follows p j ts ≡ true) (sym (ap kind_of e)) i in
-    absurd (never (sym (paren_takes p ts) ∙ f))
+    absurd (false≢true (sym (paren_takes p ts) ∙ f))
 alone_settles p ts k y false i e = (ap own_of e, i)
 
 pub settles : (x : Tree) (p : Position) (ts : List Token) → formed p ts x ≡ x → Settled p ts x
@@ -127,7 +127,7 @@ settles (Front k y x) p ts e = go (λ h. settles x (inside p k) ts h) (begins_in
     go : (z ≡ x → Settled (inside p k) ts x) → (b : Bool) → begins_in p k ≡ b
         → parens_unless b (Front k (normal y) (parens_unless (stays_right p k (normal y) z) z)) ≡ Front k y x
         → Settled p ts (Front k y x)
-    go f false i e = absurd (never (sym (ap is_alone e)))
+    go f false i e = absurd (false≢true (sym (ap is_alone e)))
     go f true i e =
         let n : normal y ≡ y = ap own_of e in
         let r = right_back p (inside p k) k (normal y) x ts (stays_right p k (normal y) z) refl (ap right_of e) in
@@ -142,7 +142,7 @@ settles (Back l k y) p ts e =
         → parens_unless b
         (Back (parens_unless (stays_left p k (normal y) (formed p us l)) (formed p us l)) k (normal y)) ≡ Back l k y
         → Settled p ts (Back l k y)
-    go f false i e = absurd (never (sym (ap is_alone e)))
+    go f false i e = absurd (false≢true (sym (ap is_alone e)))
     go f true i e =
         let n : normal y ≡ y = ap own_of e in
         let a = and_true (stands_in p k) (not (takes_what_follows p k ts)) i in

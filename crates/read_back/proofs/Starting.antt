@@ -1,6 +1,7 @@
 -- Own parts whose first token tells their form: those of continue, if, match and let, and attributes.
 use Rattle.std.proofs.Common.{◌≡◌, List, [], ◌∷◌, ◌++◌, refl}
 use Rattle.std.specs.Prelude.{Bool, true, false, Some, codes}
+use Rattle.std.proofs.lemmas.Bool.{false≢true}
 use Rattle.proc_macro2.specs.Token.{Token, Ident}
 use Rattle.proc_macro2.specs.declared.delimiter.Delimiter.TheVariants.{Bracket}
 use Rattle.syn_grammar.specs.Kind.{Kind, Position, Plain, InCondition, InArm, InStatement, ExprAttributed}
@@ -18,7 +19,7 @@ use Rattle.syn_grammar.specs.Forms.{front}
 use Rattle.syn_grammar.specs.Parens.{begins_in}
 use Rattle.expressions_back.specs.Behind.{no_operand, AtEnd, BeforeOperand}
 use Rattle.expressions_back.specs.Formed.{IsFront}
-use Rattle.expressions_back.proofs.Bools.{never, or_parts}
+use Rattle.expressions_back.proofs.Bools.{or_parts}
 use Rattle.expressions_back.proofs.Names.{end}
 use Rattle.grammar_back.specs.After.{After}
 use Rattle.grammar_back.proofs.Classes.{Class, Then, TheWord, Opening, IsAmong, OfAll, of_all}
@@ -61,13 +62,13 @@ started_part M ExprIf y e a w n =
     begun_part M ExprIf y (TheWord (codes "if") ∷ []) (λ ts m. w ts (a ts m)) (λ us. (λ p s. refl, refl), tt) n
 started_part M ExprMatch y e a w n =
     begun_part M ExprMatch y (TheWord (codes "match") ∷ []) (λ ts m. w ts (a ts m)) (λ us. (λ p s. refl, refl), tt) n
-started_part M _ y e a w n = absurd (never e)
+started_part M _ y e a w n = absurd (false≢true e)
 
 pub started_after : (k : Kind) (y : Tree) → is_started k ≡ true → (ts : List Token) → AtEnd ts → After k y ts
 started_after ExprContinue y e ts m = ((end ts m).lifetime, tt)
 started_after ExprIf y e ts m = ((no_arrow ts m).1, tt)
 started_after ExprMatch y e ts m = tt
-started_after _ y e ts m = absurd (never e)
+started_after _ y e ts m = absurd (false≢true e)
 
 -- and before one
 abbrev pub is_led : Kind → Bool
@@ -81,7 +82,7 @@ unfolding front is_bool is_reserved
 let_front Plain us s = refl
 let_front InCondition us s = refl
 let_front InArm us s = refl
-let_front InStatement us s = absurd (never s)
+let_front InStatement us s = absurd (false≢true s)
 
 pub led_part : (k : Kind) (y : Tree) → is_led k ≡ true → OwnReady k y → flat (normal (kept y)) ≡ flat y
     → IsFront (BeforeOperand k y) k y
@@ -92,4 +93,4 @@ led_part ExprAttributed y e w n =
 led_part ExprLet y e w n =
     begun_part (BeforeOperand ExprLet y) ExprLet y (TheWord (codes "let") ∷ []) (λ ts m. w ts tt)
     (λ us. (λ p s. let_front p us s, refl), tt) n
-led_part _ y e w n = absurd (never e)
+led_part _ y e w n = absurd (false≢true e)

@@ -5,6 +5,7 @@ use Rattle.std.proofs.Common.{inl, inr}
 use Rattle.std.specs.Prelude.{Bool, true, false, not, ◌&&◌, ◌||◌, codes, cond, Option, Some, None}
 use Rattle.std.specs.Bool.{◌==◌}
 use Rattle.std.proofs.lemmas.Slice.Eq.{bytes_eq-Decides}
+use Rattle.std.proofs.lemmas.Bool.{false≢true}
 use Rattle.proc_macro2.specs.Token.{Token, Opens, Closes, Ident, Literal, Punct}
 use Rattle.proc_macro2.specs.declared.delimiter.Delimiter.TheVariants.{Brace}
 use Rattle.rust_leaf.specs.declared.punct.Spacing.{Spacing}
@@ -45,7 +46,7 @@ use Rattle.item_laws.proofs.Passed.{group_passed}
 use Rattle.grammar_back.proofs.Readies.{Ready, Step}
 use Rattle.grammar_back.proofs.Seconds.{front_seen}
 use Rattle.grammar_back.proofs.Starts.{expression_starts, starts, statement_starts}
-use Rattle.grammar_back.proofs.Statements.{contrary, fits_expression, held_form, in_front}
+use Rattle.grammar_back.proofs.Statements.{fits_expression, held_form, in_front}
 use Rattle.read_back.proofs.Blocks.{body_opens, word_first}
 use Rattle.read_back.proofs.Parts.{among}
 use Rattle.read_back.proofs.Closures.{closure_free, typed_free}
@@ -329,7 +330,7 @@ at_root cs us k h =
 begun_there : (us : List Token) (k : Kind) → IsAmong expression_starts us → Start k us → Begun us
 unfolding is_name is_path_keyword is_reserved
 begun_there us k i h = of_all (λ vs. (k : Kind) → Start k vs → Begun vs) expression_starts us (
-    (λ us k h. absurd (contrary h.plain)) & (λ cs p us k h. (refl, refl, refl, refl)) &
+    (λ us k h. absurd (false≢true h.plain)) & (λ cs p us k h. (refl, refl, refl, refl)) &
     (λ cs us k h. (refl, refl, refl, refl)) & (λ us k h. (refl, refl, refl, refl)) &
     (λ us k h. (refl, refl, refl, refl)) & (λ us k h. (refl, refl, refl, refl)) &
     (λ us k h. (refl, refl, refl, refl)) & (λ us k h. (refl, refl, refl, refl)) &
@@ -378,7 +379,7 @@ unfolding table
 delimited_ends p b (First (Group e x)) f n =
     subst (λ c. Ends (First (Group c x))) (sym f.1.0) (λ ts. (refl, refl))
 delimited_ends p b (First _) f n = absurd f.1
-delimited_ends p b (Second (First g)) f n = absurd (contrary (sym n))
+delimited_ends p b (Second (First g)) f n = absurd (false≢true (sym n))
 delimited_ends p b (Second (Second (Group e x))) f n =
     subst (λ c. Ends (Second (Second (Group c x)))) (sym f.1.1.0) (λ ts. (refl, refl))
 delimited_ends p b (Second (Second _)) f n = absurd f.1.1
@@ -407,9 +408,9 @@ delimited_braced a b (Second (First (Group e x))) f n ts d =
       passed = ap (λ o. behind o (no dotted)) (group_passed Brace x raw ts d.1.1.1.1.1.1.1);
     }
 delimited_braced a b (Second (First _)) f n ts d = absurd f.1.1
-delimited_braced a b (Second (Second g)) f n ts d = absurd (contrary n)
+delimited_braced a b (Second (Second g)) f n ts d = absurd (false≢true n)
 delimited_braced a b (Second _) f n ts d = absurd f.1
-delimited_braced a b (First g) f n ts d = absurd (contrary n)
+delimited_braced a b (First g) f n ts d = absurd (false≢true n)
 delimited_braced a b _ f n ts d = absurd f
 
 braced : (y : Tree) → Fits y (table ExprMacro) → is_brace_macro (Alone ExprMacro y) ≡ true → (ts : List Token)
@@ -471,7 +472,7 @@ dotted_seen k ts e d =
     (λ h s. dot_seen ts (front_seen (dot_stands ts) _ s)) & (λ h s. dot_seen ts s) & tt) e d
   where
     undotted : {b : Bool} → false ≡ true → b ≡ true → sees dotted ts ≡ true
-    undotted h s = absurd (contrary h)
+    undotted h s = absurd (false≢true h)
 
 left_dotted : (a b c e : Bool) → (a && (not (b || c) || e)) ≡ true → c ≡ true → e ≡ true
 left_dotted true true true e h i = h
@@ -487,7 +488,7 @@ goes_on l k ts h e n =
 
 no_operand_behind : (k : Kind) (ts : List Token) → has_right InStatement k ts ≡ true → k ≡ ExprMacro → ⊥
 unfolding has_right level
-no_operand_behind k ts h e = contrary (subst (λ j. has_right InStatement j ts ≡ true) e h)
+no_operand_behind k ts h e = false≢true (subst (λ j. has_right InStatement j ts ≡ true) e h)
 
 record Leads (us : List Token) : Type 0 where
   kind : Kind
@@ -497,7 +498,7 @@ own_free : (k : Kind) (y : Tree) (q : List Token) → Fits y (table k) → is_pl
     → Derives y (table k) q → is_closure k ≡ true → sees item_stands (flat y ++ q) ≡ false
 own_free ExprClosure y q f u d e = closure_free y f u q d q
 own_free ExprTypedClosure y q f u d e = typed_free y f u q d q
-own_free _ y q f u d e = absurd (contrary e)
+own_free _ y q f u d e = absurd (false≢true e)
 
 leads : (x : Tree) (rest us : List Token) → flat x ++ rest ≡ us → Bound InStatement x rest → FitsForms x
     → HasOperands x → (is_brace_macro x ≡ true → sees dotted rest ≡ true) → is_plain_start us ≡ true → Leads us
@@ -540,13 +541,13 @@ call_kept : (x : Tree) → is_brace_macro x ≡ true → is_brace_macro (kept x)
 unfolding held
 call_kept (Alone ExprMacro (Node AMacro (Pair p (Pair s (Node Delimited (Second (First g))))))) e = refl
 call_kept (Front ExprAttributed y x) e = call_kept x e
-call_kept _ e = absurd (contrary e)
+call_kept _ e = absurd (false≢true e)
 
 no_call : (x : Tree) → is_brace_macro (kept x) ≡ false → is_brace_macro x ≡ false
 no_call x e = go (is_brace_macro x) refl
   where
     go : (b : Bool) → is_brace_macro x ≡ b → is_brace_macro x ≡ false
-    go true i = absurd (contrary (sym e ∙ call_kept x i))
+    go true i = absurd (false≢true (sym e ∙ call_kept x i))
     go false i = i
 
 colons_more : (ts us : List Token) → sees (marks "::") ts ≡ true → sees (marks "::") (ts ++ us) ≡ true
@@ -560,15 +561,15 @@ colons_more (Punct c Joint ∷ Punct d i ∷ ts) us e = go (c == 58) (d == 58) e
 colons_more (Punct c Joint ∷ []) us e = absurd (go (c == 58) e)
   where
     go : (a : Bool) → seen (cond a None None) ≡ true → ⊥
-    go true e = contrary e
-    go false e = contrary e
+    go true e = false≢true e
+    go false e = false≢true e
 colons_more (Punct c Joint ∷ t ∷ ts) us e = absurd (go (c == 58) e)
   where
     go : (a : Bool) → seen (cond a None None) ≡ true → ⊥
-    go true e = contrary e
-    go false e = contrary e
-colons_more (Punct c Apart ∷ ts) us e = absurd (contrary e)
-colons_more _ us e = absurd (contrary e)
+    go true e = false≢true e
+    go false e = false≢true e
+colons_more (Punct c Apart ∷ ts) us e = absurd (false≢true e)
+colons_more _ us e = absurd (false≢true e)
 
 -- where such a word is all of the expression, none stands behind it
 abbrev NoneBehind : List Token → List Token → Type 0
@@ -621,8 +622,8 @@ record Blocked (us : List Token) : Type 0 where
   other : is_name_form kind ≡ false
 
 block_other : (k : Kind) (y : Tree) → is_block_like (Alone k y) ≡ true → is_name_form k ≡ false
-block_other ExprMacro y e = absurd (contrary e)
-block_other ExprPath y e = absurd (contrary e)
+block_other ExprMacro y e = absurd (false≢true e)
+block_other ExprPath y e = absurd (false≢true e)
 block_other _ y e = refl
 
 blocked : (x : Tree) (ts : List Token) → Bound InStatement x ts → is_block_like x ≡ true → Blocked (flat x ++ ts)
@@ -632,9 +633,9 @@ blocked (Front ExprAttributed y x) ts d e = record {
   fronts = ap (front InStatement) (append_assoc (flat y) (flat x) ts) ∙ d.0;
   other = refl;
 }
-blocked (Front _ y x) ts d e = absurd (contrary e)
-blocked (Back l k y) ts d e = absurd (contrary e)
-blocked (Infix l k y r) ts d e = absurd (contrary e)
+blocked (Front _ y x) ts d e = absurd (false≢true e)
+blocked (Back l k y) ts d e = absurd (false≢true e)
+blocked (Infix l k y r) ts d e = absurd (false≢true e)
 blocked _ ts d e = absurd d
 
 soft_plain : (cs : List ℕ) → is_among soft_words cs ≡ true → is_plain_name cs ≡ true
@@ -647,8 +648,8 @@ no_block cs ts s b =
     (name_front cs (soft_plain cs s) ts (seen (macro_call_stands (Ident cs ∷ ts))) InStatement refl)
   where
     go : (m : Bool) → front InStatement (Ident cs ∷ ts) ≡ or_macro m → ⊥
-    go true e = contrary (sym b.other ∙ ap is_name_form (ap kind_there (sym b.fronts ∙ e)))
-    go false e = contrary (sym b.other ∙ ap is_name_form (ap kind_there (sym b.fronts ∙ e)))
+    go true e = false≢true (sym b.other ∙ ap is_name_form (ap kind_there (sym b.fronts ∙ e)))
+    go false e = false≢true (sym b.other ∙ ap is_name_form (ap kind_there (sym b.fronts ∙ e)))
 
 ended_none : (ts : List Token) → sees (no (the_end or marks ";")) ts ≡ false → no_word ts ≡ true
 ended_none (Ident cs ∷ ts) e = cc e
@@ -656,7 +657,7 @@ ended_none _ e = refl
 
 either_block : (a b : Bool) → (a || b) ≡ true → b ≡ false → a ≡ true
 either_block true b e f = refl
-either_block false b e f = absurd (contrary (sym f ∙ e))
+either_block false b e f = absurd (false≢true (sym f ∙ e))
 
 none_behind : (x : Tree) (ts : List Token) → Bound InStatement x ts → is_brace_macro x ≡ false
     → After (Expression InStatement) (Node (Expression InStatement) (Whole x)) ts → NoneBehind (flat x) ts
@@ -696,7 +697,7 @@ begins x ts f a p d i =
     let s : is_plain_start (flat x ++ ts) ≡ true =
     plain_more (flat x) ts (subst (λ us. is_plain_start us ≡ true) (flat_forms x f.2) r.0)
     (none_behind x ts d.1 n a) in
-    let l = leads x ts (flat x ++ ts) refl d.1 f.2 f.3 (λ i. absurd (contrary (sym n ∙ i))) s in
+    let l = leads x ts (flat x ++ ts) refl d.1 f.2 f.3 (λ i. absurd (false≢true (sym n ∙ i))) s in
     record { seen = begun_there (flat x ++ ts) l.kind i l.start; bare = no_hash (flat x ++ ts) s }
 
 -- its ;
@@ -730,7 +731,7 @@ ended o x (First (Called n _)) s f a = absurd f.1.1
 ended o x (First _) s f a = absurd f.1
 ended o x (Second Nil) s f (inl a) =
     subst (Ended x (Second Nil)) (sym (end_is s a.0)) record { after = inl (refl, tt); derived = (refl, tt) }
-ended o x (Second Nil) s f (inr (inl e)) = absurd (contrary (sym e))
+ended o x (Second Nil) s f (inr (inl e)) = absurd (false≢true (sym e))
 ended o x (Second Nil) s f (inr (inr e)) = record { after = inr e.0; derived = (e.1.0, tt) }
 ended o x (Second _) s f a = absurd f.1
 ended o x _ s f a = absurd f
@@ -794,7 +795,7 @@ call_ended o m (First (Called n _)) s f a = absurd f.1.1
 call_ended o m (First _) s f a = absurd f.1
 call_ended o m (Second Nil) s f (inl a) =
     subst (CallEnded (Second Nil)) (sym (end_is s a.0)) record { free = refl; derived = (refl, tt) }
-call_ended o m (Second Nil) s f (inr (inl e)) = absurd (contrary (sym e))
+call_ended o m (Second Nil) s f (inr (inl e)) = absurd (false≢true (sym e))
 call_ended o m (Second Nil) s f (inr (inr e)) =
     record { free = none_of _ _ e.0.1.1.0 e.0.1.0; derived = (e.1.0, tt) }
 call_ended o m (Second _) s f a = absurd f.1

@@ -2,6 +2,7 @@
 use Rattle.std.proofs.Common.{◌≡◌, List, [], ◌∷◌, ◌++◌, refl, sym, ap, ◌∙◌, subst, append_assoc}
 use Rattle.std.proofs.Common.{inl, inr}
 use Rattle.std.specs.Prelude.{Bool, true, false, ◌⊎◌, ◌&&◌, ◌||◌, not, Some}
+use Rattle.std.proofs.lemmas.Bool.{false≢true}
 use Rattle.proc_macro2.specs.Token.{Token, Opens}
 use Rattle.proc_macro2.specs.declared.delimiter.Delimiter.{Delimiter}
 use Rattle.proc_macro2.specs.declared.delimiter.Delimiter.TheVariants.{Brace, Bracket, Parenthesis}
@@ -19,7 +20,6 @@ use Rattle.syn_grammar.specs.Forms.{front, inside, is_brace_macro}
 use Rattle.syn_grammar.specs.Kept.{kept}
 use Rattle.syn_grammar.specs.Normal.{normal}
 use Rattle.syn_grammar.specs.Statements.{macro_statement_stands}
-use Rattle.expressions_back.proofs.Bools.{never}
 use Rattle.grammar_back.specs.Covered.{all_covered, has_form_step, has_step, is_form, is_known}
 use Rattle.grammar_back.specs.Covered.{is_plain_part, is_statement_form, is_taken, stands_alone}
 use Rattle.grammar_back.proofs.Choices.{both_same, both_true}
@@ -42,8 +42,8 @@ dotless = no (marks "?" or (no (marks "..") then marks "."))
 
 no_brace : (d : Delimiter) (ts : List Token) → sees (a_group Brace then dotless) (Opens d ∷ ts) ≡ true
     → (d ≡ Parenthesis) ⊎ (d ≡ Bracket) → ⊥
-no_brace d ts e (inl h) = never (subst (λ i. sees (a_group Brace then dotless) (Opens i ∷ ts) ≡ true) h e)
-no_brace d ts e (inr h) = never (subst (λ i. sees (a_group Brace then dotless) (Opens i ∷ ts) ≡ true) h e)
+no_brace d ts e (inl h) = false≢true (subst (λ i. sees (a_group Brace then dotless) (Opens i ∷ ts) ≡ true) h e)
+no_brace d ts e (inr h) = false≢true (subst (λ i. sees (a_group Brace then dotless) (Opens i ∷ ts) ≡ true) h e)
 
 braces_told : (p s g : Tree) (q : List Token) → Derives g (table Delimited) q
     → sees (a_group Brace then dotless) (flat g ++ q) ≡ true
@@ -125,7 +125,7 @@ part_told _ p y r e d = refl
 -- one statement by itself has no step
 known_none : (k : Kind) → is_known k ≡ true → is_one_statement k ≡ false
 unfolding has_step has_form_step
-known_none OneStatement e = absurd (never e)
+known_none OneStatement e = absurd (false≢true e)
 known_none _ e = refl
 
 -- of all that a tree holds
@@ -230,7 +230,7 @@ whole_told k _ r h d c = absurd d
 -- what stands in a tree, of a kind that has no step too
 one_statement : (k : Kind) → is_one_statement k ≡ true → k ≡ OneStatement
 one_statement OneStatement e = refl
-one_statement _ e = absurd (never e)
+one_statement _ e = absurd (false≢true e)
 
 inside_settled : (k : Kind) (x : Tree) (r : List Token) → Derives x (table k) r → is_asked_alone (Node k x) ≡ true
     → are_settled x ≡ true

@@ -3,6 +3,7 @@
 use Rattle.std.proofs.Common.{◌≡◌, ℕ, List, [], ◌∷◌, ◌++◌, refl, sym, ap, ◌∙◌, subst, append_assoc}
 use Rattle.std.specs.Prelude.{Bool, true, false, ◌&&◌, ◌||◌, ◌==◌, not, cond, Option, Some, None}
 use Rattle.std.proofs.lemmas.Bool.{eqb-true}
+use Rattle.std.proofs.lemmas.Bool.{false≢true}
 use Rattle.proc_macro2.specs.Token.{Token, Punct}
 use Rattle.proc_macro2.specs.declared.delimiter.Delimiter.{Delimiter}
 use Rattle.proc_macro2.specs.declared.delimiter.Delimiter.TheVariants.{Brace}
@@ -28,7 +29,6 @@ use Rattle.syn_grammar.specs.Forms.{stands_left, takes, takes_kind}
 use Rattle.syn_grammar.specs.Parens.{begins_in, follow, may_lack, parens_unless, stands_in, takes_what_follows}
 use Rattle.syn_grammar.specs.Parens.{with_left, with_right}
 use Rattle.binding_laws.proofs.Shells as Shells
-use Rattle.expressions_back.proofs.Bools.{never}
 use Rattle.expressions_back.proofs.ReadBack.{literals_seen}
 use Rattle.item_laws.proofs.Passed.{group_passed}
 use Rattle.read_back.proofs.ToldPaths.{call_behind}
@@ -48,7 +48,7 @@ one_dotted : (a b c : Bool) → c ≡ true
 one_dotted true b c e = (ExprAwait, refl, refl)
 one_dotted false true c e = (ExprMethodCall, refl, refl)
 one_dotted false false true e = (ExprField, refl, refl)
-one_dotted false false false e = absurd (never e)
+one_dotted false false false e = absurd (false≢true e)
 
 question_goes : (i : Spacing) (ts : List Token) → Dotted (Punct 63 i ∷ ts)
 unfolding back
@@ -66,7 +66,7 @@ dots_closed : (us : List Token) → sees (past_marks 46 []) us ≡ false → see
 dots_closed (Punct c Joint ∷ us) e = go (c == 46) e
   where
     go : (b : Bool) → seen (cond b (Some us) None) ≡ false → seen (cond b (past_marks 61 [] us) None) ≡ false
-    go true e = absurd (never (sym e))
+    go true e = absurd (false≢true (sym e))
     go false e = refl
 dots_closed (Punct c Apart ∷ us) e = refl
 dots_closed _ e = refl
@@ -96,21 +96,21 @@ dotted_there (Punct c i ∷ us) e = go (c == 63) refl e
   where
     past_dots : (b : Bool) → sees (marks "..") (Punct c i ∷ us) ≡ b
         → seen (behind (cond b None (Some (Punct c i ∷ us))) (marks ".")) ≡ true → Dotted (Punct c i ∷ us)
-    past_dots true f g = absurd (never g)
+    past_dots true f g = absurd (false≢true g)
     past_dots false f g = one (c == 46) refl g
       where
         one : (b : Bool) → (c == 46) ≡ b → seen (cond b (Some us) None) ≡ true → Dotted (Punct c i ∷ us)
         one true h g =
             subst (λ d. Dotted (Punct d i ∷ us)) (sym (eqb-true c 46 h))
             (dot_goes i us (subst (λ d. sees (marks "..") (Punct d i ∷ us) ≡ false) (eqb-true c 46 h) f))
-        one false h g = absurd (never g)
+        one false h g = absurd (false≢true g)
 
     go : (b : Bool) → (c == 63) ≡ b
         → seen (first_seen (cond b (Some us) None) ((no (marks "..") then marks ".") (Punct c i ∷ us))) ≡ true
         → Dotted (Punct c i ∷ us)
     go true f g = subst (λ d. Dotted (Punct d i ∷ us)) (sym (eqb-true c 63 f)) (question_goes i us)
     go false f g = past_dots (sees (marks "..") (Punct c i ∷ us)) refl g
-dotted_there _ e = absurd (never e)
+dotted_there _ e = absurd (false≢true e)
 
 -- so the expression goes on there
 or_true : (b : Bool) → (b || true) ≡ true
@@ -124,7 +124,7 @@ dotted_stands ExprField m e = or_true (not (ends_there InStatement (Alone ExprMa
 dotted_stands ExprMethodCall m e = or_true (not (ends_there InStatement (Alone ExprMacro m)))
 dotted_stands ExprAwait m e = or_true (not (ends_there InStatement (Alone ExprMacro m)))
 dotted_stands ExprTry m e = or_true (not (ends_there InStatement (Alone ExprMacro m)))
-dotted_stands _ m e = absurd (never e)
+dotted_stands _ m e = absurd (false≢true e)
 
 macro_goes : (m : Tree) (q : List Token) → sees goes_there q ≡ true → goes_on InStatement 0 (Alone ExprMacro m) q ≡ true
 macro_goes m q e =
@@ -134,7 +134,7 @@ macro_goes m q e =
 -- where a macro in braces was read as an expression, the test of a macro that is a statement did not see it
 not_unseen : (b : Bool) (q : List Token) → seen (cond b None (Some q)) ≡ false → b ≡ true
 not_unseen true q e = refl
-not_unseen false q e = absurd (never (sym e))
+not_unseen false q e = absurd (false≢true (sym e))
 
 in_braces_goes : (e : Delimiter) (x : Tree) (q : List Token) → e ≡ Brace → Derives x raw []
     → sees (a_group Brace then no goes_there) (flat (Group e x) ++ q) ≡ false → sees goes_there q ≡ true
@@ -155,7 +155,7 @@ delimited_unbraced : (p b z : Tree) (q : List Token) → Derives z (table Delimi
 unfolding table held passed may_lack
 delimited_unbraced p b (First z) q d h g = refl
 delimited_unbraced p b (Second (First (Group e x))) q d h g =
-    absurd (never (sym g ∙ macro_goes _ q (in_braces_goes e x q d.1.1.0 d.1.1.1 h)))
+    absurd (false≢true (sym g ∙ macro_goes _ q (in_braces_goes e x q d.1.1.0 d.1.1.1 h)))
 delimited_unbraced p b (Second (First _)) q d h g = absurd d.1.1
 delimited_unbraced p b (Second (Second z)) q d h g = refl
 delimited_unbraced p b (Second _) q d h g = absurd d.1
@@ -239,7 +239,7 @@ unbraced (Alone ExprMacro m) q d g e h = call_unbraced m q d.1 e g
 unbraced (Alone k y) q d g e h =
     unless_bare (not (takes_what_follows InStatement k [])) (Alone k (normal (kept y))) refl
 unbraced (Front ExprAttributed y x) q d g e h =
-    absurd (never (sym h ∙ ap (sees (marks "#")) (append_assoc (flat y) (flat x) q)
+    absurd (false≢true (sym h ∙ ap (sees (marks "#")) (append_assoc (flat y) (flat x) q)
     ∙ attributed_seen y (flat x ++ q) (flat x ++ q) d.1))
 unbraced (Front k y x) q d g e h =
     let own : Tree = normal (kept y) in

@@ -3,6 +3,7 @@
 use Rattle.std.proofs.Common.{◌≡◌, ℕ, List, [], ◌∷◌, ◌++◌, refl, sym, ap, ◌∙◌, subst, append_assoc, inl, inr, ⊎_elim}
 use Rattle.std.specs.Prelude.{Bool, true, false, ◌&&◌, ◌||◌, not, cond, codes, Option, Some, None}
 use Rattle.std.proofs.lemmas.Slice.Eq.{bytes_eq-Decides}
+use Rattle.std.proofs.lemmas.Bool.{false≢true}
 use Rattle.proc_macro2.specs.Token.{Token, Ident}
 use Rattle.proc_macro2.specs.declared.delimiter.Delimiter.{Delimiter}
 use Rattle.proc_macro2.specs.declared.delimiter.Delimiter.TheVariants.{Brace}
@@ -14,7 +15,7 @@ use Rattle.syn_grammar.specs.Name.{the_pub}
 use Rattle.syn_grammar.specs.Part.{choice, has}
 use Rattle.syn_grammar.specs.Tree.{Tree, AMark, AWord, Called, First, Group, Nil, Node, Pair, Second}
 use Rattle.syn_grammar.specs.Tree.{marks as signs, flat}
-use Rattle.syn_grammar.specs.Gram.{Gram, Keep, alt, raw, ref, never as none}
+use Rattle.syn_grammar.specs.Gram.{Gram, Keep, alt, raw, ref, false≢true as none}
 use Rattle.syn_grammar.specs.Look.{Look, ◌or◌, ◌then◌, a_group, a_word, all_attributes, an_ident, behind}
 use Rattle.syn_grammar.specs.Look.{first_seen, no, one_of, seen, sees, the_word}
 use Rattle.syn_grammar.specs.Say.{at, brace, in_braces, in_brackets, in_parentheses, marks, parenthesis, sign}
@@ -27,7 +28,6 @@ use Rattle.syn_grammar.specs.Verdicts.{form_in_file, item_verdict, refused_if}
 use Rattle.syn_grammar.specs.Table.{table}
 use Rattle.syn_grammar.specs.Derives.{Derives}
 use Rattle.syn_grammar.specs.Kept.{is_there}
-use Rattle.expressions_back.proofs.Bools.{never}
 use Rattle.grammar_back.specs.Covered.{is_crate_macro, is_crate_path, is_no_call, item_of}
 use Rattle.grammar_back.proofs.Choices.{both_same, both_true}
 use Rattle.grammar_back.proofs.Passed.{behind_attributes}
@@ -49,29 +49,29 @@ no_keyword : (w cs : List ℕ) (us : List Token) (l : Look) → is_name w ≡ fa
 no_keyword w cs us l n h e = go (same_text w cs) refl e
   where
     go : (b : Bool) → same_text w cs ≡ b → seen (behind (cond b (Some us) None) l) ≡ true → ⊥
-    go true i f = never (sym n ∙ ap is_name (text_is w cs i) ∙ h)
-    go false i f = never f
+    go true i f = false≢true (sym n ∙ ap is_name (text_is w cs i) ∙ h)
+    go false i f = false≢true f
 
 no_next : (w cs : List ℕ) (us : List Token) (l : Look) → sees l us ≡ false
     → sees (the_word w then l) (Ident cs ∷ us) ≡ true → ⊥
 no_next w cs us l n e = go (same_text w cs) e
   where
     go : (b : Bool) → seen (behind (cond b (Some us) None) l) ≡ true → ⊥
-    go true f = never (sym n ∙ f)
-    go false f = never f
+    go true f = false≢true (sym n ∙ f)
+    go false f = false≢true f
 
 abbrev are_no_names : List (List ℕ) → Bool
 are_no_names [] = true
 are_no_names (w ∷ ws) = not (is_name w) && are_no_names ws
 
 among_none : (ws : List (List ℕ)) (cs : List ℕ) → are_no_names ws ≡ true → is_among ws cs ≡ true → is_name cs ≡ false
-among_none [] cs n e = absurd (never e)
+among_none [] cs n e = absurd (false≢true e)
 among_none (w ∷ ws) cs n e =
     go (same_text w cs) refl (among_none ws cs (both_true (not (is_name w)) (are_no_names ws) n).1) e
   where
     off : (b : Bool) → not b ≡ true → b ≡ false
     off false h = refl
-    off true h = absurd (never h)
+    off true h = absurd (false≢true h)
 
     go : (b : Bool) → same_text w cs ≡ b → (is_among ws cs ≡ true → is_name cs ≡ false)
         → (b || is_among ws cs) ≡ true → is_name cs ≡ false
@@ -95,13 +95,13 @@ crate_only : (cs : List ℕ) (us : List Token) → sees (at "crate" then no (mar
 crate_only cs us e = go (same_text (codes "crate") cs) refl e
   where
     lacks_colons : (b : Bool) → sees (marks "::") us ≡ b → seen (cond b None (Some us)) ≡ true → b ≡ false
-    lacks_colons true h f = absurd (never f)
+    lacks_colons true h f = absurd (false≢true f)
     lacks_colons false h f = refl
 
     go : (a : Bool) → same_text (codes "crate") cs ≡ a
         → seen (behind (cond a (Some us) None) (no (marks "::"))) ≡ true → (a ≡ true) × (sees (marks "::") us ≡ false)
     go true i f = (refl, lacks_colons (sees (marks "::") us) refl f)
-    go false i f = absurd (never f)
+    go false i f = absurd (false≢true f)
 
 either_word : (us : List Token) → NoWord us → sees (at "unsafe" or at "impl") us ≡ false
 either_word us n = go (at "unsafe" us) (at "impl" us) (n (λ cs. same_text (codes "unsafe") cs))
@@ -141,11 +141,11 @@ other_word t u ts f e = ⊎_elim (λ h. absurd (f h)) (λ h. h) (either_seen (t 
 
 not_among : (cs : List ℕ) (us : List Token) → is_name cs ≡ true → sees (one_of item_words) (Ident cs ∷ us) ≡ true → ⊥
 unfolding is_name is_path_keyword is_reserved
-not_among cs us n e = never (sym (among_none item_words cs refl (among (is_among item_words cs) refl e)) ∙ n)
+not_among cs us n e = false≢true (sym (among_none item_words cs refl (among (is_among item_words cs) refl e)) ∙ n)
   where
     among : (b : Bool) → is_among item_words cs ≡ b → seen (cond b (Some us) None) ≡ true → b ≡ true
     among true i f = refl
-    among false i f = absurd (never f)
+    among false i f = absurd (false≢true f)
 
 abbrev other_words : Look
 other_words = static_there or const_there or unsafe_there or async_there or union_there or auto_there or default_there
@@ -190,11 +190,11 @@ no_colons cs c ds i z us e f n h =
     let o : (signs c ds i ++ z) ++ us ≡ signs c ds i ++ (z ++ us) = append_assoc (signs c ds i) z us in
     let k = name_item cs (signs c ds i ++ (z ++ us)) n (signs_word c ds i (z ++ us))
     (ap (λ ts. sees item_stands (Ident cs ∷ ts)) (sym o) ∙ h) in
-    never (sym k.1 ∙ colons_there c ds i (z ++ us) e f)
+    false≢true (sym k.1 ∙ colons_there c ds i (z ++ us) e f)
 
 plain_crate : (cs : List ℕ) → is_plain_name cs ≡ true → same_text (codes "crate") cs ≡ true → ⊥
 unfolding is_plain_name is_reserved
-plain_crate cs e f = never (sym (ap is_plain_name (sym (text_is (codes "crate") cs f))) ∙ e)
+plain_crate cs e f = false≢true (sym (ap is_plain_name (sym (text_is (codes "crate") cs f))) ∙ e)
 
 abbrev crate_at : Kind → Tree → Tree
 crate_at l z = Node (Path InModule) (Pair (Second Nil) (Node l z))
@@ -211,12 +211,12 @@ names_crate (First (Pair (AWord cs) (Second _))) us r d n h = absurd d.1.1.1
 names_crate (First (Pair (AWord cs) _)) us r d n h = absurd d.1.1
 names_crate (First (Pair _ w)) us r d n h = absurd d.1.0
 names_crate (First _) us r d n h = absurd d.1
-names_crate (Second (Pair (AWord cs) (First w))) us r d n h = absurd (never d.1.1.0)
+names_crate (Second (Pair (AWord cs) (First w))) us r d n h = absurd (false≢true d.1.1.0)
 names_crate (Second (Pair (AWord cs) (Second (First (Pair (AMark c ds i) w))))) us r d n h =
     absurd (no_colons cs c ds i (flat w) us d.1.1.1.1.0.0 d.1.1.1.1.0.1 (is_named cs (inl d.1.0)) h)
 names_crate (Second (Pair (AWord cs) (Second (First (Pair _ w))))) us r d n h = absurd d.1.1.1.1.0
 names_crate (Second (Pair (AWord cs) (Second (First _)))) us r d n h = absurd d.1.1.1.1
-names_crate (Second (Pair (AWord cs) (Second (Second (First w))))) us r d n h = absurd (never d.1.1.1.1.0)
+names_crate (Second (Pair (AWord cs) (Second (Second (First w))))) us r d n h = absurd (false≢true d.1.1.1.1.0)
 names_crate (Second (Pair (AWord cs) (Second (Second (Second Nil))))) us r d n h =
     absurd (plain_crate cs d.1.0 (name_item cs us (is_named cs (inl d.1.0)) n h).0)
 names_crate (Second (Pair (AWord cs) (Second (Second (Second _))))) us r d n h = absurd d.1.1.1.1.1
@@ -235,7 +235,7 @@ path_crate : (p : Tree) (us r : List Token) → Derives p (table (Path InModule)
     → sees item_stands (flat p ++ us) ≡ true → is_crate_path (Node (Path InModule) p) ≡ true
 unfolding table
 path_crate (Pair (First (AMark c ds i)) z) us r d n h =
-    absurd (never (sym (colons_first c ds i (flat z ++ us))
+    absurd (false≢true (sym (colons_first c ds i (flat z ++ us))
     ∙ sym (ap (sees item_stands) (append_assoc (signs c ds i) (flat z) us)) ∙ h))
 path_crate (Pair (First _) z) us r d n h = absurd d.0.1
 path_crate (Pair (Second Nil) (Node l z)) us r d n h =
@@ -267,7 +267,7 @@ a_named = an_ident or at "try"
 unnamed : (n g : Tree) (r : List Token) → Derives n (macro_name InFile) (flat g ++ r)
     → sees a_named ((flat n ++ flat g) ++ r) ≡ false → (not (is_there n) ≡ true) × (flat n ≡ [])
 unnamed (First m) g r d e =
-    absurd (never (sym e ∙ ap (sees a_named) (append_assoc (flat m) (flat g) r) ∙ d.0))
+    absurd (false≢true (sym e ∙ ap (sees a_named) (append_assoc (flat m) (flat g) r) ∙ d.0))
 unnamed (Second Nil) g r d e = (refl, refl)
 unnamed (Second _) g r d e = absurd d.1
 unnamed _ g r d e = absurd d
@@ -278,7 +278,7 @@ macro_tokens = when brace read in_braces raw else
 
 unbraced : (g : Tree) (r : List Token) → Derives g macro_tokens r → sees goes_there r ≡ false
     → sees (a_group Brace then no goes_there) (flat g ++ r) ≡ false → not (is_there g) ≡ true
-unbraced (First (Group e x)) r d f h = absurd (never (sym h ∙ braces_seen e x r d.1.0 d.1.1 f))
+unbraced (First (Group e x)) r d f h = absurd (false≢true (sym h ∙ braces_seen e x r d.1.0 d.1.1 f))
 unbraced (First _) r d f h = absurd d.1
 unbraced (Second x) r d f h = refl
 unbraced _ r d f h = absurd d
@@ -336,7 +336,7 @@ not_public true e = cc e
 node_call : (k : Kind) (y : Tree) (r : List Token) (v : Bool) → is_call_kind k ≡ true → Derives y (table k) r
     → form_in_file v (Node k y) ≡ Keep → (v ≡ false → Seen (flat y ++ r) r) → is_no_call (Node k y) ≡ true
 node_call (ItemMacro InFile) y r v c d e s = macro_call y r d (s (not_public v e))
-node_call (ItemMacro _) y r v c d e s = absurd (never c)
+node_call (ItemMacro _) y r v c d e s = absurd (false≢true c)
 node_call _ y r v c d e s = refl
 
 chosen_call : (x : Tree) (g : Gram) (r : List Token) (v : Bool) → Derives x g r → are_choices g ≡ true
@@ -349,7 +349,7 @@ chosen_call _ (alt t a b) r v d c e s = absurd d
 chosen_call (Node k y) (ref l) r v d c e s = node_call k y r v (ap is_call_kind d.0 ∙ c) d.1 e s
 chosen_call _ (ref l) r v d c e s = absurd d
 chosen_call _ none r v d c e s = absurd d
-chosen_call x _ r v d c e s = absurd (never c)
+chosen_call x _ r v d c e s = absurd (false≢true c)
 
 -- an item that is kept, behind its attributes
 whole_call : (x : Tree) (r : List Token) → Derives x whole_item r → item_verdict InFile x ≡ Keep

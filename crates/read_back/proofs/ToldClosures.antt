@@ -3,6 +3,7 @@
 use Rattle.std.proofs.Common.{◌≡◌, ℕ, List, [], ◌∷◌, ◌++◌, refl, sym, ap, ◌∙◌, subst, append_assoc}
 use Rattle.std.specs.Prelude.{Bool, true, false, not, cond, Option, Some, None, codes}
 use Rattle.std.proofs.lemmas.Slice.Eq.{bytes_eq-Decides}
+use Rattle.std.proofs.lemmas.Bool.{false≢true}
 use Rattle.proc_macro2.specs.Token.{Token, Ident, Punct}
 use Rattle.rust_leaf.specs.declared.punct.Spacing.{Spacing}
 use Rattle.rust_leaf.specs.declared.punct.Spacing.TheVariants.{Alone as Apart, Joint}
@@ -21,7 +22,6 @@ use Rattle.syn_grammar.specs.Kept.{held, kept}
 use Rattle.syn_grammar.specs.Normal.{normal, passed}
 use Rattle.syn_grammar.specs.Forms.{Case, closure_stands, front, fronts, labelled, past_bar, typed_closure_stands}
 use Rattle.binding_laws.proofs.Begun.{first_passes}
-use Rattle.expressions_back.proofs.Bools.{never}
 use Rattle.grammar_back.specs.Covered.{is_bound, is_plain_part}
 use Rattle.grammar_back.proofs.Choices.{both_same}
 use Rattle.read_back.proofs.Closures.{bar_behind, calm_entry, is_calm, no_form}
@@ -63,7 +63,7 @@ no_attributes : (x : Tree) (r ts : List Token) → Derives x (table OuterAttribu
 unfolding table
 no_attributes End r ts d e = refl
 no_attributes (Again (Node k x) y) r ts d e =
-    absurd (never (sym (ap (sees begins_lifetimes) (append_assoc (flat x) (flat y) ts)
+    absurd (false≢true (sym (ap (sees begins_lifetimes) (append_assoc (flat x) (flat y) ts)
     ∙ attribute_first x (flat y ++ r) (flat y ++ ts) (subst (λ l. Derives x (table l) (flat y ++ r)) d.1.0 d.1.1))
     ∙ e))
 no_attributes (Again _ y) r ts d e = absurd d.1
@@ -115,7 +115,7 @@ unfolding front is_bool is_reserved
 for_told us p k h e = go (lifetimes_stand us) refl
   where
     no_loop : Some k ≡ Some ExprForLoop → ⊥
-    no_loop f = never (sym h ∙ same k f)
+    no_loop f = false≢true (sym h ∙ same k f)
       where
         same : (j : Kind) → Some j ≡ Some ExprForLoop → is_loop j ≡ true
         same j f = cc
@@ -193,7 +193,7 @@ of_typed f k e = cc
 
 not_that : (k : Kind) (b : Bool) (o : Option Kind) → is_typed k ≡ false → cond b (Some k) o ≡ Some ExprTypedClosure
     → o ≡ Some ExprTypedClosure
-not_that k true o h e = absurd (never (sym h ∙ of_typed is_typed k e))
+not_that k true o h e = absurd (false≢true (sym h ∙ of_typed is_typed k e))
 not_that k false o h e = e
 
 that : (b : Bool) (o : Option Kind) → (o ≡ Some ExprTypedClosure → ⊥)
@@ -210,7 +210,7 @@ typed_seen : (p : Position) (ts : List Token) → front p ts ≡ Some ExprTypedC
 unfolding front
 typed_seen p ts e =
     that (sees typed_closure_stands ts) _
-    (λ f. never (first_passes is_other (others (fronts p)) ts ExprTypedClosure refl f))
+    (λ f. false≢true (first_passes is_other (others (fronts p)) ts ExprTypedClosure refl f))
     (not_that ExprWhile (sees (labelled then at "while") ts) _ refl
     (not_that ExprLoop (sees (labelled then at "loop") ts) _ refl
     (not_that ExprBlock (sees (labelled then brace) ts) _ refl
@@ -221,7 +221,7 @@ typed_seen p ts e =
 not_no : (b : Bool) (ts : List Token) (l : Look)
     → seen (behind (cond (seen (cond b None (Some ts))) None (Some ts)) l) ≡ true → sees l ts ≡ true
 not_no true ts l e = e
-not_no false ts l e = absurd (never e)
+not_no false ts l e = absurd (false≢true e)
 
 quiet_front : (x : Tree) (g : Gram) (r us ts : List Token) → Derives x g r → IsQuiet 124 is_calm false g ≡ true
     → past_bar ((flat x ++ us) ++ ts) ≡ past_bar (us ++ ts)
@@ -254,7 +254,7 @@ bars_behind _ r ts d = absurd d
 
 arrow_behind : (o : Option (List Token)) (ts : List Token) → behind o past_bar ≡ Some ts
     → seen (behind o (past_bar then marks "->")) ≡ true → sees (marks "->") ts ≡ true
-arrow_behind None ts e f = absurd (never f)
+arrow_behind None ts e f = absurd (false≢true f)
 arrow_behind (Some us) ts e f = sym (ap (λ o. seen (behind o (marks "->"))) e) ∙ f
 
 -- it begins its type, also in normal form
@@ -267,7 +267,7 @@ type_in (First (Pair (AMark c cs i) x)) r d e =
     ∙ ap (λ bs. sees (marks "->") (signs 45 bs Apart ++ flat (normal (kept x)))) d.1.0.1
 type_in (First (Pair _ x)) r d e = absurd d.1.0
 type_in (First _) r d e = absurd d.1
-type_in (Second Nil) r d e = absurd (never (sym d.0 ∙ e))
+type_in (Second Nil) r d e = absurd (false≢true (sym d.0 ∙ e))
 type_in (Second _) r d e = absurd d.1
 type_in _ r d e = absurd d
 

@@ -3,6 +3,7 @@
 use Rattle.std.proofs.Common.{◌≡◌, ℕ, List, [], ◌∷◌, ◌++◌, refl, sym, ap, ◌∙◌, subst, append_assoc, ⊎_elim}
 use Rattle.std.specs.Prelude.{Bool, true, false, ◌&&◌, not, cond, codes, Option, Some, None}
 use Rattle.std.proofs.lemmas.Slice.Eq.{bytes_eq-Decides}
+use Rattle.std.proofs.lemmas.Bool.{false≢true}
 use Prim.Native.String.{String}
 use Rattle.proc_macro2.specs.Token.{Token, Ident}
 use Rattle.proc_macro2.specs.declared.delimiter.Delimiter.TheVariants.{Parenthesis}
@@ -13,7 +14,7 @@ use Rattle.syn_grammar.specs.Name.{the_polarity, the_pub, the_safety, the_self, 
 use Rattle.syn_grammar.specs.Words.{is_ident, is_name, is_path_keyword, is_reserved, is_string, same_text}
 use Rattle.syn_grammar.specs.Tree.{Tree, AMark, AWord, Called, First, Nil, Node, Pair, Second, Verbatim, flat}
 use Rattle.syn_grammar.specs.Part.{choice, found, has, is_some, or_else}
-use Rattle.syn_grammar.specs.Gram.{Gram, Verdict, AsRaw, alt, ref, never as none}
+use Rattle.syn_grammar.specs.Gram.{Gram, Verdict, AsRaw, alt, ref, false≢true as none}
 use Rattle.syn_grammar.specs.Look.{Look, ◌then◌, ◌or◌, a_group, a_path, a_quoted, a_word, all_attributes, an_ident}
 use Rattle.syn_grammar.specs.Look.{behind, first_seen}
 use Rattle.syn_grammar.specs.Look.{maybe, no, repeatedly, seen, sees, the_word}
@@ -26,7 +27,6 @@ use Rattle.syn_grammar.specs.Types.{kept_if}
 use Rattle.syn_grammar.specs.Table.{table}
 use Rattle.syn_grammar.specs.Derives.{Derives}
 use Rattle.syn_grammar.specs.Kept.{is_there}
-use Rattle.expressions_back.proofs.Bools.{never}
 use Rattle.grammar_back.specs.Covered.{is_begun, is_macro_item, is_named_macro, is_no_macro, is_statement_item}
 use Rattle.grammar_back.proofs.Choices.{both_same, both_true}
 use Rattle.grammar_back.proofs.ItemPlaces.{word_front}
@@ -63,7 +63,7 @@ Off t = (ts : List Token) → sees t ts ≡ true → sees macro_item_stands ts �
 off_word : (w : List ℕ) → is_name w ≡ false → Off (the_word w)
 off_word w n ts e h =
     let (us, i) = word_front w ts e in
-    never (sym (no_path w us (marks "!" then a_named) n) ∙ sym (ap (sees macro_item_stands) i) ∙ h)
+    false≢true (sym (no_path w us (marks "!" then a_named) n) ∙ sym (ap (sees macro_item_stands) i) ∙ h)
 
 off_then : (t l : Look) → Off t → Off (t then l)
 off_then t l f ts e h = f ts (front_seen (t ts) l e) h
@@ -89,11 +89,11 @@ off_two w p ts e h =
       where
         pass : (b : Bool) → seen (behind (cond b (Some us) None) (a_word p)) ≡ true → sees (a_word p) us ≡ true
         pass true f = f
-        pass false f = absurd (never f)
+        pass false f = absurd (false≢true f)
 
     go : (us : List Token) → sees (a_word p) us ≡ true → sees macro_item_stands (Ident w ∷ us) ≡ true → ⊥
-    go (Ident v ∷ us) f g = never (sym (no_bang w v us a_named) ∙ g)
-    go _ f g = never f
+    go (Ident v ∷ us) f g = false≢true (sym (no_bang w v us a_named) ∙ g)
+    go _ f g = false≢true f
 
 -- An impl has a word in front, or two.
 abbrev Worded : List Token → Type 0
@@ -116,11 +116,11 @@ impl_words : (x w : Tree) (r : List Token) → Worded (flat w ++ r)
     → Derives x (optional (at "default") (the_default ∶ keyword "default")) (flat w ++ r)
     → sees macro_item_stands ((flat x ++ flat w) ++ r) ≡ true → ⊥
 impl_words (First (Called m (AWord cs))) w r o d e =
-    never (sym (no_bang cs o.0 o.1 a_named) ∙ sym (ap (λ ts. sees macro_item_stands (Ident cs ∷ ts)) o.2) ∙ e)
+    false≢true (sym (no_bang cs o.0 o.1 a_named) ∙ sym (ap (λ ts. sees macro_item_stands (Ident cs ∷ ts)) o.2) ∙ e)
 impl_words (First (Called m _)) w r o d e = d.1.1
 impl_words (First _) w r o d e = d.1
 impl_words (Second Nil) w r o d e =
-    never (sym (no_path o.0 o.1 (marks "!" then a_named) o.3) ∙ sym (ap (sees macro_item_stands) o.2) ∙ e)
+    false≢true (sym (no_path o.0 o.1 (marks "!" then a_named) o.3) ∙ sym (ap (sees macro_item_stands) o.2) ∙ e)
 impl_words (Second _) w r o d e = d.1
 impl_words _ w r o d e = d
 
@@ -168,7 +168,7 @@ macro_in : (y : Tree) (r : List Token) → Derives y (table (ItemMacro InFile)) 
 unfolding table
 macro_in (Pair q (Pair b (Pair (First n) g))) r d e = refl
 macro_in (Pair (Node j x) (Pair (AMark c cs i) (Pair (Second Nil) g))) r d e =
-    absurd (never (sym d.1.1.0.0
+    absurd (false≢true (sym d.1.1.0.0
     ∙ sym (call_behind x c cs i (flat g) r _ d.1.0.0 d.1.0.1
     (subst (λ l. Derives x (table l) ((flat (AMark c cs i) ++ flat g) ++ r)) d.0.0 d.0.1) a_named) ∙ e))
 macro_in (Pair (Node j x) (Pair _ (Pair (Second Nil) g))) r d e = absurd d.1.0
@@ -236,7 +236,7 @@ visible_off : (v : Tree) (r : List Token) → Derives v (table Visibility) r →
     → (not (is_there v) ≡ true) × (flat v ≡ [])
 unfolding table is_name is_path_keyword is_reserved
 visible_off (First (Pair (Called m (AWord cs)) y)) r d e =
-    absurd (never (sym (no_path cs (flat y ++ r) (marks "!" then a_named) (unnamed (codes "pub") cs refl d.1.0.1)) ∙ e))
+    absurd (false≢true (sym (no_path cs (flat y ++ r) (marks "!" then a_named) (unnamed (codes "pub") cs refl d.1.0.1)) ∙ e))
 visible_off (First (Pair (Called m _) y)) r d e = absurd d.1.0.1
 visible_off (First (Pair _ y)) r d e = absurd d.1.0
 visible_off (First _) r d e = absurd d.1
@@ -267,13 +267,13 @@ no_raw_macro v _ e = refl
 
 macro_named : (z : Tree) → is_named_macro z ≡ true → is_no_macro z ≡ false
 macro_named (Node (ItemMacro p) y) e = refl
-macro_named _ e = absurd (never e)
+macro_named _ e = absurd (false≢true e)
 
 raw_unnamed : (x : Tree) (r : List Token) → Derives x whole_item r → item_verdict InFile x ≡ AsRaw
     → is_macro_item (Node AnItem (First x)) ≡ true → ⊥
 raw_unnamed (Pair (Node l p) (Pair (Called n (Node k v)) (Called m i))) r d e h =
     let c = both_true (not (is_there v)) (is_named_macro (choice i)) h in
-    never (sym (macro_named (choice i) c.1)
+    false≢true (sym (macro_named (choice i) c.1)
     ∙ no_raw_macro (has the_pub v) (choice i) (of_whole l p n k v m i AsRaw d.1.0.0 d.1.1.0 d.1.0.1.0 e))
 raw_unnamed (Pair (Node l p) (Pair (Called n (Node k v)) _)) r d e h = d.1.1
 raw_unnamed (Pair (Node l p) (Pair (Called n _) i)) r d e h = d.1.0.1
@@ -344,15 +344,15 @@ has_behind n x y g r d l e = sym (ap (λ o. is_some (or_else o (found n y))) (no
 both_there : (d c y : Tree) (r : List Token) → Derives (Pair d (Pair c y)) (default_front ▸ const_front ▸ past_const) r
     → sees item_stands (flat (Pair d (Pair c y)) ++ r) ≡ true → has the_default d ≡ true → has the_const c ≡ true → ⊥
 both_there (First (Called m (AWord cs))) (First (Called n (AWord ds))) y r d e f g =
-    never (sym (words_seen cs ds (flat y ++ r) d.0.1.1 d.1.0.1.1) ∙ e)
+    false≢true (sym (words_seen cs ds (flat y ++ r) d.0.1.1 d.1.0.1.1) ∙ e)
 both_there (First (Called m (AWord cs))) (First (Called n _)) y r d e f g = d.1.0.1.1
 both_there (First (Called m (AWord cs))) (First _) y r d e f g = d.1.0.1
-both_there (First (Called m (AWord cs))) (Second Nil) y r d e f g = never g
+both_there (First (Called m (AWord cs))) (Second Nil) y r d e f g = false≢true g
 both_there (First (Called m (AWord cs))) (Second _) y r d e f g = d.1.0.1
 both_there (First (Called m (AWord cs))) _ y r d e f g = d.1.0
 both_there (First (Called m _)) c y r d e f g = d.0.1.1
 both_there (First _) c y r d e f g = d.0.1
-both_there (Second Nil) c y r d e f g = never f
+both_there (Second Nil) c y r d e f g = false≢true f
 both_there (Second _) c y r d e f g = d.0.1
 both_there _ c y r d e f g = d.0
 
@@ -396,7 +396,7 @@ chosen_begun _ (alt t a b) r v d c e s = absurd d
 chosen_begun (Node k y) (ref l) r v d c e s = node_begun k y r v d.1 e s
 chosen_begun _ (ref l) r v d c e s = absurd d
 chosen_begun _ none r v d c e s = absurd d
-chosen_begun x _ r v d c e s = absurd (never c)
+chosen_begun x _ r v d c e s = absurd (false≢true c)
 
 -- a raw item among statements
 raw_in : (x : Tree) (r : List Token) → Derives x whole_item r → item_verdict InFile x ≡ AsRaw

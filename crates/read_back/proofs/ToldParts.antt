@@ -1,6 +1,7 @@
 -- The parts of an item among others: its visibility, and its form.
 use Rattle.std.proofs.Common.{◌≡◌, List, [], refl, sym, ap, ◌∙◌}
 use Rattle.std.specs.Prelude.{false, cond, Some, None}
+use Rattle.std.proofs.lemmas.Bool.{false≢true}
 use Rattle.proc_macro2.specs.Token.{Token}
 use Rattle.syn_grammar.specs.Kind.{Kind, InFile, Visibility}
 use Rattle.syn_grammar.specs.Name.{Part, same_part, the_item, the_pub, the_visibility}
@@ -10,7 +11,6 @@ use Rattle.syn_grammar.specs.Gram.{Verdict}
 use Rattle.syn_grammar.specs.Table.{table}
 use Rattle.syn_grammar.specs.Derives.{Derives}
 use Rattle.syn_grammar.specs.Verdicts.{form_in_file, is_public, item_verdict}
-use Rattle.expressions_back.proofs.Bools.{never}
 
 abbrev pub parts : Kind → Tree → Part → Kind → Tree → Part → Tree → Tree
 parts l p n k v m i = Pair (Node l p) (Pair (Called n (Node k v)) (Called m i))
@@ -39,7 +39,7 @@ of_whole l p n k v m i w e f g h =
 pub public_none : (v : Tree) (r : List Token) → Derives v (table Visibility) r → has the_pub v ≡ false → flat v ≡ []
 unfolding table same_part
 public_none (First (Pair (Called m z) y)) r d e =
-    absurd (never (sym e ∙ ap (λ j. is_some (or_else (cond (same_part j the_pub) (Some z) None)
+    absurd (false≢true (sym e ∙ ap (λ j. is_some (or_else (cond (same_part j the_pub) (Some z) None)
     (found the_pub y))) d.1.0.0))
 public_none (First (Pair _ y)) r d e = absurd d.1.0
 public_none (First _) r d e = absurd d.1

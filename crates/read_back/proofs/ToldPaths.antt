@@ -2,6 +2,7 @@
 use Rattle.std.proofs.Common.{◌≡◌, ℕ, zero, suc, List, [], ◌∷◌, ◌++◌, length, refl, sym, ap, ◌∙◌, subst, append_assoc}
 use Rattle.std.proofs.Common.{inl, inr}
 use Rattle.std.specs.Prelude.{true, cond, Some, None}
+use Rattle.std.proofs.lemmas.Bool.{false≢true}
 use Rattle.proc_macro2.specs.Token.{Token, Ident, Punct}
 use Rattle.rust_leaf.specs.declared.punct.Spacing.{Spacing}
 use Rattle.rust_leaf.specs.declared.punct.Spacing.TheVariants.{Alone as Apart, Joint}
@@ -12,7 +13,6 @@ use Rattle.syn_grammar.specs.Look.{Look, ◌then◌, a_path, as_far, behind, fir
 use Rattle.syn_grammar.specs.Say.{marks}
 use Rattle.syn_grammar.specs.Table.{table}
 use Rattle.syn_grammar.specs.Derives.{Derives}
-use Rattle.expressions_back.proofs.Bools.{never}
 use Rattle.read_back.proofs.Paths.{one_more, is_named}
 
 -- behind a name: further names, as many as there are turns, and then a !
@@ -86,7 +86,7 @@ segments_named (First (Pair (AWord cs) (Second _))) j vs r d = absurd d.1.1.1
 segments_named (First (Pair (AWord cs) _)) j vs r d = absurd d.1.1
 segments_named (First (Pair _ y)) j vs r d = absurd d.1.0
 segments_named (First _) j vs r d = absurd d.1
-segments_named (Second (Pair (AWord cs) (First x))) j vs r d = absurd (never d.1.1.0)
+segments_named (Second (Pair (AWord cs) (First x))) j vs r d = absurd (false≢true d.1.1.0)
 segments_named (Second (Pair (AWord cs) (Second (First (Pair (AMark c ms i) (Node k z)))))) j vs r d =
     a_named j vs cs _ (is_named cs (inl d.1.0))
     (behind_colons j vs c ms i z _ d.1.1.1.1.0.0 d.1.1.1.1.0.1
@@ -97,7 +97,7 @@ segments_named (Second (Pair (AWord cs) (Second (First _)))) j vs r d = absurd d
 segments_named (Second (Pair (AWord cs) (Second (Second (Second Nil))))) j vs r d =
     a_named j vs cs _ (is_named cs (inl d.1.0)) (chain_end j vs)
 segments_named (Second (Pair (AWord cs) (Second (Second (Second _))))) j vs r d = absurd d.1.1.1.1.1
-segments_named (Second (Pair (AWord cs) (Second (Second (First y))))) j vs r d = absurd (never d.1.1.1.1.0)
+segments_named (Second (Pair (AWord cs) (Second (Second (First y))))) j vs r d = absurd (false≢true d.1.1.1.1.0)
 segments_named (Second (Pair (AWord cs) (Second (Second _)))) j vs r d = absurd d.1.1.1.1
 segments_named (Second (Pair (AWord cs) (Second _))) j vs r d = absurd d.1.1.1
 segments_named (Second (Pair (AWord cs) _)) j vs r d = absurd d.1.1

@@ -4,6 +4,7 @@ use Rattle.std.proofs.Common.{◌≡◌, ℕ, List, [], ◌∷◌, ◌++◌, ref
 use Rattle.std.specs.Prelude.{Bool, true, false, ◌&&◌, ◌||◌, ◌==◌, not, cond, codes, Some, None}
 use Rattle.std.proofs.lemmas.List.{append-nil}
 use Rattle.std.proofs.lemmas.Slice.Eq.{bytes_eq-Decides}
+use Rattle.std.proofs.lemmas.Bool.{false≢true}
 use Rattle.proc_macro2.specs.Token.{Token, Ident, Punct}
 use Rattle.rust_leaf.specs.declared.punct.Spacing.{Spacing}
 use Rattle.rust_leaf.specs.declared.punct.Spacing.TheVariants.{Alone as Apart, Joint}
@@ -21,7 +22,7 @@ use Rattle.syn_grammar.specs.Words.{same_text}
 use Rattle.syn_grammar.specs.Tree.{Tree, ALiteral, AMark, AWord, Alone, Back, Called, End, First, Front, Group, Infix}
 use Rattle.syn_grammar.specs.Tree.{Nil, Node, Pair, Second, Verbatim, marks as signs, flat}
 use Rattle.syn_grammar.specs.Look.{first_seen, seen, sees}
-use Rattle.syn_grammar.specs.Gram.{Gram, AsRaw, alt, mark, never as none, ref}
+use Rattle.syn_grammar.specs.Gram.{Gram, AsRaw, alt, mark, false≢true as none, ref}
 use Rattle.syn_grammar.specs.Types.{kept_if}
 use Rattle.syn_grammar.specs.Say.{marks}
 use Rattle.syn_grammar.specs.Statements.{item_stands}
@@ -37,7 +38,6 @@ use Rattle.binding_laws.proofs.Begun.{a_minus, a_less, a_bar, dots, colons, begu
 use Rattle.binding_laws.proofs.Leads as Leads
 use Rattle.binding_laws.proofs.Shells as Shells
 use Rattle.binding_laws.proofs.Sights.{backs_are, is_back}
-use Rattle.expressions_back.proofs.Bools.{never}
 use Rattle.grammar_back.specs.Covered.{is_plain_start, no_word, soft_words}
 use Rattle.grammar_back.proofs.Choices.{both_true}
 
@@ -68,8 +68,8 @@ plain_word cs ts e = go (is_among soft_words cs) (same_text (codes "crate") cs) 
   where
     go : (a b : Bool) → (a || b) ≡ false → ((not a || no_word ts) && (not b || sees (marks "::") ts)) ≡ true
     go false false e = refl
-    go true b e = absurd (never (sym e))
-    go false true e = absurd (never (sym e))
+    go true b e = absurd (false≢true (sym e))
+    go false true e = absurd (false≢true (sym e))
 
 -- a word that is not crate, before others than a word; and any word before ::
 soft_word : (cs : List ℕ) (ts : List Token) → same_text (codes "crate") cs ≡ false → no_word ts ≡ true
@@ -79,8 +79,8 @@ soft_word cs ts e f = go (is_among soft_words cs) (same_text (codes "crate") cs)
     go : (a b : Bool) → b ≡ false → (c : Bool) → c ≡ true → ((not a || c) && (not b || sees (marks "::") ts)) ≡ true
     go true false e true f = refl
     go false false e true f = refl
-    go a true e c f = absurd (never (sym e))
-    go a b e false f = absurd (never f)
+    go a true e c f = absurd (false≢true (sym e))
+    go a b e false f = absurd (false≢true f)
 
 colon_word : (cs : List ℕ) (i : Spacing) (ts : List Token)
     → is_plain_start (Ident cs ∷ Punct 58 Joint ∷ Punct 58 i ∷ ts) ≡ true
@@ -124,7 +124,7 @@ special_named cs us k h e =
     go false false false true f g i j h =
         named_or _ k (subst (λ w. front InStatement (Ident w ∷ us) ≡ Some k)
         (sym ((bytes_eq-Decides (codes "crate") cs).0 j)) e)
-    go false false false false f g i j h = absurd (never h)
+    go false false false false f g i j h = absurd (false≢true h)
 
 not_special : (b : Bool) (h : b ≡ true → ⊥) → b ≡ false
 not_special true h = absurd (h refl)
@@ -139,7 +139,7 @@ firm_begun _ _ (a_literal cs) h n vs = refl
 firm_begun _ _ (an_opening d) h n vs = refl
 firm_begun _ _ (a_lifetime cs) h n vs = refl
 firm_begun _ _ (a_bang i) h n vs = refl
-firm_begun _ _ (a_hash i) h n vs = absurd (never (sym h))
+firm_begun _ _ (a_hash i) h n vs = absurd (false≢true (sym h))
 firm_begun _ _ (an_and i) h n vs = refl
 firm_begun _ _ (a_star i) h n vs = refl
 firm_begun _ _ (a_minus i) h n vs = refl
@@ -153,7 +153,7 @@ firm_part : (k : Kind) (y : Tree) (r : List Token) → is_named k ≡ false → 
 firm_part k y r n f d h =
     firm_begun (flat y ++ r) (flat (normal (kept y))) (begun InStatement k y r (flat y ++ r) f d) h
     (λ cs us e. not_special (is_special cs)
-    (λ s. never (sym n ∙ special_named cs us k s (sym (ap (front InStatement) e) ∙ f))))
+    (λ s. false≢true (sym n ∙ special_named cs us k s (sym (ap (front InStatement) e) ∙ f))))
 
 -- A path: behind crate alone stands ::, since an item would be seen else.
 crate_item : (cs : List ℕ) (r : List Token) → sees (marks "::") r ≡ false → sees item_stands (Ident cs ∷ r) ≡ false
@@ -166,7 +166,7 @@ crate_item cs r e f = go (same_text (codes "crate") cs) refl
     go : (b : Bool) → same_text (codes "crate") cs ≡ b → b ≡ false
     go false i = refl
     go true i =
-        absurd (never (sym (subst (λ w. sees item_stands (Ident w ∷ r) ≡ false)
+        absurd (false≢true (sym (subst (λ w. sees item_stands (Ident w ∷ r) ≡ false)
         (sym ((bytes_eq-Decides (codes "crate") cs).0 i)) f) ∙ seen_there))
 
 plain_crate : (cs : List ℕ) → is_plain_name cs ≡ true → same_text (codes "crate") cs ≡ false
@@ -175,7 +175,7 @@ plain_crate cs e = go (same_text (codes "crate") cs) refl
   where
     go : (b : Bool) → same_text (codes "crate") cs ≡ b → b ≡ false
     go false i = refl
-    go true i = absurd (never (subst (λ w. is_plain_name w ≡ true) (sym ((bytes_eq-Decides (codes "crate") cs).0 i)) e))
+    go true i = absurd (false≢true (subst (λ w. is_plain_name w ≡ true) (sym ((bytes_eq-Decides (codes "crate") cs).0 i)) e))
 
 -- what stands behind a name in its path begins with no word
 colons_behind : (c : ℕ) (cs : List ℕ) (ts : List Token) → c ≡ 58 → cs ≡ 58 ∷ []
@@ -344,7 +344,7 @@ marks_lead (alt t a b) e =
     Leads.alt_leads (λ ts us. Behind us) behind_more (marks_lead a h.0) (marks_lead b h.1)
 marks_lead (mark c cs) e = Leads.mark_leads (λ ts us. Behind us) behind_more (λ i r. marks_behind c cs)
 marks_lead none e = Leads.never_leads (λ ts us. Behind us) behind_more
-marks_lead _ e = absurd (never e)
+marks_lead _ e = absurd (false≢true e)
 
 fields_lead : Leading (ref FieldValues)
 unfolding table held passed
@@ -383,10 +383,10 @@ back_leads ExprStruct e f = fields_lead
 back_leads ExprCall e f = Leads.group_leads (λ ts us. Behind us) behind_more (λ r s vs. refl)
 back_leads ExprIndex e f = Leads.group_leads (λ ts us. Behind us) behind_more (λ r s vs. refl)
 back_leads ExprTry e f = marks_lead _ refl
-back_leads ExprField e f = absurd (never (sym f))
-back_leads ExprMethodCall e f = absurd (never (sym f))
-back_leads ExprAwait e f = absurd (never (sym f))
-back_leads _ e f = absurd (never e)
+back_leads ExprField e f = absurd (false≢true (sym f))
+back_leads ExprMethodCall e f = absurd (false≢true (sym f))
+back_leads ExprAwait e f = absurd (false≢true (sym f))
+back_leads _ e f = absurd (false≢true e)
 
 part_behind : (k : Kind) (y : Tree) (r ts : List Token) → back InStatement ts ≡ Some k → Shells.is_dot k ≡ false
     → Derives y (table k) r → Behind (flat (normal (kept y)))

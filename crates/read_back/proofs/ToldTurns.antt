@@ -2,6 +2,7 @@
 use Rattle.std.proofs.Common.{◌≡◌, ℕ, List, [], ◌∷◌, ◌++◌, length, refl, sym, ap, ◌∙◌, subst, append_assoc}
 use Rattle.std.specs.Prelude.{Bool, true, false, ◌==◌, cond, Some, None}
 use Rattle.std.proofs.lemmas.Bool.{eqb-true}
+use Rattle.std.proofs.lemmas.Bool.{false≢true}
 use Rattle.proc_macro2.specs.Token.{Token, Punct}
 use Rattle.proc_macro2.specs.declared.delimiter.Delimiter.TheVariants.{Bracket}
 use Rattle.rust_leaf.specs.declared.punct.Spacing.{Spacing}
@@ -20,7 +21,6 @@ use Rattle.syn_grammar.specs.Kept.{kept}
 use Rattle.syn_grammar.specs.Normal.{normal}
 use Rattle.binding_laws.proofs.Begun.{Begun, a_word, a_literal, an_opening, a_lifetime, a_bang, a_hash, an_and, a_star}
 use Rattle.binding_laws.proofs.Begun.{a_minus, a_less, a_bar, dots, colons, begun}
-use Rattle.expressions_back.proofs.Bools.{never}
 use Rattle.grammar_back.proofs.Choices.{none_of}
 use Rattle.grammar_back.proofs.Statements.{a_turn}
 use Rattle.read_back.proofs.ToldBraces.{goes_there, past_no}
@@ -97,18 +97,18 @@ path_free l (Punct c i ∷ ts) e = go (c == 58) refl i e
     go : (b : Bool) → (c == 58) ≡ b → (j : Spacing) → sees (a_path then l) (Punct c j ∷ ts) ≡ true
         → Free (Punct c j ∷ ts)
     go true h j e = one_free 58 c j ts h refl refl
-    go false h Apart e = absurd (never e)
+    go false h Apart e = absurd (false≢true e)
     go false h Joint e =
-        absurd (never (sym (ap (λ b. seen (behind (behind (first_seen (cond b ((past_marks 58 []) ts) None)
+        absurd (false≢true (sym (ap (λ b. seen (behind (behind (first_seen (cond b ((past_marks 58 []) ts) None)
         (Some (Punct c Joint ∷ ts))) (a_name then repeatedly (marks "::" then a_name))) l)) h) ∙ e))
 path_free l _ e = refl
 
 let_free : (ts : List Token) → sees (at "let") ts ≡ true → Free ts
-let_free (Punct c i ∷ ts) e = absurd (never e)
+let_free (Punct c i ∷ ts) e = absurd (false≢true e)
 let_free _ e = refl
 
 item_free : (ts : List Token) → sees item_stands ts ≡ true → Free ts
-item_free (Punct c i ∷ ts) e = absurd (never e)
+item_free (Punct c i ∷ ts) e = absurd (false≢true e)
 item_free _ e = refl
 
 -- attributes in front
@@ -117,7 +117,7 @@ hash_free (Punct c i ∷ ts) e = go (c == 35) refl e
   where
     go : (b : Bool) → (c == 35) ≡ b → seen (cond b (Some ts) None) ≡ true → Free (Punct c i ∷ ts)
     go true h e = one_free 35 c i ts h refl refl
-    go false h e = absurd (never e)
+    go false h e = absurd (false≢true e)
 hash_free _ e = refl
 
 front_in : (z y : Tree) (r : List Token) → Derives z (table OuterAttributes) (flat y ++ r) → Free (flat y ++ r)

@@ -1,6 +1,7 @@
 -- An expression that was read is printed where the own parts of its forms are.
 use Rattle.std.proofs.Common.{◌≡◌, List, [], ◌∷◌, ◌++◌, refl, sym, ap, ◌∙◌, subst, append_assoc}
 use Rattle.std.specs.Prelude.{Bool, true, false, not, ◌&&◌, cond, Some}
+use Rattle.std.proofs.lemmas.Bool.{false≢true}
 use Rattle.proc_macro2.specs.Token.{Token, Opens}
 use Rattle.proc_macro2.specs.declared.delimiter.Delimiter.TheVariants.{Parenthesis}
 use Rattle.syn_grammar.specs.Kind.{Kind, Position, Plain, InCondition, ExprField}
@@ -29,7 +30,6 @@ use Rattle.syn_grammar.proofs.Whole.{and_true}
 use Rattle.binding_laws.proofs.Shells.{is_dot, each_dot, undotted}
 use Rattle.expressions_back.specs.Behind.{is_attributed}
 use Rattle.expressions_back.specs.Formed.{is_attributed_form}
-use Rattle.expressions_back.proofs.Bools.{never}
 use Rattle.binding_laws.proofs.Begun.{first_passes}
 use Rattle.expressions_back.proofs.Opened.{nothing_right, fixed_right, paren_right}
 use Rattle.expressions_back.proofs.Stands.{struct_is}
@@ -103,10 +103,10 @@ form_meant ExprAttributed y e f = tt
 form_meant ExprCast y e f = tt
 form_meant ExprClosure y e f = tt
 form_meant ExprTypedClosure y e f = tt
-form_meant ExprField y e f = absurd (never (sym f))
-form_meant ExprMethodCall y e f = absurd (never (sym f))
-form_meant ExprAwait y e f = absurd (never (sym f))
-form_meant _ y e f = absurd (never e)
+form_meant ExprField y e f = absurd (false≢true (sym f))
+form_meant ExprMethodCall y e f = absurd (false≢true (sym f))
+form_meant ExprAwait y e f = absurd (false≢true (sym f))
+form_meant _ y e f = absurd (false≢true e)
 
 of_node : (k : Kind) (t z : Tree) → ((x : Tree) → forget k x ≡ x) → Fits t (ref k) → kept t ≡ Node (held k) z → Own k z
 of_node k (Node j x) z u f e = record {
@@ -237,13 +237,13 @@ has_one p k r h = go (may_lack k) refl
 remade_path : (x : Tree) (o : Owns x) → is_path_form x ≡ true → is_path_form (remade x o) ≡ true
 unfolding remade
 remade_path (Alone ExprPath y) o e = refl
-remade_path (Alone _ y) o e = absurd (never e)
-remade_path _ o e = absurd (never e)
+remade_path (Alone _ y) o e = absurd (false≢true e)
+remade_path _ o e = absurd (false≢true e)
 
 in_path : (k : Kind) (x : Tree) (o : Owns x) → is_path_form x ≡ true
     → is_path_form (parens_if (goes_in k x) (remade x o)) ≡ true
 in_path k (Alone j y) o e = remade_path (Alone j y) o e
-in_path k _ o e = absurd (never e)
+in_path k _ o e = absurd (false≢true e)
 
 left_path : (p : Position) (k : Kind) (l : Tree) → is_struct k ≡ true → IsLeft p l k → is_path_form l ≡ true
 unfolding stands_left
@@ -311,7 +311,7 @@ hash_first p ts e = go (sees (marks "#") ts) refl
     go : (b : Bool) → sees (marks "#") ts ≡ b → b ≡ true
     go true f = refl
     go false f =
-        absurd (never (first_passes (λ k. not (is_attributed k)) (others (fronts p)) ts ExprAttributed refl
+        absurd (false≢true (first_passes (λ k. not (is_attributed k)) (others (fronts p)) ts ExprAttributed refl
         (sym (ap (λ b. cond b (Some ExprAttributed) (first_form (others (fronts p)) ts)) f) ∙ e)))
 
 pub none_more : (z : Tree) (t : List Token → Bool) (g : Gram) (r : List Token) → Derives z (star t g) r → t r ≡ false
@@ -344,7 +344,7 @@ none_first : (x : Tree) (o : Owns x) (p : Position) (r : List Token) → Bound p
 unfolding remade
 none_first (Alone k z) o p r d e = refl
 none_first (Front ExprAttributed z x) o p r d e =
-    absurd (never (sym e ∙ ap (sees (marks "#")) (append_assoc (flat z) (flat x) r) ∙ hash_first p _ d.0))
+    absurd (false≢true (sym e ∙ ap (sees (marks "#")) (append_assoc (flat z) (flat x) r) ∙ hash_first p _ d.0))
 none_first (Front _ z x) o p r d e = refl
 none_first (Back l k z) o p r d e =
     dotted_plain k (parens_if (goes_in k l) (remade l o.0)) o.1.tree o.1.fits
