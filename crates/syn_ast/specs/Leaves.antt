@@ -4,6 +4,7 @@ use Rattle.std.specs.Prelude.{List, Option, Some, None, map}
 use Rattle.rust_leaf.specs.Leaf.{ident_text, literal_text}
 use Rattle.rust_leaf.specs.declared.ident.Ident.{Ident}
 use Rattle.rust_leaf.specs.declared.literal.Literal.{Literal}
+use Rattle.syn_grammar.specs.Name.{Part}
 use Rattle.syn_grammar.specs.Tree as t
 use Rattle.syn_grammar.specs.Tree.{Tree}
 use Rattle.gram_table.specs.Ops.{separator_of}
@@ -53,6 +54,10 @@ node_tree x = x.now
 abbrev pub optional_tree : {A : Type 0} → (A → Tree) → Option A → Tree
 optional_tree f None = t.Second t.Nil
 optional_tree f (Some x) = t.First (f x)
+
+-- a part by its name
+abbrev pub part_tree : {A : Type 0} → Part → (A → Tree) → A → Tree
+part_tree m f x = t.Called m (f x)
 
 -- the elements that the separator follows, each with how that is spaced, and the last one, if none follows it
 abbrev pub list_tree : Elements → Tree

@@ -9,10 +9,10 @@ ghost use Rattle.syn_grammar.specs.Gram as g;
 ghost use Rattle.syn_grammar.specs.Kind as k;
 ghost use Rattle.syn_grammar.specs.Name as n;
 
-use crate::joined;
 use crate::leaf::{Delimiters, Mark};
 use crate::list::Turns;
 use crate::take::{self, Choice, Choice3};
+use crate::{inside, joined};
 use gram_table::kind::Kind;
 use gram_table::part::Part;
 use gram_tree::tree::Tree;
@@ -32,7 +32,7 @@ impl<'t, 'a> OuterAttributes<'t, 'a> {
         ensures { MatchOption result (IsShaped tree.now (g.ref k.OuterAttributes) → ⊥)
             (λ x. tree.now ≡ outer_attributes x) }
     {
-        let Some((Kind::OuterAttributes, inner)) = take::node(tree) else {
+        let Some(inner) = inside::node(Kind::OuterAttributes, tree) else {
             return None;
         };
         let Some(attrs) = take::each_turn(inner) else {
@@ -56,7 +56,7 @@ impl<'t, 'a> InnerAttributes<'t, 'a> {
         ensures { MatchOption result (IsShaped tree.now (g.ref k.InnerAttributes) → ⊥)
             (λ x. tree.now ≡ inner_attributes x) }
     {
-        let Some((Kind::InnerAttributes, inner)) = take::node(tree) else {
+        let Some(inner) = inside::node(Kind::InnerAttributes, tree) else {
             return None;
         };
         let Some(attrs) = take::each_turn(inner) else {
@@ -94,10 +94,7 @@ impl<'t, 'a> Attribute<'t, 'a> {
     fn outer(tree: &'t Tree<'a>) -> Option<Attribute<'t, 'a>>
         ensures { MatchOption result (IsShaped tree.now (g.ref k.OuterAttribute) → ⊥) (λ x. tree.now ≡ attribute x) }
     {
-        let Some((Kind::OuterAttribute, inner)) = take::node(tree) else {
-            return None;
-        };
-        let Some((pound_token, bracketed)) = take::pair(inner) else {
+        let Some((pound_token, bracketed)) = inside::pair(Kind::OuterAttribute, tree) else {
             return None;
         };
         let Some(pound_token) = take::mark(pound_token) else {
@@ -119,10 +116,8 @@ impl<'t, 'a> Attribute<'t, 'a> {
     fn inner(tree: &'t Tree<'a>) -> Option<Attribute<'t, 'a>>
         ensures { MatchOption result (IsShaped tree.now (g.ref k.InnerAttribute) → ⊥) (λ x. tree.now ≡ attribute x) }
     {
-        let Some((Kind::InnerAttribute, inner)) = take::node(tree) else {
-            return None;
-        };
-        let Some((pound_token, not_token, bracketed)) = take::three(inner) else {
+        let Some((pound_token, not_token, bracketed)) = inside::three(Kind::InnerAttribute, tree)
+        else {
             return None;
         };
         let Some((bracket_token, meta)) = take::group(bracketed) else {
@@ -222,13 +217,13 @@ fn as_meta_value<'t, 'a>(tree: &'t Tree<'a>) -> Option<(Mark, &'t Tree<'a>)>
     let Some((eq_token, value)) = take::pair(tree) else {
         return None;
     };
-    let Some(eq_token) = take::mark(eq_token) else {
+    let Some((eq_token, Choice::Second(value))) = joined::two(
+        take::mark(eq_token),
+        take::chosen(value),
+    ) else {
         return None;
     };
-    let Some(Choice::Second(value)) = take::chosen(value) else {
-        return None;
-    };
-    let Some((Part::Value, value)) = take::called(value) else {
+    let Some(value) = inside::part(Part::Value, value) else {
         return None;
     };
     Some((eq_token, value))
@@ -240,10 +235,7 @@ impl<'t, 'a> Meta<'t, 'a> {
     pub fn of(tree: &'t Tree<'a>) -> Option<Meta<'t, 'a>>
         ensures { MatchOption result (IsShaped tree.now (g.ref k.Meta) → ⊥) (λ x. tree.now ≡ meta x) }
     {
-        let Some((Kind::Meta, inner)) = take::node(tree) else {
-            return None;
-        };
-        let Some((path, behind)) = take::pair(inner) else {
+        let Some((path, behind)) = inside::pair(Kind::Meta, tree) else {
             return None;
         };
         let Some((path, which)) = joined::two(as_meta_path(path), take::chosen3(behind)) else {

@@ -8,6 +8,7 @@ ghost use Rattle.syn_ast.specs.TypeBounds.{some_bounds, trait_bound, trait_front
 ghost use Rattle.syn_grammar.specs.Gram as g;
 ghost use Rattle.syn_grammar.specs.Kind as k;
 
+use crate::inside;
 use crate::leaf::{Lifetime, Mark};
 use crate::list::Elements;
 use crate::take::{self, Choice, Choice3};
@@ -30,7 +31,7 @@ impl<'t, 'a> TypeParamBound<'t, 'a> {
     pub fn of(tree: &'t Tree<'a>) -> Option<TypeParamBound<'t, 'a>>
         ensures { MatchOption result (IsShaped tree.now (g.ref k.Bound) → ⊥) (λ x. tree.now ≡ type_param_bound x) }
     {
-        let Some((Kind::Bound, inner)) = take::node(tree) else {
+        let Some(inner) = inside::node(Kind::Bound, tree) else {
             return None;
         };
         let Some(which) = take::chosen(inner) else {
@@ -41,9 +42,9 @@ impl<'t, 'a> TypeParamBound<'t, 'a> {
                 Some(found) => Some(TypeParamBound::Lifetime(found)),
                 None => None,
             },
-            Choice::Second(inner) => match take::called(inner) {
-                Some((Part::Path, path)) => Some(TypeParamBound::Trait(path)),
-                _ => None,
+            Choice::Second(inner) => match inside::part(Part::Path, inner) {
+                Some(path) => Some(TypeParamBound::Trait(path)),
+                None => None,
             },
         }
     }
@@ -98,10 +99,7 @@ impl<'t, 'a> TraitBound<'t, 'a> {
     pub fn of(tree: &'t Tree<'a>) -> Option<TraitBound<'t, 'a>>
         ensures { MatchOption result (IsShaped tree.now (g.ref k.TraitPath) → ⊥) (λ x. tree.now ≡ trait_bound x) }
     {
-        let Some((Kind::TraitPath, inner)) = take::node(tree) else {
-            return None;
-        };
-        let Some((front, path)) = take::pair(inner) else {
+        let Some((front, path)) = inside::pair(Kind::TraitPath, tree) else {
             return None;
         };
         let Some((modifier, lifetimes)) = as_trait_front(front) else {
@@ -130,10 +128,7 @@ impl<'t, 'a> SomeBounds<'t, 'a> {
         ensures { MatchOption result (IsKept tree.now → IsShaped tree.now (g.ref k.SomeBounds) → ⊥)
             (λ x. tree.now ≡ some_bounds x) }
     {
-        let Some((Kind::SomeBounds, inner)) = take::node(tree) else {
-            return None;
-        };
-        let Some(inner) = take::kept(inner) else {
+        let Some(inner) = inside::kept(Kind::SomeBounds, tree) else {
             return None;
         };
         let Some(bounds) = take::list(inner) else {

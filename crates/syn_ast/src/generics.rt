@@ -14,13 +14,13 @@ ghost use Rattle.syn_grammar.specs.Kind as k;
 ghost use Rattle.syn_grammar.specs.Name as n;
 ghost use Rattle.syn_grammar.specs.Tree as t;
 
-use crate::joined;
 use crate::leaf::{Lifetime, Mark};
 use crate::list::Elements;
 use crate::sub::{
     Lit, Marked, MarkedBounds, as_lit, optional_as_marked, optional_as_marked_bounds,
 };
 use crate::take::{self, Choice, Choice3};
+use crate::{inside, joined};
 use gram_table::kind::Kind;
 use gram_table::part::Part;
 use gram_tree::tree::Tree;
@@ -47,7 +47,7 @@ pub fn as_angled_params<'t, 'a>(tree: &'t Tree<'a>) -> Option<AngledParams<'t, '
     let Some((lt_token, params, gt_token)) = take::three(tree) else {
         return None;
     };
-    let Some((Part::Parameters, params)) = take::called(params) else {
+    let Some(params) = inside::part(Part::Parameters, params) else {
         return None;
     };
     let Some((lt_token, gt_token)) = joined::two(take::mark(lt_token), take::mark(gt_token)) else {
@@ -92,7 +92,7 @@ impl<'t, 'a> Generics<'t, 'a> {
     pub fn of(tree: &'t Tree<'a>) -> Option<Generics<'t, 'a>>
         ensures { MatchOption result (IsShaped tree.now (g.ref k.Generics) → ⊥) (λ x. tree.now ≡ generics x) }
     {
-        let Some((Kind::Generics, inner)) = take::node(tree) else {
+        let Some(inner) = inside::node(Kind::Generics, tree) else {
             return None;
         };
         let Some(params) = optional_as_angled_params(inner) else {
@@ -115,7 +115,7 @@ impl<'t, 'a> ImplGenerics<'t, 'a> {
     pub fn of(tree: &'t Tree<'a>) -> Option<ImplGenerics<'t, 'a>>
         ensures { MatchOption result (IsShaped tree.now (g.ref k.ImplGenerics) → ⊥) (λ x. tree.now ≡ impl_generics x) }
     {
-        let Some((Kind::ImplGenerics, inner)) = take::node(tree) else {
+        let Some(inner) = inside::node(Kind::ImplGenerics, tree) else {
             return None;
         };
         let Some(params) = optional_as_angled_params(inner) else {
@@ -139,7 +139,7 @@ impl<'t, 'a> GenericParams<'t, 'a> {
         ensures { MatchOption result (IsShaped tree.now (g.ref k.GenericParams) → ⊥)
             (λ x. tree.now ≡ generic_params x) }
     {
-        let Some((Kind::GenericParams, inner)) = take::node(tree) else {
+        let Some(inner) = inside::node(Kind::GenericParams, tree) else {
             return None;
         };
         let Some(params) = take::list(inner) else {
@@ -167,10 +167,7 @@ impl<'t, 'a> LifetimeParam<'t, 'a> {
         ensures { MatchOption result (IsShaped tree.now (g.ref k.LifetimeParam) → ⊥)
             (λ x. tree.now ≡ lifetime_param x) }
     {
-        let Some((Kind::LifetimeParam, inner)) = take::node(tree) else {
-            return None;
-        };
-        let Some((attrs, lifetime, colon)) = take::three(inner) else {
+        let Some((attrs, lifetime, colon)) = inside::three(Kind::LifetimeParam, tree) else {
             return None;
         };
         let Some(lifetime) = take::lifetime(lifetime) else {
@@ -198,7 +195,7 @@ impl<'t, 'a> LifetimeColon<'t, 'a> {
         ensures { MatchOption result (IsShaped tree.now (g.ref k.LifetimeColon) → ⊥)
             (λ x. tree.now ≡ lifetime_colon x) }
     {
-        let Some((Kind::LifetimeColon, inner)) = take::node(tree) else {
+        let Some(inner) = inside::node(Kind::LifetimeColon, tree) else {
             return None;
         };
         let Some(bounds) = optional_as_marked_bounds(inner) else {
@@ -221,7 +218,7 @@ impl<'t, 'a> BoundsColon<'t, 'a> {
     pub fn of(tree: &'t Tree<'a>) -> Option<BoundsColon<'t, 'a>>
         ensures { MatchOption result (IsShaped tree.now (g.ref k.BoundsColon) → ⊥) (λ x. tree.now ≡ bounds_colon x) }
     {
-        let Some((Kind::BoundsColon, inner)) = take::node(tree) else {
+        let Some(inner) = inside::node(Kind::BoundsColon, tree) else {
             return None;
         };
         let Some(bounds) = optional_as_marked_bounds(inner) else {
@@ -250,10 +247,7 @@ impl<'t, 'a> TypeParam<'t, 'a> {
     pub fn of(tree: &'t Tree<'a>) -> Option<TypeParam<'t, 'a>>
         ensures { MatchOption result (IsShaped tree.now (g.ref k.TypeParam) → ⊥) (λ x. tree.now ≡ type_param x) }
     {
-        let Some((Kind::TypeParam, inner)) = take::node(tree) else {
-            return None;
-        };
-        let Some((attrs, ident, colon, default)) = take::four(inner) else {
+        let Some((attrs, ident, colon, default)) = inside::four(Kind::TypeParam, tree) else {
             return None;
         };
         let Some((ident, default)) = joined::two(take::word(ident), optional_as_marked(default))
@@ -282,7 +276,7 @@ impl<'t, 'a> Bounds<'t, 'a> {
     pub fn of(tree: &'t Tree<'a>) -> Option<Bounds<'t, 'a>>
         ensures { MatchOption result (IsShaped tree.now (g.ref k.Bounds) → ⊥) (λ x. tree.now ≡ bounds x) }
     {
-        let Some((Kind::Bounds, inner)) = take::node(tree) else {
+        let Some(inner) = inside::node(Kind::Bounds, tree) else {
             return None;
         };
         let Some(bounds) = take::list(inner) else {
@@ -305,7 +299,7 @@ impl<'t, 'a> Lifetimes<'t, 'a> {
     pub fn of(tree: &'t Tree<'a>) -> Option<Lifetimes<'t, 'a>>
         ensures { MatchOption result (IsShaped tree.now (g.ref k.Lifetimes) → ⊥) (λ x. tree.now ≡ lifetimes x) }
     {
-        let Some((Kind::Lifetimes, inner)) = take::node(tree) else {
+        let Some(inner) = inside::node(Kind::Lifetimes, tree) else {
             return None;
         };
         let Some(lifetimes) = take::list(inner) else {
@@ -367,7 +361,7 @@ fn as_const_default<'t, 'a>(tree: &'t Tree<'a>) -> Option<ConstDefault<'t, 'a>>
     let Some((eq_token, value)) = take::pair(tree) else {
         return None;
     };
-    let Some((Part::Value, value)) = take::called(value) else {
+    let Some(value) = inside::part(Part::Value, value) else {
         return None;
     };
     let Some((eq_token, value)) = joined::two(take::mark(eq_token), as_const_value(value)) else {
@@ -416,10 +410,10 @@ impl<'t, 'a> ConstParam<'t, 'a> {
     pub fn of(tree: &'t Tree<'a>) -> Option<ConstParam<'t, 'a>>
         ensures { MatchOption result (IsShaped tree.now (g.ref k.ConstParam) → ⊥) (λ x. tree.now ≡ const_param x) }
     {
-        let Some((Kind::ConstParam, inner)) = take::node(tree) else {
-            return None;
-        };
-        let Some((attrs, const_token, ident, colon_token, ty, default)) = take::six(inner) else {
+        let Some((attrs, const_token, ident, colon_token, ty, default)) = inside::six(
+            Kind::ConstParam,
+            tree,
+        ) else {
             return None;
         };
         let Some((const_token, ident, colon_token, default)) = joined::four(
@@ -458,7 +452,7 @@ impl<'t, 'a> GenericParam<'t, 'a> {
         ensures { MatchOption result (IsShaped tree.now (g.called n.the_lifetime (g.ref k.LifetimeParam)) → ⊥)
             (λ x. tree.now ≡ t.Called n.the_lifetime (lifetime_param x)) }
     {
-        let Some((Part::Lifetime, inner)) = take::called(tree) else {
+        let Some(inner) = inside::part(Part::Lifetime, tree) else {
             return None;
         };
         LifetimeParam::of(inner)
@@ -469,7 +463,7 @@ impl<'t, 'a> GenericParam<'t, 'a> {
     pub fn of(tree: &'t Tree<'a>) -> Option<GenericParam<'t, 'a>>
         ensures { MatchOption result (IsShaped tree.now (g.ref k.GenericParam) → ⊥) (λ x. tree.now ≡ generic_param x) }
     {
-        let Some((Kind::GenericParam, inner)) = take::node(tree) else {
+        let Some(inner) = inside::node(Kind::GenericParam, tree) else {
             return None;
         };
         let Some(which) = take::chosen3(inner) else {
@@ -507,13 +501,10 @@ impl<'t, 'a> WhereClause<'t, 'a> {
     pub fn of(tree: &'t Tree<'a>) -> Option<WhereClause<'t, 'a>>
         ensures { MatchOption result (IsShaped tree.now (g.ref k.WhereClause) → ⊥) (λ x. tree.now ≡ where_clause x) }
     {
-        let Some((Kind::WhereClause, inner)) = take::node(tree) else {
+        let Some((where_token, predicates, end)) = inside::three(Kind::WhereClause, tree) else {
             return None;
         };
-        let Some((where_token, predicates, end)) = take::three(inner) else {
-            return None;
-        };
-        let Some((Part::Parameters, predicates)) = take::called(predicates) else {
+        let Some(predicates) = inside::part(Part::Parameters, predicates) else {
             return None;
         };
         let Some((where_token, predicates)) = joined::two(
@@ -548,9 +539,9 @@ fn optional_clause<'t, 'a>(tree: &'t Tree<'a>) -> Option<Option<&'t Tree<'a>>>
     match take::optional(tree) {
         None => None,
         Some(None) => Some(None),
-        Some(Some(inner)) => match take::called(inner) {
-            Some((Part::Clause, clause)) => Some(Some(clause)),
-            _ => None,
+        Some(Some(inner)) => match inside::part(Part::Clause, inner) {
+            Some(clause) => Some(Some(clause)),
+            None => None,
         },
     }
 }
@@ -561,7 +552,7 @@ impl<'t, 'a> OptionalWhere<'t, 'a> {
     pub fn of(tree: &'t Tree<'a>) -> Option<OptionalWhere<'t, 'a>>
         ensures { MatchOption result (IsShaped tree.now (g.ref k.Where) → ⊥) (λ x. tree.now ≡ optional_where x) }
     {
-        let Some((Kind::Where, inner)) = take::node(tree) else {
+        let Some(inner) = inside::node(Kind::Where, tree) else {
             return None;
         };
         let Some(clause) = optional_clause(inner) else {
@@ -656,7 +647,7 @@ impl<'t, 'a> WherePredicate<'t, 'a> {
         ensures { MatchOption result (IsShaped tree.now (g.ref k.WherePredicate) → ⊥)
             (λ x. tree.now ≡ where_predicate x) }
     {
-        let Some((Kind::WherePredicate, inner)) = take::node(tree) else {
+        let Some(inner) = inside::node(Kind::WherePredicate, tree) else {
             return None;
         };
         let Some(which) = take::chosen(inner) else {

@@ -17,6 +17,7 @@ pub mod attributes;
 pub mod bounds;
 mod conversions;
 pub mod generics;
+pub mod inside;
 pub mod iter;
 pub mod joined;
 pub mod kept;

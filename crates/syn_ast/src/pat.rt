@@ -17,7 +17,7 @@ use crate::patterns::{
     PatSeveral, PatSlice, PatWild, PathBehind, PathPattern, RangeBound, RangeEnd, RangeLimits,
     SignedLit,
 };
-use crate::take;
+use crate::{inside, take};
 use gram_table::kind::Kind;
 use gram_tree::tree::Tree;
 
@@ -132,7 +132,7 @@ fn one_form<'t, 'a>(tree: &'t Tree<'a>) -> Option<&'t Tree<'a>>
     ensures form { IfSome result (λ x. form_of_pat tree.now ≡ x.now) }
     ensures among { IfSome result (λ x. IsShaped tree.now (g.ref k.OnePattern) → IsAmong x.now one_pattern) }
 {
-    let Some((Kind::OnePattern, inner)) = take::node(tree) else {
+    let Some(inner) = inside::node(Kind::OnePattern, tree) else {
         return None;
     };
     Some(inner.choice())

@@ -17,11 +17,11 @@ ghost use Rattle.syn_grammar.specs.Kind as k;
 ghost use Rattle.syn_grammar.specs.Name as n;
 ghost use Rattle.syn_grammar.specs.Tree as t;
 
-use crate::joined;
 use crate::leaf::{Delimiters, Lifetime, Mark};
 use crate::list::Elements;
 use crate::sub::{Lit, Marked, Worded, as_lit, as_marked, optional_as_marked, optional_as_worded};
 use crate::take::{self, Choice, Choice3, Choice4, Choice5};
+use crate::{inside, joined};
 use gram_table::kind::{Kind, Style};
 use gram_table::part::Part;
 use gram_tree::tree::Tree;
@@ -147,13 +147,11 @@ impl<'t, 'a> AngleBracketedGenericArguments<'t, 'a> {
         ensures { MatchOption result (IsShaped tree.now (g.ref k.Arguments) → ⊥)
             (λ x. tree.now ≡ angle_bracketed_generic_arguments x) }
     {
-        let Some((Kind::Arguments, inner)) = take::node(tree) else {
+        let Some((colon2_token, lt_token, args, gt_token)) = inside::four(Kind::Arguments, tree)
+        else {
             return None;
         };
-        let Some((colon2_token, lt_token, args, gt_token)) = take::four(inner) else {
-            return None;
-        };
-        let Some((Part::Arguments, args)) = take::called(args) else {
+        let Some(args) = inside::part(Part::Arguments, args) else {
             return None;
         };
         let Some((colon2_token, lt_token, args, gt_token)) = joined::four(
@@ -192,10 +190,7 @@ impl<'t, 'a> ParenthesizedGenericArguments<'t, 'a> {
         ensures { MatchOption result (IsShaped tree.now (g.ref k.ParenthesizedArguments) → ⊥)
             (λ x. tree.now ≡ parenthesized_generic_arguments x) }
     {
-        let Some((Kind::ParenthesizedArguments, inner)) = take::node(tree) else {
-            return None;
-        };
-        let Some((paren_token, output)) = take::pair(inner) else {
+        let Some((paren_token, output)) = inside::pair(Kind::ParenthesizedArguments, tree) else {
             return None;
         };
         let Some((paren_token, inside)) = take::group(paren_token) else {
@@ -230,10 +225,7 @@ impl<'t, 'a> Macro<'t, 'a> {
     pub fn of(tree: &'t Tree<'a>) -> Option<Macro<'t, 'a>>
         ensures { MatchOption result (IsShaped tree.now (g.ref k.AMacro) → ⊥) (λ x. tree.now ≡ macro x) }
     {
-        let Some((Kind::AMacro, inner)) = take::node(tree) else {
-            return None;
-        };
-        let Some((path, bang_token, delimited)) = take::three(inner) else {
+        let Some((path, bang_token, delimited)) = inside::three(Kind::AMacro, tree) else {
             return None;
         };
         let Some(bang_token) = take::mark(bang_token) else {
@@ -546,7 +538,7 @@ fn as_lifetime_argument<'t, 'a>(tree: &'t Tree<'a>) -> Option<Lifetime<'a>>
     ensures { MatchOption result (IsShaped tree.now (g.called n.the_lifetime g.lifetime) → ⊥)
         (λ l. tree.now ≡ t.Called n.the_lifetime (lifetime_tree l)) }
 {
-    let Some((Part::Lifetime, inner)) = take::called(tree) else {
+    let Some(inner) = inside::part(Part::Lifetime, tree) else {
         return None;
     };
     take::lifetime(inner)
@@ -578,7 +570,7 @@ impl<'t, 'a> GenericArgument<'t, 'a> {
         ensures { MatchOption result (IsShaped tree.now (g.ref k.AnArgument) → ⊥)
             (λ x. tree.now ≡ generic_argument x) }
     {
-        let Some((Kind::AnArgument, inner)) = take::node(tree) else {
+        let Some(inner) = inside::node(Kind::AnArgument, tree) else {
             return None;
         };
         let Some(which) = take::chosen5(inner) else {
@@ -616,7 +608,7 @@ impl<'a> Index<'a> {
     pub fn of(tree: &Tree<'a>) -> Option<Index<'a>>
         ensures { MatchOption result (IsShaped tree.now (g.ref k.Index) → ⊥) (λ x. tree.now ≡ index x) }
     {
-        let Some((Kind::Index, inner)) = take::node(tree) else {
+        let Some(inner) = inside::node(Kind::Index, tree) else {
             return None;
         };
         let Some(index) = take::literal(inner) else {
@@ -641,7 +633,7 @@ impl<'a> Member<'a> {
     pub fn of(tree: &Tree<'a>) -> Option<Member<'a>>
         ensures { MatchOption result (IsShaped tree.now (g.ref k.Member) → ⊥) (λ x. tree.now ≡ member x) }
     {
-        let Some((Kind::Member, inner)) = take::node(tree) else {
+        let Some(inner) = inside::node(Kind::Member, tree) else {
             return None;
         };
         let Some(which) = take::chosen(inner) else {
@@ -700,7 +692,7 @@ impl<'a> Delimited<'a> {
     pub fn of(tree: &Tree<'a>) -> Option<Delimited<'a>>
         ensures { MatchOption result (IsShaped tree.now (g.ref k.Delimited) → ⊥) (λ x. tree.now ≡ delimited x) }
     {
-        let Some((Kind::Delimited, inner)) = take::node(tree) else {
+        let Some(inner) = inside::node(Kind::Delimited, tree) else {
             return None;
         };
         let Some(which) = take::chosen3(inner) else {

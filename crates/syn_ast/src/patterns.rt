@@ -16,11 +16,11 @@ ghost use Rattle.syn_grammar.specs.Kind as k;
 ghost use Rattle.syn_grammar.specs.Name as n;
 ghost use Rattle.syn_grammar.specs.Tree as t;
 
-use crate::joined;
 use crate::leaf::{Delimiters, Mark};
 use crate::list::{Elements, Turns};
 use crate::sub::{Lit, Marked, as_lit, as_marked};
 use crate::take::{self, Choice, Choice3, Choice4};
+use crate::{inside, joined};
 use gram_table::kind::Kind;
 use gram_table::part::Part;
 use gram_tree::tree::Tree;
@@ -40,7 +40,7 @@ impl<'a> PatWild<'a> {
     pub fn of(tree: &Tree<'a>) -> Option<PatWild<'a>>
         ensures { MatchOption result (IsShaped tree.now (g.ref k.WildPattern) → ⊥) (λ x. tree.now ≡ pat_wild x) }
     {
-        let Some((Kind::WildPattern, inner)) = take::node(tree) else {
+        let Some(inner) = inside::node(Kind::WildPattern, tree) else {
             return None;
         };
         let Some(underscore_token) = take::word(inner) else {
@@ -63,7 +63,7 @@ impl PatRest {
     pub fn of(tree: &Tree<'_>) -> Option<PatRest>
         ensures { MatchOption result (IsShaped tree.now (g.ref k.RestPattern) → ⊥) (λ x. tree.now ≡ pat_rest x) }
     {
-        let Some((Kind::RestPattern, inner)) = take::node(tree) else {
+        let Some(inner) = inside::node(Kind::RestPattern, tree) else {
             return None;
         };
         let Some(dot2_token) = take::mark(inner) else {
@@ -91,10 +91,7 @@ impl<'t, 'a> PatReference<'t, 'a> {
         ensures { MatchOption result (IsShaped tree.now (g.ref k.ReferencePattern) → ⊥)
             (λ x. tree.now ≡ pat_reference x) }
     {
-        let Some((Kind::ReferencePattern, inner)) = take::node(tree) else {
-            return None;
-        };
-        let Some((and_token, mutability, pat)) = take::three(inner) else {
+        let Some((and_token, mutability, pat)) = inside::three(Kind::ReferencePattern, tree) else {
             return None;
         };
         let Some((and_token, mutability)) = joined::two(
@@ -126,10 +123,7 @@ impl<'t, 'a> PatSlice<'t, 'a> {
     pub fn of(tree: &'t Tree<'a>) -> Option<PatSlice<'t, 'a>>
         ensures { MatchOption result (IsShaped tree.now (g.ref k.SlicePattern) → ⊥) (λ x. tree.now ≡ pat_slice x) }
     {
-        let Some((Kind::SlicePattern, inner)) = take::node(tree) else {
-            return None;
-        };
-        let Some((bracket_token, inside)) = take::group(inner) else {
+        let Some((bracket_token, inside)) = inside::group(Kind::SlicePattern, tree) else {
             return None;
         };
         let Some(elems) = take::list(inside) else {
@@ -158,10 +152,7 @@ impl<'t, 'a> PatParenthesized<'t, 'a> {
         ensures { MatchOption result (IsShaped tree.now (g.ref k.TuplePattern) → ⊥)
             (λ x. tree.now ≡ pat_parenthesized x) }
     {
-        let Some((Kind::TuplePattern, inner)) = take::node(tree) else {
-            return None;
-        };
-        let Some((paren_token, inside)) = take::group(inner) else {
+        let Some((paren_token, inside)) = inside::group(Kind::TuplePattern, tree) else {
             return None;
         };
         let Some(elems) = take::list(inside) else {
@@ -188,10 +179,7 @@ impl<'t, 'a> PatOr<'t, 'a> {
     pub fn of(tree: &'t Tree<'a>) -> Option<PatOr<'t, 'a>>
         ensures { MatchOption result (IsShaped tree.now (g.ref k.Pattern) → ⊥) (λ x. tree.now ≡ pat_or x) }
     {
-        let Some((Kind::Pattern, inner)) = take::node(tree) else {
-            return None;
-        };
-        let Some((leading_vert, first, others)) = take::three(inner) else {
+        let Some((leading_vert, first, others)) = inside::three(Kind::Pattern, tree) else {
             return None;
         };
         let Some((leading_vert, others)) = joined::two(
@@ -223,10 +211,7 @@ impl<'t, 'a> PatSeveral<'t, 'a> {
     pub fn of(tree: &'t Tree<'a>) -> Option<PatSeveral<'t, 'a>>
         ensures { MatchOption result (IsShaped tree.now (g.ref k.SeveralPatterns) → ⊥) (λ x. tree.now ≡ pat_several x) }
     {
-        let Some((Kind::SeveralPatterns, inner)) = take::node(tree) else {
-            return None;
-        };
-        let Some((first, others)) = take::pair(inner) else {
+        let Some((first, others)) = inside::pair(Kind::SeveralPatterns, tree) else {
             return None;
         };
         let Some(others) = take::each_turn(others) else {
@@ -278,10 +263,8 @@ impl<'t, 'a> PatIdent<'t, 'a> {
     pub fn of(tree: &'t Tree<'a>) -> Option<PatIdent<'t, 'a>>
         ensures { MatchOption result (IsShaped tree.now (g.ref k.IdentPattern) → ⊥) (λ x. tree.now ≡ pat_ident x) }
     {
-        let Some((Kind::IdentPattern, inner)) = take::node(tree) else {
-            return None;
-        };
-        let Some((by_ref, mutability, ident, subpat)) = take::four(inner) else {
+        let Some((by_ref, mutability, ident, subpat)) = inside::four(Kind::IdentPattern, tree)
+        else {
             return None;
         };
         let Some((by_ref, mutability, ident, subpat)) = joined::four(
@@ -347,10 +330,7 @@ impl<'t, 'a> PatRangeTo<'t, 'a> {
         ensures { MatchOption result (IsShaped tree.now (g.ref k.RangeToPattern) → ⊥)
             (λ x. tree.now ≡ pat_range_to x) }
     {
-        let Some((Kind::RangeToPattern, inner)) = take::node(tree) else {
-            return None;
-        };
-        let Some((limits, end)) = take::pair(inner) else {
+        let Some((limits, end)) = inside::pair(Kind::RangeToPattern, tree) else {
             return None;
         };
         let Some(limits) = as_range_limits(limits) else {
@@ -408,7 +388,7 @@ impl<'t, 'a> RangeEnd<'t, 'a> {
         ensures { MatchOption result (IsShaped tree.now (g.ref k.RangeEnd) → ⊥)
             (λ x. tree.now ≡ t.Node k.RangeEnd (range_end x.limits x.end)) }
     {
-        let Some((Kind::RangeEnd, inner)) = take::node(tree) else {
+        let Some(inner) = inside::node(Kind::RangeEnd, tree) else {
             return None;
         };
         let Some(which) = take::chosen(inner) else {
@@ -483,10 +463,7 @@ impl<'t, 'a> LiteralPattern<'t, 'a> {
         ensures { MatchOption result (IsShaped tree.now (g.ref k.LiteralPattern) → ⊥)
             (λ x. tree.now ≡ literal_pattern x) }
     {
-        let Some((Kind::LiteralPattern, inner)) = take::node(tree) else {
-            return None;
-        };
-        let Some((lit, end)) = take::pair(inner) else {
+        let Some((lit, end)) = inside::pair(Kind::LiteralPattern, tree) else {
             return None;
         };
         let Some((lit, end)) = joined::two(as_signed_lit(lit), take::optional(end)) else {
@@ -511,7 +488,7 @@ impl<'t, 'a> RangeBound<'t, 'a> {
     pub fn of(tree: &'t Tree<'a>) -> Option<RangeBound<'t, 'a>>
         ensures { MatchOption result (IsShaped tree.now (g.ref k.RangeBound) → ⊥) (λ x. tree.now ≡ range_bound x) }
     {
-        let Some((Kind::RangeBound, inner)) = take::node(tree) else {
+        let Some(inner) = inside::node(Kind::RangeBound, tree) else {
             return None;
         };
         let Some(which) = take::chosen(inner) else {
@@ -592,10 +569,7 @@ impl<'t, 'a> PathPattern<'t, 'a> {
     pub fn of(tree: &'t Tree<'a>) -> Option<PathPattern<'t, 'a>>
         ensures { MatchOption result (IsShaped tree.now (g.ref k.PathPattern) → ⊥) (λ x. tree.now ≡ path_pattern x) }
     {
-        let Some((Kind::PathPattern, inner)) = take::node(tree) else {
-            return None;
-        };
-        let Some((path, behind)) = take::pair(inner) else {
+        let Some((path, behind)) = inside::pair(Kind::PathPattern, tree) else {
             return None;
         };
         let Some(behind) = as_path_behind(behind) else {
@@ -622,10 +596,7 @@ impl<'t, 'a> FieldPatterns<'t, 'a> {
         ensures { MatchOption result (IsKept tree.now → IsShaped tree.now (g.ref k.FieldPatterns) → ⊥)
             (λ x. tree.now ≡ field_patterns x) }
     {
-        let Some((Kind::FieldPatterns, inner)) = take::node(tree) else {
-            return None;
-        };
-        let Some(inner) = take::kept(inner) else {
+        let Some(inner) = inside::kept(Kind::FieldPatterns, tree) else {
             return None;
         };
         let Some((brace_token, inside)) = take::group(inner) else {
@@ -728,9 +699,9 @@ fn as_field_pattern<'t, 'a>(tree: &'t Tree<'a>) -> Option<FieldPattern<'t, 'a>>
         return None;
     };
     match which {
-        Choice3::First(inner) => match take::called(inner) {
-            Some((Part::Rest, rest)) => Some(FieldPattern::Rest(rest)),
-            _ => None,
+        Choice3::First(inner) => match inside::part(Part::Rest, inner) {
+            Some(rest) => Some(FieldPattern::Rest(rest)),
+            None => None,
         },
         Choice3::Second(inner) => match as_member_pattern(inner) {
             Some(found) => Some(FieldPattern::Member(found)),
@@ -758,10 +729,7 @@ impl<'t, 'a> FieldPat<'t, 'a> {
     pub fn of(tree: &'t Tree<'a>) -> Option<FieldPat<'t, 'a>>
         ensures { MatchOption result (IsShaped tree.now (g.ref k.FieldPattern) → ⊥) (λ x. tree.now ≡ field_pat x) }
     {
-        let Some((Kind::FieldPattern, inner)) = take::node(tree) else {
-            return None;
-        };
-        let Some((attrs, pattern)) = take::pair(inner) else {
+        let Some((attrs, pattern)) = inside::pair(Kind::FieldPattern, tree) else {
             return None;
         };
         let Some(pattern) = as_field_pattern(pattern) else {

@@ -11,6 +11,7 @@ ghost use Rattle.syn_grammar.specs.Name as n;
 
 use crate::leaf::Mark;
 use crate::take::{self, Choice};
+use crate::{inside, joined};
 use gram_table::part::Part;
 use gram_tree::tree::Tree;
 use rust_leaf::ident::Ident;
@@ -118,10 +119,7 @@ pub fn as_marked_value<'t, 'a>(tree: &'t Tree<'a>) -> Option<MarkedValue<'t, 'a>
     let Some((mark, node)) = take::pair(tree) else {
         return None;
     };
-    let Some(mark) = take::mark(mark) else {
-        return None;
-    };
-    let Some((Part::Value, node)) = take::called(node) else {
+    let Some((mark, node)) = joined::two(take::mark(mark), inside::part(Part::Value, node)) else {
         return None;
     };
     Some(MarkedValue { mark, node })
@@ -163,10 +161,7 @@ pub fn as_marked_type<'t, 'a>(tree: &'t Tree<'a>) -> Option<MarkedType<'t, 'a>>
     let Some((mark, node)) = take::pair(tree) else {
         return None;
     };
-    let Some(mark) = take::mark(mark) else {
-        return None;
-    };
-    let Some((Part::Type, node)) = take::called(node) else {
+    let Some((mark, node)) = joined::two(take::mark(mark), inside::part(Part::Type, node)) else {
         return None;
     };
     Some(MarkedType { mark, node })
@@ -208,10 +203,7 @@ pub fn as_marked_bounds<'t, 'a>(tree: &'t Tree<'a>) -> Option<MarkedBounds<'t, '
     let Some((mark, node)) = take::pair(tree) else {
         return None;
     };
-    let Some(mark) = take::mark(mark) else {
-        return None;
-    };
-    let Some((Part::Bounds, node)) = take::called(node) else {
+    let Some((mark, node)) = joined::two(take::mark(mark), inside::part(Part::Bounds, node)) else {
         return None;
     };
     Some(MarkedBounds { mark, node })

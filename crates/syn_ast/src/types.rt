@@ -14,12 +14,12 @@ ghost use Rattle.syn_grammar.specs.Kind as k;
 ghost use Rattle.syn_grammar.specs.Name as n;
 ghost use Rattle.syn_grammar.specs.Types.{type_entry};
 
-use crate::joined;
 use crate::leaf::{Delimiters, Lifetime, Mark};
 use crate::list::Elements;
 use crate::name::{Name, as_name};
 use crate::sub::{MarkedType, MarkedValue, optional_as_marked_type, optional_as_marked_value};
 use crate::take::{self, Choice};
+use crate::{inside, joined};
 use gram_table::kind::{Kind, Plus, Style};
 use gram_table::part::Part;
 use gram_tree::tree::Tree;
@@ -70,7 +70,7 @@ fn several_bounds<'t, 'a>(tree: &'t Tree<'a>) -> Option<TypeBounds<'t, 'a>>
     ensures { MatchOption result ((a : g.Gram) → IsShaped tree.now (g.called n.the_bounds a) → ⊥)
         (λ b. tree.now ≡ type_bounds b) }
 {
-    let Some((Part::Bounds, bounds)) = take::called(tree) else {
+    let Some(bounds) = inside::part(Part::Bounds, tree) else {
         return None;
     };
     Some(TypeBounds::Several(bounds))
@@ -105,10 +105,7 @@ impl<'t, 'a> TypePtr<'t, 'a> {
     pub fn of(tree: &'t Tree<'a>) -> Option<TypePtr<'t, 'a>>
         ensures { MatchOption result (IsShaped tree.now (g.ref k.PointerType) → ⊥) (λ x. tree.now ≡ type_ptr x) }
     {
-        let Some((Kind::PointerType, inner)) = take::node(tree) else {
-            return None;
-        };
-        let Some((star_token, mutability, elem)) = take::three(inner) else {
+        let Some((star_token, mutability, elem)) = inside::three(Kind::PointerType, tree) else {
             return None;
         };
         let Some((star_token, mutability)) = joined::two(
@@ -145,10 +142,8 @@ impl<'t, 'a> TypeReference<'t, 'a> {
         ensures { MatchOption result (IsShaped tree.now (g.ref k.ReferenceType) → ⊥)
             (λ x. tree.now ≡ type_reference x) }
     {
-        let Some((Kind::ReferenceType, inner)) = take::node(tree) else {
-            return None;
-        };
-        let Some((and_token, lifetime, mutability, elem)) = take::four(inner) else {
+        let Some((and_token, lifetime, mutability, elem)) = inside::four(Kind::ReferenceType, tree)
+        else {
             return None;
         };
         let Some((and_token, lifetime, mutability)) = joined::three(
@@ -180,7 +175,7 @@ impl TypeNever {
     pub fn of(tree: &Tree<'_>) -> Option<TypeNever>
         ensures { MatchOption result (IsShaped tree.now (g.ref k.NeverType) → ⊥) (λ x. tree.now ≡ type_never x) }
     {
-        let Some((Kind::NeverType, inner)) = take::node(tree) else {
+        let Some(inner) = inside::node(Kind::NeverType, tree) else {
             return None;
         };
         let Some(bang_token) = take::mark(inner) else {
@@ -203,7 +198,7 @@ impl<'a> TypeInfer<'a> {
     pub fn of(tree: &Tree<'a>) -> Option<TypeInfer<'a>>
         ensures { MatchOption result (IsShaped tree.now (g.ref k.InferType) → ⊥) (λ x. tree.now ≡ type_infer x) }
     {
-        let Some((Kind::InferType, inner)) = take::node(tree) else {
+        let Some(inner) = inside::node(Kind::InferType, tree) else {
             return None;
         };
         let Some(underscore_token) = take::word(inner) else {
@@ -238,11 +233,10 @@ impl<'t, 'a> TypeFnPtr<'t, 'a> {
     pub fn of(tree: &'t Tree<'a>) -> Option<TypeFnPtr<'t, 'a>>
         ensures { MatchOption result (IsShaped tree.now (g.ref k.FnPtrType) → ⊥) (λ x. tree.now ≡ type_fn_ptr x) }
     {
-        let Some((Kind::FnPtrType, inner)) = take::node(tree) else {
-            return None;
-        };
-        let Some((lifetimes, unsafety, abi, fn_token, paren_token, output)) = take::six(inner)
-        else {
+        let Some((lifetimes, unsafety, abi, fn_token, paren_token, output)) = inside::six(
+            Kind::FnPtrType,
+            tree,
+        ) else {
             return None;
         };
         let Some((paren_token, inside)) = take::group(paren_token) else {
@@ -326,10 +320,7 @@ impl<'t, 'a> FnPtrArg<'t, 'a> {
     pub fn of(tree: &'t Tree<'a>) -> Option<FnPtrArg<'t, 'a>>
         ensures { MatchOption result (IsShaped tree.now (g.ref k.FnPtrArg) → ⊥) (λ x. tree.now ≡ fn_ptr_arg x) }
     {
-        let Some((Kind::FnPtrArg, inner)) = take::node(tree) else {
-            return None;
-        };
-        let Some((attrs, name, ty)) = take::three(inner) else {
+        let Some((attrs, name, ty)) = inside::three(Kind::FnPtrArg, tree) else {
             return None;
         };
         let Some(name) = optional_as_argument_name(name) else {
@@ -354,10 +345,7 @@ impl<'a> Abi<'a> {
     pub fn of(tree: &Tree<'a>) -> Option<Abi<'a>>
         ensures { MatchOption result (IsShaped tree.now (g.ref k.Abi) → ⊥) (λ x. tree.now ≡ abi x) }
     {
-        let Some((Kind::Abi, inner)) = take::node(tree) else {
-            return None;
-        };
-        let Some((extern_token, name)) = take::pair(inner) else {
+        let Some((extern_token, name)) = inside::pair(Kind::Abi, tree) else {
             return None;
         };
         let Some((extern_token, name)) = joined::two(
@@ -390,10 +378,10 @@ impl<'t, 'a> BoundLifetimes<'t, 'a> {
         ensures { MatchOption result (IsShaped tree.now (g.ref k.BoundLifetimes) → ⊥)
             (λ x. tree.now ≡ bound_lifetimes x) }
     {
-        let Some((Kind::BoundLifetimes, inner)) = take::node(tree) else {
-            return None;
-        };
-        let Some((for_token, lt_token, lifetimes, gt_token)) = take::four(inner) else {
+        let Some((for_token, lt_token, lifetimes, gt_token)) = inside::four(
+            Kind::BoundLifetimes,
+            tree,
+        ) else {
             return None;
         };
         let Some((for_token, lt_token, lifetimes, gt_token)) = joined::four(
@@ -456,10 +444,7 @@ impl<'t, 'a> TypeBracketed<'t, 'a> {
     pub fn of(tree: &'t Tree<'a>) -> Option<TypeBracketed<'t, 'a>>
         ensures { MatchOption result (IsShaped tree.now (g.ref k.BracketType) → ⊥) (λ x. tree.now ≡ type_bracketed x) }
     {
-        let Some((Kind::BracketType, inner)) = take::node(tree) else {
-            return None;
-        };
-        let Some((bracket_token, inside)) = take::group(inner) else {
+        let Some((bracket_token, inside)) = inside::group(Kind::BracketType, tree) else {
             return None;
         };
         let Some((elem, len)) = take::pair(inside) else {
@@ -492,10 +477,7 @@ impl<'t, 'a> TypeParenthesized<'t, 'a> {
         ensures { MatchOption result (IsShaped tree.now (g.ref k.TupleType) → ⊥)
             (λ x. tree.now ≡ type_parenthesized x) }
     {
-        let Some((Kind::TupleType, inner)) = take::node(tree) else {
-            return None;
-        };
-        let Some((paren_token, inside)) = take::group(inner) else {
+        let Some((paren_token, inside)) = inside::group(Kind::TupleType, tree) else {
             return None;
         };
         let Some(elems) = take::list(inside) else {
@@ -523,10 +505,7 @@ impl<'t, 'a> TypeTraitObject<'t, 'a> {
         ensures { MatchOption result (IsShaped tree.now (g.ref (k.DynType k.WithPlus)) → ⊥)
             (λ x. tree.now ≡ type_trait_object x) }
     {
-        let Some((Kind::DynType(Plus::WithPlus), inner)) = take::node(tree) else {
-            return None;
-        };
-        let Some((dyn_token, bounds)) = take::pair(inner) else {
+        let Some((dyn_token, bounds)) = inside::pair(Kind::DynType(Plus::WithPlus), tree) else {
             return None;
         };
         let Some((dyn_token, bounds)) = joined::two(take::word(dyn_token), several_bounds(bounds))
@@ -546,10 +525,7 @@ impl<'t, 'a> TypeTraitObject<'t, 'a> {
         ensures { MatchOption result (IsShaped tree.now (g.ref (k.DynType k.WithoutPlus)) → ⊥)
             (λ x. tree.now ≡ type_trait_object x) }
     {
-        let Some((Kind::DynType(Plus::WithoutPlus), inner)) = take::node(tree) else {
-            return None;
-        };
-        let Some((dyn_token, bounds)) = take::pair(inner) else {
+        let Some((dyn_token, bounds)) = inside::pair(Kind::DynType(Plus::WithoutPlus), tree) else {
             return None;
         };
         let Some((dyn_token, bounds)) = joined::two(take::word(dyn_token), one_bound(bounds)) else {
@@ -593,10 +569,7 @@ impl<'t, 'a> TypeImplTrait<'t, 'a> {
         ensures { MatchOption result (IsShaped tree.now (g.ref (k.ImplType k.WithPlus)) → ⊥)
             (λ x. tree.now ≡ type_impl_trait x) }
     {
-        let Some((Kind::ImplType(Plus::WithPlus), inner)) = take::node(tree) else {
-            return None;
-        };
-        let Some((impl_token, bounds)) = take::pair(inner) else {
+        let Some((impl_token, bounds)) = inside::pair(Kind::ImplType(Plus::WithPlus), tree) else {
             return None;
         };
         let Some((impl_token, bounds)) = joined::two(take::word(impl_token), several_bounds(bounds))
@@ -616,10 +589,8 @@ impl<'t, 'a> TypeImplTrait<'t, 'a> {
         ensures { MatchOption result (IsShaped tree.now (g.ref (k.ImplType k.WithoutPlus)) → ⊥)
             (λ x. tree.now ≡ type_impl_trait x) }
     {
-        let Some((Kind::ImplType(Plus::WithoutPlus), inner)) = take::node(tree) else {
-            return None;
-        };
-        let Some((impl_token, bounds)) = take::pair(inner) else {
+        let Some((impl_token, bounds)) = inside::pair(Kind::ImplType(Plus::WithoutPlus), tree)
+        else {
             return None;
         };
         let Some((impl_token, bounds)) = joined::two(take::word(impl_token), one_bound(bounds))

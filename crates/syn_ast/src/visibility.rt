@@ -11,6 +11,7 @@ ghost use Rattle.syn_grammar.specs.Kind as k;
 ghost use Rattle.syn_grammar.specs.Name as n;
 ghost use Rattle.syn_grammar.specs.Tree as t;
 
+use crate::inside;
 use crate::leaf::Delimiters;
 use crate::sub::{Worded, as_worded};
 use crate::take::{self, Choice};
@@ -112,7 +113,7 @@ fn as_pub<'a>(tree: &Tree<'a>) -> Option<&'a Ident>
     ensures { MatchOption result ((p : List ℕ → Bool) → IsShaped tree.now (g.called n.the_pub (g.word p)) → ⊥)
         (λ i. tree.now ≡ t.Called n.the_pub (word_tree i)) }
 {
-    let Some((Part::Pub, inner)) = take::called(tree) else {
+    let Some(inner) = inside::part(Part::Pub, tree) else {
         return None;
     };
     take::word(inner)
@@ -147,7 +148,7 @@ impl<'t, 'a> Visibility<'t, 'a> {
     pub fn of(tree: &'t Tree<'a>) -> Option<Visibility<'t, 'a>>
         ensures { MatchOption result (IsShaped tree.now (g.ref k.Visibility) → ⊥) (λ x. tree.now ≡ visibility x) }
     {
-        let Some((Kind::Visibility, inner)) = take::node(tree) else {
+        let Some(inner) = inside::node(Kind::Visibility, tree) else {
             return None;
         };
         match take::optional(inner) {

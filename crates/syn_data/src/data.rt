@@ -12,12 +12,12 @@ use crate::part;
 use gram_table::kind::Kind;
 use gram_tree::tree::Tree;
 use rust_leaf::ident::Ident;
-use syn_ast::joined;
 use syn_ast::leaf::{Delimiters, Mark};
 use syn_ast::list::Elements;
 use syn_ast::name::{Name, as_name};
 use syn_ast::sub::{MarkedValue, optional_as_marked_value};
 use syn_ast::take::{self, Choice3};
+use syn_ast::{inside, joined};
 use syn_error::fault::ParseFault;
 
 /// A field with a name: `pub a: T = b`.
@@ -43,10 +43,10 @@ impl<'t, 'a> NamedField<'t, 'a> {
     pub fn of(tree: &'t Tree<'a>) -> Option<NamedField<'t, 'a>>
         ensures { MatchOption result (IsShaped tree.now (g.ref k.NamedField) → ⊥) (λ x. tree.now ≡ named_field x) }
     {
-        let Some((Kind::NamedField, inner)) = take::node(tree) else {
-            return None;
-        };
-        let Some((attrs, vis, ident, colon_token, ty, default)) = take::six(inner) else {
+        let Some((attrs, vis, ident, colon_token, ty, default)) = inside::six(
+            Kind::NamedField,
+            tree,
+        ) else {
             return None;
         };
         let Some((ident, colon_token, default)) = joined::three(
@@ -84,10 +84,7 @@ impl<'t, 'a> UnnamedField<'t, 'a> {
     pub fn of(tree: &'t Tree<'a>) -> Option<UnnamedField<'t, 'a>>
         ensures { MatchOption result (IsShaped tree.now (g.ref k.UnnamedField) → ⊥) (λ x. tree.now ≡ unnamed_field x) }
     {
-        let Some((Kind::UnnamedField, inner)) = take::node(tree) else {
-            return None;
-        };
-        let Some((attrs, vis, ty, end)) = take::four(inner) else {
+        let Some((attrs, vis, ty, end)) = inside::four(Kind::UnnamedField, tree) else {
             return None;
         };
         if part::is_missing(end) {
@@ -181,10 +178,7 @@ impl<'t, 'a> FieldsNamed<'t, 'a> {
     pub fn of(tree: &'t Tree<'a>) -> Option<FieldsNamed<'t, 'a>>
         ensures { MatchOption result (IsShaped tree.now (g.ref k.NamedFields) → ⊥) (λ x. tree.now ≡ fields_named x) }
     {
-        let Some((Kind::NamedFields, inner)) = take::node(tree) else {
-            return None;
-        };
-        let Some((brace_token, inside)) = take::group(inner) else {
+        let Some((brace_token, inside)) = inside::group(Kind::NamedFields, tree) else {
             return None;
         };
         let Some(named) = take::list(inside) else {
@@ -210,10 +204,7 @@ impl<'t, 'a> FieldsUnnamed<'t, 'a> {
         ensures { MatchOption result (IsShaped tree.now (g.ref k.UnnamedFields) → ⊥)
             (λ x. tree.now ≡ fields_unnamed x) }
     {
-        let Some((Kind::UnnamedFields, inner)) = take::node(tree) else {
-            return None;
-        };
-        let Some((paren_token, inside)) = take::group(inner) else {
+        let Some((paren_token, inside)) = inside::group(Kind::UnnamedFields, tree) else {
             return None;
         };
         let Some(unnamed) = take::list(inside) else {
@@ -283,10 +274,8 @@ impl<'t, 'a> Variant<'t, 'a> {
     pub fn of(tree: &'t Tree<'a>) -> Option<Variant<'t, 'a>>
         ensures { MatchOption result (IsShaped tree.now (g.ref k.Variant) → ⊥) (λ x. tree.now ≡ variant x) }
     {
-        let Some((Kind::Variant, inner)) = take::node(tree) else {
-            return None;
-        };
-        let Some((attrs, vis, ident, fields, discriminant)) = take::five(inner) else {
+        let Some((attrs, vis, ident, fields, discriminant)) = inside::five(Kind::Variant, tree)
+        else {
             return None;
         };
         let Some((vis, ident, fields, discriminant)) = joined::four(

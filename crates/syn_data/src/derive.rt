@@ -14,6 +14,7 @@ use crate::part;
 use gram_table::kind::Kind;
 use gram_tree::tree::Tree;
 use rust_leaf::ident::Ident;
+use syn_ast::inside;
 use syn_ast::leaf::{Delimiters, Mark};
 use syn_ast::list::Elements;
 use syn_ast::take::{self, Choice3};
@@ -219,10 +220,7 @@ impl<'t, 'a> DeriveInput<'t, 'a> {
         ensures { MatchOption result (IsShaped tree.now (g.ref k.DeriveInput) → ⊥)
             (λ x. IsEnded x.«data» × (tree.now ≡ derive_input x)) }
     {
-        let Some((Kind::DeriveInput, inner)) = take::node(tree) else {
-            return None;
-        };
-        let Some((attrs, vis, which)) = take::three(inner) else {
+        let Some((attrs, vis, which)) = inside::three(Kind::DeriveInput, tree) else {
             return None;
         };
         let Some(item) = as_data_item(which) else {

@@ -11,17 +11,16 @@ ghost use Rattle.syn_grammar.specs.Name as n;
 ghost use Rattle.syn_grammar.specs.Tree as t;
 
 use crate::data::{Fields, FieldsNamed, FieldsUnnamed};
-use crate::part;
 use gram_table::kind::Kind;
 use gram_table::part::Part;
 use gram_tree::tree::Tree;
 use rust_leaf::ident::Ident;
-use syn_ast::joined;
 use syn_ast::leaf::{Delimiters, Mark};
 use syn_ast::list::Elements;
 use syn_ast::name::{Name, Renamed, as_name, optional_as_renamed};
 use syn_ast::sub::{MarkedType, MarkedValue, optional_as_marked_type, optional_as_marked_value};
 use syn_ast::take::{self, Choice};
+use syn_ast::{inside, joined};
 
 /// A struct: `struct A<T> where .. { b: B }`, behind its attributes and its visibility.
 #[derive(Clone, Copy)]
@@ -62,7 +61,7 @@ fn unnamed_end<'t, 'a>(tree: &'t Tree<'a>) -> Option<StructEnd<'t, 'a>>
     };
     let Some((fields, where_clause, semi_token)) = joined::three(
         FieldsUnnamed::of(fields),
-        part::where_clause(where_clause),
+        inside::part(Part::Where, where_clause),
         take::mark(semi_token),
     ) else {
         return None;
@@ -118,7 +117,7 @@ fn where_end<'t, 'a>(tree: &'t Tree<'a>) -> Option<StructEnd<'t, 'a>>
     let Some((where_clause, end)) = take::pair(tree) else {
         return None;
     };
-    let Some(where_clause) = part::where_clause(where_clause) else {
+    let Some(where_clause) = inside::part(Part::Where, where_clause) else {
         return None;
     };
     named_end(where_clause, end)
@@ -147,16 +146,13 @@ impl<'t, 'a> ItemStruct<'t, 'a> {
         ensures { MatchOption result (IsShaped tree.now (g.ref k.AStruct) → ⊥)
             (λ x. IsClosed x.fields x.semi_token × (tree.now ≡ item_struct x)) }
     {
-        let Some((Kind::AStruct, inner)) = take::node(tree) else {
-            return None;
-        };
-        let Some((struct_token, ident, generics, end)) = take::four(inner) else {
+        let Some((struct_token, ident, generics, end)) = inside::four(Kind::AStruct, tree) else {
             return None;
         };
         let Some((struct_token, ident, generics, end)) = joined::four(
             take::word(struct_token),
-            part::name(ident),
-            part::generics(generics),
+            inside::word(Part::Name, ident),
+            inside::part(Part::Generics, generics),
             as_struct_end(end),
         ) else {
             return None;
@@ -195,10 +191,10 @@ impl<'t, 'a> ItemEnum<'t, 'a> {
     pub fn of(tree: &'t Tree<'a>) -> Option<ItemEnum<'t, 'a>>
         ensures { MatchOption result (IsShaped tree.now (g.ref k.AnEnum) → ⊥) (λ x. tree.now ≡ item_enum x) }
     {
-        let Some((Kind::AnEnum, inner)) = take::node(tree) else {
-            return None;
-        };
-        let Some((enum_token, ident, generics, where_clause, variants)) = take::five(inner) else {
+        let Some((enum_token, ident, generics, where_clause, variants)) = inside::five(
+            Kind::AnEnum,
+            tree,
+        ) else {
             return None;
         };
         let Some((brace_token, inside)) = take::group(variants) else {
@@ -206,9 +202,9 @@ impl<'t, 'a> ItemEnum<'t, 'a> {
         };
         let Some((enum_token, ident, generics, where_clause, variants)) = joined::five(
             take::word(enum_token),
-            part::name(ident),
-            part::generics(generics),
-            part::where_clause(where_clause),
+            inside::word(Part::Name, ident),
+            inside::part(Part::Generics, generics),
+            inside::part(Part::Where, where_clause),
             take::list(inside),
         ) else {
             return None;
@@ -245,17 +241,17 @@ impl<'t, 'a> ItemUnion<'t, 'a> {
     pub fn of(tree: &'t Tree<'a>) -> Option<ItemUnion<'t, 'a>>
         ensures { MatchOption result (IsShaped tree.now (g.ref k.AUnion) → ⊥) (λ x. tree.now ≡ item_union x) }
     {
-        let Some((Kind::AUnion, inner)) = take::node(tree) else {
-            return None;
-        };
-        let Some((union_token, ident, generics, where_clause, fields)) = take::five(inner) else {
+        let Some((union_token, ident, generics, where_clause, fields)) = inside::five(
+            Kind::AUnion,
+            tree,
+        ) else {
             return None;
         };
         let Some((union_token, ident, generics, where_clause, fields)) = joined::five(
             take::word(union_token),
-            part::name(ident),
-            part::generics(generics),
-            part::where_clause(where_clause),
+            inside::word(Part::Name, ident),
+            inside::part(Part::Generics, generics),
+            inside::part(Part::Where, where_clause),
             FieldsNamed::of(fields),
         ) else {
             return None;
@@ -314,16 +310,16 @@ impl<'t, 'a> ItemStatic<'t, 'a> {
     pub fn of(tree: &'t Tree<'a>) -> Option<ItemStatic<'t, 'a>>
         ensures { MatchOption result (IsShaped tree.now (g.ref k.AStatic) → ⊥) (λ x. tree.now ≡ item_static x) }
     {
-        let Some((Kind::AStatic, inner)) = take::node(tree) else {
-            return None;
-        };
-        let Some((static_token, mutability, ident, ty, expr, semi_token)) = take::six(inner) else {
+        let Some((static_token, mutability, ident, ty, expr, semi_token)) = inside::six(
+            Kind::AStatic,
+            tree,
+        ) else {
             return None;
         };
         let Some((static_token, mutability, ident, ty, expr, semi_token)) = joined::six(
             take::word(static_token),
             as_mutability(mutability),
-            part::name(ident),
+            inside::word(Part::Name, ident),
             optional_as_marked_type(ty),
             optional_as_marked_value(expr),
             take::mark(semi_token),
@@ -358,13 +354,10 @@ impl<'t, 'a> ItemUse<'t, 'a> {
     pub fn of(tree: &'t Tree<'a>) -> Option<ItemUse<'t, 'a>>
         ensures { MatchOption result (IsShaped tree.now (g.ref k.AUse) → ⊥) (λ x. tree.now ≡ item_use x) }
     {
-        let Some((Kind::AUse, inner)) = take::node(tree) else {
+        let Some((use_token, tree, semi_token)) = inside::three(Kind::AUse, tree) else {
             return None;
         };
-        let Some((use_token, tree, semi_token)) = take::three(inner) else {
-            return None;
-        };
-        let Some((Part::Path, tree)) = take::called(tree) else {
+        let Some(tree) = inside::part(Part::Path, tree) else {
             return None;
         };
         let Some((use_token, semi_token)) = joined::two(
@@ -403,13 +396,13 @@ impl<'a> ItemExternCrate<'a> {
         ensures { MatchOption result (IsShaped tree.now (g.ref k.AnExternCrate) → ⊥)
             (λ x. tree.now ≡ item_extern_crate x) }
     {
-        let Some((Kind::AnExternCrate, inner)) = take::node(tree) else {
+        let Some((extern_token, crate_token, ident, rename, semi_token)) = inside::five(
+            Kind::AnExternCrate,
+            tree,
+        ) else {
             return None;
         };
-        let Some((extern_token, crate_token, ident, rename, semi_token)) = take::five(inner) else {
-            return None;
-        };
-        let Some((Part::Name, ident)) = take::called(ident) else {
+        let Some(ident) = inside::part(Part::Name, ident) else {
             return None;
         };
         let Some((extern_token, crate_token, ident, rename, semi_token)) = joined::five(

@@ -16,40 +16,7 @@ use gram_table::part::Part;
 use gram_tree::tree::{Form, Tree};
 use rust_leaf::ident::Ident;
 use syn_ast::missing::nothing;
-use syn_ast::{joined, take};
-
-/// A name.
-pub fn name<'a>(tree: &Tree<'a>) -> Option<&'a Ident>
-    ensures { MatchOption result ((p : List ℕ → Bool) → IsShaped tree.now (g.called n.the_name (g.word p)) → ⊥)
-        (λ i. tree.now ≡ t.Called n.the_name (word_tree i)) }
-{
-    let Some((Part::Name, inner)) = take::called(tree) else {
-        return None;
-    };
-    take::word(inner)
-}
-
-/// Generic parameters.
-pub fn generics<'t, 'a>(tree: &'t Tree<'a>) -> Option<&'t Tree<'a>>
-    ensures { MatchOption result ((a : g.Gram) → IsShaped tree.now (g.called n.the_generics a) → ⊥)
-        (λ x. tree.now ≡ t.Called n.the_generics x.now) }
-{
-    let Some((Part::Generics, inner)) = take::called(tree) else {
-        return None;
-    };
-    Some(inner)
-}
-
-/// A where clause.
-pub fn where_clause<'t, 'a>(tree: &'t Tree<'a>) -> Option<&'t Tree<'a>>
-    ensures { MatchOption result ((a : g.Gram) → IsShaped tree.now (g.called n.the_where a) → ⊥)
-        (λ x. tree.now ≡ t.Called n.the_where x.now) }
-{
-    let Some((Part::Where, inner)) = take::called(tree) else {
-        return None;
-    };
-    Some(inner)
-}
+use syn_ast::{inside, joined, take};
 
 /// What was read, and is no part of the program.
 #[tactic(auto, using(syn_ast::proofs::Takes::takes))]
@@ -72,40 +39,21 @@ pub fn is_missing(tree: &Tree<'_>) -> bool
     nothing(tree)
 }
 
-/// A visibility, by its name as a part.
-pub fn visibility<'t, 'a>(tree: &'t Tree<'a>) -> Option<&'t Tree<'a>>
-    ensures { MatchOption result ((a : g.Gram) → IsShaped tree.now (g.called n.the_visibility a) → ⊥)
-        (λ x. tree.now ≡ t.Called n.the_visibility x.now) }
-{
-    let Some((Part::Visibility, inner)) = take::called(tree) else {
-        return None;
-    };
-    Some(inner)
-}
-
-/// An item, by its name as a part.
-pub fn item<'t, 'a>(tree: &'t Tree<'a>) -> Option<&'t Tree<'a>>
-    ensures { MatchOption result ((a : g.Gram) → IsShaped tree.now (g.called n.the_item a) → ⊥)
-        (λ x. tree.now ≡ t.Called n.the_item x.now) }
-{
-    let Some((Part::Item, inner)) = take::called(tree) else {
-        return None;
-    };
-    Some(inner)
-}
-
 /// Of what was kept of an item its attributes, its visibility, and what stands behind them.
 pub fn item_parts<'t, 'a>(tree: &'t Tree<'a>) -> Option<(&'t Tree<'a>, &'t Tree<'a>, &'t Tree<'a>)>
     ensures { MatchOption result ((v : GivenTree → Verdict) (a b c : g.Gram) → IsFirst tree.now → IsShaped tree.now
         (item_entry v a b c) → ⊥) (λ p. tree.now ≡ item_inside p.0.now p.1.now p.2.now) }
 {
-    let Some(inside) = take::kept(tree) else {
+    let Some(kept) = take::kept(tree) else {
         return None;
     };
-    let Some((attrs, vis, form)) = take::three(inside) else {
+    let Some((attrs, vis, form)) = take::three(kept) else {
         return None;
     };
-    let Some((vis, form)) = joined::two(visibility(vis), item(form)) else {
+    let Some((vis, form)) = joined::two(
+        inside::part(Part::Visibility, vis),
+        inside::part(Part::Item, form),
+    ) else {
         return None;
     };
     Some((attrs, vis, form))

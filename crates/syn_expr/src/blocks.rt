@@ -24,7 +24,7 @@ use syn_ast::leaf::{Delimiters, Lifetime, Mark};
 use syn_ast::list::{Elements, Turns};
 use syn_ast::sub::{Marked, Worded, optional_as_marked, optional_as_worded};
 use syn_ast::types::AnyPath;
-use syn_ast::{joined, take};
+use syn_ast::{inside, joined, take};
 
 /// A section between lines of `---`, at the head of a file. It holds nothing: the grammar has no such section, so none is
 /// read.
@@ -52,10 +52,7 @@ impl<'t, 'a> File<'t, 'a> {
         ensures shebang { IfSome result (λ x. x.shebang ≡ None) }
         ensures frontmatter { IfSome result (λ x. x.frontmatter ≡ None) }
     {
-        let Some((Kind::AFile, inner)) = take::node(tree) else {
-            return None;
-        };
-        let Some((attrs, items)) = take::pair(inner) else {
+        let Some((attrs, items)) = inside::pair(Kind::AFile, tree) else {
             return None;
         };
         Some(File {
@@ -82,10 +79,7 @@ impl<'t, 'a> Block<'t, 'a> {
     pub fn of(tree: &'t Tree<'a>) -> Option<Block<'t, 'a>>
         ensures { MatchOption result (IsShaped tree.now (g.ref k.Block) → ⊥) (λ x. tree.now ≡ block x) }
     {
-        let Some((Kind::Block, inner)) = take::node(tree) else {
-            return None;
-        };
-        let Some((brace_token, inside)) = take::group(inner) else {
+        let Some((brace_token, inside)) = inside::group(Kind::Block, tree) else {
             return None;
         };
         let stmts = inside;
@@ -110,7 +104,7 @@ impl<'t, 'a> Body<'t, 'a> {
     pub fn of(tree: &'t Tree<'a>) -> Option<Body<'t, 'a>>
         ensures { MatchOption result (IsShaped tree.now (g.ref k.Body) → ⊥) (λ x. tree.now ≡ body x) }
     {
-        let Some((Kind::Body, inner)) = take::node(tree) else {
+        let Some(inner) = inside::node(Kind::Body, tree) else {
             return None;
         };
         let Some((brace_token, attrs, stmts)) = part::pair_in(inner) else {
@@ -139,10 +133,7 @@ impl<'a> Label<'a> {
     pub fn of(tree: &Tree<'a>) -> Option<Label<'a>>
         ensures { MatchOption result (IsShaped tree.now (g.ref k.Label) → ⊥) (λ x. tree.now ≡ label x) }
     {
-        let Some((Kind::Label, inner)) = take::node(tree) else {
-            return None;
-        };
-        let Some((name, colon_token)) = take::pair(inner) else {
+        let Some((name, colon_token)) = inside::pair(Kind::Label, tree) else {
             return None;
         };
         let Some(name) = take::lifetime(name) else {
@@ -172,10 +163,7 @@ impl<'t, 'a> ClosureParam<'t, 'a> {
     pub fn of(tree: &'t Tree<'a>) -> Option<ClosureParam<'t, 'a>>
         ensures { MatchOption result (IsShaped tree.now (g.ref k.ClosureParam) → ⊥) (λ x. tree.now ≡ closure_param x) }
     {
-        let Some((Kind::ClosureParam, inner)) = take::node(tree) else {
-            return None;
-        };
-        let Some((attrs, pat, ty)) = take::three(inner) else {
+        let Some((attrs, pat, ty)) = inside::three(Kind::ClosureParam, tree) else {
             return None;
         };
         let Some(ty) = optional_as_marked(ty) else {
@@ -198,7 +186,7 @@ impl<'t, 'a> Arms<'t, 'a> {
     pub fn of(tree: &'t Tree<'a>) -> Option<Arms<'t, 'a>>
         ensures { MatchOption result (IsShaped tree.now (g.ref k.Arms) → ⊥) (λ x. tree.now ≡ arms x) }
     {
-        let Some((Kind::Arms, inner)) = take::node(tree) else {
+        let Some(inner) = inside::node(Kind::Arms, tree) else {
             return None;
         };
         let Some(arms) = take::each_turn(inner) else {
@@ -221,7 +209,7 @@ pub fn as_labelled<'t, 'a>(tree: &'t Tree<'a>) -> Option<Labelled<'t, 'a>>
     ensures { MatchOption result ((a1 : g.Gram) → IsShaped tree.now (g.called n.the_label a1) → ⊥)
         (λ x. tree.now ≡ labelled_tree x) }
 {
-    let Some((Part::Label, tree)) = take::called(tree) else {
+    let Some(tree) = inside::part(Part::Label, tree) else {
         return None;
     };
     let label = tree;
@@ -412,7 +400,7 @@ impl<'t, 'a> ExprWhile<'t, 'a> {
         let Some((label, while_token, cond)) = joined::three(
             optional_as_labelled(label),
             take::word(while_token),
-            part::condition(cond),
+            inside::part(Part::Condition, cond),
         ) else {
             return None;
         };
@@ -458,7 +446,7 @@ impl<'t, 'a> ExprForLoop<'t, 'a> {
             optional_as_labelled(label),
             take::word(for_token),
             take::word(in_token),
-            part::condition(expr),
+            inside::part(Part::Condition, expr),
         ) else {
             return None;
         };
@@ -502,7 +490,7 @@ impl<'t, 'a> ExprMatch<'t, 'a> {
         };
         let Some((match_token, expr, braced)) = joined::three(
             take::word(match_token),
-            part::condition(expr),
+            inside::part(Part::Condition, expr),
             part::pair_in(braced),
         ) else {
             return None;
@@ -545,7 +533,7 @@ impl<'t, 'a> ExprIf<'t, 'a> {
         };
         let Some((if_token, cond, else_branch)) = joined::three(
             take::word(if_token),
-            part::condition(cond),
+            inside::part(Part::Condition, cond),
             optional_as_worded(else_branch),
         ) else {
             return None;

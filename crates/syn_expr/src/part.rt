@@ -16,25 +16,14 @@ use rust_leaf::ident::Ident;
 use rust_leaf::literal::Literal;
 use syn_ast::leaf::Delimiters;
 use syn_ast::list::{Elements, Turns};
-use syn_ast::take;
-
-// A name.
-pub(crate) fn name<'a>(tree: &Tree<'a>) -> Option<&'a Ident>
-    ensures { MatchOption result ((p : List ℕ → Bool) → IsShaped tree.now (g.called n.the_name (g.word p)) → ⊥)
-        (λ i. tree.now ≡ t.Called n.the_name (word_tree i)) }
-{
-    let Some((Part::Name, inner)) = take::called(tree) else {
-        return None;
-    };
-    take::word(inner)
-}
+use syn_ast::{inside, take};
 
 // A number.
 pub(crate) fn number<'a>(tree: &Tree<'a>) -> Option<&'a Literal>
     ensures { MatchOption result ((p : List ℕ → Bool) → IsShaped tree.now (g.called n.the_value (g.literal p)) → ⊥)
         (λ l. tree.now ≡ t.Called n.the_value (literal_tree l)) }
 {
-    let Some((Part::Value, inner)) = take::called(tree) else {
+    let Some(inner) = inside::part(Part::Value, tree) else {
         return None;
     };
     take::literal(inner)
@@ -45,65 +34,10 @@ pub(crate) fn indices<'t, 'a>(tree: &'t Tree<'a>) -> Option<Turns<'t, 'a>>
     ensures { MatchOption result ((test : List Token → Bool) (a : g.Gram) → IsShaped tree.now
         (g.called n.the_indices (g.star test a)) → ⊥) (λ r. tree.now ≡ t.Called n.the_indices (turns_tree r)) }
 {
-    let Some((Part::Indices, inner)) = take::called(tree) else {
+    let Some(inner) = inside::part(Part::Indices, tree) else {
         return None;
     };
     take::each_turn(inner)
-}
-
-// A condition.
-pub(crate) fn condition<'t, 'a>(tree: &'t Tree<'a>) -> Option<&'t Tree<'a>>
-    ensures { MatchOption result ((a : g.Gram) → IsShaped tree.now (g.called n.the_condition a) → ⊥)
-        (λ x. tree.now ≡ t.Called n.the_condition x.now) }
-{
-    let Some((Part::Condition, inner)) = take::called(tree) else {
-        return None;
-    };
-    Some(inner)
-}
-
-// A value.
-pub(crate) fn value<'t, 'a>(tree: &'t Tree<'a>) -> Option<&'t Tree<'a>>
-    ensures { MatchOption result ((a : g.Gram) → IsShaped tree.now (g.called n.the_value a) → ⊥)
-        (λ x. tree.now ≡ t.Called n.the_value x.now) }
-{
-    let Some((Part::Value, inner)) = take::called(tree) else {
-        return None;
-    };
-    Some(inner)
-}
-
-// A body.
-pub(crate) fn body<'t, 'a>(tree: &'t Tree<'a>) -> Option<&'t Tree<'a>>
-    ensures { MatchOption result ((a : g.Gram) → IsShaped tree.now (g.called n.the_body a) → ⊥)
-        (λ x. tree.now ≡ t.Called n.the_body x.now) }
-{
-    let Some((Part::Body, inner)) = take::called(tree) else {
-        return None;
-    };
-    Some(inner)
-}
-
-// Attributes.
-pub(crate) fn attributes<'t, 'a>(tree: &'t Tree<'a>) -> Option<&'t Tree<'a>>
-    ensures { MatchOption result ((a : g.Gram) → IsShaped tree.now (g.called n.the_attributes a) → ⊥)
-        (λ x. tree.now ≡ t.Called n.the_attributes x.now) }
-{
-    let Some((Part::Attributes, inner)) = take::called(tree) else {
-        return None;
-    };
-    Some(inner)
-}
-
-// An expression.
-pub(crate) fn expression<'t, 'a>(tree: &'t Tree<'a>) -> Option<&'t Tree<'a>>
-    ensures { MatchOption result ((a : g.Gram) → IsShaped tree.now (g.called n.the_expression a) → ⊥)
-        (λ x. tree.now ≡ t.Called n.the_expression x.now) }
-{
-    let Some((Part::Expression, inner)) = take::called(tree) else {
-        return None;
-    };
-    Some(inner)
 }
 
 // A list in delimiters.

@@ -13,16 +13,15 @@ ghost use Rattle.syn_grammar.specs.Verdicts.{is_where};
 ghost use Rattle.syn_item.specs.ItemAliases.{IsLate, IsOrderIn, early_tree, either_tree, item_type};
 ghost use Rattle.syn_item.specs.ItemAliases.{late_tree, type_end_tree};
 
-use crate::part;
 use gram_table::kind::{Kind, Place};
 use gram_table::part::Part;
 use gram_tree::tree::Tree;
 use rust_leaf::ident::Ident;
 use syn_ast::generics::OptionalWhere;
-use syn_ast::joined;
 use syn_ast::leaf::Mark;
 use syn_ast::sub::{MarkedType, optional_as_marked_type};
 use syn_ast::take::{self, Choice};
+use syn_ast::{inside, joined};
 
 /// Where the where clause of a type stands.
 #[derive(Clone, Copy)]
@@ -66,7 +65,7 @@ fn definition_first<'t, 'a>(tree: &'t Tree<'a>) -> Option<TypeEnd<'t, 'a>>
     };
     let Some((definition, where_clause)) = joined::two(
         optional_as_marked_type(definition),
-        part::where_clause(where_clause),
+        inside::part(Part::Where, where_clause),
     ) else {
         return None;
     };
@@ -89,7 +88,7 @@ fn where_first<'t, 'a>(tree: &'t Tree<'a>) -> Option<TypeEnd<'t, 'a>>
         return None;
     };
     let Some((where_clause, definition)) = joined::two(
-        part::where_clause(where_clause),
+        inside::part(Part::Where, where_clause),
         optional_as_marked_type(definition),
     ) else {
         return None;
@@ -133,9 +132,9 @@ fn named_type_end<'t, 'a>(place: Place, tree: &'t Tree<'a>) -> Option<TypeEnd<'t
         (λ x. tree.now ≡ t.Called n.the_value (type_end_tree place x.order x.definition x.where_clause)) }
     ensures order { IfSome result (λ x. IsOrderIn place x.order) }
 {
-    match take::called(tree) {
-        Some((Part::Value, inner)) => as_type_end(place, inner),
-        _ => None,
+    match inside::part(Part::Value, tree) {
+        Some(inner) => as_type_end(place, inner),
+        None => None,
     }
 }
 
@@ -178,9 +177,9 @@ impl<'t, 'a> ItemType<'t, 'a> {
         };
         let Some((type_token, ident, generics, bounds, end, semi_token)) = joined::six(
             take::word(type_token),
-            part::name(ident),
-            part::generics(generics),
-            part::bounds(bounds),
+            inside::word(Part::Name, ident),
+            inside::part(Part::Generics, generics),
+            inside::part(Part::Bounds, bounds),
             named_type_end(place, end),
             take::mark(semi_token),
         ) else {

@@ -14,7 +14,7 @@ use rust_leaf::ident::Ident;
 use syn_ast::leaf::Mark;
 use syn_ast::name::Name;
 use syn_ast::sub::{MarkedValue, optional_as_marked_value};
-use syn_ast::{joined, take};
+use syn_ast::{inside, joined, take};
 
 /// A constant: `const A: T = b;`, behind its attributes and its visibility.
 #[derive(Clone, Copy)]
@@ -43,24 +43,24 @@ impl<'t, 'a> ItemConst<'t, 'a> {
     pub fn of(tree: &'t Tree<'a>) -> Option<ItemConst<'t, 'a>>
         ensures { MatchOption result (IsShaped tree.now (g.ref k.AConst) → ⊥) (λ x. tree.now ≡ item_const x) }
     {
-        let Some((Kind::AConst, inner)) = take::node(tree) else {
+        let Some(inner) = inside::node(Kind::AConst, tree) else {
             return None;
         };
         let Some((const_token, ident, generics, colon_token, ty, expr, where_clause, semi_token)) =
             take::eight(inner) else {
             return None;
         };
-        let Some((Part::Type, ty)) = take::called(ty) else {
+        let Some(ty) = inside::part(Part::Type, ty) else {
             return None;
         };
         let Some((const_token, ident, generics, colon_token, expr, where_clause, semi_token)) =
             joined::seven(
                 take::word(const_token),
                 part::name_or(ident),
-                part::generics(generics),
+                inside::part(Part::Generics, generics),
                 take::mark(colon_token),
                 optional_as_marked_value(expr),
-                part::where_clause(where_clause),
+                inside::part(Part::Where, where_clause),
                 take::mark(semi_token),
             ) else {
             return None;

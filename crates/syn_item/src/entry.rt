@@ -18,12 +18,12 @@ ghost use Rattle.syn_item.specs.ItemEntries.{foreign_parts, item_parts, one_macr
 ghost use Rattle.syn_item.specs.ItemFunctions.{IsSafety};
 
 use crate::function::{Safety, as_foreign_safety};
-use crate::part;
 use gram_table::kind::{Kind, Place};
+use gram_table::part::Part;
 use gram_tree::tree::Tree;
 use rust_leaf::ident::Ident;
-use syn_ast::joined;
 use syn_ast::take::{self, Choice};
+use syn_ast::{inside, joined};
 
 /// An item of any kind, with its attributes and its visibility.
 #[derive(Clone, Copy)]
@@ -50,7 +50,10 @@ fn as_parts<'t, 'a>(kind: Kind, tree: &'t Tree<'a>) -> Option<ItemParts<'t, 'a>>
     let Some((attrs, vis, item)) = take::three(parts) else {
         return None;
     };
-    let Some((vis, item)) = joined::two(part::visibility(vis), part::item(item)) else {
+    let Some((vis, item)) = joined::two(
+        inside::part(Part::Visibility, vis),
+        inside::part(Part::Item, item),
+    ) else {
         return None;
     };
     Some(ItemParts {
@@ -93,8 +96,8 @@ fn as_defaultness<'a>(place: Place, tree: &Tree<'a>) -> Option<Option<&'a Ident>
     ensures which { IfSome result (λ o. IsDefaultIn place o) }
 {
     match place {
-        Place::InTrait => part::optional_defaultness(tree),
-        Place::InImpl => part::optional_defaultness(tree),
+        Place::InTrait => inside::optional_word(Part::Default, tree),
+        Place::InImpl => inside::optional_word(Part::Default, tree),
         Place::InFile => no_defaultness(tree),
         Place::InForeign => no_defaultness(tree),
     }
@@ -130,9 +133,9 @@ fn as_placed<'t, 'a>(place: Place, tree: &'t Tree<'a>) -> Option<PlacedParts<'t,
         return None;
     };
     let Some((vis, defaultness, item)) = joined::three(
-        part::visibility(vis),
+        inside::part(Part::Visibility, vis),
         as_defaultness(place, defaultness),
-        part::item(item),
+        inside::part(Part::Item, item),
     ) else {
         return None;
     };
@@ -152,7 +155,7 @@ impl<'t, 'a> PlacedParts<'t, 'a> {
         ensures { MatchOption result (IsKept tree.now → IsShaped tree.now (g.ref k.ATraitItem) → ⊥)
             (λ x. (x.place ≡ places.InTrait) × (tree.now ≡ t.Node k.ATraitItem (placed_parts x))) }
     {
-        let Some((Kind::ATraitItem, inner)) = take::node(tree) else {
+        let Some(inner) = inside::node(Kind::ATraitItem, tree) else {
             return None;
         };
         match as_placed(Place::InTrait, inner) {
@@ -167,7 +170,7 @@ impl<'t, 'a> PlacedParts<'t, 'a> {
         ensures { MatchOption result (IsKept tree.now → IsShaped tree.now (g.ref k.AnImplItem) → ⊥)
             (λ x. (x.place ≡ places.InImpl) × (tree.now ≡ t.Node k.AnImplItem (placed_parts x))) }
     {
-        let Some((Kind::AnImplItem, inner)) = take::node(tree) else {
+        let Some(inner) = inside::node(Kind::AnImplItem, tree) else {
             return None;
         };
         match as_placed(Place::InImpl, inner) {
@@ -238,7 +241,7 @@ fn as_one_trait<'t, 'a>(tree: &'t Tree<'a>) -> Option<OneTrait<'t, 'a>>
 {
     let parts = take::kept(tree)?;
     let (attrs, vis, item) = take::three(parts)?;
-    let item = part::item(item)?;
+    let item = inside::part(Part::Item, item)?;
     Some(OneTrait { attrs, vis, item })
 }
 
@@ -249,7 +252,7 @@ impl<'t, 'a> OneTrait<'t, 'a> {
         ensures { MatchOption result (IsKept tree.now → IsShaped tree.now (g.ref k.ItemTrait) → ⊥)
             (λ x. tree.now ≡ t.Node k.ItemTrait (one_trait x)) }
     {
-        let Some((Kind::ItemTrait, inner)) = take::node(tree) else {
+        let Some(inner) = inside::node(Kind::ItemTrait, tree) else {
             return None;
         };
         as_one_trait(inner)
@@ -261,7 +264,7 @@ impl<'t, 'a> OneTrait<'t, 'a> {
         ensures { MatchOption result (IsKept tree.now → IsShaped tree.now (g.ref k.ItemTraitAlias) → ⊥)
             (λ x. tree.now ≡ t.Node k.ItemTraitAlias (one_trait x)) }
     {
-        let Some((Kind::ItemTraitAlias, inner)) = take::node(tree) else {
+        let Some(inner) = inside::node(Kind::ItemTraitAlias, tree) else {
             return None;
         };
         as_one_trait(inner)
@@ -320,19 +323,16 @@ impl<'t, 'a> ForeignItemStatic<'t, 'a> {
             (λ x. tree.now ≡ foreign_item_static x) }
         ensures which { IfSome result (λ x. IsSafety x.safety) }
     {
-        let Some((Kind::ForeignItemStatic, inner)) = take::node(tree) else {
-            return None;
-        };
-        let Some(inner) = take::kept(inner) else {
+        let Some(inner) = inside::kept(Kind::ForeignItemStatic, tree) else {
             return None;
         };
         let Some((attrs, vis, safety, item)) = take::four(inner) else {
             return None;
         };
         let Some((vis, safety, item)) = joined::three(
-            part::visibility(vis),
+            inside::part(Part::Visibility, vis),
             as_foreign_safety(safety),
-            part::item(item),
+            inside::part(Part::Item, item),
         ) else {
             return None;
         };
@@ -363,16 +363,13 @@ impl<'t, 'a> ForeignParts<'t, 'a> {
         ensures { MatchOption result (IsKept tree.now → IsShaped tree.now (g.ref k.AForeignItem) → ⊥)
             (λ x. tree.now ≡ foreign_parts x) }
     {
-        let Some((Kind::AForeignItem, inner)) = take::node(tree) else {
-            return None;
-        };
-        let Some(inner) = take::kept(inner) else {
+        let Some(inner) = inside::kept(Kind::AForeignItem, tree) else {
             return None;
         };
         let Some((attrs, vis, item)) = take::three(inner) else {
             return None;
         };
-        let Some(vis) = part::visibility(vis) else {
+        let Some(vis) = inside::part(Part::Visibility, vis) else {
             return None;
         };
         Some(ForeignParts { attrs, vis, item })

@@ -15,16 +15,16 @@ ghost use Rattle.syn_item.specs.ItemFunctions.{parameter, parameters, safety_is,
 ghost use Rattle.syn_item.specs.ItemParts.{named_tree, safety_tree};
 ghost use Rattle.syn_item.specs.declared.function.Safety.TheVariants as safeties;
 
-use crate::part;
 use gram_table::kind::{Kind, Place};
+use gram_table::part::Part;
 use gram_tree::tree::Tree;
 use rust_leaf::ident::Ident;
-use syn_ast::joined;
 use syn_ast::leaf::{Delimiters, Lifetime, Mark};
 use syn_ast::list::Elements;
 use syn_ast::pat_type::PatType;
 use syn_ast::sub::optional_as_marked;
 use syn_ast::take::{self, Choice, Choice4};
+use syn_ast::{inside, joined};
 
 /// The parameters of a function: `(a: A, b: B)`.
 #[derive(Clone, Copy)]
@@ -42,10 +42,7 @@ impl<'t, 'a> Parameters<'t, 'a> {
         ensures { MatchOption result (IsKept tree.now → IsShaped tree.now (g.ref k.Parameters) → ⊥)
             (λ x. tree.now ≡ parameters x) }
     {
-        let Some((Kind::Parameters, inner)) = take::node(tree) else {
-            return None;
-        };
-        let Some(inner) = take::kept(inner) else {
+        let Some(inner) = inside::kept(Kind::Parameters, tree) else {
             return None;
         };
         let Some((paren_token, inside)) = take::group(inner) else {
@@ -103,21 +100,21 @@ fn as_typed<'t, 'a>(attrs: &'t Tree<'a>, tree: &'t Tree<'a>) -> Option<FnArg<'t,
         return None;
     };
     let Some((pat, colon_token, behind)) = joined::three(
-        part::pattern(pat),
+        inside::part(Part::Pattern, pat),
         take::mark(colon_token),
         take::chosen(behind),
     ) else {
         return None;
     };
     match behind {
-        Choice::First(inner) => match part::dots(inner) {
+        Choice::First(inner) => match inside::mark(Part::Dots, inner) {
             Some(dots) => Some(FnArg::Variadic(Variadic {
                 pat: Some(VariadicPat { pat, colon_token }),
                 dots,
             })),
             None => None,
         },
-        Choice::Second(inner) => match part::ty(inner) {
+        Choice::Second(inner) => match inside::part(Part::Type, inner) {
             Some(ty) => Some(FnArg::Typed(PatType {
                 attrs: Some(attrs),
                 pat,
@@ -138,15 +135,15 @@ fn as_fn_arg<'t, 'a>(attrs: &'t Tree<'a>, tree: &'t Tree<'a>) -> Option<FnArg<'t
     ensures attributes { IfSome result (λ x. IsBehind attrs.entry x) }
 {
     match take::chosen4(tree) {
-        Some(Choice4::First(inner)) => match part::receiver(inner) {
+        Some(Choice4::First(inner)) => match inside::part(Part::Receiver, inner) {
             Some(receiver) => Some(FnArg::Receiver(receiver)),
             None => None,
         },
-        Some(Choice4::Second(inner)) => match part::dots(inner) {
+        Some(Choice4::Second(inner)) => match inside::mark(Part::Dots, inner) {
             Some(dots) => Some(FnArg::Variadic(Variadic { pat: None, dots })),
             None => None,
         },
-        Some(Choice4::Third(inner)) => match part::unnamed(inner) {
+        Some(Choice4::Third(inner)) => match inside::part(Part::Unnamed, inner) {
             Some(ty) => Some(FnArg::Unnamed(ty)),
             None => None,
         },
@@ -171,10 +168,7 @@ impl<'t, 'a> Parameter<'t, 'a> {
         ensures tree_is { MatchOption result (IsShaped tree.now (g.ref k.Parameter) → ⊥) (λ x. tree.now ≡ parameter x) }
         ensures attributes { IfSome result (λ x. IsBehind x.attrs x.arg) }
     {
-        let Some((Kind::Parameter, inner)) = take::node(tree) else {
-            return None;
-        };
-        let Some((attrs, arg)) = take::pair(inner) else {
+        let Some((attrs, arg)) = inside::pair(Kind::Parameter, tree) else {
             return None;
         };
         let Some(arg) = as_fn_arg(attrs, arg) else {
@@ -210,7 +204,7 @@ impl<'t, 'a> OneParameter<'t, 'a> {
         ensures { MatchOption result (IsKept tree.now → IsShaped tree.now (g.ref k.FnArg) → ⊥)
             (λ x. tree.now ≡ one_parameter x) }
     {
-        let Some((Kind::FnArg, inner)) = take::node(tree) else {
+        let Some(inner) = inside::node(Kind::FnArg, tree) else {
             return None;
         };
         let parameter = take::kept(inner)?;
@@ -298,7 +292,7 @@ impl<'t, 'a> Receiver<'t, 'a> {
     pub fn of(tree: &'t Tree<'a>) -> Option<Receiver<'t, 'a>>
         ensures { MatchOption result (IsShaped tree.now (g.ref k.Receiver) → ⊥) (λ x. IsReceiver x tree.now) }
     {
-        let Some((Kind::Receiver, inner)) = take::node(tree) else {
+        let Some(inner) = inside::node(Kind::Receiver, tree) else {
             return None;
         };
         match take::chosen(inner) {
@@ -347,7 +341,7 @@ pub(crate) fn as_foreign_safety<'a>(tree: &Tree<'a>) -> Option<Safety<'a>>
         (g.called n.the_safety (g.word p)) g.nothing) → ⊥) (λ s. tree.now ≡ safety_is s) }
     ensures which { IfSome result (λ s. IsSafety s) }
 {
-    match part::optional_safety(tree) {
+    match inside::optional_word(Part::Safety, tree) {
         Some(Some(word)) => Some(as_unsafe_or_safe(word)),
         Some(None) => Some(Safety::Default),
         None => None,
@@ -418,9 +412,9 @@ fn behind_words<'t, 'a>(
     };
     let Some((fn_token, ident, generics, where_clause)) = joined::four(
         take::word(fn_token),
-        part::name(ident),
-        part::generics(generics),
-        part::where_clause(where_clause),
+        inside::word(Part::Name, ident),
+        inside::part(Part::Generics, generics),
+        inside::part(Part::Where, where_clause),
     ) else {
         return None;
     };
@@ -493,7 +487,7 @@ impl<'t, 'a> ItemFn<'t, 'a> {
         let (sig, end) = take::pair(inner)?;
         match take::chosen(end) {
             Some(Choice::First(body)) => {
-                let body = part::body(body)?;
+                let body = inside::part(Part::Body, body)?;
                 Some(ItemFn {
                     place,
                     sig,

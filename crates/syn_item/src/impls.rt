@@ -14,14 +14,14 @@ ghost use Rattle.syn_item.specs.ItemImpls.{for_tree, impl_body_tree, impl_head, 
 ghost use Rattle.syn_item.specs.ItemParts.{braced_tree};
 
 use crate::modifiers::ImplModifiers;
-use crate::part;
 use crate::part::{Braced, as_braced};
 use gram_table::kind::Kind;
+use gram_table::part::Part;
 use gram_tree::tree::Tree;
 use rust_leaf::ident::Ident;
 use syn_ast::leaf::{Delimiters, Mark};
 use syn_ast::list::Turns;
-use syn_ast::{joined, take};
+use syn_ast::{inside, joined, take};
 
 /// The trait that an impl is of, and `for`.
 #[derive(Clone, Copy)]
@@ -80,7 +80,7 @@ fn optional_for<'t, 'a>(tree: &'t Tree<'a>) -> Option<Option<ForType<'t, 'a>>>
             let Some((for_token, self_ty)) = take::pair(inner) else {
                 return None;
             };
-            match joined::two(take::word(for_token), part::self_type(self_ty)) {
+            match joined::two(take::word(for_token), inside::part(Part::SelfType, self_ty)) {
                 Some((for_token, self_ty)) => Some(Some(ForType { for_token, self_ty })),
                 None => None,
             }
@@ -118,12 +118,12 @@ fn impl_front<'t, 'a>(tree: &'t Tree<'a>) -> Option<(ImplHead<'t, 'a>, &'t Tree<
         return None;
     };
     let Some((defaultness, constness, unsafety, impl_token, generics, polarity)) = joined::six(
-        part::optional_defaultness(defaultness),
-        part::optional_constness(constness),
-        part::optional_safety(unsafety),
+        inside::optional_word(Part::Default, defaultness),
+        inside::optional_word(Part::Const, constness),
+        inside::optional_word(Part::Safety, unsafety),
         take::word(impl_token),
-        part::generics(generics),
-        part::optional_polarity(polarity),
+        inside::part(Part::Generics, generics),
+        inside::optional_mark(Part::Polarity, polarity),
     ) else {
         return None;
     };
@@ -164,9 +164,9 @@ fn impl_body<'t, 'a>(tree: &'t Tree<'a>) -> Option<ImplBody<'t, 'a>>
         return None;
     };
     let Some((first, second, where_clause, braced)) = joined::four(
-        part::first(first),
+        inside::part(Part::First, first),
         optional_for(second),
-        part::where_clause(where_clause),
+        inside::part(Part::Where, where_clause),
         as_braced(body),
     ) else {
         return None;
@@ -225,10 +225,7 @@ impl<'t, 'a> ItemImpl<'t, 'a> {
         ensures { MatchOption result (IsKept tree.now → IsShaped tree.now (g.ref k.AnImpl) → ⊥)
             (λ x. tree.now ≡ item_impl x) }
     {
-        let Some((Kind::AnImpl, inner)) = take::node(tree) else {
-            return None;
-        };
-        let Some(inner) = take::kept(inner) else {
+        let Some(inner) = inside::kept(Kind::AnImpl, tree) else {
             return None;
         };
         as_impl(inner)
@@ -248,7 +245,7 @@ impl<'t, 'a> ImplItems<'t, 'a> {
     pub fn of(tree: &'t Tree<'a>) -> Option<ImplItems<'t, 'a>>
         ensures { MatchOption result (IsShaped tree.now (g.ref k.ImplItems) → ⊥) (λ x. tree.now ≡ impl_items x) }
     {
-        let Some((Kind::ImplItems, inner)) = take::node(tree) else {
+        let Some(inner) = inside::node(Kind::ImplItems, tree) else {
             return None;
         };
         let Some(items) = take::each_turn(inner) else {

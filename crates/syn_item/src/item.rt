@@ -12,9 +12,10 @@ ghost use Rattle.syn_item.specs.ItemForms.{HasForm, HasNoBody, Is, IsFunction, I
 ghost use Rattle.syn_item.specs.ItemForms.{IsTypeAlias, MayBeKept, form_behind};
 
 use crate::judged::{Judged, verdict_on};
-use crate::part;
 use gram_table::kind::Kind;
+use gram_table::part::Part;
 use gram_tree::tree::Tree;
+use syn_ast::inside;
 use syn_ast::take::{self, Choice};
 
 /// Which form an item has.
@@ -69,7 +70,7 @@ pub struct Item<'t, 'a> {
 fn is_const(tree: &Tree<'_>) -> bool
     ensures { cond result (IsOf k.AConst tree.now) (IsShaped tree.now (g.ref k.AConst) → ⊥) }
 {
-    let Some((Kind::AConst, _)) = take::node(tree) else {
+    let Some(_) = inside::node(Kind::AConst, tree) else {
         return false;
     };
     true
@@ -80,7 +81,7 @@ fn is_const(tree: &Tree<'_>) -> bool
 fn is_enum(tree: &Tree<'_>) -> bool
     ensures { cond result (IsOf k.AnEnum tree.now) (IsShaped tree.now (g.ref k.AnEnum) → ⊥) }
 {
-    let Some((Kind::AnEnum, _)) = take::node(tree) else {
+    let Some(_) = inside::node(Kind::AnEnum, tree) else {
         return false;
     };
     true
@@ -91,7 +92,7 @@ fn is_enum(tree: &Tree<'_>) -> bool
 fn is_extern_crate(tree: &Tree<'_>) -> bool
     ensures { cond result (IsOf k.AnExternCrate tree.now) (IsShaped tree.now (g.ref k.AnExternCrate) → ⊥) }
 {
-    let Some((Kind::AnExternCrate, _)) = take::node(tree) else {
+    let Some(_) = inside::node(Kind::AnExternCrate, tree) else {
         return false;
     };
     true
@@ -113,7 +114,7 @@ fn is_function(tree: &Tree<'_>) -> bool
 fn is_foreign_mod(tree: &Tree<'_>) -> bool
     ensures { cond result (IsOf k.AForeignModule tree.now) (IsShaped tree.now (g.ref k.AForeignModule) → ⊥) }
 {
-    let Some((Kind::AForeignModule, _)) = take::node(tree) else {
+    let Some(_) = inside::node(Kind::AForeignModule, tree) else {
         return false;
     };
     true
@@ -124,7 +125,7 @@ fn is_foreign_mod(tree: &Tree<'_>) -> bool
 fn is_impl(tree: &Tree<'_>) -> bool
     ensures { cond result (IsOf k.AnImpl tree.now) (IsShaped tree.now (g.ref k.AnImpl) → ⊥) }
 {
-    let Some((Kind::AnImpl, _)) = take::node(tree) else {
+    let Some(_) = inside::node(Kind::AnImpl, tree) else {
         return false;
     };
     true
@@ -146,7 +147,7 @@ fn is_macro(tree: &Tree<'_>) -> bool
 fn is_mod(tree: &Tree<'_>) -> bool
     ensures { cond result (IsOf k.AModule tree.now) (IsShaped tree.now (g.ref k.AModule) → ⊥) }
 {
-    let Some((Kind::AModule, _)) = take::node(tree) else {
+    let Some(_) = inside::node(Kind::AModule, tree) else {
         return false;
     };
     true
@@ -157,7 +158,7 @@ fn is_mod(tree: &Tree<'_>) -> bool
 fn is_static(tree: &Tree<'_>) -> bool
     ensures { cond result (IsOf k.AStatic tree.now) (IsShaped tree.now (g.ref k.AStatic) → ⊥) }
 {
-    let Some((Kind::AStatic, _)) = take::node(tree) else {
+    let Some(_) = inside::node(Kind::AStatic, tree) else {
         return false;
     };
     true
@@ -168,7 +169,7 @@ fn is_static(tree: &Tree<'_>) -> bool
 fn is_struct(tree: &Tree<'_>) -> bool
     ensures { cond result (IsOf k.AStruct tree.now) (IsShaped tree.now (g.ref k.AStruct) → ⊥) }
 {
-    let Some((Kind::AStruct, _)) = take::node(tree) else {
+    let Some(_) = inside::node(Kind::AStruct, tree) else {
         return false;
     };
     true
@@ -190,7 +191,7 @@ fn is_type(tree: &Tree<'_>) -> bool
 fn is_union(tree: &Tree<'_>) -> bool
     ensures { cond result (IsOf k.AUnion tree.now) (IsShaped tree.now (g.ref k.AUnion) → ⊥) }
 {
-    let Some((Kind::AUnion, _)) = take::node(tree) else {
+    let Some(_) = inside::node(Kind::AUnion, tree) else {
         return false;
     };
     true
@@ -201,7 +202,7 @@ fn is_union(tree: &Tree<'_>) -> bool
 fn is_use(tree: &Tree<'_>) -> bool
     ensures { cond result (IsOf k.AUse tree.now) (IsShaped tree.now (g.ref k.AUse) → ⊥) }
 {
-    let Some((Kind::AUse, _)) = take::node(tree) else {
+    let Some(_) = inside::node(Kind::AUse, tree) else {
         return false;
     };
     true
@@ -227,7 +228,7 @@ fn trait_or_alias(tree: &Tree<'_>) -> Option<ItemForm>
 fn as_trait(tree: &Tree<'_>) -> Option<ItemForm>
     ensures { MatchOption result (IsShaped tree.now (g.ref k.ATrait) → ⊥) (λ f. HasForm f tree.now) }
 {
-    let Some((Kind::ATrait, inner)) = take::node(tree) else {
+    let Some(inner) = inside::node(Kind::ATrait, tree) else {
         return None;
     };
     let Some(found) = verdict_on(inner) else {
@@ -320,7 +321,7 @@ impl<'t, 'a> Item<'t, 'a> {
         let Some((_, _, item)) = take::three(tree) else {
             return None;
         };
-        let Some(item) = part::item(item) else {
+        let Some(item) = inside::part(Part::Item, item) else {
             return None;
         };
         let tree = item.choice();
@@ -335,7 +336,7 @@ impl<'t, 'a> Item<'t, 'a> {
     pub fn of(tree: &'t Tree<'a>) -> Option<Item<'t, 'a>>
         ensures { MatchOption result (IsItem tree.now → IsShaped tree.now (g.ref k.AnItem) → ⊥) (λ x. Is tree.now x) }
     {
-        let Some((Kind::AnItem, inner)) = take::node(tree) else {
+        let Some(inner) = inside::node(Kind::AnItem, tree) else {
             return None;
         };
         let Some(found) = verdict_on(inner) else {

@@ -19,11 +19,11 @@ use crate::constant::ItemConst;
 use crate::function::{ItemFn, Safety, as_foreign_safety};
 use crate::judged::{Judged, verdict_on};
 use crate::macros::ItemMacro;
-use crate::part;
 use gram_table::kind::Kind;
+use gram_table::part::Part;
 use gram_tree::tree::Tree;
-use syn_ast::joined;
 use syn_ast::take::{self, Choice5};
+use syn_ast::{inside, joined};
 
 /// A function of a trait.
 pub type TraitItemFn<'t, 'a> = ItemFn<'t, 'a>;
@@ -130,7 +130,7 @@ impl<'t, 'a> AssociatedItem<'t, 'a> {
         match verdict_on(tree)? {
             Judged::Kept(parts) => {
                 let (_, _, _, item) = take::four(parts)?;
-                let item = part::item(item)?;
+                let item = inside::part(Part::Item, item)?;
                 AssociatedItem::chosen(item)
             }
             Judged::Raw(tree) => Some(AssociatedItem {
@@ -146,7 +146,7 @@ impl<'t, 'a> AssociatedItem<'t, 'a> {
         ensures { MatchOption result (IsShaped tree.now (g.ref k.ATraitItem) → ⊥)
             (λ x. form_of_trait_item tree.now ≡ associated_item x) }
     {
-        let Some((Kind::ATraitItem, inner)) = take::node(tree) else {
+        let Some(inner) = inside::node(Kind::ATraitItem, tree) else {
             return None;
         };
         AssociatedItem::of_judged(inner)
@@ -158,7 +158,7 @@ impl<'t, 'a> AssociatedItem<'t, 'a> {
         ensures { MatchOption result (IsShaped tree.now (g.ref k.AnImplItem) → ⊥)
             (λ x. form_of_impl_item tree.now ≡ associated_item x) }
     {
-        let Some((Kind::AnImplItem, inner)) = take::node(tree) else {
+        let Some(inner) = inside::node(Kind::AnImplItem, tree) else {
             return None;
         };
         AssociatedItem::of_judged(inner)
@@ -185,7 +185,10 @@ impl<'t, 'a> ForeignStatic<'t, 'a> {
         let Some((safety, item)) = take::pair(tree) else {
             return None;
         };
-        let Some((safety, item)) = joined::two(as_foreign_safety(safety), part::item(item)) else {
+        let Some((safety, item)) = joined::two(
+            as_foreign_safety(safety),
+            inside::part(Part::Item, item),
+        ) else {
             return None;
         };
         Some(ForeignStatic { safety, item })
@@ -223,7 +226,7 @@ impl<'t, 'a> ForeignItem<'t, 'a> {
         ensures { MatchOption result ((a : g.Gram) → IsShaped tree.now (g.called n.the_item a) → ⊥)
             (λ x. (x.form ≡ form) × (tree.now ≡ t.Called n.the_item x.tree.now)) }
     {
-        match part::item(tree) {
+        match inside::part(Part::Item, tree) {
             Some(tree) => Some(ForeignItem { form, tree }),
             None => None,
         }
@@ -256,7 +259,7 @@ impl<'t, 'a> ForeignItem<'t, 'a> {
         ensures { MatchOption result (IsShaped tree.now (g.ref k.AForeignItem) → ⊥)
             (λ x. form_of_foreign_item tree.now ≡ foreign_item x) }
     {
-        let Some((Kind::AForeignItem, inner)) = take::node(tree) else {
+        let Some(inner) = inside::node(Kind::AForeignItem, tree) else {
             return None;
         };
         let Some(found) = verdict_on(inner) else {

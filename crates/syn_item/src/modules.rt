@@ -11,13 +11,14 @@ ghost use Rattle.syn_item.specs.ItemModules.{foreign_items, item_foreign_mod, it
 use crate::part;
 use crate::part::{Braced, as_braced};
 use gram_table::kind::Kind;
+use gram_table::part::Part;
 use gram_tree::tree::Tree;
 use rust_leaf::ident::Ident;
-use syn_ast::joined;
 use syn_ast::leaf::{Delimiters, Mark};
 use syn_ast::list::Turns;
 use syn_ast::name::Name;
 use syn_ast::take::{self, Choice};
+use syn_ast::{inside, joined};
 
 /// An extern block: `unsafe extern "C" { .. }`, behind its attributes.
 #[derive(Clone, Copy)]
@@ -41,14 +42,13 @@ impl<'t, 'a> ItemForeignMod<'t, 'a> {
         ensures { MatchOption result (IsShaped tree.now (g.ref k.AForeignModule) → ⊥)
             (λ x. tree.now ≡ item_foreign_mod x) }
     {
-        let Some((Kind::AForeignModule, inner)) = take::node(tree) else {
+        let Some((unsafety, abi, body)) = inside::three(Kind::AForeignModule, tree) else {
             return None;
         };
-        let Some((unsafety, abi, body)) = take::three(inner) else {
-            return None;
-        };
-        let Some((unsafety, body)) = joined::two(part::optional_safety(unsafety), as_braced(body))
-        else {
+        let Some((unsafety, body)) = joined::two(
+            inside::optional_word(Part::Safety, unsafety),
+            as_braced(body),
+        ) else {
             return None;
         };
         Some(ItemForeignMod {
@@ -82,17 +82,14 @@ impl<'t, 'a> ItemMod<'t, 'a> {
     pub fn of(tree: &'t Tree<'a>) -> Option<ItemMod<'t, 'a>>
         ensures { MatchOption result (IsShaped tree.now (g.ref k.AModule) → ⊥) (λ x. tree.now ≡ item_mod x) }
     {
-        let Some((Kind::AModule, inner)) = take::node(tree) else {
-            return None;
-        };
-        let Some((unsafety, mod_token, ident, end)) = take::four(inner) else {
+        let Some((unsafety, mod_token, ident, end)) = inside::four(Kind::AModule, tree) else {
             return None;
         };
         let Some((content, semi)) = module_end(end) else {
             return None;
         };
         let Some((unsafety, mod_token, ident)) = joined::three(
-            part::optional_safety(unsafety),
+            inside::optional_word(Part::Safety, unsafety),
             take::word(mod_token),
             part::name_or(ident),
         ) else {
@@ -140,7 +137,7 @@ impl<'t, 'a> Items<'t, 'a> {
     pub fn of(tree: &'t Tree<'a>) -> Option<Items<'t, 'a>>
         ensures { MatchOption result (IsShaped tree.now (g.ref k.Items) → ⊥) (λ x. tree.now ≡ items x) }
     {
-        let Some((Kind::Items, inner)) = take::node(tree) else {
+        let Some(inner) = inside::node(Kind::Items, tree) else {
             return None;
         };
         let Some(items) = take::each_turn(inner) else {
@@ -163,7 +160,7 @@ impl<'t, 'a> ForeignItems<'t, 'a> {
     pub fn of(tree: &'t Tree<'a>) -> Option<ForeignItems<'t, 'a>>
         ensures { MatchOption result (IsShaped tree.now (g.ref k.ForeignItems) → ⊥) (λ x. tree.now ≡ foreign_items x) }
     {
-        let Some((Kind::ForeignItems, inner)) = take::node(tree) else {
+        let Some(inner) = inside::node(Kind::ForeignItems, tree) else {
             return None;
         };
         let Some(items) = take::each_turn(inner) else {

@@ -13,15 +13,15 @@ ghost use Rattle.syn_item.specs.ItemTraits.{IsAlias, IsTrait, item_trait, item_t
 ghost use Rattle.syn_item.specs.ItemTraits.{trait_form_tree, trait_head, trait_items};
 
 use crate::modifiers::TraitModifiers;
-use crate::part;
 use crate::part::as_braced;
 use gram_table::kind::Kind;
+use gram_table::part::Part;
 use gram_tree::tree::Tree;
 use rust_leaf::ident::Ident;
-use syn_ast::joined;
 use syn_ast::leaf::{Delimiters, Mark};
 use syn_ast::list::Turns;
 use syn_ast::take::{self, Choice};
+use syn_ast::{inside, joined};
 
 /// A trait: `unsafe auto trait A<T>: B where .. { .. }`, behind its attributes and its visibility.
 #[derive(Clone, Copy)]
@@ -105,8 +105,8 @@ fn with_alias_end<'t, 'a>(head: TraitHead<'t, 'a>, tree: &'t Tree<'a>) -> Option
         return None;
     };
     let Some((eq_token, where_clause, semi_token)) = joined::three(
-        part::equals(eq_token),
-        part::where_clause(where_clause),
+        inside::mark(Part::Equals, eq_token),
+        inside::part(Part::Where, where_clause),
         take::mark(semi_token),
     ) else {
         return None;
@@ -133,8 +133,10 @@ fn with_trait_end<'t, 'a>(head: TraitHead<'t, 'a>, tree: &'t Tree<'a>) -> Option
     let Some((supertraits, where_clause, body)) = take::three(tree) else {
         return None;
     };
-    let Some((where_clause, body)) = joined::two(part::where_clause(where_clause), as_braced(body))
-    else {
+    let Some((where_clause, body)) = joined::two(
+        inside::part(Part::Where, where_clause),
+        as_braced(body),
+    ) else {
         return None;
     };
     Some(TraitForm::Trait(ItemTrait {
@@ -161,11 +163,11 @@ fn as_trait_form<'t, 'a>(tree: &'t Tree<'a>) -> Option<TraitForm<'t, 'a>>
         return None;
     };
     let Some((unsafety, auto_token, trait_token, ident, generics, end)) = joined::six(
-        part::optional_safety(unsafety),
-        part::optional_auto(auto_token),
+        inside::optional_word(Part::Safety, unsafety),
+        inside::optional_word(Part::Auto, auto_token),
         take::word(trait_token),
-        part::name(ident),
-        part::generics(generics),
+        inside::word(Part::Name, ident),
+        inside::part(Part::Generics, generics),
         take::chosen(end),
     ) else {
         return None;
@@ -190,10 +192,7 @@ impl<'t, 'a> TraitForm<'t, 'a> {
         ensures { MatchOption result (IsKept tree.now → IsShaped tree.now (g.ref k.ATrait) → ⊥)
             (λ x. tree.now ≡ trait_form_tree x) }
     {
-        let Some((Kind::ATrait, inner)) = take::node(tree) else {
-            return None;
-        };
-        let Some(inner) = take::kept(inner) else {
+        let Some(inner) = inside::kept(Kind::ATrait, tree) else {
             return None;
         };
         as_trait_form(inner)
@@ -241,7 +240,7 @@ impl<'t, 'a> TraitItems<'t, 'a> {
     pub fn of(tree: &'t Tree<'a>) -> Option<TraitItems<'t, 'a>>
         ensures { MatchOption result (IsShaped tree.now (g.ref k.TraitItems) → ⊥) (λ x. tree.now ≡ trait_items x) }
     {
-        let Some((Kind::TraitItems, inner)) = take::node(tree) else {
+        let Some(inner) = inside::node(Kind::TraitItems, tree) else {
             return None;
         };
         let Some(items) = take::each_turn(inner) else {

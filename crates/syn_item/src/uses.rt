@@ -14,6 +14,7 @@ ghost use Rattle.syn_item.specs.ItemUses.{use_tree};
 use gram_table::kind::Kind;
 use gram_tree::tree::Tree;
 use rust_leaf::ident::Ident;
+use syn_ast::inside;
 use syn_ast::leaf::{Delimiters, Mark};
 use syn_ast::list::Elements;
 use syn_ast::name::{Name, as_name, as_renamed};
@@ -150,7 +151,7 @@ impl<'t, 'a> UseTree<'t, 'a> {
             (λ x. tree.now ≡ use_branch x) }
         ensures inside { IfSome result (λ x. t.Second tree.now ≡ use_inside_tree x) }
     {
-        let Some((Kind::UseBranch, inner)) = take::node(tree) else {
+        let Some(inner) = inside::node(Kind::UseBranch, tree) else {
             return None;
         };
         match take::chosen(inner) {
@@ -170,7 +171,7 @@ impl<'t, 'a> UseTree<'t, 'a> {
     pub fn of(tree: &'t Tree<'a>) -> Option<UseTree<'t, 'a>>
         ensures { MatchOption result (IsShaped tree.now (g.ref k.UseTree) → ⊥) (λ x. tree.now ≡ use_tree x) }
     {
-        let Some((Kind::UseTree, inner)) = take::node(tree) else {
+        let Some(inner) = inside::node(Kind::UseTree, tree) else {
             return None;
         };
         group_or_branch(inner)
@@ -181,7 +182,7 @@ impl<'t, 'a> UseTree<'t, 'a> {
     pub fn rooted(tree: &'t Tree<'a>) -> Option<UseTree<'t, 'a>>
         ensures { MatchOption result (IsShaped tree.now (g.ref k.UseRooted) → ⊥) (λ x. tree.now ≡ use_rooted x) }
     {
-        let Some((Kind::UseRooted, inner)) = take::node(tree) else {
+        let Some(inner) = inside::node(Kind::UseRooted, tree) else {
             return None;
         };
         group_or_branch(inner)
@@ -203,7 +204,7 @@ impl<'t, 'a> UseTop<'t, 'a> {
     pub fn of(tree: &'t Tree<'a>) -> Option<UseTop<'t, 'a>>
         ensures { MatchOption result (IsShaped tree.now (g.ref k.UseTop) → ⊥) (λ x. tree.now ≡ use_top x) }
     {
-        let Some((Kind::UseTop, inner)) = take::node(tree) else {
+        let Some(inner) = inside::node(Kind::UseTop, tree) else {
             return None;
         };
         match take::chosen(inner) {

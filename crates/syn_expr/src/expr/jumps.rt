@@ -19,7 +19,7 @@ use rust_leaf::ident::Ident;
 use syn_ast::leaf::Lifetime;
 use syn_ast::missing::nothing;
 use syn_ast::patterns::RangeLimits;
-use syn_ast::take;
+use syn_ast::{inside, take};
 
 /// A loop or a block that is left: `break 'a b`.
 #[derive(Clone, Copy)]
@@ -58,7 +58,7 @@ fn whole_break_label<'a>(tree: &Tree<'a>) -> Option<Lifetime<'a>>
     let Some((label, behind)) = take::pair(tree) else {
         return None;
     };
-    let Some((Part::Label, label)) = take::called(label) else {
+    let Some(label) = inside::part(Part::Label, label) else {
         return None;
     };
     if !nothing(behind) {

@@ -16,12 +16,12 @@ use crate::part;
 use gram_table::kind::Kind;
 use gram_table::part::Part;
 use gram_tree::tree::Tree;
-use syn_ast::joined;
 use syn_ast::leaf::{Delimiters, Mark};
 use syn_ast::list::Elements;
 use syn_ast::paths::{Index, Member};
 use syn_ast::sub::{Worded, optional_as_worded};
 use syn_ast::take::{self, Choice, Choice3};
+use syn_ast::{inside, joined};
 
 /// A name or an index behind a dot, each by its name as a part. `None` only of trees that have another shape.
 pub fn as_field_member<'a>(tree: &Tree<'a>) -> Option<Member<'a>>
@@ -33,7 +33,7 @@ pub fn as_field_member<'a>(tree: &Tree<'a>) -> Option<Member<'a>>
         return None;
     };
     match which {
-        Choice::First(inner) => match part::name(inner) {
+        Choice::First(inner) => match inside::word(Part::Name, inner) {
             Some(word) => Some(Member::Named(word)),
             None => None,
         },
@@ -61,10 +61,7 @@ impl<'t, 'a> FieldValues<'t, 'a> {
         ensures { MatchOption result (IsKept tree.now → IsShaped tree.now (g.ref k.FieldValues) → ⊥)
             (λ x. tree.now ≡ field_values x) }
     {
-        let Some((Kind::FieldValues, inner)) = take::node(tree) else {
-            return None;
-        };
-        let Some(kept) = take::kept(inner) else {
+        let Some(kept) = inside::kept(Kind::FieldValues, tree) else {
             return None;
         };
         let Some((brace_token, fields)) = part::list_in(kept) else {
@@ -110,9 +107,9 @@ fn named_arm_comma(tree: &Tree<'_>) -> Option<(bool, Option<Mark>)>
         (g.called n.the_comma (g.alt t1 g.nothing (g.alt t2 (g.mark c3 cs4) g.nothing))) → ⊥)
         (λ p. tree.now ≡ t.Called n.the_comma (arm_comma_tree p.0 p.1)) }
 {
-    match take::called(tree) {
-        Some((Part::Comma, inner)) => as_arm_comma(inner),
-        _ => None,
+    match inside::part(Part::Comma, tree) {
+        Some(inner) => as_arm_comma(inner),
+        None => None,
     }
 }
 
@@ -143,10 +140,7 @@ impl<'t, 'a> Arm<'t, 'a> {
         ensures { MatchOption result (IsKept tree.now → IsShaped tree.now (g.ref k.Arm) → ⊥)
             (λ x. tree.now ≡ arm x) }
     {
-        let Some((Kind::Arm, inner)) = take::node(tree) else {
-            return None;
-        };
-        let Some(kept) = take::kept(inner) else {
+        let Some(kept) = inside::kept(Kind::Arm, tree) else {
             return None;
         };
         let Some((attrs, pat, guard, fat_arrow_token, body, comma)) = take::six(kept) else {
@@ -155,7 +149,7 @@ impl<'t, 'a> Arm<'t, 'a> {
         let Some((guard, fat_arrow_token, body, comma)) = joined::four(
             optional_as_worded(guard),
             take::mark(fat_arrow_token),
-            part::body(body),
+            inside::part(Part::Body, body),
             named_arm_comma(comma),
         ) else {
             return None;
@@ -208,7 +202,7 @@ fn as_struct_rest<'t, 'a>(tree: &'t Tree<'a>) -> Option<StructRest<'t, 'a>>
         (g.alt t3 g.nothing a4))) → ⊥)
         (λ r. tree.now ≡ struct_rest_tree r) }
 {
-    let Some((Part::Base, inner)) = take::called(tree) else {
+    let Some(inner) = inside::part(Part::Base, tree) else {
         return None;
     };
     let Some((dot2_token, rest)) = take::pair(inner) else {
@@ -238,7 +232,7 @@ impl<'t, 'a> AFieldValue<'t, 'a> {
     pub fn of(tree: &'t Tree<'a>) -> Option<AFieldValue<'t, 'a>>
         ensures { MatchOption result (IsShaped tree.now (g.ref k.AFieldValue) → ⊥) (λ x. tree.now ≡ a_field_value x) }
     {
-        let Some((Kind::AFieldValue, inner)) = take::node(tree) else {
+        let Some(inner) = inside::node(Kind::AFieldValue, tree) else {
             return None;
         };
         let Some(which) = take::chosen(inner) else {
@@ -266,7 +260,7 @@ fn as_member_value<'t, 'a>(tree: &'t Tree<'a>) -> Option<(Member<'a>, Mark, &'t 
     let Some((member, colon_token, expr)) = joined::three(
         Member::of(member),
         take::mark(colon_token),
-        part::value(expr),
+        inside::part(Part::Value, expr),
     ) else {
         return None;
     };
@@ -316,10 +310,7 @@ impl<'t, 'a> FieldValue<'t, 'a> {
     pub fn of(tree: &'t Tree<'a>) -> Option<FieldValue<'t, 'a>>
         ensures { MatchOption result (IsShaped tree.now (g.ref k.FieldValue) → ⊥) (λ x. tree.now ≡ field_value x) }
     {
-        let Some((Kind::FieldValue, inner)) = take::node(tree) else {
-            return None;
-        };
-        let Some((attrs, init)) = take::pair(inner) else {
+        let Some((attrs, init)) = inside::pair(Kind::FieldValue, tree) else {
             return None;
         };
         let Some((member, colon_token, expr)) = as_field_init(init) else {

@@ -21,7 +21,7 @@ use syn_ast::leaf::{Delimiters, Mark};
 use syn_ast::list::{Elements, Turns};
 use syn_ast::missing::nothing;
 use syn_ast::paths::Member;
-use syn_ast::{joined, take};
+use syn_ast::{inside, joined, take};
 
 /// A dot, and the numbers behind it that end in one.
 pub fn as_dot<'t, 'a>(tree: &'t Tree<'a>) -> Option<(Mark, Turns<'t, 'a>)>
@@ -102,7 +102,7 @@ impl<'t, 'a> ExprMethodCall<'t, 'a> {
         };
         let Some((dot, method, turbofish, args)) = joined::four(
             as_dot(dot),
-            part::name(method),
+            inside::word(Part::Name, method),
             take::optional(turbofish),
             part::list_in(args),
         ) else {
@@ -307,7 +307,7 @@ impl<'t, 'a> ExprCast<'t, 'a> {
         let Some(as_token) = take::word(as_token) else {
             return None;
         };
-        let Some((Part::Type, ty)) = take::called(ty) else {
+        let Some(ty) = inside::part(Part::Type, ty) else {
             return None;
         };
         if !nothing(behind) {

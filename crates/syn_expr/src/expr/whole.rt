@@ -260,9 +260,9 @@ fn which(tree: &Tree<'_>) -> Option<ExprForm>
     }
 }
 
-// The form of an expression: of a node that one is, what it holds; else the tree itself.
+/// The form of an expression: of a node that one is, what it holds; else the tree itself.
 #[tactic(auto, using(crate::proofs::ExprWhole::form_is))]
-fn form_of<'t, 'a>(tree: &'t Tree<'a>) -> &'t Tree<'a>
+pub(crate) fn form_of<'t, 'a>(tree: &'t Tree<'a>) -> &'t Tree<'a>
     ensures { result.now ≡ form_of tree.now }
 {
     let Some((Kind::Expression(_), inner)) = tree.node() else {
