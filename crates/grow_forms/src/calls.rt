@@ -16,6 +16,8 @@ use syn::{
 pub(crate) enum Call {
     // `parse2` of these types
     Stmt,
+    // the same of a block, of which the last statement is asked
+    LastStmt,
     Parameter,
     OneTrait,
     OneTraitItem,
@@ -30,9 +32,19 @@ pub(crate) enum Call {
 }
 
 /// The texts, with what is called.
-pub(crate) const CALLS: [(Question, &str); 25] = [
+pub(crate) const CALLS: [(Question, &str); 35] = [
     (Question::Called(Call::Stmt), "x ;"),
     (Question::Called(Call::Stmt), "x"),
+    (Question::Called(Call::Stmt), "m ! () ;"),
+    (Question::Called(Call::Stmt), "m ! [a] ;"),
+    (Question::Called(Call::Stmt), "# [a] m ! () ;"),
+    (Question::Called(Call::Stmt), "m ! { } ;"),
+    (Question::Called(Call::Stmt), "m ! { }"),
+    (Question::Called(Call::Stmt), "m ! () . a ;"),
+    (Question::Called(Call::Stmt), "m ! () + 1 ;"),
+    (Question::Called(Call::Stmt), "(m ! ()) ;"),
+    (Question::Called(Call::LastStmt), "{ x ; m ! () }"),
+    (Question::Called(Call::LastStmt), "{ x ; m ! () ; }"),
     (Question::Called(Call::Parameter), "# [a] mut b : B"),
     (Question::Called(Call::Parameter), "b : B , c : C"),
     (
@@ -99,6 +111,7 @@ pub(crate) fn put_call<'a>(
     let mut input = Reader::new(arena, buffer);
     match call {
         Call::Stmt => typed::put_stmt(arena, buffer, page),
+        Call::LastStmt => typed::put_last_stmt(arena, buffer, page),
         Call::Parameter => typed::put_parameter(arena, buffer, page),
         Call::OneTrait => typed::put_trait(arena, buffer, page),
         Call::OneTraitItem => typed::put_trait_item(arena, buffer, page),

@@ -3,8 +3,8 @@
 use rows::Page;
 use stops::{Stop, looked_at};
 use syn::{
-    Arena, FnArg, OneTrait, OneTraitItem, Parameter, ParseFault, Stmt, TokenBuffer, Tree, parse2,
-    print, write,
+    Arena, Block, BlockStmt, FnArg, Mark, OneTrait, OneTraitItem, Parameter, ParseFault,
+    Statements, Stmt, TokenBuffer, Tree, parse2, print, write,
 };
 
 // Puts that a text is none of a type, if memory was not refused.
@@ -26,22 +26,64 @@ fn put_tree(tree: &Tree<'_>, page: &mut Page) -> Result<(), Stop> {
     Ok(())
 }
 
-/// Puts the expression that a statement is, and whether it is ended by a semicolon.
+// Puts whether a statement is ended by a semicolon.
+fn put_end(semi_token: Option<Mark>, page: &mut Page) {
+    page.put(if semi_token.is_some() {
+        "ended: "
+    } else {
+        "open: "
+    });
+}
+
+// Puts the expression that a statement is, or the macro and its attributes, and whether it is ended by a semicolon.
+fn put_form(stmt: Stmt<'_, '_>, page: &mut Page) -> Result<(), Stop> {
+    match stmt {
+        Stmt::Expr(found) => {
+            put_end(found.semi_token, page);
+            put_tree(found.expr, page)
+        }
+        Stmt::Macro(found) => {
+            page.put("a macro behind «");
+            put_tree(found.attrs, page)?;
+            page.put("», ");
+            put_end(found.semi_token, page);
+            put_tree(found.mac, page)
+        }
+        _ => Err(Stop::Changed),
+    }
+}
+
+/// Puts what a statement is.
 pub(crate) fn put_stmt<'a>(
     arena: &'a Arena,
     buffer: &'a TokenBuffer<'a>,
     page: &mut Page,
 ) -> Result<(), Stop> {
     match parse2::<Stmt>(arena, buffer) {
-        Ok(Stmt::Expr(found)) => {
-            page.put(if found.semi_token.is_some() {
-                "ended: "
-            } else {
-                "open: "
-            });
-            put_tree(found.expr, page)
-        }
-        Ok(_) => Err(Stop::Changed),
+        Ok(found) => put_form(found, page),
+        Err(fault) => put_refusal(fault, page),
+    }
+}
+
+// The last statement of a block, if there is one.
+fn last_stmt<'t, 'a>(block: &Block<'t, 'a>) -> Option<Stmt<'t, 'a>> {
+    match BlockStmt::of(Statements::of(block.stmts)?.stmts.each.last()?)? {
+        BlockStmt::Stmt(tree) => Stmt::of(tree),
+        BlockStmt::Semi(_) => None,
+    }
+}
+
+/// Puts what the last statement of a block is.
+pub(crate) fn put_last_stmt<'a>(
+    arena: &'a Arena,
+    buffer: &'a TokenBuffer<'a>,
+    page: &mut Page,
+) -> Result<(), Stop> {
+    match parse2::<Block>(arena, buffer) {
+        Ok(block) => match last_stmt(&block) {
+            Some(found) => put_form(found, page),
+            None => Err(Stop::Changed),
+        },
         Err(fault) => put_refusal(fault, page),
     }
 }

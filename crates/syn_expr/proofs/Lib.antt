@@ -7,3 +7,4 @@ pub mod ExprWhole
 pub mod ExprRead
 pub mod ExprKept
 pub mod ExprUnread
+pub mod Macros

@@ -1,7 +1,7 @@
 -- The trees that statements are.
 use Rattle.syn_ast.specs.Leaves.{mark_tree, optional_tree, turns_tree, word_tree}
 use Rattle.syn_ast.specs.Sub.{marked_type_tree, worded_tree}
-use Rattle.std.specs.Prelude.{◌≡◌, ◌⊎◌}
+use Rattle.std.specs.Prelude.{◌≡◌, ◌⊎◌, None, Option, Some}
 use Rattle.syn_expr.specs.declared.stmt.BlockStmt.{BlockStmt}
 use Rattle.syn_expr.specs.declared.stmt.LocalInit.{LocalInit}
 use Rattle.syn_expr.specs.declared.stmt.Statements.{Statements}
@@ -15,6 +15,7 @@ use Rattle.syn_ast.specs.declared.leaf.Mark.{Mark}
 use Rattle.syn_ast.specs.declared.sub.Worded.{Worded}
 use Rattle.syn_expr.specs.declared.stmt.BlockStmt.TheVariants as turn
 use Rattle.syn_expr.specs.declared.stmt.Stmt.TheVariants as stmts
+use Rattle.syn_grammar.specs.Forms.{form_of}
 use Rattle.syn_grammar.specs.Kind as k
 use Rattle.syn_grammar.specs.Name as n
 use Rattle.syn_grammar.specs.Tree as t
@@ -60,18 +61,43 @@ stmt_macro x = t.Pair x.attrs.now (t.Pair x.mac.now (optional_tree semicolon_tre
 abbrev pub stmt_local : StmtLocal → Tree
 stmt_local x = t.Pair x.attrs.now x.local.now
 
--- an expression that is a statement, behind attributes, and a ; or none: #[a] b;
-abbrev pub stmt_expr : StmtExpr → Tree
-stmt_expr x = t.Pair (t.Called n.the_attributes x.attrs.now) (t.Pair (t.Called n.the_expression x.expr.now)
-    (optional_tree semicolon_tree x.semi_token))
+-- attributes, an expression, and a ; or none: #[a] b;
+abbrev pub expression_tree : Tree → Tree → Option Mark → Tree
+expression_tree a e s = t.Pair (t.Called n.the_attributes a) (t.Pair (t.Called n.the_expression e) (optional_tree
+    semicolon_tree s))
 
--- the alternative of a statement that was chosen: a macro is the second, a let the third, an expression the fifth, and
--- an item the first or the fourth, which both read one
+-- an expression that is a statement, behind attributes, and a ; or none
+abbrev pub stmt_expr : StmtExpr → Tree
+stmt_expr x = expression_tree x.attrs.now x.expr.now x.semi_token
+
+-- a form is a macro, and has no operand: a!(b)
+abbrev pub macro_form : Tree → Option Tree
+macro_form (t.Alone k.ExprMacro m) = Some m
+macro_form _ = None
+
+-- An expression is a macro and nothing else: its form is one. Nothing stands beside it then, neither attributes of the
+-- expression's own nor an operator, and it doesn't go on, as a!(b).c does.
+abbrev pub bare_macro : Tree → Option Tree
+bare_macro e = macro_form (form_of e)
+
+-- a macro is called where such an expression has a ; behind it, as in a!(b); and not at the end of a block
+abbrev pub called_macro : Tree → Option Mark → Option Tree
+called_macro e (Some s) = bare_macro e
+called_macro e None = None
+
+-- the alternative of expressions, in which the macro is called
+abbrev pub IsCall : Tree → StmtMacro → Type 0
+IsCall x y =
+    (e : Tree) × (x ≡ seconds 4 (expression_tree y.attrs.now e y.semi_token)) × (called_macro e y.semi_token ≡ Some
+    y.mac.now)
+
+-- the alternative of a statement that was chosen: a macro is the second, or the fifth, an expression, if it is called there;
+-- a let is the third, any other expression the fifth, and an item the first or the fourth, which both read one
 abbrev pub IsAlternative : Tree → Stmt → Type 0
 IsAlternative x (stmts.Item y) = (x ≡ t.First y.now) ⊎ (x ≡ seconds 3 (t.First y.now))
-IsAlternative x (stmts.Macro y) = x ≡ t.Second (t.First (stmt_macro y))
+IsAlternative x (stmts.Macro y) = (x ≡ t.Second (t.First (stmt_macro y))) ⊎ IsCall x y
 IsAlternative x (stmts.Local y) = x ≡ seconds 2 (t.First (stmt_local y))
-IsAlternative x (stmts.Expr y) = x ≡ seconds 4 (stmt_expr y)
+IsAlternative x (stmts.Expr y) = (x ≡ seconds 4 (stmt_expr y)) × (called_macro y.expr.now y.semi_token ≡ None)
 
 -- a node that is a statement, by its form
 abbrev pub IsStmt : Tree → Stmt → Type 0

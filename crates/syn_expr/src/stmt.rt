@@ -1,29 +1,31 @@
 //! Statements.
 
 ghost use Rattle.proc_macro2.specs.Token.{Token};
-ghost use Rattle.std.specs.Prelude.{Bool, List, MatchOption, false, ℕ, ◌≡◌};
+ghost use Rattle.gram_tree.specs.Forms.{seconds};
+ghost use Rattle.std.specs.Prelude.{Bool, List, MatchOption, false, option_map, ℕ, ◌≡◌};
 ghost use Rattle.syn_ast.specs.Kept.{IsKept};
 ghost use Rattle.syn_ast.specs.Leaves.{optional_tree};
 ghost use Rattle.syn_ast.specs.Shape.{IsShaped, may_choose};
-ghost use Rattle.syn_expr.specs.Statements.{IsAlternative, IsStmt, block_stmt, diverge_tree, local, local_init_tree};
-ghost use Rattle.syn_expr.specs.Statements.{one_statement, semicolon_tree, statements, stmt_expr, stmt_local};
+ghost use Rattle.syn_expr.specs.Statements.{IsAlternative, IsStmt, bare_macro, block_stmt, called_macro, diverge_tree};
+ghost use Rattle.syn_expr.specs.Statements.{local, local_init_tree, one_statement, statements, stmt_expr, stmt_local};
 ghost use Rattle.syn_expr.specs.Statements.{stmt_macro};
 ghost use Rattle.syn_grammar.specs.Gram as g;
 ghost use Rattle.syn_grammar.specs.Kind as k;
 ghost use Rattle.syn_grammar.specs.Name as n;
 ghost use Rattle.syn_grammar.specs.Statements.{statement};
+ghost use Rattle.syn_grammar.specs.Tree.{Tree as GivenTree};
 
+use crate::expr::whole::form_of;
 use crate::modifiers::LocalModifiers;
-use crate::part;
 use gram_table::kind::Kind;
 use gram_table::part::Part;
 use gram_tree::tree::Tree;
 use rust_leaf::ident::Ident;
-use syn_ast::joined;
 use syn_ast::leaf::Mark;
 use syn_ast::list::Turns;
 use syn_ast::sub::{MarkedType, Worded, as_worded, optional_as_marked_type};
 use syn_ast::take::{self, Choice, Choice5};
+use syn_ast::{inside, joined};
 
 /// A statement of a block, or a lone `;`.
 #[derive(Clone, Copy)]
@@ -74,12 +76,12 @@ fn optional_as_diverge<'t, 'a>(tree: &'t Tree<'a>) -> Option<Option<Worded<'t, '
     match take::optional(tree) {
         None => None,
         Some(None) => Some(None),
-        Some(Some(inner)) => match take::called(inner) {
-            Some((Part::Else, inner)) => match as_worded(inner) {
+        Some(Some(inner)) => match inside::part(Part::Else, inner) {
+            Some(inner) => match as_worded(inner) {
                 Some(found) => Some(Some(found)),
                 None => None,
             },
-            _ => None,
+            None => None,
         },
     }
 }
@@ -96,7 +98,7 @@ fn as_local_init<'t, 'a>(tree: &'t Tree<'a>) -> Option<LocalInit<'t, 'a>>
     };
     let Some((eq_token, expr, diverge)) = joined::three(
         take::mark(eq_token),
-        part::value(expr),
+        inside::part(Part::Value, expr),
         optional_as_diverge(diverge),
     ) else {
         return None;
@@ -141,10 +143,7 @@ impl<'t, 'a> Statements<'t, 'a> {
         ensures { MatchOption result (IsKept tree.now → IsShaped tree.now (g.ref k.Statements) → ⊥)
             (λ x. tree.now ≡ statements x) }
     {
-        let Some((Kind::Statements, inner)) = take::node(tree) else {
-            return None;
-        };
-        let Some(kept) = take::kept(inner) else {
+        let Some(kept) = inside::kept(Kind::Statements, tree) else {
             return None;
         };
         let Some(stmts) = take::each_turn(kept) else {
@@ -169,10 +168,7 @@ impl<'t, 'a> OneStatement<'t, 'a> {
         ensures { MatchOption result (IsKept tree.now → IsShaped tree.now (g.ref k.OneStatement) → ⊥)
             (λ x. tree.now ≡ one_statement x) }
     {
-        let Some((Kind::OneStatement, inner)) = take::node(tree) else {
-            return None;
-        };
-        let Some(stmt) = take::kept(inner) else {
+        let Some(stmt) = inside::kept(Kind::OneStatement, tree) else {
             return None;
         };
         Some(OneStatement { stmt })
@@ -204,10 +200,7 @@ impl<'t, 'a> Local<'t, 'a> {
         ensures { MatchOption result (IsKept tree.now → IsShaped tree.now (g.ref k.ALet) → ⊥)
             (λ x. tree.now ≡ local x) }
     {
-        let Some((Kind::ALet, inner)) = take::node(tree) else {
-            return None;
-        };
-        let Some(kept) = take::kept(inner) else {
+        let Some(kept) = inside::kept(Kind::ALet, tree) else {
             return None;
         };
         let Some((let_token, pat, ty, init, semi_token)) = take::five(kept) else {
@@ -232,27 +225,8 @@ impl<'t, 'a> Local<'t, 'a> {
     }
 }
 
-// The `;` that stands there, if one does.
-fn optional_semicolon(tree: &Tree<'_>) -> Option<Option<Mark>>
-    ensures { MatchOption result ((test : List Token → Bool) (c1 : ℕ) (cs2 : List ℕ) → IsShaped tree.now
-        (g.alt test (g.called n.the_semicolon (g.mark c1 cs2)) g.nothing) → ⊥)
-        (λ o. tree.now ≡ optional_tree semicolon_tree o) }
-{
-    match take::optional(tree) {
-        None => None,
-        Some(None) => Some(None),
-        Some(Some(inner)) => match take::called(inner) {
-            Some((Part::Semicolon, inner)) => match take::mark(inner) {
-                Some(mark) => Some(Some(mark)),
-                None => None,
-            },
-            _ => None,
-        },
-    }
-}
-
-/// A macro in braces that is a statement by itself: `a! { b };`. One in parentheses or brackets is an expression: `StmtExpr`
-/// has `a!(b);`.
+/// A macro that is a statement by itself: `a! { b }`, `a! { b };`, `a!(b);`. In parentheses or brackets, and without a `;`,
+/// it is an expression, the last of a block.
 #[derive(Clone, Copy)]
 pub struct StmtMacro<'t, 'a> {
     /// Its attributes.
@@ -272,7 +246,7 @@ pub struct StmtLocal<'t, 'a> {
     pub local: &'t Tree<'a>,
 }
 
-/// An expression that is a statement: `a;`.
+/// An expression that is a statement: `a;`. It is no macro by itself with a `;`, which is a `StmtMacro`.
 #[derive(Clone, Copy)]
 pub struct StmtExpr<'t, 'a> {
     /// Its attributes.
@@ -292,7 +266,7 @@ pub enum Stmt<'t, 'a> {
     Item(&'t Tree<'a>),
     /// `a;`
     Expr(StmtExpr<'t, 'a>),
-    /// `a! { b }`
+    /// `a! { b }`, `a!(b);`
     Macro(StmtMacro<'t, 'a>),
 }
 
@@ -305,7 +279,7 @@ fn as_macro<'t, 'a>(tree: &'t Tree<'a>) -> Option<StmtMacro<'t, 'a>>
     let Some((attrs, mac, semi_token)) = take::three(tree) else {
         return None;
     };
-    let Some(semi_token) = optional_semicolon(semi_token) else {
+    let Some(semi_token) = inside::optional_mark(Part::Semicolon, semi_token) else {
         return None;
     };
     Some(StmtMacro {
@@ -326,9 +300,9 @@ fn as_expression<'t, 'a>(tree: &'t Tree<'a>) -> Option<StmtExpr<'t, 'a>>
         return None;
     };
     let Some((attrs, expr, semi_token)) = joined::three(
-        part::attributes(attrs),
-        part::expression(expr),
-        optional_semicolon(semi_token),
+        inside::part(Part::Attributes, attrs),
+        inside::part(Part::Expression, expr),
+        inside::optional_mark(Part::Semicolon, semi_token),
     ) else {
         return None;
     };
@@ -337,6 +311,42 @@ fn as_expression<'t, 'a>(tree: &'t Tree<'a>) -> Option<StmtExpr<'t, 'a>>
         expr,
         semi_token,
     })
+}
+
+// The macro that an expression is, where it is nothing else.
+#[tactic(auto, using(crate::proofs::Macros::macro_forms))]
+fn bare_macro<'t, 'a>(tree: &'t Tree<'a>) -> Option<&'t Tree<'a>>
+    ensures { option_map (λ x. x.now) result ≡ bare_macro tree.now }
+{
+    let Some((Kind::ExprMacro, mac)) = form_of(tree).alone() else {
+        return None;
+    };
+    Some(mac)
+}
+
+// The macro that a statement's expression is, where it is nothing else and a `;` stands behind it.
+fn called_macro<'t, 'a>(found: StmtExpr<'t, 'a>) -> Option<&'t Tree<'a>>
+    ensures { option_map (λ x. x.now) result ≡ called_macro found.entry.expr.now found.entry.semi_token }
+{
+    match found.semi_token {
+        Some(_) => bare_macro(found.expr),
+        None => None,
+    }
+}
+
+// A macro that is called, or else the expression.
+#[tactic(auto, using(crate::proofs::Macros::calls))]
+fn as_called<'t, 'a>(found: StmtExpr<'t, 'a>) -> Stmt<'t, 'a>
+    ensures { (x : GivenTree) → x ≡ seconds 4 (stmt_expr found.entry) → IsAlternative x result }
+{
+    match called_macro(found) {
+        Some(mac) => Stmt::Macro(StmtMacro {
+            attrs: found.attrs,
+            mac,
+            semi_token: found.semi_token,
+        }),
+        None => Stmt::Expr(found),
+    }
 }
 
 // A `let`.
@@ -369,7 +379,7 @@ fn as_stmt<'t, 'a>(tree: &'t Tree<'a>) -> Option<Stmt<'t, 'a>>
         },
         Choice5::Fourth(item) => Some(Stmt::Item(item)),
         Choice5::Fifth(inner) => match as_expression(inner) {
-            Some(found) => Some(Stmt::Expr(found)),
+            Some(found) => Some(as_called(found)),
             None => None,
         },
     }
@@ -381,7 +391,7 @@ impl<'t, 'a> Stmt<'t, 'a> {
     pub fn of(tree: &'t Tree<'a>) -> Option<Stmt<'t, 'a>>
         ensures { MatchOption result (IsShaped tree.now (g.ref k.AStatement) → ⊥) (λ s. IsStmt tree.now s) }
     {
-        let Some((Kind::AStatement, inner)) = take::node(tree) else {
+        let Some(inner) = inside::node(Kind::AStatement, tree) else {
             return None;
         };
         as_stmt(inner)

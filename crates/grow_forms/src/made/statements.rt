@@ -2,8 +2,9 @@
 
 use crate::made::change::{By, Change, Unmade, remade};
 use syn::{
-    Arena, Block, BlockModifiers, BlockStmt, ExprBlock, File, Frontmatter, Local, LocalInit,
-    OneStatement, Position, Statements, Stmt, StmtExpr, StmtLocal, Tree, Worded, equal,
+    Arena, Block, BlockModifiers, BlockStmt, ExprBlock, ExprMacro, File, Frontmatter, Local,
+    LocalInit, OneStatement, Position, Statements, Stmt, StmtExpr, StmtLocal, StmtMacro, Tree,
+    Worded, equal,
 };
 use syn_made::expr::stmt::{block, statement};
 use syn_made::expr::whole::expression;
@@ -14,16 +15,42 @@ fn stmt<'t, 'a>(tree: &'t Tree<'a>) -> Option<Stmt<'t, 'a>> {
     Stmt::of(OneStatement::of(tree)?.stmt)
 }
 
-// An expression without its semicolon, as a statement.
+// A statement without its semicolon, if it is an expression or a macro.
+fn without_semicolon<'t, 'a>(stmt: Stmt<'t, 'a>) -> Option<Stmt<'t, 'a>> {
+    match stmt {
+        Stmt::Expr(found) => Some(Stmt::Expr(StmtExpr {
+            semi_token: None,
+            ..found
+        })),
+        Stmt::Macro(found) => Some(Stmt::Macro(StmtMacro {
+            semi_token: None,
+            ..found
+        })),
+        _ => None,
+    }
+}
+
+// An expression or a macro without its semicolon, as a statement.
 fn open<'a>(arena: &'a Arena, tree: &Tree<'a>) -> Result<Option<Tree<'a>>, Unmade> {
-    let Some(Stmt::Expr(found)) = stmt(tree) else {
+    let found = stmt(tree).ok_or(Unmade::NoRow)?;
+    let open = without_semicolon(found).ok_or(Unmade::NoRow)?;
+    Ok(Some(statement(arena, &open)?))
+}
+
+// A macro that is a statement, as an expression that is one, if that is the same tree.
+fn as_expression<'a>(arena: &'a Arena, tree: &Tree<'a>) -> Result<Option<Tree<'a>>, Unmade> {
+    let found = OneStatement::of(tree).ok_or(Unmade::NoRow)?;
+    let Some(Stmt::Macro(called)) = Stmt::of(found.stmt) else {
         return Err(Unmade::NoRow);
     };
-    let open = Stmt::Expr(StmtExpr {
-        semi_token: None,
-        ..found
+    let form = ExprMacro { mac: called.mac }.to_tree(arena)?;
+    let expr = expression(arena, Position::InStatement, form)?;
+    let stmt = Stmt::Expr(StmtExpr {
+        attrs: called.attrs,
+        expr: &expr,
+        semi_token: called.semi_token,
     });
-    Ok(Some(statement(arena, &open)?))
+    Ok(same(statement(arena, &stmt)?, found.stmt))
 }
 
 // A `let` without its type.
@@ -45,16 +72,16 @@ fn inferred<'a>(arena: &'a Arena, tree: &Tree<'a>) -> Result<Option<Tree<'a>>, U
     Ok(Some(statement(arena, &inferred)?))
 }
 
+// What was made, if it is the same tree as what was read.
+fn same<'a>(made: Tree<'a>, read: &Tree<'a>) -> Option<Tree<'a>> {
+    if equal(&made, read) { Some(made) } else { None }
+}
+
 // A statement as it was read, if it is the same tree again.
 fn again<'a>(arena: &'a Arena, tree: &Tree<'a>) -> Result<Option<Tree<'a>>, Unmade> {
     let found = OneStatement::of(tree).ok_or(Unmade::NoRow)?;
     let stmt = Stmt::of(found.stmt).ok_or(Unmade::NoRow)?;
-    let made = statement(arena, &stmt)?;
-    Ok(if equal(&made, found.stmt) {
-        Some(made)
-    } else {
-        None
-    })
+    Ok(same(statement(arena, &stmt)?, found.stmt))
 }
 
 // A `let` with its value and what stands behind `else`, if a tree is one.
@@ -143,6 +170,7 @@ pub(crate) fn changed<'a>(
         "open" => open(arena, tree),
         "inferred" => inferred(arena, tree),
         "again" => again(arena, tree),
+        "as an expression" => as_expression(arena, tree),
         "as read" => as_read(arena, tree),
         "braced" => braced(arena, tree, true),
         "braced without else" => braced(arena, tree, false),

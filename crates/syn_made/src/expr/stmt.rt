@@ -2,12 +2,13 @@
 
 ghost use Rattle.gram_tree.specs.Forms.{turns};
 ghost use Rattle.std.specs.Prelude.{◌≡◌, IfOk, map};
-ghost use Rattle.syn_expr.specs.Statements.{IsAlternative, IsStmt, block_stmt, one_statement, statements, stmt_expr};
-ghost use Rattle.syn_expr.specs.Statements.{stmt_local, stmt_macro};
+ghost use Rattle.syn_expr.specs.Statements.{IsStmt, block_stmt, one_statement, statements, stmt_expr, stmt_local};
+ghost use Rattle.syn_expr.specs.Statements.{stmt_macro};
+ghost use Rattle.syn_expr.specs.declared.stmt.Stmt.{Stmt as GivenStmt};
 ghost use Rattle.syn_grammar.specs.Kind as k;
 ghost use Rattle.syn_grammar.specs.Tree as t;
-ghost use Rattle.syn_made.specs.MadeExpr.{chosen_stmt, closed_value, is_macro_form, is_macro_item, made_init};
-ghost use Rattle.syn_made.specs.MadeExpr.{made_local, value_before};
+ghost use Rattle.syn_made.specs.MadeExpr.{IsToldAs, as_expression, chosen_macro, chosen_stmt, closed_value, is_call};
+ghost use Rattle.syn_made.specs.MadeExpr.{is_macro_form, is_macro_item, made_init, made_local, value_before};
 
 use crate::expr::whole::expression;
 use crate::forms::{Called, First, Grouped, Node, Second};
@@ -24,6 +25,7 @@ use rust_map::span::Span;
 use std::alloc::AllocError;
 use syn_ast::leaf::Delimiters;
 use syn_ast::sub::Worded;
+use syn_expr::blocks::ExprMacro;
 use syn_expr::expr::whole::ExprParen;
 use syn_expr::stmt::{
     BlockStmt, Local, LocalInit, OneStatement, Statements, Stmt, StmtExpr, StmtLocal, StmtMacro,
@@ -178,28 +180,65 @@ fn is_macro(item: &Tree<'_>) -> bool
     }
 }
 
+// Whether a macro is read as an expression.
+fn is_call(found: &StmtMacro<'_, '_>) -> bool
+    ensures { result ≡ is_call found.now.mac.now found.now.semi_token }
+{
+    match found.semi_token {
+        Some(_) => !ends_in_braces(found.mac),
+        None => false,
+    }
+}
+
+// A macro as an expression of a statement.
+fn as_expression<'a>(arena: &'a Arena, mac: &Tree<'a>) -> Result<Tree<'a>, AllocError>
+    ensures { IfOk result (λ x. x ≡ as_expression mac.now) }
+{
+    let form = ExprMacro { mac }.to_tree(arena)?;
+    expression(arena, Position::InStatement, form)
+}
+
+// Of a macro the alternative that it is.
+fn macro_alternative<'a>(
+    arena: &'a Arena,
+    found: &StmtMacro<'_, 'a>,
+) -> Result<Tree<'a>, AllocError>
+    ensures { IfOk result (λ x. x ≡ chosen_macro found.now) }
+{
+    if !is_call(found) {
+        return nth(arena, 1, found);
+    }
+    let expr = as_expression(arena, found.mac)?;
+    let called = StmtExpr {
+        attrs: found.attrs,
+        expr: &expr,
+        semi_token: found.semi_token,
+    };
+    behind(arena, 4, &called)
+}
+
 // Of a statement the alternative that it is.
 fn alternative<'a>(arena: &'a Arena, stmt: &Stmt<'_, 'a>) -> Result<Tree<'a>, AllocError>
-    ensures same { IfOk result (λ x. x ≡ chosen_stmt stmt.now) }
-    ensures says { IfOk result (λ x. IsAlternative x stmt.now) }
+    ensures { IfOk result (λ x. x ≡ chosen_stmt stmt.now) }
 {
     match stmt {
         Stmt::Item(item) if is_macro(item) => nth(arena, 0, item),
         Stmt::Item(item) => nth(arena, 3, item),
-        Stmt::Macro(found) => nth(arena, 1, found),
+        Stmt::Macro(found) => macro_alternative(arena, found),
         Stmt::Local(found) => nth(arena, 2, found),
         Stmt::Expr(found) => behind(arena, 4, found),
     }
 }
 
-/// A statement as a form of the kind `AStatement`. `Stmt::of` answers the same statement of it.
+/// A statement as a form of the kind `AStatement`. `Stmt::of` answers the same statement of it; of a `Stmt::Expr` that is a
+/// macro and nothing else, with a `;` behind it, it answers the `Stmt::Macro`, as it does where that is read.
 ///
 /// # Errors
 ///
 /// Where there is no memory for it.
 pub fn statement<'a>(arena: &'a Arena, stmt: &Stmt<'_, 'a>) -> Result<Tree<'a>, AllocError>
     ensures same { IfOk result (λ x. x ≡ t.Node k.AStatement (chosen_stmt stmt.now)) }
-    ensures says { IfOk result (λ x. IsStmt x stmt.now) }
+    ensures says { IfOk result (λ x. (s : GivenStmt) → IsToldAs stmt.now s → IsStmt x s) }
 {
     let inside = alternative(arena, stmt)?;
     made::node(arena, Kind::AStatement, inside)
