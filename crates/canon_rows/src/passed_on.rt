@@ -1,6 +1,6 @@
 //! What is passed on to the streams within, and how often: no contract can say what an inner stream answered.
 
-use crate::ran::{Ended, Ran, ended};
+use crate::ran::{Ended, Ran, end_of};
 use crate::streams::{Plan, Sink, Source};
 use canon::Watched;
 use rows::Unanswered;
@@ -126,7 +126,7 @@ fn is_one_failed(alloc: Global) -> bool {
 // Whether a run of which that read fails reads no more, and writes and flushes nothing.
 fn stops_at_read(alloc: Global, bad: u32) -> bool {
     let ran = Ran::by(TEXT, Plan::failing_at(bad, 1), Plan::by(1));
-    is_reading(&ended(alloc, ran), bad)
+    is_reading(&end_of(alloc, ran), bad)
 }
 
 fn is_reading(ended: &Ended, reads: u32) -> bool {
@@ -158,7 +158,7 @@ fn is_front(ended: &Ended, bad: u32) -> bool {
 // Whether a run of which that write fails writes no more.
 fn stops_at_write(alloc: Global, bad: u32) -> bool {
     let ran = Ran::by(TEXT, Plan::by(usize::MAX), Plan::failing_at(bad, 1));
-    is_front(&ended(alloc, ran), bad)
+    is_front(&end_of(alloc, ran), bad)
 }
 
 fn stops_at_each_write(alloc: Global) -> bool {
@@ -185,7 +185,7 @@ fn is_flushed(alloc: Global, bad: u32, word: &str, flushed: usize) -> bool {
         flushes: Plan::failing_at(bad, 0),
         ..Ran::by(TEXT, Plan::by(usize::MAX), Plan::by(usize::MAX))
     };
-    has_page(&ended(alloc, ran), word, flushed)
+    has_page(&end_of(alloc, ran), word, flushed)
 }
 
 fn is_each_flushed(alloc: Global) -> bool {
@@ -211,5 +211,5 @@ fn took_few_calls(ended: &Ended, written: usize) -> bool {
 fn are_calls_few(alloc: Global) -> Result<bool, AllocError> {
     let text = many_items(alloc)?;
     let ran = Ran::by(text.as_slice(), Plan::by(LARGE), Plan::by(LARGE));
-    Ok(took_few_calls(&ended(alloc, ran), 110_000))
+    Ok(took_few_calls(&end_of(alloc, ran), 110_000))
 }

@@ -59,7 +59,7 @@ pub struct Ended {
 }
 
 /// What a run comes to.
-pub fn ended(alloc: Global, ran: Ran<'_>) -> Ended {
+pub fn end_of(alloc: Global, ran: Ran<'_>) -> Ended {
     let mut reader = Watched::new(Source::new(ran.text, ran.reads));
     let mut writer = Watched::new(Sink::flushing(alloc, ran.writes, ran.flushes));
     let outcome = match ran.call {

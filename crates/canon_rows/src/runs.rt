@@ -1,6 +1,6 @@
 //! Texts, and what `run` and `run_outline` read and write.
 
-use crate::ran::{Call, Ended, Ran, ended, word};
+use crate::ran::{Call, Ended, Ran, end_of, word};
 use crate::streams::{Plan, Sink, Source};
 use canon::{Watched, run};
 use rows::Unanswered;
@@ -71,13 +71,13 @@ fn is_end(ended: &Ended, end: End<'_>) -> bool {
 
 // Whether `run` comes to that.
 fn runs(alloc: Global, ran: Ran<'_>, end: End<'_>) -> bool {
-    is_end(&ended(alloc, ran), end)
+    is_end(&end_of(alloc, ran), end)
 }
 
 // Whether `run_outline` does.
 fn outlines(alloc: Global, ran: Ran<'_>, end: End<'_>) -> bool {
     let call = Call::Outline;
-    is_end(&ended(alloc, Ran { call, ..ran }), end)
+    is_end(&end_of(alloc, Ran { call, ..ran }), end)
 }
 
 // Whether the text is written as its page where both streams go by a plan.

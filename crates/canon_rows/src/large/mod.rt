@@ -28,7 +28,10 @@ pub fn holds(alloc: Global, name: &str) -> Result<bool, Unanswered> {
 // The same of what the calls answer of the text.
 fn of_text(alloc: Global, name: &str) -> Result<bool, Unanswered> {
     let texts = texts::large(alloc);
-    of_calls(alloc, name, texts.source.whole()?, texts.wanted.whole()?)
+    match (texts.source.whole(), texts.wanted.whole()) {
+        (Ok(source), Ok(wanted)) => of_calls(alloc, name, source, wanted),
+        _ => Err(Unanswered::Cut),
+    }
 }
 
 fn of_calls(alloc: Global, name: &str, source: &str, wanted: &str) -> Result<bool, Unanswered> {
