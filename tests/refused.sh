@@ -93,8 +93,10 @@ said=$'canon: not UTF-8\n'
 sweep "canon, no text" canon_cli "$work/bytes"
 want=2 said=$'usage: canon [outline]\n'
 sweep "canon, an argument" canon_cli "$work/nothing" x
-want=0 answer=../crates/canon_cli_outline/stdout said=
-sweep "canon outline" canon_cli ../crates/canon_cli_outline/stdin outline
+printf 'struct S;\n/// x\nfn go(){}\nmod m{struct T;}\n' > "$work/names"
+printf 'struct S 1:7\nfn go 3:3\nmod m 4:4\nstruct T 4:13\n' > "$work/names.answer"
+want=0 answer=$work/names.answer said=
+sweep "canon outline" canon_cli "$work/names" outline
 
 want=0 said= refusal=
 answer=../crates/lex_cli/stdout

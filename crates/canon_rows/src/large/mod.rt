@@ -13,25 +13,25 @@ mod texts;
 mod values;
 
 use calls::{canonical_is, is_copied, is_lexed, is_placed, is_printed, runs_to};
-use rows::{Page, Unanswered};
+use rows::Unanswered;
 use std::alloc::Global;
 
 /// Whether what has that name holds.
-pub fn holds(name: &str, page: &mut Page) -> Result<(), Unanswered> {
-    let alloc = page.alloc();
-    let holds = match name {
-        "literals and values" => values::are_read_back(alloc)?,
-        "identifiers and numbers" => values::are_taken(alloc)?,
-        _ => of_text(alloc, name)?,
-    };
-    write!(page, "{holds}");
-    Ok(())
+pub fn holds(alloc: Global, name: &str) -> Result<bool, Unanswered> {
+    match name {
+        "literals and values" => values::are_read_back(alloc),
+        "identifiers and numbers" => values::are_taken(alloc),
+        _ => of_text(alloc, name),
+    }
 }
 
 // The same of what the calls answer of the text.
 fn of_text(alloc: Global, name: &str) -> Result<bool, Unanswered> {
     let texts = texts::large(alloc);
-    of_calls(alloc, name, texts.source.whole()?, texts.wanted.whole()?)
+    match (texts.source.whole(), texts.wanted.whole()) {
+        (Ok(source), Ok(wanted)) => of_calls(alloc, name, source, wanted),
+        _ => Err(Unanswered::Cut),
+    }
 }
 
 fn of_calls(alloc: Global, name: &str, source: &str, wanted: &str) -> Result<bool, Unanswered> {

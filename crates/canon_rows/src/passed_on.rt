@@ -1,7 +1,9 @@
 //! What is passed on to the streams within, and how often: no contract can say what an inner stream answered.
 
+use crate::ran::{Ended, Ran, end_of};
 use crate::streams::{Plan, Sink, Source};
-use canon::{Fault, Watched, run};
+use canon::Watched;
+use rows::Unanswered;
 use std::alloc::{AllocError, Global};
 use std::io;
 use std::io::{ErrorKind, Read, Write};
@@ -12,6 +14,19 @@ const LARGE: usize = 65_536;
 const TEXT: &[u8] = b"struct  S ;m!{a+-b}";
 
 const PAGE: &[u8] = b"struct S ; m ! { a +- b }\n";
+
+/// Whether what has that name holds.
+pub fn holds(alloc: Global, name: &str) -> Result<bool, Unanswered> {
+    match name {
+        "each call is passed on once and whole" => Ok(is_each_passed_on(alloc)?),
+        "one failure is given back and not forgotten" => Ok(is_one_failed(alloc)),
+        "a run reads no more behind a failed read" => Ok(stops_at_each_read(alloc)),
+        "a run writes no more behind a failed write" => Ok(stops_at_each_write(alloc)),
+        "a run flushes all and says where that fails" => Ok(is_each_flushed(alloc)),
+        "a large text takes few calls" => Ok(are_calls_few(alloc)?),
+        _ => Err(Unanswered::NoRow),
+    }
+}
 
 // Whether a call had that answer.
 fn is_answer<T: PartialEq + Copy>(answer: io::Result<T>, wanted: Result<T, ErrorKind>) -> bool {
@@ -50,11 +65,6 @@ fn is_each_passed_on(alloc: Global) -> Result<bool, AllocError> {
     let mut buf = vec![in alloc; 0u8; LARGE]?;
     let is_read = is_read_at_once(bytes.as_slice(), &mut buf);
     Ok(is_read && is_written_at_once(alloc, bytes.as_slice()))
-}
-
-#[test]
-fn each_call_is_passed_on_once_and_whole(rt: HostRuntime) {
-    assert!(rt; matches!(is_each_passed_on(rt.alloc()), Ok(true)));
 }
 
 // Whether a read of four bytes has that answer, and a call has failed by then or not.
@@ -109,35 +119,37 @@ fn is_one_flush_failed(alloc: Global) -> bool {
         && writer.get_ref().flushes.count == 3
 }
 
-#[test]
-fn one_failure_is_given_back_and_not_forgotten(rt: HostRuntime) {
-    assert!(rt; is_one_read_failed());
-    assert!(rt; is_one_write_failed(rt.alloc()));
-    assert!(rt; is_one_flush_failed(rt.alloc()));
+fn is_one_failed(alloc: Global) -> bool {
+    is_one_read_failed() && is_one_write_failed(alloc) && is_one_flush_failed(alloc)
 }
 
 // Whether a run of which that read fails reads no more, and writes and flushes nothing.
 fn stops_at_read(alloc: Global, bad: u32) -> bool {
-    let mut reader = Watched::new(Source::new(TEXT, Plan::failing_at(bad, 1)));
-    let mut writer = Watched::new(Sink::new(alloc, Plan::by(1)));
-    let outcome = run(alloc, &mut reader, &mut writer);
-    matches!(&outcome, Err(Fault::Reading))
-        && reader.get_ref().reads.count == bad
-        && writer.get_ref().writes.count == 0
-        && writer.get_ref().flushes.count == 0
+    let ran = Ran::by(TEXT, Plan::failing_at(bad, 1), Plan::by(1));
+    is_reading(&end_of(alloc, ran), bad)
 }
 
-#[test]
-fn a_run_reads_no_more_behind_a_failed_read(rt: HostRuntime) {
+fn is_reading(ended: &Ended, reads: u32) -> bool {
+    ended.word == "reading"
+        && ended.reads == reads
+        && ended.sink.writes.count == 0
+        && ended.sink.flushes.count == 0
+}
+
+fn stops_at_each_read(alloc: Global) -> bool {
+    let mut all = true;
     for bad in 1..21u32 {
-        assert!(rt; stops_at_read(rt.alloc(), bad), "at read {bad}");
+        all &= stops_at_read(alloc, bad);
     }
+    all
 }
 
-// Whether a sink has taken a byte of the page by each write but the last, that one, and was not flushed.
-fn is_front(sink: &Sink, bad: u32) -> bool {
+// Whether a run failed at that write: a byte of the page was taken by each one before, and nothing was flushed.
+fn is_front(ended: &Ended, bad: u32) -> bool {
+    let sink = &ended.sink;
     let taken = sink.taken.as_slice();
-    sink.writes.count == bad
+    ended.word == "writing"
+        && sink.writes.count == bad
         && taken.len() as u64 + 1 == bad as u64
         && PAGE.starts_with(taken)
         && sink.flushes.count == 0
@@ -145,44 +157,39 @@ fn is_front(sink: &Sink, bad: u32) -> bool {
 
 // Whether a run of which that write fails writes no more.
 fn stops_at_write(alloc: Global, bad: u32) -> bool {
-    let mut reader = Watched::new(Source::new(TEXT, Plan::by(usize::MAX)));
-    let mut writer = Watched::new(Sink::new(alloc, Plan::failing_at(bad, 1)));
-    let outcome = run(alloc, &mut reader, &mut writer);
-    matches!(&outcome, Err(Fault::Writing)) && is_front(writer.get_ref(), bad)
+    let ran = Ran::by(TEXT, Plan::by(usize::MAX), Plan::failing_at(bad, 1));
+    is_front(&end_of(alloc, ran), bad)
 }
 
-#[test]
-fn a_run_writes_no_more_behind_a_failed_write(rt: HostRuntime) {
+fn stops_at_each_write(alloc: Global) -> bool {
+    let mut all = true;
     for bad in 1..27u32 {
-        assert!(rt; stops_at_write(rt.alloc(), bad), "at write {bad}");
+        all &= stops_at_write(alloc, bad);
     }
+    all
 }
 
-// Whether a sink has taken the page by one write, and one flush saw so many bytes.
-fn has_page(sink: &Sink, flushed: usize) -> bool {
-    sink.taken.as_slice() == PAGE
+// Whether a run ended so, its page was taken by one write, and one flush saw so many bytes.
+fn has_page(ended: &Ended, word: &str, flushed: usize) -> bool {
+    let sink = &ended.sink;
+    ended.word == word
+        && sink.taken.as_slice() == PAGE
         && sink.writes.count == 1
         && sink.flushes.count == 1
         && sink.flushed == flushed
 }
 
 // Whether a run of which that flush fails, or none where it is 0, has written all and says so.
-fn is_flushed(alloc: Global, bad: u32, flushed: usize) -> bool {
-    let flushes = Plan::failing_at(bad, 0);
-    let mut reader = Watched::new(Source::new(TEXT, Plan::by(usize::MAX)));
-    let mut writer = Watched::new(Sink::flushing(alloc, Plan::by(usize::MAX), flushes));
-    let is_said = match run(alloc, &mut reader, &mut writer) {
-        Ok(()) => bad == 0,
-        Err(Fault::Writing) => bad == 1,
-        Err(_) => false,
+fn is_flushed(alloc: Global, bad: u32, word: &str, flushed: usize) -> bool {
+    let ran = Ran {
+        flushes: Plan::failing_at(bad, 0),
+        ..Ran::by(TEXT, Plan::by(usize::MAX), Plan::by(usize::MAX))
     };
-    is_said && has_page(writer.get_ref(), flushed)
+    has_page(&end_of(alloc, ran), word, flushed)
 }
 
-#[test]
-fn a_run_flushes_all_and_says_where_that_fails(rt: HostRuntime) {
-    assert!(rt; is_flushed(rt.alloc(), 0, PAGE.len()));
-    assert!(rt; is_flushed(rt.alloc(), 1, 0));
+fn is_each_flushed(alloc: Global) -> bool {
+    is_flushed(alloc, 0, "done", PAGE.len()) && is_flushed(alloc, 1, "writing", 0)
 }
 
 fn many_items(alloc: Global) -> Result<Vec<u8>, AllocError> {
@@ -193,25 +200,16 @@ fn many_items(alloc: Global) -> Result<Vec<u8>, AllocError> {
     Ok(text)
 }
 
-// Whether a run of a text takes at most 64 reads and two writes, and writes so many bytes.
-fn takes_few_calls(alloc: Global, text: &[u8], written: usize) -> bool {
-    let mut reader = Watched::new(Source::new(text, Plan::by(LARGE)));
-    let mut writer = Watched::new(Sink::new(alloc, Plan::by(LARGE)));
-    let outcome = run(alloc, &mut reader, &mut writer);
-    outcome.is_ok()
-        && writer.get_ref().taken.len() == written
-        && reader.get_ref().reads.count <= 64
-        && writer.get_ref().writes.count == 2
+// Whether a run has taken at most 64 reads and two writes, and written so many bytes.
+fn took_few_calls(ended: &Ended, written: usize) -> bool {
+    ended.word == "done"
+        && ended.sink.taken.len() == written
+        && ended.reads <= 64
+        && ended.sink.writes.count == 2
 }
 
-fn are_calls_few(alloc: Global) -> bool {
-    match many_items(alloc) {
-        Ok(text) => takes_few_calls(alloc, text.as_slice(), 110_000),
-        Err(_) => false,
-    }
-}
-
-#[test]
-fn a_large_text_takes_few_calls(rt: HostRuntime) {
-    assert!(rt; are_calls_few(rt.alloc()));
+fn are_calls_few(alloc: Global) -> Result<bool, AllocError> {
+    let text = many_items(alloc)?;
+    let ran = Ran::by(text.as_slice(), Plan::by(LARGE), Plan::by(LARGE));
+    Ok(took_few_calls(&end_of(alloc, ran), 110_000))
 }

@@ -1,10 +1,25 @@
 //! What becomes of the map, by `canonical` and `outline`.
 
 use canon::{Error, Fault, Row, canonical, outline};
+use rows::Unanswered;
 use rust_map::{LineColumn, SourceMap};
 use std::alloc::Global;
 
 const TWO: &str = "struct A;\nstruct B;";
+
+/// Whether what has that name holds.
+pub fn holds(alloc: Global, name: &str) -> Result<bool, Unanswered> {
+    match name {
+        "the last positions are for so many characters" => Ok(positions_are_for_so_many(alloc)),
+        "faults have their place in their own text" => Ok(has_its_place_twice(alloc)),
+        "names have their place in their own text" => Ok(names_have_their_places_twice(alloc)),
+        _ => Err(Unanswered::NoRow),
+    }
+}
+
+fn positions_are_for_so_many(alloc: Global) -> bool {
+    are_for_one(alloc) && are_too_few(alloc)
+}
 
 // Whether that is the output of a text that is put into a map.
 fn is_output(alloc: Global, text: &str, map: &mut SourceMap, output: &str) -> bool {
@@ -34,12 +49,6 @@ fn are_too_few(alloc: Global) -> bool {
     is_full(alloc, "struct S;", &mut map)
 }
 
-#[test]
-fn the_last_positions_are_for_so_many_characters(rt: HostRuntime) {
-    assert!(rt; are_for_one(rt.alloc()));
-    assert!(rt; are_too_few(rt.alloc()));
-}
-
 // Whether an error says those words.
 fn says(alloc: Global, error: &Error, words: &str) -> bool {
     match error.to_string(alloc) {
@@ -65,11 +74,6 @@ fn has_its_place_twice(alloc: Global) -> bool {
     canonical(alloc, TWO, &mut map).is_ok()
         && has_its_place(alloc, &mut map)
         && has_its_place(alloc, &mut map)
-}
-
-#[test]
-fn faults_have_their_place_in_their_own_text(rt: HostRuntime) {
-    assert!(rt; has_its_place_twice(rt.alloc()));
 }
 
 // Whether those are the rows of the outline of the text below.
@@ -98,9 +102,4 @@ fn names_have_their_places_twice(alloc: Global) -> bool {
     canonical(alloc, TWO, &mut map).is_ok()
         && names_have_their_places(alloc, &mut map)
         && names_have_their_places(alloc, &mut map)
-}
-
-#[test]
-fn names_have_their_place_in_their_own_text(rt: HostRuntime) {
-    assert!(rt; names_have_their_places_twice(rt.alloc()));
 }
