@@ -1,5 +1,5 @@
 -- Paths of names alone, as each run reads them.
-use Rattle.std.proofs.Common.{Bor, ◌≡◌, ℕ, zero, suc, ◌-◌, ◌<◌, List, [], ◌∷◌, refl, sym, ap, subst, ◌∙◌, arith}
+use Rattle.std.proofs.Common.{◌≡◌, ℕ, zero, suc, ◌-◌, ◌<◌, List, [], ◌∷◌, refl, sym, ap, subst, ◌∙◌, arith}
 use Rattle.std.specs.Prelude.{true, None, Some, codes}
 use Rattle.proc_macro2.specs.Token.{Token, Opens, Closes, Ident, Literal, Punct}
 use Rattle.rust_leaf.specs.declared.punct.Spacing.{Spacing}
@@ -7,18 +7,13 @@ use Rattle.rust_leaf.specs.declared.punct.Spacing.TheVariants.{Joint}
 use Rattle.syn_grammar.specs.Kind.{AnyPath, AtType, AType, InExpression, InModule, InType, Path, Plus, Segments, Style}
 use Rattle.syn_grammar.specs.Look.{as_far}
 use Rattle.syn_grammar.specs.Paths.{arguments_stand}
-use Rattle.syn_grammar.specs.Run.{Got, kind, mark_at, run, word_at}
+use Rattle.syn_grammar.specs.Run.{kind, mark_at, run, word_at}
 use Rattle.syn_grammar.specs.Say.{marks}
 use Rattle.syn_grammar.specs.Table.{table}
 use Rattle.syn_grammar.specs.Tree.{Tree}
 use Rattle.syn_grammar.specs.Words.{is_name, is_path_keyword, is_reserved}
-use Rattle.rust_leaf.specs.Leaf.{ident_text}
-use Rattle.rust_leaf.specs.declared.ident.Ident as I
-use Rattle.syn_buffer.specs.Entries.{entry_token}
-use Rattle.syn_buffer.specs.declared.entry.Entry.{Entry}
-use Rattle.syn_buffer.specs.declared.entry.Entry.TheVariants as entry
-use Rattle.gram_look.specs.Tokens.{tokens}
-use Rattle.gram_plain.specs.Names.{IsName, IsNamed, IsPassed, IsPathEnd, another_name, further_segments, last_segment}
+use Rattle.gram_plain.specs.Names.{IsFurther, IsLast, IsName, IsNamed, IsPassed, IsPathEnd, another_name}
+use Rattle.gram_plain.specs.Names.{further_segments, last_segment}
 use Rattle.gram_plain.specs.Names.{path_of, type_of, unqualified}
 use Rattle.gram_plain.specs.Read.{IsReadIn}
 use Rattle.gram_plain.specs.declared.names.Name.{Name}
@@ -131,48 +126,29 @@ a_type p ts us x calls h =
           r n (omega arith),
         ) refl
 
--- the same, of the entries that code has looked at
-pub last_at : (s : Style) (n : Name) (w : Bor I.Ident) (e : Entry) (es fs : List Entry) (x : Tree) (most : ℕ)
-    → es ≡ e ∷ fs → e ≡ entry.Ident w → 0 < most → IsName n (ident_text w.now) → IsPathEnd s (tokens fs)
-    → x ≡ last_segment s n (ident_text w.now) → IsReadIn most (Segments s) (tokens es) x (tokens fs)
-last_at s n w e es fs x most a b m h p q fuel l =
-    ap (λ es. run fuel (kind (Segments s)) (tokens es)) a
-    ∙ ap (λ e. run fuel (kind (Segments s)) (entry_token e ∷ tokens fs)) b
-    ∙ last s n (ident_text w.now) (tokens fs) h p fuel (omega arith)
-    ∙ ap (λ x. Got x (tokens fs)) (sym q)
+-- the same, of the tokens that code has looked at
+pub last_at : (s : Style) (n : Name) (cs : List ℕ) (ts us : List Token) (most : ℕ) → 0 < most
+    → IsLast s ts n cs us → IsReadIn most (Segments s) ts (last_segment s n cs) us
+last_at s n cs ts us most m b fuel l =
+    ap (run fuel (kind (Segments s))) b.first ∙ last s n cs us b.name b.end fuel (omega (arith, m))
 
-pub further_at : (s : Style) (n : Name) (w : Bor I.Ident) (e : Entry) (es fs gs hs : List Entry) (spacing : Spacing)
-    (x y : Tree) (most : ℕ) → es ≡ e ∷ fs → e ≡ entry.Ident w → 0 < most → IsName n (ident_text w.now)
-    → tokens fs ≡ Punct 58 Joint ∷ Punct 58 spacing ∷ tokens gs → IsNamed (tokens gs)
-    → IsReadIn (most - 1) (Segments s) (tokens gs) x (tokens hs)
-    → y ≡ further_segments s n (ident_text w.now) spacing x → IsReadIn most (Segments s) (tokens es) y (tokens hs)
-further_at s n w e es fs gs hs spacing x y most a b m h p i r q fuel l =
-    ap (λ es. run fuel (kind (Segments s)) (tokens es)) a
-    ∙ ap (λ e. run fuel (kind (Segments s)) (entry_token e ∷ tokens fs)) b
-    ∙ ap (λ ts. run fuel (kind (Segments s)) (Ident (ident_text w.now) ∷ ts)) p
-    ∙ further s n (ident_text w.now) spacing (tokens gs) (tokens hs) x (most - 1) h i r fuel (omega arith)
-    ∙ ap (λ x. Got x (tokens hs)) (sym q)
+pub further_at : (s : Style) (n : Name) (cs : List ℕ) (ts us vs : List Token) (spacing : Spacing) (x : Tree) (most : ℕ)
+    → 0 < most → IsFurther ts n cs spacing us → IsNamed us → IsReadIn (most - 1) (Segments s) us x vs
+    → IsReadIn most (Segments s) ts (further_segments s n cs spacing x) vs
+further_at s n cs ts us vs spacing x most m b i r fuel l =
+    ap (run fuel (kind (Segments s))) b.first
+    ∙ further s n cs spacing us vs x (most - 1) b.name i r fuel (omega (arith, m))
 
-pub named_at : (n : Name) (w : Bor I.Ident) (e : Entry) (es fs : List Entry) → es ≡ e ∷ fs → e ≡ entry.Ident w
-    → IsName n (ident_text w.now) → IsNamed (tokens es)
-named_at n w e es fs a b h =
-    let P : List Entry → Type 0 = λ es. IsNamed (tokens es) in
-    let Q : Entry → Type 0 = λ e. IsNamed (entry_token e ∷ tokens fs) in
-    subst P (sym a) (subst Q (sym b) (is_some_name n (ident_text w.now) h))
+pub named_at : (n : Name) (cs : List ℕ) (ts us : List Token) → ts ≡ Ident cs ∷ us → IsName n cs → IsNamed ts
+named_at n cs ts us a h = subst IsNamed (sym a) (is_some_name n cs h)
 
-pub last_passed_at : (s : Style) (w : Bor I.Ident) (e : Entry) (es fs : List Entry) → es ≡ e ∷ fs
-    → e ≡ entry.Ident w → IsPathEnd s (tokens fs) → IsPassed (tokens es) (tokens fs)
-last_passed_at s w e es fs a b h =
-    let P : List Entry → Type 0 = λ es. IsPassed (tokens es) (tokens fs) in
-    let Q : Entry → Type 0 = λ e. IsPassed (entry_token e ∷ tokens fs) (tokens fs) in
-    subst P (sym a) (subst Q (sym b) (last_passed s (ident_text w.now) (tokens fs) h))
+pub last_passed_at : (s : Style) (n : Name) (cs : List ℕ) (ts us : List Token) → IsLast s ts n cs us → IsPassed ts us
+last_passed_at s n cs ts us b =
+    let P : List Token → Type 0 = λ ts. IsPassed ts us in
+    subst P (sym b.first) (last_passed s cs us b.end)
 
-pub further_passed_at : (w : Bor I.Ident) (e : Entry) (es fs gs hs : List Entry) (spacing : Spacing) → es ≡ e ∷ fs
-    → e ≡ entry.Ident w → tokens fs ≡ Punct 58 Joint ∷ Punct 58 spacing ∷ tokens gs → IsNamed (tokens gs)
-    → IsPassed (tokens gs) (tokens hs) → IsPassed (tokens es) (tokens hs)
-further_passed_at w e es fs gs hs spacing a b p i h =
-    let P : List Entry → Type 0 = λ es. IsPassed (tokens es) (tokens hs) in
-    let Q : Entry → Type 0 = λ e. IsPassed (entry_token e ∷ tokens fs) (tokens hs) in
-    let R : List Token → Type 0 = λ ts. IsPassed (Ident (ident_text w.now) ∷ ts) (tokens hs) in
-    subst P (sym a) (subst Q (sym b) (subst R (sym p)
-    (further_passed (ident_text w.now) spacing (tokens gs) (tokens hs) i h)))
+pub further_passed_at : (n : Name) (cs : List ℕ) (ts us vs : List Token) (spacing : Spacing)
+    → IsFurther ts n cs spacing us → IsNamed us → IsPassed us vs → IsPassed ts vs
+further_passed_at n cs ts us vs spacing b i h =
+    let P : List Token → Type 0 = λ ts. IsPassed ts vs in
+    subst P (sym b.first) (further_passed cs spacing us vs i h)

@@ -1,6 +1,7 @@
 -- Paths of names alone: what stands behind a name, and their trees.
 use Rattle.std.specs.Prelude.{◌≡◌, ℕ, ◌≤◌, IsTrue, true, List, [], ◌∷◌, length, None, Some}
 use Rattle.proc_macro2.specs.Token.{Token, Ident, Punct}
+use Rattle.rust_leaf.specs.Leaf.{ident_text}
 use Rattle.rust_leaf.specs.declared.punct.Spacing.{Spacing}
 use Rattle.rust_leaf.specs.declared.punct.Spacing.TheVariants.{Joint}
 use Rattle.syn_grammar.specs.Kind.{Style, Plus, AnyPath, AType, Path, Segments}
@@ -12,6 +13,8 @@ use Rattle.syn_grammar.specs.Words.{is_name, is_path_keyword, is_plain_name}
 use Rattle.syn_buffer.specs.Entries.{is_whole}
 use Rattle.gram_tree.specs.Forms.{seconds}
 use Rattle.gram_look.specs.Tokens.{tokens}
+use Rattle.gram_plain.specs.declared.names.Beginning.{Beginning}
+use Rattle.gram_plain.specs.declared.names.Beginning.TheVariants as begins
 use Rattle.gram_plain.specs.declared.names.Behind.{Behind}
 use Rattle.gram_plain.specs.declared.names.Behind.TheVariants as behind
 use Rattle.gram_plain.specs.declared.names.Name.{Name}
@@ -49,17 +52,51 @@ abbrev pub IsWholeBehind : Behind → Type 0
 IsWholeBehind (behind.Name spacing span rest) = IsTrue (is_whole rest.now)
 IsWholeBehind _ = Unit {0}
 
+-- a path begins with its last name, or with another and ::, as it is said
+pub record IsLast (s : Style) (ts : List Token) (n : Name) (cs : List ℕ) (us : List Token) : Type 0 where
+  pub first : ts ≡ Ident cs ∷ us
+  pub name : IsName n cs
+  pub end : IsPathEnd s us
+
+pub record IsFurther (ts : List Token) (n : Name) (cs : List ℕ) (spacing : Spacing) (us : List Token) : Type 0 where
+  pub first : ts ≡ Ident cs ∷ Punct 58 Joint ∷ Punct 58 spacing ∷ us
+  pub name : IsName n cs
+
+abbrev pub IsBegin : Style → List Token → Beginning → Type 0
+IsBegin s ts (begins.Last n word rest) = IsLast s ts n (ident_text word.now) (tokens rest.now)
+IsBegin s ts (begins.Further n word spacing span rest) =
+    IsFurther ts n (ident_text word.now) spacing (tokens rest.now)
+IsBegin s ts begins.Other = Unit {0}
+
+abbrev pub IsWholeBegin : Beginning → Type 0
+IsWholeBegin (begins.Last n word rest) = IsTrue (is_whole rest.now)
+IsWholeBegin (begins.Further n word spacing span rest) = IsTrue (is_whole rest.now)
+IsWholeBegin begins.Other = Unit {0}
+
+-- the segments that a name begins, with that behind it: one that may take arguments is the second of the choice
+abbrev pub by_name : Name → Tree → Tree
+by_name names.Plain x = Second x
+by_name names.Keyword x = First x
+
+abbrev pub segments_of : Style → Name → List ℕ → Tree → Tree
+segments_of s n cs x = Node (Segments s) (by_name n (Pair (AWord cs) x))
+
+-- behind it nothing, or :: and other segments
+abbrev pub nothing_behind : Name → Tree
+nothing_behind names.Plain = seconds 3 Nil
+nothing_behind names.Keyword = Second Nil
+
+abbrev pub others_behind : Name → Spacing → Tree → Tree
+others_behind names.Plain spacing x = Second (First (Pair (AMark 58 (58 ∷ []) spacing) x))
+others_behind names.Keyword spacing x = First (Pair (AMark 58 (58 ∷ []) spacing) x)
+
 -- the segments of a name alone
 abbrev pub last_segment : Style → Name → List ℕ → Tree
-last_segment s names.Plain cs = Node (Segments s) (Second (Pair (AWord cs) (seconds 3 Nil)))
-last_segment s names.Keyword cs = Node (Segments s) (First (Pair (AWord cs) (Second Nil)))
+last_segment s n cs = segments_of s n cs (nothing_behind n)
 
 -- the segments of a name, :: and other segments
 abbrev pub further_segments : Style → Name → List ℕ → Spacing → Tree → Tree
-further_segments s names.Plain cs spacing x =
-    Node (Segments s) (Second (Pair (AWord cs) (Second (First (Pair (AMark 58 (58 ∷ []) spacing) x)))))
-further_segments s names.Keyword cs spacing x =
-    Node (Segments s) (First (Pair (AWord cs) (First (Pair (AMark 58 (58 ∷ []) spacing) x))))
+further_segments s n cs spacing x = segments_of s n cs (others_behind n spacing x)
 
 -- the path that has these segments, as it stands where a qualified one could, and as a type
 abbrev pub path_of : Style → Tree → Tree

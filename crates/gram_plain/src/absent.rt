@@ -9,10 +9,12 @@ ghost use Rattle.rust_leaf.specs.Leaf.{ident_text};
 ghost use Rattle.std.specs.Prelude.{◌∷◌, ◌≡◌, IfNone, IfOk, IfSome, IsTrue, None, codes, true};
 ghost use Rattle.syn_buffer.specs.Entries.{is_whole};
 ghost use Rattle.syn_grammar.specs.Kind as kind;
+ghost use Rattle.syn_grammar.specs.Name.{the_pub};
 ghost use Rattle.syn_grammar.specs.Say.{at as word_stands, parenthesis as opens_parenthesis};
 ghost use Rattle.syn_grammar.specs.Tree as t;
 ghost use Rattle.syn_grammar.specs.Words.{same_text};
 
+use crate::parts::found;
 use gram_look::leaf::{first_word, word as passes};
 use gram_look::sign::sign;
 use gram_table::kind::Kind;
@@ -83,7 +85,7 @@ pub(crate) fn unmarked<'a>(
         return Ok(None);
     };
     if lacks(character, at) {
-        Ok(Some((nothing(arena, kind)?, at)))
+        found(nothing(arena, kind), at)
     } else {
         Ok(None)
     }
@@ -105,17 +107,24 @@ pub(crate) fn no_where<'a>(
 {
     match first_word(Words::Keyword(Keyword::Where), at) {
         Some(_) => Ok(None),
-        None => Ok(Some((nothing(arena, Kind::Where)?, at))),
+        None => found(nothing(arena, Kind::Where), at),
     }
+}
+
+// `pub`, and no restriction behind it.
+fn pub_alone<'a>(arena: &'a Arena, word: &'a Ident) -> Result<Tree<'a>, AllocError>
+    ensures { IfOk result (λ x. x ≡ t.Pair (t.Called the_pub (t.AWord (ident_text word.now))) (t.Second t.Nil)) }
+{
+    let named = made::called(arena, Part::Pub, made::word(word))?;
+    made::pair(arena, named, made::second(arena, made::nil())?)
 }
 
 // The node of `pub` alone.
 fn public<'a>(arena: &'a Arena, word: &'a Ident) -> Result<Tree<'a>, AllocError>
     ensures { IfOk result (λ x. x ≡ public (ident_text word.now)) }
 {
-    let named = made::called(arena, Part::Pub, made::word(word))?;
-    let alone = made::pair(arena, named, made::second(arena, made::nil())?)?;
-    made::node(arena, Kind::Visibility, made::first(arena, alone)?)
+    let alone = made::first(arena, pub_alone(arena, word)?)?;
+    made::node(arena, Kind::Visibility, alone)
 }
 
 // The `pub` that stands first, and what is left behind it.
@@ -174,7 +183,7 @@ pub(crate) fn outer_attributes<'a>(
 {
     match sign(Sign::Pound, at) {
         Some(_) => Ok(None),
-        None => Ok(Some((without_turns(arena, Kind::OuterAttributes)?, at))),
+        None => found(without_turns(arena, Kind::OuterAttributes), at),
     }
 }
 
@@ -194,7 +203,7 @@ pub(crate) fn inner_attributes<'a>(
 {
     match sign(Sign::Pound, at) {
         Some(_) => Ok(None),
-        None => Ok(Some((without_turns(arena, Kind::InnerAttributes)?, at))),
+        None => found(without_turns(arena, Kind::InnerAttributes), at),
     }
 }
 
@@ -213,10 +222,10 @@ pub(crate) fn visibility<'a>(
     ensures whole { IfOk result (λ o. IfSome o (λ x. IsTrue (is_whole x.1.now))) }
 {
     let Some((word, rest)) = first_pub(at) else {
-        return Ok(Some((nothing(arena, Kind::Visibility)?, at)));
+        return found(nothing(arena, Kind::Visibility), at);
     };
     if !opens_none(rest) {
         return Ok(None);
     }
-    Ok(Some((public(arena, word)?, rest)))
+    found(public(arena, word), rest)
 }

@@ -2,17 +2,22 @@
 
 ghost use Rattle.gram_look.specs.Tokens.{tokens};
 ghost use Rattle.gram_plain.specs.Attributes.{IsBehindPath, IsEntered, IsKept, IsOpened};
-ghost use Rattle.gram_plain.specs.Attributes.{attribute_of, delimited, meta_of, value_of};
+ghost use Rattle.gram_plain.specs.Attributes.{attribute_of, chosen, delimited, meta_of, value_of};
+ghost use Rattle.gram_plain.specs.Lone.{lone_literal};
 ghost use Rattle.gram_plain.specs.Read.{IsReadIn};
 ghost use Rattle.proc_macro2.specs.Token as token;
 ghost use Rattle.proc_macro2.specs.declared.delimiter.Delimiter.TheVariants as delimiters;
 ghost use Rattle.rust_leaf.specs.Leaf.{literal_text};
-ghost use Rattle.std.specs.Prelude.{◌∷◌, ◌≡◌, [], IfOk, IfSome, IsTrue};
+ghost use Rattle.std.specs.Prelude.{◌∷◌, ◌≡◌, [], IfOk, IfSome, IsTrue, List};
 ghost use Rattle.syn_buffer.specs.Entries.{is_whole};
 ghost use Rattle.syn_grammar.specs.Kind as kind;
+ghost use Rattle.syn_grammar.specs.Kind.{Plain};
+ghost use Rattle.syn_grammar.specs.Name.{the_value};
+ghost use Rattle.syn_grammar.specs.Tree as t;
 
 use crate::lone::lone_literal;
 use crate::names::path;
+use crate::parts::found;
 use gram_look::sign::first_mark;
 use gram_table::kind::{Kind, Position, Style};
 use gram_table::part::Part;
@@ -57,20 +62,16 @@ fn enter<'a>(at: &'a [Entry<'a>]) -> Option<Group<'a>>
     })
 }
 
-// The node of a group whose tokens are kept as they are, if it is one that is seen.
-fn kept<'a>(arena: &'a Arena, group: Group<'a>) -> Result<Option<Tree<'a>>, AllocError>
-    ensures tree { IfOk result (λ o. IfSome o (λ x. x ≡ delimited group.entry.delimiter (tokens group.entry.inside.now))) }
-    ensures kept { IfOk result (λ o. IfSome o (λ x. IsKept group.entry.delimiter)) }
+// Whether such a group is one that is seen.
+fn is_seen(delimiter: Delimiter) -> bool
+    ensures { IsTrue result → IsKept delimiter }
 {
-    let inside = made::raw(arena, group.inside)?;
-    let inner = made::group(arena, group.delimiter, group.span, inside)?;
-    let chosen = match group.delimiter {
-        Delimiter::Parenthesis => made::first(arena, inner)?,
-        Delimiter::Brace => made::first_behind(arena, 1, inner)?,
-        Delimiter::Bracket => made::seconds(arena, 2, inner)?,
-        Delimiter::None => return Ok(None),
-    };
-    Ok(Some(made::node(arena, Kind::Delimited, chosen)?))
+    match delimiter {
+        Delimiter::Parenthesis => true,
+        Delimiter::Brace => true,
+        Delimiter::Bracket => true,
+        Delimiter::None => false,
+    }
 }
 
 // Whether no entry is left.
@@ -80,21 +81,75 @@ fn is_empty(at: &[Entry<'_>]) -> bool
     at.is_empty()
 }
 
+// The group that is all there is, if it is one that is seen.
+fn only_group<'a>(at: &'a [Entry<'a>]) -> Option<Group<'a>>
+    requires { IsTrue (is_whole at.now) }
+    ensures { IfSome result (λ o. IsBehindPath (tokens at.now) (t.First (delimited o.delimiter (tokens o.inside.now)))) }
+{
+    let group = enter(at)?;
+    if is_seen(group.delimiter) && is_empty(group.behind) {
+        Some(group)
+    } else {
+        None
+    }
+}
+
+// The group, chosen by its delimiter.
+fn chosen<'a>(
+    arena: &'a Arena,
+    delimiter: Delimiter,
+    group: Tree<'a>,
+) -> Result<Tree<'a>, AllocError>
+    ensures { IfOk result (λ x. x ≡ chosen delimiter group.entry) }
+{
+    match delimiter {
+        Delimiter::Parenthesis => made::first(arena, group),
+        Delimiter::Brace => made::first_behind(arena, 1, group),
+        Delimiter::Bracket => made::seconds(arena, 2, group),
+        Delimiter::None => Ok(group),
+    }
+}
+
+// The group, with its tokens as they are.
+fn enclosed<'a>(arena: &'a Arena, group: Group<'a>) -> Result<Tree<'a>, AllocError>
+    ensures { IfOk result (λ x. x ≡ t.Group group.entry.delimiter (t.Raw (tokens group.entry.inside.now))) }
+{
+    let inside = made::raw(arena, group.inside)?;
+    made::group(arena, group.delimiter, group.span, inside)
+}
+
+// The node of a group whose tokens are kept as they are.
+fn delimited<'a>(arena: &'a Arena, group: Group<'a>) -> Result<Tree<'a>, AllocError>
+    ensures { IfOk result (λ x. x ≡ delimited group.entry.delimiter (tokens group.entry.inside.now)) }
+{
+    let kept = chosen(arena, group.delimiter, enclosed(arena, group)?)?;
+    made::node(arena, Kind::Delimited, kept)
+}
+
+// An attribute's arguments.
+fn argument_of<'a>(arena: &'a Arena, group: Group<'a>) -> Result<Tree<'a>, AllocError>
+    ensures { IfOk result (λ x. x ≡ t.First (delimited group.entry.delimiter (tokens group.entry.inside.now))) }
+{
+    made::first(arena, delimited(arena, group)?)
+}
+
+// What stands behind an attribute's path, if there was memory for it.
+fn some_behind<'a>(made: Result<Tree<'a>, AllocError>) -> Result<Option<Tree<'a>>, AllocError>
+    ensures { (ts : List token.Token) (x : t.Tree) → IsBehindPath ts x → IfOk made.entry (λ y. y ≡ x)
+        → IfOk result (λ o. IfSome o (λ y. IsBehindPath ts y)) }
+{
+    Ok(Some(made?))
+}
+
 // A group behind an attribute's path, if nothing stands behind it.
 fn arguments<'a>(arena: &'a Arena, at: &'a [Entry<'a>]) -> Result<Option<Tree<'a>>, AllocError>
     requires { IsTrue (is_whole at.now) }
     ensures { IfOk result (λ o. IfSome o (λ x. IsBehindPath (tokens at.now) x)) }
 {
-    let Some(group) = enter(at) else {
-        return Ok(None);
-    };
-    let Some(inner) = kept(arena, group)? else {
-        return Ok(None);
-    };
-    if !is_empty(group.behind) {
-        return Ok(None);
+    match only_group(at) {
+        Some(group) => some_behind(argument_of(arena, group)),
+        None => Ok(None),
     }
-    Ok(Some(made::first(arena, inner)?))
 }
 
 // That mark, which stands first: how it is spaced, where it stands, and what is left behind it.
@@ -127,6 +182,24 @@ fn only_literal<'a>(at: &'a [Entry<'a>]) -> Option<&'a Literal>
     }
 }
 
+// The literal that is an attribute's value, all there is: how the `=` before it is spaced, where that stands, and itself.
+fn only_value<'a>(at: &'a [Entry<'a>]) -> Option<(Spacing, Span, &'a Literal)>
+    requires { IsTrue (is_whole at.now) }
+    ensures { IfSome result (λ r. IsBehindPath (tokens at.now) (value_of r.0 (literal_text r.2.now))) }
+{
+    let (spacing, span, rest) = that_mark('=', at)?;
+    let literal = only_literal(rest)?;
+    Some((spacing, span, literal))
+}
+
+// The literal, as an attribute's value.
+fn given<'a>(arena: &'a Arena, literal: &'a Literal) -> Result<Tree<'a>, AllocError>
+    ensures { IfOk result (λ x. x ≡ t.Second (t.Called the_value (lone_literal Plain (literal_text literal.now)))) }
+{
+    let expression = lone_literal(arena, Position::Plain, literal)?;
+    made::second(arena, made::called(arena, Part::Value, expression)?)
+}
+
 // An attribute's value that is a literal, behind the `=` of which it is said how it is spaced and where it stands.
 fn value_of<'a>(
     arena: &'a Arena,
@@ -136,8 +209,7 @@ fn value_of<'a>(
 ) -> Result<Tree<'a>, AllocError>
     ensures { IfOk result (λ x. x ≡ value_of spacing (literal_text literal.now)) }
 {
-    let expression = lone_literal(arena, Position::Plain, literal)?;
-    let value = made::second(arena, made::called(arena, Part::Value, expression)?)?;
+    let value = given(arena, literal)?;
     let behind = made::pair(arena, made::mark(Sign::Eq, spacing, span), value)?;
     made::first_behind(arena, 1, behind)
 }
@@ -147,13 +219,10 @@ fn value<'a>(arena: &'a Arena, at: &'a [Entry<'a>]) -> Result<Option<Tree<'a>>, 
     requires { IsTrue (is_whole at.now) }
     ensures { IfOk result (λ o. IfSome o (λ x. IsBehindPath (tokens at.now) x)) }
 {
-    let Some((spacing, span, rest)) = that_mark('=', at) else {
-        return Ok(None);
-    };
-    let Some(literal) = only_literal(rest) else {
-        return Ok(None);
-    };
-    Ok(Some(value_of(arena, spacing, span, literal)?))
+    match only_value(at) {
+        Some((spacing, span, literal)) => some_behind(value_of(arena, spacing, span, literal)),
+        None => Ok(None),
+    }
 }
 
 // What stands behind an attribute's path, to the end.
@@ -213,6 +282,19 @@ fn brackets<'a>(at: &'a [Entry<'a>]) -> Option<Group<'a>>
     }
 }
 
+// What an outer attribute begins with: how its `#` is spaced, where that stands, and the group in brackets behind it.
+fn opened<'a>(at: &'a [Entry<'a>]) -> Option<(Spacing, Span, Group<'a>)>
+    requires { IsTrue (is_whole at.now) }
+    ensures attribute { IfSome result (λ r. (x : t.Tree) → IsReadIn 9 kind.Meta (tokens r.2.inside.now) x []
+        → IsReadIn 10 kind.OuterAttribute (tokens at.now) (attribute_of r.0 x) (tokens r.2.behind.now)) }
+    ensures inside { IfSome result (λ r. IsTrue (is_whole r.2.inside.now)) }
+    ensures behind { IfSome result (λ r. IsTrue (is_whole r.2.behind.now)) }
+{
+    let (spacing, span, rest) = that_mark('#', at)?;
+    let group = brackets(rest)?;
+    Some((spacing, span, group))
+}
+
 // The attribute with that in its brackets; it is said how its `#` is spaced and where it stands, and where the brackets
 // stand.
 fn attribute_of<'a>(
@@ -243,15 +325,12 @@ pub(crate) fn outer_attribute<'a>(
         IsReadIn 10 kind.OuterAttribute (tokens at.now) x.0 (tokens x.1.now))) }
     ensures whole { IfOk result (λ o. IfSome o (λ x. IsTrue (is_whole x.1.now))) }
 {
-    let Some((spacing, span, rest)) = that_mark('#', at) else {
-        return Ok(None);
-    };
-    let Some(group) = brackets(rest) else {
+    let Some((spacing, span, group)) = opened(at) else {
         return Ok(None);
     };
     let Some(meta) = meta(arena, group.inside)? else {
         return Ok(None);
     };
-    let attribute = attribute_of(arena, spacing, span, group.span, meta)?;
-    Ok(Some((attribute, group.behind)))
+    let attribute = attribute_of(arena, spacing, span, group.span, meta);
+    found(attribute, group.behind)
 }

@@ -10,8 +10,10 @@ ghost use Rattle.syn_buffer.specs.Entries.{is_whole};
 ghost use Rattle.syn_grammar.specs.Kind as kind;
 ghost use Rattle.syn_grammar.specs.Words.{is_ident};
 ghost use Rattle.syn_grammar.specs.Say.{marks};
+ghost use Rattle.syn_grammar.specs.Tree as t;
 
 use crate::names::colon;
+use crate::parts::{found, none_before};
 use gram_look::leaf::word as passes;
 use gram_look::sign::sign;
 use gram_table::kind::Kind;
@@ -92,18 +94,31 @@ fn first_bound<'a>(at: &'a [Entry<'a>]) -> Option<(&'a Ident, &'a [Entry<'a>])>
     }
 }
 
+// The name, and no pattern behind it.
+fn name_alone<'a>(arena: &'a Arena, name: &'a Ident) -> Result<Tree<'a>, AllocError>
+    ensures { IfOk result (λ x. x ≡ t.Pair (t.AWord (ident_text name.now)) (t.Second (t.Second t.Nil))) }
+{
+    made::pair(
+        arena,
+        made::word(name),
+        made::seconds(arena, 2, made::nil())?,
+    )
+}
+
+// The name, with no `mut` before it.
+fn unchanging<'a>(arena: &'a Arena, name: &'a Ident) -> Result<Tree<'a>, AllocError>
+    ensures { IfOk result (λ x. x ≡ t.Pair (t.Second t.Nil)
+        (t.Pair (t.AWord (ident_text name.now)) (t.Second (t.Second t.Nil)))) }
+{
+    none_before(arena, name_alone(arena, name)?)
+}
+
 // The name, as it is bound.
 fn bound<'a>(arena: &'a Arena, name: &'a Ident) -> Result<Tree<'a>, AllocError>
     ensures { IfOk result (λ x. x ≡ bound (ident_text name.now)) }
 {
-    let alone = made::pair(
-        arena,
-        made::word(name),
-        made::seconds(arena, 2, made::nil())?,
-    )?;
-    let by_value = made::pair(arena, made::second(arena, made::nil())?, alone)?;
-    let plain = made::pair(arena, made::second(arena, made::nil())?, by_value)?;
-    made::node(arena, Kind::IdentPattern, plain)
+    let by_value = none_before(arena, unchanging(arena, name)?)?;
+    made::node(arena, Kind::IdentPattern, by_value)
 }
 
 // The name, as one alternative.
@@ -114,20 +129,25 @@ fn alternative<'a>(arena: &'a Arena, name: &'a Ident) -> Result<Tree<'a>, AllocE
     made::node(arena, Kind::OnePattern, choice)
 }
 
+// The name, as one alternative, and no others behind it.
+fn one_turn<'a>(arena: &'a Arena, name: &'a Ident) -> Result<Tree<'a>, AllocError>
+    ensures { IfOk result (λ x. x ≡ t.Pair (alternative (ident_text name.now)) t.End) }
+{
+    made::pair(arena, alternative(arena, name)?, made::no_turns())
+}
+
 // The name, as the only alternative.
 fn only_alternative<'a>(arena: &'a Arena, name: &'a Ident) -> Result<Tree<'a>, AllocError>
     ensures { IfOk result (λ x. x ≡ only_alternative (ident_text name.now)) }
 {
-    let parts = made::pair(arena, alternative(arena, name)?, made::no_turns())?;
-    made::node(arena, Kind::SeveralPatterns, parts)
+    made::node(arena, Kind::SeveralPatterns, one_turn(arena, name)?)
 }
 
 // The name, as a pattern.
 fn only_pattern<'a>(arena: &'a Arena, name: &'a Ident) -> Result<Tree<'a>, AllocError>
     ensures { IfOk result (λ x. x ≡ only_pattern (ident_text name.now)) }
 {
-    let parts = made::pair(arena, alternative(arena, name)?, made::no_turns())?;
-    let from_front = made::pair(arena, made::second(arena, made::nil())?, parts)?;
+    let from_front = none_before(arena, one_turn(arena, name)?)?;
     made::node(arena, Kind::Pattern, from_front)
 }
 
@@ -146,7 +166,7 @@ pub(crate) fn ident_pattern<'a>(
     ensures whole { IfOk result (λ o. IfSome o (λ x. IsTrue (is_whole x.1.now))) }
 {
     match first_bound(at) {
-        Some((name, rest)) => Ok(Some((bound(arena, name)?, rest))),
+        Some((name, rest)) => found(bound(arena, name), rest),
         None => Ok(None),
     }
 }
@@ -166,7 +186,7 @@ pub(crate) fn one_pattern<'a>(
     ensures whole { IfOk result (λ o. IfSome o (λ x. IsTrue (is_whole x.1.now))) }
 {
     match first_bound(at) {
-        Some((name, rest)) => Ok(Some((alternative(arena, name)?, rest))),
+        Some((name, rest)) => found(alternative(arena, name), rest),
         None => Ok(None),
     }
 }
@@ -202,7 +222,7 @@ pub(crate) fn several_patterns<'a>(
     ensures whole { IfOk result (λ o. IfSome o (λ x. IsTrue (is_whole x.1.now))) }
 {
     match only_bound(at) {
-        Some((name, rest)) => Ok(Some((only_alternative(arena, name)?, rest))),
+        Some((name, rest)) => found(only_alternative(arena, name), rest),
         None => Ok(None),
     }
 }
@@ -222,7 +242,7 @@ pub(crate) fn pattern<'a>(
     ensures whole { IfOk result (λ o. IfSome o (λ x. IsTrue (is_whole x.1.now))) }
 {
     match only_bound(at) {
-        Some((name, rest)) => Ok(Some((only_pattern(arena, name)?, rest))),
+        Some((name, rest)) => found(only_pattern(arena, name), rest),
         None => Ok(None),
     }
 }

@@ -10,6 +10,7 @@
 //! - `attributes`: outer attributes that are a path alone, or with a group or a literal behind it.
 //! - `bindings`: names that patterns bind.
 //! - `lone`: expressions that are a literal or a path of names alone.
+//! - `parts`: what several of them are made of, and how one is handed on that was found.
 #![tactic(auto)]
 
 mod absent;
@@ -17,4 +18,5 @@ mod attributes;
 mod bindings;
 mod lone;
 mod names;
+mod parts;
 pub mod read;

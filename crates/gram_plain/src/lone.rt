@@ -1,9 +1,9 @@
 //! Expressions that are a literal or a path of names alone.
 
 ghost use Rattle.gram_look.specs.Tokens.{tokens};
-ghost use Rattle.gram_plain.specs.Lone.{IsOver, lone_literal, lone_path};
+ghost use Rattle.gram_plain.specs.Lone.{IsOver, lone, lone_literal, lone_path};
 ghost use Rattle.gram_plain.specs.Read.{IsReadIn};
-ghost use Rattle.gram_table.specs.Kinds.{position_of};
+ghost use Rattle.gram_table.specs.Kinds.{kind_of, position_of};
 ghost use Rattle.proc_macro2.specs.Token as token;
 ghost use Rattle.rust_leaf.specs.Leaf.{literal_text};
 ghost use Rattle.std.specs.Prelude.{◌∷◌, ◌≡◌, IfOk, IfSome, IsTrue, List};
@@ -11,6 +11,7 @@ ghost use Rattle.syn_buffer.specs.Entries.{is_whole};
 ghost use Rattle.syn_grammar.specs.Kind as kind;
 
 use crate::names::any_path;
+use crate::parts::found;
 use gram_look::sign::first_ident;
 use gram_table::kind::{Kind, Position, Style};
 use gram_tree::arena::Arena;
@@ -76,6 +77,19 @@ fn first_literal<'a>(
     }
 }
 
+// An expression that is one form alone, of the kind and with that part of its own.
+fn lone<'a>(
+    arena: &'a Arena,
+    position: Position,
+    kind: Kind,
+    own: Tree<'a>,
+) -> Result<Tree<'a>, AllocError>
+    ensures { IfOk result (λ x. x ≡ lone (position_of position) (kind_of kind) own.entry) }
+{
+    let form = made::whole(arena, made::alone(arena, kind, own)?)?;
+    made::node(arena, Kind::Expression(position), form)
+}
+
 /// The literal, as an expression.
 ///
 /// # Errors
@@ -89,8 +103,7 @@ pub(crate) fn lone_literal<'a>(
     ensures { IfOk result (λ x. x ≡ lone_literal (position_of position) (literal_text literal.now)) }
 {
     let own = made::first(arena, made::literal(literal))?;
-    let form = made::alone(arena, Kind::ExprLit, own)?;
-    made::node(arena, Kind::Expression(position), made::whole(arena, form)?)
+    lone(arena, position, Kind::ExprLit, own)
 }
 
 // Whether a name stands first, and behind it the expression is over or the path may go on. By this alone nothing is
@@ -121,8 +134,7 @@ fn lone_path<'a>(
 ) -> Result<Tree<'a>, AllocError>
     ensures { IfOk result (λ x. x ≡ lone_path (position_of position) path.entry) }
 {
-    let form = made::alone(arena, Kind::ExprPath, path)?;
-    made::node(arena, Kind::Expression(position), made::whole(arena, form)?)
+    lone(arena, position, Kind::ExprPath, path)
 }
 
 // An expression that is a path of names, where it is over behind that.
@@ -136,16 +148,13 @@ fn path<'a>(
         IsReadIn 8 (kind.Expression (position_of position)) (tokens at.now) x.0 (tokens x.1.now))) }
     ensures whole { IfOk result (λ o. IfSome o (λ x. IsTrue (is_whole x.1.now))) }
 {
-    if !may_be_alone(position, at) {
-        return Ok(None);
-    }
     let Some((path, rest)) = any_path(arena, Style::InExpression, at)? else {
         return Ok(None);
     };
     if !is_over(position, rest) {
         return Ok(None);
     }
-    Ok(Some((lone_path(arena, position, path)?, rest)))
+    found(lone_path(arena, position, path), rest)
 }
 
 /// An expression that is a literal or a path of names, where it is over behind that.
@@ -164,7 +173,13 @@ pub(crate) fn expression<'a>(
     ensures whole { IfOk result (λ o. IfSome o (λ x. IsTrue (is_whole x.1.now))) }
 {
     match first_literal(position, at) {
-        Some((literal, rest)) => Ok(Some((lone_literal(arena, position, literal)?, rest))),
-        None => path(arena, position, at),
+        Some((literal, rest)) => found(lone_literal(arena, position, literal), rest),
+        None => {
+            if may_be_alone(position, at) {
+                path(arena, position, at)
+            } else {
+                Ok(None)
+            }
+        }
     }
 }

@@ -1,7 +1,8 @@
 //! Paths of names alone, and types that are such paths.
 
 ghost use Rattle.gram_look.specs.Tokens.{tokens};
-ghost use Rattle.gram_plain.specs.Names.{IsBehind, IsName, IsNamed, IsPassed, IsPathEnd, IsWholeBehind};
+ghost use Rattle.gram_plain.specs.Names.{IsBegin, IsBehind, IsName, IsNamed, IsPassed, IsPathEnd, IsWholeBegin, IsWholeBehind};
+ghost use Rattle.gram_plain.specs.Names.{by_name, nothing_behind, others_behind, segments_of};
 ghost use Rattle.gram_plain.specs.Names.{further_segments as further, last_segment as alone, path_of, type_of, unqualified};
 ghost use Rattle.gram_plain.specs.Read.{IsReadIn};
 ghost use Rattle.gram_table.specs.Kinds.{plus_of, style_of};
@@ -12,6 +13,7 @@ ghost use Rattle.syn_buffer.specs.Entries.{is_whole};
 ghost use Rattle.syn_grammar.specs.Kind as kind;
 ghost use Rattle.syn_grammar.specs.Say.{marks};
 
+use crate::parts::{found, none_before};
 use gram_look::leaf::word as passes;
 use gram_table::kind::{Kind, Plus, Style};
 use gram_table::word::{Sign, Words};
@@ -169,6 +171,91 @@ fn look_behind<'a>(style: Style, at: &'a [Entry<'a>]) -> Behind<'a>
     }
 }
 
+// How a path begins.
+pub(crate) enum Beginning<'a> {
+    // With its last name; what is left behind that.
+    Last(Name, &'a Ident, &'a [Entry<'a>]),
+    // With a name and `::`: how its second mark is spaced, where its first one stands, and what is left behind it.
+    Further(Name, &'a Ident, Spacing, Span, &'a [Entry<'a>]),
+    // With something else, or none stands there.
+    Other,
+}
+
+// How a path begins that begins with the word.
+fn begin_with<'a>(style: Style, word: &'a Ident, rest: &'a [Entry<'a>]) -> Beginning<'a>
+    requires { IsTrue (is_whole rest.now) }
+    ensures begin { IsBegin (style_of style) (token.Ident (ident_text word.now) ∷ tokens rest.now) result }
+    ensures whole { IsWholeBegin result }
+{
+    match look_behind(style, rest) {
+        Behind::Nothing => match name_of(word) {
+            Some(name) => Beginning::Last(name, word, rest),
+            None => Beginning::Other,
+        },
+        Behind::Name(spacing, span, others) => match name_of(word) {
+            Some(name) => Beginning::Further(name, word, spacing, span, others),
+            None => Beginning::Other,
+        },
+        Behind::Other => Beginning::Other,
+    }
+}
+
+// How a path begins.
+fn begin<'a>(style: Style, at: &'a [Entry<'a>]) -> Beginning<'a>
+    requires { IsTrue (is_whole at.now) }
+    ensures begin { IsBegin (style_of style) (tokens at.now) result }
+    ensures whole { IsWholeBegin result }
+{
+    let Some((first, rest)) = at.split_first() else {
+        return Beginning::Other;
+    };
+    match *first {
+        Entry::Ident(word) => begin_with(style, word, rest),
+        Entry::Open(..) => Beginning::Other,
+        Entry::Close(..) => Beginning::Other,
+        Entry::Punct(_) => Beginning::Other,
+        Entry::Literal(_) => Beginning::Other,
+    }
+}
+
+// The segment that such a name begins.
+fn segment_of<'a>(arena: &'a Arena, name: Name, segment: Tree<'a>) -> Result<Tree<'a>, AllocError>
+    ensures { IfOk result (λ x. x ≡ by_name name segment.entry) }
+{
+    match name {
+        Name::Plain => made::second(arena, segment),
+        Name::Keyword => made::first(arena, segment),
+    }
+}
+
+// The segments that a name begins, with that behind it.
+fn segments_of<'a>(
+    arena: &'a Arena,
+    style: Style,
+    name: Name,
+    word: &'a Ident,
+    behind: Tree<'a>,
+) -> Result<Tree<'a>, AllocError>
+    ensures { IfOk result (λ x. x ≡ segments_of (style_of style) name (ident_text word.now) behind.entry) }
+{
+    let segment = made::pair(arena, made::word(word), behind)?;
+    made::node(
+        arena,
+        Kind::Segments(style),
+        segment_of(arena, name, segment)?,
+    )
+}
+
+// Nothing behind such a name.
+fn nothing_behind<'a>(arena: &'a Arena, name: Name) -> Result<Tree<'a>, AllocError>
+    ensures { IfOk result (λ x. x ≡ nothing_behind name) }
+{
+    match name {
+        Name::Plain => made::seconds(arena, 3, made::nil()),
+        Name::Keyword => made::second(arena, made::nil()),
+    }
+}
+
 // The segments of a name alone.
 fn last_segment<'a>(
     arena: &'a Arena,
@@ -178,17 +265,23 @@ fn last_segment<'a>(
 ) -> Result<Tree<'a>, AllocError>
     ensures { IfOk result (λ x. x ≡ alone (style_of style) name (ident_text word.now)) }
 {
+    segments_of(arena, style, name, word, nothing_behind(arena, name)?)
+}
+
+// `::` behind such a name, of which it is said how it is spaced and where it stands, and other segments.
+fn others_behind<'a>(
+    arena: &'a Arena,
+    name: Name,
+    spacing: Spacing,
+    span: Span,
+    others: Tree<'a>,
+) -> Result<Tree<'a>, AllocError>
+    ensures { IfOk result (λ x. x ≡ others_behind name spacing others.entry) }
+{
+    let behind = made::pair(arena, made::mark(Sign::PathSep, spacing, span), others)?;
     match name {
-        Name::Plain => {
-            let nothing = made::seconds(arena, 3, made::nil())?;
-            let named = made::pair(arena, made::word(word), nothing)?;
-            made::node(arena, Kind::Segments(style), made::second(arena, named)?)
-        }
-        Name::Keyword => {
-            let nothing = made::second(arena, made::nil())?;
-            let named = made::pair(arena, made::word(word), nothing)?;
-            made::node(arena, Kind::Segments(style), made::first(arena, named)?)
-        }
+        Name::Plain => made::first_behind(arena, 1, behind),
+        Name::Keyword => made::first(arena, behind),
     }
 }
 
@@ -204,20 +297,8 @@ fn further_segments<'a>(
 ) -> Result<Tree<'a>, AllocError>
     ensures { IfOk result (λ x. x ≡ further (style_of style) name (ident_text word.now) spacing others.entry) }
 {
-    let colons = made::mark(Sign::PathSep, spacing, span);
-    let behind = made::pair(arena, colons, others)?;
-    match name {
-        Name::Plain => {
-            let more = made::first_behind(arena, 1, behind)?;
-            let named = made::pair(arena, made::word(word), more)?;
-            made::node(arena, Kind::Segments(style), made::second(arena, named)?)
-        }
-        Name::Keyword => {
-            let more = made::first(arena, behind)?;
-            let named = made::pair(arena, made::word(word), more)?;
-            made::node(arena, Kind::Segments(style), made::first(arena, named)?)
-        }
-    }
+    let behind = others_behind(arena, name, spacing, span, others)?;
+    segments_of(arena, style, name, word, behind)
 }
 
 /// The segments of a path, where they are so many names at most.
@@ -241,30 +322,16 @@ pub(crate) fn segments<'a>(
     if most == 0 {
         return Ok(None);
     }
-    let Some((first, rest)) = at.split_first() else {
-        return Ok(None);
-    };
-    let Entry::Ident(word) = *first else {
-        return Ok(None);
-    };
-    match look_behind(style, rest) {
-        Behind::Other => Ok(None),
-        Behind::Nothing => {
-            let Some(name) = name_of(word) else {
-                return Ok(None);
-            };
-            Ok(Some((last_segment(arena, style, name, word)?, rest)))
-        }
-        Behind::Name(spacing, span, others) => {
-            let Some(name) = name_of(word) else {
-                return Ok(None);
-            };
+    match begin(style, at) {
+        Beginning::Last(name, word, rest) => found(last_segment(arena, style, name, word), rest),
+        Beginning::Further(name, word, spacing, span, others) => {
             let Some((tree, left)) = segments(arena, style, most - 1, others)? else {
                 return Ok(None);
             };
-            let tree = further_segments(arena, style, name, word, spacing, span, tree)?;
-            Ok(Some((tree, left)))
+            let tree = further_segments(arena, style, name, word, spacing, span, tree);
+            found(tree, left)
         }
+        Beginning::Other => Ok(None),
     }
 }
 
@@ -272,9 +339,7 @@ pub(crate) fn segments<'a>(
 fn path_of<'a>(arena: &'a Arena, style: Style, segments: Tree<'a>) -> Result<Tree<'a>, AllocError>
     ensures { IfOk result (λ x. x ≡ path_of (style_of style) segments.entry) }
 {
-    let nothing = made::second(arena, made::nil())?;
-    let parts = made::pair(arena, nothing, segments)?;
-    made::node(arena, Kind::Path(style), parts)
+    made::node(arena, Kind::Path(style), none_before(arena, segments)?)
 }
 
 /// A path without `::` in front, where it is a few names.
@@ -297,7 +362,7 @@ pub(crate) fn path<'a>(
     let Some((segments, rest)) = segments(arena, style, NAMES, at)? else {
         return Ok(None);
     };
-    Ok(Some((path_of(arena, style, segments)?, rest)))
+    found(path_of(arena, style, segments), rest)
 }
 
 // The path, as it stands where a qualified one could.
@@ -327,7 +392,7 @@ pub(crate) fn any_path<'a>(
     let Some((path, rest)) = path(arena, style, at)? else {
         return Ok(None);
     };
-    Ok(Some((unqualified(arena, style, path)?, rest)))
+    found(unqualified(arena, style, path), rest)
 }
 
 // The path, as a type.
@@ -355,5 +420,5 @@ pub(crate) fn path_type<'a>(
     let Some((path, rest)) = any_path(arena, Style::AtType, at)? else {
         return Ok(None);
     };
-    Ok(Some((type_of(arena, plus, path)?, rest)))
+    found(type_of(arena, plus, path), rest)
 }

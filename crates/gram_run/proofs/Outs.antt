@@ -22,6 +22,11 @@ fails_as refusals.Memory o p s h = tt
 fails_as refusals.Late o p s h = s ∙ h
 fails_as (refusals.Syntax w) o p s h = s ∙ h
 
+pub gives_as : {X : Type 0} (tree : X → Tree) (rest : X → List Entry) (r : Result X Refusal) (o p : Out) → p ≡ o
+    → Gives tree rest r o → Gives tree rest r p
+gives_as tree rest (Ok x) o p s h = s ∙ h
+gives_as tree rest (Err e) o p s h = fails_as e o p s h
+
 pub got_on : (o : Out) (f : Tree → List Token → Out) (x : Tree) (us : List Token) → o ≡ Got x us → (o >>= f) ≡ f x us
 got_on o f x us h = ap (λ o. o >>= f) h
 

@@ -127,22 +127,32 @@ pub less_left : (r q : Result Spot Refusal) (s : Spot) → q ≡ Ok s
 less_left (Ok x) q s e h = omega (arith, h, ap left_of e)
 less_left (Err a) q s e h = omega (arith, ap left_of e)
 
--- the last one is taken off
-module _ (k : ℕ) (all left : List Pending) (w : Pending) (is : all ≡ left ++ w ∷ []) (le : k ≤ length left) where
-  pub kept_less : take k all ≡ take k left
-  kept_less = ap (take k) is ∙ take-append-le k left (w ∷ []) le
-
-  pub made_less : (o : Out) → made_by_all (drop k left) (made_by w o) ≡ made_by_all (drop k all) o
-  made_less o =
-      sym (ap (λ ws. made_by_all ws o) (ap (drop k) is ∙ drop-append-le k left (w ∷ []) le)
-      ∙ made_more (drop k left) (w ∷ []) o)
-
--- where all that came to it is taken off
+-- as much is pending
 makes_as : {X : Type 0} (f : X → Out) (ws vs : List Pending) (r : Result X Refusal) (o : Out) → ws ≡ vs
     → Makes f ws r o → Makes f vs r o
 makes_as f ws vs (Ok x) o e h = h ∙ ap (λ ws. made_by_all ws (f x)) e
 makes_as f ws vs (Err a) o e h = h
 
+-- what the last one makes of what was read is what the others make theirs of
+pub makes_last : (ws : List Pending) (w : Pending) (x : Tree × Bor (List Entry))
+    (r : Result (Tree × Bor (List Entry)) Refusal) (o : Out) → Gives (λ y. y.0) (λ y. y.1.now) r (made_by w (got x))
+    → Makes got (ws ++ w ∷ []) (Ok x) o → Makes got ws r o
+makes_last ws w x (Ok y) o h i = i ∙ made_more ws (w ∷ []) (got x) ∙ ap (made_by_all ws) h
+makes_last ws w x (Err e) o h i =
+    fails_as e (made_by_all ws (made_by w (got x))) o (i ∙ made_more ws (w ∷ []) (got x))
+    (fails_by_all e ws (made_by w (got x)) h)
+
+-- the last one is taken off
+module _ (k : ℕ) (all left : List Pending) (w : Pending) (is : all ≡ left ++ w ∷ []) (le : k ≤ length left) where
+  pub kept_less : take k all ≡ take k left
+  kept_less = ap (take k) is ∙ take-append-le k left (w ∷ []) le
+
+  pub makes_all : {X : Type 0} (f : X → Out) (r : Result X Refusal) (o : Out) → Makes f (drop k all) r o
+      → Makes f (drop k left ++ w ∷ []) r o
+  makes_all f r o h =
+      makes_as f (drop k all) (drop k left ++ w ∷ []) r o (ap (drop k) is ∙ drop-append-le k left (w ∷ []) le) h
+
+-- where all that came to it is taken off
 module _ (old new ws : List Pending) (n : ℕ) (e : new ≡ old ++ ws) (is : n ≡ length old) where
   pub not_less : n ≤ length new
   not_less = omega (arith, is, length-append old ws, ap length e)
@@ -158,8 +168,13 @@ module _ (old new ws : List Pending) (n : ℕ) (e : new ≡ old ++ ws) (is : n �
 
 -- where no more is left than that
 module _ (k : ℕ) (xs : List Pending) (le : length xs ≤ k) where
-  pub none_more : (o : Out) → made_by_all (drop k xs) o ≡ o
+  none_more : (o : Out) → made_by_all (drop k xs) o ≡ o
   none_more o = ap (λ ws. made_by_all ws o) (drop_of_length-le xs le)
+
+  pub gives_all : (r : Result (Tree × Bor (List Entry)) Refusal) (o : Out) → Makes got (drop k xs) r o
+      → Gives (λ y. y.0) (λ y. y.1.now) r o
+  gives_all (Ok x) o h = h ∙ none_more (got x)
+  gives_all (Err e) o h = h
 
   pub all_kept : take k xs ≡ xs
   all_kept = take_all k xs le

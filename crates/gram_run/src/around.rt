@@ -6,7 +6,7 @@ ghost use Rattle.gram_run.specs.declared.around.Around.TheVariants as arounds;
 ghost use Rattle.std.specs.Prelude.{◌≡◌, IfOk, IsTrue};
 ghost use Rattle.syn_buffer.specs.Entries.{is_whole};
 ghost use Rattle.syn_grammar.specs.Run.{Got, Out, wrap};
-ghost use Rattle.syn_grammar.specs.Tree.{Nil};
+ghost use Rattle.syn_grammar.specs.Tree.{Nil, Tree as AnyTree};
 
 use crate::refusal::Refusal;
 use crate::rules::{Rules, Verdict};
@@ -86,6 +86,20 @@ pub(crate) fn absent<'a>(
     })
 }
 
+/// What was made, if there was memory for it, and what is left behind it.
+#[inline(always)]
+pub(crate) fn with_rest<'a>(
+    made: Result<Tree<'a>, AllocError>,
+    rest: &'a [Entry<'a>],
+) -> Result<(Tree<'a>, &'a [Entry<'a>]), Refusal>
+    requires { IsTrue (is_whole rest.now) }
+    ensures answer { (x : AnyTree) → IfOk made.entry (λ y. y ≡ x)
+        → Gives (λ y. y.0) (λ y. y.1.now) result (Got x (tokens rest.now)) }
+    ensures whole { IfOk result (λ x. IsTrue (is_whole x.1.now)) }
+{
+    Ok((made?, rest))
+}
+
 /// What was read, with that around it.
 #[inline(always)]
 pub(crate) fn surround<'a>(
@@ -99,7 +113,7 @@ pub(crate) fn surround<'a>(
     ensures whole { IfOk result (λ x. IsTrue (is_whole x.1.now)) }
 {
     let (tree, rest) = inner?;
-    Ok((surrounded(arena, around, tree)?, rest))
+    with_rest(surrounded(arena, around, tree), rest)
 }
 
 /// What was read, as it is judged.
@@ -117,8 +131,8 @@ pub(crate) fn judged<'a, R: Rules>(
     ensures whole { IfOk result (λ x. IsTrue (is_whole x.1.now)) }
 {
     match rules.judge(verdicts, &tree) {
-        Verdict::Keep => Ok((made::first(arena, tree)?, rest)),
-        Verdict::AsRaw => Ok((made::verbatim(arena, tree)?, rest)),
+        Verdict::Keep => with_rest(made::first(arena, tree), rest),
+        Verdict::AsRaw => with_rest(made::verbatim(arena, tree), rest),
         Verdict::Refuse => Err(unfit(verdicts, &tree, rest)),
     }
 }

@@ -4,14 +4,15 @@ ghost use Rattle.gram_run.specs.Answers.{Fails, Gives, tokens};
 ghost use Rattle.gram_run.specs.Pending.{Makes, made_by};
 ghost use Rattle.gram_run.specs.Places.{closed_by};
 ghost use Rattle.gram_run.specs.declared.pending.Behind.{Behind};
+ghost use Rattle.gram_run.specs.declared.pending.Pending.{Pending as AnyPending};
 ghost use Rattle.gram_run.specs.declared.pending.Pending.TheVariants as pendings;
 ghost use Rattle.proc_macro2.specs.declared.delimiter.Delimiter.{Delimiter};
 ghost use Rattle.rust_map.specs.declared.span.Span.{Span};
-ghost use Rattle.std.specs.Prelude.{◌≡◌, ◌≤◌, IfOk, IsTrue, drop, length, take};
+ghost use Rattle.std.specs.Prelude.{◌≡◌, ◌≤◌, ◌∷◌, ◌++◌, [], IfOk, IsTrue, List, drop, length, take};
 ghost use Rattle.syn_buffer.specs.Entries.{is_whole};
 ghost use Rattle.syn_grammar.specs.Run.{Got, Out};
 
-use crate::around::{judged, surrounded};
+use crate::around::{judged, surrounded, with_rest};
 use crate::group::{closed, grouped};
 use crate::pending::{Pending, Work};
 use crate::refusal::Refusal;
@@ -36,17 +37,13 @@ fn made_of<'a, R: Rules>(
     ensures whole { IfOk result (λ x. IsTrue (is_whole x.1.now)) }
 {
     match last {
-        Pending::Front(front) => Ok((made::pair(arena, front, tree)?, rest)),
-        Pending::Around(around) => Ok((surrounded(arena, around, tree)?, rest)),
-        Pending::Node(kind, _) => Ok((made::node(arena, kind, tree)?, rest)),
+        Pending::Front(front) => with_rest(made::pair(arena, front, tree), rest),
+        Pending::Around(around) => with_rest(surrounded(arena, around, tree), rest),
+        Pending::Node(kind, _) => with_rest(made::node(arena, kind, tree), rest),
         Pending::Inside(delimiter, span, behind) => {
-            let (group, left) = grouped(arena, delimiter, span, behind.entries, tree, rest)?;
-            Ok((group, left))
+            grouped(arena, delimiter, span, behind.entries, tree, rest)
         }
-        Pending::Judged(verdicts) => {
-            let (kept, left) = judged(rules, arena, verdicts, tree, rest)?;
-            Ok((kept, left))
-        }
+        Pending::Judged(verdicts) => judged(rules, arena, verdicts, tree, rest),
     }
 }
 
@@ -63,26 +60,24 @@ fn said_of(last: Pending<'_>, refusal: Refusal) -> Refusal
     }
 }
 
-// What was refused, as it is said of all that was to be made, but for the first so many of what is pending; of that no
-// more is pending then.
-#[cold]
-#[inline(never)]
-fn given_up(work: &mut Work<'_>, base: usize, refusal: Refusal) -> Refusal
-    requires { base ≤ length work.old.pending.items }
-    ensures kept { work.new.pending.items ≡ take base work.old.pending.items }
-    ensures fails { (o : Out) → Fails refusal o → Fails result o }
+// What one makes of what was read, or what is said of it where that was refused.
+#[inline(always)]
+fn finished_by<'a, R: Rules>(
+    rules: &R,
+    arena: &'a Arena,
+    last: Pending<'a>,
+    read: Result<(Tree<'a>, &'a [Entry<'a>]), Refusal>,
+) -> Result<(Tree<'a>, &'a [Entry<'a>]), Refusal>
+    requires { IfOk read (λ x. IsTrue (is_whole x.1.now)) }
+    ensures answer { (ws : List AnyPending) (o : Out)
+        → Makes (λ x. Got x.0 (tokens x.1.now)) (ws ++ last.entry ∷ []) read.entry o
+        → Makes (λ x. Got x.0 (tokens x.1.now)) ws result o }
+    ensures whole { IfOk result (λ x. IsTrue (is_whole x.1.now)) }
 {
-    let mut said = refusal;
-    'pending: while work.pending.len() > base {
-        said = said_of(work.pending.take_last(), said);
+    match read {
+        Ok((tree, rest)) => made_of(rules, arena, last, tree, rest),
+        Err(refusal) => Err(said_of(last, refusal)),
     }
-    said
-}
-
-// How far it has been read.
-#[derive(Clone, Copy)]
-struct Place<'a> {
-    entries: &'a [Entry<'a>],
 }
 
 /// What is made of what was read by all but the first so many of what is pending; no more is pending then.
@@ -99,21 +94,10 @@ pub(crate) fn finished<'a, R: Rules>(
         → Gives (λ x. x.0) (λ x. x.1.now) result o }
     ensures whole { IfOk result (λ x. IsTrue (is_whole x.1.now)) }
 {
-    let (first, begin) = match inner {
-        Ok(read) => read,
-        Err(refusal) => return Err(given_up(work, base, refusal)),
-    };
-    let mut tree = first;
-    let mut at = Place { entries: begin };
+    let mut read = inner;
     'pending: while work.pending.len() > base {
         let last = work.pending.take_last();
-        match made_of(rules, work.arena, last, tree, at.entries) {
-            Ok((made, rest)) => {
-                tree = made;
-                at = Place { entries: rest };
-            }
-            Err(refusal) => return Err(given_up(work, base, refusal)),
-        }
+        read = finished_by(rules, work.arena, last, read);
     }
-    Ok((tree, at.entries))
+    read
 }

@@ -25,7 +25,7 @@ ghost use Rattle.syn_grammar.specs.Run.{Got, Out, climb as goes, interp as says,
 ghost use Rattle.syn_grammar.specs.Run.{loop as again, run, tower as operand_of, wrap};
 ghost use Rattle.syn_grammar.specs.Tree.{Nil, Tree as AnyTree};
 
-use crate::around::{Around, NoToken, absent, surround};
+use crate::around::{Around, NoToken, absent, surround, with_rest};
 use crate::choice::{Choice, chosen, halves, is_nothing};
 use crate::finish::finished;
 use crate::form::{begun, extended};
@@ -48,6 +48,27 @@ use proc_macro2::delimiter::Delimiter;
 use std::alloc::AllocError;
 use syn_buffer::entry::Entry;
 
+// What the steps say, where nothing is pending yet.
+fn begin<'a, R: Rules>(
+    rules: &R,
+    arena: &'a Arena,
+    steps: &'static [Op],
+    at: &'a [Entry<'a>],
+    fuel: u128,
+) -> Result<(Tree<'a>, &'a [Entry<'a>]), Refusal>
+    requires { IsTrue (is_whole at.now) }
+    ensures answer { Gives (λ x. x.0) (λ x. x.1.now) result (says (run fuel) (gram_of steps.now) (tokens at.now)) }
+    ensures whole { IfOk result (λ x. IsTrue (is_whole x.1.now)) }
+{
+    let tree = arena.put(made::nil())?;
+    let mut work = Work {
+        arena,
+        nil: NoToken { tree },
+        pending: Vec::new(arena.alloc()),
+    };
+    interp(rules, &mut work, steps, at, fuel)
+}
+
 /// A tree of the kind.
 pub(crate) fn call<'a, R: Rules>(
     rules: &R,
@@ -63,17 +84,8 @@ pub(crate) fn call<'a, R: Rules>(
     if fuel == 0 {
         return Err(Refusal::Late);
     }
-    let mut work = Work {
-        arena,
-        nil: NoToken {
-            tree: arena.put(made::nil())?,
-        },
-        pending: Vec::new(arena.alloc()),
-    };
-    let steps = entry(kind);
-    let _bounded = steps.len();
-    match interp(rules, &mut work, steps, at, fuel - 1) {
-        Ok((tree, rest)) => Ok((made::node(arena, kind, tree)?, rest)),
+    match begin(rules, arena, entry(kind), at, fuel - 1) {
+        Ok((tree, rest)) => with_rest(made::node(arena, kind, tree), rest),
         Err(refusal) => Err(named(kind, at, refusal)),
     }
 }
@@ -309,7 +321,8 @@ fn none_chosen<'a>(
         (wrap (around_of (arounds.Chosen choice.seconds choice.is_first)) (Got Nil (tokens at.now))) }
     ensures whole { IfOk result (λ x. IsTrue (is_whole x.1.now)) }
 {
-    Ok((absent(arena, nil, choice.seconds, choice.is_first)?, at))
+    let tree = absent(arena, nil, choice.seconds, choice.is_first);
+    with_rest(tree, at)
 }
 
 // A choice that stands first.
@@ -428,7 +441,8 @@ fn star<'a, R: Rules>(
         turns.push(turn)?;
         at = Place { entries: rest };
     }
-    Ok((made::turns(work.arena, turns)?, at.entries))
+    let tree = made::turns(work.arena, turns);
+    with_rest(tree, at.entries)
 }
 
 // Elements with marks between them, until the test passes.
@@ -462,18 +476,14 @@ fn many<'a, R: Rules>(
         }
         let (tree, rest) = interp(rules, work, parts, at.entries, fuel)?;
         let Some((spacing, behind)) = leaf::separator(separator, rest) else {
-            return Ok((
-                made::elements(work.arena, separator, before, Some(tree))?,
-                rest,
-            ));
+            let list = made::elements(work.arena, separator, before, Some(tree));
+            return with_rest(list, rest);
         };
         before.push(Element { tree, spacing })?;
         at = Place { entries: behind };
     }
-    Ok((
-        made::elements(work.arena, separator, before, None)?,
-        at.entries,
-    ))
+    let list = made::elements(work.arena, separator, before, None);
+    with_rest(list, at.entries)
 }
 
 // A form's own part, the operand behind it, if it has one there, and what stands behind them.

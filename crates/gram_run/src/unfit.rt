@@ -97,20 +97,32 @@ fn first_asked(asked: Asked, elements: &[Element<'_>]) -> Option<Span> {
 
 // Where the first element of a group's list stands that is what is asked, and has a mark behind it.
 fn separated(asked: Asked, tree: &Tree<'_>) -> Option<Span> {
-    let (before, _) = tree.group()?.list()?;
-    first_asked(asked, before)
+    match listed(tree) {
+        Some((before, _)) => first_asked(asked, before),
+        None => None,
+    }
+}
+
+// The elements of a group's list that a mark follows, and the last one, if none follows it.
+fn listed<'t, 'a>(tree: &'t Tree<'a>) -> Option<(&'t [Element<'a>], Option<&'t Tree<'a>>)> {
+    tree.group()?.list()
+}
+
+// Where the last parameter stands, if that is a receiver, or `...` before others.
+fn misplaced_last(before: &[Element<'_>], last: Option<&Tree<'_>>) -> Option<Span> {
+    match last {
+        Some(tree) if is(Asked::Receiver, tree) => begin(tree),
+        _ => first_asked(Asked::Variadic, before),
+    }
 }
 
 // Where a parameter stands that may not stand there: a receiver behind others, or `...` before others.
 fn misplaced(tree: &Tree<'_>) -> Option<Span> {
-    let (before, last) = tree.group()?.list()?;
+    let (before, last) = listed(tree)?;
     let (_, others) = before.split_first()?;
-    if let Some(span) = first_asked(Asked::Receiver, others) {
-        return Some(span);
-    }
-    match last {
-        Some(tree) if is(Asked::Receiver, tree) => begin(tree),
-        _ => first_asked(Asked::Variadic, before),
+    match first_asked(Asked::Receiver, others) {
+        Some(span) => Some(span),
+        None => misplaced_last(before, last),
     }
 }
 

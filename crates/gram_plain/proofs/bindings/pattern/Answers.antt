@@ -1,11 +1,16 @@
 -- The name that stands there.
+use Rattle.std.proofs.Common.{refl}
 use Rattle.gram_look.specs.Tokens.{tokens}
 use Rattle.rust_leaf.specs.Leaf.{ident_text}
 use Rattle.gram_plain.proofs.Bound.{whole_at}
+use Rattle.gram_plain.specs.Bindings.{only_pattern}
+use Rattle.syn_grammar.specs.Kind.{Pattern}
 use Rattle.gram_plain.proofs.bindings.pattern.Goals as goal
 
-pub returns-in_ok-only_pattern-in-Some-clause-read : goal.returns-in_ok-only_pattern-in-Some-clause-read
-returns-in_ok-only_pattern-in-Some-clause-read c =
-    whole_at (ident_text c.in-Some.name.now) (tokens c.args.at.now) (tokens c.in-Some.rest.now)
-    c.in_ok-only_pattern-in-Some.field-0 c.in-Some.ensures.first c.in-Some.ensures.ident c.in-Some.ensures.end c.in-Some.ensures.only
-    c.in_ok-only_pattern-in-Some.ensures
+pub returns-in-Some-clause-read : goal.returns-in-Some-clause-read
+returns-in-Some-clause-read c =
+    let ts = tokens c.args.at.now in
+    let cs = ident_text c.in-Some.name.now in
+    c.found.ensures.read 3 Pattern ts (only_pattern cs)
+    (whole_at cs ts (tokens c.in-Some.rest.now) (only_pattern cs) c.in-Some.ensures.first c.in-Some.ensures.ident
+    c.in-Some.ensures.end c.in-Some.ensures.only refl) c.only_pattern.ensures

@@ -1,12 +1,18 @@
 -- The literal that stands there.
+use Rattle.std.proofs.Common.{refl}
 use Rattle.gram_look.specs.Tokens.{tokens}
 use Rattle.gram_table.specs.Kinds.{position_of}
 use Rattle.rust_leaf.specs.Leaf.{literal_text}
 use Rattle.gram_plain.proofs.LoneForms.{alone_at}
+use Rattle.gram_plain.specs.Lone.{lone_literal}
+use Rattle.syn_grammar.specs.Kind.{Expression}
 use Rattle.gram_plain.proofs.lone.expression.Goals as goal
 
-pub returns-in_ok-lone_literal-in-Some-clause-read : goal.returns-in_ok-lone_literal-in-Some-clause-read
-returns-in_ok-lone_literal-in-Some-clause-read c =
-    alone_at (position_of c.args.position) (literal_text c.in-Some.literal.now) (tokens c.args.at.now)
-    (tokens c.in-Some.rest.now) c.in_ok-lone_literal-in-Some.field-0 c.in-Some.ensures.first c.in-Some.ensures.over
-    c.in_ok-lone_literal-in-Some.ensures
+pub returns-in-Some-clause-read : goal.returns-in-Some-clause-read
+returns-in-Some-clause-read c =
+    let p = position_of c.args.position in
+    let ts = tokens c.args.at.now in
+    let cs = literal_text c.in-Some.literal.now in
+    c.found.ensures.read 8 (Expression p) ts (lone_literal p cs)
+    (alone_at p cs ts (tokens c.in-Some.rest.now) (lone_literal p cs) c.in-Some.ensures.first c.in-Some.ensures.over refl)
+    c.lone_literal.ensures

@@ -1,9 +1,9 @@
 -- What is pending yet makes the same of what was made.
 use Rattle.std.proofs.Common.{◌≡◌, ◌≤◌, drop, length, take, true}
+use Rattle.std.specs.Prelude.{IfOk}
 use Rattle.syn_buffer.specs.Entries.{is_whole}
-use Rattle.syn_grammar.specs.Run.{Out, Got}
-use Rattle.gram_run.specs.Answers.{tokens}
-use Rattle.gram_run.specs.Pending.{Makes, made_by_all}
+use Rattle.syn_grammar.specs.Run.{Out}
+use Rattle.gram_run.specs.Pending.{Makes}
 use Rattle.gram_run.proofs.Pendings.{got}
 use Rattle.gram_run.proofs.finish.finished.Given as goal
 
@@ -12,8 +12,8 @@ invariant-pending g l = record {
   enough : l.base ≤ length l.work.pending.items;
   kept : take l.base l.work.pending.items ≡ take l.base l.fn.work.pending.items;
   made : (o : Out) → Makes got (drop l.base l.fn.work.pending.items) l.fn.inner o
-      → o ≡ made_by_all (drop l.base l.work.pending.items) (Got l.tree (tokens l.at.entries.now));
-  whole : is_whole l.at.entries.now ≡ true;
+      → Makes got (drop l.base l.work.pending.items) l.read o;
+  whole : IfOk l.read (λ x. is_whole x.1.now ≡ true);
 }
 
 abbrev pub decreases-pending : goal.decreases-pending

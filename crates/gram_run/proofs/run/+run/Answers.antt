@@ -16,7 +16,7 @@ use Rattle.gram_run.proofs.Turns.{turn_more, turn_none, turn_fails}
 use Rattle.gram_run.proofs.Elements.{element_more, element_none, element_last, element_fails}
 use Rattle.gram_run.proofs.Operands.{climb_ends, climb_chains, climb_goes, climb_fails, operand_goes}
 use Rattle.gram_run.proofs.Operands.{none_stands, operand_fails}
-use Rattle.gram_run.proofs.Outs.{fails_as, fails_on, got_on, syntax_fails}
+use Rattle.gram_run.proofs.Outs.{fails_as, fails_on, gives_as, got_on, syntax_fails}
 use Rattle.gram_run.proofs.Pendings.{as_light, at_step, ends, goes, leads_fails, leads_on, lighter, makes_left, no_step, old_kept, refused}
 use Rattle.gram_run.proofs.run.+run.Goals as goal
 
@@ -243,10 +243,11 @@ many-returns-in_err-tree-clause-answer g t c =
 pub many-returns-in_default-clause-answer : goal.many-returns-in_default-clause-answer
 many-returns-in_default-clause-answer g t c =
     let s : c.elements.fuel ≡ suc (c.elements.fuel - 1) = omega arith in
-    element_last (test_of c.args.test) (separator_of c.args.separator) (gram_of c.args.parts.now)
+    gives_as (λ x. x.0) (λ x. x.1.now) _ _ _
+    (element_last (test_of c.args.test) (separator_of c.args.separator) (gram_of c.args.parts.now)
     c.elements.fuel (c.elements.fuel - 1) c.elements.before.items _ _ _ _ s c.elements.invariant.read
-    (sym c.passes.ensures ∙ c.if-passes.false) c.in_ok-tree.ensures.answer c.in_default.ensures.none
-    ∙ ap (λ x. Got x (tokens c.in_ok-tree.rest.now)) (sym c.in_ok-elements.ensures)
+    (sym c.passes.ensures ∙ c.if-passes.false) c.in_ok-tree.ensures.answer c.in_default.ensures.none)
+    (c.with_rest.ensures.answer _ c.elements-list.ensures)
 
 pub many-elements-preserved : goal.many-elements-preserved
 many-elements-preserved g t c =
@@ -264,10 +265,11 @@ many-elements-preserved g t c =
 pub many-returns-clause-answer : goal.many-returns-clause-answer
 many-returns-clause-answer g t c =
     let s : c.elements.fuel ≡ suc (c.elements.fuel - 1) = omega arith in
-    element_none (test_of c.args.test) (separator_of c.args.separator) (gram_of c.args.parts.now)
+    gives_as (λ x. x.0) (λ x. x.1.now) _ _ _
+    (element_none (test_of c.args.test) (separator_of c.args.separator) (gram_of c.args.parts.now)
     c.elements.fuel (c.elements.fuel - 1) c.elements.before.items _ _ s c.elements.invariant.read
-    (sym c.passes.ensures ∙ c.if-passes.true)
-    ∙ ap (λ x. Got x (tokens c.elements.at.entries.now)) (sym c.in_ok-elements-2.ensures)
+    (sym c.passes.ensures ∙ c.if-passes.true))
+    (c.with_rest-2.ensures.answer _ c.elements-list-2.ensures)
 
 pub star-returns-in_err-turn-clause-answer : goal.star-returns-in_err-turn-clause-answer
 star-returns-in_err-turn-clause-answer g t c =
@@ -292,9 +294,10 @@ star-turns-preserved g t c =
 pub star-returns-clause-answer : goal.star-returns-clause-answer
 star-returns-clause-answer g t c =
     let s : c.turns.fuel ≡ suc (c.turns.fuel - 1) = omega arith in
-    turn_none (test_of c.args.test) (gram_of c.args.parts.now) c.turns.fuel (c.turns.fuel - 1) c.turns.turns.items _ _ s
-    c.turns.invariant.read (sym c.passes.ensures ∙ c.if-not-passes.true)
-    ∙ ap (λ x. Got x (tokens c.turns.at.entries.now)) (sym c.in_ok-turns.ensures)
+    gives_as (λ x. x.0) (λ x. x.1.now) _ _ _
+    (turn_none (test_of c.args.test) (gram_of c.args.parts.now) c.turns.fuel (c.turns.fuel - 1) c.turns.turns.items _ _ s
+    c.turns.invariant.read (sym c.passes.ensures ∙ c.if-not-passes.true))
+    (c.with_rest.ensures.answer _ c.turns-tree.ensures)
 
 pub tower-returns-in_err-tree-clause-answer : goal.tower-returns-in_err-tree-clause-answer
 tower-returns-in_err-tree-clause-answer g t c =
