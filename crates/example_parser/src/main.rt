@@ -10,9 +10,9 @@ mod line;
 mod read;
 
 use anyhow::{Result, anyhow};
-use line::{Definition, Line, Value};
-use proc_macro2::{SourceMap, Span, TokenStream};
-use std::alloc::Global;
+use line::{Definition, Import, Line, Value};
+use proc_macro2::{LineColumn, SourceMap, Span, TokenStream};
+use std::alloc::AllocError;
 use std::fmt::Display;
 use std::io::{Read, Write};
 use syn_error::{Error, ParseFault};
@@ -20,72 +20,68 @@ use syn_kinds::token;
 use syn_parse::Punctuated;
 use syn_parse::parser::parse_stream;
 
-// The values, with a space before each.
-fn spaced<T: Display>(alloc: Global, values: &Punctuated<T, token::Comma>) -> Result<String> {
-    let mut all = String::new(alloc);
+// Puts the values, with a space before each, and a line's end.
+fn put_values<T: Display>(
+    values: &Punctuated<T, token::Comma>,
+    out: &mut String,
+) -> Result<(), AllocError> {
     for value in values {
-        let word = format!(in alloc; " {value}")?;
-        all.push_str(word.as_str())?;
+        write!(out, " {value}")?;
     }
-    Ok(all)
+    out.push_str("\n")
 }
 
-// What a line says.
-fn said(alloc: Global, line: &Line) -> Result<String> {
+fn put_definition(definition: &Definition, out: &mut String) -> Result<(), AllocError> {
+    let ident = &definition.ident;
+    match &definition.value {
+        Value::Number(number) => writeln!(out, "  {ident} is {number}"),
+        Value::List(numbers) => {
+            write!(out, "  {ident} has")?;
+            put_values(numbers, out)
+        }
+    }
+}
+
+fn put_import(import: &Import, out: &mut String) -> Result<(), AllocError> {
+    out.push_str("  uses")?;
+    put_values(&import.names, out)
+}
+
+// Puts what a line says.
+fn put_line(line: &Line, out: &mut String) -> Result<(), AllocError> {
     match line {
-        Line::Definition(
-            Definition {
-                ident,
-                value: Value::Number(number),
-                ..
-            },
-        ) => Ok(format!(in alloc; "  {ident} is {number}\n")?),
-        Line::Definition(
-            Definition {
-                ident,
-                value: Value::List(numbers),
-                ..
-            },
-        ) => {
-            let all = spaced(alloc, numbers)?;
-            Ok(format!(in alloc; "  {ident} has{all}\n")?)
-        }
-        Line::Import(import) => {
-            let all = spaced(alloc, &import.names)?;
-            Ok(format!(in alloc; "  uses{all}\n")?)
-        }
+        Line::Definition(definition) => put_definition(definition, out),
+        Line::Import(import) => put_import(import, out),
     }
 }
 
-// Where a text can't be read, and why.
-fn refused(alloc: Global, map: &SourceMap, error: &Error) -> Result<String> {
+fn put_lines(lines: &Punctuated<Line, token::Semi>, out: &mut String) -> Result<(), AllocError> {
+    for line in lines {
+        put_line(line, out)?;
+    }
+    Ok(())
+}
+
+// Puts where a text can't be read, and why.
+fn put_error(map: &SourceMap, error: &Error, out: &mut String) -> Result<(), AllocError> {
     let span = error.span();
     if map.holds(span) && !span.eq(&Span::call_site()) {
-        let place = span.start(map);
-        let (line, column) = (place.line, place.column);
-        return Ok(format!(in alloc; "  {line}:{column}: {error}\n")?);
+        let LineColumn { line, column } = span.start(map);
+        writeln!(out, "  {line}:{column}: {error}")
+    } else {
+        writeln!(out, "  at the end: {error}")
     }
-    Ok(format!(in alloc; "  at the end: {error}\n")?)
 }
 
-// Adds a text and what is said of it.
-fn report(out: &mut String, text: &str) -> Result<()> {
+// Puts a text and what is said of it.
+fn report(text: &str, out: &mut String) -> Result<()> {
+    writeln!(out, "{text}")?;
     let alloc = *out.allocator();
-    out.push_str(text)?;
-    out.push('\n')?;
     let mut map = SourceMap::new(alloc);
     let stream = TokenStream::from_str(alloc, text, &mut map)?;
     match parse_stream(alloc, read::lines, &stream) {
-        Ok(lines) => {
-            for line in &lines {
-                out.push_str(said(alloc, line)?.as_str())?;
-            }
-            Ok(())
-        }
-        Err(ParseFault::Syntax(error)) => {
-            out.push_str(refused(alloc, &map, &error)?.as_str())?;
-            Ok(())
-        }
+        Ok(lines) => Ok(put_lines(&lines, out)?),
+        Err(ParseFault::Syntax(error)) => Ok(put_error(&map, &error, out)?),
         Err(ParseFault::Memory) => Err(anyhow!("out of memory")),
     }
 }
@@ -95,8 +91,7 @@ fn main(rt: HostRuntime) -> Result<()> {
     rt.reader().read_to_string(&mut texts)?;
     let mut out = String::new(rt.alloc());
     for text in texts.lines() {
-        report(&mut out, text)?;
+        report(text, &mut out)?;
     }
-    rt.stdout().write_all(out.as_bytes())?;
-    Ok(())
+    Ok(rt.stdout().write_all(out.as_bytes())?)
 }
