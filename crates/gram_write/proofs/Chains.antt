@@ -4,6 +4,15 @@ use Rattle.std.specs.Prelude.{None, map, refl}
 use Rattle.std.proofs.Common.{ap, ◌∙◌, sym, arith, append_assoc, length, take, get_or}
 use Rattle.std.proofs.lemmas.List.{append-nil, map-append, take_more}
 use denote.Bor.{Bor}
+use Rattle.gram_table.specs.Ops.{separator_of}
+use Rattle.gram_table.specs.Words.{sign_text}
+use Rattle.gram_table.specs.declared.kind.Kind as g
+use Rattle.gram_tree.specs.declared.tree.Between.{Between}
+use Rattle.gram_tree.specs.declared.tree.Both.{Both}
+use Rattle.gram_tree.specs.declared.tree.Form.{Form}
+use Rattle.gram_tree.specs.declared.tree.Form.TheVariants as forms
+use Rattle.gram_tree.specs.Forms.{tree_of}
+use Rattle.gram_tree.proofs.Shapes.{single_elements, single_first, single_mark, single_turns}
 use Rattle.proc_macro2.specs.Token.{Token, Opens, Closes}
 use Rattle.proc_macro2.specs.declared.delimiter.Delimiter.TheVariants.{Parenthesis}
 use Rattle.syn_grammar.specs.Forms.{level}
@@ -13,7 +22,7 @@ use Rattle.syn_grammar.specs.Tree.{Tree}
 use Rattle.gram_tree.specs.declared.tree.Tree.TheDeep.{size-Tree}
 use Rattle.gram_tree.proofs.Sizes.{tree_size}
 use Rattle.range_laws.specs.Shelled.{enclosed_if, goes_in, is_lone_range}
-use Rattle.gram_write.specs.Chains.{behind_left, behind_lefts, left_of, next_of, passed_laid}
+use Rattle.gram_write.specs.Chains.{behind_left, behind_lefts, left_of, next_of, passed_laid, single_left}
 use Rattle.gram_write.specs.Laid.{behind_laid, given_laid, laid}
 use Rattle.gram_write.specs.Operands.{back_of, giving_of, infix_of}
 use Rattle.gram_write.specs.declared.chain.Lefts.{Lefts}
@@ -44,6 +53,18 @@ left_laid : (x : Tree) (k : Kind) (l : Tree) → Some (k, l) ≡ left_of x
 left_laid (t.Infix m j y r) k l e = left_parts laid (laid y ++ laid r) j k m l (same_pair k j l m e)
 left_laid (t.Back m j y) k l e = left_parts laid (behind_laid j y) j k m l (same_pair k j l m e)
 left_laid x k l e = absurd (some_none (k, l) e)
+
+-- forms of which none has an operand before it
+pub left_off : (f : Form) → ((k : g.Kind) (x : Bor (Between Tree)) → f ≡ forms.Infix k x → ⊥)
+    → ((k : g.Kind) (x : Bor (Both Tree)) → f ≡ forms.Back k x → ⊥) → None ≡ left_of (tree_of f)
+left_off (forms.Mark s spacing span) h i = sym (ap single_left (single_mark (sign_text s) spacing))
+left_off (forms.First n x) h i = sym (ap single_left (single_first n x.now))
+left_off (forms.Turns v) h i = sym (ap single_left (single_turns v.now.each.now))
+left_off (forms.Elements x) h i = sym (ap single_left
+    (single_elements (separator_of x.now.separator) x.now.before.now (λ b. b.now) x.now.last))
+left_off (forms.Infix k x) h i = absurd (h k x refl)
+left_off (forms.Back k x) h i = absurd (i k x refl)
+left_off f h i = refl
 
 pub left_below : (x : Tree) (k : Kind) (l : Tree) → Some (k, l) ≡ left_of x → size-Tree l < size-Tree x
 left_below (t.Infix m j y r) k l e =

@@ -1,15 +1,19 @@
 -- The tokens of a tree, by its form.
-use Rattle.std.specs.Prelude.{Some, None}
+use Rattle.std.specs.Prelude.{◌<◌, ◌+◌, ℕ, OnOk, Result, Some, None, drop, get_or, length}
 use Rattle.std.proofs.Common.{◌≡◌, List, [], ◌∷◌, ◌++◌, refl, sym, ap, ◌∙◌, append_assoc}
 use Rattle.std.proofs.lemmas.List.{append-nil}
-use Rattle.proc_macro2.specs.Token.{Token}
+use Rattle.std.proofs.lemmas.Result.{on_ok_weaker}
+use Rattle.proc_macro2.specs.Token.{Token, Punct}
 use Rattle.syn_grammar.specs.Kind.{Kind}
 use Rattle.syn_grammar.specs.Tree as t
 use Rattle.syn_grammar.specs.Tree.{Tree, flat}
+use Rattle.gram_tree.specs.declared.tree.Element.{Element}
+use Rattle.gram_tree.specs.Forms.{elements}
 use Rattle.gram_tree.proofs.Flat.{flat_seconds, flat_elements}
 use Rattle.gram_write.specs.Chains.{behind_lefts_read, behind_read, left_of}
 use Rattle.gram_write.specs.Operands.{back_of, infix_of}
 use Rattle.gram_write.proofs.Operands.{back_is, infix_is}
+use Rattle.gram_write.proofs.Putting.{loop_next}
 use Rattle.gram_write.proofs.SeenForms.{same_pair, some_none}
 
 pub ruleset forms = (flat_seconds, flat_elements, append_assoc, append-nil)
@@ -55,3 +59,41 @@ pub left_out : (old new all : List Token) (x : Tree) (xs : List Tree) → new �
 left_out old new all x xs put h =
     ap (λ ts. ts ++ behind_lefts_read xs) put ∙ append_assoc old (behind_read x) (behind_lefts_read xs)
     ∙ ap (λ ts. old ++ ts) (sym (behind_more xs x)) ∙ h
+
+-- of a tree that is left these tokens are put, which are those of its form
+pub read_put : (x y : Tree) (old new all ts : List Token) → x ≡ y → ts ≡ flat y → old ++ flat x ≡ all
+    → new ≡ old ++ ts → new ≡ all
+read_put x y old new all ts is form left put = put ∙ ap (λ us. old ++ us) (form ∙ ap flat (sym is)) ∙ left
+
+pub put_read : {T E : Type 0} (r : Result T E) (x y : Tree) (old new all ts : List Token) → x ≡ y → ts ≡ flat y
+    → old ++ flat x ≡ all → OnOk r (new ≡ old ++ ts) → OnOk r (new ≡ all)
+put_read r x y old new all ts is form left = on_ok_weaker r (read_put x y old new all ts is form left)
+
+-- of a tree that is left another is left, behind the tokens that are put
+pub rest_read : (x y z : Tree) (old new all ts : List Token) → x ≡ y → flat y ≡ ts ++ flat z → old ++ flat x ≡ all
+    → new ≡ old ++ ts → new ++ flat z ≡ all
+rest_read x y z old new all ts is form left put =
+    ap (λ us. us ++ flat z) put ∙ append_assoc old ts (flat z)
+    ∙ ap (λ us. old ++ us) (sym (ap flat is ∙ form)) ∙ left
+
+-- of a tree that is left another is left, which has all of its tokens
+pub other_read : (x y z : Tree) (old all : List Token) → x ≡ y → flat y ≡ flat z → old ++ flat x ≡ all
+    → old ++ flat z ≡ all
+other_read x y z old all is same left = ap (λ us. old ++ us) (sym (ap flat is ∙ same)) ∙ left
+
+-- what is put of an innermost operand, and of the forms that it stands in
+pub lefts_put : {T E : Type 0} (r : Result T E) (x y : Tree) (old two new bs cs : List Token)
+    → flat y ++ bs ≡ flat x ++ [] → two ≡ old ++ flat y → cs ≡ bs → OnOk r (new ≡ two ++ cs)
+    → OnOk r (new ≡ old ++ flat x)
+lefts_put r x y old two new bs cs inner put same =
+    on_ok_weaker r (λ e. e ∙ ap (λ us. two ++ us) same ∙ ap (λ us. us ++ bs) put ∙ append_assoc old (flat y) bs
+    ∙ ap (λ us. old ++ us) (inner ∙ append-nil (flat x)))
+
+-- one more element is put, with the mark behind it
+pub element_next : (c : ℕ) (es : List Element) (i : ℕ) (x : Element) (old one new all : List Token) → i < length es
+    → x ≡ get_or es i x → old ++ flat (elements c (drop i es) t.End) ≡ all → one ≡ old ++ flat x.tree
+    → new ≡ one ++ Punct c x.spacing ∷ [] → new ++ flat (elements c (drop (i + 1) es) t.End) ≡ all
+element_next c es i x old one new all h e left put mark =
+    loop_next (λ ds. flat (elements c ds t.End)) es i x old new all (flat x.tree ++ Punct c x.spacing ∷ []) h e
+    (sym (append_assoc (flat x.tree) (Punct c x.spacing ∷ []) (flat (elements c (drop (i + 1) es) t.End)))) left
+    (mark ∙ ap (λ ts. ts ++ Punct c x.spacing ∷ []) put ∙ append_assoc old (flat x.tree) (Punct c x.spacing ∷ []))

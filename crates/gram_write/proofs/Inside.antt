@@ -1,11 +1,10 @@
 -- What a tree ends with is smaller.
-use Rattle.std.specs.Prelude.{◌≡◌, ◌<◌, ◌≤◌, ℕ, zero, suc, List, [], ◌∷◌}
+use Rattle.std.specs.Prelude.{◌≡◌, ◌<◌, ◌≤◌, ℕ, zero, suc}
 use Rattle.std.proofs.Common.{ap, arith}
 use Rattle.syn_grammar.specs.Tree as t
 use Rattle.syn_grammar.specs.Tree.{Tree}
-use Rattle.gram_tree.specs.declared.tree.Element.{Element}
 use Rattle.gram_tree.specs.declared.tree.Tree.TheDeep.{size-Tree}
-use Rattle.gram_tree.specs.Forms.{elements, seconds}
+use Rattle.gram_tree.specs.Forms.{seconds}
 use Rattle.gram_tree.specs.Size.{node_count}
 use Rattle.gram_tree.proofs.Sizes.{tree_size}
 
@@ -19,11 +18,3 @@ first_below n x y e = omega (arith, seconds_in n (t.First x), ap node_count e, t
 
 pub second_below : (n : ℕ) (x y : Tree) → y ≡ t.Second (seconds n x) → size-Tree x < size-Tree y
 second_below n x y e = omega (arith, seconds_in n x, ap node_count e, tree_size x, tree_size y)
-
--- the last of elements
-last_in : (c : ℕ) (es : List Element) (x : Tree) → node_count x < node_count (elements c es (t.Final x))
-last_in c [] x = omega arith
-last_in c (e ∷ es) x = omega (arith, last_in c es x)
-
-pub last_below : (c : ℕ) (es : List Element) (x y : Tree) → y ≡ elements c es (t.Final x) → size-Tree x < size-Tree y
-last_below c es x y e = omega (arith, last_in c es x, ap node_count e, tree_size x, tree_size y)

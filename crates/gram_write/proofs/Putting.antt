@@ -1,7 +1,7 @@
 -- Tokens that are put in several steps, of which the last one may fail, and those of a tree by its form.
-use Rattle.std.specs.Prelude.{◌≡◌, ◌≤◌, ◌<◌, ℕ, List, [], ◌∷◌, ◌++◌, OnOk, Result, drop, length, refl}
+use Rattle.std.specs.Prelude.{◌≡◌, ◌≤◌, ◌<◌, ◌+◌, ℕ, List, [], ◌∷◌, ◌++◌, OnOk, Result, drop, get_or, length, refl}
 use Rattle.std.proofs.Common.{ap, ◌∙◌, sym, append_assoc, arith}
-use Rattle.std.proofs.lemmas.List.{append-nil, at_drop_all}
+use Rattle.std.proofs.lemmas.List.{append-nil, at_drop_all, at_drop_more}
 use Rattle.std.proofs.lemmas.Result.{on_ok_weaker}
 use Rattle.proc_macro2.specs.Token.{Token}
 use Rattle.syn_grammar.specs.Tree as t
@@ -90,3 +90,23 @@ pub loop_end : {X : Type 0} (l : List X → List Token) (xs : List X) (i : ℕ) 
     → l [] ≡ [] → old ++ l (drop i xs) ≡ all → old ≡ all
 loop_end l xs i old all end empty left =
     sym (append-nil old) ∙ ap (λ us. old ++ us) (sym (at_drop_all l xs i end ∙ empty)) ∙ left
+
+-- one more of a list is put, of which these tokens are
+pub loop_next : {X : Type 0} (l : List X → List Token) (xs : List X) (i : ℕ) (x : X) (old new all ts : List Token)
+    → i < length xs → x ≡ get_or xs i x → l (x ∷ drop (i + 1) xs) ≡ ts ++ l (drop (i + 1) xs)
+    → old ++ l (drop i xs) ≡ all → new ≡ old ++ ts → new ++ l (drop (i + 1) xs) ≡ all
+loop_next l xs i x old new all ts h e step left put =
+    let rest : List Token = l (drop (i + 1) xs) in
+    ap (λ us. us ++ rest) put ∙ append_assoc old ts rest
+    ∙ ap (λ us. old ++ us)
+    (sym (at_drop_more l xs i x h ∙ ap (λ y. l (y ∷ drop (i + 1) xs)) (sym e) ∙ step))
+    ∙ left
+
+-- none of what is left of a list is put
+pub loop_stop : {X : Type 0} (l : List X → List Token) (xs : List X) (i : ℕ) (x : X) (old all : List Token)
+    → i < length xs → x ≡ get_or xs i x → l (x ∷ drop (i + 1) xs) ≡ [] → old ++ l (drop i xs) ≡ all → old ≡ all
+loop_stop l xs i x old all h e stop left =
+    sym (append-nil old)
+    ∙ ap (λ us. old ++ us)
+    (sym (at_drop_more l xs i x h ∙ ap (λ y. l (y ∷ drop (i + 1) xs)) (sym e) ∙ stop))
+    ∙ left

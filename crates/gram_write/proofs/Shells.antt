@@ -34,6 +34,14 @@ pub shell_none : (x : Tree) → None ≡ front_of x → false ≡ has_shell x
 shell_none (t.Front k y z) e = cc
 shell_none x e = refl
 
+pub shell_then : (x : Tree) (k : Kind) (y : Tree) → Some (k, y) ≡ front_of x → is_attributed k ≡ true
+    → is_range y ≡ has_shell x
+shell_then x k y e h = ap (λ b. b && is_range y) (sym h) ∙ shell_some x k y e
+
+pub shell_else : (x : Tree) (k : Kind) (y : Tree) → Some (k, y) ≡ front_of x → is_attributed k ≡ false
+    → false ≡ has_shell x
+shell_else x k y e h = ap (λ b. b && is_range y) (sym h) ∙ shell_some x k y e
+
 pub ruleset has_shells = (shell_some, shell_none)
 
 -- what a form behind would go into

@@ -4,7 +4,6 @@ pub mod Firsts
 pub mod Turns
 pub mod Laid
 pub mod Seen
-pub mod Tails
 pub mod Way
 pub mod Operands
 pub mod Chains

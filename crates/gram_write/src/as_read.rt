@@ -6,8 +6,8 @@ ghost use Rattle.gram_tree.specs.Forms.{elements, turns};
 ghost use Rattle.gram_tree.specs.declared.tree.Tree.TheDeep.{size-Tree};
 ghost use Rattle.gram_write.specs.Chains.{behind_lefts_read, behind_read};
 ghost use Rattle.gram_write.specs.Front.{Keeps};
-ghost use Rattle.gram_write.specs.Tails.{left_read};
-ghost use Rattle.std.specs.Prelude.{◌++◌, ◌<◌, ◌≡◌, ◌≤◌, IfOk, IfSome, OnOk, map, max};
+ghost use Rattle.proc_macro2.specs.Token as token;
+ghost use Rattle.std.specs.Prelude.{[], ◌++◌, ◌∷◌, ◌≡◌, ◌≤◌, IfOk, OnOk, map, max};
 ghost use Rattle.syn_grammar.specs.Tree as t;
 ghost use Rattle.syn_grammar.specs.Tree.{flat};
 ghost use denote.Param.Weighed.{most};
@@ -18,7 +18,8 @@ use crate::place::Place;
 use crate::put::{closing, entries, ident, lifetime, literal, opening, separator, sign};
 use gram_piece::piece::Piece;
 use gram_table::op::Separator;
-use gram_tree::tree::{Element, Form, Tree};
+use gram_tree::tree::{Element, Form, Three, Tree};
+use proc_macro2::delimiter::Delimiter;
 use std::alloc::AllocError;
 
 /// Puts the tokens of a tree, as they were read, behind those that are to be written. What stands last in a tree, and
@@ -29,91 +30,80 @@ use std::alloc::AllocError;
 /// Where there is no memory for more tokens, or for the forms in which an operand stands. Those that stood there stand
 /// in front then too, perhaps with some of the tree's behind them.
 #[cycle(as_read)]
-#[tactic(auto, using(crate::proofs::Pushing::puts, crate::proofs::Fronts::kept))]
+#[tactic(auto, using(crate::proofs::Flat::forms, crate::proofs::Fronts::kept))]
 pub fn put_as_read<'a>(tree: &Tree<'a>, out: &mut Vec<Piece<'a>>) -> Result<(), AllocError>
     ensures put { OnOk result (map piece_token out.new.items ≡ map piece_token out.old.items ++ flat tree.now) }
     ensures keeps { Keeps out.old.items out.new.items }
 {
-    let mut place = Place { tree };
-    while let Some(left) = step(place, out)? {
-        place = left;
+    let mut left = Place { tree };
+    'tails: loop {
+        let here = left.tree;
+        left = match &here.form {
+            Form::Word(word) => return ident(word, out),
+            Form::Literal(text) => return literal(text, out),
+            Form::Mark(marks, spacing, _) => return sign(*marks, *spacing, out),
+            Form::Lifetime(held) => return lifetime(held.ident, out),
+            Form::Raw(kept) => return entries(kept.entries, out),
+            Form::Nil | Form::End => return Ok(()),
+            Form::Turns(turns) => return put_turns(turns.each, out),
+            Form::Group(delimiter, group) => return put_group(*delimiter, &group.inside, out),
+            Form::Pair(two) | Form::Front(_, two) => {
+                put_as_read(&two.front, out)?;
+                Place { tree: &two.back }
+            }
+            Form::Back(_, two) => {
+                put_left(&two.front, out)?;
+                Place { tree: &two.back }
+            }
+            Form::Infix(_, three) => {
+                put_before_right(three, out)?;
+                Place { tree: &three.right }
+            }
+            Form::Elements(list) => {
+                put_elements(list.separator, list.before, out)?;
+                let Some(last) = list.last else {
+                    return Ok(());
+                };
+                Place { tree: last }
+            }
+            Form::First(_, inner) | Form::Second(_, inner) | Form::Dropped(inner) => Place {
+                tree: inner,
+            },
+            Form::Called(_, inner) | Form::Verbatim(inner) | Form::Node(_, inner) => Place {
+                tree: inner,
+            },
+            Form::Whole(inner) | Form::Alone(_, inner) => Place { tree: inner },
+        };
     }
-    Ok(())
 }
 
-// The tokens of a tree up to what it ends with, which is left.
+// A group.
 #[cycle(as_read)]
-#[tactic(auto, using(crate::proofs::Flat::forms, crate::proofs::Fronts::kept))]
-fn step<'t, 'a>(
-    place: Place<'t, 'a>,
+#[tactic(auto, using(crate::proofs::Pushing::puts, crate::proofs::Fronts::kept))]
+fn put_group<'a>(
+    delimiter: Delimiter,
+    inner: &Tree<'a>,
     out: &mut Vec<Piece<'a>>,
-) -> Result<Option<Place<'t, 'a>>, AllocError>
-    ensures put { IfOk result (λ left. map piece_token out.new.items ++ left_read left
-        ≡ map piece_token out.old.items ++ flat place.entry.tree.now) }
+) -> Result<(), AllocError>
+    ensures put { OnOk result (map piece_token out.new.items
+        ≡ map piece_token out.old.items ++ (token.Opens delimiter ∷ flat inner.now ++ token.Closes delimiter ∷ [])) }
     ensures keeps { Keeps out.old.items out.new.items }
-    ensures inside { IfOk result (λ left. IfSome left (λ x. size-Tree x.tree.now < size-Tree place.entry.tree.now)) }
 {
-    let tree = place.tree;
-    match &tree.form {
-        Form::Word(word) => {
-            ident(word, out)?;
-            Ok(None)
-        }
-        Form::Literal(text) => {
-            literal(text, out)?;
-            Ok(None)
-        }
-        Form::Mark(marks, spacing, _) => {
-            sign(*marks, *spacing, out)?;
-            Ok(None)
-        }
-        Form::Lifetime(held) => {
-            lifetime(held.ident, out)?;
-            Ok(None)
-        }
-        Form::Raw(kept) => {
-            entries(kept.entries, out)?;
-            Ok(None)
-        }
-        Form::Nil | Form::End => Ok(None),
-        Form::Pair(two) | Form::Front(_, two) => {
-            put_as_read(&two.front, out)?;
-            Ok(Some(Place { tree: &two.back }))
-        }
-        Form::Back(_, two) => {
-            put_left(&two.front, out)?;
-            Ok(Some(Place { tree: &two.back }))
-        }
-        Form::Infix(_, three) => {
-            put_left(&three.left, out)?;
-            put_as_read(&three.own, out)?;
-            Ok(Some(Place { tree: &three.right }))
-        }
-        Form::Turns(turns) => {
-            put_turns(turns.each, out)?;
-            Ok(None)
-        }
-        Form::Elements(list) => {
-            put_elements(list.separator, list.before, out)?;
-            match list.last {
-                Some(last) => Ok(Some(Place { tree: last })),
-                None => Ok(None),
-            }
-        }
-        Form::Group(delimiter, group) => {
-            opening(*delimiter, out)?;
-            put_as_read(&group.inside, out)?;
-            closing(*delimiter, out)?;
-            Ok(None)
-        }
-        Form::First(_, inner) | Form::Second(_, inner) | Form::Dropped(inner) => {
-            Ok(Some(Place { tree: inner }))
-        }
-        Form::Called(_, inner) | Form::Verbatim(inner) | Form::Node(_, inner) => {
-            Ok(Some(Place { tree: inner }))
-        }
-        Form::Whole(inner) | Form::Alone(_, inner) => Ok(Some(Place { tree: inner })),
-    }
+    opening(delimiter, out)?;
+    put_as_read(inner, out)?;
+    closing(delimiter, out)
+}
+
+// What stands before the right operand of an infix form.
+#[cycle(as_read)]
+#[tactic(auto, using(crate::proofs::Pushing::puts, crate::proofs::Fronts::kept))]
+fn put_before_right<'a>(three: &Three<'a>, out: &mut Vec<Piece<'a>>) -> Result<(), AllocError>
+    ensures put { OnOk result (map piece_token out.new.items
+        ≡ map piece_token out.old.items ++ (flat three.now.left ++ flat three.now.own)) }
+    ensures keeps { Keeps out.old.items out.new.items }
+{
+    put_left(&three.left, out)?;
+    put_as_read(&three.own, out)
 }
 
 // Goes on from a form to its left operand, as often as there is one: each form is put behind others. The innermost

@@ -5,7 +5,7 @@
 //! statements a raw item's last mark is set apart. `specs/Laid` has the tokens of the normal form of what was read, in
 //! terms of what was read; `specs/Seen` and `specs/Operands` what is seen in a tree for that, and `specs/Way` the ways
 //! in which its nodes and parts are written; `specs/Chains` what is written behind operands that stand one left of the
-//! other, `specs/Tails` of what a tree ends with, and `specs/Front` what stays in front of what is put. Which operands are put in parentheses is said in
+//! other, and `specs/Front` what stays in front of what is put. Which operands are put in parentheses is said in
 //! `range_laws`.
 //!
 //! In `proofs/`, in this order: `Dots` (numbers behind dots, and forms), `OfKinds` and `Bare` (kinds one by one),

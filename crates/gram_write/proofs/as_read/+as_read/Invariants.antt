@@ -12,15 +12,15 @@ use Rattle.gram_write.specs.Front.{Keeps}
 use Rattle.gram_write.proofs.as_read.+as_read.Given as goal
 
 -- the old ones stand in front, and what is left is to stand behind what is put
-abbrev pub invariant-put_as_read-loop-left : goal.invariant-put_as_read-loop-left
-invariant-put_as_read-loop-left l = record {
+abbrev pub invariant-put_as_read-tails : goal.invariant-put_as_read-tails
+invariant-put_as_read-tails l = record {
   kept : Keeps l.fn.out.items l.out.items;
-  put : map piece_token l.out.items ++ flat l.place.tree.now ≡ map piece_token l.fn.out.items ++ flat l.fn.tree;
-  inside : size-Tree l.place.tree.now ≤ size-Tree l.fn.tree;
+  put : map piece_token l.out.items ++ flat l.left.tree.now ≡ map piece_token l.fn.out.items ++ flat l.fn.tree;
+  inside : size-Tree l.left.tree.now ≤ size-Tree l.fn.tree;
 }
 
-abbrev pub decreases-put_as_read-loop-left : goal.decreases-put_as_read-loop-left
-decreases-put_as_read-loop-left l = size-Tree l.place.tree.now
+abbrev pub decreases-put_as_read-tails : goal.decreases-put_as_read-tails
+decreases-put_as_read-tails l = size-Tree l.left.tree.now
 
 -- what stands behind the forms that are left is to stand behind what is put
 abbrev pub invariant-put_behinds-loop-left : goal.invariant-put_behinds-loop-left
@@ -34,12 +34,15 @@ invariant-put_behinds-loop-left l = record {
 abbrev pub decreases-put_behinds-loop-left : goal.decreases-put_behinds-loop-left
 decreases-put_behinds-loop-left l = l.left
 
--- a step takes less than the tree, and more than what it hands on
+-- what is left takes no more than the tree, and more than what is put of it
 abbrev pub decreases-put_as_read : goal.decreases-put_as_read
 decreases-put_as_read l = 2 * size-Tree l.tree.now
 
-abbrev pub decreases-step : goal.decreases-step
-decreases-step l = 8 * node_count l.place.tree.now + 7
+abbrev pub decreases-put_group : goal.decreases-put_group
+decreases-put_group l = 2 * size-Tree l.inner.now + 1
+
+abbrev pub decreases-put_before_right : goal.decreases-put_before_right
+decreases-put_before_right l = 8 * (node_count l.three.now.left + node_count l.three.now.own) + 14
 
 abbrev pub decreases-put_left : goal.decreases-put_left
 decreases-put_left l = 2 * size-Tree l.tree.now + 1
