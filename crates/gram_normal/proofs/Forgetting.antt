@@ -17,9 +17,9 @@ use Rattle.gram_table.specs.declared.kind.Position.{Position}
 use Rattle.gram_table.specs.declared.kind.Place.{Place}
 use Rattle.gram_tree.specs.Shapes.{first_of, node_of, pair_of}
 use Rattle.gram_write.specs.Operands.{first_behind}
-use Rattle.gram_write.specs.Seen.{is_choice, text_of_literal, unnamed_of}
+use Rattle.gram_write.specs.Seen.{is_choice, text_of_literal}
 use Rattle.gram_write.proofs.SeenForms.{first_is, node_is, pair_is, some_none}
-use Rattle.gram_normal.specs.Peeled.{argued_block, argued_literal, default_behind, is_body, second_of}
+use Rattle.gram_normal.specs.Peeled.{argued_block, argued_literal, default_behind, is_body, lone_type, second_of}
 use Rattle.gram_normal.proofs.Peeling.{second_is}
 
 -- behind seconds
@@ -31,43 +31,35 @@ first_at_two : (x y : Tree) → Some y ≡ first_behind x 2 → x ≡ t.Second (
 first_at_two (t.Second (t.Second (t.First z))) y e = cc
 first_at_two x y e = absurd (some_none y e)
 
-unnamed_is : (x y : Tree) → Some y ≡ unnamed_of x → x ≡ t.Called the_unnamed y
-unnamed_is (t.Called the_unnamed z) y e = cc
-unnamed_is x y e = absurd (some_none y e)
+abbrev third : Tree → Tree
+third x = t.Second (t.Second (t.Second x))
+
+abbrev lone : Tree → Tree
+lone y = t.Second (t.Second (t.First (t.Called the_unnamed y)))
+
+lone_is : (x y : Tree) → Some y ≡ lone_type x → x ≡ lone y
+lone_is (t.Second (t.Second (t.First (t.Called the_unnamed z)))) y e = cc
+lone_is x y e = absurd (some_none y e)
 
 -- a parameter
 pub named_single : (x : Tree) → None ≡ pair_of x → x ≡ named x
 named_single (t.Pair a b) e = absurd (some_none (a, b) (sym e))
 named_single x e = refl
 
-named_no_third : (a b : Tree) → None ≡ first_behind b 2 → t.Pair a b ≡ named (t.Pair a b)
-named_no_third a (t.Second (t.Second (t.First c))) e = absurd (some_none c (sym e))
-named_no_third a b e = refl
+named_stays : (a b : Tree) → None ≡ lone_type b → t.Pair a b ≡ named (t.Pair a b)
+named_stays a (t.Second (t.Second (t.First (t.Called the_unnamed y)))) e = absurd (some_none y (sym e))
+named_stays a b e = refl
 
-pub named_other : (x a b : Tree) → Some (a, b) ≡ pair_of x → None ≡ first_behind b 2 → x ≡ named x
-named_other x a b e h = let is = pair_is x a b e in is ∙ named_no_third a b h ∙ ap named (sym is)
+pub named_other : (x a b : Tree) → Some (a, b) ≡ pair_of x → None ≡ lone_type b → x ≡ named x
+named_other x a b e h = let is = pair_is x a b e in is ∙ named_stays a b h ∙ ap named (sym is)
 
-abbrev third : Tree → Tree
-third x = t.Second (t.Second (t.First x))
-
-named_given : (a c : Tree) → None ≡ unnamed_of c → t.Pair a (third c) ≡ named (t.Pair a (third c))
-named_given a (t.Called the_unnamed y) e = absurd (some_none y (sym e))
-named_given a c e = refl
-
-third_pair : (x a b c : Tree) → Some (a, b) ≡ pair_of x → Some c ≡ first_behind b 2 → x ≡ t.Pair a (third c)
-third_pair x a b c e h = pair_is x a b e ∙ ap (t.Pair a) (first_at_two b c h)
-
-pub named_called : (x a b c : Tree) → Some (a, b) ≡ pair_of x → Some c ≡ first_behind b 2 → None ≡ unnamed_of c
-    → x ≡ named x
-named_called x a b c e h i = let is = third_pair x a b c e h in is ∙ named_given a c i ∙ ap named (sym is)
-
-pub named_type : (x a b c y : Tree) → Some (a, b) ≡ pair_of x → Some c ≡ first_behind b 2 → Some y ≡ unnamed_of c
-    → t.Pair a (t.Second (t.Second (t.Second (t.Pair (t.Called the_pattern wild) (t.Pair lone_colon (t.Second (t.Called the_type y)))))))
+pub named_type : (x a b y : Tree) → Some (a, b) ≡ pair_of x → Some y ≡ lone_type b
+    → t.Pair a (third (t.Pair (t.Called the_pattern wild) (t.Pair lone_colon (t.Second (t.Called the_type y)))))
     ≡ named x
-named_type x a b c y e h i =
-    ap (λ z. named (t.Pair a (third z))) (sym (unnamed_is c y i)) ∙ ap named (sym (third_pair x a b c e h))
+named_type x a b y e h =
+    ap (λ z. named (t.Pair a z)) (sym (lone_is b y h)) ∙ ap named (sym (pair_is x a b e))
 
-pub ruleset nameds = (named_single, named_other, named_called, named_type)
+pub ruleset nameds = (named_single, named_other, named_type)
 
 -- a bound
 pub bound_single : (x : Tree) → None ≡ pair_of x → x ≡ listed_bound x

@@ -13,8 +13,10 @@ use Rattle.gram_table.specs.declared.kind.Position as gp
 use Rattle.gram_tree.specs.declared.tree.Element.{Element}
 use Rattle.gram_tree.specs.Forms.{mark_of, seconds, turns, elements, ending}
 use Rattle.gram_tree.specs.Shapes.{alone_of, node_of, whole_of}
+use Rattle.gram_write.specs.Operands.{first_behind}
+use Rattle.gram_write.specs.Seen.{unnamed_of}
 use Rattle.gram_write.proofs.SeenForms.{node_is, same_pair, some_none}
-use Rattle.gram_normal.specs.Peeled.{again_of, attributes_of, macro_in, second_of}
+use Rattle.gram_normal.specs.Peeled.{again_of, attributes_of, lone_type, macro_in, second_of, unnamed_in}
 
 -- the second of a choice
 pub second_first : (n : ℕ) (x : Tree) → n ≡ 0 → None ≡ second_of (seconds n (t.First x))
@@ -52,6 +54,15 @@ pub ruleset second_parts =
 pub second_is : (x y : Tree) → Some y ≡ second_of x → x ≡ t.Second y
 second_is (t.Second z) y e = cc
 second_is x y e = absurd (some_none y e)
+
+-- the type of a parameter that is a type alone
+pub lone_part : (o : Option Tree) (x y : Tree) → Some y ≡ first_behind x 2 → o ≡ unnamed_of y → o ≡ lone_type x
+lone_part o x y e h = h ∙ ap unnamed_in e
+
+pub lone_none : (x : Tree) → None ≡ first_behind x 2 → None ≡ lone_type x
+lone_none x e = ap unnamed_in e
+
+pub ruleset lones = (lone_part, lone_none)
 
 -- the form of an expression
 pub whole_is : (x y : Tree) → Some y ≡ whole_of x → x ≡ t.Whole y

@@ -4,11 +4,21 @@ use Rattle.syn_grammar.specs.Kind.{AtType, AnyPath, Body, ExprLit, ExprPath, Exp
 use Rattle.syn_grammar.specs.Kept.{as_path, atom, block_atom, given, left_in_front}
 use Rattle.syn_grammar.specs.Name.{the_attributes, the_expression}
 use Rattle.syn_grammar.specs.Tree.{Tree, First, Second, Again, Pair, Called, Node, Alone}
+use Rattle.gram_write.specs.Operands.{first_behind}
+use Rattle.gram_write.specs.Seen.{unnamed_of}
 
 -- of a choice the second
 abbrev pub second_of : Tree → Option Tree
 second_of (Second x) = Some x
 second_of _ = None
+
+-- behind what stands in front of a parameter, the type of one that is a type alone
+abbrev pub unnamed_in : Option Tree → Option Tree
+unnamed_in None = None
+unnamed_in (Some x) = unnamed_of x
+
+abbrev pub lone_type : Tree → Option Tree
+lone_type y = unnamed_in (first_behind y 2)
 
 -- of turns the first, and the others
 abbrev pub again_of : Tree → Option (Tree × Tree)

@@ -4,7 +4,7 @@
 ghost use Rattle.gram_normal.specs.Separators.{IsFault};
 ghost use Rattle.gram_table.specs.Parts.{part_of};
 ghost use Rattle.gram_tree.specs.Forms.{seconds};
-ghost use Rattle.std.specs.Prelude.{◌≡◌, MatchResult};
+ghost use Rattle.std.specs.Prelude.{◌≡◌, IfOk, MatchResult};
 ghost use Rattle.syn_grammar.specs.Tree as t;
 
 use crate::fault::Fault;
@@ -14,22 +14,36 @@ use gram_tree::made;
 use gram_tree::tree::{Form, Tree};
 use proc_macro2::delimiter::Delimiter;
 use rust_map::span::Span;
+use std::alloc::AllocError;
+
+/// A tree that may not have been made.
+///
+/// # Errors
+///
+/// Where there was no memory for it.
+pub(crate) fn or_fault<'a>(tree: Result<Tree<'a>, AllocError>) -> Result<Tree<'a>, Fault>
+    ensures { (x : t.Tree) → IfOk tree.entry (λ z. z ≡ x)
+        → MatchResult result (λ z. z ≡ x) (λ fault. IsFault fault x) }
+{
+    Ok(tree?)
+}
 
 /// A tree, and one behind it.
 ///
 /// # Errors
 ///
-/// Where there is no memory for it, or why the one behind isn't made.
+/// Where there is no memory for it, or why one of them isn't made.
 #[tactic(auto, using(crate::proofs::Mixing::places))]
 pub(crate) fn pair<'a>(
     arena: &'a Arena,
-    front: Tree<'a>,
+    front: Result<Tree<'a>, Fault>,
     back: Result<Tree<'a>, Fault>,
 ) -> Result<Tree<'a>, Fault>
-    ensures { (x y : t.Tree) → front.entry ≡ x → MatchResult back.entry (λ z. z ≡ y) (λ fault. IsFault fault y)
+    ensures { (x y : t.Tree) → MatchResult front.entry (λ z. z ≡ x) (λ fault. IsFault fault x)
+        → MatchResult back.entry (λ z. z ≡ y) (λ fault. IsFault fault y)
         → MatchResult result (λ z. z ≡ t.Pair x y) (λ fault. IsFault fault (t.Pair x y)) }
 {
-    Ok(made::pair(arena, front, back?)?)
+    or_fault(made::pair(arena, front?, back?))
 }
 
 /// Of choices, each the second of the one before it, so many times the second, and then the first.
@@ -46,7 +60,7 @@ pub(crate) fn first_behind<'a>(
     ensures { (x : t.Tree) → MatchResult inner.entry (λ z. z ≡ x) (λ fault. IsFault fault x)
         → MatchResult result (λ z. z ≡ seconds count (t.First x)) (λ fault. IsFault fault (seconds count (t.First x))) }
 {
-    Ok(made::first_behind(arena, count, inner?)?)
+    or_fault(made::first_behind(arena, count, inner?))
 }
 
 /// Of choices, each the second of the one before it, the second, and so many times the second.
@@ -82,7 +96,7 @@ pub(crate) fn group<'a>(
     ensures { (x : t.Tree) → MatchResult inside.entry (λ z. z ≡ x) (λ fault. IsFault fault x)
         → MatchResult result (λ z. z ≡ t.Group delimiter x) (λ fault. IsFault fault (t.Group delimiter x)) }
 {
-    Ok(made::group(arena, delimiter, span, inside?)?)
+    or_fault(made::group(arena, delimiter, span, inside?))
 }
 
 /// A part, by its name.
@@ -98,5 +112,5 @@ pub(crate) fn called<'a>(
     ensures { (x : t.Tree) → MatchResult inner.entry (λ z. z ≡ x) (λ fault. IsFault fault x)
         → MatchResult result (λ z. z ≡ t.Called (part_of part) x) (λ fault. IsFault fault (t.Called (part_of part) x)) }
 {
-    Ok(made::called(arena, part, inner?)?)
+    or_fault(made::called(arena, part, inner?))
 }

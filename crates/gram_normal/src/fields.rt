@@ -5,9 +5,8 @@ ghost use Rattle.gram_tree.specs.Forms.{turns};
 ghost use Rattle.std.specs.Prelude.{◌≡◌, IfOk};
 ghost use Rattle.syn_grammar.specs.Kept as k;
 
-use crate::numbers::index_fields;
+use crate::numbers::{index_fields, lone_field};
 use gram_table::kind::Kind;
-use gram_table::part::Part;
 use gram_tree::arena::Arena;
 use gram_tree::made;
 use gram_tree::tree::{Form, Tree};
@@ -64,12 +63,7 @@ fn last_fields<'a>(
 {
     match last_number(kind, behind) {
         Some(number) => index_fields(arena, left, number.as_str()),
-        None => {
-            let none = made::turns(arena, Vec::new(arena.alloc()))?;
-            let front = made::pair(arena, dot.copy(), made::called(arena, Part::Indices, none)?)?;
-            let own = made::pair(arena, front, behind.copy())?;
-            made::back(arena, left, kind, own)
-        }
+        None => lone_field(arena, left, kind, dot.copy(), Ok(behind.copy())),
     }
 }
 

@@ -4,12 +4,13 @@ ghost use Rattle.gram_normal.specs.Peeled.{argued_block, argued_literal, default
 ghost use Rattle.gram_table.specs.Kinds.{kind_of};
 ghost use Rattle.std.specs.Prelude.{◌≡◌, IfOk};
 ghost use Rattle.syn_grammar.specs.Kept as k;
-ghost use Rattle.syn_grammar.specs.Name.{the_pattern, the_type};
+ghost use Rattle.syn_grammar.specs.Kind.{AnyPath, AtType, ExprPath, SomeBounds};
+ghost use Rattle.syn_grammar.specs.Name.{the_bounds, the_pattern, the_type};
 ghost use Rattle.syn_grammar.specs.Tree as t;
 
 use crate::apart::first_behind;
 use crate::numbers::plain_number;
-use crate::peel::{is_choice, second, unnamed};
+use crate::peel::{is_choice, lone_type, second};
 use crate::stated::as_statement;
 use crate::steps;
 use crate::tidy::{Change, changed};
@@ -57,16 +58,18 @@ fn wild<'a>(arena: &'a Arena) -> Result<Tree<'a>, AllocError>
     steps::node(arena, Kind::OnePattern, chosen)
 }
 
-// A pattern and a colon before a type.
-fn typed<'a>(arena: &'a Arena, given: Tree<'a>) -> Result<Tree<'a>, AllocError>
-    ensures { IfOk result (λ x. x ≡ t.Pair (t.Called the_pattern k.wild)
-        (t.Pair k.lone_colon (t.Second (t.Called the_type given.entry)))) }
+// A parameter with a pattern and a colon before its type.
+fn typed<'a>(arena: &'a Arena, front: &Tree<'a>, given: &Tree<'a>) -> Result<Tree<'a>, AllocError>
+    ensures { IfOk result (λ x. x ≡ t.Pair front.now (t.Second (t.Second (t.Second (t.Pair (t.Called the_pattern k.wild)
+        (t.Pair k.lone_colon (t.Second (t.Called the_type given.now)))))))) }
 {
-    let pattern = steps::called(arena, Part::Pattern, wild(arena))?;
+    let pattern = steps::called(arena, Part::Pattern, wild(arena));
     let colon = made::mark(Sign::Colon, Spacing::Alone, Span::call_site());
-    let behind = steps::seconds(arena, 1, made::called(arena, Part::Type, given));
-    let rest = steps::pair(arena, colon, behind);
-    steps::pair(arena, pattern, rest)
+    let behind = steps::seconds(arena, 1, made::called(arena, Part::Type, given.copy()));
+    let rest = steps::pair(arena, Ok(colon), behind);
+    let both = steps::pair(arena, pattern, rest);
+    let third = steps::seconds(arena, 3, both);
+    steps::pair(arena, Ok(front.copy()), third)
 }
 
 // A parameter that is a type alone gets a pattern and a colon.
@@ -77,16 +80,21 @@ fn named<'a>(arena: &'a Arena, tree: &Tree<'a>) -> Result<Tree<'a>, AllocError>
     let Some((front, back)) = tree.pair() else {
         return Ok(tree.copy());
     };
-    match first_behind(back, 2) {
-        Some(part) => match unnamed(part) {
-            Some(given) => {
-                let last = made::seconds(arena, 3, typed(arena, given.copy())?)?;
-                made::pair(arena, front.copy(), last)
-            }
-            None => Ok(tree.copy()),
-        },
+    match lone_type(back) {
+        Some(given) => typed(arena, front, given),
         None => Ok(tree.copy()),
     }
+}
+
+// A list of one bound, behind a word.
+fn one_bound<'a>(arena: &'a Arena, word: &Tree<'a>, bound: Tree<'a>) -> Result<Tree<'a>, AllocError>
+    ensures { IfOk result (λ x. x
+        ≡ t.Pair word.now (t.Called the_bounds (t.Node SomeBounds (t.First (t.Final bound.entry))))) }
+{
+    let list = made::elements(arena, Separator::Plus, Vec::new(arena.alloc()), Some(bound));
+    let bounds = steps::node(arena, Kind::SomeBounds, steps::first_behind(arena, 0, list));
+    let part = steps::called(arena, Part::Bounds, bounds);
+    steps::pair(arena, Ok(word.copy()), part)
 }
 
 // The one bound of a type without plus is a list of one.
@@ -97,25 +105,34 @@ fn listed_bound<'a>(arena: &'a Arena, tree: &Tree<'a>) -> Result<Tree<'a>, Alloc
     let Some((word, behind)) = tree.pair() else {
         return Ok(tree.copy());
     };
-    let Some(bound) = second(behind) else {
-        return Ok(tree.copy());
-    };
-    let list = made::elements(arena, Separator::Plus, Vec::new(arena.alloc()), Some(bound))?;
-    let bounds = made::node(arena, Kind::SomeBounds, made::first(arena, list)?)?;
-    let part = made::called(arena, Part::Bounds, bounds)?;
-    made::pair(arena, word.copy(), part)
+    match second(behind) {
+        Some(bound) => one_bound(arena, word, bound),
+        None => Ok(tree.copy()),
+    }
 }
 
 // A word as a path of one name.
 fn as_path<'a>(arena: &'a Arena, word: Tree<'a>) -> Result<Tree<'a>, AllocError>
     ensures { IfOk result (λ x. x ≡ k.as_path word.entry) }
 {
-    let root = made::second(arena, made::nil())?;
+    let root = made::second(arena, made::nil());
     let bare = made::seconds(arena, 3, made::nil());
-    let segment = steps::seconds(arena, 1, steps::pair(arena, word, bare));
+    let segment = steps::seconds(arena, 1, steps::pair(arena, Ok(word), bare));
     let segments = steps::node(arena, Kind::Segments(Style::AtType), segment);
     let path = steps::pair(arena, root, segments);
     steps::node(arena, Kind::Path(Style::AtType), path)
+}
+
+// A word as a path of one name, before something.
+fn path_before<'a>(
+    arena: &'a Arena,
+    word: &Tree<'a>,
+    back: &Tree<'a>,
+) -> Result<Tree<'a>, AllocError>
+    ensures { IfOk result (λ x. x ≡ t.Pair (t.Second (k.as_path word.now)) back.now) }
+{
+    let path = steps::seconds(arena, 1, as_path(arena, word.copy()));
+    steps::pair(arena, path, Ok(back.copy()))
 }
 
 // `unsafe` alone, in an attribute, is a path of one name.
@@ -126,11 +143,10 @@ fn unsafe_path<'a>(arena: &'a Arena, tree: &Tree<'a>) -> Result<Tree<'a>, AllocE
     let Some((front, back)) = tree.pair() else {
         return Ok(tree.copy());
     };
-    let Some(word) = front.first() else {
-        return Ok(tree.copy());
-    };
-    let path = made::second(arena, as_path(arena, word.copy())?)?;
-    made::pair(arena, path, back.copy())
+    match front.first() {
+        Some(word) => path_before(arena, word, back),
+        None => Ok(tree.copy()),
+    }
 }
 
 // An expression that is one form alone.
@@ -148,6 +164,15 @@ fn block_atom<'a>(arena: &'a Arena, block: Tree<'a>) -> Result<Tree<'a>, AllocEr
     let unlabelled = made::second(arena, made::nil())?;
     let own = made::pair(arena, unlabelled, block)?;
     atom(arena, Kind::ExprBlock, own)
+}
+
+// An expression that is a path of one name.
+fn path_atom<'a>(arena: &'a Arena, name: Tree<'a>) -> Result<Tree<'a>, AllocError>
+    ensures { IfOk result (λ x. x ≡ k.atom ExprPath (t.Node (AnyPath AtType) (t.Second (k.as_path name.entry)))) }
+{
+    let path = steps::seconds(arena, 1, as_path(arena, name));
+    let any = steps::node(arena, Kind::AnyPath(Style::AtType), path)?;
+    atom(arena, Kind::ExprPath, any)
 }
 
 // An argument that is a literal.
@@ -211,11 +236,7 @@ fn default_behind<'a>(arena: &'a Arena, tree: &Tree<'a>) -> Result<Tree<'a>, All
         return block_atom(arena, block.copy());
     }
     match second(tree) {
-        Some(name) => {
-            let path = made::second(arena, as_path(arena, name)?)?;
-            let any = made::node(arena, Kind::AnyPath(Style::AtType), path)?;
-            atom(arena, Kind::ExprPath, any)
-        }
+        Some(name) => path_atom(arena, name),
         None => made::second(arena, tree.copy()),
     }
 }
@@ -289,21 +310,21 @@ fn plain_member<'a>(arena: &'a Arena, tree: &Tree<'a>) -> Result<Tree<'a>, Alloc
 pub(crate) fn forget<'a>(
     arena: &'a Arena,
     kind: Kind,
-    inner: Tree<'a>,
+    inner: &Tree<'a>,
 ) -> Result<Tree<'a>, AllocError>
-    ensures { IfOk result (λ x. x ≡ k.forget (kind_of kind) inner.entry) }
+    ensures { IfOk result (λ x. x ≡ k.forget (kind_of kind) inner.now) }
 {
     match kind {
-        Kind::Parameter => named(arena, &inner),
-        Kind::DynType(_) => listed_bound(arena, &inner),
-        Kind::ImplType(_) => listed_bound(arena, &inner),
-        Kind::Meta => unsafe_path(arena, &inner),
-        Kind::AStatement => as_statement(arena, &inner),
-        Kind::Member => plain_member(arena, &inner),
-        Kind::Index => plain_index(arena, &inner),
-        Kind::Arm => changed(arena, Part::Comma, Change::Last, &inner),
-        Kind::AnArgument => constant_argument(arena, &inner),
-        Kind::ConstParam => changed(arena, Part::Value, Change::Default, &inner),
-        _ => Ok(inner),
+        Kind::Parameter => named(arena, inner),
+        Kind::DynType(_) => listed_bound(arena, inner),
+        Kind::ImplType(_) => listed_bound(arena, inner),
+        Kind::Meta => unsafe_path(arena, inner),
+        Kind::AStatement => as_statement(arena, inner),
+        Kind::Member => plain_member(arena, inner),
+        Kind::Index => plain_index(arena, inner),
+        Kind::Arm => changed(arena, Part::Comma, Change::Last, inner),
+        Kind::AnArgument => constant_argument(arena, inner),
+        Kind::ConstParam => changed(arena, Part::Value, Change::Default, inner),
+        _ => Ok(inner.copy()),
     }
 }

@@ -63,13 +63,9 @@ fn list<'a>(arena: &'a Arena, list: &Separated<'a>) -> Result<Tree<'a>, AllocErr
     match list.last {
         Some(last) => {
             let ended = kept(arena, last)?;
-            let with_last = made::elements(arena, list.separator, before, Some(ended))?;
-            Ok(with_last)
+            made::elements(arena, list.separator, before, Some(ended))
         }
-        None => {
-            let without = made::elements(arena, list.separator, before, None)?;
-            Ok(without)
-        }
+        None => made::elements(arena, list.separator, before, None),
     }
 }
 
@@ -90,7 +86,7 @@ fn node<'a>(arena: &'a Arena, kind: Kind, inner: &Tree<'a>) -> Result<Tree<'a>, 
     ensures { IfOk result (λ x. x ≡ k.kept (t.Node (kind_of kind) inner.now)) }
 {
     let inner = kept(arena, inner)?;
-    steps::node(arena, held(kind), forget(arena, kind, inner))
+    steps::node(arena, held(kind), forget(arena, kind, &inner))
 }
 
 /// What a syntax tree holds of a tree.
@@ -108,7 +104,7 @@ pub(crate) fn kept<'a>(arena: &'a Arena, tree: &Tree<'a>) -> Result<Tree<'a>, Al
     match &tree.form {
         Form::Mark(sign, _, span) => Ok(made::mark(*sign, Spacing::Alone, *span)),
         Form::Pair(two) => {
-            let front = kept(arena, &two.front)?;
+            let front = kept(arena, &two.front);
             steps::pair(arena, front, kept(arena, &two.back))
         }
         Form::First(depth, inner) => {
@@ -128,7 +124,7 @@ pub(crate) fn kept<'a>(arena: &'a Arena, tree: &Tree<'a>) -> Result<Tree<'a>, Al
         Form::Whole(inner) => steps::whole(arena, kept(arena, inner)),
         Form::Alone(kind, own) => steps::alone(arena, *kind, kept(arena, own)),
         Form::Front(kind, two) => {
-            let own = kept(arena, &two.front)?;
+            let own = kept(arena, &two.front);
             steps::front(arena, *kind, own, kept(arena, &two.back))
         }
         Form::Back(kind, two) => {
@@ -137,8 +133,8 @@ pub(crate) fn kept<'a>(arena: &'a Arena, tree: &Tree<'a>) -> Result<Tree<'a>, Al
             dotted(arena, left, *kind, own)
         }
         Form::Infix(kind, three) => {
-            let left = kept(arena, &three.left)?;
-            let own = kept(arena, &three.own)?;
+            let left = kept(arena, &three.left);
+            let own = kept(arena, &three.own);
             steps::infix(arena, left, *kind, own, kept(arena, &three.right))
         }
         _ => Ok(tree.copy()),

@@ -1,10 +1,12 @@
 //! Lists in which lifetimes come first.
 
 ghost use Rattle.gram_normal.specs.Changes.{others_in, passes, those_in};
+ghost use Rattle.gram_normal.specs.Held.{apart_element};
 ghost use Rattle.gram_normal.specs.Separators.{IsFault};
 ghost use Rattle.gram_table.specs.Ops.{separator_of};
+ghost use Rattle.gram_table.specs.declared.op.Separator.TheVariants.{Comma};
 ghost use Rattle.gram_tree.specs.Forms.{elements, ending};
-ghost use Rattle.std.specs.Prelude.{◌++◌, ◌≡◌, IfOk, MatchResult, OnOk, true};
+ghost use Rattle.std.specs.Prelude.{[], ◌++◌, ◌∷◌, ◌≡◌, IfOk, MatchResult, OnOk, true};
 ghost use Rattle.syn_grammar.specs.Tidy.{is_lifetime_argument, lifetimes_first};
 ghost use Rattle.syn_grammar.specs.Tree as t;
 
@@ -99,19 +101,41 @@ fn put_others<'a>(
     put_others(which, others, out)
 }
 
-// The lifetimes, and behind them the others.
+// A list of the lifetimes, of the others behind them, and of a last one that no mark follows, if there is one.
 fn parted<'a>(
     arena: &'a Arena,
     which: Which,
-    before: &[Element<'a>],
-) -> Result<Vec<Element<'a>>, AllocError>
-    ensures { IfOk result (λ es. es.items
-        ≡ those_in (passes which) before.now ++ others_in (passes which) before.now) }
+    list: &Separated<'a>,
+    last: Option<Tree<'a>>,
+) -> Result<Tree<'a>, AllocError>
+    ensures { IfOk result (λ x. x ≡ elements (separator_of list.now.separator)
+        (those_in (passes which) list.now.before.now ++ others_in (passes which) list.now.before.now)
+        (ending (λ y. y) last.entry)) }
 {
     let mut parted = Vec::new(arena.alloc());
-    put_those(which, before, &mut parted)?;
-    put_others(which, before, &mut parted)?;
-    Ok(parted)
+    put_those(which, list.before, &mut parted)?;
+    put_others(which, list.before, &mut parted)?;
+    made::elements(arena, list.separator, parted, last)
+}
+
+// A list of the lifetimes, of a last one with a comma behind it, and of the others.
+fn before_others<'a>(
+    arena: &'a Arena,
+    which: Which,
+    before: &[Element<'a>],
+    last: &Tree<'a>,
+    firsts: Vec<Element<'a>>,
+) -> Result<Tree<'a>, AllocError>
+    ensures { IfOk result (λ x. x ≡ elements (separator_of Comma)
+        ((firsts.entry.items ++ apart_element last.now ∷ []) ++ others_in (passes which) before.now) t.End) }
+{
+    let mut all = firsts;
+    all.push(Element {
+        tree: last.copy(),
+        spacing: Spacing::Alone,
+    })?;
+    put_others(which, before, &mut all)?;
+    made::elements(arena, Separator::Comma, all, None)
 }
 
 // A list whose last element, which no mark follows, is a lifetime, of the lifetimes before it and of the others. Where
@@ -132,21 +156,15 @@ fn last_with<'a>(
         (λ fault. IsFault fault (lifetimes_first (passes which)
         (elements (separator_of list.now.separator) list.now.before.now (t.Final last.now)))) }
 {
-    let once = last.copy();
     if others.is_empty() {
+        let once = last.copy();
         let tree = made::elements(arena, list.separator, firsts, Some(once))?;
         return Ok(tree);
     }
     match list.separator {
         Separator::Plus => Err(Fault::Separators),
         Separator::Comma => {
-            let mut before = firsts;
-            before.push(Element {
-                tree: once,
-                spacing: Spacing::Alone,
-            })?;
-            put_others(which, list.before, &mut before)?;
-            let turned = made::elements(arena, Separator::Comma, before, None)?;
+            let turned = before_others(arena, which, list.before, last, firsts)?;
             Ok(turned)
         }
     }
@@ -186,13 +204,9 @@ fn parted_list<'a>(arena: &'a Arena, which: Which, list: &Separated<'a>) -> Resu
             if passes(which, last) {
                 return last_first(arena, which, list, last);
             }
-            let before = parted(arena, which, list.before)?;
-            Ok(made::elements(arena, list.separator, before, Some(last.copy()))?)
+            Ok(parted(arena, which, list, Some(last.copy()))?)
         }
-        None => {
-            let before = parted(arena, which, list.before)?;
-            Ok(made::elements(arena, list.separator, before, None)?)
-        }
+        None => Ok(parted(arena, which, list, None)?),
     }
 }
 

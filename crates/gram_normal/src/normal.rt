@@ -19,6 +19,7 @@ ghost use Rattle.syn_grammar.specs.Tree.{flat};
 
 use crate::apart::put_parted;
 use crate::fault::Fault;
+use crate::fault_steps::or_fault;
 use crate::first::first;
 use crate::kept::kept;
 use crate::tidy::{emptied, ordered};
@@ -118,8 +119,7 @@ fn turns<'a>(arena: &'a Arena, position: Position, trees: &[Tree<'a>]) -> Result
     put_each(arena, position, trees, &mut each)?;
     let mut parted = Vec::new(arena.alloc());
     put_parted(arena, trees, each.as_slice(), &mut parted)?;
-    let tree = made::turns(arena, parted)?;
-    Ok(tree)
+    or_fault(made::turns(arena, parted))
 }
 
 // Puts the normal form of each of the elements that a mark follows.
@@ -158,13 +158,9 @@ fn list<'a>(arena: &'a Arena, position: Position, list: &Separated<'a>) -> Resul
     match list.last {
         Some(last) => {
             let ended = normal_in(arena, position, last)?;
-            let with_last = made::elements(arena, list.separator, before, Some(ended))?;
-            Ok(with_last)
+            or_fault(made::elements(arena, list.separator, before, Some(ended)))
         }
-        None => {
-            let without = made::elements(arena, list.separator, before, None)?;
-            Ok(without)
-        }
+        None => or_fault(made::elements(arena, list.separator, before, None)),
     }
 }
 
@@ -291,7 +287,7 @@ fn whole<'a>(arena: &'a Arena, position: Position, inner: &Tree<'a>) -> Result<T
         (λ fault. IsFault fault (n.normal_in (position_of position) (t.Whole inner.now))) }
 {
     let form = formed(arena, position, behind_whole(position), inner)?;
-    Ok(made::whole(arena, form)?)
+    or_fault(made::whole(arena, form))
 }
 
 // A node.
@@ -308,8 +304,8 @@ fn node<'a>(
 {
     let left = emptied(arena, kind, inner)?;
     let inside = normal_in(arena, passed(kind, position), &left)?;
-    let tidied = ordered(arena, kind, inside)?;
-    Ok(made::node(arena, kind, tidied)?)
+    let tidied = ordered(arena, kind, &inside)?;
+    or_fault(made::node(arena, kind, tidied))
 }
 
 /// The normal form of a tree, in a position: of every tree, read or put together by hand.
@@ -330,7 +326,7 @@ pub fn normal_in<'a>(
     match &tree.form {
         Form::Mark(sign, _, span) => Ok(made::mark(*sign, Spacing::Alone, *span)),
         Form::Pair(two) => {
-            let front = normal_in(arena, position, &two.front)?;
+            let front = normal_in(arena, position, &two.front);
             fault_steps::pair(arena, front, normal_in(arena, position, &two.back))
         }
         Form::First(depth, inner) => {

@@ -1,5 +1,6 @@
 //! Numbers as they are held: in plain decimal, and behind a dot split at their dots.
 
+ghost use Rattle.gram_table.specs.Kinds.{kind_of};
 ghost use Rattle.std.specs.Fmt.{decimal};
 ghost use Rattle.std.specs.Prelude.{◌≡◌, IfOk};
 ghost use Rattle.std.specs.Str.{chars};
@@ -43,17 +44,36 @@ pub(crate) fn plain_number<'a>(arena: &'a Arena, text: &str) -> Result<Tree<'a>,
     number(arena, whole_index(text))
 }
 
+/// A form behind a dot, with no number in front of it, of an operand.
+///
+/// # Errors
+///
+/// Where there is no memory for it, or was none for what stands behind the dot.
+pub(crate) fn lone_field<'a>(
+    arena: &'a Arena,
+    left: Tree<'a>,
+    kind: Kind,
+    dot: Tree<'a>,
+    behind: Result<Tree<'a>, AllocError>,
+) -> Result<Tree<'a>, AllocError>
+    ensures { (y : t.Tree) → IfOk behind.entry (λ z. z ≡ y) → IfOk result (λ x. x ≡ t.Back left.entry (kind_of kind)
+        (t.Pair (t.Pair dot.entry (t.Called the_indices t.End)) y)) }
+{
+    let none = made::called(arena, Part::Indices, made::no_turns());
+    let front = steps::pair(arena, Ok(dot), none);
+    let own = steps::pair(arena, front, behind);
+    steps::back(arena, left, kind, own)
+}
+
 // A field by a number, of an operand.
 fn index_field<'a>(arena: &'a Arena, left: Tree<'a>, value: u32) -> Result<Tree<'a>, AllocError>
     ensures { IfOk result (λ x. x ≡ t.Back left.entry ExprField
         (t.Pair (t.Pair lone_dot (t.Called the_indices t.End)) (t.Second (t.Called the_value (t.ALiteral (decimal value)))))) }
 {
     let dot = made::mark(Sign::Dot, Spacing::Alone, Span::call_site());
-    let none = made::called(arena, Part::Indices, made::no_turns());
-    let front = steps::pair(arena, dot, none)?;
     let named = steps::called(arena, Part::Value, number(arena, value));
-    let own = steps::pair(arena, front, steps::seconds(arena, 1, named));
-    steps::back(arena, left, Kind::ExprField, own)
+    let behind = steps::seconds(arena, 1, named);
+    lone_field(arena, left, Kind::ExprField, dot, behind)
 }
 
 /// The fields by the indices that a number behind a dot writes, of an operand.

@@ -107,8 +107,8 @@ pub(crate) fn front<'a>(
     ensures { IfOk result (λ x. x
         ≡ p.front_form (position_of position) (kind_of kind) own.entry operand.entry) }
 {
-    let right = right_of(arena, position, kind, &own, operand)?;
-    let form = made::front(arena, kind, own, right)?;
+    let right = right_of(arena, position, kind, &own, operand);
+    let form = steps::front(arena, kind, Ok(own), right)?;
     in_parens_unless(arena, begins_in(position, kind), form)
 }
 
@@ -142,7 +142,7 @@ pub(crate) fn infix<'a>(
         right.entry) }
 {
     let (kind, own) = form;
-    let left = left_of(arena, position, kind, &own, left)?;
-    let right = right_of(arena, position, kind, &own, right)?;
-    made::infix(arena, left, kind, own, right)
+    let left = left_of(arena, position, kind, &own, left);
+    let right = right_of(arena, position, kind, &own, right);
+    steps::infix(arena, left, kind, Ok(own), right)
 }

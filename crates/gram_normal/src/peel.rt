@@ -1,12 +1,13 @@
 //! What stands in a tree, taken out.
 
-ghost use Rattle.gram_normal.specs.Peeled.{again_of, attributes_of, macro_in, second_of};
+ghost use Rattle.gram_normal.specs.Peeled.{again_of, attributes_of, lone_type, macro_in, second_of};
 ghost use Rattle.gram_table.specs.Parts.{part_of};
 ghost use Rattle.gram_write.specs.Operands.{before_of, expression_of, pair_behind};
 ghost use Rattle.gram_write.specs.Seen.{called_of, is_choice, unnamed_of};
 ghost use Rattle.std.specs.Prelude.{◌≡◌, IfOk, option_map};
 ghost use Rattle.syn_grammar.specs.Forms.{form_of};
 
+use crate::apart::first_behind;
 use gram_table::kind::Kind;
 use gram_table::part::Part;
 use gram_tree::arena::Arena;
@@ -90,8 +91,8 @@ fn called<'t, 'a>(tree: &'t Tree<'a>) -> Option<(Part, &'t Tree<'a>)>
     }
 }
 
-/// Of a part that is a type alone the type.
-pub(crate) fn unnamed<'t, 'a>(tree: &'t Tree<'a>) -> Option<&'t Tree<'a>>
+// Of a part that is a type alone the type.
+fn unnamed<'t, 'a>(tree: &'t Tree<'a>) -> Option<&'t Tree<'a>>
     ensures { option_map (λ x. x.now) result ≡ unnamed_of tree.now }
 {
     match called(tree) {
@@ -99,6 +100,17 @@ pub(crate) fn unnamed<'t, 'a>(tree: &'t Tree<'a>) -> Option<&'t Tree<'a>>
             Part::Unnamed => Some(inner),
             _ => None,
         },
+        None => None,
+    }
+}
+
+/// Behind what stands in front of a parameter, the type of one that is a type alone.
+#[tactic(auto, using(crate::proofs::Peeling::lones))]
+pub(crate) fn lone_type<'t, 'a>(back: &'t Tree<'a>) -> Option<&'t Tree<'a>>
+    ensures { option_map (λ x. x.now) result ≡ lone_type back.now }
+{
+    match first_behind(back, 2) {
+        Some(part) => unnamed(part),
         None => None,
     }
 }

@@ -1,18 +1,32 @@
 //! Attributes in front of a statement's expression, which belong to its leftmost operand, and statements that are macros.
 
 ghost use Rattle.gram_normal.specs.Peeled.{expressed, stated_macro};
+ghost use Rattle.gram_table.specs.Kinds.{position_of};
 ghost use Rattle.std.specs.Prelude.{◌≡◌, IfOk};
 ghost use Rattle.syn_grammar.specs.Kept as k;
+ghost use Rattle.syn_grammar.specs.Kind.{ExprAttributed, Expression, OuterAttributes};
+ghost use Rattle.syn_grammar.specs.Tree as t;
 
 use crate::peel::{attributes, before, expression, macro_of, pair_behind};
 use crate::steps;
 use gram_judge::level::level;
-use gram_table::kind::Kind;
+use gram_table::kind::{Kind, Position};
 use gram_table::part::Part;
 use gram_tree::arena::Arena;
 use gram_tree::made;
 use gram_tree::tree::{Form, Tree};
 use std::alloc::AllocError;
+
+// A form with attributes in front of it.
+fn with_attributes<'a>(
+    arena: &'a Arena,
+    attributes: &Tree<'a>,
+    form: &Tree<'a>,
+) -> Result<Tree<'a>, AllocError>
+    ensures { IfOk result (λ x. x ≡ t.Front ExprAttributed attributes.now form.now) }
+{
+    made::front(arena, Kind::ExprAttributed, attributes.copy(), form.copy())
+}
 
 // The attributes in front of an expression, given to its leftmost operand, through assignments, infix forms and casts;
 // a range keeps them.
@@ -27,20 +41,34 @@ fn attributed<'a>(
     match &tree.form {
         Form::Infix(kind, three) => {
             if level(*kind) == 3 {
-                return made::front(arena, Kind::ExprAttributed, attributes.copy(), tree.copy());
+                return with_attributes(arena, attributes, tree);
             }
             let left = attributed(arena, attributes, &three.left)?;
             made::infix(arena, left, *kind, three.own.copy(), three.right.copy())
         }
         Form::Back(kind, two) => {
             if level(*kind) != 14 {
-                return made::front(arena, Kind::ExprAttributed, attributes.copy(), tree.copy());
+                return with_attributes(arena, attributes, tree);
             }
             let operand = attributed(arena, attributes, &two.front)?;
             made::back(arena, operand, *kind, two.back.copy())
         }
-        _ => made::front(arena, Kind::ExprAttributed, attributes.copy(), tree.copy()),
+        _ => with_attributes(arena, attributes, tree),
     }
+}
+
+// An expression of a form, with the attributes given to that.
+fn attributed_whole<'a>(
+    arena: &'a Arena,
+    position: Position,
+    attributes: &Tree<'a>,
+    form: &Tree<'a>,
+) -> Result<Tree<'a>, AllocError>
+    ensures { IfOk result (λ x. x
+        ≡ t.Node (Expression (position_of position)) (t.Whole (k.attributed attributes.now form.now))) }
+{
+    let given = steps::whole(arena, attributed(arena, attributes, form));
+    steps::node(arena, Kind::Expression(position), given)
 }
 
 // The same of a node that is an expression.
@@ -55,14 +83,7 @@ fn attributed_in<'a>(
     match tree.node() {
         Some((kind, inner)) => match kind {
             Kind::Expression(position) => match inner.whole() {
-                Some(form) => {
-                    let given = attributed(arena, attributes, form)?;
-                    made::node(
-                        arena,
-                        Kind::Expression(position),
-                        made::whole(arena, given)?,
-                    )
-                }
+                Some(form) => attributed_whole(arena, position, attributes, form),
                 None => Ok(tree.copy()),
             },
             _ => Ok(tree.copy()),
@@ -71,17 +92,28 @@ fn attributed_in<'a>(
     }
 }
 
+// An expression with attributes in front of it, of which there is a first.
+fn given_all<'a>(
+    arena: &'a Arena,
+    first: Tree<'a>,
+    others: Tree<'a>,
+    tree: &Tree<'a>,
+) -> Result<Tree<'a>, AllocError>
+    ensures { IfOk result (λ x. x
+        ≡ k.attributed_in (t.Pair first.entry (t.Node OuterAttributes others.entry)) tree.now) }
+{
+    let behind = made::node(arena, Kind::OuterAttributes, others);
+    let all = steps::pair(arena, Ok(first), behind)?;
+    attributed_in(arena, &all, tree)
+}
+
 // An expression with the attributes in front of it.
 #[tactic(auto, using(crate::proofs::Giving::givens))]
 fn given<'a>(arena: &'a Arena, front: &Tree<'a>, tree: &Tree<'a>) -> Result<Tree<'a>, AllocError>
     ensures { IfOk result (λ x. x ≡ k.given front.now tree.now) }
 {
     match attributes(arena, front)? {
-        Some((first, others)) => {
-            let behind = made::node(arena, Kind::OuterAttributes, others)?;
-            let all = made::pair(arena, first, behind)?;
-            attributed_in(arena, &all, tree)
-        }
+        Some((first, others)) => given_all(arena, first, others, tree),
         None => Ok(tree.copy()),
     }
 }
@@ -92,10 +124,7 @@ fn left_in_front<'a>(arena: &'a Arena, front: &Tree<'a>) -> Result<Tree<'a>, All
     ensures { IfOk result (λ x. x ≡ k.left_in_front front.now) }
 {
     match attributes(arena, front)? {
-        Some(_) => {
-            let none = made::turns(arena, Vec::new(arena.alloc()))?;
-            made::node(arena, Kind::OuterAttributes, none)
-        }
+        Some(_) => made::node(arena, Kind::OuterAttributes, made::no_turns()),
         None => Ok(front.copy()),
     }
 }
@@ -109,9 +138,9 @@ fn expressed<'a>(
 ) -> Result<Tree<'a>, AllocError>
     ensures { IfOk result (λ x. x ≡ expressed front.now tree.now behind.now) }
 {
-    let left = steps::called(arena, Part::Attributes, left_in_front(arena, front))?;
-    let stated = steps::called(arena, Part::Expression, given(arena, front, tree))?;
-    let rest = made::pair(arena, stated, behind.copy());
+    let left = steps::called(arena, Part::Attributes, left_in_front(arena, front));
+    let stated = steps::called(arena, Part::Expression, given(arena, front, tree));
+    let rest = steps::pair(arena, stated, Ok(behind.copy()));
     let all = steps::pair(arena, left, rest);
     steps::seconds(arena, 4, all)
 }
@@ -126,7 +155,7 @@ fn stated_macro<'a>(
     ensures { IfOk result (λ x. x ≡ stated_macro front.now own.entry behind.now) }
 {
     let rest = made::pair(arena, own, behind.copy());
-    let all = steps::pair(arena, front.copy(), rest);
+    let all = steps::pair(arena, Ok(front.copy()), rest);
     steps::first_behind(arena, 1, all)
 }
 

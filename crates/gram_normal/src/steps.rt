@@ -1,5 +1,6 @@
 //! Trees made of trees that may not have been made: a step makes its tree where there is what it is to be made of, and
-//! answers want of memory otherwise. So a tree of several steps is asked for once, behind the last of them.
+//! answers want of memory otherwise. So a tree of several steps is asked for once, behind the last of them; what stands
+//! beside a part for which there was no memory is made nevertheless.
 
 ghost use Rattle.gram_table.specs.Kinds.{kind_of};
 ghost use Rattle.gram_table.specs.Parts.{part_of};
@@ -20,15 +21,16 @@ use std::alloc::AllocError;
 ///
 /// # Errors
 ///
-/// Where there is no memory for it, or was none for the one behind.
+/// Where there is no memory for it, or was none for one of them.
 pub(crate) fn pair<'a>(
     arena: &'a Arena,
-    front: Tree<'a>,
+    front: Result<Tree<'a>, AllocError>,
     back: Result<Tree<'a>, AllocError>,
 ) -> Result<Tree<'a>, AllocError>
-    ensures { (x y : t.Tree) → front.entry ≡ x → IfOk back.entry (λ z. z ≡ y) → IfOk result (λ z. z ≡ t.Pair x y) }
+    ensures { (x y : t.Tree) → IfOk front.entry (λ z. z ≡ x) → IfOk back.entry (λ z. z ≡ y)
+        → IfOk result (λ z. z ≡ t.Pair x y) }
 {
-    made::pair(arena, front, back?)
+    made::pair(arena, front?, back?)
 }
 
 /// Of choices, each the second of the one before it, so many times the second, and then the first.
@@ -157,17 +159,17 @@ pub(crate) fn alone<'a>(
 ///
 /// # Errors
 ///
-/// Where there is no memory for it, or was none for its operand.
+/// Where there is no memory for it, or was none for its own part or its operand.
 pub(crate) fn front<'a>(
     arena: &'a Arena,
     kind: Kind,
-    own: Tree<'a>,
+    own: Result<Tree<'a>, AllocError>,
     right: Result<Tree<'a>, AllocError>,
 ) -> Result<Tree<'a>, AllocError>
-    ensures { (x y : t.Tree) → own.entry ≡ x → IfOk right.entry (λ z. z ≡ y)
+    ensures { (x y : t.Tree) → IfOk own.entry (λ z. z ≡ x) → IfOk right.entry (λ z. z ≡ y)
         → IfOk result (λ z. z ≡ t.Front (kind_of kind) x y) }
 {
-    made::front(arena, kind, own, right?)
+    made::front(arena, kind, own?, right?)
 }
 
 /// A form with an operand before it: that, and its own part.
@@ -191,16 +193,16 @@ pub(crate) fn back<'a>(
 ///
 /// # Errors
 ///
-/// Where there is no memory for it, or was none for its right operand.
+/// Where there is no memory for it, or was none for its own part or an operand.
 pub(crate) fn infix<'a>(
     arena: &'a Arena,
-    left: Tree<'a>,
+    left: Result<Tree<'a>, AllocError>,
     kind: Kind,
-    own: Tree<'a>,
+    own: Result<Tree<'a>, AllocError>,
     right: Result<Tree<'a>, AllocError>,
 ) -> Result<Tree<'a>, AllocError>
-    ensures { (x y z : t.Tree) → left.entry ≡ x → own.entry ≡ y → IfOk right.entry (λ w. w ≡ z)
-        → IfOk result (λ w. w ≡ t.Infix x (kind_of kind) y z) }
+    ensures { (x y z : t.Tree) → IfOk left.entry (λ w. w ≡ x) → IfOk own.entry (λ w. w ≡ y)
+        → IfOk right.entry (λ w. w ≡ z) → IfOk result (λ w. w ≡ t.Infix x (kind_of kind) y z) }
 {
-    made::infix(arena, left, kind, own, right?)
+    made::infix(arena, left?, kind, own?, right?)
 }

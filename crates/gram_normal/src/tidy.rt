@@ -161,7 +161,7 @@ pub(crate) fn changed<'a>(
             }
         }
         Form::Pair(two) => {
-            let front = changed(arena, part, change, &two.front)?;
+            let front = changed(arena, part, change, &two.front);
             steps::pair(arena, front, changed(arena, part, change, &two.back))
         }
         Form::First(depth, inner) => {
@@ -195,7 +195,7 @@ fn arguments_first<'a>(arena: &'a Arena, tree: &Tree<'a>) -> Result<Tree<'a>, Fa
             }
         }
         Form::Pair(two) => {
-            let front = arguments_first(arena, &two.front)?;
+            let front = arguments_first(arena, &two.front);
             fault_steps::pair(arena, front, arguments_first(arena, &two.back))
         }
         Form::First(depth, inner) => {
@@ -251,14 +251,14 @@ pub(crate) fn emptied<'a>(
 /// # Errors
 ///
 /// Where there is no memory for it, or where no tree is it.
-pub(crate) fn ordered<'a>(arena: &'a Arena, kind: Kind, inner: Tree<'a>) -> Result<Tree<'a>, Fault>
-    ensures { MatchResult result (λ x. x ≡ ordered (kind_of kind) inner.entry)
-        (λ fault. IsFault fault (ordered (kind_of kind) inner.entry)) }
+pub(crate) fn ordered<'a>(arena: &'a Arena, kind: Kind, inner: &Tree<'a>) -> Result<Tree<'a>, Fault>
+    ensures { MatchResult result (λ x. x ≡ ordered (kind_of kind) inner.now)
+        (λ fault. IsFault fault (ordered (kind_of kind) inner.now)) }
 {
     match kind {
-        Kind::GenericParams => lifetimes_first(arena, Which::Params, &inner),
-        Kind::Arguments => arguments_first(arena, &inner),
-        Kind::ATypeAlias(_) => Ok(changed(arena, Part::Value, Change::Moved, &inner)?),
-        _ => Ok(inner),
+        Kind::GenericParams => lifetimes_first(arena, Which::Params, inner),
+        Kind::Arguments => arguments_first(arena, inner),
+        Kind::ATypeAlias(_) => Ok(changed(arena, Part::Value, Change::Moved, inner)?),
+        _ => Ok(inner.copy()),
     }
 }

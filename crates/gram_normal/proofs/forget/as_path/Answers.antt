@@ -1,4 +1,4 @@
-use Rattle.std.proofs.Common.{◌∙◌, ap, refl}
+use Rattle.std.proofs.Common.{ap, refl}
 use Rattle.syn_grammar.specs.Tree as t
 use Rattle.gram_tree.specs.Forms.{seconds}
 use Rattle.gram_normal.proofs.Stepping.{made_so}
@@ -6,6 +6,7 @@ use Rattle.gram_normal.proofs.forget.as_path.Goals as goal
 
 pub returns : goal.returns
 returns c =
-    c.node.ensures _ (c.pair-path.ensures _ _ (c.in_ok-root.ensures ∙ ap t.Second c.nil.ensures)
-    (c.node-segments.ensures _ (c.seconds-segment.ensures _ (c.pair.ensures _ _ refl
-    (made_so c.seconds-bare.result _ _ c.seconds-bare.ensures (ap (seconds 3) c.nil-2.ensures))))))
+    let root = made_so c.second-root.result _ _ c.second-root.ensures (ap t.Second c.nil.ensures) in
+    let bare = made_so c.seconds-bare.result _ _ c.seconds-bare.ensures (ap (seconds 3) c.nil-2.ensures) in
+    c.node.ensures _ (c.pair-path.ensures _ _ root
+    (c.node-segments.ensures _ (c.seconds-segment.ensures _ (c.pair.ensures _ _ refl bare))))

@@ -12,6 +12,7 @@ use Rattle.gram_tree.specs.declared.tree.Element.{Element}
 use Rattle.syn_grammar.specs.Kept.{kept}
 use Rattle.gram_normal.specs.Held.{element_held}
 use Rattle.gram_normal.proofs.Holding.{held_none, held_some}
+use Rattle.gram_normal.proofs.Stepping.{made_so}
 use Rattle.gram_normal.proofs.kept.+kept.Goals as goal
 
 pub list-put_elements-requires : goal.list-put_elements-requires
@@ -37,26 +38,26 @@ list-kept-requires n c =
       tree_size c.in-Some.last.now,
     )
 
-pub list-returns-in_ok-with_last-in-Some : goal.list-returns-in_ok-with_last-in-Some
-list-returns-in_ok-with_last-in-Some n c =
+pub list-returns-in_ok-ended-in-Some : goal.list-returns-in_ok-ended-in-Some
+list-returns-in_ok-ended-in-Some n c =
     let list = c.args.list.now in
     let m = separator_of list.separator in
     let es : List Element = list.before.now in
-    c.in_ok-with_last-in-Some.ensures
-    ∙ held_some m es c.put_elements.new.out.items c.in-Some.last.now c.in_ok-ended-in-Some.ended
+    made_so c.elements.result _ _ c.elements.ensures
+    (held_some m es c.put_elements.new.out.items c.in-Some.last.now c.in_ok-ended-in-Some.ended
     (c.in_ok-put_elements.ensures ∙ ap (λ xs. xs ++ map element_held es) c.new-before.ensures.items)
     c.in_ok-ended-in-Some.ensures
-    ∙ ap (λ o. kept (elements m es (ending (λ b. b.now) o))) (sym c.in-Some.is)
+    ∙ ap (λ o. kept (elements m es (ending (λ b. b.now) o))) (sym c.in-Some.is))
 
-pub list-returns-in_ok-without-in-None : goal.list-returns-in_ok-without-in-None
-list-returns-in_ok-without-in-None n c =
+pub list-returns-in-None : goal.list-returns-in-None
+list-returns-in-None n c =
     let list = c.args.list.now in
     let m = separator_of list.separator in
     let es : List Element = list.before.now in
-    c.in_ok-without-in-None.ensures
-    ∙ held_none m es c.put_elements.new.out.items
+    made_so c.elements-in-None.result _ _ c.elements-in-None.ensures
+    (held_none m es c.put_elements.new.out.items
     (c.in_ok-put_elements.ensures ∙ ap (λ xs. xs ++ map element_held es) c.new-before.ensures.items)
-    ∙ ap (λ o. kept (elements m es (ending (λ b. b.now) o))) (sym c.in-None.is)
+    ∙ ap (λ o. kept (elements m es (ending (λ b. b.now) o))) (sym c.in-None.is))
 
 pub kept-turns-requires : goal.kept-turns-requires
 kept-turns-requires n c =

@@ -1,10 +1,13 @@
-use Rattle.std.proofs.Common.{◌∙◌, ap, refl, sym}
+use Rattle.std.specs.Prelude.{List}
+use Rattle.std.proofs.Common.{◌∙◌, ◌∷◌, ◌++◌, [], ap, refl, sym}
 use Rattle.syn_grammar.specs.Tree as t
 use Rattle.syn_grammar.specs.Tree.{Tree}
 use Rattle.syn_grammar.specs.Tidy.{lifetimes_first}
 use Rattle.gram_table.specs.Ops.{separator_of}
 use Rattle.gram_tree.specs.Forms.{elements}
-use Rattle.gram_normal.specs.Changes.{passes}
+use Rattle.gram_tree.specs.declared.tree.Element.{Element}
+use Rattle.gram_normal.specs.Changes.{others_in, passes}
+use Rattle.gram_normal.specs.Held.{apart_element}
 use Rattle.gram_normal.proofs.Lists.{plus_mixed, with_none, with_some}
 use Rattle.gram_normal.proofs.lifetime.last_with.Goals as goal
 
@@ -16,10 +19,12 @@ returns-then-is_empty c h o f =
 
 pub returns : goal.returns
 returns c h o f =
-    with_some (passes c.args.which) c.args.list.now.before.now c.args.others.now c.args.firsts.items
-    c.push.new.self.items c.put_others.new.out.items _ c.args.last.now c.in_ok-turned-in-Comma.turned h o
-    (sym c.is_empty.ensures ∙ c.if-is_empty.false) f c.copy-once.ensures refl c.in_ok-push-in-Comma.ensures.items
-    c.in_ok-put_others-in-Comma.ensures c.in_ok-turned-in-Comma.ensures
+    let es : List Element = c.args.list.now.before.now in
+    let e : Element = apart_element c.args.last.now in
+    let firsts : List Element = c.args.firsts.items ++ e ∷ [] in
+    with_some (passes c.args.which) es c.args.others.now c.args.firsts.items firsts
+    (firsts ++ others_in (passes c.args.which) es) e c.args.last.now c.in_ok-turned-in-Comma.turned h o
+    (sym c.is_empty.ensures ∙ c.if-is_empty.false) f refl refl refl refl c.in_ok-turned-in-Comma.ensures
     ∙ ap (λ s. lifetimes_first (passes c.args.which)
     (elements (separator_of s) c.args.list.now.before.now (t.Final c.args.last.now))) (sym c.in-Comma.is)
 

@@ -13,16 +13,16 @@ use Rattle.gram_tree.proofs.Sizes.{elements_below, tree_size, turns_size}
 use Rattle.gram_write.proofs.Inside.{last_below}
 use Rattle.syn_grammar.specs.Tree as t
 use Rattle.gram_tree.specs.declared.tree.Element.{Element}
-use Rattle.syn_grammar.specs.Normal.{formed, normal_in}
+use Rattle.syn_grammar.specs.Normal.{formed, normal_in, stands_behind}
 use Rattle.gram_normal.specs.Separators.{is_mixed}
 use Rattle.gram_normal.specs.Parted.{element_in, parted}
 use Rattle.gram_normal.proofs.Apartness.{turned_so}
-use Rattle.gram_normal.proofs.Emptying.{emptied_size}
+use Rattle.gram_normal.proofs.Emptying.{emptied_size, inside_mixed, node_made, ordered_mixed}
 use Rattle.gram_normal.proofs.Forming.{alone_formed, back_formed, front_formed, infix_formed, list_none, list_some}
 use Rattle.gram_normal.proofs.Forming.{normal_seconds}
 use Rattle.gram_normal.proofs.Mixing.{alone_own, back_left, back_own, element_mixed, front_right, infix_left}
 use Rattle.gram_normal.proofs.Mixing.{infix_right, list_element, list_last, mixed_turns}
-use Rattle.gram_normal.proofs.Stepping.{normal_so}
+use Rattle.gram_normal.proofs.Stepping.{made_so, normal_so}
 use Rattle.gram_normal.proofs.normal.+normal.Goals as goal
 
 pub alone-returns : goal.alone-returns
@@ -77,28 +77,28 @@ list-normal_in-requires n c =
       tree_size c.in-Some.last.now,
     )
 
-pub list-returns-in_ok-with_last-in-Some : goal.list-returns-in_ok-with_last-in-Some
-list-returns-in_ok-with_last-in-Some n c =
+pub list-returns-in_ok-ended-in-Some : goal.list-returns-in_ok-ended-in-Some
+list-returns-in_ok-ended-in-Some n c =
     let p : Position = position_of c.args.position in
     let list = c.args.list.now in
     let m = separator_of list.separator in
     let es : List Element = list.before.now in
-    c.in_ok-with_last-in-Some.ensures
-    ∙ list_some p m es c.put_elements.new.out.items c.in-Some.last.now c.in_ok-ended-in-Some.ended
+    c.or_fault.ensures _ (made_so c.elements.result _ _ c.elements.ensures
+    (list_some p m es c.put_elements.new.out.items c.in-Some.last.now c.in_ok-ended-in-Some.ended
     (c.in_ok-put_elements.ensures ∙ ap (λ xs. xs ++ map (element_in p) es) c.new-before.ensures.items)
     c.in_ok-ended-in-Some.ensures
-    ∙ ap (λ o. normal_in p (elements m es (ending (λ b. b.now) o))) (sym c.in-Some.is)
+    ∙ ap (λ o. normal_in p (elements m es (ending (λ b. b.now) o))) (sym c.in-Some.is)))
 
-pub list-returns-in_ok-without-in-None : goal.list-returns-in_ok-without-in-None
-list-returns-in_ok-without-in-None n c =
+pub list-returns-in-None : goal.list-returns-in-None
+list-returns-in-None n c =
     let p : Position = position_of c.args.position in
     let list = c.args.list.now in
     let m = separator_of list.separator in
     let es : List Element = list.before.now in
-    c.in_ok-without-in-None.ensures
-    ∙ list_none p m es c.put_elements.new.out.items
+    c.or_fault-in-None.ensures _ (made_so c.elements-in-None.result _ _ c.elements-in-None.ensures
+    (list_none p m es c.put_elements.new.out.items
     (c.in_ok-put_elements.ensures ∙ ap (λ xs. xs ++ map (element_in p) es) c.new-before.ensures.items)
-    ∙ ap (λ o. normal_in p (elements m es (ending (λ b. b.now) o))) (sym c.in-None.is)
+    ∙ ap (λ o. normal_in p (elements m es (ending (λ b. b.now) o))) (sym c.in-None.is)))
 
 -- turns
 pub normal_in-turns-requires : goal.normal_in-turns-requires
@@ -113,11 +113,11 @@ turns-returns n c =
     let p : Position = position_of c.args.position in
     let xs : List Tree = c.args.trees.now in
     let each : List Tree = c.put_each.new.out.items in
-    c.in_ok-tree.ensures
-    ∙ turned_so p xs each c.put_parted.new.out.items
+    c.or_fault.ensures _ (made_so c.turns.result _ _ c.turns.ensures
+    (turned_so p xs each c.put_parted.new.out.items
     (c.in_ok-put_each.ensures ∙ ap (λ ys. ys ++ map (normal_in p) xs) c.new-each.ensures.items)
     (c.in_ok-put_parted.ensures ∙ ap (λ ys. ys ++ parted xs c.as_slice.result.now) c.new-parted.ensures.items
-    ∙ ap (parted xs) c.as_slice.ensures.value)
+    ∙ ap (parted xs) c.as_slice.ensures.value)))
 
 -- a choice
 pub normal_in-returns-in-First : goal.normal_in-returns-in-First
@@ -151,6 +151,19 @@ node-normal_in-requires n c =
       tree_size x,
       tree_size c.in_ok-left.left,
     )
+
+-- an expression, and a node
+pub whole-returns : goal.whole-returns
+whole-returns n c =
+    c.or_fault.ensures _ (made_so c.whole.result _ _ c.whole.ensures
+    (ap t.Whole (c.in_ok-form.ensures (stands_behind (position_of c.args.position)) c.behind_whole.ensures)))
+
+pub node-returns : goal.node-returns
+node-returns n c =
+    c.or_fault.ensures _ (made_so c.node.result _ _ c.node.ensures
+    (node_made (kind_of c.args.kind) (position_of c.args.position) (position_of c.passed.result) c.args.inner.now
+    c.in_ok-left.left c.in_ok-inside.inside c.in_ok-tidied.tidied _ c.passed.ensures c.in_ok-left.ensures
+    c.in_ok-inside.ensures c.in_ok-tidied.ensures refl))
 
 -- why a part isn't made is why the whole isn't
 pub alone-returns-in_err-own : goal.alone-returns-in_err-own
@@ -220,6 +233,22 @@ put_elements-returns-in_err-normal_in n c =
     let p = err_from_is_err_and c.from_residual.result c.from_residual.ensures.1 in
     rw (p.1, p.2) (λ same. element_mixed (position_of c.args.position) c.args.before.now c.loop-element.element-index
     c.element-item.result (search rules) (search rules) (c.in_err-normal_in.ensures same))
+
+pub node-returns-in_err-inside : goal.node-returns-in_err-inside
+node-returns-in_err-inside n c =
+    let r = c.from_residual-in_err-inside in
+    let p = err_from_is_err_and r.result r.ensures.1 in
+    rw (p.1, p.2) (λ same. inside_mixed (kind_of c.args.kind) (position_of c.args.position)
+    (position_of c.passed.result) c.args.inner.now c.in_ok-left.left c.passed.ensures c.in_ok-left.ensures
+    (c.in_err-inside.ensures same))
+
+pub node-returns-in_err-tidied : goal.node-returns-in_err-tidied
+node-returns-in_err-tidied n c =
+    let r = c.from_residual-in_err-tidied in
+    let p = err_from_is_err_and r.result r.ensures.1 in
+    rw (p.1, p.2) (λ same. ordered_mixed (kind_of c.args.kind) (position_of c.args.position)
+    (position_of c.passed.result) c.args.inner.now c.in_ok-left.left c.in_ok-inside.inside c.passed.ensures
+    c.in_ok-left.ensures c.in_ok-inside.ensures (c.in_err-tidied.ensures same))
 
 pub turns-returns-in_err-put_each : goal.turns-returns-in_err-put_each
 turns-returns-in_err-put_each n c =
