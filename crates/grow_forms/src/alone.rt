@@ -3,41 +3,46 @@
 use stops::{Stop, refused};
 use syn::{Arena, Parse, ParseFault, ParseSingle, Reader, TokenBuffer, parse2, parse2_single};
 
-// That a form was refused, if memory was not.
-fn is_none(fault: ParseFault) -> Result<bool, Stop> {
-    match fault {
-        ParseFault::Memory => Err(Stop::Refused),
-        ParseFault::Syntax(_) => Ok(false),
+// Whether a form was read, if memory was not refused.
+fn is_there<T: Copy>(found: Result<T, ParseFault>) -> Result<bool, Stop> {
+    match found {
+        Ok(_) => Ok(true),
+        Err(ParseFault::Memory) => Err(Stop::Refused),
+        Err(ParseFault::Syntax(_)) => Ok(false),
     }
 }
 
 // Both answers, where they agree.
-fn agreed(one: bool, other: bool) -> Result<bool, Stop> {
-    if one == other {
+fn agreed(one: Result<bool, Stop>, other: Result<bool, Stop>) -> Result<bool, Stop> {
+    let one = one?;
+    if one == other? {
         Ok(one)
     } else {
         Err(Stop::Changed)
     }
 }
 
-// Whether all tokens before the reader are the form. Where that is refused, they are left.
-fn is_form<'a, T: Parse<'a> + Copy>(input: &mut Reader<'a>) -> Result<bool, Stop> {
-    let left = input.entries().len();
-    match input.form::<T>() {
-        Ok(_) => Ok(input.is_empty()),
-        Err(ParseFault::Memory) => refused(input.entries().len() == left),
-        Err(ParseFault::Syntax(_)) => agreed(false, input.entries().len() != left),
+// Whether a form that was read before a reader is all that stood there. Where it was refused, the tokens are left.
+fn is_all(is_there: Result<bool, Stop>, input: &Reader<'_>, left: usize) -> Result<bool, Stop> {
+    match is_there {
+        Ok(true) => Ok(input.is_empty()),
+        Ok(false) => agreed(is_there, Ok(input.entries().len() != left)),
+        Err(_) => refused(input.entries().len() == left),
     }
 }
 
-// The same of a single form.
-fn is_single<'a, T: ParseSingle<'a> + Copy>(input: &mut Reader<'a>) -> Result<bool, Stop> {
+// Whether all tokens before the reader are the form.
+fn is_form<'a, T: Parse<'a> + Copy>(mut input: Reader<'a>) -> Result<bool, Stop> {
     let left = input.entries().len();
-    match input.single::<T>() {
-        Ok(_) => Ok(input.is_empty()),
-        Err(ParseFault::Memory) => refused(input.entries().len() == left),
-        Err(ParseFault::Syntax(_)) => agreed(false, input.entries().len() != left),
-    }
+    let is_there = is_there(input.form::<T>());
+    is_all(is_there, &input, left)
+}
+
+// The same of a single form.
+fn is_single<'a, T: ParseSingle<'a> + Copy>(mut input: Reader<'a>) -> Result<bool, Stop> {
+    let left = input.entries().len();
+    let is_there = is_there(input.single::<T>());
+    is_all(is_there, &input, left)
 }
 
 /// Whether the buffer is read as a type that stands for all of a kind, by itself and before a reader.
@@ -45,11 +50,8 @@ pub(crate) fn is_read<'a, T: Parse<'a> + Copy>(
     arena: &'a Arena,
     buffer: &'a TokenBuffer<'a>,
 ) -> Result<bool, Stop> {
-    let all = match parse2::<T>(arena, buffer) {
-        Ok(_) => true,
-        Err(fault) => is_none(fault)?,
-    };
-    agreed(all, is_form::<T>(&mut Reader::new(arena, buffer))?)
+    let is_all = is_there(parse2::<T>(arena, buffer));
+    agreed(is_all, is_form::<T>(Reader::new(arena, buffer)))
 }
 
 /// The same of a form that is one of several of a kind.
@@ -57,9 +59,6 @@ pub(crate) fn is_read_single<'a, T: ParseSingle<'a> + Copy>(
     arena: &'a Arena,
     buffer: &'a TokenBuffer<'a>,
 ) -> Result<bool, Stop> {
-    let all = match parse2_single::<T>(arena, buffer) {
-        Ok(_) => true,
-        Err(fault) => is_none(fault)?,
-    };
-    agreed(all, is_single::<T>(&mut Reader::new(arena, buffer))?)
+    let is_all = is_there(parse2_single::<T>(arena, buffer));
+    agreed(is_all, is_single::<T>(Reader::new(arena, buffer)))
 }

@@ -7,8 +7,7 @@ use crate::{optional, typed, values};
 use rows::Page;
 use stops::{Stop, looked_at};
 use syn::{
-    Abi, Arena, BoundLifetimes, Kind, Label, Position, Reader, TokenBuffer, Tree, WhereClause,
-    to_stream,
+    Abi, Arena, BoundLifetimes, Kind, Label, Position, TokenBuffer, Tree, WhereClause, to_stream,
 };
 
 /// What is called.
@@ -85,11 +84,6 @@ pub(crate) const CALLS: [(Question, &str); 35] = [
     (Question::Called(Call::Value), "false"),
 ];
 
-// All of the tokens as an expression.
-fn expression<'a>(arena: &'a Arena, buffer: &'a TokenBuffer<'a>) -> Result<Tree<'a>, Stop> {
-    parsed(arena, Kind::Expression(Position::Plain), buffer)
-}
-
 // Puts the text of a form as a stream.
 fn put_stream(tree: &Tree<'_>, page: &mut Page) -> Result<(), Stop> {
     match looked_at(to_stream(page.alloc(), tree))? {
@@ -101,6 +95,21 @@ fn put_stream(tree: &Tree<'_>, page: &mut Page) -> Result<(), Stop> {
     }
 }
 
+// Puts what is made of the expression that a buffer holds: its value if it is a literal, or its text as a stream.
+fn put_expression<'a>(
+    has_value: bool,
+    arena: &'a Arena,
+    buffer: &'a TokenBuffer<'a>,
+    page: &mut Page,
+) -> Result<(), Stop> {
+    let tree = parsed(arena, Kind::Expression(Position::Plain), buffer)?;
+    if has_value {
+        values::put_value(&tree, page)
+    } else {
+        put_stream(&tree, page)
+    }
+}
+
 /// Puts what a call answers of a buffer.
 pub(crate) fn put_call<'a>(
     call: Call,
@@ -108,18 +117,17 @@ pub(crate) fn put_call<'a>(
     buffer: &'a TokenBuffer<'a>,
     page: &mut Page,
 ) -> Result<(), Stop> {
-    let mut input = Reader::new(arena, buffer);
     match call {
         Call::Stmt => typed::put_stmt(arena, buffer, page),
         Call::LastStmt => typed::put_last_stmt(arena, buffer, page),
         Call::Parameter => typed::put_parameter(arena, buffer, page),
         Call::OneTrait => typed::put_trait(arena, buffer, page),
         Call::OneTraitItem => typed::put_trait_item(arena, buffer, page),
-        Call::WhereClause => optional::put_found::<WhereClause>(&mut input, page),
-        Call::Label => optional::put_found::<Label>(&mut input, page),
-        Call::BoundLifetimes => optional::put_found::<BoundLifetimes>(&mut input, page),
-        Call::Abi => optional::put_found::<Abi>(&mut input, page),
-        Call::Stream => put_stream(&expression(arena, buffer)?, page),
-        Call::Value => values::put_value(&expression(arena, buffer)?, page),
+        Call::WhereClause => optional::put_found::<WhereClause>(arena, buffer, page),
+        Call::Label => optional::put_found::<Label>(arena, buffer, page),
+        Call::BoundLifetimes => optional::put_found::<BoundLifetimes>(arena, buffer, page),
+        Call::Abi => optional::put_found::<Abi>(arena, buffer, page),
+        Call::Stream => put_expression(false, arena, buffer, page),
+        Call::Value => put_expression(true, arena, buffer, page),
     }
 }

@@ -38,7 +38,7 @@ mod values;
 mod whole;
 mod words;
 
-use crate::asked::ask_all;
+use crate::asked::{Question, ask_all};
 use rows::{Page, asked, parts, told};
 use std::process::ExitCode;
 use stops::{Stop, ended};
@@ -65,20 +65,31 @@ fn put_rows(lines: &str, page: &mut Page) -> Result<(), Stop> {
     Ok(())
 }
 
+// Puts the answers of several tables.
+fn ask_tables(tables: &[&[(Question, &str)]], page: &mut Page) -> Result<(), Stop> {
+    for table in tables {
+        ask_all(table, page)?;
+    }
+    Ok(())
+}
+
 // Puts what is said of all texts.
 fn put_answers(page: &mut Page) -> Result<(), Stop> {
-    ask_all(texts::TEXTS.as_slice(), page)?;
-    ask_all(built::BUILT.as_slice(), page)?;
-    ask_all(reading::TEXTS.as_slice(), page)?;
+    ask_tables(&[&texts::TEXTS, &built::BUILT, &reading::TEXTS], page)?;
     streams::put_answers(page)?;
     modifiers::put_answers(page)?;
-    ask_all(calls::CALLS.as_slice(), page)?;
-    ask_all(compared::PAIRS.as_slice(), page)?;
-    ask_all(long::LONG.as_slice(), page)?;
-    ask_all(single::ITEMS.as_slice(), page)?;
-    ask_all(single::SINGLES.as_slice(), page)?;
-    ask_all(standing::FORMS.as_slice(), page)?;
-    ask_all(words::WORDS.as_slice(), page)?;
+    ask_tables(
+        &[
+            &calls::CALLS,
+            &compared::PAIRS,
+            &long::LONG,
+            &single::ITEMS,
+            &single::SINGLES,
+            &standing::FORMS,
+            &words::WORDS,
+        ],
+        page,
+    )?;
     whole::put_answers(page)
 }
 

@@ -3,7 +3,7 @@
 use gram_piece::piece::Piece;
 use rows::Page;
 use stops::{Stop, refused};
-use syn::{ParseFault, ParseOptional, Reader, print};
+use syn::{Arena, ParseFault, ParseOptional, Reader, TokenBuffer, print};
 
 // Puts the tokens that are left.
 fn put_left(input: &Reader<'_>, page: &mut Page) -> Result<(), Stop> {
@@ -15,18 +15,30 @@ fn put_left(input: &Reader<'_>, page: &mut Page) -> Result<(), Stop> {
     Ok(())
 }
 
+// What is said of a form that may be missing, if memory was not refused.
+fn said<T: Copy>(found: Result<Option<T>, ParseFault>) -> Option<&'static str> {
+    match found {
+        Ok(Some(_)) => Some("read, before: "),
+        Ok(None) => Some("missing, before: "),
+        Err(ParseFault::Syntax(_)) => Some("refused, before: "),
+        Err(ParseFault::Memory) => None,
+    }
+}
+
 /// Puts whether a form stands there and is read, is missing or is broken, and what is left then. Where memory is refused,
 /// that is all that was left before.
-pub(crate) fn put_found<'a, T: ParseOptional<'a> + Drop>(
-    input: &mut Reader<'a>,
+pub(crate) fn put_found<'a, T: ParseOptional<'a> + Copy>(
+    arena: &'a Arena,
+    buffer: &'a TokenBuffer<'a>,
     page: &mut Page,
 ) -> Result<(), Stop> {
+    let mut input = Reader::new(arena, buffer);
     let left = input.entries().len();
-    match input.parse_optional::<T>() {
-        Ok(Some(_)) => page.put("read, before: "),
-        Ok(None) => page.put("missing, before: "),
-        Err(ParseFault::Syntax(_)) => page.put("refused, before: "),
-        Err(ParseFault::Memory) => return refused(input.entries().len() == left),
+    match said(input.parse_optional::<T>()) {
+        Some(words) => {
+            page.put(words);
+            put_left(&input, page)
+        }
+        None => refused(input.entries().len() == left),
     }
-    put_left(input, page)
 }

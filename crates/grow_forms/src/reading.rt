@@ -72,15 +72,20 @@ fn put_refusal<T: Drop>(
     }
 }
 
-// Puts what each reader of tokens says where its token doesn't stand there, in lines.
-fn put_refusals(start: Reader<'_>, page: &mut Page) -> Result<(), Stop> {
+// Puts what the readers of words and of literals say where none stands there, in lines.
+fn put_leaf_refusals(start: Reader<'_>, page: &mut Page) -> Result<(), Stop> {
     let left = start.entries().len();
     let mut fork = start;
     let word = fork.word(Words::Ident);
     put_refusal(word, fork.entries().len() == left, page)?;
     let mut fork = start;
     let literal = fork.literal(Literals::Text);
-    put_refusal(literal, fork.entries().len() == left, page)?;
+    put_refusal(literal, fork.entries().len() == left, page)
+}
+
+// The same of the readers of punctuation, of groups and of the end.
+fn put_refusals(start: Reader<'_>, page: &mut Page) -> Result<(), Stop> {
+    let left = start.entries().len();
     let mut fork = start;
     let sign = fork.sign(Sign::Comma);
     put_refusal(sign, fork.entries().len() == left, page)?;
@@ -100,6 +105,7 @@ pub(crate) fn put_read<'a>(
     put_form(input, page)?;
     page.put("\n");
     put_type(&mut input, page)?;
+    put_leaf_refusals(input, page)?;
     put_refusals(input, page)
 }
 

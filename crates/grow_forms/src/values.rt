@@ -32,14 +32,24 @@ fn put_number(literal: &LitInt, page: &mut Page) -> Result<(), Stop> {
     Ok(())
 }
 
-// Puts the value of a literal token, of a copy of it.
-fn put_value_of(token: &Literal, page: &mut Page) -> Result<(), Stop> {
-    match Value::new(looked_at(token.try_clone())?) {
-        Value::Str(literal) => put_text(&literal, page),
-        Value::ByteStr(literal) => put_bytes(&literal, page),
-        Value::Int(literal) => put_number(&literal, page),
+// Puts the value of a literal.
+fn put_typed(value: &Value, page: &mut Page) -> Result<(), Stop> {
+    match value {
+        Value::Str(literal) => put_text(literal, page),
+        Value::ByteStr(literal) => put_bytes(literal, page),
+        Value::Int(literal) => put_number(literal, page),
         _ => Err(Stop::Changed),
     }
+}
+
+// Puts the value of a literal token that is handed over.
+fn put_value_in(token: Literal, page: &mut Page) -> Result<(), Stop> {
+    put_typed(&Value::new(token), page)
+}
+
+// Puts the value of a literal token, of a copy of it.
+fn put_value_of(token: &Literal, page: &mut Page) -> Result<(), Stop> {
+    put_value_in(looked_at(token.try_clone())?, page)
 }
 
 // Puts a truth value.

@@ -16,18 +16,23 @@ fn named(ty: Type<'_, '_>) -> Result<&'static str, ParseFault> {
     }
 }
 
-// What is said of a text that is read as a type.
-fn said(text: &str, page: &Page) -> Result<&'static str, Stop> {
-    let mut map = SourceMap::new(page.alloc());
-    match parse_str_with(page.alloc(), text, &mut map, |arena, buffer| {
-        named(parse2::<Type>(arena, buffer)?)
-    }) {
+// What is said of a text that is read as a type, or of why it is none.
+fn told(read: Result<&'static str, TextFault>) -> Result<&'static str, Stop> {
+    match read {
         Ok(words) => Ok(words),
         Err(TextFault::Lexical(_)) => Ok("a lexical fault: "),
         Err(TextFault::Syntax(_)) => Ok("a syntax fault: "),
         Err(TextFault::MapFull) => Err(Stop::Changed),
         Err(TextFault::Memory) => Err(Stop::Refused),
     }
+}
+
+// The same of a text.
+fn said(text: &str, page: &Page) -> Result<&'static str, Stop> {
+    let mut map = SourceMap::new(page.alloc());
+    told(parse_str_with(page.alloc(), text, &mut map, |arena, buffer| {
+        named(parse2::<Type>(arena, buffer)?)
+    }))
 }
 
 /// Puts what each text is, in lines.

@@ -1,10 +1,11 @@
-//! Items put where they stand, without attributes, and behind `pub` or `default`.
+//! Items without their attributes and their visibility: by themselves, or put where they stand, behind `pub` or `default`.
 
-use crate::made::change::{By, Unmade};
+use crate::made::asked::Whole;
+use crate::made::change::{By, Unmade, tried};
 use syn::{
     Arena, AssociatedItem, ForeignItem, Ident, Item, OuterAttributes, Tree, Turns, Visibility,
 };
-use syn_made::item::among::{foreign_item, impl_item, item, trait_item};
+use syn_made::item::among::{foreign_item, impl_item, item, plain_item, trait_item};
 use syn_made::to_tree::ToTree;
 
 // An item of a trait or an impl, behind such words.
@@ -16,9 +17,9 @@ fn put_member<'a>(
 ) -> Result<Option<Tree<'a>>, Unmade> {
     let (attrs, vis) = before;
     match AssociatedItem::in_trait(tree) {
-        Some(found) => Ok(trait_item(arena, attrs, vis, defaultness, &found)?),
+        Some(found) => tried(trait_item(arena, attrs, vis, defaultness, &found)),
         None => match AssociatedItem::in_impl(tree) {
-            Some(found) => Ok(impl_item(arena, attrs, vis, defaultness, &found)?),
+            Some(found) => tried(impl_item(arena, attrs, vis, defaultness, &found)),
             None => Err(Unmade::NoRow),
         },
     }
@@ -33,8 +34,8 @@ fn put<'a>(
 ) -> Result<Option<Tree<'a>>, Unmade> {
     let (attrs, vis) = before;
     match (Item::of(tree), ForeignItem::of(tree)) {
-        (Some(found), _) => Ok(item(arena, attrs, vis, &found)?),
-        (None, Some(found)) => Ok(foreign_item(arena, attrs, vis, &found)?),
+        (Some(found), _) => tried(item(arena, attrs, vis, &found)),
+        (None, Some(found)) => tried(foreign_item(arena, attrs, vis, &found)),
         (None, None) => put_member(arena, tree, before, defaultness),
     }
 }
@@ -54,16 +55,25 @@ fn put_behind<'a>(
     put(arena, tree, (&attrs, &vis), defaultness)
 }
 
-/// An item where it stands, behind what the change names.
+// An item without its attributes and its visibility.
+fn plain<'a>(arena: &'a Arena, tree: &Tree<'a>) -> Result<Option<Tree<'a>>, Unmade> {
+    match Item::of(tree) {
+        Some(found) => tried(plain_item(arena, &found)),
+        None => Err(Unmade::NoRow),
+    }
+}
+
+/// All of an item, put so.
 pub(crate) fn changed<'a>(
+    place: Whole,
     arena: &'a Arena,
     by: By<'_, 'a>,
     tree: &'a Tree<'a>,
 ) -> Result<Option<Tree<'a>>, Unmade> {
-    match by.change {
-        "in its place" => put_behind(arena, tree, Visibility::Inherited, None),
-        "public" => put_behind(arena, tree, Visibility::Public(by.word), None),
-        "default" => put_behind(arena, tree, Visibility::Inherited, Some(by.word)),
-        _ => Err(Unmade::NoRow),
+    match place {
+        Whole::Plain => plain(arena, tree),
+        Whole::InItsPlace => put_behind(arena, tree, Visibility::Inherited, None),
+        Whole::Public => put_behind(arena, tree, Visibility::Public(by.word), None),
+        Whole::Default => put_behind(arena, tree, Visibility::Inherited, Some(by.word)),
     }
 }

@@ -1,9 +1,7 @@
 //! Changes of attributes, visibilities and parameters of generics.
 
-use crate::made::change::{By, Change, Unmade, mark, remade_always};
-use syn::{
-    Arena, AttrStyle, Attribute, GenericParam, OuterAttributes, Sign, Tree, TypeParam, Visibility,
-};
+use crate::made::change::{By, Change, mark};
+use syn::{AttrStyle, Attribute, GenericParam, OuterAttributes, Sign, Tree, TypeParam, Visibility};
 
 // The first attribute of some, if there is one.
 fn first<'t, 'a>(tree: &'t Tree<'a>) -> Option<Attribute<'t, 'a>> {
@@ -39,19 +37,5 @@ impl<'a> Change<'a> for GenericParam<'a, 'a> {
             })),
             _ => None,
         }
-    }
-}
-
-/// Attributes, a visibility or a parameter of generics, changed so.
-pub(crate) fn changed<'a>(
-    arena: &'a Arena,
-    by: By<'_, 'a>,
-    tree: &'a Tree<'a>,
-) -> Result<Option<Tree<'a>>, Unmade> {
-    match by.change {
-        "inner" => remade_always::<Attribute>(arena, by, tree),
-        "public" => remade_always::<Visibility>(arena, by, tree),
-        "plain" => remade_always::<GenericParam>(arena, by, tree),
-        _ => Err(Unmade::NoRow),
     }
 }

@@ -1,11 +1,9 @@
-//! The changes, by the kinds of forms that they are made in.
+//! How what a row asks for is made: the value of a tree's type is changed, and becomes a tree again.
 
-use crate::made::{attributes, data, expressions, functions, items, patterns, statements, types};
+use crate::made::asked::{Asked, To};
+use crate::made::{among, expressions, forms, items, statements};
 use std::alloc::AllocError;
-use syn::{
-    Arena, Elements, Ident, Kind, Mark, Plus, Position, RangeLimits, Sign, Spacing, Span, Style,
-    Tree,
-};
+use syn::{Arena, Elements, Ident, Mark, RangeLimits, Sign, Spacing, Span, Tree};
 use syn_made::to_tree::ToTree;
 use syn_made::try_to_tree::TryToTree;
 
@@ -22,15 +20,6 @@ impl From<AllocError> for Unmade {
     fn from(_: AllocError) -> Unmade {
         Unmade::Memory
     }
-}
-
-/// What a row asks for.
-#[derive(Clone, Copy)]
-pub(crate) struct Asked<'r> {
-    /// The kind that its text is read as.
-    pub(crate) kind: Kind,
-    /// What is changed.
-    pub(crate) change: &'r str,
 }
 
 /// A punctuation that stands at no place of a text.
@@ -62,28 +51,42 @@ fn word<'a>(arena: &'a Arena, text: &str) -> Result<&'a Ident, Unmade> {
 }
 
 /// Elements without the one that no comma follows (`front`), or with no other (`last`).
-pub(crate) fn some_of<'t, 'a>(change: &str, elems: Elements<'t, 'a>) -> Option<Elements<'t, 'a>> {
+pub(crate) fn some_of<'t, 'a>(change: &str, elems: Elements<'t, 'a>) -> Elements<'t, 'a> {
     match change {
-        "front" => Some(Elements {
+        "front" => Elements {
             last: None,
             ..elems
-        }),
-        "last" => Some(Elements {
+        },
+        _ => Elements {
             before: &[],
             ..elems
-        }),
-        _ => None,
+        },
     }
 }
 
 /// The limits of a range with its end in it, with the punctuation that a change names.
-pub(crate) fn limits(change: &str) -> Option<RangeLimits> {
-    match change {
-        "closed" | "inclusive" => Some(RangeLimits::Closed(mark(Sign::DotDotEq))),
-        "closed by dots alone" | "inclusive by dots alone" => {
-            Some(RangeLimits::Closed(mark(Sign::DotDot)))
-        }
-        _ => None,
+pub(crate) fn limits(change: &str) -> RangeLimits {
+    RangeLimits::Closed(mark(match change {
+        "closed" | "inclusive" => Sign::DotDotEq,
+        _ => Sign::DotDot,
+    }))
+}
+
+/// What is made by a call that answers a tree, or that its value is none.
+pub(crate) fn tried<'a>(
+    answer: Result<Option<Tree<'a>>, AllocError>,
+) -> Result<Option<Tree<'a>>, Unmade> {
+    match answer {
+        Ok(found) => Ok(found),
+        Err(_) => Err(Unmade::Memory),
+    }
+}
+
+/// The same of a call whose values all are trees.
+pub(crate) fn held<'a>(answer: Result<Tree<'a>, AllocError>) -> Result<Option<Tree<'a>>, Unmade> {
+    match answer {
+        Ok(tree) => Ok(Some(tree)),
+        Err(_) => Err(Unmade::Memory),
     }
 }
 
@@ -108,10 +111,10 @@ pub(crate) fn remade<'a, T: Change<'a> + TryToTree<'a> + Copy>(
     by: By<'_, 'a>,
     tree: &'a Tree<'a>,
 ) -> Result<Option<Tree<'a>>, Unmade> {
-    let Some(value) = T::changed(by, tree) else {
-        return Err(Unmade::NoRow);
-    };
-    Ok(value.try_to_tree(arena)?)
+    match T::changed(by, tree) {
+        Some(value) => tried(value.try_to_tree(arena)),
+        None => Err(Unmade::NoRow),
+    }
 }
 
 /// The same of a type whose values all are trees.
@@ -120,48 +123,10 @@ pub(crate) fn remade_always<'a, T: Change<'a> + ToTree<'a> + Copy>(
     by: By<'_, 'a>,
     tree: &'a Tree<'a>,
 ) -> Result<Option<Tree<'a>>, Unmade> {
-    let Some(value) = T::changed(by, tree) else {
-        return Err(Unmade::NoRow);
-    };
-    Ok(Some(value.to_tree(arena)?))
-}
-
-// The kind that a row names.
-fn kind_of(name: &str) -> Option<Kind> {
-    Some(match name {
-        "Type" => Kind::AType(Plus::WithPlus),
-        "Path" => Kind::Path(Style::AtType),
-        "PathSegment" => Kind::Segment(Style::InType),
-        "Bound" => Kind::Bound,
-        "Pat" => Kind::Pattern,
-        "RangeEnd" => Kind::RangeEnd,
-        "Attributes" => Kind::OuterAttributes,
-        "Visibility" => Kind::Visibility,
-        "Param" => Kind::GenericParam,
-        "Expr" => Kind::Expression(Position::Plain),
-        "FieldValue" => Kind::FieldValue,
-        "Arm" => Kind::Arm,
-        "File" => Kind::AFile,
-        "Stmt" => Kind::OneStatement,
-        "Block" => Kind::Block,
-        "DeriveInput" => Kind::DeriveInput,
-        "Field" => Kind::NamedField,
-        "Variant" => Kind::Variant,
-        "FnArg" => Kind::FnArg,
-        "Receiver" => Kind::Receiver,
-        "Item" => Kind::AnItem,
-        "TraitItem" => Kind::ATraitItem,
-        "ImplItem" => Kind::AnImplItem,
-        "ForeignItem" => Kind::AForeignItem,
-        _ => return None,
-    })
-}
-
-/// What a row with a call asks for, if there is such a kind.
-pub(crate) fn asked_by(call: &str) -> Option<Asked<'_>> {
-    let (name, change) = call.split_once(' ')?;
-    let kind = kind_of(name)?;
-    Some(Asked { kind, change })
+    match T::changed(by, tree) {
+        Some(value) => held(value.to_tree(arena)),
+        None => Err(Unmade::NoRow),
+    }
 }
 
 /// The tree that the value of a tree's type is when it is changed so; `None` where it is none.
@@ -173,20 +138,12 @@ pub(crate) fn made<'a>(
     let change = asked.change;
     let word = word(arena, word_of(change))?;
     let by = By { change, word };
-    match asked.kind {
-        Kind::AType(_) | Kind::Path(_) | Kind::Segment(_) | Kind::Bound => {
-            types::changed(arena, by, tree)
-        }
-        Kind::Pattern | Kind::RangeEnd => patterns::changed(arena, by, tree),
-        Kind::OuterAttributes | Kind::Visibility | Kind::GenericParam => {
-            attributes::changed(arena, by, tree)
-        }
-        Kind::Expression(_) | Kind::FieldValue | Kind::Arm => {
-            expressions::changed(arena, by, tree)
-        }
-        Kind::AFile | Kind::OneStatement | Kind::Block => { statements::changed(arena, by, tree) }
-        Kind::DeriveInput | Kind::NamedField | Kind::Variant => data::changed(arena, by, tree),
-        Kind::FnArg | Kind::Receiver => functions::changed(arena, by, tree),
-        _ => items::changed(arena, by, tree),
+    match asked.to {
+        To::Form(form) => forms::changed_form(form, arena, by, tree),
+        To::Part(part) => forms::changed_part(part, arena, by, tree),
+        To::Expr(form) => expressions::changed(form, arena, by, tree),
+        To::Stmt(stmt) => statements::changed(stmt, arena, tree),
+        To::Item(form) => items::changed(form, arena, by, tree),
+        To::Whole(place) => among::changed(place, arena, by, tree),
     }
 }

@@ -1,6 +1,6 @@
 //! Changes of fields, variants and what is derived for.
 
-use crate::made::change::{By, Change, Unmade, mark, remade, remade_always};
+use crate::made::change::{By, Change, Unmade, mark, tried};
 use syn::{Arena, Data, DataStruct, DeriveInput, Field, Fields, Sign, Tree, Variant};
 use syn_made::item::derive::item;
 
@@ -24,14 +24,14 @@ impl<'a> Change<'a> for DeriveInput<'a, 'a> {
     }
 }
 
-// A struct, changed so, as an item.
-fn put_item<'a>(
+/// A struct, changed so, as an item.
+pub(crate) fn put_item<'a>(
     arena: &'a Arena,
     by: By<'_, 'a>,
     tree: &'a Tree<'a>,
 ) -> Result<Option<Tree<'a>>, Unmade> {
     match DeriveInput::changed(by, tree) {
-        Some(input) => Ok(item(arena, &input)?),
+        Some(input) => tried(item(arena, &input)),
         None => Err(Unmade::NoRow),
     }
 }
@@ -60,20 +60,5 @@ impl<'a> Change<'a> for Variant<'a, 'a> {
             discriminant: None,
             ..found
         })
-    }
-}
-
-/// What is derived for, a field or a variant, changed so.
-pub(crate) fn changed<'a>(
-    arena: &'a Arena,
-    by: By<'_, 'a>,
-    tree: &'a Tree<'a>,
-) -> Result<Option<Tree<'a>>, Unmade> {
-    match by.change {
-        "unit" => remade::<DeriveInput>(arena, by, tree),
-        "open" => put_item(arena, by, tree),
-        "unnamed" | "without name" => remade::<Field>(arena, by, tree),
-        "without number" => remade_always::<Variant>(arena, by, tree),
-        _ => Err(Unmade::NoRow),
     }
 }

@@ -1,40 +1,32 @@
 //! Changes of expressions, and of the fields and arms that stand in them.
 
-use crate::made::change::{By, Change, Unmade, limits, mark, remade, remade_always, some_of};
+use crate::made::asked;
+use crate::made::change::{By, Change, Unmade, held, limits, mark, remade, remade_always, some_of};
 use syn::{
     Arena, Arm, BinOp, Expr, ExprBinary, ExprMethodCall, ExprRange, ExprTuple, ExprUnary,
     FieldValue, Position, Sign, Tree, UnOp,
 };
 use syn_made::expr::whole::expression;
 
-// The form of an expression.
-fn form<'t, 'a>(tree: &'t Tree<'a>) -> Result<&'t Tree<'a>, Unmade> {
-    match Expr::of(tree) {
-        Some(found) => Ok(found.tree),
-        None => Err(Unmade::NoRow),
-    }
-}
-
 // A binary operation: its operands the other way, or the product of them, with the punctuation that is named.
 impl<'a> Change<'a> for ExprBinary<'a, 'a> {
     fn changed(by: By<'_, 'a>, tree: &'a Tree<'a>) -> Option<ExprBinary<'a, 'a>> {
         let found = ExprBinary::of(tree)?;
-        match by.change {
-            "swapped" => Some(ExprBinary {
+        Some(match by.change {
+            "swapped" => ExprBinary {
                 left: found.right,
                 op: found.op,
                 right: found.left,
-            }),
-            "multiplied by a star" => Some(ExprBinary {
+            },
+            "multiplied by a star" => ExprBinary {
                 op: BinOp::Mul(mark(Sign::Star)),
                 ..found
-            }),
-            "multiplied by a plus" => Some(ExprBinary {
+            },
+            _ => ExprBinary {
                 op: BinOp::Mul(mark(Sign::Plus)),
                 ..found
-            }),
-            _ => None,
-        }
+            },
+        })
     }
 }
 
@@ -45,7 +37,7 @@ fn put_binary<'a>(
     form: &'a Tree<'a>,
 ) -> Result<Option<Tree<'a>>, Unmade> {
     match remade::<ExprBinary>(arena, by, form)? {
-        Some(form) => Ok(Some(expression(arena, Position::Plain, form)?)),
+        Some(form) => held(expression(arena, Position::Plain, form)),
         None => Ok(None),
     }
 }
@@ -78,7 +70,7 @@ impl<'a> Change<'a> for ExprMethodCall<'a, 'a> {
 impl<'a> Change<'a> for ExprTuple<'a, 'a> {
     fn changed(by: By<'_, 'a>, tree: &'a Tree<'a>) -> Option<ExprTuple<'a, 'a>> {
         let found = ExprTuple::of(tree)?;
-        let elems = some_of(by.change, found.elems)?;
+        let elems = some_of(by.change, found.elems);
         Some(ExprTuple { elems, ..found })
     }
 }
@@ -87,13 +79,13 @@ impl<'a> Change<'a> for ExprTuple<'a, 'a> {
 impl<'a> Change<'a> for ExprRange<'a, 'a> {
     fn changed(by: By<'_, 'a>, tree: &'a Tree<'a>) -> Option<ExprRange<'a, 'a>> {
         let found = ExprRange::of(tree)?;
-        match by.change {
-            "endless" => Some(ExprRange { end: None, ..found }),
-            _ => Some(ExprRange {
-                limits: limits(by.change)?,
+        Some(match by.change {
+            "endless" => ExprRange { end: None, ..found },
+            change => ExprRange {
+                limits: limits(change),
                 ..found
-            }),
-        }
+            },
+        })
     }
 }
 
@@ -131,31 +123,21 @@ impl<'a> Change<'a> for Arm<'a, 'a> {
     }
 }
 
-// An expression, changed so.
-fn put_expression<'a>(
-    arena: &'a Arena,
-    by: By<'_, 'a>,
-    tree: &'a Tree<'a>,
-) -> Result<Option<Tree<'a>>, Unmade> {
-    let form = form(tree)?;
-    match by.change {
-        "negated by a minus" | "negated by a star" => remade::<ExprUnary>(arena, by, form),
-        "closed" | "closed by dots alone" | "endless" => remade::<ExprRange>(arena, by, form),
-        "inferred" => remade_always::<ExprMethodCall>(arena, by, form),
-        "front" | "last" => remade::<ExprTuple>(arena, by, form),
-        _ => put_binary(arena, by, form),
-    }
-}
-
-/// An expression, a field's value or an arm, changed so.
+/// The form of an expression, changed so.
 pub(crate) fn changed<'a>(
+    form: asked::Expr,
     arena: &'a Arena,
     by: By<'_, 'a>,
     tree: &'a Tree<'a>,
 ) -> Result<Option<Tree<'a>>, Unmade> {
-    match by.change {
-        "short" | "without colon" => remade::<FieldValue>(arena, by, tree),
-        "at end" | "ended" => remade::<Arm>(arena, by, tree),
-        _ => put_expression(arena, by, tree),
+    let Some(found) = Expr::of(tree) else {
+        return Err(Unmade::NoRow);
+    };
+    match form {
+        asked::Expr::Binary => put_binary(arena, by, found.tree),
+        asked::Expr::Unary => remade::<ExprUnary>(arena, by, found.tree),
+        asked::Expr::MethodCall => remade_always::<ExprMethodCall>(arena, by, found.tree),
+        asked::Expr::Tuple => remade::<ExprTuple>(arena, by, found.tree),
+        asked::Expr::Range => remade::<ExprRange>(arena, by, found.tree),
     }
 }

@@ -1,6 +1,6 @@
 //! Changes of functions, parameters and receivers.
 
-use crate::made::change::{By, Change, Unmade, mark, remade};
+use crate::made::change::{By, Change, Unmade, mark, tried};
 use syn::{
     Arena, FnArg, ItemFn, Kind, OneParameter, Parameter, PatType, Receiver, ReceiverKind, Safety,
     Sign, Signature, Tree, Turns,
@@ -37,9 +37,13 @@ impl<'a> Change<'a> for Signature<'a, 'a> {
     }
 }
 
-// A parameter, if a tree is one by itself.
-fn parameter<'t, 'a>(tree: &'t Tree<'a>) -> Option<Parameter<'t, 'a>> {
-    Parameter::of(OneParameter::of(tree)?.parameter)
+// A parameter with its pattern and its type, if a tree is one by itself.
+fn parameter<'t, 'a>(tree: &'t Tree<'a>) -> Option<(Parameter<'t, 'a>, PatType<'t, 'a>)> {
+    let found = Parameter::of(OneParameter::of(tree)?.parameter)?;
+    match found.arg {
+        FnArg::Typed(typed) => Some((found, typed)),
+        _ => None,
+    }
 }
 
 // A pattern and its type, behind these attributes.
@@ -54,15 +58,13 @@ fn with_argument<'t, 'a>(found: Parameter<'t, 'a>, arg: FnArg<'t, 'a>) -> Parame
     Parameter { arg, ..found }
 }
 
-// A parameter whose pattern has no attributes.
-fn bare<'a>(arena: &'a Arena, tree: &Tree<'a>) -> Result<Option<Tree<'a>>, Unmade> {
-    let found = parameter(tree).ok_or(Unmade::NoRow)?;
-    let FnArg::Typed(typed) = found.arg else {
+/// A parameter whose pattern has no attributes.
+pub(crate) fn bare<'a>(arena: &'a Arena, tree: &Tree<'a>) -> Result<Option<Tree<'a>>, Unmade> {
+    let Some((found, typed)) = parameter(tree) else {
         return Err(Unmade::NoRow);
     };
     let none = Node(Kind::OuterAttributes, Turns { each: &[] }).to_tree(arena)?;
-    let parameter = with_argument(found, behind(&none, typed));
-    Ok(parameter.try_to_tree(arena)?)
+    tried(with_argument(found, behind(&none, typed)).try_to_tree(arena))
 }
 
 // A receiver as it is taken by value, mutable where a reference of it was, or one that is taken by a reference, itself
@@ -82,18 +84,5 @@ impl<'a> Change<'a> for Receiver<'a, 'a> {
             kind,
             ..found
         })
-    }
-}
-
-/// A parameter or a receiver, changed so.
-pub(crate) fn changed<'a>(
-    arena: &'a Arena,
-    by: By<'_, 'a>,
-    tree: &'a Tree<'a>,
-) -> Result<Option<Tree<'a>>, Unmade> {
-    match by.change {
-        "bare" => bare(arena, tree),
-        "by value" | "mutable" => remade::<Receiver>(arena, by, tree),
-        _ => Err(Unmade::NoRow),
     }
 }

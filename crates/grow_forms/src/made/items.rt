@@ -1,13 +1,12 @@
 //! Changes of items, and of the items of traits and extern blocks.
 
-use crate::made::among;
+use crate::made::asked;
 use crate::made::change::{By, Change, Unmade, mark, remade, remade_always, some_of};
 use syn::{
     Arena, AssociatedItem, Delimiter, Delimiters, ForeignItem, Item, ItemEnum, ItemFn, ItemImpl,
     ItemMacro, ItemMod, ItemTrait, ItemTraitAlias, ItemType, MacroDelimiter, Name, Sign, Signature,
     Span, TraitForm, TraitModifiers, Tree, WhereOrder,
 };
-use syn_made::item::among::plain_item;
 
 // A module without what stands in it, and whose items stand in another file where it is to be `outside`.
 impl<'a> Change<'a> for ItemMod<'a, 'a> {
@@ -48,21 +47,21 @@ fn braces() -> MacroDelimiter {
 impl<'a> Change<'a> for ItemMacro<'a, 'a> {
     fn changed(by: By<'_, 'a>, tree: &'a Tree<'a>) -> Option<ItemMacro<'a, 'a>> {
         let found = ItemMacro::of(tree)?;
-        match by.change {
-            "named" => Some(ItemMacro {
+        Some(match by.change {
+            "named" => ItemMacro {
                 ident: Some(Name::Ident(by.word)),
                 ..found
-            }),
-            "in braces" => Some(ItemMacro {
+            },
+            "in braces" => ItemMacro {
                 delimiter: braces(),
                 semi_token: None,
                 ..found
-            }),
-            _ => Some(ItemMacro {
+            },
+            _ => ItemMacro {
                 semi_token: None,
                 ..found
-            }),
-        }
+            },
+        })
     }
 }
 
@@ -70,35 +69,48 @@ impl<'a> Change<'a> for ItemMacro<'a, 'a> {
 impl<'a> Change<'a> for ItemEnum<'a, 'a> {
     fn changed(by: By<'_, 'a>, tree: &'a Tree<'a>) -> Option<ItemEnum<'a, 'a>> {
         let found = ItemEnum::of(tree)?;
-        let variants = some_of(by.change, found.variants)?;
+        let variants = some_of(by.change, found.variants);
         Some(ItemEnum { variants, ..found })
     }
 }
 
-// A trait, or an alias of traits, without its `unsafe`, or behind `auto`.
+// A trait without its `unsafe`, or behind `auto`.
+fn changed_trait<'a>(by: By<'_, 'a>, found: ItemTrait<'a, 'a>) -> ItemTrait<'a, 'a> {
+    match by.change {
+        "safe" => ItemTrait {
+            unsafety: None,
+            ..found
+        },
+        _ => ItemTrait {
+            modifiers: TraitModifiers {
+                auto_token: Some(by.word),
+            },
+            ..found
+        },
+    }
+}
+
+// The same of an alias of traits.
+fn changed_alias<'a>(by: By<'_, 'a>, found: ItemTraitAlias<'a, 'a>) -> ItemTraitAlias<'a, 'a> {
+    match by.change {
+        "safe" => ItemTraitAlias {
+            unsafety: None,
+            ..found
+        },
+        _ => ItemTraitAlias {
+            auto_token: Some(by.word),
+            ..found
+        },
+    }
+}
+
+// A trait, or an alias of traits, changed so.
 impl<'a> Change<'a> for TraitForm<'a, 'a> {
     fn changed(by: By<'_, 'a>, tree: &'a Tree<'a>) -> Option<TraitForm<'a, 'a>> {
-        let auto_token = Some(by.word);
-        match TraitForm::of(tree)? {
-            TraitForm::Trait(found) if by.change == "safe" => Some(TraitForm::Trait(ItemTrait {
-                unsafety: None,
-                ..found
-            })),
-            TraitForm::Trait(found) => Some(TraitForm::Trait(ItemTrait {
-                modifiers: TraitModifiers { auto_token },
-                ..found
-            })),
-            TraitForm::Alias(found) if by.change == "safe" => {
-                Some(TraitForm::Alias(ItemTraitAlias {
-                    unsafety: None,
-                    ..found
-                }))
-            }
-            TraitForm::Alias(found) => Some(TraitForm::Alias(ItemTraitAlias {
-                auto_token,
-                ..found
-            })),
-        }
+        Some(match TraitForm::of(tree)? {
+            TraitForm::Trait(found) => TraitForm::Trait(changed_trait(by, found)),
+            TraitForm::Alias(found) => TraitForm::Alias(changed_alias(by, found)),
+        })
     }
 }
 
@@ -111,12 +123,6 @@ impl<'a> Change<'a> for ItemImpl<'a, 'a> {
             ..found
         })
     }
-}
-
-// An item without its attributes and its visibility.
-fn plain<'a>(arena: &'a Arena, tree: &Tree<'a>) -> Result<Option<Tree<'a>>, Unmade> {
-    let found = Item::of(tree).ok_or(Unmade::NoRow)?;
-    Ok(plain_item(arena, &found)?)
 }
 
 // The form of an item in a trait or in an extern block, if a tree is one.
@@ -135,37 +141,24 @@ fn form<'t, 'a>(tree: &'t Tree<'a>) -> Option<&'t Tree<'a>> {
     }
 }
 
-// The form of an item, changed so.
-fn changed_form<'a>(
-    arena: &'a Arena,
-    by: By<'_, 'a>,
-    form: &'a Tree<'a>,
-) -> Result<Option<Tree<'a>>, Unmade> {
-    match by.change {
-        "declared" | "without block" | "closed" => remade::<ItemFn>(arena, by, form),
-        "as safe" => remade::<Signature>(arena, by, form),
-        "outside" | "without content" => remade::<ItemMod>(arena, by, form),
-        "early" => remade::<ItemType>(arena, by, form),
-        "named" | "without semicolon" | "in braces" => remade::<ItemMacro>(arena, by, form),
-        "front" => remade_always::<ItemEnum>(arena, by, form),
-        "safe" | "automatic" => remade::<TraitForm>(arena, by, form),
-        "inherent" => remade::<ItemImpl>(arena, by, form),
-        _ => Err(Unmade::NoRow),
-    }
-}
-
-/// An item, changed so: its form alone, or all of it without what stands before that or behind other words.
+/// The form of an item, changed so.
 pub(crate) fn changed<'a>(
+    kind: asked::Item,
     arena: &'a Arena,
     by: By<'_, 'a>,
     tree: &'a Tree<'a>,
 ) -> Result<Option<Tree<'a>>, Unmade> {
-    match by.change {
-        "plain" => plain(arena, tree),
-        "in its place" | "public" | "default" => among::changed(arena, by, tree),
-        _ => match form(tree) {
-            Some(form) => changed_form(arena, by, form),
-            None => Err(Unmade::NoRow),
-        },
+    let Some(form) = form(tree) else {
+        return Err(Unmade::NoRow);
+    };
+    match kind {
+        asked::Item::Fn => remade::<ItemFn>(arena, by, form),
+        asked::Item::Signature => remade::<Signature>(arena, by, form),
+        asked::Item::Mod => remade::<ItemMod>(arena, by, form),
+        asked::Item::Type => remade::<ItemType>(arena, by, form),
+        asked::Item::Macro => remade::<ItemMacro>(arena, by, form),
+        asked::Item::Enum => remade_always::<ItemEnum>(arena, by, form),
+        asked::Item::Trait => remade::<TraitForm>(arena, by, form),
+        asked::Item::Impl => remade::<ItemImpl>(arena, by, form),
     }
 }

@@ -1,40 +1,71 @@
 //! What is answered for a row.
 
 use crate::asked::lexed;
-use crate::made::change::{Asked, Unmade, asked_by, made};
+use crate::made::asked::{Asked, asked_by};
+use crate::made::change::{Unmade, made};
 use rows::Page;
 use stops::{Stop, refused};
 use syn::{Arena, NormalFault, ParseFault, TokenBuffer, Tree, parse_as, print, put_normal};
 
-// What is written of a tree.
-fn written<'a>(arena: &'a Arena, tree: &'a Tree<'a>) -> Result<String, Stop> {
-    let alloc = arena.alloc();
-    let mut pieces = Vec::new(alloc);
+// Puts what is written of a tree.
+fn put_written<'a>(arena: &'a Arena, tree: &Tree<'a>, page: &mut Page) -> Result<(), Stop> {
+    let mut pieces = Vec::new(page.alloc());
     match put_normal(arena, tree, &mut pieces) {
-        Ok(()) => Ok(print(alloc, pieces.as_slice())?),
+        Ok(()) => {
+            page.put_made(print(page.alloc(), pieces.as_slice()));
+            Ok(())
+        }
         Err(NormalFault::Memory) => Err(Stop::Elsewhere),
         Err(NormalFault::Separators) => Err(Stop::Changed),
     }
 }
 
-// What is said of what was made: what is written of it, in quotes, or that it is none.
-fn said<'a>(arena: &'a Arena, found: Option<Tree<'a>>) -> Result<String, Stop> {
-    let alloc = arena.alloc();
+// Puts what is said of what was made: what is written of it, in quotes, or that it is none.
+fn put_found<'a>(arena: &'a Arena, found: Option<Tree<'a>>, page: &mut Page) -> Result<(), Stop> {
     match found {
         Some(tree) => {
-            let text = written(arena, &tree)?;
-            Ok(format!(in alloc; "«{text}»")?)
+            page.put("«");
+            put_written(arena, &tree, page)?;
+            page.put("»");
         }
-        None => Ok(String::from_str(alloc, "none")?),
+        None => page.put("none"),
+    }
+    Ok(())
+}
+
+// The same of what is made of a tree, where no memory is refused any more.
+fn put_again<'a>(
+    arena: &'a Arena,
+    asked: Asked,
+    tree: &'a Tree<'a>,
+    page: &mut Page,
+) -> Result<(), Stop> {
+    match made(arena, asked, tree) {
+        Ok(found) => put_found(arena, found, page),
+        Err(Unmade::Memory) => Err(Stop::Elsewhere),
+        Err(Unmade::NoRow) => Err(Stop::Changed),
     }
 }
 
-// What is said of what is made of a tree.
-fn said_of_made<'a>(arena: &'a Arena, asked: Asked, tree: &'a Tree<'a>) -> Result<String, Stop> {
-    match made(arena, asked, tree) {
-        Ok(found) => said(arena, found),
-        Err(Unmade::Memory) => Err(Stop::Elsewhere),
-        Err(Unmade::NoRow) => Err(Stop::Changed),
+// What is written of a tree, on a page of its own.
+fn written<'a>(arena: &'a Arena, tree: &Tree<'a>) -> Result<Page, Stop> {
+    let mut page = Page::new(arena.alloc());
+    put_written(arena, tree, &mut page)?;
+    Ok(page)
+}
+
+// What is said of what is made of a tree, on a page of its own.
+fn said_of_made<'a>(arena: &'a Arena, asked: Asked, tree: &'a Tree<'a>) -> Result<Page, Stop> {
+    let mut page = Page::new(arena.alloc());
+    put_again(arena, asked, tree, &mut page)?;
+    Ok(page)
+}
+
+// Whether two pages have the same text.
+fn are_same(one: &Page, other: &Page) -> bool {
+    match (one.whole(), other.whole()) {
+        (Ok(one), Ok(other)) => one == other,
+        _ => false,
     }
 }
 
@@ -45,18 +76,26 @@ struct Arenas<'a> {
     fresh: &'a Arena,
 }
 
+// Whether what is made of a tree in either arena is the same.
+fn is_made_alike<'a>(arenas: Arenas<'a>, asked: Asked, tree: &'a Tree<'a>) -> Result<bool, Stop> {
+    let one = said_of_made(arenas.fresh, asked, tree)?;
+    let other = said_of_made(arenas.own, asked, tree)?;
+    Ok(are_same(&one, &other))
+}
+
 // Whether a tree is written as before, and what is made of it in either arena is the same.
 fn is_as_before<'a>(
     arenas: Arenas<'a>,
     asked: Asked,
     tree: &'a Tree<'a>,
-    before: &str,
+    before: &Page,
 ) -> Result<bool, Stop> {
-    if written(arenas.own, tree)?.as_str() != before {
-        return Ok(false);
+    let now = written(arenas.own, tree)?;
+    if are_same(before, &now) {
+        is_made_alike(arenas, asked, tree)
+    } else {
+        Ok(false)
     }
-    let made = said_of_made(arenas.fresh, asked, tree)?;
-    Ok(made.as_str() == said_of_made(arenas.own, asked, tree)?.as_str())
 }
 
 // Puts what is said of what is made of a tree, which is written so before. Where memory is refused, all is looked at.
@@ -64,17 +103,26 @@ fn put_made<'a>(
     arenas: Arenas<'a>,
     asked: Asked,
     tree: &'a Tree<'a>,
-    before: &str,
+    before: &Page,
     page: &mut Page,
 ) -> Result<(), Stop> {
     match made(arenas.fresh, asked, tree) {
-        Ok(found) => {
-            page.put(said(arenas.fresh, found)?.as_str());
-            Ok(())
-        }
+        Ok(found) => put_found(arenas.fresh, found, page),
         Err(Unmade::Memory) => refused(is_as_before(arenas, asked, tree, before)?),
         Err(Unmade::NoRow) => Err(Stop::Changed),
     }
+}
+
+// The same of a tree that was read, which is put into its arena.
+fn put_tree<'a>(
+    arenas: Arenas<'a>,
+    asked: Asked,
+    tree: Tree<'a>,
+    page: &mut Page,
+) -> Result<(), Stop> {
+    let tree = arenas.own.put(tree)?;
+    let before = written(arenas.own, tree)?;
+    put_made(arenas, asked, tree, &before, page)
 }
 
 // Puts what is said of what is made of the form that a buffer holds.
@@ -85,11 +133,7 @@ fn put_read<'a>(
     page: &mut Page,
 ) -> Result<(), Stop> {
     match parse_as(arenas.own, asked.kind, buffer) {
-        Ok(tree) => {
-            let tree = arenas.own.put(tree)?;
-            let before = written(arenas.own, tree)?;
-            put_made(arenas, asked, tree, before.as_str(), page)
-        }
+        Ok(tree) => put_tree(arenas, asked, tree, page),
         Err(ParseFault::Memory) => Err(Stop::Elsewhere),
         Err(ParseFault::Syntax(_)) => Err(Stop::Changed),
     }

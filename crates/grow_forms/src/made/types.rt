@@ -1,6 +1,6 @@
 //! Changes of types, paths and bounds.
 
-use crate::made::change::{By, Change, Unmade, mark, remade, remade_always, some_of};
+use crate::made::change::{By, Change, Unmade, mark, some_of, tried};
 use syn::{
     Arena, Marked, OneSegment, Path, Plus, Segments, Sign, SomeBounds, Style, TraitBound,
     TraitBoundModifier, Tree, Type, TypeBounds, TypeImplTrait, TypeParamBound, TypePath,
@@ -9,15 +9,12 @@ use syn::{
 use syn_made::ast::whole::{a_type, path_type};
 
 // The style that a change names.
-fn style_of(change: &str) -> Option<Style> {
+fn style_of(change: &str) -> Style {
     match change {
-        "of types" | "as a type" | "where a type stands" => Some(Style::AtType),
-        "of expressions" | "of an expression as a type" | "in an expression" => {
-            Some(Style::InExpression)
-        }
-        "before a type" => Some(Style::InType),
-        "in a module" | "of a module" => Some(Style::InModule),
-        _ => None,
+        "of expressions" | "of an expression as a type" | "in an expression" => Style::InExpression,
+        "before a type" => Style::InType,
+        "in a module" | "of a module" => Style::InModule,
+        _ => Style::AtType,
     }
 }
 
@@ -29,62 +26,64 @@ fn only<'t, 'a>(bounds: TypeBounds<'t, 'a>) -> Option<&'t Tree<'a>> {
     }
 }
 
-// The bounds of `dyn` or `impl` as they are (`without plus`), or as one (`single`).
-fn bounds<'t, 'a>(change: &str, bounds: TypeBounds<'t, 'a>) -> Option<TypeBounds<'t, 'a>> {
+// The bounds of `dyn` or `impl` as they are, or as one if that is asked for and they are one.
+fn bounds<'t, 'a>(change: &str, bounds: TypeBounds<'t, 'a>) -> TypeBounds<'t, 'a> {
     match (change, only(bounds)) {
-        ("without plus", _) => Some(bounds),
-        ("single", Some(bound)) => Some(TypeBounds::One(bound)),
+        ("single", Some(bound)) => TypeBounds::One(bound),
+        _ => bounds,
+    }
+}
+
+// A type by its form: a reference without its `mut`, a tuple of some of its elements, a path of another style, `dyn` and
+// `impl` for where no `+` may stand.
+fn changed_form<'t, 'a>(change: &str, form: Type<'t, 'a>) -> Option<Type<'t, 'a>> {
+    match form {
+        Type::Reference(found) => Some(Type::Reference(TypeReference {
+            mutability: None,
+            ..found
+        })),
+        Type::Tuple(found) => Some(Type::Tuple(TypeTuple {
+            elems: some_of(change, found.elems),
+            ..found
+        })),
+        Type::Path(found) => Some(Type::Path(TypePath {
+            style: style_of(change),
+            ..found
+        })),
+        Type::TraitObject(found) => Some(Type::TraitObject(TypeTraitObject {
+            plus: Plus::WithoutPlus,
+            bounds: bounds(change, found.bounds),
+            ..found
+        })),
+        Type::ImplTrait(found) => Some(Type::ImplTrait(TypeImplTrait {
+            plus: Plus::WithoutPlus,
+            bounds: bounds(change, found.bounds),
+            ..found
+        })),
         _ => None,
     }
 }
 
-// A type: a reference without its `mut`, a tuple of some of its elements, a path of another style, `dyn` and `impl` for
-// where no `+` may stand; or as it is.
+// A type by its form, or as it is.
 impl<'a> Change<'a> for Type<'a, 'a> {
     fn changed(by: By<'_, 'a>, tree: &'a Tree<'a>) -> Option<Type<'a, 'a>> {
-        let change = by.change;
-        let plus = Plus::WithoutPlus;
-        match Type::of(tree)? {
-            found if change == "elsewhere" => Some(found),
-            Type::Reference(found) if change == "shared" => Some(Type::Reference(TypeReference {
-                mutability: None,
-                ..found
-            })),
-            Type::Tuple(found) => Some(Type::Tuple(TypeTuple {
-                elems: some_of(change, found.elems)?,
-                ..found
-            })),
-            Type::Path(found) => Some(Type::Path(TypePath {
-                style: style_of(change)?,
-                ..found
-            })),
-            Type::TraitObject(found) => Some(Type::TraitObject(TypeTraitObject {
-                plus,
-                bounds: bounds(change, found.bounds)?,
-                ..found
-            })),
-            Type::ImplTrait(found) => Some(Type::ImplTrait(TypeImplTrait {
-                plus,
-                bounds: bounds(change, found.bounds)?,
-                ..found
-            })),
-            _ => None,
+        let found = Type::of(tree)?;
+        match by.change {
+            "elsewhere" => Some(found),
+            change => changed_form(change, found),
         }
     }
 }
 
-// A type, changed so.
-fn put_type<'a>(
+/// A type, changed so, where a `+` may stand or may not.
+pub(crate) fn put_type<'a>(
     arena: &'a Arena,
+    plus: Plus,
     by: By<'_, 'a>,
     tree: &'a Tree<'a>,
 ) -> Result<Option<Tree<'a>>, Unmade> {
-    let plus = match by.change {
-        "elsewhere" | "without plus" | "single" => Plus::WithoutPlus,
-        _ => Plus::WithPlus,
-    };
     match Type::changed(by, tree) {
-        Some(form) => Ok(a_type(arena, plus, &form)?),
+        Some(form) => tried(a_type(arena, plus, &form)),
         None => Err(Unmade::NoRow),
     }
 }
@@ -93,27 +92,27 @@ fn put_type<'a>(
 impl<'a> Change<'a> for Path<'a, 'a> {
     fn changed(by: By<'_, 'a>, tree: &'a Tree<'a>) -> Option<Path<'a, 'a>> {
         let found = Path::of(tree)?;
-        match by.change {
-            "global" => Some(Path {
+        Some(match by.change {
+            "global" => Path {
                 leading_colon: Some(mark(Sign::PathSep)),
                 ..found
-            }),
-            _ => Some(Path {
-                style: style_of(by.change)?,
+            },
+            change => Path {
+                style: style_of(change),
                 ..found
-            }),
-        }
+            },
+        })
     }
 }
 
-// A path of another style, as a type.
-fn as_type<'a>(
+/// A path of another style, as a type.
+pub(crate) fn put_path<'a>(
     arena: &'a Arena,
     by: By<'_, 'a>,
     tree: &'a Tree<'a>,
 ) -> Result<Option<Tree<'a>>, Unmade> {
     match Path::changed(by, tree) {
-        Some(path) => Ok(path_type(arena, Plus::WithPlus, &path)?),
+        Some(path) => tried(path_type(arena, Plus::WithPlus, &path)),
         None => Err(Unmade::NoRow),
     }
 }
@@ -123,23 +122,23 @@ impl<'a> Change<'a> for Segments<'a, 'a> {
     fn changed(by: By<'_, 'a>, tree: &'a Tree<'a>) -> Option<Segments<'a, 'a>> {
         let path = Path::of(tree)?;
         let found = Segments::of(path.segments)?;
-        match by.change {
-            "doubled" => Some(Segments {
+        Some(match by.change {
+            "doubled" => Segments {
                 others: Some(Marked {
                     mark: mark(Sign::PathSep),
                     node: path.segments,
                 }),
                 ..found
-            }),
-            "led by a keyword" => Some(Segments {
+            },
+            "led by a keyword" => Segments {
                 is_keyword: true,
                 ..found
-            }),
-            _ => Some(Segments {
-                style: style_of(by.change)?,
+            },
+            change => Segments {
+                style: style_of(change),
                 ..found
-            }),
-        }
+            },
+        })
     }
 }
 
@@ -147,16 +146,16 @@ impl<'a> Change<'a> for Segments<'a, 'a> {
 impl<'a> Change<'a> for OneSegment<'a, 'a> {
     fn changed(by: By<'_, 'a>, tree: &'a Tree<'a>) -> Option<OneSegment<'a, 'a>> {
         let found = OneSegment::of(tree)?;
-        match by.change {
-            "as a keyword" => Some(OneSegment {
+        Some(match by.change {
+            "as a keyword" => OneSegment {
                 is_keyword: true,
                 ..found
-            }),
-            _ => Some(OneSegment {
-                style: style_of(by.change)?,
+            },
+            change => OneSegment {
+                style: style_of(change),
                 ..found
-            }),
-        }
+            },
+        })
     }
 }
 
@@ -169,26 +168,5 @@ impl<'a> Change<'a> for TraitBound<'a, 'a> {
         let found = TraitBound::of(path)?;
         let modifier = TraitBoundModifier::Maybe(mark(Sign::Question));
         Some(TraitBound { modifier, ..found })
-    }
-}
-
-/// A type, a path, a segment or a bound, changed so.
-pub(crate) fn changed<'a>(
-    arena: &'a Arena,
-    by: By<'_, 'a>,
-    tree: &'a Tree<'a>,
-) -> Result<Option<Tree<'a>>, Unmade> {
-    match by.change {
-        "as a type" | "of an expression as a type" => as_type(arena, by, tree),
-        "global" => remade_always::<Path>(arena, by, tree),
-        "doubled"
-        | "led by a keyword"
-        | "where a type stands"
-        | "before a type"
-        | "in an expression"
-        | "in a module" => remade::<Segments>(arena, by, tree),
-        "as a keyword" | "of a module" => remade::<OneSegment>(arena, by, tree),
-        "maybe" => remade::<TraitBound>(arena, by, tree),
-        _ => put_type(arena, by, tree),
     }
 }
