@@ -11,7 +11,7 @@ use syn::{Arena, Element, Form, Kind, Tree};
 #[derive(Clone, Copy)]
 pub(crate) enum Change<'o, 'a> {
     /// A hole becomes the operand of its number.
-    Fill(&'o [Tree<'a>]),
+    Fill(&'o Vec<Tree<'a>>),
     /// An expression in parentheses becomes that expression, and each mark stands alone.
     Strip,
 }
@@ -174,15 +174,13 @@ fn anew<'a>(tree: &Tree<'a>, by: &mut Maker<'_, 'a>) -> Tree<'a> {
 #[cycle(changed)]
 fn made_anew<'a>(tree: &Tree<'a>, by: &mut Maker<'_, 'a>) -> Tree<'a> {
     match &tree.form {
-        Form::First(_, inner) | Form::Second(_, inner) | Form::Dropped(inner) => {
-            let inner = anew(inner, by);
-            by.around(tree, inner)
-        }
-        Form::Called(_, inner) | Form::Verbatim(inner) | Form::Node(_, inner) => {
-            let inner = anew(inner, by);
-            by.around(tree, inner)
-        }
-        Form::Whole(inner) => {
+        Form::First(_, inner)
+        | Form::Second(_, inner)
+        | Form::Dropped(inner)
+        | Form::Called(_, inner)
+        | Form::Verbatim(inner)
+        | Form::Node(_, inner)
+        | Form::Whole(inner) => {
             let inner = anew(inner, by);
             by.around(tree, inner)
         }

@@ -5,14 +5,14 @@ use crate::built::change::{Change, changed};
 use rows::Unanswered;
 use syn::{Arena, Position, TokenBuffer, Tree};
 
-// The form of the expression that a buffer is, with operands in the place of its holes.
+// The form of the expression that a buffer is, with its holes filled.
 fn filled<'a>(
     arena: &'a Arena,
     buffer: &'a TokenBuffer<'_>,
-    operands: &[Tree<'a>],
+    filling: Change<'_, 'a>,
 ) -> Result<Tree<'a>, Unanswered> {
     match whole(arena, Position::Plain, buffer)? {
-        Some(tree) => changed(arena, form_of(&tree)?, Change::Fill(operands)),
+        Some(tree) => changed(arena, form_of(&tree)?, filling),
         None => Err(Unanswered::NoRow),
     }
 }
@@ -23,7 +23,7 @@ fn keep_form<'a>(
     buffer: &'a TokenBuffer<'_>,
     operands: &mut Vec<Tree<'a>>,
 ) -> Result<(), Unanswered> {
-    let form = filled(arena, buffer, operands.as_slice())?;
+    let form = filled(arena, buffer, Change::Fill(operands))?;
     Ok(operands.push(form)?)
 }
 
