@@ -45,12 +45,26 @@ impl Table for Rows {
 // Puts what is said of the form that a text begins with, or that it is refused.
 fn put_form(kind: Kind, text: &str, page: &mut Page) -> Result<(), Unanswered> {
     let mut written = Page::new(page.alloc());
-    match read(kind, text, Part::Written, &mut written)? {
-        Found::Nothing => page.put("refused"),
-        Found::Front => return put_front(kind, text, written.whole()?, page),
-        Found::All => return put_all(kind, text, written.whole()?, page),
+    let found = read(kind, text, Part::Written, &mut written)?;
+    put_found(found, kind, text, written.whole()?, page)
+}
+
+// The same of a form that was found, and is written so.
+fn put_found(
+    found: Found,
+    kind: Kind,
+    text: &str,
+    written: &str,
+    page: &mut Page,
+) -> Result<(), Unanswered> {
+    match found {
+        Found::Nothing => {
+            page.put("refused");
+            Ok(())
+        }
+        Found::Front => put_front(kind, text, written, page),
+        Found::All => put_all(kind, text, written, page),
     }
-    Ok(())
 }
 
 // Puts the print of a form, and what is left behind it.
@@ -94,12 +108,17 @@ fn is_written(alloc: Global, kind: Kind, text: &str, written: &str) -> Result<bo
     }
 }
 
+// Puts what is answered for the table of forms, and for the rows.
+fn put_answers(lines: &str, page: &mut Page) -> Result<(), Unanswered> {
+    put_again(lines, page)?;
+    built::tables::put(page)?;
+    page.put("\n");
+    answer_lines(&Rows, lines, page)
+}
+
 fn main(rt: HostRuntime) -> Result<(), Unanswered> {
     let lines = asked(&rt)?;
     let mut page = Page::new(rt.alloc());
-    put_again(lines.as_str(), &mut page)?;
-    built::tables::put(&mut page)?;
-    page.put("\n");
-    answer_lines(&Rows, lines.as_str(), &mut page)?;
+    put_answers(lines.as_str(), &mut page)?;
     told(&rt, &page)
 }

@@ -1,10 +1,9 @@
 //! Rows whose form is that of the row above.
 
 use crate::kinds::kind_of;
-use crate::reading::{buffers, lexed, unread};
+use crate::reading::{buffers, front, lexed};
 use rows::{Page, Unanswered, parts, read};
 use std::alloc::Global;
-use syn::parse::parse_front;
 use syn::{Arena, Kind, TokenBuffer, TokenStream, Tree, equal};
 
 /// Puts the rows that begin with the same form as the row above, one below the other, between a heading and an empty
@@ -41,18 +40,16 @@ fn streams(alloc: Global, texts: &[&str]) -> Result<Vec<TokenStream>, Unanswered
     Ok(all)
 }
 
-// What a buffer begins with as a form of the kind, if it does.
-fn front<'a>(
+// A buffer begins with that form of the kind.
+fn begins_so<'a>(
     arena: &'a Arena,
     kind: Kind,
+    tree: &Tree<'a>,
     buffer: &'a TokenBuffer<'_>,
-) -> Result<Option<Tree<'a>>, Unanswered> {
-    match parse_front(arena, kind, buffer) {
-        Ok((tree, _)) => Ok(Some(tree)),
-        Err(fault) => {
-            unread(fault)?;
-            Ok(None)
-        }
+) -> Result<bool, Unanswered> {
+    match front(arena, kind, buffer)? {
+        Some((other, _)) => Ok(equal(tree, &other)),
+        None => Ok(false),
     }
 }
 
@@ -60,25 +57,26 @@ fn front<'a>(
 fn begin_alike<'a>(
     arena: &'a Arena,
     kind: Kind,
-    buffers: &'a [TokenBuffer<'_>],
+    one: &'a TokenBuffer<'_>,
+    other: &'a TokenBuffer<'_>,
 ) -> Result<bool, Unanswered> {
-    let [one, other] = buffers else {
-        return Ok(false);
-    };
-    match (front(arena, kind, one)?, front(arena, kind, other)?) {
-        (Some(one), Some(other)) => Ok(equal(&one, &other)),
-        _ => Ok(false),
+    match front(arena, kind, one)? {
+        Some((tree, _)) => begins_so(arena, kind, &tree, other),
+        None => Ok(false),
     }
 }
 
-// The same with an arena of its own.
+// The same of buffers that are two, with an arena of its own.
 fn buffers_begin_alike(
     alloc: Global,
     kind: Kind,
     buffers: &[TokenBuffer<'_>],
 ) -> Result<bool, Unanswered> {
+    let [one, other] = buffers else {
+        return Ok(false);
+    };
     let arena = Arena::new(alloc);
-    begin_alike(&arena, kind, buffers)
+    begin_alike(&arena, kind, one, other)
 }
 
 // Two texts begin with the same form of the kind.
@@ -88,19 +86,32 @@ fn texts_begin_alike(alloc: Global, kind: Kind, texts: &[&str]) -> Result<bool, 
     buffers_begin_alike(alloc, kind, buffers.as_slice())
 }
 
+// Two texts begin with the same form of the kind that a row names, if it names one.
+fn texts_of_call_begin_alike(
+    alloc: Global,
+    call: &str,
+    texts: &[&str],
+) -> Result<bool, Unanswered> {
+    match kind_of(call) {
+        Some(kind) => texts_begin_alike(alloc, kind, texts),
+        None => Ok(false),
+    }
+}
+
+// A row of that call begins with the same form as a text.
+fn row_begins_alike(alloc: Global, call: &str, text: &str, row: &str) -> Result<bool, Unanswered> {
+    match parts(row)? {
+        Some((other_call, other)) if other_call == call => {
+            texts_of_call_begin_alike(alloc, call, &[text, other])
+        }
+        _ => Ok(false),
+    }
+}
+
 // Two rows begin with the same form, if they name a kind.
 fn rows_begin_alike(alloc: Global, one: &str, other: &str) -> Result<bool, Unanswered> {
-    let Some((call, written)) = parts(one)? else {
-        return Ok(false);
-    };
-    let Some((second_call, second_written)) = parts(other)? else {
-        return Ok(false);
-    };
-    if call != second_call {
-        return Ok(false);
-    }
-    match kind_of(call) {
-        Some(kind) => texts_begin_alike(alloc, kind, &[written, second_written]),
+    match parts(one)? {
+        Some((call, text)) => row_begins_alike(alloc, call, text, other),
         None => Ok(false),
     }
 }

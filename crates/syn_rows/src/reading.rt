@@ -51,11 +51,16 @@ pub(crate) fn buffers<'a>(
     Ok(all)
 }
 
-/// An error if a fault is want of memory, and none if it says that tokens begin with no such form.
-pub(crate) fn unread(fault: ParseFault) -> Result<(), Unanswered> {
-    match fault {
-        ParseFault::Syntax(_) => Ok(()),
-        ParseFault::Memory => Err(Unanswered::Cut),
+/// The form of a kind that a buffer begins with, and what is left behind it; none if it begins with no such form.
+pub(crate) fn front<'a>(
+    arena: &'a Arena,
+    kind: Kind,
+    buffer: &'a TokenBuffer<'a>,
+) -> Result<Option<(Tree<'a>, &'a [Entry<'a>])>, Unanswered> {
+    match parse_front(arena, kind, buffer) {
+        Ok(found) => Ok(Some(found)),
+        Err(ParseFault::Syntax(_)) => Ok(None),
+        Err(ParseFault::Memory) => Err(Unanswered::Cut),
     }
 }
 
@@ -125,6 +130,22 @@ fn put_part<'a>(
     }
 }
 
+// Puts what is asked of a form. Whether it is all of the text.
+fn put_found<'a>(
+    arena: &'a Arena,
+    part: Part,
+    tree: &Tree<'a>,
+    left: &[Entry<'_>],
+    page: &mut Page,
+) -> Result<Found, Unanswered> {
+    put_part(arena, part, tree, left, page)?;
+    Ok(if left.is_empty() {
+        Found::All
+    } else {
+        Found::Front
+    })
+}
+
 // Puts what is asked of the form that a buffer begins with, with trees in an arena.
 fn read_in<'a>(
     arena: &'a Arena,
@@ -133,19 +154,9 @@ fn read_in<'a>(
     part: Part,
     page: &mut Page,
 ) -> Result<Found, Unanswered> {
-    match parse_front(arena, kind, buffer) {
-        Ok((tree, left)) => {
-            put_part(arena, part, &tree, left, page)?;
-            Ok(if left.is_empty() {
-                Found::All
-            } else {
-                Found::Front
-            })
-        }
-        Err(fault) => {
-            unread(fault)?;
-            Ok(Found::Nothing)
-        }
+    match front(arena, kind, buffer)? {
+        Some((tree, left)) => put_found(arena, part, &tree, left, page),
+        None => Ok(Found::Nothing),
     }
 }
 

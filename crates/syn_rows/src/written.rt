@@ -41,6 +41,11 @@ pub(crate) fn put_print(writing: Writing, tree: &Tree<'_>, page: &mut Page) {
     }
 }
 
+/// Whether a page has that text.
+pub(crate) fn is_text(page: &Page, wanted: &str) -> Result<bool, Unanswered> {
+    Ok(page.whole()? == wanted)
+}
+
 /// Whether that is the print of a tree.
 pub(crate) fn is_print(
     alloc: Global,
@@ -50,5 +55,5 @@ pub(crate) fn is_print(
 ) -> Result<bool, Unanswered> {
     let mut page = Page::new(alloc);
     put_print(writing, tree, &mut page);
-    Ok(page.whole()? == wanted)
+    is_text(&page, wanted)
 }

@@ -2,11 +2,11 @@
 
 use crate::built::shape::put_shape;
 use crate::built::text::{may_shelter, opened, stream};
-use crate::written::{Writing, is_print, put_print};
+use crate::reading::front;
+use crate::written::{Writing, is_print, is_text, put_print};
 use rows::{Page, Unanswered};
 use std::alloc::Global;
-use syn::parse::parse_front;
-use syn::{Arena, Kind, ParseFault, Position, TokenBuffer, TokenStream, Tree};
+use syn::{Arena, Kind, Position, TokenBuffer, TokenStream, Tree};
 
 /// What is asked of what is read of a text.
 #[derive(Clone, Copy)]
@@ -60,62 +60,77 @@ fn placed(alloc: Global, position: Position, text: &str) -> Result<TokenStream, 
     stream(alloc, whole.whole()?)
 }
 
-// What is read of a buffer in a position, if all but what stands behind a whole expression is.
-fn whole<'a>(
+/// What is read of a buffer in a position, if all but what stands behind a whole expression is.
+pub(crate) fn whole<'a>(
     arena: &'a Arena,
     position: Position,
     buffer: &'a TokenBuffer<'a>,
 ) -> Result<Option<Tree<'a>>, Unanswered> {
     let left = if behind(position).is_empty() { 0 } else { 2 };
-    match parse_front(arena, Kind::Expression(position), buffer) {
-        Ok((tree, rest)) if rest.len() == left => Ok(Some(tree)),
-        Ok(_) | Err(ParseFault::Syntax(_)) => Ok(None),
-        Err(ParseFault::Memory) => Err(Unanswered::Cut),
+    match front(arena, Kind::Expression(position), buffer)? {
+        Some((tree, rest)) if rest.len() == left => Ok(Some(tree)),
+        _ => Ok(None),
     }
 }
 
 /// The form of an expression.
 pub(crate) fn form_of<'t, 'a>(tree: &'t Tree<'a>) -> Result<&'t Tree<'a>, Unanswered> {
-    let (_, inner) = tree.node().ok_or(Unanswered::NoRow)?;
-    inner.whole().ok_or(Unanswered::NoRow)
+    match tree.node() {
+        Some((_, inner)) => inner.whole().ok_or(Unanswered::NoRow),
+        None => Err(Unanswered::NoRow),
+    }
 }
 
 // Whether a form has that shape.
 fn is_shaped<'a>(arena: &'a Arena, form: &Tree<'a>, wanted: &str) -> Result<bool, Unanswered> {
     let mut shape = Page::new(arena.alloc());
-    put_shape(arena, form, &mut shape)?;
-    Ok(shape.whole()? == wanted)
+    put_shape(arena, form, &mut shape);
+    is_text(&shape, wanted)
 }
 
 // Whether what was read is written as the text that was read: as one writes what was read, and as what was built.
-fn is_written_so(alloc: Global, asked: Asked<'_>, tree: &Tree<'_>) -> Result<bool, Unanswered> {
-    let built = Writing::Built(asked.position);
-    let is_read_so = is_print(alloc, Writing::Read, tree, asked.text)?;
-    Ok(is_read_so && is_print(alloc, built, form_of(tree)?, asked.text)?)
+fn is_written_so(
+    alloc: Global,
+    asked: Asked<'_>,
+    tree: &Tree<'_>,
+    form: &Tree<'_>,
+) -> Result<bool, Unanswered> {
+    if is_print(alloc, Writing::Read, tree, asked.text)? {
+        is_print(alloc, Writing::Built(asked.position), form, asked.text)
+    } else {
+        Ok(false)
+    }
 }
 
 // Whether what was read and is printed so has as many parentheses as its text, and is written so as what was built.
 fn is_kept_as(
     alloc: Global,
     asked: Asked<'_>,
-    tree: &Tree<'_>,
+    form: &Tree<'_>,
     printed: &str,
 ) -> Result<bool, Unanswered> {
-    let stays = may_shelter(asked.text) || opened(printed) == opened(asked.text);
-    let built = Writing::Built(asked.position);
-    Ok(stays && is_print(alloc, built, form_of(tree)?, printed)?)
+    if may_shelter(asked.text) || opened(printed) == opened(asked.text) {
+        is_print(alloc, Writing::Built(asked.position), form, printed)
+    } else {
+        Ok(false)
+    }
 }
 
 // Whether what was read gains no parentheses.
-fn is_kept(alloc: Global, asked: Asked<'_>, tree: &Tree<'_>) -> Result<bool, Unanswered> {
+fn is_kept(
+    alloc: Global,
+    asked: Asked<'_>,
+    tree: &Tree<'_>,
+    form: &Tree<'_>,
+) -> Result<bool, Unanswered> {
     let mut printed = Page::new(alloc);
     put_print(Writing::Read, tree, &mut printed);
-    is_kept_as(alloc, asked, tree, printed.whole()?)
+    is_kept_as(alloc, asked, form, printed.whole()?)
 }
 
 // What is found of a text that is as it should be, or else that.
-fn right_or(wrong: Again, is_right: bool) -> Again {
-    if is_right { Again::Right } else { wrong }
+fn right_or(wrong: Again, is_right: Result<bool, Unanswered>) -> Result<Again, Unanswered> {
+    Ok(if is_right? { Again::Right } else { wrong })
 }
 
 // What is found of a text that should be read with that shape, and be written as it is.
@@ -124,25 +139,29 @@ fn found_itself<'a>(
     asked: Asked<'_>,
     shape: &str,
     tree: &Tree<'a>,
+    form: &Tree<'a>,
 ) -> Result<Again, Unanswered> {
-    if !is_shaped(arena, form_of(tree)?, shape)? {
-        return Ok(Again::Another);
+    if is_shaped(arena, form, shape)? {
+        let is_right = is_written_so(arena.alloc(), asked, tree, form);
+        right_or(Again::Otherwise, is_right)
+    } else {
+        Ok(Again::Another)
     }
-    let is_right = is_written_so(arena.alloc(), asked, tree)?;
-    Ok(right_or(Again::Otherwise, is_right))
 }
 
-// What is found of a text that is read as a tree.
-fn found_of<'a>(arena: &'a Arena, asked: Asked<'_>, tree: &Tree<'a>) -> Result<Again, Unanswered> {
+// What is found of a text that is read as a tree of that form.
+fn found_of<'a>(
+    arena: &'a Arena,
+    asked: Asked<'_>,
+    tree: &Tree<'a>,
+    form: &Tree<'a>,
+) -> Result<Again, Unanswered> {
     match asked.question {
-        Question::IsShaped(shape) => {
-            let is_right = is_shaped(arena, form_of(tree)?, shape)?;
-            Ok(right_or(Again::Another, is_right))
-        }
-        Question::IsItself(shape) => found_itself(arena, asked, shape, tree),
+        Question::IsShaped(shape) => right_or(Again::Another, is_shaped(arena, form, shape)),
+        Question::IsItself(shape) => found_itself(arena, asked, shape, tree, form),
         Question::IsKept => {
-            let is_right = is_kept(arena.alloc(), asked, tree)?;
-            Ok(right_or(Again::Otherwise, is_right))
+            let is_right = is_kept(arena.alloc(), asked, tree, form);
+            right_or(Again::Otherwise, is_right)
         }
     }
 }
@@ -154,7 +173,7 @@ fn found_in<'a>(
     buffer: &'a TokenBuffer<'a>,
 ) -> Result<Again, Unanswered> {
     match whole(arena, asked.position, buffer)? {
-        Some(tree) => found_of(arena, asked, &tree),
+        Some(tree) => found_of(arena, asked, &tree, form_of(&tree)?),
         None => Ok(Again::Unread),
     }
 }

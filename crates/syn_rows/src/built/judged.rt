@@ -59,6 +59,18 @@ fn put_without(text: &str, number: usize, page: &mut Page) -> bool {
     before >= number
 }
 
+// Whether a text is read as the same expression.
+fn is_same(alloc: Global, placed: Placed<'_>, text: &str) -> Result<bool, Unanswered> {
+    let position = placed.position;
+    let question = Question::IsShaped(placed.shape);
+    let asked = Asked {
+        position,
+        text,
+        question,
+    };
+    Ok(matches!(read_again(alloc, asked)?, Again::Right))
+}
+
 // Whether those parentheses of a print can be left out, with the same expression read.
 fn is_spare(
     alloc: Global,
@@ -70,14 +82,7 @@ fn is_spare(
     if !put_without(print, number, &mut less) {
         return Ok(false);
     }
-    let text = less.whole()?;
-    let question = Question::IsShaped(placed.shape);
-    let asked = Asked {
-        position: placed.position,
-        text,
-        question,
-    };
-    Ok(matches!(read_again(alloc, asked)?, Again::Right))
+    is_same(alloc, placed, less.whole()?)
 }
 
 // How many parentheses of a print can be left out, each by itself, with the same expression read: of those that stand
@@ -103,10 +108,15 @@ fn spare_fault(
     placed: Placed<'_>,
     print: &str,
 ) -> Result<Option<&'static str>, Unanswered> {
-    if may_shelter(print) || spare(alloc, placed, print)? <= own_parentheses(placed.text) {
+    if may_shelter(print) {
         return Ok(None);
     }
-    Ok(Some("with parentheses that it doesn't need"))
+    let is_needed = spare(alloc, placed, print)? <= own_parentheses(placed.text);
+    Ok(if is_needed {
+        None
+    } else {
+        Some("with parentheses that it doesn't need")
+    })
 }
 
 // What is wrong with a print.
@@ -153,6 +163,22 @@ fn put_right(
     Ok(put_both(print, written.whole()?, page))
 }
 
+// Puts what is wrong with the print of the normal form of a tree, or the print. Whether it is right.
+fn put_verdict(
+    placed: Placed<'_>,
+    tree: &Tree<'_>,
+    print: &str,
+    page: &mut Page,
+) -> Result<bool, Unanswered> {
+    match fault(page.alloc(), placed, print)? {
+        Some(what) => {
+            write!(page, "{what}: {print}");
+            Ok(false)
+        }
+        None => put_right(placed, tree, print, page),
+    }
+}
+
 // Puts what is found of the print of the normal form of a tree.
 fn put_found(
     placed: Placed<'_>,
@@ -160,31 +186,26 @@ fn put_found(
     print: &str,
     page: &mut Page,
 ) -> Result<Finding, Unanswered> {
-    let is_right = match fault(page.alloc(), placed, print)? {
-        Some(what) => {
-            write!(page, "{what}: {print}");
-            false
-        }
-        None => put_right(placed, tree, print, page)?,
-    };
+    let is_right = put_verdict(placed, tree, print, page)?;
     let gains = opened(print) > opened(placed.text);
     let gaining = if gains { 1 } else { 0 };
     Ok(Finding { gaining, is_right })
 }
 
-// Puts the print of the normal form of a tree, which is made as a tree.
-fn put_normal<'a>(
-    arena: &'a Arena,
-    position: Position,
-    tree: &Tree<'a>,
-    page: &mut Page,
-) -> Result<(), Unanswered> {
-    let whole = made::whole(arena, tree.copy())?;
-    match normal_in(arena, position, &whole) {
+// Puts the print of the normal form of an expression, which is made as a tree.
+fn put_normal_of<'a>(arena: &'a Arena, position: Position, whole: &Tree<'a>, page: &mut Page) {
+    match normal_in(arena, position, whole) {
         Ok(normal) => put_print(Writing::Plain, &normal, page),
-        Err(_) => return Err(Unanswered::NoRow),
+        Err(_) => page.cut(),
     }
-    Ok(())
+}
+
+// The same of the expression of a form.
+fn put_normal<'a>(arena: &'a Arena, position: Position, tree: &Tree<'a>, page: &mut Page) {
+    match made::whole(arena, tree.copy()) {
+        Ok(whole) => put_normal_of(arena, position, &whole, page),
+        Err(_) => page.cut(),
+    }
 }
 
 // Puts what is found of a tree in one position.
@@ -195,7 +216,7 @@ fn put_placed<'a>(
     page: &mut Page,
 ) -> Result<Finding, Unanswered> {
     let mut print = Page::new(arena.alloc());
-    put_normal(arena, placed.position, tree, &mut print)?;
+    put_normal(arena, placed.position, tree, &mut print);
     put_found(placed, tree, print.whole()?, page)
 }
 
@@ -232,7 +253,7 @@ fn put_tree<'a>(
     page: &mut Page,
 ) -> Result<Finding, Unanswered> {
     let mut shape = Page::new(arena.alloc());
-    put_shape(arena, tree, &mut shape)?;
+    put_shape(arena, tree, &mut shape);
     put_each(arena, case, shape.whole()?, tree, page)
 }
 

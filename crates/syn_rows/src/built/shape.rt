@@ -2,7 +2,7 @@
 
 use crate::built::change::{Change, changed};
 use crate::written::{Writing, put_print};
-use rows::{Page, Unanswered};
+use rows::Page;
 use syn::{Arena, Form, Tree, put_nodes};
 
 // Where the operands of a form stand. None of what is no form of an expression.
@@ -38,12 +38,9 @@ fn put_forms(tree: &Tree<'_>, page: &mut Page) {
 
 /// Puts the forms in a tree, own parts included, each before those that stand in it: a line for each, with where its
 /// operands stand and with its tokens, without parentheses round any.
-pub(crate) fn put_shape<'a>(
-    arena: &'a Arena,
-    tree: &Tree<'a>,
-    page: &mut Page,
-) -> Result<(), Unanswered> {
-    let bare = changed(arena, tree, &mut Change::Strip)?;
-    put_forms(&bare, page);
-    Ok(())
+pub(crate) fn put_shape<'a>(arena: &'a Arena, tree: &Tree<'a>, page: &mut Page) {
+    match changed(arena, tree, Change::Strip) {
+        Ok(bare) => put_forms(&bare, page),
+        Err(_) => page.cut(),
+    }
 }

@@ -155,6 +155,19 @@ impl Tally {
         Ok(())
     }
 
+    // One tree more, or one text more.
+    fn put_counted(
+        &mut self,
+        counted: Counted,
+        text: &str,
+        page: &mut Page,
+    ) -> Result<(), Unanswered> {
+        match counted {
+            Counted::Tree => self.put_tree(text, page),
+            Counted::Text => self.put_text(text, page),
+        }
+    }
+
     // A form with an operand.
     fn put_one(
         &mut self,
@@ -165,10 +178,7 @@ impl Tally {
     ) -> Result<(), Unanswered> {
         let mut text = Page::new(page.alloc());
         put_with(form, operand, &mut text);
-        match counted {
-            Counted::Tree => self.put_tree(text.whole()?, page),
-            Counted::Text => self.put_text(text.whole()?, page),
-        }
+        self.put_counted(counted, text.whole()?, page)
     }
 
     // A form with each of the operands, which stand in lines.
@@ -185,6 +195,18 @@ impl Tally {
             }
         }
         Ok(())
+    }
+
+    // A form with each of the operands, put there by hand.
+    fn put_by_hand(
+        &mut self,
+        form: &str,
+        operands: &str,
+        page: &mut Page,
+    ) -> Result<(), Unanswered> {
+        let mut by_hand = Page::new(page.alloc());
+        put_with(form, "‹@›", &mut by_hand);
+        self.put_each(Counted::Tree, by_hand.whole()?, operands, page)
     }
 
     // The same with what is found of others.
@@ -278,10 +300,8 @@ fn paged(alloc: Global, list: List) -> Page {
 
 // Counts a form with each of the operands, as trees, and as texts too where there are two depths.
 fn count(table: Table, form: &str, operands: &str, page: &mut Page) -> Result<Tally, Unanswered> {
-    let mut by_hand = Page::new(page.alloc());
-    put_with(form, "‹@›", &mut by_hand);
     let mut found = NOTHING;
-    found.put_each(Counted::Tree, by_hand.whole()?, operands, page)?;
+    found.put_by_hand(form, operands, page)?;
     if !table.is_deep {
         found.put_each(Counted::Text, form, operands, page)?;
     }

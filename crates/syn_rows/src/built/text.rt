@@ -22,9 +22,9 @@ fn operand_count(whole: &str) -> Option<usize> {
 }
 
 // Puts one of the texts of an expression, by its number: 0 is the outermost, and each operand that stands between `‹`
-// and `›` is the next. In the place of an operand a text has the word `hole` with the number of the text that stands
-// there.
-fn put_text(whole: &str, number: usize, page: &mut Page) {
+// and `›` is the next. In the place of an operand a text has the word `hole` with how many operands stand behind that
+// one, of so many in all.
+fn put_text(whole: &str, number: usize, operands: usize, page: &mut Page) {
     let mut count = 0usize;
     let mut depth = if number == 0 { 1usize } else { 0usize };
     for c in whole.chars() {
@@ -32,7 +32,8 @@ fn put_text(whole: &str, number: usize, page: &mut Page) {
             '‹' => {
                 count = count.saturating_add(1);
                 if depth == 1 {
-                    write!(page, " hole{count} ");
+                    let behind = operands.saturating_sub(count);
+                    write!(page, " hole{behind} ");
                 }
                 if depth > 0 || count == number {
                     depth = depth.saturating_add(1);
@@ -51,9 +52,14 @@ pub(crate) fn stream(alloc: Global, text: &str) -> Result<TokenStream, Unanswere
 }
 
 // The tokens of one of the texts of an expression.
-fn text_stream(alloc: Global, whole: &str, number: usize) -> Result<TokenStream, Unanswered> {
+fn text_stream(
+    alloc: Global,
+    whole: &str,
+    number: usize,
+    operands: usize,
+) -> Result<TokenStream, Unanswered> {
     let mut text = Page::new(alloc);
-    put_text(whole, number, &mut text);
+    put_text(whole, number, operands, &mut text);
     stream(alloc, text.whole()?)
 }
 
@@ -62,7 +68,7 @@ pub(crate) fn streams(alloc: Global, whole: &str) -> Result<Vec<TokenStream>, Un
     let count = operand_count(whole).ok_or(Unanswered::NoRow)?;
     let mut all = Vec::new(alloc);
     for number in 0..count.saturating_add(1) {
-        all.push(text_stream(alloc, whole, number)?)?;
+        all.push(text_stream(alloc, whole, number, count)?)?;
     }
     Ok(all)
 }
