@@ -63,13 +63,19 @@ fn put_text(text: &str, out: &mut String) -> Result<()> {
     put_line(&buffer, out)
 }
 
+// The lines that are said of the lines of a text.
+fn put_lines(lines: &str, out: &mut String) -> Result<()> {
+    for text in lines.lines() {
+        put_text(text, out)?;
+    }
+    Ok(())
+}
+
 fn main(rt: HostRuntime) -> Result<()> {
     let mut lines = String::new(rt.alloc());
     rt.reader().read_to_string(&mut lines)?;
     let mut out = String::new(rt.alloc());
-    for text in lines.as_str().lines() {
-        put_text(text, &mut out)?;
-    }
+    put_lines(lines.as_str(), &mut out)?;
     rt.stdout().write_all(out.as_bytes())?;
     Ok(())
 }
