@@ -16,7 +16,7 @@ use Rattle.syn_grammar.specs.Tree.{Tree, AWord, ALiteral, AMark, ALifetime, Raw,
 use Rattle.syn_grammar.specs.Tree.{Final, More, Group, Dropped, Called, Verbatim, Node, Whole, flat}
 use Rattle.syn_grammar.specs.Part.{choice, found, has, is_some, or_else, or_nil, the}
 use Rattle.syn_grammar.specs.Gram.{Gram, Verdict, Keep, AsRaw, Refuse, seq, alt, star, many, group, judged, dropped}
-use Rattle.syn_grammar.specs.Gram.{called, ref, false≢true as none}
+use Rattle.syn_grammar.specs.Gram.{called, ref, never as none}
 use Rattle.syn_grammar.specs.Look.{lacks, sees, the_end}
 use Rattle.syn_grammar.specs.Lists.{typed}
 use Rattle.syn_grammar.specs.Verdicts.{const_is_raw, form_in, is_generic, is_path_type, is_where, item_verdict}

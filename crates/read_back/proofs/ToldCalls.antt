@@ -15,7 +15,7 @@ use Rattle.syn_grammar.specs.Name.{the_pub}
 use Rattle.syn_grammar.specs.Part.{choice, has}
 use Rattle.syn_grammar.specs.Tree.{Tree, AMark, AWord, Called, First, Group, Nil, Node, Pair, Second}
 use Rattle.syn_grammar.specs.Tree.{marks as signs, flat}
-use Rattle.syn_grammar.specs.Gram.{Gram, Keep, alt, raw, ref, false≢true as none}
+use Rattle.syn_grammar.specs.Gram.{Gram, Keep, alt, raw, ref, never as none}
 use Rattle.syn_grammar.specs.Look.{Look, ◌or◌, ◌then◌, a_group, a_word, all_attributes, an_ident, behind}
 use Rattle.syn_grammar.specs.Look.{first_seen, no, one_of, seen, sees, the_word}
 use Rattle.syn_grammar.specs.Say.{at, brace, in_braces, in_brackets, in_parentheses, marks, parenthesis, sign}

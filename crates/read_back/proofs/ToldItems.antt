@@ -14,7 +14,7 @@ use Rattle.syn_grammar.specs.Name.{the_polarity, the_pub, the_safety, the_self, 
 use Rattle.syn_grammar.specs.Words.{is_ident, is_name, is_path_keyword, is_reserved, is_string, same_text}
 use Rattle.syn_grammar.specs.Tree.{Tree, AMark, AWord, Called, First, Nil, Node, Pair, Second, Verbatim, flat}
 use Rattle.syn_grammar.specs.Part.{choice, found, has, is_some, or_else}
-use Rattle.syn_grammar.specs.Gram.{Gram, Verdict, AsRaw, alt, ref, false≢true as none}
+use Rattle.syn_grammar.specs.Gram.{Gram, Verdict, AsRaw, alt, ref, never as none}
 use Rattle.syn_grammar.specs.Look.{Look, ◌then◌, ◌or◌, a_group, a_path, a_quoted, a_word, all_attributes, an_ident}
 use Rattle.syn_grammar.specs.Look.{behind, first_seen}
 use Rattle.syn_grammar.specs.Look.{maybe, no, repeatedly, seen, sees, the_word}

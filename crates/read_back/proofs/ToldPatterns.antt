@@ -2,6 +2,7 @@
 -- the entry ends in it, and before .. itself.
 use Rattle.std.proofs.Common.{◌≡◌, ℕ, List, [], ◌∷◌, ◌++◌, refl, sym, ap, ◌∙◌, subst, append_assoc}
 use Rattle.std.specs.Prelude.{Bool, true, false, not, ◌&&◌, ◌||◌, ◌==◌, cond, Some, None}
+use Rattle.std.proofs.lemmas.Bool.{false≢true}
 use Rattle.proc_macro2.specs.Token.{Token, Punct}
 use Rattle.rust_leaf.specs.declared.punct.Spacing.{Spacing}
 use Rattle.rust_leaf.specs.declared.punct.Spacing.TheVariants.{Alone as Apart, Joint}
@@ -21,7 +22,6 @@ use Rattle.syn_grammar.specs.Table.{table}
 use Rattle.syn_grammar.specs.Derives.{Derives, Bound}
 use Rattle.syn_grammar.specs.Forms.{back, backs, front, fronts, inside}
 use Rattle.binding_laws.proofs.Begun.{first_passes}
-use Rattle.expressions_back.proofs.Bools.{never as no_truth}
 use Rattle.grammar_back.specs.Covered.{is_lone}
 use Rattle.read_back.specs.Asked.{ends_in_pattern, is_no_lone, no_lone}
 use Rattle.grammar_back.proofs.Choices.{both_same, both_true, is_false}
@@ -133,12 +133,12 @@ apart s (First x) (judged v g) r d h f = apart s x g r d.1 h f
 apart s (Verbatim x) (judged v g) r d h f = apart s x g r d.1 h f
 apart s (Dropped x) (dropped g) r d h f = apart s x g r d h f
 apart s (Called n x) (called m g) r d h f = apart s x g r d.1 h f
-apart s (Raw ts) raw r d h f = absurd (no_truth h)
-apart s End (many e c g) r d h f = absurd (no_truth h)
-apart s (Final x) (many e c g) r d h f = absurd (no_truth h)
-apart s (More x o i y) (many e c g) r d h f = absurd (no_truth h)
-apart s (Node k x) (ref l) r d h f = absurd (no_truth h)
-apart s (Whole x) (operand p n) r d h f = absurd (no_truth h)
+apart s (Raw ts) raw r d h f = absurd (false≢true h)
+apart s End (many e c g) r d h f = absurd (false≢true h)
+apart s (Final x) (many e c g) r d h f = absurd (false≢true h)
+apart s (More x o i y) (many e c g) r d h f = absurd (false≢true h)
+apart s (Node k x) (ref l) r d h f = absurd (false≢true h)
+apart s (Whole x) (operand p n) r d h f = absurd (false≢true h)
 apart s _ g r d h f = absurd d
 
 -- of one alternative
@@ -149,13 +149,13 @@ not_true true h = absurd (h refl)
 one_alternative : (k : Kind) (x : Tree) (r : List Token) → Derives x (table k) r
     → (ends_in_pattern k ≡ true → sees (marks "..") r ≡ false) → is_no_lone k x ≡ true
 one_alternative OnePattern x r d f =
-    not_true (is_lone (choice x)) (λ e. no_truth (sym (f refl) ∙ lone_before x r d e))
+    not_true (is_lone (choice x)) (λ e. false≢true (sym (f refl) ∙ lone_before x r d e))
 one_alternative _ x r d f = refl
 
 -- what is told of the rest
 of_ends : (b s : Bool) → (not b || s) ≡ true → b ≡ true → s ≡ true
 of_ends true s h e = h
-of_ends false s h e = absurd (no_truth e)
+of_ends false s h e = absurd (false≢true e)
 
 rest_told : (k l : Kind) (s : Bool) (r : List Token) → k ≡ l → (not (ends_in_pattern l) || s) ≡ true
     → (s ≡ true → sees (marks "..") r ≡ false) → ends_in_pattern k ≡ true → sees (marks "..") r ≡ false
@@ -171,8 +171,8 @@ unfolding back
 back_ends p k ts e = first_passes (λ j. not (ends_in_pattern j)) (backs p) ts k refl e
 
 ends_not : (b : Bool) (ts : List Token) → not b ≡ true → b ≡ true → sees (marks "..") ts ≡ false
-ends_not true ts h e = absurd (no_truth h)
-ends_not false ts h e = absurd (no_truth e)
+ends_not true ts h e = absurd (false≢true h)
+ends_not false ts h e = absurd (false≢true e)
 
 two : (a b : Bool) → a ≡ true → b ≡ true → (a && b) ≡ true
 two a b e f = both_same a b true true e f
@@ -245,7 +245,7 @@ self false = refl
 
 lacks_dots : (b c : Bool) → (b && c) ≡ false → b ≡ true → c ≡ false
 lacks_dots true c e h = e
-lacks_dots false c e h = absurd (no_truth h)
+lacks_dots false c e h = absurd (false≢true h)
 
 patterns_told : (k : Kind) (x : Tree) (r : List Token) → (ends_in_pattern k && sees (marks "..") r) ≡ false
     → Derives x (ref k) r → no_lone x ≡ true

@@ -22,7 +22,7 @@ use Rattle.syn_grammar.specs.Words.{same_text}
 use Rattle.syn_grammar.specs.Tree.{Tree, ALiteral, AMark, AWord, Alone, Back, Called, End, First, Front, Group, Infix}
 use Rattle.syn_grammar.specs.Tree.{Nil, Node, Pair, Second, Verbatim, marks as signs, flat}
 use Rattle.syn_grammar.specs.Look.{first_seen, seen, sees}
-use Rattle.syn_grammar.specs.Gram.{Gram, AsRaw, alt, mark, false≢true as none, ref}
+use Rattle.syn_grammar.specs.Gram.{Gram, AsRaw, alt, mark, never as none, ref}
 use Rattle.syn_grammar.specs.Types.{kept_if}
 use Rattle.syn_grammar.specs.Say.{marks}
 use Rattle.syn_grammar.specs.Statements.{item_stands}

@@ -1,12 +1,1 @@
-pub mod Wholes
-pub mod Behind
-pub mod Leaves
-pub mod Nodes
-pub mod Firsts
-pub mod Nests
-pub mod Alone
 pub mod Alike
-pub mod ItemsAlone
-pub mod Singles
-pub mod MembersAlone
-pub mod Onward

@@ -7,50 +7,15 @@
 //! The syntax tree's types stand here under syn's names: `Type::of`, `ItemFn::of` and the like answer one layer of a tree,
 //! whose fields lend its parts. They are those of `syn_ast`, `syn_expr`, `syn_data` and `syn_item`.
 //!
-//! - `parse`: tokens that are one form of a kind: a file, an item, a type, an expression.
-//! - `peek`: whether an expression begins there.
-//! - `reader`, `reading`: forms and tokens, read one behind the other.
-//! - `stream`: forms read from a `ParseBuffer`, among tokens.
-//! - `text`: a text, read by a function in one call.
-//! - `tokens`: tokens that are to be written, as a stream of trees.
-//! - `leaf`: the leaves of a tree, in their order, each with where it stands but marks between elements.
-//! - `node`: its nodes and the forms of its expressions, at every depth.
-//! - `typed`: forms that are read as a type of the syntax tree; `forms`, `type_forms`, `item_forms`, `member_forms`,
-//!   `parts`: the types that are.
-//! - `one_item`: items of one kind that are read by themselves, as `OneItem<ItemFn>`.
-//! - `single`: forms that are one of several of a kind; `single_expr`, `single_blocks`, `single_exprs`, `single_types`: the
-//!   types that are read so.
-//! - `optional`: forms that may be missing; `safety`: whether a function is safe to call, and whether a static may be
-//!   written.
+//! - `parse`, `peek`, `reader`, `stream`, `text`, `typed`, `one_item`, `single`, `single_expr`, `optional` (of `syn_read`):
+//!   forms that are read from tokens, as trees and as types.
+//! - `leaf`, `node`, `tokens` (of `syn_tokens`): the leaves and the nodes of a tree, and its tokens as a stream.
 //! - `written`: whether what is written of two trees is the same.
 //! - `values`: literals by their class, with what they write, operators and members.
 //! - `laws`: laws of items and of raw tokens, which are those of `item_laws`: how an item of one kind is read by itself,
 //!   invisible groups, and the spacing of raw tokens.
 #![tactic(auto)]
 
-mod forms;
-mod item_forms;
-pub mod leaf;
-mod member_forms;
-pub mod node;
-pub mod one_item;
-pub mod optional;
-pub mod parse;
-mod parts;
-pub mod peek;
-pub mod reader;
-mod reading;
-mod safety;
-pub mod single;
-mod single_blocks;
-pub mod single_expr;
-mod single_exprs;
-mod single_types;
-pub mod stream;
-pub mod text;
-pub mod tokens;
-mod type_forms;
-pub mod typed;
 pub mod values;
 pub mod written;
 
@@ -83,31 +48,7 @@ pub use gram_tree::tree::Tree;
 pub use gram_tree::tree::Two;
 pub use gram_write::as_read::put_as_read;
 pub use gram_write::write::write;
-pub use item_forms::AnyItem;
-pub use item_forms::OneForeignItem;
-pub use item_forms::OneImplItem;
-pub use item_forms::OneTraitItem;
 pub use item_laws::laws;
-pub use leaf::Leaf;
-pub use leaf::put_leaves;
-pub use member_forms::OneForeignItemFn;
-pub use member_forms::OneForeignItemMacro;
-pub use member_forms::OneForeignItemType;
-pub use member_forms::OneImplItemConst;
-pub use member_forms::OneImplItemFn;
-pub use member_forms::OneImplItemMacro;
-pub use member_forms::OneImplItemType;
-pub use member_forms::OneTraitItemConst;
-pub use member_forms::OneTraitItemFn;
-pub use member_forms::OneTraitItemMacro;
-pub use member_forms::OneTraitItemType;
-pub use node::put_nodes;
-pub use one_item::OneItem;
-pub use optional::ParseOptional;
-pub use parse::parse_as;
-pub use parse::parse_file;
-pub use parse::parse_front;
-pub use peek::begins_expression;
 pub use proc_macro2::Delimiter;
 pub use proc_macro2::Ident;
 pub use proc_macro2::LineColumn;
@@ -116,16 +57,6 @@ pub use proc_macro2::SourceMap;
 pub use proc_macro2::Spacing;
 pub use proc_macro2::Span;
 pub use proc_macro2::TokenStream;
-pub use reader::Entered;
-pub use reader::ReadSign;
-pub use reader::Reader;
-pub use single::ParseSingle;
-pub use single::ParseSingleForm;
-pub use single::parse2_single;
-pub use single_expr::SingleExpr;
-pub use stream::ParseForm;
-pub use stream::ParseForms;
-pub use stream::ParseOptionalForm;
 pub use syn_ast::attributes::AttrStyle;
 pub use syn_ast::attributes::Attribute;
 pub use syn_ast::attributes::InnerAttributes;
@@ -407,9 +338,56 @@ pub use syn_item::uses::UsePath;
 pub use syn_item::uses::UseRename;
 pub use syn_item::uses::UseTop;
 pub use syn_item::uses::UseTree;
-pub use text::parse_str_with;
-pub use tokens::stream_of;
-pub use tokens::to_stream;
-pub use typed::Parse;
-pub use typed::parse2;
+pub use syn_read::AnyItem;
+pub use syn_read::Entered;
+pub use syn_read::OneForeignItem;
+pub use syn_read::OneForeignItemFn;
+pub use syn_read::OneForeignItemMacro;
+pub use syn_read::OneForeignItemType;
+pub use syn_read::OneImplItem;
+pub use syn_read::OneImplItemConst;
+pub use syn_read::OneImplItemFn;
+pub use syn_read::OneImplItemMacro;
+pub use syn_read::OneImplItemType;
+pub use syn_read::OneItem;
+pub use syn_read::OneTraitItem;
+pub use syn_read::OneTraitItemConst;
+pub use syn_read::OneTraitItemFn;
+pub use syn_read::OneTraitItemMacro;
+pub use syn_read::OneTraitItemType;
+pub use syn_read::Parse;
+pub use syn_read::ParseForm;
+pub use syn_read::ParseForms;
+pub use syn_read::ParseOptional;
+pub use syn_read::ParseOptionalForm;
+pub use syn_read::ParseSingle;
+pub use syn_read::ParseSingleForm;
+pub use syn_read::ReadSign;
+pub use syn_read::Reader;
+pub use syn_read::SingleExpr;
+pub use syn_read::begins_expression;
+pub use syn_read::one_item;
+pub use syn_read::optional;
+pub use syn_read::parse;
+pub use syn_read::parse_as;
+pub use syn_read::parse_file;
+pub use syn_read::parse_front;
+pub use syn_read::parse_str_with;
+pub use syn_read::parse2;
+pub use syn_read::parse2_single;
+pub use syn_read::peek;
+pub use syn_read::reader;
+pub use syn_read::single;
+pub use syn_read::single_expr;
+pub use syn_read::stream;
+pub use syn_read::text;
+pub use syn_read::typed;
+pub use syn_tokens::leaf;
+pub use syn_tokens::leaf::Leaf;
+pub use syn_tokens::leaf::put_leaves;
+pub use syn_tokens::node;
+pub use syn_tokens::node::put_nodes;
+pub use syn_tokens::tokens;
+pub use syn_tokens::tokens::stream_of;
+pub use syn_tokens::tokens::to_stream;
 pub use written::same;

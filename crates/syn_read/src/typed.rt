@@ -1,0 +1,88 @@
+//! Forms that are read as the types of the syntax tree.
+
+ghost use Rattle.gram_run.specs.Answers.{tokens};
+ghost use Rattle.gram_table.specs.Kinds.{kind_of};
+ghost use Rattle.proc_macro2.specs.Token.{Token};
+ghost use Rattle.std.specs.Prelude.{◌≡◌, IfErr, IfOk, List, MatchOption, OnErr};
+ghost use Rattle.syn_read.specs.Parsed.{IsAll, IsNone};
+ghost use Rattle.syn_read.specs.Reading.{IsOnward, left};
+ghost use Rattle.syn_error.specs.Faults.{IsSyntax};
+ghost use Rattle.syn_grammar.specs.Derives.{Derives};
+ghost use Rattle.syn_grammar.specs.Gram.{ref};
+ghost use Rattle.syn_grammar.specs.Kind.{Kind as GivenKind};
+ghost use Rattle.syn_grammar.specs.Read.{IsDerived, NoneRead};
+ghost use Rattle.syn_grammar.specs.Tree.{Tree as GivenTree};
+
+use crate::parse::parse_as;
+use crate::reader::Reader;
+use gram_table::kind::Kind;
+use gram_tree::arena::Arena;
+use gram_tree::tree::Tree;
+use syn_buffer::TokenBuffer;
+use syn_error::ParseFault;
+
+/// A type of the syntax tree that is read from tokens.
+pub trait Parse<'a> {
+    /// The kind of the grammar that is read.
+    ghost kind: { GivenKind };
+
+    /// What a value says of the tree that it was read as.
+    ghost says: { Self → GivenTree → Type 0 };
+
+    /// That kind.
+    fn kind() -> Kind
+        ensures { kind_of result ≡ kind };
+
+    /// What the type says of a tree of the kind: one layer of it. `None` only of a tree that was not read as one.
+    fn view(tree: &'a Tree<'a>) -> Option<Self>
+        ensures { MatchOption result ((rest : List Token) → Derives tree.now (ref kind) rest → ⊥)
+            (λ x. says x tree.now) };
+}
+
+/// All tokens of the buffer as a form of the type, as `parse2::<DeriveInput>(&arena, &buffer)`. Its tree stands in the
+/// arena.
+///
+/// # Errors
+///
+/// Those of `parse_as`.
+pub fn parse2<'a, T: Parse<'a>>(
+    arena: &'a Arena,
+    buffer: &'a TokenBuffer<'a>,
+) -> Result<T, ParseFault>
+    ensures read { IfOk result (λ x. (tree : GivenTree)
+        × IsAll T.kind (tokens buffer.now.entries.items) tree × T.says x tree) }
+    ensures refused { IfErr result (λ e. IsSyntax e → IsNone T.kind (tokens buffer.now.entries.items)) }
+{
+    let tree = parse_as(arena, T::kind(), buffer)?;
+    let tree = arena.put(tree)?;
+    match T::view(tree) {
+        Some(form) => Ok(form),
+        None => unreachable!(),
+    }
+}
+
+impl<'a> Reader<'a> {
+    /// Reads the form of the type that stands there, as `input.form::<Type>()`.
+    ///
+    /// # Errors
+    ///
+    /// Those of `parse`. The reader then stands where it stood.
+    pub fn form<T: Parse<'a>>(&mut self) -> Result<T, ParseFault>
+        ensures read { IfOk result (λ x. (tree : GivenTree)
+            × IsDerived T.kind (left self.old) tree (left self.new) × T.says x tree) }
+        ensures refused { IfErr result (λ e. IsSyntax e → NoneRead T.kind (left self.old)) }
+        ensures stays { OnErr result (self.new ≡ self.old) }
+        ensures onward { IsOnward self.old self.new }
+    {
+        let mut ahead = *self;
+        let tree = ahead.parse(T::kind())?;
+        let tree = self.arena.put(tree)?;
+        match T::view(tree) {
+            Some(form) => {
+                *self = ahead;
+                Ok(form)
+            }
+            None => unreachable!(),
+        }
+    }
+}

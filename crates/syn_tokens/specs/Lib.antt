@@ -1,0 +1,3 @@
+pub mod Leaves
+pub mod Nodes
+pub mod Nests

@@ -1,0 +1,194 @@
+//! Tokens that are to be written, as a stream of trees.
+
+ghost use Rattle.gram_piece.specs.Pieces.{piece_token};
+ghost use Rattle.gram_write.specs.Formed.{IsFormed};
+ghost use Rattle.gram_write.specs.Said.{said};
+ghost use Rattle.proc_macro2.specs.Entered.{entered};
+ghost use Rattle.proc_macro2.specs.Token.{Closes, Opens, Token, plain};
+ghost use Rattle.rust_leaf.specs.Leaf.{literal_text};
+ghost use Rattle.proc_macro2.specs.Token as token;
+ghost use Rattle.std.specs.Prelude.{◌++◌, ◌∷◌, ◌≡◌, [], IfNone, IfOk, IfSome, List, OnOk, false, map, true};
+ghost use Rattle.syn_tokens.specs.Nests.{are_trees, is_leaf, nest_tokens, opened, stand};
+ghost use Rattle.syn_grammar.specs.Kind.{Position};
+
+use gram_piece::piece::Piece;
+use gram_tree::tree::Tree;
+use gram_write::write::write;
+use proc_macro2::delimiter::Delimiter;
+use proc_macro2::tree::{Group, TokenStream, TokenTree};
+use rust_leaf::ident::Ident;
+use rust_leaf::literal::Literal;
+use rust_leaf::minus::behind_minus;
+use rust_leaf::punct::Punct;
+use rust_map::span::Span;
+use std::alloc::{AllocError, Global};
+use std::mem;
+use try_clone::TryClone;
+
+// A group that is open: its delimiter, and what stands before it in its list.
+#[derive(Drop)]
+struct Outer {
+    delimiter: Delimiter,
+    before: TokenStream,
+}
+
+// What was put so far: the groups that are open, the outermost first, and what stands in the innermost one.
+#[derive(Drop)]
+struct Nest {
+    outer: Vec<Outer>,
+    inside: TokenStream,
+}
+
+// A literal, if it begins with no minus: that is a token by itself.
+#[tactic(auto, using(crate::proofs::Nests::unsigned))]
+fn unsigned(literal: Literal) -> Option<TokenTree>
+    ensures some { IfSome result (λ t. plain (entered t) ≡ token.Literal (literal_text literal) ∷ []) }
+    ensures some_leaf { IfSome result (λ _. is_leaf (token.Literal (literal_text literal)) ≡ true) }
+    ensures none { IfNone result (is_leaf (token.Literal (literal_text literal)) ≡ false) }
+{
+    match behind_minus(literal.as_str()) {
+        Some(_) => None,
+        None => Some(TokenTree::Literal(literal)),
+    }
+}
+
+// The tree that a token is by itself, if it is one.
+#[tactic(auto, using(crate::proofs::Nests::words))]
+fn leaf(alloc: Global, piece: &Piece<'_>) -> Result<Option<TokenTree>, AllocError>
+    ensures some { IfOk result (λ o. IfSome o (λ t. plain (entered t) ≡ piece_token piece.now ∷ [])) }
+    ensures some_leaf { IfOk result (λ o. IfSome o (λ _. is_leaf (piece_token piece.now) ≡ true)) }
+    ensures none { IfOk result (λ o. IfNone o (is_leaf (piece_token piece.now) ≡ false)) }
+{
+    match piece {
+        Piece::Ident(ident) => Ok(Some(TokenTree::Ident(ident.try_clone()?))),
+        Piece::Underscore => {
+            let word = Ident::from_text(alloc, "_", Span::call_site())?;
+            Ok(Some(TokenTree::Ident(word)))
+        }
+        Piece::Literal(literal) => Ok(unsigned(literal.try_clone()?)),
+        Piece::Index(index) => Ok(unsigned(Literal::u32_unsuffixed(alloc, *index)?)),
+        Piece::Mark(mark, spacing) => {
+            if Punct::is_mark(*mark) {
+                Ok(Some(TokenTree::Punct(Punct::new(*mark, *spacing))))
+            } else {
+                Ok(None)
+            }
+        }
+        Piece::Open(_) => Ok(None),
+        Piece::Close(_) => Ok(None),
+    }
+}
+
+impl Nest {
+    // Puts a tree.
+    fn put(&mut self, tree: TokenTree) -> Result<(), AllocError>
+        ensures put { OnOk result (nest_tokens self.new ≡ nest_tokens self.old ++ plain (entered tree)) }
+        ensures opened { OnOk result (opened self.new ≡ opened self.old) }
+    {
+        self.inside.push_tree(tree)
+    }
+
+    // Opens a group.
+    #[tactic(auto, using(crate::proofs::Nests::opens))]
+    fn open(&mut self, delimiter: Delimiter) -> Result<(), AllocError>
+        ensures put { OnOk result (nest_tokens self.new ≡ nest_tokens self.old ++ Opens delimiter ∷ []) }
+        ensures opened { OnOk result (opened self.new ≡ delimiter ∷ opened self.old) }
+    {
+        let inside = TokenStream::new(self.inside.allocator());
+        let before = mem::replace(&mut self.inside, inside);
+        self.outer.push(Outer { delimiter, before })?;
+        Ok(())
+    }
+
+    // Closes the innermost group, and answers whether it is one with that delimiter.
+    #[tactic(auto, using(crate::proofs::Nests::closes))]
+    fn close(&mut self, delimiter: Delimiter) -> Result<bool, AllocError>
+        ensures put { IfOk result (λ b. b ≡ true
+            → nest_tokens self.new ≡ nest_tokens self.old ++ Closes delimiter ∷ []) }
+        ensures opened { IfOk result (λ b. b ≡ true → opened self.old ≡ delimiter ∷ opened self.new) }
+        ensures refused { IfOk result (λ b. b ≡ false
+            → (ts : List Token) → stand (opened self.old) (Closes delimiter ∷ ts) ≡ false) }
+    {
+        let Some(outer) = self.outer.pop() else {
+            return Ok(false);
+        };
+        if outer.delimiter == delimiter {
+            let inside = mem::replace(&mut self.inside, outer.before);
+            let group = TokenTree::Group(Group::new(delimiter, inside));
+            self.inside.push_tree(group)?;
+            Ok(true)
+        } else {
+            Ok(false)
+        }
+    }
+
+    // Puts a token, if it may stand there.
+    #[tactic(auto, using(crate::proofs::Nests::steps))]
+    fn step(&mut self, piece: &Piece<'_>) -> Result<bool, AllocError>
+        ensures put { IfOk result (λ b. b ≡ true
+            → nest_tokens self.new ≡ nest_tokens self.old ++ piece_token piece.now ∷ []) }
+        ensures on { IfOk result (λ b. b ≡ true
+            → (ts : List Token) → stand (opened self.old) (piece_token piece.now ∷ ts) ≡ stand (opened self.new) ts) }
+        ensures refused { IfOk result (λ b. b ≡ false
+            → (ts : List Token) → stand (opened self.old) (piece_token piece.now ∷ ts) ≡ false) }
+    {
+        match piece {
+            Piece::Open(delimiter) => {
+                self.open(*delimiter)?;
+                Ok(true)
+            }
+            Piece::Close(delimiter) => self.close(*delimiter),
+            _ => match leaf(self.inside.allocator(), piece)? {
+                Some(tree) => {
+                    self.put(tree)?;
+                    Ok(true)
+                }
+                None => Ok(false),
+            },
+        }
+    }
+}
+
+/// The stream of tokens that are to be written. Words and literals that were read have their spans in it, and all other
+/// trees stand at no place of a text. There is none where the tokens are those of no stream: a group is closed that was
+/// not opened, or is not closed; a mark is no mark; or a literal begins with a minus.
+///
+/// # Errors
+///
+/// Where there is no memory for it.
+pub fn stream_of(alloc: Global, pieces: &[Piece<'_>]) -> Result<Option<TokenStream>, AllocError>
+    ensures some { IfOk result (λ o. IfSome o (λ s. plain s ≡ map piece_token pieces.now)) }
+    ensures none { IfOk result (λ o. IfNone o (are_trees (map piece_token pieces.now) ≡ false)) }
+{
+    let mut nest = Nest {
+        outer: Vec::new(alloc),
+        inside: TokenStream::new(alloc),
+    };
+    for piece in pieces {
+        if !nest.step(piece)? {
+            return Ok(None);
+        }
+    }
+    if nest.outer.is_empty() {
+        Ok(Some(nest.inside))
+    } else {
+        Ok(None)
+    }
+}
+
+/// The stream of what is written of a tree: of the tokens of the normal form of what a syntax tree holds of it, in any
+/// position in which the tree is formed, as each is that was read. There is none where these are those of no stream, as
+/// `stream_of` says.
+///
+/// # Errors
+///
+/// Where there is no memory for it.
+pub fn to_stream(alloc: Global, tree: &Tree<'_>) -> Result<Option<TokenStream>, AllocError>
+    ensures some { IfOk result (λ o. IfSome o (λ s. (p : Position) → IsFormed p tree.now → plain s ≡ said p tree.now)) }
+    ensures none { IfOk result (λ o. IfNone o ((p : Position) → IsFormed p tree.now
+        → are_trees (said p tree.now) ≡ false)) }
+{
+    let mut pieces = Vec::new(alloc);
+    write(tree, &mut pieces)?;
+    stream_of(alloc, pieces.as_slice())
+}
