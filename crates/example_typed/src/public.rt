@@ -87,14 +87,14 @@ fn public_visibility<'a>(arena: &'a Arena) -> Result<Tree<'a>> {
 
 // A struct that was read, with its fields public.
 fn rewritten<'a>(arena: &'a Arena, input: &DeriveInput<'_, 'a>) -> Result<Tree<'a>> {
-    let Data::Struct(item) = input.data else {
+    let Data::Struct(item) = &input.data else {
         return Err(anyhow!("it is no struct"));
     };
-    let Fields::Named(fields) = item.fields else {
+    let Fields::Named(fields) = &item.fields else {
         return Err(anyhow!("its fields have no names"));
     };
     let vis = public_visibility(arena)?;
-    public_struct(arena, &vis, input, &item, &fields)
+    public_struct(arena, &vis, input, item, fields)
 }
 
 // The line of a tree that was put together, in its normal form.
