@@ -44,13 +44,20 @@ fn put_folded<'a>(arena: &'a Arena, tree: &Tree<'a>, out: &mut String) -> Result
     Ok(put_form(&form, out)?)
 }
 
+// The line that is said of what is no expression.
+fn put_fault(fault: &ParseFault, out: &mut String) -> Result<()> {
+    match fault {
+        ParseFault::Syntax(_) => Ok(writeln!(out, "no expression")?),
+        ParseFault::Memory => Err(anyhow!("out of memory")),
+    }
+}
+
 // The line that is said of what a buffer holds.
 fn put_line(buffer: &TokenBuffer, out: &mut String) -> Result<()> {
     let arena = Arena::new(*out.allocator());
     match parse_as(&arena, Kind::Expression(Position::Plain), buffer) {
         Ok(tree) => put_folded(&arena, &tree, out),
-        Err(ParseFault::Syntax(_)) => Ok(writeln!(out, "no expression")?),
-        Err(ParseFault::Memory) => Err(anyhow!("out of memory")),
+        Err(fault) => put_fault(&fault, out),
     }
 }
 

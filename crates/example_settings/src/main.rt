@@ -9,8 +9,8 @@ use anyhow::Result;
 use std::alloc::AllocError;
 use std::io::{Read, Write};
 use syn::{
-    Arena, Delimiter, Ident, Kind, ParseFault, ParseForms, Plus, Position, SourceMap, Span,
-    TokenBuffer, TokenStream, Tree, print, write,
+    Arena, Ident, Kind, ParseFault, ParseForms, Plus, Position, SourceMap, Span, TokenBuffer,
+    TokenStream, Tree, print, write,
 };
 use syn_kinds::token;
 use syn_parse::{ParseBuffer, Punctuated, parse_buffer, parse_terminated_with};
@@ -86,6 +86,19 @@ fn parse_word(input: &mut ParseBuffer) -> Result<(), ParseFault>
     }
 }
 
+// The settings that stand there in braces.
+fn parse_braced<'a>(
+    input: &mut ParseBuffer<'a>,
+    arena: &'a Arena,
+) -> Result<Punctuated<Setting<'a>, token::Comma>, ParseFault>
+    ensures { IsOnward input.old input.new }
+{
+    let mut braces = input.parse_braces()?;
+    let list = parse_list(&mut braces.content, arena)?;
+    input.close(braces.content);
+    Ok(list)
+}
+
 // The settings that stand there, with their name.
 fn parse_settings<'a>(
     input: &mut ParseBuffer<'a>,
@@ -95,12 +108,7 @@ fn parse_settings<'a>(
 {
     parse_word(input)?;
     let name = input.parse::<Ident>()?;
-    let (_, list) = input.within(
-        Delimiter::Brace,
-        |content| -> Result<Punctuated<Setting, token::Comma>, ParseFault>
-            ensures { IsOnward content.old content.new }
-        { parse_list(content, arena) },
-    )?;
+    let list = parse_braced(input, arena)?;
     Ok(Settings { name, list })
 }
 

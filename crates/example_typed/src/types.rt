@@ -108,12 +108,19 @@ fn put_forms(depth: usize, tree: &Tree, out: &mut String) -> Result<()> {
     }
 }
 
+// What is said of what is no type.
+fn put_fault(fault: &ParseFault, out: &mut String) -> Result<()> {
+    match fault {
+        ParseFault::Syntax(_) => Ok(writeln!(out, "  no type")?),
+        ParseFault::Memory => Err(anyhow!("out of memory")),
+    }
+}
+
 /// Puts what the type is that a buffer holds, and below it what the type in it is, at most eight deep.
 pub(crate) fn put_type(buffer: &TokenBuffer, out: &mut String) -> Result<()> {
     let arena = Arena::new(*out.allocator());
     match parse_as(&arena, Kind::AType(Plus::WithPlus), buffer) {
         Ok(tree) => put_forms(8, &tree, out),
-        Err(ParseFault::Syntax(_)) => Ok(writeln!(out, "  no type")?),
-        Err(ParseFault::Memory) => Err(anyhow!("out of memory")),
+        Err(fault) => put_fault(&fault, out),
     }
 }
