@@ -2,19 +2,19 @@
 //! names of its fields as `FIELDS` (of unnamed ones their numbers), or those of its variants as `VARIANTS`. The impl is
 //! built of tokens, and is printed only where it is read back as the same tokens.
 //!
-//! - `item`: what is needed of the item.
 //! - `listing`: the impl.
+//! - `members`: the names of the fields or the variants.
+//! - `parameters`: the generic parameters.
 //! - `tokens`: tokens, put behind others.
 #![tactic(auto)]
 
-mod item;
 mod listing;
+mod members;
+mod parameters;
 mod tokens;
 
-use crate::item::item_of;
 use crate::listing::impl_of;
 use anyhow::{Error, Result, anyhow};
-use std::alloc::Global;
 use std::io::{Read, Write};
 use syn::{
     Arena, DeriveInput, LineColumn, ParseFault, SourceMap, Span, TokenBuffer, TokenStream, parse2,
@@ -40,38 +40,38 @@ fn refused(map: &SourceMap, fault: &ParseFault) -> Error {
     }
 }
 
-// The impl for an item.
-fn derived(alloc: Global, input: DeriveInput<'_, '_>) -> Result<TokenStream> {
-    let impl_block = impl_of(alloc, &item_of(alloc, input)?)?;
-    if impl_block.is_well_spaced() {
-        Ok(impl_block)
-    } else {
-        Err(anyhow!("the impl is not read back as it was built"))
+// Puts the print of the impl for an item.
+fn put_impl(input: &DeriveInput, out: &mut String) -> Result<()> {
+    let impl_block = impl_of(*out.allocator(), input)?;
+    if !impl_block.is_well_spaced() {
+        return Err(anyhow!("the impl is not read back as it was built"));
     }
+    Ok(writeln!(out, "{impl_block}")?)
 }
 
-// The impl for the item that a buffer holds.
-fn derived_of(alloc: Global, map: &SourceMap, buffer: &TokenBuffer) -> Result<TokenStream> {
-    let arena = Arena::new(alloc);
+// Puts the print of the impl for the item that a buffer holds.
+fn put_derived(map: &SourceMap, buffer: &TokenBuffer, out: &mut String) -> Result<()> {
+    let arena = Arena::new(*out.allocator());
     match parse2::<DeriveInput>(&arena, buffer) {
-        Ok(input) => derived(alloc, input),
+        Ok(input) => put_impl(&input, out),
         Err(fault) => Err(refused(map, &fault)),
     }
 }
 
-// The print of the impl for the item that a text is.
-fn print(text: &str, alloc: Global) -> Result<String> {
+// Puts the print of the impl for the item that a text is.
+fn put_text(text: &str, out: &mut String) -> Result<()> {
+    let alloc = *out.allocator();
     let mut map = SourceMap::new(alloc);
     let stream = TokenStream::from_str(alloc, text, &mut map)?;
     let buffer = TokenBuffer::new2(alloc, &stream, 1)?;
-    let impl_block = derived_of(alloc, &map, &buffer)?;
-    Ok(format!(in alloc; "{impl_block}\n")?)
+    put_derived(&map, &buffer, out)
 }
 
 fn main(rt: HostRuntime) -> Result<()> {
     let mut text = String::new(rt.alloc());
     rt.reader().read_to_string(&mut text)?;
-    let out = print(text.as_str(), rt.alloc())?;
+    let mut out = String::new(rt.alloc());
+    put_text(text.as_str(), &mut out)?;
     rt.stdout().write_all(out.as_bytes())?;
     Ok(())
 }

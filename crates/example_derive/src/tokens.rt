@@ -14,6 +14,7 @@ use anyhow::{Result, anyhow};
 use proc_macro2::{
     Delimiter, Group, Ident, Literal, Punct, Spacing, Span, TokenStream, TokenTree, TryClone,
 };
+use std::alloc::Global;
 use syn::{Piece, Tree, put_as_read, stream_of};
 
 /// Puts a word.
@@ -21,8 +22,7 @@ pub fn put_word(word: &str, out: &mut TokenStream) -> Result<()>
     ensures { OnOk result (IsPut out.old out.new (token.Ident (chars word.now))) }
 {
     let ident = Ident::new(out.allocator(), word, Span::call_site())?;
-    out.push_tree(TokenTree::from(ident))?;
-    Ok(())
+    Ok(out.push_tree(TokenTree::from(ident))?)
 }
 
 /// Puts an identifier that was read.
@@ -30,8 +30,7 @@ pub fn put_ident(ident: &Ident, out: &mut TokenStream) -> Result<()>
     ensures { OnOk result (out.new
         ≡ out.old ++ spanned (token.Ident (ident_text ident.now)) (ident_span ident.now) ∷ []) }
 {
-    out.push_tree(TokenTree::from(ident.try_clone()?))?;
-    Ok(())
+    Ok(out.push_tree(TokenTree::from(ident.try_clone()?))?)
 }
 
 /// Puts a mark.
@@ -39,8 +38,16 @@ pub fn put_mark(mark: char, spacing: Spacing, out: &mut TokenStream) -> Result<(
     requires { is_mark mark ≡ true }
     ensures { OnOk result (IsPut out.old out.new (token.Punct mark spacing)) }
 {
-    out.push_tree(TokenTree::from(Punct::new(mark, spacing)))?;
-    Ok(())
+    Ok(out.push_tree(TokenTree::from(Punct::new(mark, spacing)))?)
+}
+
+/// Puts a comma in front of what isn't the first.
+#[tactic(auto, using(proc_macro2::proofs::Marks::known_mark))]
+pub fn put_comma(index: usize, out: &mut TokenStream) -> Result<()> {
+    if index == 0 {
+        return Ok(());
+    }
+    put_mark(',', Spacing::Alone, out)
 }
 
 /// Puts a lifetime of that name.
@@ -58,8 +65,7 @@ pub fn put_text(text: &str, out: &mut TokenStream) -> Result<()>
     ensures { OnOk result (IsPut out.old out.new (token.Literal (string_text (chars text.now)))) }
 {
     let literal = Literal::string(out.allocator(), text)?;
-    out.push_tree(TokenTree::from(literal))?;
-    Ok(())
+    Ok(out.push_tree(TokenTree::from(literal))?)
 }
 
 /// Puts a group.
@@ -67,30 +73,31 @@ pub fn put_group(delimiter: Delimiter, inside: TokenStream, out: &mut TokenStrea
     ensures { OnOk result (out.new ≡ out.old
         ++ spanned (token.Opens delimiter) call_site ∷ inside ++ spanned (token.Closes delimiter) call_site ∷ []) }
 {
-    out.push_tree(TokenTree::from(Group::new(delimiter, inside)))?;
-    Ok(())
+    Ok(out.push_tree(TokenTree::from(Group::new(delimiter, inside)))?)
 }
 
 // A mark at the end stands alone: what followed it in the text does not follow it here.
-fn end_alone(pieces: &mut Vec<Piece>) -> Result<()> {
-    match pieces.pop() {
-        Some(Piece::Mark(mark, _)) => pieces.push(Piece::Mark(mark, Spacing::Alone))?,
-        Some(piece) => pieces.push(piece)?,
-        None => {}
+fn end_alone(pieces: &mut Vec<Piece>) {
+    if let Some(Piece::Mark(_, spacing)) = pieces.last_mut() {
+        *spacing = Spacing::Alone;
     }
-    Ok(())
+}
+
+// The tokens of what was read, but that a mark at its end stands alone.
+fn tokens_of(alloc: Global, tree: &Tree) -> Result<TokenStream> {
+    let mut pieces = Vec::new(alloc);
+    put_as_read(tree, &mut pieces)?;
+    end_alone(&mut pieces);
+    match stream_of(alloc, &pieces)? {
+        Some(stream) => Ok(stream),
+        None => Err(anyhow!("no tokens of a stream")),
+    }
 }
 
 /// Puts what was read, as it was read, but that a mark at its end stands alone.
 pub fn put_tree(tree: &Tree, out: &mut TokenStream) -> Result<()>
     ensures { OnOk result (IsBehind out.old out.new) }
 {
-    let mut pieces = Vec::new(out.allocator());
-    put_as_read(tree, &mut pieces)?;
-    end_alone(&mut pieces)?;
-    let Some(stream) = stream_of(out.allocator(), pieces.as_slice())? else {
-        return Err(anyhow!("no tokens of a stream"));
-    };
-    out.push_stream(stream)?;
-    Ok(())
+    let stream = tokens_of(out.allocator(), tree)?;
+    Ok(out.push_stream(stream)?)
 }

@@ -98,6 +98,13 @@ fn front<'a>(arena: &'a Arena, kind: Kind, two: &Two<'a>) -> Result<Tree<'a>> {
     }
 }
 
+// A form with an operand in front of it.
+#[cycle(folded)]
+fn back<'a>(arena: &'a Arena, kind: Kind, two: &Two<'a>) -> Result<Tree<'a>> {
+    let left = folded(arena, &two.front)?;
+    Ok(made::back(arena, left, kind, two.back.copy())?)
+}
+
 // What a form between numbers is.
 fn value(left: &Tree<'_>, kind: Kind, own: &Tree<'_>, right: &Tree<'_>) -> Option<i128> {
     if !matches!(kind, Kind::ExprSum | Kind::ExprProduct) {
@@ -131,10 +138,7 @@ pub(crate) fn folded<'a>(arena: &'a Arena, tree: &Tree<'a>) -> Result<Tree<'a>> 
             None => Ok(tree.copy()),
         },
         Form::Front(kind, two) => front(arena, *kind, two),
-        Form::Back(kind, two) => {
-            let left = folded(arena, &two.front)?;
-            Ok(made::back(arena, left, *kind, two.back.copy())?)
-        }
+        Form::Back(kind, two) => back(arena, *kind, two),
         Form::Infix(kind, three) => infix(arena, *kind, three),
         _ => Ok(tree.copy()),
     }

@@ -44,13 +44,20 @@ fn put_folded<'a>(arena: &'a Arena, tree: &Tree<'a>, out: &mut String) -> Result
     Ok(put_form(&form, out)?)
 }
 
+// The line that is said of what is no expression.
+fn put_fault(fault: &ParseFault, out: &mut String) -> Result<()> {
+    match fault {
+        ParseFault::Syntax(_) => Ok(writeln!(out, "no expression")?),
+        ParseFault::Memory => Err(anyhow!("out of memory")),
+    }
+}
+
 // The line that is said of what a buffer holds.
 fn put_line(buffer: &TokenBuffer, out: &mut String) -> Result<()> {
     let arena = Arena::new(*out.allocator());
     match parse_as(&arena, Kind::Expression(Position::Plain), buffer) {
         Ok(tree) => put_folded(&arena, &tree, out),
-        Err(ParseFault::Syntax(_)) => Ok(writeln!(out, "no expression")?),
-        Err(ParseFault::Memory) => Err(anyhow!("out of memory")),
+        Err(fault) => put_fault(&fault, out),
     }
 }
 
@@ -63,13 +70,19 @@ fn put_text(text: &str, out: &mut String) -> Result<()> {
     put_line(&buffer, out)
 }
 
+// The lines that are said of the lines of a text.
+fn put_lines(lines: &str, out: &mut String) -> Result<()> {
+    for text in lines.lines() {
+        put_text(text, out)?;
+    }
+    Ok(())
+}
+
 fn main(rt: HostRuntime) -> Result<()> {
     let mut lines = String::new(rt.alloc());
     rt.reader().read_to_string(&mut lines)?;
     let mut out = String::new(rt.alloc());
-    for text in lines.as_str().lines() {
-        put_text(text, &mut out)?;
-    }
+    put_lines(lines.as_str(), &mut out)?;
     rt.stdout().write_all(out.as_bytes())?;
     Ok(())
 }

@@ -30,16 +30,21 @@ fn radix(base: Base) -> u32
     }
 }
 
+// A number with a digit of a base behind it. None where it is no digit, or it overflows.
+fn with_digit(number: i128, digit: char, base: Base) -> Option<i128> {
+    let radix = radix(base);
+    let digit = digit.to_digit(radix)?;
+    number
+        .checked_mul(i128::from(radix))?
+        .checked_add(i128::from(digit))
+}
+
 // The number that digits of a base write, underscores among them. None where one is no digit, or it overflows.
 fn digits(text: &str, base: Base) -> Option<i128> {
     let mut number = 0i128;
     for c in text.chars() {
         if c != '_' {
-            let radix = radix(base);
-            let digit = c.to_digit(radix)?;
-            number = number
-                .checked_mul(i128::from(radix))?
-                .checked_add(i128::from(digit))?;
+            number = with_digit(number, c, base)?;
         }
     }
     Some(number)

@@ -9,8 +9,8 @@ use anyhow::Result;
 use std::alloc::AllocError;
 use std::io::{Read, Write};
 use syn::{
-    Arena, Delimiter, Ident, Kind, ParseFault, ParseForms, Plus, Position, SourceMap, Span,
-    TokenBuffer, TokenStream, Tree, print, write,
+    Arena, Ident, Kind, ParseFault, ParseForms, Plus, Position, SourceMap, Span, TokenBuffer,
+    TokenStream, Tree, print, write,
 };
 use syn_kinds::token;
 use syn_parse::{ParseBuffer, Punctuated, parse_buffer, parse_terminated_with};
@@ -30,18 +30,20 @@ struct Settings<'a> {
     list: Punctuated<Setting<'a>, token::Comma>,
 }
 
-// `: Type = expression`
-fn parse_typed<'a>(
-    input: &mut ParseBuffer<'a>,
-    arena: &'a Arena,
-) -> Result<(Tree<'a>, Tree<'a>), ParseFault>
+// `: Type`
+fn parse_type<'a>(input: &mut ParseBuffer<'a>, arena: &'a Arena) -> Result<Tree<'a>, ParseFault>
     ensures { IsOnward input.old input.new }
 {
     input.parse::<token::Colon>()?;
-    let ty = input.parse_as(arena, Kind::AType(Plus::WithPlus))?;
+    input.parse_as(arena, Kind::AType(Plus::WithPlus))
+}
+
+// `= expression`
+fn parse_value<'a>(input: &mut ParseBuffer<'a>, arena: &'a Arena) -> Result<Tree<'a>, ParseFault>
+    ensures { IsOnward input.old input.new }
+{
     input.parse::<token::Eq>()?;
-    let value = input.parse_as(arena, Kind::Expression(Position::Plain))?;
-    Ok((ty, value))
+    input.parse_as(arena, Kind::Expression(Position::Plain))
 }
 
 // The setting that stands there.
@@ -52,7 +54,8 @@ fn parse_setting<'a>(
     ensures { IsOnward input.old input.new }
 {
     let name = input.parse::<Ident>()?;
-    let (ty, value) = parse_typed(input, arena)?;
+    let ty = parse_type(input, arena)?;
+    let value = parse_value(input, arena)?;
     Ok(Setting { name, ty, value })
 }
 
@@ -79,8 +82,21 @@ fn parse_word(input: &mut ParseBuffer) -> Result<(), ParseFault>
     if input.parse::<Ident>()?.is_text("settings") {
         Ok(())
     } else {
-        Err(ParseFault::from(start.error("expected `settings`")?))
+        Err(start.expected("`settings`"))
     }
+}
+
+// The settings that stand there in braces.
+fn parse_braced<'a>(
+    input: &mut ParseBuffer<'a>,
+    arena: &'a Arena,
+) -> Result<Punctuated<Setting<'a>, token::Comma>, ParseFault>
+    ensures { IsOnward input.old input.new }
+{
+    let mut braces = input.parse_braces()?;
+    let list = parse_list(&mut braces.content, arena)?;
+    input.close(braces.content);
+    Ok(list)
 }
 
 // The settings that stand there, with their name.
@@ -92,12 +108,7 @@ fn parse_settings<'a>(
 {
     parse_word(input)?;
     let name = input.parse::<Ident>()?;
-    let (_, list) = input.within(
-        Delimiter::Brace,
-        |content| -> Result<Punctuated<Setting, token::Comma>, ParseFault>
-            ensures { IsOnward content.old content.new }
-        { parse_list(content, arena) },
-    )?;
+    let list = parse_braced(input, arena)?;
     Ok(Settings { name, list })
 }
 
@@ -157,7 +168,7 @@ fn put_settings(map: &SourceMap, settings: &Settings, out: &mut String) -> Resul
 }
 
 // What is said of a text that has none.
-fn put_fault(map: &SourceMap, fault: ParseFault, out: &mut String) -> Result<(), AllocError> {
+fn put_fault(map: &SourceMap, fault: &ParseFault, out: &mut String) -> Result<(), AllocError> {
     match fault {
         ParseFault::Syntax(error) => {
             write!(out, "  no settings: {error}")?;
@@ -172,7 +183,7 @@ fn put_buffer(map: &SourceMap, buffer: &TokenBuffer, out: &mut String) -> Result
     let arena = Arena::new(*out.allocator());
     match parsed(&arena, buffer) {
         Ok(settings) => put_settings(map, &settings, out),
-        Err(fault) => put_fault(map, fault, out),
+        Err(fault) => put_fault(map, &fault, out),
     }
 }
 
@@ -186,13 +197,19 @@ fn report(text: &str, out: &mut String) -> Result<()> {
     Ok(put_buffer(&map, &buffer, out)?)
 }
 
+// Each line of a text, and what is said of it.
+fn report_lines(lines: &str, out: &mut String) -> Result<()> {
+    for text in lines.lines() {
+        report(text, out)?;
+    }
+    Ok(())
+}
+
 fn main(rt: HostRuntime) -> Result<()> {
     let mut lines = String::new(rt.alloc());
     rt.reader().read_to_string(&mut lines)?;
     let mut out = String::new(rt.alloc());
-    for text in lines.as_str().lines() {
-        report(text, &mut out)?;
-    }
+    report_lines(lines.as_str(), &mut out)?;
     rt.stdout().write_all(out.as_bytes())?;
     Ok(())
 }

@@ -1,12 +1,13 @@
 //! What is said of the items of a file.
 
 use crate::part::{put_last, put_part};
+use crate::place::place_of;
 use anyhow::Result;
 use std::alloc::AllocError;
 use syn::{
     Arena, ClosureParam, Error, ItemFn, ItemImpl, ItemStatic, ItemTrait, LineColumn, Local,
     Parameter, ParseFault, PatType, PlacedParts, Receiver, ReceiverKind, Signature, SourceMap,
-    Span, StaticMutability, TokenBuffer, TokenStream, Tree, parse_file, put_nodes,
+    StaticMutability, TokenBuffer, Tree, parse_file, put_nodes,
 };
 
 // How a function takes its receiver.
@@ -78,15 +79,6 @@ fn put_static(item: &ItemStatic, out: &mut String) -> Result<(), AllocError> {
     match item.mutability {
         StaticMutability::Mut(word) => writeln!(out, "static {name}: {word}"),
         StaticMutability::None => writeln!(out, "static {name}"),
-    }
-}
-
-// Where a token begins, if it stands in a text of the map.
-fn place_of(map: &SourceMap, span: Span) -> Option<LineColumn> {
-    if map.holds(span) && !span.eq(&Span::call_site()) {
-        Some(span.start(map))
-    } else {
-        None
     }
 }
 
@@ -168,18 +160,9 @@ fn put_nodes_of(map: &SourceMap, file: &Tree, out: &mut String) -> Result<(), Al
     Ok(())
 }
 
-// The same of the file that a buffer holds.
-fn put_file(map: &SourceMap, buffer: &TokenBuffer, out: &mut String) -> Result<()> {
+/// Puts what is said of each function, pattern with its type, static, impl and trait of the file that a buffer holds.
+pub(crate) fn put_file(map: &SourceMap, buffer: &TokenBuffer, out: &mut String) -> Result<()> {
     let arena = Arena::new(*out.allocator());
     let file = parse_file(&arena, buffer)?;
     Ok(put_nodes_of(map, &file, out)?)
-}
-
-/// Puts what is said of each function, pattern with its type, static, impl and trait of the file that a text is.
-pub(crate) fn put_text(text: &str, out: &mut String) -> Result<()> {
-    let alloc = *out.allocator();
-    let mut map = SourceMap::new(alloc);
-    let stream = TokenStream::from_str(alloc, text, &mut map)?;
-    let buffer = TokenBuffer::new2(alloc, &stream, 1)?;
-    put_file(&map, &buffer, out)
 }

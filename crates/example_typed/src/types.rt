@@ -4,9 +4,8 @@ use crate::part::{put_last, put_part};
 use anyhow::{Result, anyhow};
 use std::alloc::AllocError;
 use syn::{
-    AnyPath, Arena, Kind, ParseFault, Plus, PointerMutability, QualifiedPath, SourceMap,
-    TokenBuffer, TokenStream, Tree, Type, TypeArray, TypeFnPtr, TypePath, TypePtr, TypeReference,
-    parse_as,
+    AnyPath, Arena, Kind, ParseFault, Plus, PointerMutability, QualifiedPath, TokenBuffer, Tree,
+    Type, TypeArray, TypeFnPtr, TypePath, TypePtr, TypeReference, parse_as,
 };
 
 // What a reference is.
@@ -109,25 +108,19 @@ fn put_forms(depth: usize, tree: &Tree, out: &mut String) -> Result<()> {
     }
 }
 
-// What is said of the type that a buffer holds.
-fn put_type(buffer: &TokenBuffer, out: &mut String) -> Result<()> {
-    let arena = Arena::new(*out.allocator());
-    match parse_as(&arena, Kind::AType(Plus::WithPlus), buffer) {
-        Ok(tree) => put_forms(8, &tree, out),
-        Err(ParseFault::Syntax(_)) => {
-            writeln!(out, "  no type")?;
-            Ok(())
-        }
-        Err(ParseFault::Memory) => Err(anyhow!("out of memory")),
+// What is said of what is no type.
+fn put_fault(fault: &ParseFault, out: &mut String) -> Result<()> {
+    match fault {
+        ParseFault::Syntax(_) => Ok(writeln!(out, "  no type")?),
+        ParseFault::Memory => Err(anyhow!("out of memory")),
     }
 }
 
-/// Puts a type's text, and below it what the type is, and then the type in it, at most eight deep.
-pub(crate) fn put_text(text: &str, out: &mut String) -> Result<()> {
-    let alloc = *out.allocator();
-    writeln!(out, "{text}")?;
-    let mut map = SourceMap::new(alloc);
-    let stream = TokenStream::from_str(alloc, text, &mut map)?;
-    let buffer = TokenBuffer::new2(alloc, &stream, 1)?;
-    put_type(&buffer, out)
+/// Puts what the type is that a buffer holds, and below it what the type in it is, at most eight deep.
+pub(crate) fn put_type(buffer: &TokenBuffer, out: &mut String) -> Result<()> {
+    let arena = Arena::new(*out.allocator());
+    match parse_as(&arena, Kind::AType(Plus::WithPlus), buffer) {
+        Ok(tree) => put_forms(8, &tree, out),
+        Err(fault) => put_fault(&fault, out),
+    }
 }

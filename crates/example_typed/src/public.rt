@@ -1,14 +1,10 @@
-//! A source rewriter: reads a struct from standard input and writes it with each of its named fields public. What is read
-//! is taken apart by `of`, and what is changed is put together by `to_tree`, with the other fields as they were.
-#![tactic(auto)]
+//! A struct, written with each of its named fields public. What is read is taken apart by `of`, and what is changed is put
+//! together by `to_tree`, with the other fields as they were.
 
 use anyhow::{Result, anyhow};
-use std::alloc::Global;
-use std::io::{Read, Write};
 use syn::{
     Arena, Data, DataStruct, DeriveInput, Element, Elements, Fields, FieldsNamed, Ident,
-    NamedField, SourceMap, Span, TokenBuffer, TokenStream, Tree, Visibility, parse2, print,
-    put_normal,
+    NamedField, Span, TokenBuffer, Tree, Visibility, parse2, print, put_normal,
 };
 use syn_made::to_tree::ToTree;
 use syn_made::try_to_tree::TryToTree;
@@ -91,46 +87,30 @@ fn public_visibility<'a>(arena: &'a Arena) -> Result<Tree<'a>> {
 
 // A struct that was read, with its fields public.
 fn rewritten<'a>(arena: &'a Arena, input: &DeriveInput<'_, 'a>) -> Result<Tree<'a>> {
-    let Data::Struct(item) = input.data else {
+    let Data::Struct(item) = &input.data else {
         return Err(anyhow!("it is no struct"));
     };
-    let Fields::Named(fields) = item.fields else {
+    let Fields::Named(fields) = &item.fields else {
         return Err(anyhow!("its fields have no names"));
     };
     let vis = public_visibility(arena)?;
-    public_struct(arena, &vis, input, &item, &fields)
+    public_struct(arena, &vis, input, item, fields)
 }
 
-// The printed normal form of a tree.
-fn printed<'a>(arena: &'a Arena, tree: &Tree<'a>) -> Result<String> {
+// The line of a tree that was put together, in its normal form.
+fn put_made<'a>(arena: &'a Arena, tree: &Tree<'a>, out: &mut String) -> Result<()> {
     let mut pieces = Vec::new(arena.alloc());
-    match put_normal(arena, tree, &mut pieces) {
-        Ok(()) => Ok(print(arena.alloc(), &pieces)?),
-        Err(_) => Err(anyhow!("out of memory")),
+    if put_normal(arena, tree, &mut pieces).is_err() {
+        return Err(anyhow!("out of memory"));
     }
+    let text = print(arena.alloc(), &pieces)?;
+    Ok(writeln!(out, "{text}")?)
 }
 
-// The tokens of the struct that a buffer holds, with its fields public.
-fn rewritten_of(alloc: Global, buffer: &TokenBuffer) -> Result<String> {
-    let arena = Arena::new(alloc);
+/// Puts the struct that a buffer holds, with its fields public.
+pub(crate) fn put_struct(buffer: &TokenBuffer, out: &mut String) -> Result<()> {
+    let arena = Arena::new(*out.allocator());
     let input = parse2::<DeriveInput>(&arena, buffer)?;
     let tree = rewritten(&arena, &input)?;
-    printed(&arena, &tree)
-}
-
-// The struct that a text is, with its fields public.
-fn public(text: &str, alloc: Global) -> Result<String> {
-    let mut map = SourceMap::new(alloc);
-    let stream = TokenStream::from_str(alloc, text, &mut map)?;
-    let buffer = TokenBuffer::new2(alloc, &stream, 1)?;
-    let out = rewritten_of(alloc, &buffer)?;
-    Ok(format!(in alloc; "{out}\n")?)
-}
-
-fn main(rt: HostRuntime) -> Result<()> {
-    let mut text = String::new(rt.alloc());
-    rt.reader().read_to_string(&mut text)?;
-    let out = public(text.as_str(), rt.alloc())?;
-    rt.stdout().write_all(out.as_bytes())?;
-    Ok(())
+    put_made(&arena, &tree, out)
 }
