@@ -16,3 +16,4 @@ pub mod Mixing
 pub mod Emptying
 pub mod Known
 pub mod Stepping
+pub mod Inside

@@ -7,7 +7,7 @@ use Rattle.syn_grammar.specs.Tree as t
 use Rattle.syn_grammar.specs.Tree.{flat}
 use Rattle.gram_build.specs.Begins.{front3}
 use Rattle.gram_build.specs.Heads.{head_tokens}
-use Rattle.gram_write.proofs.Inside.{last_below}
+use Rattle.gram_normal.proofs.Inside.{last_below}
 use Rattle.gram_normal.proofs.Heads.{elements_more, end_below, group_first, list_last, three_firsts, turns_more, two_firsts}
 use Rattle.gram_normal.proofs.first.+first.Goals as goal
 

@@ -6,7 +6,7 @@ use Rattle.gram_table.specs.Ops.{separator_of}
 use Rattle.gram_tree.specs.Forms.{elements, ending, tree_of, turns}
 use Rattle.gram_tree.specs.Size.{node_count}
 use Rattle.gram_tree.proofs.Sizes.{elements_below, tree_size, turns_size}
-use Rattle.gram_write.proofs.Inside.{last_below}
+use Rattle.gram_normal.proofs.Inside.{last_below}
 use Rattle.syn_grammar.specs.Tree as t
 use Rattle.gram_tree.specs.declared.tree.Element.{Element}
 use Rattle.syn_grammar.specs.Kept.{kept}

@@ -7,7 +7,7 @@ use Rattle.gram_table.specs.Ops.{separator_of}
 use Rattle.gram_tree.specs.Forms.{elements, ending, tree_of, turns}
 use Rattle.gram_tree.specs.Size.{node_count}
 use Rattle.gram_tree.proofs.Sizes.{elements_below, tree_size, turns_size}
-use Rattle.gram_write.proofs.Inside.{last_below}
+use Rattle.gram_normal.proofs.Inside.{last_below}
 use Rattle.gram_normal.proofs.laws.+laws.Goals as goal
 
 pub each_list-each_element-requires : goal.each_list-each_element-requires

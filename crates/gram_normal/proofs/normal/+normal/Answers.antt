@@ -10,7 +10,7 @@ use Rattle.gram_table.specs.Ops.{separator_of}
 use Rattle.gram_tree.specs.Forms.{elements, ending, seconds, tree_of, turns}
 use Rattle.gram_tree.specs.Size.{node_count}
 use Rattle.gram_tree.proofs.Sizes.{elements_below, tree_size, turns_size}
-use Rattle.gram_write.proofs.Inside.{last_below}
+use Rattle.gram_normal.proofs.Inside.{last_below}
 use Rattle.syn_grammar.specs.Tree as t
 use Rattle.gram_tree.specs.declared.tree.Element.{Element}
 use Rattle.syn_grammar.specs.Normal.{formed, normal_in, stands_behind}
