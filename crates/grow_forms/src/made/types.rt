@@ -162,10 +162,9 @@ impl<'a> Change<'a> for OneSegment<'a, 'a> {
 // The trait of a bound behind `?`.
 impl<'a> Change<'a> for TraitBound<'a, 'a> {
     fn changed(_by: By<'_, 'a>, tree: &'a Tree<'a>) -> Option<TraitBound<'a, 'a>> {
-        let Some(TypeParamBound::Trait(path)) = TypeParamBound::of(tree) else {
+        let Some(TypeParamBound::Trait(found)) = TypeParamBound::of(tree) else {
             return None;
         };
-        let found = TraitBound::of(path)?;
         let modifier = TraitBoundModifier::Maybe(mark(Sign::Question));
         Some(TraitBound { modifier, ..found })
     }
