@@ -2,7 +2,7 @@
 
 ghost use Rattle.gram_normal.specs.Parted.{found_of, parted, raw_behind, raw_choice, raw_item, raw_turn};
 ghost use Rattle.gram_tree.specs.Forms.{seconds, turns};
-ghost use Rattle.gram_write.specs.Operands.{first_behind, statement_of};
+ghost use Rattle.gram_way.specs.Operands.{first_behind, statement_of};
 ghost use Rattle.rust_leaf.specs.Leaf.{punct_char, punct_spacing};
 ghost use Rattle.rust_leaf.specs.declared.punct.Spacing.TheVariants.{Alone as Apart};
 ghost use Rattle.std.specs.Prelude.{◌++◌, ◌≡◌, IfOk, OnOk, map, option_map};
@@ -57,7 +57,7 @@ fn raw_item<'a>(tree: &Tree<'a>) -> Option<&'a [Entry<'a>]>
 }
 
 /// Behind so many seconds of a choice the first.
-#[tactic(auto, using(gram_write::proofs::Operands::firsts_behind))]
+#[tactic(auto, using(gram_way::proofs::Operands::firsts_behind))]
 pub(crate) fn first_behind<'t, 'a>(tree: &'t Tree<'a>, seconds: usize) -> Option<&'t Tree<'a>>
     ensures { option_map (λ x. x.now) result ≡ first_behind tree.now seconds }
 {

@@ -22,7 +22,7 @@ use gram_table::word::Sign;
 use gram_tree::arena::Arena;
 use gram_tree::made;
 use gram_tree::tree::Tree;
-use gram_write::seen::literal;
+use gram_way::seen::literal;
 use rust_leaf::punct::Spacing;
 use rust_map::span::Span;
 use std::alloc::AllocError;

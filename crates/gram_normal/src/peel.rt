@@ -2,8 +2,8 @@
 
 ghost use Rattle.gram_normal.specs.Peeled.{again_of, attributes_of, lone_type, macro_in, second_of};
 ghost use Rattle.gram_table.specs.Parts.{part_of};
-ghost use Rattle.gram_write.specs.Operands.{before_of, expression_of, pair_behind};
-ghost use Rattle.gram_write.specs.Seen.{called_of, is_choice, unnamed_of};
+ghost use Rattle.gram_way.specs.Operands.{before_of, expression_of, pair_behind};
+ghost use Rattle.gram_way.specs.Seen.{called_of, is_choice, unnamed_of};
 ghost use Rattle.std.specs.Prelude.{◌≡◌, IfOk, option_map};
 ghost use Rattle.syn_grammar.specs.Forms.{form_of};
 
@@ -41,7 +41,7 @@ pub(crate) fn second<'a>(tree: &Tree<'a>) -> Option<Tree<'a>>
 }
 
 /// Whether one of two was chosen.
-#[tactic(auto, using(gram_write::proofs::SeenForms::choices))]
+#[tactic(auto, using(gram_way::proofs::SeenForms::choices))]
 pub(crate) fn is_choice(tree: &Tree<'_>) -> bool
     ensures { result ≡ is_choice tree.now }
 {
@@ -53,7 +53,7 @@ pub(crate) fn is_choice(tree: &Tree<'_>) -> bool
 }
 
 /// Behind so many seconds both of two trees.
-#[tactic(auto, using(gram_write::proofs::Operands::pairs_behind))]
+#[tactic(auto, using(gram_way::proofs::Operands::pairs_behind))]
 pub(crate) fn pair_behind<'t, 'a>(
     tree: &'t Tree<'a>,
     seconds: usize,
@@ -81,7 +81,7 @@ pub(crate) fn pair_behind<'t, 'a>(
 }
 
 // Of a part its name and its inside.
-#[tactic(auto, using(gram_write::proofs::SeenForms::calleds))]
+#[tactic(auto, using(gram_way::proofs::SeenForms::calleds))]
 fn called<'t, 'a>(tree: &'t Tree<'a>) -> Option<(Part, &'t Tree<'a>)>
     ensures { option_map (λ p. (part_of p.0, p.1.now)) result ≡ called_of tree.now }
 {

@@ -2,8 +2,8 @@ use Rattle.std.specs.Prelude.{Some, None}
 use Rattle.std.proofs.Common.{◌≡◌, rules}
 use Rattle.gram_table.specs.Kinds.{kind_of}
 use Rattle.gram_tree.specs.Shapes.{node_of}
-use Rattle.gram_write.specs.Operands.{statement_of}
-use Rattle.gram_write.proofs.OffKinds.{in_node, statement_off}
+use Rattle.gram_way.specs.Operands.{statement_of}
+use Rattle.gram_way.proofs.OffKinds.{in_node, statement_off}
 use Rattle.gram_normal.proofs.apart.statement.Goals as goal
 
 pub returns-in_default : goal.returns-in_default

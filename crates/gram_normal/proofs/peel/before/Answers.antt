@@ -1,9 +1,9 @@
 use Rattle.std.specs.Prelude.{Some, None}
 use Rattle.std.proofs.Common.{◌≡◌, rules}
 use Rattle.gram_table.specs.Parts.{part_of}
-use Rattle.gram_write.specs.Seen.{called_of}
-use Rattle.gram_write.specs.Operands.{before_of}
-use Rattle.gram_write.proofs.OffKinds.{in_part, before_off}
+use Rattle.gram_way.specs.Seen.{called_of}
+use Rattle.gram_way.specs.Operands.{before_of}
+use Rattle.gram_way.proofs.OffKinds.{in_part, before_off}
 use Rattle.gram_normal.proofs.peel.before.Goals as goal
 
 pub returns-in_default : goal.returns-in_default

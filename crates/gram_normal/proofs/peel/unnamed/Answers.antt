@@ -1,9 +1,9 @@
 use Rattle.std.specs.Prelude.{Some, None}
 use Rattle.std.proofs.Common.{◌≡◌, rules}
 use Rattle.gram_table.specs.Parts.{part_of}
-use Rattle.gram_write.specs.Seen.{called_of}
-use Rattle.gram_write.specs.Seen.{unnamed_of}
-use Rattle.gram_write.proofs.OffKinds.{in_part, unnamed_off}
+use Rattle.gram_way.specs.Seen.{called_of}
+use Rattle.gram_way.specs.Seen.{unnamed_of}
+use Rattle.gram_way.proofs.OffKinds.{in_part, unnamed_off}
 use Rattle.gram_normal.proofs.peel.unnamed.Goals as goal
 
 pub returns-in_default : goal.returns-in_default
