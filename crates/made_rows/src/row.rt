@@ -1,9 +1,10 @@
 //! What is answered for a row.
 
-use crate::asked::lexed;
-use crate::made::asked::{Asked, asked_by};
-use crate::made::change::{Unmade, made};
+use crate::asked::{Asked, asked_by};
+use crate::change::{Unmade, made};
+use proc_macro2::{SourceMap, TokenStream};
 use rows::Page;
+use std::alloc::Global;
 use stops::{Stop, refused};
 use syn::{Arena, NormalFault, ParseFault, TokenBuffer, Tree, parse_as, print, put_normal};
 
@@ -149,6 +150,14 @@ fn put_held(asked: Asked, buffer: &TokenBuffer<'_>, page: &mut Page) -> Result<(
         fresh: &fresh,
     };
     put_read(arenas, asked, buffer, page)
+}
+
+// The tokens of a text.
+fn lexed(alloc: Global, text: &str) -> Result<TokenStream, Stop> {
+    match TokenStream::from_str(alloc, text, &mut SourceMap::new(alloc)) {
+        Ok(stream) => Ok(stream),
+        Err(_) => Err(Stop::Elsewhere),
+    }
 }
 
 /// Puts the answer to a row, of a kind with a change, and of a text.

@@ -1,7 +1,7 @@
 //! How what a row asks for is made: the value of a tree's type is changed, and becomes a tree again.
 
-use crate::made::asked::{Asked, To};
-use crate::made::{among, expressions, forms, items, statements};
+use crate::asked::{Asked, To};
+use crate::{among, expressions, forms, items, statements};
 use std::alloc::AllocError;
 use syn::{Arena, Elements, Ident, Mark, RangeLimits, Sign, Spacing, Span, Tree};
 use syn_made::to_tree::ToTree;

@@ -1,6 +1,6 @@
 //! Changes of attributes, visibilities and parameters of generics.
 
-use crate::made::change::{By, Change, mark};
+use crate::change::{By, Change, mark};
 use syn::{AttrStyle, Attribute, GenericParam, OuterAttributes, Sign, Tree, TypeParam, Visibility};
 
 // The first attribute of some, if there is one.

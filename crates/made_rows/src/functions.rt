@@ -1,6 +1,6 @@
 //! Changes of functions, parameters and receivers.
 
-use crate::made::change::{By, Change, Unmade, mark, tried};
+use crate::change::{By, Change, Unmade, mark, tried};
 use syn::{
     Arena, FnArg, ItemFn, Kind, OneParameter, Parameter, PatType, Receiver, ReceiverKind, Safety,
     Sign, Signature, Tree, Turns,

@@ -1,8 +1,8 @@
 //! Forms that are changed as they stand in a tree, each as a value of its type.
 
-use crate::made::asked::{Form, Part};
-use crate::made::change::{By, Unmade, remade, remade_always};
-use crate::made::{data, functions, patterns, types};
+use crate::asked::{Form, Part};
+use crate::change::{By, Unmade, remade, remade_always};
+use crate::{data, functions, patterns, types};
 use syn::{
     Arena, Arm, Attribute, DeriveInput, Field, FieldValue, File, GenericParam, OneSegment, Path,
     Plus, RangeEnd, Receiver, Segments, TraitBound, Tree, Variant, Visibility,

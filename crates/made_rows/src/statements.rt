@@ -1,7 +1,7 @@
 //! Changes of statements, blocks and files.
 
-use crate::made::asked;
-use crate::made::change::{By, Change, Unmade, held};
+use crate::asked;
+use crate::change::{By, Change, Unmade, held};
 use std::alloc::AllocError;
 use syn::{
     Arena, Block, BlockModifiers, BlockStmt, ExprBlock, ExprMacro, File, Frontmatter, Local,

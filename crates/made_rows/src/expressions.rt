@@ -1,7 +1,7 @@
 //! Changes of expressions, and of the fields and arms that stand in them.
 
-use crate::made::asked;
-use crate::made::change::{By, Change, Unmade, held, limits, mark, remade, remade_always, some_of};
+use crate::asked;
+use crate::change::{By, Change, Unmade, held, limits, mark, remade, remade_always, some_of};
 use syn::{
     Arena, Arm, BinOp, Expr, ExprBinary, ExprMethodCall, ExprRange, ExprTuple, ExprUnary,
     FieldValue, Position, Sign, Tree, UnOp,

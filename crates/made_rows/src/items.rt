@@ -1,7 +1,7 @@
 //! Changes of items, and of the items of traits and extern blocks.
 
-use crate::made::asked;
-use crate::made::change::{By, Change, Unmade, mark, remade, remade_always, some_of};
+use crate::asked;
+use crate::change::{By, Change, Unmade, mark, remade, remade_always, some_of};
 use syn::{
     Arena, AssociatedItem, Delimiter, Delimiters, ForeignItem, Item, ItemEnum, ItemFn, ItemImpl,
     ItemMacro, ItemMod, ItemTrait, ItemTraitAlias, ItemType, MacroDelimiter, Name, Sign, Signature,

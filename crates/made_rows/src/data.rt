@@ -1,6 +1,6 @@
 //! Changes of fields, variants and what is derived for.
 
-use crate::made::change::{By, Change, Unmade, mark, tried};
+use crate::change::{By, Change, Unmade, mark, tried};
 use syn::{Arena, Data, DataStruct, DeriveInput, Field, Fields, Sign, Tree, Variant};
 use syn_made::item::derive::item;
 

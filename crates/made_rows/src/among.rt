@@ -1,7 +1,7 @@
 //! Items without their attributes and their visibility: by themselves, or put where they stand, behind `pub` or `default`.
 
-use crate::made::asked::Whole;
-use crate::made::change::{By, Unmade, tried};
+use crate::asked::Whole;
+use crate::change::{By, Unmade, tried};
 use syn::{
     Arena, AssociatedItem, ForeignItem, Ident, Item, OuterAttributes, Tree, Turns, Visibility,
 };

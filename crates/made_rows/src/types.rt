@@ -1,6 +1,6 @@
 //! Changes of types, paths and bounds.
 
-use crate::made::change::{By, Change, Unmade, mark, some_of, tried};
+use crate::change::{By, Change, Unmade, mark, some_of, tried};
 use syn::{
     Arena, Marked, OneSegment, Path, Plus, Segments, Sign, SomeBounds, Style, TraitBound,
     TraitBoundModifier, Tree, Type, TypeBounds, TypeImplTrait, TypeParamBound, TypePath,

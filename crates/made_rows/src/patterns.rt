@@ -1,6 +1,6 @@
 //! Changes of patterns.
 
-use crate::made::change::{By, Change, Unmade, limits, tried};
+use crate::change::{By, Change, Unmade, limits, tried};
 use syn::{Arena, Pat, PatRange, PatReference, RangeEnd, Tree};
 use syn_made::ast::whole::pattern;
 
