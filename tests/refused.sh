@@ -2,11 +2,11 @@
 # Runs built programs once for each allocation that they make, refusing that one: canon_cli on a small text, on a
 # large text, on doc and other comments, on texts at fault, on an argument, and for an outline; lex_cli on its stored input; lex_rows on each text of
 # tests/texts, behind an older text in its map, and on what it reads, builds and shows by itself, literals of texts and their
-# values among it; parse_rows on what it reads, builds, writes and prints by itself; and grow_forms likewise, and on its
+# values among it; parse_rows on what it reads, builds, writes and prints by itself; grow_forms likewise; and made_rows on its
 # stored input, whose rows are trees that are made of the syntax tree's types. Each run must give the answer itself, with its
 # status and what it says on standard error, or end with nothing written: with status 3 where memory was refused (in
-# lex_rows, parse_rows and the programs grow_ to a call that is looked at, which then left all as it was), or with their status 4 where
-# it was refused elsewhere.
+# lex_rows, parse_rows, grow_forms and made_rows to a call that is looked at, which then left all as it was), or with their
+# status 4 where it was refused elsewhere.
 # canon_cli says "canon: out of memory" then, and the others nothing.
 # Usage: tests/refused.sh. `rt run` proves and builds the programs first. It needs cc, glibc and python3.
 set -euo pipefail
@@ -16,9 +16,11 @@ trap 'rm -rf "$work"' EXIT
 cc -shared -fPIC -O1 -o "$work/refuse_one.so" refuse_one.c
 : > "$work/nothing"
 
-# build PROGRAM
+# build PROGRAM, which is run on its stored input, if it has one.
 build() {
-    (cd "../crates/$1" && rt run < stdin > "$work/out" 2> "$work/err") || { cat "$work/err" >&2; exit 1; }
+    local input=/dev/null
+    [ ! -e "../crates/$1/stdin" ] || input=stdin
+    (cd "../crates/$1" && rt run < "$input" > "$work/out" 2> "$work/err") || { cat "$work/err" >&2; exit 1; }
 }
 
 # sweep NAME PROGRAM INPUT [ARGUMENT..], which must give the status $want, the file $answer and the words $said,
@@ -53,7 +55,7 @@ sweep() {
     echo "$name: $((n - 1)) allocations refused, $refused with status 3, $elsewhere elsewhere, $((answered - 1)) without effect"
 }
 
-for program in canon_cli lex_cli lex_rows parse_rows grow_forms; do
+for program in canon_cli lex_cli lex_rows parse_rows grow_forms made_rows; do
     build "$program"
 done
 
@@ -113,4 +115,6 @@ answer=$work/grown.answer
 sed '/^# /,$d' ../crates/parse_rows/stdout > "$answer"
 sweep "reading, building and printing syntax" parse_rows /dev/null grow
 answer=../crates/grow_forms/stdout
-sweep "forms that are read, written, built and made of types" grow_forms ../crates/grow_forms/stdin
+sweep "forms that are read, written, built and compared" grow_forms "$work/nothing"
+answer=../crates/made_rows/stdout
+sweep "trees that are made of types" made_rows ../crates/made_rows/stdin

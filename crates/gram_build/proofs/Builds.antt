@@ -17,8 +17,8 @@ use Rattle.binding_laws.specs.Written.{infix_of}
 use Rattle.binding_laws.proofs.OnePass.{written}
 use Rattle.gram_tree.specs.declared.tree.Element.{Element}
 use Rattle.gram_tree.specs.Forms.{mark_of, seconds, turns, elements, ending}
+use Rattle.gram_way.specs.Said.{said, own_said}
 use Rattle.gram_write.specs.Formed.{IsFormed, HasFormed}
-use Rattle.gram_write.specs.Said.{said, own_said}
 use Rattle.gram_write.proofs.Bare.{has_made}
 use Rattle.gram_build.specs.Asked.{said_in}
 use Rattle.gram_build.specs.Behind.{put_behind, first_own, last_behind}

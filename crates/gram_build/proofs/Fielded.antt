@@ -14,8 +14,8 @@ use Rattle.syn_grammar.specs.Forms.{level}
 use Rattle.syn_grammar.specs.Parens.{may_lack, takes_what_follows, stands_in, follow}
 use Rattle.binding_laws.specs.Written.{Written, Last, other, a_cast, a_named_field, last_of, write, paren_unless}
 use Rattle.binding_laws.specs.Written.{may_end, may_left, ends_in, back_of}
+use Rattle.gram_way.specs.Said.{said, fields, front_fields, last_said, own_said}
 use Rattle.gram_write.specs.Formed.{IsFormed}
-use Rattle.gram_write.specs.Said.{said, fields, front_fields, last_said, own_said}
 use Rattle.gram_build.specs.Behind.{put_at, put_behind, field_own, last_own, dotted_first, first_own}
 use Rattle.gram_build.specs.Behind.{last_behind}
 

@@ -19,12 +19,12 @@ use Rattle.gram_tree.specs.declared.tree.Element.{Element}
 use Rattle.gram_tree.specs.Forms.{mark_of, seconds, elements, ending}
 use Rattle.binding_laws.specs.Written.{other}
 use Rattle.binding_laws.specs.Written as w
-use Rattle.gram_write.specs.Said.{said, fields, front_fields, own_said}
-use Rattle.gram_write.specs.Seen.{text_of_literal}
-use Rattle.gram_write.specs.Way.{dotted_of, is_dotted, last_text}
-use Rattle.gram_write.proofs.SeenForms.{some_none}
+use Rattle.gram_way.specs.Said.{said, fields, front_fields, own_said}
+use Rattle.gram_way.specs.Seen.{text_of_literal}
+use Rattle.gram_way.specs.Way.{dotted_of, is_dotted, last_text}
+use Rattle.gram_way.proofs.SeenForms.{some_none}
+use Rattle.gram_way.proofs.WayForms.{dotted_is}
 use Rattle.gram_write.proofs.Bare.{has_made}
-use Rattle.gram_write.proofs.WayForms.{dotted_is}
 use Rattle.gram_write.specs.Formed.{IsFormed}
 use Rattle.gram_build.specs.Begins.{front2, front3}
 use Rattle.gram_build.specs.Behind.{field_own, last_own, dotted_first, first_own, last_behind, is_numbered}

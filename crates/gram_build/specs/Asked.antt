@@ -5,8 +5,8 @@ use Rattle.syn_grammar.specs.Kind.{Position, Expression}
 use Rattle.syn_grammar.specs.Tree.{Tree, Node, Whole}
 use Rattle.syn_grammar.specs.Kept.{kept}
 use Rattle.binding_laws.specs.Written.{write}
+use Rattle.gram_way.specs.Said.{said}
 use Rattle.gram_write.specs.Formed.{HasFormed}
-use Rattle.gram_write.specs.Said.{said}
 use Rattle.gram_build.specs.Begins.{front3}
 use Rattle.gram_build.specs.Heads.{head_tokens}
 use Rattle.gram_build.specs.Kept.{kept_of}

@@ -4,8 +4,8 @@ use Rattle.proc_macro2.specs.Token.{Token}
 use Rattle.binding_laws.specs.Written as w
 use Rattle.syn_grammar.specs.Kind.{Kind}
 use Rattle.syn_grammar.specs.Tree.{Tree, flat}
-use Rattle.gram_write.specs.Said.{own_said}
-use Rattle.gram_write.specs.Way.{dotted_of, is_dotted}
+use Rattle.gram_way.specs.Said.{own_said}
+use Rattle.gram_way.specs.Way.{dotted_of, is_dotted}
 use Rattle.gram_build.specs.Begins.{front2, front3}
 use Rattle.gram_build.specs.Heads.{head_tokens}
 use Rattle.gram_build.specs.Behind.{first_own, last_behind}

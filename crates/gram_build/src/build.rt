@@ -7,8 +7,8 @@ ghost use Rattle.gram_build.specs.Heads.{head_tokens};
 ghost use Rattle.gram_build.specs.Kept.{HasHead, kept_of};
 ghost use Rattle.gram_piece.specs.Pieces.{piece_token};
 ghost use Rattle.gram_table.specs.Kinds.{kind_of, position_of};
+ghost use Rattle.gram_way.specs.Front.{Keeps};
 ghost use Rattle.gram_write.specs.Formed.{HasFormed};
-ghost use Rattle.gram_write.specs.Front.{Keeps};
 ghost use Rattle.proc_macro2.specs.Token.{Token};
 ghost use Rattle.std.specs.Prelude.{◌++◌, ◌≡◌, IfOk, List, OnOk, map};
 ghost use Rattle.syn_grammar.specs.Forms.{inside, is_block_like, is_brace_macro};
@@ -218,7 +218,7 @@ fn written<'a>(
 ///
 /// Where there is no memory for more tokens. Those that stood there stand in front then too, perhaps with some of the
 /// expression's behind them.
-#[tactic(auto, using(gram_write::proofs::Fronts::keeps_same))]
+#[tactic(auto, using(gram_way::proofs::Fronts::keeps_same))]
 pub fn write_in<'a>(
     position: Position,
     tree: &Tree<'a>,

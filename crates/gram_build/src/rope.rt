@@ -2,7 +2,7 @@
 
 ghost use Rattle.gram_build.specs.Ropes.{rope_tokens};
 ghost use Rattle.gram_piece.specs.Pieces.{piece_token};
-ghost use Rattle.gram_write.specs.Front.{Keeps};
+ghost use Rattle.gram_way.specs.Front.{Keeps};
 ghost use Rattle.proc_macro2.specs.Token.{Closes, Opens};
 ghost use Rattle.proc_macro2.specs.declared.delimiter.Delimiter.TheVariants.{Parenthesis};
 ghost use Rattle.std.specs.Prelude.{[], ◌++◌, ◌∷◌, ◌≡◌, IfOk, OnOk, map};
@@ -53,7 +53,7 @@ pub(crate) fn enclosed<'a>(alloc: Global, inside: Rope<'a>) -> Result<Rope<'a>, 
 }
 
 // Puts a token behind those that are to be written.
-#[tactic(auto, using(crate::proofs::Pushing::puts, gram_write::proofs::Fronts::kept))]
+#[tactic(auto, using(crate::proofs::Pushing::puts, gram_way::proofs::Fronts::kept))]
 fn put<'a>(piece: Piece<'a>, out: &mut Vec<Piece<'a>>) -> Result<(), AllocError>
     ensures put { OnOk result (map piece_token out.new.items
         ≡ map piece_token out.old.items ++ piece_token piece.entry ∷ []) }
@@ -64,7 +64,7 @@ fn put<'a>(piece: Piece<'a>, out: &mut Vec<Piece<'a>>) -> Result<(), AllocError>
 }
 
 // Puts tokens behind those that are to be written.
-#[tactic(auto, using(crate::proofs::Pushing::puts, gram_write::proofs::Fronts::kept))]
+#[tactic(auto, using(crate::proofs::Pushing::puts, gram_way::proofs::Fronts::kept))]
 fn put_pieces<'a>(pieces: &[Piece<'a>], out: &mut Vec<Piece<'a>>) -> Result<(), AllocError>
     ensures put { OnOk result (map piece_token out.new.items
         ≡ map piece_token out.old.items ++ map piece_token pieces.now) }
@@ -81,7 +81,7 @@ fn put_pieces<'a>(pieces: &[Piece<'a>], out: &mut Vec<Piece<'a>>) -> Result<(), 
 /// # Errors
 ///
 /// Where there is no memory for more tokens. Those that stood there stand in front then too.
-#[tactic(auto, using(crate::proofs::Pushing::puts, gram_write::proofs::Fronts::kept))]
+#[tactic(auto, using(crate::proofs::Pushing::puts, gram_way::proofs::Fronts::kept))]
 pub(crate) fn put_rope<'a>(rope: &Rope<'a>, out: &mut Vec<Piece<'a>>) -> Result<(), AllocError>
     ensures put { OnOk result (map piece_token out.new.items
         ≡ map piece_token out.old.items ++ rope_tokens rope.now) }

@@ -24,10 +24,10 @@ use Rattle.gram_table.specs.declared.kind.Kind.TheVariants as kinds
 use Rattle.gram_tree.specs.declared.tree.Element.{Element}
 use Rattle.gram_tree.specs.Forms.{mark_of, seconds, turns, elements, ending}
 use Rattle.gram_tree.specs.Shapes.{last_of, node_of}
-use Rattle.gram_write.specs.Operands.{statement_of}
-use Rattle.gram_write.specs.Turns.{begun, earlier as before}
+use Rattle.gram_way.specs.Operands.{statement_of}
+use Rattle.gram_way.specs.Turns.{begun, earlier as before}
+use Rattle.gram_way.proofs.SeenForms.{node_is, same_pair, some_none}
 use Rattle.gram_write.proofs.Begins.{begun_append, sees_begun}
-use Rattle.gram_write.proofs.SeenForms.{node_is, same_pair, some_none}
 use Rattle.gram_normal.proofs.Firsts.{sees_first}
 use Rattle.gram_normal.specs.Parted.{earlier, parted, raw_at, raw_choice, raw_chosen, raw_found, raw_item, raw_stated}
 use Rattle.gram_normal.specs.Parted.{raw_turn}

@@ -11,10 +11,10 @@ use Rattle.syn_grammar.specs.Tree as t
 use Rattle.syn_grammar.specs.Tree.{Tree}
 use Rattle.gram_tree.specs.declared.tree.Element.{Element}
 use Rattle.gram_tree.specs.Forms.{mark_of, seconds, turns, elements, ending}
-use Rattle.gram_write.specs.Seen.{text_of_literal}
-use Rattle.gram_write.specs.Way.{dotted_of, is_dotted, last_text}
-use Rattle.gram_write.proofs.SeenForms.{some_none}
-use Rattle.gram_write.proofs.WayForms.{dotted_is}
+use Rattle.gram_way.specs.Seen.{text_of_literal}
+use Rattle.gram_way.specs.Way.{dotted_of, is_dotted, last_text}
+use Rattle.gram_way.proofs.SeenForms.{some_none}
+use Rattle.gram_way.proofs.WayForms.{dotted_is}
 
 -- numbers in front
 pub fronts_none : (l : Tree) (xs : List Tree) → xs ≡ [] → l ≡ fields_in_front l (turns xs)

@@ -16,9 +16,9 @@ use Rattle.gram_table.specs.declared.kind.Style.{Style}
 use Rattle.gram_table.specs.declared.kind.Position.{Position}
 use Rattle.gram_table.specs.declared.kind.Place.{Place}
 use Rattle.gram_tree.specs.Shapes.{first_of, node_of, pair_of}
-use Rattle.gram_write.specs.Operands.{first_behind}
-use Rattle.gram_write.specs.Seen.{is_choice, text_of_literal}
-use Rattle.gram_write.proofs.SeenForms.{first_is, node_is, pair_is, some_none}
+use Rattle.gram_way.specs.Operands.{first_behind}
+use Rattle.gram_way.specs.Seen.{is_choice, text_of_literal}
+use Rattle.gram_way.proofs.SeenForms.{first_is, node_is, pair_is, some_none}
 use Rattle.gram_normal.specs.Peeled.{argued_block, argued_literal, default_behind, is_body, lone_type, second_of}
 use Rattle.gram_normal.proofs.Peeling.{second_is}
 

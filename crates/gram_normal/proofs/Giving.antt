@@ -18,9 +18,9 @@ use Rattle.gram_table.specs.declared.kind.Position as gp
 use Rattle.gram_tree.specs.declared.tree.Element.{Element}
 use Rattle.gram_tree.specs.Forms.{mark_of, seconds, turns, elements, ending}
 use Rattle.gram_tree.specs.Shapes.{first_of, node_of, pair_of, whole_of}
-use Rattle.gram_write.specs.Operands.{before_of, expression_of, pair_behind}
-use Rattle.gram_write.proofs.Operands.{behind_is}
-use Rattle.gram_write.proofs.SeenForms.{first_is, node_is, pair_is, same_pair, some_none}
+use Rattle.gram_way.specs.Operands.{before_of, expression_of, pair_behind}
+use Rattle.gram_way.proofs.Operands.{behind_is}
+use Rattle.gram_way.proofs.SeenForms.{first_is, node_is, pair_is, same_pair, some_none}
 use Rattle.gram_normal.specs.Peeled.{attributes_of, expressed, macro_in, stated_macro}
 use Rattle.gram_normal.proofs.Peeling.{whole_is}
 

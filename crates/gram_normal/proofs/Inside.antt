@@ -8,7 +8,7 @@ use Rattle.gram_tree.specs.declared.tree.Tree.TheDeep.{size-Tree}
 use Rattle.gram_tree.specs.Forms.{elements}
 use Rattle.gram_tree.specs.Size.{node_count}
 use Rattle.gram_tree.proofs.Sizes.{tree_size}
-use Rattle.gram_write.proofs.Putting.{last_below as last_in}
+use Rattle.gram_way.proofs.Putting.{last_below as last_in}
 
 pub last_below : (c : ℕ) (es : List Element) (x y : Tree) → y ≡ elements c es (t.Final x) → size-Tree x < size-Tree y
 last_below c es x y e = omega (arith, last_in c es x, ap node_count e, tree_size x, tree_size y)

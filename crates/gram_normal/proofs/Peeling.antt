@@ -13,9 +13,9 @@ use Rattle.gram_table.specs.declared.kind.Position as gp
 use Rattle.gram_tree.specs.declared.tree.Element.{Element}
 use Rattle.gram_tree.specs.Forms.{mark_of, seconds, turns, elements, ending}
 use Rattle.gram_tree.specs.Shapes.{alone_of, node_of, whole_of}
-use Rattle.gram_write.specs.Operands.{first_behind}
-use Rattle.gram_write.specs.Seen.{unnamed_of}
-use Rattle.gram_write.proofs.SeenForms.{node_is, same_pair, some_none}
+use Rattle.gram_way.specs.Operands.{first_behind}
+use Rattle.gram_way.specs.Seen.{unnamed_of}
+use Rattle.gram_way.proofs.SeenForms.{node_is, same_pair, some_none}
 use Rattle.gram_normal.specs.Peeled.{again_of, attributes_of, lone_type, macro_in, second_of, unnamed_in}
 
 -- the second of a choice

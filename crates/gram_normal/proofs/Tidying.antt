@@ -15,7 +15,7 @@ use Rattle.gram_table.specs.declared.kind.Place.{Place}
 use Rattle.gram_tree.specs.declared.tree.Element.{Element}
 use Rattle.gram_tree.specs.Forms.{mark_of, seconds, turns, elements, ending}
 use Rattle.gram_tree.specs.Shapes.{first_of, is_second, node_of, pair_of}
-use Rattle.gram_write.proofs.SeenForms.{first_is, node_is, pair_is}
+use Rattle.gram_way.proofs.SeenForms.{first_is, node_is, pair_is}
 use Rattle.gram_normal.specs.Changes.{emptied, ordered}
 
 -- a where clause that is not there

@@ -9,7 +9,7 @@ use Rattle.syn_grammar.specs.Tree.{Tree, Raw, Node}
 use Rattle.gram_tree.specs.declared.tree.Element.{Element}
 use Rattle.gram_tree.specs.Forms.{turns}
 use Rattle.gram_tree.specs.Shapes.{last_of}
-use Rattle.gram_write.specs.Operands.{first_behind, statement_of}
+use Rattle.gram_way.specs.Operands.{first_behind, statement_of}
 use Rattle.gram_normal.specs.declared.apart.Found.{Found}
 
 -- turns in normal form, of which it is said what they were

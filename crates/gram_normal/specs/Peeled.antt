@@ -4,8 +4,8 @@ use Rattle.syn_grammar.specs.Kind.{AtType, AnyPath, Body, ExprLit, ExprPath, Exp
 use Rattle.syn_grammar.specs.Kept.{as_path, atom, block_atom, given, left_in_front}
 use Rattle.syn_grammar.specs.Name.{the_attributes, the_expression}
 use Rattle.syn_grammar.specs.Tree.{Tree, First, Second, Again, Pair, Called, Node, Alone}
-use Rattle.gram_write.specs.Operands.{first_behind}
-use Rattle.gram_write.specs.Seen.{unnamed_of}
+use Rattle.gram_way.specs.Operands.{first_behind}
+use Rattle.gram_way.specs.Seen.{unnamed_of}
 
 -- of a choice the second
 abbrev pub second_of : Tree → Option Tree

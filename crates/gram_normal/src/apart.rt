@@ -2,7 +2,6 @@
 
 ghost use Rattle.gram_normal.specs.Parted.{found_of, parted, raw_behind, raw_choice, raw_item, raw_turn};
 ghost use Rattle.gram_tree.specs.Forms.{seconds, turns};
-ghost use Rattle.gram_write.specs.Operands.{first_behind, statement_of};
 ghost use Rattle.rust_leaf.specs.Leaf.{punct_char, punct_spacing};
 ghost use Rattle.rust_leaf.specs.declared.punct.Spacing.TheVariants.{Alone as Apart};
 ghost use Rattle.std.specs.Prelude.{◌++◌, ◌≡◌, IfOk, OnOk, map, option_map};
@@ -18,6 +17,7 @@ use gram_table::kind::Kind;
 use gram_tree::arena::Arena;
 use gram_tree::made;
 use gram_tree::tree::{Form, Tree};
+use gram_way::operand::{first_behind, statement};
 use rust_leaf::laws::printed_as_mark;
 use rust_leaf::punct::{Punct, Spacing};
 use std::alloc::AllocError;
@@ -56,31 +56,6 @@ fn raw_item<'a>(tree: &Tree<'a>) -> Option<&'a [Entry<'a>]>
     }
 }
 
-/// Behind so many seconds of a choice the first.
-#[tactic(auto, using(gram_write::proofs::Operands::firsts_behind))]
-pub(crate) fn first_behind<'t, 'a>(tree: &'t Tree<'a>, seconds: usize) -> Option<&'t Tree<'a>>
-    ensures { option_map (λ x. x.now) result ≡ first_behind tree.now seconds }
-{
-    match &tree.form {
-        Form::First(depth, inner) => {
-            if *depth as usize == seconds {
-                Some(inner)
-            } else {
-                None
-            }
-        }
-        Form::Second(depth, inner) => {
-            let depth = *depth as usize;
-            if depth < seconds {
-                first_behind(inner, seconds - 1 - depth)
-            } else {
-                None
-            }
-        }
-        _ => None,
-    }
-}
-
 // Behind so many seconds of a choice the first, if that is a raw item.
 #[tactic(auto, using(crate::proofs::Apartness::founds))]
 fn raw_behind<'a>(tree: &Tree<'a>, depth: usize) -> Option<Found<'a>>
@@ -103,19 +78,6 @@ fn raw_choice<'a>(inner: &Tree<'a>) -> Option<Found<'a>>
     match raw_behind(inner, 0) {
         Some(found) => Some(found),
         None => raw_behind(inner, 3),
-    }
-}
-
-// A statement's inside.
-fn statement<'t, 'a>(tree: &'t Tree<'a>) -> Option<&'t Tree<'a>>
-    ensures { option_map (λ x. x.now) result ≡ statement_of tree.now }
-{
-    match tree.node() {
-        Some((kind, inner)) => match kind {
-            Kind::AStatement => Some(inner),
-            _ => None,
-        },
-        None => None,
     }
 }
 

@@ -10,8 +10,8 @@ use gram_table::kind::Kind;
 use gram_tree::arena::Arena;
 use gram_tree::made;
 use gram_tree::tree::{Form, Tree};
-use gram_write::seen::literal;
-use gram_write::way::{Behind, dotted as behind_dot, is_dotted, last_number};
+use gram_way::seen::literal;
+use gram_way::way::{Behind, dotted as behind_dot, is_dotted, last_number};
 use std::alloc::AllocError;
 
 // The fields by the numbers that stand in front, up to one that is no number, of an operand.

@@ -17,7 +17,7 @@ use gram_table::part::Part;
 use gram_tree::arena::Arena;
 use gram_tree::made;
 use gram_tree::tree::{Element, Form, Separated, Tree};
-use gram_write::seen::is_lifetime_param;
+use gram_way::seen::is_lifetime_param;
 use rust_leaf::punct::Spacing;
 use std::alloc::AllocError;
 

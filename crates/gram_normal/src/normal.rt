@@ -9,7 +9,7 @@ ghost use Rattle.gram_table.specs.Kinds.{kind_of, position_of};
 ghost use Rattle.gram_table.specs.Ops.{separator_of};
 ghost use Rattle.gram_table.specs.Parts.{part_of};
 ghost use Rattle.gram_tree.specs.Forms.{elements, ending, turns};
-ghost use Rattle.gram_write.specs.Front.{Keeps};
+ghost use Rattle.gram_way.specs.Front.{Keeps};
 ghost use Rattle.proc_macro2.specs.Token.{Token};
 ghost use Rattle.std.specs.Prelude.{◌++◌, ◌≡◌, IfErr, IfOk, List, MatchResult, OnOk, map};
 ghost use Rattle.syn_grammar.specs.Kept as k;
@@ -372,7 +372,7 @@ pub fn normal<'a>(arena: &'a Arena, tree: &Tree<'a>) -> Result<Tree<'a>, Fault>
 ///
 /// Where there is no memory for the normal form or for more tokens, or where no tree is the normal form. Those that
 /// stood there stand in front then too, perhaps with some of the tree's behind them.
-#[tactic(auto, using(gram_write::proofs::Fronts::kept))]
+#[tactic(auto, using(gram_way::proofs::Fronts::kept))]
 pub fn put_normal<'a>(
     arena: &'a Arena,
     tree: &Tree<'a>,

@@ -18,7 +18,7 @@ use gram_table::word::Sign;
 use gram_tree::arena::Arena;
 use gram_tree::made;
 use gram_tree::tree::Tree;
-use gram_write::fields::{index, whole_index};
+use gram_way::fields::{index, whole_index};
 use rust_leaf::literal::Literal;
 use rust_leaf::punct::Spacing;
 use rust_map::span::Span;

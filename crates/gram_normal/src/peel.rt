@@ -1,17 +1,14 @@
 //! What stands in a tree, taken out.
 
 ghost use Rattle.gram_normal.specs.Peeled.{again_of, attributes_of, lone_type, macro_in, second_of};
-ghost use Rattle.gram_table.specs.Parts.{part_of};
-ghost use Rattle.gram_write.specs.Operands.{before_of, expression_of, pair_behind};
-ghost use Rattle.gram_write.specs.Seen.{called_of, is_choice, unnamed_of};
 ghost use Rattle.std.specs.Prelude.{◌≡◌, IfOk, option_map};
 ghost use Rattle.syn_grammar.specs.Forms.{form_of};
 
-use crate::apart::first_behind;
 use gram_table::kind::Kind;
-use gram_table::part::Part;
 use gram_tree::arena::Arena;
 use gram_tree::tree::{Form, InTurn, Tree};
+use gram_way::operand::first_behind;
+use gram_way::seen::unnamed;
 use std::alloc::AllocError;
 
 /// Of a choice the second, where that was chosen.
@@ -40,70 +37,6 @@ pub(crate) fn second<'a>(tree: &Tree<'a>) -> Option<Tree<'a>>
     }
 }
 
-/// Whether one of two was chosen.
-#[tactic(auto, using(gram_write::proofs::SeenForms::choices))]
-pub(crate) fn is_choice(tree: &Tree<'_>) -> bool
-    ensures { result ≡ is_choice tree.now }
-{
-    match &tree.form {
-        Form::First(_, _) => true,
-        Form::Second(_, _) => true,
-        _ => false,
-    }
-}
-
-/// Behind so many seconds both of two trees.
-#[tactic(auto, using(gram_write::proofs::Operands::pairs_behind))]
-pub(crate) fn pair_behind<'t, 'a>(
-    tree: &'t Tree<'a>,
-    seconds: usize,
-) -> Option<(&'t Tree<'a>, &'t Tree<'a>)>
-    ensures { option_map (λ p. (p.0.now, p.1.now)) result ≡ pair_behind tree.now seconds }
-{
-    match &tree.form {
-        Form::Pair(two) => {
-            if seconds == 0 {
-                Some((&two.front, &two.back))
-            } else {
-                None
-            }
-        }
-        Form::Second(depth, inner) => {
-            let depth = *depth as usize;
-            if depth < seconds {
-                pair_behind(inner, seconds - 1 - depth)
-            } else {
-                None
-            }
-        }
-        _ => None,
-    }
-}
-
-// Of a part its name and its inside.
-#[tactic(auto, using(gram_write::proofs::SeenForms::calleds))]
-fn called<'t, 'a>(tree: &'t Tree<'a>) -> Option<(Part, &'t Tree<'a>)>
-    ensures { option_map (λ p. (part_of p.0, p.1.now)) result ≡ called_of tree.now }
-{
-    match &tree.form {
-        Form::Called(part, inner) => Some((*part, inner)),
-        _ => None,
-    }
-}
-
-// Of a part that is a type alone the type.
-fn unnamed<'t, 'a>(tree: &'t Tree<'a>) -> Option<&'t Tree<'a>>
-    ensures { option_map (λ x. x.now) result ≡ unnamed_of tree.now }
-{
-    match called(tree) {
-        Some((part, inner)) => match part {
-            Part::Unnamed => Some(inner),
-            _ => None,
-        },
-        None => None,
-    }
-}
-
 /// Behind what stands in front of a parameter, the type of one that is a type alone.
 #[tactic(auto, using(crate::proofs::Peeling::lones))]
 pub(crate) fn lone_type<'t, 'a>(back: &'t Tree<'a>) -> Option<&'t Tree<'a>>
@@ -111,32 +44,6 @@ pub(crate) fn lone_type<'t, 'a>(back: &'t Tree<'a>) -> Option<&'t Tree<'a>>
 {
     match first_behind(back, 2) {
         Some(part) => unnamed(part),
-        None => None,
-    }
-}
-
-/// What stands in a part of attributes.
-pub(crate) fn before<'t, 'a>(tree: &'t Tree<'a>) -> Option<&'t Tree<'a>>
-    ensures { option_map (λ x. x.now) result ≡ before_of tree.now }
-{
-    match called(tree) {
-        Some((part, inner)) => match part {
-            Part::Attributes => Some(inner),
-            _ => None,
-        },
-        None => None,
-    }
-}
-
-/// What stands in a part that is an expression.
-pub(crate) fn expression<'t, 'a>(tree: &'t Tree<'a>) -> Option<&'t Tree<'a>>
-    ensures { option_map (λ x. x.now) result ≡ expression_of tree.now }
-{
-    match called(tree) {
-        Some((part, inner)) => match part {
-            Part::Expression => Some(inner),
-            _ => None,
-        },
         None => None,
     }
 }

@@ -7,7 +7,7 @@ ghost use Rattle.syn_grammar.specs.Kept as k;
 ghost use Rattle.syn_grammar.specs.Kind.{ExprAttributed, Expression, OuterAttributes};
 ghost use Rattle.syn_grammar.specs.Tree as t;
 
-use crate::peel::{attributes, before, expression, macro_of, pair_behind};
+use crate::peel::{attributes, macro_of};
 use crate::steps;
 use gram_judge::level::level;
 use gram_table::kind::{Kind, Position};
@@ -15,6 +15,7 @@ use gram_table::part::Part;
 use gram_tree::arena::Arena;
 use gram_tree::made;
 use gram_tree::tree::{Form, Tree};
+use gram_way::operand::{before, expression, pair_behind};
 use std::alloc::AllocError;
 
 // A form with attributes in front of it.

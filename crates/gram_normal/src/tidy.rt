@@ -20,7 +20,7 @@ use gram_table::part::Part;
 use gram_tree::arena::Arena;
 use gram_tree::made;
 use gram_tree::tree::{Form, Tree};
-use gram_write::seen::{is_bare_colon, is_bare_generics, is_bare_where, keeps_generics};
+use gram_way::seen::{is_bare_colon, is_bare_generics, is_bare_where, keeps_generics};
 use std::alloc::AllocError;
 
 // Nothing in the place of a part, where it is removed.

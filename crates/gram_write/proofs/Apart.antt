@@ -16,8 +16,8 @@ use Rattle.syn_grammar.specs.Normal.{apart_item, apart_if, is_enclosed, normal_i
 use Rattle.item_laws.proofs.Statements.{node_case, turn_starts}
 use Rattle.range_laws.specs.Opens.{opens_turns}
 use Rattle.range_laws.proofs.OfStatements.{paren_same, turns_enclose}
+use Rattle.gram_way.specs.Turns.{apart_where, is_raw, is_raw_choice, is_raw_turn, is_opened, is_set_apart}
 use Rattle.gram_write.specs.Formed.{HasGiven, IsFormed, IsFormedStatement}
-use Rattle.gram_write.specs.Turns.{apart_where, is_raw, is_raw_choice, is_raw_turn, is_opened, is_set_apart}
 use Rattle.gram_write.proofs.Fits.{is_turn}
 
 -- a statement, by what stands first

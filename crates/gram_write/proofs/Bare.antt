@@ -12,7 +12,7 @@ use Rattle.syn_grammar.specs.Tidy.{is_none, is_bare_clause, is_bare_where, is_ba
 use Rattle.syn_grammar.specs.Tidy.{is_bare_bounds, is_bare_colon, joined, those_then, others_of, lifetimes_first}
 use Rattle.syn_grammar.specs.Tidy.{is_lifetime_param, removed_if, tidy}
 use Rattle.syn_grammar.specs.Normal.{place_of, passed, normal_in}
-use Rattle.gram_write.specs.Said.{said}
+use Rattle.gram_way.specs.Said.{said}
 use Rattle.range_laws.proofs.Dotted.{dotted_is}
 use Rattle.gram_write.proofs.OfKinds.{node, removed, same_place}
 

@@ -21,7 +21,7 @@ use Rattle.gram_tree.specs.declared.tree.Element.{Element}
 use Rattle.gram_tree.specs.declared.tree.Tree.TheDeep.{size-Tree, size-Element}
 use Rattle.gram_tree.specs.Forms.{mark_of, turns, elements}
 use Rattle.gram_tree.proofs.Sizes.{element_size, elements_below, tree_size}
-use Rattle.gram_write.specs.Turns.{begun, earlier}
+use Rattle.gram_way.specs.Turns.{begun, earlier}
 use Rattle.gram_tree.proofs.Flat.{flat_seconds}
 
 pub begun_append : (xs ys : List Token) → begun (xs ++ ys) ≡ earlier (begun xs) (begun ys)

@@ -22,14 +22,14 @@ use Rattle.syn_grammar.specs.Tree.{Tree}
 use Rattle.gram_tree.specs.declared.tree.Tree.TheDeep.{size-Tree}
 use Rattle.gram_tree.proofs.Sizes.{tree_size}
 use Rattle.range_laws.specs.Shelled.{enclosed_if, goes_in, is_lone_range}
+use Rattle.gram_way.specs.Laid.{behind_laid, given_laid, laid}
+use Rattle.gram_way.specs.Operands.{back_of, giving_of, infix_of}
+use Rattle.gram_way.proofs.Operands.{back_is, giving_below, infix_is}
+use Rattle.gram_way.proofs.SeenForms.{same_pair, some_none}
 use Rattle.gram_write.specs.Chains.{behind_left, behind_lefts, left_of, next_of, passed_laid, single_left}
-use Rattle.gram_write.specs.Laid.{behind_laid, given_laid, laid}
-use Rattle.gram_write.specs.Operands.{back_of, giving_of, infix_of}
 use Rattle.gram_write.specs.declared.chain.Lefts.{Lefts}
 use Rattle.gram_write.specs.declared.chain.Lefts.TheVariants as lefts
 use Rattle.gram_write.proofs.Expressing.{enclosed_parts}
-use Rattle.gram_write.proofs.Operands.{back_is, giving_below, infix_is}
-use Rattle.gram_write.proofs.SeenForms.{same_pair, some_none}
 
 -- the parenthesis that opens before an operand
 abbrev pub opens : Kind → Tree → List Token

@@ -14,7 +14,7 @@ use Rattle.binding_laws.specs.Bare.{bare}
 use Rattle.range_laws.specs.Shelled.{is_shelled, goes_in, enclosed_if}
 use Rattle.range_laws.proofs.Behind.{back_written, front_written, infix_written}
 use Rattle.range_laws.proofs.Dotted.{dotted_is}
-use Rattle.gram_write.specs.Said.{said, said_form, fields, front_fields, last_said, dotted_said, own_said}
+use Rattle.gram_way.specs.Said.{said, said_form, fields, front_fields, last_said, dotted_said, own_said}
 
 -- numbers behind dots
 fields_said : (texts : List (List ℕ)) (m : Tree) → flat (bare (index_fields m texts)) ≡ flat (bare m) ++ fields texts

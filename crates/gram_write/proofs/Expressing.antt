@@ -9,10 +9,10 @@ use Rattle.syn_grammar.specs.Name.{the_attributes, the_expression}
 use Rattle.syn_grammar.specs.Tree as t
 use Rattle.syn_grammar.specs.Tree.{Tree}
 use Rattle.range_laws.specs.Shelled.{enclosed_if}
-use Rattle.gram_write.specs.Laid.{given_laid, has_attributes, laid}
-use Rattle.gram_write.specs.Operands.{stated_of}
-use Rattle.gram_write.proofs.Operands.{stated_is}
-use Rattle.gram_write.proofs.SeenForms.{some_none}
+use Rattle.gram_way.specs.Laid.{given_laid, has_attributes, laid}
+use Rattle.gram_way.specs.Operands.{stated_of}
+use Rattle.gram_way.proofs.Operands.{stated_is}
+use Rattle.gram_way.proofs.SeenForms.{some_none}
 
 -- an operand, between its parentheses
 pub enclosed_parts : (b : Bool) (ts : List Token)

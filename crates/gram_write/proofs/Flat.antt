@@ -10,11 +10,11 @@ use Rattle.syn_grammar.specs.Tree.{Tree, flat}
 use Rattle.gram_tree.specs.declared.tree.Element.{Element}
 use Rattle.gram_tree.specs.Forms.{elements}
 use Rattle.gram_tree.proofs.Flat.{flat_seconds, flat_elements}
+use Rattle.gram_way.specs.Operands.{back_of, infix_of}
+use Rattle.gram_way.proofs.Operands.{back_is, infix_is}
+use Rattle.gram_way.proofs.Putting.{loop_next}
+use Rattle.gram_way.proofs.SeenForms.{same_pair, some_none}
 use Rattle.gram_write.specs.Chains.{behind_lefts_read, behind_read, left_of}
-use Rattle.gram_write.specs.Operands.{back_of, infix_of}
-use Rattle.gram_write.proofs.Operands.{back_is, infix_is}
-use Rattle.gram_write.proofs.Putting.{loop_next}
-use Rattle.gram_write.proofs.SeenForms.{same_pair, some_none}
 
 pub ruleset forms = (flat_seconds, flat_elements, append_assoc, append-nil)
 

@@ -18,14 +18,14 @@ use Rattle.syn_grammar.specs.Kept.{attributed, held, kept}
 use Rattle.syn_grammar.specs.Tidy.{is_bare_where, is_bare_generics, is_bare_colon, is_lifetime_param}
 use Rattle.syn_grammar.specs.Tidy.{is_lifetime_argument, lifetimes_first, keeps_generics}
 use Rattle.syn_grammar.specs.Normal.{place_of, passed, normal, normal_in}
-use Rattle.gram_write.specs.declared.within.Within.{Within}
-use Rattle.gram_write.specs.declared.within.Within.TheVariants.{InArguments, InImpl}
-use Rattle.gram_write.specs.Said.{said, said_form, bare_impl_said, front_fields, own_said}
-use Rattle.gram_write.specs.Firsts.{has_other, those_said, others_said}
+use Rattle.gram_way.specs.declared.within.Within.{Within}
+use Rattle.gram_way.specs.declared.within.Within.TheVariants.{InArguments, InImpl}
+use Rattle.gram_way.specs.Said.{said, said_form, bare_impl_said, front_fields, own_said}
+use Rattle.gram_way.specs.Firsts.{has_other, those_said, others_said}
+use Rattle.gram_way.specs.Turns.{apart_where, is_set_apart}
+use Rattle.gram_way.specs.Laid.{is_lifetime_read, within_impl, laid_in, those_laid, others_laid, laid, behind_laid}
+use Rattle.gram_way.specs.Laid.{has_attributes, statement_laid, given_laid}
 use Rattle.gram_write.specs.Formed.{GainsGiven, GivesOn, HasFormed, HasGiven, IsFormed, IsFormedStatement}
-use Rattle.gram_write.specs.Turns.{apart_where, is_set_apart}
-use Rattle.gram_write.specs.Laid.{is_lifetime_read, within_impl, laid_in, those_laid, others_laid, laid, behind_laid}
-use Rattle.gram_write.specs.Laid.{has_attributes, statement_laid, given_laid}
 use Rattle.range_laws.specs.Shelled.{is_lone_range, is_shelled, goes_in, parens_if, enclosed_if, shelled}
 use Rattle.range_laws.proofs.Behind.{range_given, infix_given, cast_given}
 use Rattle.range_laws.proofs.InKept.{lone_kept}

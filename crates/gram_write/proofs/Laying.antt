@@ -19,14 +19,14 @@ use Rattle.gram_tree.specs.declared.tree.Tree.TheDeep.{size-Tree}
 use Rattle.gram_tree.specs.Size.{node_count}
 use Rattle.gram_tree.specs.Forms.{mark_of, seconds, turns, elements}
 use Rattle.gram_tree.proofs.Sizes.{tree_size}
-use Rattle.gram_write.specs.declared.within.Within.{Within}
-use Rattle.gram_write.specs.declared.within.Within.TheVariants.{Anywhere, InArguments}
-use Rattle.gram_write.specs.Firsts.{has_other}
-use Rattle.gram_write.specs.Laid.{firsts_laid, laid, laid_in, others_laid, statement_laid, those_laid, within_impl}
-use Rattle.gram_write.specs.Seen.{is_missing, type_alone}
-use Rattle.gram_write.specs.Way.{dotted_of}
-use Rattle.gram_write.proofs.SeenForms.{same_pair, some_none}
-use Rattle.gram_write.proofs.WayForms.{dotted_is, own_else, own_number, own_plain, own_undotted}
+use Rattle.gram_way.specs.declared.within.Within.{Within}
+use Rattle.gram_way.specs.declared.within.Within.TheVariants.{Anywhere, InArguments}
+use Rattle.gram_way.specs.Firsts.{has_other}
+use Rattle.gram_way.specs.Laid.{firsts_laid, laid, laid_in, others_laid, statement_laid, those_laid, within_impl}
+use Rattle.gram_way.specs.Seen.{is_missing, type_alone}
+use Rattle.gram_way.specs.Way.{dotted_of}
+use Rattle.gram_way.proofs.SeenForms.{same_pair, some_none}
+use Rattle.gram_way.proofs.WayForms.{dotted_is, own_else, own_number, own_plain, own_undotted}
 
 pub laid_seconds : (w : Within) (n : ℕ) (x : Tree) → laid_in w (seconds n x) ≡ laid_in w x
 laid_seconds w zero x = refl

@@ -8,7 +8,7 @@ use Rattle.syn_grammar.specs.Part.{has}
 use Rattle.syn_grammar.specs.Kept.{constant_argument, held, kept}
 use Rattle.syn_grammar.specs.Tidy.{is_lifetime_argument}
 use Rattle.syn_grammar.specs.Normal.{passed, normal_in}
-use Rattle.gram_write.specs.Laid.{is_lifetime_read}
+use Rattle.gram_way.specs.Laid.{is_lifetime_read}
 use Rattle.range_laws.proofs.Dotted.{dotted_is}
 use Rattle.gram_write.proofs.Bare.{has_made}
 

@@ -19,7 +19,7 @@ use Rattle.syn_grammar.specs.Kept.{forget, held, kept}
 use Rattle.syn_grammar.specs.Parens.{may_lack}
 use Rattle.syn_grammar.specs.Tidy.{removed_if, tidy}
 use Rattle.syn_grammar.specs.Normal.{place_of, passed, stands_behind, normal_in}
-use Rattle.gram_write.specs.Said.{said, is_quiet, is_unnamed}
+use Rattle.gram_way.specs.Said.{said, is_quiet, is_unnamed}
 use Rattle.range_laws.proofs.Dotted.{dotted_is}
 
 tidy_held : (k : Kind) (x : Tree) → tidy (held k) x ≡ tidy k x

@@ -10,10 +10,10 @@ use Rattle.syn_grammar.specs.Tree as t
 use Rattle.syn_grammar.specs.Tree.{Tree}
 use Rattle.gram_tree.specs.Forms.{turns}
 use Rattle.gram_tree.specs.Shapes.{last_of}
-use Rattle.gram_write.specs.Operands.{back_of, giving_of, infix_of, stated_of, statement_of}
-use Rattle.gram_write.specs.Laid.{has_attributes}
-use Rattle.gram_write.proofs.Operands.{back_is, infix_is, stated_is}
-use Rattle.gram_write.proofs.SeenForms.{last_is, same_pair, some_none}
+use Rattle.gram_way.specs.Operands.{back_of, giving_of, infix_of, stated_of, statement_of}
+use Rattle.gram_way.specs.Laid.{has_attributes}
+use Rattle.gram_way.proofs.Operands.{back_is, infix_is, stated_is}
+use Rattle.gram_way.proofs.SeenForms.{last_is, same_pair, some_none}
 use Rattle.range_laws.specs.Opens.{opens, opens_behind, opens_given, opens_statement, opens_turns}
 use Rattle.range_laws.specs.Shelled.{goes_in}
 

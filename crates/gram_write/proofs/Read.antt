@@ -24,8 +24,8 @@ use Rattle.item_laws.proofs.Statements.{first_passes}
 use Rattle.range_laws.specs.Shelled.{shelled}
 use Rattle.range_laws.proofs.Given.{given_shelled, infix_level, may_plain}
 use Rattle.range_laws.proofs.Held.{gains_shells}
+use Rattle.gram_way.specs.Turns.{is_raw_turn}
 use Rattle.gram_write.specs.Formed.{GainsGiven, GivesOn, HasFormed, HasGiven, IsFormed, IsFormedStatement, own_position}
-use Rattle.gram_write.specs.Turns.{is_raw_turn}
 use Rattle.gram_write.proofs.Fits.{begins_brace, is_position, is_condition, is_turn, fits, is_expression, all_fit}
 use Rattle.gram_write.proofs.Fits.{position_is, brace_first}
 use Rattle.gram_write.proofs.Apart.{alt_two, turn_apart}

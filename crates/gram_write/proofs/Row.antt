@@ -13,8 +13,8 @@ use Rattle.syn_grammar.specs.Kept.{held, kept}
 use Rattle.syn_grammar.specs.Tidy.{is_none, joined, those_then, others_of, lifetimes_first, is_lifetime_param}
 use Rattle.syn_grammar.specs.Tidy.{is_lifetime_argument}
 use Rattle.syn_grammar.specs.Normal.{place_of, passed, normal_in}
-use Rattle.gram_write.specs.Said.{said}
-use Rattle.gram_write.specs.Firsts.{has_other, those_said, others_said, firsts_said}
+use Rattle.gram_way.specs.Said.{said}
+use Rattle.gram_way.specs.Firsts.{has_other, those_said, others_said, firsts_said}
 use Rattle.range_laws.proofs.Dotted.{dotted_is}
 use Rattle.gram_write.proofs.OfKinds.{node}
 use Rattle.gram_write.proofs.Bare.{has_made}

@@ -16,9 +16,9 @@ use Rattle.syn_grammar.specs.Kept.{as_statement, held, kept}
 use Rattle.syn_grammar.specs.Tidy.{is_bare_where, is_bare_generics, is_absent, moved, keeps_generics, without_generics}
 use Rattle.syn_grammar.specs.Normal.{place_of, passed, stands_behind, normal_in, formed}
 use Rattle.range_laws.specs.Shelled.{shelled}
-use Rattle.gram_write.specs.Said.{said, said_form, bare_impl_said}
+use Rattle.gram_way.specs.Said.{said, said_form, bare_impl_said}
+use Rattle.gram_way.specs.Turns.{apart_where, is_opened, is_raw_turn, is_set_apart}
 use Rattle.gram_write.specs.Formed.{GainsGiven, HasGiven, IsFormedStatement, IsFormed}
-use Rattle.gram_write.specs.Turns.{apart_where, is_opened, is_raw_turn, is_set_apart}
 use Rattle.range_laws.proofs.Dotted.{dotted_is}
 use Rattle.gram_write.proofs.Bare.{generics_made}
 use Rattle.gram_write.proofs.OfKinds.{node, removed}

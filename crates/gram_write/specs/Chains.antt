@@ -6,8 +6,8 @@ use Rattle.syn_grammar.specs.Kind.{Kind}
 use Rattle.syn_grammar.specs.Tree.{Tree, Back, Infix, flat}
 use Rattle.gram_tree.specs.Shapes.{single}
 use Rattle.range_laws.specs.Shelled.{goes_in}
-use Rattle.gram_write.specs.Laid.{behind_laid, given_laid, laid}
-use Rattle.gram_write.specs.Operands.{giving_of}
+use Rattle.gram_way.specs.Laid.{behind_laid, given_laid, laid}
+use Rattle.gram_way.specs.Operands.{giving_of}
 use Rattle.gram_write.specs.declared.chain.Lefts.{Lefts}
 use Rattle.gram_write.specs.declared.chain.Lefts.TheVariants as lefts
 

@@ -11,7 +11,7 @@ use Rattle.syn_grammar.specs.Forms.{is_range}
 use Rattle.syn_grammar.specs.Kept.{attributed, kept}
 use Rattle.syn_grammar.specs.Normal.{place_of, passed, stands_behind, apart_if, is_enclosed, normal_in, formed}
 use Rattle.range_laws.specs.Shelled.{shelled}
-use Rattle.gram_write.specs.Turns.{apart_where, is_raw_turn, is_set_apart}
+use Rattle.gram_way.specs.Turns.{apart_where, is_raw_turn, is_set_apart}
 
 -- What is given attributes is no range: on the way to the leftmost operand, what stands left of an infix form and of a
 -- cast.

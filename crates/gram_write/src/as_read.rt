@@ -4,8 +4,8 @@ ghost use Rattle.gram_piece.specs.Pieces.{piece_token};
 ghost use Rattle.gram_table.specs.Ops.{separator_of};
 ghost use Rattle.gram_tree.specs.Forms.{elements, turns};
 ghost use Rattle.gram_tree.specs.declared.tree.Tree.TheDeep.{size-Tree};
+ghost use Rattle.gram_way.specs.Front.{Keeps};
 ghost use Rattle.gram_write.specs.Chains.{behind_lefts_read, behind_read};
-ghost use Rattle.gram_write.specs.Front.{Keeps};
 ghost use Rattle.proc_macro2.specs.Token as token;
 ghost use Rattle.std.specs.Prelude.{[], ◌++◌, ◌∷◌, ◌≡◌, ◌≤◌, IfOk, OnOk, map, max};
 ghost use Rattle.syn_grammar.specs.Tree as t;
@@ -13,12 +13,12 @@ ghost use Rattle.syn_grammar.specs.Tree.{flat};
 ghost use denote.Param.Weighed.{most};
 
 use crate::chain::left_of;
-use crate::operand::{back, infix};
 use crate::place::Place;
-use crate::put::{closing, entries, ident, lifetime, literal, opening, separator, sign};
 use gram_piece::piece::Piece;
 use gram_table::op::Separator;
 use gram_tree::tree::{Element, Form, Three, Tree};
+use gram_way::operand::{back, infix};
+use gram_way::put::{closing, entries, ident, lifetime, literal, opening, separator, sign};
 use proc_macro2::delimiter::Delimiter;
 use std::alloc::AllocError;
 
@@ -30,7 +30,7 @@ use std::alloc::AllocError;
 /// Where there is no memory for more tokens, or for the forms in which an operand stands. Those that stood there stand
 /// in front then too, perhaps with some of the tree's behind them.
 #[cycle(as_read)]
-#[tactic(auto, using(crate::proofs::Flat::forms, crate::proofs::Fronts::kept))]
+#[tactic(auto, using(crate::proofs::Flat::forms, gram_way::proofs::Fronts::kept))]
 pub fn put_as_read<'a>(tree: &Tree<'a>, out: &mut Vec<Piece<'a>>) -> Result<(), AllocError>
     ensures put { OnOk result (map piece_token out.new.items ≡ map piece_token out.old.items ++ flat tree.now) }
     ensures keeps { Keeps out.old.items out.new.items }
@@ -79,7 +79,7 @@ pub fn put_as_read<'a>(tree: &Tree<'a>, out: &mut Vec<Piece<'a>>) -> Result<(), 
 
 // A group.
 #[cycle(as_read)]
-#[tactic(auto, using(crate::proofs::Pushing::puts, crate::proofs::Fronts::kept))]
+#[tactic(auto, using(gram_way::proofs::Pushing::puts, gram_way::proofs::Fronts::kept))]
 fn put_group<'a>(
     delimiter: Delimiter,
     inner: &Tree<'a>,
@@ -96,7 +96,7 @@ fn put_group<'a>(
 
 // What stands before the right operand of an infix form.
 #[cycle(as_read)]
-#[tactic(auto, using(crate::proofs::Pushing::puts, crate::proofs::Fronts::kept))]
+#[tactic(auto, using(gram_way::proofs::Pushing::puts, gram_way::proofs::Fronts::kept))]
 fn put_before_right<'a>(three: &Three<'a>, out: &mut Vec<Piece<'a>>) -> Result<(), AllocError>
     ensures put { OnOk result (map piece_token out.new.items
         ≡ map piece_token out.old.items ++ (flat three.now.left ++ flat three.now.own)) }
@@ -128,7 +128,7 @@ fn leftmost<'t, 'a>(
 
 // What stands behind the left operand of a form.
 #[cycle(as_read)]
-#[tactic(auto, using(crate::proofs::Flat::behinds, crate::proofs::Fronts::kept))]
+#[tactic(auto, using(crate::proofs::Flat::behinds, gram_way::proofs::Fronts::kept))]
 fn put_behind<'a>(form: &Tree<'a>, out: &mut Vec<Piece<'a>>) -> Result<(), AllocError>
     ensures put { OnOk result (map piece_token out.new.items
         ≡ map piece_token out.old.items ++ behind_read form.now) }
@@ -146,7 +146,7 @@ fn put_behind<'a>(form: &Tree<'a>, out: &mut Vec<Piece<'a>>) -> Result<(), Alloc
 
 // What stands behind the innermost of forms, each of which is the left operand of the one before it.
 #[cycle(as_read)]
-#[tactic(auto, using(crate::proofs::Pushing::puts, crate::proofs::Fronts::kept))]
+#[tactic(auto, using(gram_way::proofs::Pushing::puts, gram_way::proofs::Fronts::kept))]
 fn put_behinds<'a>(forms: &[&Tree<'a>], out: &mut Vec<Piece<'a>>) -> Result<(), AllocError>
     ensures put { OnOk result (map piece_token out.new.items
         ≡ map piece_token out.old.items ++ behind_lefts_read (map (λ x. x.now) forms.now)) }
@@ -162,7 +162,7 @@ fn put_behinds<'a>(forms: &[&Tree<'a>], out: &mut Vec<Piece<'a>>) -> Result<(), 
 
 // The tokens of a left operand.
 #[cycle(as_read)]
-#[tactic(auto, using(crate::proofs::Pushing::puts, crate::proofs::Fronts::kept))]
+#[tactic(auto, using(gram_way::proofs::Pushing::puts, gram_way::proofs::Fronts::kept))]
 fn put_left<'a>(tree: &Tree<'a>, out: &mut Vec<Piece<'a>>) -> Result<(), AllocError>
     ensures put { OnOk result (map piece_token out.new.items ≡ map piece_token out.old.items ++ flat tree.now) }
     ensures keeps { Keeps out.old.items out.new.items }
@@ -175,7 +175,7 @@ fn put_left<'a>(tree: &Tree<'a>, out: &mut Vec<Piece<'a>>) -> Result<(), AllocEr
 
 // The tokens of turns, one behind the other.
 #[cycle(as_read)]
-#[tactic(auto, using(crate::proofs::Pushing::puts, crate::proofs::Fronts::kept))]
+#[tactic(auto, using(gram_way::proofs::Pushing::puts, gram_way::proofs::Fronts::kept))]
 fn put_turns<'a>(trees: &[Tree<'a>], out: &mut Vec<Piece<'a>>) -> Result<(), AllocError>
     ensures put { OnOk result (map piece_token out.new.items
         ≡ map piece_token out.old.items ++ flat (turns trees.now)) }
@@ -189,7 +189,7 @@ fn put_turns<'a>(trees: &[Tree<'a>], out: &mut Vec<Piece<'a>>) -> Result<(), All
 
 // The tokens of elements, and of the mark behind each.
 #[cycle(as_read)]
-#[tactic(auto, using(crate::proofs::Pushing::puts, crate::proofs::Fronts::kept))]
+#[tactic(auto, using(gram_way::proofs::Pushing::puts, gram_way::proofs::Fronts::kept))]
 fn put_elements<'a>(
     mark: Separator,
     before: &[Element<'a>],

@@ -1,7 +1,7 @@
 //! Whether what was read begins with a parenthesis.
 
 ghost use Rattle.gram_tree.specs.Forms.{turns};
-ghost use Rattle.gram_write.specs.Turns.{begun, earlier};
+ghost use Rattle.gram_way.specs.Turns.{begun, earlier};
 ghost use Rattle.proc_macro2.specs.Token.{Opens};
 ghost use Rattle.std.specs.Prelude.{[], ◌++◌, ◌∷◌, ◌≡◌, Some, false, map};
 ghost use Rattle.syn_buffer.specs.Entries.{entry_token};

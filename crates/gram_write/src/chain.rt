@@ -3,21 +3,21 @@
 ghost use Rattle.gram_piece.specs.Pieces.{piece_token};
 ghost use Rattle.gram_table.specs.Kinds.{kind_of};
 ghost use Rattle.gram_tree.specs.declared.tree.Tree.TheDeep.{size-Tree};
+ghost use Rattle.gram_way.specs.Front.{Keeps};
+ghost use Rattle.gram_way.specs.Laid.{given_laid, laid};
 ghost use Rattle.gram_write.specs.Chains.{behind_left, behind_lefts, left_of, next_of, passed_laid};
-ghost use Rattle.gram_write.specs.Front.{Keeps};
-ghost use Rattle.gram_write.specs.Laid.{given_laid, laid};
 ghost use Rattle.std.specs.Prelude.{◌++◌, ◌<◌, ◌≡◌, ◌≤◌, IfOk, None, OnOk, false, map, max, option_map, true};
 ghost use denote.Param.Weighed.{most};
 
 use crate::expressed::{put_if, put_operand, put_own};
 use crate::laid::put_laid;
-use crate::operand::{back, giving, infix};
 use crate::place::Place;
-use crate::shell::{goes_in, is_lone_range};
-use crate::within::Within;
 use gram_piece::piece::Piece;
 use gram_table::kind::Kind;
 use gram_tree::tree::{Form, Tree};
+use gram_way::operand::{back, giving, infix};
+use gram_way::shell::{goes_in, is_lone_range};
+use gram_way::within::Within;
 use proc_macro2::delimiter::Delimiter;
 use std::alloc::AllocError;
 
@@ -54,7 +54,7 @@ fn next_of<'t, 'a>(lefts: Lefts<'t, 'a>, tree: &'t Tree<'a>) -> Option<(Kind, &'
 
 // Goes on from a form to its left operand, if that is passed: the form is put behind others, and the parenthesis opens
 // that the operand gets. Whether it is passed.
-#[tactic(auto, using(crate::proofs::Fronts::kept))]
+#[tactic(auto, using(gram_way::proofs::Fronts::kept))]
 fn step<'t, 'a>(
     lefts: Lefts<'t, 'a>,
     place: &mut Place<'t, 'a>,
@@ -87,7 +87,7 @@ fn step<'t, 'a>(
 }
 
 // Goes on to the innermost left operand that is passed, which it answers.
-#[tactic(auto, using(crate::proofs::Fronts::kept))]
+#[tactic(auto, using(gram_way::proofs::Fronts::kept))]
 fn put_fronts<'t, 'a>(
     lefts: Lefts<'t, 'a>,
     tree: &'t Tree<'a>,
@@ -111,7 +111,7 @@ fn put_fronts<'t, 'a>(
 
 // What stands behind the left operand of a form.
 #[cycle(laid)]
-#[tactic(auto, using(crate::proofs::Chains::behinds, crate::proofs::Fronts::kept))]
+#[tactic(auto, using(crate::proofs::Chains::behinds, gram_way::proofs::Fronts::kept))]
 fn put_behind<'a>(form: &Tree<'a>, out: &mut Vec<Piece<'a>>) -> Result<(), AllocError>
     ensures put { OnOk result (map piece_token out.new.items
         ≡ map piece_token out.old.items ++ behind_left form.now) }
@@ -139,7 +139,7 @@ fn put_behind<'a>(form: &Tree<'a>, out: &mut Vec<Piece<'a>>) -> Result<(), Alloc
 
 // What stands behind the innermost of forms, each of which is the left operand of the one before it.
 #[cycle(laid)]
-#[tactic(auto, using(crate::proofs::Pushing::puts, crate::proofs::Fronts::kept))]
+#[tactic(auto, using(gram_way::proofs::Pushing::puts, gram_way::proofs::Fronts::kept))]
 fn put_behinds<'a>(forms: &[&Tree<'a>], out: &mut Vec<Piece<'a>>) -> Result<(), AllocError>
     ensures put { OnOk result (map piece_token out.new.items
         ≡ map piece_token out.old.items ++ behind_lefts (map (λ x. x.now) forms.now)) }
@@ -159,7 +159,7 @@ fn put_behinds<'a>(forms: &[&Tree<'a>], out: &mut Vec<Piece<'a>>) -> Result<(), 
 ///
 /// Where there is no memory for more tokens, or for the forms in which the innermost operand stands.
 #[cycle(laid)]
-#[tactic(auto, using(crate::proofs::Pushing::puts, crate::proofs::Fronts::kept))]
+#[tactic(auto, using(gram_way::proofs::Pushing::puts, gram_way::proofs::Fronts::kept))]
 pub(crate) fn put_chain<'a>(tree: &Tree<'a>, out: &mut Vec<Piece<'a>>) -> Result<(), AllocError>
     ensures put { OnOk result (map piece_token out.new.items ≡ map piece_token out.old.items ++ laid tree.now) }
     ensures keeps { Keeps out.old.items out.new.items }
@@ -177,7 +177,7 @@ pub(crate) fn put_chain<'a>(tree: &Tree<'a>, out: &mut Vec<Piece<'a>>) -> Result
 ///
 /// Where there is no memory for more tokens, or for the forms in which that operand stands.
 #[cycle(laid)]
-#[tactic(auto, using(crate::proofs::Pushing::puts, crate::proofs::Fronts::kept))]
+#[tactic(auto, using(gram_way::proofs::Pushing::puts, gram_way::proofs::Fronts::kept))]
 pub(crate) fn put_given<'t, 'a>(
     attributes: &'t Tree<'a>,
     tree: &'t Tree<'a>,

@@ -2,8 +2,8 @@
 
 ghost use Rattle.gram_piece.specs.Pieces.{piece_token};
 ghost use Rattle.gram_table.specs.Kinds.{kind_of};
-ghost use Rattle.gram_write.specs.Front.{Keeps};
-ghost use Rattle.gram_write.specs.Laid.{behind_laid, given_laid, has_attributes, laid};
+ghost use Rattle.gram_way.specs.Front.{Keeps};
+ghost use Rattle.gram_way.specs.Laid.{behind_laid, given_laid, has_attributes, laid};
 ghost use Rattle.proc_macro2.specs.Token as token;
 ghost use Rattle.range_laws.specs.Shelled.{enclosed_if, goes_in};
 ghost use Rattle.std.specs.Prelude.{[], ◌++◌, ◌∷◌, ◌≡◌, OnOk, cond, map};
@@ -11,16 +11,16 @@ ghost use Rattle.syn_grammar.specs.Kind.{AStatement};
 ghost use Rattle.syn_grammar.specs.Tree as t;
 
 use crate::chain::{put_chain, put_given};
-use crate::fields::{put_fields, put_front_fields};
 use crate::laid::put_laid;
-use crate::operand::{has_attributes, stated};
-use crate::put::one;
-use crate::shell::goes_in;
-use crate::way::{dotted, is_dotted, last_number};
-use crate::within::Within;
 use gram_piece::piece::Piece;
 use gram_table::kind::Kind;
 use gram_tree::tree::{Three, Tree, Two};
+use gram_way::fields::{put_fields, put_front_fields};
+use gram_way::operand::{has_attributes, stated};
+use gram_way::put::one;
+use gram_way::shell::goes_in;
+use gram_way::way::{dotted, is_dotted, last_number};
+use gram_way::within::Within;
 use proc_macro2::delimiter::Delimiter;
 use std::alloc::AllocError;
 
@@ -29,7 +29,7 @@ use std::alloc::AllocError;
 /// # Errors
 ///
 /// Where there is no memory for it.
-#[tactic(auto, using(crate::proofs::Pushing::puts, crate::proofs::Fronts::kept))]
+#[tactic(auto, using(gram_way::proofs::Pushing::puts, gram_way::proofs::Fronts::kept))]
 pub(crate) fn put_if<'a>(
     wanted: bool,
     piece: Piece<'a>,
@@ -48,7 +48,7 @@ pub(crate) fn put_if<'a>(
 ///
 /// Where there is no memory for more tokens.
 #[cycle(laid)]
-#[tactic(auto, using(crate::proofs::Expressing::operands, crate::proofs::Fronts::kept))]
+#[tactic(auto, using(crate::proofs::Expressing::operands, gram_way::proofs::Fronts::kept))]
 pub(crate) fn put_operand<'a>(
     enclosed: bool,
     tree: &Tree<'a>,
@@ -69,7 +69,7 @@ pub(crate) fn put_operand<'a>(
 ///
 /// Where there is no memory for more tokens.
 #[cycle(laid)]
-#[tactic(auto, using(crate::proofs::Pushing::puts, crate::proofs::Fronts::kept))]
+#[tactic(auto, using(gram_way::proofs::Pushing::puts, gram_way::proofs::Fronts::kept))]
 pub(crate) fn put_back<'a>(
     kind: Kind,
     two: &Two<'a>,
@@ -86,7 +86,7 @@ pub(crate) fn put_back<'a>(
 
 // The own part of a form behind its left operand, whose numbers behind a dot are split.
 #[cycle(laid)]
-#[tactic(auto, using(crate::proofs::Laying::owns, crate::proofs::Fronts::kept))]
+#[tactic(auto, using(crate::proofs::Laying::owns, gram_way::proofs::Fronts::kept))]
 pub(crate) fn put_own<'a>(
     kind: Kind,
     own: &Tree<'a>,
@@ -116,7 +116,7 @@ pub(crate) fn put_own<'a>(
 ///
 /// Where there is no memory for more tokens.
 #[cycle(laid)]
-#[tactic(auto, using(crate::proofs::Pushing::puts, crate::proofs::Fronts::kept))]
+#[tactic(auto, using(gram_way::proofs::Pushing::puts, gram_way::proofs::Fronts::kept))]
 pub(crate) fn put_left<'a>(
     kind: Kind,
     three: &Three<'a>,
@@ -132,7 +132,7 @@ pub(crate) fn put_left<'a>(
 
 // An expression behind what stands before it in a statement.
 #[cycle(laid)]
-#[tactic(auto, using(crate::proofs::Pushing::puts, crate::proofs::Fronts::kept))]
+#[tactic(auto, using(gram_way::proofs::Pushing::puts, gram_way::proofs::Fronts::kept))]
 fn put_before<'t, 'a>(
     before: &'t Tree<'a>,
     form: &'t Tree<'a>,
@@ -156,7 +156,7 @@ fn put_before<'t, 'a>(
 ///
 /// Where there is no memory for more tokens.
 #[cycle(laid)]
-#[tactic(auto, using(crate::proofs::Expressing::statements, crate::proofs::Fronts::kept))]
+#[tactic(auto, using(crate::proofs::Expressing::statements, gram_way::proofs::Fronts::kept))]
 pub(crate) fn put_statement<'a>(
     inner: &Tree<'a>,
     out: &mut Vec<Piece<'a>>,

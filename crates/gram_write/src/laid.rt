@@ -5,9 +5,9 @@ ghost use Rattle.gram_table.specs.Kinds.{kind_of};
 ghost use Rattle.gram_table.specs.Ops.{separator_of};
 ghost use Rattle.gram_table.specs.Parts.{part_of};
 ghost use Rattle.gram_tree.specs.Forms.{elements};
-ghost use Rattle.gram_write.specs.Front.{Keeps};
-ghost use Rattle.gram_write.specs.Laid.{firsts_laid, laid, laid_in, others_laid, those_laid};
-ghost use Rattle.gram_write.specs.Way.{passes, way_laid};
+ghost use Rattle.gram_way.specs.Front.{Keeps};
+ghost use Rattle.gram_way.specs.Laid.{firsts_laid, laid, laid_in, others_laid, those_laid};
+ghost use Rattle.gram_way.specs.Way.{passes, way_laid};
 ghost use Rattle.proc_macro2.specs.Token as token;
 ghost use Rattle.std.specs.Prelude.{[], ◌++◌, ◌∷◌, ◌≡◌, OnOk, false, map};
 ghost use Rattle.syn_grammar.specs.Kind.{Parameter};
@@ -15,20 +15,20 @@ ghost use Rattle.syn_grammar.specs.Tree as t;
 
 use crate::as_read::put_as_read;
 use crate::expressed::{put_back, put_left, put_operand, put_statement};
-use crate::fields::number;
-use crate::put::{
-    closing, comma, entries, ident, lifetime, literal, one, opening, separator, sign,
-};
-use crate::seen::{is_missing, type_alone};
-use crate::shell::is_shelled;
 use crate::turn::put_turns;
-use crate::way::{Firsts, Way, has_way, lacks_some, of_node, of_part, passes};
-use crate::within::Within;
 use gram_piece::piece::Piece;
 use gram_table::kind::Kind;
 use gram_table::op::Separator;
 use gram_table::part::Part;
 use gram_tree::tree::{Element, Form, Tree};
+use gram_way::fields::number;
+use gram_way::put::{
+    closing, comma, entries, ident, lifetime, literal, one, opening, separator, sign,
+};
+use gram_way::seen::{is_missing, type_alone};
+use gram_way::shell::is_shelled;
+use gram_way::way::{Firsts, Way, has_way, lacks_some, of_node, of_part, passes};
+use gram_way::within::Within;
 use proc_macro2::delimiter::Delimiter;
 use rust_leaf::punct::Spacing;
 use std::alloc::AllocError;
@@ -58,7 +58,7 @@ fn ending<'t, 'a>(within: Within, tree: &'t Tree<'a>) -> Tail<'t, 'a>
 ///
 /// Where there is no memory for more tokens.
 #[cycle(laid)]
-#[tactic(auto, using(crate::proofs::Laying::forms, crate::proofs::Fronts::kept))]
+#[tactic(auto, using(crate::proofs::Laying::forms, gram_way::proofs::Fronts::kept))]
 pub(crate) fn put_laid<'a>(
     within: Within,
     tree: &Tree<'a>,
@@ -126,7 +126,7 @@ pub(crate) fn put_laid<'a>(
 
 // What stands first of two: it is mostly a token, or none, and takes no call then.
 #[cycle(laid)]
-#[tactic(auto, using(crate::proofs::Laying::forms, crate::proofs::Laying::missing, crate::proofs::Fronts::kept))]
+#[tactic(auto, using(crate::proofs::Laying::forms, crate::proofs::Laying::missing, gram_way::proofs::Fronts::kept))]
 #[inline(always)]
 fn put_first<'a>(
     within: Within,
@@ -151,7 +151,7 @@ fn put_first<'a>(
 
 // A group.
 #[cycle(laid)]
-#[tactic(auto, using(crate::proofs::Pushing::puts, crate::proofs::Fronts::kept))]
+#[tactic(auto, using(gram_way::proofs::Pushing::puts, gram_way::proofs::Fronts::kept))]
 fn put_group<'a>(
     within: Within,
     delimiter: Delimiter,
@@ -169,7 +169,7 @@ fn put_group<'a>(
 
 // The tokens of elements, and of the mark behind each.
 #[cycle(laid)]
-#[tactic(auto, using(crate::proofs::Pushing::puts, crate::proofs::Fronts::kept))]
+#[tactic(auto, using(gram_way::proofs::Pushing::puts, gram_way::proofs::Fronts::kept))]
 fn put_elements<'a>(
     mark: Separator,
     before: &[Element<'a>],
@@ -188,7 +188,7 @@ fn put_elements<'a>(
 
 // A part.
 #[cycle(laid)]
-#[tactic(auto, using(crate::proofs::Fronts::kept))]
+#[tactic(auto, using(gram_way::proofs::Fronts::kept))]
 #[inline(never)]
 fn put_part<'a>(
     within: Within,
@@ -205,7 +205,7 @@ fn put_part<'a>(
 
 // A node: of an option that isn't there nothing is written.
 #[cycle(laid)]
-#[tactic(auto, using(crate::proofs::Laying::missing, crate::proofs::Fronts::kept))]
+#[tactic(auto, using(crate::proofs::Laying::missing, gram_way::proofs::Fronts::kept))]
 #[inline(never)]
 fn put_node<'a>(kind: Kind, inner: &Tree<'a>, out: &mut Vec<Piece<'a>>) -> Result<(), AllocError>
     ensures put { OnOk result (map piece_token out.new.items
@@ -220,7 +220,7 @@ fn put_node<'a>(kind: Kind, inner: &Tree<'a>, out: &mut Vec<Piece<'a>>) -> Resul
 
 // The inside of a node or of a part, written in that way.
 #[cycle(laid)]
-#[tactic(auto, using(crate::proofs::Pushing::puts, crate::proofs::Fronts::kept))]
+#[tactic(auto, using(gram_way::proofs::Pushing::puts, gram_way::proofs::Fronts::kept))]
 #[inline(always)]
 fn put_so<'a>(way: Way<'a>, inner: &Tree<'a>, out: &mut Vec<Piece<'a>>) -> Result<(), AllocError>
     ensures put { OnOk result (map piece_token out.new.items
@@ -239,7 +239,7 @@ fn put_so<'a>(way: Way<'a>, inner: &Tree<'a>, out: &mut Vec<Piece<'a>>) -> Resul
 
 // A parameter, which gets the pattern `_` and a colon where it is a type alone.
 #[cycle(laid)]
-#[tactic(auto, using(crate::proofs::Laying::parameters, crate::proofs::Fronts::kept))]
+#[tactic(auto, using(crate::proofs::Laying::parameters, gram_way::proofs::Fronts::kept))]
 fn put_parameter<'a>(inner: &Tree<'a>, out: &mut Vec<Piece<'a>>) -> Result<(), AllocError>
     ensures put { OnOk result (map piece_token out.new.items
         ≡ map piece_token out.old.items ++ laid (t.Node Parameter inner.now)) }
@@ -256,7 +256,7 @@ fn put_parameter<'a>(inner: &Tree<'a>, out: &mut Vec<Piece<'a>>) -> Result<(), A
 
 // A list: the elements that come first, and then the others. The last one gets a comma where others follow it.
 #[cycle(laid)]
-#[tactic(auto, using(crate::proofs::Laying::lists, crate::proofs::Fronts::kept))]
+#[tactic(auto, using(crate::proofs::Laying::lists, gram_way::proofs::Fronts::kept))]
 fn put_firsts<'a>(
     which: Firsts,
     list: &Tree<'a>,
@@ -285,7 +285,7 @@ fn put_firsts<'a>(
 
 // The elements that come first, each with the mark behind it.
 #[cycle(laid)]
-#[tactic(auto, using(crate::proofs::Pushing::puts, crate::proofs::Fronts::kept))]
+#[tactic(auto, using(gram_way::proofs::Pushing::puts, gram_way::proofs::Fronts::kept))]
 fn put_those<'a>(
     which: Firsts,
     mark: Separator,
@@ -307,7 +307,7 @@ fn put_those<'a>(
 
 // The other elements, each with the mark behind it.
 #[cycle(laid)]
-#[tactic(auto, using(crate::proofs::Laying::others, crate::proofs::Fronts::kept))]
+#[tactic(auto, using(crate::proofs::Laying::others, gram_way::proofs::Fronts::kept))]
 fn put_others<'a>(
     which: Firsts,
     mark: Separator,

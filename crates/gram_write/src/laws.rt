@@ -1,12 +1,12 @@
 //! Laws of what is written of a tree that was read, in terms of its parts: each is the contract of a function that does
 //! nothing.
 
-ghost use Rattle.gram_write.specs.Firsts.{firsts_said};
-ghost use Rattle.gram_write.specs.Laid.{laid};
+ghost use Rattle.gram_way.specs.Firsts.{firsts_said};
+ghost use Rattle.gram_way.specs.Laid.{laid};
+ghost use Rattle.gram_way.specs.Said.{bare_impl_said, is_quiet, is_unnamed, own_said, said, said_form};
+ghost use Rattle.gram_way.specs.Turns.{apart_where, is_set_apart};
 ghost use Rattle.gram_write.specs.Formed.{IsFormed, own_position};
-ghost use Rattle.gram_write.specs.Said.{bare_impl_said, is_quiet, is_unnamed, own_said, said, said_form};
 ghost use Rattle.proc_macro2.specs.Token.{Ident, Literal, Punct, Token};
-ghost use Rattle.gram_write.specs.Turns.{apart_where, is_set_apart};
 ghost use Rattle.range_laws.specs.Shelled.{enclosed_if, goes_in, is_shelled};
 ghost use Rattle.rust_leaf.specs.declared.punct.Spacing.TheVariants.{Alone as Apart};
 ghost use Rattle.rust_leaf.specs.declared.punct.Spacing.{Spacing};

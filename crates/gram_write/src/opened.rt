@@ -1,15 +1,15 @@
 //! Whether an expression or a statement begins with a parenthesis that is added.
 
 ghost use Rattle.gram_tree.specs.Forms.{turns};
-ghost use Rattle.gram_write.specs.Turns.{is_opened};
+ghost use Rattle.gram_way.specs.Turns.{is_opened};
 ghost use Rattle.range_laws.specs.Opens.{opens, opens_behind, opens_given, opens_statement, opens_turns};
 ghost use Rattle.std.specs.Prelude.{◌≡◌};
 ghost use Rattle.syn_grammar.specs.Tree as t;
 
 use crate::begun::begins_enclosed;
-use crate::operand::{back, giving, has_attributes, infix, stated, statement};
-use crate::shell::goes_in;
 use gram_tree::tree::Tree;
+use gram_way::operand::{back, giving, has_attributes, infix, stated, statement};
+use gram_way::shell::goes_in;
 
 /// Whether some left operand on its left edge is put in parentheses.
 #[tactic(auto, using(crate::proofs::Opening::opening))]

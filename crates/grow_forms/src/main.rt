@@ -1,7 +1,7 @@
 //! Forms of the written grammar and trees of the syntax tree's types: texts that are read, written, built, compared and
 //! printed, one behind the other, and whether each call left what it had to where its growth was refused.
-//! `tests/refused.sh` runs it once for each allocation, refusing that one. Its standard input are the rows of trees that
-//! are made of types (`made`), which are answered first.
+//! `tests/refused.sh` runs it once for each allocation, refusing that one. Trees that are made of types are asked by
+//! `made_rows`.
 //!
 //! - `asked`: texts, and what is asked of their tokens.
 //! - `texts`: texts that are read by the written grammar, and what is written of them behind older tokens (`pieces`).
@@ -24,7 +24,6 @@ mod built;
 mod calls;
 mod compared;
 mod long;
-mod made;
 mod modifiers;
 mod optional;
 mod pieces;
@@ -39,31 +38,9 @@ mod whole;
 mod words;
 
 use crate::asked::{Question, ask_all};
-use rows::{Page, asked, parts, told};
+use rows::{Page, told};
 use std::process::ExitCode;
 use stops::{Stop, ended};
-
-// Puts the answer of a row behind it, and nothing behind another line.
-fn put_row(line: &str, page: &mut Page) -> Result<(), Stop> {
-    match parts(line) {
-        Ok(Some((call, text))) => {
-            page.put(" = ");
-            made::row::answer(call, text, page)
-        }
-        Ok(None) => Ok(()),
-        Err(_) => Err(Stop::Changed),
-    }
-}
-
-// Puts the lines of a table, each row with its answer.
-fn put_rows(lines: &str, page: &mut Page) -> Result<(), Stop> {
-    for line in lines.lines() {
-        page.put(line);
-        put_row(line, page)?;
-        page.put("\n");
-    }
-    Ok(())
-}
 
 // Puts the answers of several tables.
 fn ask_tables(tables: &[&[(Question, &str)]], page: &mut Page) -> Result<(), Stop> {
@@ -94,11 +71,7 @@ fn put_answers(page: &mut Page) -> Result<(), Stop> {
 }
 
 fn run(rt: &HostRuntime) -> Result<(), Stop> {
-    let Ok(lines) = asked(rt) else {
-        return Err(Stop::Elsewhere);
-    };
     let mut page = Page::new(rt.alloc());
-    put_rows(lines.as_str(), &mut page)?;
     put_answers(&mut page)?;
     match told(rt, &page) {
         Ok(()) => Ok(()),

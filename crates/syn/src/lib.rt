@@ -7,8 +7,8 @@
 //! The syntax tree's types stand here under syn's names: `Type::of`, `ItemFn::of` and the like answer one layer of a tree,
 //! whose fields lend its parts. They are those of `syn_ast`, `syn_expr`, `syn_data` and `syn_item`.
 //!
-//! - `parse`, `peek`, `reader`, `stream`, `text`, `typed`, `one_item`, `single`, `single_expr`, `optional` (of `syn_read`):
-//!   forms that are read from tokens, as trees and as types.
+//! - `parse`, `peek`, `reader`, `stream`, `text`, `typed`, `single`, `optional` (of `syn_read`): forms that are read from
+//!   tokens, as trees and as types; `one_item` (of `syn_typed`), `single_expr` (of `syn_single`): types that are.
 //! - `leaf`, `node`, `tokens` (of `syn_tokens`): the leaves and the nodes of a tree, and its tokens as a stream.
 //! - `written`: whether what is written of two trees is the same.
 //! - `values`: literals by their class, with what they write, operators and members.
@@ -338,35 +338,15 @@ pub use syn_item::uses::UsePath;
 pub use syn_item::uses::UseRename;
 pub use syn_item::uses::UseTop;
 pub use syn_item::uses::UseTree;
-pub use syn_read::AnyItem;
 pub use syn_read::Entered;
-pub use syn_read::OneForeignItem;
-pub use syn_read::OneForeignItemFn;
-pub use syn_read::OneForeignItemMacro;
-pub use syn_read::OneForeignItemType;
-pub use syn_read::OneImplItem;
-pub use syn_read::OneImplItemConst;
-pub use syn_read::OneImplItemFn;
-pub use syn_read::OneImplItemMacro;
-pub use syn_read::OneImplItemType;
-pub use syn_read::OneItem;
-pub use syn_read::OneTraitItem;
-pub use syn_read::OneTraitItemConst;
-pub use syn_read::OneTraitItemFn;
-pub use syn_read::OneTraitItemMacro;
-pub use syn_read::OneTraitItemType;
-pub use syn_read::Parse;
 pub use syn_read::ParseForm;
 pub use syn_read::ParseForms;
 pub use syn_read::ParseOptional;
 pub use syn_read::ParseOptionalForm;
-pub use syn_read::ParseSingle;
 pub use syn_read::ParseSingleForm;
 pub use syn_read::ReadSign;
 pub use syn_read::Reader;
-pub use syn_read::SingleExpr;
 pub use syn_read::begins_expression;
-pub use syn_read::one_item;
 pub use syn_read::optional;
 pub use syn_read::parse;
 pub use syn_read::parse_as;
@@ -378,10 +358,12 @@ pub use syn_read::parse2_single;
 pub use syn_read::peek;
 pub use syn_read::reader;
 pub use syn_read::single;
-pub use syn_read::single_expr;
 pub use syn_read::stream;
 pub use syn_read::text;
 pub use syn_read::typed;
+pub use syn_single::ParseSingle;
+pub use syn_single::SingleExpr;
+pub use syn_single::single_expr;
 pub use syn_tokens::leaf;
 pub use syn_tokens::leaf::Leaf;
 pub use syn_tokens::leaf::put_leaves;
@@ -390,4 +372,22 @@ pub use syn_tokens::node::put_nodes;
 pub use syn_tokens::tokens;
 pub use syn_tokens::tokens::stream_of;
 pub use syn_tokens::tokens::to_stream;
+pub use syn_typed::AnyItem;
+pub use syn_typed::OneForeignItem;
+pub use syn_typed::OneForeignItemFn;
+pub use syn_typed::OneForeignItemMacro;
+pub use syn_typed::OneForeignItemType;
+pub use syn_typed::OneImplItem;
+pub use syn_typed::OneImplItemConst;
+pub use syn_typed::OneImplItemFn;
+pub use syn_typed::OneImplItemMacro;
+pub use syn_typed::OneImplItemType;
+pub use syn_typed::OneItem;
+pub use syn_typed::OneTraitItem;
+pub use syn_typed::OneTraitItemConst;
+pub use syn_typed::OneTraitItemFn;
+pub use syn_typed::OneTraitItemMacro;
+pub use syn_typed::OneTraitItemType;
+pub use syn_typed::Parse;
+pub use syn_typed::one_item;
 pub use written::same;

@@ -7,6 +7,8 @@ ghost use Rattle.syn_ast.specs.Shape.{IsShaped};
 ghost use Rattle.syn_ast.specs.TypeBounds.{some_bounds, trait_bound, trait_front, type_param_bound};
 ghost use Rattle.syn_grammar.specs.Gram as g;
 ghost use Rattle.syn_grammar.specs.Kind as k;
+ghost use Rattle.syn_grammar.specs.Name as n;
+ghost use Rattle.syn_grammar.specs.Tree as t;
 
 use crate::inside;
 use crate::leaf::{Lifetime, Mark};
@@ -19,8 +21,8 @@ use gram_tree::tree::Tree;
 /// A bound.
 #[derive(Clone, Copy)]
 pub enum TypeParamBound<'t, 'a> {
-    /// A trait, as a form of the kind `TraitPath`.
-    Trait(&'t Tree<'a>),
+    /// A trait.
+    Trait(TraitBound<'t, 'a>),
     /// A lifetime.
     Lifetime(Lifetime<'a>),
 }
@@ -42,12 +44,23 @@ impl<'t, 'a> TypeParamBound<'t, 'a> {
                 Some(found) => Some(TypeParamBound::Lifetime(found)),
                 None => None,
             },
-            Choice::Second(inner) => match inside::part(Part::Path, inner) {
-                Some(path) => Some(TypeParamBound::Trait(path)),
+            Choice::Second(inner) => match as_trait(inner) {
+                Some(found) => Some(TypeParamBound::Trait(found)),
                 None => None,
             },
         }
     }
+}
+
+// The trait that is a part of the bound.
+fn as_trait<'t, 'a>(tree: &'t Tree<'a>) -> Option<TraitBound<'t, 'a>>
+    ensures { MatchOption result (IsShaped tree.now (g.called n.the_path (g.ref k.TraitPath)) → ⊥)
+        (λ x. tree.now ≡ t.Called n.the_path (trait_bound x)) }
+{
+    let Some(path) = inside::part(Part::Path, tree) else {
+        return None;
+    };
+    TraitBound::of(path)
 }
 
 /// Whether a trait is wanted.

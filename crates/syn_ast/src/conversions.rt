@@ -2,16 +2,19 @@
 
 ghost use Rattle.std.specs.Prelude.{◌≡◌};
 ghost use Rattle.syn_ast.specs.declared.attributes.Meta.TheVariants as metas;
+ghost use Rattle.syn_ast.specs.declared.bounds.TypeParamBound.TheVariants as bounds;
 ghost use Rattle.syn_ast.specs.declared.generics.GenericParam.TheVariants as params;
 ghost use Rattle.syn_ast.specs.declared.generics.WherePredicate.TheVariants as predicates;
 ghost use Rattle.syn_ast.specs.declared.pat.Pat.TheVariants as pats;
 ghost use Rattle.syn_ast.specs.declared.types.Type.TheVariants as types;
 
 use crate::attributes::{Meta, MetaList, MetaNameValue, MetaPath};
+use crate::bounds::{TraitBound, TypeParamBound};
 use crate::generics::{
     ConstParam, GenericParam, LifetimeParam, PredicateLifetime, PredicateType, TypeParam,
     WherePredicate,
 };
+use crate::leaf::Lifetime;
 use crate::pat::{Pat, PatLit, PatParen, PatPath, PatRange, PatStruct, PatTuple, PatTupleStruct};
 use crate::patterns::{PatIdent, PatOr, PatReference, PatRest, PatSlice, PatWild};
 use crate::types::{
@@ -40,6 +43,22 @@ impl<'t, 'a> From<MetaNameValue<'t, 'a>> for Meta<'t, 'a> {
 
     fn from(form: MetaNameValue<'t, 'a>) -> Meta<'t, 'a> {
         Meta::NameValue(form)
+    }
+}
+
+impl<'t, 'a> From<TraitBound<'t, 'a>> for TypeParamBound<'t, 'a> {
+    ghost from_gives = { λ form whole. whole ≡ bounds.Trait form };
+
+    fn from(form: TraitBound<'t, 'a>) -> TypeParamBound<'t, 'a> {
+        TypeParamBound::Trait(form)
+    }
+}
+
+impl<'t, 'a> From<Lifetime<'a>> for TypeParamBound<'t, 'a> {
+    ghost from_gives = { λ form whole. whole ≡ bounds.Lifetime form };
+
+    fn from(form: Lifetime<'a>) -> TypeParamBound<'t, 'a> {
+        TypeParamBound::Lifetime(form)
     }
 }
 

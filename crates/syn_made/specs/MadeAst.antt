@@ -11,6 +11,8 @@ use Rattle.syn_ast.specs.Leaves.{list_tree}
 use Rattle.syn_ast.specs.Types.{no_lone}
 use Rattle.syn_ast.specs.declared.bounds.TraitBoundModifier.{TraitBoundModifier}
 use Rattle.syn_ast.specs.declared.bounds.TraitBoundModifier.TheVariants as modifiers
+use Rattle.syn_ast.specs.declared.bounds.TypeParamBound.{TypeParamBound}
+use Rattle.syn_ast.specs.declared.bounds.TypeParamBound.TheVariants as bounds
 use Rattle.syn_ast.specs.declared.leaf.Mark.{Mark}
 use Rattle.syn_ast.specs.declared.list.Elements.{Elements}
 use Rattle.syn_ast.specs.declared.pat.Pat.{Pat}
@@ -51,6 +53,11 @@ IsWholeType _ = Unit {0}
 abbrev pub IsTraitFront : TraitBoundModifier → Option (Bor Tree) → Type 0
 IsTraitFront (modifiers.Maybe m) (Some x) = ⊥
 IsTraitFront _ _ = Unit {0}
+
+-- a bound: a lifetime, or a trait of which that holds
+abbrev pub IsWholeBound : TypeParamBound → Type 0
+IsWholeBound (bounds.Lifetime l) = Unit {0}
+IsWholeBound (bounds.Trait x) = IsTraitFront x.modifier x.lifetimes
 
 -- a keyword has no arguments
 abbrev pub IsBare : PathArguments → Type 0

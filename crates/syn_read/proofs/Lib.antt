@@ -1,8 +1,5 @@
 pub mod Wholes
 pub mod Behind
 pub mod Firsts
-pub mod Alone
-pub mod ItemsAlone
 pub mod Singles
-pub mod MembersAlone
 pub mod Onward

@@ -1,9 +1,6 @@
 pub mod Parsed
 pub mod Reading
 pub mod Streams
-pub mod Alone
 pub mod Optional
-pub mod OneItem
 pub mod Texts
 pub mod Single
-pub mod OneMember

@@ -10,13 +10,13 @@ ghost use Rattle.syn_grammar.specs.Read.{IsDerived, NoneRead};
 ghost use Rattle.syn_grammar.specs.Tree.{Tree as GivenTree};
 
 use crate::reader::Reader;
-use crate::typed::Parse;
 use gram_table::op::Look;
 use gram_table::word::{Keyword, Words};
 use syn_ast::generics::WhereClause;
 use syn_ast::types::{Abi, BoundLifetimes};
 use syn_error::ParseFault;
 use syn_expr::blocks::Label;
+use syn_typed::Parse;
 
 /// A form that may be missing, and is where the grammar does not see it begin.
 pub trait ParseOptional<'a>: Parse<'a> {

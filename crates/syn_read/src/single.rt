@@ -1,20 +1,13 @@
 //! Forms that are one of several of a kind, read by themselves.
-//!
-//! `ExprCall` is one form of an expression: where one is wanted, an expression is read, all of it, and refused if it is
-//! of another form. So of `f(x) + 1` no call is read, which is an operand there.
 
 ghost use Rattle.gram_run.specs.Answers.{tokens};
-ghost use Rattle.gram_table.specs.Kinds.{kind_of};
 ghost use Rattle.proc_macro2.specs.Token.{Token};
-ghost use Rattle.std.specs.Prelude.{◌≡◌, IfErr, IfOk, IsErrAnd, IsFalse, IsTrue, List, MatchOption, OnErr, OnOk};
+ghost use Rattle.std.specs.Prelude.{◌≡◌, IfErr, IfOk, IsErrAnd, IsFalse, IsTrue, List, OnErr, OnOk};
 ghost use Rattle.syn_read.specs.Parsed.{IsAll, first_place};
 ghost use Rattle.syn_read.specs.Reading as reading;
 ghost use Rattle.syn_read.specs.Single.{IsNoneMeant, NoneMeant, StandsAt};
 ghost use Rattle.syn_read.specs.Streams.{IsPassed, invisible_words};
 ghost use Rattle.syn_error.specs.Faults.{IsSyntax};
-ghost use Rattle.syn_grammar.specs.Derives.{Derives};
-ghost use Rattle.syn_grammar.specs.Gram.{ref};
-ghost use Rattle.syn_grammar.specs.Kind.{Kind as GivenKind};
 ghost use Rattle.syn_grammar.specs.Read.{IsDerived};
 ghost use Rattle.syn_grammar.specs.Tree.{Tree as GivenTree};
 ghost use Rattle.syn_input.specs.Input.{IsOnward, left, next_place};
@@ -23,37 +16,11 @@ ghost use Rattle.syn_input.specs.Words.{SaysAt};
 use crate::parse::parse_as;
 use crate::reader::Reader;
 use crate::stream::ParseForms;
-use gram_table::kind::Kind;
 use gram_tree::arena::Arena;
-use gram_tree::tree::Tree;
 use syn_buffer::TokenBuffer;
 use syn_error::ParseFault;
 use syn_input::ParseBuffer;
-
-/// A type of the syntax tree that is one of several forms of a kind, as `ExprCall` is of expressions. It is read as that
-/// kind, and refused where another form stands.
-pub trait ParseSingle<'a> {
-    /// The kind of the grammar that is read.
-    ghost kind: { GivenKind };
-
-    /// Which of its trees are of that form.
-    ghost is_meant: { GivenTree → Type 0 };
-
-    /// What a value says of the tree that it was read as.
-    ghost says: { Self → GivenTree → Type 0 };
-
-    /// That kind.
-    fn kind() -> Kind
-        ensures { kind_of result ≡ kind };
-
-    /// What an error says where another form stands, as `expected call`.
-    fn refusal() -> &'a str;
-
-    /// What the type says of a tree of the kind: one layer of it. `None` exactly of those of another form.
-    fn view(tree: &'a Tree<'a>) -> Option<Self>
-        ensures { MatchOption result ((rest : List Token) → Derives tree.now (ref kind) rest → is_meant tree.now → ⊥)
-            (λ x. is_meant tree.now × says x tree.now) };
-}
+pub use syn_single::ParseSingle;
 
 /// All tokens of the buffer as the single form, as `parse2_single::<ExprCall>(&arena, &buffer)`. Its tree stands in the
 /// arena.

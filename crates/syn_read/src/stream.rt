@@ -15,7 +15,6 @@ ghost use Rattle.syn_input.specs.Words.{SaysAt};
 
 use crate::optional::ParseOptional;
 use crate::peek::operand_stands;
-use crate::typed::Parse;
 use gram_read::grammar::Grammar;
 use gram_read::said::error;
 use gram_run::read::read;
@@ -27,6 +26,7 @@ use gram_tree::arena::Arena;
 use gram_tree::tree::Tree;
 use syn_error::ParseFault;
 use syn_input::ParseBuffer;
+use syn_typed::Parse;
 
 /// Forms of the syntax tree, read as trees from a stream that tokens are read from too.
 ///

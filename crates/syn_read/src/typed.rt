@@ -1,43 +1,19 @@
 //! Forms that are read as the types of the syntax tree.
 
 ghost use Rattle.gram_run.specs.Answers.{tokens};
-ghost use Rattle.gram_table.specs.Kinds.{kind_of};
-ghost use Rattle.proc_macro2.specs.Token.{Token};
-ghost use Rattle.std.specs.Prelude.{◌≡◌, IfErr, IfOk, List, MatchOption, OnErr};
+ghost use Rattle.std.specs.Prelude.{◌≡◌, IfErr, IfOk, OnErr};
 ghost use Rattle.syn_read.specs.Parsed.{IsAll, IsNone};
 ghost use Rattle.syn_read.specs.Reading.{IsOnward, left};
 ghost use Rattle.syn_error.specs.Faults.{IsSyntax};
-ghost use Rattle.syn_grammar.specs.Derives.{Derives};
-ghost use Rattle.syn_grammar.specs.Gram.{ref};
-ghost use Rattle.syn_grammar.specs.Kind.{Kind as GivenKind};
 ghost use Rattle.syn_grammar.specs.Read.{IsDerived, NoneRead};
 ghost use Rattle.syn_grammar.specs.Tree.{Tree as GivenTree};
 
 use crate::parse::parse_as;
 use crate::reader::Reader;
-use gram_table::kind::Kind;
 use gram_tree::arena::Arena;
-use gram_tree::tree::Tree;
 use syn_buffer::TokenBuffer;
 use syn_error::ParseFault;
-
-/// A type of the syntax tree that is read from tokens.
-pub trait Parse<'a> {
-    /// The kind of the grammar that is read.
-    ghost kind: { GivenKind };
-
-    /// What a value says of the tree that it was read as.
-    ghost says: { Self → GivenTree → Type 0 };
-
-    /// That kind.
-    fn kind() -> Kind
-        ensures { kind_of result ≡ kind };
-
-    /// What the type says of a tree of the kind: one layer of it. `None` only of a tree that was not read as one.
-    fn view(tree: &'a Tree<'a>) -> Option<Self>
-        ensures { MatchOption result ((rest : List Token) → Derives tree.now (ref kind) rest → ⊥)
-            (λ x. says x tree.now) };
-}
+pub use syn_typed::Parse;
 
 /// All tokens of the buffer as a form of the type, as `parse2::<DeriveInput>(&arena, &buffer)`. Its tree stands in the
 /// arena.

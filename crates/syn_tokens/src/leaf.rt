@@ -2,7 +2,7 @@
 
 ghost use Rattle.gram_table.specs.Ops.{separator_of};
 ghost use Rattle.gram_tree.specs.Forms.{elements, turns};
-ghost use Rattle.gram_write.specs.Front.{Keeps};
+ghost use Rattle.gram_way.specs.Front.{Keeps};
 ghost use Rattle.std.specs.Prelude.{◌≡◌, ◌++◌, OnOk};
 ghost use Rattle.syn_tokens.specs.Leaves.{leaf_tokens, leaves_tokens};
 ghost use Rattle.syn_grammar.specs.Tree as t;
@@ -41,7 +41,7 @@ pub enum Leaf<'a> {
 }
 
 // One leaf more.
-#[tactic(auto, using(crate::proofs::Leaves::one, gram_write::proofs::Fronts::kept))]
+#[tactic(auto, using(crate::proofs::Leaves::one, gram_way::proofs::Fronts::kept))]
 fn put<'a>(leaf: Leaf<'a>, out: &mut Vec<Leaf<'a>>) -> Result<(), AllocError>
     ensures put { OnOk result (leaves_tokens out.new.items ≡ leaves_tokens out.old.items ++ leaf_tokens leaf.entry) }
     ensures keeps { Keeps out.old.items out.new.items }
@@ -58,7 +58,7 @@ fn put<'a>(leaf: Leaf<'a>, out: &mut Vec<Leaf<'a>>) -> Result<(), AllocError>
 /// Where there is no memory for more leaves. Those that were given stand in front then too, perhaps with some of the tree's
 /// behind them.
 #[cycle(leaves)]
-#[tactic(auto, using(crate::proofs::Leaves::forms, gram_write::proofs::Fronts::kept))]
+#[tactic(auto, using(crate::proofs::Leaves::forms, gram_way::proofs::Fronts::kept))]
 pub fn put_leaves<'a>(tree: &Tree<'a>, out: &mut Vec<Leaf<'a>>) -> Result<(), AllocError>
     ensures put { OnOk result (leaves_tokens out.new.items ≡ leaves_tokens out.old.items ++ flat tree.now) }
     ensures keeps { Keeps out.old.items out.new.items }
@@ -101,7 +101,7 @@ pub fn put_leaves<'a>(tree: &Tree<'a>, out: &mut Vec<Leaf<'a>>) -> Result<(), Al
 
 // The leaves of two trees.
 #[cycle(leaves)]
-#[tactic(auto, using(crate::proofs::Leaves::puts, gram_write::proofs::Fronts::kept))]
+#[tactic(auto, using(crate::proofs::Leaves::puts, gram_way::proofs::Fronts::kept))]
 fn put_two<'a>(two: &Two<'a>, out: &mut Vec<Leaf<'a>>) -> Result<(), AllocError>
     ensures put { OnOk result (leaves_tokens out.new.items
         ≡ leaves_tokens out.old.items ++ (flat two.now.front ++ flat two.now.back)) }
@@ -113,7 +113,7 @@ fn put_two<'a>(two: &Two<'a>, out: &mut Vec<Leaf<'a>>) -> Result<(), AllocError>
 
 // The leaves of turns.
 #[cycle(leaves)]
-#[tactic(auto, using(crate::proofs::Leaves::puts, gram_write::proofs::Fronts::kept))]
+#[tactic(auto, using(crate::proofs::Leaves::puts, gram_way::proofs::Fronts::kept))]
 fn put_turns<'a>(trees: &[Tree<'a>], out: &mut Vec<Leaf<'a>>) -> Result<(), AllocError>
     ensures put { OnOk result (leaves_tokens out.new.items
         ≡ leaves_tokens out.old.items ++ flat (turns trees.now)) }
@@ -127,7 +127,7 @@ fn put_turns<'a>(trees: &[Tree<'a>], out: &mut Vec<Leaf<'a>>) -> Result<(), Allo
 
 // The leaves of elements, and of the mark behind each.
 #[cycle(leaves)]
-#[tactic(auto, using(crate::proofs::Leaves::puts, gram_write::proofs::Fronts::kept))]
+#[tactic(auto, using(crate::proofs::Leaves::puts, gram_way::proofs::Fronts::kept))]
 fn put_elements<'a>(
     mark: Separator,
     before: &[Element<'a>],

@@ -1,8 +1,8 @@
 //! Tokens that are to be written, as a stream of trees.
 
 ghost use Rattle.gram_piece.specs.Pieces.{piece_token};
+ghost use Rattle.gram_way.specs.Said.{said};
 ghost use Rattle.gram_write.specs.Formed.{IsFormed};
-ghost use Rattle.gram_write.specs.Said.{said};
 ghost use Rattle.proc_macro2.specs.Entered.{entered};
 ghost use Rattle.proc_macro2.specs.Token.{Closes, Opens, Token, plain};
 ghost use Rattle.rust_leaf.specs.Leaf.{literal_text};

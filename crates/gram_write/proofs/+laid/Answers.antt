@@ -5,7 +5,6 @@ use Rattle.std.proofs.lemmas.List.{take_all}
 use Rattle.std.proofs.lemmas.Result.{on_ok_weaker}
 use Rattle.std.proofs.lemmas.Grind.{common_steps}
 use denote.Bor.{Bor}
-use Rattle.gram_write.specs.declared.within.Within.{Within}
 use Rattle.proc_macro2.specs.Token.{Token, Punct}
 use Rattle.rust_leaf.specs.declared.punct.Spacing.TheVariants.{Alone as Apart}
 use Rattle.gram_piece.specs.Pieces.{piece_token}
@@ -21,37 +20,38 @@ use Rattle.gram_tree.specs.Forms.{elements, tree_of, turns, ending}
 use Rattle.gram_tree.specs.Size.{node_count}
 use Rattle.gram_tree.proofs.Sizes.{element_in, list_below, tree_size, turns_size}
 use Rattle.range_laws.specs.Shelled.{enclosed_if}
+use Rattle.gram_way.specs.declared.within.Within.{Within}
+use Rattle.gram_way.specs.Laid.{firsts_laid, given_laid, laid, laid_in, others_laid, those_laid}
+use Rattle.gram_way.specs.Said.{fields, front_fields}
+use Rattle.gram_way.specs.Operands.{giving_of, stated_of}
+use Rattle.gram_way.specs.Way.{dotted_of, is_dotted, last_text, passes}
+use Rattle.gram_way.proofs.Fronts.{keeps_both, keeps_same, keeps_taken}
+use Rattle.gram_way.proofs.Operands.{stated_below}
+use Rattle.gram_way.proofs.Pushing.{puts}
+use Rattle.gram_way.proofs.WayForms.{own_number, own_undotted}
+use Rattle.gram_way.specs.Laid.{behind_laid, has_attributes}
+use Rattle.gram_way.specs.Seen.{is_missing}
+use Rattle.gram_way.specs.Turns.{apart_where, is_set_apart}
+use Rattle.gram_way.specs.Way.{way_laid}
+use Rattle.gram_way.proofs.Putting.{chain_put, form_put, last_below, loop_end, other_left, put_form}
+use Rattle.gram_way.proofs.Putting.{put_fourth, put_none, put_same, put_second, put_third, tail_inside, tail_left}
+use Rattle.gram_way.proofs.WayForms.{own_else, own_plain}
 use Rattle.gram_write.specs.Chains.{behind_lefts}
-use Rattle.gram_write.specs.Laid.{firsts_laid, given_laid, laid, laid_in, others_laid, those_laid}
-use Rattle.gram_write.specs.Said.{fields, front_fields}
-use Rattle.gram_write.specs.Operands.{giving_of, stated_of}
-use Rattle.gram_write.specs.Way.{dotted_of, is_dotted, last_text, passes}
 use Rattle.gram_write.proofs.Chains.{forms_more, given_put, step_out}
-use Rattle.gram_write.proofs.Fronts.{keeps_both, keeps_same, keeps_taken}
 use Rattle.gram_write.proofs.Laying.{elements_next, firsts_passing, four_put, others_next, others_skip, those_next}
 use Rattle.gram_write.proofs.Laying.{those_skip}
-use Rattle.gram_write.proofs.Operands.{stated_below}
-use Rattle.gram_write.proofs.Pushing.{puts}
-use Rattle.gram_write.proofs.WayForms.{own_number, own_undotted}
 use Rattle.std.proofs.lemmas.List.{length-map}
 use Rattle.proc_macro2.specs.Token.{Closes}
 use Rattle.proc_macro2.specs.declared.delimiter.Delimiter.TheVariants.{Parenthesis}
 use Rattle.syn_grammar.specs.Kind.{Kind}
 use Rattle.gram_table.specs.Words.{sign_text}
-use Rattle.gram_write.specs.Laid.{behind_laid, has_attributes}
-use Rattle.gram_write.specs.Seen.{is_missing}
-use Rattle.gram_write.specs.Turns.{apart_where, is_set_apart}
-use Rattle.gram_write.specs.Way.{way_laid}
 use Rattle.gram_write.proofs.Chains.{behind_back, behind_infix, behind_none}
 use Rattle.gram_write.proofs.Expressing.{enclosed_parts, statement_none, statement_some}
 use Rattle.gram_write.proofs.Laying.{firsts_closed, firsts_open, laid_mark, laid_turns, missing_node, node_same}
 use Rattle.gram_write.proofs.Laying.{parameter_alone, parameter_named}
-use Rattle.gram_write.proofs.Putting.{chain_put, form_put, last_below, loop_end, other_left, put_form}
-use Rattle.gram_write.proofs.Putting.{put_fourth, put_none, put_same, put_second, put_third, tail_inside, tail_left}
 use Rattle.gram_write.proofs.Laying.{laid_closed, laid_open, missing_laid}
 use Rattle.range_laws.specs.Shelled.{goes_in, is_shelled}
 use Rattle.gram_tree.specs.declared.tree.Tree.TheDeep.{size-Tree}
-use Rattle.gram_write.proofs.WayForms.{own_else, own_plain}
 use Rattle.gram_write.proofs.+laid.Goals as goal
 use Rattle.gram_write.proofs.+laid.Goals.{laid::put_others-then-not-passes+in_ok-put_laid+in_ok-separator}
 use Rattle.gram_write.proofs.+laid.Goals.{laid::put_others-else-not-passes}

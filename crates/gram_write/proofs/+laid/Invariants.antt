@@ -7,10 +7,10 @@ use Rattle.gram_tree.specs.declared.tree.Tree.TheDeep.{size-Tree, size-Element}
 use Rattle.gram_tree.specs.Forms.{elements, turns}
 use Rattle.gram_tree.specs.Size.{node_count}
 use Rattle.syn_grammar.specs.Tree as t
+use Rattle.gram_way.specs.Front.{Keeps}
+use Rattle.gram_way.specs.Laid.{laid, laid_in, others_laid, those_laid}
+use Rattle.gram_way.specs.Way.{passes}
 use Rattle.gram_write.specs.Chains.{behind_lefts}
-use Rattle.gram_write.specs.Front.{Keeps}
-use Rattle.gram_write.specs.Laid.{laid, laid_in, others_laid, those_laid}
-use Rattle.gram_write.specs.Way.{passes}
 use Rattle.gram_write.proofs.+laid.Given as goal
 
 -- the old ones stand in front, and what is left is to stand behind what is put

@@ -2,7 +2,7 @@
 
 ghost use Rattle.std.specs.Prelude.{◌≡◌, IfOk, MatchOption};
 ghost use Rattle.syn_ast.specs.TypeBounds.{some_bounds, trait_bound, trait_front, type_param_bound};
-ghost use Rattle.syn_made.specs.MadeAst.{IsTraitFront};
+ghost use Rattle.syn_made.specs.MadeAst.{IsTraitFront, IsWholeBound};
 
 use crate::forms::{Called, First, Second};
 use crate::put::{node, some_node};
@@ -14,19 +14,6 @@ use gram_tree::arena::Arena;
 use gram_tree::tree::Tree;
 use std::alloc::AllocError;
 use syn_ast::bounds::{SomeBounds, TraitBound, TraitBoundModifier, TypeParamBound};
-
-impl<'t, 'a> ToTree<'a> for TypeParamBound<'t, 'a> {
-    ghost tree = { type_param_bound };
-
-    fn to_tree(&self, arena: &'a Arena) -> Result<Tree<'a>, AllocError> {
-        match *self {
-            TypeParamBound::Lifetime(lifetime) => node(arena, Kind::Bound, &First(lifetime)),
-            TypeParamBound::Trait(path) => {
-                node(arena, Kind::Bound, &Second(Called(Part::Path, path)))
-            }
-        }
-    }
-}
 
 // What stands before a trait's path, if it is not both `?` and lifetimes.
 fn trait_front<'a>(
@@ -51,6 +38,20 @@ impl<'t, 'a> TryToTree<'a> for TraitBound<'t, 'a> {
         match trait_front(arena, self.modifier, self.lifetimes)? {
             Some(front) => some_node(arena, Kind::TraitPath, &(&front, self.path)),
             None => Ok(None),
+        }
+    }
+}
+
+impl<'t, 'a> TryToTree<'a> for TypeParamBound<'t, 'a> {
+    ghost says = { λ x tree. IsWholeBound x × (tree ≡ type_param_bound x) };
+
+    fn try_to_tree(&self, arena: &'a Arena) -> Result<Option<Tree<'a>>, AllocError> {
+        match self {
+            TypeParamBound::Lifetime(lifetime) => some_node(arena, Kind::Bound, &First(*lifetime)),
+            TypeParamBound::Trait(found) => match found.try_to_tree(arena)? {
+                Some(path) => { some_node(arena, Kind::Bound, &Second(Called(Part::Path, &path))) }
+                None => Ok(None),
+            },
         }
     }
 }

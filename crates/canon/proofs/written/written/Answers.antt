@@ -6,9 +6,9 @@ use Rattle.proc_macro2.specs.Token.{Token}
 use Rattle.rust_leaf.specs.Leaf.{text_of}
 use Rattle.gram_piece.specs.Pieces.{piece_token}
 use Rattle.gram_piece.specs.declared.piece.Piece.{Piece}
+use Rattle.gram_way.specs.Said.{said}
 use Rattle.gram_write.proofs.Read.{formed_read}
 use Rattle.gram_write.specs.Formed.{IsFormed}
-use Rattle.gram_write.specs.Said.{said}
 use Rattle.syn_grammar.specs.Kind.{AFile, Plain}
 use Rattle.canon.proofs.written.written.Goals as goal
 

@@ -8,9 +8,9 @@ use Rattle.syn_grammar.specs.Part.{has}
 use Rattle.syn_grammar.specs.Tree.{Tree}
 use Rattle.syn_grammar.specs.Words.{indices}
 use Rattle.gram_table.specs.Kinds.{kind_of}
+use Rattle.gram_way.specs.Said.{fields, front_fields, said}
+use Rattle.gram_way.specs.Way.{dotted_of, is_dotted}
 use Rattle.gram_write.specs.Formed.{IsFormed}
-use Rattle.gram_write.specs.Said.{fields, front_fields, said}
-use Rattle.gram_write.specs.Way.{dotted_of, is_dotted}
 use Rattle.gram_build.specs.Behind.{is_numbered, last_named}
 use Rattle.gram_build.specs.Facts.{last_of}
 use Rattle.gram_build.specs.Found.{IsBehind, IsFound}

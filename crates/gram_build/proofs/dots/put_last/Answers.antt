@@ -2,7 +2,7 @@ use Rattle.std.proofs.Common.{◌∙◌, ◌++◌, ap, append_assoc, map}
 use Rattle.std.proofs.lemmas.Result.{on_ok_weaker}
 use Rattle.syn_grammar.specs.Kind.{Plain}
 use Rattle.gram_piece.specs.Pieces.{piece_token}
-use Rattle.gram_write.specs.Said.{said}
+use Rattle.gram_way.specs.Said.{said}
 use Rattle.gram_build.proofs.dots.put_last.Goals as goal
 
 -- the one, and then the other

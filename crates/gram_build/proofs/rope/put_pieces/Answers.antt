@@ -1,5 +1,5 @@
 use Rattle.std.proofs.Common.{arith}
-use Rattle.gram_write.proofs.Fronts.{keeps_both}
+use Rattle.gram_way.proofs.Fronts.{keeps_both}
 use Rattle.gram_build.proofs.Pushing.{put_more}
 use Rattle.gram_build.proofs.rope.put_pieces.Goals as goal
 

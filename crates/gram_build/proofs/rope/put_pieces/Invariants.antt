@@ -1,6 +1,6 @@
 use Rattle.std.proofs.Common.{◌≡◌, ◌++◌, drop, map}
 use Rattle.gram_piece.specs.Pieces.{piece_token}
-use Rattle.gram_write.specs.Front.{Keeps}
+use Rattle.gram_way.specs.Front.{Keeps}
 use Rattle.gram_build.proofs.rope.put_pieces.Given as goal
 
 -- the old ones stand in front, and what is left is to stand behind what is put

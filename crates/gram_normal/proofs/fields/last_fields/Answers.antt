@@ -5,7 +5,7 @@ use Rattle.syn_grammar.specs.Name.{the_indices}
 use Rattle.syn_grammar.specs.Tree as t
 use Rattle.syn_grammar.specs.Tree.{Tree}
 use Rattle.gram_table.specs.Kinds.{kind_of}
-use Rattle.gram_write.specs.Way.{last_text}
+use Rattle.gram_way.specs.Way.{last_text}
 use Rattle.gram_normal.proofs.Fielding.{last_other}
 use Rattle.gram_normal.proofs.Stepping.{made_so}
 use Rattle.gram_normal.proofs.fields.last_fields.Goals as goal

@@ -3,7 +3,7 @@ use Rattle.std.proofs.Common.{◌≡◌, rules}
 use Rattle.gram_table.specs.Kinds.{kind_of}
 use Rattle.gram_tree.specs.Shapes.{node_of}
 use Rattle.syn_grammar.specs.Tidy.{is_lifetime_argument}
-use Rattle.gram_write.proofs.OffKinds.{in_node}
+use Rattle.gram_way.proofs.OffKinds.{in_node}
 use Rattle.gram_normal.proofs.Tidying.{argument_off}
 use Rattle.gram_normal.proofs.lifetime.is_lifetime_argument.Goals as goal
 

@@ -1,7 +1,7 @@
 use Rattle.std.specs.Prelude.{Some, None}
 use Rattle.std.proofs.Common.{◌≡◌, ◌∙◌, rules}
 use Rattle.gram_tree.specs.Shapes.{pair_of}
-use Rattle.gram_write.specs.Operands.{before_of, expression_of, pair_behind}
+use Rattle.gram_way.specs.Operands.{before_of, expression_of, pair_behind}
 use Rattle.gram_normal.proofs.Giving.{stated_none, stated_one, stated_three, stated_two}
 use Rattle.gram_normal.proofs.stated.as_statement.Goals as goal
 

@@ -13,14 +13,14 @@ use Rattle.syn_grammar.specs.Tree as t
 use Rattle.syn_grammar.specs.Tree.{Tree, flat}
 use denote.Bor.{Bor}
 use Rattle.gram_piece.specs.Pieces.{piece_token}
+use Rattle.gram_way.proofs.Fronts.{keeps_both, keeps_same}
+use Rattle.gram_way.proofs.Putting.{last_below, loop_end, loop_next, put_none, put_same, put_second}
+use Rattle.gram_way.proofs.Putting.{put_third, tail_inside}
 use Rattle.gram_write.specs.Chains.{behind_lefts_read}
 use Rattle.gram_write.proofs.Chains.{forms_more}
 use Rattle.gram_write.proofs.Flat.{behind_back, behind_infix, behind_none, element_next, left_out, lefts_put}
 use Rattle.gram_write.proofs.Flat.{other_read, put_read, read_put, rest_read}
-use Rattle.gram_write.proofs.Fronts.{keeps_both, keeps_same}
 use Rattle.gram_write.proofs.Inside.{first_below, second_below}
-use Rattle.gram_write.proofs.Putting.{last_below, loop_end, loop_next, put_none, put_same, put_second}
-use Rattle.gram_write.proofs.Putting.{put_third, tail_inside}
 use Rattle.gram_write.proofs.as_read.+as_read.Goals as goal
 
 -- what is called is smaller

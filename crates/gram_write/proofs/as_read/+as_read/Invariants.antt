@@ -7,8 +7,8 @@ use Rattle.gram_tree.specs.Forms.{elements, turns}
 use Rattle.gram_tree.specs.Size.{node_count}
 use Rattle.syn_grammar.specs.Tree as t
 use Rattle.syn_grammar.specs.Tree.{flat}
+use Rattle.gram_way.specs.Front.{Keeps}
 use Rattle.gram_write.specs.Chains.{behind_lefts_read}
-use Rattle.gram_write.specs.Front.{Keeps}
 use Rattle.gram_write.proofs.as_read.+as_read.Given as goal
 
 -- the old ones stand in front, and what is left is to stand behind what is put

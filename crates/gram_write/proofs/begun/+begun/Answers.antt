@@ -3,7 +3,7 @@ use Rattle.std.proofs.Common.{◌≡◌, arith, ap, sym, ◌∙◌, ◌<◌, ◌
 use Rattle.syn_grammar.specs.Tree.{Tree, flat}
 use Rattle.gram_tree.specs.Forms.{tree_of, turns}
 use Rattle.gram_tree.proofs.Sizes.{turn_in, turns_below}
-use Rattle.gram_write.specs.Turns.{begun, earlier}
+use Rattle.gram_way.specs.Turns.{begun, earlier}
 use Rattle.gram_write.proofs.Begins.{turn_first}
 use Rattle.gram_write.proofs.begun.+begun.Goals as goal
 

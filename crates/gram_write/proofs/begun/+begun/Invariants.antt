@@ -1,7 +1,7 @@
 use Rattle.std.proofs.Common.{◌≡◌, drop}
 use Rattle.syn_grammar.specs.Tree.{flat}
 use Rattle.gram_tree.specs.Forms.{turns}
-use Rattle.gram_write.specs.Turns.{begun}
+use Rattle.gram_way.specs.Turns.{begun}
 use Rattle.gram_write.proofs.begun.+begun.Given as goal
 
 -- what was passed has no token

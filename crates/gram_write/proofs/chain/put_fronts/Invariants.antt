@@ -3,8 +3,8 @@ use Rattle.std.proofs.Common.{◌≡◌, ◌++◌, map}
 use denote.Param.Weighed.{most}
 use Rattle.gram_piece.specs.Pieces.{piece_token}
 use Rattle.gram_tree.specs.declared.tree.Tree.TheDeep.{size-Tree}
+use Rattle.gram_way.specs.Front.{Keeps}
 use Rattle.gram_write.specs.Chains.{behind_lefts, passed_laid}
-use Rattle.gram_write.specs.Front.{Keeps}
 use Rattle.gram_write.proofs.chain.put_fronts.Given as goal
 
 -- the old ones stand in front, and what is left is to stand behind what is put; no form is larger than the tree

@@ -2,9 +2,9 @@ use Rattle.std.specs.Prelude.{Some, ◌||◌}
 use Rattle.std.proofs.Common.{◌≡◌, arith, rules, ap, ◌∙◌, sym}
 use Rattle.gram_table.specs.Kinds.{kind_of}
 use Rattle.range_laws.specs.Opens.{opens_given}
-use Rattle.gram_write.specs.Operands.{giving_of}
+use Rattle.gram_way.specs.Operands.{giving_of}
+use Rattle.gram_way.proofs.Operands.{giving_below}
 use Rattle.gram_write.proofs.Opening.{given_some}
-use Rattle.gram_write.proofs.Operands.{giving_below}
 use Rattle.gram_write.proofs.opened.+opens_given.Goals as goal
 
 pub opens_given-requires : goal.opens_given-requires

@@ -1,0 +1,10 @@
+pub mod Pushing
+pub mod Fronts
+pub mod Putting
+pub mod Indices
+pub mod SeenForms
+pub mod WayForms
+pub mod Operands
+pub mod Shells
+pub mod Apartness
+pub mod OffKinds

@@ -1,0 +1,10 @@
+use Rattle.syn_grammar.specs.Gram.{ref}
+use Rattle.syn_grammar.specs.Kind as k
+use Rattle.syn_ast.proofs.Derived.{shaped}
+use Rattle.syn_typed.proofs.Alone.{static_kept}
+use Rattle.syn_typed.proofs.item_forms.ForeignItemStaticParse.view.Goals as goal
+
+pub returns-in-None : goal.returns-in-None
+returns-in-None c rest d =
+    c.in-None.ensures.tree_is (static_kept c.args.tree.now rest d)
+    (shaped c.args.tree.now (ref k.ForeignItemStatic) rest d)

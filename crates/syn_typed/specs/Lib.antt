@@ -1,0 +1,3 @@
+pub mod Alone
+pub mod OneItem
+pub mod OneMember
