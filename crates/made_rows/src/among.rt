@@ -5,8 +5,8 @@ use crate::change::{By, Unmade, tried};
 use syn::{
     Arena, AssociatedItem, ForeignItem, Ident, Item, OuterAttributes, Tree, Turns, Visibility,
 };
-use syn_made::item::among::{foreign_item, impl_item, item, plain_item, trait_item};
 use syn_made::to_tree::ToTree;
+use syn_wrapped::among::{foreign_item, impl_item, item, plain_item, trait_item};
 
 // An item of a trait or an impl, behind such words.
 fn put_member<'a>(

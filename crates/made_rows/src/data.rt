@@ -2,7 +2,7 @@
 
 use crate::change::{By, Change, Unmade, mark, tried};
 use syn::{Arena, Data, DataStruct, DeriveInput, Field, Fields, Sign, Tree, Variant};
-use syn_made::item::derive::item;
+use syn_wrapped::derive::item;
 
 // A struct without fields, or without its semicolon.
 impl<'a> Change<'a> for DeriveInput<'a, 'a> {

@@ -2,7 +2,7 @@
 
 use crate::change::{By, Change, Unmade, limits, tried};
 use syn::{Arena, Pat, PatRange, PatReference, RangeEnd, Tree};
-use syn_made::ast::whole::pattern;
+use syn_wrapped::patterns::pattern;
 
 // A range without its end, or with its end in it.
 fn changed_range<'t, 'a>(change: &str, found: PatRange<'t, 'a>) -> PatRange<'t, 'a> {

@@ -8,9 +8,9 @@ use syn::{
     LocalInit, OneStatement, Position, Statements, Stmt, StmtExpr, StmtLocal, StmtMacro, Tree,
     Worded, equal,
 };
-use syn_made::expr::stmt::{block, statement};
 use syn_made::expr::whole::expression;
 use syn_made::to_tree::ToTree;
+use syn_wrapped::statements::{block, statement};
 
 // The statement that stands by itself in a tree, if one does.
 fn stmt<'t, 'a>(tree: &'t Tree<'a>) -> Option<Stmt<'t, 'a>> {

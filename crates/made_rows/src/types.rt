@@ -6,7 +6,7 @@ use syn::{
     TraitBoundModifier, Tree, Type, TypeBounds, TypeImplTrait, TypeParamBound, TypePath,
     TypeReference, TypeTraitObject, TypeTuple,
 };
-use syn_made::ast::whole::{a_type, path_type};
+use syn_wrapped::types::{a_type, path_type};
 
 // The style that a change names.
 fn style_of(change: &str) -> Style {

@@ -49,14 +49,6 @@ IsWholeType (types.TraitObject x) = AreBounds x.plus x.bounds
 IsWholeType (types.ImplTrait x) = AreBounds x.plus x.bounds
 IsWholeType _ = Unit {0}
 
--- where a type stands, a + may stand between its bounds or may not: those of dyn and impl are as the place has them, and
--- a path is one of types
-abbrev pub IsTypeAt : Plus → Type' → Type 0
-IsTypeAt p (types.TraitObject x) = AreBounds p x.bounds
-IsTypeAt p (types.ImplTrait x) = AreBounds p x.bounds
-IsTypeAt p (types.Path x) = x.style ≡ styles.AtType
-IsTypeAt p _ = Unit {0}
-
 -- a trait stands behind ? or behind for<'a>, and never behind both
 abbrev pub IsTraitFront : TraitBoundModifier → Option (Bor Tree) → Type 0
 IsTraitFront (modifiers.Maybe m) (Some x) = ⊥

@@ -1,28 +1,23 @@
 -- Which values of the types of expressions and of what is made of them are trees, where their fields may contradict each
 -- other.
 use Rattle.gram_table.specs.declared.word.Sign.TheVariants as signs
-use Rattle.gram_tree.specs.Forms.{seconds}
 use Rattle.proc_macro2.specs.declared.delimiter.Delimiter.TheVariants.{Parenthesis}
-use Rattle.std.specs.Prelude.{◌≡◌, Bool, true, false, None, Option, Some, cond, not}
+use Rattle.std.specs.Prelude.{◌≡◌, Bool, true, false, None, Option, Some, cond}
 use Rattle.syn_ast.specs.Leaves.{mark_tree, optional_tree, word_tree}
 use Rattle.syn_ast.specs.Sub.{marked_type_tree}
 use Rattle.syn_ast.specs.declared.leaf.Mark.{Mark}
 use Rattle.syn_ast.specs.declared.paths.Member.{Member}
 use Rattle.syn_ast.specs.declared.paths.Member.TheVariants as members
 use Rattle.syn_ast.specs.declared.sub.Worded.{Worded}
-use Rattle.syn_expr.specs.Statements.{called_macro, diverge_tree, expression_tree, stmt_expr, stmt_local, stmt_macro}
+use Rattle.syn_expr.specs.Statements.{diverge_tree}
 use Rattle.syn_expr.specs.declared.expr.ops.BinOp.{BinOp}
 use Rattle.syn_expr.specs.declared.expr.ops.BinOp.TheVariants as bins
 use Rattle.syn_expr.specs.declared.expr.ops.UnOp.{UnOp}
 use Rattle.syn_expr.specs.declared.expr.ops.UnOp.TheVariants as uns
 use Rattle.syn_expr.specs.declared.stmt.Local.{Local}
 use Rattle.syn_expr.specs.declared.stmt.LocalInit.{LocalInit}
-use Rattle.syn_expr.specs.declared.stmt.Stmt.{Stmt}
-use Rattle.syn_expr.specs.declared.stmt.Stmt.TheVariants as stmts
-use Rattle.syn_expr.specs.declared.stmt.StmtMacro.{StmtMacro}
 use Rattle.syn_grammar.specs.Kind as k
 use Rattle.syn_grammar.specs.Name as n
-use Rattle.syn_grammar.specs.Part.{choice, has, the}
 use Rattle.syn_grammar.specs.Statements.{ends_in_braces}
 use Rattle.syn_grammar.specs.Tree as t
 use Rattle.syn_grammar.specs.Tree.{Tree, flat}
@@ -39,46 +34,6 @@ abbrev pub IsFieldInit : Member → Option Mark → Option (Bor Tree) → Type 0
 IsFieldInit m (Some c) (Some e) = Unit {0}
 IsFieldInit (members.Named i) None None = Unit {0}
 IsFieldInit _ _ _ = ⊥
-
--- the form of an item is a macro that has a name behind its !
-abbrev pub is_macro_form : Tree → Bool
-is_macro_form (t.Node (k.ItemMacro p) x) = has n.the_name x
-is_macro_form _ = false
-
--- an item is such a macro: what was chosen of the part that has its form is one
-abbrev pub is_macro_item : Tree → Bool
-is_macro_item (t.Node i x) = is_macro_form (choice (the n.the_item x))
-is_macro_item _ = false
-
--- a macro is read as an expression where it is in parentheses or brackets and has a ; behind it
-abbrev pub is_call : Tree → Option Mark → Bool
-is_call m (Some s) = not (ends_in_braces (flat m))
-is_call m None = false
-
--- a macro as an expression of a statement
-abbrev pub as_expression : Tree → Tree
-as_expression m = t.Node (k.Expression k.InStatement) (t.Whole (t.Alone k.ExprMacro m))
-
--- the alternative of a macro: the fifth, an expression, where it is read as one, and else the second
-abbrev pub chosen_macro : StmtMacro → Tree
-chosen_macro x =
-    cond (is_call x.mac.now x.semi_token) (seconds 4 (expression_tree x.attrs.now (as_expression x.mac.now) x.semi_token))
-    (t.Second (t.First (stmt_macro x)))
-
--- the alternative of a statement: of items a macro with a name is the first, and any other the fourth
-abbrev pub chosen_stmt : Stmt → Tree
-chosen_stmt (stmts.Item x) = cond (is_macro_item x.now) (t.First x.now) (seconds 3 (t.First x.now))
-chosen_stmt (stmts.Macro x) = chosen_macro x
-chosen_stmt (stmts.Local x) = seconds 2 (t.First (stmt_local x))
-chosen_stmt (stmts.Expr x) = seconds 4 (stmt_expr x)
-
--- What a statement is once it is a tree: the same; but an expression in which a macro is called is that macro, as it is when
--- it is read.
-abbrev pub IsToldAs : Stmt → Stmt → Type 0
-IsToldAs (stmts.Expr x) (stmts.Macro y) =
-    (y.attrs.now ≡ x.attrs.now) × (called_macro x.expr.now x.semi_token ≡ Some y.mac.now) × (y.semi_token ≡ x.semi_token)
-IsToldAs (stmts.Expr x) y = (called_macro x.expr.now x.semi_token ≡ None) × (y ≡ stmts.Expr x)
-IsToldAs x y = y ≡ x
 
 -- an expression in parentheses, as an expression
 abbrev pub in_parentheses : Tree → Tree

@@ -19,7 +19,7 @@ pub mod leaf;
 pub mod lists;
 pub mod name;
 pub mod parts;
-mod put;
+pub mod put;
 pub mod sub;
 pub mod to_tree;
 pub mod try_to_tree;

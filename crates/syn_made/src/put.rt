@@ -14,8 +14,12 @@ use gram_tree::made;
 use gram_tree::tree::Tree;
 use std::alloc::AllocError;
 
-// A node of a kind.
-pub(crate) fn node<'a, T: ToTree<'a>>(
+/// A node of a kind.
+///
+/// # Errors
+///
+/// Where there is no memory for it.
+pub fn node<'a, T: ToTree<'a>>(
     arena: &'a Arena,
     kind: Kind,
     value: &T,
@@ -26,8 +30,12 @@ pub(crate) fn node<'a, T: ToTree<'a>>(
     made::node(arena, kind, inner)
 }
 
-// A node of a kind, which is some tree.
-pub(crate) fn some_node<'a, T: ToTree<'a>>(
+/// A node of a kind, which is some tree.
+///
+/// # Errors
+///
+/// Where there is no memory for it.
+pub fn some_node<'a, T: ToTree<'a>>(
     arena: &'a Arena,
     kind: Kind,
     value: &T,
@@ -38,8 +46,12 @@ pub(crate) fn some_node<'a, T: ToTree<'a>>(
     Ok(Some(node(arena, kind, value)?))
 }
 
-// Of a choice the first, behind so many choices.
-pub(crate) fn nth<'a, T: ToTree<'a>>(
+/// Of a choice the first, behind so many choices.
+///
+/// # Errors
+///
+/// Where there is no memory for it.
+pub fn nth<'a, T: ToTree<'a>>(
     arena: &'a Arena,
     count: usize,
     value: &T,
@@ -50,8 +62,12 @@ pub(crate) fn nth<'a, T: ToTree<'a>>(
     made::first_behind(arena, count, inner)
 }
 
-// Behind so many choices, each the second of the one before it.
-pub(crate) fn behind<'a, T: ToTree<'a>>(
+/// Behind so many choices, each the second of the one before it.
+///
+/// # Errors
+///
+/// Where there is no memory for it.
+pub fn behind<'a, T: ToTree<'a>>(
     arena: &'a Arena,
     count: usize,
     value: &T,
@@ -62,8 +78,12 @@ pub(crate) fn behind<'a, T: ToTree<'a>>(
     made::seconds(arena, count, inner)
 }
 
-// A form by itself.
-pub(crate) fn alone<'a, T: ToTree<'a>>(
+/// A form by itself.
+///
+/// # Errors
+///
+/// Where there is no memory for it.
+pub fn alone<'a, T: ToTree<'a>>(
     arena: &'a Arena,
     kind: Kind,
     own: &T,
@@ -74,8 +94,12 @@ pub(crate) fn alone<'a, T: ToTree<'a>>(
     made::alone(arena, kind, own)
 }
 
-// A form with an operand behind it.
-pub(crate) fn front<'a, T: ToTree<'a>>(
+/// A form with an operand behind it.
+///
+/// # Errors
+///
+/// Where there is no memory for it.
+pub fn front<'a, T: ToTree<'a>>(
     arena: &'a Arena,
     kind: Kind,
     own: &T,
@@ -87,8 +111,12 @@ pub(crate) fn front<'a, T: ToTree<'a>>(
     made::front(arena, kind, own, right.copy())
 }
 
-// A form with an operand before it.
-pub(crate) fn back<'a, T: ToTree<'a>>(
+/// A form with an operand before it.
+///
+/// # Errors
+///
+/// Where there is no memory for it.
+pub fn back<'a, T: ToTree<'a>>(
     arena: &'a Arena,
     left: &Tree<'a>,
     kind: Kind,

@@ -6,7 +6,6 @@
 //! - `generics`: generics and where clauses.
 //! - `attributes`, `visibility`.
 //! - `patterns`: what patterns are read as; `pat`: patterns by their form.
-//! - `whole`: types and patterns of their forms, for where one stands.
 
 pub mod attributes;
 pub mod bounds;
@@ -16,4 +15,3 @@ pub mod paths;
 pub mod patterns;
 pub mod types;
 pub mod visibility;
-pub mod whole;

@@ -155,7 +155,7 @@ impl<'t, 'a> ToTree<'a> for TypeParenthesized<'t, 'a> {
 }
 
 /// Whether bounds are several where a `+` may stand between them, and one elsewhere.
-pub(crate) fn are_bounds(plus: Plus, bounds: TypeBounds<'_, '_>) -> bool
+pub fn are_bounds(plus: Plus, bounds: TypeBounds<'_, '_>) -> bool
     ensures { IsTrue result ↔ AreBounds plus bounds.entry }
 {
     match (plus, bounds) {

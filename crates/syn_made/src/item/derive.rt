@@ -1,12 +1,9 @@
 //! What is derived for: structs, enums and unions, with their attributes and their visibility.
 
-ghost use Rattle.syn_made.specs.MadeAmong.{data_item_form, kept_item};
-ghost use Rattle.std.specs.Prelude.{◌≡◌, IfOk, IfSome, MatchOption};
-ghost use Rattle.syn_data.specs.Derive.{IsEnded, IsItemOf, IsWhole, chosen_data, data_form, derive_input};
-ghost use Rattle.syn_data.specs.Derive.{item_tree};
+ghost use Rattle.std.specs.Prelude.{◌≡◌, IfOk, MatchOption};
+ghost use Rattle.syn_data.specs.Derive.{IsEnded, IsWhole, chosen_data, data_form, derive_input, item_tree};
 
 use crate::forms::{First, Seconds};
-use crate::item::among::kept;
 use crate::put::{nth, some_node};
 use crate::to_tree::ToTree;
 use crate::try_to_tree::TryToTree;
@@ -16,7 +13,6 @@ use gram_tree::tree::Tree;
 use std::alloc::AllocError;
 use syn_data::derive::{Data, DataItem, DeriveInput};
 use syn_data::item::{ItemEnum, ItemStruct, ItemUnion};
-use syn_item::item::{Item, ItemForm};
 
 impl<'t, 'a> TryToTree<'a> for DataItem<'t, 'a> {
     ghost says = { λ x tree. IsWhole x × (tree ≡ item_tree x) };
@@ -30,8 +26,16 @@ impl<'t, 'a> TryToTree<'a> for DataItem<'t, 'a> {
     }
 }
 
-// What it is behind its attributes and its visibility.
-fn form<'a>(arena: &'a Arena, input: &DeriveInput<'_, 'a>) -> Result<Option<Tree<'a>>, AllocError>
+/// What is derived for, behind its attributes and its visibility: the form of an item; `None`, exactly where the semicolon
+/// of a struct is not as its fields need it.
+///
+/// # Errors
+///
+/// Where there is no memory for it.
+pub fn form<'a>(
+    arena: &'a Arena,
+    input: &DeriveInput<'_, 'a>,
+) -> Result<Option<Tree<'a>>, AllocError>
     ensures { IfOk result (λ o. MatchOption o (IsEnded input.now.«data» → ⊥)
         (λ x. IsEnded input.now.«data» × (x ≡ data_form input.now))) }
 {
@@ -97,40 +101,4 @@ impl<'t, 'a> TryToTree<'a> for DeriveInput<'t, 'a> {
         let inside = (self.attrs, self.vis, Chosen(self.data, &form));
         some_node(arena, Kind::DeriveInput, &inside)
     }
-}
-
-// The form of an item that data is.
-fn item_form(which: &Data<'_, '_>) -> ItemForm
-    ensures { result ≡ data_item_form which.now }
-{
-    match which {
-        Data::Struct(_) => ItemForm::Struct,
-        Data::Enum(_) => ItemForm::Enum,
-        Data::Union(_) => ItemForm::Union,
-    }
-}
-
-/// What is derived for as an item among others, as a node of the kind `AnItem`; `None`, exactly where the semicolon of a
-/// struct is not as its fields need it.
-///
-/// # Errors
-///
-/// Where there is no memory for it.
-pub fn item<'a>(
-    arena: &'a Arena,
-    input: &DeriveInput<'_, 'a>,
-) -> Result<Option<Tree<'a>>, AllocError>
-    ensures says { IfOk result (λ o. MatchOption o (IsEnded input.now.«data» → ⊥)
-        (λ x. IsEnded input.now.«data» × IsItemOf input.now x)) }
-    ensures same { IfOk result (λ o. IfSome o (λ x. x ≡ kept_item input.now.attrs.now input.now.vis.now
-        (data_item_form input.now.«data») (data_form input.now))) }
-{
-    let Some(form) = form(arena, input)? else {
-        return Ok(None);
-    };
-    let item = Item {
-        form: item_form(&input.data),
-        tree: &form,
-    };
-    Ok(Some(kept(arena, input.attrs, input.vis, &item)?))
 }

@@ -1,14 +1,12 @@
-//! Data and items as trees: the types of `syn_data` and of `syn_item`, and items put where they stand.
+//! Data and items as trees: the types of `syn_data` and of `syn_item`.
 //!
 //! - `data`, `item`, `derive`: fields and variants; structs, enums, unions, statics, uses and crates; what is derived for.
 //! - `function`: functions, with their signatures, parameters and receivers.
 //! - `uses`, `modules`, `alias`, `constant`, `traits`, `impls`, `macros`, `members`: the other items.
 //! - `entry`: items of any kind with their attributes and their visibility.
-//! - `among`: items among others, by their form, and several as what stands in a file, a module, a trait or an impl.
 //! - `part`: a part that may be missing.
 
 pub mod alias;
-pub mod among;
 pub mod constant;
 pub mod data;
 pub mod derive;

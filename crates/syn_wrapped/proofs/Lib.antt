@@ -1,0 +1,5 @@
+pub mod TypeForms
+pub mod PatternForms
+pub mod StatementForms
+pub mod AmongForms
+pub mod MemberForms

@@ -1,0 +1,5 @@
+pub mod Types
+pub mod Patterns
+pub mod Statements
+pub mod Among
+pub mod Members
