@@ -1,6 +1,7 @@
 //! Texts, and what is asked of their tokens.
 
 use crate::calls::{Call, put_call};
+use crate::held::{Stands, put_form};
 use crate::single::{Item, Single, put_item, put_single};
 use crate::standing::{Form, put_told};
 use crate::words::{Word, put_word};
@@ -32,6 +33,8 @@ pub(crate) enum Question {
     Compared,
     /// What is written of a long expression.
     Long,
+    /// Of which form it is, as an item of a trait, an impl or an extern block.
+    Held(Stands),
     /// Whether it is an item of one kind, or a member.
     Item(Item),
     /// Whether it is one form of several of a kind.
@@ -47,7 +50,11 @@ impl Question {
     fn shows_text(self) -> bool {
         matches!(
             self,
-            Question::Item(_) | Question::Single(_) | Question::Standing(_) | Question::Word(_)
+            Question::Held(_)
+                | Question::Item(_)
+                | Question::Single(_)
+                | Question::Standing(_)
+                | Question::Word(_)
         )
     }
 }
@@ -92,6 +99,7 @@ fn put<'a>(
         Question::Called(call) => put_call(call, arena, buffer, page),
         Question::Compared => compared::put_types(arena, buffer, page),
         Question::Long => long::put_written(arena, buffer, page),
+        Question::Held(stands) => put_form(stands, arena, buffer, page),
         Question::Item(item) => put_item(item, arena, buffer, page),
         Question::Single(single) => put_single(single, arena, buffer, page),
         Question::Standing(form) => put_told(form, arena, buffer, page),

@@ -15,6 +15,7 @@
 //! - `compared`: types that are compared; `long`: a long expression.
 //! - `single`: texts that are read as an item of one kind, a member, or a form that is one of several of a kind, in three
 //!   ways, which have to agree (`alone`).
+//! - `held`: the items of traits, impls and extern blocks, as the enums that hold their form.
 //! - `words`: words that a reader reads where they stand; `whole`: texts that are read in one call.
 #![tactic(auto)]
 
@@ -23,6 +24,7 @@ mod asked;
 mod built;
 mod calls;
 mod compared;
+mod held;
 mod long;
 mod modifiers;
 mod optional;
@@ -64,6 +66,7 @@ fn put_answers(page: &mut Page) -> Result<(), Stop> {
             &single::SINGLES,
             &standing::FORMS,
             &words::WORDS,
+            &held::HELD,
         ],
         page,
     )?;

@@ -3,7 +3,8 @@
 use crate::asked::Whole;
 use crate::change::{By, Unmade, tried};
 use syn::{
-    Arena, AssociatedItem, ForeignItem, Ident, Item, OuterAttributes, Tree, Turns, Visibility,
+    Arena, AssociatedItemTree, ForeignItemTree, Ident, Item, OuterAttributes, Tree, Turns,
+    Visibility,
 };
 use syn_made::to_tree::ToTree;
 use syn_wrapped::among::{foreign_item, impl_item, item, plain_item, trait_item};
@@ -16,9 +17,9 @@ fn put_member<'a>(
     defaultness: Option<&'a Ident>,
 ) -> Result<Option<Tree<'a>>, Unmade> {
     let (attrs, vis) = before;
-    match AssociatedItem::in_trait(tree) {
+    match AssociatedItemTree::in_trait(tree) {
         Some(found) => tried(trait_item(arena, attrs, vis, defaultness, &found)),
-        None => match AssociatedItem::in_impl(tree) {
+        None => match AssociatedItemTree::in_impl(tree) {
             Some(found) => tried(impl_item(arena, attrs, vis, defaultness, &found)),
             None => Err(Unmade::NoRow),
         },
@@ -33,7 +34,7 @@ fn put<'a>(
     defaultness: Option<&'a Ident>,
 ) -> Result<Option<Tree<'a>>, Unmade> {
     let (attrs, vis) = before;
-    match (Item::of(tree), ForeignItem::of(tree)) {
+    match (Item::of(tree), ForeignItemTree::of(tree)) {
         (Some(found), _) => tried(item(arena, attrs, vis, &found)),
         (None, Some(found)) => tried(foreign_item(arena, attrs, vis, &found)),
         (None, None) => put_member(arena, tree, before, defaultness),

@@ -3,9 +3,9 @@
 use crate::asked;
 use crate::change::{By, Change, Unmade, mark, remade, remade_always, some_of};
 use syn::{
-    Arena, AssociatedItem, Delimiter, Delimiters, ForeignItem, Item, ItemEnum, ItemFn, ItemImpl,
-    ItemMacro, ItemMod, ItemTrait, ItemTraitAlias, ItemType, MacroDelimiter, Name, Sign, Signature,
-    Span, TraitForm, TraitModifiers, Tree, WhereOrder,
+    Arena, AssociatedItemTree, Delimiter, Delimiters, ForeignItemTree, Item, ItemEnum, ItemFn,
+    ItemImpl, ItemMacro, ItemMod, ItemTrait, ItemTraitAlias, ItemType, MacroDelimiter, Name, Sign,
+    Signature, Span, TraitForm, TraitModifiers, Tree, WhereOrder,
 };
 
 // A module without what stands in it, and whose items stand in another file where it is to be `outside`.
@@ -127,9 +127,9 @@ impl<'a> Change<'a> for ItemImpl<'a, 'a> {
 
 // The form of an item in a trait or in an extern block, if a tree is one.
 fn member_form<'t, 'a>(tree: &'t Tree<'a>) -> Option<&'t Tree<'a>> {
-    match AssociatedItem::in_trait(tree) {
+    match AssociatedItemTree::in_trait(tree) {
         Some(item) => Some(item.tree),
-        None => Some(ForeignItem::of(tree)?.tree),
+        None => Some(ForeignItemTree::of(tree)?.tree),
     }
 }
 

@@ -5,7 +5,7 @@
 //! to read; its leaves lend the tokens.
 //!
 //! The syntax tree's types stand here under syn's names: `Type::of`, `ItemFn::of` and the like answer one layer of a tree,
-//! whose fields lend its parts. They are those of `syn_ast`, `syn_expr`, `syn_data` and `syn_item`.
+//! whose fields lend its parts. They are those of `syn_ast`, `syn_expr`, `syn_data`, `syn_item` and `syn_members`.
 //!
 //! - `parse`, `peek`, `reader`, `stream`, `text`, `typed`, `single`, `optional` (of `syn_read`): forms that are read from
 //!   tokens, as trees and as types; `one_item` (of `syn_typed`), `single_expr` (of `syn_single`): types that are.
@@ -300,19 +300,17 @@ pub use syn_item::item::Item;
 pub use syn_item::item::ItemForm;
 pub use syn_item::macros::ItemMacro;
 pub use syn_item::members::AssociatedForm;
-pub use syn_item::members::AssociatedItem;
+pub use syn_item::members::AssociatedItem as AssociatedItemTree;
 pub use syn_item::members::ForeignForm;
-pub use syn_item::members::ForeignItem;
+pub use syn_item::members::ForeignItem as ForeignItemTree;
 pub use syn_item::members::ForeignItemFn;
 pub use syn_item::members::ForeignItemMacro;
 pub use syn_item::members::ForeignItemType;
 pub use syn_item::members::ForeignStatic;
-pub use syn_item::members::ImplItem;
 pub use syn_item::members::ImplItemConst;
 pub use syn_item::members::ImplItemFn;
 pub use syn_item::members::ImplItemMacro;
 pub use syn_item::members::ImplItemType;
-pub use syn_item::members::TraitItem;
 pub use syn_item::members::TraitItemConst;
 pub use syn_item::members::TraitItemFn;
 pub use syn_item::members::TraitItemMacro;
@@ -338,6 +336,10 @@ pub use syn_item::uses::UsePath;
 pub use syn_item::uses::UseRename;
 pub use syn_item::uses::UseTop;
 pub use syn_item::uses::UseTree;
+pub use syn_members::associated::AssociatedItem;
+pub use syn_members::associated::ImplItem;
+pub use syn_members::associated::TraitItem;
+pub use syn_members::foreign::ForeignItem;
 pub use syn_read::Entered;
 pub use syn_read::ParseForm;
 pub use syn_read::ParseForms;

@@ -1,0 +1,2 @@
+pub mod Associated
+pub mod Foreign
