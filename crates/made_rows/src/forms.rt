@@ -5,7 +5,7 @@ use crate::change::{By, Unmade, remade, remade_always};
 use crate::{data, functions, patterns, types};
 use syn::{
     Arena, Arm, Attribute, DeriveInput, Field, FieldValue, File, GenericParam, OneSegment, Path,
-    Plus, RangeEnd, Receiver, Segments, TraitBound, Tree, Variant, Visibility,
+    Plus, RangeEnd, Receiver, Segments, Tree, TypeParamBound, Variant, Visibility,
 };
 
 /// A type or a pattern, or what these are made of, changed so.
@@ -22,7 +22,7 @@ pub(crate) fn changed_form<'a>(
         Form::PathType => types::put_path(arena, by, tree),
         Form::Segments => remade::<Segments>(arena, by, tree),
         Form::Segment => remade::<OneSegment>(arena, by, tree),
-        Form::Bound => remade::<TraitBound>(arena, by, tree),
+        Form::Bound => remade::<TypeParamBound>(arena, by, tree),
         Form::Pattern => patterns::put_pattern(arena, by, tree),
         Form::RangeEnd => remade::<RangeEnd>(arena, by, tree),
     }

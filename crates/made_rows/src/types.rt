@@ -159,13 +159,13 @@ impl<'a> Change<'a> for OneSegment<'a, 'a> {
     }
 }
 
-// The trait of a bound behind `?`.
-impl<'a> Change<'a> for TraitBound<'a, 'a> {
-    fn changed(_by: By<'_, 'a>, tree: &'a Tree<'a>) -> Option<TraitBound<'a, 'a>> {
+// A bound whose trait stands behind `?`.
+impl<'a> Change<'a> for TypeParamBound<'a, 'a> {
+    fn changed(_by: By<'_, 'a>, tree: &'a Tree<'a>) -> Option<TypeParamBound<'a, 'a>> {
         let Some(TypeParamBound::Trait(found)) = TypeParamBound::of(tree) else {
             return None;
         };
         let modifier = TraitBoundModifier::Maybe(mark(Sign::Question));
-        Some(TraitBound { modifier, ..found })
+        Some(TypeParamBound::from(TraitBound { modifier, ..found }))
     }
 }
