@@ -16,11 +16,9 @@ pub(crate) static OUTER_ATTRIBUTES: [Op; 2] = [
 ];
 
 /// # [meta]
+#[rattlefmt::skip]
 pub(crate) static OUTER_ATTRIBUTE: [Op; 4] = [
-    Op::Seq(1),
-    Op::Mark(Sign::Pound),
-    Op::Group(Delimiter::Bracket),
-    Op::Ref(Kind::Meta),
+    Op::Seq(1), Op::Mark(Sign::Pound), Op::Group(Delimiter::Bracket), Op::Ref(Kind::Meta),
 ];
 
 /// Inner attributes are read while # and ! stand there.
@@ -30,29 +28,19 @@ pub(crate) static INNER_ATTRIBUTES: [Op; 2] = [
 ];
 
 /// # ! [meta]
+#[rattlefmt::skip]
 pub(crate) static INNER_ATTRIBUTE: [Op; 6] = [
-    Op::Seq(1),
-    Op::Mark(Sign::Pound),
-    Op::Seq(1),
-    Op::Mark(Sign::Not),
-    Op::Group(Delimiter::Bracket),
+    Op::Seq(1), Op::Mark(Sign::Pound), Op::Seq(1), Op::Mark(Sign::Not), Op::Group(Delimiter::Bracket),
     Op::Ref(Kind::Meta),
 ];
 
 /// A path, or unsafe alone, and then a group of raw tokens, or = Expr that doesn't begin with #, or nothing.
+#[rattlefmt::skip]
 pub(crate) static META: [Op; 14] = [
-    Op::Seq(3),
-    Op::Alt(Test::Sees(Look::Word(Words::Keyword(Keyword::Unsafe))), 1),
-    Op::Word(Words::Keyword(Keyword::Unsafe)),
-    Op::Ref(Kind::Path(Style::InModule)),
-    Op::Alt(Test::Sees(Look::Composite(Composite::AnyDelimiter)), 1),
-    Op::Ref(Kind::Delimited),
-    Op::Alt(Test::Sees(Look::Mark(Sign::Eq)), 6),
-    Op::Seq(1),
-    Op::Mark(Sign::Eq),
-    Op::Alt(Test::Sees(Look::Mark(Sign::Pound)), 1),
-    Op::Never,
-    Op::Called(Part::Value),
-    Op::Ref(Kind::Expression(Position::Plain)),
-    Op::Nothing,
+    Op::Seq(3), Op::Alt(Test::Sees(Look::Word(Words::Keyword(Keyword::Unsafe))), 1),
+    Op::Word(Words::Keyword(Keyword::Unsafe)), Op::Ref(Kind::Path(Style::InModule)),
+    Op::Alt(Test::Sees(Look::Composite(Composite::AnyDelimiter)), 1), Op::Ref(Kind::Delimited),
+    Op::Alt(Test::Sees(Look::Mark(Sign::Eq)), 6), Op::Seq(1), Op::Mark(Sign::Eq),
+    Op::Alt(Test::Sees(Look::Mark(Sign::Pound)), 1), Op::Never, Op::Called(Part::Value),
+    Op::Ref(Kind::Expression(Position::Plain)), Op::Nothing,
 ];
