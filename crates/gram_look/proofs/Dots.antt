@@ -3,9 +3,9 @@ use Rattle.std.proofs.Common.{◌≡◌, ℕ, ◌+◌, ◌*◌, ◌<◌, ◌≤�
 use Rattle.std.specs.Prelude.{Bool, true, false, ◌&&◌, ◌==◌, ◌⊎◌, nat_lt, if◌then◌else◌, Option, Some, None}
 use Rattle.std.proofs.lemmas.Bool.Decides.{nat_tests}
 use Rattle.std.proofs.lemmas.Bool.{eqb-true, ne_eqb}
-use Rattle.syn_grammar.specs.Words.{based_number, before_dot, behind_dots, digit, indices_to_dot, integer, is_below, is_index}
-use Rattle.syn_grammar.specs.Words.{last_is_dot, number_behind}
-use Rattle.gram_look.specs.Texts.{Reads}
+use Rattle.syn_grammar.specs.Words.{based_number, before_dot, behind_dots, digit, indices, indices_to_dot, integer, is_below}
+use Rattle.syn_grammar.specs.Words.{is_index, last_is_dot, number_behind, texts_of}
+use Rattle.gram_look.specs.Texts.{IsFrom, Reads}
 use Rattle.gram_look.proofs.Numbers.{next_digit, next_line, wrong_digit}
 
 -- whether the last of these characters is a dot; of none, what is said
@@ -244,6 +244,29 @@ at_dot_is c cs ds e h = ap behind_dots e ∙ by (c == 46) (sym (ap before_dot e)
         → (if v then before_dot cs ∷ behind_dots cs else behind_dots cs) ≡ before_dot cs ∷ behind_dots cs
     by true g = refl
     by false g = cc
+
+-- behind the last dot of a text, which ends it, stands one text more, and it is empty
+pub behind_last : (c : ℕ) (cs ds left : List ℕ) → IsFrom ds left → left ≡ c ∷ cs → cs ≡ []
+    → before_dot [] ∷ behind_dots [] ≡ behind_dots ds
+behind_last c cs ds left f e g =
+    ap (λ x. before_dot x ∷ behind_dots x) (sym g) ∙ sym (at_dot_is c cs left e f.0) ∙ f.1
+
+texts_of_more : (d : ℕ) (es : List ℕ) → texts_of (before_dot (d ∷ es) ∷ behind_dots (d ∷ es)) ≡ indices (d ∷ es)
+texts_of_more d es = by (d == 46)
+  where
+    by : (v : Bool) → texts_of ((if v then [] else d ∷ before_dot es)
+        ∷ (if v then before_dot es ∷ behind_dots es else behind_dots es))
+        ≡ (if v then [] else d ∷ before_dot es)
+        ∷ texts_of (if v then before_dot es ∷ behind_dots es else behind_dots es)
+    by true = refl
+    by false = refl
+
+-- behind a dot stand the indices of what follows it
+pub behind_more : (c d : ℕ) (cs ds es left : List ℕ) → IsFrom ds left → left ≡ c ∷ cs → cs ≡ d ∷ es
+    → indices cs ≡ texts_of (behind_dots ds)
+behind_more c d cs ds es left f e g =
+    ap indices g ∙ sym (texts_of_more d es) ∙ ap (λ x. texts_of (before_dot x ∷ behind_dots x)) (sym g)
+    ∙ ap texts_of (sym (at_dot_is c cs left e f.0) ∙ f.1)
 
 no_more : (x : List ℕ) (xs : List (List ℕ)) → x ∷ xs ≡ [] → ⊥
 no_more x xs g = cc

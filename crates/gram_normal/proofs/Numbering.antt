@@ -1,6 +1,5 @@
 -- Fields by the indices of a text, up to its dots and behind them.
-use Rattle.std.proofs.Common.{◌≡◌, ℕ, List, [], ◌∷◌, refl, sym, ap, ◌∙◌}
-use Rattle.std.specs.Prelude.{Bool, true, false, ◌==◌, if◌then◌else◌}
+use Rattle.std.proofs.Common.{◌≡◌, ℕ, List, [], ◌∷◌, sym, ap, ◌∙◌}
 use Rattle.std.specs.Fmt.{decimal}
 use Rattle.syn_grammar.specs.Kept.{index_field, index_fields, lone_dot}
 use Rattle.syn_grammar.specs.Kind.{ExprField}
@@ -9,7 +8,7 @@ use Rattle.syn_grammar.specs.Tree as t
 use Rattle.syn_grammar.specs.Tree.{Tree}
 use Rattle.syn_grammar.specs.Words.{before_dot, behind_dots, indices, integer, or_zero, plain_decimal, texts_of}
 use Rattle.gram_look.specs.Texts.{IsFrom}
-use Rattle.gram_look.proofs.Dots.{at_dot_is}
+use Rattle.gram_look.proofs.Dots.{behind_last, behind_more}
 
 abbrev field : Tree → ℕ → Tree
 field l n = t.Back l ExprField
@@ -28,27 +27,13 @@ last_index x l n ds left f e v h =
 pub last_dot : (x l : Tree) (n c : ℕ) (cs ds left : List ℕ) → IsFrom ds left → left ≡ c ∷ cs → cs ≡ []
     → n ≡ or_zero (integer (before_dot ds)) → x ≡ field l n → x ≡ index_fields l (indices ds)
 last_dot x l n c cs ds left f e g v h =
-    h ∙ field_is l n ds v ∙ ap (λ z. index_fields l (before_dot ds ∷ texts_of z))
-    (ap (λ z. before_dot z ∷ behind_dots z) (sym g) ∙ sym (at_dot_is c cs left e f.0) ∙ f.1)
-
-of_more : (d : ℕ) (es : List ℕ) → texts_of (before_dot (d ∷ es) ∷ behind_dots (d ∷ es)) ≡ indices (d ∷ es)
-of_more d es = by (d == 46)
-  where
-    by : (v : Bool) → texts_of ((if v then [] else d ∷ before_dot es)
-        ∷ (if v then before_dot es ∷ behind_dots es else behind_dots es))
-        ≡ (if v then [] else d ∷ before_dot es)
-        ∷ texts_of (if v then before_dot es ∷ behind_dots es else behind_dots es)
-    by true = refl
-    by false = refl
+    h ∙ field_is l n ds v ∙ ap (λ z. index_fields l (before_dot ds ∷ texts_of z)) (behind_last c cs ds left f e g)
 
 pub more_indices : (x y l : Tree) (n c d : ℕ) (cs ds es left : List ℕ) → IsFrom ds left → left ≡ c ∷ cs
     → cs ≡ d ∷ es → n ≡ or_zero (integer (before_dot ds)) → y ≡ field l n → x ≡ index_fields y (indices cs)
     → x ≡ index_fields l (indices ds)
 more_indices x y l n c d cs ds es left f e g v h i =
-    let j : indices cs ≡ texts_of (behind_dots ds) =
-    ap indices g ∙ sym (of_more d es) ∙ ap (λ z. texts_of (before_dot z ∷ behind_dots z)) (sym g)
-    ∙ ap texts_of (sym (at_dot_is c cs left e f.0) ∙ f.1) in
     i ∙ ap (λ z. index_fields z (indices cs)) (h ∙ field_is l n ds v)
-    ∙ ap (index_fields (index_field l (before_dot ds))) j
+    ∙ ap (index_fields (index_field l (before_dot ds))) (behind_more c d cs ds es left f e g)
 
 pub ruleset all_fields = (last_index, last_dot, more_indices)

@@ -1,5 +1,5 @@
 -- The indices of a text, up to its dots and behind them.
-use Rattle.std.proofs.Common.{◌≡◌, ℕ, ◌<◌, ◌≤◌, List, [], ◌∷◌, ◌++◌, refl, sym, ap, ◌∙◌, arith, append_assoc}
+use Rattle.std.proofs.Common.{◌≡◌, ℕ, ◌<◌, List, [], ◌∷◌, ◌++◌, refl, sym, ap, ◌∙◌, arith, append_assoc}
 use Rattle.std.specs.Prelude.{Bool, true, false, nat_lt, zero, suc, ◌==◌, if◌then◌else◌, Option, Some, None}
 use Rattle.std.proofs.lemmas.Bool.Decides.{nat_tests}
 use Rattle.std.proofs.lemmas.Bool.{ne_eqb}
@@ -14,7 +14,7 @@ use Rattle.gram_tree.specs.Forms.{mark_of, seconds, elements, ending}
 use Rattle.syn_grammar.specs.Words.{before_dot, behind_dots, indices, integer, is_below, is_index, or_zero}
 use Rattle.syn_grammar.specs.Words.{plain_decimal, texts_of}
 use Rattle.gram_look.specs.Texts.{IsFrom, Reads}
-use Rattle.gram_look.proofs.Dots.{at_dot_is, index_left, no_index}
+use Rattle.gram_look.proofs.Dots.{behind_last, behind_more, index_left, no_index}
 use Rattle.gram_way.specs.Said.{fields, front_fields}
 use Rattle.gram_way.specs.Seen.{text_of_literal}
 
@@ -90,29 +90,15 @@ last_field ts us ds left f e h =
 pub last_dot : (ts us : List Token) (c : ℕ) (cs ds left : List ℕ) → IsFrom ds left → left ≡ c ∷ cs → cs ≡ []
     → ts ≡ us ++ Punct 46 Apart ∷ Literal (plain_decimal (before_dot ds)) ∷ [] → ts ≡ us ++ fields (indices ds)
 last_dot ts us c cs ds left f e g h =
-    h ∙ ap (λ x. us ++ fields (before_dot ds ∷ texts_of x))
-    (ap (λ x. before_dot x ∷ behind_dots x) (sym g) ∙ sym (at_dot_is c cs left e f.0) ∙ f.1)
-
-of_more : (d : ℕ) (es : List ℕ) → texts_of (before_dot (d ∷ es) ∷ behind_dots (d ∷ es)) ≡ indices (d ∷ es)
-of_more d es = by (d == 46)
-  where
-    by : (v : Bool) → texts_of ((if v then [] else d ∷ before_dot es)
-        ∷ (if v then before_dot es ∷ behind_dots es else behind_dots es))
-        ≡ (if v then [] else d ∷ before_dot es)
-        ∷ texts_of (if v then before_dot es ∷ behind_dots es else behind_dots es)
-    by true = refl
-    by false = refl
+    h ∙ ap (λ x. us ++ fields (before_dot ds ∷ texts_of x)) (behind_last c cs ds left f e g)
 
 pub more_fields : (ts us vs : List Token) (c d : ℕ) (cs ds es left : List ℕ) → IsFrom ds left → left ≡ c ∷ cs
     → cs ≡ d ∷ es → vs ≡ us ++ Punct 46 Apart ∷ Literal (plain_decimal (before_dot ds)) ∷ []
     → ts ≡ vs ++ fields (indices cs) → ts ≡ us ++ fields (indices ds)
 more_fields ts us vs c d cs ds es left f e g h i =
-    let j : indices cs ≡ texts_of (behind_dots ds) =
-    ap indices g ∙ sym (of_more d es) ∙ ap (λ x. texts_of (before_dot x ∷ behind_dots x)) (sym g)
-    ∙ ap texts_of (sym (at_dot_is c cs left e f.0) ∙ f.1) in
     i ∙ ap (λ x. x ++ fields (indices cs)) h
     ∙ append_assoc us (field (before_dot ds)) (fields (indices cs))
-    ∙ ap (λ x. us ++ fields (before_dot ds ∷ x)) j
+    ∙ ap (λ x. us ++ fields (before_dot ds ∷ x)) (behind_more c d cs ds es left f e g)
 
 pub ruleset all_fields = (last_field, last_dot, more_fields)
 

@@ -8,7 +8,6 @@ ghost use Rattle.rust_leaf.specs.Leaf.{literal_text};
 ghost use Rattle.std.specs.Bool.{OnTrue};
 ghost use Rattle.std.specs.Prelude.{◌≡◌, option_map, true};
 ghost use Rattle.syn_grammar.specs.Kind.{AnyPath, AtType, Path, QualifiedPath, Segments};
-ghost use Rattle.syn_grammar.specs.Name.{the_bounds, the_clause, the_first, the_parameters};
 ghost use Rattle.syn_grammar.specs.Part.{the};
 ghost use Rattle.syn_grammar.specs.Tidy.{begins_bracketed, is_bare_bounds, is_bare_clause, is_bare_colon};
 ghost use Rattle.syn_grammar.specs.Tidy.{is_bare_generics, is_bare_params, is_bare_where, is_bracketed, is_ident_type};

@@ -1,6 +1,6 @@
 //! Expressions with an operand before them.
 
-ghost use Rattle.syn_expr.specs.ExprPostfix.{dot_tree, expr_await, expr_call, expr_cast, expr_field, expr_index};
+ghost use Rattle.syn_expr.specs.ExprPostfix.{expr_await, expr_call, expr_cast, expr_field, expr_index};
 ghost use Rattle.syn_expr.specs.ExprPostfix.{expr_method_call, expr_struct, expr_try};
 
 use crate::forms::{Called, First, Grouped, Second};
