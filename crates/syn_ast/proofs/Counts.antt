@@ -11,10 +11,10 @@ use Rattle.gram_tree.specs.declared.tree.Element.{Element}
 use Rattle.gram_tree.specs.Forms.{mark_of, seconds, turns, elements, ending}
 use Rattle.syn_ast.specs.Paths.{behind_keyword, behind_name, segments, segments_inside}
 use Rattle.syn_ast.specs.Position.{further_count, path_count, segment_count}
-use Rattle.syn_ast.specs.Shape.{IsShaped}
+use Rattle.syn_part.specs.Shape.{IsShaped}
 use Rattle.syn_ast.specs.declared.paths.PathArguments.{PathArguments}
 use Rattle.syn_ast.specs.declared.paths.PathSegment.{PathSegment}
-use Rattle.syn_ast.specs.declared.sub.Marked.{Marked}
+use Rattle.syn_part.specs.declared.sub.Marked.{Marked}
 use Rattle.syn_ast.specs.declared.paths.PathArguments.TheVariants as arguments
 use Rattle.syn_ast.specs.declared.paths.Segments.{Segments}
 use Rattle.syn_grammar.specs.Gram as g

@@ -1,10 +1,2 @@
-pub mod Takes
-pub mod Choices
-pub mod Derived
 pub mod TypeForms
-pub mod Chosen
-pub mod Judged
-pub mod Lists
-pub mod PatForms
-pub mod Absent
 pub mod Counts

@@ -8,9 +8,9 @@ use Rattle.syn_grammar.specs.Tree.{Tree, Node, Final}
 use Rattle.syn_grammar.specs.Part.{choice}
 use Rattle.syn_grammar.specs.Table.{table}
 use Rattle.syn_grammar.specs.Types.{type_entry}
-use Rattle.syn_ast.specs.Shape.{IsShaped, IsAmong}
+use Rattle.syn_part.specs.Shape.{IsShaped, IsAmong}
 use Rattle.syn_ast.specs.Types.{no_lone}
-use Rattle.syn_ast.proofs.Chosen.{choice_is}
+use Rattle.syn_part.proofs.Chosen.{choice_is}
 
 pub either_plus_DynType : (x : Tree) → (IsShaped x (g.ref (k.DynType k.WithPlus)) → ⊥)
     → (IsShaped x (g.ref (k.DynType k.WithoutPlus)) → ⊥) → (p : k.Plus) → IsShaped x (g.ref (k.DynType p)) → ⊥

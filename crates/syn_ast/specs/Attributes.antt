@@ -1,5 +1,5 @@
 -- The trees that the types of attributes are.
-use Rattle.syn_ast.specs.Leaves.{mark_tree, turns_tree, word_tree}
+use Rattle.syn_part.specs.Leaves.{mark_tree, turns_tree, word_tree}
 use Rattle.syn_ast.specs.declared.attributes.AttrStyle.{AttrStyle}
 use Rattle.syn_ast.specs.declared.attributes.Attribute.{Attribute}
 use Rattle.syn_ast.specs.declared.attributes.InnerAttributes.{InnerAttributes}
@@ -9,7 +9,7 @@ use Rattle.syn_ast.specs.declared.attributes.OuterAttributes.{OuterAttributes}
 use Rattle.syn_ast.specs.declared.attributes.AttrStyle.TheVariants as styles
 use Rattle.syn_ast.specs.declared.attributes.Meta.TheVariants as metas
 use Rattle.syn_ast.specs.declared.attributes.MetaPath.TheVariants as paths
-use Rattle.syn_ast.specs.declared.leaf.Mark.{Mark}
+use Rattle.syn_part.specs.declared.leaf.Mark.{Mark}
 use Rattle.syn_grammar.specs.Kind as k
 use Rattle.syn_grammar.specs.Name as n
 use Rattle.syn_grammar.specs.Tree as t

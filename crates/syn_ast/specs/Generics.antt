@@ -1,6 +1,6 @@
 -- The trees that the types of generics are.
-use Rattle.syn_ast.specs.Leaves.{lifetime_tree, list_tree, mark_tree, node_tree, optional_tree, word_tree}
-use Rattle.syn_ast.specs.Sub.{lit_tree, marked_bounds_tree, marked_tree}
+use Rattle.syn_part.specs.Leaves.{lifetime_tree, list_tree, mark_tree, node_tree, optional_tree, word_tree}
+use Rattle.syn_part.specs.Sub.{lit_tree, marked_bounds_tree, marked_tree}
 use Rattle.syn_ast.specs.declared.generics.AngledParams.{AngledParams}
 use Rattle.syn_ast.specs.declared.generics.Bounds.{Bounds}
 use Rattle.syn_ast.specs.declared.generics.BoundsColon.{BoundsColon}

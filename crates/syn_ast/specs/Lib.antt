@@ -1,16 +1,7 @@
-pub mod Shape
-pub mod Leaves
-pub mod Iter
-pub mod Kept
-pub mod Sub
 pub mod Types
 pub mod TypeBounds
 pub mod Paths
 pub mod Generics
 pub mod Attributes
 pub mod Visibility
-pub mod Name
-pub mod Patterns
-pub mod Pat
 pub mod Position
-pub mod PatTypes

@@ -1,8 +1,8 @@
 -- The trees that the types of paths are.
 use Rattle.std.specs.Prelude.{Bool, true, false, List, Option, Some, None, ℕ}
-use Rattle.syn_ast.specs.declared.leaf.Mark.{Mark}
-use Rattle.syn_ast.specs.Leaves.{lifetime_tree, list_tree, literal_tree, mark_tree, optional_tree, raw_tree, word_tree}
-use Rattle.syn_ast.specs.Sub.{lit_tree, marked_tree, worded_tree}
+use Rattle.syn_part.specs.declared.leaf.Mark.{Mark}
+use Rattle.syn_part.specs.Leaves.{lifetime_tree, list_tree, literal_tree, mark_tree, optional_tree, raw_tree, word_tree}
+use Rattle.syn_part.specs.Sub.{lit_tree, marked_tree, worded_tree}
 use Rattle.syn_ast.specs.declared.paths.AssocType.{AssocType}
 use Rattle.syn_ast.specs.declared.paths.Delimited.{Delimited}
 use Rattle.syn_ast.specs.declared.paths.GenericArgument.{GenericArgument}
@@ -13,7 +13,7 @@ use Rattle.syn_ast.specs.declared.paths.OneSegment.{OneSegment}
 use Rattle.syn_ast.specs.declared.paths.PathArguments.{PathArguments}
 use Rattle.syn_ast.specs.declared.paths.PathSegment.{PathSegment}
 use Rattle.syn_ast.specs.declared.paths.Segments.{Segments}
-use Rattle.syn_ast.specs.declared.sub.Marked.{Marked}
+use Rattle.syn_part.specs.declared.sub.Marked.{Marked}
 use Rattle.syn_ast.specs.declared.paths.GenericArgument.TheVariants as given
 use Rattle.syn_ast.specs.declared.paths.MacroDelimiter.TheVariants as delimiters
 use Rattle.syn_ast.specs.declared.paths.Member.TheVariants as members

@@ -1,7 +1,7 @@
 -- How many segments paths have.
 use Rattle.std.specs.Prelude.{ℕ, suc, Option, Some, None}
-use Rattle.syn_ast.specs.declared.sub.Marked.{Marked}
-use Rattle.syn_ast.specs.declared.sub.Worded.{Worded}
+use Rattle.syn_part.specs.declared.sub.Marked.{Marked}
+use Rattle.syn_part.specs.declared.sub.Worded.{Worded}
 use Rattle.syn_grammar.specs.Kind as k
 use Rattle.syn_grammar.specs.Tree as t
 use Rattle.syn_grammar.specs.Tree.{Tree}

@@ -1,6 +1,6 @@
 -- The trees that bounds are.
 use Rattle.std.specs.Prelude.{Option, Some, None}
-use Rattle.syn_ast.specs.Leaves.{lifetime_tree, list_tree, mark_tree, node_tree, optional_tree}
+use Rattle.syn_part.specs.Leaves.{lifetime_tree, list_tree, mark_tree, node_tree, optional_tree}
 use Rattle.syn_ast.specs.declared.bounds.SomeBounds.{SomeBounds}
 use Rattle.syn_ast.specs.declared.bounds.TraitBound.{TraitBound}
 use Rattle.syn_ast.specs.declared.bounds.TraitBoundModifier.{TraitBoundModifier}

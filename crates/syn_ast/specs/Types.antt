@@ -1,7 +1,8 @@
 -- The trees that the types of types are.
-use Rattle.syn_ast.specs.Name.{name_tree}
-use Rattle.syn_ast.specs.Leaves.{lifetime_tree, list_tree, literal_tree, mark_tree, node_tree, optional_tree, word_tree}
-use Rattle.syn_ast.specs.Sub.{marked_type_tree, marked_value_tree}
+use Rattle.syn_part.specs.Name.{name_tree}
+use Rattle.syn_part.specs.Leaves.{lifetime_tree, list_tree, literal_tree, mark_tree, node_tree, optional_tree}
+use Rattle.syn_part.specs.Leaves.{word_tree}
+use Rattle.syn_part.specs.Sub.{marked_type_tree, marked_value_tree}
 use Rattle.syn_ast.specs.declared.types.Abi.{Abi}
 use Rattle.syn_ast.specs.declared.types.AnyPath.{AnyPath}
 use Rattle.syn_ast.specs.declared.types.ArgumentName.{ArgumentName}

@@ -1,7 +1,7 @@
 -- The trees that visibilities are.
-use Rattle.syn_ast.specs.Leaves.{word_tree}
-use Rattle.syn_ast.specs.Sub.{worded_tree}
-use Rattle.syn_ast.specs.declared.leaf.Delimiters.{Delimiters}
+use Rattle.syn_part.specs.Leaves.{word_tree}
+use Rattle.syn_part.specs.Sub.{worded_tree}
+use Rattle.syn_part.specs.declared.leaf.Delimiters.{Delimiters}
 use Rattle.syn_ast.specs.declared.visibility.RestrictedTo.{RestrictedTo}
 use Rattle.syn_ast.specs.declared.visibility.Restriction.{Restriction}
 use Rattle.syn_ast.specs.declared.visibility.Visibility.{Visibility}

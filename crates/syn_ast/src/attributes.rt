@@ -4,19 +4,19 @@ ghost use Rattle.proc_macro2.specs.Token.{Token};
 ghost use Rattle.std.specs.Prelude.{◌≡◌, ◌⊎◌, MatchOption, Bool, List, ℕ, false};
 ghost use Rattle.syn_ast.specs.Attributes.{attribute, inner_attributes, meta, meta_path_tree, meta_value_tree};
 ghost use Rattle.syn_ast.specs.Attributes.{outer_attributes};
-ghost use Rattle.syn_ast.specs.Shape.{IsShaped, may_choose};
 ghost use Rattle.syn_grammar.specs.Gram as g;
 ghost use Rattle.syn_grammar.specs.Kind as k;
 ghost use Rattle.syn_grammar.specs.Name as n;
+ghost use Rattle.syn_part.specs.Shape.{IsShaped, may_choose};
 
-use crate::leaf::{Delimiters, Mark};
-use crate::list::Turns;
-use crate::take::{self, Choice, Choice3};
-use crate::{inside, joined};
 use gram_table::kind::Kind;
 use gram_table::part::Part;
 use gram_tree::tree::Tree;
 use rust_leaf::ident::Ident;
+use syn_part::leaf::{Delimiters, Mark};
+use syn_part::list::Turns;
+use syn_part::take::{self, Choice, Choice3};
+use syn_part::{inside, joined};
 
 /// Outer attributes.
 #[derive(Clone, Copy)]

@@ -2,21 +2,21 @@
 
 ghost use Rattle.proc_macro2.specs.Token.{Token};
 ghost use Rattle.std.specs.Prelude.{◌≡◌, MatchOption, Bool, List, ℕ};
-ghost use Rattle.syn_ast.specs.Kept.{IsKept};
-ghost use Rattle.syn_ast.specs.Shape.{IsShaped};
 ghost use Rattle.syn_ast.specs.TypeBounds.{some_bounds, trait_bound, trait_front, type_param_bound};
 ghost use Rattle.syn_grammar.specs.Gram as g;
 ghost use Rattle.syn_grammar.specs.Kind as k;
 ghost use Rattle.syn_grammar.specs.Name as n;
 ghost use Rattle.syn_grammar.specs.Tree as t;
+ghost use Rattle.syn_part.specs.Kept.{IsKept};
+ghost use Rattle.syn_part.specs.Shape.{IsShaped};
 
-use crate::inside;
-use crate::leaf::{Lifetime, Mark};
-use crate::list::Elements;
-use crate::take::{self, Choice, Choice3};
 use gram_table::kind::Kind;
 use gram_table::part::Part;
 use gram_tree::tree::Tree;
+use syn_part::inside;
+use syn_part::leaf::{Lifetime, Mark};
+use syn_part::list::Elements;
+use syn_part::take::{self, Choice, Choice3};
 
 /// A bound.
 #[derive(Clone, Copy)]

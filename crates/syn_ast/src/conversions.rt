@@ -5,7 +5,6 @@ ghost use Rattle.syn_ast.specs.declared.attributes.Meta.TheVariants as metas;
 ghost use Rattle.syn_ast.specs.declared.bounds.TypeParamBound.TheVariants as bounds;
 ghost use Rattle.syn_ast.specs.declared.generics.GenericParam.TheVariants as params;
 ghost use Rattle.syn_ast.specs.declared.generics.WherePredicate.TheVariants as predicates;
-ghost use Rattle.syn_ast.specs.declared.pat.Pat.TheVariants as pats;
 ghost use Rattle.syn_ast.specs.declared.types.Type.TheVariants as types;
 
 use crate::attributes::{Meta, MetaList, MetaNameValue, MetaPath};
@@ -14,13 +13,11 @@ use crate::generics::{
     ConstParam, GenericParam, LifetimeParam, PredicateLifetime, PredicateType, TypeParam,
     WherePredicate,
 };
-use crate::leaf::Lifetime;
-use crate::pat::{Pat, PatLit, PatParen, PatPath, PatRange, PatStruct, PatTuple, PatTupleStruct};
-use crate::patterns::{PatIdent, PatOr, PatReference, PatRest, PatSlice, PatWild};
 use crate::types::{
     Type, TypeArray, TypeFnPtr, TypeImplTrait, TypeInfer, TypeNever, TypeParen, TypePath, TypePtr,
     TypeReference, TypeSlice, TypeTraitObject, TypeTuple,
 };
+use syn_part::leaf::Lifetime;
 
 impl<'t, 'a> From<MetaPath<'t, 'a>> for Meta<'t, 'a> {
     ghost from_gives = { λ form whole. whole ≡ metas.Path form };
@@ -195,109 +192,5 @@ impl<'t, 'a> From<TypeTuple<'t, 'a>> for Type<'t, 'a> {
 
     fn from(form: TypeTuple<'t, 'a>) -> Type<'t, 'a> {
         Type::Tuple(form)
-    }
-}
-
-impl<'t, 'a> From<PatIdent<'t, 'a>> for Pat<'t, 'a> {
-    ghost from_gives = { λ form whole. whole ≡ pats.Ident form };
-
-    fn from(form: PatIdent<'t, 'a>) -> Pat<'t, 'a> {
-        Pat::Ident(form)
-    }
-}
-
-impl<'t, 'a> From<PatLit<'a>> for Pat<'t, 'a> {
-    ghost from_gives = { λ form whole. whole ≡ pats.Lit form };
-
-    fn from(form: PatLit<'a>) -> Pat<'t, 'a> {
-        Pat::Lit(form)
-    }
-}
-
-impl<'t, 'a> From<PatOr<'t, 'a>> for Pat<'t, 'a> {
-    ghost from_gives = { λ form whole. whole ≡ pats.Or form };
-
-    fn from(form: PatOr<'t, 'a>) -> Pat<'t, 'a> {
-        Pat::Or(form)
-    }
-}
-
-impl<'t, 'a> From<PatParen<'t, 'a>> for Pat<'t, 'a> {
-    ghost from_gives = { λ form whole. whole ≡ pats.Paren form };
-
-    fn from(form: PatParen<'t, 'a>) -> Pat<'t, 'a> {
-        Pat::Paren(form)
-    }
-}
-
-impl<'t, 'a> From<PatPath<'t, 'a>> for Pat<'t, 'a> {
-    ghost from_gives = { λ form whole. whole ≡ pats.Path form };
-
-    fn from(form: PatPath<'t, 'a>) -> Pat<'t, 'a> {
-        Pat::Path(form)
-    }
-}
-
-impl<'t, 'a> From<PatRange<'t, 'a>> for Pat<'t, 'a> {
-    ghost from_gives = { λ form whole. whole ≡ pats.Range form };
-
-    fn from(form: PatRange<'t, 'a>) -> Pat<'t, 'a> {
-        Pat::Range(form)
-    }
-}
-
-impl<'t, 'a> From<PatReference<'t, 'a>> for Pat<'t, 'a> {
-    ghost from_gives = { λ form whole. whole ≡ pats.Reference form };
-
-    fn from(form: PatReference<'t, 'a>) -> Pat<'t, 'a> {
-        Pat::Reference(form)
-    }
-}
-
-impl<'t, 'a> From<PatRest> for Pat<'t, 'a> {
-    ghost from_gives = { λ form whole. whole ≡ pats.Rest form };
-
-    fn from(form: PatRest) -> Pat<'t, 'a> {
-        Pat::Rest(form)
-    }
-}
-
-impl<'t, 'a> From<PatSlice<'t, 'a>> for Pat<'t, 'a> {
-    ghost from_gives = { λ form whole. whole ≡ pats.Slice form };
-
-    fn from(form: PatSlice<'t, 'a>) -> Pat<'t, 'a> {
-        Pat::Slice(form)
-    }
-}
-
-impl<'t, 'a> From<PatStruct<'t, 'a>> for Pat<'t, 'a> {
-    ghost from_gives = { λ form whole. whole ≡ pats.Struct form };
-
-    fn from(form: PatStruct<'t, 'a>) -> Pat<'t, 'a> {
-        Pat::Struct(form)
-    }
-}
-
-impl<'t, 'a> From<PatTuple<'t, 'a>> for Pat<'t, 'a> {
-    ghost from_gives = { λ form whole. whole ≡ pats.Tuple form };
-
-    fn from(form: PatTuple<'t, 'a>) -> Pat<'t, 'a> {
-        Pat::Tuple(form)
-    }
-}
-
-impl<'t, 'a> From<PatTupleStruct<'t, 'a>> for Pat<'t, 'a> {
-    ghost from_gives = { λ form whole. whole ≡ pats.TupleStruct form };
-
-    fn from(form: PatTupleStruct<'t, 'a>) -> Pat<'t, 'a> {
-        Pat::TupleStruct(form)
-    }
-}
-
-impl<'t, 'a> From<PatWild<'a>> for Pat<'t, 'a> {
-    ghost from_gives = { λ form whole. whole ≡ pats.Wild form };
-
-    fn from(form: PatWild<'a>) -> Pat<'t, 'a> {
-        Pat::Wild(form)
     }
 }

@@ -7,24 +7,24 @@ ghost use Rattle.syn_ast.specs.Generics.{const_param, const_value, generic_param
 ghost use Rattle.syn_ast.specs.Generics.{impl_generics};
 ghost use Rattle.syn_ast.specs.Generics.{lifetime_colon, lifetime_param, lifetimes, optional_where, predicate_lifetime};
 ghost use Rattle.syn_ast.specs.Generics.{predicate_type, type_param, where_clause, where_predicate};
-ghost use Rattle.syn_ast.specs.Leaves.{optional_tree};
-ghost use Rattle.syn_ast.specs.Shape.{IsShaped};
 ghost use Rattle.syn_grammar.specs.Gram as g;
 ghost use Rattle.syn_grammar.specs.Kind as k;
 ghost use Rattle.syn_grammar.specs.Name as n;
 ghost use Rattle.syn_grammar.specs.Tree as t;
+ghost use Rattle.syn_part.specs.Leaves.{optional_tree};
+ghost use Rattle.syn_part.specs.Shape.{IsShaped};
 
-use crate::leaf::{Lifetime, Mark};
-use crate::list::Elements;
-use crate::sub::{
-    Lit, Marked, MarkedBounds, as_lit, optional_as_marked, optional_as_marked_bounds,
-};
-use crate::take::{self, Choice, Choice3};
-use crate::{inside, joined};
 use gram_table::kind::Kind;
 use gram_table::part::Part;
 use gram_tree::tree::Tree;
 use rust_leaf::ident::Ident;
+use syn_part::leaf::{Lifetime, Mark};
+use syn_part::list::Elements;
+use syn_part::sub::{
+    Lit, Marked, MarkedBounds, as_lit, optional_as_marked, optional_as_marked_bounds,
+};
+use syn_part::take::{self, Choice, Choice3};
+use syn_part::{inside, joined};
 
 /// Parameters in angle brackets: `<A, B>`.
 #[derive(Clone, Copy)]

@@ -3,31 +3,33 @@
 ghost use Rattle.gram_table.specs.Kinds.{style_of};
 ghost use Rattle.proc_macro2.specs.Token.{Token};
 ghost use Rattle.proc_macro2.specs.declared.delimiter.Delimiter.{Delimiter as GivenDelimiter};
+ghost use Rattle.rust_leaf.specs.Leaf.{ident_text};
 ghost use Rattle.std.specs.Prelude.{◌≡◌, Bool, List, MatchOption, None, Some, cond, option_map, ℕ};
 ghost use Rattle.std.specs.Str.{chars};
-ghost use Rattle.rust_leaf.specs.Leaf.{ident_text};
-ghost use Rattle.syn_ast.specs.Leaves.{lifetime_tree, raw_tree, word_tree};
 ghost use Rattle.syn_ast.specs.Paths.{angle_bracketed_generic_arguments, assoc_type_tree, behind_name, delimited};
 ghost use Rattle.syn_ast.specs.Paths.{generic_argument, index, macro, member, one_segment};
 ghost use Rattle.syn_ast.specs.Paths.{parenthesized_generic_arguments};
 ghost use Rattle.syn_ast.specs.Paths.{lone_name, name_of_path, path, qualified_path, segment_end, segments};
-ghost use Rattle.syn_ast.specs.Shape.{IsShaped};
 ghost use Rattle.syn_grammar.specs.Gram as g;
 ghost use Rattle.syn_grammar.specs.Kind as k;
 ghost use Rattle.syn_grammar.specs.Name as n;
 ghost use Rattle.syn_grammar.specs.Tree as t;
+ghost use Rattle.syn_part.specs.Leaves.{lifetime_tree, raw_tree, word_tree};
+ghost use Rattle.syn_part.specs.Shape.{IsShaped};
 
-use crate::leaf::{Delimiters, Lifetime, Mark};
-use crate::list::Elements;
-use crate::sub::{Lit, Marked, Worded, as_lit, as_marked, optional_as_marked, optional_as_worded};
-use crate::take::{self, Choice, Choice3, Choice4, Choice5};
-use crate::{inside, joined};
 use gram_table::kind::{Kind, Style};
 use gram_table::part::Part;
 use gram_tree::tree::Tree;
 use rust_leaf::ident::Ident;
 use rust_leaf::literal::Literal;
 use syn_buffer::entry::Entry;
+use syn_part::leaf::{Delimiters, Lifetime, Mark};
+use syn_part::list::Elements;
+use syn_part::sub::{
+    Lit, Marked, Worded, as_lit, as_marked, optional_as_marked, optional_as_worded,
+};
+use syn_part::take::{self, Choice, Choice3, Choice4, Choice5};
+use syn_part::{inside, joined};
 
 /// A path: `::a::b<T>`.
 #[derive(Clone, Copy)]

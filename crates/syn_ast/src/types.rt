@@ -2,8 +2,6 @@
 
 ghost use Rattle.proc_macro2.specs.Token.{Token};
 ghost use Rattle.std.specs.Prelude.{◌≡◌, MatchOption, Bool, List, false, ℕ};
-ghost use Rattle.syn_ast.specs.Leaves.{optional_tree};
-ghost use Rattle.syn_ast.specs.Shape.{IsAmong, IsShaped, may_choose};
 ghost use Rattle.syn_ast.specs.Types.{abi, argument_name_tree, bound_lifetimes, fn_ptr_arg, form_of_type};
 ghost use Rattle.syn_ast.specs.Types.{pointer_mutability, return_type, type_bounds};
 ghost use Rattle.syn_ast.specs.Types.{type_bracketed, type_fn_ptr, type_impl_trait, type_infer, type_never};
@@ -13,18 +11,20 @@ ghost use Rattle.syn_grammar.specs.Gram as g;
 ghost use Rattle.syn_grammar.specs.Kind as k;
 ghost use Rattle.syn_grammar.specs.Name as n;
 ghost use Rattle.syn_grammar.specs.Types.{type_entry};
+ghost use Rattle.syn_part.specs.Leaves.{optional_tree};
+ghost use Rattle.syn_part.specs.Shape.{IsAmong, IsShaped, may_choose};
 
-use crate::leaf::{Delimiters, Lifetime, Mark};
-use crate::list::Elements;
-use crate::name::{Name, as_name};
-use crate::sub::{MarkedType, MarkedValue, optional_as_marked_type, optional_as_marked_value};
-use crate::take::{self, Choice};
-use crate::{inside, joined};
 use gram_table::kind::{Kind, Plus, Style};
 use gram_table::part::Part;
 use gram_tree::tree::Tree;
 use rust_leaf::ident::Ident;
 use rust_leaf::literal::Literal;
+use syn_part::leaf::{Delimiters, Lifetime, Mark};
+use syn_part::list::Elements;
+use syn_part::name::{Name, as_name};
+use syn_part::sub::{MarkedType, MarkedValue, optional_as_marked_type, optional_as_marked_value};
+use syn_part::take::{self, Choice};
+use syn_part::{inside, joined};
 
 /// Whether what a pointer points to can be written.
 #[derive(Clone, Copy)]

@@ -3,22 +3,22 @@
 ghost use Rattle.proc_macro2.specs.Token.{Token};
 ghost use Rattle.proc_macro2.specs.declared.delimiter.Delimiter.{Delimiter as GivenDelimiter};
 ghost use Rattle.std.specs.Prelude.{◌≡◌, MatchOption, Bool, List, ℕ};
-ghost use Rattle.syn_ast.specs.Leaves.{optional_tree, word_tree};
-ghost use Rattle.syn_ast.specs.Shape.{IsShaped};
 ghost use Rattle.syn_ast.specs.Visibility.{restriction_tree, visibility};
 ghost use Rattle.syn_grammar.specs.Gram as g;
 ghost use Rattle.syn_grammar.specs.Kind as k;
 ghost use Rattle.syn_grammar.specs.Name as n;
 ghost use Rattle.syn_grammar.specs.Tree as t;
+ghost use Rattle.syn_part.specs.Leaves.{optional_tree, word_tree};
+ghost use Rattle.syn_part.specs.Shape.{IsShaped};
 
-use crate::inside;
-use crate::leaf::Delimiters;
-use crate::sub::{Worded, as_worded};
-use crate::take::{self, Choice};
 use gram_table::kind::Kind;
 use gram_table::part::Part;
 use gram_tree::tree::Tree;
 use rust_leaf::ident::Ident;
+use syn_part::inside;
+use syn_part::leaf::Delimiters;
+use syn_part::sub::{Worded, as_worded};
+use syn_part::take::{self, Choice};
 
 /// Where something is visible.
 #[derive(Clone, Copy)]

@@ -7,8 +7,8 @@ use Rattle.syn_grammar.specs.Kind as k
 use Rattle.syn_grammar.specs.Part.{choice}
 use Rattle.syn_grammar.specs.Table.{table}
 use Rattle.syn_grammar.specs.Tree.{Tree, Node}
-use Rattle.syn_ast.specs.Kept.{IsFirst, IsKept}
-use Rattle.syn_ast.specs.Shape.{IsShaped}
+use Rattle.syn_part.specs.Kept.{IsFirst, IsKept}
+use Rattle.syn_part.specs.Shape.{IsShaped}
 use Rattle.syn_data.specs.Derive.{HasData, IsDataItem, IsItemKind, form_of, item_entry, item_inside}
 
 -- each of these kinds has the entry of an item

@@ -13,8 +13,8 @@ use Rattle.syn_grammar.specs.Gram as g
 use Rattle.syn_grammar.specs.Gram.{Gram, many}
 use Rattle.syn_grammar.specs.Kind as k
 use Rattle.syn_grammar.specs.Tree.{Tree}
-use Rattle.syn_ast.specs.Leaves.{node_tree}
-use Rattle.syn_ast.specs.Shape.{IsShaped}
+use Rattle.syn_part.specs.Leaves.{node_tree}
+use Rattle.syn_part.specs.Shape.{IsShaped}
 use Rattle.syn_data.specs.Members.{elements_in, name_of, names_in}
 use Rattle.syn_data.specs.declared.members.Member.{Member}
 use Rattle.syn_data.specs.declared.members.Member.TheVariants as members

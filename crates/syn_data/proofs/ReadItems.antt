@@ -13,10 +13,10 @@ use Rattle.syn_grammar.specs.Table.{table}
 use Rattle.syn_grammar.specs.Tree as t
 use Rattle.syn_grammar.specs.Tree.{Tree}
 use Rattle.syn_grammar.specs.Verdicts.{form_in_file, item_verdict, marked, strictly}
-use Rattle.syn_ast.proofs.Chosen.{choice_is}
-use Rattle.syn_ast.proofs.Derived.{shaped}
-use Rattle.syn_ast.specs.Kept.{IsFirst}
-use Rattle.syn_ast.specs.Shape.{IsAmong, IsShaped}
+use Rattle.syn_part.proofs.Chosen.{choice_is}
+use Rattle.syn_part.proofs.Derived.{shaped}
+use Rattle.syn_part.specs.Kept.{IsFirst}
+use Rattle.syn_part.specs.Shape.{IsAmong, IsShaped}
 use Rattle.syn_data.specs.Derive.{HasData, IsAlone, IsDataItem, IsDataKind, IsItemKind, form_of, read_form}
 
 -- What is read of one kind alone is never raw.

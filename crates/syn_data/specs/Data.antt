@@ -1,11 +1,11 @@
 -- The trees that fields and variants are.
 use Rattle.std.specs.Prelude.{◌≡◌, None, Option, Some}
-use Rattle.syn_ast.specs.Name.{name_tree}
-use Rattle.syn_ast.specs.Leaves.{list_tree, mark_tree, optional_tree, word_tree}
-use Rattle.syn_ast.specs.Sub.{marked_value_tree}
-use Rattle.syn_ast.specs.declared.name.Name.{Name}
-use Rattle.syn_ast.specs.declared.leaf.Mark.{Mark}
-use Rattle.syn_ast.specs.declared.sub.MarkedValue.{MarkedValue}
+use Rattle.syn_part.specs.Name.{name_tree}
+use Rattle.syn_part.specs.Leaves.{list_tree, mark_tree, optional_tree, word_tree}
+use Rattle.syn_part.specs.Sub.{marked_value_tree}
+use Rattle.syn_part.specs.declared.name.Name.{Name}
+use Rattle.syn_part.specs.declared.leaf.Mark.{Mark}
+use Rattle.syn_part.specs.declared.sub.MarkedValue.{MarkedValue}
 use Rattle.syn_data.specs.declared.data.Field.{Field}
 use Rattle.syn_data.specs.declared.data.Fields.{Fields}
 use Rattle.syn_data.specs.declared.data.FieldsNamed.{FieldsNamed}

@@ -1,8 +1,8 @@
 -- The trees that structs, enums and unions are, with their attributes and their visibility.
 use Rattle.rust_leaf.specs.declared.ident.Ident.{Ident}
 use Rattle.std.specs.Prelude.{◌≡◌, ◌⊎◌}
-use Rattle.syn_ast.specs.Kept.{IsKept}
-use Rattle.syn_ast.specs.Shape.{IsShaped}
+use Rattle.syn_part.specs.Kept.{IsKept}
+use Rattle.syn_part.specs.Shape.{IsShaped}
 use Rattle.syn_data.specs.Items.{IsClosed, enum_tree, item_enum, item_struct, item_union, struct_tree, union_tree}
 use Rattle.syn_data.specs.declared.derive.Data.{Data}
 use Rattle.syn_data.specs.declared.derive.Data.TheVariants as datas

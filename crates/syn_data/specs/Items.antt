@@ -1,12 +1,12 @@
 -- The trees that these items are, behind their attributes and their visibility.
 use Rattle.rust_leaf.specs.declared.ident.Ident.{Ident}
 use Rattle.std.specs.Prelude.{None, Option, Some}
-use Rattle.syn_ast.specs.Name.{name_tree, renamed_tree}
-use Rattle.syn_ast.specs.Leaves.{list_tree, mark_tree, optional_tree, word_tree}
-use Rattle.syn_ast.specs.Sub.{marked_type_tree, marked_value_tree}
-use Rattle.syn_ast.specs.declared.leaf.Delimiters.{Delimiters}
-use Rattle.syn_ast.specs.declared.leaf.Mark.{Mark}
-use Rattle.syn_ast.specs.declared.list.Elements.{Elements}
+use Rattle.syn_part.specs.Name.{name_tree, renamed_tree}
+use Rattle.syn_part.specs.Leaves.{list_tree, mark_tree, optional_tree, word_tree}
+use Rattle.syn_part.specs.Sub.{marked_type_tree, marked_value_tree}
+use Rattle.syn_part.specs.declared.leaf.Delimiters.{Delimiters}
+use Rattle.syn_part.specs.declared.leaf.Mark.{Mark}
+use Rattle.syn_part.specs.declared.list.Elements.{Elements}
 use Rattle.syn_data.specs.Data.{fields_named, fields_unnamed}
 use Rattle.syn_data.specs.declared.data.Fields.{Fields}
 use Rattle.syn_data.specs.declared.data.Fields.TheVariants as fields

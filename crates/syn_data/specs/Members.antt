@@ -2,10 +2,10 @@
 use Rattle.std.specs.List.{range_with_len}
 use Rattle.std.specs.Prelude.{◌≡◌, ℕ, suc, Bool, List, [], ◌∷◌, map}
 use Rattle.proc_macro2.specs.Token.{Token}
-use Rattle.syn_ast.specs.Iter.{parts}
-use Rattle.syn_ast.specs.Name.{name_tree}
-use Rattle.syn_ast.specs.Leaves.{list_tree}
-use Rattle.syn_ast.specs.Shape.{IsShaped}
+use Rattle.syn_part.specs.Iter.{parts}
+use Rattle.syn_part.specs.Name.{name_tree}
+use Rattle.syn_part.specs.Leaves.{list_tree}
+use Rattle.syn_part.specs.Shape.{IsShaped}
 use Rattle.syn_data.specs.declared.data.Fields.{Fields}
 use Rattle.syn_data.specs.declared.data.Fields.TheVariants as fields
 use Rattle.syn_data.specs.declared.members.Member.{Member}

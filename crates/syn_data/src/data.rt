@@ -2,23 +2,23 @@
 
 ghost use Rattle.proc_macro2.specs.Token.{Token};
 ghost use Rattle.std.specs.Prelude.{◌≡◌, ◌⊎◌, Bool, IsOk, List, MatchOption};
-ghost use Rattle.syn_ast.specs.Shape.{IsShaped};
 ghost use Rattle.syn_data.specs.Data.{IsField, fields_named, fields_unnamed, named_field, unnamed_field, variant};
 ghost use Rattle.syn_data.specs.Data.{variant_fields};
 ghost use Rattle.syn_grammar.specs.Gram as g;
 ghost use Rattle.syn_grammar.specs.Kind as k;
+ghost use Rattle.syn_part.specs.Shape.{IsShaped};
 
 use crate::part;
 use gram_table::kind::Kind;
 use gram_tree::tree::Tree;
 use rust_leaf::ident::Ident;
-use syn_ast::leaf::{Delimiters, Mark};
-use syn_ast::list::Elements;
-use syn_ast::name::{Name, as_name};
-use syn_ast::sub::{MarkedValue, optional_as_marked_value};
-use syn_ast::take::{self, Choice3};
-use syn_ast::{inside, joined};
 use syn_error::fault::ParseFault;
+use syn_part::leaf::{Delimiters, Mark};
+use syn_part::list::Elements;
+use syn_part::name::{Name, as_name};
+use syn_part::sub::{MarkedValue, optional_as_marked_value};
+use syn_part::take::{self, Choice3};
+use syn_part::{inside, joined};
 
 /// A field with a name: `pub a: T = b`.
 #[derive(Clone, Copy)]

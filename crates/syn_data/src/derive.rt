@@ -2,11 +2,11 @@
 
 ghost use Rattle.proc_macro2.specs.Token.{Token};
 ghost use Rattle.std.specs.Prelude.{◌≡◌, Bool, List, MatchOption};
-ghost use Rattle.syn_ast.specs.Shape.{IsShaped};
 ghost use Rattle.syn_data.specs.Derive.{HasData, IsDataItem, IsEnded, IsItemOf, IsWhole, chosen_item, data_form};
 ghost use Rattle.syn_data.specs.Derive.{derive_input, derived, item_tree};
 ghost use Rattle.syn_grammar.specs.Gram as g;
 ghost use Rattle.syn_grammar.specs.Kind as k;
+ghost use Rattle.syn_part.specs.Shape.{IsShaped};
 
 use crate::data::{Fields, FieldsNamed};
 use crate::item::{ItemEnum, ItemStruct, ItemUnion};
@@ -14,10 +14,10 @@ use crate::part;
 use gram_table::kind::Kind;
 use gram_tree::tree::Tree;
 use rust_leaf::ident::Ident;
-use syn_ast::inside;
-use syn_ast::leaf::{Delimiters, Mark};
-use syn_ast::list::Elements;
-use syn_ast::take::{self, Choice3};
+use syn_part::inside;
+use syn_part::leaf::{Delimiters, Mark};
+use syn_part::list::Elements;
+use syn_part::take::{self, Choice3};
 
 /// What a struct is, beside its name, its generic parameters and its where clause.
 #[derive(Clone, Copy)]

@@ -2,25 +2,25 @@
 
 ghost use Rattle.proc_macro2.specs.Token.{Token};
 ghost use Rattle.std.specs.Prelude.{◌≡◌, Bool, List, MatchOption, ℕ};
-ghost use Rattle.syn_ast.specs.Shape.{IsShaped};
 ghost use Rattle.syn_data.specs.Items.{IsClosed, item_enum, item_extern_crate, item_static, item_struct, item_union};
 ghost use Rattle.syn_data.specs.Items.{item_use, mutability_tree, struct_end};
 ghost use Rattle.syn_grammar.specs.Gram as g;
 ghost use Rattle.syn_grammar.specs.Kind as k;
 ghost use Rattle.syn_grammar.specs.Name as n;
 ghost use Rattle.syn_grammar.specs.Tree as t;
+ghost use Rattle.syn_part.specs.Shape.{IsShaped};
 
 use crate::data::{Fields, FieldsNamed, FieldsUnnamed};
 use gram_table::kind::Kind;
 use gram_table::part::Part;
 use gram_tree::tree::Tree;
 use rust_leaf::ident::Ident;
-use syn_ast::leaf::{Delimiters, Mark};
-use syn_ast::list::Elements;
-use syn_ast::name::{Name, Renamed, as_name, optional_as_renamed};
-use syn_ast::sub::{MarkedType, MarkedValue, optional_as_marked_type, optional_as_marked_value};
-use syn_ast::take::{self, Choice};
-use syn_ast::{inside, joined};
+use syn_part::leaf::{Delimiters, Mark};
+use syn_part::list::Elements;
+use syn_part::name::{Name, Renamed, as_name, optional_as_renamed};
+use syn_part::sub::{MarkedType, MarkedValue, optional_as_marked_type, optional_as_marked_value};
+use syn_part::take::{self, Choice};
+use syn_part::{inside, joined};
 
 /// A struct: `struct A<T> where .. { b: B }`, behind its attributes and its visibility.
 #[derive(Clone, Copy)]

@@ -5,23 +5,23 @@ ghost use Rattle.gram_tree.specs.declared.tree.Element.{Element as GivenElement}
 ghost use Rattle.proc_macro2.specs.Token.{Token};
 ghost use Rattle.std.specs.List.{All, range_with_len};
 ghost use Rattle.std.specs.Prelude.{◌++◌, ◌∷◌, ◌≡◌, Bool, IfOk, List, OnOk, [], cond, map, ℕ};
-ghost use Rattle.syn_ast.specs.Iter.{iter_left};
-ghost use Rattle.syn_ast.specs.Leaves.{list_tree, node_tree};
-ghost use Rattle.syn_ast.specs.Shape.{IsShaped};
 ghost use Rattle.syn_data.specs.Members.{AreMembers, elements_in, field_count, fields_in, member_name, name_of};
 ghost use Rattle.syn_data.specs.Members.{names_in};
 ghost use Rattle.syn_data.specs.declared.members.Member.TheVariants as members;
 ghost use Rattle.syn_grammar.specs.Gram as g;
 ghost use Rattle.syn_grammar.specs.Kind as k;
 ghost use Rattle.syn_grammar.specs.Tree as t;
+ghost use Rattle.syn_part.specs.Iter.{iter_left};
+ghost use Rattle.syn_part.specs.Leaves.{list_tree, node_tree};
+ghost use Rattle.syn_part.specs.Shape.{IsShaped};
 
 use crate::data::{Fields, NamedField};
 use gram_table::op::Separator;
 use gram_tree::tree::{Element, Tree};
 use std::alloc::{AllocError, Global};
-use syn_ast::iter::Iter;
-use syn_ast::list::Elements;
-use syn_ast::name::Name;
+use syn_part::iter::Iter;
+use syn_part::list::Elements;
+use syn_part::name::Name;
 
 /// What a field is named by.
 #[derive(Clone, Copy)]

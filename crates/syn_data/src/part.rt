@@ -2,24 +2,24 @@
 
 ghost use Rattle.proc_macro2.specs.Token.{Token};
 ghost use Rattle.std.specs.Prelude.{◌≡◌, Bool, List, MatchOption, cond, ℕ};
-ghost use Rattle.syn_ast.specs.Kept.{IsFirst};
-ghost use Rattle.syn_ast.specs.Leaves.{word_tree};
-ghost use Rattle.syn_ast.specs.Shape.{IsShaped};
 ghost use Rattle.syn_data.specs.Derive.{item_entry, item_inside};
 ghost use Rattle.syn_grammar.specs.Gram as g;
 ghost use Rattle.syn_grammar.specs.Gram.{Verdict};
 ghost use Rattle.syn_grammar.specs.Name as n;
 ghost use Rattle.syn_grammar.specs.Tree as t;
 ghost use Rattle.syn_grammar.specs.Tree.{Tree as GivenTree};
+ghost use Rattle.syn_part.specs.Kept.{IsFirst};
+ghost use Rattle.syn_part.specs.Leaves.{word_tree};
+ghost use Rattle.syn_part.specs.Shape.{IsShaped};
 
 use gram_table::part::Part;
 use gram_tree::tree::{Form, Tree};
 use rust_leaf::ident::Ident;
-use syn_ast::missing::nothing;
-use syn_ast::{inside, joined, take};
+use syn_part::missing::nothing;
+use syn_part::{inside, joined, take};
 
 /// What was read, and is no part of the program.
-#[tactic(auto, using(syn_ast::proofs::Takes::takes))]
+#[tactic(auto, using(syn_part::proofs::Takes::takes))]
 pub fn dropped<'t, 'a>(tree: &'t Tree<'a>) -> Option<&'t Tree<'a>>
     ensures { MatchOption result ((a : g.Gram) → IsShaped tree.now (g.dropped a) → ⊥)
         (λ x. tree.now ≡ t.Dropped x.now) }
@@ -31,7 +31,7 @@ pub fn dropped<'t, 'a>(tree: &'t Tree<'a>) -> Option<&'t Tree<'a>>
 }
 
 /// Whether nothing stands there, where else the entry would refuse.
-#[tactic(auto, using(syn_ast::proofs::Absent::never_or))]
+#[tactic(auto, using(syn_part::proofs::Absent::never_or))]
 pub fn is_missing(tree: &Tree<'_>) -> bool
     ensures { cond result (tree.now ≡ t.Second t.Nil) ((test : List Token → Bool)
         → IsShaped tree.now (g.alt test g.never g.nothing) → ⊥) }

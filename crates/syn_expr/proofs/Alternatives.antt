@@ -10,9 +10,9 @@ use Rattle.syn_grammar.specs.Tree as t
 use Rattle.syn_grammar.specs.Tree.{Tree}
 use Rattle.gram_tree.specs.declared.tree.Element.{Element}
 use Rattle.gram_tree.specs.Forms.{mark_of, seconds, turns, elements, ending}
-use Rattle.syn_ast.specs.Shape.{IsShaped}
+use Rattle.syn_part.specs.Shape.{IsShaped}
 use Rattle.syn_expr.specs.ExprForms.{nth_tree}
-use Rattle.syn_ast.proofs.Absent.{shaped_never}
+use Rattle.syn_part.proofs.Absent.{shaped_never}
 use denote.Bor.{Bor}
 
 -- a choice

@@ -4,7 +4,7 @@ use Rattle.std.proofs.Common.{inl, inr, subst, sym}
 use Rattle.syn_grammar.specs.Kind.{Kind, ExprRange, ExprRangeClosed}
 use Rattle.syn_grammar.specs.Table.{table}
 use Rattle.syn_grammar.specs.Tree.{Tree}
-use Rattle.syn_ast.specs.Shape.{IsShaped}
+use Rattle.syn_part.specs.Shape.{IsShaped}
 use Rattle.syn_expr.specs.ExprForms.{IsForm, IsJump, form_tree, jump_tree}
 use Rattle.syn_expr.specs.ExprOps.{IsLimits}
 use denote.Bor.{Bor}

@@ -10,8 +10,8 @@ use Rattle.syn_grammar.specs.Part.{choice, each_separated, each_turn_but_last, i
 use Rattle.syn_grammar.specs.Statements.{is_let, needs_semicolon}
 use Rattle.syn_grammar.specs.Table.{table}
 use Rattle.syn_grammar.specs.Tree.{Tree, Node}
-use Rattle.syn_ast.specs.Kept.{IsFirst, IsKept}
-use Rattle.syn_ast.proofs.Judged.{kept_judged}
+use Rattle.syn_part.specs.Kept.{IsFirst, IsKept}
+use Rattle.syn_part.proofs.Judged.{kept_judged}
 use Rattle.syn_expr.specs.Judged.{keeps_trees}
 
 inside : (k : Kind) (x : Tree) (rest : List Token) → keeps_trees k ≡ true → Derives x (table k) rest → IsFirst x

@@ -5,7 +5,7 @@ use Rattle.syn_grammar.specs.Tree.{Tree, Second}
 use Rattle.syn_grammar.specs.Say.{one_sign}
 use Rattle.syn_grammar.specs.Expressions.{expr_unary, expr_sum, expr_product, expr_shift, expr_compare, expr_assign}
 use Rattle.syn_grammar.specs.Table.{table}
-use Rattle.syn_ast.specs.Shape.{IsShaped}
+use Rattle.syn_part.specs.Shape.{IsShaped}
 use Rattle.syn_expr.specs.ExprOps.{IsOperator}
 
 -- no tree is one of so many punctuations

@@ -17,10 +17,10 @@ use Rattle.syn_grammar.specs.Kind.{Expression}
 use Rattle.syn_grammar.specs.Table.{table}
 use Rattle.syn_grammar.specs.Derives.{Derives, Bound}
 use Rattle.syn_grammar.specs.Forms.{Case, form, first_form, fronts, backs, front, back, has_right, level, form_of}
-use Rattle.syn_ast.specs.Shape.{IsShaped}
+use Rattle.syn_part.specs.Shape.{IsShaped}
 use Rattle.syn_expr.specs.ExprWhole.{IsExpr, alone_form, is_lone}
 use Rattle.syn_expr.specs.declared.expr.whole.ExprForm.TheVariants as exprs
-use Rattle.syn_ast.proofs.Derived.{shaped}
+use Rattle.syn_part.proofs.Derived.{shaped}
 
 -- The kinds of forms that begin with tokens, and of those that have an operand before them; and what these are by the
 -- operands that they have.

@@ -13,7 +13,7 @@ use Rattle.gram_tree.specs.declared.tree.Element.{Element}
 use Rattle.gram_tree.specs.Forms.{mark_of, seconds, turns, elements, ending}
 use Rattle.gram_tree.specs.Shapes.{node_of, whole_of}
 use Rattle.syn_expr.specs.ExprForms.{IsAlone}
-use Rattle.syn_ast.specs.Kept.{IsFirst}
+use Rattle.syn_part.specs.Kept.{IsFirst}
 use Rattle.syn_expr.specs.ExprWhole.{IsParen, is_final, is_first, is_lone, which}
 
 abbrev pub or_whole : Option Tree → Tree → Tree

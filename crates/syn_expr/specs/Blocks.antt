@@ -1,6 +1,6 @@
 -- The trees that the types of blocks are.
-use Rattle.syn_ast.specs.Leaves.{lifetime_tree, list_tree, mark_tree, optional_tree, turns_tree, word_tree}
-use Rattle.syn_ast.specs.Sub.{marked_tree, worded_tree}
+use Rattle.syn_part.specs.Leaves.{lifetime_tree, list_tree, mark_tree, optional_tree, turns_tree, word_tree}
+use Rattle.syn_part.specs.Sub.{marked_tree, worded_tree}
 use Rattle.syn_expr.specs.declared.blocks.Arms.{Arms}
 use Rattle.syn_expr.specs.declared.blocks.Block.{Block}
 use Rattle.syn_expr.specs.declared.blocks.Body.{Body}

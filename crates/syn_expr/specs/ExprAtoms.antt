@@ -1,6 +1,6 @@
 -- The trees that these expressions are.
-use Rattle.syn_ast.specs.Leaves.{lifetime_tree, optional_tree, word_tree}
-use Rattle.syn_ast.specs.Sub.{lit_tree}
+use Rattle.syn_part.specs.Leaves.{lifetime_tree, optional_tree, word_tree}
+use Rattle.syn_part.specs.Sub.{lit_tree}
 use Rattle.syn_expr.specs.declared.expr.atoms.ExprLit.{ExprLit}
 use Rattle.syn_expr.specs.declared.expr.atoms.ExprGroup.{ExprGroup}
 use Rattle.syn_expr.specs.declared.expr.atoms.ExprInfer.{ExprInfer}

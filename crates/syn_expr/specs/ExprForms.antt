@@ -4,7 +4,7 @@ use Rattle.gram_tree.specs.Forms.{seconds}
 use Rattle.syn_grammar.specs.Kind.{Kind}
 use Rattle.syn_grammar.specs.Table.{table}
 use Rattle.syn_grammar.specs.Tree.{Tree, First, Alone, Front, Back, Infix}
-use Rattle.syn_ast.specs.Shape.{IsShaped}
+use Rattle.syn_part.specs.Shape.{IsShaped}
 use denote.Bor.{Bor}
 
 -- a form of the kind that stands by itself: its own part has the shape of the kind's entry

@@ -1,8 +1,8 @@
 -- The trees that expressions with an operand on either side are.
 use Rattle.std.specs.Prelude.{◌≡◌}
-use Rattle.syn_ast.specs.Kept.{IsFirst}
-use Rattle.syn_ast.specs.Leaves.{mark_tree}
-use Rattle.syn_ast.specs.Shape.{IsShaped}
+use Rattle.syn_part.specs.Kept.{IsFirst}
+use Rattle.syn_part.specs.Leaves.{mark_tree}
+use Rattle.syn_part.specs.Shape.{IsShaped}
 use Rattle.syn_grammar.specs.Table.{table}
 use Rattle.syn_expr.specs.ExprOps.{IsOperator, bin_op_kind, bin_op_tree}
 use Rattle.syn_expr.specs.declared.expr.infix.ExprAssign.{ExprAssign}

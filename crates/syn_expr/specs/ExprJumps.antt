@@ -1,12 +1,12 @@
 -- The trees that expressions are whose operands may be missing.
-use Rattle.syn_ast.specs.Leaves.{lifetime_tree, optional_tree, word_tree}
+use Rattle.syn_part.specs.Leaves.{lifetime_tree, optional_tree, word_tree}
 use Rattle.syn_expr.specs.ExprForms.{form_tree, jump_tree}
 use Rattle.syn_expr.specs.ExprOps.{limits_kind, limits_tree}
 use Rattle.syn_expr.specs.declared.expr.jumps.ExprBreak.{ExprBreak}
 use Rattle.syn_expr.specs.declared.expr.jumps.ExprReturn.{ExprReturn}
 use Rattle.syn_expr.specs.declared.expr.jumps.ExprYield.{ExprYield}
 use Rattle.syn_expr.specs.declared.expr.jumps.ExprRange.{ExprRange}
-use Rattle.syn_ast.specs.declared.leaf.Lifetime.{Lifetime}
+use Rattle.syn_part.specs.declared.leaf.Lifetime.{Lifetime}
 use Rattle.syn_grammar.specs.Kind as k
 use Rattle.syn_grammar.specs.Name as n
 use Rattle.syn_grammar.specs.Tree as t

@@ -1,14 +1,14 @@
 -- The trees that operators are, and which forms have them.
-use Rattle.syn_ast.specs.Leaves.{mark_tree}
+use Rattle.syn_part.specs.Leaves.{mark_tree}
 use Rattle.syn_expr.specs.ExprForms.{nth_tree}
-use Rattle.syn_ast.specs.Shape.{IsShaped}
+use Rattle.syn_part.specs.Shape.{IsShaped}
 use Rattle.syn_grammar.specs.Table.{table}
 use Rattle.std.specs.Prelude.{◌≡◌}
 use Rattle.syn_expr.specs.declared.expr.ops.UnOp.{UnOp}
-use Rattle.syn_ast.specs.declared.patterns.RangeLimits.{RangeLimits}
+use Rattle.syn_pat.specs.declared.patterns.RangeLimits.{RangeLimits}
 use Rattle.syn_expr.specs.declared.expr.ops.BinOp.{BinOp}
 use Rattle.syn_expr.specs.declared.expr.ops.UnOp.TheVariants as uns
-use Rattle.syn_ast.specs.declared.patterns.RangeLimits.TheVariants as limits
+use Rattle.syn_pat.specs.declared.patterns.RangeLimits.TheVariants as limits
 use Rattle.syn_expr.specs.declared.expr.ops.BinOp.TheVariants as bins
 use Rattle.syn_grammar.specs.Kind as k
 use Rattle.syn_grammar.specs.Kind.{Kind}

@@ -1,6 +1,6 @@
 -- The trees that the parts of expressions are.
-use Rattle.syn_ast.specs.Leaves.{list_tree, literal_tree, mark_tree, optional_tree, word_tree}
-use Rattle.syn_ast.specs.Sub.{worded_tree}
+use Rattle.syn_part.specs.Leaves.{list_tree, literal_tree, mark_tree, optional_tree, word_tree}
+use Rattle.syn_part.specs.Sub.{worded_tree}
 use Rattle.syn_ast.specs.Paths.{member}
 use Rattle.syn_ast.specs.declared.paths.Member.{Member}
 use Rattle.syn_expr.specs.declared.expr.parts.FieldValues.{FieldValues}
@@ -8,7 +8,7 @@ use Rattle.syn_expr.specs.declared.expr.parts.Arm.{Arm}
 use Rattle.syn_expr.specs.declared.expr.parts.StructRest.{StructRest}
 use Rattle.syn_expr.specs.declared.expr.parts.AFieldValue.{AFieldValue}
 use Rattle.syn_expr.specs.declared.expr.parts.FieldValue.{FieldValue}
-use Rattle.syn_ast.specs.declared.leaf.Mark.{Mark}
+use Rattle.syn_part.specs.declared.leaf.Mark.{Mark}
 use Rattle.syn_ast.specs.declared.paths.Member.TheVariants as members
 use Rattle.syn_expr.specs.declared.expr.parts.AFieldValue.TheVariants as values
 use Rattle.syn_grammar.specs.Kind as k

@@ -1,5 +1,5 @@
 -- The trees that expressions with an operand before them are.
-use Rattle.syn_ast.specs.Leaves.{list_tree, mark_tree, node_tree, optional_tree, turns_tree, word_tree}
+use Rattle.syn_part.specs.Leaves.{list_tree, mark_tree, node_tree, optional_tree, turns_tree, word_tree}
 use Rattle.syn_expr.specs.ExprParts.{field_member_tree}
 use Rattle.syn_expr.specs.declared.expr.postfix.ExprCall.{ExprCall}
 use Rattle.syn_expr.specs.declared.expr.postfix.ExprMethodCall.{ExprMethodCall}
@@ -9,8 +9,8 @@ use Rattle.syn_expr.specs.declared.expr.postfix.ExprIndex.{ExprIndex}
 use Rattle.syn_expr.specs.declared.expr.postfix.ExprTry.{ExprTry}
 use Rattle.syn_expr.specs.declared.expr.postfix.ExprStruct.{ExprStruct}
 use Rattle.syn_expr.specs.declared.expr.postfix.ExprCast.{ExprCast}
-use Rattle.syn_ast.specs.declared.leaf.Mark.{Mark}
-use Rattle.syn_ast.specs.declared.list.Turns.{Turns}
+use Rattle.syn_part.specs.declared.leaf.Mark.{Mark}
+use Rattle.syn_part.specs.declared.list.Turns.{Turns}
 use Rattle.syn_grammar.specs.Kind as k
 use Rattle.syn_grammar.specs.Name as n
 use Rattle.syn_grammar.specs.Tree as t

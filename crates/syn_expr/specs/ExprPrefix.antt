@@ -1,5 +1,5 @@
 -- The trees that expressions with an operand behind them are.
-use Rattle.syn_ast.specs.Leaves.{list_tree, mark_tree, node_tree, optional_tree, word_tree}
+use Rattle.syn_part.specs.Leaves.{list_tree, mark_tree, node_tree, optional_tree, word_tree}
 use Rattle.syn_expr.specs.ExprOps.{un_op_tree}
 use Rattle.syn_expr.specs.declared.expr.prefix.ExprAttributed.{ExprAttributed}
 use Rattle.syn_expr.specs.declared.expr.prefix.ExprRawAddr.{ExprRawAddr}

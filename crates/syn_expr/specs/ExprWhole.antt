@@ -1,8 +1,8 @@
 -- The trees that expressions are.
-use Rattle.syn_ast.specs.Leaves.{list_tree}
+use Rattle.syn_part.specs.Leaves.{list_tree}
 use Rattle.syn_ast.specs.Types.{no_lone}
 use Rattle.syn_expr.specs.ExprForms.{IsAlone, IsBack, IsForm, IsFront, IsJump}
-use Rattle.syn_ast.specs.Shape.{IsShaped}
+use Rattle.syn_part.specs.Shape.{IsShaped}
 use Rattle.syn_grammar.specs.Table.{table}
 use Rattle.std.specs.Prelude.{◌≡◌, ◌⊎◌}
 use Rattle.syn_expr.specs.ExprInfix.{IsAssign, IsBinary}

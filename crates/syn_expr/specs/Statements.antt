@@ -1,6 +1,6 @@
 -- The trees that statements are.
-use Rattle.syn_ast.specs.Leaves.{mark_tree, optional_tree, turns_tree, word_tree}
-use Rattle.syn_ast.specs.Sub.{marked_type_tree, worded_tree}
+use Rattle.syn_part.specs.Leaves.{mark_tree, optional_tree, turns_tree, word_tree}
+use Rattle.syn_part.specs.Sub.{marked_type_tree, worded_tree}
 use Rattle.std.specs.Prelude.{◌≡◌, ◌⊎◌, None, Option, Some}
 use Rattle.syn_expr.specs.declared.stmt.BlockStmt.{BlockStmt}
 use Rattle.syn_expr.specs.declared.stmt.LocalInit.{LocalInit}
@@ -11,8 +11,8 @@ use Rattle.syn_expr.specs.declared.stmt.StmtMacro.{StmtMacro}
 use Rattle.syn_expr.specs.declared.stmt.StmtLocal.{StmtLocal}
 use Rattle.syn_expr.specs.declared.stmt.StmtExpr.{StmtExpr}
 use Rattle.syn_expr.specs.declared.stmt.Stmt.{Stmt}
-use Rattle.syn_ast.specs.declared.leaf.Mark.{Mark}
-use Rattle.syn_ast.specs.declared.sub.Worded.{Worded}
+use Rattle.syn_part.specs.declared.leaf.Mark.{Mark}
+use Rattle.syn_part.specs.declared.sub.Worded.{Worded}
 use Rattle.syn_expr.specs.declared.stmt.BlockStmt.TheVariants as turn
 use Rattle.syn_expr.specs.declared.stmt.Stmt.TheVariants as stmts
 use Rattle.syn_grammar.specs.Forms.{form_of}

@@ -2,9 +2,7 @@
 
 ghost use Rattle.proc_macro2.specs.Token.{Token};
 ghost use Rattle.std.specs.Prelude.{◌≡◌, IfSome, MatchOption, Bool, List, None};
-ghost use Rattle.syn_ast.specs.Leaves.{optional_tree};
 ghost use Rattle.syn_ast.specs.Paths.{macro, path};
-ghost use Rattle.syn_ast.specs.Shape.{IsShaped};
 ghost use Rattle.syn_expr.specs.Blocks.{arms, block, body, closure_param, expr_array, expr_async, expr_block};
 ghost use Rattle.syn_expr.specs.Blocks.{expr_for_loop, expr_if, expr_loop, expr_macro, expr_match, expr_parenthesized};
 ghost use Rattle.syn_expr.specs.Blocks.{expr_path, expr_repeat, expr_unsafe, expr_while, file, label, labelled_tree};
@@ -12,6 +10,8 @@ ghost use Rattle.syn_expr.specs.ExprForms.{IsAlone};
 ghost use Rattle.syn_grammar.specs.Gram as g;
 ghost use Rattle.syn_grammar.specs.Kind as k;
 ghost use Rattle.syn_grammar.specs.Name as n;
+ghost use Rattle.syn_part.specs.Leaves.{optional_tree};
+ghost use Rattle.syn_part.specs.Shape.{IsShaped};
 
 use crate::expr::forms;
 use crate::modifiers::BlockModifiers;
@@ -20,11 +20,11 @@ use gram_table::kind::Kind;
 use gram_table::part::Part;
 use gram_tree::tree::Tree;
 use rust_leaf::ident::Ident;
-use syn_ast::leaf::{Delimiters, Lifetime, Mark};
-use syn_ast::list::{Elements, Turns};
-use syn_ast::sub::{Marked, Worded, optional_as_marked, optional_as_worded};
 use syn_ast::types::AnyPath;
-use syn_ast::{inside, joined, take};
+use syn_part::leaf::{Delimiters, Lifetime, Mark};
+use syn_part::list::{Elements, Turns};
+use syn_part::sub::{Marked, Worded, optional_as_marked, optional_as_worded};
+use syn_part::{inside, joined, take};
 
 /// A section between lines of `---`, at the head of a file. It holds nothing: the grammar has no such section, so none is
 /// read.

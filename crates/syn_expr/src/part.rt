@@ -4,19 +4,19 @@
 ghost use Rattle.proc_macro2.specs.Token.{Token};
 ghost use Rattle.proc_macro2.specs.declared.delimiter.Delimiter.{Delimiter as GivenDelimiter};
 ghost use Rattle.std.specs.Prelude.{◌≡◌, Bool, List, MatchOption, ℕ};
-ghost use Rattle.syn_ast.specs.Leaves.{list_tree, literal_tree, turns_tree, word_tree};
-ghost use Rattle.syn_ast.specs.Shape.{IsShaped};
 ghost use Rattle.syn_grammar.specs.Gram as g;
 ghost use Rattle.syn_grammar.specs.Name as n;
 ghost use Rattle.syn_grammar.specs.Tree as t;
+ghost use Rattle.syn_part.specs.Leaves.{list_tree, literal_tree, turns_tree, word_tree};
+ghost use Rattle.syn_part.specs.Shape.{IsShaped};
 
 use gram_table::part::Part;
 use gram_tree::tree::Tree;
 use rust_leaf::ident::Ident;
 use rust_leaf::literal::Literal;
-use syn_ast::leaf::Delimiters;
-use syn_ast::list::{Elements, Turns};
-use syn_ast::{inside, take};
+use syn_part::leaf::Delimiters;
+use syn_part::list::{Elements, Turns};
+use syn_part::{inside, take};
 
 // A number.
 pub(crate) fn number<'a>(tree: &Tree<'a>) -> Option<&'a Literal>

@@ -1,11 +1,8 @@
 //! Statements.
 
-ghost use Rattle.proc_macro2.specs.Token.{Token};
 ghost use Rattle.gram_tree.specs.Forms.{seconds};
+ghost use Rattle.proc_macro2.specs.Token.{Token};
 ghost use Rattle.std.specs.Prelude.{Bool, List, MatchOption, false, option_map, ℕ, ◌≡◌};
-ghost use Rattle.syn_ast.specs.Kept.{IsKept};
-ghost use Rattle.syn_ast.specs.Leaves.{optional_tree};
-ghost use Rattle.syn_ast.specs.Shape.{IsShaped, may_choose};
 ghost use Rattle.syn_expr.specs.Statements.{IsAlternative, IsStmt, bare_macro, block_stmt, called_macro, diverge_tree};
 ghost use Rattle.syn_expr.specs.Statements.{local, local_init_tree, one_statement, statements, stmt_expr, stmt_local};
 ghost use Rattle.syn_expr.specs.Statements.{stmt_macro};
@@ -14,6 +11,9 @@ ghost use Rattle.syn_grammar.specs.Kind as k;
 ghost use Rattle.syn_grammar.specs.Name as n;
 ghost use Rattle.syn_grammar.specs.Statements.{statement};
 ghost use Rattle.syn_grammar.specs.Tree.{Tree as GivenTree};
+ghost use Rattle.syn_part.specs.Kept.{IsKept};
+ghost use Rattle.syn_part.specs.Leaves.{optional_tree};
+ghost use Rattle.syn_part.specs.Shape.{IsShaped, may_choose};
 
 use crate::expr::whole::form_of;
 use crate::modifiers::LocalModifiers;
@@ -21,11 +21,11 @@ use gram_table::kind::Kind;
 use gram_table::part::Part;
 use gram_tree::tree::Tree;
 use rust_leaf::ident::Ident;
-use syn_ast::leaf::Mark;
-use syn_ast::list::Turns;
-use syn_ast::sub::{MarkedType, Worded, as_worded, optional_as_marked_type};
-use syn_ast::take::{self, Choice, Choice5};
-use syn_ast::{inside, joined};
+use syn_part::leaf::Mark;
+use syn_part::list::Turns;
+use syn_part::sub::{MarkedType, Worded, as_worded, optional_as_marked_type};
+use syn_part::take::{self, Choice, Choice5};
+use syn_part::{inside, joined};
 
 /// A statement of a block, or a lone `;`.
 #[derive(Clone, Copy)]

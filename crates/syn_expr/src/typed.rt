@@ -1,11 +1,11 @@
 //! Patterns with their types, where they stand: in a `let`, and as a closure's parameter.
 
 ghost use Rattle.std.specs.Prelude.{◌≡◌, None, Some, option_map};
-ghost use Rattle.syn_ast.specs.PatTypes.{pattern_and_type};
+ghost use Rattle.syn_pat.specs.PatTypes.{pattern_and_type};
 
 use crate::blocks::ClosureParam;
 use crate::stmt::Local;
-use syn_ast::pat_type::PatType;
+use syn_pat::pat_type::PatType;
 
 impl<'t, 'a> Local<'t, 'a> {
     /// Its pattern with its type, if it says one. That has no attributes: those of the `let` stand in front of the

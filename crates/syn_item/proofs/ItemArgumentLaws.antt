@@ -6,8 +6,8 @@ use Rattle.gram_tree.specs.Forms.{elements, ending}
 use Rattle.proc_macro2.specs.Token.{Token}
 use Rattle.proc_macro2.specs.declared.delimiter.Delimiter.{Delimiter}
 use Rattle.std.specs.Option.{option_and_then}
-use Rattle.syn_ast.specs.Leaves.{node_tree}
-use Rattle.syn_ast.specs.Shape.{IsShaped}
+use Rattle.syn_part.specs.Leaves.{node_tree}
+use Rattle.syn_part.specs.Shape.{IsShaped}
 use Rattle.syn_grammar.specs.Gram as g
 use Rattle.syn_grammar.specs.Gram.{Gram}
 use Rattle.syn_grammar.specs.Kind as k

@@ -6,8 +6,8 @@ use Rattle.syn_grammar.specs.Gram as g
 use Rattle.syn_grammar.specs.Gram.{Gram, Verdict}
 use Rattle.syn_grammar.specs.Tree.{Tree, Node}
 use Rattle.syn_grammar.specs.Table.{table}
-use Rattle.syn_ast.specs.Kept.{IsFirst, IsKept}
-use Rattle.syn_ast.specs.Shape.{IsShaped}
+use Rattle.syn_part.specs.Kept.{IsFirst, IsKept}
+use Rattle.syn_part.specs.Shape.{IsShaped}
 use Rattle.syn_item.specs.ItemEntries.{entry_of}
 
 pub no_entry : (x y : Tree) (i : k.Kind) → x ≡ Node i y

@@ -4,8 +4,8 @@ use Rattle.gram_tree.specs.Forms.{seconds}
 use Rattle.syn_grammar.specs.Gram.{Gram, Verdict, judged}
 use Rattle.syn_grammar.specs.Tree as t
 use Rattle.syn_grammar.specs.Tree.{Tree}
-use Rattle.syn_ast.specs.Shape.{IsShaped}
-use Rattle.syn_ast.proofs.Takes.{shaped_mark, shaped_turns, shaped_elements}
+use Rattle.syn_part.specs.Shape.{IsShaped}
+use Rattle.syn_part.proofs.Takes.{shaped_mark, shaped_turns, shaped_elements}
 
 -- no choice of the second is judged
 pub seconds_judged : (n : ℕ) (x : Tree) (v : Tree → Verdict) (g : Gram) → n ≢ 0

@@ -14,7 +14,7 @@ use Rattle.syn_grammar.specs.Table.{table}
 use Rattle.syn_grammar.specs.Tree.{Tree, First, Verbatim, Node, Pair, Called}
 use Rattle.syn_grammar.specs.Types.{kept_if}
 use Rattle.syn_grammar.specs.Verdicts.{form_in_file, item_verdict, is_public, strictly}
-use Rattle.syn_ast.specs.Kept.{IsFirst, IsKept}
+use Rattle.syn_part.specs.Kept.{IsFirst, IsKept}
 use Rattle.syn_item.specs.ItemForms.{IsItem, MayBeKept, form_behind}
 
 kept_alone : (b : Bool) → kept_if b ≡ AsRaw → ⊥

@@ -7,9 +7,9 @@ use Rattle.syn_grammar.specs.Gram.{Gram}
 use Rattle.syn_grammar.specs.Tree.{Tree, Node}
 use Rattle.syn_grammar.specs.Part.{choice}
 use Rattle.syn_grammar.specs.Lists.{item_form}
-use Rattle.syn_ast.specs.Shape.{IsShaped, IsAmong}
-use Rattle.syn_ast.proofs.Chosen.{choice_is}
-use Rattle.syn_ast.proofs.Absent.{shaped_never}
+use Rattle.syn_part.specs.Shape.{IsShaped, IsAmong}
+use Rattle.syn_part.proofs.Chosen.{choice_is}
+use Rattle.syn_part.proofs.Absent.{shaped_never}
 use Rattle.syn_item.specs.ItemForms.{HasNoBody, IsNoOther, MayBeKept}
 
 -- a form of these kinds is not kept

@@ -10,7 +10,7 @@ use Rattle.syn_grammar.specs.Items.{safety}
 use Rattle.syn_grammar.specs.Look.{sees, ◌or◌}
 use Rattle.syn_grammar.specs.Say.{at}
 use Rattle.syn_grammar.specs.Words.{is_among, same_text}
-use Rattle.syn_ast.specs.Shape.{IsShaped}
+use Rattle.syn_part.specs.Shape.{IsShaped}
 
 pub no_safety : (x : Tree) → ((t : List Token → Bool) (p : List ℕ → Bool)
     → IsShaped x (g.alt t (g.called n.the_safety (g.word p)) g.nothing) → ⊥) → (p : k.Place) → IsShaped x (safety p) → ⊥

@@ -3,9 +3,9 @@ use Rattle.gram_table.specs.Kinds.{place_of}
 use Rattle.gram_table.specs.declared.kind.Place.{Place}
 use Rattle.gram_table.specs.declared.kind.Place.TheVariants as places
 use Rattle.std.specs.Prelude.{◌≡◌, Option}
-use Rattle.syn_ast.specs.Leaves.{mark_tree, optional_tree, word_tree}
-use Rattle.syn_ast.specs.Sub.{marked_type_tree, marked_value_tree}
-use Rattle.syn_ast.specs.declared.sub.MarkedType.{MarkedType}
+use Rattle.syn_part.specs.Leaves.{mark_tree, optional_tree, word_tree}
+use Rattle.syn_part.specs.Sub.{marked_type_tree, marked_value_tree}
+use Rattle.syn_part.specs.declared.sub.MarkedType.{MarkedType}
 use Rattle.syn_grammar.specs.Kind as k
 use Rattle.syn_grammar.specs.Name as n
 use Rattle.syn_grammar.specs.Tree as t

@@ -4,7 +4,7 @@ use Rattle.gram_table.specs.declared.kind.Place.{Place}
 use Rattle.gram_table.specs.declared.kind.Place.TheVariants as places
 use Rattle.rust_leaf.specs.declared.ident.Ident.{Ident}
 use Rattle.std.specs.Prelude.{◌≡◌, None, Option}
-use Rattle.syn_ast.specs.Leaves.{optional_tree}
+use Rattle.syn_part.specs.Leaves.{optional_tree}
 use Rattle.syn_grammar.specs.Gram.{Gram, Verdict, called, judged, ref, seq}
 use Rattle.syn_grammar.specs.Kind as k
 use Rattle.syn_grammar.specs.Name as n

@@ -1,6 +1,6 @@
 -- Which form an item has.
 use Rattle.std.specs.Prelude.{◌≡◌}
-use Rattle.syn_ast.specs.Shape.{IsShaped}
+use Rattle.syn_part.specs.Shape.{IsShaped}
 use Rattle.syn_grammar.specs.Gram as g
 use Rattle.syn_grammar.specs.Kind.{Kind}
 use Rattle.syn_grammar.specs.Kind as k

@@ -4,10 +4,10 @@ use Rattle.gram_table.specs.declared.kind.Place.{Place}
 use Rattle.std.specs.Prelude.{◌≡◌, ◌≢◌, IfSome, None, Option, Some, codes}
 use Rattle.rust_leaf.specs.Leaf.{ident_text}
 use Rattle.rust_leaf.specs.declared.ident.Ident.{Ident}
-use Rattle.syn_ast.specs.Leaves.{lifetime_tree, list_tree, mark_tree, node_tree, optional_tree, word_tree}
-use Rattle.syn_ast.specs.declared.leaf.Lifetime.{Lifetime}
-use Rattle.syn_ast.specs.declared.leaf.Mark.{Mark}
-use Rattle.syn_ast.specs.declared.pat_type.PatType.{PatType}
+use Rattle.syn_part.specs.Leaves.{lifetime_tree, list_tree, mark_tree, node_tree, optional_tree, word_tree}
+use Rattle.syn_part.specs.declared.leaf.Lifetime.{Lifetime}
+use Rattle.syn_part.specs.declared.leaf.Mark.{Mark}
+use Rattle.syn_pat.specs.declared.pat_type.PatType.{PatType}
 use Rattle.syn_grammar.specs.Kind as k
 use Rattle.syn_grammar.specs.Name as n
 use Rattle.syn_grammar.specs.Tree as t

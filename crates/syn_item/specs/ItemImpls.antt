@@ -1,8 +1,8 @@
 -- The trees that impls are, and the items in them.
 use Rattle.std.specs.Prelude.{None, Option, Some}
 use Rattle.rust_leaf.specs.declared.ident.Ident.{Ident}
-use Rattle.syn_ast.specs.Leaves.{optional_tree, turns_tree, word_tree}
-use Rattle.syn_ast.specs.declared.leaf.Mark.{Mark}
+use Rattle.syn_part.specs.Leaves.{optional_tree, turns_tree, word_tree}
+use Rattle.syn_part.specs.declared.leaf.Mark.{Mark}
 use Rattle.syn_grammar.specs.Kind as k
 use Rattle.syn_grammar.specs.Name as n
 use Rattle.syn_grammar.specs.Tree as t

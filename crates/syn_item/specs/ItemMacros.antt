@@ -3,9 +3,9 @@ use Rattle.gram_table.specs.Kinds.{place_of}
 use Rattle.gram_table.specs.declared.kind.Place.{Place}
 use Rattle.gram_table.specs.declared.kind.Place.TheVariants as places
 use Rattle.std.specs.Prelude.{None, Option, Some}
-use Rattle.syn_ast.specs.Leaves.{mark_tree, optional_tree, raw_tree}
-use Rattle.syn_ast.specs.declared.name.Name.{Name}
-use Rattle.syn_ast.specs.declared.leaf.Mark.{Mark}
+use Rattle.syn_part.specs.Leaves.{mark_tree, optional_tree, raw_tree}
+use Rattle.syn_part.specs.declared.name.Name.{Name}
+use Rattle.syn_part.specs.declared.leaf.Mark.{Mark}
 use Rattle.syn_ast.specs.declared.paths.MacroDelimiter.{MacroDelimiter}
 use Rattle.syn_ast.specs.declared.paths.MacroDelimiter.TheVariants as delimiters
 use Rattle.syn_grammar.specs.Kind as k

@@ -3,7 +3,7 @@ use Rattle.rust_leaf.specs.Leaf.{ident_span}
 use Rattle.rust_leaf.specs.declared.ident.Ident.{Ident}
 use Rattle.rust_map.specs.declared.span.Span.{Span}
 use Rattle.std.specs.Prelude.{◌≡◌, ℕ, List, [], ◌∷◌, ◌++◌, None, Option, Some, codes}
-use Rattle.syn_ast.specs.declared.leaf.Mark.{Mark}
+use Rattle.syn_part.specs.declared.leaf.Mark.{Mark}
 use Rattle.syn_error.specs.Notes.{Note}
 use Rattle.syn_error.specs.declared.fault.ParseFault.{ParseFault}
 use Rattle.syn_error.specs.declared.fault.ParseFault.TheVariants as faults

@@ -1,7 +1,7 @@
 -- The trees that modules, extern blocks and the items in them are.
 use Rattle.std.specs.Prelude.{None, Option, Some}
-use Rattle.syn_ast.specs.Leaves.{mark_tree, optional_tree, turns_tree, word_tree}
-use Rattle.syn_ast.specs.declared.leaf.Mark.{Mark}
+use Rattle.syn_part.specs.Leaves.{mark_tree, optional_tree, turns_tree, word_tree}
+use Rattle.syn_part.specs.declared.leaf.Mark.{Mark}
 use Rattle.syn_grammar.specs.Kind as k
 use Rattle.syn_grammar.specs.Tree as t
 use Rattle.syn_grammar.specs.Tree.{Tree}

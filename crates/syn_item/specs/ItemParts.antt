@@ -1,10 +1,10 @@
 -- The trees that parts are which several items have.
-use Rattle.syn_ast.specs.Name.{name_tree}
-use Rattle.syn_ast.specs.Leaves.{mark_tree, word_tree}
+use Rattle.syn_part.specs.Name.{name_tree}
+use Rattle.syn_part.specs.Leaves.{mark_tree, word_tree}
 use Rattle.syn_item.specs.declared.part.Braced.{Braced}
-use Rattle.syn_ast.specs.declared.name.Name.{Name}
+use Rattle.syn_part.specs.declared.name.Name.{Name}
 use Rattle.rust_leaf.specs.declared.ident.Ident.{Ident}
-use Rattle.syn_ast.specs.declared.leaf.Mark.{Mark}
+use Rattle.syn_part.specs.declared.leaf.Mark.{Mark}
 use Rattle.syn_grammar.specs.Name as n
 use Rattle.syn_grammar.specs.Tree as t
 use Rattle.syn_grammar.specs.Tree.{Tree}

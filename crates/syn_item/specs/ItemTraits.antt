@@ -1,6 +1,6 @@
 -- The trees that traits and their aliases are, and the items in traits.
-use Rattle.syn_ast.specs.Kept.{IsFirst}
-use Rattle.syn_ast.specs.Leaves.{mark_tree, optional_tree, turns_tree, word_tree}
+use Rattle.syn_part.specs.Kept.{IsFirst}
+use Rattle.syn_part.specs.Leaves.{mark_tree, optional_tree, turns_tree, word_tree}
 use Rattle.syn_grammar.specs.Kind as k
 use Rattle.syn_grammar.specs.Name as n
 use Rattle.syn_grammar.specs.Tree as t

@@ -1,11 +1,11 @@
 -- The trees that what use declarations name is.
 use Rattle.std.specs.Prelude.{None, Option, Some}
-use Rattle.syn_ast.specs.Name.{name_tree}
-use Rattle.syn_ast.specs.Leaves.{list_tree, mark_tree, word_tree}
+use Rattle.syn_part.specs.Name.{name_tree}
+use Rattle.syn_part.specs.Leaves.{list_tree, mark_tree, word_tree}
 use Rattle.syn_item.specs.declared.uses.UseTop.{UseTop}
 use Rattle.syn_item.specs.declared.uses.UseTree.{UseTree}
 use Rattle.syn_item.specs.declared.uses.UseTree.TheVariants as uses
-use Rattle.syn_ast.specs.declared.leaf.Mark.{Mark}
+use Rattle.syn_part.specs.declared.leaf.Mark.{Mark}
 use Rattle.syn_grammar.specs.Kind as k
 use Rattle.syn_grammar.specs.Tree as t
 use Rattle.syn_grammar.specs.Tree.{Tree}

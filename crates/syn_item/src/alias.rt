@@ -3,7 +3,6 @@
 ghost use Rattle.gram_table.specs.Kinds.{place_of};
 ghost use Rattle.proc_macro2.specs.Token.{Token};
 ghost use Rattle.std.specs.Prelude.{◌≡◌, ◌↔◌, Bool, IfSome, List, MatchOption, true, ℕ};
-ghost use Rattle.syn_ast.specs.Shape.{IsShaped};
 ghost use Rattle.syn_grammar.specs.Gram as g;
 ghost use Rattle.syn_grammar.specs.Items.{type_end};
 ghost use Rattle.syn_grammar.specs.Kind as k;
@@ -12,16 +11,17 @@ ghost use Rattle.syn_grammar.specs.Tree as t;
 ghost use Rattle.syn_grammar.specs.Verdicts.{is_where};
 ghost use Rattle.syn_item.specs.ItemAliases.{IsLate, IsOrderIn, early_tree, either_tree, item_type};
 ghost use Rattle.syn_item.specs.ItemAliases.{late_tree, type_end_tree};
+ghost use Rattle.syn_part.specs.Shape.{IsShaped};
 
 use gram_table::kind::{Kind, Place};
 use gram_table::part::Part;
 use gram_tree::tree::Tree;
 use rust_leaf::ident::Ident;
 use syn_ast::generics::OptionalWhere;
-use syn_ast::leaf::Mark;
-use syn_ast::sub::{MarkedType, optional_as_marked_type};
-use syn_ast::take::{self, Choice};
-use syn_ast::{inside, joined};
+use syn_part::leaf::Mark;
+use syn_part::sub::{MarkedType, optional_as_marked_type};
+use syn_part::take::{self, Choice};
+use syn_part::{inside, joined};
 
 /// Where the where clause of a type stands.
 #[derive(Clone, Copy)]

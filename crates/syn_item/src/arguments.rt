@@ -1,18 +1,18 @@
 //! What a signature says of its arguments: the receiver in front, and the dots at the end.
 
 ghost use Rattle.std.specs.Prelude.{◌≡◌, IsSomeAnd, MatchOption, None, Some};
-ghost use Rattle.syn_ast.specs.Kept.{IsKept};
-ghost use Rattle.syn_ast.specs.Leaves.{list_tree};
-ghost use Rattle.syn_ast.specs.Shape.{IsShaped};
 ghost use Rattle.syn_grammar.specs.Gram as g;
 ghost use Rattle.syn_grammar.specs.Kind as k;
 ghost use Rattle.syn_item.specs.ItemArguments.{first_element, first_receiver, last_element, last_variadic};
 ghost use Rattle.syn_item.specs.ItemArguments.{receiver_in, variadic_in};
 ghost use Rattle.syn_item.specs.ItemFunctions.{IsReceiver, variadic_tree};
+ghost use Rattle.syn_part.specs.Kept.{IsKept};
+ghost use Rattle.syn_part.specs.Leaves.{list_tree};
+ghost use Rattle.syn_part.specs.Shape.{IsShaped};
 
 use crate::function::{FnArg, Parameter, Parameters, Receiver, Signature, Variadic};
 use gram_tree::tree::Tree;
-use syn_ast::list::Elements;
+use syn_part::list::Elements;
 
 // The first of some elements.
 fn first_of<'t, 'a>(list: Elements<'t, 'a>) -> Option<&'t Tree<'a>>

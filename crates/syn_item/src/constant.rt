@@ -1,20 +1,20 @@
 //! Constants.
 
 ghost use Rattle.std.specs.Prelude.{◌≡◌, MatchOption};
-ghost use Rattle.syn_ast.specs.Shape.{IsShaped};
 ghost use Rattle.syn_grammar.specs.Gram as g;
 ghost use Rattle.syn_grammar.specs.Kind as k;
 ghost use Rattle.syn_item.specs.ItemAliases.{item_const};
+ghost use Rattle.syn_part.specs.Shape.{IsShaped};
 
 use crate::part;
 use gram_table::kind::Kind;
 use gram_table::part::Part;
 use gram_tree::tree::Tree;
 use rust_leaf::ident::Ident;
-use syn_ast::leaf::Mark;
-use syn_ast::name::Name;
-use syn_ast::sub::{MarkedValue, optional_as_marked_value};
-use syn_ast::{inside, joined, take};
+use syn_part::leaf::Mark;
+use syn_part::name::Name;
+use syn_part::sub::{MarkedValue, optional_as_marked_value};
+use syn_part::{inside, joined, take};
 
 /// A constant: `const A: T = b;`, behind its attributes and its visibility.
 #[derive(Clone, Copy)]

@@ -6,7 +6,7 @@ ghost use Rattle.syn_item.specs.declared.uses.UseTree.TheVariants as uses;
 
 use crate::function::{FnArg, Variadic};
 use crate::uses::{UseGlob, UseGroup, UseName, UsePath, UseRename, UseTree};
-use syn_ast::pat_type::PatType;
+use syn_pat::pat_type::PatType;
 
 impl<'t, 'a> From<UsePath<'t, 'a>> for UseTree<'t, 'a> {
     ghost from_gives = { λ form whole. whole ≡ uses.Path form };

@@ -3,8 +3,6 @@
 ghost use Rattle.gram_table.specs.Kinds.{kind_of, place_of};
 ghost use Rattle.gram_table.specs.declared.kind.Place.TheVariants as places;
 ghost use Rattle.std.specs.Prelude.{◌≡◌, IfSome, MatchOption, None};
-ghost use Rattle.syn_ast.specs.Kept.{IsFirst, IsKept};
-ghost use Rattle.syn_ast.specs.Shape.{IsShaped};
 ghost use Rattle.syn_grammar.specs.Gram as g;
 ghost use Rattle.syn_grammar.specs.Gram.{Verdict as GivenVerdict};
 ghost use Rattle.syn_grammar.specs.Kind as k;
@@ -16,14 +14,16 @@ ghost use Rattle.syn_grammar.specs.Tree.{Tree as GivenTree};
 ghost use Rattle.syn_item.specs.ItemEntries.{IsDefaultIn, defaultness_tree, entry_of, foreign_item_static};
 ghost use Rattle.syn_item.specs.ItemEntries.{foreign_parts, item_parts, one_macro, one_trait, placed_parts};
 ghost use Rattle.syn_item.specs.ItemFunctions.{IsSafety};
+ghost use Rattle.syn_part.specs.Kept.{IsFirst, IsKept};
+ghost use Rattle.syn_part.specs.Shape.{IsShaped};
 
 use crate::function::{Safety, as_foreign_safety};
 use gram_table::kind::{Kind, Place};
 use gram_table::part::Part;
 use gram_tree::tree::Tree;
 use rust_leaf::ident::Ident;
-use syn_ast::take::{self, Choice};
-use syn_ast::{inside, joined};
+use syn_part::take::{self, Choice};
+use syn_part::{inside, joined};
 
 /// An item of any kind, with its attributes and its visibility.
 #[derive(Clone, Copy)]
@@ -284,7 +284,7 @@ pub struct OneMacro<'t, 'a> {
 
 impl<'t, 'a> OneMacro<'t, 'a> {
     /// What a tree is, if it is that.
-    #[tactic(auto, using(syn_ast::proofs::Absent::shaped_never), unfolding(syn_grammar::specs::Table::table))]
+    #[tactic(auto, using(syn_part::proofs::Absent::shaped_never), unfolding(syn_grammar::specs::Table::table))]
     pub fn of(tree: &'t Tree<'a>) -> Option<OneMacro<'t, 'a>>
         ensures { MatchOption result ((p : k.Place) → IsShaped tree.now (g.ref (k.OneMacro p)) → ⊥)
             (λ x. tree.now ≡ one_macro x) }

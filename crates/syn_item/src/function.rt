@@ -2,9 +2,6 @@
 
 ghost use Rattle.proc_macro2.specs.Token.{Token};
 ghost use Rattle.std.specs.Prelude.{◌≡◌, Bool, IfSome, List, MatchOption, ℕ};
-ghost use Rattle.syn_ast.specs.Kept.{IsKept};
-ghost use Rattle.syn_ast.specs.Leaves.{word_tree};
-ghost use Rattle.syn_ast.specs.Shape.{IsShaped};
 ghost use Rattle.syn_grammar.specs.Gram as g;
 ghost use Rattle.syn_grammar.specs.Items.{safety};
 ghost use Rattle.syn_grammar.specs.Kind as k;
@@ -14,17 +11,20 @@ ghost use Rattle.syn_item.specs.ItemFunctions.{IsBehind, IsItemFn, IsReceiver, I
 ghost use Rattle.syn_item.specs.ItemFunctions.{parameter, parameters, safety_is, signature, typed_pattern};
 ghost use Rattle.syn_item.specs.ItemParts.{named_tree, safety_tree};
 ghost use Rattle.syn_item.specs.declared.function.Safety.TheVariants as safeties;
+ghost use Rattle.syn_part.specs.Kept.{IsKept};
+ghost use Rattle.syn_part.specs.Leaves.{word_tree};
+ghost use Rattle.syn_part.specs.Shape.{IsShaped};
 
 use gram_table::kind::{Kind, Place};
 use gram_table::part::Part;
 use gram_tree::tree::Tree;
 use rust_leaf::ident::Ident;
-use syn_ast::leaf::{Delimiters, Lifetime, Mark};
-use syn_ast::list::Elements;
-use syn_ast::pat_type::PatType;
-use syn_ast::sub::optional_as_marked;
-use syn_ast::take::{self, Choice, Choice4};
-use syn_ast::{inside, joined};
+use syn_part::leaf::{Delimiters, Lifetime, Mark};
+use syn_part::list::Elements;
+use syn_part::sub::optional_as_marked;
+use syn_part::take::{self, Choice, Choice4};
+use syn_part::{inside, joined};
+use syn_pat::pat_type::PatType;
 
 /// The parameters of a function: `(a: A, b: B)`.
 #[derive(Clone, Copy)]

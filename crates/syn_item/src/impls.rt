@@ -3,15 +3,15 @@
 ghost use Rattle.proc_macro2.specs.Token.{Token};
 ghost use Rattle.proc_macro2.specs.declared.delimiter.Delimiter.{Delimiter as GivenDelimiter};
 ghost use Rattle.std.specs.Prelude.{◌≡◌, Bool, List, MatchOption, ℕ};
-ghost use Rattle.syn_ast.specs.Kept.{IsKept};
-ghost use Rattle.syn_ast.specs.Leaves.{optional_tree};
-ghost use Rattle.syn_ast.specs.Shape.{IsShaped};
 ghost use Rattle.syn_grammar.specs.Gram as g;
 ghost use Rattle.syn_grammar.specs.Items.{impl_form};
 ghost use Rattle.syn_grammar.specs.Kind as k;
 ghost use Rattle.syn_grammar.specs.Name as n;
 ghost use Rattle.syn_item.specs.ItemImpls.{for_tree, impl_body_tree, impl_head, impl_inside, impl_items, item_impl};
 ghost use Rattle.syn_item.specs.ItemParts.{braced_tree};
+ghost use Rattle.syn_part.specs.Kept.{IsKept};
+ghost use Rattle.syn_part.specs.Leaves.{optional_tree};
+ghost use Rattle.syn_part.specs.Shape.{IsShaped};
 
 use crate::modifiers::ImplModifiers;
 use crate::part::{Braced, as_braced};
@@ -19,9 +19,9 @@ use gram_table::kind::Kind;
 use gram_table::part::Part;
 use gram_tree::tree::Tree;
 use rust_leaf::ident::Ident;
-use syn_ast::leaf::{Delimiters, Mark};
-use syn_ast::list::Turns;
-use syn_ast::{inside, joined, take};
+use syn_part::leaf::{Delimiters, Mark};
+use syn_part::list::Turns;
+use syn_part::{inside, joined, take};
 
 /// The trait that an impl is of, and `for`.
 #[derive(Clone, Copy)]

@@ -1,7 +1,6 @@
 //! Items, by their form.
 
 ghost use Rattle.std.specs.Prelude.{◌≡◌, MatchOption, cond};
-ghost use Rattle.syn_ast.specs.Shape.{IsAmong, IsShaped};
 ghost use Rattle.syn_grammar.specs.Gram as g;
 ghost use Rattle.syn_grammar.specs.Items.{trait_form};
 ghost use Rattle.syn_grammar.specs.Kind as k;
@@ -10,13 +9,14 @@ ghost use Rattle.syn_grammar.specs.Name as n;
 ghost use Rattle.syn_grammar.specs.Tree as t;
 ghost use Rattle.syn_item.specs.ItemForms.{HasForm, HasNoBody, Is, IsFunction, IsItem, IsMacro, IsNoOther, IsOf};
 ghost use Rattle.syn_item.specs.ItemForms.{IsTypeAlias, MayBeKept, form_behind};
+ghost use Rattle.syn_part.specs.Shape.{IsAmong, IsShaped};
 
 use crate::judged::{Judged, verdict_on};
 use gram_table::kind::Kind;
 use gram_table::part::Part;
 use gram_tree::tree::Tree;
-use syn_ast::inside;
-use syn_ast::take::{self, Choice};
+use syn_part::inside;
+use syn_part::take::{self, Choice};
 
 /// Which form an item has.
 #[derive(Clone, Copy)]

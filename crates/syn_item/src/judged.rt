@@ -1,11 +1,11 @@
 //! What was judged: whether it is kept as it was read, or as its tokens.
 
 ghost use Rattle.std.specs.Prelude.{◌≡◌, MatchOption};
-ghost use Rattle.syn_ast.specs.Shape.{IsShaped};
 ghost use Rattle.syn_grammar.specs.Gram as g;
 ghost use Rattle.syn_grammar.specs.Gram.{Verdict as GivenVerdict};
 ghost use Rattle.syn_grammar.specs.Tree.{Tree as GivenTree};
 ghost use Rattle.syn_item.specs.ItemJudged.{judged_tree};
+ghost use Rattle.syn_part.specs.Shape.{IsShaped};
 
 use gram_tree::tree::{Form, Tree};
 

@@ -2,7 +2,6 @@
 
 ghost use Rattle.proc_macro2.specs.Token.{Token};
 ghost use Rattle.std.specs.Prelude.{◌≡◌, Bool, List};
-ghost use Rattle.syn_ast.specs.Kept.{IsKept};
 ghost use Rattle.syn_grammar.specs.Derives.{Derives};
 ghost use Rattle.syn_grammar.specs.Gram as g;
 ghost use Rattle.syn_grammar.specs.Kind as k;
@@ -11,6 +10,7 @@ ghost use Rattle.syn_grammar.specs.Table.{table};
 ghost use Rattle.syn_grammar.specs.Tree as t;
 ghost use Rattle.syn_grammar.specs.Types.{kept_if};
 ghost use Rattle.syn_item.specs.ItemForms.{IsItem};
+ghost use Rattle.syn_part.specs.Kept.{IsKept};
 
 /// What was read by an entry that keeps or refuses it is kept as it was read, as parameters, traits and impls are. So
 /// is what was read as one kind of item by itself. Of an item among others that is kept, the form is none of which the

@@ -4,23 +4,23 @@ ghost use Rattle.gram_table.specs.Kinds.{place_of};
 ghost use Rattle.proc_macro2.specs.Token.{Token};
 ghost use Rattle.proc_macro2.specs.declared.delimiter.Delimiter.{Delimiter as GivenDelimiter};
 ghost use Rattle.std.specs.Prelude.{◌≡◌, Bool, IfSome, List, MatchOption, None, ℕ};
-ghost use Rattle.syn_ast.specs.Leaves.{raw_tree};
-ghost use Rattle.syn_ast.specs.Shape.{IsShaped};
 ghost use Rattle.syn_grammar.specs.Gram as g;
 ghost use Rattle.syn_grammar.specs.Items.{macro_name};
 ghost use Rattle.syn_grammar.specs.Kind as k;
 ghost use Rattle.syn_grammar.specs.Tree as t;
 ghost use Rattle.syn_item.specs.ItemMacros.{item_macro, macro_end_tree, macro_name_tree};
+ghost use Rattle.syn_part.specs.Leaves.{raw_tree};
+ghost use Rattle.syn_part.specs.Shape.{IsShaped};
 
 use crate::part;
 use gram_table::kind::{Kind, Place};
 use gram_tree::tree::Tree;
-use syn_ast::joined;
-use syn_ast::leaf::{Delimiters, Mark};
-use syn_ast::name::Name;
 use syn_ast::paths::MacroDelimiter;
-use syn_ast::take::{self, Choice};
 use syn_buffer::entry::Entry;
+use syn_part::joined;
+use syn_part::leaf::{Delimiters, Mark};
+use syn_part::name::Name;
+use syn_part::take::{self, Choice};
 
 /// A macro as an item: `a::b! c { d }`, behind its attributes.
 #[derive(Clone, Copy)]

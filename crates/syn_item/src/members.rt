@@ -2,7 +2,6 @@
 
 ghost use Rattle.proc_macro2.specs.Token.{Token};
 ghost use Rattle.std.specs.Prelude.{◌≡◌, Bool, IfSome, List, MatchOption};
-ghost use Rattle.syn_ast.specs.Shape.{IsShaped};
 ghost use Rattle.syn_grammar.specs.Gram as g;
 ghost use Rattle.syn_grammar.specs.Gram.{Verdict as GivenVerdict};
 ghost use Rattle.syn_grammar.specs.Items.{safety};
@@ -13,6 +12,7 @@ ghost use Rattle.syn_grammar.specs.Tree.{Tree as GivenTree};
 ghost use Rattle.syn_item.specs.ItemFunctions.{IsSafety};
 ghost use Rattle.syn_item.specs.ItemMembers.{associated_inside, associated_item, foreign_item, foreign_static};
 ghost use Rattle.syn_item.specs.ItemMembers.{form_of_foreign_item, form_of_impl_item, form_of_trait_item};
+ghost use Rattle.syn_part.specs.Shape.{IsShaped};
 
 use crate::alias::ItemType;
 use crate::constant::ItemConst;
@@ -22,8 +22,8 @@ use crate::macros::ItemMacro;
 use gram_table::kind::Kind;
 use gram_table::part::Part;
 use gram_tree::tree::Tree;
-use syn_ast::take::{self, Choice5};
-use syn_ast::{inside, joined};
+use syn_part::take::{self, Choice5};
+use syn_part::{inside, joined};
 
 /// A function of a trait.
 pub type TraitItemFn<'t, 'a> = ItemFn<'t, 'a>;
@@ -91,7 +91,7 @@ pub type ImplItem<'t, 'a> = AssociatedItem<'t, 'a>;
 
 impl<'t, 'a> AssociatedItem<'t, 'a> {
     // One that is kept as it was read, as it was chosen.
-    #[tactic(auto, using(syn_ast::proofs::Absent::shaped_never))]
+    #[tactic(auto, using(syn_part::proofs::Absent::shaped_never))]
     fn chosen(tree: &'t Tree<'a>) -> Option<AssociatedItem<'t, 'a>>
         ensures { MatchOption result ((s u v w : List Token → Bool) (a b c d : g.Gram) → IsShaped tree.now (g.alt s a
             (g.alt u b (g.alt v c (g.alt w d g.never)))) → ⊥)
@@ -233,7 +233,7 @@ impl<'t, 'a> ForeignItem<'t, 'a> {
     }
 
     // One that is kept as it was read, as it was chosen.
-    #[tactic(auto, using(syn_ast::proofs::Absent::shaped_never))]
+    #[tactic(auto, using(syn_part::proofs::Absent::shaped_never))]
     fn chosen(tree: &'t Tree<'a>) -> Option<ForeignItem<'t, 'a>>
         ensures { MatchOption result ((s u v w : List Token → Bool) (a b c d : g.Gram) → IsShaped tree.now (g.alt s
             (g.called n.the_item a) (g.alt u b (g.alt v (g.called n.the_item c) (g.alt w (g.called n.the_item d)

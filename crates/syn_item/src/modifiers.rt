@@ -7,9 +7,9 @@ use crate::entry::PlacedParts;
 use rust_leaf::ident::Ident;
 use rust_map::span::Span;
 use std::alloc::{AllocError, Global};
-use syn_ast::leaf::Mark;
 use syn_error::error::Error;
 use syn_error::fault::ParseFault;
+use syn_part::leaf::Mark;
 
 /// What may stand in front of a constant.
 #[derive(Clone, Copy)]

@@ -3,10 +3,10 @@
 ghost use Rattle.proc_macro2.specs.Token.{Token};
 ghost use Rattle.proc_macro2.specs.declared.delimiter.Delimiter.{Delimiter as GivenDelimiter};
 ghost use Rattle.std.specs.Prelude.{◌≡◌, Bool, List, MatchOption, ℕ};
-ghost use Rattle.syn_ast.specs.Shape.{IsShaped};
 ghost use Rattle.syn_grammar.specs.Gram as g;
 ghost use Rattle.syn_grammar.specs.Kind as k;
 ghost use Rattle.syn_item.specs.ItemModules.{foreign_items, item_foreign_mod, item_mod, items, module_end_tree};
+ghost use Rattle.syn_part.specs.Shape.{IsShaped};
 
 use crate::part;
 use crate::part::{Braced, as_braced};
@@ -14,11 +14,11 @@ use gram_table::kind::Kind;
 use gram_table::part::Part;
 use gram_tree::tree::Tree;
 use rust_leaf::ident::Ident;
-use syn_ast::leaf::{Delimiters, Mark};
-use syn_ast::list::Turns;
-use syn_ast::name::Name;
-use syn_ast::take::{self, Choice};
-use syn_ast::{inside, joined};
+use syn_part::leaf::{Delimiters, Mark};
+use syn_part::list::Turns;
+use syn_part::name::Name;
+use syn_part::take::{self, Choice};
+use syn_part::{inside, joined};
 
 /// An extern block: `unsafe extern "C" { .. }`, behind its attributes.
 #[derive(Clone, Copy)]

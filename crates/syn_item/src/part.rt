@@ -3,16 +3,16 @@
 ghost use Rattle.proc_macro2.specs.Token.{Token};
 ghost use Rattle.proc_macro2.specs.declared.delimiter.Delimiter.{Delimiter as GivenDelimiter};
 ghost use Rattle.std.specs.Prelude.{◌≡◌, Bool, List, MatchOption, ℕ};
-ghost use Rattle.syn_ast.specs.Shape.{IsShaped};
 ghost use Rattle.syn_grammar.specs.Gram as g;
 ghost use Rattle.syn_grammar.specs.Name as n;
 ghost use Rattle.syn_item.specs.ItemParts.{braced_tree, name_or_tree};
+ghost use Rattle.syn_part.specs.Shape.{IsShaped};
 
 use gram_table::part::Part;
 use gram_tree::tree::Tree;
-use syn_ast::leaf::Delimiters;
-use syn_ast::name::{Name, as_name};
-use syn_ast::{inside, take};
+use syn_part::leaf::Delimiters;
+use syn_part::name::{Name, as_name};
+use syn_part::{inside, take};
 
 // A name, or the keyword that may stand in its place.
 pub(crate) fn name_or<'a>(tree: &Tree<'a>) -> Option<Name<'a>>

@@ -2,8 +2,6 @@
 
 ghost use Rattle.proc_macro2.specs.declared.delimiter.Delimiter.{Delimiter as GivenDelimiter};
 ghost use Rattle.std.specs.Prelude.{◌≡◌, List, MatchOption, ℕ};
-ghost use Rattle.syn_ast.specs.Kept.{IsKept};
-ghost use Rattle.syn_ast.specs.Shape.{IsShaped};
 ghost use Rattle.syn_grammar.specs.Gram as g;
 ghost use Rattle.syn_grammar.specs.Items.{trait_form};
 ghost use Rattle.syn_grammar.specs.Kind as k;
@@ -11,6 +9,8 @@ ghost use Rattle.syn_grammar.specs.Name as n;
 ghost use Rattle.syn_grammar.specs.Tree as t;
 ghost use Rattle.syn_item.specs.ItemTraits.{IsAlias, IsTrait, item_trait, item_trait_alias, trait_form_inside};
 ghost use Rattle.syn_item.specs.ItemTraits.{trait_form_tree, trait_head, trait_items};
+ghost use Rattle.syn_part.specs.Kept.{IsKept};
+ghost use Rattle.syn_part.specs.Shape.{IsShaped};
 
 use crate::modifiers::TraitModifiers;
 use crate::part::as_braced;
@@ -18,10 +18,10 @@ use gram_table::kind::Kind;
 use gram_table::part::Part;
 use gram_tree::tree::Tree;
 use rust_leaf::ident::Ident;
-use syn_ast::leaf::{Delimiters, Mark};
-use syn_ast::list::Turns;
-use syn_ast::take::{self, Choice};
-use syn_ast::{inside, joined};
+use syn_part::leaf::{Delimiters, Mark};
+use syn_part::list::Turns;
+use syn_part::take::{self, Choice};
+use syn_part::{inside, joined};
 
 /// A trait: `unsafe auto trait A<T>: B where .. { .. }`, behind its attributes and its visibility.
 #[derive(Clone, Copy)]

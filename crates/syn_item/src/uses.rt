@@ -3,23 +3,23 @@
 ghost use Rattle.proc_macro2.specs.Token.{Token};
 ghost use Rattle.proc_macro2.specs.declared.delimiter.Delimiter.{Delimiter as GivenDelimiter};
 ghost use Rattle.std.specs.Prelude.{◌≡◌, Bool, IfSome, List, MatchOption, ℕ};
-ghost use Rattle.syn_ast.specs.Name.{name_tree};
-ghost use Rattle.syn_ast.specs.Shape.{IsShaped};
 ghost use Rattle.syn_grammar.specs.Gram as g;
 ghost use Rattle.syn_grammar.specs.Kind as k;
 ghost use Rattle.syn_grammar.specs.Tree as t;
 ghost use Rattle.syn_item.specs.ItemUses.{use_branch, use_branch_tree, use_inside_tree, use_rooted, use_top};
 ghost use Rattle.syn_item.specs.ItemUses.{use_tree};
+ghost use Rattle.syn_part.specs.Name.{name_tree};
+ghost use Rattle.syn_part.specs.Shape.{IsShaped};
 
 use gram_table::kind::Kind;
 use gram_tree::tree::Tree;
 use rust_leaf::ident::Ident;
-use syn_ast::inside;
-use syn_ast::leaf::{Delimiters, Mark};
-use syn_ast::list::Elements;
-use syn_ast::name::{Name, as_name, as_renamed};
-use syn_ast::sub::as_marked;
-use syn_ast::take::{self, Choice, Choice3};
+use syn_part::inside;
+use syn_part::leaf::{Delimiters, Mark};
+use syn_part::list::Elements;
+use syn_part::name::{Name, as_name, as_renamed};
+use syn_part::sub::as_marked;
+use syn_part::take::{self, Choice, Choice3};
 
 /// A name and what stands in it: `a::b`.
 #[derive(Clone, Copy)]

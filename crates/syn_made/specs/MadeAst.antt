@@ -7,24 +7,24 @@ use Rattle.gram_table.specs.Words.{sign_text}
 use Rattle.gram_table.specs.declared.word.Sign.{Sign}
 use Rattle.gram_table.specs.declared.word.Sign.TheVariants as signs
 use Rattle.std.specs.Prelude.{◌≡◌, Bool, true, false, None, Option, Some}
-use Rattle.syn_ast.specs.Leaves.{list_tree}
+use Rattle.syn_part.specs.Leaves.{list_tree}
 use Rattle.syn_ast.specs.Types.{no_lone}
 use Rattle.syn_ast.specs.declared.bounds.TraitBoundModifier.{TraitBoundModifier}
 use Rattle.syn_ast.specs.declared.bounds.TraitBoundModifier.TheVariants as modifiers
 use Rattle.syn_ast.specs.declared.bounds.TypeParamBound.{TypeParamBound}
 use Rattle.syn_ast.specs.declared.bounds.TypeParamBound.TheVariants as bounds
-use Rattle.syn_ast.specs.declared.leaf.Mark.{Mark}
-use Rattle.syn_ast.specs.declared.list.Elements.{Elements}
-use Rattle.syn_ast.specs.declared.pat.Pat.{Pat}
-use Rattle.syn_ast.specs.declared.pat.Pat.TheVariants as pats
-use Rattle.syn_ast.specs.declared.patterns.RangeBound.{RangeBound}
-use Rattle.syn_ast.specs.declared.patterns.RangeLimits.{RangeLimits}
-use Rattle.syn_ast.specs.declared.patterns.RangeLimits.TheVariants as limits
+use Rattle.syn_part.specs.declared.leaf.Mark.{Mark}
+use Rattle.syn_part.specs.declared.list.Elements.{Elements}
+use Rattle.syn_pat.specs.declared.pat.Pat.{Pat}
+use Rattle.syn_pat.specs.declared.pat.Pat.TheVariants as pats
+use Rattle.syn_pat.specs.declared.patterns.RangeBound.{RangeBound}
+use Rattle.syn_pat.specs.declared.patterns.RangeLimits.{RangeLimits}
+use Rattle.syn_pat.specs.declared.patterns.RangeLimits.TheVariants as limits
 use Rattle.syn_ast.specs.declared.paths.OneSegment.{OneSegment}
 use Rattle.syn_ast.specs.declared.paths.PathArguments.{PathArguments}
 use Rattle.syn_ast.specs.declared.paths.PathArguments.TheVariants as arguments
 use Rattle.syn_ast.specs.declared.paths.Segments.{Segments}
-use Rattle.syn_ast.specs.declared.sub.Marked.{Marked}
+use Rattle.syn_part.specs.declared.sub.Marked.{Marked}
 use Rattle.syn_ast.specs.declared.types.TypeBounds.{TypeBounds}
 use Rattle.syn_ast.specs.declared.types.TypeBounds.TheVariants as boundses
 use Rattle.syn_ast.specs.declared.types.«Type».{«Type» as Type'}

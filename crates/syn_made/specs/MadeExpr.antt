@@ -3,12 +3,12 @@
 use Rattle.gram_table.specs.declared.word.Sign.TheVariants as signs
 use Rattle.proc_macro2.specs.declared.delimiter.Delimiter.TheVariants.{Parenthesis}
 use Rattle.std.specs.Prelude.{◌≡◌, Bool, true, false, None, Option, Some, cond}
-use Rattle.syn_ast.specs.Leaves.{mark_tree, optional_tree, word_tree}
-use Rattle.syn_ast.specs.Sub.{marked_type_tree}
-use Rattle.syn_ast.specs.declared.leaf.Mark.{Mark}
+use Rattle.syn_part.specs.Leaves.{mark_tree, optional_tree, word_tree}
+use Rattle.syn_part.specs.Sub.{marked_type_tree}
+use Rattle.syn_part.specs.declared.leaf.Mark.{Mark}
 use Rattle.syn_ast.specs.declared.paths.Member.{Member}
 use Rattle.syn_ast.specs.declared.paths.Member.TheVariants as members
-use Rattle.syn_ast.specs.declared.sub.Worded.{Worded}
+use Rattle.syn_part.specs.declared.sub.Worded.{Worded}
 use Rattle.syn_expr.specs.Statements.{diverge_tree}
 use Rattle.syn_expr.specs.declared.expr.ops.BinOp.{BinOp}
 use Rattle.syn_expr.specs.declared.expr.ops.BinOp.TheVariants as bins

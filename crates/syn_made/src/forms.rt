@@ -4,8 +4,8 @@
 ghost use Rattle.gram_table.specs.Kinds.{kind_of};
 ghost use Rattle.gram_table.specs.Parts.{part_of};
 ghost use Rattle.gram_tree.specs.Forms.{seconds};
-ghost use Rattle.syn_ast.specs.Leaves.{optional_tree};
 ghost use Rattle.syn_grammar.specs.Tree as t;
+ghost use Rattle.syn_part.specs.Leaves.{optional_tree};
 
 use crate::parts::{four, missing, three};
 use crate::put::{behind, node, nth};
@@ -16,7 +16,7 @@ use gram_tree::arena::Arena;
 use gram_tree::made;
 use gram_tree::tree::Tree;
 use std::alloc::AllocError;
-use syn_ast::leaf::Delimiters;
+use syn_part::leaf::Delimiters;
 
 /// A node of a kind.
 #[derive(Clone, Copy)]

@@ -1,8 +1,8 @@
 //! Leaves as trees, tokens that are kept as they are, and trees that are lent.
 
 ghost use Rattle.std.specs.Prelude.{◌≡◌, ◌↔◌, IfOk, IsTrue};
-ghost use Rattle.syn_ast.specs.Leaves.{lifetime_tree, literal_tree, mark_tree, node_tree, raw_tree, word_tree};
 ghost use Rattle.syn_made.specs.MadeAst.{IsSign};
+ghost use Rattle.syn_part.specs.Leaves.{lifetime_tree, literal_tree, mark_tree, node_tree, raw_tree, word_tree};
 
 use crate::to_tree::ToTree;
 use gram_table::word::Sign;
@@ -12,8 +12,8 @@ use gram_tree::tree::Tree;
 use rust_leaf::ident::Ident;
 use rust_leaf::literal::Literal;
 use std::alloc::AllocError;
-use syn_ast::leaf::{Lifetime, Mark};
 use syn_buffer::entry::Entry;
+use syn_part::leaf::{Lifetime, Mark};
 
 /// A punctuation.
 pub fn mark<'a>(mark: Mark) -> Tree<'a>

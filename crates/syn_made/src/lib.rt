@@ -7,7 +7,7 @@
 //! - `leaf`: words, literals, marks, lifetimes, tokens that are kept, and trees that are lent; `lists`: lists and turns.
 //! - `parts`: nothing, and several trees one behind the other; `put`: the forms by functions, which lend what they are of.
 //! - `sub`, `name`: what stands in several types.
-//! - `ast`: the types of `syn_ast`; `expr`: expressions, statements and blocks; `item`: data and items.
+//! - `ast`: the types of `syn_ast` and `syn_pat`; `expr`: expressions, statements and blocks; `item`: data and items.
 //! - `try_to_tree`: the trait of types of which some values are no tree of the grammar.
 #![tactic(auto)]
 

@@ -1,8 +1,8 @@
 //! Lists and turns.
 
 ghost use Rattle.std.specs.Prelude.{◌≡◌, IfOk};
-ghost use Rattle.syn_ast.specs.Leaves.{list_tree, turns_tree};
 ghost use Rattle.syn_grammar.specs.Tree as t;
+ghost use Rattle.syn_part.specs.Leaves.{list_tree, turns_tree};
 
 use crate::to_tree::ToTree;
 use gram_table::op::Separator;
@@ -10,7 +10,7 @@ use gram_tree::arena::Arena;
 use gram_tree::made;
 use gram_tree::tree::{Element, Tree};
 use std::alloc::AllocError;
-use syn_ast::list::{Elements, Turns};
+use syn_part::list::{Elements, Turns};
 
 // Elements once more, each over the same tree.
 fn copied_elements<'a>(

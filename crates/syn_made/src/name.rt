@@ -1,13 +1,13 @@
 //! Names, of which a keyword may stand in the place.
 
-ghost use Rattle.syn_ast.specs.Name.{name_tree, renamed_tree};
+ghost use Rattle.syn_part.specs.Name.{name_tree, renamed_tree};
 
 use crate::put::{behind, nth};
 use crate::to_tree::ToTree;
 use gram_tree::arena::Arena;
 use gram_tree::tree::Tree;
 use std::alloc::AllocError;
-use syn_ast::name::{Name, Renamed};
+use syn_part::name::{Name, Renamed};
 
 impl<'a> ToTree<'a> for Name<'a> {
     ghost tree = { name_tree };

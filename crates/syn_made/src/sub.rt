@@ -1,7 +1,7 @@
 //! What stands in several types, with a mark or a word in front of it.
 
-ghost use Rattle.syn_ast.specs.Sub.{lit_tree, marked_bounds_tree, marked_tree, marked_type_tree, marked_value_tree};
-ghost use Rattle.syn_ast.specs.Sub.{worded_tree};
+ghost use Rattle.syn_part.specs.Sub.{lit_tree, marked_bounds_tree, marked_tree, marked_type_tree, marked_value_tree};
+ghost use Rattle.syn_part.specs.Sub.{worded_tree};
 
 use crate::forms::Called;
 use crate::put::{behind, nth};
@@ -10,7 +10,7 @@ use gram_table::part::Part;
 use gram_tree::arena::Arena;
 use gram_tree::tree::Tree;
 use std::alloc::AllocError;
-use syn_ast::sub::{Lit, Marked, MarkedBounds, MarkedType, MarkedValue, Worded};
+use syn_part::sub::{Lit, Marked, MarkedBounds, MarkedType, MarkedValue, Worded};
 
 impl<'t, 'a> ToTree<'a> for Marked<'t, 'a> {
     ghost tree = { marked_tree };

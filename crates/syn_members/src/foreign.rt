@@ -2,7 +2,6 @@
 
 ghost use Rattle.proc_macro2.specs.Token.{Token};
 ghost use Rattle.std.specs.Prelude.{◌≡◌, Bool, List, MatchOption};
-ghost use Rattle.syn_ast.specs.Shape.{IsShaped};
 ghost use Rattle.syn_grammar.specs.Gram as g;
 ghost use Rattle.syn_grammar.specs.Items.{safety};
 ghost use Rattle.syn_grammar.specs.Kind as k;
@@ -10,17 +9,18 @@ ghost use Rattle.syn_grammar.specs.Name as n;
 ghost use Rattle.syn_grammar.specs.Tree as t;
 ghost use Rattle.syn_item.specs.ItemMembers.{form_of_foreign_item};
 ghost use Rattle.syn_members.specs.Foreign.{IsForeign};
+ghost use Rattle.syn_part.specs.Shape.{IsShaped};
 
 use gram_table::kind::Kind;
 use gram_table::part::Part;
 use gram_tree::tree::Tree;
-use syn_ast::inside;
-use syn_ast::take::{self, Choice5};
 use syn_item::alias::ItemType;
 use syn_item::function::ItemFn;
 use syn_item::judged::{Judged, verdict_on};
 use syn_item::macros::ItemMacro;
 use syn_item::members::ForeignStatic;
+use syn_part::inside;
+use syn_part::take::{self, Choice5};
 
 /// An item of an extern block, by its form, behind its attributes and its visibility.
 #[derive(Clone, Copy)]
@@ -75,7 +75,7 @@ impl<'t, 'a> ForeignItem<'t, 'a> {
     }
 
     // One that is kept as it was read, as it was chosen.
-    #[tactic(auto, using(syn_ast::proofs::Absent::shaped_never))]
+    #[tactic(auto, using(syn_part::proofs::Absent::shaped_never))]
     fn chosen(tree: &'t Tree<'a>) -> Option<ForeignItem<'t, 'a>>
         ensures { MatchOption result ((p : k.Place) (s u v w : List Token → Bool) → IsShaped tree.now (g.alt s
             (g.called n.the_item (g.ref (k.AFunction p))) (g.alt u (g.seq (safety k.InForeign) (g.called n.the_item

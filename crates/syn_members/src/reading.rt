@@ -23,7 +23,7 @@ impl<'a> Parse<'a> for ForeignItem<'a, 'a> {
         Kind::AForeignItem
     }
 
-    #[tactic(auto, using(syn_ast::proofs::Derived::shaped))]
+    #[tactic(auto, using(syn_part::proofs::Derived::shaped))]
     fn view(tree: &'a Tree<'a>) -> Option<ForeignItem<'a, 'a>> {
         match ForeignItem::of(tree) {
             Some(found) => Some(found),

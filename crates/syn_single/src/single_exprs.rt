@@ -12,7 +12,6 @@ ghost use Rattle.syn_expr.specs.declared.expr.whole.ExprForm.TheVariants as expr
 
 use crate::single_expr::SingleExpr;
 use gram_tree::tree::Tree;
-use syn_ast::patterns::RangeLimits;
 use syn_expr::expr::infix::{ExprAssign, ExprBinary};
 use syn_expr::expr::jumps::{ExprBreak, ExprRange, ExprReturn, ExprYield};
 use syn_expr::expr::postfix::{
@@ -21,6 +20,7 @@ use syn_expr::expr::postfix::{
 use syn_expr::expr::prefix::{
     ExprAttributed, ExprClosure, ExprLet, ExprRawAddr, ExprReference, ExprUnary,
 };
+use syn_pat::patterns::RangeLimits;
 
 impl<'a> SingleExpr<'a> for ExprAssign<'a, 'a> {
     ghost form = { exprs.Assign };

@@ -2,11 +2,11 @@
 
 ghost use Rattle.gram_table.specs.Kinds.{kind_of};
 ghost use Rattle.std.specs.Prelude.{◌≡◌, false, true};
-ghost use Rattle.syn_single.specs.Meant.{has_length, has_tokens, has_value, is_lone_type};
 ghost use Rattle.syn_ast.specs.Attributes.{meta};
 ghost use Rattle.syn_ast.specs.Types.{type_array, type_paren, type_slice, type_tuple};
 ghost use Rattle.syn_ast.specs.declared.attributes.Meta.TheVariants as metas;
 ghost use Rattle.syn_grammar.specs.Kind as k;
+ghost use Rattle.syn_single.specs.Meant.{has_length, has_tokens, has_value, is_lone_type};
 
 use crate::single::ParseSingle;
 use gram_table::kind::Kind;
@@ -33,7 +33,7 @@ impl<'a> ParseSingle<'a> for TypeArray<'a, 'a> {
         "expected `;` and the length of an array"
     }
 
-    #[tactic(auto, using(syn_ast::proofs::Derived::shaped))]
+    #[tactic(auto, using(syn_part::proofs::Derived::shaped))]
     fn view(tree: &'a Tree<'a>) -> Option<TypeArray<'a, 'a>> {
         match TypeBracketed::of(tree) {
             Some(found) => match found.len {
@@ -67,7 +67,7 @@ impl<'a> ParseSingle<'a> for TypeSlice<'a, 'a> {
         "expected slice"
     }
 
-    #[tactic(auto, using(syn_ast::proofs::Derived::shaped))]
+    #[tactic(auto, using(syn_part::proofs::Derived::shaped))]
     fn view(tree: &'a Tree<'a>) -> Option<TypeSlice<'a, 'a>> {
         match TypeBracketed::of(tree) {
             Some(found) => match found.len {
@@ -99,7 +99,7 @@ impl<'a> ParseSingle<'a> for TypeParen<'a, 'a> {
         "expected one type in parentheses"
     }
 
-    #[tactic(auto, using(syn_ast::proofs::Derived::shaped))]
+    #[tactic(auto, using(syn_part::proofs::Derived::shaped))]
     fn view(tree: &'a Tree<'a>) -> Option<TypeParen<'a, 'a>> {
         match TypeParenthesized::of(tree) {
             Some(found) => match found.elems.only() {
@@ -131,7 +131,7 @@ impl<'a> ParseSingle<'a> for TypeTuple<'a, 'a> {
         "expected tuple"
     }
 
-    #[tactic(auto, using(syn_ast::proofs::Derived::shaped, syn_ast::proofs::TypeForms::several_types))]
+    #[tactic(auto, using(syn_part::proofs::Derived::shaped, syn_ast::proofs::TypeForms::several_types))]
     fn view(tree: &'a Tree<'a>) -> Option<TypeTuple<'a, 'a>> {
         match TypeParenthesized::of(tree) {
             Some(found) => match found.elems.only() {
@@ -163,7 +163,7 @@ impl<'a> ParseSingle<'a> for MetaList<'a, 'a> {
         "expected path and tokens in a group"
     }
 
-    #[tactic(auto, using(syn_ast::proofs::Derived::shaped))]
+    #[tactic(auto, using(syn_part::proofs::Derived::shaped))]
     fn view(tree: &'a Tree<'a>) -> Option<MetaList<'a, 'a>> {
         match Meta::of(tree) {
             Some(Meta::List(found)) => Some(found),
@@ -191,7 +191,7 @@ impl<'a> ParseSingle<'a> for MetaNameValue<'a, 'a> {
         "expected path, `=` and a value"
     }
 
-    #[tactic(auto, using(syn_ast::proofs::Derived::shaped))]
+    #[tactic(auto, using(syn_part::proofs::Derived::shaped))]
     fn view(tree: &'a Tree<'a>) -> Option<MetaNameValue<'a, 'a>> {
         match Meta::of(tree) {
             Some(Meta::NameValue(found)) => Some(found),

@@ -2,7 +2,7 @@
 use Rattle.std.specs.Prelude.{List, not}
 use Rattle.std.proofs.Common.{refl}
 use Rattle.proc_macro2.specs.Token.{Token}
-use Rattle.syn_ast.specs.Kept.{IsKept}
+use Rattle.syn_part.specs.Kept.{IsKept}
 use Rattle.syn_grammar.specs.Derives.{Derives}
 use Rattle.syn_grammar.specs.Gram.{called, ref, seq}
 use Rattle.syn_grammar.specs.Items.{is_variadic, safety}

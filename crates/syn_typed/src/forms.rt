@@ -5,12 +5,9 @@
 
 ghost use Rattle.gram_table.specs.Kinds.{kind_of};
 ghost use Rattle.std.specs.Prelude.{◌≡◌, MatchOption, Some};
-ghost use Rattle.syn_typed.specs.Alone.{IsStmtAlone};
 ghost use Rattle.syn_ast.specs.Attributes.{inner_attributes, meta, outer_attributes};
 ghost use Rattle.syn_ast.specs.Generics.{generics, where_clause};
-ghost use Rattle.syn_ast.specs.Kept.{IsKept};
 ghost use Rattle.syn_ast.specs.Paths.{path};
-ghost use Rattle.syn_ast.specs.Shape.{IsShaped};
 ghost use Rattle.syn_ast.specs.Types.{form_of_type, type_tree};
 ghost use Rattle.syn_ast.specs.Visibility.{visibility};
 ghost use Rattle.syn_data.specs.Derive.{IsEnded, derive_input};
@@ -22,6 +19,9 @@ ghost use Rattle.syn_grammar.specs.Gram.{ref};
 ghost use Rattle.syn_grammar.specs.Kind as k;
 ghost use Rattle.syn_item.specs.ItemForms.{Is};
 ghost use Rattle.syn_item.specs.ItemUses.{use_tree};
+ghost use Rattle.syn_part.specs.Kept.{IsKept};
+ghost use Rattle.syn_part.specs.Shape.{IsShaped};
+ghost use Rattle.syn_typed.specs.Alone.{IsStmtAlone};
 
 use crate::typed::Parse;
 use gram_table::kind::{Kind, Plus, Position, Style};
@@ -49,7 +49,7 @@ impl<'a> Parse<'a> for File<'a, 'a> {
         Kind::AFile
     }
 
-    #[tactic(auto, using(syn_ast::proofs::Derived::shaped))]
+    #[tactic(auto, using(syn_part::proofs::Derived::shaped))]
     fn view(tree: &'a Tree<'a>) -> Option<File<'a, 'a>> {
         match File::of(tree) {
             Some(found) => Some(found),
@@ -69,7 +69,7 @@ impl<'a> Parse<'a> for Item<'a, 'a> {
         Kind::AnItem
     }
 
-    #[tactic(auto, using(syn_ast::proofs::Derived::shaped))]
+    #[tactic(auto, using(syn_part::proofs::Derived::shaped))]
     fn view(tree: &'a Tree<'a>) -> Option<Item<'a, 'a>> {
         match Item::of(tree) {
             Some(found) => Some(found),
@@ -89,7 +89,7 @@ impl<'a> Parse<'a> for DeriveInput<'a, 'a> {
         Kind::DeriveInput
     }
 
-    #[tactic(auto, using(syn_ast::proofs::Derived::shaped))]
+    #[tactic(auto, using(syn_part::proofs::Derived::shaped))]
     fn view(tree: &'a Tree<'a>) -> Option<DeriveInput<'a, 'a>> {
         match DeriveInput::of(tree) {
             Some(found) => Some(found),
@@ -109,7 +109,7 @@ impl<'a> Parse<'a> for UseTree<'a, 'a> {
         Kind::UseTree
     }
 
-    #[tactic(auto, using(syn_ast::proofs::Derived::shaped))]
+    #[tactic(auto, using(syn_part::proofs::Derived::shaped))]
     fn view(tree: &'a Tree<'a>) -> Option<UseTree<'a, 'a>> {
         match UseTree::of(tree) {
             Some(found) => Some(found),
@@ -129,7 +129,7 @@ impl<'a> Parse<'a> for Visibility<'a, 'a> {
         Kind::Visibility
     }
 
-    #[tactic(auto, using(syn_ast::proofs::Derived::shaped))]
+    #[tactic(auto, using(syn_part::proofs::Derived::shaped))]
     fn view(tree: &'a Tree<'a>) -> Option<Visibility<'a, 'a>> {
         match Visibility::of(tree) {
             Some(found) => Some(found),
@@ -149,7 +149,7 @@ impl<'a> Parse<'a> for OuterAttributes<'a, 'a> {
         Kind::OuterAttributes
     }
 
-    #[tactic(auto, using(syn_ast::proofs::Derived::shaped))]
+    #[tactic(auto, using(syn_part::proofs::Derived::shaped))]
     fn view(tree: &'a Tree<'a>) -> Option<OuterAttributes<'a, 'a>> {
         match OuterAttributes::of(tree) {
             Some(found) => Some(found),
@@ -169,7 +169,7 @@ impl<'a> Parse<'a> for InnerAttributes<'a, 'a> {
         Kind::InnerAttributes
     }
 
-    #[tactic(auto, using(syn_ast::proofs::Derived::shaped))]
+    #[tactic(auto, using(syn_part::proofs::Derived::shaped))]
     fn view(tree: &'a Tree<'a>) -> Option<InnerAttributes<'a, 'a>> {
         match InnerAttributes::of(tree) {
             Some(found) => Some(found),
@@ -189,7 +189,7 @@ impl<'a> Parse<'a> for Meta<'a, 'a> {
         Kind::Meta
     }
 
-    #[tactic(auto, using(syn_ast::proofs::Derived::shaped))]
+    #[tactic(auto, using(syn_part::proofs::Derived::shaped))]
     fn view(tree: &'a Tree<'a>) -> Option<Meta<'a, 'a>> {
         match Meta::of(tree) {
             Some(found) => Some(found),
@@ -209,7 +209,7 @@ impl<'a> Parse<'a> for Generics<'a, 'a> {
         Kind::Generics
     }
 
-    #[tactic(auto, using(syn_ast::proofs::Derived::shaped))]
+    #[tactic(auto, using(syn_part::proofs::Derived::shaped))]
     fn view(tree: &'a Tree<'a>) -> Option<Generics<'a, 'a>> {
         match Generics::of(tree) {
             Some(found) => Some(found),
@@ -229,7 +229,7 @@ impl<'a> Parse<'a> for WhereClause<'a, 'a> {
         Kind::WhereClause
     }
 
-    #[tactic(auto, using(syn_ast::proofs::Derived::shaped))]
+    #[tactic(auto, using(syn_part::proofs::Derived::shaped))]
     fn view(tree: &'a Tree<'a>) -> Option<WhereClause<'a, 'a>> {
         match WhereClause::of(tree) {
             Some(found) => Some(found),
@@ -249,7 +249,7 @@ impl<'a> Parse<'a> for Type<'a, 'a> {
         Kind::AType(Plus::WithPlus)
     }
 
-    #[tactic(auto, using(syn_ast::proofs::Derived::shaped))]
+    #[tactic(auto, using(syn_part::proofs::Derived::shaped))]
     fn view(tree: &'a Tree<'a>) -> Option<Type<'a, 'a>> {
         match Type::of(tree) {
             Some(found) => Some(found),
@@ -269,7 +269,7 @@ impl<'a> Parse<'a> for Path<'a, 'a> {
         Kind::Path(Style::InType)
     }
 
-    #[tactic(auto, using(syn_ast::proofs::Derived::shaped))]
+    #[tactic(auto, using(syn_part::proofs::Derived::shaped))]
     fn view(tree: &'a Tree<'a>) -> Option<Path<'a, 'a>> {
         match Path::of(tree) {
             Some(found) => Some(found),
@@ -289,7 +289,7 @@ impl<'a> Parse<'a> for Expr<'a, 'a> {
         Kind::Expression(Position::Plain)
     }
 
-    #[tactic(auto, using(syn_ast::proofs::Derived::shaped))]
+    #[tactic(auto, using(syn_part::proofs::Derived::shaped))]
     fn view(tree: &'a Tree<'a>) -> Option<Expr<'a, 'a>> {
         match Expr::of(tree) {
             Some(found) => Some(found),
@@ -309,7 +309,7 @@ impl<'a> Parse<'a> for Block<'a, 'a> {
         Kind::Block
     }
 
-    #[tactic(auto, using(syn_ast::proofs::Derived::shaped))]
+    #[tactic(auto, using(syn_part::proofs::Derived::shaped))]
     fn view(tree: &'a Tree<'a>) -> Option<Block<'a, 'a>> {
         match Block::of(tree) {
             Some(found) => Some(found),

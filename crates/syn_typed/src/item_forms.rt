@@ -2,8 +2,6 @@
 
 ghost use Rattle.gram_table.specs.Kinds.{kind_of};
 ghost use Rattle.std.specs.Prelude.{◌≡◌, MatchOption};
-ghost use Rattle.syn_ast.specs.Kept.{IsKept};
-ghost use Rattle.syn_ast.specs.Shape.{IsShaped};
 ghost use Rattle.syn_data.specs.Data.{named_field, unnamed_field};
 ghost use Rattle.syn_grammar.specs.Gram.{ref};
 ghost use Rattle.syn_grammar.specs.Kind as k;
@@ -13,6 +11,8 @@ ghost use Rattle.syn_item.specs.ItemForms.{Is};
 ghost use Rattle.syn_item.specs.ItemFunctions.{IsBehind, IsReceiver, IsSafety, parameter, signature};
 ghost use Rattle.syn_item.specs.ItemMembers.{associated_item, foreign_item, form_of_foreign_item, form_of_impl_item};
 ghost use Rattle.syn_item.specs.ItemMembers.{form_of_trait_item};
+ghost use Rattle.syn_part.specs.Kept.{IsKept};
+ghost use Rattle.syn_part.specs.Shape.{IsShaped};
 
 use crate::typed::Parse;
 use gram_table::kind::{Kind, Place};
@@ -74,7 +74,7 @@ impl<'a> Parse<'a> for NamedField<'a, 'a> {
         Kind::NamedField
     }
 
-    #[tactic(auto, using(syn_ast::proofs::Derived::shaped))]
+    #[tactic(auto, using(syn_part::proofs::Derived::shaped))]
     fn view(tree: &'a Tree<'a>) -> Option<NamedField<'a, 'a>> {
         match NamedField::of(tree) {
             Some(found) => Some(found),
@@ -94,7 +94,7 @@ impl<'a> Parse<'a> for UnnamedField<'a, 'a> {
         Kind::UnnamedField
     }
 
-    #[tactic(auto, using(syn_ast::proofs::Derived::shaped))]
+    #[tactic(auto, using(syn_part::proofs::Derived::shaped))]
     fn view(tree: &'a Tree<'a>) -> Option<UnnamedField<'a, 'a>> {
         match UnnamedField::of(tree) {
             Some(found) => Some(found),
@@ -114,7 +114,7 @@ impl<'a> Parse<'a> for Signature<'a, 'a> {
         Kind::Signature(Place::InFile)
     }
 
-    #[tactic(auto, using(syn_ast::proofs::Derived::shaped))]
+    #[tactic(auto, using(syn_part::proofs::Derived::shaped))]
     fn view(tree: &'a Tree<'a>) -> Option<Signature<'a, 'a>> {
         match Signature::of(tree) {
             Some(found) => Some(found),
@@ -134,7 +134,7 @@ impl<'a> Parse<'a> for Receiver<'a, 'a> {
         Kind::Receiver
     }
 
-    #[tactic(auto, using(syn_ast::proofs::Derived::shaped))]
+    #[tactic(auto, using(syn_part::proofs::Derived::shaped))]
     fn view(tree: &'a Tree<'a>) -> Option<Receiver<'a, 'a>> {
         match Receiver::of(tree) {
             Some(found) => Some(found),
@@ -188,7 +188,7 @@ impl<'a> Parse<'a> for ForeignItem<'a, 'a> {
         Kind::AForeignItem
     }
 
-    #[tactic(auto, using(syn_ast::proofs::Derived::shaped))]
+    #[tactic(auto, using(syn_part::proofs::Derived::shaped))]
     fn view(tree: &'a Tree<'a>) -> Option<ForeignItem<'a, 'a>> {
         match ForeignItem::of(tree) {
             Some(found) => Some(found),
@@ -208,7 +208,7 @@ impl<'a> Parse<'a> for AnyItem<'a> {
         Kind::AnItem
     }
 
-    #[tactic(auto, using(syn_ast::proofs::Derived::shaped))]
+    #[tactic(auto, using(syn_part::proofs::Derived::shaped))]
     fn view(tree: &'a Tree<'a>) -> Option<AnyItem<'a>> {
         match Item::of(tree) {
             Some(item) => Some(AnyItem { tree, item }),
@@ -228,7 +228,7 @@ impl<'a> Parse<'a> for OneForeignItem<'a> {
         Kind::AForeignItem
     }
 
-    #[tactic(auto, using(syn_ast::proofs::Derived::shaped))]
+    #[tactic(auto, using(syn_part::proofs::Derived::shaped))]
     fn view(tree: &'a Tree<'a>) -> Option<OneForeignItem<'a>> {
         match ForeignItem::of(tree) {
             Some(item) => Some(OneForeignItem { tree, item }),
@@ -248,7 +248,7 @@ impl<'a> Parse<'a> for OneTraitItem<'a> {
         Kind::ATraitItem
     }
 
-    #[tactic(auto, using(syn_ast::proofs::Derived::shaped))]
+    #[tactic(auto, using(syn_part::proofs::Derived::shaped))]
     fn view(tree: &'a Tree<'a>) -> Option<OneTraitItem<'a>> {
         match AssociatedItem::in_trait(tree) {
             Some(item) => Some(OneTraitItem { tree, item }),
@@ -268,7 +268,7 @@ impl<'a> Parse<'a> for OneImplItem<'a> {
         Kind::AnImplItem
     }
 
-    #[tactic(auto, using(syn_ast::proofs::Derived::shaped))]
+    #[tactic(auto, using(syn_part::proofs::Derived::shaped))]
     fn view(tree: &'a Tree<'a>) -> Option<OneImplItem<'a>> {
         match AssociatedItem::in_impl(tree) {
             Some(item) => Some(OneImplItem { tree, item }),
@@ -307,7 +307,7 @@ impl<'a> Parse<'a> for OneMacro<'a, 'a> {
         Kind::OneMacro(Place::InFile)
     }
 
-    #[tactic(auto, using(syn_ast::proofs::Derived::shaped))]
+    #[tactic(auto, using(syn_part::proofs::Derived::shaped))]
     fn view(tree: &'a Tree<'a>) -> Option<OneMacro<'a, 'a>> {
         match OneMacro::of(tree) {
             Some(found) => Some(found),

@@ -35,7 +35,7 @@ impl<'a> Parse<'a> for OneSegment<'a, 'a> {
         Kind::Segment(Style::InType)
     }
 
-    #[tactic(auto, using(syn_ast::proofs::Derived::shaped))]
+    #[tactic(auto, using(syn_part::proofs::Derived::shaped))]
     fn view(tree: &'a Tree<'a>) -> Option<OneSegment<'a, 'a>> {
         match OneSegment::of(tree) {
             Some(found) => Some(found),
@@ -55,7 +55,7 @@ impl<'a> Parse<'a> for GenericArgument<'a, 'a> {
         Kind::AnArgument
     }
 
-    #[tactic(auto, using(syn_ast::proofs::Derived::shaped))]
+    #[tactic(auto, using(syn_part::proofs::Derived::shaped))]
     fn view(tree: &'a Tree<'a>) -> Option<GenericArgument<'a, 'a>> {
         match GenericArgument::of(tree) {
             Some(found) => Some(found),
@@ -75,7 +75,7 @@ impl<'a> Parse<'a> for AngleBracketedGenericArguments<'a, 'a> {
         Kind::Arguments
     }
 
-    #[tactic(auto, using(syn_ast::proofs::Derived::shaped))]
+    #[tactic(auto, using(syn_part::proofs::Derived::shaped))]
     fn view(tree: &'a Tree<'a>) -> Option<AngleBracketedGenericArguments<'a, 'a>> {
         match AngleBracketedGenericArguments::of(tree) {
             Some(found) => Some(found),
@@ -95,7 +95,7 @@ impl<'a> Parse<'a> for ParenthesizedGenericArguments<'a, 'a> {
         Kind::ParenthesizedArguments
     }
 
-    #[tactic(auto, using(syn_ast::proofs::Derived::shaped))]
+    #[tactic(auto, using(syn_part::proofs::Derived::shaped))]
     fn view(tree: &'a Tree<'a>) -> Option<ParenthesizedGenericArguments<'a, 'a>> {
         match ParenthesizedGenericArguments::of(tree) {
             Some(found) => Some(found),
@@ -115,7 +115,7 @@ impl<'a> Parse<'a> for Macro<'a, 'a> {
         Kind::AMacro
     }
 
-    #[tactic(auto, using(syn_ast::proofs::Derived::shaped))]
+    #[tactic(auto, using(syn_part::proofs::Derived::shaped))]
     fn view(tree: &'a Tree<'a>) -> Option<Macro<'a, 'a>> {
         match Macro::of(tree) {
             Some(found) => Some(found),
@@ -135,7 +135,7 @@ impl<'a> Parse<'a> for Index<'a> {
         Kind::Index
     }
 
-    #[tactic(auto, using(syn_ast::proofs::Derived::shaped))]
+    #[tactic(auto, using(syn_part::proofs::Derived::shaped))]
     fn view(tree: &'a Tree<'a>) -> Option<Index<'a>> {
         match Index::of(tree) {
             Some(found) => Some(found),
@@ -155,7 +155,7 @@ impl<'a> Parse<'a> for Member<'a> {
         Kind::Member
     }
 
-    #[tactic(auto, using(syn_ast::proofs::Derived::shaped))]
+    #[tactic(auto, using(syn_part::proofs::Derived::shaped))]
     fn view(tree: &'a Tree<'a>) -> Option<Member<'a>> {
         match Member::of(tree) {
             Some(found) => Some(found),
@@ -175,7 +175,7 @@ impl<'a> Parse<'a> for GenericParam<'a, 'a> {
         Kind::GenericParam
     }
 
-    #[tactic(auto, using(syn_ast::proofs::Derived::shaped))]
+    #[tactic(auto, using(syn_part::proofs::Derived::shaped))]
     fn view(tree: &'a Tree<'a>) -> Option<GenericParam<'a, 'a>> {
         match GenericParam::of(tree) {
             Some(found) => Some(found),
@@ -195,7 +195,7 @@ impl<'a> Parse<'a> for LifetimeParam<'a, 'a> {
         Kind::LifetimeParam
     }
 
-    #[tactic(auto, using(syn_ast::proofs::Derived::shaped))]
+    #[tactic(auto, using(syn_part::proofs::Derived::shaped))]
     fn view(tree: &'a Tree<'a>) -> Option<LifetimeParam<'a, 'a>> {
         match LifetimeParam::of(tree) {
             Some(found) => Some(found),
@@ -215,7 +215,7 @@ impl<'a> Parse<'a> for TypeParam<'a, 'a> {
         Kind::TypeParam
     }
 
-    #[tactic(auto, using(syn_ast::proofs::Derived::shaped))]
+    #[tactic(auto, using(syn_part::proofs::Derived::shaped))]
     fn view(tree: &'a Tree<'a>) -> Option<TypeParam<'a, 'a>> {
         match TypeParam::of(tree) {
             Some(found) => Some(found),
@@ -235,7 +235,7 @@ impl<'a> Parse<'a> for ConstParam<'a, 'a> {
         Kind::ConstParam
     }
 
-    #[tactic(auto, using(syn_ast::proofs::Derived::shaped))]
+    #[tactic(auto, using(syn_part::proofs::Derived::shaped))]
     fn view(tree: &'a Tree<'a>) -> Option<ConstParam<'a, 'a>> {
         match ConstParam::of(tree) {
             Some(found) => Some(found),
@@ -255,7 +255,7 @@ impl<'a> Parse<'a> for WherePredicate<'a, 'a> {
         Kind::WherePredicate
     }
 
-    #[tactic(auto, using(syn_ast::proofs::Derived::shaped))]
+    #[tactic(auto, using(syn_part::proofs::Derived::shaped))]
     fn view(tree: &'a Tree<'a>) -> Option<WherePredicate<'a, 'a>> {
         match WherePredicate::of(tree) {
             Some(found) => Some(found),
@@ -275,7 +275,7 @@ impl<'a> Parse<'a> for TypeParamBound<'a, 'a> {
         Kind::Bound
     }
 
-    #[tactic(auto, using(syn_ast::proofs::Derived::shaped))]
+    #[tactic(auto, using(syn_part::proofs::Derived::shaped))]
     fn view(tree: &'a Tree<'a>) -> Option<TypeParamBound<'a, 'a>> {
         match TypeParamBound::of(tree) {
             Some(found) => Some(found),
@@ -295,7 +295,7 @@ impl<'a> Parse<'a> for TraitBound<'a, 'a> {
         Kind::TraitPath
     }
 
-    #[tactic(auto, using(syn_ast::proofs::Derived::shaped))]
+    #[tactic(auto, using(syn_part::proofs::Derived::shaped))]
     fn view(tree: &'a Tree<'a>) -> Option<TraitBound<'a, 'a>> {
         match TraitBound::of(tree) {
             Some(found) => Some(found),
@@ -315,7 +315,7 @@ impl<'a> Parse<'a> for FieldsNamed<'a, 'a> {
         Kind::NamedFields
     }
 
-    #[tactic(auto, using(syn_ast::proofs::Derived::shaped))]
+    #[tactic(auto, using(syn_part::proofs::Derived::shaped))]
     fn view(tree: &'a Tree<'a>) -> Option<FieldsNamed<'a, 'a>> {
         match FieldsNamed::of(tree) {
             Some(found) => Some(found),
@@ -335,7 +335,7 @@ impl<'a> Parse<'a> for FieldsUnnamed<'a, 'a> {
         Kind::UnnamedFields
     }
 
-    #[tactic(auto, using(syn_ast::proofs::Derived::shaped))]
+    #[tactic(auto, using(syn_part::proofs::Derived::shaped))]
     fn view(tree: &'a Tree<'a>) -> Option<FieldsUnnamed<'a, 'a>> {
         match FieldsUnnamed::of(tree) {
             Some(found) => Some(found),
@@ -355,7 +355,7 @@ impl<'a> Parse<'a> for Variant<'a, 'a> {
         Kind::Variant
     }
 
-    #[tactic(auto, using(syn_ast::proofs::Derived::shaped))]
+    #[tactic(auto, using(syn_part::proofs::Derived::shaped))]
     fn view(tree: &'a Tree<'a>) -> Option<Variant<'a, 'a>> {
         match Variant::of(tree) {
             Some(found) => Some(found),
@@ -375,7 +375,7 @@ impl<'a> Parse<'a> for Label<'a> {
         Kind::Label
     }
 
-    #[tactic(auto, using(syn_ast::proofs::Derived::shaped))]
+    #[tactic(auto, using(syn_part::proofs::Derived::shaped))]
     fn view(tree: &'a Tree<'a>) -> Option<Label<'a>> {
         match Label::of(tree) {
             Some(found) => Some(found),
@@ -395,7 +395,7 @@ impl<'a> Parse<'a> for FieldValue<'a, 'a> {
         Kind::FieldValue
     }
 
-    #[tactic(auto, using(syn_ast::proofs::Derived::shaped))]
+    #[tactic(auto, using(syn_part::proofs::Derived::shaped))]
     fn view(tree: &'a Tree<'a>) -> Option<FieldValue<'a, 'a>> {
         match FieldValue::of(tree) {
             Some(found) => Some(found),

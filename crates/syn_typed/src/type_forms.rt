@@ -26,7 +26,7 @@ impl<'a> Parse<'a> for TypeReference<'a, 'a> {
         Kind::ReferenceType
     }
 
-    #[tactic(auto, using(syn_ast::proofs::Derived::shaped))]
+    #[tactic(auto, using(syn_part::proofs::Derived::shaped))]
     fn view(tree: &'a Tree<'a>) -> Option<TypeReference<'a, 'a>> {
         match TypeReference::of(tree) {
             Some(found) => Some(found),
@@ -46,7 +46,7 @@ impl<'a> Parse<'a> for TypePtr<'a, 'a> {
         Kind::PointerType
     }
 
-    #[tactic(auto, using(syn_ast::proofs::Derived::shaped))]
+    #[tactic(auto, using(syn_part::proofs::Derived::shaped))]
     fn view(tree: &'a Tree<'a>) -> Option<TypePtr<'a, 'a>> {
         match TypePtr::of(tree) {
             Some(found) => Some(found),
@@ -66,7 +66,7 @@ impl<'a> Parse<'a> for TypeNever {
         Kind::NeverType
     }
 
-    #[tactic(auto, using(syn_ast::proofs::Derived::shaped))]
+    #[tactic(auto, using(syn_part::proofs::Derived::shaped))]
     fn view(tree: &'a Tree<'a>) -> Option<TypeNever> {
         match TypeNever::of(tree) {
             Some(found) => Some(found),
@@ -86,7 +86,7 @@ impl<'a> Parse<'a> for TypeInfer<'a> {
         Kind::InferType
     }
 
-    #[tactic(auto, using(syn_ast::proofs::Derived::shaped))]
+    #[tactic(auto, using(syn_part::proofs::Derived::shaped))]
     fn view(tree: &'a Tree<'a>) -> Option<TypeInfer<'a>> {
         match TypeInfer::of(tree) {
             Some(found) => Some(found),
@@ -106,7 +106,7 @@ impl<'a> Parse<'a> for TypeFnPtr<'a, 'a> {
         Kind::FnPtrType
     }
 
-    #[tactic(auto, using(syn_ast::proofs::Derived::shaped))]
+    #[tactic(auto, using(syn_part::proofs::Derived::shaped))]
     fn view(tree: &'a Tree<'a>) -> Option<TypeFnPtr<'a, 'a>> {
         match TypeFnPtr::of(tree) {
             Some(found) => Some(found),
@@ -126,7 +126,7 @@ impl<'a> Parse<'a> for TypeTraitObject<'a, 'a> {
         Kind::DynType(Plus::WithPlus)
     }
 
-    #[tactic(auto, using(syn_ast::proofs::Derived::shaped))]
+    #[tactic(auto, using(syn_part::proofs::Derived::shaped))]
     fn view(tree: &'a Tree<'a>) -> Option<TypeTraitObject<'a, 'a>> {
         match TypeTraitObject::of(tree) {
             Some(found) => Some(found),
@@ -146,7 +146,7 @@ impl<'a> Parse<'a> for TypeImplTrait<'a, 'a> {
         Kind::ImplType(Plus::WithPlus)
     }
 
-    #[tactic(auto, using(syn_ast::proofs::Derived::shaped))]
+    #[tactic(auto, using(syn_part::proofs::Derived::shaped))]
     fn view(tree: &'a Tree<'a>) -> Option<TypeImplTrait<'a, 'a>> {
         match TypeImplTrait::of(tree) {
             Some(found) => Some(found),
@@ -166,7 +166,7 @@ impl<'a> Parse<'a> for TypePath<'a, 'a> {
         Kind::AnyPath(Style::InType)
     }
 
-    #[tactic(auto, using(syn_ast::proofs::Derived::shaped))]
+    #[tactic(auto, using(syn_part::proofs::Derived::shaped))]
     fn view(tree: &'a Tree<'a>) -> Option<TypePath<'a, 'a>> {
         match TypePath::of(tree) {
             Some(found) => Some(found),
@@ -186,7 +186,7 @@ impl<'a> Parse<'a> for FnPtrArg<'a, 'a> {
         Kind::FnPtrArg
     }
 
-    #[tactic(auto, using(syn_ast::proofs::Derived::shaped))]
+    #[tactic(auto, using(syn_part::proofs::Derived::shaped))]
     fn view(tree: &'a Tree<'a>) -> Option<FnPtrArg<'a, 'a>> {
         match FnPtrArg::of(tree) {
             Some(found) => Some(found),
@@ -206,7 +206,7 @@ impl<'a> Parse<'a> for Abi<'a> {
         Kind::Abi
     }
 
-    #[tactic(auto, using(syn_ast::proofs::Derived::shaped))]
+    #[tactic(auto, using(syn_part::proofs::Derived::shaped))]
     fn view(tree: &'a Tree<'a>) -> Option<Abi<'a>> {
         match Abi::of(tree) {
             Some(found) => Some(found),
@@ -226,7 +226,7 @@ impl<'a> Parse<'a> for BoundLifetimes<'a, 'a> {
         Kind::BoundLifetimes
     }
 
-    #[tactic(auto, using(syn_ast::proofs::Derived::shaped))]
+    #[tactic(auto, using(syn_part::proofs::Derived::shaped))]
     fn view(tree: &'a Tree<'a>) -> Option<BoundLifetimes<'a, 'a>> {
         match BoundLifetimes::of(tree) {
             Some(found) => Some(found),
@@ -246,7 +246,7 @@ impl<'a> Parse<'a> for ReturnType<'a, 'a> {
         Kind::ReturnType(Plus::WithPlus)
     }
 
-    #[tactic(auto, using(syn_ast::proofs::Derived::shaped))]
+    #[tactic(auto, using(syn_part::proofs::Derived::shaped))]
     fn view(tree: &'a Tree<'a>) -> Option<ReturnType<'a, 'a>> {
         match ReturnType::of(tree) {
             Some(found) => Some(found),
@@ -266,7 +266,7 @@ impl<'a> Parse<'a> for TypeBracketed<'a, 'a> {
         Kind::BracketType
     }
 
-    #[tactic(auto, using(syn_ast::proofs::Derived::shaped))]
+    #[tactic(auto, using(syn_part::proofs::Derived::shaped))]
     fn view(tree: &'a Tree<'a>) -> Option<TypeBracketed<'a, 'a>> {
         match TypeBracketed::of(tree) {
             Some(found) => Some(found),
@@ -286,7 +286,7 @@ impl<'a> Parse<'a> for TypeParenthesized<'a, 'a> {
         Kind::TupleType
     }
 
-    #[tactic(auto, using(syn_ast::proofs::Derived::shaped))]
+    #[tactic(auto, using(syn_part::proofs::Derived::shaped))]
     fn view(tree: &'a Tree<'a>) -> Option<TypeParenthesized<'a, 'a>> {
         match TypeParenthesized::of(tree) {
             Some(found) => Some(found),

@@ -2,8 +2,8 @@
 use Rattle.gram_tree.specs.Forms.{seconds}
 use Rattle.std.proofs.Common.{◌∙◌, ap, inl, inr, subst, sym}
 use Rattle.std.specs.Prelude.{◌≡◌, ◌⊎◌, Bool, cond, false, refl, true, ℕ, suc, zero}
-use Rattle.syn_ast.proofs.Absent.{shaped_never}
-use Rattle.syn_ast.specs.Shape.{IsShaped}
+use Rattle.syn_part.proofs.Absent.{shaped_never}
+use Rattle.syn_part.specs.Shape.{IsShaped}
 use Rattle.syn_data.specs.Derive.{attributes_of, visibility_of}
 use Rattle.syn_grammar.specs.Gram as g
 use Rattle.syn_grammar.specs.Kind as k

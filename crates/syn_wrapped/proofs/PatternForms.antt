@@ -1,13 +1,13 @@
 -- Patterns of their forms have that form, and the shape of their entry where the form has it.
 use Rattle.std.specs.Prelude.{◌≡◌, Option, Some, None, refl}
 use Rattle.std.proofs.Common.{◌∙◌, ap, subst, sym}
-use Rattle.syn_ast.specs.Pat.{form_of_pat, pat_tree}
-use Rattle.syn_ast.specs.Shape.{IsShaped}
-use Rattle.syn_ast.specs.declared.pat.Pat.{Pat}
-use Rattle.syn_ast.specs.declared.patterns.PatOr.{PatOr}
-use Rattle.syn_ast.specs.declared.patterns.RangeBound.{RangeBound}
-use Rattle.syn_ast.specs.declared.pat.Pat.TheVariants as pats
-use Rattle.syn_ast.specs.declared.patterns.RangeBound.TheVariants as bounds
+use Rattle.syn_pat.specs.Pat.{form_of_pat, pat_tree}
+use Rattle.syn_part.specs.Shape.{IsShaped}
+use Rattle.syn_pat.specs.declared.pat.Pat.{Pat}
+use Rattle.syn_pat.specs.declared.patterns.PatOr.{PatOr}
+use Rattle.syn_pat.specs.declared.patterns.RangeBound.{RangeBound}
+use Rattle.syn_pat.specs.declared.pat.Pat.TheVariants as pats
+use Rattle.syn_pat.specs.declared.patterns.RangeBound.TheVariants as bounds
 use Rattle.syn_grammar.specs.Gram as g
 use Rattle.syn_grammar.specs.Kind as k
 use Rattle.syn_grammar.specs.Part.{choice}

@@ -7,7 +7,7 @@ use Rattle.gram_tree.specs.Shapes.{node_of}
 use Rattle.gram_tree.specs.Forms.{seconds}
 use Rattle.std.proofs.Common.{ap, ◌∙◌, inl, inr, subst, sym}
 use Rattle.std.specs.Prelude.{◌≡◌, ◌⊎◌, Bool, cond, Option, None, Some, false, refl, true}
-use Rattle.syn_ast.specs.declared.leaf.Mark.{Mark}
+use Rattle.syn_part.specs.declared.leaf.Mark.{Mark}
 use Rattle.syn_expr.specs.Statements.{IsAlternative, IsStmt, called_macro, expression_tree, stmt_macro}
 use Rattle.syn_expr.specs.declared.stmt.Stmt.{Stmt}
 use Rattle.syn_expr.specs.declared.stmt.Stmt.TheVariants as stmts

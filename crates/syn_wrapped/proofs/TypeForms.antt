@@ -2,7 +2,7 @@
 use Rattle.gram_tree.specs.Forms.{seconds}
 use Rattle.std.specs.Prelude.{◌≡◌, refl}
 use Rattle.std.proofs.Common.{◌∙◌, ap, subst, sym}
-use Rattle.syn_ast.specs.Shape.{IsShaped}
+use Rattle.syn_part.specs.Shape.{IsShaped}
 use Rattle.syn_ast.specs.Types.{form_of_type, type_tree}
 use Rattle.syn_ast.specs.declared.types.TypePath.{TypePath}
 use Rattle.syn_ast.specs.declared.types.«Type».{«Type» as Type'}

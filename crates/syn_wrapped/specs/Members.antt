@@ -1,7 +1,7 @@
 -- Items of traits, impls and extern blocks, of what stands before them and their form.
 use Rattle.rust_leaf.specs.declared.ident.Ident.{Ident}
 use Rattle.std.specs.Prelude.{Option}
-use Rattle.syn_ast.specs.Leaves.{optional_tree}
+use Rattle.syn_part.specs.Leaves.{optional_tree}
 use Rattle.syn_grammar.specs.Kind as k
 use Rattle.syn_grammar.specs.Name as n
 use Rattle.syn_grammar.specs.Tree as t

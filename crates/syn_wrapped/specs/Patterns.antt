@@ -2,14 +2,14 @@
 use Rattle.std.specs.Prelude.{Option, Some, None}
 use Rattle.proc_macro2.specs.declared.delimiter.Delimiter.TheVariants.{Parenthesis}
 use Rattle.gram_tree.specs.Forms.{seconds}
-use Rattle.syn_ast.specs.Leaves.{turns_tree}
-use Rattle.syn_ast.specs.Pat.{alternatives, alternatives_tree, pat_tree, range_form}
-use Rattle.syn_ast.specs.Patterns.{pat_ident, pat_or, pat_reference, pat_rest, pat_slice, pat_wild}
-use Rattle.syn_ast.specs.declared.pat.Pat.{Pat}
-use Rattle.syn_ast.specs.declared.patterns.PatOr.{PatOr}
-use Rattle.syn_ast.specs.declared.patterns.RangeBound.{RangeBound}
-use Rattle.syn_ast.specs.declared.pat.Pat.TheVariants as pats
-use Rattle.syn_ast.specs.declared.patterns.RangeBound.TheVariants as bounds
+use Rattle.syn_part.specs.Leaves.{turns_tree}
+use Rattle.syn_pat.specs.Pat.{alternatives, alternatives_tree, pat_tree, range_form}
+use Rattle.syn_pat.specs.Patterns.{pat_ident, pat_or, pat_reference, pat_rest, pat_slice, pat_wild}
+use Rattle.syn_pat.specs.declared.pat.Pat.{Pat}
+use Rattle.syn_pat.specs.declared.patterns.PatOr.{PatOr}
+use Rattle.syn_pat.specs.declared.patterns.RangeBound.{RangeBound}
+use Rattle.syn_pat.specs.declared.pat.Pat.TheVariants as pats
+use Rattle.syn_pat.specs.declared.patterns.RangeBound.TheVariants as bounds
 use Rattle.syn_grammar.specs.Kind as k
 use Rattle.syn_grammar.specs.Part.{choice}
 use Rattle.syn_grammar.specs.Tree as t

@@ -1,7 +1,7 @@
 -- What stands in the tree of a statement: the form behind the alternatives before its own.
 use Rattle.gram_tree.specs.Forms.{seconds}
 use Rattle.std.specs.Prelude.{◌≡◌, Bool, false, None, Option, Some, cond, not}
-use Rattle.syn_ast.specs.declared.leaf.Mark.{Mark}
+use Rattle.syn_part.specs.declared.leaf.Mark.{Mark}
 use Rattle.syn_expr.specs.Statements.{called_macro, expression_tree, stmt_expr, stmt_local, stmt_macro}
 use Rattle.syn_expr.specs.declared.stmt.Stmt.{Stmt}
 use Rattle.syn_expr.specs.declared.stmt.Stmt.TheVariants as stmts

@@ -4,7 +4,6 @@ ghost use Rattle.gram_table.specs.Kinds.{kind_of, place_of};
 ghost use Rattle.gram_table.specs.Parts.{part_of};
 ghost use Rattle.gram_tree.specs.Forms.{turns as in_turn};
 ghost use Rattle.std.specs.Prelude.{◌≡◌, ◌↔◌, IfOk, IfSome, IsTrue, MatchOption, cond};
-ghost use Rattle.syn_ast.specs.Shape.{IsShaped};
 ghost use Rattle.syn_data.specs.Derive.{attributes_of, visibility_of};
 ghost use Rattle.syn_grammar.specs.Gram as g;
 ghost use Rattle.syn_grammar.specs.Kind as k;
@@ -13,6 +12,7 @@ ghost use Rattle.syn_grammar.specs.Tree as t;
 ghost use Rattle.syn_item.specs.ItemForms.{HasForm, Is};
 ghost use Rattle.syn_item.specs.ItemMembers.{associated_item, foreign_item, form_of_foreign_item, form_of_impl_item};
 ghost use Rattle.syn_item.specs.ItemMembers.{form_of_trait_item};
+ghost use Rattle.syn_part.specs.Shape.{IsShaped};
 ghost use Rattle.syn_wrapped.specs.Among.{IsKeptIn, IsOfForm, MayStand, among_item, before, form_entry, holds};
 ghost use Rattle.syn_wrapped.specs.Among.{item_parts, kept_item};
 ghost use Rattle.syn_wrapped.specs.Members.{IsForeign, IsMember, foreign_inside, member_inside, member_parts};
@@ -26,7 +26,6 @@ use gram_tree::made;
 use gram_tree::tree::Tree;
 use rust_leaf::ident::Ident;
 use std::alloc::AllocError;
-use syn_ast::list::Turns;
 use syn_item::item::{Item, ItemForm};
 use syn_item::members::{
     AssociatedForm, AssociatedItem, ForeignForm, ForeignItem, ImplItem, TraitItem,
@@ -35,6 +34,7 @@ use syn_made::forms::{Called, First, Second};
 use syn_made::item::part::MaybeCalled;
 use syn_made::put::node;
 use syn_made::to_tree::ToTree;
+use syn_part::list::Turns;
 
 // Whether a node has a part of that name.
 fn holds(tree: &Tree<'_>, part: Part) -> bool

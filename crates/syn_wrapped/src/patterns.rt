@@ -1,11 +1,11 @@
 //! Patterns of their forms, for where one stands.
 
 ghost use Rattle.std.specs.Prelude.{◌≡◌, IfOk, IfSome, MatchOption};
-ghost use Rattle.syn_ast.specs.Pat.{form_of_pat, pat_tree, range_form};
-ghost use Rattle.syn_ast.specs.Shape.{IsShaped};
 ghost use Rattle.syn_grammar.specs.Gram as g;
 ghost use Rattle.syn_grammar.specs.Kind as k;
 ghost use Rattle.syn_made.specs.MadeAst.{IsRange, IsWholePat};
+ghost use Rattle.syn_part.specs.Shape.{IsShaped};
+ghost use Rattle.syn_pat.specs.Pat.{form_of_pat, pat_tree, range_form};
 ghost use Rattle.syn_wrapped.specs.Patterns.{in_parens, one_form_of, one_inside, one_pattern_tree, pat_kind};
 ghost use Rattle.syn_wrapped.specs.Patterns.{pattern_form_of, pattern_tree, range_inside_one, several_form_of};
 ghost use Rattle.syn_wrapped.specs.Patterns.{several_tree};
@@ -17,15 +17,15 @@ use gram_tree::tree::Tree;
 use proc_macro2::delimiter::Delimiter;
 use rust_map::span::Span;
 use std::alloc::AllocError;
-use syn_ast::leaf::Delimiters;
-use syn_ast::list::Turns;
-use syn_ast::pat::{Pat, PatRange};
-use syn_ast::patterns::{PatOr, RangeBound};
 use syn_made::forms::{First, Grouped, Second, Seconds};
 use syn_made::lists::Only;
 use syn_made::put::node;
 use syn_made::to_tree::ToTree;
 use syn_made::try_to_tree::TryToTree;
+use syn_part::leaf::Delimiters;
+use syn_part::list::Turns;
+use syn_pat::pat::{Pat, PatRange};
+use syn_pat::patterns::{PatOr, RangeBound};
 
 // Alternatives in parentheses.
 #[derive(Clone, Copy)]

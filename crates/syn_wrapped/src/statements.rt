@@ -16,13 +16,13 @@ use gram_tree::arena::Arena;
 use gram_tree::made;
 use gram_tree::tree::Tree;
 use std::alloc::AllocError;
-use syn_ast::leaf::Delimiters;
 use syn_expr::blocks::ExprMacro;
 use syn_expr::stmt::{BlockStmt, Stmt, StmtExpr, StmtMacro};
 use syn_made::expr::whole::expression;
 use syn_made::forms::{First, Grouped, Node};
 use syn_made::put::{behind, node, nth};
 use syn_made::to_tree::ToTree;
+use syn_part::leaf::Delimiters;
 
 // Whether the form of an item is a macro that has a name behind its `!`.
 #[tactic(auto, using(crate::proofs::StatementForms::macro_form_at))]

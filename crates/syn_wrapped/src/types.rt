@@ -4,12 +4,12 @@ ghost use Rattle.gram_table.specs.Kinds.{plus_of};
 ghost use Rattle.gram_tree.specs.Forms.{seconds};
 ghost use Rattle.std.specs.Prelude.{◌≡◌, ◌↔◌, IfOk, IfSome, IsTrue, MatchOption};
 ghost use Rattle.syn_ast.specs.Paths.{path};
-ghost use Rattle.syn_ast.specs.Shape.{IsShaped};
 ghost use Rattle.syn_ast.specs.Types.{form_of_type, type_tree};
 ghost use Rattle.syn_grammar.specs.Gram as g;
 ghost use Rattle.syn_grammar.specs.Kind as k;
 ghost use Rattle.syn_grammar.specs.Tree as t;
 ghost use Rattle.syn_made.specs.MadeAst.{IsWholeType};
+ghost use Rattle.syn_part.specs.Shape.{IsShaped};
 ghost use Rattle.syn_wrapped.specs.Types.{IsTypeAt, before_type, type_inside, type_kind};
 
 use gram_table::kind::{Kind, Plus, Style};

@@ -10,9 +10,9 @@ use crate::expr::forms;
 use gram_table::kind::Kind;
 use gram_tree::tree::Tree;
 use rust_leaf::ident::Ident;
-use syn_ast::leaf::{Delimiters, Lifetime};
-use syn_ast::sub::{Lit, as_lit};
-use syn_ast::take;
+use syn_part::leaf::{Delimiters, Lifetime};
+use syn_part::sub::{Lit, as_lit};
+use syn_part::take;
 
 /// A literal: `1`, `"a"`, `true`.
 #[derive(Clone, Copy)]

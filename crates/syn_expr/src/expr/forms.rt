@@ -2,19 +2,19 @@
 
 ghost use Rattle.gram_table.specs.Kinds.{kind_of};
 ghost use Rattle.std.specs.Prelude.{◌<◌, ◌≡◌, IfSome, List, MatchOption, cond, length, ℕ};
-ghost use Rattle.syn_ast.specs.Leaves.{mark_tree};
-ghost use Rattle.syn_ast.specs.Shape.{IsShaped};
 ghost use Rattle.syn_expr.specs.ExprForms.{IsAlone, IsBack, IsForm, IsFront, IsInfix, IsJump, form_tree, jump_tree};
 ghost use Rattle.syn_expr.specs.ExprForms.{nth_tree};
 ghost use Rattle.syn_grammar.specs.Kind.{Kind as GivenKind};
 ghost use Rattle.syn_grammar.specs.Say.{one_sign};
 ghost use Rattle.syn_grammar.specs.Tree as t;
 ghost use Rattle.syn_grammar.specs.Tree.{Tree as GivenTree};
+ghost use Rattle.syn_part.specs.Leaves.{mark_tree};
+ghost use Rattle.syn_part.specs.Shape.{IsShaped};
 
 use gram_table::kind::Kind;
 use gram_tree::tree::{Form, Tree};
-use syn_ast::leaf::Mark;
-use syn_ast::take;
+use syn_part::leaf::Mark;
+use syn_part::take;
 
 /// Of a form by itself its kind and its own part.
 #[tactic(auto, using(crate::proofs::ExprForms::alones))]

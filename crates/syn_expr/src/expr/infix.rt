@@ -7,8 +7,8 @@ use crate::expr::forms;
 use crate::expr::ops::{BinOp, bin_op};
 use gram_table::kind::Kind;
 use gram_tree::tree::Tree;
-use syn_ast::leaf::Mark;
-use syn_ast::take;
+use syn_part::leaf::Mark;
+use syn_part::take;
 
 /// An assignment: `a = b`.
 #[derive(Clone, Copy)]

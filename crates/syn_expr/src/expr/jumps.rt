@@ -2,13 +2,13 @@
 
 ghost use Rattle.proc_macro2.specs.Token.{Token};
 ghost use Rattle.std.specs.Prelude.{Bool, List, MatchOption, ◌≡◌, ◌⊎◌};
-ghost use Rattle.syn_ast.specs.Leaves.{optional_tree};
-ghost use Rattle.syn_ast.specs.Shape.{IsShaped};
 ghost use Rattle.syn_expr.specs.ExprForms.{IsForm, IsJump};
 ghost use Rattle.syn_expr.specs.ExprJumps.{break_label_tree, expr_break, expr_range, expr_return, expr_yield};
 ghost use Rattle.syn_grammar.specs.Gram as g;
 ghost use Rattle.syn_grammar.specs.Kind as k;
 ghost use Rattle.syn_grammar.specs.Name as n;
+ghost use Rattle.syn_part.specs.Leaves.{optional_tree};
+ghost use Rattle.syn_part.specs.Shape.{IsShaped};
 
 use crate::expr::forms;
 use crate::expr::ops::range_limits;
@@ -16,10 +16,10 @@ use gram_table::kind::Kind;
 use gram_table::part::Part;
 use gram_tree::tree::Tree;
 use rust_leaf::ident::Ident;
-use syn_ast::leaf::Lifetime;
-use syn_ast::missing::nothing;
-use syn_ast::patterns::RangeLimits;
-use syn_ast::{inside, take};
+use syn_part::leaf::Lifetime;
+use syn_part::missing::nothing;
+use syn_part::{inside, take};
+use syn_pat::patterns::RangeLimits;
 
 /// A loop or a block that is left: `break 'a b`.
 #[derive(Clone, Copy)]
@@ -49,7 +49,7 @@ fn as_break_label<'a>(tree: &Tree<'a>) -> Option<Option<Lifetime<'a>>>
 }
 
 // One, behind which nothing stands.
-#[tactic(auto, using(syn_ast::proofs::Absent::never_or))]
+#[tactic(auto, using(syn_part::proofs::Absent::never_or))]
 fn whole_break_label<'a>(tree: &Tree<'a>) -> Option<Lifetime<'a>>
     ensures { MatchOption result ((t2 : List Token → Bool) → IsShaped tree.now
         (g.seq (g.called n.the_label g.lifetime) (g.alt t2 g.never g.nothing)) → ⊥)

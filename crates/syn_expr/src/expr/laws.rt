@@ -2,7 +2,6 @@
 
 ghost use Rattle.proc_macro2.specs.Token.{Token};
 ghost use Rattle.std.specs.Prelude.{List, true, ◌≡◌};
-ghost use Rattle.syn_ast.specs.Kept.{IsKept};
 ghost use Rattle.syn_expr.specs.ExprWhole.{IsExpr};
 ghost use Rattle.syn_expr.specs.Judged.{keeps_trees};
 ghost use Rattle.syn_grammar.specs.Derives.{Bound, Derives};
@@ -10,6 +9,7 @@ ghost use Rattle.syn_grammar.specs.Forms.{form_of};
 ghost use Rattle.syn_grammar.specs.Gram as g;
 ghost use Rattle.syn_grammar.specs.Kind as k;
 ghost use Rattle.syn_grammar.specs.Tree as t;
+ghost use Rattle.syn_part.specs.Kept.{IsKept};
 
 /// What was read as an expression is one, by its form, and so is each operand of it. So where a tree was read as an
 /// expression, `Expr::of` says which, and of each operand too.

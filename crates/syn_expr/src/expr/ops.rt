@@ -2,20 +2,20 @@
 
 ghost use Rattle.gram_table.specs.Kinds.{kind_of};
 ghost use Rattle.std.specs.Prelude.{MatchOption, ◌≡◌};
-ghost use Rattle.syn_ast.specs.Shape.{IsShaped};
 ghost use Rattle.syn_expr.specs.ExprOps.{IsLimits, IsOperator, Operates, limits_kind, limits_tree, un_op_tree};
 ghost use Rattle.syn_grammar.specs.Expressions.{expr_assign, expr_compare, expr_product, expr_shift, expr_sum};
 ghost use Rattle.syn_grammar.specs.Expressions.{expr_unary};
 ghost use Rattle.syn_grammar.specs.Kind as k;
 ghost use Rattle.syn_grammar.specs.Tree as t;
 ghost use Rattle.syn_grammar.specs.Tree.{Tree as GivenTree};
+ghost use Rattle.syn_part.specs.Shape.{IsShaped};
 
 use crate::expr::forms;
 use gram_table::kind::Kind;
 use gram_tree::tree::Tree;
-use syn_ast::leaf::Mark;
-use syn_ast::patterns::RangeLimits;
-use syn_ast::take;
+use syn_part::leaf::Mark;
+use syn_part::take;
+use syn_pat::patterns::RangeLimits;
 
 /// A unary operator.
 #[derive(Clone, Copy)]

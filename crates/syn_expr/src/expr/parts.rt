@@ -2,8 +2,6 @@
 
 ghost use Rattle.proc_macro2.specs.Token.{Token};
 ghost use Rattle.std.specs.Prelude.{Bool, List, MatchOption, false, ℕ, ◌≡◌};
-ghost use Rattle.syn_ast.specs.Kept.{IsKept};
-ghost use Rattle.syn_ast.specs.Shape.{IsShaped, may_choose};
 ghost use Rattle.syn_expr.specs.ExprParts.{a_field_value, arm, arm_comma_tree, field_init_tree};
 ghost use Rattle.syn_expr.specs.ExprParts.{field_member_tree, field_value, field_values};
 ghost use Rattle.syn_expr.specs.ExprParts.{member_value_tree, rest_tree, struct_rest_tree};
@@ -11,17 +9,19 @@ ghost use Rattle.syn_grammar.specs.Gram as g;
 ghost use Rattle.syn_grammar.specs.Kind as k;
 ghost use Rattle.syn_grammar.specs.Name as n;
 ghost use Rattle.syn_grammar.specs.Tree as t;
+ghost use Rattle.syn_part.specs.Kept.{IsKept};
+ghost use Rattle.syn_part.specs.Shape.{IsShaped, may_choose};
 
 use crate::part;
 use gram_table::kind::Kind;
 use gram_table::part::Part;
 use gram_tree::tree::Tree;
-use syn_ast::leaf::{Delimiters, Mark};
-use syn_ast::list::Elements;
 use syn_ast::paths::{Index, Member};
-use syn_ast::sub::{Worded, optional_as_worded};
-use syn_ast::take::{self, Choice, Choice3};
-use syn_ast::{inside, joined};
+use syn_part::leaf::{Delimiters, Mark};
+use syn_part::list::Elements;
+use syn_part::sub::{Worded, optional_as_worded};
+use syn_part::take::{self, Choice, Choice3};
+use syn_part::{inside, joined};
 
 /// A name or an index behind a dot, each by its name as a part. `None` only of trees that have another shape.
 pub fn as_field_member<'a>(tree: &Tree<'a>) -> Option<Member<'a>>

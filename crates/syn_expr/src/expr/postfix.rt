@@ -2,13 +2,13 @@
 
 ghost use Rattle.proc_macro2.specs.Token.{Token};
 ghost use Rattle.std.specs.Prelude.{Bool, List, MatchOption, ℕ, ◌≡◌};
-ghost use Rattle.syn_ast.specs.Shape.{IsShaped};
 ghost use Rattle.syn_expr.specs.ExprForms.{IsBack};
 ghost use Rattle.syn_expr.specs.ExprPostfix.{dot_tree, expr_await, expr_call, expr_cast, expr_field, expr_index};
 ghost use Rattle.syn_expr.specs.ExprPostfix.{expr_method_call, expr_struct, expr_try};
 ghost use Rattle.syn_grammar.specs.Gram as g;
 ghost use Rattle.syn_grammar.specs.Kind as k;
 ghost use Rattle.syn_grammar.specs.Name as n;
+ghost use Rattle.syn_part.specs.Shape.{IsShaped};
 
 use crate::expr::forms;
 use crate::expr::parts::as_field_member;
@@ -17,11 +17,11 @@ use gram_table::kind::Kind;
 use gram_table::part::Part;
 use gram_tree::tree::Tree;
 use rust_leaf::ident::Ident;
-use syn_ast::leaf::{Delimiters, Mark};
-use syn_ast::list::{Elements, Turns};
-use syn_ast::missing::nothing;
 use syn_ast::paths::Member;
-use syn_ast::{inside, joined, take};
+use syn_part::leaf::{Delimiters, Mark};
+use syn_part::list::{Elements, Turns};
+use syn_part::missing::nothing;
+use syn_part::{inside, joined, take};
 
 /// A dot, and the numbers behind it that end in one.
 pub fn as_dot<'t, 'a>(tree: &'t Tree<'a>) -> Option<(Mark, Turns<'t, 'a>)>
@@ -294,7 +294,7 @@ pub struct ExprCast<'t, 'a> {
 
 impl<'t, 'a> ExprCast<'t, 'a> {
     /// A tree of the kind `ExprCast`, as its parts. `None` only of trees that have another shape.
-    #[tactic(auto, unfolding(syn_grammar::specs::Table::table), using(syn_ast::proofs::Absent::never_or))]
+    #[tactic(auto, unfolding(syn_grammar::specs::Table::table), using(syn_part::proofs::Absent::never_or))]
     pub fn of(tree: &'t Tree<'a>) -> Option<ExprCast<'t, 'a>>
         ensures { MatchOption result (IsBack tree.now k.ExprCast → ⊥) (λ x. tree.now ≡ expr_cast x) }
     {

@@ -2,14 +2,14 @@
 
 ghost use Rattle.proc_macro2.specs.Token.{Token};
 ghost use Rattle.std.specs.Prelude.{Bool, List, MatchOption, ℕ, ◌≡◌, ◌⊎◌};
-ghost use Rattle.syn_ast.specs.Leaves.{optional_tree, word_tree};
-ghost use Rattle.syn_ast.specs.Shape.{IsShaped};
 ghost use Rattle.syn_expr.specs.ExprForms.{IsAlone, IsFront};
 ghost use Rattle.syn_expr.specs.ExprPrefix.{closure_head, closure_tree, expr_attributed, expr_closure, expr_let};
 ghost use Rattle.syn_expr.specs.ExprPrefix.{expr_raw_addr, expr_reference, expr_unary};
 ghost use Rattle.syn_grammar.specs.Expressions as entries;
 ghost use Rattle.syn_grammar.specs.Gram as g;
 ghost use Rattle.syn_grammar.specs.Kind as k;
+ghost use Rattle.syn_part.specs.Leaves.{optional_tree, word_tree};
+ghost use Rattle.syn_part.specs.Shape.{IsShaped};
 
 use crate::expr::forms;
 use crate::expr::ops::{UnOp, as_un_op};
@@ -17,9 +17,9 @@ use crate::modifiers::ClosureModifiers;
 use gram_table::kind::Kind;
 use gram_tree::tree::Tree;
 use rust_leaf::ident::Ident;
-use syn_ast::leaf::Mark;
-use syn_ast::list::Elements;
-use syn_ast::{joined, take};
+use syn_part::leaf::Mark;
+use syn_part::list::Elements;
+use syn_part::{joined, take};
 
 /// An expression with attributes: `#[a] b`.
 #[derive(Clone, Copy)]

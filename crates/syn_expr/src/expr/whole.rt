@@ -11,9 +11,9 @@ ghost use Rattle.syn_grammar.specs.Forms.{form_of};
 use crate::blocks::ExprParenthesized;
 use gram_table::kind::Kind;
 use gram_tree::tree::{Form, Tree};
-use syn_ast::leaf::Delimiters;
-use syn_ast::list::Elements;
-use syn_ast::take;
+use syn_part::leaf::Delimiters;
+use syn_part::list::Elements;
+use syn_part::take;
 
 /// Which form an expression is. The type of the same name says what is in it: of `Call` the type `ExprCall`.
 #[derive(Clone, Copy)]

@@ -1,5 +1,5 @@
-//! The types of `syn_ast` as trees; modules mirror those of `syn_ast`. Of a value that no form of the grammar is, as a tuple
-//! of one type without a comma, `try_to_tree` answers `None`.
+//! The types of `syn_ast` and `syn_pat` as trees; modules mirror theirs. Of a value that no form of the grammar is, as
+//! a tuple of one type without a comma, `try_to_tree` answers `None`.
 //!
 //! - `types`, `bounds`: types.
 //! - `paths`: paths, members and macros.

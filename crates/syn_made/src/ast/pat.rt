@@ -1,12 +1,12 @@
 //! Patterns by their form, as trees.
 
 ghost use Rattle.std.specs.Prelude.{◌≡◌, IfOk, MatchOption};
-ghost use Rattle.syn_ast.specs.Pat.{pat_tree, range_form, started};
-ghost use Rattle.syn_ast.specs.Patterns.{range_end};
-ghost use Rattle.syn_ast.specs.declared.pat.Pat.TheVariants as pats;
 ghost use Rattle.syn_grammar.specs.Kind as k;
 ghost use Rattle.syn_grammar.specs.Tree as t;
 ghost use Rattle.syn_made.specs.MadeAst.{IsLimit, IsRange, IsRangeEnd, IsWholePat};
+ghost use Rattle.syn_pat.specs.Pat.{pat_tree, range_form, started};
+ghost use Rattle.syn_pat.specs.Patterns.{range_end};
+ghost use Rattle.syn_pat.specs.declared.pat.Pat.TheVariants as pats;
 
 use crate::forms::{First, Grouped, Second, Seconds};
 use crate::lists::Only;
@@ -17,8 +17,8 @@ use gram_table::kind::Kind;
 use gram_tree::arena::Arena;
 use gram_tree::tree::Tree;
 use std::alloc::AllocError;
-use syn_ast::pat::{Pat, PatLit, PatParen, PatPath, PatRange, PatStruct, PatTuple, PatTupleStruct};
-use syn_ast::patterns::{PatRangeTo, PathBehind, RangeBound, RangeEnd};
+use syn_pat::pat::{Pat, PatLit, PatParen, PatPath, PatRange, PatStruct, PatTuple, PatTupleStruct};
+use syn_pat::patterns::{PatRangeTo, PathBehind, RangeBound, RangeEnd};
 
 impl<'a> ToTree<'a> for PatLit<'a> {
     ghost tree = { λ x. pat_tree (pats.Lit x) };

@@ -1,7 +1,6 @@
 //! Paths, members and macros as trees.
 
 ghost use Rattle.std.specs.Prelude.{◌≡◌, ◌↔◌, IfOk, IsTrue, MatchOption};
-ghost use Rattle.syn_ast.specs.Leaves.{word_tree};
 ghost use Rattle.syn_ast.specs.Paths.{angle_bracketed_generic_arguments, argument_inside, assoc_type_tree};
 ghost use Rattle.syn_ast.specs.Paths.{behind_keyword, behind_name, delimited, generic_argument, index};
 ghost use Rattle.syn_ast.specs.Paths.{macro, member, one_segment, parenthesized_generic_arguments, path};
@@ -9,6 +8,7 @@ ghost use Rattle.syn_ast.specs.Paths.{qualified_path, segment_end, segments, seg
 ghost use Rattle.syn_grammar.specs.Tree as t;
 ghost use Rattle.syn_made.specs.MadeAst.{AreArgumentsIn, AreWhole, IsBare, IsNameEnd, IsSegmentEnd};
 ghost use Rattle.syn_made.specs.MadeAst.{IsWholeSegment};
+ghost use Rattle.syn_part.specs.Leaves.{word_tree};
 
 use crate::forms::{Called, First, Grouped, Node, Second, Seconds};
 use crate::put::{behind, node, nth, some_node};
@@ -25,7 +25,7 @@ use syn_ast::paths::{
     MacroDelimiter, Member, OneSegment, ParenthesizedGenericArguments, Path, PathArguments,
     PathSegment, QualifiedPath, Segments,
 };
-use syn_ast::sub::Marked;
+use syn_part::sub::Marked;
 
 impl<'t, 'a> ToTree<'a> for Path<'t, 'a> {
     ghost tree = { path };

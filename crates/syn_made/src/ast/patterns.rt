@@ -1,14 +1,14 @@
 //! What patterns are read as, as trees.
 
 ghost use Rattle.std.specs.Prelude.{◌≡◌, ◌↔◌, IsTrue};
-ghost use Rattle.syn_ast.specs.Patterns.{field_pat, field_pattern_tree, field_patterns, literal_pattern};
-ghost use Rattle.syn_ast.specs.Patterns.{member_pattern_tree, pat_ident, pat_or, pat_parenthesized, pat_range_to};
-ghost use Rattle.syn_ast.specs.Patterns.{pat_reference, pat_rest, pat_several, pat_slice, pat_wild, path_behind};
-ghost use Rattle.syn_ast.specs.Patterns.{path_pattern, range_bound, range_end, range_limits, shorthand_tree};
-ghost use Rattle.syn_ast.specs.Patterns.{signed_lit_tree};
 ghost use Rattle.syn_grammar.specs.Kind as k;
 ghost use Rattle.syn_grammar.specs.Tree as t;
 ghost use Rattle.syn_made.specs.MadeAst.{IsLimit, IsRangeEnd};
+ghost use Rattle.syn_pat.specs.Patterns.{field_pat, field_pattern_tree, field_patterns, literal_pattern};
+ghost use Rattle.syn_pat.specs.Patterns.{member_pattern_tree, pat_ident, pat_or, pat_parenthesized, pat_range_to};
+ghost use Rattle.syn_pat.specs.Patterns.{pat_reference, pat_rest, pat_several, pat_slice, pat_wild, path_behind};
+ghost use Rattle.syn_pat.specs.Patterns.{path_pattern, range_bound, range_end, range_limits, shorthand_tree};
+ghost use Rattle.syn_pat.specs.Patterns.{signed_lit_tree};
 
 use crate::forms::{Called, First, Grouped, Second};
 use crate::leaf::is_sign;
@@ -21,7 +21,7 @@ use gram_table::word::Sign;
 use gram_tree::arena::Arena;
 use gram_tree::tree::Tree;
 use std::alloc::AllocError;
-use syn_ast::patterns::{
+use syn_pat::patterns::{
     FieldPat, FieldPattern, FieldPatterns, LiteralPattern, MemberPattern, PatIdent, PatOr,
     PatParenthesized, PatRangeTo, PatReference, PatRest, PatSeveral, PatSlice, PatWild, PathBehind,
     PathPattern, RangeBound, RangeEnd, RangeLimits, Shorthand, SignedLit,

@@ -15,8 +15,8 @@ use gram_table::part::Part;
 use gram_tree::arena::Arena;
 use gram_tree::tree::Tree;
 use std::alloc::AllocError;
-use syn_ast::patterns::RangeLimits;
 use syn_expr::expr::jumps::{ExprBreak, ExprRange, ExprReturn, ExprYield};
+use syn_pat::patterns::RangeLimits;
 
 impl<'t, 'a> ToTree<'a> for ExprBreak<'t, 'a> {
     ghost tree = { expr_break };

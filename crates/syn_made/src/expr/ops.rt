@@ -2,9 +2,9 @@
 
 ghost use Rattle.gram_table.specs.Kinds.{kind_of};
 ghost use Rattle.std.specs.Prelude.{◌≡◌, ◌↔◌, IsTrue};
-ghost use Rattle.syn_ast.specs.Leaves.{mark_tree};
 ghost use Rattle.syn_expr.specs.ExprOps.{bin_op_kind, bin_op_tree, limits_kind, limits_tree, un_op_tree};
 ghost use Rattle.syn_made.specs.MadeExpr.{IsBinary, IsUnary};
+ghost use Rattle.syn_part.specs.Leaves.{mark_tree};
 
 use crate::leaf::is_sign;
 use crate::put::nth;
@@ -14,9 +14,9 @@ use gram_table::word::Sign;
 use gram_tree::arena::Arena;
 use gram_tree::tree::Tree;
 use std::alloc::AllocError;
-use syn_ast::leaf::Mark;
-use syn_ast::patterns::RangeLimits;
 use syn_expr::expr::ops::{BinOp, UnOp};
+use syn_part::leaf::Mark;
+use syn_pat::patterns::RangeLimits;
 
 impl<'a> ToTree<'a> for UnOp {
     ghost tree = { un_op_tree };

@@ -15,9 +15,9 @@ use gram_table::part::Part;
 use gram_tree::arena::Arena;
 use gram_tree::tree::Tree;
 use std::alloc::AllocError;
-use syn_ast::leaf::Mark;
 use syn_ast::paths::Member;
 use syn_expr::expr::parts::{AFieldValue, Arm, FieldValue, FieldValues, StructRest};
+use syn_part::leaf::Mark;
 
 impl<'t, 'a> ToTree<'a> for FieldValues<'t, 'a> {
     ghost tree = { field_values };

@@ -16,12 +16,12 @@ use gram_tree::tree::Tree;
 use proc_macro2::delimiter::Delimiter;
 use rust_map::span::Span;
 use std::alloc::AllocError;
-use syn_ast::leaf::Delimiters;
-use syn_ast::sub::Worded;
 use syn_expr::expr::whole::ExprParen;
 use syn_expr::stmt::{
     BlockStmt, Local, LocalInit, OneStatement, Statements, StmtExpr, StmtLocal, StmtMacro,
 };
+use syn_part::leaf::Delimiters;
+use syn_part::sub::Worded;
 
 impl<'t, 'a> ToTree<'a> for BlockStmt<'t, 'a> {
     ghost tree = { block_stmt };

@@ -19,8 +19,8 @@ use gram_tree::arena::Arena;
 use gram_tree::made;
 use gram_tree::tree::Tree;
 use std::alloc::AllocError;
-use syn_ast::list::Elements;
 use syn_expr::expr::whole::{Expr, ExprParen, ExprTuple};
+use syn_part::list::Elements;
 
 /// A form as an expression, for where one stands: as an argument, a value, a statement. `Expr::of` answers that form of
 /// it. An operand is the form itself.

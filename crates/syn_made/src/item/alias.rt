@@ -12,8 +12,8 @@ use gram_table::part::Part;
 use gram_tree::arena::Arena;
 use gram_tree::tree::Tree;
 use std::alloc::AllocError;
-use syn_ast::sub::MarkedType;
 use syn_item::alias::{ItemType, WhereOrder};
+use syn_part::sub::MarkedType;
 
 // Whether a definition and a where clause stand in that order in the place: in a trait or an impl one alone.
 fn is_order_in(place: Place, order: WhereOrder) -> bool

@@ -15,8 +15,8 @@ use gram_table::part::Part;
 use gram_tree::arena::Arena;
 use gram_tree::tree::Tree;
 use std::alloc::AllocError;
-use syn_ast::leaf::Mark;
 use syn_item::impls::{ImplItems, ImplTrait, ItemImpl};
+use syn_part::leaf::Mark;
 
 // Of an impl the trait and the type, or the type alone; a where clause and the braces.
 #[derive(Clone, Copy)]

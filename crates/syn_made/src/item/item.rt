@@ -13,11 +13,11 @@ use gram_table::part::Part;
 use gram_tree::arena::Arena;
 use gram_tree::tree::Tree;
 use std::alloc::AllocError;
-use syn_ast::leaf::Mark;
 use syn_data::data::Fields;
 use syn_data::item::{
     ItemEnum, ItemExternCrate, ItemStatic, ItemStruct, ItemUnion, ItemUse, StaticMutability,
 };
+use syn_part::leaf::Mark;
 
 // What stands behind the generic parameters of a struct, if the semicolon is as its fields need it.
 fn struct_end<'a>(

@@ -1,9 +1,9 @@
 //! Macros that stand as items.
 
 ghost use Rattle.std.specs.Prelude.{◌≡◌, IfOk, MatchOption};
-ghost use Rattle.syn_ast.specs.Leaves.{raw_tree};
 ghost use Rattle.syn_item.specs.ItemMacros.{item_macro, macro_end_tree, macro_name_tree};
 ghost use Rattle.syn_made.specs.MadeWhole.{IsMacroEnd, IsMacroName, IsWholeMacro};
+ghost use Rattle.syn_part.specs.Leaves.{raw_tree};
 
 use crate::forms::{First, Grouped, Second};
 use crate::item::part::MaybeCalled;
@@ -16,11 +16,11 @@ use gram_tree::arena::Arena;
 use gram_tree::made;
 use gram_tree::tree::Tree;
 use std::alloc::AllocError;
-use syn_ast::leaf::Mark;
-use syn_ast::name::Name;
 use syn_ast::paths::MacroDelimiter;
 use syn_buffer::entry::Entry;
 use syn_item::macros::ItemMacro;
+use syn_part::leaf::Mark;
+use syn_part::name::Name;
 
 // The name behind the `!`, if it may stand in that place or is missing.
 fn macro_name<'a>(

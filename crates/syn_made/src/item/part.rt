@@ -1,8 +1,8 @@
 //! A part that may be missing.
 
 ghost use Rattle.gram_table.specs.Parts.{part_of};
-ghost use Rattle.syn_ast.specs.Leaves.{optional_tree};
 ghost use Rattle.syn_grammar.specs.Tree as t;
+ghost use Rattle.syn_part.specs.Leaves.{optional_tree};
 
 use crate::forms::Called;
 use crate::parts::missing;

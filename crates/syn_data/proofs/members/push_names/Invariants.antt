@@ -1,7 +1,7 @@
 use Rattle.std.specs.List.{All}
 use Rattle.std.specs.Prelude.{◌≡◌, ◌++◌, map, take}
 use Rattle.gram_tree.specs.declared.tree.Element.{Element}
-use Rattle.syn_ast.specs.Shape.{IsShaped}
+use Rattle.syn_part.specs.Shape.{IsShaped}
 use Rattle.syn_data.specs.Members.{member_name, name_of}
 use Rattle.syn_grammar.specs.Gram as g
 use Rattle.syn_grammar.specs.Kind as k

@@ -1,6 +1,6 @@
 use Rattle.std.proofs.Common.{◌∙◌, ap, sym}
 use Rattle.syn_ast.specs.Generics.{clause_tree}
-use Rattle.syn_ast.specs.Leaves.{optional_tree}
+use Rattle.syn_part.specs.Leaves.{optional_tree}
 use Rattle.syn_grammar.specs.Kind as k
 use Rattle.syn_grammar.specs.Name.{same_part}
 use Rattle.syn_grammar.specs.Tree as t

@@ -1,5 +1,5 @@
 use Rattle.std.proofs.Common.{◌∙◌, sym}
-use Rattle.syn_ast.proofs.Takes.{not_both}
+use Rattle.syn_part.proofs.Takes.{not_both}
 use Rattle.syn_item.proofs.ItemPlaces.{unsafe_chars}
 use Rattle.syn_item.proofs.function.as_unsafe_or_safe.Goals as goal
 

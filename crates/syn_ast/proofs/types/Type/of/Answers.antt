@@ -2,7 +2,7 @@ use Rattle.std.proofs.Common.{◌∙◌, ap, subst, sym}
 use Rattle.gram_table.specs.Kinds.{kind_of, plus_of}
 use Rattle.syn_grammar.specs.Tree as t
 use Rattle.syn_grammar.specs.Types.{type_entry}
-use Rattle.syn_ast.specs.Shape.{IsAmong}
+use Rattle.syn_part.specs.Shape.{IsAmong}
 use Rattle.syn_ast.proofs.TypeForms.{type_inside}
 use Rattle.syn_ast.proofs.types.Type.of.Goals as goal
 

@@ -1,4 +1,4 @@
-use Rattle.syn_ast.specs.Leaves.{list_tree}
+use Rattle.syn_part.specs.Leaves.{list_tree}
 use Rattle.syn_item.proofs.ItemArgumentLaws.{no_variadic}
 use Rattle.syn_item.proofs.function.Signature.variadic.Goals as goal
 

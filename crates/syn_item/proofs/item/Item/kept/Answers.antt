@@ -1,6 +1,6 @@
 use Rattle.std.specs.Prelude.{◌≡◌}
 use Rattle.std.proofs.Common.{◌∙◌, ap, subst, sym}
-use Rattle.syn_ast.specs.Shape.{IsShaped}
+use Rattle.syn_part.specs.Shape.{IsShaped}
 use Rattle.syn_grammar.specs.Gram as g
 use Rattle.syn_grammar.specs.Lists.{item_form}
 use Rattle.syn_grammar.specs.Name as n

@@ -1,7 +1,7 @@
 use Rattle.std.proofs.Common.{refl}
 use Rattle.syn_grammar.specs.Gram.{ref}
 use Rattle.syn_grammar.specs.Kind as k
-use Rattle.syn_ast.proofs.Derived.{shaped}
+use Rattle.syn_part.proofs.Derived.{shaped}
 use Rattle.syn_expr.proofs.ExprKept.{kept}
 use Rattle.syn_typed.proofs.forms.StatementsParse.view.Goals as goal
 

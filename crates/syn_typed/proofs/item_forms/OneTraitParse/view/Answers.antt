@@ -1,6 +1,6 @@
 use Rattle.syn_grammar.specs.Gram.{ref}
 use Rattle.syn_grammar.specs.Kind as k
-use Rattle.syn_ast.proofs.Derived.{shaped}
+use Rattle.syn_part.proofs.Derived.{shaped}
 use Rattle.syn_typed.proofs.Alone.{trait_kept}
 use Rattle.syn_typed.proofs.item_forms.OneTraitParse.view.Goals as goal
 

@@ -1,6 +1,6 @@
 use Rattle.syn_grammar.specs.Gram.{ref}
 use Rattle.syn_grammar.specs.Kind as k
-use Rattle.syn_ast.proofs.Derived.{shaped}
+use Rattle.syn_part.proofs.Derived.{shaped}
 use Rattle.syn_typed.proofs.MembersAlone.{function_kept}
 use Rattle.syn_typed.proofs.member_forms.OneImplItemFnParse.view.Goals as goal
 

@@ -2,7 +2,7 @@ use Rattle.std.proofs.Common.{refl}
 use Rattle.syn_grammar.specs.Gram.{ref}
 use Rattle.syn_grammar.specs.Kind as k
 use Rattle.syn_grammar.specs.Table.{table}
-use Rattle.syn_ast.proofs.Derived.{shaped}
+use Rattle.syn_part.proofs.Derived.{shaped}
 use Rattle.syn_typed.proofs.one_item.OneItemItemForeignModParse.view.Goals as goal
 
 pub returns-in_default : goal.returns-in_default

@@ -3,7 +3,7 @@ use Rattle.syn_grammar.specs.Gram.{ref}
 use Rattle.syn_grammar.specs.Items.{impl_form, is_impl}
 use Rattle.syn_grammar.specs.Kind as k
 use Rattle.syn_grammar.specs.Table.{table}
-use Rattle.syn_ast.proofs.Derived.{shaped}
+use Rattle.syn_part.proofs.Derived.{shaped}
 use Rattle.syn_item.proofs.ItemKept.{kept_or_refused}
 use Rattle.syn_typed.proofs.one_item.OneItemItemImplParse.view.Goals as goal
 

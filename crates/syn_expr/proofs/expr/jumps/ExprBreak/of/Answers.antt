@@ -2,7 +2,7 @@ use Rattle.std.proofs.Common.{◌≡◌, subst}
 use Rattle.syn_grammar.specs.Kind as k
 use Rattle.syn_grammar.specs.Table.{table}
 use Rattle.syn_grammar.specs.Tree.{Tree, Pair}
-use Rattle.syn_ast.specs.Shape.{IsShaped}
+use Rattle.syn_part.specs.Shape.{IsShaped}
 use Rattle.syn_expr.proofs.ExprJumps.{jump_own}
 use Rattle.syn_expr.proofs.expr.jumps.ExprBreak.of.Goals as goal
 

@@ -1,0 +1,3 @@
+pub mod Patterns
+pub mod Pat
+pub mod PatTypes
