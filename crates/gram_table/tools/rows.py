@@ -1,9 +1,11 @@
 #!/usr/bin/env python3
 """Writes the rows of src/, the looks of several steps (src/composite.rt, src/sights.rt, specs/Composites.antt) and the
 answers in proofs/ from the entries in syn_grammar/specs, as they are written. What it writes needs no trust: each row
-is proved to be its entry. Run it in the crate's folder, and rt fmt behind it."""
+is proved to be its entry. It formats the crate, and then lays its tables out in rows, where that takes fewer lines."""
+import glob
 import os
 import re
+import subprocess
 import sys
 
 HERE = os.path.dirname(os.path.abspath(__file__))
@@ -664,11 +666,58 @@ def write_forms(rows):
                  for v in PARAMETERS['Position']])
 
 
+def elements(lines):
+    """The elements of a table that is formatted, each as one line."""
+    found = ['']
+    for line in lines:
+        found[-1] = f'{found[-1]} {line.strip()}'.lstrip()
+        if line[4] != ' ' and line.endswith(','):
+            found.append('')
+    tight = [re.sub(r',?\s*([})])', lambda end: ' }' if end[1] == '}' else ')', it[:-1]) for it in found[:-1]]
+    return [it.replace('( ', '(') for it in tight]
+
+
+def laid_out(head, type_, steps, width=118):
+    """A table in rows, as many steps a row as it has room for, and a case a row."""
+    lone = f'{head}[{", ".join(steps)}];'
+    if len(lone) <= width and type_ != 'Case':
+        return ['#[rattlefmt::skip]', lone]
+    rows = []
+    for step in steps:
+        if rows and type_ != 'Case' and len(rows[-1]) + len(step) + 2 <= width:
+            rows[-1] += f' {step},'
+        else:
+            rows.append(f'    {step},')
+    return ['#[rattlefmt::skip]', f'{head}[', *rows, '];']
+
+
+def in_rows(path):
+    """Lays out each table of a file that is formatted, where that takes fewer lines than a step a line."""
+    with open(path, encoding='utf8') as file:
+        lines, out = file.read().split('\n'), []
+    while lines:
+        begun = re.match(r'((?:pub\(crate\) )?static \w+: \[(\w+); \d+\] = )\[$', lines[0])
+        if begun:
+            end = lines.index('];') + 1
+            rows = laid_out(*begun.groups(), elements(lines[1:end - 1]))
+            out += rows if len(rows) < end else lines[:end]
+        else:
+            end = 1
+            out.append(lines[0])
+        lines = lines[end:]
+    with open(path, 'w', encoding='utf8') as file:
+        file.write('\n'.join(out))
+
+
 def main():
     rows = Rows()
     write_forms(rows)
     write_composites(rows)
     write_entry(write_rows(rows))
+    crate = os.path.dirname(HERE)
+    subprocess.run(['rt', 'fmt'], cwd=crate, check=True, stdout=subprocess.DEVNULL)
+    for path in glob.glob(f'{crate}/src/*.rt'):
+        in_rows(path)
 
 
 if __name__ == '__main__':
