@@ -2,7 +2,7 @@
 """How long the gate takes, by the table of docs/GATE.md: the order in which `rt ci` runs its checks, side by side as far as
 there are processors and memory, with the seconds that each took when it was measured.
 
-Usage: tests/forecast.py [PROCESSORS [GIGABYTES]], of which there are 4 (two cores, each with two threads) and 24.9.
+Usage: tests/forecast.py [PROCESSORS [GIGABYTES]], of which a machine of the project's shows 4 and 24.9.
 
 What `rt ci` goes by (kit 13f): a check waits for those of all crates below it, and so do the edits of a crate: one alone is
 tried from nothing, several over a second check of the crate. Of what is ready the first is what has the most lines of code
