@@ -1,8 +1,10 @@
 //! Tokens that are to be written, and their printed text.
 //!
 //! - `piece`: the tokens.
-//! - `print`: their text.
+//! - `sheet`: texts that are printed part by part.
+//! - `print`: the text of tokens.
 #![tactic(auto)]
 
 pub mod piece;
 pub mod print;
+pub mod sheet;

@@ -12,7 +12,7 @@ use Rattle.syn_grammar.specs.Gram.{ref}
 use Rattle.syn_grammar.specs.Kind.{Kind}
 use Rattle.syn_grammar.specs.Read.{IsDerived}
 use Rattle.syn_grammar.specs.Tree.{Tree, flat, marks}
-use Rattle.syn_read.proofs.Behind.{Left, left}
+use Rattle.gram_read.proofs.Behind.{Left, left}
 use Rattle.syn_read.specs.Reading.{StandsSign}
 
 -- behind some entries what is left are the last of the tokens, each where it stood

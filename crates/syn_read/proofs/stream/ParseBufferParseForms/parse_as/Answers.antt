@@ -10,7 +10,8 @@ use Rattle.syn_grammar.specs.Derives.{Derives}
 use Rattle.syn_grammar.specs.Gram.{ref}
 use Rattle.syn_grammar.specs.Read.{NoneRead}
 use Rattle.syn_grammar.specs.Tree.{flat}
-use Rattle.syn_read.proofs.Behind.{left, left_behind, left_entries}
+use Rattle.gram_read.proofs.Behind.{left}
+use Rattle.syn_read.proofs.Behind.{left_behind, left_entries}
 use Rattle.syn_read.proofs.stream.ParseBufferParseForms.parse_as.Goals as goal
 
 pub behind-behind-requires-clause-whole : goal.behind-behind-requires-clause-whole
