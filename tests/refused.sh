@@ -65,9 +65,9 @@ printf 'fn f(){}' > "$work/small"
 printf 'fn f () { }\n' > "$work/small.answer"
 answer=$work/small.answer
 sweep "canon" canon_cli "$work/small"
-python3 -c 'print("".join(f"struct  S{n} ;\n" for n in range(40)) + "m!{" + "(" * 50 + "x" * 1000 + ")" * 50 + "}")' \
+python3 -c 'print("".join(f"struct  S{n} ;\n" for n in range(200)) + "m!{" + "(" * 50 + "x" * 1000 + ")" * 50 + "}")' \
     > "$work/large"
-python3 -c 'print(" ".join(f"struct S{n} ;" for n in range(40)) + " m ! { " + "(" * 50 + "x" * 1000 + ")" * 50 + " }")' \
+python3 -c 'print(" ".join(f"struct S{n} ;" for n in range(200)) + " m ! { " + "(" * 50 + "x" * 1000 + ")" * 50 + " }")' \
     > "$work/large.answer"
 answer=$work/large.answer
 sweep "canon, a large text" canon_cli "$work/large"

@@ -5,4 +5,5 @@ pub mod Paged
 pub mod Trees
 pub mod Files
 pub mod Outlined
+pub mod Parted
 pub mod RowsStand

@@ -1,6 +1,6 @@
 -- The name of each row of an outline stands in the text at the row's place.
-use Rattle.std.proofs.Common.{◌≡◌, ℕ, List, [], ◌∷◌, refl, sym, ap, ◌∙◌, subst}
-use Rattle.std.specs.Prelude.{Option, Some, None, map}
+use Rattle.std.proofs.Common.{◌≡◌, ℕ, List, [], ◌∷◌, sym, ap, ◌∙◌, subst}
+use Rattle.std.specs.Prelude.{Option, Some, None}
 use Rattle.rust_leaf.specs.Leaf.{text_of}
 use Rattle.rust_map.specs.declared.place.LineColumn.{LineColumn}
 use Rattle.proc_macro2.specs.Token.{Spanned}

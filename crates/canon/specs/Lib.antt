@@ -5,4 +5,5 @@ pub mod Run
 pub mod Causes
 pub mod Maps
 pub mod Outline
+pub mod Parts
 pub mod Unread

@@ -1,11 +1,14 @@
-//! The file that a stream is.
+//! The forms that tokens begin with: a file, and its parts.
 
-ghost use Rattle.canon.specs.Unread.{IsUnread};
+ghost use Rattle.canon.specs.Unread.{IsUnread, IsUnreadAs};
 ghost use Rattle.canon.specs.declared.file.Unread.TheVariants.{Memory};
 ghost use Rattle.canon_laws.specs.Program.{IsFile};
+ghost use Rattle.gram_run.specs.Answers.{tokens};
+ghost use Rattle.gram_table.specs.Kinds.{kind_of};
 ghost use Rattle.proc_macro2.specs.Token.{plain};
 ghost use Rattle.std.specs.Prelude.{◌≡◌, IfErr, IfOk, IsTrue};
 ghost use Rattle.syn_buffer.specs.Entries.{is_whole, spanned_entries};
+ghost use Rattle.syn_grammar.specs.Read.{IsDerived};
 
 use gram_read::grammar::Grammar;
 use gram_run::read::read;
@@ -16,12 +19,12 @@ use gram_tree::tree::Tree;
 use std::alloc::AllocError;
 use syn_buffer::entry::Entry;
 
-/// Why no file was read.
+/// Why no form was read.
 #[derive(Clone, Copy, Drop)]
 pub(crate) enum Unread {
     /// A growth was refused.
     Memory,
-    /// The tokens are no file: what was wanted, and where.
+    /// No such form stands there: what was wanted, and where.
     Syntax(Wrong),
 }
 
@@ -30,6 +33,29 @@ impl From<AllocError> for Unread {
 
     fn from(_: AllocError) -> Unread {
         Unread::Memory
+    }
+}
+
+/// The form of the kind with which whole entries begin, and what is left behind it.
+///
+/// # Errors
+///
+/// `Syntax` exactly where they begin with none. `Memory` only where a growth was refused.
+pub(crate) fn read_form<'a>(
+    arena: &'a Arena,
+    kind: Kind,
+    entries: &'a [Entry<'a>],
+) -> Result<(Tree<'a>, &'a [Entry<'a>]), Unread>
+    requires { IsTrue (is_whole entries.now) }
+    ensures found { IfOk result (λ x. IsDerived (kind_of kind) (tokens entries.now) x.0 (tokens x.1.now)) }
+    ensures whole { IfOk result (λ x. IsTrue (is_whole x.1.now)) }
+    ensures refused { IfErr result (IsUnreadAs (kind_of kind) (tokens entries.now)) }
+{
+    match read(&Grammar, arena, kind, entries) {
+        Ok((tree, rest)) => Ok((tree, rest)),
+        Err(Refusal::Syntax(wrong)) => Err(Unread::Syntax(wrong)),
+        Err(Refusal::Memory) => Err(Unread::Memory),
+        Err(Refusal::Late) => unreachable!(),
     }
 }
 
@@ -43,10 +69,6 @@ pub(crate) fn read_file<'a>(arena: &'a Arena, entries: &'a [Entry<'a>]) -> Resul
     ensures file { IfOk result (IsFile (plain (spanned_entries entries.now))) }
     ensures refused { IfErr result (IsUnread (plain (spanned_entries entries.now))) }
 {
-    match read(&Grammar, arena, Kind::AFile, entries) {
-        Ok((tree, _)) => Ok(tree),
-        Err(Refusal::Syntax(wrong)) => Err(Unread::Syntax(wrong)),
-        Err(Refusal::Memory) => Err(Unread::Memory),
-        Err(Refusal::Late) => unreachable!(),
-    }
+    let (tree, _) = read_form(arena, Kind::AFile, entries)?;
+    Ok(tree)
 }

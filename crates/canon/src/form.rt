@@ -12,10 +12,9 @@ ghost use Rattle.std.specs.Prelude.{◌≡◌, ◌+◌, ◌^◌, ◌≤◌, ◌�
 ghost use Rattle.std.specs.Str.{chars};
 
 use crate::fault::Fault;
-use crate::file::{Unread, read_file};
+use crate::file::Unread;
+use crate::parts::text_of_file;
 use crate::stands::placed_error;
-use crate::written::written;
-use gram_tree::arena::Arena;
 use proc_macro2::TokenStream;
 use rust_map::SourceMap;
 use std::alloc::Global;
@@ -58,7 +57,5 @@ fn formed(alloc: Global, stream: &TokenStream) -> Result<String, Unread>
     ensures refused { IfErr result (IsUnread (plain stream.now)) }
 {
     let buffer = TokenBuffer::new2(alloc, stream, 1)?;
-    let arena = Arena::new(alloc);
-    let file = read_file(&arena, buffer.entries())?;
-    Ok(written(alloc, &file)?)
+    text_of_file(alloc, buffer.entries())
 }

@@ -6,8 +6,8 @@
 //! - `fault`: why a text has none, and what the program says then.
 //! - `causes` (private): faults of the parts of a run, as faults of the run.
 //! - `stands` (private): where the tokens stand of which errors speak.
-//! - `file` (private): the file that tokens are.
-//! - `written` (private): the text of a file's normal form.
+//! - `file` (private): the forms that tokens begin with.
+//! - `parts` (private): the text of a file's normal form, part by part.
 //! - `laws`: laws of programs and their canonical forms, which are those of `canon_laws`.
 #![tactic(auto)]
 
@@ -17,9 +17,9 @@ mod file;
 pub mod form;
 pub mod outlines;
 mod pages;
+mod parts;
 pub mod runs;
 mod stands;
-mod written;
 
 pub use canon_io::watched::Watched;
 pub use canon_laws::laws;

@@ -26,7 +26,7 @@ turns_end End (t ∷ r) d = cc
 turns_end (Again x y) r d = turns_end y r d.2
 turns_end _ r d = absurd d
 
-items_end : (x : Tree) (r : List Token) → Derives x (ref Items) r → r ≡ []
+pub items_end : (x : Tree) (r : List Token) → Derives x (ref Items) r → r ≡ []
 unfolding table
 items_end (Node k x) r d = turns_end x r (subst (λ i. Derives x (table i) r) d.0 d.1)
 items_end _ r d = absurd d

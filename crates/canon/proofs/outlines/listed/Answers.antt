@@ -1,4 +1,4 @@
-use Rattle.std.proofs.Common.{◌≡◌, ◌++◌, ◌∙◌, ap, sym, subst, List}
+use Rattle.std.proofs.Common.{◌++◌, ◌∙◌, ap, sym, subst, List}
 use Rattle.proc_macro2.specs.Token.{plain}
 use Rattle.syn_buffer.specs.Entries.{spanned_entries}
 use Rattle.syn_grammar.specs.Names.{names}
