@@ -2,9 +2,9 @@
 """Times `canon` beside syn, which reads the same text as a file and prints its tokens, with span locations and without
 them, all in one run. Prints tables: for each text the least processor time of several runs of each program, and its
 peak memory for each byte of the text. The first is of whole runs. The second is of lexing and reading alone: syn's tree is
-let go of, and `canon` is given the text with one word more, which is at fault behind all that was read. The third is of
-lexing alone. What is left between two of them is reading, and writing and printing. The last one has Debian's rustfmt beside
-them, on the files of std alone, as it asks for more than that a text is lexed and read.
+let go of, and `canon` makes an outline, for which the file is read whole and little is written. The third is of lexing
+alone. The last one has Debian's rustfmt beside them, on the files of std alone, as it asks for more than that a text is lexed
+and read.
 
 Usage: bench/canon.py [RUNS [CANON LEXER]]. It builds the programs first, which proves what isn't proved yet, or takes those
 that are named, and fetches Debian's packages rust-src, librust-proc-macro2-dev, librust-syn-dev, librust-quote-dev and
@@ -111,10 +111,6 @@ def written(make):
 # What the names of the texts that rustfmt is given begin with.
 OF_STD = ("largest file", "`core/src")
 
-# Behind items: a fault at the end of the text.
-FAULT = b"\nstruct"
-
-
 def is_read(program, text):
     """Whether the program reads the text as a file."""
     ran = subprocess.run([program], input=text, stdout=subprocess.DEVNULL, stderr=subprocess.DEVNULL)
@@ -179,15 +175,13 @@ def built(work, given):
     return programs
 
 
-def table(runner, title, commands, made, place, runs, behind=b""):
-    """Each text's row. The first program is given the text with that behind it."""
+def table(runner, title, commands, made, place, runs):
+    """Each text's row."""
     print(f"\n| {title} | MB | this | peer with spans | peer without | this/with | this/without | Bytes a byte, each |")
     print("|---|---|---|---|---|---|---|---|")
     for what, text in made:
         with open(place, "wb") as file:
             file.write(text)
-        with open(place + "-ours", "wb") as file:
-            file.write(text + behind)
         (ours, spans, plain), memory = measured(runner, commands, place, runs)
         each = ", ".join(f"{peak / len(text):.0f}" for peak in memory)
         times = f"{ours:.3f} s | {spans:.3f} s | {plain:.3f} s | {ours / spans:.2f} | {ours / plain:.2f}"
@@ -219,11 +213,9 @@ def main():
         place = os.path.join(work, "text")
         commands = [[programs["canon"]]] + [[programs[peer]] for peer in PEERS]
         table(runner, "Read, written and printed", commands, made, place, runs)
-        # A run that is refused has status 1: what a shell makes of that is success.
-        refused = ["sh", "-c", f'"$0" < "$1" 2> /dev/null; test $? = 1', programs["canon"], place + "-ours"]
-        commands = [refused] + [[programs[peer], "read"] for peer in PEERS]
-        items = [(what, text) for what, text in made if not what.startswith("one macro")]
-        table(runner, "Lexed and read", commands, items, place, runs, FAULT)
+        # For an outline the whole file is read, and little is written.
+        commands = [[programs["canon"], "outline"]] + [[programs[peer], "read"] for peer in PEERS]
+        table(runner, "Lexed and read", commands, made, place, runs)
         commands = [[programs["lexer"]]] + [[programs[peer], "lex"] for peer in PEERS]
         table(runner, "Lexed", commands, made, place, runs)
         beside_rustfmt(runner, programs, [it for it in made if it[0].startswith(OF_STD)], place, runs)
