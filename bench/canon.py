@@ -1,9 +1,9 @@
 #!/usr/bin/env python3
 """Times `canon` beside syn, which reads the same text as a file and prints its tokens, with span locations and without
 them, all in one run. Prints tables: for each text the least processor time of several runs of each program, and its
-peak memory for each byte of the text. The first is of whole runs. The second is of lexing and reading alone: syn's tree is
-let go of, and `canon` makes an outline, for which the file is read whole and little is written. The third is of lexing
-alone. The last one has Debian's rustfmt beside them, on the files of std alone, as it asks for more than that a text is lexed
+peak memory for each byte of the text. The first is of whole runs. The second is of an outline, for which the file is
+read whole, and a line is written for each name, beside lexing and reading alone: syn's tree is let go of. The third is of
+lexing alone. The last one has Debian's rustfmt beside them, on the files of std alone, as it asks for more than that a text is lexed
 and read.
 
 Usage: bench/canon.py [RUNS [CANON LEXER]]. It builds the programs first, which proves what isn't proved yet, or takes those
@@ -213,9 +213,8 @@ def main():
         place = os.path.join(work, "text")
         commands = [[programs["canon"]]] + [[programs[peer]] for peer in PEERS]
         table(runner, "Read, written and printed", commands, made, place, runs)
-        # For an outline the whole file is read, and little is written.
         commands = [[programs["canon"], "outline"]] + [[programs[peer], "read"] for peer in PEERS]
-        table(runner, "Lexed and read", commands, made, place, runs)
+        table(runner, "An outline, and syn's reading alone", commands, made, place, runs)
         commands = [[programs["lexer"]]] + [[programs[peer], "lex"] for peer in PEERS]
         table(runner, "Lexed", commands, made, place, runs)
         beside_rustfmt(runner, programs, [it for it in made if it[0].startswith(OF_STD)], place, runs)
