@@ -25,6 +25,7 @@ pub(crate) struct Edge {
 }
 
 impl Edge {
+    // How the token of a piece stands to what is printed behind it.
     fn of(piece: &Piece) -> Edge
         ensures brace { result.opens_brace ≡ printed.opens_brace (piece_token piece.now) }
         ensures close { result.hugs ≡ printed.hugs (piece_token piece.now) }
@@ -82,7 +83,8 @@ impl Sheet {
     ///
     /// # Errors
     ///
-    /// Where the text can't grow.
+    /// Where the text can't grow. Some of the tokens may stand there then, and a space behind them, so the sheet is of no
+    /// use any more.
     #[tactic(auto, using(crate::proofs::Sheets::put_none, crate::proofs::Sheets::put_more))]
     pub fn put(&mut self, pieces: &[Piece]) -> Result<(), AllocError>
         ensures { OnOk result ((ts : List Token) → Shows self.old ts
