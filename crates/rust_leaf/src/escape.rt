@@ -11,7 +11,7 @@ ghost use Rattle.std.specs.Prelude.{IfNone, IfSome, List, ℕ};
 ghost use Rattle.std.specs.Str.{StartsWithNoChar, chars};
 
 use std::alloc::AllocError;
-use unicode::properties::GeneralCategory;
+use ucd_category::GeneralCategory;
 
 // Whether characters of a category are written by their number.
 fn is_hidden_category(category: GeneralCategory) -> bool
