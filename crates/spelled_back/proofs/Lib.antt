@@ -1,0 +1,10 @@
+pub mod Placed
+pub mod Laid
+pub mod Parts
+pub mod Stays
+pub mod Parenthesized
+pub mod Dressed
+pub mod Redressed
+pub mod Read
+pub mod ReadBack
+pub mod Examples
