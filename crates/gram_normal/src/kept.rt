@@ -98,7 +98,7 @@ fn node<'a>(arena: &'a Arena, kind: Kind, inner: &Tree<'a>) -> Result<Tree<'a>, 
 /// Where there is no memory for it.
 #[cycle(kept)]
 #[tactic(auto, using(crate::proofs::Holding::forms))]
-pub(crate) fn kept<'a>(arena: &'a Arena, tree: &Tree<'a>) -> Result<Tree<'a>, AllocError>
+pub fn kept<'a>(arena: &'a Arena, tree: &Tree<'a>) -> Result<Tree<'a>, AllocError>
     ensures { IfOk result (λ x. x ≡ k.kept tree.now) }
 {
     match &tree.form {

@@ -52,7 +52,7 @@ mod fault_steps;
 mod fields;
 mod first;
 mod forget;
-mod kept;
+pub mod kept;
 pub mod laws;
 mod lifetime;
 pub mod normal;

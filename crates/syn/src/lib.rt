@@ -11,15 +11,17 @@
 //! - `parse`, `peek`, `reader`, `stream`, `text`, `typed`, `single`, `optional` (of `syn_read`): forms that are read from
 //!   tokens, as trees and as types; `one_item` (of `syn_typed`), `single_expr` (of `syn_single`): types that are.
 //! - `leaf`, `node`, `tokens` (of `syn_tokens`): the leaves and the nodes of a tree, and its tokens as a stream.
-//! - `written`: whether what is written of two trees is the same.
+//! - `compare`: whether two trees are the same syntax tree, and whether they are the same program.
 //! - `values`: literals by their class, with what they write, operators and members.
 //! - `laws`: laws of items and of raw tokens, which are those of `item_laws`: how an item of one kind is read by itself,
 //!   invisible groups, and the spacing of raw tokens.
 #![tactic(auto)]
 
+pub mod compare;
 pub mod values;
-pub mod written;
 
+pub use compare::same;
+pub use compare::same_program;
 pub use gram_build::build::write_in;
 pub use gram_equal::tree::equal;
 pub use gram_normal::fault::Fault as NormalFault;
@@ -393,4 +395,3 @@ pub use syn_typed::OneTraitItemMacro;
 pub use syn_typed::OneTraitItemType;
 pub use syn_typed::Parse;
 pub use syn_typed::one_item;
-pub use written::same;
