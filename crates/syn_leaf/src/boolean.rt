@@ -1,13 +1,16 @@
 //! `true` and `false`.
 
-ghost use Rattle.std.specs.Prelude.{◌++◌, ◌≡◌, if◌then◌else◌};
+ghost use Rattle.rust_leaf.specs.Leaf.{ident_span, ident_text};
+ghost use Rattle.std.specs.Prelude.{◌++◌, ◌≡◌, IfOk, [], if◌then◌else◌};
 ghost use Rattle.std.specs.Str.{chars};
+ghost use Rattle.syn_kinds.specs.Table.{word};
 ghost use Rattle.syn_kinds.specs.Values.{word_tokens};
 ghost use Rattle.syn_leaf.specs.Booleans.{bool_text};
 
 use proc_macro2::tree::TokenStream;
+use rust_leaf::ident::Ident;
 use rust_map::span::Span;
-use std::alloc::AllocError;
+use std::alloc::{AllocError, Global};
 use syn_error::to_tokens::ToTokens;
 use syn_kinds::keyword::Keyword;
 use try_clone::TryClone;
@@ -21,6 +24,15 @@ pub struct LitBool {
     /// Where it stands.
     #[derive_where(skip(EqHashOrd))]
     pub span: Span,
+}
+
+// The word of a keyword, as an identifier that stands there.
+#[tactic(auto, using(syn_kinds::proofs::Rows::word_is_identifier))]
+fn word<const K: usize>(alloc: Global, span: Span) -> Result<Ident, AllocError>
+    ensures text { IfOk result (λ ident. ident_text ident ≡ word K) }
+    ensures span { IfOk result (λ ident. ident_span ident ≡ span) }
+{
+    Ident::from_text(alloc, Keyword::<K>::word(), span)
 }
 
 impl LitBool {
@@ -37,6 +49,31 @@ impl LitBool {
         ensures { chars result.now ≡ bool_text self.now.value }
     {
         if self.value { "true" } else { "false" }
+    }
+
+    /// Its suffix: nothing.
+    #[tactic(auto, using(crate::proofs::Spellings::no_word))]
+    pub fn suffix(&self) -> &'static str
+        ensures { chars result.now ≡ [] }
+    {
+        ""
+    }
+
+    /// Its token: the word, where the literal stands.
+    ///
+    /// # Errors
+    ///
+    /// Where there is no memory for it.
+    #[tactic(auto, unfolding(syn_kinds::specs::Table::word))]
+    pub fn token(&self, alloc: Global) -> Result<Ident, AllocError>
+        ensures text { IfOk result (λ word. ident_text word ≡ bool_text self.now.value) }
+        ensures span { IfOk result (λ word. ident_span word ≡ self.now.span) }
+    {
+        if self.value {
+            word::<TRUE>(alloc, self.span)
+        } else {
+            word::<FALSE>(alloc, self.span)
+        }
     }
 }
 
