@@ -31,6 +31,8 @@ pub(crate) enum Question {
     Called(Call),
     /// Whether two types, with a semicolon between them, are the same.
     Compared,
+    /// Whether two items are.
+    Programs,
     /// What is written of a long expression.
     Long,
     /// Of which form it is, as an item of a trait, an impl or an extern block.
@@ -98,6 +100,7 @@ fn put<'a>(
         Question::Streamed => streams::put_read(arena, buffer, page),
         Question::Called(call) => put_call(call, arena, buffer, page),
         Question::Compared => compared::put_types(arena, buffer, page),
+        Question::Programs => compared::put_items(arena, buffer, page),
         Question::Long => long::put_written(arena, buffer, page),
         Question::Held(stands) => put_form(stands, arena, buffer, page),
         Question::Item(item) => put_item(item, arena, buffer, page),

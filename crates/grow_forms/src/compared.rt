@@ -4,11 +4,12 @@ use crate::asked::Question;
 use crate::built::unread;
 use rows::Page;
 use stops::{Stop, refused};
-use syn::{Arena, Kind, NormalFault, Plus, Reader, Sign, TokenBuffer, Tree, equal, same};
+use syn::{
+    Arena, Kind, NormalFault, Plus, Reader, Sign, TokenBuffer, Tree, equal, same, same_program,
+};
 
-// Puts whether what is written of two trees is the same, and whether they are equal. Where memory is refused, they are
-// compared with themselves.
-fn put_compared<'a>(
+// Puts whether two trees are the same. Where memory is refused, they are compared with themselves.
+fn put_same<'a>(
     arena: &'a Arena,
     one: &Tree<'a>,
     other: &Tree<'a>,
@@ -17,9 +18,36 @@ fn put_compared<'a>(
     match same(arena, one, other) {
         Ok(true) => page.put("same"),
         Ok(false) => page.put("unlike"),
+        Err(_) => return refused(are_whole(arena, one, other)),
+    }
+    Ok(())
+}
+
+// Puts whether two trees are the same program. Where memory is refused, they are compared with themselves.
+fn put_program<'a>(
+    arena: &'a Arena,
+    one: &Tree<'a>,
+    other: &Tree<'a>,
+    page: &mut Page,
+) -> Result<(), Stop> {
+    match same_program(arena, one, other) {
+        Ok(true) => page.put(", same program"),
+        Ok(false) => page.put(", another program"),
         Err(NormalFault::Memory) => return refused(are_whole(arena, one, other)),
         Err(NormalFault::Separators) => return Err(Stop::Changed),
     }
+    Ok(())
+}
+
+// Puts whether two trees are the same, and the same program, and whether they are equal.
+fn put_compared<'a>(
+    arena: &'a Arena,
+    one: &Tree<'a>,
+    other: &Tree<'a>,
+    page: &mut Page,
+) -> Result<(), Stop> {
+    put_same(arena, one, other, page)?;
+    put_program(arena, one, other, page)?;
     page.put(if equal(one, other) {
         ", equal"
     } else {
@@ -52,10 +80,29 @@ pub(crate) fn put_types<'a>(
     put_compared(arena, &one, &other, page)
 }
 
-/// Types. In the first row the `>` stands directly before another one or apart from it, which no syntax tree holds.
-pub(crate) const PAIRS: [(Question, &str); 4] = [
+/// Puts the same of the two items that are all of a buffer.
+pub(crate) fn put_items<'a>(
+    arena: &'a Arena,
+    buffer: &'a TokenBuffer<'a>,
+    page: &mut Page,
+) -> Result<(), Stop> {
+    let mut input = Reader::new(arena, buffer);
+    let one = input.parse(Kind::AnItem).map_err(unread)?;
+    let other = input.parse(Kind::AnItem).map_err(unread)?;
+    input.finish().map_err(unread)?;
+    put_compared(arena, &one, &other, page)
+}
+
+/// Types and items. In the first row the `>` stands directly before another one or apart from it, which no syntax tree
+/// holds. Lifetimes come first in normal form, and generics without parameters go, but those of an impl whose type would
+/// be taken for them.
+pub(crate) const PAIRS: [(Question, &str); 8] = [
     (Question::Compared, "Vec<Vec<u8>>; Vec<Vec<u8> >"),
     (Question::Compared, "(A, [B; 2]); ( A , [ B ; 2 ] )"),
     (Question::Compared, "Vec<Vec<u8>>; Vec<Vec<u16>>"),
     (Question::Compared, "(A); (A,)"),
+    (Question::Compared, "Foo<T, 'a>; Foo<'a, T,>"),
+    (Question::Programs, "struct S<>; struct S;"),
+    (Question::Programs, "impl<> <T>::A {} impl<T> ::A {}"),
+    (Question::Programs, "m!{a+-b} m!{a + -b}"),
 ];

@@ -12,7 +12,7 @@
 //! - `modifiers`: what is said of modifiers where none may stand.
 //! - `calls`: calls that read one text: as a type (`typed`), a form that may be missing (`optional`), or a literal with its
 //!   value (`values`).
-//! - `compared`: types that are compared; `long`: a long expression.
+//! - `compared`: types and items that are compared; `long`: a long expression.
 //! - `single`: texts that are read as an item of one kind, a member, or a form that is one of several of a kind, in three
 //!   ways, which have to agree (`alone`).
 //! - `held`: the items of traits, impls and extern blocks, as the enums that hold their form.

@@ -52,19 +52,19 @@ fn put_value_of(token: &Literal, page: &mut Page) -> Result<(), Stop> {
     put_value_in(looked_at(token.try_clone())?, page)
 }
 
-// Puts a truth value.
-fn put_truth(word: &Ident, page: &mut Page) {
-    page.put(LitBool::new(word.is_text("true"), word.span()).text());
+// Puts a truth value, by its token, and its suffix, which is nothing.
+fn put_truth(word: &Ident, page: &mut Page) -> Result<(), Stop> {
+    let literal = LitBool::new(word.is_text("true"), word.span());
+    page.show(&looked_at(literal.token(page.alloc()))?);
+    page.put(literal.suffix());
+    Ok(())
 }
 
 /// Puts the value of the literal that an expression is.
 pub(crate) fn put_value(tree: &Tree<'_>, page: &mut Page) -> Result<(), Stop> {
     match literal(tree) {
         Some(Lit::Token(token)) => put_value_of(token, page),
-        Some(Lit::Bool(word)) => {
-            put_truth(word, page);
-            Ok(())
-        }
+        Some(Lit::Bool(word)) => put_truth(word, page),
         None => Err(Stop::Changed),
     }
 }
