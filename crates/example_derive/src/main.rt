@@ -1,6 +1,7 @@
-//! A derive helper: reads a struct, a union or an enum from standard input, and writes an impl of it that lists the
-//! names of its fields as `FIELDS` (of unnamed ones their numbers), or those of its variants as `VARIANTS`. The impl is
-//! built of tokens, and is printed only where it is read back as the same tokens.
+//! A derive helper: reads structs, unions and enums from standard input, one behind the other, and writes for each, on a
+//! line of its own, an impl that lists the names of its fields as `FIELDS` (of unnamed ones their numbers), or those of
+//! its variants as `VARIANTS`. An impl is built of tokens, and is printed only where it is read back as the same tokens.
+//! Where what stands there is no such item, its place is said and what was wanted there, and nothing is written.
 //!
 //! - `listing`: the impl.
 //! - `members`: the names of the fields or the variants.
@@ -17,7 +18,7 @@ use crate::listing::impl_of;
 use anyhow::{Error, Result, anyhow};
 use std::io::{Read, Write};
 use syn::{
-    Arena, DeriveInput, LineColumn, ParseFault, SourceMap, Span, TokenBuffer, TokenStream, parse2,
+    Arena, DeriveInput, LineColumn, ParseFault, Reader, SourceMap, Span, TokenBuffer, TokenStream,
 };
 
 // Where a token begins, if it stands in a text of the map.
@@ -49,16 +50,28 @@ fn put_impl(input: &DeriveInput, out: &mut String) -> Result<()> {
     Ok(writeln!(out, "{impl_block}")?)
 }
 
-// Puts the print of the impl for the item that a buffer holds.
-fn put_derived(map: &SourceMap, buffer: &TokenBuffer, out: &mut String) -> Result<()> {
-    let arena = Arena::new(*out.allocator());
-    match parse2::<DeriveInput>(&arena, buffer) {
-        Ok(input) => put_impl(&input, out),
+// Puts the print of the impl for the item that stands next.
+fn put_next(map: &SourceMap, input: &mut Reader, out: &mut String) -> Result<()> {
+    match input.form::<DeriveInput>() {
+        Ok(item) => put_impl(&item, out),
         Err(fault) => Err(refused(map, &fault)),
     }
 }
 
-// Puts the print of the impl for the item that a text is.
+// Puts the print of the impl for each item that a buffer holds, in their order.
+fn put_derived(map: &SourceMap, buffer: &TokenBuffer, out: &mut String) -> Result<()> {
+    let arena = Arena::new(*out.allocator());
+    let mut input = Reader::new(&arena, buffer);
+    for _ in 0..u64::MAX {
+        if input.is_empty() {
+            break;
+        }
+        put_next(map, &mut input, out)?;
+    }
+    Ok(())
+}
+
+// Puts the print of the impl for each item that a text holds, in their order.
 fn put_text(text: &str, out: &mut String) -> Result<()> {
     let alloc = *out.allocator();
     let mut map = SourceMap::new(alloc);
