@@ -5,8 +5,8 @@
 use canon_program::program;
 use std::process::ExitCode;
 
-/// Ends with 0 where the canonical form was written, 1 where the text is at fault, 2 where there are
-/// arguments, and 3 where something else failed.
+/// Ends with 0 where the canonical form or the outline was written, 1 where the text is at fault, 2 where there are
+/// other arguments than none or `outline`, and 3 where something else failed.
 fn main(rt: HostRuntime) -> ExitCode {
     program(&rt, &mut rt.stderr())
 }
