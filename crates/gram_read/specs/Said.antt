@@ -82,17 +82,20 @@ verdict_name verdicts.Impl = codes "trait behind `!`"
 verdict_name verdicts.Let = codes "no `else` behind a value that ends in braces"
 verdict_name v = codes "semicolon behind the statement"
 
--- The names of kinds of which no token stands there.
+-- The names of kinds of which no token stands there, or none with which they go on.
 abbrev pub kind_name : Kind → List ℕ
 kind_name (kinds.AType p) = codes "type"
 kind_name kinds.Pattern = codes "pattern"
 kind_name kinds.SeveralPatterns = codes "pattern"
 kind_name kinds.OnePattern = codes "pattern"
 kind_name kinds.AnItem = codes "item"
-kind_name kinds.DeriveInput = codes "item"
+kind_name kinds.DeriveInput = codes "one of: `struct`, `enum`, `union`"
 kind_name kinds.AForeignItem = codes "item of an extern block"
 kind_name kinds.ATraitItem = codes "item of a trait"
 kind_name kinds.AnImplItem = codes "item of an impl"
+kind_name kinds.IdentPattern = codes "pattern that is no macro"
+kind_name kinds.ExprBreak = codes "parentheses round what is labelled"
+kind_name kinds.ExprCast = codes "parentheses round the cast"
 kind_name k = codes "another token"
 
 -- what was wanted

@@ -95,10 +95,14 @@ fn kind_name(kind: Kind) -> &'static str
     match kind {
         Kind::AType(_) => "type",
         Kind::Pattern | Kind::SeveralPatterns | Kind::OnePattern => "pattern",
-        Kind::AnItem | Kind::DeriveInput => "item",
+        Kind::AnItem => "item",
+        Kind::DeriveInput => "one of: `struct`, `enum`, `union`",
         Kind::AForeignItem => "item of an extern block",
         Kind::ATraitItem => "item of a trait",
         Kind::AnImplItem => "item of an impl",
+        Kind::IdentPattern => "pattern that is no macro",
+        Kind::ExprBreak => "parentheses round what is labelled",
+        Kind::ExprCast => "parentheses round the cast",
         _ => "another token",
     }
 }

@@ -17,7 +17,7 @@ use crate::group::{closed, grouped};
 use crate::pending::{Pending, Work};
 use crate::refusal::Refusal;
 use crate::rules::Rules;
-use crate::unfit::named;
+use crate::unfit::{behind, named};
 use gram_tree::arena::Arena;
 use gram_tree::made;
 use gram_tree::tree::Tree;
@@ -54,9 +54,10 @@ fn said_of(last: Pending<'_>, refusal: Refusal) -> Refusal
         → result ≡ closed_by s refusal }
 {
     match last {
+        Pending::Front(front) => behind(&front, refusal),
         Pending::Node(kind, at) => named(kind, at, refusal),
         Pending::Inside(_, span, _) => closed(refusal, span),
-        Pending::Front(_) | Pending::Around(_) | Pending::Judged(_) => refusal,
+        Pending::Around(_) | Pending::Judged(_) => refusal,
     }
 }
 

@@ -9,7 +9,7 @@ use gram_judge::statements::needs_semicolon;
 use gram_table::kind::Kind;
 use gram_table::op::{Separator, Verdicts};
 use gram_table::part::Part;
-use gram_table::word::Sign;
+use gram_table::word::{Keyword, Sign, Words};
 use gram_tree::tree::{Element, Form, Tree, Two};
 use rust_map::span::Span;
 use syn_buffer::entry::Entry;
@@ -181,33 +181,114 @@ fn stands_first(wrong: &Wrong, at: &[Entry<'_>]) -> bool {
     }
 }
 
+// Whether that is what stands where none of a type's bounds is a path, behind the word before them.
+fn lacks_path(kind: Kind, wrong: &Wrong, at: &[Entry<'_>]) -> bool {
+    let Some((_, bounds)) = at.split_first() else {
+        return false;
+    };
+    matches!(kind, Kind::DynType(_) | Kind::ImplType(_))
+        && matches!(
+            wrong.wanted,
+            Wanted::Judged(Verdicts::SomeBounds) | Wanted::Nothing
+        )
+        && begins_lifetime(bounds)
+        && stands_first(wrong, bounds)
+}
+
+// Whether a lifetime begins there.
+fn begins_lifetime(at: &[Entry<'_>]) -> bool {
+    let Some((entry, _)) = at.split_first() else {
+        return false;
+    };
+    match *entry {
+        Entry::Punct(mark) => mark.as_char() == '\'',
+        _ => false,
+    }
+}
+
+// Whether the last of the words was wanted one of which a derive input has.
+fn lacks_keyword(kind: Kind, wanted: Wanted) -> bool {
+    matches!(kind, Kind::DeriveInput)
+        && matches!(wanted, Wanted::Word(Words::Keyword(Keyword::Union)))
+}
+
 // Whether the node of the kind is wanted itself: where nothing else is, and, if it has a name, where none of its tokens
-// stands.
+// stands; and of a derive input, where its word is.
 fn is_node(kind: Kind, wrong: &Wrong, at: &[Entry<'_>]) -> bool {
     match wrong.wanted {
         Wanted::Nothing => true,
         Wanted::Judged(_) => false,
-        _ => has_name(kind) && stands_first(wrong, at),
+        _ => has_name(kind) && stands_first(wrong, at) || lacks_keyword(kind, wrong.wanted),
     }
 }
 
+// What is wanted where a node of the kind is, or nothing that stands there goes on with it.
+fn wanted_of(kind: Kind) -> Wanted {
+    match kind {
+        Kind::UnnamedField | Kind::WhereClause => Wanted::Mark(Sign::Comma),
+        Kind::Meta => Wanted::Expression,
+        _ => Wanted::Node(kind),
+    }
+}
+
+// What is wrong of a node of the kind that begins there.
+fn wrong_of(kind: Kind, at: &[Entry<'_>], wrong: Wrong) -> Wrong {
+    if lacks_path(kind, &wrong, at) {
+        return Wrong {
+            span: begin_of_tokens(at),
+            is_end: false,
+            wanted: Wanted::Judged(Verdicts::SomeBounds),
+        };
+    }
+    if is_node(kind, &wrong, at) {
+        return Wrong {
+            span: wrong.span,
+            is_end: wrong.is_end,
+            wanted: wanted_of(kind),
+        };
+    }
+    wrong
+}
+
 /// What was refused of a node of the kind: the node is wanted, by its name, where none of its tokens stands, and where
-/// none of its forms goes on.
+/// none of its forms goes on. That no bound is a path is said where the type begins.
 pub(crate) fn named(kind: Kind, at: &[Entry<'_>], refusal: Refusal) -> Refusal
     ensures { (o : Out) → Fails refusal o → Fails result o }
 {
     match refusal {
-        Refusal::Syntax(wrong) => {
-            if is_node(kind, &wrong, at) {
-                Refusal::Syntax(Wrong {
-                    span: wrong.span,
-                    is_end: wrong.is_end,
-                    wanted: Wanted::Node(kind),
-                })
-            } else {
-                Refusal::Syntax(wrong)
-            }
-        }
+        Refusal::Syntax(wrong) => Refusal::Syntax(wrong_of(kind, at, wrong)),
+        Refusal::Memory => Refusal::Memory,
+        Refusal::Late => Refusal::Late,
+    }
+}
+
+// What is wrong behind that tree.
+fn wrong_behind(front: &Tree<'_>, wrong: Wrong) -> Wrong {
+    let Form::Called(part, inner) = &front.form else {
+        return wrong;
+    };
+    match (*part, wrong.wanted) {
+        (Part::Label, Wanted::Nothing) => Wrong {
+            span: begin(inner),
+            is_end: false,
+            wanted: Wanted::Node(Kind::ExprBreak),
+        },
+        (Part::Type, Wanted::Nothing) => Wrong {
+            span: wrong.span,
+            is_end: wrong.is_end,
+            wanted: Wanted::Node(Kind::ExprCast),
+        },
+        _ => wrong,
+    }
+}
+
+/// What was refused behind that tree. Where nothing goes on, parentheses are wanted round what begins with a label
+/// behind `break`, which is said at the label, and round a cast.
+pub(crate) fn behind(front: &Tree<'_>, refusal: Refusal) -> Refusal
+    ensures { (o : Out) → Fails refusal o → Fails result o }
+{
+    match refusal {
+        Refusal::Syntax(wrong) => Refusal::Syntax(wrong_behind(front, wrong)),
         Refusal::Memory => Refusal::Memory,
         Refusal::Late => Refusal::Late,
     }
