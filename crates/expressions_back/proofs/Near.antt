@@ -5,7 +5,7 @@ use Rattle.std.specs.Prelude.{Bool, true, false, not, ◌&&◌, ◌||◌, ◌⊎
 use Rattle.std.proofs.lemmas.Bool.{false≢true}
 use Rattle.proc_macro2.specs.Token.{Token}
 use Rattle.syn_grammar.specs.Kind.{Kind, Position, Plain, InCondition, InArm, InStatement, ExprStruct, ExprPath}
-use Rattle.syn_grammar.specs.Kind.{ExprAttributed, ExprBreak}
+use Rattle.syn_grammar.specs.Kind.{ExprBreak}
 use Rattle.syn_grammar.specs.Tree.{Tree, Alone, Front, Back, Infix, flat}
 use Rattle.syn_grammar.specs.Look.{sees}
 use Rattle.syn_grammar.specs.Say.{brace}
@@ -15,6 +15,7 @@ use Rattle.syn_grammar.specs.Parens.{parens_unless, may_lack, stays_right, stays
 use Rattle.syn_grammar.specs.Parens.{begins_in, stands_in, takes_what_follows, follow, with_right}
 use Rattle.syn_grammar.specs.Parens.{with_left}
 use Rattle.syn_grammar.specs.Normal.{normal, formed}
+use Rattle.syn_grammar.proofs.Settled.{plain_inside}
 use Rattle.syn_grammar.proofs.Whole.{and_true}
 use Rattle.binding_laws.specs.Meets.{NoneGoesOn, LeftMeets, Meets}
 use Rattle.binding_laws.proofs.Levels.{paren_left, or_false, not_true, none_goes, right_meets}
@@ -24,11 +25,6 @@ use Rattle.binding_laws.proofs.Stays.{Behind}
 -- where it stands: in its position, or in plain position
 abbrev pub Near : Position → Position → Type 0
 Near p q = (q ≡ p) ⊎ (q ≡ Plain)
-
-plain_inside : (k : Kind) → inside Plain k ≡ Plain
-unfolding inside
-plain_inside ExprAttributed = refl
-plain_inside _ = refl
 
 pub near_inside : (p q : Position) (k : Kind) → Near p q → Near (inside p k) (inside q k)
 near_inside p q k (inl e) = inl (ap (λ r. inside r k) e)

@@ -325,7 +325,7 @@ pub struct_is : (k : Kind) → is_struct k ≡ true → k ≡ ExprStruct
 struct_is ExprStruct s = refl
 struct_is _ s = absurd (false≢true s)
 
-path_takes : (p : Position) (ts : List Token) → takes_what_follows p ExprPath (follow ts) ≡ false
+pub path_takes : (p : Position) (ts : List Token) → takes_what_follows p ExprPath (follow ts) ≡ false
 unfolding may_lack
 path_takes p ts = path_plain p (follow ts) (follow_plain ts)
 

@@ -79,7 +79,7 @@ range_kept (Back l k y) h = ap is_range (h.3 (kept l))
 range_kept (Infix l k y r) h = refl
 range_kept _ h = absurd h
 
-path_kept : (x : Tree) → FitsForms x → is_path_form (kept x) ≡ is_path_form x
+pub path_kept : (x : Tree) → FitsForms x → is_path_form (kept x) ≡ is_path_form x
 path_kept (Alone ExprPath y) h = refl
 path_kept (Alone _ y) h = refl
 path_kept (Front k y x) h = refl

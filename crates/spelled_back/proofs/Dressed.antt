@@ -12,8 +12,9 @@ use Rattle.syn_grammar.specs.Parens.{in_parens, parens_unless, takes_what_follow
 use Rattle.syn_grammar.specs.Parens.{is_struct, begins_in, stands_in, follow, with_right, with_left}
 use Rattle.expressions_back.specs.Behind.{is_attributed}
 use Rattle.expressions_back.specs.Formed.{is_attributed_form}
+use Rattle.expressions_back.proofs.Stands.{path_takes}
 use Rattle.spelled_back.specs.Spelled.{parenthesized}
-use Rattle.spelled_back.proofs.Stays.{list_stays, made_stays, path_takes, struct_stays}
+use Rattle.spelled_back.proofs.Stays.{list_stays, made_stays, struct_stays}
 
 -- in so many parentheses
 abbrev pub in_many : ℕ → Tree → Tree

@@ -4,31 +4,22 @@ use Rattle.std.specs.Prelude.{Bool, true, false, not, ◌&&◌}
 use Rattle.std.proofs.lemmas.Bool.{false≢true}
 use Rattle.proc_macro2.specs.Token.{Token, Closes}
 use Rattle.proc_macro2.specs.declared.delimiter.Delimiter.TheVariants.{Parenthesis}
-use Rattle.syn_grammar.specs.Kind.{Kind, Position, Plain, Expression, ExprAttributed, ExprBreak, ExprPath, ExprStruct}
-use Rattle.syn_grammar.specs.Tree.{Tree, Final, Group, Node, Whole, Alone, Front, Back, Infix, flat}
+use Rattle.syn_grammar.specs.Kind.{Kind, Plain, ExprAttributed, ExprBreak, ExprPath, ExprStruct}
+use Rattle.syn_grammar.specs.Tree.{Tree, Alone, Front, Back, Infix, flat}
 use Rattle.syn_grammar.specs.Forms.{chains, has_right, inside, level, is_path_form}
-use Rattle.syn_grammar.specs.Normal.{passed, stands_behind, normal}
-use Rattle.syn_grammar.specs.Parens.{in_parens, parens_unless, may_lack, takes_what_follows, stays_right, stays_left}
+use Rattle.syn_grammar.specs.Normal.{normal}
+use Rattle.syn_grammar.specs.Parens.{in_parens, parens_unless, may_lack, stays_right, stays_left}
 use Rattle.syn_grammar.specs.Parens.{is_struct, follow}
-use Rattle.syn_grammar.proofs.Settled.{Settled, normal_twice, settled_is}
+use Rattle.syn_grammar.proofs.Settled.{Settled, normal_twice, parens_settled, plain_inside, takes_nothing}
 use Rattle.syn_grammar.proofs.Whole.{and_true}
 use Rattle.expressions_back.specs.Behind.{is_attributed}
 use Rattle.expressions_back.specs.Formed.{is_attributed_form}
 use Rattle.expressions_back.proofs.Begins.{paren_operand}
+use Rattle.expressions_back.proofs.Stands.{path_takes}
 use Rattle.spelled_back.specs.Spelled.{parenthesized}
-use Rattle.spelled_back.proofs.Stays.{list_stays, path_takes, struct_stays}
+use Rattle.spelled_back.proofs.Stays.{list_stays, struct_stays}
 
--- in plain position nothing is taken that doesn't follow, and an operand in parentheses stays
-takes_nothing : (k : Kind) → takes_what_follows Plain k [] ≡ false
-unfolding may_lack has_right
-takes_nothing ExprBreak = refl
-takes_nothing _ = refl
-
-plain_inside : (k : Kind) → inside Plain k ≡ Plain
-unfolding inside
-plain_inside ExprAttributed = refl
-plain_inside _ = refl
-
+-- an operand in parentheses stays
 right_stays : (k : Kind) (y x : Tree) → stays_right Plain k y (in_parens x) ≡ true
 unfolding may_lack has_right level
 right_stays ExprBreak y x = ap (λ b. not b && true) (paren_operand ExprBreak y (flat x ++ Closes Parenthesis ∷ [])).1
@@ -38,11 +29,6 @@ left_stays : (k : Kind) (y x : Tree) → stays_left Plain k y (in_parens x) ≡ 
 unfolding level chains
 left_stays ExprStruct y x = refl
 left_stays _ y x = refl
-
-paren_settled : (p : Position) (ts : List Token) (x : Tree) → Settled Plain [] x → Settled p ts (in_parens x)
-unfolding passed stands_behind may_lack
-paren_settled p ts x s =
-    (ap (λ z. Group Parenthesis (Final (Node (Expression Plain) (Whole z)))) (settled_is Plain [] x s), refl)
 
 -- and so do attributes behind attributes
 list_right : (k : Kind) (y x : Tree) → (is_attributed k && is_attributed_form x) ≡ true
@@ -65,7 +51,7 @@ right k y x true e s = record {
 }
 right k y x false e s = record {
   stays = right_stays k y (parenthesized x);
-  settled = paren_settled (inside Plain k) [] (parenthesized x) s;
+  settled = parens_settled (inside Plain k) [] (parenthesized x) s;
 }
 
 record Left (k : Kind) (y x : Tree) : Type 0 where
@@ -84,7 +70,7 @@ left k y x true e s =
     record { stays = struct_stays Plain k y (parenthesized x) i.0; settled = path_settled x (flat y) i.1 }
 left k y x false e s = record {
   stays = left_stays k y (parenthesized x);
-  settled = paren_settled Plain (follow (flat y)) (parenthesized x) s;
+  settled = parens_settled Plain (follow (flat y)) (parenthesized x) s;
 }
 
 pub settled : (x : Tree) → Settled Plain [] (parenthesized x)
@@ -98,8 +84,8 @@ settled (Back l k y) =
 settled (Infix l k y r) = (
   normal_twice Plain y,
   left_stays k (normal y) (parenthesized l),
-  paren_settled Plain (follow (flat (normal y))) (parenthesized l) (settled l),
+  parens_settled Plain (follow (flat (normal y))) (parenthesized l) (settled l),
   right_stays k (normal y) (parenthesized r),
-  paren_settled (inside Plain k) [] (parenthesized r) (settled r),
+  parens_settled (inside Plain k) [] (parenthesized r) (settled r),
 )
 settled _ = tt

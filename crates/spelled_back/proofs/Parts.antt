@@ -2,7 +2,7 @@
 -- is put together again, also with other operands.
 use Rattle.std.proofs.Common.{◌≡◌, refl, sym, ap, ◌∙◌, subst}
 use Rattle.std.specs.Prelude.{true, false, ◌&&◌}
-use Rattle.syn_grammar.specs.Kind.{Kind, ExprAttributed, ExprPath}
+use Rattle.syn_grammar.specs.Kind.{Kind, ExprAttributed}
 use Rattle.syn_grammar.specs.Tree.{Tree, Alone, Front, Back, Infix}
 use Rattle.syn_grammar.specs.Table.{table}
 use Rattle.syn_grammar.specs.Forms.{kind_of, is_path_form}
@@ -13,6 +13,7 @@ use Rattle.expressions_back.specs.Formed.{is_attributed_form}
 use Rattle.grammar_back.specs.Covered.{is_known, is_plain_part}
 use Rattle.grammar_back.proofs.Fits.{Fits, FitsForms, HasOperands, IsBackKind, IsFrontKind, IsMeant, IsWhole}
 use Rattle.grammar_back.proofs.Fits.{MayHave, MayLack}
+use Rattle.read_back.proofs.Held.{path_kept}
 use Rattle.read_back.proofs.Operands.{apart, together}
 use Rattle.spelled_back.proofs.Laid.{Laid}
 
@@ -39,19 +40,11 @@ attributed_kept (Back l k y) f = ap is_attributed_form (sym (f.3 (kept l)))
 attributed_kept (Infix l k y r) f = refl
 attributed_kept _ f = absurd f
 
-path_kept : (x : Tree) → FitsForms x → is_path_form x ≡ is_path_form (kept x)
-path_kept (Alone ExprPath y) f = refl
-path_kept (Alone _ y) f = refl
-path_kept (Front k y x) f = refl
-path_kept (Back l k y) f = ap is_path_form (sym (f.3 (kept l)))
-path_kept (Infix l k y r) f = refl
-path_kept _ f = absurd f
-
 attributed_laid : (x : Tree) (l : Laid x) → is_attributed_form l.tree ≡ is_attributed_form x
 attributed_laid x l = attributed_kept l.tree l.fits ∙ ap is_attributed_form l.kept_is
 
 path_laid : (x : Tree) (l : Laid x) → is_path_form l.tree ≡ is_path_form x
-path_laid x l = path_kept l.tree l.fits ∙ ap is_path_form l.kept_is
+path_laid x l = sym (path_kept l.tree l.fits) ∙ ap is_path_form l.kept_is
 
 -- an atom
 pub record OfAlone (k : Kind) (y : Tree) : Type 0 where

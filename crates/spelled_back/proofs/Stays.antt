@@ -1,16 +1,14 @@
 -- What stays as it stands in each position: attributes behind attributes, and a path before braces.
-use Rattle.std.proofs.Common.{◌≡◌, List, refl, ap}
+use Rattle.std.proofs.Common.{◌≡◌, refl, ap}
 use Rattle.std.specs.Prelude.{Bool, true, false, not, ◌||◌}
 use Rattle.std.proofs.lemmas.Bool.{false≢true}
-use Rattle.proc_macro2.specs.Token.{Token}
-use Rattle.syn_grammar.specs.Kind.{Kind, Position, ExprAttributed, ExprPath}
+use Rattle.syn_grammar.specs.Kind.{Kind, Position, ExprAttributed}
 use Rattle.syn_grammar.specs.Tree.{Tree, Front}
 use Rattle.syn_grammar.specs.Forms.{level, is_range, within}
-use Rattle.syn_grammar.specs.Parens.{parens_unless, may_lack, takes_what_follows, stays_right, stays_left, is_struct}
-use Rattle.syn_grammar.specs.Parens.{follow, with_right}
+use Rattle.syn_grammar.specs.Parens.{parens_unless, may_lack, stays_right, stays_left, is_struct}
+use Rattle.syn_grammar.specs.Parens.{with_right}
 use Rattle.syn_grammar.proofs.Whole.{and_true}
 use Rattle.binding_laws.proofs.Levels.{not_true}
-use Rattle.binding_laws.proofs.Stays.{follow_plain, path_plain}
 
 -- what stays behind attributes is no range, so they stay behind others
 pub list_stays : (p : Position) (y z x : Tree) → stays_right p ExprAttributed z x ≡ true
@@ -28,14 +26,10 @@ made_stays p y x = go (stays_right p ExprAttributed y x) refl
     go true e = e
     go false e = refl
 
--- what stands before braces stays, and a path takes nothing there
+-- what stands before braces stays
 or_first : (a b : Bool) → a ≡ true → (a || b) ≡ true
 or_first true b e = refl
 or_first false b e = absurd (false≢true e)
 
 pub struct_stays : (p : Position) (k : Kind) (y l : Tree) → is_struct k ≡ true → stays_left p k y l ≡ true
 struct_stays p k y l s = or_first (is_struct k) _ s
-
-pub path_takes : (p : Position) (ts : List Token) → takes_what_follows p ExprPath (follow ts) ≡ false
-unfolding may_lack
-path_takes p ts = path_plain p (follow ts) (follow_plain ts)

@@ -27,13 +27,13 @@ use Rattle.syn_grammar.proofs.Whole.{and_true}
 
 -- tests
 
-plain_inside : (k : Kind) → inside Plain k ≡ Plain
+pub plain_inside : (k : Kind) → inside Plain k ≡ Plain
 unfolding inside
 plain_inside ExprAttributed = refl
 plain_inside _ = refl
 
 -- nothing that follows is taken
-takes_nothing : (k : Kind) → takes_what_follows Plain k [] ≡ false
+pub takes_nothing : (k : Kind) → takes_what_follows Plain k [] ≡ false
 unfolding may_lack has_right
 takes_nothing ExprBreak = refl
 takes_nothing ExprReturn = refl
@@ -295,7 +295,7 @@ parens_normal : (x : Tree) → Settled Plain [] x
 unfolding passed stands_behind
 parens_normal x s = ap (λ z. Group Parenthesis (Final (Node (Expression Plain) (Whole z)))) (settled_is Plain [] x s)
 
-parens_settled : (p : Position) (ts : List Token) (x : Tree) → Settled Plain [] x → Settled p ts (in_parens x)
+pub parens_settled : (p : Position) (ts : List Token) (x : Tree) → Settled Plain [] x → Settled p ts (in_parens x)
 unfolding may_lack
 parens_settled p ts x s = (parens_normal x s, refl)
 
