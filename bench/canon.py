@@ -3,8 +3,8 @@
 them, all in one run. Prints tables: for each text the least processor time of several runs of each program, and its
 peak memory for each byte of the text. The first is of whole runs. The second is of an outline, for which the file is
 read whole, and a line is written for each name, beside lexing and reading alone: syn's tree is let go of. The third is of
-lexing alone. The last one has Debian's rustfmt beside them, on the files of std alone, as it asks for more than that a text is lexed
-and read.
+lexing alone. The last one has Debian's rustfmt beside them, on files of std alone, as it asks for more than that a text is lexed
+and read: on the largest and one of 0.1 MB, and on all that both take, each by itself, the sum of one run of each.
 
 Usage: bench/canon.py [RUNS [CANON LEXER]]. It builds the programs first, which proves what isn't proved yet, or takes those
 that are named, and fetches Debian's packages rust-src, librust-proc-macro2-dev, librust-syn-dev, librust-quote-dev and
@@ -111,15 +111,30 @@ def written(make):
 # What the names of the texts that rustfmt is given begin with.
 OF_STD = ("largest file", "`core/src")
 
-def is_read(program, text):
+RUSTFMT = ["/usr/bin/rustfmt", "--edition", "2021"]
+
+
+def is_read(command, text):
     """Whether the program reads the text as a file."""
-    ran = subprocess.run([program], input=text, stdout=subprocess.DEVNULL, stderr=subprocess.DEVNULL)
+    ran = subprocess.run(command, input=text, stdout=subprocess.DEVNULL, stderr=subprocess.DEVNULL)
     return ran.returncode == 0
+
+
+def files_of_std():
+    """The folder of std, and its files, the largest last."""
+    listed = subprocess.run(["dpkg", "-L", "rust-src"], capture_output=True, text=True, check=True).stdout
+    folder = next(line for line in listed.splitlines() if line.endswith("/library"))
+    return folder, sorted(glob.glob(folder + "/**/*.rs", recursive=True), key=os.path.getsize)
+
+
+def content(name):
+    with open(name, "rb") as file:
+        return file.read()
 
 
 def modules(files):
     """The files, each as a module of its own."""
-    parts = (b"mod file_%d {\n%s\n}\n" % (at, open(name, "rb").read().removeprefix(b"\xef\xbb\xbf")) for at, name in enumerate(files))
+    parts = (b"mod file_%d {\n%s\n}\n" % (at, content(name).removeprefix(b"\xef\xbb\xbf")) for at, name in enumerate(files))
     return list(parts)
 
 
@@ -130,12 +145,10 @@ def texts():
     yield "expressions", written(lambda source: f"const {name(source)}: u8 = {value(source, 4)};\n")
     yield "data types and constants", written(data)
     yield "functions and impls", written(function)
-    listed = subprocess.run(["dpkg", "-L", "rust-src"], capture_output=True, text=True, check=True).stdout
-    folder = next(line for line in listed.splitlines() if line.endswith("/library"))
-    files = sorted(glob.glob(folder + "/**/*.rs", recursive=True), key=os.path.getsize)
+    folder, files = files_of_std()
     yield "std, each of its files a module", modules(files)
-    yield "largest file of std", open(files[-1], "rb").read()
-    yield "`core/src/iter/traits/iterator.rs`", open(folder + "/core/src/iter/traits/iterator.rs", "rb").read()
+    yield "largest file of std", content(files[-1])
+    yield "`core/src/iter/traits/iterator.rs`", content(folder + "/core/src/iter/traits/iterator.rs")
     yield "one macro with std inside", b"m!{" + library() + b"}"
 
 
@@ -192,13 +205,17 @@ def beside_rustfmt(runner, programs, made, place, runs):
     """Each text's row beside rustfmt."""
     print("\n| Beside rustfmt | MB | this | rustfmt | this/rustfmt | Bytes a byte, each |")
     print("|---|---|---|---|---|---|")
-    commands = [[programs["canon"]], ["/usr/bin/rustfmt", "--edition", "2021"]]
+    commands = [[programs["canon"]], RUSTFMT]
     for what, text in made:
         with open(place, "wb") as file:
             file.write(text)
         (ours, theirs), memory = measured(runner, commands, place, runs)
         each = ", ".join(f"{peak / len(text):.0f}" for peak in memory)
         print(f"| {what} | {len(text) / 1e6:.1f} | {ours:.3f} s | {theirs:.3f} s | {ours / theirs:.2f} | {each} |", flush=True)
+    taken = [name for name in files_of_std()[1] if all(is_read(command, content(name)) for command in commands)]
+    size = sum(os.path.getsize(name) for name in taken)
+    ours, theirs = (sum(runner.once(command, name)[0] for name in taken) for command in commands)
+    print(f"| {len(taken)} files of std, each by itself | {size / 1e6:.1f} | {ours:.3f} s | {theirs:.3f} s | {ours / theirs:.2f} | |", flush=True)
 
 
 def main():
@@ -207,8 +224,8 @@ def main():
     runner = Runner()
     with tempfile.TemporaryDirectory() as work:
         programs = built(work, sys.argv[2:])
-        both = [programs["canon"], programs["peer without"]]
-        whole = lambda part: all(is_read(program, part) for program in both)
+        both = [[programs["canon"]], [programs["peer without"]]]
+        whole = lambda part: all(is_read(command, part) for command in both)
         made = [(what, text if isinstance(text, bytes) else b"".join(filter(whole, text))) for what, text in texts()]
         place = os.path.join(work, "text")
         commands = [[programs["canon"]]] + [[programs[peer]] for peer in PEERS]

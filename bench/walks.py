@@ -257,25 +257,25 @@ SHAPES = [
 ]
 
 
-def crate(folder):
-    """A copy of the repository's crates without what was built, with the program's, whose folder is answered."""
+def crate(folder, name=NAME, source=SOURCE):
+    """A copy of the repository's crates without what was built, with a program's, whose folder is answered."""
     for name in ("crates.txt", "HANDLES"):
         shutil.copy(os.path.join(TOP, name), folder)
     shutil.copytree(os.path.join(TOP, "crates"), os.path.join(folder, "crates"), ignore=shutil.ignore_patterns("out"))
     with open(os.path.join(folder, "crates.txt"), "a", encoding="utf-8") as file:
-        file.write(f"{NAME}: {BELOW}\n")
-    own = os.path.join(folder, "crates", NAME)
+        file.write(f"{name}: {BELOW}\n")
+    own = os.path.join(folder, "crates", name)
     os.makedirs(os.path.join(own, "src"))
     with open(os.path.join(own, "src", "main.rt"), "w", encoding="utf-8") as file:
-        file.write(SOURCE)
+        file.write(source)
     return own
 
 
-def built(folder):
-    """The program, proved and built."""
-    own = crate(folder)
-    subprocess.run(["rt", "run"], cwd=own, input=b"nothing\na", stdout=subprocess.DEVNULL, check=True)
-    return os.path.join(own, "out", NAME)
+def built(folder, asked=b"nothing\na", name=NAME, source=SOURCE):
+    """A program, proved and built, which was asked that."""
+    own = crate(folder, name, source)
+    subprocess.run(["rt", "run"], cwd=own, input=asked, stdout=subprocess.DEVNULL, check=True)
+    return os.path.join(own, "out", name)
 
 
 def once(program, line, text, stack):
