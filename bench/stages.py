@@ -39,12 +39,22 @@ fn count_of(word: &str) -> Result<usize> {
     }
 }
 
+// The file that a buffer holds.
+fn parsed<'a>(arena: &'a Arena, buffer: &'a TokenBuffer<'a>) -> Result<Tree<'a>> {
+    Ok(parse_as(arena, Kind::AFile, buffer)?)
+}
+
+// Reads a buffer as a file, and lets go of it.
+fn read_buffer(alloc: Global, buffer: &TokenBuffer) -> Result<()> {
+    let arena = Arena::new(alloc);
+    let _tree = parsed(&arena, buffer)?;
+    Ok(())
+}
+
 // Reads tokens as a file, and lets go of it.
 fn read_once(alloc: Global, stream: &TokenStream) -> Result<()> {
     let buffer = TokenBuffer::new2(alloc, stream, 1)?;
-    let arena = Arena::new(alloc);
-    let _tree = parse_as(&arena, Kind::AFile, &buffer)?;
-    Ok(())
+    read_buffer(alloc, &buffer)
 }
 
 // The length of what a tree is printed as.
@@ -55,7 +65,19 @@ fn printed_once(alloc: Global, tree: &Tree) -> Result<usize> {
     Ok(text.len())
 }
 
-// Reads a text so often, and puts the length of what it is printed as, so often.
+// Prints the file that a buffer holds so often, and puts the length of its text.
+fn put_printed(prints: usize, buffer: &TokenBuffer, out: &mut String) -> Result<()> {
+    let alloc = *out.allocator();
+    let arena = Arena::new(alloc);
+    let tree = parsed(&arena, buffer)?;
+    let mut length = 0;
+    for _ in 0..prints {
+        length = printed_once(alloc, &tree)?;
+    }
+    Ok(writeln!(out, "{length}")?)
+}
+
+// Reads a text so often, and prints it so often.
 fn put_stages(reads: usize, prints: usize, text: &str, out: &mut String) -> Result<()> {
     let alloc = *out.allocator();
     let mut map = SourceMap::new(alloc);
@@ -64,13 +86,7 @@ fn put_stages(reads: usize, prints: usize, text: &str, out: &mut String) -> Resu
         read_once(alloc, &stream)?;
     }
     let buffer = TokenBuffer::new2(alloc, &stream, 1)?;
-    let arena = Arena::new(alloc);
-    let tree = parse_as(&arena, Kind::AFile, &buffer)?;
-    let mut length = 0;
-    for _ in 0..prints {
-        length = printed_once(alloc, &tree)?;
-    }
-    Ok(writeln!(out, "{length}")?)
+    put_printed(prints, &buffer, out)
 }
 
 fn main(rt: HostRuntime) -> Result<()> {

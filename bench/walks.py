@@ -62,7 +62,7 @@ struct Asked<'t> {
 }
 
 // What the first line asks for.
-fn asked(line: &str) -> Asked<'_> {
+fn asked_of(line: &str) -> Asked<'_> {
     let (walk, others) = line.split_once(' ').unwrap_or((line, ""));
     let (count, side) = others.split_once(' ').unwrap_or((others, ""));
     Asked {
@@ -215,7 +215,7 @@ fn put_asked(line: &str, text: &str, out: &mut String) -> Result<()> {
     let mut map = SourceMap::new(alloc);
     let stream = TokenStream::from_str(alloc, text, &mut map)?;
     let buffer = TokenBuffer::new2(alloc, &stream, 1)?;
-    put_answer(asked(line), &buffer, out)
+    put_answer(asked_of(line), &buffer, out)
 }
 
 fn main(rt: HostRuntime) -> Result<()> {
