@@ -1,8 +1,9 @@
 #!/usr/bin/env python3
-"""Times reading alone and printing alone beside syn's, with span locations and without them, all in one run. Prints two tables:
-for each text of `canon.py` what one reading of its tokens takes, from the making of the buffer to the letting go of the tree, and
-what one printing of a tree takes, from the tree to the text. Each is the difference of two whole runs, of which one reads or prints
-more often, divided by how much more often; of each run the least processor time of several, in which the programs take turns.
+"""Times reading alone and printing alone beside syn's, with span locations and without them, all in one run. Prints a table:
+for each text of `canon.py` but the macro what one reading of its tokens takes, from the making of the buffer to the letting go of
+the tree, and what one printing of a tree takes, from the tree to the text. Each is the difference of two whole runs, of which one
+reads or prints more often, divided by how much more often; of each run the least processor time of several, in which the programs
+take turns.
 
 Usage: bench/stages.py [RUNS]                 measures: 5 runs
        bench/stages.py with PROGRAM [RUNS]    the same of a program that is built already
@@ -109,23 +110,16 @@ def took(runner, programs, place, text, counts, runs):
     return measured(runner, [[program] for program in programs], place, runs)[0]
 
 
-def rows(runner, programs, made, place, runs):
-    """For each text what one reading and one printing take each program."""
-    for what, text in made:
-        times = 10 if len(text) < 10_000_000 else 2
-        once = took(runner, programs, place, text, (1, 0), runs)
-        read = took(runner, programs, place, text, (1 + times, 0), runs)
-        printed = took(runner, programs, place, text, (1, times), runs)
-        each = lambda more: [(after - before) / times for before, after in zip(once, more)]
-        yield what, len(text), each(read), each(printed)
-
-
-def table(title, stages):
-    print(f"\n| {title} | MB | this | peer with spans | peer without | this/with | this/without |")
-    print("|---|---|---|---|---|---|---|")
-    for what, size, (ours, spans, plain) in stages:
-        times = f"{ours:.4f} s | {spans:.4f} s | {plain:.4f} s | {ours / spans:.2f} | {ours / plain:.2f}"
-        print(f"| {what} | {size / 1e6:.1f} | {times} |", flush=True)
+def put_row(runner, programs, what, text, place, runs):
+    """What one reading and one printing of a text take each program."""
+    times = 4 if len(text) < 10_000_000 else 1
+    once = took(runner, programs, place, text, (1, 0), runs)
+    cells = []
+    for counts in ((1 + times, 0), (1, times)):
+        more = took(runner, programs, place, text, counts, runs)
+        ours, spans, plain = ((after - before) / times for before, after in zip(once, more))
+        cells += [f"{ours:.4f} s", f"{spans:.4f} s", f"{plain:.4f} s", f"{ours / spans:.2f}", f"{ours / plain:.2f}"]
+    print(f"| {what} | {len(text) / 1e6:.1f} | {' | '.join(cells)} |", flush=True)
 
 
 def measure(given, runs):
@@ -138,10 +132,13 @@ def measure(given, runs):
             os.mkdir(out)
             programs.append(peer_of(out, flags, HERE + "/stage_peer.rs"))
         whole = lambda part: all(is_read([program], b"1 0\n" + part) for program in (programs[0], programs[-1]))
-        made = [(what, text if isinstance(text, bytes) else b"".join(filter(whole, text))) for what, text in texts()]
-        found = list(rows(runner, programs, made, os.path.join(work, "text"), runs))
-    table("Read alone", [(what, size, read) for what, size, read, _ in found])
-    table("Written and printed alone", [(what, size, printed) for what, size, _, printed in found])
+        names = "this | peer with spans | peer without | this/with | this/without"
+        print(f"| One reading, and one printing | MB | Read: {names} | Printed: {names} |")
+        print("|---" * 12 + "|", flush=True)
+        for what, text in texts():
+            if not what.startswith("one macro"):
+                text = text if isinstance(text, bytes) else b"".join(filter(whole, text))
+                put_row(runner, programs, what, text, os.path.join(work, "text"), runs)
 
 
 def main():
