@@ -4,24 +4,44 @@ ghost use Rattle.gram_tree.specs.Forms.{ending};
 ghost use Rattle.std.specs.Prelude.{◌≡◌, ◌↔◌, IsTrue};
 
 use crate::leaf::same_spacing;
-use crate::rest::{Rest, left};
+use crate::rest::{Rest, left as rest_of};
 use gram_tree::tree::{Element, Tree};
 
-/// Whether two trees are one, wherever their tokens stand. It ends at the first difference, takes no memory, and calls
-/// itself only where trees stand in trees.
+// Two trees that are compared.
+#[derive(Clone, Copy)]
+struct Places<'t, 'a> {
+    one: &'t Tree<'a>,
+    other: &'t Tree<'a>,
+}
+
+/// Whether two trees are one, wherever their tokens stand. It ends at the first difference, takes no memory, and goes
+/// on to what may be as deep as a chain is long without a call.
 #[cycle(equal)]
 pub fn equal<'t, 'a>(a: &'t Tree<'a>, b: &'t Tree<'a>) -> bool
     ensures { IsTrue result ↔ (a.now ≡ b.now) }
 {
-    match left(a, b) {
-        Rest::Told(same) => same,
-        Rest::One(x, y) => equal(x, y),
-        Rest::Two(x, y, last, end) => equal(x, y) && equal(last, end),
-        Rest::Three(x, y, second, other, last, end) => {
-            equal(x, y) && equal(second, other) && equal(last, end)
-        }
-        Rest::Turns(turns, others) => equal_turns(turns, others),
-        Rest::Elements(x, y) => equal_elements(x.before, y.before) && equal_last(x.last, y.last),
+    let mut left = Places { one: a, other: b };
+    'tails: loop {
+        left = match rest_of(left.one, left.other) {
+            Rest::Told(same) => return same,
+            Rest::One(one, other) => Places { one, other },
+            Rest::Two(x, y, one, other) => {
+                if !equal(x, y) {
+                    return false;
+                }
+                Places { one, other }
+            }
+            Rest::Three(x, y, u, v, one, other) => {
+                if !equal(x, y) || !equal(u, v) {
+                    return false;
+                }
+                Places { one, other }
+            }
+            Rest::Turns(turns, others) => return equal_turns(turns, others),
+            Rest::Elements(x, y) => {
+                return equal_elements(x.before, y.before) && equal_last(x.last, y.last);
+            }
+        };
     }
 }
 

@@ -1,8 +1,19 @@
-use Rattle.std.proofs.Common.{◌≡◌, ◌+◌, ◌*◌, drop}
+use Rattle.std.proofs.Common.{◌≡◌, ◌+◌, ◌*◌, ◌≤◌, drop}
+use Rattle.std.specs.Prelude.{◌↔◌}
 use Rattle.syn_grammar.specs.Tree as t
 use Rattle.gram_tree.specs.Forms.{elements, ending, turns}
 use Rattle.gram_equal.specs.Rest.{both_count}
 use Rattle.gram_equal.proofs.tree.+equal.Given as goal
+
+-- the two are one exactly if what is left is, which is no more
+abbrev pub invariant-equal-tails : goal.invariant-equal-tails
+invariant-equal-tails l = record {
+  same : (l.fn.a ≡ l.fn.b) ↔ (l.left.one.now ≡ l.left.other.now);
+  inside : both_count l.left.one.now l.left.other.now ≤ both_count l.fn.a l.fn.b;
+}
+
+abbrev pub decreases-equal-tails : goal.decreases-equal-tails
+decreases-equal-tails l = both_count l.left.one.now l.left.other.now
 
 -- as far as they are one, what is left decides
 abbrev pub invariant-equal_turns-loop-index : goal.invariant-equal_turns-loop-index
