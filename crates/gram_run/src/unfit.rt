@@ -206,7 +206,7 @@ fn begins_lifetime(at: &[Entry<'_>]) -> bool {
     }
 }
 
-// Whether the last of the words was wanted one of which a derive input has.
+// Whether one of a derive input's keywords was wanted, of which the last is said.
 fn lacks_keyword(kind: Kind, wanted: Wanted) -> bool {
     matches!(kind, Kind::DeriveInput)
         && matches!(wanted, Wanted::Word(Words::Keyword(Keyword::Union)))
@@ -257,8 +257,7 @@ pub(crate) fn named(kind: Kind, at: &[Entry<'_>], refusal: Refusal) -> Refusal
 {
     match refusal {
         Refusal::Syntax(wrong) => Refusal::Syntax(wrong_of(kind, at, wrong)),
-        Refusal::Memory => Refusal::Memory,
-        Refusal::Late => Refusal::Late,
+        other => other,
     }
 }
 
@@ -289,8 +288,7 @@ pub(crate) fn behind(front: &Tree<'_>, refusal: Refusal) -> Refusal
 {
     match refusal {
         Refusal::Syntax(wrong) => Refusal::Syntax(wrong_behind(front, wrong)),
-        Refusal::Memory => Refusal::Memory,
-        Refusal::Late => Refusal::Late,
+        other => other,
     }
 }
 
