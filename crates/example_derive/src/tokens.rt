@@ -78,7 +78,7 @@ pub fn put_group(delimiter: Delimiter, inside: TokenStream, out: &mut TokenStrea
 
 // A mark at the end stands alone: what followed it in the text does not follow it here.
 fn end_alone(pieces: &mut Vec<Piece>) {
-    if let Some(Piece::Mark(_, spacing)) = pieces.last_mut() {
+    if let Some(Piece::Mark(_, spacing, _)) = pieces.last_mut() {
         *spacing = Spacing::Alone;
     }
 }

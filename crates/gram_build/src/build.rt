@@ -35,6 +35,7 @@ use gram_table::kind::{Kind, Position};
 use gram_table::part::Part;
 use gram_tree::tree::{Form, Three, Tree, Two};
 use proc_macro2::delimiter::Delimiter;
+use rust_map::span::Span;
 use std::alloc::{AllocError, Global};
 
 // What stands behind a whole expression: of a condition a brace.
@@ -43,7 +44,7 @@ fn behind_whole<'a>(position: Position) -> Head<'a>
     ensures { head_tokens result ≡ front3 (stands_behind (position_of position)) }
 {
     match position {
-        Position::InCondition => Head::One(Piece::Open(Delimiter::Brace)),
+        Position::InCondition => Head::One(Piece::Open(Delimiter::Brace, Span::call_site())),
         Position::Plain => Head::Empty,
         Position::InArm => Head::Empty,
         Position::InStatement => Head::Empty,

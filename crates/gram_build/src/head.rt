@@ -9,6 +9,7 @@ ghost use Rattle.std.specs.Prelude.{[], ◌++◌, ◌∷◌, ◌≡◌, map};
 
 use gram_piece::piece::Piece;
 use proc_macro2::delimiter::Delimiter;
+use rust_map::span::Span;
 
 /// The first tokens of something, at most three.
 #[derive(Clone, Copy)]
@@ -90,5 +91,6 @@ pub(crate) fn enclosed<'a>(inside: Head<'a>) -> Head<'a>
     ensures { head_tokens result ≡ front3 (Opens Parenthesis ∷ (head_tokens inside.entry ++ Closes Parenthesis ∷ [])) }
 {
     let closed = joined(inside, Head::One(Piece::Close(Delimiter::Parenthesis)));
-    behind_one(Piece::Open(Delimiter::Parenthesis), closed)
+    let opened = Piece::Open(Delimiter::Parenthesis, Span::call_site());
+    behind_one(opened, closed)
 }

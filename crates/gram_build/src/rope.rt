@@ -9,6 +9,7 @@ ghost use Rattle.std.specs.Prelude.{[], ◌++◌, ◌∷◌, ◌≡◌, IfOk, On
 
 use gram_piece::piece::Piece;
 use proc_macro2::delimiter::Delimiter;
+use rust_map::span::Span;
 use std::alloc::{AllocError, Global};
 
 /// Tokens that are to be written.
@@ -94,7 +95,7 @@ pub(crate) fn put_rope<'a>(rope: &Rope<'a>, out: &mut Vec<Piece<'a>>) -> Result<
             put_rope(back, out)
         }
         Rope::Enclosed(inside) => {
-            put(Piece::Open(Delimiter::Parenthesis), out)?;
+            put(Piece::Open(Delimiter::Parenthesis, Span::call_site()), out)?;
             put_rope(inside, out)?;
             put(Piece::Close(Delimiter::Parenthesis), out)
         }

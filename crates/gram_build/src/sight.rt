@@ -29,7 +29,7 @@ fn is_mark(mark: char, piece: Piece<'_>) -> bool
     ensures { result ≡ is_mark mark (piece_token piece.entry) }
 {
     match piece {
-        Piece::Mark(found, _) => found == mark,
+        Piece::Mark(found, _, _) => found == mark,
         _ => false,
     }
 }
@@ -39,7 +39,7 @@ fn is_joint(mark: char, piece: Piece<'_>) -> bool
     ensures { result ≡ is_joint mark (piece_token piece.entry) }
 {
     match piece {
-        Piece::Mark(found, spacing) => match spacing {
+        Piece::Mark(found, spacing, _) => match spacing {
             Spacing::Joint => found == mark,
             Spacing::Alone => false,
         },
@@ -141,7 +141,7 @@ fn begins_word(head: Head<'_>) -> bool
 fn is_group(piece: Piece<'_>) -> bool
     ensures { result ≡ b.begins_group (piece_token piece.entry ∷ []) }
 {
-    matches!(piece, Piece::Open(_))
+    matches!(piece, Piece::Open(_, _))
 }
 
 // Whether a group stands first.
@@ -161,7 +161,7 @@ fn is_brace(piece: Piece<'_>) -> bool
     ensures { result ≡ b.begins_brace (piece_token piece.entry ∷ []) }
 {
     match piece {
-        Piece::Open(delimiter) => match delimiter {
+        Piece::Open(delimiter, _) => match delimiter {
             Delimiter::Brace => true,
             Delimiter::Parenthesis => false,
             Delimiter::Bracket => false,

@@ -20,6 +20,7 @@ use gram_table::word::Sign;
 use gram_tree::tree::{Element, Form, Separated, Tree};
 use proc_macro2::delimiter::Delimiter;
 use rust_leaf::punct::Spacing;
+use rust_map::span::Span;
 use syn_buffer::entry::Entry;
 
 // The first of tokens that were read.
@@ -34,11 +35,18 @@ fn first_entries<'a>(entries: &[Entry<'a>]) -> Head<'a>
     }
 }
 
-// A mark that another one follows at once.
-fn joint<'a>(mark: u8) -> Piece<'a>
-    ensures { piece_token result ≡ Punct mark Joint }
+// A mark, so spaced: where it stands is of no weight here.
+fn mark<'a>(mark: u8, spacing: Spacing) -> Piece<'a>
+    ensures { piece_token result ≡ Punct mark spacing }
 {
-    Piece::Mark(mark as char, Spacing::Joint)
+    Piece::Mark(mark as char, spacing, Span::call_site())
+}
+
+// A mark that another one follows at once.
+fn joint<'a>(byte: u8) -> Piece<'a>
+    ensures { piece_token result ≡ Punct byte Joint }
+{
+    mark(byte, Spacing::Joint)
 }
 
 // The first marks of a punctuation.
@@ -47,9 +55,9 @@ fn first_marks<'a>(sign: Sign, spacing: Spacing) -> Head<'a>
 {
     match sign.text().as_bytes() {
         [] => Head::Empty,
-        [a] => Head::One(Piece::Mark(*a as char, spacing)),
-        [a, b] => Head::Two(joint(*a), Piece::Mark(*b as char, spacing)),
-        [a, b, c] => Head::Three(joint(*a), joint(*b), Piece::Mark(*c as char, spacing)),
+        [a] => Head::One(mark(*a, spacing)),
+        [a, b] => Head::Two(joint(*a), mark(*b, spacing)),
+        [a, b, c] => Head::Three(joint(*a), joint(*b), mark(*c, spacing)),
         [a, b, c, ..] => Head::Three(joint(*a), joint(*b), joint(*c)),
     }
 }
@@ -59,8 +67,8 @@ fn separator<'a>(separator: Separator, spacing: Spacing) -> Piece<'a>
     ensures { piece_token result ≡ Punct (separator_of separator) spacing }
 {
     match separator {
-        Separator::Comma => Piece::Mark(',', spacing),
-        Separator::Plus => Piece::Mark('+', spacing),
+        Separator::Comma => mark(b',', spacing),
+        Separator::Plus => mark(b'+', spacing),
     }
 }
 
@@ -69,7 +77,8 @@ fn enclosed<'a>(delimiter: Delimiter, inside: Head<'a>) -> Head<'a>
     ensures { head_tokens result ≡ front3 (Opens delimiter ∷ (head_tokens inside.entry ++ Closes delimiter ∷ [])) }
 {
     let closed = joined(inside, Head::One(Piece::Close(delimiter)));
-    joined(Head::One(Piece::Open(delimiter)), closed)
+    let opened = Piece::Open(delimiter, Span::call_site());
+    joined(Head::One(opened), closed)
 }
 
 // The first tokens of something and a tree behind it.
@@ -142,9 +151,7 @@ pub(crate) fn first<'a>(tree: &Tree<'a>) -> Head<'a>
         Form::Word(ident) => Head::One(Piece::Ident(ident)),
         Form::Literal(literal) => Head::One(Piece::Literal(literal)),
         Form::Mark(sign, spacing, _) => first_marks(*sign, *spacing),
-        Form::Lifetime(held) => {
-            Head::Two(Piece::Mark('\'', Spacing::Joint), Piece::Ident(held.ident))
-        }
+        Form::Lifetime(held) => Head::Two(joint(b'\''), Piece::Ident(held.ident)),
         Form::Raw(kept) => first_entries(kept.entries),
         Form::Nil | Form::End => Head::Empty,
         Form::Pair(two) | Form::Front(_, two) | Form::Back(_, two) => {

@@ -17,7 +17,7 @@ fn is_parenthesis(piece: Piece<'_>) -> bool
     ensures { result ≡ sees parenthesis (piece_token piece.entry ∷ []) }
 {
     match piece {
-        Piece::Open(delimiter) => match delimiter {
+        Piece::Open(delimiter, _) => match delimiter {
             Delimiter::Parenthesis => true,
             Delimiter::Brace => false,
             Delimiter::Bracket => false,

@@ -38,13 +38,19 @@ pub(crate) fn underscore<'a>(arena: &'a Arena) -> Result<&'a Ident, AllocError>
     }
 }
 
-// A mark, at no place of a text.
-fn mark<'a>(arena: &'a Arena, mark: char, spacing: Spacing) -> Result<Entry<'a>, AllocError>
+// A mark that stands there.
+fn mark<'a>(
+    arena: &'a Arena,
+    mark: char,
+    spacing: Spacing,
+    span: Span,
+) -> Result<Entry<'a>, AllocError>
     requires { IsTrue (is_mark mark) }
-    ensures { IfOk result (λ e. entry_token e ≡ piece_token (pieces.Mark mark spacing)) }
+    ensures { IfOk result (λ e. entry_token e ≡ piece_token (pieces.Mark mark spacing span)) }
 {
-    let punct = arena.put(Punct::new(mark, spacing))?;
-    Ok(Entry::Punct(punct))
+    let mut punct = Punct::new(mark, spacing);
+    punct.set_span(span);
+    Ok(Entry::Punct(arena.put(punct)?))
 }
 
 // A token; of one that opens a group it is not known how many stand inside.
@@ -55,8 +61,8 @@ fn entry<'a>(arena: &'a Arena, piece: Piece<'a>) -> Result<Entry<'a>, AllocError
     match piece {
         Piece::Ident(ident) => Ok(Entry::Ident(ident)),
         Piece::Literal(literal) => Ok(Entry::Literal(literal)),
-        Piece::Mark(character, spacing) => mark(arena, character, spacing),
-        Piece::Open(delimiter) => Ok(Entry::Open(delimiter, Span::call_site(), 0)),
+        Piece::Mark(character, spacing, span) => mark(arena, character, spacing, span),
+        Piece::Open(delimiter, span) => Ok(Entry::Open(delimiter, span, 0)),
         Piece::Close(delimiter) => Ok(Entry::Close(delimiter, Span::call_site())),
         Piece::Underscore => Ok(Entry::Ident(underscore(arena)?)),
         Piece::Index(index) => {

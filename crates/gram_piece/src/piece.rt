@@ -8,6 +8,7 @@ use proc_macro2::delimiter::Delimiter;
 use rust_leaf::ident::Ident;
 use rust_leaf::literal::Literal;
 use rust_leaf::punct::Spacing;
+use rust_map::span::Span;
 use syn_buffer::entry::Entry;
 
 /// A token that is to be written: one that was read, lent, or one that a normal form adds.
@@ -17,10 +18,10 @@ pub enum Piece<'a> {
     Ident(&'a Ident),
     /// A literal.
     Literal(&'a Literal),
-    /// A punctuation mark.
-    Mark(char, Spacing),
-    /// A group opens.
-    Open(Delimiter),
+    /// A punctuation mark, how it is spaced, and where it stands.
+    Mark(char, Spacing, Span),
+    /// A group opens, and where the group stands.
+    Open(Delimiter, Span),
     /// A group closes.
     Close(Delimiter),
     /// The word `_`.
@@ -35,10 +36,10 @@ impl<'a> Piece<'a> {
         ensures { piece_token result ≡ entry_token entry.now }
     {
         match entry {
-            Entry::Open(delimiter, _, _) => Piece::Open(*delimiter),
+            Entry::Open(delimiter, span, _) => Piece::Open(*delimiter, *span),
             Entry::Close(delimiter, _) => Piece::Close(*delimiter),
             Entry::Ident(ident) => Piece::Ident(ident),
-            Entry::Punct(punct) => Piece::Mark(punct.as_char(), punct.spacing()),
+            Entry::Punct(punct) => Piece::Mark(punct.as_char(), punct.spacing(), punct.span()),
             Entry::Literal(literal) => Piece::Literal(literal),
         }
     }

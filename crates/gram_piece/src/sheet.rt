@@ -31,11 +31,11 @@ impl Edge {
         ensures close { result.hugs ≡ printed.hugs (piece_token piece.now) }
     {
         match piece {
-            Piece::Open(Delimiter::Brace) => Edge {
+            Piece::Open(Delimiter::Brace, _) => Edge {
                 opens_brace: true,
                 hugs: false,
             },
-            Piece::Open(_) | Piece::Mark(_, Spacing::Joint) => Edge {
+            Piece::Open(_, _) | Piece::Mark(_, Spacing::Joint, _) => Edge {
                 opens_brace: false,
                 hugs: true,
             },
@@ -137,8 +137,8 @@ fn push_piece(out: &mut String, piece: &Piece) -> Result<(), AllocError>
     match piece {
         Piece::Ident(ident) => push_ident(out, ident),
         Piece::Literal(literal) => push_word(out, literal.as_str()),
-        Piece::Mark(mark, _) => push_mark(out, *mark),
-        Piece::Open(delimiter) => push_word(out, opening(*delimiter)),
+        Piece::Mark(mark, _, _) => push_mark(out, *mark),
+        Piece::Open(delimiter, _) => push_word(out, opening(*delimiter)),
         Piece::Close(delimiter) => push_word(out, closing(*delimiter)),
         Piece::Underscore => push_word(out, "_"),
         Piece::Index(index) => push_index(out, *index),

@@ -19,6 +19,7 @@ use gram_piece::piece::Piece;
 use gram_tree::tree::{Form, Tree};
 use rust_leaf::literal::Literal;
 use rust_leaf::punct::Spacing;
+use rust_map::span::Span;
 use std::alloc::AllocError;
 
 // What is left of a text from its first dot on, or its end.
@@ -88,7 +89,7 @@ fn field<'a, 't>(text: &'t str, out: &mut Vec<Piece<'a>>) -> Result<&'t str, All
     ensures shorter { IfOk result (λ left. length left.now ≤ length text.now) }
 {
     let (value, left) = index(text);
-    one(Piece::Mark('.', Spacing::Alone), out)?;
+    one(Piece::Mark('.', Spacing::Alone, Span::call_site()), out)?;
     one(Piece::Index(value), out)?;
     Ok(left)
 }

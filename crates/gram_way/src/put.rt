@@ -19,6 +19,7 @@ use proc_macro2::delimiter::Delimiter;
 use rust_leaf::ident::Ident;
 use rust_leaf::literal::Literal;
 use rust_leaf::punct::Spacing;
+use rust_map::span::Span;
 use std::alloc::AllocError;
 use syn_buffer::entry::Entry;
 
@@ -63,17 +64,21 @@ pub fn literal<'a>(literal: &'a Literal, out: &mut Vec<Piece<'a>>) -> Result<(),
     one(Piece::Literal(literal), out)
 }
 
-/// Puts the delimiter that opens a group.
+/// Puts the delimiter that opens a group, which stands there.
 ///
 /// # Errors
 ///
 /// Where there is no memory for it.
-pub fn opening<'a>(delimiter: Delimiter, out: &mut Vec<Piece<'a>>) -> Result<(), AllocError>
+pub fn opening<'a>(
+    delimiter: Delimiter,
+    span: Span,
+    out: &mut Vec<Piece<'a>>,
+) -> Result<(), AllocError>
     ensures put { OnOk result (map piece_token out.new.items
         ≡ map piece_token out.old.items ++ token.Opens delimiter ∷ []) }
     ensures keeps { Keeps out.old.items out.new.items }
 {
-    one(Piece::Open(delimiter), out)
+    one(Piece::Open(delimiter, span), out)
 }
 
 /// Puts the delimiter that closes a group.
@@ -106,12 +111,13 @@ pub fn entries<'a>(entries: &[Entry<'a>], out: &mut Vec<Piece<'a>>) -> Result<()
     Ok(())
 }
 
-// A mark, and the others behind it, each joint but the last one, which is so spaced.
+// A mark, and the others behind it, each joint but the last one, which is so spaced. All get that span.
 #[tactic(auto, using(crate::proofs::Pushing::puts, crate::proofs::Fronts::kept))]
 fn marks<'a>(
     first: u8,
     others: &[u8],
     spacing: Spacing,
+    span: Span,
     out: &mut Vec<Piece<'a>>,
 ) -> Result<(), AllocError>
     ensures put { OnOk result (map piece_token out.new.items
@@ -119,32 +125,37 @@ fn marks<'a>(
     ensures keeps { Keeps out.old.items out.new.items }
 {
     match others.split_first() {
-        None => one(Piece::Mark(first as char, spacing), out),
+        None => one(Piece::Mark(first as char, spacing, span), out),
         Some((next, left)) => {
-            one(Piece::Mark(first as char, Spacing::Joint), out)?;
-            marks(*next, left, spacing, out)
+            one(Piece::Mark(first as char, Spacing::Joint, span), out)?;
+            marks(*next, left, spacing, span, out)
         }
     }
 }
 
-/// Puts a punctuation, whose last mark is so spaced.
+/// Puts a punctuation, whose last mark is so spaced. All its marks get that span.
 ///
 /// # Errors
 ///
 /// Where there is no memory for more tokens.
 #[tactic(auto, using(crate::proofs::Pushing::puts, crate::proofs::Fronts::kept))]
-pub fn sign<'a>(sign: Sign, spacing: Spacing, out: &mut Vec<Piece<'a>>) -> Result<(), AllocError>
+pub fn sign<'a>(
+    sign: Sign,
+    spacing: Spacing,
+    span: Span,
+    out: &mut Vec<Piece<'a>>,
+) -> Result<(), AllocError>
     ensures put { OnOk result (map piece_token out.new.items
         ≡ map piece_token out.old.items ++ flat (mark_of (sign_text sign) spacing)) }
     ensures keeps { Keeps out.old.items out.new.items }
 {
     match sign.text().as_bytes().split_first() {
         None => Ok(()),
-        Some((first, others)) => marks(*first, others, spacing, out),
+        Some((first, others)) => marks(*first, others, spacing, span, out),
     }
 }
 
-/// Puts the mark behind an element, so spaced.
+/// Puts the mark behind an element, so spaced, at no place of a text: a list keeps none.
 ///
 /// # Errors
 ///
@@ -160,12 +171,12 @@ pub fn separator<'a>(
     ensures keeps { Keeps out.old.items out.new.items }
 {
     match mark {
-        Separator::Comma => one(Piece::Mark(',', spacing), out),
-        Separator::Plus => one(Piece::Mark('+', spacing), out),
+        Separator::Comma => one(Piece::Mark(',', spacing, Span::call_site()), out),
+        Separator::Plus => one(Piece::Mark('+', spacing, Span::call_site()), out),
     }
 }
 
-/// Puts a comma, where others follow.
+/// Puts a comma, where others follow, at no place of a text.
 ///
 /// # Errors
 ///
@@ -177,23 +188,27 @@ pub fn comma<'a>(others: bool, out: &mut Vec<Piece<'a>>) -> Result<(), AllocErro
     ensures keeps { Keeps out.old.items out.new.items }
 {
     if others {
-        one(Piece::Mark(',', Spacing::Alone), out)
+        one(Piece::Mark(',', Spacing::Alone, Span::call_site()), out)
     } else {
         Ok(())
     }
 }
 
-/// Puts a lifetime.
+/// Puts a lifetime, whose mark stands there.
 ///
 /// # Errors
 ///
 /// Where there is no memory for more tokens.
 #[tactic(auto, using(crate::proofs::Pushing::puts, crate::proofs::Fronts::kept))]
-pub fn lifetime<'a>(ident: &'a Ident, out: &mut Vec<Piece<'a>>) -> Result<(), AllocError>
+pub fn lifetime<'a>(
+    mark: Span,
+    ident: &'a Ident,
+    out: &mut Vec<Piece<'a>>,
+) -> Result<(), AllocError>
     ensures put { OnOk result (map piece_token out.new.items
         ≡ map piece_token out.old.items ++ token.Punct 39 Joint ∷ token.Ident (ident_text ident.now) ∷ []) }
     ensures keeps { Keeps out.old.items out.new.items }
 {
-    one(Piece::Mark('\'', Spacing::Joint), out)?;
+    one(Piece::Mark('\'', Spacing::Joint, mark), out)?;
     one(Piece::Ident(ident), out)
 }

@@ -70,7 +70,7 @@ fn lone(piece: Piece<'_>) -> Piece<'_>
     ensures { piece_token result ∷ [] ≡ apart (piece_token piece.entry ∷ []) }
 {
     match piece {
-        Piece::Mark(mark, _) => Piece::Mark(mark, Spacing::Alone),
+        Piece::Mark(mark, _, span) => Piece::Mark(mark, Spacing::Alone, span),
         _ => piece,
     }
 }

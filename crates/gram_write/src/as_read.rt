@@ -20,6 +20,7 @@ use gram_tree::tree::{Element, Form, Three, Tree};
 use gram_way::operand::{back, infix};
 use gram_way::put::{closing, entries, ident, lifetime, literal, opening, separator, sign};
 use proc_macro2::delimiter::Delimiter;
+use rust_map::span::Span;
 use std::alloc::AllocError;
 
 /// Puts the tokens of a tree, as they were read, behind those that are to be written. What stands last in a tree, and
@@ -41,12 +42,14 @@ pub fn put_as_read<'a>(tree: &Tree<'a>, out: &mut Vec<Piece<'a>>) -> Result<(), 
         left = match &here.form {
             Form::Word(word) => return ident(word, out),
             Form::Literal(text) => return literal(text, out),
-            Form::Mark(marks, spacing, _) => return sign(*marks, *spacing, out),
-            Form::Lifetime(held) => return lifetime(held.ident, out),
+            Form::Mark(marks, spacing, span) => return sign(*marks, *spacing, *span, out),
+            Form::Lifetime(held) => return lifetime(held.span, held.ident, out),
             Form::Raw(kept) => return entries(kept.entries, out),
             Form::Nil | Form::End => return Ok(()),
             Form::Turns(turns) => return put_turns(turns.each, out),
-            Form::Group(delimiter, group) => return put_group(*delimiter, &group.inside, out),
+            Form::Group(delimiter, group) => {
+                return put_group(*delimiter, group.span, &group.inside, out);
+            }
             Form::Pair(two) | Form::Front(_, two) => {
                 put_as_read(&two.front, out)?;
                 Place { tree: &two.back }
@@ -82,6 +85,7 @@ pub fn put_as_read<'a>(tree: &Tree<'a>, out: &mut Vec<Piece<'a>>) -> Result<(), 
 #[tactic(auto, using(gram_way::proofs::Pushing::puts, gram_way::proofs::Fronts::kept))]
 fn put_group<'a>(
     delimiter: Delimiter,
+    span: Span,
     inner: &Tree<'a>,
     out: &mut Vec<Piece<'a>>,
 ) -> Result<(), AllocError>
@@ -89,7 +93,7 @@ fn put_group<'a>(
         ≡ map piece_token out.old.items ++ (token.Opens delimiter ∷ flat inner.now ++ token.Closes delimiter ∷ [])) }
     ensures keeps { Keeps out.old.items out.new.items }
 {
-    opening(delimiter, out)?;
+    opening(delimiter, span, out)?;
     put_as_read(inner, out)?;
     closing(delimiter, out)
 }

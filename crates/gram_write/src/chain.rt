@@ -19,6 +19,7 @@ use gram_way::operand::{back, giving, infix};
 use gram_way::shell::{goes_in, is_lone_range};
 use gram_way::within::Within;
 use proc_macro2::delimiter::Delimiter;
+use rust_map::span::Span;
 use std::alloc::AllocError;
 
 // Which left operands are passed.
@@ -79,7 +80,7 @@ fn step<'t, 'a>(
     forms.push(tree)?;
     put_if(
         goes_in(kind, left),
-        Piece::Open(Delimiter::Parenthesis),
+        Piece::Open(Delimiter::Parenthesis, Span::call_site()),
         out,
     )?;
     *place = Place { tree: left };

@@ -22,6 +22,7 @@ use gram_way::shell::goes_in;
 use gram_way::way::{dotted, is_dotted, last_number};
 use gram_way::within::Within;
 use proc_macro2::delimiter::Delimiter;
+use rust_map::span::Span;
 use std::alloc::AllocError;
 
 /// Puts a token, if it is to be put.
@@ -58,7 +59,11 @@ pub(crate) fn put_operand<'a>(
         ≡ map piece_token out.old.items ++ enclosed_if enclosed (laid tree.now)) }
     ensures keeps { Keeps out.old.items out.new.items }
 {
-    put_if(enclosed, Piece::Open(Delimiter::Parenthesis), out)?;
+    put_if(
+        enclosed,
+        Piece::Open(Delimiter::Parenthesis, Span::call_site()),
+        out,
+    )?;
     put_chain(tree, out)?;
     put_if(enclosed, Piece::Close(Delimiter::Parenthesis), out)
 }

@@ -31,6 +31,7 @@ use gram_way::way::{Firsts, Way, has_way, lacks_some, of_node, of_part, passes};
 use gram_way::within::Within;
 use proc_macro2::delimiter::Delimiter;
 use rust_leaf::punct::Spacing;
+use rust_map::span::Span;
 use std::alloc::AllocError;
 
 /// What a tree ends with, which is left to be put.
@@ -73,8 +74,8 @@ pub(crate) fn put_laid<'a>(
         left = match &here.form {
             Form::Word(word) => return ident(word, out),
             Form::Literal(text) => return literal(text, out),
-            Form::Mark(marks, _, _) => return sign(*marks, Spacing::Alone, out),
-            Form::Lifetime(held) => return lifetime(held.ident, out),
+            Form::Mark(marks, _, span) => return sign(*marks, Spacing::Alone, *span, out),
+            Form::Lifetime(held) => return lifetime(held.span, held.ident, out),
             Form::Raw(kept) => return entries(kept.entries, out),
             Form::Nil | Form::End | Form::Dropped(_) => return Ok(()),
             Form::Verbatim(inner) => return put_as_read(inner, out),
@@ -83,6 +84,7 @@ pub(crate) fn put_laid<'a>(
             Form::Group(delimiter, group) => return put_group(
                 left.within,
                 *delimiter,
+                group.span,
                 &group.inside,
                 out,
             ),
@@ -138,7 +140,7 @@ fn put_first<'a>(
 {
     match &tree.form {
         Form::Word(word) => ident(word, out),
-        Form::Mark(marks, _, _) => sign(*marks, Spacing::Alone, out),
+        Form::Mark(marks, _, span) => sign(*marks, Spacing::Alone, *span, out),
         _ => {
             if is_missing(tree) {
                 Ok(())
@@ -155,6 +157,7 @@ fn put_first<'a>(
 fn put_group<'a>(
     within: Within,
     delimiter: Delimiter,
+    span: Span,
     inner: &Tree<'a>,
     out: &mut Vec<Piece<'a>>,
 ) -> Result<(), AllocError>
@@ -162,7 +165,7 @@ fn put_group<'a>(
         ≡ map piece_token out.old.items ++ token.Opens delimiter ∷ laid_in within inner.now ++ token.Closes delimiter ∷ []) }
     ensures keeps { Keeps out.old.items out.new.items }
 {
-    opening(delimiter, out)?;
+    opening(delimiter, span, out)?;
     put_laid(within, inner, out)?;
     closing(delimiter, out)
 }
@@ -250,7 +253,7 @@ fn put_parameter<'a>(inner: &Tree<'a>, out: &mut Vec<Piece<'a>>) -> Result<(), A
     };
     put_laid(Within::Anywhere, front, out)?;
     one(Piece::Underscore, out)?;
-    one(Piece::Mark(':', Spacing::Alone), out)?;
+    one(Piece::Mark(':', Spacing::Alone, Span::call_site()), out)?;
     put_laid(Within::Anywhere, given, out)
 }
 

@@ -9,17 +9,22 @@
 //! and `›`: it is printed, read again, and is up to parentheses the one that was built. Before the rows stands what is
 //! answered for the table of forms, of which each is put into each.
 //!
+//! A row with `Stream` is a file: answered are the tokens of the stream that it is written as, each with `@` and the
+//! column (from 0) in which it begins behind it, if it stands in the text.
+//!
 //! - `kinds`: the kinds that rows name.
 //! - `reading`: texts that are read as forms, and what is printed of these.
 //! - `neighbours`: each row's form compared with that of the row above.
 //! - `built`: expressions that are built by hand.
 //! - `written`: how a tree is written.
+//! - `streams`: where the tokens stand of the stream that a file is written as.
 #![tactic(auto)]
 
 mod built;
 mod kinds;
 mod neighbours;
 mod reading;
+mod streams;
 mod written;
 
 use crate::built::position_of;
@@ -34,6 +39,9 @@ struct Rows;
 
 impl Table for Rows {
     fn answer(&self, row: Row, page: &mut Page) -> Result<(), Unanswered> {
+        if row.call == "Stream" {
+            return streams::put_row(row.text, page);
+        }
         match (position_of(row.call), kind_of(row.call)) {
             (Some(position), _) => built::put_row(position, row.text, page),
             (None, Some(kind)) => put_form(kind, row.text, page),

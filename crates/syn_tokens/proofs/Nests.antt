@@ -8,6 +8,7 @@ use Rattle.rust_leaf.proofs.Texts.{ascii_word}
 use Rattle.rust_leaf.specs.Identifier.{is_ident_text}
 use Rattle.gram_piece.specs.Pieces.{piece_token}
 use Rattle.gram_piece.specs.declared.piece.Piece.{Piece}
+use Rattle.gram_piece.specs.declared.piece.Piece.TheVariants as pieces
 use Rattle.std.specs.Prelude.{Bool, true, false, ◌&&◌, not, reverse, if◌then◌else◌}
 use Rattle.rust_map.specs.declared.span.Span.{Span}
 use Rattle.std.proofs.lemmas.List.{append-nil, map-append, reverse-append, at_drop_more}
@@ -18,7 +19,8 @@ use Rattle.proc_macro2.specs.Flat.{spanned}
 use Rattle.proc_macro2.specs.Entered.{literal_entered}
 use Rattle.proc_macro2.specs.declared.delimiter.Delimiter.TheVariants as delimiter
 use Rattle.proc_macro2.specs.declared.delimiter.Delimiter.{Delimiter}
-use Rattle.syn_tokens.specs.Nests.{is_leaf, stand, outer_tokens}
+use Rattle.syn_tokens.specs.Nests.{is_leaf, stand}
+use Rattle.syn_tokens.specs.Places.{outer_tokens, placed, placed_piece}
 use Rattle.syn_tokens.specs.declared.tokens.Outer.{Outer}
 
 -- behind a tree by itself the rest may stand
@@ -31,28 +33,27 @@ leaf_stands ds (Punct c spacing) ts h = ap (λ b. b && stand ds ts) h
 
 -- one group more is open
 pub outer_more : (os : List Outer) (o : Outer)
-    → outer_tokens (os ++ o ∷ []) ≡ (outer_tokens os ++ plain o.before) ++ Opens o.delimiter ∷ []
+    → outer_tokens (os ++ o ∷ []) ≡ (outer_tokens os ++ o.before) ++ spanned (Opens o.delimiter) o.span ∷ []
 outer_more [] o = refl
 outer_more (p ∷ os) o =
-    let before : List Token = plain p.before in
-    let all : List Token = outer_tokens os in
-    let last : List Token = Opens o.delimiter ∷ [] in
-    ap (λ ts. before ++ Opens p.delimiter ∷ ts) (outer_more os o)
-    ∙ sym (ap (λ ts. ts ++ last) (append_assoc before (Opens p.delimiter ∷ all) (plain o.before))
-    ∙ append_assoc before (Opens p.delimiter ∷ (all ++ plain o.before)) last)
+    let all : List Spanned = outer_tokens os in
+    let mark : Spanned = spanned (Opens p.delimiter) p.span in
+    let last : List Spanned = spanned (Opens o.delimiter) o.span ∷ [] in
+    ap (λ ts. p.before ++ mark ∷ ts) (outer_more os o)
+    ∙ sym (ap (λ ts. ts ++ last) (append_assoc p.before (mark ∷ all) o.before)
+    ∙ append_assoc p.before (mark ∷ (all ++ o.before)) last)
 
-pub opened_more : (os : List Outer) (o : Outer) → reverse (map (λ x. x.delimiter) (os ++ o ∷ [])) ≡ o.delimiter ∷ reverse (map (λ x. x.delimiter) os)
-opened_more os o =
-    ap reverse (map-append (λ (x : Outer). x.delimiter) os (o ∷ []))
-    ∙ reverse-append (map (λ (x : Outer). x.delimiter) os) (o.delimiter ∷ [])
+turned_more : {A : Type 0} (f : Outer → A) (os : List Outer) (o : Outer)
+    → reverse (map f (os ++ o ∷ [])) ≡ f o ∷ reverse (map f os)
+turned_more f os o = ap reverse (map-append f os (o ∷ [])) ∙ reverse-append (map f os) (f o ∷ [])
 
 -- a literal without a minus is a tree by itself
 pub literal_alone : (cs : List ℕ) (span : Span) → starts_with_minus cs ≡ false
-    → plain (literal_entered cs span) ≡ Literal cs ∷ []
+    → literal_entered cs span ≡ spanned (Literal cs) span ∷ []
 literal_alone cs span h =
-    ap (λ b. plain (if b
+    ap (λ b. if b
     then spanned (Punct minus Alone) span ∷ spanned (Literal (drop 1 cs)) span ∷ []
-    else spanned (Literal cs) span ∷ [])) h
+    else spanned (Literal cs) span ∷ []) h
 
 pub literal_leaf : (cs : List ℕ) → starts_with_minus cs ≡ false → is_leaf (Literal cs) ≡ true
 literal_leaf cs h = ap not h
@@ -66,37 +67,54 @@ pub ruleset unsigned = (literal_alone, literal_leaf, literal_signed)
 -- a group opens
 pub group_opens : (os new : List Outer) (o : Outer) (before inside : List Spanned) → new ≡ os ++ o ∷ []
     → o.before ≡ before → inside ≡ []
-    → outer_tokens new ++ plain inside ≡ (outer_tokens os ++ plain before) ++ Opens o.delimiter ∷ []
+    → outer_tokens new ++ inside ≡ (outer_tokens os ++ before) ++ spanned (Opens o.delimiter) o.span ∷ []
 group_opens os new o before inside e f g =
-    ap (λ ts. outer_tokens new ++ plain ts) g ∙ append-nil (outer_tokens new) ∙ ap outer_tokens e ∙ outer_more os o
-    ∙ ap (λ ts. (outer_tokens os ++ plain ts) ++ Opens o.delimiter ∷ []) f
+    ap (λ ts. outer_tokens new ++ ts) g ∙ append-nil (outer_tokens new) ∙ ap outer_tokens e ∙ outer_more os o
+    ∙ ap (λ ts. (outer_tokens os ++ ts) ++ spanned (Opens o.delimiter) o.span ∷ []) f
 
 pub group_opened : (os new : List Outer) (o : Outer) → new ≡ os ++ o ∷ []
     → reverse (map (λ x. x.delimiter) new) ≡ o.delimiter ∷ reverse (map (λ x. x.delimiter) os)
-group_opened os new o e = ap (λ (xs : List Outer). reverse (map (λ x. x.delimiter) xs)) e ∙ opened_more os o
+group_opened os new o e =
+    ap (λ (xs : List Outer). reverse (map (λ x. x.delimiter) xs)) e ∙ turned_more (λ x. x.delimiter) os o
 
-pub ruleset opens = (group_opened)
+pub group_spanned : (os new : List Outer) (o : Outer) → new ≡ os ++ o ∷ []
+    → reverse (map (λ x. x.span) new) ≡ o.span ∷ reverse (map (λ x. x.span) os)
+group_spanned os new o e =
+    ap (λ (xs : List Outer). reverse (map (λ x. x.span) xs)) e ∙ turned_more (λ x. x.span) os o
+
+pub ruleset opens = (group_opened, group_spanned)
 
 -- a group closes
+group_within : (all front inside rest : List Spanned) (x y : Spanned)
+    → (all ++ (front ++ x ∷ (inside ++ y ∷ []))) ++ rest ≡ (((all ++ front) ++ x ∷ []) ++ inside) ++ y ∷ rest
+group_within all front inside rest x y =
+    let group : List Spanned = x ∷ (inside ++ y ∷ []) in
+    append_assoc all (front ++ group) rest
+    ∙ ap (λ ts. all ++ ts) (append_assoc front group rest)
+    ∙ ap (λ ts. all ++ (front ++ x ∷ ts)) (append_assoc inside (y ∷ []) rest)
+    ∙ sym (append_assoc ((all ++ front) ++ x ∷ []) inside (y ∷ rest)
+    ∙ append_assoc (all ++ front) (x ∷ []) (inside ++ y ∷ rest)
+    ∙ append_assoc all front (x ∷ (inside ++ y ∷ rest)))
+
 pub group_closes : (os old : List Outer) (o : Outer) (d : Delimiter) (inside before new : List Spanned) (s : Span)
-    → old ≡ os ++ o ∷ [] → o.delimiter ≡ d → before ≡ o.before
+    (ps : List Piece) → old ≡ os ++ o ∷ [] → o.delimiter ≡ d → o.span ≡ s → before ≡ o.before
     → new ≡ before ++ (spanned (Opens d) s ∷ (inside ++ spanned (Closes d) s ∷ []))
-    → outer_tokens os ++ plain new ≡ (outer_tokens old ++ plain inside) ++ Closes d ∷ []
-group_closes os old o d inside before new s e f g h =
-    let all : List Token = outer_tokens os in
-    let front : List Token = plain o.before in
-    let within : List Token = plain inside in
-    let last : List Token = Closes d ∷ [] in
+    → (outer_tokens os ++ new) ++ placed (reverse (map (λ x. x.span) os)) ps
+    ≡ (outer_tokens old ++ inside) ++ placed (reverse (map (λ x. x.span) old)) (pieces.Close d ∷ ps)
+group_closes os old o d inside before new s ps e f k g h =
+    let all : List Spanned = outer_tokens os in
+    let front : List Spanned = all ++ o.before in
     let group : List Spanned = spanned (Opens d) s ∷ (inside ++ spanned (Closes d) s ∷ []) in
-    let opened : outer_tokens old ≡ (all ++ front) ++ Opens d ∷ [] =
-    ap outer_tokens e ∙ outer_more os o ∙ ap (λ k. (all ++ front) ++ Opens k ∷ []) f in
-    ap (λ ts. all ++ plain ts) (h ∙ ap (λ ts. ts ++ group) g)
-    ∙ ap (λ ts. all ++ ts) (map-append (λ (x : Spanned). x.token) o.before group
-    ∙ ap (λ ts. front ++ Opens d ∷ ts) (map-append (λ (x : Spanned). x.token) inside (spanned (Closes d) s ∷ [])))
-    ∙ sym (ap (λ ts. (ts ++ within) ++ last) opened
-    ∙ ap (λ ts. ts ++ last) (append_assoc (all ++ front) (Opens d ∷ []) within)
-    ∙ append_assoc (all ++ front) (Opens d ∷ within) last
-    ∙ append_assoc all front (Opens d ∷ (within ++ last)))
+    let rest : List Spanned = placed (reverse (map (λ x. x.span) os)) ps in
+    let opens : outer_tokens old ≡ front ++ spanned (Opens d) s ∷ [] =
+    ap outer_tokens e ∙ outer_more os o ∙ ap (λ c. front ++ spanned (Opens c) o.span ∷ []) f
+    ∙ ap (λ t. front ++ spanned (Opens d) t ∷ []) k in
+    let behind : placed (reverse (map (λ x. x.span) old)) (pieces.Close d ∷ ps) ≡ spanned (Closes d) s ∷ rest =
+    ap (λ ss. placed ss (pieces.Close d ∷ ps)) (group_spanned os old o e) ∙ ap (λ t. spanned (Closes d) t ∷ rest) k in
+    ap (λ ts. (all ++ ts) ++ rest) (h ∙ ap (λ ts. ts ++ group) g)
+    ∙ group_within all o.before inside rest (spanned (Opens d) s) (spanned (Closes d) s)
+    ∙ sym (ap (λ ts. (ts ++ inside) ++ placed (reverse (map (λ x. x.span) old)) (pieces.Close d ∷ ps)) opens
+    ∙ ap (λ ts. ((front ++ spanned (Opens d) s ∷ []) ++ inside) ++ ts) behind)
 
 pub group_closed : (os old : List Outer) (o : Outer) (d : Delimiter) → old ≡ os ++ o ∷ [] → o.delimiter ≡ d
     → reverse (map (λ x. x.delimiter) old) ≡ d ∷ reverse (map (λ x. x.delimiter) os)
@@ -153,7 +171,31 @@ leaf_refused ds (Ident cs) ts h n m = cc
 leaf_refused ds (Literal cs) ts h n m = ap (λ b. b && stand ds ts) h
 leaf_refused ds (Punct c spacing) ts h n m = ap (λ b. b && stand ds ts) h
 
-pub ruleset steps = (leaf_stands, closes_on, leaf_refused)
+-- behind what opens a group, and behind a tree by itself, each stands where it is said
+pub opens_placed : (old new : List Spanned) (ss ts : List Span) (d : Delimiter) (s : Span) (ps : List Piece)
+    → new ≡ old ++ spanned (Opens d) s ∷ [] → ts ≡ s ∷ ss → new ++ placed ts ps ≡ old ++ placed ss (pieces.Open d s ∷ ps)
+opens_placed old new ss ts d s ps e f =
+    ap (λ xs. xs ++ placed ts ps) e ∙ append_assoc old (spanned (Opens d) s ∷ []) (placed ts ps)
+    ∙ ap (λ us. old ++ spanned (Opens d) s ∷ placed us ps) f
+
+one_placed : (ss : List Span) (p : Piece) (ps : List Piece) → is_leaf (piece_token p) ≡ true
+    → placed ss (p ∷ ps) ≡ placed_piece p ∷ placed ss ps
+one_placed ss (pieces.Open d s) ps h = cc
+one_placed ss (pieces.Close d) ps h = cc
+one_placed ss (pieces.Ident i) ps h = refl
+one_placed ss (pieces.Literal l) ps h = refl
+one_placed ss (pieces.Mark c spacing s) ps h = refl
+one_placed ss pieces.Underscore ps h = refl
+one_placed ss (pieces.Index n) ps h = refl
+
+pub leaf_placed : (old new es : List Spanned) (ss ts : List Span) (p : Piece) (ps : List Piece)
+    → new ≡ old ++ es → es ≡ placed_piece p ∷ [] → ts ≡ ss → is_leaf (piece_token p) ≡ true
+    → new ++ placed ts ps ≡ old ++ placed ss (p ∷ ps)
+leaf_placed old new es ss ts p ps e f g h =
+    ap (λ xs. xs ++ placed ts ps) (e ∙ ap (λ xs. old ++ xs) f) ∙ append_assoc old (placed_piece p ∷ []) (placed ts ps)
+    ∙ ap (λ us. old ++ placed_piece p ∷ placed us ps) g ∙ ap (λ xs. old ++ xs) (sym (one_placed ss p ps h))
+
+pub ruleset steps = (leaf_stands, closes_on, leaf_refused, opens_placed, leaf_placed)
 
 -- `_` is a word
 underscore_word : chars (codes "_") ≡ codes "_"
@@ -171,15 +213,29 @@ underscore_token cs e = ap (λ x. Ident x ∷ []) (e ∙ underscore_word)
 
 pub ruleset words = (underscore_chars_ident, underscore_token)
 
+-- tokens that stand somewhere are these tokens
+all_placed : (ss : List Span) (ps : List Piece) → plain (placed ss ps) ≡ map piece_token ps
+all_placed ss [] = refl
+all_placed ss (pieces.Open d s ∷ ps) = ap (λ ts. Opens d ∷ ts) (all_placed (s ∷ ss) ps)
+all_placed [] (pieces.Close d ∷ ps) = ap (λ ts. Closes d ∷ ts) (all_placed [] ps)
+all_placed (s ∷ ss) (pieces.Close d ∷ ps) = ap (λ ts. Closes d ∷ ts) (all_placed ss ps)
+all_placed ss (pieces.Ident i ∷ ps) = ap (λ ts. piece_token (pieces.Ident i) ∷ ts) (all_placed ss ps)
+all_placed ss (pieces.Literal l ∷ ps) = ap (λ ts. piece_token (pieces.Literal l) ∷ ts) (all_placed ss ps)
+all_placed ss (pieces.Mark c spacing s ∷ ps) = ap (λ ts. Punct c spacing ∷ ts) (all_placed ss ps)
+all_placed ss (pieces.Underscore ∷ ps) = ap (λ ts. piece_token pieces.Underscore ∷ ts) (all_placed ss ps)
+all_placed ss (pieces.Index n ∷ ps) = ap (λ ts. piece_token (pieces.Index n) ∷ ts) (all_placed ss ps)
+
+pub put_all : (all : List Spanned) (ps : List Piece) → all ≡ placed [] ps → plain all ≡ map piece_token ps
+put_all all ps e = ap plain e ∙ all_placed [] ps
+
 -- one token more has been put
-pub put_more : (pieces : List Piece) (i : ℕ) (p : Piece) (old new all : List Token) → p ≡ get_or pieces i p
-    → i < length pieces → new ≡ old ++ piece_token p ∷ [] → old ++ map piece_token (drop i pieces) ≡ all
-    → new ++ map piece_token (drop (i + 1) pieces) ≡ all
-put_more pieces i p old new all is below put h =
-    ap (λ ts. ts ++ map piece_token (drop (i + 1) pieces)) put
-    ∙ append_assoc old (piece_token p ∷ []) (map piece_token (drop (i + 1) pieces))
-    ∙ ap (λ x. old ++ piece_token x ∷ map piece_token (drop (i + 1) pieces)) is
-    ∙ sym (at_drop_more (λ ps. old ++ map piece_token ps) pieces i p below) ∙ h
+pub put_more : (all : List Piece) (i : ℕ) (p : Piece) (old new put : List Spanned) (ss ts : List Span) → p ≡ get_or all i p
+    → i < length all → ((ps : List Piece) → new ++ placed ts ps ≡ old ++ placed ss (p ∷ ps))
+    → old ++ placed ss (drop i all) ≡ put → new ++ placed ts (drop (i + 1) all) ≡ put
+put_more all i p old new put ss ts is below on h =
+    on (drop (i + 1) all)
+    ∙ ap (λ x. old ++ placed ss (x ∷ drop (i + 1) all)) is
+    ∙ sym (at_drop_more (λ ps. old ++ placed ss ps) all i p below) ∙ h
 
 pub stand_more : (pieces : List Piece) (i : ℕ) (p : Piece) (ds es : List Delimiter) (b : Bool) → p ≡ get_or pieces i p
     → i < length pieces → ((ts : List Token) → stand ds (piece_token p ∷ ts) ≡ stand es ts)

@@ -1,12 +1,11 @@
 -- Tokens that are to be written, as those of a stream.
-use Rattle.std.specs.Prelude.{Bool, true, false, ◌&&◌, not, List, [], ◌∷◌, ◌++◌, map, reverse}
+use Rattle.std.specs.Prelude.{Bool, true, false, ◌&&◌, not, List, [], ◌∷◌, map, reverse}
 use Rattle.rust_leaf.specs.Mark.{is_mark}
 use Rattle.rust_leaf.specs.Minus.{starts_with_minus}
 use Rattle.proc_macro2.specs.Groups.{same_delimiter}
-use Rattle.proc_macro2.specs.Token.{Token, Opens, Closes, Ident, Literal, Punct, plain}
+use Rattle.proc_macro2.specs.Token.{Token, Opens, Closes, Ident, Literal, Punct}
 use Rattle.proc_macro2.specs.declared.delimiter.Delimiter.{Delimiter}
 use Rattle.syn_tokens.specs.declared.tokens.Nest.{Nest}
-use Rattle.syn_tokens.specs.declared.tokens.Outer.{Outer}
 
 -- It is a tree of a stream by itself: a word, one of the 22 marks, or a literal that begins with no minus.
 abbrev pub is_leaf : Token → Bool
@@ -31,15 +30,6 @@ stand (d ∷ ds) [] = false
 -- They are a stream.
 abbrev pub are_trees : List Token → Bool
 are_trees ts = stand [] ts
-
--- The tokens before groups that are open, the outermost first, with the mark of each.
-abbrev pub outer_tokens : List Outer → List Token
-outer_tokens [] = []
-outer_tokens (o ∷ os) = plain o.before ++ Opens o.delimiter ∷ outer_tokens os
-
--- What was put so far.
-abbrev pub nest_tokens : Nest → List Token
-nest_tokens n = outer_tokens n.outer.items ++ plain n.inside
 
 -- The delimiters of the groups that are open, the innermost first.
 abbrev pub opened : Nest → List Delimiter

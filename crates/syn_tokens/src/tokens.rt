@@ -1,14 +1,19 @@
 //! Tokens that are to be written, as a stream of trees.
 
 ghost use Rattle.gram_piece.specs.Pieces.{piece_token};
+ghost use Rattle.gram_piece.specs.declared.piece.Piece.{Piece as GivenPiece};
+ghost use Rattle.gram_piece.specs.declared.piece.Piece.TheVariants as a_piece;
 ghost use Rattle.gram_way.specs.Said.{said};
 ghost use Rattle.gram_write.specs.Formed.{IsFormed};
 ghost use Rattle.proc_macro2.specs.Entered.{entered};
+ghost use Rattle.proc_macro2.specs.Flat.{spanned};
 ghost use Rattle.proc_macro2.specs.Token.{Closes, Opens, Token, plain};
-ghost use Rattle.rust_leaf.specs.Leaf.{literal_text};
+ghost use Rattle.rust_leaf.specs.Leaf.{literal_span, literal_text};
+ghost use Rattle.rust_leaf.specs.Mark.{is_mark};
 ghost use Rattle.proc_macro2.specs.Token as token;
-ghost use Rattle.std.specs.Prelude.{◌++◌, ◌∷◌, ◌≡◌, [], IfNone, IfOk, IfSome, List, OnOk, false, map, true};
-ghost use Rattle.syn_tokens.specs.Nests.{are_trees, is_leaf, nest_tokens, opened, stand};
+ghost use Rattle.std.specs.Prelude.{◌++◌, ◌∷◌, ◌≡◌, [], IfNone, IfOk, IfSome, IsTrue, List, OnOk, false, map, true};
+ghost use Rattle.syn_tokens.specs.Nests.{are_trees, is_leaf, opened, stand};
+ghost use Rattle.syn_tokens.specs.Places.{nest_tokens, placed, placed_piece, spans};
 ghost use Rattle.syn_grammar.specs.Kind.{Position};
 
 use gram_piece::piece::Piece;
@@ -19,16 +24,17 @@ use proc_macro2::tree::{Group, TokenStream, TokenTree};
 use rust_leaf::ident::Ident;
 use rust_leaf::literal::Literal;
 use rust_leaf::minus::behind_minus;
-use rust_leaf::punct::Punct;
+use rust_leaf::punct::{Punct, Spacing};
 use rust_map::span::Span;
 use std::alloc::{AllocError, Global};
 use std::mem;
 use try_clone::TryClone;
 
-// A group that is open: its delimiter, and what stands before it in its list.
+// A group that is open: its delimiter, where the group stands, and what stands before it in its list.
 #[derive(Drop)]
 struct Outer {
     delimiter: Delimiter,
+    span: Span,
     before: TokenStream,
 }
 
@@ -42,7 +48,8 @@ struct Nest {
 // A literal, if it begins with no minus: that is a token by itself.
 #[tactic(auto, using(crate::proofs::Nests::unsigned))]
 fn unsigned(literal: Literal) -> Option<TokenTree>
-    ensures some { IfSome result (λ t. plain (entered t) ≡ token.Literal (literal_text literal) ∷ []) }
+    ensures some { IfSome result (λ t. entered t
+        ≡ spanned (token.Literal (literal_text literal)) (literal_span literal) ∷ []) }
     ensures some_leaf { IfSome result (λ _. is_leaf (token.Literal (literal_text literal)) ≡ true) }
     ensures none { IfNone result (is_leaf (token.Literal (literal_text literal)) ≡ false) }
 {
@@ -52,10 +59,31 @@ fn unsigned(literal: Literal) -> Option<TokenTree>
     }
 }
 
+// A mark that stands there.
+fn mark_at(mark: char, spacing: Spacing, span: Span) -> TokenTree
+    requires { IsTrue (is_mark mark) }
+    ensures { entered result ≡ spanned (token.Punct mark spacing) span ∷ [] }
+{
+    let mut punct = Punct::new(mark, spacing);
+    punct.set_span(span);
+    TokenTree::Punct(punct)
+}
+
+// A group that stands there.
+fn group_at(delimiter: Delimiter, span: Span, inside: TokenStream) -> Group
+    ensures delimiter { result.delimiter ≡ delimiter }
+    ensures span { result.span ≡ span }
+    ensures stream { result.stream ≡ inside }
+{
+    let mut group = Group::new(delimiter, inside);
+    group.set_span(span);
+    group
+}
+
 // The tree that a token is by itself, if it is one.
 #[tactic(auto, using(crate::proofs::Nests::words))]
 fn leaf(alloc: Global, piece: &Piece<'_>) -> Result<Option<TokenTree>, AllocError>
-    ensures some { IfOk result (λ o. IfSome o (λ t. plain (entered t) ≡ piece_token piece.now ∷ [])) }
+    ensures some { IfOk result (λ o. IfSome o (λ t. entered t ≡ placed_piece piece.now ∷ [])) }
     ensures some_leaf { IfOk result (λ o. IfSome o (λ _. is_leaf (piece_token piece.now) ≡ true)) }
     ensures none { IfOk result (λ o. IfNone o (is_leaf (piece_token piece.now) ≡ false)) }
 {
@@ -67,14 +95,14 @@ fn leaf(alloc: Global, piece: &Piece<'_>) -> Result<Option<TokenTree>, AllocErro
         }
         Piece::Literal(literal) => Ok(unsigned(literal.try_clone()?)),
         Piece::Index(index) => Ok(unsigned(Literal::u32_unsuffixed(alloc, *index)?)),
-        Piece::Mark(mark, spacing) => {
+        Piece::Mark(mark, spacing, span) => {
             if Punct::is_mark(*mark) {
-                Ok(Some(TokenTree::Punct(Punct::new(*mark, *spacing))))
+                Ok(Some(mark_at(*mark, *spacing, *span)))
             } else {
                 Ok(None)
             }
         }
-        Piece::Open(_) => Ok(None),
+        Piece::Open(_, _) => Ok(None),
         Piece::Close(_) => Ok(None),
     }
 }
@@ -82,29 +110,36 @@ fn leaf(alloc: Global, piece: &Piece<'_>) -> Result<Option<TokenTree>, AllocErro
 impl Nest {
     // Puts a tree.
     fn put(&mut self, tree: TokenTree) -> Result<(), AllocError>
-        ensures put { OnOk result (nest_tokens self.new ≡ nest_tokens self.old ++ plain (entered tree)) }
+        ensures put { OnOk result (nest_tokens self.new ≡ nest_tokens self.old ++ entered tree) }
         ensures opened { OnOk result (opened self.new ≡ opened self.old) }
+        ensures spans { OnOk result (spans self.new ≡ spans self.old) }
     {
         self.inside.push_tree(tree)
     }
 
-    // Opens a group.
+    // Opens a group that stands there.
     #[tactic(auto, using(crate::proofs::Nests::opens))]
-    fn open(&mut self, delimiter: Delimiter) -> Result<(), AllocError>
-        ensures put { OnOk result (nest_tokens self.new ≡ nest_tokens self.old ++ Opens delimiter ∷ []) }
+    fn open(&mut self, delimiter: Delimiter, span: Span) -> Result<(), AllocError>
+        ensures put { OnOk result (nest_tokens self.new ≡ nest_tokens self.old ++ spanned (Opens delimiter) span ∷ []) }
         ensures opened { OnOk result (opened self.new ≡ delimiter ∷ opened self.old) }
+        ensures spans { OnOk result (spans self.new ≡ span ∷ spans self.old) }
     {
         let inside = TokenStream::new(self.inside.allocator());
         let before = mem::replace(&mut self.inside, inside);
-        self.outer.push(Outer { delimiter, before })?;
+        self.outer.push(Outer {
+            delimiter,
+            span,
+            before,
+        })?;
         Ok(())
     }
 
     // Closes the innermost group, and answers whether it is one with that delimiter.
     #[tactic(auto, using(crate::proofs::Nests::closes))]
     fn close(&mut self, delimiter: Delimiter) -> Result<bool, AllocError>
-        ensures put { IfOk result (λ b. b ≡ true
-            → nest_tokens self.new ≡ nest_tokens self.old ++ Closes delimiter ∷ []) }
+        ensures put { IfOk result (λ b. b ≡ true → (ps : List GivenPiece)
+            → nest_tokens self.new ++ placed (spans self.new) ps
+            ≡ nest_tokens self.old ++ placed (spans self.old) (a_piece.Close delimiter ∷ ps)) }
         ensures opened { IfOk result (λ b. b ≡ true → opened self.old ≡ delimiter ∷ opened self.new) }
         ensures refused { IfOk result (λ b. b ≡ false
             → (ts : List Token) → stand (opened self.old) (Closes delimiter ∷ ts) ≡ false) }
@@ -114,8 +149,8 @@ impl Nest {
         };
         if outer.delimiter == delimiter {
             let inside = mem::replace(&mut self.inside, outer.before);
-            let group = TokenTree::Group(Group::new(delimiter, inside));
-            self.inside.push_tree(group)?;
+            let group = group_at(delimiter, outer.span, inside);
+            self.inside.push_tree(TokenTree::Group(group))?;
             Ok(true)
         } else {
             Ok(false)
@@ -125,16 +160,17 @@ impl Nest {
     // Puts a token, if it may stand there.
     #[tactic(auto, using(crate::proofs::Nests::steps))]
     fn step(&mut self, piece: &Piece<'_>) -> Result<bool, AllocError>
-        ensures put { IfOk result (λ b. b ≡ true
-            → nest_tokens self.new ≡ nest_tokens self.old ++ piece_token piece.now ∷ []) }
+        ensures put { IfOk result (λ b. b ≡ true → (ps : List GivenPiece)
+            → nest_tokens self.new ++ placed (spans self.new) ps
+            ≡ nest_tokens self.old ++ placed (spans self.old) (piece.now ∷ ps)) }
         ensures on { IfOk result (λ b. b ≡ true
             → (ts : List Token) → stand (opened self.old) (piece_token piece.now ∷ ts) ≡ stand (opened self.new) ts) }
         ensures refused { IfOk result (λ b. b ≡ false
             → (ts : List Token) → stand (opened self.old) (piece_token piece.now ∷ ts) ≡ false) }
     {
         match piece {
-            Piece::Open(delimiter) => {
-                self.open(*delimiter)?;
+            Piece::Open(delimiter, span) => {
+                self.open(*delimiter, *span)?;
                 Ok(true)
             }
             Piece::Close(delimiter) => self.close(*delimiter),
@@ -149,15 +185,17 @@ impl Nest {
     }
 }
 
-/// The stream of tokens that are to be written. Words and literals that were read have their spans in it, and all other
-/// trees stand at no place of a text. There is none where the tokens are those of no stream: a group is closed that was
-/// not opened, or is not closed; a mark is no mark; or a literal begins with a minus.
+/// The stream of tokens that are to be written, each where it was read. What was added, a mark between elements, and
+/// what was made without a place stand at no place of a text; the marks of one punctuation all stand where its first
+/// one does. There is none where the tokens are those of no stream: a group is closed that was not opened, or is not
+/// closed; a mark is no mark; or a literal begins with a minus.
 ///
 /// # Errors
 ///
 /// Where there is no memory for it.
 pub fn stream_of(alloc: Global, pieces: &[Piece<'_>]) -> Result<Option<TokenStream>, AllocError>
     ensures some { IfOk result (λ o. IfSome o (λ s. plain s ≡ map piece_token pieces.now)) }
+    ensures places { IfOk result (λ o. IfSome o (λ s. s ≡ placed [] pieces.now)) }
     ensures none { IfOk result (λ o. IfNone o (are_trees (map piece_token pieces.now) ≡ false)) }
 {
     let mut nest = Nest {

@@ -1,0 +1,51 @@
+-- Where the tokens that are to be written stand in the stream of them.
+use Rattle.std.specs.Prelude.{List, [], ◌∷◌, ◌++◌, map, reverse}
+use Rattle.rust_map.specs.Spans.{call_site}
+use Rattle.rust_map.specs.declared.span.Span.{Span}
+use Rattle.rust_leaf.specs.Leaf.{ident_span, literal_span}
+use Rattle.proc_macro2.specs.Flat.{spanned}
+use Rattle.proc_macro2.specs.Token.{Spanned, Opens, Closes}
+use Rattle.gram_piece.specs.Pieces.{piece_token}
+use Rattle.gram_piece.specs.declared.piece.Piece.{Piece}
+use Rattle.gram_piece.specs.declared.piece.Piece.TheVariants as pieces
+use Rattle.syn_tokens.specs.declared.tokens.Nest.{Nest}
+use Rattle.syn_tokens.specs.declared.tokens.Outer.{Outer}
+
+-- Words and literals stand where they were read, marks and groups where it is said, and all else at no place of a text.
+abbrev pub piece_span : Piece → Span
+piece_span (pieces.Ident i) = ident_span i.now
+piece_span (pieces.Literal l) = literal_span l.now
+piece_span (pieces.Mark c spacing span) = span
+piece_span (pieces.Open d span) = span
+piece_span (pieces.Close d) = call_site
+piece_span pieces.Underscore = call_site
+piece_span (pieces.Index n) = call_site
+
+abbrev pub placed_piece : Piece → Spanned
+placed_piece p = spanned (piece_token p) (piece_span p)
+
+-- Tokens inside groups that stand there, the innermost first, each where it stands: what closes a group stands where all
+-- of the group does.
+abbrev pub placed : List Span → List Piece → List Spanned
+placed ss [] = []
+placed ss (pieces.Open d s ∷ ps) = spanned (Opens d) s ∷ placed (s ∷ ss) ps
+placed [] (pieces.Close d ∷ ps) = spanned (Closes d) call_site ∷ placed [] ps
+placed (s ∷ ss) (pieces.Close d ∷ ps) = spanned (Closes d) s ∷ placed ss ps
+placed ss (pieces.Ident i ∷ ps) = placed_piece (pieces.Ident i) ∷ placed ss ps
+placed ss (pieces.Literal l ∷ ps) = placed_piece (pieces.Literal l) ∷ placed ss ps
+placed ss (pieces.Mark c spacing s ∷ ps) = placed_piece (pieces.Mark c spacing s) ∷ placed ss ps
+placed ss (pieces.Underscore ∷ ps) = placed_piece pieces.Underscore ∷ placed ss ps
+placed ss (pieces.Index n ∷ ps) = placed_piece (pieces.Index n) ∷ placed ss ps
+
+-- The tokens before groups that are open, the outermost first, with the mark of each.
+abbrev pub outer_tokens : List Outer → List Spanned
+outer_tokens [] = []
+outer_tokens (o ∷ os) = o.before ++ spanned (Opens o.delimiter) o.span ∷ outer_tokens os
+
+-- What was put so far.
+abbrev pub nest_tokens : Nest → List Spanned
+nest_tokens n = outer_tokens n.outer.items ++ n.inside
+
+-- Where the groups stand that are open, the innermost first.
+abbrev pub spans : Nest → List Span
+spans n = reverse (map (λ o. o.span) n.outer.items)
