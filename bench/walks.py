@@ -47,7 +47,7 @@ use anyhow::{Result, anyhow};
 use std::io::{Read, Write};
 use syn::{
     Arena, ExprArray, Form, Kind, Position, SourceMap, TokenBuffer, TokenStream, Tree, equal, made,
-    parse_as, print, put_as_read, put_leaves, put_nodes, put_normal, write, write_in,
+    parse_as, print, put_as_read, put_leaves, put_nodes, put_normal, same, write, write_in,
 };
 
 // What is asked for.
@@ -195,6 +195,10 @@ fn put_walk<'a>(
             let is_equal = equal(tree, &tree.copy());
             Ok(writeln!(out, "{is_equal}")?)
         }
+        "same" => {
+            let is_same = same(arena, tree, &parsed(arena, buffer)?)?;
+            Ok(writeln!(out, "{is_same}")?)
+        }
         "put_nodes" => put_node_count(tree, out),
         "put_leaves" => put_leaf_count(tree, out),
         _ => put_text(arena, walk, tree, out),
@@ -239,6 +243,7 @@ WALKS = [
     ("read", "nothing"),
     ("read twice and compared by `equal`", "equal"),
     ("copied and compared", "copy"),
+    ("read twice and compared by `same`", "same"),
     ("`put_as_read`", "put_as_read"),
     ("`write`", "write"),
     ("`put_nodes`", "put_nodes"),
