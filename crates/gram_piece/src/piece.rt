@@ -1,6 +1,6 @@
 //! Tokens that are to be written.
 
-ghost use Rattle.gram_piece.specs.Pieces.{piece_token};
+ghost use Rattle.gram_piece.specs.Pieces.{piece_span, piece_token, read_span};
 ghost use Rattle.std.specs.Prelude.{◌≡◌};
 ghost use Rattle.syn_buffer.specs.Entries.{entry_token};
 
@@ -31,9 +31,11 @@ pub enum Piece<'a> {
 }
 
 impl<'a> Piece<'a> {
-    /// A token that was read, to be written again.
+    /// A token that was read, to be written again, where it stands. What closes a group keeps no place: the group has
+    /// one where it opens.
     pub fn of(entry: &Entry<'a>) -> Piece<'a>
-        ensures { piece_token result ≡ entry_token entry.now }
+        ensures token { piece_token result ≡ entry_token entry.now }
+        ensures place { piece_span result ≡ read_span entry.now }
     {
         match entry {
             Entry::Open(delimiter, span, _) => Piece::Open(*delimiter, *span),

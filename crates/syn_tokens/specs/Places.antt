@@ -2,24 +2,13 @@
 use Rattle.std.specs.Prelude.{List, [], ◌∷◌, ◌++◌, map, reverse}
 use Rattle.rust_map.specs.Spans.{call_site}
 use Rattle.rust_map.specs.declared.span.Span.{Span}
-use Rattle.rust_leaf.specs.Leaf.{ident_span, literal_span}
 use Rattle.proc_macro2.specs.Flat.{spanned}
 use Rattle.proc_macro2.specs.Token.{Spanned, Opens, Closes}
-use Rattle.gram_piece.specs.Pieces.{piece_token}
+use Rattle.gram_piece.specs.Pieces.{piece_span, piece_token}
 use Rattle.gram_piece.specs.declared.piece.Piece.{Piece}
 use Rattle.gram_piece.specs.declared.piece.Piece.TheVariants as pieces
 use Rattle.syn_tokens.specs.declared.tokens.Nest.{Nest}
 use Rattle.syn_tokens.specs.declared.tokens.Outer.{Outer}
-
--- Words and literals stand where they were read, marks and groups where it is said, and all else at no place of a text.
-abbrev pub piece_span : Piece → Span
-piece_span (pieces.Ident i) = ident_span i.now
-piece_span (pieces.Literal l) = literal_span l.now
-piece_span (pieces.Mark c spacing span) = span
-piece_span (pieces.Open d span) = span
-piece_span (pieces.Close d) = call_site
-piece_span pieces.Underscore = call_site
-piece_span (pieces.Index n) = call_site
 
 abbrev pub placed_piece : Piece → Spanned
 placed_piece p = spanned (piece_token p) (piece_span p)

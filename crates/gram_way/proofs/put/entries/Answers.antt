@@ -10,7 +10,7 @@ loop-entry-preserved c = record {
   kept = keeps_both _ _ _ c.loop-entry.invariant.kept c.one.ensures.keeps;
   put = loop_next (map entry_token) c.args.entries.now c.loop-entry.entry-index c.entry-item.result _ _ _ _
       c.loop-entry-test.true c.entry-item.is refl c.loop-entry.invariant.put
-      (c.in_ok-one.ensures.put ∙ ap (λ u. map piece_token c.loop-entry.out.items ++ u ∷ []) c.of.ensures);
+      (c.in_ok-one.ensures.put ∙ ap (λ u. map piece_token c.loop-entry.out.items ++ u ∷ []) c.of.ensures.token);
 }
 
 pub returns-in_err-one-clause-keeps : goal.returns-in_err-one-clause-keeps
