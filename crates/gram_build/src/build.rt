@@ -26,6 +26,7 @@ use crate::dots::behind_of;
 use crate::head::Head;
 use crate::operand::{self, Operand, in_parens_unless, own_of};
 use crate::rope::put_rope;
+use crate::seen::Seen;
 use crate::sight::{follow, takes_what_follows};
 use crate::stays::{begins_in, stays_behind, stays_left, stays_right};
 use gram_judge::left::{is_block_like, is_brace_macro};
@@ -35,7 +36,6 @@ use gram_table::kind::{Kind, Position};
 use gram_table::part::Part;
 use gram_tree::tree::{Form, Three, Tree, Two};
 use proc_macro2::delimiter::Delimiter;
-use rust_map::span::Span;
 use std::alloc::{AllocError, Global};
 
 // What stands behind a whole expression: of a condition a brace.
@@ -44,7 +44,7 @@ fn behind_whole<'a>(position: Position) -> Head<'a>
     ensures { head_tokens result ≡ front3 (stands_behind (position_of position)) }
 {
     match position {
-        Position::InCondition => Head::One(Piece::Open(Delimiter::Brace, Span::call_site())),
+        Position::InCondition => Head::One(Seen::Open(Delimiter::Brace)),
         Position::Plain => Head::Empty,
         Position::InArm => Head::Empty,
         Position::InStatement => Head::Empty,

@@ -1,15 +1,15 @@
 //! The first tokens of something that is written, at most three: no rule of parentheses looks further.
 
 ghost use Rattle.gram_build.specs.Begins.{front2, front3};
-ghost use Rattle.gram_build.specs.Heads.{head_tokens};
+ghost use Rattle.gram_build.specs.Heads.{head_tokens, seen_token};
 ghost use Rattle.gram_piece.specs.Pieces.{piece_token};
 ghost use Rattle.proc_macro2.specs.Token.{Closes, Opens};
 ghost use Rattle.proc_macro2.specs.declared.delimiter.Delimiter.TheVariants.{Parenthesis};
 ghost use Rattle.std.specs.Prelude.{[], ◌++◌, ◌∷◌, ◌≡◌, map};
 
+use crate::seen::Seen;
 use gram_piece::piece::Piece;
 use proc_macro2::delimiter::Delimiter;
-use rust_map::span::Span;
 
 /// The first tokens of something, at most three.
 #[derive(Clone, Copy)]
@@ -17,11 +17,11 @@ pub enum Head<'a> {
     /// There are none.
     Empty,
     /// There is one.
-    One(Piece<'a>),
+    One(Seen<'a>),
     /// There are two.
-    Two(Piece<'a>, Piece<'a>),
+    Two(Seen<'a>, Seen<'a>),
     /// There are three, or more.
-    Three(Piece<'a>, Piece<'a>, Piece<'a>),
+    Three(Seen<'a>, Seen<'a>, Seen<'a>),
 }
 
 /// The first of some tokens.
@@ -30,9 +30,11 @@ pub(crate) fn head_of<'a>(pieces: &[Piece<'a>]) -> Head<'a>
 {
     match pieces {
         [] => Head::Empty,
-        [first] => Head::One(*first),
-        [first, second] => Head::Two(*first, *second),
-        [first, second, third, ..] => Head::Three(*first, *second, *third),
+        [first] => Head::One(Seen::of(*first)),
+        [first, second] => Head::Two(Seen::of(*first), Seen::of(*second)),
+        [first, second, third, ..] => {
+            Head::Three(Seen::of(*first), Seen::of(*second), Seen::of(*third))
+        }
     }
 }
 
@@ -49,8 +51,8 @@ pub(crate) fn first_two<'a>(head: Head<'a>) -> Head<'a>
 }
 
 // One token, and the first of those behind it.
-fn behind_one<'a>(first: Piece<'a>, others: Head<'a>) -> Head<'a>
-    ensures { head_tokens result ≡ front3 (piece_token first.entry ∷ head_tokens others.entry) }
+fn behind_one<'a>(first: Seen<'a>, others: Head<'a>) -> Head<'a>
+    ensures { head_tokens result ≡ front3 (seen_token first.entry ∷ head_tokens others.entry) }
 {
     match others {
         Head::Empty => Head::One(first),
@@ -61,9 +63,9 @@ fn behind_one<'a>(first: Piece<'a>, others: Head<'a>) -> Head<'a>
 }
 
 // Two tokens, and the first of those behind them.
-fn behind_two<'a>(first: Piece<'a>, second: Piece<'a>, others: Head<'a>) -> Head<'a>
+fn behind_two<'a>(first: Seen<'a>, second: Seen<'a>, others: Head<'a>) -> Head<'a>
     ensures { head_tokens result
-        ≡ front3 (piece_token first.entry ∷ piece_token second.entry ∷ head_tokens others.entry) }
+        ≡ front3 (seen_token first.entry ∷ seen_token second.entry ∷ head_tokens others.entry) }
 {
     match others {
         Head::Empty => Head::Two(first, second),
@@ -90,7 +92,6 @@ pub fn joined<'a>(front: Head<'a>, back: Head<'a>) -> Head<'a>
 pub(crate) fn enclosed<'a>(inside: Head<'a>) -> Head<'a>
     ensures { head_tokens result ≡ front3 (Opens Parenthesis ∷ (head_tokens inside.entry ++ Closes Parenthesis ∷ [])) }
 {
-    let closed = joined(inside, Head::One(Piece::Close(Delimiter::Parenthesis)));
-    let opened = Piece::Open(Delimiter::Parenthesis, Span::call_site());
-    behind_one(opened, closed)
+    let closed = joined(inside, Head::One(Seen::Close(Delimiter::Parenthesis)));
+    behind_one(Seen::Open(Delimiter::Parenthesis), closed)
 }

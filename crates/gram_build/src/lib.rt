@@ -11,6 +11,7 @@
 //! joined), `Lasts` (what ends in a name), `Owns` (own parts in normal form), `Fielded` and `Parts` (numbers behind
 //! dots), `Builds` (each form), `Pushing` (tokens that are put).
 //!
+//! - `seen`: what is seen of a token.
 //! - `head`: the first tokens of something.
 //! - `sight`: what is seen there.
 //! - `facts`: what is kept of an operand.
@@ -27,5 +28,6 @@ mod facts;
 pub mod head;
 mod operand;
 mod rope;
+pub mod seen;
 pub mod sight;
 pub mod stays;

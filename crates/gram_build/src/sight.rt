@@ -3,8 +3,7 @@
 ghost use Rattle.gram_build.specs.Begins as b;
 ghost use Rattle.gram_build.specs.Begins.{brace_in, brace_out, front3, is_joint, is_label_next, is_mark, is_taken_next};
 ghost use Rattle.gram_build.specs.Begins.{is_word, lone_mark, one_mark, takes_next, three_marks, two_marks};
-ghost use Rattle.gram_build.specs.Heads.{head_tokens};
-ghost use Rattle.gram_piece.specs.Pieces.{piece_token};
+ghost use Rattle.gram_build.specs.Heads.{head_tokens, seen_token};
 ghost use Rattle.gram_table.specs.Kinds.{kind_of, position_of};
 ghost use Rattle.proc_macro2.specs.Token.{Token};
 ghost use Rattle.std.specs.Prelude.{[], ◌&&◌, ◌||◌, ◌∷◌, ◌≡◌, List, not};
@@ -17,29 +16,29 @@ ghost use Rattle.syn_grammar.specs.Say.{marks};
 ghost use Rattle.syn_grammar.specs.Tree.{Tree};
 
 use crate::head::Head;
+use crate::seen::Seen;
 use gram_look::leaf::word;
-use gram_piece::piece::Piece;
 use gram_table::kind::{Kind, Position};
 use gram_table::word::{Keyword, Words};
 use proc_macro2::delimiter::Delimiter;
 use rust_leaf::punct::Spacing;
 
 // Whether it is that mark.
-fn is_mark(mark: char, piece: Piece<'_>) -> bool
-    ensures { result ≡ is_mark mark (piece_token piece.entry) }
+fn is_mark(mark: char, token: Seen<'_>) -> bool
+    ensures { result ≡ is_mark mark (seen_token token.entry) }
 {
-    match piece {
-        Piece::Mark(found, _, _) => found == mark,
+    match token {
+        Seen::Mark(found, _) => found == mark,
         _ => false,
     }
 }
 
 // Whether it is that mark, and another stands directly behind it.
-fn is_joint(mark: char, piece: Piece<'_>) -> bool
-    ensures { result ≡ is_joint mark (piece_token piece.entry) }
+fn is_joint(mark: char, token: Seen<'_>) -> bool
+    ensures { result ≡ is_joint mark (seen_token token.entry) }
 {
-    match piece {
-        Piece::Mark(found, spacing, _) => match spacing {
+    match token {
+        Seen::Mark(found, spacing) => match spacing {
             Spacing::Joint => found == mark,
             Spacing::Alone => false,
         },
@@ -93,22 +92,22 @@ fn lone_mark(mark: char, other: char, head: Head<'_>) -> bool
 }
 
 // Whether the word is `as`.
-fn is_as(piece: Piece<'_>) -> bool
-    ensures { result ≡ b.begins_as (piece_token piece.entry ∷ []) }
+fn is_as(token: Seen<'_>) -> bool
+    ensures { result ≡ b.begins_as (seen_token token.entry ∷ []) }
 {
-    match piece {
-        Piece::Ident(ident) => word(Words::Keyword(Keyword::As), ident),
+    match token {
+        Seen::Ident(ident) => word(Words::Keyword(Keyword::As), ident),
         _ => false,
     }
 }
 
 // Whether the word is another one.
-fn is_other_word(piece: Piece<'_>) -> bool
-    ensures { result ≡ b.begins_word (piece_token piece.entry ∷ []) }
+fn is_other_word(token: Seen<'_>) -> bool
+    ensures { result ≡ b.begins_word (seen_token token.entry ∷ []) }
 {
-    match piece {
-        Piece::Ident(ident) => !word(Words::Keyword(Keyword::As), ident),
-        Piece::Underscore => true,
+    match token {
+        Seen::Ident(ident) => !word(Words::Keyword(Keyword::As), ident),
+        Seen::Underscore => true,
         _ => false,
     }
 }
@@ -138,10 +137,10 @@ fn begins_word(head: Head<'_>) -> bool
 }
 
 // Whether it opens a group.
-fn is_group(piece: Piece<'_>) -> bool
-    ensures { result ≡ b.begins_group (piece_token piece.entry ∷ []) }
+fn is_group(token: Seen<'_>) -> bool
+    ensures { result ≡ b.begins_group (seen_token token.entry ∷ []) }
 {
-    matches!(piece, Piece::Open(_, _))
+    matches!(token, Seen::Open(_))
 }
 
 // Whether a group stands first.
@@ -157,11 +156,11 @@ fn begins_group(head: Head<'_>) -> bool
 }
 
 // Whether it opens a group in braces.
-fn is_brace(piece: Piece<'_>) -> bool
-    ensures { result ≡ b.begins_brace (piece_token piece.entry ∷ []) }
+fn is_brace(token: Seen<'_>) -> bool
+    ensures { result ≡ b.begins_brace (seen_token token.entry ∷ []) }
 {
-    match piece {
-        Piece::Open(delimiter, _) => match delimiter {
+    match token {
+        Seen::Open(delimiter) => match delimiter {
             Delimiter::Brace => true,
             Delimiter::Parenthesis => false,
             Delimiter::Bracket => false,
@@ -184,12 +183,12 @@ pub(crate) fn begins_brace(head: Head<'_>) -> bool
 }
 
 // Whether it is a literal.
-fn is_literal(piece: Piece<'_>) -> bool
-    ensures { result ≡ b.begins_literal (piece_token piece.entry ∷ []) }
+fn is_literal(token: Seen<'_>) -> bool
+    ensures { result ≡ b.begins_literal (seen_token token.entry ∷ []) }
 {
-    match piece {
-        Piece::Literal(_) => true,
-        Piece::Index(_) => true,
+    match token {
+        Seen::Literal(_) => true,
+        Seen::Index(_) => true,
         _ => false,
     }
 }
@@ -207,12 +206,12 @@ fn begins_literal(head: Head<'_>) -> bool
 }
 
 // Whether it is a word.
-fn is_word(piece: Piece<'_>) -> bool
-    ensures { result ≡ is_word (piece_token piece.entry) }
+fn is_word(token: Seen<'_>) -> bool
+    ensures { result ≡ is_word (seen_token token.entry) }
 {
-    match piece {
-        Piece::Ident(_) => true,
-        Piece::Underscore => true,
+    match token {
+        Seen::Ident(_) => true,
+        Seen::Underscore => true,
         _ => false,
     }
 }

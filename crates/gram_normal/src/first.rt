@@ -1,8 +1,7 @@
 //! The first tokens of a tree.
 
 ghost use Rattle.gram_build.specs.Begins.{front3};
-ghost use Rattle.gram_build.specs.Heads.{head_tokens};
-ghost use Rattle.gram_piece.specs.Pieces.{piece_token};
+ghost use Rattle.gram_build.specs.Heads.{head_tokens, seen_token};
 ghost use Rattle.gram_table.specs.Ops.{separator_of};
 ghost use Rattle.gram_table.specs.Words.{sign_text};
 ghost use Rattle.gram_tree.specs.Forms.{elements, ending, mark_of, turns};
@@ -14,14 +13,21 @@ ghost use Rattle.syn_grammar.specs.Tree as t;
 ghost use Rattle.syn_grammar.specs.Tree.{flat};
 
 use gram_build::head::{Head, joined};
+use gram_build::seen::Seen;
 use gram_piece::piece::Piece;
 use gram_table::op::Separator;
 use gram_table::word::Sign;
 use gram_tree::tree::{Element, Form, Separated, Tree};
 use proc_macro2::delimiter::Delimiter;
 use rust_leaf::punct::Spacing;
-use rust_map::span::Span;
 use syn_buffer::entry::Entry;
+
+// What is seen of a token that was read.
+fn seen<'a>(entry: &Entry<'a>) -> Seen<'a>
+    ensures { seen_token result ≡ entry_token entry.now }
+{
+    Seen::of(Piece::of(entry))
+}
 
 // The first of tokens that were read.
 fn first_entries<'a>(entries: &[Entry<'a>]) -> Head<'a>
@@ -29,22 +35,22 @@ fn first_entries<'a>(entries: &[Entry<'a>]) -> Head<'a>
 {
     match entries {
         [] => Head::Empty,
-        [a] => Head::One(Piece::of(a)),
-        [a, b] => Head::Two(Piece::of(a), Piece::of(b)),
-        [a, b, c, ..] => Head::Three(Piece::of(a), Piece::of(b), Piece::of(c)),
+        [a] => Head::One(seen(a)),
+        [a, b] => Head::Two(seen(a), seen(b)),
+        [a, b, c, ..] => Head::Three(seen(a), seen(b), seen(c)),
     }
 }
 
-// A mark, so spaced: where it stands is of no weight here.
-fn mark<'a>(mark: u8, spacing: Spacing) -> Piece<'a>
-    ensures { piece_token result ≡ Punct mark spacing }
+// A mark, so spaced.
+fn mark<'a>(mark: u8, spacing: Spacing) -> Seen<'a>
+    ensures { seen_token result ≡ Punct mark spacing }
 {
-    Piece::Mark(mark as char, spacing, Span::call_site())
+    Seen::Mark(mark as char, spacing)
 }
 
 // A mark that another one follows at once.
-fn joint<'a>(byte: u8) -> Piece<'a>
-    ensures { piece_token result ≡ Punct byte Joint }
+fn joint<'a>(byte: u8) -> Seen<'a>
+    ensures { seen_token result ≡ Punct byte Joint }
 {
     mark(byte, Spacing::Joint)
 }
@@ -63,8 +69,8 @@ fn first_marks<'a>(sign: Sign, spacing: Spacing) -> Head<'a>
 }
 
 // The mark between elements.
-fn separator<'a>(separator: Separator, spacing: Spacing) -> Piece<'a>
-    ensures { piece_token result ≡ Punct (separator_of separator) spacing }
+fn separator<'a>(separator: Separator, spacing: Spacing) -> Seen<'a>
+    ensures { seen_token result ≡ Punct (separator_of separator) spacing }
 {
     match separator {
         Separator::Comma => mark(b',', spacing),
@@ -76,9 +82,8 @@ fn separator<'a>(separator: Separator, spacing: Spacing) -> Piece<'a>
 fn enclosed<'a>(delimiter: Delimiter, inside: Head<'a>) -> Head<'a>
     ensures { head_tokens result ≡ front3 (Opens delimiter ∷ (head_tokens inside.entry ++ Closes delimiter ∷ [])) }
 {
-    let closed = joined(inside, Head::One(Piece::Close(delimiter)));
-    let opened = Piece::Open(delimiter, Span::call_site());
-    joined(Head::One(opened), closed)
+    let closed = joined(inside, Head::One(Seen::Close(delimiter)));
+    joined(Head::One(Seen::Open(delimiter)), closed)
 }
 
 // The first tokens of something and a tree behind it.
@@ -148,10 +153,10 @@ pub(crate) fn first<'a>(tree: &Tree<'a>) -> Head<'a>
     ensures { head_tokens result ≡ front3 (flat tree.now) }
 {
     match &tree.form {
-        Form::Word(ident) => Head::One(Piece::Ident(ident)),
-        Form::Literal(literal) => Head::One(Piece::Literal(literal)),
+        Form::Word(ident) => Head::One(Seen::Ident(ident)),
+        Form::Literal(literal) => Head::One(Seen::Literal(literal)),
         Form::Mark(sign, spacing, _) => first_marks(*sign, *spacing),
-        Form::Lifetime(held) => Head::Two(joint(b'\''), Piece::Ident(held.ident)),
+        Form::Lifetime(held) => Head::Two(joint(b'\''), Seen::Ident(held.ident)),
         Form::Raw(kept) => first_entries(kept.entries),
         Form::Nil | Form::End => Head::Empty,
         Form::Pair(two) | Form::Front(_, two) | Form::Back(_, two) => {

@@ -25,6 +25,7 @@ use crate::kept::kept;
 use crate::tidy::{emptied, ordered};
 use crate::{fault_steps, paren, steps};
 use gram_build::head::Head;
+use gram_build::seen::Seen;
 use gram_build::sight::follow;
 use gram_judge::level::inside;
 use gram_piece::piece::Piece;
@@ -36,7 +37,6 @@ use gram_tree::tree::{Element, Form, Separated, Three, Tree, Two};
 use gram_write::as_read::put_as_read;
 use proc_macro2::delimiter::Delimiter;
 use rust_leaf::punct::Spacing;
-use rust_map::span::Span;
 use std::alloc::AllocError;
 
 // Where the expression of a part stands.
@@ -69,7 +69,7 @@ fn behind_whole<'a>(position: Position) -> Head<'a>
     ensures { head_tokens result ≡ front3 (n.stands_behind (position_of position)) }
 {
     match position {
-        Position::InCondition => Head::One(Piece::Open(Delimiter::Brace, Span::call_site())),
+        Position::InCondition => Head::One(Seen::Open(Delimiter::Brace)),
         Position::Plain => Head::Empty,
         Position::InArm => Head::Empty,
         Position::InStatement => Head::Empty,

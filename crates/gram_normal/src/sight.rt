@@ -1,23 +1,22 @@
 //! Whether a group in parentheses stands first: what is seen at the first tokens besides what `gram_build` sees there.
 
 ghost use Rattle.gram_build.specs.Begins.{front3};
-ghost use Rattle.gram_build.specs.Heads.{head_tokens};
-ghost use Rattle.gram_piece.specs.Pieces.{piece_token};
+ghost use Rattle.gram_build.specs.Heads.{head_tokens, seen_token};
 ghost use Rattle.proc_macro2.specs.Token.{Token};
 ghost use Rattle.std.specs.Prelude.{[], ◌∷◌, ◌≡◌, List};
 ghost use Rattle.syn_grammar.specs.Look.{sees};
 ghost use Rattle.syn_grammar.specs.Say.{parenthesis};
 
 use gram_build::head::Head;
-use gram_piece::piece::Piece;
+use gram_build::seen::Seen;
 use proc_macro2::delimiter::Delimiter;
 
 // Whether it opens a group in parentheses.
-fn is_parenthesis(piece: Piece<'_>) -> bool
-    ensures { result ≡ sees parenthesis (piece_token piece.entry ∷ []) }
+fn is_parenthesis(token: Seen<'_>) -> bool
+    ensures { result ≡ sees parenthesis (seen_token token.entry ∷ []) }
 {
-    match piece {
-        Piece::Open(delimiter, _) => match delimiter {
+    match token {
+        Seen::Open(delimiter) => match delimiter {
             Delimiter::Parenthesis => true,
             Delimiter::Brace => false,
             Delimiter::Bracket => false,
