@@ -17,3 +17,4 @@ pub mod Emptying
 pub mod Known
 pub mod Stepping
 pub mod Inside
+pub mod Frames

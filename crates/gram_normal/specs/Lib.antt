@@ -4,3 +4,4 @@ pub mod Peeled
 pub mod Held
 pub mod Separators
 pub mod Marks
+pub mod Frames

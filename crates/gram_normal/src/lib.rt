@@ -9,7 +9,8 @@
 //! other.
 //!
 //! What a syntax tree holds of a tree is made before that where tokens are put: `kept` makes it as the written grammar
-//! says it (`syn_grammar`'s `Kept`), each function by a word of the definition too.
+//! says it (`syn_grammar`'s `Kept`), with a stack of the frames in which a tree stands (`specs/Frames`) in place of a
+//! call for each.
 //!
 //! There is a normal form that no tree can hold, in which a list has two separators (`specs/Separators`). Only there
 //! none is made, want of memory aside.
@@ -23,7 +24,8 @@
 //! list), `Known` (what is true of every tree), `Apartness` (raw items that are set apart), `Forming` (trees by their
 //! forms), `Peeling` (what is taken out of a tree), `Forgetting` (what a kind holds), `Giving` (attributes in front of
 //! an expression), `Numbering` and `Fielding` (fields by numbers), `Entering` (tokens that are put behind others),
-//! `Holding` (what is held, by its form), `Stepping` (what a step was to make).
+//! `Holding` (what is held, by its form), `Frames` (what stands within frames), `Inside` (what a list ends with),
+//! `Stepping` (what a step was to make).
 //!
 //! - `normal`: the normal form, and putting its tokens.
 //! - `fault`: why there is none.
@@ -38,6 +40,7 @@
 //! - `tidy`: what is made of a kind's parts.
 //! - `apart`: raw items among statements that are set apart.
 //! - `kept`: what a syntax tree holds of a tree.
+//! - `frame`: trees without what they go on with.
 //! - `forget`: what a kind's tree holds of what was read.
 //! - `stated`: attributes in front of a statement's expression, and statements that are macros.
 //! - `fields`: forms behind a dot.
@@ -52,6 +55,7 @@ mod fault_steps;
 mod fields;
 mod first;
 mod forget;
+mod frame;
 pub mod kept;
 pub mod laws;
 mod lifetime;

@@ -8,7 +8,7 @@ use syn::{
     Arena, Kind, NormalFault, Plus, Reader, Sign, TokenBuffer, Tree, equal, same, same_program,
 };
 
-// Puts whether two trees are the same. Where memory is refused, they are compared with themselves.
+// Puts whether two trees are the same. Where memory is refused, the same call must succeed when it is made once more.
 fn put_same<'a>(
     arena: &'a Arena,
     one: &Tree<'a>,
@@ -18,12 +18,13 @@ fn put_same<'a>(
     match same(arena, one, other) {
         Ok(true) => page.put("same"),
         Ok(false) => page.put("unlike"),
-        Err(_) => return refused(are_whole(arena, one, other)),
+        Err(_) => return refused(same(arena, one, other).is_ok()),
     }
     Ok(())
 }
 
-// Puts whether two trees are the same program. Where memory is refused, they are compared with themselves.
+// Puts whether two trees are the same program. Where memory is refused, the same call must succeed when it is made once
+// more.
 fn put_program<'a>(
     arena: &'a Arena,
     one: &Tree<'a>,
@@ -33,7 +34,7 @@ fn put_program<'a>(
     match same_program(arena, one, other) {
         Ok(true) => page.put(", same program"),
         Ok(false) => page.put(", another program"),
-        Err(NormalFault::Memory) => return refused(are_whole(arena, one, other)),
+        Err(NormalFault::Memory) => return refused(same_program(arena, one, other).is_ok()),
         Err(NormalFault::Separators) => return Err(Stop::Changed),
     }
     Ok(())
@@ -54,11 +55,6 @@ fn put_compared<'a>(
         ", not equal"
     });
     Ok(())
-}
-
-// Whether each of two trees is the same as itself.
-fn are_whole<'a>(arena: &'a Arena, one: &Tree<'a>, other: &Tree<'a>) -> bool {
-    matches!(same(arena, one, one), Ok(true)) && matches!(same(arena, other, other), Ok(true))
 }
 
 // The type that stands first.

@@ -1,7 +1,7 @@
 //! Whether two trees are the same syntax tree, and the same program.
 
 ghost use Rattle.gram_normal.specs.Separators.{IsFault};
-ghost use Rattle.std.specs.Prelude.{◌≡◌, ◌↔◌, ◌⊎◌, IfErr, IfOk, IsTrue};
+ghost use Rattle.std.specs.Prelude.{◌≡◌, ◌↔◌, ◌⊎◌, IfErr, IfOk, IsTrue, Ok, true};
 ghost use Rattle.syn_grammar.specs.Kept as k;
 ghost use Rattle.syn_grammar.specs.Normal as n;
 
@@ -15,13 +15,18 @@ use std::alloc::AllocError;
 
 /// Whether two trees are the same but for where their tokens stand, and what else a syntax tree doesn't hold, as how the
 /// last mark of a punctuation is spaced: what syn's `==` asks. Of tokens that are kept as they are the spacing counts.
+/// Where they are one by `equal` it takes no memory.
 ///
 /// # Errors
 ///
-/// Where there is no memory for what a syntax tree holds of them, which is made in the arena.
+/// Where there is no memory for what a syntax tree holds of them, which is made in the arena, or while it is made.
 pub fn same<'a>(arena: &'a Arena, a: &Tree<'a>, b: &Tree<'a>) -> Result<bool, AllocError>
-    ensures { IfOk result (λ s. IsTrue s ↔ (k.kept a.now ≡ k.kept b.now)) }
+    ensures same { IfOk result (λ s. IsTrue s ↔ (k.kept a.now ≡ k.kept b.now)) }
+    ensures one { a.now ≡ b.now → result ≡ Ok true }
 {
+    if equal(a, b) {
+        return Ok(true);
+    }
     let one = kept(arena, a)?;
     let other = kept(arena, b)?;
     Ok(equal(&one, &other))
