@@ -12,15 +12,21 @@
 //! A row with `Stream` is a file: answered are the tokens of the stream that it is written as, each with `@` and the
 //! column (from 0) in which it begins behind it, if it stands in the text.
 //!
+//! A row with `Chain` is an expression of 100,000 turns (what stands first, a turn, what stands last, and that with other
+//! spaces, with `…` between them): answered is whether it is written as it stands, in its normal form and as it was read,
+//! and how it compares with its copy, with one that has a turn less, and with one that ends with those other spaces.
+//!
 //! - `kinds`: the kinds that rows name.
 //! - `reading`: texts that are read as forms, and what is printed of these.
 //! - `neighbours`: each row's form compared with that of the row above.
 //! - `built`: expressions that are built by hand.
 //! - `written`: how a tree is written.
 //! - `streams`: where the tokens stand of the stream that a file is written as.
+//! - `chains`: chains that are long.
 #![tactic(auto)]
 
 mod built;
+mod chains;
 mod kinds;
 mod neighbours;
 mod reading;
@@ -39,14 +45,20 @@ struct Rows;
 
 impl Table for Rows {
     fn answer(&self, row: Row, page: &mut Page) -> Result<(), Unanswered> {
-        if row.call == "Stream" {
-            return streams::put_row(row.text, page);
+        match row.call {
+            "Stream" => streams::put_row(row.text, page),
+            "Chain" => chains::put_row(row.text, page),
+            _ => put_called(row, page),
         }
-        match (position_of(row.call), kind_of(row.call)) {
-            (Some(position), _) => built::put_row(position, row.text, page),
-            (None, Some(kind)) => put_form(kind, row.text, page),
-            (None, None) => Err(Unanswered::NoRow),
-        }
+    }
+}
+
+// Puts what is answered for a row with a position or a kind.
+fn put_called(row: Row, page: &mut Page) -> Result<(), Unanswered> {
+    match (position_of(row.call), kind_of(row.call)) {
+        (Some(position), _) => built::put_row(position, row.text, page),
+        (None, Some(kind)) => put_form(kind, row.text, page),
+        (None, None) => Err(Unanswered::NoRow),
     }
 }
 
