@@ -2,8 +2,8 @@
 """Measures what walks along expressions take, by a small program over `syn` that stands below. Prints tables of two kinds.
 
 Depth: along chains of n operators, method calls and `else if`, up to how many each walk ends with 8 MiB of stack: reading,
-comparing two readings, copying and comparing, what is put as it was read, written, or listed as nodes or leaves. What was made
-is let go of in each.
+comparing two readings, copying and comparing, comparing with a tree of no token, what is put as it was read, written, or listed
+as nodes or leaves. What was made is let go of in each.
 
 Built: trees of n forms that are put together by hand, in five shapes, and written by `write_in` and by `put_normal` and printed,
 and those that are made and no more: the least processor time of several whole runs, and the peak of memory (of which the script
@@ -199,6 +199,10 @@ fn put_walk<'a>(
             let is_same = same(arena, tree, &parsed(arena, buffer)?)?;
             Ok(writeln!(out, "{is_same}")?)
         }
+        "unlike" => {
+            let is_same = same(arena, tree, &made::nil())?;
+            Ok(writeln!(out, "{is_same}")?)
+        }
         "put_nodes" => put_node_count(tree, out),
         "put_leaves" => put_leaf_count(tree, out),
         _ => put_text(arena, walk, tree, out),
@@ -243,7 +247,8 @@ WALKS = [
     ("read", "nothing"),
     ("read twice and compared by `equal`", "equal"),
     ("copied and compared", "copy"),
-    ("read twice and compared by `same`", "same"),
+    ("read twice and compared by `same`, which `equal` answers", "same"),
+    ("compared by `same` with a tree of no token", "unlike"),
     ("`put_as_read`", "put_as_read"),
     ("`write`", "write"),
     ("`put_nodes`", "put_nodes"),
@@ -264,8 +269,8 @@ SHAPES = [
 
 def crate(folder, name=NAME, source=SOURCE):
     """A copy of the repository's crates without what was built, with a program's, whose folder is answered."""
-    for name in ("crates.txt", "HANDLES"):
-        shutil.copy(os.path.join(TOP, name), folder)
+    for top_file in ("crates.txt", "HANDLES"):
+        shutil.copy(os.path.join(TOP, top_file), folder)
     shutil.copytree(os.path.join(TOP, "crates"), os.path.join(folder, "crates"), ignore=shutil.ignore_patterns("out"))
     with open(os.path.join(folder, "crates.txt"), "a", encoding="utf-8") as file:
         file.write(f"{name}: {BELOW}\n")
