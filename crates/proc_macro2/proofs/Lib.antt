@@ -1,4 +1,5 @@
 pub mod Views
+pub mod Drops
 pub mod Texts
 pub mod SpacingLemmas
 pub mod Standing

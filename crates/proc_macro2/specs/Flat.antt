@@ -1,7 +1,9 @@
 -- A token tree as the list of its tokens. A group's stream is seen as its list already, and a
 -- group's span stands at its opening and at its closing token.
-use Rattle.std.specs.Prelude.{List, [], ◌∷◌, ◌++◌}
+use Rattle.std.specs.Prelude.{List, [], ◌∷◌, ◌++◌, Option, None, Some}
 use Rattle.std.specs.List.{flat_map}
+use Rattle.std.specs.declared.rc.Rc.{Rc}
+use Rattle.std.specs.declared.vec.Vec.{Vec}
 use Rattle.rust_map.specs.declared.span.Span.{Span}
 use Rattle.rust_leaf.specs.Leaf.{ident_span, ident_text, literal_span, literal_text, punct_char, punct_spacing}
 use Rattle.rust_leaf.specs.Leaf.{punct_span}
@@ -28,3 +30,8 @@ tree_tokens (tree.Literal l) = spanned (Literal (literal_text l)) (literal_span 
 -- those of trees, in their order
 abbrev pub trees_tokens : List TokenTree → List Spanned
 trees_tokens ts = flat_map tree_tokens ts
+
+-- those of the list of a stream, which an empty one may do without
+abbrev pub held_tokens : {Z Y : Type 0} → Option (Rc (Vec TokenTree Y) Z) → List Spanned
+held_tokens None = []
+held_tokens (Some trees) = trees_tokens trees.value.items

@@ -51,26 +51,6 @@ impl Model for Builder {
     ghost invariant = { λ b. IsStack (reverse b.frames.items) b.trees.items };
 }
 
-impl TokenStream {
-    // The stream of no trees, with room for some.
-    pub(crate) fn with_room(alloc: Global, room: usize) -> Result<TokenStream, AllocError>
-        ensures { IfOk result (λ stream. stream ≡ []) }
-    {
-        Ok(TokenStream {
-            trees: Vec::with_capacity(alloc, room)?,
-        })
-    }
-
-    // Adds a tree at the end.
-    pub(crate) fn push(&mut self, tree: TokenTree) -> Result<(), AllocError>
-        requires { IsStream (tree_tokens tree) }
-        ensures { OnOk result (self.new ≡ self.old ++ tree_tokens tree) }
-    {
-        self.trees.push(tree)?;
-        Ok(())
-    }
-}
-
 impl Builder {
     /// No group is open, and no tree was put.
     pub(crate) fn new(alloc: Global) -> Builder
@@ -114,7 +94,8 @@ impl Builder {
             return Ok(None);
         };
         let trees = self.trees.split_off(frame.mark)?;
-        Ok(Some((frame, TokenStream { trees })))
+        let alloc = *trees.allocator();
+        Ok(Some((frame, TokenStream::of(alloc, trees)?)))
     }
 
     /// Closes the innermost group by a mark that stands there. False: the mark closes nothing.
@@ -139,19 +120,20 @@ impl Builder {
         Ok(true)
     }
 
-    /// All trees, in a list of their size, if no group is open. Err: the innermost of the groups that are.
-    pub(crate) fn finish(self) -> Result<TokenStream, Frame>
-        ensures whole { IfOk result (λ stream. (self.groups ≡ []) × (stream ≡ self.inside)) }
-        ensures unclosed { IfErr result (λ frame. IsInnermost self.groups frame.count) }
+    /// All trees, in a list of their size, if no group is open; else the innermost of the groups that are.
+    pub(crate) fn finish(self) -> Result<Result<TokenStream, Frame>, AllocError>
+        ensures whole { IfOk result (λ found. IfOk found (λ stream. (self.groups ≡ []) × (stream ≡ self.inside))) }
+        ensures unclosed { IfOk result (λ found. IfErr found (λ frame. IsInnermost self.groups frame.count)) }
     {
         let Builder {
             mut frames,
             mut trees,
         } = self;
         if let Some(frame) = frames.pop() {
-            return Err(frame);
+            return Ok(Err(frame));
         }
         trees.shrink_to_fit();
-        Ok(TokenStream { trees })
+        let alloc = *trees.allocator();
+        Ok(Ok(TokenStream::of(alloc, trees)?))
     }
 }

@@ -1,28 +1,42 @@
-//! Copies of streams and trees. Each shows what was copied, spans included.
+//! Copies of streams and trees. Each shows what was copied, spans included. The copy of a stream shares its list,
+//! and so takes no memory; a change of the one leaves the other.
 
-ghost use Rattle.proc_macro2.specs.Flat.{tree_tokens};
+ghost use Rattle.proc_macro2.specs.Flat.{tree_tokens, trees_tokens};
 ghost use Rattle.std.specs.Prelude.{◌≡◌, IfOk, List, Ok};
 
 use crate::delimiter::Delimiter;
 use crate::group::DelimSpan;
 use crate::tree::{Group, TokenStream, TokenTree};
-use std::alloc::AllocError;
+use std::alloc::{AllocError, Global};
 use try_clone::TryClone;
 
-// A copy of a stream: the same trees, which share nothing with those of the stream.
-#[cycle(copying)]
+// A copy of a list of trees.
+#[tactic(auto, using(crate::proofs::Views::trees_more))]
+pub(crate) fn copied_trees(alloc: Global, trees: &[TokenTree]) -> Result<Vec<TokenTree>, AllocError>
+    ensures { IfOk result (λ copies. trees_tokens copies.items ≡ trees_tokens trees.now) }
+{
+    let mut copies = Vec::with_capacity(alloc, trees.len())?;
+    for tree in trees {
+        copies.push(copied_tree(tree)?)?;
+    }
+    Ok(copies)
+}
+
+// A copy of a stream, which shares its list.
 pub(crate) fn copied_stream(stream: &TokenStream) -> Result<TokenStream, AllocError>
     ensures { IfOk result (λ s. s ≡ stream.now) }
 {
-    let mut trees = Vec::new(*stream.trees.allocator());
-    for tree in &stream.trees {
-        trees.push(copied_tree(tree)?)?;
-    }
-    Ok(TokenStream { trees })
+    let shared = match &stream.shared {
+        Some(shared) => Some(shared.clone()?),
+        None => None,
+    };
+    Ok(TokenStream {
+        alloc: stream.alloc,
+        shared,
+    })
 }
 
-// A copy of a tree, which shares nothing with it.
-#[cycle(copying)]
+// A copy of a tree. That of a group shares the list of its stream.
 pub(crate) fn copied_tree(tree: &TokenTree) -> Result<TokenTree, AllocError>
     ensures { IfOk result (λ t. tree_tokens t ≡ tree_tokens tree.now) }
 {
@@ -34,8 +48,7 @@ pub(crate) fn copied_tree(tree: &TokenTree) -> Result<TokenTree, AllocError>
     }
 }
 
-// A copy of a group, which shares nothing with it.
-#[cycle(copying)]
+// A copy of a group, which shares the list of its stream.
 fn copied_group(group: &Group) -> Result<Group, AllocError>
     ensures { IfOk result (λ g. g ≡ group.now) }
 {

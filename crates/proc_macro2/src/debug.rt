@@ -47,7 +47,7 @@ fn show_group<W: fmt::Write>(group: &Group, f: &mut fmt::Formatter<W>) -> fmt::R
 fn show_stream<W: fmt::Write>(stream: &TokenStream, f: &mut fmt::Formatter<W>) -> fmt::Result {
     f.write_str("TokenStream [")?;
     let mut is_first = true;
-    for tree in &stream.trees {
+    for tree in stream.trees() {
         if !is_first {
             f.write_str(", ")?;
         }

@@ -45,11 +45,15 @@ fn inside(alloc: Global, text: &str, span: Span) -> Result<TokenStream, AllocErr
     let ident = Ident::from_text(alloc, "doc", span)?;
     let mut literal = Literal::string(alloc, text)?;
     literal.set_span(span);
-    let mut stream = TokenStream::with_room(alloc, 3)?;
-    stream.push(TokenTree::Ident(ident))?;
-    stream.push(TokenTree::Punct(alone('=', span)))?;
-    stream.push(TokenTree::Literal(literal))?;
-    Ok(stream)
+    let trees = Vec::from_array(
+        alloc,
+        [
+            TokenTree::Ident(ident),
+            TokenTree::Punct(alone('=', span)),
+            TokenTree::Literal(literal),
+        ],
+    )?;
+    TokenStream::of(alloc, trees)
 }
 
 // `[doc = "text"]`

@@ -22,8 +22,8 @@ pub struct IntoIter {
 }
 
 impl TokenStream {
-    /// The trees of the stream, in order. Groups come whole. Memory may be refused where the
-    /// stream has to be copied. A map that holds the stream's spans holds those of each tree.
+    /// The trees of the stream, in order. Groups come whole. `AllocError` if memory is refused, which is asked for
+    /// only where a copy shares the stream's list. A map that holds the stream's spans holds those of each tree.
     #[tactic(auto, using(crate::proofs::Held::trees_held))]
     pub fn into_iter(self) -> Result<IntoIter, AllocError>
         ensures trees { IfOk result (λ it. trees_tokens (trees_left it) ≡ self) }
@@ -31,7 +31,7 @@ impl TokenStream {
             (λ it. (map : Sources) → IsTrue (are_held map self)
             → All (λ tree. IsTrue (are_held map (tree_tokens tree))) (trees_left it)) }
     {
-        let TokenStream { trees } = self;
+        let trees = self.into_list()?;
         Ok(IntoIter {
             trees: VecDeque::from_vec(trees),
         })

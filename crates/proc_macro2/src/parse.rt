@@ -78,7 +78,7 @@ fn lex(alloc: Global, text: &str, whole: Span) -> Result<TokenStream, LexFault>
         at = end;
         count = there.to;
     }
-    match builder.finish() {
+    match builder.finish()? {
         Ok(stream) => Ok(stream),
         Err(frame) => Err(fault_behind(text, whole, frame.count)),
     }

@@ -92,12 +92,11 @@ fn write_tree<W: fmt::Write>(tree: &TokenTree, f: &mut fmt::Formatter<W>) -> fmt
 fn write_group<W: fmt::Write>(group: &Group, f: &mut fmt::Formatter<W>) -> fmt::Result
     ensures { WritesOnOk W.write_str_gives f.old result (printed (group_tokens group.now)) f.new }
 {
-    let stream = &group.stream;
-    if stream.trees.is_empty() {
+    if group.stream.trees().is_empty() {
         return f.write_str(empty(group.delimiter));
     }
     f.write_str(front(group.delimiter))?;
-    write_stream(stream, f)?;
+    write_stream(&group.stream, f)?;
     f.write_str(back(group.delimiter))
 }
 
@@ -107,7 +106,7 @@ fn write_stream<W: fmt::Write>(stream: &TokenStream, f: &mut fmt::Formatter<W>) 
     ensures { WritesOnOk W.write_str_gives f.old result (printed stream.now) f.new }
 {
     let mut close = true;
-    for tree in &stream.trees {
+    for tree in stream.trees() {
         write_next(tree, close, f)?;
         close = is_joint(tree);
     }

@@ -36,9 +36,10 @@ fn stream_stands(stream: &TokenStream) -> bool
     ensures { result ≡ all_stand (plain stream.now) [] }
 {
     let mut behind = 0usize;
-    for tree in &stream.trees {
+    let trees = stream.trees();
+    for tree in trees {
         behind += 1;
-        if !tree_stands(tree, stream.trees.get(behind)) {
+        if !tree_stands(tree, trees.get(behind)) {
             return false;
         }
     }

@@ -4,7 +4,7 @@
 //! with the literal's span.
 
 ghost use Rattle.proc_macro2.specs.Entered.{entered, literal_entered};
-ghost use Rattle.proc_macro2.specs.Flat.{tree_tokens, trees_tokens};
+ghost use Rattle.proc_macro2.specs.Flat.{held_tokens, tree_tokens, trees_tokens};
 ghost use Rattle.proc_macro2.specs.Held.{are_held};
 ghost use Rattle.proc_macro2.specs.Stream.{IsStream};
 ghost use Rattle.rust_leaf.specs.Leaf.{literal_span, literal_text};
@@ -12,32 +12,35 @@ ghost use Rattle.rust_map.specs.Sources.{Sources};
 ghost use Rattle.std.specs.List.{All, flat_map};
 ghost use Rattle.std.specs.Prelude.{[], ◌++◌, ◌≡◌, ◌↔◌, IfOk, IsTrue, OnErr, OnOk};
 
+use crate::copies::copied_trees;
 use crate::tree::{TokenStream, TokenTree};
 use rust_leaf::literal::Literal;
 use rust_leaf::minus::behind_minus;
 use rust_leaf::punct::{Punct, Spacing};
 use std::alloc::{AllocError, Global};
+use std::rc::Rc;
 
 impl TokenStream {
-    /// The stream of no trees.
+    /// The stream of no trees. It takes no memory.
     pub fn new(alloc: Global) -> TokenStream
         ensures { result ≡ [] }
     {
         TokenStream {
-            trees: Vec::new(alloc),
+            alloc,
+            shared: None,
         }
     }
 
     /// What the stream takes its memory from.
     pub fn allocator(&self) -> Global {
-        *self.trees.allocator()
+        self.alloc
     }
 
     /// Whether the stream has no trees.
     pub fn is_empty(&self) -> bool
         ensures { IsTrue result ↔ (self.now ≡ []) }
     {
-        self.trees.is_empty()
+        self.trees().is_empty()
     }
 
     /// The trees of the stream, in order, lent. Groups come whole. A map that holds the stream's spans
@@ -48,7 +51,10 @@ impl TokenStream {
         ensures held { (map : Sources) → IsTrue (are_held map self.now)
             → All (λ tree. IsTrue (are_held map (tree_tokens tree))) result.now }
     {
-        self.trees.as_slice()
+        match &self.shared {
+            Some(trees) => trees.as_slice(),
+            None => &[],
+        }
     }
 
     /// The stream of one tree.
@@ -57,18 +63,14 @@ impl TokenStream {
     {
         let mut trees = Vec::new(alloc);
         enter(alloc, &mut trees, tree)?;
-        Ok(TokenStream { trees })
+        TokenStream::of(alloc, trees)
     }
 
     /// The stream of the trees, in their order.
     pub fn from_trees(alloc: Global, trees: Vec<TokenTree>) -> Result<TokenStream, AllocError>
         ensures { IfOk result (λ s. s ≡ flat_map entered trees.items) }
     {
-        let mut all = Vec::new(alloc);
-        for tree in trees {
-            enter(alloc, &mut all, tree)?;
-        }
-        Ok(TokenStream { trees: all })
+        TokenStream::of(alloc, entered_trees(alloc, trees)?)
     }
 
     /// The streams one behind the other.
@@ -87,10 +89,8 @@ impl TokenStream {
         ensures ok { OnOk result (self.new ≡ self.old ++ flat_map entered trees.items) }
         ensures err { OnErr result (self.new ≡ self.old) }
     {
-        let alloc = self.allocator();
-        let added = TokenStream::from_trees(alloc, trees)?;
-        self.push_stream(added)?;
-        Ok(())
+        let added = entered_trees(self.alloc, trees)?;
+        add_trees(self.alloc, &mut self.shared, added)
     }
 
     /// Adds the streams at the end. If memory is refused, the stream is as before.
@@ -98,10 +98,8 @@ impl TokenStream {
         ensures ok { OnOk result (self.new ≡ self.old ++ flat_map (λ t. t) streams.items) }
         ensures err { OnErr result (self.new ≡ self.old) }
     {
-        let alloc = self.allocator();
-        let added = TokenStream::from_streams(alloc, streams)?;
-        self.push_stream(added)?;
-        Ok(())
+        let added = TokenStream::from_streams(self.alloc, streams)?;
+        self.push_stream(added)
     }
 
     /// Adds the tree at the end. If memory is refused, the stream is as before.
@@ -109,9 +107,7 @@ impl TokenStream {
         ensures ok { OnOk result (self.new ≡ self.old ++ entered tree) }
         ensures err { OnErr result (self.new ≡ self.old) }
     {
-        let alloc = self.allocator();
-        enter(alloc, &mut self.trees, tree)?;
-        Ok(())
+        add_tree(self.alloc, &mut self.shared, tree)
     }
 
     /// Adds the other stream at the end. If memory is refused, the stream is as before.
@@ -119,10 +115,74 @@ impl TokenStream {
         ensures ok { OnOk result (self.new ≡ self.old ++ other) }
         ensures err { OnErr result (self.new ≡ self.old) }
     {
-        let TokenStream { mut trees } = other;
-        self.trees.append(&mut trees)?;
-        Ok(())
+        if self.is_empty() {
+            *self = other;
+            return Ok(());
+        }
+        let added = other.into_list()?;
+        add_trees(self.alloc, &mut self.shared, added)
     }
+}
+
+// Adds trees behind those of a list, which is copied first if others share it. If memory is refused, they are as before.
+fn add_trees(
+    alloc: Global,
+    shared: &mut Option<Rc<Vec<TokenTree>>>,
+    mut added: Vec<TokenTree>,
+) -> Result<(), AllocError>
+    ensures ok { OnOk result (held_tokens shared.new ≡ held_tokens shared.old ++ trees_tokens added.items) }
+    ensures err { OnErr result (held_tokens shared.new ≡ held_tokens shared.old) }
+{
+    let Some(held) = shared else {
+        *shared = Some(Rc::new(alloc, added)?);
+        return Ok(());
+    };
+    if let Some(trees) = Rc::get_mut(held) {
+        trees.append(&mut added)?;
+        return Ok(());
+    }
+    let mut trees = copied_trees(alloc, held.as_slice())?;
+    trees.append(&mut added)?;
+    *shared = Some(Rc::new(alloc, trees)?);
+    Ok(())
+}
+
+// Adds a tree, as it stands in a stream, behind those of a list, which is copied first if others share it. If memory is
+// refused, they are as before.
+fn add_tree(
+    alloc: Global,
+    shared: &mut Option<Rc<Vec<TokenTree>>>,
+    tree: TokenTree,
+) -> Result<(), AllocError>
+    ensures ok { OnOk result (held_tokens shared.new ≡ held_tokens shared.old ++ entered tree) }
+    ensures known { OnOk result (IsStream (entered tree)) }
+    ensures err { OnErr result (held_tokens shared.new ≡ held_tokens shared.old) }
+{
+    let Some(held) = shared else {
+        let mut trees = Vec::new(alloc);
+        enter(alloc, &mut trees, tree)?;
+        *shared = Some(Rc::new(alloc, trees)?);
+        return Ok(());
+    };
+    if let Some(trees) = Rc::get_mut(held) {
+        return enter(alloc, trees, tree);
+    }
+    let mut trees = copied_trees(alloc, held.as_slice())?;
+    enter(alloc, &mut trees, tree)?;
+    *shared = Some(Rc::new(alloc, trees)?);
+    Ok(())
+}
+
+// Trees as they stand in a stream.
+fn entered_trees(alloc: Global, trees: Vec<TokenTree>) -> Result<Vec<TokenTree>, AllocError>
+    ensures entered { IfOk result (λ all. trees_tokens all.items ≡ flat_map entered trees.items) }
+    ensures known { IfOk result (λ all. IsStream (trees_tokens all.items)) }
+{
+    let mut all = Vec::with_capacity(alloc, trees.len())?;
+    for tree in trees {
+        enter(alloc, &mut all, tree)?;
+    }
+    Ok(all)
 }
 
 // Adds a tree as it stands in a stream. If memory is refused, the trees are as before.

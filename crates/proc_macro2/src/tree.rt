@@ -1,18 +1,21 @@
 //! Token trees and streams of them.
 
-ghost use Rattle.proc_macro2.specs.Flat.{tree_tokens};
+ghost use Rattle.proc_macro2.specs.Flat.{tree_tokens, trees_tokens};
 ghost use Rattle.proc_macro2.specs.Stream.{IsStream};
 ghost use Rattle.proc_macro2.specs.Trees.{tokens_at, tree_span};
 ghost use Rattle.proc_macro2.specs.declared.tree.TokenTree.TheVariants as tree;
 ghost use Rattle.rust_map.specs.Sources.{Sources, is_held};
-ghost use Rattle.std.specs.Prelude.{◌≡◌, IsTrue};
+ghost use Rattle.std.specs.Prelude.{◌≡◌, IfOk, IfSome, IsTrue};
 
+use crate::copies::copied_trees;
 use crate::delimiter::Delimiter;
 use rust_leaf::ident::Ident;
 use rust_leaf::literal::Literal;
 use rust_leaf::punct::Punct;
 use rust_map::span::Span;
+use std::alloc::{AllocError, Global};
 use std::marker::Model;
+use std::rc::Rc;
 
 /// A stream between delimiters.
 #[cycle(tree)]
@@ -24,11 +27,12 @@ pub struct Group {
 }
 
 /// A list of token trees. To a contract it is the flat list of their tokens, each of which is one by
-/// itself; a literal in it begins with no minus.
+/// itself; a literal in it begins with no minus. Copies share the list, and one that is changed copies it first.
 #[cycle(tree)]
-#[derive(Drop)]
 pub struct TokenStream {
-    pub(crate) trees: Vec<TokenTree>,
+    pub(crate) alloc: Global,
+    // An empty stream needs no list, and so no memory.
+    pub(crate) shared: Option<Rc<Vec<TokenTree>>>,
 }
 
 /// A group, or one token.
@@ -51,13 +55,13 @@ impl Model for TokenStream {
 
     ghost Value = { List Spanned };
 
-    ghost use Rattle.proc_macro2.specs.Flat.{trees_tokens};
+    ghost use Rattle.proc_macro2.specs.Flat.{held_tokens};
 
-    ghost view = { λ s. trees_tokens s.trees.items };
+    ghost view = { λ s. held_tokens s.shared };
 
     ghost use Rattle.proc_macro2.specs.Stream.{IsStream};
 
-    ghost invariant = { λ s. IsStream (trees_tokens s.trees.items) };
+    ghost invariant = { λ s. IsStream (held_tokens s.shared) };
 
     ghost size = { length };
 
@@ -66,12 +70,72 @@ impl Model for TokenStream {
     ghost size_decreases = { λ s h. falls s };
 }
 
+// A stream nests as deep as its text, so its groups are dropped one by one: the trees of each are put behind those
+// that are still to be dropped. A list that others share is only let go of.
+impl Drop for TokenStream {
+    #[tactic(auto, using(crate::proofs::Drops::dropping))]
+    #[cycle(dropping)]
+    fn drop(self) {
+        let Some(mut pending) = self.into_last_list() else {
+            return;
+        };
+        while let Some(tree) = pending.pop() {
+            if let TokenTree::Group(group) = tree {
+                let Group { stream, .. } = group;
+                if let Some(mut inside) = stream.into_last_list() {
+                    // Where memory is refused, the trees stay in their list and are dropped with it.
+                    drop(pending.append(&mut inside));
+                }
+            }
+        }
+    }
+}
+
 impl TokenStream {
+    // The stream of a list.
+    pub(crate) fn of(alloc: Global, trees: Vec<TokenTree>) -> Result<TokenStream, AllocError>
+        requires { IsStream (trees_tokens trees.items) }
+        ensures { IfOk result (λ stream. stream ≡ trees_tokens trees.items) }
+    {
+        if trees.is_empty() {
+            return Ok(TokenStream {
+                alloc,
+                shared: None,
+            });
+        }
+        Ok(TokenStream {
+            alloc,
+            shared: Some(Rc::new(alloc, trees)?),
+        })
+    }
+
+    // The list of a stream, which is copied if others share it.
+    pub(crate) fn into_list(self) -> Result<Vec<TokenTree>, AllocError>
+        ensures { IfOk result (λ trees. trees_tokens trees.items ≡ self) }
+    {
+        let TokenStream { alloc, shared } = self;
+        let Some(shared) = shared else {
+            return Ok(Vec::new(alloc));
+        };
+        match Rc::try_unwrap(shared) {
+            Ok(trees) => Ok(trees),
+            Err(shared) => copied_trees(alloc, shared.as_slice()),
+        }
+    }
+
+    // The list of a stream, if no other shares it.
+    fn into_last_list(self) -> Option<Vec<TokenTree>>
+        ensures { IfSome result (λ trees. trees_tokens trees.items ≡ self) }
+    {
+        let TokenStream { alloc: _, shared } = self;
+        Rc::into_inner(shared?)
+    }
+
     // Nothing, but that a proof learns what holds of each stream.
     pub(crate) fn known(&self)
         ensures { IsStream self.now }
     {
-        let _ = &self.trees;
+        let _ = &self.shared;
     }
 }
 

@@ -10,9 +10,9 @@ use Rattle.proc_macro2.proofs.print.+printing.Goals as goal
 pub write_group-returns : goal.write_group-returns
 write_group-returns g t c =
     let group = c.args.group.now in
-    let items = c.stream.inside.trees.items in
+    let items = c.trees.result.now in
     let some : items ≡ [] → ⊥ =
-    λ e. eqb-false _ 0 (sym c.is_empty.ensures ∙ c.if-is_empty.false) (c.stream.inside.trees.ok.0 ∙ ap length e) in
+    λ e. eqb-false _ 0 (sym c.is_empty.ensures ∙ c.if-is_empty.false) (ap length e) in
     λ p o.
     let opened = c.in_ok-write_str.ensures.writes p refl in
     let inside = c.in_ok-write_stream.ensures opened.plain refl in
@@ -20,12 +20,12 @@ write_group-returns g t c =
     has_written_of_eq _ _ _ _ _
     (ap (λ r. r ++ (printed group.stream ++ c.back.result.now)) c.front.ensures
     ∙ ap (λ r. front group.delimiter ++ (printed group.stream ++ r)) c.back.ensures
-    ∙ printed_group group items c.stream.view_is some)
+    ∙ printed_group group items c.trees.ensures.trees some)
     (has_written_append _ _ _ _ _ _ opened (has_written_append _ _ _ _ _ _ inside closed))
 
 pub write_stream-loop-tree-preserved : goal.write_stream-loop-tree-preserved
 write_stream-loop-tree-preserved g t c =
-    let items = c.deref-tree-items.result.now in
+    let items = c.trees-tree-items.result.now in
     let i = c.loop-tree.tree-index in
     let x = c.tree-item.result in
     let before = c.loop-tree.invariant in

@@ -1,4 +1,4 @@
-use Rattle.std.proofs.Common.{◌∙◌, ap, sym, ◌&&◌, [], ◌+◌, drop}
+use Rattle.std.proofs.Common.{◌∙◌, ap, sym, refl, ◌&&◌, [], ◌+◌, drop}
 use Rattle.proc_macro2.specs.Flat.{trees_tokens}
 use Rattle.proc_macro2.specs.Stands.{all_stand, tokens_behind}
 use Rattle.proc_macro2.specs.Token.{plain}
@@ -14,22 +14,20 @@ group_stands-returns-then-is_visible t c =
 
 pub stream_stands-returns-then-not-tree_stands : goal.stream_stands-returns-then-not-tree_stands
 stream_stands-returns-then-not-tree_stands t c =
-    let items = c.deref-tree-items.result.now in
+    let items = c.trees-trees.result.now in
     let i = c.loop-tree.tree-index in
-    let from = stand_from items c.deref.result.now i c.loop-tree.behind c.tree-item.result c.get.result
-    c.tree_stands.result (c.deref.ensures.value ∙ sym c.deref-tree-items.ensures.value)
+    let from = stand_from items items i c.loop-tree.behind c.tree-item.result c.get.result c.tree_stands.result refl
     c.loop-tree.invariant.behind c.loop-tree-test.true c.tree-item.is c.get.ensures.lookup c.tree_stands.ensures in
     sym
-    (ap (λ ts. all_stand (plain ts) []) (sym c.stream.view_is ∙ ap trees_tokens (sym c.deref-tree-items.ensures.value))
+    (ap (λ ts. all_stand (plain ts) []) (sym c.trees-trees.ensures.trees)
     ∙ c.loop-tree.invariant.left ∙ from
     ∙ ap (λ b. b && all_stand (plain (trees_tokens (drop (i + 1) items))) []) c.if-not-tree_stands.true)
 
 pub stream_stands-loop-tree-preserved : goal.stream_stands-loop-tree-preserved
 stream_stands-loop-tree-preserved t c =
-    let items = c.deref-tree-items.result.now in
+    let items = c.trees-trees.result.now in
     let i = c.loop-tree.tree-index in
-    let from = stand_from items c.deref.result.now i c.loop-tree.behind c.tree-item.result c.get.result
-    c.tree_stands.result (c.deref.ensures.value ∙ sym c.deref-tree-items.ensures.value)
+    let from = stand_from items items i c.loop-tree.behind c.tree-item.result c.get.result c.tree_stands.result refl
     c.loop-tree.invariant.behind c.loop-tree-test.true c.tree-item.is c.get.ensures.lookup c.tree_stands.ensures in
     record {
       behind = ap (λ k. k + 1) c.loop-tree.invariant.behind;

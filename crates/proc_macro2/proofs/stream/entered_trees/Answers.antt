@@ -5,7 +5,7 @@ use Rattle.std.specs.List.{flat_map}
 use Rattle.proc_macro2.specs.Entered.{entered}
 use Rattle.proc_macro2.specs.Stream.{IsStream}
 use Rattle.proc_macro2.proofs.StreamLemmas.{joined_stream}
-use Rattle.proc_macro2.proofs.tree.TokenStream.from_trees.Goals as goal
+use Rattle.proc_macro2.proofs.stream.entered_trees.Goals as goal
 
 pub loop-tree-preserved : goal.loop-tree-preserved
 loop-tree-preserved c = (
