@@ -28,17 +28,23 @@ trees_size (t ∷ ts) = omega (arith, trees_size ts, tree_size t, length-append 
 pub last_length : (ts : List TokenTree) (t : TokenTree)
     → length (trees_tokens (ts ++ t ∷ [])) ≡ length (trees_tokens ts) + length (tree_tokens t)
 last_length [] t = omega (arith, length-append (tree_tokens t) [])
-last_length (u ∷ ts) t = omega
-    (arith, last_length ts t, length-append (tree_tokens u) (trees_tokens (ts ++ t ∷ [])),
-    length-append (tree_tokens u) (trees_tokens ts))
+last_length (u ∷ ts) t = omega (
+  arith,
+  last_length ts t,
+  length-append (tree_tokens u) (trees_tokens (ts ++ t ∷ [])),
+  length-append (tree_tokens u) (trees_tokens ts),
+)
 
 -- the trees of a group behind others
 pub joined_length : (ts us : List TokenTree)
     → length (trees_tokens (ts ++ us)) ≡ length (trees_tokens ts) + length (trees_tokens us)
 joined_length [] us = omega arith
-joined_length (t ∷ ts) us = omega
-    (arith, joined_length ts us, length-append (tree_tokens t) (trees_tokens (ts ++ us)),
-    length-append (tree_tokens t) (trees_tokens ts))
+joined_length (t ∷ ts) us = omega (
+  arith,
+  joined_length ts us,
+  length-append (tree_tokens t) (trees_tokens (ts ++ us)),
+  length-append (tree_tokens t) (trees_tokens ts),
+)
 
 -- what is left of a list that was to be appended is no more than it was
 pub left_length : (appended : Bool) (ts : List TokenTree)

@@ -1,6 +1,6 @@
 -- Streams of one tree, and streams one behind the other.
 use Rattle.std.proofs.Common.{◌≡◌, ℕ, List, [], ◌∷◌, ◌++◌, IsTrue, refl, sym, ap, ◌∙◌, subst, ⊎_elim}
-use Rattle.std.specs.Prelude.{true, false}
+use Rattle.std.specs.Prelude.{true, false, Result, Ok, Err, OnErr, OnOk}
 use Rattle.std.specs.List.{flat_map}
 use Rattle.std.proofs.lemmas.Grind.{flat_map-append}
 use Rattle.rust_map.specs.declared.span.Span.{Span}
@@ -51,6 +51,16 @@ joined_stream ss ts a b = record {
   matched = matched_append ss ts a.matched b.matched;
   characters = shown_joined ss ts a.characters b.characters;
 }
+
+pub on_ok : {T E P : Type 0} (result : Result T E) → P → OnOk result P
+on_ok (Ok t) p = p
+on_ok (Err e) p = tt
+
+-- a stream to which tokens were added, unless it stayed as it was
+pub added_stream : {T E : Type 0} (result : Result T E) (old new added : List Spanned) → IsStream old
+    → OnOk result (IsStream added) → OnOk result (new ≡ old ++ added) → OnErr result (new ≡ old) → IsStream new
+added_stream (Ok t) old new added s known ok err = subst IsStream (sym ok) (joined_stream old added s known)
+added_stream (Err e) old new added s known ok err = subst IsStream (sym err) s
 
 pub group_stream : (d : Delimiter) (span : Span) (ss : List Spanned) → IsStream ss
     → IsStream (spanned (Opens d) span ∷ ss ++ spanned (Closes d) span ∷ [])

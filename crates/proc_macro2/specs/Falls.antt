@@ -25,4 +25,4 @@ most_le (t ∷ ts) = omega (arith, most_le ts, deep_le t, length-append (tree_to
 pub falls : (s : Inside) → deep-TokenStream s ≤ length (held_tokens s.shared)
 falls s = let below : weighed-TokenStream-shared.weight TokenTree deep-TokenTree s.shared ≤ length (held_tokens s.shared)
     = elim s.shared as (λ o. weighed-TokenStream-shared.weight TokenTree deep-TokenTree o ≤ length (held_tokens o))
-      [ None ↦ omega arith | Some trees ↦ omega (arith, most_le trees.value.items) ] in omega (arith, below)
+    [ None ↦ omega arith | Some trees ↦ omega (arith, most_le trees.value.items) ] in omega (arith, below)

@@ -111,7 +111,8 @@ impl TokenStream {
 
     // The list of a stream, which is copied if others share it.
     pub(crate) fn into_list(self) -> Result<Vec<TokenTree>, AllocError>
-        ensures { IfOk result (λ trees. trees_tokens trees.items ≡ self) }
+        ensures tokens { IfOk result (λ trees. trees_tokens trees.items ≡ self) }
+        ensures known { IfOk result (λ trees. IsStream (trees_tokens trees.items)) }
     {
         let TokenStream { alloc, shared } = self;
         let Some(shared) = shared else {

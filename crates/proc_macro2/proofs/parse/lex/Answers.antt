@@ -1,4 +1,4 @@
-use Rattle.std.proofs.Common.{◌≡◌, ◌∙◌, ◌+◌, ◌-◌, ◌≤◌, ℕ, List, arith, ap, sym, subst, refl, length, take, drop}
+use Rattle.std.proofs.Common.{◌≡◌, ◌∙◌, ◌+◌, ◌-◌, ◌≤◌, ℕ, List, [], arith, ap, sym, subst, refl, length, take, drop}
 use Rattle.std.specs.Prelude.{Bool, true, false}
 use Rattle.std.specs.Str.{chars}
 use Rattle.std.proofs.lemmas.Str.{IsCharBoundary-from_drop}
@@ -11,7 +11,7 @@ use Rattle.rust_lex.proofs.Joints.{joint_test}
 use Rattle.rust_lex.proofs.Pieces.{between_joined}
 use Rattle.proc_macro2.specs.Built.{IsPut, IsReady}
 use Rattle.proc_macro2.specs.Forest.{IsForest}
-use Rattle.proc_macro2.specs.Stack.{Open}
+use Rattle.proc_macro2.specs.Stack.{IsInnermost, Open}
 use Rattle.proc_macro2.specs.declared.builder.Stretch.{Stretch}
 use Rattle.proc_macro2.proofs.Building.{put_grows, put_refuses}
 use Rattle.proc_macro2.proofs.Puts.{ready_at}
@@ -136,13 +136,20 @@ loop-at-preserved c =
 
 pub returns-in-Ok-clause-parsed : goal.returns-in-Ok-clause-parsed
 returns-in-Ok-clause-parsed c =
-    subst (IsForest c.args.whole.start (chars c.args.text.now)) (sym c.in-Ok.ensures.whole.1)
-    (read_all _ _ _ _ _ c.loop-at.invariant (omega arith) c.in-Ok.ensures.whole.0)
+    let found : (c.loop-at.builder.groups ≡ []) × (c.in-Ok.stream ≡ c.loop-at.builder.inside) =
+    rw c.in-Ok.is at c.in_ok-stream.ensures.whole in
+    subst (IsForest c.args.whole.start (chars c.args.text.now)) (sym found.1)
+    (read_all _ _ _ _ _ c.loop-at.invariant (omega arith) found.0)
 
 pub fault_behind-requires-in-Err-clause-there : goal.fault_behind-requires-in-Err-clause-there
-fault_behind-requires-in-Err-clause-there c = last_frame _ _ _ _ _ _ c.loop-at.invariant c.in-Err.ensures.unclosed
+fault_behind-requires-in-Err-clause-there c =
+    let found : IsInnermost c.loop-at.builder.groups c.in-Err.frame.count =
+    rw c.in-Err.is at c.in_ok-stream.ensures.unclosed in
+    last_frame _ _ _ _ _ _ c.loop-at.invariant found
 
 pub returns-in-Err-clause-fault : goal.returns-in-Err-clause-fault
 returns-in-Err-clause-fault c =
+    let found : IsInnermost c.loop-at.builder.groups c.in-Err.frame.count =
+    rw c.in-Err.is at c.in_ok-stream.ensures.unclosed in
     told c.args.text.now c.args.whole c.in-Err.frame.count _ c.fault_behind-in-Err.ensures
-    (unclosed_at _ _ _ _ _ _ c.loop-at.invariant (omega arith) c.in-Err.ensures.unclosed)
+    (unclosed_at _ _ _ _ _ _ c.loop-at.invariant (omega arith) found)

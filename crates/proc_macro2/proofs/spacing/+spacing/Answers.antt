@@ -1,9 +1,11 @@
-use Rattle.std.proofs.Common.{◌∙◌, ap, sym, refl, ◌&&◌, [], ◌+◌, drop}
-use Rattle.proc_macro2.specs.Flat.{trees_tokens}
+use Rattle.std.proofs.Common.{◌∙◌, ap, sym, refl, ◌&&◌, [], ◌+◌, drop, length, arith}
+use Rattle.proc_macro2.specs.Flat.{tree_tokens, trees_tokens}
 use Rattle.proc_macro2.specs.Stands.{all_stand, tokens_behind}
 use Rattle.proc_macro2.specs.Token.{plain}
+use Rattle.proc_macro2.specs.declared.tree.TokenTree.{TokenTree}
 use Rattle.proc_macro2.proofs.NextTree.{stand_from}
 use Rattle.proc_macro2.proofs.Standing.{stand_group}
+use Rattle.proc_macro2.proofs.Views.{tree_length}
 use Rattle.proc_macro2.proofs.spacing.+spacing.Goals as goal
 
 pub group_stands-returns-then-is_visible : goal.group_stands-returns-then-is_visible
@@ -11,6 +13,15 @@ group_stands-returns-then-is_visible t c =
     let group = c.args.group.now in
     c.stream_stands.ensures ∙ ap (λ b. b && all_stand (plain group.stream) []) c.if-is_visible.ensures
     ∙ sym (stand_group group [])
+
+pub stream_stands-tree_stands-requires : goal.stream_stands-tree_stands-requires
+stream_stands-tree_stands-requires t c =
+    let items = c.trees-trees.result.now in
+    let x : TokenTree = c.tree-item.result in
+    let whole = ap length c.trees-trees.ensures.trees in
+    let part = tree_length items c.loop-tree.tree-index x c.loop-tree-test.true in
+    let same = ap (λ (u : TokenTree). length (tree_tokens u)) c.tree-item.is in
+    (omega (arith, whole, part, same, c.decreases), tt)
 
 pub stream_stands-returns-then-not-tree_stands : goal.stream_stands-returns-then-not-tree_stands
 stream_stands-returns-then-not-tree_stands t c =

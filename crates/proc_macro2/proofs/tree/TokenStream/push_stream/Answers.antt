@@ -1,12 +1,7 @@
-use Rattle.std.proofs.Common.{sym, ap, ◌∙◌, subst}
-use Rattle.std.proofs.lemmas.List.Concat.{flat_map-append}
-use Rattle.proc_macro2.specs.Flat.{tree_tokens, trees_tokens}
-use Rattle.proc_macro2.specs.Stream.{IsStream}
-use Rattle.proc_macro2.proofs.StreamLemmas.{joined_stream}
+use Rattle.proc_macro2.proofs.StreamLemmas.{added_stream, on_ok}
 use Rattle.proc_macro2.proofs.tree.TokenStream.push_stream.Goals as goal
 
 pub invariant_of-self-2 : goal.invariant_of-self-2
 invariant_of-self-2 c =
-    subst IsStream (sym (ap trees_tokens c.in_ok-append.ensures.items
-    ∙ flat_map-append tree_tokens c.self.inside.trees.items c.other.inside.trees.items))
-    (joined_stream _ _ c.self.invariant c.other.invariant)
+    added_stream c.add_trees.result _ _ _ c.self.invariant (on_ok c.add_trees.result c.in_ok-added.ensures.known)
+    c.add_trees.ensures.ok c.add_trees.ensures.err
