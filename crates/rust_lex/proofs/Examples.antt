@@ -13,6 +13,7 @@ use Rattle.rust_lex.specs.QuotedScan.{past_unit, past_char, past_units, past_raw
 use Rattle.rust_lex.specs.Number.{past_number, number_kind}
 use Rattle.rust_lex.specs.Word.{begins_kept, begins_lifetime}
 use Rattle.rust_lex.specs.Piece.{White, Comment, Doc, Mark, Ident, Literal, FrontMark, begins_mark}
+use Rattle.rust_lex.specs.Shebang.{begins_shebang, IsShebang}
 use Rattle.rust_lex.specs.Scan.{Nowhere, Ends, front_of, line, block, slash, ticked, word, scan, scan_front, is_joint}
 
 -- `unfolding all` lets `refl` compute a scan
@@ -346,3 +347,54 @@ joint_before_lifetime = refl
 alone_before_byte : is_joint (codes "+b'x'") ≡ false
 unfolding all
 alone_before_byte = refl
+
+shebang : begins_shebang (codes "#!/bin/x") ≡ true
+unfolding all
+shebang = refl
+
+shebang_gap : begins_shebang (codes "#! \t/bin/x") ≡ true
+unfolding all
+shebang_gap = refl
+
+shebang_attribute : begins_shebang (codes "#! [a]") ≡ false
+unfolding all
+shebang_attribute = refl
+
+shebang_attribute_below : begins_shebang (codes "#!\n[a]") ≡ false
+unfolding all
+shebang_attribute_below = refl
+
+shebang_line_comment : begins_shebang (codes "#!//c") ≡ false
+unfolding all
+shebang_line_comment = refl
+
+shebang_block_comment : begins_shebang (codes "#! /*c*/ x") ≡ false
+unfolding all
+shebang_block_comment = refl
+
+shebang_slash : begins_shebang (codes "#!/") ≡ true
+unfolding all
+shebang_slash = refl
+
+shebang_white_alone : begins_shebang (codes "#! \t\r\nx") ≡ false
+unfolding all
+shebang_white_alone = refl
+
+shebang_marks_alone : begins_shebang (codes "#!") ≡ false
+unfolding all
+shebang_marks_alone = refl
+
+shebang_behind_space : begins_shebang (codes " #!/bin/x") ≡ false
+unfolding all
+shebang_behind_space = refl
+
+shebang_return : IsShebang (codes "#!x\r") (codes "\ny")
+unfolding all
+shebang_return = (refl, refl, refl)
+
+shebang_to_end : IsShebang (codes "#!x") []
+unfolding all
+shebang_to_end = (refl, refl, refl)
+
+shebang_cut : IsShebang (codes "#!x") (codes "\r\n") → ⊥
+shebang_cut (begun, line, ends) = cc

@@ -11,6 +11,7 @@ pub mod Openers
 pub mod Complete
 pub mod Sound
 pub mod OneCover
+pub mod FileCovers
 pub mod Steps
 pub mod Scans
 pub mod Pieces

@@ -32,7 +32,7 @@ none_empty at q rest f e =
     sym (nothing_at at) ∙ ap (scan_at at) e ∙ complete_at at q.kind q.chars rest f in
     cc
 
-one_list : (ps qs : List Piece) → AreFit ps [] → AreFit qs [] → onto ps [] ≡ onto qs [] → ps ≡ qs
+pub one_list : (ps qs : List Piece) → AreFit ps [] → AreFit qs [] → onto ps [] ≡ onto qs [] → ps ≡ qs
 one_list [] [] f g e = refl
 one_list [] (q ∷ qs) f g e = absurd (none_empty 1 q (onto qs []) g.0 e)
 one_list (p ∷ ps) [] f g e = absurd (none_empty 1 p (onto ps []) f.0 (sym e))

@@ -10,4 +10,6 @@ pub mod Cover
 pub mod Calm
 pub mod Scan
 pub mod Places
+pub mod Shebang
+pub mod FileCover
 pub mod Ended

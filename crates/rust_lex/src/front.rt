@@ -44,7 +44,7 @@ fn wide_front(c: char) -> Front
 {
     if is_xid_start(c) {
         Front::First
-    } else if is_wide_white(c) {
+    } else if is_white(c) {
         Front::White
     } else {
         Front::Other
@@ -52,7 +52,7 @@ fn wide_front(c: char) -> Front
 }
 
 #[tactic(auto, unfolding(crate::specs::Chars::is_white))]
-fn is_wide_white(c: char) -> bool
+pub(crate) fn is_white(c: char) -> bool
     ensures { result ≡ chars.is_white c }
 {
     WHITES.contains(&c)

@@ -2,6 +2,7 @@
 
 ghost use Rattle.rust_lex.specs.Calm.{IsCalm};
 ghost use Rattle.rust_lex.specs.Cover.{IsCover};
+ghost use Rattle.rust_lex.specs.FileCover.{IsFileCover};
 ghost use Rattle.rust_lex.specs.Piece.{FitsAt, IsIdent, IsLiteral, Piece};
 ghost use Rattle.rust_lex.specs.declared.piece.LiteralKind.{LiteralKind};
 ghost use Rattle.std.specs.Prelude.{ℕ, ◌≡◌, ◌++◌, List};
@@ -15,6 +16,13 @@ pub fn one_piece()
 /// A text has at most one cover.
 pub fn one_cover()
     ensures { (text : List ℕ) (ps qs : List Piece) → IsCover text ps → IsCover text qs → ps ≡ qs }
+{}
+
+/// A text has at most one cover as a file: one byte order mark or none, one shebang or none, and the pieces behind
+/// them.
+pub fn one_file_cover()
+    ensures { (text mark line other lines : List ℕ) (ps qs : List Piece) → IsFileCover text mark line ps
+        → IsFileCover text other lines qs → (mark ≡ other) × (line ≡ lines) × (ps ≡ qs) }
 {}
 
 /// An identifier stands before any calm text, whatever follows it elsewhere.
