@@ -1,15 +1,17 @@
 -- Counts by the bytes of a text: of its characters, and of those before its lines.
 use Rattle.std.proofs.Common.{◌≡◌, ℕ, ◌+◌, ◌/◌, ◌%◌, ◌≤◌, ◌<◌, arith, List, [], ◌∷◌, ◌++◌, refl, sym, ap, ◌∙◌}
-use Rattle.std.proofs.Common.{length, inl, inr, add-zero}
+use Rattle.std.proofs.Common.{length, drop, get_or, inl, inr, add-zero}
 use Rattle.std.specs.Prelude.{true, false, encode_utf8, encode_utf8_all, cond, ◌==◌, if◌then◌else◌, ◌⊎◌}
-use Rattle.std.specs.List.{list_any}
+use Rattle.std.specs.List.{list_all, list_any}
 use Rattle.std.specs.Str.{chars, IsUtf8}
 use Rattle.rust_map.specs.Places.{is_line_feed}
-use Rattle.std.proofs.lemmas.Bool.{cases_eq, cases_lt, eq-eqb, lt-ltb, le-ltb, ne_eqb, or_parts}
+use Rattle.std.proofs.lemmas.Bool.{and_parts, cases_eq, cases_lt, eq-eqb, lt-ltb, le-ltb, ltb-true, ne_eqb, or_parts}
 use Rattle.std.proofs.lemmas.Bool.Decides.{nat_tests}
+use Rattle.std.proofs.lemmas.List.{drop_more}
 use Rattle.std.proofs.lemmas.List.Sums.{sum_by-cons, sum_by-append}
 use Rattle.std.proofs.lemmas.Str.{encodes-chars}
-use Rattle.rust_map.specs.Bytes.{begins_character, begun}
+use Rattle.text_chars.specs.Chars.{narrow}
+use Rattle.rust_map.specs.Bytes.{begins_character, begun, is_narrow}
 use Rattle.rust_map.specs.Tables.{line_starts_from, starts_by}
 use lib.Utf8.{encode}
 
@@ -64,11 +66,11 @@ spelled c = elim (cases_lt c 128) [
 pub begun_cons : (b : ℕ) (bs : List ℕ) → begun (b ∷ bs) ≡ cond (begins_character b) 1 0 + begun bs
 begun_cons b bs = sum_by-cons (λ x. cond (begins_character x) 1 0) b bs
 
-narrow : (b : ℕ) → b < 128 → begins_character b ≡ true
-narrow b h = grind (arith, nat_tests)
+narrow_begins : (b : ℕ) → b < 128 → begins_character b ≡ true
+narrow_begins b h = grind (arith, nat_tests)
 
-wide : (b : ℕ) → 192 ≤ b → begins_character b ≡ true
-wide b h = grind (arith, nat_tests)
+wide_begins : (b : ℕ) → 192 ≤ b → begins_character b ≡ true
+wide_begins b h = grind (arith, nat_tests)
 
 inner : (b : ℕ) → 128 ≤ b → b < 192 → begins_character b ≡ false
 inner b h l = grind (arith, nat_tests)
@@ -79,9 +81,9 @@ begun_on (b ∷ bs) rest h = begun_cons b (bs ++ rest) ∙ rw (inner b h.0 h.1) 
 
 begun_encode : (c : ℕ) (rest : List ℕ) → begun (encode_utf8 c ++ rest) ≡ 1 + begun rest
 begun_encode c rest = elim (spelled c) [
-  | inl a ↦ rw a.1 (begun_cons c rest ∙ rw (narrow c a.0) refl)
-  | inr w ↦ rw w.are (begun_cons w.byte (w.more ++ rest) ∙ rw (wide w.byte w.begins, begun_on w.more rest w.goes_on)
-      refl)
+  | inl a ↦ rw a.1 (begun_cons c rest ∙ rw (narrow_begins c a.0) refl)
+  | inr w ↦ rw w.are (begun_cons w.byte (w.more ++ rest) ∙
+      rw (wide_begins w.byte w.begins, begun_on w.more rest w.goes_on) refl)
 ]
 
 begun_encodes : (cs : List ℕ) → begun (encode_utf8_all cs) ≡ length cs
@@ -99,10 +101,10 @@ starts_on n (b ∷ bs) rest h =
 starts_encode : (n c : ℕ) (rest : List ℕ) → starts_by n (encode_utf8 c ++ rest)
     ≡ (if c == 10 then (n + 1) ∷ starts_by (n + 1) rest else starts_by (n + 1) rest)
 starts_encode n c rest = elim (spelled c) [
-  | inl a ↦ rw (a.1, narrow c a.0) refl
+  | inl a ↦ rw (a.1, narrow_begins c a.0) refl
   | inr w ↦ rw (
     w.are,
-    wide w.byte w.begins,
+    wide_begins w.byte w.begins,
     ne_eqb w.byte 10 (λ e. let h = w.begins in omega arith),
     ne_eqb c 10 (λ e. let h = w.wide in omega arith),
   ) (starts_on (n + 1) w.more rest w.goes_on)
@@ -138,3 +140,13 @@ pub starts_none : (n : ℕ) (bs : List ℕ) → list_any is_line_feed bs ≡ fal
 starts_none n [] h = refl
 starts_none n (b ∷ bs) h = let parts =
     or_parts (is_line_feed b) (list_any is_line_feed bs) h in rw parts.0 (starts_none (n + begun (b ∷ [])) bs parts.1)
+
+-- each byte of ASCII begins a character
+pub narrow_on : (bs : List ℕ) (i : ℕ) → i < length bs → list_all (narrow is_narrow) (drop i bs) ≡ true
+    → begun (drop i bs) ≡ 1 + begun (drop (i + 1) bs)
+narrow_on bs i h all =
+    let b = get_or bs i 0 in
+    let more = drop_more bs i 0 h in
+    let (here, _) = and_parts (narrow is_narrow b) _ (ap (list_all (narrow is_narrow)) (sym more) ∙ all) in
+    let small = ltb-true b 128 (and_parts (is_narrow b) (is_narrow b) here).0 in
+    ap begun more ∙ begun_cons b (drop (i + 1) bs) ∙ rw (narrow_begins b small) refl

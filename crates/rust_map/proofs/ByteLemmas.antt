@@ -1,17 +1,21 @@
 -- Characters and bytes.
 use Rattle.std.proofs.Common.{◌≡◌, ℕ, zero, suc, ◌+◌, ◌-◌, ◌*◌, ◌/◌, ◌%◌, ◌≤◌, ◌<◌, arith, List, [], ◌∷◌, ◌++◌}
 use Rattle.std.proofs.Common.{refl, sym, ap, ◌∙◌, length, take, drop, get_or, length-append, append_assoc, inl, inr}
-use Rattle.std.proofs.Common.{true}
+use Rattle.std.proofs.Common.{true, subst}
 use Rattle.std.specs.Prelude.{encode_utf8, encode_utf8_all, ◌==◌}
+use Rattle.std.specs.List.{list_all}
 use Rattle.std.specs.Str.{chars, IsUtf8}
 use Rattle.std.specs.Char.{len_utf8}
 use Rattle.std.proofs.Math.Utf8.{scalars}
 use Rattle.std.proofs.Math.Seq.{drop-append_seam, take-append_seam}
-use Rattle.std.proofs.lemmas.List.{take-append-drop, length-drop}
-use Rattle.std.proofs.lemmas.Bool.{ne_eqb, eq-eqb, cases_eq, cases_lt, and_parts, and_from}
+use Rattle.std.proofs.lemmas.List.{take-append-drop, length-drop, length-take-le}
+use Rattle.std.proofs.lemmas.Bool.{ne_eqb, eq-eqb, cases_eq, cases_lt, and_parts, and_from, ltb-true}
 use Rattle.std.proofs.lemmas.Str.{encodes-append, length-encode, len_utf8_bounds, length-le-encodes, encodes-chars}
-use Rattle.std.proofs.lemmas.Str.{scalars-chars, chars-encodes}
-use Rattle.rust_map.specs.Bytes.{rest_at, IsPlace, byte_length, byte_count, between_counts}
+use Rattle.std.proofs.lemmas.Str.{scalars-chars, chars-encodes, len_utf8_ascii}
+use Rattle.text_chars.specs.Chars.{narrow}
+use Rattle.text_chars.specs.Places.{IsPassed}
+use Rattle.text_chars.proofs.Blocks.{run}
+use Rattle.rust_map.specs.Bytes.{rest_at, IsPlace, byte_length, byte_count, between_counts, is_narrow}
 use Rattle.rust_map.specs.Tables.{byte_steps_from, byte_steps_of}
 
 pub byte_length-cons : (c : ℕ) (cs : List ℕ) → byte_length (c ∷ cs) ≡ len_utf8 c + byte_length cs
@@ -47,6 +51,67 @@ steps_none at count next c rest next_rest e n h = rw (e, n, ne_eqb ((count + 1) 
 pub append_one : (xs ys whole table : List ℕ) (y : ℕ) → xs ++ table ≡ whole → table ≡ y ∷ ys → (xs ++ (y ∷ [])) ++ ys
     ≡ whole
 append_one xs ys whole table y e t = append_assoc xs (y ∷ []) ys ∙ (ap (λ l. xs ++ l) (sym t) ∙ e)
+
+-- characters of ASCII take one byte each
+narrow_length : (cs : List ℕ) → list_all (narrow is_narrow) cs ≡ true → byte_length cs ≡ length cs
+narrow_length [] all = refl
+narrow_length (c ∷ cs) all =
+    let (here, others) = and_parts (narrow is_narrow c) (list_all (narrow is_narrow) cs) all in
+    let one = len_utf8_ascii c (ltb-true c 128 (and_parts (is_narrow c) (is_narrow c) here).0) in
+    let more = narrow_length cs others in
+    byte_length-cons c cs ∙ omega arith
+
+-- and so there are as many between two places
+passed_count : (bytes : List ℕ) (start end : ℕ) → IsPlace bytes start
+    → (h : IsPassed (narrow is_narrow) bytes start end) → length h.passed ≡ end - start
+passed_count bytes start end place h =
+    let parts : length (drop start bytes) ≡ byte_length h.passed + length (drop end bytes) =
+    ap length (sym (encodes-chars (drop start bytes) place.cut)) ∙ ap byte_length h.joined ∙
+    ap length (encodes-append h.passed (rest_at bytes end)) ∙ length-append (encode_utf8_all h.passed) _ ∙
+    ap (λ l. byte_length h.passed + length l) (encodes-chars (drop end bytes) h.place.cut) in
+    let within = h.place.within in
+    omega (arith, narrow_length h.passed h.pass, length-drop start bytes, length-drop end bytes)
+
+-- the entry behind the last of so many of them
+block_entry : (cs rest : List ℕ) (at count q r : ℕ) → list_all (narrow is_narrow) cs ≡ true → count ≡ 128 * q + r
+    → r + length cs ≡ 128 → 0 < length cs
+    → byte_steps_from at count (cs ++ rest)
+    ≡ (at + length cs) ∷ byte_steps_from (at + length cs) (count + length cs) rest
+block_entry [] rest at count q r all e l more = absurd (omega arith)
+block_entry (c ∷ []) rest at count q r all e l more =
+    let (here, _) = and_parts (narrow is_narrow c) true all in
+    let one = len_utf8_ascii c (ltb-true c 128 (and_parts (is_narrow c) (is_narrow c) here).0) in
+    steps_one at count (at + 1) c (c ∷ rest) rest refl (omega arith) (omega arith)
+block_entry (c ∷ d ∷ cs) rest at count q r all e l more =
+    let (here, others) = and_parts (narrow is_narrow c) (list_all (narrow is_narrow) (d ∷ cs)) all in
+    let one = len_utf8_ascii c (ltb-true c 128 (and_parts (is_narrow c) (is_narrow c) here).0) in
+    let step = steps_none at count (at + 1) c (c ∷ d ∷ (cs ++ rest)) (d ∷ (cs ++ rest)) refl (omega arith)
+    (λ z. omega arith) in
+    let behind = block_entry (d ∷ cs) rest (at + 1) (count + 1) q (r + 1) others (omega arith) (omega arith)
+    (omega arith) in
+    let there : at + 1 + length (d ∷ cs) ≡ at + length (c ∷ d ∷ cs) = omega arith in
+    let all_of : count + 1 + length (d ∷ cs) ≡ count + length (c ∷ d ∷ cs) = omega arith in
+    step ∙ rw (there, all_of) at behind
+
+-- the entry behind 128 bytes of ASCII
+pub block_step : (bytes text : List ℕ) (at count : ℕ) → bytes ≡ text → IsPlace text at → at + 128 ≤ length text
+    → count % 128 ≡ 0 → list_all (narrow is_narrow) (take (at + 128 - at) (drop at bytes)) ≡ true
+    → IsPlace text (at + 128) × (byte_steps_from at count (rest_at text at)
+    ≡ (at + 128) ∷ byte_steps_from (at + 128) (count + 128) (rest_at text (at + 128)))
+block_step bytes text at count same place long whole all =
+    let block = take (at + 128 - at) (drop at text) in
+    let size : length block ≡ 128 = length-take-le (at + 128 - at) (drop at text) (omega (arith, length-drop at text)) ∙
+    omega arith in
+    let pass : list_all (narrow is_narrow) block ≡ true =
+    ap (λ b. list_all (narrow is_narrow) (take (at + 128 - at) (drop at b))) (sym same) ∙ all in
+    let size_is : length block ≡ at + 128 - at = omega arith in
+    let is : take (length block) (drop at text) ≡ block = ap (λ m. take m (drop at text)) size_is in
+    let passed = subst (λ m. IsPassed (narrow is_narrow) text at (at + m)) size
+    (run is_narrow block text at place (omega arith) is pass) in
+    let count_is : length passed.passed ≡ 128 = passed_count text at (at + 128) place passed ∙ omega arith in
+    let entry = block_entry passed.passed (rest_at text (at + 128)) at count (count / 128) 0 passed.pass (omega arith)
+    (omega arith) (omega arith) in
+    (passed.place, ap (byte_steps_from at count) passed.joined ∙ rw count_is at entry)
 
 -- the entry at 128 * j characters, of which so many lie behind
 pub steps_at : (text : List ℕ) (at count j d : ℕ) → count < 128 * j → 128 * j ≤ count + length text

@@ -17,3 +17,7 @@ begins_character b = nat_lt b 128 || nat_le 192 b
 -- so many characters begin in bytes of a text
 abbrev pub begun : List ℕ → ℕ
 begun bytes = count_by begins_character bytes
+
+-- a character of ASCII, which is one byte
+abbrev pub is_narrow : ℕ → Bool
+is_narrow c = nat_lt c 128

@@ -1,15 +1,16 @@
 //! The tables of a text, made once.
 
-ghost use Rattle.rust_map.specs.Bytes.{begins_character, begun};
+ghost use Rattle.rust_map.specs.Bytes.{begins_character, begun, is_narrow};
 ghost use Rattle.rust_map.specs.Places.{is_line_feed};
 ghost use Rattle.rust_map.specs.Tables.{byte_steps_from, byte_steps_of, line_starts_of, starts_by};
 ghost use Rattle.std.specs.List.Sorted.{IsNonDecreasing, IsPartitionPoint};
-ghost use Rattle.std.specs.List.{list_any};
-ghost use Rattle.std.specs.Prelude.{◌∷◌, ◌++◌, ◌≡◌, ◌+◌, ◌<◌, ◌≤◌, ◌^◌, length, IfOk, OnOk};
+ghost use Rattle.std.specs.List.{list_all, list_any};
+ghost use Rattle.std.specs.Prelude.{◌∷◌, ◌++◌, ◌≡◌, ◌+◌, ◌<◌, ◌≤◌, ◌^◌, length, IfOk, OnOk, true};
 ghost use Rattle.std.specs.Str.{chars};
+ghost use Rattle.text_chars.specs.Chars.{narrow};
 
 use std::alloc::{AllocError, Global};
-use text_chars::char_at;
+use text_chars::{Test, all_pass, char_at};
 
 /// So many characters lie between two entries of the table of bytes.
 pub(crate) const STEP: usize = 128;
@@ -76,6 +77,23 @@ fn has_line_feed(bytes: &[u8]) -> bool
     found
 }
 
+/// A character of ASCII.
+struct Narrow;
+
+impl Test for Narrow {
+    ghost test = { is_narrow };
+
+    #[inline(always)]
+    fn passes(c: char) -> bool {
+        c < '\u{80}'
+    }
+
+    #[inline(always)]
+    fn passes_byte(byte: u8) -> bool {
+        byte < 128
+    }
+}
+
 /// Adds where lines begin behind the line feeds among bytes of a text, before which so many characters stand.
 /// Answers how many stand behind them.
 fn push_starts(starts: &mut Vec<u32>, bytes: &[u8], before: u32) -> Result<u32, AllocError>
@@ -88,6 +106,24 @@ fn push_starts(starts: &mut Vec<u32>, bytes: &[u8], before: u32) -> Result<u32, 
         if begins_character(*byte) {
             characters += 1;
         }
+        if *byte == b'\n' {
+            starts.push(characters)?;
+        }
+    }
+    Ok(characters)
+}
+
+/// The same among bytes of ASCII, each of which is a character.
+#[inline(always)]
+fn push_narrow_starts(starts: &mut Vec<u32>, bytes: &[u8], before: u32) -> Result<u32, AllocError>
+    requires room { before + begun bytes.now < 2 ^ 32 }
+    requires narrow { list_all (narrow is_narrow) bytes.now ≡ true }
+    ensures starts { OnOk result (starts.new.items ≡ starts.old.items ++ starts_by before bytes.now) }
+    ensures count { IfOk result (λ count. count ≡ before + begun bytes.now) }
+{
+    let mut characters = before;
+    for byte in bytes {
+        characters += 1;
         if *byte == b'\n' {
             starts.push(characters)?;
         }
@@ -115,10 +151,12 @@ pub(crate) fn count_lines(alloc: Global, text: &str) -> Result<Lines, AllocError
     let mut rest = text.as_bytes();
     while rest.len() >= SHORT_CHUNK {
         let (chunk, behind) = rest.split_at(SHORT_CHUNK);
-        if has_line_feed(chunk) {
-            characters = push_starts(&mut starts, chunk, characters)?;
-        } else {
+        if !has_line_feed(chunk) {
             characters += begun_in_few(chunk) as u32;
+        } else if all_pass::<Narrow>(chunk) {
+            characters = push_narrow_starts(&mut starts, chunk, characters)?;
+        } else {
+            characters = push_starts(&mut starts, chunk, characters)?;
         }
         rest = behind;
     }
@@ -143,9 +181,19 @@ fn every_step(alloc: Global, text: &str) -> Result<Vec<usize>, AllocError>
 {
     let mut steps = Vec::new(alloc);
     steps.push(0)?;
+    let bytes = text.as_bytes();
     let mut at = 0;
     let mut count = 0usize;
-    while at < text.len() {
+    while at < bytes.len() {
+        if count % STEP == 0
+            && bytes.len() - at >= STEP
+            && all_pass::<Narrow>(&bytes[at..at + STEP])
+        {
+            at += STEP;
+            count += STEP;
+            steps.push(at)?;
+            continue;
+        }
         let (_, next) = char_at(text, at);
         at = next;
         count += 1;

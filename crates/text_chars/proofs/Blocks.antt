@@ -31,7 +31,8 @@ passed_on p bytes start at end a b = record {
   on = omega (arith, a.on, b.on);
 }
 
-run : (p : ℕ → Bool) (xs bytes : List ℕ) (at : ℕ) → IsPlace bytes at → at + length xs ≤ length bytes
+-- bytes of ASCII that pass are characters that do
+pub run : (p : ℕ → Bool) (xs bytes : List ℕ) (at : ℕ) → IsPlace bytes at → at + length xs ≤ length bytes
     → take (length xs) (drop at bytes) ≡ xs → list_all (narrow p) xs ≡ true
     → IsPassed (narrow p) bytes at (at + length xs)
 run p [] bytes at place l e q =

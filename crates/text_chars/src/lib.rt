@@ -1,4 +1,6 @@
-//! Characters by their places in a text, in bytes from 0.
+//! Characters by their places in a text.
+//!
+//! A place is in bytes from 0: a character begins there, or the text ends. Each call asks for one, and answers one.
 //!
 //! - `place` (private): the character at a place, and the next one or none.
 //! - `walk` (private): on behind the characters that pass a test.
@@ -10,4 +12,4 @@ mod place;
 mod walk;
 
 pub use place::{char_at, next_char};
-pub use walk::{Test, begins, past, past_blocks, past_long, past_many};
+pub use walk::{Test, all_pass, begins, past, past_blocks, past_long, past_many};

@@ -31,7 +31,7 @@ pub trait Test {
     }
 }
 
-/// Whether a character that passes stands at a place.
+/// Whether a character that passes stands at a place; none does at the text's end.
 #[inline(always)]
 pub fn begins<T: Test>(text: &str, at: usize) -> bool
     requires { IsPlace text.now at }
@@ -43,7 +43,7 @@ pub fn begins<T: Test>(text: &str, at: usize) -> bool
     T::passes(c)
 }
 
-/// The place behind the characters that pass.
+/// The place behind the characters that pass, from a place on: that place where none does.
 #[inline(always)]
 pub fn past<T: Test>(text: &str, start: usize) -> usize
     requires { IsPlace text.now start }
@@ -86,10 +86,10 @@ fn past_by<T: Test>(text: &str, start: usize, by_blocks: bool) -> usize
     at
 }
 
-// Whether bytes are characters of ASCII that pass. It looks at all of them, so that many are seen at once.
+/// Whether bytes are all characters of ASCII that pass. It looks at each of them, so that many are seen at once.
 #[tactic(auto, using(crate::proofs::Blocks::narrow_is))]
 #[inline(always)]
-fn all_pass<T: Test>(bytes: &[u8]) -> bool
+pub fn all_pass<T: Test>(bytes: &[u8]) -> bool
     ensures { result ≡ list_all (narrow T.test) bytes.now }
 {
     let mut all = true;

@@ -28,6 +28,12 @@ push_starts-requires c =
     let parts = ap begun c.split_at.ensures.by_index.0 ∙ begun_append c.split_at.result.0.now c.split_at.result.1.now in
     omega arith
 
+pub push_narrow_starts-requires-clause-room : goal.push_narrow_starts-requires-clause-room
+push_narrow_starts-requires-clause-room c =
+    let all = begun_chars c.args.text.now c.utf8.text in
+    let parts = ap begun c.split_at.ensures.by_index.0 ∙ begun_append c.split_at.result.0.now c.split_at.result.1.now in
+    omega arith
+
 pub overflow_add-characters : goal.overflow_add-characters
 overflow_add-characters c =
     let all = begun_chars c.args.text.now c.utf8.text in
@@ -43,7 +49,15 @@ loop-rest-preserved-in_ok-characters c = record {
 }
 
 pub loop-rest-preserved : goal.loop-rest-preserved
-loop-rest-preserved c =
+loop-rest-preserved c = record {
+  counted = counted_on _ _ _ _ c.split_at.result.0.now c.split_at.result.1.now c.split_at.ensures.by_index.0
+      c.loop-rest.invariant.counted c.in_ok-characters-2.ensures.count;
+  whole = starts_on _ _ _ _ _ _ c.split_at.result.0.now c.split_at.result.1.now c.split_at.ensures.by_index.0
+      c.loop-rest.invariant.whole c.in_ok-characters-2.ensures.count c.in_ok-characters-2.ensures.starts;
+}
+
+pub loop-rest-preserved-then-not-has_line_feed : goal.loop-rest-preserved-then-not-has_line_feed
+loop-rest-preserved-then-not-has_line_feed c =
     let count = ap (λ m. c.loop-rest.characters + m) c.begun_in_few.ensures in
     record {
       counted = counted_on _ _ _ _ c.split_at.result.0.now c.split_at.result.1.now c.split_at.ensures.by_index.0
@@ -51,7 +65,7 @@ loop-rest-preserved c =
       whole = starts_on _ _ _ _ _ _ c.split_at.result.0.now c.split_at.result.1.now c.split_at.ensures.by_index.0
           c.loop-rest.invariant.whole count
           (same_starts c.loop-rest.characters c.loop-rest.starts.items c.split_at.result.0.now
-          (sym c.has_line_feed.ensures ∙ c.if-has_line_feed.false));
+          (sym c.has_line_feed.ensures ∙ c.if-not-has_line_feed.true));
     }
 
 pub push_starts-requires-2 : goal.push_starts-requires-2
@@ -61,9 +75,9 @@ push_starts-requires-2 c = let all =
 pub returns-clause-count : goal.returns-clause-count
 returns-clause-count c =
     let all = begun_chars c.args.text.now c.utf8.text in
-    omega (arith, c.in_ok-characters-2.ensures.count, c.loop-rest.invariant.counted)
+    omega (arith, c.in_ok-characters-3.ensures.count, c.loop-rest.invariant.counted)
 
 pub returns-clause-starts : goal.returns-clause-starts
 returns-clause-starts c =
-    c.in_ok-characters-2.ensures.starts ∙ c.loop-rest.invariant.whole
+    c.in_ok-characters-3.ensures.starts ∙ c.loop-rest.invariant.whole
     ∙ ap (λ t. 0 ∷ t) (starts_chars 0 c.args.text.now c.utf8.text)
