@@ -44,7 +44,8 @@ fn one_fault<F: FnMut(Range<usize>, EscapeError)>(text: &str, mode: Mode, mut ca
     }
 }
 
-/// Hands what is wrong with an inside of the kind to the callback, with its range in bytes from 0.
+/// Hands what is wrong with an inside of the kind to the callback, with its range in bytes from 0. The callback has to
+/// accept every call.
 ///
 /// In double quotes the callback hears each warning and what is wrong with each malformed unit, in
 /// order: one character, or a backslash and as much of an escape as stands behind it, with the first

@@ -75,8 +75,10 @@ fn only(src: &str, value: Value, end: usize) -> SingleReading
 
 /// The value of a character literal's inside.
 ///
-/// ZeroChars: the inside is empty. MoreThanOneChar: a unit stands at its front, and more behind it.
-/// Any other: no unit stands at its front.
+/// # Errors
+///
+/// `ZeroChars` where the inside is empty; `MoreThanOneChar` where a unit stands at its front, and more behind it; any
+/// other where no unit stands at its front. Each is fatal.
 #[tactic(auto, using(crate::proofs::Values::takes_texts))]
 pub fn unescape_char(src: &str) -> Result<char, EscapeError>
     ensures value { IfOk result (λ c. IsOnlyUnit Char (chars src.now) (Character c)) }
@@ -95,8 +97,10 @@ pub fn unescape_char(src: &str) -> Result<char, EscapeError>
 
 /// The value of a byte literal's inside.
 ///
-/// ZeroChars: the inside is empty. MoreThanOneChar: a unit stands at its front, and more behind it.
-/// Any other: no unit stands at its front.
+/// # Errors
+///
+/// `ZeroChars` where the inside is empty; `MoreThanOneChar` where a unit stands at its front, and more behind it; any
+/// other where no unit stands at its front. Each is fatal.
 #[tactic(auto, using(crate::proofs::Values::takes_bytes))]
 pub fn unescape_byte(src: &str) -> Result<u8, EscapeError>
     ensures value { IfOk result (λ b. IsOnlyUnit Byte (chars src.now) (byte_value b)) }

@@ -161,9 +161,9 @@ fn each_unit<T: Unit, F: FnMut(Range<usize>, Result<T, EscapeError>)>(
 ///
 /// A carriage return is malformed: BareCarriageReturnInRawString.
 ///
-/// The callback is called in order. A malformed unit is one character, or a backslash and as much of an
-/// escape as stands behind it, with the first character that doesn't go on with it; behind that the
-/// calls go on.
+/// The callback has to accept every call; it is called in order. A malformed unit is one character, or a backslash and
+/// as much of an escape as stands behind it, with the first character that doesn't go on with it; behind that the calls
+/// go on.
 #[tactic(auto, using(crate::proofs::Values::takes_texts))]
 pub fn check_raw_str<F: FnMut(Range<usize>, Result<char, EscapeError>)>(src: &str, callback: F)
     requires { F.IsAlwaysCallable callback }
@@ -177,9 +177,9 @@ pub fn check_raw_str<F: FnMut(Range<usize>, Result<char, EscapeError>)>(src: &st
 /// Malformed are a carriage return (BareCarriageReturnInRawString) and a character that isn't ASCII
 /// (NonAsciiCharInByte).
 ///
-/// The callback is called in order. A malformed unit is one character, or a backslash and as much of an
-/// escape as stands behind it, with the first character that doesn't go on with it; behind that the
-/// calls go on.
+/// The callback has to accept every call; it is called in order. A malformed unit is one character, or a backslash and
+/// as much of an escape as stands behind it, with the first character that doesn't go on with it; behind that the calls
+/// go on.
 #[tactic(auto, using(crate::proofs::Values::takes_bytes))]
 pub fn check_raw_byte_str<F: FnMut(Range<usize>, Result<u8, EscapeError>)>(src: &str, callback: F)
     requires { F.IsAlwaysCallable callback }
@@ -192,9 +192,9 @@ pub fn check_raw_byte_str<F: FnMut(Range<usize>, Result<u8, EscapeError>)>(src: 
 ///
 /// Malformed are a carriage return (BareCarriageReturnInRawString) and a zero (NulInCStr).
 ///
-/// The callback is called in order. A malformed unit is one character, or a backslash and as much of an
-/// escape as stands behind it, with the first character that doesn't go on with it; behind that the
-/// calls go on.
+/// The callback has to accept every call; it is called in order. A malformed unit is one character, or a backslash and
+/// as much of an escape as stands behind it, with the first character that doesn't go on with it; behind that the calls
+/// go on.
 #[tactic(auto, using(crate::proofs::Values::takes_raw_c))]
 pub fn check_raw_c_str<F: FnMut(Range<usize>, Result<NonZeroChar, EscapeError>)>(
     src: &str,
@@ -211,9 +211,9 @@ pub fn check_raw_c_str<F: FnMut(Range<usize>, Result<NonZeroChar, EscapeError>)>
 /// A skip has no value, and up to two warnings. Malformed are the quote, a carriage return and what
 /// is no escape.
 ///
-/// The callback is called in order. A malformed unit is one character, or a backslash and as much of an
-/// escape as stands behind it, with the first character that doesn't go on with it; behind that the
-/// calls go on.
+/// The callback has to accept every call; it is called in order. A malformed unit is one character, or a backslash and
+/// as much of an escape as stands behind it, with the first character that doesn't go on with it; behind that the calls
+/// go on.
 #[tactic(auto, using(crate::proofs::Values::takes_texts))]
 pub fn unescape_str<F: FnMut(Range<usize>, Result<char, EscapeError>)>(src: &str, callback: F)
     requires { F.IsAlwaysCallable callback }
@@ -228,9 +228,9 @@ pub fn unescape_str<F: FnMut(Range<usize>, Result<char, EscapeError>)>(src: &str
 /// A skip has no value, and up to two warnings. Malformed are the quote, a carriage return, what is
 /// no escape, and a character that isn't ASCII.
 ///
-/// The callback is called in order. A malformed unit is one character, or a backslash and as much of an
-/// escape as stands behind it, with the first character that doesn't go on with it; behind that the
-/// calls go on.
+/// The callback has to accept every call; it is called in order. A malformed unit is one character, or a backslash and
+/// as much of an escape as stands behind it, with the first character that doesn't go on with it; behind that the calls
+/// go on.
 #[tactic(auto, using(crate::proofs::Values::takes_bytes))]
 pub fn unescape_byte_str<F: FnMut(Range<usize>, Result<u8, EscapeError>)>(src: &str, callback: F)
     requires { F.IsAlwaysCallable callback }
@@ -245,9 +245,9 @@ pub fn unescape_byte_str<F: FnMut(Range<usize>, Result<u8, EscapeError>)>(src: &
 /// A skip has no value, and up to two warnings. Malformed are the quote, a carriage return, what is
 /// no escape, and a zero.
 ///
-/// The callback is called in order. A malformed unit is one character, or a backslash and as much of an
-/// escape as stands behind it, with the first character that doesn't go on with it; behind that the
-/// calls go on.
+/// The callback has to accept every call; it is called in order. A malformed unit is one character, or a backslash and
+/// as much of an escape as stands behind it, with the first character that doesn't go on with it; behind that the calls
+/// go on.
 #[tactic(auto, using(crate::proofs::Values::takes_c))]
 pub fn unescape_c_str<F: FnMut(Range<usize>, Result<MixedUnit, EscapeError>)>(
     src: &str,

@@ -155,8 +155,8 @@ fn scan_at(text: &str, at: usize) -> Option<(PieceKind, usize)>
     scan(text, at)
 }
 
-/// The piece of a text at a place, which is in bytes from 0, and the place behind it; none where no
-/// piece begins, as at the text's end. The place is the text's front or one behind a piece.
+/// The piece of a text at a place, and the place behind it, both in bytes from 0. None: no piece begins there, as at
+/// the text's end. A character has to begin there, or the text to end.
 pub fn next_piece(text: &str, at: usize) -> Option<(PieceKind, usize)>
     requires { IsPlace text.now at }
     ensures { IsPieceAt text.now at result }
@@ -165,7 +165,8 @@ pub fn next_piece(text: &str, at: usize) -> Option<(PieceKind, usize)>
 }
 
 /// The place behind a white character of ASCII that stands at a place of a text, both in bytes from 0:
-/// a short way to the commonest pieces. None: no such character stands there.
+/// a short way to the commonest pieces. None: no such character stands there. A character has to begin there, or the
+/// text to end.
 #[tactic(auto, using(crate::proofs::PlacesLemmas::rest_end, crate::proofs::Pieces::white_piece))]
 #[inline(always)]
 pub fn white_end(text: &str, at: usize) -> Option<usize>
@@ -192,7 +193,8 @@ fn begins_mark_but_tick(text: &str, c: char, next: usize) -> bool
     }
 }
 
-/// Whether a mark stands at a place of a text, which is in bytes from 0.
+/// Whether a mark stands at a place of a text, which is in bytes from 0. A character has to begin there, or the text
+/// to end.
 #[tactic(auto, using(crate::proofs::Scans::marks))]
 pub fn begins_mark(text: &str, at: usize) -> bool
     requires { IsPlace text.now at }
@@ -238,7 +240,8 @@ fn joint(text: &str, at: usize) -> bool
 }
 
 /// Whether the mark that stands at a place is joint: a `'` always is, another where a mark or a
-/// character literal follows it at once. The place is in bytes from 0.
+/// character literal follows it at once. The place is in bytes from 0. A character has to begin there, or the text to
+/// end.
 pub fn is_joint(text: &str, at: usize) -> bool
     requires { IsPlace text.now at }
     ensures { IsTrue result ↔ IsJoint (rest_at text.now at) }

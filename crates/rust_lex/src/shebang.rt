@@ -32,7 +32,7 @@ fn begins_command(text: &str, at: usize) -> bool
 }
 
 /// The place behind the shebang that stands at a place of a text, both in bytes from 0. None: no shebang stands there.
-/// The line ends before a line feed, or at the text's end.
+/// The line ends before a line feed, or at the text's end. A character has to begin at the place, or the text to end.
 #[tactic(auto, using(crate::proofs::PlacesLemmas::rest_end))]
 pub fn shebang_end(text: &str, at: usize) -> Option<usize>
     requires { IsPlace text.now at }

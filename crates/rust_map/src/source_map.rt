@@ -119,7 +119,7 @@ impl SourceMap {
         SourceMap::starting_at(alloc, 1)
     }
 
-    /// A map without texts, whose first text will begin at this position, at least 1.
+    /// A map without texts, whose first text will begin at this position, which has to be at least 1.
     pub fn starting_at(alloc: Global, position: u32) -> SourceMap
         requires { 1 ≤ position }
         ensures { result ≡ empty_from position }
@@ -155,10 +155,10 @@ impl SourceMap {
         }
     }
 
-    /// Puts a copy of a text behind the others, and answers the span of all of it. There has to be room
-    /// for it.
+    /// Puts a copy of a text behind the others, and answers the span of all of it.
     ///
-    /// An error says that there was no memory, and leaves the map as it was.
+    /// There has to be room for its characters, as `room` tests. An error says that there was no memory,
+    /// and leaves the map as it was.
     pub fn insert(&mut self, text: &str) -> Result<Span, AllocError>
         requires { next_position self.old + length (chars text.now) < 2 ^ 32 }
         ensures inserted { OnOk result (self.new ≡ with_text self.old (chars text.now)) }

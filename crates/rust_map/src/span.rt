@@ -87,7 +87,8 @@ impl Span {
         self.end.saturating_sub(self.start)
     }
 
-    /// Its part between two counts of characters from its start, from 0.
+    /// Its part between two counts of characters from its start, from 0. The first may not be past the
+    /// second, nor the second past the span's end: `checked_part` tests both.
     pub fn part(&self, from: u32, to: u32) -> Span
         requires ordered { from ≤ to }
         requires within { self.now.start + to ≤ self.now.end }
@@ -138,7 +139,10 @@ impl Span {
         }
     }
 
-    /// The place of its first character: line from 1, column in characters from 0.
+    /// The place of its first character: line from 1, column in characters from 0. That of the call site
+    /// is line 1, column 0.
+    ///
+    /// The map has to hold the span, as `SourceMap::holds` tests.
     pub fn start(&self, map: &SourceMap) -> LineColumn
         requires { IsTrue (is_held map.now self.now) }
         ensures { result ≡ answers.start_place map.now self.now }
@@ -149,7 +153,10 @@ impl Span {
         }
     }
 
-    /// The place behind its last character: line from 1, column in characters from 0.
+    /// The place behind its last character: line from 1, column in characters from 0. That of the call
+    /// site is line 1, column 0.
+    ///
+    /// The map has to hold the span, as `SourceMap::holds` tests.
     pub fn end(&self, map: &SourceMap) -> LineColumn
         requires { IsTrue (is_held map.now self.now) }
         ensures { result ≡ answers.end_place map.now self.now }
@@ -161,6 +168,8 @@ impl Span {
     }
 
     /// The bytes that it covers, counted from 0 at the front of its text; 0 to 0 for the call site.
+    ///
+    /// The map has to hold the span, as `SourceMap::holds` tests.
     pub fn byte_range(&self, map: &SourceMap) -> Range<usize>
         requires { IsTrue (is_held map.now self.now) }
         ensures start { result.start ≡ answers.start_byte map.now self.now }
@@ -174,7 +183,8 @@ impl Span {
 
     /// A copy of the text that it covers; `None` for the call site.
     ///
-    /// An error says that there was no memory for the copy.
+    /// The map has to hold the span, as `SourceMap::holds` tests. An error says that there was no memory
+    /// for the copy.
     pub fn source_text(&self, alloc: Global, map: &SourceMap) -> Result<Option<String>, AllocError>
         requires { IsTrue (is_held map.now self.now) }
         ensures { IfOk result (λ text. option_map (λ t. chars (string_bytes t)) text
@@ -192,7 +202,8 @@ impl Span {
     /// The name of its file: `<parsed string N>`, N counting the texts of the map from 1, or
     /// `<unspecified>` for the call site.
     ///
-    /// An error says that there was no memory for the name.
+    /// The map has to hold the span, as `SourceMap::holds` tests. An error says that there was no memory
+    /// for the name.
     pub fn file(&self, alloc: Global, map: &SourceMap) -> Result<String, AllocError>
         requires { IsTrue (is_held map.now self.now) }
         ensures { IfOk result (λ name. string_bytes name ≡ answers.file_name map.now self.now) }
@@ -203,7 +214,9 @@ impl Span {
         }
     }
 
-    /// No span lies in a file of the file system.
+    /// The path of its file in the file system: always `None`, as no span lies in one.
+    ///
+    /// The map has to hold the span, as `SourceMap::holds` tests.
     pub fn local_file(&self, map: &SourceMap) -> Option<PathBuf>
         requires { IsTrue (is_held map.now self.now) }
         ensures { IsNone result }
@@ -213,6 +226,8 @@ impl Span {
     }
 
     /// The least span that covers both; `None` if they lie in different files.
+    ///
+    /// The map has to hold both spans, as `SourceMap::holds` tests.
     pub fn join(&self, other: Span, map: &SourceMap) -> Option<Span>
         requires this { IsTrue (is_held map.now self.now) }
         requires other { IsTrue (is_held map.now other) }

@@ -4,7 +4,8 @@ ghost use Rattle.std.specs.Char.{len_utf8};
 ghost use Rattle.std.specs.Prelude.{◌∷◌, ◌≡◌, ◌+◌, ◌<◌, length};
 ghost use Rattle.text_chars.specs.Places.{IsBehind, IsNext, IsPlace, rest_at};
 
-/// The character at a place of a text, and the place behind it, both in bytes from 0.
+/// The character at a place of a text, and the place behind it, both in bytes from 0. The place has to lie before the
+/// text's end.
 #[inline(always)]
 pub fn char_at(text: &str, at: usize) -> (char, usize)
     requires place { IsPlace text.now at }
@@ -35,7 +36,7 @@ fn wide_at(text: &str, at: usize) -> (char, usize)
     }
 }
 
-/// The same at any place: none at the text's end.
+/// The character at a place of a text, and the place behind it, both in bytes from 0. None: the text ends there.
 #[tactic(auto, using(crate::proofs::Steps::rest_end))]
 #[inline(always)]
 pub fn next_char(text: &str, at: usize) -> Option<(char, usize)>
