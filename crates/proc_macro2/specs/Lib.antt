@@ -12,6 +12,7 @@ pub mod Spacing
 pub mod Stands
 pub mod Pieces
 pub mod Forest
+pub mod FileForest
 pub mod Held
 pub mod Falls
 pub mod Stack
