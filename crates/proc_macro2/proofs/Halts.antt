@@ -210,7 +210,7 @@ faulted text n f =
     o)
     f
 
-one_behind : (text : List ℕ) (n m : ℕ) → IsFaultBehind text n → IsFaultBehind text m → n ≡ m
+pub one_behind : (text : List ℕ) (n m : ℕ) → IsFaultBehind text n → IsFaultBehind text m → n ≡ m
 one_behind text n m f g =
     let a = faulted text n f in
     let b = faulted text m g in

@@ -21,6 +21,8 @@ pub mod Reading
 pub mod OneForest
 pub mod Halts
 pub mod Total
+pub mod Files
+pub mod Shebangs
 pub mod Lies
 pub mod Held
 pub mod Marks

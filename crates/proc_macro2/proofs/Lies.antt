@@ -1,7 +1,7 @@
 -- The tokens of a text's forest lie where the text does, and a map that the text was put into holds their spans.
 use Rattle.std.proofs.Common.{◌≡◌, ℕ, ◌+◌, ◌-◌, ◌<◌, ◌≤◌, List, [], ◌∷◌, ◌++◌, length, map, refl, sym, ap, subst}
 use Rattle.std.proofs.Common.{arith, length-append}
-use Rattle.std.specs.Prelude.{Bool, true, false, nat_lt, if◌then◌else◌, IsTrue, Some}
+use Rattle.std.specs.Prelude.{Bool, true, false, nat_lt, if◌then◌else◌, IsTrue, Option, None, Some}
 use Rattle.std.proofs.lemmas.Bool.{ltb-true}
 use Rattle.rust_map.specs.Sources.{Sources, spot, is_held, next_position, next_span, next_spot, spot_part, with_text}
 use Rattle.rust_map.specs.Spans.{span_from, span_part}
@@ -13,6 +13,8 @@ use Rattle.proc_macro2.specs.Token.{Token, Opens, Closes, Ident, Literal, Punct,
 use Rattle.proc_macro2.specs.Pieces.{edge, edged, edged_at, head, mark_spacing, span_at, piece_tokens, tokens_of}
 use Rattle.proc_macro2.specs.Forest.{ArePaired, IsForest}
 use Rattle.proc_macro2.specs.Held.{are_held}
+use Rattle.proc_macro2.specs.FileForest.{IsFileForest}
+use Rattle.proc_macro2.proofs.Shebangs.{shebang_length}
 
 -- a span lies between two positions
 pub record Lies (low high : ℕ) (span : Span) : Type 0 where
@@ -143,6 +145,17 @@ spans_lie low high xs (s ∷ ss) o l p = by (λ ys o q. spans_lie low high ys ss
     by more (Literal cs) h q = leaf (more xs o q) h
     by more (Punct c spacing) h q = leaf (more xs o q) h
 
+-- wider bounds
+all_wider : (bottom low high top : ℕ) (ss : List Spanned) → bottom ≤ low → high ≤ top → AllIn low high ss
+    → AllIn bottom top ss
+all_wider bottom low high top [] b t l = tt
+all_wider bottom low high top (s ∷ ss) b t l =
+    let starts = l.0.starts in
+    let ends = l.0.ends in (
+      record { starts = omega arith; ordered = l.0.ordered; ends = omega arith },
+      all_wider bottom low high top ss b t l.1,
+    )
+
 -- the text was put into the map
 module _ (sources : Sources) (text : List ℕ)
     (there : spot (with_text sources text) (next_span sources text) ≡ Some (next_spot sources text)) where
@@ -174,6 +187,15 @@ module _ (sources : Sources) (text : List ℕ)
   forest_held : (ss : List Spanned) → IsForest base text ss → IsTrue (are_held grown ss)
   forest_held ss f = all_held ss (spans_lie base (base + length text) [] ss tt (forest_lies base text ss f) f.paired).0
 
+  -- so are those of what stands behind its front
+  behind_held : (rest : List ℕ) (count : ℕ) (ss : List Spanned) → length text ≡ count + length rest
+      → IsForest (base + count) rest ss → IsTrue (are_held grown ss)
+  behind_held rest count ss l f =
+      let low = base + count in
+      all_held ss
+      (all_wider base low (low + length rest) (base + length text) ss (omega arith) (omega arith)
+      (spans_lie low (low + length rest) [] ss tt (forest_lies low rest ss f) f.paired).0)
+
 -- the map that a text was put into holds its tokens
 pub given_held : (old new : Sources) (text : List ℕ) (ss : List Spanned)
     → spot new (next_span old text) ≡ Some (next_spot old text) → new ≡ with_text old text
@@ -182,3 +204,13 @@ given_held old new text ss there more forest =
     subst (λ (m : Sources). IsTrue (are_held m ss)) (sym more)
     (forest_held old text (subst (λ (m : Sources). spot m (next_span old text) ≡ Some (next_spot old text)) more
     there) ss forest)
+
+-- those of a file too
+pub given_file_held : (old new : Sources) (text : List ℕ) (shebang : Option (List ℕ)) (ss : List Spanned)
+    → spot new (next_span old text) ≡ Some (next_spot old text) → new ≡ with_text old text
+    → IsFileForest (next_position old) text shebang ss → IsTrue (are_held new ss)
+given_file_held old new text None ss there more file = given_held old new text ss there more file.1
+given_file_held old new text (Some line) ss there more file =
+    subst (λ (m : Sources). IsTrue (are_held m ss)) (sym more)
+    (behind_held old text (subst (λ (m : Sources). spot m (next_span old text) ≡ Some (next_spot old text)) more there)
+    file.rest file.count ss (shebang_length text line file.rest file.count file.shebang) file.forest)

@@ -23,7 +23,8 @@ use Rattle.proc_macro2.specs.Built.{openings_of, opening_of, built}
 use Rattle.proc_macro2.specs.Stack.{IsInnermost, Open}
 use Rattle.proc_macro2.specs.declared.builder.Stretch.{Stretch}
 use Rattle.rust_map.specs.declared.fault.LexFault.{LexFault}
-use Rattle.rust_map.specs.declared.fault.LexFault.TheVariants.{Lex}
+use Rattle.rust_map.specs.declared.fault.LexFault.TheVariants.{Lex, MapFull, Memory}
+use Rattle.proc_macro2.specs.FileForest.{HasShebang, IsFileFault, NoShebang}
 use Rattle.proc_macro2.proofs.Covering.{onto_rest, count_more, tokens_at, tokens_more, openings_more}
 use Rattle.proc_macro2.proofs.Building.{IsWhole, IsParentIn, Grows, Refuses, no_tokens, grows_added, fits_close}
 use Rattle.proc_macro2.proofs.Building.{openings_push}
@@ -215,3 +216,31 @@ pub told : (bytes : List ℕ) (whole : Span) (n : ℕ) (fault : LexFault)
     → fault ≡ Lex (record { span = span_part whole n n; place = place_of (chars bytes) n })
     → IsFaultBehind (chars bytes) n → IsFault whole.start (chars bytes) fault
 told bytes whole n fault e f = rw e (record { behind = n; fault = f; place_is = refl; span_is = refl })
+
+-- and in a file
+pub file_told : (bytes line rest : List ℕ) (whole : Span) (count more : ℕ) (fault : LexFault)
+    → fault ≡ Lex
+    (record { span = span_part whole (count + more) (count + more); place = place_of (chars bytes) (count + more) })
+    → HasShebang (chars bytes) line rest count → IsFaultBehind rest more →
+    IsFileFault whole.start (chars bytes) fault
+file_told bytes line rest whole count more fault e h f = rw e (record {
+  behind = count + more;
+  fault = inr (record {
+    line = line;
+    rest = rest;
+    count = count;
+    shebang = h;
+    behind = more;
+    fault = f;
+    there = refl;
+  });
+  place_is = refl;
+  span_is = refl;
+})
+
+pub plain_fault : (base : ℕ) (text : List ℕ) (fault : LexFault) → NoShebang text → IsFault base text fault
+    → IsFileFault base text fault
+plain_fault base text (Lex error) n f =
+    record { behind = f.behind; fault = inl (n, f.fault); place_is = f.place_is; span_is = f.span_is }
+plain_fault base text MapFull n f = tt
+plain_fault base text Memory n f = tt

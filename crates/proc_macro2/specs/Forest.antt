@@ -1,6 +1,6 @@
 -- The forest of a text: the tokens of its cover where its groups match. A text without one has a
 -- lexical fault.
-use Rattle.std.specs.Prelude.{◌≡◌, ◌≢◌, ℕ, ◌+◌, List, [], ◌∷◌, length, map, cond, Option, Some, None}
+use Rattle.std.specs.Prelude.{◌≡◌, ◌≢◌, ℕ, ◌+◌, ◌≤◌, List, [], ◌∷◌, length, map, cond, Option, Some, None}
 use Rattle.std.specs.Prelude.{option_and_then, ◌⊎◌}
 use Rattle.rust_map.specs.declared.place.LineColumn.{LineColumn}
 use Rattle.rust_map.specs.Places.{place_of}
@@ -14,6 +14,8 @@ use Rattle.rust_lex.specs.declared.piece.PieceKind.TheVariants as piece
 use Rattle.proc_macro2.specs.Token.{Delimiter, Opens, Closes, Ident, Literal, Punct, Spanned}
 use Rattle.proc_macro2.specs.Groups.{same_delimiter, IsMatched}
 use Rattle.proc_macro2.specs.Pieces.{delimiter_of, edged, tokens_of}
+use Rattle.proc_macro2.specs.declared.parse.Fault.{Fault}
+use Rattle.proc_macro2.specs.declared.parse.Fault.TheVariants as fault
 use Rattle.rust_map.specs.declared.fault.LexError.{LexError}
 use Rattle.rust_map.specs.declared.fault.LexFault.{LexFault}
 use Rattle.rust_map.specs.declared.fault.LexFault.TheVariants.{Lex, MapFull, Memory}
@@ -108,6 +110,11 @@ pub record IsUnclosed (text : List ℕ) (n : ℕ) : Type 0 where
 -- behind its first n characters the text has its lexical fault
 abbrev pub IsFaultBehind : List ℕ → ℕ → Type 0
 IsFaultBehind text n = IsStray text n ⊎ IsUnmatched text n ⊎ IsUnclosed text n
+
+-- what a lexer says of a text without trees: where its fault is, within it
+abbrev pub IsFaultWithin : List ℕ → Fault → Type 0
+IsFaultWithin text (fault.Behind n) = IsFaultBehind text n × (n ≤ length text)
+IsFaultWithin text fault.Memory = Unit {0}
 
 -- the text has its lexical fault there
 abbrev pub IsLexicalFault : List ℕ → LineColumn → Type 0

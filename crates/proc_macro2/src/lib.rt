@@ -10,6 +10,7 @@
 //! - `into_iter`: taking streams apart.
 //! - `copies`: copies of streams and trees.
 //! - `parse`: streams of texts.
+//! - `file`: streams of files, whose first line may be a shebang.
 //! - `put`, `doc` (private): the tokens of one piece.
 //! - `builder` (private): trees that are built from tokens in their order.
 //! - `place` (private): the line and the column behind some characters.
@@ -29,6 +30,7 @@ pub mod copies;
 mod debug;
 pub mod delimiter;
 mod doc;
+pub mod file;
 pub mod forest_laws;
 pub mod group;
 pub mod into_iter;

@@ -1,9 +1,8 @@
-//! Token streams of texts, and of files: texts whose first line may be a shebang.
+//! Token streams of texts.
 
-ghost use Rattle.proc_macro2.specs.FileForest.{HasShebang, IsFileFault, IsFileForest, NoShebang, behind_mark};
-ghost use Rattle.proc_macro2.specs.Forest.{IsFault, IsFaultBehind, IsForest};
+ghost use Rattle.proc_macro2.specs.Forest.{IsFault, IsFaultWithin, IsForest};
 ghost use Rattle.proc_macro2.specs.Held.{are_held};
-ghost use Rattle.proc_macro2.specs.declared.parse.Fault.TheVariants.{Behind};
+ghost use Rattle.proc_macro2.specs.declared.parse.Fault.TheVariants.{Memory};
 ghost use Rattle.rust_map.specs.declared.fault.LexFault.TheVariants.{Lex, MapFull};
 ghost use Rattle.rust_lex.specs.Piece.{IsJoint};
 ghost use Rattle.rust_lex.specs.Places.{IsPlace, rest_at};
@@ -11,18 +10,16 @@ ghost use Rattle.rust_lex.specs.declared.piece.PieceKind.TheVariants.{Mark};
 ghost use Rattle.rust_map.specs.Places.{place_of};
 ghost use Rattle.rust_map.specs.Sources.{next_position, next_span, next_spot, spot, with_text};
 ghost use Rattle.rust_map.specs.Spans.{span_part};
-ghost use Rattle.std.specs.Prelude.{◌≡◌, ◌≢◌, ◌+◌, ◌^◌, ◌<◌, ◌≤◌, ◌↔◌, Err, IfErr, IfOk, IfSome, IsTrue, MatchOption, None};
-ghost use Rattle.std.specs.Prelude.{OnErr, OnOk, Some, length, option_map, ℕ};
+ghost use Rattle.std.specs.Prelude.{◌≡◌, ◌≢◌, ◌+◌, ◌^◌, ◌<◌, ◌≤◌, ◌↔◌, Err, IfErr, IfOk, IfSome, IsTrue, None};
+ghost use Rattle.std.specs.Prelude.{OnErr, OnOk, Some, length};
 ghost use Rattle.std.specs.Str.{chars};
 
 use crate::builder::{Builder, Stretch};
 use crate::place::place_behind;
 use crate::put::put;
 use crate::tree::TokenStream;
-use rust_escape::place::next_char;
 use rust_lex::piece::PieceKind;
 use rust_lex::scan::{is_joint, next_piece, white_end};
-use rust_lex::shebang::shebang_end;
 use rust_map::characters;
 use rust_map::fault::{LexError, LexFault};
 use rust_map::source_map::SourceMap;
@@ -31,7 +28,7 @@ use std::alloc::{AllocError, Global};
 
 // Why a text has no trees.
 #[derive(Drop)]
-enum Fault {
+pub(crate) enum Fault {
     // A lexical fault, behind so many characters of the text.
     Behind(u32),
     // Memory was refused.
@@ -39,6 +36,8 @@ enum Fault {
 }
 
 impl From<AllocError> for Fault {
+    ghost from_gives = { λ _ fault. fault ≡ Memory };
+
     fn from(_: AllocError) -> Fault {
         Fault::Memory
     }
@@ -46,7 +45,7 @@ impl From<AllocError> for Fault {
 
 // The lexical fault of a text behind so many of its characters. A span is given that begins where the text will, and
 // ends no earlier than it.
-fn fault_behind(text: &str, whole: Span, count: u32) -> LexFault
+pub(crate) fn fault_behind(text: &str, whole: Span, count: u32) -> LexFault
     requires there { count ≤ length (chars text.now) }
     requires whole { whole.start + length (chars text.now) ≤ whole.end }
     ensures { result ≡ Lex (record { span = span_part whole count count; place = place_of (chars text.now) count }) }
@@ -66,11 +65,10 @@ fn joint_at(text: &str, at: usize, kind: PieceKind) -> bool
 }
 
 // The trees of a text. A span is given that begins where the text will, and ends no earlier than it.
-fn lex(alloc: Global, text: &str, whole: Span) -> Result<TokenStream, Fault>
+pub(crate) fn lex(alloc: Global, text: &str, whole: Span) -> Result<TokenStream, Fault>
     requires whole { whole.start + length (chars text.now) ≤ whole.end }
     ensures parsed { IfOk result (λ stream. IsForest whole.start (chars text.now) stream) }
-    ensures fault { (n : ℕ) → result ≡ Err (Behind n) → IsFaultBehind (chars text.now) n }
-    ensures there { (n : ℕ) → result ≡ Err (Behind n) → n ≤ length (chars text.now) }
+    ensures fault { IfErr result (IsFaultWithin (chars text.now)) }
 {
     let mut builder = Builder::new(alloc);
     let mut at = 0usize;
@@ -104,7 +102,7 @@ fn lex(alloc: Global, text: &str, whole: Span) -> Result<TokenStream, Fault>
 }
 
 // The trees of a text, or what is said of its fault.
-fn parsed(alloc: Global, text: &str, whole: Span) -> Result<TokenStream, LexFault>
+pub(crate) fn parsed(alloc: Global, text: &str, whole: Span) -> Result<TokenStream, LexFault>
     requires whole { whole.start + length (chars text.now) ≤ whole.end }
     ensures parsed { IfOk result (λ stream. IsForest whole.start (chars text.now) stream) }
     ensures fault { IfErr result (IsFault whole.start (chars text.now)) }
@@ -117,67 +115,9 @@ fn parsed(alloc: Global, text: &str, whole: Span) -> Result<TokenStream, LexFaul
     }
 }
 
-// A text with a shebang: the shebang, what stands behind it, and how many characters of the text stand before that.
-struct Script<'t> {
-    shebang: &'t str,
-    rest: &'t str,
-    count: usize,
-}
-
-// The place behind the byte order mark that a text may begin with, in bytes.
-fn mark_end(text: &str) -> usize
-    ensures place { IsPlace text.now result }
-    ensures behind { rest_at text.now result ≡ behind_mark (chars text.now) }
-{
-    match next_char(text, 0) {
-        Some(('\u{feff}', end)) => end,
-        _ => 0,
-    }
-}
-
-// A text as its shebang and what stands behind it. None: it has no shebang.
-fn script_of(text: &str) -> Option<Script>
-    ensures { MatchOption result (NoShebang (chars text.now))
-        (λ s. HasShebang (chars text.now) (chars s.shebang.now) (chars s.rest.now) s.count) }
-{
-    let start = mark_end(text);
-    let end = shebang_end(text, start)?;
-    Some(Script {
-        shebang: &text[start..end],
-        rest: &text[end..],
-        count: characters(&text[..end]),
-    })
-}
-
-// The shebang of a file and its trees, or what is said of its fault. A span is given that begins where the text will,
-// and ends no earlier than it.
-fn file_parsed(
-    alloc: Global,
-    text: &str,
-    whole: Span,
-) -> Result<(Option<&str>, TokenStream), LexFault>
-    requires whole { whole.start + length (chars text.now) ≤ whole.end }
-    ensures parsed { IfOk result (λ file. IsFileForest whole.start (chars text.now)
-        (option_map (λ line. chars line.now) file.0) file.1) }
-    ensures fault { IfErr result (IsFileFault whole.start (chars text.now)) }
-    ensures room { result ≢ Err MapFull }
-{
-    let Some(script) = script_of(text) else {
-        let stream = parsed(alloc, text, whole)?;
-        return Ok((None, stream));
-    };
-    let count = script.count as u32;
-    let behind = whole.part(count, whole.characters());
-    match lex(alloc, script.rest, behind) {
-        Ok(stream) => Ok((Some(script.shebang), stream)),
-        Err(Fault::Behind(more)) => Err(fault_behind(text, whole, count + more)),
-        Err(Fault::Memory) => Err(LexFault::Memory),
-    }
-}
-
 // A span that begins where a text will, if it is the next that is put into a map, and ends no earlier than it.
 // None: the map has no positions left for it. The characters are counted only where the bytes are too many.
-fn span_ahead(map: &SourceMap, text: &str) -> Option<Span>
+pub(crate) fn span_ahead(map: &SourceMap, text: &str) -> Option<Span>
     ensures full { (result ≡ None) ↔ (2 ^ 32 ≤ next_position map.now + length (chars text.now)) }
     ensures start { IfSome result (λ whole. whole.start ≡ next_position map.now) }
     ensures end { IfSome result (λ whole. whole.start + length (chars text.now) ≤ whole.end) }
@@ -215,42 +155,5 @@ impl TokenStream {
         let stream = parsed(alloc, src, whole)?;
         map.insert(src)?;
         Ok(stream)
-    }
-
-    /// The tokens of a file as trees, and its shebang if it has one; the text of the file is put behind the others of
-    /// the map, its front and all.
-    ///
-    /// A shebang is the first line of a file, behind a byte order mark if there is one: `#!`, then any white characters
-    /// of that line, and then a character of it that is no `[` and begins neither `//` nor `/*`. It ends before the
-    /// first line feed or at the end of the text, and is no token. Spans, lines and columns count in the whole text.
-    ///
-    /// The errors are those of `from_str`, of which each leaves the map as it was: `LexFault::MapFull` is answered
-    /// exactly if the map has no positions left for so many characters, `LexFault::Lex` if what stands behind the
-    /// shebang has a lexical fault, `LexFault::Memory` if memory was refused.
-    pub fn from_file<'s>(
-        alloc: Global,
-        src: &'s str,
-        map: &mut SourceMap,
-    ) -> Result<(Option<&'s str>, TokenStream), LexFault>
-        ensures parsed { IfOk result (λ file. IsFileForest (next_position map.old) (chars src.now)
-            (option_map (λ line. chars line.now) file.0) file.1) }
-        ensures fault { IfErr result (IsFileFault (next_position map.old) (chars src.now)) }
-        ensures full { (result ≡ Err MapFull) ↔ (2 ^ 32 ≤ next_position map.old + length (chars src.now)) }
-        ensures held { IfOk result (λ file. IsTrue (are_held map.new file.1)) }
-        ensures map_ok { OnOk result (map.new ≡ with_text map.old (chars src.now)) }
-        ensures spot { OnOk result
-            (spot map.new (next_span map.old (chars src.now)) ≡ Some (next_spot map.old (chars src.now))) }
-        ensures map_err { OnErr result (map.new ≡ map.old) }
-    {
-        let Some(whole) = span_ahead(map, src) else {
-            return Err(LexFault::MapFull);
-        };
-        match file_parsed(alloc, src, whole) {
-            Ok(file) => {
-                map.insert(src)?;
-                Ok(file)
-            }
-            Err(fault) => Err(fault),
-        }
     }
 }

@@ -37,13 +37,10 @@ overflow_add-count c =
 pub loop-at-preserved-in-Some : goal.loop-at-preserved-in-Some
 loop-at-preserved-in-Some c = read_white _ _ _ _ _ _ c.loop-at.invariant c.in-Some.ensures.0 c.in-Some.ensures.1
 
-pub fault_behind-requires-clause-there : goal.fault_behind-requires-clause-there
-fault_behind-requires-clause-there c = let l = lengths _ _ _ _ _ c.loop-at.invariant in omega arith
-
 pub returns-in_default-next_piece-clause-fault : goal.returns-in_default-next_piece-clause-fault
-returns-in_default-next_piece-clause-fault c =
-    told c.args.text.now c.args.whole c.loop-at.count _ c.fault_behind.ensures
-    (stray_at _ _ _ _ _ c.loop-at.invariant c.loop-at-test.true c.in_default-next_piece.ensures)
+returns-in_default-next_piece-clause-fault c = let l =
+    lengths _ _ _ _ _ c.loop-at.invariant in
+    (stray_at _ _ _ _ _ c.loop-at.invariant c.loop-at-test.true c.in_default-next_piece.ensures, omega arith)
 
 pub range-piece-requires-clause-start_boundary : goal.range-piece-requires-clause-start_boundary
 range-piece-requires-clause-start_boundary c =
@@ -90,20 +87,19 @@ put-requires-clause-within c =
     c.characters.ensures in
     omega arith
 
-pub fault_behind-requires-then-not-branch-clause-there : goal.fault_behind-requires-then-not-branch-clause-there
-fault_behind-requires-then-not-branch-clause-there c = let l = lengths _ _ _ _ _ c.loop-at.invariant in omega arith
-
 refused : (k : PieceKind) (ok : Bool) (old new : Open) (s : Stretch) (cs : List ℕ) (joint : Bool) → ok ≡ false
     → IsPut k ok old new s cs joint → IsPut k false old new s cs joint
 refused k ok old new s cs joint e p = subst (λ b. IsPut k b old new s cs joint) e p
 
 pub returns-then-not-branch-clause-fault : goal.returns-then-not-branch-clause-fault
-returns-then-not-branch-clause-fault c =
-    told c.args.text.now c.args.whole c.loop-at.count _ c.fault_behind-then-not-branch.ensures
-    (unmatched_at _ _ _ _ _ _ _ c.loop-at.invariant c.in-Some-next_piece.ensures.0 c.in-Some-next_piece.ensures.1
-    (put_refuses c.in-Some-next_piece.kind c.loop-at.builder c.put.new.builder _ _ _
-    (refused c.in-Some-next_piece.kind _ c.loop-at.builder c.put.new.builder _ _ _ c.if-not-branch.true
-    c.in_ok-put.ensures)))
+returns-then-not-branch-clause-fault c = let l =
+    lengths _ _ _ _ _ c.loop-at.invariant in (
+      unmatched_at _ _ _ _ _ _ _ c.loop-at.invariant c.in-Some-next_piece.ensures.0 c.in-Some-next_piece.ensures.1
+          (put_refuses c.in-Some-next_piece.kind c.loop-at.builder c.put.new.builder _ _ _
+          (refused c.in-Some-next_piece.kind _ c.loop-at.builder c.put.new.builder _ _ _ c.if-not-branch.true
+          c.in_ok-put.ensures)),
+      omega arith,
+    )
 
 -- the piece read
 on : (bytes piece : List ℕ) (at end n m : ℕ) (k : PieceKind) (ok joint : Bool) (old new : Open) (s : Stretch)
@@ -141,15 +137,8 @@ returns-in-Ok-clause-parsed c =
     subst (IsForest c.args.whole.start (chars c.args.text.now)) (sym found.1)
     (read_all _ _ _ _ _ c.loop-at.invariant (omega arith) found.0)
 
-pub fault_behind-requires-in-Err-clause-there : goal.fault_behind-requires-in-Err-clause-there
-fault_behind-requires-in-Err-clause-there c =
-    let found : IsInnermost c.loop-at.builder.groups c.in-Err.frame.count =
-    rw c.in-Err.is at c.in_ok-stream.ensures.unclosed in
-    last_frame _ _ _ _ _ _ c.loop-at.invariant found
-
 pub returns-in-Err-clause-fault : goal.returns-in-Err-clause-fault
 returns-in-Err-clause-fault c =
     let found : IsInnermost c.loop-at.builder.groups c.in-Err.frame.count =
     rw c.in-Err.is at c.in_ok-stream.ensures.unclosed in
-    told c.args.text.now c.args.whole c.in-Err.frame.count _ c.fault_behind-in-Err.ensures
-    (unclosed_at _ _ _ _ _ _ c.loop-at.invariant (omega arith) found)
+    (unclosed_at _ _ _ _ _ _ c.loop-at.invariant (omega arith) found, last_frame _ _ _ _ _ _ c.loop-at.invariant found)
