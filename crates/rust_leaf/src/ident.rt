@@ -17,6 +17,7 @@ ghost use Rattle.std.specs.Str.{bytes_eq, chars};
 ghost use Rattle.unicode_ident.specs.Ident.{is_xid_continue};
 
 use crate::leaf_text::LeafText;
+use crate::text_table::TextTable;
 use rust_map::span::Span;
 use std::alloc::{AllocError, Global};
 use std::cmp::Ordering;
@@ -144,7 +145,7 @@ impl Ident {
                 let mut printed = String::from_str(alloc, "r#")?;
                 printed.push_str(text)?;
                 Ok(Ident {
-                    text: LeafText::of(printed),
+                    text: LeafText::of(printed)?,
                     span,
                 })
             }
@@ -152,6 +153,8 @@ impl Ident {
     }
 
     /// The identifier that is printed as `text`, a raw one with its `r#`: of a text that has been lexed.
+    ///
+    /// `AllocError`: memory for the text was refused. None is taken for a text of at most 16 bytes.
     pub fn from_text(alloc: Global, text: &str, span: Span) -> Result<Ident, AllocError>
         requires { IsTrue (is_ident_text (chars text.now)) }
         ensures text_is { IfOk result (λ ident. ident_text ident ≡ chars text.now) }
@@ -159,6 +162,21 @@ impl Ident {
     {
         Ok(Ident {
             text: LeafText::new(alloc, text)?,
+            span,
+        })
+    }
+
+    /// The same, which shares its text with the leaves of the table that are printed alike.
+    ///
+    /// `AllocError`: memory for the text or its place in the table was refused; what the table keeps stays. None is
+    /// taken for a text of at most 16 bytes, or one that the table keeps.
+    pub fn from_text_in(table: &mut TextTable, text: &str, span: Span) -> Result<Ident, AllocError>
+        requires { IsTrue (is_ident_text (chars text.now)) }
+        ensures text_is { IfOk result (λ ident. ident_text ident ≡ chars text.now) }
+        ensures span_is { IfOk result (λ ident. ident_span ident ≡ span) }
+    {
+        Ok(Ident {
+            text: LeafText::new_in(table, text)?,
             span,
         })
     }
@@ -279,6 +297,7 @@ impl TryClone for Ident {
 
     ghost shown = { λ ident. (ident_text ident, ident_span ident) };
 
+    /// A copy, which takes no memory and shares its text. Nothing but the count of those that share it can refuse it.
     fn try_clone(&self) -> Result<Ident, AllocError> {
         Ok(Ident {
             text: self.text.copy()?,

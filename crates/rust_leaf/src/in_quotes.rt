@@ -10,6 +10,7 @@ ghost use Rattle.std.specs.Str.{chars};
 
 use crate::escape::{push_bare, push_byte, push_bytes, push_c_bytes, push_char, push_text};
 use crate::literal::Literal;
+use crate::text_table::TextTable;
 use std::alloc::{AllocError, Global};
 
 // An opening quote with what stands before it, and room for some bytes and a closing quote.
@@ -31,7 +32,19 @@ fn closed(text: String, quote: char) -> Result<Literal, AllocError>
 {
     let mut out = text;
     push_bare(&mut out, quote)?;
-    Ok(Literal::of(out))
+    Literal::of(out)
+}
+
+// The string literal of a text, as it is printed.
+#[tactic(auto, using(crate::proofs::Pushed::opening_words, std::proofs::lemmas::Grind::common_steps))]
+fn written_string(alloc: Global, text: &str) -> Result<String, AllocError>
+    ensures text_is { IfOk result (λ out. text_of out ≡ string_text (chars text.now)) }
+    ensures is_literal { IfOk result (λ out. IsLiteralText (text_of out)) }
+{
+    let mut out = opened(alloc, text.len(), "\"")?;
+    push_text(&mut out, '"', text)?;
+    push_bare(&mut out, '"')?;
+    Ok(out)
 }
 
 impl Literal {
@@ -40,14 +53,20 @@ impl Literal {
     /// Between the quotes stand `\t \r \n \" \\`; a zero is `\0`, or `\x00` before a digit 0 to 7;
     /// other ASCII controls are `\u{..}` by their number in hex, and past ASCII so are the characters
     /// of the categories Cc, Cf, Cn, Co, Mn, Me, Zl, Zp and Zs. Any other character stands for itself.
-    #[tactic(auto, using(crate::proofs::Pushed::opening_words, std::proofs::lemmas::Grind::common_steps))]
     pub fn string(alloc: Global, text: &str) -> Result<Literal, AllocError>
         ensures text_is { IfOk result (λ literal. literal_text literal ≡ string_text (chars text.now)) }
         ensures span_is { IfOk result (λ literal. literal_span literal ≡ call_site) }
     {
-        let mut out = opened(alloc, text.len(), "\"")?;
-        push_text(&mut out, '"', text)?;
-        closed(out, '"')
+        Literal::of(written_string(alloc, text)?)
+    }
+
+    /// The same, which shares its text with the leaves of the table that are printed alike.
+    pub fn string_in(table: &mut TextTable, text: &str) -> Result<Literal, AllocError>
+        ensures text_is { IfOk result (λ literal. literal_text literal ≡ string_text (chars text.now)) }
+        ensures span_is { IfOk result (λ literal. literal_span literal ≡ call_site) }
+    {
+        let written = written_string(table.allocator(), text)?;
+        Literal::of_in(table, written)
     }
 
     /// The character literal of a character, which is escaped as in `string`, but for `\'` and a bare `"`.

@@ -37,7 +37,7 @@ fn unsigned(alloc: Global, n: u128, suffix: &str) -> Result<Literal, AllocError>
     let mut out = String::new(alloc);
     push_decimal(&mut out, n)?;
     push_word(&mut out, suffix)?;
-    Ok(Literal::of(out))
+    Literal::of(out)
 }
 
 // The literal of a number that may be below zero, and a suffix.
@@ -50,7 +50,7 @@ fn signed(alloc: Global, n: i128, suffix: &str) -> Result<Literal, AllocError>
     let mut out = String::new(alloc);
     push_signed(&mut out, n)?;
     push_word(&mut out, suffix)?;
-    Ok(Literal::of(out))
+    Literal::of(out)
 }
 
 #[tactic(auto, using(crate::proofs::Numbers::suffixes, std::proofs::lemmas::Grind::common_steps))]

@@ -1,13 +1,15 @@
 //! The text of a leaf.
 
 ghost use Rattle.rust_leaf.specs.Kept.{kept_bytes};
-ghost use Rattle.std.specs.Prelude.{◌≡◌, ◌↔◌, IfOk, IsTrue, string_bytes};
+ghost use Rattle.std.specs.Prelude.{◌≡◌, ◌↔◌, ◌≤◌, IfOk, IsTrue, length, string_bytes};
 ghost use Rattle.std.specs.Str.{is_utf8};
 
+use crate::text_table::TextTable;
 use arrayvec::ArrayString;
 use std::alloc::{AllocError, Global};
+use std::rc::RcStr;
 
-/// How many bytes a text may have that takes no memory of its own. A leaf with so many is as large as a group.
+/// How many bytes a text may have that stays in the leaf. A leaf with so many is as large as a group.
 const SHORT: usize = 16;
 
 /// How a text is kept.
@@ -15,8 +17,8 @@ const SHORT: usize = 16;
 pub(crate) enum Kept {
     /// In the leaf itself.
     Short(ArrayString<16>),
-    /// In memory of its own.
-    Long(String),
+    /// In memory that copies of the leaf share, and the leaves of one table of texts.
+    Shared(RcStr),
 }
 
 // Whether two texts have the same first byte, if both have one.
@@ -39,26 +41,63 @@ pub(crate) struct LeafText {
 impl LeafText {
     ghost use Rattle.rust_leaf.specs.LeafText.{leaf_bytes};
 
-    /// A copy of a text.
+    /// A copy of a text, which shares no memory.
     pub(crate) fn new(alloc: Global, text: &str) -> Result<LeafText, AllocError>
         ensures { IfOk result (λ leaf. leaf_bytes leaf ≡ text.now) }
     {
         if text.len() > SHORT {
-            return Ok(LeafText::of(String::from_str(alloc, text)?));
+            return Ok(LeafText {
+                kept: Kept::Shared(RcStr::from_str(alloc, text)?),
+            });
         }
-        let mut short = ArrayString::new();
-        short.push_str(text);
-        Ok(LeafText {
-            kept: Kept::Short(short),
-        })
+        Ok(LeafText::short(text))
     }
 
-    /// The text that a string holds.
-    pub(crate) fn of(text: String) -> LeafText
-        ensures { leaf_bytes result ≡ string_bytes text }
+    /// The text that a string holds. A long one keeps the string's memory.
+    pub(crate) fn of(text: String) -> Result<LeafText, AllocError>
+        ensures { IfOk result (λ leaf. leaf_bytes leaf ≡ string_bytes text) }
     {
+        if text.len() > SHORT {
+            return Ok(LeafText {
+                kept: Kept::Shared(RcStr::from_string(text)?),
+            });
+        }
+        Ok(LeafText::short(text.as_str()))
+    }
+
+    /// A text, which shares its memory with the leaves of a table that have it too.
+    pub(crate) fn new_in(table: &mut TextTable, text: &str) -> Result<LeafText, AllocError>
+        ensures { IfOk result (λ leaf. leaf_bytes leaf ≡ text.now) }
+    {
+        if text.len() > SHORT {
+            return Ok(LeafText {
+                kept: Kept::Shared(table.shared(text)?),
+            });
+        }
+        Ok(LeafText::short(text))
+    }
+
+    /// The same of the text that a string holds.
+    pub(crate) fn of_in(table: &mut TextTable, text: String) -> Result<LeafText, AllocError>
+        ensures { IfOk result (λ leaf. leaf_bytes leaf ≡ string_bytes text) }
+    {
+        if text.len() > SHORT {
+            return Ok(LeafText {
+                kept: Kept::Shared(table.shared_string(text)?),
+            });
+        }
+        Ok(LeafText::short(text.as_str()))
+    }
+
+    // A text that stays in the leaf.
+    fn short(text: &str) -> LeafText
+        requires { length text.now ≤ 16 }
+        ensures { leaf_bytes result ≡ text.now }
+    {
+        let mut short = ArrayString::new();
+        short.push_str(text);
         LeafText {
-            kept: Kept::Long(text),
+            kept: Kept::Short(short),
         }
     }
 
@@ -68,7 +107,7 @@ impl LeafText {
     {
         match &self.kept {
             Kept::Short(short) => short.as_str(),
-            Kept::Long(long) => long.as_str(),
+            Kept::Shared(shared) => shared.as_str(),
         }
     }
 
@@ -80,13 +119,13 @@ impl LeafText {
         own.len() == text.len() && begin_alike(own.as_bytes(), text.as_bytes()) && own == text
     }
 
-    /// A copy of the text.
+    /// A copy of the text, which takes no memory.
     pub(crate) fn copy(&self) -> Result<LeafText, AllocError>
         ensures { IfOk result (λ leaf. leaf_bytes leaf ≡ leaf_bytes self.now) }
     {
         let kept = match &self.kept {
             Kept::Short(short) => Kept::Short(*short),
-            Kept::Long(long) => Kept::Long(long.clone()?),
+            Kept::Shared(shared) => Kept::Shared(shared.clone()?),
         };
         Ok(LeafText { kept })
     }

@@ -4,6 +4,7 @@
 //! `ident_text` and `literal_text`.
 //!
 //! - `leaf_text` (private): the text of an identifier or a literal.
+//! - `text_table`: tables by which leaves share their texts.
 //! - `ident`: identifiers, and the faults of a text that is none.
 //! - `punct`: punctuation marks.
 //! - `literal`: literals.
@@ -37,10 +38,12 @@ pub mod punct;
 mod quoted;
 mod spelled;
 mod subspan;
+pub mod text_table;
 pub mod value;
 pub mod value_laws;
 
 pub use ident::{Ident, IdentFault};
 pub use literal::Literal;
 pub use punct::{Punct, Spacing};
+pub use text_table::TextTable;
 pub use value::ConversionErrorKind;

@@ -7,6 +7,7 @@ ghost use Rattle.std.specs.Prelude.{◌≡◌, IfOk, Some, encode_utf8_all};
 ghost use Rattle.std.specs.Str.{chars};
 
 use crate::leaf_text::LeafText;
+use crate::text_table::TextTable;
 use rust_map::span::Span;
 use std::alloc::{AllocError, Global};
 use std::fmt;
@@ -32,6 +33,8 @@ impl Literal {
     }
 
     /// The literal that is printed as `text`. `is_text` is the test of its condition.
+    ///
+    /// `AllocError`: memory for the text was refused. None is taken for a text of at most 16 bytes.
     pub fn from_text(alloc: Global, text: &str, span: Span) -> Result<Literal, AllocError>
         requires { IsLiteralText (chars text.now) }
         ensures text_is { IfOk result (λ literal. literal_text literal ≡ chars text.now) }
@@ -43,16 +46,47 @@ impl Literal {
         })
     }
 
-    // The literal of a text, at no place of a text.
-    pub(crate) fn of(text: String) -> Literal
-        requires { IsLiteralText (text_of text) }
-        ensures text_is { literal_text result ≡ text_of text }
-        ensures span_is { literal_span result ≡ call_site }
+    /// The same, which shares its text with the leaves of the table that are printed alike.
+    ///
+    /// `AllocError`: memory for the text or its place in the table was refused; what the table keeps stays. None is
+    /// taken for a text of at most 16 bytes, or one that the table keeps.
+    pub fn from_text_in(
+        table: &mut TextTable,
+        text: &str,
+        span: Span,
+    ) -> Result<Literal, AllocError>
+        requires { IsLiteralText (chars text.now) }
+        ensures text_is { IfOk result (λ literal. literal_text literal ≡ chars text.now) }
+        ensures span_is { IfOk result (λ literal. literal_span literal ≡ span) }
     {
-        Literal {
-            text: LeafText::of(text),
+        Ok(Literal {
+            text: LeafText::new_in(table, text)?,
+            span,
+        })
+    }
+
+    // The literal of a text, at no place of a text.
+    pub(crate) fn of(text: String) -> Result<Literal, AllocError>
+        requires { IsLiteralText (text_of text) }
+        ensures text_is { IfOk result (λ literal. literal_text literal ≡ text_of text) }
+        ensures span_is { IfOk result (λ literal. literal_span literal ≡ call_site) }
+    {
+        Ok(Literal {
+            text: LeafText::of(text)?,
             span: Span::call_site(),
-        }
+        })
+    }
+
+    // The same, which shares its text with the leaves of the table that are printed alike.
+    pub(crate) fn of_in(table: &mut TextTable, text: String) -> Result<Literal, AllocError>
+        requires { IsLiteralText (text_of text) }
+        ensures text_is { IfOk result (λ literal. literal_text literal ≡ text_of text) }
+        ensures span_is { IfOk result (λ literal. literal_span literal ≡ call_site) }
+    {
+        Ok(Literal {
+            text: LeafText::of_in(table, text)?,
+            span: Span::call_site(),
+        })
     }
 
     /// Where the literal stands.
@@ -91,6 +125,7 @@ impl TryClone for Literal {
 
     ghost shown = { λ literal. (literal_text literal, literal_span literal) };
 
+    /// A copy, which takes no memory and shares its text. Nothing but the count of those that share it can refuse it.
     fn try_clone(&self) -> Result<Literal, AllocError> {
         Ok(Literal {
             text: self.text.copy()?,

@@ -6,4 +6,4 @@ use Rattle.rust_leaf.proofs.literal.Literal.of.Goals as goal
 
 pub invariant_of-result : goal.invariant_of-result
 invariant_of-result c = record
-    { is_literal = merely (subst (λ bytes. IsLiteralText (chars bytes)) (sym c.of.ensures) c.requires) }
+    { is_literal = merely (subst (λ bytes. IsLiteralText (chars bytes)) (sym c.in_ok-of.ensures) c.requires) }
