@@ -113,7 +113,7 @@ impl Ident {
     ///
     /// The faults are tested in this order: `Empty`; `Number`, ASCII digits alone; `Invalid`, a first
     /// character that is neither `_` nor of XID_Start, or a later one that isn't of XID_Continue.
-    /// `Memory` is answered only for a text that is none of these.
+    /// `Memory` is answered only for a text that is none of these, where memory for it was refused.
     pub fn new(alloc: Global, text: &str, span: Span) -> Result<Ident, IdentFault>
         ensures text_is { IfOk result (λ ident. ident_text ident ≡ chars text.now) }
         ensures span_is { IfOk result (λ ident. ident_span ident ≡ span) }
@@ -131,7 +131,8 @@ impl Ident {
 
     /// The identifier that is printed as `r#` and then `text`.
     ///
-    /// The faults are those of `new`, and after them `Reserved`: `_`, `super`, `self`, `Self`, `crate`.
+    /// The faults are those of `new`, and after them `Reserved`: `_`, `super`, `self`, `Self`, `crate`. `Memory` is
+    /// answered only for a text that is none of all these, where memory for what is printed was refused.
     pub fn new_raw(alloc: Global, text: &str, span: Span) -> Result<Ident, IdentFault>
         ensures text_is { IfOk result (λ ident. ident_text ident ≡ codes "r#" ++ chars text.now) }
         ensures span_is { IfOk result (λ ident. ident_span ident ≡ span) }

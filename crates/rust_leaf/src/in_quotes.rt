@@ -53,6 +53,8 @@ impl Literal {
     /// Between the quotes stand `\t \r \n \" \\`; a zero is `\0`, or `\x00` before a digit 0 to 7;
     /// other ASCII controls are `\u{..}` by their number in hex, and past ASCII so are the characters
     /// of the categories Cc, Cf, Cn, Co, Mn, Me, Zl, Zp and Zs. Any other character stands for itself.
+    ///
+    /// `AllocError`: memory for its text was refused.
     pub fn string(alloc: Global, text: &str) -> Result<Literal, AllocError>
         ensures text_is { IfOk result (λ literal. literal_text literal ≡ string_text (chars text.now)) }
         ensures span_is { IfOk result (λ literal. literal_span literal ≡ call_site) }
@@ -61,6 +63,8 @@ impl Literal {
     }
 
     /// The same, which shares its text with the leaves of the table that are printed alike.
+    ///
+    /// `AllocError`: memory for its text, or for the text's place in the table, was refused; what the table keeps stays.
     pub fn string_in(table: &mut TextTable, text: &str) -> Result<Literal, AllocError>
         ensures text_is { IfOk result (λ literal. literal_text literal ≡ string_text (chars text.now)) }
         ensures span_is { IfOk result (λ literal. literal_span literal ≡ call_site) }
@@ -70,6 +74,8 @@ impl Literal {
     }
 
     /// The character literal of a character, which is escaped as in `string`, but for `\'` and a bare `"`.
+    ///
+    /// `AllocError`: memory for its text was refused.
     #[tactic(auto, using(crate::proofs::Pushed::opening_words, std::proofs::lemmas::Grind::common_steps))]
     pub fn character(alloc: Global, ch: char) -> Result<Literal, AllocError>
         ensures text_is { IfOk result (λ literal. literal_text literal ≡ character_text ch) }
@@ -84,6 +90,8 @@ impl Literal {
     ///
     /// It stands for itself from the space to `~`, but for `\'` and `\\`; else it is `\t`, `\r`, `\n`,
     /// `\0`, or `\x` and two hex digits, upper case.
+    ///
+    /// `AllocError`: memory for its text was refused.
     #[tactic(auto, using(crate::proofs::Pushed::opening_words, std::proofs::lemmas::Grind::common_steps))]
     pub fn byte_character(alloc: Global, byte: u8) -> Result<Literal, AllocError>
         ensures text_is { IfOk result (λ literal. literal_text literal ≡ byte_character_text byte) }
@@ -96,6 +104,8 @@ impl Literal {
 
     /// The byte string literal of bytes, each as in `byte_character`, but for `\"` and a bare `'`. A zero
     /// before a digit 0 to 7 is `\x00`.
+    ///
+    /// `AllocError`: memory for its text was refused.
     #[tactic(auto, using(crate::proofs::Pushed::opening_words, std::proofs::lemmas::Grind::common_steps))]
     pub fn byte_string(alloc: Global, bytes: &[u8]) -> Result<Literal, AllocError>
         ensures text_is { IfOk result (λ literal. literal_text literal ≡ byte_string_text bytes.now) }
@@ -111,6 +121,8 @@ impl Literal {
     ///
     /// A character of UTF-8 is written as in `string`, and any other byte as `\x` and two hex digits,
     /// upper case.
+    ///
+    /// `AllocError`: memory for its text was refused.
     #[tactic(auto, using(crate::proofs::Pushed::opening_words, std::proofs::lemmas::Grind::common_steps))]
     pub fn c_string(alloc: Global, bytes: &[u8]) -> Result<Literal, AllocError>
         requires { IsFalse (has_zero bytes.now) }

@@ -56,6 +56,8 @@ fn signed(alloc: Global, n: i128, suffix: &str) -> Result<Literal, AllocError>
 #[tactic(auto, using(crate::proofs::Numbers::suffixes, std::proofs::lemmas::Grind::common_steps))]
 impl Literal {
     /// A `u8` in decimal, and then `u8`.
+    ///
+    /// `AllocError`: memory for its text was refused.
     pub fn u8_suffixed(alloc: Global, n: u8) -> Result<Literal, AllocError>
         ensures text_is { IfOk result (λ literal. literal_text literal ≡ decimal n ++ codes "u8") }
         ensures span_is { IfOk result (λ literal. literal_span literal ≡ call_site) }
@@ -64,6 +66,8 @@ impl Literal {
     }
 
     /// A `u8` in decimal.
+    ///
+    /// `AllocError`: memory for its text was refused.
     pub fn u8_unsuffixed(alloc: Global, n: u8) -> Result<Literal, AllocError>
         ensures text_is { IfOk result (λ literal. literal_text literal ≡ decimal n) }
         ensures span_is { IfOk result (λ literal. literal_span literal ≡ call_site) }
@@ -72,6 +76,8 @@ impl Literal {
     }
 
     /// A `u16` in decimal, and then `u16`.
+    ///
+    /// `AllocError`: memory for its text was refused.
     pub fn u16_suffixed(alloc: Global, n: u16) -> Result<Literal, AllocError>
         ensures text_is { IfOk result (λ literal. literal_text literal ≡ decimal n ++ codes "u16") }
         ensures span_is { IfOk result (λ literal. literal_span literal ≡ call_site) }
@@ -80,6 +86,8 @@ impl Literal {
     }
 
     /// A `u16` in decimal.
+    ///
+    /// `AllocError`: memory for its text was refused.
     pub fn u16_unsuffixed(alloc: Global, n: u16) -> Result<Literal, AllocError>
         ensures text_is { IfOk result (λ literal. literal_text literal ≡ decimal n) }
         ensures span_is { IfOk result (λ literal. literal_span literal ≡ call_site) }
@@ -88,6 +96,8 @@ impl Literal {
     }
 
     /// A `u32` in decimal, and then `u32`.
+    ///
+    /// `AllocError`: memory for its text was refused.
     pub fn u32_suffixed(alloc: Global, n: u32) -> Result<Literal, AllocError>
         ensures text_is { IfOk result (λ literal. literal_text literal ≡ decimal n ++ codes "u32") }
         ensures span_is { IfOk result (λ literal. literal_span literal ≡ call_site) }
@@ -96,6 +106,8 @@ impl Literal {
     }
 
     /// A `u32` in decimal.
+    ///
+    /// `AllocError`: memory for its text was refused.
     pub fn u32_unsuffixed(alloc: Global, n: u32) -> Result<Literal, AllocError>
         ensures text_is { IfOk result (λ literal. literal_text literal ≡ decimal n) }
         ensures span_is { IfOk result (λ literal. literal_span literal ≡ call_site) }
@@ -104,6 +116,8 @@ impl Literal {
     }
 
     /// A `u64` in decimal, and then `u64`.
+    ///
+    /// `AllocError`: memory for its text was refused.
     pub fn u64_suffixed(alloc: Global, n: u64) -> Result<Literal, AllocError>
         ensures text_is { IfOk result (λ literal. literal_text literal ≡ decimal n ++ codes "u64") }
         ensures span_is { IfOk result (λ literal. literal_span literal ≡ call_site) }
@@ -112,6 +126,8 @@ impl Literal {
     }
 
     /// A `u64` in decimal.
+    ///
+    /// `AllocError`: memory for its text was refused.
     pub fn u64_unsuffixed(alloc: Global, n: u64) -> Result<Literal, AllocError>
         ensures text_is { IfOk result (λ literal. literal_text literal ≡ decimal n) }
         ensures span_is { IfOk result (λ literal. literal_span literal ≡ call_site) }
@@ -120,6 +136,8 @@ impl Literal {
     }
 
     /// A `u128` in decimal, and then `u128`.
+    ///
+    /// `AllocError`: memory for its text was refused.
     pub fn u128_suffixed(alloc: Global, n: u128) -> Result<Literal, AllocError>
         ensures text_is { IfOk result (λ literal. literal_text literal ≡ decimal n ++ codes "u128") }
         ensures span_is { IfOk result (λ literal. literal_span literal ≡ call_site) }
@@ -128,6 +146,8 @@ impl Literal {
     }
 
     /// A `u128` in decimal.
+    ///
+    /// `AllocError`: memory for its text was refused.
     pub fn u128_unsuffixed(alloc: Global, n: u128) -> Result<Literal, AllocError>
         ensures text_is { IfOk result (λ literal. literal_text literal ≡ decimal n) }
         ensures span_is { IfOk result (λ literal. literal_span literal ≡ call_site) }
@@ -136,6 +156,8 @@ impl Literal {
     }
 
     /// A `usize` in decimal, and then `usize`.
+    ///
+    /// `AllocError`: memory for its text was refused.
     pub fn usize_suffixed(alloc: Global, n: usize) -> Result<Literal, AllocError>
         ensures text_is { IfOk result (λ literal. literal_text literal ≡ decimal n ++ codes "usize") }
         ensures span_is { IfOk result (λ literal. literal_span literal ≡ call_site) }
@@ -144,6 +166,8 @@ impl Literal {
     }
 
     /// A `usize` in decimal.
+    ///
+    /// `AllocError`: memory for its text was refused.
     pub fn usize_unsuffixed(alloc: Global, n: usize) -> Result<Literal, AllocError>
         ensures text_is { IfOk result (λ literal. literal_text literal ≡ decimal n) }
         ensures span_is { IfOk result (λ literal. literal_span literal ≡ call_site) }
@@ -152,6 +176,8 @@ impl Literal {
     }
 
     /// A `i8` in decimal, behind a minus below zero, and then `i8`.
+    ///
+    /// `AllocError`: memory for its text was refused.
     pub fn i8_suffixed(alloc: Global, n: i8) -> Result<Literal, AllocError>
         ensures text_is { IfOk result (λ literal. literal_text literal ≡ signed_decimal n ++ codes "i8") }
         ensures span_is { IfOk result (λ literal. literal_span literal ≡ call_site) }
@@ -160,6 +186,8 @@ impl Literal {
     }
 
     /// A `i8` in decimal, behind a minus below zero.
+    ///
+    /// `AllocError`: memory for its text was refused.
     pub fn i8_unsuffixed(alloc: Global, n: i8) -> Result<Literal, AllocError>
         ensures text_is { IfOk result (λ literal. literal_text literal ≡ signed_decimal n) }
         ensures span_is { IfOk result (λ literal. literal_span literal ≡ call_site) }
@@ -168,6 +196,8 @@ impl Literal {
     }
 
     /// A `i16` in decimal, behind a minus below zero, and then `i16`.
+    ///
+    /// `AllocError`: memory for its text was refused.
     pub fn i16_suffixed(alloc: Global, n: i16) -> Result<Literal, AllocError>
         ensures text_is { IfOk result (λ literal. literal_text literal ≡ signed_decimal n ++ codes "i16") }
         ensures span_is { IfOk result (λ literal. literal_span literal ≡ call_site) }
@@ -176,6 +206,8 @@ impl Literal {
     }
 
     /// A `i16` in decimal, behind a minus below zero.
+    ///
+    /// `AllocError`: memory for its text was refused.
     pub fn i16_unsuffixed(alloc: Global, n: i16) -> Result<Literal, AllocError>
         ensures text_is { IfOk result (λ literal. literal_text literal ≡ signed_decimal n) }
         ensures span_is { IfOk result (λ literal. literal_span literal ≡ call_site) }
@@ -184,6 +216,8 @@ impl Literal {
     }
 
     /// A `i32` in decimal, behind a minus below zero, and then `i32`.
+    ///
+    /// `AllocError`: memory for its text was refused.
     pub fn i32_suffixed(alloc: Global, n: i32) -> Result<Literal, AllocError>
         ensures text_is { IfOk result (λ literal. literal_text literal ≡ signed_decimal n ++ codes "i32") }
         ensures span_is { IfOk result (λ literal. literal_span literal ≡ call_site) }
@@ -192,6 +226,8 @@ impl Literal {
     }
 
     /// A `i32` in decimal, behind a minus below zero.
+    ///
+    /// `AllocError`: memory for its text was refused.
     pub fn i32_unsuffixed(alloc: Global, n: i32) -> Result<Literal, AllocError>
         ensures text_is { IfOk result (λ literal. literal_text literal ≡ signed_decimal n) }
         ensures span_is { IfOk result (λ literal. literal_span literal ≡ call_site) }
@@ -200,6 +236,8 @@ impl Literal {
     }
 
     /// A `i64` in decimal, behind a minus below zero, and then `i64`.
+    ///
+    /// `AllocError`: memory for its text was refused.
     pub fn i64_suffixed(alloc: Global, n: i64) -> Result<Literal, AllocError>
         ensures text_is { IfOk result (λ literal. literal_text literal ≡ signed_decimal n ++ codes "i64") }
         ensures span_is { IfOk result (λ literal. literal_span literal ≡ call_site) }
@@ -208,6 +246,8 @@ impl Literal {
     }
 
     /// A `i64` in decimal, behind a minus below zero.
+    ///
+    /// `AllocError`: memory for its text was refused.
     pub fn i64_unsuffixed(alloc: Global, n: i64) -> Result<Literal, AllocError>
         ensures text_is { IfOk result (λ literal. literal_text literal ≡ signed_decimal n) }
         ensures span_is { IfOk result (λ literal. literal_span literal ≡ call_site) }
@@ -216,6 +256,8 @@ impl Literal {
     }
 
     /// A `i128` in decimal, behind a minus below zero, and then `i128`.
+    ///
+    /// `AllocError`: memory for its text was refused.
     pub fn i128_suffixed(alloc: Global, n: i128) -> Result<Literal, AllocError>
         ensures text_is { IfOk result (λ literal. literal_text literal ≡ signed_decimal n ++ codes "i128") }
         ensures span_is { IfOk result (λ literal. literal_span literal ≡ call_site) }
@@ -224,6 +266,8 @@ impl Literal {
     }
 
     /// A `i128` in decimal, behind a minus below zero.
+    ///
+    /// `AllocError`: memory for its text was refused.
     pub fn i128_unsuffixed(alloc: Global, n: i128) -> Result<Literal, AllocError>
         ensures text_is { IfOk result (λ literal. literal_text literal ≡ signed_decimal n) }
         ensures span_is { IfOk result (λ literal. literal_span literal ≡ call_site) }
@@ -232,6 +276,8 @@ impl Literal {
     }
 
     /// A `isize` in decimal, behind a minus below zero, and then `isize`.
+    ///
+    /// `AllocError`: memory for its text was refused.
     pub fn isize_suffixed(alloc: Global, n: isize) -> Result<Literal, AllocError>
         ensures text_is { IfOk result (λ literal. literal_text literal ≡ signed_decimal n ++ codes "isize") }
         ensures span_is { IfOk result (λ literal. literal_span literal ≡ call_site) }
@@ -240,6 +286,8 @@ impl Literal {
     }
 
     /// A `isize` in decimal, behind a minus below zero.
+    ///
+    /// `AllocError`: memory for its text was refused.
     pub fn isize_unsuffixed(alloc: Global, n: isize) -> Result<Literal, AllocError>
         ensures text_is { IfOk result (λ literal. literal_text literal ≡ signed_decimal n) }
         ensures span_is { IfOk result (λ literal. literal_span literal ≡ call_site) }

@@ -102,6 +102,8 @@ impl Literal {
 
     /// The literal that is printed as `repr`, at no place of a text. `is_text` is the test of its
     /// condition.
+    ///
+    /// `AllocError`: memory for the text was refused. None is taken for a text of at most 16 bytes.
     pub fn from_str_unchecked(alloc: Global, repr: &str) -> Result<Literal, AllocError>
         requires { IsLiteralText (chars repr.now) }
         ensures text_is { IfOk result (λ literal. literal_text literal ≡ chars repr.now) }

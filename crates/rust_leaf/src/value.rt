@@ -169,6 +169,9 @@ pub fn byte_value(text: &str) -> Result<u8, ConversionErrorKind>
 
 impl Literal {
     /// The value of a string literal, as `str_value` gives it of the printed text.
+    ///
+    /// InvalidLiteralKind: it is no string literal, or has a suffix. FailedToUnescape: a unit is malformed.
+    /// Memory: memory was refused.
     pub fn str_value(&self, alloc: Global) -> Result<String, ConversionErrorKind>
         ensures value { IfOk result (λ text. IsStrValue (literal_text self.now) (text_of text)) }
         ensures kind { result ≡ Err InvalidLiteralKind ↔ (IsStr (literal_text self.now) → ⊥) }
@@ -180,6 +183,9 @@ impl Literal {
     }
 
     /// The value of a byte string literal, as `byte_str_value` gives it of the printed text.
+    ///
+    /// InvalidLiteralKind: it is no byte string literal, or has a suffix. FailedToUnescape: a unit is malformed.
+    /// Memory: memory was refused.
     pub fn byte_str_value(&self, alloc: Global) -> Result<Vec<u8>, ConversionErrorKind>
         ensures value { IfOk result (λ bytes. IsByteStrValue (literal_text self.now) bytes.items) }
         ensures kind { result ≡ Err InvalidLiteralKind ↔ (IsByteStr (literal_text self.now) → ⊥) }
@@ -191,6 +197,9 @@ impl Literal {
     }
 
     /// The value of a C string literal, as `cstr_value` gives it of the printed text.
+    ///
+    /// InvalidLiteralKind: it is no C string literal, or has a suffix. FailedToUnescape: a unit is malformed, or a zero.
+    /// Memory: memory was refused.
     pub fn cstr_value(&self, alloc: Global) -> Result<Vec<u8>, ConversionErrorKind>
         ensures value { IfOk result (λ bytes. IsCStrValue (literal_text self.now) bytes.items) }
         ensures kind { result ≡ Err InvalidLiteralKind ↔ (IsCStr (literal_text self.now) → ⊥) }
