@@ -11,6 +11,7 @@ ghost use Rattle.std.specs.Str.{chars};
 use crate::escape::{push_bare, push_byte, push_bytes, push_c_bytes, push_char, push_text};
 use crate::literal::Literal;
 use crate::text_table::TextTable;
+use rust_map::span::Span;
 use std::alloc::{AllocError, Global};
 
 // An opening quote with what stands before it, and room for some bytes and a closing quote.
@@ -70,7 +71,7 @@ impl Literal {
         ensures span_is { IfOk result (λ literal. literal_span literal ≡ call_site) }
     {
         let written = written_string(table.allocator(), text)?;
-        Literal::of_in(table, written)
+        Literal::from_text_in(table, written.as_str(), Span::call_site())
     }
 
     /// The character literal of a character, which is escaped as in `string`, but for `\'` and a bare `"`.

@@ -77,18 +77,6 @@ impl LeafText {
         Ok(LeafText::short(text))
     }
 
-    /// The same of the text that a string holds.
-    pub(crate) fn of_in(table: &mut TextTable, text: String) -> Result<LeafText, AllocError>
-        ensures { IfOk result (λ leaf. leaf_bytes leaf ≡ string_bytes text) }
-    {
-        if text.len() > SHORT {
-            return Ok(LeafText {
-                kept: Kept::Shared(table.shared_string(text)?),
-            });
-        }
-        Ok(LeafText::short(text.as_str()))
-    }
-
     // A text that stays in the leaf.
     fn short(text: &str) -> LeafText
         requires { length text.now ≤ 16 }

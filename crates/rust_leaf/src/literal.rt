@@ -77,18 +77,6 @@ impl Literal {
         })
     }
 
-    // The same, which shares its text with the leaves of the table that are printed alike.
-    pub(crate) fn of_in(table: &mut TextTable, text: String) -> Result<Literal, AllocError>
-        requires { IsLiteralText (text_of text) }
-        ensures text_is { IfOk result (λ literal. literal_text literal ≡ text_of text) }
-        ensures span_is { IfOk result (λ literal. literal_span literal ≡ call_site) }
-    {
-        Ok(Literal {
-            text: LeafText::of_in(table, text)?,
-            span: Span::call_site(),
-        })
-    }
-
     /// Where the literal stands.
     pub fn span(&self) -> Span
         ensures { result ≡ literal_span self.now }

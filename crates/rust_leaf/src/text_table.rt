@@ -1,21 +1,32 @@
 //! The texts of leaves that share them.
 
-ghost use Rattle.std.specs.Prelude.{◌≡◌, IfOk, IfSome, string_bytes};
+ghost use Rattle.std.specs.Prelude.{◌≡◌, IfOk, IfSome};
 ghost use Rattle.std.specs.Rc.{rc_str_bytes};
 
 use std::alloc::{AllocError, Global};
-use std::collections::BTreeSet;
+use std::collections::{BTreeMap, BTreeSet};
+use std::hash::{FoldHasher, Hash, Hasher};
 use std::rc::RcStr;
 
 /// The long texts of the leaves that are made with it, each kept once.
 ///
 /// A text of more than 16 bytes that leaves are made of is kept in memory that all of them share. The table can go
-/// as soon as the last leaf is made: what leaves share stays as long as one of them has it. It is ordered, so the
-/// time of a look-up is bounded whatever the texts are.
+/// as soon as the last leaf is made: what leaves share stays as long as one of them has it.
+///
+/// It is ordered, by hashes and then by texts, so the time of a look-up is bounded whatever the texts are.
 #[derive(Drop)]
 pub struct TextTable {
     alloc: Global,
-    known: BTreeSet<RcStr>,
+    // Of the texts of one hash the first.
+    first: BTreeMap<u64, RcStr>,
+    // The others, of all hashes.
+    others: BTreeSet<RcStr>,
+}
+
+fn hash_of(text: &str) -> u64 {
+    let mut hasher = FoldHasher::default();
+    text.hash(&mut hasher);
+    hasher.finish()
 }
 
 impl TextTable {
@@ -23,7 +34,8 @@ impl TextTable {
     pub fn new(alloc: Global) -> TextTable {
         TextTable {
             alloc,
-            known: BTreeSet::new(alloc),
+            first: BTreeMap::new(alloc),
+            others: BTreeSet::new(alloc),
         }
     }
 
@@ -38,34 +50,35 @@ impl TextTable {
     pub(crate) fn shared(&mut self, text: &str) -> Result<RcStr, AllocError>
         ensures { IfOk result (λ shared. rc_str_bytes shared ≡ text.now) }
     {
-        match self.known(text) {
-            Some(shared) => shared.clone(),
-            None => self.keep(RcStr::from_str(self.alloc, text)?),
+        let hash = hash_of(text);
+        match self.first.get(&hash) {
+            Some(first) if first.as_str() == text => first.clone(),
+            Some(_) => self.other(text),
+            None => {
+                let shared = RcStr::from_str(self.alloc, text)?;
+                self.first.insert(hash, shared.clone()?)?;
+                Ok(shared)
+            }
         }
     }
 
-    /// The same of a text that is a string already, whose memory is taken over.
-    pub(crate) fn shared_string(&mut self, text: String) -> Result<RcStr, AllocError>
-        ensures { IfOk result (λ shared. rc_str_bytes shared ≡ string_bytes text) }
+    // The same of a text that isn't the first of its hash.
+    fn other(&mut self, text: &str) -> Result<RcStr, AllocError>
+        ensures { IfOk result (λ shared. rc_str_bytes shared ≡ text.now) }
     {
-        match self.known(text.as_str()) {
-            Some(shared) => shared.clone(),
-            None => self.keep(RcStr::from_string(text)?),
+        match self.known_other(text) {
+            Some(other) => other.clone(),
+            None => {
+                let shared = RcStr::from_str(self.alloc, text)?;
+                self.others.insert(shared.clone()?)?;
+                Ok(shared)
+            }
         }
     }
 
-    // The text, if the table keeps it.
-    fn known(&self, text: &str) -> Option<&RcStr>
-        ensures { IfSome result (λ shared. rc_str_bytes shared.now ≡ text.now) }
+    fn known_other(&self, text: &str) -> Option<&RcStr>
+        ensures { IfSome result (λ other. rc_str_bytes other.now ≡ text.now) }
     {
-        self.known.get(text)
-    }
-
-    // Keeps a text that it doesn't keep yet.
-    fn keep(&mut self, text: RcStr) -> Result<RcStr, AllocError>
-        ensures { IfOk result (λ shared. rc_str_bytes shared ≡ rc_str_bytes text) }
-    {
-        self.known.insert(text.clone()?)?;
-        Ok(text)
+        self.others.get(text)
     }
 }
