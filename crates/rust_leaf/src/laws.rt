@@ -11,16 +11,23 @@ ghost use Rattle.rust_leaf.specs.Leaf.{AreCharacters, ident_text, literal_text, 
 ghost use Rattle.rust_leaf.specs.Mark.{is_mark};
 ghost use Rattle.rust_leaf.specs.Parse.{IsLiteralLeaf, IsLiteralText};
 ghost use Rattle.rust_leaf.specs.Value.{AreBytes};
+ghost use Rattle.rust_leaf.specs.declared.ident.IdentFault.{IdentFault};
+ghost use Rattle.rust_leaf.specs.declared.punct.Spacing.{Spacing};
+ghost use Rattle.rust_leaf.specs.declared.value.ConversionErrorKind.{ConversionErrorKind};
 ghost use Rattle.rust_lex.specs.Piece.{IsIdent};
 ghost use Rattle.std.specs.Char.{IsScalar};
+ghost use Rattle.std.specs.Cmp.Lexicographic.{slice_cmp};
 ghost use Rattle.std.specs.Fmt.{decimal};
-ghost use Rattle.std.specs.Prelude.{◌<◌, ◌≡◌, ◌↔◌, ◌++◌, [], ℕ, IsFalse, IsTrue, List, None, codes, true};
+ghost use Rattle.std.specs.Hash as fed;
+ghost use Rattle.std.specs.Ordering.{nat_cmp};
+ghost use Rattle.std.specs.Prelude.{◌<◌, ◌≡◌, encode_utf8_all, ◌↔◌, ◌++◌, [], ℕ, IsFalse, IsTrue, List, None, codes, true};
 ghost use Rattle.std.specs.Str.{chars};
 ghost use Rattle.std.specs.declared.cmp.Ordering.TheVariants.{Equal};
 
-use crate::ident::Ident;
+use crate::ident::{Ident, IdentFault};
 use crate::literal::Literal;
-use crate::punct::Punct;
+use crate::punct::{Punct, Spacing};
+use crate::value::ConversionErrorKind;
 use std::hash::Hash;
 
 /// Two identifiers are equal exactly if they are printed alike, whatever their spans.
@@ -49,10 +56,30 @@ pub fn order_agrees(a: &Ident, b: &Ident)
     ensures { (⟦<Ident as Ord>⟧.cmp a.now b.now ≡ Equal) ↔ IsTrue (⟦<Ident as PartialEq>⟧.eq a.now b.now) }
 {}
 
+/// Identifiers are ordered as the bytes of what is printed are, one by one from the front.
+#[tactic(auto, using(crate::proofs::Texts::printed_leaf))]
+pub fn order_is_by_text(a: &Ident, b: &Ident)
+    ensures { ⟦<Ident as Ord>⟧.cmp a.now b.now
+        ≡ slice_cmp nat_cmp (encode_utf8_all (ident_text a.now)) (encode_utf8_all (ident_text b.now)) }
+{}
+
+/// An identifier is hashed as what is printed is.
+#[tactic(auto, using(crate::proofs::Texts::printed_leaf))]
+pub fn hash_is_by_text(ident: &Ident)
+    ensures { ⟦<Ident as Hash>⟧.hash_input ident.now ≡ fed.str (encode_utf8_all (ident_text ident.now)) }
+{}
+
 /// Equal identifiers are hashed alike.
 pub fn hash_agrees(a: &Ident, b: &Ident)
     ensures { IsTrue (⟦<Ident as PartialEq>⟧.eq a.now b.now)
         → ⟦<Ident as Hash>⟧.hash_input a.now ≡ ⟦<Ident as Hash>⟧.hash_input b.now }
+{}
+
+/// Two faults of identifiers, two spacings and two faults of values are equal exactly if they are the same.
+pub fn equality_is_sameness()
+    ensures faults { (a b : IdentFault) → IsTrue (⟦<IdentFault as PartialEq>⟧.eq a b) ↔ (a ≡ b) }
+    ensures spacings { (a b : Spacing) → IsTrue (⟦<Spacing as PartialEq>⟧.eq a b) ↔ (a ≡ b) }
+    ensures value_faults { (a b : ConversionErrorKind) → IsTrue (⟦<ConversionErrorKind as PartialEq>⟧.eq a b) ↔ (a ≡ b) }
 {}
 
 /// Each identifier is printed as one.
