@@ -10,7 +10,9 @@ ghost use Rattle.std.specs.Char.{IsScalar, encode_utf8};
 ghost use Rattle.std.specs.Prelude.{IfNone, IfSome, List, ℕ};
 ghost use Rattle.std.specs.Str.{StartsWithNoChar, chars};
 
+use rust_escape::lexical::Common;
 use std::alloc::AllocError;
+use text_chars::{char_at, past_many};
 use ucd_category::GeneralCategory;
 
 // Whether characters of a category are written by their number.
@@ -185,13 +187,22 @@ pub(crate) fn push_char(
     }
 }
 
-/// Appends the characters of a text as they are written between quotes.
-pub(crate) fn push_text(out: &mut String, quote: char, text: &str) -> Result<(), AllocError>
-    ensures { OnOk result (text_of out.new ≡ text_of out.old ++ escaped_all quote (chars text.now)) }
+/// Appends the characters of a text as they are written between double quotes. Runs of ASCII that stand for themselves
+/// are appended at once.
+pub(crate) fn push_text(out: &mut String, text: &str) -> Result<(), AllocError>
+    ensures { OnOk result (text_of out.new ≡ text_of out.old ++ escaped_all 34 (chars text.now)) }
 {
-    let mut rest = text.chars();
-    while let Some(c) = rest.next() {
-        push_char(out, quote, c, rest.as_str())?;
+    let mut at = 0usize;
+    while at < text.len() {
+        let end = past_many::<Common>(text, at);
+        if at < end {
+            push_word(out, &text[at..end])?;
+            at = end;
+        } else {
+            let (c, next) = char_at(text, at);
+            push_char(out, '"', c, &text[next..])?;
+            at = next;
+        }
     }
     Ok(())
 }

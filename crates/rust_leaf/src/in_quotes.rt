@@ -43,7 +43,7 @@ fn written_string(alloc: Global, text: &str) -> Result<String, AllocError>
     ensures is_literal { IfOk result (λ out. IsLiteralText (text_of out)) }
 {
     let mut out = opened(alloc, text.len(), "\"")?;
-    push_text(&mut out, '"', text)?;
+    push_text(&mut out, text)?;
     push_bare(&mut out, '"')?;
     Ok(out)
 }
