@@ -10,7 +10,7 @@ ghost use Rattle.std.specs.Cmp.Lexicographic.{bytes_decides, nat_list_cmp_total,
 ghost use Rattle.std.specs.Cmp.Lexicographic.{texts_po, texts_ties};
 ghost use Rattle.std.specs.Hash as fed;
 ghost use Rattle.std.specs.Ordering.{nat_cmp};
-ghost use Rattle.std.specs.Prelude.{◌≡◌, ◌++◌, ◌==◌, IfErr, IfOk, OnOk, Option, None, Some, IsTrue, codes};
+ghost use Rattle.std.specs.Prelude.{◌≡◌, ◌++◌, ◌==◌, IfErr, IfOk, OnErr, OnOk, Option, None, Some, IsTrue, codes};
 ghost use Rattle.std.specs.Prelude.{[], encode_utf8_all, length, take, ◌↔◌, ◌∷◌};
 ghost use Rattle.std.specs.List.{list_all};
 ghost use Rattle.std.specs.Str.{bytes_eq, chars};
@@ -107,7 +107,7 @@ fn is_reserved(text: &str) -> bool
 }
 
 impl Ident {
-    ghost use Rattle.rust_leaf.specs.Leaf.{ident_span, ident_text};
+    ghost use Rattle.rust_leaf.specs.Leaf.{ident_span, ident_text, text_of};
 
     /// The identifier or keyword `text`, which has no `r#`.
     ///
@@ -210,6 +210,18 @@ impl Ident {
         ensures { IsTrue result ↔ (ident_text self.now ≡ chars text.now) }
     {
         self.text.is(text)
+    }
+
+    /// Appends what the identifier is printed as to a string.
+    ///
+    /// `AllocError`: memory was refused; the string is as before.
+    #[tactic(auto, using(crate::proofs::Pushed::word_pushed))]
+    #[inline(always)]
+    pub fn push_to(&self, out: &mut String) -> Result<(), AllocError>
+        ensures appended { OnOk result (text_of out.new ≡ text_of out.old ++ ident_text self.now) }
+        ensures refused { OnErr result (text_of out.new ≡ text_of out.old) }
+    {
+        out.push_str(self.text.as_str())
     }
 
     /// The first byte of what the identifier is printed as.
