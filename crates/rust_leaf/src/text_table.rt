@@ -40,7 +40,7 @@ impl TextTable {
     }
 
     /// The allocator that its texts are kept by.
-    pub(crate) fn allocator(&self) -> Global {
+    pub fn allocator(&self) -> Global {
         self.alloc
     }
 
