@@ -19,9 +19,10 @@ use rust_escape::place::char_at;
 use rust_leaf::ident::Ident;
 use rust_leaf::literal::Literal;
 use rust_leaf::punct::{Punct, Spacing};
+use rust_leaf::text_table::TextTable;
 use rust_lex::piece::DocKind;
 use rust_map::span::Span;
-use std::alloc::{AllocError, Global};
+use std::alloc::AllocError;
 
 // A mark that stands alone.
 fn alone(mark: char, span: Span) -> Punct
@@ -37,34 +38,34 @@ fn alone(mark: char, span: Span) -> Punct
 
 // `doc = "text"`
 #[tactic(auto, using(crate::proofs::Docs::words), unfolding(rust_leaf::specs::Mark::is_mark))]
-fn inside(alloc: Global, text: &str, span: Span) -> Result<TokenStream, AllocError>
+fn inside(table: &mut TextTable, text: &str, span: Span) -> Result<TokenStream, AllocError>
     ensures { IfOk result (λ s. s
         ≡ all_at span (token.Ident (codes "doc") ∷ token.Punct 61 Alone ∷ token.Literal (string_text (chars text.now)) ∷
         [])) }
 {
-    let ident = Ident::from_text(alloc, "doc", span)?;
-    let mut literal = Literal::string(alloc, text)?;
+    let ident = Ident::from_text_in(table, "doc", span)?;
+    let mut literal = Literal::string_in(table, text)?;
     literal.set_span(span);
     let trees = Vec::from_array(
-        alloc,
+        table.allocator(),
         [
             TokenTree::Ident(ident),
             TokenTree::Punct(alone('=', span)),
             TokenTree::Literal(literal),
         ],
     )?;
-    TokenStream::of(alloc, trees)
+    TokenStream::of(table.allocator(), trees)
 }
 
 // `[doc = "text"]`
-fn group(alloc: Global, text: &str, span: Span) -> Result<Group, AllocError>
+fn group(table: &mut TextTable, text: &str, span: Span) -> Result<Group, AllocError>
     ensures delimiter { IfOk result (λ g. g.delimiter ≡ Bracket) }
     ensures span { IfOk result (λ g. g.span ≡ span) }
     ensures stream { IfOk result
         (λ g. g.stream ≡ all_at span
         (token.Ident (codes "doc") ∷ token.Punct 61 Alone ∷ token.Literal (string_text (chars text.now)) ∷ [])) }
 {
-    let stream = inside(alloc, text, span)?;
+    let stream = inside(table, text, span)?;
     Ok(Group {
         delimiter: Delimiter::Bracket,
         stream,
@@ -81,11 +82,11 @@ fn is_inner(kind: DocKind) -> bool
     }
 }
 
-/// Adds the tokens of a doc with this text.
+/// Adds the tokens of a doc with this text. Its literal shares its text by the table.
 #[tactic(auto, unfolding(rust_leaf::specs::Mark::is_mark))]
 pub(crate) fn put_doc(
     builder: &mut Builder,
-    alloc: Global,
+    table: &mut TextTable,
     kind: DocKind,
     text: &str,
     span: Span,
@@ -97,7 +98,7 @@ pub(crate) fn put_doc(
     if is_inner(kind) {
         builder.put(TokenTree::Punct(alone('!', span)))?;
     }
-    put_group(builder, group(alloc, text, span)?)
+    put_group(builder, group(table, text, span)?)
 }
 
 // Adds a group.

@@ -18,6 +18,8 @@ use crate::builder::{Builder, Stretch};
 use crate::place::place_behind;
 use crate::put::put;
 use crate::tree::TokenStream;
+use rust_escape::place::next_char;
+use rust_leaf::text_table::TextTable;
 use rust_lex::piece::PieceKind;
 use rust_lex::scan::{is_joint, next_piece, white_end};
 use rust_map::characters;
@@ -71,6 +73,7 @@ pub(crate) fn lex(alloc: Global, text: &str, whole: Span) -> Result<TokenStream,
     ensures fault { IfErr result (IsFaultWithin (chars text.now)) }
 {
     let mut builder = Builder::new(alloc);
+    let mut table = TextTable::new(alloc);
     let mut at = 0usize;
     let mut count = 0u32;
     while at < text.len() {
@@ -89,7 +92,7 @@ pub(crate) fn lex(alloc: Global, text: &str, whole: Span) -> Result<TokenStream,
             to: count + characters(piece) as u32,
         };
         let joint = joint_at(text, at, kind);
-        if !put(&mut builder, alloc, kind, piece, joint, there)? {
+        if !put(&mut builder, &mut table, kind, piece, joint, there)? {
             return Err(Fault::Behind(count));
         }
         at = end;

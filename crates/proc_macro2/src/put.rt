@@ -18,10 +18,11 @@ use rust_escape::place::char_at;
 use rust_leaf::ident::Ident;
 use rust_leaf::literal::Literal;
 use rust_leaf::punct::{Punct, Spacing};
+use rust_leaf::text_table::TextTable;
 use rust_lex::group_marks::GroupMarks;
 use rust_lex::piece::PieceKind;
 use rust_map::span::Span;
-use std::alloc::{AllocError, Global};
+use std::alloc::AllocError;
 
 // What a pair of marks encloses a group as.
 fn delimiter_of(marks: GroupMarks) -> Delimiter
@@ -56,32 +57,37 @@ fn put_mark(builder: &mut Builder, mark: &str, joint: bool, span: Span) -> Resul
     builder.put(TokenTree::Punct(punct))
 }
 
-fn put_ident(builder: &mut Builder, alloc: Global, text: &str, span: Span) -> Result<(), AllocError>
+fn put_ident(
+    builder: &mut Builder,
+    table: &mut TextTable,
+    text: &str,
+    span: Span,
+) -> Result<(), AllocError>
     requires { is_ident_text (chars text.now) ≡ true }
     ensures { OnOk result (IsAdded builder.old builder.new (all_at span (token.Ident (chars text.now) ∷ []))) }
 {
-    let ident = Ident::from_text(alloc, text, span)?;
+    let ident = Ident::from_text_in(table, text, span)?;
     builder.put(TokenTree::Ident(ident))
 }
 
 fn put_literal(
     builder: &mut Builder,
-    alloc: Global,
+    table: &mut TextTable,
     text: &str,
     span: Span,
 ) -> Result<(), AllocError>
     requires { IsLiteralLeaf (chars text.now) }
     ensures { OnOk result (IsAdded builder.old builder.new (all_at span (token.Literal (chars text.now) ∷ []))) }
 {
-    let literal = Literal::from_text(alloc, text, span)?;
+    let literal = Literal::from_text_in(table, text, span)?;
     builder.put(TokenTree::Literal(literal))
 }
 
 /// Adds the tokens of a piece, which stands there, and whether it is joint if it is a mark. False: it
-/// is a closing delimiter that closes nothing.
+/// is a closing delimiter that closes nothing. The leaves share their texts by the table.
 pub(crate) fn put(
     builder: &mut Builder,
-    alloc: Global,
+    table: &mut TextTable,
     kind: PieceKind,
     piece: &str,
     joint: bool,
@@ -96,12 +102,12 @@ pub(crate) fn put(
     let span = there.whole.part(there.from, there.to);
     match kind {
         PieceKind::FrontMark | PieceKind::White | PieceKind::Comment => {}
-        PieceKind::Doc(doc) => put_doc(builder, alloc, doc, doc_text(doc, piece), span)?,
+        PieceKind::Doc(doc) => put_doc(builder, table, doc, doc_text(doc, piece), span)?,
         PieceKind::Open(marks) => builder.open(delimiter_of(marks), there.from)?,
         PieceKind::Close(marks) => return builder.close(delimiter_of(marks), there),
         PieceKind::Mark => put_mark(builder, piece, joint, span)?,
-        PieceKind::Ident => put_ident(builder, alloc, piece, span)?,
-        PieceKind::Literal(_) => put_literal(builder, alloc, piece, span)?,
+        PieceKind::Ident => put_ident(builder, table, piece, span)?,
+        PieceKind::Literal(_) => put_literal(builder, table, piece, span)?,
     }
     Ok(true)
 }
