@@ -1,4 +1,4 @@
-//! Laws of streams. Each but the last two is the contract of a function that changes nothing.
+//! Laws of streams and of delimiters. Each but the last two is the contract of a function that changes nothing.
 
 ghost use Rattle.proc_macro2.specs.Entered.{entered};
 ghost use Rattle.proc_macro2.specs.Flat.{tree_tokens, trees_tokens};
@@ -6,12 +6,14 @@ ghost use Rattle.proc_macro2.specs.Groups.{GroupsAreMatched, IsMatched};
 ghost use Rattle.proc_macro2.specs.Printed.{space, text};
 ghost use Rattle.proc_macro2.specs.Shown.{back, empty, front, hugs_last};
 ghost use Rattle.proc_macro2.specs.Stream.{IsStream};
-ghost use Rattle.proc_macro2.specs.Spacing.{IsWellSpaced, is_visible};
-ghost use Rattle.proc_macro2.specs.Token.{Closes, Delimiter, Opens, Spanned, Token, plain};
+ghost use Rattle.proc_macro2.specs.Spacing.{IsWellSpaced, follows_mark, is_visible, quote};
+ghost use Rattle.proc_macro2.specs.Stands.{all_stand};
+ghost use Rattle.proc_macro2.specs.Token.{Closes, Delimiter, Joint, Opens, Punct, Spanned, Token, plain};
 ghost use Rattle.proc_macro2.specs.declared.tree.TokenTree.{TokenTree};
 ghost use Rattle.std.specs.List.{flat_map};
-ghost use Rattle.std.specs.Prelude.{[], ◌++◌, ◌∷◌, ◌≡◌, ◌≢◌, IfOk, IsTrue, List, OnOk, map, not};
+ghost use Rattle.std.specs.Prelude.{[], ◌++◌, ◌∷◌, ◌≡◌, ◌≢◌, ◌↔◌, IfOk, IsTrue, List, OnOk, map, not, ℕ};
 
+use crate::delimiter::Delimiter;
 use crate::tree::{TokenStream, TokenTree};
 use std::alloc::AllocError;
 use try_clone::TryClone;
@@ -58,10 +60,22 @@ pub fn well_spaced_joined()
     ensures { (ts us : List Token) → IsWellSpaced ts → IsWellSpaced us → IsWellSpaced (ts ++ us) }
 {}
 
+/// Tokens that are well spaced but for a joint mark behind them, other than `'`, are well spaced when a well spaced
+/// stream follows that begins with a mark with which that one begins no comment, or with a character literal.
+pub fn well_spaced_behind_joint()
+    ensures { (ts us : List Token) (c : ℕ) → IsTrue (all_stand ts (Punct c Joint ∷ [])) → c ≢ quote
+        → IsWellSpaced us → IsTrue (follows_mark c us) → IsWellSpaced (ts ++ Punct c Joint ∷ us) }
+{}
+
 /// Well spaced streams stay so when they are put in a group of a visible delimiter.
 pub fn well_spaced_in_group()
     ensures { (d : Delimiter) (ts : List Token) → IsTrue (is_visible d) → IsWellSpaced ts
         → IsWellSpaced (Opens d ∷ ts ++ Closes d ∷ []) }
+{}
+
+/// Two delimiters are equal exactly if they are the same.
+pub fn equality_is_sameness()
+    ensures { (a b : Delimiter) → IsTrue (⟦<Delimiter as PartialEq>⟧.eq a b) ↔ (a ≡ b) }
 {}
 
 /// A changed copy leaves the other: trees are added to a copy of a stream, which stays as it was.
