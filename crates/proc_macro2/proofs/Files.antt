@@ -1,7 +1,7 @@
 -- The forests of files and their lexical faults: each file has one or the other, and one alone.
-use Rattle.std.proofs.Common.{◌≡◌, ℕ, ◌+◌, arith, List, [], ◌++◌, length, length-append, refl, sym, ap, ◌∙◌, subst}
+use Rattle.std.proofs.Common.{◌≡◌, ℕ, ◌+◌, arith, List, ◌++◌, length, length-append, refl, sym, ap, ◌∙◌, subst}
 use Rattle.std.proofs.Common.{⊎_elim, inl, inr}
-use Rattle.std.specs.Prelude.{true, false, ◌⊎◌, Option, Some, None}
+use Rattle.std.specs.Prelude.{true, ◌⊎◌, Option, Some, None}
 use Rattle.std.proofs.lemmas.Bool.{cases_Bool}
 use Rattle.rust_map.specs.Places.{place_of}
 use Rattle.rust_map.specs.declared.place.LineColumn.{LineColumn}
@@ -93,32 +93,31 @@ shebang_of text begun =
           (omega (arith, all, behind, length-append m.mark (behind_mark text), length-append p.front rest));
     }
 
+-- the fault of what is behind a shebang is the file's
+behind_line : (text : List ℕ) (s : Shebanged text) (behind : ℕ) → IsFaultBehind s.rest behind
+    → IsFileFaultBehind text (s.count + behind)
+behind_line text s behind fault = inr (record {
+  line = s.line;
+  rest = s.rest;
+  count = s.count;
+  shebang = s.shebang;
+  behind = behind;
+  fault = fault;
+  there = refl;
+})
+
 with_shebang : (base : ℕ) (text : List ℕ) → Shebanged text → IsFileAnswered base text
 with_shebang base text s =
     ⊎_elim
-    (λ a. inl
-    (Some s.line, a.0, record { rest = s.rest; count = s.count; shebang = s.shebang; forest = a.1 }))
-    (λ a. inr (
-      place_of text (s.count + a.1.0),
-      s.count + a.1.0,
-      inr (record {
-        line = s.line;
-        rest = s.rest;
-        count = s.count;
-        shebang = s.shebang;
-        behind = a.1.0;
-        fault = a.1.1;
-        there = refl;
-      }),
-      refl,
-    ))
+    (λ a. inl (Some s.line, a.0, record { rest = s.rest; count = s.count; shebang = s.shebang; forest = a.1 }))
+    (λ a. let n = s.count + a.1.0 in inr (place_of text n, (n, behind_line text s a.1.0 a.1.1, refl)))
     (forest_or_fault (base + s.count) s.rest)
 
 without_shebang : (base : ℕ) (text : List ℕ) → NoShebang text → IsFileAnswered base text
 without_shebang base text none =
     ⊎_elim
     (λ a. inl (None, a.0, (none, a.1)))
-    (λ a. inr (a.0, a.1.0, inl (none, a.1.1), a.1.2))
+    (λ a. inr (a.0, (a.1.0, inl (none, a.1.1), a.1.2)))
     (forest_or_fault base text)
 
 pub file_forest_or_fault : (base : ℕ) (text : List ℕ) → IsFileAnswered base text

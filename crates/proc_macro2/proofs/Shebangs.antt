@@ -1,14 +1,14 @@
 -- The shebang in front of a text.
-use Rattle.std.proofs.Common.{◌≡◌, ◌≢◌, ℕ, zero, suc, ◌+◌, ◌-◌, ◌≤◌, ◌<◌, arith, List, [], ◌∷◌, ◌++◌, length, length-append}
+use Rattle.std.proofs.Common.{◌≡◌, ℕ, ◌+◌, ◌-◌, arith, List, [], ◌∷◌, ◌++◌, length, length-append}
 use Rattle.std.proofs.Common.{refl, sym, ap, ◌∙◌, subst, ⊎_elim, inl, inr, take, drop}
-use Rattle.std.specs.Prelude.{Bool, true, false, ◌&&◌, ◌||◌, ◌==◌, ◌⊎◌, not, if◌then◌else◌}
+use Rattle.std.specs.Prelude.{Bool, true, false, ◌&&◌, ◌==◌, ◌⊎◌}
 use Rattle.std.specs.Str.{chars, IsUtf8}
 use Rattle.std.proofs.lemmas.Bool.{and_from, and_parts, cases_Bool, eqb-true, not-false}
 use Rattle.std.proofs.Math.Nat.{eq-or-lt_of_le}
-use Rattle.std.proofs.lemmas.List.{append_cancel_left, append_cancel_right}
-use Rattle.rust_lex.specs.Chars.{begins, is_not_feed, is_slash_or_star, is_white, passes, past}
-use Rattle.rust_lex.specs.FileCover.{Front, is_front_mark}
-use Rattle.rust_lex.specs.Shebang.{IsShebang, begins_command, begins_shebang, is_gap}
+use Rattle.std.proofs.lemmas.List.{append_cancel_right}
+use Rattle.rust_lex.specs.Chars.{begins, is_not_feed, is_white, passes, past}
+use Rattle.rust_lex.specs.FileCover.{is_front_mark}
+use Rattle.rust_lex.specs.Shebang.{begins_command, begins_shebang, is_gap}
 use Rattle.rust_lex.proofs.Ends.{passed}
 use Rattle.rust_lex.proofs.FileCovers.{one_front, shebang_begins}
 use Rattle.rust_lex.proofs.Pieces.{between_joined}
