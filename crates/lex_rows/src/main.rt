@@ -10,12 +10,15 @@
 //! - `literals`: which texts are literals, and their values.
 //! - `made`: what the constructors of leaves write; `numbers`: those of numbers.
 //! - `copies`: copies of streams, of their parts and of values of std.
+//! - `deep`: streams whose groups lie deep in one another; `files`: texts whose first line may be a shebang.
 //! - `escapes`: what the escape calls say of the insides of literals.
 #![tactic(auto)]
 
 mod by_hand;
 mod copies;
+mod deep;
 mod escapes;
+mod files;
 mod literals;
 mod made;
 mod numbers;
@@ -41,6 +44,7 @@ impl Table for Calls {
             "string" => made::string(row.text, page),
             "ident" => made::ident(row.text, page),
             "raw_ident" => made::raw_ident(row.text, page),
+            "file" => files::file(row.text, page),
             call => return answer_more(call, row.text, page),
         }
         Ok(())
@@ -56,6 +60,9 @@ fn answer_more(call: &str, text: &str, page: &mut Page) -> Result<(), Unanswered
         "byte_character" => made::byte_character(text, page),
         "copies" => copies::alike(text, page),
         "copies of std" => copies::of_std(text, page),
+        "nested" => deep::nested(text, page),
+        "opened" => deep::opened(text, page),
+        "doubled" => deep::doubled(text, page),
         _ if call.ends_with("suffixed") => numbers::number(call, text, page),
         _ => escapes::inside(call, text, page),
     }

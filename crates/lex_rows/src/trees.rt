@@ -156,7 +156,8 @@ pub fn place(text: &str, page: &mut Page) {
     }
 }
 
-fn place_trees(stream: TokenStream, map: &SourceMap, page: &mut Page) {
+/// Where the trees at the top of a stream stand.
+pub fn place_trees(stream: TokenStream, map: &SourceMap, page: &mut Page) {
     match stream.into_iter() {
         Ok(trees) => place_each(trees, map, page),
         Err(_) => page.cut(),

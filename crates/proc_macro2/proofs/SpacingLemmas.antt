@@ -46,8 +46,7 @@ spaced_behind (t ∷ []) us c h n k f = (
 )
 spaced_behind (t ∷ u ∷ ts) us c h n k f =
     let (first, others) = and_parts (may_stand t (u ∷ ts ++ Punct c Joint ∷ []))
-    (all_stand (u ∷ ts) (Punct c Joint ∷ [])) h in
-    (
+    (all_stand (u ∷ ts) (Punct c Joint ∷ [])) h in (
       first_seen t u (ts ++ Punct c Joint ∷ []) (ts ++ Punct c Joint ∷ us) first,
       spaced_behind (u ∷ ts) us c others n k f,
     )
