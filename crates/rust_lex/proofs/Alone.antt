@@ -19,8 +19,8 @@ shuns_quote_or_hash : Shuns is_quote_or_hash
 shuns_quote_or_hash = record { space = refl; round = refl; square = refl }
 
 -- prefixes
-one_prefix : (c d : ℕ) (cs : List ℕ) → is_quote_or_hash d ≡ false → (d == 34) ≡ false → (d == 39) ≡ false → (d == 114)
-    ≡ false → is_prefixed (c ∷ d ∷ cs) ≡ false
+pub one_prefix : (c d : ℕ) (cs : List ℕ) → is_quote_or_hash d ≡ false → (d == 34) ≡ false → (d == 39) ≡ false
+    → (d == 114) ≡ false → is_prefixed (c ∷ d ∷ cs) ≡ false
 unfolding opener_of
 one_prefix c d cs a b e f =
     rw (a, b, e, f) (rw (
@@ -80,7 +80,7 @@ word_same (d ∷ w) [] x y p a b = let (n, _) =
 word_same (d ∷ w) (c ∷ cs) x y p a b = let (_, n) =
     and_parts (is_next d) (passes is_next w) p in ap (λ r. c == d && r) (word_same w cs x y n a b)
 
-kept_same : (cs x y : List ℕ) → begins is_next x ≡ false → begins is_next y ≡ false → begins_kept (cs ++ x)
+pub kept_same : (cs x y : List ℕ) → begins is_next x ≡ false → begins is_next y ≡ false → begins_kept (cs ++ x)
     ≡ begins_kept (cs ++ y)
 unfolding begins_kept is_next unicode_ident
 kept_same cs x y a b = rw (

@@ -11,7 +11,6 @@ pub mod Openers
 pub mod Complete
 pub mod Sound
 pub mod OneCover
-pub mod FileCovers
 pub mod Steps
 pub mod Scans
 pub mod Pieces
@@ -21,4 +20,6 @@ pub mod Covering
 pub mod Quieter
 pub mod Numbers
 pub mod Alone
+pub mod Feeds
+pub mod FileCovers
 pub mod Examples

@@ -294,7 +294,7 @@ base_cases true false true d = refl
 base_cases true false false true = refl
 base_cases true false false false = refl
 
-base_small : (c d : ℕ) → nat_lt 36 (base_by c d) ≡ false
+pub base_small : (c d : ℕ) → nat_lt 36 (base_by c d) ≡ false
 base_small c d = base_cases (c == 48) (d == 120) (d == 111) (d == 98)
 
 based_begins : (base : ℕ) (cs x y : List ℕ) → past (is_digit_of_or_line base) (cs ++ x) ≡ x

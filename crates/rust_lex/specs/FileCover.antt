@@ -1,8 +1,8 @@
 -- A file as its front, and pieces that join to what stands behind that.
-use Rattle.std.specs.Prelude.{◌≡◌, ℕ, false, ◌==◌, List, [], ◌∷◌, ◌++◌, ◌⊎◌, Bool}
+use Rattle.std.specs.Prelude.{◌≡◌, ℕ, false, ◌==◌, List, [], ◌∷◌, ◌++◌, ◌⊎◌, ◌↔◌, Bool}
 use Rattle.rust_lex.specs.Chars.{begins}
-use Rattle.rust_lex.specs.Piece.{Piece}
-use Rattle.rust_lex.specs.Cover.{onto, AreFit}
+use Rattle.rust_lex.specs.Piece.{FrontMark, Piece}
+use Rattle.rust_lex.specs.Cover.{onto, AreFit, IsCover}
 use Rattle.rust_lex.specs.Shebang.{IsShebang, begins_shebang}
 
 -- the byte order mark
@@ -20,3 +20,13 @@ pub record Front (text mark line rest : List ℕ) : Type 0 where
 pub record IsFileCover (text mark line : List ℕ) (pieces : List Piece) : Type 0 where
   pub front : Front text mark line (onto pieces [])
   pub fit : AreFit pieces []
+
+-- the byte order mark, or its absence, as pieces
+abbrev pub mark_pieces : List ℕ → List Piece
+mark_pieces [] = []
+mark_pieces (c ∷ cs) = record { kind = FrontMark; chars = c ∷ cs } ∷ []
+
+-- Where no shebang stands in front of a text, its cover as a file is its cover: the byte order mark, and the pieces.
+abbrev pub CoverWithoutShebang : Type 0
+CoverWithoutShebang = (text mark rest : List ℕ) → Front text mark [] rest → (pieces : List Piece)
+    → IsFileCover text mark [] pieces ↔ IsCover text (mark_pieces mark ++ pieces)

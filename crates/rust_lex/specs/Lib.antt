@@ -12,4 +12,5 @@ pub mod Scan
 pub mod Places
 pub mod Shebang
 pub mod FileCover
+pub mod Feed
 pub mod Ended

@@ -2,7 +2,8 @@
 
 ghost use Rattle.rust_lex.specs.Calm.{IsCalm};
 ghost use Rattle.rust_lex.specs.Cover.{IsCover};
-ghost use Rattle.rust_lex.specs.FileCover.{IsFileCover};
+ghost use Rattle.rust_lex.specs.Feed.{FitBeforeFeed};
+ghost use Rattle.rust_lex.specs.FileCover.{CoverWithoutShebang, IsFileCover};
 ghost use Rattle.rust_lex.specs.Piece.{FitsAt, IsIdent, IsLiteral, Piece};
 ghost use Rattle.rust_lex.specs.declared.piece.LiteralKind.{LiteralKind};
 ghost use Rattle.std.specs.Prelude.{ℕ, ◌≡◌, ◌++◌, List};
@@ -23,6 +24,16 @@ pub fn one_cover()
 pub fn one_file_cover()
     ensures { (text mark line other lines : List ℕ) (ps qs : List Piece) → IsFileCover text mark line ps
         → IsFileCover text other lines qs → (mark ≡ other) × (line ≡ lines) × (ps ≡ qs) }
+{}
+
+/// Where no shebang stands in front of a text, its cover as a file is its cover.
+pub fn cover_without_shebang()
+    ensures { CoverWithoutShebang }
+{}
+
+/// Pieces that fit before the end of a text fit before a line feed too, whatever follows that.
+pub fn fit_before_feed()
+    ensures { FitBeforeFeed }
 {}
 
 /// An identifier stands before any calm text, whatever follows it elsewhere.
