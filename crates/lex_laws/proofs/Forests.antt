@@ -35,7 +35,7 @@ abbrev piece : PieceKind → List ℕ → Piece
 piece k cs = record { kind = k; chars = cs }
 
 -- a forest is what its text is read as
-plain_edges : (ss : List Spanned) → plain (map edged ss) ≡ plain ss
+pub plain_edges : (ss : List Spanned) → plain (map edged ss) ≡ plain ss
 plain_edges [] = refl
 plain_edges (s ∷ ss) = ap (λ us. s.token ∷ us) (plain_edges ss)
 

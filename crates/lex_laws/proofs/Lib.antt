@@ -5,6 +5,7 @@ pub mod Printing
 pub mod Reading
 pub mod ReadLeaves
 pub mod Forests
+pub mod Joining
 pub mod Streams
 pub mod Exactly
 pub mod SourceTexts

@@ -13,7 +13,7 @@ abbrev pub plain_of : List Piece → List ℕ → List Token
 plain_of [] rest = []
 plain_of (p ∷ ps) rest = tokens_before p.kind p.chars (onto ps rest) ++ plain_of ps rest
 
-plain_edged : (span : Span) (ts : List Token) (ss : List Spanned) → plain (edged_at span ts ++ ss) ≡ ts ++ plain ss
+pub plain_edged : (span : Span) (ts : List Token) (ss : List Spanned) → plain (edged_at span ts ++ ss) ≡ ts ++ plain ss
 plain_edged span [] ss = refl
 plain_edged span (t ∷ ts) ss = ap (λ us. t ∷ us) (plain_edged span ts ss)
 

@@ -4,6 +4,7 @@
 
 ghost use Rattle.proc_macro2.specs.Leaf.{AreLeaves};
 ghost use Rattle.rust_leaf.specs.Leaf.{AreCharacters};
+ghost use Rattle.lex_laws.specs.Joined.{JoinedCovers, JoinedForest};
 ghost use Rattle.lex_laws.specs.Read.{IsReadAs};
 ghost use Rattle.proc_macro2.specs.Forest.{IsFaultBehind, IsForest};
 ghost use Rattle.proc_macro2.specs.Groups.{IsMatched};
@@ -55,4 +56,16 @@ pub fn forest_back()
     ensures { (base : ℕ) (stream : List Spanned) → AreLeaves (plain stream) → IsMatched stream
         → IsWellSpaced (plain stream) ↔ ((read : List Spanned) × IsForest base (text (plain stream)) read ×
         (plain read ≡ plain stream)) }
+{}
+
+/// The cover of a file, a line feed, and the cover of a text without byte order mark and shebang: they are the cover of
+/// both texts joined by the line feed.
+pub fn joined_covers()
+    ensures { JoinedCovers }
+{}
+
+/// Two texts joined by a line feed have the forests of both, one behind the other, spans aside. The second has no byte
+/// order mark.
+pub fn joined_forest()
+    ensures { JoinedForest }
 {}
