@@ -1,7 +1,8 @@
 -- The cover and the forest of two texts that a line feed joins.
 use Rattle.std.proofs.Common.{◌≡◌, ℕ, ◌+◌, List, [], ◌∷◌, ◌++◌, length, map, append_assoc, refl, sym, ap, ap₂, ◌∙◌}
 use Rattle.std.proofs.Common.{subst, ⊎_elim}
-use Rattle.std.specs.Prelude.{true, false}
+use Rattle.std.specs.Prelude.{true, false, Option, Some, None}
+use Rattle.std.proofs.lemmas.Bool.{cases_Bool}
 use Rattle.rust_lex.specs.Chars.{begins, is_white}
 use Rattle.rust_lex.specs.Cover.{onto, AreFit, AreFitFront, IsCover}
 use Rattle.rust_lex.specs.FileCover.{IsFileCover, is_front_mark}
@@ -9,7 +10,9 @@ use Rattle.rust_lex.specs.Piece.{Piece, Fits, FitsFront}
 use Rattle.rust_lex.specs.declared.piece.PieceKind.{PieceKind}
 use Rattle.rust_lex.specs.declared.piece.PieceKind.TheVariants as piece
 use Rattle.rust_lex.proofs.Feeds.{fit_before_feed, fit_front_before_feed, onto_rest}
-use Rattle.rust_lex.proofs.FileCovers.{front_feed, without_mark}
+use Rattle.rust_lex.specs.Shebang.{begins_shebang}
+use Rattle.rust_lex.proofs.FileCovers.{front_feed, shebang_feed, without_mark}
+use Rattle.proc_macro2.specs.FileForest.{HasShebang, IsFileForest, IsForestBehind, NoShebang}
 use Rattle.proc_macro2.specs.Forest.{IsForest}
 use Rattle.proc_macro2.specs.Groups.{IsMatched}
 use Rattle.proc_macro2.specs.Pieces.{head, mark_spacing, piece_tokens, span_at, tokens_of}
@@ -120,3 +123,40 @@ joined_forest at behind whole first second ts us f g none =
     (λ (place, (n, fault, _)). absurd
     (no_fault text (ts ++ us) n r (matched_append ts us f.matched g.matched) fault))
     (forest_or_fault whole text)
+
+-- a text without a shebang has none where a line feed follows it
+no_shebang : (first second : List ℕ) → NoShebang first → NoShebang (joined first second)
+no_shebang [] second none = shebang_feed [] second
+no_shebang (c ∷ cs) second none =
+    ⊎_elim
+    (λ y. let behind : begins_shebang cs ≡ false = rw y at none in rw y (shebang_feed cs second ∙ behind))
+    (λ n. let whole : begins_shebang (c ∷ cs) ≡ false = rw n at none in
+    rw n (shebang_feed (c ∷ cs) second ∙ whole))
+    (cases_Bool (is_front_mark c))
+
+pub joined_file_forest : (at behind whole : ℕ) (first second : List ℕ) (shebang : Option (List ℕ))
+    (ts us : List Spanned) → IsFileForest at first shebang ts → IsFileForest behind second None us
+    → begins is_front_mark second ≡ false
+    → (read : List Spanned) × IsFileForest whole (joined first second) shebang read ×
+    (plain read ≡ plain ts ++ plain us)
+joined_file_forest at behind whole first second None ts us f g none =
+    let (read, h, same) = joined_forest at behind whole first second ts us f.1 g.1 none in
+    (read, (no_shebang first second f.0, h), same)
+joined_file_forest at behind whole first second (Some line) ts us f g none =
+    let s = f.shebang in
+    let (read, h, same) =
+    joined_forest (at + f.count) behind (whole + f.count) f.rest second ts us f.forest g.1 none in (
+      read,
+      record {
+        rest = joined f.rest second;
+        count = f.count;
+        shebang = record {
+          mark = s.mark;
+          front = front_feed first s.mark line f.rest second s.front;
+          is_some = s.is_some;
+          counted = s.counted;
+        };
+        forest = h;
+      },
+      same,
+    )

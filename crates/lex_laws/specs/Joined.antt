@@ -1,9 +1,10 @@
 -- Two texts joined by a line feed.
-use Rattle.std.specs.Prelude.{◌≡◌, ℕ, false, List, [], ◌∷◌, ◌++◌}
+use Rattle.std.specs.Prelude.{◌≡◌, ℕ, false, List, [], ◌∷◌, ◌++◌, Option, None}
 use Rattle.rust_lex.specs.Chars.{begins}
 use Rattle.rust_lex.specs.Piece.{Piece}
 use Rattle.rust_lex.specs.declared.piece.PieceKind.TheVariants.{White}
 use Rattle.rust_lex.specs.FileCover.{IsFileCover, is_front_mark}
+use Rattle.proc_macro2.specs.FileForest.{IsFileForest}
 use Rattle.proc_macro2.specs.Forest.{IsForest}
 use Rattle.proc_macro2.specs.Token.{Spanned, plain}
 
@@ -27,3 +28,10 @@ abbrev pub JoinedForest : Type 0
 JoinedForest = (at behind whole : ℕ) (first second : List ℕ) (ts us : List Spanned) → IsForest at first ts
     → IsForest behind second us → begins is_front_mark second ≡ false
     → (read : List Spanned) × IsForest whole (joined first second) read × (plain read ≡ plain ts ++ plain us)
+
+-- The same of files, of which the second has no shebang either: the shebang of the first is that of the joined texts.
+abbrev pub JoinedFileForest : Type 0
+JoinedFileForest = (at behind whole : ℕ) (first second : List ℕ) (shebang : Option (List ℕ)) (ts us : List Spanned)
+    → IsFileForest at first shebang ts → IsFileForest behind second None us → begins is_front_mark second ≡ false
+    → (read : List Spanned) × IsFileForest whole (joined first second) shebang read ×
+    (plain read ≡ plain ts ++ plain us)

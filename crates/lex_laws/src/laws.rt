@@ -4,7 +4,7 @@
 
 ghost use Rattle.proc_macro2.specs.Leaf.{AreLeaves};
 ghost use Rattle.rust_leaf.specs.Leaf.{AreCharacters};
-ghost use Rattle.lex_laws.specs.Joined.{JoinedCovers, JoinedForest};
+ghost use Rattle.lex_laws.specs.Joined.{JoinedCovers, JoinedFileForest, JoinedForest};
 ghost use Rattle.lex_laws.specs.Read.{IsReadAs};
 ghost use Rattle.proc_macro2.specs.Forest.{IsFaultBehind, IsForest};
 ghost use Rattle.proc_macro2.specs.Groups.{IsMatched};
@@ -68,4 +68,9 @@ pub fn joined_covers()
 /// order mark.
 pub fn joined_forest()
     ensures { JoinedForest }
+{}
+
+/// The same of files: the first may have a byte order mark and a shebang, which are those of both joined.
+pub fn joined_file_forest()
+    ensures { JoinedFileForest }
 {}
