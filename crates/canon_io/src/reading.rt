@@ -20,8 +20,11 @@ pub enum ReadFault {
     TooLong,
 }
 
-/// Memory grows by a quarter, and by at least so many bytes.
-const LEAST_GROWTH: usize = 64 * 1024;
+/// There is room for so many bytes before the first read.
+const FIRST_ROOM: usize = 8 * 1024;
+
+/// The room doubles, but by no more than this, until a quarter of it is more: then it grows by a quarter.
+const LARGEST_DOUBLED: usize = 64 * 1024;
 
 /// Reads the reader to its end, at most `limit` bytes and one more. An interrupted read is tried
 /// again. The vector has room for at most a quarter more than the bytes that were read, or for
@@ -120,7 +123,7 @@ fn make_room(bytes: &mut Vec<u8>, filled: usize, most: usize) -> Result<(), Allo
     if filled < bytes.len() {
         return Ok(());
     }
-    let growth = LEAST_GROWTH.max(filled / 4);
+    let growth = FIRST_ROOM.max(filled.min(LARGEST_DOUBLED)).max(filled / 4);
     let end = most.min(filled + growth);
     bytes.reserve_exact(end - filled)?;
     bytes.resize(end, 0)
