@@ -35,7 +35,7 @@ use crate::next::{Next, next_of};
 use crate::pending::{Behind, Pending, Spot, Work};
 use crate::refusal::{Refusal, Wanted, refuse};
 use crate::rules::Rules;
-use crate::unfit::named;
+use crate::unfit::{named, unclosed};
 use gram_judge::level::{inside, level as level_of};
 use gram_plain::read::{CALLS, may_be_plain};
 use gram_table::entry::entry;
@@ -409,6 +409,28 @@ struct Place<'a> {
     entries: &'a [Entry<'a>],
 }
 
+// A turn behind others, as the steps say.
+#[cycle(run)]
+#[inline(always)]
+fn turn<'a, R: Rules>(
+    rules: &R,
+    work: &mut Work<'a>,
+    before: &[Tree<'a>],
+    parts: &'static [Op],
+    at: &'a [Entry<'a>],
+    fuel: u128,
+) -> Result<(Tree<'a>, &'a [Entry<'a>]), Refusal>
+    requires { IsTrue (is_whole at.now) }
+    ensures kept { work.new.pending.items ≡ work.old.pending.items }
+    ensures answer { Gives (λ x. x.0) (λ x. x.1.now) result (says (run fuel) (gram_of parts.now) (tokens at.now)) }
+    ensures whole { IfOk result (λ x. IsTrue (is_whole x.1.now)) }
+{
+    match interp(rules, work, parts, at, fuel) {
+        Ok(read) => Ok(read),
+        Err(refusal) => Err(unclosed(before, at, refusal)),
+    }
+}
+
 // Turns, while the test passes.
 #[cycle(run)]
 #[inline(never)]
@@ -437,7 +459,7 @@ fn star<'a, R: Rules>(
         if !rules.passes(test, at.entries) {
             break;
         }
-        let (turn, rest) = interp(rules, work, parts, at.entries, fuel)?;
+        let (turn, rest) = turn(rules, work, turns.as_slice(), parts, at.entries, fuel)?;
         turns.push(turn)?;
         at = Place { entries: rest };
     }

@@ -6,11 +6,13 @@ ghost use Rattle.syn_grammar.specs.Run.{Out};
 use crate::refusal::{Refusal, Wanted, Wrong, refuse, refuse_at};
 use gram_judge::asked::{Asked, is};
 use gram_judge::statements::needs_semicolon;
-use gram_table::kind::Kind;
+use gram_table::kind::{Kind, Place};
 use gram_table::op::{Separator, Verdicts};
 use gram_table::part::Part;
 use gram_table::word::{Keyword, Sign, Words};
 use gram_tree::tree::{Element, Form, Tree, Two};
+use proc_macro2::delimiter::Delimiter;
+use rust_leaf::ident::Ident;
 use rust_map::span::Span;
 use syn_buffer::entry::Entry;
 
@@ -73,16 +75,48 @@ fn begin(tree: &Tree<'_>) -> Option<Span> {
     }
 }
 
-// Where the turn begins that stands behind the first that needs a `;`.
-fn behind_open(tree: &Tree<'_>) -> Option<Span> {
+// Where the turn begins that stands behind the first that needs a `;`, if one does: the last one's is not known.
+fn behind_open(turns: &[Tree<'_>]) -> Option<Span> {
     let mut is_open = false;
-    for turn in tree.turns()? {
+    for turn in turns {
         if is_open {
             return begin(turn);
         }
         is_open = needs_semicolon(turn.choice());
     }
     None
+}
+
+// Whether the last turn is a statement that needs a `;`.
+fn is_last_open(turns: &[Tree<'_>]) -> bool {
+    match turns.last() {
+        Some(turn) => needs_semicolon(turn.choice()),
+        None => false,
+    }
+}
+
+// Where that begins which is left behind the first turn that needs a `;`, if one does: another turn, or these entries.
+fn left_behind(turns: &[Tree<'_>], at: &[Entry<'_>]) -> Option<Span> {
+    match behind_open(turns) {
+        Some(span) => Some(span),
+        None if is_last_open(turns) => begin_of_tokens(at),
+        None => None,
+    }
+}
+
+/// What was refused where these entries begin, behind turns. Where one of these needs a `;`, that is wanted where what
+/// is left behind it begins.
+pub(crate) fn unclosed(turns: &[Tree<'_>], at: &[Entry<'_>], refusal: Refusal) -> Refusal
+    ensures { (o : Out) → Fails refusal o → Fails result o }
+{
+    match (refusal, left_behind(turns, at)) {
+        (Refusal::Syntax(_), Some(span)) => Refusal::Syntax(Wrong {
+            span: Some(span),
+            is_end: false,
+            wanted: Wanted::Mark(Sign::Semi),
+        }),
+        (other, _) => other,
+    }
 }
 
 // Where the first element stands that is what is asked.
@@ -108,28 +142,51 @@ fn listed<'t, 'a>(tree: &'t Tree<'a>) -> Option<(&'t [Element<'a>], Option<&'t T
     tree.group()?.list()
 }
 
-// Where the last parameter stands, if that is a receiver, or `...` before others.
-fn misplaced_last(before: &[Element<'_>], last: Option<&Tree<'_>>) -> Option<Span> {
-    match last {
-        Some(tree) if is(Asked::Receiver, tree) => begin(tree),
-        _ => first_asked(Asked::Variadic, before),
+// Where `self` stands in a receiver.
+fn self_word(tree: &Tree<'_>) -> Option<Span> {
+    match &tree.form {
+        Form::Word(ident) if ident.is_text("self") => Some(ident.span()),
+        Form::Pair(two) => match self_word(&two.front) {
+            Some(span) => Some(span),
+            None => self_word(&two.back),
+        },
+        Form::First(_, inner) | Form::Second(_, inner) => self_word(inner),
+        _ => None,
     }
 }
 
-// Where a parameter stands that may not stand there: a receiver behind others, or `...` before others.
+// Where the `self` of a parameter stands, if that is a receiver.
+fn receiver(parameter: &Tree<'_>) -> Option<Span> {
+    let (_, inner) = parameter.node()?;
+    let (_, receiver) = inner.the(Part::Receiver)?.node()?;
+    self_word(receiver)
+}
+
+// Where the `self` of the first receiver stands.
+fn first_receiver(elements: &[Element<'_>], last: Option<&Tree<'_>>) -> Option<Span> {
+    for element in elements {
+        if let Some(span) = receiver(&element.tree) {
+            return Some(span);
+        }
+    }
+    receiver(last?)
+}
+
+// Where that stands which makes a parameter one that may not stand there: the `self` of a receiver behind others, or
+// a parameter with `...` before others.
 fn misplaced(tree: &Tree<'_>) -> Option<Span> {
     let (before, last) = listed(tree)?;
     let (_, others) = before.split_first()?;
-    match first_asked(Asked::Receiver, others) {
+    match first_receiver(others, last) {
         Some(span) => Some(span),
-        None => misplaced_last(before, last),
+        None => first_asked(Asked::Variadic, before),
     }
 }
 
 // Where that is said of what was judged.
 fn place(verdicts: Verdicts, tree: &Tree<'_>) -> Option<Span> {
     match verdicts {
-        Verdicts::Statements => behind_open(tree),
+        Verdicts::Statements => behind_open(tree.turns()?),
         Verdicts::FieldPatterns => separated(Asked::Rest, tree),
         Verdicts::FieldValues => separated(Asked::Base, tree),
         Verdicts::Parameters => misplaced(tree),
@@ -222,6 +279,26 @@ fn is_node(kind: Kind, wrong: &Wrong, at: &[Entry<'_>]) -> bool {
     }
 }
 
+// Whether a word stands there by itself, of which no macro is made: `!` was wanted behind it.
+fn is_lone_word(wrong: &Wrong, at: &[Entry<'_>]) -> bool {
+    let Some((entry, behind)) = at.split_first() else {
+        return false;
+    };
+    matches!(entry, Entry::Ident(_))
+        && matches!(wrong.wanted, Wanted::Mark(Sign::Not))
+        && stands_first(wrong, behind)
+}
+
+// What is wanted in place of a word that stands where a macro does and is none.
+fn wanted_for(place: Place) -> Wanted {
+    Wanted::Node(match place {
+        Place::InFile => Kind::AnItem,
+        Place::InForeign => Kind::AForeignItem,
+        Place::InTrait => Kind::ATraitItem,
+        Place::InImpl => Kind::AnImplItem,
+    })
+}
+
 // What is wanted where a node of the kind is, or nothing that stands there goes on with it.
 fn wanted_of(kind: Kind) -> Wanted {
     match kind {
@@ -240,6 +317,15 @@ fn wrong_of(kind: Kind, at: &[Entry<'_>], wrong: Wrong) -> Wrong {
             wanted: Wanted::Judged(Verdicts::SomeBounds),
         };
     }
+    if let Kind::ItemMacro(place) = kind
+        && is_lone_word(&wrong, at)
+    {
+        return Wrong {
+            span: begin_of_tokens(at),
+            is_end: false,
+            wanted: wanted_for(place),
+        };
+    }
     if is_node(kind, &wrong, at) {
         return Wrong {
             span: wrong.span,
@@ -251,7 +337,8 @@ fn wrong_of(kind: Kind, at: &[Entry<'_>], wrong: Wrong) -> Wrong {
 }
 
 /// What was refused of a node of the kind: the node is wanted, by its name, where none of its tokens stands, and where
-/// none of its forms goes on. That no bound is a path is said where the type begins.
+/// none of its forms goes on. That no bound is a path is said where the type begins, and that an item is wanted in place
+/// of a lone word, at that word.
 pub(crate) fn named(kind: Kind, at: &[Entry<'_>], refusal: Refusal) -> Refusal
     ensures { (o : Out) → Fails refusal o → Fails result o }
 {
@@ -261,12 +348,9 @@ pub(crate) fn named(kind: Kind, at: &[Entry<'_>], refusal: Refusal) -> Refusal
     }
 }
 
-// What is wrong behind that tree.
-fn wrong_behind(front: &Tree<'_>, wrong: Wrong) -> Wrong {
-    let Form::Called(part, inner) = &front.form else {
-        return wrong;
-    };
-    match (*part, wrong.wanted) {
+// What is wrong behind a part of that name.
+fn wrong_behind_part(part: Part, inner: &Tree<'_>, wrong: Wrong) -> Wrong {
+    match (part, wrong.wanted) {
         (Part::Label, Wanted::Nothing) => Wrong {
             span: begin(inner),
             is_end: false,
@@ -281,8 +365,27 @@ fn wrong_behind(front: &Tree<'_>, wrong: Wrong) -> Wrong {
     }
 }
 
+// Whether that is said of a token in place of the braces that `try` wants.
+fn is_tried(word: &Ident, wrong: &Wrong) -> bool {
+    word.is_text("try") && !wrong.is_end && matches!(wrong.wanted, Wanted::Group(Delimiter::Brace))
+}
+
+// What is wrong behind that tree.
+fn wrong_behind(front: &Tree<'_>, wrong: Wrong) -> Wrong {
+    match &front.form {
+        Form::Called(part, inner) => wrong_behind_part(*part, inner, wrong),
+        Form::Word(word) if is_tried(word, &wrong) => Wrong {
+            span: Some(word.span()),
+            is_end: false,
+            wanted: Wanted::Expression,
+        },
+        _ => wrong,
+    }
+}
+
 /// What was refused behind that tree. Where nothing goes on, parentheses are wanted round what begins with a label
-/// behind `break`, which is said at the label, and round a cast.
+/// behind `break`, which is said at the label, and round a cast. Behind `try` another token than braces makes no
+/// expression of it, as in `try!(x)`, which is said at `try`.
 pub(crate) fn behind(front: &Tree<'_>, refusal: Refusal) -> Refusal
     ensures { (o : Out) → Fails refusal o → Fails result o }
 {

@@ -271,6 +271,9 @@ many-returns-clause-answer g t c =
     (sym c.passes.ensures ∙ c.if-passes.true))
     (c.with_rest-2.ensures.answer _ c.elements-list-2.ensures)
 
+pub turn-returns-in-Err-clause-answer : goal.turn-returns-in-Err-clause-answer
+turn-returns-in-Err-clause-answer g t c = c.unclosed.ensures _ c.in-Err.ensures.answer
+
 pub star-returns-in_err-turn-clause-answer : goal.star-returns-in_err-turn-clause-answer
 star-returns-in_err-turn-clause-answer g t c =
     let s : c.turns.fuel ≡ suc (c.turns.fuel - 1) = omega arith in

@@ -27,6 +27,9 @@ decreases-front_of g l = weight l.fuel (length l.steps.now) + 4
 abbrev pub decreases-optional : goal.decreases-optional
 decreases-optional g l = weight l.fuel (length l.parts.now) + 4
 
+abbrev pub decreases-turn : goal.decreases-turn
+decreases-turn g l = weight l.fuel (length l.parts.now) + 4
+
 abbrev pub decreases-star : goal.decreases-star
 decreases-star g l = weight l.most (length l.parts.now) + 4
 
