@@ -8,15 +8,17 @@ use Rattle.canon_laws.specs.Program.{IsOutput}
 use Rattle.canon.specs.Faults.{IsFaultOf}
 use Rattle.canon.specs.Outline.{IsOutline}
 use Rattle.canon.specs.declared.outlines.Row.{Row}
+use Rattle.canon.specs.declared.pages.Page.{Page}
+use Rattle.canon.specs.declared.pages.Page.TheVariants.{Canonical, Outline}
 use Rattle.canon.specs.declared.fault.Fault.{Fault}
 use Rattle.canon.specs.declared.fault.Fault.TheVariants.{NotUtf8, Lexical, Syntax, MapFull, Memory, Reading, Writing}
 
--- at most so many bytes are taken
-abbrev pub limit : ℕ
-limit = 2 ^ 30
+-- a run takes at most so many bytes, where it is given no limit of its own
+abbrev pub run_limit : ℕ
+run_limit = 2 ^ 30
 
--- the canonical form of the bytes, and a line feed, as bytes
-pub record IsPage (bytes page : List ℕ) : Type 0 where
+-- the canonical form of the bytes, of which there are no more than the limit, and a line feed, as bytes
+pub record IsPage (limit : ℕ) (bytes page : List ℕ) : Type 0 where
   pub short : length bytes ≤ limit
   pub text : IsUtf8 bytes
   pub output : List ℕ
@@ -33,13 +35,18 @@ abbrev pub rows_text : List Row → List ℕ
 rows_text [] = []
 rows_text (row ∷ rows) = row_text row ++ rows_text rows
 
--- the lines of the outline of the bytes, as bytes
-pub record IsOutlinePage (bytes page : List ℕ) : Type 0 where
+-- the lines of the outline of the bytes, of which there are no more than the limit, as bytes
+pub record IsOutlinePage (limit : ℕ) (bytes page : List ℕ) : Type 0 where
   pub short : length bytes ≤ limit
   pub text : IsUtf8 bytes
   pub rows : List Row
   pub outline : IsOutline (chars bytes) rows
   pub is : page ≡ encode_utf8_all (rows_text rows)
+
+-- what a run writes of the bytes, by what it was asked for
+abbrev pub IsPageOf : Page → ℕ → List ℕ → List ℕ → Type 0
+IsPageOf Canonical limit bytes page = IsPage limit bytes page
+IsPageOf Outline limit bytes page = IsOutlinePage limit bytes page
 
 -- known bytes of a writer grow by all of a page that is such a one
 pub record Writes (IsSuch : List ℕ → Type 0) (old new : Option (List ℕ)) : Type 0 where
@@ -54,13 +61,14 @@ pub record WritesFront (IsSuch : List ℕ → Type 0) (old new : Option (List �
   pub count : ℕ
   pub appends : Appends old new (take count page)
 
--- The fault of the bytes that a run reads: too many; or no UTF-8; or the fault of the text.
-abbrev pub IsRunFault : List ℕ → Fault → Type 0
-IsRunFault bytes MapFull = limit < length bytes
-IsRunFault bytes NotUtf8 = (length bytes ≤ limit) × (IsUtf8 bytes → ⊥)
-IsRunFault bytes (Lexical place) = (length bytes ≤ limit) × IsUtf8 bytes × IsFaultOf (chars bytes) (Lexical place)
-IsRunFault bytes (Syntax error place) =
+-- The fault of the bytes that a run reads: more than the limit; or no UTF-8; or the fault of the text.
+abbrev pub IsRunFault : ℕ → List ℕ → Fault → Type 0
+IsRunFault limit bytes MapFull = limit < length bytes
+IsRunFault limit bytes NotUtf8 = (length bytes ≤ limit) × (IsUtf8 bytes → ⊥)
+IsRunFault limit bytes (Lexical place) =
+    (length bytes ≤ limit) × IsUtf8 bytes × IsFaultOf (chars bytes) (Lexical place)
+IsRunFault limit bytes (Syntax error place) =
     (length bytes ≤ limit) × IsUtf8 bytes × IsFaultOf (chars bytes) (Syntax error place)
-IsRunFault bytes Memory = Unit {0}
-IsRunFault bytes Reading = Unit {0}
-IsRunFault bytes Writing = Unit {0}
+IsRunFault limit bytes Memory = Unit {0}
+IsRunFault limit bytes Reading = Unit {0}
+IsRunFault limit bytes Writing = Unit {0}

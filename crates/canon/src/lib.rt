@@ -27,5 +27,5 @@ pub use fault::{Fault, status, write_fault};
 pub use form::canonical;
 pub use outlines::{Row, outline};
 pub use proc_macro2::{LineColumn, MapFull, SourceMap};
-pub use runs::{run, run_outline};
+pub use runs::{run, run_limited, run_outline};
 pub use syn_error::Error;

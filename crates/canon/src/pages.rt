@@ -1,6 +1,6 @@
 //! Pages: what a run writes.
 
-ghost use Rattle.canon.specs.Run.{IsOutlinePage, IsPage, IsRunFault, limit, row_text, rows_text};
+ghost use Rattle.canon.specs.Run.{IsOutlinePage, IsPage, IsPageOf, IsRunFault, row_text, rows_text, run_limit};
 ghost use Rattle.rust_leaf.specs.Leaf.{text_of};
 ghost use Rattle.std.specs.Prelude.{◌≡◌, ◌++◌, ◌≤◌, Err, IfErr, IfOk, OnOk, length, string_bytes};
 
@@ -11,33 +11,53 @@ use rust_map::SourceMap;
 use std::alloc::{AllocError, Global};
 use std::str;
 
-/// The canonical form of bytes, and a line feed.
-pub(crate) fn page_of_bytes(alloc: Global, bytes: &[u8]) -> Result<String, Fault>
-    requires { length bytes.now ≤ limit }
-    ensures page { IfOk result (λ page. IsPage bytes.now (string_bytes page)) }
-    ensures fault { IfErr result (IsRunFault bytes.now) }
+/// What a run writes of a text.
+#[derive(Clone, Copy)]
+pub(crate) enum Page {
+    /// Its canonical form, and a line feed.
+    Canonical,
+    /// Its outline, a line for each row.
+    Outline,
+}
+
+/// What is written of bytes.
+pub(crate) fn page_of_bytes(alloc: Global, page: Page, bytes: &[u8]) -> Result<String, Fault>
+    requires { length bytes.now ≤ run_limit }
+    ensures page { IfOk result (λ text. IsPageOf page run_limit bytes.now (string_bytes text)) }
+    ensures fault { IfErr result (IsRunFault run_limit bytes.now) }
     ensures reading { result ≡ Err Fault.Reading → ⊥ }
     ensures writing { result ≡ Err Fault.Writing → ⊥ }
 {
     let Ok(text) = str::from_utf8(bytes) else {
         return Err(Fault::NotUtf8);
     };
+    match page {
+        Page::Canonical => canonical_page(alloc, text),
+        Page::Outline => outline_page(alloc, text),
+    }
+}
+
+// The canonical form of a text, and a line feed.
+fn canonical_page(alloc: Global, text: &str) -> Result<String, Fault>
+    requires { length text.now ≤ run_limit }
+    ensures page { IfOk result (λ page. IsPage run_limit text.now (string_bytes page)) }
+    ensures fault { IfErr result (IsRunFault run_limit text.now) }
+    ensures reading { result ≡ Err Fault.Reading → ⊥ }
+    ensures writing { result ≡ Err Fault.Writing → ⊥ }
+{
     let mut page = canonical(alloc, text, &mut SourceMap::new(alloc))?;
     page.push('\n')?;
     Ok(page)
 }
 
-/// The outline of bytes, a line for each row.
-pub(crate) fn outline_of_bytes(alloc: Global, bytes: &[u8]) -> Result<String, Fault>
-    requires { length bytes.now ≤ limit }
-    ensures page { IfOk result (λ page. IsOutlinePage bytes.now (string_bytes page)) }
-    ensures fault { IfErr result (IsRunFault bytes.now) }
+// The outline of a text, a line for each row.
+fn outline_page(alloc: Global, text: &str) -> Result<String, Fault>
+    requires { length text.now ≤ run_limit }
+    ensures page { IfOk result (λ page. IsOutlinePage run_limit text.now (string_bytes page)) }
+    ensures fault { IfErr result (IsRunFault run_limit text.now) }
     ensures reading { result ≡ Err Fault.Reading → ⊥ }
     ensures writing { result ≡ Err Fault.Writing → ⊥ }
 {
-    let Ok(text) = str::from_utf8(bytes) else {
-        return Err(Fault::NotUtf8);
-    };
     let rows = outline(alloc, text, &mut SourceMap::new(alloc))?;
     Ok(lines_of(alloc, rows.as_slice())?)
 }

@@ -1,6 +1,6 @@
 //! Runs: from a reader to a writer.
 
-ghost use Rattle.canon.specs.Run.{IsOutlinePage, IsPage, IsRunFault, Writes, WritesFront, limit};
+ghost use Rattle.canon.specs.Run.{IsOutlinePage, IsPage, IsPageOf, IsRunFault, Writes, WritesFront, run_limit};
 ghost use Rattle.canon_io.specs.Bytes.{ConsumesAtMost};
 ghost use Rattle.canon_io.specs.Watched.{has_failed, inner_of, is_flushed};
 ghost use Rattle.std.specs.Io.KnownBytes.{Appends};
@@ -8,18 +8,18 @@ ghost use Rattle.std.specs.Prelude.{◌≡◌, ◌+◌, ◌≤◌, ◌↔◌, �
 ghost use Rattle.std.specs.Prelude.{string_bytes, take};
 
 use crate::fault::Fault;
-use crate::pages::{outline_of_bytes, page_of_bytes};
+use crate::pages::{Page, page_of_bytes};
 use canon_io::reading::read_within;
 use canon_io::watched::Watched;
 use canon_io::writing::{flush_watched, write_all_watched};
 use std::alloc::Global;
 use std::io::{Read, Write};
 
-/// So many bytes are read, and one more: a text that has more is refused.
+/// A run takes at most so many bytes, where it is given no limit of its own.
 const LIMIT: usize = 1 << 30;
 
 /// Reads all, then writes the canonical form and a line feed, and flushes. Interrupted reads, writes and
-/// flushes are tried again.
+/// flushes are tried again. At most 2^30 bytes are read, and one more.
 ///
 /// # Errors
 ///
@@ -37,10 +37,50 @@ pub fn run<R: Read, W: Write>(
 
     // What is written, and what is at fault, by the bytes that the reader had.
     ensures page { OnOk result (IfSome (R.remaining (inner_of reader.old)) (λ bytes.
-        Writes (IsPage bytes) (W.contents (inner_of writer.old)) (W.contents (inner_of writer.new)))) }
-    ensures fault { IfErr result (λ f. IfSome (R.remaining (inner_of reader.old)) (λ bytes. IsRunFault bytes f)) }
+        Writes (IsPage run_limit bytes) (W.contents (inner_of writer.old)) (W.contents (inner_of writer.new)))) }
+    ensures fault { IfErr result (λ f. IfSome (R.remaining (inner_of reader.old))
+        (λ bytes. IsRunFault run_limit bytes f)) }
     ensures front { result ≡ Err Fault.Writing → IfSome (R.remaining (inner_of reader.old)) (λ bytes.
-        WritesFront (IsPage bytes) (W.contents (inner_of writer.old)) (W.contents (inner_of writer.new))) }
+        WritesFront (IsPage run_limit bytes) (W.contents (inner_of writer.old))
+        (W.contents (inner_of writer.new))) }
+
+    // Nothing is written on a refusal.
+    ensures untouched { IfErr result (λ f. (f ≡ Fault.Writing → ⊥) → writer.new ≡ writer.old) }
+
+    // The streams are at fault exactly where they failed.
+    ensures reading { IsTrue (has_failed reader.new) ↔ (result ≡ Err Fault.Reading) }
+    ensures writing { IsTrue (has_failed writer.new) ↔ (result ≡ Err Fault.Writing) }
+    ensures at_most { ConsumesAtMost (R.remaining (inner_of reader.old)) (R.remaining (inner_of reader.new))
+        (run_limit + 1) }
+
+    // The last call of the writer was a flush that went well.
+    ensures flushed { OnOk result (IsTrue (is_flushed writer.new)) }
+{
+    run_limited(alloc, LIMIT, reader, writer)
+}
+
+/// The same as `run`, but of at most `limit` bytes.
+///
+/// # Errors
+///
+/// Those of `run`, but `MapFull` exactly past `limit` bytes.
+pub fn run_limited<R: Read, W: Write>(
+    alloc: Global,
+    limit: usize,
+    reader: &mut Watched<R>,
+    writer: &mut Watched<W>,
+) -> Result<(), Fault>
+    requires limit { limit ≤ run_limit }
+    requires reader { has_failed reader.old ≡ false }
+    requires writer { has_failed writer.old ≡ false }
+
+    // What is written, and what is at fault, by the bytes that the reader had.
+    ensures page { OnOk result (IfSome (R.remaining (inner_of reader.old)) (λ bytes.
+        Writes (IsPage limit bytes) (W.contents (inner_of writer.old)) (W.contents (inner_of writer.new)))) }
+    ensures fault { IfErr result (λ f. IfSome (R.remaining (inner_of reader.old))
+        (λ bytes. IsRunFault limit bytes f)) }
+    ensures front { result ≡ Err Fault.Writing → IfSome (R.remaining (inner_of reader.old)) (λ bytes.
+        WritesFront (IsPage limit bytes) (W.contents (inner_of writer.old)) (W.contents (inner_of writer.new))) }
 
     // Nothing is written on a refusal.
     ensures untouched { IfErr result (λ f. (f ≡ Fault.Writing → ⊥) → writer.new ≡ writer.old) }
@@ -54,7 +94,7 @@ pub fn run<R: Read, W: Write>(
     // The last call of the writer was a flush that went well.
     ensures flushed { OnOk result (IsTrue (is_flushed writer.new)) }
 {
-    let page = page_of(alloc, reader)?;
+    let page = page_of(alloc, Page::Canonical, limit, reader)?;
     put_page(writer, page.as_bytes())
 }
 
@@ -74,10 +114,13 @@ pub fn run_outline<R: Read, W: Write>(
 
     // What is written, and what is at fault, by the bytes that the reader had.
     ensures page { OnOk result (IfSome (R.remaining (inner_of reader.old)) (λ bytes.
-        Writes (IsOutlinePage bytes) (W.contents (inner_of writer.old)) (W.contents (inner_of writer.new)))) }
-    ensures fault { IfErr result (λ f. IfSome (R.remaining (inner_of reader.old)) (λ bytes. IsRunFault bytes f)) }
+        Writes (IsOutlinePage run_limit bytes) (W.contents (inner_of writer.old))
+        (W.contents (inner_of writer.new)))) }
+    ensures fault { IfErr result (λ f. IfSome (R.remaining (inner_of reader.old))
+        (λ bytes. IsRunFault run_limit bytes f)) }
     ensures front { result ≡ Err Fault.Writing → IfSome (R.remaining (inner_of reader.old)) (λ bytes.
-        WritesFront (IsOutlinePage bytes) (W.contents (inner_of writer.old)) (W.contents (inner_of writer.new))) }
+        WritesFront (IsOutlinePage run_limit bytes) (W.contents (inner_of writer.old))
+        (W.contents (inner_of writer.new))) }
 
     // Nothing is written on a refusal.
     ensures untouched { IfErr result (λ f. (f ≡ Fault.Writing → ⊥) → writer.new ≡ writer.old) }
@@ -86,43 +129,35 @@ pub fn run_outline<R: Read, W: Write>(
     ensures reading { IsTrue (has_failed reader.new) ↔ (result ≡ Err Fault.Reading) }
     ensures writing { IsTrue (has_failed writer.new) ↔ (result ≡ Err Fault.Writing) }
     ensures at_most { ConsumesAtMost (R.remaining (inner_of reader.old)) (R.remaining (inner_of reader.new))
-        (limit + 1) }
+        (run_limit + 1) }
 
     // The last call of the writer was a flush that went well.
     ensures flushed { OnOk result (IsTrue (is_flushed writer.new)) }
 {
-    let page = outline_of(alloc, reader)?;
+    let page = page_of(alloc, Page::Outline, LIMIT, reader)?;
     put_page(writer, page.as_bytes())
 }
 
-// The canonical form of all that the reader has, and a line feed.
-fn page_of<R: Read>(alloc: Global, reader: &mut Watched<R>) -> Result<String, Fault>
-    requires { has_failed reader.old ≡ false }
-    ensures page { IfOk result (λ page. IfSome (R.remaining (inner_of reader.old))
-        (λ bytes. IsPage bytes (string_bytes page))) }
-    ensures fault { IfErr result (λ f. IfSome (R.remaining (inner_of reader.old)) (λ bytes. IsRunFault bytes f)) }
+// What is written of all that the reader has, which is at most `limit` bytes.
+fn page_of<R: Read>(
+    alloc: Global,
+    page: Page,
+    limit: usize,
+    reader: &mut Watched<R>,
+) -> Result<String, Fault>
+    requires limit { limit ≤ run_limit }
+    requires reader { has_failed reader.old ≡ false }
+    ensures page { IfOk result (λ text. IfSome (R.remaining (inner_of reader.old))
+        (λ bytes. IsPageOf page limit bytes (string_bytes text))) }
+    ensures fault { IfErr result (λ f. IfSome (R.remaining (inner_of reader.old))
+        (λ bytes. IsRunFault limit bytes f)) }
     ensures reading { IsTrue (has_failed reader.new) ↔ (result ≡ Err Fault.Reading) }
     ensures writing { result ≡ Err Fault.Writing → ⊥ }
     ensures at_most { ConsumesAtMost (R.remaining (inner_of reader.old)) (R.remaining (inner_of reader.new))
         (limit + 1) }
 {
-    let bytes = read_within(alloc, LIMIT, reader)?;
-    page_of_bytes(alloc, bytes.as_slice())
-}
-
-// The outline of all that the reader has.
-fn outline_of<R: Read>(alloc: Global, reader: &mut Watched<R>) -> Result<String, Fault>
-    requires { has_failed reader.old ≡ false }
-    ensures page { IfOk result (λ page. IfSome (R.remaining (inner_of reader.old))
-        (λ bytes. IsOutlinePage bytes (string_bytes page))) }
-    ensures fault { IfErr result (λ f. IfSome (R.remaining (inner_of reader.old)) (λ bytes. IsRunFault bytes f)) }
-    ensures reading { IsTrue (has_failed reader.new) ↔ (result ≡ Err Fault.Reading) }
-    ensures writing { result ≡ Err Fault.Writing → ⊥ }
-    ensures at_most { ConsumesAtMost (R.remaining (inner_of reader.old)) (R.remaining (inner_of reader.new))
-        (limit + 1) }
-{
-    let bytes = read_within(alloc, LIMIT, reader)?;
-    outline_of_bytes(alloc, bytes.as_slice())
+    let bytes = read_within(alloc, limit, reader)?;
+    page_of_bytes(alloc, page, bytes.as_slice())
 }
 
 // Writes a page, and flushes.
