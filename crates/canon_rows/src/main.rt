@@ -9,14 +9,17 @@
 //! A row of the others names what is asked, which no text can ask; what is asked answers whether all is as it is to be.
 //!
 //! - `large`: what each call that reads or writes a text does with a large one, which no row writes.
+//! - `limits`: `run_limited`.
 //! - `maps`: what becomes of the map, by `canonical` and `outline`.
 //! - `messages`: what is said of each fault.
 //! - `passed_on`: what reaches the streams within, and how often.
 //! - `runs`: `run` and `run_outline` over readers and writers that are slow, interrupted or failing.
 //! - `streams`: those readers and writers; `ran`: what a run over them comes to.
+//! - `sweep`: all short texts, and one item many times over.
 #![tactic(auto)]
 
 mod large;
+mod limits;
 mod maps;
 mod messages;
 mod outlines;
@@ -26,6 +29,7 @@ mod programs;
 mod ran;
 mod runs;
 mod streams;
+mod sweep;
 
 use rows::{Page, Row, Table, Unanswered, answer_asked};
 use std::alloc::Global;
@@ -54,10 +58,12 @@ fn put_whether(row: Row, page: &mut Page) -> Result<(), Unanswered> {
 fn holds(alloc: Global, row: Row) -> Result<bool, Unanswered> {
     match row.call {
         "large" => large::holds(alloc, row.text),
+        "limits" => limits::holds(alloc, row.text),
         "maps" => maps::holds(alloc, row.text),
         "messages" => messages::holds(alloc, row.text),
         "passed on" => passed_on::holds(alloc, row.text),
         "runs" => runs::holds(alloc, row.text),
+        "sweep" => sweep::holds(alloc, row.text),
         _ => Err(Unanswered::NoRow),
     }
 }

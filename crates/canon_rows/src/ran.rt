@@ -1,7 +1,7 @@
 //! A run over streams that go by plans, and what it comes to.
 
 use crate::streams::{Plan, Sink, Source};
-use canon::{Fault, Watched, run, run_outline, status};
+use canon::{Fault, Watched, run, run_limited, run_outline, status};
 use std::alloc::Global;
 
 /// What runs.
@@ -11,6 +11,8 @@ pub enum Call {
     Run,
     /// `run_outline`.
     Outline,
+    /// `run_limited`, with a limit of so many bytes.
+    Limited(u16),
 }
 
 /// A run: of which text, and by which plans that is read, and what is written is taken and flushed.
@@ -65,6 +67,7 @@ pub fn end_of(alloc: Global, ran: Ran<'_>) -> Ended {
     let outcome = match ran.call {
         Call::Run => run(alloc, &mut reader, &mut writer),
         Call::Outline => run_outline(alloc, &mut reader, &mut writer),
+        Call::Limited(limit) => run_limited(alloc, limit as usize, &mut reader, &mut writer),
     };
     Ended {
         word: word(&outcome),

@@ -19,6 +19,8 @@ pub fn holds(alloc: Global, name: &str) -> Result<bool, Unanswered> {
     match name {
         "whole streams and slow ones write the page" => Ok(all_write_the_page(alloc)),
         "a thousand interruptions are a failure" => Ok(a_thousand_are_a_failure(alloc)),
+        "each single read of a run fails in turn" => Ok(each_read_fails(alloc)),
+        "each single write of a run fails in turn" => Ok(each_write_fails(alloc)),
         "five bytes are a front" => Ok(five_are_a_front(alloc)),
         "a write that takes no byte is a failure" => Ok(no_byte_is_a_failure(alloc)),
         "refused texts write nothing" => Ok(are_refused(alloc)),
@@ -90,6 +92,41 @@ fn all_write_the_page(alloc: Global) -> bool {
         && writes_by(alloc, Plan::by(1))
         && writes_by(alloc, Plan::by(2))
         && writes_by(alloc, Plan::interrupted(999))
+}
+
+// Whether a run ends so where the read of that number fails, one byte being read at a time.
+fn read_fails(alloc: Global, bad: u32) -> bool {
+    let reading = End {
+        word: "reading",
+        status: 3,
+        written: b"",
+    };
+    runs(
+        alloc,
+        Ran::by(TEXT, Plan::failing_at(bad, 1), Plan::by(1)),
+        reading,
+    )
+}
+
+// Eight bytes take eight reads, and one more tells the end. A tenth read there is none.
+fn each_read_fails(alloc: Global) -> bool {
+    let ran = Ran::by(TEXT, Plan::failing_at(10, 1), Plan::by(1));
+    (1..10u32).all(|bad| read_fails(alloc, bad)) && runs(alloc, ran, End::done(PAGE))
+}
+
+// Whether a run ends so where the write of that number fails, one byte being taken at a time: those before it are.
+fn write_fails(alloc: Global, bad: u32) -> bool {
+    let ran = Ran::by(TEXT, Plan::by(usize::MAX), Plan::failing_at(bad, 1));
+    match PAGE.get(..(bad as usize).saturating_sub(1)) {
+        Some(front) => runs(alloc, ran, End::writing(front)),
+        None => false,
+    }
+}
+
+// Twelve bytes take twelve writes.
+fn each_write_fails(alloc: Global) -> bool {
+    let ran = Ran::by(TEXT, Plan::by(usize::MAX), Plan::failing_at(13, 1));
+    (1..13u32).all(|bad| write_fails(alloc, bad)) && runs(alloc, ran, End::done(PAGE))
 }
 
 fn a_thousand_are_a_failure(alloc: Global) -> bool {
