@@ -72,8 +72,17 @@ pub(crate) fn lex(alloc: Global, text: &str, whole: Span) -> Result<TokenStream,
     ensures parsed { IfOk result (λ stream. IsForest whole.start (chars text.now) stream) }
     ensures fault { IfErr result (IsFaultWithin (chars text.now)) }
 {
-    let mut builder = Builder::new(alloc);
     let mut table = TextTable::new(alloc);
+    lex_with(&mut table, text, whole)
+}
+
+// The same, where leaves share their texts by a table.
+fn lex_with(table: &mut TextTable, text: &str, whole: Span) -> Result<TokenStream, Fault>
+    requires whole { whole.start + length (chars text.now) ≤ whole.end }
+    ensures parsed { IfOk result (λ stream. IsForest whole.start (chars text.now) stream) }
+    ensures fault { IfErr result (IsFaultWithin (chars text.now)) }
+{
+    let mut builder = Builder::new(table.allocator());
     let mut at = 0usize;
     let mut count = 0u32;
     while at < text.len() {
@@ -92,7 +101,7 @@ pub(crate) fn lex(alloc: Global, text: &str, whole: Span) -> Result<TokenStream,
             to: count + characters(piece) as u32,
         };
         let joint = joint_at(text, at, kind);
-        if !put(&mut builder, &mut table, kind, piece, joint, there)? {
+        if !put(&mut builder, table, kind, piece, joint, there)? {
             return Err(Fault::Behind(count));
         }
         at = end;

@@ -17,7 +17,7 @@ use Rattle.proc_macro2.proofs.Building.{put_grows, put_refuses}
 use Rattle.proc_macro2.proofs.Puts.{ready_at}
 use Rattle.proc_macro2.proofs.Reading.{ReadTo, read_none, read_white, read_on, read_all, lengths, lengths_on}
 use Rattle.proc_macro2.proofs.Reading.{stray_at, unmatched_at, unclosed_at, last_frame}
-use Rattle.proc_macro2.proofs.parse.lex.Goals as goal
+use Rattle.proc_macro2.proofs.parse.lex_with.Goals as goal
 
 pub loop-at-init : goal.loop-at-init
 loop-at-init c = read_none _ _ _ c.utf8.text c.new-builder.ensures.groups c.new-builder.ensures.inside

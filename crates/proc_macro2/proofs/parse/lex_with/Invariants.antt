@@ -1,6 +1,6 @@
 use Rattle.std.proofs.Common.{length, ◌-◌}
 use Rattle.proc_macro2.proofs.Reading.{ReadTo}
-use Rattle.proc_macro2.proofs.parse.lex.Given as goal
+use Rattle.proc_macro2.proofs.parse.lex_with.Given as goal
 
 abbrev pub invariant-loop-at : goal.invariant-loop-at
 invariant-loop-at l = ReadTo l.whole.start l.text l.at l.count l.builder
