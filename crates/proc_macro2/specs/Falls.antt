@@ -23,6 +23,8 @@ most_le [] = omega arith
 most_le (t ∷ ts) = omega (arith, most_le ts, deep_le t, length-append (tree_tokens t) (trees_tokens ts))
 
 pub falls : (s : Inside) → deep-TokenStream s ≤ length (held_tokens s.shared)
-falls s = let below : weighed-TokenStream-shared.weight TokenTree deep-TokenTree s.shared ≤ length (held_tokens s.shared)
-    = elim s.shared as (λ o. weighed-TokenStream-shared.weight TokenTree deep-TokenTree o ≤ length (held_tokens o))
+falls s =
+    let below :
+    weighed-TokenStream-shared.weight TokenTree deep-TokenTree s.shared ≤ length (held_tokens s.shared) =
+    elim s.shared as (λ o. weighed-TokenStream-shared.weight TokenTree deep-TokenTree o ≤ length (held_tokens o))
     [ None ↦ omega arith | Some trees ↦ omega (arith, most_le trees.value.items) ] in omega (arith, below)

@@ -59,6 +59,7 @@ fn copied_group(group: &Group) -> Result<Group, AllocError>
     })
 }
 
+/// A copy shares the list of the stream, and takes no memory. `AllocError` if more copies share it than can be counted.
 impl TryClone for TokenStream {
     ghost use Rattle.proc_macro2.specs.Token.{Spanned};
 
@@ -71,6 +72,7 @@ impl TryClone for TokenStream {
     }
 }
 
+/// A copy of a group is as that of `Group`, and that of a token as its own. `AllocError` as there.
 impl TryClone for TokenTree {
     ghost use Rattle.proc_macro2.specs.Token.{Spanned};
 
@@ -83,6 +85,8 @@ impl TryClone for TokenTree {
     }
 }
 
+/// A copy shares the list of the group's stream, and takes no memory. `AllocError` if more copies share it than can be
+/// counted.
 impl TryClone for Group {
     ghost use Rattle.proc_macro2.specs.declared.tree.Group.{Group};
 

@@ -34,7 +34,8 @@ impl Group {
         self.delimiter
     }
 
-    /// A copy of the stream between the delimiters. A map that holds the group's spans holds the stream's.
+    /// A copy of the stream between the delimiters, which shares its list and takes no memory. `AllocError` if more
+    /// copies share the list than can be counted. A map that holds the group's spans holds the stream's.
     #[tactic(auto, using(crate::proofs::Held::inside_held))]
     pub fn stream(&self) -> Result<TokenStream, AllocError>
         ensures copy { IfOk result (λ s. s ≡ self.now.stream) }
@@ -44,7 +45,8 @@ impl Group {
         copied_stream(self.stream_ref())
     }
 
-    /// The stream between the delimiters, lent. A map that holds the group's spans holds the stream's.
+    /// The stream between the delimiters, lent: no memory is taken. A map that holds the group's spans holds the
+    /// stream's.
     #[tactic(auto, using(crate::proofs::Held::inside_held))]
     pub fn stream_ref(&self) -> &TokenStream
         ensures stream { result.now ≡ self.now.stream }

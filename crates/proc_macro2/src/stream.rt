@@ -43,8 +43,8 @@ impl TokenStream {
         self.trees().is_empty()
     }
 
-    /// The trees of the stream, in order, lent. Groups come whole. A map that holds the stream's spans
-    /// holds those of each tree.
+    /// The trees of the stream, in order, lent: no memory is taken. Groups come whole. A map that holds the stream's
+    /// spans holds those of each tree.
     #[tactic(auto, using(crate::proofs::Held::trees_held))]
     pub fn trees(&self) -> &[TokenTree]
         ensures trees { trees_tokens result.now ≡ self.now }
@@ -57,7 +57,7 @@ impl TokenStream {
         }
     }
 
-    /// The stream of one tree.
+    /// The stream of one tree. `AllocError` if memory is refused: the tree is dropped.
     pub fn from_tree(alloc: Global, tree: TokenTree) -> Result<TokenStream, AllocError>
         ensures { IfOk result (λ s. s ≡ entered tree) }
     {
@@ -66,14 +66,15 @@ impl TokenStream {
         TokenStream::of(alloc, trees)
     }
 
-    /// The stream of the trees, in their order.
+    /// The stream of the trees, in their order. `AllocError` if memory is refused: the trees are dropped.
     pub fn from_trees(alloc: Global, trees: Vec<TokenTree>) -> Result<TokenStream, AllocError>
         ensures { IfOk result (λ s. s ≡ flat_map entered trees.items) }
     {
         TokenStream::of(alloc, entered_trees(alloc, trees)?)
     }
 
-    /// The streams one behind the other.
+    /// The streams one behind the other. `AllocError` if memory is refused: the streams are dropped. The list of the
+    /// first one is kept if no copy shares it.
     pub fn from_streams(alloc: Global, streams: Vec<TokenStream>) -> Result<TokenStream, AllocError>
         ensures { IfOk result (λ s. s ≡ flat_map (λ t. t) streams.items) }
     {
@@ -84,7 +85,7 @@ impl TokenStream {
         Ok(all)
     }
 
-    /// Adds the trees at the end. If memory is refused, the stream is as before.
+    /// Adds the trees at the end. `AllocError` if memory is refused: the stream is as before, and the trees are dropped.
     pub fn extend_trees(&mut self, trees: Vec<TokenTree>) -> Result<(), AllocError>
         ensures ok { OnOk result (self.new ≡ self.old ++ flat_map entered trees.items) }
         ensures err { OnErr result (self.new ≡ self.old) }
@@ -93,7 +94,8 @@ impl TokenStream {
         add_trees(self.alloc, &mut self.shared, added)
     }
 
-    /// Adds the streams at the end. If memory is refused, the stream is as before.
+    /// Adds the streams at the end. `AllocError` if memory is refused: the stream is as before, and the others are
+    /// dropped.
     pub fn extend_streams(&mut self, streams: Vec<TokenStream>) -> Result<(), AllocError>
         ensures ok { OnOk result (self.new ≡ self.old ++ flat_map (λ t. t) streams.items) }
         ensures err { OnErr result (self.new ≡ self.old) }
@@ -102,7 +104,7 @@ impl TokenStream {
         self.push_stream(added)
     }
 
-    /// Adds the tree at the end. If memory is refused, the stream is as before.
+    /// Adds the tree at the end. `AllocError` if memory is refused: the stream is as before, and the tree is dropped.
     pub fn push_tree(&mut self, tree: TokenTree) -> Result<(), AllocError>
         ensures ok { OnOk result (self.new ≡ self.old ++ entered tree) }
         ensures err { OnErr result (self.new ≡ self.old) }
@@ -110,7 +112,8 @@ impl TokenStream {
         add_tree(self.alloc, &mut self.shared, tree)
     }
 
-    /// Adds the other stream at the end. If memory is refused, the stream is as before.
+    /// Adds the other stream at the end. `AllocError` if memory is refused, which is asked for only where both streams
+    /// have trees: the stream is as before, and the other one is dropped.
     pub fn push_stream(&mut self, other: TokenStream) -> Result<(), AllocError>
         ensures ok { OnOk result (self.new ≡ self.old ++ other) }
         ensures err { OnErr result (self.new ≡ self.old) }
@@ -124,7 +127,8 @@ impl TokenStream {
     }
 }
 
-// Adds trees behind those of a list, which is copied first if others share it. If memory is refused, they are as before.
+// Adds trees behind those of a list, which is copied first if others share it. If memory is refused, they are as
+// before. None need no memory.
 fn add_trees(
     alloc: Global,
     shared: &mut Option<Rc<Vec<TokenTree>>>,
@@ -133,6 +137,9 @@ fn add_trees(
     ensures ok { OnOk result (held_tokens shared.new ≡ held_tokens shared.old ++ trees_tokens added.items) }
     ensures err { OnErr result (held_tokens shared.new ≡ held_tokens shared.old) }
 {
+    if added.is_empty() {
+        return Ok(());
+    }
     let Some(held) = shared else {
         *shared = Some(Rc::new(alloc, added)?);
         return Ok(());

@@ -14,5 +14,6 @@ returns-in_ok-insert-in-Ok-clause-held c =
     c.in_ok-insert-in-Ok.ensures.span c.in_ok-insert-in-Ok.ensures.spot)
     c.in_ok-insert-in-Ok.ensures.inserted
     (subst
-    (λ (n : ℕ). IsFileForest n (chars c.args.src.now) (option_map (λ line. chars line.now) c.in-Ok.file.0) c.in-Ok.file.1)
+    (λ (n : ℕ).
+    IsFileForest n (chars c.args.src.now) (option_map (λ line. chars line.now) c.in-Ok.file.0) c.in-Ok.file.1)
     c.in-Some.ensures.start c.in-Ok.ensures.parsed)
