@@ -1,6 +1,6 @@
 -- Well spaced tokens that are joined or put in a group.
 use Rattle.std.proofs.Common.{◌≡◌, ◌≢◌, ℕ, List, [], ◌∷◌, ◌++◌, true, false, IsTrue, cond, Bool, ◌==◌, refl}
-use Rattle.std.proofs.lemmas.Bool.{and_parts, eqb-false}
+use Rattle.std.proofs.lemmas.Bool.{and_parts, ne_eqb}
 use Rattle.proc_macro2.specs.Token.{Delimiter, Token, Opens, Closes, Ident, Literal, Punct, Alone, Joint}
 use Rattle.proc_macro2.specs.Spacing.{IsWellSpaced, follows_mark, may_stand, is_visible, quote}
 use Rattle.proc_macro2.specs.Stands.{all_stand}
@@ -39,7 +39,7 @@ spaced_append (t ∷ u ∷ ts) us h k = (first_seen t u ts (ts ++ us) h.0, space
 -- tokens before a joint mark, which stands before others
 pub spaced_behind : (ts us : List Token) (c : ℕ) → IsTrue (all_stand ts (Punct c Joint ∷ [])) → c ≢ quote
     → IsWellSpaced us → IsTrue (follows_mark c us) → IsWellSpaced (ts ++ Punct c Joint ∷ us)
-spaced_behind [] us c h n k f = (rw (eqb-false c quote n) f, k)
+spaced_behind [] us c h n k f = (rw (ne_eqb c quote n) f, k)
 spaced_behind (t ∷ []) us c h n k f = (
   first_seen t (Punct c Joint) [] us (and_parts (may_stand t (Punct c Joint ∷ [])) true h).0,
   spaced_behind [] us c refl n k f,
