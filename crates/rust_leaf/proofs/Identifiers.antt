@@ -3,11 +3,9 @@ use Rattle.std.proofs.Common.{◌≡◌, ℕ, List, ◌++◌, ap, ◌&&◌, ◌|
 use Rattle.std.specs.List.{list_all}
 use Rattle.std.specs.Prelude.{◌↔◌}
 use Rattle.std.proofs.lemmas.Bool.{or_right}
-use Rattle.std.specs.Cmp.Lexicographic.{slice_cmp}
-use Rattle.std.specs.Ordering.{nat_cmp, is_eq}
+use Rattle.std.specs.Ordering.{is_eq}
 use Rattle.std.specs.declared.cmp.Ordering.{Ordering}
 use Rattle.std.specs.declared.cmp.Ordering.TheVariants.{Less, Equal, Greater}
-use Rattle.std.proofs.lemmas.Map.Text.{is_eq-slice_cmp}
 use Rattle.std.specs.Char.{encode_utf8, is_ascii}
 use Rattle.std.specs.Str.{chars, IsUtf8, bytes_eq}
 use Rattle.std.proofs.lemmas.Str.{chars_past_char}
@@ -54,14 +52,11 @@ pub raw_text : (bs mark text : List ℕ) → mark ≡ codes "r#" → text ≡ ma
 raw_text bs mark text e f = ap chars f ∙ ap (λ x. chars (x ++ bs)) e
     ∙ chars_behind (codes "r#") bs (ascii_word (codes "r#") refl)
 
-told_equal : (o : Ordering) (b : Bool) → is_eq o ≡ b → (o ≡ Equal) ↔ IsTrue b
+-- an order ties exactly where a test holds that tells its ties
+pub told_equal : (o : Ordering) (b : Bool) → is_eq o ≡ b → (o ≡ Equal) ↔ IsTrue b
 told_equal Less b e = ((λ h. cc), (λ h. cc))
 told_equal Equal b e = ((λ h. sym e), (λ h. refl))
 told_equal Greater b e = ((λ h. cc), (λ h. cc))
-
--- two texts tie exactly where they are the same bytes
-pub ties_are_equal : (xs ys : List ℕ) → (slice_cmp nat_cmp xs ys ≡ Equal) ↔ IsTrue (bytes_eq xs ys)
-ties_are_equal xs ys = told_equal (slice_cmp nat_cmp xs ys) (bytes_eq xs ys) (is_eq-slice_cmp xs ys)
 
 -- what isn't refused is an identifier
 accepted : (empty number fits : Bool)

@@ -14,9 +14,9 @@ const PLACES: usize = 8;
 /// How many places the smallest table has.
 const FEWEST: usize = 64;
 
-// A text that is kept, and its hash.
+// A text and its hash.
 #[derive(Drop)]
-struct Kept {
+struct Hashed {
     hash: u64,
     text: RcStr,
 }
@@ -32,7 +32,7 @@ struct Kept {
 pub struct TextTable {
     alloc: Global,
     // The places, half of which stay free.
-    places: Vec<Option<Kept>>,
+    places: Vec<Option<Hashed>>,
     // How many more are filled before there are twice as many.
     room: usize,
     // The texts whose places were taken by others.
@@ -133,7 +133,7 @@ impl TextTable {
     fn put(&mut self, hash: u64, text: RcStr) -> Result<(), AllocError> {
         match self.free_place(hash) {
             Some(at) => {
-                self.places[at] = Some(Kept { hash, text });
+                self.places[at] = Some(Hashed { hash, text });
                 self.room = self.room.saturating_sub(1);
             }
             None => {
