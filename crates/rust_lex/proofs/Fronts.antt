@@ -109,7 +109,7 @@ abbrev pub up_from : ℕ → ℕ → List ℕ
 up_from lo zero = []
 up_from lo (suc n) = lo ∷ up_from (lo + 1) n
 
-in_between : (lo n c : ℕ) → lo ≤ c → c < lo + n → is_among (up_from lo n) c ≡ true
+pub in_between : (lo n c : ℕ) → lo ≤ c → c < lo + n → is_among (up_from lo n) c ≡ true
 in_between lo zero c l h = absurd (omega arith)
 in_between lo (suc n) c l h =
     ⊎_elim

@@ -1,4 +1,5 @@
 pub mod Fronts
+pub mod Tables
 pub mod PlacesLemmas
 pub mod Walks
 pub mod Quiet

@@ -1,8 +1,8 @@
 -- What a scan finds, case by case.
 use Rattle.std.proofs.Common.{◌≡◌, ℕ, List, [], ◌∷◌, ◌++◌, arith, length, length-append, drop, refl, sym, ap, ◌∙◌}
 use Rattle.std.proofs.Common.{subst, ⊎_elim}
-use Rattle.std.specs.Prelude.{true, false, ◌&&◌, Some, None}
-use Rattle.std.proofs.lemmas.Bool.{cases_eq}
+use Rattle.std.specs.Prelude.{true, false, ◌&&◌, ◌||◌, ◌==◌, Some, None}
+use Rattle.std.proofs.lemmas.Bool.{cases_eq, or_parts}
 use Rattle.rust_lex.specs.Chars.{is_next, is_digit, is_mark_but_tick, begins, past}
 use Rattle.rust_escape.specs.declared.mode.Mode.{Mode}
 use Rattle.rust_escape.specs.declared.mode.Mode.TheVariants as modes
@@ -32,6 +32,20 @@ pub ruleset ticks = (ticked_some, ticked_mark, ticked_nowhere)
 pub word_is_raw : (cs : List ℕ) → begins_raw_mark cs ≡ true → begins_raw_name (drop 2 cs) ≡ true → word cs
     ≡ Ends Ident (past is_next (drop 2 cs))
 word_is_raw cs h k = word_raw cs (rw (h, k) refl)
+
+no_opener : (c : ℕ) (cs : List ℕ) → (c == 98) ≡ false → (c == 99) ≡ false → (c == 114) ≡ false → opener_of (c ∷ cs)
+    ≡ None
+unfolding opener_of
+no_opener c [] b d r = refl
+no_opener c (e ∷ cs) b d r = rw (b, d, r) refl
+
+-- a word that begins with none of b c r
+pub plain_word : (text more : List ℕ) (c : ℕ) → text ≡ c ∷ more → (c == 98 || (c == 99 || c == 114)) ≡ false → word text
+    ≡ Ends Ident (past is_next text)
+plain_word text more c is none =
+    let (b, others) = or_parts (c == 98) (c == 99 || c == 114) none in
+    let (d, r) = or_parts (c == 99) (c == 114) others in
+    rw is (word_none (c ∷ more) (rw r refl) (no_opener c more b d r))
 
 no_mark : (cs : List ℕ) → begins_raw_mark cs ≡ false → (begins_raw_mark cs && begins_raw_name (drop 2 cs)) ≡ false
 no_mark cs h = rw h refl

@@ -28,6 +28,17 @@ front_of c = if is_first c then first else
     (if c == 93 then closes Bracket else
     (if c == 123 then opens Brace else (if c == 125 then closes Brace else other)))))))))))
 
+-- what a letter of the table of fronts stands for
+abbrev pub front_by : ℕ → Front
+front_by c = if c == 97 then first else
+    (if c == 43 then mark else (if c == 48 then digit else (if c == 119 then white else
+    (if c == 34 then quote else
+    (if c == 39 then tick else
+    (if c == 40 then opens Parenthesis else
+    (if c == 41 then closes Parenthesis else (if c == 91 then opens Bracket else
+    (if c == 93 then closes Bracket else
+    (if c == 123 then opens Brace else (if c == 125 then closes Brace else other)))))))))))
+
 -- a piece, and what stands behind it
 pub data Scanned : Type 0 where
   Nowhere : Scanned

@@ -156,6 +156,7 @@ fn block(text: &str, start: usize, at: usize) -> Option<(PieceKind, usize)>
 
 // What a slash begins, which ends at a place.
 #[tactic(auto, using(crate::proofs::Steps::slashes))]
+#[inline(never)]
 pub(crate) fn slash(text: &str, start: usize, at: usize) -> Option<(PieceKind, usize)>
     requires { IsBehind text.now start at }
     ensures { IsScanned text.now start result (scan.slash (rest_at text.now at)) }

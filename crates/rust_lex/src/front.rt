@@ -67,25 +67,43 @@ pub(crate) fn is_narrow_white(c: char) -> bool
     (c == ' ') | (('\t' <= c) & (c <= '\r'))
 }
 
-#[tactic(auto, using(crate::proofs::Fronts::fronts))]
+// What each character of ASCII begins, as a character that does so: `a` an identifier, `+` a mark, `0` a number, `w`
+// white, a quote or the mark of a group itself, and a dot nothing.
+static FRONTS: [u8; 128] = *b"\
+    .........wwwww..................\
+    w+\"++++'()++++++0000000000++++++\
+    +aaaaaaaaaaaaaaaaaaaaaaaaaa[.]+a\
+    .aaaaaaaaaaaaaaaaaaaaaaaaaa{+}+.";
+
+// What a letter of the table stands for.
+#[inline(always)]
+fn front_by(class: u8) -> Front
+    ensures { result ≡ scan.front_by class }
+{
+    match class {
+        b'a' => Front::First,
+        b'+' => Front::Mark,
+        b'0' => Front::Digit,
+        b'w' => Front::White,
+        b'"' => Front::Quote,
+        b'\'' => Front::Tick,
+        b'(' => Front::Opens(GroupMarks::Parenthesis),
+        b')' => Front::Closes(GroupMarks::Parenthesis),
+        b'[' => Front::Opens(GroupMarks::Bracket),
+        b']' => Front::Closes(GroupMarks::Bracket),
+        b'{' => Front::Opens(GroupMarks::Brace),
+        b'}' => Front::Closes(GroupMarks::Brace),
+        _ => Front::Other,
+    }
+}
+
+#[tactic(auto, using(crate::proofs::Tables::table_front))]
 #[inline(always)]
 pub(crate) fn front_of(c: char) -> Front
     ensures { result ≡ scan.front_of c }
 {
-    match c {
-        'a'..='z' | 'A'..='Z' | '_' => Front::First,
-        '\t'..='\r' | ' ' => Front::White,
-        '0'..='9' => Front::Digit,
-        '(' => Front::Opens(GroupMarks::Parenthesis),
-        ')' => Front::Closes(GroupMarks::Parenthesis),
-        '[' => Front::Opens(GroupMarks::Bracket),
-        ']' => Front::Closes(GroupMarks::Bracket),
-        '{' => Front::Opens(GroupMarks::Brace),
-        '}' => Front::Closes(GroupMarks::Brace),
-        '"' => Front::Quote,
-        '\'' => Front::Tick,
-        '!' | '#'..='&' | '*'..='/' | ':'..='@' | '^' | '|' | '~' => Front::Mark,
-        '\0'..='\u{8}' | '\u{e}'..='\u{1f}' | '\\' | '`' | '\u{7f}' => Front::Other,
-        _ => wide_front(c),
+    if c >= '\u{80}' {
+        return wide_front(c);
     }
+    front_by(FRONTS[c as usize])
 }

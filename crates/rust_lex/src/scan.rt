@@ -9,7 +9,7 @@ ghost use Rattle.rust_lex.specs.Places.{IsBehind, IsPieceAt, IsPlace, IsWhiteAt,
 ghost use Rattle.rust_lex.specs.Quoted as quoted;
 ghost use Rattle.rust_lex.specs.QuotedScan as tails;
 ghost use Rattle.rust_lex.specs.Scan as scan;
-ghost use Rattle.std.specs.Prelude.{◌≡◌, ◌↔◌, ◌&&◌, ◌==◌, IsTrue, not, true};
+ghost use Rattle.std.specs.Prelude.{◌∷◌, ◌≡◌, ◌↔◌, ◌&&◌, ◌==◌, IsTrue, not, true};
 
 use crate::comment::slash;
 use crate::cooked::{char_end, string_end};
@@ -17,7 +17,7 @@ use crate::front::{Front, front_of, is_narrow_white};
 use crate::number::number_end;
 use crate::piece::{LiteralKind, PieceKind};
 use crate::raw::hashes_end;
-use crate::walk::{Next, SlashOrStar, begins, past_long, suffix_end};
+use crate::walk::{Next, SlashOrStar, begins, past, suffix_end};
 use crate::word::{begins_lifetime, begins_raw_name, opener_end, raw_mark_end};
 use rust_escape::Mode;
 use text_chars::{char_at, next_char};
@@ -47,6 +47,7 @@ fn literal_kind(mode: Mode) -> LiteralKind
 }
 
 // A literal in quotes, whose opening ends at a place.
+#[inline(never)]
 fn quoted(text: &str, start: usize, at: usize, mode: Mode) -> Option<(PieceKind, usize)>
     requires { IsBehind text.now start at }
     ensures { IsScanned text.now start result
@@ -63,6 +64,7 @@ fn quoted(text: &str, start: usize, at: usize, mode: Mode) -> Option<(PieceKind,
 
 // What a quote begins, which ends at a place.
 #[tactic(auto, using(crate::proofs::Scans::ticks))]
+#[inline(never)]
 fn ticked(text: &str, start: usize, at: usize) -> Option<(PieceKind, usize)>
     requires { IsBehind text.now start at }
     ensures { IsScanned text.now start result (scan.ticked (rest_at text.now at)) }
@@ -76,9 +78,10 @@ fn ticked(text: &str, start: usize, at: usize) -> Option<(PieceKind, usize)>
     None
 }
 
-// What a letter or an underscore begins.
+// What `b`, `c` or `r` begins.
 #[tactic(auto, using(crate::proofs::Scans::words))]
-fn word(text: &str, at: usize, next: usize) -> Option<(PieceKind, usize)>
+#[inline(never)]
+fn prefixed(text: &str, at: usize, next: usize) -> Option<(PieceKind, usize)>
     requires place { IsPlace text.now at }
     requires behind { IsBehind text.now at next }
     requires first { chars.past chars.is_next (rest_at text.now at) ≡ chars.past chars.is_next (rest_at text.now next) }
@@ -86,17 +89,33 @@ fn word(text: &str, at: usize, next: usize) -> Option<(PieceKind, usize)>
 {
     if let Some(name) = raw_mark_end(text, at) {
         if begins_raw_name(text, name) {
-            return Some((PieceKind::Ident, past_long::<Next>(text, name)));
+            return Some((PieceKind::Ident, past::<Next>(text, name)));
         }
     }
     match opener_end(text, at) {
         Some((mode, tail)) => quoted(text, at, tail, mode),
-        None => Some((PieceKind::Ident, past_long::<Next>(text, next))),
+        None => Some((PieceKind::Ident, past::<Next>(text, next))),
     }
+}
+
+// What a letter or an underscore begins, which ends at a place.
+#[inline(always)]
+fn word(text: &str, at: usize, c: char, next: usize) -> Option<(PieceKind, usize)>
+    requires place { IsPlace text.now at }
+    requires is { rest_at text.now at ≡ c ∷ rest_at text.now next }
+    requires behind { IsBehind text.now at next }
+    requires first { chars.past chars.is_next (rest_at text.now at) ≡ chars.past chars.is_next (rest_at text.now next) }
+    ensures { IsScanned text.now at result (scan.word (rest_at text.now at)) }
+{
+    if (c == 'b') | ((c == 'c') | (c == 'r')) {
+        return prefixed(text, at, next);
+    }
+    Some((PieceKind::Ident, past::<Next>(text, next)))
 }
 
 // A number, whose first digit stands at a place.
 #[tactic(auto, using(crate::proofs::Scans::numbers))]
+#[inline(never)]
 fn number(text: &str, at: usize) -> Option<(PieceKind, usize)>
     requires place { IsPlace text.now at }
     requires digit { chars.begins chars.is_digit (rest_at text.now at) ≡ true }
@@ -111,6 +130,7 @@ fn number(text: &str, at: usize) -> Option<(PieceKind, usize)>
 
 // The piece at a place within a text, and the place behind it.
 #[tactic(auto, using(crate::proofs::Scans::scans))]
+#[inline(always)]
 fn scan(text: &str, at: usize) -> Option<(PieceKind, usize)>
     requires { IsPlace text.now at }
     ensures { IsScanned text.now at result (scan.scan (rest_at text.now at)) }
@@ -125,7 +145,7 @@ fn scan(text: &str, at: usize) -> Option<(PieceKind, usize)>
         Front::Quote => quoted(text, at, next, Mode::Str),
         Front::Tick => ticked(text, at, next),
         Front::Digit => number(text, at),
-        Front::First => word(text, at, next),
+        Front::First => word(text, at, c, next),
         Front::Mark => {
             if c == '/' {
                 slash(text, at, next)

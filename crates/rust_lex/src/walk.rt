@@ -20,13 +20,20 @@ fn is_first(c: char) -> bool
     is_xid_start(c) | (c == '_')
 }
 
-#[tactic(auto, using(crate::proofs::Fronts::next_ascii), unfolding(crate::specs::Chars::is_next))]
+// Each character of ASCII that an identifier goes on with stands at its own place, and a dot at every other place.
+static NEXTS: [u8; 128] = *b"\
+    ................................\
+    ................0123456789......\
+    .ABCDEFGHIJKLMNOPQRSTUVWXYZ...._\
+    .abcdefghijklmnopqrstuvwxyz.....";
+
+#[tactic(auto, using(crate::proofs::Tables::table_next), unfolding(crate::specs::Chars::is_next))]
 #[inline(always)]
 fn is_next(c: char) -> bool
     ensures { result ≡ chars.is_next c }
 {
     if c < '\u{80}' {
-        c.is_ascii_alphanumeric() | (c == '_')
+        NEXTS[c as usize] != b'.'
     } else {
         is_xid_continue(c)
     }

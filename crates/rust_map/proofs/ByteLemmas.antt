@@ -223,6 +223,14 @@ byte_count_more (c ∷ cs) (suc n) m (suc all) e =
 pub byte_length-chars : (bytes : List ℕ) → IsUtf8 bytes → byte_length (chars bytes) ≡ length bytes
 byte_length-chars bytes u = ap length (encodes-chars bytes u)
 
+-- a text of one byte has one character
+pub one_byte : (bytes : List ℕ) → IsUtf8 bytes → length bytes ≡ 1 → 1 ≡ length (chars bytes)
+one_byte bytes u one = some (chars bytes) (byte_length-chars bytes u ∙ one)
+  where
+    some : (cs : List ℕ) → byte_length cs ≡ 1 → 1 ≡ length cs
+    some [] e = cc
+    some (c ∷ cs) e = let few = length-le-encodes (c ∷ cs) in omega arith
+
 -- the table of bytes of a text by what it asks
 pub table_none : (text : List ℕ) → byte_length text ≡ length text → byte_steps_of text ≡ []
 table_none text e = let t : (byte_length text == length text) ≡ true = eq-eqb _ _ e in rw t refl

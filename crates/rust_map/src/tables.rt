@@ -135,6 +135,9 @@ fn push_narrow_starts(starts: &mut Vec<u32>, bytes: &[u8], before: u32) -> Resul
 pub fn characters(text: &str) -> usize
     ensures { result ≡ length (chars text.now) }
 {
+    if text.len() == 1 {
+        return 1;
+    }
     begun(text.as_bytes())
 }
 
